@@ -1,1 +1,3 @@
 pub mod Tok
+pub mod Sign
+pub mod ErrorText

@@ -1,0 +1,368 @@
+//! Why a text or a list of tokens is refused.
+
+ghost use Rattle.std.specs.Prelude.{◌≡◌};
+ghost use Rattle.syn_tokens.specs.declared.error.ErrorKind.TheVariants.{OutOfMemory};
+ghost use Rattle.syn_tokens.specs.ErrorText as spec;
+
+use crate::Delimiter;
+use crate::span::Span;
+use crate::table::{sign_text, word_text};
+use std::alloc::{AllocError, AllocFailed};
+use std::fmt;
+
+/// What a reader, a printer or the lexer answers.
+pub type Result<T> = std::result::Result<T, Error>;
+
+/// A refusal: what was refused, and where. It holds no reference and takes no memory.
+#[derive(Clone, Copy, Debug, PartialEq, Eq)]
+pub struct Error {
+    /// Where: the token tree at which it was found (of a token of several puncts the first), unless the kind
+    /// says otherwise. At the end of what a group encloses it is the closing delimiter, at the end of a whole
+    /// list the end of its last token.
+    pub span: Span,
+    /// What.
+    pub kind: ErrorKind,
+}
+
+impl Error {
+    /// A refusal at a place.
+    pub fn new(span: Span, kind: ErrorKind) -> Error
+        ensures { result ≡ record { span = span; kind = kind } }
+    {
+        Error { span, kind }
+    }
+}
+
+/// What is refused.
+#[derive(Clone, Copy, Debug, PartialEq, Eq)]
+pub enum ErrorKind {
+    /// Memory ran out.
+    OutOfMemory,
+    /// No expression begins here.
+    ExpectedExpression,
+    /// No binary operator stands here.
+    ExpectedBinaryOperator,
+    /// A comparison whose left side is a bare comparison.
+    ChainedComparison,
+    /// `<-` where an operator may stand.
+    LeftArrow,
+    /// A trailer behind a cast.
+    AfterCast(AfterCast),
+    /// Attributes in front of a range that begins with its operator; the place is the operator.
+    RangeAttributes,
+    /// A label in front of neither a loop nor a block.
+    ExpectedLoopOrBlock,
+    /// Elements of an array or a tuple without a sign between.
+    ExpectedCommaOrSemi,
+    /// A labeled value of a `break` that wants parentheses; the place goes from the label to the value's end.
+    ParenthesesRequired,
+    /// No name or index behind a dot.
+    ExpectedMember,
+    /// An index with a suffix, or another literal; the place is the literal.
+    ExpectedUnsuffixedInteger,
+    /// An index above 4294967295; the place is the literal.
+    IndexOutOfRange,
+    /// Another kind of expression was read; the place goes from its first to its last token.
+    ExpectedExprKind(WantedKind),
+    /// Another token stands here.
+    ExpectedToken(Expected),
+    /// A token that nothing reads.
+    UnexpectedToken,
+    /// A part of the grammar was expected.
+    ExpectedPart(Part),
+    /// The lexer's refusal of a text.
+    Lex(LexError),
+    /// Modifiers that are not empty.
+    ModifierNotEmpty,
+}
+
+/// The trailers that may not follow a cast (Rust Reference, "Type cast expressions").
+#[derive(Clone, Copy, Debug, PartialEq, Eq)]
+pub enum AfterCast {
+    /// `.await`
+    Await,
+    /// `.name(..)`
+    MethodCall,
+    /// `.name`
+    FieldAccess,
+    /// `?`
+    Question,
+    /// `[..]`
+    Indexing,
+    /// `(..)`
+    FunctionCall,
+}
+
+/// The kinds of expressions that have a reader of their own.
+#[derive(Clone, Copy, Debug, PartialEq, Eq)]
+pub enum WantedKind {
+    /// `a = b`
+    Assign,
+    /// `a.await`
+    Await,
+    /// `a + b`
+    Binary,
+    /// `a(b)`
+    Call,
+    /// `a as T`
+    Cast,
+    /// `a.b`
+    Field,
+    /// `a[b]`
+    Index,
+    /// `a.b(c)`
+    MethodCall,
+    /// `a..b`
+    Range,
+    /// `a?`
+    Try,
+    /// `(a, b)`
+    Tuple,
+}
+
+/// A token that a reader wants.
+#[derive(Clone, Copy, Debug, PartialEq, Eq)]
+pub enum Wanted {
+    /// The sign at a place of `SIGNS`.
+    Sign(usize),
+    /// The word at a place of `WORDS`.
+    Word(usize),
+    /// `_`
+    Underscore,
+    /// An identifier that is no reserved word.
+    Identifier,
+    /// A lifetime.
+    Lifetime,
+    /// A group with this delimiter.
+    Delimiter(Delimiter),
+}
+
+/// The tokens that a reader wants, one of them.
+#[derive(Clone, Copy, Debug, PartialEq, Eq)]
+pub enum Expected {
+    /// This one.
+    One(Wanted),
+    /// One of two.
+    Two(Wanted, Wanted),
+    /// One of three.
+    Three(Wanted, Wanted, Wanted),
+}
+
+/// Parts of the grammar.
+#[derive(Clone, Copy, Debug, PartialEq, Eq)]
+pub enum Part {
+    /// A literal.
+    Literal,
+    /// A path.
+    Path,
+    /// A type.
+    Type,
+    /// A pattern.
+    Pattern,
+    /// A macro call.
+    Macro,
+    /// An attribute.
+    Attribute,
+}
+
+/// Why the lexer refuses a text.
+#[derive(Clone, Copy, Debug, PartialEq, Eq)]
+pub enum LexError {
+    /// A doc comment.
+    DocComment,
+    /// A block comment without its end.
+    UnterminatedComment,
+    /// A word that cannot be raw.
+    ReservedRawIdentifier,
+    /// A literal that is cut short or holds a wrong digit.
+    MalformedLiteral,
+    /// A quote that begins neither a character nor a lifetime.
+    MalformedLifetime,
+    /// An opening delimiter without its closing one.
+    UnclosedDelimiter,
+    /// A closing delimiter that closes nothing.
+    UnexpectedClosingDelimiter,
+    /// A character that begins no token.
+    UnknownCharacter,
+}
+
+impl From<AllocError> for Error {
+    ghost from_gives = { λ _ e. e.kind ≡ OutOfMemory };
+
+    fn from(_e: AllocError) -> Error {
+        Error {
+            span: Span::call_site(),
+            kind: ErrorKind::OutOfMemory,
+        }
+    }
+}
+
+impl<T: Drop> From<AllocFailed<T>> for Error {
+    ghost from_gives = { λ _ e. e.kind ≡ OutOfMemory };
+
+    fn from(_e: AllocFailed<T>) -> Error {
+        Error {
+            span: Span::call_site(),
+            kind: ErrorKind::OutOfMemory,
+        }
+    }
+}
+
+impl AfterCast {
+    /// How the refusal names it.
+    pub fn text(self) -> &'static str
+        ensures { result.now ≡ spec.after_cast_text self }
+    {
+        match self {
+            AfterCast::Await => "`.await`",
+            AfterCast::MethodCall => "a method call",
+            AfterCast::FieldAccess => "a field access",
+            AfterCast::Question => "`?`",
+            AfterCast::Indexing => "indexing",
+            AfterCast::FunctionCall => "a function call",
+        }
+    }
+}
+
+impl WantedKind {
+    /// How the refusal names it.
+    pub fn text(self) -> &'static str
+        ensures { result.now ≡ spec.kind_name self }
+    {
+        match self {
+            WantedKind::Assign => "assignment expression",
+            WantedKind::Await => "await expression",
+            WantedKind::Binary => "binary operation",
+            WantedKind::Call => "function call expression",
+            WantedKind::Cast => "cast expression",
+            WantedKind::Field => "struct field access",
+            WantedKind::Index => "indexing expression",
+            WantedKind::MethodCall => "method call expression",
+            WantedKind::Range => "range expression",
+            WantedKind::Try => "try expression",
+            WantedKind::Tuple => "tuple expression",
+        }
+    }
+}
+
+impl Part {
+    /// How the refusal names it.
+    pub fn text(self) -> &'static str
+        ensures { result.now ≡ spec.part_text self }
+    {
+        match self {
+            Part::Literal => "a literal",
+            Part::Path => "a path",
+            Part::Type => "a type",
+            Part::Pattern => "a pattern",
+            Part::Macro => "a macro",
+            Part::Attribute => "an attribute",
+        }
+    }
+}
+
+impl LexError {
+    /// The refusal's text.
+    pub fn text(self) -> &'static str
+        ensures { result.now ≡ spec.lex_text self }
+    {
+        match self {
+            LexError::DocComment => "doc comment",
+            LexError::UnterminatedComment => "unterminated comment",
+            LexError::ReservedRawIdentifier => "reserved raw identifier",
+            LexError::MalformedLiteral => "malformed literal",
+            LexError::MalformedLifetime => "malformed lifetime",
+            LexError::UnclosedDelimiter => "unclosed delimiter",
+            LexError::UnexpectedClosingDelimiter => "unexpected closing delimiter",
+            LexError::UnknownCharacter => "unknown character",
+        }
+    }
+}
+
+impl fmt::Display for Wanted {
+    ghost use Rattle.syn_tokens.specs.ErrorText.{wanted_text};
+    ghost use Rattle.std.specs.Prelude.{Some};
+
+    ghost output = { λ w. Some (wanted_text w) };
+
+    fn fmt<W: fmt::Write>(&self, f: &mut fmt::Formatter<W>) -> fmt::Result {
+        match self {
+            Wanted::Sign(k) => write!(f, "`{}`", sign_text(*k)),
+            Wanted::Word(k) => write!(f, "`{}`", word_text(*k)),
+            Wanted::Underscore => f.write_str("`_`"),
+            Wanted::Identifier => f.write_str("identifier"),
+            Wanted::Lifetime => f.write_str("lifetime"),
+            Wanted::Delimiter(delimiter) => match delimiter {
+                Delimiter::Parenthesis => f.write_str("`(`"),
+                Delimiter::Brace => f.write_str("`{`"),
+                Delimiter::Bracket => f.write_str("`[`"),
+                Delimiter::None => f.write_str("invisible group"),
+            },
+        }
+    }
+}
+
+impl fmt::Display for Expected {
+    ghost use Rattle.syn_tokens.specs.ErrorText.{expected_text};
+    ghost use Rattle.std.specs.Prelude.{Some};
+
+    ghost output = { λ e. Some (expected_text e) };
+
+    fn fmt<W: fmt::Write>(&self, f: &mut fmt::Formatter<W>) -> fmt::Result {
+        match self {
+            Expected::One(a) => write!(f, "expected {a}"),
+            Expected::Two(a, b) => write!(f, "expected {a} or {b}"),
+            Expected::Three(a, b, c) => write!(f, "expected {a}, {b} or {c}"),
+        }
+    }
+}
+
+impl fmt::Display for ErrorKind {
+    ghost use Rattle.syn_tokens.specs.ErrorText.{kind_text};
+    ghost use Rattle.std.specs.Prelude.{Some};
+
+    ghost output = { λ k. Some (kind_text k) };
+
+    fn fmt<W: fmt::Write>(&self, f: &mut fmt::Formatter<W>) -> fmt::Result {
+        match self {
+            ErrorKind::OutOfMemory => f.write_str("out of memory"),
+            ErrorKind::ExpectedExpression => f.write_str("expected an expression"),
+            ErrorKind::ExpectedBinaryOperator => f.write_str("expected binary operator"),
+            ErrorKind::ChainedComparison => f.write_str("comparison operators cannot be chained"),
+            ErrorKind::LeftArrow => f.write_str(
+                "unexpected operator `<-`, if this is intended to be a comparison against a negative then a space is required: `< -`",
+            ),
+            ErrorKind::AfterCast(after) => write!(
+                f,
+                "casts cannot be followed by {}",
+                after.text()
+            ),
+            ErrorKind::RangeAttributes => f.write_str(
+                "attributes are not allowed on range expressions starting with `..`",
+            ),
+            ErrorKind::ExpectedLoopOrBlock => f.write_str("expected loop or block expression"),
+            ErrorKind::ExpectedCommaOrSemi => f.write_str("expected `,` or `;`"),
+            ErrorKind::ParenthesesRequired => f.write_str("parentheses required"),
+            ErrorKind::ExpectedMember => f.write_str("expected identifier or integer"),
+            ErrorKind::ExpectedUnsuffixedInteger => f.write_str("expected unsuffixed integer"),
+            ErrorKind::IndexOutOfRange => f.write_str("index out of range"),
+            ErrorKind::ExpectedExprKind(wanted) => write!(f, "expected {}", wanted.text()),
+            ErrorKind::ExpectedToken(wanted) => write!(f, "{wanted}"),
+            ErrorKind::UnexpectedToken => f.write_str("unexpected token"),
+            ErrorKind::ExpectedPart(part) => write!(f, "expected {}", part.text()),
+            ErrorKind::Lex(error) => f.write_str(error.text()),
+            ErrorKind::ModifierNotEmpty => f.write_str("modifier not empty"),
+        }
+    }
+}
+
+impl fmt::Display for Error {
+    ghost use Rattle.syn_tokens.specs.ErrorText.{kind_text};
+    ghost use Rattle.std.specs.Prelude.{Some};
+
+    ghost output = { λ e. Some (kind_text e.kind) };
+
+    fn fmt<W: fmt::Write>(&self, f: &mut fmt::Formatter<W>) -> fmt::Result {
+        write!(f, "{}", self.kind)
+    }
+}

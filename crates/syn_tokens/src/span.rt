@@ -1,0 +1,21 @@
+//! Places in a text.
+
+ghost use Rattle.std.specs.Prelude.{◌≡◌};
+
+/// A place in a text: byte offsets, from `lo` to before `hi`.
+#[derive(Clone, Copy, Debug, PartialEq, Eq, Hash)]
+pub struct Span {
+    /// Where the first byte is.
+    pub lo: usize,
+    /// Where the last byte ends.
+    pub hi: usize,
+}
+
+impl Span {
+    /// The place of what was not read from a text: `0..0`.
+    pub fn call_site() -> Span
+        ensures { result ≡ record { lo = 0; hi = 0 } }
+    {
+        Span { lo: 0, hi: 0 }
+    }
+}
