@@ -4,5 +4,6 @@
 pub mod error;
 pub mod span;
 pub mod table;
+pub mod tree;
 
 pub use syn_lexer::lexeme::{Delimiter, Spacing};

@@ -1,0 +1,12 @@
+-- How what contracts see of a list of trees goes with the list.
+use Rattle.std.proofs.Common.{◌≡◌, ℕ, zero, suc, ◌≤◌, List, [], ◌∷◌, length, drop, refl, arith}
+use Rattle.syn_tokens.specs.View.{toks_of, toks_of-append, length-toks_of, toks_of-take, toks_of-drop}
+use Rattle.syn_tokens.specs.declared.tree.TokenTree.{TokenTree}
+
+pub toks_past : (n : ℕ) (a : List TokenTree) → length a ≤ n → [] ≡ drop n (toks_of a)
+toks_past zero [] h = refl
+toks_past zero (t ∷ a) h = absurd (omega arith)
+toks_past (suc n) [] h = refl
+toks_past (suc n) (t ∷ a) h = toks_past n a (omega arith)
+
+pub ruleset views = (toks_of-append, length-toks_of, toks_of-take, toks_of-drop, toks_past)

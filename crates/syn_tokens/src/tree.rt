@@ -1,0 +1,235 @@
+//! Token trees and streams of them, as in proc_macro2.
+
+ghost use Rattle.std.specs.Prelude.{string_bytes, ◌≡◌, [], ◌∷◌, ◌++◌, length, take, OnOk, OnErr, IsTrue, ◌↔◌};
+
+use crate::span::Span;
+use crate::{Delimiter, Spacing};
+use std::alloc::{AllocError, Global};
+use std::marker::Model;
+
+/// A character of punctuation (Rust Reference, "Punctuation").
+#[derive(Clone, Copy, Debug)]
+pub struct Punct {
+    /// The character.
+    pub ch: char,
+    /// Whether another punct follows at once.
+    pub spacing: Spacing,
+    /// Where it is.
+    pub span: Span,
+}
+
+/// A word: an identifier, a reserved word or `_`. A raw identifier keeps its `r#`. Contracts see the bytes of its
+/// text.
+#[derive(Debug, Drop)]
+pub struct Ident {
+    text: String,
+    span: Span,
+}
+
+impl Model for Ident {
+    ghost use Rattle.std.specs.Prelude.{List, ℕ, string_bytes};
+
+    ghost Value = { List ℕ };
+
+    ghost view = { λ i. string_bytes i.text };
+}
+
+impl Ident {
+    /// A word that is known to be one.
+    pub(crate) fn read(text: String, span: Span) -> Ident
+        ensures { result ≡ string_bytes text }
+    {
+        Ident { text, span }
+    }
+
+    /// Its text.
+    pub fn as_str(&self) -> &str
+        ensures { result.now ≡ self.now }
+    {
+        self.text.as_str()
+    }
+
+    /// Where it is.
+    pub fn span(&self) -> Span {
+        self.span
+    }
+}
+
+/// A literal token, with its suffix (Rust Reference, "Literal expressions"). Contracts see the bytes of its text.
+#[derive(Debug, Drop)]
+pub struct Literal {
+    text: String,
+    span: Span,
+}
+
+impl Model for Literal {
+    ghost use Rattle.std.specs.Prelude.{List, ℕ, string_bytes};
+
+    ghost Value = { List ℕ };
+
+    ghost view = { λ i. string_bytes i.text };
+}
+
+impl Literal {
+    /// A literal that is known to be one.
+    pub(crate) fn read(text: String, span: Span) -> Literal
+        ensures { result ≡ string_bytes text }
+    {
+        Literal { text, span }
+    }
+
+    /// Its text.
+    pub fn as_str(&self) -> &str
+        ensures { result.now ≡ self.now }
+    {
+        self.text.as_str()
+    }
+
+    /// Where it is.
+    pub fn span(&self) -> Span {
+        self.span
+    }
+}
+
+/// A delimited list of token trees.
+#[cycle(trees)]
+#[derive(Drop)]
+pub struct Group {
+    /// What encloses it.
+    pub delimiter: Delimiter,
+    /// What it encloses.
+    pub stream: TokenStream,
+    /// From the opening to the closing delimiter.
+    pub span: Span,
+}
+
+/// A token, or a delimited list of them (Rust Reference, "Tokens", "Delimiters").
+#[cycle(trees)]
+#[derive(Drop)]
+pub enum TokenTree {
+    /// A group.
+    Group(Group),
+    /// A word.
+    Ident(Ident),
+    /// A character of punctuation.
+    Punct(Punct),
+    /// A literal.
+    Literal(Literal),
+}
+
+/// A list of token trees. Contracts see the list of its tokens without their places.
+#[cycle(trees)]
+#[derive(Drop)]
+pub struct TokenStream {
+    trees: Vec<TokenTree>,
+}
+
+impl Model for TokenStream {
+    ghost use Rattle.std.specs.Prelude.{List};
+    ghost use Rattle.syn_tokens.specs.Tok.{Tok, weight};
+    ghost use Rattle.syn_tokens.specs.TokCode.{toks_code};
+
+    ghost Value = { List Tok };
+
+    ghost coded = { toks_code };
+
+    ghost use Rattle.syn_tokens.specs.View.{toks_of};
+
+    ghost view = { λ s. toks_of s.trees.items };
+
+    ghost size = { weight };
+
+    ghost use Rattle.syn_tokens.specs.TokSize.{most_le-weight, max_zero-le};
+
+    ghost size_decreases = { λ a h. max_zero-le _ _ (most_le-weight a.trees.items) };
+}
+
+impl Group {
+    /// Where the closing delimiter is: the last byte of the group, or all of a group that shows none or is shorter
+    /// than two bytes.
+    pub fn closing(&self) -> Span {
+        let Span { lo, hi } = self.span;
+        if self.delimiter == Delimiter::None || hi <= lo || hi - lo < 2 {
+            self.span
+        } else {
+            Span { lo: hi - 1, hi }
+        }
+    }
+}
+
+impl TokenTree {
+    /// Where it is.
+    pub fn span(&self) -> Span {
+        match self {
+            TokenTree::Group(group) => group.span,
+            TokenTree::Ident(ident) => ident.span,
+            TokenTree::Punct(punct) => punct.span,
+            TokenTree::Literal(literal) => literal.span,
+        }
+    }
+}
+
+#[tactic(auto, using(crate::proofs::Views::views))]
+impl TokenStream {
+    ghost use Rattle.syn_tokens.specs.View.{tok_of, toks_of};
+
+    /// An empty list.
+    pub fn new(alloc: Global) -> TokenStream
+        ensures { result ≡ [] }
+    {
+        TokenStream {
+            trees: Vec::new(alloc),
+        }
+    }
+
+    /// The allocator that it grows by.
+    pub fn alloc(&self) -> Global {
+        *self.trees.allocator()
+    }
+
+    /// Puts a tree at the end. A refused push changes nothing, and gives up the tree.
+    pub fn push(&mut self, tree: TokenTree) -> Result<(), AllocError>
+        ensures ok { OnOk result (self.new ≡ self.old ++ tok_of tree ∷ []) }
+        ensures err { OnErr result (self.new ≡ self.old) }
+    {
+        self.trees.push(tree)?;
+        Ok(())
+    }
+
+    /// Puts the trees of another list at the end. A refused append changes nothing, and gives up the other list.
+    pub fn append(&mut self, more: TokenStream) -> Result<(), AllocError>
+        ensures ok { OnOk result (self.new ≡ self.old ++ more) }
+        ensures err { OnErr result (self.new ≡ self.old) }
+    {
+        let TokenStream { mut trees } = more;
+        self.trees.append(&mut trees)
+    }
+
+    /// Keeps the first `len` trees; a `len` above the length changes nothing.
+    pub fn truncate(&mut self, len: usize)
+        ensures { self.new ≡ take len self.old }
+    {
+        self.trees.truncate(len);
+    }
+
+    /// Whether it has no trees.
+    pub fn is_empty(&self) -> bool
+        ensures { IsTrue result ↔ (length self.now ≡ 0) }
+    {
+        self.trees.is_empty()
+    }
+
+    /// The trees.
+    pub fn trees(&self) -> &[TokenTree]
+        ensures { toks_of result.now ≡ self.now }
+    {
+        self.trees.as_slice()
+    }
+
+    /// How many trees there are, a group being one.
+    pub fn len(&self) -> usize
+        ensures { result ≡ length self.now }
+    {
+        self.trees.len()
+    }
+}
