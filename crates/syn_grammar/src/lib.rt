@@ -1,2 +1,4 @@
 //! What the reader and the printer of expressions are to mean, and the laws of it.
 #![tactic(auto)]
+
+pub mod kinds;
