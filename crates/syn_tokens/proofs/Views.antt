@@ -1,5 +1,6 @@
 -- How what contracts see of a list of trees goes with the list.
 use Rattle.std.proofs.Common.{◌≡◌, ℕ, zero, suc, ◌≤◌, List, [], ◌∷◌, length, drop, refl, arith}
+use Rattle.syn_tokens.specs.Tok.{toks-inside, inside_weight-inside}
 use Rattle.syn_tokens.specs.View.{toks_of, toks_of-append, length-toks_of, toks_of-take, toks_of-drop}
 use Rattle.syn_tokens.specs.declared.tree.TokenTree.{TokenTree}
 
@@ -10,3 +11,5 @@ toks_past (suc n) [] h = refl
 toks_past (suc n) (t ∷ a) h = toks_past n a (omega arith)
 
 pub ruleset views = (toks_of-append, length-toks_of, toks_of-take, toks_of-drop, toks_past)
+
+pub ruleset insides = (toks-inside, inside_weight-inside)

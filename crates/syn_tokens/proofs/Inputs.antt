@@ -1,0 +1,49 @@
+-- What reads leave.
+use Rattle.std.proofs.Common.{◌≡◌, ℕ, zero, suc, ◌+◌, ◌-◌, ◌≤◌, ◌<◌, List, [], ◌∷◌, ◌++◌, length, take, drop, refl, true, false, Bool, sym, ◌∙◌, ap, arith, length-append, append_assoc, append-nil, Option, Some, None}
+use Rattle.std.proofs.lemmas.List.{take-append-drop}
+use Rattle.std.proofs.Math.Seq.{drop-append_seam}
+use Rattle.syn_lexer.specs.declared.lexeme.Delimiter.{Delimiter}
+use Rattle.syn_tokens.specs.Tok.{Tok, Inside, toks, inside, group}
+use Rattle.syn_tokens.specs.Front.{group_at, group_of}
+use Rattle.syn_tokens.specs.Input.{Input, IsTail, IsAfter}
+use Rattle.syn_tokens.specs.View.{toks_of, length-toks_of, toks_of-drop}
+use Rattle.syn_tokens.specs.declared.tree.TokenTree.{TokenTree}
+
+-- a tail is no longer than the list
+pub tail_le : (xs ys : List TokenTree) → IsTail (toks_of ys) (toks_of xs) → length ys ≤ length xs
+tail_le xs ys h = omega (arith, length-toks_of xs, length-toks_of ys, simp length-append at (ap length h.is))
+
+-- and stands behind as many trees as it lacks
+pub tail_at : (xs ys : List TokenTree) → IsTail (toks_of ys) (toks_of xs) → toks_of (drop (length xs - length ys) xs) ≡ toks_of ys
+tail_at xs ys h =
+    let n : length xs - length ys ≡ length h.front = omega (arith, length-toks_of xs, length-toks_of ys, simp length-append at (ap length h.is)) in
+    rw (toks_of-drop, n, h.is) (drop-append_seam h.front (toks_of ys))
+
+pub after_same : (i : Input) → IsAfter i i
+after_same i = record { front = []; is = refl; noted = λ h. h }
+
+pub after_then : {a b c : Input} → IsAfter a b → IsAfter b c → IsAfter a c
+after_then g h = record {
+  front = g.front ++ h.front;
+  is = g.is ∙ ap (λ t. g.front ++ t) h.is ∙ sym (append_assoc g.front h.front _);
+  noted = λ n. h.noted (g.noted n);
+}
+
+pub after_drop : (n : ℕ) (i o : Input) → o ≡ record i { rest = drop n i.rest } → IsAfter i o
+after_drop n i o e = rw e record { front = take n i.rest; is = sym (take-append-drop n i.rest); noted = λ h. h }
+
+pub after_one : (i o : Input) → o.rest ≡ drop 1 i.rest → o.noted ≡ i.noted → IsAfter i o
+after_one i o e n = record { front = take 1 i.rest; is = sym (ap (λ r. take 1 i.rest ++ r) e ∙ take-append-drop 1 i.rest); noted = λ h. n ∙ h }
+
+pub after_nothing : (i o : Input) → o.rest ≡ [] → o.noted ≡ i.noted → IsAfter i o
+after_nothing i o e n = record { front = i.rest; is = sym (ap (λ r. i.rest ++ r) e ∙ append-nil i.rest); noted = λ h. n ∙ h }
+
+no_true : (v : Bool) → (v ≡ true → ⊥) → v ≡ false
+no_true true h = absurd (h refl)
+no_true false h = refl
+
+-- no note before where there is none after
+pub clean_before : {a b : Input} → IsAfter a b → b.noted ≡ false → a.noted ≡ false
+clean_before {a} g h = no_true a.noted (λ n. let e = g.noted n in cc)
+
+pub ruleset tails = (after_same, after_drop, after_one, after_nothing)
