@@ -56,3 +56,10 @@ word_toks (b ∷ more) = ident (b ∷ more) ∷ []
 -- what a word prints: nothing past the table
 abbrev pub printed_word : ℕ → List Tok
 printed_word k = word_toks (word_text k)
+
+-- `_` stands first
+abbrev pub sees_underscore : List Tok → Bool
+sees_underscore = begins_word (95 ∷ [])
+
+abbrev pub printed_underscore : List Tok
+printed_underscore = word_toks (95 ∷ [])

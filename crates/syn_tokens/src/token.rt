@@ -1,31 +1,637 @@
 //! The tokens of one or more puncts, the words and the delimiters.
 
+ghost use Rattle.std.specs.Prelude.{◌≡◌, ◌++◌, [], ◌∷◌, drop, replicate, IsTrue, OnOk, OnErr};
+ghost use Rattle.syn_lexer.specs.declared.lexeme.Delimiter.TheVariants as delimiter;
+ghost use Rattle.syn_tokens.specs.Front as front;
+ghost use Rattle.syn_tokens.specs.Input.{IsFront};
+ghost use Rattle.syn_tokens.specs.Sign as spec;
+ghost use Rattle.syn_tokens.specs.Tok as tok;
+ghost use Rattle.syn_tokens.specs.View.{tok_of, toks_of};
+
+use crate::buffer::{Parse, ParseBuffer, ToTokens, Token};
+use crate::error::{ErrorKind, Expected, Result, Wanted};
 use crate::span::Span;
+use crate::table::{sign_text, word_text};
+use crate::tree::{self, Ident, Punct, TokenStream, TokenTree};
+use crate::{Delimiter, Spacing};
+
+/// A token of N puncts, the one at place K of `SIGNS`. Where that has another number of puncts, or K is past the list,
+/// it is never seen or read and prints nothing. Equality ignores places.
+#[derive(Clone, Copy, Debug)]
+#[derive_where(PartialEq, Eq, Hash)]
+pub struct Sign<const N: usize, const K: usize> {
+    /// Where its puncts are.
+    #[derive_where(skip(EqHashOrd))]
+    pub spans: [Span; N],
+}
+
+/// The word at place K of `WORDS`. Past the list it is never seen or read and prints nothing. Equality ignores places.
+#[derive(Clone, Copy, Debug)]
+#[derive_where(PartialEq, Eq, Hash)]
+pub struct Word<const K: usize> {
+    /// Where it is.
+    #[derive_where(skip(EqHashOrd))]
+    pub span: Span,
+}
+
+/// `_`
+#[derive(Clone, Copy, Debug)]
+#[derive_where(PartialEq, Eq, Hash)]
+pub struct Underscore {
+    /// Where it is.
+    #[derive_where(skip(EqHashOrd))]
+    pub spans: [Span; 1],
+}
 
 /// `( .. )`
-#[derive(Clone, Copy, Debug)]
+#[derive(Clone, Copy, Debug, Default)]
+#[derive_where(PartialEq, Eq, Hash)]
 pub struct Paren {
     /// From the opening to the closing delimiter.
+    #[derive_where(skip(EqHashOrd))]
     pub span: Span,
 }
 
 /// `{ .. }`
-#[derive(Clone, Copy, Debug)]
+#[derive(Clone, Copy, Debug, Default)]
+#[derive_where(PartialEq, Eq, Hash)]
 pub struct Brace {
     /// From the opening to the closing delimiter.
+    #[derive_where(skip(EqHashOrd))]
     pub span: Span,
 }
 
 /// `[ .. ]`
-#[derive(Clone, Copy, Debug)]
+#[derive(Clone, Copy, Debug, Default)]
+#[derive_where(PartialEq, Eq, Hash)]
 pub struct Bracket {
     /// From the opening to the closing delimiter.
+    #[derive_where(skip(EqHashOrd))]
     pub span: Span,
 }
 
-/// An invisible group.
-#[derive(Clone, Copy, Debug)]
+/// An invisible group, as macros make them.
+#[derive(Clone, Copy, Debug, Default)]
+#[derive_where(PartialEq, Eq, Hash)]
 pub struct Group {
     /// Where it is.
+    #[derive_where(skip(EqHashOrd))]
     pub span: Span,
+}
+
+/// `&`
+pub type And = Sign<1, 0>;
+
+/// `&&`
+pub type AndAnd = Sign<2, 1>;
+
+/// `&=`
+pub type AndEq = Sign<2, 2>;
+
+/// `@`
+pub type At = Sign<1, 3>;
+
+/// `^`
+pub type Caret = Sign<1, 4>;
+
+/// `^=`
+pub type CaretEq = Sign<2, 5>;
+
+/// `:`
+pub type Colon = Sign<1, 6>;
+
+/// `,`
+pub type Comma = Sign<1, 7>;
+
+/// `$`
+pub type Dollar = Sign<1, 8>;
+
+/// `.`
+pub type Dot = Sign<1, 9>;
+
+/// `..`
+pub type DotDot = Sign<2, 10>;
+
+/// `...`
+pub type DotDotDot = Sign<3, 11>;
+
+/// `..=`
+pub type DotDotEq = Sign<3, 12>;
+
+/// `=`
+pub type Eq = Sign<1, 13>;
+
+/// `==`
+pub type EqEq = Sign<2, 14>;
+
+/// `=>`
+pub type FatArrow = Sign<2, 15>;
+
+/// `>=`
+pub type Ge = Sign<2, 16>;
+
+/// `>`
+pub type Gt = Sign<1, 17>;
+
+/// `<-`
+pub type LArrow = Sign<2, 18>;
+
+/// `<=`
+pub type Le = Sign<2, 19>;
+
+/// `<`
+pub type Lt = Sign<1, 20>;
+
+/// `-`
+pub type Minus = Sign<1, 21>;
+
+/// `-=`
+pub type MinusEq = Sign<2, 22>;
+
+/// `!=`
+pub type Ne = Sign<2, 23>;
+
+/// `!`
+pub type Not = Sign<1, 24>;
+
+/// `|`
+pub type Or = Sign<1, 25>;
+
+/// `|=`
+pub type OrEq = Sign<2, 26>;
+
+/// `||`
+pub type OrOr = Sign<2, 27>;
+
+/// `::`
+pub type PathSep = Sign<2, 28>;
+
+/// `%`
+pub type Percent = Sign<1, 29>;
+
+/// `%=`
+pub type PercentEq = Sign<2, 30>;
+
+/// `+`
+pub type Plus = Sign<1, 31>;
+
+/// `+=`
+pub type PlusEq = Sign<2, 32>;
+
+/// `#`
+pub type Pound = Sign<1, 33>;
+
+/// `?`
+pub type Question = Sign<1, 34>;
+
+/// `->`
+pub type RArrow = Sign<2, 35>;
+
+/// `;`
+pub type Semi = Sign<1, 36>;
+
+/// `<<`
+pub type Shl = Sign<2, 37>;
+
+/// `<<=`
+pub type ShlEq = Sign<3, 38>;
+
+/// `>>`
+pub type Shr = Sign<2, 39>;
+
+/// `>>=`
+pub type ShrEq = Sign<3, 40>;
+
+/// `/`
+pub type Slash = Sign<1, 41>;
+
+/// `/=`
+pub type SlashEq = Sign<2, 42>;
+
+/// `*`
+pub type Star = Sign<1, 43>;
+
+/// `*=`
+pub type StarEq = Sign<2, 44>;
+
+/// `~`
+pub type Tilde = Sign<1, 45>;
+
+/// `as`
+pub type As = Word<0>;
+
+/// `async`
+pub type Async = Word<1>;
+
+/// `await`
+pub type Await = Word<2>;
+
+/// `become`
+pub type Become = Word<3>;
+
+/// `break`
+pub type Break = Word<4>;
+
+/// `const`
+pub type Const = Word<5>;
+
+/// `continue`
+pub type Continue = Word<6>;
+
+/// `dyn`
+pub type Dyn = Word<7>;
+
+/// `else`
+pub type Else = Word<8>;
+
+/// `extern`
+pub type Extern = Word<9>;
+
+/// `fn`
+pub type Fn = Word<10>;
+
+/// `for`
+pub type For = Word<11>;
+
+/// `if`
+pub type If = Word<12>;
+
+/// `impl`
+pub type Impl = Word<13>;
+
+/// `in`
+pub type In = Word<14>;
+
+/// `let`
+pub type Let = Word<15>;
+
+/// `loop`
+pub type Loop = Word<16>;
+
+/// `match`
+pub type Match = Word<17>;
+
+/// `move`
+pub type Move = Word<18>;
+
+/// `mut`
+pub type Mut = Word<19>;
+
+/// `raw`
+pub type Raw = Word<20>;
+
+/// `ref`
+pub type Ref = Word<21>;
+
+/// `return`
+pub type Return = Word<22>;
+
+/// `static`
+pub type Static = Word<23>;
+
+/// `try`
+pub type Try = Word<24>;
+
+/// `unsafe`
+pub type Unsafe = Word<25>;
+
+/// `use`
+pub type Use = Word<26>;
+
+/// `while`
+pub type While = Word<27>;
+
+/// `yield`
+pub type Yield = Word<28>;
+
+impl<const N: usize, const K: usize> Default for Sign<N, K> {
+    ghost is_default = { λ s. s.spans ≡ replicate N (record { lo = 0; hi = 0 }) };
+
+    fn default() -> Sign<N, K> {
+        Sign {
+            spans: [Span::call_site(); N],
+        }
+    }
+}
+
+impl<const K: usize> Default for Word<K> {
+    ghost is_default = { λ w. w.span ≡ record { lo = 0; hi = 0 } };
+
+    fn default() -> Word<K> {
+        Word {
+            span: Span::call_site(),
+        }
+    }
+}
+
+impl Default for Underscore {
+    ghost is_default = { λ u. u.spans ≡ record { lo = 0; hi = 0 } ∷ [] };
+
+    fn default() -> Underscore {
+        Underscore {
+            spans: [Span::call_site()],
+        }
+    }
+}
+
+/// Whether the puncts of a text stand first, each but the last joint.
+fn begins(mut text: &[u8], mut rest: &[TokenTree]) -> bool
+    ensures { result ≡ spec.begins text.entry.now (toks_of rest.entry.now) }
+{
+    while let [b, more @ ..] = text {
+        let [TokenTree::Punct(punct), after @ ..] = rest else {
+            return false;
+        };
+        if punct.ch != char::from(*b) {
+            return false;
+        }
+        if more.is_empty() {
+            return true;
+        }
+        if punct.spacing != Spacing::Joint {
+            return false;
+        }
+        text = more;
+        rest = after;
+    }
+    false
+}
+
+/// Whether a text stands first as an identifier.
+fn begins_word(text: &str, rest: &[TokenTree]) -> bool
+    ensures { result ≡ spec.begins_word text.now (toks_of rest.now) }
+{
+    match rest {
+        [TokenTree::Ident(ident), ..] => !text.is_empty() && ident.as_str() == text,
+        _ => false,
+    }
+}
+
+/// Puts the puncts of a text at the end, the last one alone.
+fn push_puncts(mut text: &[u8], mut spans: &[Span], tokens: &mut TokenStream) -> Result<()>
+    ensures ok { OnOk result (tokens.new ≡ tokens.old ++ spec.sign_toks text.entry.now) }
+    ensures err { OnErr result (IsFront tokens.old tokens.new) }
+{
+    while let [b, more @ ..] = text {
+        let span = match spans {
+            [first, others @ ..] => {
+                spans = others;
+                *first
+            }
+            [] => Span::call_site(),
+        };
+        let spacing = if more.is_empty() {
+            Spacing::Alone
+        } else {
+            Spacing::Joint
+        };
+        let ch = char::from(*b);
+        tokens.push(TokenTree::Punct(Punct { ch, spacing, span }))?;
+        text = more;
+    }
+    Ok(())
+}
+
+/// Puts a text at the end as an identifier, nothing where it is empty.
+#[tactic(auto, using(crate::proofs::Signs::word_toks_is))]
+fn push_word(text: &str, span: Span, tokens: &mut TokenStream) -> Result<()>
+    ensures ok { OnOk result (tokens.new ≡ tokens.old ++ spec.word_toks text.now) }
+    ensures err { OnErr result (IsFront tokens.old tokens.new) }
+{
+    if text.is_empty() {
+        return Ok(());
+    }
+    let text = String::from_str(tokens.alloc(), text)?;
+    tokens.push(TokenTree::Ident(Ident::read(text, span)))?;
+    Ok(())
+}
+
+impl<const N: usize, const K: usize> Sign<N, K> {
+    /// How a refusal names it.
+    pub fn wanted() -> Wanted
+        ensures { result ≡ Wanted.Sign K }
+    {
+        Wanted::Sign(K)
+    }
+}
+
+impl<const N: usize, const K: usize> Token for Sign<N, K> {
+    ghost sees = { spec.sees N K };
+
+    fn peek(rest: &[TokenTree]) -> bool {
+        let text = sign_text(K);
+        text.len() == N && begins(text.as_bytes(), rest)
+    }
+}
+
+#[tactic(auto, using(crate::proofs::Inputs::tails, crate::proofs::Signs::fronts))]
+impl<const N: usize, const K: usize> Parse for Sign<N, K> {
+    ghost spells = { λ ts s rest. IsTrue (spec.sees N K ts) × (rest ≡ drop N ts) };
+
+    ghost same = { λ a b. Unit {0} };
+
+    ghost least = { 1 };
+
+    fn parse(input: &mut ParseBuffer<'_>) -> Result<Self> {
+        if !input.peek::<Self>() {
+            return Err(input.error(ErrorKind::ExpectedToken(Expected::One(Wanted::Sign(K)))));
+        }
+        let spans = input.spans();
+        input.skip(N);
+        Ok(Sign { spans })
+    }
+}
+
+impl<const N: usize, const K: usize> ToTokens for Sign<N, K> {
+    ghost printed = { λ s. spec.printed_sign N K };
+
+    fn to_tokens(&self, tokens: &mut TokenStream) -> Result<()> {
+        let text = sign_text(K);
+        if text.len() != N {
+            return Ok(());
+        }
+        push_puncts(text.as_bytes(), &self.spans, tokens)
+    }
+}
+
+impl<const K: usize> Word<K> {
+    /// How a refusal names it.
+    pub fn wanted() -> Wanted
+        ensures { result ≡ Wanted.Word K }
+    {
+        Wanted::Word(K)
+    }
+}
+
+impl<const K: usize> Token for Word<K> {
+    ghost sees = { spec.sees_word K };
+
+    fn peek(rest: &[TokenTree]) -> bool {
+        begins_word(word_text(K), rest)
+    }
+}
+
+#[tactic(auto, using(crate::proofs::Inputs::tails, crate::proofs::Signs::fronts))]
+impl<const K: usize> Parse for Word<K> {
+    ghost spells = { λ ts w rest. IsTrue (spec.sees_word K ts) × (rest ≡ drop 1 ts) };
+
+    ghost same = { λ a b. Unit {0} };
+
+    ghost least = { 1 };
+
+    fn parse(input: &mut ParseBuffer<'_>) -> Result<Self> {
+        if !input.peek::<Self>() {
+            return Err(input.error(ErrorKind::ExpectedToken(Expected::One(Wanted::Word(K)))));
+        }
+        let span = input.span();
+        input.skip(1);
+        Ok(Word { span })
+    }
+}
+
+impl<const K: usize> ToTokens for Word<K> {
+    ghost printed = { λ w. spec.printed_word K };
+
+    fn to_tokens(&self, tokens: &mut TokenStream) -> Result<()> {
+        push_word(word_text(K), self.span, tokens)
+    }
+}
+
+impl Underscore {
+    /// How a refusal names it.
+    pub fn wanted() -> Wanted
+        ensures { result ≡ Wanted.Underscore }
+    {
+        Wanted::Underscore
+    }
+}
+
+impl Token for Underscore {
+    ghost sees = { spec.sees_underscore };
+
+    fn peek(rest: &[TokenTree]) -> bool {
+        begins_word("_", rest)
+    }
+}
+
+#[tactic(auto, using(crate::proofs::Inputs::tails, crate::proofs::Signs::fronts))]
+impl Parse for Underscore {
+    ghost spells = { λ ts u rest. IsTrue (spec.sees_underscore ts) × (rest ≡ drop 1 ts) };
+
+    ghost same = { λ a b. Unit {0} };
+
+    ghost least = { 1 };
+
+    fn parse(input: &mut ParseBuffer<'_>) -> Result<Self> {
+        if !input.peek::<Self>() {
+            return Err(input.error(ErrorKind::ExpectedToken(Expected::One(Wanted::Underscore))));
+        }
+        let spans = input.spans();
+        input.skip(1);
+        Ok(Underscore { spans })
+    }
+}
+
+impl ToTokens for Underscore {
+    ghost printed = { λ u. spec.printed_underscore };
+
+    fn to_tokens(&self, tokens: &mut TokenStream) -> Result<()> {
+        let [span] = self.spans;
+        push_word("_", span, tokens)
+    }
+}
+
+/// Whether a group with this delimiter stands first.
+#[tactic(auto, unfolding(crate::specs::Front::group_at))]
+fn begins_group(delimiter: Delimiter, rest: &[TokenTree]) -> bool
+    ensures { result ≡ front.sees_group delimiter (toks_of rest.now) }
+{
+    match rest {
+        [TokenTree::Group(group), ..] => group.delimiter == delimiter,
+        _ => false,
+    }
+}
+
+impl Token for Paren {
+    ghost sees = { front.sees_group delimiter.Parenthesis };
+
+    fn peek(rest: &[TokenTree]) -> bool {
+        begins_group(Delimiter::Parenthesis, rest)
+    }
+}
+
+impl Paren {
+    /// The group of these tokens, at this place.
+    pub fn enclose(self, stream: TokenStream) -> TokenTree
+        ensures { tok_of result ≡ tok.group Delimiter.Parenthesis (tok.inside stream) }
+    {
+        TokenTree::Group(tree::Group {
+            delimiter: Delimiter::Parenthesis,
+            stream,
+            span: self.span,
+        })
+    }
+}
+
+impl Token for Brace {
+    ghost sees = { front.sees_group delimiter.Brace };
+
+    fn peek(rest: &[TokenTree]) -> bool {
+        begins_group(Delimiter::Brace, rest)
+    }
+}
+
+impl Brace {
+    /// The group of these tokens, at this place.
+    pub fn enclose(self, stream: TokenStream) -> TokenTree
+        ensures { tok_of result ≡ tok.group Delimiter.Brace (tok.inside stream) }
+    {
+        TokenTree::Group(tree::Group {
+            delimiter: Delimiter::Brace,
+            stream,
+            span: self.span,
+        })
+    }
+}
+
+impl Token for Bracket {
+    ghost sees = { front.sees_group delimiter.Bracket };
+
+    fn peek(rest: &[TokenTree]) -> bool {
+        begins_group(Delimiter::Bracket, rest)
+    }
+}
+
+impl Bracket {
+    /// The group of these tokens, at this place.
+    pub fn enclose(self, stream: TokenStream) -> TokenTree
+        ensures { tok_of result ≡ tok.group Delimiter.Bracket (tok.inside stream) }
+    {
+        TokenTree::Group(tree::Group {
+            delimiter: Delimiter::Bracket,
+            stream,
+            span: self.span,
+        })
+    }
+}
+
+impl Token for Group {
+    ghost sees = { front.sees_group delimiter.None };
+
+    fn peek(rest: &[TokenTree]) -> bool {
+        begins_group(Delimiter::None, rest)
+    }
+}
+
+impl Group {
+    /// The group of these tokens, at this place.
+    pub fn enclose(self, stream: TokenStream) -> TokenTree
+        ensures { tok_of result ≡ tok.group Delimiter.None (tok.inside stream) }
+    {
+        TokenTree::Group(tree::Group {
+            delimiter: Delimiter::None,
+            stream,
+            span: self.span,
+        })
+    }
 }

@@ -7,14 +7,16 @@ use crate::{Delimiter, Spacing};
 use std::alloc::{AllocError, Global};
 use std::marker::Model;
 
-/// A character of punctuation (Rust Reference, "Punctuation").
+/// A character of punctuation (Rust Reference, "Punctuation"). Equality ignores its place.
 #[derive(Clone, Copy, Debug)]
+#[derive_where(PartialEq, Eq, Hash)]
 pub struct Punct {
     /// The character.
     pub ch: char,
     /// Whether another punct follows at once.
     pub spacing: Spacing,
     /// Where it is.
+    #[derive_where(skip(EqHashOrd))]
     pub span: Span,
 }
 
