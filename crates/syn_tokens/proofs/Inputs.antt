@@ -6,7 +6,7 @@ use Rattle.syn_lexer.specs.declared.lexeme.Delimiter.{Delimiter}
 use Rattle.syn_tokens.specs.Tok.{Tok, Inside, toks, inside, group}
 use Rattle.syn_tokens.specs.Front.{group_at, group_of}
 use Rattle.syn_tokens.specs.Input.{Input, IsTail, IsAfter}
-use Rattle.syn_tokens.specs.View.{toks_of, length-toks_of, toks_of-drop}
+use Rattle.syn_tokens.specs.View.{toks_of, toks_of-append, length-toks_of, toks_of-drop}
 use Rattle.syn_tokens.specs.declared.tree.TokenTree.{TokenTree}
 
 -- a tail is no longer than the list
@@ -18,6 +18,13 @@ pub tail_at : (xs ys : List TokenTree) → IsTail (toks_of ys) (toks_of xs) → 
 tail_at xs ys h =
     let n : length xs - length ys ≡ length h.front = omega (arith, length-toks_of xs, length-toks_of ys, simp length-append at (ap length h.is)) in
     rw (toks_of-drop, n, h.is) (drop-append_seam h.front (toks_of ys))
+
+-- and what stands before it is the front
+pub front_at : (xs ys : List TokenTree) → IsTail (toks_of ys) (toks_of xs) → toks_of xs ≡ toks_of (take (length xs - length ys) xs) ++ toks_of ys
+front_at xs ys h =
+    let n = length xs - length ys in
+    let one : toks_of (take n xs) ++ toks_of (drop n xs) ≡ toks_of xs = sym (toks_of-append (take n xs) (drop n xs)) ∙ ap toks_of (take-append-drop n xs) in
+    sym one ∙ ap (λ r. toks_of (take n xs) ++ r) (tail_at xs ys h)
 
 pub after_same : (i : Input) → IsAfter i i
 after_same i = record { front = []; is = refl; noted = λ h. h }

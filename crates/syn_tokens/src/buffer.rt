@@ -189,6 +189,27 @@ impl<'a> ParseBuffer<'a> {
         self.rest.first()
     }
 
+    /// The trees from here up to a later position in the same list.
+    pub fn until(&self, later: &ParseBuffer<'_>) -> &'a [TokenTree]
+        requires { IsTail later.now.rest self.now.rest }
+        ensures { self.now.rest ≡ toks_of result.now ++ later.now.rest }
+    {
+        front_to(self.rest, later.rest)
+    }
+
+    /// The place of the trees from here up to a later position in the same list: from the first byte of the first
+    /// to the last byte of the last. Where there are none it is the next token's.
+    pub fn span_until(&self, later: &ParseBuffer<'_>) -> Span {
+        let count = self.rest.len().saturating_sub(later.rest.len());
+        match (&self.rest[..count]).last() {
+            Some(tree) => Span {
+                lo: self.span().lo,
+                hi: tree.span().hi,
+            },
+            None => self.span(),
+        }
+    }
+
     /// The place of the first token that nothing read, in a group that was read or here.
     pub fn leftover(&self) -> Option<Span>
         ensures { is_some result ≡ spec.has_left self.now }
@@ -384,4 +405,13 @@ fn tail_at<'a>(list: &'a [TokenTree], tail: &[TokenTree]) -> &'a [TokenTree]
 {
     let (_, rest) = list.split_at(list.len() - tail.len());
     rest
+}
+
+/// The part of the list before where its tail stands.
+fn front_to<'a>(list: &'a [TokenTree], tail: &[TokenTree]) -> &'a [TokenTree]
+    requires { IsTail (toks_of tail.now) (toks_of list.now) }
+    ensures { toks_of list.now ≡ toks_of result.now ++ toks_of tail.now }
+{
+    let (front, _) = list.split_at(list.len() - tail.len());
+    front
 }

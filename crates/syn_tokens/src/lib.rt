@@ -2,10 +2,12 @@
 #![tactic(auto)]
 
 pub mod buffer;
+pub mod copy;
 pub mod error;
 pub mod span;
 pub mod table;
 pub mod token;
 pub mod tree;
+pub mod whole;
 
 pub use syn_lexer::lexeme::{Delimiter, Spacing};

@@ -1,0 +1,9 @@
+use Rattle.std.proofs.Common.{arith}
+use Rattle.syn_tokens.proofs.Inputs.{tail_le, front_at}
+use Rattle.syn_tokens.proofs.buffer.front_to.Goals as goal
+
+pub overflow_sub-list : goal.overflow_sub-list
+overflow_sub-list c = tail_le c.args.list.now c.args.tail.now c.requires
+
+pub returns : goal.returns
+returns c = let e = front_at c.args.list.now c.args.tail.now c.requires in cc
