@@ -13,3 +13,7 @@ toks_past (suc n) (t ∷ a) h = toks_past n a (omega arith)
 pub ruleset views = (toks_of-append, length-toks_of, toks_of-take, toks_of-drop, toks_past)
 
 pub ruleset insides = (toks-inside, inside_weight-inside)
+
+pub no_items : {A : Type 0} (xs : List A) → length xs ≡ 0 → xs ≡ []
+no_items [] h = refl
+no_items (x ∷ xs) h = cc

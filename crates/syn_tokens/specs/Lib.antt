@@ -6,3 +6,4 @@ pub mod Front
 pub mod Sign
 pub mod Input
 pub mod ErrorText
+pub mod Same

@@ -1,11 +1,15 @@
 -- What contracts see of token trees: all but their places.
 use Rattle.std.specs.Prelude.{◌≡◌, ℕ, List, [], ◌∷◌, ◌++◌, length, take, drop, zero, suc, refl}
 use Rattle.syn_tokens.specs.Tok.{Tok, ident, punct, literal, group, inside}
+use Rattle.syn_tokens.specs.declared.tree.Group as tree
 use Rattle.syn_tokens.specs.declared.tree.TokenTree.{TokenTree}
 use Rattle.syn_tokens.specs.declared.tree.TokenTree.TheVariants.{Group, Ident, Punct, Literal}
 
+abbrev pub tok_of_group : tree.Group → Tok
+tok_of_group g = group g.delimiter (inside g.stream)
+
 abbrev pub tok_of : TokenTree → Tok
-tok_of (Group g) = group g.delimiter (inside g.stream)
+tok_of (Group g) = tok_of_group g
 tok_of (Ident i) = ident i
 tok_of (Punct p) = punct p.ch p.spacing
 tok_of (Literal l) = literal l

@@ -4,6 +4,7 @@
 pub mod buffer;
 pub mod copy;
 pub mod error;
+pub mod same;
 pub mod span;
 pub mod table;
 pub mod token;
