@@ -1,6 +1,6 @@
 -- The words that are no identifiers (Rust Reference, "Keywords": strict and reserved ones, `_`, and the weak ones that
 -- syn reserves).
-use Rattle.std.specs.Prelude.{ℕ, Bool, true, false, ◌||◌, List, [], ◌∷◌, codes}
+use Rattle.std.specs.Prelude.{ℕ, Bool, false, ◌||◌, List, [], ◌∷◌, codes}
 use Rattle.std.specs.Str.{bytes_eq}
 
 abbrev pub reserved_words : List (List ℕ)

@@ -21,3 +21,29 @@ pub enum Spacing {
     /// Another punct follows at once, so that the two may make one token.
     Joint,
 }
+
+/// What stands at the front of a text.
+#[derive(Clone, Copy, Debug, PartialEq, Eq, Hash)]
+pub enum LexemeKind {
+    /// White space, or a comment that is no doc comment.
+    Blank,
+    /// An identifier, a reserved word or a raw identifier.
+    Ident,
+    /// A literal with its suffix.
+    Literal,
+    /// One character of punctuation. A lifetime is the joint punct `'`, and then an identifier.
+    Punct(char, Spacing),
+    /// The opening character of a delimiter.
+    Open(Delimiter),
+    /// The closing character of a delimiter.
+    Close(Delimiter),
+}
+
+/// A lexeme at the front of a text.
+#[derive(Clone, Copy, Debug, PartialEq, Eq, Hash)]
+pub struct Lexeme {
+    /// What it is.
+    pub kind: LexemeKind,
+    /// How many characters it is, at least one.
+    pub len: usize,
+}

@@ -1,0 +1,2 @@
+pub mod CommentLaws
+pub mod LexLaws

@@ -1,0 +1,113 @@
+-- Character, string, byte and C string literals, raw ones too (Rust Reference, "Character and string literals",
+-- "Byte and byte string literals", "C string and raw C string literals"), and lifetimes ("Lifetimes and loop
+-- labels"). What an escape means is not looked at.
+use Rattle.std.specs.Prelude.{ℕ, ◌+◌, Bool, true, false, not, ◌&&◌, ◌||◌, if◌then◌else◌, ◌==◌, nat_le, [], ◌∷◌, drop, slice_index, Option, Some, None, Ok, Err, codes}
+use Rattle.std.specs.List.{prefix_len}
+use Rattle.syn_lexer.specs.Text.{Text, Reading, begins}
+use Rattle.syn_lexer.specs.Words.{starts_word, begins_raw_word, literal_to}
+use Rattle.syn_lexer.specs.declared.lexeme.Spacing.TheVariants.{Joint}
+use Rattle.syn_lexer.specs.declared.lexeme.LexemeKind.TheVariants.{Punct}
+use Rattle.syn_lexer.specs.declared.error.LexError.TheVariants.{MalformedLiteral, MalformedLifetime}
+
+-- a literal whose opening is so many characters, and whose rest is so many more; none where it is not closed
+abbrev pub closed : Text → ℕ → Option ℕ → Reading
+closed z opening None = Err MalformedLiteral
+closed z opening (Some n) = Ok (literal_to z (opening + n))
+
+-- ---- strings
+
+-- how many characters there are up to and with the closing `"`, counted on from `n`; a backslash takes the next
+-- character
+abbrev pub string_rest : Bool → ℕ → Text → Option ℕ
+string_rest is_escaped n [] = None
+string_rest true n (c ∷ z) = string_rest false (n + 1) z
+string_rest false n (c ∷ z) = if c == 34 then Some (n + 1) else string_rest (c == 92) (n + 1) z
+
+-- ---- raw strings
+
+abbrev pub is_hash : ℕ → Bool
+is_hash c = c == 35
+
+-- any number of `#`
+abbrev pub hashes_len : Text → ℕ
+hashes_len z = prefix_len is_hash z
+
+-- how many characters there are up to and with the first `"` that has so many `#` behind it, counted on from `n`
+abbrev pub raw_string_rest : ℕ → ℕ → Text → Option ℕ
+raw_string_rest hashes n [] = None
+raw_string_rest hashes n (c ∷ z) = if c == 34 && nat_le hashes (hashes_len z) then Some (n + 1 + hashes) else raw_string_rest hashes (n + 1) z
+
+-- ---- the prefixes
+
+-- how many characters `r`, `br` or `cr` are
+abbrev pub raw_prefix_len : Text → ℕ
+raw_prefix_len z = if begins (codes "r") z then 1 else (if begins (codes "br") z || begins (codes "cr") z then 2 else 0)
+
+-- any number of `#` and a `"`
+abbrev pub opens_raw_string : Text → Bool
+opens_raw_string z = begins (codes "\"") (drop (hashes_len z) z)
+
+abbrev pub begins_raw_string : Text → Bool
+begins_raw_string z = not (raw_prefix_len z == 0) && opens_raw_string (drop (raw_prefix_len z) z)
+
+abbrev pub begins_string : Text → Bool
+begins_string z = begins (codes "\"") z || begins (codes "b\"") z || begins (codes "c\"") z
+
+abbrev pub begins_byte : Text → Bool
+begins_byte z = begins (codes "b'") z
+
+-- a string, a raw string or a byte begins, and no identifier
+abbrev pub begins_quoted : Text → Bool
+begins_quoted z = begins_string z || begins_raw_string z || begins_byte z
+
+-- how many characters the opening of a string is
+abbrev pub string_opening_len : Text → ℕ
+string_opening_len z = if begins (codes "\"") z then 1 else 2
+
+abbrev pub string : Text → Reading
+string z = let opening = string_opening_len z in closed z opening (string_rest false 0 (drop opening z))
+
+-- the prefix, the `#` and the `"`
+abbrev pub raw_string_hashes : Text → ℕ
+raw_string_hashes z = hashes_len (drop (raw_prefix_len z) z)
+
+abbrev pub raw_string_opening_len : Text → ℕ
+raw_string_opening_len z = raw_prefix_len z + raw_string_hashes z + 1
+
+abbrev pub raw_string : Text → Reading
+raw_string z =
+    let opening = raw_string_opening_len z in
+    closed z opening (raw_string_rest (raw_string_hashes z) 0 (drop opening z))
+
+-- ---- characters and bytes, behind their opening `'`
+
+-- neither `'` nor a line feed
+abbrev pub is_within_character : ℕ → Bool
+is_within_character c = not (c == 39 || c == 10)
+
+-- a backslash, one character, and then those other than `'` and the line feed; or one character
+abbrev pub character_len : Text → ℕ
+character_len z = if begins (codes "\\") z then 2 + prefix_len is_within_character (drop 2 z) else 1
+
+-- a character that is neither `'` nor a line feed, and in the end the closing `'`
+abbrev pub is_character : Text → Bool
+is_character z = is_within_character (slice_index z 0) && slice_index z (character_len z) == 39
+
+-- how many characters there are up to and with the closing `'`
+abbrev pub character_rest : Text → Option ℕ
+character_rest z = if is_character z then Some (character_len z + 1) else None
+
+abbrev pub byte : Text → Reading
+byte z = closed z 2 (character_rest (drop 2 z))
+
+-- ---- what begins with `'`
+
+-- an identifier that is not raw
+abbrev pub begins_plain_word : Text → Bool
+begins_plain_word z = starts_word z && not (begins_quoted z || begins_raw_word z)
+
+-- A character; or a lifetime, whose `'` is a punct joined to the identifier behind it.
+abbrev pub character_or_lifetime : Text → Reading
+character_or_lifetime z =
+    if is_character (drop 1 z) || begins (codes "\\") (drop 1 z) then closed z 1 (character_rest (drop 1 z))
+    else (if begins_plain_word (drop 1 z) then Ok (Punct 39 Joint, 1) else Err MalformedLifetime)

@@ -1,0 +1,27 @@
+-- A text is a list of characters; what stands at its front is read, or refused.
+use Rattle.std.specs.Prelude.{ℕ, ◌≤◌, Bool, List, length, Result, Ok, Err, MatchResult, nat_eq}
+use Rattle.std.specs.List.{starts_with}
+use Rattle.syn_lexer.specs.declared.lexeme.Lexeme.{Lexeme}
+use Rattle.syn_lexer.specs.declared.lexeme.LexemeKind.{LexemeKind}
+use Rattle.syn_lexer.specs.declared.error.LexError.{LexError}
+use Rattle.syn_lexer.specs.declared.error.Refusal.{Refusal}
+
+abbrev pub Text : Type 0
+Text = List ℕ
+
+-- the kind of what stands at the front and how many characters it is, or why nothing stands there
+abbrev pub Reading : Type 0
+Reading = Result (LexemeKind × ℕ) LexError
+
+-- what the lexer answers, without how far it came before it refused
+abbrev pub reading_of : Result Lexeme Refusal → Reading
+reading_of (Ok lexeme) = Ok (lexeme.kind, lexeme.len)
+reading_of (Err refusal) = Err refusal.error
+
+-- what is read or refused is one character at least, and no more than the text
+abbrev pub IsWithin : Text → Result Lexeme Refusal → Type 0
+IsWithin z r = MatchResult r (λ lexeme. (1 ≤ lexeme.len) × (lexeme.len ≤ length z)) (λ refusal. (1 ≤ refusal.len) × (refusal.len ≤ length z))
+
+-- the text begins with this mark
+abbrev pub begins : Text → Text → Bool
+begins mark z = starts_with nat_eq z mark

@@ -1,0 +1,155 @@
+//! The lexeme at the front of a text.
+
+ghost use Rattle.std.specs.Prelude.{◌≡◌, ◌≤◌, ◌<◌, ◌↔◌, length, drop, slice_index, IsTrue, IfErr, MatchResult, Some, None, Err};
+ghost use Rattle.syn_lexer.specs.Lex as spec;
+ghost use Rattle.syn_lexer.specs.Text.{reading_of, IsWithin};
+
+use crate::blank::{
+    begins_block_comment, begins_comment, begins_line_comment, block_comment, is_white_space,
+    line_comment, white_space_len,
+};
+use crate::error::{LexError, Refusal};
+use crate::lexeme::{Delimiter, Lexeme, LexemeKind, Spacing};
+use crate::number::number;
+use crate::quote::{
+    begins_byte, begins_raw_string, begins_string, byte, character_or_lifetime, raw_string, string,
+};
+use crate::text::char_at;
+use crate::word::{begins_raw_word, raw_word, starts_word, word_len};
+
+fn is_punct(c: char) -> bool
+    ensures { result ≡ spec.is_punct c }
+{
+    matches!(
+        c,
+        '~' | '!'
+            | '@'
+            | '#'
+            | '$'
+            | '%'
+            | '^'
+            | '&'
+            | '*'
+            | '-'
+            | '='
+            | '+'
+            | '|'
+            | ';'
+            | ':'
+            | ','
+            | '<'
+            | '.'
+            | '>'
+            | '/'
+            | '?'
+            | '\''
+    )
+}
+
+fn spacing_before(text: &[char]) -> Spacing
+    ensures { result ≡ spec.spacing_before text.now }
+{
+    if is_punct(char_at(text, 0)) && !begins_comment(text) {
+        Spacing::Joint
+    } else {
+        Spacing::Alone
+    }
+}
+
+#[tactic(auto, unfolding(crate::specs::Lex::single_kind))]
+fn single_kind(text: &[char]) -> Option<LexemeKind>
+    requires { 0 < length text.now }
+    ensures { result ≡ spec.single_kind text.now }
+{
+    match text[0] {
+        '(' => Some(LexemeKind::Open(Delimiter::Parenthesis)),
+        ')' => Some(LexemeKind::Close(Delimiter::Parenthesis)),
+        '[' => Some(LexemeKind::Open(Delimiter::Bracket)),
+        ']' => Some(LexemeKind::Close(Delimiter::Bracket)),
+        '{' => Some(LexemeKind::Open(Delimiter::Brace)),
+        '}' => Some(LexemeKind::Close(Delimiter::Brace)),
+        c if is_punct(c) => Some(LexemeKind::Punct(c, spacing_before(&text[1..]))),
+        _ => None,
+    }
+}
+
+/// A delimiter or a punct.
+fn single(text: &[char]) -> Result<Lexeme, Refusal>
+    requires { 0 < length text.now }
+    ensures value { reading_of result ≡ spec.single text.now }
+    ensures within { IsWithin text.now result }
+{
+    match single_kind(text) {
+        Some(kind) => Ok(Lexeme { kind, len: 1 }),
+        None => Err(Refusal {
+            error: LexError::UnknownCharacter,
+            len: 1,
+        }),
+    }
+}
+
+/// What is no blank.
+#[tactic(auto, unfolding(crate::specs::Lex::token))]
+fn token(text: &[char]) -> Result<Lexeme, Refusal>
+    requires { 0 < length text.now }
+    ensures value { reading_of result ≡ spec.token text.now }
+    ensures within { IsWithin text.now result }
+{
+    if begins_string(text) {
+        return string(text);
+    }
+    if begins_raw_string(text) {
+        return raw_string(text);
+    }
+    if begins_byte(text) {
+        return byte(text);
+    }
+    if begins_raw_word(text) {
+        return raw_word(text);
+    }
+    if starts_word(text) {
+        return Ok(Lexeme {
+            kind: LexemeKind::Ident,
+            len: word_len(text),
+        });
+    }
+    if text[0].is_ascii_digit() {
+        return number(text);
+    }
+    if text[0] == '\'' {
+        return character_or_lifetime(text);
+    }
+    single(text)
+}
+
+#[tactic(auto, unfolding(crate::specs::Lex::reading))]
+fn reading(text: &[char]) -> Result<Lexeme, Refusal>
+    requires { 0 < length text.now }
+    ensures value { reading_of result ≡ spec.reading text.now }
+    ensures within { IsWithin text.now result }
+{
+    if is_white_space(text[0]) {
+        return Ok(Lexeme {
+            kind: LexemeKind::Blank,
+            len: white_space_len(text),
+        });
+    }
+    if begins_line_comment(text) {
+        return line_comment(text);
+    }
+    if begins_block_comment(text) {
+        return block_comment(text);
+    }
+    token(text)
+}
+
+/// The longest lexeme at the front of a text that has characters (Rust Reference, "Lexical structure"), or why it
+/// is refused. Doc comments are refused, and the texts of literals are not looked into.
+pub fn front(text: &[char]) -> Result<Lexeme, Refusal>
+    requires { 0 < length text.now }
+    ensures value { MatchResult result (λ x. spec.front text.now ≡ Some (x.kind, x.len)) (λ e. spec.front text.now ≡ None) }
+    ensures error { IfErr result (λ e. spec.reading text.now ≡ Err e.error) }
+    ensures within { IsWithin text.now result }
+{
+    reading(text)
+}
