@@ -54,3 +54,7 @@ pub clean_before : {a b : Input} → IsAfter a b → b.noted ≡ false → a.not
 clean_before {a} g h = no_true a.noted (λ n. let e = g.noted n in cc)
 
 pub ruleset tails = (after_same, after_drop, after_one, after_nothing)
+
+pub drop_all : {A : Type 0} (xs : List A) → drop (length xs) xs ≡ []
+drop_all [] = refl
+drop_all (x ∷ xs) = drop_all xs

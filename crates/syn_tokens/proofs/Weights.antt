@@ -66,3 +66,5 @@ group_weight d (group e i ∷ us) is ts h =
 group_weight d (t ∷ us) is ts h = absurd cc
 
 pub ruleset drops = (drop_weight, drop_moves, past_moves, drop_smaller, nothing_smaller, nothing_least)
+
+pub ruleset firsts = (weight-first, one_at_least)

@@ -7,3 +7,5 @@ pub mod Sign
 pub mod Input
 pub mod ErrorText
 pub mod Same
+pub mod Leaf
+pub mod Text

@@ -4,9 +4,11 @@
 pub mod buffer;
 pub mod copy;
 pub mod error;
+pub mod parse;
 pub mod same;
 pub mod span;
 pub mod table;
+pub mod text;
 pub mod token;
 pub mod tree;
 pub mod whole;

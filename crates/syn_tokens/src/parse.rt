@@ -1,0 +1,104 @@
+//! The readers and printers of the token trees themselves, which copy.
+
+ghost use Rattle.std.specs.Prelude.{◌≡◌, [], ◌∷◌};
+ghost use Rattle.syn_tokens.specs.Leaf as spec;
+ghost use Rattle.syn_tokens.specs.Tok as tok;
+ghost use Rattle.syn_tokens.specs.View.{tok_of};
+
+use crate::buffer::{Parse, ParseBuffer, ToTokens, Token};
+use crate::copy::{copy_ident, copy_literal, copy_tree, copy_trees};
+use crate::error::{ErrorKind, Expected, Part, Result, Wanted};
+use crate::tree::{Ident, Literal, TokenStream, TokenTree};
+
+impl Token for Literal {
+    ghost sees = { spec.sees_literal };
+
+    fn peek(rest: &[TokenTree]) -> bool {
+        matches!(rest, [TokenTree::Literal(_), ..])
+    }
+}
+
+#[tactic(auto, using(crate::proofs::Inputs::tails, crate::proofs::Weights::firsts))]
+impl Parse for Literal {
+    ghost spells = { λ ts v rest. ts ≡ tok.literal v ∷ rest };
+
+    ghost same = { λ a b. a ≡ b };
+
+    ghost least = { 1 };
+
+    fn parse(input: &mut ParseBuffer<'_>) -> Result<Self> {
+        match input.first() {
+            Some(TokenTree::Literal(literal)) => {
+                let literal = copy_literal(input.alloc(), literal)?;
+                input.skip(1);
+                Ok(literal)
+            }
+            _ => Err(input.error(ErrorKind::ExpectedPart(Part::Literal))),
+        }
+    }
+}
+
+impl ToTokens for Literal {
+    ghost printed = { λ v. tok.literal v ∷ [] };
+
+    fn to_tokens(&self, tokens: &mut TokenStream) -> Result<()> {
+        let literal = copy_literal(tokens.alloc(), self)?;
+        tokens.push(TokenTree::Literal(literal))?;
+        Ok(())
+    }
+}
+
+#[tactic(auto, using(crate::proofs::Inputs::tails, crate::proofs::Weights::firsts))]
+impl Parse for TokenTree {
+    ghost spells = { λ ts v rest. ts ≡ tok_of v ∷ rest };
+
+    ghost same = { λ a b. tok_of a ≡ tok_of b };
+
+    ghost least = { 1 };
+
+    fn parse(input: &mut ParseBuffer<'_>) -> Result<Self> {
+        match input.first() {
+            Some(tree) => {
+                let tree = copy_tree(input.alloc(), tree)?;
+                input.skip(1);
+                Ok(tree)
+            }
+            None => Err(input.error(ErrorKind::UnexpectedToken)),
+        }
+    }
+}
+
+impl ToTokens for TokenTree {
+    ghost printed = { λ v. tok_of v ∷ [] };
+
+    fn to_tokens(&self, tokens: &mut TokenStream) -> Result<()> {
+        let tree = copy_tree(tokens.alloc(), self)?;
+        tokens.push(tree)?;
+        Ok(())
+    }
+}
+
+#[tactic(auto, using(crate::proofs::Inputs::tails, crate::proofs::Weights::firsts, crate::proofs::Inputs::drop_all))]
+impl Parse for TokenStream {
+    ghost spells = { λ ts v rest. (ts ≡ v) × (rest ≡ []) };
+
+    ghost same = { λ a b. a ≡ b };
+
+    ghost least = { 0 };
+
+    fn parse(input: &mut ParseBuffer<'_>) -> Result<Self> {
+        let stream = copy_trees(input.alloc(), input.trees())?;
+        input.skip(input.len());
+        Ok(stream)
+    }
+}
+
+impl ToTokens for TokenStream {
+    ghost printed = { λ v. v };
+
+    fn to_tokens(&self, tokens: &mut TokenStream) -> Result<()> {
+        let stream = copy_trees(tokens.alloc(), self.trees())?;
+        tokens.append(stream)?;
+        Ok(())
+    }
+}
