@@ -1,0 +1,11 @@
+//! Expressions: the tree, its reader and its printer, as in syn.
+#![tactic(auto)]
+
+pub mod attr;
+pub mod expr;
+pub mod lit;
+mod make;
+pub mod op;
+pub mod path;
+pub mod precedence;
+pub mod punctuated;
