@@ -1,5 +1,8 @@
+pub mod Binding
+pub mod Exact
 pub mod Op
 pub mod Place
+pub mod Read
 pub mod Stands
 pub mod Tokens
 pub mod Tree

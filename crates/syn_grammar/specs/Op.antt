@@ -1,12 +1,11 @@
 -- The infix and prefix operators, by the characters that they are made of, and how tightly they bind
 -- (Rust Reference, "Operator expressions", "Expression precedence").
-use Rattle.std.specs.Prelude.{ℕ, Bool, true, false, not, ◌||◌, ◌&&◌, if◌then◌else◌, ◌==◌, nat_lt, List, [], ◌∷◌, Option, Some, None, codes}
+use Rattle.std.specs.Prelude.{ℕ, Bool, true, false, ◌||◌, ◌&&◌, if◌then◌else◌, ◌==◌, nat_lt, List, Option, Some, None, codes}
 use Rattle.syn_tokens.specs.Tok.{Tok}
 use Rattle.syn_grammar.specs.declared.kinds.BinKind.{BinKind}
 use Rattle.syn_grammar.specs.declared.kinds.BinKind.TheVariants as bin
 use Rattle.syn_grammar.specs.declared.kinds.UnKind.{UnKind}
 use Rattle.syn_grammar.specs.declared.kinds.UnKind.TheVariants as un
-use Rattle.syn_grammar.specs.declared.kinds.Limits.{Limits}
 use Rattle.syn_grammar.specs.declared.kinds.Limits.TheVariants as limits
 use Rattle.syn_grammar.specs.declared.kinds.Infix.{Infix}
 use Rattle.syn_grammar.specs.declared.kinds.Infix.TheVariants as inf
@@ -126,7 +125,7 @@ infix_at l =
     if word_at as_word l then Some (inf.Cast, 1) else operator (signs l).0 (signs l).1 (signs l).2
 
 -- an operator stands at the front that an expression at this level takes
-abbrev takes_by : Level → Option (Infix × ℕ) → Bool
+abbrev pub takes_by : Level → Option (Infix × ℕ) → Bool
 takes_by v None = false
 takes_by v (Some p) = takes v (level p.0)
 

@@ -1,5 +1,5 @@
 -- Where an expression stands, and how tightly the levels bind (Rust Reference, "Expression precedence").
-use Rattle.std.specs.Prelude.{ℕ, Bool, true, false}
+use Rattle.std.specs.Prelude.{ℕ, false}
 use Rattle.syn_grammar.specs.declared.kinds.Level.{Level}
 use Rattle.syn_grammar.specs.declared.kinds.Level.TheVariants as lev
 use Rattle.syn_grammar.specs.declared.kinds.Place.{Place}

@@ -10,9 +10,9 @@ use Rattle.syn_grammar.specs.declared.kinds.Level.{Level}
 use Rattle.syn_grammar.specs.declared.kinds.Level.TheVariants as lev
 use Rattle.syn_grammar.specs.declared.kinds.Place.{Place}
 use Rattle.syn_grammar.specs.Place.{plain, at, rank}
-use Rattle.syn_grammar.specs.Words.{is_segment, true_word, false_word}
+use Rattle.syn_grammar.specs.Words.{true_word, false_word}
 use Rattle.syn_grammar.specs.Tree.{Tree, leaf, paren, lead, mid, adorned, lit, path, unary, bool, Lit, Path, Attr, number_of, is_try_alone, all_segments, has_kind}
-use Rattle.syn_grammar.specs.Tokens.{sign_of, path_sep_at, bang_at, not_equal_at, pound_at, left_arrow_at, three_dots_at, trailer_at, is_group_at, group_at, word_at}
+use Rattle.syn_grammar.specs.Tokens.{sign_of, path_sep_at, bang_at, not_equal_at, pound_at, left_arrow_at, three_dots_at, trailer_at, is_group_at, word_at}
 use Rattle.syn_grammar.specs.Op.{infix_at, prefix_at, takes, level, is_comparison, is_range_op, goes_on}
 
 -- ---- kinds of nodes

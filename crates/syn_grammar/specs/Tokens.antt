@@ -1,7 +1,7 @@
 -- What stands at the front of a list of tokens.
 use Rattle.std.specs.Prelude.{ℕ, Bool, true, false, not, ◌||◌, ◌&&◌, ◌==◌, if◌then◌else◌, List, [], ◌∷◌, drop, Option, Some, None}
 use Rattle.std.specs.Str.{bytes_eq}
-use Rattle.syn_tokens.specs.Tok.{Tok, Inside, ident, literal, punct, group, toks}
+use Rattle.syn_tokens.specs.Tok.{Tok, ident, punct, group, toks}
 use Rattle.syn_lexer.specs.declared.lexeme.Delimiter.{Delimiter}
 use Rattle.syn_lexer.specs.declared.lexeme.Delimiter.TheVariants as delimiter
 use Rattle.syn_lexer.specs.declared.lexeme.Spacing.{Spacing}

@@ -2,3 +2,4 @@
 #![tactic(auto)]
 
 pub mod kinds;
+pub mod laws;

@@ -1,0 +1,10 @@
+pub mod Bindings
+pub mod Chains
+pub mod Complete
+pub mod Ends
+pub mod Paths
+pub mod Sound
+pub mod Spelled
+pub mod Turns
+pub mod Unique
+pub mod Weights
