@@ -1,0 +1,4 @@
+pub mod Form
+pub mod Mark
+pub mod Tree
+pub mod Text
