@@ -1,2 +1,5 @@
 pub mod Forms
 pub mod Weights
+pub mod Same
+pub mod Marks
+pub mod Views

@@ -2,3 +2,5 @@ pub mod Form
 pub mod Mark
 pub mod Tree
 pub mod Text
+pub mod Same
+pub mod Part
