@@ -401,7 +401,7 @@ sees_cons {A} = record { there = λ p. refl; back = back }
 pub end_alike : {A : Type 0} {k : ℕ} (b : Bool) → Alike k (end {A = A} b) (end b)
 end_alike b = pure_alike (only_end b)
 
-tail_steps : {A : Type 0} {k : ℕ} {m : Mark} {f f' : Form A} (stop : Test) → Present m → Alike k f f'
+pub tail_steps : {A : Type 0} {k : ℕ} {m : Mark} {f f' : Form A} (stop : Test) → Present m → Alike k f f'
     → Steps {A = λ i. List A × Bool} k (tail_step m stop f) (tail_step m stop f')
 tail_steps stop p a = record {
   lowest = λ t r i. weaker (case_alike p (when_alike stop (end_alike true) (shown_alike sees_cons (both_alike (alone a) (r i)))) (end_alike false));
@@ -443,13 +443,13 @@ only_nil {A} = record { itself = refl; only = only }
     only [] h = refl
     only (x ∷ xs) h = absurd cc
 
-more_steps : {A : Type 0} {k : ℕ} {m : Mark} {f f' : Form A} → Present m → Alike k f f' → Steps {A = λ i. List A} k (more_step m f) (more_step m f')
+pub more_steps : {A : Type 0} {k : ℕ} {m : Mark} {f f' : Form A} → Present m → Alike k f f' → Steps {A = λ i. List A} k (more_step m f) (more_step m f')
 more_steps p a = record {
   lowest = λ t r i. weaker (case_alike p (shown_alike sees_prepend (both_alike (alone a) (r i))) (pure_alike only_nil));
   next = λ j h t t' r i. case_alike p (shown_alike sees_prepend (both_alike (lower (omega arith) a) (r i))) (pure_alike only_nil);
 }
 
-more_alike : {A : Type 0} {k : ℕ} {m : Mark} {f f' : Form A} → Present m → Alike k f f' → Alike k (more m f) (more m f')
+pub more_alike : {A : Type 0} {k : ℕ} {m : Mark} {f f' : Form A} → Present m → Alike k f f' → Alike k (more m f) (more m f')
 unfolding more
 more_alike p a = fix_alike (more_steps p a) tt
 

@@ -3,3 +3,4 @@ pub mod Weights
 pub mod Same
 pub mod Marks
 pub mod Views
+pub mod Parts

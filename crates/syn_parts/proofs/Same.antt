@@ -44,6 +44,7 @@ same_spacing-true _ _ h = absurd cc
 
 mutual
   unfolding same_tok same_inside
+
   pub same_tok-refl : (x : Tok) → same_tok x x ≡ true
   same_tok-refl (ident s) = (bytes_eq-Decides s s).1 refl
   same_tok-refl (literal s) = (bytes_eq-Decides s s).1 refl
@@ -56,6 +57,7 @@ mutual
 
 mutual
   unfolding same_tok same_inside
+
   pub same_tok-true : (x y : Tok) → same_tok x y ≡ true → x ≡ y
   same_tok-true (ident s) (ident w) h = let e : s ≡ w = (bytes_eq-Decides s w).0 h in cc
   same_tok-true (literal s) (literal w) h = let e : s ≡ w = (bytes_eq-Decides s w).0 h in cc

@@ -92,8 +92,12 @@ is_lit_there _ = false
 unfoldable pub lit_at : Test
 lit_at l = is_lit_there l
 
+abbrev pub string_if : Option LitKind → Text → List Tok → Outcome LitTree
+string_if (Some kind.Str) text l = Some (record { kind = kind.Str; text = text }, l)
+string_if _ text l = None
+
 abbrev pub find_string : List Tok → Outcome LitTree
-find_string (literal text ∷ l) = elim (kind_of text) [ None ↦ None | Some k ↦ elim k [ kind.Str ↦ Some (record { kind = kind.Str; text = text }, l) | kind.ByteStr ↦ None | kind.CStr ↦ None | kind.Byte ↦ None | kind.Char ↦ None | kind.Int ↦ None | kind.Float ↦ None | kind.Bool ↦ None ] ]
+find_string (literal text ∷ l) = string_if (kind_of text) text l
 find_string _ = None
 
 unfoldable pub string : Form LitTree
@@ -452,6 +456,13 @@ arg_name_at l = is_arg_name_there l && colon.at (drop 1 l)
 unfoldable pub fn_at : Test
 fn_at l = lifetimes_at l || (unsafe_word.at l || (extern_word.at l || fn_word.at l))
 
+unfoldable pub fn_head : Form FnHead
+fn_head = both (maybe lifetimes_at lifetimes) (both (flag unsafe_word) (maybe extern_word.at (mark extern_word (maybe literal_at string))))
+
+-- behind a path without arguments, `!` and a group make it a macro (Rust Reference, "Macro Invocation")
+unfoldable pub macro_end : QPathTree → Form MacroEnd
+macro_end p = maybe (λ l. is_bare p && not_ne.at l) (mark not_ne any_group)
+
 -- `type several` is a type; behind its `impl` or `dyn` several bounds may stand, or one.
 module _ (type : Bool → Form TypeTree) where
   -- `->` and a type, or nothing
@@ -527,9 +538,6 @@ module _ (type : Bool → Form TypeTree) where
   fn_arg = shown to_arg from_arg (both (maybe arg_name_at (closed_by colon arg_name)) (type true))
 
   -- Rust Reference, "Function pointer types"
-  unfoldable pub fn_head : Form FnHead
-  fn_head = both (maybe lifetimes_at lifetimes) (both (flag unsafe_word) (maybe extern_word.at (mark extern_word (maybe literal_at string))))
-
   unfoldable pub fn_pointer : Form TypeTree
   fn_pointer = shown to_fn from_fn (both fn_head (mark fn_word (both (inside del.Parenthesis (listed comma is_empty fn_arg)) (output false))))
 
@@ -540,10 +548,7 @@ module _ (type : Bool → Form TypeTree) where
   unfoldable pub object : Bool → Form TypeTree
   object several = shown to_object from_object (bounds several)
 
-  -- a path, or, where it has no arguments and a `!` follows, a macro (Rust Reference, "Macro Invocation")
-  unfoldable pub macro_end : QPathTree → Form MacroEnd
-  macro_end p = maybe (λ l. is_bare p && not_ne.at l) (mark not_ne any_group)
-
+  -- a path or a macro
   unfoldable pub named : Form TypeTree
   named = shown to_named from_named (then_by (qpath style.Type) macro_end)
 
