@@ -1,2 +1,3 @@
 pub mod CommentLaws
+pub mod LengthLaws
 pub mod LexLaws

@@ -153,3 +153,30 @@ pub fn front(text: &[char]) -> Result<Lexeme, Refusal>
 {
     reading(text)
 }
+
+/// Whether the whole text is one lexeme of this kind.
+fn is_whole(text: &[char], kind: LexemeKind) -> bool
+    ensures { IsTrue result ↔ (spec.front text.now ≡ Some (kind, length text.now)) }
+{
+    if text.is_empty() {
+        return false;
+    }
+    match front(text) {
+        Ok(lexeme) => lexeme.kind == kind && lexeme.len == text.len(),
+        Err(_) => false,
+    }
+}
+
+/// Whether the whole text is one identifier, raw or not, or a word that is reserved.
+pub fn is_ident(text: &[char]) -> bool
+    ensures { IsTrue result ↔ (spec.front text.now ≡ Some (LexemeKind.Ident, length text.now)) }
+{
+    is_whole(text, LexemeKind::Ident)
+}
+
+/// Whether the whole text is one literal, with its suffix.
+pub fn is_literal(text: &[char]) -> bool
+    ensures { IsTrue result ↔ (spec.front text.now ≡ Some (LexemeKind.Literal, length text.now)) }
+{
+    is_whole(text, LexemeKind::Literal)
+}

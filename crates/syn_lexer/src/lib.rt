@@ -8,5 +8,7 @@ pub mod lexeme;
 mod number;
 mod quote;
 pub mod reserved;
+#[cfg(test)]
+mod tests;
 mod text;
 mod word;
