@@ -6,7 +6,7 @@ use Rattle.std.proofs.lemmas.Grind.{fold-append}
 use Rattle.syn_tokens.specs.View.{toks_of}
 use Rattle.syn_tokens.specs.declared.tree.TokenTree.{TokenTree}
 use Rattle.syn_tokens.specs.Tok.{Tok, Inside, inside, nothing, first}
-use Rattle.syn_tokens.specs.Same.{same_tok, same_inside, same_list, fed_tok, fed_inside, fed_list}
+use Rattle.syn_tokens.specs.Same.{same_delimiter-true, same_delimiter-differ, same_tok, same_inside, same_list, fed_tok, fed_inside, fed_list}
 
 pub same_inside-inside : (ss ts : List Tok) → same_inside (inside ss) (inside ts) ≡ same_list ss ts
 same_inside-inside [] [] = refl
@@ -23,3 +23,5 @@ pub ruleset sames = (same_inside-inside, fed_inside-inside, fold-append)
 pub same_nil : (ys : List TokenTree) → same_list [] (toks_of ys) ≡ nat_eq (length ys) 0
 same_nil [] = refl
 same_nil (y ∷ ys) = grind (arith, nat_tests)
+
+pub ruleset delimiters = (same_delimiter-true, same_delimiter-differ)

@@ -1,5 +1,6 @@
 -- The texts of refusals.
 use Rattle.std.specs.Prelude.{ℕ, List, ◌∷◌, [], ◌++◌, codes}
+use Rattle.syn_lexer.specs.ErrorText.{lex_error_text}
 use Rattle.syn_tokens.specs.Sign.{sign_text, word_text}
 use Rattle.syn_lexer.specs.declared.lexeme.Delimiter.TheVariants as delimiter
 use Rattle.syn_tokens.specs.declared.error.ErrorKind.{ErrorKind}
@@ -14,8 +15,6 @@ use Rattle.syn_tokens.specs.declared.error.Expected.{Expected}
 use Rattle.syn_tokens.specs.declared.error.Expected.TheVariants.{One, Two, Three}
 use Rattle.syn_tokens.specs.declared.error.Part.{Part}
 use Rattle.syn_tokens.specs.declared.error.Part.TheVariants as part
-use Rattle.syn_tokens.specs.declared.error.LexError.{LexError}
-use Rattle.syn_tokens.specs.declared.error.LexError.TheVariants as lexer
 
 abbrev pub after_cast_text : AfterCast → List ℕ
 after_cast_text after.Await = codes "`.await`"
@@ -45,16 +44,6 @@ part_text part.Type = codes "a type"
 part_text part.Pattern = codes "a pattern"
 part_text part.Macro = codes "a macro"
 part_text part.Attribute = codes "an attribute"
-
-abbrev pub lex_text : LexError → List ℕ
-lex_text lexer.DocComment = codes "doc comment"
-lex_text lexer.UnterminatedComment = codes "unterminated comment"
-lex_text lexer.ReservedRawIdentifier = codes "reserved raw identifier"
-lex_text lexer.MalformedLiteral = codes "malformed literal"
-lex_text lexer.MalformedLifetime = codes "malformed lifetime"
-lex_text lexer.UnclosedDelimiter = codes "unclosed delimiter"
-lex_text lexer.UnexpectedClosingDelimiter = codes "unexpected closing delimiter"
-lex_text lexer.UnknownCharacter = codes "unknown character"
 
 -- a token in backquotes, or its name
 abbrev pub wanted_text : Wanted → List ℕ
@@ -92,5 +81,5 @@ kind_text (kind.ExpectedExprKind wanted) = codes "expected " ++ kind_name wanted
 kind_text (kind.ExpectedToken wanted) = expected_text wanted
 kind_text kind.UnexpectedToken = codes "unexpected token"
 kind_text (kind.ExpectedPart part) = codes "expected " ++ part_text part
-kind_text (kind.Lex error) = lex_text error
+kind_text (kind.Lex error) = lex_error_text error
 kind_text kind.ModifierNotEmpty = codes "modifier not empty"

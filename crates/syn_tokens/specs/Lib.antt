@@ -9,3 +9,5 @@ pub mod ErrorText
 pub mod Same
 pub mod Leaf
 pub mod Text
+pub mod Lex
+pub mod Nest

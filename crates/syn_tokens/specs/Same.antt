@@ -1,6 +1,6 @@
 -- Tokens that are the same: a test, which says what `≡` says, and what a hasher is fed.
-use Rattle.std.specs.Prelude.{◌≡◌, ℕ, Bool, true, false, ◌&&◌, ◌==◌, List, [], ◌∷◌, ◌++◌, refl}
-use Rattle.std.proofs.Common.{rules, eq-eqb}
+use Rattle.std.specs.Prelude.{◌≡◌, ◌≢◌, ℕ, Bool, true, false, ◌&&◌, ◌==◌, List, [], ◌∷◌, ◌++◌, refl}
+use Rattle.std.proofs.Common.{eq-eqb, sym, ◌∙◌}
 use Rattle.std.proofs.lemmas.Bool.{eqb-true}
 use Rattle.std.specs.Cmp.{IsEquivalence, decided}
 use Rattle.std.proofs.lemmas.Slice.Eq.{bytes_eq-Decides}
@@ -46,7 +46,7 @@ right_of : (a b : Bool) → (a && b) ≡ true → b ≡ true
 right_of true b h = h
 right_of false b h = cc
 
-same_delimiter-refl : (d : Delimiter) → same_delimiter d d ≡ true
+pub same_delimiter-refl : (d : Delimiter) → same_delimiter d d ≡ true
 same_delimiter-refl delimiter.Parenthesis = refl
 same_delimiter-refl delimiter.Brace = refl
 same_delimiter-refl delimiter.Bracket = refl
@@ -58,6 +58,16 @@ same_delimiter-true delimiter.Brace delimiter.Brace h = refl
 same_delimiter-true delimiter.Bracket delimiter.Bracket h = refl
 same_delimiter-true delimiter.None delimiter.None h = refl
 same_delimiter-true _ _ h = cc
+
+pub same_delimiter-false : (d e : Delimiter) → d ≢ e → same_delimiter d e ≡ false
+same_delimiter-false delimiter.Parenthesis delimiter.Parenthesis n = absurd (n refl)
+same_delimiter-false delimiter.Brace delimiter.Brace n = absurd (n refl)
+same_delimiter-false delimiter.Bracket delimiter.Bracket n = absurd (n refl)
+same_delimiter-false delimiter.None delimiter.None n = absurd (n refl)
+same_delimiter-false _ _ n = refl
+
+pub same_delimiter-differ : (d e : Delimiter) → same_delimiter d e ≡ false → d ≢ e
+same_delimiter-differ d e h s = let one = same_delimiter-refl d in let two : true ≡ false = sym one ∙ (rw (← s) at h) in cc
 
 same_spacing-refl : (s : Spacing) → same_spacing s s ≡ true
 same_spacing-refl spacing.Alone = refl

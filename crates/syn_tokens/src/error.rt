@@ -9,6 +9,7 @@ use crate::span::Span;
 use crate::table::{sign_text, word_text};
 use std::alloc::{AllocError, AllocFailed};
 use std::fmt;
+pub use syn_lexer::error::LexError;
 
 /// What a reader, a printer or the lexer answers.
 pub type Result<T> = std::result::Result<T, Error>;
@@ -165,27 +166,6 @@ pub enum Part {
     Attribute,
 }
 
-/// Why the lexer refuses a text.
-#[derive(Clone, Copy, Debug, PartialEq, Eq)]
-pub enum LexError {
-    /// A doc comment.
-    DocComment,
-    /// A block comment without its end.
-    UnterminatedComment,
-    /// A word that cannot be raw.
-    ReservedRawIdentifier,
-    /// A literal that is cut short or holds a wrong digit.
-    MalformedLiteral,
-    /// A quote that begins neither a character nor a lifetime.
-    MalformedLifetime,
-    /// An opening delimiter without its closing one.
-    UnclosedDelimiter,
-    /// A closing delimiter that closes nothing.
-    UnexpectedClosingDelimiter,
-    /// A character that begins no token.
-    UnknownCharacter,
-}
-
 impl From<AllocError> for Error {
     ghost from_gives = { λ _ e. e.kind ≡ OutOfMemory };
 
@@ -257,24 +237,6 @@ impl Part {
             Part::Pattern => "a pattern",
             Part::Macro => "a macro",
             Part::Attribute => "an attribute",
-        }
-    }
-}
-
-impl LexError {
-    /// The refusal's text.
-    pub fn text(self) -> &'static str
-        ensures { result.now ≡ spec.lex_text self }
-    {
-        match self {
-            LexError::DocComment => "doc comment",
-            LexError::UnterminatedComment => "unterminated comment",
-            LexError::ReservedRawIdentifier => "reserved raw identifier",
-            LexError::MalformedLiteral => "malformed literal",
-            LexError::MalformedLifetime => "malformed lifetime",
-            LexError::UnclosedDelimiter => "unclosed delimiter",
-            LexError::UnexpectedClosingDelimiter => "unexpected closing delimiter",
-            LexError::UnknownCharacter => "unknown character",
         }
     }
 }

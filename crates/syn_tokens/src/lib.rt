@@ -4,6 +4,7 @@
 pub mod buffer;
 pub mod copy;
 pub mod error;
+pub mod lex;
 pub mod parse;
 pub mod same;
 pub mod span;

@@ -1,6 +1,6 @@
 //! Equality and hashing of tokens, which ignore their places.
 
-ghost use Rattle.std.specs.Prelude.{◌≡◌, ◌==◌, fold};
+ghost use Rattle.std.specs.Prelude.{◌≡◌, ◌≢◌, ◌==◌, fold, true, false};
 ghost use Rattle.std.specs.Cmp.Lexicographic.{pointwise};
 ghost use Rattle.std.proofs.Common.{rules};
 ghost use Rattle.std.specs.Cmp.Rules.{comparing, hashing};
@@ -62,8 +62,11 @@ impl Hash for Literal {
 }
 
 /// Whether two delimiters are the same.
-fn same_delimiter(a: Delimiter, b: Delimiter) -> bool
-    ensures { result ≡ front.same_delimiter a b }
+#[tactic(auto, using(crate::proofs::Sames::delimiters))]
+pub(crate) fn is_same(a: Delimiter, b: Delimiter) -> bool
+    ensures value { result ≡ front.same_delimiter a b }
+    ensures same { result ≡ true → a ≡ b }
+    ensures other { result ≡ false → a ≢ b }
 {
     a == b
 }
@@ -107,8 +110,7 @@ fn same_tree(a: &TokenTree, b: &TokenTree) -> bool
             x.ch == y.ch && same_spacing(x.spacing, y.spacing)
         }
         (TokenTree::Group(x), TokenTree::Group(y)) => {
-            same_delimiter(x.delimiter, y.delimiter)
-                && same_trees(x.stream.trees(), y.stream.trees())
+            is_same(x.delimiter, y.delimiter) && same_trees(x.stream.trees(), y.stream.trees())
         }
         _ => false,
     }
@@ -259,7 +261,7 @@ impl PartialEq for Group {
 
     #[tactic(auto, using(crate::proofs::Sames::sames))]
     fn eq(&self, other: &Group) -> bool {
-        same_delimiter(self.delimiter, other.delimiter)
+        is_same(self.delimiter, other.delimiter)
             && same_trees(self.stream.trees(), other.stream.trees())
     }
 }

@@ -1,0 +1,73 @@
+-- How a text falls into pieces from its front on.
+use Rattle.std.proofs.Common.{◌≡◌, ℕ, zero, suc, ◌+◌, ◌-◌, ◌≤◌, ◌<◌, List, [], ◌∷◌, ◌++◌, length, take, drop, refl, sym, ◌∙◌, ap, append_assoc, append-nil, arith, inl, inr}
+use Rattle.std.specs.Prelude.{◌≢◌, ◌⊎◌, Result, Ok, Err, IfOk, IfErr, MatchResult, Option, Some, None}
+use Rattle.syn_lexer.specs.Text.{Text}
+use Rattle.syn_lexer.specs.Lex.{front}
+use Rattle.syn_lexer.specs.declared.lexeme.LexemeKind.{LexemeKind}
+use Rattle.syn_tokens.specs.Tok.{Tok}
+use Rattle.syn_tokens.specs.Lex.{Piece, pieces, pieces_from, lexeme_then, lexeme_pieces, then_pieces, flat, Spells}
+use Rattle.syn_tokens.specs.Nest.{misfits}
+use Rattle.syn_tokens.specs.declared.error.Error.{Error}
+use Rattle.syn_tokens.specs.declared.error.ErrorKind.TheVariants.{OutOfMemory}
+
+pieces_from-drop : (n : ℕ) (z : Text) → pieces_from n z ≡ pieces (drop n z)
+unfolding pieces
+pieces_from-drop zero z = refl
+pieces_from-drop (suc n) [] = refl
+pieces_from-drop (suc n) (c ∷ z) = pieces_from-drop n z
+
+pub pieces_step : (z : Text) (k : LexemeKind) (n : ℕ) → 0 < length z → 1 ≤ n → front z ≡ Some (k, n)
+    → pieces z ≡ then_pieces (lexeme_pieces k (take n z)) (pieces (drop n z))
+unfolding pieces
+pieces_step [] k n h i e = absurd (omega arith)
+pieces_step (c ∷ z) k zero h i e = absurd (omega arith)
+pieces_step (c ∷ z) k (suc m) h i e =
+    let one : suc m - 1 ≡ m = omega arith in
+    rw (e, one) (ap (then_pieces (lexeme_pieces k (take (suc m) (c ∷ z)))) (pieces_from-drop m z))
+
+pieces_none : (z : Text) → 0 < length z → front z ≡ None → pieces z ≡ None
+unfolding pieces
+pieces_none [] h e = absurd (omega arith)
+pieces_none (c ∷ z) h e = rw e refl
+
+then_then : (ps qs : List Piece) (o : Option (List Piece)) → then_pieces ps (then_pieces qs o) ≡ then_pieces (ps ++ qs) o
+then_then ps qs None = refl
+then_then ps qs (Some rs) = ap Some (sym (append_assoc ps qs rs))
+
+pub so_far_more : (all rest : Text) (ps : List Piece) (k : LexemeKind) (n : ℕ)
+    → pieces all ≡ then_pieces ps (pieces rest) → 0 < length rest → 1 ≤ n → front rest ≡ Some (k, n)
+    → pieces all ≡ then_pieces (ps ++ lexeme_pieces k (take n rest)) (pieces (drop n rest))
+so_far_more all rest ps k n so h i e =
+    so ∙ ap (then_pieces ps) (pieces_step rest k n h i e) ∙ then_then ps (lexeme_pieces k (take n rest)) (pieces (drop n rest))
+
+pub refused_front : (all rest : Text) (ps : List Piece) → pieces all ≡ then_pieces ps (pieces rest) → 0 < length rest → front rest ≡ None
+    → (ts : List Tok) → Spells all ts → ⊥
+refused_front all rest ps so h e ts is =
+    let none = pieces_none rest h e in let two : None ≡ Some (flat ts) = sym (so ∙ ap (then_pieces ps) none) ∙ is in cc
+
+refused_pieces : (ps : List Piece) (o : Option (List Piece)) → misfits ps → (ts : List Tok) → then_pieces ps o ≡ Some (flat ts) → ⊥
+refused_pieces ps None fits ts e = cc
+refused_pieces ps (Some qs) fits ts e = fits qs ts cc
+
+pub refused_lexeme : (all rest : Text) (ps : List Piece) (k : LexemeKind) (n : ℕ) → pieces all ≡ then_pieces ps (pieces rest)
+    → 0 < length rest → 1 ≤ n → front rest ≡ Some (k, n) → misfits (ps ++ lexeme_pieces k (take n rest)) → (ts : List Tok) → Spells all ts → ⊥
+refused_lexeme all rest ps k n so h i e fits ts is =
+    refused_pieces (ps ++ lexeme_pieces k (take n rest)) (pieces (drop n rest)) fits ts (sym (so_far_more all rest ps k n so h i e) ∙ is)
+
+at_end : (rest : Text) → length rest ≡ 0 → pieces rest ≡ Some []
+unfolding pieces
+at_end [] h = refl
+at_end (c ∷ z) h = cc
+
+pub all_read : (all rest : Text) (ps : List Piece) → pieces all ≡ then_pieces ps (pieces rest) → length rest ≡ 0 → pieces all ≡ Some ps
+all_read all rest ps so h = so ∙ ap (then_pieces ps) (at_end rest h) ∙ ap Some (append-nil ps)
+
+module _ (ps : List Piece) (all : Text) (is : pieces all ≡ Some ps) where
+  pub found : (r : Result (List Tok) Error) → MatchResult r (λ s. ps ≡ flat s) (λ e. (ts : List Tok) → ps ≢ flat ts) → IfOk r (λ s. Spells all s)
+  found (Ok s) h = is ∙ ap Some h
+  found (Err e) h = tt
+
+  pub refused : (r : Result (List Tok) Error) → MatchResult r (λ s. ps ≡ flat s) (λ e. (ts : List Tok) → ps ≢ flat ts)
+      → IfErr r (λ e. (e.kind ≡ OutOfMemory) ⊎ ((ts : List Tok) → Spells all ts → ⊥))
+  refused (Ok s) h = tt
+  refused (Err e) h = inr (λ ts q. h ts (let same : Some ps ≡ Some (flat ts) = sym is ∙ q in cc))

@@ -1,0 +1,107 @@
+-- How the pieces that were read grow, and which can never be those of trees.
+use Rattle.std.proofs.Common.{◌≡◌, ℕ, List, [], ◌∷◌, ◌++◌, refl, sym, ◌∙◌, ap, length, append_assoc, append-nil, Bool, true, false}
+use Rattle.std.specs.Prelude.{◌≢◌, Option, Some, None, if◌then◌else◌}
+use Rattle.syn_lexer.specs.declared.lexeme.Delimiter.{Delimiter}
+use Rattle.syn_lexer.specs.declared.lexeme.Delimiter.TheVariants as delimiter
+use Rattle.syn_tokens.specs.Front.{same_delimiter}
+use Rattle.syn_tokens.specs.Same.{same_delimiter-refl, same_delimiter-false}
+use Rattle.syn_tokens.specs.Tok.{Tok, Inside, ident, punct, literal, group, nothing, first, inside}
+use Rattle.syn_tokens.specs.Lex.{Piece, leaf, opens, closes, flat, pieces_of, pieces_inside}
+use Rattle.syn_tokens.specs.Nest.{Open, opened, unfinished, misfits}
+
+flat-append : (a b : List Tok) → flat (a ++ b) ≡ flat a ++ flat b
+flat-append [] b = refl
+flat-append (t ∷ a) b = ap (λ ps. pieces_of t ++ ps) (flat-append a b) ∙ sym (append_assoc (pieces_of t) (flat a) (flat b))
+
+flat_one : (t : Tok) → flat (t ∷ []) ≡ pieces_of t
+flat_one t = append-nil (pieces_of t)
+
+pub pieces_inside-inside : (ts : List Tok) → pieces_inside (inside ts) ≡ flat ts
+pieces_inside-inside [] = refl
+pieces_inside-inside (t ∷ ts) = ap (λ ps. pieces_of t ++ ps) (pieces_inside-inside ts)
+
+opened-append : (a b : List Open) → opened (a ++ b) ≡ opened a ++ opened b
+opened-append [] b = refl
+opened-append (o ∷ a) b =
+    ap (λ ps. flat o.1 ++ opens o.0 ∷ ps) (opened-append a b) ∙ sym (append_assoc (flat o.1) (opens o.0 ∷ opened a) (opened b))
+
+-- ---- one more leaf, one more opening delimiter, one more closing one
+
+pub unfinished-leaf : (os : List Open) (ts : List Tok) (t : Tok) → unfinished os (ts ++ t ∷ []) ≡ unfinished os ts ++ pieces_of t
+unfinished-leaf os ts t = rw (flat-append ts (t ∷ []), flat_one t) (sym (append_assoc (opened os) (flat ts) (pieces_of t)))
+
+pub unfinished-opens : (os : List Open) (ts : List Tok) (d : Delimiter) → unfinished (os ++ (d, ts) ∷ []) [] ≡ unfinished os ts ++ opens d ∷ []
+unfinished-opens os ts d =
+    append-nil (opened (os ++ (d, ts) ∷ [])) ∙ opened-append os ((d, ts) ∷ []) ∙ sym (append_assoc (opened os) (flat ts) (opens d ∷ []))
+
+pub unfinished-closes : (os : List Open) (before ts : List Tok) (d : Delimiter)
+    → unfinished os (before ++ group d (inside ts) ∷ []) ≡ unfinished (os ++ (d, before) ∷ []) ts ++ closes d ∷ []
+unfinished-closes os before ts d =
+    unfinished-leaf os before (group d (inside ts)) ∙ rw (pieces_inside-inside ts, opened-append os ((d, before) ∷ [])) (simp append_assoc)
+
+pub ruleset nests = (unfinished-leaf, unfinished-opens, unfinished-closes, append-nil)
+
+-- ---- which delimiters are open behind some pieces
+
+abbrev run : List Delimiter → List Piece → Option (List Delimiter)
+run st [] = Some st
+run st (leaf t ∷ ps) = run st ps
+run st (opens d ∷ ps) = run (d ∷ st) ps
+run [] (closes d ∷ ps) = None
+run (e ∷ st) (closes d ∷ ps) = if same_delimiter e d then run st ps else None
+
+mutual
+  run_tree : (st : List Delimiter) (t : Tok) (ps : List Piece) → run st (pieces_of t ++ ps) ≡ run st ps
+  run_tree st (ident s) ps = refl
+  run_tree st (punct c s) ps = refl
+  run_tree st (literal s) ps = refl
+  run_tree st (group d i) ps = rw append_assoc (run_inside (d ∷ st) i (closes d ∷ ps) ∙ rw (same_delimiter-refl d) refl)
+
+  run_inside : (st : List Delimiter) (i : Inside) (ps : List Piece) → run st (pieces_inside i ++ ps) ≡ run st ps
+  run_inside st nothing ps = refl
+  run_inside st (first t i) ps = rw append_assoc (run_tree st t (pieces_inside i ++ ps) ∙ run_inside st i ps)
+
+run_flat : (st : List Delimiter) (ts : List Tok) (ps : List Piece) → run st (flat ts ++ ps) ≡ run st ps
+run_flat st [] ps = refl
+run_flat st (t ∷ ts) ps = rw append_assoc (run_tree st t (flat ts ++ ps) ∙ run_flat st ts ps)
+
+abbrev delimiters : List Open → List Delimiter → List Delimiter
+delimiters [] st = st
+delimiters (o ∷ os) st = delimiters os (o.0 ∷ st)
+
+run_opened : (st : List Delimiter) (os : List Open) (ps : List Piece) → run st (opened os ++ ps) ≡ run (delimiters os st) ps
+run_opened st [] ps = refl
+run_opened st (o ∷ os) ps = rw append_assoc (run_flat st o.1 (opens o.0 ∷ (opened os ++ ps)) ∙ run_opened (o.0 ∷ st) os ps)
+
+delimiters-append : (os : List Open) (o : Open) (st : List Delimiter) → delimiters (os ++ o ∷ []) st ≡ o.0 ∷ delimiters os st
+delimiters-append [] o st = refl
+delimiters-append (p ∷ os) o st = delimiters-append os o (p.0 ∷ st)
+
+run_all : (ts : List Tok) → run [] (flat ts) ≡ Some []
+run_all ts = rw (← append-nil (flat ts)) (run_flat [] ts [])
+
+run_unfinished : (os : List Open) (ts : List Tok) (ps : List Piece) → run [] (unfinished os ts ++ ps) ≡ run (delimiters os []) ps
+run_unfinished os ts ps = rw append_assoc (run_opened [] os (flat ts ++ ps) ∙ run_flat (delimiters os []) ts ps)
+
+-- a closing delimiter where nothing is open
+pub misfits_alone : (ts : List Tok) (d : Delimiter) → misfits (unfinished [] ts ++ closes d ∷ [])
+misfits_alone ts d more us e =
+    let one : run [] (unfinished [] ts ++ closes d ∷ more) ≡ None = run_unfinished [] ts (closes d ∷ more) in
+    let same : unfinished [] ts ++ closes d ∷ more ≡ flat us = sym (append_assoc (unfinished [] ts) (closes d ∷ []) more) ∙ e in
+    let two : None ≡ Some [] = sym one ∙ ap (run []) same ∙ run_all us in cc
+
+-- a closing delimiter of another kind
+pub misfits_other : (os : List Open) (before ts : List Tok) (d e : Delimiter) → d ≢ e → misfits (unfinished (os ++ (d, before) ∷ []) ts ++ closes e ∷ [])
+misfits_other os before ts d e n more us h =
+    let all = unfinished (os ++ (d, before) ∷ []) ts in
+    let one : run [] (all ++ closes e ∷ more) ≡ None =
+    run_unfinished (os ++ (d, before) ∷ []) ts (closes e ∷ more) ∙ rw (delimiters-append os (d, before) [], same_delimiter-false d e n) refl in
+    let same : all ++ closes e ∷ more ≡ flat us = sym (append_assoc all (closes e ∷ []) more) ∙ h in
+    let two : None ≡ Some [] = sym one ∙ ap (run []) same ∙ run_all us in cc
+
+-- an end where a group is open
+pub misfits_open : (os : List Open) (o : Open) (ts us : List Tok) → unfinished (os ++ o ∷ []) ts ≢ flat us
+misfits_open os o ts us h =
+    let all = unfinished (os ++ o ∷ []) ts in
+    let one : run [] (all ++ []) ≡ Some (o.0 ∷ delimiters os []) = run_unfinished (os ++ o ∷ []) ts [] ∙ rw (delimiters-append os o []) refl in
+    let two : Some (o.0 ∷ delimiters os []) ≡ Some [] = sym one ∙ ap (run []) (append-nil all ∙ h) ∙ run_all us in cc

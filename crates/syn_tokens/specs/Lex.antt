@@ -1,0 +1,63 @@
+-- How a text falls into token trees. A text is a list of characters.
+use Rattle.std.specs.Prelude.{◌≡◌, ℕ, zero, suc, ◌-◌, List, [], ◌∷◌, ◌++◌, take, Option, Some, None, encode_utf8_all}
+use Rattle.syn_lexer.specs.Text.{Text}
+use Rattle.syn_lexer.specs.Lex.{front}
+use Rattle.syn_lexer.specs.declared.lexeme.Delimiter.{Delimiter}
+use Rattle.syn_lexer.specs.declared.lexeme.LexemeKind.{LexemeKind}
+use Rattle.syn_lexer.specs.declared.lexeme.LexemeKind.TheVariants.{Blank, Ident, Literal, Punct, Open, Close}
+use Rattle.syn_tokens.specs.Tok.{Tok, Inside, ident, punct, literal, group, nothing, first}
+
+-- what a text is cut into: tokens, and the delimiters of groups
+pub data Piece : Type 0 where
+  leaf : Tok → Piece
+  opens : Delimiter → Piece
+  closes : Delimiter → Piece
+
+-- ---- the pieces of a text
+
+-- a lexeme with this text; white space and comments are left out
+abbrev pub lexeme_pieces : LexemeKind → Text → List Piece
+lexeme_pieces Blank z = []
+lexeme_pieces Ident z = leaf (ident (encode_utf8_all z)) ∷ []
+lexeme_pieces Literal z = leaf (literal (encode_utf8_all z)) ∷ []
+lexeme_pieces (Punct c s) z = leaf (punct c s) ∷ []
+lexeme_pieces (Open d) z = opens d ∷ []
+lexeme_pieces (Close d) z = closes d ∷ []
+
+abbrev pub then_pieces : List Piece → Option (List Piece) → Option (List Piece)
+then_pieces ps None = None
+then_pieces ps (Some qs) = Some (ps ++ qs)
+
+abbrev pub lexeme_then : Text → Option (LexemeKind × ℕ) → (ℕ → Option (List Piece)) → Option (List Piece)
+lexeme_then z None behind = None
+lexeme_then z (Some p) behind = then_pieces (lexeme_pieces p.0 (take p.1 z)) (behind (p.1 - 1))
+
+-- Lexeme by lexeme, each the longest at the front. The number counts the characters that are left of a lexeme.
+abbrev pub pieces_from : ℕ → Text → Option (List Piece)
+pieces_from left [] = Some []
+pieces_from (suc left) (c ∷ z) = pieces_from left z
+pieces_from zero (c ∷ z) = lexeme_then (c ∷ z) (front (c ∷ z)) (λ left. pieces_from left z)
+
+unfoldable pub pieces : Text → Option (List Piece)
+pieces = pieces_from 0
+
+-- ---- the pieces of token trees
+
+abbrev mutual
+  pub pieces_of : Tok → List Piece
+  pieces_of (ident s) = leaf (ident s) ∷ []
+  pieces_of (punct c s) = leaf (punct c s) ∷ []
+  pieces_of (literal s) = leaf (literal s) ∷ []
+  pieces_of (group d i) = opens d ∷ (pieces_inside i ++ closes d ∷ [])
+
+  pub pieces_inside : Inside → List Piece
+  pieces_inside nothing = []
+  pieces_inside (first t i) = pieces_of t ++ pieces_inside i
+
+abbrev pub flat : List Tok → List Piece
+flat [] = []
+flat (t ∷ ts) = pieces_of t ++ flat ts
+
+-- the text falls into the pieces of these trees: so each opening delimiter has its closing one
+abbrev pub Spells : Text → List Tok → Type 0
+Spells z ts = pieces z ≡ Some (flat ts)

@@ -1,0 +1,209 @@
+//! Cuts a text into token trees.
+
+ghost use Rattle.std.specs.Prelude.{◌≡◌, ◌≢◌, ◌≤◌, ◌++◌, ◌∷◌, ◌⊎◌, [], List, length, chars, encode_utf8_all, IfOk, IfErr, OnOk, MatchResult, string_bytes};
+ghost use Rattle.syn_tokens.specs.Lex as spec;
+ghost use Rattle.syn_tokens.specs.Nest.{nest_pieces, misfits};
+ghost use Rattle.syn_tokens.specs.Tok.{Tok};
+ghost use Rattle.syn_tokens.specs.View.{tok_of};
+
+use crate::Delimiter;
+use crate::error::{Error, ErrorKind, LexError, Result};
+use crate::same::is_same;
+use crate::span::Span;
+use crate::tree::{Group, Ident, Literal, Punct, TokenStream, TokenTree};
+use std::alloc::Global;
+use syn_lexer::front::front;
+use syn_lexer::lexeme::LexemeKind;
+
+/// The token trees of a text (Rust Reference, "Tokens"), with places in bytes from its start. Doc comments are refused
+/// as well as what is no token; a refusal spans from the token's first byte to where the lexer stood, of a delimiter
+/// that is not closed the opening one, of a comment the whole comment. Groups may nest without bound.
+pub fn lex(alloc: Global, text: &str) -> Result<TokenStream>
+    // What is read is what the text falls into.
+    ensures read { IfOk result (λ s. spec.Spells (chars text.now) s) }
+    // It is refused only where it falls into no trees, or memory runs out.
+    ensures refused { IfErr result (λ e. (e.kind ≡ ErrorKind.OutOfMemory) ⊎ ((ts : List Tok) → spec.Spells (chars text.now) ts → ⊥)) }
+{
+    let all = chars_of(alloc, text)?;
+    lex_chars(alloc, all.as_slice())
+}
+
+/// The characters of a text.
+pub(crate) fn chars_of(alloc: Global, text: &str) -> Result<Vec<char>>
+    ensures { MatchResult result (λ v. v.items ≡ chars text.now) (λ e. e.kind ≡ ErrorKind.OutOfMemory) }
+{
+    Ok(text.chars().collect::<Vec<char>>(alloc)?)
+}
+
+/// The text of some characters.
+fn text_of(alloc: Global, mut z: &[char]) -> Result<String>
+    ensures { MatchResult result (λ s. string_bytes s ≡ encode_utf8_all z.entry.now) (λ e. e.kind ≡ ErrorKind.OutOfMemory) }
+{
+    let mut text = String::new(alloc);
+    while let [c, more @ ..] = z {
+        text.push(*c)?;
+        z = more;
+    }
+    Ok(text)
+}
+
+/// The place behind some characters.
+fn past(at: usize, z: &[char]) -> usize {
+    let mut end = at;
+    for c in z {
+        end = end.saturating_add(c.len_utf8());
+    }
+    end
+}
+
+/// The place behind the first characters.
+fn past_first(at: usize, z: &[char], count: usize) -> usize {
+    past(at, &z[..count.min(z.len())])
+}
+
+fn refusal(lo: usize, hi: usize, error: LexError) -> Error
+    ensures { result.kind ≡ ErrorKind.Lex error }
+{
+    Error {
+        span: Span { lo, hi },
+        kind: ErrorKind::Lex(error),
+    }
+}
+
+/// What was read: the groups that are open, each behind the trees before it, and the trees behind the last opening
+/// delimiter.
+#[derive(Drop)]
+struct Nest {
+    open: Vec<Open>,
+    current: TokenStream,
+}
+
+/// A group that is open at a place, behind these trees.
+#[derive(Drop)]
+struct Open {
+    delimiter: Delimiter,
+    before: TokenStream,
+    at: usize,
+}
+
+#[tactic(auto, using(crate::proofs::Nests::nests))]
+impl Nest {
+    fn new(alloc: Global) -> Nest
+        ensures { nest_pieces result ≡ [] }
+    {
+        Nest {
+            open: Vec::new(alloc),
+            current: TokenStream::new(alloc),
+        }
+    }
+
+    fn leaf(&mut self, tree: TokenTree) -> Result<()>
+        ensures ok { OnOk result (nest_pieces self.new ≡ nest_pieces self.old ++ spec.pieces_of (tok_of tree)) }
+        ensures err { IfErr result (λ e. e.kind ≡ ErrorKind.OutOfMemory) }
+    {
+        self.current.push(tree)?;
+        Ok(())
+    }
+
+    fn opens(&mut self, delimiter: Delimiter, at: usize) -> Result<()>
+        ensures ok { OnOk result (nest_pieces self.new ≡ nest_pieces self.old ++ spec.opens delimiter ∷ []) }
+        ensures err { IfErr result (λ e. e.kind ≡ ErrorKind.OutOfMemory) }
+    {
+        let none = TokenStream::new(self.current.alloc());
+        let before = std::mem::replace(&mut self.current, none);
+        self.open.push(Open {
+            delimiter,
+            before,
+            at,
+        })?;
+        Ok(())
+    }
+
+    fn closes(&mut self, delimiter: Delimiter, span: Span) -> Result<()>
+        ensures ok { OnOk result (nest_pieces self.new ≡ nest_pieces self.old ++ spec.closes delimiter ∷ []) }
+        ensures err { IfErr result (λ e. (e.kind ≡ ErrorKind.OutOfMemory) ⊎ misfits (nest_pieces self.old ++ spec.closes delimiter ∷ [])) }
+    {
+        let Some(open) = self.open.pop() else {
+            return Err(refusal(span.lo, span.hi, LexError::UnexpectedClosingDelimiter));
+        };
+        if !is_same(open.delimiter, delimiter) {
+            return Err(refusal(span.lo, span.hi, LexError::UnexpectedClosingDelimiter));
+        }
+        let Open {
+            delimiter,
+            before,
+            at,
+        } = open;
+        let stream = std::mem::replace(&mut self.current, before);
+        self.current.push(TokenTree::Group(Group {
+            delimiter,
+            stream,
+            span: Span {
+                lo: at,
+                hi: span.hi,
+            },
+        }))?;
+        Ok(())
+    }
+
+    /// Takes the next lexeme, with its characters and its place.
+    fn take(&mut self, alloc: Global, kind: LexemeKind, read: &[char], span: Span) -> Result<()>
+        ensures ok { OnOk result (nest_pieces self.new ≡ nest_pieces self.old ++ spec.lexeme_pieces kind read.now) }
+        ensures err { IfErr result (λ e. (e.kind ≡ ErrorKind.OutOfMemory) ⊎ misfits (nest_pieces self.old ++ spec.lexeme_pieces kind read.now)) }
+    {
+        match kind {
+            LexemeKind::Blank => Ok(()),
+            LexemeKind::Ident => {
+                let text = text_of(alloc, read)?;
+                self.leaf(TokenTree::Ident(Ident::read(text, span)))
+            }
+            LexemeKind::Literal => {
+                let text = text_of(alloc, read)?;
+                self.leaf(TokenTree::Literal(Literal::read(text, span)))
+            }
+            LexemeKind::Punct(ch, spacing) => {
+                self.leaf(TokenTree::Punct(Punct { ch, spacing, span }))
+            }
+            LexemeKind::Open(delimiter) => self.opens(delimiter, span.lo),
+            LexemeKind::Close(delimiter) => self.closes(delimiter, span),
+        }
+    }
+
+    /// The trees that were read, where no group is open.
+    fn finish(self) -> Result<TokenStream>
+        ensures { MatchResult result (λ s. nest_pieces self ≡ spec.flat s) (λ e. (ts : List Tok) → nest_pieces self ≢ spec.flat ts) }
+    {
+        let Nest { mut open, current } = self;
+        match open.pop() {
+            None => Ok(current),
+            Some(open) => Err(refusal(
+                open.at,
+                open.at.saturating_add(1),
+                LexError::UnclosedDelimiter,
+            )),
+        }
+    }
+}
+
+fn lex_chars(alloc: Global, text: &[char]) -> Result<TokenStream>
+    ensures read { IfOk result (λ s. spec.Spells text.now s) }
+    ensures refused { IfErr result (λ e. (e.kind ≡ ErrorKind.OutOfMemory) ⊎ ((ts : List Tok) → spec.Spells text.now ts → ⊥)) }
+{
+    let mut nest = Nest::new(alloc);
+    let mut rest = text;
+    let mut at = 0;
+    while !rest.is_empty() {
+        let lexeme = match front(rest) {
+            Ok(lexeme) => lexeme,
+            Err(e) => return Err(refusal(at, past_first(at, rest, e.len), e.error)),
+        };
+        let (read, behind) = rest.split_at(lexeme.len);
+        let end = past(at, read);
+        if let Err(e) = nest.take(alloc, lexeme.kind, read, Span { lo: at, hi: end }) {
+            return Err(e);
+        }
+        rest = behind;
+        at = end;
+    }
+    nest.finish()
+}
