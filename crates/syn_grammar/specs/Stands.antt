@@ -87,7 +87,7 @@ behind_path w l =
     else behind_segments w.segments l
 
 -- the path that is the word `builtin` alone
-abbrev is_builtin_segments : List (List ℕ) → Bool
+abbrev pub is_builtin_segments : List (List ℕ) → Bool
 is_builtin_segments (s ∷ []) = bytes_eq s (codes "builtin")
 is_builtin_segments _ = false
 

@@ -205,7 +205,7 @@ starts_fraction (c ∷ more) = c == 46 || (c == 101 || c == 69)
 unfoldable pub is_float_text : List ℕ → Bool
 is_float_text text = not (is_radix text) && starts_fraction (drop (prefix_len is_digit text) text)
 
-abbrev starts_number : List ℕ → Bool
+abbrev pub starts_number : List ℕ → Bool
 starts_number [] = false
 starts_number (c ∷ more) = is_ascii_digit c
 
@@ -237,7 +237,7 @@ is_one_try _ = false
 abbrev pub is_try_alone : Path → Bool
 is_try_alone p = not p.leading && is_one_try p.segments
 
-abbrev is_some_segment : List (List ℕ) → Bool
+abbrev pub is_some_segment : List (List ℕ) → Bool
 is_some_segment [] = false
 is_some_segment (s ∷ more) = true
 

@@ -3,3 +3,5 @@
 
 pub mod kinds;
 pub mod laws;
+pub mod next;
+pub mod printing;
