@@ -105,3 +105,54 @@ misfits_open os o ts us h =
     let all = unfinished (os ++ o ∷ []) ts in
     let one : run [] (all ++ []) ≡ Some (o.0 ∷ delimiters os []) = run_unfinished (os ++ o ∷ []) ts [] ∙ rw (delimiters-append os o []) refl in
     let two : Some (o.0 ∷ delimiters os []) ≡ Some [] = sym one ∙ ap (run []) (append-nil all ∙ h) ∙ run_all us in cc
+
+-- ---- trees with the same pieces are the same
+
+no_close : (u : Tok) (d : Delimiter) (ps qs : List Piece) → closes d ∷ ps ≡ pieces_of u ++ qs → ⊥
+no_close (ident s) d ps qs h = cc
+no_close (punct c s) d ps qs h = cc
+no_close (literal s) d ps qs h = cc
+no_close (group e i) d ps qs h = cc
+
+abbrev Both : {A B : Type 0} → A → A → B → B → Type 0
+Both a b p q = (a ≡ b) × (p ≡ q)
+
+mutual
+  one_tree : (t u : Tok) (ps qs : List Piece) → pieces_of t ++ ps ≡ pieces_of u ++ qs → Both t u ps qs
+  one_tree (ident s) (ident t) ps qs e = (cc, cc)
+  one_tree (punct c s) (punct d t) ps qs e = (cc, cc)
+  one_tree (literal s) (literal t) ps qs e = (cc, cc)
+  one_tree (group d i) (group e j) ps qs h =
+      let left : (opens d ∷ (pieces_inside i ++ closes d ∷ [])) ++ ps ≡ opens d ∷ (pieces_inside i ++ closes d ∷ ps) = simp append_assoc in
+      let right : (opens e ∷ (pieces_inside j ++ closes e ∷ [])) ++ qs ≡ opens e ∷ (pieces_inside j ++ closes e ∷ qs) = simp append_assoc in
+      let same : opens d ∷ (pieces_inside i ++ closes d ∷ ps) ≡ opens e ∷ (pieces_inside j ++ closes e ∷ qs) = sym left ∙ h ∙ right in
+      let delimiter : d ≡ e = cc in
+      let rest : pieces_inside i ++ closes d ∷ ps ≡ pieces_inside j ++ closes e ∷ qs = cc in
+      let both = one_inside i j d e ps qs rest in
+      let one : i ≡ j = both.0 in let two : ps ≡ qs = cc (both.1) in (cc, two)
+  one_tree _ _ ps qs e = absurd cc
+
+  one_inside : (i j : Inside) (d e : Delimiter) (ps qs : List Piece) → pieces_inside i ++ closes d ∷ ps ≡ pieces_inside j ++ closes e ∷ qs
+      → Both i j (closes d ∷ ps) (closes e ∷ qs)
+  one_inside nothing nothing d e ps qs h = (refl, h)
+  one_inside nothing (first u j) d e ps qs h = absurd (no_close u d ps _ (h ∙ append_assoc (pieces_of u) (pieces_inside j) (closes e ∷ qs)))
+  one_inside (first t i) nothing d e ps qs h = absurd (no_close t e qs _ (sym h ∙ append_assoc (pieces_of t) (pieces_inside i) (closes d ∷ ps)))
+  one_inside (first t i) (first u j) d e ps qs h =
+      let both = one_tree t u (pieces_inside i ++ closes d ∷ ps) (pieces_inside j ++ closes e ∷ qs)
+      (sym (append_assoc (pieces_of t) (pieces_inside i) (closes d ∷ ps)) ∙ h ∙ append_assoc (pieces_of u) (pieces_inside j) (closes e ∷ qs)) in
+      let more = one_inside i j d e ps qs both.1 in
+      let one : t ≡ u = both.0 in let two : i ≡ j = more.0 in (cc, more.1)
+
+no_end : (u : Tok) (qs : List Piece) → [] ≡ pieces_of u ++ qs → ⊥
+no_end (ident s) qs h = cc
+no_end (punct c s) qs h = cc
+no_end (literal s) qs h = cc
+no_end (group e i) qs h = cc
+
+pub one_list : (ss ts : List Tok) → flat ss ≡ flat ts → ss ≡ ts
+one_list [] [] h = refl
+one_list [] (t ∷ ts) h = absurd (no_end t (flat ts) h)
+one_list (s ∷ ss) [] h = absurd (no_end s (flat ss) (sym h))
+one_list (s ∷ ss) (t ∷ ts) h =
+    let both = one_tree s t (flat ss) (flat ts) h in
+    let one : s ≡ t = both.0 in let two : ss ≡ ts = one_list ss ts both.1 in cc

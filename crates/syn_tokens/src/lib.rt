@@ -5,6 +5,7 @@ pub mod buffer;
 pub mod copy;
 pub mod error;
 pub mod lex;
+mod make;
 pub mod parse;
 pub mod same;
 pub mod span;
