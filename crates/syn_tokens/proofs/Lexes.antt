@@ -6,7 +6,9 @@ use Rattle.syn_lexer.specs.Lex.{front}
 use Rattle.syn_lexer.specs.declared.lexeme.LexemeKind.{LexemeKind}
 use Rattle.syn_tokens.specs.Tok.{Tok}
 use Rattle.syn_tokens.specs.Lex.{Piece, pieces, pieces_from, lexeme_then, lexeme_pieces, then_pieces, flat, Spells}
+use Rattle.syn_tokens.specs.Input.{Gives}
 use Rattle.syn_tokens.specs.Nest.{misfits}
+use Rattle.syn_tokens.proofs.Nests.{one_list}
 use Rattle.syn_tokens.specs.declared.error.Error.{Error}
 use Rattle.syn_tokens.specs.declared.error.ErrorKind.TheVariants.{OutOfMemory}
 
@@ -71,3 +73,12 @@ module _ (ps : List Piece) (all : Text) (is : pieces all ≡ Some ps) where
       → IfErr r (λ e. (e.kind ≡ OutOfMemory) ⊎ ((ts : List Tok) → Spells all ts → ⊥))
   refused (Ok s) h = tt
   refused (Err e) h = inr (λ ts q. h ts (let same : Some ps ≡ Some (flat ts) = sym is ∙ q in cc))
+
+-- a text falls into one list of trees
+pub one_reading : (z : Text) (ss ts : List Tok) → Spells z ss → Spells z ts → ss ≡ ts
+one_reading z ss ts p q = let same : flat ss ≡ flat ts = cc in one_list ss ts same
+
+pub gives_only : (z : Text) (r : Result (List Tok) Error) → IfOk r (λ s. Spells z s)
+    → IfErr r (λ e. (e.kind ≡ OutOfMemory) ⊎ ((ts : List Tok) → Spells z ts → ⊥)) → (ts : List Tok) → Spells z ts → Gives (λ a b. a ≡ b) ts r
+gives_only z (Ok s) h g ts is = one_reading z ts s is h
+gives_only z (Err e) h g ts is = elim g [ inl m ↦ m | inr none ↦ absurd (none ts is) ]

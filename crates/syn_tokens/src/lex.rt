@@ -1,6 +1,7 @@
 //! Cuts a text into token trees.
 
 ghost use Rattle.std.specs.Prelude.{◌≡◌, ◌≢◌, ◌≤◌, ◌++◌, ◌∷◌, ◌⊎◌, [], List, length, chars, encode_utf8_all, IfOk, IfErr, OnOk, MatchResult, string_bytes};
+ghost use Rattle.syn_tokens.specs.Input.{Gives};
 ghost use Rattle.syn_tokens.specs.Lex as spec;
 ghost use Rattle.syn_tokens.specs.Nest.{nest_pieces, misfits};
 ghost use Rattle.syn_tokens.specs.Tok.{Tok};
@@ -21,6 +22,8 @@ use syn_lexer::lexeme::LexemeKind;
 pub fn lex(alloc: Global, text: &str) -> Result<TokenStream>
     // What is read is what the text falls into.
     ensures read { IfOk result (λ s. spec.Spells (chars text.now) s) }
+    // What it falls into is read, unless memory runs out.
+    ensures found { (ts : List Tok) → spec.Spells (chars text.now) ts → Gives (λ a b. a ≡ b) ts result }
     // It is refused only where it falls into no trees, or memory runs out.
     ensures refused { IfErr result (λ e. (e.kind ≡ ErrorKind.OutOfMemory) ⊎ ((ts : List Tok) → spec.Spells (chars text.now) ts → ⊥)) }
 {

@@ -1,6 +1,9 @@
 //! The readers and printers of the token trees themselves, which copy.
 
-ghost use Rattle.std.specs.Prelude.{◌≡◌, [], ◌∷◌};
+ghost use Rattle.std.specs.Prelude.{◌≡◌, ◌≤◌, ◌+◌, ℕ, List, [], ◌∷◌, IfOk, true, false};
+ghost use Rattle.syn_lexer.specs.Keywords.{is_reserved_word};
+ghost use Rattle.syn_tokens.specs.Input.{Reaches, IsAfter};
+ghost use Rattle.syn_tokens.specs.Tok.{Tok, weight};
 ghost use Rattle.syn_tokens.specs.Leaf as spec;
 ghost use Rattle.syn_tokens.specs.Tok as tok;
 ghost use Rattle.syn_tokens.specs.View.{tok_of};
@@ -9,6 +12,66 @@ use crate::buffer::{Parse, ParseBuffer, ToTokens, Token};
 use crate::copy::{copy_ident, copy_literal, copy_tree, copy_trees};
 use crate::error::{ErrorKind, Expected, Part, Result, Wanted};
 use crate::tree::{Ident, Literal, TokenStream, TokenTree};
+use syn_lexer::reserved::is_reserved_word;
+
+impl Token for Ident {
+    ghost sees = { spec.sees_ident };
+
+    fn peek(rest: &[TokenTree]) -> bool {
+        match rest {
+            [TokenTree::Ident(ident), ..] => !is_reserved_word(ident.as_str()),
+            _ => false,
+        }
+    }
+}
+
+#[tactic(auto, using(crate::proofs::Inputs::tails, crate::proofs::Weights::firsts))]
+impl Parse for Ident {
+    ghost spells = { λ ts v rest. (ts ≡ tok.ident v ∷ rest) × (is_reserved_word v ≡ false) };
+
+    ghost same = { λ a b. a ≡ b };
+
+    ghost least = { 1 };
+
+    fn parse(input: &mut ParseBuffer<'_>) -> Result<Self> {
+        match input.first() {
+            Some(TokenTree::Ident(ident)) if !is_reserved_word(ident.as_str()) => {
+                let ident = copy_ident(input.alloc(), ident)?;
+                input.skip(1);
+                Ok(ident)
+            }
+            _ => Err(input.error(ErrorKind::ExpectedToken(Expected::One(Wanted::Identifier)))),
+        }
+    }
+}
+
+impl ToTokens for Ident {
+    ghost printed = { λ v. tok.ident v ∷ [] };
+
+    fn to_tokens(&self, tokens: &mut TokenStream) -> Result<()> {
+        let ident = copy_ident(tokens.alloc(), self)?;
+        tokens.push(TokenTree::Ident(ident))?;
+        Ok(())
+    }
+}
+
+/// Reads any word, a reserved one too. It is refused as an identifier is.
+#[tactic(auto, using(crate::proofs::Inputs::tails, crate::proofs::Weights::firsts))]
+pub fn parse_any_word(input: &mut ParseBuffer<'_>) -> Result<Ident>
+    ensures read { IfOk result (λ v. input.old.rest ≡ tok.ident v ∷ input.new.rest) }
+    ensures found { (v : List ℕ) (rest : List Tok) → input.old.noted ≡ false → input.old.rest ≡ tok.ident v ∷ rest → Reaches (λ a b. a ≡ b) v rest result input.new }
+    ensures after { IsAfter input.old input.new }
+    ensures moves { IfOk result (λ v. 1 + weight input.new.rest ≤ weight input.old.rest) }
+{
+    match input.first() {
+        Some(TokenTree::Ident(ident)) => {
+            let ident = copy_ident(input.alloc(), ident)?;
+            input.skip(1);
+            Ok(ident)
+        }
+        _ => Err(input.error(ErrorKind::ExpectedToken(Expected::One(Wanted::Identifier)))),
+    }
+}
 
 impl Token for Literal {
     ghost sees = { spec.sees_literal };

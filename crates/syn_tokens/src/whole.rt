@@ -1,11 +1,15 @@
-//! Readers of whole lists.
+//! Readers of whole lists and texts.
 
-ghost use Rattle.std.specs.Prelude.{[], IfOk};
+ghost use Rattle.std.specs.Prelude.{◌≡◌, [], List, chars, IfOk};
 ghost use Rattle.syn_tokens.specs.Input.{Gives};
+ghost use Rattle.syn_tokens.specs.Lex.{Spells};
+ghost use Rattle.syn_tokens.specs.Tok.{Tok};
 
 use crate::buffer::{Parse, ParseBuffer};
 use crate::error::{Error, ErrorKind, Result};
+use crate::lex::lex;
 use crate::tree::TokenStream;
+use std::alloc::Global;
 
 /// Reads a `T` from the whole list, which a refusal gives up. Behind a `T`, the first token that nothing read in a
 /// group is refused as `UnexpectedToken`, then a token that is left behind it.
@@ -30,4 +34,17 @@ pub fn parse2<T: Parse + Drop>(tokens: TokenStream) -> Result<T>
         });
     }
     Ok(value)
+}
+
+/// Reads a `T` from the whole text: cuts it into tokens, and reads these.
+pub fn parse_str<T: Parse + Drop>(alloc: Global, text: &str) -> Result<T>
+    // What was read is spelled by the tokens of the text.
+    ensures read { IfOk result (λ v. (ts : List Tok) × Spells (chars text.now) ts × T.spells ts v []) }
+    // What the tokens of the text spell is read, unless memory runs out.
+    ensures found { (v : T) (ts : List Tok) → Spells (chars text.now) ts → T.spells ts v [] → Gives T.same v result }
+{
+    match lex(alloc, text) {
+        Ok(tokens) => parse2::<T>(tokens),
+        Err(e) => Err(e),
+    }
 }

@@ -1,0 +1,8 @@
+use Rattle.std.proofs.Common.{◌≡◌, ◌∙◌, chars}
+use Rattle.syn_tokens.proofs.Lexes.{gives_only}
+use Rattle.syn_tokens.proofs.lex.lex.Goals as goal
+
+pub returns-clause-found : goal.returns-clause-found
+returns-clause-found c = λ ts is.
+    let same : c.as_slice.result.now ≡ chars c.args.text.now = c.as_slice.ensures.value ∙ c.in_ok-all.ensures in
+    gives_only c.as_slice.result.now c.lex_chars.result c.lex_chars.ensures.read c.lex_chars.ensures.refused ts (rw same is)
