@@ -23,8 +23,9 @@ use Rattle.syn_grammar.specs.Op.{operator, infix_at, prefix_at, goes_on, takes, 
 use Rattle.syn_grammar.specs.Op as op
 use Rattle.syn_grammar.specs.Place.{plain, at}
 use Rattle.syn_grammar.specs.Tokens.{sign, signs, path_sep_at, word_at}
-use Rattle.syn_grammar.specs.Stands.{Node, is_number, is_truth, is_falsehood, is_path, is_paren, is_unary, is_adorned, is_mid, Stands, ends, closes, ends_operation, fits_left, behind_segments, behind_path, path_stands, is_builtin_segments, attrs_at, unadorned, is_range, carries_trailer, compares}
-use Rattle.syn_grammar.specs.Tree.{Tree, leaf, paren, lead, mid, adorned, lit, int, float, bool, Path, path, unary, Attr, number_of, is_number_text, starts_number, is_float_text, is_some_segment, is_try_alone, two, alone, own_tokens, attrs_toks, un_tok, mid_toks, segments_toks, path_toks, clear}
+use Rattle.syn_grammar.specs.Stands.{Node, is_number, is_truth, is_falsehood, is_path, is_paren, is_unary, is_adorned, is_mid, Stands, ends, closes, ends_operation, fits_left, behind_segments, behind_path, path_stands, attrs_at, unadorned, is_range, carries_trailer, compares}
+use Rattle.syn_grammar.specs.Words.{builtin_word}
+use Rattle.syn_grammar.specs.Tree.{Tree, leaf, paren, lead, mid, adorned, lit, int, float, bool, Path, path, unary, Attr, number_of, is_number_text, starts_number, is_float_text, is_some_segment, is_try_alone, is_word_alone, two, alone, own_tokens, attrs_toks, un_tok, mid_toks, segments_toks, path_toks, clear}
 use Rattle.syn_grammar.proofs.Clear.{range_clear, compares_clear, unadorned_clear, carries_clear}
 use Rattle.syn_grammar.proofs.Edges.{and_false, class_no_trailer}
 use Rattle.syn_grammar.proofs.Formed.{Formed, both_true, not_it}
@@ -232,7 +233,7 @@ path_alone : (p : Place) (c : Context) (w : Path) (n : List Tok) → c.condition
     → is_brace c.next && not c.condition ≡ false → path_stands p w n ≡ true
 unfolding path_stands
 path_alone p c w n e s t h =
-    rw (s.brace, s.no_bang, s.no_pound, t) (joined (leaf_brace p.condition (is_brace c.next) (rw (← e) h)) (no_pound (not w.leading && is_builtin_segments w.segments)))
+    rw (s.brace, s.no_bang, s.no_pound, t) (joined (leaf_brace p.condition (is_brace c.next) (rw (← e) h)) (no_pound (is_word_alone builtin_word w)))
   where
     joined : {a b : Bool} → a ≡ true → b ≡ true → a && b ≡ true
     joined p q = rw (p, q) refl

@@ -12,7 +12,7 @@ use Rattle.syn_grammar.specs.declared.kinds.Level.{Level}
 use Rattle.syn_grammar.specs.declared.kinds.Place.{Place}
 use Rattle.syn_grammar.specs.Tree.{Tree, leaf, paren, lead, mid, adorned, adorn, prepend, Attr}
 use Rattle.syn_grammar.specs.Tokens as tokens
-use Rattle.syn_grammar.specs.Tokens.{signs, sign_of, path_sep_at, trailer_at, left_arrow_at, three_dots_at, is_group_at, group_at, word_at}
+use Rattle.syn_grammar.specs.Tokens.{signs, sign_of, path_sep_at, trailer_at, left_arrow_at, three_dots_at, is_group_at, word_at}
 use Rattle.syn_grammar.specs.Op.{prefix_at, unary, infix_at, takes, level, operator, goes_on, takes_by}
 use Rattle.syn_grammar.specs.Stands.{unadorned, is_range, carries_trailer, closes, ends, fits_left, attrs_at, attrs_behind, is_pound}
 use Rattle.syn_grammar.specs.Read.{next_operator, taken_at, taken_by}

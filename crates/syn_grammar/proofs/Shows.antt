@@ -13,7 +13,8 @@ use Rattle.syn_grammar.specs.declared.next.Next.TheVariants as next
 use Rattle.syn_grammar.specs.Next.{class_of, reach, takes_next, trails, is_brace}
 use Rattle.syn_grammar.specs.Op.{operator, infix_at, goes_on, takes, level}
 use Rattle.syn_grammar.specs.Place.{rank}
-use Rattle.syn_grammar.specs.Tokens.{sign, signs, left_arrow_at, three_dots_at, path_sep_at, bang_at, pound_at, group_at, is_group_at, trailer_at, word_at}
+use Rattle.syn_grammar.specs.Tokens.{sign, signs, left_arrow_at, three_dots_at, path_sep_at, bang_at, pound_at, is_group_at, trailer_at, word_at}
+use Rattle.syn_tokens.specs.Front.{group_at}
 use Rattle.syn_grammar.proofs.Formed.{both_true, not_it}
 use Rattle.syn_grammar.proofs.Edges.{and_false, less, less_back, class_no_trailer, class_no_brace}
 

@@ -9,7 +9,8 @@ use Rattle.syn_grammar.specs.declared.kinds.UnKind.{UnKind}
 use Rattle.syn_grammar.specs.declared.kinds.Infix.{Infix}
 use Rattle.syn_grammar.specs.declared.kinds.Infix.TheVariants as inf
 use Rattle.syn_grammar.specs.Op.{prefix_at, infix_at, unary, operator, as_word}
-use Rattle.syn_grammar.specs.Tokens.{sign, signs, group_at, same_delimiter, word_at}
+use Rattle.syn_grammar.specs.Tokens.{sign, signs, word_at}
+use Rattle.syn_tokens.specs.Front.{group_at, same_delimiter}
 use Rattle.syn_grammar.proofs.Chains.{some_is, chosen}
 
 pub one_at_least : (x : Tok) → 1 ≤ token_weight x

@@ -1,6 +1,6 @@
 -- Which tree stands for which tokens: what it is spelled by, and the binding rules (Rust Reference, "Expressions",
 -- "Expression precedence").
-use Rattle.std.specs.Prelude.{◌≡◌, ℕ, Bool, true, false, not, ◌||◌, ◌&&◌, ◌==◌, nat_lt, if◌then◌else◌, List, [], ◌∷◌, drop, Option, Some, None, codes}
+use Rattle.std.specs.Prelude.{◌≡◌, ℕ, Bool, true, false, not, ◌||◌, ◌&&◌, ◌==◌, nat_lt, if◌then◌else◌, List, [], ◌∷◌, drop, Option, Some, None}
 use Rattle.std.specs.Str.{bytes_eq}
 use Rattle.syn_tokens.specs.Tok.{Tok, Inside, ident, literal, punct, group, toks}
 use Rattle.syn_lexer.specs.declared.lexeme.Delimiter.TheVariants as delimiter
@@ -10,8 +10,8 @@ use Rattle.syn_grammar.specs.declared.kinds.Level.{Level}
 use Rattle.syn_grammar.specs.declared.kinds.Level.TheVariants as lev
 use Rattle.syn_grammar.specs.declared.kinds.Place.{Place}
 use Rattle.syn_grammar.specs.Place.{plain, at, rank}
-use Rattle.syn_grammar.specs.Words.{true_word, false_word}
-use Rattle.syn_grammar.specs.Tree.{Tree, leaf, paren, lead, mid, adorned, lit, path, unary, bool, Lit, Path, Attr, number_of, is_try_alone, all_segments, has_kind}
+use Rattle.syn_grammar.specs.Words.{true_word, false_word, builtin_word}
+use Rattle.syn_grammar.specs.Tree.{Tree, leaf, paren, lead, mid, adorned, lit, path, unary, bool, Lit, Path, Attr, number_of, is_try_alone, is_word_alone, all_segments, has_kind}
 use Rattle.syn_grammar.specs.Tokens.{sign_of, path_sep_at, bang_at, not_equal_at, pound_at, left_arrow_at, three_dots_at, trailer_at, is_group_at, word_at}
 use Rattle.syn_grammar.specs.Op.{infix_at, prefix_at, takes, level, is_comparison, is_range_op, goes_on}
 
@@ -86,11 +86,6 @@ behind_path w l =
     if w.leading then (if path_sep_at l then behind_segments w.segments (drop 2 l) else None)
     else behind_segments w.segments l
 
--- the path that is the word `builtin` alone
-abbrev pub is_builtin_segments : List (List ℕ) → Bool
-is_builtin_segments (s ∷ []) = bytes_eq s (codes "builtin")
-is_builtin_segments _ = false
-
 -- A path stands alone: no brace behind it makes it a struct expression (in a condition the brace is the block's), no
 -- `!` a macro call, no `#` behind `builtin` special syntax; and `try` alone is one before `!=` only.
 unfoldable pub path_stands : Place → Path → List Tok → Bool
@@ -98,7 +93,7 @@ path_stands p w behind =
     (p.condition || not (is_group_at delimiter.Brace behind))
     && (not (bang_at behind)
     && ((not (is_try_alone w) || not_equal_at behind)
-    && not ((not w.leading && is_builtin_segments w.segments) && pound_at behind)))
+    && not (is_word_alone builtin_word w && pound_at behind)))
 
 -- ---- attributes
 

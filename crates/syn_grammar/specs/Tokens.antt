@@ -1,7 +1,8 @@
 -- What stands at the front of a list of tokens.
-use Rattle.std.specs.Prelude.{ℕ, Bool, true, false, not, ◌||◌, ◌&&◌, ◌==◌, if◌then◌else◌, List, [], ◌∷◌, drop, Option, Some, None}
+use Rattle.std.specs.Prelude.{ℕ, Bool, true, false, not, ◌||◌, ◌&&◌, ◌==◌, if◌then◌else◌, is_some, List, [], ◌∷◌, drop}
 use Rattle.std.specs.Str.{bytes_eq}
-use Rattle.syn_tokens.specs.Tok.{Tok, ident, punct, group, toks}
+use Rattle.syn_tokens.specs.Tok.{Tok, ident, punct}
+use Rattle.syn_tokens.specs.Front.{group_at}
 use Rattle.syn_lexer.specs.declared.lexeme.Delimiter.{Delimiter}
 use Rattle.syn_lexer.specs.declared.lexeme.Delimiter.TheVariants as delimiter
 use Rattle.syn_lexer.specs.declared.lexeme.Spacing.{Spacing}
@@ -54,26 +55,6 @@ unfoldable pub pound_at : List Tok → Bool
 pound_at l = (sign l).0 == 35
 
 -- ---- groups
-
-abbrev pub same_delimiter : Delimiter → Delimiter → Bool
-same_delimiter delimiter.Parenthesis delimiter.Parenthesis = true
-same_delimiter delimiter.Bracket delimiter.Bracket = true
-same_delimiter delimiter.Brace delimiter.Brace = true
-same_delimiter delimiter.None delimiter.None = true
-same_delimiter _ _ = false
-
-abbrev pub group_of : Delimiter → Tok → List Tok → Option (List Tok × List Tok)
-group_of d (group found i) l = if same_delimiter found d then Some (toks i, l) else None
-group_of d _ l = None
-
--- the inside of a group with this delimiter, where it comes first, and what is behind it
-unfoldable pub group_at : Delimiter → List Tok → Option (List Tok × List Tok)
-group_at d [] = None
-group_at d (x ∷ l) = group_of d x l
-
-abbrev pub is_some : {A : Type 0} → Option A → Bool
-is_some None = false
-is_some (Some x) = true
 
 unfoldable pub is_group_at : Delimiter → List Tok → Bool
 is_group_at d l = is_some (group_at d l)

@@ -2,6 +2,7 @@
 -- parentheses, tokens before an operand, tokens between two operands; and a shape for attributes.
 use Rattle.std.specs.Prelude.{◌≡◌, ℕ, ◌+◌, Bool, true, false, not, ◌||◌, ◌&&◌, ◌==◌, if◌then◌else◌, List, [], ◌∷◌, ◌++◌, drop, Option, Some, None}
 use Rattle.std.specs.List.{prefix_len}
+use Rattle.std.specs.Str.{bytes_eq}
 use Rattle.std.specs.Char.{is_ascii_digit}
 use Rattle.syn_tokens.specs.Tok.{Tok, Inside, ident, literal, punct, group, inside}
 use Rattle.syn_lexer.specs.declared.lexeme.Delimiter.TheVariants as delimiter
@@ -13,7 +14,7 @@ use Rattle.syn_grammar.specs.declared.kinds.BinKind.TheVariants as bin
 use Rattle.syn_grammar.specs.declared.kinds.Limits.TheVariants as limits
 use Rattle.syn_grammar.specs.declared.kinds.Infix.{Infix}
 use Rattle.syn_grammar.specs.declared.kinds.Infix.TheVariants as inf
-use Rattle.syn_grammar.specs.Words.{is_segment, is_try, true_word, false_word}
+use Rattle.syn_grammar.specs.Words.{is_segment, try_word, true_word, false_word}
 use Rattle.syn_grammar.specs.Op.{as_word}
 
 -- a literal: a number by its text, or a truth value (Rust Reference, "Literal expressions")
@@ -229,13 +230,17 @@ abbrev pub all_segments : List (List ℕ) → Bool
 all_segments [] = true
 all_segments (s ∷ more) = is_segment s && all_segments more
 
-abbrev is_one_try : List (List ℕ) → Bool
-is_one_try (s ∷ []) = is_try s
-is_one_try _ = false
+abbrev is_sole : List ℕ → List (List ℕ) → Bool
+is_sole w (s ∷ []) = bytes_eq s w
+is_sole w _ = false
+
+-- the path that is this word alone
+abbrev pub is_word_alone : List ℕ → Path → Bool
+is_word_alone w p = not p.leading && is_sole w p.segments
 
 -- the path that is the word `try` alone
 abbrev pub is_try_alone : Path → Bool
-is_try_alone p = not p.leading && is_one_try p.segments
+is_try_alone = is_word_alone try_word
 
 abbrev pub is_some_segment : List (List ℕ) → Bool
 is_some_segment [] = false

@@ -1,6 +1,5 @@
 -- The words that paths and literals are made of (Rust Reference, "Keywords", "Paths").
 use Rattle.std.specs.Prelude.{ℕ, Bool, not, ◌||◌, List, [], ◌∷◌, codes}
-use Rattle.std.specs.Str.{bytes_eq}
 use Rattle.syn_lexer.specs.Keywords.{is_reserved_word, is_one_of}
 
 abbrev pub true_word : List ℕ
@@ -9,8 +8,12 @@ true_word = codes "true"
 abbrev pub false_word : List ℕ
 false_word = codes "false"
 
-abbrev pub is_try : List ℕ → Bool
-is_try w = bytes_eq w (codes "try")
+abbrev pub try_word : List ℕ
+try_word = codes "try"
+
+-- before `#` it begins special syntax
+abbrev pub builtin_word : List ℕ
+builtin_word = codes "builtin"
 
 -- the reserved words that may be a segment of a path
 abbrev pub segment_words : List (List ℕ)
