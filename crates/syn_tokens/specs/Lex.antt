@@ -1,5 +1,5 @@
 -- How a text falls into token trees. A text is a list of characters.
-use Rattle.std.specs.Prelude.{◌≡◌, ℕ, zero, suc, ◌-◌, List, [], ◌∷◌, ◌++◌, take, Option, Some, None, encode_utf8_all}
+use Rattle.std.specs.Prelude.{◌≡◌, ℕ, zero, suc, ◌-◌, List, [], ◌∷◌, ◌++◌, length, take, Option, Some, None, encode_utf8_all}
 use Rattle.syn_lexer.specs.Text.{Text}
 use Rattle.syn_lexer.specs.Lex.{front}
 use Rattle.syn_lexer.specs.declared.lexeme.Delimiter.{Delimiter}
@@ -61,3 +61,13 @@ flat (t ∷ ts) = pieces_of t ++ flat ts
 -- the text falls into the pieces of these trees: so each opening delimiter has its closing one
 abbrev pub Spells : Text → List Tok → Type 0
 Spells z ts = pieces z ≡ Some (flat ts)
+
+-- ---- texts that are one token
+
+-- the longest lexeme at the front is an identifier or a reserved word, and is all of the text
+abbrev pub IsIdentText : Text → Type 0
+IsIdentText z = front z ≡ Some (Ident, length z)
+
+-- the longest lexeme at the front is a literal, and is all of the text
+abbrev pub IsLiteralText : Text → Type 0
+IsLiteralText z = front z ≡ Some (Literal, length z)

@@ -11,4 +11,3 @@ pub mod Leaf
 pub mod Text
 pub mod Lex
 pub mod Nest
-pub mod Single
