@@ -16,3 +16,6 @@ pub mod tree;
 pub mod whole;
 
 pub use syn_lexer::lexeme::{Delimiter, Spacing};
+
+#[cfg(test)]
+mod tests;
