@@ -1,0 +1,13 @@
+//! Blocks (Rust Reference, "Block expressions").
+
+use syn_tokens::token::Brace;
+use syn_tokens::tree::TokenStream;
+
+/// A block. What is in the braces is kept as tokens.
+#[derive(Drop)]
+pub struct Block {
+    /// The braces.
+    pub brace_token: Brace,
+    /// What they enclose.
+    pub stmts: TokenStream,
+}

@@ -1,0 +1,12 @@
+//! The lower parts of expressions: literals, attributes, lifetimes, paths, types, macros, blocks, and lists with
+//! puncts, as in syn.
+#![tactic(auto)]
+
+pub mod attr;
+pub mod block;
+pub mod lifetime;
+pub mod lit;
+pub mod mac;
+pub mod path;
+pub mod punctuated;
+pub mod ty;

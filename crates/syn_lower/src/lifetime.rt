@@ -1,0 +1,13 @@
+//! Lifetimes and loop labels (Rust Reference, "Lifetimes and loop labels").
+
+use syn_tokens::span::Span;
+use syn_tokens::tree::Ident;
+
+/// A lifetime: an apostrophe and a word, which may be a reserved one.
+#[derive(Debug, Drop)]
+pub struct Lifetime {
+    /// Where the apostrophe is.
+    pub apostrophe: Span,
+    /// The word.
+    pub ident: Ident,
+}

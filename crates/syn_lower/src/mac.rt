@@ -1,0 +1,32 @@
+//! Calls of macros (Rust Reference, "Macro Invocation").
+
+use crate::path::{PathArguments, PathOf};
+use syn_tokens::token::{Brace, Bracket, Not, Paren};
+use syn_tokens::tree::TokenStream;
+
+/// What encloses the tokens of a macro's call.
+#[derive(Clone, Copy, Debug)]
+pub enum MacroDelimiter {
+    /// `( .. )`
+    Paren(Paren),
+    /// `{ .. }`
+    Brace(Brace),
+    /// `[ .. ]`
+    Bracket(Bracket),
+}
+
+/// The call of a macro. What it is given is kept as tokens.
+pub type Macro = MacroOf<PathArguments>;
+
+/// The call of a macro.
+#[derive(Drop)]
+pub struct MacroOf<A> {
+    /// The macro's path, without arguments.
+    pub path: PathOf<A>,
+    /// `!`
+    pub bang_token: Not,
+    /// What encloses the tokens.
+    pub delimiter: MacroDelimiter,
+    /// The tokens.
+    pub tokens: TokenStream,
+}
