@@ -8,6 +8,7 @@ pub mod Ends
 pub mod Formed
 pub mod Good
 pub mod Kept
+pub mod NoteLemmas
 pub mod Obeys
 pub mod Paths
 pub mod Promise
@@ -16,6 +17,7 @@ pub mod Shows
 pub mod Sound
 pub mod Spares
 pub mod Spelled
+pub mod Stacks
 pub mod Tight
 pub mod Turns
 pub mod Unique

@@ -1,6 +1,7 @@
 pub mod Binding
 pub mod Exact
 pub mod Next
+pub mod Notes
 pub mod Op
 pub mod Place
 pub mod Printed

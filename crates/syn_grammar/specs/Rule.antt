@@ -6,6 +6,8 @@ use Rattle.syn_grammar.specs.declared.kinds.Level.{Level}
 use Rattle.syn_grammar.specs.declared.kinds.Level.TheVariants as lev
 use Rattle.syn_grammar.specs.declared.next.Next.{Next}
 use Rattle.syn_grammar.specs.declared.next.Context.{Context}
+use Rattle.syn_grammar.specs.declared.next.Role.{Role}
+use Rattle.syn_grammar.specs.declared.next.Role.TheVariants as role
 use Rattle.syn_grammar.specs.Next.{class_of, reach, takes_next, trails, is_brace, enclosed, left_context, right_context, lead_context, lead_level}
 use Rattle.syn_grammar.specs.Place.{rank}
 use Rattle.syn_grammar.specs.Op.{level, is_comparison}
@@ -81,6 +83,15 @@ bare c (mid l k r) =
     (bare enclosed r) (bare (right_context k c) r))
 bare c (adorned a more t) = adorned a more (put (is_infix t) (bare enclosed t) (bare c t))
 
--- the tree as printed where nothing is round it
+-- whether a node is put in parentheses
+abbrev pub wraps : Role → Context → Tree → Bool
+wraps (role.At v) c t = place_wrapped v (low t) (bad t c.next) || leaf_wrapped c t
+wraps (role.LeftOf k) c t = left_wrapped k t (bad t c.next) || leaf_wrapped c t
+
+-- the tree as printed in its role
+abbrev pub printed_in : Role → Context → Tree → Tree
+printed_in r c t = put (wraps r c t) (bare enclosed t) (bare c t)
+
+-- the tree as printed for itself
 abbrev pub printed : Context → Tree → Tree
-printed c t = put (place_wrapped lev.Jump (low t) (bad t c.next) || leaf_wrapped c t) (bare enclosed t) (bare c t)
+printed c t = printed_in (role.At lev.Jump) c t

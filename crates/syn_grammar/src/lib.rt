@@ -4,4 +4,5 @@
 pub mod kinds;
 pub mod laws;
 pub mod next;
+pub mod note;
 pub mod printing;

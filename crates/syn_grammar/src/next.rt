@@ -1,5 +1,7 @@
 //! What a printer has to know of the place of a node: what stands behind it, and what is round it.
 
+use crate::kinds::{Infix, Level};
+
 /// The first token behind a node, as far as it decides about parentheses.
 #[derive(Clone, Copy, Debug, PartialEq, Eq)]
 pub enum Next {
@@ -47,6 +49,15 @@ pub enum Next {
     Bracket,
     /// A group in braces.
     Brace,
+}
+
+/// What a node is to the node that owns its place.
+#[derive(Clone, Copy, Debug, PartialEq, Eq)]
+pub enum Role {
+    /// The occupant of a place of this level.
+    At(Level),
+    /// The left operand of this operator.
+    LeftOf(Infix),
 }
 
 /// What the first leaf of a node may be.

@@ -1,5 +1,6 @@
 //! The laws of printing, each the contract of a call.
 
+ghost use Rattle.syn_grammar.specs.Notes.{NotesAreRight};
 ghost use Rattle.syn_grammar.specs.Printed.{PrintedStands, NoneNeedlessly, OwnSpelling, NoPairSpared};
 
 /// A well-formed tree, with the parentheses that the rule adds, stands for its own tokens and is the same tree up to
@@ -21,4 +22,9 @@ pub fn own_spelling()
 /// None of the pairs that are added can be left out by itself.
 pub fn no_pair_spared()
     ensures { NoPairSpared }
+{}
+
+/// What is noted of a tree is what the rule asks of it.
+pub fn notes_are_right()
+    ensures { NotesAreRight }
 {}
