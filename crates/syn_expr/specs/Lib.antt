@@ -1,2 +1,3 @@
 pub mod Binds
+pub mod Reads
 pub mod View

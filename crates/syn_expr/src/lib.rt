@@ -3,6 +3,7 @@
 
 pub mod attr;
 pub mod expr;
+mod front;
 pub mod lit;
 mod make;
 pub mod op;

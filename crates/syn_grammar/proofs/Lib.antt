@@ -1,3 +1,4 @@
+pub mod Attrs
 pub mod Bindings
 pub mod Bridge
 pub mod Chains

@@ -78,14 +78,17 @@ is_range_op _ = false
 abbrev binary : BinKind → ℕ → Option (Infix × ℕ)
 binary op count = Some (inf.Binary op, count)
 
--- One of three: an operator alone, doubled, or behind `=`.
-abbrev doubled : ℕ → ℕ → BinKind → BinKind → BinKind → Option (Infix × ℕ)
-doubled a b twice equal once =
-    if b == a then binary twice 2 else (if b == 61 then binary equal 2 else binary once 1)
-
--- An operator alone, or behind it `=`.
-abbrev compound : ℕ → BinKind → BinKind → Option (Infix × ℕ)
+-- an operator alone, or behind it `=`
+abbrev pub compound : ℕ → BinKind → BinKind → Option (Infix × ℕ)
 compound b equal once = if b == 61 then binary equal 2 else binary once 1
+
+-- an operator alone, doubled, or behind it `=`
+abbrev pub doubled : ℕ → ℕ → BinKind → BinKind → BinKind → Option (Infix × ℕ)
+doubled a b twice equal once = if b == a then binary twice 2 else compound b equal once
+
+-- a shift alone, or behind it `=`
+abbrev pub shift : ℕ → BinKind → BinKind → Option (Infix × ℕ)
+shift c equal once = if c == 61 then binary equal 3 else binary once 2
 
 -- By the three characters that are joined at the front: the operator, and of how many puncts it is. The longest token
 -- counts; `=>`, `->`, `<-` and `...` are tokens, but no infix operators.
@@ -100,10 +103,10 @@ operator a b c =
     else (if a == 38 then doubled 38 b bin.And bin.BitAndAssign bin.BitAnd
     else (if a == 124 then doubled 124 b bin.Or bin.BitOrAssign bin.BitOr
     else (if a == 60 then
-    (if b == 60 then (if c == 61 then binary bin.ShlAssign 3 else binary bin.Shl 2)
+    (if b == 60 then shift c bin.ShlAssign bin.Shl
     else (if b == 45 then None else compound b bin.Le bin.Lt))
     else (if a == 62 then
-    (if b == 62 then (if c == 61 then binary bin.ShrAssign 3 else binary bin.Shr 2)
+    (if b == 62 then shift c bin.ShrAssign bin.Shr
     else compound b bin.Ge bin.Gt)
     else (if a == 61 then
     (if b == 61 then binary bin.Eq 2 else (if b == 62 then None else Some (inf.Assign, 1)))

@@ -11,10 +11,10 @@ use Rattle.syn_grammar.specs.declared.kinds.Level.TheVariants as lev
 use Rattle.syn_grammar.specs.declared.kinds.Place.{Place}
 use Rattle.syn_grammar.specs.Place.{plain, at}
 use Rattle.syn_grammar.specs.Words.{is_segment, true_word, false_word}
-use Rattle.syn_grammar.specs.Tree.{Tree, leaf, paren, lead, mid, lit, path, unary, bool, Path, prepend, number_of, has_kind}
+use Rattle.syn_grammar.specs.Tree.{Tree, leaf, paren, lead, mid, lit, path, unary, bool, Path, Attr, prepend, number_of, has_kind}
 use Rattle.syn_grammar.specs.Tokens.{sign_of, path_sep_at}
 use Rattle.syn_grammar.specs.Op.{infix_at, prefix_at, takes, level}
-use Rattle.syn_grammar.specs.Stands.{is_range, closes, ends, ends_operation, fits_left, path_stands, attrs_at}
+use Rattle.syn_grammar.specs.Stands.{is_range, closes, ends, ends_operation, fits_left, path_stands, is_pound, attrs_at}
 
 -- ---- readings: what was read from the front of a list, and the tokens behind it
 
@@ -89,6 +89,17 @@ standing p w l = if path_stands p w l then Some (leaf (path w), l) else None
 -- a path that stands alone
 unfoldable pub named : Place → Reading Tree
 named p = path_at >>= standing p
+
+-- ---- attributes
+
+abbrev attr_behind : Tok → Reading Attr
+attr_behind x (group delimiter.Bracket i ∷ l) = if is_pound x then Some (record { tokens = i }, l) else None
+attr_behind x _ = None
+
+-- an outer attribute
+unfoldable pub attr_at : Reading Attr
+attr_at [] = None
+attr_at (x ∷ l) = attr_behind x l
 
 -- ---- expressions, by a reading of the expressions inside
 
