@@ -3,7 +3,8 @@ use Rattle.std.proofs.Common.{◌≡◌, ℕ, zero, suc, ◌≤◌, ◌<◌, Boo
 use Rattle.syn_lexer.specs.declared.lexeme.Delimiter.{Delimiter}
 use Rattle.syn_tokens.specs.Tok.{Tok, weight}
 use Rattle.syn_parts.proofs.Weights.{some_is, taken}
-use Rattle.syn_parts.specs.Form.{Form, Outcome, Test, Mark, and_then, then_behind, never, when, by_size, mark, then_by, both, seen, shown, pure, whole, inside_reads, ended, inside_behind, group_at, inside, case, group_case, is_true, flag, is_none, itself, maybe, is_end, cons, uncons, end, iterate, fix, tail_step, tail, listed, prepend, split_first, is_nil, more_step, more, joined, closed_by, leaf, if_same}
+use Rattle.syn_tokens.specs.Front.{group_at, is_empty}
+use Rattle.syn_parts.specs.Form.{Form, Outcome, Test, Mark, and_then, then_behind, never, when, by_size, mark, then_by, both, seen, shown, pure, whole, inside_reads, ended, inside_behind, inside, case, group_case, is_true, flag, is_none, itself, maybe, is_end, cons, uncons, end, iterate, fix, tail_step, tail, listed, prepend, split_first, is_nil, more_step, more, joined, closed_by, leaf, if_same}
 
 -- f reads exactly what stands, and reads as g does in lists of less than k tokens
 pub record Alike {A : Type 0} (k : ℕ) (f g : Form A) : Type 0 where

@@ -13,8 +13,9 @@ use Rattle.syn_parts.specs.Text.{Text, is_segment, is_truth, is_number, number_k
 use Rattle.syn_parts.specs.Same.{same_lit, same_toks, same_group}
 use Rattle.syn_parts.specs.Tree as t
 use Rattle.syn_parts.specs.Tree.{LitTree, AttributeTree, LifetimesTree, TypeTree, SegmentTree, PathTree, FnArgTree, ArgumentsTree, GenericTree, ReturnTree, BoundTree}
-use Rattle.syn_parts.specs.Form.{Form, Outcome, Mark, Test, leaf, when, then_by, mark, maybe, more, inside, group_at, then_behind, itself, seen}
-use Rattle.syn_parts.specs.Mark.{comma, colon2, colon, plus, gt, not_ne, lifetime_at, is_empty}
+use Rattle.syn_tokens.specs.Front.{group_at, is_empty}
+use Rattle.syn_parts.specs.Form.{Form, Outcome, Mark, Test, leaf, when, then_by, mark, maybe, more, inside, then_behind, itself, seen}
+use Rattle.syn_parts.specs.Mark.{comma, colon2, colon, plus, gt, not_ne, lifetime_at}
 use Rattle.syn_parts.specs.Part.{word_if, find_ident, find_segment, find_word, lit_if, truth_if, find_lit, negative_if, find_signed, string_if, find_string, find_group, find_all, find_const, const_if, find_arg_name, is_arg_name, name, segment_name, lifetime, unsigned, lit, string, kept, any_group, rest_of, constant_tokens, arg_name, outer_body, inner_body, attribute, outer_attributes, inner_attributes, block, no_arguments, lifetimes, output, generic, angle, angle_bracketed, parenthesized, arguments, segment, pieces, path, qualified, qpath, bound, bounds, reference, pointer, slice_or_array, tuple_or_paren, fn_arg, fn_head, fn_pointer, implements, object, macro_end, named, at_place, type, SpellsType, macro, MacroEnd, QPathTree, to_named, from_named, is_bare}
 use Rattle.syn_parts.proofs.Weights.{some_is, taken}
 use Rattle.syn_parts.proofs.Same.{compares_texts, compares_toks, compares_lits, compares_groups}

@@ -1,19 +1,16 @@
 -- Being the same is being equal.
-use Rattle.std.specs.Prelude.{◌≡◌, ℕ, Bool, true, false, ◌&&◌, ◌==◌, List, [], ◌∷◌, refl}
-use Rattle.std.proofs.Common.{eq-eqb}
-use Rattle.std.proofs.lemmas.Bool.{eqb-true}
+use Rattle.std.specs.Prelude.{◌≡◌, Bool, true, false, ◌&&◌, List, refl}
 use Rattle.std.proofs.lemmas.Slice.Eq.{bytes_eq-Decides}
 use Rattle.std.specs.Str.{bytes_eq}
 use Rattle.syn_lexer.specs.declared.lexeme.Delimiter.{Delimiter}
 use Rattle.syn_lexer.specs.declared.lexeme.Delimiter.TheVariants as del
-use Rattle.syn_lexer.specs.declared.lexeme.Spacing.{Spacing}
-use Rattle.syn_lexer.specs.declared.lexeme.Spacing.TheVariants as spacing
-use Rattle.syn_tokens.specs.Tok.{Tok, Inside, ident, punct, literal, group, nothing, first}
+use Rattle.syn_tokens.specs.Tok.{Tok}
+use Rattle.syn_tokens.specs.Front.{same_delimiter}
+use Rattle.syn_tokens.specs.Same.{same_list, same_list-true, same_list_equiv, same_delimiter-true}
 use Rattle.syn_parts.specs.declared.label.LitKind.{LitKind}
 use Rattle.syn_parts.specs.declared.label.LitKind.TheVariants as kind
-use Rattle.syn_parts.specs.Form.{same_delimiter}
 use Rattle.syn_parts.specs.Tree.{LitTree}
-use Rattle.syn_parts.specs.Same.{same_spacing, same_tok, same_inside, same_toks, same_kind, same_lit, same_group}
+use Rattle.syn_parts.specs.Same.{same_toks, same_kind, same_lit, same_group}
 use Rattle.syn_parts.proofs.Forms.{Compares}
 
 pub both_true : (a b : Bool) → (a && b) ≡ true → (a ≡ true) × (b ≡ true)
@@ -26,68 +23,13 @@ same_delimiter-refl del.Brace = refl
 same_delimiter-refl del.Bracket = refl
 same_delimiter-refl del.None = refl
 
-pub same_delimiter-true : (d e : Delimiter) → same_delimiter d e ≡ true → d ≡ e
-same_delimiter-true del.Parenthesis del.Parenthesis h = refl
-same_delimiter-true del.Brace del.Brace h = refl
-same_delimiter-true del.Bracket del.Bracket h = refl
-same_delimiter-true del.None del.None h = refl
-same_delimiter-true _ _ h = absurd cc
-
-same_spacing-refl : (s : Spacing) → same_spacing s s ≡ true
-same_spacing-refl spacing.Alone = refl
-same_spacing-refl spacing.Joint = refl
-
-same_spacing-true : (s r : Spacing) → same_spacing s r ≡ true → s ≡ r
-same_spacing-true spacing.Alone spacing.Alone h = refl
-same_spacing-true spacing.Joint spacing.Joint h = refl
-same_spacing-true _ _ h = absurd cc
-
-mutual
-  unfolding same_tok same_inside
-
-  pub same_tok-refl : (x : Tok) → same_tok x x ≡ true
-  same_tok-refl (ident s) = (bytes_eq-Decides s s).1 refl
-  same_tok-refl (literal s) = (bytes_eq-Decides s s).1 refl
-  same_tok-refl (punct c s) = rw (eq-eqb c c refl, same_spacing-refl s) refl
-  same_tok-refl (group d i) = rw (same_delimiter-refl d, same_inside-refl i) refl
-
-  pub same_inside-refl : (i : Inside) → same_inside i i ≡ true
-  same_inside-refl nothing = refl
-  same_inside-refl (first x i) = rw (same_tok-refl x, same_inside-refl i) refl
-
-mutual
-  unfolding same_tok same_inside
-
-  pub same_tok-true : (x y : Tok) → same_tok x y ≡ true → x ≡ y
-  same_tok-true (ident s) (ident w) h = let e : s ≡ w = (bytes_eq-Decides s w).0 h in cc
-  same_tok-true (literal s) (literal w) h = let e : s ≡ w = (bytes_eq-Decides s w).0 h in cc
-  same_tok-true (punct c s) (punct d r) h =
-      let (a, b) = both_true (c == d) (same_spacing s r) h in
-      let e : c ≡ d = eqb-true c d a in let f : s ≡ r = same_spacing-true s r b in cc
-  same_tok-true (group d i) (group e j) h =
-      let (a, b) = both_true (same_delimiter d e) (same_inside i j) h in
-      let f : d ≡ e = same_delimiter-true d e a in let g : i ≡ j = same_inside-true i j b in cc
-  same_tok-true _ _ h = absurd cc
-
-  pub same_inside-true : (i j : Inside) → same_inside i j ≡ true → i ≡ j
-  same_inside-true nothing nothing h = refl
-  same_inside-true (first x i) (first y j) h =
-      let (a, b) = both_true (same_tok x y) (same_inside i j) h in
-      let e : x ≡ y = same_tok-true x y a in let f : i ≡ j = same_inside-true i j b in cc
-  same_inside-true _ _ h = absurd cc
-
 pub same_toks-refl : (l : List Tok) → same_toks l l ≡ true
 unfolding same_toks
-same_toks-refl [] = refl
-same_toks-refl (x ∷ l) = rw (same_tok-refl x, same_toks-refl l) refl
+same_toks-refl l = same_list_equiv.refl l
 
 pub same_toks-true : (l m : List Tok) → same_toks l m ≡ true → l ≡ m
 unfolding same_toks
-same_toks-true [] [] h = refl
-same_toks-true (x ∷ l) (y ∷ m) h =
-    let (a, b) = both_true (same_tok x y) (same_toks l m) h in
-    let e : x ≡ y = same_tok-true x y a in let f : l ≡ m = same_toks-true l m b in cc
-same_toks-true _ _ h = absurd cc
+same_toks-true l m h = same_list-true l m h
 
 pub same_kind-refl : (k : LitKind) → same_kind k k ≡ true
 same_kind-refl kind.Str = refl

@@ -5,8 +5,8 @@
 -- the tokens of l before n spell x, and n doesn't begin with a token by which x would go on.
 use Rattle.std.specs.Prelude.{ℕ, zero, suc, Bool, true, false, not, if◌then◌else◌, List, [], ◌∷◌, ◌++◌, drop, Option, Some, None, is_some}
 use Rattle.syn_lexer.specs.declared.lexeme.Delimiter.{Delimiter}
-use Rattle.syn_lexer.specs.declared.lexeme.Delimiter.TheVariants as del
-use Rattle.syn_tokens.specs.Tok.{Tok, group, toks, weight}
+use Rattle.syn_tokens.specs.Tok.{Tok, weight}
+use Rattle.syn_tokens.specs.Front.{group_at}
 
 abbrev pub Outcome : Type 0 → Type 0
 Outcome A = Option (A × List Tok)
@@ -97,18 +97,6 @@ leaf same found = record {
   reads = found;
   behind = λ x l. if_same same x (found l);
 }
-
--- the inside of a group with this delimiter, if one stands first, and what is behind it
-abbrev pub same_delimiter : Delimiter → Delimiter → Bool
-same_delimiter del.Parenthesis del.Parenthesis = true
-same_delimiter del.Brace del.Brace = true
-same_delimiter del.Bracket del.Bracket = true
-same_delimiter del.None del.None = true
-same_delimiter _ _ = false
-
-unfoldable pub group_at : Delimiter → List Tok → Option (List Tok × List Tok)
-group_at d (group found inner ∷ l) = if same_delimiter found d then Some (toks inner, l) else None
-group_at d _ = None
 
 -- a group whose whole inside is a part
 abbrev pub whole : {A : Type 0} → Outcome A → List Tok → Outcome A

@@ -1,10 +1,11 @@
 -- The signs and words that parts are made of, and the tests of what stands at the front of a list.
-use Rattle.std.specs.Prelude.{ℕ, Bool, true, false, not, ◌&&◌, ◌||◌, ◌==◌, List, [], ◌∷◌, drop, length, codes, is_some}
+use Rattle.std.specs.Prelude.{ℕ, Bool, true, false, not, ◌&&◌, ◌||◌, ◌==◌, List, [], ◌∷◌, drop, length, codes}
 use Rattle.syn_lexer.specs.declared.lexeme.Delimiter.TheVariants as del
 use Rattle.syn_lexer.specs.declared.lexeme.Spacing.TheVariants as spacing
 use Rattle.syn_tokens.specs.Tok.{Tok, ident, punct, literal, group}
 use Rattle.syn_tokens.specs.Sign.{begins, begins_word}
-use Rattle.syn_parts.specs.Form.{Test, Mark, group_at}
+use Rattle.syn_tokens.specs.Front.{is_empty, sees_group}
+use Rattle.syn_parts.specs.Form.{Test, Mark}
 
 unfoldable pub sign_at : List ℕ → Test
 sign_at text l = begins text l
@@ -115,12 +116,8 @@ lifetime_at l = lifetime_begins l
 abbrev pub quote : Mark
 quote = record { at = lifetime_at; count = 1 }
 
-abbrev pub is_empty : Test
-is_empty [] = true
-is_empty (x ∷ l) = false
-
 unfoldable pub round_at : Test
-round_at l = is_some (group_at del.Parenthesis l)
+round_at l = sees_group del.Parenthesis l
 
 unfoldable pub brace_at : Test
-brace_at l = is_some (group_at del.Brace l)
+brace_at l = sees_group del.Brace l

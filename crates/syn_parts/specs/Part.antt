@@ -11,8 +11,9 @@ use Rattle.syn_parts.specs.declared.label.LitKind.{LitKind}
 use Rattle.syn_parts.specs.declared.label.LitKind.TheVariants as kind
 use Rattle.syn_parts.specs.declared.label.PathStyle.{PathStyle}
 use Rattle.syn_parts.specs.declared.label.PathStyle.TheVariants as style
-use Rattle.syn_parts.specs.Form.{Form, Outcome, Test, Mark, leaf, when, fix, mark, then_by, both, shown, pure, inside, group_at, case, group_case, flag, is_true, maybe, listed, joined, more, closed_by, never}
-use Rattle.syn_parts.specs.Mark.{sign_at, word_at, lifetime_at, round_at, brace_at, is_empty, and, star, bang, plus, comma, semi, pound, question, colon2, arrow, gt, less, lt, eq, not_ne, colon, mutable, constant, as_word, dynamic, implementing, for_word, unsafe_word, extern_word, fn_word, underscore, quote}
+use Rattle.syn_tokens.specs.Front.{group_at, is_empty}
+use Rattle.syn_parts.specs.Form.{Form, Outcome, Test, Mark, leaf, when, fix, mark, then_by, both, shown, pure, inside, case, group_case, flag, is_true, maybe, listed, joined, more, closed_by, never}
+use Rattle.syn_parts.specs.Mark.{sign_at, word_at, lifetime_at, round_at, brace_at, and, star, bang, plus, comma, semi, pound, question, colon2, arrow, gt, less, lt, eq, not_ne, colon, mutable, constant, as_word, dynamic, implementing, for_word, unsafe_word, extern_word, fn_word, underscore, quote}
 use Rattle.syn_parts.specs.Text.{Text, stands_alone, is_segment, is_truth, number_kind, is_number, kind_of}
 use Rattle.syn_parts.specs.Tree as t
 use Rattle.syn_parts.specs.Tree.{LitTree, AttributeTree, LifetimesTree, TypeTree, SegmentTree, PathTree, FnArgTree, ArgumentsTree, GenericTree, ReturnTree, BoundTree}
@@ -245,7 +246,7 @@ unfoldable pub constant_tokens : Form (List Tok)
 constant_tokens = leaf same_toks find_const
 
 unfoldable pub const_at : Test
-const_at l = is_lit_there l || is_some (group_at del.Brace l)
+const_at l = is_lit_there l || brace_at l
 
 -- a name and a single `=`
 unfoldable pub assoc_at : Test
