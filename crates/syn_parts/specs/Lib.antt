@@ -4,3 +4,4 @@ pub mod Tree
 pub mod Text
 pub mod Same
 pub mod Part
+pub mod Own
