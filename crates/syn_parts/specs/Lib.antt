@@ -5,3 +5,4 @@ pub mod Text
 pub mod Same
 pub mod Part
 pub mod Own
+pub mod Fits

@@ -1,0 +1,216 @@
+-- Where a part is read back from its own tokens: `x_fits x` is what a part must be for it, and `x_stops x r` says that the
+-- tokens r behind it don't go on with it.
+use Rattle.std.specs.Prelude.{◌≡◌, ℕ, zero, suc, ◌-◌, Bool, true, false, not, ◌&&◌, ◌||◌, ◌==◌, nat_lt, if◌then◌else◌, List, [], ◌∷◌, Option, Some, None}
+use Rattle.syn_lexer.specs.Keywords.{is_reserved_word}
+use Rattle.syn_lexer.specs.declared.lexeme.Delimiter.{Delimiter}
+use Rattle.syn_lexer.specs.declared.lexeme.Delimiter.TheVariants as del
+use Rattle.syn_tokens.specs.Tok.{Tok, ident, punct, literal, group}
+use Rattle.syn_tokens.specs.Front.{is_empty}
+use Rattle.syn_parts.specs.declared.label.LitKind.{LitKind}
+use Rattle.syn_parts.specs.declared.label.LitKind.TheVariants as kind
+use Rattle.syn_parts.specs.declared.label.PathStyle.{PathStyle}
+use Rattle.syn_parts.specs.declared.label.PathStyle.TheVariants as style
+use Rattle.syn_parts.specs.Text.{Text, is_segment, stands_alone, is_truth, is_number, number_kind, kind_of}
+use Rattle.syn_parts.specs.Same.{same_kind}
+use Rattle.syn_parts.specs.Form.{Test}
+use Rattle.syn_parts.specs.Mark.{colon2, arrow, plus, not_ne, round_at}
+use Rattle.syn_parts.specs.Part.{has_none, is_arg_name, angle_at, turbofish_at, MacroTree}
+use Rattle.syn_parts.specs.Own.{no_more_types, no_more_segments, no_more_generics, no_more_args, no_more_bounds, count_segments}
+use Rattle.syn_parts.specs.Tree as t
+use Rattle.syn_parts.specs.Tree.{LitTree, AttributeTree, LifetimesTree, TypeTree, Types, QSelfTree, Segments, PathTree, FnArgs, ArgumentsTree, Generics, GenericTree, ReturnTree, Bounds, BoundTree}
+
+-- ---- literals
+
+abbrev pub has_kind : Option LitKind → LitKind → Bool
+has_kind None k = false
+has_kind (Some j) k = same_kind j k
+
+-- the text of a number behind its sign
+abbrev pub number_fits : LitKind → Text → Bool
+number_fits k [] = false
+number_fits k (c ∷ text) =
+    if c == 45 then is_number text && same_kind (number_kind text) k else has_kind (kind_of (c ∷ text)) k
+
+abbrev pub lit_fits_by : LitKind → Text → Bool
+lit_fits_by kind.Bool text = is_truth text
+lit_fits_by kind.Int text = number_fits kind.Int text
+lit_fits_by kind.Float text = number_fits kind.Float text
+lit_fits_by k text = has_kind (kind_of text) k
+
+unfoldable pub lit_fits : LitTree → Bool
+lit_fits x = lit_fits_by x.kind x.text
+
+-- ---- lists: a separator ends only a list that has elements
+
+abbrev pub ends_well : Bool → Bool → Bool
+ends_well none e = not (none && e)
+
+abbrev pub is_none : {A : Type 0} → List A → Bool
+is_none [] = true
+is_none (x ∷ xs) = false
+
+abbrev pub lifetimes_fit : LifetimesTree → Bool
+lifetimes_fit p = ends_well (is_none p.0) p.1
+
+abbrev pub fits_if : {A : Type 0} → (A → Bool) → Option A → Bool
+fits_if f None = true
+fits_if f (Some x) = f x
+
+-- ---- types
+
+abbrev pub is_const : List Tok → Bool
+is_const (literal text ∷ []) = true
+is_const (ident text ∷ []) = is_truth text
+is_const (punct c s ∷ literal text ∷ []) = c == 45 && is_number text
+is_const (group del.Brace i ∷ []) = true
+is_const _ = false
+
+abbrev pub is_macro_delimiter : Delimiter → Bool
+is_macro_delimiter del.None = false
+is_macro_delimiter _ = true
+
+abbrev pub is_string : LitTree → Bool
+is_string x = same_kind x.kind kind.Str && has_kind (kind_of x.text) kind.Str
+
+abbrev pub is_one_type : Types → Bool
+is_one_type (t.more_types x t.no_types) = true
+is_one_type _ = false
+
+abbrev pub is_one_bound : Bounds → Bool
+is_one_bound (t.more_bounds b t.no_bounds) = true
+is_one_bound _ = false
+
+-- what `as` says of how many segments stand inside
+abbrev pub position_fits : Bool → ℕ → Bool → ℕ → Bool
+position_fits false n leading count = n == 0 && leading
+position_fits true n leading count = nat_lt 0 n && nat_lt n count
+
+-- no segment has arguments
+abbrev pub bare_segments : Segments → Bool
+bare_segments t.no_segments = true
+bare_segments (t.more_segments w a ss) = has_none a && bare_segments ss
+
+-- the style of a segment: those that stand inside are read as in a type
+abbrev pub style_at : ℕ → PathStyle → PathStyle
+style_at zero s = s
+style_at (suc n) s = style.Type
+
+abbrev pub takes_angle : PathStyle → Bool → Bool
+takes_angle style.Mod c = false
+takes_angle style.Expr c = c
+takes_angle style.Type c = true
+
+abbrev pub takes_round : PathStyle → Bool
+takes_round style.Type = true
+takes_round _ = false
+
+abbrev mutual
+  pub type_fits : Bool → TypeTree → Bool
+  type_fits b (t.path q l ss e) = not e && (not (no_more_segments ss) && (qself_fits q l (count_segments ss) && segments_fit 0 style.Type ss))
+  type_fits b (t.mac l ss e d ts) = not e && (not (no_more_segments ss) && (bare_segments ss && (segments_fit 0 style.Type ss && is_macro_delimiter d)))
+  type_fits b (t.reference a m x) = type_fits false x
+  type_fits b (t.ptr m x) = type_fits false x
+  type_fits b (t.slice x) = type_fits true x
+  type_fits b (t.array x n) = type_fits true x && not (is_empty n)
+  type_fits b (t.tuple xs e) = types_fit xs && (ends_well (no_more_types xs) e && not (is_one_type xs && not e))
+  type_fits b (t.paren x) = type_fits true x
+  type_fits b t.never = true
+  type_fits b t.infer = true
+  type_fits b (t.fn_ptr f u a xs e o) = fits_if lifetimes_fit f && (fits_if (fits_if is_string) a && (args_fit xs && (ends_well (no_more_args xs) e && return_fits o)))
+  type_fits b (t.impl_trait bs e) = not e && (not (no_more_bounds bs) && ((b || is_one_bound bs) && bounds_fit bs))
+  type_fits b (t.trait_object bs e) = not e && (not (no_more_bounds bs) && ((b || is_one_bound bs) && bounds_fit bs))
+
+  pub types_fit : Types → Bool
+  types_fit t.no_types = true
+  types_fit (t.more_types x xs) = type_fits true x && types_fit xs
+
+  pub qself_fits : QSelfTree → Bool → ℕ → Bool
+  qself_fits t.no_qself l k = true
+  qself_fits (t.qself x n a) l k = type_fits true x && position_fits a n l k
+
+  -- n segments stand inside, the others are of this style
+  pub segments_fit : ℕ → PathStyle → Segments → Bool
+  segments_fit n s t.no_segments = true
+  segments_fit n s (t.more_segments w a ss) =
+      is_segment w && ((not (stands_alone w) || has_none a) && (arguments_fit (style_at n s) a && segments_fit (n - 1) s ss))
+
+  pub arguments_fit : PathStyle → ArgumentsTree → Bool
+  arguments_fit s t.no_arguments = true
+  arguments_fit s (t.angle c gs e) = takes_angle s c && (generics_fit gs && ends_well (no_more_generics gs) e)
+  arguments_fit s (t.round xs e o) = takes_round s && (types_fit xs && (ends_well (no_more_types xs) e && return_fits o))
+
+  pub generics_fit : Generics → Bool
+  generics_fit t.no_generics = true
+  generics_fit (t.more_generics g gs) = generic_fits g && generics_fit gs
+
+  pub generic_fits : GenericTree → Bool
+  generic_fits (t.a_lifetime w) = true
+  generic_fits (t.a_const ts) = is_const ts
+  generic_fits (t.an_assoc w x) = not (is_reserved_word w) && type_fits true x
+  generic_fits (t.a_type x) = type_fits true x
+
+  pub return_fits : ReturnTree → Bool
+  return_fits t.default = true
+  return_fits (t.given x) = type_fits false x
+
+  pub args_fit : FnArgs → Bool
+  args_fit t.no_args = true
+  args_fit (t.more_args n x xs) = fits_if is_arg_name n && (type_fits true x && args_fit xs)
+
+  pub bounds_fit : Bounds → Bool
+  bounds_fit t.no_bounds = true
+  bounds_fit (t.more_bounds b bs) = bound_fits b && bounds_fit bs
+
+  pub bound_fits : BoundTree → Bool
+  bound_fits (t.outlives w) = true
+  bound_fits (t.a_trait q f l ss e) = not e && (not (no_more_segments ss) && (fits_if lifetimes_fit f && segments_fit 0 style.Type ss))
+
+-- ---- what is behind a part
+
+-- what a segment without arguments would go on with
+abbrev pub name_stops : PathStyle → Text → Test
+name_stops style.Mod w r = true
+name_stops style.Expr w r = stands_alone w || not (turbofish_at r)
+name_stops style.Type w r = stands_alone w || (not (angle_at r) && not (round_at r))
+
+abbrev mutual
+  pub type_stops : Bool → TypeTree → Test
+  type_stops b (t.path q l ss e) r = segments_stop style.Type ss r && (not (colon2.at r) && mac_stops q ss r)
+  type_stops b (t.reference a m x) r = type_stops false x r
+  type_stops b (t.ptr m x) r = type_stops false x r
+  type_stops b (t.fn_ptr f u a xs e o) r = return_stops o r
+  type_stops b (t.impl_trait bs e) r = bounds_stop bs r && not (b && plus.at r)
+  type_stops b (t.trait_object bs e) r = bounds_stop bs r && not (b && plus.at r)
+  type_stops b _ r = true
+
+  -- a path without arguments goes on at `!`
+  pub mac_stops : QSelfTree → Segments → Test
+  mac_stops t.no_qself ss r = not (bare_segments ss && not_ne.at r)
+  mac_stops (t.qself x n a) ss r = true
+
+  pub segments_stop : PathStyle → Segments → Test
+  segments_stop s t.no_segments r = true
+  segments_stop s (t.more_segments w a t.no_segments) r = arguments_stop s w a r
+  segments_stop s (t.more_segments w a (t.more_segments v c ss)) r = segments_stop s (t.more_segments v c ss) r
+
+  pub arguments_stop : PathStyle → Text → ArgumentsTree → Test
+  arguments_stop s w t.no_arguments r = name_stops s w r
+  arguments_stop s w (t.angle c gs e) r = true
+  arguments_stop s w (t.round xs e o) r = return_stops o r
+
+  pub return_stops : ReturnTree → Test
+  return_stops t.default r = not (arrow.at r)
+  return_stops (t.given x) r = type_stops false x r
+
+  pub bounds_stop : Bounds → Test
+  bounds_stop t.no_bounds r = true
+  bounds_stop (t.more_bounds b t.no_bounds) r = bound_stops b r
+  bounds_stop (t.more_bounds b (t.more_bounds c bs)) r = bounds_stop (t.more_bounds c bs) r
+
+  pub bound_stops : BoundTree → Test
+  bound_stops (t.outlives w) r = true
+  bound_stops (t.a_trait q f l ss e) r = segments_stop style.Type ss r && not (colon2.at r)
+
+-- read back in its place: a type, where several bounds may stand or one
+unfoldable pub is_read_back : Bool → TypeTree → Bool
+is_read_back several x = type_fits several x
