@@ -1,5 +1,5 @@
 -- The tree of an expression, without places.
-use Rattle.std.specs.Prelude.{Bool, true, false, List, [], ◌∷◌, ◌++◌, map, Option, Some, None}
+use Rattle.std.specs.Prelude.{ℕ, Bool, true, false, List, [], ◌∷◌, ◌++◌, map, Option, Some, None}
 use Rattle.std.specs.declared.boxed.Box.{Box}
 use Rattle.std.specs.declared.vec.Vec.{Vec}
 use Rattle.std.specs.declared.alloc.Global.{Global}
@@ -94,8 +94,11 @@ abbrev pub is_there : {A : Type 0} → Option A → Bool
 is_there None = false
 is_there (Some x) = true
 
+abbrev pub segments_of : {P : Type 0} → Punctuated PathSegment P → List (List ℕ)
+segments_of p = map (λ (s : PathSegment). s.ident) (values p)
+
 unfoldable pub path_of : path_type.Path → Path
-path_of p = record { leading = is_there p.leading_colon; segments = map (λ (s : PathSegment). s.ident) (values p.segments) }
+path_of p = record { leading = is_there p.leading_colon; segments = segments_of p.segments }
 
 -- ---- expressions: one node, by the trees of its operands
 

@@ -1,7 +1,8 @@
 //! What stands at the front of the tokens that are left.
 
-ghost use Rattle.std.specs.Prelude.{◌≡◌, drop, true, false, MatchOption};
+ghost use Rattle.std.specs.Prelude.{◌≡◌, ◌≤◌, drop, true, false, MatchOption};
 ghost use Rattle.syn_grammar.specs.Tokens as spec;
+ghost use Rattle.syn_tokens.specs.Tok.{weight};
 ghost use Rattle.syn_tokens.specs.View.{toks_of};
 
 use syn_tokens::buffer::ParseBuffer;
@@ -133,8 +134,10 @@ pub(crate) fn trailer_at(input: &ParseBuffer<'_>) -> bool
 }
 
 /// Takes `::`, if it stands first.
+#[tactic(auto, using(syn_tokens::proofs::Weights::drops))]
 pub(crate) fn path_sep(input: &mut ParseBuffer<'_>) -> Option<PathSep>
     ensures value { MatchOption result ((spec.path_sep_at input.old.rest ≡ false) × (input.new ≡ input.old)) (λ _. (spec.path_sep_at input.old.rest ≡ true) × (input.new ≡ record input.old { rest = drop 2 input.old.rest })) }
+    ensures shrinks { weight input.new.rest ≤ weight input.old.rest }
 {
     if !path_sep_at(input) {
         return None;

@@ -1,8 +1,21 @@
 //! Paths (Rust Reference, "Paths in expressions").
 
+ghost use Rattle.std.specs.Prelude.{◌≡◌, ◌≤◌, ◌<◌, map, true, IfOk};
+ghost use Rattle.syn_grammar.specs.Read as spec;
+ghost use Rattle.syn_grammar.specs.Words.{is_segment};
+ghost use Rattle.syn_grammar.specs.Tree.{is_sole, is_word_alone};
+ghost use Rattle.syn_tokens.specs.Tok.{weight};
+ghost use Rattle.syn_expr.specs.View.{path_of, segments_of};
+ghost use Rattle.syn_expr.specs.Reads.{Reads, ReadsSegment};
+
+use crate::front::path_sep;
 use crate::punctuated::Punctuated;
+use syn_lexer::reserved::is_reserved_word;
+use syn_tokens::buffer::ParseBuffer;
+use syn_tokens::copy::copy_ident;
+use syn_tokens::error::{ErrorKind, Expected, Result, Wanted};
 use syn_tokens::token::PathSep;
-use syn_tokens::tree::Ident;
+use syn_tokens::tree::{Ident, TokenTree};
 
 /// A path: segments with `::` between, and perhaps one in front.
 #[derive(Drop)]
@@ -27,4 +40,92 @@ pub struct PathSegment {
 pub enum PathArguments {
     /// None.
     None,
+}
+
+/// A word that may be a segment: an identifier, or one of five reserved words.
+#[tactic(auto, unfolding(syn_grammar::specs::Words::is_segment))]
+fn is_segment(word: &str) -> bool
+    ensures { result ≡ is_segment word.now }
+{
+    !is_reserved_word(word)
+        || word == "Self"
+        || word == "self"
+        || word == "super"
+        || word == "crate"
+        || word == "try"
+}
+
+/// Reads a segment.
+#[tactic(auto, using(syn_tokens::proofs::Weights::firsts))]
+fn segment(input: &mut ParseBuffer<'_>) -> Result<PathSegment>
+    ensures value { ReadsSegment input.old.rest result input.new.rest }
+    ensures noted { input.new.noted ≡ input.old.noted }
+    ensures shrinks { weight input.new.rest ≤ weight input.old.rest }
+    ensures smaller { IfOk result (λ s. weight input.new.rest < weight input.old.rest) }
+{
+    match input.first() {
+        Some(TokenTree::Ident(word)) if is_segment(word.as_str()) => {
+            let ident = copy_ident(input.alloc(), word)?;
+            input.skip(1);
+            Ok(PathSegment {
+                ident,
+                arguments: PathArguments::None,
+            })
+        }
+        _ => Err(input.error(ErrorKind::ExpectedToken(Expected::One(Wanted::Identifier)))),
+    }
+}
+
+/// Reads segments, as long as `::` goes on them.
+#[tactic(auto, using(crate::proofs::Paths::segments))]
+fn segments(input: &mut ParseBuffer<'_>) -> Result<Punctuated<PathSegment, PathSep>>
+    ensures value { Reads segments_of (spec.segments_at input.old.rest) result input.new.rest }
+    ensures noted { input.new.noted ≡ input.old.noted }
+    ensures shrinks { weight input.new.rest ≤ weight input.old.rest }
+{
+    let mut inner = Vec::new(input.alloc());
+    'segments: loop {
+        let word = segment(input)?;
+        let Some(sep) = path_sep(input) else {
+            let last = Some(Box::new(input.alloc(), word)?);
+            return Ok(Punctuated { inner, last });
+        };
+        inner.push((word, sep))?;
+    }
+}
+
+impl Path {
+    /// Reads a path without arguments: as many segments as there are.
+    #[tactic(auto, unfolding(syn_grammar::specs::Read::path_at, crate::specs::View::path_of))]
+    pub(crate) fn read(input: &mut ParseBuffer<'_>) -> Result<Path>
+        ensures value { Reads path_of (spec.path_at input.old.rest) result input.new.rest }
+        ensures noted { input.new.noted ≡ input.old.noted }
+        ensures shrinks { weight input.new.rest ≤ weight input.old.rest }
+    {
+        let leading_colon = path_sep(input);
+        let segments = segments(input)?;
+        Ok(Path {
+            leading_colon,
+            segments,
+        })
+    }
+
+    /// Whether it is this word alone.
+    #[tactic(auto, unfolding(crate::specs::View::path_of))]
+    pub(crate) fn is_word(&self, word: &str) -> bool
+        ensures { result ≡ is_word_alone word.now (path_of self.now) }
+    {
+        self.leading_colon.is_none() && is_sole(&self.segments, word)
+    }
+}
+
+/// Whether this word is the only segment.
+fn is_sole(segments: &Punctuated<PathSegment, PathSep>, word: &str) -> bool
+    ensures { result ≡ is_sole word.now (segments_of segments.now) }
+{
+    match (segments.inner.as_slice(), &segments.last) {
+        ([], Some(segment)) => segment.ident.as_str() == word,
+        ([(segment, _)], None) => segment.ident.as_str() == word,
+        _ => false,
+    }
 }

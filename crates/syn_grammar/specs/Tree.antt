@@ -192,14 +192,14 @@ size (adorned a more t) = size t
 
 -- The text of a number is that of a float where, behind decimal digits, a dot or an exponent stands (Rust Reference,
 -- "Floating-point literals"); a number with the prefix `0x`, `0o` or `0b` is an integer.
-abbrev is_digit : ℕ → Bool
+abbrev pub is_digit : ℕ → Bool
 is_digit c = is_ascii_digit c || c == 95
 
-abbrev is_radix : List ℕ → Bool
+abbrev pub is_radix : List ℕ → Bool
 is_radix (z ∷ c ∷ more) = z == 48 && (c == 120 || (c == 111 || c == 98))
 is_radix text = false
 
-abbrev starts_fraction : List ℕ → Bool
+abbrev pub starts_fraction : List ℕ → Bool
 starts_fraction [] = false
 starts_fraction (c ∷ more) = c == 46 || (c == 101 || c == 69)
 
@@ -230,7 +230,7 @@ abbrev pub all_segments : List (List ℕ) → Bool
 all_segments [] = true
 all_segments (s ∷ more) = is_segment s && all_segments more
 
-abbrev is_sole : List ℕ → List (List ℕ) → Bool
+abbrev pub is_sole : List ℕ → List (List ℕ) → Bool
 is_sole w (s ∷ []) = bytes_eq s w
 is_sole w _ = false
 
