@@ -1,13 +1,14 @@
 -- White space and comments (Rust Reference, "Whitespace" and "Comments").
 use Rattle.std.specs.Prelude.{ℕ, ◌+◌, ◌-◌, Bool, true, false, not, ◌&&◌, ◌||◌, if◌then◌else◌, ◌==◌, nat_le, [], ◌∷◌, drop, Option, Some, None, Ok, Err, codes}
 use Rattle.std.specs.List.{prefix_len}
-use Rattle.syn_lexer.specs.Text.{Text, Reading, begins}
+use Rattle.syn_lexer.specs.Text.{Text, Reading, line_feed, begins}
 use Rattle.syn_lexer.specs.declared.lexeme.LexemeKind.TheVariants.{Blank}
 use Rattle.syn_lexer.specs.declared.error.LexError.TheVariants.{DocComment, UnterminatedComment}
 
 -- U+0009 to U+000D, the space, and U+0085, U+200E, U+200F, U+2028, U+2029
 abbrev pub is_white_space : ℕ → Bool
-is_white_space c = (nat_le 9 c && nat_le c 13) || c == 32 || c == 0x85 || c == 0x200e || c == 0x200f || c == 0x2028 || c == 0x2029
+is_white_space c =
+    (nat_le 9 c && nat_le c 13) || c == 32 || c == 0x85 || c == 0x200e || c == 0x200f || c == 0x2028 || c == 0x2029
 
 abbrev pub white_space_len : Text → ℕ
 white_space_len z = 1 + prefix_len is_white_space (drop 1 z)
@@ -24,7 +25,7 @@ begins_comment z = begins_line_comment z || begins_block_comment z
 -- ---- line comments
 
 abbrev pub is_within_line : ℕ → Bool
-is_within_line c = not (c == 10)
+is_within_line c = not (c == line_feed)
 
 -- `//!`, and `///` but not `////`
 abbrev pub is_line_doc : Text → Bool

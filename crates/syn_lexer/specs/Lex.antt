@@ -1,7 +1,8 @@
 -- The longest lexeme at the front of a text (Rust Reference, "Lexical structure").
-use Rattle.std.specs.Prelude.{ℕ, Bool, not, ◌&&◌, ◌||◌, if◌then◌else◌, ◌==◌, [], ◌∷◌, drop, slice_index, Option, Some, None, Ok, Err}
+use Rattle.std.specs.Prelude.{ℕ, Bool, not, ◌&&◌, if◌then◌else◌, ◌==◌, [], ◌∷◌, drop, slice_index, Option, Some, None, Ok, Err, codes}
 use Rattle.std.specs.Char.{is_ascii_digit}
-use Rattle.syn_lexer.specs.Text.{Text, Reading}
+use Rattle.std.specs.List.{list_any}
+use Rattle.syn_lexer.specs.Text.{Text, Reading, single_quote}
 use Rattle.syn_lexer.specs.Blanks.{is_white_space, white_space_len, begins_comment, begins_line_comment, line_comment, begins_block_comment, block_comment}
 use Rattle.syn_lexer.specs.Words.{starts_word, word_len, begins_raw_word, raw_word}
 use Rattle.syn_lexer.specs.Numbers.{number}
@@ -13,11 +14,9 @@ use Rattle.syn_lexer.specs.declared.lexeme.LexemeKind.{LexemeKind}
 use Rattle.syn_lexer.specs.declared.lexeme.LexemeKind.TheVariants.{Blank, Ident, Punct, Open, Close}
 use Rattle.syn_lexer.specs.declared.error.LexError.TheVariants.{UnknownCharacter}
 
--- ~ ! @ # $ % ^ & * - = + | ; : , < . > / ? ' (Rust Reference, "Punctuation")
+-- the characters of punctuation (Rust Reference, "Punctuation"), and the `'` of a lifetime
 abbrev pub is_punct : ℕ → Bool
-is_punct c =
-    c == 126 || c == 33 || c == 64 || c == 35 || c == 36 || c == 37 || c == 94 || c == 38 || c == 42 || c == 45 || c == 61
-    || c == 43 || c == 124 || c == 59 || c == 58 || c == 44 || c == 60 || c == 46 || c == 62 || c == 47 || c == 63 || c == 39
+is_punct c = list_any (λ p. c == p) (codes "~!@#$%^&*-=+|;:,<.>/?'")
 
 -- of a punct, by what follows at once: a punct that begins no comment makes it joint
 abbrev pub spacing_before : Text → Spacing
@@ -27,6 +26,7 @@ spacing_before z = if is_punct (slice_index z 0) && not (begins_comment z) then 
 unfoldable pub single_kind : Text → Option LexemeKind
 single_kind z =
     let c = slice_index z 0 in
+    -- ( ) [ ] { }
     if c == 40 then Some (Open Parenthesis) else (if c == 41 then Some (Close Parenthesis)
     else (if c == 91 then Some (Open Bracket) else (if c == 93 then Some (Close Bracket)
     else (if c == 123 then Some (Open Brace) else (if c == 125 then Some (Close Brace)
@@ -48,7 +48,7 @@ token z =
     else (if begins_raw_word z then raw_word z
     else (if starts_word z then Ok (Ident, word_len z)
     else (if is_ascii_digit (slice_index z 0) then number z
-    else (if slice_index z 0 == 39 then character_or_lifetime z else single z))))))
+    else (if slice_index z 0 == single_quote then character_or_lifetime z else single z))))))
 
 -- what stands at the front of a text that has characters
 unfoldable pub reading : Text → Reading

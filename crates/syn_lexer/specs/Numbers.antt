@@ -2,27 +2,28 @@
 use Rattle.std.specs.Prelude.{ℕ, ◌+◌, Bool, not, ◌&&◌, ◌||◌, if◌then◌else◌, ◌==◌, nat_le, drop, slice_index, Ok, Err, codes}
 use Rattle.std.specs.Char.{is_ascii_digit, is_ascii_hexdigit}
 use Rattle.std.specs.List.{prefix_len}
-use Rattle.syn_lexer.specs.Text.{Text, Reading, begins}
+use Rattle.syn_lexer.specs.Text.{Text, Reading, underscore, begins}
 use Rattle.syn_lexer.specs.Words.{starts_word, literal_to}
 use Rattle.syn_lexer.specs.declared.error.LexError.TheVariants.{MalformedLiteral}
 use Rattle.syn_lexer.specs.declared.number.Base.{Base}
 use Rattle.syn_lexer.specs.declared.number.Base.TheVariants.{Binary, Octal, Decimal, Hexadecimal}
 
 abbrev pub is_digit : Base → ℕ → Bool
+-- `0` and `1`, and `0` to `7`
 is_digit Binary c = c == 48 || c == 49
 is_digit Octal c = nat_le 48 c && nat_le c 55
 is_digit Decimal c = is_ascii_digit c
 is_digit Hexadecimal c = is_ascii_hexdigit c
 
 abbrev pub is_digit_or_underscore : Base → ℕ → Bool
-is_digit_or_underscore base c = is_digit base c || c == 95
+is_digit_or_underscore base c = is_digit base c || c == underscore
 
 -- digits of the base, and `_`
 abbrev pub digits_len : Base → Text → ℕ
 digits_len base z = prefix_len (is_digit_or_underscore base) z
 
 abbrev pub is_underscore : ℕ → Bool
-is_underscore c = c == 95
+is_underscore c = c == underscore
 
 -- there is at least one digit: the first character that is no `_`
 abbrev pub has_digit : Base → Text → Bool
@@ -34,14 +35,16 @@ has_digit base z = is_digit base (slice_index z (prefix_len is_underscore z))
 abbrev pub based_number : Base → Text → Reading
 based_number base z =
     let end = 2 + digits_len base (drop 2 z) in
-    if has_digit base (drop 2 z) && not (is_ascii_digit (slice_index z end)) then Ok (literal_to z end) else Err MalformedLiteral
+    if has_digit base (drop 2 z) && not (is_ascii_digit (slice_index z end)) then Ok (literal_to z end)
+    else Err MalformedLiteral
 
 -- ---- decimal numbers
 
 -- a `.` that is not followed by `.`, `_` or a character with XID_Start, and then any digits
 abbrev pub fraction_len : Text → ℕ
 fraction_len z =
-    if begins (codes ".") z && not (begins (codes ".") (drop 1 z) || starts_word (drop 1 z)) then 1 + digits_len Decimal (drop 1 z) else 0
+    if begins (codes ".") z && not (begins (codes ".") (drop 1 z) || starts_word (drop 1 z)) then 1 + digits_len Decimal (drop 1 z)
+    else 0
 
 -- `e` and `E` always begin an exponent
 abbrev pub begins_exponent : Text → Bool

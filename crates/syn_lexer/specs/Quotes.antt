@@ -3,7 +3,7 @@
 -- labels"). What an escape means is not looked at.
 use Rattle.std.specs.Prelude.{ℕ, ◌+◌, Bool, true, false, not, ◌&&◌, ◌||◌, if◌then◌else◌, ◌==◌, nat_le, [], ◌∷◌, drop, slice_index, Option, Some, None, Ok, Err, codes}
 use Rattle.std.specs.List.{prefix_len}
-use Rattle.syn_lexer.specs.Text.{Text, Reading, begins}
+use Rattle.syn_lexer.specs.Text.{Text, Reading, line_feed, double_quote, single_quote, backslash, begins}
 use Rattle.syn_lexer.specs.Words.{starts_word, begins_raw_word, literal_to}
 use Rattle.syn_lexer.specs.declared.lexeme.Spacing.TheVariants.{Joint}
 use Rattle.syn_lexer.specs.declared.lexeme.LexemeKind.TheVariants.{Punct}
@@ -21,7 +21,7 @@ closed z opening (Some n) = Ok (literal_to z (opening + n))
 abbrev pub string_rest : Bool → ℕ → Text → Option ℕ
 string_rest is_escaped n [] = None
 string_rest true n (c ∷ z) = string_rest false (n + 1) z
-string_rest false n (c ∷ z) = if c == 34 then Some (n + 1) else string_rest (c == 92) (n + 1) z
+string_rest false n (c ∷ z) = if c == double_quote then Some (n + 1) else string_rest (c == backslash) (n + 1) z
 
 -- ---- raw strings
 
@@ -35,7 +35,8 @@ hashes_len z = prefix_len is_hash z
 -- how many characters there are up to and with the first `"` that has so many `#` behind it, counted on from `n`
 abbrev pub raw_string_rest : ℕ → ℕ → Text → Option ℕ
 raw_string_rest hashes n [] = None
-raw_string_rest hashes n (c ∷ z) = if c == 34 && nat_le hashes (hashes_len z) then Some (n + 1 + hashes) else raw_string_rest hashes (n + 1) z
+raw_string_rest hashes n (c ∷ z) =
+    if c == double_quote && nat_le hashes (hashes_len z) then Some (n + 1 + hashes) else raw_string_rest hashes (n + 1) z
 
 -- ---- the prefixes
 
@@ -67,10 +68,10 @@ string_opening_len z = if begins (codes "\"") z then 1 else 2
 abbrev pub string : Text → Reading
 string z = let opening = string_opening_len z in closed z opening (string_rest false 0 (drop opening z))
 
--- the prefix, the `#` and the `"`
 abbrev pub raw_string_hashes : Text → ℕ
 raw_string_hashes z = hashes_len (drop (raw_prefix_len z) z)
 
+-- the prefix, the `#` and the `"`
 abbrev pub raw_string_opening_len : Text → ℕ
 raw_string_opening_len z = raw_prefix_len z + raw_string_hashes z + 1
 
@@ -83,7 +84,7 @@ raw_string z =
 
 -- neither `'` nor a line feed
 abbrev pub is_within_character : ℕ → Bool
-is_within_character c = not (c == 39 || c == 10)
+is_within_character c = not (c == single_quote || c == line_feed)
 
 -- a backslash, one character, and then those other than `'` and the line feed; or one character
 abbrev pub character_len : Text → ℕ
@@ -91,7 +92,7 @@ character_len z = if begins (codes "\\") z then 2 + prefix_len is_within_charact
 
 -- a character that is neither `'` nor a line feed, and in the end the closing `'`
 abbrev pub is_character : Text → Bool
-is_character z = is_within_character (slice_index z 0) && slice_index z (character_len z) == 39
+is_character z = is_within_character (slice_index z 0) && slice_index z (character_len z) == single_quote
 
 -- how many characters there are up to and with the closing `'`
 abbrev pub character_rest : Text → Option ℕ
@@ -110,4 +111,4 @@ begins_plain_word z = starts_word z && not (begins_quoted z || begins_raw_word z
 abbrev pub character_or_lifetime : Text → Reading
 character_or_lifetime z =
     if is_character (drop 1 z) || begins (codes "\\") (drop 1 z) then closed z 1 (character_rest (drop 1 z))
-    else (if begins_plain_word (drop 1 z) then Ok (Punct 39 Joint, 1) else Err MalformedLifetime)
+    else (if begins_plain_word (drop 1 z) then Ok (Punct single_quote Joint, 1) else Err MalformedLifetime)

@@ -22,6 +22,25 @@ reading_of (Err refusal) = Err refusal.error
 abbrev pub IsWithin : Text → Result Lexeme Refusal → Type 0
 IsWithin z r = MatchResult r (λ lexeme. (1 ≤ lexeme.len) × (lexeme.len ≤ length z)) (λ refusal. (1 ≤ refusal.len) × (refusal.len ≤ length z))
 
+-- ---- characters by their names
+
+abbrev pub line_feed : ℕ
+line_feed = 10
+
+abbrev pub double_quote : ℕ
+double_quote = 34
+
+abbrev pub single_quote : ℕ
+single_quote = 39
+
+abbrev pub backslash : ℕ
+backslash = 92
+
+abbrev pub underscore : ℕ
+underscore = 95
+
+-- ---- fronts
+
 -- the text begins with this mark
 abbrev pub begins : Text → Text → Bool
 begins mark z = starts_with nat_eq z mark

@@ -3,14 +3,14 @@ use Rattle.std.specs.Prelude.{ℕ, ◌+◌, Bool, false, ◌&&◌, ◌||◌, if�
 use Rattle.std.specs.List.{prefix_len, list_any}
 use Rattle.std.specs.Str.{bytes_eq}
 use Rattle.unicode_ident.specs.Ident.{is_xid_start, is_xid_continue}
-use Rattle.syn_lexer.specs.Text.{Text, Reading, begins}
+use Rattle.syn_lexer.specs.Text.{Text, Reading, underscore, begins}
 use Rattle.syn_lexer.specs.declared.lexeme.LexemeKind.{LexemeKind}
 use Rattle.syn_lexer.specs.declared.lexeme.LexemeKind.TheVariants.{Ident, Literal}
 use Rattle.syn_lexer.specs.declared.error.LexError.TheVariants.{ReservedRawIdentifier}
 
 -- `_` or a character with the Unicode property XID_Start
 abbrev pub is_word_start : ℕ → Bool
-is_word_start c = c == 95 || is_xid_start c
+is_word_start c = c == underscore || is_xid_start c
 
 abbrev pub starts_word : Text → Bool
 starts_word [] = false
@@ -34,7 +34,8 @@ begins_raw_word z = begins (codes "r#") z && starts_word (drop 2 z)
 
 -- `r#_`, `r#self`, `r#Self`, `r#super` and `r#crate` are no raw identifiers
 abbrev pub is_reserved_raw : Text → Bool
-is_reserved_raw word = list_any (bytes_eq word) (codes "_" ∷ codes "self" ∷ codes "Self" ∷ codes "super" ∷ codes "crate" ∷ [])
+is_reserved_raw word =
+    list_any (bytes_eq word) (codes "_" ∷ codes "self" ∷ codes "Self" ∷ codes "super" ∷ codes "crate" ∷ [])
 
 -- a raw identifier's text keeps `r#`; five words are reserved there
 abbrev pub raw_word : Text → Reading
