@@ -1,7 +1,7 @@
 -- The loop over the attributes before an operand.
-use Rattle.std.proofs.Common.{◌≡◌, ℕ, ◌+◌, ◌<◌, zero, suc, List, [], ◌∷◌, ◌++◌, drop, length, Option, Some, None, refl, ap, sym, ◌∙◌, append_assoc, arith}
+use Rattle.std.proofs.Common.{◌≡◌, List, [], ◌∷◌, ◌++◌, Some, None, refl, ap, sym, ◌∙◌, append_assoc}
 use Rattle.std.proofs.lemmas.List.{append-nil}
-use Rattle.syn_tokens.specs.Tok.{Tok, inside, weight}
+use Rattle.syn_tokens.specs.Tok.{Tok}
 use Rattle.syn_grammar.specs.Tree.{Attr}
 use Rattle.syn_grammar.specs.Stands.{attrs_at}
 use Rattle.syn_grammar.specs.Read.{attr_at}

@@ -1,3 +1,4 @@
 pub mod Binds
+pub mod Nodes
 pub mod Reads
 pub mod View

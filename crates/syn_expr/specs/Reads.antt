@@ -1,20 +1,25 @@
 -- What a reader ensures.
-use Rattle.std.specs.Prelude.{◌≡◌, ◌≢◌, ℕ, true, List, ◌∷◌, drop, Option, Some, None, Result, Ok, Err}
+use Rattle.std.specs.Prelude.{◌≡◌, ◌≢◌, ℕ, ◌≤◌, ◌<◌, true, List, ◌∷◌, drop, Option, Some, None, Result, Ok, Err}
 use Rattle.syn_tokens.specs.declared.error.Error.{Error}
 use Rattle.syn_tokens.specs.declared.error.ErrorKind.TheVariants.{OutOfMemory}
-use Rattle.syn_tokens.specs.Tok.{Tok, ident}
+use Rattle.syn_tokens.specs.Tok.{Tok, ident, weight}
+use Rattle.syn_tokens.specs.Input.{Input}
+use Rattle.std.specs.declared.boxed.Box.{Box}
+use denote.Ref.{MutBor}
+use Rattle.syn_grammar.specs.declared.kinds.Place.{Place}
+use Rattle.syn_expr.specs.declared.expr.Expr.{Expr}
 use Rattle.std.specs.declared.vec.Vec.{Vec}
 use Rattle.std.specs.declared.alloc.Global.{Global}
-use Rattle.syn_grammar.specs.Tree.{Attr}
+use Rattle.syn_grammar.specs.Tree.{Attr, Tree}
 use Rattle.syn_expr.specs.declared.attr.Attribute.{Attribute}
 use Rattle.syn_grammar.specs.Words.{is_segment}
-use Rattle.syn_grammar.specs.Read.{Outcome, segments_at}
+use Rattle.syn_grammar.specs.Read.{Outcome, segments_at, expr}
 use Rattle.syn_grammar.specs.Op.{infix_at, prefix_at}
 use Rattle.syn_grammar.specs.declared.kinds.Infix.TheVariants as inf
 use Rattle.syn_expr.specs.declared.op.BinOp.{BinOp}
 use Rattle.syn_expr.specs.declared.op.UnOp.{UnOp}
 use Rattle.syn_expr.specs.declared.path.PathSegment.{PathSegment}
-use Rattle.syn_expr.specs.View.{attrs_of, bin_kind, un_kind}
+use Rattle.syn_expr.specs.View.{attrs_of, tree_of, bin_kind, un_kind}
 
 -- What was read, as it is seen, and what is behind it, unless memory runs out.
 abbrev pub Reads : {A B : Type 0} → (A → B) → Outcome B → Result A Error → List Tok → Type 0
@@ -38,3 +43,25 @@ SpellsBinOp l op rest = (count : ℕ) × (infix_at l ≡ Some (inf.Binary (bin_k
 -- the operator's punct stands first
 abbrev pub SpellsUnOp : List Tok → UnOp → List Tok → Type 0
 SpellsUnOp l op rest = (prefix_at l ≡ Some (un_kind op)) × (rest ≡ drop 1 l)
+
+-- ---- expressions
+
+-- a tree at a place, in its box
+abbrev pub ReadsTree : Outcome Tree → Result (Box Expr Global) Error → List Tok → Type 0
+ReadsTree outcome (Ok b) new = outcome ≡ Some (tree_of b.value, new)
+ReadsTree outcome (Err e) new = e.kind ≢ OutOfMemory → outcome ≡ None
+
+-- the tree of a whole list
+abbrev pub GivesTree : Option Tree → Result (Box Expr Global) Error → Type 0
+GivesTree outcome (Ok b) = outcome ≡ Some (tree_of b.value)
+GivesTree outcome (Err e) = e.kind ≢ OutOfMemory → outcome ≡ None
+
+-- a reader that may be called where less than a bound is left
+abbrev pub Callable : ℕ → (MutBor Input → Place → Type 0) → Type 0
+Callable bound pre = (old : MutBor Input) (p : Place) → weight old.now.rest < bound → pre old p
+
+-- a reader of the expressions inside
+pub record ReadsExpr (post : MutBor Input → Place → Result (Box Expr Global) Error → MutBor Input → Type 0) : Type 0 where
+  pub reads : (old new : MutBor Input) (p : Place) (r : Result (Box Expr Global) Error) → post old p r new → ReadsTree (expr p old.now.rest) r new.now.rest
+  pub noted : (old new : MutBor Input) (p : Place) (r : Result (Box Expr Global) Error) → post old p r new → new.now.noted ≡ old.now.noted
+  pub shrinks : (old new : MutBor Input) (p : Place) (r : Result (Box Expr Global) Error) → post old p r new → weight new.now.rest ≤ weight old.now.rest

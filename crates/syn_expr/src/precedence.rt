@@ -5,8 +5,9 @@ ghost use Rattle.syn_grammar.specs.Op as grammar;
 ghost use Rattle.syn_expr.specs.Binds as spec;
 ghost use Rattle.syn_expr.specs.View.{bin_kind, tree_of};
 
-use crate::attr::{AttrStyle, Attribute};
+use crate::attr::Attribute;
 use crate::expr::Expr;
+use crate::node::has_outer;
 use crate::op::BinOp;
 
 /// The levels of binding, loosest first.
@@ -99,14 +100,11 @@ impl Precedence {
 }
 
 /// The level of a node that is closed at both ends.
-#[tactic(auto, unfolding(crate::specs::View::attrs_of))]
 fn behind_attributes(attrs: &Vec<Attribute>) -> Precedence
     ensures { spec.level_of result ≡ spec.closed_level attrs.now }
 {
-    for attr in attrs {
-        if matches!(attr.style, AttrStyle::Outer) {
-            return Precedence::Prefix;
-        }
+    if has_outer(attrs) {
+        return Precedence::Prefix;
     }
     Precedence::Unambiguous
 }

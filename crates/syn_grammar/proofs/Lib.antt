@@ -20,6 +20,7 @@ pub mod Spares
 pub mod Spelled
 pub mod Stacks
 pub mod Tight
+pub mod Tails
 pub mod Turns
 pub mod Unique
 pub mod Weights
