@@ -1,7 +1,14 @@
 //! Literals (Rust Reference, "Literal expressions").
 
+ghost use Rattle.std.specs.Prelude.{◌≡◌, true, ◌++◌, [], ◌∷◌, OnOk, OnErr};
+ghost use Rattle.syn_lower.specs.Number.{number_printed};
+ghost use Rattle.syn_parts.specs.Text.{is_number};
+ghost use Rattle.syn_tokens.specs.Input.{IsFront};
+
+use syn_tokens::buffer::ToTokens;
+use syn_tokens::error::Result;
 use syn_tokens::token::Minus;
-use syn_tokens::tree::{Ident, Literal};
+use syn_tokens::tree::{Ident, Literal, TokenStream};
 
 /// A literal. Its kinds are made by readers alone.
 #[derive(Debug, Drop)]
@@ -59,6 +66,7 @@ pub struct LitChar {
 pub struct LitInt {
     minus_token: Option<Minus>,
     token: Literal,
+    ghost number: { is_number token ≡ true },
 }
 
 /// A floating-point literal. Where a sign was read with it, it prints as two tokens.
@@ -66,10 +74,139 @@ pub struct LitInt {
 pub struct LitFloat {
     minus_token: Option<Minus>,
     token: Literal,
+    ghost number: { is_number token ≡ true },
 }
 
 /// `true` or `false`.
 #[derive(Debug, Drop)]
 pub struct LitBool {
     word: Ident,
+}
+
+/// Prints a number, behind its sign.
+#[tactic(auto, using(crate::proofs::Fronts::fronts), unfolding(syn_tokens::specs::Sign::sign_text))]
+fn print_number(minus: &Option<Minus>, token: &Literal, tokens: &mut TokenStream) -> Result<()>
+    ensures ok { OnOk result (tokens.new ≡ tokens.old ++ number_printed minus.now token.now) }
+    ensures err { OnErr result (IsFront tokens.old tokens.new) }
+{
+    if let Some(minus) = minus {
+        minus.to_tokens(tokens)?;
+    }
+    token.to_tokens(tokens)
+}
+
+#[tactic(auto, unfolding(syn_parts::specs::Own::lit_own))]
+impl ToTokens for LitStr {
+    ghost use Rattle.syn_lower.specs.View.{lit_str_of};
+    ghost use Rattle.syn_parts.specs.Own.{lit_own};
+
+    ghost printed = { λ x. lit_own (lit_str_of x) [] };
+
+    fn to_tokens(&self, tokens: &mut TokenStream) -> Result<()> {
+        self.token.to_tokens(tokens)
+    }
+}
+
+#[tactic(auto, unfolding(syn_parts::specs::Own::lit_own))]
+impl ToTokens for LitByteStr {
+    ghost use Rattle.syn_parts.specs.declared.label.LitKind.TheVariants as kind;
+    ghost use Rattle.syn_parts.specs.Own.{lit_own};
+
+    ghost printed = { λ x. lit_own (record { kind = kind.ByteStr; text = x.token }) [] };
+
+    fn to_tokens(&self, tokens: &mut TokenStream) -> Result<()> {
+        self.token.to_tokens(tokens)
+    }
+}
+
+#[tactic(auto, unfolding(syn_parts::specs::Own::lit_own))]
+impl ToTokens for LitCStr {
+    ghost use Rattle.syn_parts.specs.declared.label.LitKind.TheVariants as kind;
+    ghost use Rattle.syn_parts.specs.Own.{lit_own};
+
+    ghost printed = { λ x. lit_own (record { kind = kind.CStr; text = x.token }) [] };
+
+    fn to_tokens(&self, tokens: &mut TokenStream) -> Result<()> {
+        self.token.to_tokens(tokens)
+    }
+}
+
+#[tactic(auto, unfolding(syn_parts::specs::Own::lit_own))]
+impl ToTokens for LitByte {
+    ghost use Rattle.syn_parts.specs.declared.label.LitKind.TheVariants as kind;
+    ghost use Rattle.syn_parts.specs.Own.{lit_own};
+
+    ghost printed = { λ x. lit_own (record { kind = kind.Byte; text = x.token }) [] };
+
+    fn to_tokens(&self, tokens: &mut TokenStream) -> Result<()> {
+        self.token.to_tokens(tokens)
+    }
+}
+
+#[tactic(auto, unfolding(syn_parts::specs::Own::lit_own))]
+impl ToTokens for LitChar {
+    ghost use Rattle.syn_parts.specs.declared.label.LitKind.TheVariants as kind;
+    ghost use Rattle.syn_parts.specs.Own.{lit_own};
+
+    ghost printed = { λ x. lit_own (record { kind = kind.Char; text = x.token }) [] };
+
+    fn to_tokens(&self, tokens: &mut TokenStream) -> Result<()> {
+        self.token.to_tokens(tokens)
+    }
+}
+
+#[tactic(auto, using(crate::proofs::Numbers::numbers))]
+impl ToTokens for LitInt {
+    ghost use Rattle.syn_lower.specs.View.{lit_int_of};
+    ghost use Rattle.syn_parts.specs.Own.{lit_own};
+
+    ghost printed = { λ x. lit_own (lit_int_of x) [] };
+
+    fn to_tokens(&self, tokens: &mut TokenStream) -> Result<()> {
+        print_number(&self.minus_token, &self.token, tokens)
+    }
+}
+
+#[tactic(auto, using(crate::proofs::Numbers::numbers))]
+impl ToTokens for LitFloat {
+    ghost use Rattle.syn_lower.specs.View.{lit_float_of};
+    ghost use Rattle.syn_parts.specs.Own.{lit_own};
+
+    ghost printed = { λ x. lit_own (lit_float_of x) [] };
+
+    fn to_tokens(&self, tokens: &mut TokenStream) -> Result<()> {
+        print_number(&self.minus_token, &self.token, tokens)
+    }
+}
+
+#[tactic(auto, unfolding(syn_parts::specs::Own::lit_own))]
+impl ToTokens for LitBool {
+    ghost use Rattle.syn_parts.specs.declared.label.LitKind.TheVariants as kind;
+    ghost use Rattle.syn_parts.specs.Own.{lit_own};
+
+    ghost printed = { λ x. lit_own (record { kind = kind.Bool; text = x.word }) [] };
+
+    fn to_tokens(&self, tokens: &mut TokenStream) -> Result<()> {
+        self.word.to_tokens(tokens)
+    }
+}
+
+impl ToTokens for Lit {
+    ghost use Rattle.syn_lower.specs.View.{lit_of};
+    ghost use Rattle.syn_parts.specs.Own.{lit_own};
+
+    ghost printed = { λ x. lit_own (lit_of x) [] };
+
+    fn to_tokens(&self, tokens: &mut TokenStream) -> Result<()> {
+        match self {
+            Lit::Str(x) => x.to_tokens(tokens),
+            Lit::ByteStr(x) => x.to_tokens(tokens),
+            Lit::CStr(x) => x.to_tokens(tokens),
+            Lit::Byte(x) => x.to_tokens(tokens),
+            Lit::Char(x) => x.to_tokens(tokens),
+            Lit::Int(x) => x.to_tokens(tokens),
+            Lit::Float(x) => x.to_tokens(tokens),
+            Lit::Bool(x) => x.to_tokens(tokens),
+        }
+    }
 }

@@ -1,0 +1,116 @@
+-- What is printed of the parts that hold others, by what is printed of these.
+use Rattle.std.specs.Prelude.{ℕ, Bool, true, false, List, [], ◌∷◌, ◌++◌, codes, Option, Some, None}
+use Rattle.std.specs.declared.boxed.Box.{Box}
+use Rattle.std.specs.declared.alloc.Global.{Global}
+use Rattle.syn_lexer.specs.declared.lexeme.Delimiter.{Delimiter}
+use Rattle.syn_lexer.specs.declared.lexeme.Delimiter.TheVariants as del
+use Rattle.syn_tokens.specs.Tok.{Tok, ident, group, inside}
+use Rattle.syn_parts.specs.Own.{alone, joint, lifetime_own, lifetimes_own, extern_own}
+use Rattle.syn_lower.specs.View.{lifetime_of, lifetimes_of, abi_of, delimiter_of}
+use Rattle.syn_lower.specs.declared.punctuated.Punctuated.{Punctuated}
+use Rattle.syn_lower.specs.declared.mac.MacroOf.{MacroOf}
+use Rattle.syn_lower.specs.declared.path.PathOf.{PathOf}
+use Rattle.syn_lower.specs.declared.path.PathSegmentOf.{PathSegmentOf}
+use Rattle.syn_lower.specs.declared.path.AngleBracketedGenericArgumentsOf.{AngleBracketedGenericArgumentsOf}
+use Rattle.syn_lower.specs.declared.path.AssocTypeOf.{AssocTypeOf}
+use Rattle.syn_lower.specs.declared.ty.TypeMacroOf.{TypeMacroOf}
+use Rattle.syn_lower.specs.declared.ty.TypeReferenceOf.{TypeReferenceOf}
+use Rattle.syn_lower.specs.declared.ty.TypePtrOf.{TypePtrOf}
+use Rattle.syn_lower.specs.declared.ty.PointerMutability.{PointerMutability}
+use Rattle.syn_lower.specs.declared.ty.PointerMutability.TheVariants as pointer
+use Rattle.syn_lower.specs.declared.ty.TypeSliceOf.{TypeSliceOf}
+use Rattle.syn_lower.specs.declared.ty.TypeArrayOf.{TypeArrayOf}
+use Rattle.syn_lower.specs.declared.ty.TypeTupleOf.{TypeTupleOf}
+use Rattle.syn_lower.specs.declared.ty.TypeParenOf.{TypeParenOf}
+use Rattle.syn_lower.specs.declared.ty.TypeImplTraitOf.{TypeImplTraitOf}
+use Rattle.syn_lower.specs.declared.ty.TypeTraitObjectOf.{TypeTraitObjectOf}
+use Rattle.syn_lower.specs.declared.ty.BareFnArgOf.{BareFnArgOf}
+use Rattle.syn_lower.specs.declared.ty.TraitBoundOf.{TraitBoundOf}
+
+unfoldable pub option_printed : {A : Type 0} → (A → List Tok) → Option A → List Tok
+option_printed f None = []
+option_printed f (Some x) = f x
+
+abbrev pub pairs_printed : {A P : Type 0} → (A → List Tok) → (P → List Tok) → List (A × P) → List Tok
+pairs_printed f g [] = []
+pairs_printed f g (q ∷ qs) = (f q.0 ++ g q.1) ++ pairs_printed f g qs
+
+-- values and puncts in turn
+unfoldable pub punctuated_printed : {A P : Type 0} → (A → List Tok) → (P → List Tok) → Punctuated A P → List Tok
+punctuated_printed f g p = pairs_printed f g p.inner.items ++ option_printed (λ b. f b.value) p.last
+
+abbrev pub comma : {S : Type 0} → S → List Tok
+comma s = alone 44 ∷ []
+
+abbrev pub colon2 : {S : Type 0} → S → List Tok
+colon2 s = joint 58 ∷ alone 58 ∷ []
+
+abbrev pub plus : {S : Type 0} → S → List Tok
+plus s = alone 43 ∷ []
+
+abbrev pub word : {S : Type 0} → List ℕ → S → List Tok
+word w s = ident w ∷ []
+
+abbrev pub grouped : Delimiter → List Tok → List Tok
+grouped d ts = group d (inside ts) ∷ []
+
+-- ---- paths
+
+abbrev pub segment_printed : {A : Type 0} → (A → List Tok) → PathSegmentOf A → List Tok
+segment_printed f x = ident x.ident ∷ f x.arguments
+
+abbrev pub path_printed : {A : Type 0} → (A → List Tok) → PathOf A → List Tok
+path_printed f x = option_printed colon2 x.leading_colon ++ punctuated_printed (segment_printed f) colon2 x.segments
+
+abbrev pub angle_printed : {G : Type 0} → (G → List Tok) → AngleBracketedGenericArgumentsOf G → List Tok
+angle_printed f x = option_printed colon2 x.colon2_token ++ alone 60 ∷ (punctuated_printed f comma x.args ++ alone 62 ∷ [])
+
+abbrev pub assoc_printed : {T : Type 0} → (T → List Tok) → AssocTypeOf T → List Tok
+assoc_printed f x = ident x.ident ∷ alone 61 ∷ f x.ty
+
+abbrev pub macro_printed : {A : Type 0} → (A → List Tok) → MacroOf A → List Tok
+macro_printed f x = path_printed f x.path ++ alone 33 ∷ grouped (delimiter_of x.delimiter) x.tokens
+
+-- ---- types
+
+abbrev pub reference_printed : {T : Type 0} → (T → List Tok) → TypeReferenceOf T → List Tok
+reference_printed f x =
+    alone 38 ∷ (option_printed (λ a. lifetime_own (lifetime_of a) []) x.lifetime ++ (option_printed (word (codes "mut")) x.mutability ++ f x.elem.value))
+
+abbrev pub mutability_printed : PointerMutability → List Tok
+mutability_printed (pointer.Const c) = ident (codes "const") ∷ []
+mutability_printed (pointer.Mut m) = ident (codes "mut") ∷ []
+
+abbrev pub ptr_printed : {T : Type 0} → (T → List Tok) → TypePtrOf T → List Tok
+ptr_printed f x = alone 42 ∷ (mutability_printed x.mutability ++ f x.elem.value)
+
+abbrev pub slice_printed : {T : Type 0} → (T → List Tok) → TypeSliceOf T → List Tok
+slice_printed f x = grouped del.Bracket (f x.elem.value)
+
+abbrev pub array_printed : {T : Type 0} → (T → List Tok) → TypeArrayOf T → List Tok
+array_printed f x = grouped del.Bracket (f x.elem.value ++ alone 59 ∷ x.len)
+
+abbrev pub tuple_printed : {T : Type 0} → (T → List Tok) → TypeTupleOf T → List Tok
+tuple_printed f x = grouped del.Parenthesis (punctuated_printed f comma x.elems)
+
+abbrev pub paren_printed : {T : Type 0} → (T → List Tok) → TypeParenOf T → List Tok
+paren_printed f x = grouped del.Parenthesis (f x.elem.value)
+
+abbrev pub impl_printed : {B : Type 0} → (B → List Tok) → TypeImplTraitOf B → List Tok
+impl_printed f x = ident (codes "impl") ∷ punctuated_printed f plus x.bounds
+
+abbrev pub object_printed : {B : Type 0} → (B → List Tok) → TypeTraitObjectOf B → List Tok
+object_printed f x = ident (codes "dyn") ∷ punctuated_printed f plus x.bounds
+
+abbrev pub arg_printed : {T : Type 0} → (T → List Tok) → BareFnArgOf T → List Tok
+arg_printed f x = option_printed (λ n. ident n.0 ∷ alone 58 ∷ []) x.name ++ f x.ty
+
+abbrev pub trait_printed : {A : Type 0} → (A → List Tok) → TraitBoundOf A → List Tok
+trait_printed f x =
+    option_printed (λ q. alone 63 ∷ []) x.maybe ++ (option_printed (λ l. lifetimes_own (lifetimes_of l) []) x.lifetimes ++ path_printed f x.path)
+
+-- ---- attributes
+
+abbrev pub bang_printed : Bool → List Tok
+bang_printed true = alone 33 ∷ []
+bang_printed false = []
