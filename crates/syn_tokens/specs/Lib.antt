@@ -11,3 +11,4 @@ pub mod Leaf
 pub mod Text
 pub mod Lex
 pub mod Nest
+pub mod Closing

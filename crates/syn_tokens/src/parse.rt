@@ -63,14 +63,12 @@ pub fn parse_any_word(input: &mut ParseBuffer<'_>) -> Result<Ident>
     ensures after { IsAfter input.old input.new }
     ensures moves { IfOk result (λ v. 1 + weight input.new.rest ≤ weight input.old.rest) }
 {
-    match input.first() {
-        Some(TokenTree::Ident(ident)) => {
-            let ident = copy_ident(input.alloc(), ident)?;
-            input.skip(1);
-            Ok(ident)
-        }
-        _ => Err(input.error(ErrorKind::ExpectedToken(Expected::One(Wanted::Identifier)))),
-    }
+    let Some(TokenTree::Ident(ident)) = input.first() else {
+        return Err(input.error(ErrorKind::ExpectedToken(Expected::One(Wanted::Identifier))));
+    };
+    let ident = copy_ident(input.alloc(), ident)?;
+    input.skip(1);
+    Ok(ident)
 }
 
 impl Token for Literal {

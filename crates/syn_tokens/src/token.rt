@@ -541,6 +541,17 @@ impl ToTokens for Underscore {
     }
 }
 
+/// The group of some tokens.
+fn enclosed(delimiter: Delimiter, stream: TokenStream, span: Span) -> TokenTree
+    ensures { tok_of result ≡ tok.group delimiter (tok.inside stream) }
+{
+    TokenTree::Group(tree::Group {
+        delimiter,
+        stream,
+        span,
+    })
+}
+
 /// Whether a group with this delimiter stands first.
 #[tactic(auto, unfolding(crate::specs::Front::group_at))]
 fn begins_group(delimiter: Delimiter, rest: &[TokenTree]) -> bool
@@ -565,11 +576,7 @@ impl Paren {
     pub fn enclose(self, stream: TokenStream) -> TokenTree
         ensures { tok_of result ≡ tok.group Delimiter.Parenthesis (tok.inside stream) }
     {
-        TokenTree::Group(tree::Group {
-            delimiter: Delimiter::Parenthesis,
-            stream,
-            span: self.span,
-        })
+        enclosed(Delimiter::Parenthesis, stream, self.span)
     }
 }
 
@@ -586,11 +593,7 @@ impl Brace {
     pub fn enclose(self, stream: TokenStream) -> TokenTree
         ensures { tok_of result ≡ tok.group Delimiter.Brace (tok.inside stream) }
     {
-        TokenTree::Group(tree::Group {
-            delimiter: Delimiter::Brace,
-            stream,
-            span: self.span,
-        })
+        enclosed(Delimiter::Brace, stream, self.span)
     }
 }
 
@@ -607,11 +610,7 @@ impl Bracket {
     pub fn enclose(self, stream: TokenStream) -> TokenTree
         ensures { tok_of result ≡ tok.group Delimiter.Bracket (tok.inside stream) }
     {
-        TokenTree::Group(tree::Group {
-            delimiter: Delimiter::Bracket,
-            stream,
-            span: self.span,
-        })
+        enclosed(Delimiter::Bracket, stream, self.span)
     }
 }
 
@@ -628,10 +627,6 @@ impl Group {
     pub fn enclose(self, stream: TokenStream) -> TokenTree
         ensures { tok_of result ≡ tok.group Delimiter.None (tok.inside stream) }
     {
-        TokenTree::Group(tree::Group {
-            delimiter: Delimiter::None,
-            stream,
-            span: self.span,
-        })
+        enclosed(Delimiter::None, stream, self.span)
     }
 }

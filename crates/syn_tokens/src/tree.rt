@@ -147,9 +147,13 @@ impl Model for TokenStream {
 }
 
 impl Group {
+    ghost use Rattle.syn_tokens.specs.Closing.{closing_span};
+
     /// Where the closing delimiter is: the last byte of the group, or all of a group that shows none or is shorter
     /// than two bytes.
-    pub fn closing(&self) -> Span {
+    pub fn closing(&self) -> Span
+        ensures { result ≡ closing_span self.now.delimiter self.now.span }
+    {
         let Span { lo, hi } = self.span;
         if self.delimiter == Delimiter::None || hi <= lo || hi - lo < 2 {
             self.span
