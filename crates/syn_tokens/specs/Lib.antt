@@ -12,3 +12,4 @@ pub mod Text
 pub mod Lex
 pub mod Nest
 pub mod Closing
+pub mod Floats

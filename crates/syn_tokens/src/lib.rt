@@ -4,6 +4,7 @@
 pub mod buffer;
 pub mod copy;
 pub mod error;
+pub mod floats;
 pub mod lex;
 mod make;
 pub mod parse;
