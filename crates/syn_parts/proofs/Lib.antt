@@ -4,3 +4,4 @@ pub mod Same
 pub mod Marks
 pub mod Views
 pub mod Parts
+pub mod ReadBack
