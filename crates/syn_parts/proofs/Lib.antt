@@ -5,3 +5,4 @@ pub mod Marks
 pub mod Views
 pub mod Parts
 pub mod ReadBack
+pub mod Behind

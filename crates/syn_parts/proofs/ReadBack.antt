@@ -16,7 +16,7 @@ use Rattle.syn_parts.specs.Tree.{LitTree, AttributeTree}
 use Rattle.syn_parts.specs.Form.{Form, Mark, Test, tail, more, listed, joined}
 use Rattle.syn_parts.specs.Mark.{sign_at, lifetime_at, comma}
 use Rattle.syn_parts.specs.Part.{name, segment_name, lifetime, lit, unsigned, attribute, outer_body, inner_body, kept, block, lit_if}
-use Rattle.syn_parts.specs.Own.{alone, lifetime_own, lit_own, number_own, attribute_own, block_own, separated, before_if, comma_before}
+use Rattle.syn_parts.specs.Own.{alone, lifetime_own, lit_own, number_own, attribute_own, block_own, is_end, elements_own, separated, before_if, comma_before}
 use Rattle.syn_parts.specs.Fits.{lit_fits, number_fits, has_kind}
 use Rattle.syn_parts.proofs.Same.{both_true, same_toks-refl, same_lit-refl, same_kind-true}
 use Rattle.syn_parts.proofs.Marks.{comma_present}
@@ -101,15 +101,7 @@ block_back ts r = rw (toks-inside ts, same_toks-refl ts) refl
 
 -- ---- lists
 
-abbrev pub is_end : {A : Type 0} → List A → Bool
-is_end [] = true
-is_end (x ∷ xs) = false
-
--- the tokens of a list, and those behind an element before the others
-abbrev pub elements_own : {A : Type 0} → (A → List Tok → List Tok) → (List Tok → List Tok) → List A → Bool → List Tok → List Tok
-elements_own own sep [] e r = r
-elements_own own sep (x ∷ xs) e r = own x (separated (is_end xs) e sep (elements_own own sep xs e r))
-
+-- what is behind an element before the others
 abbrev pub next_own : {A : Type 0} → (A → List Tok → List Tok) → (List Tok → List Tok) → List A → Bool → List Tok → List Tok
 next_own own sep xs e r = separated (is_end xs) e sep (elements_own own sep xs e r)
 

@@ -1,6 +1,6 @@
 -- Where a part is read back from its own tokens: `x_fits x` is what a part must be for it, and `x_stops x r` says that the
 -- tokens r behind it don't go on with it.
-use Rattle.std.specs.Prelude.{◌≡◌, ℕ, zero, suc, ◌-◌, Bool, true, false, not, ◌&&◌, ◌||◌, ◌==◌, nat_lt, if◌then◌else◌, List, [], ◌∷◌, Option, Some, None}
+use Rattle.std.specs.Prelude.{◌≡◌, ℕ, zero, suc, Bool, true, false, not, ◌&&◌, ◌||◌, ◌==◌, nat_lt, if◌then◌else◌, List, [], ◌∷◌, Option, Some, None}
 use Rattle.syn_lexer.specs.Keywords.{is_reserved_word}
 use Rattle.syn_lexer.specs.declared.lexeme.Delimiter.{Delimiter}
 use Rattle.syn_lexer.specs.declared.lexeme.Delimiter.TheVariants as del
@@ -15,7 +15,7 @@ use Rattle.syn_parts.specs.Same.{same_kind}
 use Rattle.syn_parts.specs.Form.{Test}
 use Rattle.syn_parts.specs.Mark.{colon2, arrow, plus, not_ne, round_at}
 use Rattle.syn_parts.specs.Part.{has_none, is_arg_name, angle_at, turbofish_at, MacroTree}
-use Rattle.syn_parts.specs.Own.{no_more_types, no_more_segments, no_more_generics, no_more_args, no_more_bounds, count_segments}
+use Rattle.syn_parts.specs.Own.{no_more_types, no_more_segments, no_more_generics, no_more_args, no_more_bounds, count_segments, one_less, colon2_before}
 use Rattle.syn_parts.specs.Tree as t
 use Rattle.syn_parts.specs.Tree.{LitTree, AttributeTree, LifetimesTree, TypeTree, Types, QSelfTree, Segments, PathTree, FnArgs, ArgumentsTree, Generics, GenericTree, ReturnTree, Bounds, BoundTree}
 
@@ -104,67 +104,6 @@ abbrev pub takes_round : PathStyle → Bool
 takes_round style.Type = true
 takes_round _ = false
 
-abbrev mutual
-  pub type_fits : Bool → TypeTree → Bool
-  type_fits b (t.path q l ss e) = not e && (not (no_more_segments ss) && (qself_fits q l (count_segments ss) && segments_fit 0 style.Type ss))
-  type_fits b (t.mac l ss e d ts) = not e && (not (no_more_segments ss) && (bare_segments ss && (segments_fit 0 style.Type ss && is_macro_delimiter d)))
-  type_fits b (t.reference a m x) = type_fits false x
-  type_fits b (t.ptr m x) = type_fits false x
-  type_fits b (t.slice x) = type_fits true x
-  type_fits b (t.array x n) = type_fits true x && not (is_empty n)
-  type_fits b (t.tuple xs e) = types_fit xs && (ends_well (no_more_types xs) e && not (is_one_type xs && not e))
-  type_fits b (t.paren x) = type_fits true x
-  type_fits b t.never = true
-  type_fits b t.infer = true
-  type_fits b (t.fn_ptr f u a xs e o) = fits_if lifetimes_fit f && (fits_if (fits_if is_string) a && (args_fit xs && (ends_well (no_more_args xs) e && return_fits o)))
-  type_fits b (t.impl_trait bs e) = not e && (not (no_more_bounds bs) && ((b || is_one_bound bs) && bounds_fit bs))
-  type_fits b (t.trait_object bs e) = not e && (not (no_more_bounds bs) && ((b || is_one_bound bs) && bounds_fit bs))
-
-  pub types_fit : Types → Bool
-  types_fit t.no_types = true
-  types_fit (t.more_types x xs) = type_fits true x && types_fit xs
-
-  pub qself_fits : QSelfTree → Bool → ℕ → Bool
-  qself_fits t.no_qself l k = true
-  qself_fits (t.qself x n a) l k = type_fits true x && position_fits a n l k
-
-  -- n segments stand inside, the others are of this style
-  pub segments_fit : ℕ → PathStyle → Segments → Bool
-  segments_fit n s t.no_segments = true
-  segments_fit n s (t.more_segments w a ss) =
-      is_segment w && ((not (stands_alone w) || has_none a) && (arguments_fit (style_at n s) a && segments_fit (n - 1) s ss))
-
-  pub arguments_fit : PathStyle → ArgumentsTree → Bool
-  arguments_fit s t.no_arguments = true
-  arguments_fit s (t.angle c gs e) = takes_angle s c && (generics_fit gs && ends_well (no_more_generics gs) e)
-  arguments_fit s (t.round xs e o) = takes_round s && (types_fit xs && (ends_well (no_more_types xs) e && return_fits o))
-
-  pub generics_fit : Generics → Bool
-  generics_fit t.no_generics = true
-  generics_fit (t.more_generics g gs) = generic_fits g && generics_fit gs
-
-  pub generic_fits : GenericTree → Bool
-  generic_fits (t.a_lifetime w) = true
-  generic_fits (t.a_const ts) = is_const ts
-  generic_fits (t.an_assoc w x) = not (is_reserved_word w) && type_fits true x
-  generic_fits (t.a_type x) = type_fits true x
-
-  pub return_fits : ReturnTree → Bool
-  return_fits t.default = true
-  return_fits (t.given x) = type_fits false x
-
-  pub args_fit : FnArgs → Bool
-  args_fit t.no_args = true
-  args_fit (t.more_args n x xs) = fits_if is_arg_name n && (type_fits true x && args_fit xs)
-
-  pub bounds_fit : Bounds → Bool
-  bounds_fit t.no_bounds = true
-  bounds_fit (t.more_bounds b bs) = bound_fits b && bounds_fit bs
-
-  pub bound_fits : BoundTree → Bool
-  bound_fits (t.outlives w) = true
-  bound_fits (t.a_trait q f l ss e) = not e && (not (no_more_segments ss) && (fits_if lifetimes_fit f && segments_fit 0 style.Type ss))
-
 -- ---- what is behind a part
 
 -- what a segment without arguments would go on with
@@ -210,6 +149,76 @@ abbrev mutual
   pub bound_stops : BoundTree → Test
   bound_stops (t.outlives w) r = true
   bound_stops (t.a_trait q f l ss e) r = segments_stop style.Type ss r && not (colon2.at r)
+
+-- Where another segment follows behind `::`, this one doesn't go on there: an output that ends in a path would.
+abbrev pub goes_over : ℕ → PathStyle → Text → ArgumentsTree → Segments → Bool
+goes_over n s w a t.no_segments = true
+goes_over zero s w a (t.more_segments v c ss) = arguments_stop s w a (colon2_before (ident v ∷ []))
+goes_over (suc zero) s w a (t.more_segments v c ss) = true
+goes_over (suc (suc n)) s w a (t.more_segments v c ss) = arguments_stop s w a (colon2_before (ident v ∷ []))
+
+-- ---- what is read back
+
+abbrev mutual
+  pub type_fits : Bool → TypeTree → Bool
+  type_fits b (t.path q l ss e) = not e && (not (no_more_segments ss) && (qself_fits q l (count_segments ss) && segments_fit 0 style.Type ss))
+  type_fits b (t.mac l ss e d ts) = not e && (not (no_more_segments ss) && (bare_segments ss && (segments_fit 0 style.Type ss && is_macro_delimiter d)))
+  type_fits b (t.reference a m x) = type_fits false x
+  type_fits b (t.ptr m x) = type_fits false x
+  type_fits b (t.slice x) = type_fits true x
+  type_fits b (t.array x n) = type_fits true x && not (is_empty n)
+  type_fits b (t.tuple xs e) = types_fit xs && (ends_well (no_more_types xs) e && not (is_one_type xs && not e))
+  type_fits b (t.paren x) = type_fits true x
+  type_fits b t.never = true
+  type_fits b t.infer = true
+  type_fits b (t.fn_ptr f u a xs e o) = fits_if lifetimes_fit f && (fits_if (fits_if is_string) a && (args_fit xs && (ends_well (no_more_args xs) e && return_fits o)))
+  type_fits b (t.impl_trait bs e) = not e && (not (no_more_bounds bs) && ((b || is_one_bound bs) && bounds_fit bs))
+  type_fits b (t.trait_object bs e) = not e && (not (no_more_bounds bs) && ((b || is_one_bound bs) && bounds_fit bs))
+
+  pub types_fit : Types → Bool
+  types_fit t.no_types = true
+  types_fit (t.more_types x xs) = type_fits true x && types_fit xs
+
+  pub qself_fits : QSelfTree → Bool → ℕ → Bool
+  qself_fits t.no_qself l k = true
+  qself_fits (t.qself x n a) l k = type_fits true x && position_fits a n l k
+
+  -- n segments stand inside, the others are of this style
+  pub segments_fit : ℕ → PathStyle → Segments → Bool
+  segments_fit n s t.no_segments = true
+  segments_fit n s (t.more_segments w a ss) =
+      is_segment w && ((not (stands_alone w) || has_none a) && (arguments_fit (style_at n s) a && (goes_over n (style_at n s) w a ss && segments_fit (one_less n) s ss)))
+
+  pub arguments_fit : PathStyle → ArgumentsTree → Bool
+  arguments_fit s t.no_arguments = true
+  arguments_fit s (t.angle c gs e) = takes_angle s c && (generics_fit gs && ends_well (no_more_generics gs) e)
+  arguments_fit s (t.round xs e o) = takes_round s && (types_fit xs && (ends_well (no_more_types xs) e && return_fits o))
+
+  pub generics_fit : Generics → Bool
+  generics_fit t.no_generics = true
+  generics_fit (t.more_generics g gs) = generic_fits g && generics_fit gs
+
+  pub generic_fits : GenericTree → Bool
+  generic_fits (t.a_lifetime w) = true
+  generic_fits (t.a_const ts) = is_const ts
+  generic_fits (t.an_assoc w x) = not (is_reserved_word w) && type_fits true x
+  generic_fits (t.a_type x) = type_fits true x
+
+  pub return_fits : ReturnTree → Bool
+  return_fits t.default = true
+  return_fits (t.given x) = type_fits false x
+
+  pub args_fit : FnArgs → Bool
+  args_fit t.no_args = true
+  args_fit (t.more_args n x xs) = fits_if is_arg_name n && (type_fits true x && args_fit xs)
+
+  pub bounds_fit : Bounds → Bool
+  bounds_fit t.no_bounds = true
+  bounds_fit (t.more_bounds b bs) = bound_fits b && bounds_fit bs
+
+  pub bound_fits : BoundTree → Bool
+  bound_fits (t.outlives w) = true
+  bound_fits (t.a_trait q f l ss e) = not e && (not (no_more_segments ss) && (fits_if lifetimes_fit f && segments_fit 0 style.Type ss))
 
 -- read back in its place: a type, where several bounds may stand or one
 unfoldable pub is_read_back : Bool → TypeTree → Bool

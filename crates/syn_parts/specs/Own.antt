@@ -1,6 +1,6 @@
 -- The own tokens of each lower part: its spelling from left to right, the last punct of each token alone.
 -- `x_own x r` is the tokens of x before the tokens r.
-use Rattle.std.specs.Prelude.{ℕ, zero, suc, ◌-◌, Bool, true, false, not, ◌&&◌, ◌||◌, ◌==◌, nat_le, if◌then◌else◌, List, [], ◌∷◌, ◌++◌, length, drop, codes, Option, Some, None}
+use Rattle.std.specs.Prelude.{ℕ, zero, suc, Bool, true, false, not, ◌&&◌, ◌||◌, ◌==◌, nat_le, if◌then◌else◌, List, [], ◌∷◌, ◌++◌, length, drop, codes, Option, Some, None}
 use Rattle.syn_lexer.specs.declared.lexeme.Delimiter.{Delimiter}
 use Rattle.syn_lexer.specs.declared.lexeme.Delimiter.TheVariants as del
 use Rattle.syn_lexer.specs.declared.lexeme.Spacing.TheVariants as spacing
@@ -69,14 +69,21 @@ block_own ts r = enclosed del.Brace ts r
 
 -- ---- lists
 
--- between elements and, where one ends the list, behind the last
-abbrev pub listed_own : {A : Type 0} → (A → List Tok → List Tok) → (List Tok → List Tok) → List A → Bool → List Tok → List Tok
-listed_own own sep [] e r = r
-listed_own own sep (x ∷ []) e r = own x (before_if e sep r)
-listed_own own sep (x ∷ y ∷ xs) e r = own x (sep (listed_own own sep (y ∷ xs) e r))
+abbrev pub is_end : {A : Type 0} → List A → Bool
+is_end [] = true
+is_end (x ∷ xs) = false
+
+-- a separator where there are more, or where one ends the list
+abbrev pub separated : Bool → Bool → (List Tok → List Tok) → List Tok → List Tok
+separated last e sep r = before_if (not last || e) sep r
+
+-- the elements, with separators between, and perhaps one at the end
+abbrev pub elements_own : {A : Type 0} → (A → List Tok → List Tok) → (List Tok → List Tok) → List A → Bool → List Tok → List Tok
+elements_own own sep [] e r = r
+elements_own own sep (x ∷ xs) e r = own x (separated (is_end xs) e sep (elements_own own sep xs e r))
 
 unfoldable pub lifetimes_own : LifetimesTree → List Tok → List Tok
-lifetimes_own p r = ident (codes "for") ∷ alone 60 ∷ listed_own lifetime_own comma_before p.0 p.1 (alone 62 ∷ r)
+lifetimes_own p r = ident (codes "for") ∷ alone 60 ∷ elements_own lifetime_own comma_before p.0 p.1 (alone 62 ∷ r)
 
 abbrev pub string_own : Option LitTree → List Tok → List Tok
 string_own None r = r
@@ -107,13 +114,15 @@ abbrev pub no_more_bounds : Bounds → Bool
 no_more_bounds t.no_bounds = true
 no_more_bounds (t.more_bounds b bs) = false
 
--- a separator where there are more, or where one ends the list
-abbrev pub separated : Bool → Bool → (List Tok → List Tok) → List Tok → List Tok
-separated last e sep r = before_if (not last || e) sep r
-
 -- `>` behind the last of the segments that stand inside
 abbrev pub closed_at : ℕ → List Tok → List Tok
-closed_at n r = if n == 1 then alone 62 ∷ r else r
+closed_at zero r = r
+closed_at (suc zero) r = alone 62 ∷ r
+closed_at (suc (suc n)) r = r
+
+abbrev pub one_less : ℕ → ℕ
+one_less zero = zero
+one_less (suc n) = n
 
 abbrev pub count_segments : Segments → ℕ
 count_segments t.no_segments = 0
@@ -129,7 +138,8 @@ inner_count (t.qself x n a) k = at_most n k
 
 -- behind the type of a qualified path: `as` where segments stand inside, else `>`
 abbrev pub qself_end : ℕ → List Tok → List Tok
-qself_end n r = if n == 0 then alone 62 ∷ r else ident (codes "as") ∷ r
+qself_end zero r = alone 62 ∷ r
+qself_end (suc n) r = ident (codes "as") ∷ r
 
 abbrev mutual
   pub type_own : TypeTree → List Tok → List Tok
@@ -162,7 +172,7 @@ abbrev mutual
   pub segments_own : ℕ → Segments → Bool → List Tok → List Tok
   segments_own n t.no_segments e r = r
   segments_own n (t.more_segments w a ss) e r =
-      ident w ∷ arguments_own a (closed_at n (separated (no_more_segments ss) e colon2_before (segments_own (n - 1) ss e r)))
+      ident w ∷ arguments_own a (closed_at n (separated (no_more_segments ss) e colon2_before (segments_own (one_less n) ss e r)))
 
   pub arguments_own : ArgumentsTree → List Tok → List Tok
   arguments_own t.no_arguments r = r
