@@ -6,3 +6,4 @@ pub mod Views
 pub mod Parts
 pub mod ReadBack
 pub mod Behind
+pub mod Fronts
