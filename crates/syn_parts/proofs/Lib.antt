@@ -7,3 +7,4 @@ pub mod Parts
 pub mod ReadBack
 pub mod Behind
 pub mod Fronts
+pub mod TypesBack
