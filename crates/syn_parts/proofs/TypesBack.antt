@@ -161,3 +161,135 @@ type_stands b x l n h =
     let a = at_place_alike {k = 0} types_alike b in
     let f = type_alike 0 b in
     f.sound l x n (type_is b l ∙ a.complete l x n h)
+
+-- ---- one kind of type, by what it holds
+
+module _ (b : Bool) (r : List Tok) where
+  reference_step : (a : Option Text) (m : Bool) (x : TypeTree) (l : List Tok) → lifetime_at l ≡ false → mutable.at l ≡ false → (type false).behind x l ≡ Some r
+      → (at_place type b).behind (t.reference a m x) (alone 38 ∷ before_some a lifetime_own (before_if m (λ k. ident (codes "mut") ∷ k) l)) ≡ Some r
+  unfolding at_place reference sign_at
+  reference_step a m x l h k i = rw (lifetime_piece a _ (mut_no_lifetime m l h), mut_piece m l k) i
+
+  pointer_step : (m : Bool) (x : TypeTree) (l : List Tok) → (type false).behind x l ≡ Some r
+      → (at_place type b).behind (t.ptr m x) (alone 42 ∷ ident (cond m (codes "mut") (codes "const")) ∷ l) ≡ Some r
+  unfolding at_place pointer sign_at word_at
+  pointer_step true x l h = h
+  pointer_step false x l h = h
+
+  slice_step : (x : TypeTree) (ts : List Tok) → (type true).behind x ts ≡ Some [] → (at_place type b).behind (t.slice x) (enclosed del.Bracket ts r) ≡ Some r
+  unfolding at_place slice_or_array sign_at word_at group_at
+  slice_step x ts h = rw (toks-inside ts, h) refl
+
+  array_step : (x : TypeTree) (n ts : List Tok) → not (is_empty n) ≡ true → (type true).behind x ts ≡ Some (alone 59 ∷ n) → (at_place type b).behind (t.array x n) (enclosed del.Bracket ts r) ≡ Some r
+  unfolding at_place slice_or_array sign_at word_at group_at
+  array_step x n ts k h = rw (toks-inside ts, h, rest_back n k) refl
+
+  tuple_step : (xs : Types) (e : Bool) (ts : List Tok) → tuple_of (t.types xs) e ≡ Some (t.types xs, e) → (listed comma is_empty (type true)).behind (t.types xs, e) ts ≡ Some []
+      → (at_place type b).behind (t.tuple xs e) (enclosed del.Parenthesis ts r) ≡ Some r
+  unfolding at_place tuple_or_paren sign_at word_at group_at
+  tuple_step xs e ts k h = rw (toks-inside ts, k, h) refl
+
+  paren_step : (x : TypeTree) (ts : List Tok) → (listed comma is_empty (type true)).behind (x ∷ [], false) ts ≡ Some [] → (at_place type b).behind (t.paren x) (enclosed del.Parenthesis ts r) ≡ Some r
+  unfolding at_place tuple_or_paren sign_at word_at group_at
+  paren_step x ts h = rw (toks-inside ts, h) refl
+
+  never_step : (at_place type b).behind t.never (alone 33 ∷ r) ≡ Some r
+  unfolding at_place sign_at
+  never_step = refl
+
+  infer_step : (at_place type b).behind t.infer (ident (codes "_") ∷ r) ≡ Some r
+  unfolding at_place sign_at word_at
+  infer_step = refl
+
+  impl_step : (bs : Bounds) (l : List Tok) → (bounds type b).behind (t.bounds bs, false) l ≡ Some r → (at_place type b).behind (t.impl_trait bs false) (ident (codes "impl") ∷ l) ≡ Some r
+  unfolding at_place implements sign_at word_at fn_at lifetimes_at group_at
+  impl_step bs l h = h
+
+  object_step : (bs : Bounds) (l : List Tok) → (bounds type b).behind (t.bounds bs, false) l ≡ Some r → (at_place type b).behind (t.trait_object bs false) (ident (codes "dyn") ∷ l) ≡ Some r
+  unfolding at_place object sign_at word_at fn_at lifetimes_at group_at
+  object_step bs l h = h
+
+-- ---- a function pointer
+
+string_back : (x : LitTree) (r : List Tok) → is_string x ≡ true → string.behind x (lit_own x r) ≡ Some r
+unfolding string lit_own
+string_back x r h = by_kind x.kind x.text h
+  where
+    has_str : (o : Option LitKind) → has_kind o kind.Str ≡ true → o ≡ Some kind.Str
+    has_str None h = absurd cc
+    has_str (Some j) h = ap Some (same_kind-true j kind.Str h)
+
+    by_kind : (k : LitKind) (text : Text) → is_string (record { kind = k; text = text }) ≡ true → string.behind (record { kind = k; text = text }) (lit_own (record { kind = k; text = text }) r) ≡ Some r
+    by_kind kind.Str text h = rw (has_str (kind_of text) h, same_lit-refl (record { kind = kind.Str; text = text })) refl
+    by_kind kind.ByteStr text h = absurd cc
+    by_kind kind.CStr text h = absurd cc
+    by_kind kind.Byte text h = absurd cc
+    by_kind kind.Char text h = absurd cc
+    by_kind kind.Int text h = absurd cc
+    by_kind kind.Float text h = absurd cc
+    by_kind kind.Bool text h = absurd cc
+
+string_seen : (x : LitTree) (r : List Tok) → is_string x ≡ true → literal_at (lit_own x r) ≡ true
+unfolding literal_at lit_own
+string_seen x r h = by_kind x.kind x.text h
+  where
+    by_kind : (k : LitKind) (text : Text) → is_string (record { kind = k; text = text }) ≡ true → literal_at (lit_own (record { kind = k; text = text }) r) ≡ true
+    by_kind kind.Str text h = refl
+    by_kind kind.ByteStr text h = refl
+    by_kind kind.CStr text h = refl
+    by_kind kind.Byte text h = refl
+    by_kind kind.Char text h = refl
+    by_kind kind.Int text h = absurd cc
+    by_kind kind.Float text h = absurd cc
+    by_kind kind.Bool text h = absurd cc
+
+abbrev fn_tokens : List Tok → List Tok
+fn_tokens l = ident (codes "fn") ∷ l
+
+abbrev pub head_own : FnHead → List Tok → List Tok
+head_own h l = before_some h.0 lifetimes_own (before_if h.1.0 (λ k. ident (codes "unsafe") ∷ k) (before_some h.1.1 extern_own (fn_tokens l)))
+
+extern_piece : (a : Option (Option LitTree)) (l : List Tok) → fits_if (fits_if is_string) a ≡ true
+    → (maybe extern_word.at (mark extern_word (maybe literal_at string))).behind a (before_some a extern_own (fn_tokens l)) ≡ Some (fn_tokens l)
+unfolding word_at literal_at
+extern_piece None l h = refl
+extern_piece (Some None) l h = refl
+extern_piece (Some (Some x)) l h = rw (string_seen x (fn_tokens l) h) (string_back x (fn_tokens l) h)
+
+unsafe_piece : (u : Bool) (a : Option (Option LitTree)) (l : List Tok)
+    → (flag unsafe_word).behind u (before_if u (λ k. ident (codes "unsafe") ∷ k) (before_some a extern_own (fn_tokens l))) ≡ Some (before_some a extern_own (fn_tokens l))
+unfolding word_at
+unsafe_piece true a l = refl
+unsafe_piece false None l = refl
+unsafe_piece false (Some s) l = refl
+
+lifetimes_piece : (f : Option LifetimesTree) (u : Bool) (a : Option (Option LitTree)) (l : List Tok) → fits_if lifetimes_fit f ≡ true
+    → (maybe lifetimes_at lifetimes).behind f (before_some f lifetimes_own (before_if u (λ k. ident (codes "unsafe") ∷ k) (before_some a extern_own (fn_tokens l)))) ≡ Some (before_if u (λ k. ident (codes "unsafe") ∷ k) (before_some a extern_own (fn_tokens l)))
+unfolding lifetimes_at word_at sign_at
+lifetimes_piece (Some p) u a l h = rw (lifetimes_seen p _ h) (lifetimes_back p _ h)
+lifetimes_piece None true a l h = refl
+lifetimes_piece None false (Some s) l h = refl
+lifetimes_piece None false None l h = refl
+
+fn_seen : (h : FnHead) (l : List Tok) → fits_if lifetimes_fit h.0 ≡ true → fn_at (head_own h l) ≡ true
+unfolding fn_at word_at lifetimes_at sign_at
+fn_seen (Some p, (u, a)) l k = rw (lifetimes_seen p _ k) refl
+fn_seen (None, (true, a)) l k = refl
+fn_seen (None, (false, Some s)) l k = refl
+fn_seen (None, (false, None)) l k = refl
+
+-- no other kind of type begins so
+fn_first : (b : Bool) (x : TypeTree) (h : FnHead) (l : List Tok) → fits_if lifetimes_fit h.0 ≡ true → (at_place type b).behind x (head_own h l) ≡ (fn_pointer type).behind x (head_own h l)
+unfolding at_place sign_at word_at group_at lifetimes_own
+fn_first b x (Some p, (u, a)) l k = rw (fn_seen (Some p, (u, a)) l k) refl
+fn_first b x (None, (true, a)) l k = rw (fn_seen (None, (true, a)) l k) refl
+fn_first b x (None, (false, Some s)) l k = rw (fn_seen (None, (false, Some s)) l k) refl
+fn_first b x (None, (false, None)) l k = rw (fn_seen (None, (false, None)) l k) refl
+
+fn_step : (b : Bool) (h : FnHead) (xs : FnArgs) (e : Bool) (o : ReturnTree) (ts l r : List Tok) → fits_if lifetimes_fit h.0 ≡ true → fits_if (fits_if is_string) h.1.1 ≡ true
+    → (listed comma is_empty (fn_arg type)).behind (t.args xs, e) ts ≡ Some [] → (output type false).behind o l ≡ Some r
+    → (at_place type b).behind (t.fn_ptr h.0 h.1.0 h.1.1 xs e o) (head_own h (enclosed del.Parenthesis ts l)) ≡ Some r
+unfolding fn_pointer fn_head word_at group_at
+fn_step b h xs e o ts l r f s i j =
+    fn_first b (t.fn_ptr h.0 h.1.0 h.1.1 xs e o) h (enclosed del.Parenthesis ts l) f
+    ∙ (rw (lifetimes_piece h.0 h.1.0 h.1.1 (enclosed del.Parenthesis ts l) f, unsafe_piece h.1.0 h.1.1 (enclosed del.Parenthesis ts l), extern_piece h.1.1 (enclosed del.Parenthesis ts l) s, toks-inside ts, i) j)

@@ -15,7 +15,7 @@ use Rattle.syn_parts.specs.Same.{same_kind}
 use Rattle.syn_parts.specs.Form.{Test}
 use Rattle.syn_parts.specs.Mark.{colon2, arrow, plus, not_ne, round_at}
 use Rattle.syn_parts.specs.Part.{has_none, is_arg_name, angle_at, turbofish_at, MacroTree}
-use Rattle.syn_parts.specs.Own.{no_more_types, no_more_segments, no_more_generics, no_more_args, no_more_bounds, count_segments, one_less, colon2_before}
+use Rattle.syn_parts.specs.Own.{no_more_types, no_more_segments, no_more_generics, no_more_args, no_more_bounds, count_segments, inner_count, one_less, colon2_before}
 use Rattle.syn_parts.specs.Tree as t
 use Rattle.syn_parts.specs.Tree.{LitTree, AttributeTree, LifetimesTree, TypeTree, Types, QSelfTree, Segments, PathTree, FnArgs, ArgumentsTree, Generics, GenericTree, ReturnTree, Bounds, BoundTree}
 
@@ -161,7 +161,7 @@ goes_over (suc (suc n)) s w a (t.more_segments v c ss) = arguments_stop s w a (c
 
 abbrev mutual
   pub type_fits : Bool → TypeTree → Bool
-  type_fits b (t.path q l ss e) = not e && (not (no_more_segments ss) && (qself_fits q l (count_segments ss) && segments_fit 0 style.Type ss))
+  type_fits b (t.path q l ss e) = not e && (not (no_more_segments ss) && (qself_fits q l (count_segments ss) && segments_fit (inner_count q (count_segments ss)) style.Type ss))
   type_fits b (t.mac l ss e d ts) = not e && (not (no_more_segments ss) && (bare_segments ss && (segments_fit 0 style.Type ss && is_macro_delimiter d)))
   type_fits b (t.reference a m x) = type_fits false x
   type_fits b (t.ptr m x) = type_fits false x
