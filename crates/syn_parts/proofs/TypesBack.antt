@@ -20,7 +20,7 @@ use Rattle.syn_parts.specs.Form.{Form, Mark, maybe, flag, listed, joined, closed
 use Rattle.syn_parts.specs.Mark.{sign_at, word_at, lifetime_at, round_at, brace_at, comma, colon2, plus, question, gt, less, eq, colon, not_ne, arrow, mutable, unsafe_word, extern_word, fn_word, semi}
 use Rattle.syn_parts.specs.Part.{lifetime, lifetimes, lifetimes_at, const_at, assoc_at, arg_name_at, angle_at, turbofish_at, fn_at, literal_at, string, rest_of, constant_tokens, any_group, arg_name, is_arg_name, no_arguments, has_none, fn_head, macro_end, type, output, generic, angle, angle_bracketed, parenthesized, arguments, segment, pieces, path, qualified, qpath, bound, bounds, reference, pointer, slice_or_array, tuple_or_paren, fn_arg, fn_pointer, implements, object, named, at_place, tuple_of, segments_bare, FnHead}
 use Rattle.syn_parts.specs.Own.{alone, joint, comma_before, colon2_before, arrow_before, before_if, before_some, enclosed, lifetime_own, lit_own, lifetimes_own, string_own, extern_own, is_end, separated, elements_own, closed_at, one_less, count_segments, at_most, inner_count, qself_end, type_own, types_own, qself_own, segments_own, arguments_own, generics_own, generic_own, return_own, args_own, bounds_own, bound_own, no_more_types, no_more_segments, no_more_generics, no_more_args, no_more_bounds}
-use Rattle.syn_parts.specs.Fits.{fits_if, lifetimes_fit, is_string, has_kind, is_const, is_macro_delimiter, is_one_type, is_one_bound, position_fits, bare_segments, ends_well, is_none, type_fits, types_fit, qself_fits, segments_fit, arguments_fit, generics_fit, generic_fits, return_fits, args_fit, bounds_fit, bound_fits, goes_over, type_stops, segments_stop, arguments_stop, return_stops, bounds_stop, bound_stops, mac_stops}
+use Rattle.syn_parts.specs.Fits.{fits_if, lifetimes_fit, is_string, has_kind, is_const, is_macro_delimiter, is_one_type, is_one_bound, position_fits, bare_segments, ends_well, is_none, type_fits, types_fit, qself_fits, segments_fit, arguments_fit, generics_fit, generic_fits, return_fits, args_fit, bounds_fit, bound_fits, goes_over, takes_angle, takes_round, name_stops, type_stops, segments_stop, arguments_stop, return_stops, bounds_stop, bound_stops, mac_stops}
 use Rattle.syn_parts.proofs.Same.{both_true, same_toks-refl, same_lit-refl, same_kind-true, same_delimiter-refl}
 use Rattle.syn_parts.proofs.Marks.{colon2_present, plus_present}
 use Rattle.syn_parts.proofs.Forms.{Alike}
@@ -293,3 +293,106 @@ unfolding fn_pointer fn_head word_at group_at
 fn_step b h xs e o ts l r f s i j =
     fn_first b (t.fn_ptr h.0 h.1.0 h.1.1 xs e o) h (enclosed del.Parenthesis ts l) f
     ∙ (rw (lifetimes_piece h.0 h.1.0 h.1.1 (enclosed del.Parenthesis ts l) f, unsafe_piece h.1.0 h.1.1 (enclosed del.Parenthesis ts l), extern_piece h.1.1 (enclosed del.Parenthesis ts l) s, toks-inside ts, i) j)
+
+-- ---- arguments and segments, by what they hold
+
+other : (a b : Bool) → a ≡ false → (a || b) ≡ true → b ≡ true
+other true b h k = absurd cc
+other false b h k = k
+
+module _ (m : List Tok) where
+  angle_step : (s : PathStyle) (c : Bool) (gs : Generics) (e : Bool) (l : List Tok) → takes_angle s c ≡ true
+      → (listed comma gt.at (generic type)).behind (t.generics gs, e) l ≡ Some (alone 62 ∷ m)
+      → (arguments type s).behind (t.angle c gs e) (before_if c colon2_before (alone 60 ∷ l)) ≡ Some m
+  unfolding arguments angle_bracketed angle angle_at turbofish_at sign_at
+  angle_step style.Mod c gs e l k h = absurd cc
+  angle_step style.Expr true gs e l k h = rw h refl
+  angle_step style.Expr false gs e l k h = absurd cc
+  angle_step style.Type true gs e l k h = rw h refl
+  angle_step style.Type false gs e l k h = rw h refl
+
+  round_step : (s : PathStyle) (xs : Types) (e : Bool) (o : ReturnTree) (ts l : List Tok) → takes_round s ≡ true
+      → (listed comma is_empty (type true)).behind (t.types xs, e) ts ≡ Some [] → (output type false).behind o l ≡ Some m
+      → (arguments type s).behind (t.round xs e o) (enclosed del.Parenthesis ts l) ≡ Some m
+  unfolding arguments parenthesized angle_at round_at sign_at group_at
+  round_step style.Mod xs e o ts l k h i = absurd cc
+  round_step style.Expr xs e o ts l k h i = absurd cc
+  round_step style.Type xs e o ts l k h i = rw (toks-inside ts, h) i
+
+  none_step : (s : PathStyle) (w : Text) → stands_alone w ≡ false → name_stops s w m ≡ true → (arguments type s).behind t.no_arguments m ≡ Some m
+  unfolding arguments no_arguments
+  none_step style.Mod w h k = refl
+  none_step style.Expr w h k = rw (not_true (turbofish_at m) (other (stands_alone w) (not (turbofish_at m)) h k)) refl
+  none_step style.Type w h k =
+      let (j, n) = both_true (not (angle_at m)) (not (round_at m)) (other (stands_alone w) (not (angle_at m) && not (round_at m)) h k) in
+      rw (not_true (angle_at m) j, not_true (round_at m) n) refl
+
+  segment_step : (s : PathStyle) (w : Text) (a : ArgumentsTree) → is_segment w ≡ true → (not (stands_alone w) || has_none a) ≡ true
+      → (stands_alone w ≡ false → (arguments type s).behind a (arguments_own a m) ≡ Some m)
+      → (segment type s).behind (record { ident = w; arguments = a }) (ident w ∷ arguments_own a m) ≡ Some m
+  unfolding segment no_arguments
+  segment_step s w a h k b = rw (segment_name_back w (arguments_own a m) h) (by_word (stands_alone w) refl k)
+    where
+      by_args : (a : ArgumentsTree) → has_none a ≡ true → no_arguments.behind a (arguments_own a m) ≡ Some m
+      by_args t.no_arguments h = refl
+      by_args (t.angle c gs e) h = absurd cc
+      by_args (t.round xs e o) h = absurd cc
+
+      by_word : (v : Bool) → stands_alone w ≡ v → (not v || has_none a) ≡ true → cond v (no_arguments.behind a (arguments_own a m)) ((arguments type s).behind a (arguments_own a m)) ≡ Some m
+      by_word true e k = by_args a k
+      by_word false e k = b e
+
+-- ---- paths, by their segments
+
+pieces_step : (s : PathStyle) (b : Bool) (ss : Segments) (r : List Tok) → no_more_segments ss ≡ false → colon2.at r ≡ false
+    → Joins (segment type s) segment_own colon2_before r (t.segments ss)
+    → (pieces type s).behind (b, t.segments ss) (before_if b colon2_before (segments_own 0 ss false r)) ≡ Some r
+unfolding pieces sign_at
+pieces_step s b t.no_segments r h c j = absurd cc
+pieces_step s b (t.more_segments w a ss) r h c j =
+    let e = segments_elements (t.more_segments w a ss) r in
+    let i = joined_back colon2 (segment type s) segment_own colon2_before colon2_present (λ k. whole_segment_alike s) (λ l. refl) (λ l. refl) r c (record { ident = w; arguments = a }) (t.segments ss) j in
+    by_colon b (subst (λ l. (joined colon2 (segment type s)).behind (t.segments (t.more_segments w a ss)) l ≡ Some r) (sym e) i)
+  where
+    by_colon : (b : Bool) → (joined colon2 (segment type s)).behind (t.segments (t.more_segments w a ss)) (segments_own 0 (t.more_segments w a ss) false r) ≡ Some r
+        → (pieces type s).behind (b, t.segments (t.more_segments w a ss)) (before_if b colon2_before (segments_own 0 (t.more_segments w a ss) false r)) ≡ Some r
+    by_colon true h = h
+    by_colon false h = h
+
+bare_mac : (ss : Segments) (r : List Tok) → mac_stops t.no_qself ss r ≡ true → (segments_bare (t.segments ss) && not_ne.at r) ≡ false
+bare_mac ss r h = rw (bare_is ss) (not_true (bare_segments ss && not_ne.at r) h)
+
+-- a path, from its pieces
+path_step : (b l : Bool) (ss : Segments) (k r : List Tok) → (pieces type style.Type).behind (l, t.segments ss) k ≡ Some r → mac_stops t.no_qself ss r ≡ true → less.at k ≡ false
+    → (named type).behind (t.path t.no_qself l ss false) k ≡ Some r
+unfolding named qpath path macro_end
+path_step b l ss k r h m i = rw (i, h, bare_mac ss r m) refl
+
+mac_step : (b l : Bool) (ss : Segments) (d : Delimiter) (ts k r : List Tok) → (pieces type style.Type).behind (l, t.segments ss) k ≡ Some (alone 33 ∷ enclosed d ts r)
+    → bare_segments ss ≡ true → is_macro_delimiter d ≡ true → less.at k ≡ false
+    → (named type).behind (t.mac l ss false d ts) k ≡ Some r
+unfolding named qpath path macro_end sign_at
+mac_step b l ss d ts k r h m g i = rw (i, h, bare_is ss, m) (group_back d ts r g)
+
+-- where a path begins, by a word or `::`
+path_begins : (b : Bool) (x : TypeTree) (l : Bool) (ss : Segments) (e : Bool) (r : List Tok) → no_more_segments ss ≡ false → segments_fit 0 style.Type ss ≡ true
+    → (at_place type b).behind x (before_if l colon2_before (segments_own 0 ss e r)) ≡ (named type).behind x (before_if l colon2_before (segments_own 0 ss e r))
+path_begins b x true ss e r h f = named_colon2 b x (segments_own 0 ss e r)
+path_begins b x false t.no_segments e r h f = absurd cc
+path_begins b x false (t.more_segments w a ss) e r h f = let (g, rest) = both_true (is_segment w) _ f in named_word b x w _ g
+
+no_less : (l : Bool) (ss : Segments) (e : Bool) (r : List Tok) → no_more_segments ss ≡ false → less.at (before_if l colon2_before (segments_own 0 ss e r)) ≡ false
+unfolding sign_at
+no_less true ss e r h = refl
+no_less false t.no_segments e r h = absurd cc
+no_less false (t.more_segments w a ss) e r h = refl
+
+-- the segments that stand inside of `<` and `>`, and those behind
+segments_split : (n : ℕ) (ss : Segments) (r : List Tok) → nat_lt (suc n) (count_segments ss) ≡ true
+    → segments_own (suc n) ss false r ≡ elements_own segment_own colon2_before (take (suc n) (t.segments ss)) false (alone 62 ∷ colon2_before (elements_own segment_own colon2_before (drop (suc n) (t.segments ss)) false r))
+segments_split n t.no_segments r h = absurd (grind (arith, nat_tests, h))
+segments_split n (t.more_segments w a t.no_segments) r h = absurd (grind (arith, nat_tests, h))
+segments_split zero (t.more_segments w a (t.more_segments v c ss)) r h = ap (λ l. ident w ∷ arguments_own a (alone 62 ∷ colon2_before l)) (segments_elements (t.more_segments v c ss) r)
+segments_split (suc n) (t.more_segments w a (t.more_segments v c ss)) r h =
+    let k : nat_lt (suc n) (count_segments (t.more_segments v c ss)) ≡ true = grind (arith, nat_tests, h) in
+    ap (λ l. ident w ∷ arguments_own a (colon2_before l)) (segments_split n (t.more_segments v c ss) r k)
