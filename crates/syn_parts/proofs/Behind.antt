@@ -46,7 +46,7 @@ pub as_calm : (l : List Tok) → Calm (ident (codes "as") ∷ l)
 unfolding angle_at turbofish_at round_at sign_at group_at
 as_calm l = record { no_angle = refl; no_round = refl; no_colon2 = refl; no_arrow = refl; no_bang = refl; no_turbofish = refl }
 
-or_true : (a : Bool) → (a || true) ≡ true
+pub or_true : (a : Bool) → (a || true) ≡ true
 or_true true = refl
 or_true false = refl
 

@@ -33,7 +33,7 @@ pub not_underscore : is_segment (codes "_") ≡ false
 unfolding is_segment stands_alone is_reserved_word
 not_underscore = refl
 
-not_for : is_segment (codes "for") ≡ false
+pub not_for : is_segment (codes "for") ≡ false
 unfolding is_segment stands_alone is_reserved_word
 not_for = refl
 

@@ -23,11 +23,11 @@ use Rattle.syn_parts.specs.Own.{alone, joint, comma_before, colon2_before, arrow
 use Rattle.syn_parts.specs.Fits.{fits_if, lifetimes_fit, is_string, has_kind, is_const, is_macro_delimiter, is_one_type, is_one_bound, position_fits, bare_segments, ends_well, is_none, type_fits, types_fit, qself_fits, segments_fit, arguments_fit, generics_fit, generic_fits, return_fits, args_fit, bounds_fit, bound_fits, goes_over, takes_angle, takes_round, name_stops, type_stops, segments_stop, arguments_stop, return_stops, bounds_stop, bound_stops, mac_stops}
 use Rattle.syn_parts.proofs.Same.{both_true, same_toks-refl, same_lit-refl, same_kind-true, same_delimiter-refl}
 use Rattle.syn_parts.proofs.Marks.{colon2_present, plus_present}
-use Rattle.syn_parts.proofs.Forms.{Alike}
+use Rattle.syn_parts.proofs.Forms.{Alike, weaker}
 use Rattle.syn_parts.proofs.Parts.{types_alike, type_alike, type_is, at_place_alike, whole_segment_alike, generic_alike, fn_arg_alike, bound_alike, lifetime_alike}
 use Rattle.syn_parts.proofs.ReadBack.{not_true, text_same, name_back, segment_name_back, lifetime_back, next_own, Commas, no_element, element, Joins, no_join, join, listed_back, joined_back}
-use Rattle.syn_parts.proofs.Behind.{Calm, nil_calm, comma_calm, gt_calm, semi_calm, plus_calm, as_calm, type_calm, arguments_calm, bound_calm, arguments_front, colon2_same}
-use Rattle.syn_parts.proofs.Fronts.{Front, type_begins, named_word, named_colon2, named_less, no_truth}
+use Rattle.syn_parts.proofs.Behind.{or_true, Calm, nil_calm, comma_calm, gt_calm, semi_calm, plus_calm, as_calm, type_calm, arguments_calm, bound_calm, arguments_front, colon2_same}
+use Rattle.syn_parts.proofs.Fronts.{Front, type_begins, named_word, named_colon2, named_less, no_truth, word_not, not_for}
 
 -- ---- lists of the trees, as elements
 
@@ -396,3 +396,517 @@ segments_split zero (t.more_segments w a (t.more_segments v c ss)) r h = ap (λ 
 segments_split (suc n) (t.more_segments w a (t.more_segments v c ss)) r h =
     let k : nat_lt (suc n) (count_segments (t.more_segments v c ss)) ≡ true = grind (arith, nat_tests, h) in
     ap (λ l. ident w ∷ arguments_own a (colon2_before l)) (segments_split n (t.more_segments v c ss) r k)
+
+-- ---- qualified paths
+
+at_most_zero : (k : ℕ) → at_most 0 k ≡ 0
+at_most_zero k = by_bool (nat_le 0 k) refl
+  where
+    by_bool : (b : Bool) → nat_le 0 k ≡ b → cond b 0 k ≡ 0
+    by_bool true e = refl
+    by_bool false e = absurd (grind (arith, nat_tests, e))
+
+at_most_less : (n k : ℕ) → nat_lt n k ≡ true → at_most n k ≡ n
+at_most_less n k h = let e : nat_le n k ≡ true = grind (arith, nat_tests, h) in rw e refl
+
+module _ (b : Bool) (x : TypeTree) (ss : Segments) (l r : List Tok) where
+  qualified_step : (k : List Tok) → (type true).behind x l ≡ Some (alone 62 ∷ colon2_before k) → (joined colon2 (segment type style.Type)).behind (t.segments ss) k ≡ Some r
+      → (at_place type b).behind (t.path (t.qself x 0 false) true ss false) (alone 60 ∷ l) ≡ Some r
+  unfolding named qpath qualified macro_end sign_at word_at
+  qualified_step k h i = named_less b (t.path (t.qself x 0 false) true ss false) l ∙ (rw (h, i) refl)
+
+  qualified_as_step : (n : ℕ) (c : Bool) (k m : List Tok) → nat_le (suc n) (length (t.segments ss)) ≡ true → (type true).behind x l ≡ Some (ident (codes "as") ∷ k)
+      → (pieces type style.Type).behind (c, take (suc n) (t.segments ss)) k ≡ Some (alone 62 ∷ colon2_before m)
+      → (joined colon2 (segment type style.Type)).behind (drop (suc n) (t.segments ss)) m ≡ Some r
+      → (at_place type b).behind (t.path (t.qself x (suc n) true) c ss false) (alone 60 ∷ l) ≡ Some r
+  unfolding named qpath qualified macro_end sign_at word_at
+  qualified_as_step n c k m e h i j = named_less b (t.path (t.qself x (suc n) true) c ss false) l ∙ (rw (e, h, i, j) refl)
+
+-- pieces of which the first is there
+elements_pieces : (s : PathStyle) (b : Bool) (x : SegmentTree) (xs : List SegmentTree) (r : List Tok) → colon2.at r ≡ false → Joins (segment type s) segment_own colon2_before r (x ∷ xs)
+    → (pieces type s).behind (b, x ∷ xs) (before_if b colon2_before (elements_own segment_own colon2_before (x ∷ xs) false r)) ≡ Some r
+unfolding pieces sign_at
+elements_pieces s true x xs r c j = joined_back colon2 (segment type s) segment_own colon2_before colon2_present (λ k. whole_segment_alike s) (λ l. refl) (λ l. refl) r c x xs j
+elements_pieces s false x xs r c j = joined_back colon2 (segment type s) segment_own colon2_before colon2_present (λ k. whole_segment_alike s) (λ l. refl) (λ l. refl) r c x xs j
+
+colon2_seen : (l : List Tok) → colon2.at (colon2_before l) ≡ true
+unfolding sign_at
+colon2_seen l = refl
+
+segments_joined : (s : PathStyle) (xs : List SegmentTree) (r : List Tok) → is_end xs ≡ false → colon2.at r ≡ false → Joins (segment type s) segment_own colon2_before r xs
+    → (joined colon2 (segment type s)).behind xs (elements_own segment_own colon2_before xs false r) ≡ Some r
+segments_joined s [] r h c j = absurd cc
+segments_joined s (x ∷ xs) r h c j = joined_back colon2 (segment type s) segment_own colon2_before colon2_present (λ k. whole_segment_alike s) colon2_seen (λ l. refl) r c x xs j
+
+some_left : {A : Type 0} (n : ℕ) (xs : List A) → nat_lt n (length xs) ≡ true → is_end (drop n xs) ≡ false
+some_left n [] h = absurd (grind (arith, nat_tests, h))
+some_left zero (x ∷ xs) h = refl
+some_left (suc n) (x ∷ xs) h = let e : nat_lt n (length xs) ≡ true = grind (arith, nat_tests, h) in some_left n xs e
+
+gt_no_colon2 : (l : List Tok) → colon2.at (alone 62 ∷ l) ≡ false
+unfolding sign_at
+gt_no_colon2 l = refl
+
+inside_pieces : (n : ℕ) (c : Bool) (xs : List SegmentTree) (r : List Tok) → nat_lt 0 (length xs) ≡ true
+    → Joins (segment type style.Type) segment_own colon2_before (alone 62 ∷ r) (take (suc n) xs)
+    → (pieces type style.Type).behind (c, take (suc n) xs) (before_if c colon2_before (elements_own segment_own colon2_before (take (suc n) xs) false (alone 62 ∷ r))) ≡ Some (alone 62 ∷ r)
+inside_pieces n c [] r h j = absurd (grind (arith, nat_tests, h))
+inside_pieces n c (x ∷ xs) r h j = elements_pieces style.Type c x (take n xs) (alone 62 ∷ r) (gt_no_colon2 r) j
+
+-- ---- bounds
+
+question_piece : (q : Bool) (l : List Tok) → question.at l ≡ false → (flag question).behind q (before_if q (λ k. alone 63 ∷ k) l) ≡ Some l
+unfolding sign_at
+question_piece true l h = refl
+question_piece false l h = rw h refl
+
+bound_lifetimes_piece : (f : Option LifetimesTree) (l : List Tok) → fits_if lifetimes_fit f ≡ true → lifetimes_at l ≡ false → (maybe lifetimes_at lifetimes).behind f (before_some f lifetimes_own l) ≡ Some l
+bound_lifetimes_piece None l h k = rw k refl
+bound_lifetimes_piece (Some p) l h k = rw (lifetimes_seen p l h) (lifetimes_back p l h)
+
+for_no_question : (f : Option LifetimesTree) (l : List Tok) → question.at l ≡ false → question.at (before_some f lifetimes_own l) ≡ false
+unfolding sign_at lifetimes_own
+for_no_question None l h = h
+for_no_question (Some p) l h = refl
+
+bound_no_lifetime : (q : Bool) (f : Option LifetimesTree) (l : List Tok) → lifetime_at l ≡ false → lifetime_at (before_if q (λ k. alone 63 ∷ k) (before_some f lifetimes_own l)) ≡ false
+unfolding lifetime_at lifetimes_own
+bound_no_lifetime true f l h = refl
+bound_no_lifetime false None l h = h
+bound_no_lifetime false (Some p) l h = refl
+
+trait_step : (q : Bool) (f : Option LifetimesTree) (c : Bool) (ss : Segments) (l r : List Tok) → fits_if lifetimes_fit f ≡ true → question.at l ≡ false → lifetimes_at l ≡ false → lifetime_at l ≡ false
+    → (pieces type style.Type).behind (c, t.segments ss) l ≡ Some r
+    → (bound type).behind (t.a_trait q f c ss false) (before_if q (λ k. alone 63 ∷ k) (before_some f lifetimes_own l)) ≡ Some r
+unfolding bound path
+trait_step q f c ss l r h i j k p = rw (bound_no_lifetime q f l k, question_piece q (before_some f lifetimes_own l) (for_no_question f l i), bound_lifetimes_piece f l h j, p) refl
+
+outlives_step : (w : Text) (r : List Tok) → (bound type).behind (t.outlives w) (lifetime_own w r) ≡ Some r
+unfolding bound lifetime_at
+outlives_step w r = lifetime_back w r
+
+path_no_question : (c : Bool) (ss : Segments) (r : List Tok) → no_more_segments ss ≡ false → question.at (before_if c colon2_before (segments_own 0 ss false r)) ≡ false
+unfolding sign_at
+path_no_question true ss r h = refl
+path_no_question false t.no_segments r h = absurd cc
+path_no_question false (t.more_segments w a ss) r h = refl
+
+path_no_lifetime : (c : Bool) (ss : Segments) (r : List Tok) → no_more_segments ss ≡ false → lifetime_at (before_if c colon2_before (segments_own 0 ss false r)) ≡ false
+unfolding lifetime_at
+path_no_lifetime true ss r h = refl
+path_no_lifetime false t.no_segments r h = absurd cc
+path_no_lifetime false (t.more_segments w a ss) r h = refl
+
+path_no_lifetimes : (c : Bool) (ss : Segments) (r : List Tok) → no_more_segments ss ≡ false → segments_fit 0 style.Type ss ≡ true → lifetimes_at (before_if c colon2_before (segments_own 0 ss false r)) ≡ false
+unfolding lifetimes_at word_at
+path_no_lifetimes true ss r h f = refl
+path_no_lifetimes false t.no_segments r h f = absurd cc
+path_no_lifetimes false (t.more_segments w a ss) r h f = let (g, rest) = both_true (is_segment w) _ f in rw (word_not w (codes "for") g not_for) refl
+
+several_step : (bs : Bounds) (l r : List Tok) → (joined plus (bound type)).behind (t.bounds bs) l ≡ Some r → (bounds type true).behind (t.bounds bs, false) l ≡ Some r
+unfolding bounds
+several_step bs l r h = h
+
+one_step : (x : BoundTree) (l r : List Tok) → (bound type).behind x l ≡ Some r → (bounds type false).behind (x ∷ [], false) l ≡ Some r
+unfolding bounds
+one_step x l r h = h
+
+plus_seen : (l : List Tok) → plus.at (plus_before l) ≡ true
+unfolding sign_at
+plus_seen l = refl
+
+-- ---- generic arguments, outputs, arguments of function pointers
+
+a_lifetime_step : (w : Text) (r : List Tok) → (generic type).behind (t.a_lifetime w) (lifetime_own w r) ≡ Some r
+unfolding generic lifetime_at
+a_lifetime_step w r = lifetime_back w r
+
+const_step : (ts r : List Tok) → is_const ts ≡ true → (generic type).behind (t.a_const ts) (ts ++ r) ≡ Some r
+unfolding generic lifetime_at const_at brace_at group_at constant_tokens
+const_step (literal text ∷ []) r h = rw (same_toks-refl (literal text ∷ [])) refl
+const_step (ident text ∷ []) r h = rw (h, same_toks-refl (ident text ∷ [])) refl
+const_step (punct c spacing.Alone ∷ literal text ∷ []) r h =
+    let (a, b) = both_true (c == 45) (is_number text) h in rw (a, b, same_toks-refl (punct c spacing.Alone ∷ literal text ∷ [])) refl
+const_step (punct c spacing.Joint ∷ literal text ∷ []) r h =
+    let (a, b) = both_true (c == 45) (is_number text) h in rw (a, b, same_toks-refl (punct c spacing.Joint ∷ literal text ∷ [])) refl
+const_step (group del.Brace i ∷ []) r h = rw (same_toks-refl (group del.Brace i ∷ [])) refl
+const_step _ r h = absurd cc
+
+const_no_gt : (ts r : List Tok) → is_const ts ≡ true → gt.at (ts ++ r) ≡ false
+unfolding sign_at
+const_no_gt (literal text ∷ []) r h = refl
+const_no_gt (ident text ∷ []) r h = refl
+const_no_gt (punct c spacing.Alone ∷ literal text ∷ []) r h =
+    let (a, b) = both_true (c == 45) (is_number text) h in let e : c ≡ 45 = grind (arith, nat_tests, a) in rw e refl
+const_no_gt (punct c spacing.Joint ∷ literal text ∷ []) r h =
+    let (a, b) = both_true (c == 45) (is_number text) h in let e : c ≡ 45 = grind (arith, nat_tests, a) in rw e refl
+const_no_gt (group del.Brace i ∷ []) r h = refl
+const_no_gt _ r h = absurd cc
+
+name_no_truth : (w : Text) → not (is_reserved_word w) ≡ true → is_truth w ≡ false
+unfolding is_segment
+name_no_truth w h = no_truth w (rw (not_true (is_reserved_word w) h) refl)
+
+assoc_step : (w : Text) (x : TypeTree) (l r : List Tok) → not (is_reserved_word w) ≡ true → (type true).behind x l ≡ Some r → (generic type).behind (t.an_assoc w x) (ident w ∷ alone 61 ∷ l) ≡ Some r
+unfolding generic lifetime_at const_at brace_at group_at assoc_at sign_at
+assoc_step w x l r h i = rw (name_no_truth w h, h, name_back w (alone 61 ∷ l) h, i) refl
+
+a_type_step : (x : TypeTree) (l m r : List Tok) → Front l m → eq.at m ≡ false → (type true).behind x l ≡ Some r → (generic type).behind (t.a_type x) l ≡ Some r
+unfolding generic
+a_type_step x l m r f e h = rw (f.no_lifetime, f.no_const, f.no_assoc e, h) refl
+
+default_step : (r : List Tok) → arrow.at r ≡ false → (output type false).behind t.default r ≡ Some r
+unfolding output
+default_step r h = rw h refl
+
+given_step : (x : TypeTree) (l r : List Tok) → (type false).behind x l ≡ Some r → (output type false).behind (t.given x) (arrow_before l) ≡ Some r
+unfolding output sign_at
+given_step x l r h = h
+
+named_arg_step : (w : Text) (x : TypeTree) (l r : List Tok) → is_arg_name w ≡ true → (type true).behind x l ≡ Some r → (fn_arg type).behind (record { name = Some w; ty = x }) (ident w ∷ alone 58 ∷ l) ≡ Some r
+unfolding fn_arg arg_name_at arg_name sign_at
+named_arg_step w x l r h i = rw (h, text_same w, i) refl
+
+arg_step : (x : TypeTree) (l m r : List Tok) → Front l m → colon.at m ≡ false → (type true).behind x l ≡ Some r → (fn_arg type).behind (record { name = None; ty = x }) l ≡ Some r
+unfolding fn_arg
+arg_step x l m r f c h = rw (f.no_name c, h) refl
+
+-- ---- all together
+
+tuple_is : (xs : Types) (e : Bool) → (ends_well (no_more_types xs) e && not (is_one_type xs && not e)) ≡ true → tuple_of (t.types xs) e ≡ Some (t.types xs, e)
+tuple_is t.no_types e h = refl
+tuple_is (t.more_types x t.no_types) true h = refl
+tuple_is (t.more_types x t.no_types) false h = absurd cc
+tuple_is (t.more_types x (t.more_types y ys)) e h = refl
+
+types_end : (xs : Types) (e : Bool) → ends_well (no_more_types xs) e ≡ true → not (is_end (t.types xs) && e) ≡ true
+types_end t.no_types e h = h
+types_end (t.more_types x xs) e h = refl
+
+generics_end : (xs : Generics) (e : Bool) → ends_well (no_more_generics xs) e ≡ true → not (is_end (t.generics xs) && e) ≡ true
+generics_end t.no_generics e h = h
+generics_end (t.more_generics x xs) e h = refl
+
+args_end : (xs : FnArgs) (e : Bool) → ends_well (no_more_args xs) e ≡ true → not (is_end (t.args xs) && e) ≡ true
+args_end t.no_args e h = h
+args_end (t.more_args n x xs) e h = refl
+
+nil_comma : comma.at [] ≡ false
+unfolding sign_at
+nil_comma = refl
+
+gt_ends : (r : List Tok) → gt.at (alone 62 ∷ r) ≡ true
+unfolding sign_at
+gt_ends r = refl
+
+gt_comma : (r : List Tok) → comma.at (alone 62 ∷ r) ≡ false
+unfolding sign_at
+gt_comma r = refl
+
+types_listed : (xs : Types) (e : Bool) → ends_well (no_more_types xs) e ≡ true → Commas (type true) type_own is_empty e [] (t.types xs)
+    → (listed comma is_empty (type true)).behind (t.types xs, e) (types_own xs e []) ≡ Some []
+types_listed xs e h c =
+    subst (λ l. (listed comma is_empty (type true)).behind (t.types xs, e) l ≡ Some []) (sym (types_elements xs e []))
+    (listed_back (type true) type_own is_empty (λ k. type_alike k true) [] refl nil_comma e (t.types xs) (types_end xs e h) c)
+
+args_listed : (xs : FnArgs) (e : Bool) → ends_well (no_more_args xs) e ≡ true → Commas (fn_arg type) arg_own is_empty e [] (t.args xs)
+    → (listed comma is_empty (fn_arg type)).behind (t.args xs, e) (args_own xs e []) ≡ Some []
+args_listed xs e h c =
+    subst (λ l. (listed comma is_empty (fn_arg type)).behind (t.args xs, e) l ≡ Some []) (sym (args_elements xs e []))
+    (listed_back (fn_arg type) arg_own is_empty (λ k. fn_arg_alike {k = k} types_alike) [] refl nil_comma e (t.args xs) (args_end xs e h) c)
+
+generics_listed : (gs : Generics) (e : Bool) (m : List Tok) → ends_well (no_more_generics gs) e ≡ true → Commas (generic type) generic_own gt.at e (alone 62 ∷ m) (t.generics gs)
+    → (listed comma gt.at (generic type)).behind (t.generics gs, e) (generics_own gs e (alone 62 ∷ m)) ≡ Some (alone 62 ∷ m)
+generics_listed gs e m h c =
+    subst (λ l. (listed comma gt.at (generic type)).behind (t.generics gs, e) l ≡ Some (alone 62 ∷ m)) (sym (generics_elements gs e (alone 62 ∷ m)))
+    (listed_back (generic type) generic_own gt.at (λ k. generic_alike {k = k} types_alike) (alone 62 ∷ m) (gt_ends m) (gt_comma m) e (t.generics gs) (generics_end gs e h) c)
+
+bound_whole : (k : ℕ) → Alike k (bound type) (bound type)
+bound_whole k = weaker (bound_alike {k = k} types_alike)
+
+bounds_joined : (bs : Bounds) (r : List Tok) → no_more_bounds bs ≡ false → plus.at r ≡ false → Joins (bound type) bound_own plus_before r (t.bounds bs)
+    → (joined plus (bound type)).behind (t.bounds bs) (bounds_own bs false r) ≡ Some r
+bounds_joined t.no_bounds r h p j = absurd cc
+bounds_joined (t.more_bounds b bs) r h p j =
+    subst (λ l. (joined plus (bound type)).behind (t.bounds (t.more_bounds b bs)) l ≡ Some r) (sym (bounds_elements (t.more_bounds b bs) r))
+    (joined_back plus (bound type) bound_own plus_before plus_present bound_whole plus_seen (λ l. refl) r p b (t.bounds bs) j)
+
+first_bound : (b : BoundTree) (r : List Tok) → Joins (bound type) bound_own plus_before r (b ∷ []) → (bound type).behind b (bound_own b r) ≡ Some r
+first_bound b r (join h j) = h
+
+-- several, or one
+bounds_step : (b : Bool) (bs : Bounds) (r : List Tok) → no_more_bounds bs ≡ false → (b || is_one_bound bs) ≡ true → not (b && plus.at r) ≡ true → Joins (bound type) bound_own plus_before r (t.bounds bs)
+    → (bounds type b).behind (t.bounds bs, false) (bounds_own bs false r) ≡ Some r
+bounds_step true bs r h o p j = several_step bs (bounds_own bs false r) r (bounds_joined bs r h (not_true (plus.at r) p) j)
+bounds_step false t.no_bounds r h o p j = absurd cc
+bounds_step false (t.more_bounds b t.no_bounds) r h o p j = one_step b (bound_own b r) r (first_bound b r j)
+bounds_step false (t.more_bounds b (t.more_bounds c bs)) r h o p j = absurd cc
+
+follows : (s : PathStyle) (w v : Text) (a : ArgumentsTree) (l : List Tok) → arguments_stop s w a (colon2_before (ident v ∷ [])) ≡ true → arguments_stop s w a (colon2_before (ident v ∷ l)) ≡ true
+follows s w v a l h = arguments_front (colon2_before (ident v ∷ l)) (colon2_before (ident v ∷ [])) (colon2_same v l []) s w a ∙ h
+
+bang_no_colon2 : (l : List Tok) → colon2.at (alone 33 ∷ l) ≡ false
+unfolding sign_at
+bang_no_colon2 l = refl
+
+-- no name goes on at `!`
+bang_names : (l : List Tok) (s : PathStyle) (w : Text) → name_stops s w (alone 33 ∷ l) ≡ true
+unfolding angle_at turbofish_at round_at sign_at group_at
+bang_names l style.Mod w = refl
+bang_names l style.Expr w = or_true (stands_alone w)
+bang_names l style.Type w = or_true (stands_alone w)
+
+bare_stops : (ss : Segments) (l : List Tok) → bare_segments ss ≡ true → ((s : PathStyle) (w : Text) → name_stops s w l ≡ true) → segments_stop style.Type ss l ≡ true
+bare_stops t.no_segments l h n = refl
+bare_stops (t.more_segments w t.no_arguments t.no_segments) l h n = n style.Type w
+bare_stops (t.more_segments w (t.angle c gs e) t.no_segments) l h n = absurd cc
+bare_stops (t.more_segments w (t.round xs e o) t.no_segments) l h n = absurd cc
+bare_stops (t.more_segments w a (t.more_segments v d ss)) l h n = let (g, i) = both_true (has_none a) _ h in bare_stops (t.more_segments v d ss) l i n
+
+semi_no_plus : (n : List Tok) → plus.at (alone 59 ∷ n) ≡ false
+unfolding sign_at
+semi_no_plus n = refl
+
+none_left : (n : ℕ) (r : List Tok) (s : PathStyle) → Joins (segment type s) segment_own colon2_before r (drop n [])
+none_left zero r s = no_join
+none_left (suc n) r s = no_join
+
+generic_no_gt : (g : GenericTree) (r : List Tok) → generic_fits g ≡ true → gt.at (generic_own g r) ≡ false
+unfolding sign_at
+generic_no_gt (t.a_lifetime w) r f = refl
+generic_no_gt (t.a_const ts) r f = const_no_gt ts r f
+generic_no_gt (t.an_assoc w x) r f = refl
+generic_no_gt (t.a_type x) r f = let p = type_begins true x r f in p.no_gt
+
+zero_less : (k : ℕ) → (nat_lt 0 0 && nat_lt 0 k) ≡ true → ⊥
+zero_less k h = let (a, b) = both_true (nat_lt 0 0) (nat_lt 0 k) h in grind (arith, nat_tests, a)
+
+suc_zero : (n : ℕ) (l : Bool) → (suc n == 0 && l) ≡ true → ⊥
+suc_zero n l h = let (a, b) = both_true (suc n == 0) l h in grind (arith, nat_tests, a)
+
+no_leading : (0 == 0 && false) ≡ true → ⊥
+no_leading h = let (a, b) = both_true (0 == 0) false h in absurd cc
+
+some_segments : (ss : Segments) → no_more_segments ss ≡ false → is_end (t.segments ss) ≡ false
+some_segments t.no_segments h = absurd cc
+some_segments (t.more_segments w a ss) h = refl
+
+as_no_plus : (l : List Tok) → plus.at (ident (codes "as") ∷ l) ≡ false
+unfolding sign_at
+as_no_plus l = refl
+
+-- a path behind `<` `>`, by its type and its segments
+qself_back : (b : Bool) (x : TypeTree) (n : ℕ) (a l : Bool) (ss : Segments) (r : List Tok) → position_fits a n l (count_segments ss) ≡ true → no_more_segments ss ≡ false
+    → ((k : List Tok) → type_stops true x k ≡ true → (type true).behind x (type_own x k) ≡ Some k)
+    → ((m : ℕ) (k : List Tok) → segments_fit (suc m) style.Type ss ≡ true → Joins (segment type style.Type) segment_own colon2_before (alone 62 ∷ k) (take (suc m) (t.segments ss)))
+    → ((m : ℕ) → segments_fit m style.Type ss ≡ true → Joins (segment type style.Type) segment_own colon2_before r (drop m (t.segments ss)))
+    → segments_fit (at_most n (count_segments ss)) style.Type ss ≡ true → colon2.at r ≡ false
+    → (at_place type b).behind (t.path (t.qself x n a) l ss false) (alone 60 ∷ type_own x (qself_end (at_most n (count_segments ss)) (before_if l colon2_before (segments_own (at_most n (count_segments ss)) ss false r)))) ≡ Some r
+qself_back b x zero true l ss r p e ty inner outer f c = absurd (zero_less (count_segments ss) p)
+qself_back b x (suc n) false l ss r p e ty inner outer f c = absurd (suc_zero n l p)
+qself_back b x zero false false ss r p e ty inner outer f c = absurd (no_leading p)
+qself_back b x zero false true ss r p e ty inner outer f c =
+    let z = at_most_zero (count_segments ss) in
+    let g : segments_fit 0 style.Type ss ≡ true = subst (λ k. segments_fit k style.Type ss ≡ true) z f in
+    let i = segments_joined style.Type (t.segments ss) r (some_segments ss e) c (outer 0 g) in
+    let j : (joined colon2 (segment type style.Type)).behind (t.segments ss) (segments_own 0 ss false r) ≡ Some r = subst (λ k. (joined colon2 (segment type style.Type)).behind (t.segments ss) k ≡ Some r) (sym (segments_elements ss r)) i in
+    let k = ty (alone 62 ∷ colon2_before (segments_own 0 ss false r)) (quiet_stops true x _ (gt_quiet _)) in
+    let goal : (at_place type b).behind (t.path (t.qself x 0 false) true ss false) (alone 60 ∷ type_own x (qself_end 0 (colon2_before (segments_own 0 ss false r)))) ≡ Some r
+        = qualified_step b x ss (type_own x (alone 62 ∷ colon2_before (segments_own 0 ss false r))) r (segments_own 0 ss false r) k j in
+    subst (λ v. (at_place type b).behind (t.path (t.qself x 0 false) true ss false) (alone 60 ∷ type_own x (qself_end v (colon2_before (segments_own v ss false r)))) ≡ Some r) (sym z) goal
+qself_back b x (suc n) true l ss r p e ty inner outer f c =
+    let (o, q) = both_true (nat_lt 0 (suc n)) (nat_lt (suc n) (count_segments ss)) p in
+    let z = at_most_less (suc n) (count_segments ss) q in
+    let g : segments_fit (suc n) style.Type ss ≡ true = subst (λ k. segments_fit k style.Type ss ≡ true) z f in
+    let more : nat_lt (suc n) (length (t.segments ss)) ≡ true = subst (λ k. nat_lt (suc n) k ≡ true) (segments_count ss) q in
+    let some : nat_lt 0 (length (t.segments ss)) ≡ true = grind (arith, nat_tests, more) in
+    let most : nat_le (suc n) (length (t.segments ss)) ≡ true = grind (arith, nat_tests, more) in
+    let i = segments_joined style.Type (drop (suc n) (t.segments ss)) r (some_left (suc n) (t.segments ss) more) c (outer (suc n) g) in
+    let tail = elements_own segment_own colon2_before (drop (suc n) (t.segments ss)) false r in
+    let h = inside_pieces n l (t.segments ss) (colon2_before tail) some (inner n (colon2_before tail) g) in
+    let inside = before_if l colon2_before (elements_own segment_own colon2_before (take (suc n) (t.segments ss)) false (alone 62 ∷ colon2_before tail)) in
+    let k = ty (ident (codes "as") ∷ inside) (type_calm (ident (codes "as") ∷ inside) (as_calm inside) true x (as_no_plus inside)) in
+    let goal : (at_place type b).behind (t.path (t.qself x (suc n) true) l ss false) (alone 60 ∷ type_own x (ident (codes "as") ∷ inside)) ≡ Some r
+        = qualified_as_step b x ss (type_own x (ident (codes "as") ∷ inside)) r n l inside tail most k h i in
+    let back : (at_place type b).behind (t.path (t.qself x (suc n) true) l ss false) (alone 60 ∷ type_own x (qself_end (suc n) (before_if l colon2_before (segments_own (suc n) ss false r)))) ≡ Some r
+        = subst (λ v. (at_place type b).behind (t.path (t.qself x (suc n) true) l ss false) (alone 60 ∷ type_own x (ident (codes "as") ∷ before_if l colon2_before v)) ≡ Some r) (sym (segments_split n ss r q)) goal in
+    subst (λ v. (at_place type b).behind (t.path (t.qself x (suc n) true) l ss false) (alone 60 ∷ type_own x (qself_end v (before_if l colon2_before (segments_own v ss false r)))) ≡ Some r) (sym z) back
+
+mutual
+  pub type_back : (b : Bool) (x : TypeTree) (r : List Tok) → type_fits b x ≡ true → type_stops b x r ≡ true → (type b).behind x (type_own x r) ≡ Some r
+  type_back b (t.path t.no_qself l ss true) r f s = absurd cc
+  type_back b (t.path t.no_qself l ss false) r f s =
+      let (n, g) = both_true (not (no_more_segments ss)) _ f in
+      let (c, m) = both_true (segments_stop style.Type ss r) _ s in
+      let (d, k) = both_true (not (colon2.at r)) _ m in
+      let e = not_true (no_more_segments ss) n in
+      let h = pieces_step style.Type l ss r e (not_true (colon2.at r) d) (segments_joins 0 style.Type ss r g c) in
+      type_stands b (t.path t.no_qself l ss false) _ r (path_begins b (t.path t.no_qself l ss false) l ss false r e g ∙ path_step b l ss _ r h k (no_less l ss false r e))
+  type_back b (t.path (t.qself x n a) l ss true) r f s = absurd cc
+  type_back b (t.path (t.qself x n a) l ss false) r f s =
+      let (g, h) = both_true (not (no_more_segments ss)) _ f in
+      let (i, j) = both_true (type_fits true x && position_fits a n l (count_segments ss)) _ h in
+      let (k, p) = both_true (type_fits true x) (position_fits a n l (count_segments ss)) i in
+      let (c, m) = both_true (segments_stop style.Type ss r) _ s in
+      let (d, o) = both_true (not (colon2.at r)) _ m in
+      type_stands b (t.path (t.qself x n a) l ss false) _ r (qself_back b x n a l ss r p (not_true (no_more_segments ss) g) (λ v w. type_back true x v k w) (λ v w y. segments_within v ss w y) (λ v w. segments_joins v style.Type ss r w c) j (not_true (colon2.at r) d))
+  type_back b (t.mac l ss true d ts) r f s = absurd cc
+  type_back b (t.mac l ss false d ts) r f s =
+      let (n, g) = both_true (not (no_more_segments ss)) _ f in
+      let (m, h) = both_true (bare_segments ss) _ g in
+      let (i, j) = both_true (segments_fit 0 style.Type ss) (is_macro_delimiter d) h in
+      let e = not_true (no_more_segments ss) n in
+      let p = pieces_step style.Type l ss (alone 33 ∷ enclosed d ts r) e (bang_no_colon2 (enclosed d ts r)) (segments_joins 0 style.Type ss (alone 33 ∷ enclosed d ts r) i (bare_stops ss (alone 33 ∷ enclosed d ts r) m (bang_names (enclosed d ts r)))) in
+      type_stands b (t.mac l ss false d ts) _ r (path_begins b (t.mac l ss false d ts) l ss false (alone 33 ∷ enclosed d ts r) e i ∙ mac_step b l ss d ts _ r p m j (no_less l ss false (alone 33 ∷ enclosed d ts r) e))
+  type_back b (t.reference a m x) r f s =
+      let g = type_begins false x r f in
+      type_stands b (t.reference a m x) _ r (reference_step b r a m x (type_own x r) g.no_lifetime g.no_mut (type_back false x r f s))
+  type_back b (t.ptr true x) r f s = type_stands b (t.ptr true x) _ r (pointer_step b r true x (type_own x r) (type_back false x r f s))
+  type_back b (t.ptr false x) r f s = type_stands b (t.ptr false x) _ r (pointer_step b r false x (type_own x r) (type_back false x r f s))
+  type_back b (t.slice x) r f s = type_stands b (t.slice x) _ r (slice_step b r x (type_own x []) (type_back true x [] f (quiet_stops true x [] nil_quiet)))
+  type_back b (t.array x n) r f s =
+      let (g, h) = both_true (type_fits true x) (not (is_empty n)) f in
+      type_stands b (t.array x n) _ r (array_step b r x n (type_own x (alone 59 ∷ n)) h (type_back true x (alone 59 ∷ n) g (type_calm (alone 59 ∷ n) (semi_calm n) true x (semi_no_plus n))))
+  type_back b (t.tuple xs e) r f s =
+      let (g, h) = both_true (types_fit xs) _ f in
+      let (i, j) = both_true (ends_well (no_more_types xs) e) (not (is_one_type xs && not e)) h in
+      type_stands b (t.tuple xs e) _ r (tuple_step b r xs e (types_own xs e []) (tuple_is xs e h) (types_listed xs e i (types_commas e xs g)))
+  type_back b (t.paren x) r f s =
+      let g = type_begins true x [] f in
+      let h = type_back true x [] f (quiet_stops true x [] nil_quiet) in
+      type_stands b (t.paren x) _ r (paren_step b r x (type_own x []) (listed_back (type true) type_own is_empty (λ k. type_alike k true) [] refl nil_comma false (x ∷ []) refl (element h g.some no_element)))
+  type_back b t.never r f s = type_stands b t.never _ r (never_step b r)
+  type_back b t.infer r f s = type_stands b t.infer _ r (infer_step b r)
+  type_back b (t.fn_ptr p u a xs e o) r f s =
+      let (g, h) = both_true (fits_if lifetimes_fit p) _ f in
+      let (i, j) = both_true (fits_if (fits_if is_string) a) _ h in
+      let (k, m) = both_true (args_fit xs) _ j in
+      let (n, q) = both_true (ends_well (no_more_args xs) e) (return_fits o) m in
+      type_stands b (t.fn_ptr p u a xs e o) _ r (fn_step b (p, (u, a)) xs e o (args_own xs e []) (return_own o r) r g i (args_listed xs e n (args_commas e xs k)) (return_back o r q s))
+  type_back b (t.impl_trait bs true) r f s = absurd cc
+  type_back b (t.impl_trait bs false) r f s =
+      let (g, h) = both_true (not (no_more_bounds bs)) _ f in
+      let (i, j) = both_true (b || is_one_bound bs) (bounds_fit bs) h in
+      let (k, m) = both_true (bounds_stop bs r) (not (b && plus.at r)) s in
+      type_stands b (t.impl_trait bs false) _ r (impl_step b r bs (bounds_own bs false r) (bounds_step b bs r (not_true (no_more_bounds bs) g) i m (bounds_joins bs r j k)))
+  type_back b (t.trait_object bs true) r f s = absurd cc
+  type_back b (t.trait_object bs false) r f s =
+      let (g, h) = both_true (not (no_more_bounds bs)) _ f in
+      let (i, j) = both_true (b || is_one_bound bs) (bounds_fit bs) h in
+      let (k, m) = both_true (bounds_stop bs r) (not (b && plus.at r)) s in
+      type_stands b (t.trait_object bs false) _ r (object_step b r bs (bounds_own bs false r) (bounds_step b bs r (not_true (no_more_bounds bs) g) i m (bounds_joins bs r j k)))
+
+  types_commas : (e : Bool) (xs : Types) → types_fit xs ≡ true → Commas (type true) type_own is_empty e [] (t.types xs)
+  types_commas e t.no_types f = no_element
+  types_commas e (t.more_types x xs) f =
+      let (g, h) = both_true (type_fits true x) (types_fit xs) f in
+      let q = next_quiet type_own (t.types xs) e [] nil_quiet in
+      let p = type_begins true x (next_own type_own comma_before (t.types xs) e []) g in
+      element (type_back true x _ g (quiet_stops true x _ q)) p.some (types_commas e xs h)
+
+  args_commas : (e : Bool) (xs : FnArgs) → args_fit xs ≡ true → Commas (fn_arg type) arg_own is_empty e [] (t.args xs)
+  args_commas e t.no_args f = no_element
+  args_commas e (t.more_args (Some w) x xs) f =
+      let (g, h) = both_true (is_arg_name w) _ f in
+      let (i, j) = both_true (type_fits true x) (args_fit xs) h in
+      let q = next_quiet arg_own (t.args xs) e [] nil_quiet in
+      element (named_arg_step w x _ _ g (type_back true x _ i (quiet_stops true x _ q))) refl (args_commas e xs j)
+  args_commas e (t.more_args None x xs) f =
+      let (i, j) = both_true (type_fits true x) (args_fit xs) f in
+      let q = next_quiet arg_own (t.args xs) e [] nil_quiet in
+      let p = type_begins true x (next_own arg_own comma_before (t.args xs) e []) i in
+      element (arg_step x _ _ _ p q.no_colon (type_back true x _ i (quiet_stops true x _ q))) p.some (args_commas e xs j)
+
+  generics_commas : (e : Bool) (m : List Tok) (gs : Generics) → generics_fit gs ≡ true → Commas (generic type) generic_own gt.at e (alone 62 ∷ m) (t.generics gs)
+  generics_commas e m t.no_generics f = no_element
+  generics_commas e m (t.more_generics g gs) f =
+      let (h, i) = both_true (generic_fits g) (generics_fit gs) f in
+      let q = next_quiet generic_own (t.generics gs) e (alone 62 ∷ m) (gt_quiet m) in
+      element (generic_back g _ h q) (generic_no_gt g _ h) (generics_commas e m gs i)
+
+  generic_back : (g : GenericTree) (r : List Tok) → generic_fits g ≡ true → Quiet r → (generic type).behind g (generic_own g r) ≡ Some r
+  generic_back (t.a_lifetime w) r f q = a_lifetime_step w r
+  generic_back (t.a_const ts) r f q = const_step ts r f
+  generic_back (t.an_assoc w x) r f q =
+      let (g, h) = both_true (not (is_reserved_word w)) (type_fits true x) f in
+      assoc_step w x (type_own x r) r g (type_back true x r h (quiet_stops true x r q))
+  generic_back (t.a_type x) r f q = a_type_step x (type_own x r) r r (type_begins true x r f) q.no_eq (type_back true x r f (quiet_stops true x r q))
+
+  return_back : (o : ReturnTree) (r : List Tok) → return_fits o ≡ true → return_stops o r ≡ true → (output type false).behind o (return_own o r) ≡ Some r
+  return_back t.default r f s = default_step r (not_true (arrow.at r) s)
+  return_back (t.given x) r f s = given_step x (type_own x r) r (type_back false x r f s)
+
+  -- the segments behind the first n
+  segments_joins : (n : ℕ) (s : PathStyle) (ss : Segments) (r : List Tok) → segments_fit n s ss ≡ true → segments_stop s ss r ≡ true → Joins (segment type s) segment_own colon2_before r (drop n (t.segments ss))
+  segments_joins zero s t.no_segments r f c = no_join
+  segments_joins zero s (t.more_segments w a t.no_segments) r f c =
+      let (g, h) = both_true (is_segment w) _ f in
+      let (i, j) = both_true (not (stands_alone w) || has_none a) _ h in
+      let (k, m) = both_true (arguments_fit s a) _ j in
+      join (segment_step r s w a g i (λ n. arguments_back s w a r n k c)) no_join
+  segments_joins zero s (t.more_segments w a (t.more_segments v d ss)) r f c =
+      let (g, h) = both_true (is_segment w) _ f in
+      let (i, j) = both_true (not (stands_alone w) || has_none a) _ h in
+      let (k, m) = both_true (arguments_fit s a) _ j in
+      let (n, o) = both_true (goes_over 0 s w a (t.more_segments v d ss)) _ m in
+      join (segment_step _ s w a g i (λ p. arguments_back s w a _ p k (follows s w v a _ n))) (segments_joins zero s (t.more_segments v d ss) r o c)
+  segments_joins (suc n) s t.no_segments r f c = no_join
+  segments_joins (suc n) s (t.more_segments w a t.no_segments) r f c = none_left n r s
+  segments_joins (suc n) s (t.more_segments w a (t.more_segments v d ss)) r f c =
+      let (g, h) = both_true (is_segment w) _ f in
+      let (i, j) = both_true (not (stands_alone w) || has_none a) _ h in
+      let (k, m) = both_true (arguments_fit style.Type a) _ j in
+      let (o, p) = both_true (goes_over (suc n) style.Type w a (t.more_segments v d ss)) _ m in
+      segments_joins n s (t.more_segments v d ss) r p c
+
+  -- those that stand inside
+  segments_within : (n : ℕ) (ss : Segments) (r : List Tok) → segments_fit (suc n) style.Type ss ≡ true → Joins (segment type style.Type) segment_own colon2_before (alone 62 ∷ r) (take (suc n) (t.segments ss))
+  segments_within n t.no_segments r f = no_join
+  segments_within zero (t.more_segments w a ss) r f =
+      let (g, h) = both_true (is_segment w) _ f in
+      let (i, j) = both_true (not (stands_alone w) || has_none a) _ h in
+      let (k, m) = both_true (arguments_fit style.Type a) _ j in
+      join (segment_step (alone 62 ∷ r) style.Type w a g i (λ o. arguments_back style.Type w a (alone 62 ∷ r) o k (arguments_calm (alone 62 ∷ r) (gt_calm r) style.Type w a))) no_join
+  segments_within (suc n) (t.more_segments w a t.no_segments) r f =
+      let (g, h) = both_true (is_segment w) _ f in
+      let (i, j) = both_true (not (stands_alone w) || has_none a) _ h in
+      let (k, m) = both_true (arguments_fit style.Type a) _ j in
+      join (segment_step (alone 62 ∷ r) style.Type w a g i (λ o. arguments_back style.Type w a (alone 62 ∷ r) o k (arguments_calm (alone 62 ∷ r) (gt_calm r) style.Type w a))) no_join
+  segments_within (suc n) (t.more_segments w a (t.more_segments v d ss)) r f =
+      let (g, h) = both_true (is_segment w) _ f in
+      let (i, j) = both_true (not (stands_alone w) || has_none a) _ h in
+      let (k, m) = both_true (arguments_fit style.Type a) _ j in
+      let (o, p) = both_true (goes_over (suc (suc n)) style.Type w a (t.more_segments v d ss)) _ m in
+      join (segment_step _ style.Type w a g i (λ q. arguments_back style.Type w a _ q k (follows style.Type w v a _ o))) (segments_within n (t.more_segments v d ss) r p)
+
+  arguments_back : (s : PathStyle) (w : Text) (a : ArgumentsTree) (m : List Tok) → stands_alone w ≡ false → arguments_fit s a ≡ true → arguments_stop s w a m ≡ true → (arguments type s).behind a (arguments_own a m) ≡ Some m
+  arguments_back s w t.no_arguments m n f c = none_step m s w n c
+  arguments_back s w (t.angle d gs e) m n f c =
+      let (g, h) = both_true (takes_angle s d) _ f in
+      let (i, j) = both_true (generics_fit gs) (ends_well (no_more_generics gs) e) h in
+      angle_step m s d gs e (generics_own gs e (alone 62 ∷ m)) g (generics_listed gs e m j (generics_commas e m gs i))
+  arguments_back s w (t.round xs e o) m n f c =
+      let (g, h) = both_true (takes_round s) _ f in
+      let (i, j) = both_true (types_fit xs) _ h in
+      let (k, p) = both_true (ends_well (no_more_types xs) e) (return_fits o) j in
+      round_step m s xs e o (types_own xs e []) (return_own o m) g (types_listed xs e k (types_commas e xs i)) (return_back o m p c)
+
+  bounds_joins : (bs : Bounds) (r : List Tok) → bounds_fit bs ≡ true → bounds_stop bs r ≡ true → Joins (bound type) bound_own plus_before r (t.bounds bs)
+  bounds_joins t.no_bounds r f c = no_join
+  bounds_joins (t.more_bounds b t.no_bounds) r f c =
+      let (g, h) = both_true (bound_fits b) _ f in
+      join (bound_back b r g c) no_join
+  bounds_joins (t.more_bounds b (t.more_bounds d bs)) r f c =
+      let (g, h) = both_true (bound_fits b) _ f in
+      join (bound_back b _ g (bound_calm _ (plus_calm _) b)) (bounds_joins (t.more_bounds d bs) r h c)
+
+  bound_back : (b : BoundTree) (r : List Tok) → bound_fits b ≡ true → bound_stops b r ≡ true → (bound type).behind b (bound_own b r) ≡ Some r
+  bound_back (t.outlives w) r f c = outlives_step w r
+  bound_back (t.a_trait q p l ss true) r f c = absurd cc
+  bound_back (t.a_trait q p l ss false) r f c =
+      let (g, h) = both_true (not (no_more_segments ss)) _ f in
+      let (i, j) = both_true (fits_if lifetimes_fit p) (segments_fit 0 style.Type ss) h in
+      let (k, m) = both_true (segments_stop style.Type ss r) (not (colon2.at r)) c in
+      let e = not_true (no_more_segments ss) g in
+      trait_step q p l ss _ r i (path_no_question l ss r e) (path_no_lifetimes l ss r e j) (path_no_lifetime l ss r e)
+      (pieces_step style.Type l ss r e (not_true (colon2.at r) m) (segments_joins 0 style.Type ss r j k))
