@@ -409,18 +409,25 @@ at_most_zero k = by_bool (nat_le 0 k) refl
 at_most_less : (n k : ℕ) → nat_lt n k ≡ true → at_most n k ≡ n
 at_most_less n k h = let e : nat_le n k ≡ true = grind (arith, nat_tests, h) in rw e refl
 
-module _ (b : Bool) (x : TypeTree) (ss : Segments) (l r : List Tok) where
-  qualified_step : (k : List Tok) → (type true).behind x l ≡ Some (alone 62 ∷ colon2_before k) → (joined colon2 (segment type style.Type)).behind (t.segments ss) k ≡ Some r
-      → (at_place type b).behind (t.path (t.qself x 0 false) true ss false) (alone 60 ∷ l) ≡ Some r
-  unfolding named qpath qualified macro_end sign_at word_at
-  qualified_step k h i = named_less b (t.path (t.qself x 0 false) true ss false) l ∙ (rw (h, i) refl)
+module _ (s : PathStyle) (x : TypeTree) (ss : Segments) (l r : List Tok) where
+  qualified_step : (k : List Tok) → (type true).behind x l ≡ Some (alone 62 ∷ colon2_before k) → (joined colon2 (segment type s)).behind (t.segments ss) k ≡ Some r
+      → (qpath type s).behind (t.qself x 0 false, record { leading = true; segments = t.segments ss; trailing = false }) (alone 60 ∷ l) ≡ Some r
+  unfolding qpath qualified sign_at word_at
+  qualified_step k h i = rw (h, i) refl
 
   qualified_as_step : (n : ℕ) (c : Bool) (k m : List Tok) → nat_le (suc n) (length (t.segments ss)) ≡ true → (type true).behind x l ≡ Some (ident (codes "as") ∷ k)
       → (pieces type style.Type).behind (c, take (suc n) (t.segments ss)) k ≡ Some (alone 62 ∷ colon2_before m)
-      → (joined colon2 (segment type style.Type)).behind (drop (suc n) (t.segments ss)) m ≡ Some r
-      → (at_place type b).behind (t.path (t.qself x (suc n) true) c ss false) (alone 60 ∷ l) ≡ Some r
-  unfolding named qpath qualified macro_end sign_at word_at
-  qualified_as_step n c k m e h i j = named_less b (t.path (t.qself x (suc n) true) c ss false) l ∙ (rw (e, h, i, j) refl)
+      → (joined colon2 (segment type s)).behind (drop (suc n) (t.segments ss)) m ≡ Some r
+      → (qpath type s).behind (t.qself x (suc n) true, record { leading = c; segments = t.segments ss; trailing = false }) (alone 60 ∷ l) ≡ Some r
+  unfolding qpath qualified sign_at word_at
+  qualified_as_step n c k m e h i j = rw (e, h, i, j) refl
+
+-- a qualified path as a type
+named_qself : (b : Bool) (x : TypeTree) (n : ℕ) (a c : Bool) (ss : Segments) (l r : List Tok)
+    → (qpath type style.Type).behind (t.qself x n a, record { leading = c; segments = t.segments ss; trailing = false }) (alone 60 ∷ l) ≡ Some r
+    → (at_place type b).behind (t.path (t.qself x n a) c ss false) (alone 60 ∷ l) ≡ Some r
+unfolding named macro_end
+named_qself b x n a c ss l r h = named_less b (t.path (t.qself x n a) c ss false) l ∙ (rw h refl)
 
 -- pieces of which the first is there
 elements_pieces : (s : PathStyle) (b : Bool) (x : SegmentTree) (xs : List SegmentTree) (r : List Tok) → colon2.at r ≡ false → Joins (segment type s) segment_own colon2_before r (x ∷ xs)
@@ -696,41 +703,41 @@ unfolding sign_at
 as_no_plus l = refl
 
 -- a path behind `<` `>`, by its type and its segments
-qself_back : (b : Bool) (x : TypeTree) (n : ℕ) (a l : Bool) (ss : Segments) (r : List Tok) → position_fits a n l (count_segments ss) ≡ true → no_more_segments ss ≡ false
+qself_back : (s : PathStyle) (x : TypeTree) (n : ℕ) (a l : Bool) (ss : Segments) (r : List Tok) → position_fits a n l (count_segments ss) ≡ true → no_more_segments ss ≡ false
     → ((k : List Tok) → type_stops true x k ≡ true → (type true).behind x (type_own x k) ≡ Some k)
-    → ((m : ℕ) (k : List Tok) → segments_fit (suc m) style.Type ss ≡ true → Joins (segment type style.Type) segment_own colon2_before (alone 62 ∷ k) (take (suc m) (t.segments ss)))
-    → ((m : ℕ) → segments_fit m style.Type ss ≡ true → Joins (segment type style.Type) segment_own colon2_before r (drop m (t.segments ss)))
-    → segments_fit (at_most n (count_segments ss)) style.Type ss ≡ true → colon2.at r ≡ false
-    → (at_place type b).behind (t.path (t.qself x n a) l ss false) (alone 60 ∷ type_own x (qself_end (at_most n (count_segments ss)) (before_if l colon2_before (segments_own (at_most n (count_segments ss)) ss false r)))) ≡ Some r
-qself_back b x zero true l ss r p e ty inner outer f c = absurd (zero_less (count_segments ss) p)
-qself_back b x (suc n) false l ss r p e ty inner outer f c = absurd (suc_zero n l p)
-qself_back b x zero false false ss r p e ty inner outer f c = absurd (no_leading p)
-qself_back b x zero false true ss r p e ty inner outer f c =
+    → ((m : ℕ) (k : List Tok) → segments_fit (suc m) s ss ≡ true → Joins (segment type style.Type) segment_own colon2_before (alone 62 ∷ k) (take (suc m) (t.segments ss)))
+    → ((m : ℕ) → segments_fit m s ss ≡ true → Joins (segment type s) segment_own colon2_before r (drop m (t.segments ss)))
+    → segments_fit (at_most n (count_segments ss)) s ss ≡ true → colon2.at r ≡ false
+    → (qpath type s).behind (t.qself x n a, record { leading = l; segments = t.segments ss; trailing = false }) (alone 60 ∷ type_own x (qself_end (at_most n (count_segments ss)) (before_if l colon2_before (segments_own (at_most n (count_segments ss)) ss false r)))) ≡ Some r
+qself_back s x zero true l ss r p e ty inner outer f c = absurd (zero_less (count_segments ss) p)
+qself_back s x (suc n) false l ss r p e ty inner outer f c = absurd (suc_zero n l p)
+qself_back s x zero false false ss r p e ty inner outer f c = absurd (no_leading p)
+qself_back s x zero false true ss r p e ty inner outer f c =
     let z = at_most_zero (count_segments ss) in
-    let g : segments_fit 0 style.Type ss ≡ true = subst (λ k. segments_fit k style.Type ss ≡ true) z f in
-    let i = segments_joined style.Type (t.segments ss) r (some_segments ss e) c (outer 0 g) in
-    let j : (joined colon2 (segment type style.Type)).behind (t.segments ss) (segments_own 0 ss false r) ≡ Some r = subst (λ k. (joined colon2 (segment type style.Type)).behind (t.segments ss) k ≡ Some r) (sym (segments_elements ss r)) i in
+    let g : segments_fit 0 s ss ≡ true = subst (λ k. segments_fit k s ss ≡ true) z f in
+    let i = segments_joined s (t.segments ss) r (some_segments ss e) c (outer 0 g) in
+    let j : (joined colon2 (segment type s)).behind (t.segments ss) (segments_own 0 ss false r) ≡ Some r = subst (λ k. (joined colon2 (segment type s)).behind (t.segments ss) k ≡ Some r) (sym (segments_elements ss r)) i in
     let k = ty (alone 62 ∷ colon2_before (segments_own 0 ss false r)) (quiet_stops true x _ (gt_quiet _)) in
-    let goal : (at_place type b).behind (t.path (t.qself x 0 false) true ss false) (alone 60 ∷ type_own x (qself_end 0 (colon2_before (segments_own 0 ss false r)))) ≡ Some r
-        = qualified_step b x ss (type_own x (alone 62 ∷ colon2_before (segments_own 0 ss false r))) r (segments_own 0 ss false r) k j in
-    subst (λ v. (at_place type b).behind (t.path (t.qself x 0 false) true ss false) (alone 60 ∷ type_own x (qself_end v (colon2_before (segments_own v ss false r)))) ≡ Some r) (sym z) goal
-qself_back b x (suc n) true l ss r p e ty inner outer f c =
+    let goal : (qpath type s).behind (t.qself x 0 false, record { leading = true; segments = t.segments ss; trailing = false }) (alone 60 ∷ type_own x (qself_end 0 (colon2_before (segments_own 0 ss false r)))) ≡ Some r
+        = qualified_step s x ss (type_own x (alone 62 ∷ colon2_before (segments_own 0 ss false r))) r (segments_own 0 ss false r) k j in
+    subst (λ v. (qpath type s).behind (t.qself x 0 false, record { leading = true; segments = t.segments ss; trailing = false }) (alone 60 ∷ type_own x (qself_end v (colon2_before (segments_own v ss false r)))) ≡ Some r) (sym z) goal
+qself_back s x (suc n) true l ss r p e ty inner outer f c =
     let (o, q) = both_true (nat_lt 0 (suc n)) (nat_lt (suc n) (count_segments ss)) p in
     let z = at_most_less (suc n) (count_segments ss) q in
-    let g : segments_fit (suc n) style.Type ss ≡ true = subst (λ k. segments_fit k style.Type ss ≡ true) z f in
+    let g : segments_fit (suc n) s ss ≡ true = subst (λ k. segments_fit k s ss ≡ true) z f in
     let more : nat_lt (suc n) (length (t.segments ss)) ≡ true = subst (λ k. nat_lt (suc n) k ≡ true) (segments_count ss) q in
     let some : nat_lt 0 (length (t.segments ss)) ≡ true = grind (arith, nat_tests, more) in
     let most : nat_le (suc n) (length (t.segments ss)) ≡ true = grind (arith, nat_tests, more) in
-    let i = segments_joined style.Type (drop (suc n) (t.segments ss)) r (some_left (suc n) (t.segments ss) more) c (outer (suc n) g) in
+    let i = segments_joined s (drop (suc n) (t.segments ss)) r (some_left (suc n) (t.segments ss) more) c (outer (suc n) g) in
     let tail = elements_own segment_own colon2_before (drop (suc n) (t.segments ss)) false r in
     let h = inside_pieces n l (t.segments ss) (colon2_before tail) some (inner n (colon2_before tail) g) in
     let inside = before_if l colon2_before (elements_own segment_own colon2_before (take (suc n) (t.segments ss)) false (alone 62 ∷ colon2_before tail)) in
     let k = ty (ident (codes "as") ∷ inside) (type_calm (ident (codes "as") ∷ inside) (as_calm inside) true x (as_no_plus inside)) in
-    let goal : (at_place type b).behind (t.path (t.qself x (suc n) true) l ss false) (alone 60 ∷ type_own x (ident (codes "as") ∷ inside)) ≡ Some r
-        = qualified_as_step b x ss (type_own x (ident (codes "as") ∷ inside)) r n l inside tail most k h i in
-    let back : (at_place type b).behind (t.path (t.qself x (suc n) true) l ss false) (alone 60 ∷ type_own x (qself_end (suc n) (before_if l colon2_before (segments_own (suc n) ss false r)))) ≡ Some r
-        = subst (λ v. (at_place type b).behind (t.path (t.qself x (suc n) true) l ss false) (alone 60 ∷ type_own x (ident (codes "as") ∷ before_if l colon2_before v)) ≡ Some r) (sym (segments_split n ss r q)) goal in
-    subst (λ v. (at_place type b).behind (t.path (t.qself x (suc n) true) l ss false) (alone 60 ∷ type_own x (qself_end v (before_if l colon2_before (segments_own v ss false r)))) ≡ Some r) (sym z) back
+    let goal : (qpath type s).behind (t.qself x (suc n) true, record { leading = l; segments = t.segments ss; trailing = false }) (alone 60 ∷ type_own x (ident (codes "as") ∷ inside)) ≡ Some r
+        = qualified_as_step s x ss (type_own x (ident (codes "as") ∷ inside)) r n l inside tail most k h i in
+    let back : (qpath type s).behind (t.qself x (suc n) true, record { leading = l; segments = t.segments ss; trailing = false }) (alone 60 ∷ type_own x (qself_end (suc n) (before_if l colon2_before (segments_own (suc n) ss false r)))) ≡ Some r
+        = subst (λ v. (qpath type s).behind (t.qself x (suc n) true, record { leading = l; segments = t.segments ss; trailing = false }) (alone 60 ∷ type_own x (ident (codes "as") ∷ before_if l colon2_before v)) ≡ Some r) (sym (segments_split n ss r q)) goal in
+    subst (λ v. (qpath type s).behind (t.qself x (suc n) true, record { leading = l; segments = t.segments ss; trailing = false }) (alone 60 ∷ type_own x (qself_end v (before_if l colon2_before (segments_own v ss false r)))) ≡ Some r) (sym z) back
 
 mutual
   pub type_back : (b : Bool) (x : TypeTree) (r : List Tok) → type_fits b x ≡ true → type_stops b x r ≡ true → (type b).behind x (type_own x r) ≡ Some r
@@ -749,7 +756,7 @@ mutual
       let (k, p) = both_true (type_fits true x) (position_fits a n l (count_segments ss)) i in
       let (c, m) = both_true (segments_stop style.Type ss r) _ s in
       let (d, o) = both_true (not (colon2.at r)) _ m in
-      type_stands b (t.path (t.qself x n a) l ss false) _ r (qself_back b x n a l ss r p (not_true (no_more_segments ss) g) (λ v w. type_back true x v k w) (λ v w y. segments_within v ss w y) (λ v w. segments_joins v style.Type ss r w c) j (not_true (colon2.at r) d))
+      type_stands b (t.path (t.qself x n a) l ss false) _ r (named_qself b x n a l ss _ r (qself_back style.Type x n a l ss r p (not_true (no_more_segments ss) g) (λ v w. type_back true x v k w) (λ v w y. segments_within v style.Type ss w y) (λ v w. segments_joins v style.Type ss r w c) j (not_true (colon2.at r) d)))
   type_back b (t.mac l ss true d ts) r f s = absurd cc
   type_back b (t.mac l ss false d ts) r f s =
       let (n, g) = both_true (not (no_more_segments ss)) _ f in
@@ -824,7 +831,7 @@ mutual
       let q = next_quiet generic_own (t.generics gs) e (alone 62 ∷ m) (gt_quiet m) in
       element (generic_back g _ h q) (generic_no_gt g _ h) (generics_commas e m gs i)
 
-  generic_back : (g : GenericTree) (r : List Tok) → generic_fits g ≡ true → Quiet r → (generic type).behind g (generic_own g r) ≡ Some r
+  pub generic_back : (g : GenericTree) (r : List Tok) → generic_fits g ≡ true → Quiet r → (generic type).behind g (generic_own g r) ≡ Some r
   generic_back (t.a_lifetime w) r f q = a_lifetime_step w r
   generic_back (t.a_const ts) r f q = const_step ts r f
   generic_back (t.an_assoc w x) r f q =
@@ -832,12 +839,12 @@ mutual
       assoc_step w x (type_own x r) r g (type_back true x r h (quiet_stops true x r q))
   generic_back (t.a_type x) r f q = a_type_step x (type_own x r) r r (type_begins true x r f) q.no_eq (type_back true x r f (quiet_stops true x r q))
 
-  return_back : (o : ReturnTree) (r : List Tok) → return_fits o ≡ true → return_stops o r ≡ true → (output type false).behind o (return_own o r) ≡ Some r
+  pub return_back : (o : ReturnTree) (r : List Tok) → return_fits o ≡ true → return_stops o r ≡ true → (output type false).behind o (return_own o r) ≡ Some r
   return_back t.default r f s = default_step r (not_true (arrow.at r) s)
   return_back (t.given x) r f s = given_step x (type_own x r) r (type_back false x r f s)
 
   -- the segments behind the first n
-  segments_joins : (n : ℕ) (s : PathStyle) (ss : Segments) (r : List Tok) → segments_fit n s ss ≡ true → segments_stop s ss r ≡ true → Joins (segment type s) segment_own colon2_before r (drop n (t.segments ss))
+  pub segments_joins : (n : ℕ) (s : PathStyle) (ss : Segments) (r : List Tok) → segments_fit n s ss ≡ true → segments_stop s ss r ≡ true → Joins (segment type s) segment_own colon2_before r (drop n (t.segments ss))
   segments_joins zero s t.no_segments r f c = no_join
   segments_joins zero s (t.more_segments w a t.no_segments) r f c =
       let (g, h) = both_true (is_segment w) _ f in
@@ -860,26 +867,26 @@ mutual
       segments_joins n s (t.more_segments v d ss) r p c
 
   -- those that stand inside
-  segments_within : (n : ℕ) (ss : Segments) (r : List Tok) → segments_fit (suc n) style.Type ss ≡ true → Joins (segment type style.Type) segment_own colon2_before (alone 62 ∷ r) (take (suc n) (t.segments ss))
-  segments_within n t.no_segments r f = no_join
-  segments_within zero (t.more_segments w a ss) r f =
+  pub segments_within : (n : ℕ) (s : PathStyle) (ss : Segments) (r : List Tok) → segments_fit (suc n) s ss ≡ true → Joins (segment type style.Type) segment_own colon2_before (alone 62 ∷ r) (take (suc n) (t.segments ss))
+  segments_within n s t.no_segments r f = no_join
+  segments_within zero s (t.more_segments w a ss) r f =
       let (g, h) = both_true (is_segment w) _ f in
       let (i, j) = both_true (not (stands_alone w) || has_none a) _ h in
       let (k, m) = both_true (arguments_fit style.Type a) _ j in
       join (segment_step (alone 62 ∷ r) style.Type w a g i (λ o. arguments_back style.Type w a (alone 62 ∷ r) o k (arguments_calm (alone 62 ∷ r) (gt_calm r) style.Type w a))) no_join
-  segments_within (suc n) (t.more_segments w a t.no_segments) r f =
+  segments_within (suc n) s (t.more_segments w a t.no_segments) r f =
       let (g, h) = both_true (is_segment w) _ f in
       let (i, j) = both_true (not (stands_alone w) || has_none a) _ h in
       let (k, m) = both_true (arguments_fit style.Type a) _ j in
       join (segment_step (alone 62 ∷ r) style.Type w a g i (λ o. arguments_back style.Type w a (alone 62 ∷ r) o k (arguments_calm (alone 62 ∷ r) (gt_calm r) style.Type w a))) no_join
-  segments_within (suc n) (t.more_segments w a (t.more_segments v d ss)) r f =
+  segments_within (suc n) s (t.more_segments w a (t.more_segments v d ss)) r f =
       let (g, h) = both_true (is_segment w) _ f in
       let (i, j) = both_true (not (stands_alone w) || has_none a) _ h in
       let (k, m) = both_true (arguments_fit style.Type a) _ j in
       let (o, p) = both_true (goes_over (suc (suc n)) style.Type w a (t.more_segments v d ss)) _ m in
-      join (segment_step _ style.Type w a g i (λ q. arguments_back style.Type w a _ q k (follows style.Type w v a _ o))) (segments_within n (t.more_segments v d ss) r p)
+      join (segment_step _ style.Type w a g i (λ q. arguments_back style.Type w a _ q k (follows style.Type w v a _ o))) (segments_within n s (t.more_segments v d ss) r p)
 
-  arguments_back : (s : PathStyle) (w : Text) (a : ArgumentsTree) (m : List Tok) → stands_alone w ≡ false → arguments_fit s a ≡ true → arguments_stop s w a m ≡ true → (arguments type s).behind a (arguments_own a m) ≡ Some m
+  pub arguments_back : (s : PathStyle) (w : Text) (a : ArgumentsTree) (m : List Tok) → stands_alone w ≡ false → arguments_fit s a ≡ true → arguments_stop s w a m ≡ true → (arguments type s).behind a (arguments_own a m) ≡ Some m
   arguments_back s w t.no_arguments m n f c = none_step m s w n c
   arguments_back s w (t.angle d gs e) m n f c =
       let (g, h) = both_true (takes_angle s d) _ f in
@@ -900,7 +907,7 @@ mutual
       let (g, h) = both_true (bound_fits b) _ f in
       join (bound_back b _ g (bound_calm _ (plus_calm _) b)) (bounds_joins (t.more_bounds d bs) r h c)
 
-  bound_back : (b : BoundTree) (r : List Tok) → bound_fits b ≡ true → bound_stops b r ≡ true → (bound type).behind b (bound_own b r) ≡ Some r
+  pub bound_back : (b : BoundTree) (r : List Tok) → bound_fits b ≡ true → bound_stops b r ≡ true → (bound type).behind b (bound_own b r) ≡ Some r
   bound_back (t.outlives w) r f c = outlives_step w r
   bound_back (t.a_trait q p l ss true) r f c = absurd cc
   bound_back (t.a_trait q p l ss false) r f c =
@@ -910,3 +917,23 @@ mutual
       let e = not_true (no_more_segments ss) g in
       trait_step q p l ss _ r i (path_no_question l ss r e) (path_no_lifetimes l ss r e j) (path_no_lifetime l ss r e)
       (pieces_step style.Type l ss r e (not_true (colon2.at r) m) (segments_joins 0 style.Type ss r j k))
+
+-- ---- paths in each style, and macros
+
+pub path_back : (s : PathStyle) (l : Bool) (ss : Segments) (r : List Tok) → no_more_segments ss ≡ false → segments_fit 0 s ss ≡ true → segments_stop s ss r ≡ true → colon2.at r ≡ false
+    → (path type s).behind (record { leading = l; segments = t.segments ss; trailing = false }) (before_if l colon2_before (segments_own 0 ss false r)) ≡ Some r
+unfolding path
+path_back s l ss r h f c d = pieces_step s l ss r h d (segments_joins 0 s ss r f c)
+
+qpath_bare : (s : PathStyle) (l : Bool) (ss : Segments) (k r : List Tok) → less.at k ≡ false → (path type s).behind (record { leading = l; segments = t.segments ss; trailing = false }) k ≡ Some r
+    → (qpath type s).behind (t.no_qself, record { leading = l; segments = t.segments ss; trailing = false }) k ≡ Some r
+unfolding qpath
+qpath_bare s l ss k r h i = rw h i
+
+pub qpath_back : (s : PathStyle) (q : QSelfTree) (l : Bool) (ss : Segments) (r : List Tok) → no_more_segments ss ≡ false → qself_fits q l (count_segments ss) ≡ true
+    → segments_fit (inner_count q (count_segments ss)) s ss ≡ true → segments_stop s ss r ≡ true → colon2.at r ≡ false
+    → (qpath type s).behind (q, record { leading = l; segments = t.segments ss; trailing = false }) (qself_own q (count_segments ss) (before_if l colon2_before (segments_own (inner_count q (count_segments ss)) ss false r))) ≡ Some r
+qpath_back s t.no_qself l ss r h k f c d = qpath_bare s l ss _ r (no_less l ss false r h) (path_back s l ss r h f c d)
+qpath_back s (t.qself x n a) l ss r h k f c d =
+    let (g, p) = both_true (type_fits true x) (position_fits a n l (count_segments ss)) k in
+    qself_back s x n a l ss r p h (λ v w. type_back true x v g w) (λ v w y. segments_within v s ss w y) (λ v w. segments_joins v s ss r w c) f d
