@@ -8,3 +8,4 @@ pub mod ReadBack
 pub mod Behind
 pub mod Fronts
 pub mod TypesBack
+pub mod Whole

@@ -116,7 +116,7 @@ ends_is : {A : Type 0} (xs : List A) (e : Bool) → ends_well (is_none xs) e ≡
 ends_is [] e h = h
 ends_is (x ∷ xs) e h = refl
 
-lifetimes_back : (p : LifetimesTree) (r : List Tok) → lifetimes_fit p ≡ true → lifetimes.behind p (lifetimes_own p r) ≡ Some r
+pub lifetimes_back : (p : LifetimesTree) (r : List Tok) → lifetimes_fit p ≡ true → lifetimes.behind p (lifetimes_own p r) ≡ Some r
 unfolding lifetimes lifetimes_own sign_at word_at
 lifetimes_back p r h =
     rw (listed_back lifetime lifetime_own gt.at (λ k. lifetime_alike) (alone 62 ∷ r) refl refl p.1 p.0 (ends_is p.0 p.1 h) (lifetimes_commas p.1 p.0 (alone 62 ∷ r))) refl
@@ -149,7 +149,7 @@ unfolding rest_of
 rest_back [] h = absurd cc
 rest_back (x ∷ l) h = rw (same_toks-refl (x ∷ l)) refl
 
-group_back : (d : Delimiter) (ts r : List Tok) → is_macro_delimiter d ≡ true → any_group.behind (d, ts) (enclosed d ts r) ≡ Some r
+pub group_back : (d : Delimiter) (ts r : List Tok) → is_macro_delimiter d ≡ true → any_group.behind (d, ts) (enclosed d ts r) ≡ Some r
 unfolding any_group same_group
 group_back del.Parenthesis ts r h = rw (toks-inside ts, same_toks-refl ts) refl
 group_back del.Brace ts r h = rw (toks-inside ts, same_toks-refl ts) refl
@@ -719,7 +719,7 @@ qself_back s x zero false true ss r p e ty inner outer f c =
     let j : (joined colon2 (segment type s)).behind (t.segments ss) (segments_own 0 ss false r) ≡ Some r = subst (λ k. (joined colon2 (segment type s)).behind (t.segments ss) k ≡ Some r) (sym (segments_elements ss r)) i in
     let k = ty (alone 62 ∷ colon2_before (segments_own 0 ss false r)) (quiet_stops true x _ (gt_quiet _)) in
     let goal : (qpath type s).behind (t.qself x 0 false, record { leading = true; segments = t.segments ss; trailing = false }) (alone 60 ∷ type_own x (qself_end 0 (colon2_before (segments_own 0 ss false r)))) ≡ Some r
-        = qualified_step s x ss (type_own x (alone 62 ∷ colon2_before (segments_own 0 ss false r))) r (segments_own 0 ss false r) k j in
+    = qualified_step s x ss (type_own x (alone 62 ∷ colon2_before (segments_own 0 ss false r))) r (segments_own 0 ss false r) k j in
     subst (λ v. (qpath type s).behind (t.qself x 0 false, record { leading = true; segments = t.segments ss; trailing = false }) (alone 60 ∷ type_own x (qself_end v (colon2_before (segments_own v ss false r)))) ≡ Some r) (sym z) goal
 qself_back s x (suc n) true l ss r p e ty inner outer f c =
     let (o, q) = both_true (nat_lt 0 (suc n)) (nat_lt (suc n) (count_segments ss)) p in
@@ -734,9 +734,9 @@ qself_back s x (suc n) true l ss r p e ty inner outer f c =
     let inside = before_if l colon2_before (elements_own segment_own colon2_before (take (suc n) (t.segments ss)) false (alone 62 ∷ colon2_before tail)) in
     let k = ty (ident (codes "as") ∷ inside) (type_calm (ident (codes "as") ∷ inside) (as_calm inside) true x (as_no_plus inside)) in
     let goal : (qpath type s).behind (t.qself x (suc n) true, record { leading = l; segments = t.segments ss; trailing = false }) (alone 60 ∷ type_own x (ident (codes "as") ∷ inside)) ≡ Some r
-        = qualified_as_step s x ss (type_own x (ident (codes "as") ∷ inside)) r n l inside tail most k h i in
+    = qualified_as_step s x ss (type_own x (ident (codes "as") ∷ inside)) r n l inside tail most k h i in
     let back : (qpath type s).behind (t.qself x (suc n) true, record { leading = l; segments = t.segments ss; trailing = false }) (alone 60 ∷ type_own x (qself_end (suc n) (before_if l colon2_before (segments_own (suc n) ss false r)))) ≡ Some r
-        = subst (λ v. (qpath type s).behind (t.qself x (suc n) true, record { leading = l; segments = t.segments ss; trailing = false }) (alone 60 ∷ type_own x (ident (codes "as") ∷ before_if l colon2_before v)) ≡ Some r) (sym (segments_split n ss r q)) goal in
+    = subst (λ v. (qpath type s).behind (t.qself x (suc n) true, record { leading = l; segments = t.segments ss; trailing = false }) (alone 60 ∷ type_own x (ident (codes "as") ∷ before_if l colon2_before v)) ≡ Some r) (sym (segments_split n ss r q)) goal in
     subst (λ v. (qpath type s).behind (t.qself x (suc n) true, record { leading = l; segments = t.segments ss; trailing = false }) (alone 60 ∷ type_own x (qself_end v (before_if l colon2_before (segments_own v ss false r)))) ≡ Some r) (sym z) back
 
 mutual

@@ -14,7 +14,7 @@ use Rattle.syn_parts.specs.Text.{Text, is_segment, stands_alone, is_truth, is_nu
 use Rattle.syn_parts.specs.Same.{same_kind}
 use Rattle.syn_parts.specs.Form.{Test}
 use Rattle.syn_parts.specs.Mark.{colon2, arrow, plus, not_ne, round_at}
-use Rattle.syn_parts.specs.Part.{has_none, is_arg_name, angle_at, turbofish_at, MacroTree}
+use Rattle.syn_parts.specs.Part.{has_none, is_arg_name, angle_at, turbofish_at, MacroTree, QPathTree}
 use Rattle.syn_parts.specs.Own.{no_more_types, no_more_segments, no_more_generics, no_more_args, no_more_bounds, count_segments, inner_count, one_less, colon2_before}
 use Rattle.syn_parts.specs.Tree as t
 use Rattle.syn_parts.specs.Tree.{LitTree, AttributeTree, LifetimesTree, TypeTree, Types, QSelfTree, Segments, PathTree, FnArgs, ArgumentsTree, Generics, GenericTree, ReturnTree, Bounds, BoundTree}
@@ -220,6 +220,27 @@ abbrev mutual
   bound_fits (t.outlives w) = true
   bound_fits (t.a_trait q f l ss e) = not e && (not (no_more_segments ss) && (fits_if lifetimes_fit f && segments_fit 0 style.Type ss))
 
--- read back in its place: a type, where several bounds may stand or one
-unfoldable pub is_read_back : Bool → TypeTree → Bool
-is_read_back several x = type_fits several x
+-- ---- paths and macros
+
+abbrev pub path_fits : PathStyle → PathTree → Bool
+path_fits s p = not p.trailing && (not (no_more_segments (t.segments_of p.segments)) && segments_fit 0 s (t.segments_of p.segments))
+
+abbrev pub path_stops : PathStyle → PathTree → Test
+path_stops s p r = segments_stop s (t.segments_of p.segments) r && not (colon2.at r)
+
+abbrev pub qpath_fits : PathStyle → QPathTree → Bool
+qpath_fits s q =
+    not q.1.trailing && (not (no_more_segments (t.segments_of q.1.segments))
+    && (qself_fits q.0 q.1.leading (count_segments (t.segments_of q.1.segments))
+    && segments_fit (inner_count q.0 (count_segments (t.segments_of q.1.segments))) s (t.segments_of q.1.segments)))
+
+abbrev pub macro_fits : MacroTree → Bool
+macro_fits m = path_fits style.Mod m.path && is_macro_delimiter m.delimiter
+
+abbrev pub output_fits : Bool → ReturnTree → Bool
+output_fits b t.default = true
+output_fits b (t.given x) = type_fits b x
+
+abbrev pub output_stops : Bool → ReturnTree → Test
+output_stops b t.default r = not (arrow.at r)
+output_stops b (t.given x) r = type_stops b x r

@@ -6,3 +6,4 @@ pub mod Same
 pub mod Part
 pub mod Own
 pub mod Fits
+pub mod Laws
