@@ -230,7 +230,9 @@ character_or_lifetime_within : (z : Text) → 0 < length z → IsShort z (quotes
 character_or_lifetime_within z some =
     if_case (IsShort z) (quotes.is_character (drop 1 z) || begins (codes "\\") (drop 1 z)) _ _
     (λ _. closed_within z 1 _ (omega arith, some) (character_rest_within (drop 1 z)))
-    (λ _. if_case (IsShort z) (quotes.begins_plain_word (drop 1 z)) _ _ (λ _. (omega arith, some)) (λ _. tt))
+    (λ _. if_case (IsShort z) (quotes.begins_plain_word (drop 1 z)) _ _
+    (λ is. let part = word_within (drop 1 z) (starts_word-some (drop 1 z) (and_left (words.starts_word (drop 1 z)) _ is)) in
+    let rest = length-drop 1 z in (omega arith, omega arith)) (λ _. tt))
 
 -- ---- lexemes
 

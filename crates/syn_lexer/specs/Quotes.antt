@@ -4,9 +4,8 @@
 use Rattle.std.specs.Prelude.{ℕ, ◌+◌, Bool, true, false, not, ◌&&◌, ◌||◌, if◌then◌else◌, ◌==◌, nat_le, [], ◌∷◌, drop, slice_index, Option, Some, None, Ok, Err, codes}
 use Rattle.std.specs.List.{prefix_len}
 use Rattle.syn_lexer.specs.Text.{Text, Reading, line_feed, double_quote, single_quote, backslash, begins}
-use Rattle.syn_lexer.specs.Words.{starts_word, begins_raw_word, literal_to}
-use Rattle.syn_lexer.specs.declared.lexeme.Spacing.TheVariants.{Joint}
-use Rattle.syn_lexer.specs.declared.lexeme.LexemeKind.TheVariants.{Punct}
+use Rattle.syn_lexer.specs.Words.{starts_word, begins_raw_word, word_len, literal_to}
+use Rattle.syn_lexer.specs.declared.lexeme.LexemeKind.TheVariants.{Lifetime}
 use Rattle.syn_lexer.specs.declared.error.LexError.TheVariants.{MalformedLiteral, MalformedLifetime}
 
 -- a literal whose opening is so many characters, and whose rest is so many more; none where it is not closed
@@ -57,10 +56,6 @@ begins_string z = begins (codes "\"") z || begins (codes "b\"") z || begins (cod
 abbrev pub begins_byte : Text → Bool
 begins_byte z = begins (codes "b'") z
 
--- a string, a raw string or a byte begins, and no identifier
-abbrev pub begins_quoted : Text → Bool
-begins_quoted z = begins_string z || begins_raw_string z || begins_byte z
-
 -- how many characters the opening of a string is
 abbrev pub string_opening_len : Text → ℕ
 string_opening_len z = if begins (codes "\"") z then 1 else 2
@@ -105,10 +100,10 @@ byte z = closed z 2 (character_rest (drop 2 z))
 
 -- an identifier that is not raw
 abbrev pub begins_plain_word : Text → Bool
-begins_plain_word z = starts_word z && not (begins_quoted z || begins_raw_word z)
+begins_plain_word z = starts_word z && not (begins_raw_word z)
 
--- A character; or a lifetime, whose `'` is a punct joined to the identifier behind it.
+-- a character, or a lifetime
 abbrev pub character_or_lifetime : Text → Reading
 character_or_lifetime z =
     if is_character (drop 1 z) || begins (codes "\\") (drop 1 z) then closed z 1 (character_rest (drop 1 z))
-    else (if begins_plain_word (drop 1 z) then Ok (Punct single_quote Joint, 1) else Err MalformedLifetime)
+    else (if begins_plain_word (drop 1 z) then Ok (Lifetime, 1 + word_len (drop 1 z)) else Err MalformedLifetime)

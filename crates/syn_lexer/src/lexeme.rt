@@ -31,7 +31,9 @@ pub enum LexemeKind {
     Ident,
     /// A literal with its suffix.
     Literal,
-    /// One character of punctuation. A lifetime is the joint punct `'`, and then an identifier.
+    /// A lifetime: `'` and an identifier. It makes two tokens, the joint punct `'` and the identifier.
+    Lifetime,
+    /// One character of punctuation.
     Punct(char, Spacing),
     /// The opening character of a delimiter.
     Open(Delimiter),

@@ -6,9 +6,9 @@ ghost use Rattle.syn_lexer.specs.Quotes as spec;
 ghost use Rattle.syn_lexer.specs.Text.{reading_of, IsWithin};
 
 use crate::error::{LexError, Refusal};
-use crate::lexeme::{Lexeme, LexemeKind, Spacing};
+use crate::lexeme::{Lexeme, LexemeKind};
 use crate::text::{begins, char_at};
-use crate::word::{begins_raw_word, literal_to, starts_word};
+use crate::word::{begins_raw_word, literal_to, starts_word, word_len};
 
 /// The literal with an opening and a rest of so many characters, or where it is not closed, a refusal of so many.
 fn closed(
@@ -121,12 +121,6 @@ pub fn begins_byte(text: &[char]) -> bool
     begins(text, &['b', '\''])
 }
 
-fn begins_quoted(text: &[char]) -> bool
-    ensures { result ≡ spec.begins_quoted text.now }
-{
-    begins_string(text) || begins_raw_string(text) || begins_byte(text)
-}
-
 fn string_opening_len(text: &[char]) -> usize
     ensures value { result ≡ spec.string_opening_len text.now }
     ensures within { 1 ≤ result }
@@ -212,9 +206,10 @@ pub fn byte(text: &[char]) -> Result<Lexeme, Refusal>
 }
 
 fn begins_plain_word(text: &[char]) -> bool
-    ensures { result ≡ spec.begins_plain_word text.now }
+    ensures value { result ≡ spec.begins_plain_word text.now }
+    ensures within { result ≡ true → 0 < length text.now }
 {
-    starts_word(text) && !(begins_quoted(text) || begins_raw_word(text))
+    starts_word(text) && !begins_raw_word(text)
 }
 
 /// What begins with `'`.
@@ -230,8 +225,8 @@ pub fn character_or_lifetime(text: &[char]) -> Result<Lexeme, Refusal>
     }
     if begins_plain_word(rest) {
         return Ok(Lexeme {
-            kind: LexemeKind::Punct('\'', Spacing::Joint),
-            len: 1,
+            kind: LexemeKind::Lifetime,
+            len: 1 + word_len(rest),
         });
     }
     Err(Refusal {

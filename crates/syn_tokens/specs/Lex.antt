@@ -1,10 +1,11 @@
 -- How a text falls into token trees. A text is a list of characters.
-use Rattle.std.specs.Prelude.{◌≡◌, ℕ, zero, suc, ◌-◌, List, [], ◌∷◌, ◌++◌, length, take, Option, Some, None, encode_utf8_all}
+use Rattle.std.specs.Prelude.{◌≡◌, ℕ, zero, suc, ◌-◌, List, [], ◌∷◌, ◌++◌, length, take, drop, Option, Some, None, encode_utf8_all}
 use Rattle.syn_lexer.specs.Text.{Text}
 use Rattle.syn_lexer.specs.Lex.{front}
 use Rattle.syn_lexer.specs.declared.lexeme.Delimiter.{Delimiter}
 use Rattle.syn_lexer.specs.declared.lexeme.LexemeKind.{LexemeKind}
-use Rattle.syn_lexer.specs.declared.lexeme.LexemeKind.TheVariants.{Blank, Ident, Literal, Punct, Open, Close}
+use Rattle.syn_lexer.specs.declared.lexeme.Spacing.TheVariants.{Joint}
+use Rattle.syn_lexer.specs.declared.lexeme.LexemeKind.TheVariants.{Blank, Ident, Literal, Lifetime, Punct, Open, Close}
 use Rattle.syn_tokens.specs.Tok.{Tok, Inside, ident, punct, literal, group, nothing, first}
 
 -- what a text is cut into: tokens, and the delimiters of groups
@@ -20,6 +21,8 @@ abbrev pub lexeme_pieces : LexemeKind → Text → List Piece
 lexeme_pieces Blank z = []
 lexeme_pieces Ident z = leaf (ident (encode_utf8_all z)) ∷ []
 lexeme_pieces Literal z = leaf (literal (encode_utf8_all z)) ∷ []
+-- the joint `'`, and the identifier behind it
+lexeme_pieces Lifetime z = leaf (punct 39 Joint) ∷ leaf (ident (encode_utf8_all (drop 1 z))) ∷ []
 lexeme_pieces (Punct c s) z = leaf (punct c s) ∷ []
 lexeme_pieces (Open d) z = opens d ∷ []
 lexeme_pieces (Close d) z = closes d ∷ []

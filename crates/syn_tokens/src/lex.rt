@@ -7,11 +7,11 @@ ghost use Rattle.syn_tokens.specs.Nest.{nest_pieces, misfits};
 ghost use Rattle.syn_tokens.specs.Tok.{Tok};
 ghost use Rattle.syn_tokens.specs.View.{tok_of};
 
-use crate::Delimiter;
 use crate::error::{Error, ErrorKind, LexError, Result};
 use crate::same::is_same;
 use crate::span::Span;
 use crate::tree::{Group, Ident, Literal, Punct, TokenStream, TokenTree};
+use crate::{Delimiter, Spacing};
 use std::alloc::Global;
 use syn_lexer::front::front;
 use syn_lexer::lexeme::LexemeKind;
@@ -108,6 +108,28 @@ impl Nest {
         Ok(())
     }
 
+    /// The `'` of a lifetime, and the identifier behind it.
+    fn lifetime(&mut self, alloc: Global, read: &[char], span: Span) -> Result<()>
+        ensures ok { OnOk result (nest_pieces self.new ≡ nest_pieces self.old ++ spec.lexeme_pieces LexemeKind.Lifetime read.now) }
+        ensures err { IfErr result (λ e. e.kind ≡ ErrorKind.OutOfMemory) }
+    {
+        let behind = span.lo.saturating_add(1);
+        self.leaf(TokenTree::Punct(Punct {
+            ch: '\'',
+            spacing: Spacing::Joint,
+            span: Span {
+                lo: span.lo,
+                hi: behind,
+            },
+        }))?;
+        let text = text_of(alloc, &read[1.min(read.len())..])?;
+        let span = Span {
+            lo: behind,
+            hi: span.hi,
+        };
+        self.leaf(TokenTree::Ident(Ident::read(text, span)))
+    }
+
     fn opens(&mut self, delimiter: Delimiter, at: usize) -> Result<()>
         ensures ok { OnOk result (nest_pieces self.new ≡ nest_pieces self.old ++ spec.opens delimiter ∷ []) }
         ensures err { IfErr result (λ e. e.kind ≡ ErrorKind.OutOfMemory) }
@@ -164,6 +186,7 @@ impl Nest {
                 let text = text_of(alloc, read)?;
                 self.leaf(TokenTree::Literal(Literal::read(text, span)))
             }
+            LexemeKind::Lifetime => self.lifetime(alloc, read, span),
             LexemeKind::Punct(ch, spacing) => {
                 self.leaf(TokenTree::Punct(Punct { ch, spacing, span }))
             }
