@@ -3,12 +3,16 @@
 
 pub mod attr;
 pub mod expr;
+pub mod fixup;
 mod front;
 pub mod lit;
 mod make;
 mod node;
+mod notes;
 pub mod op;
 mod parse;
 pub mod path;
 pub mod precedence;
+pub mod print;
 pub mod punctuated;
+mod tokens;
