@@ -127,7 +127,7 @@ string_append : (o : Option LitTree) (r : List Tok) → string_own o r ≡ strin
 string_append None r = refl
 string_append (Some x) r = lit_append x r
 
-extern_append : (o : Option LitTree) (r : List Tok) → extern_own o r ≡ extern_own o [] ++ r
+pub extern_append : (o : Option LitTree) (r : List Tok) → extern_own o r ≡ extern_own o [] ++ r
 extern_append o r = ap (λ m. ident (codes "extern") ∷ m) (string_append o r)
 
 listed_append : (xs : List Text) (e : Bool) (r : List Tok) → listed_own lifetime_own comma_before xs e r ≡ listed_own lifetime_own comma_before xs e [] ++ r

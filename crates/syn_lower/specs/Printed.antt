@@ -1,12 +1,18 @@
 -- What is printed of the parts that hold others, by what is printed of these.
-use Rattle.std.specs.Prelude.{ℕ, Bool, true, false, List, [], ◌∷◌, ◌++◌, codes, Option, Some, None}
+use Rattle.std.specs.Prelude.{ℕ, ◌-◌, ◌==◌, if◌then◌else◌, length, Bool, true, false, List, [], ◌∷◌, ◌++◌, codes, Option, Some, None}
 use Rattle.std.specs.declared.boxed.Box.{Box}
 use Rattle.std.specs.declared.alloc.Global.{Global}
 use Rattle.syn_lexer.specs.declared.lexeme.Delimiter.{Delimiter}
 use Rattle.syn_lexer.specs.declared.lexeme.Delimiter.TheVariants as del
 use Rattle.syn_tokens.specs.Tok.{Tok, ident, group, inside}
-use Rattle.syn_parts.specs.Own.{alone, joint, lifetime_own, lifetimes_own, extern_own}
-use Rattle.syn_lower.specs.View.{lifetime_of, lifetimes_of, abi_of, delimiter_of}
+use Rattle.syn_parts.specs.Own.{alone, joint, at_most, lifetime_own, lifetimes_own, extern_own}
+use Rattle.syn_lower.specs.View.{values, lifetime_of, lifetimes_of, abi_of, delimiter_of}
+use Rattle.syn_lower.specs.declared.ty.«Type».{«Type»}
+use Rattle.syn_lower.specs.declared.ty.Abi.{Abi}
+use Rattle.syn_lower.specs.declared.ty.BoundLifetimes.{BoundLifetimes}
+use Rattle.syn_lower.specs.declared.ty.ReturnType.{ReturnType}
+use Rattle.syn_lower.specs.declared.ty.TypeFnPtr.{TypeFnPtr}
+use Rattle.syn_lower.specs.declared.path.QSelfOf.{QSelfOf}
 use Rattle.syn_lower.specs.declared.punctuated.Punctuated.{Punctuated}
 use Rattle.syn_lower.specs.declared.mac.MacroOf.{MacroOf}
 use Rattle.syn_lower.specs.declared.path.PathOf.{PathOf}
@@ -109,8 +115,41 @@ abbrev pub trait_printed : {A : Type 0} → (A → List Tok) → TraitBoundOf A 
 trait_printed f x =
     option_printed (λ q. alone 63 ∷ []) x.maybe ++ (option_printed (λ l. lifetimes_own (lifetimes_of l) []) x.lifetimes ++ path_printed f x.path)
 
+unfoldable pub round_printed : {T R S : Type 0} → (T → List Tok) → (R → List Tok) → Punctuated T S → R → List Tok
+round_printed f g inputs output = grouped del.Parenthesis (punctuated_printed f comma inputs) ++ g output
+
+unfoldable pub fn_head_printed : {S : Type 0} → Option BoundLifetimes → Option S → Option Abi → List Tok
+fn_head_printed l u a =
+    option_printed (λ l. lifetimes_own (lifetimes_of l) []) l ++ (option_printed (word (codes "unsafe")) u ++ (option_printed (λ a. extern_own (abi_of a) []) a ++ ident (codes "fn") ∷ []))
+
+abbrev pub fn_ptr_printed : («Type» → List Tok) → (ReturnType → List Tok) → TypeFnPtr → List Tok
+fn_ptr_printed f g x = fn_head_printed x.lifetimes x.unsafety x.abi ++ round_printed (arg_printed f) g x.inputs x.output
+
 -- ---- attributes
 
 abbrev pub bang_printed : Bool → List Tok
 bang_printed true = alone 33 ∷ []
 bang_printed false = []
+
+-- ---- qualified paths
+
+abbrev pub closed_printed : ℕ → List Tok
+closed_printed n = if n == 1 then alone 62 ∷ [] else []
+
+-- `>` behind the last of the n segments that stand inside
+abbrev pub inside_printed : {A P : Type 0} → (A → List Tok) → ℕ → List (A × P) → Option (Box A Global) → List Tok
+inside_printed f n [] None = []
+inside_printed f n [] (Some b) = f b.value ++ closed_printed n
+inside_printed f n (q ∷ qs) o = f q.0 ++ (closed_printed n ++ (colon2 q.1 ++ inside_printed f (n - 1) qs o))
+
+-- `>` at once where none stand inside, else `as`
+abbrev pub qself_end_printed : ℕ → List Tok
+qself_end_printed n = if n == 0 then alone 62 ∷ [] else ident (codes "as") ∷ []
+
+abbrev pub qualified_printed : {T A : Type 0} → (T → List Tok) → (A → List Tok) → QSelfOf T → PathOf A → ℕ → List Tok
+qualified_printed f g q p n =
+    alone 60 ∷ (f q.ty.value ++ (qself_end_printed n ++ (option_printed colon2 p.leading_colon ++ inside_printed (segment_printed g) n p.segments.inner.items p.segments.last)))
+
+abbrev pub qpath_printed : {T A : Type 0} → (T → List Tok) → (A → List Tok) → Option (QSelfOf T) → PathOf A → List Tok
+qpath_printed f g None p = path_printed g p
+qpath_printed f g (Some q) p = qualified_printed f g q p (at_most q.position (length (values p.segments)))

@@ -8,6 +8,6 @@ pub mod lifetime;
 pub mod lit;
 pub mod mac;
 pub mod path;
-mod print;
+pub mod print;
 pub mod punctuated;
 pub mod ty;

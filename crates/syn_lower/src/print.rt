@@ -1,9 +1,9 @@
 //! The printers of the parts: each writes its own spelling, the last punct of each token alone.
 
-ghost use Rattle.std.specs.Prelude.{◌≡◌, ◌++◌, [], ◌∷◌, OnOk, OnErr};
-ghost use Rattle.syn_lower.specs.Printed.{option_printed, pairs_printed, grouped};
-ghost use Rattle.syn_lower.specs.View.{delimiter_of};
-ghost use Rattle.syn_parts.specs.Own.{alone};
+ghost use Rattle.std.specs.Prelude.{length, ◌≡◌, ◌++◌, [], ◌∷◌, OnOk, OnErr};
+ghost use Rattle.syn_lower.specs.Printed.{option_printed, pairs_printed, grouped, colon2, closed_printed, inside_printed, qself_end_printed, qualified_printed, qpath_printed, round_printed, fn_head_printed};
+ghost use Rattle.syn_lower.specs.View.{delimiter_of, values, type_of, arguments_of, path_of, path_with, qself_or};
+ghost use Rattle.syn_parts.specs.Own.{alone, joint, at_most, type_own};
 ghost use Rattle.syn_tokens.specs.Input.{IsFront};
 ghost use Rattle.syn_tokens.specs.Tok as tok;
 
@@ -13,7 +13,7 @@ use crate::lifetime::Lifetime;
 use crate::mac::{MacroDelimiter, MacroOf};
 use crate::path::{
     AngleBracketedGenericArgumentsOf, AssocTypeOf, GenericArgument, ParenthesizedGenericArguments,
-    PathArguments, PathOf, PathSegmentOf, QSelfOf,
+    Path, PathArguments, PathOf, PathSegmentOf, QSelf, QSelfOf,
 };
 use crate::punctuated::Punctuated;
 use crate::ty::{
@@ -25,7 +25,7 @@ use syn_tokens::Spacing;
 use syn_tokens::buffer::ToTokens;
 use syn_tokens::copy::copy_trees;
 use syn_tokens::error::Result;
-use syn_tokens::token::Colon;
+use syn_tokens::token::{As, Colon, Comma, Fn, Gt, Paren, PathSep, RArrow, Unsafe};
 use syn_tokens::tree::{Ident, Punct, TokenStream, TokenTree};
 
 /// Prints a part that may be missing.
@@ -432,4 +432,313 @@ impl<A: ToTokens> ToTokens for TraitBoundOf<A> {
         print_some(&self.lifetimes, tokens)?;
         self.path.to_tokens(tokens)
     }
+}
+
+/// How many of `count` segments stand before `>`: no more than there are.
+fn inside_count(position: usize, count: usize) -> usize
+    ensures { result ≡ at_most position count }
+{
+    if position <= count { position } else { count }
+}
+
+/// Prints the `>` behind the last of the segments that stand inside.
+#[tactic(auto, using(crate::proofs::Fronts::fronts), unfolding(syn_tokens::specs::Sign::sign_text))]
+fn print_close(left: usize, gt: &Gt, tokens: &mut TokenStream) -> Result<()>
+    ensures ok { OnOk result (tokens.new ≡ tokens.old ++ closed_printed left) }
+    ensures err { OnErr result (IsFront tokens.old tokens.new) }
+{
+    if left == 1 {
+        gt.to_tokens(tokens)
+    } else {
+        Ok(())
+    }
+}
+
+/// Prints `::`.
+#[tactic(auto, unfolding(syn_tokens::specs::Sign::sign_text))]
+fn print_colons(colons: &PathSep, tokens: &mut TokenStream) -> Result<()>
+    ensures ok { OnOk result (tokens.new ≡ tokens.old ++ colon2 colons.now) }
+    ensures err { OnErr result (IsFront tokens.old tokens.new) }
+{
+    colons.to_tokens(tokens)
+}
+
+/// Prints segments of which `left` stand before `>`.
+#[tactic(auto, using(crate::proofs::Fronts::fronts))]
+fn print_inside<S: ToTokens>(
+    mut left: usize,
+    gt: &Gt,
+    mut pairs: &[(S, PathSep)],
+    last: &Option<Box<S>>,
+    tokens: &mut TokenStream,
+) -> Result<()>
+    ensures ok { OnOk result (tokens.new ≡ tokens.old ++ inside_printed S.printed left pairs.entry.now last.now) }
+    ensures err { OnErr result (IsFront tokens.old tokens.new) }
+{
+    'pairs: while let [(segment, colons), more @ ..] = pairs {
+        segment.to_tokens(tokens)?;
+        print_close(left, gt, tokens)?;
+        print_colons(colons, tokens)?;
+        left = left.saturating_sub(1);
+        pairs = more;
+    }
+    if let Some(segment) = last {
+        segment.to_tokens(tokens)?;
+        print_close(left, gt, tokens)?;
+    }
+    Ok(())
+}
+
+/// Prints what stands behind the type of a qualified path.
+#[tactic(auto, using(crate::proofs::Fronts::fronts), unfolding(syn_tokens::specs::Sign::sign_text, syn_tokens::specs::Sign::word_text))]
+fn print_qself_end(
+    inside: usize,
+    as_token: &Option<As>,
+    gt: &Gt,
+    tokens: &mut TokenStream,
+) -> Result<()>
+    ensures ok { OnOk result (tokens.new ≡ tokens.old ++ qself_end_printed inside) }
+    ensures err { OnErr result (IsFront tokens.old tokens.new) }
+{
+    if inside == 0 {
+        return gt.to_tokens(tokens);
+    }
+    match as_token {
+        Some(word) => word.to_tokens(tokens),
+        None => As::default().to_tokens(tokens),
+    }
+}
+
+/// Prints a path behind the type that it is qualified by.
+#[tactic(auto, using(crate::proofs::Fronts::fronts), unfolding(syn_tokens::specs::Sign::sign_text))]
+fn print_qualified<T: ToTokens, A: ToTokens>(
+    qself: &QSelfOf<T>,
+    path: &PathOf<A>,
+    tokens: &mut TokenStream,
+) -> Result<()>
+    ensures ok { OnOk result (tokens.new ≡ tokens.old ++ qualified_printed T.printed A.printed qself.now path.now (at_most qself.now.position (length (values path.now.segments)))) }
+    ensures err { OnErr result (IsFront tokens.old tokens.new) }
+{
+    let inside = inside_count(qself.position, path.segments.len());
+    qself.lt_token.to_tokens(tokens)?;
+    qself.ty.to_tokens(tokens)?;
+    print_qself_end(inside, &qself.as_token, &qself.gt_token, tokens)?;
+    print_some(&path.leading_colon, tokens)?;
+    print_inside(
+        inside,
+        &qself.gt_token,
+        &path.segments.inner,
+        &path.segments.last,
+        tokens,
+    )
+}
+
+/// Prints a path and the type that it is qualified by, if there is one.
+fn print_with_qself<T: ToTokens, A: ToTokens>(
+    qself: &Option<QSelfOf<T>>,
+    path: &PathOf<A>,
+    tokens: &mut TokenStream,
+) -> Result<()>
+    ensures ok { OnOk result (tokens.new ≡ tokens.old ++ qpath_printed T.printed A.printed qself.now path.now) }
+    ensures err { OnErr result (IsFront tokens.old tokens.new) }
+{
+    match qself {
+        Some(qself) => print_qualified(qself, path, tokens),
+        None => path.to_tokens(tokens),
+    }
+}
+
+/// Prints values in parentheses, and what follows them.
+#[tactic(auto, using(crate::proofs::Fronts::fronts), unfolding(crate::specs::Printed::round_printed, syn_tokens::specs::Sign::sign_text))]
+fn print_round<T: ToTokens, R: ToTokens>(
+    paren: &Paren,
+    inputs: &Punctuated<T, Comma>,
+    output: &R,
+    tokens: &mut TokenStream,
+) -> Result<()>
+    ensures ok { OnOk result (tokens.new ≡ tokens.old ++ round_printed T.printed R.printed inputs.now output.now) }
+    ensures err { OnErr result (IsFront tokens.old tokens.new) }
+{
+    let mut inside = TokenStream::new(tokens.alloc());
+    inputs.to_tokens(&mut inside)?;
+    tokens.push(paren.enclose(inside))?;
+    output.to_tokens(tokens)
+}
+
+/// Prints `->` and a type.
+#[tactic(auto, using(crate::proofs::Fronts::fronts), unfolding(syn_tokens::specs::Sign::sign_text))]
+fn print_arrow<T: ToTokens>(arrow: &RArrow, ty: &T, tokens: &mut TokenStream) -> Result<()>
+    ensures ok { OnOk result (tokens.new ≡ tokens.old ++ joint 45 ∷ alone 62 ∷ T.printed ty.now) }
+    ensures err { OnErr result (IsFront tokens.old tokens.new) }
+{
+    arrow.to_tokens(tokens)?;
+    ty.to_tokens(tokens)
+}
+
+/// Prints what stands before the arguments of a function pointer.
+#[tactic(auto, using(crate::proofs::Fronts::fronts), unfolding(crate::specs::Printed::fn_head_printed, syn_tokens::specs::Sign::word_text))]
+fn print_fn_head(
+    lifetimes: &Option<BoundLifetimes>,
+    unsafety: &Option<Unsafe>,
+    abi: &Option<Abi>,
+    fn_token: &Fn,
+    tokens: &mut TokenStream,
+) -> Result<()>
+    ensures ok { OnOk result (tokens.new ≡ tokens.old ++ fn_head_printed lifetimes.now unsafety.now abi.now) }
+    ensures err { OnErr result (IsFront tokens.old tokens.new) }
+{
+    print_some(lifetimes, tokens)?;
+    print_some(unsafety, tokens)?;
+    print_some(abi, tokens)?;
+    fn_token.to_tokens(tokens)
+}
+
+impl ToTokens for GenericArgument {
+    ghost use Rattle.syn_lower.specs.View.{generic_of};
+    ghost use Rattle.syn_parts.specs.Own.{generic_own};
+
+    ghost printed = { λ x. generic_own (generic_of x) [] };
+
+    #[cycle(print)]
+    #[tactic(auto, using(crate::proofs::Prints::kinds))]
+    fn to_tokens(&self, tokens: &mut TokenStream) -> Result<()> {
+        match self {
+            GenericArgument::Lifetime(x) => x.to_tokens(tokens),
+            GenericArgument::Const(x) => x.to_tokens(tokens),
+            GenericArgument::AssocType(x) => x.to_tokens(tokens),
+            GenericArgument::Ty(x) => x.to_tokens(tokens),
+        }
+    }
+}
+
+impl ToTokens for PathArguments {
+    ghost use Rattle.syn_lower.specs.View.{arguments_of};
+    ghost use Rattle.syn_parts.specs.Own.{arguments_own};
+
+    ghost printed = { λ x. arguments_own (arguments_of x) [] };
+
+    #[cycle(print)]
+    #[tactic(auto, using(crate::proofs::Fronts::fronts, crate::proofs::Prints::kinds))]
+    fn to_tokens(&self, tokens: &mut TokenStream) -> Result<()> {
+        match self {
+            PathArguments::None => Ok(()),
+            PathArguments::AngleBracketed(x) => x.to_tokens(tokens),
+            PathArguments::Parenthesized(x) => x.to_tokens(tokens),
+        }
+    }
+}
+
+impl ToTokens for ParenthesizedGenericArguments {
+    ghost use Rattle.syn_lower.specs.View.{round_of};
+    ghost use Rattle.syn_parts.specs.Own.{arguments_own};
+
+    ghost printed = { λ x. arguments_own (round_of x) [] };
+
+    #[cycle(print)]
+    #[tactic(auto, using(crate::proofs::Fronts::fronts, crate::proofs::Prints::kinds), unfolding(syn_tokens::specs::Sign::sign_text))]
+    fn to_tokens(&self, tokens: &mut TokenStream) -> Result<()> {
+        print_round(&self.paren_token, &self.inputs, &self.output, tokens)
+    }
+}
+
+impl ToTokens for ReturnType {
+    ghost use Rattle.syn_lower.specs.View.{return_of};
+    ghost use Rattle.syn_parts.specs.Own.{return_own};
+
+    ghost printed = { λ x. return_own (return_of x) [] };
+
+    #[cycle(print)]
+    #[tactic(auto, using(crate::proofs::Fronts::fronts, crate::proofs::Prints::kinds), unfolding(syn_tokens::specs::Sign::sign_text))]
+    fn to_tokens(&self, tokens: &mut TokenStream) -> Result<()> {
+        match self {
+            ReturnType::Default => Ok(()),
+            ReturnType::Given(arrow, ty) => print_arrow(arrow, &**ty, tokens),
+        }
+    }
+}
+
+impl ToTokens for TypeParamBound {
+    ghost use Rattle.syn_lower.specs.View.{bound_of};
+    ghost use Rattle.syn_parts.specs.Own.{bound_own};
+
+    ghost printed = { λ x. bound_own (bound_of x) [] };
+
+    #[cycle(print)]
+    #[tactic(auto, using(crate::proofs::Prints::kinds))]
+    fn to_tokens(&self, tokens: &mut TokenStream) -> Result<()> {
+        match self {
+            TypeParamBound::Lifetime(x) => x.to_tokens(tokens),
+            TypeParamBound::Trait(x) => x.to_tokens(tokens),
+        }
+    }
+}
+
+impl ToTokens for TypePath {
+    ghost use Rattle.syn_lower.specs.View.{type_path_of};
+    ghost use Rattle.syn_parts.specs.Own.{type_own};
+
+    ghost printed = { λ x. type_own (type_path_of x) [] };
+
+    #[cycle(print)]
+    #[tactic(auto, using(crate::proofs::Prints::kinds))]
+    fn to_tokens(&self, tokens: &mut TokenStream) -> Result<()> {
+        print_with_qself(&self.qself, &self.path, tokens)
+    }
+}
+
+impl ToTokens for TypeFnPtr {
+    ghost use Rattle.syn_lower.specs.View.{fn_ptr_of};
+    ghost use Rattle.syn_parts.specs.Own.{type_own};
+
+    ghost printed = { λ x. type_own (fn_ptr_of x) [] };
+
+    #[cycle(print)]
+    #[tactic(auto, using(crate::proofs::Fronts::fronts, crate::proofs::Prints::kinds), unfolding(syn_tokens::specs::Sign::sign_text, syn_tokens::specs::Sign::word_text))]
+    fn to_tokens(&self, tokens: &mut TokenStream) -> Result<()> {
+        print_fn_head(
+            &self.lifetimes,
+            &self.unsafety,
+            &self.abi,
+            &self.fn_token,
+            tokens,
+        )?;
+        print_round(&self.paren_token, &self.inputs, &self.output, tokens)
+    }
+}
+
+impl ToTokens for Type {
+    ghost use Rattle.syn_lower.specs.View.{type_of};
+    ghost use Rattle.syn_parts.specs.Own.{type_own};
+
+    ghost printed = { λ x. type_own (type_of x) [] };
+
+    #[cycle(print)]
+    #[tactic(auto, using(crate::proofs::Prints::kinds))]
+    fn to_tokens(&self, tokens: &mut TokenStream) -> Result<()> {
+        match self {
+            Type::Path(x) => x.to_tokens(tokens),
+            Type::Macro(x) => x.to_tokens(tokens),
+            Type::Reference(x) => x.to_tokens(tokens),
+            Type::Ptr(x) => x.to_tokens(tokens),
+            Type::Slice(x) => x.to_tokens(tokens),
+            Type::Array(x) => x.to_tokens(tokens),
+            Type::Tuple(x) => x.to_tokens(tokens),
+            Type::Paren(x) => x.to_tokens(tokens),
+            Type::Never(x) => x.to_tokens(tokens),
+            Type::Infer(x) => x.to_tokens(tokens),
+            Type::FnPtr(x) => x.to_tokens(tokens),
+            Type::ImplTrait(x) => x.to_tokens(tokens),
+            Type::TraitObject(x) => x.to_tokens(tokens),
+        }
+    }
+}
+
+/// Prints a path and the type that it is qualified by, if there is one: `<T as a::b>::c`, or the path alone. `position`
+/// says how many segments stand before `>`; where the path has fewer, all do.
+#[tactic(auto, using(crate::proofs::Prints::qpaths))]
+pub fn print_qpath(qself: &Option<QSelf>, path: &Path, tokens: &mut TokenStream) -> Result<()>
+    ensures ok { OnOk result (tokens.new ≡ tokens.old ++ type_own (path_with (qself_or type_of qself.now) (path_of arguments_of path.now)) []) }
+    ensures err { OnErr result (IsFront tokens.old tokens.new) }
+{
+    print_with_qself(qself, path, tokens)
 }

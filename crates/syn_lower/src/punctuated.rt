@@ -15,7 +15,6 @@ pub struct Punctuated<T, P> {
 impl<T: Drop, P: Drop> Punctuated<T, P> {
     ghost use Rattle.syn_lower.specs.View.{values, trails};
     ghost use Rattle.syn_lower.specs.Punct.{puncts, takes_value, IsSameList};
-    ghost use Rattle.syn_lower.specs.PunctIter.{left};
 
     /// An empty list.
     #[tactic(auto, unfolding(crate::specs::View::values, crate::specs::View::trails, crate::specs::Punct::puncts, crate::specs::Punct::takes_value))]
@@ -75,6 +74,11 @@ impl<T: Drop, P: Drop> Punctuated<T, P> {
         }
         Ok(())
     }
+}
+
+impl<T, P> Punctuated<T, P> {
+    ghost use Rattle.syn_lower.specs.View.{values, trails};
+    ghost use Rattle.syn_lower.specs.PunctIter.{left};
 
     /// How many values there are.
     #[tactic(auto, unfolding(crate::specs::View::values))]
