@@ -454,6 +454,10 @@ pub more_alike : {A : Type 0} {k : ℕ} {m : Mark} {f f' : Form A} → Present m
 unfolding more
 more_alike p a = fix_alike (more_steps p a) tt
 
+pub more_is : {A : Type 0} (m : Mark) (f : Form A) → Present m → ((k : ℕ) → Alike k f f) → (l : List Tok) → (more m f).reads l ≡ (more_step m f (λ i. more m f) tt).reads l
+unfolding more
+more_is m f p a l = fix_is (λ k. more_steps p (a k)) tt l
+
 pub more_stands : {A : Type 0} (m : Mark) (f : Form A) → Present m → ((k : ℕ) → Alike k f f) → (q : List A) (l n : List Tok)
     → (more_step m f (λ i. more m f) tt).behind q l ≡ Some n → (more m f).behind q l ≡ Some n
 unfolding more

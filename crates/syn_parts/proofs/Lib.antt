@@ -9,3 +9,6 @@ pub mod Behind
 pub mod Fronts
 pub mod TypesBack
 pub mod Whole
+pub mod Loops
+pub mod Tails
+pub mod TailParts

@@ -25,7 +25,7 @@ use Rattle.syn_parts.proofs.Forms.{Alike, Finds, leaf_alike, Steps, fix_alike, f
 
 -- ---- what is found has tokens
 
-word_some : (b : Bool) (w : Text) (l : List Tok) (x : Text) (n : List Tok) → word_if b w l ≡ Some (x, n) → l ≡ n
+pub word_some : (b : Bool) (w : Text) (l : List Tok) (x : Text) (n : List Tok) → word_if b w l ≡ Some (x, n) → l ≡ n
 word_some true w l x n h = ap (λ z. z.1) (some_is h)
 word_some false w l x n h = absurd cc
 
@@ -68,15 +68,15 @@ finds_arg_name = record { falls = falls }
     falls (ident w ∷ l) x n h = falls_by l n (ident w ∷ l) (word_some (is_arg_name w) w l x n h) (one_less (ident w) l)
     falls _ x n h = absurd cc
 
-lit_some : (o : Option LitKind) (w : Text) (l : List Tok) (x : LitTree) (n : List Tok) → lit_if o w l ≡ Some (x, n) → l ≡ n
+pub lit_some : (o : Option LitKind) (w : Text) (l : List Tok) (x : LitTree) (n : List Tok) → lit_if o w l ≡ Some (x, n) → l ≡ n
 lit_some (Some k) w l x n h = ap (λ z. z.1) (some_is h)
 lit_some None w l x n h = absurd cc
 
-truth_some : (b : Bool) (w : Text) (l : List Tok) (x : LitTree) (n : List Tok) → truth_if b w l ≡ Some (x, n) → l ≡ n
+pub truth_some : (b : Bool) (w : Text) (l : List Tok) (x : LitTree) (n : List Tok) → truth_if b w l ≡ Some (x, n) → l ≡ n
 truth_some true w l x n h = ap (λ z. z.1) (some_is h)
 truth_some false w l x n h = absurd cc
 
-negative_some : (b : Bool) (w : Text) (l : List Tok) (x : LitTree) (n : List Tok) → negative_if b w l ≡ Some (x, n) → l ≡ n
+pub negative_some : (b : Bool) (w : Text) (l : List Tok) (x : LitTree) (n : List Tok) → negative_if b w l ≡ Some (x, n) → l ≡ n
 negative_some true w l x n h = ap (λ z. z.1) (some_is h)
 negative_some false w l x n h = absurd cc
 
@@ -102,22 +102,22 @@ finds_signed = record { falls = falls }
     falls (ident w ∷ l) x n h = lit_falls (ident w ∷ l) x n h
     falls (group d i ∷ l) x n h = absurd cc
 
+pub string_some : (w : Text) (l : List Tok) (o : Option LitKind) (x : LitTree) (n : List Tok) → string_if o w l ≡ Some (x, n) → l ≡ n
+string_some w l None x n h = absurd cc
+string_some w l (Some kind.Str) x n h = ap (λ z. z.1) (some_is h)
+string_some w l (Some kind.ByteStr) x n h = absurd cc
+string_some w l (Some kind.CStr) x n h = absurd cc
+string_some w l (Some kind.Byte) x n h = absurd cc
+string_some w l (Some kind.Char) x n h = absurd cc
+string_some w l (Some kind.Int) x n h = absurd cc
+string_some w l (Some kind.Float) x n h = absurd cc
+string_some w l (Some kind.Bool) x n h = absurd cc
+
 finds_string : Finds find_string
 finds_string = record { falls = falls }
   where
-    by_kind : (w : Text) (l : List Tok) (o : Option LitKind) (x : LitTree) (n : List Tok) → string_if o w l ≡ Some (x, n) → l ≡ n
-    by_kind w l None x n h = absurd cc
-    by_kind w l (Some kind.Str) x n h = ap (λ z. z.1) (some_is h)
-    by_kind w l (Some kind.ByteStr) x n h = absurd cc
-    by_kind w l (Some kind.CStr) x n h = absurd cc
-    by_kind w l (Some kind.Byte) x n h = absurd cc
-    by_kind w l (Some kind.Char) x n h = absurd cc
-    by_kind w l (Some kind.Int) x n h = absurd cc
-    by_kind w l (Some kind.Float) x n h = absurd cc
-    by_kind w l (Some kind.Bool) x n h = absurd cc
-
     falls : (l : List Tok) (x : LitTree) (n : List Tok) → find_string l ≡ Some (x, n) → weight n ≤ weight l
-    falls (literal w ∷ l) x n h = falls_by l n (literal w ∷ l) (by_kind w l (kind_of w) x n h) (one_less (literal w) l)
+    falls (literal w ∷ l) x n h = falls_by l n (literal w ∷ l) (string_some w l (kind_of w) x n h) (one_less (literal w) l)
     falls _ x n h = absurd cc
 
 finds_kept : (d : Delimiter) → Finds (λ l. group_at d l)
@@ -140,7 +140,7 @@ finds_all = record { falls = falls }
     falls [] x n h = absurd cc
     falls (y ∷ l) x n h = falls_by [] n (y ∷ l) (ap (λ z. z.1) (some_is h)) (omega arith)
 
-const_some : (b : Bool) (w l : List Tok) (x : List Tok) (n : List Tok) → const_if b w l ≡ Some (x, n) → l ≡ n
+pub const_some : (b : Bool) (w l : List Tok) (x : List Tok) (n : List Tok) → const_if b w l ≡ Some (x, n) → l ≡ n
 const_some true w l x n h = ap (λ z. z.1) (some_is h)
 const_some false w l x n h = absurd cc
 

@@ -217,3 +217,10 @@ extend found o = and_then o (λ p m. Some ((found ++ p.0, p.1), m))
 
 unfoldable pub gathered : {A : Type 0} → Mark → Test → Form A → List A → List Tok → Outcome (List A × Bool)
 gathered m stop f found l = extend found ((tail m stop f).reads l)
+
+-- the same of a list that nothing ends but its last element
+abbrev pub extend_more : {A : Type 0} → List A → Outcome (List A) → Outcome (List A)
+extend_more found o = and_then o (λ xs m. Some (found ++ xs, m))
+
+unfoldable pub gathered_more : {A : Type 0} → Mark → Form A → List A → List Tok → Outcome (List A)
+gathered_more m f found l = extend_more found ((more m f).reads l)
