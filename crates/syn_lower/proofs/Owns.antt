@@ -1,5 +1,5 @@
 -- Own tokens before others.
-use Rattle.std.proofs.Common.{◌≡◌, ℕ, ◌-◌, ◌==◌, ◌||◌, Bool, true, false, not, ◌&&◌, List, [], ◌∷◌, ◌++◌, map, Option, Some, None, refl, sym, ap, ◌∙◌, append_assoc, arith, rules}
+use Rattle.std.proofs.Common.{◌≡◌, ℕ, zero, suc, ◌==◌, ◌||◌, Bool, true, false, not, ◌&&◌, List, [], ◌∷◌, ◌++◌, map, Option, Some, None, refl, sym, ap, ◌∙◌, append_assoc, arith, rules}
 use Rattle.std.proofs.lemmas.List.{append-nil}
 use Rattle.std.specs.Prelude.{is_some, codes, if◌then◌else◌}
 use Rattle.std.specs.declared.boxed.Box.{Box}
@@ -12,7 +12,7 @@ use Rattle.syn_parts.specs.declared.label.LitKind.TheVariants as kind
 use Rattle.syn_parts.specs.Text.{Text}
 use Rattle.syn_parts.specs.Tree as t
 use Rattle.syn_parts.specs.Tree.{LitTree, LifetimesTree, TypeTree, Types, QSelfTree, Segments, FnArgs, ArgumentsTree, Generics, GenericTree, ReturnTree, Bounds, BoundTree}
-use Rattle.syn_parts.specs.Own.{alone, joint, before_if, before_some, comma_before, colon2_before, closed_at, qself_end, lifetime_own, lifetimes_own, lit_own, lit_own_by, number_own, string_own, extern_own, enclosed, count_segments, inner_count, at_most, no_more_types, no_more_segments, no_more_generics, no_more_args, no_more_bounds, type_own, types_own, qself_own, segments_own, arguments_own, generics_own, generic_own, return_own, args_own, bounds_own, bound_own, attribute_own, listed_own}
+use Rattle.syn_parts.specs.Own.{alone, joint, before_if, before_some, comma_before, colon2_before, closed_at, qself_end, lifetime_own, lifetimes_own, lit_own, lit_own_by, number_own, string_own, extern_own, enclosed, count_segments, inner_count, at_most, no_more_types, no_more_segments, no_more_generics, no_more_args, no_more_bounds, type_own, types_own, qself_own, segments_own, arguments_own, generics_own, generic_own, return_own, args_own, bounds_own, bound_own, attribute_own, elements_own, one_less}
 use Rattle.syn_lower.specs.Printed.{bang_printed, comma, option_printed, pairs_printed, punctuated_printed}
 use Rattle.syn_lower.specs.View.{attribute_of, is_inner, values, trails, last_of, is_some_pair, lifetime_of, lifetimes_of}
 use Rattle.syn_lower.specs.declared.ty.BoundLifetimes.{BoundLifetimes}
@@ -40,7 +40,7 @@ module _ {A B P : Type 0} (own : B → List Tok → List Tok) (sep : List Tok �
   step x p m = a.before x (sep m) ∙ ap (λ l. own x [] ++ l) (s p m) ∙ sym (append_assoc (own x []) (g p) m)
 
   pairs_own : (xs : List (A × P)) (o : Option (Box A Global)) (r : List Tok)
-      → listed_own own sep (map f (map (λ q. q.0) xs ++ last_of o)) (is_some_pair xs && not (is_some o)) r
+      → elements_own own sep (map f (map (λ q. q.0) xs ++ last_of o)) (is_some_pair xs && not (is_some o)) r
       ≡ (pairs_printed (λ x. own (f x) []) g xs ++ option_printed (λ b. own (f b.value) []) o) ++ r
   unfolding option_printed
   pairs_own [] None r = refl
@@ -49,7 +49,7 @@ module _ {A B P : Type 0} (own : B → List Tok → List Tok) (sep : List Tok �
   pairs_own (q ∷ []) (Some b) r = step (f q.0) q.1 (own (f b.value) r) ∙ ap (λ m. (own (f q.0) [] ++ g q.1) ++ m) (a.before (f b.value) r) ∙ grind (arith, append_assoc, append-nil)
   pairs_own (q ∷ u ∷ xs) o r = step (f q.0) q.1 _ ∙ ap (λ m. (own (f q.0) [] ++ g q.1) ++ m) (pairs_own (u ∷ xs) o r) ∙ grind (arith, append_assoc)
 
-  pub listed_own-punctuated : (p : Punctuated A P) (r : List Tok) → listed_own own sep (map f (values p)) (trails p) r ≡ punctuated_printed (λ x. own (f x) []) g p ++ r
+  pub listed_own-punctuated : (p : Punctuated A P) (r : List Tok) → elements_own own sep (map f (values p)) (trails p) r ≡ punctuated_printed (λ x. own (f x) []) g p ++ r
   unfolding values trails punctuated_printed
   listed_own-punctuated p r = pairs_own p.inner.items p.last r
 
@@ -88,18 +88,13 @@ colons : (r : List Tok) → colon2_before r ≡ colon2_before [] ++ r
 colons r = refl
 
 closes : (n : ℕ) (r : List Tok) → closed_at n r ≡ closed_at n [] ++ r
-closes n r = by (n == 1)
-  where
-    by : (b : Bool) → (if b then alone 62 ∷ r else r) ≡ (if b then alone 62 ∷ [] else []) ++ r
-    by true = refl
-    by false = refl
+closes zero r = refl
+closes (suc zero) r = refl
+closes (suc (suc n)) r = refl
 
 qself_closes : (n : ℕ) (r : List Tok) → qself_end n r ≡ qself_end n [] ++ r
-qself_closes n r = by (n == 0)
-  where
-    by : (b : Bool) → (if b then alone 62 ∷ r else ident (codes "as") ∷ r) ≡ (if b then alone 62 ∷ [] else ident (codes "as") ∷ []) ++ r
-    by true = refl
-    by false = refl
+qself_closes zero r = refl
+qself_closes (suc n) r = refl
 
 numbers_append : (text : Text) (r : List Tok) → number_own text r ≡ number_own text [] ++ r
 numbers_append [] r = refl
@@ -130,14 +125,14 @@ string_append (Some x) r = lit_append x r
 pub extern_append : (o : Option LitTree) (r : List Tok) → extern_own o r ≡ extern_own o [] ++ r
 extern_append o r = ap (λ m. ident (codes "extern") ∷ m) (string_append o r)
 
-listed_append : (xs : List Text) (e : Bool) (r : List Tok) → listed_own lifetime_own comma_before xs e r ≡ listed_own lifetime_own comma_before xs e [] ++ r
+listed_append : (xs : List Text) (e : Bool) (r : List Tok) → elements_own lifetime_own comma_before xs e r ≡ elements_own lifetime_own comma_before xs e [] ++ r
 listed_append [] e r = refl
 listed_append (x ∷ []) e r = ap (λ m. joint 39 ∷ ident x ∷ m) (if_there e commas r)
 listed_append (x ∷ y ∷ xs) e r = ap (λ m. joint 39 ∷ ident x ∷ alone 44 ∷ m) (listed_append (y ∷ xs) e r)
 
 pub lifetimes_own-append : (p : LifetimesTree) (r : List Tok) → lifetimes_own p r ≡ lifetimes_own p [] ++ r
 unfolding lifetimes_own
-lifetimes_own-append p r = ap (λ m. ident (codes "for") ∷ alone 60 ∷ m) (both {F = λ m. listed_own lifetime_own comma_before p.0 p.1 m} {G = λ m. alone 62 ∷ m} (listed_append p.0 p.1) (λ m. refl) r)
+lifetimes_own-append p r = ap (λ m. ident (codes "for") ∷ alone 60 ∷ m) (both {F = λ m. elements_own lifetime_own comma_before p.0 p.1 m} {G = λ m. alone 62 ∷ m} (listed_append p.0 p.1) (λ m. refl) r)
 
 word_first : (w : Text) (r : List Tok) → ident w ∷ r ≡ (ident w ∷ []) ++ r
 word_first w r = refl
@@ -183,7 +178,7 @@ mutual
   pub segments_append : (n : ℕ) (ss : Segments) (e : Bool) (r : List Tok) → segments_own n ss e r ≡ segments_own n ss e [] ++ r
   segments_append n t.no_segments e r = refl
   segments_append n (t.more_segments w a ss) e r =
-      both (word_first w) (both (arguments_append a) (both (closes n) (both (if_there (not (no_more_segments ss) || e) colons) (segments_append (n - 1) ss e)))) r
+      both (word_first w) (both (arguments_append a) (both (closes n) (both (if_there (not (no_more_segments ss) || e) colons) (segments_append (one_less n) ss e)))) r
 
   pub arguments_append : (a : ArgumentsTree) (r : List Tok) → arguments_own a r ≡ arguments_own a [] ++ r
   arguments_append t.no_arguments r = refl

@@ -1,6 +1,7 @@
 -- What is printed of each kind of part is its tree's own tokens.
-use Rattle.std.proofs.Common.{◌≡◌, ℕ, suc, ◌-◌, ◌==◌, ◌||◌, Bool, true, false, not, ◌&&◌, List, [], ◌∷◌, ◌++◌, map, length, Option, Some, None, refl, sym, ap, ◌∙◌, append_assoc, arith, rules}
+use Rattle.std.proofs.Common.{◌≡◌, ℕ, zero, suc, ◌-◌, ◌==◌, ◌||◌, Bool, true, false, not, ◌&&◌, List, [], ◌∷◌, ◌++◌, map, length, Option, Some, None, refl, sym, ap, ◌∙◌, append_assoc, arith, rules}
 use Rattle.std.proofs.lemmas.List.{append-nil}
+use Rattle.std.proofs.lemmas.Grind.{common_steps}
 use Rattle.std.specs.Prelude.{is_some, codes, if◌then◌else◌}
 use Rattle.std.specs.declared.boxed.Box.{Box}
 use Rattle.std.specs.declared.alloc.Global.{Global}
@@ -10,7 +11,7 @@ use Rattle.syn_tokens.specs.declared.token.Sign.{Sign}
 use Rattle.syn_parts.specs.Text.{Text}
 use Rattle.syn_parts.specs.Tree as t
 use Rattle.syn_parts.specs.Tree.{TypeTree, Types, SegmentTree, FnArgTree, ArgumentsTree, GenericTree, BoundTree}
-use Rattle.syn_parts.specs.Own.{alone, joint, before_if, before_some, comma_before, colon2_before, closed_at, qself_end, at_most, inner_count, count_segments, lifetime_own, lifetimes_own, extern_own, enclosed, listed_own, no_more_segments, type_own, types_own, segments_own, arguments_own, generics_own, generic_own, return_own, args_own, bounds_own, bound_own}
+use Rattle.syn_parts.specs.Own.{alone, joint, one_less, before_if, before_some, comma_before, colon2_before, closed_at, qself_end, at_most, inner_count, count_segments, lifetime_own, lifetimes_own, extern_own, enclosed, elements_own, no_more_segments, type_own, types_own, segments_own, arguments_own, generics_own, generic_own, return_own, args_own, bounds_own, bound_own}
 use Rattle.syn_lower.specs.View.{values, trails, last_of, is_some_pair, lifetime_of, lifetimes_of, mapped, abi_of, is_mut, arg_of, segment_of, qself_or, path_of, path_with, type_of, generic_of, arguments_of, return_of, bound_of, round_of, fn_ptr_of, type_path_of}
 use Rattle.syn_lower.specs.Printed.{option_printed, pairs_printed, punctuated_printed, comma, colon2, plus, word, grouped, segment_printed, path_printed, angle_printed, assoc_printed, macro_printed, reference_printed, mutability_printed, ptr_printed, slice_printed, array_printed, tuple_printed, paren_printed, impl_printed, object_printed, arg_printed, trait_printed, round_printed, fn_head_printed, fn_ptr_printed, closed_printed, inside_printed, qself_end_printed, qualified_printed, qpath_printed}
 use Rattle.syn_lower.proofs.Layers.{levels, generic_of-Lifetime, generic_of-Const, generic_of-AssocType, generic_of-Ty, arguments_of-None, arguments_of-AngleBracketed, arguments_of-Parenthesized, return_of-Default, return_of-Given, bound_of-Lifetime, bound_of-Trait, round_of-out, fn_ptr_of-out, type_path_of-out, type_of-Path, type_of-Macro, type_of-Reference, type_of-Ptr, type_of-Slice, type_of-Array, type_of-Tuple, type_of-Paren, type_of-Never, type_of-Infer, type_of-FnPtr, type_of-ImplTrait, type_of-TraitObject}
@@ -81,27 +82,27 @@ arg_own x r = before_some x.name (λ w l. ident w ∷ alone 58 ∷ l) (type_own 
 abbrev plus_before : List Tok → List Tok
 plus_before r = alone 43 ∷ r
 
-types_listed : (xs : List TypeTree) (e : Bool) (r : List Tok) → types_own (t.types_of xs) e r ≡ listed_own type_own comma_before xs e r
+types_listed : (xs : List TypeTree) (e : Bool) (r : List Tok) → types_own (t.types_of xs) e r ≡ elements_own type_own comma_before xs e r
 types_listed [] e r = refl
 types_listed (x ∷ []) e r = refl
 types_listed (x ∷ y ∷ xs) e r = ap (λ m. type_own x (comma_before m)) (types_listed (y ∷ xs) e r)
 
-generics_listed : (xs : List GenericTree) (e : Bool) (r : List Tok) → generics_own (t.generics_of xs) e r ≡ listed_own generic_own comma_before xs e r
+generics_listed : (xs : List GenericTree) (e : Bool) (r : List Tok) → generics_own (t.generics_of xs) e r ≡ elements_own generic_own comma_before xs e r
 generics_listed [] e r = refl
 generics_listed (x ∷ []) e r = refl
 generics_listed (x ∷ y ∷ xs) e r = ap (λ m. generic_own x (comma_before m)) (generics_listed (y ∷ xs) e r)
 
-args_listed : (xs : List FnArgTree) (e : Bool) (r : List Tok) → args_own (t.args_of xs) e r ≡ listed_own arg_own comma_before xs e r
+args_listed : (xs : List FnArgTree) (e : Bool) (r : List Tok) → args_own (t.args_of xs) e r ≡ elements_own arg_own comma_before xs e r
 args_listed [] e r = refl
 args_listed (x ∷ []) e r = refl
 args_listed (x ∷ y ∷ xs) e r = ap (λ m. arg_own x (comma_before m)) (args_listed (y ∷ xs) e r)
 
-bounds_listed : (xs : List BoundTree) (e : Bool) (r : List Tok) → bounds_own (t.bounds_of xs) e r ≡ listed_own bound_own plus_before xs e r
+bounds_listed : (xs : List BoundTree) (e : Bool) (r : List Tok) → bounds_own (t.bounds_of xs) e r ≡ elements_own bound_own plus_before xs e r
 bounds_listed [] e r = refl
 bounds_listed (x ∷ []) e r = refl
 bounds_listed (x ∷ y ∷ xs) e r = ap (λ m. bound_own x (plus_before m)) (bounds_listed (y ∷ xs) e r)
 
-segments_listed : (xs : List SegmentTree) (e : Bool) (r : List Tok) → segments_own 0 (t.segments_of xs) e r ≡ listed_own segment_own colon2_before xs e r
+segments_listed : (xs : List SegmentTree) (e : Bool) (r : List Tok) → segments_own 0 (t.segments_of xs) e r ≡ elements_own segment_own colon2_before xs e r
 segments_listed [] e r = refl
 segments_listed (x ∷ []) e r = refl
 segments_listed (x ∷ y ∷ xs) e r = ap (λ m. segment_own x (colon2_before m)) (segments_listed (y ∷ xs) e r)
@@ -174,18 +175,17 @@ pub path_print : (x : PathOf PathArguments) (r : List Tok) → before_if (is_som
 path_print x r = colon2_print x.leading_colon _ ∙ ap (λ m. option_printed colon2 x.leading_colon ++ m) (segments_print x.segments r) ∙ sym (append_assoc (option_printed colon2 x.leading_colon) (punctuated_printed (segment_printed ar_toks) colon2 x.segments) r)
 
 close_print : (n : ℕ) (r : List Tok) → closed_at n r ≡ closed_printed n ++ r
-close_print n r = by (n == 1)
-  where
-    by : (b : Bool) → (if b then alone 62 ∷ r else r) ≡ (if b then alone 62 ∷ [] else []) ++ r
-    by true = refl
-    by false = refl
+close_print zero r = refl
+close_print (suc zero) r = refl
+close_print (suc (suc n)) r = let h : ((suc (suc n)) == 1) ≡ false = grind (arith, common_steps) in ap (λ (b : Bool). (if b then alone 62 ∷ [] else []) ++ r) (sym h)
 
 end_print : (n : ℕ) (r : List Tok) → qself_end n r ≡ qself_end_printed n ++ r
-end_print n r = by (n == 0)
-  where
-    by : (b : Bool) → (if b then alone 62 ∷ r else ident (codes "as") ∷ r) ≡ (if b then alone 62 ∷ [] else ident (codes "as") ∷ []) ++ r
-    by true = refl
-    by false = refl
+end_print zero r = refl
+end_print (suc n) r = let h : ((suc n) == 0) ≡ false = grind (arith, common_steps) in ap (λ (b : Bool). (if b then alone 62 ∷ [] else ident (codes "as") ∷ []) ++ r) (sym h)
+
+one_less-is : (n : ℕ) → one_less n ≡ n - 1
+one_less-is zero = refl
+one_less-is (suc n) = omega arith
 
 -- a segment, `>` where it is the last inside, and what follows
 segment_last : (s : PathSegmentOf PathArguments) (n : ℕ) (r : List Tok) → segment_own (segment_of arguments_of s) (closed_at n r) ≡ (segment_printed ar_toks s ++ closed_printed n) ++ r
@@ -203,8 +203,8 @@ inside_print : {S : Type 0} (n : ℕ) (xs : List (PathSegmentOf PathArguments ×
 inside_print n [] None r = refl
 inside_print n [] (Some b) r = segment_last b.value n r
 inside_print n (q ∷ []) None r = segment_step q.0 n [] r r refl
-inside_print {S} n (q ∷ []) (Some b) r = segment_step q.0 n (inside_printed {P = S} (segment_printed ar_toks) (n - 1) [] (Some b)) r _ (inside_print {S = S} (n - 1) [] (Some b) r)
-inside_print n (q ∷ u ∷ xs) o r = segment_step q.0 n (inside_printed (segment_printed ar_toks) (n - 1) (u ∷ xs) o) r _ (inside_print (n - 1) (u ∷ xs) o r)
+inside_print {S} n (q ∷ []) (Some b) r = segment_step q.0 n (inside_printed {P = S} (segment_printed ar_toks) (n - 1) [] (Some b)) r _ (rw (one_less-is n) (inside_print {S = S} (n - 1) [] (Some b) r))
+inside_print n (q ∷ u ∷ xs) o r = segment_step q.0 n (inside_printed (segment_printed ar_toks) (n - 1) (u ∷ xs) o) r _ (rw (one_less-is n) (inside_print (n - 1) (u ∷ xs) o r))
 
 count_is : {A : Type 0} (f : A → SegmentTree) (xs : List A) → count_segments (t.segments_of (map f xs)) ≡ length xs
 count_is f [] = refl

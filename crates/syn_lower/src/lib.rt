@@ -4,6 +4,7 @@
 
 pub mod attr;
 pub mod block;
+mod front;
 pub mod lifetime;
 pub mod lit;
 pub mod mac;
