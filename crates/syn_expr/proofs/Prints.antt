@@ -13,7 +13,8 @@ use Rattle.syn_grammar.specs.declared.next.Role.TheVariants as role
 use Rattle.syn_grammar.specs.Next.{enclosed}
 use Rattle.syn_grammar.specs.declared.note.Note.{Note}
 use Rattle.syn_grammar.specs.Notes.{EndsWith, below, stack, note_of, closed_note, lead_note, mid_note}
-use Rattle.syn_grammar.specs.Rule.{bare, put}
+use Rattle.syn_grammar.proofs.Promise.{printed_whole}
+use Rattle.syn_grammar.specs.Rule.{bare, printed, put}
 use Rattle.syn_grammar.specs.Stands.{is_infix}
 use Rattle.syn_grammar.specs.Tree.{Tree, leaf, paren, lead, mid, lit, path, unary, Attr, adorn, attr_toks, attrs_toks, own_tokens, size, lit_tok, un_tok, path_toks, two, segments_toks, alone, joint}
 use Rattle.syn_expr.specs.declared.expr.Expr.{Expr}
@@ -25,7 +26,8 @@ use Rattle.syn_expr.specs.declared.expr.ExprPath.{ExprPath}
 use Rattle.syn_expr.specs.declared.expr.ExprUnaryOf.{ExprUnaryOf}
 use Rattle.syn_expr.specs.declared.path.Path as path_type
 use Rattle.syn_tokens.specs.declared.token.Sign.{Sign}
-use Rattle.syn_expr.specs.Printing.{segments_behind, noted_behind, words_of, is_some_attr, spelled, spelled_in, spelled_two}
+use Rattle.syn_expr.specs.Nodes.{has_some}
+use Rattle.syn_expr.specs.Printing.{segments_behind, noted_behind, words_of, spelled, spelled_in, spelled_two}
 use Rattle.syn_expr.specs.View.{tree_of, un_kind, bin_kind, lit_of, path_of, attrs_of}
 use Rattle.syn_expr.proofs.TreeOf.{tree-Binary, tree-Lit, tree-Paren, tree-Path, tree-Unary}
 
@@ -175,23 +177,23 @@ pub spelled-Unary : (c : Context) (x : ExprUnaryOf Expr) → spelled c (tree_of 
 unfolding spelled
 spelled-Unary c x = ap (λ t. own_tokens (bare c t)) (tree-Unary x) ∙ own_adorn (attrs_of x.attrs) c (lead (unary (un_kind x.op)) (tree_of x.expr.value)) refl
 
-own_two : (bs : List Attr) (c : Context) (l r : Tree) (k : Infix) → is_some_attr bs ≡ false → own_tokens (bare c (adorn bs (mid l k r))) ≡ attrs_toks bs ++ spelled_two c l k r
+own_two : (bs : List Attr) (c : Context) (l r : Tree) (k : Infix) → has_some bs ≡ false → own_tokens (bare c (adorn bs (mid l k r))) ≡ attrs_toks bs ++ spelled_two c l k r
 unfolding spelled
 own_two [] c l r k h = refl
 own_two (a ∷ more) c l r k h = absurd cc
 
-own_two_wrapped : (bs : List Attr) (c : Context) (l r : Tree) (k : Infix) → is_some_attr bs ≡ true
+own_two_wrapped : (bs : List Attr) (c : Context) (l r : Tree) (k : Infix) → has_some bs ≡ true
     → own_tokens (bare c (adorn bs (mid l k r))) ≡ attrs_toks bs ++ group delimiter.Parenthesis (inside (spelled_two enclosed l k r)) ∷ []
 unfolding spelled
 own_two_wrapped [] c l r k h = absurd cc
 own_two_wrapped (a ∷ more) c l r k h = sym (append_assoc (attr_toks a) (attrs_toks more) (group delimiter.Parenthesis (inside (spelled_two enclosed l k r)) ∷ []))
 
-pub spelled-Binary : (c : Context) (x : ExprBinaryOf Expr) → is_some_attr (attrs_of x.attrs) ≡ false → spelled c (tree_of (ex.Binary x))
+pub spelled-Binary : (c : Context) (x : ExprBinaryOf Expr) → has_some (attrs_of x.attrs) ≡ false → spelled c (tree_of (ex.Binary x))
     ≡ attrs_toks (attrs_of x.attrs) ++ spelled_two c (tree_of x.left.value) (inf.Binary (bin_kind x.op)) (tree_of x.right.value)
 unfolding spelled
 spelled-Binary c x h = ap (λ t. own_tokens (bare c t)) (tree-Binary x) ∙ own_two (attrs_of x.attrs) c (tree_of x.left.value) (tree_of x.right.value) (inf.Binary (bin_kind x.op)) h
 
-pub spelled-Binary-wrapped : (c : Context) (x : ExprBinaryOf Expr) → is_some_attr (attrs_of x.attrs) ≡ true → spelled c (tree_of (ex.Binary x))
+pub spelled-Binary-wrapped : (c : Context) (x : ExprBinaryOf Expr) → has_some (attrs_of x.attrs) ≡ true → spelled c (tree_of (ex.Binary x))
     ≡ attrs_toks (attrs_of x.attrs)
     ++ group delimiter.Parenthesis (inside (spelled_two enclosed (tree_of x.left.value) (inf.Binary (bin_kind x.op)) (tree_of x.right.value))) ∷ []
 unfolding spelled
@@ -215,3 +217,36 @@ stacked-Binary xs x h = subst (λ ys. EndsWith xs ys) (below-Binary x) h
 pub ruleset stacked = (stacked-Paren, stacked-Unary, stacked-Binary)
 
 pub ruleset joins = (append_assoc, append-nil)
+
+-- ---- a node that stands for itself
+
+whole : (t : Tree) → own_tokens (printed enclosed t) ≡ spelled enclosed t
+unfolding spelled
+whole t = ap own_tokens (printed_whole t)
+
+pub whole-Lit : (x : ExprLit) → own_tokens (printed enclosed (tree_of (ex.Lit x))) ≡ attrs_toks (attrs_of x.attrs) ++ lit_tok (lit_of x.lit) ∷ []
+whole-Lit x = whole (tree_of (ex.Lit x)) ∙ spelled-Lit enclosed x
+
+pub whole-Path : (x : ExprPath) → own_tokens (printed enclosed (tree_of (ex.Path x))) ≡ attrs_toks (attrs_of x.attrs) ++ path_toks (path_of x.path)
+whole-Path x = whole (tree_of (ex.Path x)) ∙ spelled-Path enclosed x
+
+pub whole-Paren : (x : ExprParenOf Expr) → own_tokens (printed enclosed (tree_of (ex.Paren x)))
+    ≡ attrs_toks (attrs_of x.attrs) ++ group delimiter.Parenthesis (inside (own_tokens (printed enclosed (tree_of x.expr.value)))) ∷ []
+whole-Paren x =
+    whole (tree_of (ex.Paren x)) ∙ spelled-Paren enclosed x
+    ∙ ap (λ l. attrs_toks (attrs_of x.attrs) ++ group delimiter.Parenthesis (inside l) ∷ []) (sym (whole (tree_of x.expr.value)))
+
+pub whole-Unary : (x : ExprUnaryOf Expr) → own_tokens (printed enclosed (tree_of (ex.Unary x)))
+    ≡ attrs_toks (attrs_of x.attrs) ++ un_tok (un_kind x.op) ∷ spelled_in (role.At lev.Prefix) enclosed (tree_of x.expr.value)
+whole-Unary x = whole (tree_of (ex.Unary x)) ∙ spelled-Unary enclosed x
+
+pub whole-Binary : (x : ExprBinaryOf Expr) → has_some (attrs_of x.attrs) ≡ false → own_tokens (printed enclosed (tree_of (ex.Binary x)))
+    ≡ attrs_toks (attrs_of x.attrs) ++ spelled_two enclosed (tree_of x.left.value) (inf.Binary (bin_kind x.op)) (tree_of x.right.value)
+whole-Binary x h = whole (tree_of (ex.Binary x)) ∙ spelled-Binary enclosed x h
+
+pub whole-Binary-wrapped : (x : ExprBinaryOf Expr) → has_some (attrs_of x.attrs) ≡ true → own_tokens (printed enclosed (tree_of (ex.Binary x)))
+    ≡ attrs_toks (attrs_of x.attrs)
+    ++ group delimiter.Parenthesis (inside (spelled_two enclosed (tree_of x.left.value) (inf.Binary (bin_kind x.op)) (tree_of x.right.value))) ∷ []
+whole-Binary-wrapped x h = whole (tree_of (ex.Binary x)) ∙ spelled-Binary-wrapped enclosed x h
+
+pub ruleset wholes = (whole-Lit, whole-Path, whole-Paren, whole-Unary, whole-Binary, whole-Binary-wrapped)

@@ -1,5 +1,5 @@
 -- Parts of the printed tokens.
-use Rattle.std.specs.Prelude.{ℕ, Bool, true, false, List, [], ◌∷◌, ◌++◌, map, if◌then◌else◌}
+use Rattle.std.specs.Prelude.{ℕ, Bool, true, List, [], ◌∷◌, ◌++◌, map, if◌then◌else◌}
 use Rattle.syn_tokens.specs.Tok.{Tok, ident}
 use Rattle.syn_grammar.specs.declared.note.Note.{Note}
 use Rattle.syn_grammar.specs.Notes.{adorned_note}
@@ -7,18 +7,13 @@ use Rattle.syn_grammar.specs.declared.kinds.Infix.{Infix}
 use Rattle.syn_grammar.specs.declared.next.Context.{Context}
 use Rattle.syn_grammar.specs.declared.next.Role.{Role}
 use Rattle.syn_grammar.specs.declared.next.Role.TheVariants as role
-use Rattle.syn_grammar.specs.Next.{left_context, right_context}
+use Rattle.syn_grammar.specs.Next.{enclosed, left_context, right_context}
 use Rattle.syn_grammar.specs.Op.{level}
-use Rattle.syn_grammar.specs.Rule.{bare, printed_in}
+use Rattle.syn_grammar.specs.Rule.{bare, printed, printed_in}
 use Rattle.syn_grammar.specs.Tree.{Attr, Tree, own_tokens, mid_toks, two}
 use Rattle.syn_expr.specs.declared.path.PathSegment.{PathSegment}
 use Rattle.syn_expr.specs.declared.punctuated.Punctuated.{Punctuated}
 use Rattle.syn_expr.specs.View.{values}
-
--- attributes stand before a node
-abbrev pub is_some_attr : List Attr → Bool
-is_some_attr [] = false
-is_some_attr (a ∷ more) = true
 
 -- a segment of a path, behind `::` or not
 abbrev pub segment_toks : Bool → List ℕ → List Tok
@@ -49,3 +44,7 @@ spelled_in r c t = own_tokens (printed_in r c t)
 abbrev pub spelled_two : Context → Tree → Infix → Tree → List Tok
 spelled_two c l k r =
     spelled_in (role.LeftOf k) (left_context k c) l ++ (mid_toks k ++ spelled_in (role.At (level k)) (right_context k c) r)
+
+-- the tokens of a tree that is printed for itself
+abbrev pub printed_toks : Tree → List Tok
+printed_toks t = own_tokens (printed enclosed t)

@@ -1,20 +1,18 @@
 //! What is noted of each node before anything is printed.
 
 ghost use Rattle.std.specs.Prelude.{◌≡◌, ◌^◌, ◌+◌, ◌-◌, ◌<◌, ◌≤◌, ◌++◌, ◌∷◌, [], min, nat_lt, IfOk, OnOk};
-ghost use Rattle.syn_grammar.specs.declared.kinds.Infix.TheVariants as inf;
-ghost use Rattle.syn_grammar.specs.declared.kinds.Level.TheVariants as lev;
 ghost use Rattle.syn_grammar.specs.Next as next_spec;
 ghost use Rattle.syn_grammar.specs.Notes as spec;
 ghost use Rattle.syn_grammar.specs.Op as op_spec;
-ghost use Rattle.syn_grammar.specs.Place.{rank};
+ghost use Rattle.syn_grammar.specs.Place as place;
 ghost use Rattle.syn_grammar.specs.Tree.{size};
 ghost use Rattle.syn_expr.specs.Printing.{noted_behind};
-ghost use Rattle.syn_expr.specs.View.{tree_of, attrs_of, bin_kind};
+ghost use Rattle.syn_expr.specs.View.{tree_of, attrs_of};
 
 use crate::attr::Attribute;
 use crate::expr::Expr;
-use crate::op::BinOp;
-use crate::tokens::has_outer;
+use crate::node::has_outer;
+use crate::op::{is_comparison, level, rank};
 use std::alloc::AllocError;
 use syn_grammar::kinds::{BinKind, Infix, Level};
 use syn_grammar::next::{Context, Next, Role};
@@ -26,97 +24,8 @@ const EVERY: u32 = 0x3f_ffff;
 /// The classes with which a trailer begins.
 const TRAILERS: u32 = 0x1e_0000;
 
-/// The kind of an operator.
-pub(crate) fn kind_of(op: BinOp) -> BinKind
-    ensures { result ≡ bin_kind op }
-{
-    match op {
-        BinOp::Add(_) => BinKind::Add,
-        BinOp::Sub(_) => BinKind::Sub,
-        BinOp::Mul(_) => BinKind::Mul,
-        BinOp::Div(_) => BinKind::Div,
-        BinOp::Rem(_) => BinKind::Rem,
-        BinOp::And(_) => BinKind::And,
-        BinOp::Or(_) => BinKind::Or,
-        BinOp::BitXor(_) => BinKind::BitXor,
-        BinOp::BitAnd(_) => BinKind::BitAnd,
-        BinOp::BitOr(_) => BinKind::BitOr,
-        BinOp::Shl(_) => BinKind::Shl,
-        BinOp::Shr(_) => BinKind::Shr,
-        BinOp::Eq(_) => BinKind::Eq,
-        BinOp::Lt(_) => BinKind::Lt,
-        BinOp::Le(_) => BinKind::Le,
-        BinOp::Ne(_) => BinKind::Ne,
-        BinOp::Ge(_) => BinKind::Ge,
-        BinOp::Gt(_) => BinKind::Gt,
-        BinOp::AddAssign(_) => BinKind::AddAssign,
-        BinOp::SubAssign(_) => BinKind::SubAssign,
-        BinOp::MulAssign(_) => BinKind::MulAssign,
-        BinOp::DivAssign(_) => BinKind::DivAssign,
-        BinOp::RemAssign(_) => BinKind::RemAssign,
-        BinOp::BitXorAssign(_) => BinKind::BitXorAssign,
-        BinOp::BitAndAssign(_) => BinKind::BitAndAssign,
-        BinOp::BitOrAssign(_) => BinKind::BitOrAssign,
-        BinOp::ShlAssign(_) => BinKind::ShlAssign,
-        BinOp::ShrAssign(_) => BinKind::ShrAssign,
-    }
-}
-
-/// The level of an operator.
-pub(crate) fn level(op: BinKind) -> Level
-    ensures { result ≡ op_spec.level_of op }
-{
-    match op {
-        BinKind::Mul | BinKind::Div | BinKind::Rem => Level::Product,
-        BinKind::Add | BinKind::Sub => Level::Sum,
-        BinKind::Shl | BinKind::Shr => Level::Shift,
-        BinKind::BitAnd => Level::BitAnd,
-        BinKind::BitXor => Level::BitXor,
-        BinKind::BitOr => Level::BitOr,
-        BinKind::Eq | BinKind::Lt | BinKind::Le | BinKind::Ne | BinKind::Ge | BinKind::Gt => {
-            Level::Compare
-        }
-        BinKind::And => Level::And,
-        BinKind::Or => Level::Or,
-        BinKind::AddAssign
-        | BinKind::SubAssign
-        | BinKind::MulAssign
-        | BinKind::DivAssign
-        | BinKind::RemAssign
-        | BinKind::BitXorAssign
-        | BinKind::BitAndAssign
-        | BinKind::BitOrAssign
-        | BinKind::ShlAssign
-        | BinKind::ShrAssign => Level::Assign,
-    }
-}
-
-/// How tight a level is.
-fn rank_of(level: Level) -> u8
-    ensures { result ≡ rank level }
-{
-    match level {
-        Level::Jump => 0,
-        Level::Assign => 1,
-        Level::Range => 2,
-        Level::Or => 3,
-        Level::And => 4,
-        Level::Let => 5,
-        Level::Compare => 6,
-        Level::BitOr => 7,
-        Level::BitXor => 8,
-        Level::BitAnd => 9,
-        Level::Shift => 10,
-        Level::Sum => 11,
-        Level::Product => 12,
-        Level::Cast => 13,
-        Level::Prefix => 14,
-        Level::Unambiguous => 15,
-    }
-}
-
-/// The class of an operator.
-pub(crate) fn class_of(op: BinKind) -> Next
+/// The class of a binary operator.
+fn class_of_binary(op: BinKind) -> Next
     ensures { result ≡ next_spec.class_of_binary op }
 {
     match op {
@@ -146,6 +55,18 @@ pub(crate) fn class_of(op: BinKind) -> Next
     }
 }
 
+/// The class of an infix operator.
+pub(crate) fn class_of(op: Infix) -> Next
+    ensures { result ≡ next_spec.class_of op }
+{
+    match op {
+        Infix::Binary(op) => class_of_binary(op),
+        Infix::Assign => Next::Assign,
+        Infix::Range(_) => Next::Range,
+        Infix::Cast => Next::As,
+    }
+}
+
 /// Which places take an operator of the class: those whose level has a rank below this.
 fn reach(next: Next) -> u8
     ensures { result ≡ next_spec.reach next }
@@ -165,15 +86,6 @@ fn reach(next: Next) -> u8
         Next::End | Next::Dot | Next::Question | Next::Parenthesis | Next::Bracket | Next::Brace =>
             0,
     }
-}
-
-fn is_comparison(op: BinKind) -> bool
-    ensures { result ≡ op_spec.is_comparison_kind op }
-{
-    matches!(
-        op,
-        BinKind::Eq | BinKind::Lt | BinKind::Le | BinKind::Ne | BinKind::Ge | BinKind::Gt
-    )
 }
 
 /// The bit of a class.
@@ -212,9 +124,10 @@ fn taken_set(rank: u8) -> u32
 }
 
 /// What the owner of a place must not have behind it, by the note of its occupant.
-fn end_set(rank: u8, x: Note) -> u32
-    ensures { result ≡ spec.end_set rank x }
+fn end_set(level: Level, x: Note) -> u32
+    ensures { result ≡ spec.end_set (place.rank level) x }
 {
+    let rank = rank(level);
     let inside = if rank < x.low { x.ends } else { EVERY };
     let operators = if x.range { inside } else { EVERY };
     let trailers = if x.carries { EVERY } else { inside };
@@ -242,7 +155,7 @@ fn lead_note(level: Level, x: Note) -> Note
 {
     Note {
         low: 15,
-        ends: end_set(rank_of(level), x),
+        ends: end_set(level, x),
         operation: false,
         range: false,
         comparison: false,
@@ -252,8 +165,8 @@ fn lead_note(level: Level, x: Note) -> Note
 }
 
 /// The lowest operator on the left edge of a left operand.
-fn left_low(op: BinKind, l: Note) -> u8
-    ensures { result ≡ spec.left_low (inf.Binary op) l }
+fn left_low(op: Infix, l: Note) -> u8
+    ensures { result ≡ spec.left_low op l }
 {
     if l.range || l.comparison && is_comparison(op) || has(l.ends, class_of(op)) {
         15
@@ -262,17 +175,23 @@ fn left_low(op: BinKind, l: Note) -> u8
     }
 }
 
-/// The note of a binary operation.
-fn binary_note(op: BinKind, l: Note, r: Note) -> Note
-    ensures { result ≡ spec.mid_note (inf.Binary op) l r }
+fn is_range(op: Infix) -> bool
+    ensures { result ≡ op_spec.is_range_op op }
+{
+    matches!(op, Infix::Range(_))
+}
+
+/// The note of an operation.
+fn mid_note(op: Infix, l: Note, r: Note) -> Note
+    ensures { result ≡ spec.mid_note op l r }
 {
     let own = reach(class_of(op));
     let left = left_low(op, l);
     Note {
         low: if own < left { own } else { left },
-        ends: end_set(rank_of(level(op)), r),
+        ends: end_set(level(op), r),
         operation: true,
-        range: false,
+        range: is_range(op),
         comparison: is_comparison(op),
         carries: false,
         path: false,
@@ -307,19 +226,10 @@ pub(crate) fn is_wrapped(note: Note, role: Role, context: Context) -> bool
 {
     let bad = has(note.ends, context.next);
     let alone = match role {
-        Role::At(level) => !(rank_of(level) < note.low) || bad,
-        Role::LeftOf(op) => note.range || note.comparison && compares(op) || bad,
+        Role::At(level) => !(rank(level) < note.low) || bad,
+        Role::LeftOf(op) => note.range || note.comparison && is_comparison(op) || bad,
     };
     alone || leaf_wrapped(context, note)
-}
-
-fn compares(op: Infix) -> bool
-    ensures { result ≡ op_spec.is_comparison op }
-{
-    match op {
-        Infix::Binary(op) => is_comparison(op),
-        Infix::Assign | Infix::Range(_) | Infix::Cast => false,
-    }
 }
 
 /// One visit more; a count that has reached its greatest value stays there.
@@ -374,7 +284,8 @@ pub(crate) fn collect(
         Expr::Binary(x) => {
             let right = collect(notes, visits, &x.right)?;
             let left = collect(notes, visits, &x.left)?;
-            keep(notes, &x.attrs, binary_note(kind_of(x.op), left, right))
+            let op = Infix::Binary(x.op.kind());
+            keep(notes, &x.attrs, mid_note(op, left, right))
         }
     }
 }

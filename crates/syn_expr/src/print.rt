@@ -14,12 +14,14 @@ ghost use Rattle.syn_tokens.specs.Tok as tok;
 ghost use Rattle.syn_expr.specs.Printing.{spelled, spelled_in, spelled_two};
 ghost use Rattle.syn_expr.specs.View.{tree_of, bin_kind};
 
-use crate::expr::{Expr, ExprBinary};
+use crate::expr::{Expr, ExprBinary, ExprLit, ExprParen, ExprPath, ExprUnary};
 use crate::fixup::{ENCLOSED, FixupContext};
-use crate::notes::{class_of, collect, is_wrapped, kind_of, level, tick};
-use crate::tokens::{Grown, has_outer, put, put_attrs, put_lit, put_path, put_tree};
+use crate::node::has_outer;
+use crate::notes::{class_of, collect, is_wrapped, tick};
+use crate::op::level;
+use crate::tokens::{Grown, put, put_attrs, put_lit, put_path, put_tree};
 use std::alloc::{AllocError, Global};
-use syn_grammar::kinds::{BinKind, Infix, Level};
+use syn_grammar::kinds::{Infix, Level};
 use syn_grammar::next::{Context, Edge, Role};
 use syn_grammar::note::Note;
 use syn_tokens::buffer::ToTokens;
@@ -28,8 +30,8 @@ use syn_tokens::token::Paren;
 use syn_tokens::tree::TokenStream;
 
 /// What is round a left operand.
-fn left_context(op: BinKind, context: Context) -> Context
-    ensures { result ≡ next_spec.left_context (inf.Binary op) context }
+fn left_context(op: Infix, context: Context) -> Context
+    ensures { result ≡ next_spec.left_context op context }
 {
     Context {
         condition: context.condition,
@@ -129,14 +131,13 @@ fn print_two(
     ensures used { OnOk result (notes.old.items ≡ notes.new.items ++ (stack (tree_of x.now.right.value) ++ stack (tree_of x.now.left.value))) }
     ensures counted { OnOk result (visits.new ≡ min (visits.old + (size (tree_of x.now.left.value) + size (tree_of x.now.right.value))) (2 ^ 64 - 1)) }
 {
-    let kind = kind_of(x.op);
-    let role = Role::LeftOf(Infix::Binary(kind));
-    let around = left_context(kind, context);
-    let wrapped = takes_pair(notes, &x.left, role, around);
+    let op = Infix::Binary(x.op.kind());
+    let around = left_context(op, context);
+    let wrapped = takes_pair(notes, &x.left, Role::LeftOf(op), around);
     print_in(tokens, notes, visits, &x.left, wrapped, around)?;
     put(tokens, &x.op)?;
     let around = right_context(context);
-    let wrapped = takes_pair(notes, &x.right, Role::At(level(kind)), around);
+    let wrapped = takes_pair(notes, &x.right, Role::At(level(op)), around);
     print_in(tokens, notes, visits, &x.right, wrapped, around)?;
     Ok(())
 }
@@ -248,14 +249,119 @@ pub fn print_counted(alloc: Global, expr: &Expr, fixup: FixupContext) -> Result<
 }
 
 impl ToTokens for Expr {
-    ghost use Rattle.syn_grammar.specs.Next.{enclosed};
-    ghost use Rattle.syn_grammar.specs.Rule.{printed};
-    ghost use Rattle.syn_grammar.specs.Tree.{own_tokens};
+    ghost use Rattle.syn_expr.specs.Printing.{printed_toks};
     ghost use Rattle.syn_expr.specs.View.{tree_of};
 
-    ghost printed = { λ e. own_tokens (printed enclosed (tree_of e)) };
+    ghost printed = { λ e. printed_toks (tree_of e) };
 
     fn to_tokens(&self, tokens: &mut TokenStream) -> Result<()> {
         print_expr(self, tokens, FixupContext::NONE)
+    }
+}
+
+#[tactic(auto, using(crate::proofs::Prints::fronts, crate::proofs::Prints::wholes, crate::proofs::Prints::joins))]
+impl ToTokens for ExprLit {
+    ghost use Rattle.syn_expr.specs.declared.expr.Expr.TheVariants as ex;
+    ghost use Rattle.syn_expr.specs.Printing.{printed_toks};
+    ghost use Rattle.syn_expr.specs.View.{tree_of};
+
+    ghost printed = { λ x. printed_toks (tree_of (ex.Lit x)) };
+
+    fn to_tokens(&self, tokens: &mut TokenStream) -> Result<()> {
+        put_attrs(tokens, &self.attrs)?;
+        put_lit(tokens, &self.lit)?;
+        Ok(())
+    }
+}
+
+#[tactic(auto, using(crate::proofs::Prints::fronts, crate::proofs::Prints::wholes, crate::proofs::Prints::joins))]
+impl ToTokens for ExprPath {
+    ghost use Rattle.syn_expr.specs.declared.expr.Expr.TheVariants as ex;
+    ghost use Rattle.syn_expr.specs.Printing.{printed_toks};
+    ghost use Rattle.syn_expr.specs.View.{tree_of};
+
+    ghost printed = { λ x. printed_toks (tree_of (ex.Path x)) };
+
+    fn to_tokens(&self, tokens: &mut TokenStream) -> Result<()> {
+        put_attrs(tokens, &self.attrs)?;
+        put_path(tokens, &self.path)?;
+        Ok(())
+    }
+}
+
+#[tactic(auto, using(crate::proofs::Prints::fronts, crate::proofs::Prints::wholes, crate::proofs::Prints::joins))]
+impl ToTokens for ExprParen {
+    ghost use Rattle.syn_expr.specs.declared.expr.Expr.TheVariants as ex;
+    ghost use Rattle.syn_expr.specs.Printing.{printed_toks};
+    ghost use Rattle.syn_expr.specs.View.{tree_of};
+
+    ghost printed = { λ x. printed_toks (tree_of (ex.Paren x)) };
+
+    fn to_tokens(&self, tokens: &mut TokenStream) -> Result<()> {
+        put_attrs(tokens, &self.attrs)?;
+        let mut inside = TokenStream::new(tokens.alloc());
+        print_expr(&self.expr, &mut inside, FixupContext::NONE)?;
+        put_parens(tokens, self.paren_token, inside)?;
+        Ok(())
+    }
+}
+
+#[tactic(auto, using(crate::proofs::Prints::fronts, crate::proofs::Prints::wholes, crate::proofs::Prints::joins))]
+impl ToTokens for ExprUnary {
+    ghost use Rattle.syn_expr.specs.declared.expr.Expr.TheVariants as ex;
+    ghost use Rattle.syn_expr.specs.Printing.{printed_toks};
+    ghost use Rattle.syn_expr.specs.View.{tree_of};
+
+    ghost printed = { λ x. printed_toks (tree_of (ex.Unary x)) };
+
+    fn to_tokens(&self, tokens: &mut TokenStream) -> Result<()> {
+        put_attrs(tokens, &self.attrs)?;
+        put(tokens, &self.op)?;
+        print_node(tokens, &self.expr, Role::At(Level::Prefix), ENCLOSED)?;
+        Ok(())
+    }
+}
+
+#[tactic(auto, using(crate::proofs::Prints::fronts, crate::proofs::Prints::joins))]
+/// Prints the operands of a binary operation that stands for itself, with its operator between.
+fn print_operands(tokens: &mut TokenStream, x: &ExprBinary) -> Grown
+    ensures ok { OnOk result (tokens.new ≡ tokens.old ++ spelled_two next_spec.enclosed (tree_of x.now.left.value) (inf.Binary (bin_kind x.now.op)) (tree_of x.now.right.value)) }
+    ensures front { IsFront tokens.old tokens.new }
+{
+    let op = Infix::Binary(x.op.kind());
+    print_node(
+        tokens,
+        &x.left,
+        Role::LeftOf(op),
+        left_context(op, ENCLOSED),
+    )?;
+    put(tokens, &x.op)?;
+    print_node(
+        tokens,
+        &x.right,
+        Role::At(level(op)),
+        right_context(ENCLOSED),
+    )?;
+    Ok(())
+}
+
+#[tactic(auto, using(crate::proofs::Prints::fronts, crate::proofs::Prints::wholes, crate::proofs::Prints::joins))]
+impl ToTokens for ExprBinary {
+    ghost use Rattle.syn_expr.specs.declared.expr.Expr.TheVariants as ex;
+    ghost use Rattle.syn_expr.specs.Printing.{printed_toks};
+    ghost use Rattle.syn_expr.specs.View.{tree_of};
+
+    ghost printed = { λ x. printed_toks (tree_of (ex.Binary x)) };
+
+    fn to_tokens(&self, tokens: &mut TokenStream) -> Result<()> {
+        put_attrs(tokens, &self.attrs)?;
+        if has_outer(&self.attrs) {
+            let mut inside = TokenStream::new(tokens.alloc());
+            print_operands(&mut inside, self)?;
+            put_parens(tokens, Paren::default(), inside)?;
+        } else {
+            print_operands(tokens, self)?;
+        }
+        Ok(())
     }
 }

@@ -5,7 +5,7 @@ ghost use Rattle.syn_grammar.specs.Tree as tree;
 ghost use Rattle.syn_tokens.specs.Input.{IsFront};
 ghost use Rattle.syn_tokens.specs.Tok as tok;
 ghost use Rattle.syn_tokens.specs.View.{tok_of};
-ghost use Rattle.syn_expr.specs.Printing.{is_some_attr, segment_toks, segments_behind, words_of};
+ghost use Rattle.syn_expr.specs.Printing.{segment_toks, segments_behind, words_of};
 ghost use Rattle.syn_expr.specs.View.{attrs_of, is_there, lit_of, path_of};
 
 use crate::attr::{AttrStyle, Attribute};
@@ -215,17 +215,4 @@ pub(crate) fn put_attrs(tokens: &mut TokenStream, attrs: &Vec<Attribute>) -> Gro
         }
     }
     Ok(())
-}
-
-/// Whether there are outer attributes.
-#[tactic(auto, unfolding(crate::specs::View::attrs_of))]
-pub(crate) fn has_outer(attrs: &Vec<Attribute>) -> bool
-    ensures { result ≡ is_some_attr (attrs_of attrs.now) }
-{
-    for attr in attrs {
-        if matches!(attr.style, AttrStyle::Outer) {
-            return true;
-        }
-    }
-    false
 }
