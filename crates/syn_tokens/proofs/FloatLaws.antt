@@ -1,10 +1,10 @@
 -- A split list remembers its floats, and is joined again.
-use Rattle.std.proofs.Common.{◌≡◌, ◌≤◌, ℕ, Bool, true, false, List, [], ◌∷◌, ◌++◌, length, refl, sym, ◌∙◌, ap, arith, length-append}
+use Rattle.std.proofs.Common.{◌≡◌, ◌≤◌, ℕ, Bool, true, false, List, [], ◌∷◌, ◌++◌, length, refl, ◌∙◌, ap, arith, length-append}
 use Rattle.std.specs.Prelude.{map, ◌==◌, ◌&&◌, not, if◌then◌else◌}
 use Rattle.std.specs.Char.{is_ascii_digit}
 use Rattle.std.proofs.lemmas.List.{map-append}
 use Rattle.syn_tokens.specs.Tok.{Tok, ident, punct, literal, group}
-use Rattle.syn_tokens.specs.Floats.{Split, whole, piece, last, token_of, pieces_of, parts_from, part, dot, float_parts, begins_number, is_joint, split_from, split_floats, remember_from, remember_floats, join_floats}
+use Rattle.syn_tokens.specs.Floats.{Split, whole, piece, last, token_of, pieces_of, parts_from, dot, float_parts, is_joint, split_from, remember_from, join_floats}
 
 join-append : (a b : List Split) → join_floats (a ++ b) ≡ join_floats a ++ join_floats b
 unfolding join_floats

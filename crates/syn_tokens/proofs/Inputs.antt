@@ -1,10 +1,7 @@
 -- What reads leave.
-use Rattle.std.proofs.Common.{◌≡◌, ℕ, zero, suc, ◌+◌, ◌-◌, ◌≤◌, ◌<◌, List, [], ◌∷◌, ◌++◌, length, take, drop, refl, true, false, Bool, sym, ◌∙◌, ap, arith, length-append, append_assoc, append-nil, Option, Some, None}
+use Rattle.std.proofs.Common.{◌≡◌, ℕ, ◌-◌, ◌≤◌, List, [], ◌∷◌, ◌++◌, length, take, drop, refl, true, false, Bool, sym, ◌∙◌, ap, arith, length-append, append_assoc, append-nil}
 use Rattle.std.proofs.lemmas.List.{take-append-drop}
 use Rattle.std.proofs.Math.Seq.{drop-append_seam}
-use Rattle.syn_lexer.specs.declared.lexeme.Delimiter.{Delimiter}
-use Rattle.syn_tokens.specs.Tok.{Tok, Inside, toks, inside, group}
-use Rattle.syn_tokens.specs.Front.{group_at, group_of}
 use Rattle.syn_tokens.specs.Input.{Input, IsTail, IsAfter}
 use Rattle.syn_tokens.specs.View.{toks_of, toks_of-append, length-toks_of, toks_of-drop}
 use Rattle.syn_tokens.specs.declared.tree.TokenTree.{TokenTree}

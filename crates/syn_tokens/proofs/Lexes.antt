@@ -1,11 +1,11 @@
 -- How a text falls into pieces from its front on.
-use Rattle.std.proofs.Common.{◌≡◌, ℕ, zero, suc, ◌+◌, ◌-◌, ◌≤◌, ◌<◌, List, [], ◌∷◌, ◌++◌, length, take, drop, refl, sym, ◌∙◌, ap, append_assoc, append-nil, arith, inl, inr}
+use Rattle.std.proofs.Common.{◌≡◌, ℕ, zero, suc, ◌-◌, ◌≤◌, ◌<◌, List, [], ◌∷◌, ◌++◌, length, take, drop, refl, sym, ◌∙◌, ap, append_assoc, append-nil, arith, inl, inr}
 use Rattle.std.specs.Prelude.{◌≢◌, ◌⊎◌, Result, Ok, Err, IfOk, IfErr, MatchResult, Option, Some, None}
 use Rattle.syn_lexer.specs.Text.{Text}
 use Rattle.syn_lexer.specs.Lex.{front}
 use Rattle.syn_lexer.specs.declared.lexeme.LexemeKind.{LexemeKind}
 use Rattle.syn_tokens.specs.Tok.{Tok}
-use Rattle.syn_tokens.specs.Lex.{Piece, pieces, pieces_from, lexeme_then, lexeme_pieces, then_pieces, flat, Spells}
+use Rattle.syn_tokens.specs.Lex.{Piece, pieces, pieces_from, lexeme_pieces, then_pieces, flat, Spells}
 use Rattle.syn_tokens.specs.Input.{Gives}
 use Rattle.syn_tokens.specs.Nest.{misfits}
 use Rattle.syn_tokens.proofs.Nests.{one_list}

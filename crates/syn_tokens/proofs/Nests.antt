@@ -2,7 +2,6 @@
 use Rattle.std.proofs.Common.{◌≡◌, ℕ, List, [], ◌∷◌, ◌++◌, refl, sym, ◌∙◌, ap, length, append_assoc, append-nil, Bool, true, false}
 use Rattle.std.specs.Prelude.{◌≢◌, Option, Some, None, if◌then◌else◌}
 use Rattle.syn_lexer.specs.declared.lexeme.Delimiter.{Delimiter}
-use Rattle.syn_lexer.specs.declared.lexeme.Delimiter.TheVariants as delimiter
 use Rattle.syn_tokens.specs.Front.{same_delimiter}
 use Rattle.syn_tokens.specs.Same.{same_delimiter-refl, same_delimiter-false}
 use Rattle.syn_tokens.specs.Tok.{Tok, Inside, ident, punct, literal, group, nothing, first, inside}

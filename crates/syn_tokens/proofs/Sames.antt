@@ -1,11 +1,11 @@
 -- Tokens that are the same.
-use Rattle.std.proofs.Common.{◌≡◌, List, [], ◌∷◌, ◌++◌, refl, ap, Bool, nat_eq, length, arith}
+use Rattle.std.proofs.Common.{◌≡◌, List, [], ◌∷◌, ◌++◌, refl, ap, nat_eq, length, arith}
 use Rattle.std.specs.Prelude.{◌&&◌}
 use Rattle.std.proofs.lemmas.Bool.Decides.{nat_tests}
 use Rattle.std.proofs.lemmas.Grind.{fold-append}
 use Rattle.syn_tokens.specs.View.{toks_of}
 use Rattle.syn_tokens.specs.declared.tree.TokenTree.{TokenTree}
-use Rattle.syn_tokens.specs.Tok.{Tok, Inside, inside, nothing, first}
+use Rattle.syn_tokens.specs.Tok.{Tok, inside}
 use Rattle.syn_tokens.specs.Same.{same_delimiter-true, same_delimiter-differ, same_tok, same_inside, same_list, fed_tok, fed_inside, fed_list}
 
 pub same_inside-inside : (ss ts : List Tok) → same_inside (inside ss) (inside ts) ≡ same_list ss ts

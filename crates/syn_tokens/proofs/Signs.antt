@@ -1,8 +1,8 @@
 -- What stands first where a sign or a word is seen.
 use Rattle.std.proofs.Common.{◌≡◌, ◌≤◌, ℕ, List, [], ◌∷◌, length, Bool, true, false, refl, arith}
-use Rattle.std.specs.Prelude.{◌==◌, ◌&&◌, ◌||◌}
-use Rattle.syn_tokens.specs.Tok.{Tok, ident, punct, literal, group}
-use Rattle.syn_tokens.specs.Sign.{begins, is_nil, begins_word, word_toks}
+use Rattle.std.specs.Prelude.{◌==◌, ◌&&◌}
+use Rattle.syn_tokens.specs.Tok.{Tok, ident, punct}
+use Rattle.syn_tokens.specs.Sign.{begins, begins_word, word_toks}
 use Rattle.syn_lexer.specs.declared.lexeme.Spacing.TheVariants.{Alone, Joint}
 
 right_of : (a b : Bool) → (a && b) ≡ true → b ≡ true

@@ -1,10 +1,9 @@
 -- How many tokens are left.
-use Rattle.std.proofs.Common.{◌≡◌, ℕ, zero, suc, ◌+◌, ◌≤◌, ◌<◌, List, [], ◌∷◌, drop, length, Option, Some, None, Bool, true, false, ap, refl, arith, rules}
+use Rattle.std.proofs.Common.{◌≡◌, ℕ, zero, suc, ◌+◌, ◌≤◌, ◌<◌, List, [], ◌∷◌, drop, length, Some, None, Bool, true, false, ap, refl, arith}
 use Rattle.std.specs.Prelude.{if◌then◌else◌}
-use Rattle.std.proofs.lemmas.Grind.{common_steps}
 use Rattle.syn_lexer.specs.declared.lexeme.Delimiter.{Delimiter}
-use Rattle.syn_tokens.specs.Tok.{Tok, ident, literal, punct, group, toks, weight, token_weight, inside_weight, weight-toks}
-use Rattle.syn_tokens.specs.Front.{group_at, group_of, same_delimiter}
+use Rattle.syn_tokens.specs.Tok.{Tok, ident, literal, punct, group, toks, weight, token_weight, weight-toks}
+use Rattle.syn_tokens.specs.Front.{group_at, same_delimiter}
 
 pub weight-first : (t : Tok) (ts : List Tok) → weight (t ∷ ts) ≡ token_weight t + weight ts
 unfolding weight

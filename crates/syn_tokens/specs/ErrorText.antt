@@ -1,5 +1,5 @@
 -- The texts of refusals.
-use Rattle.std.specs.Prelude.{ℕ, List, ◌∷◌, [], ◌++◌, codes}
+use Rattle.std.specs.Prelude.{ℕ, List, ◌++◌, codes}
 use Rattle.syn_lexer.specs.ErrorText.{lex_error_text}
 use Rattle.syn_tokens.specs.Sign.{sign_text, word_text}
 use Rattle.syn_lexer.specs.declared.lexeme.Delimiter.TheVariants as delimiter

@@ -1,6 +1,6 @@
 -- What stands first in a list of tokens.
-use Rattle.std.specs.Prelude.{◌≡◌, ℕ, Bool, true, false, ◌==◌, if◌then◌else◌, is_some, List, [], ◌∷◌, Option, Some, None}
-use Rattle.syn_tokens.specs.Tok.{Tok, Inside, ident, punct, literal, group, toks}
+use Rattle.std.specs.Prelude.{Bool, true, false, ◌==◌, if◌then◌else◌, is_some, List, [], ◌∷◌, Option, Some, None}
+use Rattle.syn_tokens.specs.Tok.{Tok, ident, punct, group, toks}
 use Rattle.syn_lexer.specs.declared.lexeme.Delimiter.{Delimiter}
 use Rattle.syn_lexer.specs.declared.lexeme.Delimiter.TheVariants as delimiter
 use Rattle.syn_lexer.specs.declared.lexeme.Spacing.TheVariants.{Alone, Joint}

@@ -1,5 +1,5 @@
 -- Identifiers and literals at the front of a list.
-use Rattle.std.specs.Prelude.{Bool, true, false, not, List, [], ◌∷◌}
+use Rattle.std.specs.Prelude.{Bool, true, false, not, List, ◌∷◌}
 use Rattle.syn_lexer.specs.Keywords.{is_reserved_word}
 use Rattle.syn_tokens.specs.Tok.{Tok, ident, literal}
 

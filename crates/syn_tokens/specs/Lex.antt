@@ -6,6 +6,8 @@ use Rattle.syn_lexer.specs.declared.lexeme.Delimiter.{Delimiter}
 use Rattle.syn_lexer.specs.declared.lexeme.LexemeKind.{LexemeKind}
 use Rattle.syn_lexer.specs.declared.lexeme.Spacing.TheVariants.{Joint}
 use Rattle.syn_lexer.specs.declared.lexeme.LexemeKind.TheVariants.{Blank, Ident, Literal, Lifetime, Punct, Open, Close}
+use Rattle.syn_tokens.specs.declared.error.ErrorKind.{ErrorKind}
+use Rattle.syn_tokens.specs.declared.error.ErrorKind.TheVariants.{Lex, OutOfMemory}
 use Rattle.syn_tokens.specs.Tok.{Tok, Inside, ident, punct, literal, group, nothing, first}
 
 -- what a text is cut into: tokens, and the delimiters of groups
@@ -64,6 +66,12 @@ flat (t ∷ ts) = pieces_of t ++ flat ts
 -- the text falls into the pieces of these trees: so each opening delimiter has its closing one
 abbrev pub Spells : Text → List Tok → Type 0
 Spells z ts = pieces z ≡ Some (flat ts)
+
+-- a refusal of the lexer, or want of memory
+abbrev pub IsLexRefusal : ErrorKind → Type 0
+IsLexRefusal (Lex e) = Unit {0}
+IsLexRefusal OutOfMemory = Unit {0}
+IsLexRefusal _ = ⊥
 
 -- ---- texts that are one token
 

@@ -1,7 +1,7 @@
 -- The tokens of one or more puncts, and the words (Rust Reference, "Punctuation", "Keywords").
-use Rattle.std.specs.Prelude.{◌≡◌, ℕ, Bool, true, false, ◌&&◌, ◌||◌, ◌==◌, if◌then◌else◌, not, List, [], ◌∷◌, length, map, slice_index_or}
+use Rattle.std.specs.Prelude.{ℕ, Bool, true, false, ◌&&◌, ◌||◌, ◌==◌, if◌then◌else◌, not, List, [], ◌∷◌, length, map, slice_index_or}
 use Rattle.std.specs.Str.{bytes_eq}
-use Rattle.syn_tokens.specs.Tok.{Tok, ident, punct, literal, group}
+use Rattle.syn_tokens.specs.Tok.{Tok, ident, punct}
 use Rattle.syn_lexer.specs.declared.lexeme.Spacing.TheVariants.{Alone, Joint}
 use Rattle.syn_tokens.specs.declared.table.TheConstants.{SIGNS, WORDS}
 

@@ -3,7 +3,7 @@ use Rattle.std.specs.Prelude.{ℕ, Bool, true, false, ◌||◌, if◌then◌else
 use Rattle.syn_lexer.specs.declared.lexeme.Delimiter.{Delimiter}
 use Rattle.syn_lexer.specs.declared.lexeme.Delimiter.TheVariants as delimiter
 use Rattle.syn_lexer.specs.declared.lexeme.Spacing.TheVariants as spacing
-use Rattle.syn_tokens.specs.Tok.{Tok, Inside, inside, toks, ident, punct, literal, group, nothing, first}
+use Rattle.syn_tokens.specs.Tok.{Tok, Inside, toks, ident, punct, literal, group, nothing, first}
 
 abbrev pub is_joint : Tok → Bool
 is_joint (punct c spacing.Joint) = true

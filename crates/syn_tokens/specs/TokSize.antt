@@ -1,8 +1,8 @@
 -- A token tree is smaller than the stream that holds it.
-use Rattle.std.specs.Prelude.{◌≡◌, ℕ, ◌+◌, ◌≤◌, max, List, [], ◌∷◌, refl}
+use Rattle.std.specs.Prelude.{ℕ, ◌≤◌, max, List, [], ◌∷◌}
 use Rattle.std.proofs.Common.{arith}
 use denote.Param.Weighed.{most}
-use Rattle.syn_tokens.specs.Tok.{Tok, inside, weight, token_weight, inside_weight-inside}
+use Rattle.syn_tokens.specs.Tok.{weight, token_weight, inside_weight-inside}
 use Rattle.syn_tokens.specs.View.{tok_of, toks_of}
 use Rattle.syn_tokens.specs.declared.tree.TokenTree.{TokenTree}
 use Rattle.syn_tokens.specs.declared.tree.TokenTree.TheVariants.{Group, Ident, Punct, Literal}

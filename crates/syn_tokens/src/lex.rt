@@ -26,6 +26,7 @@ pub fn lex(alloc: Global, text: &str) -> Result<TokenStream>
     ensures found { (ts : List Tok) → spec.Spells (chars text.now) ts → Gives (λ a b. a ≡ b) ts result }
     // It is refused only where it falls into no trees, or memory runs out.
     ensures refused { IfErr result (λ e. (e.kind ≡ ErrorKind.OutOfMemory) ⊎ ((ts : List Tok) → spec.Spells (chars text.now) ts → ⊥)) }
+    ensures kind { IfErr result (λ e. spec.IsLexRefusal e.kind) }
 {
     let all = chars_of(alloc, text)?;
     lex_chars(alloc, all.as_slice())
@@ -147,6 +148,7 @@ impl Nest {
     fn closes(&mut self, delimiter: Delimiter, span: Span) -> Result<()>
         ensures ok { OnOk result (nest_pieces self.new ≡ nest_pieces self.old ++ spec.closes delimiter ∷ []) }
         ensures err { IfErr result (λ e. (e.kind ≡ ErrorKind.OutOfMemory) ⊎ misfits (nest_pieces self.old ++ spec.closes delimiter ∷ [])) }
+        ensures kind { IfErr result (λ e. spec.IsLexRefusal e.kind) }
     {
         let Some(open) = self.open.pop() else {
             return Err(refusal(span.lo, span.hi, LexError::UnexpectedClosingDelimiter));
@@ -175,6 +177,7 @@ impl Nest {
     fn take(&mut self, alloc: Global, kind: LexemeKind, read: &[char], span: Span) -> Result<()>
         ensures ok { OnOk result (nest_pieces self.new ≡ nest_pieces self.old ++ spec.lexeme_pieces kind read.now) }
         ensures err { IfErr result (λ e. (e.kind ≡ ErrorKind.OutOfMemory) ⊎ misfits (nest_pieces self.old ++ spec.lexeme_pieces kind read.now)) }
+        ensures kind { IfErr result (λ e. spec.IsLexRefusal e.kind) }
     {
         match kind {
             LexemeKind::Blank => Ok(()),
@@ -197,7 +200,8 @@ impl Nest {
 
     /// The trees that were read, where no group is open.
     fn finish(self) -> Result<TokenStream>
-        ensures { MatchResult result (λ s. nest_pieces self ≡ spec.flat s) (λ e. (ts : List Tok) → nest_pieces self ≢ spec.flat ts) }
+        ensures value { MatchResult result (λ s. nest_pieces self ≡ spec.flat s) (λ e. (ts : List Tok) → nest_pieces self ≢ spec.flat ts) }
+        ensures kind { IfErr result (λ e. spec.IsLexRefusal e.kind) }
     {
         let Nest { mut open, current } = self;
         match open.pop() {
@@ -214,6 +218,7 @@ impl Nest {
 fn lex_chars(alloc: Global, text: &[char]) -> Result<TokenStream>
     ensures read { IfOk result (λ s. spec.Spells text.now s) }
     ensures refused { IfErr result (λ e. (e.kind ≡ ErrorKind.OutOfMemory) ⊎ ((ts : List Tok) → spec.Spells text.now ts → ⊥)) }
+    ensures kind { IfErr result (λ e. spec.IsLexRefusal e.kind) }
 {
     let mut nest = Nest::new(alloc);
     let mut rest = text;

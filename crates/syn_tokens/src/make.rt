@@ -1,7 +1,7 @@
 //! Identifiers and literals that a program makes.
 
 ghost use Rattle.std.specs.Prelude.{◌≡◌, ◌⊎◌, chars, IfOk, IfErr};
-ghost use Rattle.syn_tokens.specs.Lex.{IsIdentText, IsLiteralText};
+ghost use Rattle.syn_tokens.specs.Lex.{IsIdentText, IsLiteralText, IsLexRefusal};
 
 use crate::error::{Error, ErrorKind, LexError, Result};
 use crate::lex::{chars_of, lex};
@@ -11,7 +11,10 @@ use std::alloc::Global;
 use syn_lexer::front::{is_ident, is_literal};
 
 /// Why a text that is no single token is refused: as the lexer refuses it, else as an unknown character.
-fn refusal(alloc: Global, text: &str, span: Span) -> Error {
+fn refusal(alloc: Global, text: &str, span: Span) -> Error
+    ensures place { result.span ≡ span }
+    ensures kind { IsLexRefusal result.kind }
+{
     let kind = match lex(alloc, text) {
         Ok(_) => ErrorKind::Lex(LexError::UnknownCharacter),
         Err(e) => e.kind,
@@ -25,6 +28,8 @@ impl Ident {
     pub fn new(alloc: Global, text: &str, span: Span) -> Result<Ident>
         ensures made { IfOk result (λ i. (i ≡ text.now) × IsIdentText (chars text.now)) }
         ensures refused { IfErr result (λ e. (e.kind ≡ ErrorKind.OutOfMemory) ⊎ ¬ IsIdentText (chars text.now)) }
+        ensures place { IfErr result (λ e. (e.kind ≡ ErrorKind.OutOfMemory) ⊎ (e.span ≡ span)) }
+        ensures kind { IfErr result (λ e. IsLexRefusal e.kind) }
     {
         let all = chars_of(alloc, text)?;
         if !is_ident(all.as_slice()) {
@@ -41,6 +46,8 @@ impl Literal {
     pub fn new(alloc: Global, text: &str, span: Span) -> Result<Literal>
         ensures made { IfOk result (λ l. (l ≡ text.now) × IsLiteralText (chars text.now)) }
         ensures refused { IfErr result (λ e. (e.kind ≡ ErrorKind.OutOfMemory) ⊎ ¬ IsLiteralText (chars text.now)) }
+        ensures place { IfErr result (λ e. (e.kind ≡ ErrorKind.OutOfMemory) ⊎ (e.span ≡ span)) }
+        ensures kind { IfErr result (λ e. IsLexRefusal e.kind) }
     {
         let all = chars_of(alloc, text)?;
         if !is_literal(all.as_slice()) {

@@ -1,4 +1,3 @@
-use Rattle.std.proofs.Common.{arith}
 use Rattle.syn_tokens.proofs.Inputs.{tail_le, front_at}
 use Rattle.syn_tokens.proofs.buffer.front_to.Goals as goal
 

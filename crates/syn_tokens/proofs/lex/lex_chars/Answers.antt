@@ -1,4 +1,4 @@
-use Rattle.std.proofs.Common.{◌≡◌, ◌<◌, length, arith, inl, inr, refl}
+use Rattle.std.proofs.Common.{◌≡◌, ◌<◌, length, arith, inl, inr}
 use Rattle.std.proofs.lemmas.Grind.{common_steps}
 use Rattle.syn_tokens.specs.Nest.{nest_pieces}
 use Rattle.syn_tokens.proofs.Lexes.{found, refused, so_far_more, refused_front, refused_lexeme, all_read}
@@ -28,9 +28,9 @@ returns-in-Err-take-clause-refused c =
 pub returns-clause-read : goal.returns-clause-read
 returns-clause-read c =
     let none : length c.loop-rest.rest.now ≡ 0 = grind (arith, common_steps) in
-    found (nest_pieces c.loop-rest.nest) c.args.text.now (all_read c.args.text.now c.loop-rest.rest.now _ c.loop-rest.invariant none) c.finish.result c.finish.ensures
+    found (nest_pieces c.loop-rest.nest) c.args.text.now (all_read c.args.text.now c.loop-rest.rest.now _ c.loop-rest.invariant none) c.finish.result c.finish.ensures.value
 
 pub returns-clause-refused : goal.returns-clause-refused
 returns-clause-refused c =
     let none : length c.loop-rest.rest.now ≡ 0 = grind (arith, common_steps) in
-    refused (nest_pieces c.loop-rest.nest) c.args.text.now (all_read c.args.text.now c.loop-rest.rest.now _ c.loop-rest.invariant none) c.finish.result c.finish.ensures
+    refused (nest_pieces c.loop-rest.nest) c.args.text.now (all_read c.args.text.now c.loop-rest.rest.now _ c.loop-rest.invariant none) c.finish.result c.finish.ensures.value

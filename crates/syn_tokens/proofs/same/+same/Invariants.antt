@@ -1,4 +1,4 @@
-use Rattle.std.proofs.Common.{◌≡◌, ◌≤◌, ◌+◌, ◌*◌, ◌++◌, length}
+use Rattle.std.proofs.Common.{◌≡◌, ◌≤◌, ◌+◌, ◌*◌, length}
 use Rattle.syn_tokens.specs.Tok.{token_weight, weight}
 use Rattle.syn_tokens.specs.Same.{same_list}
 use Rattle.syn_tokens.specs.View.{tok_of, toks_of}

@@ -1,4 +1,4 @@
-use Rattle.std.proofs.Common.{◌≡◌, ℕ, List, [], ◌∷◌, inr, length, map, refl, sym, ◌∙◌}
+use Rattle.std.proofs.Common.{◌≡◌, [], inr, map, refl, sym, ◌∙◌}
 use Rattle.std.proofs.lemmas.List.{map-append}
 use Rattle.syn_tokens.specs.Nest.{open_of}
 use Rattle.syn_tokens.proofs.Nests.{misfits_alone, misfits_other, unfinished-closes}

@@ -1,4 +1,4 @@
-use Rattle.std.proofs.Common.{[], ◌∷◌, map}
+use Rattle.std.proofs.Common.{map}
 use Rattle.std.proofs.lemmas.List.{map-append}
 use Rattle.syn_tokens.specs.Nest.{open_of}
 use Rattle.syn_tokens.proofs.Nests.{unfinished-opens}
