@@ -25,10 +25,10 @@ read_moves p l n t h = let s = expr_sound p l t n h in let less = node_less s.no
 pub read_stands : (p : Place) (l n : List Tok) (t : Tree) → expr p l ≡ Some (t, n) → Stands p l t n
 read_stands p l n t h = expr_sound p l t n h
 
-pub read_same : (p : Place) (l m n : List Tok) (t u : Tree) → expr p l ≡ Some (t, m) → Stands p l u n → (u ≡ t) × (m ≡ n)
+pub read_same : (p : Place) (l m n : List Tok) (t u : Tree) → expr p l ≡ Some (t, m) → Stands p l u n → (t ≡ u) × (m ≡ n)
 read_same p l m n t u h s =
     let e : (t, m) ≡ (u, n) = some_is (sym h ∙ expr_complete p l n u s) in
-    (sym (ap (λ q. q.0) e), ap (λ q. q.1) e)
+    (ap (λ q. q.0) e, ap (λ q. q.1) e)
 
 -- what stands is refused for want of memory alone
 memory_alone : (k : ErrorKind) → ((k ≢ OutOfMemory) → ⊥) → k ≡ OutOfMemory

@@ -16,10 +16,10 @@ use Rattle.syn_grammar.specs.Words.{is_segment}
 use Rattle.syn_grammar.specs.Read.{Outcome, segments_at, expr}
 use Rattle.syn_grammar.specs.Op.{infix_at, prefix_at}
 use Rattle.syn_grammar.specs.declared.kinds.Infix.TheVariants as inf
-use Rattle.syn_expr.specs.declared.op.BinOp.{BinOp}
-use Rattle.syn_expr.specs.declared.op.UnOp.{UnOp}
+use Rattle.syn_grammar.specs.declared.kinds.BinKind.{BinKind}
+use Rattle.syn_grammar.specs.declared.kinds.UnKind.{UnKind}
 use Rattle.syn_expr.specs.declared.path.PathSegment.{PathSegment}
-use Rattle.syn_expr.specs.View.{attrs_of, tree_of, bin_kind, un_kind}
+use Rattle.syn_expr.specs.View.{attrs_of, tree_of}
 
 -- What was read, as it is seen, and what is behind it, unless memory runs out.
 abbrev pub Reads : {A B : Type 0} → (A → B) → Outcome B → Result A Error → List Tok → Type 0
@@ -37,12 +37,12 @@ ReadsAttrs found (Ok v) new = found ≡ (attrs_of v, new)
 ReadsAttrs found (Err e) new = e.kind ≡ OutOfMemory
 
 -- the longest operator at the front is this one
-abbrev pub SpellsBinOp : List Tok → BinOp → List Tok → Type 0
-SpellsBinOp l op rest = (count : ℕ) × (infix_at l ≡ Some (inf.Binary (bin_kind op), count)) × (rest ≡ drop count l)
+abbrev pub SpellsBinOp : List Tok → BinKind → List Tok → Type 0
+SpellsBinOp l op rest = (count : ℕ) × (infix_at l ≡ Some (inf.Binary op, count)) × (rest ≡ drop count l)
 
 -- the operator's punct stands first
-abbrev pub SpellsUnOp : List Tok → UnOp → List Tok → Type 0
-SpellsUnOp l op rest = (prefix_at l ≡ Some (un_kind op)) × (rest ≡ drop 1 l)
+abbrev pub SpellsUnOp : List Tok → UnKind → List Tok → Type 0
+SpellsUnOp l op rest = (prefix_at l ≡ Some op) × (rest ≡ drop 1 l)
 
 -- ---- expressions
 

@@ -351,20 +351,23 @@ impl UnOp {
 #[tactic(auto, using(syn_tokens::proofs::Inputs::tails, syn_grammar::proofs::Weights::infix_present, syn_grammar::proofs::Weights::infix_some))]
 impl Parse for BinOp {
     ghost use Rattle.syn_expr.specs.Reads.{SpellsBinOp};
+    ghost use Rattle.syn_grammar.specs.declared.kinds.BinKind.{BinKind as Kind};
     ghost use Rattle.syn_tokens.specs.Tok.{Tok, weight};
     ghost use Rattle.syn_tokens.specs.Input.{Reaches, IsAfter};
 
-    ghost spells = { SpellsBinOp };
+    ghost Seen = { Kind };
 
-    ghost same = { λ a b. bin_kind a ≡ bin_kind b };
+    ghost seen = { bin_kind };
+
+    ghost spells = { SpellsBinOp };
 
     ghost least = { 1 };
 
     /// Takes the longest operator at the front. It is refused as `ExpectedBinaryOperator` where there is none, or one
     /// that is no variant, as `=`, `..` and `as`; `->`, `=>` and `<-` are none. It takes no memory.
     fn parse(input: &mut ParseBuffer<'_>) -> Result<Self>
-        ensures read { IfOk result (λ op. input.new.noted ≡ false → SpellsBinOp input.old.rest op input.new.rest) }
-        ensures found { (op : BinOp) (rest : List Tok) → input.old.noted ≡ false → SpellsBinOp input.old.rest op rest → Reaches (λ a b. bin_kind a ≡ bin_kind b) op rest result input.new }
+        ensures read { IfOk result (λ op. input.new.noted ≡ false → SpellsBinOp input.old.rest (bin_kind op) input.new.rest) }
+        ensures found { (op : Kind) (rest : List Tok) → input.old.noted ≡ false → SpellsBinOp input.old.rest op rest → Reaches bin_kind op rest result input.new }
         ensures after { IsAfter input.old input.new }
         ensures moves { IfOk result (λ op. 1 + weight input.new.rest ≤ weight input.old.rest) }
         ensures refused { IfErr result (λ e. e.kind ≡ ExpectedBinaryOperator) }
@@ -381,10 +384,13 @@ impl Parse for BinOp {
 #[tactic(auto, using(syn_tokens::proofs::Inputs::tails))]
 impl Parse for UnOp {
     ghost use Rattle.syn_expr.specs.Reads.{SpellsUnOp};
+    ghost use Rattle.syn_grammar.specs.declared.kinds.UnKind.{UnKind as Kind};
+
+    ghost Seen = { Kind };
+
+    ghost seen = { un_kind };
 
     ghost spells = { SpellsUnOp };
-
-    ghost same = { λ a b. un_kind a ≡ un_kind b };
 
     ghost least = { 1 };
 

@@ -289,11 +289,14 @@ pub(crate) fn expr(input: &mut ParseBuffer<'_>, place: Place) -> Result<Box<Expr
 impl Parse for Expr {
     ghost use Rattle.syn_grammar.specs.Place.{plain};
     ghost use Rattle.syn_grammar.specs.Stands.{Stands};
+    ghost use Rattle.syn_grammar.specs.Tree.{Tree};
 
-    /// The tree of the expression stands before the rest, by the binding rules.
-    ghost spells = { λ l x rest. Stands plain l (tree_of x) rest };
+    /// The tree stands before the rest, by the binding rules.
+    ghost Seen = { Tree };
 
-    ghost same = { λ x y. tree_of x ≡ tree_of y };
+    ghost seen = { tree_of };
+
+    ghost spells = { Stands plain };
 
     ghost least = { 1 };
 

@@ -79,6 +79,6 @@ pub one_reading : (z : Text) (ss ts : List Tok) → Spells z ss → Spells z ts 
 one_reading z ss ts p q = let same : flat ss ≡ flat ts = cc in one_list ss ts same
 
 pub gives_only : (z : Text) (r : Result (List Tok) Error) → IfOk r (λ s. Spells z s)
-    → IfErr r (λ e. (e.kind ≡ OutOfMemory) ⊎ ((ts : List Tok) → Spells z ts → ⊥)) → (ts : List Tok) → Spells z ts → Gives (λ a b. a ≡ b) ts r
-gives_only z (Ok s) h g ts is = one_reading z ts s is h
+    → IfErr r (λ e. (e.kind ≡ OutOfMemory) ⊎ ((ts : List Tok) → Spells z ts → ⊥)) → (ts : List Tok) → Spells z ts → Gives (λ s. s) ts r
+gives_only z (Ok s) h g ts is = one_reading z s ts h is
 gives_only z (Err e) h g ts is = elim g [ inl m ↦ m | inr none ↦ absurd (none ts is) ]

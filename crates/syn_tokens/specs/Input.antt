@@ -39,15 +39,15 @@ pub record IsAfter (old new : Input) : Type 0 where
   pub is : old.rest ≡ front ++ new.rest
   pub noted : old.noted ≡ true → new.noted ≡ true
 
--- Where a value stands before a rest, it is read and that rest is left, with no note, unless memory runs out.
-abbrev pub Reaches : {A : Type 0} → (A → A → Type 0) → A → List Tok → Result A Error → Input → Type 0
-Reaches same v rest (Ok w) new = same v w × (new.rest ≡ rest) × (new.noted ≡ false)
-Reaches same v rest (Err e) new = e.kind ≡ OutOfMemory
+-- Where a value that is seen so stands before a rest, it is read and that rest is left, with no note, unless memory runs out.
+abbrev pub Reaches : {A B : Type 0} → (A → B) → B → List Tok → Result A Error → Input → Type 0
+Reaches seen s rest (Ok v) new = (seen v ≡ s) × (new.rest ≡ rest) × (new.noted ≡ false)
+Reaches seen s rest (Err e) new = e.kind ≡ OutOfMemory
 
--- The value is given, unless memory runs out.
-abbrev pub Gives : {A : Type 0} → (A → A → Type 0) → A → Result A Error → Type 0
-Gives same v (Ok w) = same v w
-Gives same v (Err e) = e.kind ≡ OutOfMemory
+-- A value that is seen so is given, unless memory runs out.
+abbrev pub Gives : {A B : Type 0} → (A → B) → B → Result A Error → Type 0
+Gives seen s (Ok v) = seen v ≡ s
+Gives seen s (Err e) = e.kind ≡ OutOfMemory
 
 -- a group with this delimiter is expected
 abbrev pub wanted_group : Delimiter → ErrorKind

@@ -59,11 +59,13 @@ pub trait Parse {
     ghost use Rattle.syn_tokens.specs.Tok.{Tok};
     ghost use Rattle.std.specs.Prelude.{ℕ};
 
-    /// `spells list value rest`: the front of the list, up to the rest, spells the value.
-    ghost spells: { List Tok → Self → List Tok → Type 0 };
+    /// What contracts see of a value: all but its places.
+    ghost Seen: { Type 0 };
 
-    /// Two values that differ in places alone.
-    ghost same: { Self → Self → Type 0 };
+    ghost seen: { Self → Seen };
+
+    /// `spells list value rest`: the front of the list, up to the rest, spells the value.
+    ghost spells: { List Tok → Seen → List Tok → Type 0 };
 
     /// What a read takes at least, in weight.
     ghost least: { ℕ };
@@ -72,9 +74,9 @@ pub trait Parse {
     /// the recursion of a type's own readers call `T::parse(input)`, not `input.parse::<T>()`.
     fn parse(input: &mut ParseBuffer<'_>) -> Result<Self>
         // What was read is spelled.
-        ensures read { IfOk result (λ v. input.new.noted ≡ false → spells input.old.rest v input.new.rest) }
+        ensures read { IfOk result (λ v. input.new.noted ≡ false → spells input.old.rest (seen v) input.new.rest) }
         // What is spelled is read.
-        ensures found { (v : Self) (rest : List Tok) → input.old.noted ≡ false → spells input.old.rest v rest → Reaches same v rest result input.new }
+        ensures found { (s : Seen) (rest : List Tok) → input.old.noted ≡ false → spells input.old.rest s rest → Reaches seen s rest result input.new }
         ensures after { IsAfter input.old input.new }
         ensures moves { IfOk result (λ v. least + weight input.new.rest ≤ weight input.old.rest) };
 }
@@ -277,8 +279,8 @@ impl<'a> ParseBuffer<'a> {
 
     /// Reads a `T`.
     pub fn parse<T: Parse>(&mut self) -> Result<T>
-        ensures read { IfOk result (λ v. self.new.noted ≡ false → T.spells self.old.rest v self.new.rest) }
-        ensures found { (v : T) (rest : List Tok) → self.old.noted ≡ false → T.spells self.old.rest v rest → Reaches T.same v rest result self.new }
+        ensures read { IfOk result (λ v. self.new.noted ≡ false → T.spells self.old.rest (T.seen v) self.new.rest) }
+        ensures found { (s : T.Seen) (rest : List Tok) → self.old.noted ≡ false → T.spells self.old.rest s rest → Reaches T.seen s rest result self.new }
         ensures after { IsAfter self.old self.new }
         ensures moves { IfOk result (λ v. T.least + weight self.new.rest ≤ weight self.old.rest) }
     {

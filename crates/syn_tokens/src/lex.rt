@@ -23,7 +23,7 @@ pub fn lex(alloc: Global, text: &str) -> Result<TokenStream>
     // What is read is what the text falls into.
     ensures read { IfOk result (λ s. spec.Spells (chars text.now) s) }
     // What it falls into is read, unless memory runs out.
-    ensures found { (ts : List Tok) → spec.Spells (chars text.now) ts → Gives (λ a b. a ≡ b) ts result }
+    ensures found { (ts : List Tok) → spec.Spells (chars text.now) ts → Gives (λ s. s) ts result }
     // It is refused only where it falls into no trees, or memory runs out.
     ensures refused { IfErr result (λ e. (e.kind ≡ ErrorKind.OutOfMemory) ⊎ ((ts : List Tok) → spec.Spells (chars text.now) ts → ⊥)) }
     ensures kind { IfErr result (λ e. spec.IsLexRefusal e.kind) }

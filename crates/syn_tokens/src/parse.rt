@@ -27,9 +27,11 @@ impl Token for Ident {
 
 #[tactic(auto, using(crate::proofs::Inputs::tails, crate::proofs::Weights::firsts))]
 impl Parse for Ident {
-    ghost spells = { λ ts v rest. (ts ≡ tok.ident v ∷ rest) × (is_reserved_word v ≡ false) };
+    ghost Seen = { List ℕ };
 
-    ghost same = { λ a b. a ≡ b };
+    ghost seen = { λ v. v };
+
+    ghost spells = { λ ts v rest. (ts ≡ tok.ident v ∷ rest) × (is_reserved_word v ≡ false) };
 
     ghost least = { 1 };
 
@@ -59,7 +61,7 @@ impl ToTokens for Ident {
 #[tactic(auto, using(crate::proofs::Inputs::tails, crate::proofs::Weights::firsts))]
 pub fn parse_any_word(input: &mut ParseBuffer<'_>) -> Result<Ident>
     ensures read { IfOk result (λ v. input.old.rest ≡ tok.ident v ∷ input.new.rest) }
-    ensures found { (v : List ℕ) (rest : List Tok) → input.old.noted ≡ false → input.old.rest ≡ tok.ident v ∷ rest → Reaches (λ a b. a ≡ b) v rest result input.new }
+    ensures found { (v : List ℕ) (rest : List Tok) → input.old.noted ≡ false → input.old.rest ≡ tok.ident v ∷ rest → Reaches (λ a. a) v rest result input.new }
     ensures after { IsAfter input.old input.new }
     ensures moves { IfOk result (λ v. 1 + weight input.new.rest ≤ weight input.old.rest) }
 {
@@ -81,9 +83,11 @@ impl Token for Literal {
 
 #[tactic(auto, using(crate::proofs::Inputs::tails, crate::proofs::Weights::firsts))]
 impl Parse for Literal {
-    ghost spells = { λ ts v rest. ts ≡ tok.literal v ∷ rest };
+    ghost Seen = { List ℕ };
 
-    ghost same = { λ a b. a ≡ b };
+    ghost seen = { λ v. v };
+
+    ghost spells = { λ ts v rest. ts ≡ tok.literal v ∷ rest };
 
     ghost least = { 1 };
 
@@ -111,9 +115,11 @@ impl ToTokens for Literal {
 
 #[tactic(auto, using(crate::proofs::Inputs::tails, crate::proofs::Weights::firsts))]
 impl Parse for TokenTree {
-    ghost spells = { λ ts v rest. ts ≡ tok_of v ∷ rest };
+    ghost Seen = { tok.Tok };
 
-    ghost same = { λ a b. tok_of a ≡ tok_of b };
+    ghost seen = { tok_of };
+
+    ghost spells = { λ ts t rest. ts ≡ t ∷ rest };
 
     ghost least = { 1 };
 
@@ -141,9 +147,11 @@ impl ToTokens for TokenTree {
 
 #[tactic(auto, using(crate::proofs::Inputs::tails, crate::proofs::Weights::firsts, crate::proofs::Inputs::drop_all))]
 impl Parse for TokenStream {
-    ghost spells = { λ ts v rest. (ts ≡ v) × (rest ≡ []) };
+    ghost Seen = { List tok.Tok };
 
-    ghost same = { λ a b. a ≡ b };
+    ghost seen = { λ v. v };
+
+    ghost spells = { λ ts v rest. (ts ≡ v) × (rest ≡ []) };
 
     ghost least = { 0 };
 

@@ -426,9 +426,11 @@ impl<const N: usize, const K: usize> Token for Sign<N, K> {
 
 #[tactic(auto, using(crate::proofs::Inputs::tails, crate::proofs::Signs::fronts))]
 impl<const N: usize, const K: usize> Parse for Sign<N, K> {
-    ghost spells = { λ ts s rest. IsTrue (spec.sees N K ts) × (rest ≡ drop N ts) };
+    ghost Seen = { Unit {0} };
 
-    ghost same = { λ a b. Unit {0} };
+    ghost seen = { λ s. tt };
+
+    ghost spells = { λ ts s rest. IsTrue (spec.sees N K ts) × (rest ≡ drop N ts) };
 
     ghost least = { 1 };
 
@@ -473,9 +475,11 @@ impl<const K: usize> Token for Word<K> {
 
 #[tactic(auto, using(crate::proofs::Inputs::tails, crate::proofs::Signs::fronts))]
 impl<const K: usize> Parse for Word<K> {
-    ghost spells = { λ ts w rest. IsTrue (spec.sees_word K ts) × (rest ≡ drop 1 ts) };
+    ghost Seen = { Unit {0} };
 
-    ghost same = { λ a b. Unit {0} };
+    ghost seen = { λ w. tt };
+
+    ghost spells = { λ ts w rest. IsTrue (spec.sees_word K ts) × (rest ≡ drop 1 ts) };
 
     ghost least = { 1 };
 
@@ -516,9 +520,11 @@ impl Token for Underscore {
 
 #[tactic(auto, using(crate::proofs::Inputs::tails, crate::proofs::Signs::fronts))]
 impl Parse for Underscore {
-    ghost spells = { λ ts u rest. IsTrue (spec.sees_underscore ts) × (rest ≡ drop 1 ts) };
+    ghost Seen = { Unit {0} };
 
-    ghost same = { λ a b. Unit {0} };
+    ghost seen = { λ u. tt };
+
+    ghost spells = { λ ts u rest. IsTrue (spec.sees_underscore ts) × (rest ≡ drop 1 ts) };
 
     ghost least = { 1 };
 

@@ -15,9 +15,9 @@ use std::alloc::Global;
 /// group is refused as `UnexpectedToken`, then a token that is left behind it.
 pub fn parse2<T: Parse + Drop>(tokens: TokenStream) -> Result<T>
     // What was read is spelled by the whole list.
-    ensures read { IfOk result (λ v. T.spells tokens v []) }
+    ensures read { IfOk result (λ v. T.spells tokens (T.seen v) []) }
     // What the whole list spells is read, unless memory runs out.
-    ensures found { (v : T) → T.spells tokens v [] → Gives T.same v result }
+    ensures found { (s : T.Seen) → T.spells tokens s [] → Gives T.seen s result }
 {
     let mut input = match ParseBuffer::new(&tokens) {
         Ok(input) => input,
@@ -39,9 +39,9 @@ pub fn parse2<T: Parse + Drop>(tokens: TokenStream) -> Result<T>
 /// Reads a `T` from the whole text: cuts it into tokens, and reads these.
 pub fn parse_str<T: Parse + Drop>(alloc: Global, text: &str) -> Result<T>
     // What was read is spelled by the tokens of the text.
-    ensures read { IfOk result (λ v. (ts : List Tok) × Spells (chars text.now) ts × T.spells ts v []) }
+    ensures read { IfOk result (λ v. (ts : List Tok) × Spells (chars text.now) ts × T.spells ts (T.seen v) []) }
     // What the tokens of the text spell is read, unless memory runs out.
-    ensures found { (v : T) (ts : List Tok) → Spells (chars text.now) ts → T.spells ts v [] → Gives T.same v result }
+    ensures found { (s : T.Seen) (ts : List Tok) → Spells (chars text.now) ts → T.spells ts s [] → Gives T.seen s result }
 {
     match lex(alloc, text) {
         Ok(tokens) => parse2::<T>(tokens),

@@ -1,5 +1,4 @@
 use Rattle.std.proofs.Common.{ap}
-use Rattle.syn_expr.specs.View.{tree_of}
 use Rattle.syn_expr.proofs.Exactly.{read_stands, read_refused}
 use Rattle.syn_expr.proofs.parse.ExprParse.parse.Goals as goal
 
@@ -8,5 +7,5 @@ returns-clause-read c = λ clean.
     let s = read_stands _ _ _ _ c.in-Ok.ensures.value in rw (c.into_inner.ensures, c.advance_to.ensures.rest, ← ap (λ i. i.rest) c.in_ok-ahead.ensures.value) s
 
 pub returns-in-Err-clause-found : goal.returns-in-Err-clause-found
-returns-in-Err-clause-found c = λ v rest clean s.
-    read_refused _ _ rest (tree_of v) _ c.in-Err.ensures.value (rw (ap (λ i. i.rest) c.in_ok-ahead.ensures.value) s)
+returns-in-Err-clause-found c = λ t rest clean s.
+    read_refused _ _ rest t _ c.in-Err.ensures.value (rw (ap (λ i. i.rest) c.in_ok-ahead.ensures.value) s)
