@@ -77,7 +77,7 @@ pub(crate) fn three_dots_at(input: &ParseBuffer<'_>) -> bool
 
 /// `::` stands first.
 #[tactic(auto, unfolding(syn_grammar::specs::Tokens::path_sep_at))]
-fn path_sep_at(input: &ParseBuffer<'_>) -> bool
+pub(crate) fn path_sep_at(input: &ParseBuffer<'_>) -> bool
     ensures { result ≡ spec.path_sep_at input.now.rest }
 {
     let (a, b, _) = signs(input);

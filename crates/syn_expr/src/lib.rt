@@ -15,4 +15,6 @@ pub mod path;
 pub mod precedence;
 pub mod print;
 pub mod punctuated;
+#[cfg(test)]
+mod tests;
 mod tokens;

@@ -58,16 +58,6 @@ fn digits_len(text: &[u8]) -> usize
     text.iter().take_while(|c| is_digit(**c)).count()
 }
 
-/// A number begins with the prefix of another base.
-fn is_radix(text: &[u8]) -> bool
-    ensures { result ≡ tree.is_radix text.now }
-{
-    match text {
-        [b'0', c, ..] => *c == b'x' || *c == b'o' || *c == b'b',
-        _ => false,
-    }
-}
-
 /// A fraction or an exponent begins here.
 fn starts_fraction(text: &[u8]) -> bool
     ensures { result ≡ tree.starts_fraction text.now }
@@ -78,14 +68,14 @@ fn starts_fraction(text: &[u8]) -> bool
     }
 }
 
-/// Whether the text of a number is that of a float: behind decimal digits a dot or an exponent stands (Rust Reference,
+/// Whether the text of a number is that of a float: behind its decimal digits a dot or an exponent stands (Rust Reference,
 /// "Floating-point literals").
 #[tactic(auto, unfolding(syn_grammar::specs::Tree::is_float_text))]
 fn is_float(text: &[u8]) -> bool
     ensures { result ≡ tree.is_float_text text.now }
 {
     let digits = digits_len(text);
-    !is_radix(text) && starts_fraction(&text[digits..])
+    starts_fraction(&text[digits..])
 }
 
 /// A number begins with a decimal digit.

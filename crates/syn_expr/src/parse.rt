@@ -29,8 +29,8 @@ use syn_tokens::Delimiter;
 use syn_tokens::buffer::{Parse, ParseBuffer};
 use syn_tokens::error::{Error, ErrorKind, Expected, Result};
 use syn_tokens::span::Span;
-use syn_tokens::token::{Comma, Paren};
-use syn_tokens::tree::{Literal, TokenTree};
+use syn_tokens::token::Comma;
+use syn_tokens::tree::TokenTree;
 
 /// The whole of a list, and what stands inside of delimiters.
 const PLAIN: Place = Place {
@@ -103,6 +103,9 @@ fn named(input: &mut ParseBuffer<'_>, place: Place) -> Result<Box<Expr>>
     ensures noted { input.new.noted ≡ input.old.noted }
     ensures shrinks { weight input.new.rest ≤ weight input.old.rest }
 {
+    if !Path::begins(input) {
+        return Err(input.error(ErrorKind::ExpectedExpression));
+    }
     let path = Path::read(input)?;
     if !path_stands(input, place, &path) {
         return Err(input.error(ErrorKind::UnexpectedToken));

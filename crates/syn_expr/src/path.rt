@@ -1,6 +1,6 @@
 //! Paths (Rust Reference, "Paths in expressions").
 
-ghost use Rattle.std.specs.Prelude.{◌≡◌, ◌≤◌, ◌<◌, map, true, IfOk};
+ghost use Rattle.std.specs.Prelude.{◌≡◌, ◌≤◌, ◌<◌, map, true, false, None, IfOk};
 ghost use Rattle.syn_grammar.specs.Read as spec;
 ghost use Rattle.syn_grammar.specs.Words.{is_segment};
 ghost use Rattle.syn_grammar.specs.Tree.{is_sole, is_word_alone};
@@ -8,7 +8,7 @@ ghost use Rattle.syn_tokens.specs.Tok.{weight};
 ghost use Rattle.syn_expr.specs.View.{path_of, segments_of};
 ghost use Rattle.syn_expr.specs.Reads.{Reads, ReadsSegment};
 
-use crate::front::path_sep;
+use crate::front::{path_sep, path_sep_at};
 use crate::punctuated::Punctuated;
 use syn_lexer::reserved::is_reserved_word;
 use syn_tokens::buffer::ParseBuffer;
@@ -53,6 +53,16 @@ fn is_segment(word: &str) -> bool
         || word == "super"
         || word == "crate"
         || word == "try"
+}
+
+/// Whether a segment stands first.
+fn segment_at(input: &ParseBuffer<'_>) -> bool
+    ensures { result ≡ false → spec.segments_at input.now.rest ≡ None }
+{
+    match input.first() {
+        Some(TokenTree::Ident(word)) => is_segment(word.as_str()),
+        _ => false,
+    }
 }
 
 /// Reads a segment.
@@ -108,6 +118,14 @@ impl Path {
             leading_colon,
             segments,
         })
+    }
+
+    /// Whether a path may stand first: `::` or a segment does.
+    #[tactic(auto, unfolding(syn_grammar::specs::Read::path_at))]
+    pub(crate) fn begins(input: &ParseBuffer<'_>) -> bool
+        ensures { result ≡ false → spec.path_at input.now.rest ≡ None }
+    {
+        path_sep_at(input) || segment_at(input)
     }
 
     /// Whether it is this word alone.

@@ -190,21 +190,17 @@ size (adorned a more t) = size t
 
 -- ---- well-formed: what a reader can give back in its place
 
--- The text of a number is that of a float where, behind decimal digits, a dot or an exponent stands (Rust Reference,
--- "Floating-point literals"); a number with the prefix `0x`, `0o` or `0b` is an integer.
+-- The text of a number is that of a float where behind its decimal digits a dot or an exponent stands (Rust Reference,
+-- "Floating-point literals"). Behind the zero of `0x`, `0o` and `0b` none does.
 abbrev pub is_digit : ℕ → Bool
 is_digit c = is_ascii_digit c || c == 95
-
-abbrev pub is_radix : List ℕ → Bool
-is_radix (z ∷ c ∷ more) = z == 48 && (c == 120 || (c == 111 || c == 98))
-is_radix text = false
 
 abbrev pub starts_fraction : List ℕ → Bool
 starts_fraction [] = false
 starts_fraction (c ∷ more) = c == 46 || (c == 101 || c == 69)
 
 unfoldable pub is_float_text : List ℕ → Bool
-is_float_text text = not (is_radix text) && starts_fraction (drop (prefix_len is_digit text) text)
+is_float_text text = starts_fraction (drop (prefix_len is_digit text) text)
 
 abbrev pub starts_number : List ℕ → Bool
 starts_number [] = false
