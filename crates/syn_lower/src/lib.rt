@@ -5,10 +5,12 @@
 pub mod attr;
 pub mod block;
 mod front;
+mod leaf;
 pub mod lifetime;
 pub mod lit;
 pub mod mac;
 pub mod path;
 pub mod print;
 pub mod punctuated;
+mod text;
 pub mod ty;

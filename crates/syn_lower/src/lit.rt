@@ -34,53 +34,53 @@ pub enum Lit {
 /// A string literal.
 #[derive(Debug, Drop)]
 pub struct LitStr {
-    token: Literal,
+    pub(crate) token: Literal,
 }
 
 /// A byte string literal.
 #[derive(Debug, Drop)]
 pub struct LitByteStr {
-    token: Literal,
+    pub(crate) token: Literal,
 }
 
 /// A C string literal.
 #[derive(Debug, Drop)]
 pub struct LitCStr {
-    token: Literal,
+    pub(crate) token: Literal,
 }
 
 /// A byte literal.
 #[derive(Debug, Drop)]
 pub struct LitByte {
-    token: Literal,
+    pub(crate) token: Literal,
 }
 
 /// A character literal.
 #[derive(Debug, Drop)]
 pub struct LitChar {
-    token: Literal,
+    pub(crate) token: Literal,
 }
 
 /// An integer literal. Where a sign was read with it, it prints as two tokens.
 #[derive(Debug, Drop)]
 pub struct LitInt {
-    minus_token: Option<Minus>,
-    token: Literal,
+    pub(crate) minus_token: Option<Minus>,
+    pub(crate) token: Literal,
     ghost number: { is_number token ≡ true },
 }
 
 /// A floating-point literal. Where a sign was read with it, it prints as two tokens.
 #[derive(Debug, Drop)]
 pub struct LitFloat {
-    minus_token: Option<Minus>,
-    token: Literal,
+    pub(crate) minus_token: Option<Minus>,
+    pub(crate) token: Literal,
     ghost number: { is_number token ≡ true },
 }
 
 /// `true` or `false`.
 #[derive(Debug, Drop)]
 pub struct LitBool {
-    word: Ident,
+    pub(crate) word: Ident,
 }
 
 /// Prints a number, behind its sign.
