@@ -1,6 +1,6 @@
 //! The printer of expressions: a tree's own tokens, with the parentheses that it needs.
 
-ghost use Rattle.std.specs.Prelude.{◌≡◌, ◌++◌, ◌∷◌, [], ◌+◌, ◌-◌, ◌*◌, ◌^◌, ◌≤◌, ◌<◌, true, min, OnOk, IfOk, IfErr};
+ghost use Rattle.std.specs.Prelude.{◌≡◌, ◌++◌, ◌∷◌, [], ◌+◌, ◌-◌, ◌*◌, ◌^◌, ◌≤◌, ◌<◌, true, min, List, OnOk, IfOk, IfErr};
 ghost use Rattle.syn_grammar.specs.declared.kinds.Infix.TheVariants as inf;
 ghost use Rattle.syn_grammar.specs.Next as next_spec;
 ghost use Rattle.syn_grammar.specs.Notes.{note_of, stack, below, EndsWith};
@@ -8,6 +8,8 @@ ghost use Rattle.syn_grammar.specs.Printed.{PrintedAs};
 ghost use Rattle.syn_grammar.specs.Rule.{wraps, printed, put, bare};
 ghost use Rattle.syn_grammar.specs.Tree as tree;
 ghost use Rattle.syn_grammar.specs.Tree.{own_tokens, size, is_well_formed};
+ghost use Rattle.syn_grammar.specs.Place.{plain};
+ghost use Rattle.syn_grammar.specs.Stands.{Stands};
 ghost use Rattle.syn_lexer.specs.declared.lexeme.Delimiter.TheVariants as delimiter;
 ghost use Rattle.syn_tokens.specs.Input.{IsFront};
 ghost use Rattle.syn_tokens.specs.Tok as tok;
@@ -229,6 +231,8 @@ pub fn print_expr(expr: &Expr, tokens: &mut TokenStream, fixup: FixupContext) ->
 
     // What is written stands for the same tree up to parentheses, none are added needlessly, and none can be left out.
     ensures printed { OnOk result (fixup ≡ next_spec.enclosed → is_well_formed (tree_of expr.now) ≡ true → PrintedAs (tree_of expr.now) (printed fixup (tree_of expr.now))) }
+    // What stands for some list is written as its own spelling.
+    ensures own { OnOk result (fixup ≡ next_spec.enclosed → (l : List tok.Tok) → Stands plain l (tree_of expr.now) [] → tokens.new ≡ tokens.old ++ own_tokens (tree_of expr.now)) }
 {
     print_node(tokens, expr, Role::At(Level::Jump), fixup.context())?;
     Ok(())
