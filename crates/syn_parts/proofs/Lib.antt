@@ -12,3 +12,5 @@ pub mod Whole
 pub mod Loops
 pub mod Tails
 pub mod TailParts
+pub mod Pats
+pub mod PatWhole

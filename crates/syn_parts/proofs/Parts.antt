@@ -29,10 +29,10 @@ pub word_some : (b : Bool) (w : Text) (l : List Tok) (x : Text) (n : List Tok) �
 word_some true w l x n h = ap (λ z. z.1) (some_is h)
 word_some false w l x n h = absurd cc
 
-falls_by : (l n m : List Tok) → l ≡ n → weight l ≤ weight m → weight n ≤ weight m
+pub falls_by : (l n m : List Tok) → l ≡ n → weight l ≤ weight m → weight n ≤ weight m
 falls_by l n m e h = subst (λ z. weight z ≤ weight m) e h
 
-one_less : (x : Tok) (l : List Tok) → weight l ≤ weight (x ∷ l)
+pub one_less : (x : Tok) (l : List Tok) → weight l ≤ weight (x ∷ l)
 unfolding weight
 one_less x l = omega arith
 

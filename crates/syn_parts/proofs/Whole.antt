@@ -18,7 +18,7 @@ use Rattle.syn_parts.proofs.Parts.{name_alike, lifetime_alike, lit_alike, unsign
 use Rattle.syn_parts.proofs.ReadBack.{not_true, name_back, lifetime_back, lit_back, attribute_back, block_back}
 use Rattle.syn_parts.proofs.TypesBack.{lifetimes_back, path_back, qpath_back, type_back, bound_back, group_back}
 
-exact : {A : Type 0} (f : Form A) → Alike 0 f f → IsExact f
+pub exact : {A : Type 0} (f : Form A) → Alike 0 f f → IsExact f
 exact f a l x n = (a.sound l x n, a.complete l x n)
 
 pub parts_exact : PartsAreExact

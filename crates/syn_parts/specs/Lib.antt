@@ -7,3 +7,5 @@ pub mod Part
 pub mod Own
 pub mod Fits
 pub mod Laws
+pub mod Pat
+pub mod PatLaws

@@ -1,6 +1,7 @@
 //! What is true of the lower parts, as contracts of functions that do nothing.
 
 ghost use Rattle.syn_parts.specs.Laws as spec;
+ghost use Rattle.syn_parts.specs.PatLaws as pat;
 
 /// Each part is read exactly where its tokens stand, and what is left is what stands behind it.
 pub fn parts_are_exact()
@@ -20,4 +21,19 @@ pub fn types_are_spelled_by_kind()
 /// No list has two types in front, nor two rests.
 pub fn one_type()
     ensures { spec.OneType }
+{}
+
+/// Patterns without guards, and the arguments of closures, are read exactly where their tokens stand.
+pub fn patterns_are_exact()
+    ensures { pat.PatternsAreExact }
+{}
+
+/// A pattern is spelled by its kind, and by what spells the patterns in it.
+pub fn patterns_are_spelled_by_kind()
+    ensures { pat.PatternsAreSpelledByKind }
+{}
+
+/// No list has two patterns in front, nor two rests.
+pub fn one_pattern()
+    ensures { pat.OnePattern }
 {}
