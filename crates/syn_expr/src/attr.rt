@@ -4,7 +4,6 @@ ghost use Rattle.std.specs.Prelude.{◌≡◌, ◌≤◌, drop, length, Some, No
 ghost use Rattle.syn_grammar.specs.Read as spec;
 ghost use Rattle.syn_grammar.specs.Stands.{attrs_at};
 ghost use Rattle.syn_tokens.specs.Tok.{inside, weight};
-ghost use Rattle.syn_tokens.specs.View.{toks_of};
 ghost use Rattle.syn_expr.specs.Reads.{ReadsAttrs};
 
 use syn_tokens::Delimiter;

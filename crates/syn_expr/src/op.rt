@@ -1,9 +1,8 @@
 //! Operators (Rust Reference, "Operator expressions").
 
-ghost use Rattle.std.specs.Prelude.{◌≡◌, ◌≤◌, ◌<◌, ◌+◌, drop, length, false, Some, IfSome, IfOk, IfErr, List, ℕ};
+ghost use Rattle.std.specs.Prelude.{◌≡◌, ◌≤◌, ◌<◌, ◌+◌, length, false, IfSome, IfOk, IfErr, List};
 ghost use Rattle.syn_grammar.specs.Op as spec;
 ghost use Rattle.syn_grammar.specs.Place as place;
-ghost use Rattle.syn_grammar.specs.declared.kinds.Infix.TheVariants as infix_kind;
 ghost use Rattle.syn_tokens.specs.declared.error.ErrorKind.TheVariants.{ExpectedBinaryOperator};
 ghost use Rattle.syn_expr.specs.View.{un_kind, bin_kind};
 

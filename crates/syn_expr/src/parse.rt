@@ -3,8 +3,7 @@
 //! Its rules are methods that take the reader of the expressions inside as a function, so that each is proved by
 //! itself; `expr` ties the knot.
 
-ghost use Rattle.std.specs.Prelude.{◌≡◌, ◌≤◌, ◌<◌, ◌+◌, length, true, false, Some, None, IfSome, MatchOption, List};
-ghost use Rattle.syn_grammar.specs.Op as op_spec;
+ghost use Rattle.std.specs.Prelude.{◌≡◌, ◌≤◌, ◌+◌, true, false, MatchOption};
 ghost use Rattle.syn_grammar.specs.Place as places;
 ghost use Rattle.syn_grammar.specs.Read as spec;
 ghost use Rattle.syn_grammar.specs.Stands as stands;

@@ -1,6 +1,6 @@
 //! Paths (Rust Reference, "Paths in expressions").
 
-ghost use Rattle.std.specs.Prelude.{◌≡◌, ◌≤◌, ◌<◌, map, true, false, None, IfOk};
+ghost use Rattle.std.specs.Prelude.{◌≡◌, ◌≤◌, ◌<◌, false, None, IfOk};
 ghost use Rattle.syn_grammar.specs.Read as spec;
 ghost use Rattle.syn_grammar.specs.Words.{is_segment};
 ghost use Rattle.syn_grammar.specs.Tree.{is_sole, is_word_alone};
