@@ -1,9 +1,6 @@
 -- How many tokens are left.
-use Rattle.std.proofs.Common.{◌≡◌, ℕ, zero, suc, ◌+◌, ◌≤◌, ◌<◌, List, [], ◌∷◌, drop, length, Some, None, Bool, true, false, ap, refl, arith}
-use Rattle.std.specs.Prelude.{if◌then◌else◌}
-use Rattle.syn_lexer.specs.declared.lexeme.Delimiter.{Delimiter}
-use Rattle.syn_tokens.specs.Tok.{Tok, ident, literal, punct, group, toks, weight, token_weight, weight-toks}
-use Rattle.syn_tokens.specs.Front.{group_at, same_delimiter}
+use Rattle.std.proofs.Common.{◌≡◌, ℕ, zero, suc, ◌+◌, ◌≤◌, ◌<◌, List, [], ◌∷◌, drop, length, refl, arith}
+use Rattle.syn_tokens.specs.Tok.{Tok, ident, literal, punct, group, weight, token_weight}
 
 pub weight-first : (t : Tok) (ts : List Tok) → weight (t ∷ ts) ≡ token_weight t + weight ts
 unfolding weight
@@ -48,21 +45,6 @@ nothing_smaller (t ∷ ts) h = omega (arith, one_at_least t)
 pub nothing_least : (ts : List Tok) → weight [] ≤ weight ts
 unfolding weight
 nothing_least ts = omega arith
-
-chosen : {A : Type 0} (b : Bool) (x y : A) → (if b then Some x else None) ≡ Some y → x ≡ y
-chosen true x y h = cc
-chosen false x y h = absurd cc
-
--- a group weighs more than its inside
-pub group_weight : (d : Delimiter) (l is ts : List Tok) → group_at d l ≡ Some (is, ts) → weight is + weight ts < weight l
-unfolding group_at weight
-group_weight d [] is ts h = absurd cc
-group_weight d (group e i ∷ us) is ts h =
-    let same : (toks i, us) ≡ (is, ts) = chosen (same_delimiter e d) (toks i, us) (is, ts) h in
-    let one : toks i ≡ is = ap (λ (p : List Tok × List Tok). p.0) same in
-    let two : us ≡ ts = ap (λ (p : List Tok × List Tok). p.1) same in
-    rw (← one, ← two) (omega (arith, weight-toks i))
-group_weight d (t ∷ us) is ts h = absurd cc
 
 pub ruleset drops = (drop_weight, drop_moves, past_moves, drop_smaller, nothing_smaller, nothing_least)
 
