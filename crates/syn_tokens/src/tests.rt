@@ -297,11 +297,11 @@ fn places_do_not_count(rt: HostRuntime) -> Result<(), Fail> {
     let one = lex(alloc, "a(b , 1)")?;
     let two = lex(alloc, " a  ( b, 1 )")?;
     let three = lex(alloc, "a(b , 2)")?;
-    assert_eq!(rt; one == two, true);
+    assert_eq!(rt; one, two);
     assert_eq!(rt; hash_of(&one), hash_of(&two));
-    assert_eq!(rt; one == three, false);
+    assert_ne!(rt; one, three);
     for (a, b) in one.trees().iter().zip(two.trees()) {
-        assert_eq!(rt; a == b, true);
+        assert_eq!(rt; a, b);
         assert_eq!(rt; hash_of(a), hash_of(b));
         let copy = copy_tree(alloc, a)?;
         assert_eq!(rt; copy.span(), a.span(), "a copy keeps its place");

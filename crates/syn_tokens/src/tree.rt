@@ -95,7 +95,7 @@ impl Literal {
 
 /// A delimited list of token trees.
 #[cycle(trees)]
-#[derive(Drop)]
+#[derive(Debug, Drop)]
 pub struct Group {
     /// What encloses it.
     pub delimiter: Delimiter,
@@ -107,7 +107,7 @@ pub struct Group {
 
 /// A token, or a delimited list of them (Rust Reference, "Tokens", "Delimiters").
 #[cycle(trees)]
-#[derive(Drop)]
+#[derive(Debug, Drop)]
 pub enum TokenTree {
     /// A group.
     Group(Group),
@@ -121,7 +121,7 @@ pub enum TokenTree {
 
 /// A list of token trees. Contracts see the list of its tokens without their places.
 #[cycle(trees)]
-#[derive(Drop)]
+#[derive(Debug, Drop)]
 pub struct TokenStream {
     trees: Vec<TokenTree>,
 }
