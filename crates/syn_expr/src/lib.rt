@@ -5,6 +5,7 @@ pub mod attr;
 pub mod expr;
 pub mod fixup;
 mod front;
+pub mod laws;
 pub mod lit;
 mod make;
 mod node;
