@@ -79,7 +79,7 @@ fn binary_kind(op: Infix) -> Option<BinKind>
     ensures { MatchOption result (has_kind op ≡ false) (λ k. (op ≡ infix_kind.Binary k) × (has_kind op ≡ true)) }
 {
     match op {
-        Infix::Binary(kind) if level(op) != Level::Assign => Some(kind),
+        Infix::Binary(kind) => Some(kind),
         _ => None,
     }
 }

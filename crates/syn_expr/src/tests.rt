@@ -57,6 +57,16 @@ fn operators_group_to_the_left(rt: HostRuntime) -> Result<(), Fail> {
 }
 
 #[test]
+fn compound_assignments_group_to_the_right(rt: HostRuntime) -> Result<(), Fail> {
+    let e = parse_str::<Expr>(rt.alloc(), "a += b -= c - d")?;
+    let (a, right) = operands(&e, BinKind::AddAssign).expect(&rt, "the first");
+    let (b, difference) = operands(right, BinKind::SubAssign).expect(&rt, "the second");
+    let (c, d) = operands(difference, BinKind::Sub).expect(&rt, "the difference");
+    assert!(rt; is_word(a, "a") && is_word(b, "b") && is_word(c, "c") && is_word(d, "d"));
+    Ok(())
+}
+
+#[test]
 fn tighter_operators_take_their_operands_first(rt: HostRuntime) -> Result<(), Fail> {
     let e = parse_str::<Expr>(rt.alloc(), "-a * !b - c")?;
     let (left, c) = operands(&e, BinKind::Sub).expect(&rt, "the minus");
@@ -195,7 +205,6 @@ fn refused_expressions(rt: HostRuntime) -> Result<(), Fail> {
 fn kinds_that_are_not_here_yet_are_refused(rt: HostRuntime) -> Result<(), Fail> {
     for text in [
         "a = b",
-        "a += b",
         "a..b",
         "a...b",
         "a as b",

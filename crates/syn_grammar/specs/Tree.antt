@@ -251,16 +251,6 @@ is_good_leaf (path p) = is_good_path p
 
 -- the operators of the kinds that there are so far
 abbrev pub has_kind : Infix → Bool
-has_kind (inf.Binary bin.AddAssign) = false
-has_kind (inf.Binary bin.SubAssign) = false
-has_kind (inf.Binary bin.MulAssign) = false
-has_kind (inf.Binary bin.DivAssign) = false
-has_kind (inf.Binary bin.RemAssign) = false
-has_kind (inf.Binary bin.BitXorAssign) = false
-has_kind (inf.Binary bin.BitAndAssign) = false
-has_kind (inf.Binary bin.BitOrAssign) = false
-has_kind (inf.Binary bin.ShlAssign) = false
-has_kind (inf.Binary bin.ShrAssign) = false
 has_kind (inf.Binary op) = true
 has_kind _ = false
 

@@ -1,0 +1,2 @@
+pub mod FaultView
+pub mod Run
