@@ -12,11 +12,10 @@ use syn_tokens::error::{ErrorKind, Result};
 use syn_tokens::tree::TokenStream;
 use syn_tokens::whole::parse2;
 
-/// Prints a well-formed expression and reads the tokens: they are read back as the same tree, up to parentheses and
-/// fill-ins, unless memory runs out (`OutOfMemory`).
+/// Prints an expression and reads the tokens: those of a well-formed one are read back as the same tree, up to
+/// parentheses and fill-ins, unless memory runs out (`OutOfMemory`).
 pub fn read_back(alloc: Global, expr: &Expr) -> Result<Expr>
-    requires { is_well_formed (tree_of expr.now) ≡ true }
-    ensures { MatchResult result (λ x. IsSameTree (tree_of expr.now) (tree_of x)) (λ e. e.kind ≡ ErrorKind.OutOfMemory) }
+    ensures { is_well_formed (tree_of expr.now) ≡ true → MatchResult result (λ x. IsSameTree (tree_of expr.now) (tree_of x)) (λ e. e.kind ≡ ErrorKind.OutOfMemory) }
 {
     let mut tokens = TokenStream::new(alloc);
     print_expr(expr, &mut tokens, FixupContext::NONE)?;

@@ -369,3 +369,6 @@ impl ToTokens for ExprBinary {
         Ok(())
     }
 }
+
+#[cfg(test)]
+mod tests;

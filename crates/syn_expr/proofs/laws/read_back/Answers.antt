@@ -8,5 +8,5 @@ use Rattle.syn_expr.proofs.laws.read_back.Goals as goal
 
 pub returns : goal.returns
 returns c =
-    given_back c.args.expr.now _ c.parse2.result c.requires
+    λ h. given_back c.args.expr.now _ c.parse2.result h
     (c.in_ok-print_expr.ensures.ok ∙ ap (λ l. l ++ own_tokens (printed enclosed (tree_of c.args.expr.now))) c.new-tokens.ensures) c.parse2.ensures.found
