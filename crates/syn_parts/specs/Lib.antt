@@ -9,3 +9,4 @@ pub mod Fits
 pub mod Laws
 pub mod Pat
 pub mod PatLaws
+pub mod PatOwn

@@ -1,0 +1,214 @@
+-- The own tokens of patterns, and where a pattern is read back from them.
+use Rattle.std.specs.Prelude.{ℕ, Bool, true, false, not, ◌&&◌, ◌||◌, ◌==◌, List, [], ◌∷◌, codes, Option, Some, None}
+use Rattle.std.specs.Fmt.{decimal}
+use Rattle.syn_lexer.specs.Keywords.{is_reserved_word}
+use Rattle.syn_lexer.specs.declared.lexeme.Delimiter.TheVariants as del
+use Rattle.syn_tokens.specs.Tok.{Tok, ident, literal}
+use Rattle.syn_parts.specs.declared.label.PathStyle.TheVariants as style
+use Rattle.syn_parts.specs.Text.{Text}
+use Rattle.syn_parts.specs.Tree as t
+use Rattle.syn_parts.specs.Tree.{AttributeTree, PathTree, SegmentTree, QSelfTree}
+use Rattle.syn_parts.specs.Form.{Test}
+use Rattle.syn_parts.specs.Mark.{brace_at, round_at, not_ne}
+use Rattle.syn_parts.specs.Part.{MacroTree, has_none, segments_bare}
+use Rattle.syn_parts.specs.Own.{alone, joint, before_if, before_some, comma_before, enclosed, separated, elements_own, lit_own, attribute_own, path_own, qualified_own, macro_own}
+use Rattle.syn_parts.specs.Fits.{lit_fits, path_fits, path_stops, qpath_fits, is_macro_delimiter, ends_well}
+use Rattle.syn_parts.specs.Pat.{MemberTree, a_name, an_index, index_of, PatBound, lit_bound, path_bound, PatTree, SubPat, Pats, Fields, FieldTree, wild, rest, range, a_lit, a_binding, a_path, a_mac, a_struct, tuple_struct, a_tuple, a_paren, a_slice, a_reference, a_block, alternatives, no_sub, sub, no_pats, more_pats, no_fields, more_fields, short, full, is_rest, bound_at, dots, at_sign, vert, goes_on}
+
+-- ---- own tokens; an index in plain decimal, a closed range with `..=`
+
+abbrev pub limits_before : Bool → List Tok → List Tok
+limits_before true r = joint 46 ∷ joint 46 ∷ alone 61 ∷ r
+limits_before false r = joint 46 ∷ alone 46 ∷ r
+
+abbrev pub range_bound_own : PatBound → List Tok → List Tok
+range_bound_own (lit_bound x) r = lit_own x r
+range_bound_own (path_bound q p) r = qualified_own (q, p) r
+
+abbrev pub member_own : MemberTree → List Tok → List Tok
+member_own (a_name w) r = ident w ∷ r
+member_own (an_index n) r = literal (decimal n) ∷ r
+
+abbrev pub vert_before : List Tok → List Tok
+vert_before r = alone 124 ∷ r
+
+abbrev pub word_if : Bool → Text → List Tok → List Tok
+word_if b w r = before_if b (λ l. ident w ∷ l) r
+
+abbrev pub attributes_own : List AttributeTree → List Tok → List Tok
+attributes_own [] r = r
+attributes_own (a ∷ more) r = attribute_own a (attributes_own more r)
+
+abbrev pub no_more_pats : Pats → Bool
+no_more_pats no_pats = true
+no_more_pats (more_pats p ps) = false
+
+abbrev pub no_more_fields : Fields → Bool
+no_more_fields no_fields = true
+no_more_fields (more_fields a f fs) = false
+
+abbrev mutual
+  pub pat_own : PatTree → List Tok → List Tok
+  pat_own wild r = ident (codes "_") ∷ r
+  pat_own rest r = limits_before false r
+  pat_own (range s c e) r = before_some s range_bound_own (limits_before c (before_some e range_bound_own r))
+  pat_own (a_lit x) r = lit_own x r
+  pat_own (a_binding b m w s) r = word_if b (codes "ref") (word_if m (codes "mut") (ident w ∷ sub_own s r))
+  pat_own (a_path q p) r = qualified_own (q, p) r
+  pat_own (a_mac m) r = macro_own m r
+  pat_own (a_struct p fs e d) r = path_own p (enclosed del.Brace (fields_own fs e (before_if d (limits_before false) [])) r)
+  pat_own (tuple_struct p ps e) r = path_own p (enclosed del.Parenthesis (pats_own ps e []) r)
+  pat_own (a_tuple ps e) r = enclosed del.Parenthesis (pats_own ps e []) r
+  pat_own (a_paren p) r = enclosed del.Parenthesis (pat_own p []) r
+  pat_own (a_slice ps e) r = enclosed del.Bracket (pats_own ps e []) r
+  pat_own (a_reference m p) r = alone 38 ∷ word_if m (codes "mut") (pat_own p r)
+  pat_own (a_block ts) r = ident (codes "const") ∷ enclosed del.Brace ts r
+  pat_own (alternatives l ps e) r = before_if l vert_before (or_own ps e r)
+
+  pub sub_own : SubPat → List Tok → List Tok
+  sub_own no_sub r = r
+  sub_own (sub p) r = alone 64 ∷ pat_own p r
+
+  pub pats_own : Pats → Bool → List Tok → List Tok
+  pats_own no_pats e r = r
+  pats_own (more_pats p ps) e r = pat_own p (separated (no_more_pats ps) e comma_before (pats_own ps e r))
+
+  pub or_own : Pats → Bool → List Tok → List Tok
+  or_own no_pats e r = r
+  or_own (more_pats p ps) e r = pat_own p (separated (no_more_pats ps) e vert_before (or_own ps e r))
+
+  pub fields_own : Fields → Bool → List Tok → List Tok
+  fields_own no_fields e r = r
+  fields_own (more_fields a f fs) e r = attributes_own a (field_own f (separated (no_more_fields fs) e comma_before (fields_own fs e r)))
+
+  pub field_own : FieldTree → List Tok → List Tok
+  field_own (short b m w) r = word_if b (codes "ref") (word_if m (codes "mut") (ident w ∷ r))
+  field_own (full k p) r = member_own k (alone 58 ∷ pat_own p r)
+
+-- ---- what is behind a pattern
+
+abbrev pub range_bound_stops : Option PatBound → Test
+range_bound_stops None r = not (bound_at r)
+range_bound_stops (Some (lit_bound x)) r = true
+range_bound_stops (Some (path_bound q p)) r = path_stops style.Expr p r
+
+abbrev pub path_pat_stops : QSelfTree → PathTree → Test
+path_pat_stops t.no_qself p r = not (segments_bare p.segments && not_ne.at r) && (not (brace_at r) && not (round_at r))
+path_pat_stops (t.qself x n a) p r = true
+
+abbrev mutual
+  pub single_stops : PatTree → Test
+  single_stops rest r = not (bound_at r)
+  single_stops (range s c e) r = range_bound_stops e r
+  single_stops (a_lit x) r = not (dots.at r)
+  single_stops (a_binding b m w s) r = sub_stops s r && (b || (m || not_bare s r))
+  single_stops (a_path q p) r = path_stops style.Expr p r && (not (dots.at r) && path_pat_stops q p r)
+  single_stops (a_reference m p) r = single_stops p r
+  single_stops (alternatives l ps e) r = or_stops ps r
+  single_stops _ r = true
+
+  pub sub_stops : SubPat → Test
+  sub_stops no_sub r = not (at_sign.at r)
+  sub_stops (sub p) r = single_stops p r
+
+  -- a bare name is followed by nothing that makes it a path
+  pub not_bare : SubPat → Test
+  not_bare no_sub r = not (goes_on r)
+  not_bare (sub p) r = true
+
+  pub or_stops : Pats → Test
+  or_stops no_pats r = true
+  or_stops (more_pats p no_pats) r = single_stops p r
+  or_stops (more_pats p (more_pats q ps)) r = or_stops (more_pats q ps) r
+
+-- where alternatives may stand, no `|` follows
+abbrev pub pat_stops : Bool → PatTree → Test
+pat_stops several p r = single_stops p r && not (several && vert.at r)
+
+-- ---- what is read back
+
+-- an index whose decimal digits are read as it
+abbrev pub same_index : Option ℕ → ℕ → Bool
+same_index None n = false
+same_index (Some m) n = m == n
+
+abbrev pub member_fits : MemberTree → Bool
+member_fits (a_name w) = not (is_reserved_word w)
+member_fits (an_index n) = same_index (index_of (decimal n)) n
+
+abbrev pub range_bound_fits : PatBound → Bool
+range_bound_fits (lit_bound x) = lit_fits x
+range_bound_fits (path_bound q p) = qpath_fits style.Expr (q, p)
+
+abbrev pub bound_or : Bool → Option PatBound → Bool
+bound_or b None = b
+bound_or b (Some x) = range_bound_fits x
+
+-- a closed range has an end, and one without any bound is a rest
+abbrev pub range_fits : Option PatBound → Bool → Option PatBound → Bool
+range_fits None false None = false
+range_fits s c e = bound_or true s && bound_or (not c) e
+
+-- a path that is one name is a binding
+abbrev pub is_name_alone : Bool → List SegmentTree → Bool
+is_name_alone false (s ∷ []) = not (is_reserved_word s.ident) && has_none s.arguments
+is_name_alone _ _ = false
+
+abbrev pub is_one_name : QSelfTree → PathTree → Bool
+is_one_name t.no_qself p = is_name_alone p.leading p.segments
+is_one_name (t.qself x n a) p = false
+
+-- behind `&` a `mut` would belong to it
+abbrev pub begins_mut : PatTree → Bool
+begins_mut (a_binding false true w s) = true
+begins_mut _ = false
+
+abbrev pub attributes_outer : List AttributeTree → Bool
+attributes_outer [] = true
+attributes_outer (a ∷ more) = not a.inner && attributes_outer more
+
+abbrev pub is_one_pat : Pats → Bool
+is_one_pat (more_pats p no_pats) = true
+is_one_pat _ = false
+
+abbrev pub is_one_rest : Pats → Bool
+is_one_rest (more_pats p no_pats) = is_rest p
+is_one_rest _ = false
+
+abbrev mutual
+  pub pat_fits : Bool → PatTree → Bool
+  pat_fits b wild = true
+  pat_fits b rest = true
+  pat_fits b (range s c e) = range_fits s c e
+  pat_fits b (a_lit x) = lit_fits x
+  pat_fits b (a_binding r m w s) = not (is_reserved_word w) && sub_fits s
+  pat_fits b (a_path q p) = qpath_fits style.Expr (q, p) && not (is_one_name q p)
+  pat_fits b (a_mac m) = path_fits style.Expr m.path && (segments_bare m.path.segments && is_macro_delimiter m.delimiter)
+  pat_fits b (a_struct p fs e d) = path_fits style.Expr p && (fields_fit fs && (ends_well (no_more_fields fs) e && (not d || (no_more_fields fs || e))))
+  pat_fits b (tuple_struct p ps e) = path_fits style.Expr p && (pats_fit ps && ends_well (no_more_pats ps) e)
+  pat_fits b (a_tuple ps e) = pats_fit ps && (ends_well (no_more_pats ps) e && (not (is_one_pat ps) || (e || is_one_rest ps)))
+  pat_fits b (a_paren p) = pat_fits true p && not (is_rest p)
+  pat_fits b (a_slice ps e) = pats_fit ps && ends_well (no_more_pats ps) e
+  pat_fits b (a_reference m p) = pat_fits false p && (m || not (begins_mut p))
+  pat_fits b (a_block ts) = true
+  pat_fits b (alternatives l ps e) = b && (not e && (not (no_more_pats ps) && ((l || not (is_one_pat ps)) && or_fits ps)))
+
+  pub sub_fits : SubPat → Bool
+  sub_fits no_sub = true
+  sub_fits (sub p) = pat_fits false p
+
+  pub pats_fit : Pats → Bool
+  pats_fit no_pats = true
+  pats_fit (more_pats p ps) = pat_fits true p && pats_fit ps
+
+  pub or_fits : Pats → Bool
+  or_fits no_pats = true
+  or_fits (more_pats p ps) = pat_fits false p && or_fits ps
+
+  pub fields_fit : Fields → Bool
+  fields_fit no_fields = true
+  fields_fit (more_fields a f fs) = attributes_outer a && (field_fits f && fields_fit fs)
+
+  pub field_fits : FieldTree → Bool
+  field_fits (short b m w) = not (is_reserved_word w)
+  field_fits (full k p) = member_fits k && pat_fits true p
