@@ -14,3 +14,4 @@ pub mod Tails
 pub mod TailParts
 pub mod Pats
 pub mod PatWhole
+pub mod PatsBack

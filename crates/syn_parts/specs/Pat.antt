@@ -174,10 +174,14 @@ vert = record { at = λ l. sign_at (codes "|") l && (not (sign_at (codes "||") l
 
 -- ---- ranges
 
+abbrev pub begins_number : Test
+begins_number (literal text ∷ l) = is_number text
+begins_number _ = false
+
 abbrev pub begins_lit : Test
 begins_lit (literal text ∷ l) = true
 begins_lit (ident text ∷ l) = is_truth text
-begins_lit (punct c s ∷ literal text ∷ l) = c == 45 && is_number text
+begins_lit (punct c s ∷ l) = c == 45 && begins_number l
 begins_lit _ = false
 
 abbrev pub begins_segment : Test

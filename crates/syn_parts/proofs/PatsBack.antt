@@ -1,0 +1,227 @@
+-- Patterns are read back from their own tokens.
+use Rattle.std.proofs.Common.{◌≡◌, ℕ, zero, suc, Bool, true, false, not, ◌&&◌, ◌||◌, ◌==◌, cond, List, [], ◌∷◌, drop, Option, Some, None, refl, ap, sym, ◌∙◌, subst, codes, arith}
+use Rattle.std.proofs.lemmas.Bool.Decides.{nat_tests}
+use Rattle.std.proofs.lemmas.Slice.Eq.{bytes_eq-Decides}
+use Rattle.std.specs.Fmt.{decimal}
+use Rattle.std.specs.Str.{bytes_eq}
+use Rattle.syn_lexer.specs.Keywords.{is_reserved_word}
+use Rattle.syn_lexer.specs.declared.lexeme.Delimiter.TheVariants as del
+use Rattle.syn_tokens.specs.Tok.{Tok, ident, punct, literal, group, toks, inside, toks-inside}
+use Rattle.syn_tokens.specs.Front.{group_at, is_empty}
+use Rattle.syn_parts.specs.declared.label.LitKind.{LitKind}
+use Rattle.syn_parts.specs.declared.label.LitKind.TheVariants as kind
+use Rattle.syn_parts.specs.declared.label.PathStyle.{PathStyle}
+use Rattle.syn_parts.specs.declared.label.PathStyle.TheVariants as style
+use Rattle.syn_parts.specs.Text.{Text, is_segment, is_truth, is_number, number_kind, kind_of, stands_alone}
+use Rattle.syn_parts.specs.Same.{same_kind}
+use Rattle.syn_parts.specs.Tree as t
+use Rattle.syn_parts.specs.Tree.{LitTree, AttributeTree, PathTree, SegmentTree, QSelfTree, Segments, ArgumentsTree}
+use Rattle.syn_parts.specs.Form.{Form, Mark, flag, listed, joined, more, when, shown, both}
+use Rattle.syn_parts.specs.Mark.{sign_at, word_at, brace_at, round_at, comma, colon, colon2, less, not_ne, mutable}
+use Rattle.syn_parts.specs.Part.{angle_at, turbofish_at, name, lit, is_lit_there, is_name_there, qpath, type, QPathTree, MacroTree, has_none, segments_bare, outer_attributes, outer_body}
+use Rattle.syn_parts.specs.Own.{alone, joint, before_if, before_some, comma_before, colon2_before, enclosed, is_end, separated, elements_own, lit_own, number_own, attribute_own, path_own, qualified_own, macro_own, type_own, segments_own, arguments_own, qself_own, no_more_segments, inner_count, count_segments}
+use Rattle.syn_parts.specs.Fits.{lit_fits, number_fits, has_kind, path_fits, path_stops, qpath_fits, is_macro_delimiter, ends_well, segments_fit, segments_stop, arguments_fit, arguments_stop, takes_angle, takes_round, qself_fits, goes_over}
+use Rattle.syn_parts.specs.Laws.{PartsAreReadBack}
+use Rattle.syn_parts.specs.Pat as p
+use Rattle.syn_parts.specs.Pat.{MemberTree, PatBound, PatTree, SubPat, Pats, Fields, FieldTree, FieldPatTree}
+use Rattle.syn_parts.specs.PatOwn as o
+use Rattle.syn_parts.proofs.Same.{both_true, same_kind-true}
+use Rattle.syn_parts.proofs.ReadBack.{not_true, text_same, name_back, lit_back, block_back}
+use Rattle.syn_parts.proofs.Behind.{Calm, nil_calm, comma_calm, or_true, segments_calm}
+use Rattle.syn_parts.proofs.Fronts.{word_not, no_truth, not_mut, not_underscore}
+use Rattle.syn_parts.proofs.TypesBack.{group_back}
+use Rattle.syn_parts.proofs.Whole.{parts_read_back}
+use Rattle.syn_parts.proofs.PatWhole.{spelled_by_kind}
+
+-- ---- nothing behind goes on with a pattern
+
+pub record PatCalm (l : List Tok) : Type 0 where
+  pub calm : Calm l
+  pub no_bound : p.bound_at l ≡ false
+  pub no_dots : p.dots.at l ≡ false
+  pub no_at : p.at_sign.at l ≡ false
+  pub no_brace : brace_at l ≡ false
+
+nil_pat_calm : PatCalm []
+unfolding p.bound_at sign_at brace_at group_at
+nil_pat_calm = record { calm = nil_calm; no_bound = refl; no_dots = refl; no_at = refl; no_brace = refl }
+
+comma_pat_calm : (l : List Tok) → PatCalm (alone 44 ∷ l)
+unfolding p.bound_at sign_at brace_at group_at
+comma_pat_calm l = record { calm = comma_calm l; no_bound = refl; no_dots = refl; no_at = refl; no_brace = refl }
+
+vert_calm : (l : List Tok) → Calm (alone 124 ∷ l)
+unfolding angle_at turbofish_at round_at sign_at group_at
+vert_calm l = record { no_angle = refl; no_round = refl; no_colon2 = refl; no_arrow = refl; no_bang = refl; no_turbofish = refl }
+
+vert_pat_calm : (l : List Tok) → PatCalm (alone 124 ∷ l)
+unfolding p.bound_at sign_at brace_at group_at
+vert_pat_calm l = record { calm = vert_calm l; no_bound = refl; no_dots = refl; no_at = refl; no_brace = refl }
+
+and_false : (a : Bool) → (a && false) ≡ false
+and_false true = refl
+and_false false = refl
+
+module _ (r : List Tok) (c : PatCalm r) where
+  path_calm : (s : PathStyle) (z : PathTree) → path_stops s z r ≡ true
+  path_calm s z = let k = c.calm in rw (segments_calm r k s (t.segments_of z.segments), k.no_colon2) refl
+
+  no_goes_on : p.goes_on r ≡ false
+  no_goes_on = let k = c.calm in rw (k.no_colon2, k.no_bang, c.no_brace, k.no_round, c.no_dots) refl
+
+  bound_calm : (e : Option PatBound) → o.range_bound_stops e r ≡ true
+  bound_calm None = rw c.no_bound refl
+  bound_calm (Some (p.lit_bound x)) = refl
+  bound_calm (Some (p.path_bound q z)) = path_calm style.Expr z
+
+  path_pat_calm : (q : QSelfTree) (z : PathTree) → o.path_pat_stops q z r ≡ true
+  path_pat_calm t.no_qself z = let k = c.calm in rw (k.no_bang, and_false (segments_bare z.segments), c.no_brace, k.no_round) refl
+  path_pat_calm (t.qself x n a) z = refl
+
+  bare_calm : (s : SubPat) → o.not_bare s r ≡ true
+  bare_calm p.no_sub = rw no_goes_on refl
+  bare_calm (p.sub z) = refl
+
+  mutual
+    pub single_calm : (z : PatTree) → o.single_stops z r ≡ true
+    single_calm p.wild = refl
+    single_calm p.rest = rw c.no_bound refl
+    single_calm (p.range s d e) = bound_calm e
+    single_calm (p.a_lit x) = rw c.no_dots refl
+    single_calm (p.a_binding b m w s) = rw (sub_calm s, bare_calm s, or_true m, or_true b) refl
+    single_calm (p.a_path q z) = rw (path_calm style.Expr z, c.no_dots, path_pat_calm q z) refl
+    single_calm (p.a_mac m) = refl
+    single_calm (p.a_struct z fs e d) = refl
+    single_calm (p.tuple_struct z ps e) = refl
+    single_calm (p.a_tuple ps e) = refl
+    single_calm (p.a_paren z) = refl
+    single_calm (p.a_slice ps e) = refl
+    single_calm (p.a_reference m z) = single_calm z
+    single_calm (p.a_block ts) = refl
+    single_calm (p.alternatives l ps e) = or_calm ps
+
+    sub_calm : (s : SubPat) → o.sub_stops s r ≡ true
+    sub_calm p.no_sub = rw c.no_at refl
+    sub_calm (p.sub z) = single_calm z
+
+    or_calm : (ps : Pats) → o.or_stops ps r ≡ true
+    or_calm p.no_pats = refl
+    or_calm (p.more_pats z p.no_pats) = single_calm z
+    or_calm (p.more_pats z (p.more_pats w ps)) = or_calm (p.more_pats w ps)
+
+-- ---- the first token of a literal
+
+truth_is : (w : Text) (x : Text) → is_truth w ≡ true → is_truth x ≡ false → bytes_eq w x ≡ false
+truth_is w x h k = by_bool (bytes_eq w x) refl
+  where
+    by_bool : (b : Bool) → bytes_eq w x ≡ b → b ≡ false
+    by_bool false e = refl
+    by_bool true e = let d : w ≡ x = (bytes_eq-Decides w x).0 e in absurd cc
+
+no_underscore : is_truth (codes "_") ≡ false
+unfolding is_truth
+no_underscore = refl
+
+no_const : is_truth (codes "const") ≡ false
+unfolding is_truth
+no_const = refl
+
+-- the first tokens of a literal: a truth value, a literal, or a `-` and a number
+pub data LitBegins : List Tok → Type 0 where
+  lit_word : {w : Text} {m : List Tok} → is_truth w ≡ true → LitBegins (ident w ∷ m)
+  lit_plain : {text : Text} {m : List Tok} → LitBegins (literal text ∷ m)
+  lit_minus : {text : Text} {m : List Tok} → is_number text ≡ true → LitBegins (alone 45 ∷ literal text ∷ m)
+
+number_begins : (k : LitKind) (text : Text) (r : List Tok) → number_fits k text ≡ true → LitBegins (number_own text r)
+number_begins k [] r h = lit_plain
+number_begins k (c ∷ text) r h = by_sign (c == 45) h
+  where
+    by_sign : (b : Bool) → cond b (is_number text && same_kind (number_kind text) k) (has_kind (kind_of (c ∷ text)) k) ≡ true → LitBegins (cond b (alone 45 ∷ literal text ∷ r) (literal (c ∷ text) ∷ r))
+    by_sign true h = let (a, d) = both_true (is_number text) (same_kind (number_kind text) k) h in lit_minus a
+    by_sign false h = lit_plain
+
+lit_begins : (x : LitTree) (r : List Tok) → lit_fits x ≡ true → LitBegins (lit_own x r)
+unfolding lit_fits lit_own
+lit_begins x r h = by_kind x.kind x.text h
+  where
+    by_kind : (k : LitKind) (text : Text) → lit_fits (record { kind = k; text = text }) ≡ true → LitBegins (lit_own (record { kind = k; text = text }) r)
+    by_kind kind.Bool text h = lit_word h
+    by_kind kind.Int text h = number_begins kind.Int text r h
+    by_kind kind.Float text h = number_begins kind.Float text r h
+    by_kind kind.Str text h = lit_plain
+    by_kind kind.ByteStr text h = lit_plain
+    by_kind kind.CStr text h = lit_plain
+    by_kind kind.Byte text h = lit_plain
+    by_kind kind.Char text h = lit_plain
+
+lit_seen : {l : List Tok} → LitBegins l → is_lit_there l ≡ true
+lit_seen (lit_word h) = h
+lit_seen lit_plain = refl
+lit_seen (lit_minus h) = refl
+
+lit_bound_seen : {l : List Tok} → LitBegins l → p.bound_at l ≡ true
+unfolding p.bound_at
+lit_bound_seen (lit_word h) = rw h refl
+lit_bound_seen lit_plain = refl
+lit_bound_seen (lit_minus h) = rw h refl
+
+-- ---- the first tokens of a path
+
+pub data PathBegins : List Tok → Type 0 where
+  by_word : {w : Text} {m : List Tok} → is_segment w ≡ true → PathBegins (ident w ∷ m)
+  by_colon2 : {m : List Tok} → PathBegins (colon2_before m)
+  by_less : {m : List Tok} → PathBegins (alone 60 ∷ m)
+
+segments_begin : (n : ℕ) (s : PathStyle) (ss : Segments) (r : List Tok) → no_more_segments ss ≡ false → segments_fit n s ss ≡ true → PathBegins (segments_own n ss false r)
+segments_begin n s t.no_segments r h f = absurd cc
+segments_begin n s (t.more_segments w a ss) r h f = let (g, i) = both_true (is_segment w) _ f in by_word g
+
+pub path_starts : (s : PathStyle) (q : QSelfTree) (l e : Bool) (xs : List SegmentTree) (r : List Tok) → qpath_fits s (q, record { leading = l; segments = xs; trailing = e }) ≡ true → PathBegins (qualified_own (q, record { leading = l; segments = xs; trailing = e }) r)
+path_starts s q l true xs r f = absurd cc
+path_starts s (t.qself x n a) l false xs r f = by_less
+path_starts s t.no_qself true false xs r f = by_colon2
+path_starts s t.no_qself false false xs r f =
+    let (g, h) = both_true (not (no_more_segments (t.segments_of xs))) _ f in
+    segments_begin 0 s (t.segments_of xs) r (not_true (no_more_segments (t.segments_of xs)) g) h
+
+path_no_lit : {l : List Tok} → PathBegins l → is_lit_there l ≡ false
+path_no_lit (by_word {w = w} h) = no_truth w h
+path_no_lit by_colon2 = refl
+path_no_lit by_less = refl
+
+path_bound_seen : {l : List Tok} → PathBegins l → p.bound_at l ≡ true
+unfolding p.bound_at sign_at
+path_bound_seen (by_word {w = w} h) = rw (no_truth w h, h) refl
+path_bound_seen by_colon2 = refl
+path_bound_seen by_less = refl
+
+-- ---- ranges
+
+read_back : PartsAreReadBack
+read_back = parts_read_back
+
+bound_back : (b : PatBound) (r : List Tok) → o.range_bound_fits b ≡ true → o.range_bound_stops (Some b) r ≡ true → p.range_bound.behind b (o.range_bound_own b r) ≡ Some r
+unfolding p.range_bound
+bound_back (p.lit_bound x) r f s = rw (lit_seen (lit_begins x r f)) (lit_back x r f)
+bound_back (p.path_bound q z) r f s = rw (path_no_lit (path_starts style.Expr q z.leading z.trailing z.segments r f)) (read_back.qualified_paths style.Expr (q, z) r f s)
+
+bound_seen : (b : PatBound) (r : List Tok) → o.range_bound_fits b ≡ true → p.bound_at (o.range_bound_own b r) ≡ true
+bound_seen (p.lit_bound x) r f = lit_bound_seen (lit_begins x r f)
+bound_seen (p.path_bound q z) r f = path_bound_seen (path_starts style.Expr q z.leading z.trailing z.segments r f)
+
+limits_back : (c : Bool) (l : List Tok) → p.limits.behind c (o.limits_before c l) ≡ Some l
+unfolding p.limits sign_at
+limits_back true l = refl
+limits_back false l = refl
+
+end_back : (c : Bool) (e : Option PatBound) (r : List Tok) → o.bound_or (not c) e ≡ true → o.range_bound_stops e r ≡ true → p.range_end.behind (c, e) (o.limits_before c (before_some e o.range_bound_own r)) ≡ Some r
+unfolding p.range_end
+end_back true None r f s = absurd cc
+end_back true (Some b) r f s = rw (limits_back true (o.range_bound_own b r)) (bound_back b r f s)
+end_back false None r f s = rw (limits_back false r, not_true (p.bound_at r) s) refl
+end_back false (Some b) r f s = rw (limits_back false (o.range_bound_own b r), bound_seen b r f) (bound_back b r f s)
+
+limits_dots : (c : Bool) (l : List Tok) → p.dots.at (o.limits_before c l) ≡ true
+unfolding sign_at
+limits_dots true l = refl
+limits_dots false l = refl
