@@ -16,10 +16,10 @@ use Rattle.syn_parts.specs.Text.{Text, is_segment, is_truth, is_number, number_k
 use Rattle.syn_parts.specs.Same.{same_kind}
 use Rattle.syn_parts.specs.Tree as t
 use Rattle.syn_parts.specs.Tree.{LitTree, AttributeTree, PathTree, SegmentTree, QSelfTree, Segments, ArgumentsTree}
-use Rattle.syn_parts.specs.Form.{Form, Mark, flag, listed, joined, more, when, shown, both}
-use Rattle.syn_parts.specs.Mark.{sign_at, word_at, brace_at, round_at, comma, colon, colon2, less, not_ne, mutable}
+use Rattle.syn_parts.specs.Form.{Form, Mark, flag, mark, maybe, pure, listed, joined, more, when, shown, both}
+use Rattle.syn_parts.specs.Mark.{underscore, sign_at, word_at, brace_at, round_at, comma, colon, colon2, less, not_ne, mutable}
 use Rattle.syn_parts.specs.Part.{angle_at, turbofish_at, name, lit, is_lit_there, is_name_there, qpath, type, QPathTree, MacroTree, has_none, segments_bare, outer_attributes, outer_body}
-use Rattle.syn_parts.specs.Own.{alone, joint, before_if, before_some, comma_before, colon2_before, enclosed, is_end, separated, elements_own, lit_own, number_own, attribute_own, path_own, qualified_own, macro_own, type_own, segments_own, arguments_own, qself_own, no_more_segments, inner_count, count_segments}
+use Rattle.syn_parts.specs.Own.{block_own, alone, joint, before_if, before_some, comma_before, colon2_before, enclosed, is_end, separated, elements_own, lit_own, number_own, attribute_own, path_own, qualified_own, macro_own, type_own, segments_own, arguments_own, qself_own, no_more_segments, inner_count, count_segments}
 use Rattle.syn_parts.specs.Fits.{lit_fits, number_fits, has_kind, path_fits, path_stops, qpath_fits, is_macro_delimiter, ends_well, segments_fit, segments_stop, arguments_fit, arguments_stop, takes_angle, takes_round, qself_fits, goes_over}
 use Rattle.syn_parts.specs.Laws.{PartsAreReadBack}
 use Rattle.syn_parts.specs.Pat as p
@@ -121,6 +121,10 @@ truth_is w x h k = by_bool (bytes_eq w x) refl
 no_underscore : is_truth (codes "_") ≡ false
 unfolding is_truth
 no_underscore = refl
+
+not_const : is_segment (codes "const") ≡ false
+unfolding is_segment stands_alone is_reserved_word
+not_const = refl
 
 no_const : is_truth (codes "const") ≡ false
 unfolding is_truth
@@ -225,3 +229,140 @@ limits_dots : (c : Bool) (l : List Tok) → p.dots.at (o.limits_before c l) ≡ 
 unfolding sign_at
 limits_dots true l = refl
 limits_dots false l = refl
+
+-- ---- one kind of pattern, by what it holds
+
+-- no binding stands first
+lit_no_underscore : {l : List Tok} → LitBegins l → underscore.at l ≡ false
+unfolding word_at
+lit_no_underscore (lit_word {w = w} h) = truth_is w (codes "_") h no_underscore
+lit_no_underscore lit_plain = refl
+lit_no_underscore (lit_minus h) = refl
+
+lit_single : (z : PatTree) {l : List Tok} → LitBegins l → (p.single p.pattern).behind z l ≡ (shown p.to_lit p.from_lit (both lit (maybe p.dots.at p.range_end))).behind z l
+unfolding p.single sign_at word_at group_at
+lit_single z (lit_word {w = w} h) = rw (truth_is w (codes "_") h no_underscore, truth_is w (codes "const") h no_const, h) refl
+lit_single z lit_plain = refl
+lit_single z (lit_minus h) = refl
+
+path_single : (z : PatTree) {l : List Tok} → PathBegins l → p.binding_at l ≡ false → (p.single p.pattern).behind z l ≡ (p.path_pat p.pattern).behind z l
+unfolding p.single sign_at word_at group_at
+path_single z (by_word {w = w} h) e = rw (word_not w (codes "_") h not_underscore, word_not w (codes "const") h not_const, no_truth w h, e) refl
+path_single z by_colon2 e = rw e refl
+path_single z by_less e = rw e refl
+
+dots_single : (z : PatTree) (c : Bool) (l : List Tok) → (p.single p.pattern).behind z (o.limits_before c l) ≡ (shown p.to_open p.from_open p.range_end).behind z (o.limits_before c l)
+unfolding p.single sign_at word_at group_at
+dots_single z true l = refl
+dots_single z false l = refl
+
+module _ (r : List Tok) where
+  wild_step : (p.single p.pattern).behind p.wild (ident (codes "_") ∷ r) ≡ Some r
+  unfolding p.single word_at
+  wild_step = refl
+
+  rest_step : p.bound_at r ≡ false → (p.single p.pattern).behind p.rest (o.limits_before false r) ≡ Some r
+  rest_step h = dots_single p.rest false r ∙ end_back false None r refl (rw h refl)
+
+  open_step : (c : Bool) (e : Option PatBound) → o.range_fits None c e ≡ true → o.range_bound_stops e r ≡ true
+      → (p.single p.pattern).behind (p.range None c e) (o.limits_before c (before_some e o.range_bound_own r)) ≡ Some r
+  open_step false None f s = absurd cc
+  open_step false (Some b) f s = dots_single (p.range None false (Some b)) false (o.range_bound_own b r) ∙ end_back false (Some b) r f s
+  open_step true None f s = absurd cc
+  open_step true (Some b) f s = dots_single (p.range None true (Some b)) true (o.range_bound_own b r) ∙ end_back true (Some b) r f s
+
+  lit_step : (x : LitTree) → lit_fits x ≡ true → p.dots.at r ≡ false → (p.single p.pattern).behind (p.a_lit x) (lit_own x r) ≡ Some r
+  lit_step x f s = lit_single (p.a_lit x) (lit_begins x r f) ∙ rw (lit_back x r f, s) refl
+
+  lit_range_step : (x : LitTree) (c : Bool) (e : Option PatBound) → lit_fits x ≡ true → o.bound_or (not c) e ≡ true → o.range_bound_stops e r ≡ true
+      → (p.single p.pattern).behind (p.range (Some (p.lit_bound x)) c e) (lit_own x (o.limits_before c (before_some e o.range_bound_own r))) ≡ Some r
+  lit_range_step x c e f g s =
+      lit_single (p.range (Some (p.lit_bound x)) c e) (lit_begins x (o.limits_before c (before_some e o.range_bound_own r)) f)
+      ∙ rw (lit_back x (o.limits_before c (before_some e o.range_bound_own r)) f, limits_dots c (before_some e o.range_bound_own r), end_back c e r g s) refl
+
+  block_step : (ts : List Tok) → (p.single p.pattern).behind (p.a_block ts) (ident (codes "const") ∷ enclosed del.Brace ts r) ≡ Some r
+  unfolding p.single word_at block_own
+  block_step ts = block_back ts r
+
+  reference_step : (m : Bool) (z : PatTree) (l : List Tok) → (m || not (o.begins_mut z)) ≡ true → (o.begins_mut z ≡ false → mutable.at l ≡ false) → (p.pattern false).behind z l ≡ Some r
+      → (p.single p.pattern).behind (p.a_reference m z) (alone 38 ∷ o.word_if m (codes "mut") l) ≡ Some r
+  unfolding p.single p.reference_pat sign_at word_at
+  reference_step true z l f n h = h
+  reference_step false z l f n h = rw (n (not_true (o.begins_mut z) f)) h
+
+  round_step : (z : PatTree) (ps : List PatTree) (e : Bool) (ts : List Tok) → p.from_round z ≡ Some (ps, e) → (listed comma is_empty (p.pattern true)).behind (ps, e) ts ≡ Some []
+      → (p.single p.pattern).behind z (enclosed del.Parenthesis ts r) ≡ Some r
+  unfolding p.single p.round_pat sign_at word_at group_at
+  round_step z ps e ts f h = rw (toks-inside ts, f, h) refl
+
+  slice_step : (ps : Pats) (e : Bool) (ts : List Tok) → (listed comma is_empty (p.pattern true)).behind (p.pats ps, e) ts ≡ Some []
+      → (p.single p.pattern).behind (p.a_slice ps e) (enclosed del.Bracket ts r) ≡ Some r
+  unfolding p.single p.slice_pat sign_at word_at group_at
+  slice_step ps e ts h = rw (toks-inside ts, h) refl
+
+-- ---- bindings
+
+abbrev pub binding_own : Bool → Bool → Text → SubPat → List Tok → List Tok
+binding_own b m w s r = o.word_if b (codes "ref") (o.word_if m (codes "mut") (ident w ∷ o.sub_own s r))
+
+reserved_not : (w text : Text) → is_reserved_word w ≡ false → is_reserved_word text ≡ true → bytes_eq w text ≡ false
+reserved_not w text h k = by_bool (bytes_eq w text) refl
+  where
+    by_bool : (b : Bool) → bytes_eq w text ≡ b → b ≡ false
+    by_bool false e = refl
+    by_bool true e = let d : w ≡ text = (bytes_eq-Decides w text).0 e in absurd cc
+
+r_underscore : is_reserved_word (codes "_") ≡ true
+unfolding is_reserved_word
+r_underscore = refl
+
+r_const : is_reserved_word (codes "const") ≡ true
+unfolding is_reserved_word
+r_const = refl
+
+r_ref : is_reserved_word (codes "ref") ≡ true
+unfolding is_reserved_word
+r_ref = refl
+
+r_mut : is_reserved_word (codes "mut") ≡ true
+unfolding is_reserved_word
+r_mut = refl
+
+name_no_truth : (w : Text) → is_reserved_word w ≡ false → is_truth w ≡ false
+unfolding is_segment
+name_no_truth w h = no_truth w (rw h refl)
+
+no_truth_ref : is_truth (codes "ref") ≡ false
+unfolding is_truth
+no_truth_ref = refl
+
+no_truth_mut : is_truth (codes "mut") ≡ false
+unfolding is_truth
+no_truth_mut = refl
+
+-- a word, which is no literal
+binding_seen : (z : PatTree) (b m : Bool) (w : Text) (s : SubPat) (r : List Tok) → is_reserved_word w ≡ false → (b || (m || not (p.goes_on (o.sub_own s r)))) ≡ true
+    → (p.single p.pattern).behind z (binding_own b m w s r) ≡ (p.binding p.pattern).behind z (binding_own b m w s r)
+unfolding p.single sign_at word_at group_at p.binding_at
+binding_seen z true m w s r h k = rw no_truth_ref refl
+binding_seen z false true w s r h k = rw no_truth_mut refl
+binding_seen z false false w s r h k =
+    rw (reserved_not w (codes "_") h r_underscore, reserved_not w (codes "const") h r_const, name_no_truth w h, reserved_not w (codes "ref") h r_ref, reserved_not w (codes "mut") h r_mut, h, k) refl
+
+ref_piece : (b m : Bool) (w : Text) (l : List Tok) → is_reserved_word w ≡ false → (flag p.by_ref).behind b (o.word_if b (codes "ref") (o.word_if m (codes "mut") (ident w ∷ l))) ≡ Some (o.word_if m (codes "mut") (ident w ∷ l))
+unfolding word_at
+ref_piece true m w l h = refl
+ref_piece false true w l h = refl
+ref_piece false false w l h = rw (reserved_not w (codes "ref") h r_ref) refl
+
+mut_piece : (m : Bool) (w : Text) (l : List Tok) → is_reserved_word w ≡ false → (flag mutable).behind m (o.word_if m (codes "mut") (ident w ∷ l)) ≡ Some (ident w ∷ l)
+unfolding word_at
+mut_piece true w l h = refl
+mut_piece false w l h = rw (reserved_not w (codes "mut") h r_mut) refl
+
+binding_step : (b m : Bool) (w : Text) (s : SubPat) (r : List Tok) → is_reserved_word w ≡ false → (b || (m || not (p.goes_on (o.sub_own s r)))) ≡ true
+    → (when p.at_sign.at (mark p.at_sign (shown p.sub p.from_sub (p.pattern false))) (pure p.no_sub p.has_no_sub)).behind s (o.sub_own s r) ≡ Some r
+    → (p.single p.pattern).behind (p.a_binding b m w s) (binding_own b m w s r) ≡ Some r
+unfolding p.binding
+binding_step b m w s r h k i = binding_seen (p.a_binding b m w s) b m w s r h k
+    ∙ rw (ref_piece b m w (o.sub_own s r) h, mut_piece m w (o.sub_own s r) h, name_back w (o.sub_own s r) (rw h refl)) i
