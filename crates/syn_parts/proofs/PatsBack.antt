@@ -17,6 +17,7 @@ use Rattle.syn_parts.specs.Same.{same_kind}
 use Rattle.syn_parts.specs.Tree as t
 use Rattle.syn_parts.specs.Tree.{LitTree, AttributeTree, PathTree, SegmentTree, QSelfTree, Segments, ArgumentsTree}
 use Rattle.syn_parts.specs.Form.{Form, Mark, flag, mark, maybe, pure, listed, joined, more, when, shown, both}
+use Rattle.syn_parts.specs.Form as form
 use Rattle.syn_parts.specs.Mark.{underscore, sign_at, word_at, brace_at, round_at, comma, colon, colon2, less, not_ne, mutable}
 use Rattle.syn_parts.specs.Part.{angle_at, turbofish_at, name, lit, is_lit_there, is_name_there, qpath, type, QPathTree, MacroTree, has_none, segments_bare, outer_attributes, outer_body}
 use Rattle.syn_parts.specs.Own.{block_own, alone, joint, before_if, before_some, comma_before, colon2_before, enclosed, is_end, separated, elements_own, lit_own, number_own, attribute_own, path_own, qualified_own, macro_own, type_own, segments_own, arguments_own, qself_own, no_more_segments, inner_count, count_segments}
@@ -366,3 +367,252 @@ binding_step : (b m : Bool) (w : Text) (s : SubPat) (r : List Tok) → is_reserv
 unfolding p.binding
 binding_step b m w s r h k i = binding_seen (p.a_binding b m w s) b m w s r h k
     ∙ rw (ref_piece b m w (o.sub_own s r) h, mut_piece m w (o.sub_own s r) h, name_back w (o.sub_own s r) (rw h refl)) i
+
+-- ---- paths in patterns
+
+key : (a g : Bool) → (not (a && true) || g) ≡ true → (a && not g) ≡ false
+key false g h = refl
+key true true h = refl
+key true false h = absurd cc
+
+colon2_goes : (l : List Tok) → p.goes_on (colon2_before l) ≡ true
+unfolding sign_at
+colon2_goes l = refl
+
+not_ref : is_segment (codes "ref") ≡ false
+unfolding is_segment stands_alone is_reserved_word
+not_ref = refl
+
+-- a word of a path is no binding, where a path goes on behind it or where it is no name
+word_no_binding : (w : Text) (m : List Tok) → is_segment w ≡ true → (not (is_reserved_word w) && not (p.goes_on m)) ≡ false → p.binding_at (ident w ∷ m) ≡ false
+unfolding p.binding_at word_at
+word_no_binding w m h k = rw (word_not w (codes "ref") h not_ref, word_not w (codes "mut") h not_mut) k
+
+goes_no_binding : (w : Text) (m : List Tok) → p.goes_on m ≡ true → (not (is_reserved_word w) && not (p.goes_on m)) ≡ false
+goes_no_binding w m h = rw h (and_false (not (is_reserved_word w)))
+
+-- what stands behind a name that has arguments, or before another segment
+arguments_go : (a : ArgumentsTree) (l : List Tok) → arguments_fit style.Expr a ≡ true → has_none a ≡ false → p.goes_on (arguments_own a l) ≡ true
+unfolding sign_at
+arguments_go t.no_arguments l f h = absurd cc
+arguments_go (t.angle true gs e) l f h = refl
+arguments_go (t.angle false gs e) l f h = absurd cc
+arguments_go (t.round xs e d) l f h = absurd cc
+
+next_goes : (a : ArgumentsTree) (l : List Tok) → arguments_fit style.Expr a ≡ true → p.goes_on (arguments_own a (colon2_before l)) ≡ true
+unfolding sign_at
+next_goes t.no_arguments l f = refl
+next_goes (t.angle true gs e) l f = refl
+next_goes (t.angle false gs e) l f = absurd cc
+next_goes (t.round xs e d) l f = absurd cc
+
+no_round : (xs : t.Types) (e : Bool) (d : t.ReturnTree) → arguments_fit style.Expr (t.round xs e d) ≡ true → ⊥
+no_round xs e d h = let i : false ≡ true = h in absurd cc
+
+one_no_binding : (r : List Tok) (a : ArgumentsTree) (w : Text) → segments_fit 0 style.Expr (t.more_segments w a t.no_segments) ≡ true → (not (not (is_reserved_word w) && has_none a) || p.goes_on r) ≡ true → p.binding_at (ident w ∷ arguments_own a r) ≡ false
+one_no_binding r t.no_arguments w f k = let (g, i) = both_true (is_segment w) _ f in word_no_binding w r g (key (not (is_reserved_word w)) (p.goes_on r) k)
+one_no_binding r (t.angle c gs e) w f k =
+    let (g, i) = both_true (is_segment w) _ f in
+    let (j, m) = both_true (not (stands_alone w) || false) _ i in
+    let (n, q) = both_true (arguments_fit style.Expr (t.angle c gs e)) _ m in
+    word_no_binding w (arguments_own (t.angle c gs e) r) g (goes_no_binding w (arguments_own (t.angle c gs e) r) (arguments_go (t.angle c gs e) r n refl))
+one_no_binding r (t.round xs e d) w f k =
+    let (g, i) = both_true (is_segment w) _ f in
+    let (j, m) = both_true (not (stands_alone w) || false) _ i in
+    let z : false ≡ true = m in
+    absurd cc
+
+segments_no_binding : (xs : List SegmentTree) (r : List Tok) → segments_fit 0 style.Expr (t.segments_of xs) ≡ true → no_more_segments (t.segments_of xs) ≡ false → (not (o.is_name_alone false xs) || p.goes_on r) ≡ true
+    → p.binding_at (segments_own 0 (t.segments_of xs) false r) ≡ false
+segments_no_binding [] r f h k = absurd cc
+segments_no_binding (s ∷ []) r f h k = one_no_binding r s.arguments s.ident f k
+segments_no_binding (s ∷ u ∷ xs) r f h k =
+    let (g, i) = both_true (is_segment s.ident) _ f in
+    let (j, m) = both_true (not (stands_alone s.ident) || has_none s.arguments) _ i in
+    let (n, q) = both_true (arguments_fit style.Expr s.arguments) _ m in
+    let l = segments_own 0 (t.segments_of (u ∷ xs)) false r in
+    word_no_binding s.ident (arguments_own s.arguments (colon2_before l)) g (goes_no_binding s.ident (arguments_own s.arguments (colon2_before l)) (next_goes s.arguments l n))
+
+pub path_no_binding : (q : QSelfTree) (l e : Bool) (xs : List SegmentTree) (r : List Tok) → qpath_fits style.Expr (q, record { leading = l; segments = xs; trailing = e }) ≡ true
+    → (not (o.is_one_name q (record { leading = l; segments = xs; trailing = e })) || p.goes_on r) ≡ true → p.binding_at (qualified_own (q, record { leading = l; segments = xs; trailing = e }) r) ≡ false
+unfolding p.binding_at word_at
+path_no_binding q l true xs r f k = absurd cc
+path_no_binding (t.qself x n a) l false xs r f k = refl
+path_no_binding t.no_qself true false xs r f k = refl
+path_no_binding t.no_qself false false xs r f k =
+    let (g, h) = both_true (not (no_more_segments (t.segments_of xs))) _ f in
+    segments_no_binding xs r h (not_true (no_more_segments (t.segments_of xs)) g) k
+
+bang_goes : (l : List Tok) → p.goes_on (alone 33 ∷ l) ≡ true
+unfolding sign_at brace_at round_at group_at turbofish_at
+bang_goes l = refl
+
+bang_no_turbofish : (l : List Tok) → turbofish_at (alone 33 ∷ l) ≡ false
+unfolding sign_at brace_at round_at group_at turbofish_at
+bang_no_turbofish l = refl
+
+bang_no_colon2 : (l : List Tok) → colon2.at (alone 33 ∷ l) ≡ false
+unfolding sign_at brace_at round_at group_at turbofish_at
+bang_no_colon2 l = refl
+
+bang_seen : (l : List Tok) → not_ne.at (alone 33 ∷ l) ≡ true
+unfolding sign_at brace_at round_at group_at turbofish_at
+bang_seen l = refl
+
+brace_goes : (ts r : List Tok) → p.goes_on (enclosed del.Brace ts r) ≡ true
+unfolding sign_at brace_at round_at group_at turbofish_at
+brace_goes ts r = refl
+
+brace_no_turbofish : (ts r : List Tok) → turbofish_at (enclosed del.Brace ts r) ≡ false
+unfolding sign_at brace_at round_at group_at turbofish_at
+brace_no_turbofish ts r = refl
+
+brace_no_colon2 : (ts r : List Tok) → colon2.at (enclosed del.Brace ts r) ≡ false
+unfolding sign_at brace_at round_at group_at turbofish_at
+brace_no_colon2 ts r = refl
+
+brace_no_bang : (ts r : List Tok) → not_ne.at (enclosed del.Brace ts r) ≡ false
+unfolding sign_at brace_at round_at group_at turbofish_at
+brace_no_bang ts r = refl
+
+brace_seen : (ts r : List Tok) → brace_at (enclosed del.Brace ts r) ≡ true
+unfolding sign_at brace_at round_at group_at turbofish_at
+brace_seen ts r = refl
+
+round_goes : (ts r : List Tok) → p.goes_on (enclosed del.Parenthesis ts r) ≡ true
+unfolding sign_at brace_at round_at group_at turbofish_at
+round_goes ts r = refl
+
+round_no_turbofish : (ts r : List Tok) → turbofish_at (enclosed del.Parenthesis ts r) ≡ false
+unfolding sign_at brace_at round_at group_at turbofish_at
+round_no_turbofish ts r = refl
+
+round_no_colon2 : (ts r : List Tok) → colon2.at (enclosed del.Parenthesis ts r) ≡ false
+unfolding sign_at brace_at round_at group_at turbofish_at
+round_no_colon2 ts r = refl
+
+round_no_bang : (ts r : List Tok) → not_ne.at (enclosed del.Parenthesis ts r) ≡ false
+unfolding sign_at brace_at round_at group_at turbofish_at
+round_no_bang ts r = refl
+
+round_seen : (ts r : List Tok) → round_at (enclosed del.Parenthesis ts r) ≡ true
+unfolding sign_at brace_at round_at group_at turbofish_at
+round_seen ts r = refl
+
+round_no_brace : (ts r : List Tok) → brace_at (enclosed del.Parenthesis ts r) ≡ false
+unfolding sign_at brace_at round_at group_at turbofish_at
+round_no_brace ts r = refl
+
+dots_go : (c : Bool) (l : List Tok) → p.goes_on (o.limits_before c l) ≡ true
+unfolding sign_at brace_at round_at group_at
+dots_go true l = refl
+dots_go false l = refl
+
+dots_no_bang : (c : Bool) (l : List Tok) → not_ne.at (o.limits_before c l) ≡ false
+unfolding sign_at brace_at round_at group_at
+dots_no_bang true l = refl
+dots_no_bang false l = refl
+
+dots_no_brace : (c : Bool) (l : List Tok) → brace_at (o.limits_before c l) ≡ false
+unfolding sign_at brace_at round_at group_at
+dots_no_brace true l = refl
+dots_no_brace false l = refl
+
+dots_no_round : (c : Bool) (l : List Tok) → round_at (o.limits_before c l) ≡ false
+unfolding sign_at brace_at round_at group_at
+dots_no_round true l = refl
+dots_no_round false l = refl
+
+dots_calm : (c : Bool) (l : List Tok) → Calm (o.limits_before c l)
+unfolding angle_at turbofish_at round_at sign_at group_at
+dots_calm true l = record { no_angle = refl; no_round = refl; no_colon2 = refl; no_arrow = refl; no_bang = refl; no_turbofish = refl }
+dots_calm false l = record { no_angle = refl; no_round = refl; no_colon2 = refl; no_arrow = refl; no_bang = refl; no_turbofish = refl }
+
+dots_stop : (c : Bool) (l : List Tok) (z : PathTree) → path_stops style.Expr z (o.limits_before c l) ≡ true
+dots_stop c l z = let k = dots_calm c l in rw (segments_calm (o.limits_before c l) k style.Expr (t.segments_of z.segments), k.no_colon2) refl
+
+brace_inside : (ts r : List Tok) (fs : Fields) (e d : Bool) → (p.struct_inside p.pattern).behind ((p.fields fs, e), d) ts ≡ Some [] → (form.inside del.Brace (p.struct_inside p.pattern)).behind ((p.fields fs, e), d) (enclosed del.Brace ts r) ≡ Some r
+unfolding group_at
+brace_inside ts r fs e d h = rw (toks-inside ts, h) refl
+
+round_inside : (ts r : List Tok) (ps : Pats) (e : Bool) → (listed comma is_empty (p.pattern true)).behind (p.pats ps, e) ts ≡ Some [] → (form.inside del.Parenthesis (listed comma is_empty (p.pattern true))).behind (p.pats ps, e) (enclosed del.Parenthesis ts r) ≡ Some r
+unfolding group_at
+round_inside ts r ps e h = rw (toks-inside ts, h) refl
+
+-- in an expression's style nothing but `::` goes on with a path
+expr_stops : (ss : Segments) (r : List Tok) → segments_fit 0 style.Expr ss ≡ true → turbofish_at r ≡ false → segments_stop style.Expr ss r ≡ true
+expr_stops t.no_segments r f h = refl
+expr_stops (t.more_segments w a t.no_segments) r f h =
+    let (g, i) = both_true (is_segment w) _ f in
+    let (j, m) = both_true (not (stands_alone w) || has_none a) _ i in
+    let (n, q) = both_true (arguments_fit style.Expr a) _ m in
+    by_args a n
+  where
+    by_args : (a : ArgumentsTree) → arguments_fit style.Expr a ≡ true → arguments_stop style.Expr w a r ≡ true
+    by_args t.no_arguments n = rw h (or_true (stands_alone w))
+    by_args (t.angle c gs e) n = refl
+    by_args (t.round xs e d) n = absurd (no_round xs e d n)
+expr_stops (t.more_segments w a (t.more_segments v c ss)) r f h =
+    let (g, i) = both_true (is_segment w) _ f in
+    let (j, m) = both_true (not (stands_alone w) || has_none a) _ i in
+    let (n, q) = both_true (arguments_fit style.Expr a) _ m in
+    let (u, z) = both_true (goes_over 0 style.Expr w a (t.more_segments v c ss)) _ q in
+    expr_stops (t.more_segments v c ss) r z h
+
+bare_path : (z : PathTree) (r : List Tok) → path_fits style.Expr z ≡ true → turbofish_at r ≡ false → colon2.at r ≡ false → (qpath type style.Expr).behind (t.no_qself, z) (path_own z r) ≡ Some r
+bare_path z r f h c =
+    let (g, i) = both_true (not z.trailing) _ f in
+    let (j, k) = both_true (not (no_more_segments (t.segments_of z.segments))) _ i in
+    read_back.qualified_paths style.Expr (t.no_qself, z) r f (rw (expr_stops (t.segments_of z.segments) r k h, c) refl)
+
+module _ (r : List Tok) where
+  -- a path alone
+  path_step : (q : QSelfTree) (z : PathTree) → qpath_fits style.Expr (q, z) ≡ true → not (o.is_one_name q z) ≡ true → path_stops style.Expr z r ≡ true → p.dots.at r ≡ false → o.path_pat_stops q z r ≡ true
+      → (p.single p.pattern).behind (p.a_path q z) (qualified_own (q, z) r) ≡ Some r
+  unfolding p.path_pat p.path_end
+  path_step q z f k s d e =
+      path_single (p.a_path q z) (path_starts style.Expr q z.leading z.trailing z.segments r f) (path_no_binding q z.leading z.trailing z.segments r f (rw k refl))
+      ∙ rw (read_back.qualified_paths style.Expr (q, z) r f s) (ended q e)
+    where
+      ended : (q : QSelfTree) → o.path_pat_stops q z r ≡ true → (p.path_end p.pattern (q, z)).behind p.no_more r ≡ Some r
+      ended t.no_qself e =
+          let (a, b) = both_true (not (segments_bare z.segments && not_ne.at r)) _ e in
+          let (g, h) = both_true (not (brace_at r)) (not (round_at r)) b in
+          rw (not_true (segments_bare z.segments && not_ne.at r) a, not_true (brace_at r) g, not_true (round_at r) h, d) refl
+      ended (t.qself x n a) e = rw d refl
+
+  range_step : (q : QSelfTree) (z : PathTree) (c : Bool) (e : Option PatBound) → qpath_fits style.Expr (q, z) ≡ true → o.bound_or (not c) e ≡ true → o.range_bound_stops e r ≡ true
+      → (p.single p.pattern).behind (p.range (Some (p.path_bound q z)) c e) (qualified_own (q, z) (o.limits_before c (before_some e o.range_bound_own r))) ≡ Some r
+  unfolding p.path_pat p.path_end
+  range_step q z c e f g s =
+      path_single (p.range (Some (p.path_bound q z)) c e) (path_starts style.Expr q z.leading z.trailing z.segments (o.limits_before c (before_some e o.range_bound_own r)) f)
+      (path_no_binding q z.leading z.trailing z.segments (o.limits_before c (before_some e o.range_bound_own r)) f (rw (dots_go c (before_some e o.range_bound_own r)) (or_true (not (o.is_one_name q z)))))
+      ∙ rw (read_back.qualified_paths style.Expr (q, z) (o.limits_before c (before_some e o.range_bound_own r)) f (dots_stop c (before_some e o.range_bound_own r) z)) (more q)
+    where
+      more : (q : QSelfTree) → (p.path_end p.pattern (q, z)).behind (p.range_more c e) (o.limits_before c (before_some e o.range_bound_own r)) ≡ Some r
+      more t.no_qself = rw (dots_no_bang c (before_some e o.range_bound_own r), and_false (segments_bare z.segments), dots_no_brace c (before_some e o.range_bound_own r), dots_no_round c (before_some e o.range_bound_own r), limits_dots c (before_some e o.range_bound_own r)) (end_back c e r g s)
+      more (t.qself x n a) = rw (limits_dots c (before_some e o.range_bound_own r)) (end_back c e r g s)
+
+  mac_step : (m : MacroTree) → path_fits style.Expr m.path ≡ true → segments_bare m.path.segments ≡ true → is_macro_delimiter m.delimiter ≡ true
+      → (p.single p.pattern).behind (p.a_mac m) (macro_own m r) ≡ Some r
+  unfolding p.path_pat p.path_end
+  mac_step m f b g =
+      path_single (p.a_mac m) (path_starts style.Expr t.no_qself m.path.leading m.path.trailing m.path.segments (alone 33 ∷ enclosed m.delimiter m.tokens r) f)
+      (path_no_binding t.no_qself m.path.leading m.path.trailing m.path.segments (alone 33 ∷ enclosed m.delimiter m.tokens r) f (rw (bang_goes (enclosed m.delimiter m.tokens r)) (or_true (not (o.is_one_name t.no_qself m.path)))))
+      ∙ rw (bare_path m.path (alone 33 ∷ enclosed m.delimiter m.tokens r) f (bang_no_turbofish (enclosed m.delimiter m.tokens r)) (bang_no_colon2 (enclosed m.delimiter m.tokens r)), b, bang_seen (enclosed m.delimiter m.tokens r)) (group_back m.delimiter m.tokens r g)
+
+  struct_step : (z : PathTree) (fs : Fields) (e d : Bool) (ts : List Tok) → path_fits style.Expr z ≡ true → (p.struct_inside p.pattern).behind ((p.fields fs, e), d) ts ≡ Some []
+      → (p.single p.pattern).behind (p.a_struct z fs e d) (path_own z (enclosed del.Brace ts r)) ≡ Some r
+  unfolding p.path_pat p.path_end
+  struct_step z fs e d ts f h =
+      path_single (p.a_struct z fs e d) (path_starts style.Expr t.no_qself z.leading z.trailing z.segments (enclosed del.Brace ts r) f)
+      (path_no_binding t.no_qself z.leading z.trailing z.segments (enclosed del.Brace ts r) f (rw (brace_goes ts r) (or_true (not (o.is_one_name t.no_qself z)))))
+      ∙ rw (bare_path z (enclosed del.Brace ts r) f (brace_no_turbofish ts r) (brace_no_colon2 ts r), brace_no_bang ts r, and_false (segments_bare z.segments), brace_seen ts r) (brace_inside ts r fs e d h)
+
+  tuple_struct_step : (z : PathTree) (ps : Pats) (e : Bool) (ts : List Tok) → path_fits style.Expr z ≡ true → (listed comma is_empty (p.pattern true)).behind (p.pats ps, e) ts ≡ Some []
+      → (p.single p.pattern).behind (p.tuple_struct z ps e) (path_own z (enclosed del.Parenthesis ts r)) ≡ Some r
+  unfolding p.path_pat p.path_end
+  tuple_struct_step z ps e ts f h =
+      path_single (p.tuple_struct z ps e) (path_starts style.Expr t.no_qself z.leading z.trailing z.segments (enclosed del.Parenthesis ts r) f)
+      (path_no_binding t.no_qself z.leading z.trailing z.segments (enclosed del.Parenthesis ts r) f (rw (round_goes ts r) (or_true (not (o.is_one_name t.no_qself z)))))
+      ∙ rw (bare_path z (enclosed del.Parenthesis ts r) f (round_no_turbofish ts r) (round_no_colon2 ts r), round_no_bang ts r, and_false (segments_bare z.segments), round_no_brace ts r, round_seen ts r) (round_inside ts r ps e h)
