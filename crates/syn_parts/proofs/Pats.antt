@@ -321,7 +321,7 @@ module _ {k : ℕ} {pattern pattern' : Bool → Form PatTree} (again : (b : Bool
   unfolding p.binding
   binding_alike = search (again, pat_forms, pat_marks, pat_views) depth 14
 
-  field_alike : Alike k (p.field pattern) (p.field pattern')
+  pub field_alike : Alike k (p.field pattern) (p.field pattern')
   unfolding p.field
   field_alike = search (again, pat_forms, pat_marks, pat_views) depth 14
 

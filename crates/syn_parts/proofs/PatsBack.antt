@@ -18,7 +18,7 @@ use Rattle.syn_parts.specs.Tree as t
 use Rattle.syn_parts.specs.Tree.{LitTree, AttributeTree, PathTree, SegmentTree, QSelfTree, Segments, ArgumentsTree}
 use Rattle.syn_parts.specs.Form.{Form, Mark, flag, mark, maybe, pure, listed, joined, more, when, shown, both}
 use Rattle.syn_parts.specs.Form as form
-use Rattle.syn_parts.specs.Mark.{underscore, sign_at, word_at, brace_at, round_at, comma, colon, colon2, less, not_ne, mutable}
+use Rattle.syn_parts.specs.Mark.{underscore, pound, sign_at, word_at, brace_at, round_at, comma, colon, colon2, less, not_ne, mutable}
 use Rattle.syn_parts.specs.Part.{angle_at, turbofish_at, name, lit, is_lit_there, is_name_there, qpath, type, QPathTree, MacroTree, has_none, segments_bare, outer_attributes, outer_body}
 use Rattle.syn_parts.specs.Own.{block_own, alone, joint, before_if, before_some, comma_before, colon2_before, enclosed, is_end, separated, elements_own, lit_own, number_own, attribute_own, path_own, qualified_own, macro_own, type_own, segments_own, arguments_own, qself_own, no_more_segments, inner_count, count_segments}
 use Rattle.syn_parts.specs.Fits.{lit_fits, number_fits, has_kind, path_fits, path_stops, qpath_fits, is_macro_delimiter, ends_well, segments_fit, segments_stop, arguments_fit, arguments_stop, takes_angle, takes_round, qself_fits, goes_over}
@@ -27,12 +27,16 @@ use Rattle.syn_parts.specs.Pat as p
 use Rattle.syn_parts.specs.Pat.{MemberTree, PatBound, PatTree, SubPat, Pats, Fields, FieldTree, FieldPatTree}
 use Rattle.syn_parts.specs.PatOwn as o
 use Rattle.syn_parts.proofs.Same.{both_true, same_kind-true}
-use Rattle.syn_parts.proofs.ReadBack.{not_true, text_same, name_back, lit_back, block_back}
+use Rattle.syn_parts.proofs.ReadBack.{Commas, no_element, element, Joins, no_join, join, next_own, listed_back, joined_back, kept_bracket_back, not_true, text_same, name_back, lit_back, block_back}
 use Rattle.syn_parts.proofs.Behind.{Calm, nil_calm, comma_calm, or_true, segments_calm}
 use Rattle.syn_parts.proofs.Fronts.{word_not, no_truth, not_mut, not_underscore}
 use Rattle.syn_parts.proofs.TypesBack.{group_back}
 use Rattle.syn_parts.proofs.Whole.{parts_read_back}
 use Rattle.syn_parts.proofs.PatWhole.{spelled_by_kind}
+use Rattle.syn_parts.proofs.Marks.{pound_present}
+use Rattle.syn_parts.proofs.Forms.{Alike, weaker, more_stands}
+use Rattle.syn_parts.proofs.Parts.{outer_body_alike}
+use Rattle.syn_parts.proofs.Pats.{pattern_alike, single_alike, field_alike, vert_present}
 
 -- ---- nothing behind goes on with a pattern
 
@@ -616,3 +620,235 @@ module _ (r : List Tok) where
       path_single (p.tuple_struct z ps e) (path_starts style.Expr t.no_qself z.leading z.trailing z.segments (enclosed del.Parenthesis ts r) f)
       (path_no_binding t.no_qself z.leading z.trailing z.segments (enclosed del.Parenthesis ts r) f (rw (round_goes ts r) (or_true (not (o.is_one_name t.no_qself z)))))
       ∙ rw (bare_path z (enclosed del.Parenthesis ts r) f (round_no_turbofish ts r) (round_no_colon2 ts r), round_no_bang ts r, and_false (segments_bare z.segments), round_no_brace ts r, round_seen ts r) (round_inside ts r ps e h)
+
+-- ---- attributes and fields
+
+no_pound_word : (w : Text) (l : List Tok) → pound.at (ident w ∷ l) ≡ false
+unfolding sign_at
+no_pound_word w l = refl
+
+no_pound_literal : (w : Text) (l : List Tok) → pound.at (literal w ∷ l) ≡ false
+unfolding sign_at
+no_pound_literal w l = refl
+
+attribute_step : (a : AttributeTree) (more' : List AttributeTree) (l m : List Tok) → a.inner ≡ false → outer_attributes.behind more' l ≡ Some m → outer_attributes.behind (a ∷ more') (attribute_own a l) ≡ Some m
+unfolding outer_attributes outer_body attribute_own sign_at
+attribute_step a more' l m h i = by_style a.inner a.tokens h
+  where
+    by_style : (b : Bool) (ts : List Tok) → b ≡ false → (more pound outer_body).behind (record { inner = b; tokens = ts } ∷ more') (attribute_own (record { inner = b; tokens = ts }) l) ≡ Some m
+    by_style true ts e = absurd cc
+    by_style false ts e = more_stands pound outer_body pound_present (λ k. outer_body_alike) (record { inner = false; tokens = ts } ∷ more') _ m (rw (kept_bracket_back ts l) i)
+
+attributes_back : (xs : List AttributeTree) (l : List Tok) → o.attributes_outer xs ≡ true → pound.at l ≡ false → outer_attributes.behind xs (o.attributes_own xs l) ≡ Some l
+unfolding outer_attributes
+attributes_back [] l f h = more_stands pound outer_body pound_present (λ k. outer_body_alike) [] l l (rw h refl)
+attributes_back (a ∷ xs) l f h =
+    let (g, i) = both_true (not a.inner) (o.attributes_outer xs) f in
+    attribute_step a xs (o.attributes_own xs l) l (not_true a.inner g) (attributes_back xs l i h)
+
+field_pound : (f : FieldTree) (l : List Tok) → pound.at (o.field_own f l) ≡ false
+field_pound (p.short true m w) l = no_pound_word (codes "ref") _
+field_pound (p.short false true w) l = no_pound_word (codes "mut") _
+field_pound (p.short false false w) l = no_pound_word w l
+field_pound (p.full (p.a_name w) z) l = no_pound_word w _
+field_pound (p.full (p.an_index n) z) l = no_pound_literal (decimal n) _
+
+-- behind a shorthand's name stands no single `:`
+short_not_full : (b m : Bool) (w : Text) (l : List Tok) → colon.at l ≡ false → p.full_at (o.field_own (p.short b m w) l) ≡ false
+unfolding p.full_at is_reserved_word sign_at
+short_not_full true m w l h = refl
+short_not_full false true w l h = refl
+short_not_full false false w l h = rw h (and_false _)
+
+full_seen : (k : MemberTree) (z : PatTree) (l : List Tok) → o.member_fits k ≡ true → p.full_at (o.member_own k (alone 58 ∷ l)) ≡ true
+unfolding p.full_at sign_at
+full_seen (p.a_name w) z l h = rw h refl
+full_seen (p.an_index n) z l h = refl
+
+same_is : (q : Option ℕ) (n : ℕ) → o.same_index q n ≡ true → q ≡ Some n
+same_is None n h = absurd cc
+same_is (Some m) n h = let e : m ≡ n = grind (arith, nat_tests, h) in ap Some e
+
+member_back : (k : MemberTree) (l : List Tok) → o.member_fits k ≡ true → p.member.behind k (o.member_own k l) ≡ Some l
+unfolding p.member
+member_back (p.a_name w) l h = rw (h, text_same w) refl
+member_back (p.an_index n) l h = let e : n == n ≡ true = grind (arith, nat_tests) in rw (same_is (p.index_of (decimal n)) n h, e) refl
+
+abbrev pub pat_field_own : FieldPatTree → List Tok → List Tok
+pat_field_own f l = o.attributes_own f.attrs (o.field_own f.field l)
+
+short_step : (xs : List AttributeTree) (b m : Bool) (w : Text) (l : List Tok) → o.attributes_outer xs ≡ true → is_reserved_word w ≡ false → colon.at l ≡ false
+    → (p.field p.pattern).behind (record { attrs = xs; field = p.short b m w }) (pat_field_own (record { attrs = xs; field = p.short b m w }) l) ≡ Some l
+unfolding p.field
+short_step xs b m w l f h c =
+    rw (attributes_back xs (o.field_own (p.short b m w) l) f (field_pound (p.short b m w) l), short_not_full b m w l c, ref_piece b m w l h, mut_piece m w l h, name_back w l (rw h refl)) refl
+
+full_step : (xs : List AttributeTree) (k : MemberTree) (z : PatTree) (m l : List Tok) → o.attributes_outer xs ≡ true → o.member_fits k ≡ true → (p.pattern true).behind z m ≡ Some l
+    → (p.field p.pattern).behind (record { attrs = xs; field = p.full k z }) (o.attributes_own xs (o.member_own k (alone 58 ∷ m))) ≡ Some l
+unfolding p.field sign_at
+full_step xs k z m l f h i =
+    rw (attributes_back xs (o.member_own k (alone 58 ∷ m)) f (member_pound k (alone 58 ∷ m)), full_seen k z m h, member_back k (alone 58 ∷ m) h) i
+  where
+    member_pound : (k : MemberTree) (l : List Tok) → pound.at (o.member_own k l) ≡ false
+    member_pound (p.a_name w) l = no_pound_word w l
+    member_pound (p.an_index n) l = no_pound_literal (decimal n) l
+
+-- no field ends the list
+attributes_stop : (xs : List AttributeTree) (l : List Tok) → p.fields_stop l ≡ false → p.fields_stop (o.attributes_own xs l) ≡ false
+unfolding attribute_own sign_at
+attributes_stop [] l h = h
+attributes_stop (a ∷ xs) l h = refl
+
+field_stop : (f : FieldTree) (l : List Tok) → p.fields_stop (o.field_own f l) ≡ false
+unfolding sign_at
+field_stop (p.short true m w) l = refl
+field_stop (p.short false true w) l = refl
+field_stop (p.short false false w) l = refl
+field_stop (p.full (p.a_name w) z) l = refl
+field_stop (p.full (p.an_index n) z) l = refl
+
+-- ---- lists
+
+field_whole : (k : ℕ) → Alike k (p.field p.pattern) (p.field p.pattern)
+field_whole k = field_alike pattern_alike
+
+single_whole : (k : ℕ) → Alike k (p.single p.pattern) (p.single p.pattern)
+single_whole k = weaker (single_alike {k = k} pattern_alike)
+
+pats_elements : (ps : Pats) (e : Bool) (r : List Tok) → o.pats_own ps e r ≡ elements_own o.pat_own comma_before (p.pats ps) e r
+pats_elements p.no_pats e r = refl
+pats_elements (p.more_pats z p.no_pats) e r = refl
+pats_elements (p.more_pats z (p.more_pats w ps)) e r = ap (λ l. o.pat_own z (comma_before l)) (pats_elements (p.more_pats w ps) e r)
+
+or_elements : (ps : Pats) (r : List Tok) → o.or_own ps false r ≡ elements_own o.pat_own o.vert_before (p.pats ps) false r
+or_elements p.no_pats r = refl
+or_elements (p.more_pats z p.no_pats) r = refl
+or_elements (p.more_pats z (p.more_pats w ps)) r = ap (λ l. o.pat_own z (o.vert_before l)) (or_elements (p.more_pats w ps) r)
+
+fields_elements : (fs : Fields) (e : Bool) (r : List Tok) → o.fields_own fs e r ≡ elements_own pat_field_own comma_before (p.fields fs) e r
+fields_elements p.no_fields e r = refl
+fields_elements (p.more_fields a f p.no_fields) e r = refl
+fields_elements (p.more_fields a f (p.more_fields b g fs)) e r = ap (λ l. o.attributes_own a (o.field_own f (comma_before l))) (fields_elements (p.more_fields b g fs) e r)
+
+pats_end : (ps : Pats) (e : Bool) → ends_well (o.no_more_pats ps) e ≡ true → not (is_end (p.pats ps) && e) ≡ true
+pats_end p.no_pats e h = h
+pats_end (p.more_pats z ps) e h = refl
+
+fields_end : (fs : Fields) (e : Bool) → ends_well (o.no_more_fields fs) e ≡ true → not (is_end (p.fields fs) && e) ≡ true
+fields_end p.no_fields e h = h
+fields_end (p.more_fields a f fs) e h = refl
+
+nil_comma : comma.at [] ≡ false
+unfolding sign_at
+nil_comma = refl
+
+pats_listed : (ps : Pats) (e : Bool) → ends_well (o.no_more_pats ps) e ≡ true → Commas (p.pattern true) o.pat_own is_empty e [] (p.pats ps)
+    → (listed comma is_empty (p.pattern true)).behind (p.pats ps, e) (o.pats_own ps e []) ≡ Some []
+pats_listed ps e h c =
+    subst (λ l. (listed comma is_empty (p.pattern true)).behind (p.pats ps, e) l ≡ Some []) (sym (pats_elements ps e []))
+    (listed_back (p.pattern true) o.pat_own is_empty (λ k. pattern_alike true) [] refl nil_comma e (p.pats ps) (pats_end ps e h) c)
+
+-- behind the fields stands nothing, or `..`
+abbrev pub fields_rest : Bool → List Tok
+fields_rest d = before_if d (o.limits_before false) []
+
+rest_stop : (d : Bool) → p.fields_stop (fields_rest d) ≡ true
+unfolding sign_at
+rest_stop true = refl
+rest_stop false = refl
+
+rest_comma : (d : Bool) → comma.at (fields_rest d) ≡ false
+unfolding sign_at
+rest_comma true = refl
+rest_comma false = refl
+
+rest_colon : (d : Bool) → colon.at (fields_rest d) ≡ false
+unfolding sign_at
+rest_colon true = refl
+rest_colon false = refl
+
+rest_flag : (d : Bool) (b : Bool) → (not d || b) ≡ true → (when (λ l. b) (flag p.dots) (pure false not)).behind d (fields_rest d) ≡ Some []
+unfolding sign_at
+rest_flag true true h = refl
+rest_flag true false h = absurd cc
+rest_flag false true h = refl
+rest_flag false false h = refl
+
+none_is : (fs : Fields) → p.none_there (p.fields fs) ≡ o.no_more_fields fs
+none_is p.no_fields = refl
+none_is (p.more_fields a f fs) = refl
+
+fields_step : (fs : Fields) (e d : Bool) → ends_well (o.no_more_fields fs) e ≡ true → (not d || (o.no_more_fields fs || e)) ≡ true → Commas (p.field p.pattern) pat_field_own p.fields_stop e (fields_rest d) (p.fields fs)
+    → (p.struct_inside p.pattern).behind ((p.fields fs, e), d) (o.fields_own fs e (fields_rest d)) ≡ Some []
+unfolding p.struct_inside
+fields_step fs e d h g c =
+    let i = subst (λ l. (listed comma p.fields_stop (p.field p.pattern)).behind (p.fields fs, e) l ≡ Some (fields_rest d)) (sym (fields_elements fs e (fields_rest d)))
+        (listed_back (p.field p.pattern) pat_field_own p.fields_stop (λ k. field_whole k) (fields_rest d) (rest_stop d) (rest_comma d) e (p.fields fs) (fields_end fs e h) c) in
+    rw (i, none_is fs) (rest_flag d (o.no_more_fields fs || e) g)
+
+-- ---- alternatives
+
+single_is : (z : PatTree) (l n : List Tok) → (p.pattern false).behind z l ≡ Some n → (p.single p.pattern).behind z l ≡ Some n
+unfolding p.at_width
+single_is z l n h = let (a, b) = spelled_by_kind false l z n in a h
+
+is_single : (z : PatTree) (l n : List Tok) → (p.single p.pattern).behind z l ≡ Some n → (p.pattern false).behind z l ≡ Some n
+unfolding p.at_width
+is_single z l n h = let (a, b) = spelled_by_kind false l z n in b h
+
+multi_is : (z : PatTree) (l n : List Tok) → (p.multi p.pattern).behind z l ≡ Some n → (p.pattern true).behind z l ≡ Some n
+unfolding p.at_width
+multi_is z l n h = let (a, b) = spelled_by_kind true l z n in b h
+
+abbrev pub is_or : PatTree → Bool
+is_or (p.alternatives l ps e) = true
+is_or _ = false
+
+from_single : (z : PatTree) → is_or z ≡ false → p.from_or z ≡ Some (false, z ∷ [])
+from_single (p.alternatives l ps e) h = absurd cc
+from_single _ h = refl
+
+multi_one : (z : PatTree) (l r : List Tok) → is_or z ≡ false → p.vert.at l ≡ false → p.vert.at r ≡ false → (p.single p.pattern).behind z l ≡ Some r → (p.multi p.pattern).behind z l ≡ Some r
+unfolding p.multi
+multi_one z l r h v w i =
+    let last : (more p.vert (p.single p.pattern)).behind [] r ≡ Some r = more_stands p.vert (p.single p.pattern) vert_present single_whole [] r r (rw w refl) in
+    rw (from_single z h, v, i, last) refl
+
+-- a single pattern, in either place
+as_width : (b : Bool) (z : PatTree) (l r : List Tok) → is_or z ≡ false → p.vert.at l ≡ false → not (b && p.vert.at r) ≡ true → (p.single p.pattern).behind z l ≡ Some r → (p.pattern b).behind z l ≡ Some r
+as_width false z l r h v w i = is_single z l r i
+as_width true z l r h v w i = multi_is z l r (multi_one z l r h v (not_true (p.vert.at r) w) i)
+
+or_by_is : (l : Bool) (ps : Pats) → (l || not (o.is_one_pat ps)) ≡ true → o.no_more_pats ps ≡ false → p.or_by l (p.pats ps) ≡ Some (l, p.pats ps)
+or_by_is true ps h k = refl
+or_by_is false p.no_pats h k = refl
+or_by_is false (p.more_pats z p.no_pats) h k = absurd cc
+or_by_is false (p.more_pats z (p.more_pats w ps)) h k = refl
+
+vert_seen : (l : List Tok) → p.vert.at (o.vert_before l) ≡ true
+unfolding sign_at
+vert_seen l = refl
+
+or_joined : (ps : Pats) (r : List Tok) → o.no_more_pats ps ≡ false → p.vert.at r ≡ false → Joins (p.single p.pattern) o.pat_own o.vert_before r (p.pats ps)
+    → (joined p.vert (p.single p.pattern)).behind (p.pats ps) (o.or_own ps false r) ≡ Some r
+or_joined p.no_pats r h v j = absurd cc
+or_joined (p.more_pats z ps) r h v j =
+    subst (λ l. (joined p.vert (p.single p.pattern)).behind (p.pats (p.more_pats z ps)) l ≡ Some r) (sym (or_elements (p.more_pats z ps) r))
+    (joined_back p.vert (p.single p.pattern) o.pat_own o.vert_before vert_present single_whole vert_seen (λ l. refl) r v z (p.pats ps) j)
+
+or_step : (l : Bool) (ps : Pats) (r : List Tok) → (l || not (o.is_one_pat ps)) ≡ true → o.no_more_pats ps ≡ false → p.vert.at (o.or_own ps false r) ≡ false → p.vert.at r ≡ false
+    → Joins (p.single p.pattern) o.pat_own o.vert_before r (p.pats ps) → (p.multi p.pattern).behind (p.alternatives l ps false) (before_if l o.vert_before (o.or_own ps false r)) ≡ Some r
+unfolding p.multi sign_at
+or_step true ps r h k v w j = or_joined ps r k w j
+or_step false ps r h k v w j = rw (or_by_is false ps h k, v) (or_joined ps r k w j)
+
+sub_step : (z : PatTree) (l r : List Tok) → (p.pattern false).behind z l ≡ Some r → (when p.at_sign.at (mark p.at_sign (shown p.sub p.from_sub (p.pattern false))) (pure p.no_sub p.has_no_sub)).behind (p.sub z) (alone 64 ∷ l) ≡ Some r
+unfolding sign_at
+sub_step z l r h = h
+
+no_sub_step : (r : List Tok) → p.at_sign.at r ≡ false → (when p.at_sign.at (mark p.at_sign (shown p.sub p.from_sub (p.pattern false))) (pure p.no_sub p.has_no_sub)).behind p.no_sub r ≡ Some r
+no_sub_step r h = rw h refl
+
+sub_go : (z : PatTree) (r : List Tok) → p.goes_on (alone 64 ∷ o.pat_own z r) ≡ false
+unfolding sign_at brace_at round_at group_at
+sub_go z r = refl
