@@ -783,7 +783,7 @@ fields_step : (fs : Fields) (e d : Bool) → ends_well (o.no_more_fields fs) e �
 unfolding p.struct_inside
 fields_step fs e d h g c =
     let i = subst (λ l. (listed comma p.fields_stop (p.field p.pattern)).behind (p.fields fs, e) l ≡ Some (fields_rest d)) (sym (fields_elements fs e (fields_rest d)))
-        (listed_back (p.field p.pattern) pat_field_own p.fields_stop (λ k. field_whole k) (fields_rest d) (rest_stop d) (rest_comma d) e (p.fields fs) (fields_end fs e h) c) in
+    (listed_back (p.field p.pattern) pat_field_own p.fields_stop (λ k. field_whole k) (fields_rest d) (rest_stop d) (rest_comma d) e (p.fields fs) (fields_end fs e h) c) in
     rw (i, none_is fs) (rest_flag d (o.no_more_fields fs || e) g)
 
 -- ---- alternatives
@@ -852,3 +852,289 @@ no_sub_step r h = rw h refl
 sub_go : (z : PatTree) (r : List Tok) → p.goes_on (alone 64 ∷ o.pat_own z r) ≡ false
 unfolding sign_at brace_at round_at group_at
 sub_go z r = refl
+
+-- ---- the first token of a pattern
+
+record PatFront (z : PatTree) (l : List Tok) : Type 0 where
+  some : is_empty l ≡ false
+  no_vert : p.vert.at l ≡ false
+  no_mut : o.begins_mut z ≡ false → mutable.at l ≡ false
+
+truth_no_mut : is_truth (codes "mut") ≡ false
+truth_no_mut = no_truth_mut
+
+lit_front : (z : PatTree) {l : List Tok} → LitBegins l → PatFront z l
+unfolding sign_at word_at
+lit_front z (lit_word {w = w} h) = record { some = refl; no_vert = refl; no_mut = λ e. truth_is w (codes "mut") h truth_no_mut }
+lit_front z lit_plain = record { some = refl; no_vert = refl; no_mut = λ e. refl }
+lit_front z (lit_minus h) = record { some = refl; no_vert = refl; no_mut = λ e. refl }
+
+path_front : (z : PatTree) {l : List Tok} → PathBegins l → PatFront z l
+unfolding sign_at word_at
+path_front z (by_word {w = w} h) = record { some = refl; no_vert = refl; no_mut = λ e. word_not w (codes "mut") h not_mut }
+path_front z by_colon2 = record { some = refl; no_vert = refl; no_mut = λ e. refl }
+path_front z by_less = record { some = refl; no_vert = refl; no_mut = λ e. refl }
+
+limits_front : (z : PatTree) (c : Bool) (l : List Tok) → PatFront z (o.limits_before c l)
+unfolding sign_at word_at
+limits_front z true l = record { some = refl; no_vert = refl; no_mut = λ e. refl }
+limits_front z false l = record { some = refl; no_vert = refl; no_mut = λ e. refl }
+
+bound_front : (z : PatTree) (b : PatBound) (l : List Tok) → o.range_bound_fits b ≡ true → PatFront z (o.range_bound_own b l)
+bound_front z (p.lit_bound x) l f = lit_front z (lit_begins x l f)
+bound_front z (p.path_bound q w) l f = path_front z (path_starts style.Expr q w.leading w.trailing w.segments l f)
+
+range_front : (z : PatTree) (s : Option PatBound) (c : Bool) (e : Option PatBound) (l : List Tok) → o.range_fits s c e ≡ true → PatFront z (before_some s o.range_bound_own (o.limits_before c l))
+range_front z None c e l f = limits_front z c l
+range_front z (Some b) false e l f = let (g, h) = both_true (o.range_bound_fits b) _ f in bound_front z b (o.limits_before false l) g
+range_front z (Some b) true e l f = let (g, h) = both_true (o.range_bound_fits b) _ f in bound_front z b (o.limits_before true l) g
+
+binding_front : (b m : Bool) (w : Text) (s : SubPat) (r : List Tok) → is_reserved_word w ≡ false → PatFront (p.a_binding b m w s) (binding_own b m w s r)
+unfolding sign_at word_at
+binding_front true m w s r h = record { some = refl; no_vert = refl; no_mut = λ e. refl }
+binding_front false true w s r h = record { some = refl; no_vert = refl; no_mut = λ e. absurd cc }
+binding_front false false w s r h = record { some = refl; no_vert = refl; no_mut = λ e. reserved_not w (codes "mut") h r_mut }
+
+sign_first : (z : PatTree) (c : ℕ) (l : List Tok) → (c == 124) ≡ false → PatFront z (alone c ∷ l)
+unfolding sign_at word_at
+sign_first z c l h = record { some = refl; no_vert = rw h refl; no_mut = λ e. refl }
+
+group_first : (z : PatTree) (ts l : List Tok) → PatFront z (enclosed del.Parenthesis ts l)
+unfolding sign_at word_at
+group_first z ts l = record { some = refl; no_vert = refl; no_mut = λ e. refl }
+
+bracket_first : (z : PatTree) (ts l : List Tok) → PatFront z (enclosed del.Bracket ts l)
+unfolding sign_at word_at
+bracket_first z ts l = record { some = refl; no_vert = refl; no_mut = λ e. refl }
+
+wild_first : (l : List Tok) → PatFront p.wild (ident (codes "_") ∷ l)
+unfolding sign_at word_at
+wild_first l = record { some = refl; no_vert = refl; no_mut = λ e. refl }
+
+const_first : (ts l : List Tok) → PatFront (p.a_block ts) (ident (codes "const") ∷ l)
+unfolding sign_at word_at
+const_first ts l = record { some = refl; no_vert = refl; no_mut = λ e. refl }
+
+bare_begins : (z : PathTree) (l : List Tok) → path_fits style.Expr z ≡ true → PathBegins (path_own z l)
+bare_begins z l f = path_starts style.Expr t.no_qself z.leading z.trailing z.segments l f
+
+pat_first : (b : Bool) (z : PatTree) (r : List Tok) → is_or z ≡ false → o.pat_fits b z ≡ true → PatFront z (o.pat_own z r)
+pat_first b p.wild r h f = wild_first r
+pat_first b p.rest r h f = limits_front p.rest false r
+pat_first b (p.range s c e) r h f = range_front (p.range s c e) s c e _ f
+pat_first b (p.a_lit x) r h f = lit_front (p.a_lit x) (lit_begins x r f)
+pat_first b (p.a_binding d m w s) r h f = let (g, i) = both_true (not (is_reserved_word w)) _ f in binding_front d m w s r (not_true (is_reserved_word w) g)
+pat_first b (p.a_path q z) r h f = let (g, i) = both_true (qpath_fits style.Expr (q, z)) _ f in path_front (p.a_path q z) (path_starts style.Expr q z.leading z.trailing z.segments r g)
+pat_first b (p.a_mac m) r h f = let (g, i) = both_true (path_fits style.Expr m.path) _ f in path_front (p.a_mac m) (bare_begins m.path _ g)
+pat_first b (p.a_struct z fs e d) r h f = let (g, i) = both_true (path_fits style.Expr z) _ f in path_front (p.a_struct z fs e d) (bare_begins z _ g)
+pat_first b (p.tuple_struct z ps e) r h f = let (g, i) = both_true (path_fits style.Expr z) _ f in path_front (p.tuple_struct z ps e) (bare_begins z _ g)
+pat_first b (p.a_tuple ps e) r h f = group_first (p.a_tuple ps e) _ r
+pat_first b (p.a_paren z) r h f = group_first (p.a_paren z) _ r
+pat_first b (p.a_slice ps e) r h f = bracket_first (p.a_slice ps e) _ r
+pat_first b (p.a_reference m z) r h f = sign_first (p.a_reference m z) 38 _ refl
+pat_first b (p.a_block ts) r h f = const_first ts _
+pat_first b (p.alternatives l ps e) r h f = absurd cc
+
+-- alternatives have none inside
+single_fits : (z : PatTree) → o.pat_fits false z ≡ true → is_or z ≡ false
+single_fits (p.alternatives l ps e) f = absurd cc
+single_fits _ f = refl
+
+or_some : (ps : Pats) (r : List Tok) → o.no_more_pats ps ≡ false → o.or_fits ps ≡ true → (is_empty (o.or_own ps false r) ≡ false) × (p.vert.at (o.or_own ps false r) ≡ false)
+or_some p.no_pats r h f = absurd cc
+or_some (p.more_pats z ps) r h f =
+    let (g, i) = both_true (o.pat_fits false z) (o.or_fits ps) f in
+    let j = pat_first false z (separated (o.no_more_pats ps) false o.vert_before (o.or_own ps false r)) (single_fits z g) g in
+    (j.some, j.no_vert)
+
+pat_some : (z : PatTree) (r : List Tok) → o.pat_fits true z ≡ true → is_empty (o.pat_own z r) ≡ false
+pat_some (p.alternatives true ps e) r f = refl
+pat_some (p.alternatives false ps true) r f = absurd cc
+pat_some (p.alternatives false ps false) r f =
+    let (g, h) = both_true (not (o.no_more_pats ps)) _ f in
+    let (i, j) = both_true (false || not (o.is_one_pat ps)) (o.or_fits ps) h in
+    let (k, m) = or_some ps r (not_true (o.no_more_pats ps) g) j in k
+pat_some z r f = let j = pat_first true z r refl f in j.some
+
+-- ---- all together
+
+tuple_is : (ps : Pats) (e : Bool) → (not (o.is_one_pat ps) || (e || o.is_one_rest ps)) ≡ true → p.from_round (p.a_tuple ps e) ≡ Some (p.pats ps, e)
+tuple_is p.no_pats e h = refl
+tuple_is (p.more_pats z p.no_pats) true h = refl
+tuple_is (p.more_pats z p.no_pats) false h = let i : (false || p.is_rest z) ≡ true = h in rw i refl
+tuple_is (p.more_pats z (p.more_pats w ps)) e h = refl
+
+paren_is : (z : PatTree) → not (p.is_rest z) ≡ true → p.from_round (p.a_paren z) ≡ Some (z ∷ [], false)
+paren_is z h = rw (not_true (p.is_rest z) h) refl
+
+record Ends (l : List Tok) : Type 0 where
+  calm : PatCalm l
+  no_vert : p.vert.at l ≡ false
+  no_colon : colon.at l ≡ false
+
+nil_ends : Ends []
+unfolding sign_at
+nil_ends = record { calm = nil_pat_calm; no_vert = refl; no_colon = refl }
+
+comma_ends : (l : List Tok) → Ends (alone 44 ∷ l)
+unfolding sign_at
+comma_ends l = record { calm = comma_pat_calm l; no_vert = refl; no_colon = refl }
+
+next_ends : {A : Type 0} (own : A → List Tok → List Tok) (xs : List A) (e : Bool) (r : List Tok) → Ends r → Ends (next_own own comma_before xs e r)
+next_ends own [] true r q = comma_ends _
+next_ends own [] false r q = q
+next_ends own (x ∷ xs) e r q = comma_ends _
+
+field_ends : (fs : Fields) (e d : Bool) → (not d || e) ≡ true → Ends (next_own pat_field_own comma_before (p.fields fs) e (fields_rest d))
+field_ends p.no_fields true d h = comma_ends _
+field_ends p.no_fields false true h = absurd cc
+field_ends p.no_fields false false h = nil_ends
+field_ends (p.more_fields a f fs) e d h = comma_ends _
+
+stops_ends : (b : Bool) (z : PatTree) (l : List Tok) → Ends l → o.pat_stops b z l ≡ true
+stops_ends true z l q = rw (single_calm l q.calm z, q.no_vert) refl
+stops_ends false z l q = rw (single_calm l q.calm z) refl
+
+single_stop : (z : PatTree) (l : List Tok) → o.single_stops z l ≡ true → o.pat_stops false z l ≡ true
+single_stop z l h = rw h refl
+
+sub_bare : (s : SubPat) (b m : Bool) (r : List Tok) → (b || (m || o.not_bare s r)) ≡ true → (b || (m || not (p.goes_on (o.sub_own s r)))) ≡ true
+sub_bare p.no_sub b m r h = h
+sub_bare (p.sub z) b m r h = rw (sub_go z r, or_true m) (or_true b)
+
+range_parts : (x : PatBound) (c : Bool) (e : Option PatBound) → o.range_fits (Some x) c e ≡ true → (o.range_bound_fits x ≡ true) × (o.bound_or (not c) e ≡ true)
+range_parts x true e f = both_true (o.range_bound_fits x) (o.bound_or false e) f
+range_parts x false e f = both_true (o.range_bound_fits x) (o.bound_or true e) f
+
+some_fields : (fs : Fields) (e d : Bool) → (not d || (o.no_more_fields fs || e)) ≡ true → o.no_more_fields fs ≡ false → (not d || e) ≡ true
+some_fields p.no_fields e d h k = absurd cc
+some_fields (p.more_fields a f fs) e d h k = h
+
+mutual
+  pub pat_back : (b : Bool) (z : PatTree) (r : List Tok) → o.pat_fits b z ≡ true → o.pat_stops b z r ≡ true → (p.pattern b).behind z (o.pat_own z r) ≡ Some r
+  pat_back b p.wild r f s = let (u, v) = both_true true _ s in let j = wild_first r in as_width b p.wild _ r refl j.no_vert v (wild_step r)
+  pat_back b p.rest r f s =
+      let (u, v) = both_true (not (p.bound_at r)) _ s in
+      let j = limits_front p.rest false r in
+      as_width b p.rest _ r refl j.no_vert v (rest_step r (not_true (p.bound_at r) u))
+  pat_back b (p.range None c e) r f s =
+      let (u, v) = both_true (o.range_bound_stops e r) _ s in
+      let j = limits_front (p.range None c e) c (before_some e o.range_bound_own r) in
+      as_width b (p.range None c e) _ r refl j.no_vert v (open_step r c e f u)
+  pat_back b (p.range (Some (p.lit_bound x)) c e) r f s =
+      let (u, v) = both_true (o.range_bound_stops e r) _ s in
+      let (g, h) = range_parts (p.lit_bound x) c e f in
+      let j = bound_front (p.range (Some (p.lit_bound x)) c e) (p.lit_bound x) (o.limits_before c (before_some e o.range_bound_own r)) g in
+      as_width b (p.range (Some (p.lit_bound x)) c e) _ r refl j.no_vert v (lit_range_step r x c e g h u)
+  pat_back b (p.range (Some (p.path_bound q z)) c e) r f s =
+      let (u, v) = both_true (o.range_bound_stops e r) _ s in
+      let (g, h) = range_parts (p.path_bound q z) c e f in
+      let j = bound_front (p.range (Some (p.path_bound q z)) c e) (p.path_bound q z) (o.limits_before c (before_some e o.range_bound_own r)) g in
+      as_width b (p.range (Some (p.path_bound q z)) c e) _ r refl j.no_vert v (range_step r q z c e g h u)
+  pat_back b (p.a_lit x) r f s =
+      let (u, v) = both_true (not (p.dots.at r)) _ s in
+      let j = lit_front (p.a_lit x) (lit_begins x r f) in
+      as_width b (p.a_lit x) _ r refl j.no_vert v (lit_step r x f (not_true (p.dots.at r) u))
+  pat_back b (p.a_binding d m w y) r f s =
+      let (u, v) = both_true (o.sub_stops y r && (d || (m || o.not_bare y r))) _ s in
+      let (g, h) = both_true (not (is_reserved_word w)) (o.sub_fits y) f in
+      let (i, k) = both_true (o.sub_stops y r) _ u in
+      let j = binding_front d m w y r (not_true (is_reserved_word w) g) in
+      as_width b (p.a_binding d m w y) _ r refl j.no_vert v (binding_step d m w y r (not_true (is_reserved_word w) g) (sub_bare y d m r k) (sub_back y r h i))
+  pat_back b (p.a_path q z) r f s =
+      let (u, v) = both_true (path_stops style.Expr z r && (not (p.dots.at r) && o.path_pat_stops q z r)) _ s in
+      let (g, h) = both_true (qpath_fits style.Expr (q, z)) (not (o.is_one_name q z)) f in
+      let (i, k) = both_true (path_stops style.Expr z r) _ u in
+      let (m, n) = both_true (not (p.dots.at r)) (o.path_pat_stops q z r) k in
+      let j = path_front (p.a_path q z) (path_starts style.Expr q z.leading z.trailing z.segments r g) in
+      as_width b (p.a_path q z) _ r refl j.no_vert v (path_step r q z g h i (not_true (p.dots.at r) m) n)
+  pat_back b (p.a_mac m) r f s =
+      let (u, v) = both_true true _ s in
+      let (g, h) = both_true (path_fits style.Expr m.path) _ f in
+      let (i, k) = both_true (segments_bare m.path.segments) (is_macro_delimiter m.delimiter) h in
+      let j = path_front (p.a_mac m) (bare_begins m.path (alone 33 ∷ enclosed m.delimiter m.tokens r) g) in
+      as_width b (p.a_mac m) _ r refl j.no_vert v (mac_step r m g i k)
+  pat_back b (p.a_struct z fs e d) r f s =
+      let (u, v) = both_true true _ s in
+      let (g, h) = both_true (path_fits style.Expr z) _ f in
+      let (i, k) = both_true (o.fields_fit fs) _ h in
+      let (m, n) = both_true (ends_well (o.no_more_fields fs) e) (not d || (o.no_more_fields fs || e)) k in
+      let ts = o.fields_own fs e (fields_rest d) in
+      let j = path_front (p.a_struct z fs e d) (bare_begins z (enclosed del.Brace ts r) g) in
+      as_width b (p.a_struct z fs e d) _ r refl j.no_vert v (struct_step r z fs e d ts g (fields_step fs e d m n (fields_commas e d fs i (some_fields fs e d n))))
+  pat_back b (p.tuple_struct z ps e) r f s =
+      let (u, v) = both_true true _ s in
+      let (g, h) = both_true (path_fits style.Expr z) _ f in
+      let (i, k) = both_true (o.pats_fit ps) (ends_well (o.no_more_pats ps) e) h in
+      let j = path_front (p.tuple_struct z ps e) (bare_begins z (enclosed del.Parenthesis (o.pats_own ps e []) r) g) in
+      as_width b (p.tuple_struct z ps e) _ r refl j.no_vert v (tuple_struct_step r z ps e (o.pats_own ps e []) g (pats_listed ps e k (pats_commas e ps i)))
+  pat_back b (p.a_tuple ps e) r f s =
+      let (u, v) = both_true true _ s in
+      let (g, h) = both_true (o.pats_fit ps) _ f in
+      let (i, k) = both_true (ends_well (o.no_more_pats ps) e) (not (o.is_one_pat ps) || (e || o.is_one_rest ps)) h in
+      let j = group_first (p.a_tuple ps e) (o.pats_own ps e []) r in
+      as_width b (p.a_tuple ps e) _ r refl j.no_vert v (round_step r (p.a_tuple ps e) (p.pats ps) e (o.pats_own ps e []) (tuple_is ps e k) (pats_listed ps e i (pats_commas e ps g)))
+  pat_back b (p.a_paren z) r f s =
+      let (u, v) = both_true true _ s in
+      let (g, h) = both_true (o.pat_fits true z) (not (p.is_rest z)) f in
+      let j = group_first (p.a_paren z) (o.pat_own z []) r in
+      let i = pat_back true z [] g (stops_ends true z [] nil_ends) in
+      as_width b (p.a_paren z) _ r refl j.no_vert v (round_step r (p.a_paren z) (z ∷ []) false (o.pat_own z []) (paren_is z h)
+      (listed_back (p.pattern true) o.pat_own is_empty (λ k. pattern_alike true) [] refl nil_comma false (z ∷ []) refl (element i (pat_some z [] g) no_element)))
+  pat_back b (p.a_slice ps e) r f s =
+      let (u, v) = both_true true _ s in
+      let (g, h) = both_true (o.pats_fit ps) (ends_well (o.no_more_pats ps) e) f in
+      let j = bracket_first (p.a_slice ps e) (o.pats_own ps e []) r in
+      as_width b (p.a_slice ps e) _ r refl j.no_vert v (slice_step r ps e (o.pats_own ps e []) (pats_listed ps e h (pats_commas e ps g)))
+  pat_back b (p.a_reference m z) r f s =
+      let (u, v) = both_true (o.single_stops z r) _ s in
+      let (g, h) = both_true (o.pat_fits false z) (m || not (o.begins_mut z)) f in
+      let i = pat_first false z r (single_fits z g) g in
+      let j = sign_first (p.a_reference m z) 38 (o.word_if m (codes "mut") (o.pat_own z r)) refl in
+      as_width b (p.a_reference m z) _ r refl j.no_vert v (reference_step r m z (o.pat_own z r) h i.no_mut (pat_back false z r g (single_stop z r u)))
+  pat_back b (p.a_block ts) r f s =
+      let (u, v) = both_true true _ s in
+      let j = const_first ts (enclosed del.Brace ts r) in
+      as_width b (p.a_block ts) _ r refl j.no_vert v (block_step r ts)
+  pat_back false (p.alternatives l ps e) r f s = absurd cc
+  pat_back true (p.alternatives l ps true) r f s = absurd cc
+  pat_back true (p.alternatives l ps false) r f s =
+      let (u, v) = both_true (o.or_stops ps r) _ s in
+      let (g, h) = both_true (not (o.no_more_pats ps)) _ f in
+      let (i, k) = both_true (l || not (o.is_one_pat ps)) (o.or_fits ps) h in
+      let (m, n) = or_some ps r (not_true (o.no_more_pats ps) g) k in
+      multi_is (p.alternatives l ps false) _ r (or_step l ps r i (not_true (o.no_more_pats ps) g) n (not_true (p.vert.at r) v) (or_joins ps r k u))
+
+  sub_back : (y : SubPat) (r : List Tok) → o.sub_fits y ≡ true → o.sub_stops y r ≡ true → (when p.at_sign.at (mark p.at_sign (shown p.sub p.from_sub (p.pattern false))) (pure p.no_sub p.has_no_sub)).behind y (o.sub_own y r) ≡ Some r
+  sub_back p.no_sub r f s = no_sub_step r (not_true (p.at_sign.at r) s)
+  sub_back (p.sub z) r f s = sub_step z (o.pat_own z r) r (pat_back false z r f (single_stop z r s))
+
+  pats_commas : (e : Bool) (ps : Pats) → o.pats_fit ps ≡ true → Commas (p.pattern true) o.pat_own is_empty e [] (p.pats ps)
+  pats_commas e p.no_pats f = no_element
+  pats_commas e (p.more_pats z ps) f =
+      let (g, h) = both_true (o.pat_fits true z) (o.pats_fit ps) f in
+      let q = next_ends o.pat_own (p.pats ps) e [] nil_ends in
+      element (pat_back true z _ g (stops_ends true z _ q)) (pat_some z _ g) (pats_commas e ps h)
+
+  or_joins : (ps : Pats) (r : List Tok) → o.or_fits ps ≡ true → o.or_stops ps r ≡ true → Joins (p.single p.pattern) o.pat_own o.vert_before r (p.pats ps)
+  or_joins p.no_pats r f s = no_join
+  or_joins (p.more_pats z p.no_pats) r f s =
+      let (g, h) = both_true (o.pat_fits false z) _ f in
+      join (single_is z _ _ (pat_back false z r g (single_stop z r s))) no_join
+  or_joins (p.more_pats z (p.more_pats w ps)) r f s =
+      let (g, h) = both_true (o.pat_fits false z) _ f in
+      join (single_is z _ _ (pat_back false z _ g (single_stop z _ (single_calm _ (vert_pat_calm _) z)))) (or_joins (p.more_pats w ps) r h s)
+
+  fields_commas : (e d : Bool) (fs : Fields) → o.fields_fit fs ≡ true → (o.no_more_fields fs ≡ false → (not d || e) ≡ true) → Commas (p.field p.pattern) pat_field_own p.fields_stop e (fields_rest d) (p.fields fs)
+  fields_commas e d p.no_fields f h = no_element
+  fields_commas e d (p.more_fields a (p.short b m w) fs) f h =
+      let (g, i) = both_true (o.attributes_outer a) _ f in
+      let (j, k) = both_true (not (is_reserved_word w)) (o.fields_fit fs) i in
+      let q = field_ends fs e d (h refl) in
+      element (short_step a b m w _ g (not_true (is_reserved_word w) j) q.no_colon) (attributes_stop a _ (field_stop (p.short b m w) _)) (fields_commas e d fs k (λ x. h refl))
+  fields_commas e d (p.more_fields a (p.full n z) fs) f h =
+      let (g, i) = both_true (o.attributes_outer a) _ f in
+      let (j, k) = both_true (o.member_fits n && o.pat_fits true z) (o.fields_fit fs) i in
+      let (u, v) = both_true (o.member_fits n) (o.pat_fits true z) j in
+      let q = field_ends fs e d (h refl) in
+      element (full_step a n z _ _ g u (pat_back true z _ v (stops_ends true z _ q))) (attributes_stop a _ (field_stop (p.full n z) _)) (fields_commas e d fs k (λ x. h refl))

@@ -1,7 +1,8 @@
 -- What is true of patterns.
-use Rattle.std.specs.Prelude.{◌≡◌, Bool, ◌↔◌, List, Some}
+use Rattle.std.specs.Prelude.{◌≡◌, Bool, true, ◌↔◌, List, Some}
 use Rattle.syn_tokens.specs.Tok.{Tok}
 use Rattle.syn_parts.specs.Pat.{PatTree, member, range_bound, pattern, closure_arg, at_width, SpellsPat}
+use Rattle.syn_parts.specs.PatOwn.{pat_own, pat_fits, pat_stops}
 use Rattle.syn_parts.specs.Laws.{IsExact}
 
 -- Each is read exactly where its tokens stand; a pattern with alternatives where `several` holds, else a single one.
@@ -18,3 +19,7 @@ PatternsAreSpelledByKind = (several : Bool) (l : List Tok) (p : PatTree) (n : Li
 -- No list has two patterns in front, nor two rests.
 abbrev pub OnePattern : Type 0
 OnePattern = (several : Bool) (l : List Tok) (x y : PatTree) (m n : List Tok) → SpellsPat several l x m → SpellsPat several l y n → (x ≡ y) × (m ≡ n)
+
+-- What passes the test and is printed is read back as the same pattern, whatever stands behind that doesn't go on with it.
+abbrev pub PatternsAreReadBack : Type 0
+PatternsAreReadBack = (several : Bool) (p : PatTree) (n : List Tok) → pat_fits several p ≡ true → pat_stops several p n ≡ true → SpellsPat several (pat_own p n) p n

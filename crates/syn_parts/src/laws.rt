@@ -37,3 +37,9 @@ pub fn patterns_are_spelled_by_kind()
 pub fn one_pattern()
     ensures { pat.OnePattern }
 {}
+
+/// A pattern that passes its test and is printed is read back as the same pattern, before whatever doesn't go on
+/// with it.
+pub fn patterns_are_read_back()
+    ensures { pat.PatternsAreReadBack }
+{}
