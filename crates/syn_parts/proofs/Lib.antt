@@ -15,3 +15,4 @@ pub mod TailParts
 pub mod Pats
 pub mod PatWhole
 pub mod PatsBack
+pub mod Samples

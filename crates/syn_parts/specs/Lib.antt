@@ -10,3 +10,4 @@ pub mod Laws
 pub mod Pat
 pub mod PatLaws
 pub mod PatOwn
+pub mod Samples

@@ -2,6 +2,7 @@
 
 ghost use Rattle.syn_parts.specs.Laws as spec;
 ghost use Rattle.syn_parts.specs.PatLaws as pat;
+ghost use Rattle.syn_parts.specs.Samples as sample;
 
 /// Each part is read exactly where its tokens stand, and what is left is what stands behind it.
 pub fn parts_are_exact()
@@ -42,4 +43,14 @@ pub fn one_pattern()
 /// with it.
 pub fn patterns_are_read_back()
     ensures { pat.PatternsAreReadBack }
+{}
+
+/// Types and paths that are easily read wrongly, as the Rust Reference has them.
+pub fn type_samples()
+    ensures { sample.TypeSamples }
+{}
+
+/// Patterns that are easily read wrongly, as the Rust Reference has them.
+pub fn pattern_samples()
+    ensures { sample.PatternSamples }
 {}
