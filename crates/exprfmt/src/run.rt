@@ -177,7 +177,9 @@ pub fn run<R: Read, W: Write, E: Write>(
     input: &mut R,
     output: &mut W,
     errors: &mut E,
-) -> u8 {
+) -> u8
+    ensures { IfSome (R.remaining input.old) (λ bytes. (result ≡ 1) ⊎ spec.Ran bytes result (W.contents output.old) (W.contents output.new) (E.contents errors.old) (E.contents errors.new)) }
+{
     match run_to(alloc, position, input, output, errors) {
         Ok(status) => status,
         Err(_) => 1,
