@@ -5,7 +5,7 @@ use syn_tokens::token::{Brace, Bracket, Not, Paren};
 use syn_tokens::tree::TokenStream;
 
 /// What encloses the tokens of a macro's call.
-#[derive(Clone, Copy, Debug)]
+#[derive(Clone, Copy, Debug, PartialEq)]
 pub enum MacroDelimiter {
     /// `( .. )`
     Paren(Paren),
@@ -19,7 +19,7 @@ pub enum MacroDelimiter {
 pub type Macro = MacroOf<PathArguments>;
 
 /// The call of a macro.
-#[derive(Drop)]
+#[derive(Drop, PartialEq)]
 pub struct MacroOf<A> {
     /// The macro's path, without arguments.
     pub path: PathOf<A>,

@@ -13,7 +13,7 @@ use syn_tokens::tree::{Ident, TokenStream};
 pub type Path = PathOf<PathArguments>;
 
 /// A path.
-#[derive(Drop)]
+#[derive(Drop, PartialEq)]
 pub struct PathOf<A> {
     /// `::` in front.
     pub leading_colon: Option<PathSep>,
@@ -25,7 +25,7 @@ pub struct PathOf<A> {
 pub type PathSegment = PathSegmentOf<PathArguments>;
 
 /// A segment of a path.
-#[derive(Drop)]
+#[derive(Drop, PartialEq)]
 pub struct PathSegmentOf<A> {
     /// The word.
     pub ident: Ident,
@@ -35,7 +35,7 @@ pub struct PathSegmentOf<A> {
 
 /// The arguments of a segment.
 #[cycle(types)]
-#[derive(Drop)]
+#[derive(Drop, PartialEq)]
 pub enum PathArguments {
     /// None.
     None,
@@ -49,7 +49,7 @@ pub enum PathArguments {
 pub type AngleBracketedGenericArguments = AngleBracketedGenericArgumentsOf<GenericArgument>;
 
 /// Arguments between `<` and `>`.
-#[derive(Drop)]
+#[derive(Drop, PartialEq)]
 pub struct AngleBracketedGenericArgumentsOf<G> {
     /// `::` in front.
     pub colon2_token: Option<PathSep>,
@@ -63,7 +63,7 @@ pub struct AngleBracketedGenericArgumentsOf<G> {
 
 /// An argument between `<` and `>` (Rust Reference, "Generic arguments").
 #[cycle(types)]
-#[derive(Drop)]
+#[derive(Drop, PartialEq)]
 pub enum GenericArgument {
     /// `'a`
     Lifetime(Lifetime),
@@ -79,7 +79,7 @@ pub enum GenericArgument {
 pub type AssocType = AssocTypeOf<Type>;
 
 /// An associated type and what it is equal to.
-#[derive(Drop)]
+#[derive(Drop, PartialEq)]
 pub struct AssocTypeOf<T> {
     /// Its name.
     pub ident: Ident,
@@ -91,7 +91,7 @@ pub struct AssocTypeOf<T> {
 
 /// `(A, B) -> C`, the arguments of a trait of functions.
 #[cycle(types)]
-#[derive(Drop)]
+#[derive(Drop, PartialEq)]
 pub struct ParenthesizedGenericArguments {
     /// The parentheses.
     pub paren_token: Paren,
@@ -105,7 +105,7 @@ pub struct ParenthesizedGenericArguments {
 pub type QSelf = QSelfOf<Type>;
 
 /// The type in front of a path (Rust Reference, "Qualified paths").
-#[derive(Drop)]
+#[derive(Drop, PartialEq)]
 pub struct QSelfOf<T> {
     /// `<`
     pub lt_token: Lt,

@@ -6,7 +6,7 @@ ghost use Rattle.std.specs.Prelude.{◌-◌, List, drop, take, ◌≡◌, ◌++�
 use std::alloc::{AllocError, Global};
 
 /// Values with puncts between, and perhaps one at the end.
-#[derive(Drop)]
+#[derive(Drop, PartialEq)]
 pub struct Punctuated<T, P> {
     pub(crate) inner: Vec<(T, P)>,
     pub(crate) last: Option<Box<T>>,

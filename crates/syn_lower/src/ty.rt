@@ -16,7 +16,7 @@ use syn_tokens::tree::{Ident, TokenStream};
 
 /// A type.
 #[cycle(types)]
-#[derive(Drop)]
+#[derive(Drop, PartialEq)]
 pub enum Type {
     /// `a::B<C>`, `<T as A>::B`
     Path(TypePath),
@@ -48,7 +48,7 @@ pub enum Type {
 
 /// A path as a type (Rust Reference, "Paths in types").
 #[cycle(types)]
-#[derive(Drop)]
+#[derive(Drop, PartialEq)]
 pub struct TypePath {
     /// The type in front of it.
     pub qself: Option<QSelfOf<Type>>,
@@ -60,7 +60,7 @@ pub struct TypePath {
 pub type TypeMacro = TypeMacroOf<PathArguments>;
 
 /// The call of a macro as a type.
-#[derive(Drop)]
+#[derive(Drop, PartialEq)]
 pub struct TypeMacroOf<A> {
     /// The call.
     pub mac: MacroOf<A>,
@@ -70,7 +70,7 @@ pub struct TypeMacroOf<A> {
 pub type TypeReference = TypeReferenceOf<Type>;
 
 /// A reference (Rust Reference, "Shared references", "Mutable references").
-#[derive(Drop)]
+#[derive(Drop, PartialEq)]
 pub struct TypeReferenceOf<T> {
     /// `&`
     pub and_token: And,
@@ -86,7 +86,7 @@ pub struct TypeReferenceOf<T> {
 pub type TypePtr = TypePtrOf<Type>;
 
 /// A raw pointer (Rust Reference, "Raw pointers").
-#[derive(Drop)]
+#[derive(Drop, PartialEq)]
 pub struct TypePtrOf<T> {
     /// `*`
     pub star_token: Star,
@@ -97,7 +97,7 @@ pub struct TypePtrOf<T> {
 }
 
 /// Whether a pointer's target may be written.
-#[derive(Clone, Copy, Debug)]
+#[derive(Clone, Copy, Debug, PartialEq)]
 pub enum PointerMutability {
     /// `const`
     Const(Const),
@@ -109,7 +109,7 @@ pub enum PointerMutability {
 pub type TypeSlice = TypeSliceOf<Type>;
 
 /// A slice (Rust Reference, "Slice types").
-#[derive(Drop)]
+#[derive(Drop, PartialEq)]
 pub struct TypeSliceOf<T> {
     /// The brackets.
     pub bracket_token: Bracket,
@@ -121,7 +121,7 @@ pub struct TypeSliceOf<T> {
 pub type TypeArray = TypeArrayOf<Type>;
 
 /// An array (Rust Reference, "Array types").
-#[derive(Drop)]
+#[derive(Drop, PartialEq)]
 pub struct TypeArrayOf<T> {
     /// The brackets.
     pub bracket_token: Bracket,
@@ -137,7 +137,7 @@ pub struct TypeArrayOf<T> {
 pub type TypeTuple = TypeTupleOf<Type>;
 
 /// A tuple (Rust Reference, "Tuple types").
-#[derive(Drop)]
+#[derive(Drop, PartialEq)]
 pub struct TypeTupleOf<T> {
     /// The parentheses.
     pub paren_token: Paren,
@@ -149,7 +149,7 @@ pub struct TypeTupleOf<T> {
 pub type TypeParen = TypeParenOf<Type>;
 
 /// A type in parentheses (Rust Reference, "Parenthesized types").
-#[derive(Drop)]
+#[derive(Drop, PartialEq)]
 pub struct TypeParenOf<T> {
     /// The parentheses.
     pub paren_token: Paren,
@@ -158,14 +158,14 @@ pub struct TypeParenOf<T> {
 }
 
 /// `!` (Rust Reference, "Never type").
-#[derive(Drop)]
+#[derive(Drop, PartialEq)]
 pub struct TypeNever {
     /// `!`
     pub bang_token: Not,
 }
 
 /// `_` (Rust Reference, "Inferred type").
-#[derive(Drop)]
+#[derive(Drop, PartialEq)]
 pub struct TypeInfer {
     /// `_`
     pub underscore_token: Underscore,
@@ -173,7 +173,7 @@ pub struct TypeInfer {
 
 /// `for<'a> unsafe extern "C" fn(a: A) -> B` (Rust Reference, "Function pointer types").
 #[cycle(types)]
-#[derive(Drop)]
+#[derive(Drop, PartialEq)]
 pub struct TypeFnPtr {
     /// `for<'a>`
     pub lifetimes: Option<BoundLifetimes>,
@@ -192,7 +192,7 @@ pub struct TypeFnPtr {
 }
 
 /// `extern "C"`
-#[derive(Debug, Drop)]
+#[derive(Debug, Drop, PartialEq)]
 pub struct Abi {
     /// `extern`
     pub extern_token: Extern,
@@ -204,7 +204,7 @@ pub struct Abi {
 pub type BareFnArg = BareFnArgOf<Type>;
 
 /// An argument of a function pointer.
-#[derive(Drop)]
+#[derive(Drop, PartialEq)]
 pub struct BareFnArgOf<T> {
     /// Its name, an identifier or `_`, and `:`.
     pub name: Option<(Ident, Colon)>,
@@ -216,7 +216,7 @@ pub struct BareFnArgOf<T> {
 pub type TypeImplTrait = TypeImplTraitOf<TypeParamBound>;
 
 /// A type by what it implements (Rust Reference, "Impl trait").
-#[derive(Drop)]
+#[derive(Drop, PartialEq)]
 pub struct TypeImplTraitOf<B> {
     /// `impl`
     pub impl_token: Impl,
@@ -228,7 +228,7 @@ pub struct TypeImplTraitOf<B> {
 pub type TypeTraitObject = TypeTraitObjectOf<TypeParamBound>;
 
 /// A type by what it can do (Rust Reference, "Trait objects").
-#[derive(Drop)]
+#[derive(Drop, PartialEq)]
 pub struct TypeTraitObjectOf<B> {
     /// `dyn`
     pub dyn_token: Dyn,
@@ -238,7 +238,7 @@ pub struct TypeTraitObjectOf<B> {
 
 /// A bound (Rust Reference, "Trait and lifetime bounds").
 #[cycle(types)]
-#[derive(Drop)]
+#[derive(Drop, PartialEq)]
 pub enum TypeParamBound {
     /// `'a`
     Lifetime(Lifetime),
@@ -250,7 +250,7 @@ pub enum TypeParamBound {
 pub type TraitBound = TraitBoundOf<PathArguments>;
 
 /// A trait as a bound.
-#[derive(Drop)]
+#[derive(Drop, PartialEq)]
 pub struct TraitBoundOf<A> {
     /// `?`
     pub maybe: Option<Question>,
@@ -261,7 +261,7 @@ pub struct TraitBoundOf<A> {
 }
 
 /// `for<'a, 'b>` (Rust Reference, "Higher-ranked trait bounds").
-#[derive(Drop)]
+#[derive(Drop, PartialEq)]
 pub struct BoundLifetimes {
     /// `for`
     pub for_token: For,
@@ -275,7 +275,7 @@ pub struct BoundLifetimes {
 
 /// What a function returns.
 #[cycle(types)]
-#[derive(Drop)]
+#[derive(Drop, PartialEq)]
 pub enum ReturnType {
     /// Nothing is written.
     Default,
