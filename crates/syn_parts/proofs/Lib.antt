@@ -16,3 +16,4 @@ pub mod Pats
 pub mod PatWhole
 pub mod PatsBack
 pub mod Samples
+pub mod Takes

@@ -54,7 +54,7 @@ finds_segment = record { falls = falls }
     falls (ident w ∷ l) x n h = falls_by l n (ident w ∷ l) (word_some (is_segment w) w l x n h) (one_less (ident w) l)
     falls _ x n h = absurd cc
 
-finds_word : Finds find_word
+pub finds_word : Finds find_word
 finds_word = record { falls = falls }
   where
     falls : (l : List Tok) (x : Text) (n : List Tok) → find_word l ≡ Some (x, n) → weight n ≤ weight l
@@ -240,7 +240,7 @@ pub lifetimes_alike : {k : ℕ} → Alike k lifetimes lifetimes
 unfolding lifetimes
 lifetimes_alike = search (forms, marks, views) depth 12
 
-fn_head_alike : {j : ℕ} → Alike j fn_head fn_head
+pub fn_head_alike : {j : ℕ} → Alike j fn_head fn_head
 unfolding fn_head
 fn_head_alike = search (lifetimes_alike, forms, marks, views) depth 12
 
