@@ -9,6 +9,7 @@ mod leaf;
 pub mod lifetime;
 pub mod lit;
 pub mod mac;
+mod parse;
 pub mod path;
 pub mod print;
 pub mod punctuated;
