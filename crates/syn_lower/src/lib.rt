@@ -4,7 +4,10 @@
 
 pub mod attr;
 pub mod block;
+mod fn_pointer;
 mod front;
+mod grammar;
+mod kept;
 mod leaf;
 pub mod lifetime;
 pub mod lit;
@@ -13,5 +16,6 @@ mod parse;
 pub mod path;
 pub mod print;
 pub mod punctuated;
+mod qualified;
 mod text;
 pub mod ty;

@@ -1,7 +1,7 @@
 //! Values with puncts between.
 
 ghost use Rattle.std.specs.Iterator.{YieldsFirstRef, item_count};
-ghost use Rattle.std.specs.Prelude.{◌-◌, List, drop, take, ◌≡◌, ◌++◌, [], ◌∷◌, length, true, false, OnOk, OnErr, IsTrue, ◌↔◌, MatchOption};
+ghost use Rattle.std.specs.Prelude.{◌-◌, List, drop, take, ◌≡◌, ◌++◌, [], ◌∷◌, length, true, false, OnOk, OnErr, IsTrue, ◌↔◌, MatchOption, MatchResult};
 
 use std::alloc::{AllocError, Global};
 
@@ -14,7 +14,7 @@ pub struct Punctuated<T, P> {
 
 impl<T: Drop, P: Drop> Punctuated<T, P> {
     ghost use Rattle.syn_lower.specs.View.{values, trails};
-    ghost use Rattle.syn_lower.specs.Punct.{puncts, takes_value, IsSameList};
+    ghost use Rattle.syn_lower.specs.Punct.{puncts, takes_value, is_one, IsSameList};
 
     /// An empty list.
     #[tactic(auto, unfolding(crate::specs::View::values, crate::specs::View::trails, crate::specs::Punct::puncts, crate::specs::Punct::takes_value))]
@@ -73,6 +73,18 @@ impl<T: Drop, P: Drop> Punctuated<T, P> {
             self.inner.push((Box::into_inner(value), punct)).unwrap();
         }
         Ok(())
+    }
+
+    /// The one value, where there is one alone and no punct; else the list.
+    #[tactic(auto, unfolding(crate::specs::View::values, crate::specs::View::trails))]
+    pub(crate) fn into_one(self) -> std::result::Result<Box<T>, Punctuated<T, P>>
+        ensures { MatchResult result (λ b. (values self ≡ b.value ∷ []) × (trails self ≡ false)) (λ p. (p ≡ self) × (is_one (values self) (trails self) ≡ false)) }
+    {
+        let Punctuated { inner, last } = self;
+        match last {
+            Some(value) if inner.is_empty() => Ok(value),
+            last => Err(Punctuated { inner, last }),
+        }
     }
 }
 

@@ -1,0 +1,726 @@
+//! The readers of types and of what they hold.
+//!
+//! They are methods that take the reader of the types inside as a function, so that each is proved by itself; `ty` ties
+//! the knot.
+
+ghost use Rattle.std.specs.Prelude.{not, ◌||◌, ◌≡◌, ◌≤◌, ◌<◌, ◌+◌, ◌++◌, map, true, false, IfOk, Some, None, is_some};
+ghost use Rattle.syn_lexer.specs.declared.lexeme.Delimiter.TheVariants as del;
+ghost use Rattle.syn_lower.specs.Punct.{takes_value};
+ghost use Rattle.syn_lower.specs.Reads.{Reads, Callable, ReadsType};
+ghost use Rattle.syn_lower.specs.View as view;
+ghost use Rattle.syn_parts.specs.Form as form;
+ghost use Rattle.syn_parts.specs.Mark as mark;
+ghost use Rattle.syn_parts.specs.Part as part;
+ghost use Rattle.syn_tokens.specs.Front as front_spec;
+ghost use Rattle.syn_tokens.specs.Tok.{weight};
+ghost use Rattle.syn_tokens.specs.View.{toks_of};
+
+use crate::front;
+use crate::kept::{const_at, constant_tokens, rest_of};
+use crate::leaf::{arg_name, lifetime, lifetime_at, literal_at, name, segment_name, string};
+use crate::lifetime::Lifetime;
+use crate::path::{
+    AngleBracketedGenericArguments, AssocType, GenericArgument, ParenthesizedGenericArguments,
+    Path, PathArguments, PathSegment, QSelf,
+};
+use crate::punctuated::Punctuated;
+use crate::text::stands_alone;
+use crate::ty::{
+    Abi, BareFnArg, BoundLifetimes, PointerMutability, ReturnType, TraitBound, Type, TypeArray,
+    TypeFnPtr, TypeImplTrait, TypeInfer, TypeMacro, TypeNever, TypeParamBound, TypeParen, TypePath,
+    TypePtr, TypeReference, TypeSlice, TypeTraitObject, TypeTuple,
+};
+use std::alloc::{AllocError, Global};
+use syn_lexer::reserved::is_reserved_word;
+use syn_parts::label::PathStyle;
+use syn_tokens::Spacing;
+use syn_tokens::buffer::{Parse, ParseBuffer, Token};
+use syn_tokens::error::{ErrorKind, Expected, Part, Result, Wanted};
+use syn_tokens::token::{
+    And, Bracket, Comma, Const, Dyn, Eq, EqEq, FatArrow, For, Gt, Impl, Le, Lt, Mut, Paren,
+    PathSep, Plus, Star,
+};
+use syn_tokens::tree::TokenTree;
+
+/// The readers over that of the types inside.
+#[derive(Clone, Copy)]
+pub(crate) struct Grammar<F> {
+    pub(crate) ty: F,
+}
+
+/// Whether `<` stands first that doesn't begin `<=`.
+#[tactic(auto, unfolding(syn_tokens::specs::Sign::sign_text, syn_parts::specs::Mark::sign_at))]
+fn lt_at(rest: &[TokenTree]) -> bool
+    ensures { result ≡ mark.lt.at (toks_of rest.now) }
+{
+    Lt::peek(rest) && !Le::peek(rest)
+}
+
+/// Whether `::` and `<` stand first.
+#[tactic(auto, unfolding(syn_parts::specs::Part::turbofish_at, syn_tokens::specs::Sign::sign_text, syn_parts::specs::Mark::sign_at))]
+fn turbofish_at(input: &ParseBuffer<'_>) -> bool
+    ensures { result ≡ part.turbofish_at input.now.rest }
+{
+    match input.trees() {
+        [_, more @ ..] => match more {
+            [_, behind @ ..] => input.peek::<PathSep>() && lt_at(behind),
+            [] => false,
+        },
+        [] => false,
+    }
+}
+
+/// Whether `<` stands first, `::` before it or not.
+#[tactic(auto, unfolding(syn_parts::specs::Part::angle_at, syn_parts::specs::Part::turbofish_at))]
+fn angle_at(input: &ParseBuffer<'_>) -> bool
+    ensures { result ≡ part.angle_at input.now.rest }
+{
+    lt_at(input.trees()) || turbofish_at(input)
+}
+
+/// A type in a box.
+pub(crate) fn boxed(alloc: Global, ty: Type) -> std::result::Result<Box<Type>, AllocError>
+    ensures { IfOk result (λ b. view.type_of b.value ≡ view.type_of ty) }
+{
+    Ok(Box::new(alloc, ty)?)
+}
+
+impl<F: Fn(&mut ParseBuffer<'_>, bool) -> Result<Box<Type>>> Grammar<F> {
+    /// Reads `->` and a type, or nothing.
+    #[tactic(auto, using(crate::proofs::Makes::makes), unfolding(syn_parts::specs::Part::output))]
+    pub(crate) fn output(&self, input: &mut ParseBuffer<'_>, several: bool) -> Result<ReturnType>
+        requires callable { Callable (weight input.old.rest) (F.pre self.now.ty) }
+        requires reads { ReadsType (F.post self.now.ty) }
+        ensures value { Reads view.return_of ((part.output part.type several).reads input.old.rest) result input.new.rest }
+        ensures noted { input.new.noted ≡ input.old.noted }
+        ensures shrinks { weight input.new.rest ≤ weight input.old.rest }
+    {
+        let Some(arrow) = front::arrow(input) else {
+            return Ok(ReturnType::Default);
+        };
+        let ty = (self.ty)(input, several)?;
+        Ok(ReturnType::Given(arrow, ty))
+    }
+
+    /// Reads types with commas between, to the end of a group.
+    #[tactic(auto, using(crate::proofs::Loops::types))]
+    fn types(&self, input: &mut ParseBuffer<'_>) -> Result<Punctuated<Type, Comma>>
+        requires callable { Callable (weight input.old.rest + 1) (F.pre self.now.ty) }
+        requires reads { ReadsType (F.post self.now.ty) }
+        ensures value { Reads (λ p. (map view.type_of (view.values p), view.trails p)) ((form.listed mark.comma front_spec.is_empty (part.type true)).reads input.old.rest) result input.new.rest }
+        ensures noted { input.new.noted ≡ input.old.noted }
+        ensures shrinks { weight input.new.rest ≤ weight input.old.rest }
+    {
+        let mut found = Punctuated::new(input.alloc());
+        if input.is_empty() {
+            return Ok(found);
+        }
+        let first = (self.ty)(input, true)?;
+        found.push_value(Box::into_inner(first))?;
+        'items: while let Some(comma) = front::comma(input) {
+            found.push_punct(comma)?;
+            if input.is_empty() {
+                return Ok(found);
+            }
+            let next = (self.ty)(input, true)?;
+            found.push_value(Box::into_inner(next))?;
+        }
+        Ok(found)
+    }
+
+    /// Reads a reference behind its `&`.
+    #[tactic(auto, using(crate::proofs::Makes::makes), unfolding(syn_parts::specs::Part::reference))]
+    pub(crate) fn reference(&self, input: &mut ParseBuffer<'_>, and_token: And) -> Result<Box<Type>>
+        requires callable { Callable (weight input.old.rest + 1) (F.pre self.now.ty) }
+        requires reads { ReadsType (F.post self.now.ty) }
+        ensures value { Reads (λ x. view.type_of x.value) ((part.reference part.type).reads input.old.rest) result input.new.rest }
+        ensures noted { input.new.noted ≡ input.old.noted }
+        ensures shrinks { weight input.new.rest ≤ weight input.old.rest }
+    {
+        let lifetime = maybe_lifetime(input)?;
+        let mutability = front::mutable(input);
+        let elem = (self.ty)(input, false)?;
+        let reference = TypeReference {
+            and_token,
+            lifetime,
+            mutability,
+            elem,
+        };
+        Ok(boxed(input.alloc(), Type::Reference(reference))?)
+    }
+
+    /// Reads a pointer behind its `*`.
+    #[tactic(auto, using(crate::proofs::Makes::makes), unfolding(syn_parts::specs::Part::pointer))]
+    pub(crate) fn pointer(&self, input: &mut ParseBuffer<'_>, star_token: Star) -> Result<Box<Type>>
+        requires callable { Callable (weight input.old.rest + 1) (F.pre self.now.ty) }
+        requires reads { ReadsType (F.post self.now.ty) }
+        ensures value { Reads (λ x. view.type_of x.value) ((part.pointer part.type).reads input.old.rest) result input.new.rest }
+        ensures noted { input.new.noted ≡ input.old.noted }
+        ensures shrinks { weight input.new.rest ≤ weight input.old.rest }
+    {
+        let mutability = pointer_mutability(input)?;
+        let elem = (self.ty)(input, false)?;
+        let pointer = TypePtr {
+            star_token,
+            mutability,
+            elem,
+        };
+        Ok(boxed(input.alloc(), Type::Ptr(pointer))?)
+    }
+
+    /// Reads the inside of the brackets of a slice or an array.
+    #[tactic(auto, using(crate::proofs::Makes::makes), unfolding(syn_parts::specs::Part::slice_or_array))]
+    fn slice_or_array(
+        &self,
+        input: &mut ParseBuffer<'_>,
+        bracket_token: Bracket,
+    ) -> Result<Box<Type>>
+        requires callable { Callable (weight input.old.rest + 1) (F.pre self.now.ty) }
+        requires reads { ReadsType (F.post self.now.ty) }
+        ensures value { Reads (λ x. view.type_of x.value) ((part.slice_or_array part.type).reads input.old.rest) result input.new.rest }
+        ensures noted { input.new.noted ≡ input.old.noted }
+        ensures shrinks { weight input.new.rest ≤ weight input.old.rest }
+    {
+        let elem = (self.ty)(input, true)?;
+        let Some(semi_token) = front::semi(input) else {
+            let slice = TypeSlice {
+                bracket_token,
+                elem,
+            };
+            return Ok(boxed(input.alloc(), Type::Slice(slice))?);
+        };
+        let len = rest_of(input)?;
+        let array = TypeArray {
+            bracket_token,
+            elem,
+            semi_token,
+            len,
+        };
+        Ok(boxed(input.alloc(), Type::Array(array))?)
+    }
+
+    /// Reads a slice or an array.
+    #[tactic(auto)]
+    pub(crate) fn bracket(&self, input: &mut ParseBuffer<'_>) -> Result<Box<Type>>
+        requires callable { Callable (weight input.old.rest) (F.pre self.now.ty) }
+        requires reads { ReadsType (F.post self.now.ty) }
+        ensures value { Reads (λ x. view.type_of x.value) ((form.inside del.Bracket (part.slice_or_array part.type)).reads input.old.rest) result input.new.rest }
+        ensures noted { input.new.noted ≡ input.old.noted }
+        ensures shrinks { weight input.new.rest ≤ weight input.old.rest }
+    {
+        let (bracket_token, mut content) = input.parse_brackets()?;
+        let x = self.slice_or_array(&mut content, bracket_token)?;
+        if !content.is_empty() {
+            return Err(content.error(ErrorKind::UnexpectedToken));
+        }
+        Ok(x)
+    }
+
+    /// Reads the inside of the parentheses of a tuple, or a type in parentheses.
+    #[tactic(auto, using(crate::proofs::Makes::makes), unfolding(syn_parts::specs::Part::tuple_or_paren))]
+    fn tuple_or_paren(&self, input: &mut ParseBuffer<'_>, paren_token: Paren) -> Result<Box<Type>>
+        requires callable { Callable (weight input.old.rest + 1) (F.pre self.now.ty) }
+        requires reads { ReadsType (F.post self.now.ty) }
+        ensures value { Reads (λ x. view.type_of x.value) ((part.tuple_or_paren part.type).reads input.old.rest) result input.new.rest }
+        ensures noted { input.new.noted ≡ input.old.noted }
+        ensures shrinks { weight input.new.rest ≤ weight input.old.rest }
+    {
+        let elems = self.types(input)?;
+        match elems.into_one() {
+            Ok(elem) => {
+                let paren = TypeParen { paren_token, elem };
+                Ok(boxed(input.alloc(), Type::Paren(paren))?)
+            }
+            Err(elems) => {
+                let tuple = TypeTuple { paren_token, elems };
+                Ok(boxed(input.alloc(), Type::Tuple(tuple))?)
+            }
+        }
+    }
+
+    /// Reads a tuple, or a type in parentheses.
+    #[tactic(auto)]
+    pub(crate) fn parens(&self, input: &mut ParseBuffer<'_>) -> Result<Box<Type>>
+        requires callable { Callable (weight input.old.rest) (F.pre self.now.ty) }
+        requires reads { ReadsType (F.post self.now.ty) }
+        ensures value { Reads (λ x. view.type_of x.value) ((form.inside del.Parenthesis (part.tuple_or_paren part.type)).reads input.old.rest) result input.new.rest }
+        ensures noted { input.new.noted ≡ input.old.noted }
+        ensures shrinks { weight input.new.rest ≤ weight input.old.rest }
+    {
+        let (paren_token, mut content) = input.parse_parens()?;
+        let x = self.tuple_or_paren(&mut content, paren_token)?;
+        if !content.is_empty() {
+            return Err(content.error(ErrorKind::UnexpectedToken));
+        }
+        Ok(x)
+    }
+
+    /// Reads an argument between `<` and `>`.
+    #[tactic(auto, using(crate::proofs::Makes::makes), unfolding(syn_parts::specs::Part::generic))]
+    fn generic(&self, input: &mut ParseBuffer<'_>) -> Result<GenericArgument>
+        requires callable { Callable (weight input.old.rest + 1) (F.pre self.now.ty) }
+        requires reads { ReadsType (F.post self.now.ty) }
+        ensures value { Reads view.generic_of ((part.generic part.type).reads input.old.rest) result input.new.rest }
+        ensures noted { input.new.noted ≡ input.old.noted }
+        ensures shrinks { weight input.new.rest ≤ weight input.old.rest }
+    {
+        if lifetime_at(input) {
+            return Ok(GenericArgument::Lifetime(lifetime(input)?));
+        }
+        if const_at(input) {
+            return Ok(GenericArgument::Const(constant_tokens(input)?));
+        }
+        if assoc_at(input) {
+            return self.assoc(input);
+        }
+        let ty = (self.ty)(input, true)?;
+        Ok(GenericArgument::Ty(Box::into_inner(ty)))
+    }
+
+    /// Reads a name, `=` and a type.
+    #[tactic(auto, using(crate::proofs::Makes::makes))]
+    fn assoc(&self, input: &mut ParseBuffer<'_>) -> Result<GenericArgument>
+        requires callable { Callable (weight input.old.rest + 1) (F.pre self.now.ty) }
+        requires reads { ReadsType (F.post self.now.ty) }
+        ensures value { Reads view.generic_of ((form.shown part.to_assoc part.from_assoc (form.both part.name (form.mark mark.eq (part.type true)))).reads input.old.rest) result input.new.rest }
+        ensures noted { input.new.noted ≡ input.old.noted }
+        ensures shrinks { weight input.new.rest ≤ weight input.old.rest }
+    {
+        let ident = name(input)?;
+        let Some(eq_token) = front::eq(input) else {
+            return Err(input.error(ErrorKind::ExpectedToken(Expected::One(Eq::wanted()))));
+        };
+        let ty = (self.ty)(input, true)?;
+        let ty = Box::into_inner(ty);
+        Ok(GenericArgument::AssocType(AssocType {
+            ident,
+            eq_token,
+            ty,
+        }))
+    }
+
+    /// Reads arguments with commas between, before `>`.
+    #[tactic(auto, using(crate::proofs::Loops::generics))]
+    fn generics(&self, input: &mut ParseBuffer<'_>) -> Result<Punctuated<GenericArgument, Comma>>
+        requires callable { Callable (weight input.old.rest + 1) (F.pre self.now.ty) }
+        requires reads { ReadsType (F.post self.now.ty) }
+        ensures value { Reads (λ p. (map view.generic_of (view.values p), view.trails p)) ((form.listed mark.comma mark.gt.at (part.generic part.type)).reads input.old.rest) result input.new.rest }
+        ensures noted { input.new.noted ≡ input.old.noted }
+        ensures shrinks { weight input.new.rest ≤ weight input.old.rest }
+    {
+        let mut found = Punctuated::new(input.alloc());
+        if gt_at(input) {
+            return Ok(found);
+        }
+        found.push_value(self.generic(input)?)?;
+        'items: while let Some(comma) = front::comma(input) {
+            found.push_punct(comma)?;
+            if gt_at(input) {
+                return Ok(found);
+            }
+            found.push_value(self.generic(input)?)?;
+        }
+        Ok(found)
+    }
+
+    /// Reads arguments between `<` and `>`, behind `::` or not.
+    #[tactic(auto, unfolding(syn_parts::specs::Part::angle_bracketed, syn_parts::specs::Part::angle))]
+    fn angle(&self, input: &mut ParseBuffer<'_>) -> Result<AngleBracketedGenericArguments>
+        requires callable { Callable (weight input.old.rest) (F.pre self.now.ty) }
+        requires reads { ReadsType (F.post self.now.ty) }
+        ensures value { Reads (view.angle_of view.generic_of) ((part.angle_bracketed part.type).reads input.old.rest) result input.new.rest }
+        ensures noted { input.new.noted ≡ input.old.noted }
+        ensures shrinks { weight input.new.rest ≤ weight input.old.rest }
+    {
+        let colon2_token = front::colon2(input);
+        let Some(lt_token) = front::lt(input) else {
+            return Err(input.error(ErrorKind::ExpectedToken(Expected::One(Lt::wanted()))));
+        };
+        let args = self.generics(input)?;
+        let Some(gt_token) = front::gt(input) else {
+            return Err(input.error(ErrorKind::ExpectedToken(Expected::One(Gt::wanted()))));
+        };
+        Ok(AngleBracketedGenericArguments {
+            colon2_token,
+            lt_token,
+            args,
+            gt_token,
+        })
+    }
+
+    /// Reads types in parentheses, to the end of the group.
+    #[tactic(auto)]
+    fn inputs(&self, input: &mut ParseBuffer<'_>) -> Result<(Paren, Punctuated<Type, Comma>)>
+        requires callable { Callable (weight input.old.rest) (F.pre self.now.ty) }
+        requires reads { ReadsType (F.post self.now.ty) }
+        ensures value { Reads (λ p. (map view.type_of (view.values p.1), view.trails p.1)) ((form.inside del.Parenthesis (form.listed mark.comma front_spec.is_empty (part.type true))).reads input.old.rest) result input.new.rest }
+        ensures noted { input.new.noted ≡ input.old.noted }
+        ensures shrinks { weight input.new.rest ≤ weight input.old.rest }
+    {
+        let (paren_token, mut content) = input.parse_parens()?;
+        let inputs = self.types(&mut content)?;
+        if !content.is_empty() {
+            return Err(content.error(ErrorKind::UnexpectedToken));
+        }
+        Ok((paren_token, inputs))
+    }
+
+    /// Reads types in parentheses, and what follows them.
+    #[tactic(auto, using(crate::proofs::Makes::makes), unfolding(syn_parts::specs::Part::parenthesized))]
+    fn parenthesized(&self, input: &mut ParseBuffer<'_>) -> Result<ParenthesizedGenericArguments>
+        requires callable { Callable (weight input.old.rest) (F.pre self.now.ty) }
+        requires reads { ReadsType (F.post self.now.ty) }
+        ensures value { Reads view.round_of ((part.parenthesized part.type).reads input.old.rest) result input.new.rest }
+        ensures noted { input.new.noted ≡ input.old.noted }
+        ensures shrinks { weight input.new.rest ≤ weight input.old.rest }
+    {
+        let (paren_token, inputs) = self.inputs(input)?;
+        let output = self.output(input, false)?;
+        Ok(ParenthesizedGenericArguments {
+            paren_token,
+            inputs,
+            output,
+        })
+    }
+
+    /// Reads what may stand behind the word of a segment.
+    #[tactic(auto, using(crate::proofs::Makes::makes), unfolding(syn_parts::specs::Part::arguments, syn_parts::specs::Part::no_arguments))]
+    fn arguments(&self, input: &mut ParseBuffer<'_>, style: PathStyle) -> Result<PathArguments>
+        requires callable { Callable (weight input.old.rest) (F.pre self.now.ty) }
+        requires reads { ReadsType (F.post self.now.ty) }
+        ensures value { Reads view.arguments_of ((part.arguments part.type style).reads input.old.rest) result input.new.rest }
+        ensures noted { input.new.noted ≡ input.old.noted }
+        ensures shrinks { weight input.new.rest ≤ weight input.old.rest }
+    {
+        match style {
+            PathStyle::Expr if turbofish_at(input) => {
+                Ok(PathArguments::AngleBracketed(self.angle(input)?))
+            }
+            PathStyle::Type if angle_at(input) => {
+                Ok(PathArguments::AngleBracketed(self.angle(input)?))
+            }
+            PathStyle::Type if round_at(input) => {
+                Ok(PathArguments::Parenthesized(self.parenthesized(input)?))
+            }
+            _ => Ok(PathArguments::None),
+        }
+    }
+
+    /// Reads a segment of a path.
+    #[tactic(auto, using(crate::proofs::Makes::makes), unfolding(syn_parts::specs::Part::segment, syn_parts::specs::Part::no_arguments))]
+    fn segment(&self, input: &mut ParseBuffer<'_>, style: PathStyle) -> Result<PathSegment>
+        requires callable { Callable (weight input.old.rest) (F.pre self.now.ty) }
+        requires reads { ReadsType (F.post self.now.ty) }
+        ensures value { Reads (view.segment_of view.arguments_of) ((part.segment part.type style).reads input.old.rest) result input.new.rest }
+        ensures noted { input.new.noted ≡ input.old.noted }
+        ensures shrinks { weight input.new.rest ≤ weight input.old.rest }
+    {
+        let ident = segment_name(input)?;
+        if stands_alone(ident.as_str()) {
+            let arguments = PathArguments::None;
+            return Ok(PathSegment { ident, arguments });
+        }
+        let arguments = self.arguments(input, style)?;
+        Ok(PathSegment { ident, arguments })
+    }
+
+    /// Reads segments with `::` between behind others.
+    #[tactic(auto, using(crate::proofs::Loops::segments))]
+    pub(crate) fn segments(
+        &self,
+        input: &mut ParseBuffer<'_>,
+        style: PathStyle,
+        mut found: Punctuated<PathSegment, PathSep>,
+    ) -> Result<Punctuated<PathSegment, PathSep>>
+        requires callable { Callable (weight input.old.rest) (F.pre self.now.ty) }
+        requires reads { ReadsType (F.post self.now.ty) }
+        requires open { takes_value found ≡ true }
+        ensures value { Reads (λ p. map (view.segment_of view.arguments_of) (view.values p)) (form.extend_more (map (view.segment_of view.arguments_of) (view.values found)) ((form.joined mark.colon2 (part.segment part.type style)).reads input.old.rest)) result input.new.rest }
+        ensures trails { IfOk result (λ p. view.trails p ≡ false) }
+        ensures ready { IfOk result (λ p. takes_value p ≡ false) }
+        ensures noted { input.new.noted ≡ input.old.noted }
+        ensures shrinks { weight input.new.rest ≤ weight input.old.rest }
+    {
+        found.push_value(self.segment(input, style)?)?;
+        'items: while let Some(colons) = front::colon2(input) {
+            found.push_punct(colons)?;
+            found.push_value(self.segment(input, style)?)?;
+        }
+        Ok(found)
+    }
+
+    /// Reads a path.
+    #[tactic(auto, using(crate::proofs::Loops::nothing), unfolding(syn_parts::specs::Part::path, syn_parts::specs::Part::pieces))]
+    pub(crate) fn path(&self, input: &mut ParseBuffer<'_>, style: PathStyle) -> Result<Path>
+        requires callable { Callable (weight input.old.rest) (F.pre self.now.ty) }
+        requires reads { ReadsType (F.post self.now.ty) }
+        ensures value { Reads (view.path_of view.arguments_of) ((part.path part.type style).reads input.old.rest) result input.new.rest }
+        ensures noted { input.new.noted ≡ input.old.noted }
+        ensures shrinks { weight input.new.rest ≤ weight input.old.rest }
+    {
+        let leading_colon = front::colon2(input);
+        let found = Punctuated::new(input.alloc());
+        let segments = self.segments(input, style, found)?;
+        Ok(Path {
+            leading_colon,
+            segments,
+        })
+    }
+
+    /// Reads a bound.
+    #[tactic(auto, using(crate::proofs::Makes::makes), unfolding(syn_parts::specs::Part::bound))]
+    fn bound(&self, input: &mut ParseBuffer<'_>) -> Result<TypeParamBound>
+        requires callable { Callable (weight input.old.rest) (F.pre self.now.ty) }
+        requires reads { ReadsType (F.post self.now.ty) }
+        ensures value { Reads view.bound_of ((part.bound part.type).reads input.old.rest) result input.new.rest }
+        ensures noted { input.new.noted ≡ input.old.noted }
+        ensures shrinks { weight input.new.rest ≤ weight input.old.rest }
+    {
+        if lifetime_at(input) {
+            return Ok(TypeParamBound::Lifetime(lifetime(input)?));
+        }
+        self.trait_bound(input)
+    }
+
+    /// Reads a trait as a bound.
+    #[tactic(auto, using(crate::proofs::Makes::makes))]
+    fn trait_bound(&self, input: &mut ParseBuffer<'_>) -> Result<TypeParamBound>
+        requires callable { Callable (weight input.old.rest) (F.pre self.now.ty) }
+        requires reads { ReadsType (F.post self.now.ty) }
+        ensures value { Reads view.bound_of ((form.shown part.to_trait part.from_trait (form.both (form.flag mark.question) (form.both (form.maybe part.lifetimes_at part.lifetimes) (part.path part.type PathStyle.Type)))).reads input.old.rest) result input.new.rest }
+        ensures noted { input.new.noted ≡ input.old.noted }
+        ensures shrinks { weight input.new.rest ≤ weight input.old.rest }
+    {
+        let maybe = front::question(input);
+        let lifetimes = maybe_lifetimes(input)?;
+        let path = self.path(input, PathStyle::Type)?;
+        Ok(TypeParamBound::Trait(TraitBound {
+            maybe,
+            lifetimes,
+            path,
+        }))
+    }
+
+    /// Reads bounds with `+` between, or one where only one may stand.
+    #[tactic(auto, using(crate::proofs::Loops::bounds), unfolding(syn_parts::specs::Part::bounds))]
+    fn bounds(
+        &self,
+        input: &mut ParseBuffer<'_>,
+        several: bool,
+    ) -> Result<Punctuated<TypeParamBound, Plus>>
+        requires callable { Callable (weight input.old.rest) (F.pre self.now.ty) }
+        requires reads { ReadsType (F.post self.now.ty) }
+        ensures value { Reads (λ p. (map view.bound_of (view.values p), view.trails p)) ((part.bounds part.type several).reads input.old.rest) result input.new.rest }
+        ensures noted { input.new.noted ≡ input.old.noted }
+        ensures shrinks { weight input.new.rest ≤ weight input.old.rest }
+    {
+        let mut found = Punctuated::new(input.alloc());
+        found.push_value(self.bound(input)?)?;
+        if !several {
+            return Ok(found);
+        }
+        'items: while let Some(plus) = front::plus(input) {
+            found.push_punct(plus)?;
+            found.push_value(self.bound(input)?)?;
+        }
+        Ok(found)
+    }
+
+    /// Reads the bounds behind `impl`.
+    #[tactic(auto, using(crate::proofs::Makes::makes), unfolding(syn_parts::specs::Part::implements))]
+    pub(crate) fn implements(
+        &self,
+        input: &mut ParseBuffer<'_>,
+        impl_token: Impl,
+        several: bool,
+    ) -> Result<Box<Type>>
+        requires callable { Callable (weight input.old.rest) (F.pre self.now.ty) }
+        requires reads { ReadsType (F.post self.now.ty) }
+        ensures value { Reads (λ x. view.type_of x.value) ((part.implements part.type several).reads input.old.rest) result input.new.rest }
+        ensures noted { input.new.noted ≡ input.old.noted }
+        ensures shrinks { weight input.new.rest ≤ weight input.old.rest }
+    {
+        let bounds = self.bounds(input, several)?;
+        let implements = TypeImplTrait { impl_token, bounds };
+        Ok(boxed(input.alloc(), Type::ImplTrait(implements))?)
+    }
+
+    /// Reads the bounds behind `dyn`.
+    #[tactic(auto, using(crate::proofs::Makes::makes), unfolding(syn_parts::specs::Part::object))]
+    pub(crate) fn object(
+        &self,
+        input: &mut ParseBuffer<'_>,
+        dyn_token: Dyn,
+        several: bool,
+    ) -> Result<Box<Type>>
+        requires callable { Callable (weight input.old.rest) (F.pre self.now.ty) }
+        requires reads { ReadsType (F.post self.now.ty) }
+        ensures value { Reads (λ x. view.type_of x.value) ((part.object part.type several).reads input.old.rest) result input.new.rest }
+        ensures noted { input.new.noted ≡ input.old.noted }
+        ensures shrinks { weight input.new.rest ≤ weight input.old.rest }
+    {
+        let bounds = self.bounds(input, several)?;
+        let object = TypeTraitObject { dyn_token, bounds };
+        Ok(boxed(input.alloc(), Type::TraitObject(object))?)
+    }
+}
+
+/// Reads a lifetime, if one stands first.
+fn maybe_lifetime(input: &mut ParseBuffer<'_>) -> Result<Option<Lifetime>>
+    ensures value { Reads (view.mapped view.lifetime_of) ((form.maybe mark.lifetime_at part.lifetime).reads input.old.rest) result input.new.rest }
+    ensures noted { input.new.noted ≡ input.old.noted }
+    ensures shrinks { weight input.new.rest ≤ weight input.old.rest }
+{
+    if lifetime_at(input) {
+        Ok(Some(lifetime(input)?))
+    } else {
+        Ok(None)
+    }
+}
+
+/// Reads `mut` or `const`.
+fn pointer_mutability(input: &mut ParseBuffer<'_>) -> Result<PointerMutability>
+    ensures value { Reads view.is_mut ((form.case mark.mutable (form.pure true form.is_true) (form.mark mark.constant (form.pure false not))).reads input.old.rest) result input.new.rest }
+    ensures noted { input.new.noted ≡ input.old.noted }
+    ensures shrinks { weight input.new.rest ≤ weight input.old.rest }
+{
+    if let Some(word) = front::mutable(input) {
+        return Ok(PointerMutability::Mut(word));
+    }
+    if let Some(word) = front::constant(input) {
+        return Ok(PointerMutability::Const(word));
+    }
+    let wanted = Expected::Two(Mut::wanted(), Const::wanted());
+    Err(input.error(ErrorKind::ExpectedToken(wanted)))
+}
+
+/// Whether `>` stands first.
+#[tactic(auto, unfolding(syn_tokens::specs::Sign::sign_text, syn_parts::specs::Mark::sign_at))]
+fn gt_at(input: &ParseBuffer<'_>) -> bool
+    ensures { result ≡ mark.gt.at input.now.rest }
+{
+    input.peek::<Gt>()
+}
+
+/// Whether parentheses stand first.
+#[tactic(auto, unfolding(syn_parts::specs::Mark::round_at))]
+fn round_at(input: &ParseBuffer<'_>) -> bool
+    ensures { result ≡ mark.round_at input.now.rest }
+{
+    input.peek::<Paren>()
+}
+
+/// Whether `=` stands first that begins neither `==` nor `=>`.
+#[tactic(auto, unfolding(syn_tokens::specs::Sign::sign_text, syn_parts::specs::Mark::sign_at))]
+fn eq_at(rest: &[TokenTree]) -> bool
+    ensures { result ≡ mark.eq.at (toks_of rest.now) }
+{
+    Eq::peek(rest) && !EqEq::peek(rest) && !FatArrow::peek(rest)
+}
+
+/// Whether a name and a single `=` stand first.
+#[tactic(auto, unfolding(syn_parts::specs::Part::assoc_at))]
+fn assoc_at(input: &ParseBuffer<'_>) -> bool
+    ensures { result ≡ part.assoc_at input.now.rest }
+{
+    match input.trees() {
+        [TokenTree::Ident(word), more @ ..] => !is_reserved_word(word.as_str()) && eq_at(more),
+        _ => false,
+    }
+}
+
+/// Whether a lifetime or `>` stands first.
+#[tactic(auto, unfolding(syn_tokens::specs::Sign::sign_text, syn_parts::specs::Mark::sign_at, syn_parts::specs::Mark::lifetime_at))]
+fn lifetimes_behind(rest: &[TokenTree]) -> bool
+    ensures { result ≡ (mark.gt.at (toks_of rest.now) || mark.lifetime_at (toks_of rest.now)) }
+{
+    match rest {
+        [TokenTree::Punct(quote), more @ ..]
+            if quote.ch == '\'' && quote.spacing == Spacing::Joint => {
+            matches!(more, [TokenTree::Ident(_), ..])
+        }
+        _ => Gt::peek(rest),
+    }
+}
+
+/// Whether `<` stands first.
+#[tactic(auto, unfolding(syn_tokens::specs::Sign::sign_text, syn_parts::specs::Mark::sign_at))]
+fn less_at(rest: &[TokenTree]) -> bool
+    ensures { result ≡ mark.less.at (toks_of rest.now) }
+{
+    Lt::peek(rest)
+}
+
+/// Whether lifetimes of a bound stand first: `for` and `<`, and then `>` or a lifetime.
+#[tactic(auto, unfolding(syn_parts::specs::Part::lifetimes_at, syn_tokens::specs::Sign::word_text, syn_parts::specs::Mark::word_at, syn_parts::specs::Mark::sign_at))]
+pub(crate) fn lifetimes_at(input: &ParseBuffer<'_>) -> bool
+    ensures { result ≡ part.lifetimes_at input.now.rest }
+{
+    match input.trees() {
+        [_, more @ ..] if input.peek::<For>() => match more {
+            [_, behind @ ..] => less_at(more) && lifetimes_behind(behind),
+            [] => false,
+        },
+        _ => false,
+    }
+}
+
+/// Reads lifetimes with commas between, before `>`.
+#[tactic(auto, using(crate::proofs::Loops::lifetimes))]
+fn lifetime_list(input: &mut ParseBuffer<'_>) -> Result<Punctuated<Lifetime, Comma>>
+    ensures value { Reads (λ p. (map view.lifetime_of (view.values p), view.trails p)) ((form.listed mark.comma mark.gt.at part.lifetime).reads input.old.rest) result input.new.rest }
+    ensures noted { input.new.noted ≡ input.old.noted }
+    ensures shrinks { weight input.new.rest ≤ weight input.old.rest }
+{
+    let mut found = Punctuated::new(input.alloc());
+    if gt_at(input) {
+        return Ok(found);
+    }
+    found.push_value(lifetime(input)?)?;
+    'items: while let Some(comma) = front::comma(input) {
+        found.push_punct(comma)?;
+        if gt_at(input) {
+            return Ok(found);
+        }
+        found.push_value(lifetime(input)?)?;
+    }
+    Ok(found)
+}
+
+/// Reads `for` and lifetimes between `<` and `>`.
+#[tactic(auto, unfolding(syn_parts::specs::Part::lifetimes))]
+pub(crate) fn lifetimes(input: &mut ParseBuffer<'_>) -> Result<BoundLifetimes>
+    ensures value { Reads view.lifetimes_of (part.lifetimes.reads input.old.rest) result input.new.rest }
+    ensures noted { input.new.noted ≡ input.old.noted }
+    ensures shrinks { weight input.new.rest ≤ weight input.old.rest }
+{
+    let Some(for_token) = front::for_word(input) else {
+        return Err(input.error(ErrorKind::ExpectedToken(Expected::One(For::wanted()))));
+    };
+    let Some(lt_token) = front::less(input) else {
+        return Err(input.error(ErrorKind::ExpectedToken(Expected::One(Lt::wanted()))));
+    };
+    let lifetimes = lifetime_list(input)?;
+    let Some(gt_token) = front::gt(input) else {
+        return Err(input.error(ErrorKind::ExpectedToken(Expected::One(Gt::wanted()))));
+    };
+    Ok(BoundLifetimes {
+        for_token,
+        lt_token,
+        lifetimes,
+        gt_token,
+    })
+}
+
+/// Reads the lifetimes of a bound, if they stand first.
+pub(crate) fn maybe_lifetimes(input: &mut ParseBuffer<'_>) -> Result<Option<BoundLifetimes>>
+    ensures value { Reads (view.mapped view.lifetimes_of) ((form.maybe part.lifetimes_at part.lifetimes).reads input.old.rest) result input.new.rest }
+    ensures noted { input.new.noted ≡ input.old.noted }
+    ensures shrinks { weight input.new.rest ≤ weight input.old.rest }
+{
+    if lifetimes_at(input) {
+        Ok(Some(lifetimes(input)?))
+    } else {
+        Ok(None)
+    }
+}
