@@ -6,17 +6,20 @@ ghost use Rattle.syn_lexer.specs.ErrorText as spec;
 /// What the lexer refuses.
 #[derive(Clone, Copy, Debug, PartialEq, Eq, Hash)]
 pub enum LexError {
-    /// A doc comment: `///`, `//!`, `/**` or `/*!`.
+    /// A doc comment: `///`, `//!`, `/**` or `/*!` (Rust Reference, "Comments"). No layer here makes attributes of
+    /// them.
     DocComment,
-    /// A block comment that is not closed.
+    /// A block comment that is not closed, up to the end of the text (Rust Reference, "Comments").
     UnterminatedComment,
-    /// `r#_`, `r#self`, `r#Self`, `r#super` or `r#crate`.
+    /// `r#_`, `r#self`, `r#Self`, `r#super` or `r#crate` (Rust Reference, "Identifiers").
     ReservedRawIdentifier,
-    /// A number with a missing digit or one outside of its base, or a quote that is not closed.
+    /// A number with a missing digit or one outside of its base, or a quote that is not closed (Rust Reference,
+    /// "Tokens", "Literals").
     MalformedLiteral,
-    /// A `'` that begins neither a character nor a lifetime.
+    /// A `'` that begins neither a character nor a lifetime, or a raw lifetime (Rust Reference, "Tokens", "Lifetimes
+    /// and loop labels").
     MalformedLifetime,
-    /// A delimiter that is opened and not closed.
+    /// A delimiter that is opened and not closed (Rust Reference, "Tokens", "Delimiters").
     UnclosedDelimiter,
     /// A closing delimiter where none or another one is open.
     UnexpectedClosingDelimiter,

@@ -144,7 +144,8 @@ fn reading(text: &[char]) -> Result<Lexeme, Refusal>
 }
 
 /// The longest lexeme at the front of a text that has characters (Rust Reference, "Lexical structure"), or why it
-/// is refused. Doc comments are refused, and the texts of literals are not looked into.
+/// is refused: each `LexError` says when, but those of delimiters never come here. The texts of literals are not looked
+/// into. Lengths are in characters; no memory is taken.
 pub fn front(text: &[char]) -> Result<Lexeme, Refusal>
     requires { 0 < length text.now }
     ensures value { MatchResult result (λ x. spec.front text.now ≡ Some (x.kind, x.len)) (λ e. spec.front text.now ≡ None) }
@@ -167,14 +168,15 @@ fn is_whole(text: &[char], kind: LexemeKind) -> bool
     }
 }
 
-/// Whether the whole text is one identifier, raw or not, or a word that is reserved.
+/// Whether the whole text is one identifier, raw or not, or a word that is reserved (Rust Reference, "Identifiers",
+/// "Keywords").
 pub fn is_ident(text: &[char]) -> bool
     ensures { IsTrue result ↔ (spec.front text.now ≡ Some (LexemeKind.Ident, length text.now)) }
 {
     is_whole(text, LexemeKind::Ident)
 }
 
-/// Whether the whole text is one literal, with its suffix.
+/// Whether the whole text is one literal, with its suffix and no sign (Rust Reference, "Tokens", "Literals").
 pub fn is_literal(text: &[char]) -> bool
     ensures { IsTrue result ↔ (spec.front text.now ≡ Some (LexemeKind.Literal, length text.now)) }
 {

@@ -13,7 +13,7 @@ pub enum Delimiter {
     None,
 }
 
-/// Whether another punct follows a punct at once.
+/// Whether another punct follows a punct at once, as `Spacing` of proc_macro2. A comment is no punct.
 #[derive(Clone, Copy, Debug, PartialEq, Eq, Hash)]
 pub enum Spacing {
     /// A blank, another token or the end follows.

@@ -77,6 +77,9 @@ fn blanks(rt: HostRuntime) -> Result<(), Fail> {
     reads(&rt, "/* /* a */ \n */x", BLANK, 15)?;
     reads(&rt, "/*/**/*/x", BLANK, 8)?;
     reads(&rt, "/* ! */", BLANK, 7)?;
+    refuses(&rt, "\u{a0}x", LexError::UnknownCharacter, 1)?;
+    refuses(&rt, "\u{3000}x", LexError::UnknownCharacter, 1)?;
+    refuses(&rt, "\u{8}", LexError::UnknownCharacter, 1)?;
     Ok(())
 }
 
@@ -111,6 +114,9 @@ fn words(rt: HostRuntime) -> Result<(), Fail> {
     reads(&rt, "br#x", IDENT, 2)?;
     reads(&rt, "rb\"x\"", IDENT, 2)?;
     reads(&rt, "bc'a'", IDENT, 2)?;
+    reads(&rt, "a\u{301}b ", IDENT, 3)?;
+    refuses(&rt, "\u{301}a", LexError::UnknownCharacter, 1)?;
+    refuses(&rt, "\u{20ac}", LexError::UnknownCharacter, 1)?;
     refuses(&rt, "r#_", LexError::ReservedRawIdentifier, 3)?;
     refuses(&rt, "r#self.x", LexError::ReservedRawIdentifier, 6)?;
     refuses(&rt, "r#Self", LexError::ReservedRawIdentifier, 6)?;
@@ -141,7 +147,14 @@ fn numbers(rt: HostRuntime) -> Result<(), Fail> {
     reads(&rt, "1E+_3_", LITERAL, 6)?;
     reads(&rt, "2.5e-3f32", LITERAL, 9)?;
     reads(&rt, "1r#x", LITERAL, 2)?;
+    reads(&rt, "1_._", LITERAL, 2)?;
+    reads(&rt, "1.0_u", LITERAL, 5)?;
+    reads(&rt, "7\u{e9}t", LITERAL, 3)?;
     refuses(&rt, "0x", LexError::MalformedLiteral, 2)?;
+    refuses(&rt, "0o_", LexError::MalformedLiteral, 3)?;
+    refuses(&rt, "0b", LexError::MalformedLiteral, 2)?;
+    refuses(&rt, "1e+", LexError::MalformedLiteral, 3)?;
+    refuses(&rt, "1.5E_ ", LexError::MalformedLiteral, 5)?;
     refuses(&rt, "0x_g", LexError::MalformedLiteral, 3)?;
     refuses(&rt, "0b12", LexError::MalformedLiteral, 3)?;
     refuses(&rt, "0o8", LexError::MalformedLiteral, 2)?;
@@ -166,7 +179,13 @@ fn strings(rt: HostRuntime) -> Result<(), Fail> {
     refuses(&rt, "\"a\\\"", LexError::MalformedLiteral, 4)?;
     refuses(&rt, "b\"x", LexError::MalformedLiteral, 3)?;
     refuses(&rt, "r##\"a\"#", LexError::MalformedLiteral, 7)?;
+    reads(&rt, "cr#\"\"\"#", LITERAL, 7)?;
+    reads(&rt, "br\"\\\"", LITERAL, 5)?;
+    reads(&rt, "c\"\\\"\"s", LITERAL, 6)?;
     refuses(&rt, "cr\"", LexError::MalformedLiteral, 3)?;
+    refuses(&rt, "c\"x", LexError::MalformedLiteral, 3)?;
+    refuses(&rt, "br#\"a\"", LexError::MalformedLiteral, 6)?;
+    refuses(&rt, "r\"a\n", LexError::MalformedLiteral, 4)?;
     Ok(())
 }
 
@@ -211,6 +230,32 @@ fn puncts_and_delimiters(rt: HostRuntime) -> Result<(), Fail> {
     reads(&rt, "-/* x */", alone('-'), 1)?;
     reads(&rt, "/=", joint('/'), 1)?;
     reads(&rt, "#[", alone('#'), 1)?;
+    for (c, together, apart) in [
+        ('~', "~?", "~ a"),
+        ('!', "!?", "! a"),
+        ('@', "@?", "@ a"),
+        ('#', "#?", "# a"),
+        ('$', "$?", "$ a"),
+        ('%', "%?", "% a"),
+        ('^', "^?", "^ a"),
+        ('&', "&?", "& a"),
+        ('*', "*?", "* a"),
+        ('-', "-?", "- a"),
+        ('=', "=?", "= a"),
+        ('+', "+?", "+ a"),
+        ('|', "|?", "| a"),
+        (';', ";?", "; a"),
+        (':', ":?", ": a"),
+        (',', ",?", ", a"),
+        ('<', "<?", "< a"),
+        ('.', ".?", ". a"),
+        ('>', ">?", "> a"),
+        ('/', "/?", "/ a"),
+        ('?', "??", "? a"),
+    ] {
+        reads(&rt, together, joint(c), 1)?;
+        reads(&rt, apart, alone(c), 1)?;
+    }
     reads(&rt, "(a", LexemeKind::Open(Delimiter::Parenthesis), 1)?;
     reads(&rt, ")", LexemeKind::Close(Delimiter::Parenthesis), 1)?;
     reads(&rt, "[", LexemeKind::Open(Delimiter::Bracket), 1)?;

@@ -13,3 +13,4 @@ pub mod Lex
 pub mod Nest
 pub mod Closing
 pub mod Floats
+pub mod List

@@ -72,6 +72,7 @@ pub trait Parse {
 
     /// Reads a value. It is read exactly where the front of the list spells one, unless memory runs out; inside
     /// the recursion of a type's own readers call `T::parse(input)`, not `input.parse::<T>()`.
+    /// A list that begins with no value is refused: the reader of each type says as what, and where.
     fn parse(input: &mut ParseBuffer<'_>) -> Result<Self>
         // What was read is spelled.
         ensures read { IfOk result (λ v. input.new.noted ≡ false → spells input.old.rest (seen v) input.new.rest) }
@@ -277,7 +278,7 @@ impl<'a> ParseBuffer<'a> {
         T::peek(past_one(past_one(self.rest)))
     }
 
-    /// Reads a `T`.
+    /// Reads a `T`. It is refused as the reader of `T` refuses it, and tokens may then have been passed over.
     pub fn parse<T: Parse>(&mut self) -> Result<T>
         ensures read { IfOk result (λ v. self.new.noted ≡ false → T.spells self.old.rest (T.seen v) self.new.rest) }
         ensures found { (s : T.Seen) (rest : List Tok) → self.old.noted ≡ false → T.spells self.old.rest s rest → Reaches T.seen s rest result self.new }
@@ -329,6 +330,8 @@ impl<'a> ParseBuffer<'a> {
     }
 
     /// Takes a group in parentheses: its place, and what it encloses. Give the content to `close` once it is read.
+    /// Where none stands first it is refused there as `ExpectedToken`, this delimiter, and nothing changes. It takes no
+    /// memory.
     pub fn parse_parens(&mut self) -> Result<(Paren, ParseBuffer<'a>)>
         ensures value { spec.Enters Delimiter.Parenthesis self.old result self.new }
         ensures moves { IfOk result (λ p. weight p.1.rest + weight self.new.rest < weight self.old.rest) }
@@ -341,6 +344,8 @@ impl<'a> ParseBuffer<'a> {
     }
 
     /// Takes a group in braces: its place, and what it encloses. Give the content to `close` once it is read.
+    /// Where none stands first it is refused there as `ExpectedToken`, this delimiter, and nothing changes. It takes no
+    /// memory.
     pub fn parse_braces(&mut self) -> Result<(Brace, ParseBuffer<'a>)>
         ensures value { spec.Enters Delimiter.Brace self.old result self.new }
         ensures moves { IfOk result (λ p. weight p.1.rest + weight self.new.rest < weight self.old.rest) }
@@ -353,6 +358,8 @@ impl<'a> ParseBuffer<'a> {
     }
 
     /// Takes a group in brackets: its place, and what it encloses. Give the content to `close` once it is read.
+    /// Where none stands first it is refused there as `ExpectedToken`, this delimiter, and nothing changes. It takes no
+    /// memory.
     pub fn parse_brackets(&mut self) -> Result<(Bracket, ParseBuffer<'a>)>
         ensures value { spec.Enters Delimiter.Bracket self.old result self.new }
         ensures moves { IfOk result (λ p. weight p.1.rest + weight self.new.rest < weight self.old.rest) }
@@ -365,6 +372,8 @@ impl<'a> ParseBuffer<'a> {
     }
 
     /// Takes an invisible group: its place, and what it encloses. Give the content to `close` once it is read.
+    /// Where none stands first it is refused there as `ExpectedToken`, this delimiter, and nothing changes. It takes no
+    /// memory.
     pub fn parse_group(&mut self) -> Result<(Group, ParseBuffer<'a>)>
         ensures value { spec.Enters Delimiter.None self.old result self.new }
         ensures moves { IfOk result (λ p. weight p.1.rest + weight self.new.rest < weight self.old.rest) }

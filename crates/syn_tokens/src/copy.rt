@@ -6,21 +6,21 @@ ghost use Rattle.syn_tokens.specs.View.{tok_of, toks_of};
 use crate::tree::{Group, Ident, Literal, TokenStream, TokenTree};
 use std::alloc::{AllocError, Global};
 
-/// A copy of a word, with its place.
+/// A copy of a word, with its place; refused only where memory runs out.
 pub fn copy_ident(alloc: Global, ident: &Ident) -> Result<Ident, AllocError>
     ensures { IfOk result (λ i. i ≡ ident.now) }
 {
     Ok(Ident::read(String::from_str(alloc, ident.as_str())?, ident.span()))
 }
 
-/// A copy of a literal, with its place.
+/// A copy of a literal, with its place; refused only where memory runs out.
 pub fn copy_literal(alloc: Global, literal: &Literal) -> Result<Literal, AllocError>
     ensures { IfOk result (λ l. l ≡ literal.now) }
 {
     Ok(Literal::read(String::from_str(alloc, literal.as_str())?, literal.span()))
 }
 
-/// A copy of a tree, with its places.
+/// A copy of a tree, with its places; refused only where memory runs out.
 #[cycle(copy)]
 #[tactic(auto, using(crate::proofs::Views::insides))]
 pub fn copy_tree(alloc: Global, tree: &TokenTree) -> Result<TokenTree, AllocError>
@@ -41,7 +41,7 @@ pub fn copy_tree(alloc: Global, tree: &TokenTree) -> Result<TokenTree, AllocErro
     }
 }
 
-/// A copy of some trees, with their places.
+/// A copy of some trees, with their places; refused only where memory runs out.
 #[cycle(copy)]
 #[tactic(auto, using(crate::proofs::Views::insides, crate::proofs::Weights::one_at_least), unfolding(crate::specs::Tok::weight))]
 pub fn copy_trees(alloc: Global, trees: &[TokenTree]) -> Result<TokenStream, AllocError>

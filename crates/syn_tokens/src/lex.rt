@@ -16,9 +16,12 @@ use std::alloc::Global;
 use syn_lexer::front::front;
 use syn_lexer::lexeme::LexemeKind;
 
-/// The token trees of a text (Rust Reference, "Tokens"), with places in bytes from its start. Doc comments are refused
-/// as well as what is no token; a refusal spans from the token's first byte to where the lexer stood, of a delimiter
-/// that is not closed the opening one, of a comment the whole comment. Groups may nest without bound.
+/// The token trees of a text (Rust Reference, "Tokens"), with places in bytes from its start. Blanks and comments make
+/// none. Groups may nest without bound.
+///
+/// What is no token is refused as `Lex`, and each `LexError` says when; the first in the text counts, a delimiter that
+/// is not closed last. A refusal spans from the token's first byte to where the lexer stood, of a delimiter that is not
+/// closed the opening one, of a comment the whole comment. Else it is refused only as `OutOfMemory`.
 pub fn lex(alloc: Global, text: &str) -> Result<TokenStream>
     // What is read is what the text falls into.
     ensures read { IfOk result (λ s. spec.Spells (chars text.now) s) }

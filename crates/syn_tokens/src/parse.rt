@@ -35,6 +35,8 @@ impl Parse for Ident {
 
     ghost least = { 1 };
 
+    /// Takes a word that is not reserved, raw or not (Rust Reference, "Identifiers"). Anything else is refused at that
+    /// token as `ExpectedToken`, an identifier; and `OutOfMemory` comes, since the word is copied.
     fn parse(input: &mut ParseBuffer<'_>) -> Result<Self> {
         match input.first() {
             Some(TokenTree::Ident(ident)) if !is_reserved_word(ident.as_str()) => {
@@ -91,6 +93,8 @@ impl Parse for Literal {
 
     ghost least = { 1 };
 
+    /// Takes a literal token (Rust Reference, "Literal expressions"), no sign, `true` or `false`. Anything else is refused
+    /// at that token as `ExpectedPart`, a literal; and `OutOfMemory` comes, since the literal is copied.
     fn parse(input: &mut ParseBuffer<'_>) -> Result<Self> {
         match input.first() {
             Some(TokenTree::Literal(literal)) => {
@@ -123,6 +127,8 @@ impl Parse for TokenTree {
 
     ghost least = { 1 };
 
+    /// Takes the next token or group. The end is refused as `UnexpectedToken`; and `OutOfMemory` comes, since the tree is
+    /// copied.
     fn parse(input: &mut ParseBuffer<'_>) -> Result<Self> {
         match input.first() {
             Some(tree) => {
@@ -155,6 +161,7 @@ impl Parse for TokenStream {
 
     ghost least = { 0 };
 
+    /// Takes all that is left. It is refused only as `OutOfMemory`, since the trees are copied.
     fn parse(input: &mut ParseBuffer<'_>) -> Result<Self> {
         let stream = copy_trees(input.alloc(), input.trees())?;
         input.skip(input.len());

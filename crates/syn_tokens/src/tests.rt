@@ -1,16 +1,17 @@
 //! What no clause says: places, the texts of refusals, and that calls succeed.
 
-use crate::Delimiter;
 use crate::buffer::{Parse, ParseBuffer, ToTokens};
 use crate::copy::copy_tree;
 use crate::error::{AfterCast, Error, ErrorKind, Expected, LexError, Part, Wanted, WantedKind};
 use crate::lex::lex;
+use crate::list::{optional, to_end};
 use crate::parse::parse_any_word;
 use crate::span::Span;
 use crate::text::to_text;
 use crate::token::{Comma, DotDotEq, Plus, Sign, Underscore, Word, Yield};
 use crate::tree::{Ident, Literal, TokenStream, TokenTree};
 use crate::whole::parse_str;
+use crate::{Delimiter, Spacing};
 use std::alloc::Global;
 use std::hash::{DefaultHasher, Hash, Hasher};
 use std::test::Fail;
@@ -41,10 +42,17 @@ fn refused_texts(rt: HostRuntime) -> Result<(), Fail> {
         ("é /*! x */", LexError::DocComment, 3, 11),
         ("a /* /* */", LexError::UnterminatedComment, 2, 10),
         ("r#self", LexError::ReservedRawIdentifier, 0, 6),
+        ("é 0x", LexError::MalformedLiteral, 3, 5),
+        ("é \"é", LexError::MalformedLiteral, 3, 6),
+        ("é '1", LexError::MalformedLifetime, 3, 4),
         ("(a", LexError::UnclosedDelimiter, 0, 1),
+        ("é ( [", LexError::UnclosedDelimiter, 5, 6),
+        ("( a ]", LexError::UnexpectedClosingDelimiter, 4, 5),
+        ("{}}", LexError::UnexpectedClosingDelimiter, 2, 3),
         ("{ [ }", LexError::UnexpectedClosingDelimiter, 4, 5),
         ("é )", LexError::UnexpectedClosingDelimiter, 3, 4),
         ("aé \\", LexError::UnknownCharacter, 4, 5),
+        ("é €", LexError::UnknownCharacter, 3, 6),
     ] {
         match lex(rt.alloc(), text) {
             Ok(_) => assert!(rt; false, "read: {text}"),
@@ -54,6 +62,37 @@ fn refused_texts(rt: HostRuntime) -> Result<(), Fail> {
             }
         }
     }
+    Ok(())
+}
+
+#[test]
+fn places_of_tokens(rt: HostRuntime) -> Result<(), Fail> {
+    let tokens = lex(rt.alloc(), "é 'a += r#b [\"é\"] /* é */ 1.0u8 ({})")?;
+    let mut input = ParseBuffer::new(&tokens)?;
+    assert_eq!(rt;
+        input.spans::<10>().as_slice(),
+        [
+            Span { lo: 0, hi: 2 },
+            Span { lo: 3, hi: 4 },
+            Span { lo: 4, hi: 5 },
+            Span { lo: 6, hi: 7 },
+            Span { lo: 7, hi: 8 },
+            Span { lo: 9, hi: 12 },
+            Span { lo: 13, hi: 19 },
+            Span { lo: 29, hi: 34 },
+            Span { lo: 35, hi: 39 },
+            Span { lo: 39, hi: 39 },
+        ]
+        .as_slice()
+    );
+    input.skip(1);
+    assert!(rt;
+        matches!(input.next(), Some(TokenTree::Punct(quote)) if quote.ch == '\'' && quote.spacing == Spacing::Joint)
+    );
+    assert_eq!(rt; input.parse::<Ident>()?.as_str(), "a");
+    input.skip(3);
+    let (_, content) = input.parse_brackets()?;
+    assert_eq!(rt; content.span(), Span { lo: 14, hi: 18 });
     Ok(())
 }
 
@@ -245,6 +284,44 @@ fn reads_and_prints(rt: HostRuntime) -> Result<(), Fail> {
     Ok(())
 }
 
+#[test]
+fn lists(rt: HostRuntime) -> Result<(), Fail> {
+    for (text, pairs, has_last) in [
+        ("", 0, false),
+        ("a", 0, true),
+        ("a, b,", 2, false),
+        ("a, b, c", 2, true),
+    ] {
+        let tokens = lex(rt.alloc(), text)?;
+        let mut input = ParseBuffer::new(&tokens)?;
+        let (found, last) = to_end::<Ident, Comma>(&mut input)?;
+        assert_eq!(rt; found.len(), pairs, "of {text}");
+        assert_eq!(rt; last.is_some(), has_last, "of {text}");
+    }
+    for (text, wanted, lo, hi) in [
+        ("a b", Comma::wanted(), 2, 3),
+        ("a, , b", Wanted::Identifier, 3, 4),
+    ] {
+        let tokens = lex(rt.alloc(), text)?;
+        match to_end::<Ident, Comma>(&mut ParseBuffer::new(&tokens)?) {
+            Ok(_) => assert!(rt; false, "read: {text}"),
+            Err(e) => assert_eq!(rt;
+                e,
+                Error::new(
+                    Span { lo, hi },
+                    ErrorKind::ExpectedToken(Expected::One(wanted))
+                )
+            ),
+        }
+    }
+    let tokens = lex(rt.alloc(), ", a")?;
+    let mut input = ParseBuffer::new(&tokens)?;
+    assert!(rt; optional::<Comma>(&mut input)?.is_some());
+    assert!(rt; optional::<Comma>(&mut input)?.is_none());
+    assert_eq!(rt; input.len(), 1);
+    Ok(())
+}
+
 /// Wrong refusals of the readers that say what they expect.
 #[test]
 fn refused_readers(rt: HostRuntime) -> Result<(), Fail> {
@@ -325,7 +402,7 @@ fn signs_in_no_list(rt: HostRuntime) -> Result<(), Fail> {
 fn deep_groups(rt: HostRuntime) -> Result<(), Fail> {
     let alloc = rt.alloc();
     let mut text = String::new(alloc);
-    for _ in 0..100_000 {
+    for _ in 0..1_000_000 {
         text.push('(')?;
     }
     match lex(alloc, text.as_str()) {
@@ -334,8 +411,8 @@ fn deep_groups(rt: HostRuntime) -> Result<(), Fail> {
             e,
             Error::new(
                 Span {
-                    lo: 99_999,
-                    hi: 100_000
+                    lo: 999_999,
+                    hi: 1_000_000
                 },
                 ErrorKind::Lex(LexError::UnclosedDelimiter)
             )

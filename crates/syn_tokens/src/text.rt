@@ -12,7 +12,7 @@ use std::alloc::AllocError;
 
 /// The text of a stream: one space between neighbours, but none behind a joint punct; a group is its two delimiters
 /// with its inside between, a brace that is not empty with one space at both ends; an invisible group is its inside
-/// alone. It is refused only where memory runs out.
+/// alone. It is refused only as `OutOfMemory`.
 pub fn to_text(stream: &TokenStream) -> Result<String>
     ensures { MatchResult result (λ s. string_bytes s ≡ spec.text stream.now) (λ e. e.kind ≡ ErrorKind.OutOfMemory) }
 {

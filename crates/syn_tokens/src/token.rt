@@ -434,6 +434,8 @@ impl<const N: usize, const K: usize> Parse for Sign<N, K> {
 
     ghost least = { 1 };
 
+    /// Takes the sign: its puncts, each but the last joint to the next. Anything else is refused at that token as
+    /// `ExpectedToken`, this sign. It takes no memory.
     fn parse(input: &mut ParseBuffer<'_>) -> Result<Self> {
         if !input.peek::<Self>() {
             return Err(input.error(ErrorKind::ExpectedToken(Expected::One(Wanted::Sign(K)))));
@@ -483,6 +485,7 @@ impl<const K: usize> Parse for Word<K> {
 
     ghost least = { 1 };
 
+    /// Takes the word. Anything else is refused at that token as `ExpectedToken`, this word. It takes no memory.
     fn parse(input: &mut ParseBuffer<'_>) -> Result<Self> {
         if !input.peek::<Self>() {
             return Err(input.error(ErrorKind::ExpectedToken(Expected::One(Wanted::Word(K)))));
@@ -528,6 +531,7 @@ impl Parse for Underscore {
 
     ghost least = { 1 };
 
+    /// Takes `_`. Anything else is refused at that token as `ExpectedToken`, `_`. It takes no memory.
     fn parse(input: &mut ParseBuffer<'_>) -> Result<Self> {
         if !input.peek::<Self>() {
             return Err(input.error(ErrorKind::ExpectedToken(Expected::One(Wanted::Underscore))));

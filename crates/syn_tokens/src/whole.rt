@@ -11,7 +11,7 @@ use crate::lex::lex;
 use crate::tree::TokenStream;
 use std::alloc::Global;
 
-/// Reads a `T` from the whole list, which a refusal gives up. Behind a `T`, the first token that nothing read in a
+/// Reads a `T` from the whole list, which a refusal gives up. It is refused as the reader of `T` refuses it. Behind a `T`, the first token that nothing read in a
 /// group is refused as `UnexpectedToken`, then a token that is left behind it.
 pub fn parse2<T: Parse + Drop>(tokens: TokenStream) -> Result<T>
     // What was read is spelled by the whole list.
@@ -36,7 +36,8 @@ pub fn parse2<T: Parse + Drop>(tokens: TokenStream) -> Result<T>
     Ok(value)
 }
 
-/// Reads a `T` from the whole text: cuts it into tokens, and reads these.
+/// Reads a `T` from the whole text: cuts it into tokens, and reads these. It is refused as `lex` refuses the text, else
+/// as `parse2` refuses its tokens; places are in bytes from the start of the text.
 pub fn parse_str<T: Parse + Drop>(alloc: Global, text: &str) -> Result<T>
     // What was read is spelled by the tokens of the text.
     ensures read { IfOk result (λ v. (ts : List Tok) × Spells (chars text.now) ts × T.spells ts (T.seen v) []) }
