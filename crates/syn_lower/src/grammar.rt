@@ -257,7 +257,7 @@ impl<F: Fn(&mut ParseBuffer<'_>, bool) -> Result<Box<Type>>> Grammar<F> {
 
     /// Reads an argument between `<` and `>`.
     #[tactic(auto, using(crate::proofs::Makes::makes), unfolding(syn_parts::specs::Part::generic))]
-    fn generic(&self, input: &mut ParseBuffer<'_>) -> Result<GenericArgument>
+    pub(crate) fn generic(&self, input: &mut ParseBuffer<'_>) -> Result<GenericArgument>
         requires callable { Callable (weight input.old.rest + 1) (F.pre self.now.ty) }
         requires reads { ReadsType (F.post self.now.ty) }
         ensures value { Reads view.generic_of ((part.generic part.type).reads input.old.rest) result input.new.rest }
@@ -408,7 +408,11 @@ impl<F: Fn(&mut ParseBuffer<'_>, bool) -> Result<Box<Type>>> Grammar<F> {
 
     /// Reads a segment of a path.
     #[tactic(auto, using(crate::proofs::Makes::makes), unfolding(syn_parts::specs::Part::segment, syn_parts::specs::Part::no_arguments))]
-    fn segment(&self, input: &mut ParseBuffer<'_>, style: PathStyle) -> Result<PathSegment>
+    pub(crate) fn segment(
+        &self,
+        input: &mut ParseBuffer<'_>,
+        style: PathStyle,
+    ) -> Result<PathSegment>
         requires callable { Callable (weight input.old.rest) (F.pre self.now.ty) }
         requires reads { ReadsType (F.post self.now.ty) }
         ensures value { Reads (view.segment_of view.arguments_of) ((part.segment part.type style).reads input.old.rest) result input.new.rest }
@@ -469,7 +473,7 @@ impl<F: Fn(&mut ParseBuffer<'_>, bool) -> Result<Box<Type>>> Grammar<F> {
 
     /// Reads a bound.
     #[tactic(auto, using(crate::proofs::Makes::makes), unfolding(syn_parts::specs::Part::bound))]
-    fn bound(&self, input: &mut ParseBuffer<'_>) -> Result<TypeParamBound>
+    pub(crate) fn bound(&self, input: &mut ParseBuffer<'_>) -> Result<TypeParamBound>
         requires callable { Callable (weight input.old.rest) (F.pre self.now.ty) }
         requires reads { ReadsType (F.post self.now.ty) }
         ensures value { Reads view.bound_of ((part.bound part.type).reads input.old.rest) result input.new.rest }

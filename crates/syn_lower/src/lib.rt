@@ -17,5 +17,6 @@ pub mod path;
 pub mod print;
 pub mod punctuated;
 mod qualified;
+pub mod readers;
 mod text;
 pub mod ty;
