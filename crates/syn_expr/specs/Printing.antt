@@ -19,6 +19,7 @@ use Rattle.syn_expr.specs.View.{values}
 abbrev pub segment_toks : Bool → List ℕ → List Tok
 segment_toks behind s = (if behind then two 58 58 else []) ++ ident s ∷ []
 
+-- segments, all but the first behind `::`, and the first as the mark says
 abbrev pub segments_behind : Bool → List (List ℕ) → List Tok
 segments_behind behind [] = []
 segments_behind behind (s ∷ more) = segment_toks behind s ++ segments_behind true more

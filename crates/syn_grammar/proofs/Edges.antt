@@ -27,10 +27,6 @@ pub not_true : (a : Bool) → not a ≡ false → a ≡ true
 not_true true e = refl
 not_true false e = absurd cc
 
-pub not_false : (a : Bool) → not a ≡ true → a ≡ false
-not_false true e = absurd cc
-not_false false e = refl
-
 or_true : (b : Bool) → b || true ≡ true
 or_true true = refl
 or_true false = refl
@@ -46,39 +42,6 @@ pub less_back : (a b : ℕ) → a < b → nat_lt a b ≡ true
 less_back a b e = grind (arith, nat_tests)
 
 -- ---- operators
-
-pub reach_small : (k : Infix) → reach (class_of k) < 15
-reach_small (inf.Binary bin.Add) = omega arith
-reach_small (inf.Binary bin.Sub) = omega arith
-reach_small (inf.Binary bin.Mul) = omega arith
-reach_small (inf.Binary bin.Div) = omega arith
-reach_small (inf.Binary bin.Rem) = omega arith
-reach_small (inf.Binary bin.And) = omega arith
-reach_small (inf.Binary bin.Or) = omega arith
-reach_small (inf.Binary bin.BitXor) = omega arith
-reach_small (inf.Binary bin.BitAnd) = omega arith
-reach_small (inf.Binary bin.BitOr) = omega arith
-reach_small (inf.Binary bin.Shl) = omega arith
-reach_small (inf.Binary bin.Shr) = omega arith
-reach_small (inf.Binary bin.Eq) = omega arith
-reach_small (inf.Binary bin.Lt) = omega arith
-reach_small (inf.Binary bin.Le) = omega arith
-reach_small (inf.Binary bin.Ne) = omega arith
-reach_small (inf.Binary bin.Ge) = omega arith
-reach_small (inf.Binary bin.Gt) = omega arith
-reach_small (inf.Binary bin.AddAssign) = omega arith
-reach_small (inf.Binary bin.SubAssign) = omega arith
-reach_small (inf.Binary bin.MulAssign) = omega arith
-reach_small (inf.Binary bin.DivAssign) = omega arith
-reach_small (inf.Binary bin.RemAssign) = omega arith
-reach_small (inf.Binary bin.BitXorAssign) = omega arith
-reach_small (inf.Binary bin.BitAndAssign) = omega arith
-reach_small (inf.Binary bin.BitOrAssign) = omega arith
-reach_small (inf.Binary bin.ShlAssign) = omega arith
-reach_small (inf.Binary bin.ShrAssign) = omega arith
-reach_small inf.Assign = omega arith
-reach_small (inf.Range op) = omega arith
-reach_small inf.Cast = omega arith
 
 pub reach_some : (k : Infix) → 1 < reach (class_of k)
 reach_some (inf.Binary bin.Add) = omega arith

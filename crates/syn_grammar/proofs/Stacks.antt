@@ -19,11 +19,7 @@ last_same (a ∷ []) [] x y e = absurd cc
 last_same (a ∷ (c ∷ xs)) [] x y e = absurd cc
 last_same (a ∷ xs) (b ∷ ys) x y e = let t : xs ++ x ∷ [] ≡ ys ++ y ∷ [] = cc in last_same xs ys x y t
 
--- the note at the end is the tree's
-pub note_is : (xs ys : List Note) (x : Note) (t : Tree) → EndsWith xs (stack t) → xs ≡ ys ++ x ∷ [] → x ≡ note_of t
-note_is xs ys x t h e = last_same ys (h.rest ++ below t) x (note_of t) (sym e ∙ h.is ∙ sym (append_assoc h.rest (below t) (note_of t ∷ [])))
-
--- and before it are those of its operands
+-- before the note at the end are those of the operands
 pub front_of : (xs ys a : List Note) (x y : Note) → xs ≡ ys ++ x ∷ [] → EndsWith xs (a ++ y ∷ []) → EndsWith ys a
 front_of xs ys a x y e h =
     let s : ys ++ x ∷ [] ≡ (h.rest ++ a) ++ y ∷ [] = sym e ∙ h.is ∙ sym (append_assoc h.rest a (y ∷ [])) in
