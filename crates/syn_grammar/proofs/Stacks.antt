@@ -2,8 +2,7 @@
 use Rattle.std.proofs.Common.{◌≡◌, List, [], ◌∷◌, ◌++◌, sym, ◌∙◌, ap, append_assoc}
 use Rattle.std.proofs.lemmas.List.{append_cancel_right}
 use Rattle.syn_grammar.specs.declared.note.Note.{Note}
-use Rattle.syn_grammar.specs.Notes.{note_of, stack, below, EndsWith}
-use Rattle.syn_grammar.specs.Tree.{Tree}
+use Rattle.syn_grammar.specs.Notes.{EndsWith}
 
 pub ends_back : (xs a b : List Note) → EndsWith xs (a ++ b) → EndsWith xs b
 ends_back xs a b h = record { rest = h.rest ++ a; is = h.is ∙ sym (append_assoc h.rest a b) }
