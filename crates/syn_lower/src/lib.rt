@@ -18,5 +18,7 @@ pub mod print;
 pub mod punctuated;
 mod qualified;
 pub mod readers;
+#[cfg(test)]
+mod tests;
 mod text;
 pub mod ty;
