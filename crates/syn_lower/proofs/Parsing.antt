@@ -8,10 +8,13 @@ use Rattle.syn_tokens.specs.declared.error.ErrorKind.TheVariants.{OutOfMemory}
 use Rattle.syn_parts.specs.Form.{Form}
 use Rattle.syn_parts.specs.Text.{Text}
 use Rattle.syn_parts.specs.Tree.{LitTree}
+use Rattle.syn_parts.specs.declared.label.LitKind.{LitKind}
+use Rattle.syn_parts.specs.Kind.{of_kind}
 use Rattle.syn_parts.specs.Part.{lifetime, lit}
 use Rattle.syn_parts.proofs.Weights.{some_is}
 use Rattle.syn_parts.proofs.Forms.{Alike}
 use Rattle.syn_parts.proofs.Parts.{lifetime_alike, lit_alike}
+use Rattle.syn_parts.proofs.LitKinds.{of_kind_alike, of_kind_leaves, of_kind_takes}
 use Rattle.syn_parts.proofs.Tails.{Leaves}
 use Rattle.syn_parts.proofs.TailParts.{lifetime_leaves, signed_leaves}
 use Rattle.syn_parts.proofs.Takes.{Takes, lifetime_takes, signed_takes}
@@ -72,3 +75,22 @@ pub lit_refused : (l n : List Tok) (y : LitTree) (e : ErrorKind) → (e ≢ OutO
 lit_refused = refused_of lit lit_alike signed_leaves signed_takes
 
 pub ruleset lit_parsing = (lit_tail, lit_moves, lit_stands, lit_same, lit_refused)
+
+-- ---- literals of one kind
+
+pub kind_tail : (k : LitKind) (l n : List Tok) (x : LitTree) → (of_kind k).reads l ≡ Some (x, n) → IsTail n l
+kind_tail k = tail_of (of_kind k) (of_kind_alike k) (of_kind_leaves k) (of_kind_takes k)
+
+pub kind_moves : (k : LitKind) (l n : List Tok) (x : LitTree) → (of_kind k).reads l ≡ Some (x, n) → 1 + weight n ≤ weight l
+kind_moves k = moves_of (of_kind k) (of_kind_alike k) (of_kind_leaves k) (of_kind_takes k)
+
+pub kind_stands : (k : LitKind) (l n : List Tok) (x : LitTree) → (of_kind k).reads l ≡ Some (x, n) → (of_kind k).behind x l ≡ Some n
+kind_stands k = stands_of (of_kind k) (of_kind_alike k) (of_kind_leaves k) (of_kind_takes k)
+
+pub kind_same : (k : LitKind) (l m n : List Tok) (x y : LitTree) → (of_kind k).reads l ≡ Some (x, m) → (of_kind k).behind y l ≡ Some n → (x ≡ y) × (m ≡ n)
+kind_same k = same_of (of_kind k) (of_kind_alike k) (of_kind_leaves k) (of_kind_takes k)
+
+pub kind_refused : (k : LitKind) (l n : List Tok) (y : LitTree) (e : ErrorKind) → (e ≢ OutOfMemory → (of_kind k).reads l ≡ None) → (of_kind k).behind y l ≡ Some n → e ≡ OutOfMemory
+kind_refused k = refused_of (of_kind k) (of_kind_alike k) (of_kind_leaves k) (of_kind_takes k)
+
+pub ruleset kind_parsing = (kind_tail, kind_moves, kind_stands, kind_same, kind_refused)

@@ -11,6 +11,8 @@ mod kept;
 mod leaf;
 pub mod lifetime;
 pub mod lit;
+#[cfg(test)]
+mod lit_tests;
 pub mod mac;
 mod parse;
 pub mod path;

@@ -17,3 +17,4 @@ pub mod PatWhole
 pub mod PatsBack
 pub mod Samples
 pub mod Takes
+pub mod LitKinds

@@ -80,7 +80,7 @@ pub negative_some : (b : Bool) (w : Text) (l : List Tok) (x : LitTree) (n : List
 negative_some true w l x n h = ap (λ z. z.1) (some_is h)
 negative_some false w l x n h = absurd cc
 
-lit_falls : (l : List Tok) (x : LitTree) (n : List Tok) → find_lit l ≡ Some (x, n) → weight n ≤ weight l
+pub lit_falls : (l : List Tok) (x : LitTree) (n : List Tok) → find_lit l ≡ Some (x, n) → weight n ≤ weight l
 lit_falls (literal w ∷ l) x n h = falls_by l n (literal w ∷ l) (lit_some (kind_of w) w l x n h) (one_less (literal w) l)
 lit_falls (ident w ∷ l) x n h = falls_by l n (ident w ∷ l) (truth_some (is_truth w) w l x n h) (one_less (ident w) l)
 lit_falls _ x n h = absurd cc

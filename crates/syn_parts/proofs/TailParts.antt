@@ -55,7 +55,7 @@ found_arg_name = record { leaves = leaves }
     leaves (ident w ∷ l) x n h = by l n (ident w ∷ l) (word_some (is_arg_name w) w l x n h) (one_taken (ident w) l)
     leaves _ x n h = absurd cc
 
-lit_leaves : (l : List Tok) (x : LitTree) (n : List Tok) → find_lit l ≡ Some (x, n) → IsTail n l
+pub lit_leaves : (l : List Tok) (x : LitTree) (n : List Tok) → find_lit l ≡ Some (x, n) → IsTail n l
 lit_leaves (literal w ∷ l) x n h = by l n (literal w ∷ l) (lit_some (kind_of w) w l x n h) (one_taken (literal w) l)
 lit_leaves (ident w ∷ l) x n h = by l n (ident w ∷ l) (truth_some (is_truth w) w l x n h) (one_taken (ident w) l)
 lit_leaves _ x n h = absurd cc

@@ -111,7 +111,7 @@ segment_name_takes = record { takes = takes }
     takes (ident w ∷ l) x n h = by l n (ident w ∷ l) (word_some (is_segment w) w l x n h) (one (ident w) l)
     takes _ x n h = absurd cc
 
-lit_takes : (l : List Tok) (x : LitTree) (n : List Tok) → find_lit l ≡ Some (x, n) → weight n < weight l
+pub lit_takes : (l : List Tok) (x : LitTree) (n : List Tok) → find_lit l ≡ Some (x, n) → weight n < weight l
 lit_takes (literal w ∷ l) x n h = by l n (literal w ∷ l) (lit_some (kind_of w) w l x n h) (one (literal w) l)
 lit_takes (ident w ∷ l) x n h = by l n (ident w ∷ l) (truth_some (is_truth w) w l x n h) (one (ident w) l)
 lit_takes _ x n h = absurd cc

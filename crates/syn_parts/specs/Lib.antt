@@ -11,3 +11,4 @@ pub mod Pat
 pub mod PatLaws
 pub mod PatOwn
 pub mod Samples
+pub mod Kind
