@@ -1,6 +1,5 @@
 -- The tree of an expression, without places.
 use Rattle.std.specs.Prelude.{ℕ, Bool, true, false, List, [], ◌∷◌, ◌++◌, map, Option, Some, None}
-use Rattle.std.specs.declared.boxed.Box.{Box}
 use Rattle.std.specs.declared.vec.Vec.{Vec}
 use Rattle.std.specs.declared.alloc.Global.{Global}
 use Rattle.syn_tokens.specs.Tok.{inside}
@@ -82,9 +81,9 @@ lit_of (code_lit.Int x) = int x.token
 lit_of (code_lit.Float x) = float x.token
 lit_of (code_lit.Bool x) = bool x.value
 
-abbrev pub last_of : {A : Type 0} → Option (Box A Global) → List A
+abbrev pub last_of : {A : Type 0} → Option A → List A
 last_of None = []
-last_of (Some b) = b.value ∷ []
+last_of (Some x) = x ∷ []
 
 -- the values of a list with puncts
 abbrev pub values : {A P : Type 0} → Punctuated A P → List A

@@ -97,8 +97,10 @@ fn segments(input: &mut ParseBuffer<'_>) -> Result<Punctuated<PathSegment, PathS
     'segments: loop {
         let word = segment(input)?;
         let Some(sep) = path_sep(input) else {
-            let last = Some(Box::new(input.alloc(), word)?);
-            return Ok(Punctuated { inner, last });
+            return Ok(Punctuated {
+                inner,
+                last: Some(word),
+            });
         };
         inner.push((word, sep))?;
     }

@@ -4,5 +4,5 @@
 #[derive(Drop)]
 pub struct Punctuated<T, P> {
     pub(crate) inner: Vec<(T, P)>,
-    pub(crate) last: Option<Box<T>>,
+    pub(crate) last: Option<T>,
 }

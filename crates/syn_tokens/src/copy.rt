@@ -6,18 +6,18 @@ ghost use Rattle.syn_tokens.specs.View.{tok_of, toks_of};
 use crate::tree::{Group, Ident, Literal, TokenStream, TokenTree};
 use std::alloc::{AllocError, Global};
 
-/// A copy of a word, with its place; refused only where memory runs out.
-pub fn copy_ident(alloc: Global, ident: &Ident) -> Result<Ident, AllocError>
+/// A copy of a word, with its place, which shares its text; refused only where memory runs out.
+pub fn copy_ident(_: Global, ident: &Ident) -> Result<Ident, AllocError>
     ensures { IfOk result (λ i. i ≡ ident.now) }
 {
-    Ok(Ident::read(String::from_str(alloc, ident.as_str())?, ident.span()))
+    ident.copy()
 }
 
-/// A copy of a literal, with its place; refused only where memory runs out.
-pub fn copy_literal(alloc: Global, literal: &Literal) -> Result<Literal, AllocError>
+/// A copy of a literal, with its place, which shares its text; refused only where memory runs out.
+pub fn copy_literal(_: Global, literal: &Literal) -> Result<Literal, AllocError>
     ensures { IfOk result (λ l. l ≡ literal.now) }
 {
-    Ok(Literal::read(String::from_str(alloc, literal.as_str())?, literal.span()))
+    literal.copy()
 }
 
 /// A copy of a tree, with its places; refused only where memory runs out.

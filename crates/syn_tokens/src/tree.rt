@@ -1,11 +1,13 @@
 //! Token trees and streams of them, as in proc_macro2.
 
-ghost use Rattle.std.specs.Prelude.{string_bytes, ◌≡◌, [], ◌∷◌, ◌++◌, length, take, OnOk, OnErr, IsTrue, ◌↔◌};
+ghost use Rattle.std.specs.Prelude.{◌≡◌, [], ◌∷◌, ◌++◌, length, take, IfOk, OnOk, OnErr, IsTrue, ◌↔◌};
+ghost use Rattle.std.specs.Rc.{rc_str_bytes};
 
 use crate::span::Span;
 use crate::{Delimiter, Spacing};
 use std::alloc::{AllocError, Global};
 use std::marker::Model;
+use std::rc::RcStr;
 
 /// A character of punctuation (Rust Reference, "Punctuation"). Equality ignores its place.
 #[derive(Clone, Copy, Debug)]
@@ -24,22 +26,23 @@ pub struct Punct {
 /// text.
 #[derive(Debug, Drop)]
 pub struct Ident {
-    text: String,
+    text: RcStr<Global>,
     span: Span,
 }
 
 impl Model for Ident {
-    ghost use Rattle.std.specs.Prelude.{List, ℕ, string_bytes};
+    ghost use Rattle.std.specs.Prelude.{List, ℕ};
+    ghost use Rattle.std.specs.Rc.{rc_str_bytes};
 
     ghost Value = { List ℕ };
 
-    ghost view = { λ i. string_bytes i.text };
+    ghost view = { λ i. rc_str_bytes i.text };
 }
 
 impl Ident {
     /// A word that is known to be one.
-    pub(crate) fn read(text: String, span: Span) -> Ident
-        ensures { result ≡ string_bytes text }
+    pub(crate) fn read(text: RcStr<Global>, span: Span) -> Ident
+        ensures { result ≡ rc_str_bytes text }
     {
         Ident { text, span }
     }
@@ -51,6 +54,14 @@ impl Ident {
         self.text.as_str()
     }
 
+    /// It once more, which shares its text.
+    pub(crate) fn copy(&self) -> Result<Ident, AllocError>
+        ensures { IfOk result (λ i. i ≡ self.now) }
+    {
+        let text = self.text.clone()?;
+        Ok(Ident::read(text, self.span))
+    }
+
     /// Where it is.
     pub fn span(&self) -> Span {
         self.span
@@ -60,22 +71,23 @@ impl Ident {
 /// A literal token, with its suffix (Rust Reference, "Literal expressions"). Contracts see the bytes of its text.
 #[derive(Debug, Drop)]
 pub struct Literal {
-    text: String,
+    text: RcStr<Global>,
     span: Span,
 }
 
 impl Model for Literal {
-    ghost use Rattle.std.specs.Prelude.{List, ℕ, string_bytes};
+    ghost use Rattle.std.specs.Prelude.{List, ℕ};
+    ghost use Rattle.std.specs.Rc.{rc_str_bytes};
 
     ghost Value = { List ℕ };
 
-    ghost view = { λ i. string_bytes i.text };
+    ghost view = { λ i. rc_str_bytes i.text };
 }
 
 impl Literal {
     /// A literal that is known to be one.
-    pub(crate) fn read(text: String, span: Span) -> Literal
-        ensures { result ≡ string_bytes text }
+    pub(crate) fn read(text: RcStr<Global>, span: Span) -> Literal
+        ensures { result ≡ rc_str_bytes text }
     {
         Literal { text, span }
     }
@@ -85,6 +97,14 @@ impl Literal {
         ensures { result.now ≡ self.now }
     {
         self.text.as_str()
+    }
+
+    /// It once more, which shares its text.
+    pub(crate) fn copy(&self) -> Result<Literal, AllocError>
+        ensures { IfOk result (λ l. l ≡ self.now) }
+    {
+        let text = self.text.clone()?;
+        Ok(Literal::read(text, self.span))
     }
 
     /// Where it is.
