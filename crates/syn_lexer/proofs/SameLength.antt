@@ -1,5 +1,5 @@
 -- A word is reserved where it is one of the reserved words of its length.
-use Rattle.std.proofs.Common.{◌≡◌, ℕ, ◌+◌, zero, suc, List, [], ◌∷◌, length, refl, sym, ◌∙◌, ap, subst, cond, Bool, true, false, arith}
+use Rattle.std.proofs.Common.{◌≡◌, ℕ, List, [], ◌∷◌, length, refl, sym, ap, subst, cond, Bool, true, false, arith}
 use Rattle.std.specs.Prelude.{◌==◌, ◌≢◌, ◌||◌}
 use Rattle.std.specs.List.{filter}
 use Rattle.std.specs.Str.{bytes_eq}
