@@ -1,11 +1,15 @@
-//! What follows of the reader and the printer together.
+//! What follows of the reader and the printer together, and the order of levels.
 
-ghost use Rattle.std.specs.Prelude.{◌≡◌, true, MatchResult};
+ghost use Rattle.std.specs.Prelude.{◌≡◌, true, MatchResult, Some};
+ghost use Rattle.std.specs.Ordering.{nat_cmp};
+ghost use Rattle.syn_grammar.specs.Place.{rank};
 ghost use Rattle.syn_grammar.specs.Tree.{IsSameTree, is_well_formed};
+ghost use Rattle.syn_expr.specs.Binds.{level_of};
 ghost use Rattle.syn_expr.specs.View.{tree_of};
 
 use crate::expr::Expr;
 use crate::fixup::FixupContext;
+use crate::precedence::Precedence;
 use crate::print::print_expr;
 use std::alloc::Global;
 use syn_tokens::error::{ErrorKind, Result};
@@ -21,3 +25,8 @@ pub fn read_back(alloc: Global, expr: &Expr) -> Result<Expr>
     print_expr(expr, &mut tokens, FixupContext::NONE)?;
     parse2::<Expr>(tokens)
 }
+
+/// Of two levels the one that binds tighter is the greater (Rust Reference, "Expression precedence").
+pub fn levels_are_in_order()
+    ensures { (a b : Precedence) → ⟦<Precedence as PartialOrd>⟧.partial_cmp a b ≡ Some (nat_cmp (rank (level_of a)) (rank (level_of b))) }
+{}

@@ -42,16 +42,8 @@ fn class_of_binary(op: BinKind) -> Next
         BinKind::Shr => Next::ShiftRight,
         BinKind::Lt => Next::Less,
         BinKind::Eq | BinKind::Le | BinKind::Ne | BinKind::Ge | BinKind::Gt => Next::Compare,
-        BinKind::AddAssign
-        | BinKind::SubAssign
-        | BinKind::MulAssign
-        | BinKind::DivAssign
-        | BinKind::RemAssign
-        | BinKind::BitXorAssign
-        | BinKind::BitAndAssign
-        | BinKind::BitOrAssign
-        | BinKind::ShlAssign
-        | BinKind::ShrAssign => Next::Assign,
+        // The compound assignments.
+        _ => Next::Assign,
     }
 }
 

@@ -90,7 +90,7 @@ pub enum UnOp {
 }
 
 /// The level of a binary operator.
-fn level_of(op: BinKind) -> Level
+pub(crate) fn level_of(op: BinKind) -> Level
     ensures { result ≡ spec.level_of op }
 {
     match op {

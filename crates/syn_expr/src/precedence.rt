@@ -8,7 +8,8 @@ ghost use Rattle.syn_expr.specs.View.{bin_kind, tree_of};
 use crate::attr::Attribute;
 use crate::expr::Expr;
 use crate::node::has_outer;
-use crate::op::BinOp;
+use crate::op::{BinOp, level_of};
+use syn_grammar::kinds::Level;
 
 /// The levels of binding, loosest first.
 #[derive(Clone, Copy, Debug, PartialEq, Eq, PartialOrd)]
@@ -55,32 +56,7 @@ impl Precedence {
     pub fn of_binop(op: &BinOp) -> Precedence
         ensures { spec.level_of result ≡ grammar.level_of (bin_kind op.now) }
     {
-        match op {
-            BinOp::Add(_) | BinOp::Sub(_) => Precedence::Sum,
-            BinOp::Mul(_) | BinOp::Div(_) | BinOp::Rem(_) => Precedence::Product,
-            BinOp::And(_) => Precedence::And,
-            BinOp::Or(_) => Precedence::Or,
-            BinOp::BitXor(_) => Precedence::BitXor,
-            BinOp::BitAnd(_) => Precedence::BitAnd,
-            BinOp::BitOr(_) => Precedence::BitOr,
-            BinOp::Shl(_) | BinOp::Shr(_) => Precedence::Shift,
-            BinOp::Eq(_)
-            | BinOp::Lt(_)
-            | BinOp::Le(_)
-            | BinOp::Ne(_)
-            | BinOp::Ge(_)
-            | BinOp::Gt(_) => Precedence::Compare,
-            BinOp::AddAssign(_)
-            | BinOp::SubAssign(_)
-            | BinOp::MulAssign(_)
-            | BinOp::DivAssign(_)
-            | BinOp::RemAssign(_)
-            | BinOp::BitXorAssign(_)
-            | BinOp::BitAndAssign(_)
-            | BinOp::BitOrAssign(_)
-            | BinOp::ShlAssign(_)
-            | BinOp::ShrAssign(_) => Precedence::Assign,
-        }
+        of_level(level_of(op.kind()))
     }
 
     /// The level of an expression: of a binary operation its operator's, of a prefix operation `Prefix`; of another
@@ -107,4 +83,28 @@ fn behind_attributes(attrs: &Vec<Attribute>) -> Precedence
         return Precedence::Prefix;
     }
     Precedence::Unambiguous
+}
+
+/// A level by the name that it has here.
+fn of_level(level: Level) -> Precedence
+    ensures { spec.level_of result ≡ level }
+{
+    match level {
+        Level::Jump => Precedence::Jump,
+        Level::Assign => Precedence::Assign,
+        Level::Range => Precedence::Range,
+        Level::Or => Precedence::Or,
+        Level::And => Precedence::And,
+        Level::Let => Precedence::Let,
+        Level::Compare => Precedence::Compare,
+        Level::BitOr => Precedence::BitOr,
+        Level::BitXor => Precedence::BitXor,
+        Level::BitAnd => Precedence::BitAnd,
+        Level::Shift => Precedence::Shift,
+        Level::Sum => Precedence::Sum,
+        Level::Product => Precedence::Product,
+        Level::Cast => Precedence::Cast,
+        Level::Prefix => Precedence::Prefix,
+        Level::Unambiguous => Precedence::Unambiguous,
+    }
 }
