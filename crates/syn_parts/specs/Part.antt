@@ -457,8 +457,16 @@ arg_name_at l = is_arg_name_there l && colon.at (drop 1 l)
 unfoldable pub fn_at : Test
 fn_at l = lifetimes_at l || (unsafe_word.at l || (extern_word.at l || fn_word.at l))
 
+-- `extern` and perhaps a string (Rust Reference, "Function pointer types", "ABI")
+abbrev pub abi : Form (Option LitTree)
+abi = mark extern_word (maybe literal_at string)
+
 unfoldable pub fn_head : Form FnHead
-fn_head = both (maybe lifetimes_at lifetimes) (both (flag unsafe_word) (maybe extern_word.at (mark extern_word (maybe literal_at string))))
+fn_head = both (maybe lifetimes_at lifetimes) (both (flag unsafe_word) (maybe extern_word.at abi))
+
+-- `mut` or `const` (Rust Reference, "Pointer types")
+abbrev pub mutability : Form Bool
+mutability = case mutable (pure true is_true) (mark constant (pure false not))
 
 -- behind a path without arguments, `!` and a group make it a macro (Rust Reference, "Macro Invocation")
 unfoldable pub macro_end : QPathTree → Form MacroEnd
@@ -470,11 +478,15 @@ module _ (type : Bool → Form TypeTree) where
   unfoldable pub output : Bool → Form ReturnTree
   output several = case arrow (shown t.given from_given (type several)) (pure t.default is_default)
 
+  -- a name, `=` and a type (Rust Reference, "Paths in expressions")
+  abbrev pub assoc : Form (Text × TypeTree)
+  assoc = both name (mark eq (type true))
+
   unfoldable pub generic : Form GenericTree
   generic =
       when lifetime_at (shown t.a_lifetime from_lifetime lifetime)
       (when const_at (shown t.a_const from_const constant_tokens)
-      (when assoc_at (shown to_assoc from_assoc (both name (mark eq (type true))))
+      (when assoc_at (shown to_assoc from_assoc assoc)
       (shown t.a_type from_type (type true))))
 
   unfoldable pub angle : Form (List GenericTree × Bool)
@@ -511,10 +523,13 @@ module _ (type : Bool → Form TypeTree) where
   unfoldable pub qpath : PathStyle → Form QPathTree
   qpath s = case less (qualified s) (shown to_bare from_bare (path s))
 
-  -- a lifetime, or `?`? `for<..>`? path (Rust Reference, "Trait and lifetime bounds")
+  -- `?`? `for<..>`? path (Rust Reference, "Trait and lifetime bounds")
+  abbrev pub trait_bound : Form BoundTree
+  trait_bound = shown to_trait from_trait (both (flag question) (both (maybe lifetimes_at lifetimes) (path style.Type)))
+
+  -- a lifetime, or a trait
   unfoldable pub bound : Form BoundTree
-  bound = when lifetime_at (shown t.outlives from_outlives lifetime)
-      (shown to_trait from_trait (both (flag question) (both (maybe lifetimes_at lifetimes) (path style.Type))))
+  bound = when lifetime_at (shown t.outlives from_outlives lifetime) trait_bound
 
   -- several with `+` between, or one
   unfoldable pub bounds : Bool → Form (List BoundTree × Bool)
@@ -525,7 +540,7 @@ module _ (type : Bool → Form TypeTree) where
   reference = shown to_reference from_reference (both (maybe lifetime_at lifetime) (both (flag mutable) (type false)))
 
   unfoldable pub pointer : Form TypeTree
-  pointer = shown to_pointer from_pointer (both (case mutable (pure true is_true) (mark constant (pure false not))) (type false))
+  pointer = shown to_pointer from_pointer (both mutability (type false))
 
   -- Rust Reference, "Array types", "Slice types"
   unfoldable pub slice_or_array : Form TypeTree
