@@ -4,12 +4,64 @@ use crate::attr::Attribute;
 use crate::expr::Expr;
 use crate::lit::Lit;
 use crate::op::{BinOp, UnOp};
+use crate::precedence::Precedence;
+use std::alloc::Global;
 use std::test::Fail;
 use syn_grammar::kinds::{BinKind, UnKind};
-use syn_tokens::error::{ErrorKind, Expected, Wanted};
+use syn_tokens::buffer::ToTokens;
+use syn_tokens::error::{Error, ErrorKind, Expected, Wanted};
 use syn_tokens::span::Span;
+use syn_tokens::text::to_text;
 use syn_tokens::token::{Comma, Minus, Not, Star};
+use syn_tokens::tree::TokenStream;
 use syn_tokens::whole::parse_str;
+
+/// The binary operators (Rust Reference, "Operator expressions").
+const BINARY_OPERATORS: [(&str, BinKind); 28] = [
+    ("+", BinKind::Add),
+    ("-", BinKind::Sub),
+    ("*", BinKind::Mul),
+    ("/", BinKind::Div),
+    ("%", BinKind::Rem),
+    ("&&", BinKind::And),
+    ("||", BinKind::Or),
+    ("^", BinKind::BitXor),
+    ("&", BinKind::BitAnd),
+    ("|", BinKind::BitOr),
+    ("<<", BinKind::Shl),
+    (">>", BinKind::Shr),
+    ("==", BinKind::Eq),
+    ("<", BinKind::Lt),
+    ("<=", BinKind::Le),
+    ("!=", BinKind::Ne),
+    (">=", BinKind::Ge),
+    (">", BinKind::Gt),
+    ("+=", BinKind::AddAssign),
+    ("-=", BinKind::SubAssign),
+    ("*=", BinKind::MulAssign),
+    ("/=", BinKind::DivAssign),
+    ("%=", BinKind::RemAssign),
+    ("^=", BinKind::BitXorAssign),
+    ("&=", BinKind::BitAndAssign),
+    ("|=", BinKind::BitOrAssign),
+    ("<<=", BinKind::ShlAssign),
+    (">>=", BinKind::ShrAssign),
+];
+
+/// The text of the tokens that a value prints for itself.
+pub(crate) fn text_of<T: ToTokens>(alloc: Global, x: &T) -> Result<String, Error> {
+    let mut tokens = TokenStream::new(alloc);
+    x.to_tokens(&mut tokens)?;
+    to_text(&tokens)
+}
+
+fn un_kind(op: UnOp) -> UnKind {
+    match op {
+        UnOp::Deref(_) => UnKind::Deref,
+        UnOp::Not(_) => UnKind::Not,
+        UnOp::Neg(_) => UnKind::Neg,
+    }
+}
 
 /// The path that is one word, without attributes.
 fn is_word(expr: &Expr, word: &str) -> bool {
@@ -29,12 +81,8 @@ fn operands(expr: &Expr, op: BinKind) -> Option<(&Expr, &Expr)> {
 
 /// The operand of a prefix operation, and its attributes.
 fn operand(expr: &Expr, op: UnKind) -> Option<(&Vec<Attribute>, &Expr)> {
-    match (expr, op) {
-        (Expr::Unary(x), UnKind::Deref) if matches!(x.op, UnOp::Deref(_)) => Some((
-            &x.attrs, &x.expr,
-        )),
-        (Expr::Unary(x), UnKind::Not) if matches!(x.op, UnOp::Not(_)) => Some((&x.attrs, &x.expr)),
-        (Expr::Unary(x), UnKind::Neg) if matches!(x.op, UnOp::Neg(_)) => Some((&x.attrs, &x.expr)),
+    match expr {
+        Expr::Unary(x) if un_kind(x.op) == op => Some((&x.attrs, &x.expr)),
         _ => None,
     }
 }
@@ -234,17 +282,12 @@ fn kinds_that_are_not_here_yet_are_refused(rt: HostRuntime) -> Result<(), Fail> 
 
 #[test]
 fn operators_by_themselves(rt: HostRuntime) -> Result<(), Fail> {
-    for (text, kind) in [
-        ("+", BinKind::Add),
-        ("<<=", BinKind::ShlAssign),
-        ("<=", BinKind::Le),
-        ("||", BinKind::Or),
-        ("!=", BinKind::Ne),
-        ("%", BinKind::Rem),
-    ] {
+    for (text, kind) in BINARY_OPERATORS {
+        let op = parse_str::<BinOp>(rt.alloc(), text)?;
+        assert_eq!(rt; op.kind(), kind, "of {text}");
         assert_eq!(rt;
-            parse_str::<BinOp>(rt.alloc(), text)?.kind(),
-            kind,
+            text_of(rt.alloc(), &op)?.as_bytes(),
+            text.as_bytes(),
             "of {text}"
         );
     }
@@ -254,7 +297,15 @@ fn operators_by_themselves(rt: HostRuntime) -> Result<(), Fail> {
             Err(e) => assert_eq!(rt; e.kind, ErrorKind::ExpectedBinaryOperator, "of {text}"),
         }
     }
-    assert!(rt; matches!(parse_str::<UnOp>(rt.alloc(), "*")?, UnOp::Deref(_)));
+    for (text, kind) in [("*", UnKind::Deref), ("!", UnKind::Not), ("-", UnKind::Neg)] {
+        let op = parse_str::<UnOp>(rt.alloc(), text)?;
+        assert_eq!(rt; un_kind(op), kind, "of {text}");
+        assert_eq!(rt;
+            text_of(rt.alloc(), &op)?.as_bytes(),
+            text.as_bytes(),
+            "of {text}"
+        );
+    }
     match parse_str::<UnOp>(rt.alloc(), "+") {
         Ok(_) => assert!(rt; false, "read: +"),
         Err(e) => assert_eq!(rt;
@@ -265,6 +316,35 @@ fn operators_by_themselves(rt: HostRuntime) -> Result<(), Fail> {
                 Minus::wanted()
             ))
         ),
+    }
+    Ok(())
+}
+
+#[test]
+fn levels_of_expressions(rt: HostRuntime) -> Result<(), Fail> {
+    for (text, level) in [
+        ("a += b", Precedence::Assign),
+        ("a || b", Precedence::Or),
+        ("a && b", Precedence::And),
+        ("a < b", Precedence::Compare),
+        ("a | b", Precedence::BitOr),
+        ("a ^ b", Precedence::BitXor),
+        ("a & b", Precedence::BitAnd),
+        ("a << b", Precedence::Shift),
+        ("a + b", Precedence::Sum),
+        ("#[k] a - b", Precedence::Sum),
+        ("a % b", Precedence::Product),
+        ("!a", Precedence::Prefix),
+        ("#[k] -a", Precedence::Prefix),
+        ("#[k] a", Precedence::Prefix),
+        ("#[k] (a + b)", Precedence::Prefix),
+        ("a", Precedence::Unambiguous),
+        ("1", Precedence::Unambiguous),
+        ("(a + b)", Precedence::Unambiguous),
+    ] {
+        let e = parse_str::<Expr>(rt.alloc(), text)?;
+        assert_eq!(rt; Precedence::of(&e), level, "of {text}");
+        assert!(rt; Precedence::MIN < level, "of {text}");
     }
     Ok(())
 }

@@ -5,12 +5,12 @@ use crate::expr::{Expr, ExprBinary, ExprUnary};
 use crate::fixup::FixupContext;
 use crate::laws::read_back;
 use crate::op::{BinOp, UnOp};
+use crate::tests::text_of;
 use std::alloc::Global;
 use std::test::Fail;
-use syn_tokens::buffer::ToTokens;
 use syn_tokens::error::Result;
 use syn_tokens::text::to_text;
-use syn_tokens::token::{Minus, Not, Plus, Star};
+use syn_tokens::token::{Minus, Plus, Star};
 use syn_tokens::tree::TokenStream;
 use syn_tokens::whole::parse_str;
 
@@ -18,13 +18,6 @@ use syn_tokens::whole::parse_str;
 fn printed(alloc: Global, expr: &Expr) -> Result<String> {
     let mut tokens = TokenStream::new(alloc);
     print_expr(expr, &mut tokens, FixupContext::NONE)?;
-    to_text(&tokens)
-}
-
-/// The text of what a node prints for itself.
-fn alone<T: ToTokens>(alloc: Global, node: &T) -> Result<String> {
-    let mut tokens = TokenStream::new(alloc);
-    node.to_tokens(&mut tokens)?;
     to_text(&tokens)
 }
 
@@ -111,18 +104,16 @@ fn each_kind_prints_for_itself(rt: HostRuntime) -> std::result::Result<(), Fail>
         ("a == b", "a == b"),
     ] {
         let e = parse_str::<Expr>(alloc, text)?;
-        assert_eq!(rt; alone(alloc, &e)?.as_str(), wanted);
+        assert_eq!(rt; text_of(alloc, &e)?.as_str(), wanted);
         let by_kind = match &e {
-            Expr::Binary(x) => alone(alloc, x)?,
-            Expr::Lit(x) => alone(alloc, x)?,
-            Expr::Paren(x) => alone(alloc, x)?,
-            Expr::Path(x) => alone(alloc, x)?,
-            Expr::Unary(x) => alone(alloc, x)?,
+            Expr::Binary(x) => text_of(alloc, x)?,
+            Expr::Lit(x) => text_of(alloc, x)?,
+            Expr::Paren(x) => text_of(alloc, x)?,
+            Expr::Path(x) => text_of(alloc, x)?,
+            Expr::Unary(x) => text_of(alloc, x)?,
         };
         assert_eq!(rt; by_kind.as_str(), wanted);
     }
-    assert_eq!(rt; alone(alloc, &BinOp::Add(Plus::default()))?.as_str(), "+");
-    assert_eq!(rt; alone(alloc, &UnOp::Not(Not::default()))?.as_str(), "!");
     Ok(())
 }
 
