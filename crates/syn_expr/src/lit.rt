@@ -1,12 +1,13 @@
 //! Literals (Rust Reference, "Literal expressions").
 
-ghost use Rattle.std.specs.Prelude.{◌≡◌, ◌≤◌, length, IfOk, MatchOption, Some, None};
+ghost use Rattle.std.specs.Prelude.{◌≡◌, ◌≤◌, length, IfOk, IfErr, MatchOption, Some, None};
 ghost use Rattle.std.specs.List.{prefix_len};
 ghost use Rattle.syn_grammar.specs.Tree as tree;
 ghost use Rattle.syn_expr.specs.View.{lit_of};
 
-use std::alloc::{AllocError, Global};
+use std::alloc::Global;
 use syn_tokens::copy::copy_literal;
+use syn_tokens::error::{ErrorKind, Result};
 use syn_tokens::span::Span;
 use syn_tokens::tree::Literal;
 
@@ -90,8 +91,9 @@ fn starts_number(text: &[u8]) -> bool
 
 /// The literal that a number's token is; none where the token is no number.
 #[tactic(auto, unfolding(syn_grammar::specs::Tree::number_of))]
-pub(crate) fn number(alloc: Global, literal: &Literal) -> Result<Option<Lit>, AllocError>
-    ensures { IfOk result (λ o. MatchOption o (tree.number_of literal.now ≡ None) (λ l. tree.number_of literal.now ≡ Some (lit_of l))) }
+pub(crate) fn number(alloc: Global, literal: &Literal) -> Result<Option<Lit>>
+    ensures value { IfOk result (λ o. MatchOption o (tree.number_of literal.now ≡ None) (λ l. tree.number_of literal.now ≡ Some (lit_of l))) }
+    ensures memory { IfErr result (λ e. e.kind ≡ ErrorKind.OutOfMemory) }
 {
     let text = literal.as_str().as_bytes();
     if !starts_number(text) {

@@ -1,6 +1,6 @@
 //! The readers of the parts that hold no others.
 
-ghost use Rattle.std.specs.Prelude.{◌≡◌, ◌≤◌, ◌∷◌, drop, true, false, IfOk, MatchOption, Some, None};
+ghost use Rattle.std.specs.Prelude.{IfErr, ◌≡◌, ◌≤◌, ◌∷◌, drop, true, false, IfOk, MatchOption, Some, None};
 ghost use Rattle.syn_lexer.specs.declared.lexeme.Delimiter.TheVariants as del;
 ghost use Rattle.syn_lower.specs.Reads.{Reads};
 ghost use Rattle.syn_lower.specs.View.{lifetime_of, lit_of, lit_str_of, signed};
@@ -13,7 +13,7 @@ ghost use Rattle.syn_tokens.specs.Tok.{weight};
 use crate::lifetime::Lifetime;
 use crate::lit::{Lit, LitBool, LitByte, LitByteStr, LitCStr, LitChar, LitFloat, LitInt, LitStr};
 use crate::text::{is_number, is_segment, is_truth, kind_of, number_kind};
-use std::alloc::{AllocError, Global};
+use std::alloc::Global;
 use syn_lexer::reserved::is_reserved_word;
 use syn_parts::label::LitKind;
 use syn_tokens::Spacing;
@@ -77,8 +77,9 @@ fn number(minus_token: Option<Minus>, token: Literal) -> Lit
 
 /// The literal that a token is; none where its text begins none.
 #[tactic(auto, unfolding(syn_parts::specs::Text::kind_of))]
-fn plain(alloc: Global, literal: &Literal) -> std::result::Result<Option<Lit>, AllocError>
-    ensures { IfOk result (λ o. MatchOption o (text.kind_of literal.now ≡ None) (λ l. (text.kind_of literal.now ≡ Some (lit_of l).kind) × ((lit_of l).text ≡ literal.now))) }
+fn plain(alloc: Global, literal: &Literal) -> Result<Option<Lit>>
+    ensures value { IfOk result (λ o. MatchOption o (text.kind_of literal.now ≡ None) (λ l. (text.kind_of literal.now ≡ Some (lit_of l).kind) × ((lit_of l).text ≡ literal.now))) }
+    ensures memory { IfErr result (λ e. e.kind ≡ ErrorKind.OutOfMemory) }
 {
     let text = literal.as_str();
     if is_number(text) {

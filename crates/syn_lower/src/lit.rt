@@ -1,12 +1,12 @@
 //! Literals (Rust Reference, "Literal expressions").
 
-ghost use Rattle.std.specs.Prelude.{◌≡◌, true, ◌++◌, [], ◌∷◌, OnOk, OnErr};
+ghost use Rattle.std.specs.Prelude.{◌≡◌, true, ◌++◌, [], ◌∷◌, IfErr, OnOk, OnErr};
 ghost use Rattle.syn_lower.specs.Number.{number_printed};
 ghost use Rattle.syn_parts.specs.Text.{is_number};
 ghost use Rattle.syn_tokens.specs.Input.{IsFront};
 
 use syn_tokens::buffer::ToTokens;
-use syn_tokens::error::Result;
+use syn_tokens::error::{ErrorKind, Result};
 use syn_tokens::token::Minus;
 use syn_tokens::tree::{Ident, Literal, TokenStream};
 
@@ -88,6 +88,7 @@ pub struct LitBool {
 fn print_number(minus: &Option<Minus>, token: &Literal, tokens: &mut TokenStream) -> Result<()>
     ensures ok { OnOk result (tokens.new ≡ tokens.old ++ number_printed minus.now token.now) }
     ensures err { OnErr result (IsFront tokens.old tokens.new) }
+    ensures memory { IfErr result (λ e. e.kind ≡ ErrorKind.OutOfMemory) }
 {
     if let Some(minus) = minus {
         minus.to_tokens(tokens)?;

@@ -1,6 +1,6 @@
 //! The printers of the parts: each writes its own spelling, the last punct of each token alone.
 
-ghost use Rattle.std.specs.Prelude.{length, ◌≡◌, ◌++◌, [], ◌∷◌, OnOk, OnErr};
+ghost use Rattle.std.specs.Prelude.{length, ◌≡◌, ◌++◌, [], ◌∷◌, IfErr, OnOk, OnErr};
 ghost use Rattle.syn_lower.specs.Printed.{option_printed, pairs_printed, grouped, colon2, closed_printed, inside_printed, qself_end_printed, qualified_printed, qpath_printed, round_printed, fn_head_printed};
 ghost use Rattle.syn_lower.specs.View.{delimiter_of, values, type_of, arguments_of, path_of, path_with, qself_or};
 ghost use Rattle.syn_parts.specs.Own.{alone, joint, at_most, type_own};
@@ -24,7 +24,7 @@ use crate::ty::{
 use syn_tokens::Spacing;
 use syn_tokens::buffer::ToTokens;
 use syn_tokens::copy::copy_trees;
-use syn_tokens::error::Result;
+use syn_tokens::error::{ErrorKind, Result};
 use syn_tokens::token::{As, Colon, Comma, Fn, Gt, Paren, PathSep, RArrow, Unsafe};
 use syn_tokens::tree::{Ident, Punct, TokenStream, TokenTree};
 
@@ -33,6 +33,7 @@ use syn_tokens::tree::{Ident, Punct, TokenStream, TokenTree};
 fn print_some<T: ToTokens>(part: &Option<T>, tokens: &mut TokenStream) -> Result<()>
     ensures ok { OnOk result (tokens.new ≡ tokens.old ++ option_printed T.printed part.now) }
     ensures err { OnErr result (IsFront tokens.old tokens.new) }
+    ensures memory { IfErr result (λ e. e.kind ≡ ErrorKind.OutOfMemory) }
 {
     match part {
         Some(part) => part.to_tokens(tokens),
@@ -48,6 +49,7 @@ fn print_pairs<T: ToTokens, P: ToTokens>(
 ) -> Result<()>
     ensures ok { OnOk result (tokens.new ≡ tokens.old ++ pairs_printed T.printed P.printed pairs.entry.now) }
     ensures err { OnErr result (IsFront tokens.old tokens.new) }
+    ensures memory { IfErr result (λ e. e.kind ≡ ErrorKind.OutOfMemory) }
 {
     'pairs: while let [(value, punct), more @ ..] = pairs {
         value.to_tokens(tokens)?;
@@ -192,6 +194,7 @@ fn print_group(
 ) -> Result<()>
     ensures ok { OnOk result (tokens.new ≡ tokens.old ++ grouped (delimiter_of delimiter.now) inside) }
     ensures err { OnErr result (IsFront tokens.old tokens.new) }
+    ensures memory { IfErr result (λ e. e.kind ≡ ErrorKind.OutOfMemory) }
 {
     let group = match delimiter {
         MacroDelimiter::Paren(paren) => paren.enclose(inside),
@@ -401,6 +404,7 @@ impl ToTokens for Abi {
 fn print_name(name: &Option<(Ident, Colon)>, tokens: &mut TokenStream) -> Result<()>
     ensures ok { OnOk result (tokens.new ≡ tokens.old ++ option_printed (λ n. tok.ident n.0 ∷ alone 58 ∷ []) name.now) }
     ensures err { OnErr result (IsFront tokens.old tokens.new) }
+    ensures memory { IfErr result (λ e. e.kind ≡ ErrorKind.OutOfMemory) }
 {
     if let Some((name, colon)) = name {
         name.to_tokens(tokens)?;
@@ -446,6 +450,7 @@ fn inside_count(position: usize, count: usize) -> usize
 fn print_close(left: usize, gt: &Gt, tokens: &mut TokenStream) -> Result<()>
     ensures ok { OnOk result (tokens.new ≡ tokens.old ++ closed_printed left) }
     ensures err { OnErr result (IsFront tokens.old tokens.new) }
+    ensures memory { IfErr result (λ e. e.kind ≡ ErrorKind.OutOfMemory) }
 {
     if left == 1 {
         gt.to_tokens(tokens)
@@ -459,6 +464,7 @@ fn print_close(left: usize, gt: &Gt, tokens: &mut TokenStream) -> Result<()>
 fn print_colons(colons: &PathSep, tokens: &mut TokenStream) -> Result<()>
     ensures ok { OnOk result (tokens.new ≡ tokens.old ++ colon2 colons.now) }
     ensures err { OnErr result (IsFront tokens.old tokens.new) }
+    ensures memory { IfErr result (λ e. e.kind ≡ ErrorKind.OutOfMemory) }
 {
     colons.to_tokens(tokens)
 }
@@ -474,6 +480,7 @@ fn print_inside<S: ToTokens>(
 ) -> Result<()>
     ensures ok { OnOk result (tokens.new ≡ tokens.old ++ inside_printed S.printed left pairs.entry.now last.now) }
     ensures err { OnErr result (IsFront tokens.old tokens.new) }
+    ensures memory { IfErr result (λ e. e.kind ≡ ErrorKind.OutOfMemory) }
 {
     'pairs: while let [(segment, colons), more @ ..] = pairs {
         segment.to_tokens(tokens)?;
@@ -499,6 +506,7 @@ fn print_qself_end(
 ) -> Result<()>
     ensures ok { OnOk result (tokens.new ≡ tokens.old ++ qself_end_printed inside) }
     ensures err { OnErr result (IsFront tokens.old tokens.new) }
+    ensures memory { IfErr result (λ e. e.kind ≡ ErrorKind.OutOfMemory) }
 {
     if inside == 0 {
         return gt.to_tokens(tokens);
@@ -518,6 +526,7 @@ fn print_qualified<T: ToTokens, A: ToTokens>(
 ) -> Result<()>
     ensures ok { OnOk result (tokens.new ≡ tokens.old ++ qualified_printed T.printed A.printed qself.now path.now (at_most qself.now.position (length (values path.now.segments)))) }
     ensures err { OnErr result (IsFront tokens.old tokens.new) }
+    ensures memory { IfErr result (λ e. e.kind ≡ ErrorKind.OutOfMemory) }
 {
     let inside = inside_count(qself.position, path.segments.len());
     qself.lt_token.to_tokens(tokens)?;
@@ -541,6 +550,7 @@ fn print_with_qself<T: ToTokens, A: ToTokens>(
 ) -> Result<()>
     ensures ok { OnOk result (tokens.new ≡ tokens.old ++ qpath_printed T.printed A.printed qself.now path.now) }
     ensures err { OnErr result (IsFront tokens.old tokens.new) }
+    ensures memory { IfErr result (λ e. e.kind ≡ ErrorKind.OutOfMemory) }
 {
     match qself {
         Some(qself) => print_qualified(qself, path, tokens),
@@ -558,6 +568,7 @@ fn print_round<T: ToTokens, R: ToTokens>(
 ) -> Result<()>
     ensures ok { OnOk result (tokens.new ≡ tokens.old ++ round_printed T.printed R.printed inputs.now output.now) }
     ensures err { OnErr result (IsFront tokens.old tokens.new) }
+    ensures memory { IfErr result (λ e. e.kind ≡ ErrorKind.OutOfMemory) }
 {
     let mut inside = TokenStream::new(tokens.alloc());
     inputs.to_tokens(&mut inside)?;
@@ -570,6 +581,7 @@ fn print_round<T: ToTokens, R: ToTokens>(
 fn print_arrow<T: ToTokens>(arrow: &RArrow, ty: &T, tokens: &mut TokenStream) -> Result<()>
     ensures ok { OnOk result (tokens.new ≡ tokens.old ++ joint 45 ∷ alone 62 ∷ T.printed ty.now) }
     ensures err { OnErr result (IsFront tokens.old tokens.new) }
+    ensures memory { IfErr result (λ e. e.kind ≡ ErrorKind.OutOfMemory) }
 {
     arrow.to_tokens(tokens)?;
     ty.to_tokens(tokens)
@@ -586,6 +598,7 @@ fn print_fn_head(
 ) -> Result<()>
     ensures ok { OnOk result (tokens.new ≡ tokens.old ++ fn_head_printed lifetimes.now unsafety.now abi.now) }
     ensures err { OnErr result (IsFront tokens.old tokens.new) }
+    ensures memory { IfErr result (λ e. e.kind ≡ ErrorKind.OutOfMemory) }
 {
     print_some(lifetimes, tokens)?;
     print_some(unsafety, tokens)?;
@@ -739,6 +752,7 @@ impl ToTokens for Type {
 pub fn print_qpath(qself: &Option<QSelf>, path: &Path, tokens: &mut TokenStream) -> Result<()>
     ensures ok { OnOk result (tokens.new ≡ tokens.old ++ type_own (path_with (qself_or type_of qself.now) (path_of arguments_of path.now)) []) }
     ensures err { OnErr result (IsFront tokens.old tokens.new) }
+    ensures memory { IfErr result (λ e. e.kind ≡ ErrorKind.OutOfMemory) }
 {
     print_with_qself(qself, path, tokens)
 }

@@ -1,9 +1,10 @@
 //! Values with puncts between.
 
 ghost use Rattle.std.specs.Iterator.{YieldsFirstRef, item_count};
-ghost use Rattle.std.specs.Prelude.{◌-◌, List, drop, take, ◌≡◌, ◌++◌, [], ◌∷◌, length, true, false, OnOk, OnErr, IsTrue, ◌↔◌, MatchOption, MatchResult};
+ghost use Rattle.std.specs.Prelude.{◌-◌, List, drop, take, ◌≡◌, ◌++◌, [], ◌∷◌, length, true, false, OnOk, OnErr, IfErr, IsTrue, ◌↔◌, MatchOption, MatchResult};
 
-use std::alloc::{AllocError, Global};
+use std::alloc::Global;
+use syn_tokens::error::{ErrorKind, Result};
 
 /// Values with puncts between, and perhaps one at the end.
 #[derive(Drop, PartialEq)]
@@ -45,13 +46,14 @@ impl<T: Drop, P: Drop> Punctuated<T, P> {
 
     /// Puts a value at the end. Where memory runs out the list stays as it was, and the value is given up.
     #[tactic(auto, unfolding(crate::specs::View::values, crate::specs::View::trails, crate::specs::Punct::puncts, crate::specs::Punct::takes_value))]
-    pub fn push_value(&mut self, value: T) -> Result<(), AllocError>
+    pub fn push_value(&mut self, value: T) -> Result<()>
         requires { takes_value self.old ≡ true }
         ensures values { OnOk result (values self.new ≡ values self.old ++ value ∷ []) }
         ensures puncts { OnOk result (puncts self.new ≡ puncts self.old) }
         ensures trails { OnOk result (trails self.new ≡ false) }
         ensures open { OnOk result (takes_value self.new ≡ false) }
         ensures err { OnErr result (self.new ≡ self.old) }
+        ensures memory { IfErr result (λ e. e.kind ≡ ErrorKind.OutOfMemory) }
     {
         self.last = Some(Box::new(self.alloc(), value)?);
         Ok(())
@@ -60,13 +62,14 @@ impl<T: Drop, P: Drop> Punctuated<T, P> {
     /// Puts a punct at the end, behind a value. Where memory runs out the list stays as it was, and the punct is
     /// given up.
     #[tactic(auto, unfolding(crate::specs::View::values, crate::specs::View::trails, crate::specs::Punct::puncts, crate::specs::Punct::takes_value))]
-    pub fn push_punct(&mut self, punct: P) -> Result<(), AllocError>
+    pub fn push_punct(&mut self, punct: P) -> Result<()>
         requires { takes_value self.old ≡ false }
         ensures values { values self.new ≡ values self.old }
         ensures puncts { OnOk result (puncts self.new ≡ puncts self.old ++ punct ∷ []) }
         ensures trails { OnOk result (trails self.new ≡ true) }
         ensures open { OnOk result (takes_value self.new ≡ true) }
         ensures err { OnErr result (IsSameList self.new self.old) }
+        ensures memory { IfErr result (λ e. e.kind ≡ ErrorKind.OutOfMemory) }
     {
         self.inner.reserve(1)?;
         if let Some(value) = self.last.take() {
@@ -160,12 +163,13 @@ impl<T: Drop, P: Default + Drop> Punctuated<T, P> {
     /// Puts a value at the end, behind a default punct where a value is last. Where memory runs out the list stays
     /// as it was, and the value is given up.
     #[tactic(auto, using(crate::proofs::Puncts::puts), unfolding(crate::specs::View::values, crate::specs::View::trails, crate::specs::Punct::puncts, crate::specs::Punct::takes_value))]
-    pub fn push(&mut self, value: T) -> Result<(), AllocError>
+    pub fn push(&mut self, value: T) -> Result<()>
         ensures values { OnOk result (values self.new ≡ values self.old ++ value ∷ []) }
         ensures puncts { OnOk result (PutsPunct P.is_default self.old self.new) }
         ensures trails { OnOk result (trails self.new ≡ false) }
         ensures open { OnOk result (takes_value self.new ≡ false) }
         ensures err { OnErr result (IsSameList self.new self.old) }
+        ensures memory { IfErr result (λ e. e.kind ≡ ErrorKind.OutOfMemory) }
     {
         if self.empty_or_trailing() {
             return self.push_value(value);

@@ -85,8 +85,9 @@ pub trait Parse {
 /// What is written as tokens.
 pub trait ToTokens {
     ghost use Rattle.syn_tokens.specs.Tok.{Tok};
-    ghost use Rattle.std.specs.Prelude.{◌++◌, OnOk, OnErr, List};
+    ghost use Rattle.std.specs.Prelude.{◌≡◌, ◌++◌, OnOk, OnErr, IfErr, List};
     ghost use Rattle.syn_tokens.specs.Input.{IsFront};
+    ghost use Rattle.syn_tokens.specs.declared.error.ErrorKind.TheVariants.{OutOfMemory};
 
     /// The tokens.
     ghost printed: { Self → List Tok };
@@ -94,7 +95,8 @@ pub trait ToTokens {
     /// Puts the tokens at the end. Where memory runs out a part of them may follow what was there.
     fn to_tokens(&self, tokens: &mut TokenStream) -> Result<()>
         ensures ok { OnOk result (tokens.new ≡ tokens.old ++ printed self.now) }
-        ensures err { OnErr result (IsFront tokens.old tokens.new) };
+        ensures err { OnErr result (IsFront tokens.old tokens.new) }
+        ensures memory { IfErr result (λ e. e.kind ≡ OutOfMemory) };
 }
 
 #[tactic(auto, using(crate::proofs::Views::views, crate::proofs::Inputs::tails))]

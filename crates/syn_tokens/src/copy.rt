@@ -1,30 +1,34 @@
 //! Copies of token trees.
 
-ghost use Rattle.std.specs.Prelude.{◌≡◌, IfOk, MatchResult, string_bytes};
+ghost use Rattle.std.specs.Prelude.{◌≡◌, IfOk, IfErr};
 ghost use Rattle.syn_tokens.specs.View.{tok_of, toks_of};
 
+use crate::error::{ErrorKind, Result};
 use crate::tree::{Group, Ident, Literal, TokenStream, TokenTree};
-use std::alloc::{AllocError, Global};
+use std::alloc::Global;
 
 /// A copy of a word, with its place, which shares its text; refused only where memory runs out.
-pub fn copy_ident(_: Global, ident: &Ident) -> Result<Ident, AllocError>
-    ensures { IfOk result (λ i. i ≡ ident.now) }
+pub fn copy_ident(_: Global, ident: &Ident) -> Result<Ident>
+    ensures copied { IfOk result (λ i. i ≡ ident.now) }
+    ensures memory { IfErr result (λ e. e.kind ≡ ErrorKind.OutOfMemory) }
 {
-    ident.copy()
+    Ok(ident.copy()?)
 }
 
 /// A copy of a literal, with its place, which shares its text; refused only where memory runs out.
-pub fn copy_literal(_: Global, literal: &Literal) -> Result<Literal, AllocError>
-    ensures { IfOk result (λ l. l ≡ literal.now) }
+pub fn copy_literal(_: Global, literal: &Literal) -> Result<Literal>
+    ensures copied { IfOk result (λ l. l ≡ literal.now) }
+    ensures memory { IfErr result (λ e. e.kind ≡ ErrorKind.OutOfMemory) }
 {
-    literal.copy()
+    Ok(literal.copy()?)
 }
 
 /// A copy of a tree, with its places; refused only where memory runs out.
 #[cycle(copy)]
 #[tactic(auto, using(crate::proofs::Views::insides))]
-pub fn copy_tree(alloc: Global, tree: &TokenTree) -> Result<TokenTree, AllocError>
-    ensures { IfOk result (λ t. tok_of t ≡ tok_of tree.now) }
+pub fn copy_tree(alloc: Global, tree: &TokenTree) -> Result<TokenTree>
+    ensures copied { IfOk result (λ t. tok_of t ≡ tok_of tree.now) }
+    ensures memory { IfErr result (λ e. e.kind ≡ ErrorKind.OutOfMemory) }
 {
     match tree {
         TokenTree::Ident(ident) => Ok(TokenTree::Ident(copy_ident(alloc, ident)?)),
@@ -44,8 +48,9 @@ pub fn copy_tree(alloc: Global, tree: &TokenTree) -> Result<TokenTree, AllocErro
 /// A copy of some trees, with their places; refused only where memory runs out.
 #[cycle(copy)]
 #[tactic(auto, using(crate::proofs::Views::insides, crate::proofs::Weights::one_at_least), unfolding(crate::specs::Tok::weight))]
-pub fn copy_trees(alloc: Global, trees: &[TokenTree]) -> Result<TokenStream, AllocError>
-    ensures { IfOk result (λ s. s ≡ toks_of trees.now) }
+pub fn copy_trees(alloc: Global, trees: &[TokenTree]) -> Result<TokenStream>
+    ensures copied { IfOk result (λ s. s ≡ toks_of trees.now) }
+    ensures memory { IfErr result (λ e. e.kind ≡ ErrorKind.OutOfMemory) }
 {
     let mut stream = TokenStream::new(alloc);
     let mut rest = trees;

@@ -1,6 +1,6 @@
 //! The tokens of one or more puncts, the words and the delimiters.
 
-ghost use Rattle.std.specs.Prelude.{◌≡◌, ◌++◌, [], ◌∷◌, drop, replicate, IsTrue, OnOk, OnErr};
+ghost use Rattle.std.specs.Prelude.{◌≡◌, ◌++◌, [], ◌∷◌, drop, replicate, IsTrue, IfErr, OnOk, OnErr};
 ghost use Rattle.syn_lexer.specs.declared.lexeme.Delimiter.TheVariants as delimiter;
 ghost use Rattle.syn_tokens.specs.Front as front;
 ghost use Rattle.syn_tokens.specs.Input.{IsFront};
@@ -372,6 +372,7 @@ fn begins_word(text: &str, rest: &[TokenTree]) -> bool
 fn push_puncts(mut text: &[u8], mut spans: &[Span], tokens: &mut TokenStream) -> Result<()>
     ensures ok { OnOk result (tokens.new ≡ tokens.old ++ spec.sign_toks text.entry.now) }
     ensures err { OnErr result (IsFront tokens.old tokens.new) }
+    ensures memory { IfErr result (λ e. e.kind ≡ ErrorKind.OutOfMemory) }
 {
     while let [b, more @ ..] = text {
         let span = match spans {
@@ -398,6 +399,7 @@ fn push_puncts(mut text: &[u8], mut spans: &[Span], tokens: &mut TokenStream) ->
 fn push_word(text: &str, span: Span, tokens: &mut TokenStream) -> Result<()>
     ensures ok { OnOk result (tokens.new ≡ tokens.old ++ spec.word_toks text.now) }
     ensures err { OnErr result (IsFront tokens.old tokens.new) }
+    ensures memory { IfErr result (λ e. e.kind ≡ ErrorKind.OutOfMemory) }
 {
     if text.is_empty() {
         return Ok(());

@@ -1,8 +1,9 @@
 //! Token trees and streams of them, as in proc_macro2.
 
-ghost use Rattle.std.specs.Prelude.{◌≡◌, [], ◌∷◌, ◌++◌, length, take, IfOk, OnOk, OnErr, IsTrue, ◌↔◌};
+ghost use Rattle.std.specs.Prelude.{◌≡◌, [], ◌∷◌, ◌++◌, length, take, IfOk, IfErr, OnOk, OnErr, IsTrue, ◌↔◌};
 ghost use Rattle.std.specs.Rc.{rc_str_bytes};
 
+use crate::error::{ErrorKind, Result};
 use crate::span::Span;
 use crate::{Delimiter, Spacing};
 use std::alloc::{AllocError, Global};
@@ -55,7 +56,7 @@ impl Ident {
     }
 
     /// It once more, which shares its text.
-    pub(crate) fn copy(&self) -> Result<Ident, AllocError>
+    pub(crate) fn copy(&self) -> std::result::Result<Ident, AllocError>
         ensures { IfOk result (λ i. i ≡ self.now) }
     {
         let text = self.text.clone()?;
@@ -100,7 +101,7 @@ impl Literal {
     }
 
     /// It once more, which shares its text.
-    pub(crate) fn copy(&self) -> Result<Literal, AllocError>
+    pub(crate) fn copy(&self) -> std::result::Result<Literal, AllocError>
         ensures { IfOk result (λ l. l ≡ self.now) }
     {
         let text = self.text.clone()?;
@@ -213,22 +214,26 @@ impl TokenStream {
         *self.trees.allocator()
     }
 
-    /// Puts a tree at the end. A refused push changes nothing, and gives up the tree.
-    pub fn push(&mut self, tree: TokenTree) -> Result<(), AllocError>
+    /// Puts a tree at the end. It is refused only where memory runs out; then nothing changes, and the tree is given up.
+    pub fn push(&mut self, tree: TokenTree) -> Result<()>
         ensures ok { OnOk result (self.new ≡ self.old ++ tok_of tree ∷ []) }
         ensures err { OnErr result (self.new ≡ self.old) }
+        ensures memory { IfErr result (λ e. e.kind ≡ ErrorKind.OutOfMemory) }
     {
         self.trees.push(tree)?;
         Ok(())
     }
 
-    /// Puts the trees of another list at the end. A refused append changes nothing, and gives up the other list.
-    pub fn append(&mut self, more: TokenStream) -> Result<(), AllocError>
+    /// Puts the trees of another list at the end. It is refused only where memory runs out; then nothing changes, and the
+    /// other list is given up.
+    pub fn append(&mut self, more: TokenStream) -> Result<()>
         ensures ok { OnOk result (self.new ≡ self.old ++ more) }
         ensures err { OnErr result (self.new ≡ self.old) }
+        ensures memory { IfErr result (λ e. e.kind ≡ ErrorKind.OutOfMemory) }
     {
         let TokenStream { mut trees } = more;
-        self.trees.append(&mut trees)
+        self.trees.append(&mut trees)?;
+        Ok(())
     }
 
     /// Keeps the first `len` trees; a `len` above the length changes nothing.
