@@ -21,8 +21,8 @@ use crate::fixup::{ENCLOSED, FixupContext};
 use crate::node::has_outer;
 use crate::notes::{class_of, collect, is_wrapped, tick};
 use crate::op::level;
-use crate::tokens::{put, put_attrs, put_lit, put_path, put_tree};
-use std::alloc::Global;
+use crate::tokens::{Grown, put, put_attrs, put_lit, put_path, put_tree};
+use std::alloc::{AllocError, Global};
 use syn_grammar::kinds::{Infix, Level};
 use syn_grammar::next::{Context, Edge, Role};
 use syn_grammar::note::Note;
@@ -62,10 +62,9 @@ fn right_context(context: Context) -> Context
 }
 
 /// Puts tokens in parentheses at the end.
-fn put_parens(tokens: &mut TokenStream, parens: Paren, inside: TokenStream) -> Result<()>
+fn put_parens(tokens: &mut TokenStream, parens: Paren, inside: TokenStream) -> Grown
     ensures ok { OnOk result (tokens.new ≡ tokens.old ++ tok.group delimiter.Parenthesis (tok.inside inside) ∷ []) }
     ensures front { IsFront tokens.old tokens.new }
-    ensures memory { IfErr result (λ e. e.kind ≡ ErrorKind.OutOfMemory) }
 {
     put_tree(tokens, parens.enclose(inside))
 }
@@ -101,13 +100,12 @@ fn print_in(
     expr: &Expr,
     wrapped: bool,
     context: Context,
-) -> Result<()>
+) -> Grown
     requires stacked { EndsWith notes.old.items (below (tree_of expr.now)) }
     ensures text { OnOk result (tokens.new ≡ tokens.old ++ own_tokens (put wrapped (bare next_spec.enclosed (tree_of expr.now)) (bare context (tree_of expr.now)))) }
     ensures front { IsFront tokens.old tokens.new }
     ensures used { OnOk result (notes.old.items ≡ notes.new.items ++ below (tree_of expr.now)) }
     ensures counted { OnOk result (visits.new ≡ min (visits.old + size (tree_of expr.now)) (2 ^ 64 - 1)) }
-    ensures memory { IfErr result (λ e. e.kind ≡ ErrorKind.OutOfMemory) }
 {
     if wrapped {
         let mut inside = TokenStream::new(tokens.alloc());
@@ -128,13 +126,12 @@ fn print_two(
     visits: &mut u64,
     x: &ExprBinary,
     context: Context,
-) -> Result<()>
+) -> Grown
     requires stacked { EndsWith notes.old.items (below (tree_of (Expr.Binary x.now))) }
     ensures text { OnOk result (tokens.new ≡ tokens.old ++ spelled_two context (tree_of x.now.left.value) (inf.Binary (bin_kind x.now.op)) (tree_of x.now.right.value)) }
     ensures front { IsFront tokens.old tokens.new }
     ensures used { OnOk result (notes.old.items ≡ notes.new.items ++ (stack (tree_of x.now.right.value) ++ stack (tree_of x.now.left.value))) }
     ensures counted { OnOk result (visits.new ≡ min (visits.old + (size (tree_of x.now.left.value) + size (tree_of x.now.right.value))) (2 ^ 64 - 1)) }
-    ensures memory { IfErr result (λ e. e.kind ≡ ErrorKind.OutOfMemory) }
 {
     let op = Infix::Binary(x.op.kind());
     let around = left_context(op, context);
@@ -156,13 +153,12 @@ fn print_bare(
     visits: &mut u64,
     expr: &Expr,
     context: Context,
-) -> Result<()>
+) -> Grown
     requires stacked { EndsWith notes.old.items (below (tree_of expr.now)) }
     ensures text { OnOk result (tokens.new ≡ tokens.old ++ spelled context (tree_of expr.now)) }
     ensures front { IsFront tokens.old tokens.new }
     ensures used { OnOk result (notes.old.items ≡ notes.new.items ++ below (tree_of expr.now)) }
     ensures counted { OnOk result (visits.new ≡ min (visits.old + size (tree_of expr.now)) (2 ^ 64 - 1)) }
-    ensures memory { IfErr result (λ e. e.kind ≡ ErrorKind.OutOfMemory) }
 {
     tick(visits);
     match expr {
@@ -208,11 +204,15 @@ fn print_bare(
 }
 
 /// Prints a node in its role, and answers how many nodes were visited. All notes are made before the first token.
-fn print_node(tokens: &mut TokenStream, expr: &Expr, role: Role, context: Context) -> Result<u64>
+fn print_node(
+    tokens: &mut TokenStream,
+    expr: &Expr,
+    role: Role,
+    context: Context,
+) -> std::result::Result<u64, AllocError>
     ensures text { OnOk result (tokens.new ≡ tokens.old ++ spelled_in role context (tree_of expr.now)) }
     ensures front { IsFront tokens.old tokens.new }
     ensures visited { IfOk result (λ n. n ≡ min (2 * size (tree_of expr.now)) (2 ^ 64 - 1)) }
-    ensures memory { IfErr result (λ e. e.kind ≡ ErrorKind.OutOfMemory) }
 {
     let mut visits = 0;
     let mut notes = Vec::new(tokens.alloc());
@@ -328,10 +328,9 @@ impl ToTokens for ExprUnary {
 
 #[tactic(auto, using(crate::proofs::Prints::fronts, crate::proofs::Prints::joins))]
 /// Prints the operands of a binary operation that stands for itself, with its operator between.
-fn print_operands(tokens: &mut TokenStream, x: &ExprBinary) -> Result<()>
+fn print_operands(tokens: &mut TokenStream, x: &ExprBinary) -> Grown
     ensures ok { OnOk result (tokens.new ≡ tokens.old ++ spelled_two next_spec.enclosed (tree_of x.now.left.value) (inf.Binary (bin_kind x.now.op)) (tree_of x.now.right.value)) }
     ensures front { IsFront tokens.old tokens.new }
-    ensures memory { IfErr result (λ e. e.kind ≡ ErrorKind.OutOfMemory) }
 {
     let op = Infix::Binary(x.op.kind());
     print_node(

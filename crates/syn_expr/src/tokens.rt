@@ -1,6 +1,6 @@
 //! Tokens of operators, literals, paths and attributes.
 
-ghost use Rattle.std.specs.Prelude.{◌≡◌, ◌++◌, ◌∷◌, [], false, IfErr, OnOk};
+ghost use Rattle.std.specs.Prelude.{Ok, is_ok, MatchResult, ◌≡◌, ◌++◌, ◌∷◌, [], false, OnOk};
 ghost use Rattle.syn_grammar.specs.Tree as tree;
 ghost use Rattle.syn_tokens.specs.Input.{IsFront};
 ghost use Rattle.syn_tokens.specs.Tok as tok;
@@ -16,9 +16,13 @@ use crate::punctuated::Punctuated;
 use std::alloc::AllocError;
 use syn_tokens::buffer::ToTokens;
 use syn_tokens::copy::{copy_ident, copy_trees};
-use syn_tokens::error::{ErrorKind, Result};
+use syn_tokens::error::Result;
 use syn_tokens::token::PathSep;
 use syn_tokens::tree::{Ident, TokenStream, TokenTree};
+
+/// What a printer answers inside. That memory ran out is all that printing is refused for, and needs no place: an `Error`
+/// would double what the recursion takes of the machine's stack.
+pub(crate) type Grown = std::result::Result<(), AllocError>;
 
 #[tactic(auto, unfolding(syn_tokens::specs::Sign::sign_text))]
 impl ToTokens for BinOp {
@@ -78,57 +82,60 @@ impl ToTokens for UnOp {
     }
 }
 
-/// Puts a token at the end. What is written is refused for want of memory alone.
+/// What was answered, without the place of a refusal.
+fn grown<T>(answer: Result<T>) -> std::result::Result<T, AllocError>
+    ensures { MatchResult result (λ x. answer ≡ Ok x) (λ _. is_ok answer ≡ false) }
+{
+    match answer {
+        Ok(x) => Ok(x),
+        Err(_) => Err(AllocError),
+    }
+}
+
+/// Puts a token at the end.
 #[tactic(auto, using(crate::proofs::Prints::fronts))]
-pub(crate) fn put<T: ToTokens>(tokens: &mut TokenStream, token: &T) -> Result<()>
+pub(crate) fn put<T: ToTokens>(tokens: &mut TokenStream, token: &T) -> Grown
     ensures ok { OnOk result (tokens.new ≡ tokens.old ++ T.printed token.now) }
     ensures front { IsFront tokens.old tokens.new }
-    ensures memory { IfErr result (λ e. e.kind ≡ ErrorKind.OutOfMemory) }
 {
-    token.to_tokens(tokens)
+    grown(token.to_tokens(tokens))
 }
 
 /// Puts a token tree at the end.
 #[tactic(auto, using(crate::proofs::Prints::fronts))]
-pub(crate) fn put_tree(tokens: &mut TokenStream, tree: TokenTree) -> Result<()>
+pub(crate) fn put_tree(tokens: &mut TokenStream, tree: TokenTree) -> Grown
     ensures ok { OnOk result (tokens.new ≡ tokens.old ++ tok_of tree ∷ []) }
     ensures front { IsFront tokens.old tokens.new }
-    ensures memory { IfErr result (λ e. e.kind ≡ ErrorKind.OutOfMemory) }
 {
-    tokens.push(tree)
+    grown(tokens.push(tree))
 }
 
 /// Puts a word at the end.
 #[tactic(auto, using(crate::proofs::Prints::fronts))]
-fn put_word(tokens: &mut TokenStream, ident: &Ident) -> Result<()>
+fn put_word(tokens: &mut TokenStream, ident: &Ident) -> Grown
     ensures ok { OnOk result (tokens.new ≡ tokens.old ++ tok.ident ident.now ∷ []) }
     ensures front { IsFront tokens.old tokens.new }
-    ensures memory { IfErr result (λ e. e.kind ≡ ErrorKind.OutOfMemory) }
 {
-    let ident = copy_ident(tokens.alloc(), ident)?;
-    tokens.push(TokenTree::Ident(ident))
+    let ident = grown(copy_ident(tokens.alloc(), ident))?;
+    put_tree(tokens, TokenTree::Ident(ident))
 }
 
 /// Puts a truth value at the end.
 #[tactic(auto, using(crate::proofs::Prints::fronts))]
-fn put_bool(tokens: &mut TokenStream, bool: &LitBool) -> Result<()>
+fn put_bool(tokens: &mut TokenStream, bool: &LitBool) -> Grown
     ensures ok { OnOk result (tokens.new ≡ tokens.old ++ tree.lit_tok (tree.bool bool.now.value) ∷ []) }
     ensures front { IsFront tokens.old tokens.new }
-    ensures memory { IfErr result (λ e. e.kind ≡ ErrorKind.OutOfMemory) }
 {
     let text = if bool.value { "true" } else { "false" };
-    match Ident::new(tokens.alloc(), text, bool.span) {
-        Ok(ident) => tokens.push(TokenTree::Ident(ident)),
-        Err(_) => Err(AllocError.into()),
-    }
+    let ident = grown(Ident::new(tokens.alloc(), text, bool.span))?;
+    put_tree(tokens, TokenTree::Ident(ident))
 }
 
 /// Puts a literal at the end.
 #[tactic(auto, using(crate::proofs::Prints::fronts))]
-pub(crate) fn put_lit(tokens: &mut TokenStream, lit: &Lit) -> Result<()>
+pub(crate) fn put_lit(tokens: &mut TokenStream, lit: &Lit) -> Grown
     ensures ok { OnOk result (tokens.new ≡ tokens.old ++ tree.lit_tok (lit_of lit.now) ∷ []) }
     ensures front { IsFront tokens.old tokens.new }
-    ensures memory { IfErr result (λ e. e.kind ≡ ErrorKind.OutOfMemory) }
 {
     match lit {
         Lit::Int(x) => put(tokens, &x.token),
@@ -139,20 +146,18 @@ pub(crate) fn put_lit(tokens: &mut TokenStream, lit: &Lit) -> Result<()>
 
 /// Puts `::` at the end.
 #[tactic(auto, unfolding(syn_tokens::specs::Sign::sign_text))]
-fn put_colons(tokens: &mut TokenStream, colons: &PathSep) -> Result<()>
+fn put_colons(tokens: &mut TokenStream, colons: &PathSep) -> Grown
     ensures ok { OnOk result (tokens.new ≡ tokens.old ++ tree.two 58 58) }
     ensures front { IsFront tokens.old tokens.new }
-    ensures memory { IfErr result (λ e. e.kind ≡ ErrorKind.OutOfMemory) }
 {
     put(tokens, colons)
 }
 
 /// Puts a segment of a path at the end, behind `::` where there is one.
 #[tactic(auto, using(crate::proofs::Prints::fronts))]
-fn put_segment(tokens: &mut TokenStream, colons: Option<PathSep>, ident: &Ident) -> Result<()>
+fn put_segment(tokens: &mut TokenStream, colons: Option<PathSep>, ident: &Ident) -> Grown
     ensures ok { OnOk result (tokens.new ≡ tokens.old ++ segment_toks (is_there colons) ident.now) }
     ensures front { IsFront tokens.old tokens.new }
-    ensures memory { IfErr result (λ e. e.kind ≡ ErrorKind.OutOfMemory) }
 {
     if let Some(colons) = colons {
         put_colons(tokens, &colons)?;
@@ -162,10 +167,9 @@ fn put_segment(tokens: &mut TokenStream, colons: Option<PathSep>, ident: &Ident)
 
 /// Puts the segments of a path at the end, with `::` between.
 #[tactic(auto, using(crate::proofs::Prints::fronts))]
-fn put_segments(tokens: &mut TokenStream, segments: &Punctuated<PathSegment, PathSep>) -> Result<()>
+fn put_segments(tokens: &mut TokenStream, segments: &Punctuated<PathSegment, PathSep>) -> Grown
     ensures ok { OnOk result (tokens.new ≡ tokens.old ++ segments_behind false (words_of segments.now)) }
     ensures front { IsFront tokens.old tokens.new }
-    ensures memory { IfErr result (λ e. e.kind ≡ ErrorKind.OutOfMemory) }
 {
     let mut colons = None;
     for (segment, behind) in &segments.inner {
@@ -180,10 +184,9 @@ fn put_segments(tokens: &mut TokenStream, segments: &Punctuated<PathSegment, Pat
 
 /// Puts a path at the end.
 #[tactic(auto, using(crate::proofs::Prints::fronts, crate::proofs::Prints::segments_behind_is), unfolding(crate::specs::View::path_of))]
-pub(crate) fn put_path(tokens: &mut TokenStream, path: &Path) -> Result<()>
+pub(crate) fn put_path(tokens: &mut TokenStream, path: &Path) -> Grown
     ensures ok { OnOk result (tokens.new ≡ tokens.old ++ tree.path_toks (path_of path.now)) }
     ensures front { IsFront tokens.old tokens.new }
-    ensures memory { IfErr result (λ e. e.kind ≡ ErrorKind.OutOfMemory) }
 {
     match &path.leading_colon {
         Some(leading) => {
@@ -197,22 +200,20 @@ pub(crate) fn put_path(tokens: &mut TokenStream, path: &Path) -> Result<()>
 
 /// Puts an attribute at the end.
 #[tactic(auto, using(crate::proofs::Prints::fronts), unfolding(syn_tokens::specs::Sign::sign_text))]
-fn put_attr(tokens: &mut TokenStream, attr: &Attribute) -> Result<()>
+fn put_attr(tokens: &mut TokenStream, attr: &Attribute) -> Grown
     ensures ok { OnOk result (tokens.new ≡ tokens.old ++ tree.attr_toks (record { tokens = tok.inside attr.now.tokens })) }
     ensures front { IsFront tokens.old tokens.new }
-    ensures memory { IfErr result (λ e. e.kind ≡ ErrorKind.OutOfMemory) }
 {
     put(tokens, &attr.pound_token)?;
-    let inside = copy_trees(tokens.alloc(), attr.tokens.trees())?;
+    let inside = grown(copy_trees(tokens.alloc(), attr.tokens.trees()))?;
     put_tree(tokens, attr.bracket_token.enclose(inside))
 }
 
 /// Puts the outer attributes at the end.
 #[tactic(auto, using(crate::proofs::Prints::fronts), unfolding(crate::specs::View::attrs_of))]
-pub(crate) fn put_attrs(tokens: &mut TokenStream, attrs: &Vec<Attribute>) -> Result<()>
+pub(crate) fn put_attrs(tokens: &mut TokenStream, attrs: &Vec<Attribute>) -> Grown
     ensures ok { OnOk result (tokens.new ≡ tokens.old ++ tree.attrs_toks (attrs_of attrs.now)) }
     ensures front { IsFront tokens.old tokens.new }
-    ensures memory { IfErr result (λ e. e.kind ≡ ErrorKind.OutOfMemory) }
 {
     for attr in attrs {
         if matches!(attr.style, AttrStyle::Outer) {
