@@ -1,5 +1,5 @@
 -- What a reader ensures.
-use Rattle.std.specs.Prelude.{◌≡◌, ◌≢◌, ℕ, ◌≤◌, ◌<◌, true, List, ◌∷◌, drop, Option, Some, None, Result, Ok, Err}
+use Rattle.std.specs.Prelude.{◌≡◌, ◌≢◌, ℕ, ◌≤◌, ◌<◌, Bool, true, false, List, ◌∷◌, drop, Option, Some, None, Result, Ok, Err}
 use Rattle.syn_tokens.specs.declared.error.Error.{Error}
 use Rattle.syn_tokens.specs.declared.error.ErrorKind.TheVariants.{OutOfMemory}
 use Rattle.syn_tokens.specs.Tok.{Tok, ident, weight}
@@ -26,7 +26,12 @@ abbrev pub Reads : {A B : Type 0} → (A → B) → Outcome B → Result A Error
 Reads view outcome (Ok a) new = outcome ≡ Some (view a, new)
 Reads view outcome (Err e) new = e.kind ≢ OutOfMemory → outcome ≡ None
 
--- a segment of a path stands first
+-- a word that may be a segment of a path stands first
+abbrev pub segment_stands : List Tok → Bool
+segment_stands (ident s ∷ l) = is_segment s
+segment_stands _ = false
+
+-- a segment of a path is read
 abbrev pub ReadsSegment : List Tok → Result PathSegment Error → List Tok → Type 0
 ReadsSegment old (Ok s) new = (old ≡ ident s.ident ∷ new) × (is_segment s.ident ≡ true)
 ReadsSegment old (Err e) new = e.kind ≢ OutOfMemory → segments_at old ≡ None

@@ -1,12 +1,13 @@
 //! Paths (Rust Reference, "Paths in expressions").
 
-ghost use Rattle.std.specs.Prelude.{◌≡◌, ◌≤◌, ◌<◌, false, None, IfOk};
+ghost use Rattle.std.specs.Prelude.{◌≡◌, ◌≤◌, ◌<◌, ◌||◌, false, None, IfOk};
 ghost use Rattle.syn_grammar.specs.Read as spec;
+ghost use Rattle.syn_grammar.specs.Tokens.{path_sep_at};
 ghost use Rattle.syn_grammar.specs.Words.{is_segment};
 ghost use Rattle.syn_grammar.specs.Tree.{is_sole, is_word_alone};
 ghost use Rattle.syn_tokens.specs.Tok.{weight};
 ghost use Rattle.syn_expr.specs.View.{path_of, segments_of};
-ghost use Rattle.syn_expr.specs.Reads.{Reads, ReadsSegment};
+ghost use Rattle.syn_expr.specs.Reads.{Reads, ReadsSegment, segment_stands};
 
 use crate::front::{path_sep, path_sep_at};
 use crate::punctuated::Punctuated;
@@ -57,7 +58,8 @@ fn is_segment(word: &str) -> bool
 
 /// Whether a segment stands first.
 fn segment_at(input: &ParseBuffer<'_>) -> bool
-    ensures { result ≡ false → spec.segments_at input.now.rest ≡ None }
+    ensures value { result ≡ segment_stands input.now.rest }
+    ensures absent { result ≡ false → spec.segments_at input.now.rest ≡ None }
 {
     match input.first() {
         Some(TokenTree::Ident(word)) => is_segment(word.as_str()),
@@ -125,7 +127,8 @@ impl Path {
     /// Whether a path may stand first: `::` or a segment does.
     #[tactic(auto, unfolding(syn_grammar::specs::Read::path_at))]
     pub(crate) fn begins(input: &ParseBuffer<'_>) -> bool
-        ensures { result ≡ false → spec.path_at input.now.rest ≡ None }
+        ensures value { result ≡ (path_sep_at input.now.rest || segment_stands input.now.rest) }
+        ensures absent { result ≡ false → spec.path_at input.now.rest ≡ None }
     {
         path_sep_at(input) || segment_at(input)
     }
