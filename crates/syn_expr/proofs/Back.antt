@@ -5,24 +5,21 @@ use Rattle.syn_tokens.specs.Input.{Gives}
 use Rattle.syn_tokens.specs.Tok.{Tok}
 use Rattle.syn_tokens.specs.declared.error.Error.{Error}
 use Rattle.syn_tokens.specs.declared.error.ErrorKind.TheVariants.{OutOfMemory}
-use Rattle.syn_grammar.specs.declared.kinds.Infix.{Infix}
 use Rattle.syn_grammar.specs.Next.{enclosed}
 use Rattle.syn_grammar.specs.Place.{plain}
 use Rattle.syn_grammar.specs.Rule.{printed}
 use Rattle.syn_grammar.specs.Stands.{Stands}
 use Rattle.syn_grammar.specs.Tree.{Tree, leaf, paren, lead, mid, adorned, own_tokens, clear, flatten, prepend, is_well_formed, IsSameTree}
+use Rattle.syn_grammar.proofs.Nodes.{same_mid}
 use Rattle.syn_grammar.proofs.Promise.{printed_same, printed_stands}
 use Rattle.syn_expr.specs.declared.expr.Expr.{Expr}
 use Rattle.syn_expr.specs.View.{tree_of}
-
-both : (l l' r r' : Tree) (k : Infix) → l ≡ l' → r ≡ r' → mid l k r ≡ mid l' k r'
-both l l' r r' k p q = cc
 
 flatten_clear : (t : Tree) → flatten (clear t) ≡ flatten t
 flatten_clear (leaf k) = refl
 flatten_clear (paren m t) = flatten_clear t
 flatten_clear (lead k t) = ap (lead k) (flatten_clear t)
-flatten_clear (mid l k r) = both _ _ _ _ k (flatten_clear l) (flatten_clear r)
+flatten_clear (mid l k r) = same_mid _ _ _ _ k (flatten_clear l) (flatten_clear r)
 flatten_clear (adorned a more t) = ap (prepend (a ∷ more)) (flatten_clear t)
 
 read_by : (e : Expr) (s : Tree) (r : Result Expr Error) → IsSameTree (tree_of e) s → Gives tree_of s r

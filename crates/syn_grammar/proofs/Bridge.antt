@@ -1,9 +1,7 @@
 -- A printed tree that obeys the binding rules stands for its own tokens.
 use Rattle.std.proofs.Common.{◌≡◌, ℕ, Bool, true, false, not, ◌||◌, ◌&&◌, List, [], ◌∷◌, ◌++◌, drop, Some, None, refl, ap, sym, ◌∙◌, subst, append_assoc}
 use Rattle.std.specs.Prelude.{if◌then◌else◌}
-use Rattle.std.specs.Str.{bytes_eq}
 use Rattle.std.proofs.lemmas.List.{append-nil}
-use Rattle.std.proofs.lemmas.Slice.Eq.{bytes_eq-Decides}
 use Rattle.syn_tokens.specs.Tok.{Tok, group, toks-inside}
 use Rattle.syn_lexer.specs.declared.lexeme.Delimiter.TheVariants as delimiter
 use Rattle.syn_grammar.specs.declared.kinds.UnKind.{UnKind}
@@ -31,6 +29,7 @@ use Rattle.syn_grammar.proofs.Edges.{and_false, class_no_trailer}
 use Rattle.syn_grammar.proofs.Formed.{Formed, both_true, not_it}
 use Rattle.syn_grammar.proofs.Good.{fits_end}
 use Rattle.syn_grammar.proofs.Obeys.{Fits, FitsLeft, Obeys}
+use Rattle.syn_grammar.proofs.Paths.{word_itself}
 use Rattle.syn_grammar.proofs.Shows.{Shows, shows_end, shows_operator, reach_takes}
 
 -- ---- operators
@@ -205,14 +204,11 @@ float_is : (text : List ℕ) → is_number_text text true ≡ true → number_of
 unfolding number_of
 float_is text h = if_both (starts_number text) (is_float_text text) (Some (float text)) (Some (int text)) None h
 
-itself : (w : List ℕ) → bytes_eq w w ≡ true
-itself w = (bytes_eq-Decides w w).1 refl
-
 segments_here : (ss : List (List ℕ)) (n : List Tok) → is_some_segment ss ≡ true → path_sep_at n ≡ false → behind_segments ss (segments_toks ss ++ n) ≡ Some n
 unfolding behind_segments word_at path_sep_at signs sign
 segments_here [] n h e = absurd cc
-segments_here (s ∷ []) n h e = rw (itself s, e) refl
-segments_here (s ∷ t ∷ more) n h e = rw (itself s) (segments_here (t ∷ more) n refl e)
+segments_here (s ∷ []) n h e = rw (word_itself s, e) refl
+segments_here (s ∷ t ∷ more) n h e = rw (word_itself s) (segments_here (t ∷ more) n refl e)
 
 two_colons : (xs : List Tok) → path_sep_at (two 58 58 ++ xs) ≡ true
 unfolding path_sep_at signs sign

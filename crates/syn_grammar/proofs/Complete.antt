@@ -15,7 +15,8 @@ use Rattle.syn_grammar.specs.Tokens.{path_sep_at}
 use Rattle.syn_grammar.specs.Op.{prefix_at, level}
 use Rattle.syn_grammar.specs.Stands.{Node, is_number, is_truth, is_falsehood, is_path, is_paren, is_unary, is_adorned, is_mid, Stands, unadorned, closes, ends, ends_operation, fits_left, path_stands, attrs_at}
 use Rattle.syn_grammar.specs.Read.{Reading, path_at, named, stop, next_operator, whole, atom, core, operand, longer, climb, operations, at_place}
-use Rattle.syn_grammar.proofs.Weights.{less_drop, dropped, drop_weight, prefix_present}
+use Rattle.syn_tokens.proofs.Weights.{drop_weight}
+use Rattle.syn_grammar.proofs.Weights.{less_drop, dropped, prefix_present}
 use Rattle.syn_grammar.proofs.Paths.{path_complete, path_begins, Begins, no_truth, no_falsehood, same_word, end_no_sep}
 use Rattle.syn_grammar.proofs.Ends.{IsBare, word_bare, literal_bare, parens_bare, path_bare, prefix_bare, closes_adorned, prepend_is, ends_next, attrs_lighter, next_is, not_range, both, sep_first}
 use Rattle.syn_grammar.proofs.Spelled.{node_less}

@@ -17,8 +17,9 @@ use Rattle.syn_grammar.specs.Op.{prefix_at, unary, infix_at, takes, level, opera
 use Rattle.syn_grammar.specs.Stands.{unadorned, is_range, carries_trailer, closes, ends, fits_left, attrs_at, attrs_behind, is_pound}
 use Rattle.syn_grammar.specs.Read.{next_operator, taken_at, taken_by}
 use Rattle.syn_grammar.proofs.Chains.{some_is, chosen}
+use Rattle.syn_grammar.proofs.Formed.{not_it}
 use Rattle.syn_grammar.proofs.Weights.{Less}
-use Rattle.syn_grammar.proofs.Paths.{Begins, end_no_sep, not_true, both_left}
+use Rattle.syn_grammar.proofs.Paths.{Begins, end_no_sep, both_left}
 
 -- ---- trailers
 
@@ -82,7 +83,7 @@ both a b h k = rw (h, k) refl
 
 pub not_range : (op : Infix) (x : Tree) → fits_left op x ≡ true → is_range x ≡ false
 unfolding fits_left
-not_range op x h = not_true (is_range x) (both_left (not (is_range x)) _ h)
+not_range op x h = not_it (is_range x) (both_left (not (is_range x)) _ h)
 
 pub nothing_next : (p : Place) (x : Tree) → next_operator p x [] ≡ None
 unfolding taken_at infix_at word_at operator signs tokens.sign

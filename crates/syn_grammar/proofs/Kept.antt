@@ -11,6 +11,7 @@ use Rattle.syn_grammar.specs.Place.{rank}
 use Rattle.syn_grammar.specs.Rule.{ends_badly, left_wrapped, place_wrapped, leaf_wrapped, low, bad, put, bare}
 use Rattle.syn_grammar.specs.Stands.{is_infix, is_range, compares}
 use Rattle.syn_grammar.specs.Tree.{Tree, leaf, paren, lead, mid, adorned, clear}
+use Rattle.syn_grammar.proofs.Nodes.{same_mid}
 use Rattle.syn_grammar.proofs.Obeys.{Fits, Obeys}
 use Rattle.syn_grammar.proofs.Edges.{neither, less_back, lead_small, level_small, closed_unadorned}
 
@@ -53,10 +54,7 @@ kept (mid l k r) v c s i =
     let q = kept_place (level k) (right_context k c) r (kept r (level k) (right_context k c) (level_small k) i.3) i.4 in
     let a = i.0 in
     let b = h.edge in
-    record { edge = rw w (omega arith); end = q.0; leaves = refl; same = both _ _ _ _ k p q.1 }
-  where
-    both : (x y x' y' : Tree) (k : Infix) → x ≡ x' → y ≡ y' → mid x k y ≡ mid x' k y'
-    both x y x' y' k p q = cc
+    record { edge = rw w (omega arith); end = q.0; leaves = refl; same = same_mid _ _ _ _ k p q.1 }
 kept (adorned a more t) v c s i =
     let h = kept t v c s i.1 in
     let w = closed_unadorned t i.0 in

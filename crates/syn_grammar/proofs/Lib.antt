@@ -9,6 +9,7 @@ pub mod Ends
 pub mod Formed
 pub mod Good
 pub mod Kept
+pub mod Nodes
 pub mod NoteLemmas
 pub mod Obeys
 pub mod Paths

@@ -14,6 +14,7 @@ use Rattle.syn_grammar.specs.Tokens.{signs, sign_of, path_sep_at, word_at}
 use Rattle.syn_grammar.specs.Stands.{behind_segments, behind_path}
 use Rattle.syn_grammar.specs.Read.{Outcome, and_then, segments_at, segments_behind, more_segments, path_at, path_with, is_sep}
 use Rattle.syn_grammar.proofs.Chains.{some_is, then_some, chosen}
+use Rattle.syn_grammar.proofs.Formed.{not_it}
 use Rattle.syn_grammar.proofs.Weights.{Less, less_drop, dropped}
 
 pub both_left : (a b : Bool) → (a && b) ≡ true → a ≡ true
@@ -23,10 +24,6 @@ both_left false b h = absurd cc
 pub both_right : (a b : Bool) → (a && b) ≡ true → b ≡ true
 both_right true b h = h
 both_right false b h = absurd cc
-
-pub not_true : (b : Bool) → not b ≡ true → b ≡ false
-not_true true h = absurd cc
-not_true false h = refl
 
 -- ---- words
 
@@ -152,7 +149,7 @@ segments_complete (s ∷ []) l n h g =
     go : ((word_at s l && not (path_sep_at (drop 1 l))) ≡ true) × (Some (drop 1 l) ≡ Some n) → segments_at l ≡ Some (s ∷ [], n)
     go c =
         let at = is_at s l (both_left _ _ c.0) in
-        let none = not_true _ (both_right (word_at s l) _ c.0) in
+        let none = not_it _ (both_right (word_at s l) _ c.0) in
         rw (at, both_left (is_segment s) true g, behind_is (drop 1 l), none) (ap (λ m. Some (s ∷ [], m)) (some_is c.1))
 segments_complete (s ∷ t ∷ more) l n h g =
     ⊎_elim (go (λ k. segments_complete (t ∷ more) (drop 3 l) n k (both_right (is_segment s) (all_segments (t ∷ more)) g)))

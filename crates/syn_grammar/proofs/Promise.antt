@@ -1,7 +1,6 @@
 -- The promises of the printed tree hold.
 use Rattle.std.proofs.Common.{◌≡◌, ◌↔◌, ◌<◌, Bool, true, false, ◌||◌, List, [], ◌∷◌, refl, sym, ◌∙◌, ap, subst, arith}
 use Rattle.syn_tokens.specs.Tok.{Tok}
-use Rattle.syn_grammar.specs.declared.kinds.Infix.{Infix}
 use Rattle.syn_grammar.specs.declared.kinds.Level.TheVariants as lev
 use Rattle.syn_grammar.specs.declared.next.Next.TheVariants as next
 use Rattle.syn_grammar.specs.declared.next.Context.{Context}
@@ -19,6 +18,7 @@ use Rattle.syn_grammar.proofs.Edges.{bad_end, low_some, leaf_alone, neither}
 use Rattle.syn_grammar.proofs.Formed.{formed, formed_bare}
 use Rattle.syn_grammar.proofs.Good.{printed_obeys}
 use Rattle.syn_grammar.proofs.Kept.{kept, place_bare}
+use Rattle.syn_grammar.proofs.Nodes.{same_mid}
 use Rattle.syn_grammar.proofs.Shown.{shown, unmarked}
 use Rattle.syn_grammar.proofs.Shows.{shows_end}
 use Rattle.syn_grammar.proofs.Spares.{spared}
@@ -35,9 +35,6 @@ flatten_put : (w : Bool) (a b t : Tree) → flatten a ≡ flatten t → flatten 
 flatten_put true a b t p q = p
 flatten_put false a b t p q = q
 
-both : (l l' r r' : Tree) (k : Infix) → l ≡ l' → r ≡ r' → mid l k r ≡ mid l' k r'
-both l l' r r' k p q = cc
-
 pub flatten_bare : (t : Tree) (c : Context) → flatten (bare c t) ≡ flatten t
 flatten_bare (leaf k) c = refl
 flatten_bare (paren m t) c = flatten_bare t enclosed
@@ -45,7 +42,7 @@ flatten_bare (lead k t) c =
     ap (lead k) (flatten_put (place_wrapped (lead_level k) (low t) (bad t c.next) || leaf_wrapped (lead_context k c) t)
     (bare enclosed t) (bare (lead_context k c) t) t (flatten_bare t enclosed) (flatten_bare t (lead_context k c)))
 flatten_bare (mid l k r) c =
-    both _ _ _ _ k
+    same_mid _ _ _ _ k
     (flatten_put (left_wrapped k l (bad l (class_of k)) || leaf_wrapped (left_context k c) l) (bare enclosed l) (bare (left_context k c) l) l
     (flatten_bare l enclosed) (flatten_bare l (left_context k c)))
     (flatten_put (place_wrapped (level k) (low r) (bad r c.next) || leaf_wrapped (right_context k c) r) (bare enclosed r) (bare (right_context k c) r) r

@@ -11,8 +11,9 @@ use Rattle.syn_grammar.specs.Op.{level, is_comparison}
 use Rattle.syn_grammar.specs.Place.{plain, at}
 use Rattle.syn_grammar.specs.Stands.{Node, is_number, is_truth, is_falsehood, is_path, is_paren, is_unary, is_adorned, is_mid, ends, closes, fits_left, path_stands, is_range, carries_trailer, compares}
 use Rattle.syn_grammar.specs.Tokens.{trailer_at}
-use Rattle.syn_grammar.specs.Tree.{Tree, paren, lead, mid, adorned, unary, Path, clear}
+use Rattle.syn_grammar.specs.Tree.{Tree, paren, lead, adorned, unary, Path, clear}
 use Rattle.syn_grammar.proofs.Formed.{both_true, not_it}
+use Rattle.syn_grammar.proofs.Nodes.{same_mid}
 use Rattle.syn_grammar.proofs.Obeys.{Fits, FitsLeft, Obeys}
 use Rattle.syn_grammar.proofs.Shows.{Shows, shows_end, shows_operator, takes_reach}
 
@@ -69,9 +70,6 @@ shown {p = p} (is_mid {middle = m} {behind = n} {left = left} {right = right} {o
   shown_fits (at p (level op)) c.next n right s h k,
 )
 
-both : (l l' r r' : Tree) (k : Infix) → l ≡ l' → r ≡ r' → mid l k r ≡ mid l' k r'
-both l l' r r' k p q = cc
-
 -- what stands has no marks
 pub unmarked : {p : Place} {l n : List Tok} {x : Tree} → Node p l x n → clear x ≡ x
 unmarked (is_number h) = refl
@@ -81,4 +79,4 @@ unmarked (is_path b a h) = refl
 unmarked (is_paren d h k) = ap (paren false) (unmarked d)
 unmarked (is_unary {op = op} f d h k) = ap (lead (unary op)) (unmarked d)
 unmarked (is_adorned {a = a} {more = more} f u d) = ap (adorned a more) (unmarked d)
-unmarked (is_mid {op = op} d cl fl i hk t d2 h k o) = both _ _ _ _ op (unmarked d) (unmarked d2)
+unmarked (is_mid {op = op} d cl fl i hk t d2 h k o) = same_mid _ _ _ _ op (unmarked d) (unmarked d2)

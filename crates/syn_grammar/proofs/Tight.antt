@@ -15,6 +15,7 @@ use Rattle.syn_grammar.specs.Tree.{Tree, leaf, paren, lead, mid, adorned, Attr}
 use Rattle.syn_grammar.proofs.Obeys.{Fits, Obeys}
 use Rattle.syn_grammar.proofs.Edges.{neither, lead_small, level_small, class_no_brace, range_bare, carries_bare, bad_end, low_closed, calm, leaf_alone, leaf_kind}
 use Rattle.syn_grammar.proofs.Kept.{place_bare, put_bare}
+use Rattle.syn_grammar.proofs.Nodes.{same_mid}
 
 -- the class n0 asks no more than n
 pub record Calm (n0 n : Next) : Type 0 where
@@ -96,9 +97,6 @@ tight_left v k c l false true h g i = let f = leaf_alone (class_of k) l (class_n
 tight_left v k c l false false h g i =
     let t = g i in put_bare _ (bare enclosed l) (bare (left_context k c) l) (bare (calm (class_of k)) l) t.leaves t.same
 
-two_same : (l l' r r' : Tree) (k : Infix) → l ≡ l' → r ≡ r' → mid l k r ≡ mid l' k r'
-two_same l l' r r' k p q = cc
-
 infix_leaf : (c : Context) (t : Tree) → is_infix t ≡ true → leaf_wrapped c t ≡ false
 infix_leaf c (leaf k) h = absurd cc
 infix_leaf c (paren m t) h = absurd cc
@@ -136,5 +134,5 @@ tight (mid l k r) v c n0 s q i =
     let p = tight_left v k c l (left_wrapped k l (bad l (class_of k))) _ refl
     (tight l v (left_context k c) (class_of k) s (calm_same (class_of k) (class_no_brace k))) i.1 in
     let x = tight_place (level k) (right_context k c) r n0 _ q refl (tight r (level k) (right_context k c) n0 (level_small k) q) i.3 i.4 in
-    record { edge = edge_of (mid l k r) v c (calm n0) s i; end = x.0; leaves = refl; same = two_same _ _ _ _ k p x.1 }
+    record { edge = edge_of (mid l k r) v c (calm n0) s i; end = x.0; leaves = refl; same = same_mid _ _ _ _ k p x.1 }
 tight (adorned a more t) v c n0 s q i = tight_adorned v c a more t n0 _ refl s (tight t v c n0 s q) i.1

@@ -1,35 +1,18 @@
 -- What is left of a list weighs less with each token that was taken.
-use Rattle.std.proofs.Common.{◌≡◌, ℕ, true, zero, suc, ◌+◌, ◌≤◌, ◌<◌, ⊎_elim, List, [], ◌∷◌, drop, length, Option, Some, None, subst, arith}
+use Rattle.std.proofs.Common.{◌≡◌, ℕ, true, ◌+◌, ◌<◌, ⊎_elim, List, [], ◌∷◌, drop, length, Option, Some, None, subst, arith}
 use Rattle.std.proofs.lemmas.Grind.{common_steps}
 use Rattle.std.proofs.lemmas.List.{length-drop}
 use Rattle.std.proofs.lemmas.Option.{none-some}
 use Rattle.syn_lexer.specs.declared.lexeme.Delimiter.{Delimiter}
-use Rattle.syn_tokens.specs.Tok.{Tok, ident, literal, punct, group, toks, weight, token_weight, weight-toks}
+use Rattle.syn_tokens.specs.Tok.{Tok, ident, literal, punct, group, toks, weight, weight-toks}
 use Rattle.syn_grammar.specs.declared.kinds.UnKind.{UnKind}
 use Rattle.syn_grammar.specs.declared.kinds.Infix.{Infix}
 use Rattle.syn_grammar.specs.declared.kinds.Infix.TheVariants as inf
 use Rattle.syn_grammar.specs.Op.{prefix_at, infix_at, unary, operator, as_word}
 use Rattle.syn_grammar.specs.Tokens.{sign, signs, word_at}
+use Rattle.syn_tokens.proofs.Weights.{one_at_least, drop_weight, drop_smaller}
 use Rattle.syn_tokens.specs.Front.{group_at, same_delimiter}
 use Rattle.syn_grammar.proofs.Chains.{some_is, chosen}
-
-pub one_at_least : (x : Tok) → 1 ≤ token_weight x
-one_at_least (ident s) = omega arith
-one_at_least (literal s) = omega arith
-one_at_least (punct c s) = omega arith
-one_at_least (group d i) = omega arith
-
-pub drop_weight : (n : ℕ) (l : List Tok) → weight (drop n l) ≤ weight l
-unfolding weight
-drop_weight zero l = omega arith
-drop_weight (suc n) [] = omega arith
-drop_weight (suc n) (x ∷ l) = omega (arith, drop_weight n l)
-
-pub drop_smaller : (n : ℕ) (l : List Tok) → 0 < n → 0 < length l → weight (drop n l) < weight l
-unfolding weight
-drop_smaller zero l p q = absurd (omega arith)
-drop_smaller (suc n) [] p q = absurd (omega arith)
-drop_smaller (suc n) (x ∷ l) p q = omega (arith, drop_weight n l, one_at_least x)
 
 -- ---- operators stand on tokens
 
