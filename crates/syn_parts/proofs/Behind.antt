@@ -1,17 +1,16 @@
 -- What is behind a part: tokens that go on with nothing, and what the tests of it look at.
-use Rattle.std.proofs.Common.{◌≡◌, ℕ, zero, suc, Bool, true, false, not, ◌&&◌, ◌||◌, cond, List, [], ◌∷◌, ◌++◌, drop, Option, Some, None, refl, ap, sym, ◌∙◌, codes}
-use Rattle.syn_tokens.specs.Tok.{Tok, ident, punct, literal, group, inside}
+use Rattle.std.proofs.Common.{◌≡◌, Bool, true, false, ◌&&◌, ◌||◌, List, [], ◌∷◌, refl, codes}
+use Rattle.syn_tokens.specs.Tok.{Tok, ident}
 use Rattle.syn_tokens.specs.Front.{group_at}
 use Rattle.syn_parts.specs.declared.label.PathStyle.{PathStyle}
 use Rattle.syn_parts.specs.declared.label.PathStyle.TheVariants as style
 use Rattle.syn_parts.specs.Text.{Text, stands_alone}
-use Rattle.syn_parts.specs.Mark.{sign_at, word_at, round_at, colon2, arrow, plus, not_ne, eq, colon}
+use Rattle.syn_parts.specs.Mark.{sign_at, round_at, colon2, arrow, plus, not_ne}
 use Rattle.syn_parts.specs.Part.{angle_at, turbofish_at}
 use Rattle.syn_parts.specs.Own.{alone, colon2_before}
 use Rattle.syn_parts.specs.Fits.{name_stops, type_stops, mac_stops, segments_stop, arguments_stop, return_stops, bounds_stop, bound_stops, bare_segments}
 use Rattle.syn_parts.specs.Tree as t
 use Rattle.syn_parts.specs.Tree.{TypeTree, Segments, ArgumentsTree, ReturnTree, Bounds, BoundTree, QSelfTree}
-use Rattle.syn_parts.proofs.Same.{both_true}
 
 -- l begins with nothing by which a type, a path or an output goes on, a `+` aside
 pub record Calm (l : List Tok) : Type 0 where

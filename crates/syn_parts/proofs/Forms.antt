@@ -3,7 +3,7 @@ use Rattle.std.proofs.Common.{◌≡◌, ℕ, zero, suc, ◌≤◌, ◌<◌, Boo
 use Rattle.syn_lexer.specs.declared.lexeme.Delimiter.{Delimiter}
 use Rattle.syn_tokens.specs.Tok.{Tok, weight}
 use Rattle.syn_parts.proofs.Weights.{some_is, taken}
-use Rattle.syn_tokens.specs.Front.{group_at, is_empty}
+use Rattle.syn_tokens.specs.Front.{group_at}
 use Rattle.syn_parts.specs.Form.{Form, Outcome, Test, Mark, and_then, then_behind, never, when, by_size, mark, then_by, both, seen, shown, pure, whole, inside_reads, ended, inside_behind, inside, case, group_case, is_true, flag, is_none, itself, maybe, is_end, cons, uncons, end, iterate, fix, tail_step, tail, listed, prepend, split_first, is_nil, more_step, more, joined, closed_by, leaf, if_same}
 
 -- f reads exactly what stands, and reads as g does in lists of less than k tokens
@@ -304,7 +304,7 @@ whole_some None m x n h = absurd cc
 whole_some (Some (y, [])) m x n h = (ap (λ z. Some (z, [])) (ap (λ z. z.0) (some_is h)), ap (λ z. z.1) (some_is h))
 whole_some (Some (y, t ∷ l)) m x n h = absurd cc
 
-ended_some : (o : Option (List Tok)) (m n : List Tok) → ended o m ≡ Some n → (o ≡ Some []) × (m ≡ n)
+pub ended_some : (o : Option (List Tok)) (m n : List Tok) → ended o m ≡ Some n → (o ≡ Some []) × (m ≡ n)
 ended_some None m n h = absurd cc
 ended_some (Some []) m n h = (refl, some_is h)
 ended_some (Some (t ∷ l)) m n h = absurd cc
@@ -473,6 +473,23 @@ joined_alike p a = shown_alike sees_prepend (both_alike a (more_alike p a))
 pub closed_by_alike : {A : Type 0} {k : ℕ} {m : Mark} {f f' : Form A} → Present m → Alike k f f' → Alike k (closed_by m f) (closed_by m f')
 closed_by_alike p a = shown_alike (record { there = λ x. refl; back = λ y x h. ap (λ z. z.0) (sym (some_is h)) })
     (both_alike a (weaker (mark_alike p (pure_alike {is = λ u. true} (record { itself = refl; only = λ y h. refl })))))
+
+-- what stands as such a list, opened once
+pub tail_opens : {A : Type 0} (m : Mark) (stop : Test) (f : Form A) → Present m → ((k : ℕ) → Alike k f f) → (q : List A × Bool) (l n : List Tok)
+    → (tail m stop f).behind q l ≡ Some n → (tail_step m stop f (λ i. tail m stop f) tt).behind q l ≡ Some n
+tail_opens m stop f p a q l n h =
+    let t = tail_alike stop p (a 0) in
+    let s = tail_steps stop p (a 0) in
+    let u = s.lowest (λ i. tail m stop f) (λ i. t) tt in
+    u.sound l q n (sym (tail_is m stop f p a l) ∙ t.complete l q n h)
+
+pub more_opens : {A : Type 0} (m : Mark) (f : Form A) → Present m → ((k : ℕ) → Alike k f f) → (q : List A) (l n : List Tok)
+    → (more m f).behind q l ≡ Some n → (more_step m f (λ i. more m f) tt).behind q l ≡ Some n
+more_opens m f p a q l n h =
+    let t = more_alike p (a 0) in
+    let s = more_steps p (a 0) in
+    let u = s.lowest (λ i. more m f) (λ i. t) tt in
+    u.sound l q n (sym (more_is m f p a l) ∙ t.complete l q n h)
 
 -- ---- what never stands
 

@@ -1,17 +1,17 @@
 -- The first tokens of a type that fits, and how the choice between the kinds of types sees them.
-use Rattle.std.proofs.Common.{◌≡◌, ℕ, zero, suc, Bool, true, false, not, ◌&&◌, ◌||◌, ◌==◌, cond, List, [], ◌∷◌, ◌++◌, drop, Option, Some, None, refl, ap, sym, ◌∙◌, subst, codes}
+use Rattle.std.proofs.Common.{◌≡◌, ℕ, Bool, true, false, not, ◌&&◌, ◌==◌, List, ◌∷◌, Option, Some, None, refl, sym, subst, codes}
 use Rattle.std.proofs.lemmas.Slice.Eq.{bytes_eq-Decides}
 use Rattle.std.specs.Str.{bytes_eq}
 use Rattle.syn_lexer.specs.Keywords.{is_reserved_word}
 use Rattle.syn_lexer.specs.declared.lexeme.Delimiter.TheVariants as del
 use Rattle.syn_parts.specs.declared.label.PathStyle.TheVariants as style
-use Rattle.syn_tokens.specs.Tok.{Tok, ident, punct, literal, group, inside}
+use Rattle.syn_tokens.specs.Tok.{Tok, ident}
 use Rattle.syn_tokens.specs.Front.{group_at, is_empty}
 use Rattle.syn_parts.specs.Text.{Text, is_segment, stands_alone, is_truth}
-use Rattle.syn_parts.specs.Mark.{sign_at, word_at, lifetime_at, round_at, brace_at, mutable, eq, colon, gt}
+use Rattle.syn_parts.specs.Mark.{sign_at, word_at, lifetime_at, brace_at, mutable, eq, colon, gt}
 use Rattle.syn_parts.specs.Part.{const_at, assoc_at, arg_name_at, lifetimes_at, fn_at, named, at_place, type}
-use Rattle.syn_parts.specs.Own.{alone, joint, colon2_before, before_if, before_some, type_own, segments_own, arguments_own, qself_own, lifetimes_own, extern_own, count_segments, inner_count, separated, closed_at, one_less, no_more_segments, enclosed}
-use Rattle.syn_parts.specs.Fits.{type_fits, segments_fit, qself_fits, bare_segments}
+use Rattle.syn_parts.specs.Own.{alone, colon2_before, before_if, before_some, type_own, segments_own, arguments_own, lifetimes_own, extern_own, no_more_segments, enclosed}
+use Rattle.syn_parts.specs.Fits.{type_fits, segments_fit, bare_segments}
 use Rattle.syn_parts.specs.Tree as t
 use Rattle.syn_parts.specs.Tree.{TypeTree, Segments, ArgumentsTree, LifetimesTree, LitTree, FnArgs, ReturnTree}
 use Rattle.syn_parts.proofs.Same.{both_true}

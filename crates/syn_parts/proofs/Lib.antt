@@ -18,3 +18,8 @@ pub mod PatsBack
 pub mod Samples
 pub mod Takes
 pub mod LitKinds
+pub mod Told
+pub mod SimpleTold
+pub mod TypesTold
+pub mod MoreBack
+pub mod WholeTold

@@ -1,7 +1,6 @@
 -- Literals of one kind are read exactly where their tokens stand.
-use Rattle.std.proofs.Common.{◌≡◌, ℕ, ◌≤◌, ◌<◌, Bool, true, false, cond, List, Option, Some, None, refl, arith}
-use Rattle.syn_tokens.specs.Tok.{Tok, weight}
-use Rattle.syn_tokens.specs.Input.{IsTail}
+use Rattle.std.proofs.Common.{◌≡◌, ℕ, Bool, true, false, cond, List, Some, None}
+use Rattle.syn_tokens.specs.Tok.{Tok}
 use Rattle.syn_parts.specs.declared.label.LitKind.{LitKind}
 use Rattle.syn_parts.specs.Tree.{LitTree}
 use Rattle.syn_parts.specs.Form.{Outcome}
@@ -9,9 +8,9 @@ use Rattle.syn_parts.specs.Same.{same_kind, same_lit}
 use Rattle.syn_parts.specs.Part.{find_lit}
 use Rattle.syn_parts.specs.Kind.{of_this_kind, of_kind}
 use Rattle.syn_parts.proofs.Same.{compares_lits}
-use Rattle.syn_parts.proofs.Forms.{Alike, Finds, leaf_alike}
+use Rattle.syn_parts.proofs.Forms.{Alike, leaf_alike}
 use Rattle.syn_parts.proofs.Parts.{lit_falls}
-use Rattle.syn_parts.proofs.Tails.{Leaves, Found, leaf_leaves}
+use Rattle.syn_parts.proofs.Tails.{Leaves, leaf_leaves}
 use Rattle.syn_parts.proofs.TailParts.{lit_leaves}
 use Rattle.syn_parts.proofs.Takes.{Takes, lit_takes}
 

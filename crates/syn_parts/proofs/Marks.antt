@@ -1,14 +1,11 @@
 -- A mark that stands in front has tokens.
-use Rattle.std.proofs.Common.{◌≡◌, ℕ, zero, suc, ◌<◌, ◌≤◌, Bool, true, false, ◌&&◌, not, List, [], ◌∷◌, drop, length, codes, refl, arith}
-use Rattle.syn_lexer.specs.declared.lexeme.Spacing.TheVariants as spacing
-use Rattle.syn_tokens.specs.Tok.{Tok, ident, punct, literal, group, weight}
-use Rattle.syn_tokens.specs.Sign.{begins, begins_word}
-use Rattle.syn_parts.specs.Form.{Test, Mark}
+use Rattle.std.proofs.Common.{◌≡◌, ℕ, ◌<◌, true, false, List, [], ◌∷◌, drop, refl, arith}
+use Rattle.syn_tokens.specs.Tok.{Tok, weight}
+use Rattle.syn_parts.specs.Form.{Mark}
 use Rattle.syn_parts.specs.Mark.{sign_at, word_at, lifetime_at, sign, word, lt, eq, not_ne, colon, quote, bang, pound, and, star, plus, comma, semi, question, colon2, arrow, gt, less, mutable, constant, as_word, dynamic, implementing, for_word, unsafe_word, extern_word, fn_word, underscore}
 use Rattle.syn_parts.specs.Part.{pound_bang}
 use Rattle.syn_parts.proofs.Forms.{Present}
 use Rattle.syn_parts.proofs.Weights.{drop_smaller}
-use Rattle.syn_parts.proofs.Same.{both_true}
 
 pub begins_in_front : (m : Mark) → 0 < m.count → m.at [] ≡ false → Present m
 begins_in_front m c e = record { present = present }

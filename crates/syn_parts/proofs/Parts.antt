@@ -1,25 +1,22 @@
 -- Each part is read exactly where its tokens stand.
-use Rattle.std.proofs.Common.{◌≡◌, ℕ, suc, ◌≤◌, ◌<◌, Bool, true, false, not, ◌&&◌, ◌==◌, cond, ◌↔◌, List, [], ◌∷◌, drop, Option, Some, None, refl, ap, sym, ◌∙◌, subst, arith}
-use Rattle.std.specs.Str.{bytes_eq}
+use Rattle.std.proofs.Common.{◌≡◌, ℕ, suc, ◌≤◌, Bool, true, false, not, ◌&&◌, ◌==◌, ◌↔◌, List, [], ◌∷◌, Option, Some, None, ap, sym, ◌∙◌, subst, arith}
 use Rattle.syn_lexer.specs.Keywords.{is_reserved_word}
 use Rattle.syn_lexer.specs.declared.lexeme.Delimiter.{Delimiter}
 use Rattle.syn_lexer.specs.declared.lexeme.Delimiter.TheVariants as del
-use Rattle.syn_tokens.specs.Tok.{Tok, Inside, ident, punct, literal, group, toks, weight, inside_weight, weight-toks}
+use Rattle.syn_tokens.specs.Tok.{Tok, ident, punct, literal, group, weight}
 use Rattle.syn_parts.specs.declared.label.LitKind.{LitKind}
 use Rattle.syn_parts.specs.declared.label.LitKind.TheVariants as kind
 use Rattle.syn_parts.specs.declared.label.PathStyle.{PathStyle}
 use Rattle.syn_parts.specs.declared.label.PathStyle.TheVariants as style
-use Rattle.syn_parts.specs.Text.{Text, is_segment, is_truth, is_number, number_kind, kind_of, stands_alone}
-use Rattle.syn_parts.specs.Same.{same_lit, same_toks, same_group}
+use Rattle.syn_parts.specs.Text.{Text, is_segment, is_truth, is_number, kind_of}
 use Rattle.syn_parts.specs.Tree as t
 use Rattle.syn_parts.specs.Tree.{LitTree, AttributeTree, LifetimesTree, TypeTree, SegmentTree, PathTree, FnArgTree, ArgumentsTree, GenericTree, ReturnTree, BoundTree}
-use Rattle.syn_tokens.specs.Front.{group_at, is_empty}
-use Rattle.syn_parts.specs.Form.{Form, Outcome, Mark, Test, leaf, when, then_by, mark, maybe, more, inside, then_behind, itself, seen}
-use Rattle.syn_parts.specs.Mark.{comma, colon2, colon, plus, gt, not_ne, lifetime_at}
-use Rattle.syn_parts.specs.Part.{word_if, find_ident, find_segment, find_word, lit_if, truth_if, find_lit, negative_if, find_signed, string_if, find_string, find_group, find_all, find_const, const_if, find_arg_name, is_arg_name, name, segment_name, lifetime, unsigned, lit, string, kept, any_group, rest_of, constant_tokens, arg_name, outer_body, inner_body, attribute, outer_attributes, inner_attributes, block, no_arguments, lifetimes, output, generic, angle, angle_bracketed, parenthesized, arguments, segment, pieces, path, qualified, qpath, bound, bounds, reference, pointer, slice_or_array, tuple_or_paren, fn_arg, fn_head, fn_pointer, implements, object, macro_end, named, at_place, type, SpellsType, macro, MacroEnd, QPathTree, to_named, from_named, is_bare}
+use Rattle.syn_tokens.specs.Front.{group_at}
+use Rattle.syn_parts.specs.Form.{Form, then_by, inside}
+use Rattle.syn_parts.specs.Part.{word_if, find_ident, find_segment, find_word, lit_if, truth_if, find_lit, negative_if, find_signed, string_if, find_string, find_group, find_all, find_const, const_if, find_arg_name, is_arg_name, name, segment_name, lifetime, unsigned, lit, string, kept, any_group, rest_of, constant_tokens, arg_name, outer_body, inner_body, attribute, outer_attributes, inner_attributes, block, no_arguments, lifetimes, abi, mutability, output, generic, assoc, angle, angle_bracketed, parenthesized, arguments, segment, pieces, path, qualified, qpath, bound, trait_bound, bounds, reference, pointer, slice_or_array, tuple_or_paren, fn_arg, fn_head, fn_pointer, implements, object, macro_end, named, at_place, type, SpellsType, macro, MacroEnd, QPathTree, to_named, from_named}
 use Rattle.syn_parts.proofs.Weights.{some_is, taken}
 use Rattle.syn_parts.proofs.Same.{compares_texts, compares_toks, compares_lits, compares_groups}
-use Rattle.syn_parts.proofs.Marks.{marks, quote_present, and_present, star_present, bang_present, underscore_present, implementing_present, dynamic_present, less_present, plus_present, comma_present, colon2_present, pound_present, pound_bang_present}
+use Rattle.syn_parts.proofs.Marks.{marks, quote_present, and_present, star_present, bang_present, underscore_present, implementing_present, dynamic_present, less_present, pound_present, pound_bang_present}
 use Rattle.syn_parts.proofs.Views.{views, only_never, only_infer, named_back, named_there, macro_there}
 use Rattle.syn_parts.proofs.Forms.{Alike, Finds, leaf_alike, Steps, fix_alike, fix_is, behind_some, weaker, when_alike, mark_alike, mark_at_alike, then_by_alike, both_alike, shown_alike, shown_where_alike, pure_alike, inside_alike, case_alike, group_case_alike, only_true, only_false, maybe_alike, flag_at_alike, listed_alike, joined_alike, closed_by_alike, more_alike}
 
@@ -240,6 +237,12 @@ pub lifetimes_alike : {k : ℕ} → Alike k lifetimes lifetimes
 unfolding lifetimes
 lifetimes_alike = search (forms, marks, views) depth 12
 
+pub abi_alike : {j : ℕ} → Alike j abi abi
+abi_alike = search (forms, marks, views) depth 12
+
+pub mutability_alike : {j : ℕ} → Alike j mutability mutability
+mutability_alike = search (forms, marks, views) depth 12
+
 pub fn_head_alike : {j : ℕ} → Alike j fn_head fn_head
 unfolding fn_head
 fn_head_alike = search (lifetimes_alike, forms, marks, views) depth 12
@@ -254,6 +257,9 @@ module _ {k : ℕ} {type type' : Bool → Form TypeTree} (again : (b : Bool) →
   pub output_alike : (b : Bool) → Alike (suc k) (output type b) (output type' b)
   unfolding output
   output_alike b = search (again, forms, marks, views) depth 12
+
+  pub assoc_alike : Alike k (assoc type) (assoc type')
+  assoc_alike = search (again, forms, marks, views) depth 12
 
   pub generic_alike : Alike k (generic type) (generic type')
   unfolding generic
@@ -302,6 +308,9 @@ module _ {k : ℕ} {type type' : Bool → Form TypeTree} (again : (b : Bool) →
   pub qpath_alike : (s : PathStyle) → Alike (suc k) (qpath type s) (qpath type' s)
   unfolding qpath
   qpath_alike s = case_alike less_present (qualified_alike s) (shown_alike (Prim.search views) (path_alike s))
+
+  pub trait_bound_alike : Alike (suc k) (trait_bound type) (trait_bound type')
+  trait_bound_alike = search (path_alike, lifetimes_alike, forms, marks, views) depth 12
 
   pub bound_alike : Alike (suc k) (bound type) (bound type')
   unfolding bound

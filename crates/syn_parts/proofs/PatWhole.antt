@@ -1,8 +1,5 @@
 -- The laws of patterns.
-use Rattle.std.proofs.Common.{◌≡◌, Bool, ◌↔◌, List, Option, Some, refl, ap, sym, ◌∙◌}
-use Rattle.syn_tokens.specs.Tok.{Tok}
-use Rattle.syn_parts.specs.Form.{Form}
-use Rattle.syn_parts.specs.Pat.{PatTree, pattern, at_width, SpellsPat}
+use Rattle.std.proofs.Common.{◌≡◌, ap, sym, ◌∙◌}
 use Rattle.syn_parts.specs.PatLaws.{PatternsAreExact, PatternsAreSpelledByKind, OnePattern}
 use Rattle.syn_parts.proofs.Weights.{some_is}
 use Rattle.syn_parts.proofs.Whole.{exact}

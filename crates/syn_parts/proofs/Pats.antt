@@ -1,24 +1,24 @@
 -- Patterns are read exactly where their tokens stand.
-use Rattle.std.proofs.Common.{◌≡◌, ℕ, suc, ◌≤◌, Bool, true, false, not, ◌&&◌, ◌||◌, ◌==◌, cond, List, [], ◌∷◌, drop, Option, Some, None, refl, ap, sym, ◌∙◌, subst, arith}
+use Rattle.std.proofs.Common.{◌≡◌, ℕ, suc, ◌≤◌, Bool, true, false, not, cond, List, [], ◌∷◌, Option, Some, None, refl, ap, sym, ◌∙◌, arith}
 use Rattle.std.proofs.lemmas.Bool.Decides.{nat_tests}
 use Rattle.std.proofs.lemmas.Slice.Eq.{bytes_eq-Decides}
 use Rattle.syn_lexer.specs.Keywords.{is_reserved_word}
 use Rattle.syn_lexer.specs.declared.lexeme.Delimiter.{Delimiter}
 use Rattle.syn_lexer.specs.declared.lexeme.Delimiter.TheVariants as del
-use Rattle.syn_tokens.specs.Tok.{Tok, ident, punct, literal, group, weight}
+use Rattle.syn_tokens.specs.Tok.{Tok, ident, literal, weight}
 use Rattle.syn_parts.specs.declared.label.PathStyle.TheVariants as style
 use Rattle.syn_parts.specs.Text.{Text}
 use Rattle.syn_parts.specs.Tree as t
 use Rattle.syn_parts.specs.Tree.{LitTree, AttributeTree, PathTree, TypeTree}
 use Rattle.syn_parts.specs.Form.{Form, then_by, both, joined, more, flag}
-use Rattle.syn_parts.specs.Mark.{sign_at, word_at, underscore, constant, and, colon}
-use Rattle.syn_parts.specs.Part.{qpath, type, QPathTree, MacroTree}
+use Rattle.syn_parts.specs.Mark.{sign_at}
+use Rattle.syn_parts.specs.Part.{qpath, type, QPathTree}
 use Rattle.syn_parts.specs.Pat.{MemberTree, PatBound, PatTree, SubPat, Pats, Fields, FieldTree, FieldPatTree, PathEnd, ClosureArgTree}
 use Rattle.syn_parts.specs.Pat as p
 use Rattle.syn_parts.proofs.Weights.{some_is}
-use Rattle.syn_parts.proofs.Marks.{marks, begins_in_front, sign_present, word_present, underscore_present, constant_present, and_present, comma_present, pound_present}
+use Rattle.syn_parts.proofs.Marks.{marks, begins_in_front, sign_present, word_present, underscore_present, constant_present, and_present}
 use Rattle.syn_parts.proofs.Parts.{falls_by, one_less, name_alike, lit_alike, block_alike, outer_attributes_alike, any_group_alike, qpath_alike, types_alike, inside_at_alike}
-use Rattle.syn_parts.proofs.Forms.{Alike, Compares, Finds, leaf_alike, Present, Sees, Only, Steps, fix_alike, fix_is, behind_some, seen_some, weaker, when_alike, mark_alike, mark_at_alike, then_by_alike, both_alike, shown_alike, shown_where_alike, pure_alike, inside_alike, case_alike, group_case_alike, only_true, only_false, maybe_alike, flag_at_alike, listed_alike, joined_alike, Refuses, never_refuses, when_refuses, mark_refuses, inside_refuses, shown_refuses, pure_refuses}
+use Rattle.syn_parts.proofs.Forms.{Alike, Compares, Finds, leaf_alike, Present, Sees, Only, Steps, fix_alike, fix_is, behind_some, weaker, when_alike, mark_alike, mark_at_alike, then_by_alike, both_alike, shown_alike, shown_where_alike, pure_alike, inside_alike, case_alike, group_case_alike, only_true, only_false, maybe_alike, flag_at_alike, listed_alike, joined_alike, Refuses, when_refuses, mark_refuses, inside_refuses, shown_refuses, pure_refuses}
 
 -- ---- marks
 

@@ -1,12 +1,12 @@
 -- Patterns are read back from their own tokens.
-use Rattle.std.proofs.Common.{◌≡◌, ℕ, zero, suc, Bool, true, false, not, ◌&&◌, ◌||◌, ◌==◌, cond, List, [], ◌∷◌, drop, Option, Some, None, refl, ap, sym, ◌∙◌, subst, codes, arith}
+use Rattle.std.proofs.Common.{◌≡◌, ℕ, Bool, true, false, not, ◌&&◌, ◌||◌, ◌==◌, cond, List, [], ◌∷◌, Option, Some, None, refl, ap, sym, ◌∙◌, subst, codes, arith}
 use Rattle.std.proofs.lemmas.Bool.Decides.{nat_tests}
 use Rattle.std.proofs.lemmas.Slice.Eq.{bytes_eq-Decides}
 use Rattle.std.specs.Fmt.{decimal}
 use Rattle.std.specs.Str.{bytes_eq}
 use Rattle.syn_lexer.specs.Keywords.{is_reserved_word}
 use Rattle.syn_lexer.specs.declared.lexeme.Delimiter.TheVariants as del
-use Rattle.syn_tokens.specs.Tok.{Tok, ident, punct, literal, group, toks, inside, toks-inside}
+use Rattle.syn_tokens.specs.Tok.{Tok, ident, literal, toks-inside}
 use Rattle.syn_tokens.specs.Front.{group_at, is_empty}
 use Rattle.syn_parts.specs.declared.label.LitKind.{LitKind}
 use Rattle.syn_parts.specs.declared.label.LitKind.TheVariants as kind
@@ -18,15 +18,15 @@ use Rattle.syn_parts.specs.Tree as t
 use Rattle.syn_parts.specs.Tree.{LitTree, AttributeTree, PathTree, SegmentTree, QSelfTree, Segments, ArgumentsTree}
 use Rattle.syn_parts.specs.Form.{Form, Mark, flag, mark, maybe, pure, listed, joined, more, when, shown, both}
 use Rattle.syn_parts.specs.Form as form
-use Rattle.syn_parts.specs.Mark.{underscore, pound, sign_at, word_at, brace_at, round_at, comma, colon, colon2, less, not_ne, mutable}
-use Rattle.syn_parts.specs.Part.{angle_at, turbofish_at, name, lit, is_lit_there, is_name_there, qpath, type, QPathTree, MacroTree, has_none, segments_bare, outer_attributes, outer_body}
-use Rattle.syn_parts.specs.Own.{block_own, alone, joint, before_if, before_some, comma_before, colon2_before, enclosed, is_end, separated, elements_own, lit_own, number_own, attribute_own, path_own, qualified_own, macro_own, type_own, segments_own, arguments_own, qself_own, no_more_segments, inner_count, count_segments}
-use Rattle.syn_parts.specs.Fits.{lit_fits, number_fits, has_kind, path_fits, path_stops, qpath_fits, is_macro_delimiter, ends_well, segments_fit, segments_stop, arguments_fit, arguments_stop, takes_angle, takes_round, qself_fits, goes_over}
+use Rattle.syn_parts.specs.Mark.{underscore, pound, sign_at, word_at, brace_at, round_at, comma, colon, colon2, not_ne, mutable}
+use Rattle.syn_parts.specs.Part.{angle_at, turbofish_at, lit, is_lit_there, qpath, type, MacroTree, has_none, segments_bare, outer_attributes, outer_body}
+use Rattle.syn_parts.specs.Own.{block_own, alone, before_if, before_some, comma_before, colon2_before, enclosed, is_end, separated, elements_own, lit_own, number_own, attribute_own, path_own, qualified_own, macro_own, segments_own, arguments_own, no_more_segments}
+use Rattle.syn_parts.specs.Fits.{lit_fits, number_fits, has_kind, path_fits, path_stops, qpath_fits, is_macro_delimiter, ends_well, segments_fit, segments_stop, arguments_fit, arguments_stop, goes_over}
 use Rattle.syn_parts.specs.Laws.{PartsAreReadBack}
 use Rattle.syn_parts.specs.Pat as p
 use Rattle.syn_parts.specs.Pat.{MemberTree, PatBound, PatTree, SubPat, Pats, Fields, FieldTree, FieldPatTree}
 use Rattle.syn_parts.specs.PatOwn as o
-use Rattle.syn_parts.proofs.Same.{both_true, same_kind-true}
+use Rattle.syn_parts.proofs.Same.{both_true}
 use Rattle.syn_parts.proofs.ReadBack.{Commas, no_element, element, Joins, no_join, join, next_own, listed_back, joined_back, kept_bracket_back, not_true, text_same, name_back, lit_back, block_back}
 use Rattle.syn_parts.proofs.Behind.{Calm, nil_calm, comma_calm, or_true, segments_calm}
 use Rattle.syn_parts.proofs.Fronts.{word_not, no_truth, not_mut, not_underscore}

@@ -1,22 +1,21 @@
 -- The simple parts, and lists, are read back from their own tokens.
-use Rattle.std.proofs.Common.{◌≡◌, ℕ, zero, suc, Bool, true, false, not, ◌&&◌, ◌==◌, cond, List, [], ◌∷◌, ◌++◌, drop, Option, Some, None, refl, ap, sym, ◌∙◌, subst, arith}
+use Rattle.std.proofs.Common.{◌≡◌, ℕ, Bool, true, false, not, ◌&&◌, ◌==◌, cond, List, [], ◌∷◌, drop, Option, Some, None, refl, ap, arith}
 use Rattle.std.proofs.lemmas.Bool.Decides.{nat_tests}
 use Rattle.std.proofs.lemmas.Slice.Eq.{bytes_eq-Decides}
 use Rattle.std.specs.Str.{bytes_eq}
 use Rattle.syn_lexer.specs.Keywords.{is_reserved_word}
-use Rattle.syn_lexer.specs.declared.lexeme.Delimiter.{Delimiter}
 use Rattle.syn_lexer.specs.declared.lexeme.Delimiter.TheVariants as del
-use Rattle.syn_tokens.specs.Tok.{Tok, ident, punct, literal, group, toks, inside, toks-inside}
+use Rattle.syn_tokens.specs.Tok.{Tok, ident, literal, group, inside, toks-inside}
 use Rattle.syn_tokens.specs.Front.{group_at}
 use Rattle.syn_parts.specs.declared.label.LitKind.{LitKind}
 use Rattle.syn_parts.specs.declared.label.LitKind.TheVariants as kind
-use Rattle.syn_parts.specs.Text.{Text, is_segment, is_truth, is_number, number_kind, kind_of}
-use Rattle.syn_parts.specs.Same.{same_toks, same_lit, same_kind}
+use Rattle.syn_parts.specs.Text.{Text, is_segment, is_number, number_kind, kind_of}
+use Rattle.syn_parts.specs.Same.{same_kind}
 use Rattle.syn_parts.specs.Tree.{LitTree, AttributeTree}
 use Rattle.syn_parts.specs.Form.{Form, Mark, Test, tail, more, listed, joined}
 use Rattle.syn_parts.specs.Mark.{sign_at, lifetime_at, comma}
-use Rattle.syn_parts.specs.Part.{name, segment_name, lifetime, lit, unsigned, attribute, outer_body, inner_body, kept, block, lit_if}
-use Rattle.syn_parts.specs.Own.{alone, lifetime_own, lit_own, number_own, attribute_own, block_own, is_end, elements_own, separated, before_if, comma_before}
+use Rattle.syn_parts.specs.Part.{name, segment_name, lifetime, lit, attribute, outer_body, inner_body, kept, block}
+use Rattle.syn_parts.specs.Own.{alone, lifetime_own, lit_own, number_own, attribute_own, block_own, is_end, elements_own, separated, comma_before}
 use Rattle.syn_parts.specs.Fits.{lit_fits, number_fits, has_kind}
 use Rattle.syn_parts.proofs.Same.{both_true, same_toks-refl, same_lit-refl, same_kind-true}
 use Rattle.syn_parts.proofs.Marks.{comma_present}

@@ -1,22 +1,19 @@
 -- What is left behind each part is a tail of the list.
-use Rattle.std.proofs.Common.{◌≡◌, ℕ, Bool, true, false, not, ◌&&◌, ◌==◌, cond, List, [], ◌∷◌, Option, Some, None, refl, ap, sym, subst}
+use Rattle.std.proofs.Common.{◌≡◌, Bool, not, ◌&&◌, ◌==◌, List, [], ◌∷◌, Some, ap, subst}
 use Rattle.std.specs.Str.{bytes_eq}
 use Rattle.syn_lexer.specs.Keywords.{is_reserved_word}
 use Rattle.syn_lexer.specs.declared.lexeme.Delimiter.{Delimiter}
 use Rattle.syn_lexer.specs.declared.lexeme.Delimiter.TheVariants as del
-use Rattle.syn_tokens.specs.Tok.{Tok, ident, punct, literal, group, toks}
+use Rattle.syn_tokens.specs.Tok.{Tok, ident, punct, literal, group}
 use Rattle.syn_tokens.specs.Input.{IsTail}
-use Rattle.syn_parts.specs.declared.label.LitKind.{LitKind}
-use Rattle.syn_parts.specs.declared.label.LitKind.TheVariants as kind
 use Rattle.syn_parts.specs.declared.label.PathStyle.{PathStyle}
 use Rattle.syn_parts.specs.declared.label.PathStyle.TheVariants as style
 use Rattle.syn_parts.specs.Text.{Text, is_segment, is_truth, is_number, kind_of}
 use Rattle.syn_parts.specs.Same.{same_lit, same_toks, same_group}
-use Rattle.syn_parts.specs.Tree as t
 use Rattle.syn_parts.specs.Tree.{LitTree, TypeTree}
 use Rattle.syn_parts.specs.Form.{Form}
 use Rattle.syn_parts.specs.Mark.{quote, pound, less, and, star, bang, underscore, implementing, dynamic}
-use Rattle.syn_parts.specs.Part.{pound_bang, word_if, find_ident, find_segment, find_word, lit_if, truth_if, find_lit, negative_if, find_signed, string_if, find_string, find_group, find_all, find_const, const_if, find_arg_name, is_arg_name, name, segment_name, lifetime, unsigned, lit, string, kept, any_group, rest_of, constant_tokens, arg_name, outer_body, inner_body, attribute, outer_attributes, inner_attributes, block, no_arguments, lifetimes, output, generic, angle, angle_bracketed, parenthesized, arguments, segment, pieces, path, qualified, qpath, bound, bounds, reference, pointer, slice_or_array, tuple_or_paren, fn_arg, fn_head, fn_pointer, implements, object, macro_end, named, at_place, type, macro, QPathTree}
+use Rattle.syn_parts.specs.Part.{pound_bang, find_ident, find_segment, find_word, find_lit, find_signed, find_string, find_group, find_all, find_const, find_arg_name, is_arg_name, name, segment_name, lifetime, unsigned, lit, string, kept, any_group, rest_of, constant_tokens, arg_name, outer_body, inner_body, attribute, outer_attributes, inner_attributes, block, no_arguments, lifetimes, output, generic, angle, angle_bracketed, parenthesized, arguments, segment, pieces, path, qualified, qpath, bound, bounds, reference, pointer, fn_head, fn_pointer, implements, object, macro_end, named, at_place, type, macro, QPathTree}
 use Rattle.syn_parts.proofs.Weights.{some_is}
 use Rattle.syn_parts.proofs.Parts.{word_some, lit_some, truth_some, negative_some, const_some, string_some}
 use Rattle.syn_parts.proofs.Tails.{Leaves, Found, nothing_taken, tail_then, one_taken, when_leaves, mark_leaves, then_by_leaves, both_leaves, shown_leaves, pure_leaves, inside_leaves, fix_leaves, listed_leaves, more_leaves, joined_leaves, closed_by_leaves, leaf_leaves, maybe_leaves, flag_leaves, case_leaves, group_case_leaves, found_group}

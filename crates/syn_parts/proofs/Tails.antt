@@ -1,11 +1,11 @@
 -- What is left is a tail of the list.
-use Rattle.std.proofs.Common.{◌≡◌, ℕ, zero, suc, Bool, true, false, not, ◌&&◌, ◌||◌, ◌==◌, cond, List, [], ◌∷◌, ◌++◌, take, drop, Option, Some, None, refl, ap, sym, ◌∙◌, subst, append_assoc}
-use Rattle.std.proofs.lemmas.List.{take-append-drop, append-nil}
+use Rattle.std.proofs.Common.{◌≡◌, ℕ, zero, suc, Bool, true, false, cond, List, [], ◌∷◌, ◌++◌, take, drop, Option, Some, None, refl, ap, sym, ◌∙◌, subst, append_assoc}
+use Rattle.std.proofs.lemmas.List.{take-append-drop}
 use Rattle.syn_lexer.specs.declared.lexeme.Delimiter.{Delimiter}
 use Rattle.syn_tokens.specs.Tok.{Tok, ident, punct, literal, group, toks, weight}
 use Rattle.syn_tokens.specs.Front.{group_at, same_delimiter}
 use Rattle.syn_tokens.specs.Input.{IsTail}
-use Rattle.syn_parts.specs.Form.{Form, Outcome, Test, Mark, and_then, never, when, by_size, mark, then_by, both, shown, pure, leaf, whole, inside_reads, inside, case, group_case, flag, maybe, is_true, end, iterate, fix, tail_step, tail, listed, more_step, more, joined, closed_by}
+use Rattle.syn_parts.specs.Form.{Form, Outcome, Test, Mark, and_then, never, when, mark, then_by, both, shown, pure, leaf, whole, inside_reads, inside, case, group_case, flag, maybe, iterate, fix, tail_step, tail, listed, more_step, more, joined, closed_by}
 use Rattle.syn_parts.proofs.Weights.{some_is}
 use Rattle.syn_parts.proofs.Forms.{bind_some}
 

@@ -1,28 +1,25 @@
 -- Each part takes a token at least.
-use Rattle.std.proofs.Common.{◌≡◌, ℕ, suc, ◌≤◌, ◌<◌, Bool, true, false, not, ◌&&◌, ◌==◌, cond, List, [], ◌∷◌, drop, Option, Some, None, refl, ap, sym, ◌∙◌, subst, arith}
+use Rattle.std.proofs.Common.{◌≡◌, ℕ, ◌<◌, Bool, true, false, not, ◌&&◌, ◌==◌, cond, List, [], ◌∷◌, drop, Option, Some, None, refl, ap, sym, ◌∙◌, subst, arith}
 use Rattle.std.specs.Option.{is_some}
 use Rattle.syn_lexer.specs.Keywords.{is_reserved_word}
 use Rattle.syn_lexer.specs.declared.lexeme.Delimiter.{Delimiter}
 use Rattle.syn_lexer.specs.declared.lexeme.Delimiter.TheVariants as del
-use Rattle.syn_tokens.specs.Tok.{Tok, ident, punct, literal, group, weight, token_weight}
+use Rattle.syn_tokens.specs.Tok.{Tok, ident, punct, literal, group, weight}
 use Rattle.syn_tokens.specs.Front.{group_at}
-use Rattle.syn_parts.specs.declared.label.LitKind.{LitKind}
 use Rattle.syn_parts.specs.declared.label.PathStyle.{PathStyle}
 use Rattle.syn_parts.specs.declared.label.PathStyle.TheVariants as style
 use Rattle.syn_parts.specs.Text.{Text, is_segment, is_truth, is_number, kind_of}
-use Rattle.syn_parts.specs.Same.{same_lit, same_toks}
-use Rattle.syn_parts.specs.Tree.{LitTree, TypeTree, GenericTree, BoundTree}
-use Rattle.syn_parts.specs.Form.{Form, Outcome, Test, Mark, and_then, when, mark, then_by, both, shown, leaf, whole, inside_reads, inside, case, group_case, joined}
+use Rattle.syn_parts.specs.Tree.{LitTree}
+use Rattle.syn_parts.specs.Form.{Form, Outcome, Test, Mark, and_then, when, mark, then_by, both, shown, whole, inside_reads, inside, joined}
 use Rattle.syn_parts.specs.Mark.{gt, implementing, dynamic}
 use Rattle.syn_parts.specs.Part.{word_if, find_ident, find_segment, find_word, lit_if, truth_if, find_lit, negative_if, find_signed, find_const, const_if, name, segment_name, lifetime, unsigned, lit, kept, constant_tokens, attribute, outer_body, inner_body, pound_bang, block, lifetimes, generic, segment, pieces, path, qpath, bound, fn_pointer, fn_head, named, at_place, type, macro}
-use Rattle.syn_parts.specs.Tree as t
 use Rattle.syn_parts.specs.Part as p
 use Rattle.syn_parts.proofs.Weights.{some_is, taken, one_at_least}
 use Rattle.syn_parts.proofs.Same.{compares_texts}
 use Rattle.syn_parts.proofs.Views.{only_never, only_infer}
 use Rattle.syn_parts.proofs.Marks.{comma_present, gt_present, eq_present, not_ne_present, question_present, and_present, star_present, bang_present, underscore_present, implementing_present, dynamic_present, less_present, for_present, fn_present, quote_present, pound_present, pound_bang_present, colon2_present}
 use Rattle.syn_parts.proofs.Forms.{Alike, Present, bind_some, weaker, when_alike, both_alike, mark_at_alike, maybe_alike, listed_alike, closed_by_alike, more_alike, pure_alike, flag_at_alike, leaf_alike}
-use Rattle.syn_parts.proofs.Parts.{finds_word, lifetime_alike, inside_at_alike, whole_segment_alike, word_some, lit_some, truth_some, negative_some, const_some, types_alike, type_alike, type_is, lifetimes_alike, output_alike, segment_alike, reference_alike, pointer_alike, slice_or_array_alike, tuple_or_paren_alike, fn_arg_alike, implements_alike, object_alike, macro_end_alike, qualified_alike, path_alike, pieces_alike, arguments_alike, no_arguments_alike, outer_body_alike, inner_body_alike, fn_head_alike, any_group_alike}
+use Rattle.syn_parts.proofs.Parts.{finds_word, lifetime_alike, inside_at_alike, whole_segment_alike, word_some, lit_some, truth_some, negative_some, const_some, types_alike, type_alike, type_is, lifetimes_alike, output_alike, reference_alike, pointer_alike, fn_arg_alike, implements_alike, object_alike, macro_end_alike, qualified_alike, arguments_alike, no_arguments_alike, outer_body_alike, inner_body_alike, fn_head_alike, any_group_alike}
 
 pub record Takes {A : Type 0} (f : Form A) : Type 0 where
   pub takes : (l : List Tok) (x : A) (n : List Tok) → f.reads l ≡ Some (x, n) → weight n < weight l

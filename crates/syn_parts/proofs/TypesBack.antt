@@ -1,27 +1,26 @@
 -- Types, and the paths, arguments and bounds in them, are read back from their own tokens.
-use Rattle.std.proofs.Common.{◌≡◌, ℕ, zero, suc, ◌≤◌, ◌<◌, Bool, true, false, not, ◌&&◌, ◌||◌, ◌==◌, nat_le, nat_lt, cond, List, [], ◌∷◌, ◌++◌, length, take, drop, Option, Some, None, refl, ap, sym, ◌∙◌, subst, codes, arith}
+use Rattle.std.proofs.Common.{◌≡◌, ℕ, zero, suc, Bool, true, false, not, ◌&&◌, ◌||◌, ◌==◌, nat_le, nat_lt, cond, List, [], ◌∷◌, ◌++◌, length, take, drop, Option, Some, None, refl, ap, sym, ◌∙◌, subst, codes, arith}
 use Rattle.std.proofs.lemmas.Bool.Decides.{nat_tests}
-use Rattle.std.specs.Str.{bytes_eq}
 use Rattle.syn_lexer.specs.Keywords.{is_reserved_word}
 use Rattle.syn_lexer.specs.declared.lexeme.Delimiter.{Delimiter}
 use Rattle.syn_lexer.specs.declared.lexeme.Delimiter.TheVariants as del
 use Rattle.syn_lexer.specs.declared.lexeme.Spacing.TheVariants as spacing
-use Rattle.syn_tokens.specs.Tok.{Tok, ident, punct, literal, group, toks, inside, toks-inside}
+use Rattle.syn_tokens.specs.Tok.{Tok, ident, punct, literal, group, toks-inside}
 use Rattle.syn_tokens.specs.Front.{group_at, is_empty}
 use Rattle.syn_parts.specs.declared.label.LitKind.{LitKind}
 use Rattle.syn_parts.specs.declared.label.LitKind.TheVariants as kind
 use Rattle.syn_parts.specs.declared.label.PathStyle.{PathStyle}
 use Rattle.syn_parts.specs.declared.label.PathStyle.TheVariants as style
 use Rattle.syn_parts.specs.Text.{Text, is_segment, stands_alone, is_truth, is_number, kind_of}
-use Rattle.syn_parts.specs.Same.{same_kind, same_group}
+use Rattle.syn_parts.specs.Same.{same_group}
 use Rattle.syn_parts.specs.Tree as t
 use Rattle.syn_parts.specs.Tree.{LitTree, LifetimesTree, TypeTree, Types, QSelfTree, Segments, SegmentTree, PathTree, FnArgs, FnArgTree, ArgumentsTree, Generics, GenericTree, ReturnTree, Bounds, BoundTree}
-use Rattle.syn_parts.specs.Form.{Form, Mark, maybe, flag, listed, joined, closed_by, mark, inside_behind}
-use Rattle.syn_parts.specs.Mark.{sign_at, word_at, lifetime_at, round_at, brace_at, comma, colon2, plus, question, gt, less, eq, colon, not_ne, arrow, mutable, unsafe_word, extern_word, fn_word, semi}
+use Rattle.syn_parts.specs.Form.{maybe, flag, listed, joined}
+use Rattle.syn_parts.specs.Mark.{sign_at, word_at, lifetime_at, round_at, brace_at, comma, colon2, plus, question, gt, less, eq, colon, not_ne, arrow, mutable, unsafe_word, extern_word}
 use Rattle.syn_parts.specs.Part.{lifetime, lifetimes, lifetimes_at, const_at, assoc_at, arg_name_at, angle_at, turbofish_at, fn_at, literal_at, string, abi, rest_of, constant_tokens, any_group, arg_name, is_arg_name, no_arguments, has_none, fn_head, macro_end, type, output, generic, angle, angle_bracketed, parenthesized, arguments, segment, pieces, path, qualified, qpath, bound, bounds, reference, pointer, slice_or_array, tuple_or_paren, fn_arg, fn_pointer, implements, object, named, at_place, tuple_of, segments_bare, FnHead}
-use Rattle.syn_parts.specs.Own.{alone, joint, comma_before, colon2_before, arrow_before, before_if, before_some, enclosed, lifetime_own, lit_own, lifetimes_own, string_own, extern_own, is_end, separated, elements_own, closed_at, one_less, count_segments, at_most, inner_count, qself_end, type_own, types_own, qself_own, segments_own, arguments_own, generics_own, generic_own, return_own, args_own, bounds_own, bound_own, no_more_types, no_more_segments, no_more_generics, no_more_args, no_more_bounds}
+use Rattle.syn_parts.specs.Own.{alone, comma_before, colon2_before, arrow_before, before_if, before_some, enclosed, lifetime_own, lit_own, lifetimes_own, extern_own, is_end, elements_own, count_segments, at_most, inner_count, qself_end, type_own, types_own, qself_own, segments_own, arguments_own, generics_own, generic_own, return_own, args_own, bounds_own, bound_own, segment_own, arg_own, no_more_types, no_more_segments, no_more_generics, no_more_args, no_more_bounds}
 use Rattle.syn_parts.specs.Fits.{fits_if, lifetimes_fit, is_string, has_kind, is_const, is_macro_delimiter, is_one_type, is_one_bound, position_fits, bare_segments, ends_well, is_none, type_fits, types_fit, qself_fits, segments_fit, arguments_fit, generics_fit, generic_fits, return_fits, args_fit, bounds_fit, bound_fits, goes_over, takes_angle, takes_round, name_stops, type_stops, segments_stop, arguments_stop, return_stops, bounds_stop, bound_stops, mac_stops}
-use Rattle.syn_parts.proofs.Same.{both_true, same_toks-refl, same_lit-refl, same_kind-true, same_delimiter-refl}
+use Rattle.syn_parts.proofs.Same.{both_true, same_toks-refl, same_lit-refl, same_kind-true}
 use Rattle.syn_parts.proofs.Marks.{colon2_present, plus_present}
 use Rattle.syn_parts.proofs.Forms.{Alike, weaker}
 use Rattle.syn_parts.proofs.Parts.{types_alike, type_alike, type_is, at_place_alike, whole_segment_alike, generic_alike, fn_arg_alike, bound_alike, lifetime_alike}
@@ -30,12 +29,6 @@ use Rattle.syn_parts.proofs.Behind.{or_true, Calm, nil_calm, comma_calm, gt_calm
 use Rattle.syn_parts.proofs.Fronts.{Front, type_begins, named_word, named_colon2, named_less, no_truth, word_not, not_for}
 
 -- ---- lists of the trees, as elements
-
-abbrev pub segment_own : SegmentTree → List Tok → List Tok
-segment_own s r = ident s.ident ∷ arguments_own s.arguments r
-
-abbrev pub arg_own : FnArgTree → List Tok → List Tok
-arg_own x r = before_some x.name (λ w l. ident w ∷ alone 58 ∷ l) (type_own x.ty r)
 
 abbrev pub plus_before : List Tok → List Tok
 plus_before l = alone 43 ∷ l
@@ -102,7 +95,7 @@ plus_of : (b : Bool) (r : List Tok) → plus.at r ≡ false → (b && plus.at r)
 plus_of true r h = h
 plus_of false r h = refl
 
-quiet_stops : (b : Bool) (x : TypeTree) (r : List Tok) → Quiet r → type_stops b x r ≡ true
+pub quiet_stops : (b : Bool) (x : TypeTree) (r : List Tok) → Quiet r → type_stops b x r ≡ true
 quiet_stops b x r q = type_calm r q.calm b x (plus_of b r q.no_plus)
 
 -- ---- lifetimes of a bound
@@ -211,7 +204,7 @@ module _ (b : Bool) (r : List Tok) where
 
 -- ---- a function pointer
 
-string_back : (x : LitTree) (r : List Tok) → is_string x ≡ true → string.behind x (lit_own x r) ≡ Some r
+pub string_back : (x : LitTree) (r : List Tok) → is_string x ≡ true → string.behind x (lit_own x r) ≡ Some r
 unfolding string lit_own
 string_back x r h = by_kind x.kind x.text h
   where
@@ -229,7 +222,7 @@ string_back x r h = by_kind x.kind x.text h
     by_kind kind.Float text h = absurd cc
     by_kind kind.Bool text h = absurd cc
 
-string_seen : (x : LitTree) (r : List Tok) → is_string x ≡ true → literal_at (lit_own x r) ≡ true
+pub string_seen : (x : LitTree) (r : List Tok) → is_string x ≡ true → literal_at (lit_own x r) ≡ true
 unfolding literal_at lit_own
 string_seen x r h = by_kind x.kind x.text h
   where
@@ -243,7 +236,7 @@ string_seen x r h = by_kind x.kind x.text h
     by_kind kind.Float text h = absurd cc
     by_kind kind.Bool text h = absurd cc
 
-abbrev fn_tokens : List Tok → List Tok
+abbrev pub fn_tokens : List Tok → List Tok
 fn_tokens l = ident (codes "fn") ∷ l
 
 abbrev pub head_own : FnHead → List Tok → List Tok
@@ -327,7 +320,7 @@ module _ (m : List Tok) where
       let (j, n) = both_true (not (angle_at m)) (not (round_at m)) (other (stands_alone w) (not (angle_at m) && not (round_at m)) h k) in
       rw (not_true (angle_at m) j, not_true (round_at m) n) refl
 
-  segment_step : (s : PathStyle) (w : Text) (a : ArgumentsTree) → is_segment w ≡ true → (not (stands_alone w) || has_none a) ≡ true
+  pub segment_step : (s : PathStyle) (w : Text) (a : ArgumentsTree) → is_segment w ≡ true → (not (stands_alone w) || has_none a) ≡ true
       → (stands_alone w ≡ false → (arguments type s).behind a (arguments_own a m) ≡ Some m)
       → (segment type s).behind (record { ident = w; arguments = a }) (ident w ∷ arguments_own a m) ≡ Some m
   unfolding segment no_arguments
@@ -388,7 +381,7 @@ no_less false t.no_segments e r h = absurd cc
 no_less false (t.more_segments w a ss) e r h = refl
 
 -- the segments that stand inside of `<` and `>`, and those behind
-segments_split : (n : ℕ) (ss : Segments) (r : List Tok) → nat_lt (suc n) (count_segments ss) ≡ true
+pub segments_split : (n : ℕ) (ss : Segments) (r : List Tok) → nat_lt (suc n) (count_segments ss) ≡ true
     → segments_own (suc n) ss false r ≡ elements_own segment_own colon2_before (take (suc n) (t.segments ss)) false (alone 62 ∷ colon2_before (elements_own segment_own colon2_before (drop (suc n) (t.segments ss)) false r))
 segments_split n t.no_segments r h = absurd (grind (arith, nat_tests, h))
 segments_split n (t.more_segments w a t.no_segments) r h = absurd (grind (arith, nat_tests, h))
@@ -399,14 +392,14 @@ segments_split (suc n) (t.more_segments w a (t.more_segments v c ss)) r h =
 
 -- ---- qualified paths
 
-at_most_zero : (k : ℕ) → at_most 0 k ≡ 0
+pub at_most_zero : (k : ℕ) → at_most 0 k ≡ 0
 at_most_zero k = by_bool (nat_le 0 k) refl
   where
     by_bool : (b : Bool) → nat_le 0 k ≡ b → cond b 0 k ≡ 0
     by_bool true e = refl
     by_bool false e = absurd (grind (arith, nat_tests, e))
 
-at_most_less : (n k : ℕ) → nat_lt n k ≡ true → at_most n k ≡ n
+pub at_most_less : (n k : ℕ) → nat_lt n k ≡ true → at_most n k ≡ n
 at_most_less n k h = let e : nat_le n k ≡ true = grind (arith, nat_tests, h) in rw e refl
 
 module _ (s : PathStyle) (x : TypeTree) (ss : Segments) (l r : List Tok) where
@@ -436,7 +429,7 @@ unfolding pieces sign_at
 elements_pieces s true x xs r c j = joined_back colon2 (segment type s) segment_own colon2_before colon2_present (λ k. whole_segment_alike s) (λ l. refl) (λ l. refl) r c x xs j
 elements_pieces s false x xs r c j = joined_back colon2 (segment type s) segment_own colon2_before colon2_present (λ k. whole_segment_alike s) (λ l. refl) (λ l. refl) r c x xs j
 
-colon2_seen : (l : List Tok) → colon2.at (colon2_before l) ≡ true
+pub colon2_seen : (l : List Tok) → colon2.at (colon2_before l) ≡ true
 unfolding sign_at
 colon2_seen l = refl
 
@@ -488,7 +481,7 @@ trait_step : (q : Bool) (f : Option LifetimesTree) (c : Bool) (ss : Segments) (l
 unfolding bound path
 trait_step q f c ss l r h i j k p = rw (bound_no_lifetime q f l k, question_piece q (before_some f lifetimes_own l) (for_no_question f l i), bound_lifetimes_piece f l h j, p) refl
 
-outlives_step : (w : Text) (r : List Tok) → (bound type).behind (t.outlives w) (lifetime_own w r) ≡ Some r
+pub outlives_step : (w : Text) (r : List Tok) → (bound type).behind (t.outlives w) (lifetime_own w r) ≡ Some r
 unfolding bound lifetime_at
 outlives_step w r = lifetime_back w r
 
@@ -518,17 +511,17 @@ one_step : (x : BoundTree) (l r : List Tok) → (bound type).behind x l ≡ Some
 unfolding bounds
 one_step x l r h = h
 
-plus_seen : (l : List Tok) → plus.at (plus_before l) ≡ true
+pub plus_seen : (l : List Tok) → plus.at (plus_before l) ≡ true
 unfolding sign_at
 plus_seen l = refl
 
 -- ---- generic arguments, outputs, arguments of function pointers
 
-a_lifetime_step : (w : Text) (r : List Tok) → (generic type).behind (t.a_lifetime w) (lifetime_own w r) ≡ Some r
+pub a_lifetime_step : (w : Text) (r : List Tok) → (generic type).behind (t.a_lifetime w) (lifetime_own w r) ≡ Some r
 unfolding generic lifetime_at
 a_lifetime_step w r = lifetime_back w r
 
-const_step : (ts r : List Tok) → is_const ts ≡ true → (generic type).behind (t.a_const ts) (ts ++ r) ≡ Some r
+pub const_step : (ts r : List Tok) → is_const ts ≡ true → (generic type).behind (t.a_const ts) (ts ++ r) ≡ Some r
 unfolding generic lifetime_at const_at brace_at group_at constant_tokens
 const_step (literal text ∷ []) r h = rw (same_toks-refl (literal text ∷ [])) refl
 const_step (ident text ∷ []) r h = rw (h, same_toks-refl (ident text ∷ [])) refl
@@ -554,7 +547,7 @@ name_no_truth : (w : Text) → not (is_reserved_word w) ≡ true → is_truth w 
 unfolding is_segment
 name_no_truth w h = no_truth w (rw (not_true (is_reserved_word w) h) refl)
 
-assoc_step : (w : Text) (x : TypeTree) (l r : List Tok) → not (is_reserved_word w) ≡ true → (type true).behind x l ≡ Some r → (generic type).behind (t.an_assoc w x) (ident w ∷ alone 61 ∷ l) ≡ Some r
+pub assoc_step : (w : Text) (x : TypeTree) (l r : List Tok) → not (is_reserved_word w) ≡ true → (type true).behind x l ≡ Some r → (generic type).behind (t.an_assoc w x) (ident w ∷ alone 61 ∷ l) ≡ Some r
 unfolding generic lifetime_at const_at brace_at group_at assoc_at sign_at
 assoc_step w x l r h i = rw (name_no_truth w h, h, name_back w (alone 61 ∷ l) h, i) refl
 
@@ -562,15 +555,15 @@ a_type_step : (x : TypeTree) (l m r : List Tok) → Front l m → eq.at m ≡ fa
 unfolding generic
 a_type_step x l m r f e h = rw (f.no_lifetime, f.no_const, f.no_assoc e, h) refl
 
-default_step : (r : List Tok) → arrow.at r ≡ false → (output type false).behind t.default r ≡ Some r
+pub default_step : (r : List Tok) → arrow.at r ≡ false → (output type false).behind t.default r ≡ Some r
 unfolding output
 default_step r h = rw h refl
 
-given_step : (x : TypeTree) (l r : List Tok) → (type false).behind x l ≡ Some r → (output type false).behind (t.given x) (arrow_before l) ≡ Some r
+pub given_step : (x : TypeTree) (l r : List Tok) → (type false).behind x l ≡ Some r → (output type false).behind (t.given x) (arrow_before l) ≡ Some r
 unfolding output sign_at
 given_step x l r h = h
 
-named_arg_step : (w : Text) (x : TypeTree) (l r : List Tok) → is_arg_name w ≡ true → (type true).behind x l ≡ Some r → (fn_arg type).behind (record { name = Some w; ty = x }) (ident w ∷ alone 58 ∷ l) ≡ Some r
+pub named_arg_step : (w : Text) (x : TypeTree) (l r : List Tok) → is_arg_name w ≡ true → (type true).behind x l ≡ Some r → (fn_arg type).behind (record { name = Some w; ty = x }) (ident w ∷ alone 58 ∷ l) ≡ Some r
 unfolding fn_arg arg_name_at arg_name sign_at
 named_arg_step w x l r h i = rw (h, text_same w, i) refl
 
@@ -598,7 +591,7 @@ args_end : (xs : FnArgs) (e : Bool) → ends_well (no_more_args xs) e ≡ true �
 args_end t.no_args e h = h
 args_end (t.more_args n x xs) e h = refl
 
-nil_comma : comma.at [] ≡ false
+pub nil_comma : comma.at [] ≡ false
 unfolding sign_at
 nil_comma = refl
 
@@ -628,7 +621,7 @@ generics_listed gs e m h c =
     subst (λ l. (listed comma gt.at (generic type)).behind (t.generics gs, e) l ≡ Some (alone 62 ∷ m)) (sym (generics_elements gs e (alone 62 ∷ m)))
     (listed_back (generic type) generic_own gt.at (λ k. generic_alike {k = k} types_alike) (alone 62 ∷ m) (gt_ends m) (gt_comma m) e (t.generics gs) (generics_end gs e h) c)
 
-bound_whole : (k : ℕ) → Alike k (bound type) (bound type)
+pub bound_whole : (k : ℕ) → Alike k (bound type) (bound type)
 bound_whole k = weaker (bound_alike {k = k} types_alike)
 
 bounds_joined : (bs : Bounds) (r : List Tok) → no_more_bounds bs ≡ false → plus.at r ≡ false → Joins (bound type) bound_own plus_before r (t.bounds bs)
@@ -685,13 +678,13 @@ generic_no_gt (t.a_const ts) r f = const_no_gt ts r f
 generic_no_gt (t.an_assoc w x) r f = refl
 generic_no_gt (t.a_type x) r f = let p = type_begins true x r f in p.no_gt
 
-zero_less : (k : ℕ) → (nat_lt 0 0 && nat_lt 0 k) ≡ true → ⊥
+pub zero_less : (k : ℕ) → (nat_lt 0 0 && nat_lt 0 k) ≡ true → ⊥
 zero_less k h = let (a, b) = both_true (nat_lt 0 0) (nat_lt 0 k) h in grind (arith, nat_tests, a)
 
-suc_zero : (n : ℕ) (l : Bool) → (suc n == 0 && l) ≡ true → ⊥
+pub suc_zero : (n : ℕ) (l : Bool) → (suc n == 0 && l) ≡ true → ⊥
 suc_zero n l h = let (a, b) = both_true (suc n == 0) l h in grind (arith, nat_tests, a)
 
-no_leading : (0 == 0 && false) ≡ true → ⊥
+pub no_leading : (0 == 0 && false) ≡ true → ⊥
 no_leading h = let (a, b) = both_true (0 == 0) false h in absurd cc
 
 some_segments : (ss : Segments) → no_more_segments ss ≡ false → is_end (t.segments ss) ≡ false

@@ -1,7 +1,7 @@
 -- How many tokens are left behind what is taken.
-use Rattle.std.proofs.Common.{◌≡◌, ℕ, true, zero, suc, ◌+◌, ◌≤◌, ◌<◌, Bool, false, cond, List, [], ◌∷◌, drop, length, Option, Some, None, refl, subst, arith}
+use Rattle.std.proofs.Common.{◌≡◌, ℕ, true, zero, suc, ◌+◌, ◌≤◌, ◌<◌, Bool, false, cond, List, [], ◌∷◌, drop, Option, Some, None, subst, arith}
 use Rattle.syn_lexer.specs.declared.lexeme.Delimiter.{Delimiter}
-use Rattle.syn_tokens.specs.Tok.{Tok, Inside, ident, punct, literal, group, toks, token_weight, inside_weight, weight, weight-toks}
+use Rattle.syn_tokens.specs.Tok.{Tok, ident, punct, literal, group, toks, token_weight, inside_weight, weight, weight-toks}
 use Rattle.syn_tokens.specs.Front.{group_at, same_delimiter}
 
 pub some_is : {A : Type 0} {x y : A} → Some x ≡ Some y → x ≡ y

@@ -1,5 +1,5 @@
 -- The laws of the lower parts.
-use Rattle.std.proofs.Common.{◌≡◌, ℕ, Bool, true, false, not, ◌&&◌, ◌||◌, ◌↔◌, List, [], ◌∷◌, Option, Some, None, refl, ap, sym, ◌∙◌, subst}
+use Rattle.std.proofs.Common.{◌≡◌, Bool, true, false, not, ◌||◌, List, ◌∷◌, Some, refl, subst}
 use Rattle.syn_tokens.specs.Tok.{Tok}
 use Rattle.syn_parts.specs.declared.label.PathStyle.{PathStyle}
 use Rattle.syn_parts.specs.declared.label.PathStyle.TheVariants as style
@@ -8,14 +8,17 @@ use Rattle.syn_parts.specs.Tree as t
 use Rattle.syn_parts.specs.Tree.{PathTree, SegmentTree, Segments, ReturnTree}
 use Rattle.syn_parts.specs.Form.{Form}
 use Rattle.syn_parts.specs.Mark.{sign_at, colon2, arrow}
-use Rattle.syn_parts.specs.Part.{has_none, macro, path, qpath, output, type, any_group, MacroTree, QPathTree}
-use Rattle.syn_parts.specs.Own.{alone, arrow_before, enclosed, before_if, colon2_before, segments_own, path_own, qualified_own, macro_own, return_own, inner_count, count_segments, no_more_segments}
-use Rattle.syn_parts.specs.Fits.{goes_over, path_fits, path_stops, qpath_fits, macro_fits, is_macro_delimiter, output_fits, output_stops, type_fits, type_stops, segments_fit, segments_stop, arguments_fit, arguments_stop, qself_fits, mac_stops}
+use Rattle.syn_parts.specs.Part.{has_none, macro, path, qpath, output, type, MacroTree}
+use Rattle.syn_parts.specs.Own.{alone, enclosed, before_if, colon2_before, segments_own, path_own, qualified_own, macro_own, return_own, count_segments, no_more_segments}
+use Rattle.syn_parts.specs.Fits.{goes_over, path_fits, path_stops, qpath_fits, macro_fits, is_macro_delimiter, output_fits, output_stops, segments_fit, segments_stop, arguments_fit, arguments_stop, qself_fits}
 use Rattle.syn_parts.specs.Laws.{IsExact, PartsAreExact, PartsAreReadBack}
 use Rattle.syn_parts.proofs.Same.{both_true}
 use Rattle.syn_parts.proofs.Forms.{Alike, weaker}
-use Rattle.syn_parts.proofs.Parts.{name_alike, lifetime_alike, lit_alike, unsigned_alike, attribute_alike, outer_attributes_alike, inner_attributes_alike, block_alike, lifetimes_alike, macro_alike, whole_path_alike, whole_segment_alike, qpath_alike, arguments_alike, generic_alike, bound_alike, output_alike, type_alike, types_alike}
+use Rattle.syn_parts.proofs.Parts.{name_alike, lifetime_alike, lit_alike, unsigned_alike, attribute_alike, outer_attributes_alike, inner_attributes_alike, block_alike, lifetimes_alike, macro_alike, whole_path_alike, whole_segment_alike, qpath_alike, arguments_alike, generic_alike, assoc_alike, angle_alike, angle_bracketed_alike, parenthesized_alike, fn_arg_alike, abi_alike, mutability_alike, trait_bound_alike, bounds_alike, bound_alike, output_alike, type_alike, types_alike}
 use Rattle.syn_parts.proofs.ReadBack.{not_true, name_back, lifetime_back, lit_back, attribute_back, block_back}
+use Rattle.syn_parts.proofs.SimpleTold.{unsigned_back, of_kind_back}
+use Rattle.syn_parts.proofs.MoreBack.{abi_back, mutability_back, arguments_again, in_angle_back, in_round_back, angle_back, segment_back, generic_again, assoc_back, arg_back, trait_back, bounds_back}
+use Rattle.syn_parts.proofs.LitKinds.{of_kind_alike}
 use Rattle.syn_parts.proofs.TypesBack.{lifetimes_back, path_back, qpath_back, type_back, bound_back, group_back}
 
 pub exact : {A : Type 0} (f : Form A) → Alike 0 f f → IsExact f
@@ -41,6 +44,16 @@ parts_exact = record {
   trait_bounds = exact _ (weaker (bound_alike {k = 0} types_alike));
   outputs = λ b. exact _ (weaker (output_alike {k = 0} types_alike b));
   types = λ b. exact _ (type_alike 0 b);
+  literals_of_kind = λ k. exact _ (of_kind_alike k);
+  angle_bracketed = exact _ (weaker (angle_bracketed_alike {k = 0} types_alike));
+  parenthesized = exact _ (weaker (parenthesized_alike {k = 0} types_alike));
+  angles = exact _ (weaker (angle_alike {k = 0} types_alike));
+  associated_types = exact _ (assoc_alike {k = 0} types_alike);
+  fn_args = exact _ (fn_arg_alike {k = 0} types_alike);
+  abis = exact _ abi_alike;
+  mutabilities = exact _ mutability_alike;
+  traits = exact _ (weaker (trait_bound_alike {k = 0} types_alike));
+  lists_of_bounds = λ b. exact _ (weaker (bounds_alike {k = 0} types_alike b));
 }
 
 -- ---- read back
@@ -117,4 +130,18 @@ parts_read_back = record {
   trait_bounds = bound_back;
   outputs = output_back;
   types = type_back;
+  unsigned_literals = unsigned_back;
+  literals_of_kind = of_kind_back;
+  path_segments = segment_back;
+  segment_arguments = arguments_again;
+  angle_bracketed = in_angle_back;
+  parenthesized = in_round_back;
+  angles = angle_back;
+  generic_arguments = generic_again;
+  associated_types = assoc_back;
+  fn_args = arg_back;
+  abis = abi_back;
+  mutabilities = mutability_back;
+  traits = trait_back;
+  lists_of_bounds = λ b p. bounds_back b p.0 p.1;
 }

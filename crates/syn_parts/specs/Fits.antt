@@ -1,6 +1,6 @@
 -- Where a part is read back from its own tokens: `x_fits x` is what a part must be for it, and `x_stops x r` says that the
 -- tokens r behind it don't go on with it.
-use Rattle.std.specs.Prelude.{◌≡◌, ℕ, zero, suc, Bool, true, false, not, ◌&&◌, ◌||◌, ◌==◌, nat_lt, if◌then◌else◌, List, [], ◌∷◌, Option, Some, None}
+use Rattle.std.specs.Prelude.{ℕ, zero, suc, Bool, true, false, not, ◌&&◌, ◌||◌, ◌==◌, nat_lt, if◌then◌else◌, List, [], ◌∷◌, codes, Option, Some, None}
 use Rattle.syn_lexer.specs.Keywords.{is_reserved_word}
 use Rattle.syn_lexer.specs.declared.lexeme.Delimiter.{Delimiter}
 use Rattle.syn_lexer.specs.declared.lexeme.Delimiter.TheVariants as del
@@ -13,11 +13,11 @@ use Rattle.syn_parts.specs.declared.label.PathStyle.TheVariants as style
 use Rattle.syn_parts.specs.Text.{Text, is_segment, stands_alone, is_truth, is_number, number_kind, kind_of}
 use Rattle.syn_parts.specs.Same.{same_kind}
 use Rattle.syn_parts.specs.Form.{Test}
-use Rattle.syn_parts.specs.Mark.{colon2, arrow, plus, not_ne, round_at}
-use Rattle.syn_parts.specs.Part.{has_none, is_arg_name, angle_at, turbofish_at, MacroTree, QPathTree}
+use Rattle.syn_parts.specs.Mark.{colon, colon2, arrow, eq, plus, not_ne, round_at}
+use Rattle.syn_parts.specs.Part.{has_none, is_arg_name, angle_at, turbofish_at, literal_at, MacroTree, QPathTree}
 use Rattle.syn_parts.specs.Own.{no_more_types, no_more_segments, no_more_generics, no_more_args, no_more_bounds, count_segments, inner_count, one_less, colon2_before}
 use Rattle.syn_parts.specs.Tree as t
-use Rattle.syn_parts.specs.Tree.{LitTree, AttributeTree, LifetimesTree, TypeTree, Types, QSelfTree, Segments, PathTree, FnArgs, ArgumentsTree, Generics, GenericTree, ReturnTree, Bounds, BoundTree}
+use Rattle.syn_parts.specs.Tree.{LitTree, AttributeTree, LifetimesTree, TypeTree, Types, QSelfTree, Segments, SegmentTree, PathTree, FnArgs, FnArgTree, ArgumentsTree, Generics, GenericTree, ReturnTree, Bounds, BoundTree}
 
 -- ---- literals
 
@@ -39,6 +39,21 @@ lit_fits_by k text = has_kind (kind_of text) k
 
 unfoldable pub lit_fits : LitTree → Bool
 lit_fits x = lit_fits_by x.kind x.text
+
+-- a literal without a sign, and one of this kind
+abbrev pub unsigned_fits_by : LitKind → Text → Bool
+unsigned_fits_by kind.Bool text = is_truth text
+unsigned_fits_by k text = has_kind (kind_of text) k
+
+abbrev pub unsigned_fits : LitTree → Bool
+unsigned_fits x = unsigned_fits_by x.kind x.text
+
+abbrev pub of_kind_fits : LitKind → LitTree → Bool
+of_kind_fits k x = same_kind x.kind k && unsigned_fits x
+
+-- no tokens go on with it
+abbrev pub closed : {A : Type 0} → A → Test
+closed x r = true
 
 -- ---- lists: a separator ends only a list that has elements
 
@@ -71,6 +86,11 @@ is_macro_delimiter _ = true
 
 abbrev pub is_string : LitTree → Bool
 is_string x = same_kind x.kind kind.Str && has_kind (kind_of x.text) kind.Str
+
+-- `extern` without a string goes on with one
+abbrev pub abi_stops : Option LitTree → Test
+abi_stops None r = not (literal_at r)
+abi_stops (Some x) r = true
 
 abbrev pub is_one_type : Types → Bool
 is_one_type (t.more_types x t.no_types) = true
@@ -106,11 +126,17 @@ takes_round _ = false
 
 -- ---- what is behind a part
 
+-- no arguments begin
+abbrev pub none_stops : PathStyle → Test
+none_stops style.Mod r = true
+none_stops style.Expr r = not (turbofish_at r)
+none_stops style.Type r = not (angle_at r) && not (round_at r)
+
 -- what a segment without arguments would go on with
 abbrev pub name_stops : PathStyle → Text → Test
 name_stops style.Mod w r = true
-name_stops style.Expr w r = stands_alone w || not (turbofish_at r)
-name_stops style.Type w r = stands_alone w || (not (angle_at r) && not (round_at r))
+name_stops style.Expr w r = stands_alone w || none_stops style.Expr r
+name_stops style.Type w r = stands_alone w || none_stops style.Type r
 
 abbrev mutual
   pub type_stops : Bool → TypeTree → Test
@@ -244,3 +270,69 @@ output_fits b (t.given x) = type_fits b x
 abbrev pub output_stops : Bool → ReturnTree → Test
 output_stops b t.default r = not (arrow.at r)
 output_stops b (t.given x) r = type_stops b x r
+
+-- ---- parts of paths and of function pointers
+
+-- a segment, as the path that it is alone
+abbrev pub segment_fits : PathStyle → SegmentTree → Bool
+segment_fits s x = segments_fit 0 s (t.segments_of (x ∷ []))
+
+abbrev pub segment_stops : PathStyle → SegmentTree → Test
+segment_stops s x r = arguments_stop s x.ident x.arguments r
+
+-- arguments behind a name that may have some
+abbrev pub after_name_stops : PathStyle → ArgumentsTree → Test
+after_name_stops s t.no_arguments r = none_stops s r
+after_name_stops s (t.angle c gs e) r = true
+after_name_stops s (t.round xs e o) r = return_stops o r
+
+-- in `<` and `>`, and in parentheses
+abbrev pub in_angle_fits : ArgumentsTree → Bool
+in_angle_fits (t.angle c gs e) = arguments_fit style.Type (t.angle c gs e)
+in_angle_fits _ = false
+
+abbrev pub in_round_fits : ArgumentsTree → Bool
+in_round_fits (t.round xs e o) = arguments_fit style.Type (t.round xs e o)
+in_round_fits _ = false
+
+abbrev pub angle_fits : List GenericTree × Bool → Bool
+angle_fits p = in_angle_fits (t.angle false (t.generics_of p.0) p.1)
+
+-- the type is one such word
+abbrev pub is_word : (Text → Bool) → TypeTree → Bool
+is_word such (t.path t.no_qself false (t.more_segments w t.no_arguments t.no_segments) false) = such w
+is_word such t.infer = such (codes "_")
+is_word such _ = false
+
+abbrev pub assoc_fits : Text × TypeTree → Bool
+assoc_fits p = generic_fits (t.an_assoc p.0 p.1)
+
+-- A name before `=` would begin an associated type.
+abbrev pub generic_stops : GenericTree → Test
+generic_stops (t.a_lifetime w) r = true
+generic_stops (t.a_const ts) r = true
+generic_stops (t.an_assoc w x) r = type_stops true x r
+generic_stops (t.a_type x) r = type_stops true x r && not (is_word (λ w. not (is_reserved_word w)) x && eq.at r)
+
+abbrev pub arg_fits : FnArgTree → Bool
+arg_fits x = args_fit (t.args_of (x ∷ []))
+
+-- A word before `:` would be the argument's name.
+abbrev pub arg_stops_by : Option Text → TypeTree → Test
+arg_stops_by (Some w) x r = type_stops true x r
+arg_stops_by None x r = type_stops true x r && not (is_word is_arg_name x && colon.at r)
+
+abbrev pub arg_stops : FnArgTree → Test
+arg_stops x r = arg_stops_by x.name x.ty r
+
+-- `?`? `for<..>`? path
+abbrev pub trait_fits : BoundTree → Bool
+trait_fits (t.outlives w) = false
+trait_fits (t.a_trait q f l ss e) = bound_fits (t.a_trait q f l ss e)
+
+-- bounds, as what they are behind `impl`
+abbrev pub bounds_list_fits : Bool → List BoundTree × Bool → Bool
+bounds_list_fits b p = type_fits b (t.impl_trait (t.bounds_of p.0) p.1)
+
+abbrev pub bounds_list_stops : Bool → List BoundTree × Bool → Test
+bounds_list_stops b p r = type_stops b (t.impl_trait (t.bounds_of p.0) p.1) r

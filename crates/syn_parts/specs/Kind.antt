@@ -1,6 +1,5 @@
 -- Literals of one kind.
-use Rattle.std.specs.Prelude.{Bool, true, false, if◌then◌else◌, List, Option, Some, None}
-use Rattle.syn_tokens.specs.Tok.{Tok}
+use Rattle.std.specs.Prelude.{if◌then◌else◌, Some, None}
 use Rattle.syn_parts.specs.declared.label.LitKind.{LitKind}
 use Rattle.syn_parts.specs.Tree.{LitTree}
 use Rattle.syn_parts.specs.Form.{Form, Outcome, leaf}

@@ -1,10 +1,10 @@
 -- The signs and words that parts are made of, and the tests of what stands at the front of a list.
-use Rattle.std.specs.Prelude.{ℕ, Bool, true, false, not, ◌&&◌, ◌||◌, ◌==◌, List, [], ◌∷◌, drop, length, codes}
+use Rattle.std.specs.Prelude.{ℕ, false, not, ◌&&◌, ◌==◌, List, ◌∷◌, length, codes}
 use Rattle.syn_lexer.specs.declared.lexeme.Delimiter.TheVariants as del
 use Rattle.syn_lexer.specs.declared.lexeme.Spacing.TheVariants as spacing
-use Rattle.syn_tokens.specs.Tok.{Tok, ident, punct, literal, group}
+use Rattle.syn_tokens.specs.Tok.{ident, punct}
 use Rattle.syn_tokens.specs.Sign.{begins, begins_word}
-use Rattle.syn_tokens.specs.Front.{is_empty, sees_group}
+use Rattle.syn_tokens.specs.Front.{sees_group}
 use Rattle.syn_parts.specs.Form.{Test, Mark}
 
 unfoldable pub sign_at : List ℕ → Test

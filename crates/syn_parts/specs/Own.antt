@@ -1,6 +1,6 @@
 -- The own tokens of each lower part: its spelling from left to right, the last punct of each token alone.
 -- `x_own x r` is the tokens of x before the tokens r.
-use Rattle.std.specs.Prelude.{ℕ, zero, suc, Bool, true, false, not, ◌&&◌, ◌||◌, ◌==◌, nat_le, if◌then◌else◌, List, [], ◌∷◌, ◌++◌, length, drop, codes, Option, Some, None}
+use Rattle.std.specs.Prelude.{ℕ, zero, suc, Bool, true, false, not, ◌||◌, ◌==◌, nat_le, if◌then◌else◌, List, [], ◌∷◌, ◌++◌, codes, Option, Some, None}
 use Rattle.syn_lexer.specs.declared.lexeme.Delimiter.{Delimiter}
 use Rattle.syn_lexer.specs.declared.lexeme.Delimiter.TheVariants as del
 use Rattle.syn_lexer.specs.declared.lexeme.Spacing.TheVariants as spacing
@@ -9,7 +9,7 @@ use Rattle.syn_parts.specs.declared.label.LitKind.{LitKind}
 use Rattle.syn_parts.specs.declared.label.LitKind.TheVariants as kind
 use Rattle.syn_parts.specs.Text.{Text}
 use Rattle.syn_parts.specs.Tree as t
-use Rattle.syn_parts.specs.Tree.{LitTree, AttributeTree, LifetimesTree, TypeTree, Types, QSelfTree, Segments, SegmentTree, PathTree, FnArgs, ArgumentsTree, Generics, GenericTree, ReturnTree, Bounds, BoundTree}
+use Rattle.syn_parts.specs.Tree.{LitTree, AttributeTree, LifetimesTree, TypeTree, Types, QSelfTree, Segments, SegmentTree, PathTree, FnArgs, FnArgTree, ArgumentsTree, Generics, GenericTree, ReturnTree, Bounds, BoundTree}
 use Rattle.syn_parts.specs.Part.{MacroTree, QPathTree}
 
 -- a punct by itself, and one that the next is joined to
@@ -41,6 +41,9 @@ abbrev pub enclosed : Delimiter → List Tok → List Tok → List Tok
 enclosed d ts r = group d (inside ts) ∷ r
 
 -- ---- words and literals
+
+abbrev pub word_own : Text → List Tok → List Tok
+word_own w r = ident w ∷ r
 
 abbrev pub lifetime_own : Text → List Tok → List Tok
 lifetime_own w r = joint 39 ∷ ident w ∷ r
@@ -94,6 +97,9 @@ extern_own o r = ident (codes "extern") ∷ string_own o r
 
 -- ---- types
 
+abbrev pub mutability_own : Bool → List Tok → List Tok
+mutability_own m r = ident (if m then codes "mut" else codes "const") ∷ r
+
 abbrev pub no_more_types : Types → Bool
 no_more_types t.no_types = true
 no_more_types (t.more_types x xs) = false
@@ -146,7 +152,7 @@ abbrev mutual
   type_own (t.path q b ss e) r = qself_own q (count_segments ss) (before_if b colon2_before (segments_own (inner_count q (count_segments ss)) ss e r))
   type_own (t.mac b ss e d ts) r = before_if b colon2_before (segments_own 0 ss e (alone 33 ∷ enclosed d ts r))
   type_own (t.reference a m x) r = alone 38 ∷ before_some a lifetime_own (before_if m (λ l. ident (codes "mut") ∷ l) (type_own x r))
-  type_own (t.ptr m x) r = alone 42 ∷ ident (if m then codes "mut" else codes "const") ∷ type_own x r
+  type_own (t.ptr m x) r = alone 42 ∷ mutability_own m (type_own x r)
   type_own (t.slice x) r = enclosed del.Bracket (type_own x []) r
   type_own (t.array x n) r = enclosed del.Bracket (type_own x (alone 59 ∷ n)) r
   type_own (t.tuple xs e) r = enclosed del.Parenthesis (types_own xs e []) r
@@ -206,6 +212,21 @@ abbrev mutual
   bound_own (t.outlives w) r = lifetime_own w r
   bound_own (t.a_trait q f b ss e) r =
       before_if q (λ l. alone 63 ∷ l) (before_some f lifetimes_own (before_if b colon2_before (segments_own 0 ss e r)))
+
+abbrev pub segment_own : SegmentTree → List Tok → List Tok
+segment_own s r = ident s.ident ∷ arguments_own s.arguments r
+
+abbrev pub arg_own : FnArgTree → List Tok → List Tok
+arg_own x r = before_some x.name (λ w l. ident w ∷ alone 58 ∷ l) (type_own x.ty r)
+
+abbrev pub assoc_own : Text × TypeTree → List Tok → List Tok
+assoc_own p r = generic_own (t.an_assoc p.0 p.1) r
+
+abbrev pub angle_own : List GenericTree × Bool → List Tok → List Tok
+angle_own p r = arguments_own (t.angle false (t.generics_of p.0) p.1) r
+
+abbrev pub bounds_list_own : List BoundTree × Bool → List Tok → List Tok
+bounds_list_own p r = bounds_own (t.bounds_of p.0) p.1 r
 
 -- ---- paths and macros
 

@@ -1,7 +1,7 @@
 -- What spells each lower part. A form is read from left to right: `both` and `then_by` one part behind another, `case` and
 -- `when` a choice by what stands in front, `mark` a fixed token, `inside` a whole group, `listed` a list with commas and
 -- perhaps one at the end, `joined` one or more with a mark between, `maybe` a part that is there where its test says so.
-use Rattle.std.specs.Prelude.{◌≡◌, ℕ, zero, suc, Bool, true, false, not, ◌||◌, ◌&&◌, ◌==◌, if◌then◌else◌, List, [], ◌∷◌, ◌++◌, length, drop, take, codes, nat_le, Option, Some, None, is_some}
+use Rattle.std.specs.Prelude.{◌≡◌, ℕ, Bool, true, false, not, ◌||◌, ◌&&◌, ◌==◌, if◌then◌else◌, List, [], ◌∷◌, ◌++◌, length, drop, take, codes, nat_le, Option, Some, None}
 use Rattle.std.specs.Str.{bytes_eq}
 use Rattle.syn_lexer.specs.Keywords.{is_reserved_word}
 use Rattle.syn_lexer.specs.declared.lexeme.Delimiter.{Delimiter}
@@ -12,8 +12,8 @@ use Rattle.syn_parts.specs.declared.label.LitKind.TheVariants as kind
 use Rattle.syn_parts.specs.declared.label.PathStyle.{PathStyle}
 use Rattle.syn_parts.specs.declared.label.PathStyle.TheVariants as style
 use Rattle.syn_tokens.specs.Front.{group_at, is_empty}
-use Rattle.syn_parts.specs.Form.{Form, Outcome, Test, Mark, leaf, when, fix, mark, then_by, both, shown, pure, inside, case, group_case, flag, is_true, maybe, listed, joined, more, closed_by, never}
-use Rattle.syn_parts.specs.Mark.{sign_at, word_at, lifetime_at, round_at, brace_at, and, star, bang, plus, comma, semi, pound, question, colon2, arrow, gt, less, lt, eq, not_ne, colon, mutable, constant, as_word, dynamic, implementing, for_word, unsafe_word, extern_word, fn_word, underscore, quote}
+use Rattle.syn_parts.specs.Form.{Form, Outcome, Test, Mark, leaf, when, fix, mark, then_by, both, shown, pure, inside, case, group_case, flag, is_true, maybe, listed, joined, more, closed_by}
+use Rattle.syn_parts.specs.Mark.{lifetime_at, round_at, brace_at, and, star, bang, plus, comma, semi, pound, question, colon2, arrow, gt, less, lt, eq, not_ne, colon, mutable, constant, as_word, dynamic, implementing, for_word, unsafe_word, extern_word, fn_word, underscore, quote}
 use Rattle.syn_parts.specs.Text.{Text, stands_alone, is_segment, is_truth, number_kind, is_number, kind_of}
 use Rattle.syn_parts.specs.Tree as t
 use Rattle.syn_parts.specs.Tree.{LitTree, AttributeTree, LifetimesTree, TypeTree, SegmentTree, PathTree, FnArgTree, ArgumentsTree, GenericTree, ReturnTree, BoundTree}

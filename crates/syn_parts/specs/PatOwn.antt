@@ -10,8 +10,8 @@ use Rattle.syn_parts.specs.Tree as t
 use Rattle.syn_parts.specs.Tree.{AttributeTree, PathTree, SegmentTree, QSelfTree}
 use Rattle.syn_parts.specs.Form.{Test}
 use Rattle.syn_parts.specs.Mark.{brace_at, round_at, not_ne}
-use Rattle.syn_parts.specs.Part.{MacroTree, has_none, segments_bare}
-use Rattle.syn_parts.specs.Own.{alone, joint, before_if, before_some, comma_before, enclosed, separated, elements_own, lit_own, attribute_own, path_own, qualified_own, macro_own}
+use Rattle.syn_parts.specs.Part.{has_none, segments_bare}
+use Rattle.syn_parts.specs.Own.{alone, joint, before_if, before_some, comma_before, enclosed, separated, lit_own, attribute_own, path_own, qualified_own, macro_own}
 use Rattle.syn_parts.specs.Fits.{lit_fits, path_fits, path_stops, qpath_fits, is_macro_delimiter, ends_well}
 use Rattle.syn_parts.specs.Pat.{MemberTree, a_name, an_index, index_of, PatBound, lit_bound, path_bound, PatTree, SubPat, Pats, Fields, FieldTree, wild, rest, range, a_lit, a_binding, a_path, a_mac, a_struct, tuple_struct, a_tuple, a_paren, a_slice, a_reference, a_block, alternatives, no_sub, sub, no_pats, more_pats, no_fields, more_fields, short, full, is_rest, bound_at, dots, at_sign, vert, goes_on}
 

@@ -14,6 +14,12 @@ pub fn parts_are_read_back()
     ensures { spec.PartsAreReadBack }
 {}
 
+/// Nothing but what passes the test of a part is read back: where the own tokens of a part, and any behind them, are
+/// read as that part, it passes its test, and the tokens behind don't go on with it and are what is left.
+pub fn parts_that_are_read_back_fit()
+    ensures { spec.PartsThatAreReadBackFit }
+{}
+
 /// A type is spelled by its kind, and by what spells the types in it.
 pub fn types_are_spelled_by_kind()
     ensures { spec.TypesAreSpelledByKind }
