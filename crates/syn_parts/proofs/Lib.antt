@@ -23,3 +23,4 @@ pub mod SimpleTold
 pub mod TypesTold
 pub mod MoreBack
 pub mod WholeTold
+pub mod Exact

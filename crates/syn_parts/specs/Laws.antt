@@ -1,5 +1,5 @@
 -- What is true of the lower parts: each is read exactly where its tokens stand, and read back from its own tokens.
-use Rattle.std.specs.Prelude.{◌≡◌, Bool, true, not, ◌↔◌, List, ◌∷◌, Option, Some}
+use Rattle.std.specs.Prelude.{◌≡◌, Bool, true, not, ◌↔◌, List, [], ◌∷◌, Option, Some}
 use Rattle.syn_lexer.specs.Keywords.{is_reserved_word}
 use Rattle.syn_tokens.specs.Tok.{Tok, ident}
 use Rattle.syn_parts.specs.declared.label.LitKind.{LitKind}
@@ -118,3 +118,31 @@ pub record PartsThatAreReadBackFit : Type 0 where
   pub lists_of_bounds : (several : Bool) → FitsWhereReadBack (bounds type several) bounds_list_own (bounds_list_fits several) (bounds_list_stops several)
   pub outputs : (several : Bool) → FitsWhereReadBack (output type several) return_own (output_fits several) (output_stops several)
   pub types : (several : Bool) → FitsWhereReadBack (type several) type_own (type_fits several) (type_stops several)
+
+-- A part is read back in its place, its own tokens with nothing behind them, exactly where it passes its test.
+abbrev pub IsTestOf : {A : Type 0} → Form A → (A → List Tok → List Tok) → (A → Bool) → Type 0
+IsTestOf {A} f own fits = (x : A) → (f.behind x (own x []) ≡ Some []) ↔ (fits x ≡ true)
+
+pub record TestsAreExact : Type 0 where
+  pub names : IsTestOf name word_own (λ w. not (is_reserved_word w))
+  pub literals : IsTestOf lit lit_own lit_fits
+  pub unsigned_literals : IsTestOf unsigned lit_own unsigned_fits
+  pub literals_of_kind : (k : LitKind) → IsTestOf (of_kind k) lit_own (of_kind_fits k)
+  pub bound_lifetimes : IsTestOf lifetimes lifetimes_own lifetimes_fit
+  pub macros : IsTestOf macro macro_own macro_fits
+  pub paths : (s : PathStyle) → IsTestOf (path type s) path_own (path_fits s)
+  pub qualified_paths : (s : PathStyle) → IsTestOf (qpath type s) qualified_own (qpath_fits s)
+  pub path_segments : (s : PathStyle) → IsTestOf (segment type s) segment_own (segment_fits s)
+  pub segment_arguments : (s : PathStyle) → IsTestOf (arguments type s) arguments_own (arguments_fit s)
+  pub angle_bracketed : IsTestOf (angle_bracketed type) arguments_own in_angle_fits
+  pub parenthesized : IsTestOf (parenthesized type) arguments_own in_round_fits
+  pub angles : IsTestOf (angle type) angle_own angle_fits
+  pub generic_arguments : IsTestOf (generic type) generic_own generic_fits
+  pub associated_types : IsTestOf (assoc type) assoc_own assoc_fits
+  pub fn_args : IsTestOf (fn_arg type) arg_own arg_fits
+  pub abis : IsTestOf abi extern_own (fits_if is_string)
+  pub trait_bounds : IsTestOf (bound type) bound_own bound_fits
+  pub traits : IsTestOf (trait_bound type) bound_own trait_fits
+  pub lists_of_bounds : (several : Bool) → IsTestOf (bounds type several) bounds_list_own (bounds_list_fits several)
+  pub outputs : (several : Bool) → IsTestOf (output type several) return_own (output_fits several)
+  pub types : (several : Bool) → IsTestOf (type several) type_own (type_fits several)

@@ -20,6 +20,11 @@ pub fn parts_that_are_read_back_fit()
     ensures { spec.PartsThatAreReadBackFit }
 {}
 
+/// A part is read back in its place, from its own tokens with nothing behind them, exactly where it passes its test.
+pub fn tests_are_exact()
+    ensures { spec.TestsAreExact }
+{}
+
 /// A type is spelled by its kind, and by what spells the types in it.
 pub fn types_are_spelled_by_kind()
     ensures { spec.TypesAreSpelledByKind }
