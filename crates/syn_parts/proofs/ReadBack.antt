@@ -16,7 +16,7 @@ use Rattle.syn_parts.specs.Form.{Form, Mark, Test, tail, more, listed, joined}
 use Rattle.syn_parts.specs.Mark.{sign_at, lifetime_at, comma}
 use Rattle.syn_parts.specs.Part.{name, segment_name, lifetime, lit, attribute, outer_body, inner_body, kept, block}
 use Rattle.syn_parts.specs.Own.{alone, lifetime_own, lit_own, number_own, attribute_own, block_own, is_end, elements_own, separated, comma_before}
-use Rattle.syn_parts.specs.Fits.{lit_fits, number_fits, has_kind}
+use Rattle.syn_parts.specs.Fits.{lit_fits, number_fits, has_kind, ends_well, is_none}
 use Rattle.syn_parts.proofs.Same.{both_true, same_toks-refl, same_lit-refl, same_kind-true}
 use Rattle.syn_parts.proofs.Marks.{comma_present}
 use Rattle.syn_parts.proofs.Forms.{Alike, Present, tail_stands, more_stands}
@@ -44,7 +44,7 @@ lifetime_back w r = rw (text_same w) refl
 
 -- ---- literals
 
-has_is : (o : Option LitKind) (k : LitKind) → has_kind o k ≡ true → o ≡ Some k
+pub has_is : (o : Option LitKind) (k : LitKind) → has_kind o k ≡ true → o ≡ Some k
 has_is None k h = absurd cc
 has_is (Some j) k h = ap Some (same_kind-true j k h)
 
@@ -99,6 +99,10 @@ unfolding block block_own kept group_at
 block_back ts r = rw (toks-inside ts, same_toks-refl ts) refl
 
 -- ---- lists
+
+pub ends_is : {A : Type 0} (xs : List A) (e : Bool) → ends_well (is_none xs) e ≡ not (is_end xs && e)
+ends_is [] e = refl
+ends_is (x ∷ xs) e = refl
 
 -- what is behind an element before the others
 abbrev pub next_own : {A : Type 0} → (A → List Tok → List Tok) → (List Tok → List Tok) → List A → Bool → List Tok → List Tok

@@ -1,5 +1,5 @@
 -- Words, literals and bound lifetimes that are read of their own tokens pass their tests.
-use Rattle.std.proofs.Common.{◌≡◌, ℕ, Bool, true, false, not, ◌&&◌, ◌==◌, cond, List, [], ◌∷◌, Option, Some, None, refl, ap, sym, subst, arith}
+use Rattle.std.proofs.Common.{◌≡◌, ℕ, Bool, true, false, not, ◌&&◌, ◌==◌, cond, List, [], ◌∷◌, Option, Some, None, refl, ap, sym, ◌∙◌, subst, arith}
 use Rattle.std.proofs.lemmas.Bool.Decides.{nat_tests}
 use Rattle.std.specs.Str.{bytes_eq}
 use Rattle.syn_lexer.specs.Keywords.{is_reserved_word}
@@ -15,13 +15,13 @@ use Rattle.syn_parts.specs.Form.{Outcome, if_same, listed}
 use Rattle.syn_parts.specs.Mark.{sign_at, word_at, lifetime_at, comma, gt}
 use Rattle.syn_parts.specs.Part.{word_if, lit_if, truth_if, negative_if, string_if, find_lit, find_const, const_if, name, segment_name, arg_name, is_arg_name, lifetime, lit, unsigned, string, literal_at, abi, lifetimes, constant_tokens, any_group}
 use Rattle.syn_parts.specs.Kind.{of_this_kind, of_kind}
-use Rattle.syn_parts.specs.Own.{alone, comma_before, enclosed, is_end, lifetime_own, number_own, lit_own, lifetimes_own, extern_own, elements_own}
-use Rattle.syn_parts.specs.Fits.{has_kind, number_fits, lit_fits, unsigned_fits, of_kind_fits, ends_well, is_none, lifetimes_fit, fits_if, is_string, abi_stops, is_const, is_macro_delimiter}
+use Rattle.syn_parts.specs.Own.{alone, comma_before, enclosed, lifetime_own, number_own, lit_own, lifetimes_own, extern_own, elements_own}
+use Rattle.syn_parts.specs.Fits.{has_kind, number_fits, lit_fits, unsigned_fits, of_kind_fits, lifetimes_fit, fits_if, is_string, abi_stops, is_const, is_macro_delimiter}
 use Rattle.syn_parts.specs.Laws.{Fitted}
 use Rattle.syn_parts.proofs.Weights.{some_is}
 use Rattle.syn_parts.proofs.Same.{both_true, same_kind-refl, same_kind-true, same_lit-refl, compares_lits, compares_toks}
 use Rattle.syn_parts.proofs.Parts.{lifetime_alike}
-use Rattle.syn_parts.proofs.ReadBack.{text_same}
+use Rattle.syn_parts.proofs.ReadBack.{ends_is, text_same, has_is}
 use Rattle.syn_parts.proofs.Told.{maybe_none, maybe_some, closed_tells, Told, none_told, told, listed_tells}
 
 -- ---- words
@@ -115,10 +115,6 @@ unsigned_told x r n h = by_kind x.kind x.text h
     by_kind kind.CStr text h = lit_leaf (kind_of text) kind.CStr text r n h
     by_kind kind.Byte text h = lit_leaf (kind_of text) kind.Byte text r n h
     by_kind kind.Char text h = lit_leaf (kind_of text) kind.Char text r n h
-
-has_is : (o : Option LitKind) (k : LitKind) → has_kind o k ≡ true → o ≡ Some k
-has_is None k h = absurd cc
-has_is (Some j) k h = ap Some (same_kind-true j k h)
 
 -- no literal begins with `-`
 sign_is_none : (text : Text) → kind_of (45 ∷ text) ≡ None
@@ -239,10 +235,6 @@ all_lifetimes : (ws : List Text) → Told lifetime lifetime_own (λ w. true) (λ
 all_lifetimes [] = none_told
 all_lifetimes (w ∷ ws) = told (λ l n h. lifetime_told w l n h) (all_lifetimes ws)
 
-ends_told : {A : Type 0} (xs : List A) (e : Bool) → not (is_end xs && e) ≡ true → ends_well (is_none xs) e ≡ true
-ends_told [] e h = h
-ends_told (x ∷ xs) e h = refl
-
 pub lifetimes_told : (p : LifetimesTree) (r n : List Tok) → lifetimes.behind p (lifetimes_own p r) ≡ Some n → Fitted (lifetimes_fit p) true r n
 unfolding lifetimes lifetimes_own sign_at word_at
 lifetimes_told p r n h =
@@ -250,7 +242,7 @@ lifetimes_told p r n h =
     listed_tells lifetime lifetime_own (λ w. true) (λ w l. true) gt.at (λ k. lifetime_alike) p.1 p.0 (alone 62 ∷ r) m (all_lifetimes p.0) e in
     let (i, d) = closed_tells (listed comma gt.at lifetime) p (elements_own lifetime_own comma_before p.0 p.1 (alone 62 ∷ r)) r n (λ m e. let (a, b, c) = tells m e in c) h in
     let (a, b, c) = tells (alone 62 ∷ r) i in
-    record { passes = ends_told p.0 p.1 a; ends = refl; same = d }
+    record { passes = ends_is p.0 p.1 ∙ a; ends = refl; same = d }
 
 -- ---- tokens that are kept
 

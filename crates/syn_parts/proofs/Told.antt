@@ -7,6 +7,7 @@ use Rattle.syn_parts.specs.Form.{Form, Mark, Test, when, then_by, both, mark, fl
 use Rattle.syn_parts.specs.Form as form
 use Rattle.syn_parts.specs.Own.{alone, before_if, before_some, enclosed, is_end, elements_own, comma_before}
 use Rattle.syn_parts.specs.Mark.{sign_at, comma, gt}
+use Rattle.syn_parts.specs.Fits.{fits_if}
 use Rattle.syn_parts.specs.Laws.{Fitted}
 use Rattle.syn_parts.proofs.Weights.{some_is}
 use Rattle.syn_parts.proofs.Same.{same_delimiter-refl}
@@ -51,6 +52,11 @@ pub piece : {A : Type 0} (at : Test) (f : Form A) (own : A → List Tok → List
     → (maybe at f).behind o (before_some o own l) ≡ Some n → n ≡ l
 piece at f own None l n only h = let (a, e) = maybe_none at f l n h in e
 piece at f own (Some x) l n only h = let (a, e) = maybe_some at f x (own x l) n h in only x n e
+
+pub piece_fits : {A : Type 0} (at : Test) (f : Form A) (own : A → List Tok → List Tok) (fits : A → Bool) (o : Option A) (l n : List Tok) → ((x : A) (m : List Tok) → f.behind x (own x l) ≡ Some m → fits x ≡ true)
+    → (maybe at f).behind o (before_some o own l) ≡ Some n → fits_if fits o ≡ true
+piece_fits at f own fits None l n only h = refl
+piece_fits at f own fits (Some x) l n only h = let (a, e) = maybe_some at f x (own x l) n h in only x n e
 
 pub flag_left : (m : Mark) (sep : List Tok → List Tok) (b : Bool) (l n : List Tok) → m.at (sep l) ≡ true → drop m.count (sep l) ≡ l → (flag m).behind b (before_if b sep l) ≡ Some n → n ≡ l
 flag_left m sep true l n s d h =

@@ -19,12 +19,12 @@ use Rattle.syn_parts.specs.Form.{maybe, flag, listed, joined}
 use Rattle.syn_parts.specs.Mark.{sign_at, word_at, lifetime_at, round_at, brace_at, comma, colon2, plus, question, gt, less, eq, colon, not_ne, arrow, mutable, unsafe_word, extern_word}
 use Rattle.syn_parts.specs.Part.{lifetime, lifetimes, lifetimes_at, const_at, assoc_at, arg_name_at, angle_at, turbofish_at, fn_at, literal_at, string, abi, rest_of, constant_tokens, any_group, arg_name, is_arg_name, no_arguments, has_none, fn_head, macro_end, type, output, generic, angle, angle_bracketed, parenthesized, arguments, segment, pieces, path, qualified, qpath, bound, bounds, reference, pointer, slice_or_array, tuple_or_paren, fn_arg, fn_pointer, implements, object, named, at_place, tuple_of, segments_bare, FnHead}
 use Rattle.syn_parts.specs.Own.{alone, comma_before, colon2_before, arrow_before, before_if, before_some, enclosed, lifetime_own, lit_own, lifetimes_own, extern_own, is_end, elements_own, count_segments, at_most, inner_count, qself_end, type_own, types_own, qself_own, segments_own, arguments_own, generics_own, generic_own, return_own, args_own, bounds_own, bound_own, segment_own, arg_own, no_more_types, no_more_segments, no_more_generics, no_more_args, no_more_bounds}
-use Rattle.syn_parts.specs.Fits.{fits_if, lifetimes_fit, is_string, has_kind, is_const, is_macro_delimiter, is_one_type, is_one_bound, position_fits, bare_segments, ends_well, is_none, type_fits, types_fit, qself_fits, segments_fit, arguments_fit, generics_fit, generic_fits, return_fits, args_fit, bounds_fit, bound_fits, goes_over, takes_angle, takes_round, name_stops, type_stops, segments_stop, arguments_stop, return_stops, bounds_stop, bound_stops, mac_stops}
+use Rattle.syn_parts.specs.Fits.{fits_if, lifetimes_fit, is_string, has_kind, is_const, is_macro_delimiter, is_one_type, is_one_bound, position_fits, bare_segments, ends_well, type_fits, types_fit, qself_fits, segments_fit, arguments_fit, generics_fit, generic_fits, return_fits, args_fit, bounds_fit, bound_fits, goes_over, takes_angle, takes_round, name_stops, type_stops, segments_stop, arguments_stop, return_stops, bounds_stop, bound_stops, mac_stops}
 use Rattle.syn_parts.proofs.Same.{both_true, same_toks-refl, same_lit-refl, same_kind-true}
 use Rattle.syn_parts.proofs.Marks.{colon2_present, plus_present}
 use Rattle.syn_parts.proofs.Forms.{Alike, weaker}
 use Rattle.syn_parts.proofs.Parts.{types_alike, type_alike, type_is, at_place_alike, whole_segment_alike, generic_alike, fn_arg_alike, bound_alike, lifetime_alike}
-use Rattle.syn_parts.proofs.ReadBack.{not_true, text_same, name_back, segment_name_back, lifetime_back, next_own, Commas, no_element, element, Joins, no_join, join, listed_back, joined_back}
+use Rattle.syn_parts.proofs.ReadBack.{ends_is, not_true, text_same, name_back, segment_name_back, lifetime_back, next_own, Commas, no_element, element, Joins, no_join, join, listed_back, joined_back}
 use Rattle.syn_parts.proofs.Behind.{or_true, Calm, nil_calm, comma_calm, gt_calm, semi_calm, plus_calm, as_calm, type_calm, arguments_calm, bound_calm, arguments_front, colon2_same}
 use Rattle.syn_parts.proofs.Fronts.{Front, type_begins, named_word, named_colon2, named_less, no_truth, word_not, not_for}
 
@@ -105,14 +105,10 @@ unfolding sign_at
 lifetimes_commas e [] r = no_element
 lifetimes_commas e (w ∷ ws) r = element (lifetime_back w _) refl (lifetimes_commas e ws r)
 
-ends_is : {A : Type 0} (xs : List A) (e : Bool) → ends_well (is_none xs) e ≡ true → not (is_end xs && e) ≡ true
-ends_is [] e h = h
-ends_is (x ∷ xs) e h = refl
-
 pub lifetimes_back : (p : LifetimesTree) (r : List Tok) → lifetimes_fit p ≡ true → lifetimes.behind p (lifetimes_own p r) ≡ Some r
 unfolding lifetimes lifetimes_own sign_at word_at
 lifetimes_back p r h =
-    rw (listed_back lifetime lifetime_own gt.at (λ k. lifetime_alike) (alone 62 ∷ r) refl refl p.1 p.0 (ends_is p.0 p.1 h) (lifetimes_commas p.1 p.0 (alone 62 ∷ r))) refl
+    rw (listed_back lifetime lifetime_own gt.at (λ k. lifetime_alike) (alone 62 ∷ r) refl refl p.1 p.0 (sym (ends_is p.0 p.1) ∙ h) (lifetimes_commas p.1 p.0 (alone 62 ∷ r))) refl
 
 lifetimes_seen : (p : LifetimesTree) (r : List Tok) → lifetimes_fit p ≡ true → lifetimes_at (lifetimes_own p r) ≡ true
 unfolding lifetimes_at lifetimes_own sign_at word_at lifetime_at
@@ -579,17 +575,17 @@ tuple_is (t.more_types x t.no_types) true h = refl
 tuple_is (t.more_types x t.no_types) false h = absurd cc
 tuple_is (t.more_types x (t.more_types y ys)) e h = refl
 
-types_end : (xs : Types) (e : Bool) → ends_well (no_more_types xs) e ≡ true → not (is_end (t.types xs) && e) ≡ true
-types_end t.no_types e h = h
-types_end (t.more_types x xs) e h = refl
+pub types_end : (xs : Types) (e : Bool) → ends_well (no_more_types xs) e ≡ not (is_end (t.types xs) && e)
+types_end t.no_types e = refl
+types_end (t.more_types x xs) e = refl
 
-generics_end : (xs : Generics) (e : Bool) → ends_well (no_more_generics xs) e ≡ true → not (is_end (t.generics xs) && e) ≡ true
-generics_end t.no_generics e h = h
-generics_end (t.more_generics x xs) e h = refl
+pub generics_end : (xs : Generics) (e : Bool) → ends_well (no_more_generics xs) e ≡ not (is_end (t.generics xs) && e)
+generics_end t.no_generics e = refl
+generics_end (t.more_generics x xs) e = refl
 
-args_end : (xs : FnArgs) (e : Bool) → ends_well (no_more_args xs) e ≡ true → not (is_end (t.args xs) && e) ≡ true
-args_end t.no_args e h = h
-args_end (t.more_args n x xs) e h = refl
+pub args_end : (xs : FnArgs) (e : Bool) → ends_well (no_more_args xs) e ≡ not (is_end (t.args xs) && e)
+args_end t.no_args e = refl
+args_end (t.more_args n x xs) e = refl
 
 pub nil_comma : comma.at [] ≡ false
 unfolding sign_at
@@ -607,19 +603,19 @@ types_listed : (xs : Types) (e : Bool) → ends_well (no_more_types xs) e ≡ tr
     → (listed comma is_empty (type true)).behind (t.types xs, e) (types_own xs e []) ≡ Some []
 types_listed xs e h c =
     subst (λ l. (listed comma is_empty (type true)).behind (t.types xs, e) l ≡ Some []) (sym (types_elements xs e []))
-    (listed_back (type true) type_own is_empty (λ k. type_alike k true) [] refl nil_comma e (t.types xs) (types_end xs e h) c)
+    (listed_back (type true) type_own is_empty (λ k. type_alike k true) [] refl nil_comma e (t.types xs) (sym (types_end xs e) ∙ h) c)
 
 args_listed : (xs : FnArgs) (e : Bool) → ends_well (no_more_args xs) e ≡ true → Commas (fn_arg type) arg_own is_empty e [] (t.args xs)
     → (listed comma is_empty (fn_arg type)).behind (t.args xs, e) (args_own xs e []) ≡ Some []
 args_listed xs e h c =
     subst (λ l. (listed comma is_empty (fn_arg type)).behind (t.args xs, e) l ≡ Some []) (sym (args_elements xs e []))
-    (listed_back (fn_arg type) arg_own is_empty (λ k. fn_arg_alike {k = k} types_alike) [] refl nil_comma e (t.args xs) (args_end xs e h) c)
+    (listed_back (fn_arg type) arg_own is_empty (λ k. fn_arg_alike {k = k} types_alike) [] refl nil_comma e (t.args xs) (sym (args_end xs e) ∙ h) c)
 
 generics_listed : (gs : Generics) (e : Bool) (m : List Tok) → ends_well (no_more_generics gs) e ≡ true → Commas (generic type) generic_own gt.at e (alone 62 ∷ m) (t.generics gs)
     → (listed comma gt.at (generic type)).behind (t.generics gs, e) (generics_own gs e (alone 62 ∷ m)) ≡ Some (alone 62 ∷ m)
 generics_listed gs e m h c =
     subst (λ l. (listed comma gt.at (generic type)).behind (t.generics gs, e) l ≡ Some (alone 62 ∷ m)) (sym (generics_elements gs e (alone 62 ∷ m)))
-    (listed_back (generic type) generic_own gt.at (λ k. generic_alike {k = k} types_alike) (alone 62 ∷ m) (gt_ends m) (gt_comma m) e (t.generics gs) (generics_end gs e h) c)
+    (listed_back (generic type) generic_own gt.at (λ k. generic_alike {k = k} types_alike) (alone 62 ∷ m) (gt_ends m) (gt_comma m) e (t.generics gs) (sym (generics_end gs e) ∙ h) c)
 
 pub bound_whole : (k : ℕ) → Alike k (bound type) (bound type)
 bound_whole k = weaker (bound_alike {k = k} types_alike)

@@ -26,8 +26,8 @@ use Rattle.syn_parts.proofs.Forms.{Refuses, behind_some, seen_some, when_refuses
 use Rattle.syn_parts.proofs.Parts.{types_alike, type_alike, spells_is, whole_segment_alike, generic_alike, fn_arg_alike}
 use Rattle.syn_parts.proofs.ReadBack.{next_own, not_true}
 use Rattle.syn_parts.proofs.Behind.{or_true, arguments_front, colon2_same}
-use Rattle.syn_parts.proofs.TypesBack.{types_elements, generics_elements, args_elements, bounds_elements, segments_elements, segments_count, bare_is, plus_before, fn_tokens, head_own, group_back, bound_whole, colon2_seen, plus_seen, at_most_zero, at_most_less, segments_split, suc_zero, const_step}
-use Rattle.syn_parts.proofs.Told.{after, first_only, second_only, maybe_none, maybe_some, piece, flag_left, mark_tells, inside_tells, closed_tells, Told, none_told, told, Fitting, fit, listed_tells, joined_tells}
+use Rattle.syn_parts.proofs.TypesBack.{types_elements, generics_elements, args_elements, bounds_elements, segments_elements, segments_count, bare_is, plus_before, fn_tokens, head_own, group_back, bound_whole, colon2_seen, plus_seen, at_most_zero, at_most_less, segments_split, suc_zero, const_step, types_end, generics_end, args_end}
+use Rattle.syn_parts.proofs.Told.{after, first_only, second_only, maybe_none, maybe_some, piece, piece_fits, flag_left, mark_tells, inside_tells, closed_tells, Told, none_told, told, Fitting, fit, listed_tells, joined_tells}
 use Rattle.syn_parts.proofs.SimpleTold.{name_told, segment_name_told, arg_name_told, lifetime_told, lifetimes_told, abi_told, const_told, group_told}
 
 pub type_opens : (b : Bool) (x : TypeTree) (l n : List Tok) → (type b).behind x l ≡ Some n → (at_place type b).behind x l ≡ Some n
@@ -66,25 +66,22 @@ module _ (b : Bool) (x : TypeTree) (r1 : Refuses (reference type) x) (r2 : Refus
       let (a6, h6) = second_only (λ l. is_some (group_at del.Parenthesis l)) (form.inside del.Parenthesis (tuple_or_paren type)) (from_words b) x (inside_refuses del.Parenthesis r6) l n h5 in
       h6
 
+  by_path : Refuses (fn_pointer type) x → Refuses (implements type b) x → Refuses (object type b) x → (l n : List Tok) → (at_place type b).behind x l ≡ Some n → (named type).behind x l ≡ Some n
+  by_path r7 r8 r9 l n h =
+      let (a1, h1) = second_only fn_at (fn_pointer type) (case implementing (implements type b) (case dynamic (object type b) (named type))) x r7 l n (by_words l n h) in
+      let (a2, h2) = second_only implementing.at (mark implementing (implements type b)) (case dynamic (object type b) (named type)) x (mark_refuses implementing r8) l n h1 in
+      let (a3, h3) = second_only dynamic.at (mark dynamic (object type b)) (named type) x (mark_refuses dynamic r9) l n h2 in
+      h3
+
 path_named : (b : Bool) (q : QSelfTree) (d : Bool) (ss : Segments) (e : Bool) (l n : List Tok) → (at_place type b).behind (t.path q d ss e) l ≡ Some n → (named type).behind (t.path q d ss e) l ≡ Some n
 unfolding reference pointer slice_or_array tuple_or_paren fn_pointer implements object
 path_named b q d ss e l n h =
-    let x = t.path q d ss e in
-    let i = by_words b x (search shown_refuses) (search shown_refuses) refl refl (search shown_refuses) (search shown_refuses) l n h in
-    let (a1, h1) = second_only fn_at (fn_pointer type) (case implementing (implements type b) (case dynamic (object type b) (named type))) x (search shown_refuses) l n i in
-    let (a2, h2) = second_only implementing.at (mark implementing (implements type b)) (case dynamic (object type b) (named type)) x (search (mark_refuses, shown_refuses)) l n h1 in
-    let (a3, h3) = second_only dynamic.at (mark dynamic (object type b)) (named type) x (search (mark_refuses, shown_refuses)) l n h2 in
-    h3
+    by_path b (t.path q d ss e) (search shown_refuses) (search shown_refuses) refl refl (search shown_refuses) (search shown_refuses) (search shown_refuses) (search shown_refuses) (search shown_refuses) l n h
 
 mac_named : (b d : Bool) (ss : Segments) (e : Bool) (g : Delimiter) (ts l n : List Tok) → (at_place type b).behind (t.mac d ss e g ts) l ≡ Some n → (named type).behind (t.mac d ss e g ts) l ≡ Some n
 unfolding reference pointer slice_or_array tuple_or_paren fn_pointer implements object
 mac_named b d ss e g ts l n h =
-    let x = t.mac d ss e g ts in
-    let i = by_words b x (search shown_refuses) (search shown_refuses) refl refl (search shown_refuses) (search shown_refuses) l n h in
-    let (a1, h1) = second_only fn_at (fn_pointer type) (case implementing (implements type b) (case dynamic (object type b) (named type))) x (search shown_refuses) l n i in
-    let (a2, h2) = second_only implementing.at (mark implementing (implements type b)) (case dynamic (object type b) (named type)) x (search (mark_refuses, shown_refuses)) l n h1 in
-    let (a3, h3) = second_only dynamic.at (mark dynamic (object type b)) (named type) x (search (mark_refuses, shown_refuses)) l n h2 in
-    h3
+    by_path b (t.mac d ss e g ts) (search shown_refuses) (search shown_refuses) refl refl (search shown_refuses) (search shown_refuses) (search shown_refuses) (search shown_refuses) (search shown_refuses) l n h
 
 fn_only : (b : Bool) (h : FnHead) (xs : FnArgs) (e : Bool) (o : ReturnTree) (l n : List Tok) → (at_place type b).behind (t.fn_ptr h.0 h.1.0 h.1.1 xs e o) l ≡ Some n → (fn_pointer type).behind (t.fn_ptr h.0 h.1.0 h.1.1 xs e o) l ≡ Some n
 unfolding reference pointer slice_or_array tuple_or_paren implements object named
@@ -177,15 +174,7 @@ head_tells (f, (u, a)) l n h =
     let (e, i) = after (maybe lifetimes_at lifetimes) (λ y. both (flag unsafe_word) (maybe extern_word.at abi)) f (u, a) (before_some f lifetimes_own m) m n
     (λ o d. piece lifetimes_at lifetimes lifetimes_own f m o (λ p z c. let q = lifetimes_told p m z c in q.same) d) h in
     let (g, j) = after (flag unsafe_word) (λ y. maybe extern_word.at abi) u a m k n (λ o d. flag_left unsafe_word (λ k. ident (codes "unsafe") ∷ k) u k o refl refl d) i in
-    (lifetimes_pass f m m e, abi_pass a j, piece extern_word.at abi extern_own a (fn_tokens l) n (λ p z c. let q = abi_told p (fn_tokens l) z c in q.same) j)
-  where
-    lifetimes_pass : (f : Option LifetimesTree) (m o : List Tok) → (maybe lifetimes_at lifetimes).behind f (before_some f lifetimes_own m) ≡ Some o → fits_if lifetimes_fit f ≡ true
-    lifetimes_pass None m o h = refl
-    lifetimes_pass (Some p) m o h = let (a, e) = maybe_some lifetimes_at lifetimes p (lifetimes_own p m) o h in let q = lifetimes_told p m o e in q.passes
-
-    abi_pass : (a : Option (Option LitTree)) → (maybe extern_word.at abi).behind a (before_some a extern_own (fn_tokens l)) ≡ Some n → fits_if (fits_if is_string) a ≡ true
-    abi_pass None h = refl
-    abi_pass (Some x) h = let (c, e) = maybe_some extern_word.at abi x (extern_own x (fn_tokens l)) n h in let q = abi_told x (fn_tokens l) n e in q.passes
+    (piece_fits lifetimes_at lifetimes lifetimes_own lifetimes_fit f m m (λ p z c. let q = lifetimes_told p m z c in q.passes) e, piece_fits extern_word.at abi extern_own (fits_if is_string) a (fn_tokens l) n (λ p z c. let q = abi_told p (fn_tokens l) z c in q.passes) j, piece extern_word.at abi extern_own a (fn_tokens l) n (λ p z c. let q = abi_told p (fn_tokens l) z c in q.same) j)
 
 fn_tells : (b : Bool) (h : FnHead) (xs : FnArgs) (e : Bool) (o : ReturnTree) (ts l n : List Tok) → (at_place type b).behind (t.fn_ptr h.0 h.1.0 h.1.1 xs e o) (head_own h (enclosed del.Parenthesis ts l)) ≡ Some n
     → (fits_if lifetimes_fit h.0 ≡ true) × (fits_if (fits_if is_string) h.1.1 ≡ true) × ((listed comma is_empty (fn_arg type)).behind (t.args xs, e) ts ≡ Some []) × ((output type false).behind o l ≡ Some n)
@@ -557,11 +546,7 @@ trait_tells q f d ss e r n all h =
     let w = path_tells style.Type d ss e r n all j in
     let (u, v) = both_true (not e) (not (no_more_segments ss) && segments_fit 0 style.Type ss) w.passes in
     let (x, y) = both_true (not (no_more_segments ss)) (segments_fit 0 style.Type ss) v in
-    record { passes = rw (u, x, lifetimes_pass f k k b) y; ends = w.ends; same = w.same }
-  where
-    lifetimes_pass : (f : Option LifetimesTree) (m o : List Tok) → (maybe lifetimes_at lifetimes).behind f (before_some f lifetimes_own m) ≡ Some o → fits_if lifetimes_fit f ≡ true
-    lifetimes_pass None m o h = refl
-    lifetimes_pass (Some p) m o h = let (a, e) = maybe_some lifetimes_at lifetimes p (lifetimes_own p m) o h in let q = lifetimes_told p m o e in q.passes
+    record { passes = rw (u, x, piece_fits lifetimes_at lifetimes lifetimes_own lifetimes_fit f k k (λ p z g. let w = lifetimes_told p k z g in w.passes) b) y; ends = w.ends; same = w.same }
 
 pub trait_only : (q : Bool) (f : Option LifetimesTree) (d : Bool) (ss : Segments) (e : Bool) (l n : List Tok) → (bound type).behind (t.a_trait q f d ss e) l ≡ Some n → (trait_bound type).behind (t.a_trait q f d ss e) l ≡ Some n
 unfolding bound
@@ -704,38 +689,26 @@ args_pass e r (t.more_args n x xs) (fit p q f) =
     let (c, d) = both_true (type_fits true x) true b in
     rw (a, c) (args_pass e r xs f)
 
-types_end : (xs : Types) (e : Bool) → not (is_end (t.types xs) && e) ≡ true → ends_well (no_more_types xs) e ≡ true
-types_end t.no_types e h = h
-types_end (t.more_types x xs) e h = refl
-
-generics_end : (xs : Generics) (e : Bool) → not (is_end (t.generics xs) && e) ≡ true → ends_well (no_more_generics xs) e ≡ true
-generics_end t.no_generics e h = h
-generics_end (t.more_generics x xs) e h = refl
-
-args_end : (xs : FnArgs) (e : Bool) → not (is_end (t.args xs) && e) ≡ true → ends_well (no_more_args xs) e ≡ true
-args_end t.no_args e h = h
-args_end (t.more_args n x xs) e h = refl
-
 pub types_listed : (xs : Types) (e : Bool) (n : List Tok) → Told (type true) type_own (type_fits true) (type_stops true) (t.types xs) → (listed comma is_empty (type true)).behind (t.types xs, e) (types_own xs e []) ≡ Some n
     → (types_fit xs ≡ true) × (ends_well (no_more_types xs) e ≡ true)
 types_listed xs e n all h =
     let i : (listed comma is_empty (type true)).behind (t.types xs, e) (elements_own type_own comma_before (t.types xs) e []) ≡ Some n = subst (λ l. (listed comma is_empty (type true)).behind (t.types xs, e) l ≡ Some n) (types_elements xs e []) h in
     let (a, b, c) = listed_tells (type true) type_own (type_fits true) (type_stops true) is_empty (λ k. type_alike k true) e (t.types xs) [] n all i in
-    (types_pass e [] xs b, types_end xs e a)
+    (types_pass e [] xs b, types_end xs e ∙ a)
 
 args_listed : (xs : FnArgs) (e : Bool) (n : List Tok) → Told (fn_arg type) arg_own arg_fits arg_stops (t.args xs) → (listed comma is_empty (fn_arg type)).behind (t.args xs, e) (args_own xs e []) ≡ Some n
     → (args_fit xs ≡ true) × (ends_well (no_more_args xs) e ≡ true)
 args_listed xs e n all h =
     let i : (listed comma is_empty (fn_arg type)).behind (t.args xs, e) (elements_own arg_own comma_before (t.args xs) e []) ≡ Some n = subst (λ l. (listed comma is_empty (fn_arg type)).behind (t.args xs, e) l ≡ Some n) (args_elements xs e []) h in
     let (a, b, c) = listed_tells (fn_arg type) arg_own arg_fits arg_stops is_empty (λ k. fn_arg_alike {k = k} types_alike) e (t.args xs) [] n all i in
-    (args_pass e [] xs b, args_end xs e a)
+    (args_pass e [] xs b, args_end xs e ∙ a)
 
 pub generics_listed : (gs : Generics) (e : Bool) (r n : List Tok) → Told (generic type) generic_own generic_fits generic_stops (t.generics gs) → (listed comma gt.at (generic type)).behind (t.generics gs, e) (generics_own gs e r) ≡ Some n
     → (generics_fit gs ≡ true) × (ends_well (no_more_generics gs) e ≡ true) × (n ≡ r)
 generics_listed gs e r n all h =
     let i : (listed comma gt.at (generic type)).behind (t.generics gs, e) (elements_own generic_own comma_before (t.generics gs) e r) ≡ Some n = subst (λ l. (listed comma gt.at (generic type)).behind (t.generics gs, e) l ≡ Some n) (generics_elements gs e r) h in
     let (a, b, c) = listed_tells (generic type) generic_own generic_fits generic_stops gt.at (λ k. generic_alike {k = k} types_alike) e (t.generics gs) r n all i in
-    (generics_pass e r gs b, generics_end gs e a, c)
+    (generics_pass e r gs b, generics_end gs e ∙ a, c)
 
 pub arg_by : (w : Option Text) (x : TypeTree) → ((r n : List Tok) → (type true).behind x (type_own x r) ≡ Some n → Fitted (type_fits true x) (type_stops true x r) r n)
     → (r n : List Tok) → (fn_arg type).behind (record { name = w; ty = x }) (arg_own (record { name = w; ty = x }) r) ≡ Some n
