@@ -1,8 +1,10 @@
 //! What the program does, over any reader and writers.
 
-ghost use Rattle.std.specs.Prelude.{◌≡◌, ◌⊎◌, ℕ, List, Option, Some, None, OnOk, IfOk, IfErr, IfSome, MatchResult, string_bytes, ◌++◌, ◌∷◌, [], chars, Ok, Err};
+ghost use Rattle.std.specs.Prelude.{◌≡◌, ◌≢◌, ◌⊎◌, ℕ, List, Option, Some, None, OnOk, IfOk, IfErr, IfSome, MatchResult, string_bytes, ◌++◌, ◌∷◌, [], chars, Ok, Err};
 ghost use Rattle.std.specs.Str.{IsUtf8};
 ghost use Rattle.std.specs.Io.KnownBytes.{Appends};
+ghost use Rattle.std.specs.IoError.{error_kind};
+ghost use Rattle.std.specs.declared.io.ErrorKind.TheVariants.{OutOfMemory};
 ghost use Rattle.syn_tokens.specs.Tok.{Tok};
 ghost use Rattle.syn_grammar.specs.Place.{plain};
 ghost use Rattle.syn_grammar.specs.Stands.{Stands};
@@ -128,7 +130,9 @@ fn report<E: Write>(errors: &mut E, fault: Fault) -> io::Result<()>
 
 /// The fault of a read that failed.
 fn read_fault(e: &io::Error) -> Fault
-    ensures { (bytes : List ℕ) → spec.Follows bytes (outcome_of result) }
+    ensures follows { (bytes : List ℕ) → spec.Follows bytes (outcome_of result) }
+    ensures memory { error_kind e.now ≡ OutOfMemory → outcome_of result ≢ spec.failed }
+    ensures other { error_kind e.now ≢ OutOfMemory → outcome_of result ≡ spec.failed }
 {
     if e.kind() == io::ErrorKind::OutOfMemory {
         Fault::Refused(OUT_OF_MEMORY)

@@ -5,7 +5,7 @@ use Rattle.exprfmt.proofs.run.run_to.Goals as goal
 
 pub returns-in-Err : goal.returns-in-Err
 returns-in-Err g c = at_some _ (g.R.Read.remaining c.args.input.now)
-    (λ bytes. (outcome_of c.read_fault.result, c.read_fault.ensures bytes, fault_writes c.read_fault.result _ _ _ c.in_ok-report.ensures))
+    (λ bytes. (outcome_of c.read_fault.result, c.read_fault.ensures.follows bytes, fault_writes c.read_fault.result _ _ _ c.in_ok-report.ensures))
 
 pub returns-in-Ok-write_all : goal.returns-in-Ok-write_all
 returns-in-Ok-write_all g c = along_some _ _ (g.R.Read.remaining c.args.input.now) c.in_default.ensures.bytes (λ bytes is.
