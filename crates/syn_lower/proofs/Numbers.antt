@@ -10,7 +10,7 @@ use Rattle.syn_parts.specs.Own.{alone, lit_own, number_own}
 use Rattle.syn_lower.specs.Number.{number_printed}
 use Rattle.syn_lower.specs.View.{signed}
 
-no_sign : (c : ℕ) (text : Text) → is_number (c ∷ text) ≡ true → (c == 45) ≡ false
+pub no_sign : (c : ℕ) (text : Text) → is_number (c ∷ text) ≡ true → (c == 45) ≡ false
 unfolding is_number
 no_sign c text h = grind (arith, common_steps)
 

@@ -4,6 +4,7 @@
 
 pub mod attr;
 pub mod block;
+mod fits;
 mod fn_pointer;
 mod front;
 mod grammar;
@@ -19,6 +20,7 @@ pub mod path;
 pub mod print;
 pub mod punctuated;
 mod qualified;
+pub mod read_back;
 pub mod readers;
 #[cfg(test)]
 mod tests;

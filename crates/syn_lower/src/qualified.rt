@@ -31,7 +31,7 @@ type QPath = (Option<QSelf>, Path);
 
 /// Whether a segment has no arguments.
 #[tactic(auto, using(crate::proofs::Makes::makes))]
-fn has_none(arguments: &PathArguments) -> bool
+pub(crate) fn has_none(arguments: &PathArguments) -> bool
     ensures { result ≡ part.has_none (view.arguments_of arguments.now) }
 {
     match arguments {

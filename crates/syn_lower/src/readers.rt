@@ -366,7 +366,7 @@ impl Attribute {
 }
 
 /// A path, in an expression's or a pattern's style or as in a type.
-fn style(expr_style: bool) -> PathStyle
+pub(crate) fn style(expr_style: bool) -> PathStyle
     ensures { result ≡ (if expr_style then PathStyle.Expr else PathStyle.Type) }
 {
     if expr_style {
