@@ -24,9 +24,9 @@ use Rattle.syn_parts.specs.Part.{angle_at, turbofish_at, has_none, is_arg_name}
 use Rattle.syn_parts.specs.Tree as t
 use Rattle.syn_parts.specs.Tree.{TypeTree, Types, Segments, SegmentTree, PathTree, ArgumentsTree, GenericTree, ReturnTree, Bounds, BoundTree, FnArgTree, QSelfTree}
 use Rattle.syn_parts.specs.Own.{colon2_before, no_more_types, no_more_generics, no_more_args, no_more_bounds, no_more_segments, one_less, at_most, count_segments, inner_count}
-use Rattle.syn_parts.specs.Fits.{is_const, number_fits, has_kind, macro_fits, path_fits, ends_well, is_none, lifetimes_fit, fits_if, is_one_type, is_one_bound, bare_segments, style_at, takes_angle, takes_round, is_macro_delimiter, position_fits, name_stops, type_stops, mac_stops, segments_stop, arguments_stop, return_stops, bounds_stop, bound_stops, goes_over, type_fits, types_fit, qself_fits, segments_fit, arguments_fit, generics_fit, generic_fits, return_fits, args_fit, bounds_fit, bound_fits, qpath_fits, output_fits}
+use Rattle.syn_parts.specs.Fits.{segment_fits, arg_fits, is_string, is_const, number_fits, has_kind, macro_fits, path_fits, ends_well, is_none, lifetimes_fit, fits_if, is_one_type, is_one_bound, bare_segments, style_at, takes_angle, takes_round, is_macro_delimiter, position_fits, name_stops, type_stops, mac_stops, segments_stop, arguments_stop, return_stops, bounds_stop, bound_stops, goes_over, type_fits, types_fit, qself_fits, segments_fit, arguments_fit, generics_fit, generic_fits, return_fits, args_fit, bounds_fit, bound_fits, qpath_fits, output_fits}
 use Rattle.syn_lower.specs.Punct.{is_one}
-use Rattle.syn_lower.specs.ReadBack.{segment_fits, inner_fits, rows_fit, arg_fits, abi_fits, path_fits_inside, qpath_fits_by}
+use Rattle.syn_lower.specs.ReadBack.{inner_fits, rows_fit, path_fits_inside, qpath_fits_by}
 use Rattle.syn_lower.specs.View.{values, trails, signed, macro_of, last_of, is_some_pair, mapped, lifetime_of, lifetimes_of, abi_of, arg_of, delimiter_of, segment_of, path_of, qself_or, type_of, generic_of, arguments_of, return_of, bound_of, round_of, fn_ptr_of}
 use Rattle.syn_lower.proofs.Makes.{type-Path, type-Macro, type-Reference, type-Ptr, type-Slice, type-Array, type-Tuple, type-Paren, type-Never, type-Infer, type-FnPtr, type-ImplTrait, type-TraitObject, type_path-is, fn_ptr-is, round-is, arguments-None, arguments-AngleBracketed, arguments-Parenthesized, output-Default, output-Given, bound-Lifetime, bound-Trait}
 use Rattle.syn_lower.proofs.Numbers.{no_sign}
@@ -101,7 +101,7 @@ bounds_all : {A : Type 0} (f : A → BoundTree) (xs : List A) → bounds_fit (t.
 bounds_all f [] = refl
 bounds_all f (x ∷ xs) = ap (λ b. bound_fits (f x) && b) (bounds_all f xs)
 
-args_all : {A : Type 0} (f : A → FnArgTree) (xs : List A) → args_fit (t.args_of (map f xs)) ≡ list_all (λ x. arg_fits (f x)) xs
+args_all : {A : Type 0} (f : A → FnArgTree) (xs : List A) → args_fit (t.args_of (map f xs)) ≡ list_all (λ x. fits_if is_arg_name (f x).name && type_fits true (f x).ty) xs
 args_all f [] = refl
 args_all f (x ∷ xs) = ap (λ b. fits_if is_arg_name (f x).name && (type_fits true (f x).ty && b)) (args_all f xs) ∙ sym (and-assoc (fits_if is_arg_name (f x).name) (type_fits true (f x).ty) _)
 
@@ -241,7 +241,7 @@ one_less-is : (n : ℕ) → one_less n ≡ n - 1
 one_less-is zero = refl
 one_less-is (suc n) = omega arith
 
-regroup : (a b d e f : Bool) → (a && (b && (d && (e && f)))) ≡ (((a && (b && d)) && e) && f)
+regroup : (a b d e f : Bool) → (a && (b && (d && (e && f)))) ≡ (((a && (b && (d && true))) && e) && f)
 regroup true true true e f = refl
 regroup true true false e f = refl
 regroup true false d e f = refl
@@ -255,18 +255,23 @@ follow n s x v d ss =
     regroup (is_segment x.ident) (not (stands_alone x.ident) || has_none x.arguments) (arguments_fit (style_at n s) x.arguments) (n == 1 || arguments_stop style.Type [] x.arguments (colon2_before [])) (segments_fit (n - 1) s (t.more_segments v d ss)))
 
 -- a segment that others follow, and the last one
-pub segments_fit-more : {A : Type 0} (f : A → SegmentTree) (n : ℕ) (s : PathStyle) (x : A) (xs : List A) (y : A)
+segments_fit-more : {A : Type 0} (f : A → SegmentTree) (n : ℕ) (s : PathStyle) (x : A) (xs : List A) (y : A)
     → segments_fit n s (t.segments_of (map f (x ∷ (xs ++ y ∷ []))))
     ≡ (inner_fits n s (f x) && segments_fit (n - 1) s (t.segments_of (map f (xs ++ y ∷ []))))
 segments_fit-more f n s x [] y = follow n s (f x) (f y).ident (f y).arguments t.no_segments
 segments_fit-more f n s x (z ∷ xs) y = follow n s (f x) (f z).ident (f z).arguments (t.segments_of (map f (xs ++ y ∷ [])))
 
-pub segments_fit-last : (n : ℕ) (s : PathStyle) (x : SegmentTree) → segments_fit n s (t.segments_of (x ∷ [])) ≡ segment_fits (style_at n s) x
-segments_fit-last n s x = ap (λ b. is_segment x.ident && ((not (stands_alone x.ident) || has_none x.arguments) && b)) (rw (by n) (and-true (arguments_fit (style_at n s) x.arguments)))
+segments_fit-last : (n : ℕ) (s : PathStyle) (x : SegmentTree) → segments_fit n s (t.segments_of (x ∷ [])) ≡ segment_fits (style_at n s) x
+segments_fit-last n s x = ap (λ b. is_segment x.ident && ((not (stands_alone x.ident) || has_none x.arguments) && (arguments_fit (style_at n s) x.arguments && b))) (by n)
   where
     by : (n : ℕ) → (goes_over n (style_at n s) x.ident x.arguments t.no_segments && segments_fit (one_less n) s t.no_segments) ≡ true
     by zero = refl
     by (suc n) = refl
+
+pub segment_fits-is : (s : PathStyle) (x : SegmentTree) → segment_fits s x ≡ (is_segment x.ident && ((not (stands_alone x.ident) || has_none x.arguments) && arguments_fit s x.arguments))
+segment_fits-is s x = ap (λ b. is_segment x.ident && ((not (stands_alone x.ident) || has_none x.arguments) && b)) (and-true (arguments_fit s x.arguments))
+
+pub ruleset segments = (segment_fits-is)
 
 rows : {A P : Type 0} (f : A → SegmentTree) (n : ℕ) (s : PathStyle) (ps : List (A × P)) (y : A) → segments_fit n s (t.segments_of (map f (map (λ q. q.0) ps ++ y ∷ []))) ≡ rows_fit f n s ps y
 rows f n s [] y = segments_fit-last n s (f y)
@@ -454,14 +459,14 @@ fits-Never b x = rw (type-Never x) refl
 pub fits-Infer : (b : Bool) (x : TypeInfer) → type_fits b (type_of (ty.Infer x)) ≡ true
 fits-Infer b x = rw (type-Infer x) refl
 
-fn_ptr_by : (b : Bool) (x : TypeFnPtr) → type_fits b (fn_ptr_of x) ≡ (fits_if abi_fits (mapped abi_of x.abi) && (list_all (λ y. arg_fits (arg_of type_of y)) (values x.inputs) && output_fits false (return_of x.output)))
-fn_ptr_by b x = rw (fn_ptr-is x, some_lifetimes x.lifetimes, args_all (arg_of type_of) (values x.inputs), args_end x.inputs) (ap (λ c. fits_if abi_fits (mapped abi_of x.abi) && (list_all (λ y. arg_fits (arg_of type_of y)) (values x.inputs) && c)) (output_is (return_of x.output)))
+fn_ptr_by : (b : Bool) (x : TypeFnPtr) → type_fits b (fn_ptr_of x) ≡ (fits_if (fits_if is_string) (mapped abi_of x.abi) && (list_all (λ y. fits_if is_arg_name (mapped (λ n. n.0) y.name) && type_fits true (type_of y.ty)) (values x.inputs) && output_fits false (return_of x.output)))
+fn_ptr_by b x = rw (fn_ptr-is x, some_lifetimes x.lifetimes, args_all (arg_of type_of) (values x.inputs), args_end x.inputs) (ap (λ c. fits_if (fits_if is_string) (mapped abi_of x.abi) && (list_all (λ y. fits_if is_arg_name (mapped (λ n. n.0) y.name) && type_fits true (type_of y.ty)) (values x.inputs) && c)) (output_is (return_of x.output)))
   where
     output_is : (o : ReturnTree) → return_fits o ≡ output_fits false o
     output_is t.default = refl
     output_is (t.given y) = refl
 
-pub fits-fn_ptr : (x : TypeFnPtr) → type_fits false (fn_ptr_of x) ≡ (fits_if abi_fits (mapped abi_of x.abi) && (list_all (λ y. arg_fits (arg_of type_of y)) (values x.inputs) && output_fits false (return_of x.output)))
+pub fits-fn_ptr : (x : TypeFnPtr) → type_fits false (fn_ptr_of x) ≡ (fits_if (fits_if is_string) (mapped abi_of x.abi) && (list_all (λ y. fits_if is_arg_name (mapped (λ n. n.0) y.name) && type_fits true (type_of y.ty)) (values x.inputs) && output_fits false (return_of x.output)))
 fits-fn_ptr x = fn_ptr_by false x
 
 pub fits-FnPtr : (b : Bool) (x : TypeFnPtr) → type_fits b (type_of (ty.FnPtr x)) ≡ type_fits false (fn_ptr_of x)
@@ -533,3 +538,8 @@ pub ruleset numbers = (number_by, same_kind-is)
 pub ruleset macros = (macro_fits-is, fits-macro)
 
 pub ruleset qpaths = (qpath_fits-is)
+
+pub arg_fits-is : (x : FnArgTree) → arg_fits x ≡ (fits_if is_arg_name x.name && type_fits true x.ty)
+arg_fits-is x = ap (λ b. fits_if is_arg_name x.name && b) (and-true (type_fits true x.ty))
+
+pub ruleset args = (arg_fits-is)

@@ -1,19 +1,14 @@
--- Where parts are read back that stand in others alone: a segment, an argument of a function pointer, `extern` and its
--- string. Those of the other parts are in syn_parts.
-use Rattle.std.specs.Prelude.{Bool, true, not, ◌&&◌, ◌||◌, ◌==◌, ◌-◌, ℕ, List, [], ◌∷◌, length, Option, Some, None, is_some}
+-- Parts that are read back: the tests of paths as code goes through them, and what their laws say.
+use Rattle.std.specs.Prelude.{◌≡◌, ◌++◌, Bool, true, not, ◌&&◌, ◌||◌, ◌==◌, ◌-◌, ℕ, List, [], ◌∷◌, length, Option, Some, None, is_some}
+use Rattle.syn_tokens.specs.Tok.{Tok}
 use Rattle.syn_parts.specs.declared.label.PathStyle.{PathStyle}
 use Rattle.syn_parts.specs.declared.label.PathStyle.TheVariants as style
-use Rattle.syn_parts.specs.Text.{is_segment, stands_alone}
 use Rattle.syn_parts.specs.Tree as t
-use Rattle.syn_parts.specs.Tree.{LitTree, SegmentTree, PathTree, FnArgTree}
-use Rattle.syn_parts.specs.Part.{has_none, is_arg_name}
+use Rattle.syn_parts.specs.Tree.{SegmentTree, PathTree}
+use Rattle.syn_parts.specs.Form.{Test}
 use Rattle.syn_parts.specs.Own.{no_more_segments, colon2_before}
-use Rattle.syn_parts.specs.Fits.{fits_if, is_string, style_at, position_fits, arguments_stop, type_fits, arguments_fit, segments_fit}
+use Rattle.syn_parts.specs.Fits.{style_at, position_fits, arguments_stop, segments_fit, segment_fits}
 use Rattle.syn_lower.specs.declared.path.QSelfOf.{QSelfOf}
-
--- a word that a segment may have, and arguments by the style of its path, but none behind `self` and its like
-abbrev pub segment_fits : PathStyle → SegmentTree → Bool
-segment_fits s x = is_segment x.ident && ((not (stands_alone x.ident) || has_none x.arguments) && arguments_fit s x.arguments)
 
 -- a segment that another follows, where n stand inside of `<T as ..>`: it doesn't go on at `::`, as an output that ends in a
 -- path does; behind the last one inside stands `>`
@@ -25,13 +20,6 @@ abbrev pub rows_fit : {A P : Type 0} → (A → SegmentTree) → ℕ → PathSty
 rows_fit f n s [] y = segment_fits (style_at n s) (f y)
 rows_fit f n s (q ∷ qs) y = inner_fits n s (f q.0) && rows_fit f (n - 1) s qs y
 
--- a name is an identifier or `_`
-abbrev pub arg_fits : FnArgTree → Bool
-arg_fits x = fits_if is_arg_name x.name && type_fits true x.ty
-
-abbrev pub abi_fits : Option LitTree → Bool
-abi_fits o = fits_if is_string o
-
 -- a path of which n segments stand inside of `<T as ..>`
 abbrev pub path_fits_inside : ℕ → PathStyle → PathTree → Bool
 path_fits_inside n s p = not p.trailing && (not (no_more_segments (t.segments_of p.segments)) && segments_fit n s (t.segments_of p.segments))
@@ -40,3 +28,13 @@ path_fits_inside n s p = not p.trailing && (not (no_more_segments (t.segments_of
 abbrev pub qpath_fits_by : {T : Type 0} → (T → Bool) → PathStyle → Option (QSelfOf T) → PathTree → Bool
 qpath_fits_by f s None p = path_fits_inside 0 s p
 qpath_fits_by f s (Some q) p = position_fits (is_some q.as_token) q.position p.leading (length p.segments) && (f q.ty.value && path_fits_inside q.position s p)
+
+-- ---- laws
+
+-- what is printed of a part, before whatever follows, is its own tokens before that
+abbrev pub PrintsOwn : {A : Type 0} → (A → List Tok) → (A → List Tok → List Tok) → Type 0
+PrintsOwn {A} printed own = (x : A) (rest : List Tok) → printed x ++ rest ≡ own x rest
+
+-- what passes its test, printed before a rest that doesn't go on with it, spells it up to that rest
+abbrev pub IsReadBack : {A S : Type 0} → (A → Bool) → (A → Test) → (A → List Tok) → (A → S) → (List Tok → S → List Tok → Type 0) → Type 0
+IsReadBack {A} fits stops printed seen spells = (x : A) (rest : List Tok) → fits x ≡ true → stops x rest ≡ true → spells (printed x ++ rest) (seen x) rest

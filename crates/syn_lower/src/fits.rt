@@ -3,7 +3,7 @@
 ghost use Rattle.std.specs.List.{list_all};
 ghost use Rattle.std.specs.Prelude.{◌≡◌, ◌==◌, true, false, not, ◌&&◌, ◌||◌, is_some, length, map, [], ◌∷◌, ◌++◌};
 ghost use Rattle.syn_lower.specs.Punct.{is_one};
-ghost use Rattle.syn_lower.specs.ReadBack.{segment_fits, inner_fits, rows_fit, abi_fits, path_fits_inside, qpath_fits_by};
+ghost use Rattle.syn_lower.specs.ReadBack.{inner_fits, rows_fit, path_fits_inside, qpath_fits_by};
 ghost use Rattle.syn_lexer.specs.Keywords.{is_reserved_word};
 ghost use Rattle.syn_lower.specs.View.{values, trails, mapped, abi_of, segment_of, path_of, qself_or, type_of, fn_ptr_of, arguments_of, round_of, return_of, bound_of};
 ghost use Rattle.syn_parts.specs.Fits as spec;
@@ -110,8 +110,9 @@ pub(crate) fn bounds_fit<B: Element, P>(bounds: &Punctuated<B, P>, several: bool
 }
 
 /// Whether a segment is read back.
+#[tactic(auto, using(crate::proofs::Fitting::segments))]
 pub(crate) fn segment_fits<A: Arguments>(segment: &PathSegmentOf<A>, style: PathStyle) -> bool
-    ensures { result ≡ segment_fits style (segment_of A.tree segment.now) }
+    ensures { result ≡ spec.segment_fits style (segment_of A.tree segment.now) }
 {
     let word = segment.ident.as_str();
     is_segment(word)
@@ -203,7 +204,7 @@ pub(crate) fn has_kind(token: &Literal, kind: LitKind) -> bool
 
 /// Whether `extern` and its name are read back: the name is a string.
 pub(crate) fn abi_fits(abi: &Abi) -> bool
-    ensures { result ≡ abi_fits (abi_of abi.now) }
+    ensures { result ≡ spec.fits_if spec.is_string (abi_of abi.now) }
 {
     match &abi.name {
         Some(name) => has_kind(&name.token, LitKind::Str),
@@ -213,7 +214,7 @@ pub(crate) fn abi_fits(abi: &Abi) -> bool
 
 /// The same of one that may be missing.
 fn some_abi_fits(abi: &Option<Abi>) -> bool
-    ensures { result ≡ spec.fits_if abi_fits (mapped abi_of abi.now) }
+    ensures { result ≡ spec.fits_if (spec.fits_if spec.is_string) (mapped abi_of abi.now) }
 {
     match abi {
         Some(abi) => abi_fits(abi),
@@ -221,7 +222,7 @@ fn some_abi_fits(abi: &Option<Abi>) -> bool
     }
 }
 
-/// Whether the name of an argument is an identifier or `_`, if there is one.
+/// Whether the name of an argument is an identifier or `_`, if it has one.
 fn name_fits(name: &Option<(Ident, Colon)>) -> bool
     ensures { result ≡ spec.fits_if is_arg_name (mapped (λ n. n.0) name.now) }
 {
@@ -229,6 +230,13 @@ fn name_fits(name: &Option<(Ident, Colon)>) -> bool
         Some((name, _)) => !is_reserved_word(name.as_str()) || name.as_str() == "_",
         None => true,
     }
+}
+
+/// Whether an argument of a function pointer is read back.
+pub(crate) fn arg_fits<T: Element>(x: &BareFnArgOf<T>) -> bool
+    ensures { result ≡ (spec.fits_if is_arg_name (mapped (λ n. n.0) x.now.name) && T.fits x.now.ty) }
+{
+    name_fits(&x.name) && x.ty.fits()
 }
 
 impl<T: Element> Element for BareFnArgOf<T> {
@@ -240,7 +248,7 @@ impl<T: Element> Element for BareFnArgOf<T> {
     ghost fits = { λ x. fits_if is_arg_name (mapped (λ n. n.0) x.name) && T.fits x.ty };
 
     fn fits(&self) -> bool {
-        name_fits(&self.name) && self.ty.fits()
+        arg_fits(self)
     }
 }
 

@@ -6,7 +6,6 @@
 //! (`laws::parts_are_read_back`). Lifetimes, attributes, blocks, `for<..>`, `!` and `_` always are, so they have no test.
 
 ghost use Rattle.std.specs.Prelude.{◌≡◌, true, false, if◌then◌else◌};
-ghost use Rattle.syn_lower.specs.ReadBack.{segment_fits, arg_fits, abi_fits};
 ghost use Rattle.syn_lower.specs.View as view;
 ghost use Rattle.syn_lower.specs.declared.path.GenericArgument.TheVariants as generic;
 ghost use Rattle.syn_lower.specs.declared.path.PathArguments.TheVariants as arguments;
@@ -154,7 +153,7 @@ impl PathSegment {
     /// Whether it is read back in a path of this style: its word is no reserved one but `Self`, `self`, `super`, `crate` and
     /// `try`, the last four have no arguments, and the arguments are read back.
     pub fn is_read_back(&self, style: PathStyle) -> bool
-        ensures { result ≡ segment_fits style (view.segment_of view.arguments_of self.now) }
+        ensures { result ≡ spec.segment_fits style (view.segment_of view.arguments_of self.now) }
     {
         fits::segment_fits(self, style)
     }
@@ -219,11 +218,15 @@ impl ReturnType {
 }
 
 impl TypeParamBound {
-    /// Whether it is read back.
+    /// Whether it is read back: a lifetime always is, a trait where its path is.
+    #[tactic(auto, using(crate::proofs::Fitting::kinds))]
     pub fn is_read_back(&self) -> bool
         ensures { result ≡ spec.bound_fits (view.bound_of self.now) }
     {
-        self.fits()
+        match self {
+            TypeParamBound::Lifetime(_) => true,
+            TypeParamBound::Trait(x) => x.is_read_back(),
+        }
     }
 }
 
@@ -250,7 +253,7 @@ impl Macro {
 impl Abi {
     /// Whether its name is a string literal, if it has one.
     pub fn is_read_back(&self) -> bool
-        ensures { result ≡ abi_fits (view.abi_of self.now) }
+        ensures { result ≡ spec.fits_if spec.is_string (view.abi_of self.now) }
     {
         fits::abi_fits(self)
     }
@@ -258,10 +261,11 @@ impl Abi {
 
 impl BareFnArg {
     /// Whether its name is an identifier or `_`, if it has one, and its type is read back.
+    #[tactic(auto, using(crate::proofs::Fitting::args))]
     pub fn is_read_back(&self) -> bool
-        ensures { result ≡ arg_fits (view.arg_of view.type_of self.now) }
+        ensures { result ≡ spec.arg_fits (view.arg_of view.type_of self.now) }
     {
-        self.fits()
+        fits::arg_fits(self)
     }
 }
 
@@ -300,7 +304,7 @@ impl TypeReference {
     pub fn is_read_back(&self) -> bool
         ensures { result ≡ spec.type_fits true (view.type_of (ty.Reference self.now)) }
     {
-        self.elem.is_read_back(false)
+        fits::type_fits(&self.elem, false)
     }
 }
 
@@ -320,7 +324,7 @@ impl TypeSlice {
     pub fn is_read_back(&self) -> bool
         ensures { result ≡ spec.type_fits true (view.type_of (ty.Slice self.now)) }
     {
-        self.elem.is_read_back(true)
+        fits::type_fits(&self.elem, true)
     }
 }
 
@@ -330,7 +334,7 @@ impl TypeArray {
     pub fn is_read_back(&self) -> bool
         ensures { result ≡ spec.type_fits true (view.type_of (ty.Array self.now)) }
     {
-        self.elem.is_read_back(true) && !self.len.is_empty()
+        !self.len.is_empty() && self.elem.fits()
     }
 }
 
@@ -383,6 +387,7 @@ impl TypeTraitObject {
     pub fn is_read_back(&self, several: bool) -> bool
         ensures { result ≡ spec.type_fits several (view.type_of (ty.TraitObject self.now)) }
     {
-        fits::bounds_fit(&self.bounds, several)
+        let TypeTraitObject { bounds, .. } = self;
+        fits::bounds_fit(bounds, several)
     }
 }
