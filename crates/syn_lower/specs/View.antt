@@ -250,3 +250,7 @@ fn_ptr_of x = fold-TypeFnPtr GenericTree ArgumentsTree ReturnTree TypeTree Bound
 
 unfoldable pub type_path_of : TypePath → TypeTree
 type_path_of x = fold-TypePath GenericTree ArgumentsTree ReturnTree TypeTree BoundTree ArgumentsTree TypeTree TypeTree generic_step arguments_step return_step type_step bound_step round_step fn_ptr_step type_path_step x
+
+-- the name and the type of an associated type
+abbrev pub name_and_type : AssocTypeOf «Type» → Text × TypeTree
+name_and_type x = (x.ident, type_of x.ty)

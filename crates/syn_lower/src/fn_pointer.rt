@@ -74,8 +74,8 @@ fn maybe_string(input: &mut ParseBuffer<'_>) -> Result<Option<LitStr>>
 }
 
 /// Reads `extern` and a string, if they stand first.
-fn maybe_abi(input: &mut ParseBuffer<'_>) -> Result<Option<Abi>>
-    ensures value { Reads (view.mapped view.abi_of) ((form.maybe mark.extern_word.at (form.mark mark.extern_word (form.maybe part.literal_at part.string))).reads input.old.rest) result input.new.rest }
+pub(crate) fn maybe_abi(input: &mut ParseBuffer<'_>) -> Result<Option<Abi>>
+    ensures value { Reads (view.mapped view.abi_of) ((form.maybe mark.extern_word.at part.abi).reads input.old.rest) result input.new.rest }
     ensures noted { input.new.noted ≡ input.old.noted }
     ensures shrinks { weight input.new.rest ≤ weight input.old.rest }
 {
@@ -115,7 +115,7 @@ pub(crate) fn fn_at(input: &ParseBuffer<'_>) -> bool
 impl<F: Fn(&mut ParseBuffer<'_>, bool) -> Result<Box<Type>>> Grammar<F> {
     /// Reads an argument of a function pointer.
     #[tactic(auto, unfolding(syn_parts::specs::Part::fn_arg))]
-    fn fn_arg(&self, input: &mut ParseBuffer<'_>) -> Result<BareFnArg>
+    pub(crate) fn fn_arg(&self, input: &mut ParseBuffer<'_>) -> Result<BareFnArg>
         requires callable { Callable (weight input.old.rest + 1) (F.pre self.now.ty) }
         requires reads { ReadsType (F.post self.now.ty) }
         ensures value { Reads (view.arg_of view.type_of) ((part.fn_arg part.type).reads input.old.rest) result input.new.rest }

@@ -271,18 +271,17 @@ impl<F: Fn(&mut ParseBuffer<'_>, bool) -> Result<Box<Type>>> Grammar<F> {
             return Ok(GenericArgument::Const(constant_tokens(input)?));
         }
         if assoc_at(input) {
-            return self.assoc(input);
+            return Ok(GenericArgument::AssocType(self.assoc(input)?));
         }
         let ty = (self.ty)(input, true)?;
         Ok(GenericArgument::Ty(Box::into_inner(ty)))
     }
 
     /// Reads a name, `=` and a type.
-    #[tactic(auto, using(crate::proofs::Makes::makes))]
-    fn assoc(&self, input: &mut ParseBuffer<'_>) -> Result<GenericArgument>
+    pub(crate) fn assoc(&self, input: &mut ParseBuffer<'_>) -> Result<AssocType>
         requires callable { Callable (weight input.old.rest + 1) (F.pre self.now.ty) }
         requires reads { ReadsType (F.post self.now.ty) }
-        ensures value { Reads view.generic_of ((form.shown part.to_assoc part.from_assoc (form.both part.name (form.mark mark.eq (part.type true)))).reads input.old.rest) result input.new.rest }
+        ensures value { Reads view.name_and_type ((part.assoc part.type).reads input.old.rest) result input.new.rest }
         ensures noted { input.new.noted ≡ input.old.noted }
         ensures shrinks { weight input.new.rest ≤ weight input.old.rest }
     {
@@ -292,11 +291,11 @@ impl<F: Fn(&mut ParseBuffer<'_>, bool) -> Result<Box<Type>>> Grammar<F> {
         };
         let ty = (self.ty)(input, true)?;
         let ty = Box::into_inner(ty);
-        Ok(GenericArgument::AssocType(AssocType {
+        Ok(AssocType {
             ident,
             eq_token,
             ty,
-        }))
+        })
     }
 
     /// Reads arguments with commas between, before `>`.
@@ -325,7 +324,10 @@ impl<F: Fn(&mut ParseBuffer<'_>, bool) -> Result<Box<Type>>> Grammar<F> {
 
     /// Reads arguments between `<` and `>`, behind `::` or not.
     #[tactic(auto, unfolding(syn_parts::specs::Part::angle_bracketed, syn_parts::specs::Part::angle))]
-    fn angle(&self, input: &mut ParseBuffer<'_>) -> Result<AngleBracketedGenericArguments>
+    pub(crate) fn angle(
+        &self,
+        input: &mut ParseBuffer<'_>,
+    ) -> Result<AngleBracketedGenericArguments>
         requires callable { Callable (weight input.old.rest) (F.pre self.now.ty) }
         requires reads { ReadsType (F.post self.now.ty) }
         ensures value { Reads (view.angle_of view.generic_of) ((part.angle_bracketed part.type).reads input.old.rest) result input.new.rest }
@@ -367,7 +369,10 @@ impl<F: Fn(&mut ParseBuffer<'_>, bool) -> Result<Box<Type>>> Grammar<F> {
 
     /// Reads types in parentheses, and what follows them.
     #[tactic(auto, using(crate::proofs::Makes::makes), unfolding(syn_parts::specs::Part::parenthesized))]
-    fn parenthesized(&self, input: &mut ParseBuffer<'_>) -> Result<ParenthesizedGenericArguments>
+    pub(crate) fn parenthesized(
+        &self,
+        input: &mut ParseBuffer<'_>,
+    ) -> Result<ParenthesizedGenericArguments>
         requires callable { Callable (weight input.old.rest) (F.pre self.now.ty) }
         requires reads { ReadsType (F.post self.now.ty) }
         ensures value { Reads view.round_of ((part.parenthesized part.type).reads input.old.rest) result input.new.rest }
@@ -483,26 +488,25 @@ impl<F: Fn(&mut ParseBuffer<'_>, bool) -> Result<Box<Type>>> Grammar<F> {
         if lifetime_at(input) {
             return Ok(TypeParamBound::Lifetime(lifetime(input)?));
         }
-        self.trait_bound(input)
+        Ok(TypeParamBound::Trait(self.trait_bound(input)?))
     }
 
     /// Reads a trait as a bound.
-    #[tactic(auto, using(crate::proofs::Makes::makes))]
-    fn trait_bound(&self, input: &mut ParseBuffer<'_>) -> Result<TypeParamBound>
+    pub(crate) fn trait_bound(&self, input: &mut ParseBuffer<'_>) -> Result<TraitBound>
         requires callable { Callable (weight input.old.rest) (F.pre self.now.ty) }
         requires reads { ReadsType (F.post self.now.ty) }
-        ensures value { Reads view.bound_of ((form.shown part.to_trait part.from_trait (form.both (form.flag mark.question) (form.both (form.maybe part.lifetimes_at part.lifetimes) (part.path part.type PathStyle.Type)))).reads input.old.rest) result input.new.rest }
+        ensures value { Reads (view.trait_of view.arguments_of) ((part.trait_bound part.type).reads input.old.rest) result input.new.rest }
         ensures noted { input.new.noted ≡ input.old.noted }
         ensures shrinks { weight input.new.rest ≤ weight input.old.rest }
     {
         let maybe = front::question(input);
         let lifetimes = maybe_lifetimes(input)?;
         let path = self.path(input, PathStyle::Type)?;
-        Ok(TypeParamBound::Trait(TraitBound {
+        Ok(TraitBound {
             maybe,
             lifetimes,
             path,
-        }))
+        })
     }
 
     /// Reads bounds with `+` between, or one where only one may stand.
@@ -583,8 +587,8 @@ fn maybe_lifetime(input: &mut ParseBuffer<'_>) -> Result<Option<Lifetime>>
 }
 
 /// Reads `mut` or `const`.
-fn pointer_mutability(input: &mut ParseBuffer<'_>) -> Result<PointerMutability>
-    ensures value { Reads view.is_mut ((form.case mark.mutable (form.pure true form.is_true) (form.mark mark.constant (form.pure false not))).reads input.old.rest) result input.new.rest }
+pub(crate) fn pointer_mutability(input: &mut ParseBuffer<'_>) -> Result<PointerMutability>
+    ensures value { Reads view.is_mut (part.mutability.reads input.old.rest) result input.new.rest }
     ensures noted { input.new.noted ≡ input.old.noted }
     ensures shrinks { weight input.new.rest ≤ weight input.old.rest }
 {

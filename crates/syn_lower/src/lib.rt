@@ -2,6 +2,7 @@
 //! puncts, as in syn.
 #![tactic(auto)]
 
+mod ahead;
 pub mod attr;
 pub mod block;
 mod fits;
@@ -9,6 +10,7 @@ mod fn_pointer;
 mod front;
 mod grammar;
 mod kept;
+mod kinds;
 mod leaf;
 pub mod lifetime;
 pub mod lit;
@@ -17,6 +19,7 @@ mod lit_tests;
 pub mod mac;
 mod parse;
 pub mod path;
+mod pieces;
 pub mod print;
 pub mod punctuated;
 mod qualified;

@@ -1,5 +1,6 @@
 //! The readers of the parts that hold others, as callers have them: each answers exactly what its form spells, and leaves
 //! the rest.
+#![tactic(auto, using(crate::proofs::Readable::readables))]
 
 ghost use Rattle.std.specs.Prelude.{◌≡◌, ◌≤◌, ◌+◌, IfOk, Some, map, true, false, if◌then◌else◌};
 ghost use Rattle.syn_lower.specs.Reads.{Reads};
@@ -9,6 +10,7 @@ ghost use Rattle.syn_parts.specs.declared.label.PathStyle.TheVariants as place;
 ghost use Rattle.syn_tokens.specs.Input.{IsAfter};
 ghost use Rattle.syn_tokens.specs.Tok.{weight};
 
+use crate::ahead::{ReadByForm, ahead};
 use crate::attr::Attribute;
 use crate::block::Block;
 use crate::front;
@@ -23,7 +25,7 @@ use syn_tokens::buffer::{Parse, ParseBuffer};
 use syn_tokens::error::{ErrorKind, Part, Result};
 
 /// Reads a type, out of its box.
-fn whole_type(input: &mut ParseBuffer<'_>, several: bool) -> Result<Type>
+pub(crate) fn whole_type(input: &mut ParseBuffer<'_>, several: bool) -> Result<Type>
     ensures value { Reads type_of ((part.type several).reads input.old.rest) result input.new.rest }
     ensures noted { input.new.noted ≡ input.old.noted }
 {
@@ -39,50 +41,20 @@ fn any_path(input: &mut ParseBuffer<'_>, style: PathStyle) -> Result<Path>
     Grammar { ty }.path(input, style)
 }
 
-/// Reads a segment of a path.
-fn segment(input: &mut ParseBuffer<'_>, style: PathStyle) -> Result<PathSegment>
-    ensures value { Reads (segment_of arguments_of) ((part.segment part.type style).reads input.old.rest) result input.new.rest }
-    ensures noted { input.new.noted ≡ input.old.noted }
-{
-    Grammar { ty }.segment(input, style)
+impl ReadByForm for Type {
+    ghost use Rattle.syn_parts.specs.Tree.{TypeTree};
+
+    ghost Seen = { TypeTree };
+
+    ghost seen = { type_of };
+
+    ghost form = { part.type true };
+
+    fn read(input: &mut ParseBuffer<'_>) -> Result<Self> {
+        whole_type(input, true)
+    }
 }
 
-/// Reads an argument between `<` and `>`.
-fn generic(input: &mut ParseBuffer<'_>) -> Result<GenericArgument>
-    ensures value { Reads generic_of ((part.generic part.type).reads input.old.rest) result input.new.rest }
-    ensures noted { input.new.noted ≡ input.old.noted }
-{
-    Grammar { ty }.generic(input)
-}
-
-/// Reads a bound.
-fn bound(input: &mut ParseBuffer<'_>) -> Result<TypeParamBound>
-    ensures value { Reads bound_of ((part.bound part.type).reads input.old.rest) result input.new.rest }
-    ensures noted { input.new.noted ≡ input.old.noted }
-{
-    Grammar { ty }.bound(input)
-}
-
-/// Reads the call of a macro.
-#[tactic(auto, using(crate::proofs::ReadingParts::macros))]
-fn macro_call(input: &mut ParseBuffer<'_>) -> Result<Macro>
-    ensures value { Reads (macro_of arguments_of) (part.macro.reads input.old.rest) result input.new.rest }
-    ensures noted { input.new.noted ≡ input.old.noted }
-{
-    let path = Grammar { ty }.path(input, PathStyle::Mod)?;
-    let Some(bang_token) = front::not_ne(input) else {
-        return Err(input.error(ErrorKind::ExpectedPart(Part::Macro)));
-    };
-    let (delimiter, tokens) = any_group(input)?;
-    Ok(Macro {
-        path,
-        bang_token,
-        delimiter,
-        tokens,
-    })
-}
-
-#[tactic(auto, using(crate::proofs::ReadingParts::type_parsing))]
 impl Parse for Type {
     ghost use Rattle.syn_parts.specs.Tree.{TypeTree};
 
@@ -98,17 +70,24 @@ impl Parse for Type {
     /// Reads a type (Rust Reference, "Types"), with several bounds behind `impl` and `dyn`; it is refused as `ExpectedPart` of
     /// a path where no type begins, and as `ExpectedToken` or `UnexpectedToken` inside of one.
     fn parse(input: &mut ParseBuffer<'_>) -> Result<Self> {
-        let mut ahead = input.fork()?;
-        let x = match whole_type(&mut ahead, true) {
-            Ok(x) => x,
-            Err(e) => return Err(e),
-        };
-        input.advance_to(&ahead);
-        Ok(x)
+        ahead(input)
     }
 }
 
-#[tactic(auto, using(crate::proofs::ReadingParts::path_parsing))]
+impl ReadByForm for Path {
+    ghost use Rattle.syn_parts.specs.Tree.{PathTree};
+
+    ghost Seen = { PathTree };
+
+    ghost seen = { λ x. path_of arguments_of x };
+
+    ghost form = { part.path part.type place.Type };
+
+    fn read(input: &mut ParseBuffer<'_>) -> Result<Self> {
+        any_path(input, PathStyle::Type)
+    }
+}
+
 impl Parse for Path {
     ghost use Rattle.syn_parts.specs.Tree.{PathTree};
 
@@ -124,23 +103,30 @@ impl Parse for Path {
     /// Reads a path as in a type (Rust Reference, "Paths in types"); it is refused as `ExpectedPart` of a path where a segment
     /// is missing.
     fn parse(input: &mut ParseBuffer<'_>) -> Result<Self> {
-        let mut ahead = input.fork()?;
-        let x = match any_path(&mut ahead, PathStyle::Type) {
-            Ok(x) => x,
-            Err(e) => return Err(e),
-        };
-        input.advance_to(&ahead);
-        Ok(x)
+        ahead(input)
     }
 }
 
-#[tactic(auto, using(crate::proofs::ReadingParts::segment_parsing))]
+impl ReadByForm for PathSegment {
+    ghost use Rattle.syn_parts.specs.Tree.{SegmentTree};
+
+    ghost Seen = { SegmentTree };
+
+    ghost seen = { segment_of arguments_of };
+
+    ghost form = { part.segment part.type place.Type };
+
+    fn read(input: &mut ParseBuffer<'_>) -> Result<Self> {
+        Grammar { ty }.segment(input, PathStyle::Type)
+    }
+}
+
 impl Parse for PathSegment {
     ghost use Rattle.syn_parts.specs.Tree.{SegmentTree};
 
     ghost Seen = { SegmentTree };
 
-    ghost seen = { (segment_of arguments_of) };
+    ghost seen = { segment_of arguments_of };
 
     /// A segment as in a type stands before the rest.
     ghost spells = { λ l x rest. (part.segment part.type place.Type).behind x l ≡ Some rest };
@@ -149,17 +135,24 @@ impl Parse for PathSegment {
 
     /// Reads a segment of a path as in a type (Rust Reference, "Paths in types"); it is refused as `ExpectedPart` of a path.
     fn parse(input: &mut ParseBuffer<'_>) -> Result<Self> {
-        let mut ahead = input.fork()?;
-        let x = match segment(&mut ahead, PathStyle::Type) {
-            Ok(x) => x,
-            Err(e) => return Err(e),
-        };
-        input.advance_to(&ahead);
-        Ok(x)
+        ahead(input)
     }
 }
 
-#[tactic(auto, using(crate::proofs::ReadingParts::generic_parsing))]
+impl ReadByForm for GenericArgument {
+    ghost use Rattle.syn_parts.specs.Tree.{GenericTree};
+
+    ghost Seen = { GenericTree };
+
+    ghost seen = { generic_of };
+
+    ghost form = { part.generic part.type };
+
+    fn read(input: &mut ParseBuffer<'_>) -> Result<Self> {
+        Grammar { ty }.generic(input)
+    }
+}
+
 impl Parse for GenericArgument {
     ghost use Rattle.syn_parts.specs.Tree.{GenericTree};
 
@@ -174,17 +167,24 @@ impl Parse for GenericArgument {
 
     /// Reads an argument between `<` and `>` (Rust Reference, "Generic arguments").
     fn parse(input: &mut ParseBuffer<'_>) -> Result<Self> {
-        let mut ahead = input.fork()?;
-        let x = match generic(&mut ahead) {
-            Ok(x) => x,
-            Err(e) => return Err(e),
-        };
-        input.advance_to(&ahead);
-        Ok(x)
+        ahead(input)
     }
 }
 
-#[tactic(auto, using(crate::proofs::ReadingParts::bound_parsing))]
+impl ReadByForm for TypeParamBound {
+    ghost use Rattle.syn_parts.specs.Tree.{BoundTree};
+
+    ghost Seen = { BoundTree };
+
+    ghost seen = { bound_of };
+
+    ghost form = { part.bound part.type };
+
+    fn read(input: &mut ParseBuffer<'_>) -> Result<Self> {
+        Grammar { ty }.bound(input)
+    }
+}
+
 impl Parse for TypeParamBound {
     ghost use Rattle.syn_parts.specs.Tree.{BoundTree};
 
@@ -199,24 +199,32 @@ impl Parse for TypeParamBound {
 
     /// Reads a bound (Rust Reference, "Trait and lifetime bounds").
     fn parse(input: &mut ParseBuffer<'_>) -> Result<Self> {
-        let mut ahead = input.fork()?;
-        let x = match bound(&mut ahead) {
-            Ok(x) => x,
-            Err(e) => return Err(e),
-        };
-        input.advance_to(&ahead);
-        Ok(x)
+        ahead(input)
     }
 }
 
-#[tactic(auto, using(crate::proofs::ReadingParts::block_parsing))]
+impl ReadByForm for Block {
+    ghost use Rattle.std.specs.Prelude.{List};
+    ghost use Rattle.syn_tokens.specs.Tok.{Tok};
+
+    ghost Seen = { List Tok };
+
+    ghost seen = { λ b. b.stmts };
+
+    ghost form = { part.block };
+
+    fn read(input: &mut ParseBuffer<'_>) -> Result<Self> {
+        block(input)
+    }
+}
+
 impl Parse for Block {
     ghost use Rattle.std.specs.Prelude.{List};
     ghost use Rattle.syn_tokens.specs.Tok.{Tok};
 
     ghost Seen = { List Tok };
 
-    ghost seen = { (λ b. b.stmts) };
+    ghost seen = { λ b. b.stmts };
 
     /// A brace group stands before the rest.
     ghost spells = { λ l x rest. part.block.behind x l ≡ Some rest };
@@ -225,17 +233,24 @@ impl Parse for Block {
 
     /// Reads a block, whose inside is kept as tokens; it is refused as `ExpectedToken` of `{`.
     fn parse(input: &mut ParseBuffer<'_>) -> Result<Self> {
-        let mut ahead = input.fork()?;
-        let x = match block(&mut ahead) {
-            Ok(x) => x,
-            Err(e) => return Err(e),
-        };
-        input.advance_to(&ahead);
-        Ok(x)
+        ahead(input)
     }
 }
 
-#[tactic(auto, using(crate::proofs::ReadingParts::lifetimes_parsing))]
+impl ReadByForm for BoundLifetimes {
+    ghost use Rattle.syn_parts.specs.Tree.{LifetimesTree};
+
+    ghost Seen = { LifetimesTree };
+
+    ghost seen = { lifetimes_of };
+
+    ghost form = { part.lifetimes };
+
+    fn read(input: &mut ParseBuffer<'_>) -> Result<Self> {
+        lifetimes(input)
+    }
+}
+
 impl Parse for BoundLifetimes {
     ghost use Rattle.syn_parts.specs.Tree.{LifetimesTree};
 
@@ -250,23 +265,41 @@ impl Parse for BoundLifetimes {
 
     /// Reads `for` and lifetimes (Rust Reference, "Higher-ranked trait bounds"); it is refused as `ExpectedToken`.
     fn parse(input: &mut ParseBuffer<'_>) -> Result<Self> {
-        let mut ahead = input.fork()?;
-        let x = match lifetimes(&mut ahead) {
-            Ok(x) => x,
-            Err(e) => return Err(e),
-        };
-        input.advance_to(&ahead);
-        Ok(x)
+        ahead(input)
     }
 }
 
-#[tactic(auto, using(crate::proofs::ReadingParts::macro_parsing))]
+#[tactic(auto, using(crate::proofs::ReadingParts::macros))]
+impl ReadByForm for Macro {
+    ghost use Rattle.syn_parts.specs.Part.{MacroTree};
+
+    ghost Seen = { MacroTree };
+
+    ghost seen = { macro_of arguments_of };
+
+    ghost form = { part.macro };
+
+    fn read(input: &mut ParseBuffer<'_>) -> Result<Self> {
+        let path = Grammar { ty }.path(input, PathStyle::Mod)?;
+        let Some(bang_token) = front::not_ne(input) else {
+            return Err(input.error(ErrorKind::ExpectedPart(Part::Macro)));
+        };
+        let (delimiter, tokens) = any_group(input)?;
+        Ok(Macro {
+            path,
+            bang_token,
+            delimiter,
+            tokens,
+        })
+    }
+}
+
 impl Parse for Macro {
     ghost use Rattle.syn_parts.specs.Part.{MacroTree};
 
     ghost Seen = { MacroTree };
 
-    ghost seen = { (macro_of arguments_of) };
+    ghost seen = { macro_of arguments_of };
 
     /// A path without arguments, `!` and a group stand before the rest.
     ghost spells = { λ l x rest. part.macro.behind x l ≡ Some rest };
@@ -275,13 +308,7 @@ impl Parse for Macro {
 
     /// Reads the call of a macro (Rust Reference, "Macro Invocation"); it is refused as `ExpectedPart` of a path or a macro.
     fn parse(input: &mut ParseBuffer<'_>) -> Result<Self> {
-        let mut ahead = input.fork()?;
-        let x = match macro_call(&mut ahead) {
-            Ok(x) => x,
-            Err(e) => return Err(e),
-        };
-        input.advance_to(&ahead);
-        Ok(x)
+        ahead(input)
     }
 }
 

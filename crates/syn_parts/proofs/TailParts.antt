@@ -114,11 +114,11 @@ found_const = record { leaves = leaves }
 
 -- ---- parts
 
-name_leaves : Leaves name
+pub name_leaves : Leaves name
 unfolding name
 name_leaves = leaf_leaves bytes_eq found_ident
 
-segment_name_leaves : Leaves segment_name
+pub segment_name_leaves : Leaves segment_name
 unfolding segment_name
 segment_name_leaves = leaf_leaves bytes_eq found_segment
 
@@ -134,31 +134,31 @@ pub signed_leaves : Leaves lit
 unfolding lit
 signed_leaves = leaf_leaves same_lit found_signed
 
-string_leaves : Leaves string
+pub string_leaves : Leaves string
 unfolding string
 string_leaves = leaf_leaves same_lit found_string
 
-kept_leaves : (d : Delimiter) → Leaves (kept d)
+pub kept_leaves : (d : Delimiter) → Leaves (kept d)
 unfolding kept
 kept_leaves d = leaf_leaves same_toks (found_group d)
 
-any_group_leaves : Leaves any_group
+pub any_group_leaves : Leaves any_group
 unfolding any_group
 any_group_leaves = leaf_leaves same_group found_any_group
 
-rest_of_leaves : Leaves rest_of
+pub rest_of_leaves : Leaves rest_of
 unfolding rest_of
 rest_of_leaves = leaf_leaves same_toks found_all
 
-constant_leaves : Leaves constant_tokens
+pub constant_leaves : Leaves constant_tokens
 unfolding constant_tokens
 constant_leaves = leaf_leaves same_toks found_const
 
-arg_name_leaves : Leaves arg_name
+pub arg_name_leaves : Leaves arg_name
 unfolding arg_name
 arg_name_leaves = leaf_leaves bytes_eq found_arg_name
 
-ruleset leaving = (when_leaves, shown_leaves, both_leaves, then_by_leaves, mark_leaves, inside_leaves, closed_by_leaves, listed_leaves, joined_leaves, pure_leaves, maybe_leaves, flag_leaves, name_leaves, segment_name_leaves, lifetime_leaves, unsigned_leaves, signed_leaves, string_leaves, kept_leaves, any_group_leaves, rest_of_leaves, constant_leaves, arg_name_leaves)
+pub ruleset leaving = (when_leaves, shown_leaves, both_leaves, then_by_leaves, mark_leaves, inside_leaves, closed_by_leaves, listed_leaves, joined_leaves, pure_leaves, maybe_leaves, flag_leaves, name_leaves, segment_name_leaves, lifetime_leaves, unsigned_leaves, signed_leaves, string_leaves, kept_leaves, any_group_leaves, rest_of_leaves, constant_leaves, arg_name_leaves)
 
 outer_body_leaves : Leaves outer_body
 unfolding outer_body
@@ -217,7 +217,7 @@ module _ {type : Bool → Form TypeTree} (again : (b : Bool) → Leaves (type b)
   unfolding angle_bracketed
   angle_bracketed_leaves = search (angle_leaves, leaving) depth 12
 
-  parenthesized_leaves : Leaves (parenthesized type)
+  pub parenthesized_leaves : Leaves (parenthesized type)
   unfolding parenthesized
   parenthesized_leaves = search (again, output_leaves, leaving) depth 12
 
