@@ -29,7 +29,7 @@ fn main(rt: HostRuntime) -> ExitCode {
     ExitCode::from(status)
 }
 
-/// The position that the one argument names. The positions that are not there yet are no words of the program.
+/// The position that the one argument names.
 fn position_of(rt: &(impl Env + Alloc)) -> Option<Position> {
     let mut args = env::args(rt).ok()?;
     let _ = args.next()?;
@@ -37,8 +37,5 @@ fn position_of(rt: &(impl Env + Alloc)) -> Option<Position> {
     if args.next().is_some() {
         return None;
     }
-    match word.as_str() {
-        "plain" => Some(Position::Plain),
-        _ => None,
-    }
+    Position::named(word.as_str())
 }

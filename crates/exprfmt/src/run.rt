@@ -1,6 +1,6 @@
 //! What the program does, over any reader and writers.
 
-ghost use Rattle.std.specs.Prelude.{◌≡◌, ◌≢◌, ◌⊎◌, ℕ, List, Option, Some, None, OnOk, IfOk, IfErr, IfSome, MatchResult, string_bytes, ◌++◌, ◌∷◌, [], chars, Ok, Err};
+ghost use Rattle.std.specs.Prelude.{◌≡◌, ◌≢◌, ◌⊎◌, ℕ, List, Option, Some, None, OnOk, IfOk, IfErr, IfSome, MatchResult, string_bytes, codes, ◌++◌, ◌∷◌, [], chars, Ok, Err};
 ghost use Rattle.std.specs.Str.{IsUtf8};
 ghost use Rattle.std.specs.Io.KnownBytes.{Appends};
 ghost use Rattle.std.specs.IoError.{error_kind};
@@ -31,6 +31,19 @@ use syn_tokens::whole::parse2;
 pub enum Position {
     /// By itself, as in delimiters: nothing follows.
     Plain,
+}
+
+impl Position {
+    /// The position of this name. Those that are not there yet are no names.
+    pub fn named(name: &str) -> Option<Position>
+        ensures plain { name.now ≡ codes "plain" → result ≡ Some Position.Plain }
+        ensures other { name.now ≢ codes "plain" → result ≡ None }
+    {
+        match name {
+            "plain" => Some(Position::Plain),
+            _ => None,
+        }
+    }
 }
 
 /// Why nothing was printed.
@@ -142,8 +155,8 @@ fn read_fault(e: &io::Error) -> Fault
 }
 
 /// Reads the input to its end, and writes the printed expression and a newline to `output`, or one line to `errors`
-/// that says why not. The result is the status: 0 where the expression was printed, else 1. An error is that of a
-/// write to `errors`.
+/// that says why not: where the lexer or the reader refused the text, that it is no UTF-8, or that a read or a write
+/// failed. The result is the status: 0 where the expression was printed, else 1. An error is that of a write to `errors`.
 pub fn run_to<R: Read, W: Write, E: Write>(
     alloc: Global,
     position: Position,

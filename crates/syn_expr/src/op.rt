@@ -393,7 +393,8 @@ impl Parse for UnOp {
 
     ghost least = { 1 };
 
-    /// Takes `*`, `!` or `-`, one punct, joined to the next or not.
+    /// Takes `*`, `!` or `-`, one punct, joined to the next or not. It is refused as `ExpectedToken`, of these three,
+    /// where none stands first. It takes no memory.
     fn parse(input: &mut ParseBuffer<'_>) -> Result<Self> {
         let Some(kind) = prefix_at(input) else {
             return Err(input.error(ErrorKind::ExpectedToken(Expected::Three(

@@ -52,7 +52,7 @@ impl Precedence {
     /// The loosest level.
     pub const MIN: Precedence = Precedence::Jump;
 
-    /// The level of a binary operator.
+    /// The level of a binary operator (Rust Reference, "Expression precedence").
     pub fn of_binop(op: &BinOp) -> Precedence
         ensures { spec.level_of result ≡ grammar.level_of (bin_kind op.now) }
     {

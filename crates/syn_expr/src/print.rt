@@ -222,8 +222,9 @@ fn print_node(
     Ok(visits)
 }
 
-/// Puts the tokens of an expression at the end, with the parentheses that it needs where it is printed, and no others.
-/// Memory may run out (`OutOfMemory`); a part of the tokens may then follow what was there.
+/// Puts the tokens of an expression at the end, with the parentheses that it needs where it is printed, and no others:
+/// those without which the tokens would be read as another tree, or not at all (Rust Reference, "Expression
+/// precedence"). Memory may run out (`OutOfMemory`); a part of the tokens may then follow what was there.
 pub fn print_expr(expr: &Expr, tokens: &mut TokenStream, fixup: FixupContext) -> Result<()>
     ensures ok { OnOk result (tokens.new ≡ tokens.old ++ own_tokens (printed fixup (tree_of expr.now))) }
     ensures front { IsFront tokens.old tokens.new }
@@ -258,6 +259,7 @@ impl ToTokens for Expr {
 
     ghost printed = { λ e. printed_toks (tree_of e) };
 
+    /// As `print_expr`, for an expression that stands for itself.
     fn to_tokens(&self, tokens: &mut TokenStream) -> Result<()> {
         print_expr(self, tokens, FixupContext::NONE)
     }
@@ -271,6 +273,7 @@ impl ToTokens for ExprLit {
 
     ghost printed = { λ x. printed_toks (tree_of (ex.Lit x)) };
 
+    /// As the `Expr` of this kind.
     fn to_tokens(&self, tokens: &mut TokenStream) -> Result<()> {
         put_attrs(tokens, &self.attrs)?;
         put_lit(tokens, &self.lit)?;
@@ -286,6 +289,7 @@ impl ToTokens for ExprPath {
 
     ghost printed = { λ x. printed_toks (tree_of (ex.Path x)) };
 
+    /// As the `Expr` of this kind.
     fn to_tokens(&self, tokens: &mut TokenStream) -> Result<()> {
         put_attrs(tokens, &self.attrs)?;
         put_path(tokens, &self.path)?;
@@ -301,6 +305,7 @@ impl ToTokens for ExprParen {
 
     ghost printed = { λ x. printed_toks (tree_of (ex.Paren x)) };
 
+    /// As the `Expr` of this kind.
     fn to_tokens(&self, tokens: &mut TokenStream) -> Result<()> {
         put_attrs(tokens, &self.attrs)?;
         let mut inside = TokenStream::new(tokens.alloc());
@@ -318,6 +323,7 @@ impl ToTokens for ExprUnary {
 
     ghost printed = { λ x. printed_toks (tree_of (ex.Unary x)) };
 
+    /// As the `Expr` of this kind.
     fn to_tokens(&self, tokens: &mut TokenStream) -> Result<()> {
         put_attrs(tokens, &self.attrs)?;
         put(tokens, &self.op)?;
@@ -326,8 +332,8 @@ impl ToTokens for ExprUnary {
     }
 }
 
-#[tactic(auto, using(crate::proofs::Prints::fronts, crate::proofs::Prints::joins))]
 /// Prints the operands of a binary operation that stands for itself, with its operator between.
+#[tactic(auto, using(crate::proofs::Prints::fronts, crate::proofs::Prints::joins))]
 fn print_operands(tokens: &mut TokenStream, x: &ExprBinary) -> Grown
     ensures ok { OnOk result (tokens.new ≡ tokens.old ++ spelled_two next_spec.enclosed (tree_of x.now.left.value) (inf.Binary (bin_kind x.now.op)) (tree_of x.now.right.value)) }
     ensures front { IsFront tokens.old tokens.new }
@@ -357,6 +363,7 @@ impl ToTokens for ExprBinary {
 
     ghost printed = { λ x. printed_toks (tree_of (ex.Binary x)) };
 
+    /// As the `Expr` of this kind.
     fn to_tokens(&self, tokens: &mut TokenStream) -> Result<()> {
         put_attrs(tokens, &self.attrs)?;
         if has_outer(&self.attrs) {

@@ -348,3 +348,34 @@ fn levels_of_expressions(rt: HostRuntime) -> Result<(), Fail> {
     }
     Ok(())
 }
+
+#[test]
+fn tokens_keep_their_places(rt: HostRuntime) -> Result<(), Fail> {
+    let at = |lo, hi| Span { lo, hi };
+    let Expr::Binary(x) = parse_str::<Expr>(rt.alloc(), "a <<= -(true)")? else {
+        panic!(rt; "no operation");
+    };
+    let BinOp::ShlAssign(op) = x.op else {
+        panic!(rt; "another operator");
+    };
+    assert_eq!(rt; op.spans, [at(2, 3), at(3, 4), at(4, 5)]);
+    let Expr::Unary(x) = &*x.right else {
+        panic!(rt; "no sign");
+    };
+    let UnOp::Neg(op) = x.op else {
+        panic!(rt; "another sign");
+    };
+    assert_eq!(rt; op.spans, [at(6, 7)]);
+    let Expr::Paren(x) = &*x.expr else {
+        panic!(rt; "no parentheses");
+    };
+    assert_eq!(rt; x.paren_token.span, at(7, 13));
+    let Expr::Lit(x) = &*x.expr else {
+        panic!(rt; "no literal");
+    };
+    let Lit::Bool(truth) = x.lit else {
+        panic!(rt; "another literal");
+    };
+    assert_eq!(rt; truth.span, at(8, 12));
+    Ok(())
+}

@@ -31,6 +31,7 @@ impl ToTokens for BinOp {
 
     ghost printed = { λ op. tree.bin_toks (bin_kind op) };
 
+    /// Puts the operator's own puncts at the end, all but the last joined.
     fn to_tokens(&self, tokens: &mut TokenStream) -> Result<()> {
         match self {
             BinOp::Add(t) => t.to_tokens(tokens),
@@ -73,6 +74,7 @@ impl ToTokens for UnOp {
 
     ghost printed = { λ op. tree.un_tok (un_kind op) ∷ [] };
 
+    /// Puts the operator's own punct at the end, not joined to the next.
     fn to_tokens(&self, tokens: &mut TokenStream) -> Result<()> {
         match self {
             UnOp::Deref(t) => t.to_tokens(tokens),

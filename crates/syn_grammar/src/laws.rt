@@ -8,7 +8,7 @@ pub fn one_tree()
     ensures { OneTree }
 {}
 
-/// What is read stands, and what stands is read.
+/// What the reading on lists answers stands, and what stands is its answer.
 pub fn reading_is_exact()
     ensures { ReadingIsExact }
 {}
