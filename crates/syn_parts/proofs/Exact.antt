@@ -19,7 +19,7 @@ use Rattle.syn_parts.proofs.Behind.{and_false, nil_calm, type_calm, segments_cal
 use Rattle.syn_parts.proofs.Whole.{parts_read_back}
 use Rattle.syn_parts.proofs.WholeTold.{parts_told}
 
-exact : {A : Type 0} (f : Form A) (own : A → List Tok → List Tok) (fits : A → Bool) (stops : A → Test) → FitsWhereReadBack f own fits stops
+pub exact : {A : Type 0} (f : Form A) (own : A → List Tok → List Tok) (fits : A → Bool) (stops : A → Test) → FitsWhereReadBack f own fits stops
     → ((x : A) (r : List Tok) → fits x ≡ true → stops x r ≡ true → f.behind x (own x r) ≡ Some r) → ((x : A) → stops x [] ≡ true) → IsTestOf f own fits
 exact f own fits stops told back none x = ((λ h. let q = told x [] [] h in q.passes), (λ h. back x [] h (none x)))
 

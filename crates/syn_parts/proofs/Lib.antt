@@ -24,3 +24,5 @@ pub mod TypesTold
 pub mod MoreBack
 pub mod WholeTold
 pub mod Exact
+pub mod PatsTold
+pub mod PatWholeTold

@@ -380,7 +380,7 @@ module _ {k : ℕ} {pattern pattern' : Bool → Form PatTree} (again : (b : Bool
       path_alike)))))))
 
   -- no single pattern has alternatives
-  or_refused : (b : Bool) (ps : Pats) (e : Bool) → Refuses (p.single pattern) (p.alternatives b ps e)
+  pub or_refused : (b : Bool) (ps : Pats) (e : Bool) → Refuses (p.single pattern) (p.alternatives b ps e)
   unfolding p.single p.reference_pat p.round_pat p.slice_pat p.binding p.path_pat
   or_refused b ps e = search (when_refuses, mark_refuses, inside_refuses, shown_refuses, pure_refuses) depth 16
 

@@ -47,7 +47,7 @@ pub record PatCalm (l : List Tok) : Type 0 where
   pub no_at : p.at_sign.at l ≡ false
   pub no_brace : brace_at l ≡ false
 
-nil_pat_calm : PatCalm []
+pub nil_pat_calm : PatCalm []
 unfolding p.bound_at sign_at brace_at group_at
 nil_pat_calm = record { calm = nil_calm; no_bound = refl; no_dots = refl; no_at = refl; no_brace = refl }
 
@@ -74,7 +74,7 @@ module _ (r : List Tok) (c : PatCalm r) where
   no_goes_on : p.goes_on r ≡ false
   no_goes_on = let k = c.calm in rw (k.no_colon2, k.no_bang, c.no_brace, k.no_round, c.no_dots) refl
 
-  bound_calm : (e : Option PatBound) → o.range_bound_stops e r ≡ true
+  pub bound_calm : (e : Option PatBound) → o.range_bound_stops e r ≡ true
   bound_calm None = rw c.no_bound refl
   bound_calm (Some (p.lit_bound x)) = refl
   bound_calm (Some (p.path_bound q z)) = path_calm style.Expr z
@@ -209,7 +209,7 @@ path_bound_seen by_less = refl
 read_back : PartsAreReadBack
 read_back = parts_read_back
 
-bound_back : (b : PatBound) (r : List Tok) → o.range_bound_fits b ≡ true → o.range_bound_stops (Some b) r ≡ true → p.range_bound.behind b (o.range_bound_own b r) ≡ Some r
+pub bound_back : (b : PatBound) (r : List Tok) → o.range_bound_fits b ≡ true → o.range_bound_stops (Some b) r ≡ true → p.range_bound.behind b (o.range_bound_own b r) ≡ Some r
 unfolding p.range_bound
 bound_back (p.lit_bound x) r f s = rw (lit_seen (lit_begins x r f)) (lit_back x r f)
 bound_back (p.path_bound q z) r f s = rw (path_no_lit (path_starts style.Expr q z.leading z.trailing z.segments r f)) (read_back.qualified_paths style.Expr (q, z) r f s)
@@ -218,7 +218,7 @@ bound_seen : (b : PatBound) (r : List Tok) → o.range_bound_fits b ≡ true →
 bound_seen (p.lit_bound x) r f = lit_bound_seen (lit_begins x r f)
 bound_seen (p.path_bound q z) r f = path_bound_seen (path_starts style.Expr q z.leading z.trailing z.segments r f)
 
-limits_back : (c : Bool) (l : List Tok) → p.limits.behind c (o.limits_before c l) ≡ Some l
+pub limits_back : (c : Bool) (l : List Tok) → p.limits.behind c (o.limits_before c l) ≡ Some l
 unfolding p.limits sign_at
 limits_back true l = refl
 limits_back false l = refl
@@ -256,7 +256,7 @@ path_single z (by_word {w = w} h) e = rw (word_not w (codes "_") h not_underscor
 path_single z by_colon2 e = rw e refl
 path_single z by_less e = rw e refl
 
-dots_single : (z : PatTree) (c : Bool) (l : List Tok) → (p.single p.pattern).behind z (o.limits_before c l) ≡ (shown p.to_open p.from_open p.range_end).behind z (o.limits_before c l)
+pub dots_single : (z : PatTree) (c : Bool) (l : List Tok) → (p.single p.pattern).behind z (o.limits_before c l) ≡ (shown p.to_open p.from_open p.range_end).behind z (o.limits_before c l)
 unfolding p.single sign_at word_at group_at
 dots_single z true l = refl
 dots_single z false l = refl
@@ -310,7 +310,7 @@ module _ (r : List Tok) where
 abbrev pub binding_own : Bool → Bool → Text → SubPat → List Tok → List Tok
 binding_own b m w s r = o.word_if b (codes "ref") (o.word_if m (codes "mut") (ident w ∷ o.sub_own s r))
 
-reserved_not : (w text : Text) → is_reserved_word w ≡ false → is_reserved_word text ≡ true → bytes_eq w text ≡ false
+pub reserved_not : (w text : Text) → is_reserved_word w ≡ false → is_reserved_word text ≡ true → bytes_eq w text ≡ false
 reserved_not w text h k = by_bool (bytes_eq w text) refl
   where
     by_bool : (b : Bool) → bytes_eq w text ≡ b → b ≡ false
@@ -325,11 +325,11 @@ r_const : is_reserved_word (codes "const") ≡ true
 unfolding is_reserved_word
 r_const = refl
 
-r_ref : is_reserved_word (codes "ref") ≡ true
+pub r_ref : is_reserved_word (codes "ref") ≡ true
 unfolding is_reserved_word
 r_ref = refl
 
-r_mut : is_reserved_word (codes "mut") ≡ true
+pub r_mut : is_reserved_word (codes "mut") ≡ true
 unfolding is_reserved_word
 r_mut = refl
 
@@ -669,7 +669,7 @@ same_is : (q : Option ℕ) (n : ℕ) → o.same_index q n ≡ true → q ≡ Som
 same_is None n h = absurd cc
 same_is (Some m) n h = let e : m ≡ n = grind (arith, nat_tests, h) in ap Some e
 
-member_back : (k : MemberTree) (l : List Tok) → o.member_fits k ≡ true → p.member.behind k (o.member_own k l) ≡ Some l
+pub member_back : (k : MemberTree) (l : List Tok) → o.member_fits k ≡ true → p.member.behind k (o.member_own k l) ≡ Some l
 unfolding p.member
 member_back (p.a_name w) l h = rw (h, text_same w) refl
 member_back (p.an_index n) l h = let e : n == n ≡ true = grind (arith, nat_tests) in rw (same_is (p.index_of (decimal n)) n h, e) refl
@@ -709,34 +709,34 @@ field_stop (p.full (p.an_index n) z) l = refl
 
 -- ---- lists
 
-field_whole : (k : ℕ) → Alike k (p.field p.pattern) (p.field p.pattern)
+pub field_whole : (k : ℕ) → Alike k (p.field p.pattern) (p.field p.pattern)
 field_whole k = field_alike pattern_alike
 
-single_whole : (k : ℕ) → Alike k (p.single p.pattern) (p.single p.pattern)
+pub single_whole : (k : ℕ) → Alike k (p.single p.pattern) (p.single p.pattern)
 single_whole k = weaker (single_alike {k = k} pattern_alike)
 
-pats_elements : (ps : Pats) (e : Bool) (r : List Tok) → o.pats_own ps e r ≡ elements_own o.pat_own comma_before (p.pats ps) e r
+pub pats_elements : (ps : Pats) (e : Bool) (r : List Tok) → o.pats_own ps e r ≡ elements_own o.pat_own comma_before (p.pats ps) e r
 pats_elements p.no_pats e r = refl
 pats_elements (p.more_pats z p.no_pats) e r = refl
 pats_elements (p.more_pats z (p.more_pats w ps)) e r = ap (λ l. o.pat_own z (comma_before l)) (pats_elements (p.more_pats w ps) e r)
 
-or_elements : (ps : Pats) (r : List Tok) → o.or_own ps false r ≡ elements_own o.pat_own o.vert_before (p.pats ps) false r
+pub or_elements : (ps : Pats) (r : List Tok) → o.or_own ps false r ≡ elements_own o.pat_own o.vert_before (p.pats ps) false r
 or_elements p.no_pats r = refl
 or_elements (p.more_pats z p.no_pats) r = refl
 or_elements (p.more_pats z (p.more_pats w ps)) r = ap (λ l. o.pat_own z (o.vert_before l)) (or_elements (p.more_pats w ps) r)
 
-fields_elements : (fs : Fields) (e : Bool) (r : List Tok) → o.fields_own fs e r ≡ elements_own pat_field_own comma_before (p.fields fs) e r
+pub fields_elements : (fs : Fields) (e : Bool) (r : List Tok) → o.fields_own fs e r ≡ elements_own pat_field_own comma_before (p.fields fs) e r
 fields_elements p.no_fields e r = refl
 fields_elements (p.more_fields a f p.no_fields) e r = refl
 fields_elements (p.more_fields a f (p.more_fields b g fs)) e r = ap (λ l. o.attributes_own a (o.field_own f (comma_before l))) (fields_elements (p.more_fields b g fs) e r)
 
-pats_end : (ps : Pats) (e : Bool) → ends_well (o.no_more_pats ps) e ≡ true → not (is_end (p.pats ps) && e) ≡ true
-pats_end p.no_pats e h = h
-pats_end (p.more_pats z ps) e h = refl
+pub pats_end : (ps : Pats) (e : Bool) → ends_well (o.no_more_pats ps) e ≡ not (is_end (p.pats ps) && e)
+pats_end p.no_pats e = refl
+pats_end (p.more_pats z ps) e = refl
 
-fields_end : (fs : Fields) (e : Bool) → ends_well (o.no_more_fields fs) e ≡ true → not (is_end (p.fields fs) && e) ≡ true
-fields_end p.no_fields e h = h
-fields_end (p.more_fields a f fs) e h = refl
+pub fields_end : (fs : Fields) (e : Bool) → ends_well (o.no_more_fields fs) e ≡ not (is_end (p.fields fs) && e)
+fields_end p.no_fields e = refl
+fields_end (p.more_fields a f fs) e = refl
 
 nil_comma : comma.at [] ≡ false
 unfolding sign_at
@@ -746,7 +746,7 @@ pats_listed : (ps : Pats) (e : Bool) → ends_well (o.no_more_pats ps) e ≡ tru
     → (listed comma is_empty (p.pattern true)).behind (p.pats ps, e) (o.pats_own ps e []) ≡ Some []
 pats_listed ps e h c =
     subst (λ l. (listed comma is_empty (p.pattern true)).behind (p.pats ps, e) l ≡ Some []) (sym (pats_elements ps e []))
-    (listed_back (p.pattern true) o.pat_own is_empty (λ k. pattern_alike true) [] refl nil_comma e (p.pats ps) (pats_end ps e h) c)
+    (listed_back (p.pattern true) o.pat_own is_empty (λ k. pattern_alike true) [] refl nil_comma e (p.pats ps) (sym (pats_end ps e) ∙ h) c)
 
 -- behind the fields stands nothing, or `..`
 abbrev pub fields_rest : Bool → List Tok
@@ -774,7 +774,7 @@ rest_flag true false h = absurd cc
 rest_flag false true h = refl
 rest_flag false false h = refl
 
-none_is : (fs : Fields) → p.none_there (p.fields fs) ≡ o.no_more_fields fs
+pub none_is : (fs : Fields) → p.none_there (p.fields fs) ≡ o.no_more_fields fs
 none_is p.no_fields = refl
 none_is (p.more_fields a f fs) = refl
 
@@ -783,16 +783,16 @@ fields_step : (fs : Fields) (e d : Bool) → ends_well (o.no_more_fields fs) e �
 unfolding p.struct_inside
 fields_step fs e d h g c =
     let i = subst (λ l. (listed comma p.fields_stop (p.field p.pattern)).behind (p.fields fs, e) l ≡ Some (fields_rest d)) (sym (fields_elements fs e (fields_rest d)))
-    (listed_back (p.field p.pattern) pat_field_own p.fields_stop (λ k. field_whole k) (fields_rest d) (rest_stop d) (rest_comma d) e (p.fields fs) (fields_end fs e h) c) in
+    (listed_back (p.field p.pattern) pat_field_own p.fields_stop (λ k. field_whole k) (fields_rest d) (rest_stop d) (rest_comma d) e (p.fields fs) (sym (fields_end fs e) ∙ h) c) in
     rw (i, none_is fs) (rest_flag d (o.no_more_fields fs || e) g)
 
 -- ---- alternatives
 
-single_is : (z : PatTree) (l n : List Tok) → (p.pattern false).behind z l ≡ Some n → (p.single p.pattern).behind z l ≡ Some n
+pub single_is : (z : PatTree) (l n : List Tok) → (p.pattern false).behind z l ≡ Some n → (p.single p.pattern).behind z l ≡ Some n
 unfolding p.at_width
 single_is z l n h = let (a, b) = spelled_by_kind false l z n in a h
 
-is_single : (z : PatTree) (l n : List Tok) → (p.single p.pattern).behind z l ≡ Some n → (p.pattern false).behind z l ≡ Some n
+pub is_single : (z : PatTree) (l n : List Tok) → (p.single p.pattern).behind z l ≡ Some n → (p.pattern false).behind z l ≡ Some n
 unfolding p.at_width
 is_single z l n h = let (a, b) = spelled_by_kind false l z n in b h
 
@@ -804,7 +804,7 @@ abbrev pub is_or : PatTree → Bool
 is_or (p.alternatives l ps e) = true
 is_or _ = false
 
-from_single : (z : PatTree) → is_or z ≡ false → p.from_or z ≡ Some (false, z ∷ [])
+pub from_single : (z : PatTree) → is_or z ≡ false → p.from_or z ≡ Some (false, z ∷ [])
 from_single (p.alternatives l ps e) h = absurd cc
 from_single _ h = refl
 
@@ -825,7 +825,7 @@ or_by_is false p.no_pats h k = refl
 or_by_is false (p.more_pats z p.no_pats) h k = absurd cc
 or_by_is false (p.more_pats z (p.more_pats w ps)) h k = refl
 
-vert_seen : (l : List Tok) → p.vert.at (o.vert_before l) ≡ true
+pub vert_seen : (l : List Tok) → p.vert.at (o.vert_before l) ≡ true
 unfolding sign_at
 vert_seen l = refl
 
@@ -967,12 +967,12 @@ tuple_is (p.more_pats z (p.more_pats w ps)) e h = refl
 paren_is : (z : PatTree) → not (p.is_rest z) ≡ true → p.from_round (p.a_paren z) ≡ Some (z ∷ [], false)
 paren_is z h = rw (not_true (p.is_rest z) h) refl
 
-record Ends (l : List Tok) : Type 0 where
+pub record Ends (l : List Tok) : Type 0 where
   calm : PatCalm l
   no_vert : p.vert.at l ≡ false
   no_colon : colon.at l ≡ false
 
-nil_ends : Ends []
+pub nil_ends : Ends []
 unfolding sign_at
 nil_ends = record { calm = nil_pat_calm; no_vert = refl; no_colon = refl }
 
@@ -991,7 +991,7 @@ field_ends p.no_fields false true h = absurd cc
 field_ends p.no_fields false false h = nil_ends
 field_ends (p.more_fields a f fs) e d h = comma_ends _
 
-stops_ends : (b : Bool) (z : PatTree) (l : List Tok) → Ends l → o.pat_stops b z l ≡ true
+pub stops_ends : (b : Bool) (z : PatTree) (l : List Tok) → Ends l → o.pat_stops b z l ≡ true
 stops_ends true z l q = rw (single_calm l q.calm z, q.no_vert) refl
 stops_ends false z l q = rw (single_calm l q.calm z) refl
 

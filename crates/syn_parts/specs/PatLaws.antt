@@ -1,9 +1,10 @@
 -- What is true of patterns.
 use Rattle.std.specs.Prelude.{◌≡◌, Bool, true, ◌↔◌, List, Some}
 use Rattle.syn_tokens.specs.Tok.{Tok}
-use Rattle.syn_parts.specs.Pat.{PatTree, member, range_bound, pattern, closure_arg, at_width, SpellsPat}
-use Rattle.syn_parts.specs.PatOwn.{pat_own, pat_fits, pat_stops}
-use Rattle.syn_parts.specs.Laws.{IsExact}
+use Rattle.syn_parts.specs.Pat.{MemberTree, PatBound, PatTree, member, range_bound, pattern, closure_arg, at_width, SpellsPat}
+use Rattle.syn_parts.specs.PatOwn.{member_own, range_bound_own, pat_own, member_fits, range_bound_fits, range_bound_stops, pat_fits, pat_stops}
+use Rattle.syn_parts.specs.Fits.{closed}
+use Rattle.syn_parts.specs.Laws.{IsExact, FitsWhereReadBack, IsTestOf}
 
 -- Each is read exactly where its tokens stand; a pattern with alternatives where `several` holds, else a single one.
 pub record PatternsAreExact : Type 0 where
@@ -20,6 +21,20 @@ PatternsAreSpelledByKind = (several : Bool) (l : List Tok) (p : PatTree) (n : Li
 abbrev pub OnePattern : Type 0
 OnePattern = (several : Bool) (l : List Tok) (x y : PatTree) (m n : List Tok) → SpellsPat several l x m → SpellsPat several l y n → (x ≡ y) × (m ≡ n)
 
--- What passes the test and is printed is read back as the same pattern, whatever stands behind that doesn't go on with it.
-abbrev pub PatternsAreReadBack : Type 0
-PatternsAreReadBack = (several : Bool) (p : PatTree) (n : List Tok) → pat_fits several p ≡ true → pat_stops several p n ≡ true → SpellsPat several (pat_own p n) p n
+-- What passes the test and is printed is read back as the same part, whatever stands behind that doesn't go on with it.
+pub record PatternsAreReadBack : Type 0 where
+  pub members : (k : MemberTree) (rest : List Tok) → member_fits k ≡ true → member.behind k (member_own k rest) ≡ Some rest
+  pub bounds_of_ranges : (b : PatBound) (rest : List Tok) → range_bound_fits b ≡ true → range_bound_stops (Some b) rest ≡ true → range_bound.behind b (range_bound_own b rest) ≡ Some rest
+  pub patterns : (several : Bool) (p : PatTree) (rest : List Tok) → pat_fits several p ≡ true → pat_stops several p rest ≡ true → SpellsPat several (pat_own p rest) p rest
+
+-- Nothing else is read back: the tests of the law above leave nothing out.
+pub record PatternsThatAreReadBackFit : Type 0 where
+  pub members : FitsWhereReadBack member member_own member_fits closed
+  pub bounds_of_ranges : FitsWhereReadBack range_bound range_bound_own range_bound_fits (λ b. range_bound_stops (Some b))
+  pub patterns : (several : Bool) → FitsWhereReadBack (pattern several) pat_own (pat_fits several) (pat_stops several)
+
+-- Each is read back in its place, from its own tokens with nothing behind them, exactly where it passes its test.
+pub record PatternTestsAreExact : Type 0 where
+  pub members : IsTestOf member member_own member_fits
+  pub bounds_of_ranges : IsTestOf range_bound range_bound_own range_bound_fits
+  pub patterns : (several : Bool) → IsTestOf (pattern several) pat_own (pat_fits several)

@@ -56,6 +56,17 @@ pub fn patterns_are_read_back()
     ensures { pat.PatternsAreReadBack }
 {}
 
+/// Nothing but what passes its test is read back: where the own tokens of a pattern, and any behind them, are read as
+/// that pattern, it passes its test, and the tokens behind don't go on with it and are what is left.
+pub fn patterns_that_are_read_back_fit()
+    ensures { pat.PatternsThatAreReadBackFit }
+{}
+
+/// A pattern is read back in its place, from its own tokens with nothing behind them, exactly where it passes its test.
+pub fn pattern_tests_are_exact()
+    ensures { pat.PatternTestsAreExact }
+{}
+
 /// Types and paths that are easily read wrongly, as the Rust Reference has them.
 pub fn type_samples()
     ensures { sample.TypeSamples }

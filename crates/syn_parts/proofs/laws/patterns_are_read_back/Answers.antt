@@ -1,5 +1,5 @@
-use Rattle.syn_parts.proofs.PatsBack.{pat_back}
+use Rattle.syn_parts.proofs.PatWholeTold.{patterns_read_back}
 use Rattle.syn_parts.proofs.laws.patterns_are_read_back.Goals as goal
 
 pub returns : goal.returns
-returns c = pat_back
+returns c = patterns_read_back

@@ -1,0 +1,5 @@
+use Rattle.syn_parts.proofs.PatWholeTold.{patterns_told}
+use Rattle.syn_parts.proofs.laws.patterns_that_are_read_back_fit.Goals as goal
+
+pub returns : goal.returns
+returns c = patterns_told
