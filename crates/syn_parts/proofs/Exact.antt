@@ -29,7 +29,7 @@ back = parts_read_back
 told : PartsThatAreReadBackFit
 told = parts_told
 
-type_none : (b : Bool) (x : TypeTree) → type_stops b x [] ≡ true
+pub type_none : (b : Bool) (x : TypeTree) → type_stops b x [] ≡ true
 unfolding sign_at
 type_none b x = type_calm [] nil_calm b x (and_false b)
 

@@ -15,13 +15,13 @@ use Rattle.syn_parts.specs.declared.label.PathStyle.TheVariants as style
 use Rattle.syn_parts.specs.Text.{Text, is_segment, is_truth, is_number, number_kind, kind_of, stands_alone}
 use Rattle.syn_parts.specs.Same.{same_kind}
 use Rattle.syn_parts.specs.Tree as t
-use Rattle.syn_parts.specs.Tree.{LitTree, AttributeTree, PathTree, SegmentTree, QSelfTree, Segments, ArgumentsTree}
+use Rattle.syn_parts.specs.Tree.{LitTree, AttributeTree, PathTree, SegmentTree, QSelfTree, Segments, ArgumentsTree, TypeTree}
 use Rattle.syn_parts.specs.Form.{Form, Mark, flag, mark, maybe, pure, listed, joined, more, when, shown, both}
 use Rattle.syn_parts.specs.Form as form
 use Rattle.syn_parts.specs.Mark.{underscore, pound, sign_at, word_at, brace_at, round_at, comma, colon, colon2, not_ne, mutable}
 use Rattle.syn_parts.specs.Part.{angle_at, turbofish_at, lit, is_lit_there, qpath, type, MacroTree, has_none, segments_bare, outer_attributes, outer_body}
-use Rattle.syn_parts.specs.Own.{block_own, alone, before_if, before_some, comma_before, colon2_before, enclosed, is_end, separated, elements_own, lit_own, number_own, attribute_own, path_own, qualified_own, macro_own, segments_own, arguments_own, no_more_segments}
-use Rattle.syn_parts.specs.Fits.{lit_fits, number_fits, has_kind, path_fits, path_stops, qpath_fits, is_macro_delimiter, ends_well, segments_fit, segments_stop, arguments_fit, arguments_stop, goes_over}
+use Rattle.syn_parts.specs.Own.{type_own, block_own, alone, before_if, before_some, comma_before, colon2_before, enclosed, is_end, separated, elements_own, lit_own, number_own, attribute_own, path_own, qualified_own, macro_own, segments_own, arguments_own, no_more_segments}
+use Rattle.syn_parts.specs.Fits.{fits_if, type_fits, lit_fits, number_fits, has_kind, path_fits, path_stops, qpath_fits, is_macro_delimiter, ends_well, segments_fit, segments_stop, arguments_fit, arguments_stop, goes_over}
 use Rattle.syn_parts.specs.Laws.{PartsAreReadBack}
 use Rattle.syn_parts.specs.Pat as p
 use Rattle.syn_parts.specs.Pat.{MemberTree, PatBound, PatTree, SubPat, Pats, Fields, FieldTree, FieldPatTree}
@@ -30,7 +30,7 @@ use Rattle.syn_parts.proofs.Same.{both_true}
 use Rattle.syn_parts.proofs.ReadBack.{Commas, no_element, element, Joins, no_join, join, next_own, listed_back, joined_back, kept_bracket_back, not_true, text_same, name_back, lit_back, block_back}
 use Rattle.syn_parts.proofs.Behind.{Calm, nil_calm, comma_calm, or_true, segments_calm}
 use Rattle.syn_parts.proofs.Fronts.{word_not, no_truth, not_mut, not_underscore}
-use Rattle.syn_parts.proofs.TypesBack.{group_back}
+use Rattle.syn_parts.proofs.TypesBack.{group_back, type_back}
 use Rattle.syn_parts.proofs.Whole.{parts_read_back}
 use Rattle.syn_parts.proofs.PatWhole.{spelled_by_kind}
 use Rattle.syn_parts.proofs.Marks.{pound_present}
@@ -639,7 +639,7 @@ attribute_step a more' l m h i = by_style a.inner a.tokens h
     by_style true ts e = absurd cc
     by_style false ts e = more_stands pound outer_body pound_present (λ k. outer_body_alike) (record { inner = false; tokens = ts } ∷ more') _ m (rw (kept_bracket_back ts l) i)
 
-attributes_back : (xs : List AttributeTree) (l : List Tok) → o.attributes_outer xs ≡ true → pound.at l ≡ false → outer_attributes.behind xs (o.attributes_own xs l) ≡ Some l
+pub attributes_back : (xs : List AttributeTree) (l : List Tok) → o.attributes_outer xs ≡ true → pound.at l ≡ false → outer_attributes.behind xs (o.attributes_own xs l) ≡ Some l
 unfolding outer_attributes
 attributes_back [] l f h = more_stands pound outer_body pound_present (λ k. outer_body_alike) [] l l (rw h refl)
 attributes_back (a ∷ xs) l f h =
@@ -855,8 +855,9 @@ sub_go z r = refl
 
 -- ---- the first token of a pattern
 
-record PatFront (z : PatTree) (l : List Tok) : Type 0 where
+pub record PatFront (z : PatTree) (l : List Tok) : Type 0 where
   some : is_empty l ≡ false
+  pub no_pound : pound.at l ≡ false
   no_vert : p.vert.at l ≡ false
   no_mut : o.begins_mut z ≡ false → mutable.at l ≡ false
 
@@ -865,20 +866,20 @@ truth_no_mut = no_truth_mut
 
 lit_front : (z : PatTree) {l : List Tok} → LitBegins l → PatFront z l
 unfolding sign_at word_at
-lit_front z (lit_word {w = w} h) = record { some = refl; no_vert = refl; no_mut = λ e. truth_is w (codes "mut") h truth_no_mut }
-lit_front z lit_plain = record { some = refl; no_vert = refl; no_mut = λ e. refl }
-lit_front z (lit_minus h) = record { some = refl; no_vert = refl; no_mut = λ e. refl }
+lit_front z (lit_word {w = w} h) = record { some = refl; no_pound = refl; no_vert = refl; no_mut = λ e. truth_is w (codes "mut") h truth_no_mut }
+lit_front z lit_plain = record { some = refl; no_pound = refl; no_vert = refl; no_mut = λ e. refl }
+lit_front z (lit_minus h) = record { some = refl; no_pound = refl; no_vert = refl; no_mut = λ e. refl }
 
 path_front : (z : PatTree) {l : List Tok} → PathBegins l → PatFront z l
 unfolding sign_at word_at
-path_front z (by_word {w = w} h) = record { some = refl; no_vert = refl; no_mut = λ e. word_not w (codes "mut") h not_mut }
-path_front z by_colon2 = record { some = refl; no_vert = refl; no_mut = λ e. refl }
-path_front z by_less = record { some = refl; no_vert = refl; no_mut = λ e. refl }
+path_front z (by_word {w = w} h) = record { some = refl; no_pound = refl; no_vert = refl; no_mut = λ e. word_not w (codes "mut") h not_mut }
+path_front z by_colon2 = record { some = refl; no_pound = refl; no_vert = refl; no_mut = λ e. refl }
+path_front z by_less = record { some = refl; no_pound = refl; no_vert = refl; no_mut = λ e. refl }
 
 limits_front : (z : PatTree) (c : Bool) (l : List Tok) → PatFront z (o.limits_before c l)
 unfolding sign_at word_at
-limits_front z true l = record { some = refl; no_vert = refl; no_mut = λ e. refl }
-limits_front z false l = record { some = refl; no_vert = refl; no_mut = λ e. refl }
+limits_front z true l = record { some = refl; no_pound = refl; no_vert = refl; no_mut = λ e. refl }
+limits_front z false l = record { some = refl; no_pound = refl; no_vert = refl; no_mut = λ e. refl }
 
 bound_front : (z : PatTree) (b : PatBound) (l : List Tok) → o.range_bound_fits b ≡ true → PatFront z (o.range_bound_own b l)
 bound_front z (p.lit_bound x) l f = lit_front z (lit_begins x l f)
@@ -891,34 +892,34 @@ range_front z (Some b) true e l f = let (g, h) = both_true (o.range_bound_fits b
 
 binding_front : (b m : Bool) (w : Text) (s : SubPat) (r : List Tok) → is_reserved_word w ≡ false → PatFront (p.a_binding b m w s) (binding_own b m w s r)
 unfolding sign_at word_at
-binding_front true m w s r h = record { some = refl; no_vert = refl; no_mut = λ e. refl }
-binding_front false true w s r h = record { some = refl; no_vert = refl; no_mut = λ e. absurd cc }
-binding_front false false w s r h = record { some = refl; no_vert = refl; no_mut = λ e. reserved_not w (codes "mut") h r_mut }
+binding_front true m w s r h = record { some = refl; no_pound = refl; no_vert = refl; no_mut = λ e. refl }
+binding_front false true w s r h = record { some = refl; no_pound = refl; no_vert = refl; no_mut = λ e. absurd cc }
+binding_front false false w s r h = record { some = refl; no_pound = refl; no_vert = refl; no_mut = λ e. reserved_not w (codes "mut") h r_mut }
 
-sign_first : (z : PatTree) (c : ℕ) (l : List Tok) → (c == 124) ≡ false → PatFront z (alone c ∷ l)
+sign_first : (z : PatTree) (c : ℕ) (l : List Tok) → (c == 124) ≡ false → (c == 35) ≡ false → PatFront z (alone c ∷ l)
 unfolding sign_at word_at
-sign_first z c l h = record { some = refl; no_vert = rw h refl; no_mut = λ e. refl }
+sign_first z c l h k = record { some = refl; no_pound = rw k refl; no_vert = rw h refl; no_mut = λ e. refl }
 
 group_first : (z : PatTree) (ts l : List Tok) → PatFront z (enclosed del.Parenthesis ts l)
 unfolding sign_at word_at
-group_first z ts l = record { some = refl; no_vert = refl; no_mut = λ e. refl }
+group_first z ts l = record { some = refl; no_pound = refl; no_vert = refl; no_mut = λ e. refl }
 
 bracket_first : (z : PatTree) (ts l : List Tok) → PatFront z (enclosed del.Bracket ts l)
 unfolding sign_at word_at
-bracket_first z ts l = record { some = refl; no_vert = refl; no_mut = λ e. refl }
+bracket_first z ts l = record { some = refl; no_pound = refl; no_vert = refl; no_mut = λ e. refl }
 
 wild_first : (l : List Tok) → PatFront p.wild (ident (codes "_") ∷ l)
 unfolding sign_at word_at
-wild_first l = record { some = refl; no_vert = refl; no_mut = λ e. refl }
+wild_first l = record { some = refl; no_pound = refl; no_vert = refl; no_mut = λ e. refl }
 
 const_first : (ts l : List Tok) → PatFront (p.a_block ts) (ident (codes "const") ∷ l)
 unfolding sign_at word_at
-const_first ts l = record { some = refl; no_vert = refl; no_mut = λ e. refl }
+const_first ts l = record { some = refl; no_pound = refl; no_vert = refl; no_mut = λ e. refl }
 
 bare_begins : (z : PathTree) (l : List Tok) → path_fits style.Expr z ≡ true → PathBegins (path_own z l)
 bare_begins z l f = path_starts style.Expr t.no_qself z.leading z.trailing z.segments l f
 
-pat_first : (b : Bool) (z : PatTree) (r : List Tok) → is_or z ≡ false → o.pat_fits b z ≡ true → PatFront z (o.pat_own z r)
+pub pat_first : (b : Bool) (z : PatTree) (r : List Tok) → is_or z ≡ false → o.pat_fits b z ≡ true → PatFront z (o.pat_own z r)
 pat_first b p.wild r h f = wild_first r
 pat_first b p.rest r h f = limits_front p.rest false r
 pat_first b (p.range s c e) r h f = range_front (p.range s c e) s c e _ f
@@ -931,12 +932,12 @@ pat_first b (p.tuple_struct z ps e) r h f = let (g, i) = both_true (path_fits st
 pat_first b (p.a_tuple ps e) r h f = group_first (p.a_tuple ps e) _ r
 pat_first b (p.a_paren z) r h f = group_first (p.a_paren z) _ r
 pat_first b (p.a_slice ps e) r h f = bracket_first (p.a_slice ps e) _ r
-pat_first b (p.a_reference m z) r h f = sign_first (p.a_reference m z) 38 _ refl
+pat_first b (p.a_reference m z) r h f = sign_first (p.a_reference m z) 38 _ refl refl
 pat_first b (p.a_block ts) r h f = const_first ts _
 pat_first b (p.alternatives l ps e) r h f = absurd cc
 
 -- alternatives have none inside
-single_fits : (z : PatTree) → o.pat_fits false z ≡ true → is_or z ≡ false
+pub single_fits : (z : PatTree) → o.pat_fits false z ≡ true → is_or z ≡ false
 single_fits (p.alternatives l ps e) f = absurd cc
 single_fits _ f = refl
 
@@ -1090,7 +1091,7 @@ mutual
       let (u, v) = both_true (o.single_stops z r) _ s in
       let (g, h) = both_true (o.pat_fits false z) (m || not (o.begins_mut z)) f in
       let i = pat_first false z r (single_fits z g) g in
-      let j = sign_first (p.a_reference m z) 38 (o.word_if m (codes "mut") (o.pat_own z r)) refl in
+      let j = sign_first (p.a_reference m z) 38 (o.word_if m (codes "mut") (o.pat_own z r)) refl refl in
       as_width b (p.a_reference m z) _ r refl j.no_vert v (reference_step r m z (o.pat_own z r) h i.no_mut (pat_back false z r g (single_stop z r u)))
   pat_back b (p.a_block ts) r f s =
       let (u, v) = both_true true _ s in
@@ -1138,3 +1139,32 @@ mutual
       let (u, v) = both_true (o.member_fits n) (o.pat_fits true z) j in
       let q = field_ends fs e d (h refl) in
       element (full_step a n z _ _ g u (pat_back true z _ v (stops_ends true z _ q))) (attributes_stop a _ (field_stop (p.full n z) _)) (fields_commas e d fs k (λ x. h refl))
+
+-- ---- arguments of closures
+
+colon_calm : (l : List Tok) → Calm (alone 58 ∷ l)
+unfolding angle_at turbofish_at round_at sign_at group_at
+colon_calm l = record { no_angle = refl; no_round = refl; no_colon2 = refl; no_arrow = refl; no_bang = refl; no_turbofish = refl }
+
+colon_pat_calm : (l : List Tok) → PatCalm (alone 58 ∷ l)
+unfolding p.bound_at sign_at brace_at group_at
+colon_pat_calm l = record { calm = colon_calm l; no_bound = refl; no_dots = refl; no_at = refl; no_brace = refl }
+
+type_piece : (y : Option TypeTree) (z : PatTree) (r : List Tok) → fits_if (type_fits true) y ≡ true → o.closure_arg_stops_by z y r ≡ true
+    → (maybe colon.at (mark colon (type true))).behind y (before_some y (λ x l. alone 58 ∷ type_own x l) r) ≡ Some r
+unfolding sign_at
+type_piece None z r f s = let (u, v) = both_true (o.pat_stops false z r) (not (colon.at r)) s in rw (not_true (colon.at r) v) refl
+type_piece (Some x) z r f s = type_back true x r f s
+
+pat_ends : (y : Option TypeTree) (z : PatTree) (r : List Tok) → o.closure_arg_stops_by z y r ≡ true → o.pat_stops false z (before_some y (λ x l. alone 58 ∷ type_own x l) r) ≡ true
+pat_ends None z r s = let (u, v) = both_true (o.pat_stops false z r) (not (colon.at r)) s in u
+pat_ends (Some x) z r s = single_stop z (alone 58 ∷ type_own x r) (single_calm (alone 58 ∷ type_own x r) (colon_pat_calm (type_own x r)) z)
+
+pub closure_arg_back : (a : p.ClosureArgTree) (r : List Tok) → o.closure_arg_fits a ≡ true → o.closure_arg_stops a r ≡ true → p.closure_arg.behind a (o.closure_arg_own a r) ≡ Some r
+unfolding p.closure_arg
+closure_arg_back a r f s =
+    let (g, h) = both_true (o.attributes_outer a.attrs) _ f in
+    let (i, j) = both_true (o.pat_fits false a.pat) (fits_if (type_fits true) a.ty) h in
+    let k = before_some a.ty (λ x l. alone 58 ∷ type_own x l) r in
+    let m = pat_first false a.pat k (single_fits a.pat i) i in
+    rw (attributes_back a.attrs (o.pat_own a.pat k) g m.no_pound, pat_back false a.pat k i (pat_ends a.ty a.pat r s), type_piece a.ty a.pat r j s) refl

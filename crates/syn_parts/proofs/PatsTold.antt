@@ -12,12 +12,12 @@ use Rattle.syn_tokens.specs.Front.{group_at, is_empty}
 use Rattle.syn_parts.specs.declared.label.PathStyle.TheVariants as style
 use Rattle.syn_parts.specs.Text.{Text}
 use Rattle.syn_parts.specs.Tree as t
-use Rattle.syn_parts.specs.Tree.{LitTree, AttributeTree, PathTree, SegmentTree, QSelfTree, ArgumentsTree}
+use Rattle.syn_parts.specs.Tree.{TypeTree, LitTree, AttributeTree, PathTree, SegmentTree, QSelfTree, ArgumentsTree}
 use Rattle.syn_parts.specs.Form.{Form, Mark, Test, flag, mark, maybe, pure, listed, joined, more, when, case, group_case, then_by, shown, both, seen, if_same}
 use Rattle.syn_parts.specs.Form as form
 use Rattle.syn_parts.specs.Mark.{underscore, constant, pound, sign_at, word_at, brace_at, round_at, comma, colon, colon2, not_ne, mutable, and}
 use Rattle.syn_parts.specs.Part.{lit, name, block, qpath, type, QPathTree, MacroTree, has_none, segments_bare, is_bare, any_group, outer_attributes, outer_body}
-use Rattle.syn_parts.specs.Own.{alone, before_if, before_some, comma_before, enclosed, block_own, is_end, elements_own, lit_own, attribute_own, path_own, qualified_own, macro_own, arguments_own}
+use Rattle.syn_parts.specs.Own.{type_own, alone, before_if, before_some, comma_before, enclosed, block_own, is_end, elements_own, lit_own, attribute_own, path_own, qualified_own, macro_own, arguments_own}
 use Rattle.syn_parts.specs.Fits.{lit_fits, path_fits, path_stops, qpath_fits, is_macro_delimiter, ends_well, segments_stop}
 use Rattle.syn_parts.specs.Laws.{Fitted, PartsThatAreReadBackFit}
 use Rattle.syn_parts.specs.Pat as p
@@ -33,7 +33,7 @@ use Rattle.syn_parts.proofs.Parts.{outer_body_alike}
 use Rattle.syn_parts.proofs.Pats.{pattern_alike, vert_present, or_refused}
 use Rattle.syn_parts.proofs.PatWhole.{spelled_by_kind}
 use Rattle.syn_parts.proofs.PatsBack.{limits_back, dots_single, binding_own, reserved_not, r_ref, r_mut, none_is, fields_rest, pat_field_own, single_is, is_single, is_or, from_single, vert_seen, field_whole, single_whole, pats_elements, or_elements, fields_elements, pats_end, fields_end}
-use Rattle.syn_parts.proofs.Told.{after, first_only, second_only, maybe_none, maybe_some, flag_left, inside_tells, Told, none_told, told, Fitting, fit, listed_tells, joined_tells}
+use Rattle.syn_parts.proofs.Told.{after, first_only, second_only, maybe_none, maybe_some, flag_left, mark_tells, inside_tells, Told, none_told, told, Fitting, fit, listed_tells, joined_tells}
 use Rattle.syn_parts.proofs.SimpleTold.{name_told, lit_told, group_told}
 use Rattle.syn_parts.proofs.WholeTold.{parts_told}
 
@@ -695,3 +695,28 @@ mutual
       let (u, v, i) = full_told a k z (o.pat_own z r) n h in
       let q = pat_told true z r n i in
       record { passes = rw (u, v) q.passes; ends = refl; same = q.same }) (all_fields_told fs)
+
+-- ---- arguments of closures
+
+pub closure_arg_told : (a : p.ClosureArgTree) (r n : List Tok) → p.closure_arg.behind a (o.closure_arg_own a r) ≡ Some n → Fitted (o.closure_arg_fits a) (o.closure_arg_stops a r) r n
+unfolding p.closure_arg
+closure_arg_told a r n h =
+    let k = before_some a.ty (λ x l. alone 58 ∷ type_own x l) r in
+    let m = o.pat_own a.pat k in
+    let (i, j) = after outer_attributes (λ y. both (p.pattern false) (maybe colon.at (mark colon (type true)))) a.attrs (a.pat, a.ty) (o.attributes_own a.attrs m) m n (λ x d. let (u, v) = attributes_told a.attrs m x d in v) h in
+    let (u, v) = attributes_told a.attrs m m i in
+    let (e, f) = after (p.pattern false) (λ y. maybe colon.at (mark colon (type true))) a.pat a.ty m k n (λ x d. let q = pat_told false a.pat k x d in q.same) j in
+    let q = pat_told false a.pat k k e in
+    by_type a.attrs a.pat a.ty u q.passes q.ends f
+  where
+    by_type : (xs : List AttributeTree) (z : PatTree) (y : Option TypeTree) → o.attributes_outer xs ≡ true → o.pat_fits false z ≡ true → o.pat_stops false z (before_some y (λ x l. alone 58 ∷ type_own x l) r) ≡ true
+        → (maybe colon.at (mark colon (type true))).behind y (before_some y (λ x l. alone 58 ∷ type_own x l) r) ≡ Some n
+        → Fitted (o.closure_arg_fits (record { attrs = xs; pat = z; ty = y })) (o.closure_arg_stops (record { attrs = xs; pat = z; ty = y }) r) r n
+    by_type xs z None u f s h =
+        let (a, e) = maybe_none colon.at (mark colon (type true)) r n h in
+        record { passes = rw (u, f) refl; ends = rw (s, a) refl; same = e }
+    by_type xs z (Some x) u f s h =
+        let (a, e) = maybe_some colon.at (mark colon (type true)) x (alone 58 ∷ type_own x r) n h in
+        let (c, d) = mark_tells colon (type true) x (alone 58 ∷ type_own x r) n e in
+        let q = lower.types true x r n d in
+        record { passes = rw (u, f) q.passes; ends = q.ends; same = q.same }

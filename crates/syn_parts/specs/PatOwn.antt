@@ -7,13 +7,13 @@ use Rattle.syn_tokens.specs.Tok.{Tok, ident, literal}
 use Rattle.syn_parts.specs.declared.label.PathStyle.TheVariants as style
 use Rattle.syn_parts.specs.Text.{Text}
 use Rattle.syn_parts.specs.Tree as t
-use Rattle.syn_parts.specs.Tree.{AttributeTree, PathTree, SegmentTree, QSelfTree}
+use Rattle.syn_parts.specs.Tree.{AttributeTree, PathTree, SegmentTree, QSelfTree, TypeTree}
 use Rattle.syn_parts.specs.Form.{Test}
-use Rattle.syn_parts.specs.Mark.{brace_at, round_at, not_ne}
+use Rattle.syn_parts.specs.Mark.{colon, brace_at, round_at, not_ne}
 use Rattle.syn_parts.specs.Part.{has_none, segments_bare}
-use Rattle.syn_parts.specs.Own.{alone, joint, before_if, before_some, comma_before, enclosed, separated, lit_own, attribute_own, path_own, qualified_own, macro_own}
-use Rattle.syn_parts.specs.Fits.{lit_fits, path_fits, path_stops, qpath_fits, is_macro_delimiter, ends_well}
-use Rattle.syn_parts.specs.Pat.{MemberTree, a_name, an_index, index_of, PatBound, lit_bound, path_bound, PatTree, SubPat, Pats, Fields, FieldTree, wild, rest, range, a_lit, a_binding, a_path, a_mac, a_struct, tuple_struct, a_tuple, a_paren, a_slice, a_reference, a_block, alternatives, no_sub, sub, no_pats, more_pats, no_fields, more_fields, short, full, is_rest, bound_at, dots, at_sign, vert, goes_on}
+use Rattle.syn_parts.specs.Own.{alone, joint, before_if, before_some, comma_before, enclosed, separated, lit_own, attribute_own, path_own, qualified_own, macro_own, type_own}
+use Rattle.syn_parts.specs.Fits.{fits_if, type_fits, type_stops, lit_fits, path_fits, path_stops, qpath_fits, is_macro_delimiter, ends_well}
+use Rattle.syn_parts.specs.Pat.{MemberTree, a_name, an_index, index_of, PatBound, lit_bound, path_bound, PatTree, SubPat, Pats, Fields, FieldTree, wild, rest, range, a_lit, a_binding, a_path, a_mac, a_struct, tuple_struct, a_tuple, a_paren, a_slice, a_reference, a_block, alternatives, no_sub, sub, no_pats, more_pats, no_fields, more_fields, short, full, is_rest, bound_at, dots, at_sign, vert, goes_on, ClosureArgTree}
 
 -- ---- own tokens; an index in plain decimal, a closed range with `..=`
 
@@ -212,3 +212,18 @@ abbrev mutual
   pub field_fits : FieldTree → Bool
   field_fits (short b m w) = not (is_reserved_word w)
   field_fits (full k p) = member_fits k && pat_fits true p
+
+-- ---- arguments of closures: attributes, a single pattern, and perhaps `:` and a type
+
+abbrev pub closure_arg_own : ClosureArgTree → List Tok → List Tok
+closure_arg_own a r = attributes_own a.attrs (pat_own a.pat (before_some a.ty (λ x l. alone 58 ∷ type_own x l) r))
+
+abbrev pub closure_arg_fits : ClosureArgTree → Bool
+closure_arg_fits a = attributes_outer a.attrs && (pat_fits false a.pat && fits_if (type_fits true) a.ty)
+
+abbrev pub closure_arg_stops_by : PatTree → Option TypeTree → Test
+closure_arg_stops_by p None r = pat_stops false p r && not (colon.at r)
+closure_arg_stops_by p (Some x) r = type_stops true x r
+
+abbrev pub closure_arg_stops : ClosureArgTree → Test
+closure_arg_stops a r = closure_arg_stops_by a.pat a.ty r
