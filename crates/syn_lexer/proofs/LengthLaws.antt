@@ -163,9 +163,9 @@ number_within z some =
 
 -- ---- quotes
 
-closed_within : (z : Text) (opening : ℕ) (rest : Option ℕ) → IsPart z opening → IfSome rest (λ m. m ≤ length (drop opening z)) → IsShort z (quotes.closed z opening rest)
-closed_within z opening None part le = tt
-closed_within z opening (Some m) part le = literal_within z (opening + m) (omega arith, omega (arith, length-drop opening z))
+closed_within : (z : Text) (opening : ℕ) (rest : Option ℕ) (refused : ℕ) → IsPart z opening → IfSome rest (λ m. m ≤ length (drop opening z)) → IsShort z (quotes.closed z opening rest refused)
+closed_within z opening None refused part le = tt
+closed_within z opening (Some m) refused part le = literal_within z (opening + m) (omega arith, omega (arith, length-drop opening z))
 
 string_rest_within : (is_escaped : Bool) (n : ℕ) (z : Text) → IfSome (quotes.string_rest is_escaped n z) (λ m. m ≤ n + length z)
 string_rest_within is_escaped n [] = tt
@@ -195,7 +195,7 @@ string_opening_within z is =
 
 string_within : (z : Text) → quotes.begins_string z ≡ true → IsShort z (quotes.string z)
 string_within z is =
-    closed_within z (quotes.string_opening_len z) _ (string_opening_within z is)
+    closed_within z (quotes.string_opening_len z) _ _ (string_opening_within z is)
     (behind_opening _ _ (string_rest_within false 0 (drop (quotes.string_opening_len z) z)))
 
 raw_string_opening_within : (z : Text) → quotes.begins_raw_string z ≡ true → IsPart z (quotes.raw_string_opening_len z)
@@ -207,7 +207,7 @@ raw_string_opening_within z is =
 
 raw_string_within : (z : Text) → quotes.begins_raw_string z ≡ true → IsShort z (quotes.raw_string z)
 raw_string_within z is =
-    closed_within z (quotes.raw_string_opening_len z) _ (raw_string_opening_within z is)
+    closed_within z (quotes.raw_string_opening_len z) _ _ (raw_string_opening_within z is)
     (behind_opening _ _ (raw_string_rest_within (quotes.raw_string_hashes z) 0 (drop (quotes.raw_string_opening_len z) z)))
 
 -- a character that is not U+0000 stands in the text
@@ -224,12 +224,12 @@ character_rest_within z =
     (λ _. tt)
 
 byte_within : (z : Text) → quotes.begins_byte z ≡ true → IsShort z (quotes.byte z)
-byte_within z is = closed_within z 2 _ (omega arith, begins-length (codes "b'") z is) (character_rest_within (drop 2 z))
+byte_within z is = closed_within z 2 _ _ (omega arith, begins-length (codes "b'") z is) (character_rest_within (drop 2 z))
 
 character_or_lifetime_within : (z : Text) → 0 < length z → IsShort z (quotes.character_or_lifetime z)
 character_or_lifetime_within z some =
     if_case (IsShort z) (quotes.is_character (drop 1 z) || begins (codes "\\") (drop 1 z)) _ _
-    (λ _. closed_within z 1 _ (omega arith, some) (character_rest_within (drop 1 z)))
+    (λ _. closed_within z 1 _ _ (omega arith, some) (character_rest_within (drop 1 z)))
     (λ _. if_case (IsShort z) (quotes.begins_plain_word (drop 1 z)) _ _
     (λ is. let part = word_within (drop 1 z) (starts_word-some (drop 1 z) (and_left (words.starts_word (drop 1 z)) _ is)) in
     let rest = length-drop 1 z in (omega arith, omega arith)) (λ _. tt))

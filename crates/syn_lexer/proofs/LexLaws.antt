@@ -18,7 +18,7 @@ pub front_read : (z : Text) (r : Result Lexeme Refusal) → 0 < length z → rea
 front_read z (Ok x) some is = front_is z some ∙ ap of_reading (sym is)
 front_read z (Err e) some is = front_is z some ∙ ap of_reading (sym is)
 
-pub reading_refused : (z : Text) (r : Result Lexeme Refusal) → reading_of r ≡ reading z → IfErr r (λ e. reading z ≡ Err e.error)
+pub reading_refused : (z : Text) (r : Result Lexeme Refusal) → reading_of r ≡ reading z → IfErr r (λ e. reading z ≡ Err (e.error, e.len))
 reading_refused z (Ok x) is = tt
 reading_refused z (Err e) is = sym is
 

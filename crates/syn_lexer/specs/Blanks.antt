@@ -1,5 +1,5 @@
 -- White space and comments (Rust Reference, "Whitespace" and "Comments").
-use Rattle.std.specs.Prelude.{ℕ, ◌+◌, ◌-◌, Bool, true, false, not, ◌&&◌, ◌||◌, if◌then◌else◌, ◌==◌, nat_le, [], ◌∷◌, drop, Option, Some, None, Ok, Err, codes}
+use Rattle.std.specs.Prelude.{ℕ, ◌+◌, ◌-◌, Bool, true, false, not, ◌&&◌, ◌||◌, if◌then◌else◌, ◌==◌, nat_le, [], ◌∷◌, length, drop, Option, Some, None, Ok, Err, codes}
 use Rattle.std.specs.List.{prefix_len}
 use Rattle.syn_lexer.specs.Text.{Text, Reading, line_feed, begins}
 use Rattle.syn_lexer.specs.declared.lexeme.LexemeKind.TheVariants.{Blank}
@@ -35,8 +35,9 @@ is_line_doc z = begins (codes "//!") z || (begins (codes "///") z && not (begins
 abbrev pub line_comment_len : Text → ℕ
 line_comment_len z = 2 + prefix_len is_within_line (drop 2 z)
 
+-- a doc comment is refused whole
 abbrev pub line_comment : Text → Reading
-line_comment z = if is_line_doc z then Err DocComment else Ok (Blank, line_comment_len z)
+line_comment z = if is_line_doc z then Err (DocComment, line_comment_len z) else Ok (Blank, line_comment_len z)
 
 -- ---- block comments, which nest
 
@@ -54,9 +55,10 @@ comment_rest false inner n (c ∷ z) =
     else (if begins (codes "*/") (c ∷ z) then (if inner == 0 then Some (n + 2) else comment_rest true (inner - 1) (n + 1) z)
     else comment_rest false inner (n + 1) z)
 
+-- a comment that is not closed is refused up to the end of the text
 abbrev pub comment_to : Text → Option ℕ → Reading
-comment_to z None = Err UnterminatedComment
-comment_to z (Some n) = if is_block_doc z then Err DocComment else Ok (Blank, 2 + n)
+comment_to z None = Err (UnterminatedComment, length z)
+comment_to z (Some n) = if is_block_doc z then Err (DocComment, 2 + n) else Ok (Blank, 2 + n)
 
 abbrev pub block_comment : Text → Reading
 block_comment z = comment_to z (comment_rest false 0 0 (drop 2 z))

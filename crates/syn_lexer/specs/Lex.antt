@@ -33,7 +33,7 @@ single_kind z =
     else (if is_punct c then Some (Punct c (spacing_before (drop 1 z))) else None))))))
 
 abbrev pub one_character : Option LexemeKind → Reading
-one_character None = Err UnknownCharacter
+one_character None = Err (UnknownCharacter, 1)
 one_character (Some kind) = Ok (kind, 1)
 
 abbrev pub single : Text → Reading

@@ -31,12 +31,12 @@ has_digit base z = is_digit base (slice_index z (prefix_len is_underscore z))
 
 -- ---- `0x`, `0o` and `0b`
 
--- one digit at least, and none outside of the base
+-- one digit at least, and none outside of the base; a refusal goes to the character that does not fit
 abbrev pub based_number : Base → Text → Reading
 based_number base z =
     let end = 2 + digits_len base (drop 2 z) in
     if has_digit base (drop 2 z) && not (is_ascii_digit (slice_index z end)) then Ok (literal_to z end)
-    else Err MalformedLiteral
+    else Err (MalformedLiteral, end)
 
 -- ---- decimal numbers
 
@@ -71,7 +71,7 @@ abbrev pub decimal_number : Text → Reading
 decimal_number z =
     let n = significand_len z in
     let end = n + exponent_len (drop n z) in
-    if begins_exponent (drop n z) && not (is_exponent (drop n z)) then Err MalformedLiteral else Ok (literal_to z end)
+    if begins_exponent (drop n z) && not (is_exponent (drop n z)) then Err (MalformedLiteral, end) else Ok (literal_to z end)
 
 -- what begins with a decimal digit
 abbrev pub number : Text → Reading

@@ -1,17 +1,18 @@
 -- Character, string, byte and C string literals, raw ones too (Rust Reference, "Character and string literals",
 -- "Byte and byte string literals", "C string and raw C string literals"), and lifetimes ("Lifetimes and loop
 -- labels"). What an escape means is not looked at.
-use Rattle.std.specs.Prelude.{ℕ, ◌+◌, Bool, true, false, not, ◌&&◌, ◌||◌, if◌then◌else◌, ◌==◌, nat_le, [], ◌∷◌, drop, slice_index, Option, Some, None, Ok, Err, codes}
+use Rattle.std.specs.Prelude.{ℕ, ◌+◌, Bool, true, false, not, ◌&&◌, ◌||◌, if◌then◌else◌, ◌==◌, nat_le, [], ◌∷◌, length, drop, slice_index, min, Option, Some, None, Ok, Err, codes}
 use Rattle.std.specs.List.{prefix_len}
 use Rattle.syn_lexer.specs.Text.{Text, Reading, line_feed, double_quote, single_quote, backslash, begins}
 use Rattle.syn_lexer.specs.Words.{starts_word, begins_raw_word, word_len, literal_to}
 use Rattle.syn_lexer.specs.declared.lexeme.LexemeKind.TheVariants.{Lifetime}
 use Rattle.syn_lexer.specs.declared.error.LexError.TheVariants.{MalformedLiteral, MalformedLifetime}
 
--- a literal whose opening is so many characters, and whose rest is so many more; none where it is not closed
-abbrev pub closed : Text → ℕ → Option ℕ → Reading
-closed z opening None = Err MalformedLiteral
-closed z opening (Some n) = Ok (literal_to z (opening + n))
+-- a literal whose opening is so many characters, and whose rest is so many more; where it is not closed, a refusal of
+-- so many
+abbrev pub closed : Text → ℕ → Option ℕ → ℕ → Reading
+closed z opening None refused = Err (MalformedLiteral, refused)
+closed z opening (Some n) refused = Ok (literal_to z (opening + n))
 
 -- ---- strings
 
@@ -60,8 +61,9 @@ begins_byte z = begins (codes "b'") z
 abbrev pub string_opening_len : Text → ℕ
 string_opening_len z = if begins (codes "\"") z then 1 else 2
 
+-- a string that is not closed is refused up to the end of the text
 abbrev pub string : Text → Reading
-string z = let opening = string_opening_len z in closed z opening (string_rest false 0 (drop opening z))
+string z = let opening = string_opening_len z in closed z opening (string_rest false 0 (drop opening z)) (length z)
 
 abbrev pub raw_string_hashes : Text → ℕ
 raw_string_hashes z = hashes_len (drop (raw_prefix_len z) z)
@@ -73,7 +75,7 @@ raw_string_opening_len z = raw_prefix_len z + raw_string_hashes z + 1
 abbrev pub raw_string : Text → Reading
 raw_string z =
     let opening = raw_string_opening_len z in
-    closed z opening (raw_string_rest (raw_string_hashes z) 0 (drop opening z))
+    closed z opening (raw_string_rest (raw_string_hashes z) 0 (drop opening z)) (length z)
 
 -- ---- characters and bytes, behind their opening `'`
 
@@ -93,8 +95,12 @@ is_character z = is_within_character (slice_index z 0) && slice_index z (charact
 abbrev pub character_rest : Text → Option ℕ
 character_rest z = if is_character z then Some (character_len z + 1) else None
 
+-- how many characters there are up to where the closing `'` is missing, behind so many; no more than the text
+abbrev pub unclosed_len : ℕ → Text → ℕ
+unclosed_len opening z = min (opening + character_len (drop opening z)) (length z)
+
 abbrev pub byte : Text → Reading
-byte z = closed z 2 (character_rest (drop 2 z))
+byte z = closed z 2 (character_rest (drop 2 z)) (unclosed_len 2 z)
 
 -- ---- what begins with `'`
 
@@ -105,5 +111,5 @@ begins_plain_word z = starts_word z && not (begins_raw_word z)
 -- a character, or a lifetime
 abbrev pub character_or_lifetime : Text → Reading
 character_or_lifetime z =
-    if is_character (drop 1 z) || begins (codes "\\") (drop 1 z) then closed z 1 (character_rest (drop 1 z))
-    else (if begins_plain_word (drop 1 z) then Ok (Lifetime, 1 + word_len (drop 1 z)) else Err MalformedLifetime)
+    if is_character (drop 1 z) || begins (codes "\\") (drop 1 z) then closed z 1 (character_rest (drop 1 z)) (unclosed_len 1 z)
+    else (if begins_plain_word (drop 1 z) then Ok (Lifetime, 1 + word_len (drop 1 z)) else Err (MalformedLifetime, 1))

@@ -9,14 +9,15 @@ use Rattle.syn_lexer.specs.declared.error.Refusal.{Refusal}
 abbrev pub Text : Type 0
 Text = List ℕ
 
--- the kind of what stands at the front and how many characters it is, or why nothing stands there
+-- the kind of what stands at the front and how many characters it is; or why nothing stands there, and how many
+-- characters there are to where the lexer stood
 abbrev pub Reading : Type 0
-Reading = Result (LexemeKind × ℕ) LexError
+Reading = Result (LexemeKind × ℕ) (LexError × ℕ)
 
--- what the lexer answers, without how far it came before it refused
+-- what the lexer answers
 abbrev pub reading_of : Result Lexeme Refusal → Reading
 reading_of (Ok lexeme) = Ok (lexeme.kind, lexeme.len)
-reading_of (Err refusal) = Err refusal.error
+reading_of (Err refusal) = Err (refusal.error, refusal.len)
 
 -- what is read or refused is one character at least, and no more than the text
 abbrev pub IsWithin : Text → Result Lexeme Refusal → Type 0

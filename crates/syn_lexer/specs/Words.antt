@@ -37,8 +37,8 @@ abbrev pub is_reserved_raw : Text → Bool
 is_reserved_raw word =
     list_any (bytes_eq word) (codes "_" ∷ codes "self" ∷ codes "Self" ∷ codes "super" ∷ codes "crate" ∷ [])
 
--- a raw identifier's text keeps `r#`; five words are reserved there
+-- a raw identifier's text keeps `r#`; five words are reserved there, and refused with it
 abbrev pub raw_word : Text → Reading
 raw_word z =
     let n = word_len (drop 2 z) in
-    if is_reserved_raw (take n (drop 2 z)) then Err ReservedRawIdentifier else Ok (Ident, 2 + n)
+    if is_reserved_raw (take n (drop 2 z)) then Err (ReservedRawIdentifier, 2 + n) else Ok (Ident, 2 + n)

@@ -149,7 +149,7 @@ fn reading(text: &[char]) -> Result<Lexeme, Refusal>
 pub fn front(text: &[char]) -> Result<Lexeme, Refusal>
     requires { 0 < length text.now }
     ensures value { MatchResult result (λ x. spec.front text.now ≡ Some (x.kind, x.len)) (λ e. spec.front text.now ≡ None) }
-    ensures error { IfErr result (λ e. spec.reading text.now ≡ Err e.error) }
+    ensures refused { IfErr result (λ e. spec.reading text.now ≡ Err (e.error, e.len)) }
     ensures within { IsWithin text.now result }
 {
     reading(text)

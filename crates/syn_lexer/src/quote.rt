@@ -19,7 +19,7 @@ fn closed(
 ) -> Result<Lexeme, Refusal>
     requires opened { 1 ≤ opening }
     requires room { MatchOption rest ((1 ≤ refused) × (refused ≤ length text.now)) (λ n. opening + n ≤ length text.now) }
-    ensures value { reading_of result ≡ spec.closed text.now opening rest }
+    ensures value { reading_of result ≡ spec.closed text.now opening rest refused }
     ensures within { IsWithin text.now result }
 {
     match rest {

@@ -77,9 +77,25 @@ fn blanks(rt: HostRuntime) -> Result<(), Fail> {
     reads(&rt, "/* /* a */ \n */x", BLANK, 15)?;
     reads(&rt, "/*/**/*/x", BLANK, 8)?;
     reads(&rt, "/* ! */", BLANK, 7)?;
-    refuses(&rt, "\u{a0}x", LexError::UnknownCharacter, 1)?;
-    refuses(&rt, "\u{3000}x", LexError::UnknownCharacter, 1)?;
-    refuses(&rt, "\u{8}", LexError::UnknownCharacter, 1)?;
+    reads(&rt, "// d\r\nx", BLANK, 5)?;
+    reads(&rt, "/* // */x", BLANK, 8)?;
+    // beside those that are skipped, and other white space of Unicode
+    for text in [
+        "\u{8}",
+        "\u{e}",
+        "\u{1f}",
+        "\u{7f}",
+        "\u{84}",
+        "\u{86}",
+        "\u{a0}x",
+        "\u{200d}x",
+        "\u{2010}",
+        "\u{2027}",
+        "\u{202a}",
+        "\u{3000}x",
+    ] {
+        refuses(&rt, text, LexError::UnknownCharacter, 1)?;
+    }
     Ok(())
 }
 
@@ -95,6 +111,7 @@ fn refused_comments(rt: HostRuntime) -> Result<(), Fail> {
     refuses(&rt, "/*/", LexError::UnterminatedComment, 3)?;
     refuses(&rt, "/* /* */ ", LexError::UnterminatedComment, 9)?;
     refuses(&rt, "/** d", LexError::UnterminatedComment, 5)?;
+    refuses(&rt, "/*! d", LexError::UnterminatedComment, 5)?;
     Ok(())
 }
 
@@ -117,6 +134,7 @@ fn words(rt: HostRuntime) -> Result<(), Fail> {
     reads(&rt, "a\u{301}b ", IDENT, 3)?;
     refuses(&rt, "\u{301}a", LexError::UnknownCharacter, 1)?;
     refuses(&rt, "\u{20ac}", LexError::UnknownCharacter, 1)?;
+    refuses(&rt, "\u{663}", LexError::UnknownCharacter, 1)?;
     refuses(&rt, "r#_", LexError::ReservedRawIdentifier, 3)?;
     refuses(&rt, "r#self.x", LexError::ReservedRawIdentifier, 6)?;
     refuses(&rt, "r#Self", LexError::ReservedRawIdentifier, 6)?;
@@ -150,6 +168,11 @@ fn numbers(rt: HostRuntime) -> Result<(), Fail> {
     reads(&rt, "1_._", LITERAL, 2)?;
     reads(&rt, "1.0_u", LITERAL, 5)?;
     reads(&rt, "7\u{e9}t", LITERAL, 3)?;
+    reads(&rt, "1.\u{e9}", LITERAL, 1)?;
+    reads(&rt, "1_e_5", LITERAL, 5)?;
+    reads(&rt, "1e3.0", LITERAL, 3)?;
+    reads(&rt, "0x1.0", LITERAL, 3)?;
+    reads(&rt, "0xe+1", LITERAL, 3)?;
     refuses(&rt, "0x", LexError::MalformedLiteral, 2)?;
     refuses(&rt, "0o_", LexError::MalformedLiteral, 3)?;
     refuses(&rt, "0b", LexError::MalformedLiteral, 2)?;
@@ -182,7 +205,9 @@ fn strings(rt: HostRuntime) -> Result<(), Fail> {
     reads(&rt, "cr#\"\"\"#", LITERAL, 7)?;
     reads(&rt, "br\"\\\"", LITERAL, 5)?;
     reads(&rt, "c\"\\\"\"s", LITERAL, 6)?;
+    reads(&rt, "b\"\\\"\n\"", LITERAL, 6)?;
     refuses(&rt, "cr\"", LexError::MalformedLiteral, 3)?;
+    refuses(&rt, "r#\"x\"", LexError::MalformedLiteral, 5)?;
     refuses(&rt, "c\"x", LexError::MalformedLiteral, 3)?;
     refuses(&rt, "br#\"a\"", LexError::MalformedLiteral, 6)?;
     refuses(&rt, "r\"a\n", LexError::MalformedLiteral, 4)?;
@@ -199,14 +224,22 @@ fn characters_and_lifetimes(rt: HostRuntime) -> Result<(), Fail> {
     reads(&rt, "'\"'", LITERAL, 3)?;
     reads(&rt, "b'a'u8", LITERAL, 6)?;
     reads(&rt, "b'\\\\'", LITERAL, 5)?;
+    reads(&rt, "'\u{e9}'", LITERAL, 3)?;
+    reads(&rt, "b'\u{e9}'", LITERAL, 4)?;
+    reads(&rt, "'\t'", LITERAL, 3)?;
+    reads(&rt, "'\\\n'", LITERAL, 4)?;
     reads(&rt, "'a", LexemeKind::Lifetime, 2)?;
     reads(&rt, "'ab'", LexemeKind::Lifetime, 3)?;
     reads(&rt, "'_", LexemeKind::Lifetime, 2)?;
     reads(&rt, "'static>", LexemeKind::Lifetime, 7)?;
+    reads(&rt, "'self", LexemeKind::Lifetime, 5)?;
+    reads(&rt, "'a b'", LexemeKind::Lifetime, 2)?;
+    reads(&rt, "'\u{e9}t", LexemeKind::Lifetime, 3)?;
     reads(&rt, "'r#1", LexemeKind::Lifetime, 2)?;
     reads(&rt, "'r\"a\"", LexemeKind::Lifetime, 2)?;
     refuses(&rt, "'", LexError::MalformedLifetime, 1)?;
     refuses(&rt, "''", LexError::MalformedLifetime, 1)?;
+    refuses(&rt, "'''", LexError::MalformedLifetime, 1)?;
     refuses(&rt, "'1", LexError::MalformedLifetime, 1)?;
     refuses(&rt, "'\n'", LexError::MalformedLifetime, 1)?;
     refuses(&rt, "'r#a", LexError::MalformedLifetime, 1)?;
@@ -286,11 +319,37 @@ fn whole_texts(rt: HostRuntime) -> Result<(), Fail> {
 
 #[test]
 fn reserved(rt: HostRuntime) {
-    assert!(rt; is_reserved_word("_"));
-    assert!(rt; is_reserved_word("Self"));
-    assert!(rt; is_reserved_word("yield"));
-    assert!(rt; !is_reserved_word("raw"));
-    assert!(rt; !is_reserved_word("union"));
-    assert!(rt; !is_reserved_word("r#fn"));
-    assert!(rt; !is_reserved_word(""));
+    for word in [
+        "_", "abstract", "as", "async", "await", "become", "box", "break", "const", "continue",
+        "crate", "do", "dyn", "else", "enum", "extern", "false", "final", "fn", "for", "if",
+        "impl", "in", "let", "loop", "macro", "match", "mod", "move", "mut", "override", "priv",
+        "pub", "ref", "return", "Self", "self", "static", "struct", "super", "trait", "true",
+        "try", "type", "typeof", "unsafe", "unsized", "use", "virtual", "where", "while", "yield",
+    ] {
+        assert!(rt; is_reserved_word(word), "{word}");
+    }
+    for word in [
+        "", "r", "raw", "gen", "auto", "safe", "union", "default", "SELF", "r#fn", "fn ", "__",
+    ] {
+        assert!(rt; !is_reserved_word(word), "{word}");
+    }
+}
+
+#[test]
+fn texts(rt: HostRuntime) {
+    for (error, text) in [
+        (LexError::DocComment, "doc comment"),
+        (LexError::UnterminatedComment, "unterminated comment"),
+        (LexError::ReservedRawIdentifier, "reserved raw identifier"),
+        (LexError::MalformedLiteral, "malformed literal"),
+        (LexError::MalformedLifetime, "malformed lifetime"),
+        (LexError::UnclosedDelimiter, "unclosed delimiter"),
+        (
+            LexError::UnexpectedClosingDelimiter,
+            "unexpected closing delimiter",
+        ),
+        (LexError::UnknownCharacter, "unknown character"),
+    ] {
+        assert_eq!(rt; error.text(), text);
+    }
 }

@@ -11,6 +11,6 @@ pub mod Leaf
 pub mod Text
 pub mod Lex
 pub mod Nest
-pub mod Closing
+pub mod Places
 pub mod Floats
 pub mod List

@@ -1,5 +1,5 @@
 -- The tokens of one or more puncts, and the words (Rust Reference, "Punctuation", "Keywords").
-use Rattle.std.specs.Prelude.{ℕ, Bool, true, false, ◌&&◌, ◌||◌, ◌==◌, if◌then◌else◌, not, List, [], ◌∷◌, length, map, slice_index_or}
+use Rattle.std.specs.Prelude.{◌≡◌, ℕ, Bool, true, false, IsTrue, ◌&&◌, ◌||◌, ◌==◌, if◌then◌else◌, not, List, [], ◌∷◌, length, drop, map, slice_index_or}
 use Rattle.std.specs.Str.{bytes_eq}
 use Rattle.syn_tokens.specs.Tok.{Tok, ident, punct}
 use Rattle.syn_lexer.specs.declared.lexeme.Spacing.TheVariants.{Alone, Joint}
@@ -60,6 +60,10 @@ printed_word k = word_toks (word_text k)
 -- `_` stands first
 abbrev pub sees_underscore : List Tok → Bool
 sees_underscore = begins_word (95 ∷ [])
+
+-- where a test sees a sign or a word, its tokens are taken, so many
+abbrev pub Takes : (List Tok → Bool) → ℕ → List Tok → List Tok → Type 0
+Takes sees count ts rest = IsTrue (sees ts) × (rest ≡ drop count ts)
 
 abbrev pub printed_underscore : List Tok
 printed_underscore = word_toks (95 ∷ [])

@@ -1,6 +1,6 @@
 //! The readers and printers of the token trees themselves, which copy.
 
-ghost use Rattle.std.specs.Prelude.{◌≡◌, ◌≤◌, ◌+◌, ℕ, List, [], ◌∷◌, IfOk, true, false};
+ghost use Rattle.std.specs.Prelude.{◌≡◌, ◌≤◌, ◌+◌, ◌⊎◌, ℕ, List, [], ◌∷◌, IfOk, IfErr, true, false};
 ghost use Rattle.syn_lexer.specs.Keywords.{is_reserved_word};
 ghost use Rattle.syn_tokens.specs.Input.{Reaches, IsAfter};
 ghost use Rattle.syn_tokens.specs.Tok.{Tok, weight};
@@ -37,7 +37,13 @@ impl Parse for Ident {
 
     /// Takes a word that is not reserved, raw or not (Rust Reference, "Identifiers"). Anything else is refused at that
     /// token as `ExpectedToken`, an identifier; and `OutOfMemory` comes, since the word is copied.
-    fn parse(input: &mut ParseBuffer<'_>) -> Result<Self> {
+    fn parse(input: &mut ParseBuffer<'_>) -> Result<Self>
+        ensures read { IfOk result (λ v. input.new.noted ≡ false → (input.old.rest ≡ tok.ident v ∷ input.new.rest) × (is_reserved_word v ≡ false)) }
+        ensures found { (w : List ℕ) (rest : List Tok) → input.old.noted ≡ false → (input.old.rest ≡ tok.ident w ∷ rest) × (is_reserved_word w ≡ false) → Reaches (λ v. v) w rest result input.new }
+        ensures after { IsAfter input.old input.new }
+        ensures moves { IfOk result (λ v. 1 + weight input.new.rest ≤ weight input.old.rest) }
+        ensures refused { IfErr result (λ e. (e.kind ≡ ErrorKind.OutOfMemory) ⊎ (e.kind ≡ ErrorKind.ExpectedToken (Expected.One Wanted.Identifier))) }
+    {
         match input.first() {
             Some(TokenTree::Ident(ident)) if !is_reserved_word(ident.as_str()) => {
                 let ident = copy_ident(input.alloc(), ident)?;
@@ -66,6 +72,7 @@ pub fn parse_any_word(input: &mut ParseBuffer<'_>) -> Result<Ident>
     ensures found { (v : List ℕ) (rest : List Tok) → input.old.noted ≡ false → input.old.rest ≡ tok.ident v ∷ rest → Reaches (λ a. a) v rest result input.new }
     ensures after { IsAfter input.old input.new }
     ensures moves { IfOk result (λ v. 1 + weight input.new.rest ≤ weight input.old.rest) }
+    ensures refused { IfErr result (λ e. (e.kind ≡ ErrorKind.OutOfMemory) ⊎ (e.kind ≡ ErrorKind.ExpectedToken (Expected.One Wanted.Identifier))) }
 {
     let Some(TokenTree::Ident(ident)) = input.first() else {
         return Err(input.error(ErrorKind::ExpectedToken(Expected::One(Wanted::Identifier))));
@@ -95,7 +102,13 @@ impl Parse for Literal {
 
     /// Takes a literal token (Rust Reference, "Literal expressions"), no sign, `true` or `false`. Anything else is refused
     /// at that token as `ExpectedPart`, a literal; and `OutOfMemory` comes, since the literal is copied.
-    fn parse(input: &mut ParseBuffer<'_>) -> Result<Self> {
+    fn parse(input: &mut ParseBuffer<'_>) -> Result<Self>
+        ensures read { IfOk result (λ v. input.new.noted ≡ false → input.old.rest ≡ tok.literal v ∷ input.new.rest) }
+        ensures found { (l : List ℕ) (rest : List Tok) → input.old.noted ≡ false → input.old.rest ≡ tok.literal l ∷ rest → Reaches (λ v. v) l rest result input.new }
+        ensures after { IsAfter input.old input.new }
+        ensures moves { IfOk result (λ v. 1 + weight input.new.rest ≤ weight input.old.rest) }
+        ensures refused { IfErr result (λ e. (e.kind ≡ ErrorKind.OutOfMemory) ⊎ (e.kind ≡ ErrorKind.ExpectedPart Part.Literal)) }
+    {
         match input.first() {
             Some(TokenTree::Literal(literal)) => {
                 let literal = copy_literal(input.alloc(), literal)?;
@@ -129,7 +142,13 @@ impl Parse for TokenTree {
 
     /// Takes the next token or group. The end is refused as `UnexpectedToken`; and `OutOfMemory` comes, since the tree is
     /// copied.
-    fn parse(input: &mut ParseBuffer<'_>) -> Result<Self> {
+    fn parse(input: &mut ParseBuffer<'_>) -> Result<Self>
+        ensures read { IfOk result (λ v. input.new.noted ≡ false → input.old.rest ≡ tok_of v ∷ input.new.rest) }
+        ensures found { (t : Tok) (rest : List Tok) → input.old.noted ≡ false → input.old.rest ≡ t ∷ rest → Reaches tok_of t rest result input.new }
+        ensures after { IsAfter input.old input.new }
+        ensures moves { IfOk result (λ v. 1 + weight input.new.rest ≤ weight input.old.rest) }
+        ensures refused { IfErr result (λ e. (e.kind ≡ ErrorKind.OutOfMemory) ⊎ (e.kind ≡ ErrorKind.UnexpectedToken)) }
+    {
         match input.first() {
             Some(tree) => {
                 let tree = copy_tree(input.alloc(), tree)?;
@@ -162,7 +181,13 @@ impl Parse for TokenStream {
     ghost least = { 0 };
 
     /// Takes all that is left. It is refused only as `OutOfMemory`, since the trees are copied.
-    fn parse(input: &mut ParseBuffer<'_>) -> Result<Self> {
+    fn parse(input: &mut ParseBuffer<'_>) -> Result<Self>
+        ensures read { IfOk result (λ v. input.new.noted ≡ false → (input.old.rest ≡ v) × (input.new.rest ≡ [])) }
+        ensures found { (ts : List Tok) (rest : List Tok) → input.old.noted ≡ false → (input.old.rest ≡ ts) × (rest ≡ []) → Reaches (λ v. v) ts rest result input.new }
+        ensures after { IsAfter input.old input.new }
+        ensures moves { IfOk result (λ v. 0 + weight input.new.rest ≤ weight input.old.rest) }
+        ensures refused { IfErr result (λ e. e.kind ≡ ErrorKind.OutOfMemory) }
+    {
         let stream = copy_trees(input.alloc(), input.trees())?;
         input.skip(input.len());
         Ok(stream)

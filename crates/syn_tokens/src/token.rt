@@ -1,11 +1,13 @@
 //! The tokens of one or more puncts, the words and the delimiters.
 
-ghost use Rattle.std.specs.Prelude.{◌≡◌, ◌++◌, [], ◌∷◌, drop, replicate, IsTrue, IfErr, OnOk, OnErr};
+ghost use Rattle.std.specs.Prelude.{◌≡◌, ◌≤◌, ◌+◌, ◌++◌, List, [], ◌∷◌, drop, replicate, IsTrue, IfOk, IfErr, OnOk, OnErr, false};
 ghost use Rattle.syn_lexer.specs.declared.lexeme.Delimiter.TheVariants as delimiter;
 ghost use Rattle.syn_tokens.specs.Front as front;
-ghost use Rattle.syn_tokens.specs.Input.{IsFront};
+ghost use Rattle.syn_tokens.specs.Input.{IsFront, IsAfter, Reaches};
+ghost use Rattle.syn_tokens.specs.Places.{IsAt};
 ghost use Rattle.syn_tokens.specs.Sign as spec;
 ghost use Rattle.syn_tokens.specs.Tok as tok;
+ghost use Rattle.syn_tokens.specs.Tok.{Tok, weight};
 ghost use Rattle.syn_tokens.specs.View.{tok_of, toks_of};
 
 use crate::buffer::{Parse, ParseBuffer, ToTokens, Token};
@@ -433,13 +435,19 @@ impl<const N: usize, const K: usize> Parse for Sign<N, K> {
 
     ghost seen = { λ s. tt };
 
-    ghost spells = { λ ts s rest. IsTrue (spec.sees N K ts) × (rest ≡ drop N ts) };
+    ghost spells = { λ ts s rest. spec.Takes (spec.sees N K) N ts rest };
 
     ghost least = { 1 };
 
     /// Takes the sign: its puncts, each but the last joint to the next. Anything else is refused at that token as
     /// `ExpectedToken`, this sign. It takes no memory.
-    fn parse(input: &mut ParseBuffer<'_>) -> Result<Self> {
+    fn parse(input: &mut ParseBuffer<'_>) -> Result<Self>
+        ensures read { IfOk result (λ v. input.new.noted ≡ false → spec.Takes (spec.sees N K) N input.old.rest input.new.rest) }
+        ensures found { (s : Unit {0}) (rest : List Tok) → input.old.noted ≡ false → spec.Takes (spec.sees N K) N input.old.rest rest → Reaches (λ v. tt) s rest result input.new }
+        ensures after { IsAfter input.old input.new }
+        ensures moves { IfOk result (λ v. 1 + weight input.new.rest ≤ weight input.old.rest) }
+        ensures refused { IfErr result (λ e. e.kind ≡ ErrorKind.ExpectedToken (Expected.One (Wanted.Sign K))) }
+    {
         if !input.peek::<Self>() {
             return Err(input.error(ErrorKind::ExpectedToken(Expected::One(Wanted::Sign(K)))));
         }
@@ -484,12 +492,18 @@ impl<const K: usize> Parse for Word<K> {
 
     ghost seen = { λ w. tt };
 
-    ghost spells = { λ ts w rest. IsTrue (spec.sees_word K ts) × (rest ≡ drop 1 ts) };
+    ghost spells = { λ ts w rest. spec.Takes (spec.sees_word K) 1 ts rest };
 
     ghost least = { 1 };
 
     /// Takes the word. Anything else is refused at that token as `ExpectedToken`, this word. It takes no memory.
-    fn parse(input: &mut ParseBuffer<'_>) -> Result<Self> {
+    fn parse(input: &mut ParseBuffer<'_>) -> Result<Self>
+        ensures read { IfOk result (λ v. input.new.noted ≡ false → spec.Takes (spec.sees_word K) 1 input.old.rest input.new.rest) }
+        ensures found { (s : Unit {0}) (rest : List Tok) → input.old.noted ≡ false → spec.Takes (spec.sees_word K) 1 input.old.rest rest → Reaches (λ v. tt) s rest result input.new }
+        ensures after { IsAfter input.old input.new }
+        ensures moves { IfOk result (λ v. 1 + weight input.new.rest ≤ weight input.old.rest) }
+        ensures refused { IfErr result (λ e. e.kind ≡ ErrorKind.ExpectedToken (Expected.One (Wanted.Word K))) }
+    {
         if !input.peek::<Self>() {
             return Err(input.error(ErrorKind::ExpectedToken(Expected::One(Wanted::Word(K)))));
         }
@@ -530,12 +544,18 @@ impl Parse for Underscore {
 
     ghost seen = { λ u. tt };
 
-    ghost spells = { λ ts u rest. IsTrue (spec.sees_underscore ts) × (rest ≡ drop 1 ts) };
+    ghost spells = { λ ts u rest. spec.Takes spec.sees_underscore 1 ts rest };
 
     ghost least = { 1 };
 
     /// Takes `_`. Anything else is refused at that token as `ExpectedToken`, `_`. It takes no memory.
-    fn parse(input: &mut ParseBuffer<'_>) -> Result<Self> {
+    fn parse(input: &mut ParseBuffer<'_>) -> Result<Self>
+        ensures read { IfOk result (λ v. input.new.noted ≡ false → spec.Takes spec.sees_underscore 1 input.old.rest input.new.rest) }
+        ensures found { (s : Unit {0}) (rest : List Tok) → input.old.noted ≡ false → spec.Takes spec.sees_underscore 1 input.old.rest rest → Reaches (λ v. tt) s rest result input.new }
+        ensures after { IsAfter input.old input.new }
+        ensures moves { IfOk result (λ v. 1 + weight input.new.rest ≤ weight input.old.rest) }
+        ensures refused { IfErr result (λ e. e.kind ≡ ErrorKind.ExpectedToken (Expected.One Wanted.Underscore)) }
+    {
         if !input.peek::<Self>() {
             return Err(input.error(ErrorKind::ExpectedToken(Expected::One(Wanted::Underscore))));
         }
@@ -556,7 +576,8 @@ impl ToTokens for Underscore {
 
 /// The group of some tokens.
 fn enclosed(delimiter: Delimiter, stream: TokenStream, span: Span) -> TokenTree
-    ensures { tok_of result ≡ tok.group delimiter (tok.inside stream) }
+    ensures group { tok_of result ≡ tok.group delimiter (tok.inside stream) }
+    ensures place { IsAt result span }
 {
     TokenTree::Group(tree::Group {
         delimiter,
@@ -587,7 +608,8 @@ impl Token for Paren {
 impl Paren {
     /// The group of these tokens, at this place.
     pub fn enclose(self, stream: TokenStream) -> TokenTree
-        ensures { tok_of result ≡ tok.group Delimiter.Parenthesis (tok.inside stream) }
+        ensures group { tok_of result ≡ tok.group Delimiter.Parenthesis (tok.inside stream) }
+        ensures place { IsAt result self.span }
     {
         enclosed(Delimiter::Parenthesis, stream, self.span)
     }
@@ -604,7 +626,8 @@ impl Token for Brace {
 impl Brace {
     /// The group of these tokens, at this place.
     pub fn enclose(self, stream: TokenStream) -> TokenTree
-        ensures { tok_of result ≡ tok.group Delimiter.Brace (tok.inside stream) }
+        ensures group { tok_of result ≡ tok.group Delimiter.Brace (tok.inside stream) }
+        ensures place { IsAt result self.span }
     {
         enclosed(Delimiter::Brace, stream, self.span)
     }
@@ -621,7 +644,8 @@ impl Token for Bracket {
 impl Bracket {
     /// The group of these tokens, at this place.
     pub fn enclose(self, stream: TokenStream) -> TokenTree
-        ensures { tok_of result ≡ tok.group Delimiter.Bracket (tok.inside stream) }
+        ensures group { tok_of result ≡ tok.group Delimiter.Bracket (tok.inside stream) }
+        ensures place { IsAt result self.span }
     {
         enclosed(Delimiter::Bracket, stream, self.span)
     }
@@ -638,7 +662,8 @@ impl Token for Group {
 impl Group {
     /// The group of these tokens, at this place.
     pub fn enclose(self, stream: TokenStream) -> TokenTree
-        ensures { tok_of result ≡ tok.group Delimiter.None (tok.inside stream) }
+        ensures group { tok_of result ≡ tok.group Delimiter.None (tok.inside stream) }
+        ensures place { IsAt result self.span }
     {
         enclosed(Delimiter::None, stream, self.span)
     }

@@ -168,7 +168,7 @@ impl Model for TokenStream {
 }
 
 impl Group {
-    ghost use Rattle.syn_tokens.specs.Closing.{closing_span};
+    ghost use Rattle.syn_tokens.specs.Places.{closing_span};
 
     /// Where the closing delimiter is: the last byte of the group, or all of a group that shows none or is shorter
     /// than two bytes.
@@ -185,8 +185,12 @@ impl Group {
 }
 
 impl TokenTree {
+    ghost use Rattle.syn_tokens.specs.Places.{IsAt};
+
     /// Where it is.
-    pub fn span(&self) -> Span {
+    pub fn span(&self) -> Span
+        ensures { IsAt self.now result }
+    {
         match self {
             TokenTree::Group(group) => group.span,
             TokenTree::Ident(ident) => ident.span,

@@ -1,4 +1,4 @@
-use Rattle.std.proofs.Common.{◌≡◌, rules, arith, refl, sym, ◌∙◌, ap, true, false, inl, inr, [], ◌∷◌, ◌++◌, append-nil, append_assoc}
+use Rattle.std.proofs.Common.{◌≡◌, rules, arith, sym, ◌∙◌, true, false, inl, inr, [], append-nil, append_assoc}
 use Rattle.std.proofs.lemmas.Grind.{common_steps}
 use Rattle.syn_tokens.specs.Front.{is_empty}
 use Rattle.syn_tokens.proofs.Inputs.{after_then, clean_before}
