@@ -9,6 +9,7 @@ use crate::error::{LexError, Refusal};
 use crate::lexeme::{Lexeme, LexemeKind};
 use crate::text::begins;
 
+/// Whether a character is skipped between tokens (Rust Reference, "Whitespace").
 pub fn is_white_space(c: char) -> bool
     ensures { result ≡ spec.is_white_space c }
 {
@@ -25,6 +26,7 @@ fn more_white_space(text: &[char]) -> usize
     text.iter().take_while(|c| is_white_space(**c)).count()
 }
 
+/// How many characters of white space stand at the front, where one does.
 pub fn white_space_len(text: &[char]) -> usize
     requires { 0 < length text.now }
     ensures value { result ≡ spec.white_space_len text.now }
@@ -33,6 +35,7 @@ pub fn white_space_len(text: &[char]) -> usize
     1 + more_white_space(&text[1..])
 }
 
+/// Whether `//` stands first.
 pub fn begins_line_comment(text: &[char]) -> bool
     ensures value { result ≡ spec.begins_line_comment text.now }
     ensures within { result ≡ true → 2 ≤ length text.now }
@@ -40,6 +43,7 @@ pub fn begins_line_comment(text: &[char]) -> bool
     begins(text, &['/', '/'])
 }
 
+/// Whether `/*` stands first.
 pub fn begins_block_comment(text: &[char]) -> bool
     ensures value { result ≡ spec.begins_block_comment text.now }
     ensures within { result ≡ true → 2 ≤ length text.now }
@@ -47,6 +51,7 @@ pub fn begins_block_comment(text: &[char]) -> bool
     begins(text, &['/', '*'])
 }
 
+/// Whether a comment stands first.
 pub fn begins_comment(text: &[char]) -> bool
     ensures { result ≡ spec.begins_comment text.now }
 {

@@ -144,8 +144,9 @@ fn reading(text: &[char]) -> Result<Lexeme, Refusal>
 }
 
 /// The longest lexeme at the front of a text that has characters (Rust Reference, "Lexical structure"), or why it
-/// is refused: each `LexError` says when, but those of delimiters never come here. The texts of literals are not looked
-/// into. Lengths are in characters; no memory is taken.
+/// is refused: each `LexError` says when, but those of delimiters never come here. A refusal goes over the whole of a
+/// comment or a raw identifier, up to the character that does not fit a number, and to the end of what is not closed.
+/// The texts of literals are not looked into. Lengths are in characters; no memory is taken.
 pub fn front(text: &[char]) -> Result<Lexeme, Refusal>
     requires { 0 < length text.now }
     ensures value { MatchResult result (λ x. spec.front text.now ≡ Some (x.kind, x.len)) (λ e. spec.front text.now ≡ None) }

@@ -13,7 +13,8 @@ pub enum Delimiter {
     None,
 }
 
-/// Whether another punct follows a punct at once, as `Spacing` of proc_macro2. A comment is no punct.
+/// Whether another punct follows a punct at once, as `Spacing` of proc_macro2 (Rust Reference, "Punctuation"). A comment
+/// is no punct.
 #[derive(Clone, Copy, Debug, PartialEq, Eq, Hash)]
 pub enum Spacing {
     /// A blank, another token or the end follows.
@@ -25,17 +26,18 @@ pub enum Spacing {
 /// What stands at the front of a text.
 #[derive(Clone, Copy, Debug, PartialEq, Eq, Hash)]
 pub enum LexemeKind {
-    /// White space, or a comment that is no doc comment.
+    /// White space, or a comment that is no doc comment (Rust Reference, "Whitespace", "Comments").
     Blank,
-    /// An identifier, a reserved word or a raw identifier.
+    /// An identifier, a reserved word or a raw identifier (Rust Reference, "Identifiers").
     Ident,
-    /// A literal with its suffix.
+    /// A literal with its suffix (Rust Reference, "Tokens", "Literals").
     Literal,
-    /// A lifetime: `'` and an identifier. It makes two tokens, the joint punct `'` and the identifier.
+    /// A lifetime: `'` and an identifier (Rust Reference, "Lifetimes and loop labels"). It makes two tokens, the joint
+    /// punct `'` and the identifier.
     Lifetime,
-    /// One character of punctuation.
+    /// One character of punctuation (Rust Reference, "Punctuation").
     Punct(char, Spacing),
-    /// The opening character of a delimiter.
+    /// The opening character of a delimiter (Rust Reference, "Delimiters").
     Open(Delimiter),
     /// The closing character of a delimiter.
     Close(Delimiter),

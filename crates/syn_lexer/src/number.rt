@@ -10,6 +10,7 @@ use crate::lexeme::Lexeme;
 use crate::text::{begins, char_at};
 use crate::word::{literal_to, starts_word};
 
+/// The base of a number (Rust Reference, "Integer literals").
 #[derive(Clone, Copy)]
 pub enum Base {
     Binary,

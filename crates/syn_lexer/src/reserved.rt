@@ -48,7 +48,8 @@ fn is_one_of(mut words: &[&str], word: &str) -> bool
     false
 }
 
-/// Whether a word is reserved, so that it is no identifier. A raw identifier, which begins with `r#`, never is.
+/// Whether a word is reserved, so that it is no identifier (Rust Reference, "Keywords"). A raw identifier, which begins
+/// with `r#`, never is.
 pub fn is_reserved_word(word: &str) -> bool
     ensures { result ≡ spec.is_reserved_word word.now }
 {

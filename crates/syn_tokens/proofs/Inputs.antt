@@ -42,6 +42,10 @@ after_one i o e n = record { front = take 1 i.rest; is = sym (ap (λ r. take 1 i
 pub after_nothing : (i o : Input) → o.rest ≡ [] → o.noted ≡ i.noted → IsAfter i o
 after_nothing i o e n = record { front = i.rest; is = sym (ap (λ r. i.rest ++ r) e ∙ append-nil i.rest); noted = λ h. n ∙ h }
 
+-- a read leaves a tail
+pub tail_after : (i o : Input) → IsAfter i o → IsTail o.rest i.rest
+tail_after i o h = record { front = h.front; is = h.is }
+
 no_true : (v : Bool) → (v ≡ true → ⊥) → v ≡ false
 no_true true h = absurd (h refl)
 no_true false h = refl

@@ -328,6 +328,16 @@ fn places_of_refusals(rt: HostRuntime) -> Result<(), Fail> {
     Ok(())
 }
 
+/// Passes over some trees by a fork: how many they are, and where.
+#[tactic(auto, using(crate::proofs::Inputs::tail_after))]
+fn passed(input: &mut ParseBuffer<'_>, count: usize) -> Result<(usize, Span), Error> {
+    let mut ahead = input.fork()?;
+    ahead.skip(count);
+    let passed = (input.until(&ahead).len(), input.span_until(&ahead));
+    input.advance_to(&ahead);
+    Ok(passed)
+}
+
 /// The calls of a buffer that read no group.
 #[test]
 fn positions(rt: HostRuntime) -> Result<(), Fail> {
@@ -338,23 +348,20 @@ fn positions(rt: HostRuntime) -> Result<(), Fail> {
     assert_eq!(rt; input.trees(), tokens.trees());
     assert!(rt; matches!(input.first(), Some(TokenTree::Ident(word)) if word.as_str() == "a"));
     assert!(rt; input.peek::<Ident>() && !input.peek2::<Ident>() && input.peek3::<Ident>());
-    let start = input.fork()?;
-    input.skip(1);
-    assert!(rt; !input.peek::<Ident>() && input.peek2::<Ident>() && input.peek3::<PlusEq>());
-    input.skip(2);
-    assert_eq!(rt; start.until(&input).len(), 3);
-    assert_eq!(rt; start.span_until(&input), Span { lo: 0, hi: 4 });
+    let mut ahead = input.fork()?;
+    ahead.skip(1);
+    assert!(rt; !ahead.peek::<Ident>() && ahead.peek2::<Ident>() && ahead.peek3::<PlusEq>());
+    assert_eq!(rt; passed(&mut input, 3)?, (3, Span { lo: 0, hi: 4 }));
+    assert_eq!(rt; input.len(), 4);
     assert_eq!(rt;
         input.error(ErrorKind::LeftArrow),
         Error::new(Span { lo: 5, hi: 6 }, ErrorKind::LeftArrow)
     );
-    let mut fork = input.fork()?;
-    assert!(rt; matches!(fork.next(), Some(TokenTree::Ident(word)) if word.as_str() == "c"));
+    assert!(rt; matches!(input.next(), Some(TokenTree::Ident(word)) if word.as_str() == "c"));
     assert_eq!(rt;
-        fork.parse::<PlusEq>()?.spans.as_slice(),
+        input.parse::<PlusEq>()?.spans.as_slice(),
         [Span { lo: 7, hi: 8 }, Span { lo: 8, hi: 9 }].as_slice()
     );
-    input.advance_to(&fork);
     assert_eq!(rt; input.len(), 1);
     assert!(rt; input.peek::<Paren>() && !input.peek2::<Paren>());
     assert_eq!(rt; input.leftover(), Some(Span { lo: 10, hi: 13 }));
