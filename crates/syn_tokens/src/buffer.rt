@@ -157,7 +157,7 @@ impl<'a> ParseBuffer<'a> {
         spans
     }
 
-    /// A refusal at the next token.
+    /// A refusal at the next token, where `span` says.
     pub fn error(&self, kind: ErrorKind) -> Error
         ensures { result.kind ≡ kind }
     {

@@ -100,8 +100,8 @@ impl Parse for Literal {
 
     ghost least = { 1 };
 
-    /// Takes a literal token (Rust Reference, "Literal expressions"), no sign, `true` or `false`. Anything else is refused
-    /// at that token as `ExpectedPart`, a literal; and `OutOfMemory` comes, since the literal is copied.
+    /// Takes a literal token (Rust Reference, "Literal expressions"), no sign, `true` or `false`. Anything else is
+    /// refused at that token as `ExpectedPart`, a literal; and `OutOfMemory` comes, since the literal is copied.
     fn parse(input: &mut ParseBuffer<'_>) -> Result<Self>
         ensures read { IfOk result (λ v. input.new.noted ≡ false → input.old.rest ≡ tok.literal v ∷ input.new.rest) }
         ensures found { (l : List ℕ) (rest : List Tok) → input.old.noted ≡ false → input.old.rest ≡ tok.literal l ∷ rest → Reaches (λ v. v) l rest result input.new }

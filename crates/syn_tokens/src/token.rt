@@ -18,8 +18,8 @@ use crate::tree::{self, Ident, Punct, TokenStream, TokenTree};
 use crate::{Delimiter, Spacing};
 use std::rc::RcStr;
 
-/// A token of N puncts, the one at place K of `SIGNS`. Where that has another number of puncts, or K is past the list,
-/// it is never seen or read and prints nothing. Equality ignores places.
+/// A token of N puncts, the one at place K of `SIGNS` (Rust Reference, "Punctuation"). Where that has another number of
+/// puncts, or K is past the list, it is never seen or read and prints nothing. Equality ignores places.
 #[derive(Clone, Copy, Debug)]
 #[derive_where(PartialEq, Eq, Hash)]
 pub struct Sign<const N: usize, const K: usize> {
@@ -28,7 +28,8 @@ pub struct Sign<const N: usize, const K: usize> {
     pub spans: [Span; N],
 }
 
-/// The word at place K of `WORDS`. Past the list it is never seen or read and prints nothing. Equality ignores places.
+/// The word at place K of `WORDS` (Rust Reference, "Keywords"). Past the list it is never seen or read and prints
+/// nothing. Equality ignores places.
 #[derive(Clone, Copy, Debug)]
 #[derive_where(PartialEq, Eq, Hash)]
 pub struct Word<const K: usize> {
@@ -37,7 +38,7 @@ pub struct Word<const K: usize> {
     pub span: Span,
 }
 
-/// `_`
+/// `_` (Rust Reference, "Punctuation"). Equality ignores places.
 #[derive(Clone, Copy, Debug)]
 #[derive_where(PartialEq, Eq, Hash)]
 pub struct Underscore {
@@ -46,7 +47,7 @@ pub struct Underscore {
     pub spans: [Span; 1],
 }
 
-/// `( .. )`
+/// `( .. )` (Rust Reference, "Delimiters"). Equality ignores places.
 #[derive(Clone, Copy, Debug, Default)]
 #[derive_where(PartialEq, Eq, Hash)]
 pub struct Paren {
@@ -55,7 +56,7 @@ pub struct Paren {
     pub span: Span,
 }
 
-/// `{ .. }`
+/// `{ .. }` (Rust Reference, "Delimiters"). Equality ignores places.
 #[derive(Clone, Copy, Debug, Default)]
 #[derive_where(PartialEq, Eq, Hash)]
 pub struct Brace {
@@ -64,7 +65,7 @@ pub struct Brace {
     pub span: Span,
 }
 
-/// `[ .. ]`
+/// `[ .. ]` (Rust Reference, "Delimiters"). Equality ignores places.
 #[derive(Clone, Copy, Debug, Default)]
 #[derive_where(PartialEq, Eq, Hash)]
 pub struct Bracket {
@@ -73,7 +74,7 @@ pub struct Bracket {
     pub span: Span,
 }
 
-/// An invisible group, as macros make them.
+/// An invisible group, as macros make them. Equality ignores places.
 #[derive(Clone, Copy, Debug, Default)]
 #[derive_where(PartialEq, Eq, Hash)]
 pub struct Group {

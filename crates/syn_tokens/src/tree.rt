@@ -23,8 +23,8 @@ pub struct Punct {
     pub span: Span,
 }
 
-/// A word: an identifier, a reserved word or `_`. A raw identifier keeps its `r#`. Contracts see the bytes of its
-/// text.
+/// A word: an identifier, a reserved word or `_` (Rust Reference, "Identifiers", "Keywords"). A raw identifier keeps its
+/// `r#`. Contracts see the bytes of its text. Equality ignores its place.
 #[derive(Debug, Drop)]
 pub struct Ident {
     text: RcStr<Global>,
@@ -69,7 +69,8 @@ impl Ident {
     }
 }
 
-/// A literal token, with its suffix (Rust Reference, "Literal expressions"). Contracts see the bytes of its text.
+/// A literal token, with its suffix (Rust Reference, "Literal expressions"). Contracts see the bytes of its text. Equality
+/// ignores its place.
 #[derive(Debug, Drop)]
 pub struct Literal {
     text: RcStr<Global>,
@@ -114,7 +115,7 @@ impl Literal {
     }
 }
 
-/// A delimited list of token trees.
+/// A delimited list of token trees (Rust Reference, "Delimiters"). Equality ignores places.
 #[cycle(trees)]
 #[derive(Debug, Drop)]
 pub struct Group {
@@ -126,7 +127,7 @@ pub struct Group {
     pub span: Span,
 }
 
-/// A token, or a delimited list of them (Rust Reference, "Tokens", "Delimiters").
+/// A token, or a delimited list of them (Rust Reference, "Tokens", "Delimiters"). Equality ignores places.
 #[cycle(trees)]
 #[derive(Debug, Drop)]
 pub enum TokenTree {
@@ -140,7 +141,7 @@ pub enum TokenTree {
     Literal(Literal),
 }
 
-/// A list of token trees. Contracts see the list of its tokens without their places.
+/// A list of token trees. Contracts see the list of its tokens without their places, which equality ignores too.
 #[cycle(trees)]
 #[derive(Debug, Drop)]
 pub struct TokenStream {
@@ -187,7 +188,7 @@ impl Group {
 impl TokenTree {
     ghost use Rattle.syn_tokens.specs.Places.{IsAt};
 
-    /// Where it is.
+    /// Where it is, of a group from the opening to the closing delimiter. Contracts see no place of a word or a literal.
     pub fn span(&self) -> Span
         ensures { IsAt self.now result }
     {
