@@ -11,7 +11,7 @@ use Rattle.syn_tokens.specs.declared.token.Sign.{Sign}
 use Rattle.syn_parts.specs.Text.{Text}
 use Rattle.syn_parts.specs.Tree as t
 use Rattle.syn_parts.specs.Tree.{TypeTree, Types, SegmentTree, FnArgTree, ArgumentsTree, GenericTree, BoundTree}
-use Rattle.syn_parts.specs.Own.{alone, joint, one_less, before_if, before_some, comma_before, colon2_before, closed_at, qself_end, at_most, inner_count, count_segments, lifetime_own, lifetimes_own, extern_own, enclosed, elements_own, no_more_segments, type_own, types_own, segments_own, arguments_own, generics_own, generic_own, return_own, args_own, bounds_own, bound_own}
+use Rattle.syn_parts.specs.Own.{alone, joint, one_less, before_if, before_some, comma_before, colon2_before, closed_at, qself_end, at_most, inner_count, count_segments, lifetime_own, lifetimes_own, extern_own, enclosed, elements_own, no_more_segments, type_own, types_own, segments_own, arguments_own, generics_own, generic_own, return_own, args_own, bounds_own, bound_own, segment_own, arg_own}
 use Rattle.syn_lower.specs.View.{values, trails, last_of, is_some_pair, lifetime_of, lifetimes_of, mapped, abi_of, is_mut, arg_of, segment_of, qself_or, path_of, path_with, type_of, generic_of, arguments_of, return_of, bound_of, round_of, fn_ptr_of, type_path_of}
 use Rattle.syn_lower.specs.Printed.{option_printed, pairs_printed, punctuated_printed, comma, colon2, plus, word, grouped, segment_printed, path_printed, angle_printed, assoc_printed, macro_printed, reference_printed, mutability_printed, ptr_printed, slice_printed, array_printed, tuple_printed, paren_printed, impl_printed, object_printed, arg_printed, trait_printed, round_printed, fn_head_printed, fn_ptr_printed, closed_printed, inside_printed, qself_end_printed, qualified_printed, qpath_printed}
 use Rattle.syn_lower.proofs.Layers.{levels, generic_of-Lifetime, generic_of-Const, generic_of-AssocType, generic_of-Ty, arguments_of-None, arguments_of-AngleBracketed, arguments_of-Parenthesized, return_of-Default, return_of-Given, bound_of-Lifetime, bound_of-Trait, round_of-out, fn_ptr_of-out, type_path_of-out, type_of-Path, type_of-Macro, type_of-Reference, type_of-Ptr, type_of-Slice, type_of-Array, type_of-Tuple, type_of-Paren, type_of-Never, type_of-Infer, type_of-FnPtr, type_of-ImplTrait, type_of-TraitObject}
@@ -73,12 +73,6 @@ re_toks x = return_own (return_of x) []
 
 -- ---- lists
 
-abbrev segment_own : SegmentTree → List Tok → List Tok
-segment_own s r = ident s.ident ∷ arguments_own s.arguments r
-
-abbrev arg_own : FnArgTree → List Tok → List Tok
-arg_own x r = before_some x.name (λ w l. ident w ∷ alone 58 ∷ l) (type_own x.ty r)
-
 abbrev plus_before : List Tok → List Tok
 plus_before r = alone 43 ∷ r
 
@@ -119,7 +113,7 @@ bound_appends = record { before = bound_append }
 segment_appends : Appends segment_own
 segment_appends = record { before = λ s r. ap (λ m. ident s.ident ∷ m) (arguments_append s.arguments r) }
 
-arg_appends : Appends arg_own
+pub arg_appends : Appends arg_own
 arg_appends = record { before = λ x r. by x.name x.ty r }
   where
     by : (n : Option Text) (x : TypeTree) (r : List Tok) → before_some n (λ w l. ident w ∷ alone 58 ∷ l) (type_own x r) ≡ before_some n (λ w l. ident w ∷ alone 58 ∷ l) (type_own x []) ++ r
@@ -138,7 +132,7 @@ bounds_print p r = bounds_listed (map bound_of (values p)) (trails p) r ∙ list
 segments_print : {S : Type 0} (p : Punctuated (PathSegmentOf PathArguments) S) (r : List Tok) → segments_own 0 (t.segments_of (map (segment_of arguments_of) (values p))) (trails p) r ≡ punctuated_printed (segment_printed ar_toks) colon2 p ++ r
 segments_print p r = segments_listed (map (segment_of arguments_of) (values p)) (trails p) r ∙ listed_own-punctuated segment_own colon2_before (segment_of arguments_of) colon2 segment_appends (λ q m. refl) p r
 
-arg_print : (x : BareFnArgOf «Type») → arg_own (arg_of type_of x) [] ≡ arg_printed ty_toks x
+pub arg_print : (x : BareFnArgOf «Type») → arg_own (arg_of type_of x) [] ≡ arg_printed ty_toks x
 unfolding option_printed
 arg_print x = by x.name x.ty
   where

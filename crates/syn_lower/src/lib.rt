@@ -11,6 +11,7 @@ mod front;
 mod grammar;
 mod kept;
 mod kinds;
+pub mod laws;
 mod leaf;
 pub mod lifetime;
 pub mod lit;

@@ -1,0 +1,85 @@
+//! What follows of the printers, the readers and the tests together, as contracts of functions that do nothing.
+
+ghost use Rattle.std.specs.Prelude.{map, not, Bool, true, false, [], if◌then◌else◌};
+ghost use Rattle.syn_lower.specs.ReadBack.{PrintsOwn, IsReadBack, IsRead, qpath_of, all_outer, all_inner, all_printed};
+ghost use Rattle.syn_lower.specs.View as view;
+ghost use Rattle.syn_lower.specs.declared.path.GenericArgument.TheVariants as generic;
+ghost use Rattle.syn_lower.specs.declared.path.PathArguments.TheVariants as arguments;
+ghost use Rattle.syn_lower.specs.declared.ty.TypeParamBound.TheVariants as bound;
+ghost use Rattle.syn_lower.specs.declared.ty.«Type».TheVariants as ty;
+ghost use Rattle.syn_parts.specs.Fits as fits;
+ghost use Rattle.syn_parts.specs.Fits.{closed};
+ghost use Rattle.syn_parts.specs.Mark.{pound};
+ghost use Rattle.syn_parts.specs.Own as own;
+ghost use Rattle.syn_parts.specs.Part as part;
+ghost use Rattle.syn_parts.specs.Part.{pound_bang};
+ghost use Rattle.syn_parts.specs.declared.label.LitKind.TheVariants as kind;
+ghost use Rattle.syn_parts.specs.declared.label.PathStyle.TheVariants as style;
+
+use crate::attr::Attribute;
+use crate::block::Block;
+use crate::lifetime::Lifetime;
+use crate::lit::{Lit, LitBool, LitByte, LitByteStr, LitCStr, LitChar, LitFloat, LitInt, LitStr};
+use crate::mac::Macro;
+use crate::path::{AngleBracketedGenericArguments, AssocType, GenericArgument, Path, PathSegment};
+use crate::ty::{
+    BareFnArg, BoundLifetimes, TraitBound, Type, TypeArray, TypeImplTrait, TypeInfer, TypeMacro,
+    TypeNever, TypeParamBound, TypeParen, TypePtr, TypeReference, TypeSlice, TypeTraitObject,
+    TypeTuple,
+};
+use syn_tokens::buffer::{Parse, ToTokens};
+
+/// What is printed of a part that holds others is its own tokens, as a part of them.
+pub fn own_tokens_are_printed()
+    ensures paths { PrintsOwn ⟦<Path as ToTokens>⟧.printed (λ x. own.path_own (view.path_of view.arguments_of x)) }
+    ensures segments { PrintsOwn ⟦<PathSegment as ToTokens>⟧.printed (λ x. own.segment_own (view.segment_of view.arguments_of x)) }
+    ensures angle_bracketed { PrintsOwn ⟦<AngleBracketedGenericArguments as ToTokens>⟧.printed (λ x. own.arguments_own (view.arguments_of (arguments.AngleBracketed x))) }
+    ensures associated_types { PrintsOwn ⟦<AssocType as ToTokens>⟧.printed (λ x. own.generic_own (view.generic_of (generic.AssocType x))) }
+    ensures macros { PrintsOwn ⟦<Macro as ToTokens>⟧.printed (λ x. own.macro_own (view.macro_of view.arguments_of x)) }
+    ensures trait_bounds { PrintsOwn ⟦<TraitBound as ToTokens>⟧.printed (λ x. own.bound_own (view.bound_of (bound.Trait x))) }
+    ensures fn_args { PrintsOwn ⟦<BareFnArg as ToTokens>⟧.printed (λ x. own.arg_own (view.arg_of view.type_of x)) }
+    ensures macro_types { PrintsOwn ⟦<TypeMacro as ToTokens>⟧.printed (λ x. own.type_own (view.type_of (ty.Macro x))) }
+    ensures references { PrintsOwn ⟦<TypeReference as ToTokens>⟧.printed (λ x. own.type_own (view.type_of (ty.Reference x))) }
+    ensures pointers { PrintsOwn ⟦<TypePtr as ToTokens>⟧.printed (λ x. own.type_own (view.type_of (ty.Ptr x))) }
+    ensures slices { PrintsOwn ⟦<TypeSlice as ToTokens>⟧.printed (λ x. own.type_own (view.type_of (ty.Slice x))) }
+    ensures arrays { PrintsOwn ⟦<TypeArray as ToTokens>⟧.printed (λ x. own.type_own (view.type_of (ty.Array x))) }
+    ensures tuples { PrintsOwn ⟦<TypeTuple as ToTokens>⟧.printed (λ x. own.type_own (view.type_of (ty.Tuple x))) }
+    ensures parens { PrintsOwn ⟦<TypeParen as ToTokens>⟧.printed (λ x. own.type_own (view.type_of (ty.Paren x))) }
+    ensures nevers { PrintsOwn ⟦<TypeNever as ToTokens>⟧.printed (λ x. own.type_own (view.type_of (ty.Never x))) }
+    ensures infers { PrintsOwn ⟦<TypeInfer as ToTokens>⟧.printed (λ x. own.type_own (view.type_of (ty.Infer x))) }
+    ensures impl_traits { PrintsOwn ⟦<TypeImplTrait as ToTokens>⟧.printed (λ x. own.type_own (view.type_of (ty.ImplTrait x))) }
+    ensures trait_objects { PrintsOwn ⟦<TypeTraitObject as ToTokens>⟧.printed (λ x. own.type_own (view.type_of (ty.TraitObject x))) }
+{}
+
+/// Each part that passes its test is read back: printed before a rest that doesn't go on with it, it is what its reader
+/// finds, and that rest is what is left.
+pub fn parts_are_read_back()
+    ensures types { IsReadBack (λ x. fits.type_fits true (view.type_of x)) (λ x. fits.type_stops true (view.type_of x)) ⟦<Type as ToTokens>⟧.printed ⟦<Type as Parse>⟧.seen ⟦<Type as Parse>⟧.spells }
+    // `Type::without_plus`
+    ensures one_bound_types { IsReadBack (λ x. fits.type_fits false (view.type_of x)) (λ x. fits.type_stops false (view.type_of x)) ⟦<Type as ToTokens>⟧.printed view.type_of (IsRead (part.type false)) }
+    ensures paths { IsReadBack (λ x. fits.path_fits style.Type (view.path_of view.arguments_of x)) (λ x. fits.path_stops style.Type (view.path_of view.arguments_of x)) ⟦<Path as ToTokens>⟧.printed ⟦<Path as Parse>⟧.seen ⟦<Path as Parse>⟧.spells }
+    // `Path::parse_mod_style`
+    ensures bare_paths { IsReadBack (λ x. fits.path_fits style.Mod (view.path_of view.arguments_of x)) (λ x. fits.path_stops style.Mod (view.path_of view.arguments_of x)) ⟦<Path as ToTokens>⟧.printed (view.path_of view.arguments_of) (IsRead (part.path part.type style.Mod)) }
+    // `qpath` and `print_qpath`
+    ensures qualified_paths { (expr_style : Bool) → IsReadBack (λ q. fits.qpath_fits (if expr_style then style.Expr else style.Type) (qpath_of q)) (λ q. fits.path_stops (if expr_style then style.Expr else style.Type) ((qpath_of q).1)) (λ q. own.qualified_own (qpath_of q) []) qpath_of (IsRead (part.qpath part.type (if expr_style then style.Expr else style.Type))) }
+    ensures segments { IsReadBack (λ x. fits.segment_fits style.Type (view.segment_of view.arguments_of x)) (λ x. fits.segment_stops style.Type (view.segment_of view.arguments_of x)) ⟦<PathSegment as ToTokens>⟧.printed ⟦<PathSegment as Parse>⟧.seen ⟦<PathSegment as Parse>⟧.spells }
+    ensures generic_arguments { IsReadBack (λ x. fits.generic_fits (view.generic_of x)) (λ x. fits.generic_stops (view.generic_of x)) ⟦<GenericArgument as ToTokens>⟧.printed ⟦<GenericArgument as Parse>⟧.seen ⟦<GenericArgument as Parse>⟧.spells }
+    ensures bounds { IsReadBack (λ x. fits.bound_fits (view.bound_of x)) (λ x. fits.bound_stops (view.bound_of x)) ⟦<TypeParamBound as ToTokens>⟧.printed ⟦<TypeParamBound as Parse>⟧.seen ⟦<TypeParamBound as Parse>⟧.spells }
+    ensures macros { IsReadBack (λ x. fits.macro_fits (view.macro_of view.arguments_of x)) closed ⟦<Macro as ToTokens>⟧.printed ⟦<Macro as Parse>⟧.seen ⟦<Macro as Parse>⟧.spells }
+    ensures blocks { IsReadBack (λ x. true) closed ⟦<Block as ToTokens>⟧.printed ⟦<Block as Parse>⟧.seen ⟦<Block as Parse>⟧.spells }
+    ensures bound_lifetimes { IsReadBack (λ x. true) closed ⟦<BoundLifetimes as ToTokens>⟧.printed ⟦<BoundLifetimes as Parse>⟧.seen ⟦<BoundLifetimes as Parse>⟧.spells }
+    ensures lifetimes { IsReadBack (λ x. true) closed ⟦<Lifetime as ToTokens>⟧.printed ⟦<Lifetime as Parse>⟧.seen ⟦<Lifetime as Parse>⟧.spells }
+    // `Attribute::parse_outer`, `Attribute::parse_inner`
+    ensures outer_attributes { IsReadBack all_outer (λ xs rest. not (pound.at rest)) (all_printed ⟦<Attribute as ToTokens>⟧.printed) (map view.attribute_of) (IsRead part.outer_attributes) }
+    ensures inner_attributes { IsReadBack all_inner (λ xs rest. not (pound_bang.at rest)) (all_printed ⟦<Attribute as ToTokens>⟧.printed) (map view.attribute_of) (IsRead part.inner_attributes) }
+    ensures literals { IsReadBack (λ x. fits.lit_fits (view.lit_of x)) closed ⟦<Lit as ToTokens>⟧.printed ⟦<Lit as Parse>⟧.seen ⟦<Lit as Parse>⟧.spells }
+    ensures strings { IsReadBack (λ x. fits.lit_fits (⟦<LitStr as Parse>⟧.seen x)) closed ⟦<LitStr as ToTokens>⟧.printed ⟦<LitStr as Parse>⟧.seen ⟦<LitStr as Parse>⟧.spells }
+    ensures byte_strings { IsReadBack (λ x. fits.lit_fits (⟦<LitByteStr as Parse>⟧.seen x)) closed ⟦<LitByteStr as ToTokens>⟧.printed ⟦<LitByteStr as Parse>⟧.seen ⟦<LitByteStr as Parse>⟧.spells }
+    ensures c_strings { IsReadBack (λ x. fits.lit_fits (⟦<LitCStr as Parse>⟧.seen x)) closed ⟦<LitCStr as ToTokens>⟧.printed ⟦<LitCStr as Parse>⟧.seen ⟦<LitCStr as Parse>⟧.spells }
+    ensures bytes { IsReadBack (λ x. fits.lit_fits (⟦<LitByte as Parse>⟧.seen x)) closed ⟦<LitByte as ToTokens>⟧.printed ⟦<LitByte as Parse>⟧.seen ⟦<LitByte as Parse>⟧.spells }
+    ensures chars { IsReadBack (λ x. fits.lit_fits (⟦<LitChar as Parse>⟧.seen x)) closed ⟦<LitChar as ToTokens>⟧.printed ⟦<LitChar as Parse>⟧.seen ⟦<LitChar as Parse>⟧.spells }
+    ensures truths { IsReadBack (λ x. fits.lit_fits (⟦<LitBool as Parse>⟧.seen x)) closed ⟦<LitBool as ToTokens>⟧.printed ⟦<LitBool as Parse>⟧.seen ⟦<LitBool as Parse>⟧.spells }
+    // a number by itself is read without a sign
+    ensures integers { IsReadBack (λ x. fits.of_kind_fits kind.Int (⟦<LitInt as Parse>⟧.seen x)) closed ⟦<LitInt as ToTokens>⟧.printed ⟦<LitInt as Parse>⟧.seen ⟦<LitInt as Parse>⟧.spells }
+    ensures floats { IsReadBack (λ x. fits.of_kind_fits kind.Float (⟦<LitFloat as Parse>⟧.seen x)) closed ⟦<LitFloat as ToTokens>⟧.printed ⟦<LitFloat as Parse>⟧.seen ⟦<LitFloat as Parse>⟧.spells }
+{}
