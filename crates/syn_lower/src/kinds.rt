@@ -21,7 +21,7 @@ use syn_parts::label::PathStyle;
 use syn_tokens::buffer::{Parse, ParseBuffer};
 use syn_tokens::error::{ErrorKind, Part, Result};
 
-/// Types of one kind.
+/// A struct that holds the types of one kind.
 trait Kind {
     ghost use Rattle.std.specs.Prelude.{Bool};
     ghost use Rattle.syn_lower.specs.declared.ty.«Type».{«Type»};
@@ -31,7 +31,7 @@ trait Kind {
 
     ghost is: { TypeTree → Bool };
 
-    /// The type, if it is of this kind.
+    /// The struct in a type, if it is of this kind.
     fn of(ty: Type) -> Option<Self>
         ensures { MatchOption result (is (type_of ty) ≡ false) (λ x. (is (tree x) ≡ true) × (tree x ≡ type_of ty)) };
 }
@@ -82,8 +82,8 @@ impl Parse for TypeReference {
 
     ghost least = { 1 };
 
-    /// Reads a reference (Rust Reference, "Pointer types"). It is refused as a type is, and another kind of type as `ExpectedPart` of a
-    /// type.
+    /// Reads a reference (Rust Reference, "Pointer types"). It is refused as a type is, and where another kind of type
+    /// stands, as `ExpectedPart` of a type.
     fn parse(input: &mut ParseBuffer<'_>) -> Result<Self> {
         ahead(input)
     }
@@ -115,8 +115,8 @@ impl Parse for TypePtr {
 
     ghost least = { 1 };
 
-    /// Reads a raw pointer (Rust Reference, "Pointer types"). It is refused as a type is, and another kind of type as `ExpectedPart` of a
-    /// type.
+    /// Reads a raw pointer (Rust Reference, "Pointer types"). It is refused as a type is, and where another kind of
+    /// type stands, as `ExpectedPart` of a type.
     fn parse(input: &mut ParseBuffer<'_>) -> Result<Self> {
         ahead(input)
     }
@@ -148,8 +148,8 @@ impl Parse for TypeSlice {
 
     ghost least = { 1 };
 
-    /// Reads a slice (Rust Reference, "Slice types"). It is refused as a type is, and another kind of type as `ExpectedPart` of a
-    /// type.
+    /// Reads a slice (Rust Reference, "Slice types"). It is refused as a type is, and where another kind of type
+    /// stands, as `ExpectedPart` of a type.
     fn parse(input: &mut ParseBuffer<'_>) -> Result<Self> {
         ahead(input)
     }
@@ -181,8 +181,8 @@ impl Parse for TypeArray {
 
     ghost least = { 1 };
 
-    /// Reads an array, whose length is kept as tokens (Rust Reference, "Array types"). It is refused as a type is, and another kind of type as `ExpectedPart` of a
-    /// type.
+    /// Reads an array, whose length is kept as tokens (Rust Reference, "Array types"). It is refused as a type is, and
+    /// where another kind of type stands, as `ExpectedPart` of a type.
     fn parse(input: &mut ParseBuffer<'_>) -> Result<Self> {
         ahead(input)
     }
@@ -214,8 +214,8 @@ impl Parse for TypeTuple {
 
     ghost least = { 1 };
 
-    /// Reads a tuple (Rust Reference, "Tuple types"). It is refused as a type is, and another kind of type as `ExpectedPart` of a
-    /// type.
+    /// Reads a tuple (Rust Reference, "Tuple types"). It is refused as a type is, and where another kind of type
+    /// stands, as `ExpectedPart` of a type.
     fn parse(input: &mut ParseBuffer<'_>) -> Result<Self> {
         ahead(input)
     }
@@ -247,8 +247,8 @@ impl Parse for TypeParen {
 
     ghost least = { 1 };
 
-    /// Reads a type in parentheses (Rust Reference, "Parenthesized types"). It is refused as a type is, and another kind of type as `ExpectedPart` of a
-    /// type.
+    /// Reads a type in parentheses (Rust Reference, "Parenthesized types"). It is refused as a type is, and where
+    /// another kind of type stands, as `ExpectedPart` of a type.
     fn parse(input: &mut ParseBuffer<'_>) -> Result<Self> {
         ahead(input)
     }
@@ -280,8 +280,8 @@ impl Parse for TypeNever {
 
     ghost least = { 1 };
 
-    /// Reads `!` (Rust Reference, "Never type"). It is refused as a type is, and another kind of type as `ExpectedPart` of a
-    /// type.
+    /// Reads `!` (Rust Reference, "Never type"). It is refused as a type is, and where another kind of type stands, as
+    /// `ExpectedPart` of a type.
     fn parse(input: &mut ParseBuffer<'_>) -> Result<Self> {
         ahead(input)
     }
@@ -313,8 +313,8 @@ impl Parse for TypeInfer {
 
     ghost least = { 1 };
 
-    /// Reads `_` (Rust Reference, "Inferred type"). It is refused as a type is, and another kind of type as `ExpectedPart` of a
-    /// type.
+    /// Reads `_` (Rust Reference, "Inferred type"). It is refused as a type is, and where another kind of type stands,
+    /// as `ExpectedPart` of a type.
     fn parse(input: &mut ParseBuffer<'_>) -> Result<Self> {
         ahead(input)
     }
@@ -346,8 +346,8 @@ impl Parse for TypeFnPtr {
 
     ghost least = { 1 };
 
-    /// Reads a function pointer (Rust Reference, "Function pointer types"). It is refused as a type is, and another kind of type as `ExpectedPart` of a
-    /// type.
+    /// Reads a function pointer (Rust Reference, "Function pointer types"). It is refused as a type is, and where
+    /// another kind of type stands, as `ExpectedPart` of a type.
     fn parse(input: &mut ParseBuffer<'_>) -> Result<Self> {
         ahead(input)
     }
@@ -379,8 +379,8 @@ impl Parse for TypeImplTrait {
 
     ghost least = { 1 };
 
-    /// Reads `impl` and its bounds (Rust Reference, "Impl trait"). It is refused as a type is, and another kind of type as `ExpectedPart` of a
-    /// type.
+    /// Reads `impl` and its bounds (Rust Reference, "Impl trait"). It is refused as a type is, and where another kind
+    /// of type stands, as `ExpectedPart` of a type.
     fn parse(input: &mut ParseBuffer<'_>) -> Result<Self> {
         ahead(input)
     }
@@ -412,8 +412,8 @@ impl Parse for TypeTraitObject {
 
     ghost least = { 1 };
 
-    /// Reads `dyn` and its bounds (Rust Reference, "Trait objects"). It is refused as a type is, and another kind of type as `ExpectedPart` of a
-    /// type.
+    /// Reads `dyn` and its bounds (Rust Reference, "Trait objects"). It is refused as a type is, and where another kind
+    /// of type stands, as `ExpectedPart` of a type.
     fn parse(input: &mut ParseBuffer<'_>) -> Result<Self> {
         ahead(input)
     }

@@ -25,6 +25,8 @@ pub mod print;
 pub mod punctuated;
 mod qualified;
 pub mod read_back;
+#[cfg(test)]
+mod reader_tests;
 pub mod readers;
 #[cfg(test)]
 mod tests;
