@@ -28,6 +28,7 @@ pub mod read_back;
 #[cfg(test)]
 mod reader_tests;
 pub mod readers;
+pub mod same;
 #[cfg(test)]
 mod tests;
 mod text;

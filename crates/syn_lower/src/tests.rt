@@ -36,6 +36,15 @@ fn refusal<T: Parse + Drop>(alloc: Global, text: &str) -> Option<ErrorKind> {
     }
 }
 
+/// Whether two texts are read as equal parts.
+fn equal<T: Parse + PartialEq + Drop>(
+    alloc: Global,
+    left: &str,
+    right: &str,
+) -> Result<bool, Error> {
+    Ok(parse_str::<T>(alloc, left)? == parse_str::<T>(alloc, right)?)
+}
+
 #[test]
 fn types_are_read_and_printed(rt: HostRuntime) -> Result<(), Fail> {
     for (text, want) in [
@@ -188,5 +197,127 @@ fn values_with_puncts(rt: HostRuntime) -> Result<(), Fail> {
     assert_eq!(rt; list.last(), Some(&2));
     assert!(rt; !list.trailing_punct());
     assert_eq!(rt; list.iter().count(), 2);
+    Ok(())
+}
+
+#[test]
+fn equality_ignores_places(rt: HostRuntime) -> Result<(), Fail> {
+    for (left, right) in [
+        (
+            "<T as ::a::b<'c,D>>::e",
+            "< T as :: a :: b < 'c , D > > :: e",
+        ),
+        ("a(B,)->C", "a ( B , ) -> C"),
+        ("m!{a}", "m ! { a }"),
+        ("[&'a mut T;1]", "[ & 'a  mut T ; 1 ]"),
+        ("(*const T,!)", "( * const T , ! )"),
+        (
+            "for<'a>unsafe extern\"C\"fn(b:_)",
+            "for < 'a > unsafe extern \"C\" fn ( b : _ )",
+        ),
+        ("impl?A+'a", "impl ? A + 'a"),
+        ("dyn for<'a>A", "dyn  for < 'a > A"),
+    ] {
+        assert!(rt; equal::<Type>(rt.alloc(), left, right)?, "{left}");
+    }
+    assert!(rt; equal::<Lit>(rt.alloc(), "-1", " - 1")?);
+    assert!(rt; equal::<Lifetime>(rt.alloc(), "'a", "  'a")?);
+    assert!(rt; equal::<Block>(rt.alloc(), "{a;}", "{ a ; }")?);
+    Ok(())
+}
+
+#[test]
+fn types_differ_in_each_field(rt: HostRuntime) -> Result<(), Fail> {
+    for (left, right) in [
+        ("&T", "&'a T"),
+        ("&'a T", "&'b T"),
+        ("&T", "&mut T"),
+        ("&T", "&U"),
+        ("*const T", "*mut T"),
+        ("*const T", "*const U"),
+        ("[T]", "[U]"),
+        ("[T; 1]", "[U; 1]"),
+        ("[T; 1]", "[T; 2]"),
+        ("(A,)", "(B,)"),
+        ("(A, B)", "(A, B,)"),
+        ("(A)", "(B)"),
+        ("(A)", "(A,)"),
+        ("!", "_"),
+        ("fn()", "for<'a> fn()"),
+        ("for<'a> fn()", "for<'a,> fn()"),
+        ("fn()", "unsafe fn()"),
+        ("fn()", "extern fn()"),
+        ("extern \"C\" fn()", "extern \"D\" fn()"),
+        ("fn(A)", "fn(a: A)"),
+        ("fn(A)", "fn(B)"),
+        ("fn(A)", "fn(A,)"),
+        ("fn()", "fn() -> A"),
+    ] {
+        assert!(rt; !equal::<Type>(rt.alloc(), left, right)?, "{left}");
+    }
+    Ok(())
+}
+
+#[test]
+fn paths_and_bounds_differ_in_each_field(rt: HostRuntime) -> Result<(), Fail> {
+    for (left, right) in [
+        ("a", "::a"),
+        ("a", "b"),
+        ("a::b", "a::c"),
+        ("a<B>", "a"),
+        ("a<B>", "a::<B>"),
+        ("a<B>", "a<C>"),
+        ("a<B>", "a<B,>"),
+        ("a<'b>", "a<'c>"),
+        ("a<1>", "a<2>"),
+        ("a<B = C>", "a<D = C>"),
+        ("a<B = C>", "a<B = D>"),
+        ("a<B>", "a(B)"),
+        ("a(B)", "a(C)"),
+        ("a(B)", "a(B,)"),
+        ("a(B)", "a(B) -> C"),
+        ("<T>::a", "<U>::a"),
+        ("<T as a>::b::c", "<T as a::b>::c"),
+        ("m!()", "n!()"),
+        ("m!()", "m!{}"),
+        ("m!(a)", "m!(b)"),
+        ("impl A", "dyn A"),
+        ("impl A", "impl ?A"),
+        ("impl A", "impl for<'a> A"),
+        ("impl A", "impl B"),
+        ("impl A", "impl A + B"),
+        ("dyn A + 'a", "dyn A + 'b"),
+    ] {
+        assert!(rt; !equal::<Type>(rt.alloc(), left, right)?, "{left}");
+    }
+    Ok(())
+}
+
+#[test]
+fn leaves_differ_in_each_field(rt: HostRuntime) -> Result<(), Fail> {
+    for (left, right) in [
+        ("1", "2"),
+        ("1", "-1"),
+        ("1", "1.0"),
+        ("1.0", "-1.0"),
+        ("'a'", "b'a'"),
+        ("\"a\"", "b\"a\""),
+        ("\"a\"", "c\"a\""),
+        ("\"a\"", "r\"a\""),
+        ("true", "false"),
+    ] {
+        assert!(rt; !equal::<Lit>(rt.alloc(), left, right)?, "{left}");
+    }
+    assert!(rt; !equal::<Lifetime>(rt.alloc(), "'a", "'b")?);
+    assert!(rt; !equal::<Block>(rt.alloc(), "{a}", "{b}")?);
+    let tokens = lex(rt.alloc(), "#[a] #[b] # [a]")?;
+    let mut input = ParseBuffer::new(&tokens)?;
+    let attributes = Attribute::parse_outer(&mut input)?;
+    assert!(rt; attributes.get(0) != attributes.get(1));
+    assert!(rt; attributes.get(0) == attributes.get(2));
+    let tokens = lex(rt.alloc(), "#![a]")?;
+    let mut input = ParseBuffer::new(&tokens)?;
+    let inner = Attribute::parse_inner(&mut input)?;
+    assert!(rt; attributes.get(0) != inner.get(0));
     Ok(())
 }
