@@ -212,7 +212,7 @@ fn equality_ignores_places(rt: HostRuntime) -> Result<(), Fail> {
         ("[&'a mut T;1]", "[ & 'a  mut T ; 1 ]"),
         ("(*const T,!)", "( * const T , ! )"),
         (
-            "for<'a>unsafe extern\"C\"fn(b:_)",
+            "for<'a>unsafe extern\"C\" fn(b:_)",
             "for < 'a > unsafe extern \"C\" fn ( b : _ )",
         ),
         ("impl?A+'a", "impl ? A + 'a"),
