@@ -1,5 +1,5 @@
 -- Reading on a fork, where a function follows a form that isn't its type's own.
-use Rattle.std.proofs.Common.{◌≡◌, ◌+◌, ◌≤◌, true, false, List, Some, refl}
+use Rattle.std.proofs.Common.{◌≡◌, ◌+◌, ◌≤◌, false, List, Some, refl}
 use Rattle.syn_tokens.specs.Tok.{Tok, weight}
 use Rattle.syn_tokens.specs.Input.{IsTail}
 use Rattle.syn_parts.specs.declared.label.PathStyle.{PathStyle}

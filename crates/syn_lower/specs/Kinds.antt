@@ -1,6 +1,5 @@
 -- Types of one kind.
-use Rattle.std.specs.Prelude.{Bool, true, false, if◌then◌else◌, List, Option, Some, None}
-use Rattle.syn_tokens.specs.Tok.{Tok}
+use Rattle.std.specs.Prelude.{Bool, true, false, if◌then◌else◌, Some, None}
 use Rattle.syn_parts.specs.Tree as t
 use Rattle.syn_parts.specs.Tree.{TypeTree}
 use Rattle.syn_parts.specs.Form.{Form, Outcome}

@@ -2,7 +2,7 @@
 //! the rest.
 #![tactic(auto, using(crate::proofs::Readable::readables))]
 
-ghost use Rattle.std.specs.Prelude.{◌≡◌, ◌≤◌, ◌+◌, IfOk, Some, map, true, false, if◌then◌else◌};
+ghost use Rattle.std.specs.Prelude.{◌≡◌, ◌≤◌, ◌+◌, IfErr, IfOk, Some, map, true, false, if◌then◌else◌};
 ghost use Rattle.syn_lower.specs.Reads.{Reads};
 ghost use Rattle.syn_lower.specs.View.{arguments_of, attribute_of, bound_of, generic_of, lifetimes_of, macro_of, path_of, qself_or, segment_of, type_of};
 ghost use Rattle.syn_parts.specs.Part as part;
@@ -320,6 +320,7 @@ impl Type {
         ensures value { Reads type_of ((part.type false).reads input.old.rest) result input.new.rest }
         ensures noted { input.new.noted ≡ input.old.noted }
         ensures after { IsAfter input.old input.new }
+        ensures stays { IfErr result (λ _. input.new ≡ input.old) }
         ensures moves { IfOk result (λ x. 1 + weight input.new.rest ≤ weight input.old.rest) }
     {
         let mut ahead = input.fork()?;
@@ -340,6 +341,7 @@ impl Path {
         ensures value { Reads (path_of arguments_of) ((part.path part.type PathStyle.Mod).reads input.old.rest) result input.new.rest }
         ensures noted { input.new.noted ≡ input.old.noted }
         ensures after { IsAfter input.old input.new }
+        ensures stays { IfErr result (λ _. input.new ≡ input.old) }
         ensures moves { IfOk result (λ x. 1 + weight input.new.rest ≤ weight input.old.rest) }
     {
         let mut ahead = input.fork()?;
@@ -360,6 +362,7 @@ impl Attribute {
         ensures value { Reads (λ v. map attribute_of v.items) (part.outer_attributes.reads input.old.rest) result input.new.rest }
         ensures noted { input.new.noted ≡ input.old.noted }
         ensures after { IsAfter input.old input.new }
+        ensures stays { IfErr result (λ _. input.new ≡ input.old) }
         ensures moves { IfOk result (λ x. weight input.new.rest ≤ weight input.old.rest) }
     {
         let mut ahead = input.fork()?;
@@ -380,6 +383,7 @@ impl Attribute {
         ensures value { Reads (λ v. map attribute_of v.items) (part.inner_attributes.reads input.old.rest) result input.new.rest }
         ensures noted { input.new.noted ≡ input.old.noted }
         ensures after { IsAfter input.old input.new }
+        ensures stays { IfErr result (λ _. input.new ≡ input.old) }
         ensures moves { IfOk result (λ x. weight input.new.rest ≤ weight input.old.rest) }
     {
         let mut ahead = input.fork()?;
@@ -411,6 +415,7 @@ pub fn qpath(input: &mut ParseBuffer<'_>, expr_style: bool) -> Result<(Option<QS
     ensures value { Reads (λ q. (qself_or type_of q.0, path_of arguments_of q.1)) ((part.qpath part.type (if expr_style then PathStyle.Expr else PathStyle.Type)).reads input.old.rest) result input.new.rest }
     ensures noted { input.new.noted ≡ input.old.noted }
     ensures after { IsAfter input.old input.new }
+    ensures stays { IfErr result (λ _. input.new ≡ input.old) }
     ensures moves { IfOk result (λ q. 1 + weight input.new.rest ≤ weight input.old.rest) }
 {
     let mut ahead = input.fork()?;
