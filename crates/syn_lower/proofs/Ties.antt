@@ -11,17 +11,10 @@ use Rattle.std.specs.Cmp.Lexicographic.{pointwise}
 use Rattle.std.proofs.lemmas.Slice.Eq.{bytes_eq-Decides}
 use Rattle.std.specs.declared.boxed.Box.{Box}
 use Rattle.std.specs.declared.alloc.Global.{Global}
+use Rattle.syn_parts.proofs.Same.{both_true}
 use Rattle.syn_lower.specs.Equal.{IsEqualityOf}
 use Rattle.syn_lower.specs.View.{mapped, values, trails, last_of, is_some_pair}
 use Rattle.syn_lower.specs.declared.punctuated.Punctuated.{Punctuated}
-
-left_of : (a b : Bool) → (a && b) ≡ true → a ≡ true
-left_of true b h = refl
-left_of false b h = absurd cc
-
-right_of : (a b : Bool) → (a && b) ≡ true → b ≡ true
-right_of true b h = h
-right_of false b h = absurd cc
 
 both_of : (a b : Bool) → a ≡ true → b ≡ true → (a && b) ≡ true
 both_of true b h k = k
@@ -34,7 +27,7 @@ token_tie = record { same = λ x y. (λ h. refl, λ e. refl) }
 pub both_tie : {A B C : Type 0} {f : A → B} {g : A → C} {E F : A → A → Bool} → IsEqualityOf f E → IsEqualityOf g F → IsEqualityOf {B = B × C} (λ x. (f x, g x)) (λ x y. E x y && F x y)
 both_tie {A} {B} {C} {f} {g} {E} {F} t u = record {
   same = λ x y. (
-    λ h. let p = (t.same x y).0 (left_of (E x y) (F x y) h) in let q = (u.same x y).0 (right_of (E x y) (F x y) h) in λ i. (p i, q i),
+    λ h. let p = (t.same x y).0 (both_true (E x y) (F x y) h).0 in let q = (u.same x y).0 (both_true (E x y) (F x y) h).1 in λ i. (p i, q i),
     λ e. both_of (E x y) (F x y) ((t.same x y).1 (ap (λ p. p.0) e)) ((u.same x y).1 (ap (λ p. p.1) e)),
   );
 }
@@ -76,7 +69,7 @@ list_tie {A} {B} {f} {E} t = record { same = λ x y. (go x y, back x y) }
     go [] [] h = refl
     go [] (y ∷ ys) h = absurd cc
     go (x ∷ xs) [] h = absurd cc
-    go (x ∷ xs) (y ∷ ys) h = let p = (t.same x y).0 (left_of (E x y) (pointwise E xs ys) h) in let q = go xs ys (right_of (E x y) (pointwise E xs ys) h) in cc
+    go (x ∷ xs) (y ∷ ys) h = let p = (t.same x y).0 (both_true (E x y) (pointwise E xs ys) h).0 in let q = go xs ys (both_true (E x y) (pointwise E xs ys) h).1 in cc
 
     back : (x y : List A) → map f x ≡ map f y → pointwise E x y ≡ true
     back [] [] e = refl
@@ -96,7 +89,7 @@ pub pair_path : {A B : Type 0} {p q : A × B} → p.0 ≡ q.0 → p.1 ≡ q.1 �
 pair_path e f = λ i. (e i, f i)
 
 pub and_true_tie : {A B : Type 0} {f : A → B} {E : A → A → Bool} → IsEqualityOf f E → IsEqualityOf f (λ x y. E x y && true)
-and_true_tie {A} {B} {f} {E} t = record { same = λ x y. (λ h. (t.same x y).0 (left_of (E x y) true h), λ e. both_of (E x y) true ((t.same x y).1 e) refl) }
+and_true_tie {A} {B} {f} {E} t = record { same = λ x y. (λ h. (t.same x y).0 (both_true (E x y) true h).0, λ e. both_of (E x y) true ((t.same x y).1 e) refl) }
 
 -- one value alone
 pub constant_tie : {A B : Type 0} (b : B) → IsEqualityOf {A = A} (λ x. b) (λ x y. true)
