@@ -6,6 +6,8 @@ mod ahead;
 pub mod attr;
 pub mod block;
 mod fits;
+#[cfg(test)]
+mod fits_tests;
 mod fn_pointer;
 mod front;
 mod grammar;
