@@ -21,11 +21,14 @@ use crate::block::Block;
 use crate::lifetime::Lifetime;
 use crate::lit::{Lit, LitBool, LitByte, LitByteStr, LitCStr, LitChar, LitFloat, LitInt, LitStr};
 use crate::mac::Macro;
-use crate::path::{AngleBracketedGenericArguments, AssocType, GenericArgument, Path, PathSegment};
+use crate::path::{
+    AngleBracketedGenericArguments, AssocType, GenericArgument, ParenthesizedGenericArguments,
+    Path, PathSegment,
+};
 use crate::ty::{
-    BareFnArg, BoundLifetimes, TraitBound, Type, TypeArray, TypeImplTrait, TypeInfer, TypeMacro,
-    TypeNever, TypeParamBound, TypeParen, TypePtr, TypeReference, TypeSlice, TypeTraitObject,
-    TypeTuple,
+    Abi, BareFnArg, BoundLifetimes, PointerMutability, ReturnType, TraitBound, Type, TypeArray,
+    TypeFnPtr, TypeImplTrait, TypeInfer, TypeMacro, TypeNever, TypeParamBound, TypeParen, TypePtr,
+    TypeReference, TypeSlice, TypeTraitObject, TypeTuple,
 };
 use syn_tokens::buffer::{Parse, ToTokens};
 
@@ -82,4 +85,31 @@ pub fn parts_are_read_back()
     // a number by itself is read without a sign
     ensures integers { IsReadBack (λ x. fits.of_kind_fits kind.Int (⟦<LitInt as Parse>⟧.seen x)) closed ⟦<LitInt as ToTokens>⟧.printed ⟦<LitInt as Parse>⟧.seen ⟦<LitInt as Parse>⟧.spells }
     ensures floats { IsReadBack (λ x. fits.of_kind_fits kind.Float (⟦<LitFloat as Parse>⟧.seen x)) closed ⟦<LitFloat as ToTokens>⟧.printed ⟦<LitFloat as Parse>⟧.seen ⟦<LitFloat as Parse>⟧.spells }
+{}
+
+/// The same of the parts of paths, of function pointers and of bounds that have readers of their own.
+pub fn pieces_are_read_back()
+    ensures outputs { IsReadBack (λ x. fits.output_fits true (view.return_of x)) (λ x. fits.output_stops true (view.return_of x)) ⟦<ReturnType as ToTokens>⟧.printed ⟦<ReturnType as Parse>⟧.seen ⟦<ReturnType as Parse>⟧.spells }
+    ensures angle_bracketed { IsReadBack (λ x. fits.arguments_fit style.Type (view.arguments_of (arguments.AngleBracketed x))) closed ⟦<AngleBracketedGenericArguments as ToTokens>⟧.printed ⟦<AngleBracketedGenericArguments as Parse>⟧.seen ⟦<AngleBracketedGenericArguments as Parse>⟧.spells }
+    ensures parenthesized { IsReadBack (λ x. fits.arguments_fit style.Type (view.arguments_of (arguments.Parenthesized x))) (λ x. fits.after_name_stops style.Type (view.round_of x)) ⟦<ParenthesizedGenericArguments as ToTokens>⟧.printed ⟦<ParenthesizedGenericArguments as Parse>⟧.seen ⟦<ParenthesizedGenericArguments as Parse>⟧.spells }
+    ensures associated_types { IsReadBack (λ x. fits.generic_fits (view.generic_of (generic.AssocType x))) (λ x. fits.type_stops true (view.type_of x.ty)) ⟦<AssocType as ToTokens>⟧.printed ⟦<AssocType as Parse>⟧.seen ⟦<AssocType as Parse>⟧.spells }
+    ensures mutabilities { IsReadBack (λ x. true) closed ⟦<PointerMutability as ToTokens>⟧.printed ⟦<PointerMutability as Parse>⟧.seen ⟦<PointerMutability as Parse>⟧.spells }
+    ensures abis { IsReadBack (λ x. fits.fits_if fits.is_string (view.abi_of x)) (λ x. fits.abi_stops (view.abi_of x)) ⟦<Abi as ToTokens>⟧.printed ⟦<Abi as Parse>⟧.seen ⟦<Abi as Parse>⟧.spells }
+    ensures fn_args { IsReadBack (λ x. fits.arg_fits (view.arg_of view.type_of x)) (λ x. fits.arg_stops (view.arg_of view.type_of x)) ⟦<BareFnArg as ToTokens>⟧.printed ⟦<BareFnArg as Parse>⟧.seen ⟦<BareFnArg as Parse>⟧.spells }
+    ensures trait_bounds { IsReadBack (λ x. fits.bound_fits (view.bound_of (bound.Trait x))) (λ x. fits.bound_stops (view.bound_of (bound.Trait x))) ⟦<TraitBound as ToTokens>⟧.printed ⟦<TraitBound as Parse>⟧.seen ⟦<TraitBound as Parse>⟧.spells }
+{}
+
+/// The same of each kind of type, as a struct.
+pub fn kinds_of_types_are_read_back()
+    ensures references { IsReadBack (λ x. fits.type_fits true (view.type_of (ty.Reference x))) (λ x. fits.type_stops true (view.type_of (ty.Reference x))) ⟦<TypeReference as ToTokens>⟧.printed ⟦<TypeReference as Parse>⟧.seen ⟦<TypeReference as Parse>⟧.spells }
+    ensures pointers { IsReadBack (λ x. fits.type_fits true (view.type_of (ty.Ptr x))) (λ x. fits.type_stops true (view.type_of (ty.Ptr x))) ⟦<TypePtr as ToTokens>⟧.printed ⟦<TypePtr as Parse>⟧.seen ⟦<TypePtr as Parse>⟧.spells }
+    ensures slices { IsReadBack (λ x. fits.type_fits true (view.type_of (ty.Slice x))) closed ⟦<TypeSlice as ToTokens>⟧.printed ⟦<TypeSlice as Parse>⟧.seen ⟦<TypeSlice as Parse>⟧.spells }
+    ensures arrays { IsReadBack (λ x. fits.type_fits true (view.type_of (ty.Array x))) closed ⟦<TypeArray as ToTokens>⟧.printed ⟦<TypeArray as Parse>⟧.seen ⟦<TypeArray as Parse>⟧.spells }
+    ensures tuples { IsReadBack (λ x. fits.type_fits true (view.type_of (ty.Tuple x))) closed ⟦<TypeTuple as ToTokens>⟧.printed ⟦<TypeTuple as Parse>⟧.seen ⟦<TypeTuple as Parse>⟧.spells }
+    ensures parens { IsReadBack (λ x. fits.type_fits true (view.type_of (ty.Paren x))) closed ⟦<TypeParen as ToTokens>⟧.printed ⟦<TypeParen as Parse>⟧.seen ⟦<TypeParen as Parse>⟧.spells }
+    ensures nevers { IsReadBack (λ x. true) closed ⟦<TypeNever as ToTokens>⟧.printed ⟦<TypeNever as Parse>⟧.seen ⟦<TypeNever as Parse>⟧.spells }
+    ensures infers { IsReadBack (λ x. true) closed ⟦<TypeInfer as ToTokens>⟧.printed ⟦<TypeInfer as Parse>⟧.seen ⟦<TypeInfer as Parse>⟧.spells }
+    ensures fn_pointers { IsReadBack (λ x. fits.type_fits true (view.type_of (ty.FnPtr x))) (λ x. fits.type_stops true (view.type_of (ty.FnPtr x))) ⟦<TypeFnPtr as ToTokens>⟧.printed ⟦<TypeFnPtr as Parse>⟧.seen ⟦<TypeFnPtr as Parse>⟧.spells }
+    ensures impl_traits { IsReadBack (λ x. fits.type_fits true (view.type_of (ty.ImplTrait x))) (λ x. fits.type_stops true (view.type_of (ty.ImplTrait x))) ⟦<TypeImplTrait as ToTokens>⟧.printed ⟦<TypeImplTrait as Parse>⟧.seen ⟦<TypeImplTrait as Parse>⟧.spells }
+    ensures trait_objects { IsReadBack (λ x. fits.type_fits true (view.type_of (ty.TraitObject x))) (λ x. fits.type_stops true (view.type_of (ty.TraitObject x))) ⟦<TypeTraitObject as ToTokens>⟧.printed ⟦<TypeTraitObject as Parse>⟧.seen ⟦<TypeTraitObject as Parse>⟧.spells }
 {}
