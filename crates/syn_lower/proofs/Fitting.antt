@@ -1,5 +1,6 @@
 -- Which parts are read back, by what their code looks at.
 use Rattle.std.proofs.Common.{◌≡◌, ◌≤◌, ℕ, zero, suc, ◌-◌, ◌==◌, ◌&&◌, ◌||◌, Bool, true, false, not, List, [], ◌∷◌, ◌++◌, map, length, Option, Some, None, refl, sym, ap, ◌∙◌, arith}
+use mathlib.Core.Bool.{and-true, and-false, or-true, and_assoc}
 use Rattle.std.proofs.lemmas.Grind.{common_steps}
 use Rattle.std.proofs.lemmas.List.{map-append}
 use Rattle.std.proofs.lemmas.List.Folds.{list_all-append}
@@ -30,6 +31,7 @@ use Rattle.syn_lower.specs.ReadBack.{inner_fits, rows_fit, path_fits_inside, qpa
 use Rattle.syn_lower.specs.View.{values, trails, signed, macro_of, last_of, is_some_pair, mapped, lifetime_of, lifetimes_of, abi_of, arg_of, delimiter_of, segment_of, path_of, qself_or, type_of, generic_of, arguments_of, return_of, bound_of, round_of, fn_ptr_of}
 use Rattle.syn_lower.proofs.Makes.{type-Path, type-Macro, type-Reference, type-Ptr, type-Slice, type-Array, type-Tuple, type-Paren, type-Never, type-Infer, type-FnPtr, type-ImplTrait, type-TraitObject, type_path-is, fn_ptr-is, round-is, arguments-None, arguments-AngleBracketed, arguments-Parenthesized, output-Default, output-Given, bound-Lifetime, bound-Trait}
 use Rattle.syn_lower.proofs.Numbers.{no_sign}
+use Rattle.syn_lower.proofs.Prints.{one_less-is}
 use Rattle.syn_lower.specs.declared.lifetime.Lifetime.{Lifetime}
 use Rattle.syn_lower.specs.declared.punctuated.Punctuated.{Punctuated}
 use Rattle.syn_lower.specs.declared.mac.MacroOf.{MacroOf}
@@ -69,24 +71,6 @@ use Rattle.syn_lower.specs.declared.ty.TypeTraitObjectOf.{TypeTraitObjectOf}
 
 pub ruleset lists = (list_all-append, map-append)
 
--- ---- tests
-
-and-false : (a : Bool) → (a && false) ≡ false
-and-false true = refl
-and-false false = refl
-
-and-true : (a : Bool) → (a && true) ≡ a
-and-true true = refl
-and-true false = refl
-
-or-true : (a : Bool) → (a || true) ≡ true
-or-true true = refl
-or-true false = refl
-
-and-assoc : (a b d : Bool) → ((a && b) && d) ≡ (a && (b && d))
-and-assoc true b d = refl
-and-assoc false b d = refl
-
 -- ---- lists
 
 types_all : {A : Type 0} (f : A → TypeTree) (xs : List A) → types_fit (t.types_of (map f xs)) ≡ list_all (λ x. type_fits true (f x)) xs
@@ -103,7 +87,7 @@ bounds_all f (x ∷ xs) = ap (λ b. bound_fits (f x) && b) (bounds_all f xs)
 
 args_all : {A : Type 0} (f : A → FnArgTree) (xs : List A) → args_fit (t.args_of (map f xs)) ≡ list_all (λ x. fits_if is_arg_name (f x).name && type_fits true (f x).ty) xs
 args_all f [] = refl
-args_all f (x ∷ xs) = ap (λ b. fits_if is_arg_name (f x).name && (type_fits true (f x).ty && b)) (args_all f xs) ∙ sym (and-assoc (fits_if is_arg_name (f x).name) (type_fits true (f x).ty) _)
+args_all f (x ∷ xs) = ap (λ b. fits_if is_arg_name (f x).name && (type_fits true (f x).ty && b)) (args_all f xs) ∙ sym (and_assoc (fits_if is_arg_name (f x).name) (type_fits true (f x).ty) _)
 
 -- a punct ends a list only behind a value
 ends : {A P : Type 0} (none : List A → Bool) → ((x : A) (xs : List A) → none (x ∷ xs) ≡ false) → (p : Punctuated A P) → ends_well (none (values p)) (trails p) ≡ true
@@ -237,10 +221,6 @@ over zero s w v a d ss = arguments_at_colons s w v a
 over (suc zero) s w v a d ss = refl
 over (suc (suc n)) s w v a d ss = let h : ((suc (suc n)) == 1) ≡ false = grind (arith, common_steps) in arguments_at_colons s w v a ∙ ap (λ b. b || arguments_stop style.Type [] a (colon2_before [])) (sym h)
 
-one_less-is : (n : ℕ) → one_less n ≡ n - 1
-one_less-is zero = refl
-one_less-is (suc n) = omega arith
-
 regroup : (a b d e f : Bool) → (a && (b && (d && (e && f)))) ≡ (((a && (b && (d && true))) && e) && f)
 regroup true true true e f = refl
 regroup true true false e f = refl
@@ -361,12 +341,12 @@ pub fits-AngleBracketed : (s : PathStyle) (x : AngleBracketedGenericArgumentsOf 
     → arguments_fit s (arguments_of (ar.AngleBracketed x)) ≡ (takes_angle s (is_some x.colon2_token) && list_all (λ y. generic_fits (generic_of y)) (values x.args))
 fits-AngleBracketed s x = rw (arguments-AngleBracketed x, generics_all generic_of (values x.args), generics_end x.args) (ap (λ b. takes_angle s (is_some x.colon2_token) && b) (and-true _))
 
+output_is : (o : ReturnTree) → return_fits o ≡ output_fits false o
+output_is t.default = refl
+output_is (t.given y) = refl
+
 round_by : (s : PathStyle) (x : ParenthesizedGenericArguments) → arguments_fit s (round_of x) ≡ (takes_round s && (list_all (λ y. type_fits true (type_of y)) (values x.inputs) && output_fits false (return_of x.output)))
 round_by s x = rw (round-is x, types_all type_of (values x.inputs), types_end x.inputs) (ap (λ b. takes_round s && (list_all (λ y. type_fits true (type_of y)) (values x.inputs) && b)) (output_is (return_of x.output)))
-  where
-    output_is : (o : ReturnTree) → return_fits o ≡ output_fits false o
-    output_is t.default = refl
-    output_is (t.given y) = refl
 
 pub fits-Parenthesized : (s : PathStyle) (x : ParenthesizedGenericArguments) → arguments_fit s (arguments_of (ar.Parenthesized x)) ≡ (takes_round s && arguments_fit style.Type (round_of x))
 fits-Parenthesized s x = rw (arguments-Parenthesized x) (round_by s x ∙ ap (λ b. takes_round s && b) (sym (round_by style.Type x)))
@@ -461,10 +441,6 @@ fits-Infer b x = rw (type-Infer x) refl
 
 fn_ptr_by : (b : Bool) (x : TypeFnPtr) → type_fits b (fn_ptr_of x) ≡ (fits_if (fits_if is_string) (mapped abi_of x.abi) && (list_all (λ y. fits_if is_arg_name (mapped (λ n. n.0) y.name) && type_fits true (type_of y.ty)) (values x.inputs) && output_fits false (return_of x.output)))
 fn_ptr_by b x = rw (fn_ptr-is x, some_lifetimes x.lifetimes, args_all (arg_of type_of) (values x.inputs), args_end x.inputs) (ap (λ c. fits_if (fits_if is_string) (mapped abi_of x.abi) && (list_all (λ y. fits_if is_arg_name (mapped (λ n. n.0) y.name) && type_fits true (type_of y.ty)) (values x.inputs) && c)) (output_is (return_of x.output)))
-  where
-    output_is : (o : ReturnTree) → return_fits o ≡ output_fits false o
-    output_is t.default = refl
-    output_is (t.given y) = refl
 
 pub fits-fn_ptr : (x : TypeFnPtr) → type_fits false (fn_ptr_of x) ≡ (fits_if (fits_if is_string) (mapped abi_of x.abi) && (list_all (λ y. fits_if is_arg_name (mapped (λ n. n.0) y.name) && type_fits true (type_of y.ty)) (values x.inputs) && output_fits false (return_of x.output)))
 fits-fn_ptr x = fn_ptr_by false x

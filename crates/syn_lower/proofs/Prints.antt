@@ -177,7 +177,7 @@ end_print : (n : ℕ) (r : List Tok) → qself_end n r ≡ qself_end_printed n +
 end_print zero r = refl
 end_print (suc n) r = let h : ((suc n) == 0) ≡ false = grind (arith, common_steps) in ap (λ (b : Bool). (if b then alone 62 ∷ [] else ident (codes "as") ∷ []) ++ r) (sym h)
 
-one_less-is : (n : ℕ) → one_less n ≡ n - 1
+pub one_less-is : (n : ℕ) → one_less n ≡ n - 1
 one_less-is zero = refl
 one_less-is (suc n) = omega arith
 
