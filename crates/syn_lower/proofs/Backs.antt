@@ -1,11 +1,10 @@
 -- What is printed is read back.
-use Rattle.std.proofs.Common.{◌≡◌, Bool, true, false, not, List, [], ◌∷◌, ◌++◌, map, Option, Some, None, refl, sym, ap, ◌∙◌, append_assoc}
-use Rattle.std.specs.List.{list_all}
+use Rattle.std.proofs.Common.{◌≡◌, Bool, true, false, not, List, [], ◌∷◌, ◌++◌, map, Some, refl, ap, ◌∙◌}
 use Rattle.syn_tokens.specs.Tok.{Tok}
 use Rattle.syn_parts.specs.declared.label.LitKind.TheVariants as kind
 use Rattle.syn_parts.specs.Text.{Text}
 use Rattle.syn_parts.specs.Tree.{AttributeTree}
-use Rattle.syn_parts.specs.Form.{Form, more}
+use Rattle.syn_parts.specs.Form.{Form}
 use Rattle.syn_parts.specs.Mark.{sign_at, pound}
 use Rattle.syn_parts.specs.Part.{pound_bang, outer_body, inner_body, outer_attributes, inner_attributes}
 use Rattle.syn_parts.specs.Own.{attribute_own, block_own}

@@ -16,7 +16,6 @@ use Rattle.syn_tokens.specs.declared.token.Sign.{Sign}
 use Rattle.syn_parts.specs.declared.label.PathStyle.{PathStyle}
 use Rattle.syn_parts.specs.declared.label.PathStyle.TheVariants as style
 use Rattle.syn_parts.specs.declared.label.LitKind.{LitKind}
-use Rattle.syn_parts.specs.declared.label.LitKind.TheVariants as kind
 use Rattle.syn_parts.specs.Same.{same_kind}
 use Rattle.syn_parts.proofs.Same.{same_kind-refl, same_kind-true}
 use Rattle.syn_parts.specs.Text.{Text, is_segment, stands_alone, is_number, number_kind, kind_of}
@@ -24,8 +23,8 @@ use Rattle.syn_parts.specs.Mark.{sign_at, round_at, colon2, plus}
 use Rattle.syn_parts.specs.Part.{angle_at, turbofish_at, has_none, is_arg_name}
 use Rattle.syn_parts.specs.Tree as t
 use Rattle.syn_parts.specs.Tree.{TypeTree, Types, Segments, SegmentTree, PathTree, ArgumentsTree, GenericTree, ReturnTree, Bounds, BoundTree, FnArgTree, QSelfTree}
-use Rattle.syn_parts.specs.Own.{colon2_before, no_more_types, no_more_generics, no_more_args, no_more_bounds, no_more_segments, one_less, at_most, count_segments, inner_count}
-use Rattle.syn_parts.specs.Fits.{segment_fits, arg_fits, is_string, is_const, number_fits, has_kind, macro_fits, path_fits, ends_well, is_none, lifetimes_fit, fits_if, is_one_type, is_one_bound, bare_segments, style_at, takes_angle, takes_round, is_macro_delimiter, position_fits, name_stops, type_stops, mac_stops, segments_stop, arguments_stop, return_stops, bounds_stop, bound_stops, goes_over, type_fits, types_fit, qself_fits, segments_fit, arguments_fit, generics_fit, generic_fits, return_fits, args_fit, bounds_fit, bound_fits, qpath_fits, output_fits}
+use Rattle.syn_parts.specs.Own.{colon2_before, no_more_types, no_more_generics, no_more_args, no_more_bounds, no_more_segments, one_less, at_most, count_segments}
+use Rattle.syn_parts.specs.Fits.{segment_fits, arg_fits, is_string, is_const, number_fits, macro_fits, path_fits, ends_well, is_none, lifetimes_fit, fits_if, is_one_type, is_one_bound, bare_segments, style_at, takes_angle, takes_round, is_macro_delimiter, position_fits, name_stops, type_stops, mac_stops, segments_stop, arguments_stop, return_stops, bounds_stop, bound_stops, goes_over, type_fits, types_fit, segments_fit, arguments_fit, generics_fit, generic_fits, return_fits, args_fit, bounds_fit, bound_fits, qpath_fits, output_fits}
 use Rattle.syn_lower.specs.Punct.{is_one}
 use Rattle.syn_lower.specs.ReadBack.{inner_fits, rows_fit, path_fits_inside, qpath_fits_by}
 use Rattle.syn_lower.specs.View.{values, trails, signed, macro_of, last_of, is_some_pair, mapped, lifetime_of, lifetimes_of, abi_of, arg_of, delimiter_of, segment_of, path_of, qself_or, type_of, generic_of, arguments_of, return_of, bound_of, round_of, fn_ptr_of}
@@ -45,7 +44,6 @@ use Rattle.syn_lower.specs.declared.path.ParenthesizedGenericArguments.{Parenthe
 use Rattle.syn_lower.specs.declared.path.GenericArgument.{GenericArgument}
 use Rattle.syn_lower.specs.declared.path.PathArguments.{PathArguments}
 use Rattle.syn_lower.specs.declared.path.PathArguments.TheVariants as ar
-use Rattle.syn_lower.specs.declared.ty.ReturnType.{ReturnType}
 use Rattle.syn_lower.specs.declared.ty.ReturnType.TheVariants as re
 use Rattle.syn_lower.specs.declared.ty.TypeParamBound.{TypeParamBound}
 use Rattle.syn_lower.specs.declared.ty.TypeParamBound.TheVariants as bo
@@ -55,7 +53,6 @@ use Rattle.syn_lower.specs.declared.ty.«Type».{«Type»}
 use Rattle.syn_lower.specs.declared.ty.«Type».TheVariants as ty
 use Rattle.syn_lower.specs.declared.ty.BareFnArgOf.{BareFnArgOf}
 use Rattle.syn_lower.specs.declared.ty.BoundLifetimes.{BoundLifetimes}
-use Rattle.syn_lower.specs.declared.ty.Abi.{Abi}
 use Rattle.syn_lower.specs.declared.ty.TraitBoundOf.{TraitBoundOf}
 use Rattle.syn_lower.specs.declared.ty.TypeMacroOf.{TypeMacroOf}
 use Rattle.syn_lower.specs.declared.ty.TypeTupleOf.{TypeTupleOf}

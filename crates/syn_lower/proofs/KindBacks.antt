@@ -1,10 +1,8 @@
 -- Types of one kind, and parts of others, that are printed and read back.
-use Rattle.std.proofs.Common.{◌≡◌, Bool, true, List, [], ◌∷◌, ◌++◌, Option, Some, refl, sym, ap, ◌∙◌}
+use Rattle.std.proofs.Common.{◌≡◌, Bool, true, List, [], ◌∷◌, ◌++◌, Some, refl, sym, ap, ◌∙◌}
 use Rattle.syn_tokens.specs.Tok.{Tok, ident}
 use Rattle.syn_parts.specs.declared.label.PathStyle.TheVariants as style
-use Rattle.syn_parts.specs.Tree as t
 use Rattle.syn_parts.specs.Tree.{TypeTree, ReturnTree}
-use Rattle.syn_parts.specs.Part.{type}
 use Rattle.syn_parts.specs.Own.{type_own, return_own, arguments_own, assoc_own, bound_own, mutability_own, alone}
 use Rattle.syn_parts.specs.Fits.{type_fits, type_stops, arguments_fit, generic_fits, bound_fits, bound_stops, in_angle_fits, in_round_fits, assoc_fits, trait_fits}
 use Rattle.syn_parts.proofs.Whole.{parts_read_back}

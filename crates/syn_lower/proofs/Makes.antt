@@ -1,5 +1,5 @@
 -- The tree of each kind of part, by its fields.
-use Rattle.std.proofs.Common.{◌≡◌, List, map, refl}
+use Rattle.std.proofs.Common.{◌≡◌, List, map}
 use Rattle.std.specs.Prelude.{is_some}
 use Rattle.syn_tokens.specs.Tok.{Tok}
 use Rattle.syn_tokens.specs.declared.token.Sign.{Sign}
@@ -8,11 +8,7 @@ use Rattle.syn_lower.specs.View.{values, trails, mapped, lifetime_of, lifetimes_
 use Rattle.syn_lower.proofs.Layers.{generic_of-Lifetime, generic_of-Const, generic_of-AssocType, generic_of-Ty, arguments_of-AngleBracketed, arguments_of-Parenthesized, return_of-Given, bound_of-Lifetime, bound_of-Trait, type_of-Path, type_of-Macro, type_of-Reference, type_of-Ptr, type_of-Slice, type_of-Array, type_of-Tuple, type_of-Paren, type_of-Never, type_of-Infer, type_of-FnPtr, type_of-ImplTrait, type_of-TraitObject, arguments_of-None, return_of-Default, round_of-out, fn_ptr_of-out, type_path_of-out}
 use Rattle.std.specs.declared.boxed.Box.{Box}
 use Rattle.std.specs.declared.alloc.Global.{Global}
-use Rattle.syn_lower.specs.declared.punctuated.Punctuated.{Punctuated}
 use Rattle.syn_lower.specs.declared.lifetime.Lifetime.{Lifetime}
-use Rattle.syn_lower.specs.declared.path.PathOf.{PathOf}
-use Rattle.syn_lower.specs.declared.path.PathSegmentOf.{PathSegmentOf}
-use Rattle.syn_lower.specs.declared.path.QSelfOf.{QSelfOf}
 use Rattle.syn_lower.specs.declared.path.AssocTypeOf.{AssocTypeOf}
 use Rattle.syn_lower.specs.declared.path.AngleBracketedGenericArgumentsOf.{AngleBracketedGenericArgumentsOf}
 use Rattle.syn_lower.specs.declared.path.ParenthesizedGenericArguments.{ParenthesizedGenericArguments}
@@ -20,7 +16,6 @@ use Rattle.syn_lower.specs.declared.path.GenericArgument.{GenericArgument}
 use Rattle.syn_lower.specs.declared.path.GenericArgument.TheVariants as ge
 use Rattle.syn_lower.specs.declared.path.PathArguments.{PathArguments}
 use Rattle.syn_lower.specs.declared.path.PathArguments.TheVariants as ar
-use Rattle.syn_lower.specs.declared.ty.ReturnType.{ReturnType}
 use Rattle.syn_lower.specs.declared.ty.ReturnType.TheVariants as re
 use Rattle.syn_lower.specs.declared.ty.TypeParamBound.{TypeParamBound}
 use Rattle.syn_lower.specs.declared.ty.TypeParamBound.TheVariants as bo
@@ -28,13 +23,8 @@ use Rattle.syn_lower.specs.declared.ty.TypeFnPtr.{TypeFnPtr}
 use Rattle.syn_lower.specs.declared.ty.TypePath.{TypePath}
 use Rattle.syn_lower.specs.declared.ty.«Type».{«Type»}
 use Rattle.syn_lower.specs.declared.ty.«Type».TheVariants as ty
-use Rattle.syn_lower.specs.declared.ty.BareFnArgOf.{BareFnArgOf}
-use Rattle.syn_lower.specs.declared.ty.BoundLifetimes.{BoundLifetimes}
-use Rattle.syn_lower.specs.declared.ty.Abi.{Abi}
 use Rattle.syn_lower.specs.declared.ty.TypeNever.{TypeNever}
 use Rattle.syn_lower.specs.declared.ty.TypeInfer.{TypeInfer}
-use Rattle.syn_lower.specs.declared.ty.PointerMutability.{PointerMutability}
-use Rattle.syn_lower.specs.declared.ty.PointerMutability.TheVariants as pointer
 use Rattle.syn_lower.specs.declared.ty.TraitBoundOf.{TraitBoundOf}
 use Rattle.syn_lower.specs.declared.ty.TypeMacroOf.{TypeMacroOf}
 use Rattle.syn_lower.specs.declared.ty.TypeReferenceOf.{TypeReferenceOf}

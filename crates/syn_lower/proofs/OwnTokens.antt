@@ -1,13 +1,12 @@
 -- What is printed of each part is its own tokens, before whatever follows.
-use Rattle.std.proofs.Common.{◌≡◌, List, [], ◌∷◌, ◌++◌, refl, sym, ap, ◌∙◌, append_assoc}
-use Rattle.std.proofs.lemmas.List.{append-nil}
+use Rattle.std.proofs.Common.{◌≡◌, List, [], ◌∷◌, ◌++◌, sym, ap, ◌∙◌, append_assoc}
 use Rattle.syn_tokens.specs.Tok.{Tok, ident}
 use Rattle.syn_parts.specs.Own.{path_own, macro_own, segment_own, arg_own, arguments_own, generic_own, bound_own, type_own}
 use Rattle.syn_parts.specs.Tree.{TypeTree, ArgumentsTree, GenericTree, BoundTree}
-use Rattle.syn_lower.specs.View.{path_of, segment_of, macro_of, arg_of, type_of, generic_of, arguments_of, bound_of}
-use Rattle.syn_lower.specs.Printed.{path_printed, segment_printed, macro_printed, arg_printed, grouped}
+use Rattle.syn_lower.specs.View.{path_of, segment_of, macro_of, arg_of, type_of, arguments_of}
+use Rattle.syn_lower.specs.Printed.{path_printed, segment_printed, macro_printed, arg_printed}
 use Rattle.syn_lower.proofs.Owns.{type_append, arguments_append, generic_append, bound_append}
-use Rattle.syn_lower.proofs.Prints.{ty_toks, ar_toks, ge_toks, bo_toks, path_print, arg_print, arg_appends}
+use Rattle.syn_lower.proofs.Prints.{ty_toks, ar_toks, path_print, arg_print, arg_appends}
 use Rattle.syn_lower.specs.declared.mac.MacroOf.{MacroOf}
 use Rattle.syn_lower.specs.declared.path.PathOf.{PathOf}
 use Rattle.syn_lower.specs.declared.path.PathSegmentOf.{PathSegmentOf}

@@ -1,5 +1,5 @@
 -- Lists with puncts.
-use Rattle.std.proofs.Common.{◌≡◌, true, false, List, [], ◌∷◌, ◌++◌, refl, sym, ◌∙◌}
+use Rattle.std.proofs.Common.{◌≡◌, true, false, [], ◌∷◌, ◌++◌, refl, sym, ◌∙◌}
 use Rattle.syn_lower.specs.Punct.{puncts, takes_value, IsSameList, PutsPunct}
 use Rattle.syn_lower.specs.declared.punctuated.Punctuated.{Punctuated}
 

@@ -19,7 +19,6 @@ use Rattle.syn_lower.specs.declared.path.PathOf.{PathOf}
 use Rattle.syn_lower.specs.declared.path.PathSegmentOf.{PathSegmentOf}
 use Rattle.syn_lower.specs.declared.path.AngleBracketedGenericArgumentsOf.{AngleBracketedGenericArgumentsOf}
 use Rattle.syn_lower.specs.declared.path.AssocTypeOf.{AssocTypeOf}
-use Rattle.syn_lower.specs.declared.ty.TypeMacroOf.{TypeMacroOf}
 use Rattle.syn_lower.specs.declared.ty.TypeReferenceOf.{TypeReferenceOf}
 use Rattle.syn_lower.specs.declared.ty.TypePtrOf.{TypePtrOf}
 use Rattle.syn_lower.specs.declared.ty.PointerMutability.{PointerMutability}

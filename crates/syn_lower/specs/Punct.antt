@@ -1,6 +1,6 @@
 -- Lists with puncts: the puncts, and whether a value may follow.
 use Rattle.std.specs.Prelude.{Bool, true, false, not, List, [], ◌∷◌, ◌++◌, map, is_some, ◌≡◌}
-use Rattle.syn_lower.specs.View.{values, trails}
+use Rattle.syn_lower.specs.View.{values}
 use Rattle.syn_lower.specs.declared.punctuated.Punctuated.{Punctuated}
 
 -- the puncts, in their order

@@ -1,4 +1,4 @@
-use Rattle.std.proofs.Common.{◌≡◌, true, refl, ap, ◌∙◌}
+use Rattle.std.proofs.Common.{true}
 use Rattle.syn_parts.specs.Part.{is_never, is_infer}
 use Rattle.syn_lower.specs.Kinds.{is_reference, is_pointer, is_slice, is_array, is_tuple, is_paren, is_fn_pointer, is_impl_trait, is_trait_object}
 use Rattle.syn_lower.proofs.KindBacks.{kind_back}

@@ -1,4 +1,4 @@
-use Rattle.std.proofs.Common.{◌≡◌, Bool, true, false, refl, sym, if◌then◌else◌}
+use Rattle.std.proofs.Common.{true, false, refl, sym, if◌then◌else◌}
 use Rattle.syn_parts.specs.declared.label.LitKind.TheVariants as kind
 use Rattle.syn_parts.specs.declared.label.PathStyle.TheVariants as style
 use Rattle.syn_parts.specs.Kind.{of_kind}

@@ -1,5 +1,4 @@
-use Rattle.std.proofs.Common.{◌≡◌, true, sym, ◌∙◌}
-use Rattle.syn_parts.specs.declared.label.PathStyle.TheVariants as style
+use Rattle.std.proofs.Common.{true, sym, ◌∙◌}
 use Rattle.syn_parts.specs.Part as part
 use Rattle.syn_parts.proofs.Whole.{parts_read_back}
 use Rattle.syn_lower.specs.View as view

@@ -1,4 +1,4 @@
-use Rattle.std.proofs.Common.{◌≡◌, ◌≤◌, map, true, false}
+use Rattle.std.proofs.Common.{◌≡◌, ◌≤◌, map, false}
 use Rattle.syn_tokens.specs.Tok.{weight}
 use Rattle.syn_parts.specs.Form.{listed, gathered}
 use Rattle.syn_parts.specs.Mark.{comma, gt}
