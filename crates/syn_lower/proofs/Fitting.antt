@@ -5,7 +5,7 @@ use Rattle.std.proofs.lemmas.Grind.{common_steps}
 use Rattle.std.proofs.lemmas.List.{map-append}
 use Rattle.std.proofs.lemmas.List.Folds.{list_all-append}
 use Rattle.std.specs.List.{list_all}
-use Rattle.std.specs.Prelude.{is_some, IsTrue, ◌↔◌}
+use Rattle.std.specs.Prelude.{is_some}
 use Rattle.std.specs.declared.boxed.Box.{Box}
 use Rattle.std.specs.declared.alloc.Global.{Global}
 use Rattle.syn_lexer.specs.declared.lexeme.Delimiter.TheVariants as del
@@ -15,27 +15,23 @@ use Rattle.syn_tokens.specs.View.{length-toks_of}
 use Rattle.syn_tokens.specs.declared.token.Sign.{Sign}
 use Rattle.syn_parts.specs.declared.label.PathStyle.{PathStyle}
 use Rattle.syn_parts.specs.declared.label.PathStyle.TheVariants as style
-use Rattle.syn_parts.specs.declared.label.LitKind.{LitKind}
-use Rattle.syn_parts.specs.Same.{same_kind}
-use Rattle.syn_parts.proofs.Same.{same_kind-refl, same_kind-true}
-use Rattle.syn_parts.specs.Text.{Text, is_segment, stands_alone, is_number, number_kind, kind_of}
+use Rattle.syn_parts.specs.Text.{Text, is_segment, stands_alone}
 use Rattle.syn_parts.specs.Mark.{sign_at, round_at, colon2, plus}
 use Rattle.syn_parts.specs.Part.{angle_at, turbofish_at, has_none, is_arg_name}
 use Rattle.syn_parts.specs.Tree as t
-use Rattle.syn_parts.specs.Tree.{TypeTree, Types, Segments, SegmentTree, PathTree, ArgumentsTree, GenericTree, ReturnTree, Bounds, BoundTree, FnArgTree, QSelfTree}
+use Rattle.syn_parts.specs.Tree.{TypeTree, Segments, SegmentTree, ArgumentsTree, GenericTree, ReturnTree, Bounds, BoundTree, FnArgTree}
 use Rattle.syn_parts.specs.Own.{colon2_before, no_more_types, no_more_generics, no_more_args, no_more_bounds, no_more_segments, one_less, at_most, count_segments}
-use Rattle.syn_parts.specs.Fits.{segment_fits, arg_fits, is_string, is_const, number_fits, macro_fits, path_fits, ends_well, is_none, lifetimes_fit, fits_if, is_one_type, is_one_bound, bare_segments, style_at, takes_angle, takes_round, is_macro_delimiter, position_fits, name_stops, type_stops, mac_stops, segments_stop, arguments_stop, return_stops, bounds_stop, bound_stops, goes_over, type_fits, types_fit, segments_fit, arguments_fit, generics_fit, generic_fits, return_fits, args_fit, bounds_fit, bound_fits, qpath_fits, output_fits}
+use Rattle.syn_parts.specs.Fits.{segment_fits, arg_fits, is_string, is_const, macro_fits, path_fits, ends_well, is_none, lifetimes_fit, fits_if, is_one_type, is_one_bound, bare_segments, style_at, takes_angle, takes_round, is_macro_delimiter, position_fits, name_stops, type_stops, mac_stops, segments_stop, arguments_stop, return_stops, bounds_stop, bound_stops, goes_over, type_fits, types_fit, segments_fit, arguments_fit, generics_fit, generic_fits, return_fits, args_fit, bounds_fit, bound_fits, qpath_fits, output_fits}
 use Rattle.syn_lower.specs.Punct.{is_one}
 use Rattle.syn_lower.specs.ReadBack.{inner_fits, rows_fit, path_fits_inside, qpath_fits_by}
-use Rattle.syn_lower.specs.View.{values, trails, signed, macro_of, last_of, is_some_pair, mapped, lifetime_of, lifetimes_of, abi_of, arg_of, delimiter_of, segment_of, path_of, qself_or, type_of, generic_of, arguments_of, return_of, bound_of, round_of, fn_ptr_of}
+use Rattle.syn_lower.specs.View.{values, trails, macro_of, last_of, is_some_pair, mapped, lifetime_of, lifetimes_of, abi_of, arg_of, delimiter_of, segment_of, path_of, qself_or, type_of, generic_of, arguments_of, return_of, bound_of, round_of, fn_ptr_of}
 use Rattle.syn_lower.proofs.Makes.{type-Path, type-Macro, type-Reference, type-Ptr, type-Slice, type-Array, type-Tuple, type-Paren, type-Never, type-Infer, type-FnPtr, type-ImplTrait, type-TraitObject, type_path-is, fn_ptr-is, round-is, arguments-None, arguments-AngleBracketed, arguments-Parenthesized, output-Default, output-Given, bound-Lifetime, bound-Trait}
-use Rattle.syn_lower.proofs.Numbers.{no_sign}
 use Rattle.syn_lower.proofs.Prints.{one_less-is}
-use Rattle.syn_lower.specs.declared.lifetime.Lifetime.{Lifetime}
+use Rattle.syn_leaf.specs.declared.lifetime.Lifetime.{Lifetime}
 use Rattle.syn_lower.specs.declared.punctuated.Punctuated.{Punctuated}
 use Rattle.syn_lower.specs.declared.mac.MacroOf.{MacroOf}
-use Rattle.syn_lower.specs.declared.mac.MacroDelimiter.{MacroDelimiter}
-use Rattle.syn_lower.specs.declared.mac.MacroDelimiter.TheVariants as mac
+use Rattle.syn_leaf.specs.declared.mac.MacroDelimiter.{MacroDelimiter}
+use Rattle.syn_leaf.specs.declared.mac.MacroDelimiter.TheVariants as mac
 use Rattle.syn_lower.specs.declared.path.PathOf.{PathOf}
 use Rattle.syn_lower.specs.declared.path.PathSegmentOf.{PathSegmentOf}
 use Rattle.syn_lower.specs.declared.path.QSelfOf.{QSelfOf}
@@ -484,29 +480,13 @@ pub ruleset bounds = (bounds_hold)
 
 pub ruleset paths = (path_fits-some, path_fits-none)
 
--- ---- literals, paths and macros
-
-pub number_by : {M : Type 0} (m : Option M) (text : Text) (k : LitKind) → is_number text ≡ true → number_fits k (signed m text) ≡ same_kind (number_kind text) k
-unfolding is_number kind_of
-number_by None [] k h = cc
-number_by None (c ∷ text) k h = rw (no_sign c text h, h) refl
-number_by (Some m) text k h = ap (λ b. b && same_kind (number_kind text) k) h
-
-pub same_kind-is : (j k : LitKind) (b : Bool) → (IsTrue b ↔ (j ≡ k)) → b ≡ same_kind j k
-same_kind-is j k true h = rw (h.0 refl) (sym (same_kind-refl k))
-same_kind-is j k false h = by (same_kind j k) refl
-  where
-    by : (b : Bool) → same_kind j k ≡ b → false ≡ b
-    by true e = h.1 (same_kind-true j k e)
-    by false e = refl
+-- ---- paths and macros
 
 pub macro_fits-is : (x : MacroOf PathArguments) → macro_fits (macro_of arguments_of x) ≡ path_fits style.Mod (path_of arguments_of x.path)
 macro_fits-is x = rw (shown_delimiter x.delimiter) (and-true _)
 
 pub fits-macro : (b : Bool) (x : TypeMacroOf PathArguments) → type_fits b (type_of (ty.Macro x)) ≡ macro_fits (macro_of arguments_of x.mac)
 fits-macro b x = fits-Macro b x ∙ sym (macro_fits-is x.mac)
-
-pub ruleset numbers = (number_by, same_kind-is)
 
 pub ruleset macros = (macro_fits-is, fits-macro)
 

@@ -6,11 +6,11 @@ use Rattle.syn_parts.specs.Tree.{TypeTree, ReturnTree}
 use Rattle.syn_parts.specs.Own.{type_own, return_own, arguments_own, assoc_own, bound_own, mutability_own, alone}
 use Rattle.syn_parts.specs.Fits.{type_fits, type_stops, arguments_fit, generic_fits, bound_fits, bound_stops, in_angle_fits, in_round_fits, assoc_fits, trait_fits}
 use Rattle.syn_parts.proofs.Whole.{parts_read_back}
-use Rattle.syn_lower.specs.Kinds.{of_kind}
+use Rattle.syn_parts.specs.Kind.{type_of_kind}
 use Rattle.syn_lower.specs.View.{type_of, generic_of, arguments_of, bound_of, round_of, angle_of, trait_of, name_and_type, is_mut}
 use Rattle.syn_lower.specs.Printed.{mutability_printed, angle_printed, assoc_printed, trait_printed}
 use Rattle.syn_lower.proofs.Makes.{arguments-AngleBracketed, arguments-Parenthesized, round-is, generic-AssocType, bound-Trait}
-use Rattle.syn_lower.proofs.Owns.{return_append}
+use Rattle.syn_parts.proofs.Appends.{return_append}
 use Rattle.syn_lower.proofs.OwnTokens.{type_printed, arguments_printed, bound_printed}
 use Rattle.syn_lower.proofs.Prints.{ty_toks, ar_toks, ge_toks, ar-AngleBracketed, bo-Trait}
 use Rattle.syn_lower.specs.declared.path.AngleBracketedGenericArgumentsOf.{AngleBracketedGenericArgumentsOf}
@@ -27,8 +27,8 @@ use Rattle.syn_lower.specs.declared.ty.PointerMutability.{PointerMutability}
 use Rattle.syn_lower.specs.declared.ty.PointerMutability.TheVariants as pointer
 
 -- a type of this kind, by what is printed of it
-pub kind_back : (is : TypeTree → Bool) (x : TypeTree) (printed rest : List Tok) → is x ≡ true → type_own x [] ≡ printed → type_fits true x ≡ true → type_stops true x rest ≡ true → (of_kind is).behind x (printed ++ rest) ≡ Some rest
-unfolding of_kind
+pub kind_back : (is : TypeTree → Bool) (x : TypeTree) (printed rest : List Tok) → is x ≡ true → type_own x [] ≡ printed → type_fits true x ≡ true → type_stops true x rest ≡ true → (type_of_kind is).behind x (printed ++ rest) ≡ Some rest
+unfolding type_of_kind
 kind_back is x printed rest k p f s = rw (k, type_printed x printed rest p) (parts_read_back.types true x rest f s)
 
 pub returns_print : (o : ReturnTree) (rest : List Tok) → return_own o [] ++ rest ≡ return_own o rest

@@ -3,7 +3,7 @@ use Rattle.std.proofs.Common.{◌≡◌, true, List, refl}
 use Rattle.syn_tokens.specs.Tok.{Tok}
 use Rattle.syn_parts.specs.Part.{is_never, is_infer}
 use Rattle.syn_parts.specs.Fits.{type_stops}
-use Rattle.syn_lower.specs.Kinds.{is_reference, is_pointer, is_slice, is_array, is_tuple, is_paren, is_fn_pointer, is_impl_trait, is_trait_object}
+use Rattle.syn_parts.specs.Kind.{is_reference, is_pointer, is_slice, is_array, is_tuple, is_paren, is_fn_pointer, is_impl_trait, is_trait_object}
 use Rattle.syn_lower.specs.View.{type_of}
 use Rattle.syn_lower.proofs.Makes.{type-Reference, type-Ptr, type-Slice, type-Array, type-Tuple, type-Paren, type-Never, type-Infer, type-FnPtr, fn_ptr-is, type-ImplTrait, type-TraitObject}
 use Rattle.syn_lower.specs.declared.ty.«Type».{«Type»}

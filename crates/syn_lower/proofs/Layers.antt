@@ -35,7 +35,7 @@ use Rattle.syn_lower.specs.declared.ty.TypeTraitObjectOf.{TypeTraitObjectOf}
 use Rattle.syn_lower.specs.declared.path.AssocTypeOf.{AssocTypeOf}
 use Rattle.syn_lower.specs.declared.path.AngleBracketedGenericArgumentsOf.{AngleBracketedGenericArgumentsOf}
 use Rattle.syn_lower.specs.declared.ty.TraitBoundOf.{TraitBoundOf}
-use Rattle.syn_lower.specs.declared.lifetime.Lifetime.{Lifetime}
+use Rattle.syn_leaf.specs.declared.lifetime.Lifetime.{Lifetime}
 use Rattle.syn_lower.specs.View.{values, trails, generic_layer, generic_step, generic_of, arguments_layer, arguments_step, arguments_of, return_layer, return_step, return_of, type_layer, type_step, type_of, bound_layer, bound_step, bound_of, round_layer, round_step, round_of, fn_ptr_layer, fn_ptr_step, fn_ptr_of, type_path_layer, type_path_step, type_path_of}
 
 generic_step-map : (l : GenericArgument-F GenericArgument PathArguments ReturnType «Type» TypeParamBound ParenthesizedGenericArguments TypeFnPtr TypePath) → generic_step (map-GenericArgument GenericArgument PathArguments ReturnType «Type» TypeParamBound ParenthesizedGenericArguments TypeFnPtr TypePath GenericTree ArgumentsTree ReturnTree TypeTree BoundTree ArgumentsTree TypeTree TypeTree generic_of arguments_of return_of type_of bound_of round_of fn_ptr_of type_path_of l) ≡ generic_layer generic_of arguments_of return_of type_of bound_of round_of fn_ptr_of type_path_of l

@@ -1,40 +1,18 @@
 -- One turn of each loop that reads a list.
-use Rattle.std.proofs.Common.{◌≡◌, true, false, cond, List, [], ◌∷◌, ◌++◌, map, drop, Some, None, refl, ap, sym, ◌∙◌, append_assoc}
-use Rattle.std.proofs.lemmas.List.{map-append}
+use Rattle.std.proofs.Common.{◌≡◌, true, false, cond, List, [], ◌∷◌, ◌++◌, drop, Some, None, refl, ap, sym, ◌∙◌, append_assoc}
 use Rattle.syn_tokens.specs.Tok.{Tok}
-use Rattle.syn_parts.specs.Tree.{AttributeTree, FnArgTree, TypeTree, GenericTree, BoundTree, SegmentTree}
+use Rattle.syn_parts.specs.Tree.{FnArgTree, TypeTree, GenericTree, BoundTree, SegmentTree}
 use Rattle.syn_tokens.specs.Front.{is_empty}
 use Rattle.syn_parts.specs.Form.{Outcome, and_then, more, joined, extend_more, gathered_more, listed, gathered}
-use Rattle.syn_parts.specs.Mark.{pound, comma, gt, colon2, plus}
-use Rattle.syn_parts.specs.Part.{pound_bang, outer_body, inner_body, type, generic, lifetime, bound, segment, fn_arg}
+use Rattle.syn_parts.specs.Mark.{comma, gt, colon2, plus}
+use Rattle.syn_parts.specs.Part.{type, generic, lifetime, bound, segment, fn_arg}
 use Rattle.syn_parts.proofs.Loops as loops
-use Rattle.syn_parts.proofs.Marks.{pound_present, pound_bang_present, comma_present, colon2_present, plus_present}
-use Rattle.syn_parts.proofs.Parts.{outer_body_alike, inner_body_alike, type_alike, types_alike, generic_alike, fn_arg_alike, lifetime_alike, bound_alike, whole_segment_alike}
+use Rattle.syn_parts.proofs.Marks.{comma_present, colon2_present, plus_present}
+use Rattle.syn_parts.proofs.Parts.{type_alike, types_alike, generic_alike, fn_arg_alike, lifetime_alike, bound_alike, whole_segment_alike}
 use Rattle.syn_parts.proofs.Forms.{weaker}
 use Rattle.syn_parts.specs.declared.label.PathStyle.{PathStyle}
 use Rattle.syn_parts.specs.Text.{Text}
-
--- one more element at the end, as it is seen
-pub map-one : {A B : Type 0} (f : A → B) (xs : List A) (x : A) → map f (xs ++ x ∷ []) ≡ map f xs ++ f x ∷ []
-map-one f xs x = map-append f xs (x ∷ [])
-
-pub outer_turn : (found : List AttributeTree) (l : List Tok) → gathered_more pound outer_body found l
-    ≡ cond (pound.at l) (and_then (outer_body.reads (drop pound.count l)) (λ x n. gathered_more pound outer_body (found ++ x ∷ []) n)) (Some (found, l))
-outer_turn = loops.more_turn pound outer_body pound_present (λ k. outer_body_alike)
-
-pub outer_start : (l : List Tok) → (more pound outer_body).reads l ≡ gathered_more pound outer_body [] l
-outer_start = loops.more_start pound outer_body pound_present (λ k. outer_body_alike)
-
-pub ruleset outer_attributes = (map-one, outer_turn, outer_start)
-
-pub inner_turn : (found : List AttributeTree) (l : List Tok) → gathered_more pound_bang inner_body found l
-    ≡ cond (pound_bang.at l) (and_then (inner_body.reads (drop pound_bang.count l)) (λ x n. gathered_more pound_bang inner_body (found ++ x ∷ []) n)) (Some (found, l))
-inner_turn = loops.more_turn pound_bang inner_body pound_bang_present (λ k. inner_body_alike)
-
-pub inner_start : (l : List Tok) → (more pound_bang inner_body).reads l ≡ gathered_more pound_bang inner_body [] l
-inner_start = loops.more_start pound_bang inner_body pound_bang_present (λ k. inner_body_alike)
-
-pub ruleset inner_attributes = (map-one, inner_turn, inner_start)
+use Rattle.syn_leaf.proofs.Loops.{map-one}
 
 pub types_turn : (found : List TypeTree) (l : List Tok) → gathered comma is_empty (type true) found l
     ≡ cond (comma.at l) (cond (is_empty (drop comma.count l)) (Some ((found, true), drop comma.count l)) (and_then ((type true).reads (drop comma.count l)) (λ x n. gathered comma is_empty (type true) (found ++ x ∷ []) n))) (Some ((found, false), l))

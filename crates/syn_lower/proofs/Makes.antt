@@ -8,7 +8,7 @@ use Rattle.syn_lower.specs.View.{values, trails, mapped, lifetime_of, lifetimes_
 use Rattle.syn_lower.proofs.Layers.{generic_of-Lifetime, generic_of-Const, generic_of-AssocType, generic_of-Ty, arguments_of-AngleBracketed, arguments_of-Parenthesized, return_of-Given, bound_of-Lifetime, bound_of-Trait, type_of-Path, type_of-Macro, type_of-Reference, type_of-Ptr, type_of-Slice, type_of-Array, type_of-Tuple, type_of-Paren, type_of-Never, type_of-Infer, type_of-FnPtr, type_of-ImplTrait, type_of-TraitObject, arguments_of-None, return_of-Default, round_of-out, fn_ptr_of-out, type_path_of-out}
 use Rattle.std.specs.declared.boxed.Box.{Box}
 use Rattle.std.specs.declared.alloc.Global.{Global}
-use Rattle.syn_lower.specs.declared.lifetime.Lifetime.{Lifetime}
+use Rattle.syn_leaf.specs.declared.lifetime.Lifetime.{Lifetime}
 use Rattle.syn_lower.specs.declared.path.AssocTypeOf.{AssocTypeOf}
 use Rattle.syn_lower.specs.declared.path.AngleBracketedGenericArgumentsOf.{AngleBracketedGenericArgumentsOf}
 use Rattle.syn_lower.specs.declared.path.ParenthesizedGenericArguments.{ParenthesizedGenericArguments}

@@ -23,7 +23,7 @@ use Rattle.syn_lower.specs.declared.ty.TypeReferenceOf.{TypeReferenceOf}
 use Rattle.syn_lower.specs.declared.ty.TypeSliceOf.{TypeSliceOf}
 use Rattle.syn_lower.specs.declared.ty.TypeTraitObjectOf.{TypeTraitObjectOf}
 use Rattle.syn_lower.specs.declared.ty.TypeTupleOf.{TypeTupleOf}
-use Rattle.syn_lower.specs.Kinds.{is_reference, is_pointer, is_slice, is_array, is_tuple, is_paren, is_fn_pointer, is_impl_trait, is_trait_object}
+use Rattle.syn_parts.specs.Kind.{is_reference, is_pointer, is_slice, is_array, is_tuple, is_paren, is_fn_pointer, is_impl_trait, is_trait_object}
 use Rattle.syn_lower.specs.View.{type_layer, generic_of, arguments_of, return_of, type_of, bound_of, round_of, fn_ptr_of, type_path_of, path_with, qself_or, path_of, mapped, lifetimes_of, abi_of, arg_of, values, trails}
 use Rattle.syn_lower.proofs.Layers.{type_of-out}
 use Rattle.syn_lower.proofs.Makes.{makes, type_path-is, fn_ptr-is}

@@ -5,7 +5,7 @@ use Rattle.syn_parts.specs.Own.{path_own, macro_own, segment_own, arg_own, argum
 use Rattle.syn_parts.specs.Tree.{TypeTree, ArgumentsTree, GenericTree, BoundTree}
 use Rattle.syn_lower.specs.View.{path_of, segment_of, macro_of, arg_of, type_of, arguments_of}
 use Rattle.syn_lower.specs.Printed.{path_printed, segment_printed, macro_printed, arg_printed}
-use Rattle.syn_lower.proofs.Owns.{type_append, arguments_append, generic_append, bound_append}
+use Rattle.syn_parts.proofs.Appends.{type_append, arguments_append, generic_append, bound_append}
 use Rattle.syn_lower.proofs.Prints.{ty_toks, ar_toks, path_print, arg_print, arg_appends}
 use Rattle.syn_lower.specs.declared.mac.MacroOf.{MacroOf}
 use Rattle.syn_lower.specs.declared.path.PathOf.{PathOf}

@@ -10,14 +10,15 @@ use Rattle.syn_tokens.specs.Tok.{Tok, ident}
 use Rattle.syn_tokens.specs.declared.token.Sign.{Sign}
 use Rattle.syn_parts.specs.Text.{Text}
 use Rattle.syn_parts.specs.Tree as t
-use Rattle.syn_parts.specs.Tree.{TypeTree, Types, SegmentTree, FnArgTree, ArgumentsTree, GenericTree, BoundTree}
+use Rattle.syn_parts.specs.Tree.{TypeTree, SegmentTree, FnArgTree, GenericTree, BoundTree}
 use Rattle.syn_parts.specs.Own.{alone, joint, one_less, before_if, before_some, comma_before, colon2_before, closed_at, qself_end, at_most, count_segments, lifetime_own, lifetimes_own, extern_own, enclosed, elements_own, type_own, types_own, segments_own, arguments_own, generics_own, generic_own, return_own, args_own, bounds_own, bound_own, segment_own, arg_own}
 use Rattle.syn_lower.specs.View.{values, trails, last_of, is_some_pair, lifetime_of, lifetimes_of, mapped, abi_of, is_mut, arg_of, segment_of, qself_or, path_of, path_with, type_of, generic_of, arguments_of, return_of, bound_of, round_of, fn_ptr_of, type_path_of}
 use Rattle.syn_lower.specs.Printed.{option_printed, pairs_printed, punctuated_printed, comma, colon2, plus, word, segment_printed, path_printed, angle_printed, assoc_printed, macro_printed, reference_printed, mutability_printed, ptr_printed, slice_printed, array_printed, tuple_printed, paren_printed, impl_printed, object_printed, arg_printed, trait_printed, round_printed, fn_head_printed, fn_ptr_printed, closed_printed, inside_printed, qself_end_printed, qualified_printed, qpath_printed}
 use Rattle.syn_lower.proofs.Layers.{generic_of-Lifetime, generic_of-Const, generic_of-AssocType, generic_of-Ty, arguments_of-None, arguments_of-AngleBracketed, arguments_of-Parenthesized, return_of-Default, return_of-Given, bound_of-Lifetime, bound_of-Trait, round_of-out, fn_ptr_of-out, type_path_of-out, type_of-Path, type_of-Macro, type_of-Reference, type_of-Ptr, type_of-Slice, type_of-Array, type_of-Tuple, type_of-Paren, type_of-Never, type_of-Infer, type_of-FnPtr, type_of-ImplTrait, type_of-TraitObject}
-use Rattle.syn_lower.proofs.Owns.{Appends, listed_own-punctuated, type_append, arguments_append, generic_append, bound_append, lifetimes_own-append, extern_append}
+use Rattle.syn_parts.proofs.Appends.{type_append, arguments_append, generic_append, bound_append, lifetimes_own-append, extern_append}
+use Rattle.syn_lower.proofs.Owns.{Appends, listed_own-punctuated}
 use Rattle.syn_lower.specs.declared.punctuated.Punctuated.{Punctuated}
-use Rattle.syn_lower.specs.declared.lifetime.Lifetime.{Lifetime}
+use Rattle.syn_leaf.specs.declared.lifetime.Lifetime.{Lifetime}
 use Rattle.syn_lower.specs.declared.path.PathOf.{PathOf}
 use Rattle.syn_lower.specs.declared.path.PathSegmentOf.{PathSegmentOf}
 use Rattle.syn_lower.specs.declared.path.QSelfOf.{QSelfOf}

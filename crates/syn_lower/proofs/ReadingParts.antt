@@ -4,13 +4,11 @@ use Rattle.syn_tokens.specs.Tok.{Tok, weight}
 use Rattle.syn_tokens.specs.Input.{IsTail}
 use Rattle.syn_parts.specs.declared.label.PathStyle.{PathStyle}
 use Rattle.syn_parts.specs.declared.label.PathStyle.TheVariants as style
-use Rattle.syn_parts.specs.Tree.{AttributeTree, TypeTree, PathTree}
+use Rattle.syn_parts.specs.Tree.{TypeTree, PathTree}
 use Rattle.syn_parts.specs.Form.{shown, both, mark}
 use Rattle.syn_parts.specs.Mark.{not_ne}
-use Rattle.syn_parts.specs.Part.{any_group, to_macro, from_macro, QPathTree, type, path, macro, outer_attributes, inner_attributes, qpath}
-use Rattle.syn_parts.proofs.Parts.{outer_attributes_alike, inner_attributes_alike}
-use Rattle.syn_parts.proofs.TailParts.{outer_attributes_leaves, inner_attributes_leaves}
-use Rattle.syn_lower.proofs.Readable.{type_readable, path_readable, qpath_readable}
+use Rattle.syn_parts.specs.Part.{any_group, to_macro, from_macro, QPathTree, type, path, macro, qpath}
+use Rattle.syn_parts.proofs.Readable.{type_readable, path_readable, qpath_readable}
 
 pub one_bound_tail : (l n : List Tok) (x : TypeTree) → (type false).reads l ≡ Some (x, n) → IsTail n l
 one_bound_tail l n x h = let r = type_readable false in r.tail l n x h
@@ -35,22 +33,6 @@ pub qpath_moves : (s : PathStyle) (l n : List Tok) (x : QPathTree) → (qpath ty
 qpath_moves s l n x h = let r = qpath_readable s in r.moves l n x h
 
 pub ruleset qpath_reading = (qpath_tail, qpath_moves)
-
-pub outer_tail : (l n : List Tok) (x : List AttributeTree) → outer_attributes.reads l ≡ Some (x, n) → IsTail n l
-outer_tail l n x h = let t = outer_attributes_leaves in t.leaves l x n h
-
-pub outer_falls : (l n : List Tok) (x : List AttributeTree) → outer_attributes.reads l ≡ Some (x, n) → weight n ≤ weight l
-outer_falls l n x h = let a = outer_attributes_alike {k = 0} in a.falls l x n h
-
-pub ruleset outer_reading = (outer_tail, outer_falls)
-
-pub inner_tail : (l n : List Tok) (x : List AttributeTree) → inner_attributes.reads l ≡ Some (x, n) → IsTail n l
-inner_tail l n x h = let t = inner_attributes_leaves in t.leaves l x n h
-
-pub inner_falls : (l n : List Tok) (x : List AttributeTree) → inner_attributes.reads l ≡ Some (x, n) → weight n ≤ weight l
-inner_falls l n x h = let a = inner_attributes_alike {k = 0} in a.falls l x n h
-
-pub ruleset inner_reading = (inner_tail, inner_falls)
 
 pub macro-is : (l : List Tok) → macro.reads l ≡ (shown to_macro from_macro (both (path type style.Mod) (mark not_ne any_group))).reads l
 unfolding macro

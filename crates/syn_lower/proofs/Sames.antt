@@ -6,7 +6,7 @@ use denote.Hole.Carrier.{Values}
 use denote.Hole.Compared.{compared}
 use Rattle.syn_parts.specs.Tree as t
 use Rattle.syn_parts.specs.Tree.{LifetimesTree, LitTree, TypeTree, FnArgTree, ArgumentsTree, GenericTree, ReturnTree, BoundTree, QSelfTree, PathTree}
-use Rattle.syn_lower.specs.Equal.{IsEqualityOf}
+use Rattle.syn_leaf.specs.Equal.{IsEqualityOf}
 use Rattle.syn_lower.specs.View.{path_with, generic_of, arguments_of, return_of, type_of, bound_of, round_of, fn_ptr_of, type_path_of}
 use Rattle.syn_lower.specs.declared.path.GenericArgument.{GenericArgument}
 use Rattle.syn_lower.specs.declared.path.GenericArgument.TheBlock as block
@@ -34,9 +34,11 @@ use Rattle.syn_lower.specs.contracts.path.GenericArgumentPartialEq.TheImpl as ge
 use Rattle.syn_lower.specs.contracts.path.PathArgumentsPartialEq.TheImpl as args_test
 use Rattle.syn_lower.specs.contracts.path.ParenthesizedGenericArgumentsPartialEq.TheImpl as round_test
 use Rattle.syn_lower.proofs.Layers.{round_of-out, fn_ptr_of-out, type_path_of-out, type_of-Path, type_of-Macro, type_of-Reference, type_of-Ptr, type_of-Slice, type_of-Array, type_of-Tuple, type_of-Paren, type_of-Never, type_of-Infer, type_of-FnPtr, type_of-ImplTrait, type_of-TraitObject, generic_of-Lifetime, generic_of-Const, generic_of-AssocType, generic_of-Ty, arguments_of-AngleBracketed, arguments_of-Parenthesized, bound_of-Lifetime, bound_of-Trait, arguments_of-None, return_of-Default, return_of-Given}
-use Rattle.syn_lower.proofs.TreeEq.{type_eq, generic_eq, arguments_eq, return_eq, bound_eq}
-use Rattle.syn_lower.proofs.Ties.{both_tie, on_tie, made_tie, option_tie, some_tie, pair_path, constant_tie, along, by_test, punctuated_tie, rank_end, rank_more, decides, decided_tie, one_test, is_compared}
-use Rattle.syn_lower.proofs.PartTies.{toks_tie, lifetime_tie, block_tie, style_tie, attribute_tie, delimiter_tie, lit_tie, lit_str_tie, lit_byte_str_tie, lit_c_str_tie, lit_byte_tie, lit_char_tie, lit_int_tie, lit_float_tie, lit_bool_tie, lifetimes_tie, abi_tie, pointer_tie, never_tie, infer_tie, segment_tie, path_tie, macro_tie, type_macro_tie, trait_tie, reference_tie, ptr_tie, slice_tie, array_tie, tuple_tie, paren_tie, assoc_tie, qself_tie, qself_or_tie, arg_tie, impl_tie, object_tie, angle_tie, args_once, types_once, path_once}
+use Rattle.syn_parts.proofs.TreeEq.{type_eq, generic_eq, arguments_eq, return_eq, bound_eq}
+use Rattle.syn_leaf.proofs.Ties.{both_tie, on_tie, made_tie, option_tie, some_tie, pair_path, constant_tie, along, by_test, rank_end, rank_more, decides, decided_tie, one_test, is_compared}
+use Rattle.syn_lower.proofs.ListTies.{punctuated_tie}
+use Rattle.syn_leaf.proofs.LeafTies.{toks_tie, lifetime_tie}
+use Rattle.syn_lower.proofs.PartTies.{lifetimes_tie, abi_tie, pointer_tie, never_tie, infer_tie, segment_tie, path_tie, macro_tie, type_macro_tie, trait_tie, reference_tie, ptr_tie, slice_tie, array_tie, tuple_tie, paren_tie, assoc_tie, qself_tie, qself_or_tie, arg_tie, impl_tie, object_tie, angle_tie, args_once, types_once, path_once}
 
 -- ---- the test of the trees
 
@@ -229,4 +231,4 @@ fn_ptr_tie = by_test (derived block.member-TypeFnPtr) fn_ptr_tests
 pub type_path_tie : IsEqualityOf type_path_of type_path_test.ghosts.eq
 type_path_tie = by_test (derived block.member-TypePath) type_path_tests
 
-pub ruleset sames = (lifetime_tie, block_tie, style_tie, attribute_tie, delimiter_tie, lit_tie, lit_str_tie, lit_byte_str_tie, lit_c_str_tie, lit_byte_tie, lit_char_tie, lit_int_tie, lit_float_tie, lit_bool_tie, lifetimes_tie, abi_tie, pointer_tie, never_tie, infer_tie, segment_tie, path_tie, macro_tie, type_macro_tie, trait_tie, reference_tie, ptr_tie, slice_tie, array_tie, tuple_tie, paren_tie, assoc_tie, qself_tie, arg_tie, impl_tie, object_tie, angle_tie, type_tie, generic_tie, args_tie, return_tie, bound_tie, round_tie, fn_ptr_tie, type_path_tie)
+pub ruleset sames = (lifetimes_tie, abi_tie, pointer_tie, never_tie, infer_tie, segment_tie, path_tie, macro_tie, type_macro_tie, trait_tie, reference_tie, ptr_tie, slice_tie, array_tie, tuple_tie, paren_tie, assoc_tie, qself_tie, arg_tie, impl_tie, object_tie, angle_tie, type_tie, generic_tie, args_tie, return_tie, bound_tie, round_tie, fn_ptr_tie, type_path_tie)

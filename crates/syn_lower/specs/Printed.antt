@@ -1,5 +1,5 @@
 -- What is printed of the parts that hold others, by what is printed of these.
-use Rattle.std.specs.Prelude.{ℕ, ◌-◌, ◌==◌, if◌then◌else◌, length, Bool, true, false, List, [], ◌∷◌, ◌++◌, codes, Option, Some, None}
+use Rattle.std.specs.Prelude.{ℕ, ◌-◌, ◌==◌, if◌then◌else◌, length, List, [], ◌∷◌, ◌++◌, codes, Option, Some, None}
 use Rattle.std.specs.declared.boxed.Box.{Box}
 use Rattle.std.specs.declared.alloc.Global.{Global}
 use Rattle.syn_lexer.specs.declared.lexeme.Delimiter.{Delimiter}
@@ -123,12 +123,6 @@ fn_head_printed l u a =
 
 abbrev pub fn_ptr_printed : («Type» → List Tok) → (ReturnType → List Tok) → TypeFnPtr → List Tok
 fn_ptr_printed f g x = fn_head_printed x.lifetimes x.unsafety x.abi ++ round_printed (arg_printed f) g x.inputs x.output
-
--- ---- attributes
-
-abbrev pub bang_printed : Bool → List Tok
-bang_printed true = alone 33 ∷ []
-bang_printed false = []
 
 -- ---- qualified paths
 

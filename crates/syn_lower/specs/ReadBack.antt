@@ -1,17 +1,14 @@
 -- Parts that are read back: the tests of paths as code goes through them, and what their laws say.
-use Rattle.std.specs.Prelude.{◌≡◌, ◌++◌, Bool, true, not, ◌&&◌, ◌||◌, ◌==◌, ◌-◌, ℕ, List, [], ◌∷◌, length, Option, Some, None, is_some}
-use Rattle.std.specs.List.{list_all}
-use Rattle.syn_tokens.specs.Tok.{Tok}
+use Rattle.std.specs.Prelude.{Bool, not, ◌&&◌, ◌||◌, ◌==◌, ◌-◌, ℕ, List, [], ◌∷◌, length, Option, Some, None, is_some}
 use Rattle.syn_parts.specs.declared.label.PathStyle.{PathStyle}
 use Rattle.syn_parts.specs.declared.label.PathStyle.TheVariants as style
 use Rattle.syn_parts.specs.Tree as t
 use Rattle.syn_parts.specs.Tree.{SegmentTree, PathTree}
-use Rattle.syn_parts.specs.Form.{Test, Form}
 use Rattle.syn_parts.specs.Part.{QPathTree}
 use Rattle.syn_parts.specs.Own.{no_more_segments, colon2_before}
 use Rattle.syn_parts.specs.Fits.{style_at, position_fits, arguments_stop, segments_fit, segment_fits}
-use Rattle.syn_lower.specs.View.{is_inner, qself_or, path_of, type_of, arguments_of}
-use Rattle.syn_lower.specs.declared.attr.Attribute.{Attribute}
+pub use Rattle.syn_leaf.specs.ReadBack.{PrintsOwn, IsReadBack, all_outer, all_inner, all_printed, IsRead}
+use Rattle.syn_lower.specs.View.{qself_or, path_of, type_of, arguments_of}
 use Rattle.syn_lower.specs.declared.path.PathArguments.{PathArguments}
 use Rattle.syn_lower.specs.declared.path.PathOf.{PathOf}
 use Rattle.syn_lower.specs.declared.path.QSelfOf.{QSelfOf}
@@ -38,30 +35,6 @@ qpath_fits_by f s (Some q) p = position_fits (is_some q.as_token) q.position p.l
 
 -- ---- laws
 
--- what is printed of a part, before whatever follows, is its own tokens before that
-abbrev pub PrintsOwn : {A : Type 0} → (A → List Tok) → (A → List Tok → List Tok) → Type 0
-PrintsOwn {A} printed own = (x : A) (rest : List Tok) → printed x ++ rest ≡ own x rest
-
--- what passes its test, printed before a rest that doesn't go on with it, spells it up to that rest
-abbrev pub IsReadBack : {A S : Type 0} → (A → Bool) → (A → Test) → (A → List Tok) → (A → S) → (List Tok → S → List Tok → Type 0) → Type 0
-IsReadBack {A} fits stops printed seen spells = (x : A) (rest : List Tok) → fits x ≡ true → stops x rest ≡ true → spells (printed x ++ rest) (seen x) rest
-
 -- a path and the type that it is qualified by, if there is one
 abbrev pub qpath_of : Option (QSelfOf «Type») × PathOf PathArguments → QPathTree
 qpath_of q = (qself_or type_of q.0, path_of arguments_of q.1)
-
--- no attribute is of the other style
-abbrev pub all_outer : List Attribute → Bool
-all_outer xs = list_all (λ x. not (is_inner x.style)) xs
-
-abbrev pub all_inner : List Attribute → Bool
-all_inner xs = list_all (λ x. is_inner x.style) xs
-
--- one behind another
-abbrev pub all_printed : {A : Type 0} → (A → List Tok) → List A → List Tok
-all_printed printed [] = []
-all_printed printed (x ∷ xs) = printed x ++ all_printed printed xs
-
--- what a reader reads, and what it leaves
-abbrev pub IsRead : {S : Type 0} → Form S → List Tok → S → List Tok → Type 0
-IsRead f l x rest = f.reads l ≡ Some (x, rest)

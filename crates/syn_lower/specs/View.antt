@@ -2,26 +2,13 @@
 use Rattle.std.specs.Prelude.{Bool, true, false, not, ◌&&◌, List, [], ◌∷◌, ◌++◌, map, Option, Some, None, is_some}
 use Rattle.std.specs.declared.boxed.Box.{Box}
 use Rattle.std.specs.declared.alloc.Global.{Global}
-use Rattle.syn_lexer.specs.declared.lexeme.Delimiter.{Delimiter}
-use Rattle.syn_lexer.specs.declared.lexeme.Delimiter.TheVariants as del
-use Rattle.syn_parts.specs.declared.label.LitKind.TheVariants as kind
 use Rattle.syn_parts.specs.Text.{Text}
 use Rattle.syn_parts.specs.Tree as t
-use Rattle.syn_parts.specs.Tree.{LitTree, AttributeTree, LifetimesTree, TypeTree, SegmentTree, PathTree, FnArgTree, ArgumentsTree, GenericTree, ReturnTree, BoundTree, QSelfTree}
+use Rattle.syn_parts.specs.Tree.{LitTree, LifetimesTree, TypeTree, SegmentTree, PathTree, FnArgTree, ArgumentsTree, GenericTree, ReturnTree, BoundTree, QSelfTree}
 use Rattle.syn_parts.specs.Part.{MacroTree}
+pub use Rattle.syn_leaf.specs.View.{mapped, lifetime_of, is_inner, attribute_of, signed, lit_str_of, lit_int_of, lit_float_of, lit_of, delimiter_of}
 use Rattle.syn_lower.specs.declared.punctuated.Punctuated.{Punctuated}
-use Rattle.syn_lower.specs.declared.lifetime.Lifetime.{Lifetime}
-use Rattle.syn_lower.specs.declared.lit.Lit.{Lit}
-use Rattle.syn_lower.specs.declared.lit.Lit.TheVariants as lit
-use Rattle.syn_lower.specs.declared.lit.LitStr.{LitStr}
-use Rattle.syn_lower.specs.declared.lit.LitInt.{LitInt}
-use Rattle.syn_lower.specs.declared.lit.LitFloat.{LitFloat}
-use Rattle.syn_lower.specs.declared.attr.Attribute.{Attribute}
-use Rattle.syn_lower.specs.declared.attr.AttrStyle.{AttrStyle}
-use Rattle.syn_lower.specs.declared.attr.AttrStyle.TheVariants as style
 use Rattle.syn_lower.specs.declared.mac.MacroOf.{MacroOf}
-use Rattle.syn_lower.specs.declared.mac.MacroDelimiter.{MacroDelimiter}
-use Rattle.syn_lower.specs.declared.mac.MacroDelimiter.TheVariants as mac
 use Rattle.syn_lower.specs.declared.path.PathOf.{PathOf}
 use Rattle.syn_lower.specs.declared.path.PathSegmentOf.{PathSegmentOf}
 use Rattle.syn_lower.specs.declared.path.PathArguments.{PathArguments, fold-PathArguments}
@@ -61,52 +48,7 @@ is_some_pair (x ∷ xs) = true
 unfoldable pub trails : {A P : Type 0} → Punctuated A P → Bool
 trails p = is_some_pair p.inner.items && not (is_some p.last)
 
--- ---- leaves
-
-abbrev pub lifetime_of : Lifetime → Text
-lifetime_of x = x.ident
-
-abbrev pub is_inner : AttrStyle → Bool
-is_inner style.Outer = false
-is_inner (style.Inner b) = true
-
-abbrev pub attribute_of : Attribute → AttributeTree
-attribute_of x = record { inner = is_inner x.style; tokens = x.tokens }
-
--- the text of a number, with its sign
-abbrev pub signed : {A : Type 0} → Option A → Text → Text
-signed None text = text
-signed (Some m) text = 45 ∷ text
-
-abbrev pub lit_str_of : LitStr → LitTree
-lit_str_of x = record { kind = kind.Str; text = x.token }
-
-abbrev pub lit_int_of : LitInt → LitTree
-lit_int_of x = record { kind = kind.Int; text = signed x.minus_token x.token }
-
-abbrev pub lit_float_of : LitFloat → LitTree
-lit_float_of x = record { kind = kind.Float; text = signed x.minus_token x.token }
-
-abbrev pub lit_of : Lit → LitTree
-lit_of (lit.Str x) = lit_str_of x
-lit_of (lit.ByteStr x) = record { kind = kind.ByteStr; text = x.token }
-lit_of (lit.CStr x) = record { kind = kind.CStr; text = x.token }
-lit_of (lit.Byte x) = record { kind = kind.Byte; text = x.token }
-lit_of (lit.Char x) = record { kind = kind.Char; text = x.token }
-lit_of (lit.Int x) = lit_int_of x
-lit_of (lit.Float x) = lit_float_of x
-lit_of (lit.Bool x) = record { kind = kind.Bool; text = x.word }
-
 -- ---- paths, by the trees of their types
-
-abbrev pub mapped : {A B : Type 0} → (A → B) → Option A → Option B
-mapped f None = None
-mapped f (Some x) = Some (f x)
-
-abbrev pub delimiter_of : MacroDelimiter → Delimiter
-delimiter_of (mac.Paren d) = del.Parenthesis
-delimiter_of (mac.Brace d) = del.Brace
-delimiter_of (mac.Bracket d) = del.Bracket
 
 abbrev pub lifetimes_of : BoundLifetimes → LifetimesTree
 lifetimes_of x = (map lifetime_of (values x.lifetimes), trails x.lifetimes)

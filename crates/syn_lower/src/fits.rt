@@ -19,10 +19,10 @@ use crate::path::{
 };
 use crate::punctuated::Punctuated;
 use crate::qualified::has_none;
-use crate::text::{is_number, is_segment, is_truth, kind_of, stands_alone};
 use crate::ty::{Abi, BareFnArgOf, ReturnType, Type, TypeFnPtr, TypeParamBound};
+use syn_leaf::text::{is_number, is_segment, is_truth, stands_alone};
 use syn_lexer::reserved::is_reserved_word;
-use syn_parts::label::{LitKind, PathStyle};
+use syn_parts::label::PathStyle;
 use syn_tokens::Delimiter;
 use syn_tokens::token::{Colon, PathSep, Plus};
 use syn_tokens::tree::{Ident, Literal, TokenStream, TokenTree};
@@ -192,22 +192,13 @@ pub(crate) fn qpath_fits<T: Element, A: Arguments>(
     }
 }
 
-/// Whether a literal is of this kind.
-pub(crate) fn has_kind(token: &Literal, kind: LitKind) -> bool
-    ensures { result ≡ spec.has_kind (text.kind_of token.now) kind }
-{
-    match kind_of(token.as_str()) {
-        Some(found) => found == kind,
-        None => false,
-    }
-}
-
 /// Whether `extern` and its name are read back: the name is a string.
+#[tactic(auto, unfolding(syn_parts::specs::Fits::lit_fits))]
 pub(crate) fn abi_fits(abi: &Abi) -> bool
     ensures { result ≡ spec.fits_if spec.is_string (abi_of abi.now) }
 {
     match &abi.name {
-        Some(name) => has_kind(&name.token, LitKind::Str),
+        Some(name) => name.is_read_back(),
         None => true,
     }
 }

@@ -1,58 +1,39 @@
 //! What no clause says: parts as they are read and as users build them, tested, printed and read again.
 
-use crate::attr::Attribute;
-use crate::block::Block;
-use crate::lifetime::Lifetime;
-use crate::lit::{Lit, LitBool, LitByte, LitByteStr, LitCStr, LitChar, LitFloat, LitInt, LitStr};
 use crate::mac::Macro;
 use crate::path::{
-    AssocType, GenericArgument, ParenthesizedGenericArguments, Path, PathArguments, PathSegment,
-    QSelf,
+    AngleBracketedGenericArguments, AssocType, GenericArgument, ParenthesizedGenericArguments,
+    Path, PathArguments, PathSegment, QSelf,
 };
 use crate::print::print_qpath;
 use crate::punctuated::Punctuated;
 use crate::read_back::qpath_is_read_back;
 use crate::readers::qpath;
+use crate::rows::{again, check, verdict, words};
 use crate::ty::{
-    Abi, BareFnArg, BoundLifetimes, ReturnType, TraitBound, Type, TypeArray, TypeFnPtr,
-    TypeImplTrait, TypeParamBound, TypeParen, TypePath, TypePtr, TypeReference, TypeSlice,
-    TypeTraitObject, TypeTuple,
+    Abi, BareFnArg, BoundLifetimes, PointerMutability, ReturnType, TraitBound, Type, TypeArray,
+    TypeFnPtr, TypeImplTrait, TypeParamBound, TypeParen, TypePath, TypePtr, TypeReference,
+    TypeSlice, TypeTraitObject, TypeTuple,
 };
 use std::alloc::Global;
 use std::test::Fail;
+use syn_leaf::lit::LitStr;
 use syn_parts::label::PathStyle;
-use syn_tokens::buffer::{Parse, ParseBuffer, ToTokens};
-use syn_tokens::copy::{copy_ident, copy_literal};
+use syn_tokens::buffer::{ParseBuffer, ToTokens};
+use syn_tokens::copy::copy_ident;
 use syn_tokens::error::{Error, ErrorKind};
 use syn_tokens::lex::lex;
 use syn_tokens::span::Span;
 use syn_tokens::token::{Comma, PathSep, Plus};
-use syn_tokens::tree::{Ident, Literal, TokenStream, TokenTree};
-use syn_tokens::whole::{parse_str, parse2};
-
-/// What is answered where a text isn't the one token that a test needs.
-fn another() -> Error {
-    Error {
-        span: Span { lo: 0, hi: 0 },
-        kind: ErrorKind::ExpectedExpression,
-    }
-}
+use syn_tokens::tree::{Ident, TokenStream, TokenTree};
+use syn_tokens::whole::parse_str;
 
 /// A word, reserved or not.
 fn word(alloc: Global, text: &str) -> Result<Ident, Error> {
     let tokens = lex(alloc, text)?;
     match tokens.trees() {
         [TokenTree::Ident(word)] => copy_ident(alloc, word),
-        _ => Err(another()),
-    }
-}
-
-/// A literal token.
-fn literal(alloc: Global, text: &str) -> Result<Literal, Error> {
-    let tokens = lex(alloc, text)?;
-    match tokens.trees() {
-        [TokenTree::Literal(literal)] => copy_literal(alloc, literal),
-        _ => Err(another()),
+        _ => Err(Error::new(Span::call_site(), ErrorKind::UnexpectedToken)),
     }
 }
 
@@ -61,116 +42,248 @@ fn boxed_type(alloc: Global, text: &str) -> Result<Box<Type>, Error> {
     Ok(Box::new(alloc, parse_str::<Type>(alloc, text)?)?)
 }
 
-/// Whether what is printed of a part is read as the same part.
-fn is_same_again<T: Parse + ToTokens + PartialEq + Drop>(
-    alloc: Global,
-    part: &T,
-) -> Result<bool, Error> {
-    let mut tokens = TokenStream::new(alloc);
-    part.to_tokens(&mut tokens)?;
-    Ok(parse2::<T>(tokens)? == *part)
+/// How many bounds may stand where a part is read back, by its tests where several may stand and where one may.
+fn by_bounds(with_several: bool, with_one: bool) -> &'static str {
+    match (with_several, with_one) {
+        (true, true) => "one bound",
+        (true, false) => "several bounds",
+        (false, true) => "one bound only",
+        (false, false) => "refused",
+    }
 }
+
+/// How many bounds may stand where the type of a text is read back.
+fn type_again(alloc: Global, text: &str) -> Result<String, Error> {
+    let ty = parse_str::<Type>(alloc, text)?;
+    let told = verdict(alloc, &ty, true)?;
+    if told.as_str() != "same" {
+        return Ok(told);
+    }
+    words(
+        alloc,
+        by_bounds(ty.is_read_back(true), ty.is_read_back(false)),
+    )
+}
+
+const TYPES: &str = r#"
+a::B<'a, T, Item = U, 1, -2, {x},>                       | one bound
+<T as A::B>::C                                           | one bound
+<T>::C                                                   | one bound
+Fn(A) -> &'a mut B                                       | one bound
+try!{}                                                   | one bound
+&'a mut T                                                | one bound
+*const dyn A                                             | one bound
+[T]                                                      | one bound
+[dyn A + B; 1]                                           | one bound
+()                                                       | one bound
+(A,)                                                     | one bound
+(dyn A + B)                                              | one bound
+(A, B,)                                                  | one bound
+!                                                        | one bound
+_                                                        | one bound
+for<'a> unsafe extern "C" fn(a: A, _: dyn B + C, D) -> E | one bound
+impl A                                                   | one bound
+dyn 'a                                                   | one bound
+impl A + 'a                                              | several bounds
+dyn ?for<'a> A<'a> + B                                   | several bounds
+"#;
 
 #[test]
 fn types_are_read_back(rt: HostRuntime) -> Result<(), Fail> {
-    for (text, with_one) in [
-        ("a::B<'a, T, Item = U, 1, -2, {x},>", true),
-        ("<T as A::B>::C", true),
-        ("<T>::C", true),
-        ("Fn(A) -> &'a mut B", true),
-        ("try!{}", true),
-        ("&'a mut T", true),
-        ("*const dyn A", true),
-        ("[T]", true),
-        ("[dyn A + B; 1]", true),
-        ("()", true),
-        ("(A,)", true),
-        ("(dyn A + B)", true),
-        ("(A, B,)", true),
-        ("!", true),
-        ("_", true),
-        (
-            "for<'a> unsafe extern \"C\" fn(a: A, _: dyn B + C, D) -> E",
-            true,
-        ),
-        ("impl A", true),
-        ("dyn 'a", true),
-        ("impl A + 'a", false),
-        ("dyn ?for<'a> A<'a> + B", false),
-    ] {
-        let ty = parse_str::<Type>(rt.alloc(), text)?;
-        assert!(rt; ty.is_read_back(true), "{text}");
-        assert!(rt; is_same_again(rt.alloc(), &ty)?, "{text}");
-        assert_eq!(rt; ty.is_read_back(false), with_one, "{text}");
-    }
-    Ok(())
+    check(rt.alloc(), TYPES, type_again)
 }
 
-#[test]
-fn types_that_no_tokens_spell(rt: HostRuntime) -> Result<(), Fail> {
-    let alloc = rt.alloc();
+/// Whether a part is read back, by its own test and by that of types, which have to agree.
+fn agreed(alloc: Global, part: bool, ty: bool) -> Result<String, Error> {
+    words(
+        alloc,
+        match (part, ty) {
+            (true, true) => "read back",
+            (false, false) => "refused",
+            _ => "not agreed",
+        },
+    )
+}
+
+/// A tuple of one type without a comma.
+fn tuple_of_one(alloc: Global, elem: &str) -> Result<String, Error> {
     let mut elems = Punctuated::<Type, Comma>::new(alloc);
-    elems.push(parse_str::<Type>(alloc, "A")?)?;
+    elems.push(parse_str::<Type>(alloc, elem)?)?;
     let tuple = TypeTuple {
         paren_token: Default::default(),
         elems,
     };
-    assert!(rt; !tuple.is_read_back());
-    assert!(rt; !Type::Tuple(tuple).is_read_back(true));
+    let is_part = tuple.is_read_back();
+    agreed(alloc, is_part, Type::Tuple(tuple).is_read_back(true))
+}
 
+/// An array of this length.
+fn array_of(alloc: Global, len: &str) -> Result<String, Error> {
     let array = TypeArray {
         bracket_token: Default::default(),
         elem: boxed_type(alloc, "A")?,
         semi_token: Default::default(),
-        len: TokenStream::new(alloc),
+        len: lex(alloc, len)?,
     };
-    assert!(rt; !array.is_read_back());
-    assert!(rt; !Type::Array(array).is_read_back(true));
+    let is_part = array.is_read_back();
+    agreed(alloc, is_part, Type::Array(array).is_read_back(true))
+}
 
+/// A reference to this type.
+fn reference_to(alloc: Global, elem: &str) -> Result<String, Error> {
     let reference = TypeReference {
         and_token: Default::default(),
         lifetime: None,
         mutability: None,
-        elem: boxed_type(alloc, "dyn A + B")?,
+        elem: boxed_type(alloc, elem)?,
     };
-    assert!(rt; !reference.is_read_back());
-    assert!(rt; !Type::Reference(reference).is_read_back(true));
-    Ok(())
+    let is_part = reference.is_read_back();
+    agreed(
+        alloc,
+        is_part,
+        Type::Reference(reference).is_read_back(true),
+    )
+}
+
+/// A pointer to this type.
+fn pointer_to(alloc: Global, elem: &str) -> Result<String, Error> {
+    let pointer = TypePtr {
+        star_token: Default::default(),
+        mutability: PointerMutability::Mut(Default::default()),
+        elem: boxed_type(alloc, elem)?,
+    };
+    let is_part = pointer.is_read_back();
+    agreed(alloc, is_part, Type::Ptr(pointer).is_read_back(true))
+}
+
+/// A slice of this type.
+fn slice_of(alloc: Global, elem: &str) -> Result<String, Error> {
+    let slice = TypeSlice {
+        bracket_token: Default::default(),
+        elem: boxed_type(alloc, elem)?,
+    };
+    let is_part = slice.is_read_back();
+    agreed(alloc, is_part, Type::Slice(slice).is_read_back(true))
+}
+
+/// This type in parentheses.
+fn in_parentheses(alloc: Global, elem: &str) -> Result<String, Error> {
+    let paren = TypeParen {
+        paren_token: Default::default(),
+        elem: boxed_type(alloc, elem)?,
+    };
+    let is_part = paren.is_read_back();
+    agreed(alloc, is_part, Type::Paren(paren).is_read_back(true))
+}
+
+const LENGTHS: &str = "
+  | refused
+1 | read back
+";
+
+const BEHIND_SIGNS: &str = "
+A         | read back
+dyn A + B | refused
+*const A  | read back
+";
+
+const IN_GROUPS: &str = "
+A         | read back
+dyn A + B | read back
+*const A  | read back
+";
+
+#[test]
+fn types_around_types(rt: HostRuntime) -> Result<(), Fail> {
+    let alloc = rt.alloc();
+    check(alloc, "A | refused", tuple_of_one)?;
+    check(alloc, LENGTHS, array_of)?;
+    check(alloc, BEHIND_SIGNS, reference_to)?;
+    check(alloc, BEHIND_SIGNS, pointer_to)?;
+    check(alloc, IN_GROUPS, slice_of)?;
+    check(alloc, IN_GROUPS, in_parentheses)
 }
 
 /// Bounds with `+` between them.
-fn bounds(alloc: Global, texts: &[&str]) -> Result<Punctuated<TypeParamBound, Plus>, Error> {
+fn bounds(alloc: Global, texts: &str) -> Result<Punctuated<TypeParamBound, Plus>, Error> {
     let mut bounds = Punctuated::new(alloc);
-    for text in texts {
+    for text in texts.split_whitespace() {
         bounds.push(parse_str::<TypeParamBound>(alloc, text)?)?;
     }
     Ok(bounds)
 }
 
+/// `impl` with these bounds.
+fn impl_of(alloc: Global, texts: &str) -> Result<String, Error> {
+    let implements = TypeImplTrait {
+        impl_token: Default::default(),
+        bounds: bounds(alloc, texts)?,
+    };
+    words(
+        alloc,
+        by_bounds(
+            implements.is_read_back(true),
+            implements.is_read_back(false),
+        ),
+    )
+}
+
+/// `dyn` with these bounds.
+fn dyn_of(alloc: Global, texts: &str) -> Result<String, Error> {
+    let object = TypeTraitObject {
+        dyn_token: Default::default(),
+        bounds: bounds(alloc, texts)?,
+    };
+    words(
+        alloc,
+        by_bounds(object.is_read_back(true), object.is_read_back(false)),
+    )
+}
+
+const NUMBERS_OF_BOUNDS: &str = "
+A     | one bound
+A 'a  | several bounds
+A B C | several bounds
+      | refused
+";
+
 #[test]
 fn bounds_by_their_number(rt: HostRuntime) -> Result<(), Fail> {
-    for (texts, with_several, with_one) in [
-        (["A"].as_slice(), true, true),
-        (["A", "'a"].as_slice(), true, false),
-        (["A", "B", "C"].as_slice(), true, false),
-        ([].as_slice(), false, false),
-    ] {
-        let alloc = rt.alloc();
-        let implements = TypeImplTrait {
-            impl_token: Default::default(),
-            bounds: bounds(alloc, texts)?,
-        };
-        assert_eq!(rt; implements.is_read_back(true), with_several);
-        assert_eq!(rt; implements.is_read_back(false), with_one);
-        let object = TypeTraitObject {
-            dyn_token: Default::default(),
-            bounds: bounds(alloc, texts)?,
-        };
-        assert_eq!(rt; object.is_read_back(true), with_several);
-        assert_eq!(rt; object.is_read_back(false), with_one);
-    }
-    Ok(())
+    check(rt.alloc(), NUMBERS_OF_BOUNDS, impl_of)?;
+    check(rt.alloc(), NUMBERS_OF_BOUNDS, dyn_of)
 }
+
+/// The styles of paths in which a path is read back.
+fn styles_of(path: &Path) -> &'static str {
+    match (
+        path.is_read_back(PathStyle::Type),
+        path.is_read_back(PathStyle::Expr),
+        path.is_read_back(PathStyle::Mod),
+    ) {
+        (true, true, true) => "Type Expr Mod",
+        (true, true, false) => "Type Expr",
+        (true, false, false) => "Type",
+        (false, false, false) => "refused",
+        _ => "other styles",
+    }
+}
+
+/// The styles of paths in which the path of a text is read back.
+fn path_again(alloc: Global, text: &str) -> Result<String, Error> {
+    let path = parse_str::<Path>(alloc, text)?;
+    let told = verdict(alloc, &path, true)?;
+    if told.as_str() != "same" {
+        return Ok(told);
+    }
+    words(alloc, styles_of(&path))
+}
+
+const PATHS: &str = "
+::a::Self::try | Type Expr Mod
+a::<B>::c      | Type Expr
+a<B>           | Type
+Fn(A) -> B     | Type
+";
 
 /// A path of the words of a text, without arguments.
 fn path_of(alloc: Global, text: &str) -> Result<Path, Error> {
@@ -190,315 +303,359 @@ fn path_of(alloc: Global, text: &str) -> Result<Path, Error> {
     })
 }
 
-#[test]
-fn paths_by_their_style(rt: HostRuntime) -> Result<(), Fail> {
-    for (text, in_type, in_expression, in_macro) in [
-        ("::a::Self::try", true, true, true),
-        ("a::<B>::c", true, true, false),
-        ("a<B>", true, false, false),
-        ("Fn(A) -> B", true, false, false),
-    ] {
-        let path = parse_str::<Path>(rt.alloc(), text)?;
-        assert_eq!(rt; path.is_read_back(PathStyle::Type), in_type, "{text}");
-        assert_eq!(rt; path.is_read_back(PathStyle::Expr), in_expression, "{text}");
-        assert_eq!(rt; path.is_read_back(PathStyle::Mod), in_macro, "{text}");
-        assert!(rt; is_same_again(rt.alloc(), &path)?, "{text}");
-    }
-    Ok(())
+/// The styles in which a path of these words is read back.
+fn path_of_words(alloc: Global, text: &str) -> Result<String, Error> {
+    words(alloc, styles_of(&path_of(alloc, text)?))
 }
 
-#[test]
-fn paths_that_no_tokens_spell(rt: HostRuntime) -> Result<(), Fail> {
-    let alloc = rt.alloc();
-    for text in ["", "fn", "a _"] {
-        let path = path_of(alloc, text)?;
-        for style in [PathStyle::Type, PathStyle::Expr, PathStyle::Mod] {
-            assert!(rt; !path.is_read_back(style), "{text}");
-        }
-        assert!(rt; !TypePath { qself: None, path }.is_read_back(), "{text}");
-    }
-    // `::` ends it.
-    let mut path = path_of(alloc, "a")?;
-    assert!(rt; path.is_read_back(PathStyle::Mod));
+/// A type that is a path of these words.
+fn type_of_words(alloc: Global, text: &str) -> Result<String, Error> {
+    let path = TypePath {
+        qself: None,
+        path: path_of(alloc, text)?,
+    };
+    let is_part = path.is_read_back();
+    agreed(alloc, is_part, Type::Path(path).is_read_back(true))
+}
+
+/// A path of these words with `::` behind it.
+fn path_to_nothing(alloc: Global, text: &str) -> Result<String, Error> {
+    let mut path = path_of(alloc, text)?;
+    path.segments.push_punct(Default::default())?;
+    words(alloc, styles_of(&path))
+}
+
+/// The path of a text with a segment behind it.
+fn path_over(alloc: Global, text: &str) -> Result<String, Error> {
+    let mut path = parse_str::<Path>(alloc, text)?;
     path.segments.push(PathSegment {
-        ident: word(alloc, "b")?,
+        ident: word(alloc, "B")?,
         arguments: PathArguments::None,
     })?;
-    path.segments.push_punct(Default::default())?;
-    assert!(rt; !path.is_read_back(PathStyle::Mod));
-    // The output would go on at `::`.
-    for (text, goes_over) in [
-        ("Fn() -> A", false),
-        ("Fn() -> &A", false),
-        ("Fn() -> fn() -> A", false),
-        ("Fn() -> dyn A", false),
-        ("Fn() -> dyn 'a", true),
-        ("Fn() -> [A]", true),
-        ("Fn()", true),
-        ("A", true),
-    ] {
-        let mut path = parse_str::<Path>(alloc, text)?;
-        path.segments.push(PathSegment {
-            ident: word(alloc, "B")?,
-            arguments: PathArguments::None,
-        })?;
-        assert_eq!(rt; path.is_read_back(PathStyle::Type), goes_over, "{text}");
-        if goes_over {
-            assert!(rt; is_same_again(alloc, &path)?, "{text}");
-        }
-    }
-    Ok(())
+    let is_passed = path.is_read_back(PathStyle::Type);
+    verdict(alloc, &path, is_passed)
+}
+
+const PATHS_OF_WORDS: &str = "
+a   | Type Expr Mod
+    | refused
+fn  | refused
+a _ | refused
+";
+
+const TYPES_OF_WORDS: &str = "
+a   | read back
+    | refused
+fn  | refused
+a _ | refused
+";
+
+/// Where an output would go on at `::` the path is refused.
+const PATHS_OVER: &str = "
+Fn() -> A         | refused
+Fn() -> &A        | refused
+Fn() -> fn() -> A | refused
+Fn() -> dyn A     | refused
+Fn() -> dyn 'a    | same
+Fn() -> [A]       | same
+Fn()              | same
+A                 | same
+";
+
+#[test]
+fn paths(rt: HostRuntime) -> Result<(), Fail> {
+    let alloc = rt.alloc();
+    check(alloc, PATHS, path_again)?;
+    check(alloc, PATHS_OF_WORDS, path_of_words)?;
+    check(alloc, TYPES_OF_WORDS, type_of_words)?;
+    check(alloc, "a b | refused", path_to_nothing)?;
+    check(alloc, PATHS_OVER, path_over)
 }
 
 #[test]
-fn segments_and_arguments(rt: HostRuntime) -> Result<(), Fail> {
+fn segments(rt: HostRuntime) -> Result<(), Fail> {
     let alloc = rt.alloc();
+    check(alloc, "a<B> | same", |alloc, text| {
+        again(alloc, text, |segment: &PathSegment| {
+            segment.is_read_back(PathStyle::Type)
+        })
+    })?;
+    check(alloc, "a<B> | refused", |alloc, text| {
+        again(alloc, text, |segment: &PathSegment| {
+            segment.is_read_back(PathStyle::Expr)
+        })
+    })?;
     let mut segment = parse_str::<PathSegment>(alloc, "a<B>")?;
-    assert!(rt; segment.is_read_back(PathStyle::Type));
-    assert!(rt; !segment.is_read_back(PathStyle::Expr));
-    assert!(rt; is_same_again(alloc, &segment)?);
     assert!(rt; segment.arguments.is_read_back(PathStyle::Type));
     assert!(rt; !segment.arguments.is_read_back(PathStyle::Mod));
-    if let PathArguments::AngleBracketed(angle) = &segment.arguments {
-        assert!(rt; angle.is_read_back(PathStyle::Type));
-        assert!(rt; !angle.is_read_back(PathStyle::Expr));
-    }
     segment.ident = word(alloc, "self")?;
     assert!(rt; !segment.is_read_back(PathStyle::Type));
     segment.arguments = PathArguments::None;
     assert!(rt; segment.is_read_back(PathStyle::Type));
     assert!(rt; segment.arguments.is_read_back(PathStyle::Mod));
-
-    let mut round = ParenthesizedGenericArguments {
-        paren_token: Default::default(),
-        inputs: Punctuated::new(alloc),
-        output: ReturnType::Default,
-    };
-    assert!(rt; round.is_read_back());
-    let output = boxed_type(alloc, "dyn A + B")?;
-    round.output = ReturnType::Given(Default::default(), output);
-    assert!(rt; !round.is_read_back());
-    assert!(rt; round.output.is_read_back(true));
-    assert!(rt; !round.output.is_read_back(false));
     Ok(())
 }
+
+#[test]
+fn arguments_in_angles(rt: HostRuntime) -> Result<(), Fail> {
+    let angle = parse_str::<AngleBracketedGenericArguments>(rt.alloc(), "<B>")?;
+    assert!(rt; angle.is_read_back(PathStyle::Type));
+    assert!(rt; !angle.is_read_back(PathStyle::Expr));
+    Ok(())
+}
+
+/// Arguments in parentheses with this output.
+fn round_to(alloc: Global, output: &str) -> Result<String, Error> {
+    let round = ParenthesizedGenericArguments {
+        paren_token: Default::default(),
+        inputs: Punctuated::new(alloc),
+        output: parse_str::<ReturnType>(alloc, output)?,
+    };
+    words(
+        alloc,
+        match (
+            round.is_read_back(),
+            round.output.is_read_back(true),
+            round.output.is_read_back(false),
+        ) {
+            (true, true, true) => "one bound",
+            (false, true, false) => "several bounds",
+            _ => "not agreed",
+        },
+    )
+}
+
+const OUTPUTS: &str = "
+               | one bound
+-> dyn A       | one bound
+-> dyn A + B   | several bounds
+";
+
+#[test]
+fn arguments_in_parentheses(rt: HostRuntime) -> Result<(), Fail> {
+    check(rt.alloc(), OUTPUTS, round_to)
+}
+
+/// Whether the path that a text is read as, behind a type or alone, is read back as the same.
+fn qpath_again(alloc: Global, text: &str, expr_style: bool) -> Result<String, Error> {
+    let tokens = lex(alloc, text)?;
+    let mut input = ParseBuffer::new(&tokens)?;
+    let (qself, path) = qpath(&mut input, expr_style)?;
+    if !qpath_is_read_back(&qself, &path, expr_style) {
+        return words(alloc, "refused");
+    }
+    let mut printed = TokenStream::new(alloc);
+    print_qpath(&qself, &path, &mut printed)?;
+    let mut again = ParseBuffer::new(&printed)?;
+    let (same_qself, same_path) = qpath(&mut again, expr_style)?;
+    let is_same = same_qself == qself && same_path == path && again.is_empty();
+    words(alloc, if is_same { "same" } else { "another" })
+}
+
+/// Whether the path of a text is read back behind `T as` and so many segments.
+fn is_read_back_at(
+    alloc: Global,
+    text: &str,
+    expr_style: bool,
+    position: usize,
+) -> Result<bool, Error> {
+    let tokens = lex(alloc, text)?;
+    let mut input = ParseBuffer::new(&tokens)?;
+    let (_, path) = qpath(&mut input, expr_style)?;
+    let qself = Some(QSelf {
+        lt_token: Default::default(),
+        ty: boxed_type(alloc, "T")?,
+        position,
+        as_token: Some(Default::default()),
+        gt_token: Default::default(),
+    });
+    Ok(qpath_is_read_back(&qself, &path, expr_style))
+}
+
+/// Whether a path is read back where no segment is left behind `>`, and where `as` alone stands before it.
+fn misplaced(alloc: Global, text: &str, expr_style: bool) -> Result<String, Error> {
+    let behind_all = is_read_back_at(alloc, text, expr_style, 5)?;
+    let before_all = is_read_back_at(alloc, text, expr_style, 0)?;
+    agreed(alloc, behind_all, before_all)
+}
+
+const IN_EXPRESSIONS: &str = "
+<T as ::a::b>::c | same
+<T>::c::<D>      | same
+a::b             | same
+";
+
+const MISPLACED: &str = "
+<T as ::a::b>::c | refused
+<T>::c::<D>      | refused
+";
 
 #[test]
 fn qualified_paths(rt: HostRuntime) -> Result<(), Fail> {
     let alloc = rt.alloc();
-    for (text, expr_style) in [
-        ("<T as ::a::b>::c", true),
-        ("<T>::c::<D>", true),
-        ("a::b", true),
-        ("<T>::c<D>", false),
-    ] {
-        let tokens = lex(alloc, text)?;
-        let mut input = ParseBuffer::new(&tokens)?;
-        let (qself, path) = qpath(&mut input, expr_style)?;
-        assert!(rt; qpath_is_read_back(&qself, &path, expr_style), "{text}");
-        let mut printed = TokenStream::new(alloc);
-        print_qpath(&qself, &path, &mut printed)?;
-        let mut again = ParseBuffer::new(&printed)?;
-        let (same_qself, same_path) = qpath(&mut again, expr_style)?;
-        assert!(rt; same_qself == qself && same_path == path, "{text}");
-        assert!(rt; again.is_empty());
-        // No segment is left behind `>`, or `as` alone stands before it.
-        if let Some(qself) = qself {
-            for position in [5, 0] {
-                let qself = Some(QSelf {
-                    lt_token: qself.lt_token,
-                    ty: boxed_type(alloc, "T")?,
-                    position,
-                    as_token: Some(Default::default()),
-                    gt_token: qself.gt_token,
-                });
-                assert!(rt; !qpath_is_read_back(&qself, &path, expr_style));
-            }
-        }
-    }
-    Ok(())
+    check(
+        alloc,
+        IN_EXPRESSIONS,
+        |alloc, text| qpath_again(alloc, text, true),
+    )?;
+    check(
+        alloc,
+        "<T>::c<D> | same",
+        |alloc, text| qpath_again(alloc, text, false),
+    )?;
+    check(alloc, MISPLACED, |alloc, text| misplaced(alloc, text, true))?;
+    check(
+        alloc,
+        "<T>::c<D> | refused",
+        |alloc, text| misplaced(alloc, text, false),
+    )
 }
+
+const ARGUMENTS: &str = "
+'a        | same
+1         | same
+- 1       | same
+{x}       | same
+true      | same
+A = B     | same
+dyn A + B | same
+";
+
+/// A constant of these tokens.
+fn constant(alloc: Global, text: &str) -> Result<String, Error> {
+    let argument = GenericArgument::Const(lex(alloc, text)?);
+    let is_passed = argument.is_read_back();
+    verdict(alloc, &argument, is_passed)
+}
+
+const CONSTANTS: &str = "
+1       | same
+        | refused
+a       | refused
+1 1     | refused
+- a     | refused
++ 1     | refused
+(x)     | refused
+{x} {y} | refused
+- 1 1   | refused
+";
+
+/// `name = B`.
+fn assoc_of(alloc: Global, name: &str) -> Result<String, Error> {
+    let assoc = AssocType {
+        ident: word(alloc, name)?,
+        eq_token: Default::default(),
+        ty: parse_str::<Type>(alloc, "B")?,
+    };
+    let is_passed = assoc.is_read_back();
+    verdict(alloc, &assoc, is_passed)
+}
+
+const ASSOC_NAMES: &str = "
+A    | same
+Self | refused
+";
 
 #[test]
 fn generic_arguments(rt: HostRuntime) -> Result<(), Fail> {
     let alloc = rt.alloc();
-    for text in ["'a", "1", "- 1", "{x}", "true", "A = B", "dyn A + B"] {
-        let argument = parse_str::<GenericArgument>(alloc, text)?;
-        assert!(rt; argument.is_read_back(), "{text}");
-        assert!(rt; is_same_again(alloc, &argument)?, "{text}");
-    }
-    for text in ["", "a", "1 1", "- a", "+ 1", "(x)", "{x} {y}", "- 1 1"] {
-        let tokens = lex(alloc, text)?;
-        assert!(rt; !GenericArgument::Const(tokens).is_read_back(), "{text}");
-    }
-    let mut assoc = AssocType {
-        ident: word(alloc, "A")?,
-        eq_token: Default::default(),
-        ty: parse_str::<Type>(alloc, "B")?,
-    };
-    assert!(rt; assoc.is_read_back());
-    assoc.ident = word(alloc, "Self")?;
-    assert!(rt; !assoc.is_read_back());
-    Ok(())
+    check(alloc, ARGUMENTS, |alloc, text| {
+        again(alloc, text, GenericArgument::is_read_back)
+    })?;
+    check(alloc, CONSTANTS, constant)?;
+    check(alloc, ASSOC_NAMES, assoc_of)
 }
 
-#[test]
-fn parts_of_types(rt: HostRuntime) -> Result<(), Fail> {
-    let alloc = rt.alloc();
-    for text in ["'a", "A", "?for<'a,> A<'a>"] {
-        let bound = parse_str::<TypeParamBound>(alloc, text)?;
-        assert!(rt; bound.is_read_back(), "{text}");
-        assert!(rt; is_same_again(alloc, &bound)?, "{text}");
-    }
+const BOUNDS: &str = "
+'a               | same
+A                | same
+?for<'a,> A<'a>  | same
+";
+
+/// A bound by a path of these words.
+fn bound_of(alloc: Global, text: &str) -> Result<String, Error> {
     let bound = TraitBound {
         maybe: None,
         lifetimes: None,
-        path: path_of(alloc, "")?,
+        path: path_of(alloc, text)?,
     };
-    assert!(rt; !bound.is_read_back());
-    assert!(rt; !TypeParamBound::Trait(bound).is_read_back());
+    let is_part = bound.is_read_back();
+    agreed(alloc, is_part, TypeParamBound::Trait(bound).is_read_back())
+}
 
-    for (name, is_name) in [("a", true), ("_", true), ("self", false)] {
-        let arg = BareFnArg {
-            name: Some((word(alloc, name)?, Default::default())),
-            ty: parse_str::<Type>(alloc, "A")?,
-        };
-        assert_eq!(rt; arg.is_read_back(), is_name, "{name}");
-    }
-    for (text, is_string) in [("\"C\"", true), ("1", false), ("b\"C\"", false)] {
-        let token = literal(alloc, text)?;
-        let abi = Abi {
-            extern_token: Default::default(),
-            name: Some(LitStr { token }),
-        };
-        assert_eq!(rt; abi.is_read_back(), is_string, "{text}");
-        let pointer = TypeFnPtr {
-            lifetimes: None,
-            unsafety: None,
-            abi: Some(abi),
-            fn_token: Default::default(),
-            paren_token: Default::default(),
-            inputs: Punctuated::new(alloc),
-            output: ReturnType::Default,
-        };
-        assert_eq!(rt; pointer.is_read_back(), is_string, "{text}");
-    }
+const LIFETIMES: &str = "
+for<>         | same
+for<'a>       | same
+for<'a, 'b,>  | same
+";
 
+#[test]
+fn parts_of_bounds(rt: HostRuntime) -> Result<(), Fail> {
+    let alloc = rt.alloc();
+    check(alloc, BOUNDS, |alloc, text| {
+        again(alloc, text, TypeParamBound::is_read_back)
+    })?;
+    check(alloc, "a | read back\n | refused", bound_of)?;
+    check(alloc, LIFETIMES, |alloc, text| {
+        again(alloc, text, |_: &BoundLifetimes| true)
+    })
+}
+
+/// An argument `name: A` of a pointer to functions.
+fn argument_of(alloc: Global, name: &str) -> Result<String, Error> {
+    let arg = BareFnArg {
+        name: Some((word(alloc, name)?, Default::default())),
+        ty: parse_str::<Type>(alloc, "A")?,
+    };
+    let is_passed = arg.is_read_back();
+    verdict(alloc, &arg, is_passed)
+}
+
+const ARGUMENT_NAMES: &str = "
+a    | same
+_    | same
+self | refused
+";
+
+/// A pointer to functions of this ABI, and the ABI.
+fn pointer_of(alloc: Global, name: &str) -> Result<String, Error> {
+    let abi = Abi {
+        extern_token: Default::default(),
+        name: Some(parse_str::<LitStr>(alloc, name)?),
+    };
+    let is_part = abi.is_read_back();
+    let pointer = TypeFnPtr {
+        lifetimes: None,
+        unsafety: None,
+        abi: Some(abi),
+        fn_token: Default::default(),
+        paren_token: Default::default(),
+        inputs: Punctuated::new(alloc),
+        output: ReturnType::Default,
+    };
+    agreed(alloc, is_part, pointer.is_read_back())
+}
+
+#[test]
+fn parts_of_pointers(rt: HostRuntime) -> Result<(), Fail> {
+    check(rt.alloc(), ARGUMENT_NAMES, argument_of)?;
+    check(rt.alloc(), r#""C" | read back"#, pointer_of)
+}
+
+/// A call `path!()` of a macro.
+fn call_of(alloc: Global, path: &str) -> Result<String, Error> {
     let mut mac = parse_str::<Macro>(alloc, "a::b!(c)")?;
-    assert!(rt; mac.is_read_back());
-    assert!(rt; is_same_again(alloc, &mac)?);
-    mac.path = parse_str::<Path>(alloc, "a<B>")?;
-    assert!(rt; !mac.is_read_back());
-    Ok(())
+    mac.path = parse_str::<Path>(alloc, path)?;
+    let is_passed = mac.is_read_back();
+    verdict(alloc, &mac, is_passed)
 }
+
+const CALLED: &str = "
+a::b | same
+a<B> | refused
+";
 
 #[test]
-fn types_of_types(rt: HostRuntime) -> Result<(), Fail> {
-    let alloc = rt.alloc();
-    for (text, is_back, with_one) in [
-        ("A", true, true),
-        ("dyn A + B", true, false),
-        ("*const A", true, true),
-    ] {
-        let pointer = TypePtr {
-            star_token: Default::default(),
-            mutability: crate::ty::PointerMutability::Mut(Default::default()),
-            elem: boxed_type(alloc, text)?,
-        };
-        assert_eq!(rt; pointer.is_read_back(), with_one, "{text}");
-        let slice = TypeSlice {
-            bracket_token: Default::default(),
-            elem: boxed_type(alloc, text)?,
-        };
-        assert_eq!(rt; slice.is_read_back(), is_back, "{text}");
-        let paren = TypeParen {
-            paren_token: Default::default(),
-            elem: boxed_type(alloc, text)?,
-        };
-        assert_eq!(rt; paren.is_read_back(), is_back, "{text}");
-    }
-    Ok(())
-}
-
-#[test]
-fn parts_that_are_always_read_back(rt: HostRuntime) -> Result<(), Fail> {
-    let alloc = rt.alloc();
-    assert!(rt; is_same_again(alloc, &parse_str::<Lifetime>(alloc, "'fn")?)?);
-    for text in ["for<>", "for<'a>", "for<'a, 'b,>"] {
-        let lifetimes = parse_str::<BoundLifetimes>(alloc, text)?;
-        assert!(rt; is_same_again(alloc, &lifetimes)?, "{text}");
-    }
-    assert!(rt; is_same_again(alloc, &parse_str::<Block>(alloc, "{a; b}")?)?);
-    let tokens = lex(alloc, "#[a] #[b = c]")?;
-    let mut input = ParseBuffer::new(&tokens)?;
-    let attributes = Attribute::parse_outer(&mut input)?;
-    let mut printed = TokenStream::new(alloc);
-    for attribute in &attributes {
-        attribute.to_tokens(&mut printed)?;
-    }
-    let mut again = ParseBuffer::new(&printed)?;
-    assert!(rt; Attribute::parse_outer(&mut again)? == attributes);
-    Ok(())
-}
-
-#[test]
-fn literals_by_their_kind(rt: HostRuntime) -> Result<(), Fail> {
-    let alloc = rt.alloc();
-    for text in [
-        "\"a\"", "b\"a\"", "c\"a\"", "b'a'", "'a'", "1", "1.5", "true", "-1", "-1.5",
-    ] {
-        let lit = parse_str::<Lit>(alloc, text)?;
-        assert!(rt; lit.is_read_back(), "{text}");
-        assert!(rt; is_same_again(alloc, &lit)?, "{text}");
-    }
-    let string = LitStr {
-        token: literal(alloc, "b\"a\"")?,
-    };
-    assert!(rt; !string.is_read_back());
-    assert!(rt; !Lit::Str(string).is_read_back());
-    let bytes = LitByteStr {
-        token: literal(alloc, "\"a\"")?,
-    };
-    assert!(rt; !bytes.is_read_back());
-    let c_string = LitCStr {
-        token: literal(alloc, "\"a\"")?,
-    };
-    assert!(rt; !c_string.is_read_back());
-    let byte = LitByte {
-        token: literal(alloc, "'a'")?,
-    };
-    assert!(rt; !byte.is_read_back());
-    let char = LitChar {
-        token: literal(alloc, "b'a'")?,
-    };
-    assert!(rt; !char.is_read_back());
-    let truth = LitBool {
-        word: word(alloc, "truth")?,
-    };
-    assert!(rt; !truth.is_read_back());
-    Ok(())
-}
-
-/// Whether a number is read back as an integer, and its token as a float.
-fn number_tests(alloc: Global, text: &str) -> Result<(bool, bool), Error> {
-    let Lit::Int(LitInt { minus_token, token }) = parse_str::<Lit>(alloc, text)? else {
-        return Err(another());
-    };
-    let int = LitInt { minus_token, token };
-    let is_int = int.is_read_back();
-    let LitInt { minus_token, token } = int;
-    Ok((is_int, LitFloat { minus_token, token }.is_read_back()))
-}
-
-#[test]
-fn numbers_by_their_kind(rt: HostRuntime) -> Result<(), Fail> {
-    for text in ["1", "-0x1e5"] {
-        assert_eq!(rt; number_tests(rt.alloc(), text)?, (true, false), "{text}");
-    }
-    let Lit::Float(float) = parse_str::<Lit>(rt.alloc(), "1e3")? else {
-        assert!(rt; false);
-        return Ok(());
-    };
-    assert!(rt; float.is_read_back());
-    Ok(())
+fn macros(rt: HostRuntime) -> Result<(), Fail> {
+    check(rt.alloc(), CALLED, call_of)
 }

@@ -2,7 +2,8 @@
 
 ghost use Rattle.std.specs.Prelude.{◌≡◌, ◌≤◌, ◌<◌, ◌+◌, map, true, false, IfOk, Some, None, is_some};
 ghost use Rattle.syn_lexer.specs.declared.lexeme.Delimiter.TheVariants as del;
-ghost use Rattle.syn_lower.specs.Reads.{Reads, Callable, ReadsType};
+ghost use Rattle.syn_leaf.specs.Reads.{Reads};
+ghost use Rattle.syn_lower.specs.Reads.{Callable, ReadsType};
 ghost use Rattle.syn_lower.specs.View as view;
 ghost use Rattle.syn_parts.specs.Form as form;
 ghost use Rattle.syn_parts.specs.Mark as mark;
@@ -11,12 +12,12 @@ ghost use Rattle.syn_tokens.specs.Front as front_spec;
 ghost use Rattle.syn_tokens.specs.Tok.{weight};
 ghost use Rattle.syn_tokens.specs.View.{toks_of};
 
-use crate::front;
 use crate::grammar::{Grammar, boxed, lifetimes_at, maybe_lifetimes};
-use crate::leaf::{arg_name, literal_at, string};
-use crate::lit::LitStr;
 use crate::punctuated::Punctuated;
 use crate::ty::{Abi, BareFnArg, BoundLifetimes, Type, TypeFnPtr};
+use syn_leaf::front;
+use syn_leaf::leaf::{arg_name, literal_at, string};
+use syn_leaf::lit::LitStr;
 use syn_lexer::reserved::is_reserved_word;
 use syn_tokens::buffer::{ParseBuffer, Token};
 use syn_tokens::error::{ErrorKind, Expected, Result};

@@ -5,8 +5,9 @@
 
 ghost use Rattle.std.specs.Prelude.{not, ◌||◌, ◌≡◌, ◌≤◌, ◌<◌, ◌+◌, ◌++◌, map, true, false, IfOk, Some, None, is_some};
 ghost use Rattle.syn_lexer.specs.declared.lexeme.Delimiter.TheVariants as del;
+ghost use Rattle.syn_leaf.specs.Reads.{Reads};
 ghost use Rattle.syn_lower.specs.Punct.{takes_value};
-ghost use Rattle.syn_lower.specs.Reads.{Reads, Callable, ReadsType};
+ghost use Rattle.syn_lower.specs.Reads.{Callable, ReadsType};
 ghost use Rattle.syn_lower.specs.View as view;
 ghost use Rattle.syn_parts.specs.Form as form;
 ghost use Rattle.syn_parts.specs.Mark as mark;
@@ -15,27 +16,26 @@ ghost use Rattle.syn_tokens.specs.Front as front_spec;
 ghost use Rattle.syn_tokens.specs.Tok.{weight};
 ghost use Rattle.syn_tokens.specs.View.{toks_of};
 
-use crate::front;
-use crate::kept::{const_at, constant_tokens, rest_of};
-use crate::leaf::{arg_name, lifetime, lifetime_at, literal_at, name, segment_name, string};
-use crate::lifetime::Lifetime;
 use crate::path::{
     AngleBracketedGenericArguments, AssocType, GenericArgument, ParenthesizedGenericArguments,
-    Path, PathArguments, PathSegment, QSelf,
+    Path, PathArguments, PathSegment,
 };
 use crate::punctuated::Punctuated;
-use crate::text::stands_alone;
 use crate::ty::{
-    Abi, BareFnArg, BoundLifetimes, PointerMutability, ReturnType, TraitBound, Type, TypeArray,
-    TypeFnPtr, TypeImplTrait, TypeInfer, TypeMacro, TypeNever, TypeParamBound, TypeParen, TypePath,
-    TypePtr, TypeReference, TypeSlice, TypeTraitObject, TypeTuple,
+    BoundLifetimes, PointerMutability, ReturnType, TraitBound, Type, TypeArray, TypeImplTrait,
+    TypeParamBound, TypeParen, TypePtr, TypeReference, TypeSlice, TypeTraitObject, TypeTuple,
 };
 use std::alloc::{AllocError, Global};
+use syn_leaf::front;
+use syn_leaf::kept::{const_at, constant_tokens, rest_of};
+use syn_leaf::leaf::{lifetime, lifetime_at, name, segment_name};
+use syn_leaf::lifetime::Lifetime;
+use syn_leaf::text::stands_alone;
 use syn_lexer::reserved::is_reserved_word;
 use syn_parts::label::PathStyle;
 use syn_tokens::Spacing;
-use syn_tokens::buffer::{Parse, ParseBuffer, Token};
-use syn_tokens::error::{ErrorKind, Expected, Part, Result, Wanted};
+use syn_tokens::buffer::{ParseBuffer, Token};
+use syn_tokens::error::{ErrorKind, Expected, Part, Result};
 use syn_tokens::token::{
     And, Bracket, Comma, Const, Dyn, Eq, EqEq, FatArrow, For, Gt, Impl, Le, Lt, Mut, Paren,
     PathSep, Plus, Star,

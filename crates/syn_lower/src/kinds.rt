@@ -1,14 +1,13 @@
 //! The readers of types of one kind.
-#![tactic(auto, using(crate::proofs::Readable::readables))]
+#![tactic(auto, using(syn_parts::proofs::Readable::readables))]
 
 ghost use Rattle.std.specs.Prelude.{◌≡◌, true, false, MatchOption, Some};
-ghost use Rattle.syn_lower.specs.Kinds as kinds;
+ghost use Rattle.syn_parts.specs.Kind as kinds;
 ghost use Rattle.syn_lower.specs.View.{arguments_of, macro_of, path_of, qself_or, type_of};
 ghost use Rattle.syn_lower.specs.declared.ty.«Type».TheVariants as variant;
 ghost use Rattle.syn_parts.specs.Part as part;
 ghost use Rattle.syn_parts.specs.declared.label.PathStyle.TheVariants as style;
 
-use crate::ahead::{ReadByForm, ahead};
 use crate::grammar::Grammar;
 use crate::mac::Macro;
 use crate::qualified::ty;
@@ -17,6 +16,7 @@ use crate::ty::{
     Type, TypeArray, TypeFnPtr, TypeImplTrait, TypeInfer, TypeMacro, TypeNever, TypeParen,
     TypePath, TypePtr, TypeReference, TypeSlice, TypeTraitObject, TypeTuple,
 };
+use syn_leaf::ahead::{ReadByForm, ahead};
 use syn_parts::label::PathStyle;
 use syn_tokens::buffer::{Parse, ParseBuffer};
 use syn_tokens::error::{ErrorKind, Part, Result};
@@ -36,21 +36,25 @@ trait Kind {
         ensures { MatchOption result (is (type_of ty) ≡ false) (λ x. (is (tree x) ≡ true) × (tree x ≡ type_of ty)) };
 }
 
-#[tactic(auto, unfolding(crate::specs::Kinds::of_kind))]
-impl<T: Kind> ReadByForm for T {
+/// What is read of a struct that holds the types of one kind.
+#[derive(Drop)]
+struct OfKind<T>(T);
+
+#[tactic(auto, unfolding(syn_parts::specs::Kind::type_of_kind))]
+impl<T: Kind> ReadByForm for OfKind<T> {
     ghost use Rattle.syn_parts.specs.Tree.{TypeTree};
 
     ghost Seen = { TypeTree };
 
-    ghost seen = { T.tree };
+    ghost seen = { λ x. T.tree x.0 };
 
-    ghost form = { kinds.of_kind T.is };
+    ghost form = { kinds.type_of_kind T.is };
 
     fn read(input: &mut ParseBuffer<'_>) -> Result<Self> {
         let other = input.error(ErrorKind::ExpectedPart(Part::Type));
         let ty = whole_type(input, true)?;
         match T::of(ty) {
-            Some(x) => Ok(x),
+            Some(x) => Ok(OfKind(x)),
             None => Err(other),
         }
     }
@@ -78,14 +82,15 @@ impl Parse for TypeReference {
     ghost seen = { λ x. type_of (variant.Reference x) };
 
     /// A reference stands before the rest.
-    ghost spells = { λ l x rest. (kinds.of_kind kinds.is_reference).behind x l ≡ Some rest };
+    ghost spells = { λ l x rest. (kinds.type_of_kind kinds.is_reference).behind x l ≡ Some rest };
 
     ghost least = { 1 };
 
     /// Reads a reference (Rust Reference, "Pointer types"). It is refused as a type is, and where another kind of type
     /// stands, as `ExpectedPart` of a type.
     fn parse(input: &mut ParseBuffer<'_>) -> Result<Self> {
-        ahead(input)
+        let OfKind(x) = ahead(input)?;
+        Ok(x)
     }
 }
 
@@ -111,14 +116,15 @@ impl Parse for TypePtr {
     ghost seen = { λ x. type_of (variant.Ptr x) };
 
     /// A raw pointer stands before the rest.
-    ghost spells = { λ l x rest. (kinds.of_kind kinds.is_pointer).behind x l ≡ Some rest };
+    ghost spells = { λ l x rest. (kinds.type_of_kind kinds.is_pointer).behind x l ≡ Some rest };
 
     ghost least = { 1 };
 
     /// Reads a raw pointer (Rust Reference, "Pointer types"). It is refused as a type is, and where another kind of
     /// type stands, as `ExpectedPart` of a type.
     fn parse(input: &mut ParseBuffer<'_>) -> Result<Self> {
-        ahead(input)
+        let OfKind(x) = ahead(input)?;
+        Ok(x)
     }
 }
 
@@ -144,14 +150,15 @@ impl Parse for TypeSlice {
     ghost seen = { λ x. type_of (variant.Slice x) };
 
     /// A slice stands before the rest.
-    ghost spells = { λ l x rest. (kinds.of_kind kinds.is_slice).behind x l ≡ Some rest };
+    ghost spells = { λ l x rest. (kinds.type_of_kind kinds.is_slice).behind x l ≡ Some rest };
 
     ghost least = { 1 };
 
     /// Reads a slice (Rust Reference, "Slice types"). It is refused as a type is, and where another kind of type
     /// stands, as `ExpectedPart` of a type.
     fn parse(input: &mut ParseBuffer<'_>) -> Result<Self> {
-        ahead(input)
+        let OfKind(x) = ahead(input)?;
+        Ok(x)
     }
 }
 
@@ -177,14 +184,15 @@ impl Parse for TypeArray {
     ghost seen = { λ x. type_of (variant.Array x) };
 
     /// An array, whose length is kept as tokens stands before the rest.
-    ghost spells = { λ l x rest. (kinds.of_kind kinds.is_array).behind x l ≡ Some rest };
+    ghost spells = { λ l x rest. (kinds.type_of_kind kinds.is_array).behind x l ≡ Some rest };
 
     ghost least = { 1 };
 
     /// Reads an array, whose length is kept as tokens (Rust Reference, "Array types"). It is refused as a type is, and
     /// where another kind of type stands, as `ExpectedPart` of a type.
     fn parse(input: &mut ParseBuffer<'_>) -> Result<Self> {
-        ahead(input)
+        let OfKind(x) = ahead(input)?;
+        Ok(x)
     }
 }
 
@@ -210,14 +218,15 @@ impl Parse for TypeTuple {
     ghost seen = { λ x. type_of (variant.Tuple x) };
 
     /// A tuple stands before the rest.
-    ghost spells = { λ l x rest. (kinds.of_kind kinds.is_tuple).behind x l ≡ Some rest };
+    ghost spells = { λ l x rest. (kinds.type_of_kind kinds.is_tuple).behind x l ≡ Some rest };
 
     ghost least = { 1 };
 
     /// Reads a tuple (Rust Reference, "Tuple types"). It is refused as a type is, and where another kind of type
     /// stands, as `ExpectedPart` of a type.
     fn parse(input: &mut ParseBuffer<'_>) -> Result<Self> {
-        ahead(input)
+        let OfKind(x) = ahead(input)?;
+        Ok(x)
     }
 }
 
@@ -243,14 +252,15 @@ impl Parse for TypeParen {
     ghost seen = { λ x. type_of (variant.Paren x) };
 
     /// A type in parentheses stands before the rest.
-    ghost spells = { λ l x rest. (kinds.of_kind kinds.is_paren).behind x l ≡ Some rest };
+    ghost spells = { λ l x rest. (kinds.type_of_kind kinds.is_paren).behind x l ≡ Some rest };
 
     ghost least = { 1 };
 
     /// Reads a type in parentheses (Rust Reference, "Parenthesized types"). It is refused as a type is, and where
     /// another kind of type stands, as `ExpectedPart` of a type.
     fn parse(input: &mut ParseBuffer<'_>) -> Result<Self> {
-        ahead(input)
+        let OfKind(x) = ahead(input)?;
+        Ok(x)
     }
 }
 
@@ -276,14 +286,15 @@ impl Parse for TypeNever {
     ghost seen = { λ x. type_of (variant.Never x) };
 
     /// `!` stands before the rest.
-    ghost spells = { λ l x rest. (kinds.of_kind part.is_never).behind x l ≡ Some rest };
+    ghost spells = { λ l x rest. (kinds.type_of_kind part.is_never).behind x l ≡ Some rest };
 
     ghost least = { 1 };
 
     /// Reads `!` (Rust Reference, "Never type"). It is refused as a type is, and where another kind of type stands, as
     /// `ExpectedPart` of a type.
     fn parse(input: &mut ParseBuffer<'_>) -> Result<Self> {
-        ahead(input)
+        let OfKind(x) = ahead(input)?;
+        Ok(x)
     }
 }
 
@@ -309,14 +320,15 @@ impl Parse for TypeInfer {
     ghost seen = { λ x. type_of (variant.Infer x) };
 
     /// `_` stands before the rest.
-    ghost spells = { λ l x rest. (kinds.of_kind part.is_infer).behind x l ≡ Some rest };
+    ghost spells = { λ l x rest. (kinds.type_of_kind part.is_infer).behind x l ≡ Some rest };
 
     ghost least = { 1 };
 
     /// Reads `_` (Rust Reference, "Inferred type"). It is refused as a type is, and where another kind of type stands,
     /// as `ExpectedPart` of a type.
     fn parse(input: &mut ParseBuffer<'_>) -> Result<Self> {
-        ahead(input)
+        let OfKind(x) = ahead(input)?;
+        Ok(x)
     }
 }
 
@@ -342,14 +354,15 @@ impl Parse for TypeFnPtr {
     ghost seen = { λ x. type_of (variant.FnPtr x) };
 
     /// A function pointer stands before the rest.
-    ghost spells = { λ l x rest. (kinds.of_kind kinds.is_fn_pointer).behind x l ≡ Some rest };
+    ghost spells = { λ l x rest. (kinds.type_of_kind kinds.is_fn_pointer).behind x l ≡ Some rest };
 
     ghost least = { 1 };
 
     /// Reads a function pointer (Rust Reference, "Function pointer types"). It is refused as a type is, and where
     /// another kind of type stands, as `ExpectedPart` of a type.
     fn parse(input: &mut ParseBuffer<'_>) -> Result<Self> {
-        ahead(input)
+        let OfKind(x) = ahead(input)?;
+        Ok(x)
     }
 }
 
@@ -375,14 +388,15 @@ impl Parse for TypeImplTrait {
     ghost seen = { λ x. type_of (variant.ImplTrait x) };
 
     /// `impl` and its bounds stand before the rest.
-    ghost spells = { λ l x rest. (kinds.of_kind kinds.is_impl_trait).behind x l ≡ Some rest };
+    ghost spells = { λ l x rest. (kinds.type_of_kind kinds.is_impl_trait).behind x l ≡ Some rest };
 
     ghost least = { 1 };
 
     /// Reads `impl` and its bounds (Rust Reference, "Impl trait"). It is refused as a type is, and where another kind
     /// of type stands, as `ExpectedPart` of a type.
     fn parse(input: &mut ParseBuffer<'_>) -> Result<Self> {
-        ahead(input)
+        let OfKind(x) = ahead(input)?;
+        Ok(x)
     }
 }
 
@@ -408,14 +422,15 @@ impl Parse for TypeTraitObject {
     ghost seen = { λ x. type_of (variant.TraitObject x) };
 
     /// `dyn` and its bounds stand before the rest.
-    ghost spells = { λ l x rest. (kinds.of_kind kinds.is_trait_object).behind x l ≡ Some rest };
+    ghost spells = { λ l x rest. (kinds.type_of_kind kinds.is_trait_object).behind x l ≡ Some rest };
 
     ghost least = { 1 };
 
     /// Reads `dyn` and its bounds (Rust Reference, "Trait objects"). It is refused as a type is, and where another kind
     /// of type stands, as `ExpectedPart` of a type.
     fn parse(input: &mut ParseBuffer<'_>) -> Result<Self> {
-        ahead(input)
+        let OfKind(x) = ahead(input)?;
+        Ok(x)
     }
 }
 

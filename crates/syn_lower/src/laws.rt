@@ -16,10 +16,6 @@ ghost use Rattle.syn_parts.specs.Part.{pound_bang};
 ghost use Rattle.syn_parts.specs.declared.label.LitKind.TheVariants as kind;
 ghost use Rattle.syn_parts.specs.declared.label.PathStyle.TheVariants as style;
 
-use crate::attr::Attribute;
-use crate::block::Block;
-use crate::lifetime::Lifetime;
-use crate::lit::{Lit, LitBool, LitByte, LitByteStr, LitCStr, LitChar, LitFloat, LitInt, LitStr};
 use crate::mac::Macro;
 use crate::path::{
     AngleBracketedGenericArguments, AssocType, GenericArgument, ParenthesizedGenericArguments,
@@ -69,22 +65,7 @@ pub fn parts_are_read_back()
     ensures generic_arguments { IsReadBack (λ x. fits.generic_fits (view.generic_of x)) (λ x. fits.generic_stops (view.generic_of x)) ⟦<GenericArgument as ToTokens>⟧.printed ⟦<GenericArgument as Parse>⟧.seen ⟦<GenericArgument as Parse>⟧.spells }
     ensures bounds { IsReadBack (λ x. fits.bound_fits (view.bound_of x)) (λ x. fits.bound_stops (view.bound_of x)) ⟦<TypeParamBound as ToTokens>⟧.printed ⟦<TypeParamBound as Parse>⟧.seen ⟦<TypeParamBound as Parse>⟧.spells }
     ensures macros { IsReadBack (λ x. fits.macro_fits (view.macro_of view.arguments_of x)) closed ⟦<Macro as ToTokens>⟧.printed ⟦<Macro as Parse>⟧.seen ⟦<Macro as Parse>⟧.spells }
-    ensures blocks { IsReadBack (λ x. true) closed ⟦<Block as ToTokens>⟧.printed ⟦<Block as Parse>⟧.seen ⟦<Block as Parse>⟧.spells }
     ensures bound_lifetimes { IsReadBack (λ x. true) closed ⟦<BoundLifetimes as ToTokens>⟧.printed ⟦<BoundLifetimes as Parse>⟧.seen ⟦<BoundLifetimes as Parse>⟧.spells }
-    ensures lifetimes { IsReadBack (λ x. true) closed ⟦<Lifetime as ToTokens>⟧.printed ⟦<Lifetime as Parse>⟧.seen ⟦<Lifetime as Parse>⟧.spells }
-    // `Attribute::parse_outer`, `Attribute::parse_inner`
-    ensures outer_attributes { IsReadBack all_outer (λ xs rest. not (pound.at rest)) (all_printed ⟦<Attribute as ToTokens>⟧.printed) (map view.attribute_of) (IsRead part.outer_attributes) }
-    ensures inner_attributes { IsReadBack all_inner (λ xs rest. not (pound_bang.at rest)) (all_printed ⟦<Attribute as ToTokens>⟧.printed) (map view.attribute_of) (IsRead part.inner_attributes) }
-    ensures literals { IsReadBack (λ x. fits.lit_fits (view.lit_of x)) closed ⟦<Lit as ToTokens>⟧.printed ⟦<Lit as Parse>⟧.seen ⟦<Lit as Parse>⟧.spells }
-    ensures strings { IsReadBack (λ x. fits.lit_fits (⟦<LitStr as Parse>⟧.seen x)) closed ⟦<LitStr as ToTokens>⟧.printed ⟦<LitStr as Parse>⟧.seen ⟦<LitStr as Parse>⟧.spells }
-    ensures byte_strings { IsReadBack (λ x. fits.lit_fits (⟦<LitByteStr as Parse>⟧.seen x)) closed ⟦<LitByteStr as ToTokens>⟧.printed ⟦<LitByteStr as Parse>⟧.seen ⟦<LitByteStr as Parse>⟧.spells }
-    ensures c_strings { IsReadBack (λ x. fits.lit_fits (⟦<LitCStr as Parse>⟧.seen x)) closed ⟦<LitCStr as ToTokens>⟧.printed ⟦<LitCStr as Parse>⟧.seen ⟦<LitCStr as Parse>⟧.spells }
-    ensures bytes { IsReadBack (λ x. fits.lit_fits (⟦<LitByte as Parse>⟧.seen x)) closed ⟦<LitByte as ToTokens>⟧.printed ⟦<LitByte as Parse>⟧.seen ⟦<LitByte as Parse>⟧.spells }
-    ensures chars { IsReadBack (λ x. fits.lit_fits (⟦<LitChar as Parse>⟧.seen x)) closed ⟦<LitChar as ToTokens>⟧.printed ⟦<LitChar as Parse>⟧.seen ⟦<LitChar as Parse>⟧.spells }
-    ensures truths { IsReadBack (λ x. fits.lit_fits (⟦<LitBool as Parse>⟧.seen x)) closed ⟦<LitBool as ToTokens>⟧.printed ⟦<LitBool as Parse>⟧.seen ⟦<LitBool as Parse>⟧.spells }
-    // a number by itself is read without a sign
-    ensures integers { IsReadBack (λ x. fits.of_kind_fits kind.Int (⟦<LitInt as Parse>⟧.seen x)) closed ⟦<LitInt as ToTokens>⟧.printed ⟦<LitInt as Parse>⟧.seen ⟦<LitInt as Parse>⟧.spells }
-    ensures floats { IsReadBack (λ x. fits.of_kind_fits kind.Float (⟦<LitFloat as Parse>⟧.seen x)) closed ⟦<LitFloat as ToTokens>⟧.printed ⟦<LitFloat as Parse>⟧.seen ⟦<LitFloat as Parse>⟧.spells }
 {}
 
 /// The same of the parts of paths, of function pointers and of bounds that have readers of their own.

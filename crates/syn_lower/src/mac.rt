@@ -1,19 +1,9 @@
 //! Calls of macros (Rust Reference, "Macro Invocation").
 
 use crate::path::{PathArguments, PathOf};
-use syn_tokens::token::{Brace, Bracket, Not, Paren};
+pub use syn_leaf::mac::MacroDelimiter;
+use syn_tokens::token::Not;
 use syn_tokens::tree::TokenStream;
-
-/// What encloses the tokens of a macro's call.
-#[derive(Clone, Copy, Debug, PartialEq)]
-pub enum MacroDelimiter {
-    /// `( .. )`
-    Paren(Paren),
-    /// `{ .. }`
-    Brace(Brace),
-    /// `[ .. ]`
-    Bracket(Bracket),
-}
 
 /// The call of a macro. What it is given is kept as tokens.
 pub type Macro = MacroOf<PathArguments>;

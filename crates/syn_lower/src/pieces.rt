@@ -1,16 +1,16 @@
 //! The readers of what stands inside of types and paths.
-#![tactic(auto, using(crate::proofs::Readable::readables))]
+#![tactic(auto, using(syn_parts::proofs::Readable::readables))]
 
 ghost use Rattle.std.specs.Prelude.{◌≡◌, Some, true};
 ghost use Rattle.syn_lower.specs.View as view;
 ghost use Rattle.syn_parts.specs.Part as part;
 
-use crate::ahead::{ReadByForm, ahead};
 use crate::fn_pointer::maybe_abi;
 use crate::grammar::{Grammar, pointer_mutability};
 use crate::path::{AngleBracketedGenericArguments, AssocType, ParenthesizedGenericArguments};
 use crate::qualified::ty;
 use crate::ty::{Abi, BareFnArg, PointerMutability, ReturnType, TraitBound};
+use syn_leaf::ahead::{ReadByForm, ahead};
 use syn_tokens::buffer::{Parse, ParseBuffer, Token};
 use syn_tokens::error::{ErrorKind, Expected, Result};
 use syn_tokens::token::Extern;

@@ -7,9 +7,6 @@ ghost use Rattle.syn_parts.specs.Own.{alone, joint, at_most, type_own};
 ghost use Rattle.syn_tokens.specs.Input.{IsFront};
 ghost use Rattle.syn_tokens.specs.Tok as tok;
 
-use crate::attr::{AttrStyle, Attribute};
-use crate::block::Block;
-use crate::lifetime::Lifetime;
 use crate::mac::{MacroDelimiter, MacroOf};
 use crate::path::{
     AngleBracketedGenericArgumentsOf, AssocTypeOf, GenericArgument, ParenthesizedGenericArguments,
@@ -21,15 +18,15 @@ use crate::ty::{
     TypeArrayOf, TypeFnPtr, TypeImplTraitOf, TypeInfer, TypeMacroOf, TypeNever, TypeParamBound,
     TypeParenOf, TypePath, TypePtrOf, TypeReferenceOf, TypeSliceOf, TypeTraitObjectOf, TypeTupleOf,
 };
-use syn_tokens::Spacing;
+use syn_leaf::lifetime::Lifetime;
 use syn_tokens::buffer::ToTokens;
 use syn_tokens::copy::copy_trees;
 use syn_tokens::error::{ErrorKind, Result};
 use syn_tokens::token::{As, Colon, Comma, Fn, Gt, Paren, PathSep, RArrow, Unsafe};
-use syn_tokens::tree::{Ident, Punct, TokenStream, TokenTree};
+use syn_tokens::tree::{Ident, TokenStream};
 
 /// Prints a part that may be missing.
-#[tactic(auto, using(crate::proofs::Fronts::fronts), unfolding(crate::specs::Printed::option_printed))]
+#[tactic(auto, using(syn_leaf::proofs::Fronts::fronts), unfolding(crate::specs::Printed::option_printed))]
 fn print_some<T: ToTokens>(part: &Option<T>, tokens: &mut TokenStream) -> Result<()>
     ensures ok { OnOk result (tokens.new ≡ tokens.old ++ option_printed T.printed part.now) }
     ensures err { OnErr result (IsFront tokens.old tokens.new) }
@@ -42,7 +39,7 @@ fn print_some<T: ToTokens>(part: &Option<T>, tokens: &mut TokenStream) -> Result
 }
 
 /// Prints values with the puncts behind them.
-#[tactic(auto, using(crate::proofs::Fronts::fronts))]
+#[tactic(auto, using(syn_leaf::proofs::Fronts::fronts))]
 fn print_pairs<T: ToTokens, P: ToTokens>(
     mut pairs: &[(T, P)],
     tokens: &mut TokenStream,
@@ -64,7 +61,7 @@ impl<T: ToTokens, P: ToTokens> ToTokens for Punctuated<T, P> {
 
     ghost printed = { punctuated_printed T.printed P.printed };
 
-    #[tactic(auto, using(crate::proofs::Fronts::fronts), unfolding(crate::specs::Printed::punctuated_printed, crate::specs::Printed::option_printed))]
+    #[tactic(auto, using(syn_leaf::proofs::Fronts::fronts), unfolding(crate::specs::Printed::punctuated_printed, crate::specs::Printed::option_printed))]
     fn to_tokens(&self, tokens: &mut TokenStream) -> Result<()> {
         print_pairs(&self.inner, tokens)?;
         match &self.last {
@@ -74,73 +71,12 @@ impl<T: ToTokens, P: ToTokens> ToTokens for Punctuated<T, P> {
     }
 }
 
-impl ToTokens for Lifetime {
-    ghost use Rattle.syn_lower.specs.View.{lifetime_of};
-    ghost use Rattle.syn_parts.specs.Own.{lifetime_own};
-
-    ghost printed = { λ x. lifetime_own (lifetime_of x) [] };
-
-    #[tactic(auto, using(crate::proofs::Fronts::fronts))]
-    fn to_tokens(&self, tokens: &mut TokenStream) -> Result<()> {
-        tokens.push(TokenTree::Punct(Punct {
-            ch: '\'',
-            spacing: Spacing::Joint,
-            span: self.apostrophe,
-        }))?;
-        self.ident.to_tokens(tokens)
-    }
-}
-
-impl ToTokens for AttrStyle {
-    ghost use Rattle.syn_lower.specs.View.{is_inner};
-    ghost use Rattle.syn_lower.specs.Printed.{bang_printed};
-
-    ghost printed = { λ x. bang_printed (is_inner x) };
-
-    #[tactic(auto, using(crate::proofs::Fronts::fronts), unfolding(syn_tokens::specs::Sign::sign_text))]
-    fn to_tokens(&self, tokens: &mut TokenStream) -> Result<()> {
-        match self {
-            AttrStyle::Outer => Ok(()),
-            AttrStyle::Inner(bang) => bang.to_tokens(tokens),
-        }
-    }
-}
-
-impl ToTokens for Attribute {
-    ghost use Rattle.syn_lower.specs.View.{attribute_of};
-    ghost use Rattle.syn_parts.specs.Own.{attribute_own};
-
-    ghost printed = { λ x. attribute_own (attribute_of x) [] };
-
-    #[tactic(auto, using(crate::proofs::Fronts::fronts), unfolding(syn_tokens::specs::Sign::sign_text))]
-    fn to_tokens(&self, tokens: &mut TokenStream) -> Result<()> {
-        self.pound_token.to_tokens(tokens)?;
-        self.style.to_tokens(tokens)?;
-        let inside = copy_trees(tokens.alloc(), self.tokens.trees())?;
-        tokens.push(self.bracket_token.enclose(inside))?;
-        Ok(())
-    }
-}
-
-impl ToTokens for Block {
-    ghost use Rattle.syn_parts.specs.Own.{block_own};
-
-    ghost printed = { λ x. block_own x.stmts [] };
-
-    #[tactic(auto, using(crate::proofs::Fronts::fronts), unfolding(syn_parts::specs::Own::block_own))]
-    fn to_tokens(&self, tokens: &mut TokenStream) -> Result<()> {
-        let inside = copy_trees(tokens.alloc(), self.stmts.trees())?;
-        tokens.push(self.brace_token.enclose(inside))?;
-        Ok(())
-    }
-}
-
 impl<A: ToTokens> ToTokens for PathSegmentOf<A> {
     ghost use Rattle.syn_lower.specs.Printed.{segment_printed};
 
     ghost printed = { segment_printed A.printed };
 
-    #[tactic(auto, using(crate::proofs::Fronts::fronts))]
+    #[tactic(auto, using(syn_leaf::proofs::Fronts::fronts))]
     fn to_tokens(&self, tokens: &mut TokenStream) -> Result<()> {
         self.ident.to_tokens(tokens)?;
         self.arguments.to_tokens(tokens)
@@ -152,7 +88,7 @@ impl<A: ToTokens> ToTokens for PathOf<A> {
 
     ghost printed = { path_printed A.printed };
 
-    #[tactic(auto, using(crate::proofs::Fronts::fronts), unfolding(syn_tokens::specs::Sign::sign_text))]
+    #[tactic(auto, using(syn_leaf::proofs::Fronts::fronts), unfolding(syn_tokens::specs::Sign::sign_text))]
     fn to_tokens(&self, tokens: &mut TokenStream) -> Result<()> {
         print_some(&self.leading_colon, tokens)?;
         self.segments.to_tokens(tokens)
@@ -164,7 +100,7 @@ impl<G: ToTokens> ToTokens for AngleBracketedGenericArgumentsOf<G> {
 
     ghost printed = { angle_printed G.printed };
 
-    #[tactic(auto, using(crate::proofs::Fronts::fronts), unfolding(syn_tokens::specs::Sign::sign_text))]
+    #[tactic(auto, using(syn_leaf::proofs::Fronts::fronts), unfolding(syn_tokens::specs::Sign::sign_text))]
     fn to_tokens(&self, tokens: &mut TokenStream) -> Result<()> {
         print_some(&self.colon2_token, tokens)?;
         self.lt_token.to_tokens(tokens)?;
@@ -178,7 +114,7 @@ impl<T: ToTokens> ToTokens for AssocTypeOf<T> {
 
     ghost printed = { assoc_printed T.printed };
 
-    #[tactic(auto, using(crate::proofs::Fronts::fronts), unfolding(syn_tokens::specs::Sign::sign_text))]
+    #[tactic(auto, using(syn_leaf::proofs::Fronts::fronts), unfolding(syn_tokens::specs::Sign::sign_text))]
     fn to_tokens(&self, tokens: &mut TokenStream) -> Result<()> {
         self.ident.to_tokens(tokens)?;
         self.eq_token.to_tokens(tokens)?;
@@ -210,7 +146,7 @@ impl<A: ToTokens> ToTokens for MacroOf<A> {
 
     ghost printed = { macro_printed A.printed };
 
-    #[tactic(auto, using(crate::proofs::Fronts::fronts), unfolding(syn_tokens::specs::Sign::sign_text))]
+    #[tactic(auto, using(syn_leaf::proofs::Fronts::fronts), unfolding(syn_tokens::specs::Sign::sign_text))]
     fn to_tokens(&self, tokens: &mut TokenStream) -> Result<()> {
         self.path.to_tokens(tokens)?;
         self.bang_token.to_tokens(tokens)?;
@@ -248,7 +184,7 @@ impl<T: ToTokens> ToTokens for TypeReferenceOf<T> {
 
     ghost printed = { reference_printed T.printed };
 
-    #[tactic(auto, using(crate::proofs::Fronts::fronts), unfolding(syn_tokens::specs::Sign::sign_text, syn_tokens::specs::Sign::word_text))]
+    #[tactic(auto, using(syn_leaf::proofs::Fronts::fronts), unfolding(syn_tokens::specs::Sign::sign_text, syn_tokens::specs::Sign::word_text))]
     fn to_tokens(&self, tokens: &mut TokenStream) -> Result<()> {
         self.and_token.to_tokens(tokens)?;
         print_some(&self.lifetime, tokens)?;
@@ -262,7 +198,7 @@ impl<T: ToTokens> ToTokens for TypePtrOf<T> {
 
     ghost printed = { ptr_printed T.printed };
 
-    #[tactic(auto, using(crate::proofs::Fronts::fronts), unfolding(syn_tokens::specs::Sign::sign_text))]
+    #[tactic(auto, using(syn_leaf::proofs::Fronts::fronts), unfolding(syn_tokens::specs::Sign::sign_text))]
     fn to_tokens(&self, tokens: &mut TokenStream) -> Result<()> {
         self.star_token.to_tokens(tokens)?;
         self.mutability.to_tokens(tokens)?;
@@ -275,7 +211,7 @@ impl<T: ToTokens> ToTokens for TypeSliceOf<T> {
 
     ghost printed = { slice_printed T.printed };
 
-    #[tactic(auto, using(crate::proofs::Fronts::fronts))]
+    #[tactic(auto, using(syn_leaf::proofs::Fronts::fronts))]
     fn to_tokens(&self, tokens: &mut TokenStream) -> Result<()> {
         let mut inside = TokenStream::new(tokens.alloc());
         self.elem.to_tokens(&mut inside)?;
@@ -289,7 +225,7 @@ impl<T: ToTokens> ToTokens for TypeArrayOf<T> {
 
     ghost printed = { array_printed T.printed };
 
-    #[tactic(auto, using(crate::proofs::Fronts::fronts), unfolding(syn_tokens::specs::Sign::sign_text))]
+    #[tactic(auto, using(syn_leaf::proofs::Fronts::fronts), unfolding(syn_tokens::specs::Sign::sign_text))]
     fn to_tokens(&self, tokens: &mut TokenStream) -> Result<()> {
         let mut inside = TokenStream::new(tokens.alloc());
         self.elem.to_tokens(&mut inside)?;
@@ -305,7 +241,7 @@ impl<T: ToTokens> ToTokens for TypeTupleOf<T> {
 
     ghost printed = { tuple_printed T.printed };
 
-    #[tactic(auto, using(crate::proofs::Fronts::fronts), unfolding(syn_tokens::specs::Sign::sign_text))]
+    #[tactic(auto, using(syn_leaf::proofs::Fronts::fronts), unfolding(syn_tokens::specs::Sign::sign_text))]
     fn to_tokens(&self, tokens: &mut TokenStream) -> Result<()> {
         let mut inside = TokenStream::new(tokens.alloc());
         self.elems.to_tokens(&mut inside)?;
@@ -319,7 +255,7 @@ impl<T: ToTokens> ToTokens for TypeParenOf<T> {
 
     ghost printed = { paren_printed T.printed };
 
-    #[tactic(auto, using(crate::proofs::Fronts::fronts))]
+    #[tactic(auto, using(syn_leaf::proofs::Fronts::fronts))]
     fn to_tokens(&self, tokens: &mut TokenStream) -> Result<()> {
         let mut inside = TokenStream::new(tokens.alloc());
         self.elem.to_tokens(&mut inside)?;
@@ -352,7 +288,7 @@ impl<B: ToTokens> ToTokens for TypeImplTraitOf<B> {
 
     ghost printed = { impl_printed B.printed };
 
-    #[tactic(auto, using(crate::proofs::Fronts::fronts), unfolding(syn_tokens::specs::Sign::sign_text, syn_tokens::specs::Sign::word_text))]
+    #[tactic(auto, using(syn_leaf::proofs::Fronts::fronts), unfolding(syn_tokens::specs::Sign::sign_text, syn_tokens::specs::Sign::word_text))]
     fn to_tokens(&self, tokens: &mut TokenStream) -> Result<()> {
         self.impl_token.to_tokens(tokens)?;
         self.bounds.to_tokens(tokens)
@@ -364,7 +300,7 @@ impl<B: ToTokens> ToTokens for TypeTraitObjectOf<B> {
 
     ghost printed = { object_printed B.printed };
 
-    #[tactic(auto, using(crate::proofs::Fronts::fronts), unfolding(syn_tokens::specs::Sign::sign_text, syn_tokens::specs::Sign::word_text))]
+    #[tactic(auto, using(syn_leaf::proofs::Fronts::fronts), unfolding(syn_tokens::specs::Sign::sign_text, syn_tokens::specs::Sign::word_text))]
     fn to_tokens(&self, tokens: &mut TokenStream) -> Result<()> {
         self.dyn_token.to_tokens(tokens)?;
         self.bounds.to_tokens(tokens)
@@ -377,7 +313,7 @@ impl ToTokens for BoundLifetimes {
 
     ghost printed = { λ x. lifetimes_own (lifetimes_of x) [] };
 
-    #[tactic(auto, using(crate::proofs::Fronts::fronts), unfolding(syn_tokens::specs::Sign::sign_text, syn_tokens::specs::Sign::word_text))]
+    #[tactic(auto, using(syn_leaf::proofs::Fronts::fronts), unfolding(syn_tokens::specs::Sign::sign_text, syn_tokens::specs::Sign::word_text))]
     fn to_tokens(&self, tokens: &mut TokenStream) -> Result<()> {
         self.for_token.to_tokens(tokens)?;
         self.lt_token.to_tokens(tokens)?;
@@ -392,7 +328,7 @@ impl ToTokens for Abi {
 
     ghost printed = { λ x. extern_own (abi_of x) [] };
 
-    #[tactic(auto, using(crate::proofs::Fronts::fronts), unfolding(syn_tokens::specs::Sign::word_text, crate::specs::Printed::option_printed))]
+    #[tactic(auto, using(syn_leaf::proofs::Fronts::fronts), unfolding(syn_tokens::specs::Sign::word_text, crate::specs::Printed::option_printed))]
     fn to_tokens(&self, tokens: &mut TokenStream) -> Result<()> {
         self.extern_token.to_tokens(tokens)?;
         print_some(&self.name, tokens)
@@ -400,7 +336,7 @@ impl ToTokens for Abi {
 }
 
 /// Prints the name of an argument, and `:`.
-#[tactic(auto, using(crate::proofs::Fronts::fronts), unfolding(syn_tokens::specs::Sign::sign_text, crate::specs::Printed::option_printed))]
+#[tactic(auto, using(syn_leaf::proofs::Fronts::fronts), unfolding(syn_tokens::specs::Sign::sign_text, crate::specs::Printed::option_printed))]
 fn print_name(name: &Option<(Ident, Colon)>, tokens: &mut TokenStream) -> Result<()>
     ensures ok { OnOk result (tokens.new ≡ tokens.old ++ option_printed (λ n. tok.ident n.0 ∷ alone 58 ∷ []) name.now) }
     ensures err { OnErr result (IsFront tokens.old tokens.new) }
@@ -418,7 +354,7 @@ impl<T: ToTokens> ToTokens for BareFnArgOf<T> {
 
     ghost printed = { arg_printed T.printed };
 
-    #[tactic(auto, using(crate::proofs::Fronts::fronts))]
+    #[tactic(auto, using(syn_leaf::proofs::Fronts::fronts))]
     fn to_tokens(&self, tokens: &mut TokenStream) -> Result<()> {
         print_name(&self.name, tokens)?;
         self.ty.to_tokens(tokens)
@@ -430,7 +366,7 @@ impl<A: ToTokens> ToTokens for TraitBoundOf<A> {
 
     ghost printed = { trait_printed A.printed };
 
-    #[tactic(auto, using(crate::proofs::Fronts::fronts), unfolding(syn_tokens::specs::Sign::sign_text))]
+    #[tactic(auto, using(syn_leaf::proofs::Fronts::fronts), unfolding(syn_tokens::specs::Sign::sign_text))]
     fn to_tokens(&self, tokens: &mut TokenStream) -> Result<()> {
         print_some(&self.maybe, tokens)?;
         print_some(&self.lifetimes, tokens)?;
@@ -446,7 +382,7 @@ fn inside_count(position: usize, count: usize) -> usize
 }
 
 /// Prints the `>` behind the last of the segments that stand inside.
-#[tactic(auto, using(crate::proofs::Fronts::fronts), unfolding(syn_tokens::specs::Sign::sign_text))]
+#[tactic(auto, using(syn_leaf::proofs::Fronts::fronts), unfolding(syn_tokens::specs::Sign::sign_text))]
 fn print_close(left: usize, gt: &Gt, tokens: &mut TokenStream) -> Result<()>
     ensures ok { OnOk result (tokens.new ≡ tokens.old ++ closed_printed left) }
     ensures err { OnErr result (IsFront tokens.old tokens.new) }
@@ -470,7 +406,7 @@ fn print_colons(colons: &PathSep, tokens: &mut TokenStream) -> Result<()>
 }
 
 /// Prints segments of which `left` stand before `>`.
-#[tactic(auto, using(crate::proofs::Fronts::fronts))]
+#[tactic(auto, using(syn_leaf::proofs::Fronts::fronts))]
 fn print_inside<S: ToTokens>(
     mut left: usize,
     gt: &Gt,
@@ -497,7 +433,7 @@ fn print_inside<S: ToTokens>(
 }
 
 /// Prints what stands behind the type of a qualified path.
-#[tactic(auto, using(crate::proofs::Fronts::fronts), unfolding(syn_tokens::specs::Sign::sign_text, syn_tokens::specs::Sign::word_text))]
+#[tactic(auto, using(syn_leaf::proofs::Fronts::fronts), unfolding(syn_tokens::specs::Sign::sign_text, syn_tokens::specs::Sign::word_text))]
 fn print_qself_end(
     inside: usize,
     as_token: &Option<As>,
@@ -518,7 +454,7 @@ fn print_qself_end(
 }
 
 /// Prints a path behind the type that it is qualified by.
-#[tactic(auto, using(crate::proofs::Fronts::fronts), unfolding(syn_tokens::specs::Sign::sign_text))]
+#[tactic(auto, using(syn_leaf::proofs::Fronts::fronts), unfolding(syn_tokens::specs::Sign::sign_text))]
 fn print_qualified<T: ToTokens, A: ToTokens>(
     qself: &QSelfOf<T>,
     path: &PathOf<A>,
@@ -559,7 +495,7 @@ fn print_with_qself<T: ToTokens, A: ToTokens>(
 }
 
 /// Prints values in parentheses, and what follows them.
-#[tactic(auto, using(crate::proofs::Fronts::fronts), unfolding(crate::specs::Printed::round_printed, syn_tokens::specs::Sign::sign_text))]
+#[tactic(auto, using(syn_leaf::proofs::Fronts::fronts), unfolding(crate::specs::Printed::round_printed, syn_tokens::specs::Sign::sign_text))]
 fn print_round<T: ToTokens, R: ToTokens>(
     paren: &Paren,
     inputs: &Punctuated<T, Comma>,
@@ -577,7 +513,7 @@ fn print_round<T: ToTokens, R: ToTokens>(
 }
 
 /// Prints `->` and a type.
-#[tactic(auto, using(crate::proofs::Fronts::fronts), unfolding(syn_tokens::specs::Sign::sign_text))]
+#[tactic(auto, using(syn_leaf::proofs::Fronts::fronts), unfolding(syn_tokens::specs::Sign::sign_text))]
 fn print_arrow<T: ToTokens>(arrow: &RArrow, ty: &T, tokens: &mut TokenStream) -> Result<()>
     ensures ok { OnOk result (tokens.new ≡ tokens.old ++ joint 45 ∷ alone 62 ∷ T.printed ty.now) }
     ensures err { OnErr result (IsFront tokens.old tokens.new) }
@@ -588,7 +524,7 @@ fn print_arrow<T: ToTokens>(arrow: &RArrow, ty: &T, tokens: &mut TokenStream) ->
 }
 
 /// Prints what stands before the arguments of a function pointer.
-#[tactic(auto, using(crate::proofs::Fronts::fronts), unfolding(crate::specs::Printed::fn_head_printed, syn_tokens::specs::Sign::word_text))]
+#[tactic(auto, using(syn_leaf::proofs::Fronts::fronts), unfolding(crate::specs::Printed::fn_head_printed, syn_tokens::specs::Sign::word_text))]
 fn print_fn_head(
     lifetimes: &Option<BoundLifetimes>,
     unsafety: &Option<Unsafe>,
@@ -631,7 +567,7 @@ impl ToTokens for PathArguments {
     ghost printed = { λ x. arguments_own (arguments_of x) [] };
 
     #[cycle(print)]
-    #[tactic(auto, using(crate::proofs::Fronts::fronts, crate::proofs::Prints::kinds))]
+    #[tactic(auto, using(syn_leaf::proofs::Fronts::fronts, crate::proofs::Prints::kinds))]
     fn to_tokens(&self, tokens: &mut TokenStream) -> Result<()> {
         match self {
             PathArguments::None => Ok(()),
@@ -648,7 +584,7 @@ impl ToTokens for ParenthesizedGenericArguments {
     ghost printed = { λ x. arguments_own (round_of x) [] };
 
     #[cycle(print)]
-    #[tactic(auto, using(crate::proofs::Fronts::fronts, crate::proofs::Prints::kinds), unfolding(syn_tokens::specs::Sign::sign_text))]
+    #[tactic(auto, using(syn_leaf::proofs::Fronts::fronts, crate::proofs::Prints::kinds), unfolding(syn_tokens::specs::Sign::sign_text))]
     fn to_tokens(&self, tokens: &mut TokenStream) -> Result<()> {
         print_round(&self.paren_token, &self.inputs, &self.output, tokens)
     }
@@ -661,7 +597,7 @@ impl ToTokens for ReturnType {
     ghost printed = { λ x. return_own (return_of x) [] };
 
     #[cycle(print)]
-    #[tactic(auto, using(crate::proofs::Fronts::fronts, crate::proofs::Prints::kinds), unfolding(syn_tokens::specs::Sign::sign_text))]
+    #[tactic(auto, using(syn_leaf::proofs::Fronts::fronts, crate::proofs::Prints::kinds), unfolding(syn_tokens::specs::Sign::sign_text))]
     fn to_tokens(&self, tokens: &mut TokenStream) -> Result<()> {
         match self {
             ReturnType::Default => Ok(()),
@@ -706,7 +642,7 @@ impl ToTokens for TypeFnPtr {
     ghost printed = { λ x. type_own (fn_ptr_of x) [] };
 
     #[cycle(print)]
-    #[tactic(auto, using(crate::proofs::Fronts::fronts, crate::proofs::Prints::kinds), unfolding(syn_tokens::specs::Sign::sign_text, syn_tokens::specs::Sign::word_text))]
+    #[tactic(auto, using(syn_leaf::proofs::Fronts::fronts, crate::proofs::Prints::kinds), unfolding(syn_tokens::specs::Sign::sign_text, syn_tokens::specs::Sign::word_text))]
     fn to_tokens(&self, tokens: &mut TokenStream) -> Result<()> {
         print_fn_head(
             &self.lifetimes,

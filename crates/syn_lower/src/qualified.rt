@@ -1,8 +1,9 @@
 //! The readers of qualified paths and of what a path begins, and the reader of types, which ties the knot.
 
 ghost use Rattle.std.specs.Prelude.{◌≡◌, ◌≤◌, ◌+◌, map, true, false, IfOk, IfSome, is_some};
+ghost use Rattle.syn_leaf.specs.Reads.{Reads};
 ghost use Rattle.syn_lower.specs.Punct.{takes_value};
-ghost use Rattle.syn_lower.specs.Reads.{Reads, Callable, ReadsType};
+ghost use Rattle.syn_lower.specs.Reads.{Callable, ReadsType};
 ghost use Rattle.syn_lower.specs.View as view;
 ghost use Rattle.syn_parts.specs.Form as form;
 ghost use Rattle.syn_parts.specs.Mark as mark;
@@ -10,13 +11,13 @@ ghost use Rattle.syn_parts.specs.Part as part;
 ghost use Rattle.syn_tokens.specs.Tok.{weight};
 
 use crate::fn_pointer::fn_at;
-use crate::front;
 use crate::grammar::{Grammar, boxed};
-use crate::kept::any_group;
 use crate::mac::{Macro, MacroDelimiter};
 use crate::path::{Path, PathArguments, PathSegment, QSelf};
 use crate::punctuated::Punctuated;
 use crate::ty::{Type, TypeInfer, TypeMacro, TypeNever, TypePath};
+use syn_leaf::front;
+use syn_leaf::kept::any_group;
 use syn_parts::label::PathStyle;
 use syn_tokens::buffer::ParseBuffer;
 use syn_tokens::error::{ErrorKind, Expected, Result};

@@ -16,118 +16,18 @@ ghost use Rattle.syn_parts.specs.declared.label.LitKind.TheVariants as kind;
 
 use crate::fits;
 use crate::fits::{Arguments, Element};
-use crate::lit::{Lit, LitBool, LitByte, LitByteStr, LitCStr, LitChar, LitFloat, LitInt, LitStr};
 use crate::mac::Macro;
 use crate::path::{
     AngleBracketedGenericArguments, AssocType, GenericArgument, ParenthesizedGenericArguments,
     Path, PathArguments, PathSegment, QSelf,
 };
 use crate::readers::style;
-use crate::text::{is_truth, number_kind};
 use crate::ty::{
     Abi, BareFnArg, ReturnType, TraitBound, Type, TypeArray, TypeFnPtr, TypeImplTrait, TypeMacro,
     TypeParamBound, TypeParen, TypePath, TypePtr, TypeReference, TypeSlice, TypeTraitObject,
     TypeTuple,
 };
-use syn_parts::label::{LitKind, PathStyle};
-
-impl LitStr {
-    /// Whether its token is a string literal.
-    #[tactic(auto, unfolding(syn_parts::specs::Fits::lit_fits))]
-    pub fn is_read_back(&self) -> bool
-        ensures { result ≡ spec.lit_fits (view.lit_str_of self.now) }
-    {
-        fits::has_kind(&self.token, LitKind::Str)
-    }
-}
-
-impl LitByteStr {
-    /// Whether its token is a byte string literal.
-    #[tactic(auto, unfolding(syn_parts::specs::Fits::lit_fits))]
-    pub fn is_read_back(&self) -> bool
-        ensures { result ≡ spec.lit_fits (record { kind = kind.ByteStr; text = self.now.token }) }
-    {
-        fits::has_kind(&self.token, LitKind::ByteStr)
-    }
-}
-
-impl LitCStr {
-    /// Whether its token is a C string literal.
-    #[tactic(auto, unfolding(syn_parts::specs::Fits::lit_fits))]
-    pub fn is_read_back(&self) -> bool
-        ensures { result ≡ spec.lit_fits (record { kind = kind.CStr; text = self.now.token }) }
-    {
-        fits::has_kind(&self.token, LitKind::CStr)
-    }
-}
-
-impl LitByte {
-    /// Whether its token is a byte literal.
-    #[tactic(auto, unfolding(syn_parts::specs::Fits::lit_fits))]
-    pub fn is_read_back(&self) -> bool
-        ensures { result ≡ spec.lit_fits (record { kind = kind.Byte; text = self.now.token }) }
-    {
-        fits::has_kind(&self.token, LitKind::Byte)
-    }
-}
-
-impl LitChar {
-    /// Whether its token is a character literal.
-    #[tactic(auto, unfolding(syn_parts::specs::Fits::lit_fits))]
-    pub fn is_read_back(&self) -> bool
-        ensures { result ≡ spec.lit_fits (record { kind = kind.Char; text = self.now.token }) }
-    {
-        fits::has_kind(&self.token, LitKind::Char)
-    }
-}
-
-impl LitInt {
-    /// Whether its token is an integer literal.
-    #[tactic(auto, using(crate::proofs::Fitting::numbers), unfolding(syn_parts::specs::Fits::lit_fits))]
-    pub fn is_read_back(&self) -> bool
-        ensures { result ≡ spec.lit_fits (view.lit_int_of self.now) }
-    {
-        number_kind(self.token.as_str()) == LitKind::Int
-    }
-}
-
-impl LitFloat {
-    /// Whether its token is a floating-point literal.
-    #[tactic(auto, using(crate::proofs::Fitting::numbers), unfolding(syn_parts::specs::Fits::lit_fits))]
-    pub fn is_read_back(&self) -> bool
-        ensures { result ≡ spec.lit_fits (view.lit_float_of self.now) }
-    {
-        number_kind(self.token.as_str()) == LitKind::Float
-    }
-}
-
-impl LitBool {
-    /// Whether its word is `true` or `false`.
-    #[tactic(auto, unfolding(syn_parts::specs::Fits::lit_fits))]
-    pub fn is_read_back(&self) -> bool
-        ensures { result ≡ spec.lit_fits (record { kind = kind.Bool; text = self.now.word }) }
-    {
-        is_truth(self.word.as_str())
-    }
-}
-
-impl Lit {
-    /// Whether its token is one of its kind.
-    pub fn is_read_back(&self) -> bool
-        ensures { result ≡ spec.lit_fits (view.lit_of self.now) }
-    {
-        match self {
-            Lit::Str(x) => x.is_read_back(),
-            Lit::ByteStr(x) => x.is_read_back(),
-            Lit::CStr(x) => x.is_read_back(),
-            Lit::Byte(x) => x.is_read_back(),
-            Lit::Char(x) => x.is_read_back(),
-            Lit::Int(x) => x.is_read_back(),
-            Lit::Float(x) => x.is_read_back(),
-            Lit::Bool(x) => x.is_read_back(),
-        }
-    }
-}
+use syn_parts::label::PathStyle;
 
 impl Path {
     /// Whether it is read back as a path of this style (Rust Reference, "Paths"): it has segments, no `::` ends it, and

@@ -1,674 +1,452 @@
 //! What no clause says of readers: where they stop, which refusals they give and where, that a refused read leaves the
-//! input where it was, and that calls succeed. The rows are by the Rust Reference's grammar of types and paths.
+//! input where it was, and that calls succeed. A row has what is left behind the part at its front, or the refusal: its
+//! place in bytes and its text. The rows are by the Rust Reference's grammar of types and paths.
 
-use crate::attr::Attribute;
-use crate::block::Block;
-use crate::lifetime::Lifetime;
-use crate::lit::{LitBool, LitByte, LitByteStr, LitCStr, LitChar, LitFloat, LitInt, LitStr};
 use crate::mac::Macro;
 use crate::path::{
     AngleBracketedGenericArguments, AssocType, GenericArgument, ParenthesizedGenericArguments,
     Path, PathSegment,
 };
 use crate::readers::qpath;
+use crate::rows::{check, left, left_by};
 use crate::ty::{
     Abi, BareFnArg, BoundLifetimes, PointerMutability, ReturnType, TraitBound, Type, TypeArray,
     TypeFnPtr, TypeImplTrait, TypeInfer, TypeMacro, TypeNever, TypeParamBound, TypeParen, TypePath,
     TypePtr, TypeReference, TypeSlice, TypeTraitObject, TypeTuple,
 };
-use std::alloc::Global;
 use std::test::Fail;
-use syn_tokens::Delimiter;
-use syn_tokens::buffer::{Parse, ParseBuffer};
-use syn_tokens::copy::copy_trees;
-use syn_tokens::error::{Error, ErrorKind, Expected, Part, Wanted};
-use syn_tokens::lex::lex;
-use syn_tokens::span::Span;
 use syn_tokens::text::to_text;
-use syn_tokens::token::{Const, Eq, Extern, Fn, For, Gt, Lt, Mut, PathSep};
 use syn_tokens::whole::parse_str;
 
-/// The text of what the reader of a `T` leaves, and its refusal.
-fn read<T: Parse + Drop>(alloc: Global, text: &str) -> Result<(String, Option<Error>), Error> {
-    let tokens = lex(alloc, text)?;
-    let mut input = ParseBuffer::new(&tokens)?;
-    let refusal = match T::parse(&mut input) {
-        Ok(_) => None,
-        Err(e) => Some(e),
-    };
-    let rest = copy_trees(alloc, input.trees())?;
-    Ok((to_text(&rest)?, refusal))
-}
-
-/// The first of these texts that is refused as a `T`, or leaves another rest than the one beside it.
-fn misread<'a, T: Parse + Drop>(
-    alloc: Global,
-    rows: &[(&'a str, &'a str)],
-) -> Result<Option<&'a str>, Error> {
-    for (text, rest) in rows {
-        let (left, refusal) = read::<T>(alloc, text)?;
-        if refusal.is_some() || left.as_str() != *rest {
-            return Ok(Some(*text));
-        }
-    }
-    Ok(None)
-}
-
-/// The first of these texts that isn't refused as a `T` so and there, or of which not all is left.
-fn misrefused<'a, T: Parse + Drop>(
-    alloc: Global,
-    rows: &[(&'a str, ErrorKind, usize, usize)],
-) -> Result<Option<&'a str>, Error> {
-    for (text, kind, lo, hi) in rows {
-        let (left, refusal) = read::<T>(alloc, text)?;
-        let whole = to_text(&lex(alloc, text)?)?;
-        let wanted = Error::new(Span { lo: *lo, hi: *hi }, *kind);
-        if refusal != Some(wanted) || left.as_str() != whole.as_str() {
-            return Ok(Some(*text));
-        }
-    }
-    Ok(None)
-}
-
-const PATH: ErrorKind = ErrorKind::ExpectedPart(Part::Path);
-
-const TYPE: ErrorKind = ErrorKind::ExpectedPart(Part::Type);
-
-const MACRO: ErrorKind = ErrorKind::ExpectedPart(Part::Macro);
-
-const LITERAL: ErrorKind = ErrorKind::ExpectedPart(Part::Literal);
-
-const LEFT: ErrorKind = ErrorKind::UnexpectedToken;
-
-/// One token is expected.
-fn one(wanted: Wanted) -> ErrorKind {
-    ErrorKind::ExpectedToken(Expected::One(wanted))
-}
-
-/// A group is expected.
-fn group(delimiter: Delimiter) -> ErrorKind {
-    one(Wanted::Delimiter(delimiter))
-}
-
-/// `mut` or `const` is expected.
-fn mut_or_const() -> ErrorKind {
-    ErrorKind::ExpectedToken(Expected::Two(Mut::wanted(), Const::wanted()))
-}
+const TYPES: &str = r#"
+u8 <= T           | <= T
+Vec<u8>>y         | > y
+a<b>=c            | = c
+dyn A + B         |
+impl A + 'a, b    | , b
+A + B             | + B
+&dyn A + B        | + B
+*const impl A + B | + B
+fn() -> dyn A + B | + B
+fn(dyn A + B)     |
+Fn() -> dyn A + B | + B
+fn(a: u8) -> T {} | {}
+<T as A>::B c     | c
+<T>::a!()         | ! ()
+a<b>!()           | ! ()
+a != b            | != b
+a!{}.b            | . b
+[T; x.0.1]        |
+&'a mut T x       | x
+&&T = x           | = x
+Fn(A) -> B;       | ;
+self<T>           | < T >
+Self<T>           |
+() -> T           | -> T
+! x               | x
+_: T              | : T
+                  | 0..0 expected a path
+1                 | 0..1 expected a path
+?A                | 0..1 expected a path
+'a                | 0..1 expected a path
+u8 < T            | 6..6 expected `>`
+A::B::            | 6..6 expected a path
+A::fn             | 3..5 expected a path
+A<B C>            | 4..5 expected `>`
+A<,>              | 2..3 expected a path
+A(B C)            | 4..5 unexpected token
+A(B) ->           | 7..7 expected a path
+&                 | 1..1 expected a path
+&'a               | 3..3 expected a path
+*T                | 1..2 expected `mut` or `const`
+[]                | 1..2 expected a path
+[T;]              | 3..4 expected an expression
+[T, U]            | 2..3 unexpected token
+(A B)             | 3..4 unexpected token
+(,)               | 1..2 expected a path
+fn A              | 3..4 expected `(`
+fn(A B)           | 5..6 unexpected token
+unsafe T          | 7..8 expected `fn`
+extern "C"        | 10..10 expected `fn`
+extern 1 fn()     | 7..8 expected a literal
+for<'a> A         | 8..9 expected `fn`
+for A             | 0..3 expected a path
+impl              | 4..4 expected a path
+dyn A +           | 7..7 expected a path
+a!                | 2..2 expected a macro
+a! b              | 3..4 expected a macro
+<T                | 2..2 expected `>`
+<T>               | 3..3 expected `::`
+<T as>::a         | 5..6 expected a path
+<T>::             | 5..5 expected a path
+"#;
 
 #[test]
 fn types(rt: HostRuntime) -> Result<(), Fail> {
-    let read = misread::<Type>(
-        rt.alloc(),
-        &[
-            ("u8 <= T", "<= T"),
-            ("Vec<u8>>y", "> y"),
-            ("a<b>=c", "= c"),
-            ("dyn A + B", ""),
-            ("impl A + 'a, b", ", b"),
-            ("A + B", "+ B"),
-            ("&dyn A + B", "+ B"),
-            ("*const impl A + B", "+ B"),
-            ("fn() -> dyn A + B", "+ B"),
-            ("fn(dyn A + B)", ""),
-            ("Fn() -> dyn A + B", "+ B"),
-            ("fn(a: u8) -> T {}", "{}"),
-            ("<T as A>::B c", "c"),
-            ("<T>::a!()", "! ()"),
-            ("a<b>!()", "! ()"),
-            ("a != b", "!= b"),
-            ("a!{}.b", ". b"),
-            ("[T; x.0.1]", ""),
-            ("&'a mut T x", "x"),
-            ("&&T = x", "= x"),
-            ("Fn(A) -> B;", ";"),
-            ("self<T>", "< T >"),
-            ("Self<T>", ""),
-            ("() -> T", "-> T"),
-            ("! x", "x"),
-            ("_: T", ": T"),
-        ],
-    )?;
-    assert_eq!(rt; read, None);
-    let refused = misrefused::<Type>(
-        rt.alloc(),
-        &[
-            ("", PATH, 0, 0),
-            ("1", PATH, 0, 1),
-            ("?A", PATH, 0, 1),
-            ("'a", PATH, 0, 1),
-            ("u8 < T", one(Gt::wanted()), 6, 6),
-            ("A::B::", PATH, 6, 6),
-            ("A::fn", PATH, 3, 5),
-            ("A<B C>", one(Gt::wanted()), 4, 5),
-            ("A<,>", PATH, 2, 3),
-            ("A(B C)", LEFT, 4, 5),
-            ("A(B) ->", PATH, 7, 7),
-            ("&", PATH, 1, 1),
-            ("&'a", PATH, 3, 3),
-            ("*T", mut_or_const(), 1, 2),
-            ("[]", PATH, 1, 2),
-            ("[T;]", ErrorKind::ExpectedExpression, 3, 4),
-            ("[T, U]", LEFT, 2, 3),
-            ("(A B)", LEFT, 3, 4),
-            ("(,)", PATH, 1, 2),
-            ("fn A", group(Delimiter::Parenthesis), 3, 4),
-            ("fn(A B)", LEFT, 5, 6),
-            ("unsafe T", one(Fn::wanted()), 7, 8),
-            ("extern \"C\"", one(Fn::wanted()), 10, 10),
-            ("extern 1 fn()", LITERAL, 7, 8),
-            ("for<'a> A", one(Fn::wanted()), 8, 9),
-            ("for A", PATH, 0, 3),
-            ("impl", PATH, 4, 4),
-            ("dyn A +", PATH, 7, 7),
-            ("a!", MACRO, 2, 2),
-            ("a! b", MACRO, 3, 4),
-            ("<T", one(Gt::wanted()), 2, 2),
-            ("<T>", one(PathSep::wanted()), 3, 3),
-            ("<T as>::a", PATH, 5, 6),
-            ("<T>::", PATH, 5, 5),
-        ],
-    )?;
-    assert_eq!(rt; refused, None);
-    Ok(())
+    check(rt.alloc(), TYPES, left::<Type>)
 }
+
+const RETURN_TYPES: &str = "
+             |
+-> T         |
+-> ! {}      | {}
+-> dyn A + B |
+T            | T
+- > T        | - > T
+->           | 2..2 expected a path
+-> {}        | 3..5 expected a path
+-> *T        | 4..5 expected `mut` or `const`
+";
 
 #[test]
 fn return_types(rt: HostRuntime) -> Result<(), Fail> {
-    let read = misread::<ReturnType>(
-        rt.alloc(),
-        &[
-            ("", ""),
-            ("-> T", ""),
-            ("-> ! {}", "{}"),
-            ("-> dyn A + B", ""),
-            ("T", "T"),
-            ("- > T", "- > T"),
-        ],
-    )?;
-    assert_eq!(rt; read, None);
-    let refused = misrefused::<ReturnType>(
-        rt.alloc(),
-        &[
-            ("->", PATH, 2, 2),
-            ("-> {}", PATH, 3, 5),
-            ("-> *T", mut_or_const(), 4, 5),
-        ],
-    )?;
-    assert_eq!(rt; refused, None);
-    Ok(())
+    check(rt.alloc(), RETURN_TYPES, left::<ReturnType>)
 }
+
+const IN_ANGLES: &str = "
+<>                                   |
+<'a, T, Item = U, 1, -1, {x}, true,> |
+::<T> x                              | x
+<T>> x                               | > x
+<T>= x                               | = x
+<dyn A + B>                          |
+<T>(A)                               | (A)
+                                     | 0..0 expected `<`
+T                                    | 0..1 expected `<`
+::T                                  | 2..3 expected `<`
+<= T                                 | 0..1 expected `<`
+<T                                   | 2..2 expected `>`
+<T U>                                | 3..4 expected `>`
+<A == B>                             | 3..4 expected `>`
+<T,,>                                | 3..4 expected a path
+<-T>                                 | 1..2 expected a literal
+";
 
 #[test]
 fn arguments_in_angles(rt: HostRuntime) -> Result<(), Fail> {
-    let read = misread::<AngleBracketedGenericArguments>(
+    check(
         rt.alloc(),
-        &[
-            ("<>", ""),
-            ("<'a, T, Item = U, 1, -1, {x}, true,>", ""),
-            ("::<T> x", "x"),
-            ("<T>> x", "> x"),
-            ("<T>= x", "= x"),
-            ("<dyn A + B>", ""),
-            ("<T>(A)", "(A)"),
-        ],
-    )?;
-    assert_eq!(rt; read, None);
-    let refused = misrefused::<AngleBracketedGenericArguments>(
-        rt.alloc(),
-        &[
-            ("", one(Lt::wanted()), 0, 0),
-            ("T", one(Lt::wanted()), 0, 1),
-            ("::T", one(Lt::wanted()), 2, 3),
-            ("<= T", one(Lt::wanted()), 0, 1),
-            ("<T", one(Gt::wanted()), 2, 2),
-            ("<T U>", one(Gt::wanted()), 3, 4),
-            ("<A == B>", one(Gt::wanted()), 3, 4),
-            ("<T,,>", PATH, 3, 4),
-            ("<-T>", LITERAL, 1, 2),
-        ],
-    )?;
-    assert_eq!(rt; refused, None);
-    Ok(())
+        IN_ANGLES,
+        left::<AngleBracketedGenericArguments>,
+    )
 }
+
+const IN_PARENTHESES: &str = "
+()                     |
+(A)                    |
+(A, dyn B + C,) -> D x | x
+(A) -> dyn B + C       | + C
+(A) - > B              | - > B
+(A)::b                 | :: b
+                       | 0..0 expected `(`
+A                      | 0..1 expected `(`
+[A]                    | 0..3 expected `(`
+(A B)                  | 3..4 unexpected token
+(,)                    | 1..2 expected a path
+() ->                  | 5..5 expected a path
+";
 
 #[test]
 fn arguments_in_parentheses(rt: HostRuntime) -> Result<(), Fail> {
-    let read = misread::<ParenthesizedGenericArguments>(
+    check(
         rt.alloc(),
-        &[
-            ("()", ""),
-            ("(A)", ""),
-            ("(A, dyn B + C,) -> D x", "x"),
-            ("(A) -> dyn B + C", "+ C"),
-            ("(A) - > B", "- > B"),
-            ("(A)::b", ":: b"),
-        ],
-    )?;
-    assert_eq!(rt; read, None);
-    let parens = group(Delimiter::Parenthesis);
-    let refused = misrefused::<ParenthesizedGenericArguments>(
-        rt.alloc(),
-        &[
-            ("", parens, 0, 0),
-            ("A", parens, 0, 1),
-            ("[A]", parens, 0, 3),
-            ("(A B)", LEFT, 3, 4),
-            ("(,)", PATH, 1, 2),
-            ("() ->", PATH, 5, 5),
-        ],
-    )?;
-    assert_eq!(rt; refused, None);
-    Ok(())
+        IN_PARENTHESES,
+        left::<ParenthesizedGenericArguments>,
+    )
 }
+
+const ARGUMENTS: &str = r#"
+'a, 'b    | , 'b
+1 + 2     | + 2
+-1        |
+{ x } y   | y
+true      |
+"x"       |
+A = B, C  | , C
+A == B    | == B
+A => B    | => B
+A<B> = C  | = C
+dyn A + B |
+          | 0..0 expected a path
+- x       | 0..1 expected a literal
+-true     | 0..1 expected a literal
+A =       | 3..3 expected a path
+>         | 0..1 expected a path
+"#;
+
+const ASSOC_TYPES: &str = "
+A = B, C      | , C
+A = dyn B + C |
+r#fn = B      |
+              | 0..0 expected identifier
+fn = B        | 0..2 expected identifier
+'a = B        | 0..1 expected identifier
+A             | 1..1 expected `=`
+A == B        | 2..3 expected `=`
+A => B        | 2..3 expected `=`
+A<B> = C      | 1..2 expected `=`
+A =           | 3..3 expected a path
+";
 
 #[test]
 fn generic_arguments(rt: HostRuntime) -> Result<(), Fail> {
-    let read = misread::<GenericArgument>(
-        rt.alloc(),
-        &[
-            ("'a, 'b", ", 'b"),
-            ("1 + 2", "+ 2"),
-            ("-1", ""),
-            ("{ x } y", "y"),
-            ("true", ""),
-            ("\"x\"", ""),
-            ("A = B, C", ", C"),
-            ("A == B", "== B"),
-            ("A => B", "=> B"),
-            ("A<B> = C", "= C"),
-            ("dyn A + B", ""),
-        ],
-    )?;
-    assert_eq!(rt; read, None);
-    let refused = misrefused::<GenericArgument>(
-        rt.alloc(),
-        &[
-            ("", PATH, 0, 0),
-            ("- x", LITERAL, 0, 1),
-            ("-true", LITERAL, 0, 1),
-            ("A =", PATH, 3, 3),
-            (">", PATH, 0, 1),
-        ],
-    )?;
-    assert_eq!(rt; refused, None);
-    let read = misread::<AssocType>(
-        rt.alloc(),
-        &[("A = B, C", ", C"), ("A = dyn B + C", ""), ("r#fn = B", "")],
-    )?;
-    assert_eq!(rt; read, None);
-    let refused = misrefused::<AssocType>(
-        rt.alloc(),
-        &[
-            ("", one(Wanted::Identifier), 0, 0),
-            ("fn = B", one(Wanted::Identifier), 0, 2),
-            ("'a = B", one(Wanted::Identifier), 0, 1),
-            ("A", one(Eq::wanted()), 1, 1),
-            ("A == B", one(Eq::wanted()), 2, 3),
-            ("A => B", one(Eq::wanted()), 2, 3),
-            ("A<B> = C", one(Eq::wanted()), 1, 2),
-            ("A =", PATH, 3, 3),
-        ],
-    )?;
-    assert_eq!(rt; refused, None);
-    Ok(())
+    let alloc = rt.alloc();
+    check(alloc, ARGUMENTS, left::<GenericArgument>)?;
+    check(alloc, ASSOC_TYPES, left::<AssocType>)
 }
+
+const MUTABILITIES: &str = "
+mut T | T
+const |
+      | 0..0 expected `mut` or `const`
+T     | 0..1 expected `mut` or `const`
+r#mut | 0..5 expected `mut` or `const`
+";
+
+const ABIS: &str = r#"
+extern        |
+extern "C" fn | fn
+extern r"C"   |
+extern fn()   | fn ()
+extern true   | true
+              | 0..0 expected `extern`
+fn            | 0..2 expected `extern`
+"C"           | 0..3 expected `extern`
+extern 1      | 7..8 expected a literal
+extern b"C"   | 7..11 expected a literal
+"#;
+
+const FN_ARGS: &str = "
+T            |
+a: T, b: U   | , b : U
+_: dyn A + B |
+a::b         |
+self: T      | : T
+             | 0..0 expected a path
+a:           | 2..2 expected a path
+fn: T        | 2..3 expected `(`
+a: 1         | 3..4 expected a path
+";
 
 #[test]
 fn pieces_of_pointers(rt: HostRuntime) -> Result<(), Fail> {
     let alloc = rt.alloc();
-    let read = misread::<PointerMutability>(alloc, &[("mut T", "T"), ("const", "")])?;
-    assert_eq!(rt; read, None);
-    let refused = misrefused::<PointerMutability>(
-        alloc,
-        &[
-            ("", mut_or_const(), 0, 0),
-            ("T", mut_or_const(), 0, 1),
-            ("r#mut", mut_or_const(), 0, 5),
-        ],
-    )?;
-    assert_eq!(rt; refused, None);
-    let read = misread::<Abi>(
-        alloc,
-        &[
-            ("extern", ""),
-            ("extern \"C\" fn", "fn"),
-            ("extern r\"C\"", ""),
-            ("extern fn()", "fn ()"),
-            ("extern true", "true"),
-        ],
-    )?;
-    assert_eq!(rt; read, None);
-    let refused = misrefused::<Abi>(
-        alloc,
-        &[
-            ("", one(Extern::wanted()), 0, 0),
-            ("fn", one(Extern::wanted()), 0, 2),
-            ("\"C\"", one(Extern::wanted()), 0, 3),
-            ("extern 1", LITERAL, 7, 8),
-            ("extern b\"C\"", LITERAL, 7, 11),
-        ],
-    )?;
-    assert_eq!(rt; refused, None);
-    let read = misread::<BareFnArg>(
-        alloc,
-        &[
-            ("T", ""),
-            ("a: T, b: U", ", b : U"),
-            ("_: dyn A + B", ""),
-            ("a::b", ""),
-            ("self: T", ": T"),
-        ],
-    )?;
-    assert_eq!(rt; read, None);
-    let refused = misrefused::<BareFnArg>(
-        alloc,
-        &[
-            ("", PATH, 0, 0),
-            ("a:", PATH, 2, 2),
-            ("fn: T", group(Delimiter::Parenthesis), 2, 3),
-            ("a: 1", PATH, 3, 4),
-        ],
-    )?;
-    assert_eq!(rt; refused, None);
-    Ok(())
+    check(alloc, MUTABILITIES, left::<PointerMutability>)?;
+    check(alloc, ABIS, left::<Abi>)?;
+    check(alloc, FN_ARGS, left::<BareFnArg>)
 }
+
+const TRAIT_BOUNDS: &str = "
+A + B              | + B
+?A                 |
+for<'a> A<'a>      |
+?for<> Fn() -> T x | x
+                   | 0..0 expected a path
+'a                 | 0..1 expected a path
+?                  | 1..1 expected a path
+? ?A               | 2..3 expected a path
+for A              | 0..3 expected a path
+(A)                | 0..3 expected a path
+for<'a>            | 7..7 expected a path
+for<'a A           | 7..8 expected `>`
+";
+
+const BOUNDS: &str = "
+'a + A  | + A
+?A + 'a | + 'a
+        | 0..0 expected a path
+?'a     | 1..2 expected a path
+";
+
+const LIFETIMES: &str = "
+for<>          |
+for<'a, 'b,> T | T
+for<'a>> T     | > T
+               | 0..0 expected `for`
+<'a>           | 0..1 expected `for`
+for            | 3..3 expected `<`
+for<a>         | 4..5 expected lifetime
+for<'a         | 6..6 expected `>`
+for<'a 'b>     | 7..8 expected `>`
+";
 
 #[test]
 fn bounds(rt: HostRuntime) -> Result<(), Fail> {
     let alloc = rt.alloc();
-    let read = misread::<TraitBound>(
-        alloc,
-        &[
-            ("A + B", "+ B"),
-            ("?A", ""),
-            ("for<'a> A<'a>", ""),
-            ("?for<> Fn() -> T x", "x"),
-        ],
-    )?;
-    assert_eq!(rt; read, None);
-    let refused = misrefused::<TraitBound>(
-        alloc,
-        &[
-            ("", PATH, 0, 0),
-            ("'a", PATH, 0, 1),
-            ("?", PATH, 1, 1),
-            ("? ?A", PATH, 2, 3),
-            ("for A", PATH, 0, 3),
-            ("(A)", PATH, 0, 3),
-            ("for<'a>", PATH, 7, 7),
-            ("for<'a A", one(Gt::wanted()), 7, 8),
-        ],
-    )?;
-    assert_eq!(rt; refused, None);
-    let read = misread::<TypeParamBound>(alloc, &[("'a + A", "+ A"), ("?A + 'a", "+ 'a")])?;
-    assert_eq!(rt; read, None);
-    let refused = misrefused::<TypeParamBound>(alloc, &[("", PATH, 0, 0), ("?'a", PATH, 1, 2)])?;
-    assert_eq!(rt; refused, None);
-    let read = misread::<BoundLifetimes>(
-        alloc,
-        &[
-            ("for<>", ""),
-            ("for<'a, 'b,> T", "T"),
-            ("for<'a>> T", "> T"),
-        ],
-    )?;
-    assert_eq!(rt; read, None);
-    let refused = misrefused::<BoundLifetimes>(
-        alloc,
-        &[
-            ("", one(For::wanted()), 0, 0),
-            ("<'a>", one(For::wanted()), 0, 1),
-            ("for", one(Lt::wanted()), 3, 3),
-            ("for<a>", one(Wanted::Lifetime), 4, 5),
-            ("for<'a", one(Gt::wanted()), 6, 6),
-            ("for<'a 'b>", one(Gt::wanted()), 7, 8),
-        ],
-    )?;
-    assert_eq!(rt; refused, None);
-    Ok(())
+    check(alloc, TRAIT_BOUNDS, left::<TraitBound>)?;
+    check(alloc, BOUNDS, left::<TypeParamBound>)?;
+    check(alloc, LIFETIMES, left::<BoundLifetimes>)
 }
 
-#[test]
-fn types_of_one_kind(rt: HostRuntime) -> Result<(), Fail> {
-    let alloc = rt.alloc();
-    assert_eq!(rt;
-        misread::<TypeReference>(alloc, &[("&T", ""), ("&'a mut dyn A + B", "+ B")])?,
-        None
-    );
-    assert_eq!(rt;
-        misread::<TypePtr>(alloc, &[("*const T x", "x"), ("*mut dyn A + B", "+ B")])?,
-        None
-    );
-    assert_eq!(rt;
-        misread::<TypeSlice>(alloc, &[("[dyn A + B] x", "x")])?,
-        None
-    );
-    assert_eq!(rt;
-        misread::<TypeArray>(alloc, &[("[T; x.0.1] y", "y"), ("[T; ;]", "")])?,
-        None
-    );
-    assert_eq!(rt;
-        misread::<TypeTuple>(alloc, &[("()", ""), ("(A,)", ""), ("(A, B) x", "x")])?,
-        None
-    );
-    assert_eq!(rt;
-        misread::<TypeParen>(alloc, &[("(A) x", "x"), ("(dyn A + B)", "")])?,
-        None
-    );
-    assert_eq!(rt; misread::<TypeNever>(alloc, &[("! x", "x")])?, None);
-    assert_eq!(rt; misread::<TypeInfer>(alloc, &[("_ x", "x")])?, None);
-    let pointers = [
-        ("fn(a: u8) -> T x", "x"),
-        ("for<'a> unsafe extern \"C\" fn(_: A, B,)", ""),
-        ("extern fn() -> dyn A + B", "+ B"),
-    ];
-    assert_eq!(rt; misread::<TypeFnPtr>(alloc, &pointers)?, None);
-    assert_eq!(rt;
-        misread::<TypeImplTrait>(alloc, &[("impl A + 'a + ?B x", "x")])?,
-        None
-    );
-    assert_eq!(rt;
-        misread::<TypeTraitObject>(alloc, &[("dyn for<'a> A<'a> + B, c", ", c")])?,
-        None
-    );
-    let paths = [
-        ("a::B<C> x", "x"),
-        ("<T as A>::B", ""),
-        ("a!()", "! ()"),
-        ("a !", "!"),
-    ];
-    assert_eq!(rt; misread::<TypePath>(alloc, &paths)?, None);
-    assert_eq!(rt;
-        misread::<TypeMacro>(alloc, &[("a::b![c] d", "d"), ("try!{}", "")])?,
-        None
-    );
-    Ok(())
-}
+const REFERENCES: &str = "
+&T                |
+&'a mut dyn A + B | + B
+T                 | 0..1 expected a type
+*const T          | 0..1 expected a type
+&                 | 1..1 expected a path
+";
+
+const POINTERS: &str = "
+*const T x     | x
+*mut dyn A + B | + B
+&T             | 0..1 expected a type
+*T             | 1..2 expected `mut` or `const`
+";
+
+const SLICES: &str = "
+[dyn A + B] x | x
+[T; 1]        | 0..6 expected a type
+[]            | 1..2 expected a path
+";
+
+const ARRAYS: &str = "
+[T; x.0.1] y | y
+[T; ;]       |
+[T]          | 0..3 expected a type
+[T;]         | 3..4 expected an expression
+";
+
+const TUPLES: &str = "
+()       |
+(A,)     |
+(A, B) x | x
+(A)      | 0..3 expected a type
+(A B)    | 3..4 unexpected token
+";
+
+const PARENS: &str = "
+(A) x       | x
+(dyn A + B) |
+(A,)        | 0..4 expected a type
+()          | 0..2 expected a type
+";
 
 #[test]
-fn types_of_another_kind(rt: HostRuntime) -> Result<(), Fail> {
+fn types_around_one(rt: HostRuntime) -> Result<(), Fail> {
     let alloc = rt.alloc();
-    let rows = [
-        ("T", TYPE, 0, 1),
-        ("*const T", TYPE, 0, 1),
-        ("&", PATH, 1, 1),
-    ];
-    assert_eq!(rt; misrefused::<TypeReference>(alloc, &rows)?, None);
-    let rows = [("&T", TYPE, 0, 1), ("*T", mut_or_const(), 1, 2)];
-    assert_eq!(rt; misrefused::<TypePtr>(alloc, &rows)?, None);
-    let rows = [("[T; 1]", TYPE, 0, 6), ("[]", PATH, 1, 2)];
-    assert_eq!(rt; misrefused::<TypeSlice>(alloc, &rows)?, None);
-    let rows = [
-        ("[T]", TYPE, 0, 3),
-        ("[T;]", ErrorKind::ExpectedExpression, 3, 4),
-    ];
-    assert_eq!(rt; misrefused::<TypeArray>(alloc, &rows)?, None);
-    let rows = [("(A)", TYPE, 0, 3), ("(A B)", LEFT, 3, 4)];
-    assert_eq!(rt; misrefused::<TypeTuple>(alloc, &rows)?, None);
-    let rows = [("(A,)", TYPE, 0, 4), ("()", TYPE, 0, 2)];
-    assert_eq!(rt; misrefused::<TypeParen>(alloc, &rows)?, None);
-    let rows = [("_", TYPE, 0, 1), ("", PATH, 0, 0)];
-    assert_eq!(rt; misrefused::<TypeNever>(alloc, &rows)?, None);
-    let rows = [("!", TYPE, 0, 1), ("1", PATH, 0, 1)];
-    assert_eq!(rt; misrefused::<TypeInfer>(alloc, &rows)?, None);
-    let rows = [("Fn()", TYPE, 0, 2), ("unsafe", one(Fn::wanted()), 6, 6)];
-    assert_eq!(rt; misrefused::<TypeFnPtr>(alloc, &rows)?, None);
-    let rows = [
-        ("dyn A", TYPE, 0, 3),
-        ("impl", PATH, 4, 4),
-        ("impl A +", PATH, 8, 8),
-    ];
-    assert_eq!(rt; misrefused::<TypeImplTrait>(alloc, &rows)?, None);
-    let rows = [
-        ("impl A", TYPE, 0, 4),
-        ("A", TYPE, 0, 1),
-        ("dyn", PATH, 3, 3),
-    ];
-    assert_eq!(rt; misrefused::<TypeTraitObject>(alloc, &rows)?, None);
-    let rows = [
-        ("&T", PATH, 0, 1),
-        ("<T as A>", one(PathSep::wanted()), 8, 8),
-    ];
-    assert_eq!(rt; misrefused::<TypePath>(alloc, &rows)?, None);
-    let rows = [
-        ("a", MACRO, 1, 1),
-        ("<T>::a!()", PATH, 0, 1),
-        ("a<b>!()", MACRO, 1, 2),
-    ];
-    assert_eq!(rt; misrefused::<TypeMacro>(alloc, &rows)?, None);
-    Ok(())
+    check(alloc, REFERENCES, left::<TypeReference>)?;
+    check(alloc, POINTERS, left::<TypePtr>)?;
+    check(alloc, SLICES, left::<TypeSlice>)?;
+    check(alloc, ARRAYS, left::<TypeArray>)?;
+    check(alloc, TUPLES, left::<TypeTuple>)?;
+    check(alloc, PARENS, left::<TypeParen>)
 }
+
+const NEVERS: &str = "
+! x | x
+_   | 0..1 expected a type
+    | 0..0 expected a path
+";
+
+const INFERRED: &str = "
+_ x | x
+!   | 0..1 expected a type
+1   | 0..1 expected a path
+";
+
+const FN_POINTERS: &str = r#"
+fn(a: u8) -> T x                       | x
+for<'a> unsafe extern "C" fn(_: A, B,) |
+extern fn() -> dyn A + B               | + B
+Fn()                                   | 0..2 expected a type
+unsafe                                 | 6..6 expected `fn`
+"#;
+
+const IMPL_TRAITS: &str = "
+impl A + 'a + ?B x | x
+dyn A              | 0..3 expected a type
+impl               | 4..4 expected a path
+impl A +           | 8..8 expected a path
+";
+
+const TRAIT_OBJECTS: &str = "
+dyn for<'a> A<'a> + B, c | , c
+impl A                   | 0..4 expected a type
+A                        | 0..1 expected a type
+dyn                      | 3..3 expected a path
+";
+
+const TYPE_PATHS: &str = "
+a::B<C> x   | x
+<T as A>::B |
+a!()        | ! ()
+a !         | !
+&T          | 0..1 expected a path
+<T as A>    | 8..8 expected `::`
+";
+
+const TYPE_MACROS: &str = "
+a::b![c] d | d
+try!{}     |
+a          | 1..1 expected a macro
+<T>::a!()  | 0..1 expected a path
+a<b>!()    | 1..2 expected a macro
+";
+
+#[test]
+fn types_of_other_kinds(rt: HostRuntime) -> Result<(), Fail> {
+    let alloc = rt.alloc();
+    check(alloc, NEVERS, left::<TypeNever>)?;
+    check(alloc, INFERRED, left::<TypeInfer>)?;
+    check(alloc, FN_POINTERS, left::<TypeFnPtr>)?;
+    check(alloc, IMPL_TRAITS, left::<TypeImplTrait>)?;
+    check(alloc, TRAIT_OBJECTS, left::<TypeTraitObject>)?;
+    check(alloc, TYPE_PATHS, left::<TypePath>)?;
+    check(alloc, TYPE_MACROS, left::<TypeMacro>)
+}
+
+const PATHS: &str = "
+::a::b            |
+super::super::a b | b
+crate             |
+a<B>::c<D>        |
+a::<B>::c         |
+Fn(A) -> B + C    | + C
+a <= b            | <= b
+a<b>>c            | > c
+a(b)!             | !
+self<T>           | < T >
+a: T              | : T
+                  | 0..0 expected a path
+fn                | 0..2 expected a path
+_                 | 0..1 expected a path
+::                | 2..2 expected a path
+a::               | 3..3 expected a path
+a::fn             | 3..5 expected a path
+a<                | 2..2 expected a path
+a<b               | 3..3 expected `>`
+a(b c)            | 4..5 unexpected token
+<T>::a            | 0..1 expected a path
+";
+
+const SEGMENTS: &str = "
+a<B> c   | c
+a::b     | :: b
+super<T> | < T >
+try!     | !
+1        | 0..1 expected a path
+::a      | 0..1 expected a path
+";
+
+const MACROS: &str = "
+a!()          |
+::a::b![x] y  | y
+crate::m!{}.z | . z
+a             | 1..1 expected a macro
+a!            | 2..2 expected a macro
+a != b        | 2..3 expected a macro
+a<b>!()       | 1..2 expected a macro
+a! b          | 3..4 expected a macro
+!()           | 0..1 expected a path
+a::!()        | 3..4 expected a path
+";
 
 #[test]
 fn paths_and_macros(rt: HostRuntime) -> Result<(), Fail> {
     let alloc = rt.alloc();
-    let read = misread::<Path>(
-        alloc,
-        &[
-            ("::a::b", ""),
-            ("super::super::a b", "b"),
-            ("crate", ""),
-            ("a<B>::c<D>", ""),
-            ("a::<B>::c", ""),
-            ("Fn(A) -> B + C", "+ C"),
-            ("a <= b", "<= b"),
-            ("a<b>>c", "> c"),
-            ("a(b)!", "!"),
-            ("self<T>", "< T >"),
-            ("a: T", ": T"),
-        ],
-    )?;
-    assert_eq!(rt; read, None);
-    let refused = misrefused::<Path>(
-        alloc,
-        &[
-            ("", PATH, 0, 0),
-            ("fn", PATH, 0, 2),
-            ("_", PATH, 0, 1),
-            ("::", PATH, 2, 2),
-            ("a::", PATH, 3, 3),
-            ("a::fn", PATH, 3, 5),
-            ("a<", PATH, 2, 2),
-            ("a<b", one(Gt::wanted()), 3, 3),
-            ("a(b c)", LEFT, 4, 5),
-            ("<T>::a", PATH, 0, 1),
-        ],
-    )?;
-    assert_eq!(rt; refused, None);
-    let read = misread::<PathSegment>(
-        alloc,
-        &[
-            ("a<B> c", "c"),
-            ("a::b", ":: b"),
-            ("super<T>", "< T >"),
-            ("try!", "!"),
-        ],
-    )?;
-    assert_eq!(rt; read, None);
-    let refused = misrefused::<PathSegment>(alloc, &[("1", PATH, 0, 1), ("::a", PATH, 0, 1)])?;
-    assert_eq!(rt; refused, None);
-    let read = misread::<Macro>(
-        alloc,
-        &[
-            ("a!()", ""),
-            ("::a::b![x] y", "y"),
-            ("crate::m!{}.z", ". z"),
-        ],
-    )?;
-    assert_eq!(rt; read, None);
-    let refused = misrefused::<Macro>(
-        alloc,
-        &[
-            ("a", MACRO, 1, 1),
-            ("a!", MACRO, 2, 2),
-            ("a != b", MACRO, 2, 3),
-            ("a<b>!()", MACRO, 1, 2),
-            ("a! b", MACRO, 3, 4),
-            ("!()", PATH, 0, 1),
-            ("a::!()", PATH, 3, 4),
-        ],
-    )?;
-    assert_eq!(rt; refused, None);
-    Ok(())
-}
-
-#[test]
-fn lifetimes_and_blocks(rt: HostRuntime) -> Result<(), Fail> {
-    let alloc = rt.alloc();
-    let read = misread::<Lifetime>(alloc, &[("'a b", "b"), ("'_", ""), ("'fn: T", ": T")])?;
-    assert_eq!(rt; read, None);
-    let wanted = one(Wanted::Lifetime);
-    let refused = misrefused::<Lifetime>(alloc, &[("", wanted, 0, 0), ("'a'", wanted, 0, 3)])?;
-    assert_eq!(rt; refused, None);
-    let read = misread::<Block>(alloc, &[("{} x", "x"), ("{ a; b }", "")])?;
-    assert_eq!(rt; read, None);
-    let braces = group(Delimiter::Brace);
-    let refused = misrefused::<Block>(
-        alloc,
-        &[
-            ("", braces, 0, 0),
-            ("(a)", braces, 0, 3),
-            ("a {}", braces, 0, 1),
-        ],
-    )?;
-    assert_eq!(rt; refused, None);
-    Ok(())
-}
-
-/// Whether a text is a literal of this kind, and else refused as a literal.
-fn is_kind<T: Parse + Drop>(alloc: Global, text: &str) -> Result<bool, Error> {
-    match parse_str::<T>(alloc, text) {
-        Ok(_) => Ok(true),
-        Err(e) if e.kind == LITERAL && e.span.lo == 0 => Ok(false),
-        Err(e) => Err(e),
-    }
-}
-
-#[test]
-fn literals_of_one_kind(rt: HostRuntime) -> Result<(), Fail> {
-    let alloc = rt.alloc();
-    for (text, kind) in [
-        ("\"x\"", 0),
-        ("b\"x\"", 1),
-        ("c\"x\"", 2),
-        ("b'x'", 3),
-        ("'x'", 4),
-        ("1u8", 5),
-        ("1.5", 6),
-        ("false", 7),
-        ("-1", 8),
-        ("x", 8),
-    ] {
-        assert_eq!(rt; is_kind::<LitStr>(alloc, text)?, kind == 0, "of {text}");
-        assert_eq!(rt; is_kind::<LitByteStr>(alloc, text)?, kind == 1, "of {text}");
-        assert_eq!(rt; is_kind::<LitCStr>(alloc, text)?, kind == 2, "of {text}");
-        assert_eq!(rt; is_kind::<LitByte>(alloc, text)?, kind == 3, "of {text}");
-        assert_eq!(rt; is_kind::<LitChar>(alloc, text)?, kind == 4, "of {text}");
-        assert_eq!(rt; is_kind::<LitInt>(alloc, text)?, kind == 5, "of {text}");
-        assert_eq!(rt; is_kind::<LitFloat>(alloc, text)?, kind == 6, "of {text}");
-        assert_eq!(rt; is_kind::<LitBool>(alloc, text)?, kind == 7, "of {text}");
-    }
-    Ok(())
+    check(alloc, PATHS, left::<Path>)?;
+    check(alloc, SEGMENTS, left::<PathSegment>)?;
+    check(alloc, MACROS, left::<Macro>)
 }
 
 #[test]
@@ -697,110 +475,64 @@ fn parts_hold_their_tokens(rt: HostRuntime) -> Result<(), Fail> {
     Ok(())
 }
 
+const OF_ONE_BOUND: &str = "
+dyn A + B      | + B
+impl A + B     | + B
+dyn 'a         |
+Vec<dyn A + B> |
+u8 + T         | + T
+dyn + A        | 4..5 expected a path
+";
+
 #[test]
 fn types_of_one_bound(rt: HostRuntime) -> Result<(), Fail> {
-    for (text, left) in [
-        ("dyn A + B", 2),
-        ("impl A + B", 2),
-        ("dyn 'a", 0),
-        ("Vec<dyn A + B>", 0),
-        ("u8 + T", 2),
-    ] {
-        let tokens = lex(rt.alloc(), text)?;
-        let mut input = ParseBuffer::new(&tokens)?;
-        assert!(rt; Type::without_plus(&mut input).is_ok(), "of {text}");
-        assert_eq!(rt; input.len(), left, "of {text}");
-    }
-    let tokens = lex(rt.alloc(), "dyn + A")?;
-    let mut input = ParseBuffer::new(&tokens)?;
-    match Type::without_plus(&mut input) {
-        Ok(_) => assert!(rt; false, "read"),
-        Err(e) => assert_eq!(rt; e, Error::new(Span { lo: 4, hi: 5 }, PATH)),
-    }
-    assert_eq!(rt; input.len(), 3);
-    Ok(())
+    check(rt.alloc(), OF_ONE_BOUND, |alloc, text| {
+        left_by(alloc, text, |input| Type::without_plus(input).err())
+    })
 }
+
+const IN_MACROS: &str = "
+a::b<c>   | < c >
+a(b)      | (b)
+::a::b    |
+self::a!  | !
+a::<b>    | 3..4 expected a path
+a::b::<c> | 6..7 expected a path
+";
 
 #[test]
 fn paths_without_arguments(rt: HostRuntime) -> Result<(), Fail> {
-    for (text, left) in [("a::b<c>", 3), ("a(b)", 1), ("::a::b", 0), ("self::a!", 1)] {
-        let tokens = lex(rt.alloc(), text)?;
-        let mut input = ParseBuffer::new(&tokens)?;
-        assert!(rt; Path::parse_mod_style(&mut input).is_ok(), "of {text}");
-        assert_eq!(rt; input.len(), left, "of {text}");
-    }
-    let tokens = lex(rt.alloc(), "a::<b>")?;
-    let mut input = ParseBuffer::new(&tokens)?;
-    match Path::parse_mod_style(&mut input) {
-        Ok(_) => assert!(rt; false, "read"),
-        Err(e) => assert_eq!(rt; e, Error::new(Span { lo: 3, hi: 4 }, PATH)),
-    }
-    assert_eq!(rt; input.len(), 6);
-    Ok(())
+    check(rt.alloc(), IN_MACROS, |alloc, text| {
+        left_by(alloc, text, |input| Path::parse_mod_style(input).err())
+    })
 }
 
-#[test]
-fn attributes(rt: HostRuntime) -> Result<(), Fail> {
-    let brackets = group(Delimiter::Bracket);
-    for (text, lo, hi) in [("#[a] #![b]", 6, 7), ("# x", 2, 3), ("#", 1, 1)] {
-        let tokens = lex(rt.alloc(), text)?;
-        let mut input = ParseBuffer::new(&tokens)?;
-        let all = input.len();
-        match Attribute::parse_outer(&mut input) {
-            Ok(_) => assert!(rt; false, "read: {text}"),
-            Err(e) => assert_eq!(rt; e, Error::new(Span { lo, hi }, brackets), "of {text}"),
-        }
-        assert_eq!(rt; input.len(), all, "of {text}");
-    }
-    for (text, lo, hi) in [("#![a] #! x", 9, 10), ("#!", 2, 2), ("#!(a)", 2, 5)] {
-        let tokens = lex(rt.alloc(), text)?;
-        let mut input = ParseBuffer::new(&tokens)?;
-        let all = input.len();
-        match Attribute::parse_inner(&mut input) {
-            Ok(_) => assert!(rt; false, "read: {text}"),
-            Err(e) => assert_eq!(rt; e, Error::new(Span { lo, hi }, brackets), "of {text}"),
-        }
-        assert_eq!(rt; input.len(), all, "of {text}");
-    }
-    let tokens = lex(rt.alloc(), "x")?;
-    let mut input = ParseBuffer::new(&tokens)?;
-    assert_eq!(rt; Attribute::parse_outer(&mut input)?.len(), 0);
-    assert_eq!(rt; Attribute::parse_inner(&mut input)?.len(), 0);
-    Ok(())
-}
+const IN_EXPRESSIONS: &str = "
+<T as a::b<c>>::d       |
+<T>::a::<b>             |
+<T>::a<b>               | < b >
+a<b>                    | < b >
+Fn(A)                   | (A)
+<T as a::b>::c::<d> < e | < e
+<T>                     | 3..3 expected `::`
+<T as A                 | 7..7 expected `>`
+<T as A>::              | 10..10 expected a path
+<>::a                   | 1..2 expected a path
+1                       | 0..1 expected a path
+";
+
+const IN_TYPES: &str = "
+<T>::a<b> |
+a<b>      |
+Fn(A)     |
+";
 
 #[test]
 fn qualified_paths(rt: HostRuntime) -> Result<(), Fail> {
-    for (text, expr_style, left) in [
-        ("<T as a::b<c>>::d", true, 0),
-        ("<T>::a::<b>", true, 0),
-        ("<T>::a<b>", true, 3),
-        ("<T>::a<b>", false, 0),
-        ("a<b>", true, 3),
-        ("a<b>", false, 0),
-        ("Fn(A)", true, 1),
-        ("Fn(A)", false, 0),
-    ] {
-        let tokens = lex(rt.alloc(), text)?;
-        let mut input = ParseBuffer::new(&tokens)?;
-        assert!(rt; qpath(&mut input, expr_style).is_ok(), "of {text}");
-        assert_eq!(rt; input.len(), left, "of {text}");
-    }
-    for (text, kind, lo, hi) in [
-        ("<T>", one(PathSep::wanted()), 3, 3),
-        ("<T as A", one(Gt::wanted()), 7, 7),
-        ("<T as A>::", PATH, 10, 10),
-        ("<>::a", PATH, 1, 2),
-        ("1", PATH, 0, 1),
-    ] {
-        let tokens = lex(rt.alloc(), text)?;
-        let mut input = ParseBuffer::new(&tokens)?;
-        let all = input.len();
-        match qpath(&mut input, true) {
-            Ok(_) => assert!(rt; false, "read: {text}"),
-            Err(e) => assert_eq!(rt; e, Error::new(Span { lo, hi }, kind), "of {text}"),
-        }
-        assert_eq!(rt; input.len(), all, "of {text}");
-    }
-    Ok(())
+    check(rt.alloc(), IN_EXPRESSIONS, |alloc, text| {
+        left_by(alloc, text, |input| qpath(input, true).err())
+    })?;
+    check(rt.alloc(), IN_TYPES, |alloc, text| {
+        left_by(alloc, text, |input| qpath(input, false).err())
+    })
 }

@@ -1,25 +1,23 @@
 //! The readers of the parts that hold others, as callers have them: each answers exactly what its form spells, and leaves
 //! the rest.
-#![tactic(auto, using(crate::proofs::Readable::readables))]
+#![tactic(auto, using(syn_parts::proofs::Readable::readables))]
 
 ghost use Rattle.std.specs.Prelude.{◌≡◌, ◌≤◌, ◌+◌, IfErr, IfOk, Some, map, true, false, if◌then◌else◌};
-ghost use Rattle.syn_lower.specs.Reads.{Reads};
+ghost use Rattle.syn_leaf.specs.Reads.{Reads};
 ghost use Rattle.syn_lower.specs.View.{arguments_of, attribute_of, bound_of, generic_of, lifetimes_of, macro_of, path_of, qself_or, segment_of, type_of};
 ghost use Rattle.syn_parts.specs.Part as part;
 ghost use Rattle.syn_parts.specs.declared.label.PathStyle.TheVariants as place;
 ghost use Rattle.syn_tokens.specs.Input.{IsAfter};
 ghost use Rattle.syn_tokens.specs.Tok.{weight};
 
-use crate::ahead::{ReadByForm, ahead};
-use crate::attr::Attribute;
-use crate::block::Block;
-use crate::front;
 use crate::grammar::{Grammar, lifetimes};
-use crate::kept::{any_group, block, inner_attributes, outer_attributes};
 use crate::mac::Macro;
 use crate::path::{GenericArgument, Path, PathSegment, QSelf};
 use crate::qualified::ty;
 use crate::ty::{BoundLifetimes, Type, TypeParamBound};
+use syn_leaf::ahead::{ReadByForm, ahead};
+use syn_leaf::front;
+use syn_leaf::kept::any_group;
 use syn_parts::label::PathStyle;
 use syn_tokens::buffer::{Parse, ParseBuffer};
 use syn_tokens::error::{ErrorKind, Part, Result};
@@ -203,40 +201,6 @@ impl Parse for TypeParamBound {
     }
 }
 
-impl ReadByForm for Block {
-    ghost use Rattle.std.specs.Prelude.{List};
-    ghost use Rattle.syn_tokens.specs.Tok.{Tok};
-
-    ghost Seen = { List Tok };
-
-    ghost seen = { λ b. b.stmts };
-
-    ghost form = { part.block };
-
-    fn read(input: &mut ParseBuffer<'_>) -> Result<Self> {
-        block(input)
-    }
-}
-
-impl Parse for Block {
-    ghost use Rattle.std.specs.Prelude.{List};
-    ghost use Rattle.syn_tokens.specs.Tok.{Tok};
-
-    ghost Seen = { List Tok };
-
-    ghost seen = { λ b. b.stmts };
-
-    /// A brace group stands before the rest.
-    ghost spells = { λ l x rest. part.block.behind x l ≡ Some rest };
-
-    ghost least = { 1 };
-
-    /// Reads a block, whose inside is kept as tokens; it is refused as `ExpectedToken` of `{`.
-    fn parse(input: &mut ParseBuffer<'_>) -> Result<Self> {
-        ahead(input)
-    }
-}
-
 impl ReadByForm for BoundLifetimes {
     ghost use Rattle.syn_parts.specs.Tree.{LifetimesTree};
 
@@ -346,48 +310,6 @@ impl Path {
     {
         let mut ahead = input.fork()?;
         let x = match any_path(&mut ahead, PathStyle::Mod) {
-            Ok(x) => x,
-            Err(e) => return Err(e),
-        };
-        input.advance_to(&ahead);
-        Ok(x)
-    }
-}
-
-impl Attribute {
-    /// Reads the outer attributes that stand first, as many as there are (Rust Reference, "Attributes"). They are read
-    /// exactly where they stand, unless memory runs out; where they are refused the input stays where it was.
-    #[tactic(auto, using(crate::proofs::ReadingParts::outer_reading))]
-    pub fn parse_outer(input: &mut ParseBuffer<'_>) -> Result<Vec<Attribute>>
-        ensures value { Reads (λ v. map attribute_of v.items) (part.outer_attributes.reads input.old.rest) result input.new.rest }
-        ensures noted { input.new.noted ≡ input.old.noted }
-        ensures after { IsAfter input.old input.new }
-        ensures stays { IfErr result (λ _. input.new ≡ input.old) }
-        ensures moves { IfOk result (λ x. weight input.new.rest ≤ weight input.old.rest) }
-    {
-        let mut ahead = input.fork()?;
-        let x = match outer_attributes(&mut ahead) {
-            Ok(x) => x,
-            Err(e) => return Err(e),
-        };
-        input.advance_to(&ahead);
-        Ok(x)
-    }
-}
-
-impl Attribute {
-    /// Reads the inner attributes that stand first, as many as there are (Rust Reference, "Attributes"). They are read
-    /// exactly where they stand, unless memory runs out; where they are refused the input stays where it was.
-    #[tactic(auto, using(crate::proofs::ReadingParts::inner_reading))]
-    pub fn parse_inner(input: &mut ParseBuffer<'_>) -> Result<Vec<Attribute>>
-        ensures value { Reads (λ v. map attribute_of v.items) (part.inner_attributes.reads input.old.rest) result input.new.rest }
-        ensures noted { input.new.noted ≡ input.old.noted }
-        ensures after { IsAfter input.old input.new }
-        ensures stays { IfErr result (λ _. input.new ≡ input.old) }
-        ensures moves { IfOk result (λ x. weight input.new.rest ≤ weight input.old.rest) }
-    {
-        let mut ahead = input.fork()?;
-        let x = match inner_attributes(&mut ahead) {
             Ok(x) => x,
             Err(e) => return Err(e),
         };

@@ -1,16 +1,12 @@
 //! Equality of the parts, which ignores their places: what their derived `==` answers, as contracts of functions that do
 //! nothing.
 
-ghost use Rattle.syn_lower.specs.Equal.{IsEqualityOf};
+ghost use Rattle.syn_leaf.specs.Equal.{IsEqualityOf};
 ghost use Rattle.syn_lower.specs.View.{abi_of, angle_of, arg_of, arguments_of, assoc_of, attribute_of, bound_of, delimiter_of, fn_ptr_of, generic_of, is_inner, is_mut, lifetime_of, lifetimes_of, lit_float_of, lit_int_of, lit_of, lit_str_of, macro_of, path_of, qself_of, return_of, round_of, segment_of, trait_of, type_of, type_path_of};
-ghost use Rattle.syn_lower.specs.declared.lit.Lit.TheVariants as lit;
+ghost use Rattle.syn_leaf.specs.declared.lit.Lit.TheVariants as lit;
 ghost use Rattle.syn_lower.specs.declared.ty.«Type».TheVariants as ty;
 
-use crate::attr::{AttrStyle, Attribute};
-use crate::block::Block;
-use crate::lifetime::Lifetime;
-use crate::lit::{Lit, LitBool, LitByte, LitByteStr, LitCStr, LitChar, LitFloat, LitInt, LitStr};
-use crate::mac::{Macro, MacroDelimiter};
+use crate::mac::Macro;
 use crate::path::{
     AngleBracketedGenericArguments, AssocType, GenericArgument, ParenthesizedGenericArguments,
     Path, PathArguments, PathSegment, QSelf,
@@ -21,32 +17,7 @@ use crate::ty::{
     TypePtr, TypeReference, TypeSlice, TypeTraitObject, TypeTuple,
 };
 
-/// Two literals are equal exactly where their kinds and texts are, with the sign of a number.
-#[tactic(auto, using(crate::proofs::Sames::sames))]
-pub fn equal_literals()
-    ensures literal { IsEqualityOf lit_of ⟦<Lit as PartialEq>⟧.eq }
-    ensures str { IsEqualityOf lit_str_of ⟦<LitStr as PartialEq>⟧.eq }
-    ensures byte_str { IsEqualityOf (λ x. lit_of (lit.ByteStr x)) ⟦<LitByteStr as PartialEq>⟧.eq }
-    ensures c_str { IsEqualityOf (λ x. lit_of (lit.CStr x)) ⟦<LitCStr as PartialEq>⟧.eq }
-    ensures byte { IsEqualityOf (λ x. lit_of (lit.Byte x)) ⟦<LitByte as PartialEq>⟧.eq }
-    ensures char { IsEqualityOf (λ x. lit_of (lit.Char x)) ⟦<LitChar as PartialEq>⟧.eq }
-    ensures int { IsEqualityOf lit_int_of ⟦<LitInt as PartialEq>⟧.eq }
-    ensures float { IsEqualityOf lit_float_of ⟦<LitFloat as PartialEq>⟧.eq }
-    ensures bool { IsEqualityOf (λ x. lit_of (lit.Bool x)) ⟦<LitBool as PartialEq>⟧.eq }
-{}
-
-/// Two lifetimes, attributes, blocks or calls of macros are equal exactly where their trees are.
-#[tactic(auto, using(crate::proofs::Sames::sames))]
-pub fn equal_leaves()
-    ensures lifetime { IsEqualityOf lifetime_of ⟦<Lifetime as PartialEq>⟧.eq }
-    ensures style { IsEqualityOf is_inner ⟦<AttrStyle as PartialEq>⟧.eq }
-    ensures attribute { IsEqualityOf attribute_of ⟦<Attribute as PartialEq>⟧.eq }
-    ensures block { IsEqualityOf (λ x. x.stmts) ⟦<Block as PartialEq>⟧.eq }
-    ensures delimiter { IsEqualityOf delimiter_of ⟦<MacroDelimiter as PartialEq>⟧.eq }
-    ensures mac { IsEqualityOf (macro_of arguments_of) ⟦<Macro as PartialEq>⟧.eq }
-{}
-
-/// Two paths, or parts of paths, are equal exactly where their trees are.
+/// Two paths, parts of paths, or calls of macros are equal exactly where their trees are.
 #[tactic(auto, using(crate::proofs::Sames::sames))]
 pub fn equal_paths()
     ensures path { IsEqualityOf (path_of arguments_of) ⟦<Path as PartialEq>⟧.eq }
@@ -56,6 +27,7 @@ pub fn equal_paths()
     ensures round { IsEqualityOf round_of ⟦<ParenthesizedGenericArguments as PartialEq>⟧.eq }
     ensures generic { IsEqualityOf generic_of ⟦<GenericArgument as PartialEq>⟧.eq }
     ensures assoc { IsEqualityOf (assoc_of type_of) ⟦<AssocType as PartialEq>⟧.eq }
+    ensures mac { IsEqualityOf (macro_of arguments_of) ⟦<Macro as PartialEq>⟧.eq }
     ensures qself { IsEqualityOf (qself_of type_of) ⟦<QSelf as PartialEq>⟧.eq }
 {}
 

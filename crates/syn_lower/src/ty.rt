@@ -3,11 +3,11 @@
 //! A struct that holds types, arguments or bounds is generic in them, under an alias of syn's name. Users write the
 //! alias, in literals and patterns too.
 
-use crate::lifetime::Lifetime;
-use crate::lit::LitStr;
 use crate::mac::MacroOf;
 use crate::path::{PathArguments, PathOf, QSelfOf};
 use crate::punctuated::Punctuated;
+use syn_leaf::lifetime::Lifetime;
+use syn_leaf::lit::LitStr;
 use syn_tokens::token::{
     And, Bracket, Colon, Comma, Const, Dyn, Extern, Fn, For, Gt, Impl, Lt, Mut, Not, Paren, Plus,
     Question, RArrow, Semi, Star, Underscore, Unsafe,

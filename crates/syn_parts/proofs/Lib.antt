@@ -26,3 +26,6 @@ pub mod WholeTold
 pub mod Exact
 pub mod PatsTold
 pub mod PatWholeTold
+pub mod Appends
+pub mod TreeEq
+pub mod Readable

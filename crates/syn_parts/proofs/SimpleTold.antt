@@ -14,7 +14,7 @@ use Rattle.syn_parts.specs.Tree.{LitTree, LifetimesTree}
 use Rattle.syn_parts.specs.Form.{Outcome, if_same, listed}
 use Rattle.syn_parts.specs.Mark.{sign_at, word_at, lifetime_at, comma, gt}
 use Rattle.syn_parts.specs.Part.{word_if, lit_if, truth_if, negative_if, string_if, find_lit, find_const, const_if, name, segment_name, arg_name, is_arg_name, lifetime, lit, unsigned, string, literal_at, abi, lifetimes, constant_tokens, any_group}
-use Rattle.syn_parts.specs.Kind.{of_this_kind, of_kind}
+use Rattle.syn_parts.specs.Kind.{only, of_kind}
 use Rattle.syn_parts.specs.Own.{alone, comma_before, enclosed, lifetime_own, number_own, lit_own, lifetimes_own, extern_own, elements_own}
 use Rattle.syn_parts.specs.Fits.{has_kind, number_fits, lit_fits, unsigned_fits, of_kind_fits, lifetimes_fit, fits_if, is_string, abi_stops, is_const, is_macro_delimiter}
 use Rattle.syn_parts.specs.Laws.{Fitted}
@@ -152,7 +152,7 @@ unsigned_back x r h = by_kind x.kind x.text h
     by_kind kind.Char text h = lit_found kind.Char text r h
 
 -- one kind alone is the same literal, and of that kind
-of_kind_found : (k : LitKind) (x : LitTree) (o : Outcome LitTree) (n : List Tok) → if_same same_lit x (of_this_kind k o) ≡ Some n → (same_kind x.kind k ≡ true) × (if_same same_lit x o ≡ Some n)
+of_kind_found : (k : LitKind) (x : LitTree) (o : Outcome LitTree) (n : List Tok) → if_same same_lit x (only (λ z. same_kind z.kind k) o) ≡ Some n → (same_kind x.kind k ≡ true) × (if_same same_lit x o ≡ Some n)
 of_kind_found k x None n h = absurd cc
 of_kind_found k x (Some p) n h = by_kind (same_kind p.0.kind k) refl h
   where
@@ -171,11 +171,11 @@ of_kind_told k x r n h =
     let q = unsigned_told x r n i in
     record { passes = rw (e, q.passes) refl; ends = refl; same = q.same }
 
-of_kind_stands : (k : LitKind) (x : LitTree) (o : Outcome LitTree) (n : List Tok) → same_kind x.kind k ≡ true → if_same same_lit x o ≡ Some n → if_same same_lit x (of_this_kind k o) ≡ Some n
+of_kind_stands : (k : LitKind) (x : LitTree) (o : Outcome LitTree) (n : List Tok) → same_kind x.kind k ≡ true → if_same same_lit x o ≡ Some n → if_same same_lit x (only (λ z. same_kind z.kind k) o) ≡ Some n
 of_kind_stands k x None n e h = absurd cc
 of_kind_stands k x (Some p) n e h = by_same (same_lit x p.0) refl h
   where
-    by_same : (b : Bool) → same_lit x p.0 ≡ b → cond b (Some p.1) None ≡ Some n → if_same same_lit x (of_this_kind k (Some p)) ≡ Some n
+    by_same : (b : Bool) → same_lit x p.0 ≡ b → cond b (Some p.1) None ≡ Some n → if_same same_lit x (only (λ z. same_kind z.kind k) (Some p)) ≡ Some n
     by_same true d h =
         let i : same_kind p.0.kind k ≡ true = subst (λ z. same_kind z.kind k ≡ true) (compares_lits.equal x p.0 d) e in
         rw (i, d) h

@@ -1,7 +1,8 @@
 -- What is true of the lower parts: each is read exactly where its tokens stand, and read back from its own tokens.
-use Rattle.std.specs.Prelude.{◌≡◌, Bool, true, not, ◌↔◌, List, [], ◌∷◌, Option, Some}
+use Rattle.std.specs.Prelude.{ℕ, ◌+◌, ◌≤◌, ◌≡◌, Bool, true, not, ◌↔◌, List, [], ◌∷◌, Option, Some}
 use Rattle.syn_lexer.specs.Keywords.{is_reserved_word}
-use Rattle.syn_tokens.specs.Tok.{Tok, ident}
+use Rattle.syn_tokens.specs.Tok.{Tok, ident, weight}
+use Rattle.syn_tokens.specs.Input.{IsTail}
 use Rattle.syn_parts.specs.declared.label.LitKind.{LitKind}
 use Rattle.syn_parts.specs.declared.label.PathStyle.{PathStyle}
 use Rattle.syn_parts.specs.declared.label.PathStyle.TheVariants as style
@@ -146,3 +147,10 @@ pub record TestsAreExact : Type 0 where
   pub lists_of_bounds : (several : Bool) → IsTestOf (bounds type several) bounds_list_own (bounds_list_fits several)
   pub outputs : (several : Bool) → IsTestOf (output type several) return_own (output_fits several)
   pub types : (several : Bool) → IsTestOf (type several) type_own (type_fits several)
+
+-- A form that a reader can follow: what it reads stands there, takes this weight at least and leaves a tail, and what stands it reads.
+pub record IsReadable {A : Type 0} (least : ℕ) (f : Form A) : Type 0 where
+  pub tail : (l n : List Tok) (x : A) → f.reads l ≡ Some (x, n) → IsTail n l
+  pub moves : (l n : List Tok) (x : A) → f.reads l ≡ Some (x, n) → least + weight n ≤ weight l
+  pub stands : (l n : List Tok) (x : A) → f.reads l ≡ Some (x, n) → f.behind x l ≡ Some n
+  pub found : (l n : List Tok) (x : A) → f.behind x l ≡ Some n → f.reads l ≡ Some (x, n)

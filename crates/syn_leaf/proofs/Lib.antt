@@ -1,0 +1,10 @@
+pub mod Fronts
+pub mod Numbers
+pub mod LitFits
+pub mod Groups
+pub mod Loops
+pub mod AttrOwn
+pub mod ReadingAttributes
+pub mod Backs
+pub mod Ties
+pub mod LeafTies

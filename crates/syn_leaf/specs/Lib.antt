@@ -1,0 +1,5 @@
+pub mod View
+pub mod Equal
+pub mod Printed
+pub mod Reads
+pub mod ReadBack

@@ -1,0 +1,25 @@
+//! The lower parts that hold no others: literals, lifetimes, attributes, blocks and the delimiters of macros, as in syn; and
+//! what the readers of all lower parts share: the tokens at the front of the input, the groups whose tokens are kept.
+#![tactic(auto)]
+
+pub mod ahead;
+pub mod attr;
+pub mod block;
+pub mod front;
+pub mod kept;
+pub mod laws;
+pub mod leaf;
+#[cfg(test)]
+mod leaf_tests;
+pub mod lifetime;
+pub mod lit;
+#[cfg(test)]
+mod lit_tests;
+pub mod mac;
+mod parse;
+mod print;
+pub mod read_back;
+#[cfg(test)]
+mod rows;
+pub mod same;
+pub mod text;

@@ -1,0 +1,347 @@
+//! What no clause says of literals: what is printed of them, which reader takes which, their refusals, and which are
+//! equal or read back.
+
+use crate::lit::{Lit, LitBool, LitByte, LitByteStr, LitCStr, LitChar, LitFloat, LitInt, LitStr};
+use crate::rows::{again, check, compared, printed, words};
+use std::alloc::Global;
+use std::test::Fail;
+use syn_tokens::buffer::Parse;
+use syn_tokens::copy::{copy_ident, copy_literal};
+use syn_tokens::error::{Error, ErrorKind, Part};
+use syn_tokens::lex::lex;
+use syn_tokens::span::Span;
+use syn_tokens::tree::{Ident, Literal, TokenTree};
+use syn_tokens::whole::parse_str;
+
+/// Whole texts, and what is printed of them or their refusals.
+const LITERALS: &str = r##"
+"x"     | "x"
+r#"x"#  | r#"x"#
+b"x"    | b"x"
+c"x"    | c"x"
+b'x'    | b'x'
+'x'     | 'x'
+1u8     | 1u8
+0x1e5   | 0x1e5
+1.5e3   | 1.5e3
+true    | true
+-1      | - 1
+-1.5    | - 1.5
+- 2.5   | - 2.5
+a       | 0..1 expected a literal
+x       | 0..1 expected a literal
+- x     | 0..1 expected a literal
+-true   | 0..1 expected a literal
+1 2     | 2..3 unexpected token
+"##;
+
+#[test]
+fn literals(rt: HostRuntime) -> Result<(), Fail> {
+    check(rt.alloc(), LITERALS, printed::<Lit>)
+}
+
+/// The kind of a literal.
+fn kind(alloc: Global, text: &str) -> Result<String, Error> {
+    let lit = parse_str::<Lit>(alloc, text)?;
+    words(
+        alloc,
+        match lit {
+            Lit::Str(_) => "Str",
+            Lit::ByteStr(_) => "ByteStr",
+            Lit::CStr(_) => "CStr",
+            Lit::Byte(_) => "Byte",
+            Lit::Char(_) => "Char",
+            Lit::Int(_) => "Int",
+            Lit::Float(_) => "Float",
+            Lit::Bool(_) => "Bool",
+        },
+    )
+}
+
+const KINDS: &str = r#"
+r"x"  | Str
+br"x" | ByteStr
+cr"x" | CStr
+b'x'  | Byte
+'x'   | Char
+0b1e1 | Int
+1f32  | Int
+1e1   | Float
+1.    | Float
+false | Bool
+"#;
+
+#[test]
+fn kinds_of_literals(rt: HostRuntime) -> Result<(), Fail> {
+    check(rt.alloc(), KINDS, kind)
+}
+
+const INTEGERS: &str = "
+7    | 7
+-1   | 0..1 expected a literal
+ 1.5 | 1..4 expected a literal
+";
+
+const STRINGS: &str = r#"
+"x" | "x"
+    | 0..0 expected a literal
+"#;
+
+#[test]
+fn one_kind_each(rt: HostRuntime) -> Result<(), Fail> {
+    let alloc = rt.alloc();
+    check(alloc, STRINGS, printed::<LitStr>)?;
+    check(alloc, r#"b"x" | b"x""#, printed::<LitByteStr>)?;
+    check(alloc, r#"c"x" | c"x""#, printed::<LitCStr>)?;
+    check(alloc, "b'x' | b'x'", printed::<LitByte>)?;
+    check(alloc, "'x' | 'x'", printed::<LitChar>)?;
+    check(alloc, INTEGERS, printed::<LitInt>)?;
+    check(alloc, "7.5 | 7.5", printed::<LitFloat>)?;
+    check(alloc, "true | true", printed::<LitBool>)
+}
+
+/// Puts a name behind others if something holds.
+fn name_if(holds: bool, name: &str, names: &mut String) -> Result<(), Error> {
+    if holds {
+        names.push_str(name)?;
+        names.push_str(" ")?;
+    }
+    Ok(())
+}
+
+/// Puts a name behind others if a text is a `T`. Else it has to be refused as no literal.
+fn name_of<T: Parse + Drop>(
+    alloc: Global,
+    text: &str,
+    name: &str,
+    names: &mut String,
+) -> Result<(), Error> {
+    let Err(e) = parse_str::<T>(alloc, text) else {
+        return name_if(true, name, names);
+    };
+    if e.kind != ErrorKind::ExpectedPart(Part::Literal) || e.span.lo != 0 {
+        return Err(e);
+    }
+    Ok(())
+}
+
+/// The kinds whose own readers take a text.
+fn own_kinds(alloc: Global, text: &str) -> Result<String, Error> {
+    let mut names = String::new(alloc);
+    name_of::<LitStr>(alloc, text, "Str", &mut names)?;
+    name_of::<LitByteStr>(alloc, text, "ByteStr", &mut names)?;
+    name_of::<LitCStr>(alloc, text, "CStr", &mut names)?;
+    name_of::<LitByte>(alloc, text, "Byte", &mut names)?;
+    name_of::<LitChar>(alloc, text, "Char", &mut names)?;
+    name_of::<LitInt>(alloc, text, "Int", &mut names)?;
+    name_of::<LitFloat>(alloc, text, "Float", &mut names)?;
+    name_of::<LitBool>(alloc, text, "Bool", &mut names)?;
+    Ok(names)
+}
+
+const OWN_KINDS: &str = r#"
+"x"   | Str
+b"x"  | ByteStr
+c"x"  | CStr
+b'x'  | Byte
+'x'   | Char
+1u8   | Int
+1.5   | Float
+false | Bool
+-1    |
+x     |
+"#;
+
+#[test]
+fn literals_of_one_kind(rt: HostRuntime) -> Result<(), Fail> {
+    check(rt.alloc(), OWN_KINDS, own_kinds)
+}
+
+const COMPARED: &str = r#"
+-1   ~  - 1    | equal
+-1   ~   -  1  | equal
+1    ~ 2       | different
+1    ~ -1      | different
+1    ~ 1.0     | different
+1.0  ~ -1.0    | different
+'a'  ~ b'a'    | different
+"a"  ~ b"a"    | different
+"a"  ~ c"a"    | different
+"a"  ~ r"a"    | different
+true ~ false   | different
+"#;
+
+#[test]
+fn equality(rt: HostRuntime) -> Result<(), Fail> {
+    check(rt.alloc(), COMPARED, compared::<Lit>)
+}
+
+const READ_BACK: &str = r#"
+"a"  | same
+b"a" | same
+c"a" | same
+b'a' | same
+'a'  | same
+1    | same
+1.5  | same
+true | same
+-1   | same
+-1.5 | same
+"#;
+
+#[test]
+fn literals_are_read_back(rt: HostRuntime) -> Result<(), Fail> {
+    check(rt.alloc(), READ_BACK, |alloc, text| {
+        again(alloc, text, Lit::is_read_back)
+    })
+}
+
+/// A refusal of a text that isn't what a test needs.
+fn another() -> Error {
+    Error::new(Span::call_site(), ErrorKind::UnexpectedToken)
+}
+
+/// A word.
+fn word(alloc: Global, text: &str) -> Result<Ident, Error> {
+    let tokens = lex(alloc, text)?;
+    match tokens.trees() {
+        [TokenTree::Ident(word)] => copy_ident(alloc, word),
+        _ => Err(another()),
+    }
+}
+
+/// A literal token.
+fn literal(alloc: Global, text: &str) -> Result<Literal, Error> {
+    let tokens = lex(alloc, text)?;
+    match tokens.trees() {
+        [TokenTree::Literal(literal)] => copy_literal(alloc, literal),
+        _ => Err(another()),
+    }
+}
+
+/// Puts a name behind others if the token of a text passes a test.
+fn name_by<F: FnOnce(Literal) -> bool>(
+    alloc: Global,
+    text: &str,
+    name: &str,
+    names: &mut String,
+    passes: F,
+) -> Result<(), Error>
+    requires { F.IsAlwaysCallable passes }
+{
+    let is_passed = passes(literal(alloc, text)?);
+    name_if(is_passed, name, names)
+}
+
+/// The kinds as which the token of a text is read back, and `Lit` for a string among them.
+fn token_kinds(alloc: Global, text: &str) -> Result<String, Error> {
+    let mut names = String::new(alloc);
+    let all = &mut names;
+    name_by(
+        alloc,
+        text,
+        "Str",
+        all,
+        |token| LitStr { token }.is_read_back(),
+    )?;
+    name_by(
+        alloc,
+        text,
+        "Lit",
+        all,
+        |token| Lit::Str(LitStr { token }).is_read_back(),
+    )?;
+    name_by(
+        alloc,
+        text,
+        "ByteStr",
+        all,
+        |token| LitByteStr { token }.is_read_back(),
+    )?;
+    name_by(
+        alloc,
+        text,
+        "CStr",
+        all,
+        |token| LitCStr { token }.is_read_back(),
+    )?;
+    name_by(
+        alloc,
+        text,
+        "Byte",
+        all,
+        |token| LitByte { token }.is_read_back(),
+    )?;
+    name_by(
+        alloc,
+        text,
+        "Char",
+        all,
+        |token| LitChar { token }.is_read_back(),
+    )?;
+    Ok(names)
+}
+
+/// Whether a word is read back as a truth value.
+fn truth(alloc: Global, text: &str) -> Result<String, Error> {
+    let truth = LitBool {
+        word: word(alloc, text)?,
+    };
+    words(alloc, if truth.is_read_back() { "Bool" } else { "" })
+}
+
+const TOKENS: &str = r#"
+"a"  | Str Lit
+b"a" | ByteStr
+c"a" | CStr
+b'a' | Byte
+'a'  | Char
+1    |
+"#;
+
+const WORDS: &str = "
+true  | Bool
+truth |
+";
+
+#[test]
+fn tokens_by_their_kind(rt: HostRuntime) -> Result<(), Fail> {
+    check(rt.alloc(), TOKENS, token_kinds)?;
+    check(rt.alloc(), WORDS, truth)
+}
+
+/// As which kinds the token of a number is read back: as an integer, or as a float.
+fn number_kinds(alloc: Global, text: &str) -> Result<String, Error> {
+    let (is_int, is_float) = match parse_str::<Lit>(alloc, text)? {
+        Lit::Int(int) => {
+            let is_int = int.is_read_back();
+            let LitInt { minus_token, token } = int;
+            (is_int, LitFloat { minus_token, token }.is_read_back())
+        }
+        Lit::Float(float) => {
+            let is_float = float.is_read_back();
+            let LitFloat { minus_token, token } = float;
+            (LitInt { minus_token, token }.is_read_back(), is_float)
+        }
+        _ => return Err(another()),
+    };
+    words(
+        alloc,
+        match (is_int, is_float) {
+            (true, false) => "integer",
+            (false, true) => "float",
+            _ => "another",
+        },
+    )
+}
+
+const NUMBERS: &str = "
+1      | integer
+-0x1e5 | integer
+1e3    | float
+";
+
+#[test]
+fn numbers_by_their_kind(rt: HostRuntime) -> Result<(), Fail> {
+    check(rt.alloc(), NUMBERS, number_kinds)
+}

@@ -1,0 +1,14 @@
+//! What encloses the tokens of a macro's call (Rust Reference, "Macro Invocation").
+
+use syn_tokens::token::{Brace, Bracket, Paren};
+
+/// What encloses the tokens of a macro's call.
+#[derive(Clone, Copy, Debug, PartialEq)]
+pub enum MacroDelimiter {
+    /// `( .. )`
+    Paren(Paren),
+    /// `{ .. }`
+    Brace(Brace),
+    /// `[ .. ]`
+    Bracket(Bracket),
+}
