@@ -9,17 +9,13 @@ pub mod front;
 pub mod kept;
 pub mod laws;
 pub mod leaf;
-#[cfg(test)]
-mod leaf_tests;
 pub mod lifetime;
 pub mod lit;
-#[cfg(test)]
-mod lit_tests;
 pub mod mac;
 mod parse;
 mod print;
 pub mod read_back;
-#[cfg(test)]
-mod rows;
 pub mod same;
+#[cfg(test)]
+mod tests;
 pub mod text;

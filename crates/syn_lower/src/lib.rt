@@ -3,8 +3,6 @@
 #![tactic(auto)]
 
 mod fits;
-#[cfg(test)]
-mod fits_tests;
 mod fn_pointer;
 mod grammar;
 mod kinds;
@@ -16,14 +14,8 @@ pub mod print;
 pub mod punctuated;
 mod qualified;
 pub mod read_back;
-#[cfg(test)]
-mod reader_tests;
 pub mod readers;
-#[cfg(test)]
-mod rows;
 pub mod same;
-#[cfg(test)]
-mod tests;
 pub mod ty;
 
 pub use syn_leaf::{attr, block, lifetime, lit};

@@ -1,4 +1,5 @@
-//! Tables of examples. A row is a line: what is given, `|`, and what has to be answered.
+//! Tables of examples, for the crates of tests. A row is a line: what is given, `|`, and what has to be answered.
+#![tactic(auto)]
 
 use std::alloc::Global;
 use std::test::Fail;

@@ -1,12 +1,12 @@
 //! What no clause says of lifetimes, blocks and attributes: what is left behind them, what is printed of them, their
 //! refusals, and which are equal or read back.
 
-use crate::attr::Attribute;
-use crate::block::Block;
-use crate::lifetime::Lifetime;
-use crate::rows::{again, check, compared, left, left_by, printed, words};
+use rows::{again, check, compared, left, left_by, printed, words};
 use std::alloc::Global;
 use std::test::Fail;
+use syn_leaf::attr::Attribute;
+use syn_leaf::block::Block;
+use syn_leaf::lifetime::Lifetime;
 use syn_tokens::buffer::{ParseBuffer, ToTokens};
 use syn_tokens::error::Error;
 use syn_tokens::lex::lex;

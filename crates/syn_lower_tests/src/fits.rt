@@ -1,23 +1,23 @@
 //! What no clause says: parts as they are read and as users build them, tested, printed and read again.
 
-use crate::mac::Macro;
-use crate::path::{
+use rows::{again, check, verdict, words};
+use std::alloc::Global;
+use std::test::Fail;
+use syn_leaf::lit::LitStr;
+use syn_lower::mac::Macro;
+use syn_lower::path::{
     AngleBracketedGenericArguments, AssocType, GenericArgument, ParenthesizedGenericArguments,
     Path, PathArguments, PathSegment, QSelf,
 };
-use crate::print::print_qpath;
-use crate::punctuated::Punctuated;
-use crate::read_back::qpath_is_read_back;
-use crate::readers::qpath;
-use crate::rows::{again, check, verdict, words};
-use crate::ty::{
+use syn_lower::print::print_qpath;
+use syn_lower::punctuated::Punctuated;
+use syn_lower::read_back::qpath_is_read_back;
+use syn_lower::readers::qpath;
+use syn_lower::ty::{
     Abi, BareFnArg, BoundLifetimes, PointerMutability, ReturnType, TraitBound, Type, TypeArray,
     TypeFnPtr, TypeImplTrait, TypeParamBound, TypeParen, TypePath, TypePtr, TypeReference,
     TypeSlice, TypeTraitObject, TypeTuple,
 };
-use std::alloc::Global;
-use std::test::Fail;
-use syn_leaf::lit::LitStr;
 use syn_parts::label::PathStyle;
 use syn_tokens::buffer::{ParseBuffer, ToTokens};
 use syn_tokens::copy::copy_ident;

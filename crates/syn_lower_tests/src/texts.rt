@@ -1,13 +1,13 @@
 //! What no clause says: the texts that parts print, which parts are equal, and that calls succeed.
 
-use crate::mac::Macro;
-use crate::path::{GenericArgument, Path, PathSegment};
-use crate::print::print_qpath;
-use crate::punctuated::Punctuated;
-use crate::readers::qpath;
-use crate::rows::{check, compared, printed};
-use crate::ty::{BoundLifetimes, Type, TypeParamBound};
+use rows::{check, compared, printed};
 use std::test::Fail;
+use syn_lower::mac::Macro;
+use syn_lower::path::{GenericArgument, Path, PathSegment};
+use syn_lower::print::print_qpath;
+use syn_lower::punctuated::Punctuated;
+use syn_lower::readers::qpath;
+use syn_lower::ty::{BoundLifetimes, Type, TypeParamBound};
 use syn_tokens::buffer::{ParseBuffer, ToTokens};
 use syn_tokens::lex::lex;
 use syn_tokens::text::to_text;

@@ -2,19 +2,19 @@
 //! input where it was, and that calls succeed. A row has what is left behind the part at its front, or the refusal: its
 //! place in bytes and its text. The rows are by the Rust Reference's grammar of types and paths.
 
-use crate::mac::Macro;
-use crate::path::{
+use rows::{check, left, left_by};
+use std::test::Fail;
+use syn_lower::mac::Macro;
+use syn_lower::path::{
     AngleBracketedGenericArguments, AssocType, GenericArgument, ParenthesizedGenericArguments,
     Path, PathSegment,
 };
-use crate::readers::qpath;
-use crate::rows::{check, left, left_by};
-use crate::ty::{
+use syn_lower::readers::qpath;
+use syn_lower::ty::{
     Abi, BareFnArg, BoundLifetimes, PointerMutability, ReturnType, TraitBound, Type, TypeArray,
     TypeFnPtr, TypeImplTrait, TypeInfer, TypeMacro, TypeNever, TypeParamBound, TypeParen, TypePath,
     TypePtr, TypeReference, TypeSlice, TypeTraitObject, TypeTuple,
 };
-use std::test::Fail;
 use syn_tokens::text::to_text;
 use syn_tokens::whole::parse_str;
 

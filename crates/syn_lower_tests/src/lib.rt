@@ -1,0 +1,9 @@
+//! Tests of `syn_lower`, in a crate of their own: tests inside of a crate are proved together with it once more.
+#![tactic(auto)]
+
+#[cfg(test)]
+mod fits;
+#[cfg(test)]
+mod reader;
+#[cfg(test)]
+mod texts;
