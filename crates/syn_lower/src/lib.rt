@@ -6,7 +6,6 @@ mod fits;
 mod fn_pointer;
 mod grammar;
 mod kinds;
-pub mod laws;
 pub mod mac;
 pub mod path;
 mod pieces;
@@ -15,7 +14,6 @@ pub mod punctuated;
 mod qualified;
 pub mod read_back;
 pub mod readers;
-pub mod same;
 pub mod ty;
 
 pub use syn_leaf::{attr, block, lifetime, lit};

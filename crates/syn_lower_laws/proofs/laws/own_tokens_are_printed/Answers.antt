@@ -1,6 +1,6 @@
-use Rattle.syn_lower.proofs.OwnTokens.{paths_print, segments_print, macros_print, args_print, type_printed, arguments_printed, generic_printed, bound_printed}
+use Rattle.syn_lower_laws.proofs.OwnTokens.{paths_print, segments_print, macros_print, args_print, type_printed, arguments_printed, generic_printed, bound_printed}
 use Rattle.syn_lower.proofs.Prints.{ar-AngleBracketed, ge-AssocType, bo-Trait, ty-Macro, ty-Reference, ty-Ptr, ty-Slice, ty-Array, ty-Tuple, ty-Paren, ty-Never, ty-Infer, ty-ImplTrait, ty-TraitObject}
-use Rattle.syn_lower.proofs.laws.own_tokens_are_printed.Goals as goal
+use Rattle.syn_lower_laws.proofs.laws.own_tokens_are_printed.Goals as goal
 
 pub returns : goal.returns
 returns c = record {

@@ -5,9 +5,9 @@ use Rattle.syn_parts.proofs.Whole.{parts_read_back, parts_exact}
 use Rattle.syn_lower.specs.View as view
 use Rattle.syn_leaf.proofs.Backs.{stands, is_read}
 use Rattle.syn_lower.proofs.Fitting.{lifetimes_always}
-use Rattle.syn_lower.proofs.OwnTokens.{paths_print, segments_print, macros_print, type_printed, generic_printed, bound_printed}
+use Rattle.syn_lower_laws.proofs.OwnTokens.{paths_print, segments_print, macros_print, type_printed, generic_printed, bound_printed}
 use Rattle.syn_parts.proofs.Appends.{lifetimes_own-append}
-use Rattle.syn_lower.proofs.laws.parts_are_read_back.Goals as goal
+use Rattle.syn_lower_laws.proofs.laws.parts_are_read_back.Goals as goal
 
 pub returns : goal.returns
 returns c =

@@ -36,9 +36,9 @@ use Rattle.syn_lower.specs.contracts.path.ParenthesizedGenericArgumentsPartialEq
 use Rattle.syn_lower.proofs.Layers.{round_of-out, fn_ptr_of-out, type_path_of-out, type_of-Path, type_of-Macro, type_of-Reference, type_of-Ptr, type_of-Slice, type_of-Array, type_of-Tuple, type_of-Paren, type_of-Never, type_of-Infer, type_of-FnPtr, type_of-ImplTrait, type_of-TraitObject, generic_of-Lifetime, generic_of-Const, generic_of-AssocType, generic_of-Ty, arguments_of-AngleBracketed, arguments_of-Parenthesized, bound_of-Lifetime, bound_of-Trait, arguments_of-None, return_of-Default, return_of-Given}
 use Rattle.syn_parts.proofs.TreeEq.{type_eq, generic_eq, arguments_eq, return_eq, bound_eq}
 use Rattle.syn_leaf.proofs.Ties.{both_tie, on_tie, made_tie, option_tie, some_tie, pair_path, constant_tie, along, by_test, rank_end, rank_more, decides, decided_tie, one_test, is_compared}
-use Rattle.syn_lower.proofs.ListTies.{punctuated_tie}
+use Rattle.syn_lower_laws.proofs.ListTies.{punctuated_tie}
 use Rattle.syn_leaf.proofs.LeafTies.{toks_tie, lifetime_tie}
-use Rattle.syn_lower.proofs.PartTies.{lifetimes_tie, abi_tie, pointer_tie, never_tie, infer_tie, segment_tie, path_tie, macro_tie, type_macro_tie, trait_tie, reference_tie, ptr_tie, slice_tie, array_tie, tuple_tie, paren_tie, assoc_tie, qself_tie, qself_or_tie, arg_tie, impl_tie, object_tie, angle_tie, args_once, types_once, path_once}
+use Rattle.syn_lower_laws.proofs.PartTies.{lifetimes_tie, abi_tie, pointer_tie, never_tie, infer_tie, segment_tie, path_tie, macro_tie, type_macro_tie, trait_tie, reference_tie, ptr_tie, slice_tie, array_tie, tuple_tie, paren_tie, assoc_tie, qself_tie, qself_or_tie, arg_tie, impl_tie, object_tie, angle_tie, args_once, types_once, path_once}
 
 -- ---- the test of the trees
 

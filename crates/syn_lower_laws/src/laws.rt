@@ -16,12 +16,12 @@ ghost use Rattle.syn_parts.specs.Part.{pound_bang};
 ghost use Rattle.syn_parts.specs.declared.label.LitKind.TheVariants as kind;
 ghost use Rattle.syn_parts.specs.declared.label.PathStyle.TheVariants as style;
 
-use crate::mac::Macro;
-use crate::path::{
+use syn_lower::mac::Macro;
+use syn_lower::path::{
     AngleBracketedGenericArguments, AssocType, GenericArgument, ParenthesizedGenericArguments,
     Path, PathSegment,
 };
-use crate::ty::{
+use syn_lower::ty::{
     Abi, BareFnArg, BoundLifetimes, PointerMutability, ReturnType, TraitBound, Type, TypeArray,
     TypeFnPtr, TypeImplTrait, TypeInfer, TypeMacro, TypeNever, TypeParamBound, TypeParen, TypePtr,
     TypeReference, TypeSlice, TypeTraitObject, TypeTuple,

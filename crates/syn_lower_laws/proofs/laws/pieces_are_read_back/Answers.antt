@@ -3,10 +3,10 @@ use Rattle.syn_parts.specs.Part as part
 use Rattle.syn_parts.proofs.Whole.{parts_read_back}
 use Rattle.syn_lower.specs.View as view
 use Rattle.syn_leaf.proofs.Backs.{stands}
-use Rattle.syn_lower.proofs.KindBacks.{returns_print, mutabilities_print, angle_fits-is, angles_print, round_fits-is, assoc_fits-is, assocs_print, trait_fits-is, trait_stops-is, traits_print}
-use Rattle.syn_lower.proofs.OwnTokens.{arguments_printed, args_print}
+use Rattle.syn_lower_laws.proofs.KindBacks.{returns_print, mutabilities_print, angle_fits-is, angles_print, round_fits-is, assoc_fits-is, assocs_print, trait_fits-is, trait_stops-is, traits_print}
+use Rattle.syn_lower_laws.proofs.OwnTokens.{arguments_printed, args_print}
 use Rattle.syn_parts.proofs.Appends.{extern_append}
-use Rattle.syn_lower.proofs.laws.pieces_are_read_back.Goals as goal
+use Rattle.syn_lower_laws.proofs.laws.pieces_are_read_back.Goals as goal
 use Rattle.std.proofs.Common.{refl}
 
 pub returns : goal.returns

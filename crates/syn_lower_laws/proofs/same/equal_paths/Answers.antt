@@ -1,6 +1,6 @@
-use Rattle.syn_lower.proofs.PartTies.{path_tie, macro_tie, angle_tie}
-use Rattle.syn_lower.proofs.Sames.{args_tie, generic_tie}
-use Rattle.syn_lower.proofs.same.equal_paths.Goals as goal
+use Rattle.syn_lower_laws.proofs.PartTies.{path_tie, macro_tie, angle_tie}
+use Rattle.syn_lower_laws.proofs.Sames.{args_tie, generic_tie}
+use Rattle.syn_lower_laws.proofs.same.equal_paths.Goals as goal
 
 -- src/same.rt:52:1
 pub returns-clause-path : goal.returns-clause-path

@@ -67,7 +67,7 @@ use Rattle.syn_lower.specs.contracts.ty.TypeTraitObjectOfPartialEq.TheImpl as ob
 use Rattle.syn_lower.proofs.Layers.{type_of-Macro, type_of-Reference, type_of-Ptr, type_of-Slice, type_of-Array, type_of-Tuple, type_of-Paren, type_of-Never, type_of-Infer, type_of-ImplTrait, type_of-TraitObject}
 use Rattle.syn_leaf.proofs.Ties.{both_tie, on_tie, made_tie, option_tie, some_tie, text_tie, number_tie, pair_path, and_true_tie, constant_tie, along}
 use Rattle.syn_leaf.proofs.LeafTies.{toks_tie, lifetime_tie, delimiter_tie, lit_str_tie}
-use Rattle.syn_lower.proofs.ListTies.{punctuated_tie}
+use Rattle.syn_lower_laws.proofs.ListTies.{punctuated_tie}
 
 abbrev pub no_dict : Dict
 no_dict = impl [] tnil dnil

@@ -11,7 +11,7 @@ use Rattle.syn_lower.specs.View.{type_of, generic_of, arguments_of, bound_of, ro
 use Rattle.syn_lower.specs.Printed.{mutability_printed, angle_printed, assoc_printed, trait_printed}
 use Rattle.syn_lower.proofs.Makes.{arguments-AngleBracketed, arguments-Parenthesized, round-is, generic-AssocType, bound-Trait}
 use Rattle.syn_parts.proofs.Appends.{return_append}
-use Rattle.syn_lower.proofs.OwnTokens.{type_printed, arguments_printed, bound_printed}
+use Rattle.syn_lower_laws.proofs.OwnTokens.{type_printed, arguments_printed, bound_printed}
 use Rattle.syn_lower.proofs.Prints.{ty_toks, ar_toks, ge_toks, ar-AngleBracketed, bo-Trait}
 use Rattle.syn_lower.specs.declared.path.AngleBracketedGenericArgumentsOf.{AngleBracketedGenericArgumentsOf}
 use Rattle.syn_lower.specs.declared.path.ParenthesizedGenericArguments.{ParenthesizedGenericArguments}

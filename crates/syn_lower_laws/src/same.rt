@@ -6,12 +6,12 @@ ghost use Rattle.syn_lower.specs.View.{abi_of, angle_of, arg_of, arguments_of, a
 ghost use Rattle.syn_leaf.specs.declared.lit.Lit.TheVariants as lit;
 ghost use Rattle.syn_lower.specs.declared.ty.«Type».TheVariants as ty;
 
-use crate::mac::Macro;
-use crate::path::{
+use syn_lower::mac::Macro;
+use syn_lower::path::{
     AngleBracketedGenericArguments, AssocType, GenericArgument, ParenthesizedGenericArguments,
     Path, PathArguments, PathSegment, QSelf,
 };
-use crate::ty::{
+use syn_lower::ty::{
     Abi, BareFnArg, BoundLifetimes, PointerMutability, ReturnType, TraitBound, Type, TypeArray,
     TypeFnPtr, TypeImplTrait, TypeInfer, TypeMacro, TypeNever, TypeParamBound, TypeParen, TypePath,
     TypePtr, TypeReference, TypeSlice, TypeTraitObject, TypeTuple,

@@ -1,6 +1,6 @@
-use Rattle.syn_lower.proofs.PartTies.{type_macro_tie, reference_tie, ptr_tie, slice_tie, array_tie, tuple_tie, paren_tie, impl_tie, object_tie}
-use Rattle.syn_lower.proofs.Sames.{args_tie, type_tie, bound_tie}
-use Rattle.syn_lower.proofs.same.equal_types.Goals as goal
+use Rattle.syn_lower_laws.proofs.PartTies.{type_macro_tie, reference_tie, ptr_tie, slice_tie, array_tie, tuple_tie, paren_tie, impl_tie, object_tie}
+use Rattle.syn_lower_laws.proofs.Sames.{args_tie, type_tie, bound_tie}
+use Rattle.syn_lower_laws.proofs.same.equal_types.Goals as goal
 
 -- src/same.rt:65:1
 pub returns-clause-mac : goal.returns-clause-mac

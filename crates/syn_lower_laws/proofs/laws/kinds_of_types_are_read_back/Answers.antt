@@ -1,11 +1,11 @@
 use Rattle.std.proofs.Common.{true}
 use Rattle.syn_parts.specs.Part.{is_never, is_infer}
 use Rattle.syn_parts.specs.Kind.{is_reference, is_pointer, is_slice, is_array, is_tuple, is_paren, is_fn_pointer, is_impl_trait, is_trait_object}
-use Rattle.syn_lower.proofs.KindBacks.{kind_back}
-use Rattle.syn_lower.proofs.KindStops.{stops-Slice, stops-Array, stops-Tuple, stops-Paren, stops-Never, stops-Infer, is-Reference, is-Ptr, is-Slice, is-Array, is-Tuple, is-Paren, is-Never, is-Infer, is-FnPtr, is-ImplTrait, is-TraitObject}
+use Rattle.syn_lower_laws.proofs.KindBacks.{kind_back}
+use Rattle.syn_lower_laws.proofs.KindStops.{stops-Slice, stops-Array, stops-Tuple, stops-Paren, stops-Never, stops-Infer, is-Reference, is-Ptr, is-Slice, is-Array, is-Tuple, is-Paren, is-Never, is-Infer, is-FnPtr, is-ImplTrait, is-TraitObject}
 use Rattle.syn_lower.proofs.Fitting.{fits-Never, fits-Infer}
 use Rattle.syn_lower.proofs.Prints.{ty-Reference, ty-Ptr, ty-Slice, ty-Array, ty-Tuple, ty-Paren, ty-Never, ty-Infer, ty-FnPtr, ty-ImplTrait, ty-TraitObject}
-use Rattle.syn_lower.proofs.laws.kinds_of_types_are_read_back.Goals as goal
+use Rattle.syn_lower_laws.proofs.laws.kinds_of_types_are_read_back.Goals as goal
 
 pub returns : goal.returns
 returns c = record {
