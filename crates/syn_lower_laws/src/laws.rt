@@ -23,8 +23,8 @@ use syn_lower::path::{
 };
 use syn_lower::ty::{
     Abi, BareFnArg, BoundLifetimes, PointerMutability, ReturnType, TraitBound, Type, TypeArray,
-    TypeFnPtr, TypeImplTrait, TypeInfer, TypeMacro, TypeNever, TypeParamBound, TypeParen, TypePtr,
-    TypeReference, TypeSlice, TypeTraitObject, TypeTuple,
+    TypeFnPtr, TypeImplTrait, TypeInfer, TypeMacro, TypeNever, TypeParamBound, TypeParen, TypePath,
+    TypePtr, TypeReference, TypeSlice, TypeTraitObject, TypeTuple,
 };
 use syn_tokens::buffer::{Parse, ToTokens};
 
@@ -82,6 +82,8 @@ pub fn pieces_are_read_back()
 
 /// The same of each kind of type, as a struct.
 pub fn kinds_of_types_are_read_back()
+    ensures paths { IsReadBack (λ x. fits.qpath_fits style.Type (view.qself_or view.type_of x.qself, view.path_of view.arguments_of x.path)) (λ x. fits.path_stops style.Type (view.path_of view.arguments_of x.path)) ⟦<TypePath as ToTokens>⟧.printed ⟦<TypePath as Parse>⟧.seen ⟦<TypePath as Parse>⟧.spells }
+    ensures macros { IsReadBack (λ x. fits.macro_fits (view.macro_of view.arguments_of x.mac)) closed ⟦<TypeMacro as ToTokens>⟧.printed ⟦<TypeMacro as Parse>⟧.seen ⟦<TypeMacro as Parse>⟧.spells }
     ensures references { IsReadBack (λ x. fits.type_fits true (view.type_of (ty.Reference x))) (λ x. fits.type_stops true (view.type_of (ty.Reference x))) ⟦<TypeReference as ToTokens>⟧.printed ⟦<TypeReference as Parse>⟧.seen ⟦<TypeReference as Parse>⟧.spells }
     ensures pointers { IsReadBack (λ x. fits.type_fits true (view.type_of (ty.Ptr x))) (λ x. fits.type_stops true (view.type_of (ty.Ptr x))) ⟦<TypePtr as ToTokens>⟧.printed ⟦<TypePtr as Parse>⟧.seen ⟦<TypePtr as Parse>⟧.spells }
     ensures slices { IsReadBack (λ x. fits.type_fits true (view.type_of (ty.Slice x))) closed ⟦<TypeSlice as ToTokens>⟧.printed ⟦<TypeSlice as Parse>⟧.seen ⟦<TypeSlice as Parse>⟧.spells }

@@ -1,4 +1,12 @@
-use Rattle.std.proofs.Common.{true}
+use Rattle.std.proofs.Common.{true, refl, ap, ◌∙◌}
+use Rattle.syn_parts.specs.declared.label.PathStyle.TheVariants as style
+use Rattle.syn_parts.specs.Own.{type_own}
+use Rattle.syn_parts.specs.Part as part
+use Rattle.syn_parts.proofs.Whole.{parts_read_back}
+use Rattle.syn_leaf.proofs.Backs.{stands}
+use Rattle.syn_lower.specs.View.{type_of, type_path_of, path_of, arguments_of, qself_or, macro_of}
+use Rattle.syn_lower.proofs.Makes.{type_path-is}
+use Rattle.syn_lower_laws.proofs.OwnTokens.{type_printed, macros_print}
 use Rattle.syn_parts.specs.Part.{is_never, is_infer}
 use Rattle.syn_parts.specs.Kind.{is_reference, is_pointer, is_slice, is_array, is_tuple, is_paren, is_fn_pointer, is_impl_trait, is_trait_object}
 use Rattle.syn_lower_laws.proofs.KindBacks.{kind_back}
@@ -9,6 +17,8 @@ use Rattle.syn_lower_laws.proofs.laws.kinds_of_types_are_read_back.Goals as goal
 
 pub returns : goal.returns
 returns c = record {
+  paths = λ x rest f s. stands (part.qpath part.type style.Type) _ _ _ rest (type_printed (type_path_of x) _ rest refl ∙ ap (λ y. type_own y rest) (type_path-is x)) (parts_read_back.qualified_paths style.Type (qself_or type_of x.qself, path_of arguments_of x.path) rest f s);
+  macros = λ x rest f s. stands part.macro _ _ _ rest (macros_print x.mac rest) (parts_read_back.macros (macro_of arguments_of x.mac) rest f);
   references = λ x rest f s. kind_back is_reference _ _ rest (is-Reference x) (ty-Reference x) f s;
   pointers = λ x rest f s. kind_back is_pointer _ _ rest (is-Ptr x) (ty-Ptr x) f s;
   slices = λ x rest f s. kind_back is_slice _ _ rest (is-Slice x) (ty-Slice x) f (stops-Slice x rest);
