@@ -1,7 +1,7 @@
 //! The readers of types of one kind.
 #![tactic(auto, using(syn_parts::proofs::Readable::readables))]
 
-ghost use Rattle.std.specs.Prelude.{◌≡◌, true, false, MatchOption, Some};
+ghost use Rattle.std.specs.Prelude.{◌≡◌, true, false, IfOk, IfErr, Some};
 ghost use Rattle.syn_parts.specs.Kind as kinds;
 ghost use Rattle.syn_lower.specs.View.{arguments_of, macro_of, path_of, qself_or, type_of};
 ghost use Rattle.syn_lower.specs.declared.ty.«Type».TheVariants as variant;
@@ -31,9 +31,10 @@ trait Kind {
 
     ghost is: { TypeTree → Bool };
 
-    /// The struct in a type, if it is of this kind.
-    fn of(ty: Type) -> Option<Self>
-        ensures { MatchOption result (is (type_of ty) ≡ false) (λ x. (is (tree x) ≡ true) × (tree x ≡ type_of ty)) };
+    /// The struct in a type of this kind; any other type comes back.
+    fn of(ty: Type) -> std::result::Result<Self, Type>
+        ensures kind { IfOk result (λ x. (is (tree x) ≡ true) × (tree x ≡ type_of ty)) }
+        ensures other { IfErr result (λ _. is (type_of ty) ≡ false) };
 }
 
 /// What is read of a struct that holds the types of one kind.
@@ -54,8 +55,8 @@ impl<T: Kind> ReadByForm for OfKind<T> {
         let other = input.error(ErrorKind::ExpectedPart(Part::Type));
         let ty = whole_type(input, true)?;
         match T::of(ty) {
-            Some(x) => Ok(OfKind(x)),
-            None => Err(other),
+            Ok(x) => Ok(OfKind(x)),
+            Err(_) => Err(other),
         }
     }
 }
@@ -66,10 +67,10 @@ impl Kind for TypeReference {
 
     ghost is = { kinds.is_reference };
 
-    fn of(ty: Type) -> Option<Self> {
+    fn of(ty: Type) -> std::result::Result<Self, Type> {
         match ty {
-            Type::Reference(x) => Some(x),
-            _ => None,
+            Type::Reference(x) => Ok(x),
+            other => Err(other),
         }
     }
 }
@@ -100,10 +101,10 @@ impl Kind for TypePtr {
 
     ghost is = { kinds.is_pointer };
 
-    fn of(ty: Type) -> Option<Self> {
+    fn of(ty: Type) -> std::result::Result<Self, Type> {
         match ty {
-            Type::Ptr(x) => Some(x),
-            _ => None,
+            Type::Ptr(x) => Ok(x),
+            other => Err(other),
         }
     }
 }
@@ -134,10 +135,10 @@ impl Kind for TypeSlice {
 
     ghost is = { kinds.is_slice };
 
-    fn of(ty: Type) -> Option<Self> {
+    fn of(ty: Type) -> std::result::Result<Self, Type> {
         match ty {
-            Type::Slice(x) => Some(x),
-            _ => None,
+            Type::Slice(x) => Ok(x),
+            other => Err(other),
         }
     }
 }
@@ -168,10 +169,10 @@ impl Kind for TypeArray {
 
     ghost is = { kinds.is_array };
 
-    fn of(ty: Type) -> Option<Self> {
+    fn of(ty: Type) -> std::result::Result<Self, Type> {
         match ty {
-            Type::Array(x) => Some(x),
-            _ => None,
+            Type::Array(x) => Ok(x),
+            other => Err(other),
         }
     }
 }
@@ -202,10 +203,10 @@ impl Kind for TypeTuple {
 
     ghost is = { kinds.is_tuple };
 
-    fn of(ty: Type) -> Option<Self> {
+    fn of(ty: Type) -> std::result::Result<Self, Type> {
         match ty {
-            Type::Tuple(x) => Some(x),
-            _ => None,
+            Type::Tuple(x) => Ok(x),
+            other => Err(other),
         }
     }
 }
@@ -236,10 +237,10 @@ impl Kind for TypeParen {
 
     ghost is = { kinds.is_paren };
 
-    fn of(ty: Type) -> Option<Self> {
+    fn of(ty: Type) -> std::result::Result<Self, Type> {
         match ty {
-            Type::Paren(x) => Some(x),
-            _ => None,
+            Type::Paren(x) => Ok(x),
+            other => Err(other),
         }
     }
 }
@@ -270,10 +271,10 @@ impl Kind for TypeNever {
 
     ghost is = { part.is_never };
 
-    fn of(ty: Type) -> Option<Self> {
+    fn of(ty: Type) -> std::result::Result<Self, Type> {
         match ty {
-            Type::Never(x) => Some(x),
-            _ => None,
+            Type::Never(x) => Ok(x),
+            other => Err(other),
         }
     }
 }
@@ -304,10 +305,10 @@ impl Kind for TypeInfer {
 
     ghost is = { part.is_infer };
 
-    fn of(ty: Type) -> Option<Self> {
+    fn of(ty: Type) -> std::result::Result<Self, Type> {
         match ty {
-            Type::Infer(x) => Some(x),
-            _ => None,
+            Type::Infer(x) => Ok(x),
+            other => Err(other),
         }
     }
 }
@@ -338,10 +339,10 @@ impl Kind for TypeFnPtr {
 
     ghost is = { kinds.is_fn_pointer };
 
-    fn of(ty: Type) -> Option<Self> {
+    fn of(ty: Type) -> std::result::Result<Self, Type> {
         match ty {
-            Type::FnPtr(x) => Some(x),
-            _ => None,
+            Type::FnPtr(x) => Ok(x),
+            other => Err(other),
         }
     }
 }
@@ -372,10 +373,10 @@ impl Kind for TypeImplTrait {
 
     ghost is = { kinds.is_impl_trait };
 
-    fn of(ty: Type) -> Option<Self> {
+    fn of(ty: Type) -> std::result::Result<Self, Type> {
         match ty {
-            Type::ImplTrait(x) => Some(x),
-            _ => None,
+            Type::ImplTrait(x) => Ok(x),
+            other => Err(other),
         }
     }
 }
@@ -406,10 +407,10 @@ impl Kind for TypeTraitObject {
 
     ghost is = { kinds.is_trait_object };
 
-    fn of(ty: Type) -> Option<Self> {
+    fn of(ty: Type) -> std::result::Result<Self, Type> {
         match ty {
-            Type::TraitObject(x) => Some(x),
-            _ => None,
+            Type::TraitObject(x) => Ok(x),
+            other => Err(other),
         }
     }
 }
