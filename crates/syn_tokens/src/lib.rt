@@ -18,6 +18,3 @@ pub mod tree;
 pub mod whole;
 
 pub use syn_lexer::lexeme::{Delimiter, Spacing};
-
-#[cfg(test)]
-mod tests;

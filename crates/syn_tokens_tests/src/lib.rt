@@ -1,0 +1,21 @@
+//! Tests of `syn_tokens`, in a crate of their own: tests inside of a crate are proved together with it once more.
+#![tactic(auto)]
+
+#[cfg(test)]
+mod equality;
+#[cfg(test)]
+mod groups;
+#[cfg(test)]
+mod lexing;
+#[cfg(test)]
+mod places;
+#[cfg(test)]
+mod readers;
+#[cfg(test)]
+mod refusals;
+#[cfg(test)]
+mod spellings;
+#[cfg(test)]
+mod streams;
+#[cfg(test)]
+mod told;
