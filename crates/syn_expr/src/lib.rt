@@ -16,6 +16,4 @@ pub mod path;
 pub mod precedence;
 pub mod print;
 pub mod punctuated;
-#[cfg(test)]
-mod tests;
 mod tokens;

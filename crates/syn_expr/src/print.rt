@@ -376,6 +376,3 @@ impl ToTokens for ExprBinary {
         Ok(())
     }
 }
-
-#[cfg(test)]
-mod tests;

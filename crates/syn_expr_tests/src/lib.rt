@@ -1,0 +1,11 @@
+//! Tests of `syn_expr`, in a crate of their own: tests inside of a crate are proved together with it once more.
+#![tactic(auto)]
+
+#[cfg(test)]
+mod operators;
+#[cfg(test)]
+mod printing;
+#[cfg(test)]
+mod reading;
+#[cfg(test)]
+mod texts;
