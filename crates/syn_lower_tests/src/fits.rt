@@ -321,6 +321,9 @@ fn type_of_words(alloc: Global, text: &str) -> Result<String, Error> {
 /// A path of these words with `::` behind it.
 fn path_to_nothing(alloc: Global, text: &str) -> Result<String, Error> {
     let mut path = path_of(alloc, text)?;
+    if path.segments.empty_or_trailing() {
+        return words(alloc, "no segment");
+    }
     path.segments.push_punct(Default::default())?;
     words(alloc, styles_of(&path))
 }
