@@ -22,13 +22,14 @@ use Rattle.syn_parts.specs.Tree as t
 use Rattle.syn_parts.specs.Tree.{TypeTree, Segments, SegmentTree, ArgumentsTree, GenericTree, ReturnTree, Bounds, BoundTree, FnArgTree}
 use Rattle.syn_parts.specs.Own.{colon2_before, no_more_types, no_more_generics, no_more_args, no_more_bounds, no_more_segments, one_less, at_most, count_segments}
 use Rattle.syn_parts.specs.Fits.{segment_fits, arg_fits, is_string, is_const, macro_fits, path_fits, ends_well, is_none, lifetimes_fit, fits_if, is_one_type, is_one_bound, bare_segments, style_at, takes_angle, takes_round, is_macro_delimiter, position_fits, name_stops, type_stops, mac_stops, segments_stop, arguments_stop, return_stops, bounds_stop, bound_stops, goes_over, type_fits, types_fit, segments_fit, arguments_fit, generics_fit, generic_fits, return_fits, args_fit, bounds_fit, bound_fits, qpath_fits, output_fits}
-use Rattle.syn_lower.specs.Punct.{is_one}
+use Rattle.syn_twig.specs.Punct.{is_one}
 use Rattle.syn_lower.specs.ReadBack.{inner_fits, rows_fit, path_fits_inside, qpath_fits_by}
 use Rattle.syn_lower.specs.View.{values, trails, macro_of, last_of, is_some_pair, mapped, lifetime_of, lifetimes_of, abi_of, arg_of, delimiter_of, segment_of, path_of, qself_or, type_of, generic_of, arguments_of, return_of, bound_of, round_of, fn_ptr_of}
 use Rattle.syn_lower.proofs.Makes.{type-Path, type-Macro, type-Reference, type-Ptr, type-Slice, type-Array, type-Tuple, type-Paren, type-Never, type-Infer, type-FnPtr, type-ImplTrait, type-TraitObject, type_path-is, fn_ptr-is, round-is, arguments-None, arguments-AngleBracketed, arguments-Parenthesized, output-Default, output-Given, bound-Lifetime, bound-Trait}
 use Rattle.syn_lower.proofs.Prints.{one_less-is}
+use Rattle.syn_twig.proofs.Fitting.{holds}
 use Rattle.syn_leaf.specs.declared.lifetime.Lifetime.{Lifetime}
-use Rattle.syn_lower.specs.declared.punctuated.Punctuated.{Punctuated}
+use Rattle.syn_twig.specs.declared.punctuated.Punctuated.{Punctuated}
 use Rattle.syn_lower.specs.declared.mac.MacroOf.{MacroOf}
 use Rattle.syn_leaf.specs.declared.mac.MacroDelimiter.{MacroDelimiter}
 use Rattle.syn_leaf.specs.declared.mac.MacroDelimiter.TheVariants as mac
@@ -48,7 +49,7 @@ use Rattle.syn_lower.specs.declared.ty.TypePath.{TypePath}
 use Rattle.syn_lower.specs.declared.ty.«Type».{«Type»}
 use Rattle.syn_lower.specs.declared.ty.«Type».TheVariants as ty
 use Rattle.syn_lower.specs.declared.ty.BareFnArgOf.{BareFnArgOf}
-use Rattle.syn_lower.specs.declared.ty.BoundLifetimes.{BoundLifetimes}
+use Rattle.syn_twig.specs.declared.ty.BoundLifetimes.{BoundLifetimes}
 use Rattle.syn_lower.specs.declared.ty.TraitBoundOf.{TraitBoundOf}
 use Rattle.syn_lower.specs.declared.ty.TypeMacroOf.{TypeMacroOf}
 use Rattle.syn_lower.specs.declared.ty.TypeTupleOf.{TypeTupleOf}
@@ -61,8 +62,6 @@ use Rattle.syn_lower.specs.declared.ty.TypeReferenceOf.{TypeReferenceOf}
 use Rattle.syn_lower.specs.declared.ty.TypePtrOf.{TypePtrOf}
 use Rattle.syn_lower.specs.declared.ty.TypeImplTraitOf.{TypeImplTraitOf}
 use Rattle.syn_lower.specs.declared.ty.TypeTraitObjectOf.{TypeTraitObjectOf}
-
-pub ruleset lists = (list_all-append, map-append)
 
 -- ---- lists
 
@@ -116,20 +115,6 @@ shown_delimiter : (d : MacroDelimiter) → is_macro_delimiter (delimiter_of d) �
 shown_delimiter (mac.Paren x) = refl
 shown_delimiter (mac.Brace x) = refl
 shown_delimiter (mac.Bracket x) = refl
-
--- the last value is there where no punct ends the list and it is not empty
-holds : {A P : Type 0} (none : List A → Bool) → none [] ≡ true → ((x : A) (xs : List A) → none (x ∷ xs) ≡ false) → (p : Punctuated A P) (b : Bool) → (not (trails p) && (not (none (values p)) && b)) ≡ (is_some p.last && b)
-unfolding values trails
-holds {A} {P} none n h p b = by p.inner.items p.last
-  where
-    by : (xs : List (A × P)) (o : Option (Box A Global)) → (not (is_some_pair xs && not (is_some o)) && (not (none (map (λ q. q.0) xs ++ last_of o)) && b)) ≡ (is_some o && b)
-    by [] None = ap (λ c. not c && b) n
-    by [] (Some x) = ap (λ c. not c && b) (h x.value [])
-    by (q ∷ xs) None = refl
-    by (q ∷ xs) (Some x) = ap (λ c. not c && b) (h q.0 _)
-
-pub bounds_hold : {A P : Type 0} (p : Punctuated A P) (b : Bool) → (not (trails p) && (not (is_none (values p)) && b)) ≡ (is_some p.last && b)
-bounds_hold p b = holds is_none refl (λ x xs. refl) p b
 
 segments_hold : {A P : Type 0} (f : A → SegmentTree) (p : Punctuated A P) (b : Bool) → (not (trails p) && (not (no_more_segments (t.segments_of (map f (values p)))) && b)) ≡ (is_some p.last && b)
 segments_hold f p b = holds (λ xs. no_more_segments (t.segments_of (map f xs))) refl (λ x xs. refl) p b
@@ -451,21 +436,6 @@ fits-TraitObject b x = rw (type-TraitObject x) (bounds_kind b (trails x.bounds) 
 
 pub ruleset kinds = (fits-None, fits-AngleBracketed, fits-Parenthesized, fits-round, fits-Lifetime, fits-Trait, fits-Path, fits-Macro, fits-Reference, fits-Ptr, fits-Slice, fits-Array, fits-Tuple, fits-Paren, fits-Never, fits-Infer, fits-fn_ptr, fits-FnPtr, fits-ImplTrait, fits-TraitObject)
 
-pub is_const-many : (l : List Tok) → 3 ≤ length l → is_const l ≡ false
-is_const-many [] h = absurd (omega arith)
-is_const-many (a ∷ []) h = absurd (omega arith)
-is_const-many (a ∷ b ∷ []) h = absurd (omega arith)
-is_const-many (ident w ∷ b ∷ d ∷ l) h = refl
-is_const-many (punct c s ∷ ident w ∷ d ∷ l) h = refl
-is_const-many (punct c s ∷ punct e r ∷ d ∷ l) h = refl
-is_const-many (punct c s ∷ literal w ∷ d ∷ l) h = refl
-is_const-many (punct c s ∷ group g i ∷ d ∷ l) h = refl
-is_const-many (literal w ∷ b ∷ d ∷ l) h = refl
-is_const-many (group del.Parenthesis i ∷ b ∷ d ∷ l) h = refl
-is_const-many (group del.Brace i ∷ b ∷ d ∷ l) h = refl
-is_const-many (group del.Bracket i ∷ b ∷ d ∷ l) h = refl
-is_const-many (group del.None i ∷ b ∷ d ∷ l) h = refl
-
 pub path_fits-some : {A : Type 0} (f : A → ArgumentsTree) (n : ℕ) (s : PathStyle) (x : PathOf A) (b : Box (PathSegmentOf A) Global) → x.segments.last ≡ Some b → path_fits_inside n s (path_of f x) ≡ rows_fit (segment_of f) n s x.segments.inner.items b.value
 path_fits-some f n s x b h =
     segments_hold (segment_of f) x.segments _ ∙ ap (λ o. is_some o && segments_fit n s (t.segments_of (map (segment_of f) (values x.segments)))) h
@@ -473,10 +443,6 @@ path_fits-some f n s x b h =
 
 pub path_fits-none : {A : Type 0} (f : A → ArgumentsTree) (n : ℕ) (s : PathStyle) (x : PathOf A) → x.segments.last ≡ None → path_fits_inside n s (path_of f x) ≡ false
 path_fits-none f n s x h = segments_hold (segment_of f) x.segments _ ∙ ap (λ o. is_some o && segments_fit n s (t.segments_of (map (segment_of f) (values x.segments)))) h
-
-pub ruleset consts = (is_const-many, length-toks_of)
-
-pub ruleset bounds = (bounds_hold)
 
 pub ruleset paths = (path_fits-some, path_fits-none)
 

@@ -34,16 +34,6 @@ generics_start = loops.start comma gt.at (generic type) comma_present (λ k. gen
 
 pub ruleset generics = (map-one, generics_turn, generics_start)
 
-pub lifetimes_turn : (found : List Text) (l : List Tok) → gathered comma gt.at lifetime found l
-    ≡ cond (comma.at l) (cond (gt.at (drop comma.count l)) (Some ((found, true), drop comma.count l)) (and_then (lifetime.reads (drop comma.count l)) (λ x n. gathered comma gt.at lifetime (found ++ x ∷ []) n))) (Some ((found, false), l))
-lifetimes_turn = loops.turn comma gt.at lifetime comma_present (λ k. lifetime_alike)
-
-pub lifetimes_start : (l : List Tok) → (listed comma gt.at lifetime).reads l
-    ≡ cond (gt.at l) (Some (([], false), l)) (and_then (lifetime.reads l) (λ x n. gathered comma gt.at lifetime (x ∷ []) n))
-lifetimes_start = loops.start comma gt.at lifetime comma_present (λ k. lifetime_alike)
-
-pub ruleset lifetimes = (map-one, lifetimes_turn, lifetimes_start)
-
 pub bounds_turn : (found : List BoundTree) (l : List Tok) → gathered_more plus (bound type) found l
     ≡ cond (plus.at l) (and_then ((bound type).reads (drop plus.count l)) (λ x n. gathered_more plus (bound type) (found ++ x ∷ []) n)) (Some (found, l))
 bounds_turn = loops.more_turn plus (bound type) plus_present (λ k. weaker (bound_alike types_alike))

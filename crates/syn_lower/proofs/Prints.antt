@@ -16,8 +16,8 @@ use Rattle.syn_lower.specs.View.{values, trails, last_of, is_some_pair, lifetime
 use Rattle.syn_lower.specs.Printed.{option_printed, pairs_printed, punctuated_printed, comma, colon2, plus, word, segment_printed, path_printed, angle_printed, assoc_printed, macro_printed, reference_printed, mutability_printed, ptr_printed, slice_printed, array_printed, tuple_printed, paren_printed, impl_printed, object_printed, arg_printed, trait_printed, round_printed, fn_head_printed, fn_ptr_printed, closed_printed, inside_printed, qself_end_printed, qualified_printed, qpath_printed}
 use Rattle.syn_lower.proofs.Layers.{generic_of-Lifetime, generic_of-Const, generic_of-AssocType, generic_of-Ty, arguments_of-None, arguments_of-AngleBracketed, arguments_of-Parenthesized, return_of-Default, return_of-Given, bound_of-Lifetime, bound_of-Trait, round_of-out, fn_ptr_of-out, type_path_of-out, type_of-Path, type_of-Macro, type_of-Reference, type_of-Ptr, type_of-Slice, type_of-Array, type_of-Tuple, type_of-Paren, type_of-Never, type_of-Infer, type_of-FnPtr, type_of-ImplTrait, type_of-TraitObject}
 use Rattle.syn_parts.proofs.Appends.{type_append, arguments_append, generic_append, bound_append, lifetimes_own-append, extern_append}
-use Rattle.syn_lower.proofs.Owns.{Appends, listed_own-punctuated}
-use Rattle.syn_lower.specs.declared.punctuated.Punctuated.{Punctuated}
+use Rattle.syn_twig.proofs.Owns.{Appends, listed_own-punctuated}
+use Rattle.syn_twig.specs.declared.punctuated.Punctuated.{Punctuated}
 use Rattle.syn_leaf.specs.declared.lifetime.Lifetime.{Lifetime}
 use Rattle.syn_lower.specs.declared.path.PathOf.{PathOf}
 use Rattle.syn_lower.specs.declared.path.PathSegmentOf.{PathSegmentOf}
@@ -38,12 +38,12 @@ use Rattle.syn_lower.specs.declared.ty.TypePath.{TypePath}
 use Rattle.syn_lower.specs.declared.ty.«Type».{«Type»}
 use Rattle.syn_lower.specs.declared.ty.«Type».TheVariants as ty
 use Rattle.syn_lower.specs.declared.ty.BareFnArgOf.{BareFnArgOf}
-use Rattle.syn_lower.specs.declared.ty.BoundLifetimes.{BoundLifetimes}
-use Rattle.syn_lower.specs.declared.ty.Abi.{Abi}
+use Rattle.syn_twig.specs.declared.ty.BoundLifetimes.{BoundLifetimes}
+use Rattle.syn_twig.specs.declared.ty.Abi.{Abi}
 use Rattle.syn_lower.specs.declared.ty.TypeNever.{TypeNever}
 use Rattle.syn_lower.specs.declared.ty.TypeInfer.{TypeInfer}
-use Rattle.syn_lower.specs.declared.ty.PointerMutability.{PointerMutability}
-use Rattle.syn_lower.specs.declared.ty.PointerMutability.TheVariants as pointer
+use Rattle.syn_twig.specs.declared.ty.PointerMutability.{PointerMutability}
+use Rattle.syn_twig.specs.declared.ty.PointerMutability.TheVariants as pointer
 use Rattle.syn_lower.specs.declared.ty.TraitBoundOf.{TraitBoundOf}
 use Rattle.syn_lower.specs.declared.ty.TypeMacroOf.{TypeMacroOf}
 use Rattle.syn_lower.specs.declared.ty.TypeReferenceOf.{TypeReferenceOf}

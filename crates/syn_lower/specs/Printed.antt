@@ -6,14 +6,16 @@ use Rattle.syn_lexer.specs.declared.lexeme.Delimiter.{Delimiter}
 use Rattle.syn_lexer.specs.declared.lexeme.Delimiter.TheVariants as del
 use Rattle.syn_tokens.specs.Tok.{Tok, ident, group, inside}
 use Rattle.syn_parts.specs.Own.{alone, joint, at_most, lifetime_own, lifetimes_own, extern_own}
+pub use Rattle.syn_twig.specs.Printed.{pairs_printed, comma, colon2, plus, word, mutability_printed}
+unfoldable pub use Rattle.syn_twig.specs.Printed.{option_printed, punctuated_printed}
 use Rattle.syn_lower.specs.View.{values, lifetime_of, lifetimes_of, abi_of, delimiter_of}
 use Rattle.syn_lower.specs.declared.ty.«Type».{«Type»}
-use Rattle.syn_lower.specs.declared.ty.Abi.{Abi}
-use Rattle.syn_lower.specs.declared.ty.BoundLifetimes.{BoundLifetimes}
+use Rattle.syn_twig.specs.declared.ty.Abi.{Abi}
+use Rattle.syn_twig.specs.declared.ty.BoundLifetimes.{BoundLifetimes}
 use Rattle.syn_lower.specs.declared.ty.ReturnType.{ReturnType}
 use Rattle.syn_lower.specs.declared.ty.TypeFnPtr.{TypeFnPtr}
 use Rattle.syn_lower.specs.declared.path.QSelfOf.{QSelfOf}
-use Rattle.syn_lower.specs.declared.punctuated.Punctuated.{Punctuated}
+use Rattle.syn_twig.specs.declared.punctuated.Punctuated.{Punctuated}
 use Rattle.syn_lower.specs.declared.mac.MacroOf.{MacroOf}
 use Rattle.syn_lower.specs.declared.path.PathOf.{PathOf}
 use Rattle.syn_lower.specs.declared.path.PathSegmentOf.{PathSegmentOf}
@@ -21,8 +23,8 @@ use Rattle.syn_lower.specs.declared.path.AngleBracketedGenericArgumentsOf.{Angle
 use Rattle.syn_lower.specs.declared.path.AssocTypeOf.{AssocTypeOf}
 use Rattle.syn_lower.specs.declared.ty.TypeReferenceOf.{TypeReferenceOf}
 use Rattle.syn_lower.specs.declared.ty.TypePtrOf.{TypePtrOf}
-use Rattle.syn_lower.specs.declared.ty.PointerMutability.{PointerMutability}
-use Rattle.syn_lower.specs.declared.ty.PointerMutability.TheVariants as pointer
+use Rattle.syn_twig.specs.declared.ty.PointerMutability.{PointerMutability}
+use Rattle.syn_twig.specs.declared.ty.PointerMutability.TheVariants as pointer
 use Rattle.syn_lower.specs.declared.ty.TypeSliceOf.{TypeSliceOf}
 use Rattle.syn_lower.specs.declared.ty.TypeArrayOf.{TypeArrayOf}
 use Rattle.syn_lower.specs.declared.ty.TypeTupleOf.{TypeTupleOf}
@@ -31,30 +33,6 @@ use Rattle.syn_lower.specs.declared.ty.TypeImplTraitOf.{TypeImplTraitOf}
 use Rattle.syn_lower.specs.declared.ty.TypeTraitObjectOf.{TypeTraitObjectOf}
 use Rattle.syn_lower.specs.declared.ty.BareFnArgOf.{BareFnArgOf}
 use Rattle.syn_lower.specs.declared.ty.TraitBoundOf.{TraitBoundOf}
-
-unfoldable pub option_printed : {A : Type 0} → (A → List Tok) → Option A → List Tok
-option_printed f None = []
-option_printed f (Some x) = f x
-
-abbrev pub pairs_printed : {A P : Type 0} → (A → List Tok) → (P → List Tok) → List (A × P) → List Tok
-pairs_printed f g [] = []
-pairs_printed f g (q ∷ qs) = (f q.0 ++ g q.1) ++ pairs_printed f g qs
-
--- values and puncts in turn
-unfoldable pub punctuated_printed : {A P : Type 0} → (A → List Tok) → (P → List Tok) → Punctuated A P → List Tok
-punctuated_printed f g p = pairs_printed f g p.inner.items ++ option_printed (λ b. f b.value) p.last
-
-abbrev pub comma : {S : Type 0} → S → List Tok
-comma s = alone 44 ∷ []
-
-abbrev pub colon2 : {S : Type 0} → S → List Tok
-colon2 s = joint 58 ∷ alone 58 ∷ []
-
-abbrev pub plus : {S : Type 0} → S → List Tok
-plus s = alone 43 ∷ []
-
-abbrev pub word : {S : Type 0} → List ℕ → S → List Tok
-word w s = ident w ∷ []
 
 abbrev pub grouped : Delimiter → List Tok → List Tok
 grouped d ts = group d (inside ts) ∷ []
@@ -81,10 +59,6 @@ macro_printed f x = path_printed f x.path ++ alone 33 ∷ grouped (delimiter_of 
 abbrev pub reference_printed : {T : Type 0} → (T → List Tok) → TypeReferenceOf T → List Tok
 reference_printed f x =
     alone 38 ∷ (option_printed (λ a. lifetime_own (lifetime_of a) []) x.lifetime ++ (option_printed (word (codes "mut")) x.mutability ++ f x.elem.value))
-
-abbrev pub mutability_printed : PointerMutability → List Tok
-mutability_printed (pointer.Const c) = ident (codes "const") ∷ []
-mutability_printed (pointer.Mut m) = ident (codes "mut") ∷ []
 
 abbrev pub ptr_printed : {T : Type 0} → (T → List Tok) → TypePtrOf T → List Tok
 ptr_printed f x = alone 42 ∷ (mutability_printed x.mutability ++ f x.elem.value)

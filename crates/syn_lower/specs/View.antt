@@ -6,8 +6,9 @@ use Rattle.syn_parts.specs.Text.{Text}
 use Rattle.syn_parts.specs.Tree as t
 use Rattle.syn_parts.specs.Tree.{LitTree, LifetimesTree, TypeTree, SegmentTree, PathTree, FnArgTree, ArgumentsTree, GenericTree, ReturnTree, BoundTree, QSelfTree}
 use Rattle.syn_parts.specs.Part.{MacroTree}
-pub use Rattle.syn_leaf.specs.View.{mapped, lifetime_of, is_inner, attribute_of, signed, lit_str_of, lit_int_of, lit_float_of, lit_of, delimiter_of}
-use Rattle.syn_lower.specs.declared.punctuated.Punctuated.{Punctuated}
+pub use Rattle.syn_twig.specs.View.{mapped, lifetime_of, is_inner, attribute_of, signed, lit_str_of, lit_int_of, lit_float_of, lit_of, delimiter_of, last_of, is_some_pair, lifetimes_of, abi_of, is_mut}
+unfoldable pub use Rattle.syn_twig.specs.View.{values, trails}
+use Rattle.syn_twig.specs.declared.punctuated.Punctuated.{Punctuated}
 use Rattle.syn_lower.specs.declared.mac.MacroOf.{MacroOf}
 use Rattle.syn_lower.specs.declared.path.PathOf.{PathOf}
 use Rattle.syn_lower.specs.declared.path.PathSegmentOf.{PathSegmentOf}
@@ -17,10 +18,10 @@ use Rattle.syn_lower.specs.declared.path.ParenthesizedGenericArguments.{Parenthe
 use Rattle.syn_lower.specs.declared.path.GenericArgument.{GenericArgument, fold-GenericArgument}
 use Rattle.syn_lower.specs.declared.path.AssocTypeOf.{AssocTypeOf}
 use Rattle.syn_lower.specs.declared.path.QSelfOf.{QSelfOf}
-use Rattle.syn_lower.specs.declared.ty.BoundLifetimes.{BoundLifetimes}
-use Rattle.syn_lower.specs.declared.ty.PointerMutability.{PointerMutability}
-use Rattle.syn_lower.specs.declared.ty.PointerMutability.TheVariants as pointer
-use Rattle.syn_lower.specs.declared.ty.Abi.{Abi}
+use Rattle.syn_twig.specs.declared.ty.BoundLifetimes.{BoundLifetimes}
+use Rattle.syn_twig.specs.declared.ty.PointerMutability.{PointerMutability}
+use Rattle.syn_twig.specs.declared.ty.PointerMutability.TheVariants as pointer
+use Rattle.syn_twig.specs.declared.ty.Abi.{Abi}
 use Rattle.syn_lower.specs.declared.ty.ReturnType.{ReturnType, fold-ReturnType}
 use Rattle.syn_lower.specs.declared.ty.TypeFnPtr.{TypeFnPtr, fold-TypeFnPtr}
 use Rattle.syn_lower.specs.declared.ty.BareFnArgOf.{BareFnArgOf}
@@ -30,28 +31,7 @@ use Rattle.syn_lower.specs.declared.ty.TraitBoundOf.{TraitBoundOf}
 use Rattle.syn_lower.specs.declared.ty.«Type».{«Type», fold-Type}
 use Rattle.syn_lower.specs.declared.path.GenericArgument.TheOpen.{Type-F, GenericArgument-F, ParenthesizedGenericArguments-F, PathArguments-F, ReturnType-F, TypeFnPtr-F, TypeParamBound-F, TypePath-F}
 
--- ---- lists with puncts
-
-abbrev pub last_of : {A : Type 0} → Option (Box A Global) → List A
-last_of None = []
-last_of (Some b) = b.value ∷ []
-
--- the values of a list with puncts
-unfoldable pub values : {A P : Type 0} → Punctuated A P → List A
-values p = map (λ q. q.0) p.inner.items ++ last_of p.last
-
-abbrev pub is_some_pair : {A : Type 0} → List A → Bool
-is_some_pair [] = false
-is_some_pair (x ∷ xs) = true
-
--- whether a punct ends it
-unfoldable pub trails : {A P : Type 0} → Punctuated A P → Bool
-trails p = is_some_pair p.inner.items && not (is_some p.last)
-
 -- ---- paths, by the trees of their types
-
-abbrev pub lifetimes_of : BoundLifetimes → LifetimesTree
-lifetimes_of x = (map lifetime_of (values x.lifetimes), trails x.lifetimes)
 
 -- over the trees of what a part holds
 abbrev pub assoc_of : {T : Type 0} → (T → TypeTree) → AssocTypeOf T → GenericTree
@@ -84,13 +64,6 @@ trait_of f x = trait_with (is_some x.maybe) (mapped lifetimes_of x.lifetimes) (p
 
 abbrev pub arg_of : {T : Type 0} → (T → TypeTree) → BareFnArgOf T → FnArgTree
 arg_of f x = record { name = mapped (λ p. p.0) x.name; ty = f x.ty }
-
-abbrev pub abi_of : Abi → Option LitTree
-abi_of x = mapped lit_str_of x.name
-
-abbrev pub is_mut : PointerMutability → Bool
-is_mut (pointer.Const c) = false
-is_mut (pointer.Mut m) = true
 
 abbrev pub path_with : QSelfTree → PathTree → TypeTree
 path_with q p = t.path q p.leading (t.segments_of p.segments) p.trailing

@@ -2,7 +2,7 @@
 
 ghost use Rattle.std.specs.List.{list_all};
 ghost use Rattle.std.specs.Prelude.{◌≡◌, ◌==◌, true, false, not, ◌&&◌, ◌||◌, is_some, length, map, [], ◌∷◌, ◌++◌};
-ghost use Rattle.syn_lower.specs.Punct.{is_one};
+ghost use Rattle.syn_twig.specs.Punct.{is_one};
 ghost use Rattle.syn_lower.specs.ReadBack.{inner_fits, rows_fit, path_fits_inside, qpath_fits_by};
 ghost use Rattle.syn_lexer.specs.Keywords.{is_reserved_word};
 ghost use Rattle.syn_lower.specs.View.{values, trails, mapped, abi_of, segment_of, path_of, qself_or, type_of, fn_ptr_of, arguments_of, round_of, return_of, bound_of};
@@ -17,27 +17,17 @@ use crate::path::{
     AngleBracketedGenericArgumentsOf, AssocTypeOf, GenericArgument, ParenthesizedGenericArguments,
     PathArguments, PathOf, PathSegmentOf, QSelfOf,
 };
-use crate::punctuated::Punctuated;
 use crate::qualified::has_none;
-use crate::ty::{Abi, BareFnArgOf, ReturnType, Type, TypeFnPtr, TypeParamBound};
-use syn_leaf::text::{is_number, is_segment, is_truth, stands_alone};
+use crate::ty::{BareFnArgOf, ReturnType, Type, TypeFnPtr, TypeParamBound};
+use syn_leaf::text::{is_segment, stands_alone};
 use syn_lexer::reserved::is_reserved_word;
 use syn_parts::label::PathStyle;
-use syn_tokens::Delimiter;
-use syn_tokens::token::{Colon, PathSep, Plus};
-use syn_tokens::tree::{Ident, Literal, TokenStream, TokenTree};
-
-/// What stands in a list.
-pub(crate) trait Element {
-    ghost use Rattle.std.specs.Prelude.{◌≡◌, Bool};
-
-    /// Whether it is read back there.
-    ghost fits: { Self → Bool };
-
-    /// Whether it is read back there.
-    fn fits(&self) -> bool
-        ensures { result ≡ fits self.now };
-}
+use syn_tokens::token::{PathSep, Plus};
+use syn_twig::fits::{
+    Element, all_fit, bounds_fit, is_const, is_one, name_fits, some_abi_fits, style_at, takes_angle,
+    takes_round,
+};
+use syn_twig::punctuated::Punctuated;
 
 /// What stands behind the word of a segment.
 pub(crate) trait Arguments {
@@ -63,52 +53,6 @@ pub(crate) trait Arguments {
         ensures { result ≡ arguments_fit style (tree self.now) };
 }
 
-/// Whether each value of these is read back.
-fn pairs_fit<T: Element, P>(mut pairs: &[(T, P)]) -> bool
-    ensures { result ≡ list_all T.fits (map (λ q. q.0) pairs.entry.now) }
-{
-    'pairs: while let [(value, _), more @ ..] = pairs {
-        if !value.fits() {
-            return false;
-        }
-        pairs = more;
-    }
-    true
-}
-
-/// Whether each value of a list is read back.
-#[tactic(auto, using(crate::proofs::Fitting::lists), unfolding(crate::specs::View::values))]
-pub(crate) fn all_fit<T: Element, P>(list: &Punctuated<T, P>) -> bool
-    ensures { result ≡ list_all T.fits (values list.now) }
-{
-    if !pairs_fit(&list.inner) {
-        return false;
-    }
-    match &list.last {
-        Some(value) => value.fits(),
-        None => true,
-    }
-}
-
-/// Whether a list is one value, and no punct behind it.
-#[tactic(auto, unfolding(crate::specs::View::values, crate::specs::View::trails))]
-pub(crate) fn is_one<T, P>(list: &Punctuated<T, P>) -> bool
-    ensures { result ≡ is_one (values list.now) (trails list.now) }
-{
-    list.inner.is_empty() && list.last.is_some()
-}
-
-/// Whether bounds with `+` between them, several or one, are read back.
-#[tactic(auto, using(crate::proofs::Fitting::bounds))]
-pub(crate) fn bounds_fit<B: Element, P>(bounds: &Punctuated<B, P>, several: bool) -> bool
-    ensures { result ≡ (not (trails bounds.now) && (not (spec.is_none (values bounds.now)) && ((several || is_one (values bounds.now) (trails bounds.now)) && list_all B.fits (values bounds.now)))) }
-{
-    match &bounds.last {
-        Some(_) => (several || is_one(bounds)) && all_fit(bounds),
-        None => false,
-    }
-}
-
 /// Whether a segment is read back.
 #[tactic(auto, using(crate::proofs::Fitting::segments))]
 pub(crate) fn segment_fits<A: Arguments>(segment: &PathSegmentOf<A>, style: PathStyle) -> bool
@@ -118,13 +62,6 @@ pub(crate) fn segment_fits<A: Arguments>(segment: &PathSegmentOf<A>, style: Path
     is_segment(word)
         && (!stands_alone(word) || segment.arguments.is_none())
         && segment.arguments.fit(style)
-}
-
-/// The style of a segment where this many stand before `>`.
-fn style_at(left: usize, style: PathStyle) -> PathStyle
-    ensures { result ≡ spec.style_at left style }
-{
-    if left == 0 { style } else { PathStyle::Type }
 }
 
 /// Whether a segment is read back that another follows, where this many stand before `>`.
@@ -192,37 +129,6 @@ pub(crate) fn qpath_fits<T: Element, A: Arguments>(
     }
 }
 
-/// Whether `extern` and its name are read back: the name is a string.
-#[tactic(auto, unfolding(syn_parts::specs::Fits::lit_fits))]
-pub(crate) fn abi_fits(abi: &Abi) -> bool
-    ensures { result ≡ spec.fits_if spec.is_string (abi_of abi.now) }
-{
-    match &abi.name {
-        Some(name) => name.is_read_back(),
-        None => true,
-    }
-}
-
-/// The same of one that may be missing.
-fn some_abi_fits(abi: &Option<Abi>) -> bool
-    ensures { result ≡ spec.fits_if (spec.fits_if spec.is_string) (mapped abi_of abi.now) }
-{
-    match abi {
-        Some(abi) => abi_fits(abi),
-        None => true,
-    }
-}
-
-/// Whether the name of an argument is an identifier or `_`, if it has one.
-fn name_fits(name: &Option<(Ident, Colon)>) -> bool
-    ensures { result ≡ spec.fits_if is_arg_name (mapped (λ n. n.0) name.now) }
-{
-    match name {
-        Some((name, _)) => !is_reserved_word(name.as_str()) || name.as_str() == "_",
-        None => true,
-    }
-}
-
 /// Whether an argument of a function pointer is read back.
 pub(crate) fn arg_fits<T: Element>(x: &BareFnArgOf<T>) -> bool
     ensures { result ≡ (spec.fits_if is_arg_name (mapped (λ n. n.0) x.now.name) && T.fits x.now.ty) }
@@ -243,59 +149,11 @@ impl<T: Element> Element for BareFnArgOf<T> {
     }
 }
 
-/// Whether a token is a literal or a brace group.
-fn is_const_tree(tree: &TokenTree) -> bool
-    ensures { result ≡ spec.is_const (tok_of tree.now ∷ []) }
-{
-    match tree {
-        TokenTree::Literal(_) => true,
-        TokenTree::Ident(word) => is_truth(word.as_str()),
-        TokenTree::Group(group) => group.delimiter == Delimiter::Brace,
-        TokenTree::Punct(_) => false,
-    }
-}
-
-/// Whether two tokens are `-` and a number.
-fn is_negative(minus: &TokenTree, number: &TokenTree) -> bool
-    ensures { result ≡ spec.is_const (tok_of minus.now ∷ tok_of number.now ∷ []) }
-{
-    match minus {
-        TokenTree::Punct(minus) => match number {
-            TokenTree::Literal(number) => minus.ch == '-' && is_number(number.as_str()),
-            _ => false,
-        },
-        _ => false,
-    }
-}
-
-/// Whether tokens are a constant argument: a literal, `-` and a number, or a brace group.
-#[tactic(auto, using(crate::proofs::Fitting::consts))]
-fn is_const(tokens: &TokenStream) -> bool
-    ensures { result ≡ spec.is_const tokens.now }
-{
-    match tokens.trees() {
-        [tree] => is_const_tree(tree),
-        [minus, number] => is_negative(minus, number),
-        _ => false,
-    }
-}
-
 /// Whether an associated type and what it is equal to are read back.
 pub(crate) fn assoc_fits<T: Element>(x: &AssocTypeOf<T>) -> bool
     ensures { result ≡ (not (is_reserved_word x.now.ident) && T.fits x.now.ty) }
 {
     !is_reserved_word(x.ident.as_str()) && x.ty.fits()
-}
-
-/// Whether the style of a path takes arguments between `<` and `>`, with `::` in front or without it.
-fn takes_angle(style: PathStyle, has_colons: bool) -> bool
-    ensures { result ≡ spec.takes_angle style has_colons }
-{
-    match style {
-        PathStyle::Mod => false,
-        PathStyle::Expr => has_colons,
-        PathStyle::Type => true,
-    }
 }
 
 /// Whether arguments between `<` and `>` are read back in a path of this style.
@@ -306,17 +164,6 @@ pub(crate) fn angle_fits<G: Element>(
     ensures { result ≡ (spec.takes_angle style (is_some x.now.colon2_token) && list_all G.fits (values x.now.args)) }
 {
     takes_angle(style, x.colon2_token.is_some()) && all_fit(&x.args)
-}
-
-/// Whether the style of a path takes arguments in parentheses.
-fn takes_round(style: PathStyle) -> bool
-    ensures { result ≡ spec.takes_round style }
-{
-    match style {
-        PathStyle::Mod => false,
-        PathStyle::Expr => false,
-        PathStyle::Type => true,
-    }
 }
 
 /// Whether bounds end before `::`; a path goes on there.

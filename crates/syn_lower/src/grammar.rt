@@ -3,10 +3,10 @@
 //! They are methods that take the reader of the types inside as a function, so that each is proved by itself; `ty` ties
 //! the knot.
 
-ghost use Rattle.std.specs.Prelude.{not, ◌||◌, ◌≡◌, ◌≤◌, ◌<◌, ◌+◌, ◌++◌, map, true, false, IfOk, Some, None, is_some};
+ghost use Rattle.std.specs.Prelude.{◌≡◌, ◌≤◌, ◌<◌, ◌+◌, ◌++◌, map, true, false, IfOk, Some, None, is_some};
 ghost use Rattle.syn_lexer.specs.declared.lexeme.Delimiter.TheVariants as del;
 ghost use Rattle.syn_leaf.specs.Reads.{Reads};
-ghost use Rattle.syn_lower.specs.Punct.{takes_value};
+ghost use Rattle.syn_twig.specs.Punct.{takes_value};
 ghost use Rattle.syn_lower.specs.Reads.{Callable, ReadsType};
 ghost use Rattle.syn_lower.specs.View as view;
 ghost use Rattle.syn_parts.specs.Form as form;
@@ -14,68 +14,34 @@ ghost use Rattle.syn_parts.specs.Mark as mark;
 ghost use Rattle.syn_parts.specs.Part as part;
 ghost use Rattle.syn_tokens.specs.Front as front_spec;
 ghost use Rattle.syn_tokens.specs.Tok.{weight};
-ghost use Rattle.syn_tokens.specs.View.{toks_of};
 
 use crate::path::{
     AngleBracketedGenericArguments, AssocType, GenericArgument, ParenthesizedGenericArguments,
     Path, PathArguments, PathSegment,
 };
-use crate::punctuated::Punctuated;
 use crate::ty::{
-    BoundLifetimes, PointerMutability, ReturnType, TraitBound, Type, TypeArray, TypeImplTrait,
-    TypeParamBound, TypeParen, TypePtr, TypeReference, TypeSlice, TypeTraitObject, TypeTuple,
+    ReturnType, TraitBound, Type, TypeArray, TypeImplTrait, TypeParamBound, TypeParen, TypePtr,
+    TypeReference, TypeSlice, TypeTraitObject, TypeTuple,
 };
 use std::alloc::{AllocError, Global};
 use syn_leaf::front;
 use syn_leaf::kept::{const_at, constant_tokens, rest_of};
 use syn_leaf::leaf::{lifetime, lifetime_at, name, segment_name};
-use syn_leaf::lifetime::Lifetime;
 use syn_leaf::text::stands_alone;
-use syn_lexer::reserved::is_reserved_word;
 use syn_parts::label::PathStyle;
-use syn_tokens::Spacing;
 use syn_tokens::buffer::{ParseBuffer, Token};
-use syn_tokens::error::{ErrorKind, Expected, Part, Result};
+use syn_tokens::error::{ErrorKind, Expected, Result};
 use syn_tokens::token::{
-    And, Bracket, Comma, Const, Dyn, Eq, EqEq, FatArrow, For, Gt, Impl, Le, Lt, Mut, Paren,
-    PathSep, Plus, Star,
+    And, Bracket, Comma, Dyn, Eq, Gt, Impl, Lt, Paren, PathSep, Plus, Star,
 };
-use syn_tokens::tree::TokenTree;
+use syn_twig::front::{angle_at, assoc_at, gt_at, round_at, turbofish_at};
+use syn_twig::punctuated::Punctuated;
+use syn_twig::readers::{maybe_lifetime, maybe_lifetimes, pointer_mutability};
 
 /// The readers over that of the types inside.
 #[derive(Clone, Copy)]
 pub(crate) struct Grammar<F> {
     pub(crate) ty: F,
-}
-
-/// Whether `<` stands first that doesn't begin `<=`.
-#[tactic(auto, unfolding(syn_tokens::specs::Sign::sign_text, syn_parts::specs::Mark::sign_at))]
-fn lt_at(rest: &[TokenTree]) -> bool
-    ensures { result ≡ mark.lt.at (toks_of rest.now) }
-{
-    Lt::peek(rest) && !Le::peek(rest)
-}
-
-/// Whether `::` and `<` stand first.
-#[tactic(auto, unfolding(syn_parts::specs::Part::turbofish_at, syn_tokens::specs::Sign::sign_text, syn_parts::specs::Mark::sign_at))]
-fn turbofish_at(input: &ParseBuffer<'_>) -> bool
-    ensures { result ≡ part.turbofish_at input.now.rest }
-{
-    match input.trees() {
-        [_, more @ ..] => match more {
-            [_, behind @ ..] => input.peek::<PathSep>() && lt_at(behind),
-            [] => false,
-        },
-        [] => false,
-    }
-}
-
-/// Whether `<` stands first, `::` before it or not.
-#[tactic(auto, unfolding(syn_parts::specs::Part::angle_at, syn_parts::specs::Part::turbofish_at))]
-fn angle_at(input: &ParseBuffer<'_>) -> bool
-    ensures { result ≡ part.angle_at input.now.rest }
-{
-    lt_at(input.trees()) || turbofish_at(input)
 }
 
 /// A type in a box.
@@ -102,6 +68,19 @@ impl<F: Fn(&mut ParseBuffer<'_>, bool) -> Result<Box<Type>>> Grammar<F> {
         Ok(ReturnType::Given(arrow, ty))
     }
 
+    /// Reads a type, out of its box.
+    #[tactic(auto)]
+    pub(crate) fn whole(&self, input: &mut ParseBuffer<'_>) -> Result<Type>
+        requires callable { Callable (weight input.old.rest + 1) (F.pre self.now.ty) }
+        requires reads { ReadsType (F.post self.now.ty) }
+        ensures value { Reads view.type_of ((part.type true).reads input.old.rest) result input.new.rest }
+        ensures noted { input.new.noted ≡ input.old.noted }
+        ensures shrinks { weight input.new.rest ≤ weight input.old.rest }
+    {
+        let ty = (self.ty)(input, true)?;
+        Ok(Box::into_inner(ty))
+    }
+
     /// Reads types with commas between, to the end of a group.
     #[tactic(auto, using(crate::proofs::Loops::types))]
     fn types(&self, input: &mut ParseBuffer<'_>) -> Result<Punctuated<Type, Comma>>
@@ -115,15 +94,13 @@ impl<F: Fn(&mut ParseBuffer<'_>, bool) -> Result<Box<Type>>> Grammar<F> {
         if input.is_empty() {
             return Ok(found);
         }
-        let first = (self.ty)(input, true)?;
-        found.push_value(Box::into_inner(first))?;
+        found.push_value(self.whole(input)?)?;
         'items: while let Some(comma) = front::comma(input) {
             found.push_punct(comma)?;
             if input.is_empty() {
                 return Ok(found);
             }
-            let next = (self.ty)(input, true)?;
-            found.push_value(Box::into_inner(next))?;
+            found.push_value(self.whole(input)?)?;
         }
         Ok(found)
     }
@@ -273,8 +250,7 @@ impl<F: Fn(&mut ParseBuffer<'_>, bool) -> Result<Box<Type>>> Grammar<F> {
         if assoc_at(input) {
             return Ok(GenericArgument::AssocType(self.assoc(input)?));
         }
-        let ty = (self.ty)(input, true)?;
-        Ok(GenericArgument::Ty(Box::into_inner(ty)))
+        Ok(GenericArgument::Ty(self.whole(input)?))
     }
 
     /// Reads a name, `=` and a type.
@@ -289,8 +265,7 @@ impl<F: Fn(&mut ParseBuffer<'_>, bool) -> Result<Box<Type>>> Grammar<F> {
         let Some(eq_token) = front::eq(input) else {
             return Err(input.error(ErrorKind::ExpectedToken(Expected::One(Eq::wanted()))));
         };
-        let ty = (self.ty)(input, true)?;
-        let ty = Box::into_inner(ty);
+        let ty = self.whole(input)?;
         Ok(AssocType {
             ident,
             eq_token,
@@ -570,165 +545,5 @@ impl<F: Fn(&mut ParseBuffer<'_>, bool) -> Result<Box<Type>>> Grammar<F> {
         let bounds = self.bounds(input, several)?;
         let object = TypeTraitObject { dyn_token, bounds };
         Ok(boxed(input.alloc(), Type::TraitObject(object))?)
-    }
-}
-
-/// Reads a lifetime, if one stands first.
-fn maybe_lifetime(input: &mut ParseBuffer<'_>) -> Result<Option<Lifetime>>
-    ensures value { Reads (view.mapped view.lifetime_of) ((form.maybe mark.lifetime_at part.lifetime).reads input.old.rest) result input.new.rest }
-    ensures noted { input.new.noted ≡ input.old.noted }
-    ensures shrinks { weight input.new.rest ≤ weight input.old.rest }
-{
-    if lifetime_at(input) {
-        Ok(Some(lifetime(input)?))
-    } else {
-        Ok(None)
-    }
-}
-
-/// Reads `mut` or `const`.
-pub(crate) fn pointer_mutability(input: &mut ParseBuffer<'_>) -> Result<PointerMutability>
-    ensures value { Reads view.is_mut (part.mutability.reads input.old.rest) result input.new.rest }
-    ensures noted { input.new.noted ≡ input.old.noted }
-    ensures shrinks { weight input.new.rest ≤ weight input.old.rest }
-{
-    if let Some(word) = front::mutable(input) {
-        return Ok(PointerMutability::Mut(word));
-    }
-    if let Some(word) = front::constant(input) {
-        return Ok(PointerMutability::Const(word));
-    }
-    let wanted = Expected::Two(Mut::wanted(), Const::wanted());
-    Err(input.error(ErrorKind::ExpectedToken(wanted)))
-}
-
-/// Whether `>` stands first.
-#[tactic(auto, unfolding(syn_tokens::specs::Sign::sign_text, syn_parts::specs::Mark::sign_at))]
-fn gt_at(input: &ParseBuffer<'_>) -> bool
-    ensures { result ≡ mark.gt.at input.now.rest }
-{
-    input.peek::<Gt>()
-}
-
-/// Whether parentheses stand first.
-#[tactic(auto, unfolding(syn_parts::specs::Mark::round_at))]
-fn round_at(input: &ParseBuffer<'_>) -> bool
-    ensures { result ≡ mark.round_at input.now.rest }
-{
-    input.peek::<Paren>()
-}
-
-/// Whether `=` stands first that begins neither `==` nor `=>`.
-#[tactic(auto, unfolding(syn_tokens::specs::Sign::sign_text, syn_parts::specs::Mark::sign_at))]
-fn eq_at(rest: &[TokenTree]) -> bool
-    ensures { result ≡ mark.eq.at (toks_of rest.now) }
-{
-    Eq::peek(rest) && !EqEq::peek(rest) && !FatArrow::peek(rest)
-}
-
-/// Whether a name and a single `=` stand first.
-#[tactic(auto, unfolding(syn_parts::specs::Part::assoc_at))]
-fn assoc_at(input: &ParseBuffer<'_>) -> bool
-    ensures { result ≡ part.assoc_at input.now.rest }
-{
-    match input.trees() {
-        [TokenTree::Ident(word), more @ ..] => !is_reserved_word(word.as_str()) && eq_at(more),
-        _ => false,
-    }
-}
-
-/// Whether a lifetime or `>` stands first.
-#[tactic(auto, unfolding(syn_tokens::specs::Sign::sign_text, syn_parts::specs::Mark::sign_at, syn_parts::specs::Mark::lifetime_at))]
-fn lifetimes_behind(rest: &[TokenTree]) -> bool
-    ensures { result ≡ (mark.gt.at (toks_of rest.now) || mark.lifetime_at (toks_of rest.now)) }
-{
-    match rest {
-        [TokenTree::Punct(quote), more @ ..]
-            if quote.ch == '\'' && quote.spacing == Spacing::Joint => {
-            matches!(more, [TokenTree::Ident(_), ..])
-        }
-        _ => Gt::peek(rest),
-    }
-}
-
-/// Whether `<` stands first.
-#[tactic(auto, unfolding(syn_tokens::specs::Sign::sign_text, syn_parts::specs::Mark::sign_at))]
-fn less_at(rest: &[TokenTree]) -> bool
-    ensures { result ≡ mark.less.at (toks_of rest.now) }
-{
-    Lt::peek(rest)
-}
-
-/// Whether lifetimes of a bound stand first: `for` and `<`, and then `>` or a lifetime.
-#[tactic(auto, unfolding(syn_parts::specs::Part::lifetimes_at, syn_tokens::specs::Sign::word_text, syn_parts::specs::Mark::word_at, syn_parts::specs::Mark::sign_at))]
-pub(crate) fn lifetimes_at(input: &ParseBuffer<'_>) -> bool
-    ensures { result ≡ part.lifetimes_at input.now.rest }
-{
-    match input.trees() {
-        [_, more @ ..] if input.peek::<For>() => match more {
-            [_, behind @ ..] => less_at(more) && lifetimes_behind(behind),
-            [] => false,
-        },
-        _ => false,
-    }
-}
-
-/// Reads lifetimes with commas between, before `>`.
-#[tactic(auto, using(crate::proofs::Loops::lifetimes))]
-fn lifetime_list(input: &mut ParseBuffer<'_>) -> Result<Punctuated<Lifetime, Comma>>
-    ensures value { Reads (λ p. (map view.lifetime_of (view.values p), view.trails p)) ((form.listed mark.comma mark.gt.at part.lifetime).reads input.old.rest) result input.new.rest }
-    ensures noted { input.new.noted ≡ input.old.noted }
-    ensures shrinks { weight input.new.rest ≤ weight input.old.rest }
-{
-    let mut found = Punctuated::new(input.alloc());
-    if gt_at(input) {
-        return Ok(found);
-    }
-    found.push_value(lifetime(input)?)?;
-    'items: while let Some(comma) = front::comma(input) {
-        found.push_punct(comma)?;
-        if gt_at(input) {
-            return Ok(found);
-        }
-        found.push_value(lifetime(input)?)?;
-    }
-    Ok(found)
-}
-
-/// Reads `for` and lifetimes between `<` and `>`.
-#[tactic(auto, unfolding(syn_parts::specs::Part::lifetimes))]
-pub(crate) fn lifetimes(input: &mut ParseBuffer<'_>) -> Result<BoundLifetimes>
-    ensures value { Reads view.lifetimes_of (part.lifetimes.reads input.old.rest) result input.new.rest }
-    ensures noted { input.new.noted ≡ input.old.noted }
-    ensures shrinks { weight input.new.rest ≤ weight input.old.rest }
-{
-    let Some(for_token) = front::for_word(input) else {
-        return Err(input.error(ErrorKind::ExpectedToken(Expected::One(For::wanted()))));
-    };
-    let Some(lt_token) = front::less(input) else {
-        return Err(input.error(ErrorKind::ExpectedToken(Expected::One(Lt::wanted()))));
-    };
-    let lifetimes = lifetime_list(input)?;
-    let Some(gt_token) = front::gt(input) else {
-        return Err(input.error(ErrorKind::ExpectedToken(Expected::One(Gt::wanted()))));
-    };
-    Ok(BoundLifetimes {
-        for_token,
-        lt_token,
-        lifetimes,
-        gt_token,
-    })
-}
-
-/// Reads the lifetimes of a bound, if they stand first.
-pub(crate) fn maybe_lifetimes(input: &mut ParseBuffer<'_>) -> Result<Option<BoundLifetimes>>
-    ensures value { Reads (view.mapped view.lifetimes_of) ((form.maybe part.lifetimes_at part.lifetimes).reads input.old.rest) result input.new.rest }
-    ensures noted { input.new.noted ≡ input.old.noted }
-    ensures shrinks { weight input.new.rest ≤ weight input.old.rest }
-{
-    if lifetimes_at(input) {
-        Ok(Some(lifetimes(input)?))
-    } else {
-        Ok(None)
     }
 }

@@ -10,10 +10,10 @@ pub mod mac;
 pub mod path;
 mod pieces;
 pub mod print;
-pub mod punctuated;
 mod qualified;
 pub mod read_back;
 pub mod readers;
 pub mod ty;
 
 pub use syn_leaf::{attr, block, lifetime, lit};
+pub use syn_twig::punctuated;

@@ -3,11 +3,11 @@
 //! A struct that holds types or arguments is generic in them, under an alias of syn's name: `Path` is
 //! `PathOf<PathArguments>`. Users write the alias, in literals and patterns too.
 
-use crate::punctuated::Punctuated;
 use crate::ty::{ReturnType, Type};
 use syn_leaf::lifetime::Lifetime;
 use syn_tokens::token::{As, Comma, Eq, Gt, Lt, Paren, PathSep};
 use syn_tokens::tree::{Ident, TokenStream};
+use syn_twig::punctuated::Punctuated;
 
 /// A path: segments with `::` between, and perhaps one in front.
 pub type Path = PathOf<PathArguments>;

@@ -5,15 +5,13 @@ ghost use Rattle.std.specs.Prelude.{◌≡◌, Some, true};
 ghost use Rattle.syn_lower.specs.View as view;
 ghost use Rattle.syn_parts.specs.Part as part;
 
-use crate::fn_pointer::maybe_abi;
-use crate::grammar::{Grammar, pointer_mutability};
+use crate::grammar::Grammar;
 use crate::path::{AngleBracketedGenericArguments, AssocType, ParenthesizedGenericArguments};
 use crate::qualified::ty;
-use crate::ty::{Abi, BareFnArg, PointerMutability, ReturnType, TraitBound};
+use crate::ty::{BareFnArg, ReturnType, TraitBound};
 use syn_leaf::ahead::{ReadByForm, ahead};
-use syn_tokens::buffer::{Parse, ParseBuffer, Token};
-use syn_tokens::error::{ErrorKind, Expected, Result};
-use syn_tokens::token::Extern;
+use syn_tokens::buffer::{Parse, ParseBuffer};
+use syn_tokens::error::Result;
 
 impl ReadByForm for ReturnType {
     ghost use Rattle.syn_parts.specs.Tree.{ReturnTree};
@@ -147,76 +145,6 @@ impl Parse for AssocType {
 
     /// Reads a name, `=` and a type (Rust Reference, "Paths in expressions"). It is refused as `ExpectedToken` of an
     /// identifier or of `=` where that is missing, and behind it as the type is.
-    fn parse(input: &mut ParseBuffer<'_>) -> Result<Self> {
-        ahead(input)
-    }
-}
-
-impl ReadByForm for PointerMutability {
-    ghost use Rattle.std.specs.Prelude.{Bool};
-
-    ghost Seen = { Bool };
-
-    ghost seen = { view.is_mut };
-
-    ghost form = { part.mutability };
-
-    fn read(input: &mut ParseBuffer<'_>) -> Result<Self> {
-        pointer_mutability(input)
-    }
-}
-
-impl Parse for PointerMutability {
-    ghost use Rattle.std.specs.Prelude.{Bool};
-
-    ghost Seen = { Bool };
-
-    ghost seen = { view.is_mut };
-
-    /// `mut` or `const` stands before the rest.
-    ghost spells = { λ l x rest. part.mutability.behind x l ≡ Some rest };
-
-    ghost least = { 1 };
-
-    /// Reads `mut` or `const` (Rust Reference, "Pointer types"); it is refused as `ExpectedToken` of the two.
-    fn parse(input: &mut ParseBuffer<'_>) -> Result<Self> {
-        ahead(input)
-    }
-}
-
-impl ReadByForm for Abi {
-    ghost use Rattle.std.specs.Prelude.{Option};
-    ghost use Rattle.syn_parts.specs.Tree.{LitTree};
-
-    ghost Seen = { Option LitTree };
-
-    ghost seen = { view.abi_of };
-
-    ghost form = { part.abi };
-
-    fn read(input: &mut ParseBuffer<'_>) -> Result<Self> {
-        match maybe_abi(input)? {
-            Some(abi) => Ok(abi),
-            None => Err(input.error(ErrorKind::ExpectedToken(Expected::One(Extern::wanted())))),
-        }
-    }
-}
-
-impl Parse for Abi {
-    ghost use Rattle.std.specs.Prelude.{Option};
-    ghost use Rattle.syn_parts.specs.Tree.{LitTree};
-
-    ghost Seen = { Option LitTree };
-
-    ghost seen = { view.abi_of };
-
-    /// `extern` stands before the rest, and a string behind it where a literal stands there.
-    ghost spells = { λ l x rest. part.abi.behind x l ≡ Some rest };
-
-    ghost least = { 1 };
-
-    /// Reads `extern` and a string, if one stands there (Rust Reference, "Function pointer types"). It is refused as
-    /// `ExpectedToken` of `extern`, and as `ExpectedPart` of a literal where another literal follows.
     fn parse(input: &mut ParseBuffer<'_>) -> Result<Self> {
         ahead(input)
     }

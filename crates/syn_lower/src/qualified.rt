@@ -2,7 +2,7 @@
 
 ghost use Rattle.std.specs.Prelude.{◌≡◌, ◌≤◌, ◌+◌, map, true, false, IfOk, IfSome, is_some};
 ghost use Rattle.syn_leaf.specs.Reads.{Reads};
-ghost use Rattle.syn_lower.specs.Punct.{takes_value};
+ghost use Rattle.syn_twig.specs.Punct.{takes_value};
 ghost use Rattle.syn_lower.specs.Reads.{Callable, ReadsType};
 ghost use Rattle.syn_lower.specs.View as view;
 ghost use Rattle.syn_parts.specs.Form as form;
@@ -10,11 +10,9 @@ ghost use Rattle.syn_parts.specs.Mark as mark;
 ghost use Rattle.syn_parts.specs.Part as part;
 ghost use Rattle.syn_tokens.specs.Tok.{weight};
 
-use crate::fn_pointer::fn_at;
 use crate::grammar::{Grammar, boxed};
 use crate::mac::{Macro, MacroDelimiter};
 use crate::path::{Path, PathArguments, PathSegment, QSelf};
-use crate::punctuated::Punctuated;
 use crate::ty::{Type, TypeInfer, TypeMacro, TypeNever, TypePath};
 use syn_leaf::front;
 use syn_leaf::kept::any_group;
@@ -23,6 +21,8 @@ use syn_tokens::buffer::ParseBuffer;
 use syn_tokens::error::{ErrorKind, Expected, Result};
 use syn_tokens::token::{As, Bracket, Gt, Lt, Not, Paren, PathSep};
 use syn_tokens::tree::TokenStream;
+use syn_twig::front::fn_at;
+use syn_twig::punctuated::Punctuated;
 
 /// What stands behind the `as` of a qualified path: that word, `::` in front, the segments.
 type AsPath = (As, Option<PathSep>, Punctuated<PathSegment, PathSep>);

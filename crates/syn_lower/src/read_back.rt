@@ -15,7 +15,7 @@ ghost use Rattle.syn_parts.specs.Fits as spec;
 ghost use Rattle.syn_parts.specs.declared.label.LitKind.TheVariants as kind;
 
 use crate::fits;
-use crate::fits::{Arguments, Element};
+use crate::fits::Arguments;
 use crate::mac::Macro;
 use crate::path::{
     AngleBracketedGenericArguments, AssocType, GenericArgument, ParenthesizedGenericArguments,
@@ -23,11 +23,12 @@ use crate::path::{
 };
 use crate::readers::style;
 use crate::ty::{
-    Abi, BareFnArg, ReturnType, TraitBound, Type, TypeArray, TypeFnPtr, TypeImplTrait, TypeMacro,
+    BareFnArg, ReturnType, TraitBound, Type, TypeArray, TypeFnPtr, TypeImplTrait, TypeMacro,
     TypeParamBound, TypeParen, TypePath, TypePtr, TypeReference, TypeSlice, TypeTraitObject,
     TypeTuple,
 };
 use syn_parts::label::PathStyle;
+use syn_twig::fits::{Element, all_fit, bounds_fit, is_one};
 
 impl Path {
     /// Whether it is read back as a path of this style (Rust Reference, "Paths"): it has segments, no `::` ends it, and
@@ -150,15 +151,6 @@ impl Macro {
     }
 }
 
-impl Abi {
-    /// Whether its name is a string literal, if it has one.
-    pub fn is_read_back(&self) -> bool
-        ensures { result ≡ spec.fits_if spec.is_string (view.abi_of self.now) }
-    {
-        fits::abi_fits(self)
-    }
-}
-
 impl BareFnArg {
     /// Whether its name is an identifier or `_`, if it has one, and its type is read back.
     #[tactic(auto, using(crate::proofs::Fitting::args))]
@@ -244,7 +236,7 @@ impl TypeTuple {
     pub fn is_read_back(&self) -> bool
         ensures { result ≡ spec.type_fits true (view.type_of (ty.Tuple self.now)) }
     {
-        fits::all_fit(&self.elems) && !fits::is_one(&self.elems)
+        all_fit(&self.elems) && !is_one(&self.elems)
     }
 }
 
@@ -276,7 +268,7 @@ impl TypeImplTrait {
     pub fn is_read_back(&self, several: bool) -> bool
         ensures { result ≡ spec.type_fits several (view.type_of (ty.ImplTrait self.now)) }
     {
-        fits::bounds_fit(&self.bounds, several)
+        bounds_fit(&self.bounds, several)
     }
 }
 
@@ -288,6 +280,6 @@ impl TypeTraitObject {
         ensures { result ≡ spec.type_fits several (view.type_of (ty.TraitObject self.now)) }
     {
         let TypeTraitObject { bounds, .. } = self;
-        fits::bounds_fit(bounds, several)
+        bounds_fit(bounds, several)
     }
 }

@@ -4,17 +4,17 @@
 
 ghost use Rattle.std.specs.Prelude.{◌≡◌, ◌≤◌, ◌+◌, IfErr, IfOk, Some, map, true, false, if◌then◌else◌};
 ghost use Rattle.syn_leaf.specs.Reads.{Reads};
-ghost use Rattle.syn_lower.specs.View.{arguments_of, attribute_of, bound_of, generic_of, lifetimes_of, macro_of, path_of, qself_or, segment_of, type_of};
+ghost use Rattle.syn_lower.specs.View.{arguments_of, attribute_of, bound_of, generic_of, macro_of, path_of, qself_or, segment_of, type_of};
 ghost use Rattle.syn_parts.specs.Part as part;
 ghost use Rattle.syn_parts.specs.declared.label.PathStyle.TheVariants as place;
 ghost use Rattle.syn_tokens.specs.Input.{IsAfter};
 ghost use Rattle.syn_tokens.specs.Tok.{weight};
 
-use crate::grammar::{Grammar, lifetimes};
+use crate::grammar::Grammar;
 use crate::mac::Macro;
 use crate::path::{GenericArgument, Path, PathSegment, QSelf};
 use crate::qualified::ty;
-use crate::ty::{BoundLifetimes, Type, TypeParamBound};
+use crate::ty::{Type, TypeParamBound};
 use syn_leaf::ahead::{ReadByForm, ahead};
 use syn_leaf::front;
 use syn_leaf::kept::any_group;
@@ -196,38 +196,6 @@ impl Parse for TypeParamBound {
     ghost least = { 1 };
 
     /// Reads a bound (Rust Reference, "Trait and lifetime bounds").
-    fn parse(input: &mut ParseBuffer<'_>) -> Result<Self> {
-        ahead(input)
-    }
-}
-
-impl ReadByForm for BoundLifetimes {
-    ghost use Rattle.syn_parts.specs.Tree.{LifetimesTree};
-
-    ghost Seen = { LifetimesTree };
-
-    ghost seen = { lifetimes_of };
-
-    ghost form = { part.lifetimes };
-
-    fn read(input: &mut ParseBuffer<'_>) -> Result<Self> {
-        lifetimes(input)
-    }
-}
-
-impl Parse for BoundLifetimes {
-    ghost use Rattle.syn_parts.specs.Tree.{LifetimesTree};
-
-    ghost Seen = { LifetimesTree };
-
-    ghost seen = { lifetimes_of };
-
-    /// `for` and lifetimes between `<` and `>` stand before the rest.
-    ghost spells = { λ l x rest. part.lifetimes.behind x l ≡ Some rest };
-
-    ghost least = { 1 };
-
-    /// Reads `for` and lifetimes (Rust Reference, "Higher-ranked trait bounds"); it is refused as `ExpectedToken`.
     fn parse(input: &mut ParseBuffer<'_>) -> Result<Self> {
         ahead(input)
     }

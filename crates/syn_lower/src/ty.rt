@@ -5,14 +5,14 @@
 
 use crate::mac::MacroOf;
 use crate::path::{PathArguments, PathOf, QSelfOf};
-use crate::punctuated::Punctuated;
 use syn_leaf::lifetime::Lifetime;
-use syn_leaf::lit::LitStr;
 use syn_tokens::token::{
-    And, Bracket, Colon, Comma, Const, Dyn, Extern, Fn, For, Gt, Impl, Lt, Mut, Not, Paren, Plus,
-    Question, RArrow, Semi, Star, Underscore, Unsafe,
+    And, Bracket, Colon, Comma, Dyn, Fn, Impl, Mut, Not, Paren, Plus, Question, RArrow, Semi, Star,
+    Underscore, Unsafe,
 };
 use syn_tokens::tree::{Ident, TokenStream};
+use syn_twig::punctuated::Punctuated;
+pub use syn_twig::ty::{Abi, BoundLifetimes, PointerMutability};
 
 /// A type.
 #[cycle(types)]
@@ -94,15 +94,6 @@ pub struct TypePtrOf<T> {
     pub mutability: PointerMutability,
     /// What it points to.
     pub elem: Box<T>,
-}
-
-/// Whether a pointer's target may be written.
-#[derive(Clone, Copy, Debug, PartialEq)]
-pub enum PointerMutability {
-    /// `const`
-    Const(Const),
-    /// `mut`
-    Mut(Mut),
 }
 
 /// `[T]`
@@ -191,15 +182,6 @@ pub struct TypeFnPtr {
     pub output: ReturnType,
 }
 
-/// `extern "C"`
-#[derive(Debug, Drop, PartialEq)]
-pub struct Abi {
-    /// `extern`
-    pub extern_token: Extern,
-    /// Its name.
-    pub name: Option<LitStr>,
-}
-
 /// `name: T`
 pub type BareFnArg = BareFnArgOf<Type>;
 
@@ -258,19 +240,6 @@ pub struct TraitBoundOf<A> {
     pub lifetimes: Option<BoundLifetimes>,
     /// The trait.
     pub path: PathOf<A>,
-}
-
-/// `for<'a, 'b>` (Rust Reference, "Higher-ranked trait bounds").
-#[derive(Drop, PartialEq)]
-pub struct BoundLifetimes {
-    /// `for`
-    pub for_token: For,
-    /// `<`
-    pub lt_token: Lt,
-    /// The lifetimes.
-    pub lifetimes: Punctuated<Lifetime, Comma>,
-    /// `>`
-    pub gt_token: Gt,
 }
 
 /// What a function returns.

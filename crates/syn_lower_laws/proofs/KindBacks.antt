@@ -23,8 +23,8 @@ use Rattle.syn_lower.specs.declared.path.AssocTypeOf.{AssocTypeOf}
 use Rattle.syn_lower.specs.declared.ty.«Type».{«Type»}
 use Rattle.syn_lower.specs.declared.ty.TraitBoundOf.{TraitBoundOf}
 use Rattle.syn_lower.specs.declared.ty.TypeParamBound.TheVariants as bo
-use Rattle.syn_lower.specs.declared.ty.PointerMutability.{PointerMutability}
-use Rattle.syn_lower.specs.declared.ty.PointerMutability.TheVariants as pointer
+use Rattle.syn_twig.specs.declared.ty.PointerMutability.{PointerMutability}
+use Rattle.syn_twig.specs.declared.ty.PointerMutability.TheVariants as pointer
 
 -- a type of this kind, by what is printed of it
 pub kind_back : (is : TypeTree → Bool) (x : TypeTree) (printed rest : List Tok) → is x ≡ true → type_own x [] ≡ printed → type_fits true x ≡ true → type_stops true x rest ≡ true → (type_of_kind is).behind x (printed ++ rest) ≡ Some rest

@@ -8,7 +8,7 @@ use Rattle.std.specs.declared.boxed.Box.{Box}
 use Rattle.std.specs.declared.alloc.Global.{Global}
 use Rattle.syn_leaf.specs.Equal.{IsEqualityOf}
 use Rattle.syn_lower.specs.View.{mapped, values, trails, last_of, is_some_pair}
-use Rattle.syn_lower.specs.declared.punctuated.Punctuated.{Punctuated}
+use Rattle.syn_twig.specs.declared.punctuated.Punctuated.{Punctuated}
 use Rattle.syn_leaf.proofs.Ties.{both_tie, on_tie, into_tie, option_tie, list_tie, pair_path, and_true_tie}
 
 abbrev opt : {B : Type 0} → Option B → List B

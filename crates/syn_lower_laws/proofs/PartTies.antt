@@ -20,10 +20,10 @@ use Rattle.syn_lower.specs.declared.path.AngleBracketedGenericArgumentsOf.{Angle
 use Rattle.syn_lower.specs.declared.path.GenericArgument.{GenericArgument}
 use Rattle.syn_lower.specs.declared.path.AssocTypeOf.{AssocTypeOf}
 use Rattle.syn_lower.specs.declared.path.QSelfOf.{QSelfOf}
-use Rattle.syn_lower.specs.declared.ty.Abi.{Abi}
-use Rattle.syn_lower.specs.declared.ty.BoundLifetimes.{BoundLifetimes}
-use Rattle.syn_lower.specs.declared.ty.PointerMutability.{PointerMutability}
-use Rattle.syn_lower.specs.declared.ty.PointerMutability.TheVariants as pointer
+use Rattle.syn_twig.specs.declared.ty.Abi.{Abi}
+use Rattle.syn_twig.specs.declared.ty.BoundLifetimes.{BoundLifetimes}
+use Rattle.syn_twig.specs.declared.ty.PointerMutability.{PointerMutability}
+use Rattle.syn_twig.specs.declared.ty.PointerMutability.TheVariants as pointer
 use Rattle.syn_lower.specs.declared.ty.BareFnArgOf.{BareFnArgOf}
 use Rattle.syn_lower.specs.declared.ty.TypeParamBound.{TypeParamBound}
 use Rattle.syn_lower.specs.declared.ty.TraitBoundOf.{TraitBoundOf}
@@ -48,9 +48,9 @@ use Rattle.syn_lower.specs.contracts.path.PathSegmentOfPartialEq.TheImpl as segm
 use Rattle.syn_lower.specs.contracts.path.AngleBracketedGenericArgumentsOfPartialEq.TheImpl as angle_eq
 use Rattle.syn_lower.specs.contracts.path.AssocTypeOfPartialEq.TheImpl as assoc_eq
 use Rattle.syn_lower.specs.contracts.path.QSelfOfPartialEq.TheImpl as qself_eq
-use Rattle.syn_lower.specs.contracts.ty.AbiPartialEq.TheImpl as abi_eq
-use Rattle.syn_lower.specs.contracts.ty.BoundLifetimesPartialEq.TheImpl as lifetimes_eq
-use Rattle.syn_lower.specs.contracts.ty.PointerMutabilityPartialEq.TheImpl as pointer_eq
+use Rattle.syn_twig.specs.contracts.ty.AbiPartialEq.TheImpl as abi_eq
+use Rattle.syn_twig.specs.contracts.ty.BoundLifetimesPartialEq.TheImpl as lifetimes_eq
+use Rattle.syn_twig.specs.contracts.ty.PointerMutabilityPartialEq.TheImpl as pointer_eq
 use Rattle.syn_lower.specs.contracts.ty.BareFnArgOfPartialEq.TheImpl as arg_eq
 use Rattle.syn_lower.specs.contracts.ty.TraitBoundOfPartialEq.TheImpl as trait_eq
 use Rattle.syn_lower.specs.contracts.ty.TypeMacroOfPartialEq.TheImpl as type_macro_eq

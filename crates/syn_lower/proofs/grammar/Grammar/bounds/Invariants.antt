@@ -4,7 +4,7 @@ use Rattle.syn_parts.specs.Form.{joined, gathered_more}
 use Rattle.syn_parts.specs.Mark.{plus}
 use Rattle.syn_parts.specs.Part.{type, bound}
 use Rattle.syn_lower.specs.View.{bound_of, values, trails}
-use Rattle.syn_lower.specs.Punct.{takes_value}
+use Rattle.syn_twig.specs.Punct.{takes_value}
 use Rattle.syn_lower.proofs.grammar.Grammar.bounds.Given as goal
 
 abbrev pub invariant-items : goal.invariant-items

@@ -5,7 +5,7 @@ use Rattle.syn_parts.specs.Form.{listed, gathered}
 use Rattle.syn_parts.specs.Mark.{comma}
 use Rattle.syn_parts.specs.Part.{type, fn_arg}
 use Rattle.syn_lower.specs.View.{type_of, arg_of, values, trails}
-use Rattle.syn_lower.specs.Punct.{takes_value}
+use Rattle.syn_twig.specs.Punct.{takes_value}
 use Rattle.syn_lower.proofs.grammar.Grammar.fn_args.Given as goal
 
 abbrev pub invariant-items : goal.invariant-items

@@ -4,7 +4,7 @@ use Rattle.syn_parts.specs.Form.{listed, gathered}
 use Rattle.syn_parts.specs.Mark.{comma, gt}
 use Rattle.syn_parts.specs.Part.{type, generic}
 use Rattle.syn_lower.specs.View.{generic_of, values, trails}
-use Rattle.syn_lower.specs.Punct.{takes_value}
+use Rattle.syn_twig.specs.Punct.{takes_value}
 use Rattle.syn_lower.proofs.grammar.Grammar.generics.Given as goal
 
 abbrev pub invariant-items : goal.invariant-items

@@ -4,7 +4,7 @@ use Rattle.syn_parts.specs.Form.{joined, extend_more, gathered_more}
 use Rattle.syn_parts.specs.Mark.{colon2}
 use Rattle.syn_parts.specs.Part.{type, segment}
 use Rattle.syn_lower.specs.View.{segment_of, arguments_of, values, trails}
-use Rattle.syn_lower.specs.Punct.{takes_value}
+use Rattle.syn_twig.specs.Punct.{takes_value}
 use Rattle.syn_lower.proofs.grammar.Grammar.segments.Given as goal
 
 abbrev pub invariant-items : goal.invariant-items

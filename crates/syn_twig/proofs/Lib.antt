@@ -1,0 +1,4 @@
+pub mod Puncts
+pub mod Owns
+pub mod Loops
+pub mod Fitting

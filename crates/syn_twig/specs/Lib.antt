@@ -1,0 +1,4 @@
+pub mod View
+pub mod Punct
+pub mod PunctIter
+pub mod Printed
