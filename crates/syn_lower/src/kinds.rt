@@ -1,7 +1,7 @@
 //! The readers of types of one kind.
 #![tactic(auto, using(syn_parts::proofs::Readable::readables))]
 
-ghost use Rattle.std.specs.Prelude.{◌≡◌, true, false, IfOk, IfErr, Some};
+ghost use Rattle.std.specs.Prelude.{◌≡◌, true, false, IfOk, IfErr, MatchResult, Some};
 ghost use Rattle.syn_parts.specs.Kind as kinds;
 ghost use Rattle.syn_lower.specs.View.{arguments_of, macro_of, path_of, qself_or, type_of};
 ghost use Rattle.syn_lower.specs.declared.ty.«Type».TheVariants as variant;
@@ -19,7 +19,7 @@ use crate::ty::{
 use syn_leaf::ahead::{ReadByForm, ahead};
 use syn_parts::label::PathStyle;
 use syn_tokens::buffer::{Parse, ParseBuffer};
-use syn_tokens::error::{ErrorKind, Part, Result};
+use syn_tokens::error::{Error, ErrorKind, Part, Result};
 
 /// A struct that holds the types of one kind.
 trait Kind {
@@ -41,6 +41,16 @@ trait Kind {
 #[derive(Drop)]
 struct OfKind<T>(T);
 
+/// The struct in a type of its kind; `other` where the type is of another.
+fn of_kind<T: Kind>(ty: Type, other: Error) -> Result<OfKind<T>>
+    ensures { MatchResult result (λ x. (T.is (T.tree x.0) ≡ true) × (T.tree x.0 ≡ type_of ty)) (λ e. T.is (type_of ty) ≡ false) }
+{
+    match T::of(ty) {
+        Ok(x) => Ok(OfKind(x)),
+        Err(_) => Err(other),
+    }
+}
+
 #[tactic(auto, unfolding(syn_parts::specs::Kind::type_of_kind))]
 impl<T: Kind> ReadByForm for OfKind<T> {
     ghost use Rattle.syn_parts.specs.Tree.{TypeTree};
@@ -54,10 +64,7 @@ impl<T: Kind> ReadByForm for OfKind<T> {
     fn read(input: &mut ParseBuffer<'_>) -> Result<Self> {
         let other = input.error(ErrorKind::ExpectedPart(Part::Type));
         let ty = whole_type(input, true)?;
-        match T::of(ty) {
-            Ok(x) => Ok(OfKind(x)),
-            Err(_) => Err(other),
-        }
+        of_kind(ty, other)
     }
 }
 

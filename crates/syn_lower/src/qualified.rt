@@ -230,6 +230,27 @@ impl<F: Fn(&mut ParseBuffer<'_>, bool) -> Result<Box<Type>>> Grammar<F> {
         Ok(boxed(input.alloc(), Type::Macro(TypeMacro { mac }))?)
     }
 
+    /// Reads a type that begins with a word, `::` or `<`.
+    #[tactic(auto)]
+    fn at_word(&self, input: &mut ParseBuffer<'_>, several: bool) -> Result<Box<Type>>
+        requires callable { Callable (weight input.old.rest) (F.pre self.now.ty) }
+        requires reads { ReadsType (F.post self.now.ty) }
+        ensures value { Reads (λ x. view.type_of x.value) ((form.when part.fn_at (part.fn_pointer part.type) (form.case mark.implementing (part.implements part.type several) (form.case mark.dynamic (part.object part.type several) (part.named part.type)))).reads input.old.rest) result input.new.rest }
+        ensures noted { input.new.noted ≡ input.old.noted }
+        ensures shrinks { weight input.new.rest ≤ weight input.old.rest }
+    {
+        if fn_at(input) {
+            return self.fn_pointer(input);
+        }
+        if let Some(impl_token) = front::implementing(input) {
+            return self.implements(input, impl_token, several);
+        }
+        if let Some(dyn_token) = front::dynamic(input) {
+            return self.object(input, dyn_token, several);
+        }
+        self.named(input)
+    }
+
     /// Reads a type; behind its `impl` or `dyn` several bounds may stand, or one.
     #[tactic(auto, using(crate::proofs::Makes::makes), unfolding(syn_parts::specs::Part::at_place))]
     fn at_place(&self, input: &mut ParseBuffer<'_>, several: bool) -> Result<Box<Type>>
@@ -258,16 +279,7 @@ impl<F: Fn(&mut ParseBuffer<'_>, bool) -> Result<Box<Type>>> Grammar<F> {
         if input.peek::<Paren>() {
             return self.parens(input);
         }
-        if fn_at(input) {
-            return self.fn_pointer(input);
-        }
-        if let Some(impl_token) = front::implementing(input) {
-            return self.implements(input, impl_token, several);
-        }
-        if let Some(dyn_token) = front::dynamic(input) {
-            return self.object(input, dyn_token, several);
-        }
-        self.named(input)
+        self.at_word(input, several)
     }
 }
 
