@@ -1,17 +1,13 @@
 -- Which parts are read back, by what their code looks at.
-use Rattle.std.proofs.Common.{◌≡◌, ◌≤◌, ℕ, zero, suc, ◌-◌, ◌==◌, ◌&&◌, ◌||◌, Bool, true, false, not, List, [], ◌∷◌, ◌++◌, map, length, Option, Some, None, refl, sym, ap, ◌∙◌, arith}
+use Rattle.std.proofs.Common.{◌≡◌, ℕ, zero, suc, ◌-◌, ◌==◌, ◌&&◌, ◌||◌, Bool, true, false, not, List, [], ◌∷◌, ◌++◌, map, length, Option, Some, None, refl, sym, ap, ◌∙◌, arith}
 use mathlib.Core.Bool.{and-true, and-false, or-true, and_assoc}
 use Rattle.std.proofs.lemmas.Grind.{common_steps}
-use Rattle.std.proofs.lemmas.List.{map-append}
-use Rattle.std.proofs.lemmas.List.Folds.{list_all-append}
 use Rattle.std.specs.List.{list_all}
 use Rattle.std.specs.Prelude.{is_some}
 use Rattle.std.specs.declared.boxed.Box.{Box}
 use Rattle.std.specs.declared.alloc.Global.{Global}
-use Rattle.syn_lexer.specs.declared.lexeme.Delimiter.TheVariants as del
-use Rattle.syn_tokens.specs.Tok.{Tok, ident, punct, literal, group}
+use Rattle.syn_tokens.specs.Tok.{Tok, ident}
 use Rattle.syn_tokens.specs.Front.{is_empty, group_at}
-use Rattle.syn_tokens.specs.View.{length-toks_of}
 use Rattle.syn_tokens.specs.declared.token.Sign.{Sign}
 use Rattle.syn_parts.specs.declared.label.PathStyle.{PathStyle}
 use Rattle.syn_parts.specs.declared.label.PathStyle.TheVariants as style
@@ -21,7 +17,7 @@ use Rattle.syn_parts.specs.Part.{angle_at, turbofish_at, has_none, is_arg_name}
 use Rattle.syn_parts.specs.Tree as t
 use Rattle.syn_parts.specs.Tree.{TypeTree, Segments, SegmentTree, ArgumentsTree, GenericTree, ReturnTree, Bounds, BoundTree, FnArgTree}
 use Rattle.syn_parts.specs.Own.{colon2_before, no_more_types, no_more_generics, no_more_args, no_more_bounds, no_more_segments, one_less, at_most, count_segments}
-use Rattle.syn_parts.specs.Fits.{segment_fits, arg_fits, is_string, is_const, macro_fits, path_fits, ends_well, is_none, lifetimes_fit, fits_if, is_one_type, is_one_bound, bare_segments, style_at, takes_angle, takes_round, is_macro_delimiter, position_fits, name_stops, type_stops, mac_stops, segments_stop, arguments_stop, return_stops, bounds_stop, bound_stops, goes_over, type_fits, types_fit, segments_fit, arguments_fit, generics_fit, generic_fits, return_fits, args_fit, bounds_fit, bound_fits, qpath_fits, output_fits}
+use Rattle.syn_parts.specs.Fits.{segment_fits, arg_fits, is_string, macro_fits, path_fits, ends_well, is_none, lifetimes_fit, fits_if, is_one_type, is_one_bound, bare_segments, style_at, takes_angle, takes_round, is_macro_delimiter, position_fits, name_stops, type_stops, mac_stops, segments_stop, arguments_stop, return_stops, bounds_stop, bound_stops, goes_over, type_fits, types_fit, segments_fit, arguments_fit, generics_fit, generic_fits, return_fits, args_fit, bounds_fit, bound_fits, qpath_fits, output_fits}
 use Rattle.syn_twig.specs.Punct.{is_one}
 use Rattle.syn_lower.specs.ReadBack.{inner_fits, rows_fit, path_fits_inside, qpath_fits_by}
 use Rattle.syn_lower.specs.View.{values, trails, macro_of, last_of, is_some_pair, mapped, lifetime_of, lifetimes_of, abi_of, arg_of, delimiter_of, segment_of, path_of, qself_or, type_of, generic_of, arguments_of, return_of, bound_of, round_of, fn_ptr_of}

@@ -5,13 +5,12 @@ use Rattle.syn_parts.specs.Tree.{FnArgTree, TypeTree, GenericTree, BoundTree, Se
 use Rattle.syn_tokens.specs.Front.{is_empty}
 use Rattle.syn_parts.specs.Form.{Outcome, and_then, more, joined, extend_more, gathered_more, listed, gathered}
 use Rattle.syn_parts.specs.Mark.{comma, gt, colon2, plus}
-use Rattle.syn_parts.specs.Part.{type, generic, lifetime, bound, segment, fn_arg}
+use Rattle.syn_parts.specs.Part.{type, generic, bound, segment, fn_arg}
 use Rattle.syn_parts.proofs.Loops as loops
 use Rattle.syn_parts.proofs.Marks.{comma_present, colon2_present, plus_present}
-use Rattle.syn_parts.proofs.Parts.{type_alike, types_alike, generic_alike, fn_arg_alike, lifetime_alike, bound_alike, whole_segment_alike}
+use Rattle.syn_parts.proofs.Parts.{type_alike, types_alike, generic_alike, fn_arg_alike, bound_alike, whole_segment_alike}
 use Rattle.syn_parts.proofs.Forms.{weaker}
 use Rattle.syn_parts.specs.declared.label.PathStyle.{PathStyle}
-use Rattle.syn_parts.specs.Text.{Text}
 use Rattle.syn_leaf.proofs.Loops.{map-one}
 
 pub types_turn : (found : List TypeTree) (l : List Tok) → gathered comma is_empty (type true) found l

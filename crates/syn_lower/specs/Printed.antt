@@ -5,7 +5,7 @@ use Rattle.std.specs.declared.alloc.Global.{Global}
 use Rattle.syn_lexer.specs.declared.lexeme.Delimiter.{Delimiter}
 use Rattle.syn_lexer.specs.declared.lexeme.Delimiter.TheVariants as del
 use Rattle.syn_tokens.specs.Tok.{Tok, ident, group, inside}
-use Rattle.syn_parts.specs.Own.{alone, joint, at_most, lifetime_own, lifetimes_own, extern_own}
+use Rattle.syn_parts.specs.Own.{alone, at_most, lifetime_own, lifetimes_own, extern_own}
 pub use Rattle.syn_twig.specs.Printed.{pairs_printed, comma, colon2, plus, word, mutability_printed}
 unfoldable pub use Rattle.syn_twig.specs.Printed.{option_printed, punctuated_printed}
 use Rattle.syn_lower.specs.View.{values, lifetime_of, lifetimes_of, abi_of, delimiter_of}
@@ -23,8 +23,6 @@ use Rattle.syn_lower.specs.declared.path.AngleBracketedGenericArgumentsOf.{Angle
 use Rattle.syn_lower.specs.declared.path.AssocTypeOf.{AssocTypeOf}
 use Rattle.syn_lower.specs.declared.ty.TypeReferenceOf.{TypeReferenceOf}
 use Rattle.syn_lower.specs.declared.ty.TypePtrOf.{TypePtrOf}
-use Rattle.syn_twig.specs.declared.ty.PointerMutability.{PointerMutability}
-use Rattle.syn_twig.specs.declared.ty.PointerMutability.TheVariants as pointer
 use Rattle.syn_lower.specs.declared.ty.TypeSliceOf.{TypeSliceOf}
 use Rattle.syn_lower.specs.declared.ty.TypeArrayOf.{TypeArrayOf}
 use Rattle.syn_lower.specs.declared.ty.TypeTupleOf.{TypeTupleOf}

@@ -1,14 +1,11 @@
 -- The lower parts as trees, without their places.
-use Rattle.std.specs.Prelude.{Bool, true, false, not, ◌&&◌, List, [], ◌∷◌, ◌++◌, map, Option, Some, None, is_some}
-use Rattle.std.specs.declared.boxed.Box.{Box}
-use Rattle.std.specs.declared.alloc.Global.{Global}
+use Rattle.std.specs.Prelude.{Bool, map, Option, Some, None, is_some}
 use Rattle.syn_parts.specs.Text.{Text}
 use Rattle.syn_parts.specs.Tree as t
 use Rattle.syn_parts.specs.Tree.{LitTree, LifetimesTree, TypeTree, SegmentTree, PathTree, FnArgTree, ArgumentsTree, GenericTree, ReturnTree, BoundTree, QSelfTree}
 use Rattle.syn_parts.specs.Part.{MacroTree}
 pub use Rattle.syn_twig.specs.View.{mapped, lifetime_of, is_inner, attribute_of, signed, lit_str_of, lit_int_of, lit_float_of, lit_of, delimiter_of, last_of, is_some_pair, lifetimes_of, abi_of, is_mut}
 unfoldable pub use Rattle.syn_twig.specs.View.{values, trails}
-use Rattle.syn_twig.specs.declared.punctuated.Punctuated.{Punctuated}
 use Rattle.syn_lower.specs.declared.mac.MacroOf.{MacroOf}
 use Rattle.syn_lower.specs.declared.path.PathOf.{PathOf}
 use Rattle.syn_lower.specs.declared.path.PathSegmentOf.{PathSegmentOf}
@@ -18,10 +15,6 @@ use Rattle.syn_lower.specs.declared.path.ParenthesizedGenericArguments.{Parenthe
 use Rattle.syn_lower.specs.declared.path.GenericArgument.{GenericArgument, fold-GenericArgument}
 use Rattle.syn_lower.specs.declared.path.AssocTypeOf.{AssocTypeOf}
 use Rattle.syn_lower.specs.declared.path.QSelfOf.{QSelfOf}
-use Rattle.syn_twig.specs.declared.ty.BoundLifetimes.{BoundLifetimes}
-use Rattle.syn_twig.specs.declared.ty.PointerMutability.{PointerMutability}
-use Rattle.syn_twig.specs.declared.ty.PointerMutability.TheVariants as pointer
-use Rattle.syn_twig.specs.declared.ty.Abi.{Abi}
 use Rattle.syn_lower.specs.declared.ty.ReturnType.{ReturnType, fold-ReturnType}
 use Rattle.syn_lower.specs.declared.ty.TypeFnPtr.{TypeFnPtr, fold-TypeFnPtr}
 use Rattle.syn_lower.specs.declared.ty.BareFnArgOf.{BareFnArgOf}

@@ -24,8 +24,8 @@ use syn_lexer::reserved::is_reserved_word;
 use syn_parts::label::PathStyle;
 use syn_tokens::token::{PathSep, Plus};
 use syn_twig::fits::{
-    Element, all_fit, bounds_fit, is_const, is_one, name_fits, some_abi_fits, style_at, takes_angle,
-    takes_round,
+    Element, all_fit, bounds_fit, is_const, is_one, name_fits, some_abi_fits, style_at,
+    takes_angle, takes_round,
 };
 use syn_twig::punctuated::Punctuated;
 

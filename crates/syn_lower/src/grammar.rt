@@ -31,9 +31,7 @@ use syn_leaf::text::stands_alone;
 use syn_parts::label::PathStyle;
 use syn_tokens::buffer::{ParseBuffer, Token};
 use syn_tokens::error::{ErrorKind, Expected, Result};
-use syn_tokens::token::{
-    And, Bracket, Comma, Dyn, Eq, Gt, Impl, Lt, Paren, PathSep, Plus, Star,
-};
+use syn_tokens::token::{And, Bracket, Comma, Dyn, Eq, Gt, Impl, Lt, Paren, PathSep, Plus, Star};
 use syn_twig::front::{angle_at, assoc_at, gt_at, round_at, turbofish_at};
 use syn_twig::punctuated::Punctuated;
 use syn_twig::readers::{maybe_lifetime, maybe_lifetimes, pointer_mutability};
