@@ -1,65 +1,321 @@
--- Each level of a part shows the trees of what it holds.
-use Rattle.std.proofs.Common.{◌≡◌, List, refl, ◌∙◌, ap, rules}
+-- Each level of a type shows the trees of what it holds.
+--
+-- A fold goes into a type by maps that are written for each place where a list, an option or an enum stands. What is shown
+-- of each of these is the same behind its map, from the inside out.
+use Rattle.std.proofs.Common.{◌≡◌, Bool, not, ◌&&◌, List, [], ◌∷◌, ◌++◌, map, Option, Some, None, refl, ◌∙◌, ap, rules}
 use Rattle.std.proofs.lemmas.List.{map-append}
 use Rattle.std.proofs.lemmas.Simd.{map-map}
+use Rattle.std.specs.Prelude.{is_some}
 use Rattle.std.specs.declared.boxed.Box.{Box}
 use Rattle.std.specs.declared.alloc.Global.{Global}
-use Rattle.syn_tokens.specs.Tok.{Tok}
-use Rattle.syn_tokens.specs.declared.token.Sign.{Sign}
-use Rattle.syn_parts.specs.Tree.{TypeTree, GenericTree, ArgumentsTree, ReturnTree, BoundTree}
-use Rattle.syn_lower.specs.declared.path.GenericArgument.{GenericArgument, map-GenericArgument, fold_out-GenericArgument, out-GenericArgument}
-use Rattle.syn_lower.specs.declared.path.GenericArgument.TheVariants as generic
-use Rattle.syn_lower.specs.declared.path.PathArguments.{PathArguments, map-PathArguments, fold_out-PathArguments, out-PathArguments}
-use Rattle.syn_lower.specs.declared.path.PathArguments.TheVariants as args
-use Rattle.syn_lower.specs.declared.ty.ReturnType.{ReturnType, map-ReturnType, fold_out-ReturnType, out-ReturnType}
-use Rattle.syn_lower.specs.declared.ty.ReturnType.TheVariants as output
+use Rattle.syn_parts.specs.Tree as t
+use Rattle.syn_parts.specs.Tree.{TypeTree}
+use Rattle.syn_branch.specs.declared.path.PathArgumentsOf.{PathArgumentsOf}
+use Rattle.syn_branch.specs.declared.path.PathArgumentsOf.TheVariants as arguments
+use Rattle.syn_branch.specs.declared.path.PathSegmentOf.{PathSegmentOf}
+use Rattle.syn_branch.specs.declared.path.GenericArgumentOf.{GenericArgumentOf}
+use Rattle.syn_branch.specs.declared.path.GenericArgumentOf.TheVariants as generic
+use Rattle.syn_branch.specs.declared.path.QSelfOf.{QSelfOf}
+use Rattle.syn_branch.specs.declared.ty.ReturnTypeOf.{ReturnTypeOf}
+use Rattle.syn_branch.specs.declared.ty.ReturnTypeOf.TheVariants as output
+use Rattle.syn_branch.specs.declared.ty.TypeParamBoundOf.{TypeParamBoundOf}
+use Rattle.syn_branch.specs.declared.ty.TypeParamBoundOf.TheVariants as bound
+use Rattle.syn_branch.specs.View.{values, trails, last_of, is_some_pair, mapped, lifetimes_of, delimiter_of, generic_of, arguments_of, return_of, bound_of, segment_of, qself_or}
 use Rattle.syn_lower.specs.declared.ty.«Type».{«Type», map-Type, fold_out-Type, out-Type}
-use Rattle.syn_lower.specs.declared.ty.«Type».TheVariants as ty
-use Rattle.syn_lower.specs.declared.ty.TypeParamBound.{TypeParamBound, map-TypeParamBound, fold_out-TypeParamBound, out-TypeParamBound}
-use Rattle.syn_lower.specs.declared.ty.TypeParamBound.TheVariants as bound
-use Rattle.syn_lower.specs.declared.path.ParenthesizedGenericArguments.{ParenthesizedGenericArguments, map-ParenthesizedGenericArguments, fold_out-ParenthesizedGenericArguments, out-ParenthesizedGenericArguments}
-use Rattle.syn_lower.specs.declared.ty.TypeFnPtr.{TypeFnPtr, map-TypeFnPtr, fold_out-TypeFnPtr, out-TypeFnPtr}
-use Rattle.syn_lower.specs.declared.ty.TypePath.{TypePath, map-TypePath, fold_out-TypePath, out-TypePath}
-use Rattle.syn_lower.specs.declared.path.GenericArgument.TheOpen.{GenericArgument-F, PathArguments-F, ReturnType-F, Type-F, TypeParamBound-F, ParenthesizedGenericArguments-F, TypeFnPtr-F, TypePath-F}
-use Rattle.syn_lower.specs.declared.ty.TypeMacroOf.{TypeMacroOf}
-use Rattle.syn_lower.specs.declared.ty.TypeReferenceOf.{TypeReferenceOf}
-use Rattle.syn_lower.specs.declared.ty.TypePtrOf.{TypePtrOf}
-use Rattle.syn_lower.specs.declared.ty.TypeSliceOf.{TypeSliceOf}
-use Rattle.syn_lower.specs.declared.ty.TypeArrayOf.{TypeArrayOf}
-use Rattle.syn_lower.specs.declared.ty.TypeTupleOf.{TypeTupleOf}
-use Rattle.syn_lower.specs.declared.ty.TypeParenOf.{TypeParenOf}
-use Rattle.syn_lower.specs.declared.ty.TypeNever.{TypeNever}
-use Rattle.syn_lower.specs.declared.ty.TypeInfer.{TypeInfer}
-use Rattle.syn_lower.specs.declared.ty.TypeImplTraitOf.{TypeImplTraitOf}
-use Rattle.syn_lower.specs.declared.ty.TypeTraitObjectOf.{TypeTraitObjectOf}
-use Rattle.syn_lower.specs.declared.path.AssocTypeOf.{AssocTypeOf}
-use Rattle.syn_lower.specs.declared.path.AngleBracketedGenericArgumentsOf.{AngleBracketedGenericArgumentsOf}
-use Rattle.syn_lower.specs.declared.ty.TraitBoundOf.{TraitBoundOf}
-use Rattle.syn_leaf.specs.declared.lifetime.Lifetime.{Lifetime}
-use Rattle.syn_lower.specs.View.{values, trails, generic_layer, generic_step, generic_of, arguments_layer, arguments_step, arguments_of, return_layer, return_step, return_of, type_layer, type_step, type_of, bound_layer, bound_step, bound_of, round_layer, round_step, round_of, fn_ptr_layer, fn_ptr_step, fn_ptr_of, type_path_layer, type_path_step, type_path_of}
+use Rattle.syn_lower.specs.declared.ty.«Type».TheOpen.{Type-F}
+use Rattle.syn_lower.specs.declared.ty.«Type».TheShapes as shapes
+use Rattle.syn_lower.specs.View.{type_layer, type_of}
 
-generic_step-map : (l : GenericArgument-F GenericArgument PathArguments ReturnType «Type» TypeParamBound ParenthesizedGenericArguments TypeFnPtr TypePath) → generic_step (map-GenericArgument GenericArgument PathArguments ReturnType «Type» TypeParamBound ParenthesizedGenericArguments TypeFnPtr TypePath GenericTree ArgumentsTree ReturnTree TypeTree BoundTree ArgumentsTree TypeTree TypeTree generic_of arguments_of return_of type_of bound_of round_of fn_ptr_of type_path_of l) ≡ generic_layer generic_of arguments_of return_of type_of bound_of round_of fn_ptr_of type_path_of l
-unfolding values trails
-generic_step-map (GenericArgument-F.GenericArgument::Lifetime x) = refl
-generic_step-map (GenericArgument-F.Const x) = refl
-generic_step-map (GenericArgument-F.AssocType x) = refl
-generic_step-map (GenericArgument-F.Ty x) = refl
+-- ---- lists with puncts
 
-arguments_step-map : (l : PathArguments-F GenericArgument PathArguments ReturnType «Type» TypeParamBound ParenthesizedGenericArguments TypeFnPtr TypePath) → arguments_step (map-PathArguments GenericArgument PathArguments ReturnType «Type» TypeParamBound ParenthesizedGenericArguments TypeFnPtr TypePath GenericTree ArgumentsTree ReturnTree TypeTree BoundTree ArgumentsTree TypeTree TypeTree generic_of arguments_of return_of type_of bound_of round_of fn_ptr_of type_path_of l) ≡ arguments_layer generic_of arguments_of return_of type_of bound_of round_of fn_ptr_of type_path_of l
-unfolding values trails
-arguments_step-map PathArguments-F.None = refl
-arguments_step-map (PathArguments-F.AngleBracketed x) = search (rules, map-map, map-append)
-arguments_step-map (PathArguments-F.Parenthesized x) = refl
+-- what is shown of the last value is the same
+abbrev SameLast : {A B C : Type 0} → (A → C) → (B → C) → Option (Box A Global) → Option (Box B Global) → Type 0
+SameLast f g o o' = (map g (last_of o') ≡ map f (last_of o)) × (is_some o' ≡ is_some o)
 
-return_step-map : (l : ReturnType-F GenericArgument PathArguments ReturnType «Type» TypeParamBound ParenthesizedGenericArguments TypeFnPtr TypePath) → return_step (map-ReturnType GenericArgument PathArguments ReturnType «Type» TypeParamBound ParenthesizedGenericArguments TypeFnPtr TypePath GenericTree ArgumentsTree ReturnTree TypeTree BoundTree ArgumentsTree TypeTree TypeTree generic_of arguments_of return_of type_of bound_of round_of fn_ptr_of type_path_of l) ≡ return_layer generic_of arguments_of return_of type_of bound_of round_of fn_ptr_of type_path_of l
-unfolding values trails
-return_step-map ReturnType-F.Default = refl
-return_step-map (ReturnType-F.Given a b) = refl
+list_same : {A B C P : Type 0} (f : A → C) (g : B → C) (m : A × P → B × P) → ((q : A × P) → g (m q).0 ≡ f q.0) → (xs : List (A × P)) (ys : List C) (zs : List C) → ys ≡ zs → (map g (map (λ q. q.0) (map m xs))) ++ ys ≡ map f (map (λ q. q.0) xs) ++ zs
+list_same f g m h [] ys zs e = e
+list_same f g m h (x ∷ xs) ys zs e = let a = h x in let r = list_same f g m h xs ys zs e in cc
 
-type_step-map : (l : Type-F GenericArgument PathArguments ReturnType «Type» TypeParamBound ParenthesizedGenericArguments TypeFnPtr TypePath) → type_step (map-Type GenericArgument PathArguments ReturnType «Type» TypeParamBound ParenthesizedGenericArguments TypeFnPtr TypePath GenericTree ArgumentsTree ReturnTree TypeTree BoundTree ArgumentsTree TypeTree TypeTree generic_of arguments_of return_of type_of bound_of round_of fn_ptr_of type_path_of l) ≡ type_layer generic_of arguments_of return_of type_of bound_of round_of fn_ptr_of type_path_of l
+trails_same : {A B : Type 0} (m : A → B) (xs : List A) (b d : Bool) → b ≡ d → (is_some_pair (map m xs) && not b) ≡ (is_some_pair xs && not d)
+trails_same m [] b d e = refl
+trails_same m (x ∷ xs) b d e = ap not e
+
+-- what is shown of the values and of whether a punct ends them
+punctuated_same : {A B C D P : Type 0} (f : A → C) (g : B → C) (m : A × P → B × P) (k : List C → Bool → D) → ((q : A × P) → g (m q).0 ≡ f q.0) → (xs : List (A × P)) (o : Option (Box A Global)) (o' : Option (Box B Global)) → SameLast f g o o'
+    → k (map g (map (λ q. q.0) (map m xs) ++ last_of o')) (is_some_pair (map m xs) && not (is_some o')) ≡ k (map f (map (λ q. q.0) xs ++ last_of o)) (is_some_pair xs && not (is_some o))
+punctuated_same f g m k h xs o o' s =
+    let v = list_same f g m h xs (map g (last_of o')) (map f (last_of o)) s.0 in
+    let e = trails_same m xs (is_some o') (is_some o) s.1 in
+    let a = map-append g (map (λ q. q.0) (map m xs)) (last_of o') in
+    let b = map-append f (map (λ q. q.0) xs) (last_of o) in
+    cc
+
+-- ---- what each map is to show
+
+abbrev SeesGeneric : (GenericArgumentOf «Type» → GenericArgumentOf TypeTree) → Type 0
+SeesGeneric m = (a : GenericArgumentOf «Type») → generic_of (λ x. x) (m a) ≡ generic_of type_of a
+
+abbrev SeesOutput : (ReturnTypeOf «Type» → ReturnTypeOf TypeTree) → Type 0
+SeesOutput m = (a : ReturnTypeOf «Type») → return_of (λ x. x) (m a) ≡ return_of type_of a
+
+abbrev SeesArguments : (PathArgumentsOf «Type» → PathArgumentsOf TypeTree) → Type 0
+SeesArguments m = (a : PathArgumentsOf «Type») → arguments_of (λ x. x) (m a) ≡ arguments_of type_of a
+
+abbrev SeesBound : (TypeParamBoundOf «Type» → TypeParamBoundOf TypeTree) → Type 0
+SeesBound m = (a : TypeParamBoundOf «Type») → bound_of (λ x. x) (m a) ≡ bound_of type_of a
+
+abbrev SeesLastGeneric : (Option (Box (GenericArgumentOf «Type») Global) → Option (Box (GenericArgumentOf TypeTree) Global)) → Type 0
+SeesLastGeneric m = (o : Option (Box (GenericArgumentOf «Type») Global)) → SameLast (generic_of type_of) (generic_of (λ x. x)) o (m o)
+
+abbrev SeesLastSegment : (Option (Box (PathSegmentOf «Type») Global) → Option (Box (PathSegmentOf TypeTree) Global)) → Type 0
+SeesLastSegment m = (o : Option (Box (PathSegmentOf «Type») Global)) → SameLast (segment_of type_of) (segment_of (λ x. x)) o (m o)
+
+abbrev SeesLastBound : (Option (Box (TypeParamBoundOf «Type») Global) → Option (Box (TypeParamBoundOf TypeTree) Global)) → Type 0
+SeesLastBound m = (o : Option (Box (TypeParamBoundOf «Type») Global)) → SameLast (bound_of type_of) (bound_of (λ x. x)) o (m o)
+
+-- ---- each map
+
+generic-Path-19 : SeesGeneric (shapes.former-Type-Path-0-at-19.map «Type» TypeTree type_of)
+generic-Path-19 = elim [ generic.Lifetime a ↦ refl | generic.Const a ↦ refl | generic.AssocType a ↦ refl | generic.Ty a ↦ refl ]
+
+generic-Path-30 : SeesGeneric (shapes.former-Type-Path-0-at-30.map «Type» TypeTree type_of)
+generic-Path-30 = elim [ generic.Lifetime a ↦ refl | generic.Const a ↦ refl | generic.AssocType a ↦ refl | generic.Ty a ↦ refl ]
+
+last-Path-32 : SeesLastGeneric (shapes.former-Type-Path-0-at-32.map «Type» TypeTree type_of)
+last-Path-32 = elim [ None ↦ (refl, refl) | Some b ↦ (ap (λ x. x ∷ []) (generic-Path-30 b.value), refl) ]
+
+output-Path-48 : SeesOutput (shapes.former-Type-Path-0-at-48.map «Type» TypeTree type_of)
+output-Path-48 = elim [ output.Default ↦ refl | output.Given a b ↦ refl ]
+
+arguments-Path-50 : SeesArguments (shapes.former-Type-Path-0-at-50.map «Type» TypeTree type_of)
 unfolding values trails
-type_step-map (Type-F.Path x) = refl
-type_step-map (Type-F.Macro x) = search (rules, map-map, map-append)
+arguments-Path-50 = elim [ arguments.None ↦ refl | arguments.AngleBracketed a ↦ punctuated_same (generic_of type_of) (generic_of (λ x. x)) _ (λ ss e. t.angle (is_some a.colon2_token) (t.generics_of ss) e) (λ q. generic-Path-19 q.0) a.args.inner.items a.args.last _ (last-Path-32 a.args.last) | arguments.Parenthesized a ↦ let e = output-Path-48 a.output in search (rules, map-map, map-append, e) ]
+
+generic-Path-65 : SeesGeneric (shapes.former-Type-Path-0-at-65.map «Type» TypeTree type_of)
+generic-Path-65 = elim [ generic.Lifetime a ↦ refl | generic.Const a ↦ refl | generic.AssocType a ↦ refl | generic.Ty a ↦ refl ]
+
+generic-Path-76 : SeesGeneric (shapes.former-Type-Path-0-at-76.map «Type» TypeTree type_of)
+generic-Path-76 = elim [ generic.Lifetime a ↦ refl | generic.Const a ↦ refl | generic.AssocType a ↦ refl | generic.Ty a ↦ refl ]
+
+last-Path-78 : SeesLastGeneric (shapes.former-Type-Path-0-at-78.map «Type» TypeTree type_of)
+last-Path-78 = elim [ None ↦ (refl, refl) | Some b ↦ (ap (λ x. x ∷ []) (generic-Path-76 b.value), refl) ]
+
+output-Path-94 : SeesOutput (shapes.former-Type-Path-0-at-94.map «Type» TypeTree type_of)
+output-Path-94 = elim [ output.Default ↦ refl | output.Given a b ↦ refl ]
+
+arguments-Path-96 : SeesArguments (shapes.former-Type-Path-0-at-96.map «Type» TypeTree type_of)
+unfolding values trails
+arguments-Path-96 = elim [ arguments.None ↦ refl | arguments.AngleBracketed a ↦ punctuated_same (generic_of type_of) (generic_of (λ x. x)) _ (λ ss e. t.angle (is_some a.colon2_token) (t.generics_of ss) e) (λ q. generic-Path-65 q.0) a.args.inner.items a.args.last _ (last-Path-78 a.args.last) | arguments.Parenthesized a ↦ let e = output-Path-94 a.output in search (rules, map-map, map-append, e) ]
+
+segment-Path-99 : SeesLastSegment (shapes.former-Type-Path-0-at-99.map «Type» TypeTree type_of)
+segment-Path-99 = elim [ None ↦ (refl, refl) | Some b ↦ (ap (λ a. record { ident = b.value.ident; arguments = a } ∷ []) (arguments-Path-96 b.value.arguments), refl) ]
+
+generic-Macro-11 : SeesGeneric (shapes.former-Type-Macro-0-at-11.map «Type» TypeTree type_of)
+generic-Macro-11 = elim [ generic.Lifetime a ↦ refl | generic.Const a ↦ refl | generic.AssocType a ↦ refl | generic.Ty a ↦ refl ]
+
+generic-Macro-22 : SeesGeneric (shapes.former-Type-Macro-0-at-22.map «Type» TypeTree type_of)
+generic-Macro-22 = elim [ generic.Lifetime a ↦ refl | generic.Const a ↦ refl | generic.AssocType a ↦ refl | generic.Ty a ↦ refl ]
+
+last-Macro-24 : SeesLastGeneric (shapes.former-Type-Macro-0-at-24.map «Type» TypeTree type_of)
+last-Macro-24 = elim [ None ↦ (refl, refl) | Some b ↦ (ap (λ x. x ∷ []) (generic-Macro-22 b.value), refl) ]
+
+output-Macro-40 : SeesOutput (shapes.former-Type-Macro-0-at-40.map «Type» TypeTree type_of)
+output-Macro-40 = elim [ output.Default ↦ refl | output.Given a b ↦ refl ]
+
+arguments-Macro-42 : SeesArguments (shapes.former-Type-Macro-0-at-42.map «Type» TypeTree type_of)
+unfolding values trails
+arguments-Macro-42 = elim [ arguments.None ↦ refl | arguments.AngleBracketed a ↦ punctuated_same (generic_of type_of) (generic_of (λ x. x)) _ (λ ss e. t.angle (is_some a.colon2_token) (t.generics_of ss) e) (λ q. generic-Macro-11 q.0) a.args.inner.items a.args.last _ (last-Macro-24 a.args.last) | arguments.Parenthesized a ↦ let e = output-Macro-40 a.output in search (rules, map-map, map-append, e) ]
+
+generic-Macro-57 : SeesGeneric (shapes.former-Type-Macro-0-at-57.map «Type» TypeTree type_of)
+generic-Macro-57 = elim [ generic.Lifetime a ↦ refl | generic.Const a ↦ refl | generic.AssocType a ↦ refl | generic.Ty a ↦ refl ]
+
+generic-Macro-68 : SeesGeneric (shapes.former-Type-Macro-0-at-68.map «Type» TypeTree type_of)
+generic-Macro-68 = elim [ generic.Lifetime a ↦ refl | generic.Const a ↦ refl | generic.AssocType a ↦ refl | generic.Ty a ↦ refl ]
+
+last-Macro-70 : SeesLastGeneric (shapes.former-Type-Macro-0-at-70.map «Type» TypeTree type_of)
+last-Macro-70 = elim [ None ↦ (refl, refl) | Some b ↦ (ap (λ x. x ∷ []) (generic-Macro-68 b.value), refl) ]
+
+output-Macro-86 : SeesOutput (shapes.former-Type-Macro-0-at-86.map «Type» TypeTree type_of)
+output-Macro-86 = elim [ output.Default ↦ refl | output.Given a b ↦ refl ]
+
+arguments-Macro-88 : SeesArguments (shapes.former-Type-Macro-0-at-88.map «Type» TypeTree type_of)
+unfolding values trails
+arguments-Macro-88 = elim [ arguments.None ↦ refl | arguments.AngleBracketed a ↦ punctuated_same (generic_of type_of) (generic_of (λ x. x)) _ (λ ss e. t.angle (is_some a.colon2_token) (t.generics_of ss) e) (λ q. generic-Macro-57 q.0) a.args.inner.items a.args.last _ (last-Macro-70 a.args.last) | arguments.Parenthesized a ↦ let e = output-Macro-86 a.output in search (rules, map-map, map-append, e) ]
+
+segment-Macro-91 : SeesLastSegment (shapes.former-Type-Macro-0-at-91.map «Type» TypeTree type_of)
+segment-Macro-91 = elim [ None ↦ (refl, refl) | Some b ↦ (ap (λ a. record { ident = b.value.ident; arguments = a } ∷ []) (arguments-Macro-88 b.value.arguments), refl) ]
+
+generic-ImplTrait-15 : SeesGeneric (shapes.former-Type-ImplTrait-0-at-15.map «Type» TypeTree type_of)
+generic-ImplTrait-15 = elim [ generic.Lifetime a ↦ refl | generic.Const a ↦ refl | generic.AssocType a ↦ refl | generic.Ty a ↦ refl ]
+
+generic-ImplTrait-26 : SeesGeneric (shapes.former-Type-ImplTrait-0-at-26.map «Type» TypeTree type_of)
+generic-ImplTrait-26 = elim [ generic.Lifetime a ↦ refl | generic.Const a ↦ refl | generic.AssocType a ↦ refl | generic.Ty a ↦ refl ]
+
+last-ImplTrait-28 : SeesLastGeneric (shapes.former-Type-ImplTrait-0-at-28.map «Type» TypeTree type_of)
+last-ImplTrait-28 = elim [ None ↦ (refl, refl) | Some b ↦ (ap (λ x. x ∷ []) (generic-ImplTrait-26 b.value), refl) ]
+
+output-ImplTrait-44 : SeesOutput (shapes.former-Type-ImplTrait-0-at-44.map «Type» TypeTree type_of)
+output-ImplTrait-44 = elim [ output.Default ↦ refl | output.Given a b ↦ refl ]
+
+arguments-ImplTrait-46 : SeesArguments (shapes.former-Type-ImplTrait-0-at-46.map «Type» TypeTree type_of)
+unfolding values trails
+arguments-ImplTrait-46 = elim [ arguments.None ↦ refl | arguments.AngleBracketed a ↦ punctuated_same (generic_of type_of) (generic_of (λ x. x)) _ (λ ss e. t.angle (is_some a.colon2_token) (t.generics_of ss) e) (λ q. generic-ImplTrait-15 q.0) a.args.inner.items a.args.last _ (last-ImplTrait-28 a.args.last) | arguments.Parenthesized a ↦ let e = output-ImplTrait-44 a.output in search (rules, map-map, map-append, e) ]
+
+generic-ImplTrait-61 : SeesGeneric (shapes.former-Type-ImplTrait-0-at-61.map «Type» TypeTree type_of)
+generic-ImplTrait-61 = elim [ generic.Lifetime a ↦ refl | generic.Const a ↦ refl | generic.AssocType a ↦ refl | generic.Ty a ↦ refl ]
+
+generic-ImplTrait-72 : SeesGeneric (shapes.former-Type-ImplTrait-0-at-72.map «Type» TypeTree type_of)
+generic-ImplTrait-72 = elim [ generic.Lifetime a ↦ refl | generic.Const a ↦ refl | generic.AssocType a ↦ refl | generic.Ty a ↦ refl ]
+
+last-ImplTrait-74 : SeesLastGeneric (shapes.former-Type-ImplTrait-0-at-74.map «Type» TypeTree type_of)
+last-ImplTrait-74 = elim [ None ↦ (refl, refl) | Some b ↦ (ap (λ x. x ∷ []) (generic-ImplTrait-72 b.value), refl) ]
+
+output-ImplTrait-90 : SeesOutput (shapes.former-Type-ImplTrait-0-at-90.map «Type» TypeTree type_of)
+output-ImplTrait-90 = elim [ output.Default ↦ refl | output.Given a b ↦ refl ]
+
+arguments-ImplTrait-92 : SeesArguments (shapes.former-Type-ImplTrait-0-at-92.map «Type» TypeTree type_of)
+unfolding values trails
+arguments-ImplTrait-92 = elim [ arguments.None ↦ refl | arguments.AngleBracketed a ↦ punctuated_same (generic_of type_of) (generic_of (λ x. x)) _ (λ ss e. t.angle (is_some a.colon2_token) (t.generics_of ss) e) (λ q. generic-ImplTrait-61 q.0) a.args.inner.items a.args.last _ (last-ImplTrait-74 a.args.last) | arguments.Parenthesized a ↦ let e = output-ImplTrait-90 a.output in search (rules, map-map, map-append, e) ]
+
+segment-ImplTrait-95 : SeesLastSegment (shapes.former-Type-ImplTrait-0-at-95.map «Type» TypeTree type_of)
+segment-ImplTrait-95 = elim [ None ↦ (refl, refl) | Some b ↦ (ap (λ a. record { ident = b.value.ident; arguments = a } ∷ []) (arguments-ImplTrait-92 b.value.arguments), refl) ]
+
+bound-ImplTrait-99 : SeesBound (shapes.former-Type-ImplTrait-0-at-99.map «Type» TypeTree type_of)
+unfolding values trails
+bound-ImplTrait-99 = elim [ bound.Lifetime a ↦ refl | bound.Trait a ↦ punctuated_same (segment_of type_of) (segment_of (λ x. x)) _ (λ ss e. t.a_trait (is_some a.maybe) (mapped lifetimes_of a.lifetimes) (is_some a.path.leading_colon) (t.segments_of ss) e) (λ q. ap (λ a. record { ident = q.0.ident; arguments = a }) (arguments-ImplTrait-46 q.0.arguments)) a.path.segments.inner.items a.path.segments.last _ (segment-ImplTrait-95 a.path.segments.last) ]
+
+generic-ImplTrait-117 : SeesGeneric (shapes.former-Type-ImplTrait-0-at-117.map «Type» TypeTree type_of)
+generic-ImplTrait-117 = elim [ generic.Lifetime a ↦ refl | generic.Const a ↦ refl | generic.AssocType a ↦ refl | generic.Ty a ↦ refl ]
+
+generic-ImplTrait-128 : SeesGeneric (shapes.former-Type-ImplTrait-0-at-128.map «Type» TypeTree type_of)
+generic-ImplTrait-128 = elim [ generic.Lifetime a ↦ refl | generic.Const a ↦ refl | generic.AssocType a ↦ refl | generic.Ty a ↦ refl ]
+
+last-ImplTrait-130 : SeesLastGeneric (shapes.former-Type-ImplTrait-0-at-130.map «Type» TypeTree type_of)
+last-ImplTrait-130 = elim [ None ↦ (refl, refl) | Some b ↦ (ap (λ x. x ∷ []) (generic-ImplTrait-128 b.value), refl) ]
+
+output-ImplTrait-146 : SeesOutput (shapes.former-Type-ImplTrait-0-at-146.map «Type» TypeTree type_of)
+output-ImplTrait-146 = elim [ output.Default ↦ refl | output.Given a b ↦ refl ]
+
+arguments-ImplTrait-148 : SeesArguments (shapes.former-Type-ImplTrait-0-at-148.map «Type» TypeTree type_of)
+unfolding values trails
+arguments-ImplTrait-148 = elim [ arguments.None ↦ refl | arguments.AngleBracketed a ↦ punctuated_same (generic_of type_of) (generic_of (λ x. x)) _ (λ ss e. t.angle (is_some a.colon2_token) (t.generics_of ss) e) (λ q. generic-ImplTrait-117 q.0) a.args.inner.items a.args.last _ (last-ImplTrait-130 a.args.last) | arguments.Parenthesized a ↦ let e = output-ImplTrait-146 a.output in search (rules, map-map, map-append, e) ]
+
+generic-ImplTrait-163 : SeesGeneric (shapes.former-Type-ImplTrait-0-at-163.map «Type» TypeTree type_of)
+generic-ImplTrait-163 = elim [ generic.Lifetime a ↦ refl | generic.Const a ↦ refl | generic.AssocType a ↦ refl | generic.Ty a ↦ refl ]
+
+generic-ImplTrait-174 : SeesGeneric (shapes.former-Type-ImplTrait-0-at-174.map «Type» TypeTree type_of)
+generic-ImplTrait-174 = elim [ generic.Lifetime a ↦ refl | generic.Const a ↦ refl | generic.AssocType a ↦ refl | generic.Ty a ↦ refl ]
+
+last-ImplTrait-176 : SeesLastGeneric (shapes.former-Type-ImplTrait-0-at-176.map «Type» TypeTree type_of)
+last-ImplTrait-176 = elim [ None ↦ (refl, refl) | Some b ↦ (ap (λ x. x ∷ []) (generic-ImplTrait-174 b.value), refl) ]
+
+output-ImplTrait-192 : SeesOutput (shapes.former-Type-ImplTrait-0-at-192.map «Type» TypeTree type_of)
+output-ImplTrait-192 = elim [ output.Default ↦ refl | output.Given a b ↦ refl ]
+
+arguments-ImplTrait-194 : SeesArguments (shapes.former-Type-ImplTrait-0-at-194.map «Type» TypeTree type_of)
+unfolding values trails
+arguments-ImplTrait-194 = elim [ arguments.None ↦ refl | arguments.AngleBracketed a ↦ punctuated_same (generic_of type_of) (generic_of (λ x. x)) _ (λ ss e. t.angle (is_some a.colon2_token) (t.generics_of ss) e) (λ q. generic-ImplTrait-163 q.0) a.args.inner.items a.args.last _ (last-ImplTrait-176 a.args.last) | arguments.Parenthesized a ↦ let e = output-ImplTrait-192 a.output in search (rules, map-map, map-append, e) ]
+
+segment-ImplTrait-197 : SeesLastSegment (shapes.former-Type-ImplTrait-0-at-197.map «Type» TypeTree type_of)
+segment-ImplTrait-197 = elim [ None ↦ (refl, refl) | Some b ↦ (ap (λ a. record { ident = b.value.ident; arguments = a } ∷ []) (arguments-ImplTrait-194 b.value.arguments), refl) ]
+
+bound-ImplTrait-201 : SeesBound (shapes.former-Type-ImplTrait-0-at-201.map «Type» TypeTree type_of)
+unfolding values trails
+bound-ImplTrait-201 = elim [ bound.Lifetime a ↦ refl | bound.Trait a ↦ punctuated_same (segment_of type_of) (segment_of (λ x. x)) _ (λ ss e. t.a_trait (is_some a.maybe) (mapped lifetimes_of a.lifetimes) (is_some a.path.leading_colon) (t.segments_of ss) e) (λ q. ap (λ a. record { ident = q.0.ident; arguments = a }) (arguments-ImplTrait-148 q.0.arguments)) a.path.segments.inner.items a.path.segments.last _ (segment-ImplTrait-197 a.path.segments.last) ]
+
+bounds-ImplTrait-203 : SeesLastBound (shapes.former-Type-ImplTrait-0-at-203.map «Type» TypeTree type_of)
+bounds-ImplTrait-203 = elim [ None ↦ (refl, refl) | Some b ↦ (ap (λ x. x ∷ []) (bound-ImplTrait-201 b.value), refl) ]
+
+generic-TraitObject-15 : SeesGeneric (shapes.former-Type-TraitObject-0-at-15.map «Type» TypeTree type_of)
+generic-TraitObject-15 = elim [ generic.Lifetime a ↦ refl | generic.Const a ↦ refl | generic.AssocType a ↦ refl | generic.Ty a ↦ refl ]
+
+generic-TraitObject-26 : SeesGeneric (shapes.former-Type-TraitObject-0-at-26.map «Type» TypeTree type_of)
+generic-TraitObject-26 = elim [ generic.Lifetime a ↦ refl | generic.Const a ↦ refl | generic.AssocType a ↦ refl | generic.Ty a ↦ refl ]
+
+last-TraitObject-28 : SeesLastGeneric (shapes.former-Type-TraitObject-0-at-28.map «Type» TypeTree type_of)
+last-TraitObject-28 = elim [ None ↦ (refl, refl) | Some b ↦ (ap (λ x. x ∷ []) (generic-TraitObject-26 b.value), refl) ]
+
+output-TraitObject-44 : SeesOutput (shapes.former-Type-TraitObject-0-at-44.map «Type» TypeTree type_of)
+output-TraitObject-44 = elim [ output.Default ↦ refl | output.Given a b ↦ refl ]
+
+arguments-TraitObject-46 : SeesArguments (shapes.former-Type-TraitObject-0-at-46.map «Type» TypeTree type_of)
+unfolding values trails
+arguments-TraitObject-46 = elim [ arguments.None ↦ refl | arguments.AngleBracketed a ↦ punctuated_same (generic_of type_of) (generic_of (λ x. x)) _ (λ ss e. t.angle (is_some a.colon2_token) (t.generics_of ss) e) (λ q. generic-TraitObject-15 q.0) a.args.inner.items a.args.last _ (last-TraitObject-28 a.args.last) | arguments.Parenthesized a ↦ let e = output-TraitObject-44 a.output in search (rules, map-map, map-append, e) ]
+
+generic-TraitObject-61 : SeesGeneric (shapes.former-Type-TraitObject-0-at-61.map «Type» TypeTree type_of)
+generic-TraitObject-61 = elim [ generic.Lifetime a ↦ refl | generic.Const a ↦ refl | generic.AssocType a ↦ refl | generic.Ty a ↦ refl ]
+
+generic-TraitObject-72 : SeesGeneric (shapes.former-Type-TraitObject-0-at-72.map «Type» TypeTree type_of)
+generic-TraitObject-72 = elim [ generic.Lifetime a ↦ refl | generic.Const a ↦ refl | generic.AssocType a ↦ refl | generic.Ty a ↦ refl ]
+
+last-TraitObject-74 : SeesLastGeneric (shapes.former-Type-TraitObject-0-at-74.map «Type» TypeTree type_of)
+last-TraitObject-74 = elim [ None ↦ (refl, refl) | Some b ↦ (ap (λ x. x ∷ []) (generic-TraitObject-72 b.value), refl) ]
+
+output-TraitObject-90 : SeesOutput (shapes.former-Type-TraitObject-0-at-90.map «Type» TypeTree type_of)
+output-TraitObject-90 = elim [ output.Default ↦ refl | output.Given a b ↦ refl ]
+
+arguments-TraitObject-92 : SeesArguments (shapes.former-Type-TraitObject-0-at-92.map «Type» TypeTree type_of)
+unfolding values trails
+arguments-TraitObject-92 = elim [ arguments.None ↦ refl | arguments.AngleBracketed a ↦ punctuated_same (generic_of type_of) (generic_of (λ x. x)) _ (λ ss e. t.angle (is_some a.colon2_token) (t.generics_of ss) e) (λ q. generic-TraitObject-61 q.0) a.args.inner.items a.args.last _ (last-TraitObject-74 a.args.last) | arguments.Parenthesized a ↦ let e = output-TraitObject-90 a.output in search (rules, map-map, map-append, e) ]
+
+segment-TraitObject-95 : SeesLastSegment (shapes.former-Type-TraitObject-0-at-95.map «Type» TypeTree type_of)
+segment-TraitObject-95 = elim [ None ↦ (refl, refl) | Some b ↦ (ap (λ a. record { ident = b.value.ident; arguments = a } ∷ []) (arguments-TraitObject-92 b.value.arguments), refl) ]
+
+bound-TraitObject-99 : SeesBound (shapes.former-Type-TraitObject-0-at-99.map «Type» TypeTree type_of)
+unfolding values trails
+bound-TraitObject-99 = elim [ bound.Lifetime a ↦ refl | bound.Trait a ↦ punctuated_same (segment_of type_of) (segment_of (λ x. x)) _ (λ ss e. t.a_trait (is_some a.maybe) (mapped lifetimes_of a.lifetimes) (is_some a.path.leading_colon) (t.segments_of ss) e) (λ q. ap (λ a. record { ident = q.0.ident; arguments = a }) (arguments-TraitObject-46 q.0.arguments)) a.path.segments.inner.items a.path.segments.last _ (segment-TraitObject-95 a.path.segments.last) ]
+
+generic-TraitObject-117 : SeesGeneric (shapes.former-Type-TraitObject-0-at-117.map «Type» TypeTree type_of)
+generic-TraitObject-117 = elim [ generic.Lifetime a ↦ refl | generic.Const a ↦ refl | generic.AssocType a ↦ refl | generic.Ty a ↦ refl ]
+
+generic-TraitObject-128 : SeesGeneric (shapes.former-Type-TraitObject-0-at-128.map «Type» TypeTree type_of)
+generic-TraitObject-128 = elim [ generic.Lifetime a ↦ refl | generic.Const a ↦ refl | generic.AssocType a ↦ refl | generic.Ty a ↦ refl ]
+
+last-TraitObject-130 : SeesLastGeneric (shapes.former-Type-TraitObject-0-at-130.map «Type» TypeTree type_of)
+last-TraitObject-130 = elim [ None ↦ (refl, refl) | Some b ↦ (ap (λ x. x ∷ []) (generic-TraitObject-128 b.value), refl) ]
+
+output-TraitObject-146 : SeesOutput (shapes.former-Type-TraitObject-0-at-146.map «Type» TypeTree type_of)
+output-TraitObject-146 = elim [ output.Default ↦ refl | output.Given a b ↦ refl ]
+
+arguments-TraitObject-148 : SeesArguments (shapes.former-Type-TraitObject-0-at-148.map «Type» TypeTree type_of)
+unfolding values trails
+arguments-TraitObject-148 = elim [ arguments.None ↦ refl | arguments.AngleBracketed a ↦ punctuated_same (generic_of type_of) (generic_of (λ x. x)) _ (λ ss e. t.angle (is_some a.colon2_token) (t.generics_of ss) e) (λ q. generic-TraitObject-117 q.0) a.args.inner.items a.args.last _ (last-TraitObject-130 a.args.last) | arguments.Parenthesized a ↦ let e = output-TraitObject-146 a.output in search (rules, map-map, map-append, e) ]
+
+generic-TraitObject-163 : SeesGeneric (shapes.former-Type-TraitObject-0-at-163.map «Type» TypeTree type_of)
+generic-TraitObject-163 = elim [ generic.Lifetime a ↦ refl | generic.Const a ↦ refl | generic.AssocType a ↦ refl | generic.Ty a ↦ refl ]
+
+generic-TraitObject-174 : SeesGeneric (shapes.former-Type-TraitObject-0-at-174.map «Type» TypeTree type_of)
+generic-TraitObject-174 = elim [ generic.Lifetime a ↦ refl | generic.Const a ↦ refl | generic.AssocType a ↦ refl | generic.Ty a ↦ refl ]
+
+last-TraitObject-176 : SeesLastGeneric (shapes.former-Type-TraitObject-0-at-176.map «Type» TypeTree type_of)
+last-TraitObject-176 = elim [ None ↦ (refl, refl) | Some b ↦ (ap (λ x. x ∷ []) (generic-TraitObject-174 b.value), refl) ]
+
+output-TraitObject-192 : SeesOutput (shapes.former-Type-TraitObject-0-at-192.map «Type» TypeTree type_of)
+output-TraitObject-192 = elim [ output.Default ↦ refl | output.Given a b ↦ refl ]
+
+arguments-TraitObject-194 : SeesArguments (shapes.former-Type-TraitObject-0-at-194.map «Type» TypeTree type_of)
+unfolding values trails
+arguments-TraitObject-194 = elim [ arguments.None ↦ refl | arguments.AngleBracketed a ↦ punctuated_same (generic_of type_of) (generic_of (λ x. x)) _ (λ ss e. t.angle (is_some a.colon2_token) (t.generics_of ss) e) (λ q. generic-TraitObject-163 q.0) a.args.inner.items a.args.last _ (last-TraitObject-176 a.args.last) | arguments.Parenthesized a ↦ let e = output-TraitObject-192 a.output in search (rules, map-map, map-append, e) ]
+
+segment-TraitObject-197 : SeesLastSegment (shapes.former-Type-TraitObject-0-at-197.map «Type» TypeTree type_of)
+segment-TraitObject-197 = elim [ None ↦ (refl, refl) | Some b ↦ (ap (λ a. record { ident = b.value.ident; arguments = a } ∷ []) (arguments-TraitObject-194 b.value.arguments), refl) ]
+
+bound-TraitObject-201 : SeesBound (shapes.former-Type-TraitObject-0-at-201.map «Type» TypeTree type_of)
+unfolding values trails
+bound-TraitObject-201 = elim [ bound.Lifetime a ↦ refl | bound.Trait a ↦ punctuated_same (segment_of type_of) (segment_of (λ x. x)) _ (λ ss e. t.a_trait (is_some a.maybe) (mapped lifetimes_of a.lifetimes) (is_some a.path.leading_colon) (t.segments_of ss) e) (λ q. ap (λ a. record { ident = q.0.ident; arguments = a }) (arguments-TraitObject-148 q.0.arguments)) a.path.segments.inner.items a.path.segments.last _ (segment-TraitObject-197 a.path.segments.last) ]
+
+bounds-TraitObject-203 : SeesLastBound (shapes.former-Type-TraitObject-0-at-203.map «Type» TypeTree type_of)
+bounds-TraitObject-203 = elim [ None ↦ (refl, refl) | Some b ↦ (ap (λ x. x ∷ []) (bound-TraitObject-201 b.value), refl) ]
+
+qself : (o : Option (QSelfOf «Type»)) → qself_or (λ x. x) (shapes.former-Type-Path-0-at-7.map «Type» TypeTree type_of o) ≡ qself_or type_of o
+qself = elim [ None ↦ refl | Some q ↦ refl ]
+
+-- ---- a type
+
+type_step-map : (l : Type-F «Type») → type_layer (λ x. x) (map-Type «Type» TypeTree type_of l) ≡ type_layer type_of l
+unfolding values trails
+type_step-map (Type-F.Path x) = punctuated_same (segment_of type_of) (segment_of (λ x. x)) _ (λ ss e. t.path (qself_or (λ x. x) (shapes.former-Type-Path-0-at-7.map «Type» TypeTree type_of x.qself)) (is_some x.path.leading_colon) (t.segments_of ss) e) (λ q. ap (λ a. record { ident = q.0.ident; arguments = a }) (arguments-Path-50 q.0.arguments)) x.path.segments.inner.items x.path.segments.last _ (segment-Path-99 x.path.segments.last) ∙ ap (λ q. t.path q (is_some x.path.leading_colon) (t.segments_of (map (segment_of type_of) (values x.path.segments))) (trails x.path.segments)) (qself x.qself)
+type_step-map (Type-F.Macro x) = punctuated_same (segment_of type_of) (segment_of (λ x. x)) _ (λ ss e. t.mac (is_some x.mac.path.leading_colon) (t.segments_of ss) e (delimiter_of x.mac.delimiter) x.mac.tokens) (λ q. ap (λ a. record { ident = q.0.ident; arguments = a }) (arguments-Macro-42 q.0.arguments)) x.mac.path.segments.inner.items x.mac.path.segments.last _ (segment-Macro-91 x.mac.path.segments.last)
 type_step-map (Type-F.Reference x) = refl
 type_step-map (Type-F.Ptr x) = refl
 type_step-map (Type-F.Slice x) = refl
@@ -68,131 +324,11 @@ type_step-map (Type-F.Tuple x) = search (rules, map-map, map-append)
 type_step-map (Type-F.Paren x) = refl
 type_step-map (Type-F.Never x) = refl
 type_step-map (Type-F.Infer x) = refl
-type_step-map (Type-F.FnPtr x) = refl
-type_step-map (Type-F.ImplTrait x) = search (rules, map-map, map-append)
-type_step-map (Type-F.TraitObject x) = search (rules, map-map, map-append)
+type_step-map (Type-F.FnPtr x) = search (rules, map-map, map-append)
+type_step-map (Type-F.ImplTrait x) = punctuated_same (bound_of type_of) (bound_of (λ x. x)) _ (λ bs e. t.impl_trait (t.bounds_of bs) e) (λ q. bound-ImplTrait-99 q.0) x.bounds.inner.items x.bounds.last _ (bounds-ImplTrait-203 x.bounds.last)
+type_step-map (Type-F.TraitObject x) = punctuated_same (bound_of type_of) (bound_of (λ x. x)) _ (λ bs e. t.trait_object (t.bounds_of bs) e) (λ q. bound-TraitObject-99 q.0) x.bounds.inner.items x.bounds.last _ (bounds-TraitObject-203 x.bounds.last)
 
-bound_step-map : (l : TypeParamBound-F GenericArgument PathArguments ReturnType «Type» TypeParamBound ParenthesizedGenericArguments TypeFnPtr TypePath) → bound_step (map-TypeParamBound GenericArgument PathArguments ReturnType «Type» TypeParamBound ParenthesizedGenericArguments TypeFnPtr TypePath GenericTree ArgumentsTree ReturnTree TypeTree BoundTree ArgumentsTree TypeTree TypeTree generic_of arguments_of return_of type_of bound_of round_of fn_ptr_of type_path_of l) ≡ bound_layer generic_of arguments_of return_of type_of bound_of round_of fn_ptr_of type_path_of l
-unfolding values trails
-bound_step-map (TypeParamBound-F.TypeParamBound::Lifetime x) = refl
-bound_step-map (TypeParamBound-F.Trait x) = search (rules, map-map, map-append)
-
-round_step-map : (l : ParenthesizedGenericArguments-F GenericArgument PathArguments ReturnType «Type» TypeParamBound ParenthesizedGenericArguments TypeFnPtr TypePath) → round_step (map-ParenthesizedGenericArguments GenericArgument PathArguments ReturnType «Type» TypeParamBound ParenthesizedGenericArguments TypeFnPtr TypePath GenericTree ArgumentsTree ReturnTree TypeTree BoundTree ArgumentsTree TypeTree TypeTree generic_of arguments_of return_of type_of bound_of round_of fn_ptr_of type_path_of l) ≡ round_layer generic_of arguments_of return_of type_of bound_of round_of fn_ptr_of type_path_of l
-unfolding values trails
-round_step-map x = search (rules, map-map, map-append)
-
-fn_ptr_step-map : (l : TypeFnPtr-F GenericArgument PathArguments ReturnType «Type» TypeParamBound ParenthesizedGenericArguments TypeFnPtr TypePath) → fn_ptr_step (map-TypeFnPtr GenericArgument PathArguments ReturnType «Type» TypeParamBound ParenthesizedGenericArguments TypeFnPtr TypePath GenericTree ArgumentsTree ReturnTree TypeTree BoundTree ArgumentsTree TypeTree TypeTree generic_of arguments_of return_of type_of bound_of round_of fn_ptr_of type_path_of l) ≡ fn_ptr_layer generic_of arguments_of return_of type_of bound_of round_of fn_ptr_of type_path_of l
-unfolding values trails
-fn_ptr_step-map x = search (rules, map-map, map-append)
-
-type_path_step-map : (l : TypePath-F GenericArgument PathArguments ReturnType «Type» TypeParamBound ParenthesizedGenericArguments TypeFnPtr TypePath) → type_path_step (map-TypePath GenericArgument PathArguments ReturnType «Type» TypeParamBound ParenthesizedGenericArguments TypeFnPtr TypePath GenericTree ArgumentsTree ReturnTree TypeTree BoundTree ArgumentsTree TypeTree TypeTree generic_of arguments_of return_of type_of bound_of round_of fn_ptr_of type_path_of l) ≡ type_path_layer generic_of arguments_of return_of type_of bound_of round_of fn_ptr_of type_path_of l
-unfolding values trails
-type_path_step-map x = search (rules, map-map, map-append)
-
--- ---- each, opened once
-
-pub generic_of-out : (x : GenericArgument) → generic_of x ≡ generic_layer generic_of arguments_of return_of type_of bound_of round_of fn_ptr_of type_path_of (out-GenericArgument x)
-unfolding generic_of arguments_of return_of type_of bound_of round_of fn_ptr_of type_path_of
-generic_of-out x = fold_out-GenericArgument GenericTree ArgumentsTree ReturnTree TypeTree BoundTree ArgumentsTree TypeTree TypeTree generic_step arguments_step return_step type_step bound_step round_step fn_ptr_step type_path_step x ∙ generic_step-map (out-GenericArgument x)
-
-pub arguments_of-out : (x : PathArguments) → arguments_of x ≡ arguments_layer generic_of arguments_of return_of type_of bound_of round_of fn_ptr_of type_path_of (out-PathArguments x)
-unfolding generic_of arguments_of return_of type_of bound_of round_of fn_ptr_of type_path_of
-arguments_of-out x = fold_out-PathArguments GenericTree ArgumentsTree ReturnTree TypeTree BoundTree ArgumentsTree TypeTree TypeTree generic_step arguments_step return_step type_step bound_step round_step fn_ptr_step type_path_step x ∙ arguments_step-map (out-PathArguments x)
-
-pub return_of-out : (x : ReturnType) → return_of x ≡ return_layer generic_of arguments_of return_of type_of bound_of round_of fn_ptr_of type_path_of (out-ReturnType x)
-unfolding generic_of arguments_of return_of type_of bound_of round_of fn_ptr_of type_path_of
-return_of-out x = fold_out-ReturnType GenericTree ArgumentsTree ReturnTree TypeTree BoundTree ArgumentsTree TypeTree TypeTree generic_step arguments_step return_step type_step bound_step round_step fn_ptr_step type_path_step x ∙ return_step-map (out-ReturnType x)
-
-pub type_of-out : (x : «Type») → type_of x ≡ type_layer generic_of arguments_of return_of type_of bound_of round_of fn_ptr_of type_path_of (out-Type x)
-unfolding generic_of arguments_of return_of type_of bound_of round_of fn_ptr_of type_path_of
-type_of-out x = fold_out-Type GenericTree ArgumentsTree ReturnTree TypeTree BoundTree ArgumentsTree TypeTree TypeTree generic_step arguments_step return_step type_step bound_step round_step fn_ptr_step type_path_step x ∙ type_step-map (out-Type x)
-
-pub bound_of-out : (x : TypeParamBound) → bound_of x ≡ bound_layer generic_of arguments_of return_of type_of bound_of round_of fn_ptr_of type_path_of (out-TypeParamBound x)
-unfolding generic_of arguments_of return_of type_of bound_of round_of fn_ptr_of type_path_of
-bound_of-out x = fold_out-TypeParamBound GenericTree ArgumentsTree ReturnTree TypeTree BoundTree ArgumentsTree TypeTree TypeTree generic_step arguments_step return_step type_step bound_step round_step fn_ptr_step type_path_step x ∙ bound_step-map (out-TypeParamBound x)
-
-pub round_of-out : (x : ParenthesizedGenericArguments) → round_of x ≡ round_layer generic_of arguments_of return_of type_of bound_of round_of fn_ptr_of type_path_of (out-ParenthesizedGenericArguments x)
-unfolding generic_of arguments_of return_of type_of bound_of round_of fn_ptr_of type_path_of
-round_of-out x = fold_out-ParenthesizedGenericArguments GenericTree ArgumentsTree ReturnTree TypeTree BoundTree ArgumentsTree TypeTree TypeTree generic_step arguments_step return_step type_step bound_step round_step fn_ptr_step type_path_step x ∙ round_step-map (out-ParenthesizedGenericArguments x)
-
-pub fn_ptr_of-out : (x : TypeFnPtr) → fn_ptr_of x ≡ fn_ptr_layer generic_of arguments_of return_of type_of bound_of round_of fn_ptr_of type_path_of (out-TypeFnPtr x)
-unfolding generic_of arguments_of return_of type_of bound_of round_of fn_ptr_of type_path_of
-fn_ptr_of-out x = fold_out-TypeFnPtr GenericTree ArgumentsTree ReturnTree TypeTree BoundTree ArgumentsTree TypeTree TypeTree generic_step arguments_step return_step type_step bound_step round_step fn_ptr_step type_path_step x ∙ fn_ptr_step-map (out-TypeFnPtr x)
-
-pub type_path_of-out : (x : TypePath) → type_path_of x ≡ type_path_layer generic_of arguments_of return_of type_of bound_of round_of fn_ptr_of type_path_of (out-TypePath x)
-unfolding generic_of arguments_of return_of type_of bound_of round_of fn_ptr_of type_path_of
-type_path_of-out x = fold_out-TypePath GenericTree ArgumentsTree ReturnTree TypeTree BoundTree ArgumentsTree TypeTree TypeTree generic_step arguments_step return_step type_step bound_step round_step fn_ptr_step type_path_step x ∙ type_path_step-map (out-TypePath x)
-
-pub type_of-Path : (x : TypePath) → type_of (ty.Path x) ≡ type_layer generic_of arguments_of return_of type_of bound_of round_of fn_ptr_of type_path_of (Type-F.Path x)
-type_of-Path x = type_of-out (ty.Path x) ∙ ap (type_layer generic_of arguments_of return_of type_of bound_of round_of fn_ptr_of type_path_of) (ty.outs-Path x)
-
-pub type_of-Macro : (x : TypeMacroOf PathArguments) → type_of (ty.Macro x) ≡ type_layer generic_of arguments_of return_of type_of bound_of round_of fn_ptr_of type_path_of (Type-F.Macro x)
-type_of-Macro x = type_of-out (ty.Macro x) ∙ ap (type_layer generic_of arguments_of return_of type_of bound_of round_of fn_ptr_of type_path_of) (ty.outs-Macro x)
-
-pub type_of-Reference : (x : TypeReferenceOf «Type») → type_of (ty.Reference x) ≡ type_layer generic_of arguments_of return_of type_of bound_of round_of fn_ptr_of type_path_of (Type-F.Reference x)
-type_of-Reference x = type_of-out (ty.Reference x) ∙ ap (type_layer generic_of arguments_of return_of type_of bound_of round_of fn_ptr_of type_path_of) (ty.outs-Reference x)
-
-pub type_of-Ptr : (x : TypePtrOf «Type») → type_of (ty.Ptr x) ≡ type_layer generic_of arguments_of return_of type_of bound_of round_of fn_ptr_of type_path_of (Type-F.Ptr x)
-type_of-Ptr x = type_of-out (ty.Ptr x) ∙ ap (type_layer generic_of arguments_of return_of type_of bound_of round_of fn_ptr_of type_path_of) (ty.outs-Ptr x)
-
-pub type_of-Slice : (x : TypeSliceOf «Type») → type_of (ty.Slice x) ≡ type_layer generic_of arguments_of return_of type_of bound_of round_of fn_ptr_of type_path_of (Type-F.Slice x)
-type_of-Slice x = type_of-out (ty.Slice x) ∙ ap (type_layer generic_of arguments_of return_of type_of bound_of round_of fn_ptr_of type_path_of) (ty.outs-Slice x)
-
-pub type_of-Array : (x : TypeArrayOf «Type») → type_of (ty.Array x) ≡ type_layer generic_of arguments_of return_of type_of bound_of round_of fn_ptr_of type_path_of (Type-F.Array x)
-type_of-Array x = type_of-out (ty.Array x) ∙ ap (type_layer generic_of arguments_of return_of type_of bound_of round_of fn_ptr_of type_path_of) (ty.outs-Array x)
-
-pub type_of-Tuple : (x : TypeTupleOf «Type») → type_of (ty.Tuple x) ≡ type_layer generic_of arguments_of return_of type_of bound_of round_of fn_ptr_of type_path_of (Type-F.Tuple x)
-type_of-Tuple x = type_of-out (ty.Tuple x) ∙ ap (type_layer generic_of arguments_of return_of type_of bound_of round_of fn_ptr_of type_path_of) (ty.outs-Tuple x)
-
-pub type_of-Paren : (x : TypeParenOf «Type») → type_of (ty.Paren x) ≡ type_layer generic_of arguments_of return_of type_of bound_of round_of fn_ptr_of type_path_of (Type-F.Paren x)
-type_of-Paren x = type_of-out (ty.Paren x) ∙ ap (type_layer generic_of arguments_of return_of type_of bound_of round_of fn_ptr_of type_path_of) (ty.outs-Paren x)
-
-pub type_of-Never : (x : TypeNever) → type_of (ty.Never x) ≡ type_layer generic_of arguments_of return_of type_of bound_of round_of fn_ptr_of type_path_of (Type-F.Never x)
-type_of-Never x = type_of-out (ty.Never x) ∙ ap (type_layer generic_of arguments_of return_of type_of bound_of round_of fn_ptr_of type_path_of) (ty.outs-Never x)
-
-pub type_of-Infer : (x : TypeInfer) → type_of (ty.Infer x) ≡ type_layer generic_of arguments_of return_of type_of bound_of round_of fn_ptr_of type_path_of (Type-F.Infer x)
-type_of-Infer x = type_of-out (ty.Infer x) ∙ ap (type_layer generic_of arguments_of return_of type_of bound_of round_of fn_ptr_of type_path_of) (ty.outs-Infer x)
-
-pub type_of-FnPtr : (x : TypeFnPtr) → type_of (ty.FnPtr x) ≡ type_layer generic_of arguments_of return_of type_of bound_of round_of fn_ptr_of type_path_of (Type-F.FnPtr x)
-type_of-FnPtr x = type_of-out (ty.FnPtr x) ∙ ap (type_layer generic_of arguments_of return_of type_of bound_of round_of fn_ptr_of type_path_of) (ty.outs-FnPtr x)
-
-pub type_of-ImplTrait : (x : TypeImplTraitOf TypeParamBound) → type_of (ty.ImplTrait x) ≡ type_layer generic_of arguments_of return_of type_of bound_of round_of fn_ptr_of type_path_of (Type-F.ImplTrait x)
-type_of-ImplTrait x = type_of-out (ty.ImplTrait x) ∙ ap (type_layer generic_of arguments_of return_of type_of bound_of round_of fn_ptr_of type_path_of) (ty.outs-ImplTrait x)
-
-pub type_of-TraitObject : (x : TypeTraitObjectOf TypeParamBound) → type_of (ty.TraitObject x) ≡ type_layer generic_of arguments_of return_of type_of bound_of round_of fn_ptr_of type_path_of (Type-F.TraitObject x)
-type_of-TraitObject x = type_of-out (ty.TraitObject x) ∙ ap (type_layer generic_of arguments_of return_of type_of bound_of round_of fn_ptr_of type_path_of) (ty.outs-TraitObject x)
-
-pub generic_of-Lifetime : (x : Lifetime) → generic_of (generic.Lifetime x) ≡ generic_layer generic_of arguments_of return_of type_of bound_of round_of fn_ptr_of type_path_of (GenericArgument-F.GenericArgument::Lifetime x)
-generic_of-Lifetime x = generic_of-out (generic.Lifetime x) ∙ ap (generic_layer generic_of arguments_of return_of type_of bound_of round_of fn_ptr_of type_path_of) (generic.outs-Lifetime x)
-
-pub generic_of-Const : (x : List Tok) → generic_of (generic.Const x) ≡ generic_layer generic_of arguments_of return_of type_of bound_of round_of fn_ptr_of type_path_of (GenericArgument-F.Const x)
-generic_of-Const x = generic_of-out (generic.Const x) ∙ ap (generic_layer generic_of arguments_of return_of type_of bound_of round_of fn_ptr_of type_path_of) (generic.outs-Const x)
-
-pub generic_of-AssocType : (x : AssocTypeOf «Type») → generic_of (generic.AssocType x) ≡ generic_layer generic_of arguments_of return_of type_of bound_of round_of fn_ptr_of type_path_of (GenericArgument-F.AssocType x)
-generic_of-AssocType x = generic_of-out (generic.AssocType x) ∙ ap (generic_layer generic_of arguments_of return_of type_of bound_of round_of fn_ptr_of type_path_of) (generic.outs-AssocType x)
-
-pub generic_of-Ty : (x : «Type») → generic_of (generic.Ty x) ≡ generic_layer generic_of arguments_of return_of type_of bound_of round_of fn_ptr_of type_path_of (GenericArgument-F.Ty x)
-generic_of-Ty x = generic_of-out (generic.Ty x) ∙ ap (generic_layer generic_of arguments_of return_of type_of bound_of round_of fn_ptr_of type_path_of) (generic.outs-Ty x)
-
-pub arguments_of-AngleBracketed : (x : AngleBracketedGenericArgumentsOf GenericArgument) → arguments_of (args.AngleBracketed x) ≡ arguments_layer generic_of arguments_of return_of type_of bound_of round_of fn_ptr_of type_path_of (PathArguments-F.AngleBracketed x)
-arguments_of-AngleBracketed x = arguments_of-out (args.AngleBracketed x) ∙ ap (arguments_layer generic_of arguments_of return_of type_of bound_of round_of fn_ptr_of type_path_of) (args.outs-AngleBracketed x)
-
-pub arguments_of-Parenthesized : (x : ParenthesizedGenericArguments) → arguments_of (args.Parenthesized x) ≡ arguments_layer generic_of arguments_of return_of type_of bound_of round_of fn_ptr_of type_path_of (PathArguments-F.Parenthesized x)
-arguments_of-Parenthesized x = arguments_of-out (args.Parenthesized x) ∙ ap (arguments_layer generic_of arguments_of return_of type_of bound_of round_of fn_ptr_of type_path_of) (args.outs-Parenthesized x)
-
-pub bound_of-Lifetime : (x : Lifetime) → bound_of (bound.Lifetime x) ≡ bound_layer generic_of arguments_of return_of type_of bound_of round_of fn_ptr_of type_path_of (TypeParamBound-F.TypeParamBound::Lifetime x)
-bound_of-Lifetime x = bound_of-out (bound.Lifetime x) ∙ ap (bound_layer generic_of arguments_of return_of type_of bound_of round_of fn_ptr_of type_path_of) (bound.outs-Lifetime x)
-
-pub bound_of-Trait : (x : TraitBoundOf PathArguments) → bound_of (bound.Trait x) ≡ bound_layer generic_of arguments_of return_of type_of bound_of round_of fn_ptr_of type_path_of (TypeParamBound-F.Trait x)
-bound_of-Trait x = bound_of-out (bound.Trait x) ∙ ap (bound_layer generic_of arguments_of return_of type_of bound_of round_of fn_ptr_of type_path_of) (bound.outs-Trait x)
-
-pub arguments_of-None : arguments_of args.None ≡ arguments_layer generic_of arguments_of return_of type_of bound_of round_of fn_ptr_of type_path_of PathArguments-F.None
-arguments_of-None = arguments_of-out args.None ∙ ap (arguments_layer generic_of arguments_of return_of type_of bound_of round_of fn_ptr_of type_path_of) args.outs-None
-
-pub return_of-Default : return_of output.Default ≡ return_layer generic_of arguments_of return_of type_of bound_of round_of fn_ptr_of type_path_of ReturnType-F.Default
-return_of-Default = return_of-out output.Default ∙ ap (return_layer generic_of arguments_of return_of type_of bound_of round_of fn_ptr_of type_path_of) output.outs-Default
-
-pub return_of-Given : (a : Sign 2 35) (b : Box «Type» Global) → return_of (output.Given a b) ≡ return_layer generic_of arguments_of return_of type_of bound_of round_of fn_ptr_of type_path_of (ReturnType-F.Given a b)
-return_of-Given a b = return_of-out (output.Given a b) ∙ ap (return_layer generic_of arguments_of return_of type_of bound_of round_of fn_ptr_of type_path_of) (output.outs-Given a b)
-
-pub ruleset levels = (round_of-out, fn_ptr_of-out, type_path_of-out, type_of-Path, type_of-Macro, type_of-Reference, type_of-Ptr, type_of-Slice, type_of-Array, type_of-Tuple, type_of-Paren, type_of-Never, type_of-Infer, type_of-FnPtr, type_of-ImplTrait, type_of-TraitObject, generic_of-Lifetime, generic_of-Const, generic_of-AssocType, generic_of-Ty, arguments_of-AngleBracketed, arguments_of-Parenthesized, bound_of-Lifetime, bound_of-Trait, arguments_of-None, return_of-Default, return_of-Given)
+-- a type opened once
+pub type_of-out : (x : «Type») → type_of x ≡ type_layer type_of (out-Type x)
+unfolding type_of
+type_of-out x = fold_out-Type TypeTree (type_layer (λ x. x)) x ∙ type_step-map (out-Type x)

@@ -2,15 +2,10 @@
 //! puncts, as in syn.
 #![tactic(auto)]
 
-mod fits;
-mod fn_pointer;
-mod grammar;
 mod kinds;
 pub mod mac;
 pub mod path;
-mod pieces;
 pub mod print;
-mod qualified;
 pub mod read_back;
 pub mod readers;
 pub mod ty;

@@ -1,17 +1,18 @@
-//! Types (Rust Reference, "Types").
-//!
-//! A struct that holds types, arguments or bounds is generic in them, under an alias of syn's name. Users write the
-//! alias, in literals and patterns too.
+//! Types (Rust Reference, "Types"). The parts that hold types stand in `syn_branch`, generic in them; here they have syn's
+//! names, over `Type`.
 
-use crate::mac::MacroOf;
-use crate::path::{PathArguments, PathOf, QSelfOf};
-use syn_leaf::lifetime::Lifetime;
-use syn_tokens::token::{
-    And, Bracket, Colon, Comma, Dyn, Fn, Impl, Mut, Not, Paren, Plus, Question, RArrow, Semi, Star,
-    Underscore, Unsafe,
+ghost use Rattle.std.specs.Prelude.{◌≡◌};
+ghost use Rattle.syn_branch.specs.View as view;
+ghost use Rattle.syn_lower.specs.View.{type_of};
+ghost use Rattle.syn_parts.specs.Tree as t;
+
+use syn_branch::ty::{
+    BareFnArgOf, ReturnTypeOf, TraitBoundOf, TypeArrayOf, TypeFnPtrOf, TypeImplTraitOf,
+    TypeMacroOf, TypeParamBoundOf, TypeParenOf, TypePathOf, TypePtrOf, TypeReferenceOf,
+    TypeSliceOf, TypeTraitObjectOf, TypeTupleOf,
 };
-use syn_tokens::tree::{Ident, TokenStream};
-use syn_twig::punctuated::Punctuated;
+use syn_branch::types::{HasTree, IsType};
+use syn_tokens::token::{Not, Underscore};
 pub use syn_twig::ty::{Abi, BoundLifetimes, PointerMutability};
 
 /// A type.
@@ -19,134 +20,56 @@ pub use syn_twig::ty::{Abi, BoundLifetimes, PointerMutability};
 #[derive(Drop, PartialEq)]
 pub enum Type {
     /// `a::B<C>`, `<T as A>::B`
-    Path(TypePath),
+    Path(TypePathOf<Type>),
     /// `m!(..)`
-    Macro(TypeMacro),
+    Macro(TypeMacroOf<Type>),
     /// `&'a mut T`
-    Reference(TypeReference),
+    Reference(TypeReferenceOf<Type>),
     /// `*const T`, `*mut T`
-    Ptr(TypePtr),
+    Ptr(TypePtrOf<Type>),
     /// `[T]`
-    Slice(TypeSlice),
+    Slice(TypeSliceOf<Type>),
     /// `[T; N]`
-    Array(TypeArray),
+    Array(TypeArrayOf<Type>),
     /// `()`, `(A, B)`
-    Tuple(TypeTuple),
+    Tuple(TypeTupleOf<Type>),
     /// `(T)`
-    Paren(TypeParen),
+    Paren(TypeParenOf<Type>),
     /// `!`
     Never(TypeNever),
     /// `_`
     Infer(TypeInfer),
     /// `fn(A) -> B`
-    FnPtr(TypeFnPtr),
+    FnPtr(TypeFnPtrOf<Type>),
     /// `impl A + B`
-    ImplTrait(TypeImplTrait),
+    ImplTrait(TypeImplTraitOf<Type>),
     /// `dyn A + B`
-    TraitObject(TypeTraitObject),
+    TraitObject(TypeTraitObjectOf<Type>),
 }
 
-/// A path as a type (Rust Reference, "Paths in types").
-#[cycle(types)]
-#[derive(Drop, PartialEq)]
-pub struct TypePath {
-    /// The type in front of it.
-    pub qself: Option<QSelfOf<Type>>,
-    /// The path.
-    pub path: PathOf<PathArguments>,
-}
+/// A path as a type.
+pub type TypePath = TypePathOf<Type>;
 
 /// The call of a macro as a type.
-pub type TypeMacro = TypeMacroOf<PathArguments>;
-
-/// The call of a macro as a type.
-#[derive(Drop, PartialEq)]
-pub struct TypeMacroOf<A> {
-    /// The call.
-    pub mac: MacroOf<A>,
-}
+pub type TypeMacro = TypeMacroOf<Type>;
 
 /// `&'a mut T`
 pub type TypeReference = TypeReferenceOf<Type>;
 
-/// A reference (Rust Reference, "Shared references", "Mutable references").
-#[derive(Drop, PartialEq)]
-pub struct TypeReferenceOf<T> {
-    /// `&`
-    pub and_token: And,
-    /// How long it lasts.
-    pub lifetime: Option<Lifetime>,
-    /// `mut`
-    pub mutability: Option<Mut>,
-    /// What it points to.
-    pub elem: Box<T>,
-}
-
 /// `*const T`, `*mut T`
 pub type TypePtr = TypePtrOf<Type>;
-
-/// A raw pointer (Rust Reference, "Raw pointers").
-#[derive(Drop, PartialEq)]
-pub struct TypePtrOf<T> {
-    /// `*`
-    pub star_token: Star,
-    /// `const` or `mut`.
-    pub mutability: PointerMutability,
-    /// What it points to.
-    pub elem: Box<T>,
-}
 
 /// `[T]`
 pub type TypeSlice = TypeSliceOf<Type>;
 
-/// A slice (Rust Reference, "Slice types").
-#[derive(Drop, PartialEq)]
-pub struct TypeSliceOf<T> {
-    /// The brackets.
-    pub bracket_token: Bracket,
-    /// The type of the elements.
-    pub elem: Box<T>,
-}
-
 /// `[T; N]`
 pub type TypeArray = TypeArrayOf<Type>;
-
-/// An array (Rust Reference, "Array types").
-#[derive(Drop, PartialEq)]
-pub struct TypeArrayOf<T> {
-    /// The brackets.
-    pub bracket_token: Bracket,
-    /// The type of the elements.
-    pub elem: Box<T>,
-    /// `;`
-    pub semi_token: Semi,
-    /// How many there are, kept as tokens.
-    pub len: TokenStream,
-}
 
 /// `()`, `(A, B)`
 pub type TypeTuple = TypeTupleOf<Type>;
 
-/// A tuple (Rust Reference, "Tuple types").
-#[derive(Drop, PartialEq)]
-pub struct TypeTupleOf<T> {
-    /// The parentheses.
-    pub paren_token: Paren,
-    /// The types in them.
-    pub elems: Punctuated<T, Comma>,
-}
-
 /// `(T)`
 pub type TypeParen = TypeParenOf<Type>;
-
-/// A type in parentheses (Rust Reference, "Parenthesized types").
-#[derive(Drop, PartialEq)]
-pub struct TypeParenOf<T> {
-    /// The parentheses.
-    pub paren_token: Paren,
-    /// The type in them.
-    pub elem: Box<T>,
-}
 
 /// `!` (Rust Reference, "Never type").
 #[derive(Drop, PartialEq)]
@@ -162,92 +85,108 @@ pub struct TypeInfer {
     pub underscore_token: Underscore,
 }
 
-/// `for<'a> unsafe extern "C" fn(a: A) -> B` (Rust Reference, "Function pointer types").
-#[cycle(types)]
-#[derive(Drop, PartialEq)]
-pub struct TypeFnPtr {
-    /// `for<'a>`
-    pub lifetimes: Option<BoundLifetimes>,
-    /// `unsafe`
-    pub unsafety: Option<Unsafe>,
-    /// `extern "C"`
-    pub abi: Option<Abi>,
-    /// `fn`
-    pub fn_token: Fn,
-    /// The parentheses.
-    pub paren_token: Paren,
-    /// The arguments.
-    pub inputs: Punctuated<BareFnArgOf<Type>, Comma>,
-    /// What it returns.
-    pub output: ReturnType,
-}
+/// `for<'a> unsafe extern "C" fn(a: A) -> B`
+pub type TypeFnPtr = TypeFnPtrOf<Type>;
 
 /// `name: T`
 pub type BareFnArg = BareFnArgOf<Type>;
 
-/// An argument of a function pointer.
-#[derive(Drop, PartialEq)]
-pub struct BareFnArgOf<T> {
-    /// Its name, an identifier or `_`, and `:`.
-    pub name: Option<(Ident, Colon)>,
-    /// Its type.
-    pub ty: T,
-}
-
 /// `impl A + B`
-pub type TypeImplTrait = TypeImplTraitOf<TypeParamBound>;
-
-/// A type by what it implements (Rust Reference, "Impl trait").
-#[derive(Drop, PartialEq)]
-pub struct TypeImplTraitOf<B> {
-    /// `impl`
-    pub impl_token: Impl,
-    /// The bounds.
-    pub bounds: Punctuated<B, Plus>,
-}
+pub type TypeImplTrait = TypeImplTraitOf<Type>;
 
 /// `dyn A + B`
-pub type TypeTraitObject = TypeTraitObjectOf<TypeParamBound>;
+pub type TypeTraitObject = TypeTraitObjectOf<Type>;
 
-/// A type by what it can do (Rust Reference, "Trait objects").
-#[derive(Drop, PartialEq)]
-pub struct TypeTraitObjectOf<B> {
-    /// `dyn`
-    pub dyn_token: Dyn,
-    /// The bounds.
-    pub bounds: Punctuated<B, Plus>,
-}
-
-/// A bound (Rust Reference, "Trait and lifetime bounds").
-#[cycle(types)]
-#[derive(Drop, PartialEq)]
-pub enum TypeParamBound {
-    /// `'a`
-    Lifetime(Lifetime),
-    /// `?for<'a> A<'a>`
-    Trait(TraitBound),
-}
+/// A bound.
+pub type TypeParamBound = TypeParamBoundOf<Type>;
 
 /// `?for<'a> A<'a>`
-pub type TraitBound = TraitBoundOf<PathArguments>;
-
-/// A trait as a bound.
-#[derive(Drop, PartialEq)]
-pub struct TraitBoundOf<A> {
-    /// `?`
-    pub maybe: Option<Question>,
-    /// `for<'a>`
-    pub lifetimes: Option<BoundLifetimes>,
-    /// The trait.
-    pub path: PathOf<A>,
-}
+pub type TraitBound = TraitBoundOf<Type>;
 
 /// What a function returns.
-#[cycle(types)]
-#[derive(Drop, PartialEq)]
-pub enum ReturnType {
-    /// Nothing is written.
-    Default,
-    /// `-> T`
-    Given(RArrow, Box<Type>),
+pub type ReturnType = ReturnTypeOf<Type>;
+
+impl HasTree for Type {
+    ghost tree = { type_of };
+}
+
+#[tactic(auto, using(crate::proofs::Makes::makes))]
+impl IsType for Type {
+    fn path(x: TypePathOf<Self>) -> Self
+        ensures { type_of result ≡ view.type_path_of type_of x }
+    {
+        Type::Path(x)
+    }
+
+    fn mac(x: TypeMacroOf<Self>) -> Self
+        ensures { type_of result ≡ view.type_macro_of type_of x }
+    {
+        Type::Macro(x)
+    }
+
+    fn reference(x: TypeReferenceOf<Self>) -> Self
+        ensures { type_of result ≡ view.reference_of type_of x }
+    {
+        Type::Reference(x)
+    }
+
+    fn ptr(x: TypePtrOf<Self>) -> Self
+        ensures { type_of result ≡ view.ptr_of type_of x }
+    {
+        Type::Ptr(x)
+    }
+
+    fn slice(x: TypeSliceOf<Self>) -> Self
+        ensures { type_of result ≡ view.slice_of type_of x }
+    {
+        Type::Slice(x)
+    }
+
+    fn array(x: TypeArrayOf<Self>) -> Self
+        ensures { type_of result ≡ view.array_of type_of x }
+    {
+        Type::Array(x)
+    }
+
+    fn tuple(x: TypeTupleOf<Self>) -> Self
+        ensures { type_of result ≡ view.tuple_of type_of x }
+    {
+        Type::Tuple(x)
+    }
+
+    fn paren(x: TypeParenOf<Self>) -> Self
+        ensures { type_of result ≡ view.paren_of type_of x }
+    {
+        Type::Paren(x)
+    }
+
+    fn never(bang_token: Not) -> Self
+        ensures { type_of result ≡ t.never }
+    {
+        Type::Never(TypeNever { bang_token })
+    }
+
+    fn infer(underscore_token: Underscore) -> Self
+        ensures { type_of result ≡ t.infer }
+    {
+        Type::Infer(TypeInfer { underscore_token })
+    }
+
+    fn fn_ptr(x: TypeFnPtrOf<Self>) -> Self
+        ensures { type_of result ≡ view.fn_ptr_of type_of x }
+    {
+        Type::FnPtr(x)
+    }
+
+    fn impl_trait(x: TypeImplTraitOf<Self>) -> Self
+        ensures { type_of result ≡ view.impl_trait_of type_of x }
+    {
+        Type::ImplTrait(x)
+    }
+
+    fn trait_object(x: TypeTraitObjectOf<Self>) -> Self
+        ensures { type_of result ≡ view.trait_object_of type_of x }
+    {
+        Type::TraitObject(x)
+    }
 }

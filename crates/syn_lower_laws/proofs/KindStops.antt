@@ -5,21 +5,20 @@ use Rattle.syn_parts.specs.Part.{is_never, is_infer}
 use Rattle.syn_parts.specs.Fits.{type_stops}
 use Rattle.syn_parts.specs.Kind.{is_reference, is_pointer, is_slice, is_array, is_tuple, is_paren, is_fn_pointer, is_impl_trait, is_trait_object}
 use Rattle.syn_lower.specs.View.{type_of}
-use Rattle.syn_lower.proofs.Makes.{type-Reference, type-Ptr, type-Slice, type-Array, type-Tuple, type-Paren, type-Never, type-Infer, type-FnPtr, fn_ptr-is, type-ImplTrait, type-TraitObject}
+use Rattle.syn_lower.proofs.Makes.{type-Reference, type-Ptr, type-Slice, type-Array, type-Tuple, type-Paren, type-Never, type-Infer, type-FnPtr, type-ImplTrait, type-TraitObject}
 use Rattle.syn_lower.specs.declared.ty.«Type».{«Type»}
 use Rattle.syn_lower.specs.declared.ty.«Type».TheVariants as ty
-use Rattle.syn_lower.specs.declared.ty.TypeParamBound.{TypeParamBound}
-use Rattle.syn_lower.specs.declared.ty.TypeReferenceOf.{TypeReferenceOf}
-use Rattle.syn_lower.specs.declared.ty.TypePtrOf.{TypePtrOf}
-use Rattle.syn_lower.specs.declared.ty.TypeSliceOf.{TypeSliceOf}
-use Rattle.syn_lower.specs.declared.ty.TypeArrayOf.{TypeArrayOf}
-use Rattle.syn_lower.specs.declared.ty.TypeTupleOf.{TypeTupleOf}
-use Rattle.syn_lower.specs.declared.ty.TypeParenOf.{TypeParenOf}
+use Rattle.syn_branch.specs.declared.ty.TypeReferenceOf.{TypeReferenceOf}
+use Rattle.syn_branch.specs.declared.ty.TypePtrOf.{TypePtrOf}
+use Rattle.syn_branch.specs.declared.ty.TypeSliceOf.{TypeSliceOf}
+use Rattle.syn_branch.specs.declared.ty.TypeArrayOf.{TypeArrayOf}
+use Rattle.syn_branch.specs.declared.ty.TypeTupleOf.{TypeTupleOf}
+use Rattle.syn_branch.specs.declared.ty.TypeParenOf.{TypeParenOf}
 use Rattle.syn_lower.specs.declared.ty.TypeNever.{TypeNever}
 use Rattle.syn_lower.specs.declared.ty.TypeInfer.{TypeInfer}
-use Rattle.syn_lower.specs.declared.ty.TypeFnPtr.{TypeFnPtr}
-use Rattle.syn_lower.specs.declared.ty.TypeImplTraitOf.{TypeImplTraitOf}
-use Rattle.syn_lower.specs.declared.ty.TypeTraitObjectOf.{TypeTraitObjectOf}
+use Rattle.syn_branch.specs.declared.ty.TypeFnPtrOf.{TypeFnPtrOf}
+use Rattle.syn_branch.specs.declared.ty.TypeImplTraitOf.{TypeImplTraitOf}
+use Rattle.syn_branch.specs.declared.ty.TypeTraitObjectOf.{TypeTraitObjectOf}
 
 pub is-Reference : (x : TypeReferenceOf «Type») → is_reference (type_of (ty.Reference x)) ≡ true
 is-Reference x = rw (type-Reference x) refl
@@ -45,13 +44,13 @@ is-Never x = rw (type-Never x) refl
 pub is-Infer : (x : TypeInfer) → is_infer (type_of (ty.Infer x)) ≡ true
 is-Infer x = rw (type-Infer x) refl
 
-pub is-FnPtr : (x : TypeFnPtr) → is_fn_pointer (type_of (ty.FnPtr x)) ≡ true
-is-FnPtr x = rw (type-FnPtr x, fn_ptr-is x) refl
+pub is-FnPtr : (x : TypeFnPtrOf «Type») → is_fn_pointer (type_of (ty.FnPtr x)) ≡ true
+is-FnPtr x = rw (type-FnPtr x) refl
 
-pub is-ImplTrait : (x : TypeImplTraitOf TypeParamBound) → is_impl_trait (type_of (ty.ImplTrait x)) ≡ true
+pub is-ImplTrait : (x : TypeImplTraitOf «Type») → is_impl_trait (type_of (ty.ImplTrait x)) ≡ true
 is-ImplTrait x = rw (type-ImplTrait x) refl
 
-pub is-TraitObject : (x : TypeTraitObjectOf TypeParamBound) → is_trait_object (type_of (ty.TraitObject x)) ≡ true
+pub is-TraitObject : (x : TypeTraitObjectOf «Type») → is_trait_object (type_of (ty.TraitObject x)) ≡ true
 is-TraitObject x = rw (type-TraitObject x) refl
 
 pub stops-Slice : (x : TypeSliceOf «Type») (rest : List Tok) → type_stops true (type_of (ty.Slice x)) rest ≡ true

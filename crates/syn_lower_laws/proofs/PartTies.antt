@@ -1,6 +1,8 @@
--- The equality of each part, by that of the parts in it that may hold it again.
+-- The equality of each part that may hold types, by that of the types in it.
 use Rattle.std.proofs.Common.{◌≡◌, ◌↔◌, ℕ, Bool, true, List, [], Option, Some, None, refl, sym, ◌∙◌, ap}
 use Rattle.std.specs.Option.{option_eq}
+use denote.Enum.Declared.{Choice}
+use denote.RattleType.{RattleType}
 use mir.Syntax.{Dict, impl, tnil, dnil}
 use Rattle.std.specs.declared.boxed.Box.{Box}
 use Rattle.std.specs.declared.alloc.Global.{Global}
@@ -8,71 +10,77 @@ use Rattle.syn_lexer.specs.declared.lexeme.Delimiter.{Delimiter}
 use Rattle.syn_tokens.specs.Tok.{Tok}
 use Rattle.syn_parts.specs.Text.{Text}
 use Rattle.syn_parts.specs.Tree as t
-use Rattle.syn_parts.specs.Tree.{LifetimesTree, TypeTree, SegmentTree, PathTree, FnArgTree, ArgumentsTree, GenericTree, BoundTree, QSelfTree, types-types_of, segments-segments_of, generics-generics_of, args-args_of, bounds-bounds_of}
+use Rattle.syn_parts.specs.Tree.{LitTree, LifetimesTree, TypeTree, SegmentTree, PathTree, FnArgTree, ArgumentsTree, GenericTree, ReturnTree, BoundTree, QSelfTree, types-types_of, segments-segments_of, generics-generics_of, args-args_of, bounds-bounds_of}
 use Rattle.syn_parts.specs.Part.{MacroTree}
 use Rattle.syn_leaf.specs.Equal.{IsEqualityOf}
-use Rattle.syn_lower.specs.View.{lifetimes_of, assoc_of, angle_of, segment_of, path_of, qself_of, qself_or, macro_of, trait_with, trait_of, arg_of, abi_of, is_mut, path_with, mac_with, generic_of, arguments_of, type_of, bound_of}
-use Rattle.syn_lower.specs.declared.mac.MacroOf.{MacroOf}
-use Rattle.syn_lower.specs.declared.path.PathOf.{PathOf}
-use Rattle.syn_lower.specs.declared.path.PathSegmentOf.{PathSegmentOf}
-use Rattle.syn_lower.specs.declared.path.PathArguments.{PathArguments}
-use Rattle.syn_lower.specs.declared.path.AngleBracketedGenericArgumentsOf.{AngleBracketedGenericArgumentsOf}
-use Rattle.syn_lower.specs.declared.path.GenericArgument.{GenericArgument}
-use Rattle.syn_lower.specs.declared.path.AssocTypeOf.{AssocTypeOf}
-use Rattle.syn_lower.specs.declared.path.QSelfOf.{QSelfOf}
+use Rattle.syn_branch.specs.View.{lifetimes_of, assoc_of, angle_of, round_of, segment_of, path_of, qself_of, qself_or, macro_of, trait_with, trait_of, arg_of, abi_of, is_mut, path_with, mac_with, generic_of, arguments_of, return_of, bound_of, type_path_of, type_macro_of, reference_of, ptr_of, slice_of, array_of, tuple_of, paren_of, fn_ptr_of, impl_trait_of, trait_object_of}
+use Rattle.syn_branch.specs.declared.mac.MacroOf.{MacroOf}
+use Rattle.syn_branch.specs.declared.path.PathOf.{PathOf}
+use Rattle.syn_branch.specs.declared.path.PathSegmentOf.{PathSegmentOf}
+use Rattle.syn_branch.specs.declared.path.PathArgumentsOf.{PathArgumentsOf}
+use Rattle.syn_branch.specs.declared.path.AngleBracketedGenericArgumentsOf.{AngleBracketedGenericArgumentsOf}
+use Rattle.syn_branch.specs.declared.path.ParenthesizedGenericArgumentsOf.{ParenthesizedGenericArgumentsOf}
+use Rattle.syn_branch.specs.declared.path.GenericArgumentOf.{GenericArgumentOf}
+use Rattle.syn_branch.specs.declared.path.AssocTypeOf.{AssocTypeOf}
+use Rattle.syn_branch.specs.declared.path.QSelfOf.{QSelfOf}
 use Rattle.syn_twig.specs.declared.ty.Abi.{Abi}
 use Rattle.syn_twig.specs.declared.ty.BoundLifetimes.{BoundLifetimes}
 use Rattle.syn_twig.specs.declared.ty.PointerMutability.{PointerMutability}
 use Rattle.syn_twig.specs.declared.ty.PointerMutability.TheVariants as pointer
-use Rattle.syn_lower.specs.declared.ty.BareFnArgOf.{BareFnArgOf}
-use Rattle.syn_lower.specs.declared.ty.TypeParamBound.{TypeParamBound}
-use Rattle.syn_lower.specs.declared.ty.TraitBoundOf.{TraitBoundOf}
-use Rattle.syn_lower.specs.declared.ty.TypeMacroOf.{TypeMacroOf}
-use Rattle.syn_lower.specs.declared.ty.TypeReferenceOf.{TypeReferenceOf}
-use Rattle.syn_lower.specs.declared.ty.TypePtrOf.{TypePtrOf}
-use Rattle.syn_lower.specs.declared.ty.TypeSliceOf.{TypeSliceOf}
-use Rattle.syn_lower.specs.declared.ty.TypeArrayOf.{TypeArrayOf}
-use Rattle.syn_lower.specs.declared.ty.TypeTupleOf.{TypeTupleOf}
-use Rattle.syn_lower.specs.declared.ty.TypeParenOf.{TypeParenOf}
-use Rattle.syn_lower.specs.declared.ty.TypeImplTraitOf.{TypeImplTraitOf}
-use Rattle.syn_lower.specs.declared.ty.TypeTraitObjectOf.{TypeTraitObjectOf}
-use Rattle.syn_lower.specs.declared.ty.«Type».{«Type»}
-use Rattle.syn_lower.specs.declared.ty.«Type».TheVariants as ty
-use Rattle.syn_lower.specs.contracts.ty.«Type» as type_row
-use Rattle.syn_lower.specs.contracts.ty.TypeParamBound as bound_row
-use Rattle.syn_lower.specs.contracts.path.PathArguments as args_row
-use Rattle.syn_lower.specs.contracts.path.GenericArgument as generic_row
-use Rattle.syn_lower.specs.contracts.mac.MacroOfPartialEq.TheImpl as macro_eq
-use Rattle.syn_lower.specs.contracts.path.PathOfPartialEq.TheImpl as path_eq
-use Rattle.syn_lower.specs.contracts.path.PathSegmentOfPartialEq.TheImpl as segment_eq
-use Rattle.syn_lower.specs.contracts.path.AngleBracketedGenericArgumentsOfPartialEq.TheImpl as angle_eq
-use Rattle.syn_lower.specs.contracts.path.AssocTypeOfPartialEq.TheImpl as assoc_eq
-use Rattle.syn_lower.specs.contracts.path.QSelfOfPartialEq.TheImpl as qself_eq
+use Rattle.syn_branch.specs.declared.ty.BareFnArgOf.{BareFnArgOf}
+use Rattle.syn_branch.specs.declared.ty.ReturnTypeOf.{ReturnTypeOf}
+use Rattle.syn_branch.specs.declared.ty.TypeParamBoundOf.{TypeParamBoundOf}
+use Rattle.syn_branch.specs.declared.ty.TraitBoundOf.{TraitBoundOf}
+use Rattle.syn_branch.specs.declared.ty.TypePathOf.{TypePathOf}
+use Rattle.syn_branch.specs.declared.ty.TypeMacroOf.{TypeMacroOf}
+use Rattle.syn_branch.specs.declared.ty.TypeReferenceOf.{TypeReferenceOf}
+use Rattle.syn_branch.specs.declared.ty.TypePtrOf.{TypePtrOf}
+use Rattle.syn_branch.specs.declared.ty.TypeSliceOf.{TypeSliceOf}
+use Rattle.syn_branch.specs.declared.ty.TypeArrayOf.{TypeArrayOf}
+use Rattle.syn_branch.specs.declared.ty.TypeTupleOf.{TypeTupleOf}
+use Rattle.syn_branch.specs.declared.ty.TypeParenOf.{TypeParenOf}
+use Rattle.syn_branch.specs.declared.ty.TypeFnPtrOf.{TypeFnPtrOf}
+use Rattle.syn_branch.specs.declared.ty.TypeImplTraitOf.{TypeImplTraitOf}
+use Rattle.syn_branch.specs.declared.ty.TypeTraitObjectOf.{TypeTraitObjectOf}
+use Rattle.syn_branch.specs.contracts.ty.ReturnTypeOf as return_row
+use Rattle.syn_branch.specs.contracts.ty.TypeParamBoundOf as bound_row
+use Rattle.syn_branch.specs.contracts.path.PathArgumentsOf as args_row
+use Rattle.syn_branch.specs.contracts.path.GenericArgumentOf as generic_row
+use Rattle.syn_branch.specs.contracts.mac.MacroOfPartialEq.TheImpl as macro_eq
+use Rattle.syn_branch.specs.contracts.path.PathOfPartialEq.TheImpl as path_eq
+use Rattle.syn_branch.specs.contracts.path.PathSegmentOfPartialEq.TheImpl as segment_eq
+use Rattle.syn_branch.specs.contracts.path.PathArgumentsOfPartialEq.TheImpl as args_eq
+use Rattle.syn_branch.specs.contracts.path.AngleBracketedGenericArgumentsOfPartialEq.TheImpl as angle_eq
+use Rattle.syn_branch.specs.contracts.path.ParenthesizedGenericArgumentsOfPartialEq.TheImpl as round_eq
+use Rattle.syn_branch.specs.contracts.path.GenericArgumentOfPartialEq.TheImpl as generic_eq
+use Rattle.syn_branch.specs.contracts.path.AssocTypeOfPartialEq.TheImpl as assoc_eq
+use Rattle.syn_branch.specs.contracts.path.QSelfOfPartialEq.TheImpl as qself_eq
 use Rattle.syn_twig.specs.contracts.ty.AbiPartialEq.TheImpl as abi_eq
 use Rattle.syn_twig.specs.contracts.ty.BoundLifetimesPartialEq.TheImpl as lifetimes_eq
 use Rattle.syn_twig.specs.contracts.ty.PointerMutabilityPartialEq.TheImpl as pointer_eq
-use Rattle.syn_lower.specs.contracts.ty.BareFnArgOfPartialEq.TheImpl as arg_eq
-use Rattle.syn_lower.specs.contracts.ty.TraitBoundOfPartialEq.TheImpl as trait_eq
-use Rattle.syn_lower.specs.contracts.ty.TypeMacroOfPartialEq.TheImpl as type_macro_eq
-use Rattle.syn_lower.specs.contracts.ty.TypeReferenceOfPartialEq.TheImpl as reference_eq
-use Rattle.syn_lower.specs.contracts.ty.TypePtrOfPartialEq.TheImpl as ptr_eq
-use Rattle.syn_lower.specs.contracts.ty.TypeSliceOfPartialEq.TheImpl as slice_eq
-use Rattle.syn_lower.specs.contracts.ty.TypeArrayOfPartialEq.TheImpl as array_eq
-use Rattle.syn_lower.specs.contracts.ty.TypeTupleOfPartialEq.TheImpl as tuple_eq
-use Rattle.syn_lower.specs.contracts.ty.TypeParenOfPartialEq.TheImpl as paren_eq
-use Rattle.syn_lower.specs.contracts.ty.TypeNeverPartialEq.TheImpl as never_eq
-use Rattle.syn_lower.specs.contracts.ty.TypeInferPartialEq.TheImpl as infer_eq
-use Rattle.syn_lower.specs.contracts.ty.TypeImplTraitOfPartialEq.TheImpl as impl_eq
-use Rattle.syn_lower.specs.contracts.ty.TypeTraitObjectOfPartialEq.TheImpl as object_eq
-use Rattle.syn_lower.proofs.Layers.{type_of-Macro, type_of-Reference, type_of-Ptr, type_of-Slice, type_of-Array, type_of-Tuple, type_of-Paren, type_of-Never, type_of-Infer, type_of-ImplTrait, type_of-TraitObject}
-use Rattle.syn_leaf.proofs.Ties.{both_tie, on_tie, made_tie, option_tie, some_tie, text_tie, number_tie, pair_path, and_true_tie, constant_tie, along}
+use Rattle.syn_branch.specs.contracts.ty.BareFnArgOfPartialEq.TheImpl as arg_eq
+use Rattle.syn_branch.specs.contracts.ty.ReturnTypeOfPartialEq.TheImpl as return_eq
+use Rattle.syn_branch.specs.contracts.ty.TypeParamBoundOfPartialEq.TheImpl as bound_eq
+use Rattle.syn_branch.specs.contracts.ty.TraitBoundOfPartialEq.TheImpl as trait_eq
+use Rattle.syn_branch.specs.contracts.ty.TypePathOfPartialEq.TheImpl as type_path_eq
+use Rattle.syn_branch.specs.contracts.ty.TypeMacroOfPartialEq.TheImpl as type_macro_eq
+use Rattle.syn_branch.specs.contracts.ty.TypeReferenceOfPartialEq.TheImpl as reference_eq
+use Rattle.syn_branch.specs.contracts.ty.TypePtrOfPartialEq.TheImpl as ptr_eq
+use Rattle.syn_branch.specs.contracts.ty.TypeSliceOfPartialEq.TheImpl as slice_eq
+use Rattle.syn_branch.specs.contracts.ty.TypeArrayOfPartialEq.TheImpl as array_eq
+use Rattle.syn_branch.specs.contracts.ty.TypeTupleOfPartialEq.TheImpl as tuple_eq
+use Rattle.syn_branch.specs.contracts.ty.TypeParenOfPartialEq.TheImpl as paren_eq
+use Rattle.syn_branch.specs.contracts.ty.TypeFnPtrOfPartialEq.TheImpl as fn_ptr_eq
+use Rattle.syn_branch.specs.contracts.ty.TypeImplTraitOfPartialEq.TheImpl as impl_eq
+use Rattle.syn_branch.specs.contracts.ty.TypeTraitObjectOfPartialEq.TheImpl as object_eq
+use Rattle.syn_leaf.proofs.Ties.{both_tie, on_tie, made_tie, option_tie, some_tie, text_tie, number_tie, pair_path, and_true_tie, constant_tie, along, rank_end, rank_more}
 use Rattle.syn_leaf.proofs.LeafTies.{toks_tie, lifetime_tie, delimiter_tie, lit_str_tie}
 use Rattle.syn_lower_laws.proofs.ListTies.{punctuated_tie}
 
-abbrev pub no_dict : Dict
+abbrev no_dict : Dict
 no_dict = impl [] tnil dnil
 
--- ---- in types: what holds none
+-- ---- what holds no types
 
 pub lifetimes_tie : IsEqualityOf lifetimes_of lifetimes_eq.ghosts.eq
 lifetimes_tie = and_true_tie (on_tie {C = BoundLifetimes} (λ x. x.lifetimes) (punctuated_tie lifetime_tie))
@@ -88,40 +96,18 @@ pointer_tie = record { same = go }
     go (pointer.Mut a) (pointer.Mut b) = (λ h. refl, λ e. refl)
     go _ _ = (λ h. absurd cc, λ e. absurd cc)
 
-pub never_tie : IsEqualityOf (λ x. type_of (ty.Never x)) never_eq.ghosts.eq
-never_tie = along type_of-Never (constant_tie t.never)
-
-pub infer_tie : IsEqualityOf (λ x. type_of (ty.Infer x)) infer_eq.ghosts.eq
-infer_tie = along type_of-Infer (constant_tie t.infer)
-
--- ---- what holds arguments
-
-module _ {E : PathArguments → PathArguments → Bool} (tie : IsEqualityOf arguments_of E) where
-  pub segment_tie : IsEqualityOf (segment_of arguments_of) (segment_eq.ghosts args_row.the_row (record { eq = E }) no_dict).eq
-  segment_tie =
-      let it = made_tie {B = Text × ArgumentsTree} {C = SegmentTree} (λ p. record { ident = p.0; arguments = p.1 }) (λ p q e. pair_path (ap (λ (r : SegmentTree). r.ident) e) (ap (λ (r : SegmentTree). r.arguments) e))
-      (both_tie (on_tie {C = PathSegmentOf PathArguments} (λ x. x.ident) text_tie) (on_tie {C = PathSegmentOf PathArguments} (λ x. x.arguments) tie)) in it
-
-  pub path_tie : IsEqualityOf (path_of arguments_of) (path_eq.ghosts args_row.the_row (record { eq = E }) no_dict).eq
-  path_tie =
-      let it = made_tie {B = Bool × (List SegmentTree × Bool)} {C = PathTree} (λ p. record { leading = p.0; segments = p.1.0; trailing = p.1.1 }) (λ p q e. pair_path (ap (λ (r : PathTree). r.leading) e) (pair_path (ap (λ (r : PathTree). r.segments) e) (ap (λ (r : PathTree). r.trailing) e)))
-      (both_tie (on_tie {C = PathOf PathArguments} (λ x. x.leading_colon) some_tie) (on_tie {C = PathOf PathArguments} (λ x. x.segments) (punctuated_tie segment_tie))) in it
-
-  pub macro_tie : IsEqualityOf (macro_of arguments_of) (macro_eq.ghosts args_row.the_row (record { eq = E }) no_dict).eq
-  macro_tie =
-      let it = made_tie {B = PathTree × (Delimiter × List Tok)} {C = MacroTree} (λ p. record { path = p.0; delimiter = p.1.0; tokens = p.1.1 }) (λ p q e. pair_path (ap (λ (r : MacroTree). r.path) e) (pair_path (ap (λ (r : MacroTree). r.delimiter) e) (ap (λ (r : MacroTree). r.tokens) e)))
-      (both_tie (on_tie {C = MacroOf PathArguments} (λ x. x.path) path_tie) (both_tie (on_tie {C = MacroOf PathArguments} (λ x. x.delimiter) delimiter_tie) (on_tie {C = MacroOf PathArguments} (λ x. x.tokens) toks_tie))) in it
+-- ---- a tree tells its parts
 
 segments_once : (a b : List SegmentTree) → t.segments_of a ≡ t.segments_of b → a ≡ b
 segments_once a b e = sym (segments-segments_of a) ∙ (ap t.segments e ∙ segments-segments_of b)
 
-pub types_once : (a b : List TypeTree) → t.types_of a ≡ t.types_of b → a ≡ b
+types_once : (a b : List TypeTree) → t.types_of a ≡ t.types_of b → a ≡ b
 types_once a b e = sym (types-types_of a) ∙ (ap t.types e ∙ types-types_of b)
 
 generics_once : (a b : List GenericTree) → t.generics_of a ≡ t.generics_of b → a ≡ b
 generics_once a b e = sym (generics-generics_of a) ∙ (ap t.generics e ∙ generics-generics_of b)
 
-pub args_once : (a b : List FnArgTree) → t.args_of a ≡ t.args_of b → a ≡ b
+args_once : (a b : List FnArgTree) → t.args_of a ≡ t.args_of b → a ≡ b
 args_once a b e = sym (args-args_of a) ∙ (ap t.args e ∙ args-args_of b)
 
 bounds_once : (a b : List BoundTree) → t.bounds_of a ≡ t.bounds_of b → a ≡ b
@@ -140,91 +126,175 @@ TraitParts = Bool × (Option LifetimesTree × PathTree)
 trait_once : (p q : TraitParts) → trait_with p.0 p.1.0 p.1.1 ≡ trait_with q.0 q.1.0 q.1.1 → p ≡ q
 trait_once p q e = pair_path (cc) (pair_path (cc) (path_parts p.1.1 q.1.1 (cc) (cc) (cc)))
 
-pub path_once : (p q : QSelfTree × PathTree) → path_with p.0 p.1 ≡ path_with q.0 q.1 → p ≡ q
+path_once : (p q : QSelfTree × PathTree) → path_with p.0 p.1 ≡ path_with q.0 q.1 → p ≡ q
 path_once p q e = pair_path (cc) (path_parts p.1 q.1 (cc) (cc) (cc))
 
-module _ {E : PathArguments → PathArguments → Bool} (tie : IsEqualityOf arguments_of E) where
-  pub type_macro_tie : IsEqualityOf (λ x. type_of (ty.Macro x)) (type_macro_eq.ghosts args_row.the_row (record { eq = E }) no_dict).eq
-  type_macro_tie = let it = made_tie {B = MacroTree} mac_with mac_once (on_tie {C = TypeMacroOf PathArguments} (λ x. x.mac) (macro_tie tie)) in along type_of-Macro it
+abbrev FnParts : Type 0
+FnParts = Option LifetimesTree × (Bool × (Option (Option LitTree) × ((List FnArgTree × Bool) × ReturnTree)))
 
-  pub trait_tie : IsEqualityOf (trait_of arguments_of) (trait_eq.ghosts args_row.the_row (record { eq = E }) no_dict).eq
-  trait_tie =
-      let it = made_tie {B = TraitParts} (λ p. trait_with p.0 p.1.0 p.1.1) trait_once
-      (both_tie (on_tie {C = TraitBoundOf PathArguments} (λ x. x.maybe) some_tie) (both_tie (on_tie {C = TraitBoundOf PathArguments} (λ x. x.lifetimes) (option_tie lifetimes_tie)) (on_tie {C = TraitBoundOf PathArguments} (λ x. x.path) (path_tie tie)))) in it
+abbrev fn_ptr_with : FnParts → TypeTree
+fn_ptr_with p = t.fn_ptr p.0 p.1.0 p.1.1.0 (t.args_of p.1.1.1.0.0) p.1.1.1.0.1 p.1.1.1.1
+
+fn_ptr_once : (p q : FnParts) → fn_ptr_with p ≡ fn_ptr_with q → p ≡ q
+fn_ptr_once p q e = pair_path (cc) (pair_path (cc) (pair_path (cc) (pair_path (pair_path (args_once p.1.1.1.0.0 q.1.1.1.0.0 (cc)) (cc)) (cc))))
+
+-- ---- which variant a tree is of
+
+abbrev return_kind : ReturnTree → ℕ
+return_kind t.default = 0
+return_kind (t.given x) = 1
+
+abbrev generic_kind : GenericTree → ℕ
+generic_kind (t.a_lifetime w) = 0
+generic_kind (t.a_const i) = 1
+generic_kind (t.an_assoc w x) = 2
+generic_kind (t.a_type x) = 3
+
+abbrev args_kind : ArgumentsTree → ℕ
+args_kind t.no_arguments = 0
+args_kind (t.angle c x e) = 1
+args_kind (t.round x e r) = 2
+
+abbrev bound_kind : BoundTree → ℕ
+bound_kind (t.outlives w) = 0
+bound_kind (t.a_trait q l c s e) = 1
 
 -- ---- what holds types
 
-module _ {E : «Type» → «Type» → Bool} (tie : IsEqualityOf type_of E) where
-  boxed : IsEqualityOf (λ (x : Box «Type» Global). type_of x.value) (λ x y. E x.value y.value)
-  boxed = on_tie {C = Box «Type» Global} (λ x. x.value) tie
+module _ (T : RattleType) {f : T.Denot → TypeTree} {E : T.Denot → T.Denot → Bool} (tie : IsEqualityOf f E) where
+  boxed : IsEqualityOf (λ (x : Box T.Denot Global). f x.value) (λ x y. E x.value y.value)
+  boxed = on_tie {C = Box T.Denot Global} (λ x. x.value) tie
 
-  pub reference_tie : IsEqualityOf (λ x. type_of (ty.Reference x)) (reference_eq.ghosts type_row.the_row (record { eq = E }) no_dict).eq
-  reference_tie =
-      let it = made_tie {B = Option Text × (Bool × TypeTree)} (λ p. t.reference p.0 p.1.0 p.1.1) (λ p q e. pair_path (cc) (pair_path (cc) (cc)))
-      (both_tie (on_tie {C = TypeReferenceOf «Type»} (λ x. x.lifetime) (option_tie lifetime_tie)) (both_tie (on_tie {C = TypeReferenceOf «Type»} (λ x. x.mutability) some_tie) (on_tie {C = TypeReferenceOf «Type»} (λ x. x.elem) boxed))) in
-      along type_of-Reference it
+  pub return_tie : IsEqualityOf (return_of f) (return_eq.ghosts T (record { eq = E }) no_dict).eq
+  return_tie =
+      let a = made_tie t.given (λ p q e. cc) tie in
+      let it = rank_more return_kind {k = 0} {view = λ (c : Choice (return_row.the_parts T)). return_of f (return_row.the_make T c)} (constant_tie t.default) (λ v. refl)
+      (rank_more return_kind (on_tie (λ v. v.1.0.value) a) (λ v. refl) (rank_end return_kind)) in
+      along (λ x. ap (return_of f) (sym (return_row.the_eta T x))) (on_tie {C = ReturnTypeOf T.Denot} (return_row.as_values T) it.tie)
 
-  pub ptr_tie : IsEqualityOf (λ x. type_of (ty.Ptr x)) (ptr_eq.ghosts type_row.the_row (record { eq = E }) no_dict).eq
-  ptr_tie =
-      let it = made_tie {B = Bool × TypeTree} (λ p. t.ptr p.0 p.1) (λ p q e. pair_path (cc) (cc)) (both_tie (on_tie {C = TypePtrOf «Type»} (λ x. x.mutability) pointer_tie) (on_tie {C = TypePtrOf «Type»} (λ x. x.elem) boxed)) in
-      along type_of-Ptr it
-
-  pub slice_tie : IsEqualityOf (λ x. type_of (ty.Slice x)) (slice_eq.ghosts type_row.the_row (record { eq = E }) no_dict).eq
-  slice_tie = let it = made_tie {B = TypeTree} (λ p. t.slice p) (λ p q e. cc) (on_tie {C = TypeSliceOf «Type»} (λ x. x.elem) boxed) in along type_of-Slice it
-
-  pub array_tie : IsEqualityOf (λ x. type_of (ty.Array x)) (array_eq.ghosts type_row.the_row (record { eq = E }) no_dict).eq
-  array_tie =
-      let it = made_tie {B = TypeTree × List Tok} (λ p. t.array p.0 p.1) (λ p q e. pair_path (cc) (cc)) (both_tie (on_tie {C = TypeArrayOf «Type»} (λ x. x.elem) boxed) (on_tie {C = TypeArrayOf «Type»} (λ x. x.len) toks_tie)) in
-      along type_of-Array it
-
-  pub tuple_tie : IsEqualityOf (λ x. type_of (ty.Tuple x)) (tuple_eq.ghosts type_row.the_row (record { eq = E }) no_dict).eq
-  tuple_tie =
-      let it = made_tie {B = List TypeTree × Bool} (λ p. t.tuple (t.types_of p.0) p.1) (λ p q e. pair_path (types_once p.0 q.0 (cc)) (cc)) (on_tie {C = TypeTupleOf «Type»} (λ x. x.elems) (punctuated_tie tie)) in
-      along type_of-Tuple it
-
-  pub paren_tie : IsEqualityOf (λ x. type_of (ty.Paren x)) (paren_eq.ghosts type_row.the_row (record { eq = E }) no_dict).eq
-  paren_tie = let it = made_tie {B = TypeTree} (λ p. t.paren p) (λ p q e. cc) (on_tie {C = TypeParenOf «Type»} (λ x. x.elem) boxed) in along type_of-Paren it
-
-  pub assoc_tie : IsEqualityOf (assoc_of type_of) (assoc_eq.ghosts type_row.the_row (record { eq = E }) no_dict).eq
+  pub assoc_tie : IsEqualityOf (assoc_of f) (assoc_eq.ghosts T (record { eq = E }) no_dict).eq
   assoc_tie =
-      let it = made_tie {B = Text × TypeTree} (λ p. t.an_assoc p.0 p.1) (λ p q e. pair_path (cc) (cc)) (both_tie (on_tie {C = AssocTypeOf «Type»} (λ x. x.ident) text_tie) (on_tie {C = AssocTypeOf «Type»} (λ x. x.ty) tie)) in it
+      let it = made_tie {B = Text × TypeTree} (λ p. t.an_assoc p.0 p.1) (λ p q e. pair_path (cc) (cc)) (both_tie (on_tie {C = AssocTypeOf T.Denot} (λ x. x.ident) text_tie) (on_tie {C = AssocTypeOf T.Denot} (λ x. x.ty) tie)) in it
 
-  pub qself_tie : IsEqualityOf (qself_of type_of) (qself_eq.ghosts type_row.the_row (record { eq = E }) no_dict).eq
+  pub generic_tie : IsEqualityOf (generic_of f) (generic_eq.ghosts T (record { eq = E }) no_dict).eq
+  generic_tie =
+      let a = made_tie t.a_lifetime (λ p q e. cc) lifetime_tie in
+      let b = made_tie t.a_const (λ p q e. cc) toks_tie in
+      let c = made_tie t.a_type (λ p q e. cc) tie in
+      let it = rank_more generic_kind {k = 0} {view = λ (c : Choice (generic_row.the_parts T)). generic_of f (generic_row.the_make T c)} (on_tie (λ v. v.0) a) (λ v. refl)
+      (rank_more generic_kind (on_tie (λ v. v.0) b) (λ v. refl)
+      (rank_more generic_kind (on_tie (λ v. v.0) assoc_tie) (λ v. refl)
+      (rank_more generic_kind (on_tie (λ v. v.0) c) (λ v. refl) (rank_end generic_kind)))) in
+      along (λ x. ap (generic_of f) (sym (generic_row.the_eta T x))) (on_tie {C = GenericArgumentOf T.Denot} (generic_row.as_values T) it.tie)
+
+  pub angle_tie : IsEqualityOf (angle_of f) (angle_eq.ghosts T (record { eq = E }) no_dict).eq
+  angle_tie =
+      let it = made_tie {B = Bool × (List GenericTree × Bool)} (λ p. t.angle p.0 (t.generics_of p.1.0) p.1.1) (λ p q e. pair_path (cc) (pair_path (generics_once p.1.0 q.1.0 (cc)) (cc)))
+      (both_tie (on_tie {C = AngleBracketedGenericArgumentsOf T.Denot} (λ x. x.colon2_token) some_tie) (and_true_tie (on_tie {C = AngleBracketedGenericArgumentsOf T.Denot} (λ x. x.args) (punctuated_tie generic_tie)))) in it
+
+  pub round_tie : IsEqualityOf (round_of f) (round_eq.ghosts T (record { eq = E }) no_dict).eq
+  round_tie =
+      let it = made_tie {B = (List TypeTree × Bool) × ReturnTree} (λ p. t.round (t.types_of p.0.0) p.0.1 p.1) (λ p q e. pair_path (pair_path (types_once p.0.0 q.0.0 (cc)) (cc)) (cc))
+      (both_tie (on_tie {C = ParenthesizedGenericArgumentsOf T.Denot} (λ x. x.inputs) (punctuated_tie tie)) (on_tie {C = ParenthesizedGenericArgumentsOf T.Denot} (λ x. x.output) return_tie)) in it
+
+  pub args_tie : IsEqualityOf (arguments_of f) (args_eq.ghosts T (record { eq = E }) no_dict).eq
+  args_tie =
+      let it = rank_more args_kind {k = 0} {view = λ (c : Choice (args_row.the_parts T)). arguments_of f (args_row.the_make T c)} (constant_tie t.no_arguments) (λ v. refl)
+      (rank_more args_kind (on_tie (λ v. v.0) angle_tie) (λ v. refl)
+      (rank_more args_kind (on_tie (λ v. v.0) round_tie) (λ v. refl) (rank_end args_kind))) in
+      along (λ x. ap (arguments_of f) (sym (args_row.the_eta T x))) (on_tie {C = PathArgumentsOf T.Denot} (args_row.as_values T) it.tie)
+
+  pub segment_tie : IsEqualityOf (segment_of f) (segment_eq.ghosts T (record { eq = E }) no_dict).eq
+  segment_tie =
+      let it = made_tie {B = Text × ArgumentsTree} {C = SegmentTree} (λ p. record { ident = p.0; arguments = p.1 }) (λ p q e. pair_path (ap (λ (r : SegmentTree). r.ident) e) (ap (λ (r : SegmentTree). r.arguments) e))
+      (both_tie (on_tie {C = PathSegmentOf T.Denot} (λ x. x.ident) text_tie) (on_tie {C = PathSegmentOf T.Denot} (λ x. x.arguments) args_tie)) in it
+
+  pub path_tie : IsEqualityOf (path_of f) (path_eq.ghosts T (record { eq = E }) no_dict).eq
+  path_tie =
+      let it = made_tie {B = Bool × (List SegmentTree × Bool)} {C = PathTree} (λ p. record { leading = p.0; segments = p.1.0; trailing = p.1.1 }) (λ p q e. pair_path (ap (λ (r : PathTree). r.leading) e) (pair_path (ap (λ (r : PathTree). r.segments) e) (ap (λ (r : PathTree). r.trailing) e)))
+      (both_tie (on_tie {C = PathOf T.Denot} (λ x. x.leading_colon) some_tie) (on_tie {C = PathOf T.Denot} (λ x. x.segments) (punctuated_tie segment_tie))) in it
+
+  pub macro_tie : IsEqualityOf (macro_of f) (macro_eq.ghosts T (record { eq = E }) no_dict).eq
+  macro_tie =
+      let it = made_tie {B = PathTree × (Delimiter × List Tok)} {C = MacroTree} (λ p. record { path = p.0; delimiter = p.1.0; tokens = p.1.1 }) (λ p q e. pair_path (ap (λ (r : MacroTree). r.path) e) (pair_path (ap (λ (r : MacroTree). r.delimiter) e) (ap (λ (r : MacroTree). r.tokens) e)))
+      (both_tie (on_tie {C = MacroOf T.Denot} (λ x. x.path) path_tie) (both_tie (on_tie {C = MacroOf T.Denot} (λ x. x.delimiter) delimiter_tie) (on_tie {C = MacroOf T.Denot} (λ x. x.tokens) toks_tie))) in it
+
+  pub trait_tie : IsEqualityOf (trait_of f) (trait_eq.ghosts T (record { eq = E }) no_dict).eq
+  trait_tie =
+      let it = made_tie {B = TraitParts} (λ p. trait_with p.0 p.1.0 p.1.1) trait_once
+      (both_tie (on_tie {C = TraitBoundOf T.Denot} (λ x. x.maybe) some_tie) (both_tie (on_tie {C = TraitBoundOf T.Denot} (λ x. x.lifetimes) (option_tie lifetimes_tie)) (on_tie {C = TraitBoundOf T.Denot} (λ x. x.path) path_tie))) in it
+
+  pub bound_tie : IsEqualityOf (bound_of f) (bound_eq.ghosts T (record { eq = E }) no_dict).eq
+  bound_tie =
+      let a = made_tie t.outlives (λ p q e. cc) lifetime_tie in
+      let it = rank_more bound_kind {k = 0} {view = λ (c : Choice (bound_row.the_parts T)). bound_of f (bound_row.the_make T c)} (on_tie (λ v. v.0) a) (λ v. refl)
+      (rank_more bound_kind (on_tie (λ v. v.0) trait_tie) (λ v. refl) (rank_end bound_kind)) in
+      along (λ x. ap (bound_of f) (sym (bound_row.the_eta T x))) (on_tie {C = TypeParamBoundOf T.Denot} (bound_row.as_values T) it.tie)
+
+  pub arg_tie : IsEqualityOf (arg_of f) (arg_eq.ghosts T (record { eq = E }) no_dict).eq
+  arg_tie =
+      let it = made_tie {B = Option Text × TypeTree} {C = FnArgTree} (λ p. record { name = p.0; ty = p.1 }) (λ p q e. pair_path (ap (λ (r : FnArgTree). r.name) e) (ap (λ (r : FnArgTree). r.ty) e))
+      (both_tie (on_tie {C = BareFnArgOf T.Denot} (λ x. x.name) (option_tie (and_true_tie (on_tie (λ p. p.0) text_tie)))) (on_tie {C = BareFnArgOf T.Denot} (λ x. x.ty) tie)) in it
+
+  pub qself_tie : IsEqualityOf (qself_of f) (qself_eq.ghosts T (record { eq = E }) no_dict).eq
   qself_tie =
       let it = made_tie {B = TypeTree × (ℕ × Bool)} (λ p. t.qself p.0 p.1.0 p.1.1) (λ p q e. pair_path (cc) (pair_path (cc) (cc)))
-      (both_tie (on_tie {C = QSelfOf «Type»} (λ x. x.ty) boxed) (both_tie (on_tie {C = QSelfOf «Type»} (λ x. x.position) number_tie) (and_true_tie (on_tie {C = QSelfOf «Type»} (λ x. x.as_token) some_tie)))) in it
+      (both_tie (on_tie {C = QSelfOf T.Denot} (λ x. x.ty) boxed) (both_tie (on_tie {C = QSelfOf T.Denot} (λ x. x.position) number_tie) (and_true_tie (on_tie {C = QSelfOf T.Denot} (λ x. x.as_token) some_tie)))) in it
 
-  pub qself_or_tie : IsEqualityOf (qself_or type_of) (option_eq (qself_eq.ghosts type_row.the_row (record { eq = E }) no_dict).eq)
+  qself_or_tie : IsEqualityOf (qself_or f) (option_eq (qself_eq.ghosts T (record { eq = E }) no_dict).eq)
   qself_or_tie = record { same = go }
     where
-      go : (x y : Option (QSelfOf «Type»)) → (option_eq (qself_eq.ghosts type_row.the_row (record { eq = E }) no_dict).eq x y ≡ true) ↔ (qself_or type_of x ≡ qself_or type_of y)
+      go : (x y : Option (QSelfOf T.Denot)) → (option_eq (qself_eq.ghosts T (record { eq = E }) no_dict).eq x y ≡ true) ↔ (qself_or f x ≡ qself_or f y)
       go None None = (λ h. refl, λ e. refl)
       go None (Some y) = (λ h. absurd cc, λ e. absurd cc)
       go (Some x) None = (λ h. absurd cc, λ e. absurd cc)
       go (Some x) (Some y) = qself_tie.same x y
 
-  pub arg_tie : IsEqualityOf (arg_of type_of) (arg_eq.ghosts type_row.the_row (record { eq = E }) no_dict).eq
-  arg_tie =
-      let it = made_tie {B = Option Text × TypeTree} {C = FnArgTree} (λ p. record { name = p.0; ty = p.1 }) (λ p q e. pair_path (ap (λ (r : FnArgTree). r.name) e) (ap (λ (r : FnArgTree). r.ty) e))
-      (both_tie (on_tie {C = BareFnArgOf «Type»} (λ x. x.name) (option_tie (and_true_tie (on_tie (λ p. p.0) text_tie)))) (on_tie {C = BareFnArgOf «Type»} (λ x. x.ty) tie)) in it
+  -- each kind of type
 
--- ---- what holds bounds
+  pub type_path_tie : IsEqualityOf (type_path_of f) (type_path_eq.ghosts T (record { eq = E }) no_dict).eq
+  type_path_tie =
+      let it = made_tie {B = QSelfTree × PathTree} (λ p. path_with p.0 p.1) path_once (both_tie (on_tie {C = TypePathOf T.Denot} (λ x. x.qself) qself_or_tie) (on_tie {C = TypePathOf T.Denot} (λ x. x.path) path_tie)) in it
 
-module _ {E : TypeParamBound → TypeParamBound → Bool} (tie : IsEqualityOf bound_of E) where
-  pub impl_tie : IsEqualityOf (λ x. type_of (ty.ImplTrait x)) (impl_eq.ghosts bound_row.the_row (record { eq = E }) no_dict).eq
+  pub type_macro_tie : IsEqualityOf (type_macro_of f) (type_macro_eq.ghosts T (record { eq = E }) no_dict).eq
+  type_macro_tie =
+      let it = made_tie {B = MacroTree} mac_with mac_once (on_tie {C = TypeMacroOf T.Denot} (λ x. x.mac) macro_tie) in it
+
+  pub reference_tie : IsEqualityOf (reference_of f) (reference_eq.ghosts T (record { eq = E }) no_dict).eq
+  reference_tie =
+      let it = made_tie {B = Option Text × (Bool × TypeTree)} (λ p. t.reference p.0 p.1.0 p.1.1) (λ p q e. pair_path (cc) (pair_path (cc) (cc)))
+      (both_tie (on_tie {C = TypeReferenceOf T.Denot} (λ x. x.lifetime) (option_tie lifetime_tie)) (both_tie (on_tie {C = TypeReferenceOf T.Denot} (λ x. x.mutability) some_tie) (on_tie {C = TypeReferenceOf T.Denot} (λ x. x.elem) boxed))) in it
+
+  pub ptr_tie : IsEqualityOf (ptr_of f) (ptr_eq.ghosts T (record { eq = E }) no_dict).eq
+  ptr_tie =
+      let it = made_tie {B = Bool × TypeTree} (λ p. t.ptr p.0 p.1) (λ p q e. pair_path (cc) (cc)) (both_tie (on_tie {C = TypePtrOf T.Denot} (λ x. x.mutability) pointer_tie) (on_tie {C = TypePtrOf T.Denot} (λ x. x.elem) boxed)) in it
+
+  pub slice_tie : IsEqualityOf (slice_of f) (slice_eq.ghosts T (record { eq = E }) no_dict).eq
+  slice_tie =
+      let it = made_tie {B = TypeTree} (λ p. t.slice p) (λ p q e. cc) (on_tie {C = TypeSliceOf T.Denot} (λ x. x.elem) boxed) in it
+
+  pub array_tie : IsEqualityOf (array_of f) (array_eq.ghosts T (record { eq = E }) no_dict).eq
+  array_tie =
+      let it = made_tie {B = TypeTree × List Tok} (λ p. t.array p.0 p.1) (λ p q e. pair_path (cc) (cc)) (both_tie (on_tie {C = TypeArrayOf T.Denot} (λ x. x.elem) boxed) (on_tie {C = TypeArrayOf T.Denot} (λ x. x.len) toks_tie)) in it
+
+  pub tuple_tie : IsEqualityOf (tuple_of f) (tuple_eq.ghosts T (record { eq = E }) no_dict).eq
+  tuple_tie =
+      let it = made_tie {B = List TypeTree × Bool} (λ p. t.tuple (t.types_of p.0) p.1) (λ p q e. pair_path (types_once p.0 q.0 (cc)) (cc)) (on_tie {C = TypeTupleOf T.Denot} (λ x. x.elems) (punctuated_tie tie)) in it
+
+  pub paren_tie : IsEqualityOf (paren_of f) (paren_eq.ghosts T (record { eq = E }) no_dict).eq
+  paren_tie =
+      let it = made_tie {B = TypeTree} (λ p. t.paren p) (λ p q e. cc) (on_tie {C = TypeParenOf T.Denot} (λ x. x.elem) boxed) in it
+
+  pub fn_ptr_tie : IsEqualityOf (fn_ptr_of f) (fn_ptr_eq.ghosts T (record { eq = E }) no_dict).eq
+  fn_ptr_tie =
+      let it = made_tie {B = FnParts} fn_ptr_with fn_ptr_once
+      (both_tie (on_tie {C = TypeFnPtrOf T.Denot} (λ x. x.lifetimes) (option_tie lifetimes_tie)) (both_tie (on_tie {C = TypeFnPtrOf T.Denot} (λ x. x.unsafety) some_tie) (both_tie (on_tie {C = TypeFnPtrOf T.Denot} (λ x. x.abi) (option_tie abi_tie))
+      (both_tie (on_tie {C = TypeFnPtrOf T.Denot} (λ x. x.inputs) (punctuated_tie arg_tie)) (on_tie {C = TypeFnPtrOf T.Denot} (λ x. x.output) return_tie))))) in it
+
+  pub impl_tie : IsEqualityOf (impl_trait_of f) (impl_eq.ghosts T (record { eq = E }) no_dict).eq
   impl_tie =
-      let it = made_tie {B = List BoundTree × Bool} (λ p. t.impl_trait (t.bounds_of p.0) p.1) (λ p q e. pair_path (bounds_once p.0 q.0 (cc)) (cc)) (on_tie {C = TypeImplTraitOf TypeParamBound} (λ x. x.bounds) (punctuated_tie tie)) in
-      along type_of-ImplTrait it
+      let it = made_tie {B = List BoundTree × Bool} (λ p. t.impl_trait (t.bounds_of p.0) p.1) (λ p q e. pair_path (bounds_once p.0 q.0 (cc)) (cc)) (on_tie {C = TypeImplTraitOf T.Denot} (λ x. x.bounds) (punctuated_tie bound_tie)) in it
 
-  pub object_tie : IsEqualityOf (λ x. type_of (ty.TraitObject x)) (object_eq.ghosts bound_row.the_row (record { eq = E }) no_dict).eq
+  pub object_tie : IsEqualityOf (trait_object_of f) (object_eq.ghosts T (record { eq = E }) no_dict).eq
   object_tie =
-      let it = made_tie {B = List BoundTree × Bool} (λ p. t.trait_object (t.bounds_of p.0) p.1) (λ p q e. pair_path (bounds_once p.0 q.0 (cc)) (cc)) (on_tie {C = TypeTraitObjectOf TypeParamBound} (λ x. x.bounds) (punctuated_tie tie)) in
-      along type_of-TraitObject it
-
--- ---- what holds generic arguments
-
-module _ {E : GenericArgument → GenericArgument → Bool} (tie : IsEqualityOf generic_of E) where
-  pub angle_tie : IsEqualityOf (angle_of generic_of) (angle_eq.ghosts generic_row.the_row (record { eq = E }) no_dict).eq
-  angle_tie =
-      let it = made_tie {B = Bool × (List GenericTree × Bool)} (λ p. t.angle p.0 (t.generics_of p.1.0) p.1.1) (λ p q e. pair_path (cc) (pair_path (generics_once p.1.0 q.1.0 (cc)) (cc)))
-      (both_tie (on_tie {C = AngleBracketedGenericArgumentsOf GenericArgument} (λ x. x.colon2_token) some_tie) (and_true_tie (on_tie {C = AngleBracketedGenericArgumentsOf GenericArgument} (λ x. x.args) (punctuated_tie tie)))) in it
+      let it = made_tie {B = List BoundTree × Bool} (λ p. t.trait_object (t.bounds_of p.0) p.1) (λ p q e. pair_path (bounds_once p.0 q.0 (cc)) (cc)) (on_tie {C = TypeTraitObjectOf T.Denot} (λ x. x.bounds) (punctuated_tie bound_tie)) in it

@@ -3,9 +3,9 @@
 ghost use Rattle.std.specs.Prelude.{map, not, Bool, true, false, [], if◌then◌else◌};
 ghost use Rattle.syn_lower.specs.ReadBack.{PrintsOwn, IsReadBack, IsRead, qpath_of, all_outer, all_inner, all_printed};
 ghost use Rattle.syn_lower.specs.View as view;
-ghost use Rattle.syn_lower.specs.declared.path.GenericArgument.TheVariants as generic;
-ghost use Rattle.syn_lower.specs.declared.path.PathArguments.TheVariants as arguments;
-ghost use Rattle.syn_lower.specs.declared.ty.TypeParamBound.TheVariants as bound;
+ghost use Rattle.syn_branch.specs.declared.path.GenericArgumentOf.TheVariants as generic;
+ghost use Rattle.syn_branch.specs.declared.path.PathArgumentsOf.TheVariants as arguments;
+ghost use Rattle.syn_branch.specs.declared.ty.TypeParamBoundOf.TheVariants as bound;
 ghost use Rattle.syn_lower.specs.declared.ty.«Type».TheVariants as ty;
 ghost use Rattle.syn_parts.specs.Fits as fits;
 ghost use Rattle.syn_parts.specs.Fits.{closed};
@@ -19,7 +19,7 @@ ghost use Rattle.syn_parts.specs.declared.label.PathStyle.TheVariants as style;
 use syn_lower::mac::Macro;
 use syn_lower::path::{
     AngleBracketedGenericArguments, AssocType, GenericArgument, ParenthesizedGenericArguments,
-    Path, PathSegment,
+    Path, PathArguments, PathSegment,
 };
 use syn_lower::ty::{
     Abi, BareFnArg, BoundLifetimes, PointerMutability, ReturnType, TraitBound, Type, TypeArray,
@@ -30,13 +30,20 @@ use syn_tokens::buffer::{Parse, ToTokens};
 
 /// What is printed of a part that holds others is its own tokens, as a part of them.
 pub fn own_tokens_are_printed()
-    ensures paths { PrintsOwn ⟦<Path as ToTokens>⟧.printed (λ x. own.path_own (view.path_of view.arguments_of x)) }
-    ensures segments { PrintsOwn ⟦<PathSegment as ToTokens>⟧.printed (λ x. own.segment_own (view.segment_of view.arguments_of x)) }
+    ensures paths { PrintsOwn ⟦<Path as ToTokens>⟧.printed (λ x. own.path_own (view.path_of view.type_of x)) }
+    ensures segments { PrintsOwn ⟦<PathSegment as ToTokens>⟧.printed (λ x. own.segment_own (view.segment_of view.type_of x)) }
+    ensures path_arguments { PrintsOwn ⟦<PathArguments as ToTokens>⟧.printed (λ x. own.arguments_own (view.arguments_of x)) }
+    ensures generic_arguments { PrintsOwn ⟦<GenericArgument as ToTokens>⟧.printed (λ x. own.generic_own (view.generic_of x)) }
+    ensures parenthesized { PrintsOwn ⟦<ParenthesizedGenericArguments as ToTokens>⟧.printed (λ x. own.arguments_own (view.round_of x)) }
+    ensures outputs { PrintsOwn ⟦<ReturnType as ToTokens>⟧.printed (λ x. own.return_own (view.return_of x)) }
+    ensures bounds { PrintsOwn ⟦<TypeParamBound as ToTokens>⟧.printed (λ x. own.bound_own (view.bound_of x)) }
     ensures angle_bracketed { PrintsOwn ⟦<AngleBracketedGenericArguments as ToTokens>⟧.printed (λ x. own.arguments_own (view.arguments_of (arguments.AngleBracketed x))) }
     ensures associated_types { PrintsOwn ⟦<AssocType as ToTokens>⟧.printed (λ x. own.generic_own (view.generic_of (generic.AssocType x))) }
-    ensures macros { PrintsOwn ⟦<Macro as ToTokens>⟧.printed (λ x. own.macro_own (view.macro_of view.arguments_of x)) }
+    ensures macros { PrintsOwn ⟦<Macro as ToTokens>⟧.printed (λ x. own.macro_own (view.macro_of view.type_of x)) }
     ensures trait_bounds { PrintsOwn ⟦<TraitBound as ToTokens>⟧.printed (λ x. own.bound_own (view.bound_of (bound.Trait x))) }
     ensures fn_args { PrintsOwn ⟦<BareFnArg as ToTokens>⟧.printed (λ x. own.arg_own (view.arg_of view.type_of x)) }
+    ensures type_paths { PrintsOwn ⟦<TypePath as ToTokens>⟧.printed (λ x. own.type_own (view.type_of (ty.Path x))) }
+    ensures fn_pointers { PrintsOwn ⟦<TypeFnPtr as ToTokens>⟧.printed (λ x. own.type_own (view.type_of (ty.FnPtr x))) }
     ensures macro_types { PrintsOwn ⟦<TypeMacro as ToTokens>⟧.printed (λ x. own.type_own (view.type_of (ty.Macro x))) }
     ensures references { PrintsOwn ⟦<TypeReference as ToTokens>⟧.printed (λ x. own.type_own (view.type_of (ty.Reference x))) }
     ensures pointers { PrintsOwn ⟦<TypePtr as ToTokens>⟧.printed (λ x. own.type_own (view.type_of (ty.Ptr x))) }
@@ -56,15 +63,15 @@ pub fn parts_are_read_back()
     ensures types { IsReadBack (λ x. fits.type_fits true (view.type_of x)) (λ x. fits.type_stops true (view.type_of x)) ⟦<Type as ToTokens>⟧.printed ⟦<Type as Parse>⟧.seen ⟦<Type as Parse>⟧.spells }
     // `Type::without_plus`
     ensures one_bound_types { IsReadBack (λ x. fits.type_fits false (view.type_of x)) (λ x. fits.type_stops false (view.type_of x)) ⟦<Type as ToTokens>⟧.printed view.type_of (IsRead (part.type false)) }
-    ensures paths { IsReadBack (λ x. fits.path_fits style.Type (view.path_of view.arguments_of x)) (λ x. fits.path_stops style.Type (view.path_of view.arguments_of x)) ⟦<Path as ToTokens>⟧.printed ⟦<Path as Parse>⟧.seen ⟦<Path as Parse>⟧.spells }
+    ensures paths { IsReadBack (λ x. fits.path_fits style.Type (view.path_of view.type_of x)) (λ x. fits.path_stops style.Type (view.path_of view.type_of x)) ⟦<Path as ToTokens>⟧.printed ⟦<Path as Parse>⟧.seen ⟦<Path as Parse>⟧.spells }
     // `Path::parse_mod_style`
-    ensures bare_paths { IsReadBack (λ x. fits.path_fits style.Mod (view.path_of view.arguments_of x)) (λ x. fits.path_stops style.Mod (view.path_of view.arguments_of x)) ⟦<Path as ToTokens>⟧.printed (view.path_of view.arguments_of) (IsRead (part.path part.type style.Mod)) }
+    ensures bare_paths { IsReadBack (λ x. fits.path_fits style.Mod (view.path_of view.type_of x)) (λ x. fits.path_stops style.Mod (view.path_of view.type_of x)) ⟦<Path as ToTokens>⟧.printed (view.path_of view.type_of) (IsRead (part.path part.type style.Mod)) }
     // `qpath` and `print_qpath`
     ensures qualified_paths { (expr_style : Bool) → IsReadBack (λ q. fits.qpath_fits (if expr_style then style.Expr else style.Type) (qpath_of q)) (λ q. fits.path_stops (if expr_style then style.Expr else style.Type) ((qpath_of q).1)) (λ q. own.qualified_own (qpath_of q) []) qpath_of (IsRead (part.qpath part.type (if expr_style then style.Expr else style.Type))) }
-    ensures segments { IsReadBack (λ x. fits.segment_fits style.Type (view.segment_of view.arguments_of x)) (λ x. fits.segment_stops style.Type (view.segment_of view.arguments_of x)) ⟦<PathSegment as ToTokens>⟧.printed ⟦<PathSegment as Parse>⟧.seen ⟦<PathSegment as Parse>⟧.spells }
+    ensures segments { IsReadBack (λ x. fits.segment_fits style.Type (view.segment_of view.type_of x)) (λ x. fits.segment_stops style.Type (view.segment_of view.type_of x)) ⟦<PathSegment as ToTokens>⟧.printed ⟦<PathSegment as Parse>⟧.seen ⟦<PathSegment as Parse>⟧.spells }
     ensures generic_arguments { IsReadBack (λ x. fits.generic_fits (view.generic_of x)) (λ x. fits.generic_stops (view.generic_of x)) ⟦<GenericArgument as ToTokens>⟧.printed ⟦<GenericArgument as Parse>⟧.seen ⟦<GenericArgument as Parse>⟧.spells }
     ensures bounds { IsReadBack (λ x. fits.bound_fits (view.bound_of x)) (λ x. fits.bound_stops (view.bound_of x)) ⟦<TypeParamBound as ToTokens>⟧.printed ⟦<TypeParamBound as Parse>⟧.seen ⟦<TypeParamBound as Parse>⟧.spells }
-    ensures macros { IsReadBack (λ x. fits.macro_fits (view.macro_of view.arguments_of x)) closed ⟦<Macro as ToTokens>⟧.printed ⟦<Macro as Parse>⟧.seen ⟦<Macro as Parse>⟧.spells }
+    ensures macros { IsReadBack (λ x. fits.macro_fits (view.macro_of view.type_of x)) closed ⟦<Macro as ToTokens>⟧.printed ⟦<Macro as Parse>⟧.seen ⟦<Macro as Parse>⟧.spells }
     ensures bound_lifetimes { IsReadBack (λ x. true) closed ⟦<BoundLifetimes as ToTokens>⟧.printed ⟦<BoundLifetimes as Parse>⟧.seen ⟦<BoundLifetimes as Parse>⟧.spells }
 {}
 
@@ -82,8 +89,8 @@ pub fn pieces_are_read_back()
 
 /// The same of each kind of type, as a struct.
 pub fn kinds_of_types_are_read_back()
-    ensures paths { IsReadBack (λ x. fits.qpath_fits style.Type (view.qself_or view.type_of x.qself, view.path_of view.arguments_of x.path)) (λ x. fits.path_stops style.Type (view.path_of view.arguments_of x.path)) ⟦<TypePath as ToTokens>⟧.printed ⟦<TypePath as Parse>⟧.seen ⟦<TypePath as Parse>⟧.spells }
-    ensures macros { IsReadBack (λ x. fits.macro_fits (view.macro_of view.arguments_of x.mac)) closed ⟦<TypeMacro as ToTokens>⟧.printed ⟦<TypeMacro as Parse>⟧.seen ⟦<TypeMacro as Parse>⟧.spells }
+    ensures paths { IsReadBack (λ x. fits.qpath_fits style.Type (view.qself_or view.type_of x.qself, view.path_of view.type_of x.path)) (λ x. fits.path_stops style.Type (view.path_of view.type_of x.path)) ⟦<TypePath as ToTokens>⟧.printed ⟦<TypePath as Parse>⟧.seen ⟦<TypePath as Parse>⟧.spells }
+    ensures macros { IsReadBack (λ x. fits.macro_fits (view.macro_of view.type_of x.mac)) closed ⟦<TypeMacro as ToTokens>⟧.printed ⟦<TypeMacro as Parse>⟧.seen ⟦<TypeMacro as Parse>⟧.spells }
     ensures references { IsReadBack (λ x. fits.type_fits true (view.type_of (ty.Reference x))) (λ x. fits.type_stops true (view.type_of (ty.Reference x))) ⟦<TypeReference as ToTokens>⟧.printed ⟦<TypeReference as Parse>⟧.seen ⟦<TypeReference as Parse>⟧.spells }
     ensures pointers { IsReadBack (λ x. fits.type_fits true (view.type_of (ty.Ptr x))) (λ x. fits.type_stops true (view.type_of (ty.Ptr x))) ⟦<TypePtr as ToTokens>⟧.printed ⟦<TypePtr as Parse>⟧.seen ⟦<TypePtr as Parse>⟧.spells }
     ensures slices { IsReadBack (λ x. fits.type_fits true (view.type_of (ty.Slice x))) closed ⟦<TypeSlice as ToTokens>⟧.printed ⟦<TypeSlice as Parse>⟧.seen ⟦<TypeSlice as Parse>⟧.spells }

@@ -2,8 +2,7 @@
 //! nothing.
 
 ghost use Rattle.syn_leaf.specs.Equal.{IsEqualityOf};
-ghost use Rattle.syn_lower.specs.View.{abi_of, angle_of, arg_of, arguments_of, assoc_of, attribute_of, bound_of, delimiter_of, fn_ptr_of, generic_of, is_inner, is_mut, lifetime_of, lifetimes_of, lit_float_of, lit_int_of, lit_of, lit_str_of, macro_of, path_of, qself_of, return_of, round_of, segment_of, trait_of, type_of, type_path_of};
-ghost use Rattle.syn_leaf.specs.declared.lit.Lit.TheVariants as lit;
+ghost use Rattle.syn_lower.specs.View.{abi_of, angle_of, arg_of, arguments_of, assoc_of, bound_of, generic_of, is_mut, lifetimes_of, macro_of, path_of, qself_of, return_of, round_of, segment_of, trait_of, type_of};
 ghost use Rattle.syn_lower.specs.declared.ty.«Type».TheVariants as ty;
 
 use syn_lower::mac::Macro;
@@ -20,14 +19,14 @@ use syn_lower::ty::{
 /// Two paths, parts of paths, or calls of macros are equal exactly where their trees are.
 #[tactic(auto, using(crate::proofs::Sames::sames))]
 pub fn equal_paths()
-    ensures path { IsEqualityOf (path_of arguments_of) ⟦<Path as PartialEq>⟧.eq }
-    ensures segment { IsEqualityOf (segment_of arguments_of) ⟦<PathSegment as PartialEq>⟧.eq }
+    ensures path { IsEqualityOf (path_of type_of) ⟦<Path as PartialEq>⟧.eq }
+    ensures segment { IsEqualityOf (segment_of type_of) ⟦<PathSegment as PartialEq>⟧.eq }
     ensures arguments { IsEqualityOf arguments_of ⟦<PathArguments as PartialEq>⟧.eq }
-    ensures angle { IsEqualityOf (angle_of generic_of) ⟦<AngleBracketedGenericArguments as PartialEq>⟧.eq }
+    ensures angle { IsEqualityOf (angle_of type_of) ⟦<AngleBracketedGenericArguments as PartialEq>⟧.eq }
     ensures round { IsEqualityOf round_of ⟦<ParenthesizedGenericArguments as PartialEq>⟧.eq }
     ensures generic { IsEqualityOf generic_of ⟦<GenericArgument as PartialEq>⟧.eq }
     ensures assoc { IsEqualityOf (assoc_of type_of) ⟦<AssocType as PartialEq>⟧.eq }
-    ensures mac { IsEqualityOf (macro_of arguments_of) ⟦<Macro as PartialEq>⟧.eq }
+    ensures mac { IsEqualityOf (macro_of type_of) ⟦<Macro as PartialEq>⟧.eq }
     ensures qself { IsEqualityOf (qself_of type_of) ⟦<QSelf as PartialEq>⟧.eq }
 {}
 
@@ -35,7 +34,7 @@ pub fn equal_paths()
 #[tactic(auto, using(crate::proofs::Sames::sames))]
 pub fn equal_types()
     ensures any { IsEqualityOf type_of ⟦<Type as PartialEq>⟧.eq }
-    ensures path { IsEqualityOf type_path_of ⟦<TypePath as PartialEq>⟧.eq }
+    ensures path { IsEqualityOf (λ x. type_of (ty.Path x)) ⟦<TypePath as PartialEq>⟧.eq }
     ensures mac { IsEqualityOf (λ x. type_of (ty.Macro x)) ⟦<TypeMacro as PartialEq>⟧.eq }
     ensures reference { IsEqualityOf (λ x. type_of (ty.Reference x)) ⟦<TypeReference as PartialEq>⟧.eq }
     ensures ptr { IsEqualityOf (λ x. type_of (ty.Ptr x)) ⟦<TypePtr as PartialEq>⟧.eq }
@@ -45,7 +44,7 @@ pub fn equal_types()
     ensures paren { IsEqualityOf (λ x. type_of (ty.Paren x)) ⟦<TypeParen as PartialEq>⟧.eq }
     ensures never { IsEqualityOf (λ x. type_of (ty.Never x)) ⟦<TypeNever as PartialEq>⟧.eq }
     ensures infer { IsEqualityOf (λ x. type_of (ty.Infer x)) ⟦<TypeInfer as PartialEq>⟧.eq }
-    ensures fn_ptr { IsEqualityOf fn_ptr_of ⟦<TypeFnPtr as PartialEq>⟧.eq }
+    ensures fn_ptr { IsEqualityOf (λ x. type_of (ty.FnPtr x)) ⟦<TypeFnPtr as PartialEq>⟧.eq }
     ensures impl_trait { IsEqualityOf (λ x. type_of (ty.ImplTrait x)) ⟦<TypeImplTrait as PartialEq>⟧.eq }
     ensures trait_object { IsEqualityOf (λ x. type_of (ty.TraitObject x)) ⟦<TypeTraitObject as PartialEq>⟧.eq }
 {}
@@ -58,6 +57,6 @@ pub fn equal_parts_of_types()
     ensures argument { IsEqualityOf (arg_of type_of) ⟦<BareFnArg as PartialEq>⟧.eq }
     ensures output { IsEqualityOf return_of ⟦<ReturnType as PartialEq>⟧.eq }
     ensures bound { IsEqualityOf bound_of ⟦<TypeParamBound as PartialEq>⟧.eq }
-    ensures trait_bound { IsEqualityOf (trait_of arguments_of) ⟦<TraitBound as PartialEq>⟧.eq }
+    ensures trait_bound { IsEqualityOf (trait_of type_of) ⟦<TraitBound as PartialEq>⟧.eq }
     ensures lifetimes { IsEqualityOf lifetimes_of ⟦<BoundLifetimes as PartialEq>⟧.eq }
 {}
