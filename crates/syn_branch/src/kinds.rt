@@ -33,7 +33,7 @@ pub trait Kind<S>: ReadTypes {
     /// The struct in a type of this kind; any other type comes back.
     fn of(ty: Self) -> std::result::Result<S, Self>
         ensures kind { IfOk result (λ x. (is (shown x) ≡ true) × (shown x ≡ Self.tree ty)) }
-        ensures other { IfErr result (λ _. is (Self.tree ty) ≡ false) };
+        ensures other { IfErr result (λ y. (is (Self.tree ty) ≡ false) × (Self.tree y ≡ Self.tree ty)) };
 }
 
 /// What is read of a struct that holds the types of one kind.
