@@ -1,12 +1,12 @@
 -- What is printed of each part is its own tokens, before whatever follows.
 use Rattle.std.proofs.Common.{◌≡◌, List, [], ◌∷◌, ◌++◌, sym, ap, ◌∙◌, append_assoc}
-use Rattle.syn_tokens.specs.Tok.{Tok, ident}
+use Rattle.syn_tokens.specs.Tok.{Tok}
 use Rattle.syn_parts.specs.Own.{path_own, macro_own, segment_own, arg_own, arguments_own, return_own, generic_own, bound_own, type_own}
 use Rattle.syn_parts.specs.Tree.{TypeTree, ArgumentsTree, ReturnTree, GenericTree, BoundTree}
-use Rattle.syn_lower.specs.View.{path_of, segment_of, macro_of, arg_of, type_of, arguments_of}
+use Rattle.syn_lower.specs.View.{path_of, segment_of, macro_of, arg_of, type_of}
 use Rattle.syn_branch.specs.Printed.{path_printed, segment_printed, macro_printed, arg_printed}
 use Rattle.syn_parts.proofs.Appends.{type_append, arguments_append, return_append, generic_append, bound_append}
-use Rattle.syn_branch.proofs.Prints.{path_print, arguments_print, arg_print, arg_appends}
+use Rattle.syn_branch.proofs.Prints.{path_print, segment_print, segment_appends, arg_print, arg_appends}
 use Rattle.syn_lower.proofs.Prints.{ty_toks}
 use Rattle.syn_branch.specs.declared.mac.MacroOf.{MacroOf}
 use Rattle.syn_branch.specs.declared.path.PathOf.{PathOf}
@@ -37,10 +37,10 @@ pub paths_print : (x : PathOf «Type») (rest : List Tok) → path_printed ty_to
 paths_print x rest = sym (path_print type_of x rest)
 
 pub segments_print : (x : PathSegmentOf «Type») (rest : List Tok) → segment_printed ty_toks x ++ rest ≡ segment_own (segment_of type_of x) rest
-segments_print x rest = ap (λ m. ident x.ident ∷ m) (arguments_printed (arguments_of x.arguments) _ rest (arguments_print type_of x.arguments))
+segments_print x rest = before_rest segment_own segment_appends.before (segment_of type_of x) _ rest (segment_print type_of x)
 
 pub macros_print : (x : MacroOf «Type») (rest : List Tok) → macro_printed ty_toks x ++ rest ≡ macro_own (macro_of type_of x) rest
 macros_print x rest = append_assoc (path_printed ty_toks x.path) _ rest ∙ sym (path_print type_of x.path _)
 
 pub args_print : (x : BareFnArgOf «Type») (rest : List Tok) → arg_printed ty_toks x ++ rest ≡ arg_own (arg_of type_of x) rest
-args_print x rest = ap (λ m. m ++ rest) (sym (arg_print type_of x)) ∙ sym (arg_appends.before (arg_of type_of x) rest)
+args_print x rest = before_rest arg_own arg_appends.before (arg_of type_of x) _ rest (arg_print type_of x)

@@ -9,7 +9,7 @@ use Rattle.syn_parts.specs.Tree as t
 use Rattle.syn_parts.specs.Tree.{LitTree, TypeTree, PathTree, FnArgTree, ArgumentsTree, GenericTree, ReturnTree, BoundTree}
 use Rattle.syn_parts.specs.Form.{Form, Test}
 use Rattle.syn_parts.specs.Mark.{sign_at, round_at}
-use Rattle.syn_parts.specs.Part.{literal_at, is_arg_name, angle_at, turbofish_at, name, lit, unsigned, lifetimes, macro, path, qpath, segment, arguments, angle_bracketed, parenthesized, angle, generic, assoc, fn_arg, abi, bound, trait_bound, bounds, output, type}
+use Rattle.syn_parts.specs.Part.{string_at, is_arg_name, angle_at, turbofish_at, name, lit, unsigned, lifetimes, macro, path, qpath, segment, arguments, angle_bracketed, parenthesized, angle, generic, assoc, fn_arg, abi, bound, trait_bound, bounds, output, type}
 use Rattle.syn_parts.specs.Kind.{of_kind}
 use Rattle.syn_parts.specs.Own.{word_own, lit_own, lifetimes_own, macro_own, path_own, qualified_own, segment_own, arguments_own, angle_own, generic_own, assoc_own, arg_own, extern_own, bound_own, bounds_list_own, return_own, type_own}
 use Rattle.syn_tokens.specs.Front.{group_at}
@@ -58,7 +58,7 @@ arg_none (Some w) x = type_none true x
 arg_none None x = rw (type_none true x, and_false (is_word is_arg_name x)) refl
 
 abi_none : (o : Option LitTree) → abi_stops o [] ≡ true
-unfolding literal_at
+unfolding string_at
 abi_none None = refl
 abi_none (Some x) = refl
 

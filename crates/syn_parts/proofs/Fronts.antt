@@ -8,7 +8,7 @@ use Rattle.syn_parts.specs.declared.label.PathStyle.TheVariants as style
 use Rattle.syn_tokens.specs.Tok.{Tok, ident}
 use Rattle.syn_tokens.specs.Front.{group_at, is_empty}
 use Rattle.syn_parts.specs.Text.{Text, is_segment, stands_alone, is_truth}
-use Rattle.syn_parts.specs.Mark.{sign_at, word_at, lifetime_at, brace_at, mutable, eq, colon, gt}
+use Rattle.syn_parts.specs.Mark.{sign_at, word_at, lifetime_at, brace_at, mutable, eq, lone_colon, gt}
 use Rattle.syn_parts.specs.Part.{const_at, assoc_at, arg_name_at, lifetimes_at, fn_at, named, at_place, type}
 use Rattle.syn_parts.specs.Own.{alone, colon2_before, before_if, before_some, type_own, segments_own, arguments_own, lifetimes_own, extern_own, no_more_segments, enclosed}
 use Rattle.syn_parts.specs.Fits.{type_fits, segments_fit, bare_segments}
@@ -92,7 +92,7 @@ pub record Front (l r : List Tok) : Type 0 where
   pub no_const : const_at l ≡ false
   pub no_gt : gt.at l ≡ false
   pub no_assoc : eq.at r ≡ false → assoc_at l ≡ false
-  pub no_name : colon.at r ≡ false → arg_name_at l ≡ false
+  pub no_name : lone_colon.at r ≡ false → arg_name_at l ≡ false
 
 sign_front : (c : ℕ) (l r : List Tok) → (c == 45) ≡ false → (c == 62) ≡ false → Front (alone c ∷ l) r
 unfolding lifetime_at word_at const_at brace_at group_at sign_at assoc_at arg_name_at
@@ -144,7 +144,7 @@ unfolding lifetime_at word_at const_at brace_at group_at sign_at assoc_at arg_na
 colon2_front l r = record { some = refl; no_lifetime = refl; no_mut = refl; no_const = refl; no_gt = refl; no_assoc = λ e. refl; no_name = λ e. refl }
 
 -- behind a segment's name stands no single `=` and no single `:`, unless what is behind the path begins so
-behind_name : (a : ArgumentsTree) (l : List Tok) → (eq.at l ≡ false → eq.at (arguments_own a l) ≡ false) × (colon.at l ≡ false → colon.at (arguments_own a l) ≡ false)
+behind_name : (a : ArgumentsTree) (l : List Tok) → (eq.at l ≡ false → eq.at (arguments_own a l) ≡ false) × (lone_colon.at l ≡ false → lone_colon.at (arguments_own a l) ≡ false)
 unfolding sign_at
 behind_name t.no_arguments l = ((λ e. e), (λ e. e))
 behind_name (t.angle true gs e) l = ((λ e. refl), (λ e. refl))
@@ -159,7 +159,7 @@ and_false : (a : Bool) → (a && false) ≡ false
 and_false true = refl
 and_false false = refl
 
-path_word : (w : Text) (l m r : List Tok) → is_segment w ≡ true → l ≡ ident w ∷ m → (eq.at r ≡ false → eq.at m ≡ false) → (colon.at r ≡ false → colon.at m ≡ false) → Front l r
+path_word : (w : Text) (l m r : List Tok) → is_segment w ≡ true → l ≡ ident w ∷ m → (eq.at r ≡ false → eq.at m ≡ false) → (lone_colon.at r ≡ false → lone_colon.at m ≡ false) → Front l r
 unfolding lifetime_at word_at const_at brace_at group_at assoc_at arg_name_at
 path_word w l m r h d p q = subst (λ z. Front z r) (sym d) (record {
   some = refl;

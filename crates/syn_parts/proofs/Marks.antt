@@ -2,7 +2,7 @@
 use Rattle.std.proofs.Common.{◌≡◌, ℕ, ◌<◌, true, false, List, [], ◌∷◌, drop, refl, arith}
 use Rattle.syn_tokens.specs.Tok.{Tok, weight}
 use Rattle.syn_parts.specs.Form.{Mark}
-use Rattle.syn_parts.specs.Mark.{sign_at, word_at, lifetime_at, sign, word, lt, eq, not_ne, colon, quote, bang, pound, and, star, plus, comma, semi, question, colon2, arrow, gt, less, mutable, constant, as_word, dynamic, implementing, for_word, unsafe_word, extern_word, fn_word, underscore}
+use Rattle.syn_parts.specs.Mark.{sign_at, word_at, lifetime_at, sign, word, lt, eq, not_ne, colon, lone_colon, quote, bang, pound, and, star, plus, comma, semi, question, colon2, arrow, gt, less, mutable, constant, as_word, dynamic, implementing, for_word, unsafe_word, extern_word, fn_word, underscore}
 use Rattle.syn_parts.specs.Part.{pound_bang}
 use Rattle.syn_parts.proofs.Forms.{Present}
 use Rattle.syn_parts.proofs.Weights.{drop_smaller}
@@ -46,6 +46,9 @@ pound_present = sign_present _ _
 pub question_present : Present question
 question_present = sign_present _ _
 
+pub colon_present : Present colon
+colon_present = sign_present _ _
+
 pub colon2_present : Present colon2
 colon2_present = sign_present _ _
 
@@ -70,9 +73,9 @@ pub not_ne_present : Present not_ne
 unfolding sign_at
 not_ne_present = begins_in_front not_ne (omega arith) refl
 
-pub colon_present : Present colon
+pub lone_colon_present : Present lone_colon
 unfolding sign_at
-colon_present = begins_in_front colon (omega arith) refl
+lone_colon_present = begins_in_front lone_colon (omega arith) refl
 
 pub pound_bang_present : Present pound_bang
 unfolding sign_at
@@ -112,4 +115,4 @@ fn_present = word_present _
 pub underscore_present : Present underscore
 underscore_present = word_present _
 
-pub ruleset marks = (and_present, star_present, bang_present, plus_present, comma_present, semi_present, pound_present, question_present, colon2_present, arrow_present, gt_present, less_present, lt_present, eq_present, not_ne_present, colon_present, pound_bang_present, quote_present, mutable_present, constant_present, as_present, dynamic_present, implementing_present, for_present, unsafe_present, extern_present, fn_present, underscore_present)
+pub ruleset marks = (and_present, star_present, bang_present, plus_present, comma_present, semi_present, pound_present, question_present, colon2_present, arrow_present, gt_present, less_present, lt_present, eq_present, not_ne_present, colon_present, lone_colon_present, pound_bang_present, quote_present, mutable_present, constant_present, as_present, dynamic_present, implementing_present, for_present, unsafe_present, extern_present, fn_present, underscore_present)

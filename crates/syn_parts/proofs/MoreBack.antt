@@ -7,8 +7,8 @@ use Rattle.syn_parts.specs.declared.label.PathStyle.TheVariants as style
 use Rattle.syn_parts.specs.Text.{Text, is_segment, stands_alone}
 use Rattle.syn_parts.specs.Tree as t
 use Rattle.syn_parts.specs.Tree.{LitTree, TypeTree, SegmentTree, FnArgTree, ArgumentsTree, GenericTree, BoundTree, ReturnTree}
-use Rattle.syn_parts.specs.Mark.{sign_at, word_at, eq, colon}
-use Rattle.syn_parts.specs.Part.{literal_at, abi, mutability, arg_name_at, assoc_at, is_arg_name, has_none, type, generic, assoc, angle, angle_bracketed, parenthesized, arguments, segment, trait_bound, bounds, fn_arg}
+use Rattle.syn_parts.specs.Mark.{sign_at, word_at, eq, lone_colon}
+use Rattle.syn_parts.specs.Part.{string_at, abi, mutability, arg_name_at, assoc_at, is_arg_name, has_none, type, generic, assoc, angle, angle_bracketed, parenthesized, arguments, segment, trait_bound, bounds, fn_arg}
 use Rattle.syn_parts.specs.Own.{type_own, generic_own, arguments_own, segment_own, arg_own, assoc_own, angle_own, mutability_own, extern_own, lifetimes_own, bound_own, bounds_own, bounds_list_own}
 use Rattle.syn_parts.specs.Fits.{fits_if, is_string, abi_stops, type_fits, type_stops, generic_fits, generic_stops, is_word, arguments_fit, after_name_stops, in_angle_fits, in_round_fits, angle_fits, segment_fits, segment_stops, assoc_fits, arg_fits, arg_stops, bound_stops, trait_fits, bounds_list_fits, bounds_list_stops}
 use Rattle.syn_parts.proofs.Same.{both_true}
@@ -19,7 +19,7 @@ use Rattle.syn_parts.proofs.TypesTold.{after_name, angle_only, round_only, assoc
 
 pub abi_back : (o : Option LitTree) (r : List Tok) → fits_if is_string o ≡ true → abi_stops o r ≡ true → abi.behind o (extern_own o r) ≡ Some r
 unfolding word_at
-abi_back None r f s = rw (not_true (literal_at r) s) refl
+abi_back None r f s = rw (not_true (string_at r) s) refl
 abi_back (Some x) r f s = rw (string_seen x r f) (string_back x r f)
 
 pub mutability_back : (m : Bool) (r : List Tok) → mutability.behind m (mutability_own m r) ≡ Some r
@@ -93,7 +93,7 @@ nil_eq : eq.at [] ≡ false
 unfolding sign_at
 nil_eq = refl
 
-nil_colon : colon.at [] ≡ false
+nil_colon : lone_colon.at [] ≡ false
 unfolding sign_at
 nil_colon = refl
 
@@ -104,12 +104,12 @@ no_assoc x r f h =
     let (i, j) = own_front x r f in
     unseen (λ w. not (is_reserved_word w)) assoc_at eq.at x r p.no_assoc (q.no_assoc nil_eq) i h
 
-no_name : (x : TypeTree) (r : List Tok) → type_fits true x ≡ true → not (is_word is_arg_name x && colon.at r) ≡ true → arg_name_at (type_own x r) ≡ false
+no_name : (x : TypeTree) (r : List Tok) → type_fits true x ≡ true → not (is_word is_arg_name x && lone_colon.at r) ≡ true → arg_name_at (type_own x r) ≡ false
 no_name x r f h =
     let p = type_begins true x r f in
     let q = type_begins true x [] f in
     let (i, j) = own_front x r f in
-    unseen is_arg_name arg_name_at colon.at x r p.no_name (q.no_name nil_colon) j h
+    unseen is_arg_name arg_name_at lone_colon.at x r p.no_name (q.no_name nil_colon) j h
 
 type_argument : (x : TypeTree) (l r : List Tok) → Front l r → assoc_at l ≡ false → (type true).behind x l ≡ Some r → (generic type).behind (t.a_type x) l ≡ Some r
 unfolding generic

@@ -9,10 +9,10 @@ use Rattle.syn_parts.specs.Form.{Form, Outcome}
 use Rattle.syn_parts.specs.Tree.{TypeTree}
 use Rattle.syn_parts.specs.Kind.{only, of_kind, type_of_kind}
 use Rattle.syn_parts.specs.Mark.{gt, question, mutable}
-use Rattle.syn_parts.specs.Part.{literal_at, lifetimes_at, to_arg, from_arg, to_trait, from_trait, lifetime, lit, block, lifetimes, abi, mutability, output, generic, angle, angle_bracketed, parenthesized, assoc, segment, path, qpath, trait_bound, bound, fn_arg, type, macro}
+use Rattle.syn_parts.specs.Part.{string_at, lifetimes_at, to_arg, from_arg, to_trait, from_trait, lifetime, lit, block, lifetimes, abi, mutability, output, generic, angle, angle_bracketed, parenthesized, assoc, segment, path, qpath, trait_bound, bound, fn_arg, type, macro}
 use Rattle.syn_parts.proofs.Forms.{Alike, weaker, mark_at_alike, maybe_alike, flag_at_alike, closed_by_alike, listed_alike, pure_alike, only_true, only_false}
 use Rattle.syn_parts.proofs.LitKinds.{only_some, of_kind_alike, of_kind_leaves, of_kind_takes}
-use Rattle.syn_parts.proofs.Marks.{lt_present, gt_present, comma_present, colon2_present, colon_present, eq_present, question_present, extern_present, mutable_present, constant_present}
+use Rattle.syn_parts.proofs.Marks.{lt_present, gt_present, comma_present, colon2_present, lone_colon_present, eq_present, question_present, extern_present, mutable_present, constant_present}
 use Rattle.syn_parts.proofs.Parts.{abi_alike, mutability_alike, assoc_alike, trait_bound_alike, lifetime_alike, lit_alike, block_alike, lifetimes_alike, string_alike, arg_name_alike, types_alike, type_alike, whole_path_alike, whole_segment_alike, generic_alike, angle_bracketed_alike, parenthesized_alike, bound_alike, fn_arg_alike, output_alike, qpath_alike, macro_alike}
 use Rattle.syn_parts.proofs.Tails.{Leaves, both_leaves, shown_leaves, maybe_leaves, flag_leaves, case_leaves}
 use Rattle.syn_parts.proofs.TailParts.{leaving, lifetime_leaves, signed_leaves, block_leaves, lifetimes_leaves, type_leaves, path_leaves, segment_leaves, generic_leaves, angle_bracketed_leaves, parenthesized_leaves, bound_leaves, output_leaves, qpath_leaves, macro_leaves}
@@ -55,7 +55,7 @@ pub lifetimes_readable : IsReadable 1 lifetimes
 lifetimes_readable = readable lifetimes_alike lifetimes_leaves lifetimes_takes
 
 abi_takes : Takes abi
-abi_takes = mark_takes {k = 0} extern_present (maybe_alike literal_at string_alike)
+abi_takes = mark_takes {k = 0} extern_present (maybe_alike string_at string_alike)
 
 pub abi_readable : IsReadable 1 abi
 abi_readable = readable abi_alike (search leaving depth 12) abi_takes
@@ -119,7 +119,7 @@ fn_arg_leaves = search (type_leaves, leaving) depth 12
 
 fn_arg_takes : Takes (fn_arg type)
 unfolding fn_arg
-fn_arg_takes = shown_takes to_arg from_arg (second_takes {k = 0} (maybe_alike _ (closed_by_alike colon_present arg_name_alike)) (type_takes true))
+fn_arg_takes = shown_takes to_arg from_arg (second_takes {k = 0} (maybe_alike _ (closed_by_alike lone_colon_present arg_name_alike)) (type_takes true))
 
 pub fn_arg_readable : IsReadable 1 (fn_arg type)
 fn_arg_readable = readable (fn_arg_alike types_alike) fn_arg_leaves fn_arg_takes

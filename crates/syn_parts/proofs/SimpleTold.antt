@@ -13,7 +13,7 @@ use Rattle.syn_parts.specs.Same.{same_kind, same_lit, same_toks}
 use Rattle.syn_parts.specs.Tree.{LitTree, LifetimesTree}
 use Rattle.syn_parts.specs.Form.{Outcome, if_same, listed}
 use Rattle.syn_parts.specs.Mark.{sign_at, word_at, lifetime_at, comma, gt}
-use Rattle.syn_parts.specs.Part.{word_if, lit_if, truth_if, negative_if, string_if, find_lit, find_const, const_if, name, segment_name, arg_name, is_arg_name, lifetime, lit, unsigned, string, literal_at, abi, lifetimes, constant_tokens, any_group}
+use Rattle.syn_parts.specs.Part.{word_if, lit_if, truth_if, negative_if, string_if, find_lit, find_const, const_if, name, segment_name, arg_name, is_arg_name, lifetime, lit, unsigned, string, string_at, abi, lifetimes, constant_tokens, any_group}
 use Rattle.syn_parts.specs.Kind.{only, of_kind}
 use Rattle.syn_parts.specs.Own.{alone, comma_before, enclosed, lifetime_own, number_own, lit_own, lifetimes_own, extern_own, elements_own}
 use Rattle.syn_parts.specs.Fits.{has_kind, number_fits, lit_fits, unsigned_fits, of_kind_fits, lifetimes_fit, fits_if, is_string, abi_stops, is_const, is_macro_delimiter}
@@ -222,10 +222,10 @@ string_told x r n h = by_kind x.kind x.text h
 pub abi_told : (o : Option LitTree) (r n : List Tok) → abi.behind o (extern_own o r) ≡ Some n → Fitted (fits_if is_string o) (abi_stops o r) r n
 unfolding word_at
 abi_told None r n h =
-    let (e, d) = maybe_none literal_at string r n h in
+    let (e, d) = maybe_none string_at string r n h in
     record { passes = refl; ends = rw e refl; same = d }
 abi_told (Some x) r n h =
-    let (e, d) = maybe_some literal_at string x (lit_own x r) n h in
+    let (e, d) = maybe_some string_at string x (lit_own x r) n h in
     let q = string_told x r n d in
     record { passes = q.passes; ends = refl; same = q.same }
 

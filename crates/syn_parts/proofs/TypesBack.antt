@@ -16,8 +16,8 @@ use Rattle.syn_parts.specs.Same.{same_group}
 use Rattle.syn_parts.specs.Tree as t
 use Rattle.syn_parts.specs.Tree.{LitTree, LifetimesTree, TypeTree, Types, QSelfTree, Segments, SegmentTree, PathTree, FnArgs, FnArgTree, ArgumentsTree, Generics, GenericTree, ReturnTree, Bounds, BoundTree}
 use Rattle.syn_parts.specs.Form.{maybe, flag, listed, joined}
-use Rattle.syn_parts.specs.Mark.{sign_at, word_at, lifetime_at, round_at, brace_at, comma, colon2, plus, question, gt, less, eq, colon, not_ne, arrow, mutable, unsafe_word, extern_word}
-use Rattle.syn_parts.specs.Part.{lifetime, lifetimes, lifetimes_at, const_at, assoc_at, arg_name_at, angle_at, turbofish_at, fn_at, literal_at, string, abi, rest_of, constant_tokens, any_group, arg_name, is_arg_name, no_arguments, has_none, fn_head, macro_end, type, output, generic, angle, angle_bracketed, parenthesized, arguments, segment, pieces, path, qualified, qpath, bound, bounds, reference, pointer, slice_or_array, tuple_or_paren, fn_arg, fn_pointer, implements, object, named, at_place, tuple_of, segments_bare, FnHead}
+use Rattle.syn_parts.specs.Mark.{sign_at, word_at, lifetime_at, round_at, brace_at, comma, colon2, plus, question, gt, less, eq, lone_colon, not_ne, arrow, mutable, unsafe_word, extern_word}
+use Rattle.syn_parts.specs.Part.{lifetime, lifetimes, lifetimes_at, const_at, assoc_at, arg_name_at, angle_at, turbofish_at, fn_at, string_at, string, abi, rest_of, constant_tokens, any_group, arg_name, is_arg_name, no_arguments, has_none, fn_head, macro_end, type, output, generic, angle, angle_bracketed, parenthesized, arguments, segment, pieces, path, qualified, qpath, bound, bounds, reference, pointer, slice_or_array, tuple_or_paren, fn_arg, fn_pointer, implements, object, named, at_place, tuple_of, segments_bare, FnHead}
 use Rattle.syn_parts.specs.Own.{alone, comma_before, colon2_before, arrow_before, before_if, before_some, enclosed, lifetime_own, lit_own, lifetimes_own, extern_own, is_end, elements_own, count_segments, at_most, inner_count, qself_end, type_own, types_own, qself_own, segments_own, arguments_own, generics_own, generic_own, return_own, args_own, bounds_own, bound_own, segment_own, arg_own, no_more_types, no_more_segments, no_more_generics, no_more_args, no_more_bounds}
 use Rattle.syn_parts.specs.Fits.{fits_if, lifetimes_fit, is_string, has_kind, is_const, is_macro_delimiter, is_one_type, is_one_bound, position_fits, bare_segments, ends_well, type_fits, types_fit, qself_fits, segments_fit, arguments_fit, generics_fit, generic_fits, return_fits, args_fit, bounds_fit, bound_fits, goes_over, takes_angle, takes_round, name_stops, type_stops, segments_stop, arguments_stop, return_stops, bounds_stop, bound_stops, mac_stops}
 use Rattle.syn_parts.proofs.Same.{both_true, same_toks-refl, same_lit-refl, same_kind-true}
@@ -72,7 +72,7 @@ pub record Quiet (l : List Tok) : Type 0 where
   pub calm : Calm l
   pub no_plus : plus.at l ≡ false
   pub no_eq : eq.at l ≡ false
-  pub no_colon : colon.at l ≡ false
+  pub no_colon : lone_colon.at l ≡ false
 
 nil_quiet : Quiet []
 unfolding sign_at
@@ -200,14 +200,14 @@ module _ (b : Bool) (r : List Tok) where
 
 -- ---- a function pointer
 
+has_str : (o : Option LitKind) → has_kind o kind.Str ≡ true → o ≡ Some kind.Str
+has_str None h = absurd cc
+has_str (Some j) h = ap Some (same_kind-true j kind.Str h)
+
 pub string_back : (x : LitTree) (r : List Tok) → is_string x ≡ true → string.behind x (lit_own x r) ≡ Some r
 unfolding string lit_own
 string_back x r h = by_kind x.kind x.text h
   where
-    has_str : (o : Option LitKind) → has_kind o kind.Str ≡ true → o ≡ Some kind.Str
-    has_str None h = absurd cc
-    has_str (Some j) h = ap Some (same_kind-true j kind.Str h)
-
     by_kind : (k : LitKind) (text : Text) → is_string (record { kind = k; text = text }) ≡ true → string.behind (record { kind = k; text = text }) (lit_own (record { kind = k; text = text }) r) ≡ Some r
     by_kind kind.Str text h = rw (has_str (kind_of text) h, same_lit-refl (record { kind = kind.Str; text = text })) refl
     by_kind kind.ByteStr text h = absurd cc
@@ -218,16 +218,16 @@ string_back x r h = by_kind x.kind x.text h
     by_kind kind.Float text h = absurd cc
     by_kind kind.Bool text h = absurd cc
 
-pub string_seen : (x : LitTree) (r : List Tok) → is_string x ≡ true → literal_at (lit_own x r) ≡ true
-unfolding literal_at lit_own
+pub string_seen : (x : LitTree) (r : List Tok) → is_string x ≡ true → string_at (lit_own x r) ≡ true
+unfolding string_at lit_own
 string_seen x r h = by_kind x.kind x.text h
   where
-    by_kind : (k : LitKind) (text : Text) → is_string (record { kind = k; text = text }) ≡ true → literal_at (lit_own (record { kind = k; text = text }) r) ≡ true
-    by_kind kind.Str text h = refl
-    by_kind kind.ByteStr text h = refl
-    by_kind kind.CStr text h = refl
-    by_kind kind.Byte text h = refl
-    by_kind kind.Char text h = refl
+    by_kind : (k : LitKind) (text : Text) → is_string (record { kind = k; text = text }) ≡ true → string_at (lit_own (record { kind = k; text = text }) r) ≡ true
+    by_kind kind.Str text h = rw (has_str (kind_of text) h) refl
+    by_kind kind.ByteStr text h = absurd cc
+    by_kind kind.CStr text h = absurd cc
+    by_kind kind.Byte text h = absurd cc
+    by_kind kind.Char text h = absurd cc
     by_kind kind.Int text h = absurd cc
     by_kind kind.Float text h = absurd cc
     by_kind kind.Bool text h = absurd cc
@@ -240,7 +240,7 @@ head_own h l = before_some h.0 lifetimes_own (before_if h.1.0 (λ k. ident (code
 
 extern_piece : (a : Option (Option LitTree)) (l : List Tok) → fits_if (fits_if is_string) a ≡ true
     → (maybe extern_word.at abi).behind a (before_some a extern_own (fn_tokens l)) ≡ Some (fn_tokens l)
-unfolding word_at literal_at
+unfolding word_at string_at
 extern_piece None l h = refl
 extern_piece (Some None) l h = refl
 extern_piece (Some (Some x)) l h = rw (string_seen x (fn_tokens l) h) (string_back x (fn_tokens l) h)
@@ -563,7 +563,7 @@ pub named_arg_step : (w : Text) (x : TypeTree) (l r : List Tok) → is_arg_name 
 unfolding fn_arg arg_name_at arg_name sign_at
 named_arg_step w x l r h i = rw (h, text_same w, i) refl
 
-arg_step : (x : TypeTree) (l m r : List Tok) → Front l m → colon.at m ≡ false → (type true).behind x l ≡ Some r → (fn_arg type).behind (record { name = None; ty = x }) l ≡ Some r
+arg_step : (x : TypeTree) (l m r : List Tok) → Front l m → lone_colon.at m ≡ false → (type true).behind x l ≡ Some r → (fn_arg type).behind (record { name = None; ty = x }) l ≡ Some r
 unfolding fn_arg
 arg_step x l m r f c h = rw (f.no_name c, h) refl
 

@@ -14,7 +14,7 @@ use Rattle.syn_parts.specs.Tree as t
 use Rattle.syn_parts.specs.Tree.{LitTree, LifetimesTree, TypeTree, Types, QSelfTree, Segments, SegmentTree, PathTree, FnArgs, FnArgTree, ArgumentsTree, Generics, GenericTree, ReturnTree, Bounds, BoundTree}
 use Rattle.syn_parts.specs.Form.{Form, Mark, Test, when, case, group_case, mark, both, then_by, maybe, flag, shown, pure, listed, joined, closed_by, inside_behind, seen}
 use Rattle.syn_parts.specs.Form as form
-use Rattle.syn_parts.specs.Mark.{sign_at, word_at, lifetime_at, round_at, comma, colon2, plus, question, gt, less, eq, colon, not_ne, arrow, mutable, unsafe_word, extern_word, fn_word, semi, and, star, bang, underscore, implementing, dynamic, as_word}
+use Rattle.syn_parts.specs.Mark.{sign_at, word_at, lifetime_at, round_at, comma, colon2, plus, question, gt, less, eq, lone_colon, not_ne, arrow, mutable, unsafe_word, extern_word, fn_word, semi, and, star, bang, underscore, implementing, dynamic, as_word}
 use Rattle.syn_parts.specs.Part.{name, segment_name, lifetime, lifetimes, lifetimes_at, const_at, assoc_at, arg_name_at, angle_at, turbofish_at, fn_at, rest_of, constant_tokens, any_group, arg_name, is_arg_name, no_arguments, has_none, fn_head, abi, macro_end, type, output, generic, assoc, angle, angle_bracketed, parenthesized, arguments, is_default, from_given, segment, pieces, path, qualified, qpath, bound, trait_bound, bounds, reference, pointer, slice_or_array, tuple_or_paren, fn_arg, fn_pointer, implements, object, named, at_place, tuple_of, is_bare, FnHead, is_never, is_infer, to_assoc, from_assoc, from_lifetime, from_const, from_type, from_outlives, to_bare, from_bare}
 use Rattle.syn_parts.specs.Own.{alone, comma_before, colon2_before, arrow_before, before_if, before_some, enclosed, lifetime_own, lifetimes_own, extern_own, mutability_own, is_end, elements_own, count_segments, at_most, qself_end, type_own, types_own, segments_own, arguments_own, generics_own, generic_own, return_own, args_own, bounds_own, bound_own, segment_own, arg_own, no_more_types, no_more_segments, no_more_generics, no_more_args, no_more_bounds}
 use Rattle.syn_parts.specs.Fits.{fits_if, lifetimes_fit, is_string, is_macro_delimiter, is_one_type, is_one_bound, position_fits, bare_segments, ends_well, type_fits, types_fit, segments_fit, arguments_fit, generics_fit, generic_fits, return_fits, args_fit, bounds_fit, bound_fits, takes_angle, takes_round, none_stops, name_stops, type_stops, segments_stop, arguments_stop, return_stops, bounds_stop, bound_stops, mac_stops, segment_fits, segment_stops, after_name_stops, arg_fits, arg_stops, generic_stops, is_word}
@@ -600,7 +600,7 @@ pub assoc_sees : Sees (λ w. not (is_reserved_word w)) assoc_at eq.at
 unfolding assoc_at
 assoc_sees = record { word = λ w l. refl }
 
-pub name_sees : Sees is_arg_name arg_name_at colon.at
+pub name_sees : Sees is_arg_name arg_name_at lone_colon.at
 unfolding arg_name_at
 name_sees = record { word = λ w l. refl }
 
@@ -657,10 +657,10 @@ named_arg_tells : (w : Text) (x : TypeTree) (l n : List Tok) → (fn_arg type).b
 unfolding fn_arg sign_at
 named_arg_tells w x l n h =
     let k = ident w ∷ alone 58 ∷ l in
-    let close = λ (m : List Tok) (d : (closed_by colon arg_name).behind w k ≡ Some m).
-    after arg_name (λ y. mark colon (pure tt (λ (u : Unit {0}). true))) w tt k (alone 58 ∷ l) m (λ o z. let q = arg_name_told w (alone 58 ∷ l) o z in q.same) d in
-    let (i, j) = after (maybe arg_name_at (closed_by colon arg_name)) (λ y. type true) (Some w) x k l n (λ m d. let (a, e) = maybe_some arg_name_at (closed_by colon arg_name) w k m d in let (c, f) = close m e in some_is (sym f)) h in
-    let (a, e) = maybe_some arg_name_at (closed_by colon arg_name) w k l i in
+    let close = λ (m : List Tok) (d : (closed_by lone_colon arg_name).behind w k ≡ Some m).
+    after arg_name (λ y. mark lone_colon (pure tt (λ (u : Unit {0}). true))) w tt k (alone 58 ∷ l) m (λ o z. let q = arg_name_told w (alone 58 ∷ l) o z in q.same) d in
+    let (i, j) = after (maybe arg_name_at (closed_by lone_colon arg_name)) (λ y. type true) (Some w) x k l n (λ m d. let (a, e) = maybe_some arg_name_at (closed_by lone_colon arg_name) w k m d in let (c, f) = close m e in some_is (sym f)) h in
+    let (a, e) = maybe_some arg_name_at (closed_by lone_colon arg_name) w k l i in
     let (c, f) = close l e in
     let q = arg_name_told w (alone 58 ∷ l) (alone 58 ∷ l) c in
     (q.passes, j)
@@ -668,8 +668,8 @@ named_arg_tells w x l n h =
 arg_tells : (x : TypeTree) (l n : List Tok) → (fn_arg type).behind (record { name = None; ty = x }) l ≡ Some n → (arg_name_at l ≡ false) × ((type true).behind x l ≡ Some n)
 unfolding fn_arg
 arg_tells x l n h =
-    let (i, j) = after (maybe arg_name_at (closed_by colon arg_name)) (λ y. type true) None x l l n (λ m d. let (a, e) = maybe_none arg_name_at (closed_by colon arg_name) l m d in e) h in
-    let (a, e) = maybe_none arg_name_at (closed_by colon arg_name) l l i in
+    let (i, j) = after (maybe arg_name_at (closed_by lone_colon arg_name)) (λ y. type true) None x l l n (λ m d. let (a, e) = maybe_none arg_name_at (closed_by lone_colon arg_name) l m d in e) h in
+    let (a, e) = maybe_none arg_name_at (closed_by lone_colon arg_name) l l i in
     (a, j)
 
 -- ---- lists
@@ -720,7 +720,7 @@ arg_by (Some w) x only r n h =
 arg_by None x only r n h =
     let (a, i) = arg_tells x (type_own x r) n h in
     let q = only r n i in
-    record { passes = rw q.passes refl; ends = rw q.ends (word_ends is_arg_name arg_name_at colon.at name_sees x r a); same = q.same }
+    record { passes = rw q.passes refl; ends = rw q.ends (word_ends is_arg_name arg_name_at lone_colon.at name_sees x r a); same = q.same }
 
 -- ---- all together
 

@@ -13,8 +13,8 @@ use Rattle.syn_parts.specs.declared.label.PathStyle.TheVariants as style
 use Rattle.syn_parts.specs.Text.{Text, is_segment, stands_alone, is_truth, is_number, number_kind, kind_of}
 use Rattle.syn_parts.specs.Same.{same_kind}
 use Rattle.syn_parts.specs.Form.{Test}
-use Rattle.syn_parts.specs.Mark.{colon, colon2, arrow, eq, plus, not_ne, round_at}
-use Rattle.syn_parts.specs.Part.{has_none, is_arg_name, angle_at, turbofish_at, literal_at, MacroTree, QPathTree}
+use Rattle.syn_parts.specs.Mark.{lone_colon, colon2, arrow, eq, plus, not_ne, round_at}
+use Rattle.syn_parts.specs.Part.{has_none, is_arg_name, angle_at, turbofish_at, string_at, MacroTree, QPathTree}
 use Rattle.syn_parts.specs.Own.{no_more_types, no_more_segments, no_more_generics, no_more_args, no_more_bounds, count_segments, inner_count, one_less, colon2_before}
 use Rattle.syn_parts.specs.Tree as t
 use Rattle.syn_parts.specs.Tree.{LitTree, AttributeTree, LifetimesTree, TypeTree, Types, QSelfTree, Segments, SegmentTree, PathTree, FnArgs, FnArgTree, ArgumentsTree, Generics, GenericTree, ReturnTree, Bounds, BoundTree}
@@ -89,7 +89,7 @@ is_string x = same_kind x.kind kind.Str && has_kind (kind_of x.text) kind.Str
 
 -- `extern` without a string goes on with one
 abbrev pub abi_stops : Option LitTree → Test
-abi_stops None r = not (literal_at r)
+abi_stops None r = not (string_at r)
 abi_stops (Some x) r = true
 
 abbrev pub is_one_type : Types → Bool
@@ -320,7 +320,7 @@ arg_fits x = args_fit (t.args_of (x ∷ []))
 -- A word before `:` would be the argument's name.
 abbrev pub arg_stops_by : Option Text → TypeTree → Test
 arg_stops_by (Some w) x r = type_stops true x r
-arg_stops_by None x r = type_stops true x r && not (is_word is_arg_name x && colon.at r)
+arg_stops_by None x r = type_stops true x r && not (is_word is_arg_name x && lone_colon.at r)
 
 abbrev pub arg_stops : FnArgTree → Test
 arg_stops x r = arg_stops_by x.name x.ty r

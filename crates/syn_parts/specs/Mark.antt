@@ -71,9 +71,13 @@ eq = record { at = λ l. sign_at (codes "=") l && (not (sign_at (codes "==") l) 
 abbrev pub not_ne : Mark
 not_ne = record { at = λ l. sign_at (codes "!") l && not (sign_at (codes "!=") l); count = 1 }
 
--- `:` that doesn't begin `::`
+-- the first `:`, whatever is joined to it
 abbrev pub colon : Mark
-colon = record { at = λ l. sign_at (codes ":") l && not (sign_at (codes "::") l); count = 1 }
+colon = sign (codes ":")
+
+-- `:` that doesn't begin `::`
+abbrev pub lone_colon : Mark
+lone_colon = record { at = λ l. sign_at (codes ":") l && not (sign_at (codes "::") l); count = 1 }
 
 abbrev pub mutable : Mark
 mutable = word (codes "mut")

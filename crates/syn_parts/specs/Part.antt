@@ -13,7 +13,7 @@ use Rattle.syn_parts.specs.declared.label.PathStyle.{PathStyle}
 use Rattle.syn_parts.specs.declared.label.PathStyle.TheVariants as style
 use Rattle.syn_tokens.specs.Front.{group_at, is_empty}
 use Rattle.syn_parts.specs.Form.{Form, Outcome, Test, Mark, leaf, when, fix, mark, then_by, both, shown, pure, inside, case, group_case, flag, is_true, maybe, listed, joined, more, closed_by}
-use Rattle.syn_parts.specs.Mark.{lifetime_at, round_at, brace_at, and, star, bang, plus, comma, semi, pound, question, colon2, arrow, gt, less, lt, eq, not_ne, colon, mutable, constant, as_word, dynamic, implementing, for_word, unsafe_word, extern_word, fn_word, underscore, quote}
+use Rattle.syn_parts.specs.Mark.{lifetime_at, round_at, brace_at, and, star, bang, plus, comma, semi, pound, question, colon2, arrow, gt, less, lt, eq, not_ne, lone_colon, mutable, constant, as_word, dynamic, implementing, for_word, unsafe_word, extern_word, fn_word, underscore, quote}
 use Rattle.syn_parts.specs.Text.{Text, stands_alone, is_segment, is_truth, number_kind, is_number, kind_of}
 use Rattle.syn_parts.specs.Tree as t
 use Rattle.syn_parts.specs.Tree.{LitTree, AttributeTree, LifetimesTree, TypeTree, SegmentTree, PathTree, FnArgTree, ArgumentsTree, GenericTree, ReturnTree, BoundTree}
@@ -108,8 +108,16 @@ abbrev pub is_literal_there : Test
 is_literal_there (literal text ∷ l) = true
 is_literal_there _ = false
 
-unfoldable pub literal_at : Test
-literal_at l = is_literal_there l
+abbrev pub is_string_kind : Option LitKind → Bool
+is_string_kind (Some kind.Str) = true
+is_string_kind _ = false
+
+abbrev pub is_string_there : Test
+is_string_there (literal text ∷ l) = is_string_kind (kind_of text)
+is_string_there _ = false
+
+unfoldable pub string_at : Test
+string_at l = is_string_there l
 
 -- ---- tokens that are kept
 
@@ -450,16 +458,16 @@ abbrev pub is_arg_name_there : Test
 is_arg_name_there (ident w ∷ l) = is_arg_name w
 is_arg_name_there _ = false
 
--- a name and a single `:`
+-- a name and a `:` that doesn't begin `::`
 unfoldable pub arg_name_at : Test
-arg_name_at l = is_arg_name_there l && colon.at (drop 1 l)
+arg_name_at l = is_arg_name_there l && lone_colon.at (drop 1 l)
 
 unfoldable pub fn_at : Test
 fn_at l = lifetimes_at l || (unsafe_word.at l || (extern_word.at l || fn_word.at l))
 
 -- `extern` and perhaps a string (Rust Reference, "Function pointer types", "ABI")
 abbrev pub abi : Form (Option LitTree)
-abi = mark extern_word (maybe literal_at string)
+abi = mark extern_word (maybe string_at string)
 
 unfoldable pub fn_head : Form FnHead
 fn_head = both (maybe lifetimes_at lifetimes) (both (flag unsafe_word) (maybe extern_word.at abi))
@@ -551,7 +559,7 @@ module _ (type : Bool → Form TypeTree) where
   tuple_or_paren = shown to_tuple from_tuple (listed comma is_empty (type true))
 
   unfoldable pub fn_arg : Form FnArgTree
-  fn_arg = shown to_arg from_arg (both (maybe arg_name_at (closed_by colon arg_name)) (type true))
+  fn_arg = shown to_arg from_arg (both (maybe arg_name_at (closed_by lone_colon arg_name)) (type true))
 
   -- Rust Reference, "Function pointer types"
   unfoldable pub fn_pointer : Form TypeTree
