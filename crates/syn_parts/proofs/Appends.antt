@@ -10,7 +10,7 @@ use Rattle.syn_parts.specs.declared.label.LitKind.TheVariants as kind
 use Rattle.syn_parts.specs.Text.{Text}
 use Rattle.syn_parts.specs.Tree as t
 use Rattle.syn_parts.specs.Tree.{LitTree, LifetimesTree, TypeTree, Types, QSelfTree, Segments, FnArgs, ArgumentsTree, Generics, GenericTree, ReturnTree, Bounds, BoundTree}
-use Rattle.syn_parts.specs.Own.{alone, joint, before_if, before_some, comma_before, colon2_before, closed_at, qself_end, lifetime_own, lifetimes_own, lit_own, lit_own_by, number_own, string_own, extern_own, enclosed, count_segments, inner_count, at_most, no_more_types, no_more_segments, no_more_generics, no_more_args, no_more_bounds, type_own, types_own, qself_own, segments_own, arguments_own, generics_own, generic_own, return_own, args_own, bounds_own, bound_own, elements_own, one_less}
+use Rattle.syn_parts.specs.Own.{alone, joint, before_if, before_some, comma_before, colon2_before, closed_at, qself_end, lifetime_own, lifetimes_own, lit_own, lit_own_by, number_own, string_own, extern_own, enclosed, count_segments, inner_count, at_most, no_more_segments, no_more_generics, no_more_bounds, type_own, types_own, qself_own, segments_own, arguments_own, generics_own, generic_own, return_own, args_own, bounds_own, bound_own, elements_own, one_less}
 
 -- ---- what follows the own tokens of a type follows them as they are
 
@@ -88,9 +88,6 @@ word_first w r = refl
 lifetime_append : (w : Text) (r : List Tok) → lifetime_own w r ≡ lifetime_own w [] ++ r
 lifetime_append w r = refl
 
-name_append : (w : Text) (r : List Tok) → ident w ∷ alone 58 ∷ r ≡ (ident w ∷ alone 58 ∷ []) ++ r
-name_append w r = refl
-
 group_first : (d : Delimiter) (ts r : List Tok) → enclosed d ts r ≡ enclosed d ts [] ++ r
 group_first d ts r = refl
 
@@ -114,10 +111,6 @@ mutual
       (both (word_first (codes "fn")) (both (group_first del.Parenthesis (args_own xs e [])) (return_append o))))) r
   type_append (t.impl_trait bs e) r = both (word_first (codes "impl")) (bounds_append bs e) r
   type_append (t.trait_object bs e) r = both (word_first (codes "dyn")) (bounds_append bs e) r
-
-  pub types_append : (xs : Types) (e : Bool) (r : List Tok) → types_own xs e r ≡ types_own xs e [] ++ r
-  types_append t.no_types e r = refl
-  types_append (t.more_types x xs) e r = both (type_append x) (both (if_there (not (no_more_types xs) || e) commas) (types_append xs e)) r
 
   pub qself_append : (q : QSelfTree) (k : ℕ) (r : List Tok) → qself_own q k r ≡ qself_own q k [] ++ r
   qself_append t.no_qself k r = refl
@@ -146,10 +139,6 @@ mutual
   pub return_append : (o : ReturnTree) (r : List Tok) → return_own o r ≡ return_own o [] ++ r
   return_append t.default r = refl
   return_append (t.given x) r = both (one (joint 45)) (both (one (alone 62)) (type_append x)) r
-
-  pub args_append : (xs : FnArgs) (e : Bool) (r : List Tok) → args_own xs e r ≡ args_own xs e [] ++ r
-  args_append t.no_args e r = refl
-  args_append (t.more_args n x xs) e r = both (if_some n (λ w l. ident w ∷ alone 58 ∷ l) name_append) (both (type_append x) (both (if_there (not (no_more_args xs) || e) commas) (args_append xs e))) r
 
   pub bounds_append : (bs : Bounds) (e : Bool) (r : List Tok) → bounds_own bs e r ≡ bounds_own bs e [] ++ r
   bounds_append t.no_bounds e r = refl

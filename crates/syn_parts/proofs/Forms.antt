@@ -4,7 +4,7 @@ use Rattle.syn_lexer.specs.declared.lexeme.Delimiter.{Delimiter}
 use Rattle.syn_tokens.specs.Tok.{Tok, weight}
 use Rattle.syn_parts.proofs.Weights.{some_is, taken}
 use Rattle.syn_tokens.specs.Front.{group_at}
-use Rattle.syn_parts.specs.Form.{Form, Outcome, Test, Mark, and_then, then_behind, never, when, by_size, mark, then_by, both, seen, shown, pure, whole, inside_reads, ended, inside_behind, inside, case, group_case, is_true, flag, is_none, itself, maybe, is_end, cons, uncons, end, iterate, fix, tail_step, tail, listed, prepend, split_first, is_nil, more_step, more, joined, closed_by, leaf, if_same}
+use Rattle.syn_parts.specs.Form.{Form, Outcome, Test, Mark, and_then, then_behind, never, when, mark, then_by, both, shown, pure, whole, inside_reads, ended, inside_behind, inside, case, group_case, is_true, flag, is_none, itself, maybe, is_nil, cons, uncons, end, iterate, fix, tail_step, tail, listed, prepend, split_first, more_step, more, joined, closed_by, leaf, if_same, is_end}
 
 -- f reads exactly what stands, and reads as g does in lists of less than k tokens
 pub record Alike {A : Type 0} (k : ℕ) (f g : Form A) : Type 0 where
@@ -23,7 +23,7 @@ pub behind_some : {A : Type 0} (o : Option A) (f : A → Option (List Tok)) (n :
 behind_some (Some m) f n h = (m, refl, h)
 behind_some None f n h = absurd cc
 
-pub seen_some : {A : Type 0} (o : Option A) (f : A → Option (List Tok)) (n : List Tok) → seen o f ≡ Some n
+pub seen_some : {A : Type 0} (o : Option A) (f : A → Option (List Tok)) (n : List Tok) → then_behind o f ≡ Some n
     → (x : A) × (o ≡ Some x) × (f x ≡ Some n)
 seen_some (Some m) f n h = (m, refl, h)
 seen_some None f n h = absurd cc
@@ -74,14 +74,6 @@ when_alike {A} {k} {f} {f'} {g} {g'} at a c = record {
     same : (b : Bool) (l : List Tok) → weight l < k → cond b (f.reads l) (g.reads l) ≡ cond b (f'.reads l) (g'.reads l)
     same true l h = a.same l h
     same false l h = c.same l h
-
-pub by_size_alike : {A : Type 0} {k : ℕ} {f g : ℕ → Form A} (size : List Tok → ℕ) → ((d : ℕ) → Alike k (f d) (g d)) → Alike k (by_size size f) (by_size size g)
-by_size_alike size a = record {
-  sound = λ l x n h. let b = a (size l) in b.sound l x n h;
-  complete = λ l x n h. let b = a (size l) in b.complete l x n h;
-  falls = λ l x n h. let b = a (size l) in b.falls l x n h;
-  same = λ l h. let b = a (size l) in b.same l h;
-}
 
 -- ---- forms made of themselves
 
@@ -216,8 +208,8 @@ pub shown_alike : {A B : Type 0} {k : ℕ} {f f' : Form A} {to : A → B} {from 
 shown_alike {A} {B} {k} {f} {f'} {to} {from} s a = record {
   sound = λ l y n h.
       let (q, e, j) = bind_some (f.reads l) (λ x n. Some (to x, n)) (y, n) h in
-      let go : seen (from (to q.0)) (λ x. f.behind x l) ≡ Some q.1 = rw (s.there q.0) (a.sound l q.0 q.1 e) in
-      subst (λ (z : B × List Tok). seen (from z.0) (λ x. f.behind x l) ≡ Some z.1) (some_is j) go;
+      let go : then_behind (from (to q.0)) (λ x. f.behind x l) ≡ Some q.1 = rw (s.there q.0) (a.sound l q.0 q.1 e) in
+      subst (λ (z : B × List Tok). then_behind (from z.0) (λ x. f.behind x l) ≡ Some z.1) (some_is j) go;
   complete = λ l y n h.
       let (x, e, j) = seen_some (from y) (λ x. f.behind x l) n h in
       rw (a.complete l x n j, s.back y x e) refl;
@@ -235,8 +227,8 @@ shown_where_alike {A} {B} {k} {f} {f'} {to} {from} there back a = record {
   sound = λ l y n h.
       let (q, e, j) = bind_some (f.reads l) (λ x n. Some (to x, n)) (y, n) h in
       let st = a.sound l q.0 q.1 e in
-      let go : seen (from (to q.0)) (λ x. f.behind x l) ≡ Some q.1 = rw (there l q.0 q.1 st) st in
-      subst (λ (z : B × List Tok). seen (from z.0) (λ x. f.behind x l) ≡ Some z.1) (some_is j) go;
+      let go : then_behind (from (to q.0)) (λ x. f.behind x l) ≡ Some q.1 = rw (there l q.0 q.1 st) st in
+      subst (λ (z : B × List Tok). then_behind (from z.0) (λ x. f.behind x l) ≡ Some z.1) (some_is j) go;
   complete = λ l y n h.
       let (x, e, j) = seen_some (from y) (λ x. f.behind x l) n h in
       rw (a.complete l x n j, back y x e) refl;
@@ -496,9 +488,6 @@ more_opens m f p a q l n h =
 pub record Refuses {A : Type 0} (f : Form A) (x : A) : Type 0 where
   pub refuses : (l n : List Tok) → f.behind x l ≡ Some n → ⊥
 
-pub never_refuses : {A : Type 0} (x : A) → Refuses never x
-never_refuses x = record { refuses = λ l n h. absurd cc }
-
 pub when_refuses : {A : Type 0} {f g : Form A} {x : A} (at : Test) → Refuses f x → Refuses g x → Refuses (when at f g) x
 when_refuses {f = f} {g = g} {x = x} at r s = record { refuses = λ l n h. by_bool l n (at l) h }
   where
@@ -521,7 +510,12 @@ inside_refuses {f = f} {x = x} d r = record { refuses = λ l n h. by_group n (gr
     by_group n (Some g) h = let (e, j) = ended_some (f.behind x g.0) g.1 n h in r.refuses g.0 [] e
 
 pub shown_refuses : {A B : Type 0} (to : A → B) (from : B → Option A) (f : Form A) (y : B) → from y ≡ None → Refuses (shown to from f) y
-shown_refuses to from f y e = record { refuses = λ l n h. let k : seen (from y) (λ x. f.behind x l) ≡ None = rw e refl in absurd cc }
+shown_refuses to from f y e = record { refuses = λ l n h. let k : then_behind (from y) (λ x. f.behind x l) ≡ None = rw e refl in absurd cc }
 
 pub pure_refuses : {A : Type 0} (x : A) (is : A → Bool) (y : A) → is y ≡ false → Refuses (pure x is) y
 pure_refuses x is y e = record { refuses = λ l n h. let k : cond (is y) (Some l) None ≡ None = rw e refl in absurd cc }
+
+pub whole_is : {A : Type 0} (o : Outcome A) (m : List Tok) (x : A) (n : List Tok) → whole o m ≡ Some (x, n) → m ≡ n
+whole_is None m x n h = absurd cc
+whole_is (Some (y, [])) m x n h = ap (λ z. z.1) (some_is h)
+whole_is (Some (y, t ∷ l)) m x n h = absurd cc

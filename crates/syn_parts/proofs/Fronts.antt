@@ -14,8 +14,7 @@ use Rattle.syn_parts.specs.Own.{alone, colon2_before, before_if, before_some, ty
 use Rattle.syn_parts.specs.Fits.{type_fits, segments_fit, bare_segments}
 use Rattle.syn_parts.specs.Tree as t
 use Rattle.syn_parts.specs.Tree.{TypeTree, Segments, ArgumentsTree, LifetimesTree, LitTree, FnArgs, ReturnTree}
-use Rattle.syn_parts.proofs.Same.{both_true}
-use Rattle.syn_parts.proofs.ReadBack.{not_true}
+use Rattle.syn_parts.proofs.Same.{both_true, not_true}
 
 -- a word of a path is none of the others
 pub word_not : (w text : Text) → is_segment w ≡ true → is_segment text ≡ false → bytes_eq w text ≡ false

@@ -1,6 +1,7 @@
 pub mod Forms
 pub mod Weights
 pub mod Same
+pub mod Trees
 pub mod Marks
 pub mod Views
 pub mod Parts

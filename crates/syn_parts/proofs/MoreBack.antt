@@ -11,11 +11,11 @@ use Rattle.syn_parts.specs.Mark.{sign_at, word_at, eq, lone_colon}
 use Rattle.syn_parts.specs.Part.{string_at, abi, mutability, arg_name_at, assoc_at, is_arg_name, has_none, type, generic, assoc, angle, angle_bracketed, parenthesized, arguments, segment, trait_bound, bounds, fn_arg}
 use Rattle.syn_parts.specs.Own.{type_own, generic_own, arguments_own, segment_own, arg_own, assoc_own, angle_own, mutability_own, extern_own, lifetimes_own, bound_own, bounds_own, bounds_list_own}
 use Rattle.syn_parts.specs.Fits.{fits_if, is_string, abi_stops, type_fits, type_stops, generic_fits, generic_stops, is_word, arguments_fit, after_name_stops, in_angle_fits, in_round_fits, angle_fits, segment_fits, segment_stops, assoc_fits, arg_fits, arg_stops, bound_stops, trait_fits, bounds_list_fits, bounds_list_stops}
-use Rattle.syn_parts.proofs.Same.{both_true}
-use Rattle.syn_parts.proofs.ReadBack.{not_true}
+use Rattle.syn_parts.proofs.Same.{both_true, not_true}
 use Rattle.syn_parts.proofs.Fronts.{Front, type_begins}
 use Rattle.syn_parts.proofs.TypesBack.{string_back, string_seen, segment_step, arguments_back, type_back, bound_back, const_step, a_lifetime_step, assoc_step, named_arg_step}
 use Rattle.syn_parts.proofs.TypesTold.{after_name, angle_only, round_only, assoc_only, trait_only, impl_tells, type_opens}
+use Rattle.syn_parts.proofs.Trees.{bounds-bounds_of, generics-generics_of}
 
 pub abi_back : (o : Option LitTree) (r : List Tok) → fits_if is_string o ≡ true → abi_stops o r ≡ true → abi.behind o (extern_own o r) ≡ Some r
 unfolding word_at
@@ -47,7 +47,7 @@ pub angle_back : (p : List GenericTree × Bool) (r : List Tok) → angle_fits p 
 unfolding angle_bracketed sign_at
 angle_back (gs, e) r f =
     let h : (angle type).behind (t.generics (t.generics_of gs), e) (angle_own (gs, e) r) ≡ Some r = in_angle_back (t.angle false (t.generics_of gs) e) r f in
-    subst (λ z. (angle type).behind (z, e) (angle_own (gs, e) r) ≡ Some r) (t.generics-generics_of gs) h
+    subst (λ z. (angle type).behind (z, e) (angle_own (gs, e) r) ≡ Some r) (generics-generics_of gs) h
 
 pub segment_back : (s : PathStyle) (x : SegmentTree) (r : List Tok) → segment_fits s x ≡ true → segment_stops s x r ≡ true → (segment type s).behind x (segment_own x r) ≡ Some r
 segment_back s x r f c =
@@ -154,4 +154,4 @@ pub bounds_back : (b : Bool) (xs : List BoundTree) (e : Bool) (r : List Tok) →
 bounds_back b xs e r f c =
     let bs = t.bounds_of xs in
     let h = impl_tells b bs e (bounds_own bs e r) r (type_opens b (t.impl_trait bs e) _ r (type_back b (t.impl_trait bs e) r f c)) in
-    subst (λ z. (bounds type b).behind (z, e) (bounds_list_own (xs, e) r) ≡ Some r) (t.bounds-bounds_of xs) h
+    subst (λ z. (bounds type b).behind (z, e) (bounds_list_own (xs, e) r) ≡ Some r) (bounds-bounds_of xs) h

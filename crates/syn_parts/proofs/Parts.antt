@@ -418,10 +418,6 @@ macro_alike = search (whole_path_alike, forms, marks, views) depth 12
 
 -- ---- what is true of each part
 
--- what is read is what the tokens spell
-pub type_exact : (b : Bool) (l : List Tok) (x : TypeTree) (n : List Tok) → ((type b).reads l ≡ Some (x, n)) ↔ SpellsType b l x n
-type_exact b l x n = let a = type_alike 0 b in (a.sound l x n, a.complete l x n)
-
 -- what spells a type, opened once: by its kind, and what spells the types in it
 pub spells_is : (b : Bool) (l : List Tok) (x : TypeTree) (n : List Tok) → SpellsType b l x n ↔ ((at_place type b).behind x l ≡ Some n)
 spells_is b l x n =
@@ -435,7 +431,3 @@ one_type b l x y m n h k =
     let f = type_alike 0 b in
     let e : (x, m) ≡ (y, n) = some_is (sym (f.complete l x m h) ∙ f.complete l y n k) in
     (ap (λ p. p.0) e, ap (λ p. p.1) e)
-
--- a type takes tokens
-pub type_falls : (b : Bool) (l : List Tok) (x : TypeTree) (n : List Tok) → SpellsType b l x n → weight n ≤ weight l
-type_falls b l x n h = let f = type_alike 0 b in f.falls l x n (f.complete l x n h)

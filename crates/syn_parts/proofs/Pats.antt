@@ -19,6 +19,7 @@ use Rattle.syn_parts.proofs.Weights.{some_is}
 use Rattle.syn_parts.proofs.Marks.{marks, begins_in_front, sign_present, word_present, underscore_present, constant_present, and_present}
 use Rattle.syn_parts.proofs.Parts.{falls_by, one_less, name_alike, lit_alike, block_alike, outer_attributes_alike, any_group_alike, qpath_alike, types_alike, inside_at_alike}
 use Rattle.syn_parts.proofs.Forms.{Alike, Compares, Finds, leaf_alike, Present, Sees, Only, Steps, fix_alike, fix_is, behind_some, weaker, when_alike, mark_alike, mark_at_alike, then_by_alike, both_alike, shown_alike, shown_where_alike, pure_alike, inside_alike, case_alike, group_case_alike, only_true, only_false, maybe_alike, flag_at_alike, listed_alike, joined_alike, Refuses, when_refuses, mark_refuses, inside_refuses, shown_refuses, pure_refuses}
+use Rattle.syn_parts.proofs.Trees.{fields-fields_of, fields_of-fields, pats-pats_of, pats_of-pats}
 
 -- ---- marks
 
@@ -170,10 +171,10 @@ sees_block = record { there = λ x. refl; back = back }
     back _ x h = absurd cc
 
 sees_slice : Sees p.to_slice p.from_slice
-sees_slice = record { there = λ x. rw (p.pats-pats_of x.0) refl; back = back }
+sees_slice = record { there = λ x. rw (pats-pats_of x.0) refl; back = back }
   where
     back : (y : PatTree) (x : List PatTree × Bool) → p.from_slice y ≡ Some x → p.to_slice x ≡ y
-    back (p.a_slice ps e) x h = ap p.to_slice (sym (some_is h)) ∙ ap (λ z. p.a_slice z e) (p.pats_of-pats ps)
+    back (p.a_slice ps e) x h = ap p.to_slice (sym (some_is h)) ∙ ap (λ z. p.a_slice z e) (pats_of-pats ps)
     back _ x h = absurd cc
 
 rest_is : (z : PatTree) → p.is_rest z ≡ true → z ≡ p.rest
@@ -205,14 +206,14 @@ sees_round = record { there = there; back = back }
     there ([], c) = refl
     there (z ∷ [], true) = refl
     there (z ∷ [], false) = one z
-    there (z ∷ w ∷ ps, c) = rw (p.pats-pats_of ps) refl
+    there (z ∷ w ∷ ps, c) = rw (pats-pats_of ps) refl
 
     paren : (z : PatTree) (x : List PatTree × Bool) (b : Bool) → p.is_rest z ≡ b → cond {A = Option (List PatTree × Bool)} b None (Some (z ∷ [], false)) ≡ Some x → p.to_round x ≡ p.a_paren z
     paren z x true e h = absurd cc
     paren z x false e h = ap p.to_round (sym (some_is h)) ∙ no_rest z e
 
     back : (y : PatTree) (x : List PatTree × Bool) → p.from_round y ≡ Some x → p.to_round x ≡ y
-    back (p.a_tuple ps c) x h = round_back (p.pats ps) c x h ∙ ap (λ z. p.a_tuple z c) (p.pats_of-pats ps)
+    back (p.a_tuple ps c) x h = round_back (p.pats ps) c x h ∙ ap (λ z. p.a_tuple z c) (pats_of-pats ps)
     back (p.a_paren z) x h = paren z x (p.is_rest z) refl h
     back _ x h = absurd cc
 
@@ -271,8 +272,8 @@ sees_range_more = record { there = λ x. refl; back = back }
 path_back : (y : PatTree) (x : QPathTree × PathEnd) → p.from_path y ≡ Some x → p.to_path x ≡ y
 path_back (p.a_path q z) x h = ap p.to_path (sym (some_is h))
 path_back (p.a_mac m) x h = ap p.to_path (sym (some_is h))
-path_back (p.a_struct z fs e r) x h = ap p.to_path (sym (some_is h)) ∙ ap (λ w. p.a_struct z w e r) (p.fields_of-fields fs)
-path_back (p.tuple_struct z ps e) x h = ap p.to_path (sym (some_is h)) ∙ ap (λ w. p.tuple_struct z w e) (p.pats_of-pats ps)
+path_back (p.a_struct z fs e r) x h = ap p.to_path (sym (some_is h)) ∙ ap (λ w. p.a_struct z w e r) (fields_of-fields fs)
+path_back (p.tuple_struct z ps e) x h = ap p.to_path (sym (some_is h)) ∙ ap (λ w. p.tuple_struct z w e) (pats_of-pats ps)
 path_back (p.range (Some (p.path_bound q z)) c e) x h = ap p.to_path (sym (some_is h))
 path_back (p.range (Some (p.lit_bound z)) c e) x h = absurd cc
 path_back (p.range None c e) x h = absurd cc
@@ -339,8 +340,8 @@ module _ {k : ℕ} {pattern pattern' : Bool → Form PatTree} (again : (b : Bool
   path_there (q, z) p.no_more l n h = refl
   path_there (q, z) (p.range_more c e) l n h = refl
   path_there (t.no_qself, z) (p.mac_end d ts) l n h = refl
-  path_there (t.no_qself, z) (p.struct_end fs e r) l n h = rw (p.fields-fields_of fs) refl
-  path_there (t.no_qself, z) (p.tuple_end ps e) l n h = rw (p.pats-pats_of ps) refl
+  path_there (t.no_qself, z) (p.struct_end fs e r) l n h = rw (fields-fields_of fs) refl
+  path_there (t.no_qself, z) (p.tuple_end ps e) l n h = rw (pats-pats_of ps) refl
   path_there (t.qself x i a, z) (p.mac_end d ts) l n h = by_dots (p.dots.at l) h
     where
       by_dots : (b : Bool) → cond {A = Option (List Tok)} b None None ≡ Some n → p.from_path (p.to_path ((t.qself x i a, z), p.mac_end d ts)) ≡ Some ((t.qself x i a, z), p.mac_end d ts)
@@ -394,13 +395,13 @@ module _ {k : ℕ} {pattern pattern' : Bool → Form PatTree} (again : (b : Bool
 
       there : (l : List Tok) (x : Bool × List PatTree) (n : List Tok) → (both (flag p.vert) (joined p.vert (p.single pattern))).behind x l ≡ Some n → p.from_or (p.to_or x) ≡ Some x
       there l (true, []) n h = refl
-      there l (true, z ∷ zs) n h = rw (p.pats-pats_of zs) refl
+      there l (true, z ∷ zs) n h = rw (pats-pats_of zs) refl
       there l (false, []) n h = refl
       there l (false, z ∷ []) n h =
           let (m, e, j) = behind_some ((flag p.vert).behind false l) ((joined p.vert (p.single pattern)).behind (z ∷ [])) n h in
           let (o, i, g) = behind_some ((p.single pattern).behind z m) ((more p.vert (p.single pattern)).behind []) n j in
           alone_there z m o i
-      there l (false, z ∷ w ∷ zs) n h = rw (p.pats-pats_of zs) refl
+      there l (false, z ∷ w ∷ zs) n h = rw (pats-pats_of zs) refl
 
       or_back : (b : Bool) (ps : List PatTree) (x : Bool × List PatTree) → p.or_by b ps ≡ Some x → p.to_or x ≡ p.alternatives b (p.pats_of ps) false
       or_back true [] x h = ap p.to_or (sym (some_is h))
@@ -411,7 +412,7 @@ module _ {k : ℕ} {pattern pattern' : Bool → Form PatTree} (again : (b : Bool
 
       back : (y : PatTree) (x : Bool × List PatTree) → p.from_or y ≡ Some x → p.to_or x ≡ y
       back (p.alternatives b ps true) x h = absurd cc
-      back (p.alternatives b ps false) x h = or_back b (p.pats ps) x h ∙ ap (λ z. p.alternatives b z false) (p.pats_of-pats ps)
+      back (p.alternatives b ps false) x h = or_back b (p.pats ps) x h ∙ ap (λ z. p.alternatives b z false) (pats_of-pats ps)
       back _ x h = ap p.to_or (sym (some_is h))
 
   pub width_alike : (b : Bool) → Alike (suc k) (p.at_width pattern b) (p.at_width pattern' b)

@@ -16,21 +16,21 @@ use Rattle.syn_parts.specs.Text.{Text, is_segment, is_truth, is_number, number_k
 use Rattle.syn_parts.specs.Same.{same_kind}
 use Rattle.syn_parts.specs.Tree as t
 use Rattle.syn_parts.specs.Tree.{LitTree, AttributeTree, PathTree, SegmentTree, QSelfTree, Segments, ArgumentsTree, TypeTree}
-use Rattle.syn_parts.specs.Form.{Form, Mark, flag, mark, maybe, pure, listed, joined, more, when, shown, both}
+use Rattle.syn_parts.specs.Form.{Form, Mark, flag, mark, maybe, pure, listed, joined, more, when, shown, both, is_nil}
 use Rattle.syn_parts.specs.Form as form
-use Rattle.syn_parts.specs.Mark.{underscore, pound, sign_at, word_at, brace_at, round_at, comma, colon, colon2, not_ne, mutable}
+use Rattle.syn_parts.specs.Mark.{pound, sign_at, word_at, brace_at, round_at, comma, colon, colon2, not_ne, mutable}
 use Rattle.syn_parts.specs.Part.{angle_at, turbofish_at, lit, is_lit_there, qpath, type, MacroTree, has_none, segments_bare, outer_attributes, outer_body}
-use Rattle.syn_parts.specs.Own.{type_own, block_own, alone, before_if, before_some, comma_before, colon2_before, enclosed, is_end, separated, elements_own, lit_own, number_own, attribute_own, path_own, qualified_own, macro_own, segments_own, arguments_own, no_more_segments}
+use Rattle.syn_parts.specs.Own.{type_own, block_own, alone, before_if, before_some, comma_before, colon2_before, enclosed, separated, elements_own, lit_own, number_own, attribute_own, path_own, qualified_own, macro_own, segments_own, arguments_own, no_more_segments}
 use Rattle.syn_parts.specs.Fits.{fits_if, type_fits, lit_fits, number_fits, has_kind, path_fits, path_stops, qpath_fits, is_macro_delimiter, ends_well, segments_fit, segments_stop, arguments_fit, arguments_stop, goes_over}
 use Rattle.syn_parts.specs.Laws.{PartsAreReadBack}
 use Rattle.syn_parts.specs.Pat as p
 use Rattle.syn_parts.specs.Pat.{MemberTree, PatBound, PatTree, SubPat, Pats, Fields, FieldTree, FieldPatTree}
 use Rattle.syn_parts.specs.PatOwn as o
-use Rattle.syn_parts.proofs.Same.{both_true}
-use Rattle.syn_parts.proofs.ReadBack.{Commas, no_element, element, Joins, no_join, join, next_own, listed_back, joined_back, kept_bracket_back, not_true, text_same, name_back, lit_back, block_back}
+use Rattle.syn_parts.proofs.Same.{both_true, not_true}
+use Rattle.syn_parts.proofs.ReadBack.{Commas, no_element, element, Joins, no_join, join, next_own, listed_back, joined_back, kept_bracket_back, text_same, name_back, lit_back, block_back}
 use Rattle.syn_parts.proofs.Behind.{Calm, nil_calm, comma_calm, or_true, segments_calm}
 use Rattle.syn_parts.proofs.Fronts.{word_not, no_truth, not_mut, not_underscore}
-use Rattle.syn_parts.proofs.TypesBack.{group_back, type_back}
+use Rattle.syn_parts.proofs.TypesBack.{group_back, type_back, nil_comma}
 use Rattle.syn_parts.proofs.Whole.{parts_read_back}
 use Rattle.syn_parts.proofs.PatWhole.{spelled_by_kind}
 use Rattle.syn_parts.proofs.Marks.{pound_present}
@@ -237,13 +237,6 @@ limits_dots false l = refl
 
 -- ---- one kind of pattern, by what it holds
 
--- no binding stands first
-lit_no_underscore : {l : List Tok} → LitBegins l → underscore.at l ≡ false
-unfolding word_at
-lit_no_underscore (lit_word {w = w} h) = truth_is w (codes "_") h no_underscore
-lit_no_underscore lit_plain = refl
-lit_no_underscore (lit_minus h) = refl
-
 lit_single : (z : PatTree) {l : List Tok} → LitBegins l → (p.single p.pattern).behind z l ≡ (shown p.to_lit p.from_lit (both lit (maybe p.dots.at p.range_end))).behind z l
 unfolding p.single sign_at word_at group_at
 lit_single z (lit_word {w = w} h) = rw (truth_is w (codes "_") h no_underscore, truth_is w (codes "const") h no_const, h) refl
@@ -378,10 +371,6 @@ key : (a g : Bool) → (not (a && true) || g) ≡ true → (a && not g) ≡ fals
 key false g h = refl
 key true true h = refl
 key true false h = absurd cc
-
-colon2_goes : (l : List Tok) → p.goes_on (colon2_before l) ≡ true
-unfolding sign_at
-colon2_goes l = refl
 
 not_ref : is_segment (codes "ref") ≡ false
 unfolding is_segment stands_alone is_reserved_word
@@ -730,17 +719,13 @@ fields_elements p.no_fields e r = refl
 fields_elements (p.more_fields a f p.no_fields) e r = refl
 fields_elements (p.more_fields a f (p.more_fields b g fs)) e r = ap (λ l. o.attributes_own a (o.field_own f (comma_before l))) (fields_elements (p.more_fields b g fs) e r)
 
-pub pats_end : (ps : Pats) (e : Bool) → ends_well (o.no_more_pats ps) e ≡ not (is_end (p.pats ps) && e)
+pub pats_end : (ps : Pats) (e : Bool) → ends_well (o.no_more_pats ps) e ≡ not (is_nil (p.pats ps) && e)
 pats_end p.no_pats e = refl
 pats_end (p.more_pats z ps) e = refl
 
-pub fields_end : (fs : Fields) (e : Bool) → ends_well (o.no_more_fields fs) e ≡ not (is_end (p.fields fs) && e)
+pub fields_end : (fs : Fields) (e : Bool) → ends_well (o.no_more_fields fs) e ≡ not (is_nil (p.fields fs) && e)
 fields_end p.no_fields e = refl
 fields_end (p.more_fields a f fs) e = refl
-
-nil_comma : comma.at [] ≡ false
-unfolding sign_at
-nil_comma = refl
 
 pats_listed : (ps : Pats) (e : Bool) → ends_well (o.no_more_pats ps) e ≡ true → Commas (p.pattern true) o.pat_own is_empty e [] (p.pats ps)
     → (listed comma is_empty (p.pattern true)).behind (p.pats ps, e) (o.pats_own ps e []) ≡ Some []
@@ -762,11 +747,6 @@ unfolding sign_at
 rest_comma true = refl
 rest_comma false = refl
 
-rest_colon : (d : Bool) → colon.at (fields_rest d) ≡ false
-unfolding sign_at
-rest_colon true = refl
-rest_colon false = refl
-
 rest_flag : (d : Bool) (b : Bool) → (not d || b) ≡ true → (when (λ l. b) (flag p.dots) (pure false not)).behind d (fields_rest d) ≡ Some []
 unfolding sign_at
 rest_flag true true h = refl
@@ -774,7 +754,7 @@ rest_flag true false h = absurd cc
 rest_flag false true h = refl
 rest_flag false false h = refl
 
-pub none_is : (fs : Fields) → p.none_there (p.fields fs) ≡ o.no_more_fields fs
+pub none_is : (fs : Fields) → is_nil (p.fields fs) ≡ o.no_more_fields fs
 none_is p.no_fields = refl
 none_is (p.more_fields a f fs) = refl
 

@@ -13,19 +13,19 @@ use Rattle.syn_parts.specs.declared.label.PathStyle.TheVariants as style
 use Rattle.syn_parts.specs.Text.{Text}
 use Rattle.syn_parts.specs.Tree as t
 use Rattle.syn_parts.specs.Tree.{TypeTree, LitTree, AttributeTree, PathTree, SegmentTree, QSelfTree, ArgumentsTree}
-use Rattle.syn_parts.specs.Form.{Form, Mark, Test, flag, mark, maybe, pure, listed, joined, more, when, case, group_case, then_by, shown, both, seen, if_same}
+use Rattle.syn_parts.specs.Form.{Form, Mark, Test, flag, mark, maybe, pure, listed, joined, more, when, case, group_case, then_by, shown, both, then_behind, if_same, is_nil}
 use Rattle.syn_parts.specs.Form as form
 use Rattle.syn_parts.specs.Mark.{underscore, constant, pound, sign_at, word_at, brace_at, round_at, comma, colon, colon2, not_ne, mutable, and}
 use Rattle.syn_parts.specs.Part.{lit, name, block, qpath, type, QPathTree, MacroTree, has_none, segments_bare, is_bare, any_group, outer_attributes, outer_body}
-use Rattle.syn_parts.specs.Own.{type_own, alone, before_if, before_some, comma_before, enclosed, block_own, is_end, elements_own, lit_own, attribute_own, path_own, qualified_own, macro_own, arguments_own}
+use Rattle.syn_parts.specs.Own.{type_own, alone, before_if, before_some, comma_before, enclosed, block_own, elements_own, lit_own, attribute_own, path_own, qualified_own, macro_own, arguments_own}
 use Rattle.syn_parts.specs.Fits.{lit_fits, path_fits, path_stops, qpath_fits, is_macro_delimiter, ends_well, segments_stop}
 use Rattle.syn_parts.specs.Laws.{Fitted, PartsThatAreReadBackFit}
 use Rattle.syn_parts.specs.Pat as p
 use Rattle.syn_parts.specs.Pat.{MemberTree, PatBound, PatTree, SubPat, Pats, Fields, FieldTree, FieldPatTree, PathEnd}
 use Rattle.syn_parts.specs.PatOwn as o
 use Rattle.syn_parts.proofs.Weights.{some_is}
-use Rattle.syn_parts.proofs.Same.{both_true}
-use Rattle.syn_parts.proofs.ReadBack.{not_true, kept_bracket_back, block_back}
+use Rattle.syn_parts.proofs.Same.{both_true, not_true}
+use Rattle.syn_parts.proofs.ReadBack.{kept_bracket_back, block_back}
 use Rattle.syn_parts.proofs.TypesBack.{group_back}
 use Rattle.syn_parts.proofs.Marks.{pound_present}
 use Rattle.syn_parts.proofs.Forms.{Refuses, seen_some, more_opens, when_refuses, mark_refuses, inside_refuses, shown_refuses, pure_refuses}
@@ -316,7 +316,7 @@ paren_told : (z : PatTree) (ts : List Tok) → (p.round_pat p.pattern).behind (p
 unfolding p.round_pat
 paren_told z ts h = by_rest (p.is_rest z) h
   where
-    by_rest : (b : Bool) → seen (cond b None (Some (z ∷ [], false))) (λ y. (listed comma is_empty (p.pattern true)).behind y ts) ≡ Some [] → ((listed comma is_empty (p.pattern true)).behind (z ∷ [], false) ts ≡ Some []) × (not b ≡ true)
+    by_rest : (b : Bool) → then_behind (cond b None (Some (z ∷ [], false))) (λ y. (listed comma is_empty (p.pattern true)).behind y ts) ≡ Some [] → ((listed comma is_empty (p.pattern true)).behind (z ∷ [], false) ts ≡ Some []) × (not b ≡ true)
     by_rest true h = absurd cc
     by_rest false h = (h, refl)
 
@@ -528,9 +528,9 @@ fields_told fs e d all h =
     let tells = λ (m : List Tok) (g : (listed comma p.fields_stop (p.field p.pattern)).behind (p.fields fs, e) l ≡ Some m).
     let i : (listed comma p.fields_stop (p.field p.pattern)).behind (p.fields fs, e) (elements_own pat_field_own comma_before (p.fields fs) e (fields_rest d)) ≡ Some m = subst (λ k. (listed comma p.fields_stop (p.field p.pattern)).behind (p.fields fs, e) k ≡ Some m) (fields_elements fs e (fields_rest d)) g in
     listed_tells (p.field p.pattern) pat_field_own field_passes any_rest p.fields_stop (λ k. field_whole k) e (p.fields fs) (fields_rest d) m all i in
-    let (i, j) = after (listed comma p.fields_stop (p.field p.pattern)) (λ q. when (λ k. p.none_there q.0 || q.1) (flag p.dots) (pure false not)) (p.fields fs, e) d l (fields_rest d) [] (λ m g. let (u, v, w) = tells m g in w) h in
+    let (i, j) = after (listed comma p.fields_stop (p.field p.pattern)) (λ q. when (λ k. is_nil q.0 || q.1) (flag p.dots) (pure false not)) (p.fields fs, e) d l (fields_rest d) [] (λ m g. let (u, v, w) = tells m g in w) h in
     let (u, v, w) = tells (fields_rest d) i in
-    (fields_pass e (fields_rest d) fs v, fields_end fs e ∙ u, rw (sym (none_is fs)) (by_rest d (p.none_there (p.fields fs) || e) j))
+    (fields_pass e (fields_rest d) fs v, fields_end fs e ∙ u, rw (sym (none_is fs)) (by_rest d (is_nil (p.fields fs) || e) j))
   where
     by_rest : (d b : Bool) → (when (λ k. b) (flag p.dots) (pure false not)).behind d (fields_rest d) ≡ Some [] → (not d || b) ≡ true
     by_rest false b h = refl
@@ -572,7 +572,7 @@ abbrev SinglesTold : List PatTree → Type 0
 SinglesTold zs = Told (p.single p.pattern) o.pat_own (o.pat_fits false) o.single_stops zs
 
 several_told : (l : Bool) (zs : List PatTree) (r n : List Tok) → SinglesTold zs → several.behind (l, zs) (before_if l o.vert_before (elements_own o.pat_own o.vert_before zs false r)) ≡ Some n
-    → (is_end zs ≡ false) × (Fitting o.pat_own (o.pat_fits false) o.single_stops o.vert_before false r zs) × (p.vert.at r ≡ false) × (n ≡ r)
+    → (is_nil zs ≡ false) × (Fitting o.pat_own (o.pat_fits false) o.single_stops o.vert_before false r zs) × (p.vert.at r ≡ false) × (n ≡ r)
 several_told l zs r n all h =
     let k = elements_own o.pat_own o.vert_before zs false r in
     let (i, j) = after (flag p.vert) (λ y. joined p.vert (p.single p.pattern)) l zs (before_if l o.vert_before k) k n (λ m d. flag_left p.vert o.vert_before l k m (vert_seen k) refl d) h in
@@ -612,7 +612,7 @@ or_told l ps false r n all h =
     by_list false (p.more_pats z p.no_pats) x h = absurd cc
     by_list false (p.more_pats z (p.more_pats w ps)) x h = (sym (some_is h), refl)
 
-    some_pats : (ps : Pats) → is_end (p.pats ps) ≡ false → o.no_more_pats ps ≡ false
+    some_pats : (ps : Pats) → is_nil (p.pats ps) ≡ false → o.no_more_pats ps ≡ false
     some_pats p.no_pats h = absurd cc
     some_pats (p.more_pats z ps) h = refl
 

@@ -12,10 +12,10 @@ use Rattle.syn_parts.specs.declared.label.LitKind.TheVariants as kind
 use Rattle.syn_parts.specs.Text.{Text, is_segment, is_number, number_kind, kind_of}
 use Rattle.syn_parts.specs.Same.{same_kind}
 use Rattle.syn_parts.specs.Tree.{LitTree, AttributeTree}
-use Rattle.syn_parts.specs.Form.{Form, Mark, Test, tail, more, listed, joined}
+use Rattle.syn_parts.specs.Form.{Form, Mark, Test, tail, more, listed, joined, is_nil}
 use Rattle.syn_parts.specs.Mark.{sign_at, lifetime_at, comma}
 use Rattle.syn_parts.specs.Part.{name, segment_name, lifetime, lit, attribute, outer_body, inner_body, kept, block}
-use Rattle.syn_parts.specs.Own.{alone, lifetime_own, lit_own, number_own, attribute_own, block_own, is_end, elements_own, separated, comma_before}
+use Rattle.syn_parts.specs.Own.{alone, lifetime_own, lit_own, number_own, attribute_own, block_own, elements_own, separated, comma_before}
 use Rattle.syn_parts.specs.Fits.{lit_fits, number_fits, has_kind, ends_well, is_none}
 use Rattle.syn_parts.proofs.Same.{both_true, same_toks-refl, same_lit-refl, same_kind-true}
 use Rattle.syn_parts.proofs.Marks.{comma_present}
@@ -23,10 +23,6 @@ use Rattle.syn_parts.proofs.Forms.{Alike, Present, tail_stands, more_stands}
 
 pub text_same : (w : Text) → bytes_eq w w ≡ true
 text_same w = (bytes_eq-Decides w w).1 refl
-
-pub not_true : (b : Bool) → not b ≡ true → b ≡ false
-not_true true h = absurd cc
-not_true false h = refl
 
 -- ---- words
 
@@ -100,13 +96,13 @@ block_back ts r = rw (toks-inside ts, same_toks-refl ts) refl
 
 -- ---- lists
 
-pub ends_is : {A : Type 0} (xs : List A) (e : Bool) → ends_well (is_none xs) e ≡ not (is_end xs && e)
+pub ends_is : {A : Type 0} (xs : List A) (e : Bool) → ends_well (is_none xs) e ≡ not (is_nil xs && e)
 ends_is [] e = refl
 ends_is (x ∷ xs) e = refl
 
 -- what is behind an element before the others
 abbrev pub next_own : {A : Type 0} → (A → List Tok → List Tok) → (List Tok → List Tok) → List A → Bool → List Tok → List Tok
-next_own own sep xs e r = separated (is_end xs) e sep (elements_own own sep xs e r)
+next_own own sep xs e r = separated (is_nil xs) e sep (elements_own own sep xs e r)
 
 module _ {A : Type 0} (f : Form A) (own : A → List Tok → List Tok) (stop : Test) (e : Bool) (r : List Tok) where
   -- each element is read back before what follows it, and nothing that ends the list stands first
@@ -128,7 +124,7 @@ module _ {A : Type 0} (f : Form A) (own : A → List Tok → List Tok) (stop : T
   tail_back true [] no_element = tail_stands comma stop f comma_present a ([], true) _ r (rw stopped refl)
   tail_back e (x ∷ xs) (element b s more) = tail_stands comma stop f comma_present a (x ∷ xs, e) _ r (rw (s, b) (tail_back e xs more))
 
-  pub listed_back : (e : Bool) (xs : List A) → not (is_end xs && e) ≡ true → Commas f own stop e r xs → (listed comma stop f).behind (xs, e) (elements_own own comma_before xs e r) ≡ Some r
+  pub listed_back : (e : Bool) (xs : List A) → not (is_nil xs && e) ≡ true → Commas f own stop e r xs → (listed comma stop f).behind (xs, e) (elements_own own comma_before xs e r) ≡ Some r
   unfolding listed
   listed_back false [] h no_element = rw stopped refl
   listed_back true [] h no_element = absurd cc

@@ -1,5 +1,5 @@
 -- Being the same is being equal.
-use Rattle.std.specs.Prelude.{◌≡◌, Bool, true, false, ◌&&◌, List, refl}
+use Rattle.std.specs.Prelude.{◌≡◌, Bool, true, false, not, ◌&&◌, List, refl}
 use Rattle.std.proofs.lemmas.Slice.Eq.{bytes_eq-Decides}
 use Rattle.std.specs.Str.{bytes_eq}
 use Rattle.syn_lexer.specs.declared.lexeme.Delimiter.{Delimiter}
@@ -83,3 +83,7 @@ compares_groups = record { itself = λ x. rw (same_delimiter-refl x.0, same_toks
         let e : x.0 ≡ y.0 = same_delimiter-true x.0 y.0 a in
         let f : x.1 ≡ y.1 = same_toks-true x.1 y.1 b in
         rw (e, f) refl
+
+pub not_true : (b : Bool) → not b ≡ true → b ≡ false
+not_true true h = absurd cc
+not_true false h = refl

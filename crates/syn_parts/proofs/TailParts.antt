@@ -13,7 +13,7 @@ use Rattle.syn_parts.specs.Same.{same_lit, same_toks, same_group}
 use Rattle.syn_parts.specs.Tree.{LitTree, TypeTree}
 use Rattle.syn_parts.specs.Form.{Form}
 use Rattle.syn_parts.specs.Mark.{quote, pound, less, and, star, bang, underscore, implementing, dynamic}
-use Rattle.syn_parts.specs.Part.{pound_bang, find_ident, find_segment, find_word, find_lit, find_signed, find_string, find_group, find_all, find_const, find_arg_name, is_arg_name, name, segment_name, lifetime, unsigned, lit, string, kept, any_group, rest_of, constant_tokens, arg_name, outer_body, inner_body, attribute, outer_attributes, inner_attributes, block, no_arguments, lifetimes, output, generic, angle, angle_bracketed, parenthesized, arguments, segment, pieces, path, qualified, qpath, bound, bounds, reference, pointer, fn_head, fn_pointer, implements, object, macro_end, named, at_place, type, macro, QPathTree}
+use Rattle.syn_parts.specs.Part.{pound_bang, find_ident, find_segment, find_word, find_lit, find_signed, find_string, find_group, find_all, find_const, find_arg_name, is_arg_name, name, segment_name, lifetime, unsigned, lit, string, kept, any_group, rest_of, constant_tokens, arg_name, outer_body, inner_body, outer_attributes, inner_attributes, block, no_arguments, lifetimes, output, generic, angle, angle_bracketed, parenthesized, arguments, segment, pieces, path, qualified, qpath, bound, bounds, reference, pointer, fn_head, fn_pointer, implements, object, macro_end, named, at_place, type, macro, QPathTree}
 use Rattle.syn_parts.proofs.Weights.{some_is}
 use Rattle.syn_parts.proofs.Parts.{word_some, lit_some, truth_some, negative_some, const_some, string_some}
 use Rattle.syn_parts.proofs.Tails.{Leaves, Found, nothing_taken, tail_then, one_taken, when_leaves, mark_leaves, then_by_leaves, both_leaves, shown_leaves, pure_leaves, inside_leaves, fix_leaves, listed_leaves, more_leaves, joined_leaves, closed_by_leaves, leaf_leaves, maybe_leaves, flag_leaves, case_leaves, group_case_leaves, found_group}
@@ -167,10 +167,6 @@ outer_body_leaves = search leaving depth 12
 inner_body_leaves : Leaves inner_body
 unfolding inner_body
 inner_body_leaves = search leaving depth 12
-
-pub attribute_leaves : Leaves attribute
-unfolding attribute
-attribute_leaves = case_leaves pound_bang inner_body_leaves (mark_leaves pound outer_body_leaves)
 
 pub outer_attributes_leaves : Leaves outer_attributes
 unfolding outer_attributes

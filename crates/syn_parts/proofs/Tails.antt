@@ -5,9 +5,9 @@ use Rattle.syn_lexer.specs.declared.lexeme.Delimiter.{Delimiter}
 use Rattle.syn_tokens.specs.Tok.{Tok, ident, punct, literal, group, toks, weight}
 use Rattle.syn_tokens.specs.Front.{group_at, same_delimiter}
 use Rattle.syn_tokens.specs.Input.{IsTail}
-use Rattle.syn_parts.specs.Form.{Form, Outcome, Test, Mark, and_then, never, when, mark, then_by, both, shown, pure, leaf, whole, inside_reads, inside, case, group_case, flag, maybe, iterate, fix, tail_step, tail, listed, more_step, more, joined, closed_by}
+use Rattle.syn_parts.specs.Form.{Form, Outcome, Test, Mark, and_then, never, when, mark, then_by, both, shown, pure, leaf, inside_reads, inside, case, group_case, flag, maybe, iterate, fix, tail_step, tail, listed, more_step, more, joined, closed_by}
 use Rattle.syn_parts.proofs.Weights.{some_is}
-use Rattle.syn_parts.proofs.Forms.{bind_some}
+use Rattle.syn_parts.proofs.Forms.{bind_some, whole_is}
 
 pub nothing_taken : (l : List Tok) → IsTail l l
 nothing_taken l = record { front = []; is = refl }
@@ -66,11 +66,6 @@ shown_leaves {A} {B} {f} to from a = record {
 
 pub pure_leaves : {A : Type 0} (x : A) (is : A → Bool) → Leaves (pure x is)
 pure_leaves {A} x is = record { leaves = λ l y n h. moved x y l n l h (nothing_taken l) }
-
-whole_is : {A : Type 0} (o : Outcome A) (m : List Tok) (x : A) (n : List Tok) → whole o m ≡ Some (x, n) → m ≡ n
-whole_is None m x n h = absurd cc
-whole_is (Some (y, [])) m x n h = ap (λ z. z.1) (some_is h)
-whole_is (Some (y, t ∷ l)) m x n h = absurd cc
 
 group_leaves : (d : Delimiter) (l inner n : List Tok) → group_at d l ≡ Some (inner, n) → IsTail n l
 unfolding group_at

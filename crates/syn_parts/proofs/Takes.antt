@@ -10,16 +10,16 @@ use Rattle.syn_parts.specs.declared.label.PathStyle.{PathStyle}
 use Rattle.syn_parts.specs.declared.label.PathStyle.TheVariants as style
 use Rattle.syn_parts.specs.Text.{Text, is_segment, is_truth, is_number, kind_of}
 use Rattle.syn_parts.specs.Tree.{LitTree}
-use Rattle.syn_parts.specs.Form.{Form, Outcome, Test, Mark, and_then, when, mark, then_by, both, shown, whole, inside_reads, inside, joined}
+use Rattle.syn_parts.specs.Form.{Form, Outcome, Test, Mark, and_then, when, mark, then_by, both, shown, inside_reads, inside, joined}
 use Rattle.syn_parts.specs.Mark.{gt, implementing, dynamic}
 use Rattle.syn_parts.specs.Part.{word_if, find_ident, find_segment, find_word, lit_if, truth_if, find_lit, negative_if, find_signed, find_const, const_if, name, segment_name, lifetime, unsigned, lit, kept, constant_tokens, attribute, outer_body, inner_body, pound_bang, block, lifetimes, generic, segment, pieces, path, qpath, bound, fn_pointer, fn_head, named, at_place, type, macro}
 use Rattle.syn_parts.specs.Part as p
 use Rattle.syn_parts.proofs.Weights.{some_is, taken, one_at_least}
 use Rattle.syn_parts.proofs.Same.{compares_texts}
 use Rattle.syn_parts.proofs.Views.{only_never, only_infer}
-use Rattle.syn_parts.proofs.Marks.{comma_present, gt_present, eq_present, not_ne_present, question_present, and_present, star_present, bang_present, underscore_present, implementing_present, dynamic_present, less_present, for_present, fn_present, quote_present, pound_present, pound_bang_present, colon2_present}
-use Rattle.syn_parts.proofs.Forms.{Alike, Present, bind_some, weaker, when_alike, both_alike, mark_at_alike, maybe_alike, listed_alike, closed_by_alike, more_alike, pure_alike, flag_at_alike, leaf_alike}
-use Rattle.syn_parts.proofs.Parts.{finds_word, lifetime_alike, inside_at_alike, whole_segment_alike, word_some, lit_some, truth_some, negative_some, const_some, types_alike, type_alike, type_is, lifetimes_alike, output_alike, reference_alike, pointer_alike, fn_arg_alike, implements_alike, object_alike, macro_end_alike, qualified_alike, arguments_alike, no_arguments_alike, outer_body_alike, inner_body_alike, fn_head_alike, any_group_alike}
+use Rattle.syn_parts.proofs.Marks.{comma_present, gt_present, eq_present, not_ne_present, question_present, and_present, star_present, bang_present, underscore_present, implementing_present, dynamic_present, less_present, for_present, fn_present, quote_present, colon2_present}
+use Rattle.syn_parts.proofs.Forms.{Alike, Present, bind_some, weaker, when_alike, both_alike, mark_at_alike, maybe_alike, listed_alike, closed_by_alike, more_alike, pure_alike, flag_at_alike, leaf_alike, whole_is}
+use Rattle.syn_parts.proofs.Parts.{finds_word, lifetime_alike, inside_at_alike, whole_segment_alike, word_some, lit_some, truth_some, negative_some, const_some, types_alike, type_alike, type_is, lifetimes_alike, output_alike, reference_alike, pointer_alike, fn_arg_alike, implements_alike, object_alike, macro_end_alike, qualified_alike, arguments_alike, no_arguments_alike, fn_head_alike, any_group_alike}
 
 pub record Takes {A : Type 0} (f : Form A) : Type 0 where
   pub takes : (l : List Tok) (x : A) (n : List Tok) → f.reads l ≡ Some (x, n) → weight n < weight l
@@ -67,11 +67,6 @@ shown_takes {A} {B} {f} to from a = record {
       moved (to q.0) y q.1 n (weight l) j (a.takes l q.0 q.1 e);
 }
 
-whole_is : {A : Type 0} (o : Outcome A) (m : List Tok) (x : A) (n : List Tok) → whole o m ≡ Some (x, n) → m ≡ n
-whole_is None m x n h = absurd cc
-whole_is (Some (y, [])) m x n h = ap (λ z. z.1) (some_is h)
-whole_is (Some (y, t ∷ l)) m x n h = absurd cc
-
 pub inside_takes : {A : Type 0} (d : Delimiter) (f : Form A) → Takes (inside d f)
 inside_takes {A} d f = record { takes = λ l x n. go l (group_at d l) x n refl }
   where
@@ -113,10 +108,6 @@ lit_takes (literal w ∷ l) x n h = by l n (literal w ∷ l) (lit_some (kind_of 
 lit_takes (ident w ∷ l) x n h = by l n (ident w ∷ l) (truth_some (is_truth w) w l x n h) (one (ident w) l)
 lit_takes _ x n h = absurd cc
 
-pub unsigned_takes : Takes unsigned
-unfolding unsigned
-unsigned_takes = record { takes = lit_takes }
-
 pub signed_takes : Takes lit
 unfolding lit
 signed_takes = record { takes = takes }
@@ -157,10 +148,6 @@ block_takes = kept_takes del.Brace
 pub lifetime_takes : Takes lifetime
 unfolding lifetime
 lifetime_takes = mark_takes {k = 0} quote_present (leaf_alike compares_texts finds_word)
-
-pub attribute_takes : Takes attribute
-unfolding attribute
-attribute_takes = when_takes _ (mark_takes {k = 0} pound_bang_present inner_body_alike) (mark_takes {k = 0} pound_present outer_body_alike)
 
 pub lifetimes_takes : Takes lifetimes
 unfolding lifetimes

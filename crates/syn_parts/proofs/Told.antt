@@ -3,9 +3,9 @@ use Rattle.std.proofs.Common.{◌≡◌, ℕ, Bool, true, false, not, ◌&&◌, 
 use Rattle.syn_lexer.specs.declared.lexeme.Delimiter.{Delimiter}
 use Rattle.syn_tokens.specs.Tok.{Tok, toks, inside, toks-inside}
 use Rattle.syn_tokens.specs.Front.{group_at}
-use Rattle.syn_parts.specs.Form.{Form, Mark, Test, when, then_by, both, mark, flag, maybe, shown, pure, is_none, itself, inside_behind, closed_by, tail, listed, more, joined, cons, uncons, is_true}
+use Rattle.syn_parts.specs.Form.{Form, Mark, Test, when, then_by, both, mark, flag, maybe, shown, pure, is_none, itself, inside_behind, closed_by, tail, listed, more, joined, cons, uncons, is_true, is_nil}
 use Rattle.syn_parts.specs.Form as form
-use Rattle.syn_parts.specs.Own.{alone, before_if, before_some, enclosed, is_end, elements_own, comma_before}
+use Rattle.syn_parts.specs.Own.{alone, before_if, before_some, enclosed, elements_own, comma_before}
 use Rattle.syn_parts.specs.Mark.{sign_at, comma, gt}
 use Rattle.syn_parts.specs.Fits.{fits_if}
 use Rattle.syn_parts.specs.Laws.{Fitted}
@@ -130,7 +130,7 @@ module _ {A : Type 0} (f : Form A) (own : A → List Tok → List Tok) (fits : A
       (fit q.passes q.ends o, p)
 
   pub listed_tells : (e : Bool) (xs : List A) (r n : List Tok) → Told f own fits stops xs → (listed comma stop f).behind (xs, e) (elements_own own comma_before xs e r) ≡ Some n
-      → (not (is_end xs && e) ≡ true) × (Fitting own fits stops comma_before e r xs) × (n ≡ r)
+      → (not (is_nil xs && e) ≡ true) × (Fitting own fits stops comma_before e r xs) × (n ≡ r)
   unfolding listed
   listed_tells true [] r n none_told h = absurd (by_stop (stop r) h)
     where
@@ -168,7 +168,7 @@ module _ {A : Type 0} (m : Mark) (f : Form A) (own : A → List Tok → List Tok
       (fit q.passes q.ends o, u, v)
 
   pub joined_tells : (xs : List A) (r n : List Tok) → Told f own fits stops xs → (joined m f).behind xs (elements_own own sep xs false r) ≡ Some n
-      → (is_end xs ≡ false) × (Fitting own fits stops sep false r xs) × (m.at r ≡ false) × (n ≡ r)
+      → (is_nil xs ≡ false) × (Fitting own fits stops sep false r xs) × (m.at r ≡ false) × (n ≡ r)
   joined_tells [] r n none_told h = absurd cc
   joined_tells (x ∷ xs) r n (told here others) h =
       let next = next_own own sep xs false r in

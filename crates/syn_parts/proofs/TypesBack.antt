@@ -15,16 +15,16 @@ use Rattle.syn_parts.specs.Text.{Text, is_segment, stands_alone, is_truth, is_nu
 use Rattle.syn_parts.specs.Same.{same_group}
 use Rattle.syn_parts.specs.Tree as t
 use Rattle.syn_parts.specs.Tree.{LitTree, LifetimesTree, TypeTree, Types, QSelfTree, Segments, SegmentTree, PathTree, FnArgs, FnArgTree, ArgumentsTree, Generics, GenericTree, ReturnTree, Bounds, BoundTree}
-use Rattle.syn_parts.specs.Form.{maybe, flag, listed, joined}
+use Rattle.syn_parts.specs.Form.{maybe, flag, listed, joined, is_nil}
 use Rattle.syn_parts.specs.Mark.{sign_at, word_at, lifetime_at, round_at, brace_at, comma, colon2, plus, question, gt, less, eq, lone_colon, not_ne, arrow, mutable, unsafe_word, extern_word}
 use Rattle.syn_parts.specs.Part.{lifetime, lifetimes, lifetimes_at, const_at, assoc_at, arg_name_at, angle_at, turbofish_at, fn_at, string_at, string, abi, rest_of, constant_tokens, any_group, arg_name, is_arg_name, no_arguments, has_none, fn_head, macro_end, type, output, generic, angle, angle_bracketed, parenthesized, arguments, segment, pieces, path, qualified, qpath, bound, bounds, reference, pointer, slice_or_array, tuple_or_paren, fn_arg, fn_pointer, implements, object, named, at_place, tuple_of, segments_bare, FnHead}
-use Rattle.syn_parts.specs.Own.{alone, comma_before, colon2_before, arrow_before, before_if, before_some, enclosed, lifetime_own, lit_own, lifetimes_own, extern_own, is_end, elements_own, count_segments, at_most, inner_count, qself_end, type_own, types_own, qself_own, segments_own, arguments_own, generics_own, generic_own, return_own, args_own, bounds_own, bound_own, segment_own, arg_own, no_more_types, no_more_segments, no_more_generics, no_more_args, no_more_bounds}
+use Rattle.syn_parts.specs.Own.{alone, comma_before, colon2_before, arrow_before, before_if, before_some, enclosed, lifetime_own, lit_own, lifetimes_own, extern_own, elements_own, count_segments, at_most, inner_count, qself_end, type_own, types_own, qself_own, segments_own, arguments_own, generics_own, generic_own, return_own, args_own, bounds_own, bound_own, segment_own, arg_own, no_more_types, no_more_segments, no_more_generics, no_more_args, no_more_bounds}
 use Rattle.syn_parts.specs.Fits.{fits_if, lifetimes_fit, is_string, has_kind, is_const, is_macro_delimiter, is_one_type, is_one_bound, position_fits, bare_segments, ends_well, type_fits, types_fit, qself_fits, segments_fit, arguments_fit, generics_fit, generic_fits, return_fits, args_fit, bounds_fit, bound_fits, goes_over, takes_angle, takes_round, name_stops, type_stops, segments_stop, arguments_stop, return_stops, bounds_stop, bound_stops, mac_stops}
-use Rattle.syn_parts.proofs.Same.{both_true, same_toks-refl, same_lit-refl, same_kind-true}
+use Rattle.syn_parts.proofs.Same.{both_true, same_toks-refl, same_lit-refl, same_kind-true, not_true}
 use Rattle.syn_parts.proofs.Marks.{colon2_present, plus_present}
 use Rattle.syn_parts.proofs.Forms.{Alike, weaker}
 use Rattle.syn_parts.proofs.Parts.{types_alike, type_alike, type_is, at_place_alike, whole_segment_alike, generic_alike, fn_arg_alike, bound_alike, lifetime_alike}
-use Rattle.syn_parts.proofs.ReadBack.{ends_is, not_true, text_same, name_back, segment_name_back, lifetime_back, next_own, Commas, no_element, element, Joins, no_join, join, listed_back, joined_back}
+use Rattle.syn_parts.proofs.ReadBack.{ends_is, text_same, name_back, segment_name_back, lifetime_back, next_own, Commas, no_element, element, Joins, no_join, join, listed_back, joined_back}
 use Rattle.syn_parts.proofs.Behind.{or_true, Calm, nil_calm, comma_calm, gt_calm, semi_calm, plus_calm, as_calm, type_calm, arguments_calm, bound_calm, arguments_front, colon2_same}
 use Rattle.syn_parts.proofs.Fronts.{Front, type_begins, named_word, named_colon2, named_less, no_truth, word_not, not_for}
 
@@ -429,12 +429,12 @@ pub colon2_seen : (l : List Tok) → colon2.at (colon2_before l) ≡ true
 unfolding sign_at
 colon2_seen l = refl
 
-segments_joined : (s : PathStyle) (xs : List SegmentTree) (r : List Tok) → is_end xs ≡ false → colon2.at r ≡ false → Joins (segment type s) segment_own colon2_before r xs
+segments_joined : (s : PathStyle) (xs : List SegmentTree) (r : List Tok) → is_nil xs ≡ false → colon2.at r ≡ false → Joins (segment type s) segment_own colon2_before r xs
     → (joined colon2 (segment type s)).behind xs (elements_own segment_own colon2_before xs false r) ≡ Some r
 segments_joined s [] r h c j = absurd cc
 segments_joined s (x ∷ xs) r h c j = joined_back colon2 (segment type s) segment_own colon2_before colon2_present (λ k. whole_segment_alike s) colon2_seen (λ l. refl) r c x xs j
 
-some_left : {A : Type 0} (n : ℕ) (xs : List A) → nat_lt n (length xs) ≡ true → is_end (drop n xs) ≡ false
+some_left : {A : Type 0} (n : ℕ) (xs : List A) → nat_lt n (length xs) ≡ true → is_nil (drop n xs) ≡ false
 some_left n [] h = absurd (grind (arith, nat_tests, h))
 some_left zero (x ∷ xs) h = refl
 some_left (suc n) (x ∷ xs) h = let e : nat_lt n (length xs) ≡ true = grind (arith, nat_tests, h) in some_left n xs e
@@ -575,15 +575,15 @@ tuple_is (t.more_types x t.no_types) true h = refl
 tuple_is (t.more_types x t.no_types) false h = absurd cc
 tuple_is (t.more_types x (t.more_types y ys)) e h = refl
 
-pub types_end : (xs : Types) (e : Bool) → ends_well (no_more_types xs) e ≡ not (is_end (t.types xs) && e)
+pub types_end : (xs : Types) (e : Bool) → ends_well (no_more_types xs) e ≡ not (is_nil (t.types xs) && e)
 types_end t.no_types e = refl
 types_end (t.more_types x xs) e = refl
 
-pub generics_end : (xs : Generics) (e : Bool) → ends_well (no_more_generics xs) e ≡ not (is_end (t.generics xs) && e)
+pub generics_end : (xs : Generics) (e : Bool) → ends_well (no_more_generics xs) e ≡ not (is_nil (t.generics xs) && e)
 generics_end t.no_generics e = refl
 generics_end (t.more_generics x xs) e = refl
 
-pub args_end : (xs : FnArgs) (e : Bool) → ends_well (no_more_args xs) e ≡ not (is_end (t.args xs) && e)
+pub args_end : (xs : FnArgs) (e : Bool) → ends_well (no_more_args xs) e ≡ not (is_nil (t.args xs) && e)
 args_end t.no_args e = refl
 args_end (t.more_args n x xs) e = refl
 
@@ -683,7 +683,7 @@ suc_zero n l h = let (a, b) = both_true (suc n == 0) l h in grind (arith, nat_te
 pub no_leading : (0 == 0 && false) ≡ true → ⊥
 no_leading h = let (a, b) = both_true (0 == 0) false h in absurd cc
 
-some_segments : (ss : Segments) → no_more_segments ss ≡ false → is_end (t.segments ss) ≡ false
+some_segments : (ss : Segments) → no_more_segments ss ≡ false → is_nil (t.segments ss) ≡ false
 some_segments t.no_segments h = absurd cc
 some_segments (t.more_segments w a ss) h = refl
 

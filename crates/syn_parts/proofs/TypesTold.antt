@@ -12,19 +12,19 @@ use Rattle.syn_parts.specs.declared.label.PathStyle.TheVariants as style
 use Rattle.syn_parts.specs.Text.{Text, is_segment, stands_alone}
 use Rattle.syn_parts.specs.Tree as t
 use Rattle.syn_parts.specs.Tree.{LitTree, LifetimesTree, TypeTree, Types, QSelfTree, Segments, SegmentTree, PathTree, FnArgs, FnArgTree, ArgumentsTree, Generics, GenericTree, ReturnTree, Bounds, BoundTree}
-use Rattle.syn_parts.specs.Form.{Form, Mark, Test, when, case, group_case, mark, both, then_by, maybe, flag, shown, pure, listed, joined, closed_by, inside_behind, seen}
+use Rattle.syn_parts.specs.Form.{Form, Mark, Test, when, case, group_case, mark, both, then_by, maybe, flag, shown, pure, listed, joined, closed_by, inside_behind, then_behind, is_nil}
 use Rattle.syn_parts.specs.Form as form
 use Rattle.syn_parts.specs.Mark.{sign_at, word_at, lifetime_at, round_at, comma, colon2, plus, question, gt, less, eq, lone_colon, not_ne, arrow, mutable, unsafe_word, extern_word, fn_word, semi, and, star, bang, underscore, implementing, dynamic, as_word}
 use Rattle.syn_parts.specs.Part.{name, segment_name, lifetime, lifetimes, lifetimes_at, const_at, assoc_at, arg_name_at, angle_at, turbofish_at, fn_at, rest_of, constant_tokens, any_group, arg_name, is_arg_name, no_arguments, has_none, fn_head, abi, macro_end, type, output, generic, assoc, angle, angle_bracketed, parenthesized, arguments, is_default, from_given, segment, pieces, path, qualified, qpath, bound, trait_bound, bounds, reference, pointer, slice_or_array, tuple_or_paren, fn_arg, fn_pointer, implements, object, named, at_place, tuple_of, is_bare, FnHead, is_never, is_infer, to_assoc, from_assoc, from_lifetime, from_const, from_type, from_outlives, to_bare, from_bare}
-use Rattle.syn_parts.specs.Own.{alone, comma_before, colon2_before, arrow_before, before_if, before_some, enclosed, lifetime_own, lifetimes_own, extern_own, mutability_own, is_end, elements_own, count_segments, at_most, qself_end, type_own, types_own, segments_own, arguments_own, generics_own, generic_own, return_own, args_own, bounds_own, bound_own, segment_own, arg_own, no_more_types, no_more_segments, no_more_generics, no_more_args, no_more_bounds}
+use Rattle.syn_parts.specs.Own.{alone, comma_before, colon2_before, arrow_before, before_if, before_some, enclosed, lifetime_own, lifetimes_own, extern_own, mutability_own, elements_own, count_segments, at_most, qself_end, type_own, types_own, segments_own, arguments_own, generics_own, generic_own, return_own, args_own, bounds_own, bound_own, segment_own, arg_own, no_more_types, no_more_segments, no_more_generics, no_more_args, no_more_bounds}
 use Rattle.syn_parts.specs.Fits.{fits_if, lifetimes_fit, is_string, is_macro_delimiter, is_one_type, is_one_bound, position_fits, bare_segments, ends_well, type_fits, types_fit, segments_fit, arguments_fit, generics_fit, generic_fits, return_fits, args_fit, bounds_fit, bound_fits, takes_angle, takes_round, none_stops, name_stops, type_stops, segments_stop, arguments_stop, return_stops, bounds_stop, bound_stops, mac_stops, segment_fits, segment_stops, after_name_stops, arg_fits, arg_stops, generic_stops, is_word}
 use Rattle.syn_parts.specs.Laws.{Fitted}
 use Rattle.syn_parts.proofs.Weights.{some_is}
-use Rattle.syn_parts.proofs.Same.{both_true}
+use Rattle.syn_parts.proofs.Same.{both_true, not_true}
 use Rattle.syn_parts.proofs.Marks.{colon2_present, plus_present}
 use Rattle.syn_parts.proofs.Forms.{Refuses, behind_some, seen_some, when_refuses, mark_refuses, inside_refuses, shown_refuses, pure_refuses}
 use Rattle.syn_parts.proofs.Parts.{types_alike, type_alike, spells_is, whole_segment_alike, generic_alike, fn_arg_alike}
-use Rattle.syn_parts.proofs.ReadBack.{next_own, not_true}
+use Rattle.syn_parts.proofs.ReadBack.{next_own}
 use Rattle.syn_parts.proofs.Behind.{or_true, arguments_front, colon2_same}
 use Rattle.syn_parts.proofs.TypesBack.{types_elements, generics_elements, args_elements, bounds_elements, segments_elements, segments_count, bare_is, plus_before, fn_tokens, head_own, group_back, bound_whole, colon2_seen, plus_seen, at_most_zero, at_most_less, segments_split, suc_zero, const_step, types_end, generics_end, args_end}
 use Rattle.syn_parts.proofs.Told.{after, first_only, second_only, maybe_none, maybe_some, piece, piece_fits, flag_left, mark_tells, inside_tells, closed_tells, Told, none_told, told, Fitting, fit, listed_tells, joined_tells}
@@ -313,23 +313,23 @@ segments_pass_within (suc n) s (t.more_segments w a (t.more_segments v c ss)) m 
     let l = arguments_own c (next_own segment_own colon2_before (take n (t.segments ss)) false (alone 62 ∷ m)) in
     (rw (d, g, k, some_fit style.Type w v a l q) i, j)
 
-joined_some : (s : PathStyle) (xs : List SegmentTree) (l n : List Tok) → (joined colon2 (segment type s)).behind xs l ≡ Some n → is_end xs ≡ false
+joined_some : (s : PathStyle) (xs : List SegmentTree) (l n : List Tok) → (joined colon2 (segment type s)).behind xs l ≡ Some n → is_nil xs ≡ false
 joined_some s [] l n h = absurd cc
 joined_some s (x ∷ xs) l n h = refl
 
 segments_joined : (s : PathStyle) (xs : List SegmentTree) (r n : List Tok) → AllTold s xs → (joined colon2 (segment type s)).behind xs (elements_own segment_own colon2_before xs false r) ≡ Some n
-    → (is_end xs ≡ false) × (AllFit s r xs) × (colon2.at r ≡ false) × (n ≡ r)
+    → (is_nil xs ≡ false) × (AllFit s r xs) × (colon2.at r ≡ false) × (n ≡ r)
 segments_joined s xs r n all h = joined_tells colon2 (segment type s) segment_own (segment_fits s) (segment_stops s) colon2_before colon2_present (λ k. whole_segment_alike s) colon2_seen (λ l. refl) xs r n all h
 
 pieces_tells : (s : PathStyle) (b : Bool) (xs : List SegmentTree) (r n : List Tok) → AllTold s xs → (pieces type s).behind (b, xs) (before_if b colon2_before (elements_own segment_own colon2_before xs false r)) ≡ Some n
-    → (is_end xs ≡ false) × (AllFit s r xs) × (colon2.at r ≡ false) × (n ≡ r)
+    → (is_nil xs ≡ false) × (AllFit s r xs) × (colon2.at r ≡ false) × (n ≡ r)
 unfolding pieces
 pieces_tells s b xs r n all h =
     let l = elements_own segment_own colon2_before xs false r in
     let (i, j) = after (flag colon2) (λ y. joined colon2 (segment type s)) b xs (before_if b colon2_before l) l n (λ m d. flag_left colon2 colon2_before b l m (colon2_seen l) refl d) h in
     segments_joined s xs r n all j
 
-some_segments : (ss : Segments) → is_end (t.segments ss) ≡ false → no_more_segments ss ≡ false
+some_segments : (ss : Segments) → is_nil (t.segments ss) ≡ false → no_more_segments ss ≡ false
 some_segments t.no_segments h = absurd cc
 some_segments (t.more_segments w a ss) h = refl
 
@@ -365,7 +365,7 @@ drop_told zero xs a = a
 drop_told (suc k) [] a = none_told
 drop_told (suc k) (x ∷ xs) (told h a) = drop_told k xs a
 
-left_some : {A : Type 0} (n : ℕ) (xs : List A) → is_end (drop n xs) ≡ false → nat_lt n (length xs) ≡ true
+left_some : {A : Type 0} (n : ℕ) (xs : List A) → is_nil (drop n xs) ≡ false → nat_lt n (length xs) ≡ true
 left_some zero [] h = absurd cc
 left_some (suc n) [] h = absurd cc
 left_some zero (x ∷ xs) h = grind (arith, nat_tests)
@@ -382,7 +382,7 @@ abbrev selfed : PathStyle → Form ((TypeTree × Option (Bool × List SegmentTre
 selfed s = both (closed_by gt in_less) (behind_less s)
 
 -- some segments stand inside, and some behind
-inside_some : (s : PathStyle) (x : TypeTree) (c : Bool) (xs ys : List SegmentTree) (l n : List Tok) → (selfed s).behind ((x, Some (c, xs)), ys) l ≡ Some n → (is_end xs ≡ false) × (is_end ys ≡ false)
+inside_some : (s : PathStyle) (x : TypeTree) (c : Bool) (xs ys : List SegmentTree) (l n : List Tok) → (selfed s).behind ((x, Some (c, xs)), ys) l ≡ Some n → (is_nil xs ≡ false) × (is_nil ys ≡ false)
 unfolding pieces
 inside_some s x c xs ys l n h =
     let (m, e, j) = behind_some ((closed_by gt in_less).behind (x, Some (c, xs)) l) ((behind_less s).behind ys) n h in
@@ -394,7 +394,7 @@ inside_some s x c xs ys l n h =
     let (w, y, z) = behind_some ((flag colon2).behind c (drop 1 p)) ((joined colon2 (segment type style.Type)).behind xs) o v in
     (joined_some style.Type xs w o z, joined_some s ys (drop 2 m) n i)
 
-chosen : {A : Type 0} (b : Bool) (x : A) (f : A → Option (List Tok)) (n : List Tok) → seen (cond b (Some x) None) f ≡ Some n → (b ≡ true) × (f x ≡ Some n)
+chosen : {A : Type 0} (b : Bool) (x : A) (f : A → Option (List Tok)) (n : List Tok) → then_behind (cond b (Some x) None) f ≡ Some n → (b ≡ true) × (f x ≡ Some n)
 chosen true x f n h = (refl, h)
 chosen false x f n h = absurd cc
 
@@ -490,7 +490,7 @@ module _ (s : PathStyle) (x : TypeTree) (ss : Segments) (only : (k m : List Tok)
       let fewer : nat_lt n (count_segments ss) ≡ true = subst (λ z. nat_lt n z ≡ true) (sym (segments_count ss)) (left_some n (t.segments ss) f) in
       by_number n e (not_true e c) d fewer i
     where
-      by_number : (n : ℕ) (e : Bool) → e ≡ false → is_end (take n (t.segments ss)) ≡ false → nat_lt n (count_segments ss) ≡ true
+      by_number : (n : ℕ) (e : Bool) → e ≡ false → is_nil (take n (t.segments ss)) ≡ false → nat_lt n (count_segments ss) ≡ true
           → (selfed s).behind ((x, Some (l, take n (t.segments ss))), drop n (t.segments ss)) (self_own (at_most n (count_segments ss)) l e r) ≡ Some m
           → Fitted (SelfFits n true l e (at_most n (count_segments ss))) (PathStops s ss r) r m
       by_number n true c d fewer h = absurd cc
@@ -498,9 +498,6 @@ module _ (s : PathStyle) (x : TypeTree) (ss : Segments) (only : (k m : List Tok)
       by_number (suc n) false c d fewer h = qself_some n l r m fewer h
 
 -- ---- a path or a macro
-
-and_four : (a b c d : Bool) → (a && b) ≡ true → (c && d) ≡ true → ((a && (b && c)) ≡ true)
-and_four a b c d h i = let (e, f) = both_true a b h in let (g, j) = both_true c d i in rw (e, f, g) refl
 
 named_tells : (q : QSelfTree) (d : Bool) (ss : Segments) (e fits : Bool) (l r n : List Tok)
     → ((m : List Tok) → (qpath type style.Type).behind (q, record { leading = d; segments = t.segments ss; trailing = e }) l ≡ Some m → Fitted fits (PathStops style.Type ss r) r m)
@@ -574,7 +571,7 @@ bounds_tells true bs false r n all h =
     let (u, v) = bounds_pass bs r f in
     record { passes = rw (some_bounds bs a) u; ends = rw (v, c) refl; same = d }
   where
-    some_bounds : (bs : Bounds) → is_end (t.bounds bs) ≡ false → no_more_bounds bs ≡ false
+    some_bounds : (bs : Bounds) → is_nil (t.bounds bs) ≡ false → no_more_bounds bs ≡ false
     some_bounds t.no_bounds h = absurd cc
     some_bounds (t.more_bounds x xs) h = refl
 bounds_tells false t.no_bounds e r n all h = absurd cc

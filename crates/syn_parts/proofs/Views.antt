@@ -8,12 +8,9 @@ use Rattle.syn_parts.specs.Tree as t
 use Rattle.syn_parts.specs.Tree.{AttributeTree, LifetimesTree, TypeTree, SegmentTree, PathTree, FnArgTree, ArgumentsTree, GenericTree, ReturnTree, BoundTree, LitTree}
 use Rattle.syn_parts.specs.Part.{to_outer, from_outer, to_inner, from_inner, to_path, from_path, to_angle, from_angle, to_round, from_round, has_none, to_segment, from_segment, from_lifetime, from_const, to_assoc, from_assoc, from_type, to_trait, from_trait, from_outlives, to_one, from_one, to_several, from_several, Qualified, QPathTree, to_qualified, qualified_by, from_qualified, to_bare, from_bare, MacroEnd, to_named, from_named, to_reference, from_reference, to_pointer, from_pointer, to_row, from_row, to_tuple, tuple_of, from_tuple, to_impl, from_impl, to_object, from_object, is_never, is_infer, to_arg, from_arg, FnHead, to_fn, from_fn, from_given, is_default, to_macro, from_macro}
 use Rattle.syn_parts.proofs.Weights.{some_is}
-use Rattle.syn_parts.proofs.Same.{both_true}
+use Rattle.syn_parts.proofs.Same.{both_true, not_true}
 use Rattle.syn_parts.proofs.Forms.{Sees, Only}
-
-not_true : (b : Bool) → not b ≡ true → b ≡ false
-not_true true h = absurd cc
-not_true false h = refl
+use Rattle.syn_parts.proofs.Trees.{args-args_of, args_of-args, bounds-bounds_of, bounds_of-bounds, generics-generics_of, generics_of-generics, segments-segments_of, segments_of-segments, types-types_of, types_of-types}
 
 -- ---- attributes and paths
 
@@ -44,17 +41,17 @@ sees_segment = record { there = λ x. refl; back = λ y x h. ap to_segment (sym 
 -- ---- arguments
 
 pub sees_angle : Sees to_angle from_angle
-sees_angle = record { there = λ x. rw (t.generics-generics_of x.1.0) refl; back = back }
+sees_angle = record { there = λ x. rw (generics-generics_of x.1.0) refl; back = back }
   where
     back : (y : ArgumentsTree) (x : Bool × (List GenericTree × Bool)) → from_angle y ≡ Some x → to_angle x ≡ y
-    back (t.angle c gs e) x h = ap to_angle (sym (some_is h)) ∙ ap (λ z. t.angle c z e) (t.generics_of-generics gs)
+    back (t.angle c gs e) x h = ap to_angle (sym (some_is h)) ∙ ap (λ z. t.angle c z e) (generics_of-generics gs)
     back _ x h = absurd cc
 
 pub sees_round : Sees to_round from_round
-sees_round = record { there = λ x. rw (t.types-types_of x.0.0) refl; back = back }
+sees_round = record { there = λ x. rw (types-types_of x.0.0) refl; back = back }
   where
     back : (y : ArgumentsTree) (x : (List TypeTree × Bool) × ReturnTree) → from_round y ≡ Some x → to_round x ≡ y
-    back (t.round ts e r) x h = ap to_round (sym (some_is h)) ∙ ap (λ z. t.round z e r) (t.types_of-types ts)
+    back (t.round ts e r) x h = ap to_round (sym (some_is h)) ∙ ap (λ z. t.round z e r) (types_of-types ts)
     back _ x h = absurd cc
 
 pub only_no_arguments : Only t.no_arguments has_none
@@ -95,10 +92,10 @@ sees_type = record { there = λ x. refl; back = back }
 -- ---- bounds
 
 pub sees_trait : Sees to_trait from_trait
-sees_trait = record { there = λ x. rw (t.segments-segments_of x.1.1.segments) refl; back = back }
+sees_trait = record { there = λ x. rw (segments-segments_of x.1.1.segments) refl; back = back }
   where
     back : (y : BoundTree) (x : Bool × (Option LifetimesTree × PathTree)) → from_trait y ≡ Some x → to_trait x ≡ y
-    back (t.a_trait q f b ss e) x h = ap to_trait (sym (some_is h)) ∙ ap (λ z. t.a_trait q f b z e) (t.segments_of-segments ss)
+    back (t.a_trait q f b ss e) x h = ap to_trait (sym (some_is h)) ∙ ap (λ z. t.a_trait q f b z e) (segments_of-segments ss)
     back _ x h = absurd cc
 
 pub sees_outlives : Sees t.outlives from_outlives
@@ -230,25 +227,25 @@ sees_tuple = record { there = there; back = back }
     there ([], c) = refl
     there (u ∷ [], true) = refl
     there (u ∷ [], false) = refl
-    there (u ∷ v ∷ ts, c) = rw (t.types-types_of ts) refl
+    there (u ∷ v ∷ ts, c) = rw (types-types_of ts) refl
 
     back : (y : TypeTree) (x : List TypeTree × Bool) → from_tuple y ≡ Some x → to_tuple x ≡ y
-    back (t.tuple ts c) x h = tuple_back (t.types ts) c x h ∙ ap (λ z. t.tuple z c) (t.types_of-types ts)
+    back (t.tuple ts c) x h = tuple_back (t.types ts) c x h ∙ ap (λ z. t.tuple z c) (types_of-types ts)
     back (t.paren u) x h = ap to_tuple (sym (some_is h))
     back _ x h = absurd cc
 
 pub sees_impl : Sees to_impl from_impl
-sees_impl = record { there = λ x. rw (t.bounds-bounds_of x.0) refl; back = back }
+sees_impl = record { there = λ x. rw (bounds-bounds_of x.0) refl; back = back }
   where
     back : (y : TypeTree) (x : List BoundTree × Bool) → from_impl y ≡ Some x → to_impl x ≡ y
-    back (t.impl_trait bs e) x h = ap to_impl (sym (some_is h)) ∙ ap (λ z. t.impl_trait z e) (t.bounds_of-bounds bs)
+    back (t.impl_trait bs e) x h = ap to_impl (sym (some_is h)) ∙ ap (λ z. t.impl_trait z e) (bounds_of-bounds bs)
     back _ x h = absurd cc
 
 pub sees_object : Sees to_object from_object
-sees_object = record { there = λ x. rw (t.bounds-bounds_of x.0) refl; back = back }
+sees_object = record { there = λ x. rw (bounds-bounds_of x.0) refl; back = back }
   where
     back : (y : TypeTree) (x : List BoundTree × Bool) → from_object y ≡ Some x → to_object x ≡ y
-    back (t.trait_object bs e) x h = ap to_object (sym (some_is h)) ∙ ap (λ z. t.trait_object z e) (t.bounds_of-bounds bs)
+    back (t.trait_object bs e) x h = ap to_object (sym (some_is h)) ∙ ap (λ z. t.trait_object z e) (bounds_of-bounds bs)
     back _ x h = absurd cc
 
 pub only_never : Only t.never is_never
@@ -269,10 +266,10 @@ pub sees_arg : Sees to_arg from_arg
 sees_arg = record { there = λ x. refl; back = λ y x h. ap to_arg (sym (some_is h)) }
 
 pub sees_fn : Sees to_fn from_fn
-sees_fn = record { there = λ x. rw (t.args-args_of x.1.0.0) refl; back = back }
+sees_fn = record { there = λ x. rw (args-args_of x.1.0.0) refl; back = back }
   where
     back : (y : TypeTree) (x : FnHead × ((List FnArgTree × Bool) × ReturnTree)) → from_fn y ≡ Some x → to_fn x ≡ y
-    back (t.fn_ptr f u a xs e r) x h = ap to_fn (sym (some_is h)) ∙ ap (λ z. t.fn_ptr f u a z e r) (t.args_of-args xs)
+    back (t.fn_ptr f u a xs e r) x h = ap to_fn (sym (some_is h)) ∙ ap (λ z. t.fn_ptr f u a z e r) (args_of-args xs)
     back _ x h = absurd cc
 
 pub sees_given : Sees t.given from_given
@@ -290,15 +287,15 @@ only_default = record { itself = refl; only = only }
     only (t.given u) h = absurd cc
 
 pub named_back : (y : TypeTree) (x : QPathTree × MacroEnd) → from_named y ≡ Some x → to_named x ≡ y
-named_back (t.path q b ss e) x h = ap to_named (sym (some_is h)) ∙ ap (λ z. t.path q b z e) (t.segments_of-segments ss)
-named_back (t.mac b ss e d ts) x h = ap to_named (sym (some_is h)) ∙ ap (λ z. t.mac b z e d ts) (t.segments_of-segments ss)
+named_back (t.path q b ss e) x h = ap to_named (sym (some_is h)) ∙ ap (λ z. t.path q b z e) (segments_of-segments ss)
+named_back (t.mac b ss e d ts) x h = ap to_named (sym (some_is h)) ∙ ap (λ z. t.mac b z e d ts) (segments_of-segments ss)
 named_back _ x h = absurd cc
 
 pub named_there : (q : t.QSelfTree) (p : PathTree) → from_named (to_named ((q, p), None)) ≡ Some ((q, p), None)
-named_there q p = rw (t.segments-segments_of p.segments) refl
+named_there q p = rw (segments-segments_of p.segments) refl
 
 pub macro_there : (p : PathTree) (g : Delimiter × List Tok) → from_named (to_named ((t.no_qself, p), Some g)) ≡ Some ((t.no_qself, p), Some g)
-macro_there p g = rw (t.segments-segments_of p.segments) refl
+macro_there p g = rw (segments-segments_of p.segments) refl
 
 pub sees_macro : Sees to_macro from_macro
 sees_macro = record { there = λ x. refl; back = λ y x h. ap to_macro (sym (some_is h)) }

@@ -12,14 +12,15 @@ use Rattle.syn_parts.specs.Part.{has_none, macro, path, qpath, output, type, Mac
 use Rattle.syn_parts.specs.Own.{alone, enclosed, before_if, colon2_before, segments_own, path_own, qualified_own, macro_own, return_own, count_segments, no_more_segments}
 use Rattle.syn_parts.specs.Fits.{goes_over, path_fits, path_stops, qpath_fits, macro_fits, is_macro_delimiter, output_fits, output_stops, segments_fit, segments_stop, arguments_fit, arguments_stop, qself_fits}
 use Rattle.syn_parts.specs.Laws.{IsExact, PartsAreExact, PartsAreReadBack}
-use Rattle.syn_parts.proofs.Same.{both_true}
+use Rattle.syn_parts.proofs.Same.{both_true, not_true}
 use Rattle.syn_parts.proofs.Forms.{Alike, weaker}
 use Rattle.syn_parts.proofs.Parts.{name_alike, lifetime_alike, lit_alike, unsigned_alike, attribute_alike, outer_attributes_alike, inner_attributes_alike, block_alike, lifetimes_alike, macro_alike, whole_path_alike, whole_segment_alike, qpath_alike, arguments_alike, generic_alike, assoc_alike, angle_alike, angle_bracketed_alike, parenthesized_alike, fn_arg_alike, abi_alike, mutability_alike, trait_bound_alike, bounds_alike, bound_alike, output_alike, type_alike, types_alike}
-use Rattle.syn_parts.proofs.ReadBack.{not_true, name_back, lifetime_back, lit_back, attribute_back, block_back}
+use Rattle.syn_parts.proofs.ReadBack.{name_back, lifetime_back, lit_back, attribute_back, block_back}
 use Rattle.syn_parts.proofs.SimpleTold.{unsigned_back, of_kind_back}
 use Rattle.syn_parts.proofs.MoreBack.{abi_back, mutability_back, arguments_again, in_angle_back, in_round_back, angle_back, segment_back, generic_again, assoc_back, arg_back, trait_back, bounds_back}
 use Rattle.syn_parts.proofs.LitKinds.{of_kind_alike}
 use Rattle.syn_parts.proofs.TypesBack.{lifetimes_back, path_back, qpath_back, type_back, bound_back, group_back}
+use Rattle.syn_parts.proofs.Trees.{segments-segments_of}
 
 pub exact : {A : Type 0} (f : Form A) → Alike 0 f f → IsExact f
 exact f a l x n = (a.sound l x n, a.complete l x n)
@@ -64,7 +65,7 @@ path_at s l true xs r f c = absurd cc
 path_at s l false xs r f c =
     let (g, h) = both_true (not (no_more_segments (t.segments_of xs))) _ f in
     let (i, j) = both_true (segments_stop s (t.segments_of xs) r) (not (colon2.at r)) c in
-    subst (λ ys. (path type s).behind (record { leading = l; segments = ys; trailing = false }) (before_if l colon2_before (segments_own 0 (t.segments_of xs) false r)) ≡ Some r) (t.segments-segments_of xs)
+    subst (λ ys. (path type s).behind (record { leading = l; segments = ys; trailing = false }) (before_if l colon2_before (segments_own 0 (t.segments_of xs) false r)) ≡ Some r) (segments-segments_of xs)
     (path_back s l (t.segments_of xs) r (not_true (no_more_segments (t.segments_of xs)) g) h i (not_true (colon2.at r) j))
 
 qpath_at : (s : PathStyle) (q : t.QSelfTree) (l e : Bool) (xs : List SegmentTree) (r : List Tok) → qpath_fits s (q, record { leading = l; segments = xs; trailing = e }) ≡ true → path_stops s (record { leading = l; segments = xs; trailing = e }) r ≡ true
@@ -74,7 +75,7 @@ qpath_at s q l false xs r f c =
     let (g, h) = both_true (not (no_more_segments (t.segments_of xs))) _ f in
     let (k, m) = both_true (qself_fits q l (count_segments (t.segments_of xs))) _ h in
     let (i, j) = both_true (segments_stop s (t.segments_of xs) r) (not (colon2.at r)) c in
-    subst (λ ys. (qpath type s).behind (q, record { leading = l; segments = ys; trailing = false }) (qualified_own (q, record { leading = l; segments = xs; trailing = false }) r) ≡ Some r) (t.segments-segments_of xs)
+    subst (λ ys. (qpath type s).behind (q, record { leading = l; segments = ys; trailing = false }) (qualified_own (q, record { leading = l; segments = xs; trailing = false }) r) ≡ Some r) (segments-segments_of xs)
     (qpath_back s q l (t.segments_of xs) r (not_true (no_more_segments (t.segments_of xs)) g) k m i (not_true (colon2.at r) j))
 
 -- no segment of a macro's path has arguments, so each stops at `!`

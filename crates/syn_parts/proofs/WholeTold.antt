@@ -17,11 +17,12 @@ use Rattle.syn_parts.proofs.TypesBack.{group_back}
 use Rattle.syn_parts.proofs.Told.{after}
 use Rattle.syn_parts.proofs.SimpleTold.{name_told, lit_told, unsigned_told, of_kind_told, lifetimes_told, abi_told, group_told}
 use Rattle.syn_parts.proofs.TypesTold.{type_told, types_told, generics_told, arg_told, generic_told, segments_told, arguments_told, return_told, bound_told, bounds_told, bounds_tells, segment_tells, assoc_tells, in_angle_tells, round_tells, generics_listed, types_listed, default_tells, given_tells, path_tells, bare_tells, qself_tells, trait_tells}
+use Rattle.syn_parts.proofs.Trees.{bounds-bounds_of, generics-generics_of, segments-segments_of}
 
 path_told : (s : PathStyle) (l e : Bool) (xs : List SegmentTree) (r n : List Tok) → (path type s).behind (record { leading = l; segments = xs; trailing = e }) (path_own (record { leading = l; segments = xs; trailing = e }) r) ≡ Some n
     → Fitted (path_fits s (record { leading = l; segments = xs; trailing = e })) (path_stops s (record { leading = l; segments = xs; trailing = e }) r) r n
 path_told s l e xs r n h =
-    let i : (path type s).behind (record { leading = l; segments = t.segments (t.segments_of xs); trailing = e }) (path_own (record { leading = l; segments = xs; trailing = e }) r) ≡ Some n = rw (t.segments-segments_of xs) h in
+    let i : (path type s).behind (record { leading = l; segments = t.segments (t.segments_of xs); trailing = e }) (path_own (record { leading = l; segments = xs; trailing = e }) r) ≡ Some n = rw (segments-segments_of xs) h in
     path_tells s l (t.segments_of xs) e r n (segments_told s (t.segments_of xs)) i
 
 qpath_told : (s : PathStyle) (q : QSelfTree) (l e : Bool) (xs : List SegmentTree) (r n : List Tok) → (qpath type s).behind (q, record { leading = l; segments = xs; trailing = e }) (qualified_own (q, record { leading = l; segments = xs; trailing = e }) r) ≡ Some n
@@ -29,7 +30,7 @@ qpath_told : (s : PathStyle) (q : QSelfTree) (l e : Bool) (xs : List SegmentTree
 qpath_told s t.no_qself l e xs r n h = path_told s l e xs r n (bare_tells s (record { leading = l; segments = xs; trailing = e }) _ n h)
 qpath_told s (t.qself x k a) l e xs r n h =
     let ss = t.segments_of xs in
-    let i : (qpath type s).behind (t.qself x k a, record { leading = l; segments = t.segments ss; trailing = e }) (qualified_own (t.qself x k a, record { leading = l; segments = xs; trailing = e }) r) ≡ Some n = rw (t.segments-segments_of xs) h in
+    let i : (qpath type s).behind (t.qself x k a, record { leading = l; segments = t.segments ss; trailing = e }) (qualified_own (t.qself x k a, record { leading = l; segments = xs; trailing = e }) r) ≡ Some n = rw (segments-segments_of xs) h in
     qself_tells s x ss (λ o p w. type_told true x o p w) (segments_told style.Type ss) (segments_told s ss) k a l e r n i
 
 macro_told : (m : MacroTree) (r n : List Tok) → macro.behind m (macro_own m r) ≡ Some n → Fitted (macro_fits m) true r n
@@ -67,7 +68,7 @@ in_round_told (t.round xs e o) r n h =
 angle_told : (p : List GenericTree × Bool) (r n : List Tok) → (angle type).behind p (angle_own p r) ≡ Some n → Fitted (angle_fits p) true r n
 unfolding angle_bracketed sign_at
 angle_told (gs, e) r n h =
-    let i : (angle type).behind (t.generics (t.generics_of gs), e) (angle_own (gs, e) r) ≡ Some n = rw (t.generics-generics_of gs) h in
+    let i : (angle type).behind (t.generics (t.generics_of gs), e) (angle_own (gs, e) r) ≡ Some n = rw (generics-generics_of gs) h in
     in_angle_told (t.angle false (t.generics_of gs) e) r n i
 
 assoc_told : (p : Text × TypeTree) (r n : List Tok) → (assoc type).behind p (assoc_own p r) ≡ Some n → Fitted (assoc_fits p) (type_stops true p.1 r) r n
@@ -82,7 +83,7 @@ trait_told (t.a_trait q f d ss e) r n h = trait_tells q f d ss e r n (segments_t
 
 bounds_list_told : (b : Bool) (xs : List BoundTree) (e : Bool) (r n : List Tok) → (bounds type b).behind (xs, e) (bounds_list_own (xs, e) r) ≡ Some n → Fitted (bounds_list_fits b (xs, e)) (bounds_list_stops b (xs, e) r) r n
 bounds_list_told b xs e r n h =
-    let i : (bounds type b).behind (t.bounds (t.bounds_of xs), e) (bounds_list_own (xs, e) r) ≡ Some n = rw (t.bounds-bounds_of xs) h in
+    let i : (bounds type b).behind (t.bounds (t.bounds_of xs), e) (bounds_list_own (xs, e) r) ≡ Some n = rw (bounds-bounds_of xs) h in
     bounds_tells b (t.bounds_of xs) e r n (bounds_told (t.bounds_of xs)) i
 
 output_told : (b : Bool) (o : ReturnTree) (r n : List Tok) → (output type b).behind o (return_own o r) ≡ Some n → Fitted (output_fits b o) (output_stops b o r) r n

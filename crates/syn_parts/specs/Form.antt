@@ -69,14 +69,10 @@ abbrev pub both : {A B : Type 0} → Form A → Form B → Form (A × B)
 both f g = then_by f (λ x. g)
 
 -- a part as another type shows it
-abbrev pub seen : {A : Type 0} → Option A → (A → Option (List Tok)) → Option (List Tok)
-seen (Some x) f = f x
-seen None f = None
-
 abbrev pub shown : {A B : Type 0} → (A → B) → (B → Option A) → Form A → Form B
 shown to from f = record {
   reads = λ l. and_then (f.reads l) (λ x n. Some (to x, n));
-  behind = λ y l. seen (from y) (λ x. f.behind x l);
+  behind = λ y l. then_behind (from y) (λ x. f.behind x l);
 }
 
 -- no token, and one value

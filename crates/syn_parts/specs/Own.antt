@@ -11,6 +11,7 @@ use Rattle.syn_parts.specs.Text.{Text}
 use Rattle.syn_parts.specs.Tree as t
 use Rattle.syn_parts.specs.Tree.{LitTree, AttributeTree, LifetimesTree, TypeTree, Types, QSelfTree, Segments, SegmentTree, PathTree, FnArgs, FnArgTree, ArgumentsTree, Generics, GenericTree, ReturnTree, Bounds, BoundTree}
 use Rattle.syn_parts.specs.Part.{MacroTree, QPathTree}
+use Rattle.syn_parts.specs.Form.{is_nil}
 
 -- a punct by itself, and one that the next is joined to
 abbrev pub alone : ℕ → Tok
@@ -72,10 +73,6 @@ block_own ts r = enclosed del.Brace ts r
 
 -- ---- lists
 
-abbrev pub is_end : {A : Type 0} → List A → Bool
-is_end [] = true
-is_end (x ∷ xs) = false
-
 -- a separator where there are more, or where one ends the list
 abbrev pub separated : Bool → Bool → (List Tok → List Tok) → List Tok → List Tok
 separated last e sep r = before_if (not last || e) sep r
@@ -83,7 +80,7 @@ separated last e sep r = before_if (not last || e) sep r
 -- the elements, with separators between, and perhaps one at the end
 abbrev pub elements_own : {A : Type 0} → (A → List Tok → List Tok) → (List Tok → List Tok) → List A → Bool → List Tok → List Tok
 elements_own own sep [] e r = r
-elements_own own sep (x ∷ xs) e r = own x (separated (is_end xs) e sep (elements_own own sep xs e r))
+elements_own own sep (x ∷ xs) e r = own x (separated (is_nil xs) e sep (elements_own own sep xs e r))
 
 unfoldable pub lifetimes_own : LifetimesTree → List Tok → List Tok
 lifetimes_own p r = ident (codes "for") ∷ alone 60 ∷ elements_own lifetime_own comma_before p.0 p.1 (alone 62 ∷ r)

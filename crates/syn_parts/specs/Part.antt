@@ -36,6 +36,7 @@ abbrev pub find_segment : List Tok → Outcome Text
 find_segment (ident w ∷ l) = word_if (is_segment w) w l
 find_segment _ = None
 
+-- an identifier, or a word that names a place (Rust Reference, "Simple paths")
 unfoldable pub segment_name : Form Text
 segment_name = leaf bytes_eq find_segment
 
@@ -50,9 +51,6 @@ lifetime = mark quote (leaf bytes_eq find_word)
 abbrev pub is_name_there : Test
 is_name_there (ident w ∷ l) = not (is_reserved_word w)
 is_name_there _ = false
-
-unfoldable pub name_at : Test
-name_at l = is_name_there l
 
 -- ---- literals (Rust Reference, "Literal expressions")
 
@@ -89,10 +87,6 @@ is_lit_there (ident text ∷ l) = is_truth text
 is_lit_there (punct c s ∷ l) = c == 45
 is_lit_there _ = false
 
--- a literal or a `-` stands first
-unfoldable pub lit_at : Test
-lit_at l = is_lit_there l
-
 abbrev pub string_if : Option LitKind → Text → List Tok → Outcome LitTree
 string_if (Some kind.Str) text l = Some (record { kind = kind.Str; text = text }, l)
 string_if _ text l = None
@@ -120,9 +114,6 @@ unfoldable pub string_at : Test
 string_at l = is_string_there l
 
 -- ---- tokens that are kept
-
-abbrev pub kept_in : Option (List Tok × List Tok) → Outcome (List Tok)
-kept_in o = o
 
 -- a group's inside, as it is
 unfoldable pub kept : Delimiter → Form (List Tok)
@@ -179,7 +170,7 @@ outer_attributes = more pound outer_body
 unfoldable pub inner_attributes : Form (List AttributeTree)
 inner_attributes = more pound_bang inner_body
 
--- a brace group of kept tokens
+-- a brace group of kept tokens (Rust Reference, "Block expressions")
 unfoldable pub block : Form (List Tok)
 block = kept del.Brace
 
@@ -270,6 +261,7 @@ turbofish_at l = colon2.at l && lt.at (drop 2 l)
 
 -- ---- lifetimes and bounds
 
+-- `for` `<` lifetimes `>` (Rust Reference, "Higher-ranked trait bounds")
 unfoldable pub lifetimes : Form LifetimesTree
 lifetimes = mark for_word (mark less (closed_by gt (listed comma gt.at lifetime)))
 
@@ -482,7 +474,7 @@ macro_end p = maybe (λ l. is_bare p && not_ne.at l) (mark not_ne any_group)
 
 -- `type several` is a type; behind its `impl` or `dyn` several bounds may stand, or one.
 module _ (type : Bool → Form TypeTree) where
-  -- `->` and a type, or nothing
+  -- `->` and a type, or nothing (Rust Reference, "Functions", "Function pointer types")
   unfoldable pub output : Bool → Form ReturnTree
   output several = case arrow (shown t.given from_given (type several)) (pure t.default is_default)
 
@@ -490,6 +482,7 @@ module _ (type : Bool → Form TypeTree) where
   abbrev pub assoc : Form (Text × TypeTree)
   assoc = both name (mark eq (type true))
 
+  -- an argument between `<` and `>` (Rust Reference, "Paths in expressions")
   unfoldable pub generic : Form GenericTree
   generic =
       when lifetime_at (shown t.a_lifetime from_lifetime lifetime)
@@ -497,6 +490,7 @@ module _ (type : Bool → Form TypeTree) where
       (when assoc_at (shown to_assoc from_assoc assoc)
       (shown t.a_type from_type (type true))))
 
+  -- `<` arguments `>` (Rust Reference, "Paths in expressions")
   unfoldable pub angle : Form (List GenericTree × Bool)
   angle = mark lt (closed_by gt (listed comma gt.at generic))
 
@@ -504,26 +498,28 @@ module _ (type : Bool → Form TypeTree) where
   unfoldable pub angle_bracketed : Form ArgumentsTree
   angle_bracketed = shown to_angle from_angle (both (flag colon2) angle)
 
+  -- `(` types `)`, and `->` with a type or not (Rust Reference, "Paths in types")
   unfoldable pub parenthesized : Form ArgumentsTree
   parenthesized = shown to_round from_round (both (inside del.Parenthesis (listed comma is_empty (type true))) (output false))
 
-  -- what may stand behind a segment's name
+  -- what may stand behind a segment's name (Rust Reference, "Simple paths", "Paths in expressions", "Paths in types")
   unfoldable pub arguments : PathStyle → Form ArgumentsTree
   arguments style.Mod = no_arguments
   arguments style.Expr = when turbofish_at angle_bracketed no_arguments
   arguments style.Type = when angle_at angle_bracketed (when round_at parenthesized no_arguments)
 
+  -- `super`, `self`, `crate` and `try` take no arguments (Rust Reference, "Path qualifiers").
   unfoldable pub segment : PathStyle → Form SegmentTree
   segment s = shown to_segment from_segment (then_by segment_name (λ w. when (λ l. stands_alone w) no_arguments (arguments s)))
 
-  -- `::`? and segments with `::` between
+  -- `::`? and segments with `::` between (Rust Reference, "Paths")
   unfoldable pub pieces : PathStyle → Form (Bool × List SegmentTree)
   pieces s = both (flag colon2) (joined colon2 (segment s))
 
   unfoldable pub path : PathStyle → Form PathTree
   path s = shown to_path from_path (pieces s)
 
-  -- `<` T (`as` path)? `>` `::` segments, or a path
+  -- `<` T (`as` path)? `>` `::` segments, or a path (Rust Reference, "Qualified paths")
   unfoldable pub qualified : PathStyle → Form QPathTree
   qualified s = shown to_qualified from_qualified
       (both (closed_by gt (both (type true) (maybe as_word.at (mark as_word (pieces style.Type))))) (mark colon2 (joined colon2 (segment s))))
@@ -535,7 +531,7 @@ module _ (type : Bool → Form TypeTree) where
   abbrev pub trait_bound : Form BoundTree
   trait_bound = shown to_trait from_trait (both (flag question) (both (maybe lifetimes_at lifetimes) (path style.Type)))
 
-  -- a lifetime, or a trait
+  -- a lifetime, or a trait (Rust Reference, "Trait and lifetime bounds")
   unfoldable pub bound : Form BoundTree
   bound = when lifetime_at (shown t.outlives from_outlives lifetime) trait_bound
 
@@ -558,6 +554,7 @@ module _ (type : Bool → Form TypeTree) where
   unfoldable pub tuple_or_paren : Form TypeTree
   tuple_or_paren = shown to_tuple from_tuple (listed comma is_empty (type true))
 
+  -- a name and `:` or not, and a type (Rust Reference, "Function pointer types")
   unfoldable pub fn_arg : Form FnArgTree
   fn_arg = shown to_arg from_arg (both (maybe arg_name_at (closed_by lone_colon arg_name)) (type true))
 
@@ -572,10 +569,12 @@ module _ (type : Bool → Form TypeTree) where
   unfoldable pub object : Bool → Form TypeTree
   object several = shown to_object from_object (bounds several)
 
-  -- a path or a macro
+  -- a path, or a macro (Rust Reference, "Paths in types", "Macro Invocation")
   unfoldable pub named : Form TypeTree
   named = shown to_named from_named (then_by (qpath style.Type) macro_end)
 
+  -- by what stands first: `&`, `*`, `!` (Rust Reference, "Never type"), `_` ("Inferred type"), a group, a function
+  -- pointer, `impl`, `dyn`, or a name
   unfoldable pub at_place : Bool → Form TypeTree
   at_place several =
       case and reference
@@ -589,6 +588,7 @@ module _ (type : Bool → Form TypeTree) where
       (case dynamic (object several)
       named))))))))
 
+-- a type (Rust Reference, "Type expressions")
 unfoldable pub type : Bool → Form TypeTree
 type = fix {A = λ several. TypeTree} at_place
 

@@ -1,5 +1,5 @@
 -- Patterns without guards (Rust Reference, "Patterns"): their trees, and what spells them.
-use Rattle.std.specs.Prelude.{◌≡◌, ℕ, ◌+◌, ◌-◌, ◌*◌, Bool, true, false, not, ◌||◌, ◌&&◌, ◌==◌, nat_le, nat_lt, if◌then◌else◌, List, [], ◌∷◌, drop, codes, Option, Some, None, refl}
+use Rattle.std.specs.Prelude.{◌≡◌, ℕ, ◌+◌, ◌-◌, ◌*◌, Bool, true, false, not, ◌||◌, ◌&&◌, ◌==◌, nat_le, nat_lt, if◌then◌else◌, List, [], ◌∷◌, drop, codes, Option, Some, None}
 use Rattle.std.specs.Str.{bytes_eq}
 use Rattle.syn_lexer.specs.Keywords.{is_reserved_word}
 use Rattle.syn_lexer.specs.declared.lexeme.Delimiter.{Delimiter}
@@ -10,7 +10,7 @@ use Rattle.syn_parts.specs.declared.label.PathStyle.TheVariants as style
 use Rattle.syn_parts.specs.Text.{Text, is_segment, is_truth, is_number, has_radix, byte_at}
 use Rattle.syn_parts.specs.Tree as t
 use Rattle.syn_parts.specs.Tree.{LitTree, AttributeTree, PathTree, QSelfTree, TypeTree}
-use Rattle.syn_parts.specs.Form.{Form, Outcome, Test, Mark, leaf, when, fix, mark, then_by, both, shown, pure, inside, case, group_case, flag, is_true, maybe, listed, joined}
+use Rattle.syn_parts.specs.Form.{Form, Outcome, Test, Mark, leaf, when, fix, mark, then_by, both, shown, pure, inside, case, group_case, flag, is_true, maybe, listed, joined, is_nil}
 use Rattle.syn_parts.specs.Mark.{sign, sign_at, word, brace_at, round_at, and, comma, colon, colon2, less, not_ne, mutable, constant, underscore}
 use Rattle.syn_parts.specs.Part.{name, is_name_there, lit, is_lit_there, is_literal_there, block, outer_attributes, qpath, type, QPathTree, MacroTree, any_group, is_bare}
 
@@ -134,22 +134,6 @@ fields (more_fields a f fs) = record { attrs = a; field = f } ∷ fields fs
 abbrev pub fields_of : List FieldPatTree → Fields
 fields_of [] = no_fields
 fields_of (f ∷ fs) = more_fields f.attrs f.field (fields_of fs)
-
-pub pats-pats_of : (ps : List PatTree) → pats (pats_of ps) ≡ ps
-pats-pats_of [] = refl
-pats-pats_of (p ∷ ps) = let e = pats-pats_of ps in cc
-
-pub pats_of-pats : (ps : Pats) → pats_of (pats ps) ≡ ps
-pats_of-pats no_pats = refl
-pats_of-pats (more_pats p ps) = let e = pats_of-pats ps in cc
-
-pub fields-fields_of : (fs : List FieldPatTree) → fields (fields_of fs) ≡ fs
-fields-fields_of [] = refl
-fields-fields_of (f ∷ fs) = let e = fields-fields_of fs in cc
-
-pub fields_of-fields : (fs : Fields) → fields_of (fields fs) ≡ fs
-fields_of-fields no_fields = refl
-fields_of-fields (more_fields a f fs) = let e = fields_of-fields fs in cc
 
 -- ---- marks
 
@@ -415,39 +399,42 @@ goes_on l = colon2.at l || (not_ne.at l || (brace_at l || (round_at l || dots.at
 unfoldable pub binding_at : Test
 binding_at l = by_ref.at l || (mutable.at l || (is_name_there l && not (goes_on (drop 1 l))))
 
--- a member and a single `:`
+-- a member and `:`
 unfoldable pub full_at : Test
 full_at l = (is_name_there l || is_literal_there l) && colon.at (drop 1 l)
 
 abbrev pub fields_stop : Test
 fields_stop l = is_empty l || dots.at l
 
-abbrev pub none_there : {A : Type 0} → List A → Bool
-none_there [] = true
-none_there (x ∷ xs) = false
-
 -- `pattern multi` is a pattern, with alternatives or without.
 module _ (pattern : Bool → Form PatTree) where
+  -- Rust Reference, "Reference patterns"
   unfoldable pub reference_pat : Form PatTree
   reference_pat = shown to_reference from_reference (both (flag mutable) (pattern false))
 
+  -- Rust Reference, "Tuple patterns", "Grouped patterns"
   unfoldable pub round_pat : Form PatTree
   round_pat = shown to_round from_round (listed comma is_empty (pattern true))
 
+  -- Rust Reference, "Slice patterns"
   unfoldable pub slice_pat : Form PatTree
   slice_pat = shown to_slice from_slice (listed comma is_empty (pattern true))
 
+  -- Rust Reference, "Identifier patterns"
   unfoldable pub binding : Form PatTree
   binding = shown to_binding from_binding (both (flag by_ref) (both (flag mutable) (both name (case at_sign (shown sub from_sub (pattern false)) (pure no_sub has_no_sub)))))
 
+  -- Rust Reference, "Struct patterns"
   unfoldable pub field : Form FieldPatTree
   field = shown to_field from_field (both outer_attributes
       (when full_at (shown to_full from_full (both member (mark colon (pattern true)))) (shown to_short from_short (both (flag by_ref) (both (flag mutable) name)))))
 
   -- fields, and `..` behind none or behind a comma
   unfoldable pub struct_inside : Form ((List FieldPatTree × Bool) × Bool)
-  struct_inside = then_by (listed comma fields_stop field) (λ p. when (λ l. none_there p.0 || p.1) (flag dots) (pure false not))
+  struct_inside = then_by (listed comma fields_stop field) (λ p. when (λ l. is_nil p.0 || p.1) (flag dots) (pure false not))
 
+  -- a macro, a struct, a tuple struct or a range goes on behind a path (Rust Reference, "Macro Invocation", "Struct
+  -- patterns", "Tuple struct patterns", "Range patterns")
   unfoldable pub path_end : QPathTree → Form PathEnd
   path_end q =
       when (λ l. is_bare q && not_ne.at l) (shown to_mac_end from_mac_end (mark not_ne any_group))
@@ -455,9 +442,12 @@ module _ (pattern : Bool → Form PatTree) where
       (when (λ l. unqualified q && round_at l) (shown to_tuple_end from_tuple_end (inside del.Parenthesis (listed comma is_empty (pattern true))))
       (when dots.at (shown to_range_more from_range_more range_end) (pure no_more is_no_more))))
 
+  -- Rust Reference, "Path patterns"
   unfoldable pub path_pat : Form PatTree
   path_pat = shown to_path from_path (then_by (qpath type style.Expr) path_end)
 
+  -- `_`, `const` and a block, `&`, a group, a range without a start, a literal, a name, or a path (Rust Reference,
+  -- "Wildcard pattern", "Literal patterns", "Range patterns", "Rest pattern")
   unfoldable pub single : Form PatTree
   single =
       case underscore (pure wild is_wild)
@@ -470,7 +460,7 @@ module _ (pattern : Bool → Form PatTree) where
       (when binding_at binding
       path_pat)))))))
 
-  -- `|`? single (`|` single)*
+  -- `|`? single (`|` single)* (Rust Reference, "Or-patterns")
   unfoldable pub multi : Form PatTree
   multi = shown to_or from_or (both (flag vert) (joined vert single))
 

@@ -1,5 +1,5 @@
 -- The lower parts without their places in a text: what contracts see of them, field by field.
-use Rattle.std.specs.Prelude.{◌≡◌, ℕ, Bool, List, [], ◌∷◌, Option, refl}
+use Rattle.std.specs.Prelude.{ℕ, Bool, List, [], ◌∷◌, Option}
 use Rattle.syn_lexer.specs.declared.lexeme.Delimiter.{Delimiter}
 use Rattle.syn_tokens.specs.Tok.{Tok}
 use Rattle.syn_parts.specs.declared.label.LitKind.{LitKind}
@@ -142,44 +142,3 @@ bounds (more_bounds b bs) = b ∷ bounds bs
 abbrev pub bounds_of : List BoundTree → Bounds
 bounds_of [] = no_bounds
 bounds_of (b ∷ bs) = more_bounds b (bounds_of bs)
-
--- each is the other's inverse
-pub types-types_of : (ts : List TypeTree) → types (types_of ts) ≡ ts
-types-types_of [] = refl
-types-types_of (t ∷ ts) = let e = types-types_of ts in cc
-
-pub types_of-types : (ts : Types) → types_of (types ts) ≡ ts
-types_of-types no_types = refl
-types_of-types (more_types t ts) = let e = types_of-types ts in cc
-
-pub segments-segments_of : (ss : List SegmentTree) → segments (segments_of ss) ≡ ss
-segments-segments_of [] = refl
-segments-segments_of (s ∷ ss) = let e = segments-segments_of ss in cc
-
-pub segments_of-segments : (ss : Segments) → segments_of (segments ss) ≡ ss
-segments_of-segments no_segments = refl
-segments_of-segments (more_segments w a ss) = let e = segments_of-segments ss in cc
-
-pub generics-generics_of : (gs : List GenericTree) → generics (generics_of gs) ≡ gs
-generics-generics_of [] = refl
-generics-generics_of (g ∷ gs) = let e = generics-generics_of gs in cc
-
-pub generics_of-generics : (gs : Generics) → generics_of (generics gs) ≡ gs
-generics_of-generics no_generics = refl
-generics_of-generics (more_generics g gs) = let e = generics_of-generics gs in cc
-
-pub args-args_of : (xs : List FnArgTree) → args (args_of xs) ≡ xs
-args-args_of [] = refl
-args-args_of (x ∷ xs) = let e = args-args_of xs in cc
-
-pub args_of-args : (xs : FnArgs) → args_of (args xs) ≡ xs
-args_of-args no_args = refl
-args_of-args (more_args n t xs) = let e = args_of-args xs in cc
-
-pub bounds-bounds_of : (bs : List BoundTree) → bounds (bounds_of bs) ≡ bs
-bounds-bounds_of [] = refl
-bounds-bounds_of (b ∷ bs) = let e = bounds-bounds_of bs in cc
-
-pub bounds_of-bounds : (bs : Bounds) → bounds_of (bounds bs) ≡ bs
-bounds_of-bounds no_bounds = refl
-bounds_of-bounds (more_bounds b bs) = let e = bounds_of-bounds bs in cc

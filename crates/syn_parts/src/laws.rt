@@ -76,3 +76,18 @@ pub fn type_samples()
 pub fn pattern_samples()
     ensures { sample.PatternSamples }
 {}
+
+/// A pattern of each kind, and its tree.
+pub fn pattern_kinds()
+    ensures { sample.PatternKinds }
+{}
+
+/// What is left behind a pattern, and lists that begin with none.
+pub fn pattern_rests()
+    ensures { sample.PatternRests }
+{}
+
+/// Arguments of closures.
+pub fn closure_args()
+    ensures { sample.ClosureArgs }
+{}
