@@ -14,5 +14,3 @@ by_style false ts = refl
 
 pub attribute_own-parts : (x : Attribute) → attribute_own (attribute_of x) [] ≡ alone 35 ∷ (bang_printed (is_inner x.style) ++ group del.Bracket (inside x.tokens) ∷ [])
 attribute_own-parts x = by_style (is_inner x.style) x.tokens
-
-pub ruleset attributes = (attribute_own-parts)

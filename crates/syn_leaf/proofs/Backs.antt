@@ -13,8 +13,8 @@ use Rattle.syn_parts.specs.Laws.{IsExact}
 use Rattle.syn_parts.proofs.Forms.{more_stands}
 use Rattle.syn_parts.proofs.Marks.{pound_present, pound_bang_present}
 use Rattle.syn_parts.proofs.Parts.{outer_body_alike, inner_body_alike}
-use Rattle.syn_parts.proofs.ReadBack.{kept_bracket_back, not_true}
-use Rattle.syn_parts.proofs.Same.{both_true}
+use Rattle.syn_parts.proofs.ReadBack.{kept_bracket_back}
+use Rattle.syn_parts.proofs.Same.{both_true, not_true}
 use Rattle.syn_leaf.specs.ReadBack.{all_outer, all_inner, all_printed}
 use Rattle.syn_leaf.specs.View.{is_inner, attribute_of}
 use Rattle.syn_leaf.specs.declared.attr.Attribute.{Attribute}

@@ -15,10 +15,6 @@ both_of : (a b : Bool) → a ≡ true → b ≡ true → (a && b) ≡ true
 both_of true b h k = k
 both_of false b h k = absurd cc
 
--- nothing but places
-pub token_tie : {A : Type 0} → IsEqualityOf {A = A} {B = Unit {0}} (λ x. tt) (λ x y. true)
-token_tie = record { same = λ x y. (λ h. refl, λ e. refl) }
-
 pub both_tie : {A B C : Type 0} {f : A → B} {g : A → C} {E F : A → A → Bool} → IsEqualityOf f E → IsEqualityOf g F → IsEqualityOf {B = B × C} (λ x. (f x, g x)) (λ x y. E x y && F x y)
 both_tie {A} {B} {C} {f} {g} {E} {F} t u = record {
   same = λ x y. (

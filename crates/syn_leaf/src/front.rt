@@ -218,8 +218,8 @@ pub fn not_ne(input: &mut ParseBuffer<'_>) -> Option<Not>
 /// Takes `:` that doesn't begin `::`.
 #[tactic(auto, unfolding(syn_tokens::specs::Sign::sign_text, syn_parts::specs::Mark::sign_at))]
 pub fn colon(input: &mut ParseBuffer<'_>) -> Option<Colon>
-    ensures value { Takes mark.colon input.old result input.new }
-    ensures flag { (flag mark.colon).reads input.old.rest ≡ Some (is_some result, input.new.rest) }
+    ensures value { Takes mark.lone_colon input.old result input.new }
+    ensures flag { (flag mark.lone_colon).reads input.old.rest ≡ Some (is_some result, input.new.rest) }
     ensures smaller { IfSome result (λ _. weight input.new.rest < weight input.old.rest) }
     ensures shrinks { weight input.new.rest ≤ weight input.old.rest }
 {

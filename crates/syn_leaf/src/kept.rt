@@ -1,4 +1,7 @@
-//! The readers of groups whose tokens are kept: attributes, blocks, the insides of macros, constants.
+//! The readers of groups whose tokens are kept: attributes, blocks, the insides of macros, constants. Missing brackets of
+//! an attribute are refused as `ExpectedToken` of `[`, missing braces of a block as `ExpectedToken` of `{`, a missing group
+//! of a macro as `ExpectedPart` of a macro, a missing constant as `ExpectedPart` of a literal, and a rest without tokens as
+//! `ExpectedExpression`.
 
 ghost use Rattle.std.specs.Prelude.{◌≡◌, ◌≤◌, ◌<◌, map, take, drop, nat_lt, if◌then◌else◌, Some, None, IfSome, MatchOption};
 ghost use Rattle.syn_leaf.specs.Reads.{Reads, Takes};

@@ -1,7 +1,7 @@
-//! The readers of the parts that hold no others.
+//! The readers of the parts that hold no others. A missing lifetime or identifier is refused as `ExpectedToken` of it, a
+//! missing literal as `ExpectedPart` of a literal, and a missing word of a segment as `ExpectedPart` of a path.
 
 ghost use Rattle.std.specs.Prelude.{IfErr, ◌≡◌, ◌≤◌, ◌∷◌, drop, true, false, IfOk, MatchOption, Some, None};
-ghost use Rattle.syn_lexer.specs.declared.lexeme.Delimiter.TheVariants as del;
 ghost use Rattle.syn_leaf.specs.Reads.{Reads};
 ghost use Rattle.syn_leaf.specs.View.{lifetime_of, lit_of, lit_str_of, signed};
 ghost use Rattle.syn_parts.specs.Mark as mark;
@@ -9,6 +9,7 @@ ghost use Rattle.syn_parts.specs.Part as part;
 ghost use Rattle.syn_parts.specs.Text as text;
 ghost use Rattle.syn_tokens.specs.Tok as tok;
 ghost use Rattle.syn_tokens.specs.Tok.{weight};
+ghost use Rattle.syn_tokens.specs.View.{toks_of};
 
 use crate::lifetime::Lifetime;
 use crate::lit::{Lit, LitBool, LitByte, LitByteStr, LitCStr, LitChar, LitFloat, LitInt, LitStr};
@@ -17,7 +18,7 @@ use std::alloc::Global;
 use syn_lexer::reserved::is_reserved_word;
 use syn_parts::label::LitKind;
 use syn_tokens::Spacing;
-use syn_tokens::buffer::ParseBuffer;
+use syn_tokens::buffer::{ParseBuffer, Token};
 use syn_tokens::copy::{copy_ident, copy_literal};
 use syn_tokens::error::{ErrorKind, Expected, Part, Result, Wanted};
 use syn_tokens::span::Span;
@@ -26,10 +27,10 @@ use syn_tokens::tree::{Ident, Literal, TokenTree};
 
 /// The place of the apostrophe and the word of a lifetime that stands first.
 #[tactic(auto, unfolding(syn_parts::specs::Mark::lifetime_at))]
-fn quoted<'a>(input: &ParseBuffer<'a>) -> Option<(Span, &'a Ident)>
-    ensures { MatchOption result (mark.lifetime_at input.now.rest ≡ false) (λ q. (mark.lifetime_at input.now.rest ≡ true) × (drop 1 input.now.rest ≡ tok.ident q.1.now ∷ drop 2 input.now.rest)) }
+fn quoted<'a>(rest: &'a [TokenTree]) -> Option<(Span, &'a Ident)>
+    ensures { MatchOption result (mark.lifetime_at (toks_of rest.now) ≡ false) (λ q. (mark.lifetime_at (toks_of rest.now) ≡ true) × (drop 1 (toks_of rest.now) ≡ tok.ident q.1.now ∷ drop 2 (toks_of rest.now))) }
 {
-    match input.trees() {
+    match rest {
         [TokenTree::Punct(quote), more @ ..]
             if quote.ch == '\'' && quote.spacing == Spacing::Joint => {
             match more {
@@ -41,11 +42,19 @@ fn quoted<'a>(input: &ParseBuffer<'a>) -> Option<(Span, &'a Ident)>
     }
 }
 
+impl Token for Lifetime {
+    ghost sees = { mark.lifetime_at };
+
+    fn peek(rest: &[TokenTree]) -> bool {
+        quoted(rest).is_some()
+    }
+}
+
 /// Whether a lifetime stands first.
 pub fn lifetime_at(input: &ParseBuffer<'_>) -> bool
     ensures { result ≡ mark.lifetime_at input.now.rest }
 {
-    quoted(input).is_some()
+    input.peek::<Lifetime>()
 }
 
 /// Reads a lifetime.
@@ -55,7 +64,7 @@ pub fn lifetime(input: &mut ParseBuffer<'_>) -> Result<Lifetime>
     ensures noted { input.new.noted ≡ input.old.noted }
     ensures shrinks { weight input.new.rest ≤ weight input.old.rest }
 {
-    let Some((apostrophe, word)) = quoted(input) else {
+    let Some((apostrophe, word)) = quoted(input.trees()) else {
         return Err(input.error(ErrorKind::ExpectedToken(Expected::One(Wanted::Lifetime))));
     };
     let ident = copy_ident(input.alloc(), word)?;
@@ -169,12 +178,15 @@ pub fn string(input: &mut ParseBuffer<'_>) -> Result<LitStr>
     }
 }
 
-/// Whether a literal token stands first.
-#[tactic(auto, unfolding(syn_parts::specs::Part::literal_at))]
-pub fn literal_at(input: &ParseBuffer<'_>) -> bool
-    ensures { result ≡ part.literal_at input.now.rest }
+/// Whether a string literal stands first.
+#[tactic(auto, unfolding(syn_parts::specs::Part::string_at))]
+pub fn string_at(input: &ParseBuffer<'_>) -> bool
+    ensures { result ≡ part.string_at input.now.rest }
 {
-    matches!(input.first(), Some(TokenTree::Literal(_)))
+    match input.first() {
+        Some(TokenTree::Literal(literal)) => kind_of(literal.as_str()) == Some(LitKind::Str),
+        _ => false,
+    }
 }
 
 /// Reads an identifier.

@@ -1,6 +1,6 @@
 //! Literals (Rust Reference, "Literal expressions").
 
-ghost use Rattle.std.specs.Prelude.{◌≡◌, true, ◌++◌, [], ◌∷◌, IfErr, OnOk, OnErr};
+ghost use Rattle.std.specs.Prelude.{◌≡◌, true, ◌++◌, [], IfErr, OnOk, OnErr};
 ghost use Rattle.syn_leaf.specs.Printed.{number_printed};
 ghost use Rattle.syn_parts.specs.Text.{is_number};
 ghost use Rattle.syn_tokens.specs.Input.{IsFront};

@@ -117,7 +117,8 @@ impl Parse for LitStr {
 
     ghost least = { 1 };
 
-    /// Reads a string literal; it is refused as `ExpectedPart` of a literal.
+    /// Reads a string literal (Rust Reference, "String literals", "Raw string literals"); it is refused as
+    /// `ExpectedPart` of a literal.
     fn parse(input: &mut ParseBuffer<'_>) -> Result<Self> {
         ahead(input)
     }
@@ -154,7 +155,8 @@ impl Parse for LitByteStr {
 
     ghost least = { 1 };
 
-    /// Reads a byte string literal; it is refused as `ExpectedPart` of a literal.
+    /// Reads a byte string literal (Rust Reference, "Byte string literals", "Raw byte string literals"); it is refused
+    /// as `ExpectedPart` of a literal.
     fn parse(input: &mut ParseBuffer<'_>) -> Result<Self> {
         ahead(input)
     }
@@ -191,7 +193,8 @@ impl Parse for LitCStr {
 
     ghost least = { 1 };
 
-    /// Reads a C string literal; it is refused as `ExpectedPart` of a literal.
+    /// Reads a C string literal (Rust Reference, "C string literals", "Raw C string literals"); it is refused as
+    /// `ExpectedPart` of a literal.
     fn parse(input: &mut ParseBuffer<'_>) -> Result<Self> {
         ahead(input)
     }
@@ -228,7 +231,7 @@ impl Parse for LitByte {
 
     ghost least = { 1 };
 
-    /// Reads a byte literal; it is refused as `ExpectedPart` of a literal.
+    /// Reads a byte literal (Rust Reference, "Byte literals"); it is refused as `ExpectedPart` of a literal.
     fn parse(input: &mut ParseBuffer<'_>) -> Result<Self> {
         ahead(input)
     }
@@ -265,7 +268,7 @@ impl Parse for LitChar {
 
     ghost least = { 1 };
 
-    /// Reads a character literal; it is refused as `ExpectedPart` of a literal.
+    /// Reads a character literal (Rust Reference, "Character literals"); it is refused as `ExpectedPart` of a literal.
     fn parse(input: &mut ParseBuffer<'_>) -> Result<Self> {
         ahead(input)
     }
@@ -302,7 +305,8 @@ impl Parse for LitInt {
 
     ghost least = { 1 };
 
-    /// Reads an integer literal without a sign; it is refused as `ExpectedPart` of a literal.
+    /// Reads an integer literal without a sign (Rust Reference, "Integer literals"); it is refused as `ExpectedPart` of
+    /// a literal.
     fn parse(input: &mut ParseBuffer<'_>) -> Result<Self> {
         ahead(input)
     }
@@ -339,7 +343,8 @@ impl Parse for LitFloat {
 
     ghost least = { 1 };
 
-    /// Reads a floating-point literal without a sign; it is refused as `ExpectedPart` of a literal.
+    /// Reads a floating-point literal without a sign (Rust Reference, "Floating-point literals"); it is refused as
+    /// `ExpectedPart` of a literal.
     fn parse(input: &mut ParseBuffer<'_>) -> Result<Self> {
         ahead(input)
     }
@@ -376,7 +381,7 @@ impl Parse for LitBool {
 
     ghost least = { 1 };
 
-    /// Reads `true` or `false`; it is refused as `ExpectedPart` of a literal.
+    /// Reads `true` or `false` (Rust Reference, "Literal expressions"); it is refused as `ExpectedPart` of a literal.
     fn parse(input: &mut ParseBuffer<'_>) -> Result<Self> {
         ahead(input)
     }
@@ -410,7 +415,8 @@ impl Parse for Block {
 
     ghost least = { 1 };
 
-    /// Reads a block, whose inside is kept as tokens; it is refused as `ExpectedToken` of `{`.
+    /// Reads a block, whose inside is kept as tokens (Rust Reference, "Block expressions"); it is refused as
+    /// `ExpectedToken` of `{`.
     fn parse(input: &mut ParseBuffer<'_>) -> Result<Self> {
         ahead(input)
     }
@@ -418,7 +424,8 @@ impl Parse for Block {
 
 impl Attribute {
     /// Reads the outer attributes that stand first, as many as there are (Rust Reference, "Attributes"). They are read
-    /// exactly where they stand, unless memory runs out; where they are refused the input stays where it was.
+    /// exactly where they stand, unless memory runs out; a `#` without brackets behind it is refused as `ExpectedToken`
+    /// of `[`. Where they are refused the input stays where it was.
     #[tactic(auto, using(crate::proofs::ReadingAttributes::outer_reading))]
     pub fn parse_outer(input: &mut ParseBuffer<'_>) -> Result<Vec<Attribute>>
         ensures value { Reads (λ v. map attribute_of v.items) (part.outer_attributes.reads input.old.rest) result input.new.rest }
@@ -428,18 +435,14 @@ impl Attribute {
         ensures moves { IfOk result (λ x. weight input.new.rest ≤ weight input.old.rest) }
     {
         let mut ahead = input.fork()?;
-        let x = match outer_attributes(&mut ahead) {
-            Ok(x) => x,
-            Err(e) => return Err(e),
-        };
+        let x = outer_attributes(&mut ahead)?;
         input.advance_to(&ahead);
         Ok(x)
     }
-}
 
-impl Attribute {
     /// Reads the inner attributes that stand first, as many as there are (Rust Reference, "Attributes"). They are read
-    /// exactly where they stand, unless memory runs out; where they are refused the input stays where it was.
+    /// exactly where they stand, unless memory runs out; a `#` and a `!` without brackets behind them are refused as
+    /// `ExpectedToken` of `[`. Where they are refused the input stays where it was.
     #[tactic(auto, using(crate::proofs::ReadingAttributes::inner_reading))]
     pub fn parse_inner(input: &mut ParseBuffer<'_>) -> Result<Vec<Attribute>>
         ensures value { Reads (λ v. map attribute_of v.items) (part.inner_attributes.reads input.old.rest) result input.new.rest }
@@ -449,10 +452,7 @@ impl Attribute {
         ensures moves { IfOk result (λ x. weight input.new.rest ≤ weight input.old.rest) }
     {
         let mut ahead = input.fork()?;
-        let x = match inner_attributes(&mut ahead) {
-            Ok(x) => x,
-            Err(e) => return Err(e),
-        };
+        let x = inner_attributes(&mut ahead)?;
         input.advance_to(&ahead);
         Ok(x)
     }

@@ -1,6 +1,9 @@
 //! The printers of the parts that hold no others: each writes its own spelling, the last punct of each token alone.
 
-ghost use Rattle.std.specs.Prelude.{[]};
+ghost use Rattle.std.specs.Prelude.{◌≡◌, ◌++◌, [], IfErr, OnOk, OnErr};
+ghost use Rattle.syn_leaf.specs.Printed.{bang_printed};
+ghost use Rattle.syn_leaf.specs.View.{is_inner};
+ghost use Rattle.syn_tokens.specs.Input.{IsFront};
 
 use crate::attr::{AttrStyle, Attribute};
 use crate::block::Block;
@@ -8,7 +11,7 @@ use crate::lifetime::Lifetime;
 use syn_tokens::Spacing;
 use syn_tokens::buffer::ToTokens;
 use syn_tokens::copy::copy_trees;
-use syn_tokens::error::Result;
+use syn_tokens::error::{ErrorKind, Result};
 use syn_tokens::tree::{Punct, TokenStream, TokenTree};
 
 impl ToTokens for Lifetime {
@@ -28,18 +31,16 @@ impl ToTokens for Lifetime {
     }
 }
 
-impl ToTokens for AttrStyle {
-    ghost use Rattle.syn_leaf.specs.View.{is_inner};
-    ghost use Rattle.syn_leaf.specs.Printed.{bang_printed};
-
-    ghost printed = { λ x. bang_printed (is_inner x) };
-
-    #[tactic(auto, using(crate::proofs::Fronts::fronts), unfolding(syn_tokens::specs::Sign::sign_text))]
-    fn to_tokens(&self, tokens: &mut TokenStream) -> Result<()> {
-        match self {
-            AttrStyle::Outer => Ok(()),
-            AttrStyle::Inner(bang) => bang.to_tokens(tokens),
-        }
+/// Prints the `!` of an inner attribute.
+#[tactic(auto, using(crate::proofs::Fronts::fronts), unfolding(syn_tokens::specs::Sign::sign_text))]
+fn print_style(style: &AttrStyle, tokens: &mut TokenStream) -> Result<()>
+    ensures ok { OnOk result (tokens.new ≡ tokens.old ++ bang_printed (is_inner style.now)) }
+    ensures err { OnErr result (IsFront tokens.old tokens.new) }
+    ensures memory { IfErr result (λ e. e.kind ≡ ErrorKind.OutOfMemory) }
+{
+    match style {
+        AttrStyle::Outer => Ok(()),
+        AttrStyle::Inner(bang) => bang.to_tokens(tokens),
     }
 }
 
@@ -52,7 +53,7 @@ impl ToTokens for Attribute {
     #[tactic(auto, using(crate::proofs::Fronts::fronts), unfolding(syn_tokens::specs::Sign::sign_text))]
     fn to_tokens(&self, tokens: &mut TokenStream) -> Result<()> {
         self.pound_token.to_tokens(tokens)?;
-        self.style.to_tokens(tokens)?;
+        print_style(&self.style, tokens)?;
         let inside = copy_trees(tokens.alloc(), self.tokens.trees())?;
         tokens.push(self.bracket_token.enclose(inside))?;
         Ok(())

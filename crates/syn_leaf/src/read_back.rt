@@ -1,7 +1,7 @@
 //! Whether literals are read back from their own tokens.
 //!
-//! A literal is read back where the grammar spells it by its own tokens; then it is read back before whatever stands behind
-//! it too (`laws::leaves_are_read_back`). Lifetimes, attributes and blocks always are, so they have no test.
+//! A literal is read back where the grammar of its type spells it by its own tokens; then it is read back before whatever
+//! stands behind it too (`laws::leaves_are_read_back`). Lifetimes, attributes and blocks always are, so they have no test.
 
 ghost use Rattle.std.specs.Prelude.{◌≡◌};
 ghost use Rattle.syn_leaf.specs.View as view;
@@ -10,7 +10,7 @@ ghost use Rattle.syn_parts.specs.Text as text;
 ghost use Rattle.syn_parts.specs.declared.label.LitKind.TheVariants as kind;
 
 use crate::lit::{Lit, LitBool, LitByte, LitByteStr, LitCStr, LitChar, LitFloat, LitInt, LitStr};
-use crate::text::{is_truth, kind_of, number_kind};
+use crate::text::{is_truth, kind_of};
 use syn_parts::label::LitKind;
 use syn_tokens::tree::Literal;
 
@@ -75,22 +75,23 @@ impl LitChar {
 }
 
 impl LitInt {
-    /// Whether its token is an integer literal.
-    #[tactic(auto, using(crate::proofs::LitFits::numbers), unfolding(syn_parts::specs::Fits::lit_fits))]
+    /// Whether its token is an integer literal and it has no sign: a number with a sign is read back as a `Lit` alone.
+    #[tactic(auto, using(crate::proofs::LitFits::unsigned_by))]
     pub fn is_read_back(&self) -> bool
-        ensures { result ≡ spec.lit_fits (view.lit_int_of self.now) }
+        ensures { result ≡ spec.of_kind_fits kind.Int (view.lit_int_of self.now) }
     {
-        number_kind(self.token.as_str()) == LitKind::Int
+        self.minus_token.is_none() && has_kind(&self.token, LitKind::Int)
     }
 }
 
 impl LitFloat {
-    /// Whether its token is a floating-point literal.
-    #[tactic(auto, using(crate::proofs::LitFits::numbers), unfolding(syn_parts::specs::Fits::lit_fits))]
+    /// Whether its token is a floating-point literal and it has no sign: a number with a sign is read back as a `Lit`
+    /// alone.
+    #[tactic(auto, using(crate::proofs::LitFits::unsigned_by))]
     pub fn is_read_back(&self) -> bool
-        ensures { result ≡ spec.lit_fits (view.lit_float_of self.now) }
+        ensures { result ≡ spec.of_kind_fits kind.Float (view.lit_float_of self.now) }
     {
-        number_kind(self.token.as_str()) == LitKind::Float
+        self.minus_token.is_none() && has_kind(&self.token, LitKind::Float)
     }
 }
 
@@ -105,7 +106,8 @@ impl LitBool {
 }
 
 impl Lit {
-    /// Whether its token is one of its kind.
+    /// Whether its token is one of its kind. A number may have a sign.
+    #[tactic(auto, using(crate::proofs::LitFits::signed_by), unfolding(syn_parts::specs::Fits::lit_fits))]
     pub fn is_read_back(&self) -> bool
         ensures { result ≡ spec.lit_fits (view.lit_of self.now) }
     {
@@ -115,8 +117,8 @@ impl Lit {
             Lit::CStr(x) => x.is_read_back(),
             Lit::Byte(x) => x.is_read_back(),
             Lit::Char(x) => x.is_read_back(),
-            Lit::Int(x) => x.is_read_back(),
-            Lit::Float(x) => x.is_read_back(),
+            Lit::Int(x) => has_kind(&x.token, LitKind::Int),
+            Lit::Float(x) => has_kind(&x.token, LitKind::Float),
             Lit::Bool(x) => x.is_read_back(),
         }
     }

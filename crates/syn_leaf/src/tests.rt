@@ -131,7 +131,7 @@ fn words_of_truth(rt: HostRuntime) -> Result<(), Fail> {
     Ok(())
 }
 
-/// As which kinds the token of a number is read back: as an integer, or as a float.
+/// As which kind a number is read back by itself: as an integer, as a float, or as neither.
 fn number_kinds(alloc: Global, text: &str) -> Result<&'static str, Error> {
     let (is_int, is_float) = match parse_str::<Lit>(alloc, text)? {
         Lit::Int(int) => {
@@ -149,13 +149,21 @@ fn number_kinds(alloc: Global, text: &str) -> Result<&'static str, Error> {
     Ok(match (is_int, is_float) {
         (true, false) => "integer",
         (false, true) => "float",
-        _ => "another",
+        (false, false) => "neither",
+        (true, true) => "both",
     })
 }
 
 #[test]
 fn numbers_by_their_kind(rt: HostRuntime) -> Result<(), Fail> {
-    for (text, kind) in [("1", "integer"), ("-0x1e5", "integer"), ("1e3", "float")] {
+    for (text, kind) in [
+        ("1", "integer"),
+        ("0x1e5", "integer"),
+        ("1e3", "float"),
+        ("-1", "neither"),
+        ("-0x1e5", "neither"),
+        ("-1e3", "neither"),
+    ] {
         assert_eq!(rt; number_kinds(rt.alloc(), text)?, kind, "of {text}");
     }
     Ok(())
