@@ -6,11 +6,16 @@ use std::alloc::Global;
 use std::test::Fail;
 use syn_leaf::attr::Attribute;
 use syn_leaf::block::Block;
+use syn_leaf::kept::any_group;
 use syn_leaf::lifetime::Lifetime;
-use syn_tokens::buffer::{ParseBuffer, ToTokens};
-use syn_tokens::error::Error;
+use syn_tokens::buffer::{Parse, ParseBuffer, ToTokens};
+use syn_tokens::error::{Error, ErrorKind, Expected, Part, Wanted};
 use syn_tokens::lex::lex;
-use syn_tokens::tree::TokenStream;
+use syn_tokens::span::Span;
+use syn_tokens::text::to_text;
+use syn_tokens::token::Group;
+use syn_tokens::tree::{Ident, Punct, TokenStream, TokenTree};
+use syn_tokens::{Delimiter, Spacing};
 
 const LIFETIMES_AT_THE_FRONT: &str = "
 'a b   | b
@@ -44,6 +49,67 @@ fn lifetimes(rt: HostRuntime) -> Result<(), Fail> {
     })
 }
 
+/// How a lifetime of an apostrophe and a word is refused; none where it is read.
+fn lifetime_refusal(alloc: Global, spacing: Spacing) -> Result<Option<Error>, Error> {
+    let mut tokens = TokenStream::new(alloc);
+    tokens.push(TokenTree::Punct(Punct {
+        ch: '\'',
+        spacing,
+        span: Span { lo: 3, hi: 4 },
+    }))?;
+    tokens.append(lex(alloc, "a")?)?;
+    let mut input = ParseBuffer::new(&tokens)?;
+    Ok(Lifetime::parse(&mut input).err())
+}
+
+#[test]
+fn an_apostrophe_by_itself_begins_no_lifetime(rt: HostRuntime) -> Result<(), Fail> {
+    let refusal = Error::new(
+        Span { lo: 3, hi: 4 },
+        ErrorKind::ExpectedToken(Expected::One(Wanted::Lifetime)),
+    );
+    assert_eq!(rt;
+        lifetime_refusal(rt.alloc(), Spacing::Alone)?,
+        Some(refusal)
+    );
+    assert_eq!(rt; lifetime_refusal(rt.alloc(), Spacing::Joint)?, None);
+    Ok(())
+}
+
+/// Whether a lifetime stands first, and whether a lifetime or an identifier stands second.
+fn peeked(alloc: Global, text: &str) -> Result<String, Error> {
+    let tokens = lex(alloc, text)?;
+    let input = ParseBuffer::new(&tokens)?;
+    let mut seen = String::new(alloc);
+    if input.peek::<Lifetime>() {
+        seen.push_str("lifetime ")?;
+    }
+    if input.peek2::<Lifetime>() {
+        seen.push_str("before lifetime")?;
+    }
+    if input.peek2::<Ident>() {
+        seen.push_str("before identifier")?;
+    }
+    Ok(seen)
+}
+
+const PEEKED: &str = "
+'a    | lifetime
+'fn   | lifetime
+a     |
+'a'   |
+      |
+'a b  | lifetime before identifier
+'a 'b | lifetime before lifetime
+a 'b  | before lifetime
+a b   | before identifier
+";
+
+#[test]
+fn lifetimes_are_peeked(rt: HostRuntime) -> Result<(), Fail> {
+    check(rt.alloc(), PEEKED, peeked)
+}
+
 const BLOCKS_AT_THE_FRONT: &str = "
 {} x     | x
 { a; b } |
@@ -66,6 +132,35 @@ fn blocks(rt: HostRuntime) -> Result<(), Fail> {
     check(alloc, "{a; b} | same", |alloc, text| {
         again::<Block, _>(alloc, text, |_| true)
     })
+}
+
+/// Tokens that are a single invisible group.
+fn invisible(alloc: Global) -> Result<TokenStream, Error> {
+    let group = Group {
+        span: Span { lo: 2, hi: 9 },
+    };
+    let mut tokens = TokenStream::new(alloc);
+    tokens.push(group.enclose(lex(alloc, "a")?))?;
+    Ok(tokens)
+}
+
+/// How a block or a macro's group is refused where an invisible group stands; none where it is read.
+fn refusals_of_invisible(alloc: Global) -> Result<(Option<Error>, Option<Error>), Error> {
+    let tokens = invisible(alloc)?;
+    let mut input = ParseBuffer::new(&tokens)?;
+    let of_block = Block::parse(&mut input).err();
+    Ok((of_block, any_group(&mut input).err()))
+}
+
+#[test]
+fn an_invisible_group_is_no_other(rt: HostRuntime) -> Result<(), Fail> {
+    let span = Span { lo: 2, hi: 9 };
+    let no_braces = ErrorKind::ExpectedToken(Expected::One(Wanted::Delimiter(Delimiter::Brace)));
+    let no_macro = ErrorKind::ExpectedPart(Part::Macro);
+    let (of_block, of_macro) = refusals_of_invisible(rt.alloc())?;
+    assert_eq!(rt; of_block, Some(Error::new(span, no_braces)));
+    assert_eq!(rt; of_macro, Some(Error::new(span, no_macro)));
+    Ok(())
 }
 
 const OUTER: &str = "
@@ -156,19 +251,40 @@ fn compared_by_each_field(rt: HostRuntime) -> Result<(), Fail> {
     })
 }
 
-/// Whether what is printed of the outer attributes of a text is read as the same.
-fn attributes_again(alloc: Global, text: &str) -> Result<String, Error> {
-    let attributes = attributes_of(alloc, text, false)?;
+/// What is printed of attributes.
+fn printed_of(alloc: Global, attributes: &[Attribute]) -> Result<TokenStream, Error> {
     let mut printed = TokenStream::new(alloc);
-    for attribute in &attributes {
+    for attribute in attributes {
         attribute.to_tokens(&mut printed)?;
     }
-    let mut input = ParseBuffer::new(&printed)?;
-    let is_same = Attribute::parse_outer(&mut input)? == attributes;
-    words(alloc, if is_same { "same" } else { "another" })
+    Ok(printed)
 }
+
+/// The text of what is printed of the attributes at the front of a text, and whether they are read of it as the same.
+fn attributes_again(alloc: Global, text: &str, are_inner: bool) -> Result<String, Error> {
+    let attributes = attributes_of(alloc, text, are_inner)?;
+    let printed = to_text(&printed_of(alloc, &attributes)?)?;
+    let is_same = attributes_of(alloc, printed.as_str(), are_inner)? == attributes;
+    let verdict = if is_same { "same" } else { "another" };
+    Ok(format!(in alloc; "{printed} {verdict}")?)
+}
+
+const PRINTED_OUTER: &str = "
+#[b = c]      | # [b = c] same
+#[a] #[b = c] | # [a] # [b = c] same
+";
+
+const PRINTED_INNER: &str = "
+#![a]           | # ! [a] same
+#![a] #![b = c] | # ! [a] # ! [b = c] same
+";
 
 #[test]
 fn attributes_are_read_back(rt: HostRuntime) -> Result<(), Fail> {
-    check(rt.alloc(), "#[a] #[b = c] | same", attributes_again)
+    check(rt.alloc(), PRINTED_OUTER, |alloc, text| {
+        attributes_again(alloc, text, false)
+    })?;
+    check(rt.alloc(), PRINTED_INNER, |alloc, text| {
+        attributes_again(alloc, text, true)
+    })
 }

@@ -1,7 +1,7 @@
 //! What no clause says of literals: what is printed of them, which reader takes which, their refusals, and which are
 //! equal or read back.
 
-use rows::{again, check, compared, printed, words};
+use rows::{again, check, compared, left, printed, verdict, words};
 use std::alloc::Global;
 use std::test::Fail;
 use syn_leaf::lit::{
@@ -29,6 +29,7 @@ true    | true
 a       | 0..1 expected a literal
 x       | 0..1 expected a literal
 - x     | 0..1 expected a literal
+-"x"    | 0..1 expected a literal
 -true   | 0..1 expected a literal
 1 2     | 2..3 unexpected token
 "##;
@@ -80,22 +81,60 @@ const INTEGERS: &str = "
  1.5 | 1..4 expected a literal
 ";
 
+const FLOATS: &str = "
+7.5    | 7.5
+-1.5   | 0..1 expected a literal
+ 1     | 1..2 expected a literal
+ 0x1e5 | 1..6 expected a literal
+";
+
 const STRINGS: &str = r#"
-"x" | "x"
-    | 0..0 expected a literal
+"x"   | "x"
+ b"x" | 1..5 expected a literal
+      | 0..0 expected a literal
 "#;
+
+const BYTE_STRINGS: &str = r#"
+b"x" | b"x"
+"x"  | 0..3 expected a literal
+1    | 0..1 expected a literal
+"#;
+
+const C_STRINGS: &str = r#"
+c"x" | c"x"
+"x"  | 0..3 expected a literal
+1    | 0..1 expected a literal
+"#;
+
+const BYTES: &str = "
+b'x' | b'x'
+'x'  | 0..3 expected a literal
+1    | 0..1 expected a literal
+";
+
+const CHARACTERS: &str = "
+'x'  | 'x'
+b'x' | 0..4 expected a literal
+1    | 0..1 expected a literal
+";
+
+const TRUTHS: &str = "
+true  | true
+1     | 0..1 expected a literal
+truth | 0..5 expected a literal
+";
 
 #[test]
 fn one_kind_each(rt: HostRuntime) -> Result<(), Fail> {
     let alloc = rt.alloc();
     check(alloc, STRINGS, printed::<LitStr>)?;
-    check(alloc, r#"b"x" | b"x""#, printed::<LitByteStr>)?;
-    check(alloc, r#"c"x" | c"x""#, printed::<LitCStr>)?;
-    check(alloc, "b'x' | b'x'", printed::<LitByte>)?;
-    check(alloc, "'x' | 'x'", printed::<LitChar>)?;
+    check(alloc, BYTE_STRINGS, printed::<LitByteStr>)?;
+    check(alloc, C_STRINGS, printed::<LitCStr>)?;
+    check(alloc, BYTES, printed::<LitByte>)?;
+    check(alloc, CHARACTERS, printed::<LitChar>)?;
     check(alloc, INTEGERS, printed::<LitInt>)?;
-    check(alloc, "7.5 | 7.5", printed::<LitFloat>)?;
-    check(alloc, "true | true", printed::<LitBool>)
+    check(alloc, FLOATS, printed::<LitFloat>)?;
+    check(alloc, TRUTHS, printed::<LitBool>)
 }
 
 /// Puts a name behind others if something holds.
@@ -192,4 +231,46 @@ fn literals_are_read_back(rt: HostRuntime) -> Result<(), Fail> {
     check(rt.alloc(), READ_BACK, |alloc, text| {
         again(alloc, text, Lit::is_read_back)
     })
+}
+
+/// The verdict of its own kind on a literal, which its own reader has to read again where it passes.
+fn own_verdict(alloc: Global, text: &str) -> Result<String, Error> {
+    match parse_str::<Lit>(alloc, text)? {
+        Lit::Int(x) => verdict(alloc, &x, x.is_read_back()),
+        Lit::Float(x) => verdict(alloc, &x, x.is_read_back()),
+        Lit::Str(x) => verdict(alloc, &x, x.is_read_back()),
+        Lit::ByteStr(x) => verdict(alloc, &x, x.is_read_back()),
+        Lit::CStr(x) => verdict(alloc, &x, x.is_read_back()),
+        Lit::Byte(x) => verdict(alloc, &x, x.is_read_back()),
+        Lit::Char(x) => verdict(alloc, &x, x.is_read_back()),
+        Lit::Bool(x) => verdict(alloc, &x, x.is_read_back()),
+    }
+}
+
+const READ_BACK_AS_OWN_KIND: &str = r#"
+"a"  | same
+b"a" | same
+c"a" | same
+b'a' | same
+'a'  | same
+1    | same
+1.5  | same
+true | same
+-1   | refused
+-1.5 | refused
+"#;
+
+#[test]
+fn a_sign_is_read_by_all_kinds_together(rt: HostRuntime) -> Result<(), Fail> {
+    check(rt.alloc(), READ_BACK_AS_OWN_KIND, own_verdict)
+}
+
+const FLOATS_AT_THE_FRONT: &str = "
+7.5 x | x
+-1.5  | 0..1 expected a literal
+";
+
+#[test]
+fn a_refused_number_is_left(rt: HostRuntime) -> Result<(), Fail> {
+    check(rt.alloc(), FLOATS_AT_THE_FRONT, left::<LitFloat>)
 }
