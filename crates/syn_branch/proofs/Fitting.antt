@@ -11,7 +11,7 @@ use Rattle.syn_tokens.specs.Front.{group_at}
 use Rattle.syn_parts.specs.declared.label.PathStyle.{PathStyle}
 use Rattle.syn_parts.specs.declared.label.PathStyle.TheVariants as style
 use Rattle.syn_parts.specs.Text.{Text, is_segment, stands_alone}
-use Rattle.syn_parts.specs.Mark.{sign_at, round_at, colon2, plus}
+use Rattle.syn_parts.specs.Mark.{sign_at, round_at, colon2}
 use Rattle.syn_parts.specs.Part.{angle_at, turbofish_at, has_none, is_arg_name}
 use Rattle.syn_parts.specs.Tree as t
 use Rattle.syn_parts.specs.Tree.{TypeTree, Segments, SegmentTree, ArgumentsTree, GenericTree, ReturnTree, Bounds, BoundTree, FnArgTree}
@@ -121,10 +121,6 @@ module _ (l : List Tok) where
   colons_end_path : (b d : Bool) → (b && (not (colon2.at (colon2_before l)) && d)) ≡ false
   unfolding sign_at
   colons_end_path b d = and-false b
-
-  no_plus : (b : Bool) → not (b && plus.at (colon2_before l)) ≡ true
-  unfolding sign_at
-  no_plus b = ap not (and-false b)
 
 mutual
   unfolding sign_at

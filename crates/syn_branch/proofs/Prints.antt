@@ -12,15 +12,14 @@ use Rattle.syn_parts.specs.Tree as t
 use Rattle.syn_parts.specs.Tree.{TypeTree, SegmentTree, FnArgTree, GenericTree, BoundTree}
 use Rattle.syn_parts.specs.Own.{alone, joint, one_less, before_if, before_some, comma_before, colon2_before, closed_at, qself_end, at_most, count_segments, lifetime_own, lifetimes_own, extern_own, enclosed, elements_own, type_own, types_own, segments_own, arguments_own, generics_own, generic_own, return_own, args_own, bounds_own, bound_own, segment_own, arg_own, macro_own}
 use Rattle.syn_parts.proofs.Appends.{type_append, arguments_append, generic_append, bound_append, lifetimes_own-append, extern_append}
+use Rattle.syn_parts.proofs.TypesBack.{plus_before}
 use Rattle.syn_twig.proofs.Owns.{Appends, listed_own-punctuated}
 use Rattle.syn_twig.specs.declared.punctuated.Punctuated.{Punctuated}
 use Rattle.syn_twig.specs.declared.ty.BoundLifetimes.{BoundLifetimes}
 use Rattle.syn_twig.specs.declared.ty.Abi.{Abi}
-use Rattle.syn_twig.specs.declared.ty.PointerMutability.{PointerMutability}
-use Rattle.syn_twig.specs.declared.ty.PointerMutability.TheVariants as pointer
 use Rattle.syn_leaf.specs.declared.lifetime.Lifetime.{Lifetime}
-use Rattle.syn_branch.specs.View.{values, trails, last_of, is_some_pair, lifetime_of, lifetimes_of, mapped, abi_of, is_mut, return_of, assoc_of, generic_of, angle_of, round_of, arguments_of, arg_of, segment_of, path_of, qself_or, macro_of, trait_of, bound_of, path_with, type_path_of, type_macro_of, reference_of, ptr_of, slice_of, array_of, tuple_of, paren_of, fn_ptr_of, impl_trait_of, trait_object_of}
-use Rattle.syn_branch.specs.Printed.{option_printed, pairs_printed, punctuated_printed, comma, colon2, plus, word, mutability_printed, return_printed, assoc_printed, generic_printed, angle_printed, round_printed, parenthesized_printed, arguments_printed, segment_printed, path_printed, macro_printed, closed_printed, inside_printed, qself_end_printed, qualified_printed, qpath_printed, trait_printed, bound_printed, type_path_printed, reference_printed, ptr_printed, slice_printed, array_printed, tuple_printed, paren_printed, impl_printed, object_printed, arg_printed, fn_head_printed, fn_ptr_printed}
+use Rattle.syn_branch.specs.View.{values, trails, last_of, is_some_pair, lifetime_of, lifetimes_of, mapped, abi_of, return_of, assoc_of, generic_of, angle_of, round_of, arguments_of, arg_of, segment_of, path_of, qself_or, macro_of, trait_of, bound_of, path_with, type_path_of, type_macro_of, reference_of, ptr_of, slice_of, array_of, tuple_of, paren_of, fn_ptr_of, impl_trait_of, trait_object_of}
+use Rattle.syn_branch.specs.Printed.{option_printed, pairs_printed, punctuated_printed, comma, colon2, plus, word, return_printed, assoc_printed, generic_printed, angle_printed, round_printed, parenthesized_printed, arguments_printed, segment_printed, path_printed, macro_printed, closed_printed, inside_printed, qself_end_printed, qualified_printed, qpath_printed, trait_printed, bound_printed, type_path_printed, reference_printed, ptr_printed, slice_printed, array_printed, tuple_printed, paren_printed, impl_printed, object_printed, arg_printed, fn_head_printed, fn_ptr_printed}
 use Rattle.syn_branch.specs.declared.mac.MacroOf.{MacroOf}
 use Rattle.syn_branch.specs.declared.path.PathOf.{PathOf}
 use Rattle.syn_branch.specs.declared.path.PathSegmentOf.{PathSegmentOf}
@@ -51,9 +50,6 @@ use Rattle.syn_branch.specs.declared.ty.TypeImplTraitOf.{TypeImplTraitOf}
 use Rattle.syn_branch.specs.declared.ty.TypeTraitObjectOf.{TypeTraitObjectOf}
 
 -- ---- lists
-
-abbrev plus_before : List Tok → List Tok
-plus_before r = alone 43 ∷ r
 
 types_listed : (xs : List TypeTree) (e : Bool) (r : List Tok) → types_own (t.types_of xs) e r ≡ elements_own type_own comma_before xs e r
 types_listed [] e r = refl
@@ -89,7 +85,7 @@ generic_appends = record { before = generic_append }
 bound_appends : Appends bound_own
 bound_appends = record { before = bound_append }
 
-segment_appends : Appends segment_own
+pub segment_appends : Appends segment_own
 segment_appends = record { before = λ s r. ap (λ m. ident s.ident ∷ m) (arguments_append s.arguments r) }
 
 pub arg_appends : Appends arg_own
@@ -120,10 +116,6 @@ lifetime_some : (o : Option Lifetime) (m : List Tok) → before_some (mapped lif
 unfolding option_printed
 lifetime_some None m = refl
 lifetime_some (Some l) m = refl
-
-ptr_by : (m : PointerMutability) (ts : List Tok) → ident (if is_mut m then codes "mut" else codes "const") ∷ ts ≡ mutability_printed m ++ ts
-ptr_by (pointer.Const c) ts = refl
-ptr_by (pointer.Mut c) ts = refl
 
 extern_some : (o : Option Abi) (m : List Tok) → before_some (mapped abi_of o) extern_own m ≡ option_printed (λ a. extern_own (abi_of a) []) o ++ m
 unfolding option_printed
@@ -297,7 +289,7 @@ module _ {T : Type 0} (f : T → TypeTree) where
   reference_print x = ap (λ m. alone 38 ∷ m) (lifetime_some x.lifetime _ ∙ ap (λ m. option_printed (λ a. lifetime_own (lifetime_of a) []) x.lifetime ++ m) (sign_if (ident (codes "mut")) x.mutability _))
 
   pub ptr_print : (x : TypePtrOf T) → type_own (ptr_of f x) [] ≡ ptr_printed toks x
-  ptr_print x = ap (λ m. alone 42 ∷ m) (ptr_by x.mutability (toks x.elem.value))
+  ptr_print x = refl
 
   pub slice_print : (x : TypeSliceOf T) → type_own (slice_of f x) [] ≡ slice_printed toks x
   slice_print x = refl
@@ -338,10 +330,6 @@ module _ {T : Type 0} (f : T → TypeTree) where
       fn_head x.lifetimes x.unsafety x.abi _ ∙ ap (λ m. fn_head_printed x.lifetimes x.unsafety x.abi ++ m) (
       ap (λ ts. enclosed del.Parenthesis ts (return_own (return_of f x.output) [])) (args_print x.inputs)
       ∙ ap (λ r. enclosed del.Parenthesis (punctuated_printed (arg_printed toks) comma x.inputs) r) (return_print x.output))
-
--- For a printer of types by their kinds. `grind` does not find f in the two that have bounds, the last two: it needs them
--- at the f that is meant.
-pub ruleset kinds = (type_path_print, type_macro_print, reference_print, ptr_print, slice_print, array_print, tuple_print, paren_print, fn_ptr_print, impl_trait_print, trait_object_print)
 
 -- for a printer of qualified paths
 pub ruleset qpaths = (qpath_print)

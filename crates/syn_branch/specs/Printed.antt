@@ -5,10 +5,10 @@ use Rattle.std.specs.declared.alloc.Global.{Global}
 use Rattle.syn_lexer.specs.declared.lexeme.Delimiter.{Delimiter}
 use Rattle.syn_lexer.specs.declared.lexeme.Delimiter.TheVariants as del
 use Rattle.syn_tokens.specs.Tok.{Tok, ident, group, inside}
-use Rattle.syn_parts.specs.Own.{alone, joint, at_most, lifetime_own, lifetimes_own, extern_own}
+use Rattle.syn_parts.specs.Own.{alone, joint, at_most, lifetime_own, lifetimes_own, extern_own, mutability_own}
 pub use Rattle.syn_twig.specs.Printed.{pairs_printed, comma, colon2, plus, word, mutability_printed}
 unfoldable pub use Rattle.syn_twig.specs.Printed.{option_printed, punctuated_printed}
-use Rattle.syn_branch.specs.View.{values, lifetime_of, lifetimes_of, abi_of, delimiter_of}
+use Rattle.syn_branch.specs.View.{values, lifetime_of, lifetimes_of, abi_of, is_mut, delimiter_of}
 use Rattle.syn_twig.specs.declared.ty.Abi.{Abi}
 use Rattle.syn_twig.specs.declared.ty.BoundLifetimes.{BoundLifetimes}
 use Rattle.syn_branch.specs.declared.ty.ReturnTypeOf.{ReturnTypeOf}
@@ -127,7 +127,7 @@ reference_printed f x =
     alone 38 ∷ (option_printed (λ a. lifetime_own (lifetime_of a) []) x.lifetime ++ (option_printed (word (codes "mut")) x.mutability ++ f x.elem.value))
 
 abbrev pub ptr_printed : {T : Type 0} → (T → List Tok) → TypePtrOf T → List Tok
-ptr_printed f x = alone 42 ∷ (mutability_printed x.mutability ++ f x.elem.value)
+ptr_printed f x = alone 42 ∷ mutability_own (is_mut x.mutability) (f x.elem.value)
 
 abbrev pub slice_printed : {T : Type 0} → (T → List Tok) → TypeSliceOf T → List Tok
 slice_printed f x = grouped del.Bracket (f x.elem.value)

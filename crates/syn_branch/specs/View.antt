@@ -2,9 +2,9 @@
 use Rattle.std.specs.Prelude.{Bool, map, Option, Some, None, is_some}
 use Rattle.syn_parts.specs.Text.{Text}
 use Rattle.syn_parts.specs.Tree as t
-use Rattle.syn_parts.specs.Tree.{LitTree, LifetimesTree, TypeTree, SegmentTree, PathTree, FnArgTree, ArgumentsTree, GenericTree, ReturnTree, BoundTree, QSelfTree}
+use Rattle.syn_parts.specs.Tree.{LifetimesTree, TypeTree, SegmentTree, PathTree, FnArgTree, ArgumentsTree, GenericTree, ReturnTree, BoundTree, QSelfTree}
 use Rattle.syn_parts.specs.Part.{MacroTree}
-pub use Rattle.syn_twig.specs.View.{mapped, lifetime_of, is_inner, attribute_of, signed, lit_str_of, lit_int_of, lit_float_of, lit_of, delimiter_of, last_of, is_some_pair, lifetimes_of, abi_of, is_mut}
+pub use Rattle.syn_twig.specs.View.{mapped, lifetime_of, lit_str_of, delimiter_of, last_of, is_some_pair, lifetimes_of, abi_of, is_mut}
 unfoldable pub use Rattle.syn_twig.specs.View.{values, trails}
 use Rattle.syn_branch.specs.declared.mac.MacroOf.{MacroOf}
 use Rattle.syn_branch.specs.declared.path.PathOf.{PathOf}

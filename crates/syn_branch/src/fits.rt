@@ -1,9 +1,9 @@
 //! Whether parts are read back from their own tokens: what stands behind the public tests.
 
 ghost use Rattle.std.specs.List.{list_all};
-ghost use Rattle.std.specs.Prelude.{◌≡◌, ◌==◌, true, false, not, ◌&&◌, ◌||◌, is_some, length, map, [], ◌∷◌, ◌++◌};
+ghost use Rattle.std.specs.Prelude.{◌≡◌, true, ◌&&◌, is_some, length, map, []};
 ghost use Rattle.syn_branch.specs.ReadBack.{inner_fits, rows_fit, path_fits_inside, qpath_fits_by};
-ghost use Rattle.syn_branch.specs.View.{values, trails, mapped, segment_of, path_of, arguments_of, angle_of, round_of, return_of, bound_of, arg_of, assoc_of, fn_ptr_of};
+ghost use Rattle.syn_branch.specs.View.{values, mapped, segment_of, path_of, arguments_of, angle_of, round_of, return_of, bound_of, assoc_of, fn_ptr_of};
 ghost use Rattle.syn_lexer.specs.Keywords.{is_reserved_word};
 ghost use Rattle.syn_parts.specs.Fits as spec;
 ghost use Rattle.syn_parts.specs.Own.{colon2_before};

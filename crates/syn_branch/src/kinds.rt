@@ -142,7 +142,7 @@ impl<T: Kind<TypeArrayOf<T>>> Parse for TypeArrayOf<T> {
 
     ghost seen = { T.shown };
 
-    /// An array, whose length is kept as tokens stands before the rest.
+    /// An array, whose length is kept as tokens, stands before the rest.
     ghost spells = { λ l x rest. (kinds.type_of_kind T.is).behind x l ≡ Some rest };
 
     ghost least = { 1 };

@@ -3,11 +3,25 @@
 //! Each is generic in the type of types, so that it stands below it; `syn_lower` has the alias of syn's name: `Path` is
 //! `PathOf<Type>`.
 
+ghost use Rattle.std.specs.Prelude.{◌≡◌, if◌then◌else◌};
+
 use crate::ty::ReturnTypeOf;
 use syn_leaf::lifetime::Lifetime;
+use syn_parts::label::PathStyle;
 use syn_tokens::token::{As, Comma, Eq, Gt, Lt, Paren, PathSep};
 use syn_tokens::tree::{Ident, TokenStream};
 use syn_twig::punctuated::Punctuated;
+
+/// The style of a path: an expression's where `expr_style` holds, else a type's.
+pub fn style(expr_style: bool) -> PathStyle
+    ensures { result ≡ (if expr_style then PathStyle.Expr else PathStyle.Type) }
+{
+    if expr_style {
+        PathStyle::Expr
+    } else {
+        PathStyle::Type
+    }
+}
 
 /// A path.
 #[derive(Drop, PartialEq)]
@@ -51,7 +65,7 @@ pub struct AngleBracketedGenericArgumentsOf<T> {
     pub gt_token: Gt,
 }
 
-/// An argument between `<` and `>` (Rust Reference, "Generic arguments").
+/// An argument between `<` and `>` (Rust Reference, "Paths in expressions").
 #[derive(Drop, PartialEq)]
 pub enum GenericArgumentOf<T> {
     /// `'a`

@@ -1,7 +1,7 @@
 //! The printers of the parts: each writes its own spelling, the last punct of each token alone.
 
 ghost use Rattle.std.specs.Prelude.{length, ◌≡◌, ◌++◌, [], ◌∷◌, IfErr, OnOk, OnErr};
-ghost use Rattle.syn_branch.specs.Printed.{option_printed, pairs_printed, grouped, colon2, closed_printed, inside_printed, qself_end_printed, qualified_printed, qpath_printed, round_printed, fn_head_printed};
+ghost use Rattle.syn_branch.specs.Printed.{option_printed, grouped, colon2, closed_printed, inside_printed, qself_end_printed, qualified_printed, qpath_printed, round_printed, fn_head_printed};
 ghost use Rattle.syn_branch.specs.View.{delimiter_of, values};
 ghost use Rattle.syn_parts.specs.Own.{alone, joint, at_most};
 ghost use Rattle.syn_tokens.specs.Input.{IsFront};
@@ -372,7 +372,8 @@ fn print_qualified<T: ToTokens>(
 }
 
 /// Prints a path and the type that it is qualified by, if there is one: `<T as a::b>::c`, or the path alone. `position`
-/// says how many segments stand before `>`; where the path has fewer, all do.
+/// says how many segments stand before `>`; where the path has fewer, all do. `as` is printed exactly where segments stand
+/// there, whatever `as_token` is. It is refused as `OutOfMemory` alone.
 pub fn print_with_qself<T: ToTokens>(
     qself: &Option<QSelfOf<T>>,
     path: &PathOf<T>,

@@ -3,7 +3,8 @@
 //! A user may build parts that no tokens spell, or whose own tokens spell another part: a path of a reserved word, a tuple
 //! of one type without a comma, `dyn A + B` behind `&`. A part is read back in its place where the grammar of that place
 //! spells it by its own tokens with nothing behind; then it is read back before whatever doesn't go on with it too
-//! (`laws::parts_are_read_back`). Lifetimes, attributes, blocks, `for<..>`, `!` and `_` always are, so they have no test.
+//! (`syn_lower_laws::laws::parts_are_read_back`). Lifetimes, attributes, blocks, `for<..>`, `mut` and `const`, `!` and `_`
+//! always are, so they have no test.
 
 ghost use Rattle.std.specs.Prelude.{◌≡◌, true, false, if◌then◌else◌};
 ghost use Rattle.syn_branch.specs.View as view;
@@ -13,7 +14,7 @@ use crate::fits;
 use crate::mac::MacroOf;
 use crate::path::{
     AngleBracketedGenericArgumentsOf, AssocTypeOf, GenericArgumentOf,
-    ParenthesizedGenericArgumentsOf, PathArgumentsOf, PathOf, PathSegmentOf, QSelfOf,
+    ParenthesizedGenericArgumentsOf, PathArgumentsOf, PathOf, PathSegmentOf, QSelfOf, style,
 };
 use crate::ty::{
     BareFnArgOf, ReturnTypeOf, TraitBoundOf, TypeArrayOf, TypeFnPtrOf, TypeImplTraitOf,
@@ -31,17 +32,6 @@ impl<T: FitTypes> PathOf<T> {
         ensures { result ≡ spec.path_fits style (view.path_of T.tree self.now) }
     {
         fits::path_fits(0, style, self)
-    }
-}
-
-/// A path, in an expression's or a pattern's style or as in a type.
-pub fn style(expr_style: bool) -> PathStyle
-    ensures { result ≡ (if expr_style then PathStyle.Expr else PathStyle.Type) }
-{
-    if expr_style {
-        PathStyle::Expr
-    } else {
-        PathStyle::Type
     }
 }
 

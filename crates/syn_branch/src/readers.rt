@@ -47,8 +47,9 @@ impl<T: ReadTypes> Parse for PathOf<T> {
 
     ghost least = { 1 };
 
-    /// Reads a path as in a type (Rust Reference, "Paths in types"); it is refused as `ExpectedPart` of a path where a segment
-    /// is missing.
+    /// Reads a path as in a type (Rust Reference, "Paths in types"). It is refused as `ExpectedPart` of a path where a segment
+    /// is missing, as `ExpectedToken` of `>` behind arguments, as `UnexpectedToken` at what is left in parentheses, and inside
+    /// as the argument or the type is.
     fn parse(input: &mut ParseBuffer<'_>) -> Result<Self> {
         ahead(input)
     }
@@ -80,7 +81,9 @@ impl<T: ReadTypes> Parse for PathSegmentOf<T> {
 
     ghost least = { 1 };
 
-    /// Reads a segment of a path as in a type (Rust Reference, "Paths in types"); it is refused as `ExpectedPart` of a path.
+    /// Reads a segment of a path as in a type (Rust Reference, "Paths in types"). It is refused as `ExpectedPart` of a path
+    /// where its word is missing, as `ExpectedToken` of `>` behind arguments, as `UnexpectedToken` at what is left in
+    /// parentheses, and inside as the argument or the type is.
     fn parse(input: &mut ParseBuffer<'_>) -> Result<Self> {
         ahead(input)
     }
@@ -112,7 +115,8 @@ impl<T: ReadTypes> Parse for GenericArgumentOf<T> {
 
     ghost least = { 1 };
 
-    /// Reads an argument between `<` and `>` (Rust Reference, "Generic arguments").
+    /// Reads an argument between `<` and `>` (Rust Reference, "Paths in expressions"). It is refused as `ExpectedPart` of a
+    /// literal at a `-` that no number follows, and else as the type is.
     fn parse(input: &mut ParseBuffer<'_>) -> Result<Self> {
         ahead(input)
     }
@@ -144,7 +148,8 @@ impl<T: ReadTypes> Parse for TypeParamBoundOf<T> {
 
     ghost least = { 1 };
 
-    /// Reads a bound (Rust Reference, "Trait and lifetime bounds").
+    /// Reads a bound (Rust Reference, "Trait and lifetime bounds"). It is refused as `ExpectedToken` of `>` or a lifetime behind
+    /// `for`, and else as the path is.
     fn parse(input: &mut ParseBuffer<'_>) -> Result<Self> {
         ahead(input)
     }
@@ -195,7 +200,7 @@ impl<T: ReadTypes> Parse for MacroOf<T> {
 
 impl<T: ReadTypes> PathOf<T> {
     /// Reads a path without arguments (Rust Reference, "Simple paths"). It is read exactly where one stands, unless memory
-    /// runs out; where it is refused the input stays where it was.
+    /// runs out; it is refused as `ExpectedPart` of a path where a segment is missing, and the input stays where it was.
     #[tactic(auto, using(crate::proofs::ReadingParts::mod_path_reading))]
     pub fn parse_mod_style(input: &mut ParseBuffer<'_>) -> Result<PathOf<T>>
         ensures value { Reads (view.path_of T.tree) ((part.path part.type PathStyle.Mod).reads input.old.rest) result input.new.rest }
@@ -205,10 +210,7 @@ impl<T: ReadTypes> PathOf<T> {
         ensures moves { IfOk result (λ x. 1 + weight input.new.rest ≤ weight input.old.rest) }
     {
         let mut ahead = input.fork()?;
-        let x = match T::read_path(&mut ahead, PathStyle::Mod) {
-            Ok(x) => x,
-            Err(e) => return Err(e),
-        };
+        let x = T::read_path(&mut ahead, PathStyle::Mod)?;
         input.advance_to(&ahead);
         Ok(x)
     }

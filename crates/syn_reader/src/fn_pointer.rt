@@ -1,6 +1,6 @@
 //! The readers of function pointers.
 
-ghost use Rattle.std.specs.Prelude.{◌≡◌, ◌≤◌, ◌<◌, ◌+◌, map, true, false, IfOk, Some, None, is_some};
+ghost use Rattle.std.specs.Prelude.{◌≡◌, ◌≤◌, ◌+◌, map, false};
 ghost use Rattle.syn_lexer.specs.declared.lexeme.Delimiter.TheVariants as del;
 ghost use Rattle.syn_leaf.specs.Reads.{Reads};
 ghost use Rattle.syn_reader.specs.Reads.{Callable, ReadsType};

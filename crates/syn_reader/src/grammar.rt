@@ -3,7 +3,7 @@
 //! They are methods that take the reader of the types inside as a function, so that each is proved by itself, whatever
 //! the type of types is; `syn_lower` ties the knot.
 
-ghost use Rattle.std.specs.Prelude.{◌≡◌, ◌≤◌, ◌<◌, ◌+◌, ◌++◌, map, true, false, IfOk, Some, None, is_some};
+ghost use Rattle.std.specs.Prelude.{◌≡◌, ◌≤◌, ◌+◌, map, true, false, IfOk};
 ghost use Rattle.syn_lexer.specs.declared.lexeme.Delimiter.TheVariants as del;
 ghost use Rattle.syn_leaf.specs.Reads.{Reads};
 ghost use Rattle.syn_twig.specs.Punct.{takes_value};

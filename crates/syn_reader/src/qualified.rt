@@ -29,7 +29,7 @@ use syn_twig::front::fn_at;
 use syn_twig::punctuated::Punctuated;
 
 /// What stands behind the `as` of a qualified path: that word, `::` in front, the segments.
-pub type AsPath<T> = (As, Option<PathSep>, Punctuated<PathSegmentOf<T>, PathSep>);
+type AsPath<T> = (As, Option<PathSep>, Punctuated<PathSegmentOf<T>, PathSep>);
 
 /// A path, and the type that it is qualified by.
 pub type QPath<T> = (Option<QSelfOf<T>>, PathOf<T>);

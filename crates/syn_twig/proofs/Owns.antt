@@ -43,5 +43,3 @@ lifetimes_append = record { before = λ x r. refl }
 pub lifetimes_own-parts : (x : BoundLifetimes) → lifetimes_own (lifetimes_of x) [] ≡ ident (codes "for") ∷ alone 60 ∷ (punctuated_printed (λ l. lifetime_own (lifetime_of l) []) comma x.lifetimes ++ alone 62 ∷ [])
 unfolding lifetimes_own
 lifetimes_own-parts x = ap (λ m. ident (codes "for") ∷ alone 60 ∷ m) (listed_own-punctuated lifetime_own comma_before lifetime_of comma lifetimes_append (λ p r. refl) x.lifetimes (alone 62 ∷ []))
-
-pub ruleset bound_lifetimes = (lifetimes_own-parts)

@@ -1,10 +1,10 @@
 -- What is printed of lists with puncts, by what is printed of what they hold.
-use Rattle.std.specs.Prelude.{List, [], ◌∷◌, ◌++◌, codes, Option, Some, None, ℕ}
+use Rattle.std.specs.Prelude.{List, [], ◌∷◌, ◌++◌, Option, Some, None, ℕ}
 use Rattle.syn_tokens.specs.Tok.{Tok, ident}
-use Rattle.syn_parts.specs.Own.{alone, joint}
+use Rattle.syn_parts.specs.Own.{alone, joint, mutability_own}
+use Rattle.syn_twig.specs.View.{is_mut}
 use Rattle.syn_twig.specs.declared.punctuated.Punctuated.{Punctuated}
 use Rattle.syn_twig.specs.declared.ty.PointerMutability.{PointerMutability}
-use Rattle.syn_twig.specs.declared.ty.PointerMutability.TheVariants as pointer
 
 unfoldable pub option_printed : {A : Type 0} → (A → List Tok) → Option A → List Tok
 option_printed f None = []
@@ -31,5 +31,4 @@ abbrev pub word : {S : Type 0} → List ℕ → S → List Tok
 word w s = ident w ∷ []
 
 abbrev pub mutability_printed : PointerMutability → List Tok
-mutability_printed (pointer.Const c) = ident (codes "const") ∷ []
-mutability_printed (pointer.Mut m) = ident (codes "mut") ∷ []
+mutability_printed x = mutability_own (is_mut x) []

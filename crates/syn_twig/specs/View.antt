@@ -3,7 +3,7 @@ use Rattle.std.specs.Prelude.{Bool, true, false, not, ◌&&◌, List, [], ◌∷
 use Rattle.std.specs.declared.boxed.Box.{Box}
 use Rattle.std.specs.declared.alloc.Global.{Global}
 use Rattle.syn_parts.specs.Tree.{LitTree, LifetimesTree}
-pub use Rattle.syn_leaf.specs.View.{mapped, lifetime_of, is_inner, attribute_of, signed, lit_str_of, lit_int_of, lit_float_of, lit_of, delimiter_of}
+pub use Rattle.syn_leaf.specs.View.{mapped, lifetime_of, lit_str_of, delimiter_of}
 use Rattle.syn_twig.specs.declared.punctuated.Punctuated.{Punctuated}
 use Rattle.syn_twig.specs.declared.ty.BoundLifetimes.{BoundLifetimes}
 use Rattle.syn_twig.specs.declared.ty.PointerMutability.{PointerMutability}

@@ -1,6 +1,6 @@
 //! What stands first, as the readers of paths and types ask.
 
-ghost use Rattle.std.specs.Prelude.{◌≡◌, ◌||◌, true, false};
+ghost use Rattle.std.specs.Prelude.{◌≡◌, ◌||◌};
 ghost use Rattle.syn_parts.specs.Mark as mark;
 ghost use Rattle.syn_parts.specs.Part as part;
 ghost use Rattle.syn_tokens.specs.View.{toks_of};
@@ -117,7 +117,7 @@ pub fn lifetimes_at(input: &ParseBuffer<'_>) -> bool
 /// Whether `:` stands first that doesn't begin `::`.
 #[tactic(auto, unfolding(syn_tokens::specs::Sign::sign_text, syn_parts::specs::Mark::sign_at))]
 fn colon_at(rest: &[TokenTree]) -> bool
-    ensures { result ≡ mark.colon.at (toks_of rest.now) }
+    ensures { result ≡ mark.lone_colon.at (toks_of rest.now) }
 {
     Colon::peek(rest) && !PathSep::peek(rest)
 }

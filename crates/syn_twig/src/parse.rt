@@ -39,7 +39,8 @@ impl Parse for BoundLifetimes {
 
     ghost least = { 1 };
 
-    /// Reads `for` and lifetimes (Rust Reference, "Higher-ranked trait bounds"); it is refused as `ExpectedToken`.
+    /// Reads `for` and lifetimes (Rust Reference, "Higher-ranked trait bounds"); it is refused as `ExpectedToken` of
+    /// `for`, `<`, `>` or a lifetime.
     fn parse(input: &mut ParseBuffer<'_>) -> Result<Self> {
         ahead(input)
     }
@@ -103,13 +104,13 @@ impl Parse for Abi {
 
     ghost seen = { view.abi_of };
 
-    /// `extern` stands before the rest, and a string behind it where a literal stands there.
+    /// `extern` stands before the rest, and a string behind it where one stands there.
     ghost spells = { λ l x rest. part.abi.behind x l ≡ Some rest };
 
     ghost least = { 1 };
 
-    /// Reads `extern` and a string, if one stands there (Rust Reference, "Function pointer types"). It is refused as
-    /// `ExpectedToken` of `extern`, and as `ExpectedPart` of a literal where another literal follows.
+    /// Reads `extern` and a string, if one stands there (Rust Reference, "Function pointer types"); it is refused as
+    /// `ExpectedToken` of `extern`.
     fn parse(input: &mut ParseBuffer<'_>) -> Result<Self> {
         ahead(input)
     }

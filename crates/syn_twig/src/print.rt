@@ -58,9 +58,10 @@ impl<T: ToTokens, P: ToTokens> ToTokens for Punctuated<T, P> {
 }
 
 impl ToTokens for PointerMutability {
-    ghost use Rattle.syn_twig.specs.Printed.{mutability_printed};
+    ghost use Rattle.syn_twig.specs.View.{is_mut};
+    ghost use Rattle.syn_parts.specs.Own.{mutability_own};
 
-    ghost printed = { mutability_printed };
+    ghost printed = { λ x. mutability_own (is_mut x) [] };
 
     #[tactic(auto, unfolding(syn_tokens::specs::Sign::word_text))]
     fn to_tokens(&self, tokens: &mut TokenStream) -> Result<()> {

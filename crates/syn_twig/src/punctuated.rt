@@ -1,7 +1,7 @@
 //! Values with puncts between.
 
 ghost use Rattle.std.specs.Iterator.{YieldsFirstRef, item_count};
-ghost use Rattle.std.specs.Prelude.{◌-◌, List, drop, take, ◌≡◌, ◌++◌, [], ◌∷◌, length, true, false, OnOk, OnErr, IfErr, IsTrue, ◌↔◌, MatchOption, MatchResult};
+ghost use Rattle.std.specs.Prelude.{◌-◌, drop, take, ◌≡◌, ◌++◌, [], ◌∷◌, length, true, false, OnOk, OnErr, IfErr, IsTrue, ◌↔◌, MatchOption, MatchResult};
 
 use std::alloc::Global;
 use syn_tokens::error::{ErrorKind, Result};
@@ -46,7 +46,8 @@ impl<T: Drop, P: Drop> Punctuated<T, P> {
         self.last.is_none()
     }
 
-    /// Puts a value at the end. Where memory runs out the list stays as it was, and the value is given up.
+    /// Puts a value at the end, where the list is empty or a punct is last. Where memory runs out the list stays as it
+    /// was, and the value is given up.
     #[tactic(auto, unfolding(crate::specs::View::values, crate::specs::View::trails, crate::specs::Punct::puncts, crate::specs::Punct::takes_value))]
     pub fn push_value(&mut self, value: T) -> Result<()>
         requires { takes_value self.old ≡ true }

@@ -1,6 +1,7 @@
-//! The readers of the parts that hold no types.
+//! The readers of the parts that hold no types. Memory aside, they refuse as `ExpectedToken` of the token that is missing;
+//! tokens before it may have been passed over.
 
-ghost use Rattle.std.specs.Prelude.{◌≡◌, ◌≤◌, map, is_some, true, false};
+ghost use Rattle.std.specs.Prelude.{◌≡◌, ◌≤◌, map, is_some};
 ghost use Rattle.syn_leaf.specs.Reads.{Reads};
 ghost use Rattle.syn_parts.specs.Form as form;
 ghost use Rattle.syn_parts.specs.Mark as mark;
@@ -12,7 +13,7 @@ use crate::front::{arg_name_at, gt_at, lifetimes_at};
 use crate::punctuated::Punctuated;
 use crate::ty::{Abi, BoundLifetimes, PointerMutability};
 use syn_leaf::front;
-use syn_leaf::leaf::{arg_name, lifetime, lifetime_at, literal_at, string};
+use syn_leaf::leaf::{arg_name, lifetime, lifetime_at, string, string_at};
 use syn_leaf::lifetime::Lifetime;
 use syn_leaf::lit::LitStr;
 use syn_tokens::buffer::{ParseBuffer, Token};
@@ -111,7 +112,7 @@ pub fn maybe_lifetimes(input: &mut ParseBuffer<'_>) -> Result<Option<BoundLifeti
 
 /// Reads the name of an argument and `:`, if they stand first.
 pub fn maybe_name(input: &mut ParseBuffer<'_>) -> Result<Option<(Ident, Colon)>>
-    ensures value { Reads (view.mapped (λ p. p.0)) ((form.maybe part.arg_name_at (form.closed_by mark.colon part.arg_name)).reads input.old.rest) result input.new.rest }
+    ensures value { Reads (view.mapped (λ p. p.0)) ((form.maybe part.arg_name_at (form.closed_by mark.lone_colon part.arg_name)).reads input.old.rest) result input.new.rest }
     ensures noted { input.new.noted ≡ input.old.noted }
     ensures shrinks { weight input.new.rest ≤ weight input.old.rest }
 {
@@ -125,13 +126,13 @@ pub fn maybe_name(input: &mut ParseBuffer<'_>) -> Result<Option<(Ident, Colon)>>
     Ok(Some((name, colon)))
 }
 
-/// Reads a string, if a literal stands first.
+/// Reads a string, if one stands first.
 fn maybe_string(input: &mut ParseBuffer<'_>) -> Result<Option<LitStr>>
-    ensures value { Reads (view.mapped view.lit_str_of) ((form.maybe part.literal_at part.string).reads input.old.rest) result input.new.rest }
+    ensures value { Reads (view.mapped view.lit_str_of) ((form.maybe part.string_at part.string).reads input.old.rest) result input.new.rest }
     ensures noted { input.new.noted ≡ input.old.noted }
     ensures shrinks { weight input.new.rest ≤ weight input.old.rest }
 {
-    if literal_at(input) {
+    if string_at(input) {
         Ok(Some(string(input)?))
     } else {
         Ok(None)

@@ -5,7 +5,7 @@ use syn_leaf::lifetime::Lifetime;
 use syn_leaf::lit::LitStr;
 use syn_tokens::token::{Comma, Const, Extern, For, Gt, Lt, Mut};
 
-/// Whether a pointer's target may be written.
+/// Whether a pointer's target may be written (Rust Reference, "Pointer types").
 #[derive(Clone, Copy, Debug, PartialEq)]
 pub enum PointerMutability {
     /// `const`
@@ -14,7 +14,7 @@ pub enum PointerMutability {
     Mut(Mut),
 }
 
-/// `extern "C"`
+/// `extern "C"` (Rust Reference, "Function pointer types").
 #[derive(Debug, Drop, PartialEq)]
 pub struct Abi {
     /// `extern`
