@@ -1,7 +1,7 @@
 -- Parts that are read back, as their laws say it.
 use Rattle.std.specs.Prelude.{Option}
 use Rattle.syn_parts.specs.Part.{QPathTree}
-pub use Rattle.syn_leaf.specs.ReadBack.{PrintsOwn, IsReadBack, all_outer, all_inner, all_printed, IsRead}
+pub use Rattle.syn_leaf.specs.ReadBack.{PrintsOwn, IsReadBack, IsRead}
 use Rattle.syn_branch.specs.declared.path.PathOf.{PathOf}
 use Rattle.syn_branch.specs.declared.path.QSelfOf.{QSelfOf}
 use Rattle.syn_lower.specs.View.{qself_or, path_of, type_of}

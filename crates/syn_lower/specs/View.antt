@@ -2,7 +2,7 @@
 use Rattle.syn_parts.specs.Tree as t
 use Rattle.syn_parts.specs.Tree.{TypeTree, ArgumentsTree, GenericTree, ReturnTree, BoundTree}
 use Rattle.syn_branch.specs.View as parts
-pub use Rattle.syn_branch.specs.View.{mapped, lifetime_of, is_inner, attribute_of, signed, lit_str_of, lit_int_of, lit_float_of, lit_of, delimiter_of, last_of, is_some_pair, lifetimes_of, abi_of, is_mut, segment_of, path_of, qself_of, qself_or, macro_of, trait_with, trait_of, assoc_of, angle_of, arg_of, path_with, mac_with}
+pub use Rattle.syn_branch.specs.View.{mapped, last_of, is_some_pair, lifetimes_of, abi_of, is_mut, segment_of, path_of, qself_of, qself_or, macro_of, trait_of, assoc_of, angle_of, arg_of, path_with}
 unfoldable pub use Rattle.syn_branch.specs.View.{values, trails}
 use Rattle.syn_branch.specs.declared.path.PathArgumentsOf.{PathArgumentsOf}
 use Rattle.syn_branch.specs.declared.path.ParenthesizedGenericArgumentsOf.{ParenthesizedGenericArgumentsOf}

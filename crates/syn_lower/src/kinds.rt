@@ -1,7 +1,7 @@
 //! The types of each kind.
 #![tactic(auto, using(syn_parts::proofs::Readable::readables))]
 
-ghost use Rattle.std.specs.Prelude.{◌≡◌, Some, true, false, IfOk, IfErr};
+ghost use Rattle.std.specs.Prelude.{◌≡◌, Some};
 ghost use Rattle.syn_lower.specs.View.{type_of};
 ghost use Rattle.syn_lower.specs.declared.ty.«Type».TheVariants as variant;
 ghost use Rattle.syn_parts.specs.Kind as kinds;

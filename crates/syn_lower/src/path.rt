@@ -5,6 +5,7 @@ use syn_branch::path::{
     AngleBracketedGenericArgumentsOf, AssocTypeOf, GenericArgumentOf,
     ParenthesizedGenericArgumentsOf, PathArgumentsOf, PathOf, PathSegmentOf, QSelfOf,
 };
+pub use syn_parts::label::PathStyle;
 
 /// A path: segments with `::` between, and perhaps one in front.
 pub type Path = PathOf<Type>;

@@ -13,9 +13,8 @@ use crate::path::{Path, QSelf};
 use crate::ty::Type;
 use syn_branch::path::{
     AngleBracketedGenericArgumentsOf, AssocTypeOf, GenericArgumentOf,
-    ParenthesizedGenericArgumentsOf, PathOf, PathSegmentOf, QSelfOf,
+    ParenthesizedGenericArgumentsOf, PathOf, PathSegmentOf, QSelfOf, style,
 };
-use syn_branch::read_back::style;
 use syn_branch::ty::{BareFnArgOf, ReturnTypeOf, TraitBoundOf, TypeParamBoundOf};
 use syn_branch::types::ReadTypes;
 use syn_leaf::ahead::{ReadByForm, ahead};
@@ -160,8 +159,12 @@ impl Parse for Type {
 
     ghost least = { 1 };
 
-    /// Reads a type (Rust Reference, "Types"), with several bounds behind `impl` and `dyn`; it is refused as `ExpectedPart` of
-    /// a path where no type begins, and as `ExpectedToken` or `UnexpectedToken` inside of one.
+    /// Reads a type (Rust Reference, "Types"), with several bounds behind `impl` and `dyn`.
+    ///
+    /// It is refused as `ExpectedPart` of a path where no type, bound or segment begins, of a macro where no group follows
+    /// the `!` of one, and of a literal where no number follows the `-` of an argument; as `ExpectedExpression` where an
+    /// array has no length; as `ExpectedToken` where another token stands than the one that must, and as `UnexpectedToken`
+    /// where one is left in a group.
     fn parse(input: &mut ParseBuffer<'_>) -> Result<Self> {
         ahead(input)
     }
@@ -169,7 +172,8 @@ impl Parse for Type {
 
 impl Type {
     /// Reads a type with one bound behind `impl` and `dyn`, as behind `as` (Rust Reference, "Type cast expressions"). It is
-    /// read exactly where one stands, unless memory runs out; where it is refused the input stays where it was.
+    /// read exactly where one stands, unless memory runs out. It is refused as `parse` refuses a type, and the input then
+    /// stays where it was.
     #[tactic(auto, using(crate::proofs::ReadingParts::one_bound_reading))]
     pub fn without_plus(input: &mut ParseBuffer<'_>) -> Result<Type>
         ensures value { Reads type_of ((part.type false).reads input.old.rest) result input.new.rest }
@@ -179,10 +183,7 @@ impl Type {
         ensures moves { IfOk result (λ x. 1 + weight input.new.rest ≤ weight input.old.rest) }
     {
         let mut ahead = input.fork()?;
-        let x = match whole_type(&mut ahead, false) {
-            Ok(x) => x,
-            Err(e) => return Err(e),
-        };
+        let x = whole_type(&mut ahead, false)?;
         input.advance_to(&ahead);
         Ok(x)
     }
@@ -190,7 +191,8 @@ impl Type {
 
 /// Reads a path and the type that it is qualified by, if there is one: `<T as a::b>::c`, or the path alone, in an
 /// expression's style (`::` before `<`) or in a type's (Rust Reference, "Paths", "Qualified paths"). It is read exactly
-/// where one stands, unless memory runs out; where it is refused the input stays where it was.
+/// where one stands, unless memory runs out. It is refused as `ExpectedPart` of a path where a segment is missing, as
+/// `ExpectedToken` where `>` or the `::` behind it is, and inside as a type is; the input then stays where it was.
 #[tactic(auto, using(crate::proofs::ReadingParts::qpath_reading))]
 pub fn qpath(input: &mut ParseBuffer<'_>, expr_style: bool) -> Result<(Option<QSelf>, Path)>
     ensures value { Reads (λ q. (qself_or type_of q.0, path_of type_of q.1)) ((part.qpath part.type (if expr_style then PathStyle.Expr else PathStyle.Type)).reads input.old.rest) result input.new.rest }
@@ -200,10 +202,7 @@ pub fn qpath(input: &mut ParseBuffer<'_>, expr_style: bool) -> Result<(Option<QS
     ensures moves { IfOk result (λ q. 1 + weight input.new.rest ≤ weight input.old.rest) }
 {
     let mut ahead = input.fork()?;
-    let x = match (Grammar { ty }.qpath(&mut ahead, style(expr_style))) {
-        Ok(x) => x,
-        Err(e) => return Err(e),
-    };
+    let x = Grammar { ty }.qpath(&mut ahead, style(expr_style))?;
     input.advance_to(&ahead);
     Ok(x)
 }

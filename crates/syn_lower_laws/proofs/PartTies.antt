@@ -10,8 +10,9 @@ use Rattle.syn_lexer.specs.declared.lexeme.Delimiter.{Delimiter}
 use Rattle.syn_tokens.specs.Tok.{Tok}
 use Rattle.syn_parts.specs.Text.{Text}
 use Rattle.syn_parts.specs.Tree as t
-use Rattle.syn_parts.specs.Tree.{LitTree, LifetimesTree, TypeTree, SegmentTree, PathTree, FnArgTree, ArgumentsTree, GenericTree, ReturnTree, BoundTree, QSelfTree, types-types_of, segments-segments_of, generics-generics_of, args-args_of, bounds-bounds_of}
+use Rattle.syn_parts.specs.Tree.{LitTree, LifetimesTree, TypeTree, SegmentTree, PathTree, FnArgTree, ArgumentsTree, GenericTree, ReturnTree, BoundTree, QSelfTree}
 use Rattle.syn_parts.specs.Part.{MacroTree}
+use Rattle.syn_parts.proofs.Trees.{types-types_of, segments-segments_of, generics-generics_of, args-args_of, bounds-bounds_of}
 use Rattle.syn_leaf.specs.Equal.{IsEqualityOf}
 use Rattle.syn_branch.specs.View.{lifetimes_of, assoc_of, angle_of, round_of, segment_of, path_of, qself_of, qself_or, macro_of, trait_with, trait_of, arg_of, abi_of, is_mut, path_with, mac_with, generic_of, arguments_of, return_of, bound_of, type_path_of, type_macro_of, reference_of, ptr_of, slice_of, array_of, tuple_of, paren_of, fn_ptr_of, impl_trait_of, trait_object_of}
 use Rattle.syn_branch.specs.declared.mac.MacroOf.{MacroOf}

@@ -1,7 +1,7 @@
 //! What follows of the printers, the readers and the tests together, as contracts of functions that do nothing.
 
-ghost use Rattle.std.specs.Prelude.{map, not, Bool, true, false, [], if◌then◌else◌};
-ghost use Rattle.syn_lower.specs.ReadBack.{PrintsOwn, IsReadBack, IsRead, qpath_of, all_outer, all_inner, all_printed};
+ghost use Rattle.std.specs.Prelude.{Bool, true, false, [], if◌then◌else◌};
+ghost use Rattle.syn_lower.specs.ReadBack.{PrintsOwn, IsReadBack, IsRead, qpath_of};
 ghost use Rattle.syn_lower.specs.View as view;
 ghost use Rattle.syn_branch.specs.declared.path.GenericArgumentOf.TheVariants as generic;
 ghost use Rattle.syn_branch.specs.declared.path.PathArgumentsOf.TheVariants as arguments;
@@ -9,11 +9,8 @@ ghost use Rattle.syn_branch.specs.declared.ty.TypeParamBoundOf.TheVariants as bo
 ghost use Rattle.syn_lower.specs.declared.ty.«Type».TheVariants as ty;
 ghost use Rattle.syn_parts.specs.Fits as fits;
 ghost use Rattle.syn_parts.specs.Fits.{closed};
-ghost use Rattle.syn_parts.specs.Mark.{pound};
 ghost use Rattle.syn_parts.specs.Own as own;
 ghost use Rattle.syn_parts.specs.Part as part;
-ghost use Rattle.syn_parts.specs.Part.{pound_bang};
-ghost use Rattle.syn_parts.specs.declared.label.LitKind.TheVariants as kind;
 ghost use Rattle.syn_parts.specs.declared.label.PathStyle.TheVariants as style;
 
 use syn_lower::mac::Macro;
@@ -90,7 +87,7 @@ pub fn pieces_are_read_back()
 /// The same of each kind of type, as a struct.
 pub fn kinds_of_types_are_read_back()
     ensures paths { IsReadBack (λ x. fits.qpath_fits style.Type (view.qself_or view.type_of x.qself, view.path_of view.type_of x.path)) (λ x. fits.path_stops style.Type (view.path_of view.type_of x.path)) ⟦<TypePath as ToTokens>⟧.printed ⟦<TypePath as Parse>⟧.seen ⟦<TypePath as Parse>⟧.spells }
-    ensures macros { IsReadBack (λ x. fits.macro_fits (view.macro_of view.type_of x.mac)) closed ⟦<TypeMacro as ToTokens>⟧.printed ⟦<TypeMacro as Parse>⟧.seen ⟦<TypeMacro as Parse>⟧.spells }
+    ensures macros { IsReadBack (λ x. fits.type_fits true (view.type_of (ty.Macro x))) closed ⟦<TypeMacro as ToTokens>⟧.printed ⟦<TypeMacro as Parse>⟧.seen ⟦<TypeMacro as Parse>⟧.spells }
     ensures references { IsReadBack (λ x. fits.type_fits true (view.type_of (ty.Reference x))) (λ x. fits.type_stops true (view.type_of (ty.Reference x))) ⟦<TypeReference as ToTokens>⟧.printed ⟦<TypeReference as Parse>⟧.seen ⟦<TypeReference as Parse>⟧.spells }
     ensures pointers { IsReadBack (λ x. fits.type_fits true (view.type_of (ty.Ptr x))) (λ x. fits.type_stops true (view.type_of (ty.Ptr x))) ⟦<TypePtr as ToTokens>⟧.printed ⟦<TypePtr as Parse>⟧.seen ⟦<TypePtr as Parse>⟧.spells }
     ensures slices { IsReadBack (λ x. fits.type_fits true (view.type_of (ty.Slice x))) closed ⟦<TypeSlice as ToTokens>⟧.printed ⟦<TypeSlice as Parse>⟧.seen ⟦<TypeSlice as Parse>⟧.spells }

@@ -2,7 +2,8 @@
 //! input where it was, and that calls succeed. A row has what is left behind the part at its front, or the refusal: its
 //! place in bytes and its text. The rows are by the Rust Reference's grammar of types and paths.
 
-use rows::{check, left, left_by};
+use rows::{check, left, left_by, words};
+use std::alloc::Global;
 use std::test::Fail;
 use syn_lower::mac::Macro;
 use syn_lower::path::{
@@ -15,70 +16,86 @@ use syn_lower::ty::{
     TypeFnPtr, TypeImplTrait, TypeInfer, TypeMacro, TypeNever, TypeParamBound, TypeParen, TypePath,
     TypePtr, TypeReference, TypeSlice, TypeTraitObject, TypeTuple,
 };
+use syn_tokens::buffer::Parse;
+use syn_tokens::error::Error;
+use syn_tokens::lex::lex;
+use syn_tokens::span::Span;
 use syn_tokens::text::to_text;
-use syn_tokens::whole::parse_str;
+use syn_tokens::token::Group;
+use syn_tokens::whole::{parse_str, parse2};
 
 const TYPES: &str = r#"
-u8 <= T           | <= T
-Vec<u8>>y         | > y
-a<b>=c            | = c
-dyn A + B         |
-impl A + 'a, b    | , b
-A + B             | + B
-&dyn A + B        | + B
-*const impl A + B | + B
-fn() -> dyn A + B | + B
-fn(dyn A + B)     |
-Fn() -> dyn A + B | + B
-fn(a: u8) -> T {} | {}
-<T as A>::B c     | c
-<T>::a!()         | ! ()
-a<b>!()           | ! ()
-a != b            | != b
-a!{}.b            | . b
-[T; x.0.1]        |
-&'a mut T x       | x
-&&T = x           | = x
-Fn(A) -> B;       | ;
-self<T>           | < T >
-Self<T>           |
-() -> T           | -> T
-! x               | x
-_: T              | : T
-                  | 0..0 expected a path
-1                 | 0..1 expected a path
-?A                | 0..1 expected a path
-'a                | 0..1 expected a path
-u8 < T            | 6..6 expected `>`
-A::B::            | 6..6 expected a path
-A::fn             | 3..5 expected a path
-A<B C>            | 4..5 expected `>`
-A<,>              | 2..3 expected a path
-A(B C)            | 4..5 unexpected token
-A(B) ->           | 7..7 expected a path
-&                 | 1..1 expected a path
-&'a               | 3..3 expected a path
-*T                | 1..2 expected `mut` or `const`
-[]                | 1..2 expected a path
-[T;]              | 3..4 expected an expression
-[T, U]            | 2..3 unexpected token
-(A B)             | 3..4 unexpected token
-(,)               | 1..2 expected a path
-fn A              | 3..4 expected `(`
-fn(A B)           | 5..6 unexpected token
-unsafe T          | 7..8 expected `fn`
-extern "C"        | 10..10 expected `fn`
-extern 1 fn()     | 7..8 expected a literal
-for<'a> A         | 8..9 expected `fn`
-for A             | 0..3 expected a path
-impl              | 4..4 expected a path
-dyn A +           | 7..7 expected a path
-a!                | 2..2 expected a macro
-a! b              | 3..4 expected a macro
-<T                | 2..2 expected `>`
-<T>               | 3..3 expected `::`
-<T as>::a         | 5..6 expected a path
-<T>::             | 5..5 expected a path
+u8 <= T             | <= T
+Vec<u8>>y           | > y
+a<b>=c              | = c
+dyn A + B           |
+impl A + 'a, b      | , b
+A + B               | + B
+&dyn A + B          | + B
+*const impl A + B   | + B
+fn() -> dyn A + B   | + B
+fn(dyn A + B)       |
+Fn() -> dyn A + B   | + B
+fn(a: u8) -> T {}   | {}
+<T as A>::B c       | c
+<dyn A + B as C>::D |
+<T>::a!()           | ! ()
+a<b>!()             | ! ()
+a != b              | != b
+a!{}.b              | . b
+[T; x.0.1]          |
+&'a mut T x         | x
+&&T = x             | = x
+Fn(A) -> B;         | ;
+self<T>             | < T >
+self(T)             | (T)
+crate<T>            | < T >
+try<T>              | < T >
+Self<T>             |
+() -> T             | -> T
+! x                 | x
+!= T                | = T
+_: T                | : T
+                    | 0..0 expected a path
+1                   | 0..1 expected a path
+?A                  | 0..1 expected a path
+'a                  | 0..1 expected a path
+u8 < T              | 6..6 expected `>`
+u8 << T             | 7..7 expected `>`
+u8 <<= T            | 5..6 expected a path
+u8 <- T             | 4..5 expected a literal
+A::B::              | 6..6 expected a path
+A::fn               | 3..5 expected a path
+Fn::(A)             | 4..7 expected a path
+A<B C>              | 4..5 expected `>`
+A<,>                | 2..3 expected a path
+A(B C)              | 4..5 unexpected token
+A(B) ->             | 7..7 expected a path
+&                   | 1..1 expected a path
+&'a                 | 3..3 expected a path
+*T                  | 1..2 expected `mut` or `const`
+[]                  | 1..2 expected a path
+[T;]                | 3..4 expected an expression
+[T, U]              | 2..3 unexpected token
+(A B)               | 3..4 unexpected token
+(,)                 | 1..2 expected a path
+fn A                | 3..4 expected `(`
+fn(A B)             | 5..6 unexpected token
+unsafe T            | 7..8 expected `fn`
+extern "C"          | 10..10 expected `fn`
+extern 1 fn()       | 7..8 expected `fn`
+for<'a> A           | 8..9 expected `fn`
+for A               | 0..3 expected a path
+for<a> fn()         | 0..3 expected a path
+impl                | 4..4 expected a path
+dyn A +             | 7..7 expected a path
+dyn A += B          | 7..8 expected a path
+a!                  | 2..2 expected a macro
+a! b                | 3..4 expected a macro
+<T                  | 2..2 expected `>`
+<T>                 | 3..3 expected `::`
+<T as>::a           | 5..6 expected a path
+<T>::               | 5..5 expected a path
 "#;
 
 #[test]
@@ -209,11 +226,11 @@ extern "C" fn | fn
 extern r"C"   |
 extern fn()   | fn ()
 extern true   | true
+extern 1      | 1
+extern b"C"   | b"C"
               | 0..0 expected `extern`
 fn            | 0..2 expected `extern`
 "C"           | 0..3 expected `extern`
-extern 1      | 7..8 expected a literal
-extern b"C"   | 7..11 expected a literal
 "#;
 
 const FN_ARGS: &str = "
@@ -246,6 +263,7 @@ for<'a> A<'a>      |
 ?                  | 1..1 expected a path
 ? ?A               | 2..3 expected a path
 for A              | 0..3 expected a path
+for<a> A           | 0..3 expected a path
 (A)                | 0..3 expected a path
 for<'a>            | 7..7 expected a path
 for<'a A           | 7..8 expected `>`
@@ -283,6 +301,7 @@ const REFERENCES: &str = "
 &'a mut dyn A + B | + B
 T                 | 0..1 expected a type
 *const T          | 0..1 expected a type
+1                 | 0..1 expected a path
 &                 | 1..1 expected a path
 ";
 
@@ -290,12 +309,14 @@ const POINTERS: &str = "
 *const T x     | x
 *mut dyn A + B | + B
 &T             | 0..1 expected a type
+1              | 0..1 expected a path
 *T             | 1..2 expected `mut` or `const`
 ";
 
 const SLICES: &str = "
 [dyn A + B] x | x
 [T; 1]        | 0..6 expected a type
+1             | 0..1 expected a path
 []            | 1..2 expected a path
 ";
 
@@ -303,6 +324,7 @@ const ARRAYS: &str = "
 [T; x.0.1] y | y
 [T; ;]       |
 [T]          | 0..3 expected a type
+1            | 0..1 expected a path
 [T;]         | 3..4 expected an expression
 ";
 
@@ -311,6 +333,7 @@ const TUPLES: &str = "
 (A,)     |
 (A, B) x | x
 (A)      | 0..3 expected a type
+1        | 0..1 expected a path
 (A B)    | 3..4 unexpected token
 ";
 
@@ -319,6 +342,7 @@ const PARENS: &str = "
 (dyn A + B) |
 (A,)        | 0..4 expected a type
 ()          | 0..2 expected a type
+1           | 0..1 expected a path
 ";
 
 #[test]
@@ -335,6 +359,7 @@ fn types_around_one(rt: HostRuntime) -> Result<(), Fail> {
 const NEVERS: &str = "
 ! x | x
 _   | 0..1 expected a type
+1   | 0..1 expected a path
     | 0..0 expected a path
 ";
 
@@ -342,6 +367,7 @@ const INFERRED: &str = "
 _ x | x
 !   | 0..1 expected a type
 1   | 0..1 expected a path
+    | 0..0 expected a path
 ";
 
 const FN_POINTERS: &str = r#"
@@ -349,12 +375,14 @@ fn(a: u8) -> T x                       | x
 for<'a> unsafe extern "C" fn(_: A, B,) |
 extern fn() -> dyn A + B               | + B
 Fn()                                   | 0..2 expected a type
+1                                      | 0..1 expected a path
 unsafe                                 | 6..6 expected `fn`
 "#;
 
 const IMPL_TRAITS: &str = "
 impl A + 'a + ?B x | x
 dyn A              | 0..3 expected a type
+1                  | 0..1 expected a path
 impl               | 4..4 expected a path
 impl A +           | 8..8 expected a path
 ";
@@ -363,6 +391,7 @@ const TRAIT_OBJECTS: &str = "
 dyn for<'a> A<'a> + B, c | , c
 impl A                   | 0..4 expected a type
 A                        | 0..1 expected a type
+1                        | 0..1 expected a path
 dyn                      | 3..3 expected a path
 ";
 
@@ -475,9 +504,63 @@ fn parts_hold_their_tokens(rt: HostRuntime) -> Result<(), Fail> {
     Ok(())
 }
 
+/// What a path as a type holds: how many of its segments stand inside, of how many, and whether `as` and `::` in front do.
+fn held(alloc: Global, text: &str) -> Result<String, Error> {
+    let TypePath { qself, path } = parse_str::<TypePath>(alloc, text)?;
+    let Some(qself) = qself else {
+        return words(alloc, "no type in front");
+    };
+    Ok(format!(
+        in alloc;
+        "{} of {}, as: {}, colons: {}",
+        qself.position,
+        path.segments.len(),
+        qself.as_token.is_some(),
+        path.leading_colon.is_some(),
+    )?)
+}
+
+const HELD: &str = "
+<T as A::B>::C | 2 of 3, as: true, colons: false
+<T as ::A>::B  | 1 of 2, as: true, colons: true
+<T>::C         | 0 of 1, as: false, colons: true
+A::B           | no type in front
+";
+
+#[test]
+fn qualified_paths_hold_their_tokens(rt: HostRuntime) -> Result<(), Fail> {
+    check(rt.alloc(), HELD, held)
+}
+
+/// Whether a text with an invisible group of `u8` behind it is read as a `T`.
+fn with_group<T: Parse + Drop>(alloc: Global, text: &str) -> Result<String, Error> {
+    let mut tokens = lex(alloc, text)?;
+    let invisible = Group {
+        span: Span { lo: 20, hi: 30 },
+    };
+    tokens.push(invisible.enclose(lex(alloc, "u8")?))?;
+    parse2::<T>(tokens)?;
+    words(alloc, "read")
+}
+
+const BEFORE_GROUPS: &str = "
+    | 20..30 expected a path
+&   | 20..30 expected a path
+a ! | 20..30 expected a macro
+a   | 20..30 unexpected token
+";
+
+#[test]
+fn invisible_groups(rt: HostRuntime) -> Result<(), Fail> {
+    let alloc = rt.alloc();
+    check(alloc, BEFORE_GROUPS, with_group::<Type>)?;
+    check(alloc, "a ! | 20..30 expected a macro", with_group::<Macro>)
+}
+
 const OF_ONE_BOUND: &str = "
 dyn A + B      | + B
 impl A + B     | + B
+dyn A += B     | += B
 dyn 'a         |
 Vec<dyn A + B> |
 u8 + T         | + T

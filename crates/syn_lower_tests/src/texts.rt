@@ -103,6 +103,22 @@ fn values_with_puncts(rt: HostRuntime) -> Result<(), Fail> {
     Ok(())
 }
 
+#[test]
+fn values_and_puncts_by_turns(rt: HostRuntime) -> Result<(), Fail> {
+    let mut list = Punctuated::<u8, Comma>::new(rt.alloc());
+    list.push_value(1)?;
+    list.push_punct(Comma::default())?;
+    list.push_value(2)?;
+    assert_eq!(rt; list.len(), 2);
+    assert_eq!(rt; list.first(), Some(&1));
+    assert_eq!(rt; list.last(), Some(&2));
+    let mut values = list.iter();
+    assert_eq!(rt; values.next(), Some(&1));
+    assert_eq!(rt; values.next(), Some(&2));
+    assert_eq!(rt; values.next(), None);
+    Ok(())
+}
+
 const SPACED: &str = r#"
 <T as ::a::b<'c,D>>::e          ~ < T as :: a :: b < 'c , D > > :: e        | equal
 a(B,)->C                        ~ a ( B , ) -> C                            | equal

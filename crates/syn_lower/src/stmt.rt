@@ -1,0 +1,3 @@
+//! Blocks (Rust Reference, "Block expressions").
+
+pub use syn_leaf::block::Block;
