@@ -1,5 +1,5 @@
 -- A type that is no value of a kind's variant doesn't pass the kind's test.
-use Rattle.std.proofs.Common.{◌≡◌, Bool, false, refl, ap, sym, ◌∙◌}
+use Rattle.std.proofs.Common.{◌≡◌, ◌⊎◌, inl, inr, ⊎_elim, Bool, false, refl, ap, sym, ◌∙◌}
 use Rattle.syn_parts.specs.Tree.{TypeTree}
 use Rattle.syn_parts.specs.Part.{is_never, is_infer}
 use Rattle.syn_parts.specs.Kind.{is_reference, is_pointer, is_slice, is_array, is_tuple, is_paren, is_fn_pointer, is_impl_trait, is_trait_object}
@@ -21,84 +21,41 @@ use Rattle.syn_lower.specs.View.{type_layer, type_of}
 use Rattle.syn_lower.proofs.Layers.{type_of-out}
 use Rattle.syn_lower.proofs.Makes.{makes}
 
-by_layer : (is : TypeTree → Bool) (v : «Type») → ((l : Type-F «Type») → v ≡ roll-Type l → is (type_layer type_of l) ≡ false) → is (type_of v) ≡ false
-by_layer is v f = ap is (type_of-out v) ∙ f (out-Type v) (sym (roll-out-Type v))
+-- by one level of a type: it is of the variant, or the test fails there
+not_kind : {S : Type 0} (variant : S → «Type») (is : TypeTree → Bool) → ((l : Type-F «Type») → ((x : S) × (roll-Type l ≡ variant x)) ⊎ (is (type_layer type_of l) ≡ false)) → (v : «Type») → ((x : S) → v ≡ variant x → ⊥) → is (type_of v) ≡ false
+not_kind variant is levels v other = ap is (type_of-out v) ∙ ⊎_elim (λ h. absurd (other h.0 (sym (roll-out-Type v) ∙ h.1))) (λ e. e) (levels (out-Type v))
 
 pub not_reference : (v : «Type») → ((x : TypeReferenceOf «Type») → v ≡ ty.Reference x → ⊥) → is_reference (type_of v) ≡ false
-not_reference v other = by_layer is_reference v go
-  where
-    go : (l : Type-F «Type») → v ≡ roll-Type l → is_reference (type_layer type_of l) ≡ false
-    go (Type-F.Reference x) e = absurd (other x (e ∙ ty.rolls-Reference x))
-    go _ e = refl
+not_reference = not_kind ty.Reference is_reference (elim [ Type-F.Reference x ↦ inl (x, ty.rolls-Reference x) | _ ↦ inr refl ])
 
 pub not_pointer : (v : «Type») → ((x : TypePtrOf «Type») → v ≡ ty.Ptr x → ⊥) → is_pointer (type_of v) ≡ false
-not_pointer v other = by_layer is_pointer v go
-  where
-    go : (l : Type-F «Type») → v ≡ roll-Type l → is_pointer (type_layer type_of l) ≡ false
-    go (Type-F.Ptr x) e = absurd (other x (e ∙ ty.rolls-Ptr x))
-    go _ e = refl
+not_pointer = not_kind ty.Ptr is_pointer (elim [ Type-F.Ptr x ↦ inl (x, ty.rolls-Ptr x) | _ ↦ inr refl ])
 
 pub not_slice : (v : «Type») → ((x : TypeSliceOf «Type») → v ≡ ty.Slice x → ⊥) → is_slice (type_of v) ≡ false
-not_slice v other = by_layer is_slice v go
-  where
-    go : (l : Type-F «Type») → v ≡ roll-Type l → is_slice (type_layer type_of l) ≡ false
-    go (Type-F.Slice x) e = absurd (other x (e ∙ ty.rolls-Slice x))
-    go _ e = refl
+not_slice = not_kind ty.Slice is_slice (elim [ Type-F.Slice x ↦ inl (x, ty.rolls-Slice x) | _ ↦ inr refl ])
 
 pub not_array : (v : «Type») → ((x : TypeArrayOf «Type») → v ≡ ty.Array x → ⊥) → is_array (type_of v) ≡ false
-not_array v other = by_layer is_array v go
-  where
-    go : (l : Type-F «Type») → v ≡ roll-Type l → is_array (type_layer type_of l) ≡ false
-    go (Type-F.Array x) e = absurd (other x (e ∙ ty.rolls-Array x))
-    go _ e = refl
+not_array = not_kind ty.Array is_array (elim [ Type-F.Array x ↦ inl (x, ty.rolls-Array x) | _ ↦ inr refl ])
 
 pub not_tuple : (v : «Type») → ((x : TypeTupleOf «Type») → v ≡ ty.Tuple x → ⊥) → is_tuple (type_of v) ≡ false
-not_tuple v other = by_layer is_tuple v go
-  where
-    go : (l : Type-F «Type») → v ≡ roll-Type l → is_tuple (type_layer type_of l) ≡ false
-    go (Type-F.Tuple x) e = absurd (other x (e ∙ ty.rolls-Tuple x))
-    go _ e = refl
+not_tuple = not_kind ty.Tuple is_tuple (elim [ Type-F.Tuple x ↦ inl (x, ty.rolls-Tuple x) | _ ↦ inr refl ])
 
 pub not_paren : (v : «Type») → ((x : TypeParenOf «Type») → v ≡ ty.Paren x → ⊥) → is_paren (type_of v) ≡ false
-not_paren v other = by_layer is_paren v go
-  where
-    go : (l : Type-F «Type») → v ≡ roll-Type l → is_paren (type_layer type_of l) ≡ false
-    go (Type-F.Paren x) e = absurd (other x (e ∙ ty.rolls-Paren x))
-    go _ e = refl
+not_paren = not_kind ty.Paren is_paren (elim [ Type-F.Paren x ↦ inl (x, ty.rolls-Paren x) | _ ↦ inr refl ])
 
 pub not_never : (v : «Type») → ((x : TypeNever) → v ≡ ty.Never x → ⊥) → is_never (type_of v) ≡ false
-not_never v other = by_layer is_never v go
-  where
-    go : (l : Type-F «Type») → v ≡ roll-Type l → is_never (type_layer type_of l) ≡ false
-    go (Type-F.Never x) e = absurd (other x (e ∙ ty.rolls-Never x))
-    go _ e = refl
+not_never = not_kind ty.Never is_never (elim [ Type-F.Never x ↦ inl (x, ty.rolls-Never x) | _ ↦ inr refl ])
 
 pub not_infer : (v : «Type») → ((x : TypeInfer) → v ≡ ty.Infer x → ⊥) → is_infer (type_of v) ≡ false
-not_infer v other = by_layer is_infer v go
-  where
-    go : (l : Type-F «Type») → v ≡ roll-Type l → is_infer (type_layer type_of l) ≡ false
-    go (Type-F.Infer x) e = absurd (other x (e ∙ ty.rolls-Infer x))
-    go _ e = refl
+not_infer = not_kind ty.Infer is_infer (elim [ Type-F.Infer x ↦ inl (x, ty.rolls-Infer x) | _ ↦ inr refl ])
 
 pub not_fn_pointer : (v : «Type») → ((x : TypeFnPtrOf «Type») → v ≡ ty.FnPtr x → ⊥) → is_fn_pointer (type_of v) ≡ false
-not_fn_pointer v other = by_layer is_fn_pointer v go
-  where
-    go : (l : Type-F «Type») → v ≡ roll-Type l → is_fn_pointer (type_layer type_of l) ≡ false
-    go (Type-F.FnPtr x) e = absurd (other x (e ∙ ty.rolls-FnPtr x))
-    go _ e = refl
+not_fn_pointer = not_kind ty.FnPtr is_fn_pointer (elim [ Type-F.FnPtr x ↦ inl (x, ty.rolls-FnPtr x) | _ ↦ inr refl ])
 
 pub not_impl_trait : (v : «Type») → ((x : TypeImplTraitOf «Type») → v ≡ ty.ImplTrait x → ⊥) → is_impl_trait (type_of v) ≡ false
-not_impl_trait v other = by_layer is_impl_trait v go
-  where
-    go : (l : Type-F «Type») → v ≡ roll-Type l → is_impl_trait (type_layer type_of l) ≡ false
-    go (Type-F.ImplTrait x) e = absurd (other x (e ∙ ty.rolls-ImplTrait x))
-    go _ e = refl
+not_impl_trait = not_kind ty.ImplTrait is_impl_trait (elim [ Type-F.ImplTrait x ↦ inl (x, ty.rolls-ImplTrait x) | _ ↦ inr refl ])
 
 pub not_trait_object : (v : «Type») → ((x : TypeTraitObjectOf «Type») → v ≡ ty.TraitObject x → ⊥) → is_trait_object (type_of v) ≡ false
-not_trait_object v other = by_layer is_trait_object v go
-  where
-    go : (l : Type-F «Type») → v ≡ roll-Type l → is_trait_object (type_layer type_of l) ≡ false
-    go (Type-F.TraitObject x) e = absurd (other x (e ∙ ty.rolls-TraitObject x))
-    go _ e = refl
+not_trait_object = not_kind ty.TraitObject is_trait_object (elim [ Type-F.TraitObject x ↦ inl (x, ty.rolls-TraitObject x) | _ ↦ inr refl ])
 
 pub ruleset other_kinds = (makes, not_reference, not_pointer, not_slice, not_array, not_tuple, not_paren, not_never, not_infer, not_fn_pointer, not_impl_trait, not_trait_object)

@@ -168,10 +168,9 @@ module _ (T : RattleType) {f : T.Denot → TypeTree} {E : T.Denot → T.Denot �
 
   pub return_tie : IsEqualityOf (return_of f) (return_eq.ghosts T (record { eq = E }) no_dict).eq
   return_tie =
-      let a = made_tie t.given (λ p q e. cc) tie in
-      let it = rank_more return_kind {k = 0} {view = λ (c : Choice (return_row.the_parts T)). return_of f (return_row.the_make T c)} (constant_tie t.default) (λ v. refl)
-      (rank_more return_kind (on_tie (λ v. v.1.0.value) a) (λ v. refl) (rank_end return_kind)) in
-      along (λ x. ap (return_of f) (sym (return_row.the_eta T x))) (on_tie {C = ReturnTypeOf T.Denot} (return_row.as_values T) it.tie)
+      along (λ x. ap (return_of f) (sym (return_row.the_eta T x))) (on_tie {C = ReturnTypeOf T.Denot} (return_row.as_values T) (
+      rank_more return_kind {k = 0} {view = λ (c : Choice (return_row.the_parts T)). return_of f (return_row.the_make T c)} (constant_tie t.default) (λ v. refl)
+      (rank_more return_kind (on_tie (λ v. v.1.0.value) (made_tie t.given (λ p q e. cc) tie)) (λ v. refl) (rank_end return_kind))).tie)
 
   pub assoc_tie : IsEqualityOf (assoc_of f) (assoc_eq.ghosts T (record { eq = E }) no_dict).eq
   assoc_tie =
@@ -179,14 +178,11 @@ module _ (T : RattleType) {f : T.Denot → TypeTree} {E : T.Denot → T.Denot �
 
   pub generic_tie : IsEqualityOf (generic_of f) (generic_eq.ghosts T (record { eq = E }) no_dict).eq
   generic_tie =
-      let a = made_tie t.a_lifetime (λ p q e. cc) lifetime_tie in
-      let b = made_tie t.a_const (λ p q e. cc) toks_tie in
-      let c = made_tie t.a_type (λ p q e. cc) tie in
-      let it = rank_more generic_kind {k = 0} {view = λ (c : Choice (generic_row.the_parts T)). generic_of f (generic_row.the_make T c)} (on_tie (λ v. v.0) a) (λ v. refl)
-      (rank_more generic_kind (on_tie (λ v. v.0) b) (λ v. refl)
+      along (λ x. ap (generic_of f) (sym (generic_row.the_eta T x))) (on_tie {C = GenericArgumentOf T.Denot} (generic_row.as_values T) (
+      rank_more generic_kind {k = 0} {view = λ (c : Choice (generic_row.the_parts T)). generic_of f (generic_row.the_make T c)} (on_tie (λ v. v.0) (made_tie t.a_lifetime (λ p q e. cc) lifetime_tie)) (λ v. refl)
+      (rank_more generic_kind (on_tie (λ v. v.0) (made_tie t.a_const (λ p q e. cc) toks_tie)) (λ v. refl)
       (rank_more generic_kind (on_tie (λ v. v.0) assoc_tie) (λ v. refl)
-      (rank_more generic_kind (on_tie (λ v. v.0) c) (λ v. refl) (rank_end generic_kind)))) in
-      along (λ x. ap (generic_of f) (sym (generic_row.the_eta T x))) (on_tie {C = GenericArgumentOf T.Denot} (generic_row.as_values T) it.tie)
+      (rank_more generic_kind (on_tie (λ v. v.0) (made_tie t.a_type (λ p q e. cc) tie)) (λ v. refl) (rank_end generic_kind))))).tie)
 
   pub angle_tie : IsEqualityOf (angle_of f) (angle_eq.ghosts T (record { eq = E }) no_dict).eq
   angle_tie =
@@ -200,10 +196,10 @@ module _ (T : RattleType) {f : T.Denot → TypeTree} {E : T.Denot → T.Denot �
 
   pub args_tie : IsEqualityOf (arguments_of f) (args_eq.ghosts T (record { eq = E }) no_dict).eq
   args_tie =
-      let it = rank_more args_kind {k = 0} {view = λ (c : Choice (args_row.the_parts T)). arguments_of f (args_row.the_make T c)} (constant_tie t.no_arguments) (λ v. refl)
+      along (λ x. ap (arguments_of f) (sym (args_row.the_eta T x))) (on_tie {C = PathArgumentsOf T.Denot} (args_row.as_values T) (
+      rank_more args_kind {k = 0} {view = λ (c : Choice (args_row.the_parts T)). arguments_of f (args_row.the_make T c)} (constant_tie t.no_arguments) (λ v. refl)
       (rank_more args_kind (on_tie (λ v. v.0) angle_tie) (λ v. refl)
-      (rank_more args_kind (on_tie (λ v. v.0) round_tie) (λ v. refl) (rank_end args_kind))) in
-      along (λ x. ap (arguments_of f) (sym (args_row.the_eta T x))) (on_tie {C = PathArgumentsOf T.Denot} (args_row.as_values T) it.tie)
+      (rank_more args_kind (on_tie (λ v. v.0) round_tie) (λ v. refl) (rank_end args_kind)))).tie)
 
   pub segment_tie : IsEqualityOf (segment_of f) (segment_eq.ghosts T (record { eq = E }) no_dict).eq
   segment_tie =
@@ -227,10 +223,9 @@ module _ (T : RattleType) {f : T.Denot → TypeTree} {E : T.Denot → T.Denot �
 
   pub bound_tie : IsEqualityOf (bound_of f) (bound_eq.ghosts T (record { eq = E }) no_dict).eq
   bound_tie =
-      let a = made_tie t.outlives (λ p q e. cc) lifetime_tie in
-      let it = rank_more bound_kind {k = 0} {view = λ (c : Choice (bound_row.the_parts T)). bound_of f (bound_row.the_make T c)} (on_tie (λ v. v.0) a) (λ v. refl)
-      (rank_more bound_kind (on_tie (λ v. v.0) trait_tie) (λ v. refl) (rank_end bound_kind)) in
-      along (λ x. ap (bound_of f) (sym (bound_row.the_eta T x))) (on_tie {C = TypeParamBoundOf T.Denot} (bound_row.as_values T) it.tie)
+      along (λ x. ap (bound_of f) (sym (bound_row.the_eta T x))) (on_tie {C = TypeParamBoundOf T.Denot} (bound_row.as_values T) (
+      rank_more bound_kind {k = 0} {view = λ (c : Choice (bound_row.the_parts T)). bound_of f (bound_row.the_make T c)} (on_tie (λ v. v.0) (made_tie t.outlives (λ p q e. cc) lifetime_tie)) (λ v. refl)
+      (rank_more bound_kind (on_tie (λ v. v.0) trait_tie) (λ v. refl) (rank_end bound_kind))).tie)
 
   pub arg_tie : IsEqualityOf (arg_of f) (arg_eq.ghosts T (record { eq = E }) no_dict).eq
   arg_tie =
