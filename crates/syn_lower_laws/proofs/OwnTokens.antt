@@ -1,5 +1,5 @@
 -- What is printed of each part is its own tokens, before whatever follows.
-use Rattle.std.proofs.Common.{◌≡◌, List, [], ◌∷◌, ◌++◌, sym, ap, ◌∙◌, append_assoc}
+use Rattle.std.proofs.Common.{◌≡◌, List, [], ◌++◌, sym, ap, ◌∙◌, append_assoc}
 use Rattle.syn_tokens.specs.Tok.{Tok}
 use Rattle.syn_parts.specs.Own.{path_own, macro_own, segment_own, arg_own, arguments_own, return_own, generic_own, bound_own, type_own}
 use Rattle.syn_parts.specs.Tree.{TypeTree, ArgumentsTree, ReturnTree, GenericTree, BoundTree}

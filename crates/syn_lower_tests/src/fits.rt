@@ -19,7 +19,7 @@ use syn_lower::ty::{
     TypeSlice, TypeTraitObject, TypeTuple,
 };
 use syn_parts::label::PathStyle;
-use syn_tokens::buffer::{ParseBuffer, ToTokens};
+use syn_tokens::buffer::ParseBuffer;
 use syn_tokens::copy::copy_ident;
 use syn_tokens::error::{Error, ErrorKind};
 use syn_tokens::lex::lex;
