@@ -30,7 +30,7 @@ impl<T: ToTokens> ToTokens for PathSegmentOf<T> {
 
     ghost printed = { segment_printed T.printed };
 
-    #[tactic(auto, using(syn_leaf::proofs::Fronts::fronts))]
+    #[tactic(auto, using(syn_tokens::proofs::Fronts::fronts))]
     fn to_tokens(&self, tokens: &mut TokenStream) -> Result<()> {
         self.ident.to_tokens(tokens)?;
         self.arguments.to_tokens(tokens)
@@ -42,7 +42,7 @@ impl<T: ToTokens> ToTokens for PathOf<T> {
 
     ghost printed = { path_printed T.printed };
 
-    #[tactic(auto, using(syn_leaf::proofs::Fronts::fronts), unfolding(syn_tokens::specs::Sign::sign_text))]
+    #[tactic(auto, using(syn_tokens::proofs::Fronts::fronts), unfolding(syn_tokens::specs::Sign::sign_text))]
     fn to_tokens(&self, tokens: &mut TokenStream) -> Result<()> {
         print_some(&self.leading_colon, tokens)?;
         self.segments.to_tokens(tokens)
@@ -54,7 +54,7 @@ impl<T: ToTokens> ToTokens for AngleBracketedGenericArgumentsOf<T> {
 
     ghost printed = { angle_printed T.printed };
 
-    #[tactic(auto, using(syn_leaf::proofs::Fronts::fronts), unfolding(syn_tokens::specs::Sign::sign_text))]
+    #[tactic(auto, using(syn_tokens::proofs::Fronts::fronts), unfolding(syn_tokens::specs::Sign::sign_text))]
     fn to_tokens(&self, tokens: &mut TokenStream) -> Result<()> {
         print_some(&self.colon2_token, tokens)?;
         self.lt_token.to_tokens(tokens)?;
@@ -68,7 +68,7 @@ impl<T: ToTokens> ToTokens for AssocTypeOf<T> {
 
     ghost printed = { assoc_printed T.printed };
 
-    #[tactic(auto, using(syn_leaf::proofs::Fronts::fronts), unfolding(syn_tokens::specs::Sign::sign_text))]
+    #[tactic(auto, using(syn_tokens::proofs::Fronts::fronts), unfolding(syn_tokens::specs::Sign::sign_text))]
     fn to_tokens(&self, tokens: &mut TokenStream) -> Result<()> {
         self.ident.to_tokens(tokens)?;
         self.eq_token.to_tokens(tokens)?;
@@ -100,7 +100,7 @@ impl<T: ToTokens> ToTokens for MacroOf<T> {
 
     ghost printed = { macro_printed T.printed };
 
-    #[tactic(auto, using(syn_leaf::proofs::Fronts::fronts), unfolding(syn_tokens::specs::Sign::sign_text))]
+    #[tactic(auto, using(syn_tokens::proofs::Fronts::fronts), unfolding(syn_tokens::specs::Sign::sign_text))]
     fn to_tokens(&self, tokens: &mut TokenStream) -> Result<()> {
         self.path.to_tokens(tokens)?;
         self.bang_token.to_tokens(tokens)?;
@@ -124,7 +124,7 @@ impl<T: ToTokens> ToTokens for TypeReferenceOf<T> {
 
     ghost printed = { reference_printed T.printed };
 
-    #[tactic(auto, using(syn_leaf::proofs::Fronts::fronts), unfolding(syn_tokens::specs::Sign::sign_text, syn_tokens::specs::Sign::word_text))]
+    #[tactic(auto, using(syn_tokens::proofs::Fronts::fronts), unfolding(syn_tokens::specs::Sign::sign_text, syn_tokens::specs::Sign::word_text))]
     fn to_tokens(&self, tokens: &mut TokenStream) -> Result<()> {
         self.and_token.to_tokens(tokens)?;
         print_some(&self.lifetime, tokens)?;
@@ -138,7 +138,7 @@ impl<T: ToTokens> ToTokens for TypePtrOf<T> {
 
     ghost printed = { ptr_printed T.printed };
 
-    #[tactic(auto, using(syn_leaf::proofs::Fronts::fronts), unfolding(syn_tokens::specs::Sign::sign_text))]
+    #[tactic(auto, using(syn_tokens::proofs::Fronts::fronts), unfolding(syn_tokens::specs::Sign::sign_text))]
     fn to_tokens(&self, tokens: &mut TokenStream) -> Result<()> {
         self.star_token.to_tokens(tokens)?;
         self.mutability.to_tokens(tokens)?;
@@ -151,7 +151,7 @@ impl<T: ToTokens> ToTokens for TypeSliceOf<T> {
 
     ghost printed = { slice_printed T.printed };
 
-    #[tactic(auto, using(syn_leaf::proofs::Fronts::fronts))]
+    #[tactic(auto, using(syn_tokens::proofs::Fronts::fronts))]
     fn to_tokens(&self, tokens: &mut TokenStream) -> Result<()> {
         let mut inside = TokenStream::new(tokens.alloc());
         self.elem.to_tokens(&mut inside)?;
@@ -165,7 +165,7 @@ impl<T: ToTokens> ToTokens for TypeArrayOf<T> {
 
     ghost printed = { array_printed T.printed };
 
-    #[tactic(auto, using(syn_leaf::proofs::Fronts::fronts), unfolding(syn_tokens::specs::Sign::sign_text))]
+    #[tactic(auto, using(syn_tokens::proofs::Fronts::fronts), unfolding(syn_tokens::specs::Sign::sign_text))]
     fn to_tokens(&self, tokens: &mut TokenStream) -> Result<()> {
         let mut inside = TokenStream::new(tokens.alloc());
         self.elem.to_tokens(&mut inside)?;
@@ -181,7 +181,7 @@ impl<T: ToTokens> ToTokens for TypeTupleOf<T> {
 
     ghost printed = { tuple_printed T.printed };
 
-    #[tactic(auto, using(syn_leaf::proofs::Fronts::fronts), unfolding(syn_tokens::specs::Sign::sign_text))]
+    #[tactic(auto, using(syn_tokens::proofs::Fronts::fronts), unfolding(syn_tokens::specs::Sign::sign_text))]
     fn to_tokens(&self, tokens: &mut TokenStream) -> Result<()> {
         let mut inside = TokenStream::new(tokens.alloc());
         self.elems.to_tokens(&mut inside)?;
@@ -195,7 +195,7 @@ impl<T: ToTokens> ToTokens for TypeParenOf<T> {
 
     ghost printed = { paren_printed T.printed };
 
-    #[tactic(auto, using(syn_leaf::proofs::Fronts::fronts))]
+    #[tactic(auto, using(syn_tokens::proofs::Fronts::fronts))]
     fn to_tokens(&self, tokens: &mut TokenStream) -> Result<()> {
         let mut inside = TokenStream::new(tokens.alloc());
         self.elem.to_tokens(&mut inside)?;
@@ -209,7 +209,7 @@ impl<T: ToTokens> ToTokens for TypeImplTraitOf<T> {
 
     ghost printed = { impl_printed T.printed };
 
-    #[tactic(auto, using(syn_leaf::proofs::Fronts::fronts), unfolding(syn_tokens::specs::Sign::sign_text, syn_tokens::specs::Sign::word_text))]
+    #[tactic(auto, using(syn_tokens::proofs::Fronts::fronts), unfolding(syn_tokens::specs::Sign::sign_text, syn_tokens::specs::Sign::word_text))]
     fn to_tokens(&self, tokens: &mut TokenStream) -> Result<()> {
         self.impl_token.to_tokens(tokens)?;
         self.bounds.to_tokens(tokens)
@@ -221,7 +221,7 @@ impl<T: ToTokens> ToTokens for TypeTraitObjectOf<T> {
 
     ghost printed = { object_printed T.printed };
 
-    #[tactic(auto, using(syn_leaf::proofs::Fronts::fronts), unfolding(syn_tokens::specs::Sign::sign_text, syn_tokens::specs::Sign::word_text))]
+    #[tactic(auto, using(syn_tokens::proofs::Fronts::fronts), unfolding(syn_tokens::specs::Sign::sign_text, syn_tokens::specs::Sign::word_text))]
     fn to_tokens(&self, tokens: &mut TokenStream) -> Result<()> {
         self.dyn_token.to_tokens(tokens)?;
         self.bounds.to_tokens(tokens)
@@ -229,7 +229,7 @@ impl<T: ToTokens> ToTokens for TypeTraitObjectOf<T> {
 }
 
 /// Prints the name of an argument, and `:`.
-#[tactic(auto, using(syn_leaf::proofs::Fronts::fronts), unfolding(syn_tokens::specs::Sign::sign_text, crate::specs::Printed::option_printed))]
+#[tactic(auto, using(syn_tokens::proofs::Fronts::fronts), unfolding(syn_tokens::specs::Sign::sign_text, crate::specs::Printed::option_printed))]
 fn print_name(name: &Option<(Ident, Colon)>, tokens: &mut TokenStream) -> Result<()>
     ensures ok { OnOk result (tokens.new ≡ tokens.old ++ option_printed (λ n. tok.ident n.0 ∷ alone 58 ∷ []) name.now) }
     ensures err { OnErr result (IsFront tokens.old tokens.new) }
@@ -247,7 +247,7 @@ impl<T: ToTokens> ToTokens for BareFnArgOf<T> {
 
     ghost printed = { arg_printed T.printed };
 
-    #[tactic(auto, using(syn_leaf::proofs::Fronts::fronts))]
+    #[tactic(auto, using(syn_tokens::proofs::Fronts::fronts))]
     fn to_tokens(&self, tokens: &mut TokenStream) -> Result<()> {
         print_name(&self.name, tokens)?;
         self.ty.to_tokens(tokens)
@@ -259,7 +259,7 @@ impl<T: ToTokens> ToTokens for TraitBoundOf<T> {
 
     ghost printed = { trait_printed T.printed };
 
-    #[tactic(auto, using(syn_leaf::proofs::Fronts::fronts), unfolding(syn_tokens::specs::Sign::sign_text))]
+    #[tactic(auto, using(syn_tokens::proofs::Fronts::fronts), unfolding(syn_tokens::specs::Sign::sign_text))]
     fn to_tokens(&self, tokens: &mut TokenStream) -> Result<()> {
         print_some(&self.maybe, tokens)?;
         print_some(&self.lifetimes, tokens)?;
@@ -275,7 +275,7 @@ fn inside_count(position: usize, count: usize) -> usize
 }
 
 /// Prints the `>` behind the last of the segments that stand inside.
-#[tactic(auto, using(syn_leaf::proofs::Fronts::fronts), unfolding(syn_tokens::specs::Sign::sign_text))]
+#[tactic(auto, using(syn_tokens::proofs::Fronts::fronts), unfolding(syn_tokens::specs::Sign::sign_text))]
 fn print_close(left: usize, gt: &Gt, tokens: &mut TokenStream) -> Result<()>
     ensures ok { OnOk result (tokens.new ≡ tokens.old ++ closed_printed left) }
     ensures err { OnErr result (IsFront tokens.old tokens.new) }
@@ -299,7 +299,7 @@ fn print_colons(colons: &PathSep, tokens: &mut TokenStream) -> Result<()>
 }
 
 /// Prints segments of which `left` stand before `>`.
-#[tactic(auto, using(syn_leaf::proofs::Fronts::fronts))]
+#[tactic(auto, using(syn_tokens::proofs::Fronts::fronts))]
 fn print_inside<S: ToTokens>(
     mut left: usize,
     gt: &Gt,
@@ -326,7 +326,7 @@ fn print_inside<S: ToTokens>(
 }
 
 /// Prints what stands behind the type of a qualified path.
-#[tactic(auto, using(syn_leaf::proofs::Fronts::fronts), unfolding(syn_tokens::specs::Sign::sign_text, syn_tokens::specs::Sign::word_text))]
+#[tactic(auto, using(syn_tokens::proofs::Fronts::fronts), unfolding(syn_tokens::specs::Sign::sign_text, syn_tokens::specs::Sign::word_text))]
 fn print_qself_end(
     inside: usize,
     as_token: &Option<As>,
@@ -347,7 +347,7 @@ fn print_qself_end(
 }
 
 /// Prints a path behind the type that it is qualified by.
-#[tactic(auto, using(syn_leaf::proofs::Fronts::fronts), unfolding(syn_tokens::specs::Sign::sign_text))]
+#[tactic(auto, using(syn_tokens::proofs::Fronts::fronts), unfolding(syn_tokens::specs::Sign::sign_text))]
 fn print_qualified<T: ToTokens>(
     qself: &QSelfOf<T>,
     path: &PathOf<T>,
@@ -390,7 +390,7 @@ pub fn print_with_qself<T: ToTokens>(
 }
 
 /// Prints values in parentheses, and what follows them.
-#[tactic(auto, using(syn_leaf::proofs::Fronts::fronts), unfolding(crate::specs::Printed::round_printed, syn_tokens::specs::Sign::sign_text))]
+#[tactic(auto, using(syn_tokens::proofs::Fronts::fronts), unfolding(crate::specs::Printed::round_printed, syn_tokens::specs::Sign::sign_text))]
 fn print_round<T: ToTokens, R: ToTokens>(
     paren: &Paren,
     inputs: &Punctuated<T, Comma>,
@@ -408,7 +408,7 @@ fn print_round<T: ToTokens, R: ToTokens>(
 }
 
 /// Prints `->` and a type.
-#[tactic(auto, using(syn_leaf::proofs::Fronts::fronts), unfolding(syn_tokens::specs::Sign::sign_text))]
+#[tactic(auto, using(syn_tokens::proofs::Fronts::fronts), unfolding(syn_tokens::specs::Sign::sign_text))]
 fn print_arrow<T: ToTokens>(arrow: &RArrow, ty: &T, tokens: &mut TokenStream) -> Result<()>
     ensures ok { OnOk result (tokens.new ≡ tokens.old ++ joint 45 ∷ alone 62 ∷ T.printed ty.now) }
     ensures err { OnErr result (IsFront tokens.old tokens.new) }
@@ -419,7 +419,7 @@ fn print_arrow<T: ToTokens>(arrow: &RArrow, ty: &T, tokens: &mut TokenStream) ->
 }
 
 /// Prints what stands before the arguments of a function pointer.
-#[tactic(auto, using(syn_leaf::proofs::Fronts::fronts), unfolding(crate::specs::Printed::fn_head_printed, syn_tokens::specs::Sign::word_text))]
+#[tactic(auto, using(syn_tokens::proofs::Fronts::fronts), unfolding(crate::specs::Printed::fn_head_printed, syn_tokens::specs::Sign::word_text))]
 fn print_fn_head(
     lifetimes: &Option<BoundLifetimes>,
     unsafety: &Option<Unsafe>,
@@ -457,7 +457,7 @@ impl<T: ToTokens> ToTokens for PathArgumentsOf<T> {
 
     ghost printed = { arguments_printed T.printed };
 
-    #[tactic(auto, using(syn_leaf::proofs::Fronts::fronts))]
+    #[tactic(auto, using(syn_tokens::proofs::Fronts::fronts))]
     fn to_tokens(&self, tokens: &mut TokenStream) -> Result<()> {
         match self {
             PathArgumentsOf::None => Ok(()),
@@ -472,7 +472,7 @@ impl<T: ToTokens> ToTokens for ParenthesizedGenericArgumentsOf<T> {
 
     ghost printed = { parenthesized_printed T.printed };
 
-    #[tactic(auto, using(syn_leaf::proofs::Fronts::fronts), unfolding(syn_tokens::specs::Sign::sign_text))]
+    #[tactic(auto, using(syn_tokens::proofs::Fronts::fronts), unfolding(syn_tokens::specs::Sign::sign_text))]
     fn to_tokens(&self, tokens: &mut TokenStream) -> Result<()> {
         print_round(&self.paren_token, &self.inputs, &self.output, tokens)
     }
@@ -483,7 +483,7 @@ impl<T: ToTokens> ToTokens for ReturnTypeOf<T> {
 
     ghost printed = { return_printed T.printed };
 
-    #[tactic(auto, using(syn_leaf::proofs::Fronts::fronts), unfolding(syn_tokens::specs::Sign::sign_text))]
+    #[tactic(auto, using(syn_tokens::proofs::Fronts::fronts), unfolding(syn_tokens::specs::Sign::sign_text))]
     fn to_tokens(&self, tokens: &mut TokenStream) -> Result<()> {
         match self {
             ReturnTypeOf::Default => Ok(()),
@@ -520,7 +520,7 @@ impl<T: ToTokens> ToTokens for TypeFnPtrOf<T> {
 
     ghost printed = { fn_ptr_printed T.printed };
 
-    #[tactic(auto, using(syn_leaf::proofs::Fronts::fronts), unfolding(syn_tokens::specs::Sign::sign_text, syn_tokens::specs::Sign::word_text))]
+    #[tactic(auto, using(syn_tokens::proofs::Fronts::fronts), unfolding(syn_tokens::specs::Sign::sign_text, syn_tokens::specs::Sign::word_text))]
     fn to_tokens(&self, tokens: &mut TokenStream) -> Result<()> {
         print_fn_head(
             &self.lifetimes,

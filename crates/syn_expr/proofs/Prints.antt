@@ -31,19 +31,6 @@ use Rattle.syn_expr.specs.Printing.{segments_behind, noted_behind, words_of, spe
 use Rattle.syn_expr.specs.View.{tree_of, un_kind, bin_kind, lit_of, path_of, attrs_of}
 use Rattle.syn_expr.proofs.TreeOf.{tree-Binary, tree-Lit, tree-Paren, tree-Path, tree-Unary}
 
--- ---- what was there stays in front
-
-pub front_same : (xs : List Tok) → IsFront xs xs
-front_same xs = record { more = []; is = sym (append-nil xs) }
-
-pub front_more : (xs ys zs : List Tok) → ys ≡ xs ++ zs → IsFront xs ys
-front_more xs ys zs e = record { more = zs; is = e }
-
-pub front_through : (xs ys zs : List Tok) → IsFront xs ys → IsFront ys zs → IsFront xs zs
-front_through xs ys zs h k = record { more = h.more ++ k.more; is = k.is ∙ ap (λ a. a ++ k.more) h.is ∙ append_assoc xs h.more k.more }
-
-pub ruleset fronts = (front_same, front_more, front_through)
-
 -- ---- paths
 
 segments_are : (s : List ℕ) (more : List (List ℕ)) → segments_toks (s ∷ more) ≡ ident s ∷ segments_behind true more

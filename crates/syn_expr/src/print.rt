@@ -92,7 +92,7 @@ fn takes_pair(notes: &mut Vec<Note>, expr: &Expr, role: Role, context: Context) 
 
 /// Prints a node in its role, by its note.
 #[cycle(print)]
-#[tactic(auto, using(crate::proofs::Prints::fronts, crate::proofs::Prints::roles))]
+#[tactic(auto, using(syn_tokens::proofs::Fronts::fronts, crate::proofs::Prints::roles))]
 fn print_in(
     tokens: &mut TokenStream,
     notes: &mut Vec<Note>,
@@ -119,7 +119,7 @@ fn print_in(
 
 /// Prints the operands of a binary operation, with its operator between.
 #[cycle(print)]
-#[tactic(auto, using(crate::proofs::Prints::fronts, crate::proofs::Prints::roles, crate::proofs::Prints::joins, crate::proofs::Prints::stacked, syn_grammar::proofs::Stacks::ends_back, syn_grammar::proofs::Stacks::ends_front))]
+#[tactic(auto, using(syn_tokens::proofs::Fronts::fronts, crate::proofs::Prints::roles, crate::proofs::Prints::joins, crate::proofs::Prints::stacked, syn_grammar::proofs::Stacks::ends_back, syn_grammar::proofs::Stacks::ends_front))]
 fn print_two(
     tokens: &mut TokenStream,
     notes: &mut Vec<Note>,
@@ -146,7 +146,7 @@ fn print_two(
 
 /// Prints a node without parentheses of its own.
 #[cycle(print)]
-#[tactic(auto, using(crate::proofs::Prints::fronts, crate::proofs::Prints::spellings, crate::proofs::Prints::joins, crate::proofs::Prints::stacked, crate::proofs::Prints::belows, crate::proofs::Prints::sizes))]
+#[tactic(auto, using(syn_tokens::proofs::Fronts::fronts, crate::proofs::Prints::spellings, crate::proofs::Prints::joins, crate::proofs::Prints::stacked, crate::proofs::Prints::belows, crate::proofs::Prints::sizes))]
 fn print_bare(
     tokens: &mut TokenStream,
     notes: &mut Vec<Note>,
@@ -265,7 +265,7 @@ impl ToTokens for Expr {
     }
 }
 
-#[tactic(auto, using(crate::proofs::Prints::fronts, crate::proofs::Prints::wholes, crate::proofs::Prints::joins))]
+#[tactic(auto, using(syn_tokens::proofs::Fronts::fronts, crate::proofs::Prints::wholes, crate::proofs::Prints::joins))]
 impl ToTokens for ExprLit {
     ghost use Rattle.syn_expr.specs.declared.expr.Expr.TheVariants as ex;
     ghost use Rattle.syn_expr.specs.Printing.{printed_toks};
@@ -281,7 +281,7 @@ impl ToTokens for ExprLit {
     }
 }
 
-#[tactic(auto, using(crate::proofs::Prints::fronts, crate::proofs::Prints::wholes, crate::proofs::Prints::joins))]
+#[tactic(auto, using(syn_tokens::proofs::Fronts::fronts, crate::proofs::Prints::wholes, crate::proofs::Prints::joins))]
 impl ToTokens for ExprPath {
     ghost use Rattle.syn_expr.specs.declared.expr.Expr.TheVariants as ex;
     ghost use Rattle.syn_expr.specs.Printing.{printed_toks};
@@ -297,7 +297,7 @@ impl ToTokens for ExprPath {
     }
 }
 
-#[tactic(auto, using(crate::proofs::Prints::fronts, crate::proofs::Prints::wholes, crate::proofs::Prints::joins))]
+#[tactic(auto, using(syn_tokens::proofs::Fronts::fronts, crate::proofs::Prints::wholes, crate::proofs::Prints::joins))]
 impl ToTokens for ExprParen {
     ghost use Rattle.syn_expr.specs.declared.expr.Expr.TheVariants as ex;
     ghost use Rattle.syn_expr.specs.Printing.{printed_toks};
@@ -315,7 +315,7 @@ impl ToTokens for ExprParen {
     }
 }
 
-#[tactic(auto, using(crate::proofs::Prints::fronts, crate::proofs::Prints::wholes, crate::proofs::Prints::joins))]
+#[tactic(auto, using(syn_tokens::proofs::Fronts::fronts, crate::proofs::Prints::wholes, crate::proofs::Prints::joins))]
 impl ToTokens for ExprUnary {
     ghost use Rattle.syn_expr.specs.declared.expr.Expr.TheVariants as ex;
     ghost use Rattle.syn_expr.specs.Printing.{printed_toks};
@@ -333,7 +333,7 @@ impl ToTokens for ExprUnary {
 }
 
 /// Prints the operands of a binary operation that stands for itself, with its operator between.
-#[tactic(auto, using(crate::proofs::Prints::fronts, crate::proofs::Prints::joins))]
+#[tactic(auto, using(syn_tokens::proofs::Fronts::fronts, crate::proofs::Prints::joins))]
 fn print_operands(tokens: &mut TokenStream, x: &ExprBinary) -> Grown
     ensures ok { OnOk result (tokens.new ≡ tokens.old ++ spelled_two next_spec.enclosed (tree_of x.now.left.value) (inf.Binary (bin_kind x.now.op)) (tree_of x.now.right.value)) }
     ensures front { IsFront tokens.old tokens.new }
@@ -355,7 +355,7 @@ fn print_operands(tokens: &mut TokenStream, x: &ExprBinary) -> Grown
     Ok(())
 }
 
-#[tactic(auto, using(crate::proofs::Prints::fronts, crate::proofs::Prints::wholes, crate::proofs::Prints::joins))]
+#[tactic(auto, using(syn_tokens::proofs::Fronts::fronts, crate::proofs::Prints::wholes, crate::proofs::Prints::joins))]
 impl ToTokens for ExprBinary {
     ghost use Rattle.syn_expr.specs.declared.expr.Expr.TheVariants as ex;
     ghost use Rattle.syn_expr.specs.Printing.{printed_toks};

@@ -95,7 +95,7 @@ fn grown<T>(answer: Result<T>) -> std::result::Result<T, AllocError>
 }
 
 /// Puts a token at the end.
-#[tactic(auto, using(crate::proofs::Prints::fronts))]
+#[tactic(auto, using(syn_tokens::proofs::Fronts::fronts))]
 pub(crate) fn put<T: ToTokens>(tokens: &mut TokenStream, token: &T) -> Grown
     ensures ok { OnOk result (tokens.new ≡ tokens.old ++ T.printed token.now) }
     ensures front { IsFront tokens.old tokens.new }
@@ -104,7 +104,7 @@ pub(crate) fn put<T: ToTokens>(tokens: &mut TokenStream, token: &T) -> Grown
 }
 
 /// Puts a token tree at the end.
-#[tactic(auto, using(crate::proofs::Prints::fronts))]
+#[tactic(auto, using(syn_tokens::proofs::Fronts::fronts))]
 pub(crate) fn put_tree(tokens: &mut TokenStream, tree: TokenTree) -> Grown
     ensures ok { OnOk result (tokens.new ≡ tokens.old ++ tok_of tree ∷ []) }
     ensures front { IsFront tokens.old tokens.new }
@@ -113,7 +113,7 @@ pub(crate) fn put_tree(tokens: &mut TokenStream, tree: TokenTree) -> Grown
 }
 
 /// Puts a word at the end.
-#[tactic(auto, using(crate::proofs::Prints::fronts))]
+#[tactic(auto, using(syn_tokens::proofs::Fronts::fronts))]
 fn put_word(tokens: &mut TokenStream, ident: &Ident) -> Grown
     ensures ok { OnOk result (tokens.new ≡ tokens.old ++ tok.ident ident.now ∷ []) }
     ensures front { IsFront tokens.old tokens.new }
@@ -123,7 +123,7 @@ fn put_word(tokens: &mut TokenStream, ident: &Ident) -> Grown
 }
 
 /// Puts a truth value at the end.
-#[tactic(auto, using(crate::proofs::Prints::fronts))]
+#[tactic(auto, using(syn_tokens::proofs::Fronts::fronts))]
 fn put_bool(tokens: &mut TokenStream, bool: &LitBool) -> Grown
     ensures ok { OnOk result (tokens.new ≡ tokens.old ++ tree.lit_tok (tree.bool bool.now.value) ∷ []) }
     ensures front { IsFront tokens.old tokens.new }
@@ -134,7 +134,7 @@ fn put_bool(tokens: &mut TokenStream, bool: &LitBool) -> Grown
 }
 
 /// Puts a literal at the end.
-#[tactic(auto, using(crate::proofs::Prints::fronts))]
+#[tactic(auto, using(syn_tokens::proofs::Fronts::fronts))]
 pub(crate) fn put_lit(tokens: &mut TokenStream, lit: &Lit) -> Grown
     ensures ok { OnOk result (tokens.new ≡ tokens.old ++ tree.lit_tok (lit_of lit.now) ∷ []) }
     ensures front { IsFront tokens.old tokens.new }
@@ -156,7 +156,7 @@ fn put_colons(tokens: &mut TokenStream, colons: &PathSep) -> Grown
 }
 
 /// Puts a segment of a path at the end, behind `::` where there is one.
-#[tactic(auto, using(crate::proofs::Prints::fronts))]
+#[tactic(auto, using(syn_tokens::proofs::Fronts::fronts))]
 fn put_segment(tokens: &mut TokenStream, colons: Option<PathSep>, ident: &Ident) -> Grown
     ensures ok { OnOk result (tokens.new ≡ tokens.old ++ segment_toks (is_there colons) ident.now) }
     ensures front { IsFront tokens.old tokens.new }
@@ -168,7 +168,7 @@ fn put_segment(tokens: &mut TokenStream, colons: Option<PathSep>, ident: &Ident)
 }
 
 /// Puts the segments of a path at the end, with `::` between.
-#[tactic(auto, using(crate::proofs::Prints::fronts))]
+#[tactic(auto, using(syn_tokens::proofs::Fronts::fronts))]
 fn put_segments(tokens: &mut TokenStream, segments: &Punctuated<PathSegment, PathSep>) -> Grown
     ensures ok { OnOk result (tokens.new ≡ tokens.old ++ segments_behind false (words_of segments.now)) }
     ensures front { IsFront tokens.old tokens.new }
@@ -185,7 +185,7 @@ fn put_segments(tokens: &mut TokenStream, segments: &Punctuated<PathSegment, Pat
 }
 
 /// Puts a path at the end.
-#[tactic(auto, using(crate::proofs::Prints::fronts, crate::proofs::Prints::segments_behind_is), unfolding(crate::specs::View::path_of))]
+#[tactic(auto, using(syn_tokens::proofs::Fronts::fronts, crate::proofs::Prints::segments_behind_is), unfolding(crate::specs::View::path_of))]
 pub(crate) fn put_path(tokens: &mut TokenStream, path: &Path) -> Grown
     ensures ok { OnOk result (tokens.new ≡ tokens.old ++ tree.path_toks (path_of path.now)) }
     ensures front { IsFront tokens.old tokens.new }
@@ -201,7 +201,7 @@ pub(crate) fn put_path(tokens: &mut TokenStream, path: &Path) -> Grown
 }
 
 /// Puts an attribute at the end.
-#[tactic(auto, using(crate::proofs::Prints::fronts), unfolding(syn_tokens::specs::Sign::sign_text))]
+#[tactic(auto, using(syn_tokens::proofs::Fronts::fronts), unfolding(syn_tokens::specs::Sign::sign_text))]
 fn put_attr(tokens: &mut TokenStream, attr: &Attribute) -> Grown
     ensures ok { OnOk result (tokens.new ≡ tokens.old ++ tree.attr_toks (record { tokens = tok.inside attr.now.tokens })) }
     ensures front { IsFront tokens.old tokens.new }
@@ -212,7 +212,7 @@ fn put_attr(tokens: &mut TokenStream, attr: &Attribute) -> Grown
 }
 
 /// Puts the outer attributes at the end.
-#[tactic(auto, using(crate::proofs::Prints::fronts), unfolding(crate::specs::View::attrs_of))]
+#[tactic(auto, using(syn_tokens::proofs::Fronts::fronts), unfolding(crate::specs::View::attrs_of))]
 pub(crate) fn put_attrs(tokens: &mut TokenStream, attrs: &Vec<Attribute>) -> Grown
     ensures ok { OnOk result (tokens.new ≡ tokens.old ++ tree.attrs_toks (attrs_of attrs.now)) }
     ensures front { IsFront tokens.old tokens.new }

@@ -1,4 +1,3 @@
-pub mod Fronts
 pub mod Numbers
 pub mod LitFits
 pub mod Groups

@@ -84,7 +84,7 @@ pub struct LitBool {
 }
 
 /// Prints a number, behind its sign.
-#[tactic(auto, using(crate::proofs::Fronts::fronts), unfolding(syn_tokens::specs::Sign::sign_text))]
+#[tactic(auto, using(syn_tokens::proofs::Fronts::fronts), unfolding(syn_tokens::specs::Sign::sign_text))]
 fn print_number(minus: &Option<Minus>, token: &Literal, tokens: &mut TokenStream) -> Result<()>
     ensures ok { OnOk result (tokens.new ≡ tokens.old ++ number_printed minus.now token.now) }
     ensures err { OnErr result (IsFront tokens.old tokens.new) }

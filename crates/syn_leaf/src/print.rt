@@ -20,7 +20,7 @@ impl ToTokens for Lifetime {
 
     ghost printed = { λ x. lifetime_own (lifetime_of x) [] };
 
-    #[tactic(auto, using(crate::proofs::Fronts::fronts))]
+    #[tactic(auto, using(syn_tokens::proofs::Fronts::fronts))]
     fn to_tokens(&self, tokens: &mut TokenStream) -> Result<()> {
         tokens.push(TokenTree::Punct(Punct {
             ch: '\'',
@@ -32,7 +32,7 @@ impl ToTokens for Lifetime {
 }
 
 /// Prints the `!` of an inner attribute.
-#[tactic(auto, using(crate::proofs::Fronts::fronts), unfolding(syn_tokens::specs::Sign::sign_text))]
+#[tactic(auto, using(syn_tokens::proofs::Fronts::fronts), unfolding(syn_tokens::specs::Sign::sign_text))]
 fn print_style(style: &AttrStyle, tokens: &mut TokenStream) -> Result<()>
     ensures ok { OnOk result (tokens.new ≡ tokens.old ++ bang_printed (is_inner style.now)) }
     ensures err { OnErr result (IsFront tokens.old tokens.new) }
@@ -50,7 +50,7 @@ impl ToTokens for Attribute {
 
     ghost printed = { λ x. attribute_own (attribute_of x) [] };
 
-    #[tactic(auto, using(crate::proofs::Fronts::fronts), unfolding(syn_tokens::specs::Sign::sign_text))]
+    #[tactic(auto, using(syn_tokens::proofs::Fronts::fronts), unfolding(syn_tokens::specs::Sign::sign_text))]
     fn to_tokens(&self, tokens: &mut TokenStream) -> Result<()> {
         self.pound_token.to_tokens(tokens)?;
         print_style(&self.style, tokens)?;
@@ -65,7 +65,7 @@ impl ToTokens for Block {
 
     ghost printed = { λ x. block_own x.stmts [] };
 
-    #[tactic(auto, using(crate::proofs::Fronts::fronts), unfolding(syn_parts::specs::Own::block_own))]
+    #[tactic(auto, using(syn_tokens::proofs::Fronts::fronts), unfolding(syn_parts::specs::Own::block_own))]
     fn to_tokens(&self, tokens: &mut TokenStream) -> Result<()> {
         let inside = copy_trees(tokens.alloc(), self.stmts.trees())?;
         tokens.push(self.brace_token.enclose(inside))?;

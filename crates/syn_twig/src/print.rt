@@ -12,7 +12,7 @@ use syn_tokens::error::{ErrorKind, Result};
 use syn_tokens::tree::TokenStream;
 
 /// Prints a part that may be missing.
-#[tactic(auto, using(syn_leaf::proofs::Fronts::fronts), unfolding(crate::specs::Printed::option_printed))]
+#[tactic(auto, using(syn_tokens::proofs::Fronts::fronts), unfolding(crate::specs::Printed::option_printed))]
 pub fn print_some<T: ToTokens>(part: &Option<T>, tokens: &mut TokenStream) -> Result<()>
     ensures ok { OnOk result (tokens.new ≡ tokens.old ++ option_printed T.printed part.now) }
     ensures err { OnErr result (IsFront tokens.old tokens.new) }
@@ -25,7 +25,7 @@ pub fn print_some<T: ToTokens>(part: &Option<T>, tokens: &mut TokenStream) -> Re
 }
 
 /// Prints values with the puncts behind them.
-#[tactic(auto, using(syn_leaf::proofs::Fronts::fronts))]
+#[tactic(auto, using(syn_tokens::proofs::Fronts::fronts))]
 fn print_pairs<T: ToTokens, P: ToTokens>(
     mut pairs: &[(T, P)],
     tokens: &mut TokenStream,
@@ -47,7 +47,7 @@ impl<T: ToTokens, P: ToTokens> ToTokens for Punctuated<T, P> {
 
     ghost printed = { punctuated_printed T.printed P.printed };
 
-    #[tactic(auto, using(syn_leaf::proofs::Fronts::fronts), unfolding(crate::specs::Printed::punctuated_printed, crate::specs::Printed::option_printed))]
+    #[tactic(auto, using(syn_tokens::proofs::Fronts::fronts), unfolding(crate::specs::Printed::punctuated_printed, crate::specs::Printed::option_printed))]
     fn to_tokens(&self, tokens: &mut TokenStream) -> Result<()> {
         print_pairs(&self.inner, tokens)?;
         match &self.last {
@@ -78,7 +78,7 @@ impl ToTokens for BoundLifetimes {
 
     ghost printed = { λ x. lifetimes_own (lifetimes_of x) [] };
 
-    #[tactic(auto, using(syn_leaf::proofs::Fronts::fronts), unfolding(syn_tokens::specs::Sign::sign_text, syn_tokens::specs::Sign::word_text))]
+    #[tactic(auto, using(syn_tokens::proofs::Fronts::fronts), unfolding(syn_tokens::specs::Sign::sign_text, syn_tokens::specs::Sign::word_text))]
     fn to_tokens(&self, tokens: &mut TokenStream) -> Result<()> {
         self.for_token.to_tokens(tokens)?;
         self.lt_token.to_tokens(tokens)?;
@@ -93,7 +93,7 @@ impl ToTokens for Abi {
 
     ghost printed = { λ x. extern_own (abi_of x) [] };
 
-    #[tactic(auto, using(syn_leaf::proofs::Fronts::fronts), unfolding(syn_tokens::specs::Sign::word_text, crate::specs::Printed::option_printed))]
+    #[tactic(auto, using(syn_tokens::proofs::Fronts::fronts), unfolding(syn_tokens::specs::Sign::word_text, crate::specs::Printed::option_printed))]
     fn to_tokens(&self, tokens: &mut TokenStream) -> Result<()> {
         self.extern_token.to_tokens(tokens)?;
         print_some(&self.name, tokens)
