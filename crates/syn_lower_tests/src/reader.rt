@@ -510,8 +510,7 @@ fn held(alloc: Global, text: &str) -> Result<String, Error> {
     let Some(qself) = qself else {
         return words(alloc, "no type in front");
     };
-    Ok(format!(
-        in alloc;
+    Ok(format!(in alloc;
         "{} of {}, as: {}, colons: {}",
         qself.position,
         path.segments.len(),
