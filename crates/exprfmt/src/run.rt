@@ -20,7 +20,7 @@ use syn_expr::expr::Expr;
 use syn_expr::fixup::FixupContext;
 use syn_expr::print::print_expr;
 use syn_tokens::error::{Error, ErrorKind, Result};
-use syn_tokens::lex::lex;
+use syn_tokens::lexer::lex;
 use syn_tokens::span::Span;
 use syn_tokens::text::to_text;
 use syn_tokens::tree::TokenStream;

@@ -6,7 +6,7 @@ use std::test::Fail;
 use syn_tokens::buffer::{Parse, ParseBuffer, ToTokens};
 use syn_tokens::copy::copy_trees;
 use syn_tokens::error::Error;
-use syn_tokens::lex::lex;
+use syn_tokens::lexer::lex;
 use syn_tokens::text::to_text;
 use syn_tokens::tree::TokenStream;
 use syn_tokens::whole::{parse_str, parse2};

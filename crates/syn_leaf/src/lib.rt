@@ -16,6 +16,4 @@ mod parse;
 mod print;
 pub mod read_back;
 pub mod same;
-#[cfg(test)]
-mod tests;
 pub mod text;

@@ -10,7 +10,7 @@ use syn_leaf::kept::any_group;
 use syn_leaf::lifetime::Lifetime;
 use syn_tokens::buffer::{Parse, ParseBuffer, ToTokens};
 use syn_tokens::error::{Error, ErrorKind, Expected, Part, Wanted};
-use syn_tokens::lex::lex;
+use syn_tokens::lexer::lex;
 use syn_tokens::span::Span;
 use syn_tokens::text::to_text;
 use syn_tokens::token::Group;

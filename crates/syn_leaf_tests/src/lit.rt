@@ -7,6 +7,7 @@ use std::test::Fail;
 use syn_leaf::lit::{
     Lit, LitBool, LitByte, LitByteStr, LitCStr, LitChar, LitFloat, LitInt, LitStr,
 };
+use syn_leaf::text::{is_number, is_truth, kind_of};
 use syn_tokens::buffer::Parse;
 use syn_tokens::error::{Error, ErrorKind, Part};
 use syn_tokens::whole::parse_str;
@@ -64,8 +65,10 @@ cr"x" | CStr
 b'x'  | Byte
 'x'   | Char
 0b1e1 | Int
+0x1e5 | Int
 1f32  | Int
 1e1   | Float
+1e3   | Float
 1.    | Float
 false | Bool
 "#;
@@ -248,16 +251,20 @@ fn own_verdict(alloc: Global, text: &str) -> Result<String, Error> {
 }
 
 const READ_BACK_AS_OWN_KIND: &str = r#"
-"a"  | same
-b"a" | same
-c"a" | same
-b'a' | same
-'a'  | same
-1    | same
-1.5  | same
-true | same
--1   | refused
--1.5 | refused
+"a"    | same
+b"a"   | same
+c"a"   | same
+b'a'   | same
+'a'    | same
+1      | same
+0x1e5  | same
+1.5    | same
+1e3    | same
+true   | same
+-1     | refused
+-0x1e5 | refused
+-1.5   | refused
+-1e3   | refused
 "#;
 
 #[test]
@@ -273,4 +280,46 @@ const FLOATS_AT_THE_FRONT: &str = "
 #[test]
 fn a_refused_number_is_left(rt: HostRuntime) -> Result<(), Fail> {
     check(rt.alloc(), FLOATS_AT_THE_FRONT, left::<LitFloat>)
+}
+
+/// The kind of a token by its text alone, and whether the text is that of a number.
+fn kind_of_text(alloc: Global, text: &str) -> Result<String, Error> {
+    let text = text.trim_end();
+    let number = if is_number(text) { ", a number" } else { "" };
+    match kind_of(text) {
+        Some(kind) => Ok(format!(in alloc; "{kind:?}{number}")?),
+        None => words(alloc, "none"),
+    }
+}
+
+const KINDS_OF_TEXTS: &str = r##"
+"a"    | Str
+r#"a"# | Str
+b"a"   | ByteStr
+br"a"  | ByteStr
+c"a"   | CStr
+cr"a"  | CStr
+b'a'   | Byte
+'a'    | Char
+1      | Int, a number
+0x1e5  | Int, a number
+0o1    | Int, a number
+1f32   | Int, a number
+1_e3   | Float, a number
+1.     | Float, a number
+truth  | none
+-1     | none
+"##;
+
+#[test]
+fn tokens_by_their_kind(rt: HostRuntime) -> Result<(), Fail> {
+    check(rt.alloc(), KINDS_OF_TEXTS, kind_of_text)
+}
+
+#[test]
+fn words_of_truth(rt: HostRuntime) {
+    assert!(rt; is_truth("true"));
+    assert!(rt; is_truth("false"));
+    assert!(rt; !is_truth("truth"));
+    assert!(rt; !is_truth("True"));
 }

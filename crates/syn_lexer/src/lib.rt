@@ -8,7 +8,5 @@ pub mod lexeme;
 mod number;
 mod quote;
 pub mod reserved;
-#[cfg(test)]
-mod tests;
 mod text;
 mod word;

@@ -1,5 +1,5 @@
 //! The lower parts of expressions: literals, attributes, lifetimes, paths, types, bounds, macros, blocks, and lists with
-//! puncts, as in syn.
+//! puncts, as in syn. Their names stand in syn's modules, and here at the root too.
 #![tactic(auto)]
 
 pub mod generics;
@@ -12,5 +12,25 @@ pub mod readers;
 pub mod stmt;
 pub mod ty;
 
+pub use mac::{Macro, MacroDelimiter};
+pub use path::{
+    AngleBracketedGenericArguments, AssocType, GenericArgument, ParenthesizedGenericArguments,
+    Path, PathArguments, PathSegment, PathStyle, QSelf,
+};
+pub use print::print_qpath;
+pub use read_back::qpath_is_read_back;
+pub use readers::qpath;
+pub use stmt::Block;
+pub use syn_leaf::attr::{AttrStyle, Attribute};
+pub use syn_leaf::lifetime::Lifetime;
+pub use syn_leaf::lit::{
+    Lit, LitBool, LitByte, LitByteStr, LitCStr, LitChar, LitFloat, LitInt, LitStr,
+};
 pub use syn_leaf::{attr, lifetime, lit};
 pub use syn_twig::punctuated;
+pub use syn_twig::punctuated::Punctuated;
+pub use ty::{
+    Abi, BareFnArg, BoundLifetimes, PointerMutability, ReturnType, TraitBound, Type, TypeArray,
+    TypeFnPtr, TypeImplTrait, TypeInfer, TypeMacro, TypeNever, TypeParamBound, TypeParen, TypePath,
+    TypePtr, TypeReference, TypeSlice, TypeTraitObject, TypeTuple,
+};

@@ -22,7 +22,7 @@ use syn_parts::label::PathStyle;
 use syn_tokens::buffer::ParseBuffer;
 use syn_tokens::copy::copy_ident;
 use syn_tokens::error::{Error, ErrorKind};
-use syn_tokens::lex::lex;
+use syn_tokens::lexer::lex;
 use syn_tokens::span::Span;
 use syn_tokens::token::{Comma, PathSep, Plus};
 use syn_tokens::tree::{Ident, TokenStream, TokenTree};

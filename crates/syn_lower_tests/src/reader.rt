@@ -18,7 +18,7 @@ use syn_lower::ty::{
 };
 use syn_tokens::buffer::Parse;
 use syn_tokens::error::Error;
-use syn_tokens::lex::lex;
+use syn_tokens::lexer::lex;
 use syn_tokens::span::Span;
 use syn_tokens::text::to_text;
 use syn_tokens::token::Group;

@@ -9,7 +9,7 @@ use syn_lower::punctuated::Punctuated;
 use syn_lower::readers::qpath;
 use syn_lower::ty::{BoundLifetimes, Type, TypeParamBound};
 use syn_tokens::buffer::{ParseBuffer, ToTokens};
-use syn_tokens::lex::lex;
+use syn_tokens::lexer::lex;
 use syn_tokens::text::to_text;
 use syn_tokens::token::Comma;
 use syn_tokens::tree::TokenStream;

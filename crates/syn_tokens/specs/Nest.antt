@@ -3,8 +3,8 @@ use Rattle.std.specs.Prelude.{◌≢◌, List, [], ◌∷◌, ◌++◌, map}
 use Rattle.syn_lexer.specs.declared.lexeme.Delimiter.{Delimiter}
 use Rattle.syn_tokens.specs.Tok.{Tok}
 use Rattle.syn_tokens.specs.Lex.{Piece, opens, flat}
-use Rattle.syn_tokens.specs.declared.lex.Open as code
-use Rattle.syn_tokens.specs.declared.lex.Nest.{Nest}
+use Rattle.syn_tokens.specs.declared.lexer.Open as code
+use Rattle.syn_tokens.specs.declared.lexer.Nest.{Nest}
 
 -- a group that is open, behind these trees
 abbrev pub Open : Type 0

@@ -4,7 +4,7 @@ ghost use Rattle.std.specs.Prelude.{◌≡◌, ◌⊎◌, chars, IfOk, IfErr};
 ghost use Rattle.syn_tokens.specs.Lex.{IsIdentText, IsLiteralText, IsLexRefusal};
 
 use crate::error::{Error, ErrorKind, LexError, Result};
-use crate::lex::{chars_of, lex};
+use crate::lexer::{chars_of, lex};
 use crate::span::Span;
 use crate::tree::{Ident, Literal};
 use std::alloc::Global;

@@ -7,7 +7,7 @@ ghost use Rattle.syn_tokens.specs.Tok.{Tok};
 
 use crate::buffer::{Parse, ParseBuffer};
 use crate::error::{Error, ErrorKind, Result};
-use crate::lex::lex;
+use crate::lexer::lex;
 use crate::tree::TokenStream;
 use std::alloc::Global;
 

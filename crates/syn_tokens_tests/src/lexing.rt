@@ -6,7 +6,7 @@ use std::alloc::Global;
 use std::test::Fail;
 use syn_tokens::buffer::ParseBuffer;
 use syn_tokens::error::{Error, ErrorKind, LexError};
-use syn_tokens::lex::lex;
+use syn_tokens::lexer::lex;
 use syn_tokens::span::Span;
 use syn_tokens::text::to_text;
 

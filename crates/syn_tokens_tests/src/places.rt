@@ -6,7 +6,7 @@ use std::alloc::Global;
 use std::test::Fail;
 use syn_tokens::buffer::{Parse, ParseBuffer, ToTokens, Token};
 use syn_tokens::error::{Error, ErrorKind, Expected, Wanted};
-use syn_tokens::lex::lex;
+use syn_tokens::lexer::lex;
 use syn_tokens::span::Span;
 use syn_tokens::token::{Paren, Plus, PlusEq, Underscore, Yield};
 use syn_tokens::tree::{Ident, Literal, TokenStream, TokenTree};

@@ -6,7 +6,7 @@ use std::alloc::Global;
 use std::test::Fail;
 use syn_tokens::buffer::ParseBuffer;
 use syn_tokens::error::Error;
-use syn_tokens::lex::lex;
+use syn_tokens::lexer::lex;
 use syn_tokens::list::{optional, to_end};
 use syn_tokens::parse::parse_any_word;
 use syn_tokens::span::Span;

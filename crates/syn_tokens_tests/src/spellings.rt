@@ -4,7 +4,7 @@ use std::alloc::Global;
 use std::test::Fail;
 use syn_tokens::buffer::{Parse, ParseBuffer, ToTokens, Token};
 use syn_tokens::error::Error;
-use syn_tokens::lex::lex;
+use syn_tokens::lexer::lex;
 use syn_tokens::text::to_text;
 use syn_tokens::token::{self, Sign, Word};
 use syn_tokens::tree::TokenStream;

@@ -7,7 +7,7 @@ use std::test::Fail;
 use syn_tokens::buffer::ParseBuffer;
 use syn_tokens::copy::{copy_ident, copy_literal, copy_tree, copy_trees};
 use syn_tokens::error::Error;
-use syn_tokens::lex::lex;
+use syn_tokens::lexer::lex;
 use syn_tokens::span::Span;
 use syn_tokens::text::to_text;
 use syn_tokens::tree::{Ident, TokenStream, TokenTree};

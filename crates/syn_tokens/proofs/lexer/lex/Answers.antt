@@ -1,6 +1,6 @@
 use Rattle.std.proofs.Common.{◌≡◌, ◌∙◌, chars}
 use Rattle.syn_tokens.proofs.Lexes.{gives_only}
-use Rattle.syn_tokens.proofs.lex.lex.Goals as goal
+use Rattle.syn_tokens.proofs.lexer.lex.Goals as goal
 
 pub returns-clause-found : goal.returns-clause-found
 returns-clause-found c = λ ts is.

@@ -2,7 +2,7 @@ use Rattle.std.proofs.Common.{map}
 use Rattle.std.proofs.lemmas.List.{map-append}
 use Rattle.syn_tokens.specs.Nest.{open_of}
 use Rattle.syn_tokens.proofs.Nests.{unfinished-opens}
-use Rattle.syn_tokens.proofs.lex.Nest.opens.Goals as goal
+use Rattle.syn_tokens.proofs.lexer.Nest.opens.Goals as goal
 
 pub returns-clause-ok : goal.returns-clause-ok
 returns-clause-ok c =

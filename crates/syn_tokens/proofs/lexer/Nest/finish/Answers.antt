@@ -3,7 +3,7 @@ use Rattle.std.proofs.lemmas.List.{map-append}
 use Rattle.syn_tokens.specs.Nest.{open_of}
 use Rattle.syn_tokens.proofs.Nests.{misfits_open}
 use Rattle.syn_tokens.proofs.Views.{no_items}
-use Rattle.syn_tokens.proofs.lex.Nest.finish.Goals as goal
+use Rattle.syn_tokens.proofs.lexer.Nest.finish.Goals as goal
 
 pub returns-in-None-clause-value : goal.returns-in-None-clause-value
 returns-in-None-clause-value c =

@@ -2,7 +2,7 @@ use Rattle.std.proofs.Common.{◌≡◌, ◌<◌, length, arith, inl, inr}
 use Rattle.std.proofs.lemmas.Grind.{common_steps}
 use Rattle.syn_tokens.specs.Nest.{nest_pieces}
 use Rattle.syn_tokens.proofs.Lexes.{found, refused, so_far_more, refused_front, refused_lexeme, all_read}
-use Rattle.syn_tokens.proofs.lex.lex_chars.Goals as goal
+use Rattle.syn_tokens.proofs.lexer.lex_chars.Goals as goal
 
 pub loop-rest-preserved : goal.loop-rest-preserved
 loop-rest-preserved c =

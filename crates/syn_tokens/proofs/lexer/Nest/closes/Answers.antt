@@ -3,7 +3,7 @@ use Rattle.std.proofs.lemmas.List.{map-append}
 use Rattle.syn_tokens.specs.Nest.{open_of}
 use Rattle.syn_tokens.proofs.Nests.{misfits_alone, misfits_other, unfinished-closes}
 use Rattle.syn_tokens.proofs.Views.{no_items}
-use Rattle.syn_tokens.proofs.lex.Nest.closes.Goals as goal
+use Rattle.syn_tokens.proofs.lexer.Nest.closes.Goals as goal
 
 pub returns-in_default-clause-err : goal.returns-in_default-clause-err
 returns-in_default-clause-err c =
