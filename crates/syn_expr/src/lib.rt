@@ -31,7 +31,7 @@ pub use print::{print_counted, print_expr};
 pub use punctuated::Punctuated;
 pub use syn_tokens::{
     AfterCast, Delimiter, Error, ErrorKind, Expected, Group, Ident, LexError, Literal, Parse,
-    ParseBuffer, Part, Punct, Result, Spacing, Span, ToTokens, Token, TokenStream, TokenTree, Wanted,
-    WantedKind, copy_ident, copy_literal, copy_tree, copy_trees, lex, parse_any_word, parse_str,
-    parse2, to_text, token,
+    ParseBuffer, Part, Punct, Result, Spacing, Span, ToTokens, Token, TokenStream, TokenTree,
+    Wanted, WantedKind, copy_ident, copy_literal, copy_tree, copy_trees, lex, parse_any_word,
+    parse_str, parse2, to_text, token,
 };
