@@ -20,7 +20,9 @@ pub mod whole;
 
 pub use buffer::{Parse, ParseBuffer, ToTokens, Token};
 pub use copy::{copy_ident, copy_literal, copy_tree, copy_trees};
-pub use error::{AfterCast, Error, ErrorKind, Expected, LexError, Part, Result, Wanted, WantedKind};
+pub use error::{
+    AfterCast, Error, ErrorKind, Expected, LexError, Part, Result, Wanted, WantedKind,
+};
 pub use lexer::lex;
 pub use parse::parse_any_word;
 pub use span::Span;
