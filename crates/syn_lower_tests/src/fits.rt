@@ -3,30 +3,17 @@
 use rows::{again, check, verdict, words};
 use std::alloc::Global;
 use std::test::Fail;
-use syn_leaf::lit::LitStr;
-use syn_lower::mac::Macro;
-use syn_lower::path::{
-    AngleBracketedGenericArguments, AssocType, GenericArgument, ParenthesizedGenericArguments,
-    Path, PathArguments, PathSegment, QSelf,
+use syn_lower::{
+    Abi, AngleBracketedGenericArguments, AssocType, BareFnArg, BoundLifetimes, GenericArgument,
+    LitStr, Macro, ParenthesizedGenericArguments, Path, PathArguments, PathSegment, PathStyle,
+    PointerMutability, Punctuated, QSelf, ReturnType, TraitBound, Type, TypeArray, TypeFnPtr,
+    TypeImplTrait, TypeParamBound, TypeParen, TypePath, TypePtr, TypeReference, TypeSlice,
+    TypeTraitObject, TypeTuple, print_qpath, qpath, qpath_is_read_back,
 };
-use syn_lower::print::print_qpath;
-use syn_lower::punctuated::Punctuated;
-use syn_lower::read_back::qpath_is_read_back;
-use syn_lower::readers::qpath;
-use syn_lower::ty::{
-    Abi, BareFnArg, BoundLifetimes, PointerMutability, ReturnType, TraitBound, Type, TypeArray,
-    TypeFnPtr, TypeImplTrait, TypeParamBound, TypeParen, TypePath, TypePtr, TypeReference,
-    TypeSlice, TypeTraitObject, TypeTuple,
-};
-use syn_parts::label::PathStyle;
-use syn_tokens::buffer::ParseBuffer;
-use syn_tokens::copy::copy_ident;
-use syn_tokens::error::{Error, ErrorKind};
-use syn_tokens::lexer::lex;
-use syn_tokens::span::Span;
 use syn_tokens::token::{Comma, PathSep, Plus};
-use syn_tokens::tree::{Ident, TokenStream, TokenTree};
-use syn_tokens::whole::parse_str;
+use syn_tokens::{
+    Error, ErrorKind, Ident, ParseBuffer, Span, TokenStream, TokenTree, copy_ident, lex, parse_str,
+};
 
 /// A word, reserved or not.
 fn word(alloc: Global, text: &str) -> Result<Ident, Error> {

@@ -5,24 +5,15 @@
 use rows::{check, left, left_by, words};
 use std::alloc::Global;
 use std::test::Fail;
-use syn_lower::mac::Macro;
-use syn_lower::path::{
-    AngleBracketedGenericArguments, AssocType, GenericArgument, ParenthesizedGenericArguments,
-    Path, PathSegment,
+use syn_lower::{
+    Abi, AngleBracketedGenericArguments, AssocType, BareFnArg, BoundLifetimes, GenericArgument,
+    Macro, ParenthesizedGenericArguments, Path, PathSegment, PointerMutability, ReturnType,
+    TraitBound, Type, TypeArray, TypeFnPtr, TypeImplTrait, TypeInfer, TypeMacro, TypeNever,
+    TypeParamBound, TypeParen, TypePath, TypePtr, TypeReference, TypeSlice, TypeTraitObject,
+    TypeTuple, qpath,
 };
-use syn_lower::readers::qpath;
-use syn_lower::ty::{
-    Abi, BareFnArg, BoundLifetimes, PointerMutability, ReturnType, TraitBound, Type, TypeArray,
-    TypeFnPtr, TypeImplTrait, TypeInfer, TypeMacro, TypeNever, TypeParamBound, TypeParen, TypePath,
-    TypePtr, TypeReference, TypeSlice, TypeTraitObject, TypeTuple,
-};
-use syn_tokens::buffer::Parse;
-use syn_tokens::error::Error;
-use syn_tokens::lexer::lex;
-use syn_tokens::span::Span;
-use syn_tokens::text::to_text;
 use syn_tokens::token::Group;
-use syn_tokens::whole::{parse_str, parse2};
+use syn_tokens::{Error, Parse, Span, lex, parse_str, parse2, to_text};
 
 const TYPES: &str = r#"
 u8 <= T             | <= T
@@ -67,6 +58,11 @@ u8 <- T             | 4..5 expected a literal
 A::B::              | 6..6 expected a path
 A::fn               | 3..5 expected a path
 Fn::(A)             | 4..7 expected a path
+Fn(A)::B            |
+super(A)            | (A)
+dyn 'a              |
+fn(self: A)         | 7..8 unexpected token
+fn(#[k] A)          | 3..4 expected a path
 A<B C>              | 4..5 expected `>`
 A<,>                | 2..3 expected a path
 A(B C)              | 4..5 unexpected token

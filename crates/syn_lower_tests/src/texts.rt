@@ -2,17 +2,12 @@
 
 use rows::{check, compared, printed};
 use std::test::Fail;
-use syn_lower::mac::Macro;
-use syn_lower::path::{GenericArgument, Path, PathSegment};
-use syn_lower::print::print_qpath;
-use syn_lower::punctuated::Punctuated;
-use syn_lower::readers::qpath;
-use syn_lower::ty::{BoundLifetimes, Type, TypeParamBound};
-use syn_tokens::buffer::{ParseBuffer, ToTokens};
-use syn_tokens::lexer::lex;
-use syn_tokens::text::to_text;
+use syn_lower::{
+    BoundLifetimes, GenericArgument, Macro, Path, PathSegment, Punctuated, Type, TypeParamBound,
+    print_qpath, qpath,
+};
 use syn_tokens::token::Comma;
-use syn_tokens::tree::TokenStream;
+use syn_tokens::{ParseBuffer, ToTokens, TokenStream, lex, to_text};
 
 /// Whole texts, and what is printed of them or their refusals.
 const TYPES: &str = r#"
