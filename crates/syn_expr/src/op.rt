@@ -362,15 +362,11 @@ impl Parse for BinOp {
 
     ghost least = { 1 };
 
+    ghost refuses = { λ k. k ≡ ExpectedBinaryOperator };
+
     /// Takes the longest operator at the front. It is refused as `ExpectedBinaryOperator` where there is none, or one
     /// that is no variant, as `=`, `..` and `as`; `->`, `=>` and `<-` are none. It takes no memory.
-    fn parse(input: &mut ParseBuffer<'_>) -> Result<Self>
-        ensures read { IfOk result (λ op. input.new.noted ≡ false → SpellsBinOp input.old.rest (bin_kind op) input.new.rest) }
-        ensures found { (op : Kind) (rest : List Tok) → input.old.noted ≡ false → SpellsBinOp input.old.rest op rest → Reaches bin_kind op rest result input.new }
-        ensures after { IsAfter input.old input.new }
-        ensures moves { IfOk result (λ op. 1 + weight input.new.rest ≤ weight input.old.rest) }
-        ensures refused { IfErr result (λ e. e.kind ≡ ExpectedBinaryOperator) }
-    {
+    fn parse(input: &mut ParseBuffer<'_>) -> Result<Self> {
         let Some((Infix::Binary(kind), count)) = infix_at(input) else {
             return Err(input.error(ErrorKind::ExpectedBinaryOperator));
         };

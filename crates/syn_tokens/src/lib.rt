@@ -6,7 +6,6 @@ pub mod copy;
 pub mod error;
 pub mod floats;
 pub mod lex;
-pub mod list;
 mod make;
 pub mod parse;
 pub mod same;
