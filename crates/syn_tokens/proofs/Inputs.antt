@@ -4,7 +4,6 @@ use Rattle.std.specs.Prelude.{Option, Some, None}
 use Rattle.std.proofs.lemmas.List.{take-append-drop}
 use Rattle.std.proofs.Math.Seq.{drop-append_seam}
 use Rattle.syn_tokens.specs.Input.{Input, IsTail, IsAfter}
-use Rattle.syn_tokens.specs.declared.span.Span.{Span}
 use Rattle.syn_tokens.specs.View.{toks_of, toks_of-append, length-toks_of, toks_of-drop}
 use Rattle.syn_tokens.specs.declared.tree.TokenTree.{TokenTree}
 

@@ -33,7 +33,7 @@ pub returns-in-Err-clause-kind : goal.returns-in-Err-clause-kind
 returns-in-Err-clause-kind c =
     let more : 0 < length c.loop-rest.rest.now = grind (arith, common_steps) in
     let is = c.loop-rest.invariant.refusal_is
-        ∙ refusal_step-refused (delimiters_of c.loop-rest.nest) c.loop-rest.rest.now c.in-Err.e.error c.in-Err.e.len more c.in-Err.ensures.refused in
+    ∙ refusal_step-refused (delimiters_of c.loop-rest.nest) c.loop-rest.rest.now c.in-Err.e.error c.in-Err.e.len more c.in-Err.ensures.refused in
     inr (rw is c.refusal.ensures)
 
 pub returns-in-Err-take-clause-refused : goal.returns-in-Err-take-clause-refused
@@ -49,7 +49,7 @@ pub returns-in-Err-take-clause-kind : goal.returns-in-Err-take-clause-kind
 returns-in-Err-take-clause-kind c =
     let more : 0 < length c.loop-rest.rest.now = grind (arith, common_steps) in
     let is = c.loop-rest.invariant.refusal_is
-        ∙ refusal_step (delimiters_of c.loop-rest.nest) c.loop-rest.rest.now c.in-Ok.lexeme.kind c.in-Ok.lexeme.len more c.in-Ok.ensures.within.0 c.in-Ok.ensures.value in
+    ∙ refusal_step (delimiters_of c.loop-rest.nest) c.loop-rest.rest.now c.in-Ok.lexeme.kind c.in-Ok.lexeme.len more c.in-Ok.ensures.within.0 c.in-Ok.ensures.value in
     elim c.in-Err-take.ensures.kind [
       | inl m ↦ inl m
       | inr closes ↦ inr (rw (is, closes.0) closes.1)

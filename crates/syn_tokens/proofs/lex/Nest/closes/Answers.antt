@@ -36,7 +36,7 @@ returns-then-not-is_same-clause-kind c =
         delimiters-append (map open_of c.pop.new.self.items) (open_of c.in-Some.open) [],
         ← c.if-not-is_same.ensures.value,
       )
-      refl,
+          refl,
       c.refusal-then-not-is_same.ensures,
     )
 
