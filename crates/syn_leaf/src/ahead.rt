@@ -1,6 +1,6 @@
 //! Reading on a fork: what each reader of a part has in common with the others.
 
-ghost use Rattle.std.specs.Prelude.{◌≡◌, ◌≤◌, ◌+◌, false, IfOk, List, Some};
+ghost use Rattle.std.specs.Prelude.{◌≡◌, ◌≤◌, ◌+◌, IfOk, List, None, Some};
 ghost use Rattle.syn_parts.specs.Laws.{IsReadable};
 ghost use Rattle.syn_tokens.specs.Input.{IsAfter, Reaches};
 ghost use Rattle.syn_tokens.specs.Tok.{Tok, weight};
