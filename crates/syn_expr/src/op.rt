@@ -1,6 +1,6 @@
 //! Operators (Rust Reference, "Operator expressions").
 
-ghost use Rattle.std.specs.Prelude.{◌≡◌, ◌≤◌, ◌<◌, ◌+◌, length, false, IfSome, IfOk, IfErr, List};
+ghost use Rattle.std.specs.Prelude.{◌≡◌, ◌<◌, length, IfSome};
 ghost use Rattle.syn_grammar.specs.Op as spec;
 ghost use Rattle.syn_grammar.specs.Place as place;
 ghost use Rattle.syn_tokens.specs.declared.error.ErrorKind.TheVariants.{ExpectedBinaryOperator};
@@ -351,8 +351,6 @@ impl UnOp {
 impl Parse for BinOp {
     ghost use Rattle.syn_expr.specs.Reads.{SpellsBinOp};
     ghost use Rattle.syn_grammar.specs.declared.kinds.BinKind.{BinKind as Kind};
-    ghost use Rattle.syn_tokens.specs.Tok.{Tok, weight};
-    ghost use Rattle.syn_tokens.specs.Input.{Reaches, IsAfter};
 
     ghost Seen = { Kind };
 
@@ -362,15 +360,11 @@ impl Parse for BinOp {
 
     ghost least = { 1 };
 
+    ghost refuses = { λ kind. kind ≡ ExpectedBinaryOperator };
+
     /// Takes the longest operator at the front. It is refused as `ExpectedBinaryOperator` where there is none, or one
     /// that is no variant, as `=`, `..` and `as`; `->`, `=>` and `<-` are none. It takes no memory.
-    fn parse(input: &mut ParseBuffer<'_>) -> Result<Self>
-        ensures read { IfOk result (λ op. input.new.noted ≡ false → SpellsBinOp input.old.rest (bin_kind op) input.new.rest) }
-        ensures found { (op : Kind) (rest : List Tok) → input.old.noted ≡ false → SpellsBinOp input.old.rest op rest → Reaches bin_kind op rest result input.new }
-        ensures after { IsAfter input.old input.new }
-        ensures moves { IfOk result (λ op. 1 + weight input.new.rest ≤ weight input.old.rest) }
-        ensures refused { IfErr result (λ e. e.kind ≡ ExpectedBinaryOperator) }
-    {
+    fn parse(input: &mut ParseBuffer<'_>) -> Result<Self> {
         let Some((Infix::Binary(kind), count)) = infix_at(input) else {
             return Err(input.error(ErrorKind::ExpectedBinaryOperator));
         };

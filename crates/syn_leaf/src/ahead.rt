@@ -1,6 +1,6 @@
 //! Reading on a fork: what each reader of a part has in common with the others.
 
-ghost use Rattle.std.specs.Prelude.{◌≡◌, ◌≤◌, ◌+◌, false, IfOk, List, Some};
+ghost use Rattle.std.specs.Prelude.{◌≡◌, ◌≤◌, ◌+◌, IfOk, List, None, Some};
 ghost use Rattle.syn_parts.specs.Laws.{IsReadable};
 ghost use Rattle.syn_tokens.specs.Input.{IsAfter, Reaches};
 ghost use Rattle.syn_tokens.specs.Tok.{Tok, weight};
@@ -34,7 +34,7 @@ pub trait ReadByForm {
 pub fn ahead<T: ReadByForm>(input: &mut ParseBuffer<'_>) -> Result<T>
     requires { IsReadable T.least T.form }
     ensures read { IfOk result (λ v. T.form.behind (T.seen v) input.old.rest ≡ Some input.new.rest) }
-    ensures found { (s : T.Seen) (rest : List Tok) → input.old.noted ≡ false → T.form.behind s input.old.rest ≡ Some rest → Reaches T.seen s rest result input.new }
+    ensures found { (s : T.Seen) (rest : List Tok) → input.old.noted ≡ None → T.form.behind s input.old.rest ≡ Some rest → Reaches T.seen s rest result input.new }
     ensures after { IsAfter input.old input.new }
     ensures moves { IfOk result (λ v. T.least + weight input.new.rest ≤ weight input.old.rest) }
 {

@@ -1,5 +1,6 @@
 -- What reads leave.
-use Rattle.std.proofs.Common.{◌≡◌, ℕ, ◌-◌, ◌≤◌, List, [], ◌∷◌, ◌++◌, length, take, drop, refl, true, false, Bool, sym, ◌∙◌, ap, arith, length-append, append_assoc, append-nil}
+use Rattle.std.proofs.Common.{◌≡◌, ℕ, ◌-◌, ◌≤◌, List, [], ◌∷◌, ◌++◌, length, take, drop, refl, sym, ◌∙◌, ap, arith, length-append, append_assoc, append-nil}
+use Rattle.std.specs.Prelude.{Option, Some, None}
 use Rattle.std.proofs.lemmas.List.{take-append-drop}
 use Rattle.std.proofs.Math.Seq.{drop-append_seam}
 use Rattle.syn_tokens.specs.Input.{Input, IsTail, IsAfter}
@@ -24,35 +25,35 @@ front_at xs ys h =
     sym one ∙ ap (λ r. toks_of (take n xs) ++ r) (tail_at xs ys h)
 
 pub after_same : (i : Input) → IsAfter i i
-after_same i = record { front = []; is = refl; noted = λ h. h }
+after_same i = record { front = []; is = refl; noted = λ s h. h }
 
 pub after_then : {a b c : Input} → IsAfter a b → IsAfter b c → IsAfter a c
 after_then g h = record {
   front = g.front ++ h.front;
   is = g.is ∙ ap (λ t. g.front ++ t) h.is ∙ sym (append_assoc g.front h.front _);
-  noted = λ n. h.noted (g.noted n);
+  noted = λ s n. h.noted s (g.noted s n);
 }
 
 pub after_drop : (n : ℕ) (i o : Input) → o ≡ record i { rest = drop n i.rest } → IsAfter i o
-after_drop n i o e = rw e record { front = take n i.rest; is = sym (take-append-drop n i.rest); noted = λ h. h }
+after_drop n i o e = rw e record { front = take n i.rest; is = sym (take-append-drop n i.rest); noted = λ s h. h }
 
 pub after_one : (i o : Input) → o.rest ≡ drop 1 i.rest → o.noted ≡ i.noted → IsAfter i o
-after_one i o e n = record { front = take 1 i.rest; is = sym (ap (λ r. take 1 i.rest ++ r) e ∙ take-append-drop 1 i.rest); noted = λ h. n ∙ h }
+after_one i o e n = record { front = take 1 i.rest; is = sym (ap (λ r. take 1 i.rest ++ r) e ∙ take-append-drop 1 i.rest); noted = λ s h. n ∙ h }
 
 pub after_nothing : (i o : Input) → o.rest ≡ [] → o.noted ≡ i.noted → IsAfter i o
-after_nothing i o e n = record { front = i.rest; is = sym (ap (λ r. i.rest ++ r) e ∙ append-nil i.rest); noted = λ h. n ∙ h }
+after_nothing i o e n = record { front = i.rest; is = sym (ap (λ r. i.rest ++ r) e ∙ append-nil i.rest); noted = λ s h. n ∙ h }
 
 -- a read leaves a tail
 pub tail_after : (i o : Input) → IsAfter i o → IsTail o.rest i.rest
 tail_after i o h = record { front = h.front; is = h.is }
 
-no_true : (v : Bool) → (v ≡ true → ⊥) → v ≡ false
-no_true true h = absurd (h refl)
-no_true false h = refl
+no_some : {A : Type 0} (o : Option A) → ((x : A) → o ≡ Some x → ⊥) → o ≡ None
+no_some None h = refl
+no_some (Some x) h = absurd (h x refl)
 
 -- no note before where there is none after
-pub clean_before : {a b : Input} → IsAfter a b → b.noted ≡ false → a.noted ≡ false
-clean_before {a} g h = no_true a.noted (λ n. let e = g.noted n in cc)
+pub clean_before : {a b : Input} → IsAfter a b → b.noted ≡ None → a.noted ≡ None
+clean_before {a} g h = no_some a.noted (λ s n. let e = g.noted s n in cc)
 
 pub ruleset tails = (after_same, after_drop, after_one, after_nothing)
 

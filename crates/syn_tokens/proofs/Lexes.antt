@@ -1,16 +1,19 @@
 -- How a text falls into pieces from its front on.
 use Rattle.std.proofs.Common.{◌≡◌, ℕ, zero, suc, ◌-◌, ◌≤◌, ◌<◌, List, [], ◌∷◌, ◌++◌, length, take, drop, refl, sym, ◌∙◌, ap, append_assoc, append-nil, arith, inl, inr}
 use Rattle.std.specs.Prelude.{◌≢◌, ◌⊎◌, Result, Ok, Err, IfOk, IfErr, MatchResult, Option, Some, None}
-use Rattle.syn_lexer.specs.Text.{Text}
-use Rattle.syn_lexer.specs.Lex.{front}
+use Rattle.syn_lexer.specs.Text.{Text, Reading}
+use Rattle.syn_lexer.specs.Lex.{front, reading, of_reading}
+use Rattle.syn_lexer.specs.declared.error.LexError.{LexError}
+use Rattle.syn_lexer.specs.declared.lexeme.Delimiter.{Delimiter}
 use Rattle.syn_lexer.specs.declared.lexeme.LexemeKind.{LexemeKind}
 use Rattle.syn_tokens.specs.Tok.{Tok}
-use Rattle.syn_tokens.specs.Lex.{Piece, pieces, pieces_from, lexeme_pieces, then_pieces, flat, Spells}
+use Rattle.syn_tokens.specs.Lex.{Piece, pieces, pieces_from, lexeme_pieces, then_pieces, flat, Spells, open_behind, refusal_behind, refusal_at_end, refusal_from, refusal, IsRefusedAs, or_unknown}
 use Rattle.syn_tokens.specs.Input.{Gives}
 use Rattle.syn_tokens.specs.Nest.{misfits}
 use Rattle.syn_tokens.proofs.Nests.{one_list}
 use Rattle.syn_tokens.specs.declared.error.Error.{Error}
-use Rattle.syn_tokens.specs.declared.error.ErrorKind.TheVariants.{OutOfMemory}
+use Rattle.syn_tokens.specs.declared.error.ErrorKind.{ErrorKind}
+use Rattle.syn_tokens.specs.declared.error.ErrorKind.TheVariants.{OutOfMemory, Lex}
 
 pieces_from-drop : (n : ℕ) (z : Text) → pieces_from n z ≡ pieces (drop n z)
 unfolding pieces
@@ -35,6 +38,10 @@ pieces_none (c ∷ z) h e = rw e refl
 then_then : (ps qs : List Piece) (o : Option (List Piece)) → then_pieces ps (then_pieces qs o) ≡ then_pieces (ps ++ qs) o
 then_then ps qs None = refl
 then_then ps qs (Some rs) = ap Some (sym (append_assoc ps qs rs))
+
+pub then_nothing : (o : Option (List Piece)) → o ≡ then_pieces [] o
+then_nothing None = refl
+then_nothing (Some ps) = refl
 
 pub so_far_more : (all rest : Text) (ps : List Piece) (k : LexemeKind) (n : ℕ)
     → pieces all ≡ then_pieces ps (pieces rest) → 0 < length rest → 1 ≤ n → front rest ≡ Some (k, n)
@@ -82,3 +89,51 @@ pub gives_only : (z : Text) (r : Result (List Tok) Error) → IfOk r (λ s. Spel
     → IfErr r (λ e. (e.kind ≡ OutOfMemory) ⊎ ((ts : List Tok) → Spells z ts → ⊥)) → (ts : List Tok) → Spells z ts → Gives (λ s. s) ts r
 gives_only z (Ok s) h g ts is = one_reading z s ts h is
 gives_only z (Err e) h g ts is = elim g [ inl m ↦ m | inr none ↦ absurd (none ts is) ]
+
+-- ---- why a text is refused
+
+pub refusal_is : (z : Text) → refusal z ≡ refusal_from [] 0 z
+unfolding refusal
+refusal_is z = refl
+
+refusal_from-drop : (st : List Delimiter) (n : ℕ) (z : Text) → refusal_from st n z ≡ refusal_from st 0 (drop n z)
+refusal_from-drop st zero z = refl
+refusal_from-drop st (suc n) [] = refl
+refusal_from-drop st (suc n) (c ∷ z) = refusal_from-drop st n z
+
+reading_is : (r : Reading) (k : LexemeKind) (n : ℕ) → of_reading r ≡ Some (k, n) → r ≡ Ok (k, n)
+reading_is (Ok p) k n e = cc
+reading_is (Err p) k n e = cc
+
+front_is : (c : ℕ) (z : Text) (k : LexemeKind) (n : ℕ) → front (c ∷ z) ≡ Some (k, n) → reading (c ∷ z) ≡ Ok (k, n)
+unfolding front
+front_is c z k n e = reading_is (reading (c ∷ z)) k n e
+
+behind_same : (o : Option (List Delimiter)) (f g : List Delimiter → Option LexError) → ((st : List Delimiter) → f st ≡ g st) → refusal_behind o f ≡ refusal_behind o g
+behind_same None f g h = refl
+behind_same (Some st) f g h = h st
+
+pub refusal_step : (st : List Delimiter) (z : Text) (k : LexemeKind) (n : ℕ) → 0 < length z → 1 ≤ n → front z ≡ Some (k, n)
+    → refusal_from st 0 z ≡ refusal_behind (open_behind k st) (λ inner. refusal_from inner 0 (drop n z))
+refusal_step st [] k n h i e = absurd (omega arith)
+refusal_step st (c ∷ z) k zero h i e = absurd (omega arith)
+refusal_step st (c ∷ z) k (suc m) h i e =
+    let one : suc m - 1 ≡ m = omega arith in
+    rw (front_is c z k (suc m) e, one) (behind_same (open_behind k st) _ _ (λ inner. refusal_from-drop inner m z))
+
+pub refusal_step-refused : (st : List Delimiter) (z : Text) (e : LexError) (n : ℕ) → 0 < length z → reading z ≡ Err (e, n) → refusal_from st 0 z ≡ Some e
+refusal_step-refused st [] e n h is = absurd (omega arith)
+refusal_step-refused st (c ∷ z) e n h is = rw is refl
+
+pub refusal_end : (st : List Delimiter) (z : Text) → length z ≡ 0 → refusal_from st 0 z ≡ refusal_at_end st
+refusal_end st [] h = refl
+refusal_end st (c ∷ z) h = cc
+
+pub refused_as : (o : Option LexError) (k : ErrorKind) → IsRefusedAs o k → k ≡ Lex (or_unknown o)
+refused_as None k h = absurd h
+refused_as (Some e) k h = h
+
+pub finished : (o : Option LexError) (r : Result (List Tok) Error) → MatchResult r (λ _. o ≡ None) (λ e. IsRefusedAs o e.kind)
+    → MatchResult r (λ _. o ≡ None) (λ e. (e.kind ≡ OutOfMemory) ⊎ IsRefusedAs o e.kind)
+finished o (Ok s) h = h
+finished o (Err e) h = inr h

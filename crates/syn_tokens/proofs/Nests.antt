@@ -6,7 +6,7 @@ use Rattle.syn_tokens.specs.Front.{same_delimiter}
 use Rattle.syn_tokens.specs.Same.{same_delimiter-refl, same_delimiter-false}
 use Rattle.syn_tokens.specs.Tok.{Tok, Inside, ident, punct, literal, group, nothing, first, inside}
 use Rattle.syn_tokens.specs.Lex.{Piece, leaf, opens, closes, flat, pieces_of, pieces_inside}
-use Rattle.syn_tokens.specs.Nest.{Open, opened, unfinished, misfits}
+use Rattle.syn_tokens.specs.Nest.{Open, opened, unfinished, delimiters, misfits}
 
 flat-append : (a b : List Tok) → flat (a ++ b) ≡ flat a ++ flat b
 flat-append [] b = refl
@@ -64,15 +64,11 @@ run_flat : (st : List Delimiter) (ts : List Tok) (ps : List Piece) → run st (f
 run_flat st [] ps = refl
 run_flat st (t ∷ ts) ps = rw append_assoc (run_tree st t (flat ts ++ ps) ∙ run_flat st ts ps)
 
-abbrev delimiters : List Open → List Delimiter → List Delimiter
-delimiters [] st = st
-delimiters (o ∷ os) st = delimiters os (o.0 ∷ st)
-
 run_opened : (st : List Delimiter) (os : List Open) (ps : List Piece) → run st (opened os ++ ps) ≡ run (delimiters os st) ps
 run_opened st [] ps = refl
 run_opened st (o ∷ os) ps = rw append_assoc (run_flat st o.1 (opens o.0 ∷ (opened os ++ ps)) ∙ run_opened (o.0 ∷ st) os ps)
 
-delimiters-append : (os : List Open) (o : Open) (st : List Delimiter) → delimiters (os ++ o ∷ []) st ≡ o.0 ∷ delimiters os st
+pub delimiters-append : (os : List Open) (o : Open) (st : List Delimiter) → delimiters (os ++ o ∷ []) st ≡ o.0 ∷ delimiters os st
 delimiters-append [] o st = refl
 delimiters-append (p ∷ os) o st = delimiters-append os o (p.0 ∷ st)
 

@@ -1,13 +1,16 @@
 -- How a text falls into token trees. A text is a list of characters.
-use Rattle.std.specs.Prelude.{◌≡◌, ℕ, zero, suc, ◌-◌, List, [], ◌∷◌, ◌++◌, length, take, drop, Option, Some, None, encode_utf8_all}
-use Rattle.syn_lexer.specs.Text.{Text}
-use Rattle.syn_lexer.specs.Lex.{front}
+use Rattle.std.specs.Prelude.{◌≡◌, ℕ, zero, suc, ◌-◌, if◌then◌else◌, List, [], ◌∷◌, ◌++◌, length, take, drop, Option, Some, None, Ok, Err, encode_utf8_all}
+use Rattle.syn_lexer.specs.Text.{Text, Reading}
+use Rattle.syn_lexer.specs.Lex.{front, reading}
+use Rattle.syn_lexer.specs.declared.error.LexError.{LexError}
+use Rattle.syn_lexer.specs.declared.error.LexError.TheVariants.{UnclosedDelimiter, UnexpectedClosingDelimiter, UnknownCharacter}
 use Rattle.syn_lexer.specs.declared.lexeme.Delimiter.{Delimiter}
 use Rattle.syn_lexer.specs.declared.lexeme.LexemeKind.{LexemeKind}
 use Rattle.syn_lexer.specs.declared.lexeme.Spacing.TheVariants.{Joint}
 use Rattle.syn_lexer.specs.declared.lexeme.LexemeKind.TheVariants.{Blank, Ident, Literal, Lifetime, Punct, Open, Close}
 use Rattle.syn_tokens.specs.declared.error.ErrorKind.{ErrorKind}
-use Rattle.syn_tokens.specs.declared.error.ErrorKind.TheVariants.{Lex, OutOfMemory}
+use Rattle.syn_tokens.specs.declared.error.ErrorKind.TheVariants.{Lex}
+use Rattle.syn_tokens.specs.Front.{same_delimiter}
 use Rattle.syn_tokens.specs.Tok.{Tok, Inside, ident, punct, literal, group, nothing, first}
 
 -- what a text is cut into: tokens, and the delimiters of groups
@@ -67,11 +70,45 @@ flat (t ∷ ts) = pieces_of t ++ flat ts
 abbrev pub Spells : Text → List Tok → Type 0
 Spells z ts = pieces z ≡ Some (flat ts)
 
--- a refusal of the lexer, or want of memory
-abbrev pub IsLexRefusal : ErrorKind → Type 0
-IsLexRefusal (Lex e) = Unit {0}
-IsLexRefusal OutOfMemory = Unit {0}
-IsLexRefusal _ = ⊥
+-- ---- why a text is refused
+
+-- the delimiters that are open behind a lexeme, the innermost first; none where it closes what is not open
+abbrev pub open_behind : LexemeKind → List Delimiter → Option (List Delimiter)
+open_behind (Open d) st = Some (d ∷ st)
+open_behind (Close d) [] = None
+open_behind (Close d) (e ∷ st) = if same_delimiter e d then Some st else None
+open_behind _ st = Some st
+
+abbrev pub refusal_behind : Option (List Delimiter) → (List Delimiter → Option LexError) → Option LexError
+refusal_behind None behind = Some UnexpectedClosingDelimiter
+refusal_behind (Some st) behind = behind st
+
+abbrev pub refusal_at : List Delimiter → Reading → (ℕ → List Delimiter → Option LexError) → Option LexError
+refusal_at st (Err e) behind = Some e.0
+refusal_at st (Ok p) behind = refusal_behind (open_behind p.0 st) (behind (p.1 - 1))
+
+abbrev pub refusal_at_end : List Delimiter → Option LexError
+refusal_at_end [] = None
+refusal_at_end (d ∷ st) = Some UnclosedDelimiter
+
+-- Lexeme by lexeme, as the pieces are: the first one that is refused or closes what is not open, then the end.
+abbrev pub refusal_from : List Delimiter → ℕ → Text → Option LexError
+refusal_from st left [] = refusal_at_end st
+refusal_from st (suc left) (c ∷ z) = refusal_from st left z
+refusal_from st zero (c ∷ z) = refusal_at st (reading (c ∷ z)) (λ left inner. refusal_from inner left z)
+
+-- why a text falls into no trees, the first reason in it
+unfoldable pub refusal : Text → Option LexError
+refusal = refusal_from [] 0
+
+abbrev pub IsRefusedAs : Option LexError → ErrorKind → Type 0
+IsRefusedAs None kind = ⊥
+IsRefusedAs (Some e) kind = kind ≡ Lex e
+
+-- what is no single token is refused as the text is, and else as an unknown character
+abbrev pub or_unknown : Option LexError → LexError
+or_unknown None = UnknownCharacter
+or_unknown (Some e) = e
 
 -- ---- texts that are one token
 

@@ -13,4 +13,3 @@ pub mod Lex
 pub mod Nest
 pub mod Places
 pub mod Floats
-pub mod List

@@ -25,6 +25,15 @@ open_of o = (o.delimiter, o.before)
 abbrev pub nest_pieces : Nest → List Piece
 nest_pieces n = unfinished (map open_of n.open.items) n.current
 
+-- the delimiters of open groups, the innermost first, before those that are open around them
+abbrev pub delimiters : List Open → List Delimiter → List Delimiter
+delimiters [] st = st
+delimiters (o ∷ os) st = delimiters os (o.0 ∷ st)
+
+-- the delimiters that are open in a nest, the innermost first
+abbrev pub delimiters_of : Nest → List Delimiter
+delimiters_of n = delimiters (map open_of n.open.items) []
+
 -- no trees have pieces that begin so
 abbrev pub misfits : List Piece → Type 0
 misfits ps = (more : List Piece) (ts : List Tok) → ps ++ more ≢ flat ts

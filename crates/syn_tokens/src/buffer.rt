@@ -1,10 +1,11 @@
 //! A position in a borrowed list of token trees, and the traits of what is read there and printed.
 
-ghost use Rattle.std.specs.Prelude.{is_some, ◌≡◌, ◌≤◌, ◌<◌, ◌+◌, ◌++◌, ◌||◌, not, [], ◌∷◌, length, drop, List, IfOk, IfSome, IsOk, MatchOption, IsTrue, true, false};
+ghost use Rattle.std.specs.Prelude.{is_some, ◌≡◌, ◌≤◌, ◌<◌, ◌+◌, ◌++◌, ◌||◌, not, [], ◌∷◌, length, drop, List, IfOk, IfErr, IfSome, IsOk, MatchOption, IsTrue, true, false};
 ghost use Rattle.syn_tokens.specs.Front as front;
 ghost use Rattle.syn_tokens.specs.Input as spec;
 ghost use Rattle.syn_tokens.specs.Input.{Input, Reaches, IsTail, IsAfter};
 ghost use Rattle.syn_tokens.specs.Tok.{Tok, weight, token_weight};
+ghost use Rattle.syn_tokens.specs.declared.span.Span.{Span};
 ghost use Rattle.syn_tokens.specs.View.{tok_of, toks_of};
 
 use crate::error::{Error, ErrorKind, Expected, Result, Wanted};
@@ -15,8 +16,8 @@ use crate::{Delimiter, Spacing};
 use std::alloc::Global;
 use std::marker::Model;
 
-/// What is left of a list of token trees, which it borrows, and whether a group that was read from it kept a token
-/// that nothing read. Contracts see both as an `Input`.
+/// What is left of a list of token trees, which it borrows, and a note: where the first token is that a group which was
+/// read from it kept, and nothing read. Contracts see both as an `Input`.
 #[derive(Drop)]
 pub struct ParseBuffer<'a> {
     rest: &'a [TokenTree],
@@ -29,7 +30,6 @@ pub struct ParseBuffer<'a> {
 
 impl<'a> Model for ParseBuffer<'a> {
     ghost use Rattle.syn_tokens.specs.Input.{Input, input_code};
-    ghost use Rattle.std.specs.Prelude.{is_some};
 
     ghost Value = { Input };
 
@@ -37,7 +37,7 @@ impl<'a> Model for ParseBuffer<'a> {
 
     ghost use Rattle.syn_tokens.specs.View.{toks_of};
 
-    ghost view = { λ b. record { rest = toks_of b.rest.now; noted = is_some b.noted } };
+    ghost view = { λ b. record { rest = toks_of b.rest.now; noted = b.noted } };
 }
 
 /// What a list of token trees may begin with.
@@ -57,6 +57,8 @@ pub trait Token {
 /// What is read from the front of a list of token trees.
 pub trait Parse {
     ghost use Rattle.syn_tokens.specs.Tok.{Tok};
+    ghost use Rattle.syn_tokens.specs.Input.{Input};
+    ghost use Rattle.syn_tokens.specs.declared.error.ErrorKind.{ErrorKind};
     ghost use Rattle.std.specs.Prelude.{ℕ};
 
     /// What contracts see of a value: all but its places.
@@ -70,16 +72,24 @@ pub trait Parse {
     /// What a read takes at least, in weight.
     ghost least: { ℕ };
 
+    /// What a read may be refused as.
+    ghost refuses: { ErrorKind → Type 0 } = { λ _. Unit {0} };
+
+    /// `leaves list input`: what a read that answers may leave of the list, with the note that it may make.
+    ghost leaves: { List Tok → Input → Type 0 } = { λ _ _. Unit {0} };
+
     /// Reads a value. It is read exactly where the front of the list spells one, unless memory runs out; inside
     /// the recursion of a type's own readers call `T::parse(input)`, not `input.parse::<T>()`.
     /// A list that begins with no value is refused: the reader of each type says as what, and where.
     fn parse(input: &mut ParseBuffer<'_>) -> Result<Self>
         // What was read is spelled.
-        ensures read { IfOk result (λ v. input.new.noted ≡ false → spells input.old.rest (seen v) input.new.rest) }
+        ensures read { IfOk result (λ v. input.new.noted ≡ None → spells input.old.rest (seen v) input.new.rest) }
         // What is spelled is read.
-        ensures found { (s : Seen) (rest : List Tok) → input.old.noted ≡ false → spells input.old.rest s rest → Reaches seen s rest result input.new }
+        ensures found { (s : Seen) (rest : List Tok) → input.old.noted ≡ None → spells input.old.rest s rest → Reaches seen s rest result input.new }
         ensures after { IsAfter input.old input.new }
-        ensures moves { IfOk result (λ v. least + weight input.new.rest ≤ weight input.old.rest) };
+        ensures moves { IfOk result (λ v. least + weight input.new.rest ≤ weight input.old.rest) }
+        ensures refused { IfErr result (λ e. refuses e.kind) }
+        ensures leaves { IfOk result (λ v. leaves input.old.rest input.new) };
 }
 
 /// What is written as tokens.
@@ -215,9 +225,10 @@ impl<'a> ParseBuffer<'a> {
         }
     }
 
-    /// The place of the first token that nothing read, in a group that was read or here.
+    /// The place of the first token that nothing read: the note, or where the next token is.
     pub fn leftover(&self) -> Option<Span>
-        ensures { is_some result ≡ spec.has_left self.now }
+        ensures any { is_some result ≡ spec.has_left self.now }
+        ensures noted { (s : Span) → self.now.noted ≡ Some s → result ≡ Some s }
     {
         if self.noted.is_some() {
             return self.noted;
@@ -282,10 +293,12 @@ impl<'a> ParseBuffer<'a> {
 
     /// Reads a `T`. It is refused as the reader of `T` refuses it, and tokens may then have been passed over.
     pub fn parse<T: Parse>(&mut self) -> Result<T>
-        ensures read { IfOk result (λ v. self.new.noted ≡ false → T.spells self.old.rest (T.seen v) self.new.rest) }
-        ensures found { (s : T.Seen) (rest : List Tok) → self.old.noted ≡ false → T.spells self.old.rest s rest → Reaches T.seen s rest result self.new }
+        ensures read { IfOk result (λ v. self.new.noted ≡ None → T.spells self.old.rest (T.seen v) self.new.rest) }
+        ensures found { (s : T.Seen) (rest : List Tok) → self.old.noted ≡ None → T.spells self.old.rest s rest → Reaches T.seen s rest result self.new }
         ensures after { IsAfter self.old self.new }
         ensures moves { IfOk result (λ v. T.least + weight self.new.rest ≤ weight self.old.rest) }
+        ensures refused { IfErr result (λ e. T.refuses e.kind) }
+        ensures leaves { IfOk result (λ v. T.leaves self.old.rest self.new) }
     {
         T::parse(self)
     }
@@ -294,7 +307,7 @@ impl<'a> ParseBuffer<'a> {
     pub fn advance_to(&mut self, fork: &ParseBuffer<'_>)
         requires { IsTail fork.now.rest self.old.rest }
         ensures rest { self.new.rest ≡ fork.now.rest }
-        ensures noted { self.new.noted ≡ (self.old.noted || fork.now.noted) }
+        ensures noted { self.new.noted ≡ spec.first_note self.old.noted fork.now.noted }
     {
         self.rest = tail_at(self.rest, fork.rest);
         if self.noted.is_none() {
@@ -391,7 +404,8 @@ impl<'a> ParseBuffer<'a> {
     /// that the content has left.
     pub fn close(&mut self, content: ParseBuffer<'_>)
         ensures rest { self.new.rest ≡ self.old.rest }
-        ensures noted { self.new.noted ≡ (self.old.noted || spec.has_left content.entry) }
+        ensures any { is_some self.new.noted ≡ (is_some self.old.noted || spec.has_left content.entry) }
+        ensures first { (s : Span) → spec.first_note self.old.noted content.entry.noted ≡ Some s → self.new.noted ≡ Some s }
     {
         if self.noted.is_none() {
             self.noted = content.leftover();

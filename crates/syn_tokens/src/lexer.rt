@@ -4,7 +4,7 @@ ghost use Rattle.std.specs.Prelude.{◌≡◌, ◌≢◌, ◌≤◌, ◌++◌, �
 ghost use Rattle.std.specs.Rc.{rc_str_bytes};
 ghost use Rattle.syn_tokens.specs.Input.{Gives};
 ghost use Rattle.syn_tokens.specs.Lex as spec;
-ghost use Rattle.syn_tokens.specs.Nest.{nest_pieces, misfits};
+ghost use Rattle.syn_tokens.specs.Nest.{nest_pieces, delimiters_of, misfits};
 ghost use Rattle.syn_tokens.specs.Tok.{Tok};
 ghost use Rattle.syn_tokens.specs.View.{tok_of};
 
@@ -31,7 +31,8 @@ pub fn lex(alloc: Global, text: &str) -> Result<TokenStream>
     ensures found { (ts : List Tok) → spec.Spells (chars text.now) ts → Gives (λ s. s) ts result }
     // It is refused only where it falls into no trees, or memory runs out.
     ensures refused { IfErr result (λ e. (e.kind ≡ ErrorKind.OutOfMemory) ⊎ ((ts : List Tok) → spec.Spells (chars text.now) ts → ⊥)) }
-    ensures kind { IfErr result (λ e. spec.IsLexRefusal e.kind) }
+    // The refusal is the first one in the text.
+    ensures kind { MatchResult result (λ _. spec.refusal (chars text.now) ≡ None) (λ e. (e.kind ≡ ErrorKind.OutOfMemory) ⊎ spec.IsRefusedAs (spec.refusal (chars text.now)) e.kind) }
 {
     let all = chars_of(alloc, text)?;
     lex_chars(alloc, all.as_slice())
@@ -167,7 +168,8 @@ struct Open {
 #[tactic(auto, using(crate::proofs::Nests::nests))]
 impl Nest {
     fn new(alloc: Global) -> Nest
-        ensures { nest_pieces result ≡ [] }
+        ensures nothing { nest_pieces result ≡ [] }
+        ensures open { delimiters_of result ≡ [] }
     {
         Nest {
             open: Vec::new(alloc),
@@ -177,6 +179,7 @@ impl Nest {
 
     fn leaf(&mut self, tree: TokenTree) -> Result<()>
         ensures ok { OnOk result (nest_pieces self.new ≡ nest_pieces self.old ++ spec.pieces_of (tok_of tree)) }
+        ensures open { delimiters_of self.new ≡ delimiters_of self.old }
         ensures err { IfErr result (λ e. e.kind ≡ ErrorKind.OutOfMemory) }
     {
         self.current.push(tree)?;
@@ -192,6 +195,7 @@ impl Nest {
         span: Span,
     ) -> Result<()>
         ensures ok { OnOk result (nest_pieces self.new ≡ nest_pieces self.old ++ spec.lexeme_pieces LexemeKind.Lifetime read.now) }
+        ensures open { delimiters_of self.new ≡ delimiters_of self.old }
         ensures err { IfErr result (λ e. e.kind ≡ ErrorKind.OutOfMemory) }
     {
         let behind = span.lo.saturating_add(1);
@@ -213,6 +217,7 @@ impl Nest {
 
     fn opens(&mut self, delimiter: Delimiter, at: usize) -> Result<()>
         ensures ok { OnOk result (nest_pieces self.new ≡ nest_pieces self.old ++ spec.opens delimiter ∷ []) }
+        ensures open { OnOk result (delimiters_of self.new ≡ delimiter ∷ delimiters_of self.old) }
         ensures err { IfErr result (λ e. e.kind ≡ ErrorKind.OutOfMemory) }
     {
         let none = TokenStream::new(self.current.alloc());
@@ -227,8 +232,9 @@ impl Nest {
 
     fn closes(&mut self, delimiter: Delimiter, span: Span) -> Result<()>
         ensures ok { OnOk result (nest_pieces self.new ≡ nest_pieces self.old ++ spec.closes delimiter ∷ []) }
+        ensures open { OnOk result (spec.open_behind (LexemeKind.Close delimiter) (delimiters_of self.old) ≡ Some (delimiters_of self.new)) }
         ensures err { IfErr result (λ e. (e.kind ≡ ErrorKind.OutOfMemory) ⊎ misfits (nest_pieces self.old ++ spec.closes delimiter ∷ [])) }
-        ensures kind { IfErr result (λ e. spec.IsLexRefusal e.kind) }
+        ensures kind { IfErr result (λ e. (e.kind ≡ ErrorKind.OutOfMemory) ⊎ ((spec.open_behind (LexemeKind.Close delimiter) (delimiters_of self.old) ≡ None) × (e.kind ≡ ErrorKind.Lex LexError.UnexpectedClosingDelimiter))) }
     {
         let Some(open) = self.open.pop() else {
             return Err(refusal(span.lo, span.hi, LexError::UnexpectedClosingDelimiter));
@@ -263,8 +269,9 @@ impl Nest {
         span: Span,
     ) -> Result<()>
         ensures ok { OnOk result (nest_pieces self.new ≡ nest_pieces self.old ++ spec.lexeme_pieces kind read.now) }
+        ensures open { OnOk result (spec.open_behind kind (delimiters_of self.old) ≡ Some (delimiters_of self.new)) }
         ensures err { IfErr result (λ e. (e.kind ≡ ErrorKind.OutOfMemory) ⊎ misfits (nest_pieces self.old ++ spec.lexeme_pieces kind read.now)) }
-        ensures kind { IfErr result (λ e. spec.IsLexRefusal e.kind) }
+        ensures kind { IfErr result (λ e. (e.kind ≡ ErrorKind.OutOfMemory) ⊎ ((spec.open_behind kind (delimiters_of self.old) ≡ None) × (e.kind ≡ ErrorKind.Lex LexError.UnexpectedClosingDelimiter))) }
     {
         match kind {
             LexemeKind::Blank => Ok(()),
@@ -288,7 +295,7 @@ impl Nest {
     /// The trees that were read, where no group is open.
     fn finish(self) -> Result<TokenStream>
         ensures value { MatchResult result (λ s. nest_pieces self ≡ spec.flat s) (λ e. (ts : List Tok) → nest_pieces self ≢ spec.flat ts) }
-        ensures kind { IfErr result (λ e. spec.IsLexRefusal e.kind) }
+        ensures kind { MatchResult result (λ _. spec.refusal_at_end (delimiters_of self) ≡ None) (λ e. spec.IsRefusedAs (spec.refusal_at_end (delimiters_of self)) e.kind) }
     {
         let Nest { mut open, current } = self;
         match open.pop() {
@@ -305,7 +312,7 @@ impl Nest {
 fn lex_chars(alloc: Global, text: &[char]) -> Result<TokenStream>
     ensures read { IfOk result (λ s. spec.Spells text.now s) }
     ensures refused { IfErr result (λ e. (e.kind ≡ ErrorKind.OutOfMemory) ⊎ ((ts : List Tok) → spec.Spells text.now ts → ⊥)) }
-    ensures kind { IfErr result (λ e. spec.IsLexRefusal e.kind) }
+    ensures kind { MatchResult result (λ _. spec.refusal text.now ≡ None) (λ e. (e.kind ≡ ErrorKind.OutOfMemory) ⊎ spec.IsRefusedAs (spec.refusal text.now) e.kind) }
 {
     let mut nest = Nest::new(alloc);
     let mut texts = Texts::new(alloc);

@@ -7,7 +7,6 @@ pub mod copy;
 pub mod error;
 pub mod floats;
 pub mod lexer;
-pub mod list;
 mod make;
 pub mod parse;
 pub mod same;

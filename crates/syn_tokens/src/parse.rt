@@ -7,6 +7,10 @@ ghost use Rattle.syn_tokens.specs.Tok.{Tok, weight};
 ghost use Rattle.syn_tokens.specs.Leaf as spec;
 ghost use Rattle.syn_tokens.specs.Tok as tok;
 ghost use Rattle.syn_tokens.specs.View.{tok_of};
+ghost use Rattle.syn_tokens.specs.declared.error.ErrorKind.TheVariants as kind;
+ghost use Rattle.syn_tokens.specs.declared.error.Expected.TheVariants as expected;
+ghost use Rattle.syn_tokens.specs.declared.error.Part.TheVariants as part;
+ghost use Rattle.syn_tokens.specs.declared.error.Wanted.TheVariants as wanted;
 
 use crate::buffer::{Parse, ParseBuffer, ToTokens, Token};
 use crate::copy::{copy_ident, copy_literal, copy_tree, copy_trees};
@@ -35,15 +39,11 @@ impl Parse for Ident {
 
     ghost least = { 1 };
 
+    ghost refuses = { λ k. (k ≡ kind.OutOfMemory) ⊎ (k ≡ kind.ExpectedToken (expected.One wanted.Identifier)) };
+
     /// Takes a word that is not reserved, raw or not (Rust Reference, "Identifiers"). Anything else is refused at that
     /// token as `ExpectedToken`, an identifier; and `OutOfMemory` comes, since the word is copied.
-    fn parse(input: &mut ParseBuffer<'_>) -> Result<Self>
-        ensures read { IfOk result (λ v. input.new.noted ≡ false → (input.old.rest ≡ tok.ident v ∷ input.new.rest) × (is_reserved_word v ≡ false)) }
-        ensures found { (w : List ℕ) (rest : List Tok) → input.old.noted ≡ false → (input.old.rest ≡ tok.ident w ∷ rest) × (is_reserved_word w ≡ false) → Reaches (λ v. v) w rest result input.new }
-        ensures after { IsAfter input.old input.new }
-        ensures moves { IfOk result (λ v. 1 + weight input.new.rest ≤ weight input.old.rest) }
-        ensures refused { IfErr result (λ e. (e.kind ≡ ErrorKind.OutOfMemory) ⊎ (e.kind ≡ ErrorKind.ExpectedToken (Expected.One Wanted.Identifier))) }
-    {
+    fn parse(input: &mut ParseBuffer<'_>) -> Result<Self> {
         match input.first() {
             Some(TokenTree::Ident(ident)) if !is_reserved_word(ident.as_str()) => {
                 let ident = copy_ident(input.alloc(), ident)?;
@@ -69,7 +69,7 @@ impl ToTokens for Ident {
 #[tactic(auto, using(crate::proofs::Inputs::tails, crate::proofs::Weights::firsts))]
 pub fn parse_any_word(input: &mut ParseBuffer<'_>) -> Result<Ident>
     ensures read { IfOk result (λ v. input.old.rest ≡ tok.ident v ∷ input.new.rest) }
-    ensures found { (v : List ℕ) (rest : List Tok) → input.old.noted ≡ false → input.old.rest ≡ tok.ident v ∷ rest → Reaches (λ a. a) v rest result input.new }
+    ensures found { (v : List ℕ) (rest : List Tok) → input.old.noted ≡ None → input.old.rest ≡ tok.ident v ∷ rest → Reaches (λ a. a) v rest result input.new }
     ensures after { IsAfter input.old input.new }
     ensures moves { IfOk result (λ v. 1 + weight input.new.rest ≤ weight input.old.rest) }
     ensures refused { IfErr result (λ e. (e.kind ≡ ErrorKind.OutOfMemory) ⊎ (e.kind ≡ ErrorKind.ExpectedToken (Expected.One Wanted.Identifier))) }
@@ -100,15 +100,11 @@ impl Parse for Literal {
 
     ghost least = { 1 };
 
+    ghost refuses = { λ k. (k ≡ kind.OutOfMemory) ⊎ (k ≡ kind.ExpectedPart part.Literal) };
+
     /// Takes a literal token (Rust Reference, "Literal expressions"), no sign, `true` or `false`. Anything else is
     /// refused at that token as `ExpectedPart`, a literal; and `OutOfMemory` comes, since the literal is copied.
-    fn parse(input: &mut ParseBuffer<'_>) -> Result<Self>
-        ensures read { IfOk result (λ v. input.new.noted ≡ false → input.old.rest ≡ tok.literal v ∷ input.new.rest) }
-        ensures found { (l : List ℕ) (rest : List Tok) → input.old.noted ≡ false → input.old.rest ≡ tok.literal l ∷ rest → Reaches (λ v. v) l rest result input.new }
-        ensures after { IsAfter input.old input.new }
-        ensures moves { IfOk result (λ v. 1 + weight input.new.rest ≤ weight input.old.rest) }
-        ensures refused { IfErr result (λ e. (e.kind ≡ ErrorKind.OutOfMemory) ⊎ (e.kind ≡ ErrorKind.ExpectedPart Part.Literal)) }
-    {
+    fn parse(input: &mut ParseBuffer<'_>) -> Result<Self> {
         match input.first() {
             Some(TokenTree::Literal(literal)) => {
                 let literal = copy_literal(input.alloc(), literal)?;
@@ -140,15 +136,11 @@ impl Parse for TokenTree {
 
     ghost least = { 1 };
 
+    ghost refuses = { λ k. (k ≡ kind.OutOfMemory) ⊎ (k ≡ kind.UnexpectedToken) };
+
     /// Takes the next token or group. The end is refused as `UnexpectedToken`; and `OutOfMemory` comes, since the tree is
     /// copied.
-    fn parse(input: &mut ParseBuffer<'_>) -> Result<Self>
-        ensures read { IfOk result (λ v. input.new.noted ≡ false → input.old.rest ≡ tok_of v ∷ input.new.rest) }
-        ensures found { (t : Tok) (rest : List Tok) → input.old.noted ≡ false → input.old.rest ≡ t ∷ rest → Reaches tok_of t rest result input.new }
-        ensures after { IsAfter input.old input.new }
-        ensures moves { IfOk result (λ v. 1 + weight input.new.rest ≤ weight input.old.rest) }
-        ensures refused { IfErr result (λ e. (e.kind ≡ ErrorKind.OutOfMemory) ⊎ (e.kind ≡ ErrorKind.UnexpectedToken)) }
-    {
+    fn parse(input: &mut ParseBuffer<'_>) -> Result<Self> {
         match input.first() {
             Some(tree) => {
                 let tree = copy_tree(input.alloc(), tree)?;
@@ -180,14 +172,10 @@ impl Parse for TokenStream {
 
     ghost least = { 0 };
 
+    ghost refuses = { λ k. k ≡ kind.OutOfMemory };
+
     /// Takes all that is left. It is refused only as `OutOfMemory`, since the trees are copied.
-    fn parse(input: &mut ParseBuffer<'_>) -> Result<Self>
-        ensures read { IfOk result (λ v. input.new.noted ≡ false → (input.old.rest ≡ v) × (input.new.rest ≡ [])) }
-        ensures found { (ts : List Tok) (rest : List Tok) → input.old.noted ≡ false → (input.old.rest ≡ ts) × (rest ≡ []) → Reaches (λ v. v) ts rest result input.new }
-        ensures after { IsAfter input.old input.new }
-        ensures moves { IfOk result (λ v. 0 + weight input.new.rest ≤ weight input.old.rest) }
-        ensures refused { IfErr result (λ e. e.kind ≡ ErrorKind.OutOfMemory) }
-    {
+    fn parse(input: &mut ParseBuffer<'_>) -> Result<Self> {
         let stream = copy_trees(input.alloc(), input.trees())?;
         input.skip(input.len());
         Ok(stream)

@@ -9,6 +9,9 @@ ghost use Rattle.syn_tokens.specs.Sign as spec;
 ghost use Rattle.syn_tokens.specs.Tok as tok;
 ghost use Rattle.syn_tokens.specs.Tok.{Tok, weight};
 ghost use Rattle.syn_tokens.specs.View.{tok_of, toks_of};
+ghost use Rattle.syn_tokens.specs.declared.error.ErrorKind.TheVariants as kind;
+ghost use Rattle.syn_tokens.specs.declared.error.Expected.TheVariants as expected;
+ghost use Rattle.syn_tokens.specs.declared.error.Wanted.TheVariants as wanted;
 
 use crate::buffer::{Parse, ParseBuffer, ToTokens, Token};
 use crate::error::{ErrorKind, Expected, Result, Wanted};
@@ -440,15 +443,11 @@ impl<const N: usize, const K: usize> Parse for Sign<N, K> {
 
     ghost least = { 1 };
 
+    ghost refuses = { λ k. k ≡ kind.ExpectedToken (expected.One (wanted.Sign K)) };
+
     /// Takes the sign: its puncts, each but the last joint to the next. Anything else is refused at that token as
     /// `ExpectedToken`, this sign. It takes no memory.
-    fn parse(input: &mut ParseBuffer<'_>) -> Result<Self>
-        ensures read { IfOk result (λ v. input.new.noted ≡ false → spec.Takes (spec.sees N K) N input.old.rest input.new.rest) }
-        ensures found { (s : Unit {0}) (rest : List Tok) → input.old.noted ≡ false → spec.Takes (spec.sees N K) N input.old.rest rest → Reaches (λ v. tt) s rest result input.new }
-        ensures after { IsAfter input.old input.new }
-        ensures moves { IfOk result (λ v. 1 + weight input.new.rest ≤ weight input.old.rest) }
-        ensures refused { IfErr result (λ e. e.kind ≡ ErrorKind.ExpectedToken (Expected.One (Wanted.Sign K))) }
-    {
+    fn parse(input: &mut ParseBuffer<'_>) -> Result<Self> {
         if !input.peek::<Self>() {
             return Err(input.error(ErrorKind::ExpectedToken(Expected::One(Wanted::Sign(K)))));
         }
@@ -497,14 +496,10 @@ impl<const K: usize> Parse for Word<K> {
 
     ghost least = { 1 };
 
+    ghost refuses = { λ k. k ≡ kind.ExpectedToken (expected.One (wanted.Word K)) };
+
     /// Takes the word. Anything else is refused at that token as `ExpectedToken`, this word. It takes no memory.
-    fn parse(input: &mut ParseBuffer<'_>) -> Result<Self>
-        ensures read { IfOk result (λ v. input.new.noted ≡ false → spec.Takes (spec.sees_word K) 1 input.old.rest input.new.rest) }
-        ensures found { (s : Unit {0}) (rest : List Tok) → input.old.noted ≡ false → spec.Takes (spec.sees_word K) 1 input.old.rest rest → Reaches (λ v. tt) s rest result input.new }
-        ensures after { IsAfter input.old input.new }
-        ensures moves { IfOk result (λ v. 1 + weight input.new.rest ≤ weight input.old.rest) }
-        ensures refused { IfErr result (λ e. e.kind ≡ ErrorKind.ExpectedToken (Expected.One (Wanted.Word K))) }
-    {
+    fn parse(input: &mut ParseBuffer<'_>) -> Result<Self> {
         if !input.peek::<Self>() {
             return Err(input.error(ErrorKind::ExpectedToken(Expected::One(Wanted::Word(K)))));
         }
@@ -549,14 +544,10 @@ impl Parse for Underscore {
 
     ghost least = { 1 };
 
+    ghost refuses = { λ k. k ≡ kind.ExpectedToken (expected.One wanted.Underscore) };
+
     /// Takes `_`. Anything else is refused at that token as `ExpectedToken`, `_`. It takes no memory.
-    fn parse(input: &mut ParseBuffer<'_>) -> Result<Self>
-        ensures read { IfOk result (λ v. input.new.noted ≡ false → spec.Takes spec.sees_underscore 1 input.old.rest input.new.rest) }
-        ensures found { (s : Unit {0}) (rest : List Tok) → input.old.noted ≡ false → spec.Takes spec.sees_underscore 1 input.old.rest rest → Reaches (λ v. tt) s rest result input.new }
-        ensures after { IsAfter input.old input.new }
-        ensures moves { IfOk result (λ v. 1 + weight input.new.rest ≤ weight input.old.rest) }
-        ensures refused { IfErr result (λ e. e.kind ≡ ErrorKind.ExpectedToken (Expected.One Wanted.Underscore)) }
-    {
+    fn parse(input: &mut ParseBuffer<'_>) -> Result<Self> {
         if !input.peek::<Self>() {
             return Err(input.error(ErrorKind::ExpectedToken(Expected::One(Wanted::Underscore))));
         }

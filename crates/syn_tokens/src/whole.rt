@@ -1,8 +1,8 @@
 //! Readers of whole lists and texts.
 
-ghost use Rattle.std.specs.Prelude.{◌≡◌, [], List, chars, IfOk};
-ghost use Rattle.syn_tokens.specs.Input.{Gives};
-ghost use Rattle.syn_tokens.specs.Lex.{Spells};
+ghost use Rattle.std.specs.Prelude.{◌≡◌, ◌⊎◌, [], List, chars, IfOk, IfErr};
+ghost use Rattle.syn_tokens.specs.Input.{Gives, IsRefused};
+ghost use Rattle.syn_tokens.specs.Lex.{Spells, IsRefusedAs, refusal};
 ghost use Rattle.syn_tokens.specs.Tok.{Tok};
 
 use crate::buffer::{Parse, ParseBuffer};
@@ -18,6 +18,8 @@ pub fn parse2<T: Parse + Drop>(tokens: TokenStream) -> Result<T>
     ensures read { IfOk result (λ v. T.spells tokens (T.seen v) []) }
     // What the whole list spells is read, unless memory runs out.
     ensures found { (s : T.Seen) → T.spells tokens s [] → Gives T.seen s result }
+    // It is refused as the reader of a `T` refuses it, or at the token that this left over.
+    ensures refused { IfErr result (λ e. IsRefused T.refuses (T.spells tokens) (T.leaves tokens) e) }
 {
     let mut input = match ParseBuffer::new(&tokens) {
         Ok(input) => input,
@@ -43,6 +45,8 @@ pub fn parse_str<T: Parse + Drop>(alloc: Global, text: &str) -> Result<T>
     ensures read { IfOk result (λ v. (ts : List Tok) × Spells (chars text.now) ts × T.spells ts (T.seen v) []) }
     // What the tokens of the text spell is read, unless memory runs out.
     ensures found { (s : T.Seen) (ts : List Tok) → Spells (chars text.now) ts → T.spells ts s [] → Gives T.seen s result }
+    // It is refused as the text is, or where memory runs out, or as its tokens are.
+    ensures refused { IfErr result (λ e. (e.kind ≡ ErrorKind.OutOfMemory) ⊎ IsRefusedAs (refusal (chars text.now)) e.kind ⊎ ((ts : List Tok) × Spells (chars text.now) ts × IsRefused T.refuses (T.spells ts) (T.leaves ts) e)) }
 {
     match lex(alloc, text) {
         Ok(tokens) => parse2::<T>(tokens),

@@ -272,3 +272,35 @@ fn left_to_forks(rt: HostRuntime) -> Result<(), Fail> {
     assert_eq!(rt; up_to_itself, Span { lo: 15, hi: 15 });
     Ok(())
 }
+
+/// The first word of the next parentheses, what stands behind it noted.
+fn head(input: &mut ParseBuffer<'_>) -> Result<Ident, Error> {
+    let (_, mut content) = input.parse_parens()?;
+    let word = content.parse::<Ident>()?;
+    input.close(content);
+    Ok(word)
+}
+
+/// The place of what is left behind two groups, the second one read here or on a fork.
+fn left_in_two(alloc: Global, is_on_fork: bool) -> Result<Option<Span>, Error> {
+    let tokens = lex(alloc, "(a b) (c d)")?;
+    let mut input = ParseBuffer::new(&tokens)?;
+    let _ = head(&mut input)?;
+    if is_on_fork {
+        let mut fork = input.fork()?;
+        let _ = head(&mut fork)?;
+        input.advance_to(&fork);
+    } else {
+        let _ = head(&mut input)?;
+    }
+    Ok(input.leftover())
+}
+
+/// The first note stays, whether a group or a fork has another.
+#[test]
+fn left_in_two_groups(rt: HostRuntime) -> Result<(), Fail> {
+    let first = Some(Span { lo: 3, hi: 4 });
+    assert_eq!(rt; left_in_two(rt.alloc(), false)?, first);
+    assert_eq!(rt; left_in_two(rt.alloc(), true)?, first);
+    Ok(())
+}

@@ -7,7 +7,6 @@ use std::test::Fail;
 use syn_tokens::buffer::ParseBuffer;
 use syn_tokens::error::Error;
 use syn_tokens::lexer::lex;
-use syn_tokens::list::{optional, to_end};
 use syn_tokens::parse::parse_any_word;
 use syn_tokens::span::Span;
 use syn_tokens::token::{Comma, DotDotEq, Underscore, Yield};
@@ -66,43 +65,6 @@ fn refused_readers(rt: HostRuntime) -> Result<(), Fail> {
     check(alloc, "self | 0..4 expected identifier", printed::<Ident>)?;
     check(alloc, "true | 0..4 expected a literal", printed::<Literal>)?;
     check(alloc, REFUSED_AS_TREES, printed::<TokenTree>)
-}
-
-/// The words with a comma behind each, and whether one has none.
-fn list(alloc: Global, text: &str) -> Result<String, Error> {
-    let tokens = lex(alloc, text)?;
-    let mut input = ParseBuffer::new(&tokens)?;
-    let (pairs, last) = to_end::<Ident, Comma>(&mut input)?;
-    Ok(format!(in alloc; "{} {}", pairs.len(), last.is_some())?)
-}
-
-const LISTS: &str = "
-a      | 0 true
-a, b,  | 2 false
-a, b, c| 2 true
-       | 0 false
-a b    | 2..3 expected `,`
-a, , b | 3..4 expected identifier
-";
-
-#[test]
-fn lists(rt: HostRuntime) -> Result<(), Fail> {
-    check(rt.alloc(), LISTS, list)
-}
-
-/// Whether a comma is there, twice, and how many trees are left.
-fn two_commas(alloc: Global, text: &str) -> Result<(bool, bool, usize), Error> {
-    let tokens = lex(alloc, text)?;
-    let mut input = ParseBuffer::new(&tokens)?;
-    let is_first = optional::<Comma>(&mut input)?.is_some();
-    let is_second = optional::<Comma>(&mut input)?.is_some();
-    Ok((is_first, is_second, input.len()))
-}
-
-#[test]
-fn optional_commas(rt: HostRuntime) -> Result<(), Fail> {
-    assert_eq!(rt; two_commas(rt.alloc(), ", a")?, (true, false, 1));
-    Ok(())
 }
 
 const SPAN: Span = Span { lo: 3, hi: 4 };

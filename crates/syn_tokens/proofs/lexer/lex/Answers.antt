@@ -6,3 +6,8 @@ pub returns-clause-found : goal.returns-clause-found
 returns-clause-found c = λ ts is.
     let same : c.as_slice.result.now ≡ chars c.args.text.now = c.as_slice.ensures.value ∙ c.in_ok-all.ensures in
     gives_only c.as_slice.result.now c.lex_chars.result c.lex_chars.ensures.read c.lex_chars.ensures.refused ts (rw same is)
+
+pub returns-clause-kind : goal.returns-clause-kind
+returns-clause-kind c =
+    let same : c.as_slice.result.now ≡ chars c.args.text.now = c.as_slice.ensures.value ∙ c.in_ok-all.ensures in
+    rw (← same) c.lex_chars.ensures.kind

@@ -1,7 +1,7 @@
 use Rattle.std.proofs.Common.{◌≡◌, [], inr, map, refl, sym, ◌∙◌}
 use Rattle.std.proofs.lemmas.List.{map-append}
 use Rattle.syn_tokens.specs.Nest.{open_of}
-use Rattle.syn_tokens.proofs.Nests.{misfits_alone, misfits_other, unfinished-closes}
+use Rattle.syn_tokens.proofs.Nests.{misfits_alone, misfits_other, unfinished-closes, delimiters-append}
 use Rattle.syn_tokens.proofs.Views.{no_items}
 use Rattle.syn_tokens.proofs.lexer.Nest.closes.Goals as goal
 
@@ -26,3 +26,26 @@ returns-clause-ok c =
       ← c.if-not-is_same.ensures.same refl,
     )
     (unfinished-closes (map open_of c.pop.new.self.items) c.in-Some.open.before c.args.self.now.current c.in-Some.open.delimiter)
+
+pub returns-then-not-is_same-clause-kind : goal.returns-then-not-is_same-clause-kind
+returns-then-not-is_same-clause-kind c =
+    inr (
+      rw (
+        c.in-Some.ensures.items,
+        map-append open_of c.pop.new.self.items _,
+        delimiters-append (map open_of c.pop.new.self.items) (open_of c.in-Some.open) [],
+        ← c.if-not-is_same.ensures.value,
+      )
+          refl,
+      c.refusal-then-not-is_same.ensures,
+    )
+
+pub returns-clause-open : goal.returns-clause-open
+returns-clause-open c =
+    rw (
+      c.in-Some.ensures.items,
+      map-append open_of c.pop.new.self.items _,
+      delimiters-append (map open_of c.pop.new.self.items) (open_of c.in-Some.open) [],
+      ← c.if-not-is_same.ensures.value,
+    )
+    refl
