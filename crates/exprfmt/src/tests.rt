@@ -1,6 +1,7 @@
 //! Runs over memory: rows of input and answer, the texts of refusals, and reads and writes that fail.
 
 use crate::run::{Position, run};
+use crate::watched::Watched;
 use std::io;
 use std::io::{Read, Write};
 use std::test::Fail;
@@ -18,7 +19,13 @@ fn run_over(alloc: std::alloc::Global, input: &[u8]) -> Written {
     let mut input = input;
     let mut output = Vec::new(alloc);
     let mut errors = Vec::new(alloc);
-    let status = run(alloc, Position::Plain, &mut input, &mut output, &mut errors);
+    let status = run(
+        alloc,
+        Position::Plain,
+        &mut Watched::new(&mut input),
+        &mut Watched::new(&mut output),
+        &mut Watched::new(&mut errors),
+    );
     Written {
         status,
         output,
@@ -199,9 +206,9 @@ fn says_that_a_read_failed(rt: HostRuntime) {
         let status = run(
             rt.alloc(),
             Position::Plain,
-            &mut input,
-            &mut output,
-            &mut errors,
+            &mut Watched::new(&mut input),
+            &mut Watched::new(&mut output),
+            &mut Watched::new(&mut errors),
         );
         if left < 6 {
             assert_eq!(rt; status, 1, "at {left}");
@@ -230,9 +237,9 @@ fn says_that_a_write_failed(rt: HostRuntime) {
         let status = run(
             rt.alloc(),
             Position::Plain,
-            &mut input,
-            &mut output,
-            &mut errors,
+            &mut Watched::new(&mut input),
+            &mut Watched::new(&mut output),
+            &mut Watched::new(&mut errors),
         );
         let line: &[u8] = b"a + b\n";
         assert!(rt; line.starts_with(output.taken.as_slice()), "at {left}");
@@ -261,9 +268,9 @@ fn fails_where_the_refusal_cannot_be_written(rt: HostRuntime) -> Result<(), Fail
     let status = run(
         rt.alloc(),
         Position::Plain,
-        &mut input,
-        &mut output,
-        &mut errors,
+        &mut Watched::new(&mut input),
+        &mut Watched::new(&mut output),
+        &mut Watched::new(&mut errors),
     );
     assert_eq!(rt; status, 1);
     assert!(rt; output.is_empty());
