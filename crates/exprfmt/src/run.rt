@@ -157,10 +157,11 @@ fn line_of_rest<R: Read>(
     }
 }
 
-/// The longest line of a refusal has fewer bytes.
+/// Room for the line of a refusal: the longest text with the greatest places has fewer than 200 bytes.
 const REFUSAL_SIZE: usize = 256;
 
-/// Writes why nothing was printed. It takes no memory but a room of fixed size, in which each refusal's line fits.
+/// Writes why nothing was printed. It takes no memory but a room of fixed size: a line that did not fit there would be
+/// that of memory that ran out.
 fn report<E: Write>(errors: &mut Watched<E>, fault: Fault)
     ensures { spec.Reports (outcome_of fault) (spec.writer (E.contents errors.old.inner) errors.new.failed (E.contents errors.new.inner)) }
 {
