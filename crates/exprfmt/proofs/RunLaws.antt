@@ -1,29 +1,145 @@
 -- Facts of known bytes, and what a fault writes.
-use Rattle.std.proofs.Common.{◌≡◌, ℕ, List, refl}
-use Rattle.std.specs.Prelude.{Option, Some, None, IfSome, chars}
-use Rattle.std.specs.Io.KnownBytes.{Appends}
+use Rattle.std.proofs.Common.{◌≡◌, ◌⊎◌, inl, inr, ℕ, Bool, true, false, List, [], ◌∷◌, ◌++◌, take, drop, refl, sym, ap, ◌∙◌, subst, append_assoc, append-nil, take-append-drop, Result, Ok, Err, arith}
+use Rattle.std.specs.Prelude.{Option, Some, None, IfSome, IfErr, chars, codes}
+use Rattle.std.specs.Io.KnownBytes.{Appends, Keeps}
 use Rattle.std.specs.Str.{IsUtf8}
-use Rattle.exprfmt.specs.Run.{IsPrinted, IsLine, Ran, Writes, line, printed}
+use Rattle.std.specs.Fmt.{WritesInCalls}
+use Rattle.std.specs.Fmt.InlineText.{inline_text, IsIntact, AppendsIfIntact}
+use Rattle.std.specs.List.{FoldsTo, concat}
+use Rattle.std.specs.declared.fmt.InlineText.{InlineText}
+use Rattle.std.proofs.KnownBytes.{Appends-trans}
+use Rattle.std.proofs.lemmas.Fmt.{decimal_digit}
+use Rattle.syn_tokens.specs.Input.{Gives}
+use Rattle.syn_tokens.specs.Lex.{Spells}
+use Rattle.syn_tokens.specs.Tok.{Tok}
+use Rattle.syn_tokens.specs.declared.error.Error.{Error}
+use Rattle.syn_tokens.specs.declared.error.ErrorKind.{ErrorKind}
+use Rattle.syn_tokens.specs.declared.error.ErrorKind.TheVariants.{OutOfMemory}
+use Rattle.syn_grammar.specs.Place.{plain}
+use Rattle.syn_grammar.specs.Stands.{Stands}
+use Rattle.syn_grammar.specs.Tree.{Tree}
+use Rattle.syn_expr.specs.declared.expr.Expr.{Expr}
+use Rattle.syn_expr.specs.Reads.{SpellsExpr}
+use Rattle.syn_expr.specs.View.{seen_of, SeenExpr}
+use Rattle.exprfmt.specs.Run.{GainsFront, IsLine, StandsFor, NothingStands, AreLeft, Follows, Writer, Takes, Prints, Reports, Ran, line, printed, refused, foreign, failed, out_of_memory}
 use Rattle.exprfmt.specs.FaultView.{outcome_of}
 use Rattle.exprfmt.specs.declared.run.Fault.{Fault}
 use Rattle.exprfmt.specs.declared.run.Fault.TheVariants.{Refused, NotUtf8, Failed}
 
-pub at_some : {A : Type 0} (P : A → Type 0) (o : Option A) → ((x : A) → P x) → IfSome o P
-at_some P None f = tt
-at_some P (Some x) f = f x
+-- ---- a text that is written part by part
 
-pub along_some : {A : Type 0} (P Q : A → Type 0) (o : Option A) → IfSome o P → ((x : A) → P x → Q x) → IfSome o Q
-along_some P Q None h f = tt
-along_some P Q (Some x) h f = f x h
+appends_kept : (a b c : Option (List ℕ)) (x : List ℕ) → Appends a b x → Keeps b c → Appends a c x
+appends_kept None b c x p q = tt
+appends_kept (Some a) None c x p q = absurd p
+appends_kept (Some a) (Some b) None x p q = absurd q
+appends_kept (Some a) (Some b) (Some c) x p q = q ∙ p
 
-pub fault_writes : (f : Fault) (out err err' : Option (List ℕ)) → Appends err err' (line (outcome_of f)) → Writes (outcome_of f) 1 out out err err'
-fault_writes (Refused e) out err err' h = (refl, refl, h)
-fault_writes NotUtf8 out err err' h = (refl, refl, h)
-fault_writes Failed out err err' h = (refl, h)
+-- what was written is a front of the text
+abbrev pub Written : Option (List ℕ) → List ℕ → List ℕ → Option (List ℕ) → Type 0
+Written old text rest new = (done : List ℕ) × (text ≡ done ++ rest) × Appends old new done
 
-pub printed_ran : (bytes read text : List ℕ) (out out' err : Option (List ℕ)) → read ≡ bytes → IsUtf8 read → IsLine (chars read) text → Appends out out' text
-    → Ran bytes 0 out out' err err
-printed_ran bytes read text out out' err same utf8 is wrote =
-    let utf8' : IsUtf8 bytes = rw same at utf8 in
-    let stands : IsPrinted (chars bytes) is.0 = rw same at is.1 in
-    (printed is.0, (utf8', stands), (refl, rw is.2 at wrote, refl))
+pub none_written : (a : Option (List ℕ)) (text : List ℕ) → Written a text text a
+none_written None text = ([], refl, tt)
+none_written (Some a) text = ([], refl, sym (append-nil a))
+
+pub more_written : (a b c : Option (List ℕ)) (text rest : List ℕ) (n : ℕ) → Written a text rest b → Appends b c (take n rest) → Written a text (drop n rest) c
+more_written a b c text rest n (done, split, p) q = (
+  done ++ take n rest,
+  split ∙ ap (λ l. done ++ l) (sym (take-append-drop n rest)) ∙ sym (append_assoc done (take n rest) (drop n rest)),
+  Appends-trans a b c done (take n rest) p q,
+)
+
+pub written_kept : (a b c : Option (List ℕ)) (text rest : List ℕ) → Written a text rest b → Keeps b c → Written a text rest c
+written_kept a b c text rest (done, split, p) q = (done, split, appends_kept a b c done p q)
+
+pub written_front : (a b : Option (List ℕ)) (text rest : List ℕ) → Written a text rest b → GainsFront a text b
+written_front a b text rest (done, split, p) = (done, rest, split, p)
+
+pub written_whole : (a b : Option (List ℕ)) (text : List ℕ) → Written a text [] b → Appends a b text
+written_whole a b text (done, split, p) = subst (Appends a b) (sym (split ∙ append-nil done)) p
+
+-- ---- a text that is formatted into a room of fixed size
+
+by_calls : {n : ℕ} (s : InlineText n) (parts : List (List ℕ)) (t : InlineText n) → FoldsTo AppendsIfIntact s parts t → IsIntact s → inline_text t ≡ inline_text s ++ concat parts
+by_calls s [] t calls intact = ap inline_text (sym calls) ∙ sym (append-nil (inline_text s))
+by_calls s (x ∷ parts) t (mid, first, rest) intact =
+    let one = first intact in
+    by_calls mid parts t rest one.0 ∙ ap (λ l. l ++ concat parts) one.1 ∙ append_assoc (inline_text s) x (concat parts)
+
+pub formatted : {n : ℕ} (s : InlineText n) (bs : List ℕ) (t : InlineText n) → IsIntact s → inline_text s ≡ [] → WritesInCalls AppendsIfIntact s bs t → inline_text t ≡ bs
+formatted s bs t intact empty wrote = by_calls s wrote.parts t wrote.calls intact ∙ ap (λ l. l ++ concat wrote.parts) empty ∙ wrote.whole
+
+-- ---- what is left to read
+
+abbrev pub known : Option (List ℕ) → List ℕ
+known None = []
+known (Some l) = l
+
+pub known_left : (o : Option (List ℕ)) → AreLeft o (known o)
+known_left None = tt
+known_left (Some l) = refl
+
+pub all_left : (o : Option (List ℕ)) (old new : List ℕ) → old ≡ [] → IfSome o (λ l. new ≡ old ++ l) → AreLeft o new
+all_left None old new e h = tt
+all_left (Some l) old new e h = h ∙ ap (λ x. x ++ l) e
+
+-- ---- a refusal of the reader
+
+refused_by : (k : ErrorKind) (cs : List ℕ) → ((t : Tree) → StandsFor cs t → k ≡ OutOfMemory) → (k ≡ OutOfMemory) ⊎ NothingStands cs
+refused_by OutOfMemory cs h = inl refl
+refused_by k cs h = inr (λ t s. let e = h t s in cc)
+
+pub read_refused : (cs : List ℕ) (ts : List Tok) (r : Result Expr Error) → ((l : List Tok) → Spells cs l → ts ≡ l)
+    → ((s : SeenExpr) → SpellsExpr ts s [] → Gives seen_of s r) → IfErr r (λ e. (e.kind ≡ OutOfMemory) ⊎ NothingStands cs)
+read_refused cs ts (Ok x) one found = tt
+read_refused cs ts (Err e) one found =
+    refused_by e.kind cs (λ t s. found (record { tree = t; inner = [] }) (subst (λ (m : List Tok). Stands plain m t []) (sym (one s.0 s.1)) s.2, refl))
+
+-- ---- what is reported
+
+pub regroup : (a b c d e f g : List ℕ) → a ++ (b ++ (c ++ (d ++ (e ++ (f ++ g))))) ≡ a ++ b ++ c ++ d ++ e ++ f ++ g
+regroup a b c d e f g =
+    let whole = append_assoc (a ++ b ++ c ++ d ++ e) f g ∙ append_assoc (a ++ b ++ c ++ d) e (f ++ g) ∙ append_assoc (a ++ b ++ c) d (e ++ (f ++ g))
+    ∙ append_assoc (a ++ b) c (d ++ (e ++ (f ++ g))) ∙ append_assoc a b (c ++ (d ++ (e ++ (f ++ g)))) in
+    sym whole
+
+memory_line : codes "refused at 0..0: out of memory" ++ 10 ∷ [] ≡ line out_of_memory
+memory_line = rw (decimal_digit 0 (omega arith)) refl
+
+pub reports_refusal : (f : Fault) (e : Error) (errors : Writer) (text : List ℕ) → f ≡ Refused e → Takes errors text → text ≡ line (refused e) → Reports (outcome_of f) errors
+reports_refusal f e errors text is wrote same = subst (λ (h : Fault). Reports (outcome_of h) errors) (sym is) (inl (subst (Takes errors) same wrote))
+
+pub reports_memory : (f : Fault) (e : Error) (errors : Writer) → f ≡ Refused e → Takes errors (codes "refused at 0..0: out of memory" ++ 10 ∷ []) → Reports (outcome_of f) errors
+reports_memory f e errors is wrote = subst (λ (h : Fault). Reports (outcome_of h) errors) (sym is) (inr (subst (Takes errors) memory_line wrote))
+
+-- ---- how a run ends
+
+pub reported : (left : Option (List ℕ)) (bytes : List ℕ) (unread : Bool) (f : Fault) (output errors : Writer) → AreLeft left bytes → Follows bytes unread (outcome_of f)
+    → output.after ≡ output.before → Reports (outcome_of f) errors → Ran left unread 1 output errors
+reported left bytes unread (Refused e) output errors a h k (inl w) = (bytes, refused e, a, h, (refl, k, w))
+reported left bytes unread (Refused e) output errors a h k (inr w) = (bytes, out_of_memory, a, inl refl, (refl, k, w))
+reported left bytes unread NotUtf8 output errors a h k w = (bytes, foreign, a, h, (refl, k, w))
+reported left bytes unread Failed output errors a h k w = (bytes, failed, a, h, (refl, k, w))
+
+prints_whole : (b : Bool) (errors : Writer) → b ≡ false → errors.after ≡ errors.before → Prints b 0 errors
+prints_whole true errors h k = absurd cc
+prints_whole false errors h k = (refl, k)
+
+prints_front : (b : Bool) (errors : Writer) → b ≡ true → Takes errors (line failed) → Prints b 1 errors
+prints_front true errors h k = (refl, k)
+prints_front false errors h k = absurd cc
+
+printed_by : (left : Option (List ℕ)) (bytes text : List ℕ) (unread : Bool) (status : ℕ) (output errors : Writer) → AreLeft left bytes → IsUtf8 bytes → IsLine (chars bytes) text
+    → Takes output text → Prints output.broke status errors → Ran left unread status output errors
+printed_by left bytes text unread status output errors a utf8 is wrote prints =
+    (bytes, printed is.0, a, (utf8, is.1), (rw is.2 at wrote, prints))
+
+pub printed_whole : (left : Option (List ℕ)) (bytes text : List ℕ) (unread : Bool) (output errors : Writer) → AreLeft left bytes → IsUtf8 bytes → IsLine (chars bytes) text
+    → Takes output text → output.broke ≡ false → errors.after ≡ errors.before → Ran left unread 0 output errors
+printed_whole left bytes text unread output errors a utf8 is wrote h k =
+    printed_by left bytes text unread 0 output errors a utf8 is wrote (prints_whole output.broke errors h k)
+
+pub printed_front : (left : Option (List ℕ)) (bytes text : List ℕ) (unread : Bool) (output errors : Writer) → AreLeft left bytes → IsUtf8 bytes → IsLine (chars bytes) text
+    → Takes output text → output.broke ≡ true → Takes errors (line failed) → Ran left unread 1 output errors
+printed_front left bytes text unread output errors a utf8 is wrote h k =
+    printed_by left bytes text unread 1 output errors a utf8 is wrote (prints_front output.broke errors h k)

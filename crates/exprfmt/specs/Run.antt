@@ -1,5 +1,5 @@
 -- What a run does.
-use Rattle.std.specs.Prelude.{◌≡◌, ◌⊎◌, ℕ, List, [], ◌∷◌, ◌++◌, Option, codes, decimal, chars}
+use Rattle.std.specs.Prelude.{◌≡◌, ◌⊎◌, ℕ, Bool, true, false, List, [], ◌∷◌, ◌++◌, Option, Some, None, codes, decimal, chars}
 use Rattle.std.specs.Str.{IsUtf8}
 use Rattle.std.specs.Io.KnownBytes.{Appends}
 use Rattle.syn_tokens.specs.Tok.{Tok}
@@ -12,7 +12,7 @@ use Rattle.syn_grammar.specs.Place.{plain}
 use Rattle.syn_grammar.specs.Stands.{Stands}
 use Rattle.syn_grammar.specs.Tree.{Tree, own_tokens}
 
--- how a run ends: with printed tokens, a refusal, an input that is no UTF-8, or a read or write that failed
+-- how a run ends: with printed tokens, a refusal, an input that is no UTF-8, or a read that failed
 pub data Outcome : Type 0 where
   printed : List Tok → Outcome
   refused : Error → Outcome
@@ -26,6 +26,10 @@ line (refused e) =
     codes "refused at " ++ decimal e.span.lo ++ codes ".." ++ decimal e.span.hi ++ codes ": " ++ kind_text e.kind ++ 10 ∷ []
 line foreign = codes "input is not UTF-8" ++ 10 ∷ []
 line failed = codes "input or output failed" ++ 10 ∷ []
+
+-- what is written where the arguments are no words of the program
+abbrev pub usage : List ℕ
+usage = codes "usage: exprfmt plain|stmt|cond|arm [bare]" ++ 10 ∷ []
 
 -- the text is cut into tokens for the whole of which the tree stands
 abbrev pub StandsFor : List ℕ → Tree → Type 0
@@ -43,20 +47,61 @@ NothingStands cs = (t : Tree) → StandsFor cs t → ⊥
 abbrev pub IsLine : List ℕ → List ℕ → Type 0
 IsLine cs bytes = (ts : List Tok) × IsPrinted cs ts × (bytes ≡ text ts ++ 10 ∷ [])
 
--- The outcome is that of the input, unless memory runs out, or a read or write fails: the expression that stands for
--- it is printed, and it is refused only where none does.
-abbrev pub Follows : List ℕ → Outcome → Type 0
-Follows bytes (printed ts) = IsUtf8 bytes × IsPrinted (chars bytes) ts
-Follows bytes (refused e) = (e.kind ≡ OutOfMemory) ⊎ (IsUtf8 bytes × NothingStands (chars bytes))
-Follows bytes foreign = IsUtf8 bytes → ⊥
-Follows bytes failed = Unit {0}
+-- The outcome is that of the input, unless memory runs out or a read failed: the expression that stands for it is
+-- printed, and it is refused only where none does.
+abbrev pub Follows : List ℕ → Bool → Outcome → Type 0
+Follows bytes unread (printed ts) = IsUtf8 bytes × IsPrinted (chars bytes) ts
+Follows bytes unread (refused e) = (e.kind ≡ OutOfMemory) ⊎ (IsUtf8 bytes × NothingStands (chars bytes))
+Follows bytes unread foreign = IsUtf8 bytes → ⊥
+Follows bytes unread failed = unread ≡ true
 
--- the status, and what the output and the errors gained
-abbrev pub Writes : Outcome → ℕ → Option (List ℕ) → Option (List ℕ) → Option (List ℕ) → Option (List ℕ) → Type 0
-Writes (printed ts) status out out' err err' = (status ≡ 0) × Appends out out' (line (printed ts)) × (err' ≡ err)
-Writes failed status out out' err err' = (status ≡ 1) × Appends err err' (line failed)
-Writes o status out out' err err' = (status ≡ 1) × (out' ≡ out) × Appends err err' (line o)
+-- ---- what is written, where the bytes that a writer holds are known
 
--- the run had an outcome that follows from the input
-abbrev pub Ran : List ℕ → ℕ → Option (List ℕ) → Option (List ℕ) → Option (List ℕ) → Option (List ℕ) → Type 0
-Ran bytes status out out' err err' = (o : Outcome) × Follows bytes o × Writes o status out out' err err'
+-- a front of a text, and nothing else
+abbrev pub GainsFront : Option (List ℕ) → List ℕ → Option (List ℕ) → Type 0
+GainsFront old text new = (front more : List ℕ) × (text ≡ front ++ more) × Appends old new front
+
+-- the text, or where the writer failed a front of it
+abbrev pub Gains : Option (List ℕ) → List ℕ → Bool → Option (List ℕ) → Type 0
+Gains old text false new = Appends old new text
+Gains old text true new = GainsFront old text new
+
+-- a writer before and behind a run, and whether it failed
+pub record Writer : Type 0 where
+  pub before : Option (List ℕ)
+  pub broke : Bool
+  pub after : Option (List ℕ)
+
+abbrev pub writer : Option (List ℕ) → Bool → Option (List ℕ) → Writer
+writer held b holds = record { before = held; broke = b; after = holds }
+
+abbrev pub Takes : Writer → List ℕ → Type 0
+Takes w text = Gains w.before text w.broke w.after
+
+-- what stands beside the printed line: where the output failed, the errors say so
+abbrev pub Prints : Bool → ℕ → Writer → Type 0
+Prints false status errors = (status ≡ 0) × (errors.after ≡ errors.before)
+Prints true status errors = (status ≡ 1) × Takes errors (line failed)
+
+-- the status, and what the output and the errors take
+abbrev pub Ends : Outcome → ℕ → Writer → Writer → Type 0
+Ends (printed ts) status output errors = Takes output (line (printed ts)) × Prints output.broke status errors
+Ends o status output errors = (status ≡ 1) × (output.after ≡ output.before) × Takes errors (line o)
+
+-- the bytes that a reader has left, where they are known
+abbrev pub AreLeft : Option (List ℕ) → List ℕ → Type 0
+AreLeft None bytes = Unit {0}
+AreLeft (Some left) bytes = bytes ≡ left
+
+-- A run over a reader with these bytes left, of which a read failed or not: it had an outcome that follows from them.
+abbrev pub Ran : Option (List ℕ) → Bool → ℕ → Writer → Writer → Type 0
+Ran left unread status output errors = (bytes : List ℕ) × (o : Outcome) × AreLeft left bytes × Follows bytes unread o × Ends o status output errors
+
+-- ---- the report of an outcome: memory runs out where the line has no room
+
+abbrev pub out_of_memory : Outcome
+out_of_memory = refused (record { span = record { lo = 0; hi = 0 }; kind = OutOfMemory })
+
+abbrev pub Reports : Outcome → Writer → Type 0
+Reports (refused e) errors = Takes errors (line (refused e)) ⊎ Takes errors (line out_of_memory)
+Reports o errors = Takes errors (line o)

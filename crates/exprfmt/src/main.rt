@@ -8,24 +8,26 @@
 mod run;
 #[cfg(test)]
 mod tests;
+mod watched;
 
-use run::{Position, run};
+use run::{Position, run, usage};
 use std::env::Env;
 use std::process::ExitCode;
 use std::{env, io};
+use watched::Watched;
 
 fn main(rt: HostRuntime) -> ExitCode {
-    let Some(position) = position_of(&rt) else {
-        let _ = rt.eprintln("usage: exprfmt plain|stmt|cond|arm [bare]");
-        return ExitCode::from(2);
+    let mut errors = Watched::new(rt.stderr());
+    let status = match position_of(&rt) {
+        Some(position) => run(
+            rt.alloc(),
+            position,
+            &mut Watched::new(rt.reader()),
+            &mut Watched::new(io::writer(&rt)),
+            &mut errors,
+        ),
+        None => usage(&mut errors),
     };
-    let status = run(
-        rt.alloc(),
-        position,
-        &mut rt.reader(),
-        &mut io::writer(&rt),
-        &mut rt.stderr(),
-    );
     ExitCode::from(status)
 }
 

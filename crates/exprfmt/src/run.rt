@@ -1,8 +1,7 @@
 //! What the program does, over any reader and writers.
 
-ghost use Rattle.std.specs.Prelude.{◌≡◌, ◌≢◌, ◌⊎◌, ℕ, List, Option, Some, None, OnOk, IfOk, IfErr, IfSome, MatchResult, string_bytes, codes, ◌++◌, ◌∷◌, [], chars, Ok, Err};
+ghost use Rattle.std.specs.Prelude.{◌≡◌, ◌≢◌, ◌⊎◌, ℕ, Bool, true, false, List, Some, None, IfOk, IfErr, string_bytes, codes, ◌++◌, ◌∷◌, [], chars};
 ghost use Rattle.std.specs.Str.{IsUtf8};
-ghost use Rattle.std.specs.Io.KnownBytes.{Appends};
 ghost use Rattle.std.specs.IoError.{error_kind};
 ghost use Rattle.std.specs.declared.io.ErrorKind.TheVariants.{OutOfMemory};
 ghost use Rattle.syn_tokens.specs.Tok.{Tok};
@@ -13,7 +12,9 @@ ghost use Rattle.syn_expr.specs.View.{tree_of};
 ghost use Rattle.exprfmt.specs.Run as spec;
 ghost use Rattle.exprfmt.specs.FaultView.{outcome_of};
 
+use crate::watched::Watched;
 use std::alloc::Global;
+use std::fmt::{InlineText, Write as _};
 use std::io;
 use std::io::{Read, Write};
 use syn_expr::expr::Expr;
@@ -115,7 +116,7 @@ fn line_of_text(alloc: Global, position: Position, text: &str) -> Result<String>
 /// The line for an input.
 fn line_of(alloc: Global, position: Position, bytes: &[u8]) -> std::result::Result<String, Fault>
     ensures value { IfOk result (λ s. IsUtf8 bytes.now × spec.IsLine (chars bytes.now) (string_bytes s)) }
-    ensures refused { IfErr result (λ f. spec.Follows bytes.now (outcome_of f)) }
+    ensures refused { IfErr result (λ f. spec.Follows bytes.now false (outcome_of f)) }
 {
     let text = match str::from_utf8(bytes) {
         Ok(text) => text,
@@ -127,24 +128,10 @@ fn line_of(alloc: Global, position: Position, bytes: &[u8]) -> std::result::Resu
     }
 }
 
-/// Writes why nothing was printed. It takes no memory.
-fn report<E: Write>(errors: &mut E, fault: Fault) -> io::Result<()>
-    ensures { OnOk result (Appends (E.contents errors.old) (E.contents errors.new) (spec.line (outcome_of fault))) }
-{
-    match fault {
-        Fault::Refused(e) => {
-            let (lo, hi, kind) = (e.span.lo, e.span.hi, e.kind);
-            writeln!(errors, "refused at {lo}..{hi}: {kind}")
-        }
-        Fault::NotUtf8 => errors.write_all(b"input is not UTF-8\n"),
-        Fault::Failed => errors.write_all(b"input or output failed\n"),
-    }
-}
-
 /// The fault of a read that failed.
 fn read_fault(e: &io::Error) -> Fault
-    ensures follows { (bytes : List ℕ) → spec.Follows bytes (outcome_of result) }
-    ensures memory { error_kind e.now ≡ OutOfMemory → outcome_of result ≢ spec.failed }
+    ensures follows { (bytes : List ℕ) (unread : Bool) → unread ≡ true → spec.Follows bytes unread (outcome_of result) }
+    ensures memory { error_kind e.now ≡ OutOfMemory → outcome_of result ≡ spec.out_of_memory }
     ensures other { error_kind e.now ≢ OutOfMemory → outcome_of result ≡ spec.failed }
 {
     if e.kind() == io::ErrorKind::OutOfMemory {
@@ -154,51 +141,78 @@ fn read_fault(e: &io::Error) -> Fault
     }
 }
 
-/// Reads the input to its end, and writes the printed expression and a newline to `output`, or one line to `errors`
-/// that says why not: where the lexer or the reader refused the text, that it is no UTF-8, or that a read or a write
-/// failed. The result is the status: 0 where the expression was printed, else 1. An error is that of a write to `errors`.
-pub fn run_to<R: Read, W: Write, E: Write>(
+/// The line for what a reader has left.
+fn line_of_rest<R: Read>(
     alloc: Global,
     position: Position,
-    input: &mut R,
-    output: &mut W,
-    errors: &mut E,
-) -> io::Result<u8>
-    ensures { IfSome (R.remaining input.old) (λ bytes. IfOk result (λ status. spec.Ran bytes status (W.contents output.old) (W.contents output.new) (E.contents errors.old) (E.contents errors.new))) }
+    input: &mut Watched<R>,
+) -> std::result::Result<String, Fault>
+    ensures value { IfOk result (λ s. (bytes : List ℕ) × spec.AreLeft (R.remaining input.old.inner) bytes × IsUtf8 bytes × spec.IsLine (chars bytes) (string_bytes s)) }
+    ensures refused { IfErr result (λ f. (bytes : List ℕ) × spec.AreLeft (R.remaining input.old.inner) bytes × spec.Follows bytes input.new.failed (outcome_of f)) }
 {
     let mut bytes = Vec::new(alloc);
-    if let Err(e) = input.read_to_end(&mut bytes) {
-        report(errors, read_fault(&e))?;
-        return Ok(1);
+    match input.read_to_end(&mut bytes) {
+        Ok(()) => line_of(alloc, position, bytes.as_slice()),
+        Err(e) => Err(read_fault(&e)),
     }
-    let line = match line_of(alloc, position, bytes.as_slice()) {
+}
+
+/// Room for the line of a refusal: the longest text with the greatest places has fewer than 200 bytes.
+const REFUSAL_SIZE: usize = 256;
+
+/// Writes why nothing was printed. It takes no memory but a room of fixed size: a line that did not fit there would be
+/// that of memory that ran out.
+fn report<E: Write>(errors: &mut Watched<E>, fault: Fault)
+    ensures { spec.Reports (outcome_of fault) (spec.writer (E.contents errors.old.inner) errors.new.failed (E.contents errors.new.inner)) }
+{
+    let _ = match fault {
+        Fault::Refused(e) => {
+            let (lo, hi, kind) = (e.span.lo, e.span.hi, e.kind);
+            let mut line = InlineText::<REFUSAL_SIZE>::new();
+            match writeln!(line, "refused at {lo}..{hi}: {kind}") {
+                Ok(()) => errors.write_all(line.as_str().as_bytes()),
+                Err(_) => errors.write_all(b"refused at 0..0: out of memory\n"),
+            }
+        }
+        Fault::NotUtf8 => errors.write_all(b"input is not UTF-8\n"),
+        Fault::Failed => errors.write_all(b"input or output failed\n"),
+    };
+}
+
+/// Reads the input to its end, and writes the printed expression and a newline to `output`, or one line to `errors`
+/// that says why not: where the lexer or the reader refused the text, that it is no UTF-8, or that a read or a write
+/// failed. The result is the status: 0 where the expression was printed, else 1. Where a write fails, `output` has
+/// gained a front of its line, and nothing else; and so has `errors`.
+pub fn run<R: Read, W: Write, E: Write>(
+    alloc: Global,
+    position: Position,
+    input: &mut Watched<R>,
+    output: &mut Watched<W>,
+    errors: &mut Watched<E>,
+) -> u8
+    ensures { spec.Ran (R.remaining input.old.inner) input.new.failed result (spec.writer (W.contents output.old.inner) output.new.failed (W.contents output.new.inner)) (spec.writer (E.contents errors.old.inner) errors.new.failed (E.contents errors.new.inner)) }
+{
+    let line = match line_of_rest(alloc, position, input) {
         Ok(line) => line,
         Err(fault) => {
-            report(errors, fault)?;
-            return Ok(1);
+            report(errors, fault);
+            return 1;
         }
     };
     match output.write_all(line.as_bytes()) {
-        Ok(()) => Ok(0),
+        Ok(()) => 0,
         Err(_) => {
-            report(errors, Fault::Failed)?;
-            Ok(1)
+            report(errors, Fault::Failed);
+            1
         }
     }
 }
 
-/// As `run_to`, with status 1 where a write to `errors` fails.
-pub fn run<R: Read, W: Write, E: Write>(
-    alloc: Global,
-    position: Position,
-    input: &mut R,
-    output: &mut W,
-    errors: &mut E,
-) -> u8
-    ensures { IfSome (R.remaining input.old) (λ bytes. (result ≡ 1) ⊎ spec.Ran bytes result (W.contents output.old) (W.contents output.new) (E.contents errors.old) (E.contents errors.new)) }
+/// Writes what the arguments are to `errors`. The result is the status of a call with others, 2.
+pub fn usage<E: Write>(errors: &mut Watched<E>) -> u8
+    ensures status { result ≡ 2 }
+    ensures text { spec.Takes (spec.writer (E.contents errors.old.inner) errors.new.failed (E.contents errors.new.inner)) spec.usage }
 {
-    match run_to(alloc, position, input, output, errors) {
-        Ok(status) => status,
-        Err(_) => 1,
-    }
+    let _ = errors.write_all(b"usage: exprfmt plain|stmt|cond|arm [bare]\n");
+    2
 }

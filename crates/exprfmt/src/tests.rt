@@ -1,6 +1,7 @@
 //! Runs over memory: rows of input and answer, the texts of refusals, and reads and writes that fail.
 
-use crate::run::{Position, run};
+use crate::run::{Position, run, usage};
+use crate::watched::Watched;
 use std::io;
 use std::io::{Read, Write};
 use std::test::Fail;
@@ -18,7 +19,13 @@ fn run_over(alloc: std::alloc::Global, input: &[u8]) -> Written {
     let mut input = input;
     let mut output = Vec::new(alloc);
     let mut errors = Vec::new(alloc);
-    let status = run(alloc, Position::Plain, &mut input, &mut output, &mut errors);
+    let status = run(
+        alloc,
+        Position::Plain,
+        &mut Watched::new(&mut input),
+        &mut Watched::new(&mut output),
+        &mut Watched::new(&mut errors),
+    );
     Written {
         status,
         output,
@@ -199,9 +206,9 @@ fn says_that_a_read_failed(rt: HostRuntime) {
         let status = run(
             rt.alloc(),
             Position::Plain,
-            &mut input,
-            &mut output,
-            &mut errors,
+            &mut Watched::new(&mut input),
+            &mut Watched::new(&mut output),
+            &mut Watched::new(&mut errors),
         );
         if left < 6 {
             assert_eq!(rt; status, 1, "at {left}");
@@ -230,9 +237,9 @@ fn says_that_a_write_failed(rt: HostRuntime) {
         let status = run(
             rt.alloc(),
             Position::Plain,
-            &mut input,
-            &mut output,
-            &mut errors,
+            &mut Watched::new(&mut input),
+            &mut Watched::new(&mut output),
+            &mut Watched::new(&mut errors),
         );
         let line: &[u8] = b"a + b\n";
         assert!(rt; line.starts_with(output.taken.as_slice()), "at {left}");
@@ -261,11 +268,98 @@ fn fails_where_the_refusal_cannot_be_written(rt: HostRuntime) -> Result<(), Fail
     let status = run(
         rt.alloc(),
         Position::Plain,
-        &mut input,
-        &mut output,
-        &mut errors,
+        &mut Watched::new(&mut input),
+        &mut Watched::new(&mut output),
+        &mut Watched::new(&mut errors),
     );
     assert_eq!(rt; status, 1);
     assert!(rt; output.is_empty());
     Ok(())
+}
+
+/// Takes one byte at every second write, and is interrupted at the others.
+#[derive(Drop)]
+struct Interrupted {
+    taken: Vec<u8>,
+    ready: bool,
+}
+
+impl Write for Interrupted {
+    fn write(&mut self, buf: &[u8]) -> io::Result<usize> {
+        self.ready = !self.ready;
+        if self.ready {
+            return Err(io::ErrorKind::Interrupted.into());
+        }
+        match buf.first() {
+            Some(byte) => match self.taken.push(*byte) {
+                Ok(()) => Ok(1),
+                Err(_) => Err(io::ErrorKind::OutOfMemory.into()),
+            },
+            None => Ok(0),
+        }
+    }
+
+    fn flush(&mut self) -> io::Result<()> {
+        Ok(())
+    }
+}
+
+#[test]
+fn writes_again_where_it_was_interrupted(rt: HostRuntime) {
+    let mut input: &[u8] = b"a + b";
+    let mut output = Interrupted {
+        taken: Vec::new(rt.alloc()),
+        ready: false,
+    };
+    let mut errors = Vec::new(rt.alloc());
+    let status = run(
+        rt.alloc(),
+        Position::Plain,
+        &mut Watched::new(&mut input),
+        &mut Watched::new(&mut output),
+        &mut Watched::new(&mut errors),
+    );
+    assert_eq!(rt; status, 0);
+    assert_eq!(rt; output.taken.as_slice(), &b"a + b\n"[..]);
+    assert!(rt; errors.is_empty());
+}
+
+/// Takes no byte, and says so.
+#[derive(Drop)]
+struct Full;
+
+impl Write for Full {
+    fn write(&mut self, _buf: &[u8]) -> io::Result<usize> {
+        Ok(0)
+    }
+
+    fn flush(&mut self) -> io::Result<()> {
+        Ok(())
+    }
+}
+
+#[test]
+fn says_that_nothing_was_taken(rt: HostRuntime) {
+    let mut input: &[u8] = b"a + b";
+    let mut errors = Vec::new(rt.alloc());
+    let status = run(
+        rt.alloc(),
+        Position::Plain,
+        &mut Watched::new(&mut input),
+        &mut Watched::new(Full),
+        &mut Watched::new(&mut errors),
+    );
+    assert_eq!(rt; status, 1);
+    assert_eq!(rt; errors.as_slice(), &b"input or output failed\n"[..]);
+}
+
+#[test]
+fn writes_the_usage(rt: HostRuntime) {
+    let mut errors = Vec::new(rt.alloc());
+    let status = usage(&mut Watched::new(&mut errors));
+    assert_eq!(rt; status, 2);
+    assert_eq!(rt;
+        errors.as_slice(),
+        &b"usage: exprfmt plain|stmt|cond|arm [bare]\n"[..]
+    );
 }

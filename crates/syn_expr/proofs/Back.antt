@@ -13,7 +13,8 @@ use Rattle.syn_grammar.specs.Tree.{Tree, leaf, paren, lead, mid, adorned, own_to
 use Rattle.syn_grammar.proofs.Nodes.{same_mid}
 use Rattle.syn_grammar.proofs.Promise.{printed_same, printed_stands}
 use Rattle.syn_expr.specs.declared.expr.Expr.{Expr}
-use Rattle.syn_expr.specs.View.{tree_of}
+use Rattle.syn_expr.specs.Reads.{SpellsExpr}
+use Rattle.syn_expr.specs.View.{tree_of, seen_of, SeenExpr}
 
 flatten_clear : (t : Tree) → flatten (clear t) ≡ flatten t
 flatten_clear (leaf k) = refl
@@ -22,16 +23,17 @@ flatten_clear (lead k t) = ap (lead k) (flatten_clear t)
 flatten_clear (mid l k r) = same_mid _ _ _ _ k (flatten_clear l) (flatten_clear r)
 flatten_clear (adorned a more t) = ap (prepend (a ∷ more)) (flatten_clear t)
 
-read_by : (e : Expr) (s : Tree) (r : Result Expr Error) → IsSameTree (tree_of e) s → Gives tree_of s r
+read_by : (e : Expr) (s : SeenExpr) (r : Result Expr Error) → IsSameTree (tree_of e) s.tree → Gives seen_of s r
     → MatchResult r (λ x. IsSameTree (tree_of e) (tree_of x)) (λ x. x.kind ≡ OutOfMemory)
-read_by e s (Ok w) h g = ap flatten g ∙ h
+read_by e s (Ok w) h g = ap (λ x. flatten x.tree) g ∙ h
 read_by e s (Err x) h g = g
 
 pub given_back : (e : Expr) (ts : List Tok) (r : Result Expr Error) → is_well_formed (tree_of e) ≡ true → ts ≡ own_tokens (printed enclosed (tree_of e))
-    → ((s : Tree) → Stands plain ts s [] → Gives tree_of s r)
+    → ((s : SeenExpr) → SpellsExpr ts s [] → Gives seen_of s r)
     → MatchResult r (λ x. IsSameTree (tree_of e) (tree_of x)) (λ x. x.kind ≡ OutOfMemory)
 given_back e ts r h p found =
     let t = tree_of e in
     let s = clear (printed enclosed t) in
-    read_by e s r (flatten_clear (printed enclosed t) ∙ printed_same t)
-    (found s (subst (λ (l : List Tok). Stands plain l s []) (sym p) (printed_stands t h)))
+    let seen : SeenExpr = record { tree = s; inner = [] } in
+    read_by e seen r (flatten_clear (printed enclosed t) ∙ printed_same t)
+    (found seen (subst (λ (l : List Tok). Stands plain l s []) (sym p) (printed_stands t h), refl))

@@ -1,7 +1,10 @@
 -- What a reader ensures.
-use Rattle.std.specs.Prelude.{◌≡◌, ◌≢◌, ℕ, ◌≤◌, ◌<◌, Bool, true, false, List, ◌∷◌, drop, Option, Some, None, Result, Ok, Err}
+use Rattle.std.specs.Prelude.{◌≡◌, ◌≢◌, ℕ, ◌≤◌, ◌<◌, Bool, true, false, List, [], ◌∷◌, drop, Option, Some, None, Result, Ok, Err, IfOk}
 use Rattle.syn_tokens.specs.declared.error.Error.{Error}
-use Rattle.syn_tokens.specs.declared.error.ErrorKind.TheVariants.{OutOfMemory}
+use Rattle.syn_tokens.specs.declared.error.ErrorKind.{ErrorKind}
+use Rattle.syn_tokens.specs.declared.error.ErrorKind.TheVariants.{OutOfMemory, ExpectedToken}
+use Rattle.syn_tokens.specs.declared.error.Expected.TheVariants as expected
+use Rattle.syn_tokens.specs.declared.error.Wanted.TheVariants as wanted
 use Rattle.syn_tokens.specs.Tok.{Tok, ident, weight}
 use Rattle.syn_tokens.specs.Input.{Input}
 use Rattle.std.specs.declared.boxed.Box.{Box}
@@ -13,13 +16,15 @@ use Rattle.std.specs.declared.alloc.Global.{Global}
 use Rattle.syn_grammar.specs.Tree.{Attr, Tree}
 use Rattle.syn_expr.specs.declared.attr.Attribute.{Attribute}
 use Rattle.syn_grammar.specs.Words.{is_segment}
+use Rattle.syn_grammar.specs.Place.{plain}
 use Rattle.syn_grammar.specs.Read.{Outcome, segments_at, expr}
+use Rattle.syn_grammar.specs.Stands.{Stands}
 use Rattle.syn_grammar.specs.Op.{infix_at, prefix_at}
 use Rattle.syn_grammar.specs.declared.kinds.Infix.TheVariants as inf
 use Rattle.syn_grammar.specs.declared.kinds.BinKind.{BinKind}
 use Rattle.syn_grammar.specs.declared.kinds.UnKind.{UnKind}
 use Rattle.syn_expr.specs.declared.path.PathSegment.{PathSegment}
-use Rattle.syn_expr.specs.View.{attrs_of, tree_of}
+use Rattle.syn_expr.specs.View.{attrs_of, tree_of, inner_of, SeenExpr}
 
 -- What was read, as it is seen, and what is behind it, unless memory runs out.
 abbrev pub Reads : {A B : Type 0} → (A → B) → Outcome B → Result A Error → List Tok → Type 0
@@ -49,7 +54,19 @@ SpellsBinOp l op rest = (count : ℕ) × (infix_at l ≡ Some (inf.Binary op, co
 abbrev pub SpellsUnOp : List Tok → UnKind → List Tok → Type 0
 SpellsUnOp l op rest = (prefix_at l ≡ Some op) × (rest ≡ drop 1 l)
 
+-- `*`, `!` or `-` is expected, each by its place in the table of signs
+abbrev pub wanted_prefix : ErrorKind
+wanted_prefix = ExpectedToken (expected.Three (wanted.Sign 43) (wanted.Sign 24) (wanted.Sign 21))
+
 -- ---- expressions
+
+-- The tree stands before the rest, and no inner attribute is in the expression: no kind so far has a place for one.
+abbrev pub SpellsExpr : List Tok → SeenExpr → List Tok → Type 0
+SpellsExpr l x rest = Stands plain l x.tree rest × (x.inner ≡ [])
+
+-- what is read has no inner attribute in it
+abbrev pub HasNoInner : Result (Box Expr Global) Error → Type 0
+HasNoInner r = IfOk r (λ b. inner_of b.value ≡ [])
 
 -- a tree at a place, in its box
 abbrev pub ReadsTree : Outcome Tree → Result (Box Expr Global) Error → List Tok → Type 0
@@ -68,5 +85,6 @@ Callable bound pre = (old : MutBor Input) (p : Place) → weight old.now.rest < 
 -- a reader of the expressions inside
 pub record ReadsExpr (post : MutBor Input → Place → Result (Box Expr Global) Error → MutBor Input → Type 0) : Type 0 where
   pub reads : (old new : MutBor Input) (p : Place) (r : Result (Box Expr Global) Error) → post old p r new → ReadsTree (expr p old.now.rest) r new.now.rest
+  pub no_inner : (old new : MutBor Input) (p : Place) (r : Result (Box Expr Global) Error) → post old p r new → HasNoInner r
   pub noted : (old new : MutBor Input) (p : Place) (r : Result (Box Expr Global) Error) → post old p r new → new.now.noted ≡ old.now.noted
   pub shrinks : (old new : MutBor Input) (p : Place) (r : Result (Box Expr Global) Error) → post old p r new → weight new.now.rest ≤ weight old.now.rest

@@ -21,7 +21,7 @@ use Rattle.syn_expr.specs.declared.op.BinOp.TheVariants as bin_op
 use Rattle.syn_expr.specs.declared.path.Path as path_type
 use Rattle.syn_expr.specs.declared.path.PathSegment.{PathSegment}
 use Rattle.syn_expr.specs.declared.punctuated.Punctuated.{Punctuated}
-use Rattle.syn_expr.specs.declared.expr.Expr.{Expr, fold-Expr}
+use Rattle.syn_expr.specs.declared.expr.Expr.{Expr, fold-Expr, out-Expr}
 use Rattle.syn_expr.specs.declared.expr.Expr.TheOpen.{Expr-F}
 
 -- ---- operators
@@ -61,11 +61,15 @@ bin_kind (bin_op.BitOrAssign t) = bin.BitOrAssign
 bin_kind (bin_op.ShlAssign t) = bin.ShlAssign
 bin_kind (bin_op.ShrAssign t) = bin.ShrAssign
 
--- ---- attributes: the outer ones are spelled before a node
+-- ---- attributes: the outer ones are spelled before a node, the inner ones inside of it (Rust Reference, "Attributes")
 
 abbrev pub outer_of : AttrStyle → Attr → List Attr
 outer_of style.Outer a = a ∷ []
 outer_of (style.Inner t) a = []
+
+abbrev pub inner_style : AttrStyle → Attr → List Attr
+inner_style style.Outer a = []
+inner_style (style.Inner t) a = a ∷ []
 
 abbrev pub outer_attrs : List Attribute → List Attr
 outer_attrs [] = []
@@ -73,6 +77,10 @@ outer_attrs (a ∷ more) = outer_of a.style (record { tokens = inside a.tokens }
 
 unfoldable pub attrs_of : Vec Attribute Global → List Attr
 attrs_of v = outer_attrs v.items
+
+abbrev pub inner_attrs : List Attribute → List Attr
+inner_attrs [] = []
+inner_attrs (a ∷ more) = inner_style a.style (record { tokens = inside a.tokens }) ++ inner_attrs more
 
 -- ---- literals and paths
 
@@ -118,3 +126,41 @@ tree_of x = fold-Expr Tree tree_step x
 abbrev pub stripped : Tree → Tree
 stripped (adorned a more t) = t
 stripped t = t
+
+-- ---- the attributes of a node, and the inner ones in an expression, which its tree has not
+
+abbrev pub layer_attrs : {E : Type 0} → Expr-F E → Vec Attribute Global
+layer_attrs (Expr-F.Binary x) = x.attrs
+layer_attrs (Expr-F.Lit x) = x.attrs
+layer_attrs (Expr-F.Paren x) = x.attrs
+layer_attrs (Expr-F.Path x) = x.attrs
+layer_attrs (Expr-F.Unary x) = x.attrs
+
+unfoldable pub own_attrs : Expr → Vec Attribute Global
+own_attrs x = layer_attrs (out-Expr x)
+
+-- those in the operands of a node, by those in each
+abbrev pub inner_below : {E : Type 0} → (E → List Attr) → Expr-F E → List Attr
+inner_below f (Expr-F.Binary x) = f x.left.value ++ f x.right.value
+inner_below f (Expr-F.Lit x) = []
+inner_below f (Expr-F.Paren x) = f x.expr.value
+inner_below f (Expr-F.Path x) = []
+inner_below f (Expr-F.Unary x) = f x.expr.value
+
+abbrev pub inner_step : Expr-F (List Attr) → List Attr
+inner_step l = inner_attrs (layer_attrs l).items ++ inner_below (λ a. a) l
+
+-- all inner attributes in an expression, each node's before those of its operands
+unfoldable pub inner_of : Expr → List Attr
+inner_of x = fold-Expr (List Attr) inner_step x
+
+unfoldable pub inner_in_operands : Expr → List Attr
+inner_in_operands x = inner_below inner_of (out-Expr x)
+
+-- what contracts see of an expression
+pub record SeenExpr : Type 0 where
+  pub tree : Tree
+  pub inner : List Attr
+
+abbrev pub seen_of : Expr → SeenExpr
+seen_of x = record { tree = tree_of x; inner = inner_of x }

@@ -1,10 +1,11 @@
 //! Attributes (Rust Reference, "Attributes").
 
-ghost use Rattle.std.specs.Prelude.{◌≡◌, ◌≤◌, drop, length, Some, None, IfSome, MatchOption};
+ghost use Rattle.std.specs.Prelude.{◌≡◌, ◌≤◌, [], drop, length, Some, None, IfOk, IfSome, MatchOption};
 ghost use Rattle.syn_grammar.specs.Read as spec;
 ghost use Rattle.syn_grammar.specs.Stands.{attrs_at};
 ghost use Rattle.syn_tokens.specs.Tok.{inside, weight};
 ghost use Rattle.syn_expr.specs.Reads.{ReadsAttrs};
+ghost use Rattle.syn_expr.specs.View.{inner_attrs};
 
 use syn_tokens::Delimiter;
 use syn_tokens::buffer::ParseBuffer;
@@ -54,9 +55,10 @@ fn outer_attr<'a>(input: &ParseBuffer<'a>) -> Option<(Span, &'a Group)>
 }
 
 /// Reads the outer attributes that stand first, as many as there are.
-#[tactic(auto, using(crate::proofs::Attributes::attributes, syn_tokens::proofs::Weights::drops), unfolding(crate::specs::View::attrs_of))]
+#[tactic(auto, using(crate::proofs::Attributes::attributes, crate::proofs::Inner::inner_append, syn_tokens::proofs::Weights::drops), unfolding(crate::specs::View::attrs_of))]
 pub(crate) fn outer_attrs(input: &mut ParseBuffer<'_>) -> Result<Vec<Attribute>>
     ensures value { ReadsAttrs (attrs_at input.old.rest) result input.new.rest }
+    ensures no_inner { IfOk result (λ v. inner_attrs v.items ≡ []) }
     ensures noted { input.new.noted ≡ input.old.noted }
     ensures shrinks { weight input.new.rest ≤ weight input.old.rest }
 {

@@ -5,7 +5,7 @@
 
 ghost use Rattle.std.specs.Prelude.{◌≡◌};
 ghost use Rattle.syn_grammar.specs.Tree.{adorn};
-ghost use Rattle.syn_expr.specs.View.{tree_of, attrs_of, stripped};
+ghost use Rattle.syn_expr.specs.View.{tree_of, attrs_of, stripped, own_attrs, inner_in_operands};
 
 use crate::attr::Attribute;
 use crate::lit::Lit;
@@ -92,10 +92,13 @@ pub struct ExprUnaryOf<E> {
 
 impl Expr {
     /// Puts attributes in place of the node's own, and answers these. Nothing else changes.
-    #[tactic(auto, using(crate::proofs::TreeOf::layers, crate::proofs::TreeOf::strips))]
+    #[tactic(auto, using(crate::proofs::TreeOf::layers, crate::proofs::TreeOf::strips, crate::proofs::Inner::owns, crate::proofs::Inner::operands))]
     pub fn replace_attrs(&mut self, attrs: Vec<Attribute>) -> Vec<Attribute>
         ensures new { tree_of self.new ≡ adorn (attrs_of attrs) (stripped (tree_of self.old)) }
         ensures old { tree_of self.old ≡ adorn (attrs_of result) (stripped (tree_of self.old)) }
+        ensures put { own_attrs self.new ≡ attrs }
+        ensures given { own_attrs self.old ≡ result }
+        ensures inside { inner_in_operands self.new ≡ inner_in_operands self.old }
     {
         match self {
             Expr::Binary(x) => std::mem::replace(&mut x.attrs, attrs),

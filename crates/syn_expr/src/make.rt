@@ -3,7 +3,7 @@
 ghost use Rattle.std.specs.Prelude.{◌≡◌, ◌++◌, [], IfOk, OnOk, false};
 ghost use Rattle.syn_grammar.specs.Tree as tree;
 ghost use Rattle.syn_grammar.specs.declared.kinds.Infix.TheVariants as inf;
-ghost use Rattle.syn_expr.specs.View.{tree_of, un_kind, bin_kind, lit_of, path_of, attrs_of};
+ghost use Rattle.syn_expr.specs.View.{tree_of, un_kind, bin_kind, lit_of, path_of, attrs_of, inner_attrs, inner_of};
 
 use crate::attr::Attribute;
 use crate::expr::{Expr, ExprBinary, ExprLit, ExprParen, ExprPath, ExprUnary};
@@ -16,14 +16,16 @@ use syn_tokens::token::Paren;
 /// No attributes.
 #[tactic(auto, unfolding(crate::specs::View::attrs_of))]
 fn no_attrs(alloc: Global) -> Vec<Attribute>
-    ensures { attrs_of result ≡ [] }
+    ensures outer { attrs_of result ≡ [] }
+    ensures none { result.items ≡ [] }
 {
     Vec::new(alloc)
 }
 
 /// A literal.
 pub(crate) fn lit(alloc: Global, lit: Lit) -> Result<Box<Expr>, AllocError>
-    ensures { IfOk result (λ b. tree_of b.value ≡ tree.leaf (tree.lit (lit_of lit))) }
+    ensures value { IfOk result (λ b. tree_of b.value ≡ tree.leaf (tree.lit (lit_of lit))) }
+    ensures inner { IfOk result (λ b. inner_of b.value ≡ []) }
 {
     let attrs = no_attrs(alloc);
     Ok(Box::new(alloc, Expr::Lit(ExprLit { attrs, lit }))?)
@@ -31,7 +33,8 @@ pub(crate) fn lit(alloc: Global, lit: Lit) -> Result<Box<Expr>, AllocError>
 
 /// A path.
 pub(crate) fn path(alloc: Global, path: Path) -> Result<Box<Expr>, AllocError>
-    ensures { IfOk result (λ b. tree_of b.value ≡ tree.leaf (tree.path (path_of path))) }
+    ensures value { IfOk result (λ b. tree_of b.value ≡ tree.leaf (tree.path (path_of path))) }
+    ensures inner { IfOk result (λ b. inner_of b.value ≡ []) }
 {
     let attrs = no_attrs(alloc);
     Ok(Box::new(alloc, Expr::Path(ExprPath { attrs, path }))?)
@@ -43,7 +46,8 @@ pub(crate) fn paren(
     paren_token: Paren,
     expr: Box<Expr>,
 ) -> Result<Box<Expr>, AllocError>
-    ensures { IfOk result (λ b. tree_of b.value ≡ tree.paren false (tree_of expr.value)) }
+    ensures value { IfOk result (λ b. tree_of b.value ≡ tree.paren false (tree_of expr.value)) }
+    ensures inner { IfOk result (λ b. inner_of b.value ≡ inner_of expr.value) }
 {
     let attrs = no_attrs(alloc);
     let paren = ExprParen {
@@ -56,7 +60,8 @@ pub(crate) fn paren(
 
 /// A prefix operation.
 pub(crate) fn unary(alloc: Global, op: UnOp, expr: Box<Expr>) -> Result<Box<Expr>, AllocError>
-    ensures { IfOk result (λ b. tree_of b.value ≡ tree.lead (tree.unary (un_kind op)) (tree_of expr.value)) }
+    ensures value { IfOk result (λ b. tree_of b.value ≡ tree.lead (tree.unary (un_kind op)) (tree_of expr.value)) }
+    ensures inner { IfOk result (λ b. inner_of b.value ≡ inner_of expr.value) }
 {
     let attrs = no_attrs(alloc);
     Ok(Box::new(alloc, Expr::Unary(ExprUnary { attrs, op, expr }))?)
@@ -69,7 +74,8 @@ pub(crate) fn binary(
     op: BinOp,
     right: Box<Expr>,
 ) -> Result<Box<Expr>, AllocError>
-    ensures { IfOk result (λ b. tree_of b.value ≡ tree.mid (tree_of left.value) (inf.Binary (bin_kind op)) (tree_of right.value)) }
+    ensures value { IfOk result (λ b. tree_of b.value ≡ tree.mid (tree_of left.value) (inf.Binary (bin_kind op)) (tree_of right.value)) }
+    ensures inner { IfOk result (λ b. inner_of b.value ≡ inner_of left.value ++ inner_of right.value) }
 {
     let attrs = no_attrs(alloc);
     let binary = ExprBinary {
@@ -87,7 +93,8 @@ pub(crate) fn put_before(
     x: &mut Expr,
     mut attrs: Vec<Attribute>,
 ) -> Result<(), AllocError>
-    ensures { OnOk result (tree_of x.new ≡ tree.prepend (attrs_of attrs) (tree_of x.old)) }
+    ensures value { OnOk result (tree_of x.new ≡ tree.prepend (attrs_of attrs) (tree_of x.old)) }
+    ensures inner { OnOk result (inner_of x.new ≡ inner_attrs attrs.items ++ inner_of x.old) }
 {
     let own = x.replace_attrs(no_attrs(alloc));
     put_behind(&mut attrs, own)?;
@@ -101,7 +108,8 @@ pub(crate) fn prepend(
     mut x: Box<Expr>,
     attrs: Vec<Attribute>,
 ) -> Result<Box<Expr>, AllocError>
-    ensures { IfOk result (λ b. tree_of b.value ≡ tree.prepend (attrs_of attrs) (tree_of x.value)) }
+    ensures value { IfOk result (λ b. tree_of b.value ≡ tree.prepend (attrs_of attrs) (tree_of x.value)) }
+    ensures inner { IfOk result (λ b. inner_of b.value ≡ inner_attrs attrs.items ++ inner_of x.value) }
 {
     put_before(alloc, &mut x, attrs)?;
     Ok(x)
@@ -110,7 +118,8 @@ pub(crate) fn prepend(
 /// Puts attributes behind others.
 #[tactic(auto, using(crate::proofs::TreeOf::outer_append), unfolding(crate::specs::View::attrs_of))]
 fn put_behind(attrs: &mut Vec<Attribute>, mut more: Vec<Attribute>) -> Result<(), AllocError>
-    ensures { OnOk result (attrs_of attrs.new ≡ attrs_of attrs.old ++ attrs_of more) }
+    ensures outer { OnOk result (attrs_of attrs.new ≡ attrs_of attrs.old ++ attrs_of more) }
+    ensures all { OnOk result (attrs.new.items ≡ attrs.old.items ++ more.items) }
 {
     attrs.append(&mut more)?;
     Ok(())

@@ -376,8 +376,10 @@ impl Parse for BinOp {
 
 #[tactic(auto, using(syn_tokens::proofs::Inputs::tails))]
 impl Parse for UnOp {
-    ghost use Rattle.syn_expr.specs.Reads.{SpellsUnOp};
+    ghost use Rattle.syn_expr.specs.Reads.{SpellsUnOp, wanted_prefix};
     ghost use Rattle.syn_grammar.specs.declared.kinds.UnKind.{UnKind as Kind};
+    ghost use Rattle.syn_tokens.specs.Tok.{Tok, weight};
+    ghost use Rattle.syn_tokens.specs.Input.{Reaches, IsAfter};
 
     ghost Seen = { Kind };
 
@@ -389,7 +391,13 @@ impl Parse for UnOp {
 
     /// Takes `*`, `!` or `-`, one punct, joined to the next or not. It is refused as `ExpectedToken`, of these three,
     /// where none stands first. It takes no memory.
-    fn parse(input: &mut ParseBuffer<'_>) -> Result<Self> {
+    fn parse(input: &mut ParseBuffer<'_>) -> Result<Self>
+        ensures read { IfOk result (λ op. input.new.noted ≡ false → SpellsUnOp input.old.rest (un_kind op) input.new.rest) }
+        ensures found { (op : Kind) (rest : List Tok) → input.old.noted ≡ false → SpellsUnOp input.old.rest op rest → Reaches un_kind op rest result input.new }
+        ensures after { IsAfter input.old input.new }
+        ensures moves { IfOk result (λ op. 1 + weight input.new.rest ≤ weight input.old.rest) }
+        ensures refused { IfErr result (λ e. e.kind ≡ wanted_prefix) }
+    {
         let Some(kind) = prefix_at(input) else {
             return Err(input.error(ErrorKind::ExpectedToken(Expected::Three(
                 Star::wanted(),

@@ -3,15 +3,15 @@
 //! Its rules are methods that take the reader of the expressions inside as a function, so that each is proved by
 //! itself; `expr` ties the knot.
 
-ghost use Rattle.std.specs.Prelude.{◌≡◌, ◌≤◌, ◌+◌, true, false, MatchOption};
+ghost use Rattle.std.specs.Prelude.{◌≡◌, ◌≤◌, ◌+◌, [], true, false, MatchOption};
 ghost use Rattle.syn_grammar.specs.Place as places;
 ghost use Rattle.syn_grammar.specs.Read as spec;
 ghost use Rattle.syn_grammar.specs.Stands as stands;
 ghost use Rattle.syn_grammar.specs.Tree.{has_kind};
 ghost use Rattle.syn_grammar.specs.declared.kinds.Infix.TheVariants as infix_kind;
 ghost use Rattle.syn_tokens.specs.Tok.{weight};
-ghost use Rattle.syn_expr.specs.Reads.{ReadsTree, GivesTree, Callable, ReadsExpr};
-ghost use Rattle.syn_expr.specs.View.{path_of, tree_of};
+ghost use Rattle.syn_expr.specs.Reads.{ReadsTree, GivesTree, HasNoInner, Callable, ReadsExpr};
+ghost use Rattle.syn_expr.specs.View.{path_of, tree_of, inner_of};
 
 use crate::attr::outer_attrs;
 use crate::expr::Expr;
@@ -99,6 +99,7 @@ fn path_stands(input: &ParseBuffer<'_>, place: Place, path: &Path) -> bool
 #[tactic(auto, unfolding(syn_grammar::specs::Read::named))]
 fn named(input: &mut ParseBuffer<'_>, place: Place) -> Result<Box<Expr>>
     ensures value { ReadsTree (spec.named place input.old.rest) result input.new.rest }
+    ensures no_inner { HasNoInner result }
     ensures noted { input.new.noted ≡ input.old.noted }
     ensures shrinks { weight input.new.rest ≤ weight input.old.rest }
 {
@@ -124,7 +125,8 @@ impl<F: Fn(&mut ParseBuffer<'_>, Place) -> Result<Box<Expr>>> Grammar<F> {
     fn whole(&self, mut content: ParseBuffer<'_>) -> Result<Box<Expr>>
         requires callable { Callable (weight content.rest + 1) (F.pre self.now.expr) }
         requires reads { ReadsExpr (F.post self.now.expr) }
-        ensures { GivesTree (spec.whole spec.expr content.entry.rest) result }
+        ensures value { GivesTree (spec.whole spec.expr content.entry.rest) result }
+        ensures no_inner { HasNoInner result }
     {
         let x = (self.expr)(&mut content, PLAIN)?;
         if !content.is_empty() {
@@ -139,6 +141,7 @@ impl<F: Fn(&mut ParseBuffer<'_>, Place) -> Result<Box<Expr>>> Grammar<F> {
         requires callable { Callable (weight input.old.rest) (F.pre self.now.expr) }
         requires reads { ReadsExpr (F.post self.now.expr) }
         ensures value { ReadsTree (spec.atom spec.expr place input.old.rest) result input.new.rest }
+        ensures no_inner { HasNoInner result }
         ensures noted { input.new.noted ≡ input.old.noted }
         ensures shrinks { weight input.new.rest ≤ weight input.old.rest }
     {
@@ -177,6 +180,7 @@ impl<F: Fn(&mut ParseBuffer<'_>, Place) -> Result<Box<Expr>>> Grammar<F> {
         requires callable { Callable (weight input.old.rest) (F.pre self.now.expr) }
         requires reads { ReadsExpr (F.post self.now.expr) }
         ensures value { ReadsTree (spec.core spec.expr place input.old.rest) result input.new.rest }
+        ensures no_inner { HasNoInner result }
         ensures noted { input.new.noted ≡ input.old.noted }
         ensures shrinks { weight input.new.rest ≤ weight input.old.rest }
     {
@@ -199,6 +203,7 @@ impl<F: Fn(&mut ParseBuffer<'_>, Place) -> Result<Box<Expr>>> Grammar<F> {
         requires callable { Callable (weight input.old.rest) (F.pre self.now.expr) }
         requires reads { ReadsExpr (F.post self.now.expr) }
         ensures value { ReadsTree (spec.operand spec.expr place input.old.rest) result input.new.rest }
+        ensures no_inner { HasNoInner result }
         ensures noted { input.new.noted ≡ input.old.noted }
         ensures shrinks { weight input.new.rest ≤ weight input.old.rest }
     {
@@ -220,6 +225,7 @@ impl<F: Fn(&mut ParseBuffer<'_>, Place) -> Result<Box<Expr>>> Grammar<F> {
         requires callable { Callable (weight input.old.rest + 1) (F.pre self.now.expr) }
         requires reads { ReadsExpr (F.post self.now.expr) }
         ensures value { ReadsTree (spec.longer spec.expr place (tree_of left.value) op input.old.rest) result input.new.rest }
+        ensures no_inner { inner_of left.value ≡ [] → HasNoInner result }
         ensures noted { input.new.noted ≡ input.old.noted }
         ensures shrinks { weight input.new.rest ≤ weight input.old.rest }
     {
@@ -247,6 +253,7 @@ impl<F: Fn(&mut ParseBuffer<'_>, Place) -> Result<Box<Expr>>> Grammar<F> {
         requires callable { Callable (weight input.old.rest) (F.pre self.now.expr) }
         requires reads { ReadsExpr (F.post self.now.expr) }
         ensures value { ReadsTree (spec.operations spec.expr place (tree_of left.value) input.old.rest) result input.new.rest }
+        ensures no_inner { inner_of left.value ≡ [] → HasNoInner result }
         ensures noted { input.new.noted ≡ input.old.noted }
         ensures shrinks { weight input.new.rest ≤ weight input.old.rest }
     {
@@ -270,6 +277,7 @@ impl<F: Fn(&mut ParseBuffer<'_>, Place) -> Result<Box<Expr>>> Grammar<F> {
         requires callable { Callable (weight input.old.rest) (F.pre self.now.expr) }
         requires reads { ReadsExpr (F.post self.now.expr) }
         ensures value { ReadsTree (spec.at_place spec.expr place input.old.rest) result input.new.rest }
+        ensures no_inner { HasNoInner result }
         ensures noted { input.new.noted ≡ input.old.noted }
         ensures shrinks { weight input.new.rest ≤ weight input.old.rest }
     {
@@ -281,24 +289,25 @@ impl<F: Fn(&mut ParseBuffer<'_>, Place) -> Result<Box<Expr>>> Grammar<F> {
 /// Reads an expression that fills a place.
 pub(crate) fn expr(input: &mut ParseBuffer<'_>, place: Place) -> Result<Box<Expr>>
     ensures value { ReadsTree (spec.expr place input.old.rest) result input.new.rest }
+    ensures no_inner { HasNoInner result }
     ensures noted { input.new.noted ≡ input.old.noted }
     ensures shrinks { weight input.new.rest ≤ weight input.old.rest }
 {
     Grammar { expr }.at_place(input, place)
 }
 
-#[tactic(auto, using(crate::proofs::Exactly::parsing))]
+#[tactic(auto, using(crate::proofs::Exactly::parsing, crate::proofs::Inner::seen_is))]
 impl Parse for Expr {
-    ghost use Rattle.syn_grammar.specs.Place.{plain};
-    ghost use Rattle.syn_grammar.specs.Stands.{Stands};
-    ghost use Rattle.syn_grammar.specs.Tree.{Tree};
+    ghost use Rattle.syn_expr.specs.Reads.{SpellsExpr};
+    ghost use Rattle.syn_expr.specs.View.{SeenExpr, seen_of};
 
-    /// The tree stands before the rest, by the binding rules.
-    ghost Seen = { Tree };
+    /// The tree, and the inner attributes in it.
+    ghost Seen = { SeenExpr };
 
-    ghost seen = { tree_of };
+    ghost seen = { seen_of };
 
-    ghost spells = { Stands plain };
+    /// The tree stands before the rest, by the binding rules, and there is no inner attribute.
+    ghost spells = { SpellsExpr };
 
     ghost least = { 1 };
 

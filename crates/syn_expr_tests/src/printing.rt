@@ -5,6 +5,7 @@ use crate::texts::{agreed, text_of};
 use rows::{check, words};
 use std::alloc::Global;
 use std::test::Fail;
+use syn_expr::attr::AttrStyle;
 use syn_expr::expr::{Expr, ExprBinary, ExprUnary};
 use syn_expr::fixup::FixupContext;
 use syn_expr::laws::read_back;
@@ -14,7 +15,7 @@ use syn_tokens::buffer::ToTokens;
 use syn_tokens::error::{Error, ErrorKind};
 use syn_tokens::span::Span;
 use syn_tokens::text::to_text;
-use syn_tokens::token::{Minus, Plus, Star};
+use syn_tokens::token::{Minus, Not, Plus, Star};
 use syn_tokens::tree::TokenStream;
 use syn_tokens::whole::parse_str;
 
@@ -125,6 +126,24 @@ fn an_operation_behind_attributes_is_in_parentheses(rt: HostRuntime) -> Result<(
         "a ~ + ~ b | - # [k] (a + b)",
         attributed_negation,
     )
+}
+
+#[test]
+fn inner_attributes_are_kept_and_not_printed(rt: HostRuntime) -> Result<(), Fail> {
+    let mut word = parse_str::<Expr>(rt.alloc(), "#[k] x")?;
+    let mut attrs = word.replace_attrs(Vec::new(rt.alloc()));
+    for attr in attrs.iter_mut() {
+        attr.style = AttrStyle::Inner(Not::default());
+    }
+    let mut operation = binary(rt.alloc(), "a ~ + ~ b")?;
+    let none = operation.replace_attrs(attrs);
+    assert!(rt; none.is_empty());
+    let text = text_by_printer(rt.alloc(), &operation)?;
+    assert_eq!(rt; text.as_str(), "a + b");
+    let own = operation.replace_attrs(Vec::new(rt.alloc()));
+    assert_eq!(rt; own.len(), 1);
+    assert!(rt; matches!(own[0].style, AttrStyle::Inner(_)));
+    Ok(())
 }
 
 /// What is printed of an expression once it was read back.

@@ -1,6 +1,10 @@
 use Rattle.std.proofs.Common.{refl}
+use Rattle.syn_expr.proofs.Inner.{inner-Path}
 use Rattle.syn_expr.proofs.TreeOf.{tree-Path}
 use Rattle.syn_expr.proofs.make.path.Goals as goal
 
-pub returns : goal.returns
-returns c = rw (c.in_ok-new.ensures.ok, tree-Path, c.no_attrs-attrs.ensures) refl
+pub returns-clause-value : goal.returns-clause-value
+returns-clause-value c = rw (c.in_ok-new.ensures.ok, tree-Path, c.no_attrs-attrs.ensures.outer) refl
+
+pub returns-clause-inner : goal.returns-clause-inner
+returns-clause-inner c = rw (c.in_ok-new.ensures.ok, inner-Path, c.no_attrs-attrs.ensures.none) refl

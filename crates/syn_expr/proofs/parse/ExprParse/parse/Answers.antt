@@ -4,8 +4,9 @@ use Rattle.syn_expr.proofs.parse.ExprParse.parse.Goals as goal
 
 pub returns-clause-read : goal.returns-clause-read
 returns-clause-read c = λ clean.
-    let s = read_stands _ _ _ _ c.in-Ok.ensures.value in rw (c.into_inner.ensures, c.advance_to.ensures.rest, ← ap (λ i. i.rest) c.in_ok-ahead.ensures.value) s
+    let s = read_stands _ _ _ _ c.in-Ok.ensures.value in
+    (rw (c.into_inner.ensures, c.advance_to.ensures.rest, ← ap (λ i. i.rest) c.in_ok-ahead.ensures.value) s, rw c.into_inner.ensures c.in-Ok.ensures.no_inner)
 
 pub returns-in-Err-clause-found : goal.returns-in-Err-clause-found
-returns-in-Err-clause-found c = λ t rest clean s.
-    read_refused _ _ rest t _ c.in-Err.ensures.value (rw (ap (λ i. i.rest) c.in_ok-ahead.ensures.value) s)
+returns-in-Err-clause-found c = λ x rest clean s.
+    read_refused _ _ rest x.tree _ c.in-Err.ensures.value (rw (ap (λ i. i.rest) c.in_ok-ahead.ensures.value) s.0)
