@@ -12,8 +12,8 @@ use Rattle.syn_parts.specs.Form.{Test}
 use Rattle.syn_parts.specs.Mark.{colon, brace_at, round_at, not_ne}
 use Rattle.syn_parts.specs.Part.{has_none, segments_bare}
 use Rattle.syn_parts.specs.Own.{alone, joint, before_if, before_some, comma_before, enclosed, separated, lit_own, attribute_own, path_own, qualified_own, macro_own, type_own}
-use Rattle.syn_parts.specs.Fits.{fits_if, type_fits, type_stops, lit_fits, path_fits, path_stops, qpath_fits, is_macro_delimiter, ends_well}
-use Rattle.syn_parts.specs.Pat.{MemberTree, a_name, an_index, index_of, PatBound, lit_bound, path_bound, PatTree, SubPat, Pats, Fields, FieldTree, wild, rest, range, a_lit, a_binding, a_path, a_mac, a_struct, tuple_struct, a_tuple, a_paren, a_slice, a_reference, a_block, alternatives, no_sub, sub, no_pats, more_pats, no_fields, more_fields, short, full, is_rest, bound_at, dots, at_sign, vert, goes_on, ClosureArgTree}
+use Rattle.syn_parts.specs.Fits.{type_fits, type_stops, lit_fits, path_fits, path_stops, qpath_fits, is_macro_delimiter, ends_well}
+use Rattle.syn_parts.specs.Pat.{MemberTree, a_name, an_index, index_of, PatBound, lit_bound, path_bound, PatTree, SubPat, Pats, Fields, FieldTree, wild, rest, range, a_lit, a_binding, a_path, a_mac, a_struct, tuple_struct, a_tuple, a_paren, a_slice, a_reference, a_block, alternatives, guarded, typed, attributed, no_sub, sub, no_pats, more_pats, no_fields, more_fields, short, full, is_rest, bound_at, dots, at_sign, vert, goes_on}
 
 -- ---- own tokens; an index in plain decimal, a closed range with `..=`
 
@@ -64,6 +64,9 @@ abbrev mutual
   pat_own (a_reference m p) r = alone 38 ∷ word_if m (codes "mut") (pat_own p r)
   pat_own (a_block ts) r = ident (codes "const") ∷ enclosed del.Brace ts r
   pat_own (alternatives l ps e) r = before_if l vert_before (or_own ps e r)
+  pat_own (guarded p) r = pat_own p r
+  pat_own (typed p x) r = pat_own p (alone 58 ∷ type_own x r)
+  pat_own (attributed a more p) r = attribute_own a (attributes_own more (pat_own p r))
 
   pub sub_own : SubPat → List Tok → List Tok
   sub_own no_sub r = r
@@ -192,6 +195,9 @@ abbrev mutual
   pat_fits b (a_reference m p) = pat_fits false p && (m || not (begins_mut p))
   pat_fits b (a_block ts) = true
   pat_fits b (alternatives l ps e) = b && (not e && (not (no_more_pats ps) && ((l || not (is_one_pat ps)) && or_fits ps)))
+  pat_fits b (guarded p) = false
+  pat_fits b (typed p x) = false
+  pat_fits b (attributed a more p) = false
 
   pub sub_fits : SubPat → Bool
   sub_fits no_sub = true
@@ -213,17 +219,20 @@ abbrev mutual
   field_fits (short b m w) = not (is_reserved_word w)
   field_fits (full k p) = member_fits k && pat_fits true p
 
--- ---- arguments of closures: attributes, a single pattern, and perhaps `:` and a type
+-- ---- arguments of closures
 
-abbrev pub closure_arg_own : ClosureArgTree → List Tok → List Tok
-closure_arg_own a r = attributes_own a.attrs (pat_own a.pat (before_some a.ty (λ x l. alone 58 ∷ type_own x l) r))
+abbrev pub typed_fits : PatTree → Bool
+typed_fits (typed p x) = pat_fits false p && type_fits true x
+typed_fits p = pat_fits false p
 
-abbrev pub closure_arg_fits : ClosureArgTree → Bool
-closure_arg_fits a = attributes_outer a.attrs && (pat_fits false a.pat && fits_if (type_fits true) a.ty)
+abbrev pub closure_arg_fits : PatTree → Bool
+closure_arg_fits (attributed a more p) = attributes_outer (a ∷ more) && typed_fits p
+closure_arg_fits p = typed_fits p
 
-abbrev pub closure_arg_stops_by : PatTree → Option TypeTree → Test
-closure_arg_stops_by p None r = pat_stops false p r && not (colon.at r)
-closure_arg_stops_by p (Some x) r = type_stops true x r
+abbrev pub typed_stops : PatTree → Test
+typed_stops (typed p x) r = type_stops true x r
+typed_stops p r = pat_stops false p r && not (colon.at r)
 
-abbrev pub closure_arg_stops : ClosureArgTree → Test
-closure_arg_stops a r = closure_arg_stops_by a.pat a.ty r
+abbrev pub closure_arg_stops : PatTree → Test
+closure_arg_stops (attributed a more p) r = typed_stops p r
+closure_arg_stops p r = typed_stops p r

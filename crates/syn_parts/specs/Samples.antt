@@ -10,7 +10,7 @@ use Rattle.syn_parts.specs.Tree as t
 use Rattle.syn_parts.specs.Tree.{LitTree, PathTree, TypeTree}
 use Rattle.syn_parts.specs.Part.{type}
 use Rattle.syn_parts.specs.Pat as p
-use Rattle.syn_parts.specs.Pat.{PatTree, ClosureArgTree, pattern, closure_arg}
+use Rattle.syn_parts.specs.Pat.{PatTree, pattern, closure_arg}
 
 -- how much is left behind what is read, or that nothing is
 abbrev pub behind : {A : Type 0} → Outcome A → Option (List Tok)
@@ -235,12 +235,14 @@ pub record PatternRests : Type 0 where
   -- `A | | B`
   pub no_alternative : RefusesPat true (A ∷ alone 124 ∷ alone 124 ∷ B ∷ [])
 
-abbrev pub IsArg : List Tok → ClosureArgTree → List Tok → Type 0
+abbrev pub IsArg : List Tok → PatTree → List Tok → Type 0
 IsArg l a rest = closure_arg.reads l ≡ Some (a, rest)
 
 pub record ClosureArgs : Type 0 where
-  -- `#[k] x: T`, `x | y`, `_:::T`, `#![k] x`
-  pub typed : IsArg (attribute (x ∷ alone 58 ∷ T ∷ [])) (record { attrs = record { inner = false; tokens = ident (codes "k") ∷ [] } ∷ []; pat = named (codes "x"); ty = Some (type_named (codes "T")) }) []
-  pub bare : IsArg (x ∷ alone 124 ∷ y ∷ []) (record { attrs = []; pat = named (codes "x"); ty = None }) (alone 124 ∷ y ∷ [])
+  -- `#[k] x: T`, `x: T`, `#[k] x`, `x | y`, `_:::T`, `#![k] x`
+  pub typed : IsArg (attribute (x ∷ alone 58 ∷ T ∷ [])) (p.attributed (record { inner = false; tokens = ident (codes "k") ∷ [] }) [] (p.typed (named (codes "x")) (type_named (codes "T")))) []
+  pub typed_alone : IsArg (x ∷ alone 58 ∷ T ∷ []) (p.typed (named (codes "x")) (type_named (codes "T"))) []
+  pub attributed : IsArg (attribute (x ∷ [])) (p.attributed (record { inner = false; tokens = ident (codes "k") ∷ [] }) [] (named (codes "x"))) []
+  pub bare : IsArg (x ∷ alone 124 ∷ y ∷ []) (named (codes "x")) (alone 124 ∷ y ∷ [])
   pub joined : behind (closure_arg.reads (ident (codes "_") ∷ joint 58 ∷ colons (T ∷ []))) ≡ Some []
   pub inner : behind (closure_arg.reads (alone 35 ∷ alone 33 ∷ square [] ∷ x ∷ [])) ≡ None
