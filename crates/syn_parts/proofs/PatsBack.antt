@@ -21,7 +21,7 @@ use Rattle.syn_parts.specs.Form as form
 use Rattle.syn_parts.specs.Mark.{pound, sign_at, word_at, brace_at, round_at, comma, colon, colon2, not_ne, mutable}
 use Rattle.syn_parts.specs.Part.{angle_at, turbofish_at, lit, is_lit_there, qpath, type, MacroTree, has_none, segments_bare, outer_attributes, outer_body}
 use Rattle.syn_parts.specs.Own.{type_own, block_own, alone, before_if, before_some, comma_before, colon2_before, enclosed, separated, elements_own, lit_own, number_own, attribute_own, path_own, qualified_own, macro_own, segments_own, arguments_own, no_more_segments}
-use Rattle.syn_parts.specs.Fits.{fits_if, type_fits, lit_fits, number_fits, has_kind, path_fits, path_stops, qpath_fits, is_macro_delimiter, ends_well, segments_fit, segments_stop, arguments_fit, arguments_stop, goes_over}
+use Rattle.syn_parts.specs.Fits.{fits_if, type_fits, type_stops, lit_fits, number_fits, has_kind, path_fits, path_stops, qpath_fits, is_macro_delimiter, ends_well, segments_fit, segments_stop, arguments_fit, arguments_stop, goes_over}
 use Rattle.syn_parts.specs.Laws.{PartsAreReadBack}
 use Rattle.syn_parts.specs.Pat as p
 use Rattle.syn_parts.specs.Pat.{MemberTree, PatBound, PatTree, SubPat, Pats, Fields, FieldTree, FieldPatTree}
@@ -36,7 +36,7 @@ use Rattle.syn_parts.proofs.PatWhole.{spelled_by_kind}
 use Rattle.syn_parts.proofs.Marks.{pound_present}
 use Rattle.syn_parts.proofs.Forms.{Alike, weaker, more_stands}
 use Rattle.syn_parts.proofs.Parts.{outer_body_alike}
-use Rattle.syn_parts.proofs.Pats.{pattern_alike, single_alike, field_alike, vert_present}
+use Rattle.syn_parts.proofs.Pats.{pattern_alike, single_alike, field_alike, vert_present, arg_pieces}
 
 -- ---- nothing behind goes on with a pattern
 
@@ -104,6 +104,9 @@ module _ (r : List Tok) (c : PatCalm r) where
     single_calm (p.a_reference m z) = single_calm z
     single_calm (p.a_block ts) = refl
     single_calm (p.alternatives l ps e) = or_calm ps
+    single_calm (p.guarded z) = refl
+    single_calm (p.typed z x) = refl
+    single_calm (p.attributed a xs z) = refl
 
     sub_calm : (s : SubPat) → o.sub_stops s r ≡ true
     sub_calm p.no_sub = rw c.no_at refl
@@ -915,6 +918,9 @@ pat_first b (p.a_slice ps e) r h f = bracket_first (p.a_slice ps e) _ r
 pat_first b (p.a_reference m z) r h f = sign_first (p.a_reference m z) 38 _ refl refl
 pat_first b (p.a_block ts) r h f = const_first ts _
 pat_first b (p.alternatives l ps e) r h f = absurd cc
+pat_first b (p.guarded z) r h f = absurd cc
+pat_first b (p.typed z x) r h f = absurd cc
+pat_first b (p.attributed a xs z) r h f = absurd cc
 
 -- alternatives have none inside
 pub single_fits : (z : PatTree) → o.pat_fits false z ≡ true → is_or z ≡ false
@@ -1077,6 +1083,9 @@ mutual
       let (u, v) = both_true true _ s in
       let j = const_first ts (enclosed del.Brace ts r) in
       as_width b (p.a_block ts) _ r refl j.no_vert v (block_step r ts)
+  pat_back b (p.guarded z) r f s = absurd cc
+  pat_back b (p.typed z x) r f s = absurd cc
+  pat_back b (p.attributed a xs z) r f s = absurd cc
   pat_back false (p.alternatives l ps e) r f s = absurd cc
   pat_back true (p.alternatives l ps true) r f s = absurd cc
   pat_back true (p.alternatives l ps false) r f s =
@@ -1130,21 +1139,54 @@ colon_pat_calm : (l : List Tok) → PatCalm (alone 58 ∷ l)
 unfolding p.bound_at sign_at brace_at group_at
 colon_pat_calm l = record { calm = colon_calm l; no_bound = refl; no_dots = refl; no_at = refl; no_brace = refl }
 
-type_piece : (y : Option TypeTree) (z : PatTree) (r : List Tok) → fits_if (type_fits true) y ≡ true → o.closure_arg_stops_by z y r ≡ true
-    → (maybe colon.at (mark colon (type true))).behind y (before_some y (λ x l. alone 58 ∷ type_own x l) r) ≡ Some r
+-- the same of the pieces of an argument: its attributes, its pattern, and its type
+abbrev pub type_before : Option TypeTree → List Tok → List Tok
+type_before y r = before_some y (λ x l. alone 58 ∷ type_own x l) r
+
+abbrev pub piece_fits : PatTree × Option TypeTree → Bool
+piece_fits q = o.pat_fits false q.0 && fits_if (type_fits true) q.1
+
+abbrev pub piece_stops : PatTree × Option TypeTree → List Tok → Bool
+piece_stops (z, None) r = o.pat_stops false z r && not (colon.at r)
+piece_stops (z, Some x) r = type_stops true x r
+
+pub typed_own_is : (z : PatTree) (r : List Tok) → o.pat_own z r ≡ o.pat_own (p.from_typed z).0 (type_before (p.from_typed z).1 r)
+typed_own_is (p.typed z x) r = refl
+typed_own_is _ r = refl
+
+and_true : (b : Bool) → b ≡ (b && true)
+and_true true = refl
+and_true false = refl
+
+pub typed_fits_is : (z : PatTree) → o.typed_fits z ≡ piece_fits (p.from_typed z)
+typed_fits_is (p.typed z x) = refl
+typed_fits_is z = and_true (o.pat_fits false z)
+
+pub typed_stops_is : (z : PatTree) (r : List Tok) → o.typed_stops z r ≡ piece_stops (p.from_typed z) r
+typed_stops_is (p.typed z x) r = refl
+typed_stops_is _ r = refl
+
+type_piece : (y : Option TypeTree) (z : PatTree) (r : List Tok) → fits_if (type_fits true) y ≡ true → piece_stops (z, y) r ≡ true
+    → (maybe colon.at (mark colon (type true))).behind y (type_before y r) ≡ Some r
 unfolding sign_at
 type_piece None z r f s = let (u, v) = both_true (o.pat_stops false z r) (not (colon.at r)) s in rw (not_true (colon.at r) v) refl
 type_piece (Some x) z r f s = type_back true x r f s
 
-pat_ends : (y : Option TypeTree) (z : PatTree) (r : List Tok) → o.closure_arg_stops_by z y r ≡ true → o.pat_stops false z (before_some y (λ x l. alone 58 ∷ type_own x l) r) ≡ true
+pat_ends : (y : Option TypeTree) (z : PatTree) (r : List Tok) → piece_stops (z, y) r ≡ true → o.pat_stops false z (type_before y r) ≡ true
 pat_ends None z r s = let (u, v) = both_true (o.pat_stops false z r) (not (colon.at r)) s in u
 pat_ends (Some x) z r s = single_stop z (alone 58 ∷ type_own x r) (single_calm (alone 58 ∷ type_own x r) (colon_pat_calm (type_own x r)) z)
 
-pub closure_arg_back : (a : p.ClosureArgTree) (r : List Tok) → o.closure_arg_fits a ≡ true → o.closure_arg_stops a r ≡ true → p.closure_arg.behind a (o.closure_arg_own a r) ≡ Some r
+pieces_back : (xs : List AttributeTree) (q : PatTree × Option TypeTree) (r : List Tok) → o.attributes_outer xs ≡ true → piece_fits q ≡ true → piece_stops q r ≡ true
+    → arg_pieces.behind (xs, q) (o.attributes_own xs (o.pat_own q.0 (type_before q.1 r))) ≡ Some r
+pieces_back xs (z, y) r g f s =
+    let (i, j) = both_true (o.pat_fits false z) (fits_if (type_fits true) y) f in
+    let k = type_before y r in
+    let m = pat_first false z k (single_fits z i) i in
+    rw (attributes_back xs (o.pat_own z k) g m.no_pound, pat_back false z k i (pat_ends y z r s), type_piece y z r j s) refl
+
+pub closure_arg_back : (z : PatTree) (r : List Tok) → o.closure_arg_fits z ≡ true → o.closure_arg_stops z r ≡ true → p.closure_arg.behind z (o.pat_own z r) ≡ Some r
 unfolding p.closure_arg
-closure_arg_back a r f s =
-    let (g, h) = both_true (o.attributes_outer a.attrs) _ f in
-    let (i, j) = both_true (o.pat_fits false a.pat) (fits_if (type_fits true) a.ty) h in
-    let k = before_some a.ty (λ x l. alone 58 ∷ type_own x l) r in
-    let m = pat_first false a.pat k (single_fits a.pat i) i in
-    rw (attributes_back a.attrs (o.pat_own a.pat k) g m.no_pound, pat_back false a.pat k i (pat_ends a.ty a.pat r s), type_piece a.ty a.pat r j s) refl
+closure_arg_back (p.attributed a xs z) r f s =
+    let (g, h) = both_true (o.attributes_outer (a ∷ xs)) (o.typed_fits z) f in
+    rw (typed_own_is z r) (pieces_back (a ∷ xs) (p.from_typed z) r g (sym (typed_fits_is z) ∙ h) (sym (typed_stops_is z r) ∙ s))
+closure_arg_back z r f s = rw (typed_own_is z r) (pieces_back [] (p.from_typed z) r refl (sym (typed_fits_is z) ∙ f) (sym (typed_stops_is z r) ∙ s))

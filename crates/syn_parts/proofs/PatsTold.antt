@@ -30,9 +30,9 @@ use Rattle.syn_parts.proofs.TypesBack.{group_back}
 use Rattle.syn_parts.proofs.Marks.{pound_present}
 use Rattle.syn_parts.proofs.Forms.{Refuses, seen_some, more_opens, when_refuses, mark_refuses, inside_refuses, shown_refuses, pure_refuses}
 use Rattle.syn_parts.proofs.Parts.{outer_body_alike}
-use Rattle.syn_parts.proofs.Pats.{pattern_alike, vert_present, or_refused}
+use Rattle.syn_parts.proofs.Pats.{pattern_alike, vert_present, or_refused, guarded_refused, typed_refused, attributed_refused, arg_pieces}
 use Rattle.syn_parts.proofs.PatWhole.{spelled_by_kind}
-use Rattle.syn_parts.proofs.PatsBack.{limits_back, dots_single, binding_own, reserved_not, r_ref, r_mut, none_is, fields_rest, pat_field_own, single_is, is_single, is_or, from_single, vert_seen, field_whole, single_whole, pats_elements, or_elements, fields_elements, pats_end, fields_end}
+use Rattle.syn_parts.proofs.PatsBack.{limits_back, dots_single, binding_own, reserved_not, r_ref, r_mut, none_is, fields_rest, pat_field_own, single_is, is_single, is_or, from_single, vert_seen, field_whole, single_whole, pats_elements, or_elements, fields_elements, pats_end, fields_end, type_before, piece_fits, piece_stops, typed_own_is, typed_fits_is, typed_stops_is}
 use Rattle.syn_parts.proofs.Told.{after, first_only, second_only, maybe_none, maybe_some, flag_left, mark_tells, inside_tells, Told, none_told, told, Fitting, fit, listed_tells, joined_tells}
 use Rattle.syn_parts.proofs.SimpleTold.{name_told, lit_told, group_told}
 use Rattle.syn_parts.proofs.WholeTold.{parts_told}
@@ -663,6 +663,10 @@ mutual
       let (u, v) = both_true (o.single_stops z l) _ q.ends in
       record { passes = rw q.passes f; ends = u; same = q.same }) r n h
   pat_told b (p.a_block ts) r n h = one_told b (p.a_block ts) refl (λ l k i. record { passes = refl; ends = refl; same = block_told ts l k i }) r n h
+  pat_told b (p.guarded z) r n h = one_told b (p.guarded z) refl (λ l k i. let q = guarded_refused {k = 0} pattern_alike z in absurd (q.refuses (o.pat_own (p.guarded z) l) k i)) r n h
+  pat_told b (p.typed z x) r n h = one_told b (p.typed z x) refl (λ l k i. let q = typed_refused {k = 0} pattern_alike z x in absurd (q.refuses (o.pat_own (p.typed z x) l) k i)) r n h
+  pat_told b (p.attributed a xs z) r n h =
+      one_told b (p.attributed a xs z) refl (λ l k i. let q = attributed_refused {k = 0} pattern_alike a xs z in absurd (q.refuses (o.pat_own (p.attributed a xs z) l) k i)) r n h
   pat_told false (p.alternatives l ps e) r n h = absurd (or_no_single l ps e (o.pat_own (p.alternatives l ps e) r) n h)
   pat_told true (p.alternatives l ps e) r n h = or_told l ps e r n (singles_told ps) (multi_opens (p.alternatives l ps e) (o.pat_own (p.alternatives l ps e) r) n h)
 
@@ -698,25 +702,30 @@ mutual
 
 -- ---- arguments of closures
 
-pub closure_arg_told : (a : p.ClosureArgTree) (r n : List Tok) → p.closure_arg.behind a (o.closure_arg_own a r) ≡ Some n → Fitted (o.closure_arg_fits a) (o.closure_arg_stops a r) r n
-unfolding p.closure_arg
-closure_arg_told a r n h =
-    let k = before_some a.ty (λ x l. alone 58 ∷ type_own x l) r in
-    let m = o.pat_own a.pat k in
-    let (i, j) = after outer_attributes (λ y. both (p.pattern false) (maybe colon.at (mark colon (type true)))) a.attrs (a.pat, a.ty) (o.attributes_own a.attrs m) m n (λ x d. let (u, v) = attributes_told a.attrs m x d in v) h in
-    let (u, v) = attributes_told a.attrs m m i in
-    let (e, f) = after (p.pattern false) (λ y. maybe colon.at (mark colon (type true))) a.pat a.ty m k n (λ x d. let q = pat_told false a.pat k x d in q.same) j in
-    let q = pat_told false a.pat k k e in
-    by_type a.attrs a.pat a.ty u q.passes q.ends f
+pieces_told : (xs : List AttributeTree) (q : PatTree × Option TypeTree) (r n : List Tok) → arg_pieces.behind (xs, q) (o.attributes_own xs (o.pat_own q.0 (type_before q.1 r))) ≡ Some n
+    → Fitted (o.attributes_outer xs && piece_fits q) (piece_stops q r) r n
+pieces_told xs (z, y) r n h =
+    let k = type_before y r in
+    let m = o.pat_own z k in
+    let (i, j) = after outer_attributes (λ y. both (p.pattern false) (maybe colon.at (mark colon (type true)))) xs (z, y) (o.attributes_own xs m) m n (λ x d. let (u, v) = attributes_told xs m x d in v) h in
+    let (u, v) = attributes_told xs m m i in
+    let (e, f) = after (p.pattern false) (λ y. maybe colon.at (mark colon (type true))) z y m k n (λ x d. let q = pat_told false z k x d in q.same) j in
+    let q = pat_told false z k k e in
+    by_type y u q.passes q.ends f
   where
-    by_type : (xs : List AttributeTree) (z : PatTree) (y : Option TypeTree) → o.attributes_outer xs ≡ true → o.pat_fits false z ≡ true → o.pat_stops false z (before_some y (λ x l. alone 58 ∷ type_own x l) r) ≡ true
-        → (maybe colon.at (mark colon (type true))).behind y (before_some y (λ x l. alone 58 ∷ type_own x l) r) ≡ Some n
-        → Fitted (o.closure_arg_fits (record { attrs = xs; pat = z; ty = y })) (o.closure_arg_stops (record { attrs = xs; pat = z; ty = y }) r) r n
-    by_type xs z None u f s h =
+    by_type : (y : Option TypeTree) → o.attributes_outer xs ≡ true → o.pat_fits false z ≡ true → o.pat_stops false z (type_before y r) ≡ true
+        → (maybe colon.at (mark colon (type true))).behind y (type_before y r) ≡ Some n
+        → Fitted (o.attributes_outer xs && piece_fits (z, y)) (piece_stops (z, y) r) r n
+    by_type None u f s h =
         let (a, e) = maybe_none colon.at (mark colon (type true)) r n h in
         record { passes = rw (u, f) refl; ends = rw (s, a) refl; same = e }
-    by_type xs z (Some x) u f s h =
+    by_type (Some x) u f s h =
         let (a, e) = maybe_some colon.at (mark colon (type true)) x (alone 58 ∷ type_own x r) n h in
         let (c, d) = mark_tells colon (type true) x (alone 58 ∷ type_own x r) n e in
         let q = lower.types true x r n d in
         record { passes = rw (u, f) q.passes; ends = q.ends; same = q.same }
+
+pub closure_arg_told : (z : PatTree) (r n : List Tok) → p.closure_arg.behind z (o.pat_own z r) ≡ Some n → Fitted (o.closure_arg_fits z) (o.closure_arg_stops z r) r n
+unfolding p.closure_arg
+closure_arg_told (p.attributed a xs z) r n h = rw (typed_fits_is z, typed_stops_is z r) (pieces_told (a ∷ xs) (p.from_typed z) r n (subst (λ y. arg_pieces.behind (a ∷ xs, p.from_typed z) (o.attributes_own (a ∷ xs) y) ≡ Some n) (typed_own_is z r) h))
+closure_arg_told z r n h = rw (typed_fits_is z, typed_stops_is z r) (pieces_told [] (p.from_typed z) r n (subst (λ y. arg_pieces.behind ([], p.from_typed z) y ≡ Some n) (typed_own_is z r) h))
