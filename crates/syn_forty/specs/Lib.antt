@@ -1,0 +1,4 @@
+pub mod Place
+pub mod Op
+pub mod Front
+pub mod Tree

@@ -1,0 +1,5 @@
+//! What the reader and the printer of expressions are to mean, and the laws of it.
+#![tactic(auto)]
+
+pub mod kinds;
+pub mod next;
