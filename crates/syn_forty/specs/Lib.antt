@@ -2,3 +2,9 @@ pub mod Place
 pub mod Op
 pub mod Front
 pub mod Tree
+pub mod Head
+pub mod Slot
+pub mod Stands
+pub mod Read
+pub mod Next
+pub mod Rule
