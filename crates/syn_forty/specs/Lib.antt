@@ -8,3 +8,5 @@ pub mod Stands
 pub mod Read
 pub mod Next
 pub mod Rule
+pub mod Exact
+pub mod WellFormed
