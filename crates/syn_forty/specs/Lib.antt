@@ -10,3 +10,5 @@ pub mod Next
 pub mod Rule
 pub mod Exact
 pub mod WellFormed
+pub mod Sparing
+pub mod Printed
