@@ -72,6 +72,16 @@ pub fn type_samples()
     ensures { sample.TypeSamples }
 {}
 
+/// Arguments between `<` and `>` that are easily read wrongly: associated types, and negative numbers.
+pub fn generic_samples()
+    ensures { sample.GenericSamples }
+{}
+
+/// The value of an index in each base, the greatest, and texts that are none.
+pub fn index_samples()
+    ensures { sample.IndexSamples }
+{}
+
 /// Patterns that are easily read wrongly, as the Rust Reference has them.
 pub fn pattern_samples()
     ensures { sample.PatternSamples }
