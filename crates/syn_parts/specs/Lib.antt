@@ -10,5 +10,6 @@ pub mod Laws
 pub mod Pat
 pub mod PatLaws
 pub mod PatOwn
+pub mod Ends
 pub mod Samples
 pub mod Kind
