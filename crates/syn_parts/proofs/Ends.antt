@@ -17,7 +17,7 @@ use Rattle.syn_parts.specs.Own.{inner_count, count_segments, no_more_segments}
 use Rattle.syn_parts.specs.Fits.{type_fits, type_stops, mac_stops, segments_stop, arguments_stop, return_stops, bounds_stop, bound_stops, output_stops, path_stops, qpath_fits, segments_fit, arguments_fit, qself_fits, bare_segments}
 use Rattle.syn_parts.specs.Pat as p
 use Rattle.syn_parts.specs.Pat.{PatTree}
-use Rattle.syn_parts.specs.PatOwn as o
+use Rattle.syn_parts.specs.PatFits as test
 use Rattle.syn_parts.specs.Ends.{ends_types, ends_patterns, ends_open, segments_open, arguments_open, return_open, bounds_open, bound_open, begins_more, begins_more_patterns, PartsEnd, TypesEndAt, PatternsEndAt}
 use Rattle.syn_parts.proofs.Same.{both_true, not_true}
 use Rattle.syn_parts.proofs.Behind.{Calm, and_false, or_true, type_calm, segments_calm}
@@ -205,14 +205,14 @@ parts_end = record {
     outputs b t.default r h k = let c = types_calm r h in rw c.no_arrow refl
     outputs b (t.given x) r h k = type_calm r (types_calm r h) b x k
 
-    patterns : (b : Bool) (z : PatTree) (r : List Tok) → ends_patterns r ≡ true → (b && p.vert.at r) ≡ false → o.pat_stops b z r ≡ true
+    patterns : (b : Bool) (z : PatTree) (r : List Tok) → ends_patterns r ≡ true → (b && p.vert.at r) ≡ false → test.pat_stops b z r ≡ true
     patterns b z r h k = rw (single_calm r (patterns_calm r h) z, k) refl
 
-    typed : (z : PatTree) (r : List Tok) → ends_patterns r ≡ true → plus.at r ≡ false → colon.at r ≡ false → o.typed_stops z r ≡ true
+    typed : (z : PatTree) (r : List Tok) → ends_patterns r ≡ true → plus.at r ≡ false → colon.at r ≡ false → test.typed_stops z r ≡ true
     typed (p.typed z x) r h k e = let c = patterns_calm r h in type_calm r c.calm true x k
     typed z r h k e = rw (patterns false z r h refl, e) refl
 
-    args : (z : PatTree) (r : List Tok) → ends_patterns r ≡ true → plus.at r ≡ false → colon.at r ≡ false → o.closure_arg_stops z r ≡ true
+    args : (z : PatTree) (r : List Tok) → ends_patterns r ≡ true → plus.at r ≡ false → colon.at r ≡ false → test.closure_arg_stops z r ≡ true
     args (p.attributed a xs z) r h k e = typed z r h k e
     args z r h k e = typed z r h k e
 

@@ -14,7 +14,7 @@ use Rattle.syn_parts.specs.Mark.{sign_at, colon, colon2, lt, round_at, brace_at,
 use Rattle.syn_parts.specs.Part.{QPathTree}
 use Rattle.syn_parts.specs.Fits.{type_stops, output_stops, path_stops, qpath_fits}
 use Rattle.syn_parts.specs.Pat.{PatTree, bound_at, dots, at_sign, vert}
-use Rattle.syn_parts.specs.PatOwn.{pat_stops, closure_arg_stops}
+use Rattle.syn_parts.specs.PatFits.{pat_stops, closure_arg_stops}
 
 -- Where a type, an output or a path could go on, a `+` aside: at `::`, at `<` that isn't `<=`, at `(`, at `->`, and at `!`
 -- that isn't `!=`.
