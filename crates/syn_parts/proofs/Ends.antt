@@ -23,11 +23,11 @@ use Rattle.syn_parts.proofs.Same.{both_true, not_true}
 use Rattle.syn_parts.proofs.Behind.{Calm, and_false, or_true, type_calm, segments_calm}
 use Rattle.syn_parts.proofs.PatsBack.{PatCalm, single_calm}
 
-either_false : (a b : Bool) → (a || b) ≡ false → (a ≡ false) × (b ≡ false)
+pub either_false : (a b : Bool) → (a || b) ≡ false → (a ≡ false) × (b ≡ false)
 either_false false b h = (refl, h)
 either_false true b h = absurd cc
 
-types_calm : (r : List Tok) → ends_types r ≡ true → Calm r
+pub types_calm : (r : List Tok) → ends_types r ≡ true → Calm r
 unfolding ends_types angle_at turbofish_at
 types_calm r h =
     let (a, b) = either_false (colon2.at r) _ (not_true _ h) in
@@ -36,7 +36,7 @@ types_calm r h =
     let (g, i) = either_false (arrow.at r) (not_ne.at r) f in
     record { no_angle = rw (c, a) refl; no_round = e; no_colon2 = a; no_arrow = g; no_bang = i; no_turbofish = rw a refl }
 
-patterns_calm : (r : List Tok) → ends_patterns r ≡ true → PatCalm r
+pub patterns_calm : (r : List Tok) → ends_patterns r ≡ true → PatCalm r
 unfolding ends_patterns
 patterns_calm r h =
     let (a, b) = both_true (ends_types r) _ h in
@@ -46,7 +46,7 @@ patterns_calm r h =
     record { calm = types_calm r a; no_bound = c; no_dots = e; no_at = g; no_brace = i }
 
 -- where a sign stands, one that begins with another character doesn't
-other_sign : (b : ℕ) (more : List ℕ) (c : ℕ) (text : List ℕ) (r : List Tok) → (b == c) ≡ false → sign_at (b ∷ more) r ≡ true → sign_at (c ∷ text) r ≡ false
+pub other_sign : (b : ℕ) (more : List ℕ) (c : ℕ) (text : List ℕ) (r : List Tok) → (b == c) ≡ false → sign_at (b ∷ more) r ≡ true → sign_at (c ∷ text) r ≡ false
 unfolding sign_at
 other_sign b more c text (punct d spacing.Alone ∷ l) e h = let (a, f) = both_true (d == b) _ h in let i : d ≡ b = grind (arith, nat_tests, a) in rw (i, e) refl
 other_sign b more c text (punct d spacing.Joint ∷ l) e h = let (a, f) = both_true (d == b) _ h in let i : d ≡ b = grind (arith, nat_tests, a) in rw (i, e) refl
@@ -218,7 +218,7 @@ parts_end = record {
 
 -- ---- by the first token
 
-sign_first : (c : ℕ) (text : List ℕ) (P : List Tok → Type 0) → ((s : Spacing) (l : List Tok) → P (punct c s ∷ l)) → (r : List Tok) → sign_at (c ∷ text) r ≡ true → P r
+pub sign_first : (c : ℕ) (text : List ℕ) (P : List Tok → Type 0) → ((s : Spacing) (l : List Tok) → P (punct c s ∷ l)) → (r : List Tok) → sign_at (c ∷ text) r ≡ true → P r
 unfolding sign_at
 sign_first c text P f (punct d spacing.Alone ∷ l) h =
     let (a, b) = both_true (d == c) _ h in
