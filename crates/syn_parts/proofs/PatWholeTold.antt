@@ -4,7 +4,8 @@ use Rattle.syn_parts.specs.Fits.{closed}
 use Rattle.syn_parts.specs.Pat.{PatTree, member, range_bound, pattern, closure_arg}
 use Rattle.syn_parts.specs.Pat as p
 use Rattle.syn_parts.specs.Mark.{sign_at}
-use Rattle.syn_parts.specs.PatOwn.{closure_arg_fits, closure_arg_stops, typed_stops, member_own, range_bound_own, pat_own, member_fits, range_bound_fits, range_bound_stops, pat_fits, pat_stops}
+use Rattle.syn_parts.specs.PatOwn.{member_own, range_bound_own, pat_own}
+use Rattle.syn_parts.specs.PatFits.{closure_arg_fits, closure_arg_stops, typed_stops, member_fits, range_bound_fits, range_bound_stops, pat_fits, pat_stops}
 use Rattle.syn_parts.specs.PatLaws.{PatternsAreReadBack, PatternsThatAreReadBackFit, PatternTestsAreExact}
 use Rattle.syn_parts.proofs.Exact.{exact, type_none}
 use Rattle.syn_parts.proofs.PatsBack.{member_back, bound_back, pat_back, closure_arg_back, nil_pat_calm, nil_ends, bound_calm, stops_ends}

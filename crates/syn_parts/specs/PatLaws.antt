@@ -2,7 +2,8 @@
 use Rattle.std.specs.Prelude.{◌≡◌, Bool, true, ◌↔◌, List, Some}
 use Rattle.syn_tokens.specs.Tok.{Tok}
 use Rattle.syn_parts.specs.Pat.{MemberTree, PatBound, PatTree, member, range_bound, pattern, closure_arg, at_width, SpellsPat}
-use Rattle.syn_parts.specs.PatOwn.{member_own, range_bound_own, pat_own, closure_arg_fits, closure_arg_stops, member_fits, range_bound_fits, range_bound_stops, pat_fits, pat_stops}
+use Rattle.syn_parts.specs.PatOwn.{member_own, range_bound_own, pat_own}
+use Rattle.syn_parts.specs.PatFits.{closure_arg_fits, closure_arg_stops, member_fits, range_bound_fits, range_bound_stops, pat_fits, pat_stops}
 use Rattle.syn_parts.specs.Fits.{closed}
 use Rattle.syn_parts.specs.Laws.{IsExact, FitsWhereReadBack, IsTestOf}
 
