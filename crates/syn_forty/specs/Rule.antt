@@ -4,10 +4,8 @@ use Rattle.std.specs.Prelude.{Bool, true, false, not, ◌||◌, ◌&&◌, if◌t
 use Rattle.syn_lexer.specs.declared.lexeme.Delimiter.{Delimiter}
 use Rattle.syn_lexer.specs.declared.lexeme.Delimiter.TheVariants as del
 use Rattle.syn_parts.specs.Text.{Text}
-use Rattle.syn_parts.specs.Tree.{TypeTree}
-use Rattle.syn_parts.specs.Fits.{type_stops}
+use Rattle.syn_parts.specs.Ends.{ends_open}
 use Rattle.syn_parts.specs.Form.{is_nil}
-use Rattle.syn_parts.specs.Own.{alone}
 use Rattle.syn_forty.specs.declared.kinds.Infix.{Infix}
 use Rattle.syn_forty.specs.declared.kinds.Level.{Level}
 use Rattle.syn_forty.specs.declared.kinds.Level.TheVariants as lev
@@ -61,10 +59,7 @@ is_less_next next.ShiftLeft = true
 is_less_next next.ShiftLeftAssign = true
 is_less_next _ = false
 
--- arguments of the type would begin with a `<` behind it
-abbrev pub ends_open : TypeTree → Bool
-ends_open x = not (type_stops false x (alone 60 ∷ []))
-
+-- and a type before a `<` that would begin its arguments
 abbrev pub post_refuses : Post → Next → Bool
 post_refuses (e.cast x) n = is_less_next n && ends_open x
 post_refuses (e.range_from op) n = not (ends_range_next n)

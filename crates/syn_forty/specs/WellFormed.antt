@@ -10,7 +10,7 @@ use Rattle.syn_parts.specs.Form.{is_nil}
 use Rattle.syn_parts.specs.Part.{pound_bang, is_default}
 use Rattle.syn_parts.specs.Fits.{fits_if, unsigned_fits, qpath_fits, macro_fits, type_fits, arguments_fit, lifetimes_fit, output_fits, ends_well}
 use Rattle.syn_parts.specs.Pat.{MemberTree, PatTree, a_name, an_index}
-use Rattle.syn_parts.specs.PatOwn.{member_fits, pat_fits, closure_arg_fits, attributes_outer}
+use Rattle.syn_parts.specs.PatFits.{member_fits, pat_fits, closure_arg_fits, attributes_outer}
 use Rattle.syn_forty.specs.declared.kinds.Limits.TheVariants as limits
 use Rattle.syn_forty.specs.declared.kinds.Infix.{Infix}
 use Rattle.syn_forty.specs.declared.kinds.Infix.TheVariants as inf
