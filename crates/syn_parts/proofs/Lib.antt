@@ -31,3 +31,4 @@ pub mod Ends
 pub mod Appends
 pub mod TreeEq
 pub mod Readable
+pub mod Decimals

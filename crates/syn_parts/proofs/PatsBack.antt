@@ -2,7 +2,7 @@
 use Rattle.std.proofs.Common.{◌≡◌, ℕ, Bool, true, false, not, ◌&&◌, ◌||◌, ◌==◌, cond, List, [], ◌∷◌, Option, Some, None, refl, ap, sym, ◌∙◌, subst, codes, arith}
 use Rattle.std.proofs.lemmas.Bool.Decides.{nat_tests}
 use Rattle.std.proofs.lemmas.Slice.Eq.{bytes_eq-Decides}
-use Rattle.std.specs.Fmt.{decimal}
+use Rattle.syn_parts.specs.PatOwn.{index_text}
 use Rattle.std.specs.Str.{bytes_eq}
 use Rattle.syn_lexer.specs.Keywords.{is_reserved_word}
 use Rattle.syn_lexer.specs.declared.lexeme.Delimiter.TheVariants as del
@@ -644,7 +644,7 @@ field_pound (p.short true m w) l = no_pound_word (codes "ref") _
 field_pound (p.short false true w) l = no_pound_word (codes "mut") _
 field_pound (p.short false false w) l = no_pound_word w l
 field_pound (p.full (p.a_name w) z) l = no_pound_word w _
-field_pound (p.full (p.an_index n) z) l = no_pound_literal (decimal n) _
+field_pound (p.full (p.an_index n) z) l = no_pound_literal (index_text n) _
 
 -- behind a shorthand's name stands no single `:`
 short_not_full : (b m : Bool) (w : Text) (l : List Tok) → colon.at l ≡ false → p.full_at (o.field_own (p.short b m w) l) ≡ false
@@ -665,7 +665,7 @@ same_is (Some m) n h = let e : m ≡ n = grind (arith, nat_tests, h) in ap Some 
 pub member_back : (k : MemberTree) (l : List Tok) → test.member_fits k ≡ true → p.member.behind k (o.member_own k l) ≡ Some l
 unfolding p.member
 member_back (p.a_name w) l h = rw (h, text_same w) refl
-member_back (p.an_index n) l h = let e : n == n ≡ true = grind (arith, nat_tests) in rw (same_is (p.index_of (decimal n)) n h, e) refl
+member_back (p.an_index n) l h = let e : n == n ≡ true = grind (arith, nat_tests) in rw (same_is (p.index_of (index_text n)) n h, e) refl
 
 abbrev pub pat_field_own : FieldPatTree → List Tok → List Tok
 pat_field_own f l = o.attributes_own f.attrs (o.field_own f.field l)
@@ -684,7 +684,7 @@ full_step xs k z m l f h i =
   where
     member_pound : (k : MemberTree) (l : List Tok) → pound.at (o.member_own k l) ≡ false
     member_pound (p.a_name w) l = no_pound_word w l
-    member_pound (p.an_index n) l = no_pound_literal (decimal n) l
+    member_pound (p.an_index n) l = no_pound_literal (index_text n) l
 
 -- no field ends the list
 attributes_stop : (xs : List AttributeTree) (l : List Tok) → p.fields_stop l ≡ false → p.fields_stop (o.attributes_own xs l) ≡ false

@@ -1,7 +1,7 @@
 -- Patterns that are read of their own tokens pass their tests.
 use Rattle.std.proofs.Common.{◌≡◌, ℕ, Bool, true, false, not, ◌&&◌, ◌||◌, ◌==◌, cond, List, [], ◌∷◌, Option, Some, None, refl, sym, ◌∙◌, subst, codes, arith}
 use Rattle.std.proofs.lemmas.Bool.Decides.{nat_tests}
-use Rattle.std.specs.Fmt.{decimal}
+use Rattle.syn_parts.specs.PatOwn.{index_text}
 use Rattle.std.specs.Option.{is_some}
 use Rattle.std.specs.Str.{bytes_eq}
 use Rattle.syn_lexer.specs.Keywords.{is_reserved_word}
@@ -448,7 +448,7 @@ member_told (p.a_name w) l n h = by_bool (not (is_reserved_word w)) h
     by_bool : (b : Bool) → if_same p.same_member (p.a_name w) (p.name_if b w l) ≡ Some n → Fitted b true l n
     by_bool true h = record { passes = refl; ends = refl; same = by_same (bytes_eq w w) h }
     by_bool false h = absurd cc
-member_told (p.an_index i) l n h = by_index (p.index_of (decimal i)) h
+member_told (p.an_index i) l n h = by_index (p.index_of (index_text i)) h
   where
     by_same : (m : ℕ) (b : Bool) → (i == m) ≡ b → cond b (Some l) None ≡ Some n → Fitted (m == i) true l n
     by_same m true e h = record { passes = grind (arith, nat_tests, e); ends = refl; same = some_is (sym h) }

@@ -1,7 +1,7 @@
 -- Where a pattern is read back from its own tokens: `x_fits x` is what a pattern must be for it, and `x_stops x r` says that
 -- the tokens r behind it don't go on with it.
 use Rattle.std.specs.Prelude.{ℕ, Bool, true, false, not, ◌&&◌, ◌||◌, ◌==◌, List, [], ◌∷◌, Option, Some, None}
-use Rattle.std.specs.Fmt.{decimal}
+use Rattle.syn_parts.specs.PatOwn.{index_text}
 use Rattle.syn_lexer.specs.Keywords.{is_reserved_word}
 use Rattle.syn_parts.specs.declared.label.PathStyle.TheVariants as style
 use Rattle.syn_parts.specs.Tree as t
@@ -62,7 +62,7 @@ same_index (Some m) n = m == n
 
 abbrev pub member_fits : MemberTree → Bool
 member_fits (a_name w) = not (is_reserved_word w)
-member_fits (an_index n) = same_index (index_of (decimal n)) n
+member_fits (an_index n) = same_index (index_of (index_text n)) n
 
 abbrev pub range_bound_fits : PatBound → Bool
 range_bound_fits (lit_bound x) = lit_fits x

@@ -1,8 +1,9 @@
 -- What is true of patterns.
-use Rattle.std.specs.Prelude.{◌≡◌, Bool, true, ◌↔◌, List, Some}
+use Rattle.std.specs.Fmt.{decimal}
+use Rattle.std.specs.Prelude.{◌≡◌, ℕ, ◌≤◌, Bool, true, ◌↔◌, List, Some}
 use Rattle.syn_tokens.specs.Tok.{Tok}
 use Rattle.syn_parts.specs.Pat.{MemberTree, PatBound, PatTree, member, range_bound, pattern, closure_arg, at_width, SpellsPat}
-use Rattle.syn_parts.specs.PatOwn.{member_own, range_bound_own, pat_own}
+use Rattle.syn_parts.specs.PatOwn.{index_text, member_own, range_bound_own, pat_own}
 use Rattle.syn_parts.specs.PatFits.{closure_arg_fits, closure_arg_stops, member_fits, range_bound_fits, range_bound_stops, pat_fits, pat_stops}
 use Rattle.syn_parts.specs.Fits.{closed}
 use Rattle.syn_parts.specs.Laws.{IsExact, FitsWhereReadBack, IsTestOf}
@@ -42,3 +43,7 @@ pub record PatternTestsAreExact : Type 0 where
   pub bounds_of_ranges : IsTestOf range_bound range_bound_own range_bound_fits
   pub patterns : (several : Bool) → IsTestOf (pattern several) pat_own (pat_fits several)
   pub closure_args : IsTestOf closure_arg pat_own closure_arg_fits
+
+-- The digits of an index are those that `Display` writes.
+abbrev pub IndicesAreDecimal : Type 0
+IndicesAreDecimal = (n : ℕ) → n ≤ 4294967295 → index_text n ≡ decimal n

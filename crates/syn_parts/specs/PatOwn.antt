@@ -1,6 +1,5 @@
 -- The own tokens of patterns; an index in plain decimal, a closed range with `..=`.
-use Rattle.std.specs.Prelude.{Bool, true, false, List, [], ◌∷◌, codes}
-use Rattle.std.specs.Fmt.{decimal}
+use Rattle.std.specs.Prelude.{Bool, true, false, List, [], ◌∷◌, codes, ℕ, zero, suc, ◌+◌, ◌/◌, ◌%◌, nat_lt, if◌then◌else◌}
 use Rattle.syn_lexer.specs.declared.lexeme.Delimiter.TheVariants as del
 use Rattle.syn_tokens.specs.Tok.{Tok, ident, literal}
 use Rattle.syn_parts.specs.Text.{Text}
@@ -16,9 +15,18 @@ abbrev pub range_bound_own : PatBound → List Tok → List Tok
 range_bound_own (lit_bound x) r = lit_own x r
 range_bound_own (path_bound q p) r = qualified_own (q, p) r
 
+-- the decimal digits of a number below 10 ^ k, the highest first, before others
+abbrev pub digits_before : ℕ → ℕ → Text → Text
+digits_before zero n r = r
+digits_before (suc k) n r = if nat_lt n 10 then (48 + n) ∷ r else digits_before k (n / 10) ((48 + n % 10) ∷ r)
+
+-- an index in plain decimal: each has ten digits at most
+unfoldable pub index_text : ℕ → Text
+index_text n = digits_before 10 n []
+
 abbrev pub member_own : MemberTree → List Tok → List Tok
 member_own (a_name w) r = ident w ∷ r
-member_own (an_index n) r = literal (decimal n) ∷ r
+member_own (an_index n) r = literal (index_text n) ∷ r
 
 abbrev pub vert_before : List Tok → List Tok
 vert_before r = alone 124 ∷ r

@@ -118,3 +118,8 @@ pub fn pattern_rests()
 pub fn closure_args()
     ensures { sample.ClosureArgs }
 {}
+
+/// The text that an index is printed as is the one that its number has by `Display`.
+pub fn indices_are_decimal()
+    ensures { pat.IndicesAreDecimal }
+{}
