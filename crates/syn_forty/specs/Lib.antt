@@ -12,3 +12,4 @@ pub mod Exact
 pub mod WellFormed
 pub mod Sparing
 pub mod Printed
+pub mod Rows
