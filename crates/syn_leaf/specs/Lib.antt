@@ -3,3 +3,4 @@ pub mod Equal
 pub mod Printed
 pub mod Reads
 pub mod ReadBack
+pub mod Kept

@@ -3,24 +3,27 @@
 //! of a macro as `ExpectedPart` of a macro, a missing constant as `ExpectedPart` of a literal, and a rest without tokens as
 //! `ExpectedExpression`.
 
-ghost use Rattle.std.specs.Prelude.{◌≡◌, ◌≤◌, ◌<◌, map, take, drop, nat_lt, if◌then◌else◌, Some, None, IfSome, MatchOption};
+ghost use Rattle.std.specs.Prelude.{◌≡◌, ◌≤◌, ◌<◌, map, take, drop, nat_lt, if◌then◌else◌, Some, None, IfSome, IfOk, IfErr, MatchOption};
+ghost use Rattle.syn_leaf.specs.Kept.{first_alone};
 ghost use Rattle.syn_leaf.specs.Reads.{Reads, Takes};
 ghost use Rattle.syn_leaf.specs.View.{attribute_of, delimiter_of};
 ghost use Rattle.syn_parts.specs.Part as part;
 ghost use Rattle.syn_tokens.specs.Tok.{weight};
+ghost use Rattle.syn_tokens.specs.View.{toks_of};
 
 use crate::attr::{AttrStyle, Attribute};
 use crate::block::Block;
 use crate::front;
 use crate::mac::MacroDelimiter;
 use crate::text::{is_number, is_truth};
-use syn_tokens::Delimiter;
+use syn_tokens::{Delimiter, Spacing};
 use syn_tokens::buffer::{ParseBuffer, Token};
 use syn_tokens::copy::copy_trees;
 use syn_tokens::error::{ErrorKind, Part, Result};
 use syn_tokens::span::Span;
 use syn_tokens::token::{Brace, Bracket, Not, Paren, Pound};
-use syn_tokens::tree::{TokenStream, TokenTree};
+use std::alloc::Global;
+use syn_tokens::tree::{Punct, TokenStream, TokenTree};
 
 /// Reads the brackets of an outer attribute.
 #[tactic(auto, unfolding(syn_parts::specs::Part::outer_body, syn_parts::specs::Part::kept))]
@@ -181,7 +184,7 @@ pub fn const_at(input: &ParseBuffer<'_>) -> bool
 
 /// How many tokens the constant argument has that stands first; 0 where none does.
 fn constant_len(input: &ParseBuffer<'_>) -> usize
-    ensures { part.find_const input.now.rest ≡ (if nat_lt 0 result then Some (take result input.now.rest, drop result input.now.rest) else None) }
+    ensures { part.find_const input.now.rest ≡ (if nat_lt 0 result then Some (first_alone (take result input.now.rest), drop result input.now.rest) else None) }
 {
     match input.trees() {
         [TokenTree::Literal(_), ..] => 1,
@@ -195,6 +198,23 @@ fn constant_len(input: &ParseBuffer<'_>) -> usize
     }
 }
 
+/// A copy of some trees in which a sign in front is by itself, however it was joined; refused only where memory runs out.
+fn copy_first_alone(alloc: Global, trees: &[TokenTree]) -> Result<TokenStream>
+    ensures copied { IfOk result (λ s. s ≡ first_alone (toks_of trees.now)) }
+    ensures memory { IfErr result (λ e. e.kind ≡ ErrorKind.OutOfMemory) }
+{
+    let [TokenTree::Punct(sign), more @ ..] = trees else {
+        return copy_trees(alloc, trees);
+    };
+    let mut tokens = TokenStream::new(alloc);
+    tokens.push(TokenTree::Punct(Punct {
+        spacing: Spacing::Alone,
+        ..*sign
+    }))?;
+    tokens.append(copy_trees(alloc, more)?)?;
+    Ok(tokens)
+}
+
 /// Reads the tokens of a constant argument.
 #[tactic(auto, using(syn_tokens::proofs::Views::views, syn_tokens::proofs::Weights::drops), unfolding(syn_parts::specs::Part::constant_tokens))]
 pub fn constant_tokens(input: &mut ParseBuffer<'_>) -> Result<TokenStream>
@@ -206,7 +226,7 @@ pub fn constant_tokens(input: &mut ParseBuffer<'_>) -> Result<TokenStream>
     if count == 0 {
         return Err(input.error(ErrorKind::ExpectedPart(Part::Literal)));
     }
-    let mut tokens = copy_trees(input.alloc(), input.trees())?;
+    let mut tokens = copy_first_alone(input.alloc(), input.trees())?;
     tokens.truncate(count);
     input.skip(count);
     Ok(tokens)

@@ -27,6 +27,8 @@ pub mod WholeTold
 pub mod Exact
 pub mod PatsTold
 pub mod PatWholeTold
+pub mod Ends
 pub mod Appends
 pub mod TreeEq
 pub mod Readable
+pub mod Decimals

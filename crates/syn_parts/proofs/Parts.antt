@@ -3,6 +3,7 @@ use Rattle.std.proofs.Common.{◌≡◌, ℕ, suc, ◌≤◌, Bool, true, false,
 use Rattle.syn_lexer.specs.Keywords.{is_reserved_word}
 use Rattle.syn_lexer.specs.declared.lexeme.Delimiter.{Delimiter}
 use Rattle.syn_lexer.specs.declared.lexeme.Delimiter.TheVariants as del
+use Rattle.syn_lexer.specs.declared.lexeme.Spacing.TheVariants as spacing
 use Rattle.syn_tokens.specs.Tok.{Tok, ident, punct, literal, group, weight}
 use Rattle.syn_parts.specs.declared.label.LitKind.{LitKind}
 use Rattle.syn_parts.specs.declared.label.LitKind.TheVariants as kind
@@ -148,7 +149,7 @@ finds_const = record { falls = falls }
     falls (literal w ∷ l) x n h = falls_by l n (literal w ∷ l) (ap (λ z. z.1) (some_is h)) (one_less (literal w) l)
     falls (ident w ∷ l) x n h = falls_by l n (ident w ∷ l) (const_some (is_truth w) (ident w ∷ []) l x n h) (one_less (ident w) l)
     falls (punct c s ∷ literal w ∷ l) x n h =
-        falls_by l n (punct c s ∷ literal w ∷ l) (const_some (c == 45 && is_number w) (punct c s ∷ literal w ∷ []) l x n h) (two_less (punct c s) (literal w) l)
+        falls_by l n (punct c s ∷ literal w ∷ l) (const_some (c == 45 && is_number w) (punct c spacing.Alone ∷ literal w ∷ []) l x n h) (two_less (punct c s) (literal w) l)
     falls (group del.Brace i ∷ l) x n h = falls_by l n (group del.Brace i ∷ l) (ap (λ z. z.1) (some_is h)) (one_less (group del.Brace i) l)
     falls _ x n h = absurd cc
 

@@ -1,10 +1,11 @@
 -- The laws of what is read back, for patterns.
-use Rattle.std.proofs.Common.{◌≡◌, true, false, [], Option, Some, None, refl}
+use Rattle.std.proofs.Common.{◌≡◌, true, false, [], Some, refl}
 use Rattle.syn_parts.specs.Fits.{closed}
 use Rattle.syn_parts.specs.Pat.{PatTree, member, range_bound, pattern, closure_arg}
-use Rattle.syn_parts.specs.Tree.{TypeTree}
+use Rattle.syn_parts.specs.Pat as p
 use Rattle.syn_parts.specs.Mark.{sign_at}
-use Rattle.syn_parts.specs.PatOwn.{closure_arg_own, closure_arg_fits, closure_arg_stops, closure_arg_stops_by, member_own, range_bound_own, pat_own, member_fits, range_bound_fits, range_bound_stops, pat_fits, pat_stops}
+use Rattle.syn_parts.specs.PatOwn.{member_own, range_bound_own, pat_own}
+use Rattle.syn_parts.specs.PatFits.{closure_arg_fits, closure_arg_stops, typed_stops, member_fits, range_bound_fits, range_bound_stops, pat_fits, pat_stops}
 use Rattle.syn_parts.specs.PatLaws.{PatternsAreReadBack, PatternsThatAreReadBackFit, PatternTestsAreExact}
 use Rattle.syn_parts.proofs.Exact.{exact, type_none}
 use Rattle.syn_parts.proofs.PatsBack.{member_back, bound_back, pat_back, closure_arg_back, nil_pat_calm, nil_ends, bound_calm, stops_ends}
@@ -16,15 +17,19 @@ patterns_read_back = record { members = member_back; bounds_of_ranges = bound_ba
 pub patterns_told : PatternsThatAreReadBackFit
 patterns_told = record { members = member_told; bounds_of_ranges = bound_told; patterns = pat_told; closure_args = closure_arg_told }
 
-arg_none : (z : PatTree) (y : Option TypeTree) → closure_arg_stops_by z y [] ≡ true
+typed_none : (z : PatTree) → typed_stops z [] ≡ true
 unfolding sign_at
-arg_none z None = rw (stops_ends false z [] nil_ends) refl
-arg_none z (Some x) = type_none true x
+typed_none (p.typed z x) = type_none true x
+typed_none z = rw (stops_ends false z [] nil_ends) refl
+
+arg_none : (z : PatTree) → closure_arg_stops z [] ≡ true
+arg_none (p.attributed a xs z) = typed_none z
+arg_none z = typed_none z
 
 pub pattern_tests_exact : PatternTestsAreExact
 pattern_tests_exact = record {
   members = exact member member_own member_fits closed member_told (λ k r f c. member_back k r f) (λ k. refl);
   bounds_of_ranges = exact range_bound range_bound_own range_bound_fits (λ b. range_bound_stops (Some b)) bound_told bound_back (λ b. bound_calm [] nil_pat_calm (Some b));
   patterns = λ s. exact (pattern s) pat_own (pat_fits s) (pat_stops s) (pat_told s) (pat_back s) (λ z. stops_ends s z [] nil_ends);
-  closure_args = exact closure_arg closure_arg_own closure_arg_fits closure_arg_stops closure_arg_told closure_arg_back (λ a. arg_none a.pat a.ty);
+  closure_args = exact closure_arg pat_own closure_arg_fits closure_arg_stops closure_arg_told closure_arg_back arg_none;
 }

@@ -10,10 +10,10 @@ use Rattle.syn_parts.specs.declared.label.PathStyle.TheVariants as style
 use Rattle.syn_parts.specs.Text.{Text}
 use Rattle.syn_parts.specs.Tree as t
 use Rattle.syn_parts.specs.Tree.{LitTree, AttributeTree, PathTree, TypeTree}
-use Rattle.syn_parts.specs.Form.{Form, then_by, both, joined, more, flag}
-use Rattle.syn_parts.specs.Mark.{sign_at}
-use Rattle.syn_parts.specs.Part.{qpath, type, QPathTree}
-use Rattle.syn_parts.specs.Pat.{MemberTree, PatBound, PatTree, SubPat, Pats, Fields, FieldTree, FieldPatTree, PathEnd, ClosureArgTree}
+use Rattle.syn_parts.specs.Form.{Form, then_by, both, joined, more, flag, mark, maybe}
+use Rattle.syn_parts.specs.Mark.{sign_at, colon}
+use Rattle.syn_parts.specs.Part.{outer_attributes, qpath, type, QPathTree}
+use Rattle.syn_parts.specs.Pat.{MemberTree, PatBound, PatTree, SubPat, Pats, Fields, FieldTree, FieldPatTree, PathEnd}
 use Rattle.syn_parts.specs.Pat as p
 use Rattle.syn_parts.proofs.Weights.{some_is}
 use Rattle.syn_parts.proofs.Marks.{marks, begins_in_front, sign_present, word_present, underscore_present, constant_present, and_present}
@@ -279,10 +279,7 @@ path_back (p.range (Some (p.lit_bound z)) c e) x h = absurd cc
 path_back (p.range None c e) x h = absurd cc
 path_back _ x h = absurd cc
 
-sees_closure_arg : Sees p.to_closure_arg p.from_closure_arg
-sees_closure_arg = record { there = λ x. refl; back = λ y x h. ap p.to_closure_arg (sym (some_is h)) }
-
-ruleset pat_views = (sees_lit_bound, sees_path_bound, sees_end, only_wild, sees_open, sees_lit, sees_sub, only_no_sub, sees_binding, sees_reference, sees_block, sees_slice, sees_round, sees_short, sees_full, sees_field, only_no_more, sees_mac_end, sees_struct_end, sees_tuple_end, sees_range_more, sees_closure_arg)
+ruleset pat_views = (sees_lit_bound, sees_path_bound, sees_end, only_wild, sees_open, sees_lit, sees_sub, only_no_sub, sees_binding, sees_reference, sees_block, sees_slice, sees_round, sees_short, sees_full, sees_field, only_no_more, sees_mac_end, sees_struct_end, sees_tuple_end, sees_range_more)
 
 -- ---- ranges
 
@@ -385,6 +382,19 @@ module _ {k : ℕ} {pattern pattern' : Bool → Form PatTree} (again : (b : Bool
   unfolding p.single p.reference_pat p.round_pat p.slice_pat p.binding p.path_pat
   or_refused b ps e = search (when_refuses, mark_refuses, inside_refuses, shown_refuses, pure_refuses) depth 16
 
+  -- nor a guard, a type or attributes
+  pub guarded_refused : (z : PatTree) → Refuses (p.single pattern) (p.guarded z)
+  unfolding p.single p.reference_pat p.round_pat p.slice_pat p.binding p.path_pat
+  guarded_refused z = search (when_refuses, mark_refuses, inside_refuses, shown_refuses, pure_refuses) depth 16
+
+  pub typed_refused : (z : PatTree) (x : TypeTree) → Refuses (p.single pattern) (p.typed z x)
+  unfolding p.single p.reference_pat p.round_pat p.slice_pat p.binding p.path_pat
+  typed_refused z x = search (when_refuses, mark_refuses, inside_refuses, shown_refuses, pure_refuses) depth 16
+
+  pub attributed_refused : (a : AttributeTree) (xs : List AttributeTree) (z : PatTree) → Refuses (p.single pattern) (p.attributed a xs z)
+  unfolding p.single p.reference_pat p.round_pat p.slice_pat p.binding p.path_pat
+  attributed_refused a xs z = search (when_refuses, mark_refuses, inside_refuses, shown_refuses, pure_refuses) depth 16
+
   multi_alike : Alike (suc k) (p.multi pattern) (p.multi pattern')
   unfolding p.multi
   multi_alike = shown_where_alike there back (both_alike (flag_at_alike vert_present) (joined_alike vert_present single_alike))
@@ -435,6 +445,52 @@ pub pattern_is : (b : Bool) (l : List Tok) → (p.pattern b).reads l ≡ (p.at_w
 unfolding p.pattern
 pattern_is b l = fix_is pattern_steps b l
 
+-- ---- arguments of closures
+
+pub single_opens : (z : PatTree) (l n : List Tok) → (p.pattern false).behind z l ≡ Some n → (p.single p.pattern).behind z l ≡ Some n
+unfolding p.at_width
+single_opens z l n h =
+    let f = pattern_alike {k = 0} false in
+    let a = width_alike {k = 0} pattern_alike false in
+    a.sound l z n (sym (pattern_is false l) ∙ f.complete l z n h)
+
+-- neither a type nor attributes stand round the pattern of an argument
+from_bare : (z : PatTree) (l n : List Tok) → (p.pattern false).behind z l ≡ Some n → p.from_closure_arg z ≡ Some ([], (z, None))
+from_bare (p.typed z x) l n h = let r = typed_refused {k = 0} pattern_alike z x in absurd (r.refuses l n (single_opens (p.typed z x) l n h))
+from_bare (p.attributed a xs z) l n h = let r = attributed_refused {k = 0} pattern_alike a xs z in absurd (r.refuses l n (single_opens (p.attributed a xs z) l n h))
+from_bare _ l n h = refl
+
+from_untyped : (z : PatTree) (l n : List Tok) → (p.pattern false).behind z l ≡ Some n → p.from_typed z ≡ (z, None)
+from_untyped (p.typed z x) l n h = let r = typed_refused {k = 0} pattern_alike z x in absurd (r.refuses l n (single_opens (p.typed z x) l n h))
+from_untyped _ l n h = refl
+
+typed_is : (z : PatTree) → p.to_typed (p.from_typed z).0 (p.from_typed z).1 ≡ z
+typed_is (p.typed z x) = refl
+typed_is _ = refl
+
+-- attributes, a single pattern, and perhaps `:` and a type
+abbrev pub arg_pieces : Form (List AttributeTree × (PatTree × Option TypeTree))
+arg_pieces = both outer_attributes (both (p.pattern false) (maybe colon.at (mark colon (type true))))
+
 pub closure_arg_alike : {k : ℕ} → Alike k p.closure_arg p.closure_arg
 unfolding p.closure_arg
-closure_arg_alike = search (pattern_alike, types_alike, pat_forms, pat_marks, pat_views) depth 12
+closure_arg_alike = shown_where_alike there back pieces_alike
+  where
+    pieces_alike : {k : ℕ} → Alike k arg_pieces arg_pieces
+    pieces_alike = search (pattern_alike, types_alike, pat_forms, pat_marks, pat_views) depth 12
+
+    there : (l : List Tok) (x : List AttributeTree × (PatTree × Option TypeTree)) (n : List Tok) → arg_pieces.behind x l ≡ Some n → p.from_closure_arg (p.to_closure_arg x) ≡ Some x
+    there l ([], (z, Some x)) n h = refl
+    there l (a ∷ xs, (z, Some x)) n h = refl
+    there l ([], (z, None)) n h =
+        let (m, i, j) = behind_some (outer_attributes.behind [] l) ((both (p.pattern false) (maybe colon.at (mark colon (type true)))).behind (z, None)) n h in
+        let (o, g, q) = behind_some ((p.pattern false).behind z m) ((maybe colon.at (mark colon (type true))).behind None) n j in
+        from_bare z m o g
+    there l (a ∷ xs, (z, None)) n h =
+        let (m, i, j) = behind_some (outer_attributes.behind (a ∷ xs) l) ((both (p.pattern false) (maybe colon.at (mark colon (type true)))).behind (z, None)) n h in
+        let (o, g, q) = behind_some ((p.pattern false).behind z m) ((maybe colon.at (mark colon (type true))).behind None) n j in
+        ap (λ y. Some (a ∷ xs, y)) (from_untyped z m o g)
+
+    back : (y : PatTree) (x : List AttributeTree × (PatTree × Option TypeTree)) → p.from_closure_arg y ≡ Some x → p.to_closure_arg x ≡ y
+    back (p.attributed a xs z) x h = ap p.to_closure_arg (sym (some_is h)) ∙ ap (p.attributed a xs) (typed_is z)
+    back z x h = ap p.to_closure_arg (sym (some_is h)) ∙ typed_is z

@@ -2,7 +2,7 @@
 use Rattle.std.proofs.Common.{◌≡◌, ℕ, Bool, true, false, not, ◌&&◌, ◌||◌, ◌==◌, cond, List, [], ◌∷◌, Option, Some, None, refl, ap, sym, ◌∙◌, subst, codes, arith}
 use Rattle.std.proofs.lemmas.Bool.Decides.{nat_tests}
 use Rattle.std.proofs.lemmas.Slice.Eq.{bytes_eq-Decides}
-use Rattle.std.specs.Fmt.{decimal}
+use Rattle.syn_parts.specs.PatOwn.{index_text}
 use Rattle.std.specs.Str.{bytes_eq}
 use Rattle.syn_lexer.specs.Keywords.{is_reserved_word}
 use Rattle.syn_lexer.specs.declared.lexeme.Delimiter.TheVariants as del
@@ -21,11 +21,12 @@ use Rattle.syn_parts.specs.Form as form
 use Rattle.syn_parts.specs.Mark.{pound, sign_at, word_at, brace_at, round_at, comma, colon, colon2, not_ne, mutable}
 use Rattle.syn_parts.specs.Part.{angle_at, turbofish_at, lit, is_lit_there, qpath, type, MacroTree, has_none, segments_bare, outer_attributes, outer_body}
 use Rattle.syn_parts.specs.Own.{type_own, block_own, alone, before_if, before_some, comma_before, colon2_before, enclosed, separated, elements_own, lit_own, number_own, attribute_own, path_own, qualified_own, macro_own, segments_own, arguments_own, no_more_segments}
-use Rattle.syn_parts.specs.Fits.{fits_if, type_fits, lit_fits, number_fits, has_kind, path_fits, path_stops, qpath_fits, is_macro_delimiter, ends_well, segments_fit, segments_stop, arguments_fit, arguments_stop, goes_over}
+use Rattle.syn_parts.specs.Fits.{fits_if, type_fits, type_stops, lit_fits, number_fits, has_kind, path_fits, path_stops, qpath_fits, is_macro_delimiter, ends_well, segments_fit, segments_stop, arguments_fit, arguments_stop, goes_over}
 use Rattle.syn_parts.specs.Laws.{PartsAreReadBack}
 use Rattle.syn_parts.specs.Pat as p
 use Rattle.syn_parts.specs.Pat.{MemberTree, PatBound, PatTree, SubPat, Pats, Fields, FieldTree, FieldPatTree}
 use Rattle.syn_parts.specs.PatOwn as o
+use Rattle.syn_parts.specs.PatFits as test
 use Rattle.syn_parts.proofs.Same.{both_true, not_true}
 use Rattle.syn_parts.proofs.ReadBack.{Commas, no_element, element, Joins, no_join, join, next_own, listed_back, joined_back, kept_bracket_back, text_same, name_back, lit_back, block_back}
 use Rattle.syn_parts.proofs.Behind.{Calm, nil_calm, comma_calm, or_true, segments_calm}
@@ -36,7 +37,7 @@ use Rattle.syn_parts.proofs.PatWhole.{spelled_by_kind}
 use Rattle.syn_parts.proofs.Marks.{pound_present}
 use Rattle.syn_parts.proofs.Forms.{Alike, weaker, more_stands}
 use Rattle.syn_parts.proofs.Parts.{outer_body_alike}
-use Rattle.syn_parts.proofs.Pats.{pattern_alike, single_alike, field_alike, vert_present}
+use Rattle.syn_parts.proofs.Pats.{pattern_alike, single_alike, field_alike, vert_present, arg_pieces}
 
 -- ---- nothing behind goes on with a pattern
 
@@ -74,21 +75,21 @@ module _ (r : List Tok) (c : PatCalm r) where
   no_goes_on : p.goes_on r ≡ false
   no_goes_on = let k = c.calm in rw (k.no_colon2, k.no_bang, c.no_brace, k.no_round, c.no_dots) refl
 
-  pub bound_calm : (e : Option PatBound) → o.range_bound_stops e r ≡ true
+  pub bound_calm : (e : Option PatBound) → test.range_bound_stops e r ≡ true
   bound_calm None = rw c.no_bound refl
   bound_calm (Some (p.lit_bound x)) = refl
   bound_calm (Some (p.path_bound q z)) = path_calm style.Expr z
 
-  path_pat_calm : (q : QSelfTree) (z : PathTree) → o.path_pat_stops q z r ≡ true
+  path_pat_calm : (q : QSelfTree) (z : PathTree) → test.path_pat_stops q z r ≡ true
   path_pat_calm t.no_qself z = let k = c.calm in rw (k.no_bang, and_false (segments_bare z.segments), c.no_brace, k.no_round) refl
   path_pat_calm (t.qself x n a) z = refl
 
-  bare_calm : (s : SubPat) → o.not_bare s r ≡ true
+  bare_calm : (s : SubPat) → test.not_bare s r ≡ true
   bare_calm p.no_sub = rw no_goes_on refl
   bare_calm (p.sub z) = refl
 
   mutual
-    pub single_calm : (z : PatTree) → o.single_stops z r ≡ true
+    pub single_calm : (z : PatTree) → test.single_stops z r ≡ true
     single_calm p.wild = refl
     single_calm p.rest = rw c.no_bound refl
     single_calm (p.range s d e) = bound_calm e
@@ -104,12 +105,15 @@ module _ (r : List Tok) (c : PatCalm r) where
     single_calm (p.a_reference m z) = single_calm z
     single_calm (p.a_block ts) = refl
     single_calm (p.alternatives l ps e) = or_calm ps
+    single_calm (p.guarded z) = refl
+    single_calm (p.typed z x) = refl
+    single_calm (p.attributed a xs z) = refl
 
-    sub_calm : (s : SubPat) → o.sub_stops s r ≡ true
+    sub_calm : (s : SubPat) → test.sub_stops s r ≡ true
     sub_calm p.no_sub = rw c.no_at refl
     sub_calm (p.sub z) = single_calm z
 
-    or_calm : (ps : Pats) → o.or_stops ps r ≡ true
+    or_calm : (ps : Pats) → test.or_stops ps r ≡ true
     or_calm p.no_pats = refl
     or_calm (p.more_pats z p.no_pats) = single_calm z
     or_calm (p.more_pats z (p.more_pats w ps)) = or_calm (p.more_pats w ps)
@@ -209,12 +213,12 @@ path_bound_seen by_less = refl
 read_back : PartsAreReadBack
 read_back = parts_read_back
 
-pub bound_back : (b : PatBound) (r : List Tok) → o.range_bound_fits b ≡ true → o.range_bound_stops (Some b) r ≡ true → p.range_bound.behind b (o.range_bound_own b r) ≡ Some r
+pub bound_back : (b : PatBound) (r : List Tok) → test.range_bound_fits b ≡ true → test.range_bound_stops (Some b) r ≡ true → p.range_bound.behind b (o.range_bound_own b r) ≡ Some r
 unfolding p.range_bound
 bound_back (p.lit_bound x) r f s = rw (lit_seen (lit_begins x r f)) (lit_back x r f)
 bound_back (p.path_bound q z) r f s = rw (path_no_lit (path_starts style.Expr q z.leading z.trailing z.segments r f)) (read_back.qualified_paths style.Expr (q, z) r f s)
 
-bound_seen : (b : PatBound) (r : List Tok) → o.range_bound_fits b ≡ true → p.bound_at (o.range_bound_own b r) ≡ true
+bound_seen : (b : PatBound) (r : List Tok) → test.range_bound_fits b ≡ true → p.bound_at (o.range_bound_own b r) ≡ true
 bound_seen (p.lit_bound x) r f = lit_bound_seen (lit_begins x r f)
 bound_seen (p.path_bound q z) r f = path_bound_seen (path_starts style.Expr q z.leading z.trailing z.segments r f)
 
@@ -223,7 +227,7 @@ unfolding p.limits sign_at
 limits_back true l = refl
 limits_back false l = refl
 
-end_back : (c : Bool) (e : Option PatBound) (r : List Tok) → o.bound_or (not c) e ≡ true → o.range_bound_stops e r ≡ true → p.range_end.behind (c, e) (o.limits_before c (before_some e o.range_bound_own r)) ≡ Some r
+end_back : (c : Bool) (e : Option PatBound) (r : List Tok) → test.bound_or (not c) e ≡ true → test.range_bound_stops e r ≡ true → p.range_end.behind (c, e) (o.limits_before c (before_some e o.range_bound_own r)) ≡ Some r
 unfolding p.range_end
 end_back true None r f s = absurd cc
 end_back true (Some b) r f s = rw (limits_back true (o.range_bound_own b r)) (bound_back b r f s)
@@ -262,7 +266,7 @@ module _ (r : List Tok) where
   rest_step : p.bound_at r ≡ false → (p.single p.pattern).behind p.rest (o.limits_before false r) ≡ Some r
   rest_step h = dots_single p.rest false r ∙ end_back false None r refl (rw h refl)
 
-  open_step : (c : Bool) (e : Option PatBound) → o.range_fits None c e ≡ true → o.range_bound_stops e r ≡ true
+  open_step : (c : Bool) (e : Option PatBound) → test.range_fits None c e ≡ true → test.range_bound_stops e r ≡ true
       → (p.single p.pattern).behind (p.range None c e) (o.limits_before c (before_some e o.range_bound_own r)) ≡ Some r
   open_step false None f s = absurd cc
   open_step false (Some b) f s = dots_single (p.range None false (Some b)) false (o.range_bound_own b r) ∙ end_back false (Some b) r f s
@@ -272,7 +276,7 @@ module _ (r : List Tok) where
   lit_step : (x : LitTree) → lit_fits x ≡ true → p.dots.at r ≡ false → (p.single p.pattern).behind (p.a_lit x) (lit_own x r) ≡ Some r
   lit_step x f s = lit_single (p.a_lit x) (lit_begins x r f) ∙ rw (lit_back x r f, s) refl
 
-  lit_range_step : (x : LitTree) (c : Bool) (e : Option PatBound) → lit_fits x ≡ true → o.bound_or (not c) e ≡ true → o.range_bound_stops e r ≡ true
+  lit_range_step : (x : LitTree) (c : Bool) (e : Option PatBound) → lit_fits x ≡ true → test.bound_or (not c) e ≡ true → test.range_bound_stops e r ≡ true
       → (p.single p.pattern).behind (p.range (Some (p.lit_bound x)) c e) (lit_own x (o.limits_before c (before_some e o.range_bound_own r))) ≡ Some r
   lit_range_step x c e f g s =
       lit_single (p.range (Some (p.lit_bound x)) c e) (lit_begins x (o.limits_before c (before_some e o.range_bound_own r)) f)
@@ -282,11 +286,11 @@ module _ (r : List Tok) where
   unfolding p.single word_at block_own
   block_step ts = block_back ts r
 
-  reference_step : (m : Bool) (z : PatTree) (l : List Tok) → (m || not (o.begins_mut z)) ≡ true → (o.begins_mut z ≡ false → mutable.at l ≡ false) → (p.pattern false).behind z l ≡ Some r
+  reference_step : (m : Bool) (z : PatTree) (l : List Tok) → (m || not (test.begins_mut z)) ≡ true → (test.begins_mut z ≡ false → mutable.at l ≡ false) → (p.pattern false).behind z l ≡ Some r
       → (p.single p.pattern).behind (p.a_reference m z) (alone 38 ∷ o.word_if m (codes "mut") l) ≡ Some r
   unfolding p.single p.reference_pat sign_at word_at
   reference_step true z l f n h = h
-  reference_step false z l f n h = rw (n (not_true (o.begins_mut z) f)) h
+  reference_step false z l f n h = rw (n (not_true (test.begins_mut z) f)) h
 
   round_step : (z : PatTree) (ps : List PatTree) (e : Bool) (ts : List Tok) → p.from_round z ≡ Some (ps, e) → (listed comma is_empty (p.pattern true)).behind (ps, e) ts ≡ Some []
       → (p.single p.pattern).behind z (enclosed del.Parenthesis ts r) ≡ Some r
@@ -415,7 +419,7 @@ one_no_binding r (t.round xs e d) w f k =
     let z : false ≡ true = m in
     absurd cc
 
-segments_no_binding : (xs : List SegmentTree) (r : List Tok) → segments_fit 0 style.Expr (t.segments_of xs) ≡ true → no_more_segments (t.segments_of xs) ≡ false → (not (o.is_name_alone false xs) || p.goes_on r) ≡ true
+segments_no_binding : (xs : List SegmentTree) (r : List Tok) → segments_fit 0 style.Expr (t.segments_of xs) ≡ true → no_more_segments (t.segments_of xs) ≡ false → (not (test.is_name_alone false xs) || p.goes_on r) ≡ true
     → p.binding_at (segments_own 0 (t.segments_of xs) false r) ≡ false
 segments_no_binding [] r f h k = absurd cc
 segments_no_binding (s ∷ []) r f h k = one_no_binding r s.arguments s.ident f k
@@ -427,7 +431,7 @@ segments_no_binding (s ∷ u ∷ xs) r f h k =
     word_no_binding s.ident (arguments_own s.arguments (colon2_before l)) g (goes_no_binding s.ident (arguments_own s.arguments (colon2_before l)) (next_goes s.arguments l n))
 
 pub path_no_binding : (q : QSelfTree) (l e : Bool) (xs : List SegmentTree) (r : List Tok) → qpath_fits style.Expr (q, record { leading = l; segments = xs; trailing = e }) ≡ true
-    → (not (o.is_one_name q (record { leading = l; segments = xs; trailing = e })) || p.goes_on r) ≡ true → p.binding_at (qualified_own (q, record { leading = l; segments = xs; trailing = e }) r) ≡ false
+    → (not (test.is_one_name q (record { leading = l; segments = xs; trailing = e })) || p.goes_on r) ≡ true → p.binding_at (qualified_own (q, record { leading = l; segments = xs; trailing = e }) r) ≡ false
 unfolding p.binding_at word_at
 path_no_binding q l true xs r f k = absurd cc
 path_no_binding (t.qself x n a) l false xs r f k = refl
@@ -560,26 +564,26 @@ bare_path z r f h c =
 
 module _ (r : List Tok) where
   -- a path alone
-  path_step : (q : QSelfTree) (z : PathTree) → qpath_fits style.Expr (q, z) ≡ true → not (o.is_one_name q z) ≡ true → path_stops style.Expr z r ≡ true → p.dots.at r ≡ false → o.path_pat_stops q z r ≡ true
+  path_step : (q : QSelfTree) (z : PathTree) → qpath_fits style.Expr (q, z) ≡ true → not (test.is_one_name q z) ≡ true → path_stops style.Expr z r ≡ true → p.dots.at r ≡ false → test.path_pat_stops q z r ≡ true
       → (p.single p.pattern).behind (p.a_path q z) (qualified_own (q, z) r) ≡ Some r
   unfolding p.path_pat p.path_end
   path_step q z f k s d e =
       path_single (p.a_path q z) (path_starts style.Expr q z.leading z.trailing z.segments r f) (path_no_binding q z.leading z.trailing z.segments r f (rw k refl))
       ∙ rw (read_back.qualified_paths style.Expr (q, z) r f s) (ended q e)
     where
-      ended : (q : QSelfTree) → o.path_pat_stops q z r ≡ true → (p.path_end p.pattern (q, z)).behind p.no_more r ≡ Some r
+      ended : (q : QSelfTree) → test.path_pat_stops q z r ≡ true → (p.path_end p.pattern (q, z)).behind p.no_more r ≡ Some r
       ended t.no_qself e =
           let (a, b) = both_true (not (segments_bare z.segments && not_ne.at r)) _ e in
           let (g, h) = both_true (not (brace_at r)) (not (round_at r)) b in
           rw (not_true (segments_bare z.segments && not_ne.at r) a, not_true (brace_at r) g, not_true (round_at r) h, d) refl
       ended (t.qself x n a) e = rw d refl
 
-  range_step : (q : QSelfTree) (z : PathTree) (c : Bool) (e : Option PatBound) → qpath_fits style.Expr (q, z) ≡ true → o.bound_or (not c) e ≡ true → o.range_bound_stops e r ≡ true
+  range_step : (q : QSelfTree) (z : PathTree) (c : Bool) (e : Option PatBound) → qpath_fits style.Expr (q, z) ≡ true → test.bound_or (not c) e ≡ true → test.range_bound_stops e r ≡ true
       → (p.single p.pattern).behind (p.range (Some (p.path_bound q z)) c e) (qualified_own (q, z) (o.limits_before c (before_some e o.range_bound_own r))) ≡ Some r
   unfolding p.path_pat p.path_end
   range_step q z c e f g s =
       path_single (p.range (Some (p.path_bound q z)) c e) (path_starts style.Expr q z.leading z.trailing z.segments (o.limits_before c (before_some e o.range_bound_own r)) f)
-      (path_no_binding q z.leading z.trailing z.segments (o.limits_before c (before_some e o.range_bound_own r)) f (rw (dots_go c (before_some e o.range_bound_own r)) (or_true (not (o.is_one_name q z)))))
+      (path_no_binding q z.leading z.trailing z.segments (o.limits_before c (before_some e o.range_bound_own r)) f (rw (dots_go c (before_some e o.range_bound_own r)) (or_true (not (test.is_one_name q z)))))
       ∙ rw (read_back.qualified_paths style.Expr (q, z) (o.limits_before c (before_some e o.range_bound_own r)) f (dots_stop c (before_some e o.range_bound_own r) z)) (more q)
     where
       more : (q : QSelfTree) → (p.path_end p.pattern (q, z)).behind (p.range_more c e) (o.limits_before c (before_some e o.range_bound_own r)) ≡ Some r
@@ -591,7 +595,7 @@ module _ (r : List Tok) where
   unfolding p.path_pat p.path_end
   mac_step m f b g =
       path_single (p.a_mac m) (path_starts style.Expr t.no_qself m.path.leading m.path.trailing m.path.segments (alone 33 ∷ enclosed m.delimiter m.tokens r) f)
-      (path_no_binding t.no_qself m.path.leading m.path.trailing m.path.segments (alone 33 ∷ enclosed m.delimiter m.tokens r) f (rw (bang_goes (enclosed m.delimiter m.tokens r)) (or_true (not (o.is_one_name t.no_qself m.path)))))
+      (path_no_binding t.no_qself m.path.leading m.path.trailing m.path.segments (alone 33 ∷ enclosed m.delimiter m.tokens r) f (rw (bang_goes (enclosed m.delimiter m.tokens r)) (or_true (not (test.is_one_name t.no_qself m.path)))))
       ∙ rw (bare_path m.path (alone 33 ∷ enclosed m.delimiter m.tokens r) f (bang_no_turbofish (enclosed m.delimiter m.tokens r)) (bang_no_colon2 (enclosed m.delimiter m.tokens r)), b, bang_seen (enclosed m.delimiter m.tokens r)) (group_back m.delimiter m.tokens r g)
 
   struct_step : (z : PathTree) (fs : Fields) (e d : Bool) (ts : List Tok) → path_fits style.Expr z ≡ true → (p.struct_inside p.pattern).behind ((p.fields fs, e), d) ts ≡ Some []
@@ -599,7 +603,7 @@ module _ (r : List Tok) where
   unfolding p.path_pat p.path_end
   struct_step z fs e d ts f h =
       path_single (p.a_struct z fs e d) (path_starts style.Expr t.no_qself z.leading z.trailing z.segments (enclosed del.Brace ts r) f)
-      (path_no_binding t.no_qself z.leading z.trailing z.segments (enclosed del.Brace ts r) f (rw (brace_goes ts r) (or_true (not (o.is_one_name t.no_qself z)))))
+      (path_no_binding t.no_qself z.leading z.trailing z.segments (enclosed del.Brace ts r) f (rw (brace_goes ts r) (or_true (not (test.is_one_name t.no_qself z)))))
       ∙ rw (bare_path z (enclosed del.Brace ts r) f (brace_no_turbofish ts r) (brace_no_colon2 ts r), brace_no_bang ts r, and_false (segments_bare z.segments), brace_seen ts r) (brace_inside ts r fs e d h)
 
   tuple_struct_step : (z : PathTree) (ps : Pats) (e : Bool) (ts : List Tok) → path_fits style.Expr z ≡ true → (listed comma is_empty (p.pattern true)).behind (p.pats ps, e) ts ≡ Some []
@@ -607,7 +611,7 @@ module _ (r : List Tok) where
   unfolding p.path_pat p.path_end
   tuple_struct_step z ps e ts f h =
       path_single (p.tuple_struct z ps e) (path_starts style.Expr t.no_qself z.leading z.trailing z.segments (enclosed del.Parenthesis ts r) f)
-      (path_no_binding t.no_qself z.leading z.trailing z.segments (enclosed del.Parenthesis ts r) f (rw (round_goes ts r) (or_true (not (o.is_one_name t.no_qself z)))))
+      (path_no_binding t.no_qself z.leading z.trailing z.segments (enclosed del.Parenthesis ts r) f (rw (round_goes ts r) (or_true (not (test.is_one_name t.no_qself z)))))
       ∙ rw (bare_path z (enclosed del.Parenthesis ts r) f (round_no_turbofish ts r) (round_no_colon2 ts r), round_no_bang ts r, and_false (segments_bare z.segments), round_no_brace ts r, round_seen ts r) (round_inside ts r ps e h)
 
 -- ---- attributes and fields
@@ -628,11 +632,11 @@ attribute_step a more' l m h i = by_style a.inner a.tokens h
     by_style true ts e = absurd cc
     by_style false ts e = more_stands pound outer_body pound_present (λ k. outer_body_alike) (record { inner = false; tokens = ts } ∷ more') _ m (rw (kept_bracket_back ts l) i)
 
-pub attributes_back : (xs : List AttributeTree) (l : List Tok) → o.attributes_outer xs ≡ true → pound.at l ≡ false → outer_attributes.behind xs (o.attributes_own xs l) ≡ Some l
+pub attributes_back : (xs : List AttributeTree) (l : List Tok) → test.attributes_outer xs ≡ true → pound.at l ≡ false → outer_attributes.behind xs (o.attributes_own xs l) ≡ Some l
 unfolding outer_attributes
 attributes_back [] l f h = more_stands pound outer_body pound_present (λ k. outer_body_alike) [] l l (rw h refl)
 attributes_back (a ∷ xs) l f h =
-    let (g, i) = both_true (not a.inner) (o.attributes_outer xs) f in
+    let (g, i) = both_true (not a.inner) (test.attributes_outer xs) f in
     attribute_step a xs (o.attributes_own xs l) l (not_true a.inner g) (attributes_back xs l i h)
 
 field_pound : (f : FieldTree) (l : List Tok) → pound.at (o.field_own f l) ≡ false
@@ -640,7 +644,7 @@ field_pound (p.short true m w) l = no_pound_word (codes "ref") _
 field_pound (p.short false true w) l = no_pound_word (codes "mut") _
 field_pound (p.short false false w) l = no_pound_word w l
 field_pound (p.full (p.a_name w) z) l = no_pound_word w _
-field_pound (p.full (p.an_index n) z) l = no_pound_literal (decimal n) _
+field_pound (p.full (p.an_index n) z) l = no_pound_literal (index_text n) _
 
 -- behind a shorthand's name stands no single `:`
 short_not_full : (b m : Bool) (w : Text) (l : List Tok) → colon.at l ≡ false → p.full_at (o.field_own (p.short b m w) l) ≡ false
@@ -649,30 +653,30 @@ short_not_full true m w l h = refl
 short_not_full false true w l h = refl
 short_not_full false false w l h = rw h (and_false _)
 
-full_seen : (k : MemberTree) (z : PatTree) (l : List Tok) → o.member_fits k ≡ true → p.full_at (o.member_own k (alone 58 ∷ l)) ≡ true
+full_seen : (k : MemberTree) (z : PatTree) (l : List Tok) → test.member_fits k ≡ true → p.full_at (o.member_own k (alone 58 ∷ l)) ≡ true
 unfolding p.full_at sign_at
 full_seen (p.a_name w) z l h = rw h refl
 full_seen (p.an_index n) z l h = refl
 
-same_is : (q : Option ℕ) (n : ℕ) → o.same_index q n ≡ true → q ≡ Some n
+same_is : (q : Option ℕ) (n : ℕ) → test.same_index q n ≡ true → q ≡ Some n
 same_is None n h = absurd cc
 same_is (Some m) n h = let e : m ≡ n = grind (arith, nat_tests, h) in ap Some e
 
-pub member_back : (k : MemberTree) (l : List Tok) → o.member_fits k ≡ true → p.member.behind k (o.member_own k l) ≡ Some l
+pub member_back : (k : MemberTree) (l : List Tok) → test.member_fits k ≡ true → p.member.behind k (o.member_own k l) ≡ Some l
 unfolding p.member
 member_back (p.a_name w) l h = rw (h, text_same w) refl
-member_back (p.an_index n) l h = let e : n == n ≡ true = grind (arith, nat_tests) in rw (same_is (p.index_of (decimal n)) n h, e) refl
+member_back (p.an_index n) l h = let e : n == n ≡ true = grind (arith, nat_tests) in rw (same_is (p.index_of (index_text n)) n h, e) refl
 
 abbrev pub pat_field_own : FieldPatTree → List Tok → List Tok
 pat_field_own f l = o.attributes_own f.attrs (o.field_own f.field l)
 
-short_step : (xs : List AttributeTree) (b m : Bool) (w : Text) (l : List Tok) → o.attributes_outer xs ≡ true → is_reserved_word w ≡ false → colon.at l ≡ false
+short_step : (xs : List AttributeTree) (b m : Bool) (w : Text) (l : List Tok) → test.attributes_outer xs ≡ true → is_reserved_word w ≡ false → colon.at l ≡ false
     → (p.field p.pattern).behind (record { attrs = xs; field = p.short b m w }) (pat_field_own (record { attrs = xs; field = p.short b m w }) l) ≡ Some l
 unfolding p.field
 short_step xs b m w l f h c =
     rw (attributes_back xs (o.field_own (p.short b m w) l) f (field_pound (p.short b m w) l), short_not_full b m w l c, ref_piece b m w l h, mut_piece m w l h, name_back w l (rw h refl)) refl
 
-full_step : (xs : List AttributeTree) (k : MemberTree) (z : PatTree) (m l : List Tok) → o.attributes_outer xs ≡ true → o.member_fits k ≡ true → (p.pattern true).behind z m ≡ Some l
+full_step : (xs : List AttributeTree) (k : MemberTree) (z : PatTree) (m l : List Tok) → test.attributes_outer xs ≡ true → test.member_fits k ≡ true → (p.pattern true).behind z m ≡ Some l
     → (p.field p.pattern).behind (record { attrs = xs; field = p.full k z }) (o.attributes_own xs (o.member_own k (alone 58 ∷ m))) ≡ Some l
 unfolding p.field sign_at
 full_step xs k z m l f h i =
@@ -680,7 +684,7 @@ full_step xs k z m l f h i =
   where
     member_pound : (k : MemberTree) (l : List Tok) → pound.at (o.member_own k l) ≡ false
     member_pound (p.a_name w) l = no_pound_word w l
-    member_pound (p.an_index n) l = no_pound_literal (decimal n) l
+    member_pound (p.an_index n) l = no_pound_literal (index_text n) l
 
 -- no field ends the list
 attributes_stop : (xs : List AttributeTree) (l : List Tok) → p.fields_stop l ≡ false → p.fields_stop (o.attributes_own xs l) ≡ false
@@ -799,7 +803,7 @@ as_width : (b : Bool) (z : PatTree) (l r : List Tok) → is_or z ≡ false → p
 as_width false z l r h v w i = is_single z l r i
 as_width true z l r h v w i = multi_is z l r (multi_one z l r h v (not_true (p.vert.at r) w) i)
 
-or_by_is : (l : Bool) (ps : Pats) → (l || not (o.is_one_pat ps)) ≡ true → o.no_more_pats ps ≡ false → p.or_by l (p.pats ps) ≡ Some (l, p.pats ps)
+or_by_is : (l : Bool) (ps : Pats) → (l || not (test.is_one_pat ps)) ≡ true → o.no_more_pats ps ≡ false → p.or_by l (p.pats ps) ≡ Some (l, p.pats ps)
 or_by_is true ps h k = refl
 or_by_is false p.no_pats h k = refl
 or_by_is false (p.more_pats z p.no_pats) h k = absurd cc
@@ -816,7 +820,7 @@ or_joined (p.more_pats z ps) r h v j =
     subst (λ l. (joined p.vert (p.single p.pattern)).behind (p.pats (p.more_pats z ps)) l ≡ Some r) (sym (or_elements (p.more_pats z ps) r))
     (joined_back p.vert (p.single p.pattern) o.pat_own o.vert_before vert_present single_whole vert_seen (λ l. refl) r v z (p.pats ps) j)
 
-or_step : (l : Bool) (ps : Pats) (r : List Tok) → (l || not (o.is_one_pat ps)) ≡ true → o.no_more_pats ps ≡ false → p.vert.at (o.or_own ps false r) ≡ false → p.vert.at r ≡ false
+or_step : (l : Bool) (ps : Pats) (r : List Tok) → (l || not (test.is_one_pat ps)) ≡ true → o.no_more_pats ps ≡ false → p.vert.at (o.or_own ps false r) ≡ false → p.vert.at r ≡ false
     → Joins (p.single p.pattern) o.pat_own o.vert_before r (p.pats ps) → (p.multi p.pattern).behind (p.alternatives l ps false) (before_if l o.vert_before (o.or_own ps false r)) ≡ Some r
 unfolding p.multi sign_at
 or_step true ps r h k v w j = or_joined ps r k w j
@@ -839,7 +843,7 @@ pub record PatFront (z : PatTree) (l : List Tok) : Type 0 where
   some : is_empty l ≡ false
   pub no_pound : pound.at l ≡ false
   no_vert : p.vert.at l ≡ false
-  no_mut : o.begins_mut z ≡ false → mutable.at l ≡ false
+  no_mut : test.begins_mut z ≡ false → mutable.at l ≡ false
 
 truth_no_mut : is_truth (codes "mut") ≡ false
 truth_no_mut = no_truth_mut
@@ -861,14 +865,14 @@ unfolding sign_at word_at
 limits_front z true l = record { some = refl; no_pound = refl; no_vert = refl; no_mut = λ e. refl }
 limits_front z false l = record { some = refl; no_pound = refl; no_vert = refl; no_mut = λ e. refl }
 
-bound_front : (z : PatTree) (b : PatBound) (l : List Tok) → o.range_bound_fits b ≡ true → PatFront z (o.range_bound_own b l)
+bound_front : (z : PatTree) (b : PatBound) (l : List Tok) → test.range_bound_fits b ≡ true → PatFront z (o.range_bound_own b l)
 bound_front z (p.lit_bound x) l f = lit_front z (lit_begins x l f)
 bound_front z (p.path_bound q w) l f = path_front z (path_starts style.Expr q w.leading w.trailing w.segments l f)
 
-range_front : (z : PatTree) (s : Option PatBound) (c : Bool) (e : Option PatBound) (l : List Tok) → o.range_fits s c e ≡ true → PatFront z (before_some s o.range_bound_own (o.limits_before c l))
+range_front : (z : PatTree) (s : Option PatBound) (c : Bool) (e : Option PatBound) (l : List Tok) → test.range_fits s c e ≡ true → PatFront z (before_some s o.range_bound_own (o.limits_before c l))
 range_front z None c e l f = limits_front z c l
-range_front z (Some b) false e l f = let (g, h) = both_true (o.range_bound_fits b) _ f in bound_front z b (o.limits_before false l) g
-range_front z (Some b) true e l f = let (g, h) = both_true (o.range_bound_fits b) _ f in bound_front z b (o.limits_before true l) g
+range_front z (Some b) false e l f = let (g, h) = both_true (test.range_bound_fits b) _ f in bound_front z b (o.limits_before false l) g
+range_front z (Some b) true e l f = let (g, h) = both_true (test.range_bound_fits b) _ f in bound_front z b (o.limits_before true l) g
 
 binding_front : (b m : Bool) (w : Text) (s : SubPat) (r : List Tok) → is_reserved_word w ≡ false → PatFront (p.a_binding b m w s) (binding_own b m w s r)
 unfolding sign_at word_at
@@ -899,7 +903,7 @@ const_first ts l = record { some = refl; no_pound = refl; no_vert = refl; no_mut
 bare_begins : (z : PathTree) (l : List Tok) → path_fits style.Expr z ≡ true → PathBegins (path_own z l)
 bare_begins z l f = path_starts style.Expr t.no_qself z.leading z.trailing z.segments l f
 
-pub pat_first : (b : Bool) (z : PatTree) (r : List Tok) → is_or z ≡ false → o.pat_fits b z ≡ true → PatFront z (o.pat_own z r)
+pub pat_first : (b : Bool) (z : PatTree) (r : List Tok) → is_or z ≡ false → test.pat_fits b z ≡ true → PatFront z (o.pat_own z r)
 pat_first b p.wild r h f = wild_first r
 pat_first b p.rest r h f = limits_front p.rest false r
 pat_first b (p.range s c e) r h f = range_front (p.range s c e) s c e _ f
@@ -915,31 +919,34 @@ pat_first b (p.a_slice ps e) r h f = bracket_first (p.a_slice ps e) _ r
 pat_first b (p.a_reference m z) r h f = sign_first (p.a_reference m z) 38 _ refl refl
 pat_first b (p.a_block ts) r h f = const_first ts _
 pat_first b (p.alternatives l ps e) r h f = absurd cc
+pat_first b (p.guarded z) r h f = absurd cc
+pat_first b (p.typed z x) r h f = absurd cc
+pat_first b (p.attributed a xs z) r h f = absurd cc
 
 -- alternatives have none inside
-pub single_fits : (z : PatTree) → o.pat_fits false z ≡ true → is_or z ≡ false
+pub single_fits : (z : PatTree) → test.pat_fits false z ≡ true → is_or z ≡ false
 single_fits (p.alternatives l ps e) f = absurd cc
 single_fits _ f = refl
 
-or_some : (ps : Pats) (r : List Tok) → o.no_more_pats ps ≡ false → o.or_fits ps ≡ true → (is_empty (o.or_own ps false r) ≡ false) × (p.vert.at (o.or_own ps false r) ≡ false)
+or_some : (ps : Pats) (r : List Tok) → o.no_more_pats ps ≡ false → test.or_fits ps ≡ true → (is_empty (o.or_own ps false r) ≡ false) × (p.vert.at (o.or_own ps false r) ≡ false)
 or_some p.no_pats r h f = absurd cc
 or_some (p.more_pats z ps) r h f =
-    let (g, i) = both_true (o.pat_fits false z) (o.or_fits ps) f in
+    let (g, i) = both_true (test.pat_fits false z) (test.or_fits ps) f in
     let j = pat_first false z (separated (o.no_more_pats ps) false o.vert_before (o.or_own ps false r)) (single_fits z g) g in
     (j.some, j.no_vert)
 
-pat_some : (z : PatTree) (r : List Tok) → o.pat_fits true z ≡ true → is_empty (o.pat_own z r) ≡ false
+pat_some : (z : PatTree) (r : List Tok) → test.pat_fits true z ≡ true → is_empty (o.pat_own z r) ≡ false
 pat_some (p.alternatives true ps e) r f = refl
 pat_some (p.alternatives false ps true) r f = absurd cc
 pat_some (p.alternatives false ps false) r f =
     let (g, h) = both_true (not (o.no_more_pats ps)) _ f in
-    let (i, j) = both_true (false || not (o.is_one_pat ps)) (o.or_fits ps) h in
+    let (i, j) = both_true (false || not (test.is_one_pat ps)) (test.or_fits ps) h in
     let (k, m) = or_some ps r (not_true (o.no_more_pats ps) g) j in k
 pat_some z r f = let j = pat_first true z r refl f in j.some
 
 -- ---- all together
 
-tuple_is : (ps : Pats) (e : Bool) → (not (o.is_one_pat ps) || (e || o.is_one_rest ps)) ≡ true → p.from_round (p.a_tuple ps e) ≡ Some (p.pats ps, e)
+tuple_is : (ps : Pats) (e : Bool) → (not (test.is_one_pat ps) || (e || test.is_one_rest ps)) ≡ true → p.from_round (p.a_tuple ps e) ≡ Some (p.pats ps, e)
 tuple_is p.no_pats e h = refl
 tuple_is (p.more_pats z p.no_pats) true h = refl
 tuple_is (p.more_pats z p.no_pats) false h = let i : (false || p.is_rest z) ≡ true = h in rw i refl
@@ -972,43 +979,43 @@ field_ends p.no_fields false true h = absurd cc
 field_ends p.no_fields false false h = nil_ends
 field_ends (p.more_fields a f fs) e d h = comma_ends _
 
-pub stops_ends : (b : Bool) (z : PatTree) (l : List Tok) → Ends l → o.pat_stops b z l ≡ true
+pub stops_ends : (b : Bool) (z : PatTree) (l : List Tok) → Ends l → test.pat_stops b z l ≡ true
 stops_ends true z l q = rw (single_calm l q.calm z, q.no_vert) refl
 stops_ends false z l q = rw (single_calm l q.calm z) refl
 
-single_stop : (z : PatTree) (l : List Tok) → o.single_stops z l ≡ true → o.pat_stops false z l ≡ true
+single_stop : (z : PatTree) (l : List Tok) → test.single_stops z l ≡ true → test.pat_stops false z l ≡ true
 single_stop z l h = rw h refl
 
-sub_bare : (s : SubPat) (b m : Bool) (r : List Tok) → (b || (m || o.not_bare s r)) ≡ true → (b || (m || not (p.goes_on (o.sub_own s r)))) ≡ true
+sub_bare : (s : SubPat) (b m : Bool) (r : List Tok) → (b || (m || test.not_bare s r)) ≡ true → (b || (m || not (p.goes_on (o.sub_own s r)))) ≡ true
 sub_bare p.no_sub b m r h = h
 sub_bare (p.sub z) b m r h = rw (sub_go z r, or_true m) (or_true b)
 
-range_parts : (x : PatBound) (c : Bool) (e : Option PatBound) → o.range_fits (Some x) c e ≡ true → (o.range_bound_fits x ≡ true) × (o.bound_or (not c) e ≡ true)
-range_parts x true e f = both_true (o.range_bound_fits x) (o.bound_or false e) f
-range_parts x false e f = both_true (o.range_bound_fits x) (o.bound_or true e) f
+range_parts : (x : PatBound) (c : Bool) (e : Option PatBound) → test.range_fits (Some x) c e ≡ true → (test.range_bound_fits x ≡ true) × (test.bound_or (not c) e ≡ true)
+range_parts x true e f = both_true (test.range_bound_fits x) (test.bound_or false e) f
+range_parts x false e f = both_true (test.range_bound_fits x) (test.bound_or true e) f
 
 some_fields : (fs : Fields) (e d : Bool) → (not d || (o.no_more_fields fs || e)) ≡ true → o.no_more_fields fs ≡ false → (not d || e) ≡ true
 some_fields p.no_fields e d h k = absurd cc
 some_fields (p.more_fields a f fs) e d h k = h
 
 mutual
-  pub pat_back : (b : Bool) (z : PatTree) (r : List Tok) → o.pat_fits b z ≡ true → o.pat_stops b z r ≡ true → (p.pattern b).behind z (o.pat_own z r) ≡ Some r
+  pub pat_back : (b : Bool) (z : PatTree) (r : List Tok) → test.pat_fits b z ≡ true → test.pat_stops b z r ≡ true → (p.pattern b).behind z (o.pat_own z r) ≡ Some r
   pat_back b p.wild r f s = let (u, v) = both_true true _ s in let j = wild_first r in as_width b p.wild _ r refl j.no_vert v (wild_step r)
   pat_back b p.rest r f s =
       let (u, v) = both_true (not (p.bound_at r)) _ s in
       let j = limits_front p.rest false r in
       as_width b p.rest _ r refl j.no_vert v (rest_step r (not_true (p.bound_at r) u))
   pat_back b (p.range None c e) r f s =
-      let (u, v) = both_true (o.range_bound_stops e r) _ s in
+      let (u, v) = both_true (test.range_bound_stops e r) _ s in
       let j = limits_front (p.range None c e) c (before_some e o.range_bound_own r) in
       as_width b (p.range None c e) _ r refl j.no_vert v (open_step r c e f u)
   pat_back b (p.range (Some (p.lit_bound x)) c e) r f s =
-      let (u, v) = both_true (o.range_bound_stops e r) _ s in
+      let (u, v) = both_true (test.range_bound_stops e r) _ s in
       let (g, h) = range_parts (p.lit_bound x) c e f in
       let j = bound_front (p.range (Some (p.lit_bound x)) c e) (p.lit_bound x) (o.limits_before c (before_some e o.range_bound_own r)) g in
       as_width b (p.range (Some (p.lit_bound x)) c e) _ r refl j.no_vert v (lit_range_step r x c e g h u)
   pat_back b (p.range (Some (p.path_bound q z)) c e) r f s =
-      let (u, v) = both_true (o.range_bound_stops e r) _ s in
+      let (u, v) = both_true (test.range_bound_stops e r) _ s in
       let (g, h) = range_parts (p.path_bound q z) c e f in
       let j = bound_front (p.range (Some (p.path_bound q z)) c e) (p.path_bound q z) (o.limits_before c (before_some e o.range_bound_own r)) g in
       as_width b (p.range (Some (p.path_bound q z)) c e) _ r refl j.no_vert v (range_step r q z c e g h u)
@@ -1017,16 +1024,16 @@ mutual
       let j = lit_front (p.a_lit x) (lit_begins x r f) in
       as_width b (p.a_lit x) _ r refl j.no_vert v (lit_step r x f (not_true (p.dots.at r) u))
   pat_back b (p.a_binding d m w y) r f s =
-      let (u, v) = both_true (o.sub_stops y r && (d || (m || o.not_bare y r))) _ s in
-      let (g, h) = both_true (not (is_reserved_word w)) (o.sub_fits y) f in
-      let (i, k) = both_true (o.sub_stops y r) _ u in
+      let (u, v) = both_true (test.sub_stops y r && (d || (m || test.not_bare y r))) _ s in
+      let (g, h) = both_true (not (is_reserved_word w)) (test.sub_fits y) f in
+      let (i, k) = both_true (test.sub_stops y r) _ u in
       let j = binding_front d m w y r (not_true (is_reserved_word w) g) in
       as_width b (p.a_binding d m w y) _ r refl j.no_vert v (binding_step d m w y r (not_true (is_reserved_word w) g) (sub_bare y d m r k) (sub_back y r h i))
   pat_back b (p.a_path q z) r f s =
-      let (u, v) = both_true (path_stops style.Expr z r && (not (p.dots.at r) && o.path_pat_stops q z r)) _ s in
-      let (g, h) = both_true (qpath_fits style.Expr (q, z)) (not (o.is_one_name q z)) f in
+      let (u, v) = both_true (path_stops style.Expr z r && (not (p.dots.at r) && test.path_pat_stops q z r)) _ s in
+      let (g, h) = both_true (qpath_fits style.Expr (q, z)) (not (test.is_one_name q z)) f in
       let (i, k) = both_true (path_stops style.Expr z r) _ u in
-      let (m, n) = both_true (not (p.dots.at r)) (o.path_pat_stops q z r) k in
+      let (m, n) = both_true (not (p.dots.at r)) (test.path_pat_stops q z r) k in
       let j = path_front (p.a_path q z) (path_starts style.Expr q z.leading z.trailing z.segments r g) in
       as_width b (p.a_path q z) _ r refl j.no_vert v (path_step r q z g h i (not_true (p.dots.at r) m) n)
   pat_back b (p.a_mac m) r f s =
@@ -1038,7 +1045,7 @@ mutual
   pat_back b (p.a_struct z fs e d) r f s =
       let (u, v) = both_true true _ s in
       let (g, h) = both_true (path_fits style.Expr z) _ f in
-      let (i, k) = both_true (o.fields_fit fs) _ h in
+      let (i, k) = both_true (test.fields_fit fs) _ h in
       let (m, n) = both_true (ends_well (o.no_more_fields fs) e) (not d || (o.no_more_fields fs || e)) k in
       let ts = o.fields_own fs e (fields_rest d) in
       let j = path_front (p.a_struct z fs e d) (bare_begins z (enclosed del.Brace ts r) g) in
@@ -1046,30 +1053,30 @@ mutual
   pat_back b (p.tuple_struct z ps e) r f s =
       let (u, v) = both_true true _ s in
       let (g, h) = both_true (path_fits style.Expr z) _ f in
-      let (i, k) = both_true (o.pats_fit ps) (ends_well (o.no_more_pats ps) e) h in
+      let (i, k) = both_true (test.pats_fit ps) (ends_well (o.no_more_pats ps) e) h in
       let j = path_front (p.tuple_struct z ps e) (bare_begins z (enclosed del.Parenthesis (o.pats_own ps e []) r) g) in
       as_width b (p.tuple_struct z ps e) _ r refl j.no_vert v (tuple_struct_step r z ps e (o.pats_own ps e []) g (pats_listed ps e k (pats_commas e ps i)))
   pat_back b (p.a_tuple ps e) r f s =
       let (u, v) = both_true true _ s in
-      let (g, h) = both_true (o.pats_fit ps) _ f in
-      let (i, k) = both_true (ends_well (o.no_more_pats ps) e) (not (o.is_one_pat ps) || (e || o.is_one_rest ps)) h in
+      let (g, h) = both_true (test.pats_fit ps) _ f in
+      let (i, k) = both_true (ends_well (o.no_more_pats ps) e) (not (test.is_one_pat ps) || (e || test.is_one_rest ps)) h in
       let j = group_first (p.a_tuple ps e) (o.pats_own ps e []) r in
       as_width b (p.a_tuple ps e) _ r refl j.no_vert v (round_step r (p.a_tuple ps e) (p.pats ps) e (o.pats_own ps e []) (tuple_is ps e k) (pats_listed ps e i (pats_commas e ps g)))
   pat_back b (p.a_paren z) r f s =
       let (u, v) = both_true true _ s in
-      let (g, h) = both_true (o.pat_fits true z) (not (p.is_rest z)) f in
+      let (g, h) = both_true (test.pat_fits true z) (not (p.is_rest z)) f in
       let j = group_first (p.a_paren z) (o.pat_own z []) r in
       let i = pat_back true z [] g (stops_ends true z [] nil_ends) in
       as_width b (p.a_paren z) _ r refl j.no_vert v (round_step r (p.a_paren z) (z ∷ []) false (o.pat_own z []) (paren_is z h)
       (listed_back (p.pattern true) o.pat_own is_empty (λ k. pattern_alike true) [] refl nil_comma false (z ∷ []) refl (element i (pat_some z [] g) no_element)))
   pat_back b (p.a_slice ps e) r f s =
       let (u, v) = both_true true _ s in
-      let (g, h) = both_true (o.pats_fit ps) (ends_well (o.no_more_pats ps) e) f in
+      let (g, h) = both_true (test.pats_fit ps) (ends_well (o.no_more_pats ps) e) f in
       let j = bracket_first (p.a_slice ps e) (o.pats_own ps e []) r in
       as_width b (p.a_slice ps e) _ r refl j.no_vert v (slice_step r ps e (o.pats_own ps e []) (pats_listed ps e h (pats_commas e ps g)))
   pat_back b (p.a_reference m z) r f s =
-      let (u, v) = both_true (o.single_stops z r) _ s in
-      let (g, h) = both_true (o.pat_fits false z) (m || not (o.begins_mut z)) f in
+      let (u, v) = both_true (test.single_stops z r) _ s in
+      let (g, h) = both_true (test.pat_fits false z) (m || not (test.begins_mut z)) f in
       let i = pat_first false z r (single_fits z g) g in
       let j = sign_first (p.a_reference m z) 38 (o.word_if m (codes "mut") (o.pat_own z r)) refl refl in
       as_width b (p.a_reference m z) _ r refl j.no_vert v (reference_step r m z (o.pat_own z r) h i.no_mut (pat_back false z r g (single_stop z r u)))
@@ -1077,46 +1084,49 @@ mutual
       let (u, v) = both_true true _ s in
       let j = const_first ts (enclosed del.Brace ts r) in
       as_width b (p.a_block ts) _ r refl j.no_vert v (block_step r ts)
+  pat_back b (p.guarded z) r f s = absurd cc
+  pat_back b (p.typed z x) r f s = absurd cc
+  pat_back b (p.attributed a xs z) r f s = absurd cc
   pat_back false (p.alternatives l ps e) r f s = absurd cc
   pat_back true (p.alternatives l ps true) r f s = absurd cc
   pat_back true (p.alternatives l ps false) r f s =
-      let (u, v) = both_true (o.or_stops ps r) _ s in
+      let (u, v) = both_true (test.or_stops ps r) _ s in
       let (g, h) = both_true (not (o.no_more_pats ps)) _ f in
-      let (i, k) = both_true (l || not (o.is_one_pat ps)) (o.or_fits ps) h in
+      let (i, k) = both_true (l || not (test.is_one_pat ps)) (test.or_fits ps) h in
       let (m, n) = or_some ps r (not_true (o.no_more_pats ps) g) k in
       multi_is (p.alternatives l ps false) _ r (or_step l ps r i (not_true (o.no_more_pats ps) g) n (not_true (p.vert.at r) v) (or_joins ps r k u))
 
-  sub_back : (y : SubPat) (r : List Tok) → o.sub_fits y ≡ true → o.sub_stops y r ≡ true → (when p.at_sign.at (mark p.at_sign (shown p.sub p.from_sub (p.pattern false))) (pure p.no_sub p.has_no_sub)).behind y (o.sub_own y r) ≡ Some r
+  sub_back : (y : SubPat) (r : List Tok) → test.sub_fits y ≡ true → test.sub_stops y r ≡ true → (when p.at_sign.at (mark p.at_sign (shown p.sub p.from_sub (p.pattern false))) (pure p.no_sub p.has_no_sub)).behind y (o.sub_own y r) ≡ Some r
   sub_back p.no_sub r f s = no_sub_step r (not_true (p.at_sign.at r) s)
   sub_back (p.sub z) r f s = sub_step z (o.pat_own z r) r (pat_back false z r f (single_stop z r s))
 
-  pats_commas : (e : Bool) (ps : Pats) → o.pats_fit ps ≡ true → Commas (p.pattern true) o.pat_own is_empty e [] (p.pats ps)
+  pats_commas : (e : Bool) (ps : Pats) → test.pats_fit ps ≡ true → Commas (p.pattern true) o.pat_own is_empty e [] (p.pats ps)
   pats_commas e p.no_pats f = no_element
   pats_commas e (p.more_pats z ps) f =
-      let (g, h) = both_true (o.pat_fits true z) (o.pats_fit ps) f in
+      let (g, h) = both_true (test.pat_fits true z) (test.pats_fit ps) f in
       let q = next_ends o.pat_own (p.pats ps) e [] nil_ends in
       element (pat_back true z _ g (stops_ends true z _ q)) (pat_some z _ g) (pats_commas e ps h)
 
-  or_joins : (ps : Pats) (r : List Tok) → o.or_fits ps ≡ true → o.or_stops ps r ≡ true → Joins (p.single p.pattern) o.pat_own o.vert_before r (p.pats ps)
+  or_joins : (ps : Pats) (r : List Tok) → test.or_fits ps ≡ true → test.or_stops ps r ≡ true → Joins (p.single p.pattern) o.pat_own o.vert_before r (p.pats ps)
   or_joins p.no_pats r f s = no_join
   or_joins (p.more_pats z p.no_pats) r f s =
-      let (g, h) = both_true (o.pat_fits false z) _ f in
+      let (g, h) = both_true (test.pat_fits false z) _ f in
       join (single_is z _ _ (pat_back false z r g (single_stop z r s))) no_join
   or_joins (p.more_pats z (p.more_pats w ps)) r f s =
-      let (g, h) = both_true (o.pat_fits false z) _ f in
+      let (g, h) = both_true (test.pat_fits false z) _ f in
       join (single_is z _ _ (pat_back false z _ g (single_stop z _ (single_calm _ (vert_pat_calm _) z)))) (or_joins (p.more_pats w ps) r h s)
 
-  fields_commas : (e d : Bool) (fs : Fields) → o.fields_fit fs ≡ true → (o.no_more_fields fs ≡ false → (not d || e) ≡ true) → Commas (p.field p.pattern) pat_field_own p.fields_stop e (fields_rest d) (p.fields fs)
+  fields_commas : (e d : Bool) (fs : Fields) → test.fields_fit fs ≡ true → (o.no_more_fields fs ≡ false → (not d || e) ≡ true) → Commas (p.field p.pattern) pat_field_own p.fields_stop e (fields_rest d) (p.fields fs)
   fields_commas e d p.no_fields f h = no_element
   fields_commas e d (p.more_fields a (p.short b m w) fs) f h =
-      let (g, i) = both_true (o.attributes_outer a) _ f in
-      let (j, k) = both_true (not (is_reserved_word w)) (o.fields_fit fs) i in
+      let (g, i) = both_true (test.attributes_outer a) _ f in
+      let (j, k) = both_true (not (is_reserved_word w)) (test.fields_fit fs) i in
       let q = field_ends fs e d (h refl) in
       element (short_step a b m w _ g (not_true (is_reserved_word w) j) q.no_colon) (attributes_stop a _ (field_stop (p.short b m w) _)) (fields_commas e d fs k (λ x. h refl))
   fields_commas e d (p.more_fields a (p.full n z) fs) f h =
-      let (g, i) = both_true (o.attributes_outer a) _ f in
-      let (j, k) = both_true (o.member_fits n && o.pat_fits true z) (o.fields_fit fs) i in
-      let (u, v) = both_true (o.member_fits n) (o.pat_fits true z) j in
+      let (g, i) = both_true (test.attributes_outer a) _ f in
+      let (j, k) = both_true (test.member_fits n && test.pat_fits true z) (test.fields_fit fs) i in
+      let (u, v) = both_true (test.member_fits n) (test.pat_fits true z) j in
       let q = field_ends fs e d (h refl) in
       element (full_step a n z _ _ g u (pat_back true z _ v (stops_ends true z _ q))) (attributes_stop a _ (field_stop (p.full n z) _)) (fields_commas e d fs k (λ x. h refl))
 
@@ -1130,21 +1140,54 @@ colon_pat_calm : (l : List Tok) → PatCalm (alone 58 ∷ l)
 unfolding p.bound_at sign_at brace_at group_at
 colon_pat_calm l = record { calm = colon_calm l; no_bound = refl; no_dots = refl; no_at = refl; no_brace = refl }
 
-type_piece : (y : Option TypeTree) (z : PatTree) (r : List Tok) → fits_if (type_fits true) y ≡ true → o.closure_arg_stops_by z y r ≡ true
-    → (maybe colon.at (mark colon (type true))).behind y (before_some y (λ x l. alone 58 ∷ type_own x l) r) ≡ Some r
+-- the same of the pieces of an argument: its attributes, its pattern, and its type
+abbrev pub type_before : Option TypeTree → List Tok → List Tok
+type_before y r = before_some y (λ x l. alone 58 ∷ type_own x l) r
+
+abbrev pub piece_fits : PatTree × Option TypeTree → Bool
+piece_fits q = test.pat_fits false q.0 && fits_if (type_fits true) q.1
+
+abbrev pub piece_stops : PatTree × Option TypeTree → List Tok → Bool
+piece_stops (z, None) r = test.pat_stops false z r && not (colon.at r)
+piece_stops (z, Some x) r = type_stops true x r
+
+pub typed_own_is : (z : PatTree) (r : List Tok) → o.pat_own z r ≡ o.pat_own (p.from_typed z).0 (type_before (p.from_typed z).1 r)
+typed_own_is (p.typed z x) r = refl
+typed_own_is _ r = refl
+
+and_true : (b : Bool) → b ≡ (b && true)
+and_true true = refl
+and_true false = refl
+
+pub typed_fits_is : (z : PatTree) → test.typed_fits z ≡ piece_fits (p.from_typed z)
+typed_fits_is (p.typed z x) = refl
+typed_fits_is z = and_true (test.pat_fits false z)
+
+pub typed_stops_is : (z : PatTree) (r : List Tok) → test.typed_stops z r ≡ piece_stops (p.from_typed z) r
+typed_stops_is (p.typed z x) r = refl
+typed_stops_is _ r = refl
+
+type_piece : (y : Option TypeTree) (z : PatTree) (r : List Tok) → fits_if (type_fits true) y ≡ true → piece_stops (z, y) r ≡ true
+    → (maybe colon.at (mark colon (type true))).behind y (type_before y r) ≡ Some r
 unfolding sign_at
-type_piece None z r f s = let (u, v) = both_true (o.pat_stops false z r) (not (colon.at r)) s in rw (not_true (colon.at r) v) refl
+type_piece None z r f s = let (u, v) = both_true (test.pat_stops false z r) (not (colon.at r)) s in rw (not_true (colon.at r) v) refl
 type_piece (Some x) z r f s = type_back true x r f s
 
-pat_ends : (y : Option TypeTree) (z : PatTree) (r : List Tok) → o.closure_arg_stops_by z y r ≡ true → o.pat_stops false z (before_some y (λ x l. alone 58 ∷ type_own x l) r) ≡ true
-pat_ends None z r s = let (u, v) = both_true (o.pat_stops false z r) (not (colon.at r)) s in u
+pat_ends : (y : Option TypeTree) (z : PatTree) (r : List Tok) → piece_stops (z, y) r ≡ true → test.pat_stops false z (type_before y r) ≡ true
+pat_ends None z r s = let (u, v) = both_true (test.pat_stops false z r) (not (colon.at r)) s in u
 pat_ends (Some x) z r s = single_stop z (alone 58 ∷ type_own x r) (single_calm (alone 58 ∷ type_own x r) (colon_pat_calm (type_own x r)) z)
 
-pub closure_arg_back : (a : p.ClosureArgTree) (r : List Tok) → o.closure_arg_fits a ≡ true → o.closure_arg_stops a r ≡ true → p.closure_arg.behind a (o.closure_arg_own a r) ≡ Some r
+pieces_back : (xs : List AttributeTree) (q : PatTree × Option TypeTree) (r : List Tok) → test.attributes_outer xs ≡ true → piece_fits q ≡ true → piece_stops q r ≡ true
+    → arg_pieces.behind (xs, q) (o.attributes_own xs (o.pat_own q.0 (type_before q.1 r))) ≡ Some r
+pieces_back xs (z, y) r g f s =
+    let (i, j) = both_true (test.pat_fits false z) (fits_if (type_fits true) y) f in
+    let k = type_before y r in
+    let m = pat_first false z k (single_fits z i) i in
+    rw (attributes_back xs (o.pat_own z k) g m.no_pound, pat_back false z k i (pat_ends y z r s), type_piece y z r j s) refl
+
+pub closure_arg_back : (z : PatTree) (r : List Tok) → test.closure_arg_fits z ≡ true → test.closure_arg_stops z r ≡ true → p.closure_arg.behind z (o.pat_own z r) ≡ Some r
 unfolding p.closure_arg
-closure_arg_back a r f s =
-    let (g, h) = both_true (o.attributes_outer a.attrs) _ f in
-    let (i, j) = both_true (o.pat_fits false a.pat) (fits_if (type_fits true) a.ty) h in
-    let k = before_some a.ty (λ x l. alone 58 ∷ type_own x l) r in
-    let m = pat_first false a.pat k (single_fits a.pat i) i in
-    rw (attributes_back a.attrs (o.pat_own a.pat k) g m.no_pound, pat_back false a.pat k i (pat_ends a.ty a.pat r s), type_piece a.ty a.pat r j s) refl
+closure_arg_back (p.attributed a xs z) r f s =
+    let (g, h) = both_true (test.attributes_outer (a ∷ xs)) (test.typed_fits z) f in
+    rw (typed_own_is z r) (pieces_back (a ∷ xs) (p.from_typed z) r g (sym (typed_fits_is z) ∙ h) (sym (typed_stops_is z r) ∙ s))
+closure_arg_back z r f s = rw (typed_own_is z r) (pieces_back [] (p.from_typed z) r refl (sym (typed_fits_is z) ∙ f) (sym (typed_stops_is z r) ∙ s))

@@ -1,7 +1,7 @@
 -- Patterns that are read of their own tokens pass their tests.
 use Rattle.std.proofs.Common.{◌≡◌, ℕ, Bool, true, false, not, ◌&&◌, ◌||◌, ◌==◌, cond, List, [], ◌∷◌, Option, Some, None, refl, sym, ◌∙◌, subst, codes, arith}
 use Rattle.std.proofs.lemmas.Bool.Decides.{nat_tests}
-use Rattle.std.specs.Fmt.{decimal}
+use Rattle.syn_parts.specs.PatOwn.{index_text}
 use Rattle.std.specs.Option.{is_some}
 use Rattle.std.specs.Str.{bytes_eq}
 use Rattle.syn_lexer.specs.Keywords.{is_reserved_word}
@@ -23,6 +23,7 @@ use Rattle.syn_parts.specs.Laws.{Fitted, PartsThatAreReadBackFit}
 use Rattle.syn_parts.specs.Pat as p
 use Rattle.syn_parts.specs.Pat.{MemberTree, PatBound, PatTree, SubPat, Pats, Fields, FieldTree, FieldPatTree, PathEnd}
 use Rattle.syn_parts.specs.PatOwn as o
+use Rattle.syn_parts.specs.PatFits as test
 use Rattle.syn_parts.proofs.Weights.{some_is}
 use Rattle.syn_parts.proofs.Same.{both_true, not_true}
 use Rattle.syn_parts.proofs.ReadBack.{kept_bracket_back, block_back}
@@ -30,9 +31,9 @@ use Rattle.syn_parts.proofs.TypesBack.{group_back}
 use Rattle.syn_parts.proofs.Marks.{pound_present}
 use Rattle.syn_parts.proofs.Forms.{Refuses, seen_some, more_opens, when_refuses, mark_refuses, inside_refuses, shown_refuses, pure_refuses}
 use Rattle.syn_parts.proofs.Parts.{outer_body_alike}
-use Rattle.syn_parts.proofs.Pats.{pattern_alike, vert_present, or_refused}
+use Rattle.syn_parts.proofs.Pats.{pattern_alike, vert_present, or_refused, guarded_refused, typed_refused, attributed_refused, arg_pieces}
 use Rattle.syn_parts.proofs.PatWhole.{spelled_by_kind}
-use Rattle.syn_parts.proofs.PatsBack.{limits_back, dots_single, binding_own, reserved_not, r_ref, r_mut, none_is, fields_rest, pat_field_own, single_is, is_single, is_or, from_single, vert_seen, field_whole, single_whole, pats_elements, or_elements, fields_elements, pats_end, fields_end}
+use Rattle.syn_parts.proofs.PatsBack.{limits_back, dots_single, binding_own, reserved_not, r_ref, r_mut, none_is, fields_rest, pat_field_own, single_is, is_single, is_or, from_single, vert_seen, field_whole, single_whole, pats_elements, or_elements, fields_elements, pats_end, fields_end, type_before, piece_fits, piece_stops, typed_own_is, typed_fits_is, typed_stops_is}
 use Rattle.syn_parts.proofs.Told.{after, first_only, second_only, maybe_none, maybe_some, flag_left, mark_tells, inside_tells, Told, none_told, told, Fitting, fit, listed_tells, joined_tells}
 use Rattle.syn_parts.proofs.SimpleTold.{name_told, lit_told, group_told}
 use Rattle.syn_parts.proofs.WholeTold.{parts_told}
@@ -42,7 +43,7 @@ lower = parts_told
 
 -- ---- ranges
 
-pub bound_told : (b : PatBound) (r n : List Tok) → p.range_bound.behind b (o.range_bound_own b r) ≡ Some n → Fitted (o.range_bound_fits b) (o.range_bound_stops (Some b) r) r n
+pub bound_told : (b : PatBound) (r n : List Tok) → p.range_bound.behind b (o.range_bound_own b r) ≡ Some n → Fitted (test.range_bound_fits b) (test.range_bound_stops (Some b) r) r n
 unfolding p.range_bound
 bound_told (p.lit_bound x) r n h =
     let (a, i) = first_only p.lit_first (shown p.lit_bound p.from_lit_bound lit) (shown p.to_path_bound p.from_path_bound (qpath type style.Expr)) (p.lit_bound x) (search shown_refuses) (lit_own x r) n h in
@@ -51,7 +52,7 @@ bound_told (p.path_bound q z) r n h =
     let (a, i) = second_only p.lit_first (shown p.lit_bound p.from_lit_bound lit) (shown p.to_path_bound p.from_path_bound (qpath type style.Expr)) (p.path_bound q z) (search shown_refuses) (qualified_own (q, z) r) n h in
     lower.qualified_paths style.Expr (q, z) r n i
 
-end_told : (c : Bool) (e : Option PatBound) (r n : List Tok) → p.range_end.behind (c, e) (o.limits_before c (before_some e o.range_bound_own r)) ≡ Some n → Fitted (o.bound_or (not c) e) (o.range_bound_stops e r) r n
+end_told : (c : Bool) (e : Option PatBound) (r n : List Tok) → p.range_end.behind (c, e) (o.limits_before c (before_some e o.range_bound_own r)) ≡ Some n → Fitted (test.bound_or (not c) e) (test.range_bound_stops e r) r n
 unfolding p.range_end
 end_told c e r n h =
     let k = before_some e o.range_bound_own r in
@@ -59,7 +60,7 @@ end_told c e r n h =
     by_end c e j
   where
     by_end : (c : Bool) (e : Option PatBound) → cond c ((shown p.to_end p.itself p.range_bound).behind e (before_some e o.range_bound_own r)) ((maybe p.bound_at p.range_bound).behind e (before_some e o.range_bound_own r)) ≡ Some n
-        → Fitted (o.bound_or (not c) e) (o.range_bound_stops e r) r n
+        → Fitted (test.bound_or (not c) e) (test.range_bound_stops e r) r n
     by_end true None h = absurd cc
     by_end true (Some b) h = bound_told b r n h
     by_end false None h = let (a, d) = maybe_none p.bound_at p.range_bound r n h in record { passes = refl; ends = rw a refl; same = d }
@@ -237,15 +238,15 @@ lit_pat_told x r n h =
     let w = lit_told x r r i in
     record { passes = w.passes; ends = rw a refl; same = e }
 
-both_fit : (b : PatBound) (c : Bool) (e : Option PatBound) → o.range_bound_fits b ≡ true → o.bound_or (not c) e ≡ true → o.range_fits (Some b) c e ≡ true
+both_fit : (b : PatBound) (c : Bool) (e : Option PatBound) → test.range_bound_fits b ≡ true → test.bound_or (not c) e ≡ true → test.range_fits (Some b) c e ≡ true
 both_fit b true e h i = rw (h, i) refl
 both_fit b false e h i = rw (h, i) refl
 
 range_told : (s : Option PatBound) (c : Bool) (e : Option PatBound) (r n : List Tok) → (p.single p.pattern).behind (p.range s c e) (before_some s o.range_bound_own (o.limits_before c (before_some e o.range_bound_own r))) ≡ Some n
-    → Fitted (o.range_fits s c e) (o.range_bound_stops e r) r n
+    → Fitted (test.range_fits s c e) (test.range_bound_stops e r) r n
 range_told None c e r n h = by_open c e (sym (dots_single (p.range None c e) c (before_some e o.range_bound_own r)) ∙ h)
   where
-    by_open : (c : Bool) (e : Option PatBound) → (shown p.to_open p.from_open p.range_end).behind (p.range None c e) (o.limits_before c (before_some e o.range_bound_own r)) ≡ Some n → Fitted (o.range_fits None c e) (o.range_bound_stops e r) r n
+    by_open : (c : Bool) (e : Option PatBound) → (shown p.to_open p.from_open p.range_end).behind (p.range None c e) (o.limits_before c (before_some e o.range_bound_own r)) ≡ Some n → Fitted (test.range_fits None c e) (test.range_bound_stops e r) r n
     by_open false None h = absurd cc
     by_open false (Some b) h = end_told false (Some b) r n h
     by_open true None h = end_told true None r n h
@@ -275,13 +276,13 @@ block_told : (ts r n : List Tok) → (p.single p.pattern).behind (p.a_block ts) 
 unfolding p.single word_at block_own
 block_told ts r n h = some_is (sym h ∙ block_back ts r)
 
-reference_told : (m : Bool) (z : PatTree) (l n : List Tok) → (p.single p.pattern).behind (p.a_reference m z) (alone 38 ∷ o.word_if m (codes "mut") l) ≡ Some n → (o.begins_mut z ≡ true → mutable.at l ≡ true)
-    → ((m || not (o.begins_mut z)) ≡ true) × ((p.pattern false).behind z l ≡ Some n)
+reference_told : (m : Bool) (z : PatTree) (l n : List Tok) → (p.single p.pattern).behind (p.a_reference m z) (alone 38 ∷ o.word_if m (codes "mut") l) ≡ Some n → (test.begins_mut z ≡ true → mutable.at l ≡ true)
+    → ((m || not (test.begins_mut z)) ≡ true) × ((p.pattern false).behind z l ≡ Some n)
 unfolding p.single p.reference_pat sign_at word_at
 reference_told true z l n h begins = (refl, h)
-reference_told false z l n h begins = by_mut (o.begins_mut z) refl (mutable.at l) refl h
+reference_told false z l n h begins = by_mut (test.begins_mut z) refl (mutable.at l) refl h
   where
-    by_mut : (b : Bool) → o.begins_mut z ≡ b → (c : Bool) → mutable.at l ≡ c → form.then_behind (cond c (cond c None None) (Some l)) ((p.pattern false).behind z) ≡ Some n → (not b ≡ true) × ((p.pattern false).behind z l ≡ Some n)
+    by_mut : (b : Bool) → test.begins_mut z ≡ b → (c : Bool) → mutable.at l ≡ c → form.then_behind (cond c (cond c None None) (Some l)) ((p.pattern false).behind z) ≡ Some n → (not b ≡ true) × ((p.pattern false).behind z l ≡ Some n)
     by_mut b d true e h = absurd cc
     by_mut true d false e h = let i = begins d in absurd cc
     by_mut false d false e h = (refl, h)
@@ -295,7 +296,7 @@ unfolding p.single p.slice_pat sign_at word_at group_at
 slice_told ps e ts r n h = inside_tells del.Bracket (p.slice_pat p.pattern) (p.a_slice ps e) ts r n h
 
 tuple_told : (ps : Pats) (e : Bool) (ts : List Tok) → (p.round_pat p.pattern).behind (p.a_tuple ps e) ts ≡ Some []
-    → ((listed comma is_empty (p.pattern true)).behind (p.pats ps, e) ts ≡ Some []) × ((not (o.is_one_pat ps) || (e || o.is_one_rest ps)) ≡ true)
+    → ((listed comma is_empty (p.pattern true)).behind (p.pats ps, e) ts ≡ Some []) × ((not (test.is_one_pat ps) || (e || test.is_one_rest ps)) ≡ true)
 unfolding p.round_pat
 tuple_told ps e ts h =
     let (x, f, j) = seen_some (p.round_by (p.pats ps) e) (λ y. (listed comma is_empty (p.pattern true)).behind y ts) [] h in
@@ -306,7 +307,7 @@ tuple_told ps e ts h =
     by_rest true z x h = (sym (some_is h), refl)
     by_rest false z x h = absurd cc
 
-    by_list : (ps : Pats) (e : Bool) (x : List PatTree × Bool) → p.round_by (p.pats ps) e ≡ Some x → (x ≡ (p.pats ps, e)) × ((not (o.is_one_pat ps) || (e || o.is_one_rest ps)) ≡ true)
+    by_list : (ps : Pats) (e : Bool) (x : List PatTree × Bool) → p.round_by (p.pats ps) e ≡ Some x → (x ≡ (p.pats ps, e)) × ((not (test.is_one_pat ps) || (e || test.is_one_rest ps)) ≡ true)
     by_list p.no_pats e x h = (sym (some_is h), refl)
     by_list (p.more_pats z p.no_pats) true x h = (sym (some_is h), refl)
     by_list (p.more_pats z p.no_pats) false x h = by_rest (p.is_rest z) z x h
@@ -329,8 +330,8 @@ bare_name w l h = rw (reserved_not w (codes "ref") h r_ref, reserved_not w (code
 abbrev sub_end : Form SubPat
 sub_end = when p.at_sign.at (mark p.at_sign (shown p.sub p.from_sub (p.pattern false))) (pure p.no_sub p.has_no_sub)
 
-binding_told : (b m : Bool) (w : Text) (s : SubPat) (r n : List Tok) → ((k : List Tok) → sub_end.behind s (o.sub_own s r) ≡ Some k → Fitted (o.sub_fits s) (o.sub_stops s r) r k)
-    → (p.single p.pattern).behind (p.a_binding b m w s) (binding_own b m w s r) ≡ Some n → Fitted (not (is_reserved_word w) && o.sub_fits s) (o.sub_stops s r && (b || (m || o.not_bare s r))) r n
+binding_told : (b m : Bool) (w : Text) (s : SubPat) (r n : List Tok) → ((k : List Tok) → sub_end.behind s (o.sub_own s r) ≡ Some k → Fitted (test.sub_fits s) (test.sub_stops s r) r k)
+    → (p.single p.pattern).behind (p.a_binding b m w s) (binding_own b m w s r) ≡ Some n → Fitted (not (is_reserved_word w) && test.sub_fits s) (test.sub_stops s r && (b || (m || test.not_bare s r))) r n
 unfolding p.binding word_at
 binding_told b m w s r n only h =
     let l = ident w ∷ o.sub_own s r in
@@ -343,7 +344,7 @@ binding_told b m w s r n only h =
     let z = only n v in
     record { passes = rw (q.passes, z.passes) refl; ends = rw z.ends (by_kind b m s (not_true (is_reserved_word w) q.passes) a); same = z.same }
   where
-    by_kind : (b m : Bool) (s : SubPat) → is_reserved_word w ≡ false → p.binding_at (binding_own b m w s r) ≡ true → (b || (m || o.not_bare s r)) ≡ true
+    by_kind : (b m : Bool) (s : SubPat) → is_reserved_word w ≡ false → p.binding_at (binding_own b m w s r) ≡ true → (b || (m || test.not_bare s r)) ≡ true
     by_kind true m s k a = refl
     by_kind false true s k a = refl
     by_kind false false p.no_sub k a = sym (bare_name w r k) ∙ a
@@ -351,7 +352,7 @@ binding_told b m w s r n only h =
 
 -- a name that nothing goes on with is a binding
 no_name_alone : (q : QSelfTree) (z : PathTree) (r : List Tok) → z.trailing ≡ false → p.binding_at (qualified_own (q, z) r) ≡ false → colon2.at r ≡ false → (is_bare (q, z) && not_ne.at r) ≡ false → (p.unqualified (q, z) && brace_at r) ≡ false
-    → (p.unqualified (q, z) && round_at r) ≡ false → p.dots.at r ≡ false → not (o.is_one_name q z) ≡ true
+    → (p.unqualified (q, z) && round_at r) ≡ false → p.dots.at r ≡ false → not (test.is_one_name q z) ≡ true
 no_name_alone (t.qself x n a) z r f b c d e g h = refl
 no_name_alone t.no_qself z r f b c d e g h = by_list z.leading z.trailing z.segments f b d
   where
@@ -377,7 +378,7 @@ no_name_alone t.no_qself z r f b c d e g h = by_list z.leading z.trailing z.segm
         by_bool false = refl
 
     by_list : (l f : Bool) (xs : List SegmentTree) → f ≡ false → p.binding_at (qualified_own (t.no_qself, record { leading = l; segments = xs; trailing = f }) r) ≡ false
-        → (is_bare (t.no_qself, record { leading = l; segments = xs; trailing = f }) && not_ne.at r) ≡ false → not (o.is_name_alone l xs) ≡ true
+        → (is_bare (t.no_qself, record { leading = l; segments = xs; trailing = f }) && not_ne.at r) ≡ false → not (test.is_name_alone l xs) ≡ true
     by_list l true xs f b d = absurd cc
     by_list true false xs f b d = refl
     by_list false false [] f b d = refl
@@ -385,7 +386,7 @@ no_name_alone t.no_qself z r f b c d e g h = by_list z.leading z.trailing z.segm
     by_list false false (s ∷ u ∷ xs) f b d = refl
 
 path_pat_told : (q : QSelfTree) (z : PathTree) (r n : List Tok) → (p.single p.pattern).behind (p.a_path q z) (qualified_own (q, z) r) ≡ Some n
-    → Fitted (qpath_fits style.Expr (q, z) && not (o.is_one_name q z)) (path_stops style.Expr z r && (not (p.dots.at r) && o.path_pat_stops q z r)) r n
+    → Fitted (qpath_fits style.Expr (q, z) && not (test.is_one_name q z)) (path_stops style.Expr z r && (not (p.dots.at r) && test.path_pat_stops q z r)) r n
 path_pat_told q z r n h =
     let (a, i) = alone_only q z (qualified_own (q, z) r) n h in
     let (b, c, j) = path_told q z p.no_more r n i in
@@ -398,7 +399,7 @@ path_pat_told q z r n h =
       same = e;
     }
   where
-    by_self : (q : QSelfTree) → (is_bare (q, z) && not_ne.at r) ≡ false → (p.unqualified (q, z) && brace_at r) ≡ false → (p.unqualified (q, z) && round_at r) ≡ false → o.path_pat_stops q z r ≡ true
+    by_self : (q : QSelfTree) → (is_bare (q, z) && not_ne.at r) ≡ false → (p.unqualified (q, z) && brace_at r) ≡ false → (p.unqualified (q, z) && round_at r) ≡ false → test.path_pat_stops q z r ≡ true
     by_self t.no_qself a b c = rw (a, b, c) refl
     by_self (t.qself x k y) a b c = refl
 
@@ -422,7 +423,7 @@ outer_told a l n h = by_style a.inner a.tokens h
     by_style true ts h = absurd cc
     by_style false ts h = (refl, some_is (sym h ∙ kept_bracket_back ts l))
 
-attributes_told : (xs : List AttributeTree) (l n : List Tok) → outer_attributes.behind xs (o.attributes_own xs l) ≡ Some n → (o.attributes_outer xs ≡ true) × (n ≡ l)
+attributes_told : (xs : List AttributeTree) (l n : List Tok) → outer_attributes.behind xs (o.attributes_own xs l) ≡ Some n → (test.attributes_outer xs ≡ true) × (n ≡ l)
 unfolding outer_attributes attribute_own sign_at
 attributes_told [] l n h =
     let (a, i) = second_only pound.at (mark pound (shown form.prepend form.split_first (both outer_body (more pound outer_body)))) (pure [] form.is_nil) [] (search (mark_refuses, shown_refuses)) l n (more_opens pound outer_body pound_present (λ k. outer_body_alike) [] l n h) in
@@ -436,7 +437,7 @@ attributes_told (a ∷ xs) l n h =
     let (w, x) = attributes_told xs l n f in
     (rw (u, w) refl, x)
 
-pub member_told : (k : MemberTree) (l n : List Tok) → p.member.behind k (o.member_own k l) ≡ Some n → Fitted (o.member_fits k) true l n
+pub member_told : (k : MemberTree) (l n : List Tok) → p.member.behind k (o.member_own k l) ≡ Some n → Fitted (test.member_fits k) true l n
 unfolding p.member
 member_told (p.a_name w) l n h = by_bool (not (is_reserved_word w)) h
   where
@@ -447,13 +448,13 @@ member_told (p.a_name w) l n h = by_bool (not (is_reserved_word w)) h
     by_bool : (b : Bool) → if_same p.same_member (p.a_name w) (p.name_if b w l) ≡ Some n → Fitted b true l n
     by_bool true h = record { passes = refl; ends = refl; same = by_same (bytes_eq w w) h }
     by_bool false h = absurd cc
-member_told (p.an_index i) l n h = by_index (p.index_of (decimal i)) h
+member_told (p.an_index i) l n h = by_index (p.index_of (index_text i)) h
   where
     by_same : (m : ℕ) (b : Bool) → (i == m) ≡ b → cond b (Some l) None ≡ Some n → Fitted (m == i) true l n
     by_same m true e h = record { passes = grind (arith, nat_tests, e); ends = refl; same = some_is (sym h) }
     by_same m false e h = absurd cc
 
-    by_index : (x : Option ℕ) → if_same p.same_member (p.an_index i) (p.index_if x l) ≡ Some n → Fitted (o.same_index x i) true l n
+    by_index : (x : Option ℕ) → if_same p.same_member (p.an_index i) (p.index_if x l) ≡ Some n → Fitted (test.same_index x i) true l n
     by_index None h = absurd cc
     by_index (Some m) h = by_same m (i == m) refl h
 
@@ -464,7 +465,7 @@ abbrev a_short : Form FieldTree
 a_short = shown p.to_short p.from_short (both (flag p.by_ref) (both (flag mutable) name))
 
 short_told : (xs : List AttributeTree) (b m : Bool) (w : Text) (l n : List Tok) → (p.field p.pattern).behind (record { attrs = xs; field = p.short b m w }) (pat_field_own (record { attrs = xs; field = p.short b m w }) l) ≡ Some n
-    → (o.attributes_outer xs ≡ true) × (not (is_reserved_word w) ≡ true) × (n ≡ l)
+    → (test.attributes_outer xs ≡ true) × (not (is_reserved_word w) ≡ true) × (n ≡ l)
 unfolding p.field word_at
 short_told xs b m w l n h =
     let k = ident w ∷ l in
@@ -479,7 +480,7 @@ short_told xs b m w l n h =
     (u, z.passes, z.same)
 
 full_told : (xs : List AttributeTree) (k : MemberTree) (z : PatTree) (m n : List Tok) → (p.field p.pattern).behind (record { attrs = xs; field = p.full k z }) (o.attributes_own xs (o.member_own k (alone 58 ∷ m))) ≡ Some n
-    → (o.attributes_outer xs ≡ true) × (o.member_fits k ≡ true) × ((p.pattern true).behind z m ≡ Some n)
+    → (test.attributes_outer xs ≡ true) × (test.member_fits k ≡ true) × ((p.pattern true).behind z m ≡ Some n)
 unfolding p.field sign_at
 full_told xs k z m n h =
     let f = o.member_own k (alone 58 ∷ m) in
@@ -493,35 +494,35 @@ full_told xs k z m n h =
 -- ---- lists
 
 abbrev field_passes : FieldPatTree → Bool
-field_passes f = o.attributes_outer f.attrs && o.field_fits f.field
+field_passes f = test.attributes_outer f.attrs && test.field_fits f.field
 
 abbrev any_rest : FieldPatTree → Test
 any_rest f l = true
 
-pats_pass : (e : Bool) (r : List Tok) (ps : Pats) → Fitting o.pat_own (o.pat_fits true) (o.pat_stops true) comma_before e r (p.pats ps) → o.pats_fit ps ≡ true
+pats_pass : (e : Bool) (r : List Tok) (ps : Pats) → Fitting o.pat_own (test.pat_fits true) (test.pat_stops true) comma_before e r (p.pats ps) → test.pats_fit ps ≡ true
 pats_pass e r p.no_pats f = refl
 pats_pass e r (p.more_pats z ps) (fit a c f) = rw a (pats_pass e r ps f)
 
-fields_pass : (e : Bool) (r : List Tok) (fs : Fields) → Fitting pat_field_own field_passes any_rest comma_before e r (p.fields fs) → o.fields_fit fs ≡ true
+fields_pass : (e : Bool) (r : List Tok) (fs : Fields) → Fitting pat_field_own field_passes any_rest comma_before e r (p.fields fs) → test.fields_fit fs ≡ true
 fields_pass e r p.no_fields f = refl
 fields_pass e r (p.more_fields a g fs) (fit b c f) =
-    let (d, i) = both_true (o.attributes_outer a) (o.field_fits g) b in
+    let (d, i) = both_true (test.attributes_outer a) (test.field_fits g) b in
     rw (d, i) (fields_pass e r fs f)
 
-or_pass : (r : List Tok) (ps : Pats) → Fitting o.pat_own (o.pat_fits false) o.single_stops o.vert_before false r (p.pats ps) → (o.or_fits ps ≡ true) × (o.or_stops ps r ≡ true)
+or_pass : (r : List Tok) (ps : Pats) → Fitting o.pat_own (test.pat_fits false) test.single_stops o.vert_before false r (p.pats ps) → (test.or_fits ps ≡ true) × (test.or_stops ps r ≡ true)
 or_pass r p.no_pats f = (refl, refl)
 or_pass r (p.more_pats z p.no_pats) (fit a c f) = (rw a refl, c)
 or_pass r (p.more_pats z (p.more_pats w ps)) (fit a c f) = let (i, j) = or_pass r (p.more_pats w ps) f in (rw a i, j)
 
-pats_listed : (ps : Pats) (e : Bool) (n : List Tok) → Told (p.pattern true) o.pat_own (o.pat_fits true) (o.pat_stops true) (p.pats ps) → (listed comma is_empty (p.pattern true)).behind (p.pats ps, e) (o.pats_own ps e []) ≡ Some n
-    → (o.pats_fit ps ≡ true) × (ends_well (o.no_more_pats ps) e ≡ true)
+pats_listed : (ps : Pats) (e : Bool) (n : List Tok) → Told (p.pattern true) o.pat_own (test.pat_fits true) (test.pat_stops true) (p.pats ps) → (listed comma is_empty (p.pattern true)).behind (p.pats ps, e) (o.pats_own ps e []) ≡ Some n
+    → (test.pats_fit ps ≡ true) × (ends_well (o.no_more_pats ps) e ≡ true)
 pats_listed ps e n all h =
     let i : (listed comma is_empty (p.pattern true)).behind (p.pats ps, e) (elements_own o.pat_own comma_before (p.pats ps) e []) ≡ Some n = subst (λ l. (listed comma is_empty (p.pattern true)).behind (p.pats ps, e) l ≡ Some n) (pats_elements ps e []) h in
-    let (a, b, c) = listed_tells (p.pattern true) o.pat_own (o.pat_fits true) (o.pat_stops true) is_empty (λ k. pattern_alike true) e (p.pats ps) [] n all i in
+    let (a, b, c) = listed_tells (p.pattern true) o.pat_own (test.pat_fits true) (test.pat_stops true) is_empty (λ k. pattern_alike true) e (p.pats ps) [] n all i in
     (pats_pass e [] ps b, pats_end ps e ∙ a)
 
 fields_told : (fs : Fields) (e d : Bool) → Told (p.field p.pattern) pat_field_own field_passes any_rest (p.fields fs) → (p.struct_inside p.pattern).behind ((p.fields fs, e), d) (o.fields_own fs e (fields_rest d)) ≡ Some []
-    → (o.fields_fit fs ≡ true) × (ends_well (o.no_more_fields fs) e ≡ true) × ((not d || (o.no_more_fields fs || e)) ≡ true)
+    → (test.fields_fit fs ≡ true) × (ends_well (o.no_more_fields fs) e ≡ true) × ((not d || (o.no_more_fields fs || e)) ≡ true)
 unfolding p.struct_inside
 fields_told fs e d all h =
     let l = o.fields_own fs e (fields_rest d) in
@@ -538,7 +539,7 @@ fields_told fs e d all h =
     by_rest true false h = absurd cc
 
 struct_told : (z : PathTree) (fs : Fields) (e d : Bool) (r n : List Tok) → Told (p.field p.pattern) pat_field_own field_passes any_rest (p.fields fs) → (p.single p.pattern).behind (p.a_struct z fs e d) (o.pat_own (p.a_struct z fs e d) r) ≡ Some n
-    → Fitted (o.pat_fits false (p.a_struct z fs e d)) true r n
+    → Fitted (test.pat_fits false (p.a_struct z fs e d)) true r n
 struct_told z fs e d r n all h =
     let ts = o.fields_own fs e (fields_rest d) in
     let k = enclosed del.Brace ts r in
@@ -548,8 +549,8 @@ struct_told z fs e d r n all h =
     let (u, v, w) = fields_told fs e d all f in
     record { passes = rw (b, u, v) w; ends = refl; same = g }
 
-tuple_struct_told : (z : PathTree) (ps : Pats) (e : Bool) (r n : List Tok) → Told (p.pattern true) o.pat_own (o.pat_fits true) (o.pat_stops true) (p.pats ps) → (p.single p.pattern).behind (p.tuple_struct z ps e) (o.pat_own (p.tuple_struct z ps e) r) ≡ Some n
-    → Fitted (o.pat_fits false (p.tuple_struct z ps e)) true r n
+tuple_struct_told : (z : PathTree) (ps : Pats) (e : Bool) (r n : List Tok) → Told (p.pattern true) o.pat_own (test.pat_fits true) (test.pat_stops true) (p.pats ps) → (p.single p.pattern).behind (p.tuple_struct z ps e) (o.pat_own (p.tuple_struct z ps e) r) ≡ Some n
+    → Fitted (test.pat_fits false (p.tuple_struct z ps e)) true r n
 tuple_struct_told z ps e r n all h =
     let ts = o.pats_own ps e [] in
     let k = enclosed del.Parenthesis ts r in
@@ -569,18 +570,18 @@ abbrev several : Form (Bool × List PatTree)
 several = both (flag p.vert) (joined p.vert (p.single p.pattern))
 
 abbrev SinglesTold : List PatTree → Type 0
-SinglesTold zs = Told (p.single p.pattern) o.pat_own (o.pat_fits false) o.single_stops zs
+SinglesTold zs = Told (p.single p.pattern) o.pat_own (test.pat_fits false) test.single_stops zs
 
 several_told : (l : Bool) (zs : List PatTree) (r n : List Tok) → SinglesTold zs → several.behind (l, zs) (before_if l o.vert_before (elements_own o.pat_own o.vert_before zs false r)) ≡ Some n
-    → (is_nil zs ≡ false) × (Fitting o.pat_own (o.pat_fits false) o.single_stops o.vert_before false r zs) × (p.vert.at r ≡ false) × (n ≡ r)
+    → (is_nil zs ≡ false) × (Fitting o.pat_own (test.pat_fits false) test.single_stops o.vert_before false r zs) × (p.vert.at r ≡ false) × (n ≡ r)
 several_told l zs r n all h =
     let k = elements_own o.pat_own o.vert_before zs false r in
     let (i, j) = after (flag p.vert) (λ y. joined p.vert (p.single p.pattern)) l zs (before_if l o.vert_before k) k n (λ m d. flag_left p.vert o.vert_before l k m (vert_seen k) refl d) h in
-    joined_tells p.vert (p.single p.pattern) o.pat_own (o.pat_fits false) o.single_stops o.vert_before vert_present single_whole vert_seen (λ l. refl) zs r n all j
+    joined_tells p.vert (p.single p.pattern) o.pat_own (test.pat_fits false) test.single_stops o.vert_before vert_present single_whole vert_seen (λ l. refl) zs r n all j
 
 -- a single pattern, in either place
-one_told : (b : Bool) (z : PatTree) → is_or z ≡ false → ((r n : List Tok) → (p.single p.pattern).behind z (o.pat_own z r) ≡ Some n → Fitted (o.pat_fits false z) (o.single_stops z r) r n)
-    → (r n : List Tok) → (p.pattern b).behind z (o.pat_own z r) ≡ Some n → Fitted (o.pat_fits false z) (o.pat_stops b z r) r n
+one_told : (b : Bool) (z : PatTree) → is_or z ≡ false → ((r n : List Tok) → (p.single p.pattern).behind z (o.pat_own z r) ≡ Some n → Fitted (test.pat_fits false z) (test.single_stops z r) r n)
+    → (r n : List Tok) → (p.pattern b).behind z (o.pat_own z r) ≡ Some n → Fitted (test.pat_fits false z) (test.pat_stops b z r) r n
 unfolding p.multi
 one_told false z f only r n h = let q = only r n (single_is z (o.pat_own z r) n h) in record { passes = q.passes; ends = rw q.ends refl; same = q.same }
 one_told true z f only r n h =
@@ -588,11 +589,11 @@ one_told true z f only r n h =
     let (a, c, d, e) = several_told false (z ∷ []) r n (told only none_told) i in
     first_fits c d e
   where
-    first_fits : Fitting o.pat_own (o.pat_fits false) o.single_stops o.vert_before false r (z ∷ []) → p.vert.at r ≡ false → n ≡ r → Fitted (o.pat_fits false z) (o.pat_stops true z r) r n
+    first_fits : Fitting o.pat_own (test.pat_fits false) test.single_stops o.vert_before false r (z ∷ []) → p.vert.at r ≡ false → n ≡ r → Fitted (test.pat_fits false z) (test.pat_stops true z r) r n
     first_fits (fit a c rest) d e = record { passes = a; ends = rw (c, d) refl; same = e }
 
 or_told : (l : Bool) (ps : Pats) (e : Bool) (r n : List Tok) → SinglesTold (p.pats ps) → (p.multi p.pattern).behind (p.alternatives l ps e) (before_if l o.vert_before (o.or_own ps e r)) ≡ Some n
-    → Fitted (o.pat_fits true (p.alternatives l ps e)) (o.pat_stops true (p.alternatives l ps e) r) r n
+    → Fitted (test.pat_fits true (p.alternatives l ps e)) (test.pat_stops true (p.alternatives l ps e) r) r n
 unfolding p.multi
 or_told l ps true r n all h = absurd cc
 or_told l ps false r n all h =
@@ -605,7 +606,7 @@ or_told l ps false r n all h =
     let (u, v) = or_pass r ps c in
     record { passes = rw (some_pats ps a, i) u; ends = rw (v, d) refl; same = e }
   where
-    by_list : (l : Bool) (ps : Pats) (x : Bool × List PatTree) → p.or_by l (p.pats ps) ≡ Some x → (x ≡ (l, p.pats ps)) × ((l || not (o.is_one_pat ps)) ≡ true)
+    by_list : (l : Bool) (ps : Pats) (x : Bool × List PatTree) → p.or_by l (p.pats ps) ≡ Some x → (x ≡ (l, p.pats ps)) × ((l || not (test.is_one_pat ps)) ≡ true)
     by_list true p.no_pats x h = (sym (some_is h), refl)
     by_list true (p.more_pats z ps) x h = (sym (some_is h), refl)
     by_list false p.no_pats x h = (sym (some_is h), refl)
@@ -620,7 +621,7 @@ or_no_single : (l : Bool) (ps : Pats) (e : Bool) (k n : List Tok) → (p.pattern
 or_no_single l ps e k n h = let r = or_refused {k = 0} pattern_alike l ps e in r.refuses k n (single_is (p.alternatives l ps e) k n h)
 
 -- behind `&`, the pattern's own `mut` stands first
-mut_first : (z : PatTree) (r : List Tok) → o.begins_mut z ≡ true → mutable.at (o.pat_own z r) ≡ true
+mut_first : (z : PatTree) (r : List Tok) → test.begins_mut z ≡ true → mutable.at (o.pat_own z r) ≡ true
 unfolding word_at
 mut_first (p.a_binding false true w s) r h = refl
 mut_first _ r h = absurd cc
@@ -632,7 +633,7 @@ sub_opens z l n h = h
 -- ---- all together
 
 mutual
-  pub pat_told : (b : Bool) (z : PatTree) (r n : List Tok) → (p.pattern b).behind z (o.pat_own z r) ≡ Some n → Fitted (o.pat_fits b z) (o.pat_stops b z r) r n
+  pub pat_told : (b : Bool) (z : PatTree) (r n : List Tok) → (p.pattern b).behind z (o.pat_own z r) ≡ Some n → Fitted (test.pat_fits b z) (test.pat_stops b z r) r n
   pat_told b p.wild r n h = one_told b p.wild refl (λ l m d. record { passes = refl; ends = refl; same = wild_told l m d }) r n h
   pat_told b p.rest r n h = one_told b p.rest refl rest_told r n h
   pat_told b (p.range s c e) r n h = one_told b (p.range s c e) refl (range_told s c e) r n h
@@ -651,7 +652,7 @@ mutual
       let (f, c) = round_told (p.a_paren z) (o.pat_own z []) l k i in
       let (g, j) = paren_told z (o.pat_own z []) f in
       let (u, v) = pats_listed (p.more_pats z p.no_pats) false [] (told (λ x y a. pat_told true z x y a) none_told) g in
-      let (w, x) = both_true (o.pat_fits true z) true u in
+      let (w, x) = both_true (test.pat_fits true z) true u in
       record { passes = rw w j; ends = refl; same = c }) r n h
   pat_told b (p.a_slice ps e) r n h = one_told b (p.a_slice ps e) refl (λ l k i.
       let (f, c) = slice_told ps e (o.pats_own ps e []) l k i in
@@ -660,22 +661,26 @@ mutual
   pat_told b (p.a_reference m z) r n h = one_told b (p.a_reference m z) refl (λ l k i.
       let (f, g) = reference_told m z (o.pat_own z l) k i (mut_first z l) in
       let q = pat_told false z l k g in
-      let (u, v) = both_true (o.single_stops z l) _ q.ends in
+      let (u, v) = both_true (test.single_stops z l) _ q.ends in
       record { passes = rw q.passes f; ends = u; same = q.same }) r n h
   pat_told b (p.a_block ts) r n h = one_told b (p.a_block ts) refl (λ l k i. record { passes = refl; ends = refl; same = block_told ts l k i }) r n h
+  pat_told b (p.guarded z) r n h = one_told b (p.guarded z) refl (λ l k i. let q = guarded_refused {k = 0} pattern_alike z in absurd (q.refuses (o.pat_own (p.guarded z) l) k i)) r n h
+  pat_told b (p.typed z x) r n h = one_told b (p.typed z x) refl (λ l k i. let q = typed_refused {k = 0} pattern_alike z x in absurd (q.refuses (o.pat_own (p.typed z x) l) k i)) r n h
+  pat_told b (p.attributed a xs z) r n h =
+      one_told b (p.attributed a xs z) refl (λ l k i. let q = attributed_refused {k = 0} pattern_alike a xs z in absurd (q.refuses (o.pat_own (p.attributed a xs z) l) k i)) r n h
   pat_told false (p.alternatives l ps e) r n h = absurd (or_no_single l ps e (o.pat_own (p.alternatives l ps e) r) n h)
   pat_told true (p.alternatives l ps e) r n h = or_told l ps e r n (singles_told ps) (multi_opens (p.alternatives l ps e) (o.pat_own (p.alternatives l ps e) r) n h)
 
-  sub_told : (s : SubPat) (r n : List Tok) → sub_end.behind s (o.sub_own s r) ≡ Some n → Fitted (o.sub_fits s) (o.sub_stops s r) r n
+  sub_told : (s : SubPat) (r n : List Tok) → sub_end.behind s (o.sub_own s r) ≡ Some n → Fitted (test.sub_fits s) (test.sub_stops s r) r n
   sub_told p.no_sub r n h =
       let (a, i) = second_only p.at_sign.at (mark p.at_sign (shown p.sub p.from_sub (p.pattern false))) (pure p.no_sub p.has_no_sub) p.no_sub (search (mark_refuses, shown_refuses)) r n h in
       record { passes = refl; ends = rw a refl; same = some_is (sym i) }
   sub_told (p.sub z) r n h =
       let q = pat_told false z r n (sub_opens z (o.pat_own z r) n h) in
-      let (u, v) = both_true (o.single_stops z r) _ q.ends in
+      let (u, v) = both_true (test.single_stops z r) _ q.ends in
       record { passes = q.passes; ends = u; same = q.same }
 
-  pats_told : (ps : Pats) → Told (p.pattern true) o.pat_own (o.pat_fits true) (o.pat_stops true) (p.pats ps)
+  pats_told : (ps : Pats) → Told (p.pattern true) o.pat_own (test.pat_fits true) (test.pat_stops true) (p.pats ps)
   pats_told p.no_pats = none_told
   pats_told (p.more_pats z ps) = told (λ r n h. pat_told true z r n h) (pats_told ps)
 
@@ -683,7 +688,7 @@ mutual
   singles_told p.no_pats = none_told
   singles_told (p.more_pats z ps) = told (λ r n h.
       let q = pat_told false z r n (is_single z (o.pat_own z r) n h) in
-      let (u, v) = both_true (o.single_stops z r) _ q.ends in
+      let (u, v) = both_true (test.single_stops z r) _ q.ends in
       record { passes = q.passes; ends = u; same = q.same }) (singles_told ps)
 
   all_fields_told : (fs : Fields) → Told (p.field p.pattern) pat_field_own field_passes any_rest (p.fields fs)
@@ -698,25 +703,30 @@ mutual
 
 -- ---- arguments of closures
 
-pub closure_arg_told : (a : p.ClosureArgTree) (r n : List Tok) → p.closure_arg.behind a (o.closure_arg_own a r) ≡ Some n → Fitted (o.closure_arg_fits a) (o.closure_arg_stops a r) r n
-unfolding p.closure_arg
-closure_arg_told a r n h =
-    let k = before_some a.ty (λ x l. alone 58 ∷ type_own x l) r in
-    let m = o.pat_own a.pat k in
-    let (i, j) = after outer_attributes (λ y. both (p.pattern false) (maybe colon.at (mark colon (type true)))) a.attrs (a.pat, a.ty) (o.attributes_own a.attrs m) m n (λ x d. let (u, v) = attributes_told a.attrs m x d in v) h in
-    let (u, v) = attributes_told a.attrs m m i in
-    let (e, f) = after (p.pattern false) (λ y. maybe colon.at (mark colon (type true))) a.pat a.ty m k n (λ x d. let q = pat_told false a.pat k x d in q.same) j in
-    let q = pat_told false a.pat k k e in
-    by_type a.attrs a.pat a.ty u q.passes q.ends f
+pieces_told : (xs : List AttributeTree) (q : PatTree × Option TypeTree) (r n : List Tok) → arg_pieces.behind (xs, q) (o.attributes_own xs (o.pat_own q.0 (type_before q.1 r))) ≡ Some n
+    → Fitted (test.attributes_outer xs && piece_fits q) (piece_stops q r) r n
+pieces_told xs (z, y) r n h =
+    let k = type_before y r in
+    let m = o.pat_own z k in
+    let (i, j) = after outer_attributes (λ y. both (p.pattern false) (maybe colon.at (mark colon (type true)))) xs (z, y) (o.attributes_own xs m) m n (λ x d. let (u, v) = attributes_told xs m x d in v) h in
+    let (u, v) = attributes_told xs m m i in
+    let (e, f) = after (p.pattern false) (λ y. maybe colon.at (mark colon (type true))) z y m k n (λ x d. let q = pat_told false z k x d in q.same) j in
+    let q = pat_told false z k k e in
+    by_type y u q.passes q.ends f
   where
-    by_type : (xs : List AttributeTree) (z : PatTree) (y : Option TypeTree) → o.attributes_outer xs ≡ true → o.pat_fits false z ≡ true → o.pat_stops false z (before_some y (λ x l. alone 58 ∷ type_own x l) r) ≡ true
-        → (maybe colon.at (mark colon (type true))).behind y (before_some y (λ x l. alone 58 ∷ type_own x l) r) ≡ Some n
-        → Fitted (o.closure_arg_fits (record { attrs = xs; pat = z; ty = y })) (o.closure_arg_stops (record { attrs = xs; pat = z; ty = y }) r) r n
-    by_type xs z None u f s h =
+    by_type : (y : Option TypeTree) → test.attributes_outer xs ≡ true → test.pat_fits false z ≡ true → test.pat_stops false z (type_before y r) ≡ true
+        → (maybe colon.at (mark colon (type true))).behind y (type_before y r) ≡ Some n
+        → Fitted (test.attributes_outer xs && piece_fits (z, y)) (piece_stops (z, y) r) r n
+    by_type None u f s h =
         let (a, e) = maybe_none colon.at (mark colon (type true)) r n h in
         record { passes = rw (u, f) refl; ends = rw (s, a) refl; same = e }
-    by_type xs z (Some x) u f s h =
+    by_type (Some x) u f s h =
         let (a, e) = maybe_some colon.at (mark colon (type true)) x (alone 58 ∷ type_own x r) n h in
         let (c, d) = mark_tells colon (type true) x (alone 58 ∷ type_own x r) n e in
         let q = lower.types true x r n d in
         record { passes = rw (u, f) q.passes; ends = q.ends; same = q.same }
+
+pub closure_arg_told : (z : PatTree) (r n : List Tok) → p.closure_arg.behind z (o.pat_own z r) ≡ Some n → Fitted (test.closure_arg_fits z) (test.closure_arg_stops z r) r n
+unfolding p.closure_arg
+closure_arg_told (p.attributed a xs z) r n h = rw (typed_fits_is z, typed_stops_is z r) (pieces_told (a ∷ xs) (p.from_typed z) r n (subst (λ y. arg_pieces.behind (a ∷ xs, p.from_typed z) (o.attributes_own (a ∷ xs) y) ≡ Some n) (typed_own_is z r) h))
+closure_arg_told z r n h = rw (typed_fits_is z, typed_stops_is z r) (pieces_told [] (p.from_typed z) r n (subst (λ y. arg_pieces.behind ([], p.from_typed z) y ≡ Some n) (typed_own_is z r) h))

@@ -5,6 +5,7 @@ use Rattle.std.specs.Str.{bytes_eq}
 use Rattle.syn_lexer.specs.Keywords.{is_reserved_word}
 use Rattle.syn_lexer.specs.declared.lexeme.Delimiter.{Delimiter}
 use Rattle.syn_lexer.specs.declared.lexeme.Delimiter.TheVariants as del
+use Rattle.syn_lexer.specs.declared.lexeme.Spacing.TheVariants as spacing
 use Rattle.syn_tokens.specs.Tok.{Tok, ident, punct, literal, group}
 use Rattle.syn_parts.specs.declared.label.LitKind.{LitKind}
 use Rattle.syn_parts.specs.declared.label.LitKind.TheVariants as kind
@@ -255,7 +256,7 @@ const_found (ident text ∷ l) x n h = by_bool (is_truth text) refl h
     by_bool false e h = absurd cc
 const_found (punct c s ∷ literal text ∷ l) x n h = by_bool (c == 45 && is_number text) refl h
   where
-    by_bool : (b : Bool) → (c == 45 && is_number text) ≡ b → const_if b (punct c s ∷ literal text ∷ []) l ≡ Some (x, n) → is_const x ≡ true
+    by_bool : (b : Bool) → (c == 45 && is_number text) ≡ b → const_if b (punct c spacing.Alone ∷ literal text ∷ []) l ≡ Some (x, n) → is_const x ≡ true
     by_bool true e h = subst (λ (z : List Tok × List Tok). is_const z.0 ≡ true) (some_is h) e
     by_bool false e h = absurd cc
 const_found (group del.Brace i ∷ l) x n h = subst (λ (z : List Tok × List Tok). is_const z.0 ≡ true) (some_is h) refl

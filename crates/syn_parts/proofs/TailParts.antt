@@ -4,6 +4,7 @@ use Rattle.std.specs.Str.{bytes_eq}
 use Rattle.syn_lexer.specs.Keywords.{is_reserved_word}
 use Rattle.syn_lexer.specs.declared.lexeme.Delimiter.{Delimiter}
 use Rattle.syn_lexer.specs.declared.lexeme.Delimiter.TheVariants as del
+use Rattle.syn_lexer.specs.declared.lexeme.Spacing.TheVariants as spacing
 use Rattle.syn_tokens.specs.Tok.{Tok, ident, punct, literal, group}
 use Rattle.syn_tokens.specs.Input.{IsTail}
 use Rattle.syn_parts.specs.declared.label.PathStyle.{PathStyle}
@@ -108,7 +109,7 @@ found_const = record { leaves = leaves }
     leaves (literal w ∷ l) x n h = by l n (literal w ∷ l) (ap (λ z. z.1) (some_is h)) (one_taken (literal w) l)
     leaves (ident w ∷ l) x n h = by l n (ident w ∷ l) (const_some (is_truth w) (ident w ∷ []) l x n h) (one_taken (ident w) l)
     leaves (punct c s ∷ literal w ∷ l) x n h =
-        by l n (punct c s ∷ literal w ∷ l) (const_some (c == 45 && is_number w) (punct c s ∷ literal w ∷ []) l x n h) (two_taken (punct c s) (literal w) l)
+        by l n (punct c s ∷ literal w ∷ l) (const_some (c == 45 && is_number w) (punct c spacing.Alone ∷ literal w ∷ []) l x n h) (two_taken (punct c s) (literal w) l)
     leaves (group del.Brace i ∷ l) x n h = by l n (group del.Brace i ∷ l) (ap (λ z. z.1) (some_is h)) (one_taken (group del.Brace i) l)
     leaves _ x n h = absurd cc
 

@@ -4,6 +4,7 @@ use Rattle.std.specs.Option.{is_some}
 use Rattle.syn_lexer.specs.Keywords.{is_reserved_word}
 use Rattle.syn_lexer.specs.declared.lexeme.Delimiter.{Delimiter}
 use Rattle.syn_lexer.specs.declared.lexeme.Delimiter.TheVariants as del
+use Rattle.syn_lexer.specs.declared.lexeme.Spacing.TheVariants as spacing
 use Rattle.syn_tokens.specs.Tok.{Tok, ident, punct, literal, group, weight}
 use Rattle.syn_tokens.specs.Front.{group_at}
 use Rattle.syn_parts.specs.declared.label.PathStyle.{PathStyle}
@@ -135,7 +136,7 @@ const_takes = record { takes = takes }
     takes (literal w ∷ l) x n h = by l n (literal w ∷ l) (ap (λ z. z.1) (some_is h)) (one (literal w) l)
     takes (ident w ∷ l) x n h = by l n (ident w ∷ l) (const_some (is_truth w) (ident w ∷ []) l x n h) (one (ident w) l)
     takes (punct c s ∷ literal w ∷ l) x n h =
-        by l n (punct c s ∷ literal w ∷ l) (const_some (c == 45 && is_number w) (punct c s ∷ literal w ∷ []) l x n h) (two (punct c s) (literal w) l)
+        by l n (punct c s ∷ literal w ∷ l) (const_some (c == 45 && is_number w) (punct c spacing.Alone ∷ literal w ∷ []) l x n h) (two (punct c s) (literal w) l)
     takes (group del.Brace i ∷ l) x n h = by l n (group del.Brace i ∷ l) (ap (λ z. z.1) (some_is h)) (one (group del.Brace i) l)
     takes _ x n h = absurd cc
 

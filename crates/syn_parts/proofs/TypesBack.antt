@@ -523,8 +523,6 @@ const_step (literal text ∷ []) r h = rw (same_toks-refl (literal text ∷ []))
 const_step (ident text ∷ []) r h = rw (h, same_toks-refl (ident text ∷ [])) refl
 const_step (punct c spacing.Alone ∷ literal text ∷ []) r h =
     let (a, b) = both_true (c == 45) (is_number text) h in rw (a, b, same_toks-refl (punct c spacing.Alone ∷ literal text ∷ [])) refl
-const_step (punct c spacing.Joint ∷ literal text ∷ []) r h =
-    let (a, b) = both_true (c == 45) (is_number text) h in rw (a, b, same_toks-refl (punct c spacing.Joint ∷ literal text ∷ [])) refl
 const_step (group del.Brace i ∷ []) r h = rw (same_toks-refl (group del.Brace i ∷ [])) refl
 const_step _ r h = absurd cc
 
@@ -533,8 +531,6 @@ unfolding sign_at
 const_no_gt (literal text ∷ []) r h = refl
 const_no_gt (ident text ∷ []) r h = refl
 const_no_gt (punct c spacing.Alone ∷ literal text ∷ []) r h =
-    let (a, b) = both_true (c == 45) (is_number text) h in let e : c ≡ 45 = grind (arith, nat_tests, a) in rw e refl
-const_no_gt (punct c spacing.Joint ∷ literal text ∷ []) r h =
     let (a, b) = both_true (c == 45) (is_number text) h in let e : c ≡ 45 = grind (arith, nat_tests, a) in rw e refl
 const_no_gt (group del.Brace i ∷ []) r h = refl
 const_no_gt _ r h = absurd cc

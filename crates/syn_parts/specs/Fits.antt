@@ -4,6 +4,7 @@ use Rattle.std.specs.Prelude.{ℕ, zero, suc, Bool, true, false, not, ◌&&◌, 
 use Rattle.syn_lexer.specs.Keywords.{is_reserved_word}
 use Rattle.syn_lexer.specs.declared.lexeme.Delimiter.{Delimiter}
 use Rattle.syn_lexer.specs.declared.lexeme.Delimiter.TheVariants as del
+use Rattle.syn_lexer.specs.declared.lexeme.Spacing.TheVariants as spacing
 use Rattle.syn_tokens.specs.Tok.{Tok, ident, punct, literal, group}
 use Rattle.syn_tokens.specs.Front.{is_empty}
 use Rattle.syn_parts.specs.declared.label.LitKind.{LitKind}
@@ -76,7 +77,7 @@ fits_if f (Some x) = f x
 abbrev pub is_const : List Tok → Bool
 is_const (literal text ∷ []) = true
 is_const (ident text ∷ []) = is_truth text
-is_const (punct c s ∷ literal text ∷ []) = c == 45 && is_number text
+is_const (punct c spacing.Alone ∷ literal text ∷ []) = c == 45 && is_number text
 is_const (group del.Brace i ∷ []) = true
 is_const _ = false
 

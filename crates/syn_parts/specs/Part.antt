@@ -6,6 +6,7 @@ use Rattle.std.specs.Str.{bytes_eq}
 use Rattle.syn_lexer.specs.Keywords.{is_reserved_word}
 use Rattle.syn_lexer.specs.declared.lexeme.Delimiter.{Delimiter}
 use Rattle.syn_lexer.specs.declared.lexeme.Delimiter.TheVariants as del
+use Rattle.syn_lexer.specs.declared.lexeme.Spacing.TheVariants as spacing
 use Rattle.syn_tokens.specs.Tok.{Tok, ident, punct, literal, group, toks}
 use Rattle.syn_parts.specs.declared.label.LitKind.{LitKind}
 use Rattle.syn_parts.specs.declared.label.LitKind.TheVariants as kind
@@ -231,13 +232,14 @@ from_type (t.a_type x) = Some x
 from_type _ = None
 
 -- The tokens of a constant argument: a literal, `-` and a number, or a brace group (Rust Reference, "Const generics").
+-- The `-` is a token of the argument, and so kept alone, however it was joined.
 abbrev pub const_if : Bool → List Tok → List Tok → Outcome (List Tok)
 const_if b ts l = if b then Some (ts, l) else None
 
 abbrev pub find_const : List Tok → Outcome (List Tok)
 find_const (literal text ∷ l) = Some (literal text ∷ [], l)
 find_const (ident text ∷ l) = const_if (is_truth text) (ident text ∷ []) l
-find_const (punct c s ∷ literal text ∷ l) = const_if (c == 45 && is_number text) (punct c s ∷ literal text ∷ []) l
+find_const (punct c s ∷ literal text ∷ l) = const_if (c == 45 && is_number text) (punct c spacing.Alone ∷ literal text ∷ []) l
 find_const (group del.Brace i ∷ l) = Some (group del.Brace i ∷ [], l)
 find_const _ = None
 

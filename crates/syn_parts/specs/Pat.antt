@@ -1,4 +1,4 @@
--- Patterns without guards (Rust Reference, "Patterns"): their trees, and what spells them.
+-- Patterns (Rust Reference, "Patterns"): their trees, and what spells those without guards.
 use Rattle.std.specs.Prelude.{◌≡◌, ℕ, ◌+◌, ◌-◌, ◌*◌, Bool, true, false, not, ◌||◌, ◌&&◌, ◌==◌, nat_le, nat_lt, if◌then◌else◌, List, [], ◌∷◌, drop, codes, Option, Some, None}
 use Rattle.std.specs.Str.{bytes_eq}
 use Rattle.syn_lexer.specs.Keywords.{is_reserved_word}
@@ -97,6 +97,12 @@ mutual
     a_block : List Tok → PatTree
     -- whether `|` stands first
     alternatives : Bool → Pats → Bool → PatTree
+    -- before `if` and an expression, which stands beside the pattern (Rust Reference, "Match guards")
+    guarded : PatTree → PatTree
+    -- before `:` and a type
+    typed : PatTree → TypeTree → PatTree
+    -- behind one attribute or more
+    attributed : AttributeTree → List AttributeTree → PatTree → PatTree
 
   pub data SubPat : Type 0 where
     no_sub : SubPat
@@ -476,16 +482,21 @@ SpellsPat several l p n = (pattern several).behind p l ≡ Some n
 
 -- ---- arguments of closures: attributes, a single pattern, and a type (Rust Reference, "Closure expressions")
 
-pub record ClosureArgTree : Type 0 where
-  pub attrs : List AttributeTree
-  pub pat : PatTree
-  pub ty : Option TypeTree
+abbrev pub to_typed : PatTree → Option TypeTree → PatTree
+to_typed p None = p
+to_typed p (Some x) = typed p x
 
-abbrev pub to_closure_arg : List AttributeTree × (PatTree × Option TypeTree) → ClosureArgTree
-to_closure_arg p = record { attrs = p.0; pat = p.1.0; ty = p.1.1 }
+abbrev pub from_typed : PatTree → PatTree × Option TypeTree
+from_typed (typed p x) = (p, Some x)
+from_typed p = (p, None)
 
-abbrev pub from_closure_arg : ClosureArgTree → Option (List AttributeTree × (PatTree × Option TypeTree))
-from_closure_arg a = Some (a.attrs, (a.pat, a.ty))
+abbrev pub to_closure_arg : List AttributeTree × (PatTree × Option TypeTree) → PatTree
+to_closure_arg ([], p) = to_typed p.0 p.1
+to_closure_arg (a ∷ more, p) = attributed a more (to_typed p.0 p.1)
 
-unfoldable pub closure_arg : Form ClosureArgTree
+abbrev pub from_closure_arg : PatTree → Option (List AttributeTree × (PatTree × Option TypeTree))
+from_closure_arg (attributed a more p) = Some (a ∷ more, from_typed p)
+from_closure_arg p = Some ([], from_typed p)
+
+unfoldable pub closure_arg : Form PatTree
 closure_arg = shown to_closure_arg from_closure_arg (both outer_attributes (both (pattern false) (maybe colon.at (mark colon (type true)))))

@@ -7,10 +7,10 @@ use Rattle.syn_parts.specs.Form.{Outcome}
 use Rattle.syn_parts.specs.Own.{alone, joint}
 use Rattle.syn_parts.specs.declared.label.LitKind.TheVariants as kind
 use Rattle.syn_parts.specs.Tree as t
-use Rattle.syn_parts.specs.Tree.{LitTree, PathTree, TypeTree}
-use Rattle.syn_parts.specs.Part.{type}
+use Rattle.syn_parts.specs.Tree.{LitTree, PathTree, TypeTree, GenericTree}
+use Rattle.syn_parts.specs.Part.{type, generic}
 use Rattle.syn_parts.specs.Pat as p
-use Rattle.syn_parts.specs.Pat.{PatTree, ClosureArgTree, pattern, closure_arg}
+use Rattle.syn_parts.specs.Pat.{PatTree, index_of, pattern, closure_arg}
 
 -- how much is left behind what is read, or that nothing is
 abbrev pub behind : {A : Type 0} → Outcome A → Option (List Tok)
@@ -91,6 +91,40 @@ pub record TypeSamples : Type 0 where
   -- a reserved word is no type
   pub reserved : Refuses false (ident (codes "let") ∷ [])
 
+-- ---- arguments between `<` and `>`
+
+abbrev pub type_named : List ℕ → TypeTree
+type_named w = t.path t.no_qself false (t.more_segments w t.no_arguments t.no_segments) false
+
+abbrev pub IsGeneric : List Tok → GenericTree → List Tok → Type 0
+IsGeneric l g rest = (generic type).reads l ≡ Some (g, rest)
+
+pub record GenericSamples : Type 0 where
+  -- `A = T`; `A == T` and `A => T`, where the name is a type and no associated type begins
+  pub assoc : IsGeneric (A ∷ alone 61 ∷ T ∷ []) (t.an_assoc (codes "A") (type_named (codes "T"))) []
+  pub equal : IsGeneric (A ∷ joint 61 ∷ alone 61 ∷ T ∷ []) (t.a_type (type_named (codes "A"))) (joint 61 ∷ alone 61 ∷ T ∷ [])
+  pub fat_arrow : IsGeneric (A ∷ joint 61 ∷ gt ∷ T ∷ []) (t.a_type (type_named (codes "A"))) (joint 61 ∷ gt ∷ T ∷ [])
+  -- `-1`, the sign alone or joined to what follows: its tokens are the same
+  pub negative : IsGeneric (alone 45 ∷ literal (codes "1") ∷ []) (t.a_const (alone 45 ∷ literal (codes "1") ∷ [])) []
+  pub joined : IsGeneric (joint 45 ∷ literal (codes "1") ∷ []) (t.a_const (alone 45 ∷ literal (codes "1") ∷ [])) []
+
+-- ---- the value of an index (Rust Reference, "Integer literals", "Tuple index")
+
+pub record IndexSamples : Type 0 where
+  -- in each base
+  pub decimal : index_of (codes "12") ≡ Some 12
+  pub hexadecimal : index_of (codes "0x10") ≡ Some 16
+  pub digits : index_of (codes "0xfA") ≡ Some 250
+  pub octal : index_of (codes "0o17") ≡ Some 15
+  pub binary : index_of (codes "0b1_0") ≡ Some 2
+  -- the greatest, and one more
+  pub greatest : index_of (codes "4294967295") ≡ Some 4294967295
+  pub beyond : index_of (codes "4294967296") ≡ None
+  -- with a suffix; a digit that the base doesn't have; a float
+  pub suffix : index_of (codes "0u8") ≡ None
+  pub no_digit : index_of (codes "0b2") ≡ None
+  pub float : index_of (codes "0.1") ≡ None
+
 pub record PatternSamples : Type 0 where
   -- `x`, `x::A`, `x!` without a group, `x..`, `x @ _`
   pub name : LeavesPat false (ident (codes "x") ∷ []) []
@@ -159,9 +193,6 @@ one_path leading w = record { leading = leading; segments = record { ident = w; 
 
 abbrev pub two_path : List ℕ → List ℕ → PathTree
 two_path v w = record { leading = false; segments = record { ident = v; arguments = t.no_arguments } ∷ record { ident = w; arguments = t.no_arguments } ∷ []; trailing = false }
-
-abbrev pub type_named : List ℕ → TypeTree
-type_named w = t.path t.no_qself false (t.more_segments w t.no_arguments t.no_segments) false
 
 abbrev pub none : p.Pats
 none = p.no_pats
@@ -235,12 +266,14 @@ pub record PatternRests : Type 0 where
   -- `A | | B`
   pub no_alternative : RefusesPat true (A ∷ alone 124 ∷ alone 124 ∷ B ∷ [])
 
-abbrev pub IsArg : List Tok → ClosureArgTree → List Tok → Type 0
+abbrev pub IsArg : List Tok → PatTree → List Tok → Type 0
 IsArg l a rest = closure_arg.reads l ≡ Some (a, rest)
 
 pub record ClosureArgs : Type 0 where
-  -- `#[k] x: T`, `x | y`, `_:::T`, `#![k] x`
-  pub typed : IsArg (attribute (x ∷ alone 58 ∷ T ∷ [])) (record { attrs = record { inner = false; tokens = ident (codes "k") ∷ [] } ∷ []; pat = named (codes "x"); ty = Some (type_named (codes "T")) }) []
-  pub bare : IsArg (x ∷ alone 124 ∷ y ∷ []) (record { attrs = []; pat = named (codes "x"); ty = None }) (alone 124 ∷ y ∷ [])
+  -- `#[k] x: T`, `x: T`, `#[k] x`, `x | y`, `_:::T`, `#![k] x`
+  pub typed : IsArg (attribute (x ∷ alone 58 ∷ T ∷ [])) (p.attributed (record { inner = false; tokens = ident (codes "k") ∷ [] }) [] (p.typed (named (codes "x")) (type_named (codes "T")))) []
+  pub typed_alone : IsArg (x ∷ alone 58 ∷ T ∷ []) (p.typed (named (codes "x")) (type_named (codes "T"))) []
+  pub attributed : IsArg (attribute (x ∷ [])) (p.attributed (record { inner = false; tokens = ident (codes "k") ∷ [] }) [] (named (codes "x"))) []
+  pub bare : IsArg (x ∷ alone 124 ∷ y ∷ []) (named (codes "x")) (alone 124 ∷ y ∷ [])
   pub joined : behind (closure_arg.reads (ident (codes "_") ∷ joint 58 ∷ colons (T ∷ []))) ≡ Some []
   pub inner : behind (closure_arg.reads (alone 35 ∷ alone 33 ∷ square [] ∷ x ∷ [])) ≡ None

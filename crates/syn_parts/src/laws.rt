@@ -1,6 +1,7 @@
 //! What is true of the lower parts, as contracts of functions that do nothing.
 
 ghost use Rattle.syn_parts.specs.Laws as spec;
+ghost use Rattle.syn_parts.specs.Ends as ends;
 ghost use Rattle.syn_parts.specs.PatLaws as pat;
 ghost use Rattle.syn_parts.specs.Samples as sample;
 
@@ -67,9 +68,35 @@ pub fn pattern_tests_are_exact()
     ensures { pat.PatternTestsAreExact }
 {}
 
+/// What doesn't go on with a type, an output, a path, a pattern or an argument of a closure; and before `<`, which types
+/// go on.
+pub fn parts_end()
+    ensures { ends.PartsEnd }
+{}
+
+/// Before which tokens types, outputs and paths end.
+pub fn types_end_at()
+    ensures { ends.TypesEndAt }
+{}
+
+/// Before which tokens patterns end.
+pub fn patterns_end_at()
+    ensures { ends.PatternsEndAt }
+{}
+
 /// Types and paths that are easily read wrongly, as the Rust Reference has them.
 pub fn type_samples()
     ensures { sample.TypeSamples }
+{}
+
+/// Arguments between `<` and `>` that are easily read wrongly: associated types, and negative numbers.
+pub fn generic_samples()
+    ensures { sample.GenericSamples }
+{}
+
+/// The value of an index in each base, the greatest, and texts that are none.
+pub fn index_samples()
+    ensures { sample.IndexSamples }
 {}
 
 /// Patterns that are easily read wrongly, as the Rust Reference has them.
@@ -90,4 +117,9 @@ pub fn pattern_rests()
 /// Arguments of closures.
 pub fn closure_args()
     ensures { sample.ClosureArgs }
+{}
+
+/// The text that an index is printed as is the one that its number has by `Display`.
+pub fn indices_are_decimal()
+    ensures { pat.IndicesAreDecimal }
 {}

@@ -6,6 +6,7 @@ use Rattle.std.specs.Prelude.{is_some}
 use Rattle.std.specs.declared.boxed.Box.{Box}
 use Rattle.std.specs.declared.alloc.Global.{Global}
 use Rattle.syn_lexer.specs.declared.lexeme.Delimiter.TheVariants as del
+use Rattle.syn_lexer.specs.declared.lexeme.Spacing.TheVariants as spacing
 use Rattle.syn_tokens.specs.Tok.{Tok, ident, punct, literal, group}
 use Rattle.syn_tokens.specs.View.{length-toks_of}
 use Rattle.syn_parts.specs.Fits.{is_const, is_none}
@@ -33,10 +34,11 @@ is_const-many [] h = absurd (omega arith)
 is_const-many (a ∷ []) h = absurd (omega arith)
 is_const-many (a ∷ b ∷ []) h = absurd (omega arith)
 is_const-many (ident w ∷ b ∷ d ∷ l) h = refl
-is_const-many (punct c s ∷ ident w ∷ d ∷ l) h = refl
-is_const-many (punct c s ∷ punct e r ∷ d ∷ l) h = refl
-is_const-many (punct c s ∷ literal w ∷ d ∷ l) h = refl
-is_const-many (punct c s ∷ group g i ∷ d ∷ l) h = refl
+is_const-many (punct c spacing.Joint ∷ b ∷ d ∷ l) h = refl
+is_const-many (punct c spacing.Alone ∷ ident w ∷ d ∷ l) h = refl
+is_const-many (punct c spacing.Alone ∷ punct e r ∷ d ∷ l) h = refl
+is_const-many (punct c spacing.Alone ∷ literal w ∷ d ∷ l) h = refl
+is_const-many (punct c spacing.Alone ∷ group g i ∷ d ∷ l) h = refl
 is_const-many (literal w ∷ b ∷ d ∷ l) h = refl
 is_const-many (group del.Parenthesis i ∷ b ∷ d ∷ l) h = refl
 is_const-many (group del.Brace i ∷ b ∷ d ∷ l) h = refl

@@ -13,7 +13,7 @@ use crate::ty::Abi;
 use syn_leaf::text::{is_number, is_truth};
 use syn_lexer::reserved::is_reserved_word;
 use syn_parts::label::PathStyle;
-use syn_tokens::Delimiter;
+use syn_tokens::{Delimiter, Spacing};
 use syn_tokens::token::Colon;
 use syn_tokens::tree::{Ident, TokenStream, TokenTree};
 
@@ -125,20 +125,20 @@ fn is_const_tree(tree: &TokenTree) -> bool
     }
 }
 
-/// Whether two tokens are `-` and a number.
+/// Whether two tokens are `-`, by itself, and a number.
 fn is_negative(minus: &TokenTree, number: &TokenTree) -> bool
     ensures { result ≡ spec.is_const (tok_of minus.now ∷ tok_of number.now ∷ []) }
 {
     match minus {
         TokenTree::Punct(minus) => match number {
-            TokenTree::Literal(number) => minus.ch == '-' && is_number(number.as_str()),
+            TokenTree::Literal(number) => minus.spacing == Spacing::Alone && minus.ch == '-' && is_number(number.as_str()),
             _ => false,
         },
         _ => false,
     }
 }
 
-/// Whether tokens are a constant argument: a literal, `-` and a number, or a brace group.
+/// Whether tokens are a constant argument: a literal, `-` by itself and a number, or a brace group.
 #[tactic(auto, using(crate::proofs::Fitting::consts))]
 pub fn is_const(tokens: &TokenStream) -> bool
     ensures { result ≡ spec.is_const tokens.now }

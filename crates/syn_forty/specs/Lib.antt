@@ -1,0 +1,15 @@
+pub mod Place
+pub mod Op
+pub mod Front
+pub mod Tree
+pub mod Head
+pub mod Slot
+pub mod Stands
+pub mod Read
+pub mod Next
+pub mod Rule
+pub mod Exact
+pub mod WellFormed
+pub mod Sparing
+pub mod Printed
+pub mod Rows
