@@ -276,7 +276,7 @@ closure_head = shown to_head from_head
 unfoldable pub closure_at : Test
 closure_at l =
     bar.at l || (move_word.at l || (lifetimes_at l || ((constant.at l && not (brace_at (drop 1 l)))
-    || (async_word.at l && (bar.at (drop 1 l) || move_word.at (drop 1 l))))))
+    || (async_word.at l && (bar.at (drop 1 l) || (move_word.at (drop 1 l) && not (brace_at (drop 2 l))))))))
 
 -- ---- what stands before an operand
 
