@@ -2,8 +2,8 @@
 use Rattle.std.specs.Prelude.{not, ◌||◌}
 use Rattle.std.proofs.Common.{◌≡◌, ℕ, ◌<◌, Bool, true, false, cond, ⊎_elim, List, drop, length, Option, Some, None, refl, sym, ◌∙◌}
 use Rattle.std.proofs.lemmas.Option.{none-some}
-use Rattle.syn_tokens.specs.Tok.{Tok, Inside, toks-inside, inside_weight-inside}
-use Rattle.syn_tokens.proofs.Weights.{weight-first, one_at_least, drop_weight, drop_smaller}
+use Rattle.syn_tokens.specs.Tok.{Tok, toks-inside, inside_weight-inside}
+use Rattle.syn_tokens.proofs.Weights.{weight-first, one_at_least, drop_weight}
 use Rattle.syn_grammar.specs.declared.kinds.Infix.{Infix}
 use Rattle.syn_grammar.specs.declared.kinds.Level.{Level}
 use Rattle.syn_grammar.specs.declared.kinds.Place.{Place}
