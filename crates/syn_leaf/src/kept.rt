@@ -16,14 +16,14 @@ use crate::block::Block;
 use crate::front;
 use crate::mac::MacroDelimiter;
 use crate::text::{is_number, is_truth};
-use syn_tokens::{Delimiter, Spacing};
+use std::alloc::Global;
 use syn_tokens::buffer::{ParseBuffer, Token};
 use syn_tokens::copy::copy_trees;
 use syn_tokens::error::{ErrorKind, Part, Result};
 use syn_tokens::span::Span;
 use syn_tokens::token::{Brace, Bracket, Not, Paren, Pound};
-use std::alloc::Global;
 use syn_tokens::tree::{Punct, TokenStream, TokenTree};
+use syn_tokens::{Delimiter, Spacing};
 
 /// Reads the brackets of an outer attribute.
 #[tactic(auto, unfolding(syn_parts::specs::Part::outer_body, syn_parts::specs::Part::kept))]

@@ -13,9 +13,9 @@ use crate::ty::Abi;
 use syn_leaf::text::{is_number, is_truth};
 use syn_lexer::reserved::is_reserved_word;
 use syn_parts::label::PathStyle;
-use syn_tokens::{Delimiter, Spacing};
 use syn_tokens::token::Colon;
 use syn_tokens::tree::{Ident, TokenStream, TokenTree};
+use syn_tokens::{Delimiter, Spacing};
 
 /// What stands in a list.
 pub trait Element {
@@ -131,7 +131,9 @@ fn is_negative(minus: &TokenTree, number: &TokenTree) -> bool
 {
     match minus {
         TokenTree::Punct(minus) => match number {
-            TokenTree::Literal(number) => minus.spacing == Spacing::Alone && minus.ch == '-' && is_number(number.as_str()),
+            TokenTree::Literal(number) => minus.spacing == Spacing::Alone
+                && minus.ch == '-'
+                && is_number(number.as_str()),
             _ => false,
         },
         _ => false,
