@@ -15,9 +15,9 @@ use Rattle.syn_tokens.specs.Tok.{Tok}
 use Rattle.syn_tokens.specs.declared.error.Error.{Error}
 use Rattle.syn_tokens.specs.declared.error.ErrorKind.{ErrorKind}
 use Rattle.syn_tokens.specs.declared.error.ErrorKind.TheVariants.{OutOfMemory}
-use Rattle.syn_grammar.specs.Place.{plain}
-use Rattle.syn_grammar.specs.Stands.{Stands}
-use Rattle.syn_grammar.specs.Tree.{Tree}
+use Rattle.syn_five_kinds.specs.Place.{plain}
+use Rattle.syn_five_kinds.specs.Stands.{Stands}
+use Rattle.syn_five_kinds.specs.Tree.{Tree}
 use Rattle.syn_expr.specs.declared.expr.Expr.{Expr}
 use Rattle.syn_expr.specs.Reads.{SpellsExpr}
 use Rattle.syn_expr.specs.View.{seen_of, SeenExpr}

@@ -8,9 +8,9 @@ use Rattle.syn_tokens.specs.Text.{text}
 use Rattle.syn_tokens.specs.declared.error.Error.{Error}
 use Rattle.syn_tokens.specs.declared.error.ErrorKind.TheVariants.{OutOfMemory}
 use Rattle.syn_tokens.specs.ErrorText.{kind_text}
-use Rattle.syn_grammar.specs.Place.{plain}
-use Rattle.syn_grammar.specs.Stands.{Stands}
-use Rattle.syn_grammar.specs.Tree.{Tree, own_tokens}
+use Rattle.syn_five_kinds.specs.Place.{plain}
+use Rattle.syn_five_kinds.specs.Stands.{Stands}
+use Rattle.syn_five_kinds.specs.Tree.{Tree, own_tokens}
 
 -- how a run ends: with printed tokens, a refusal, an input that is no UTF-8, or a read that failed
 pub data Outcome : Type 0 where

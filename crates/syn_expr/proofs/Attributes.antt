@@ -2,11 +2,11 @@
 use Rattle.std.proofs.Common.{◌≡◌, List, [], ◌∷◌, ◌++◌, Some, None, refl, ap, sym, ◌∙◌, append_assoc}
 use Rattle.std.proofs.lemmas.List.{append-nil}
 use Rattle.syn_tokens.specs.Tok.{Tok}
-use Rattle.syn_grammar.specs.Tree.{Attr}
-use Rattle.syn_grammar.specs.Stands.{attrs_at}
-use Rattle.syn_grammar.specs.Read.{attr_at}
+use Rattle.syn_five_kinds.specs.Tree.{Attr}
+use Rattle.syn_five_kinds.specs.Stands.{attrs_at}
+use Rattle.syn_five_kinds.specs.Read.{attr_at}
 use Rattle.syn_expr.proofs.TreeOf.{outer_append}
-use Rattle.syn_grammar.proofs.Attrs.{attrs_end, attrs_more}
+use Rattle.syn_five_kinds.proofs.Attrs.{attrs_end, attrs_more}
 
 -- attributes behind those that were found
 pub with_found : List Attr → List Attr × List Tok → List Attr × List Tok

@@ -5,13 +5,13 @@ use Rattle.syn_tokens.specs.Input.{Gives}
 use Rattle.syn_tokens.specs.Tok.{Tok}
 use Rattle.syn_tokens.specs.declared.error.Error.{Error}
 use Rattle.syn_tokens.specs.declared.error.ErrorKind.TheVariants.{OutOfMemory}
-use Rattle.syn_grammar.specs.Next.{enclosed}
-use Rattle.syn_grammar.specs.Place.{plain}
-use Rattle.syn_grammar.specs.Rule.{printed}
-use Rattle.syn_grammar.specs.Stands.{Stands}
-use Rattle.syn_grammar.specs.Tree.{Tree, leaf, paren, lead, mid, adorned, own_tokens, clear, flatten, prepend, is_well_formed, IsSameTree}
-use Rattle.syn_grammar.proofs.Nodes.{same_mid}
-use Rattle.syn_grammar.proofs.Promise.{printed_same, printed_stands}
+use Rattle.syn_five_kinds.specs.Next.{enclosed}
+use Rattle.syn_five_kinds.specs.Place.{plain}
+use Rattle.syn_five_kinds.specs.Rule.{printed}
+use Rattle.syn_five_kinds.specs.Stands.{Stands}
+use Rattle.syn_five_kinds.specs.Tree.{Tree, leaf, paren, lead, mid, adorned, own_tokens, clear, flatten, prepend, is_well_formed, IsSameTree}
+use Rattle.syn_five_kinds.proofs.Nodes.{same_mid}
+use Rattle.syn_five_kinds.proofs.Promise.{printed_same, printed_stands}
 use Rattle.syn_expr.specs.declared.expr.Expr.{Expr}
 use Rattle.syn_expr.specs.Reads.{SpellsExpr}
 use Rattle.syn_expr.specs.View.{tree_of, seen_of, SeenExpr}

@@ -5,14 +5,14 @@ use Rattle.syn_tokens.specs.Tok.{Tok, weight}
 use Rattle.syn_tokens.specs.Input.{IsTail}
 use Rattle.syn_tokens.specs.declared.error.ErrorKind.{ErrorKind}
 use Rattle.syn_tokens.specs.declared.error.ErrorKind.TheVariants.{OutOfMemory}
-use Rattle.syn_grammar.specs.Tree.{Tree}
-use Rattle.syn_grammar.specs.declared.kinds.Place.{Place}
-use Rattle.syn_grammar.specs.Stands.{Stands}
-use Rattle.syn_grammar.specs.Read.{expr}
-use Rattle.syn_grammar.proofs.Chains.{some_is}
-use Rattle.syn_grammar.proofs.Spelled.{node_less}
-use Rattle.syn_grammar.proofs.Tails.{node_tail}
-use Rattle.syn_grammar.proofs.Unique.{expr_sound, expr_complete}
+use Rattle.syn_five_kinds.specs.Tree.{Tree}
+use Rattle.syn_five_kinds.specs.declared.kinds.Place.{Place}
+use Rattle.syn_five_kinds.specs.Stands.{Stands}
+use Rattle.syn_five_kinds.specs.Read.{expr}
+use Rattle.syn_five_kinds.proofs.Chains.{some_is}
+use Rattle.syn_five_kinds.proofs.Spelled.{node_less}
+use Rattle.syn_five_kinds.proofs.Tails.{node_tail}
+use Rattle.syn_five_kinds.proofs.Unique.{expr_sound, expr_complete}
 
 -- what is read ends the list
 pub read_tail : (p : Place) (l n : List Tok) (t : Tree) → expr p l ≡ Some (t, n) → IsTail n l

@@ -3,7 +3,7 @@ use Rattle.std.proofs.Common.{◌≡◌, List, [], ◌∷◌, ◌++◌, refl, sy
 use Rattle.std.specs.declared.vec.Vec.{Vec}
 use Rattle.std.specs.declared.alloc.Global.{Global}
 use Rattle.syn_tokens.specs.Tok.{inside}
-use Rattle.syn_grammar.specs.Tree.{Attr}
+use Rattle.syn_five_kinds.specs.Tree.{Attr}
 use Rattle.syn_expr.specs.declared.attr.Attribute.{Attribute}
 use Rattle.syn_expr.specs.declared.expr.Expr.{Expr, out-Expr, map-Expr, fold_out-Expr}
 use Rattle.syn_expr.specs.declared.expr.Expr.TheVariants as ex

@@ -4,15 +4,15 @@ use Rattle.std.proofs.Common.{◌≡◌, ℕ, ◌<◌, Bool, true, false, cond, 
 use Rattle.std.proofs.lemmas.Option.{none-some}
 use Rattle.syn_tokens.specs.Tok.{Tok, toks-inside, inside_weight-inside}
 use Rattle.syn_tokens.proofs.Weights.{weight-first, one_at_least, drop_weight}
-use Rattle.syn_grammar.specs.declared.kinds.Infix.{Infix}
-use Rattle.syn_grammar.specs.declared.kinds.Level.{Level}
-use Rattle.syn_grammar.specs.declared.kinds.Place.{Place}
-use Rattle.syn_grammar.specs.Op.{infix_at, goes_on, takes, takes_by, level}
-use Rattle.syn_grammar.specs.Stands.{ends, refuses_dots, refuses_arrow}
-use Rattle.syn_grammar.specs.Read.{and_then, longer, operations, stop, next_operator, taken_at, taken_by, expr}
-use Rattle.syn_grammar.proofs.Turns.{operations_go, operations_stop}
-use Rattle.syn_grammar.proofs.Weights.{infix_present, infix_some}
-use Rattle.syn_grammar.proofs.Chains.{chosen}
+use Rattle.syn_five_kinds.specs.declared.kinds.Infix.{Infix}
+use Rattle.syn_five_kinds.specs.declared.kinds.Level.{Level}
+use Rattle.syn_five_kinds.specs.declared.kinds.Place.{Place}
+use Rattle.syn_five_kinds.specs.Op.{infix_at, goes_on, takes, takes_by, level}
+use Rattle.syn_five_kinds.specs.Stands.{ends, refuses_dots, refuses_arrow}
+use Rattle.syn_five_kinds.specs.Read.{and_then, longer, operations, stop, next_operator, taken_at, taken_by, expr}
+use Rattle.syn_five_kinds.proofs.Turns.{operations_go, operations_stop}
+use Rattle.syn_five_kinds.proofs.Weights.{infix_present, infix_some}
+use Rattle.syn_five_kinds.proofs.Chains.{chosen}
 use Rattle.syn_expr.specs.declared.expr.Expr.{Expr}
 use Rattle.syn_expr.specs.View.{tree_of}
 use Rattle.syn_expr.proofs.Nodes.{no_range}

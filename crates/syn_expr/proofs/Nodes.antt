@@ -1,9 +1,9 @@
 -- What a node of the program's tree answers, by its kind.
 use Rattle.std.proofs.Common.{◌≡◌, Bool, true, false, not, ◌&&◌, List, [], ◌∷◌, refl, ap, ◌∙◌}
-use Rattle.syn_grammar.specs.Tree.{Tree, adorn, adorned, Attr}
-use Rattle.syn_grammar.specs.Op.{is_comparison}
-use Rattle.syn_grammar.specs.Stands.{carries_trailer, compares, is_range}
-use Rattle.syn_grammar.specs.declared.kinds.Infix.TheVariants as inf
+use Rattle.syn_five_kinds.specs.Tree.{Tree, adorn, adorned, Attr}
+use Rattle.syn_five_kinds.specs.Op.{is_comparison}
+use Rattle.syn_five_kinds.specs.Stands.{carries_trailer, compares, is_range}
+use Rattle.syn_five_kinds.specs.declared.kinds.Infix.TheVariants as inf
 use Rattle.syn_expr.specs.declared.expr.Expr.{Expr, out-Expr}
 use Rattle.syn_expr.specs.declared.expr.Expr.TheVariants as ex
 use Rattle.syn_expr.specs.declared.expr.Expr.TheOpen.{Expr-F}

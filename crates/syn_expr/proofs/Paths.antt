@@ -2,10 +2,10 @@
 use Rattle.std.proofs.Common.{◌≡◌, ℕ, true, false, List, [], ◌∷◌, ◌++◌, drop, Some, None, refl, ap, sym, ◌∙◌, append_assoc}
 use Rattle.std.proofs.lemmas.List.{map-append}
 use Rattle.syn_tokens.specs.Tok.{Tok, ident}
-use Rattle.syn_grammar.specs.Words.{is_segment}
-use Rattle.syn_grammar.specs.Tokens.{path_sep_at}
-use Rattle.syn_grammar.specs.Read.{Outcome, segments_at, more_segments}
-use Rattle.syn_grammar.proofs.Paths.{behind_is}
+use Rattle.syn_five_kinds.specs.Words.{is_segment}
+use Rattle.syn_five_kinds.specs.Tokens.{path_sep_at}
+use Rattle.syn_five_kinds.specs.Read.{Outcome, segments_at, more_segments}
+use Rattle.syn_five_kinds.proofs.Paths.{behind_is}
 
 -- segments behind those that were found
 pub prefixed : List (List ℕ) → Outcome (List (List ℕ)) → Outcome (List (List ℕ))

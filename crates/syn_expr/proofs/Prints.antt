@@ -4,19 +4,19 @@ use Rattle.std.proofs.lemmas.List.{append-nil}
 use Rattle.syn_lexer.specs.declared.lexeme.Delimiter.TheVariants as delimiter
 use Rattle.syn_tokens.specs.Tok.{Tok, ident, group, inside}
 use Rattle.syn_tokens.specs.Input.{IsFront}
-use Rattle.syn_grammar.specs.declared.kinds.Infix.TheVariants as inf
-use Rattle.syn_grammar.specs.declared.kinds.Level.TheVariants as lev
-use Rattle.syn_grammar.specs.declared.kinds.Infix.{Infix}
-use Rattle.syn_grammar.specs.declared.next.Context.{Context}
-use Rattle.syn_grammar.specs.declared.next.Edge.TheVariants as edge
-use Rattle.syn_grammar.specs.declared.next.Role.TheVariants as role
-use Rattle.syn_grammar.specs.Next.{enclosed}
-use Rattle.syn_grammar.specs.declared.note.Note.{Note}
-use Rattle.syn_grammar.specs.Notes.{EndsWith, below, stack, note_of, closed_note, lead_note, mid_note}
-use Rattle.syn_grammar.proofs.Promise.{printed_whole}
-use Rattle.syn_grammar.specs.Rule.{bare, printed, put}
-use Rattle.syn_grammar.specs.Stands.{is_infix}
-use Rattle.syn_grammar.specs.Tree.{Tree, leaf, paren, lead, mid, lit, path, unary, Attr, adorn, attr_toks, attrs_toks, own_tokens, size, lit_tok, un_tok, path_toks, two, segments_toks, alone, joint}
+use Rattle.syn_five_kinds.specs.declared.kinds.Infix.TheVariants as inf
+use Rattle.syn_five_kinds.specs.declared.kinds.Level.TheVariants as lev
+use Rattle.syn_five_kinds.specs.declared.kinds.Infix.{Infix}
+use Rattle.syn_five_kinds.specs.declared.next.Context.{Context}
+use Rattle.syn_five_kinds.specs.declared.next.Edge.TheVariants as edge
+use Rattle.syn_five_kinds.specs.declared.next.Role.TheVariants as role
+use Rattle.syn_five_kinds.specs.Next.{enclosed}
+use Rattle.syn_five_kinds.specs.declared.note.Note.{Note}
+use Rattle.syn_five_kinds.specs.Notes.{EndsWith, below, stack, note_of, closed_note, lead_note, mid_note}
+use Rattle.syn_five_kinds.proofs.Promise.{printed_whole}
+use Rattle.syn_five_kinds.specs.Rule.{bare, printed, put}
+use Rattle.syn_five_kinds.specs.Stands.{is_infix}
+use Rattle.syn_five_kinds.specs.Tree.{Tree, leaf, paren, lead, mid, lit, path, unary, Attr, adorn, attr_toks, attrs_toks, own_tokens, size, lit_tok, un_tok, path_toks, two, segments_toks, alone, joint}
 use Rattle.syn_expr.specs.declared.expr.Expr.{Expr}
 use Rattle.syn_expr.specs.declared.expr.Expr.TheVariants as ex
 use Rattle.syn_expr.specs.declared.expr.ExprBinaryOf.{ExprBinaryOf}

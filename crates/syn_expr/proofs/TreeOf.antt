@@ -1,12 +1,12 @@
 -- The tree of each kind of node.
 use Rattle.std.proofs.Common.{◌≡◌, Bool, false, List, [], ◌∷◌, refl, sym, ap, ◌∙◌, ◌++◌, append_assoc}
 use Rattle.std.proofs.lemmas.List.{append-nil}
-use Rattle.syn_grammar.specs.Tree.{Tree, leaf, paren, lead, mid, lit, path, unary, prepend, adorn, adorned, is_adorned, Attr, Leaf, Lead}
-use Rattle.syn_grammar.specs.declared.kinds.Infix.{Infix}
-use Rattle.syn_grammar.specs.declared.kinds.Infix.TheVariants as inf
-use Rattle.syn_grammar.specs.declared.kinds.Level.{Level}
-use Rattle.syn_grammar.specs.declared.kinds.Level.TheVariants as lev
-use Rattle.syn_grammar.specs.Op.{level_of}
+use Rattle.syn_five_kinds.specs.Tree.{Tree, leaf, paren, lead, mid, lit, path, unary, prepend, adorn, adorned, is_adorned, Attr, Leaf, Lead}
+use Rattle.syn_five_kinds.specs.declared.kinds.Infix.{Infix}
+use Rattle.syn_five_kinds.specs.declared.kinds.Infix.TheVariants as inf
+use Rattle.syn_five_kinds.specs.declared.kinds.Level.{Level}
+use Rattle.syn_five_kinds.specs.declared.kinds.Level.TheVariants as lev
+use Rattle.syn_five_kinds.specs.Op.{level_of}
 use Rattle.syn_expr.specs.declared.expr.Expr.{Expr, out-Expr, map-Expr, fold_out-Expr}
 use Rattle.syn_expr.specs.declared.expr.Expr.TheVariants as ex
 use Rattle.syn_expr.specs.declared.expr.Expr.TheOpen.{Expr-F}

@@ -1,8 +1,8 @@
 -- The tree of an expression has no marks.
 use Rattle.std.proofs.Common.{◌≡◌, false, List, [], ◌∷◌, refl, sym, ◌∙◌, ap, subst}
-use Rattle.syn_grammar.specs.declared.kinds.Infix.{Infix}
-use Rattle.syn_grammar.specs.declared.kinds.Infix.TheVariants as inf
-use Rattle.syn_grammar.specs.Tree.{Tree, paren, lead, mid, unary, Attr, adorn, adorned, clear}
+use Rattle.syn_five_kinds.specs.declared.kinds.Infix.{Infix}
+use Rattle.syn_five_kinds.specs.declared.kinds.Infix.TheVariants as inf
+use Rattle.syn_five_kinds.specs.Tree.{Tree, paren, lead, mid, unary, Attr, adorn, adorned, clear}
 use Rattle.syn_expr.specs.declared.expr.Expr.{Expr, ind-Expr, map-Expr, fold-roll-Expr}
 use Rattle.syn_expr.specs.declared.expr.Expr.TheOpen.{Expr-F}
 use Rattle.syn_expr.specs.View.{tree_of, tree_step, attrs_of, un_kind, bin_kind}

@@ -2,10 +2,10 @@
 use Rattle.std.specs.Prelude.{List, [], ◌∷◌}
 use Rattle.std.specs.declared.vec.Vec.{Vec}
 use Rattle.std.specs.declared.alloc.Global.{Global}
-use Rattle.syn_grammar.specs.declared.kinds.Level.{Level}
-use Rattle.syn_grammar.specs.declared.kinds.Level.TheVariants as lev
-use Rattle.syn_grammar.specs.Op.{level}
-use Rattle.syn_grammar.specs.Tree.{Tree, leaf, paren, lead, mid, adorned, Attr}
+use Rattle.syn_five_kinds.specs.declared.kinds.Level.{Level}
+use Rattle.syn_five_kinds.specs.declared.kinds.Level.TheVariants as lev
+use Rattle.syn_five_kinds.specs.Op.{level}
+use Rattle.syn_five_kinds.specs.Tree.{Tree, leaf, paren, lead, mid, adorned, Attr}
 use Rattle.syn_expr.specs.declared.precedence.Precedence.{Precedence}
 use Rattle.syn_expr.specs.declared.precedence.Precedence.TheVariants as prec
 use Rattle.syn_expr.specs.declared.attr.Attribute.{Attribute}

@@ -1,16 +1,16 @@
 -- Parts of the printed tokens.
 use Rattle.std.specs.Prelude.{ℕ, Bool, true, List, [], ◌∷◌, ◌++◌, map, if◌then◌else◌}
 use Rattle.syn_tokens.specs.Tok.{Tok, ident}
-use Rattle.syn_grammar.specs.declared.note.Note.{Note}
-use Rattle.syn_grammar.specs.Notes.{adorned_note}
-use Rattle.syn_grammar.specs.declared.kinds.Infix.{Infix}
-use Rattle.syn_grammar.specs.declared.next.Context.{Context}
-use Rattle.syn_grammar.specs.declared.next.Role.{Role}
-use Rattle.syn_grammar.specs.declared.next.Role.TheVariants as role
-use Rattle.syn_grammar.specs.Next.{enclosed, left_context, right_context}
-use Rattle.syn_grammar.specs.Op.{level}
-use Rattle.syn_grammar.specs.Rule.{bare, printed, printed_in}
-use Rattle.syn_grammar.specs.Tree.{Attr, Tree, own_tokens, mid_toks, two}
+use Rattle.syn_five_kinds.specs.declared.note.Note.{Note}
+use Rattle.syn_five_kinds.specs.Notes.{adorned_note}
+use Rattle.syn_five_kinds.specs.declared.kinds.Infix.{Infix}
+use Rattle.syn_five_kinds.specs.declared.next.Context.{Context}
+use Rattle.syn_five_kinds.specs.declared.next.Role.{Role}
+use Rattle.syn_five_kinds.specs.declared.next.Role.TheVariants as role
+use Rattle.syn_five_kinds.specs.Next.{enclosed, left_context, right_context}
+use Rattle.syn_five_kinds.specs.Op.{level}
+use Rattle.syn_five_kinds.specs.Rule.{bare, printed, printed_in}
+use Rattle.syn_five_kinds.specs.Tree.{Attr, Tree, own_tokens, mid_toks, two}
 use Rattle.syn_expr.specs.declared.path.PathSegment.{PathSegment}
 use Rattle.syn_expr.specs.declared.punctuated.Punctuated.{Punctuated}
 use Rattle.syn_expr.specs.View.{values}

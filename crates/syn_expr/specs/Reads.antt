@@ -9,20 +9,20 @@ use Rattle.syn_tokens.specs.Tok.{Tok, ident, weight}
 use Rattle.syn_tokens.specs.Input.{Input}
 use Rattle.std.specs.declared.boxed.Box.{Box}
 use denote.Ref.{MutBor}
-use Rattle.syn_grammar.specs.declared.kinds.Place.{Place}
+use Rattle.syn_five_kinds.specs.declared.kinds.Place.{Place}
 use Rattle.syn_expr.specs.declared.expr.Expr.{Expr}
 use Rattle.std.specs.declared.vec.Vec.{Vec}
 use Rattle.std.specs.declared.alloc.Global.{Global}
-use Rattle.syn_grammar.specs.Tree.{Attr, Tree}
+use Rattle.syn_five_kinds.specs.Tree.{Attr, Tree}
 use Rattle.syn_expr.specs.declared.attr.Attribute.{Attribute}
-use Rattle.syn_grammar.specs.Words.{is_segment}
-use Rattle.syn_grammar.specs.Place.{plain}
-use Rattle.syn_grammar.specs.Read.{Outcome, segments_at, expr}
-use Rattle.syn_grammar.specs.Stands.{Stands}
-use Rattle.syn_grammar.specs.Op.{infix_at, prefix_at}
-use Rattle.syn_grammar.specs.declared.kinds.Infix.TheVariants as inf
-use Rattle.syn_grammar.specs.declared.kinds.BinKind.{BinKind}
-use Rattle.syn_grammar.specs.declared.kinds.UnKind.{UnKind}
+use Rattle.syn_five_kinds.specs.Words.{is_segment}
+use Rattle.syn_five_kinds.specs.Place.{plain}
+use Rattle.syn_five_kinds.specs.Read.{Outcome, segments_at, expr}
+use Rattle.syn_five_kinds.specs.Stands.{Stands}
+use Rattle.syn_five_kinds.specs.Op.{infix_at, prefix_at}
+use Rattle.syn_five_kinds.specs.declared.kinds.Infix.TheVariants as inf
+use Rattle.syn_five_kinds.specs.declared.kinds.BinKind.{BinKind}
+use Rattle.syn_five_kinds.specs.declared.kinds.UnKind.{UnKind}
 use Rattle.syn_expr.specs.declared.path.PathSegment.{PathSegment}
 use Rattle.syn_expr.specs.View.{attrs_of, tree_of, inner_of, SeenExpr}
 

@@ -3,12 +3,12 @@ use Rattle.std.specs.Prelude.{ℕ, Bool, true, false, List, [], ◌∷◌, ◌++
 use Rattle.std.specs.declared.vec.Vec.{Vec}
 use Rattle.std.specs.declared.alloc.Global.{Global}
 use Rattle.syn_tokens.specs.Tok.{inside}
-use Rattle.syn_grammar.specs.Tree.{Tree, leaf, paren, lead, mid, lit, path, unary, adorn, adorned, Lit, Path, Attr, int, float, bool}
-use Rattle.syn_grammar.specs.declared.kinds.UnKind.{UnKind}
-use Rattle.syn_grammar.specs.declared.kinds.UnKind.TheVariants as un
-use Rattle.syn_grammar.specs.declared.kinds.BinKind.{BinKind}
-use Rattle.syn_grammar.specs.declared.kinds.BinKind.TheVariants as bin
-use Rattle.syn_grammar.specs.declared.kinds.Infix.TheVariants as inf
+use Rattle.syn_five_kinds.specs.Tree.{Tree, leaf, paren, lead, mid, lit, path, unary, adorn, adorned, Lit, Path, Attr, int, float, bool}
+use Rattle.syn_five_kinds.specs.declared.kinds.UnKind.{UnKind}
+use Rattle.syn_five_kinds.specs.declared.kinds.UnKind.TheVariants as un
+use Rattle.syn_five_kinds.specs.declared.kinds.BinKind.{BinKind}
+use Rattle.syn_five_kinds.specs.declared.kinds.BinKind.TheVariants as bin
+use Rattle.syn_five_kinds.specs.declared.kinds.Infix.TheVariants as inf
 use Rattle.syn_expr.specs.declared.attr.Attribute.{Attribute}
 use Rattle.syn_expr.specs.declared.attr.AttrStyle.{AttrStyle}
 use Rattle.syn_expr.specs.declared.attr.AttrStyle.TheVariants as style

@@ -1,8 +1,8 @@
 //! Attributes (Rust Reference, "Attributes").
 
 ghost use Rattle.std.specs.Prelude.{◌≡◌, ◌≤◌, [], drop, length, Some, None, IfOk, IfSome, MatchOption};
-ghost use Rattle.syn_grammar.specs.Read as spec;
-ghost use Rattle.syn_grammar.specs.Stands.{attrs_at};
+ghost use Rattle.syn_five_kinds.specs.Read as spec;
+ghost use Rattle.syn_five_kinds.specs.Stands.{attrs_at};
 ghost use Rattle.syn_tokens.specs.Tok.{inside, weight};
 ghost use Rattle.syn_expr.specs.Reads.{ReadsAttrs};
 ghost use Rattle.syn_expr.specs.View.{inner_attrs};
@@ -38,7 +38,7 @@ pub struct Attribute {
 }
 
 /// The outer attribute that stands first: the place of its `#`, and its brackets.
-#[tactic(auto, unfolding(syn_grammar::specs::Read::attr_at))]
+#[tactic(auto, unfolding(syn_five_kinds::specs::Read::attr_at))]
 fn outer_attr<'a>(input: &ParseBuffer<'a>) -> Option<(Span, &'a Group)>
     ensures value { MatchOption result (spec.attr_at input.now.rest ≡ None) (λ a. spec.attr_at input.now.rest ≡ Some (record { tokens = inside a.1.now.stream }, drop 2 input.now.rest)) }
     ensures present { IfSome result (λ a. 2 ≤ length input.now.rest) }

@@ -4,7 +4,7 @@
 //! `ExprBinaryOf<Expr>`. Users write the alias, in literals and patterns too.
 
 ghost use Rattle.std.specs.Prelude.{◌≡◌};
-ghost use Rattle.syn_grammar.specs.Tree.{adorn};
+ghost use Rattle.syn_five_kinds.specs.Tree.{adorn};
 ghost use Rattle.syn_expr.specs.View.{tree_of, attrs_of, stripped, own_attrs, inner_in_operands};
 
 use crate::attr::Attribute;

@@ -1,7 +1,7 @@
 //! Where an expression is printed: what decides about its parentheses, but the expression itself.
 
 use std::marker::Model;
-use syn_grammar::next::{Context, Edge, Next};
+use syn_five_kinds::next::{Context, Edge, Next};
 
 /// Where an expression is printed. Contracts see it as what the parenthesis rule asks of a place.
 #[derive(Clone, Copy)]
@@ -10,7 +10,7 @@ pub struct FixupContext {
 }
 
 impl Model for FixupContext {
-    ghost use Rattle.syn_grammar.specs.declared.next.Context.{Context};
+    ghost use Rattle.syn_five_kinds.specs.declared.next.Context.{Context};
 
     ghost Value = { Context };
 

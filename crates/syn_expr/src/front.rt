@@ -1,7 +1,7 @@
 //! What stands at the front of the tokens that are left.
 
 ghost use Rattle.std.specs.Prelude.{◌≡◌, ◌≤◌, drop, true, false, MatchOption};
-ghost use Rattle.syn_grammar.specs.Tokens as spec;
+ghost use Rattle.syn_five_kinds.specs.Tokens as spec;
 ghost use Rattle.syn_tokens.specs.Tok.{weight};
 ghost use Rattle.syn_tokens.specs.View.{toks_of};
 
@@ -11,7 +11,7 @@ use syn_tokens::tree::TokenTree;
 use syn_tokens::{Delimiter, Spacing};
 
 /// The character at the front, a zero where no punct is there, and whether the next punct is joined to it.
-#[tactic(auto, unfolding(syn_grammar::specs::Tokens::sign))]
+#[tactic(auto, unfolding(syn_five_kinds::specs::Tokens::sign))]
 fn sign(trees: &[TokenTree]) -> (char, bool)
     ensures { result ≡ spec.sign (toks_of trees.now) }
 {
@@ -32,7 +32,7 @@ fn past_first(trees: &[TokenTree]) -> &[TokenTree]
 }
 
 /// The three characters at the front that are joined, a zero for each that is not there.
-#[tactic(auto, using(crate::proofs::Fronts::drop_one_one), unfolding(syn_grammar::specs::Tokens::signs))]
+#[tactic(auto, using(crate::proofs::Fronts::drop_one_one), unfolding(syn_five_kinds::specs::Tokens::signs))]
 pub(crate) fn signs(input: &ParseBuffer<'_>) -> (char, char, char)
     ensures { result ≡ spec.signs input.now.rest }
 {
@@ -58,7 +58,7 @@ pub(crate) fn first_sign(input: &ParseBuffer<'_>) -> char
 }
 
 /// `<-` stands first.
-#[tactic(auto, unfolding(syn_grammar::specs::Tokens::left_arrow_at))]
+#[tactic(auto, unfolding(syn_five_kinds::specs::Tokens::left_arrow_at))]
 pub(crate) fn left_arrow_at(input: &ParseBuffer<'_>) -> bool
     ensures { result ≡ spec.left_arrow_at input.now.rest }
 {
@@ -67,7 +67,7 @@ pub(crate) fn left_arrow_at(input: &ParseBuffer<'_>) -> bool
 }
 
 /// `...` stands first.
-#[tactic(auto, unfolding(syn_grammar::specs::Tokens::three_dots_at))]
+#[tactic(auto, unfolding(syn_five_kinds::specs::Tokens::three_dots_at))]
 pub(crate) fn three_dots_at(input: &ParseBuffer<'_>) -> bool
     ensures { result ≡ spec.three_dots_at input.now.rest }
 {
@@ -76,7 +76,7 @@ pub(crate) fn three_dots_at(input: &ParseBuffer<'_>) -> bool
 }
 
 /// `::` stands first.
-#[tactic(auto, unfolding(syn_grammar::specs::Tokens::path_sep_at))]
+#[tactic(auto, unfolding(syn_five_kinds::specs::Tokens::path_sep_at))]
 pub(crate) fn path_sep_at(input: &ParseBuffer<'_>) -> bool
     ensures { result ≡ spec.path_sep_at input.now.rest }
 {
@@ -85,7 +85,7 @@ pub(crate) fn path_sep_at(input: &ParseBuffer<'_>) -> bool
 }
 
 /// `!=` stands first.
-#[tactic(auto, unfolding(syn_grammar::specs::Tokens::not_equal_at))]
+#[tactic(auto, unfolding(syn_five_kinds::specs::Tokens::not_equal_at))]
 pub(crate) fn not_equal_at(input: &ParseBuffer<'_>) -> bool
     ensures { result ≡ spec.not_equal_at input.now.rest }
 {
@@ -94,7 +94,7 @@ pub(crate) fn not_equal_at(input: &ParseBuffer<'_>) -> bool
 }
 
 /// `!` stands first, but not `!=`.
-#[tactic(auto, unfolding(syn_grammar::specs::Tokens::bang_at))]
+#[tactic(auto, unfolding(syn_five_kinds::specs::Tokens::bang_at))]
 pub(crate) fn bang_at(input: &ParseBuffer<'_>) -> bool
     ensures { result ≡ spec.bang_at input.now.rest }
 {
@@ -103,7 +103,7 @@ pub(crate) fn bang_at(input: &ParseBuffer<'_>) -> bool
 }
 
 /// `#` stands first.
-#[tactic(auto, unfolding(syn_grammar::specs::Tokens::pound_at))]
+#[tactic(auto, unfolding(syn_five_kinds::specs::Tokens::pound_at))]
 pub(crate) fn pound_at(input: &ParseBuffer<'_>) -> bool
     ensures { result ≡ spec.pound_at input.now.rest }
 {
@@ -111,7 +111,7 @@ pub(crate) fn pound_at(input: &ParseBuffer<'_>) -> bool
 }
 
 /// A group with this delimiter stands first.
-#[tactic(auto, unfolding(syn_grammar::specs::Tokens::is_group_at, syn_tokens::specs::Front::group_at))]
+#[tactic(auto, unfolding(syn_five_kinds::specs::Tokens::is_group_at, syn_tokens::specs::Front::group_at))]
 pub(crate) fn group_at(input: &ParseBuffer<'_>, delimiter: Delimiter) -> bool
     ensures { result ≡ spec.is_group_at delimiter input.now.rest }
 {
@@ -122,7 +122,7 @@ pub(crate) fn group_at(input: &ParseBuffer<'_>, delimiter: Delimiter) -> bool
 }
 
 /// What goes on a base stands first: `(`, `[`, `?`, or `.` that does not begin `..`.
-#[tactic(auto, unfolding(syn_grammar::specs::Tokens::trailer_at))]
+#[tactic(auto, unfolding(syn_five_kinds::specs::Tokens::trailer_at))]
 pub(crate) fn trailer_at(input: &ParseBuffer<'_>) -> bool
     ensures { result ≡ spec.trailer_at input.now.rest }
 {
@@ -148,7 +148,7 @@ pub(crate) fn path_sep(input: &mut ParseBuffer<'_>) -> Option<PathSep>
 }
 
 /// This word stands first.
-#[tactic(auto, unfolding(syn_grammar::specs::Tokens::word_at))]
+#[tactic(auto, unfolding(syn_five_kinds::specs::Tokens::word_at))]
 pub(crate) fn word_at(input: &ParseBuffer<'_>, word: &str) -> bool
     ensures { result ≡ spec.word_at word.now input.now.rest }
 {

@@ -2,8 +2,8 @@
 
 ghost use Rattle.std.specs.Prelude.{◌≡◌, [], true, IfOk, MatchResult, Some};
 ghost use Rattle.std.specs.Ordering.{nat_cmp};
-ghost use Rattle.syn_grammar.specs.Place.{rank};
-ghost use Rattle.syn_grammar.specs.Tree.{IsSameTree, is_well_formed};
+ghost use Rattle.syn_five_kinds.specs.Place.{rank};
+ghost use Rattle.syn_five_kinds.specs.Tree.{IsSameTree, is_well_formed};
 ghost use Rattle.syn_expr.specs.Binds.{level_of};
 ghost use Rattle.syn_expr.specs.View.{tree_of, inner_of};
 

@@ -2,7 +2,7 @@
 
 ghost use Rattle.std.specs.Prelude.{◌≡◌, ◌≤◌, length, IfOk, IfErr, MatchOption, Some, None};
 ghost use Rattle.std.specs.List.{prefix_len};
-ghost use Rattle.syn_grammar.specs.Tree as tree;
+ghost use Rattle.syn_five_kinds.specs.Tree as tree;
 ghost use Rattle.syn_expr.specs.View.{lit_of};
 
 use std::alloc::Global;
@@ -71,7 +71,7 @@ fn starts_fraction(text: &[u8]) -> bool
 
 /// Whether the text of a number is that of a float: behind its decimal digits a dot or an exponent stands (Rust Reference,
 /// "Floating-point literals").
-#[tactic(auto, unfolding(syn_grammar::specs::Tree::is_float_text))]
+#[tactic(auto, unfolding(syn_five_kinds::specs::Tree::is_float_text))]
 fn is_float(text: &[u8]) -> bool
     ensures { result ≡ tree.is_float_text text.now }
 {
@@ -90,7 +90,7 @@ fn starts_number(text: &[u8]) -> bool
 }
 
 /// The literal that a number's token is; none where the token is no number.
-#[tactic(auto, unfolding(syn_grammar::specs::Tree::number_of))]
+#[tactic(auto, unfolding(syn_five_kinds::specs::Tree::number_of))]
 pub(crate) fn number(alloc: Global, literal: &Literal) -> Result<Option<Lit>>
     ensures value { IfOk result (λ o. MatchOption o (tree.number_of literal.now ≡ None) (λ l. tree.number_of literal.now ≡ Some (lit_of l))) }
     ensures memory { IfErr result (λ e. e.kind ≡ ErrorKind.OutOfMemory) }

@@ -1,8 +1,8 @@
 //! Nodes that a reader makes: without attributes, which it puts in front afterwards.
 
 ghost use Rattle.std.specs.Prelude.{◌≡◌, ◌++◌, [], IfOk, OnOk, false};
-ghost use Rattle.syn_grammar.specs.Tree as tree;
-ghost use Rattle.syn_grammar.specs.declared.kinds.Infix.TheVariants as inf;
+ghost use Rattle.syn_five_kinds.specs.Tree as tree;
+ghost use Rattle.syn_five_kinds.specs.declared.kinds.Infix.TheVariants as inf;
 ghost use Rattle.syn_expr.specs.View.{tree_of, un_kind, bin_kind, lit_of, path_of, attrs_of, inner_attrs, inner_of};
 
 use crate::attr::Attribute;

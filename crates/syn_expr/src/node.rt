@@ -1,14 +1,14 @@
 //! Questions to a node that its kind answers.
 
 ghost use Rattle.std.specs.Prelude.{◌≡◌};
-ghost use Rattle.syn_grammar.specs.Stands as stands;
+ghost use Rattle.syn_five_kinds.specs.Stands as stands;
 ghost use Rattle.syn_expr.specs.Nodes.{has_some};
 ghost use Rattle.syn_expr.specs.View.{attrs_of, tree_of};
 
 use crate::attr::{AttrStyle, Attribute};
 use crate::expr::Expr;
 use crate::op::is_comparison;
-use syn_grammar::kinds::Infix;
+use syn_five_kinds::kinds::Infix;
 
 /// Whether an outer attribute is among these.
 #[tactic(auto, unfolding(crate::specs::View::attrs_of))]
@@ -48,7 +48,7 @@ pub(crate) fn compares(expr: &Expr) -> bool
 }
 
 /// Whether it may be the bare left operand of an operator.
-#[tactic(auto, using(crate::proofs::Nodes::no_range), unfolding(syn_grammar::specs::Stands::fits_left))]
+#[tactic(auto, using(crate::proofs::Nodes::no_range), unfolding(syn_five_kinds::specs::Stands::fits_left))]
 pub(crate) fn fits_left(op: Infix, expr: &Expr) -> bool
     ensures { result ≡ stands.fits_left op (tree_of expr.now) }
 {

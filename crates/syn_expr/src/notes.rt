@@ -1,11 +1,11 @@
 //! What is noted of each node before anything is printed.
 
 ghost use Rattle.std.specs.Prelude.{◌≡◌, ◌^◌, ◌+◌, ◌-◌, ◌<◌, ◌≤◌, ◌++◌, ◌∷◌, [], min, nat_lt, IfOk, OnOk};
-ghost use Rattle.syn_grammar.specs.Next as next_spec;
-ghost use Rattle.syn_grammar.specs.Notes as spec;
-ghost use Rattle.syn_grammar.specs.Op as op_spec;
-ghost use Rattle.syn_grammar.specs.Place as place;
-ghost use Rattle.syn_grammar.specs.Tree.{size};
+ghost use Rattle.syn_five_kinds.specs.Next as next_spec;
+ghost use Rattle.syn_five_kinds.specs.Notes as spec;
+ghost use Rattle.syn_five_kinds.specs.Op as op_spec;
+ghost use Rattle.syn_five_kinds.specs.Place as place;
+ghost use Rattle.syn_five_kinds.specs.Tree.{size};
 ghost use Rattle.syn_expr.specs.Printing.{noted_behind};
 ghost use Rattle.syn_expr.specs.View.{tree_of, attrs_of};
 
@@ -14,9 +14,9 @@ use crate::expr::Expr;
 use crate::node::has_outer;
 use crate::op::{is_comparison, level, rank};
 use std::alloc::AllocError;
-use syn_grammar::kinds::{BinKind, Infix, Level};
-use syn_grammar::next::{Context, Next, Role};
-use syn_grammar::note::Note;
+use syn_five_kinds::kinds::{BinKind, Infix, Level};
+use syn_five_kinds::next::{Context, Next, Role};
+use syn_five_kinds::note::Note;
 
 /// Every class of tokens.
 const EVERY: u32 = 0x3f_ffff;

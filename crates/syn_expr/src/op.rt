@@ -1,13 +1,13 @@
 //! Operators (Rust Reference, "Operator expressions").
 
 ghost use Rattle.std.specs.Prelude.{◌≡◌, ◌<◌, length, IfSome};
-ghost use Rattle.syn_grammar.specs.Op as spec;
-ghost use Rattle.syn_grammar.specs.Place as place;
+ghost use Rattle.syn_five_kinds.specs.Op as spec;
+ghost use Rattle.syn_five_kinds.specs.Place as place;
 ghost use Rattle.syn_tokens.specs.declared.error.ErrorKind.TheVariants.{ExpectedBinaryOperator};
 ghost use Rattle.syn_expr.specs.View.{un_kind, bin_kind};
 
 use crate::front::{first_sign, signs, word_at};
-use syn_grammar::kinds::{BinKind, Infix, Level, Limits, UnKind};
+use syn_five_kinds::kinds::{BinKind, Infix, Level, Limits, UnKind};
 use syn_tokens::buffer::{Parse, ParseBuffer};
 use syn_tokens::error::{ErrorKind, Expected, Result};
 use syn_tokens::span::Span;
@@ -196,7 +196,7 @@ fn shift(third: char, equal: BinKind, once: BinKind) -> Option<(Infix, usize)>
 }
 
 /// The longest operator of three characters that are joined, and of how many puncts it is.
-#[tactic(auto, unfolding(syn_grammar::specs::Op::operator))]
+#[tactic(auto, unfolding(syn_five_kinds::specs::Op::operator))]
 fn operator(a: char, b: char, c: char) -> Option<(Infix, usize)>
     ensures { result ≡ spec.operator a b c }
 {
@@ -226,7 +226,7 @@ fn operator(a: char, b: char, c: char) -> Option<(Infix, usize)>
 }
 
 /// The infix operator that stands first, and of how many tokens it is.
-#[tactic(auto, unfolding(syn_grammar::specs::Op::infix_at))]
+#[tactic(auto, unfolding(syn_five_kinds::specs::Op::infix_at))]
 pub(crate) fn infix_at(input: &ParseBuffer<'_>) -> Option<(Infix, usize)>
     ensures { result ≡ spec.infix_at input.now.rest }
 {
@@ -237,7 +237,7 @@ pub(crate) fn infix_at(input: &ParseBuffer<'_>) -> Option<(Infix, usize)>
     operator(a, b, c)
 }
 
-#[tactic(auto, unfolding(syn_grammar::specs::Op::unary))]
+#[tactic(auto, unfolding(syn_five_kinds::specs::Op::unary))]
 fn unary(c: char) -> Option<UnKind>
     ensures { result ≡ spec.unary c }
 {
@@ -250,7 +250,7 @@ fn unary(c: char) -> Option<UnKind>
 }
 
 /// The prefix operator that stands first.
-#[tactic(auto, using(syn_grammar::proofs::Weights::prefix_present), unfolding(syn_grammar::specs::Op::prefix_at))]
+#[tactic(auto, using(syn_five_kinds::proofs::Weights::prefix_present), unfolding(syn_five_kinds::specs::Op::prefix_at))]
 pub(crate) fn prefix_at(input: &ParseBuffer<'_>) -> Option<UnKind>
     ensures value { result ≡ spec.prefix_at input.now.rest }
     ensures present { IfSome result (λ _. 0 < length input.now.rest) }
@@ -347,10 +347,10 @@ impl UnOp {
     }
 }
 
-#[tactic(auto, using(syn_tokens::proofs::Inputs::tails, syn_grammar::proofs::Weights::infix_present, syn_grammar::proofs::Weights::infix_some))]
+#[tactic(auto, using(syn_tokens::proofs::Inputs::tails, syn_five_kinds::proofs::Weights::infix_present, syn_five_kinds::proofs::Weights::infix_some))]
 impl Parse for BinOp {
     ghost use Rattle.syn_expr.specs.Reads.{SpellsBinOp};
-    ghost use Rattle.syn_grammar.specs.declared.kinds.BinKind.{BinKind as Kind};
+    ghost use Rattle.syn_five_kinds.specs.declared.kinds.BinKind.{BinKind as Kind};
 
     ghost Seen = { Kind };
 
@@ -377,9 +377,7 @@ impl Parse for BinOp {
 #[tactic(auto, using(syn_tokens::proofs::Inputs::tails))]
 impl Parse for UnOp {
     ghost use Rattle.syn_expr.specs.Reads.{SpellsUnOp, wanted_prefix};
-    ghost use Rattle.syn_grammar.specs.declared.kinds.UnKind.{UnKind as Kind};
-    ghost use Rattle.syn_tokens.specs.Tok.{Tok, weight};
-    ghost use Rattle.syn_tokens.specs.Input.{Reaches, IsAfter};
+    ghost use Rattle.syn_five_kinds.specs.declared.kinds.UnKind.{UnKind as Kind};
 
     ghost Seen = { Kind };
 
@@ -389,15 +387,11 @@ impl Parse for UnOp {
 
     ghost least = { 1 };
 
+    ghost refuses = { λ kind. kind ≡ wanted_prefix };
+
     /// Takes `*`, `!` or `-`, one punct, joined to the next or not. It is refused as `ExpectedToken`, of these three,
     /// where none stands first. It takes no memory.
-    fn parse(input: &mut ParseBuffer<'_>) -> Result<Self>
-        ensures read { IfOk result (λ op. input.new.noted ≡ false → SpellsUnOp input.old.rest (un_kind op) input.new.rest) }
-        ensures found { (op : Kind) (rest : List Tok) → input.old.noted ≡ false → SpellsUnOp input.old.rest op rest → Reaches un_kind op rest result input.new }
-        ensures after { IsAfter input.old input.new }
-        ensures moves { IfOk result (λ op. 1 + weight input.new.rest ≤ weight input.old.rest) }
-        ensures refused { IfErr result (λ e. e.kind ≡ wanted_prefix) }
-    {
+    fn parse(input: &mut ParseBuffer<'_>) -> Result<Self> {
         let Some(kind) = prefix_at(input) else {
             return Err(input.error(ErrorKind::ExpectedToken(Expected::Three(
                 Star::wanted(),

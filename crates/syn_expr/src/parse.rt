@@ -4,11 +4,11 @@
 //! itself; `expr` ties the knot.
 
 ghost use Rattle.std.specs.Prelude.{◌≡◌, ◌≤◌, ◌+◌, [], true, false, MatchOption};
-ghost use Rattle.syn_grammar.specs.Place as places;
-ghost use Rattle.syn_grammar.specs.Read as spec;
-ghost use Rattle.syn_grammar.specs.Stands as stands;
-ghost use Rattle.syn_grammar.specs.Tree.{has_kind};
-ghost use Rattle.syn_grammar.specs.declared.kinds.Infix.TheVariants as infix_kind;
+ghost use Rattle.syn_five_kinds.specs.Place as places;
+ghost use Rattle.syn_five_kinds.specs.Read as spec;
+ghost use Rattle.syn_five_kinds.specs.Stands as stands;
+ghost use Rattle.syn_five_kinds.specs.Tree.{has_kind};
+ghost use Rattle.syn_five_kinds.specs.declared.kinds.Infix.TheVariants as infix_kind;
 ghost use Rattle.syn_tokens.specs.Tok.{weight};
 ghost use Rattle.syn_expr.specs.Reads.{ReadsTree, GivesTree, HasNoInner, Callable, ReadsExpr};
 ghost use Rattle.syn_expr.specs.View.{path_of, tree_of, inner_of};
@@ -23,7 +23,7 @@ use crate::make;
 use crate::node::{carries_trailer, fits_left};
 use crate::op::{BinOp, UnOp, infix_at, level, prefix_at, rank, takes};
 use crate::path::Path;
-use syn_grammar::kinds::{BinKind, Infix, Level, Place};
+use syn_five_kinds::kinds::{BinKind, Infix, Level, Place};
 use syn_tokens::Delimiter;
 use syn_tokens::buffer::{Parse, ParseBuffer};
 use syn_tokens::error::{Error, ErrorKind, Expected, Result};
@@ -50,7 +50,7 @@ fn at(place: Place, level: Level) -> Place
 }
 
 /// The infix operator that an expression of this level takes next, and of how many tokens it is.
-#[tactic(auto, unfolding(syn_grammar::specs::Read::taken_at))]
+#[tactic(auto, unfolding(syn_five_kinds::specs::Read::taken_at))]
 fn next_operator(input: &ParseBuffer<'_>, place: Level) -> Option<(Infix, usize)>
     ensures { result ≡ spec.taken_at place input.now.rest }
 {
@@ -85,7 +85,7 @@ fn binary_kind(op: Infix) -> Option<BinKind>
 }
 
 /// Whether a path stands alone at a place, and is no beginning of another expression.
-#[tactic(auto, unfolding(syn_grammar::specs::Stands::path_stands))]
+#[tactic(auto, unfolding(syn_five_kinds::specs::Stands::path_stands))]
 fn path_stands(input: &ParseBuffer<'_>, place: Place, path: &Path) -> bool
     ensures { result ≡ stands.path_stands place (path_of path.now) input.now.rest }
 {
@@ -96,7 +96,7 @@ fn path_stands(input: &ParseBuffer<'_>, place: Place, path: &Path) -> bool
 }
 
 /// Reads a path.
-#[tactic(auto, unfolding(syn_grammar::specs::Read::named))]
+#[tactic(auto, unfolding(syn_five_kinds::specs::Read::named))]
 fn named(input: &mut ParseBuffer<'_>, place: Place) -> Result<Box<Expr>>
     ensures value { ReadsTree (spec.named place input.old.rest) result input.new.rest }
     ensures no_inner { HasNoInner result }
@@ -121,7 +121,7 @@ struct Grammar<F> {
 
 impl<F: Fn(&mut ParseBuffer<'_>, Place) -> Result<Box<Expr>>> Grammar<F> {
     /// Reads all that a group encloses.
-    #[tactic(auto, unfolding(syn_grammar::specs::Read::whole))]
+    #[tactic(auto, unfolding(syn_five_kinds::specs::Read::whole))]
     fn whole(&self, mut content: ParseBuffer<'_>) -> Result<Box<Expr>>
         requires callable { Callable (weight content.rest + 1) (F.pre self.now.expr) }
         requires reads { ReadsExpr (F.post self.now.expr) }
@@ -136,7 +136,7 @@ impl<F: Fn(&mut ParseBuffer<'_>, Place) -> Result<Box<Expr>>> Grammar<F> {
     }
 
     /// Reads what is closed at both ends, by its first token.
-    #[tactic(auto, using(crate::proofs::Loops::atoms), unfolding(syn_grammar::specs::Read::atom, syn_tokens::specs::Front::group_at))]
+    #[tactic(auto, using(crate::proofs::Loops::atoms), unfolding(syn_five_kinds::specs::Read::atom, syn_tokens::specs::Front::group_at))]
     fn atom(&self, input: &mut ParseBuffer<'_>, place: Place) -> Result<Box<Expr>>
         requires callable { Callable (weight input.old.rest) (F.pre self.now.expr) }
         requires reads { ReadsExpr (F.post self.now.expr) }
@@ -175,7 +175,7 @@ impl<F: Fn(&mut ParseBuffer<'_>, Place) -> Result<Box<Expr>>> Grammar<F> {
     }
 
     /// Reads an operand behind its attributes.
-    #[tactic(auto, using(syn_tokens::proofs::Weights::drops), unfolding(syn_grammar::specs::Read::core, syn_grammar::specs::Stands::closes))]
+    #[tactic(auto, using(syn_tokens::proofs::Weights::drops), unfolding(syn_five_kinds::specs::Read::core, syn_five_kinds::specs::Stands::closes))]
     fn core(&self, input: &mut ParseBuffer<'_>, place: Place) -> Result<Box<Expr>>
         requires callable { Callable (weight input.old.rest) (F.pre self.now.expr) }
         requires reads { ReadsExpr (F.post self.now.expr) }
@@ -198,7 +198,7 @@ impl<F: Fn(&mut ParseBuffer<'_>, Place) -> Result<Box<Expr>>> Grammar<F> {
     }
 
     /// Reads an operand.
-    #[tactic(auto, unfolding(syn_grammar::specs::Read::operand))]
+    #[tactic(auto, unfolding(syn_five_kinds::specs::Read::operand))]
     fn operand(&self, input: &mut ParseBuffer<'_>, place: Place) -> Result<Box<Expr>>
         requires callable { Callable (weight input.old.rest) (F.pre self.now.expr) }
         requires reads { ReadsExpr (F.post self.now.expr) }
@@ -213,7 +213,7 @@ impl<F: Fn(&mut ParseBuffer<'_>, Place) -> Result<Box<Expr>>> Grammar<F> {
     }
 
     /// What an operator makes of its left operand and the tokens behind it.
-    #[tactic(auto, unfolding(syn_grammar::specs::Read::longer, syn_grammar::specs::Stands::ends_operation))]
+    #[tactic(auto, unfolding(syn_five_kinds::specs::Read::longer, syn_five_kinds::specs::Stands::ends_operation))]
     fn longer(
         &self,
         input: &mut ParseBuffer<'_>,
@@ -272,7 +272,7 @@ impl<F: Fn(&mut ParseBuffer<'_>, Place) -> Result<Box<Expr>>> Grammar<F> {
     }
 
     /// Reads the expression at a place.
-    #[tactic(auto, unfolding(syn_grammar::specs::Read::at_place))]
+    #[tactic(auto, unfolding(syn_five_kinds::specs::Read::at_place))]
     fn at_place(&self, input: &mut ParseBuffer<'_>, place: Place) -> Result<Box<Expr>>
         requires callable { Callable (weight input.old.rest) (F.pre self.now.expr) }
         requires reads { ReadsExpr (F.post self.now.expr) }

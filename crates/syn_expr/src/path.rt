@@ -1,10 +1,10 @@
 //! Paths (Rust Reference, "Paths in expressions").
 
 ghost use Rattle.std.specs.Prelude.{◌≡◌, ◌≤◌, ◌<◌, ◌||◌, false, None, IfOk};
-ghost use Rattle.syn_grammar.specs.Read as spec;
-ghost use Rattle.syn_grammar.specs.Tokens.{path_sep_at};
-ghost use Rattle.syn_grammar.specs.Words.{is_segment};
-ghost use Rattle.syn_grammar.specs.Tree.{is_sole, is_word_alone};
+ghost use Rattle.syn_five_kinds.specs.Read as spec;
+ghost use Rattle.syn_five_kinds.specs.Tokens.{path_sep_at};
+ghost use Rattle.syn_five_kinds.specs.Words.{is_segment};
+ghost use Rattle.syn_five_kinds.specs.Tree.{is_sole, is_word_alone};
 ghost use Rattle.syn_tokens.specs.Tok.{weight};
 ghost use Rattle.syn_expr.specs.View.{path_of, segments_of};
 ghost use Rattle.syn_expr.specs.Reads.{Reads, ReadsSegment, segment_stands};
@@ -44,7 +44,7 @@ pub enum PathArguments {
 }
 
 /// A word that may be a segment: an identifier, or one of five reserved words.
-#[tactic(auto, unfolding(syn_grammar::specs::Words::is_segment))]
+#[tactic(auto, unfolding(syn_five_kinds::specs::Words::is_segment))]
 fn is_segment(word: &str) -> bool
     ensures { result ≡ is_segment word.now }
 {
@@ -110,7 +110,7 @@ fn segments(input: &mut ParseBuffer<'_>) -> Result<Punctuated<PathSegment, PathS
 
 impl Path {
     /// Reads a path without arguments: as many segments as there are.
-    #[tactic(auto, unfolding(syn_grammar::specs::Read::path_at, crate::specs::View::path_of))]
+    #[tactic(auto, unfolding(syn_five_kinds::specs::Read::path_at, crate::specs::View::path_of))]
     pub(crate) fn read(input: &mut ParseBuffer<'_>) -> Result<Path>
         ensures value { Reads path_of (spec.path_at input.old.rest) result input.new.rest }
         ensures noted { input.new.noted ≡ input.old.noted }
@@ -125,7 +125,7 @@ impl Path {
     }
 
     /// Whether a path may stand first: `::` or a segment does.
-    #[tactic(auto, unfolding(syn_grammar::specs::Read::path_at))]
+    #[tactic(auto, unfolding(syn_five_kinds::specs::Read::path_at))]
     pub(crate) fn begins(input: &ParseBuffer<'_>) -> bool
         ensures value { result ≡ (path_sep_at input.now.rest || segment_stands input.now.rest) }
         ensures absent { result ≡ false → spec.path_at input.now.rest ≡ None }

@@ -1,7 +1,7 @@
 //! How tightly expressions bind (Rust Reference, "Expression precedence").
 
 ghost use Rattle.std.specs.Prelude.{◌≡◌};
-ghost use Rattle.syn_grammar.specs.Op as grammar;
+ghost use Rattle.syn_five_kinds.specs.Op as grammar;
 ghost use Rattle.syn_expr.specs.Binds as spec;
 ghost use Rattle.syn_expr.specs.View.{bin_kind, tree_of};
 
@@ -9,7 +9,7 @@ use crate::attr::Attribute;
 use crate::expr::Expr;
 use crate::node::has_outer;
 use crate::op::{BinOp, level_of};
-use syn_grammar::kinds::Level;
+use syn_five_kinds::kinds::Level;
 
 /// The levels of binding, loosest first.
 #[derive(Clone, Copy, Debug, PartialEq, Eq, PartialOrd)]

@@ -1,15 +1,15 @@
 //! The printer of expressions: a tree's own tokens, with the parentheses that it needs.
 
 ghost use Rattle.std.specs.Prelude.{◌≡◌, ◌++◌, ◌∷◌, [], ◌+◌, ◌-◌, ◌*◌, ◌^◌, ◌≤◌, ◌<◌, true, min, List, OnOk, IfOk, IfErr};
-ghost use Rattle.syn_grammar.specs.declared.kinds.Infix.TheVariants as inf;
-ghost use Rattle.syn_grammar.specs.Next as next_spec;
-ghost use Rattle.syn_grammar.specs.Notes.{note_of, stack, below, EndsWith};
-ghost use Rattle.syn_grammar.specs.Printed.{PrintedAs};
-ghost use Rattle.syn_grammar.specs.Rule.{wraps, printed, put, bare};
-ghost use Rattle.syn_grammar.specs.Tree as tree;
-ghost use Rattle.syn_grammar.specs.Tree.{own_tokens, size, is_well_formed};
-ghost use Rattle.syn_grammar.specs.Place.{plain};
-ghost use Rattle.syn_grammar.specs.Stands.{Stands};
+ghost use Rattle.syn_five_kinds.specs.declared.kinds.Infix.TheVariants as inf;
+ghost use Rattle.syn_five_kinds.specs.Next as next_spec;
+ghost use Rattle.syn_five_kinds.specs.Notes.{note_of, stack, below, EndsWith};
+ghost use Rattle.syn_five_kinds.specs.Printed.{PrintedAs};
+ghost use Rattle.syn_five_kinds.specs.Rule.{wraps, printed, put, bare};
+ghost use Rattle.syn_five_kinds.specs.Tree as tree;
+ghost use Rattle.syn_five_kinds.specs.Tree.{own_tokens, size, is_well_formed};
+ghost use Rattle.syn_five_kinds.specs.Place.{plain};
+ghost use Rattle.syn_five_kinds.specs.Stands.{Stands};
 ghost use Rattle.syn_lexer.specs.declared.lexeme.Delimiter.TheVariants as delimiter;
 ghost use Rattle.syn_tokens.specs.Input.{IsFront};
 ghost use Rattle.syn_tokens.specs.Tok as tok;
@@ -23,9 +23,9 @@ use crate::notes::{class_of, collect, is_wrapped, tick};
 use crate::op::level;
 use crate::tokens::{Grown, put, put_attrs, put_lit, put_path, put_tree};
 use std::alloc::{AllocError, Global};
-use syn_grammar::kinds::{Infix, Level};
-use syn_grammar::next::{Context, Edge, Role};
-use syn_grammar::note::Note;
+use syn_five_kinds::kinds::{Infix, Level};
+use syn_five_kinds::next::{Context, Edge, Role};
+use syn_five_kinds::note::Note;
 use syn_tokens::buffer::ToTokens;
 use syn_tokens::error::{ErrorKind, Result};
 use syn_tokens::token::Paren;
@@ -119,7 +119,7 @@ fn print_in(
 
 /// Prints the operands of a binary operation, with its operator between.
 #[cycle(print)]
-#[tactic(auto, using(syn_tokens::proofs::Fronts::fronts, crate::proofs::Prints::roles, crate::proofs::Prints::joins, crate::proofs::Prints::stacked, syn_grammar::proofs::Stacks::ends_back, syn_grammar::proofs::Stacks::ends_front))]
+#[tactic(auto, using(syn_tokens::proofs::Fronts::fronts, crate::proofs::Prints::roles, crate::proofs::Prints::joins, crate::proofs::Prints::stacked, syn_five_kinds::proofs::Stacks::ends_back, syn_five_kinds::proofs::Stacks::ends_front))]
 fn print_two(
     tokens: &mut TokenStream,
     notes: &mut Vec<Note>,

@@ -1,7 +1,7 @@
 //! Tokens of operators, literals, paths and attributes.
 
 ghost use Rattle.std.specs.Prelude.{Ok, is_ok, MatchResult, ◌≡◌, ◌++◌, ◌∷◌, [], false, OnOk};
-ghost use Rattle.syn_grammar.specs.Tree as tree;
+ghost use Rattle.syn_five_kinds.specs.Tree as tree;
 ghost use Rattle.syn_tokens.specs.Input.{IsFront};
 ghost use Rattle.syn_tokens.specs.Tok as tok;
 ghost use Rattle.syn_tokens.specs.View.{tok_of};
@@ -26,7 +26,7 @@ pub(crate) type Grown = std::result::Result<(), AllocError>;
 
 #[tactic(auto, unfolding(syn_tokens::specs::Sign::sign_text))]
 impl ToTokens for BinOp {
-    ghost use Rattle.syn_grammar.specs.Tree as tree;
+    ghost use Rattle.syn_five_kinds.specs.Tree as tree;
     ghost use Rattle.syn_expr.specs.View.{bin_kind};
 
     ghost printed = { λ op. tree.bin_toks (bin_kind op) };
@@ -69,7 +69,7 @@ impl ToTokens for BinOp {
 #[tactic(auto, unfolding(syn_tokens::specs::Sign::sign_text))]
 impl ToTokens for UnOp {
     ghost use Rattle.std.specs.Prelude.{◌∷◌, []};
-    ghost use Rattle.syn_grammar.specs.Tree as tree;
+    ghost use Rattle.syn_five_kinds.specs.Tree as tree;
     ghost use Rattle.syn_expr.specs.View.{un_kind};
 
     ghost printed = { λ op. tree.un_tok (un_kind op) ∷ [] };

@@ -1,7 +1,10 @@
 -- What a printer has to know of the place of a node: what stands behind it, and what is round it.
-use Rattle.std.specs.Prelude.{ℕ, Bool, true, false, nat_lt}
+use Rattle.std.specs.Prelude.{Bool, true, false, not, ◌||◌, ◌&&◌, if◌then◌else◌, Option, Some, None}
+use Rattle.syn_parts.specs.Tree.{AttributeTree}
+use Rattle.syn_parts.specs.Pat.{PatTree}
 use Rattle.syn_grammar.specs.declared.kinds.BinKind.{BinKind}
 use Rattle.syn_grammar.specs.declared.kinds.BinKind.TheVariants as bin
+use Rattle.syn_grammar.specs.declared.kinds.Limits.TheVariants as limits
 use Rattle.syn_grammar.specs.declared.kinds.Infix.{Infix}
 use Rattle.syn_grammar.specs.declared.kinds.Infix.TheVariants as inf
 use Rattle.syn_grammar.specs.declared.kinds.Level.{Level}
@@ -11,8 +14,9 @@ use Rattle.syn_grammar.specs.declared.next.Next.TheVariants as next
 use Rattle.syn_grammar.specs.declared.next.Edge.{Edge}
 use Rattle.syn_grammar.specs.declared.next.Edge.TheVariants as edge
 use Rattle.syn_grammar.specs.declared.next.Context.{Context}
-use Rattle.syn_grammar.specs.Place.{rank}
-use Rattle.syn_grammar.specs.Tree.{Lead, unary}
+use Rattle.syn_grammar.specs.Place.{takes}
+use Rattle.syn_grammar.specs.Tree as e
+use Rattle.syn_grammar.specs.Tree.{Jump, Lead, Post, Trailer, Piece}
 
 -- ---- classes of tokens
 
@@ -35,6 +39,7 @@ class_of_binary bin.Le = next.Compare
 class_of_binary bin.Ne = next.Compare
 class_of_binary bin.Ge = next.Compare
 class_of_binary bin.Gt = next.Compare
+class_of_binary bin.ShlAssign = next.ShiftLeftAssign
 class_of_binary bin.AddAssign = next.Assign
 class_of_binary bin.SubAssign = next.Assign
 class_of_binary bin.MulAssign = next.Assign
@@ -43,7 +48,6 @@ class_of_binary bin.RemAssign = next.Assign
 class_of_binary bin.BitXorAssign = next.Assign
 class_of_binary bin.BitAndAssign = next.Assign
 class_of_binary bin.BitOrAssign = next.Assign
-class_of_binary bin.ShlAssign = next.Assign
 class_of_binary bin.ShrAssign = next.Assign
 
 -- the class of an infix operator
@@ -53,35 +57,47 @@ class_of inf.Assign = next.Assign
 class_of (inf.Range op) = next.Range
 class_of inf.Cast = next.As
 
--- Which places take an operator of the class: those whose level has a rank below this. (Assignments group to the
--- right, so a place of their own level takes them.)
-abbrev pub reach : Next → ℕ
-reach next.End = 0
-reach next.Assign = 2
-reach next.Range = 2
-reach next.OrOr = 3
-reach next.AndAnd = 4
-reach next.Compare = 6
-reach next.Less = 6
-reach next.Or = 7
-reach next.Caret = 8
-reach next.And = 9
-reach next.ShiftLeft = 10
-reach next.ShiftRight = 10
-reach next.Plus = 11
-reach next.Minus = 11
-reach next.Star = 12
-reach next.Divide = 12
-reach next.As = 13
-reach next.Dot = 0
-reach next.Question = 0
-reach next.Parenthesis = 0
-reach next.Bracket = 0
-reach next.Brace = 0
+-- the class of a trailer's first token
+abbrev pub next_of : Trailer → Next
+next_of e.call = next.Parenthesis
+next_of e.index = next.Bracket
+next_of e.question = next.Question
+next_of _ = next.Dot
+
+-- the level of an operator of the class, none where it is no operator
+abbrev pub level_of : Next → Option Level
+level_of next.End = None
+level_of next.Assign = Some lev.Assign
+level_of next.ShiftLeftAssign = Some lev.Assign
+level_of next.Range = Some lev.Range
+level_of next.OrOr = Some lev.Or
+level_of next.AndAnd = Some lev.And
+level_of next.Compare = Some lev.Compare
+level_of next.Less = Some lev.Compare
+level_of next.Or = Some lev.BitOr
+level_of next.Caret = Some lev.BitXor
+level_of next.And = Some lev.BitAnd
+level_of next.ShiftLeft = Some lev.Shift
+level_of next.ShiftRight = Some lev.Shift
+level_of next.Plus = Some lev.Sum
+level_of next.Minus = Some lev.Sum
+level_of next.Star = Some lev.Product
+level_of next.Divide = Some lev.Product
+level_of next.As = Some lev.Cast
+level_of next.Dot = None
+level_of next.Question = None
+level_of next.Parenthesis = None
+level_of next.Bracket = None
+level_of next.Block = None
+level_of next.Brace = None
+
+abbrev takes_some : Level → Option Level → Bool
+takes_some v None = false
+takes_some v (Some w) = takes v w
 
 -- a place of the level takes an operator of the class
 abbrev pub takes_next : Level → Next → Bool
-takes_next v n = nat_lt (rank v) (reach n)
+takes_next v n = takes_some v (level_of n)
 
 -- a trailer begins with a token of the class
 abbrev pub trails : Next → Bool
@@ -91,29 +107,121 @@ trails next.Parenthesis = true
 trails next.Bracket = true
 trails _ = false
 
-abbrev pub is_brace : Next → Bool
-is_brace next.Brace = true
-is_brace _ = false
+-- an expression begins with a token of the class
+abbrev pub begins_next : Next → Bool
+begins_next next.Range = true
+begins_next next.OrOr = true
+begins_next next.AndAnd = true
+begins_next next.Less = true
+begins_next next.Or = true
+begins_next next.And = true
+begins_next next.ShiftLeft = true
+begins_next next.Minus = true
+begins_next next.Star = true
+begins_next next.Parenthesis = true
+begins_next next.Bracket = true
+begins_next next.Block = true
+begins_next next.Brace = true
+begins_next _ = false
 
--- ---- what is round the operands of a node, by what is round the node
+abbrev pub is_block_next : Next → Bool
+is_block_next next.Block = true
+is_block_next _ = false
 
--- inside of delimiters, with nothing behind
+-- a brace behind which a path would be that of a struct expression
+abbrev pub is_brace_next : Next → Bool
+is_brace_next next.Brace = true
+is_brace_next _ = false
+
+-- behind a value of a jump a brace opens no block
+abbrev pub without_block : Next → Next
+without_block next.Block = next.Brace
+without_block n = n
+
+-- ---- contexts
+
+-- inside of delimiters, with nothing behind; and for plain position
 abbrev pub enclosed : Context
 enclosed = record { condition = false; edge = edge.Free; next = next.End }
 
+abbrev pub in_statement : Context
+in_statement = record { condition = false; edge = edge.Statement; next = next.End }
+
+abbrev pub in_arm : Context
+in_arm = record { condition = false; edge = edge.Arm; next = next.End }
+
+abbrev pub in_condition : Context
+in_condition = record { condition = true; edge = edge.Free; next = next.Block }
+
+-- left of an operator, a call or an index
 abbrev pub left_edge : Edge → Edge
-left_edge edge.Head = edge.BelowHead
-left_edge e = e
+left_edge edge.Arm = edge.BelowArm
+left_edge edge.Statement = edge.BelowStatement
+left_edge x = x
+
+-- left of a dot or a question mark
+abbrev pub dot_edge : Edge → Edge
+dot_edge edge.BelowArm = edge.Arm
+dot_edge edge.BelowStatement = edge.Statement
+dot_edge x = x
+
+abbrev pub base_edge : Trailer → Edge → Edge
+base_edge e.call x = left_edge x
+base_edge e.index x = left_edge x
+base_edge _ x = dot_edge x
+
+-- behind attributes no brace is first
+abbrev pub adorned_edge : Edge → Edge
+adorned_edge edge.NoBrace = edge.Free
+adorned_edge x = x
+
+-- in a condition a brace would be that of the block
+abbrev pub braceless : Bool → Edge
+braceless true = edge.NoBrace
+braceless false = edge.Free
+
+abbrev pub is_half_open : Infix → Bool
+is_half_open (inf.Range limits.HalfOpen) = true
+is_half_open _ = false
+
+abbrev pub is_break : Jump → Bool
+is_break (e.breaking label) = true
+is_break _ = false
 
 abbrev pub left_context : Infix → Context → Context
 left_context k c = record { condition = c.condition; edge = left_edge c.edge; next = class_of k }
 
+abbrev pub base_context : Trailer → Context → Context
+base_context k c = record { condition = c.condition; edge = base_edge k c.edge; next = next_of k }
+
 abbrev pub right_context : Infix → Context → Context
-right_context k c = record { condition = c.condition; edge = edge.Free; next = c.next }
+right_context k c = record { condition = c.condition; edge = braceless (is_half_open k && c.condition); next = c.next }
+
+abbrev pub adorned_context : Context → Context
+adorned_context c = record { condition = c.condition; edge = adorned_edge c.edge; next = c.next }
 
 abbrev pub lead_context : Lead → Context → Context
+lead_context (e.jump j) c = record { condition = false; edge = braceless (is_break j && c.condition); next = without_block c.next }
+lead_context (e.range_to op) c = record { condition = c.condition; edge = braceless (is_half_open (inf.Range op) && c.condition); next = c.next }
 lead_context k c = record { condition = c.condition; edge = edge.Free; next = c.next }
 
--- the level of the place of an operand behind its tokens
+-- what is behind an operand, by what is behind its lead
+abbrev pub lead_next : Lead → Next → Next
+lead_next (e.jump j) n = without_block n
+lead_next k n = n
+
+-- the level of the place of an operand behind its lead
 abbrev pub lead_level : Lead → Level
-lead_level (unary op) = lev.Prefix
+lead_level (e.range_to op) = lev.Range
+lead_level (e.binding p) = lev.Let
+lead_level (e.jump j) = lev.Jump
+lead_level (e.closure h) = lev.Jump
+lead_level _ = lev.Prefix
+
+abbrev pub piece_context : Piece → Context
+piece_context e.condition = in_condition
+piece_context e.loop_head = in_condition
+piece_context e.scrutinee = in_condition
+piece_context e.guarded = in_arm
+piece_context (e.arm ats p) = in_arm
+piece_context _ = enclosed

@@ -1,10 +1,10 @@
 -- Where an expression stands, and how tightly the levels bind (Rust Reference, "Expression precedence").
-use Rattle.std.specs.Prelude.{ℕ, false}
+use Rattle.std.specs.Prelude.{ℕ, Bool, true, false, ◌&&◌, ◌||◌, nat_lt}
 use Rattle.syn_grammar.specs.declared.kinds.Level.{Level}
 use Rattle.syn_grammar.specs.declared.kinds.Level.TheVariants as lev
 use Rattle.syn_grammar.specs.declared.kinds.Place.{Place}
 
--- the levels in order, the loosest first: a level is above another where its rank is greater
+-- the levels in order, the loosest first
 abbrev pub rank : Level → ℕ
 rank lev.Jump = 0
 rank lev.Assign = 1
@@ -23,9 +23,30 @@ rank lev.Cast = 13
 rank lev.Prefix = 14
 rank lev.Unambiguous = 15
 
+-- the level v binds tighter than w
+abbrev pub above : Level → Level → Bool
+above v w = nat_lt (rank w) (rank v)
+
+abbrev pub is_assign : Level → Bool
+is_assign lev.Assign = true
+is_assign _ = false
+
+-- An expression at the level v takes the infix operators above it, and one at Assign those of Assign too: these group
+-- to the right.
+abbrev pub takes : Level → Level → Bool
+takes v w = above w v || (is_assign v && is_assign w)
+
 -- the whole of a list, and what stands inside of delimiters
 abbrev pub plain : Place
 plain = record { level = lev.Jump; condition = false; head = false }
+
+-- before the block of an `if`, `while`, `match` or `for`
+abbrev pub before_block : Place
+before_block = record { level = lev.Jump; condition = true; head = false }
+
+-- a statement, or the body of a match arm
+abbrev pub at_head : Place
+at_head = record { level = lev.Jump; condition = false; head = true }
 
 -- the place of a right operand, or of the operand behind a prefix operator: the mode stays, a head it is no more
 abbrev pub at : Place → Level → Place

@@ -1,35 +1,91 @@
--- What is promised of the printed tree: the tree with the parentheses that the rule adds.
-use Rattle.std.specs.Prelude.{◌≡◌, ◌↔◌, true, List, []}
+-- What is promised of the printed tree: the tree with its fill-ins and the parentheses that the rule adds.
+use Rattle.std.specs.Prelude.{◌≡◌, ◌↔◌, Bool, true, false, not, ◌||◌, ◌&&◌, List, []}
 use Rattle.syn_tokens.specs.Tok.{Tok}
-use Rattle.syn_grammar.specs.Next.{enclosed}
-use Rattle.syn_grammar.specs.Place.{plain}
-use Rattle.syn_grammar.specs.Rule.{printed}
-use Rattle.syn_grammar.specs.Sparing.{OneLess}
+use Rattle.syn_tokens.specs.Front.{is_empty}
+use Rattle.syn_parts.specs.Mark.{comma, semi, brace_at}
+use Rattle.syn_grammar.specs.declared.kinds.Place.{Place}
+use Rattle.syn_grammar.specs.declared.next.Context.{Context}
+use Rattle.syn_grammar.specs.Place.{plain, before_block, at_head}
+use Rattle.syn_grammar.specs.Next.{enclosed, in_statement, in_condition, in_arm}
+use Rattle.syn_grammar.specs.Tree.{Tree, Kids, leaf, paren, adorned, lead, mid, post, tail, frame, none, kid, own, clear, fill, IsSameTree}
 use Rattle.syn_grammar.specs.Stands.{Stands}
-use Rattle.syn_grammar.specs.Tree.{Tree, own_tokens, clear, IsSameTree, is_well_formed}
+use Rattle.syn_grammar.specs.Rule.{printed, is_operation}
+use Rattle.syn_grammar.specs.WellFormed.{is_well_formed}
+use Rattle.syn_grammar.specs.Sparing.{OneLess}
 
--- A well-formed tree is printed as the same tree up to parentheses and fill-ins, and its tokens stand for it.
+-- ---- where a tree is printed (Rust Reference, "Expression statements", "`if` expressions", "Match expressions")
+
+pub data Position : Type 0 where
+  in_plain : Position
+  as_statement : Position
+  as_condition : Position
+  as_arm : Position
+
+abbrev pub place_of : Position → Place
+place_of in_plain = plain
+place_of as_statement = at_head
+place_of as_condition = before_block
+place_of as_arm = at_head
+
+abbrev pub context_of : Position → Context
+context_of in_plain = enclosed
+context_of as_statement = in_statement
+context_of as_condition = in_condition
+context_of as_arm = in_arm
+
+-- what may stand behind it there: nothing; nothing or `;`; the brace of a block; nothing or `,`
+abbrev pub allows : Position → List Tok → Bool
+allows in_plain rest = is_empty rest
+allows as_statement rest = is_empty rest || semi.at rest
+allows as_condition rest = brace_at rest
+allows as_arm rest = is_empty rest || comma.at rest
+
+-- In a statement a `let` and a macro with braces get parentheses that could be spared.
+abbrev pub is_sparing : Position → Bool
+is_sparing as_statement = false
+is_sparing s = true
+
+abbrev pub printed_in : Position → Tree → Tree
+printed_in s t = printed (context_of s) t
+
+-- no assignment, binary operation, cast or range has attributes: those are printed in parentheses always
+abbrev mutual
+  pub plainly_adorned : Tree → Bool
+  plainly_adorned (leaf k) = true
+  plainly_adorned (paren m t) = plainly_adorned t
+  plainly_adorned (adorned a more t) = not (is_operation t) && plainly_adorned t
+  plainly_adorned (lead k gs t) = kids_plainly gs && plainly_adorned t
+  plainly_adorned (mid x k y) = plainly_adorned x && plainly_adorned y
+  plainly_adorned (post x k) = plainly_adorned x
+  plainly_adorned (tail b k ks) = plainly_adorned b && kids_plainly ks
+  plainly_adorned (frame k ks) = kids_plainly ks
+
+  pub kids_plainly : Kids → Bool
+  kids_plainly none = true
+  kids_plainly (kid k c t ks) = plainly_adorned t && kids_plainly ks
+
+-- the tree, printed in the position, stands there before this rest
+abbrev pub StandsPrinted : Position → Tree → List Tok → Type 0
+StandsPrinted s t rest = Stands (place_of s) (own (printed_in s t) rest) (clear (printed_in s t)) rest
+
+-- A well-formed tree is printed as the same tree up to parentheses and fill-ins, and its tokens stand for it there,
+-- whatever is behind them that the position allows.
 abbrev pub PrintedStands : Type 0
-PrintedStands = (t : Tree) → is_well_formed t ≡ true
-    → IsSameTree t (printed enclosed t) × Stands plain (own_tokens (printed enclosed t)) (clear (printed enclosed t)) []
+PrintedStands = (s : Position) (t : Tree) (rest : List Tok) → is_well_formed t ≡ true → allows s rest ≡ true
+    → IsSameTree t (printed_in s t) × StandsPrinted s t rest
 
 -- A well-formed tree without marks gets no parentheses exactly where its own spelling stands for it.
 abbrev pub NoneNeedlessly : Type 0
-NoneNeedlessly = (t : Tree) → is_well_formed t ≡ true → clear t ≡ t
-    → (printed enclosed t ≡ t) ↔ Stands plain (own_tokens t) t []
+NoneNeedlessly = (s : Position) (t : Tree) (rest : List Tok) → is_well_formed t ≡ true → clear t ≡ t → plainly_adorned t ≡ true
+    → is_sparing s ≡ true → allows s rest ≡ true
+    → (printed_in s t ≡ fill t) ↔ Stands (place_of s) (own (fill t) rest) (fill t) rest
 
 -- Whatever list a tree stands for, it is printed as its own spelling.
 abbrev pub OwnSpelling : Type 0
-OwnSpelling = (t : Tree) (l : List Tok) → Stands plain l t [] → printed enclosed t ≡ t
+OwnSpelling = (t : Tree) (l : List Tok) → Stands plain l t [] → plainly_adorned t ≡ true → printed enclosed t ≡ t
 
 -- With one of the added pairs left out, the tree stands for no list.
 abbrev pub NoPairSpared : Type 0
-NoPairSpared = (t q : Tree) (l : List Tok) → OneLess (printed enclosed t) q → Stands plain l (clear q) [] → ⊥
-
--- All of this of one tree t, and of p as which it is printed.
-pub record PrintedAs (t p : Tree) : Type 0 where
-  pub same : IsSameTree t p
-  pub stands : Stands plain (own_tokens p) (clear p) []
-  pub none_needlessly : (p ≡ t) ↔ Stands plain (own_tokens t) t []
-  pub own_spelling : (l : List Tok) → Stands plain l t [] → p ≡ t
-  pub no_pair_spared : (q : Tree) (l : List Tok) → OneLess p q → Stands plain l (clear q) [] → ⊥
+NoPairSpared = (s : Position) (t q : Tree) (l rest : List Tok) → is_well_formed t ≡ true → plainly_adorned t ≡ true
+    → is_sparing s ≡ true → allows s rest ≡ true
+    → OneLess (printed_in s t) q → Stands (place_of s) l (clear q) rest → ⊥

@@ -1,65 +1,202 @@
 -- The parenthesis rule: a printer puts a node in parentheses where, left bare and with its operands printed by this
 -- rule, it would break a binding rule that is charged to it.
-use Rattle.std.specs.Prelude.{ℕ, Bool, true, false, not, ◌||◌, ◌&&◌, nat_lt, min, if◌then◌else◌}
+use Rattle.std.specs.Prelude.{Bool, true, false, not, ◌||◌, ◌&&◌, if◌then◌else◌, List, [], ◌∷◌, Option, Some, None}
+use Rattle.syn_lexer.specs.declared.lexeme.Delimiter.{Delimiter}
+use Rattle.syn_lexer.specs.declared.lexeme.Delimiter.TheVariants as del
+use Rattle.syn_parts.specs.Text.{Text}
+use Rattle.syn_parts.specs.Ends.{ends_open}
+use Rattle.syn_parts.specs.Form.{is_nil}
 use Rattle.syn_grammar.specs.declared.kinds.Infix.{Infix}
 use Rattle.syn_grammar.specs.declared.kinds.Level.{Level}
 use Rattle.syn_grammar.specs.declared.kinds.Level.TheVariants as lev
 use Rattle.syn_grammar.specs.declared.next.Next.{Next}
+use Rattle.syn_grammar.specs.declared.next.Next.TheVariants as next
+use Rattle.syn_grammar.specs.declared.next.Edge.{Edge}
+use Rattle.syn_grammar.specs.declared.next.Edge.TheVariants as edge
 use Rattle.syn_grammar.specs.declared.next.Context.{Context}
-use Rattle.syn_grammar.specs.declared.next.Role.{Role}
-use Rattle.syn_grammar.specs.declared.next.Role.TheVariants as role
-use Rattle.syn_grammar.specs.Next.{class_of, reach, takes_next, trails, is_brace, enclosed, left_context, right_context, lead_context, lead_level}
-use Rattle.syn_grammar.specs.Place.{rank}
+use Rattle.syn_grammar.specs.Place.{above, takes}
 use Rattle.syn_grammar.specs.Op.{level, is_comparison}
-use Rattle.syn_grammar.specs.Stands.{is_infix, is_range, carries_trailer, compares}
-use Rattle.syn_grammar.specs.Tree.{Tree, leaf, paren, lead, mid, adorned, Leaf, lit, path}
+use Rattle.syn_grammar.specs.Next.{class_of, next_of, takes_next, trails, begins_next, is_block_next, is_brace_next, enclosed, in_statement, left_context, base_context, right_context, adorned_context, lead_context, lead_next, lead_level, piece_context}
+use Rattle.syn_grammar.specs.Stands.{is_infix, is_range, is_range_leaf, is_cast, carries, compares, is_base}
+use Rattle.syn_grammar.specs.Tree as e
+use Rattle.syn_grammar.specs.Tree.{Tree, Kids, Leaf, Lead, Post, Jump, Frame, Piece, Trailer, leaf, paren, adorned, lead, mid, post, tail, frame, none, kid, own_tokens, fill, plain_block, post_op, is_block_leaf, is_block_frame, is_silent}
 
--- ---- why a node is put in parentheses
+-- ---- what a node is as printed: an operation behind attributes is in parentheses
+
+-- behind attributes it is in parentheses, since they would belong to its first operand
+abbrev pub is_operation : Tree → Bool
+is_operation t = is_infix t || is_range t
+
+abbrev pub prints_range : Tree → Bool
+prints_range (adorned a more t) = false
+prints_range t = is_range t
+
+-- a trailer behind it would belong to it, or is refused there
+abbrev pub prints_carrier : Tree → Bool
+prints_carrier (adorned a more t) = is_operation t || carries t
+prints_carrier t = carries t || is_cast t
+
+-- ---- what a node must not have behind it, for what it is itself
+
+-- no end of a range
+abbrev pub ends_range_next : Next → Bool
+ends_range_next n = not (begins_next n) || is_block_next n
+
+abbrev pub jump_refuses : Jump → Next → Bool
+jump_refuses (e.breaking label) n = begins_next n && not (is_block_next n)
+jump_refuses j n = begins_next n
+
+-- a path before a brace, a jump without a value before what begins one, a range without an end before one
+abbrev pub leaf_refuses : Leaf → Next → Bool
+leaf_refuses (e.path q p) n = is_brace_next n
+leaf_refuses (e.bare_jump j) n = jump_refuses j n
+leaf_refuses (e.full_range op) n = not (ends_range_next n)
+leaf_refuses k n = false
+
+abbrev pub is_less_next : Next → Bool
+is_less_next next.Less = true
+is_less_next next.ShiftLeft = true
+is_less_next next.ShiftLeftAssign = true
+is_less_next _ = false
+
+-- and a type before a `<` that would begin its arguments
+abbrev pub post_refuses : Post → Next → Bool
+post_refuses (e.cast x) n = is_less_next n && ends_open x
+post_refuses (e.range_from op) n = not (ends_range_next n)
+
+abbrev pub refuses : Tree → Next → Bool
+refuses (leaf k) n = leaf_refuses k n
+refuses (adorned a more t) n = not (is_operation t) && refuses t n
+refuses (post t k) n = post_refuses k n
+refuses _ n = false
+
+-- ---- where a node must not stand, for what it is itself
+
+abbrev pub is_below : Edge → Bool
+is_below edge.BelowArm = true
+is_below edge.BelowStatement = true
+is_below _ = false
+
+abbrev pub is_below_statement : Edge → Bool
+is_below_statement edge.BelowStatement = true
+is_below_statement _ = false
+
+abbrev pub is_statement : Edge → Bool
+is_statement edge.Statement = true
+is_statement edge.BelowStatement = true
+is_statement _ = false
+
+abbrev pub is_braceless : Edge → Bool
+is_braceless edge.NoBrace = true
+is_braceless _ = false
+
+abbrev pub is_brace_delimiter : Delimiter → Bool
+is_brace_delimiter del.Brace = true
+is_brace_delimiter _ = false
+
+-- a block-like leaf below a head, a block first where no brace may be, a macro with braces below a statement's head
+abbrev pub leaf_misplaced : Context → Leaf → Bool
+leaf_misplaced c (e.block None b) = is_below c.edge || is_braceless c.edge
+leaf_misplaced c (e.mac m) = is_below_statement c.edge && is_brace_delimiter m.delimiter
+leaf_misplaced c k = is_below c.edge && is_block_leaf k
+
+abbrev pub lead_misplaced : Context → Lead → Bool
+lead_misplaced c (e.binding p) = is_statement c.edge
+lead_misplaced c k = false
+
+-- a struct expression in a condition
+abbrev pub frame_misplaced : Context → Frame → Bool
+frame_misplaced c (e.structure q p d) = c.condition
+frame_misplaced c k = is_below c.edge && is_block_frame k
+
+abbrev pub misplaced : Context → Tree → Bool
+misplaced c (leaf k) = leaf_misplaced c k
+misplaced c (adorned a more t) = not (is_operation t) && misplaced (adorned_context c) t
+misplaced c (lead k gs t) = lead_misplaced c k
+misplaced c (frame k ks) = frame_misplaced c k
+misplaced c t = false
+
+-- for what a node is itself
+abbrev pub self_wrapped : Context → Tree → Bool
+self_wrapped c t = refuses t c.next || misplaced c t
+
+-- ---- the ends of a node, with its operands as printed
+
+abbrev pub lower : Level → Level → Level
+lower v w = if above v w then w else v
 
 -- The owner of a place must not have this behind it: an operator that the place takes, unless a bare range is there,
 -- or a trailer that the occupant could carry. `wrapped`: the occupant stands in parentheses.
 abbrev pub ends_badly : Level → Tree → Next → Bool → Bool
-ends_badly v t n wrapped = (takes_next v n && not (not wrapped && is_range t)) || (trails n && (wrapped || carries_trailer t))
+ends_badly v t n wrapped = (takes_next v n && not (not wrapped && prints_range t)) || (trails n && (wrapped || prints_carrier t))
 
--- A left operand: a range, a comparison before a comparison, or its right end takes the operator.
+-- the value of a `break` without a label begins with a lifetime
+abbrev pub is_bare_break : Lead → Bool
+is_bare_break (e.jump (e.breaking None)) = true
+is_bare_break _ = false
+
+abbrev pub leaf_labelled : Leaf → Bool
+leaf_labelled (e.block (Some w) b) = true
+leaf_labelled (e.looping (Some w) b) = true
+leaf_labelled _ = false
+
+abbrev pub frame_labelled : Frame → Bool
+frame_labelled (e.while_loop (Some w)) = true
+frame_labelled (e.for_loop (Some w) p) = true
+frame_labelled _ = false
+
+-- A left operand: a range, a comparison before a comparison, or its right end takes the operator (`takes_it`, or for what
+-- it is itself).
 abbrev pub left_wrapped : Infix → Tree → Bool → Bool
-left_wrapped k t bad = is_range t || ((compares t && is_comparison k) || bad)
+left_wrapped k x takes_it = prints_range x || ((compares x && is_comparison k) || (takes_it || refuses x (class_of k)))
 
--- The occupant of a place: an operator on its bare left edge is not above the place, or its right end takes what
--- follows.
-abbrev pub place_wrapped : Level → ℕ → Bool → Bool
-place_wrapped v low bad = not (nat_lt (rank v) low) || bad
+-- The base of a trailer: it can't carry it, or its right end takes it.
+abbrev pub base_wrapped : Trailer → Tree → Bool → Bool
+base_wrapped k b takes_it = not (is_base k b) || (takes_it || refuses b (next_of k))
 
--- A leaf for what it is: a path before a brace, which would make it a struct expression.
-abbrev pub leaf_bad : Context → Leaf → Bool
-leaf_bad c (lit k) = false
-leaf_bad c (path w) = is_brace c.next && not c.condition
-
-abbrev pub leaf_wrapped : Context → Tree → Bool
-leaf_wrapped c (leaf k) = leaf_bad c k
-leaf_wrapped c (paren m t) = false
-leaf_wrapped c (lead k t) = false
-leaf_wrapped c (mid l k r) = false
-leaf_wrapped c (adorned a more t) = leaf_wrapped c t
-
--- ---- the ends of a node, with its operands as printed
+-- The occupant of a place: an operator on its bare left edge is not above the place, or its right end takes what follows.
+abbrev pub place_wrapped : Level → Tree → Next → Level → Bool → Bool
+place_wrapped v t n lowest takes_it = not (takes v lowest) || (takes_it || refuses t n)
 
 abbrev mutual
-  -- the lowest operator on the bare left edge: the places that have a rank below this take them all; 15: none is there
-  pub low : Tree → ℕ
-  low (leaf k) = 15
-  low (paren m t) = 15
-  low (lead k t) = 15
-  low (mid l k r) = min (reach (class_of k)) (if left_wrapped k l (bad l (class_of k)) then 15 else low l)
-  low (adorned a more t) = 15
+  -- the lowest operator on the bare left edge, Unambiguous where none is there
+  pub low : Tree → Level
+  low (mid x k y) = lower (level k) (if left_wrapped k x (bad x (class_of k)) then lev.Unambiguous else low x)
+  low (post x k) = lower (level (post_op k)) (if left_wrapped (post_op k) x (bad x (class_of (post_op k))) then lev.Unambiguous else low x)
+  low _ = lev.Unambiguous
 
   -- the bare right end must not have a token of this class behind it
   pub bad : Tree → Next → Bool
-  bad (leaf k) n = false
-  bad (paren m t) n = false
-  bad (lead k t) n = ends_badly (lead_level k) t n (place_wrapped (lead_level k) (low t) (bad t n))
-  bad (mid l k r) n = ends_badly (level k) r n (place_wrapped (level k) (low r) (bad r n))
-  bad (adorned a more t) n = not (is_infix t) && bad t n
+  bad (lead k gs t) n =
+      ends_badly (lead_level k) t (lead_next k n)
+      (place_wrapped (lead_level k) t (lead_next k n) (low t) (bad t (lead_next k n)) || (is_bare_break k && labelled t))
+  bad (mid x k y) n = ends_badly (level k) y n (place_wrapped (level k) y n (low y) (bad y n))
+  bad (adorned a more t) n = not (is_operation t) && bad t n
+  bad _ n = false
+
+  -- the first token is that of a label
+  pub labelled : Tree → Bool
+  labelled (leaf k) = leaf_labelled k
+  labelled (mid x k y) = not (left_wrapped k x (bad x (class_of k))) && labelled x
+  labelled (post x k) = not (left_wrapped (post_op k) x (bad x (class_of (post_op k)))) && labelled x
+  labelled (tail b k ks) = not (base_wrapped k b (bad b (next_of k))) && labelled b
+  labelled (frame k ks) = frame_labelled k
+  labelled _ = false
+
+-- ---- whether a node is put in parentheses
+
+abbrev pub place_asks : Level → Context → Tree → Bool
+place_asks v c t = place_wrapped v t c.next (low t) (bad t c.next) || misplaced c t
+
+abbrev pub left_asks : Infix → Context → Tree → Bool
+left_asks k c t = left_wrapped k t (bad t c.next) || misplaced c t
+
+abbrev pub base_asks : Trailer → Context → Tree → Bool
+base_asks k c t = base_wrapped k t (bad t c.next) || misplaced c t
+
+-- behind a lead: the value of a `break` too where it begins with a label
+abbrev pub lead_asks : Lead → Context → Tree → Bool
+lead_asks k c t = place_asks (lead_level k) c t || (is_bare_break k && labelled t)
 
 -- ---- the printed tree
 
@@ -68,30 +205,64 @@ abbrev pub put : Bool → Tree → Tree → Tree
 put true alone bare = paren true alone
 put false alone bare = bare
 
--- The tree with the pairs that it needs inside, and none round it. Inside of a pair it is printed for itself again. An
--- infix node behind attributes is in parentheses, since they would belong to its first operand.
-abbrev pub bare : Context → Tree → Tree
-bare c (leaf k) = leaf k
-bare c (paren m t) = paren false (bare enclosed t)
-bare c (lead k t) =
-    lead k (put (place_wrapped (lead_level k) (low t) (bad t c.next) || leaf_wrapped (lead_context k c) t)
-    (bare enclosed t) (bare (lead_context k c) t))
-bare c (mid l k r) =
-    mid (put (left_wrapped k l (bad l (class_of k)) || leaf_wrapped (left_context k c) l)
-    (bare enclosed l) (bare (left_context k c) l)) k
-    (put (place_wrapped (level k) (low r) (bad r c.next) || leaf_wrapped (right_context k c) r)
-    (bare enclosed r) (bare (right_context k c) r))
-bare c (adorned a more t) = adorned a more (put (is_infix t) (bare enclosed t) (bare c t))
+abbrev pub is_plain_leaf : Leaf → Bool
+is_plain_leaf (e.block None b) = is_nil b.inner
+is_plain_leaf _ = false
 
--- whether a node is put in parentheses
-abbrev pub wraps : Role → Context → Tree → Bool
-wraps (role.At v) c t = place_wrapped v (low t) (bad t c.next) || leaf_wrapped c t
-wraps (role.LeftOf k) c t = left_wrapped k t (bad t c.next) || leaf_wrapped c t
+abbrev pub is_block_expr_leaf : Leaf → Bool
+is_block_expr_leaf (e.block label b) = true
+is_block_expr_leaf _ = false
 
--- the tree as printed in its role
-abbrev pub printed_in : Role → Context → Tree → Tree
-printed_in r c t = put (wraps r c t) (bare enclosed t) (bare c t)
+-- a block without a label and attributes
+abbrev pub is_plain_block : Tree → Bool
+is_plain_block (leaf k) = is_plain_leaf k
+is_plain_block _ = false
+
+abbrev pub is_if : Frame → Bool
+is_if e.branch = true
+is_if _ = false
+
+-- an `if` or a block, which may have attributes
+abbrev pub is_chainable : Tree → Bool
+is_chainable (leaf k) = is_block_expr_leaf k
+is_chainable (adorned a more t) = is_chainable t
+is_chainable (frame k ks) = is_if k
+is_chainable _ = false
+
+-- an `if` is printed without its attributes there
+abbrev pub chained_bare : Tree → Tree
+chained_bare (adorned a more (frame k ks)) = frame k ks
+chained_bare t = t
+
+-- Behind `else` anything else than an `if` or a block, and behind a closure's output than a block, is put in braces, and
+-- stands there as a statement.
+abbrev pub piece_put : Piece → Tree → Tree → Tree → Tree → Bool → Tree
+piece_put e.chained t alone bare stated asks = if is_chainable t then chained_bare bare else plain_block (own_tokens stated)
+piece_put e.output_block t alone bare stated asks = if is_plain_block t then bare else plain_block (own_tokens stated)
+piece_put k t alone bare stated asks = if is_silent k then t else put asks alone bare
+
+-- The tree with the pairs that it needs inside, and none round it. Inside of a pair it is printed for itself again.
+abbrev mutual
+  pub bare : Context → Tree → Tree
+  bare c (leaf k) = leaf k
+  bare c (paren m t) = paren false (bare enclosed t)
+  bare c (adorned a more t) = adorned a more (put (is_operation t) (bare enclosed t) (bare (adorned_context c) t))
+  bare c (lead k gs t) = lead k gs (put (lead_asks k (lead_context k c) t) (bare enclosed t) (bare (lead_context k c) t))
+  bare c (mid x k y) =
+      mid (put (left_asks k (left_context k c) x) (bare enclosed x) (bare (left_context k c) x)) k
+      (put (place_asks (level k) (right_context k c) y) (bare enclosed y) (bare (right_context k c) y))
+  bare c (post x k) =
+      post (put (left_asks (post_op k) (left_context (post_op k) c) x) (bare enclosed x) (bare (left_context (post_op k) c) x)) k
+  bare c (tail b k ks) = tail (put (base_asks k (base_context k c) b) (bare enclosed b) (bare (base_context k c) b)) k (bare_kids ks)
+  bare c (frame k ks) = frame k (bare_kids ks)
+
+  pub bare_kids : Kids → Kids
+  bare_kids none = none
+  bare_kids (kid k c t ks) =
+      kid k c (piece_put k t (bare enclosed t) (bare (piece_context k) t)
+      (put (place_asks lev.Jump in_statement t) (bare enclosed t) (bare in_statement t))
+      (place_asks lev.Jump (piece_context k) t)) (bare_kids ks)
 
 -- the tree as printed for itself
 abbrev pub printed : Context → Tree → Tree
-printed c t = printed_in (role.At lev.Jump) c t
+printed c t = put (place_asks lev.Jump c (fill t)) (bare enclosed (fill t)) (bare c (fill t))

@@ -1,158 +1,418 @@
 -- Which tree stands for which tokens: what it is spelled by, and the binding rules (Rust Reference, "Expressions",
 -- "Expression precedence").
-use Rattle.std.specs.Prelude.{◌≡◌, ℕ, Bool, true, false, not, ◌||◌, ◌&&◌, ◌==◌, nat_lt, if◌then◌else◌, List, [], ◌∷◌, drop, Option, Some, None}
+use Rattle.std.specs.Prelude.{◌≡◌, ℕ, Bool, true, false, not, ◌||◌, ◌&&◌, if◌then◌else◌, List, [], ◌∷◌, ◌++◌, drop, codes, Option, Some, None}
 use Rattle.std.specs.Str.{bytes_eq}
+use Rattle.syn_lexer.specs.declared.lexeme.Delimiter.TheVariants as del
+use Rattle.syn_lexer.specs.declared.lexeme.Delimiter.{Delimiter}
 use Rattle.syn_tokens.specs.Tok.{Tok, Inside, ident, literal, punct, group, toks}
-use Rattle.syn_lexer.specs.declared.lexeme.Delimiter.TheVariants as delimiter
-use Rattle.syn_grammar.specs.declared.kinds.UnKind.{UnKind}
+use Rattle.syn_tokens.specs.Front.{group_at, is_empty}
+use Rattle.syn_tokens.specs.Floats.{float_parts}
+use Rattle.syn_parts.specs.Text.{Text}
+use Rattle.syn_parts.specs.Tree as t
+use Rattle.syn_parts.specs.Tree.{AttributeTree, QSelfTree, PathTree, SegmentTree, TypeTree}
+use Rattle.syn_parts.specs.Mark.{sign_at, word_at, brace_at, colon}
+use Rattle.syn_parts.specs.Form.{then_behind}
+use Rattle.syn_parts.specs.Part.{has_none, is_default, outer_attributes, inner_attributes, type}
+use Rattle.syn_parts.specs.Pat.{MemberTree, a_name, an_index, index_of, dots}
+use Rattle.syn_grammar.specs.declared.kinds.Limits.TheVariants as limits
 use Rattle.syn_grammar.specs.declared.kinds.Infix.{Infix}
+use Rattle.syn_grammar.specs.declared.kinds.Infix.TheVariants as inf
 use Rattle.syn_grammar.specs.declared.kinds.Level.{Level}
 use Rattle.syn_grammar.specs.declared.kinds.Level.TheVariants as lev
 use Rattle.syn_grammar.specs.declared.kinds.Place.{Place}
-use Rattle.syn_grammar.specs.Place.{plain, at, rank}
-use Rattle.syn_grammar.specs.Words.{true_word, false_word, builtin_word}
-use Rattle.syn_grammar.specs.Tree.{Tree, leaf, paren, lead, mid, adorned, lit, path, unary, bool, Lit, Path, Attr, number_of, is_try_alone, is_word_alone, all_segments, has_kind}
-use Rattle.syn_grammar.specs.Tokens.{sign_of, path_sep_at, bang_at, not_equal_at, pound_at, left_arrow_at, three_dots_at, trailer_at, is_group_at, word_at}
-use Rattle.syn_grammar.specs.Op.{infix_at, prefix_at, takes, level, is_comparison, is_range_op, goes_on}
+use Rattle.syn_grammar.specs.Place.{plain, before_block, at, above, takes}
+use Rattle.syn_grammar.specs.Op.{infix_at, level, is_comparison, is_range_op, goes_on}
+use Rattle.syn_grammar.specs.Front.{begins_expr, ends_open_range, trailer_at, dot_at, question_at, left_arrow_at, three_dots_at}
+use Rattle.syn_grammar.specs.Tree as e
+use Rattle.syn_grammar.specs.Tree.{Tree, Kids, Leaf, Lead, Post, Trailer, Frame, Piece, Ending, Jump, leaf, paren, adorned, lead, mid, post, tail, frame, none, kid, plain_block, post_op, is_block_like, is_silent, is_one}
+use Rattle.syn_grammar.specs.Head.{leaf_form, lead_form, dotted}
+use Rattle.syn_grammar.specs.Slot.{Slot, Holder, nothing, within, bare, scrutinees, arms, may_end, after, piece_form, piece_place, ending_at, frame_head, frame_holder, trailer_holder}
 
 -- ---- kinds of nodes
 
 -- an infix node that compares
 abbrev pub compares : Tree → Bool
-compares (mid left op right) = is_comparison op
+compares (mid x op y) = is_comparison op
 compares _ = false
 
+-- an infix node
 abbrev pub is_infix : Tree → Bool
-is_infix (mid left op right) = true
+is_infix (mid x op y) = true
+is_infix (post x k) = true
 is_infix _ = false
 
+abbrev pub is_range_leaf : Leaf → Bool
+is_range_leaf (e.full_range op) = true
+is_range_leaf _ = false
+
+abbrev pub is_range_lead : Lead → Bool
+is_range_lead (e.range_to op) = true
+is_range_lead _ = false
+
 abbrev pub is_range : Tree → Bool
-is_range (mid left op right) = is_range_op op
+is_range (leaf k) = is_range_leaf k
+is_range (adorned a more x) = is_range x
+is_range (lead k gs x) = is_range_lead k
+is_range (mid x op y) = is_range_op op
+is_range (post x k) = is_range_op (post_op k)
 is_range _ = false
 
--- attributes may stand before it, and none do
-abbrev pub unadorned : Tree → Bool
-unadorned (mid left op right) = false
-unadorned (adorned a more x) = false
-unadorned _ = true
+abbrev pub is_cast : Tree → Bool
+is_cast (post x (e.cast ty)) = true
+is_cast _ = false
 
--- A call, a field or another trailer may stand behind it. (Of an infix node behind attributes, which is printed in
--- parentheses, this is true of what is printed.)
-abbrev pub carries_trailer : Tree → Bool
-carries_trailer (lead k x) = false
-carries_trailer (mid left op right) = false
-carries_trailer (adorned a more x) = carries_trailer x || is_infix x
-carries_trailer _ = true
+-- an operator with one operand
+abbrev pub is_prefix : Lead → Bool
+is_prefix (e.unary op) = true
+is_prefix (e.reference m) = true
+is_prefix (e.raw_addr m) = true
+is_prefix _ = false
+
+-- a call, a field or another trailer may stand behind it
+abbrev pub carries : Tree → Bool
+carries (leaf k) = not (is_range_leaf k)
+carries (adorned a more x) = carries x
+carries (lead k gs x) = not (is_prefix k || is_range_lead k)
+carries (mid x op y) = false
+carries (post x k) = false
+carries _ = true
+
+abbrev pub is_verbatim_leaf : Leaf → Bool
+is_verbatim_leaf (e.verbatim ts) = true
+is_verbatim_leaf _ = false
+
+abbrev pub is_verbatim : Tree → Bool
+is_verbatim (leaf k) = is_verbatim_leaf k
+is_verbatim _ = false
+
+abbrev pub is_adorned : Tree → Bool
+is_adorned (adorned a more x) = true
+is_adorned _ = false
+
+-- Attributes may stand before it, and none do. Before a range without a start they may at a head alone; those before a
+-- `Verbatim` are of its tokens.
+abbrev pub may_adorn : Place → Tree → Bool
+may_adorn p x = not (is_infix x || (is_adorned x || is_verbatim x)) && (p.head || not (is_range x))
+
+abbrev pub is_branch : Tree → Bool
+is_branch (frame e.branch ks) = true
+is_branch _ = false
 
 -- ---- what may stand behind a node
 
--- no trailer is left behind what could carry it
-unfoldable pub closes : Tree → List Tok → Bool
-closes x behind = not (carries_trailer x && trailer_at behind)
+-- a block-like expression is the whole at a head
+abbrev pub rests : Place → Tree → Bool
+rests p x = p.head && is_block_like x
+
+abbrev pub goes_behind : Bool → List Tok → Bool
+goes_behind true n = dot_at n || question_at n
+goes_behind false n = trailer_at n
+
+-- no trailer is left behind what could carry it, nor behind a cast
+unfoldable pub closes : Place → Tree → List Tok → Bool
+closes p x n = not ((carries x || is_cast x) && goes_behind (rests p x) n)
 
 -- `...` is no operator; it is refused where a range could go on
 abbrev pub refuses_dots : Level → List Tok → Bool
-refuses_dots v l = nat_lt (rank v) (rank lev.Range) && three_dots_at l
+refuses_dots v n = above lev.Range v && three_dots_at n
+
+abbrev pub is_jump_or_let : Level → Bool
+is_jump_or_let lev.Jump = true
+is_jump_or_let lev.Let = true
+is_jump_or_let _ = false
 
 -- `<-` is no operator; it is refused behind a whole expression and behind the value of `let`
 abbrev pub refuses_arrow : Level → List Tok → Bool
-refuses_arrow v l = (rank v == rank lev.Jump || rank v == rank lev.Let) && left_arrow_at l
+refuses_arrow v n = is_jump_or_let v && left_arrow_at n
 
--- what fills a place of its own ends where it must: the operators that the place takes are all taken; but a range
--- ends before any
+-- what fills a place of its own ends where it must: the operators that the place takes are all taken; but a range ends
+-- before any, and so does a block-like expression at a head
 unfoldable pub ends : Place → Tree → List Tok → Bool
-ends p x behind = is_range x || not (goes_on p.level behind || (refuses_dots p.level behind || refuses_arrow p.level behind))
+ends p x n =
+    is_range x || (rests p x || not (goes_on p.level n || (refuses_dots p.level n || refuses_arrow p.level n)))
 
--- behind an operation no `<-` stands
+-- behind an operation but a range no `<-` stands
 unfoldable pub ends_operation : Infix → List Tok → Bool
-ends_operation op behind = is_range_op op || not (left_arrow_at behind)
+ends_operation op n = is_range_op op || not (left_arrow_at n)
 
--- a range is no left operand, and a comparison none of a comparison
-unfoldable pub fits_left : Infix → Tree → Bool
-fits_left op x = not (is_range x) && not (is_comparison op && compares x)
+-- a range is no left operand, a comparison none of a comparison, and a block-like expression at a head is the whole
+unfoldable pub fits_left : Place → Infix → Tree → Bool
+fits_left p op x = not (is_range x || ((is_comparison op && compares x) || rests p x))
 
--- ---- paths
+-- ---- leaves
 
--- What is behind the segments at the front of a list: `::` goes on each, and none stands behind the last.
-unfoldable pub behind_segments : List (List ℕ) → List Tok → Option (List Tok)
-behind_segments [] l = None
-behind_segments (s ∷ []) l = if word_at s l && not (path_sep_at (drop 1 l)) then Some (drop 1 l) else None
-behind_segments (s ∷ t ∷ more) l =
-    if word_at s l && path_sep_at (drop 1 l) then behind_segments (t ∷ more) (drop 3 l) else None
+abbrev pub is_sole : Text → List SegmentTree → Bool
+is_sole w (s ∷ []) = bytes_eq s.ident w && has_none s.arguments
+is_sole w _ = false
 
--- what is behind the path at the front of a list
-unfoldable pub behind_path : Path → List Tok → Option (List Tok)
-behind_path w l =
-    if w.leading then (if path_sep_at l then behind_segments w.segments (drop 2 l) else None)
-    else behind_segments w.segments l
+-- the path that is this word alone
+abbrev pub is_word_alone : Text → QSelfTree → PathTree → Bool
+is_word_alone w t.no_qself p = not p.leading && is_sole w p.segments
+is_word_alone w (t.qself x n as_there) p = false
 
--- A path stands alone: no brace behind it makes it a struct expression (in a condition the brace is the block's), no
--- `!` a macro call, no `#` behind `builtin` special syntax; and `try` alone is one before `!=` only.
-unfoldable pub path_stands : Place → Path → List Tok → Bool
-path_stands p w behind =
-    (p.condition || not (is_group_at delimiter.Brace behind))
-    && (not (bang_at behind)
-    && ((not (is_try_alone w) || not_equal_at behind)
-    && not (is_word_alone builtin_word w && pound_at behind)))
+abbrev pub is_try_alone : QSelfTree → PathTree → Bool
+is_try_alone q p = is_word_alone (codes "try") q p
 
--- ---- attributes
+-- a brace behind it is that of a block
+abbrev pub is_block_next : Place → List Tok → Bool
+is_block_next p n = p.condition && brace_at n
 
-abbrev pub is_pound : Tok → Bool
-is_pound x = (sign_of x).0 == 35
+-- no value follows a jump without one, but before the block of a condition none is read behind `break`
+abbrev pub ends_jump : Place → Jump → List Tok → Bool
+ends_jump p e.returning n = not (begins_expr n)
+ends_jump p e.yielding n = not (begins_expr n)
+ends_jump p (e.breaking None) n = not (begins_expr n) || is_block_next p n
+ends_jump p (e.breaking (Some w)) n = (not (begins_expr n) || is_block_next p n) && not (colon.at n)
 
--- the outer attributes at the front, `#` and a bracket with any tokens each, and what is behind them
-abbrev mutual
-  pub attrs_at : List Tok → List Attr × List Tok
-  attrs_at [] = ([], [])
-  attrs_at (x ∷ l) = if is_pound x then attrs_behind x l else ([], x ∷ l)
+-- A path stands alone: no brace behind it makes it a struct expression (in a condition the brace is the block's), no `#`
+-- behind `builtin` special syntax; and `try` alone is one before `!=` only.
+unfoldable pub leaf_stands : Place → Leaf → List Tok → Bool
+leaf_stands p (e.path q w) n =
+    (p.condition || not (brace_at n))
+    && ((not (is_try_alone q w) || sign_at (codes "!=") n) && not (is_word_alone (codes "builtin") q w && sign_at (codes "#") n))
+leaf_stands p (e.full_range limits.HalfOpen) n = ends_open_range p.condition n
+leaf_stands p (e.full_range limits.Closed) n = false
+leaf_stands p (e.bare_jump j) n = ends_jump p j n
+leaf_stands p k n = true
 
-  pub attrs_behind : Tok → List Tok → List Attr × List Tok
-  attrs_behind x [] = ([], x ∷ [])
-  attrs_behind x (ident s ∷ l) = ([], x ∷ ident s ∷ l)
-  attrs_behind x (literal s ∷ l) = ([], x ∷ literal s ∷ l)
-  attrs_behind x (punct c s ∷ l) = ([], x ∷ punct c s ∷ l)
-  attrs_behind x (group delimiter.Bracket i ∷ l) = ((record { tokens = i }) ∷ (attrs_at l).0, (attrs_at l).1)
-  attrs_behind x (group delimiter.Parenthesis i ∷ l) = ([], x ∷ group delimiter.Parenthesis i ∷ l)
-  attrs_behind x (group delimiter.Brace i ∷ l) = ([], x ∷ group delimiter.Brace i ∷ l)
-  attrs_behind x (group delimiter.None i ∷ l) = ([], x ∷ group delimiter.None i ∷ l)
+-- ---- before an operand: m are the tokens behind the lead
+
+unfoldable pub lead_stands : Place → Lead → List Tok → Bool
+lead_stands p (e.jump j) m = not (ends_jump p j m) && begins_expr m
+lead_stands p (e.range_to limits.HalfOpen) m = not (ends_open_range p.condition m)
+lead_stands p (e.closure h) m = is_default h.output
+lead_stands p k m = true
+
+abbrev pub lead_place : Place → Lead → Place
+lead_place p (e.range_to op) = at p lev.Range
+lead_place p (e.binding x) = at p lev.Let
+lead_place p (e.jump j) = plain
+lead_place p (e.closure h) = at p lev.Jump
+lead_place p k = at p lev.Prefix
+
+-- ---- behind a left operand
+
+-- an operation with a right operand: m are the tokens behind its operator
+unfoldable pub mid_stands : Place → Infix → List Tok → Bool
+mid_stands p (inf.Range limits.HalfOpen) m = not (ends_open_range p.condition m)
+mid_stands p inf.Cast m = false
+mid_stands p op m = true
+
+-- an operation without one: n are the tokens behind it
+unfoldable pub post_stands : Place → Post → List Tok → Bool
+post_stands p (e.cast x) n = true
+post_stands p (e.range_from limits.HalfOpen) n = ends_open_range p.condition n
+post_stands p (e.range_from limits.Closed) n = false
+
+abbrev pub post_behind : Post → List Tok → Option (List Tok)
+post_behind (e.cast x) l = (type false).behind x l
+post_behind (e.range_from op) l = Some l
+
+-- ---- trailers
+
+abbrev pub is_call : Trailer → Bool
+is_call e.call = true
+is_call _ = false
+
+abbrev pub is_named : MemberTree → Bool
+is_named (a_name w) = true
+is_named (an_index n) = false
+
+abbrev pub is_named_field : Tree → Bool
+is_named_field (tail b (e.field m) ks) = is_named m
+is_named_field _ = false
+
+-- tokens that don't begin with an attribute
+abbrev pub is_pounded_leaf : Leaf → Bool
+is_pounded_leaf (e.verbatim ts) = sign_at (codes "#") ts
+is_pounded_leaf _ = false
+
+abbrev pub is_pounded : Tree → Bool
+is_pounded (leaf k) = is_pounded_leaf k
+is_pounded _ = false
+
+-- only these stand behind a block-like expression at a head
+abbrev pub is_parenthesis_or_bracket : Trailer → Bool
+is_parenthesis_or_bracket e.call = true
+is_parenthesis_or_bracket e.index = true
+is_parenthesis_or_bracket _ = false
+
+-- it can carry this trailer, and has no attributes; a named field is no callee
+abbrev pub is_base : Trailer → Tree → Bool
+is_base k x = carries x && (not (is_adorned x || is_pounded x) && not (is_call k && is_named_field x))
+
+unfoldable pub fits_base : Place → Trailer → Tree → Bool
+fits_base p k x = is_base k x && not (is_parenthesis_or_bracket k && rests p x)
+
+-- A float behind a dot is its parts (see `float_parts`): indices, and whether a dot ends them.
+abbrev pub step : Option ℕ → Option (List ℕ × Bool) → Option (List ℕ × Bool)
+step (Some n) (Some p) = Some (n ∷ p.0, p.1)
+step _ _ = None
+
+abbrev pub steps_of : List Tok → Option (List ℕ × Bool)
+steps_of [] = Some ([], true)
+steps_of (literal s ∷ []) = step (index_of s) (Some ([], false))
+steps_of (literal s ∷ dot ∷ more) = step (index_of s) (steps_of more)
+steps_of _ = None
+
+-- indices alone
+abbrev pub closed_steps : Option (List ℕ × Bool) → List Tok → Option (List ℕ × List Tok)
+closed_steps (Some (is, false)) l = Some (is, l)
+closed_steps _ l = None
+
+-- indices and a last dot
+abbrev pub open_steps : Option (List ℕ × Bool) → List Tok → Option (List ℕ × List Tok)
+open_steps (Some (is, true)) l = Some (is, l)
+open_steps _ l = None
+
+-- the indices behind a dot
+unfoldable pub indices_at : List Tok → Option (List ℕ × List Tok)
+indices_at (literal s ∷ l) = closed_steps (steps_of (float_parts s)) l
+indices_at _ = None
+
+-- where a name stands behind a dot: perhaps behind indices and a dot that are a float
+unfoldable pub name_at : List Tok → Option (List ℕ × List Tok)
+name_at (literal s ∷ l) = open_steps (steps_of (float_parts s)) l
+name_at l = Some ([], l)
+
+abbrev pub with_steps : List ℕ → Option (List Tok) → Option (List ℕ × List Tok)
+with_steps is None = None
+with_steps is (Some n) = Some (is, n)
+
+abbrev pub named_behind : Trailer → Option (List ℕ × List Tok) → Option (List ℕ × List Tok)
+named_behind k None = None
+named_behind k (Some p) = with_steps p.0 (dotted.behind k p.1)
+
+-- the indices of a float before the trailer, and the tokens behind its own
+unfoldable pub trailer_head : Trailer → List Tok → Option (List ℕ × List Tok)
+trailer_head e.call m = Some ([], m)
+trailer_head e.index m = Some ([], m)
+trailer_head e.question m = if question_at m then Some ([], drop 1 m) else None
+trailer_head k m = if dot_at m then named_behind k (name_at (drop 1 m)) else None
+
+unfoldable pub fields_head : List Tok → Option (List ℕ × List Tok)
+fields_head m = if dot_at m then indices_at (drop 1 m) else None
+
+-- fields of fields
+abbrev pub fields_of : Tree → List ℕ → Tree
+fields_of b [] = b
+fields_of b (i ∷ more) = fields_of (tail b (e.field (an_index i)) none) more
+
+-- ---- frames
+
+abbrev pub has_no_comma : Kids → Bool
+has_no_comma (kid k e.no_ending x ks) = true
+has_no_comma _ = false
+
+-- a tuple of one needs its comma; no struct expression stands in a condition, nor one of the path `try`
+unfoldable pub frame_stands : Place → Frame → Kids → Bool
+frame_stands p e.tuple ks = not (is_one ks && has_no_comma ks)
+frame_stands p (e.structure q w d) ks = not (p.condition || is_try_alone q w)
+frame_stands p (e.closure_block h) ks = not (is_default h.output)
+frame_stands p k ks = true
+
+abbrev pub ends_list : Bool → List Tok → Bool
+ends_list true l = dots.at l && is_empty (drop 2 l)
+ends_list false l = is_empty l
+
+-- ---- operands in places of their own
+
+-- Behind `else` stands an `if` that is no place; and only a block behind a closure's output.
+abbrev pub ends_piece : Piece → Tree → List Tok → Bool
+ends_piece e.chained x n = is_branch x
+ends_piece e.output_block x n = false
+ends_piece k x n = ends (piece_place k) x n && closes (piece_place k) x n
+
+-- the path that is this name
+abbrev pub path_of : Text → Tree
+path_of w = leaf (e.path t.no_qself (record { leading = false; segments = record { ident = w; arguments = t.no_arguments } ∷ []; trailing = false }))
+
+-- a field's value that its name says
+abbrev pub short_value : Piece → Option Tree
+short_value (e.field_value ats (a_name w) false) = Some (path_of w)
+short_value _ = None
+
+abbrev pub takes_block : Piece → Bool
+takes_block e.chained = true
+takes_block e.output_block = true
+takes_block _ = false
 
 -- ---- spelling and binding
 
--- Node p l x behind: the tree x is spelled by the tokens of l before those behind it, and obeys the binding rules at
--- this place, but for what the place asks of the tokens behind x itself.
-pub data Node : Place → List Tok → Tree → List Tok → Type 0 where
-  is_number : {p : Place} {text : List ℕ} {k : Lit} {behind : List Tok}
-      → number_of text ≡ Some k → Node p (literal text ∷ behind) (leaf (lit k)) behind
-  is_truth : {p : Place} {w : List ℕ} {behind : List Tok}
-      → bytes_eq w true_word ≡ true → Node p (ident w ∷ behind) (leaf (lit (bool true))) behind
-  is_falsehood : {p : Place} {w : List ℕ} {behind : List Tok}
-      → bytes_eq w false_word ≡ true → Node p (ident w ∷ behind) (leaf (lit (bool false))) behind
-  is_path : {p : Place} {l behind : List Tok} {w : Path}
-      → behind_path w l ≡ Some behind → all_segments w.segments ≡ true → path_stands p w behind ≡ true
-      → Node p l (leaf (path w)) behind
-  is_paren : {p : Place} {i : Inside} {behind : List Tok} {x : Tree}
-      → Node plain (toks i) x [] → ends plain x [] ≡ true → closes x [] ≡ true
-      → Node p (group delimiter.Parenthesis i ∷ behind) (paren false x) behind
-  -- a prefix operator takes an operand of its own level
-  is_unary : {p : Place} {l behind : List Tok} {op : UnKind} {x : Tree}
-      → prefix_at l ≡ Some op
-      → Node (at p lev.Prefix) (drop 1 l) x behind → ends (at p lev.Prefix) x behind ≡ true → closes x behind ≡ true
-      → Node p l (lead (unary op) x) behind
-  -- attributes stand before no infix node: they belong to its first operand
-  is_adorned : {p : Place} {l middle behind : List Tok} {a : Attr} {more : List Attr} {x : Tree}
-      → attrs_at l ≡ (a ∷ more, middle) → unadorned x ≡ true → Node p middle x behind
-      → Node p l (adorned a more x) behind
-  -- the place takes the operator; the right operand takes what is above the operator
-  is_mid : {p : Place} {l middle behind : List Tok} {left right : Tree} {op : Infix} {count : ℕ}
-      → Node p l left middle → closes left middle ≡ true → fits_left op left ≡ true
-      → infix_at middle ≡ Some (op, count) → has_kind op ≡ true → takes p.level (level op) ≡ true
-      → Node (at p (level op)) (drop count middle) right behind
-      → ends (at p (level op)) right behind ≡ true → closes right behind ≡ true → ends_operation op behind ≡ true
-      → Node p l (mid left op right) behind
+mutual
+  -- Node p l x n: the tree x is spelled by the tokens of l before n, and obeys the binding rules at this place, but for
+  -- what the place asks of the tokens n behind x itself.
+  pub data Node : Place → List Tok → Tree → List Tok → Type 0 where
+    is_leaf : {p : Place} {l n : List Tok} {k : Leaf}
+        → leaf_form.behind k l ≡ Some n → leaf_stands p k n ≡ true → Node p l (leaf k) n
+    -- `become` with some expression: the tokens are kept
+    is_become : {p : Place} {l n ts : List Tok} {x : Tree}
+        → word_at (codes "become") l ≡ true → Node plain (drop 1 l) x n → ends plain x n ≡ true → closes plain x n ≡ true
+        → l ≡ ts ++ n → Node p l (leaf (e.verbatim ts)) n
+    -- attributes before kept tokens are the first of these
+    is_attributed : {p : Place} {l m n ts us : List Tok} (a : AttributeTree) (more : List AttributeTree) (fs : List Tok)
+        → outer_attributes.behind (a ∷ more) l ≡ Some m → Node p m (leaf (e.verbatim ts)) n → l ≡ fs ++ m → us ≡ fs ++ ts
+        → Node p l (leaf (e.verbatim us)) n
+    is_paren : {p : Place} {i : Inside} {n : List Tok} {x : Tree}
+        → Node plain (toks i) x [] → ends plain x [] ≡ true → closes plain x [] ≡ true
+        → Node p (group del.Parenthesis i ∷ n) (paren false x) n
+    is_adorned_by : {p : Place} {l m n : List Tok} {a : AttributeTree} {more : List AttributeTree} {x : Tree}
+        → outer_attributes.behind (a ∷ more) l ≡ Some m → may_adorn p x ≡ true → Node p m x n → Node p l (adorned a more x) n
+    is_lead : {p : Place} {l m n : List Tok} {k : Lead} {x : Tree}
+        → lead_form.behind k l ≡ Some m → lead_stands p k m ≡ true
+        → Node (lead_place p k) m x n → ends (lead_place p k) x n ≡ true → closes (lead_place p k) x n ≡ true
+        → Node p l (lead k none x) n
+    -- the place takes the operator; the right operand takes what is above the operator
+    is_mid : {p : Place} {l m n : List Tok} {x y : Tree} {op : Infix} {count : ℕ}
+        → Node p l x m → closes p x m ≡ true → fits_left p op x ≡ true
+        → infix_at m ≡ Some (op, count) → takes p.level (level op) ≡ true → mid_stands p op (drop count m) ≡ true
+        → Node (at p (level op)) (drop count m) y n → ends (at p (level op)) y n ≡ true → closes (at p (level op)) y n ≡ true
+        → ends_operation op n ≡ true → Node p l (mid x op y) n
+    is_post : {p : Place} {l m n : List Tok} {x : Tree} {k : Post} {count : ℕ}
+        → Node p l x m → closes p x m ≡ true → fits_left p (post_op k) x ≡ true
+        → infix_at m ≡ Some (post_op k, count) → takes p.level (level (post_op k)) ≡ true
+        → post_behind k (drop count m) ≡ Some n → post_stands p k n ≡ true → ends_operation (post_op k) n ≡ true
+        → Node p l (post x k) n
+    is_tail : {p : Place} {l m h n : List Tok} {b x : Tree} {k : Trailer} {is : List ℕ} {ks : Kids}
+        → Node p l b m → fits_base p k b ≡ true → trailer_head k m ≡ Some (is, h) → Content (trailer_holder k) h ks n
+        → x ≡ fields_of b is → Node p l (tail x k ks) n
+    is_indexed : {p : Place} {l m n : List Tok} {b x : Tree} {i : ℕ} {is : List ℕ}
+        → Node p l b m → fits_base p (e.field (an_index i)) b ≡ true → fields_head m ≡ Some (i ∷ is, n)
+        → x ≡ fields_of b (i ∷ is) → Node p l x n
+    is_frame : {p : Place} {l h n : List Tok} {k : Frame} {ks : Kids}
+        → frame_head k l ≡ Some h → Content (frame_holder k) h ks n → frame_stands p k ks ≡ true → Node p l (frame k ks) n
 
--- The tree stands at the place for the tokens of l before those behind it: it is spelled by them, obeys the binding
--- rules, and ends there.
-pub record Stands (p : Place) (l : List Tok) (x : Tree) (behind : List Tok) : Type 0 where
-  pub node : Node p l x behind
-  pub ending : ends p x behind ≡ true
-  pub closing : closes x behind ≡ true
+  -- what a trailer or a frame holds
+  pub data Content : Holder → List Tok → Kids → List Tok → Type 0 where
+    holds_none : {n : List Tok} → Content nothing n none n
+    holds_within : {d : Delimiter} {s : Slot} {dotted_end : Bool} {l i o n : List Tok} {ks : Kids}
+        → group_at d l ≡ Some (i, n) → Operands s i ks o → ends_list dotted_end o ≡ true → Content (within d s dotted_end) l ks n
+    holds_bare : {s : Slot} {l n : List Tok} {ks : Kids} → Operands s l ks n → Content (bare s) l ks n
+
+  -- the operands from a slot on
+  pub data Operands : Slot → List Tok → Kids → List Tok → Type 0 where
+    no_more : {s : Slot} {n : List Tok} → may_end s n ≡ true → Operands s n none n
+    one_more : {s : Slot} {l m h n o : List Tok} {k : Piece} {c : Ending} {x : Tree} {ks : Kids}
+        → (piece_form s).behind k l ≡ Some m → is_silent k ≡ false
+        → Node (piece_place k) m x h → ends_piece k x h ≡ true → ending_at k x h ≡ Some (c, n)
+        → Operands (after k) n ks o → Operands s l (kid k c x ks) o
+    -- a field whose value its name says
+    short : {s : Slot} {l m n o : List Tok} {k : Piece} {c : Ending} {x : Tree} {ks : Kids}
+        → (piece_form s).behind k l ≡ Some m → short_value k ≡ Some x → ending_at k x m ≡ Some (c, n)
+        → Operands (after k) n ks o → Operands s l (kid k c x ks) o
+    -- a block that keeps all its tokens
+    block : {s : Slot} {l m i n o : List Tok} {k : Piece} {ks : Kids}
+        → (piece_form s).behind k l ≡ Some m → takes_block k ≡ true → group_at del.Brace m ≡ Some (i, n)
+        → Operands (after k) n ks o → Operands s l (kid k e.no_ending (plain_block i) ks) o
+    -- what a `match` looks at, then its arms in a brace
+    arms_inside : {l i h j n : List Tok} {ats : List AttributeTree} {x : Tree} {ks : Kids}
+        → Node before_block l x h → ends before_block x h ≡ true → closes before_block x h ≡ true
+        → group_at del.Brace h ≡ Some (i, n) → inner_attributes.behind ats i ≡ Some j → Operands arms j ks []
+        → Operands scrutinees l (kid e.scrutinee (e.opened ats) x ks) n
+
+-- The tree stands at the place for the tokens of l before n: it is spelled by them, obeys the binding rules, and ends
+-- there.
+pub record Stands (p : Place) (l : List Tok) (x : Tree) (n : List Tok) : Type 0 where
+  pub node : Node p l x n
+  pub ending : ends p x n ≡ true
+  pub closing : closes p x n ≡ true

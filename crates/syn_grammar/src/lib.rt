@@ -2,7 +2,5 @@
 #![tactic(auto)]
 
 pub mod kinds;
-pub mod laws;
 pub mod next;
-pub mod note;
-pub mod printing;
+pub mod rows;

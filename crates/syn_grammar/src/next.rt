@@ -1,14 +1,14 @@
 //! What a printer has to know of the place of a node: what stands behind it, and what is round it.
 
-use crate::kinds::{Infix, Level};
-
 /// The first token behind a node, as far as it decides about parentheses.
 #[derive(Clone, Copy, Debug, PartialEq, Eq)]
 pub enum Next {
     /// Nothing, or a token with which no expression goes on.
     End,
-    /// `=` or a compound assignment.
+    /// `=` or a compound assignment but `<<=`
     Assign,
+    /// `<<=`
+    ShiftLeftAssign,
     /// `..` or `..=`
     Range,
     /// `||`
@@ -47,17 +47,10 @@ pub enum Next {
     Parenthesis,
     /// A group in brackets.
     Bracket,
-    /// A group in braces.
+    /// A group in braces that opens a block: behind a condition.
+    Block,
+    /// A group in braces elsewhere: behind the value of a jump in a condition.
     Brace,
-}
-
-/// What a node is to the node that owns its place.
-#[derive(Clone, Copy, Debug, PartialEq, Eq)]
-pub enum Role {
-    /// The occupant of a place of this level.
-    At(Level),
-    /// The left operand of this operator.
-    LeftOf(Infix),
 }
 
 /// What the first leaf of a node may be.
@@ -65,16 +58,19 @@ pub enum Role {
 pub enum Edge {
     /// Anything.
     Free,
-    /// At the head of a statement or of a match arm's body: a block-like leaf is the whole there, or the base of
-    /// `.` or `?`.
-    Head,
-    /// On the left of something at a head: no block-like leaf.
-    BelowHead,
     /// Nothing that begins with a brace.
     NoBrace,
+    /// At the head of a match arm's body: a block-like leaf is the whole there, or the base of `.` or `?`.
+    Arm,
+    /// On the left of something at the head of an arm's body: no block-like leaf.
+    BelowArm,
+    /// At the head of a statement: as in an arm, and a `let` is in parentheses.
+    Statement,
+    /// On the left of something at the head of a statement: no block-like leaf, no macro with braces, no `let`.
+    BelowStatement,
 }
 
-/// All that decides about a node's parentheses, but the node itself and its role.
+/// All that decides about a node's parentheses, but the node itself and what it is to its owner.
 #[derive(Clone, Copy, Debug, PartialEq, Eq)]
 pub struct Context {
     /// Before the block of an `if`, `while`, `match` or `for`.

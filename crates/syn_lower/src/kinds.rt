@@ -11,8 +11,8 @@ use crate::ty::{
     Type, TypeArray, TypeFnPtr, TypeImplTrait, TypeInfer, TypeNever, TypeParen, TypePtr,
     TypeReference, TypeSlice, TypeTraitObject, TypeTuple,
 };
-use syn_branch::kinds::{Kind, OfKind};
-use syn_leaf::ahead::ahead;
+use syn_lower_generic::kinds::{Kind, OfKind};
+use syn_lower_leaves::ahead::ahead;
 use syn_tokens::buffer::{Parse, ParseBuffer};
 use syn_tokens::error::Result;
 

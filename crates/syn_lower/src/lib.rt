@@ -21,14 +21,14 @@ pub use print::print_qpath;
 pub use read_back::qpath_is_read_back;
 pub use readers::qpath;
 pub use stmt::Block;
-pub use syn_leaf::attr::{AttrStyle, Attribute};
-pub use syn_leaf::lifetime::Lifetime;
-pub use syn_leaf::lit::{
+pub use syn_lower_leaves::attr::{AttrStyle, Attribute};
+pub use syn_lower_leaves::lifetime::Lifetime;
+pub use syn_lower_leaves::lit::{
     Lit, LitBool, LitByte, LitByteStr, LitCStr, LitChar, LitFloat, LitInt, LitStr,
 };
-pub use syn_leaf::{attr, lifetime, lit};
-pub use syn_twig::punctuated;
-pub use syn_twig::punctuated::Punctuated;
+pub use syn_lower_leaves::{attr, lifetime, lit};
+pub use syn_lower_lists::punctuated;
+pub use syn_lower_lists::punctuated::Punctuated;
 pub use ty::{
     Abi, BareFnArg, BoundLifetimes, PointerMutability, ReturnType, TraitBound, Type, TypeArray,
     TypeFnPtr, TypeImplTrait, TypeInfer, TypeMacro, TypeNever, TypeParamBound, TypeParen, TypePath,

@@ -1,7 +1,7 @@
-//! Paths (Rust Reference, "Paths"): the parts of `syn_branch` over `Type`, under syn's names.
+//! Paths (Rust Reference, "Paths"): the parts of `syn_lower_generic` over `Type`, under syn's names.
 
 use crate::ty::Type;
-use syn_branch::path::{
+use syn_lower_generic::path::{
     AngleBracketedGenericArgumentsOf, AssocTypeOf, GenericArgumentOf,
     ParenthesizedGenericArgumentsOf, PathArgumentsOf, PathOf, PathSegmentOf, QSelfOf,
 };

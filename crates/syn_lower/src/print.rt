@@ -3,14 +3,14 @@
 
 ghost use Rattle.std.specs.Prelude.{◌≡◌, ◌++◌, [], ◌∷◌, IfErr, OnOk, OnErr};
 ghost use Rattle.syn_lower.specs.View.{type_of, path_with, qself_or};
-ghost use Rattle.syn_branch.specs.View.{path_of};
+ghost use Rattle.syn_lower_generic.specs.View.{path_of};
 ghost use Rattle.syn_parts.specs.Own.{alone, type_own};
 ghost use Rattle.syn_tokens.specs.Input.{IsFront};
 ghost use Rattle.syn_tokens.specs.Tok as tok;
 
 use crate::path::{Path, QSelf};
 use crate::ty::{Type, TypeInfer, TypeNever};
-use syn_branch::print::print_with_qself;
+use syn_lower_generic::print::print_with_qself;
 use syn_tokens::buffer::ToTokens;
 use syn_tokens::error::{ErrorKind, Result};
 use syn_tokens::tree::TokenStream;
@@ -64,7 +64,7 @@ impl ToTokens for Type {
 /// Prints a path and the type that it is qualified by, if there is one: `<T as a::b>::c`, or the path alone. `position`
 /// says how many segments stand before `>`; where the path has fewer, all do. `as` is printed exactly where some do,
 /// whatever `as_token` is. It is refused as `OutOfMemory` alone, and the tokens that were there then stay in front.
-#[tactic(auto, using(syn_branch::proofs::Prints::qpaths))]
+#[tactic(auto, using(syn_lower_generic::proofs::Prints::qpaths))]
 pub fn print_qpath(qself: &Option<QSelf>, path: &Path, tokens: &mut TokenStream) -> Result<()>
     ensures ok { OnOk result (tokens.new ≡ tokens.old ++ type_own (path_with (qself_or type_of qself.now) (path_of type_of path.now)) []) }
     ensures err { OnErr result (IsFront tokens.old tokens.new) }

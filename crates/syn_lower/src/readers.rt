@@ -1,9 +1,9 @@
-//! The reader of types, which ties the knot of `syn_reader`, and those that stand on it.
+//! The reader of types, which ties the knot of `syn_lower_readers`, and those that stand on it.
 #![tactic(auto, using(syn_parts::proofs::Readable::readables))]
 
 ghost use Rattle.std.specs.Prelude.{◌≡◌, ◌≤◌, ◌+◌, IfErr, IfOk, Some, true, false, if◌then◌else◌};
-ghost use Rattle.syn_branch.specs.View as view;
-ghost use Rattle.syn_leaf.specs.Reads.{Reads};
+ghost use Rattle.syn_lower_generic.specs.View as view;
+ghost use Rattle.syn_lower_leaves.specs.Reads.{Reads};
 ghost use Rattle.syn_lower.specs.View.{path_of, qself_or, type_of};
 ghost use Rattle.syn_parts.specs.Part as part;
 ghost use Rattle.syn_tokens.specs.Input.{IsAfter};
@@ -11,15 +11,15 @@ ghost use Rattle.syn_tokens.specs.Tok.{weight};
 
 use crate::path::{Path, QSelf};
 use crate::ty::Type;
-use syn_branch::path::{
+use syn_lower_generic::path::{
     AngleBracketedGenericArgumentsOf, AssocTypeOf, GenericArgumentOf,
     ParenthesizedGenericArgumentsOf, PathOf, PathSegmentOf, QSelfOf, style,
 };
-use syn_branch::ty::{BareFnArgOf, ReturnTypeOf, TraitBoundOf, TypeParamBoundOf};
-use syn_branch::types::ReadTypes;
-use syn_leaf::ahead::{ReadByForm, ahead};
+use syn_lower_generic::ty::{BareFnArgOf, ReturnTypeOf, TraitBoundOf, TypeParamBoundOf};
+use syn_lower_generic::types::ReadTypes;
+use syn_lower_leaves::ahead::{ReadByForm, ahead};
+use syn_lower_readers::grammar::Grammar;
 use syn_parts::label::PathStyle;
-use syn_reader::grammar::Grammar;
 use syn_tokens::buffer::{Parse, ParseBuffer};
 use syn_tokens::error::Result;
 

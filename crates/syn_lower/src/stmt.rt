@@ -1,3 +1,3 @@
 //! Blocks (Rust Reference, "Block expressions").
 
-pub use syn_leaf::block::Block;
+pub use syn_lower_leaves::block::Block;

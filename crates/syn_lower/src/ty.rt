@@ -1,19 +1,19 @@
-//! Types (Rust Reference, "Types"). The parts that hold types stand in `syn_branch`, generic in them; here they have syn's
+//! Types (Rust Reference, "Types"). The parts that hold types stand in `syn_lower_generic`, generic in them; here they have syn's
 //! names, over `Type`.
 
 ghost use Rattle.std.specs.Prelude.{◌≡◌};
-ghost use Rattle.syn_branch.specs.View as view;
+ghost use Rattle.syn_lower_generic.specs.View as view;
 ghost use Rattle.syn_lower.specs.View.{type_of};
 ghost use Rattle.syn_parts.specs.Tree as t;
 
-use syn_branch::ty::{
+use syn_lower_generic::ty::{
     BareFnArgOf, ReturnTypeOf, TraitBoundOf, TypeArrayOf, TypeFnPtrOf, TypeImplTraitOf,
     TypeMacroOf, TypeParamBoundOf, TypeParenOf, TypePathOf, TypePtrOf, TypeReferenceOf,
     TypeSliceOf, TypeTraitObjectOf, TypeTupleOf,
 };
-use syn_branch::types::{HasTree, IsType};
+use syn_lower_generic::types::{HasTree, IsType};
+pub use syn_lower_lists::ty::{Abi, BoundLifetimes, PointerMutability};
 use syn_tokens::token::{Not, Underscore};
-pub use syn_twig::ty::{Abi, BoundLifetimes, PointerMutability};
 
 /// A type.
 #[cycle(types)]

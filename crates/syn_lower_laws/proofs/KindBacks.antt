@@ -7,24 +7,24 @@ use Rattle.syn_parts.specs.Own.{type_own, return_own, arguments_own, assoc_own, 
 use Rattle.syn_parts.specs.Fits.{type_fits, type_stops, arguments_fit, generic_fits, bound_fits, bound_stops, in_angle_fits, in_round_fits, assoc_fits, trait_fits}
 use Rattle.syn_parts.proofs.Whole.{parts_read_back}
 use Rattle.syn_parts.specs.Kind.{type_of_kind}
-use Rattle.syn_branch.specs.View.{name_and_type}
+use Rattle.syn_lower_generic.specs.View.{name_and_type}
 use Rattle.syn_lower.specs.View.{type_of, generic_of, arguments_of, return_of, bound_of, round_of, angle_of, trait_of, is_mut}
-use Rattle.syn_branch.specs.declared.ty.ReturnTypeOf.{ReturnTypeOf}
-use Rattle.syn_branch.specs.Printed.{mutability_printed, angle_printed, assoc_printed, trait_printed}
-use Rattle.syn_branch.specs.Printed.{return_printed as return_typed}
+use Rattle.syn_lower_generic.specs.declared.ty.ReturnTypeOf.{ReturnTypeOf}
+use Rattle.syn_lower_generic.specs.Printed.{mutability_printed, angle_printed, assoc_printed, trait_printed}
+use Rattle.syn_lower_generic.specs.Printed.{return_printed as return_typed}
 use Rattle.syn_lower_laws.proofs.OwnTokens.{type_printed, arguments_printed, return_printed, bound_printed}
-use Rattle.syn_branch.proofs.Prints.{return_print, angle_print, trait_print}
+use Rattle.syn_lower_generic.proofs.Prints.{return_print, angle_print, trait_print}
 use Rattle.syn_lower.proofs.Prints.{ty_toks}
-use Rattle.syn_branch.specs.declared.path.AngleBracketedGenericArgumentsOf.{AngleBracketedGenericArgumentsOf}
-use Rattle.syn_branch.specs.declared.path.ParenthesizedGenericArgumentsOf.{ParenthesizedGenericArgumentsOf}
-use Rattle.syn_branch.specs.declared.path.GenericArgumentOf.TheVariants as ge
-use Rattle.syn_branch.specs.declared.path.PathArgumentsOf.TheVariants as ar
-use Rattle.syn_branch.specs.declared.path.AssocTypeOf.{AssocTypeOf}
+use Rattle.syn_lower_generic.specs.declared.path.AngleBracketedGenericArgumentsOf.{AngleBracketedGenericArgumentsOf}
+use Rattle.syn_lower_generic.specs.declared.path.ParenthesizedGenericArgumentsOf.{ParenthesizedGenericArgumentsOf}
+use Rattle.syn_lower_generic.specs.declared.path.GenericArgumentOf.TheVariants as ge
+use Rattle.syn_lower_generic.specs.declared.path.PathArgumentsOf.TheVariants as ar
+use Rattle.syn_lower_generic.specs.declared.path.AssocTypeOf.{AssocTypeOf}
 use Rattle.syn_lower.specs.declared.ty.«Type».{«Type»}
-use Rattle.syn_branch.specs.declared.ty.TraitBoundOf.{TraitBoundOf}
-use Rattle.syn_branch.specs.declared.ty.TypeParamBoundOf.TheVariants as bo
-use Rattle.syn_twig.specs.declared.ty.PointerMutability.{PointerMutability}
-use Rattle.syn_twig.specs.declared.ty.PointerMutability.TheVariants as pointer
+use Rattle.syn_lower_generic.specs.declared.ty.TraitBoundOf.{TraitBoundOf}
+use Rattle.syn_lower_generic.specs.declared.ty.TypeParamBoundOf.TheVariants as bo
+use Rattle.syn_lower_lists.specs.declared.ty.PointerMutability.{PointerMutability}
+use Rattle.syn_lower_lists.specs.declared.ty.PointerMutability.TheVariants as pointer
 
 -- a type of this kind, by what is printed of it
 pub kind_back : (is : TypeTree → Bool) (x : TypeTree) (printed rest : List Tok) → is x ≡ true → type_own x [] ≡ printed → type_fits true x ≡ true → type_stops true x rest ≡ true → (type_of_kind is).behind x (printed ++ rest) ≡ Some rest

@@ -3,9 +3,9 @@
 ghost use Rattle.std.specs.Prelude.{Bool, true, false, [], if◌then◌else◌};
 ghost use Rattle.syn_lower.specs.ReadBack.{PrintsOwn, IsReadBack, IsRead, qpath_of};
 ghost use Rattle.syn_lower.specs.View as view;
-ghost use Rattle.syn_branch.specs.declared.path.GenericArgumentOf.TheVariants as generic;
-ghost use Rattle.syn_branch.specs.declared.path.PathArgumentsOf.TheVariants as arguments;
-ghost use Rattle.syn_branch.specs.declared.ty.TypeParamBoundOf.TheVariants as bound;
+ghost use Rattle.syn_lower_generic.specs.declared.path.GenericArgumentOf.TheVariants as generic;
+ghost use Rattle.syn_lower_generic.specs.declared.path.PathArgumentsOf.TheVariants as arguments;
+ghost use Rattle.syn_lower_generic.specs.declared.ty.TypeParamBoundOf.TheVariants as bound;
 ghost use Rattle.syn_lower.specs.declared.ty.«Type».TheVariants as ty;
 ghost use Rattle.syn_parts.specs.Fits as fits;
 ghost use Rattle.syn_parts.specs.Fits.{closed};

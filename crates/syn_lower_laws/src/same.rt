@@ -1,7 +1,7 @@
 //! Equality of the parts, which ignores their places: what their derived `==` answers, as contracts of functions that do
 //! nothing.
 
-ghost use Rattle.syn_leaf.specs.Equal.{IsEqualityOf};
+ghost use Rattle.syn_lower_leaves.specs.Equal.{IsEqualityOf};
 ghost use Rattle.syn_lower.specs.View.{abi_of, angle_of, arg_of, arguments_of, assoc_of, bound_of, generic_of, is_mut, lifetimes_of, macro_of, path_of, qself_of, return_of, round_of, segment_of, trait_of, type_of};
 ghost use Rattle.syn_lower.specs.declared.ty.«Type».TheVariants as ty;
 

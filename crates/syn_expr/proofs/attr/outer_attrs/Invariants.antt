@@ -1,6 +1,6 @@
 use Rattle.std.proofs.Common.{◌≡◌, ◌≤◌, []}
 use Rattle.syn_tokens.specs.Tok.{weight}
-use Rattle.syn_grammar.specs.Stands.{attrs_at}
+use Rattle.syn_five_kinds.specs.Stands.{attrs_at}
 use Rattle.syn_expr.specs.View.{outer_attrs, inner_attrs}
 use Rattle.syn_expr.proofs.Attributes.{with_found}
 use Rattle.syn_expr.proofs.attr.outer_attrs.Given as goal

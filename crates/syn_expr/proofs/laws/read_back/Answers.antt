@@ -1,7 +1,7 @@
 use Rattle.std.proofs.Common.{◌++◌, ◌∙◌, ap}
-use Rattle.syn_grammar.specs.Next.{enclosed}
-use Rattle.syn_grammar.specs.Rule.{printed}
-use Rattle.syn_grammar.specs.Tree.{own_tokens}
+use Rattle.syn_five_kinds.specs.Next.{enclosed}
+use Rattle.syn_five_kinds.specs.Rule.{printed}
+use Rattle.syn_five_kinds.specs.Tree.{own_tokens}
 use Rattle.syn_expr.specs.View.{tree_of}
 use Rattle.syn_expr.proofs.Back.{given_back}
 use Rattle.syn_expr.proofs.laws.read_back.Goals as goal

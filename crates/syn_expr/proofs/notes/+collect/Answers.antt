@@ -1,6 +1,6 @@
 -- The notes of the operands, and then the node's own.
 use Rattle.std.proofs.Common.{◌≡◌, ◌++◌, ◌∷◌, [], OnOk, subst, append_assoc}
-use Rattle.syn_grammar.specs.Notes.{stack}
+use Rattle.syn_five_kinds.specs.Notes.{stack}
 use Rattle.syn_expr.specs.Printing.{noted_behind}
 use Rattle.syn_expr.specs.View.{tree_of, attrs_of}
 use Rattle.syn_expr.proofs.Prints.{stack-Paren, stack-Unary, stack-Binary}

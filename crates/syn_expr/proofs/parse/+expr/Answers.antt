@@ -1,4 +1,4 @@
-use Rattle.syn_grammar.proofs.Unique.{expr_is}
+use Rattle.syn_five_kinds.proofs.Unique.{expr_is}
 use Rattle.syn_expr.proofs.parse.+expr.Goals as goal
 
 pub returns-clause-value : goal.returns-clause-value

@@ -1,6 +1,6 @@
 use Rattle.std.proofs.Common.{◌≡◌, ◌≤◌, map}
 use Rattle.syn_tokens.specs.Tok.{weight}
-use Rattle.syn_grammar.specs.Read.{segments_at}
+use Rattle.syn_five_kinds.specs.Read.{segments_at}
 use Rattle.syn_expr.specs.declared.path.PathSegment.{PathSegment}
 use Rattle.syn_expr.proofs.Paths.{prefixed}
 use Rattle.syn_expr.proofs.path.segments.Given as goal

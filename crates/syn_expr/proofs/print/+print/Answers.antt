@@ -1,7 +1,7 @@
 -- The notes that are left are those of the operand to come.
 use Rattle.std.proofs.Common.{◌≡◌, ◌++◌, ◌∷◌, [], subst, sym, append_assoc}
-use Rattle.syn_grammar.specs.Notes.{EndsWith, stack, below, note_of}
-use Rattle.syn_grammar.proofs.Stacks.{ends_back, ends_front}
+use Rattle.syn_five_kinds.specs.Notes.{EndsWith, stack, below, note_of}
+use Rattle.syn_five_kinds.proofs.Stacks.{ends_back, ends_front}
 use Rattle.syn_expr.specs.View.{tree_of}
 use Rattle.syn_expr.proofs.Prints.{stacked-Binary}
 use Rattle.syn_expr.proofs.print.+print.Goals as goal

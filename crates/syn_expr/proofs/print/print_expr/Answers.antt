@@ -1,8 +1,8 @@
 use Rattle.std.proofs.Common.{sym, subst, ap, ◌≡◌, ◌∙◌, ◌++◌}
-use Rattle.syn_grammar.specs.Printed.{PrintedAs}
-use Rattle.syn_grammar.specs.Rule.{printed}
-use Rattle.syn_grammar.specs.Tree.{own_tokens}
-use Rattle.syn_grammar.proofs.Promise.{printed_as, own_spelling}
+use Rattle.syn_five_kinds.specs.Printed.{PrintedAs}
+use Rattle.syn_five_kinds.specs.Rule.{printed}
+use Rattle.syn_five_kinds.specs.Tree.{own_tokens}
+use Rattle.syn_five_kinds.proofs.Promise.{printed_as, own_spelling}
 use Rattle.syn_expr.specs.View.{tree_of}
 use Rattle.syn_expr.proofs.Unmarked.{tree_clear}
 use Rattle.syn_expr.proofs.print.print_expr.Goals as goal

@@ -1,7 +1,7 @@
 -- What is left ends with the notes of the operands.
 use Rattle.std.proofs.Common.{◌++◌, ◌∙◌, ap}
 use Rattle.std.specs.Option.{option_to_list}
-use Rattle.syn_grammar.proofs.Stacks.{front_of}
+use Rattle.syn_five_kinds.proofs.Stacks.{front_of}
 use Rattle.syn_expr.proofs.print.take_note.Goals as goal
 
 pub returns-clause-left : goal.returns-clause-left

@@ -1,6 +1,6 @@
 use Rattle.std.proofs.Common.{◌∙◌, ap}
-use Rattle.syn_grammar.specs.Notes.{wrapped_by}
-use Rattle.syn_grammar.proofs.NoteLemmas.{wrapped_is}
+use Rattle.syn_five_kinds.specs.Notes.{wrapped_by}
+use Rattle.syn_five_kinds.proofs.NoteLemmas.{wrapped_is}
 use Rattle.syn_expr.specs.View.{tree_of}
 use Rattle.syn_expr.proofs.print.takes_pair.Goals as goal
 

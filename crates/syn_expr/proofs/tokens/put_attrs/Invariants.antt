@@ -1,6 +1,6 @@
 use Rattle.std.proofs.Common.{◌≡◌, ◌++◌, drop}
 use Rattle.syn_tokens.specs.Input.{IsFront}
-use Rattle.syn_grammar.specs.Tree.{attrs_toks}
+use Rattle.syn_five_kinds.specs.Tree.{attrs_toks}
 use Rattle.syn_expr.specs.View.{outer_attrs}
 use Rattle.syn_expr.proofs.tokens.put_attrs.Given as goal
 

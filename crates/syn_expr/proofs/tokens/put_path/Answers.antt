@@ -1,5 +1,5 @@
 use Rattle.std.proofs.Common.{◌++◌, false, sym, ap, ◌∙◌, append_assoc}
-use Rattle.syn_grammar.specs.Tree.{two}
+use Rattle.syn_five_kinds.specs.Tree.{two}
 use Rattle.syn_expr.specs.Printing.{segments_behind, words_of}
 use Rattle.syn_expr.proofs.Prints.{path-Some}
 use Rattle.syn_expr.proofs.tokens.put_path.Goals as goal

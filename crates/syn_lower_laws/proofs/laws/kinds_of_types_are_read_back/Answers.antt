@@ -2,11 +2,11 @@ use Rattle.std.proofs.Common.{true, sym, ap, ◌∙◌}
 use Rattle.syn_parts.specs.declared.label.PathStyle.TheVariants as style
 use Rattle.syn_parts.specs.Part as part
 use Rattle.syn_parts.proofs.Whole.{parts_read_back}
-use Rattle.syn_leaf.proofs.Backs.{stands}
-use Rattle.syn_branch.specs.View.{type_path_of}
+use Rattle.syn_lower_leaves.proofs.Backs.{stands}
+use Rattle.syn_lower_generic.specs.View.{type_path_of}
 use Rattle.syn_lower.specs.View.{type_of, path_of, qself_or, macro_of}
-use Rattle.syn_branch.proofs.Fitting.{fits-macro}
-use Rattle.syn_branch.proofs.Prints.{type_path_print}
+use Rattle.syn_lower_generic.proofs.Fitting.{fits-macro}
+use Rattle.syn_lower_generic.proofs.Prints.{type_path_print}
 use Rattle.syn_lower_laws.proofs.OwnTokens.{type_printed, macros_print}
 use Rattle.syn_parts.specs.Part.{is_never, is_infer}
 use Rattle.syn_parts.specs.Kind.{is_reference, is_pointer, is_slice, is_array, is_tuple, is_paren, is_fn_pointer, is_impl_trait, is_trait_object}

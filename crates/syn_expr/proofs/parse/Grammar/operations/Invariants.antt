@@ -1,6 +1,6 @@
 use Rattle.std.proofs.Common.{◌≡◌, ◌≤◌, []}
 use Rattle.syn_tokens.specs.Tok.{weight}
-use Rattle.syn_grammar.specs.Read.{expr, operations}
+use Rattle.syn_five_kinds.specs.Read.{expr, operations}
 use Rattle.syn_expr.specs.View.{tree_of, inner_of}
 use Rattle.syn_expr.proofs.parse.Grammar.operations.Given as goal
 

@@ -1,0 +1,14 @@
+pub mod Binding
+pub mod Exact
+pub mod Next
+pub mod Notes
+pub mod Op
+pub mod Place
+pub mod Printed
+pub mod Read
+pub mod Rule
+pub mod Sparing
+pub mod Stands
+pub mod Tokens
+pub mod Tree
+pub mod Words

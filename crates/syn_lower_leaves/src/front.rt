@@ -1,0 +1,345 @@
+//! The tokens that parts are made of, at the front of the input.
+
+ghost use Rattle.std.specs.Prelude.{◌≡◌, ◌<◌, ◌≤◌, true, false, drop, is_some, Some, IfSome, MatchOption};
+ghost use Rattle.syn_lower_leaves.specs.Reads.{Takes};
+ghost use Rattle.syn_parts.specs.Form.{flag};
+ghost use Rattle.syn_parts.specs.Mark as mark;
+ghost use Rattle.syn_tokens.specs.Sign as sign_spec;
+ghost use Rattle.syn_tokens.specs.Tok.{weight};
+
+use syn_tokens::buffer::ParseBuffer;
+use syn_tokens::token::{
+    And, As, Colon, Comma, Const, Dyn, Eq, EqEq, Extern, FatArrow, Fn, For, Gt, Impl, Le, Lt, Mut,
+    Ne, Not, PathSep, Plus, Pound, Question, RArrow, Semi, Sign, Star, Underscore, Unsafe, Word,
+};
+
+/// Takes a token of some puncts.
+#[tactic(auto, using(syn_tokens::proofs::Signs::fronts))]
+fn sign<const N: usize, const K: usize>(input: &mut ParseBuffer<'_>) -> Option<Sign<N, K>>
+    ensures value { MatchOption result ((sign_spec.sees N K input.old.rest ≡ false) × (input.new ≡ input.old)) (λ _. (sign_spec.sees N K input.old.rest ≡ true) × (input.new ≡ record input.old { rest = drop N input.old.rest })) }
+    ensures smaller { IfSome result (λ _. weight input.new.rest < weight input.old.rest) }
+{
+    if !input.peek::<Sign<N, K>>() {
+        return None;
+    }
+    let spans = input.spans();
+    input.skip(N);
+    Some(Sign { spans })
+}
+
+/// Takes a word.
+#[tactic(auto, using(syn_tokens::proofs::Signs::fronts))]
+fn word<const K: usize>(input: &mut ParseBuffer<'_>) -> Option<Word<K>>
+    ensures value { MatchOption result ((sign_spec.sees_word K input.old.rest ≡ false) × (input.new ≡ input.old)) (λ _. (sign_spec.sees_word K input.old.rest ≡ true) × (input.new ≡ record input.old { rest = drop 1 input.old.rest })) }
+    ensures smaller { IfSome result (λ _. weight input.new.rest < weight input.old.rest) }
+{
+    if !input.peek::<Word<K>>() {
+        return None;
+    }
+    let span = input.span();
+    input.skip(1);
+    Some(Word { span })
+}
+
+/// Takes `&`.
+#[tactic(auto, unfolding(syn_tokens::specs::Sign::sign_text, syn_parts::specs::Mark::sign_at))]
+pub fn and(input: &mut ParseBuffer<'_>) -> Option<And>
+    ensures value { Takes mark.and input.old result input.new }
+    ensures flag { (flag mark.and).reads input.old.rest ≡ Some (is_some result, input.new.rest) }
+    ensures smaller { IfSome result (λ _. weight input.new.rest < weight input.old.rest) }
+    ensures shrinks { weight input.new.rest ≤ weight input.old.rest }
+{
+    sign(input)
+}
+
+/// Takes `*`.
+#[tactic(auto, unfolding(syn_tokens::specs::Sign::sign_text, syn_parts::specs::Mark::sign_at))]
+pub fn star(input: &mut ParseBuffer<'_>) -> Option<Star>
+    ensures value { Takes mark.star input.old result input.new }
+    ensures flag { (flag mark.star).reads input.old.rest ≡ Some (is_some result, input.new.rest) }
+    ensures smaller { IfSome result (λ _. weight input.new.rest < weight input.old.rest) }
+    ensures shrinks { weight input.new.rest ≤ weight input.old.rest }
+{
+    sign(input)
+}
+
+/// Takes `!`.
+#[tactic(auto, unfolding(syn_tokens::specs::Sign::sign_text, syn_parts::specs::Mark::sign_at))]
+pub fn bang(input: &mut ParseBuffer<'_>) -> Option<Not>
+    ensures value { Takes mark.bang input.old result input.new }
+    ensures flag { (flag mark.bang).reads input.old.rest ≡ Some (is_some result, input.new.rest) }
+    ensures smaller { IfSome result (λ _. weight input.new.rest < weight input.old.rest) }
+    ensures shrinks { weight input.new.rest ≤ weight input.old.rest }
+{
+    sign(input)
+}
+
+/// Takes `+`.
+#[tactic(auto, unfolding(syn_tokens::specs::Sign::sign_text, syn_parts::specs::Mark::sign_at))]
+pub fn plus(input: &mut ParseBuffer<'_>) -> Option<Plus>
+    ensures value { Takes mark.plus input.old result input.new }
+    ensures flag { (flag mark.plus).reads input.old.rest ≡ Some (is_some result, input.new.rest) }
+    ensures smaller { IfSome result (λ _. weight input.new.rest < weight input.old.rest) }
+    ensures shrinks { weight input.new.rest ≤ weight input.old.rest }
+{
+    sign(input)
+}
+
+/// Takes `,`.
+#[tactic(auto, unfolding(syn_tokens::specs::Sign::sign_text, syn_parts::specs::Mark::sign_at))]
+pub fn comma(input: &mut ParseBuffer<'_>) -> Option<Comma>
+    ensures value { Takes mark.comma input.old result input.new }
+    ensures flag { (flag mark.comma).reads input.old.rest ≡ Some (is_some result, input.new.rest) }
+    ensures smaller { IfSome result (λ _. weight input.new.rest < weight input.old.rest) }
+    ensures shrinks { weight input.new.rest ≤ weight input.old.rest }
+{
+    sign(input)
+}
+
+/// Takes `;`.
+#[tactic(auto, unfolding(syn_tokens::specs::Sign::sign_text, syn_parts::specs::Mark::sign_at))]
+pub fn semi(input: &mut ParseBuffer<'_>) -> Option<Semi>
+    ensures value { Takes mark.semi input.old result input.new }
+    ensures flag { (flag mark.semi).reads input.old.rest ≡ Some (is_some result, input.new.rest) }
+    ensures smaller { IfSome result (λ _. weight input.new.rest < weight input.old.rest) }
+    ensures shrinks { weight input.new.rest ≤ weight input.old.rest }
+{
+    sign(input)
+}
+
+/// Takes `#`.
+#[tactic(auto, unfolding(syn_tokens::specs::Sign::sign_text, syn_parts::specs::Mark::sign_at))]
+pub fn pound(input: &mut ParseBuffer<'_>) -> Option<Pound>
+    ensures value { Takes mark.pound input.old result input.new }
+    ensures flag { (flag mark.pound).reads input.old.rest ≡ Some (is_some result, input.new.rest) }
+    ensures smaller { IfSome result (λ _. weight input.new.rest < weight input.old.rest) }
+    ensures shrinks { weight input.new.rest ≤ weight input.old.rest }
+{
+    sign(input)
+}
+
+/// Takes `?`.
+#[tactic(auto, unfolding(syn_tokens::specs::Sign::sign_text, syn_parts::specs::Mark::sign_at))]
+pub fn question(input: &mut ParseBuffer<'_>) -> Option<Question>
+    ensures value { Takes mark.question input.old result input.new }
+    ensures flag { (flag mark.question).reads input.old.rest ≡ Some (is_some result, input.new.rest) }
+    ensures smaller { IfSome result (λ _. weight input.new.rest < weight input.old.rest) }
+    ensures shrinks { weight input.new.rest ≤ weight input.old.rest }
+{
+    sign(input)
+}
+
+/// Takes `::`.
+#[tactic(auto, unfolding(syn_tokens::specs::Sign::sign_text, syn_parts::specs::Mark::sign_at))]
+pub fn colon2(input: &mut ParseBuffer<'_>) -> Option<PathSep>
+    ensures value { Takes mark.colon2 input.old result input.new }
+    ensures flag { (flag mark.colon2).reads input.old.rest ≡ Some (is_some result, input.new.rest) }
+    ensures smaller { IfSome result (λ _. weight input.new.rest < weight input.old.rest) }
+    ensures shrinks { weight input.new.rest ≤ weight input.old.rest }
+{
+    sign(input)
+}
+
+/// Takes `->`.
+#[tactic(auto, unfolding(syn_tokens::specs::Sign::sign_text, syn_parts::specs::Mark::sign_at))]
+pub fn arrow(input: &mut ParseBuffer<'_>) -> Option<RArrow>
+    ensures value { Takes mark.arrow input.old result input.new }
+    ensures flag { (flag mark.arrow).reads input.old.rest ≡ Some (is_some result, input.new.rest) }
+    ensures smaller { IfSome result (λ _. weight input.new.rest < weight input.old.rest) }
+    ensures shrinks { weight input.new.rest ≤ weight input.old.rest }
+{
+    sign(input)
+}
+
+/// Takes `>`.
+#[tactic(auto, unfolding(syn_tokens::specs::Sign::sign_text, syn_parts::specs::Mark::sign_at))]
+pub fn gt(input: &mut ParseBuffer<'_>) -> Option<Gt>
+    ensures value { Takes mark.gt input.old result input.new }
+    ensures flag { (flag mark.gt).reads input.old.rest ≡ Some (is_some result, input.new.rest) }
+    ensures smaller { IfSome result (λ _. weight input.new.rest < weight input.old.rest) }
+    ensures shrinks { weight input.new.rest ≤ weight input.old.rest }
+{
+    sign(input)
+}
+
+/// Takes `<`.
+#[tactic(auto, unfolding(syn_tokens::specs::Sign::sign_text, syn_parts::specs::Mark::sign_at))]
+pub fn less(input: &mut ParseBuffer<'_>) -> Option<Lt>
+    ensures value { Takes mark.less input.old result input.new }
+    ensures flag { (flag mark.less).reads input.old.rest ≡ Some (is_some result, input.new.rest) }
+    ensures smaller { IfSome result (λ _. weight input.new.rest < weight input.old.rest) }
+    ensures shrinks { weight input.new.rest ≤ weight input.old.rest }
+{
+    sign(input)
+}
+
+/// Takes `<` that doesn't begin `<=`.
+#[tactic(auto, unfolding(syn_tokens::specs::Sign::sign_text, syn_parts::specs::Mark::sign_at))]
+pub fn lt(input: &mut ParseBuffer<'_>) -> Option<Lt>
+    ensures value { Takes mark.lt input.old result input.new }
+    ensures flag { (flag mark.lt).reads input.old.rest ≡ Some (is_some result, input.new.rest) }
+    ensures smaller { IfSome result (λ _. weight input.new.rest < weight input.old.rest) }
+    ensures shrinks { weight input.new.rest ≤ weight input.old.rest }
+{
+    if input.peek::<Le>() {
+        return None;
+    }
+    sign(input)
+}
+
+/// Takes `=` that begins neither `==` nor `=>`.
+#[tactic(auto, unfolding(syn_tokens::specs::Sign::sign_text, syn_parts::specs::Mark::sign_at))]
+pub fn eq(input: &mut ParseBuffer<'_>) -> Option<Eq>
+    ensures value { Takes mark.eq input.old result input.new }
+    ensures flag { (flag mark.eq).reads input.old.rest ≡ Some (is_some result, input.new.rest) }
+    ensures smaller { IfSome result (λ _. weight input.new.rest < weight input.old.rest) }
+    ensures shrinks { weight input.new.rest ≤ weight input.old.rest }
+{
+    if input.peek::<EqEq>() || input.peek::<FatArrow>() {
+        return None;
+    }
+    sign(input)
+}
+
+/// Takes `!` that doesn't begin `!=`.
+#[tactic(auto, unfolding(syn_tokens::specs::Sign::sign_text, syn_parts::specs::Mark::sign_at))]
+pub fn not_ne(input: &mut ParseBuffer<'_>) -> Option<Not>
+    ensures value { Takes mark.not_ne input.old result input.new }
+    ensures flag { (flag mark.not_ne).reads input.old.rest ≡ Some (is_some result, input.new.rest) }
+    ensures smaller { IfSome result (λ _. weight input.new.rest < weight input.old.rest) }
+    ensures shrinks { weight input.new.rest ≤ weight input.old.rest }
+{
+    if input.peek::<Ne>() {
+        return None;
+    }
+    sign(input)
+}
+
+/// Takes `:` that doesn't begin `::`.
+#[tactic(auto, unfolding(syn_tokens::specs::Sign::sign_text, syn_parts::specs::Mark::sign_at))]
+pub fn colon(input: &mut ParseBuffer<'_>) -> Option<Colon>
+    ensures value { Takes mark.lone_colon input.old result input.new }
+    ensures flag { (flag mark.lone_colon).reads input.old.rest ≡ Some (is_some result, input.new.rest) }
+    ensures smaller { IfSome result (λ _. weight input.new.rest < weight input.old.rest) }
+    ensures shrinks { weight input.new.rest ≤ weight input.old.rest }
+{
+    if input.peek::<PathSep>() {
+        return None;
+    }
+    sign(input)
+}
+
+/// Takes `mut`.
+#[tactic(auto, unfolding(syn_tokens::specs::Sign::word_text, syn_parts::specs::Mark::word_at))]
+pub fn mutable(input: &mut ParseBuffer<'_>) -> Option<Mut>
+    ensures value { Takes mark.mutable input.old result input.new }
+    ensures flag { (flag mark.mutable).reads input.old.rest ≡ Some (is_some result, input.new.rest) }
+    ensures smaller { IfSome result (λ _. weight input.new.rest < weight input.old.rest) }
+    ensures shrinks { weight input.new.rest ≤ weight input.old.rest }
+{
+    word(input)
+}
+
+/// Takes `const`.
+#[tactic(auto, unfolding(syn_tokens::specs::Sign::word_text, syn_parts::specs::Mark::word_at))]
+pub fn constant(input: &mut ParseBuffer<'_>) -> Option<Const>
+    ensures value { Takes mark.constant input.old result input.new }
+    ensures flag { (flag mark.constant).reads input.old.rest ≡ Some (is_some result, input.new.rest) }
+    ensures smaller { IfSome result (λ _. weight input.new.rest < weight input.old.rest) }
+    ensures shrinks { weight input.new.rest ≤ weight input.old.rest }
+{
+    word(input)
+}
+
+/// Takes `as`.
+#[tactic(auto, unfolding(syn_tokens::specs::Sign::word_text, syn_parts::specs::Mark::word_at))]
+pub fn as_word(input: &mut ParseBuffer<'_>) -> Option<As>
+    ensures value { Takes mark.as_word input.old result input.new }
+    ensures flag { (flag mark.as_word).reads input.old.rest ≡ Some (is_some result, input.new.rest) }
+    ensures smaller { IfSome result (λ _. weight input.new.rest < weight input.old.rest) }
+    ensures shrinks { weight input.new.rest ≤ weight input.old.rest }
+{
+    word(input)
+}
+
+/// Takes `dyn`.
+#[tactic(auto, unfolding(syn_tokens::specs::Sign::word_text, syn_parts::specs::Mark::word_at))]
+pub fn dynamic(input: &mut ParseBuffer<'_>) -> Option<Dyn>
+    ensures value { Takes mark.dynamic input.old result input.new }
+    ensures flag { (flag mark.dynamic).reads input.old.rest ≡ Some (is_some result, input.new.rest) }
+    ensures smaller { IfSome result (λ _. weight input.new.rest < weight input.old.rest) }
+    ensures shrinks { weight input.new.rest ≤ weight input.old.rest }
+{
+    word(input)
+}
+
+/// Takes `impl`.
+#[tactic(auto, unfolding(syn_tokens::specs::Sign::word_text, syn_parts::specs::Mark::word_at))]
+pub fn implementing(input: &mut ParseBuffer<'_>) -> Option<Impl>
+    ensures value { Takes mark.implementing input.old result input.new }
+    ensures flag { (flag mark.implementing).reads input.old.rest ≡ Some (is_some result, input.new.rest) }
+    ensures smaller { IfSome result (λ _. weight input.new.rest < weight input.old.rest) }
+    ensures shrinks { weight input.new.rest ≤ weight input.old.rest }
+{
+    word(input)
+}
+
+/// Takes `for`.
+#[tactic(auto, unfolding(syn_tokens::specs::Sign::word_text, syn_parts::specs::Mark::word_at))]
+pub fn for_word(input: &mut ParseBuffer<'_>) -> Option<For>
+    ensures value { Takes mark.for_word input.old result input.new }
+    ensures flag { (flag mark.for_word).reads input.old.rest ≡ Some (is_some result, input.new.rest) }
+    ensures smaller { IfSome result (λ _. weight input.new.rest < weight input.old.rest) }
+    ensures shrinks { weight input.new.rest ≤ weight input.old.rest }
+{
+    word(input)
+}
+
+/// Takes `unsafe`.
+#[tactic(auto, unfolding(syn_tokens::specs::Sign::word_text, syn_parts::specs::Mark::word_at))]
+pub fn unsafe_word(input: &mut ParseBuffer<'_>) -> Option<Unsafe>
+    ensures value { Takes mark.unsafe_word input.old result input.new }
+    ensures flag { (flag mark.unsafe_word).reads input.old.rest ≡ Some (is_some result, input.new.rest) }
+    ensures smaller { IfSome result (λ _. weight input.new.rest < weight input.old.rest) }
+    ensures shrinks { weight input.new.rest ≤ weight input.old.rest }
+{
+    word(input)
+}
+
+/// Takes `extern`.
+#[tactic(auto, unfolding(syn_tokens::specs::Sign::word_text, syn_parts::specs::Mark::word_at))]
+pub fn extern_word(input: &mut ParseBuffer<'_>) -> Option<Extern>
+    ensures value { Takes mark.extern_word input.old result input.new }
+    ensures flag { (flag mark.extern_word).reads input.old.rest ≡ Some (is_some result, input.new.rest) }
+    ensures smaller { IfSome result (λ _. weight input.new.rest < weight input.old.rest) }
+    ensures shrinks { weight input.new.rest ≤ weight input.old.rest }
+{
+    word(input)
+}
+
+/// Takes `fn`.
+#[tactic(auto, unfolding(syn_tokens::specs::Sign::word_text, syn_parts::specs::Mark::word_at))]
+pub fn fn_word(input: &mut ParseBuffer<'_>) -> Option<Fn>
+    ensures value { Takes mark.fn_word input.old result input.new }
+    ensures flag { (flag mark.fn_word).reads input.old.rest ≡ Some (is_some result, input.new.rest) }
+    ensures smaller { IfSome result (λ _. weight input.new.rest < weight input.old.rest) }
+    ensures shrinks { weight input.new.rest ≤ weight input.old.rest }
+{
+    word(input)
+}
+
+/// Takes `_`.
+#[tactic(auto, using(syn_tokens::proofs::Signs::fronts), unfolding(syn_parts::specs::Mark::word_at))]
+pub fn underscore(input: &mut ParseBuffer<'_>) -> Option<Underscore>
+    ensures value { Takes mark.underscore input.old result input.new }
+    ensures flag { (flag mark.underscore).reads input.old.rest ≡ Some (is_some result, input.new.rest) }
+    ensures smaller { IfSome result (λ _. weight input.new.rest < weight input.old.rest) }
+    ensures shrinks { weight input.new.rest ≤ weight input.old.rest }
+{
+    if !input.peek::<Underscore>() {
+        return None;
+    }
+    let spans = input.spans();
+    input.skip(1);
+    Some(Underscore { spans })
+}

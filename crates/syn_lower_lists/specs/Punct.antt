@@ -1,0 +1,29 @@
+-- Lists with puncts: the puncts, and whether a value may follow.
+use Rattle.std.specs.Prelude.{Bool, true, false, not, List, [], ◌∷◌, ◌++◌, map, is_some, ◌≡◌}
+use Rattle.syn_lower_lists.specs.View.{values}
+use Rattle.syn_lower_lists.specs.declared.punctuated.Punctuated.{Punctuated}
+
+-- the puncts, in their order
+unfoldable pub puncts : {A P : Type 0} → Punctuated A P → List P
+puncts p = map (λ q. q.1) p.inner.items
+
+-- it is empty, or a punct is last
+unfoldable pub takes_value : {A P : Type 0} → Punctuated A P → Bool
+takes_value p = not (is_some p.last)
+
+-- two lists hold the same
+pub record IsSameList {A P : Type 0} (a b : Punctuated A P) : Type 0 where
+  pub values : values a ≡ values b
+  pub puncts : puncts a ≡ puncts b
+  pub takes_value : takes_value a ≡ takes_value b
+
+-- A punct may be put before the next value: none where a value may follow at once, else any that this test allows.
+pub record PutsPunct {A P : Type 0} (allowed : P → Type 0) (old new : Punctuated A P) : Type 0 where
+  pub none : takes_value old ≡ true → puncts new ≡ puncts old
+  pub one : takes_value old ≡ false → (p : P) × allowed p × (puncts new ≡ puncts old ++ p ∷ [])
+
+-- one value, and no punct behind it
+abbrev pub is_one : {A : Type 0} → List A → Bool → Bool
+is_one [] e = false
+is_one (x ∷ []) e = not e
+is_one (x ∷ y ∷ xs) e = false

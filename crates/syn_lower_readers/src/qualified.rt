@@ -1,0 +1,298 @@
+//! The readers of qualified paths and of what a path begins, and that of a type at a place.
+
+ghost use Rattle.std.specs.Prelude.{◌≡◌, ◌≤◌, ◌+◌, map, true, false, IfOk, IfErr, IfSome, is_some};
+ghost use Rattle.syn_lower_leaves.specs.Reads.{Reads};
+ghost use Rattle.syn_lower_lists.specs.Punct.{takes_value};
+ghost use Rattle.syn_lower_readers.specs.Inside.{inside_of};
+ghost use Rattle.syn_lower_readers.specs.Reads.{Callable, ReadsType};
+ghost use Rattle.syn_lower_generic.specs.View as view;
+ghost use Rattle.syn_parts.specs.Form as form;
+ghost use Rattle.syn_parts.specs.Mark as mark;
+ghost use Rattle.syn_parts.specs.Part as part;
+ghost use Rattle.syn_tokens.specs.Tok.{weight};
+
+use crate::grammar::{Grammar, boxed};
+use std::alloc::Global;
+use syn_lower_generic::fits::has_none;
+use syn_lower_generic::mac::{MacroDelimiter, MacroOf};
+use syn_lower_generic::path::{PathOf, PathSegmentOf, QSelfOf};
+use syn_lower_generic::ty::{TypeMacroOf, TypePathOf};
+use syn_lower_generic::types::{HasTree, IsType};
+use syn_lower_leaves::front;
+use syn_lower_leaves::kept::any_group;
+use syn_lower_lists::front::fn_at;
+use syn_lower_lists::punctuated::Punctuated;
+use syn_parts::label::PathStyle;
+use syn_tokens::buffer::ParseBuffer;
+use syn_tokens::error::{ErrorKind, Expected, Result};
+use syn_tokens::token::{As, Bracket, Gt, Lt, Not, Paren, PathSep};
+use syn_tokens::tree::TokenStream;
+
+/// What stands behind the `as` of a qualified path: that word, `::` in front, the segments.
+type AsPath<T> = (As, Option<PathSep>, Punctuated<PathSegmentOf<T>, PathSep>);
+
+/// A path, and the type that it is qualified by.
+pub type QPath<T> = (Option<QSelfOf<T>>, PathOf<T>);
+
+/// Whether no segment of these has arguments.
+fn bare_pairs<T: HasTree>(mut pairs: &[(PathSegmentOf<T>, PathSep)]) -> bool
+    ensures { result ≡ part.segments_bare (map (view.segment_of T.tree) (map (λ q. q.0) pairs.entry.now)) }
+{
+    'pairs: while let [(segment, _), more @ ..] = pairs {
+        if !has_none(&segment.arguments) {
+            return false;
+        }
+        pairs = more;
+    }
+    true
+}
+
+/// Whether no segment has arguments.
+#[tactic(auto, using(crate::proofs::QPaths::bares), unfolding(syn_lower_generic::specs::View::values))]
+fn bare_segments<T: HasTree>(segments: &Punctuated<PathSegmentOf<T>, PathSep>) -> bool
+    ensures { result ≡ part.segments_bare (map (view.segment_of T.tree) (view.values segments.now)) }
+{
+    if !bare_pairs(&segments.inner) {
+        return false;
+    }
+    match &segments.last {
+        Some(segment) => has_none(&segment.arguments),
+        None => true,
+    }
+}
+
+/// Whether a path has neither arguments nor a type that it is qualified by.
+fn is_bare<T: HasTree>(qself: &Option<QSelfOf<T>>, path: &PathOf<T>) -> bool
+    ensures { result ≡ part.is_bare (view.qself_or T.tree qself.now, view.path_of T.tree path.now) }
+{
+    match qself {
+        Some(_) => false,
+        None => bare_segments(&path.segments),
+    }
+}
+
+/// What stands behind the path of a macro: `!` and a group.
+type MacroEnd = (Not, MacroDelimiter, TokenStream);
+
+/// A path as a type, or the macro that `!` and a group behind it make.
+fn path_or_macro<T: IsType + Drop>(
+    qself: Option<QSelfOf<T>>,
+    path: PathOf<T>,
+    end: Option<MacroEnd>,
+) -> T
+    ensures { T.tree result ≡ part.to_named ((view.qself_or T.tree qself, view.path_of T.tree path), view.mapped (λ g. (view.delimiter_of g.1, g.2)) end) }
+{
+    let Some((bang_token, delimiter, tokens)) = end else {
+        return T::path(TypePathOf { qself, path });
+    };
+    let mac = MacroOf {
+        path,
+        bang_token,
+        delimiter,
+        tokens,
+    };
+    T::mac(TypeMacroOf { mac })
+}
+
+/// Reads `!` and a group behind a path that they make a macro.
+#[tactic(auto, unfolding(syn_parts::specs::Part::macro_end))]
+fn macro_end<T: HasTree>(
+    input: &mut ParseBuffer<'_>,
+    qself: &Option<QSelfOf<T>>,
+    path: &PathOf<T>,
+) -> Result<Option<MacroEnd>>
+    ensures value { Reads (view.mapped (λ g. (view.delimiter_of g.1, g.2))) ((part.macro_end (view.qself_or T.tree qself.now, view.path_of T.tree path.now)).reads input.old.rest) result input.new.rest }
+    ensures noted { input.new.noted ≡ input.old.noted }
+    ensures shrinks { weight input.new.rest ≤ weight input.old.rest }
+{
+    if !is_bare(qself, path) {
+        return Ok(None);
+    }
+    let Some(bang_token) = front::not_ne(input) else {
+        return Ok(None);
+    };
+    let (delimiter, tokens) = any_group(input)?;
+    Ok(Some((bang_token, delimiter, tokens)))
+}
+
+/// The part of a qualified path before the segments behind `>`: how many segments stand in it, `as`, `::` in front,
+/// those segments.
+type Inside<T> = (
+    usize,
+    Option<As>,
+    Option<PathSep>,
+    Punctuated<PathSegmentOf<T>, PathSep>,
+);
+
+/// Begins a qualified path by what stands behind its `as`, and the `::` behind `>`.
+#[tactic(auto, using(crate::proofs::QPaths::lengths))]
+fn inside<T: IsType + Drop>(
+    alloc: Global,
+    as_path: Option<AsPath<T>>,
+    colons: PathSep,
+) -> Result<Inside<T>>
+    requires ready { IfSome as_path (λ a. takes_value a.2 ≡ false) }
+    ensures value { IfOk result (λ i. ((i.0, is_some i.1), (is_some i.2, map (view.segment_of T.tree) (view.values i.3))) ≡ inside_of (view.mapped (λ a. (is_some a.1, map (view.segment_of T.tree) (view.values a.2))) as_path)) }
+    ensures open { IfOk result (λ i. takes_value i.3 ≡ true) }
+    ensures memory { IfErr result (λ e. e.kind ≡ ErrorKind.OutOfMemory) }
+{
+    let Some((as_token, leading_colon, mut found)) = as_path else {
+        return Ok((0, None, Some(colons), Punctuated::new(alloc)));
+    };
+    let position = found.len();
+    found.push_punct(colons)?;
+    Ok((position, Some(as_token), leading_colon, found))
+}
+
+impl<T: IsType + Drop, F: Fn(&mut ParseBuffer<'_>, bool) -> Result<Box<T>>> Grammar<F> {
+    /// Reads `as` and a path, if they stand first.
+    #[tactic(auto, using(crate::proofs::Loops::nothing), unfolding(syn_parts::specs::Part::pieces))]
+    fn as_path(&self, input: &mut ParseBuffer<'_>) -> Result<Option<AsPath<T>>>
+        requires callable { Callable (weight input.old.rest) (F.pre self.now.ty) }
+        requires reads { ReadsType T.tree (F.post self.now.ty) }
+        ensures value { Reads (view.mapped (λ a. (is_some a.1, map (view.segment_of T.tree) (view.values a.2)))) ((form.maybe mark.as_word.at (form.mark mark.as_word (part.pieces part.type PathStyle.Type))).reads input.old.rest) result input.new.rest }
+        ensures ready { IfOk result (λ o. IfSome o (λ a. takes_value a.2 ≡ false)) }
+        ensures noted { input.new.noted ≡ input.old.noted }
+        ensures shrinks { weight input.new.rest ≤ weight input.old.rest }
+    {
+        let Some(as_token) = front::as_word(input) else {
+            return Ok(None);
+        };
+        let leading_colon = front::colon2(input);
+        let found = Punctuated::new(input.alloc());
+        let segments = self.segments(input, PathStyle::Type, found)?;
+        Ok(Some((as_token, leading_colon, segments)))
+    }
+
+    /// Reads what stands between `<` and `>`, and the `>`.
+    fn between(&self, input: &mut ParseBuffer<'_>) -> Result<(Box<T>, Option<AsPath<T>>, Gt)>
+        requires callable { Callable (weight input.old.rest + 1) (F.pre self.now.ty) }
+        requires reads { ReadsType T.tree (F.post self.now.ty) }
+        ensures value { Reads (λ b. (T.tree b.0.value, view.mapped (λ a. (is_some a.1, map (view.segment_of T.tree) (view.values a.2))) b.1)) ((form.closed_by mark.gt (form.both (part.type true) (form.maybe mark.as_word.at (form.mark mark.as_word (part.pieces part.type PathStyle.Type))))).reads input.old.rest) result input.new.rest }
+        ensures ready { IfOk result (λ b. IfSome b.1 (λ a. takes_value a.2 ≡ false)) }
+        ensures noted { input.new.noted ≡ input.old.noted }
+        ensures shrinks { weight input.new.rest ≤ weight input.old.rest }
+    {
+        let ty = (self.ty)(input, true)?;
+        let as_path = self.as_path(input)?;
+        let Some(gt_token) = front::gt(input) else {
+            return Err(input.error(ErrorKind::ExpectedToken(Expected::One(Gt::wanted()))));
+        };
+        Ok((ty, as_path, gt_token))
+    }
+
+    /// Reads a qualified path behind its `<`.
+    #[tactic(auto, using(crate::proofs::QPaths::joins), unfolding(syn_parts::specs::Part::qualified))]
+    fn qualified(
+        &self,
+        input: &mut ParseBuffer<'_>,
+        style: PathStyle,
+        lt_token: Lt,
+    ) -> Result<QPath<T>>
+        requires callable { Callable (weight input.old.rest + 1) (F.pre self.now.ty) }
+        requires reads { ReadsType T.tree (F.post self.now.ty) }
+        ensures value { Reads (λ q. (view.qself_or T.tree q.0, view.path_of T.tree q.1)) ((part.qualified part.type style).reads input.old.rest) result input.new.rest }
+        ensures noted { input.new.noted ≡ input.old.noted }
+        ensures shrinks { weight input.new.rest ≤ weight input.old.rest }
+    {
+        let (ty, as_path, gt_token) = self.between(input)?;
+        let Some(colons) = front::colon2(input) else {
+            return Err(input.error(ErrorKind::ExpectedToken(Expected::One(PathSep::wanted()))));
+        };
+        let (position, as_token, leading_colon, found) = inside(input.alloc(), as_path, colons)?;
+        let segments = self.segments(input, style, found)?;
+        let qself = QSelfOf {
+            lt_token,
+            ty,
+            position,
+            as_token,
+            gt_token,
+        };
+        let path = PathOf {
+            leading_colon,
+            segments,
+        };
+        Ok((Some(qself), path))
+    }
+
+    /// Reads a path, qualified by a type or not.
+    #[tactic(auto, unfolding(syn_parts::specs::Part::qpath))]
+    pub fn qpath(&self, input: &mut ParseBuffer<'_>, style: PathStyle) -> Result<QPath<T>>
+        requires callable { Callable (weight input.old.rest) (F.pre self.now.ty) }
+        requires reads { ReadsType T.tree (F.post self.now.ty) }
+        ensures value { Reads (λ q. (view.qself_or T.tree q.0, view.path_of T.tree q.1)) ((part.qpath part.type style).reads input.old.rest) result input.new.rest }
+        ensures noted { input.new.noted ≡ input.old.noted }
+        ensures shrinks { weight input.new.rest ≤ weight input.old.rest }
+    {
+        if let Some(lt_token) = front::less(input) {
+            return self.qualified(input, style, lt_token);
+        }
+        let path = self.path(input, style)?;
+        Ok((None, path))
+    }
+
+    /// Reads a path or a macro's call.
+    #[tactic(auto, unfolding(syn_parts::specs::Part::named))]
+    fn named(&self, input: &mut ParseBuffer<'_>) -> Result<Box<T>>
+        requires callable { Callable (weight input.old.rest) (F.pre self.now.ty) }
+        requires reads { ReadsType T.tree (F.post self.now.ty) }
+        ensures value { Reads (λ x. T.tree x.value) ((part.named part.type).reads input.old.rest) result input.new.rest }
+        ensures noted { input.new.noted ≡ input.old.noted }
+        ensures shrinks { weight input.new.rest ≤ weight input.old.rest }
+    {
+        let (qself, path) = self.qpath(input, PathStyle::Type)?;
+        let end = macro_end(input, &qself, &path)?;
+        Ok(boxed(input.alloc(), path_or_macro(qself, path, end))?)
+    }
+
+    /// Reads a type that begins with a word, `::` or `<`.
+    #[tactic(auto)]
+    fn at_word(&self, input: &mut ParseBuffer<'_>, several: bool) -> Result<Box<T>>
+        requires callable { Callable (weight input.old.rest) (F.pre self.now.ty) }
+        requires reads { ReadsType T.tree (F.post self.now.ty) }
+        ensures value { Reads (λ x. T.tree x.value) ((form.when part.fn_at (part.fn_pointer part.type) (form.case mark.implementing (part.implements part.type several) (form.case mark.dynamic (part.object part.type several) (part.named part.type)))).reads input.old.rest) result input.new.rest }
+        ensures noted { input.new.noted ≡ input.old.noted }
+        ensures shrinks { weight input.new.rest ≤ weight input.old.rest }
+    {
+        if fn_at(input) {
+            return self.fn_pointer(input);
+        }
+        if let Some(impl_token) = front::implementing(input) {
+            return self.implements(input, impl_token, several);
+        }
+        if let Some(dyn_token) = front::dynamic(input) {
+            return self.object(input, dyn_token, several);
+        }
+        self.named(input)
+    }
+
+    /// Reads a type; behind its `impl` or `dyn` several bounds may stand, or one.
+    #[tactic(auto, unfolding(syn_parts::specs::Part::at_place))]
+    pub fn at_place(&self, input: &mut ParseBuffer<'_>, several: bool) -> Result<Box<T>>
+        requires callable { Callable (weight input.old.rest) (F.pre self.now.ty) }
+        requires reads { ReadsType T.tree (F.post self.now.ty) }
+        ensures value { Reads (λ x. T.tree x.value) ((part.at_place part.type several).reads input.old.rest) result input.new.rest }
+        ensures noted { input.new.noted ≡ input.old.noted }
+        ensures shrinks { weight input.new.rest ≤ weight input.old.rest }
+    {
+        if let Some(and_token) = front::and(input) {
+            return self.reference(input, and_token);
+        }
+        if let Some(star_token) = front::star(input) {
+            return self.pointer(input, star_token);
+        }
+        if let Some(bang_token) = front::bang(input) {
+            return Ok(boxed(input.alloc(), T::never(bang_token))?);
+        }
+        if let Some(underscore_token) = front::underscore(input) {
+            return Ok(boxed(input.alloc(), T::infer(underscore_token))?);
+        }
+        if input.peek::<Bracket>() {
+            return self.bracket(input);
+        }
+        if input.peek::<Paren>() {
+            return self.parens(input);
+        }
+        self.at_word(input, several)
+    }
+}
