@@ -8,8 +8,11 @@ pub mod Stands
 pub mod Read
 pub mod Next
 pub mod Rule
+pub mod Notes
+pub mod Binding
 pub mod Exact
 pub mod WellFormed
+pub mod Same
 pub mod Sparing
 pub mod Printed
 pub mod Rows

@@ -2,29 +2,29 @@
 -- `ReadingIsExact` that this is it.
 use Rattle.std.specs.Prelude.{ℕ, zero, suc, ◌-◌, Bool, true, false, not, ◌||◌, ◌&&◌, if◌then◌else◌, List, [], ◌∷◌, ◌++◌, drop, take, length, codes, Option, Some, None}
 use Rattle.syn_lexer.specs.declared.lexeme.Delimiter.TheVariants as del
-use Rattle.syn_tokens.specs.Tok.{Tok, ident, literal, punct, group, weight, toks}
+use Rattle.syn_tokens.specs.Tok.{Tok, weight}
 use Rattle.syn_tokens.specs.Front.{group_at, is_empty}
 use Rattle.syn_parts.specs.declared.label.PathStyle.TheVariants as style
 use Rattle.syn_parts.specs.Text.{Text}
+use Rattle.syn_parts.specs.Same.{same_toks}
 use Rattle.syn_parts.specs.Tree.{AttributeTree}
-use Rattle.syn_parts.specs.Form.{Form, Outcome, and_then}
-use Rattle.syn_parts.specs.Mark.{word_at, brace_at, round_at, comma, semi, sign_at, underscore}
-use Rattle.syn_parts.specs.Part.{outer_attributes, inner_attributes, lifetimes_at, qpath, type, QPathTree, MacroEnd, macro_end, is_default}
-use Rattle.syn_parts.specs.Pat.{MemberTree, a_name, an_index, dots}
+use Rattle.syn_parts.specs.Form.{Outcome, Test, Mark, and_then}
+use Rattle.syn_parts.specs.Mark.{word, brace_at, round_at, semi, star, bang, and, pound, underscore, lifetime_at}
+use Rattle.syn_parts.specs.Part.{outer_attributes, inner_attributes, qpath, type, QPathTree, MacroEnd, macro_end}
+use Rattle.syn_parts.specs.Pat.{an_index}
 use Rattle.syn_grammar.specs.declared.kinds.Infix.{Infix}
 use Rattle.syn_grammar.specs.declared.kinds.Infix.TheVariants as inf
-use Rattle.syn_grammar.specs.declared.kinds.Limits.{Limits}
 use Rattle.syn_grammar.specs.declared.kinds.Limits.TheVariants as limits
 use Rattle.syn_grammar.specs.declared.kinds.Level.{Level}
 use Rattle.syn_grammar.specs.declared.kinds.Place.{Place}
 use Rattle.syn_grammar.specs.Place.{plain, before_block, at, takes}
 use Rattle.syn_grammar.specs.Op.{infix_at, level}
-use Rattle.syn_grammar.specs.Front.{begins_expr, ends_open_range, dot_at, question_at, bracket_at}
+use Rattle.syn_grammar.specs.Front.{ends_open_range, dot_at, question_at, bracket_at}
 use Rattle.syn_grammar.specs.Tree as e
-use Rattle.syn_grammar.specs.Tree.{Tree, Kids, ClosureHead, Leaf, Lead, Post, Trailer, Frame, Piece, Ending, leaf, paren, adorned, lead, mid, post, tail, frame, none, kid, plain_block, prepend, post_op, adorn}
-use Rattle.syn_grammar.specs.Head.{leaf_form, lead_form, dotted, named, to_named, label, past_label, closure_head, closure_at, jump_at, range_at, literal_at, let_word, continue_word, loop_at, block_at, unsafe_word, const_block_at, async_block_at, try_block_at, builtin_at}
-use Rattle.syn_grammar.specs.Slot.{Slot, elements, single, counted, fields, conditions, otherwise, loops, scrutinees, arms, bodies, outputs, done, after, may_end, piece_form, piece_place, ending_at, for_head, while_word, for_word, if_word, match_word}
-use Rattle.syn_grammar.specs.Stands.{closes, ends, ends_operation, fits_left, fits_base, leaf_stands, lead_stands, lead_place, mid_stands, post_stands, frame_stands, ends_list, ends_piece, short_value, takes_block, may_adorn, rests, is_verbatim_leaf, is_range, fields_of, name_at, indices_at}
+use Rattle.syn_grammar.specs.Tree.{Tree, Kids, ClosureHead, Leaf, Lead, Post, Trailer, Frame, Piece, Ending, leaf, paren, adorned, lead, mid, post, tail, frame, none, kid, plain_block, post_op, is_one, is_silent}
+use Rattle.syn_grammar.specs.Head.{leaf_form, lead_form, dotted, to_named, from_closure, label, closure_at, jump_at, range_at, literal_at, let_word, minus, continue_word, loop_at, block_at, unsafe_word, const_block_at, async_block_at, try_block_at, builtin_at}
+use Rattle.syn_grammar.specs.Slot.{Slot, Holder, elements, single, fields, conditions, scrutinees, arms, after, may_end, piece_form, piece_place, ending_at, frame_holder, trailer_holder, nothing, within, bare, is_chained, for_head, while_word, for_word, if_word, match_word}
+use Rattle.syn_grammar.specs.Stands.{closes, ends, ends_operation, fits_left, fits_base, leaf_stands, lead_stands, lead_place, mid_stands, post_stands, frame_stands, ends_list, short_value, takes_block, may_adorn, rests, is_range, fields_of, name_at, indices_at, has_no_comma}
 
 abbrev pub Reading : Type 0 → Type 0
 Reading A = List Tok → Outcome A
@@ -43,7 +43,7 @@ abbrev pub ◌<$>◌ : {A B : Type 0} → (A → B) → Reading A → Reading B
 f <$> p = p >>= (λ x. give (f x))
 
 -- what was read, where this holds
-abbrev pub only_if : {A : Type 0} → Bool → Outcome A → Outcome A
+abbrev pub only_if : {A : Type 0} → Bool → Option A → Option A
 only_if b o = if b then o else None
 
 -- what was read, where that is all of a list
@@ -60,6 +60,10 @@ before (Some x) f l = Some (f x, l)
 -- the tokens of l before n
 abbrev pub taken : List Tok → List Tok → List Tok
 taken l n = take (length l - length n) l
+
+-- they and n are l
+abbrev pub is_taken : List Tok → List Tok → Bool
+is_taken l n = same_toks (taken l n ++ n) l
 
 -- ---- leaves, by what stands behind them
 
@@ -94,80 +98,112 @@ operation op x l = if ends_operation op l then Some (x, l) else None
 
 -- ---- attributes
 
--- with these attributes, which were read from l before the tokens of x
+abbrev pub verbatim_leaf_of : Leaf → Option (List Tok)
+verbatim_leaf_of (e.verbatim ts) = Some ts
+verbatim_leaf_of _ = None
+
+abbrev pub verbatim_of : Tree → Option (List Tok)
+verbatim_of (leaf k) = verbatim_leaf_of k
+verbatim_of _ = None
+
+abbrev pub adorned_by : Place → List Tok → List Tok → AttributeTree → List AttributeTree → Tree → Option (List Tok) → Reading Tree
+adorned_by p l m a more x None n = only_if (may_adorn p x) (Some (adorned a more x, n))
+adorned_by p l m a more x (Some ts) n = only_if (is_taken l m) (Some (leaf (e.verbatim (taken l m ++ ts)), n))
+
+-- with these attributes, which were read from l before the tokens m of x
 abbrev pub attributed : Place → List Tok → List Tok → List AttributeTree → Tree → Reading Tree
-attributed p l m [] x = give x
-attributed p l m (a ∷ more) (leaf (e.verbatim ts)) = give (leaf (e.verbatim (taken l m ++ ts)))
-attributed p l m (a ∷ more) x = λ n. if may_adorn p x then Some (adorned a more x, n) else None
+attributed p l m [] x n = None
+attributed p l m (a ∷ more) x n = adorned_by p l m a more x (verbatim_of x) n
+
+-- ---- first tokens
+
+abbrev pub become_word : Mark
+become_word = word (codes "become")
+
+-- the leaves but paths, macros, jumps and ranges
+unfoldable pub leaf_at : Test
+leaf_at l =
+    literal_at l || (underscore.at l || (continue_word.at l || (loop_at l || (block_at l || (unsafe_word.at l
+    || (const_block_at l || (async_block_at l || (try_block_at l || builtin_at l))))))))
+
+unfoldable pub lead_at : Test
+lead_at l =
+    star.at l || (bang.at l || (minus.at l || (and.at l || (range_at l || (let_word.at l || (jump_at l || closure_at l))))))
+
+-- where no block stands behind a label
+unfoldable pub loop_head_at : Test
+loop_head_at l = lifetime_at l || (while_word.at l || for_word.at l)
 
 -- ---- expressions, by a reading of the expressions inside
 
+abbrev pub is_scrutinees : Slot → Bool
+is_scrutinees scrutinees = true
+is_scrutinees _ = false
+
 module _ (expr : Place → Reading Tree) where
-  unfoldable pub whole : List Tok → Option Tree
-  whole l = all_of (expr plain l)
-
-  -- what is read of an operand, and its end
-  abbrev pub piece_expr : Piece → Reading Tree
-  piece_expr k = expr (piece_place k)
-
   -- ---- operands in places of their own
 
   abbrev pub ended_by : Piece → Tree → Reading (Ending × Tree)
   ended_by k x l = and_then (ending_at k x l) (λ c n. Some ((c, x), n))
 
-  -- a block that keeps its tokens, an `if` behind `else`, a value that a name says, or an expression
-  abbrev pub kept_block : Option (List Tok × List Tok) → Outcome (Ending × Tree)
-  kept_block None = None
-  kept_block (Some g) = Some ((e.no_ending, plain_block g.0), g.1)
+  abbrev pub branch_by : Reading Kids → Reading Tree
+  branch_by inner l = only_if (if_word.at l) ((frame e.branch <$> inner) (drop 1 l))
 
+  -- a block that keeps its tokens, or an `if` behind `else`
+  abbrev pub block_by : Reading Kids → Piece → Reading (Ending × Tree)
+  block_by inner k l =
+      if brace_at l then and_then (group_at del.Brace l) (λ i n. Some ((e.no_ending, plain_block i), n))
+      else only_if (is_chained k) ((branch_by inner >>= ended_by k) l)
+
+  -- a value that a name says, or an expression
   abbrev pub value_by : Piece → Option Tree → Reading (Ending × Tree)
-  value_by k (Some x) = ended_by k x
-  value_by k None = piece_expr k >>= ended_by k
+  value_by k (Some x) l = ended_by k x l
+  value_by k None l = only_if (not (is_silent k)) ((expr (piece_place k) >>= ended_by k) l)
 
-  abbrev pub operand_of : Reading Tree → Piece → Reading (Ending × Tree)
-  operand_of chain k l =
-      if takes_block k then (if brace_at l then kept_block (group_at del.Brace l) else only_if (word_at (codes "if") l) ((chain >>= ended_by k) l))
-      else value_by k (short_value k) l
+  abbrev pub operand_of : Reading Kids → Piece → Reading (Ending × Tree)
+  operand_of inner k l = if takes_block k then block_by inner k l else value_by k (short_value k) l
 
-  -- the operands from a slot on, at most so many; `chain` reads an `if`
-  unfoldable pub operands : Reading Tree → ℕ → Slot → Reading Kids
-  operands chain zero s l = if may_end s l then Some (none, l) else None
-  operands chain (suc n) s l =
-      if may_end s l then Some (none, l)
-      else ((piece_form s).reads >>= (λ k. operand_of chain k >>= (λ c. (λ ks. kid k c.0 c.1 ks) <$> operands chain n (after k)))) l
+  -- what a `match` looks at, and its arms
+  abbrev pub armed : Reading Kids → Tree → Reading Kids
+  armed arms_of x l =
+      and_then (group_at del.Brace l) (λ i n. and_then (inner_attributes.reads i) (λ ats j.
+      before (all_of (arms_of j)) (λ ks. kid e.scrutinee (e.opened ats) x ks) n))
 
-  -- all of what a delimiter encloses
-  abbrev pub all_operands : Reading Tree → Slot → Bool → Option (List Tok × List Tok) → Outcome Kids
-  all_operands chain s d None = None
-  all_operands chain s d (Some g) =
-      and_then (operands chain (length g.0) s g.0) (λ ks o. if ends_list d o then Some (ks, g.1) else None)
+  -- one of the operands, and more
+  abbrev pub operands_by : (Slot → Reading Kids) → Slot → Reading Kids
+  operands_by more s l =
+      if is_scrutinees s then (expr before_block >>= armed (more arms)) l
+      else (if may_end s l then Some (none, l)
+      else ((piece_form s).reads >>= (λ k. operand_of (more conditions) k >>= (λ c. (λ ks. kid k c.0 c.1 ks) <$> more (after k)))) l)
 
-  -- ---- `if`, and what is chained to it
-
-  abbrev pub branch_by : Reading Tree → Reading Tree
-  branch_by chain l = only_if (if_word.at l) ((frame e.branch <$> operands chain (length l) conditions) (drop 1 l))
-
-  unfoldable pub branch : ℕ → Reading Tree
-  branch zero l = None
-  branch (suc n) l = branch_by (branch n) l
-
-  unfoldable pub branches : Reading Tree
-  branches l = branch (length l) l
-
-  unfoldable pub list_of : Slot → Bool → Option (List Tok × List Tok) → Outcome Kids
-  list_of s d g = all_operands branches s d g
+  -- the operands from a slot on, fewer than so many
+  unfoldable pub operands : ℕ → Slot → Reading Kids
+  operands zero s l = None
+  operands (suc n) s l = operands_by (operands n) s l
 
   unfoldable pub bare_operands : Slot → Reading Kids
-  bare_operands s l = operands branches (length l) s l
+  bare_operands s l = operands (suc (weight l)) s l
+
+  abbrev pub ended_list : Bool → Kids → List Tok → Reading Kids
+  ended_list d ks o n = only_if (ends_list d o) (Some (ks, n))
+
+  unfoldable pub content : Holder → Reading Kids
+  content nothing = give none
+  content (within d s b) = λ l. and_then (group_at d l) (λ i n. and_then (bare_operands s i) (λ ks o. ended_list b ks o n))
+  content (bare s) = bare_operands s
+
+  abbrev pub framed_by : Place → Frame → Reading Tree
+  framed_by p k l = and_then (content (frame_holder k) l) (λ ks n. only_if (frame_stands p k ks) (Some (frame k ks, n)))
 
   -- ---- in parentheses and brackets
 
+  -- one without a comma is in parentheses, all else a tuple
   abbrev pub rounded : Kids → Tree
-  rounded (kid e.element e.no_ending x none) = paren false x
-  rounded ks = frame e.tuple ks
+  rounded none = frame e.tuple none
+  rounded (kid k c x ks) = if is_one (kid k c x ks) && has_no_comma (kid k c x ks) then paren false x else frame e.tuple (kid k c x ks)
 
   unfoldable pub round_read : Reading Tree
-  round_read l = (rounded <$> λ m. list_of elements false (group_at del.Parenthesis m)) l
+  round_read = rounded <$> content (within del.Parenthesis elements false)
 
   abbrev pub repeated_by : Tree → Reading Tree
   repeated_by x = (λ ks. frame e.repeat (kid e.repeated e.no_ending x ks)) <$> bare_operands single
@@ -178,24 +214,21 @@ module _ (expr : Place → Reading Tree) where
   abbrev pub bracketed : Tree → Reading Tree
   bracketed x m = if semi.at m then repeated_by x (drop 1 m) else elements_by x m
 
-  unfoldable pub bracket_inside : List Tok → Option Tree
+  abbrev pub bracket_inside : List Tok → Option Tree
   bracket_inside i = if is_empty i then Some (frame e.array none) else all_of ((expr plain >>= bracketed) i)
 
-  abbrev pub bracket_by : Option (List Tok × List Tok) → Outcome Tree
-  bracket_by None = None
-  bracket_by (Some g) = before (bracket_inside g.0) (λ x. x) g.1
+  unfoldable pub bracket_read : Reading Tree
+  bracket_read l = and_then (group_at del.Bracket l) (λ i n. before (bracket_inside i) (λ x. x) n)
 
   -- ---- paths, macros and struct expressions
 
-  abbrev pub structure_of : Place → QPathTree → Bool → Outcome Kids → Outcome Tree
-  structure_of p q d None = None
-  structure_of p q d (Some o) = only_if (frame_stands p (e.structure q.0 q.1 d) o.0) (Some (frame (e.structure q.0 q.1 d) o.0, o.1))
+  abbrev pub structured : Place → QPathTree → Bool → List Tok → Kids → Reading Tree
+  structured p q d o ks n = only_if (ends_list d o && frame_stands p (e.structure q.0 q.1 d) ks) (Some (frame (e.structure q.0 q.1 d) ks, n))
 
+  -- `..` may end it
   abbrev pub structure_read : Place → QPathTree → Reading Tree
-  structure_read p q l = elim (list_of fields false (group_at del.Brace l)) as (λ o. Outcome Tree) [
-    | None ↦ structure_of p q true (list_of fields true (group_at del.Brace l))
-    | Some o ↦ structure_of p q false (Some o)
-  ]
+  structure_read p q l =
+      and_then (group_at del.Brace l) (λ i n. and_then (bare_operands fields i) (λ ks o. structured p q (not (is_empty o)) o ks n))
 
   abbrev pub named_by : Place → QPathTree → MacroEnd → Reading Tree
   named_by p q None l = if brace_at l && not p.condition then structure_read p q l else standing p (to_named (q, None)) l
@@ -206,127 +239,77 @@ module _ (expr : Place → Reading Tree) where
 
   -- ---- what stands before an operand
 
-  abbrev pub led : Place → Lead → Reading Tree
-  led p k m = only_if (lead_stands p k m) ((lead k none <$> expr (lead_place p k)) m)
+  -- a jump or a range without an operand, or a closure with an output
+  abbrev pub unled : Place → List Tok → Option ClosureHead → Reading Tree
+  unled p l None m = leaf_read p l
+  unled p l (Some h) m = framed_by p (e.closure_block h) m
 
-  abbrev pub closed_by : ClosureHead → Reading Tree
-  closed_by h = frame (e.closure_block h) <$> bare_operands outputs
+  abbrev pub led : Place → List Tok → Lead → Reading Tree
+  led p l k m = if lead_stands p k m then (lead k none <$> expr (lead_place p k)) m else unled p l (from_closure k) m
 
-  -- a closure, by its output
-  abbrev pub lead_by : Place → Lead → Reading Tree
-  lead_by p (e.closure h) m = if is_default h.output then led p (e.closure h) m else closed_by h m
-  lead_by p k m = led p k m
+  unfoldable pub lead_read : Place → Reading Tree
+  lead_read p l = and_then (lead_form.reads l) (led p l)
 
-  -- a jump or a range without an operand, where none follows
-  abbrev pub lead_or_leaf : Place → Reading Tree
-  lead_or_leaf p l = and_then (lead_form.reads l) (λ k m. if lead_stands p k m then led p k m else leaf_read p l)
+  -- ---- loops
 
-  -- ---- loops and `match`
+  abbrev pub looped : Place → Option Text → Reading Tree
+  looped p w l =
+      if while_word.at l then framed_by p (e.while_loop w) (drop 1 l)
+      else (for_head.reads >>= (λ x. framed_by p (e.for_loop w x))) l
 
-  abbrev pub looped : Option Text → Reading Tree
-  looped w l =
-      if while_word.at l then (frame (e.while_loop w) <$> bare_operands loops) (drop 1 l)
-      else (for_head.reads >>= (λ x. frame (e.for_loop w x) <$> bare_operands loops)) l
-
-  unfoldable pub loop_read : Reading Tree
-  loop_read = label.reads >>= looped
-
-  abbrev pub armed : Tree → List AttributeTree → Outcome Kids → List Tok → Outcome Tree
-  armed x ats (Some (ks, [])) n = Some (frame e.choice (kid e.scrutinee (e.opened ats) x ks), n)
-  armed x ats _ n = None
-
-  abbrev pub match_inside : Tree → Option (List Tok × List Tok) → Outcome Tree
-  match_inside x None = None
-  match_inside x (Some g) = and_then (inner_attributes.reads g.0) (λ ats j. armed x ats (bare_operands arms j) g.1)
-
-  abbrev pub match_by : Tree → Reading Tree
-  match_by x l = match_inside x (group_at del.Brace l)
-
-  unfoldable pub match_read : Reading Tree
-  match_read = expr before_block >>= match_by
+  unfoldable pub loop_read : Place → Reading Tree
+  loop_read p = label.reads >>= looped p
 
   -- ---- operands
 
   abbrev pub kept_from : List Tok → Tree → Reading Tree
-  kept_from l x n = Some (leaf (e.verbatim (taken l n)), n)
-
-  abbrev pub loop_head_at : List Tok → Bool
-  loop_head_at l = while_word.at (past_label l) || for_word.at (past_label l)
-
-  abbrev pub unary_at : List Tok → Bool
-  unary_at l = sign_at (codes "*") l || (sign_at (codes "!") l || (sign_at (codes "-") l || sign_at (codes "&") l))
-
-  -- the leaves but paths and macros
-  abbrev pub leaf_at : List Tok → Bool
-  leaf_at l =
-      underscore.at l || (continue_word.at l || (loop_at l || (block_at l || (unsafe_word.at l
-      || (const_block_at l || (async_block_at l || (try_block_at l || builtin_at l)))))))
+  kept_from l x n = only_if (is_taken l n) (Some (leaf (e.verbatim (taken l n)), n))
 
   -- by what stands first
   unfoldable pub atom : Place → Reading Tree
   atom p l =
-      if literal_at l then leaf_read p l
+      if leaf_at l then leaf_read p l
+      else (if lead_at l then lead_read p l
       else (if round_at l then round_read l
-      else (if bracket_at l then bracket_by (group_at del.Bracket l)
-      else (if word_at (codes "become") l then (expr plain >>= kept_from l) (drop 1 l)
-      else (if jump_at l || range_at l then lead_or_leaf p l
-      else (if unary_at l || (let_word.at l || closure_at l) then (lead_form.reads >>= lead_by p) l
-      else (if if_word.at l then branches l
-      else (if loop_head_at l then loop_read l
-      else (if match_word.at l then match_read (drop 1 l)
-      else (if leaf_at l then leaf_read p l else named_read p l)))))))))
+      else (if bracket_at l then bracket_read l
+      else (if become_word.at l then (expr plain >>= kept_from l) (drop 1 l)
+      else (if if_word.at l then framed_by p e.branch (drop 1 l)
+      else (if loop_head_at l then loop_read p l
+      else (if match_word.at l then framed_by p e.choice (drop 1 l)
+      else named_read p l)))))))
 
   -- ---- trailers
 
-  abbrev pub trailed_by : Place → Tree → List ℕ → Trailer → Outcome Kids → Outcome Tree
-  trailed_by p b is k o = only_if (fits_base p k b) ((tail (fields_of b is) k <$> λ l. o) [])
+  abbrev pub trailed_by : Place → Tree → List ℕ → Trailer → Reading Tree
+  trailed_by p b is k l = only_if (fits_base p k b) ((tail (fields_of b is) k <$> content (trailer_holder k)) l)
 
-  abbrev pub content_of : Trailer → List Tok → Outcome Kids
-  content_of e.call l = list_of elements false (group_at del.Parenthesis l)
-  content_of e.index l = list_of single false (group_at del.Bracket l)
-  content_of (e.method w a) l = list_of elements false (group_at del.Parenthesis l)
-  content_of k l = Some (none, l)
+  abbrev pub indexed_by : Place → Tree → List ℕ → Reading Tree
+  indexed_by p b [] n = None
+  indexed_by p b (i ∷ is) n = only_if (fits_base p (e.field (an_index i)) b) (Some (fields_of b (i ∷ is), n))
 
-  abbrev pub trailer_read : Place → Tree → List ℕ → Trailer → Reading Tree
-  trailer_read p b is k l = trailed_by p b is k (content_of k l)
-
-  abbrev pub indexed_by : Place → Tree → Option (List ℕ × List Tok) → Outcome Tree
-  indexed_by p b None = None
-  indexed_by p b (Some ([], n)) = None
-  indexed_by p b (Some (i ∷ is, n)) = only_if (fits_base p (e.field (an_index i)) b) (Some (fields_of b (i ∷ is), n))
-
-  abbrev pub dotted_by : Place → Tree → Option (List ℕ × List Tok) → Outcome Tree
-  dotted_by p b None = None
-  dotted_by p b (Some (is, h)) = (dotted.reads >>= trailer_read p b is) h
-
-  abbrev pub or_else : Outcome Tree → Outcome Tree → Outcome Tree
-  or_else None o = o
-  or_else (Some x) o = Some x
-
-  unfoldable pub dot_read : Place → Tree → Reading Tree
-  dot_read p b l = or_else (indexed_by p b (indices_at l)) (dotted_by p b (name_at l))
+  -- behind the dot: indices, or a name
+  abbrev pub dotted_by : Place → Tree → Option (List ℕ × List Tok) → Reading Tree
+  dotted_by p b (Some i) l = indexed_by p b i.0 i.1
+  dotted_by p b None l = and_then (name_at l) (λ is. dotted.reads >>= trailed_by p b is)
 
   unfoldable pub trailed : Place → Tree → Reading Tree
   trailed p b l =
-      if round_at l then trailer_read p b [] e.call l
-      else (if bracket_at l then trailer_read p b [] e.index l
-      else (if question_at l then trailer_read p b [] e.question (drop 1 l)
-      else dot_read p b (drop 1 l)))
+      if round_at l then trailed_by p b [] e.call l
+      else (if bracket_at l then trailed_by p b [] e.index l
+      else (if question_at l then trailed_by p b [] e.question (drop 1 l)
+      else only_if (dot_at l) (dotted_by p b (indices_at (drop 1 l)) (drop 1 l))))
 
   -- trailers, one behind the other
   unfoldable pub trail : Place → ℕ → Tree → Reading Tree
-  trail p zero b l = if closes p b l then Some (b, l) else None
+  trail p zero b l = None
   trail p (suc n) b l = if closes p b l then Some (b, l) else (trailed p b >>= trail p n) l
 
-  unfoldable pub trails : Place → Tree → Reading Tree
-  trails p b l = trail p (length l) b l
-
   unfoldable pub core : Place → Reading Tree
-  core p = atom p >>= trails p
+  core p = atom p >>= (λ b l. trail p (suc (weight l)) b l)
 
   -- an operand behind its attributes
   unfoldable pub operand : Place → Reading Tree
-  operand p l = (outer_attributes.reads >>= (λ ats m. (core p >>= attributed p l m ats) m)) l
+  operand p l = if pound.at l then and_then (outer_attributes.reads l) (λ ats m. (core p >>= attributed p l m ats) m) else core p l
 
   -- ---- operations
 
@@ -341,7 +324,9 @@ module _ (expr : Place → Reading Tree) where
   longer p x inf.Cast m = ((type false).reads >>= (λ ty. post_made p x (e.cast ty))) m
   longer p x (inf.Range limits.HalfOpen) m =
       if ends_open_range p.condition m then post_made p x (e.range_from limits.HalfOpen) m else mid_read p x (inf.Range limits.HalfOpen) m
-  longer p x op m = mid_read p x op m
+  longer p x (inf.Range limits.Closed) m = mid_read p x (inf.Range limits.Closed) m
+  longer p x inf.Assign m = mid_read p x inf.Assign m
+  longer p x (inf.Binary op) m = mid_read p x (inf.Binary op) m
 
   -- no trailer is left behind a cast
   abbrev pub closing : Place → Tree → Reading Tree
@@ -353,14 +338,11 @@ module _ (expr : Place → Reading Tree) where
 
   -- operations, one behind the other
   unfoldable pub climb : Place → ℕ → Tree → Reading Tree
-  climb p zero x = stop p x
+  climb p zero x = λ l. None
   climb p (suc n) x = λ l. turn p x (next_operator p x l) (climb p n) l
 
-  unfoldable pub operations : Place → Tree → Reading Tree
-  operations p x l = climb p (length l) x l
-
   unfoldable pub at_place : Place → Reading Tree
-  at_place p = operand p >>= operations p
+  at_place p = operand p >>= (λ x l. climb p (suc (weight l)) x l)
 
 -- Inside of an expression are fewer tokens: so many times an expression can stand in another.
 unfoldable pub bounded : ℕ → Place → Reading Tree

@@ -23,17 +23,17 @@ use Rattle.syn_grammar.specs.Tree.{Tree, Kids, Leaf, Lead, Post, Jump, Frame, Pi
 
 -- ---- what a node is as printed: an operation behind attributes is in parentheses
 
--- behind attributes it is in parentheses, since they would belong to its first operand
-abbrev pub is_operation : Tree → Bool
-is_operation t = is_infix t || is_range t
-
 abbrev pub prints_range : Tree → Bool
 prints_range (adorned a more t) = false
 prints_range t = is_range t
 
+-- without attributes: behind these it is in parentheses, since they would belong to its first operand
+abbrev pub is_operation : Tree → Bool
+is_operation t = is_infix t || prints_range t
+
 -- a trailer behind it would belong to it, or is refused there
 abbrev pub prints_carrier : Tree → Bool
-prints_carrier (adorned a more t) = is_operation t || carries t
+prints_carrier (adorned a more t) = is_operation t || prints_carrier t
 prints_carrier t = carries t || is_cast t
 
 -- ---- what a node must not have behind it, for what it is itself

@@ -10,7 +10,7 @@ use Rattle.syn_parts.specs.Tree.{AttributeTree}
 use Rattle.syn_parts.specs.declared.label.PathStyle.TheVariants as style
 use Rattle.syn_parts.specs.Form.{Form, Outcome, Test, Mark, and_then, then_behind, when, mark, then_by, both, shown, pure, case, flag, is_true, closed_by}
 use Rattle.syn_parts.specs.Mark.{sign, word, comma, semi, colon, word_at}
-use Rattle.syn_parts.specs.Part.{outer_attributes, qpath, type}
+use Rattle.syn_parts.specs.Part.{lifetimes_at, outer_attributes, qpath, type}
 use Rattle.syn_parts.specs.Pat.{MemberTree, PatTree, a_name, an_index, member, pattern, dots}
 use Rattle.syn_grammar.specs.declared.kinds.Place.{Place}
 use Rattle.syn_grammar.specs.Place.{plain, before_block, at_head}
@@ -197,6 +197,7 @@ behind_condition (Some g) = Some (e.braced (plain_body g.0), g.1)
 unfoldable pub ending_at : Piece → Tree → List Tok → Outcome Ending
 ending_at e.element x l = comma_or_end l
 ending_at (e.field_value ats m c) x l = comma_or_end l
+ending_at (e.rest d) x l = if is_empty l then Some (e.no_ending, l) else None
 ending_at e.repeated x l = if semi.at l then Some (e.no_ending, drop 1 l) else None
 ending_at e.condition x l = behind_condition (group_at del.Brace l)
 ending_at e.loop_head x l = behind_loop (group_at del.Brace l)
@@ -236,8 +237,9 @@ trailer_holder _ = nothing
 abbrev pub while_word : Mark
 while_word = word (codes "while")
 
+-- `for` that doesn't begin the lifetimes of a closure
 abbrev pub for_word : Mark
-for_word = word (codes "for")
+for_word = record { at = λ l. word_at (codes "for") l && not (lifetimes_at l); count = 1 }
 
 abbrev pub in_word : Mark
 in_word = word (codes "in")

@@ -2,5 +2,9 @@
 #![tactic(auto)]
 
 pub mod kinds;
+pub mod laws;
 pub mod next;
+pub mod note;
+pub mod printing;
 pub mod rows;
+pub mod trees;

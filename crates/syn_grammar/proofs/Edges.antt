@@ -1,0 +1,363 @@
+-- What the ends of a tree have in common with those of the printed tree.
+use Rattle.std.proofs.Common.{◌≡◌, Bool, true, false, not, ◌&&◌, ◌||◌, Some, None, refl, sym, ◌∙◌}
+use Rattle.std.specs.Prelude.{if◌then◌else◌}
+use Rattle.syn_grammar.specs.declared.kinds.BinKind.{BinKind}
+use Rattle.syn_grammar.specs.declared.kinds.BinKind.TheVariants as bin
+use Rattle.syn_grammar.specs.declared.kinds.Infix.{Infix}
+use Rattle.syn_grammar.specs.declared.kinds.Infix.TheVariants as inf
+use Rattle.syn_grammar.specs.declared.kinds.Level.{Level}
+use Rattle.syn_grammar.specs.declared.kinds.Level.TheVariants as lev
+use Rattle.syn_grammar.specs.declared.next.Next.{Next}
+use Rattle.syn_grammar.specs.declared.next.Next.TheVariants as next
+use Rattle.syn_grammar.specs.declared.next.Context.{Context}
+use Rattle.syn_grammar.specs.Place.{takes}
+use Rattle.syn_grammar.specs.Op.{level}
+use Rattle.syn_grammar.specs.Next.{class_of, enclosed, left_context, base_context, adorned_context, lead_context, lead_next, lead_level}
+use Rattle.syn_grammar.specs.Stands.{is_range, is_range_leaf, is_infix, is_cast, carries, compares, is_call, is_base}
+use Rattle.syn_grammar.specs.Tree as e
+use Rattle.syn_grammar.specs.Tree.{Tree, Kids, Leaf, Lead, Post, Trailer, Frame, Piece, Jump, leaf, paren, adorned, lead, mid, post, tail, frame, none, kid, post_op, is_block_like}
+use Rattle.syn_grammar.specs.Rule.{is_operation, prints_range, prints_carrier, leaf_refuses, leaf_misplaced, lead_misplaced, frame_misplaced, post_refuses, misplaced, self_wrapped, lower, ends_badly, left_wrapped, low, bad, labelled, left_asks, base_asks, put, bare}
+use Rattle.syn_grammar.proofs.Bools.{or_false, neither, or_true, or_none, both_true, and_false, lower_takes}
+use Rattle.syn_grammar.proofs.Obeys.{begins_label}
+
+-- ---- the kind of a node is that of the printed one
+
+pub infix_bare : (c : Context) (t : Tree) → is_infix (bare c t) ≡ is_infix t
+infix_bare c (leaf k) = refl
+infix_bare c (paren m t) = refl
+infix_bare c (adorned a more t) = refl
+infix_bare c (lead k gs t) = refl
+infix_bare c (mid x k y) = refl
+infix_bare c (post x k) = refl
+infix_bare c (tail b k ks) = refl
+infix_bare c (frame k ks) = refl
+
+pub compares_bare : (c : Context) (t : Tree) → compares (bare c t) ≡ compares t
+compares_bare c (leaf k) = refl
+compares_bare c (paren m t) = refl
+compares_bare c (adorned a more t) = refl
+compares_bare c (lead k gs t) = refl
+compares_bare c (mid x k y) = refl
+compares_bare c (post x k) = refl
+compares_bare c (tail b k ks) = refl
+compares_bare c (frame k ks) = refl
+
+prints_is : (t : Tree) → is_range t ≡ false → prints_range t ≡ false
+prints_is (leaf k) h = h
+prints_is (paren m t) h = refl
+prints_is (adorned a more t) h = refl
+prints_is (lead k gs t) h = h
+prints_is (mid x k y) h = h
+prints_is (post x k) h = h
+prints_is (tail b k ks) h = refl
+prints_is (frame k ks) h = refl
+
+put_range : (c : Context) (t : Tree) (w : Bool) → is_operation t ≡ w → is_range (bare c t) ≡ prints_range t → is_range (put w (bare enclosed t) (bare c t)) ≡ false
+put_range c t true h e = refl
+put_range c t false h e = e ∙ (or_false _ _ h).1
+
+pub range_bare : (c : Context) (t : Tree) → is_range (bare c t) ≡ prints_range t
+range_bare c (leaf k) = refl
+range_bare c (paren m t) = refl
+range_bare c (adorned a more t) = put_range (adorned_context c) t _ refl (range_bare (adorned_context c) t)
+range_bare c (lead k gs t) = refl
+range_bare c (mid x k y) = refl
+range_bare c (post x k) = refl
+range_bare c (tail b k ks) = refl
+range_bare c (frame k ks) = refl
+
+pub operation_bare : (c : Context) (t : Tree) → is_operation t ≡ false → is_operation (bare c t) ≡ false
+operation_bare c t h = let p = or_false _ _ h in neither _ _ (infix_bare c t ∙ p.0) (prints_is (bare c t) (range_bare c t ∙ p.1))
+
+pub cast_bare : (c : Context) (t : Tree) → is_cast (bare c t) ≡ is_cast t
+cast_bare c (leaf k) = refl
+cast_bare c (paren m t) = refl
+cast_bare c (adorned a more t) = refl
+cast_bare c (lead k gs t) = refl
+cast_bare c (mid x k y) = refl
+cast_bare c (post x (e.cast ty)) = refl
+cast_bare c (post x (e.range_from op)) = refl
+cast_bare c (tail b k ks) = refl
+cast_bare c (frame k ks) = refl
+
+not_cast : (t : Tree) → is_operation t ≡ false → is_cast t ≡ false
+not_cast (leaf k) h = refl
+not_cast (paren m t) h = refl
+not_cast (adorned a more t) h = refl
+not_cast (lead k gs t) h = refl
+not_cast (mid x k y) h = refl
+not_cast (post x k) h = absurd cc
+not_cast (tail b k ks) h = refl
+not_cast (frame k ks) h = refl
+
+-- a trailer behind it would belong to it, or is refused there
+abbrev pub takes_trailers : Tree → Bool
+takes_trailers t = carries t || is_cast t
+
+carries_unless : (t : Tree) → is_cast t ≡ false → takes_trailers t ≡ carries t
+carries_unless t h = rw h (or_none _)
+
+put_carrier : (c : Context) (t : Tree) (w : Bool) → is_operation t ≡ w → takes_trailers (bare c t) ≡ prints_carrier t
+    → carries (put w (bare enclosed t) (bare c t)) || false ≡ w || prints_carrier t
+put_carrier c t true h e = refl
+put_carrier c t false h e = or_none _ ∙ sym (carries_unless (bare c t) (cast_bare c t ∙ not_cast t h)) ∙ e
+
+pub carrier_bare : (c : Context) (t : Tree) → takes_trailers (bare c t) ≡ prints_carrier t
+carrier_bare c (leaf k) = refl
+carrier_bare c (paren m t) = refl
+carrier_bare c (adorned a more t) = put_carrier (adorned_context c) t (is_operation t) refl (carrier_bare (adorned_context c) t)
+carrier_bare c (lead k gs t) = refl
+carrier_bare c (mid x k y) = refl
+carrier_bare c (post x (e.cast ty)) = refl
+carrier_bare c (post x (e.range_from op)) = refl
+carrier_bare c (tail b k ks) = refl
+carrier_bare c (frame k ks) = refl
+
+pub base_bare : (k : Trailer) (c : Context) (b : Tree) → is_base k (bare c b) ≡ is_base k b
+base_bare k c (leaf j) = refl
+base_bare k c (paren m t) = refl
+base_bare k c (adorned a more t) = and_false _ ∙ sym (and_false _)
+base_bare k c (lead j gs t) = refl
+base_bare k c (mid x j y) = refl
+base_bare k c (post x j) = refl
+base_bare k c (tail b (e.field m) ks) = refl
+base_bare k c (tail b e.call ks) = refl
+base_bare k c (tail b e.index ks) = refl
+base_bare k c (tail b (e.method w a) ks) = refl
+base_bare k c (tail b e.await ks) = refl
+base_bare k c (tail b e.question ks) = refl
+base_bare k c (frame j ks) = refl
+
+pub base_paren : (k : Trailer) (m : Bool) (t : Tree) → is_base k (paren m t) ≡ true
+base_paren k m t = rw (and_false (is_call k)) refl
+
+-- ---- the first token
+
+label_put : (w : Bool) (a b : Tree) → (w ≡ false → begins_label b ≡ false) → begins_label (put w a b) ≡ false
+label_put true a b h = refl
+label_put false a b h = h refl
+
+and_later : (a b : Bool) → not a && b ≡ false → a ≡ false → b ≡ false
+and_later true b h e = absurd cc
+and_later false b h e = h
+
+pub label_bare : (c : Context) (t : Tree) → labelled t ≡ false → begins_label (bare c t) ≡ false
+label_bare c (leaf k) h = h
+label_bare c (paren m t) h = refl
+label_bare c (adorned a more t) h = refl
+label_bare c (lead k gs t) h = refl
+label_bare c (mid x k y) h =
+    label_put (left_asks k (left_context k c) x) (bare enclosed x) (bare (left_context k c) x)
+    (λ w. label_bare (left_context k c) x (and_later _ _ h (or_false _ _ w).0))
+label_bare c (post x k) h =
+    label_put (left_asks (post_op k) (left_context (post_op k) c) x) (bare enclosed x) (bare (left_context (post_op k) c) x)
+    (λ w. label_bare (left_context (post_op k) c) x (and_later _ _ h (or_false _ _ w).0))
+label_bare c (tail b k ks) h =
+    label_put (base_asks k (base_context k c) b) (bare enclosed b) (bare (base_context k c) b)
+    (λ w. label_bare (base_context k c) b (and_later _ _ h (or_false _ _ w).0))
+label_bare c (frame k ks) h = h
+
+-- ---- nothing behind
+
+pub lead_next_is : (k : Lead) (c : Context) → (lead_context k c).next ≡ lead_next k c.next
+lead_next_is (e.unary op) c = refl
+lead_next_is (e.reference m) c = refl
+lead_next_is (e.raw_addr m) c = refl
+lead_next_is (e.range_to op) c = refl
+lead_next_is (e.binding p) c = refl
+lead_next_is (e.jump j) c = refl
+lead_next_is (e.closure h) c = refl
+
+lead_end : (k : Lead) → lead_next k next.End ≡ next.End
+lead_end (e.unary op) = refl
+lead_end (e.reference m) = refl
+lead_end (e.raw_addr m) = refl
+lead_end (e.range_to op) = refl
+lead_end (e.binding p) = refl
+lead_end (e.jump j) = refl
+lead_end (e.closure h) = refl
+
+ends_end : (v : Level) (t : Tree) (n : Next) (w : Bool) → n ≡ next.End → ends_badly v t n w ≡ false
+ends_end v t n w h = rw h refl
+
+pub bad_end : (t : Tree) → bad t next.End ≡ false
+bad_end (leaf k) = refl
+bad_end (paren m t) = refl
+bad_end (adorned a more t) = rw (bad_end t) (and_false (not (is_operation t)))
+bad_end (lead k gs t) = ends_end (lead_level k) t _ _ (lead_end k)
+bad_end (mid x k y) = refl
+bad_end (post x k) = refl
+bad_end (tail b k ks) = refl
+bad_end (frame k ks) = refl
+
+binary_some : (k : BinKind) → takes lev.Jump (level (inf.Binary k)) ≡ true
+binary_some bin.Add = refl
+binary_some bin.Sub = refl
+binary_some bin.Mul = refl
+binary_some bin.Div = refl
+binary_some bin.Rem = refl
+binary_some bin.And = refl
+binary_some bin.Or = refl
+binary_some bin.BitXor = refl
+binary_some bin.BitAnd = refl
+binary_some bin.BitOr = refl
+binary_some bin.Shl = refl
+binary_some bin.Shr = refl
+binary_some bin.Eq = refl
+binary_some bin.Lt = refl
+binary_some bin.Le = refl
+binary_some bin.Ne = refl
+binary_some bin.Ge = refl
+binary_some bin.Gt = refl
+binary_some bin.AddAssign = refl
+binary_some bin.SubAssign = refl
+binary_some bin.MulAssign = refl
+binary_some bin.DivAssign = refl
+binary_some bin.RemAssign = refl
+binary_some bin.BitXorAssign = refl
+binary_some bin.BitAndAssign = refl
+binary_some bin.BitOrAssign = refl
+binary_some bin.ShlAssign = refl
+binary_some bin.ShrAssign = refl
+
+-- a place of its own takes each operator
+pub takes_each : (k : Infix) → takes lev.Jump (level k) ≡ true
+takes_each (inf.Binary k) = binary_some k
+takes_each inf.Assign = refl
+takes_each (inf.Range op) = refl
+takes_each inf.Cast = refl
+
+low_left : (w : Bool) (a b : Level) → takes lev.Jump a ≡ true → takes lev.Jump b ≡ true → takes lev.Jump (lower a (if w then lev.Unambiguous else b)) ≡ true
+low_left true a b p q = lower_takes lev.Jump a lev.Unambiguous p refl
+low_left false a b p q = lower_takes lev.Jump a b p q
+
+pub low_some : (t : Tree) → takes lev.Jump (low t) ≡ true
+low_some (leaf k) = refl
+low_some (paren m t) = refl
+low_some (adorned a more t) = refl
+low_some (lead k gs t) = refl
+low_some (mid x k y) = low_left (left_wrapped k x (bad x (class_of k))) (level k) (low x) (takes_each k) (low_some x)
+low_some (post x k) = low_left (left_wrapped (post_op k) x (bad x (class_of (post_op k)))) (level (post_op k)) (low x) (takes_each (post_op k)) (low_some x)
+low_some (tail b k ks) = refl
+low_some (frame k ks) = refl
+
+-- only an infix node has an operator on its left edge
+pub low_closed : (t : Tree) → is_infix t ≡ false → low t ≡ lev.Unambiguous
+low_closed (leaf k) h = refl
+low_closed (paren m t) h = refl
+low_closed (adorned a more t) h = refl
+low_closed (lead k gs t) h = refl
+low_closed (mid x k y) h = absurd cc
+low_closed (post x k) h = absurd cc
+low_closed (tail b k ks) h = refl
+low_closed (frame k ks) h = refl
+
+pub carrier_closed : (t : Tree) → carries t ≡ true → is_infix t ≡ false
+carrier_closed (leaf k) h = refl
+carrier_closed (paren m t) h = refl
+carrier_closed (adorned a more t) h = refl
+carrier_closed (lead k gs t) h = refl
+carrier_closed (mid x k y) h = absurd cc
+carrier_closed (post x k) h = absurd cc
+carrier_closed (tail b k ks) h = refl
+carrier_closed (frame k ks) h = refl
+
+-- ---- what is put in parentheses for what it is itself
+
+leaf_enclosed : (k : Leaf) → leaf_refuses k next.End || leaf_misplaced enclosed k ≡ false
+leaf_enclosed (e.lit x) = refl
+leaf_enclosed (e.path q p) = refl
+leaf_enclosed (e.mac m) = refl
+leaf_enclosed e.infer = refl
+leaf_enclosed (e.full_range op) = refl
+leaf_enclosed (e.bare_jump e.returning) = refl
+leaf_enclosed (e.bare_jump e.yielding) = refl
+leaf_enclosed (e.bare_jump (e.breaking w)) = refl
+leaf_enclosed (e.continuing w) = refl
+leaf_enclosed (e.block None b) = refl
+leaf_enclosed (e.block (Some w) b) = refl
+leaf_enclosed (e.looping w b) = refl
+leaf_enclosed (e.unsafe_block b) = refl
+leaf_enclosed (e.const_block b) = refl
+leaf_enclosed (e.async_block m ts) = refl
+leaf_enclosed (e.try_block ts) = refl
+leaf_enclosed (e.verbatim ts) = refl
+
+frame_enclosed : (k : Frame) → frame_misplaced enclosed k ≡ false
+frame_enclosed e.array = refl
+frame_enclosed e.tuple = refl
+frame_enclosed e.repeat = refl
+frame_enclosed (e.structure q p d) = refl
+frame_enclosed (e.closure_block h) = refl
+frame_enclosed e.branch = refl
+frame_enclosed (e.while_loop w) = refl
+frame_enclosed (e.for_loop w p) = refl
+frame_enclosed e.choice = refl
+frame_enclosed e.invisible = refl
+
+lead_enclosed : (k : Lead) → lead_misplaced enclosed k ≡ false
+lead_enclosed (e.unary op) = refl
+lead_enclosed (e.reference m) = refl
+lead_enclosed (e.raw_addr m) = refl
+lead_enclosed (e.range_to op) = refl
+lead_enclosed (e.binding p) = refl
+lead_enclosed (e.jump j) = refl
+lead_enclosed (e.closure h) = refl
+
+refuses_end : (k : Post) → post_refuses k next.End ≡ false
+refuses_end (e.cast x) = refl
+refuses_end (e.range_from op) = refl
+
+either : (o a b : Bool) → a || b ≡ false → (not o && a) || (not o && b) ≡ false
+either true a b h = refl
+either false a b h = h
+
+pub self_enclosed : (t : Tree) → self_wrapped enclosed t ≡ false
+self_enclosed (leaf k) = leaf_enclosed k
+self_enclosed (paren m t) = refl
+self_enclosed (adorned a more t) = either (is_operation t) _ _ (self_enclosed t)
+self_enclosed (lead k gs t) = lead_enclosed k
+self_enclosed (mid x k y) = refl
+self_enclosed (post x k) = or_none _ ∙ refuses_end k
+self_enclosed (tail b k ks) = refl
+self_enclosed (frame k ks) = frame_enclosed k
+
+-- what is put in parentheses for its place
+pub record IsMisplaced (t : Tree) : Type 0 where
+  pub no_range : prints_range t ≡ false
+  pub carrier : prints_carrier t ≡ true
+
+misplaced_leaf : (c : Context) (k : Leaf) → leaf_misplaced c k ≡ true → is_range_leaf k ≡ false
+misplaced_leaf c (e.lit x) h = refl
+misplaced_leaf c (e.path q p) h = refl
+misplaced_leaf c (e.mac m) h = refl
+misplaced_leaf c e.infer h = refl
+misplaced_leaf c (e.full_range op) h = absurd (let g : true ≡ false = sym h ∙ and_false _ in cc)
+misplaced_leaf c (e.bare_jump j) h = refl
+misplaced_leaf c (e.continuing w) h = refl
+misplaced_leaf c (e.block w b) h = refl
+misplaced_leaf c (e.looping w b) h = refl
+misplaced_leaf c (e.unsafe_block b) h = refl
+misplaced_leaf c (e.const_block b) h = refl
+misplaced_leaf c (e.async_block m ts) h = refl
+misplaced_leaf c (e.try_block ts) h = refl
+misplaced_leaf c (e.verbatim ts) h = refl
+
+pub misplaced_kind : (c : Context) (t : Tree) → misplaced c t ≡ true → IsMisplaced t
+misplaced_kind c (leaf k) h = let r = misplaced_leaf c k h in record { no_range = r; carrier = rw r refl }
+misplaced_kind c (paren m t) h = absurd cc
+misplaced_kind c (adorned a more t) h =
+    let p = both_true _ _ h in
+    let q = misplaced_kind (adorned_context c) t p.1 in
+    record { no_range = refl; carrier = rw q.carrier (or_true (is_operation t)) }
+misplaced_kind c (lead (e.binding p) gs t) h = record { no_range = refl; carrier = refl }
+misplaced_kind c (lead (e.unary op) gs t) h = absurd cc
+misplaced_kind c (lead (e.reference m) gs t) h = absurd cc
+misplaced_kind c (lead (e.raw_addr m) gs t) h = absurd cc
+misplaced_kind c (lead (e.range_to op) gs t) h = absurd cc
+misplaced_kind c (lead (e.jump j) gs t) h = absurd cc
+misplaced_kind c (lead (e.closure k) gs t) h = absurd cc
+misplaced_kind c (mid x k y) h = absurd cc
+misplaced_kind c (post x k) h = absurd cc
+misplaced_kind c (tail b k ks) h = absurd cc
+misplaced_kind c (frame k ks) h = record { no_range = refl; carrier = refl }

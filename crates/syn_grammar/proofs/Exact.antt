@@ -1,0 +1,40 @@
+-- Reading is exact.
+use Rattle.std.proofs.Common.{◌≡◌, ℕ, zero, suc, ◌≤◌, List, Some, None, ap, sym, ◌∙◌, arith}
+use Rattle.syn_tokens.specs.Tok.{Tok, weight}
+use Rattle.syn_grammar.specs.declared.kinds.Place.{Place}
+use Rattle.syn_grammar.specs.Tree.{Tree}
+use Rattle.syn_grammar.specs.Stands.{Stands}
+use Rattle.syn_grammar.specs.Read.{at_place, bounded, expr}
+use Rattle.syn_grammar.specs.Exact.{ReadingIsExact, OneTree}
+use Rattle.syn_grammar.proofs.Chains.{some_is}
+use Rattle.syn_grammar.proofs.Needs.{heads}
+use Rattle.syn_grammar.proofs.Lesses.{node_less}
+use Rattle.syn_grammar.proofs.SoundTurns.{at_place_sound}
+use Rattle.syn_grammar.proofs.CompleteTurns.{at_place_complete}
+
+bounded_sound : (k : ℕ) (p : Place) (l : List Tok) (x : Tree) (n : List Tok) → bounded k p l ≡ Some (x, n) → Stands p l x n
+unfolding bounded
+bounded_sound zero p l x n h = absurd cc
+bounded_sound (suc k) p l x n h = at_place_sound heads (bounded k) (bounded_sound k) p l (x, n) h
+
+bounded_complete : (k : ℕ) (p : Place) (l n : List Tok) (x : Tree) → weight l ≤ k → Stands p l x n → bounded k p l ≡ Some (x, n)
+unfolding bounded
+bounded_complete zero p l n x b s = let a = node_less s.node in absurd (omega (arith, a.less))
+bounded_complete (suc k) p l n x b s =
+    at_place_complete (bounded k) (suc k) (λ v m o y c t. bounded_complete k v m o y (omega arith) t) p l n x b s
+
+pub expr_sound : (p : Place) (l : List Tok) (x : Tree) (n : List Tok) → expr p l ≡ Some (x, n) → Stands p l x n
+unfolding expr
+expr_sound p l x n h = bounded_sound (weight l) p l x n h
+
+pub expr_complete : (p : Place) (l : List Tok) (x : Tree) (n : List Tok) → Stands p l x n → expr p l ≡ Some (x, n)
+unfolding expr
+expr_complete p l x n s = bounded_complete (weight l) p l n x (omega arith) s
+
+pub exact : ReadingIsExact
+exact = record { sound = expr_sound; complete = expr_complete }
+
+pub at_most_one : OneTree
+at_most_one p l x y m n s t =
+    let a : Some (x, m) ≡ Some (y, n) = sym (expr_complete p l x m s) ∙ expr_complete p l y n t in
+    let b = some_is a in (ap (λ (r : Tree × List Tok). r.0) b, ap (λ (r : Tree × List Tok). r.1) b)

@@ -1,0 +1,275 @@
+-- Which tests the first tokens of each kind pass.
+use Rattle.std.specs.Prelude.{not, ◌||◌, ◌&&◌, ◌==◌, if◌then◌else◌}
+use Rattle.std.proofs.Common.{◌≡◌, ℕ, Bool, true, false, cond, ⊎_elim, List, [], ◌∷◌, drop, codes, Option, Some, None, refl, ap, sym, ◌∙◌, subst}
+use Rattle.std.proofs.lemmas.Slice.Eq.{bytes_eq-Decides}
+use Rattle.std.specs.Str.{bytes_eq}
+use Rattle.syn_lexer.specs.Keywords.{is_reserved_word}
+use Rattle.syn_lexer.specs.declared.lexeme.Delimiter.TheVariants as del
+use Rattle.syn_lexer.specs.declared.lexeme.Spacing.{Spacing}
+use Rattle.syn_lexer.specs.declared.lexeme.Spacing.TheVariants as spacing
+use Rattle.syn_tokens.specs.Tok.{Tok, Inside, ident, punct, literal, group}
+use Rattle.syn_tokens.specs.Front.{group_at}
+use Rattle.syn_parts.specs.Text.{Text, is_segment, stands_alone, is_truth}
+use Rattle.syn_parts.specs.declared.label.PathStyle.TheVariants as style
+use Rattle.syn_parts.specs.Tree as t
+use Rattle.syn_parts.specs.Tree.{PathTree, SegmentTree, QSelfTree}
+use Rattle.syn_parts.specs.Form.{Form, Outcome, Mark, then_behind, flag, maybe, is_none}
+use Rattle.syn_parts.specs.Mark.{sign_at, word_at, lifetime_at, brace_at, round_at, star, bang, and, less, colon2, constant, colon, pound}
+use Rattle.syn_parts.specs.Part.{QPathTree, qpath, path, pieces, segment, segment_name, type, lifetimes_at, lifetimes, lifetime, output}
+use Rattle.syn_parts.proofs.Ends.{sign_first}
+use Rattle.syn_parts.proofs.Fronts.{word_not, no_truth}
+use Rattle.syn_grammar.specs.Front.{bracket_at}
+use Rattle.syn_grammar.specs.declared.kinds.Limits.{Limits}
+use Rattle.syn_grammar.specs.Tree as tr
+use Rattle.syn_grammar.specs.Tree.{Lead, ClosureHead, Jump}
+use Rattle.syn_grammar.specs.Head as h
+use Rattle.syn_grammar.specs.Head.{lead_form, closure_head, closure_inputs, closure_at, bar, move_word, async_word, raw_at, minus, let_word, range_at, jump_at, jump_head, literal_at, loop_at, block_at, const_block_at, async_block_at, try_block_at, builtin_at, label, past_label, range_op}
+use Rattle.syn_grammar.specs.Slot.{if_word, match_word, while_word, for_word, else_word}
+use Rattle.syn_grammar.specs.Read.{leaf_at, lead_at, loop_head_at, become_word}
+use Rattle.syn_grammar.proofs.Chains.{some_is, behind_some, only_some, chosen, both_true, one_true}
+use Rattle.syn_grammar.proofs.SoundAtoms.{NoLeaf}
+
+pub word_is : (w : Text) (l : List Tok) → word_at w l ≡ true → l ≡ ident w ∷ drop 1 l
+unfolding word_at
+word_is w (ident v ∷ l) h = let (a, b) = both_true (not _) (bytes_eq v w) h in ap (λ z. ident z ∷ l) ((bytes_eq-Decides v w).0 b)
+word_is w _ h = absurd cc
+
+pub no_lifetime : (c : ℕ) (s : Spacing) (m : List Tok) → (c == 39) ≡ false → lifetime_at (punct c s ∷ m) ≡ false
+unfolding lifetime_at
+no_lifetime c spacing.Alone m h = refl
+no_lifetime c spacing.Joint [] h = refl
+no_lifetime c spacing.Joint (ident w ∷ m) h = h
+no_lifetime c spacing.Joint (punct d t ∷ m) h = refl
+no_lifetime c spacing.Joint (literal w ∷ m) h = refl
+no_lifetime c spacing.Joint (group d i ∷ m) h = refl
+
+pub sign_no_leaf : (c : ℕ) (s : Spacing) (m : List Tok) → (c == 39) ≡ false → leaf_at (punct c s ∷ m) ≡ false
+unfolding leaf_at literal_at word_at loop_at block_at brace_at group_at const_block_at async_block_at try_block_at builtin_at
+sign_no_leaf c s m g = rw (no_lifetime c s m g) refl
+
+-- ---- which word or sign
+
+no_brace : (c : ℕ) (s : Spacing) (m : List Tok) → brace_at (punct c s ∷ m) ≡ false
+unfolding brace_at group_at
+no_brace c s m = refl
+
+pub sign_no_brace : (c : ℕ) (l : List Tok) → sign_at (c ∷ []) l ≡ true → brace_at l ≡ false
+sign_no_brace c l g = sign_first c [] (λ z. brace_at z ≡ false) at_sign l g
+  where
+    at_sign : (s : Spacing) (m : List Tok) → brace_at (punct c s ∷ m) ≡ false
+    at_sign s m = no_brace c s m
+
+pub word_no_brace : (w : Text) (l : List Tok) → word_at w l ≡ true → brace_at l ≡ false
+unfolding brace_at group_at
+word_no_brace w l g = subst (λ z. brace_at z ≡ false) (sym (word_is w l g)) refl
+
+pub flag_is : (m : Mark) (b : Bool) (l n : List Tok) → (flag m).behind b l ≡ Some n → (m.at l ≡ b) × (n ≡ (if b then drop m.count l else l))
+flag_is m b l n g = by_test b (m.at l) refl g
+  where
+    by_test : (b a : Bool) → m.at l ≡ a → cond a (cond a (cond b (Some (drop m.count l)) None) None) (cond (not b) (Some l) None) ≡ Some n → (m.at l ≡ b) × (n ≡ (if b then drop m.count l else l))
+    by_test true true v i = (v, sym (some_is i))
+    by_test true false v i = absurd cc
+    by_test false true v i = absurd cc
+    by_test false false v i = (v, sym (some_is i))
+
+-- ---- closures
+
+pub record Fronted (l : List Tok) : Type 0 where
+  pub leads : lead_at l ≡ true
+  pub no_leaf : leaf_at l ≡ false
+
+-- a closure's first tokens
+pub record Closed (l : List Tok) : Type 0 where
+  pub at : closure_at l ≡ true
+  pub no_leaf : leaf_at l ≡ false
+  pub closures : (f : ClosureHead) → lead_form.behind (tr.closure f) l ≡ closure_head.behind f l
+
+by_move : (l m : List Tok) (b : Bool) → move_word.at l ≡ b → m ≡ (if b then drop 1 l else l) → bar.at m ≡ true → (move_word.at l || bar.at l) ≡ true
+by_move l m true a d g = rw a refl
+by_move l m false a d g = rw (a, ← d) g
+
+no_brace_move : (l m : List Tok) (b : Bool) → move_word.at l ≡ b → m ≡ (if b then drop 1 l else l) → bar.at m ≡ true → brace_at l ≡ false
+no_brace_move l m true a d g = word_no_brace _ l a
+no_brace_move l m false a d g = subst (λ z. brace_at z ≡ false) d (sign_no_brace 124 m g)
+
+pub second_true : (a : Bool) {b : Bool} → b ≡ true → (a || b) ≡ true
+second_true true g = refl
+second_true false g = g
+
+pub and_false : (a : Bool) → (a && false) ≡ false
+and_false true = refl
+and_false false = refl
+
+-- behind `async`
+closed_async : (l m : List Tok) (b : Bool) → move_word.at l ≡ b → m ≡ (if b then drop 1 l else l) → bar.at m ≡ true → Closed (ident (codes "async") ∷ l)
+unfolding closure_at leaf_at literal_at word_at loop_at block_at lifetime_at brace_at group_at const_block_at async_block_at try_block_at builtin_at sign_at lifetimes_at is_truth lead_form range_at jump_at
+closed_async l m true a d g =
+    let n : brace_at (drop 1 l) ≡ false = subst (λ z. brace_at z ≡ false) d (sign_no_brace 124 m g) in
+    record { at = second_true (bar.at l) (rw (a, n) refl); no_leaf = rw (word_no_brace (codes "move") l a, n, and_false (move_word.at l)) refl; closures = λ f. refl }
+closed_async l m false a d g =
+    let b : bar.at l ≡ true = subst (λ z. bar.at z ≡ true) d g in
+    record { at = rw b refl; no_leaf = rw (sign_no_brace 124 l b, a) refl; closures = λ f. refl }
+
+closed_move : (l : List Tok) → Closed (ident (codes "move") ∷ l)
+unfolding closure_at leaf_at literal_at word_at loop_at block_at lifetime_at brace_at group_at const_block_at async_block_at try_block_at builtin_at sign_at lifetimes_at is_truth lead_form range_at jump_at
+closed_move l = record { at = refl; no_leaf = refl; closures = λ f. refl }
+
+closed_const : (l : List Tok) → brace_at l ≡ false → Closed (ident (codes "const") ∷ l)
+unfolding closure_at leaf_at literal_at word_at loop_at block_at lifetime_at brace_at group_at const_block_at async_block_at try_block_at builtin_at sign_at lifetimes_at is_truth lead_form range_at jump_at
+closed_const l g = record { at = rw g refl; no_leaf = rw g refl; closures = λ f. refl }
+
+closed_for : (l : List Tok) → lifetimes_at (ident (codes "for") ∷ l) ≡ true → Closed (ident (codes "for") ∷ l)
+unfolding closure_at leaf_at literal_at word_at loop_at block_at lifetime_at brace_at group_at const_block_at async_block_at try_block_at builtin_at sign_at is_truth lead_form range_at jump_at
+closed_for l g = record { at = rw g refl; no_leaf = refl; closures = λ f. refl }
+
+bar_closures : (s : Spacing) (l : List Tok) (f : ClosureHead) → lead_form.behind (tr.closure f) (punct 124 s ∷ l) ≡ closure_head.behind f (punct 124 s ∷ l)
+unfolding lead_form range_at jump_at sign_at word_at
+bar_closures spacing.Alone l f = refl
+bar_closures spacing.Joint l f = refl
+
+-- behind `async` or not, behind `const` or not
+closed_from_async : (l m n : List Tok) (a b : Bool) → async_word.at l ≡ a → m ≡ (if a then drop 1 l else l) → move_word.at m ≡ b → n ≡ (if b then drop 1 m else m) → bar.at n ≡ true → Closed l
+unfolding closure_at
+closed_from_async l m n true b f g i j k =
+    subst (λ z. Closed z) (sym (word_is _ l f)) (subst (λ z. Closed (ident (codes "async") ∷ z)) g (closed_async m n b i j k))
+closed_from_async l m n false true f g i j k =
+    let v : move_word.at l ≡ true = subst (λ z. move_word.at z ≡ true) g i in
+    subst (λ z. Closed z) (sym (word_is _ l v)) (closed_move (drop 1 l))
+closed_from_async l m n false false f g i j k =
+    let v : bar.at l ≡ true = subst (λ z. bar.at z ≡ true) (j ∙ g) k in
+    record { at = rw v refl; no_leaf = sign_first 124 [] (λ z. leaf_at z ≡ false) (λ s z. sign_no_leaf 124 s z refl) l v; closures = sign_first 124 [] (λ z. (f : ClosureHead) → lead_form.behind (tr.closure f) z ≡ closure_head.behind f z) bar_closures l v }
+
+closed_no_brace : (l m n : List Tok) (a b : Bool) → async_word.at l ≡ a → m ≡ (if a then drop 1 l else l) → move_word.at m ≡ b → n ≡ (if b then drop 1 m else m) → bar.at n ≡ true → brace_at l ≡ false
+closed_no_brace l m n true b f g i j k = word_no_brace _ l f
+closed_no_brace l m n false b f g i j k = subst (λ z. brace_at z ≡ false) g (no_brace_move m n b i j k)
+
+closed_from_const : (l m n o : List Tok) (c a b : Bool) → constant.at l ≡ c → m ≡ (if c then drop 1 l else l) → async_word.at m ≡ a → n ≡ (if a then drop 1 m else m)
+    → move_word.at n ≡ b → o ≡ (if b then drop 1 n else n) → bar.at o ≡ true → Closed l
+closed_from_const l m n o true a b c d f g i j k =
+    subst (λ z. Closed z) (sym (word_is _ l c)) (subst (λ z. Closed (ident (codes "const") ∷ z)) d (closed_const m (closed_no_brace m n o a b f g i j k)))
+closed_from_const l m n o false a b c d f g i j k = subst (λ z. Closed z) d (closed_from_async m n o a b f g i j k)
+
+bar_inputs : (x : h.Inputs) (l n : List Tok) → closure_inputs.behind x l ≡ Some n → bar.at l ≡ true
+unfolding closure_inputs
+bar_inputs x l n g = let (a, b) = only_some (bar.at l) _ n g in a
+
+closed_from_flags : (f : ClosureHead) (l n : List Tok) → then_behind ((flag constant).behind f.constness l) (λ m. then_behind ((flag async_word).behind f.asyncness m) (λ m. then_behind ((flag move_word).behind f.capture m)
+    (λ m. then_behind (closure_inputs.behind (f.inputs, f.trailing) m) ((output type true).behind f.output)))) ≡ Some n → Closed l
+closed_from_flags f l n g =
+    let (a, b, c) = behind_some ((flag constant).behind f.constness l) _ n g in
+    let (d, i, j) = behind_some ((flag async_word).behind f.asyncness a) _ n c in
+    let (k, u, v) = behind_some ((flag move_word).behind f.capture d) _ n j in
+    let (w, x, y) = behind_some (closure_inputs.behind (f.inputs, f.trailing) k) _ n v in
+    let p = flag_is constant f.constness l a b in
+    let q = flag_is async_word f.asyncness a d i in
+    let r = flag_is move_word f.capture d k u in
+    closed_from_const l a d k f.constness f.asyncness f.capture p.0 p.1 q.0 q.1 r.0 r.1 (bar_inputs (f.inputs, f.trailing) k w x)
+
+first_of_lifetimes : (l : List Tok) → lifetimes_at l ≡ true → word_at (codes "for") l ≡ true
+unfolding lifetimes_at
+first_of_lifetimes l v = let (a, b) = both_true (word_at (codes "for") l) _ v in a
+
+pub closure_front : (f : ClosureHead) (l n : List Tok) → closure_head.behind f l ≡ Some n → Closed l
+unfolding closure_head
+closure_front f l n g =
+    let (z, i, j) = behind_some ((maybe lifetimes_at lifetimes).behind f.lifetimes l) _ n g in
+    ⊎_elim (λ k.
+    let w = word_is (codes "for") l (first_of_lifetimes l k.0) in
+    subst (λ y. Closed y) (sym w) (closed_for (drop 1 l) (subst (λ y. lifetimes_at y ≡ true) w k.0)))
+    (λ k.
+    let (a, b) = only_some (is_none f.lifetimes) (Some l) z k.1 in
+    subst (λ y. Closed y) (sym (some_is b)) (closed_from_flags f z n j))
+    (chosen (lifetimes_at l) _ _ (Some z) i)
+
+-- ---- what stands before an operand
+
+sign_fronted : (c : ℕ) (l : List Tok) → (c == 39) ≡ false → sign_at (c ∷ []) l ≡ true → lead_at l ≡ true → Fronted l
+sign_fronted c l g v w = record { leads = w; no_leaf = sign_first c [] (λ z. leaf_at z ≡ false) (λ s z. sign_no_leaf c s z g) l v }
+
+let_no_leaf : (l : List Tok) → leaf_at (ident (codes "let") ∷ l) ≡ false
+unfolding leaf_at literal_at word_at loop_at block_at lifetime_at brace_at group_at const_block_at async_block_at try_block_at builtin_at sign_at is_truth
+let_no_leaf l = refl
+
+return_no_leaf : (l : List Tok) → leaf_at (ident (codes "return") ∷ l) ≡ false
+unfolding leaf_at literal_at word_at loop_at block_at lifetime_at brace_at group_at const_block_at async_block_at try_block_at builtin_at sign_at is_truth
+return_no_leaf l = refl
+
+yield_no_leaf : (l : List Tok) → leaf_at (ident (codes "yield") ∷ l) ≡ false
+unfolding leaf_at literal_at word_at loop_at block_at lifetime_at brace_at group_at const_block_at async_block_at try_block_at builtin_at sign_at is_truth
+yield_no_leaf l = refl
+
+break_no_leaf : (l : List Tok) → leaf_at (ident (codes "break") ∷ l) ≡ false
+unfolding leaf_at literal_at word_at loop_at block_at lifetime_at brace_at group_at const_block_at async_block_at try_block_at builtin_at sign_at is_truth
+break_no_leaf l = refl
+
+pub jump_no_leaf : (l : List Tok) → jump_at l ≡ true → leaf_at l ≡ false
+unfolding jump_at
+jump_no_leaf l g =
+    ⊎_elim (λ a. subst (λ z. leaf_at z ≡ false) (sym (word_is _ l a)) (return_no_leaf (drop 1 l)))
+    (λ a. ⊎_elim (λ b. subst (λ z. leaf_at z ≡ false) (sym (word_is _ l b)) (yield_no_leaf (drop 1 l))) (λ b. subst (λ z. leaf_at z ≡ false) (sym (word_is _ l b.1)) (break_no_leaf (drop 1 l)))
+    (one_true (h.yield_word.at l) _ a.1)) (one_true (h.return_word.at l) _ g)
+
+pub range_no_leaf : (l : List Tok) → range_at l ≡ true → leaf_at l ≡ false
+unfolding range_at
+range_no_leaf l g = sign_first 46 (46 ∷ []) (λ z. leaf_at z ≡ false) (λ s z. sign_no_leaf 46 s z refl) l g
+
+pub lead_front : (k : Lead) (l n : List Tok) → lead_form.behind k l ≡ Some n → Fronted l
+unfolding lead_form lead_at
+lead_front k l n g = ⊎_elim (λ i. sign_fronted 42 l refl i.0 (rw i.0 refl)) (λ a.
+    ⊎_elim (λ i. sign_fronted 33 l refl i.0 (rw (a.0, i.0) refl)) (λ b.
+    ⊎_elim (λ i. sign_fronted 45 l refl i.0 (rw (a.0, b.0, i.0) refl)) (λ c.
+    ⊎_elim (λ i. sign_fronted 38 l refl i.0 (rw (a.0, b.0, c.0, i.0) refl)) (λ d.
+    ⊎_elim (λ i. record { leads = rw (a.0, b.0, c.0, d.0, i.0) refl; no_leaf = range_no_leaf l i.0 }) (λ f.
+    ⊎_elim (λ i. record { leads = rw (a.0, b.0, c.0, d.0, f.0, i.0) refl; no_leaf = subst (λ z. leaf_at z ≡ false) (sym (word_is _ l i.0)) (let_no_leaf (drop 1 l)) }) (λ j.
+    ⊎_elim (λ i. record { leads = rw (a.0, b.0, c.0, d.0, f.0, j.0, i.0) refl; no_leaf = jump_no_leaf l i.0 }) (λ u.
+    let (x, y, z) = behind_some (h.from_closure k) (λ f. closure_head.behind f l) n u.1 in
+    let w = closure_front x l n z in
+    record { leads = rw (a.0, b.0, c.0, d.0, f.0, j.0, u.0, w.at) refl; no_leaf = w.no_leaf })
+    (chosen (jump_at l) _ _ (Some n) j.1)) (chosen (let_word.at l) _ _ (Some n) f.1)) (chosen (range_at l) _ _ (Some n) d.1)) (chosen (and.at l) _ _ (Some n) c.1))
+    (chosen (minus.at l) _ _ (Some n) b.1)) (chosen (bang.at l) _ _ (Some n) a.1)) (chosen (star.at l) _ _ (Some n) g)
+
+-- ---- where a jump or a range stands, no other lead does
+
+pub record NoOther (l : List Tok) : Type 0 where
+  pub no_star : star.at l ≡ false
+  pub no_bang : bang.at l ≡ false
+  pub no_minus : minus.at l ≡ false
+  pub no_and : and.at l ≡ false
+
+range_other : (s : Spacing) (l : List Tok) → NoOther (punct 46 s ∷ l)
+unfolding sign_at
+range_other spacing.Alone l = record { no_star = refl; no_bang = refl; no_minus = refl; no_and = refl }
+range_other spacing.Joint l = record { no_star = refl; no_bang = refl; no_minus = refl; no_and = refl }
+
+word_other : (w : Text) (l : List Tok) → NoOther (ident w ∷ l)
+unfolding sign_at
+word_other w l = record { no_star = refl; no_bang = refl; no_minus = refl; no_and = refl }
+
+pub first_true : {a : Bool} (b : Bool) → a ≡ true → (a || b) ≡ true
+first_true b v = rw v refl
+
+pub range_leads : (l : List Tok) → range_at l ≡ true → lead_at l ≡ true
+unfolding lead_at
+range_leads l g = second_true (star.at l) (second_true (bang.at l) (second_true (minus.at l) (second_true (and.at l) (first_true _ g))))
+
+pub jump_leads : (l : List Tok) → jump_at l ≡ true → lead_at l ≡ true
+unfolding lead_at
+jump_leads l g = second_true (star.at l) (second_true (bang.at l) (second_true (minus.at l) (second_true (and.at l) (second_true (range_at l) (second_true (let_word.at l) (first_true _ g))))))
+
+pub range_lead : (op : Limits) (l : List Tok) → range_at l ≡ true → lead_form.behind (tr.range_to op) l ≡ range_op.behind op l
+unfolding lead_form range_at
+range_lead op l g =
+    let a = sign_first 46 (46 ∷ []) (λ z. NoOther z) range_other l g in
+    rw (a.no_star, a.no_bang, a.no_minus, a.no_and, g) refl
+
+jump_word_lead : (w : Text) (j : Jump) (l : List Tok) → jump_at (ident w ∷ l) ≡ true → let_word.at (ident w ∷ l) ≡ false → lead_form.behind (tr.jump j) (ident w ∷ l) ≡ jump_head.behind j (ident w ∷ l)
+unfolding lead_form range_at sign_at
+jump_word_lead w j l g i = rw (i, g) refl
+
+pub jump_lead : (j : Jump) (l : List Tok) → jump_at l ≡ true → lead_form.behind (tr.jump j) l ≡ jump_head.behind j l
+unfolding jump_at word_at
+jump_lead j l g =
+    ⊎_elim (λ a. subst (λ z. lead_form.behind (tr.jump j) z ≡ jump_head.behind j z) (sym (word_is _ l a)) (jump_word_lead (codes "return") j (drop 1 l) refl refl))
+    (λ a. ⊎_elim (λ b. subst (λ z. lead_form.behind (tr.jump j) z ≡ jump_head.behind j z) (sym (word_is _ l b)) (jump_word_lead (codes "yield") j (drop 1 l) refl refl))
+    (λ b. subst (λ z. lead_form.behind (tr.jump j) z ≡ jump_head.behind j z) (sym (word_is _ l b.1)) (jump_word_lead (codes "break") j (drop 1 l) refl refl))
+    (one_true (h.yield_word.at l) _ a.1)) (one_true (h.return_word.at l) _ g)

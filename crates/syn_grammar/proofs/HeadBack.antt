@@ -1,0 +1,260 @@
+-- Labels, jumps, ranges, bodies and the heads of closures are read back from their own tokens.
+use Rattle.std.proofs.Common.{◌≡◌, Bool, true, false, not, ◌&&◌, List, [], ◌∷◌, Option, Some, None, refl, ◌∙◌, codes}
+use Rattle.syn_tokens.specs.Tok.{Tok, toks-inside}
+use Rattle.syn_tokens.specs.Front.{group_at}
+use Rattle.syn_parts.specs.Text.{Text}
+use Rattle.syn_parts.specs.Tree.{AttributeTree, LifetimesTree}
+use Rattle.syn_parts.specs.Form.{more, maybe, flag, is_nil}
+use Rattle.syn_parts.specs.Mark.{sign_at, word_at, lifetime_at, brace_at, round_at, colon, plus, mutable, constant}
+use Rattle.syn_parts.specs.Own.{alone, before_some, comma_before, elements_own, attribute_own, lifetime_own, lifetimes_own, return_own}
+use Rattle.syn_parts.specs.Part.{pound_bang, inner_body, inner_attributes, lifetimes_at, lifetimes, lifetime, is_default, type, output}
+use Rattle.syn_parts.specs.Fits.{lifetimes_fit, output_fits, output_stops, ends_well, fits_if}
+use Rattle.syn_parts.specs.Ends.{ends_patterns, ends_types}
+use Rattle.syn_parts.specs.Pat.{PatTree, closure_arg, bound_at}
+use Rattle.syn_parts.specs.PatOwn.{attributes_own, pat_own}
+use Rattle.syn_parts.specs.PatFits.{closure_arg_fits, pat_fits, pat_stops}
+use Rattle.syn_parts.proofs.Same.{both_true, not_true, same_toks-refl}
+use Rattle.syn_parts.proofs.Forms.{more_stands}
+use Rattle.syn_parts.proofs.Marks.{pound_bang_present}
+use Rattle.syn_parts.proofs.Parts.{inner_body_alike}
+use Rattle.syn_parts.proofs.ReadBack.{kept_bracket_back, text_same, Commas, no_element, element, next_own, listed_back}
+use Rattle.syn_parts.proofs.Whole.{parts_read_back}
+use Rattle.syn_parts.proofs.PatsBack.{closure_arg_back}
+use Rattle.syn_parts.proofs.PatWholeTold.{patterns_read_back}
+use Rattle.syn_parts.proofs.Ends.{parts_end}
+use Rattle.syn_parts.proofs.Pats.{closure_arg_alike}
+use Rattle.syn_parts.proofs.TypesBack.{lifetimes_back}
+use Rattle.syn_grammar.proofs.HeadFront.{arg_no_bar}
+use Rattle.syn_grammar.specs.declared.kinds.UnKind.{UnKind}
+use Rattle.syn_grammar.specs.declared.kinds.UnKind.TheVariants as un
+use Rattle.syn_grammar.specs.declared.kinds.Limits.{Limits}
+use Rattle.syn_grammar.specs.declared.kinds.Limits.TheVariants as limits
+use Rattle.syn_grammar.specs.Op.{limits_text}
+use Rattle.syn_grammar.specs.Head as h
+use Rattle.syn_grammar.specs.Tree as e
+use Rattle.syn_grammar.specs.Tree.{Body, Jump, Leaf, Lead, ClosureHead, lead_own, label_own, body_own, jump_own, closure_own, word_if, vert_before, sign_before}
+use Rattle.syn_grammar.specs.WellFormed.{attributes_inner, body_fits, inputs_fit, head_fits, lead_fits}
+
+-- ---- inner attributes and bodies
+
+inner_step : (a : AttributeTree) (xs : List AttributeTree) (l m : List Tok) → a.inner ≡ true → inner_attributes.behind xs l ≡ Some m → inner_attributes.behind (a ∷ xs) (attribute_own a l) ≡ Some m
+unfolding inner_attributes inner_body attribute_own sign_at
+inner_step a xs l m g i = by_style a.inner a.tokens g
+  where
+    by_style : (b : Bool) (ts : List Tok) → b ≡ true → (more pound_bang inner_body).behind (record { inner = b; tokens = ts } ∷ xs) (attribute_own (record { inner = b; tokens = ts }) l) ≡ Some m
+    by_style false ts d = absurd cc
+    by_style true ts d = more_stands pound_bang inner_body pound_bang_present (λ k. inner_body_alike) (record { inner = true; tokens = ts } ∷ xs) _ m (rw (kept_bracket_back ts l) i)
+
+pub inner_attributes_back : (xs : List AttributeTree) (l : List Tok) → attributes_inner xs ≡ true → pound_bang.at l ≡ false → inner_attributes.behind xs (attributes_own xs l) ≡ Some l
+unfolding inner_attributes
+inner_attributes_back [] l f g = more_stands pound_bang inner_body pound_bang_present (λ k. inner_body_alike) [] l l (rw g refl)
+inner_attributes_back (a ∷ xs) l f g =
+    let (i, j) = both_true a.inner (attributes_inner xs) f in
+    inner_step a xs (attributes_own xs l) l i (inner_attributes_back xs l j g)
+
+pub body_inside_back : (b : Body) → body_fits b ≡ true → h.body_inside.behind b (attributes_own b.inner b.tokens) ≡ Some []
+unfolding h.body_inside h.all_left
+body_inside_back b f =
+    let (i, j) = both_true (attributes_inner b.inner) (not (pound_bang.at b.tokens)) f in
+    rw (inner_attributes_back b.inner b.tokens i (not_true (pound_bang.at b.tokens) j), same_toks-refl b.tokens) refl
+
+pub body_back : (b : Body) (r : List Tok) → body_fits b ≡ true → h.body.behind b (body_own b r) ≡ Some r
+unfolding h.body group_at
+body_back b r f = rw (toks-inside (attributes_own b.inner b.tokens), body_inside_back b f) refl
+
+-- ---- labels, jumps, ranges
+
+abbrev pub label_stops : Option Text → List Tok → Bool
+label_stops None r = not (lifetime_at r)
+label_stops (Some w) r = true
+
+pub label_back : (w : Option Text) (r : List Tok) → label_stops w r ≡ true → h.label.behind w (label_own w r) ≡ Some r
+unfolding lifetime lifetime_at sign_at
+label_back None r s = rw (not_true (lifetime_at r) s) refl
+label_back (Some w) r s = rw (text_same w) refl
+
+-- a label that is a value, or none
+pub lifetime_or_none : (w : Option Text) (r : List Tok) → label_stops w r ≡ true → (maybe lifetime_at lifetime).behind w (before_some w lifetime_own r) ≡ Some r
+unfolding lifetime lifetime_at
+lifetime_or_none None r s = rw (not_true (lifetime_at r) s) refl
+lifetime_or_none (Some w) r s = rw (text_same w) refl
+
+-- behind `break` alone a lifetime would be its label
+abbrev pub jump_stops : Jump → List Tok → Bool
+jump_stops e.returning r = true
+jump_stops e.yielding r = true
+jump_stops (e.breaking w) r = label_stops w r
+
+pub jump_back : (j : Jump) (r : List Tok) → jump_stops j r ≡ true → h.jump_head.behind j (jump_own j r) ≡ Some r
+unfolding h.jump_head word_at
+jump_back e.returning r s = refl
+jump_back e.yielding r s = refl
+jump_back (e.breaking w) r s = lifetime_or_none w r s
+
+pub range_back : (op : Limits) (r : List Tok) → h.range_op.behind op (sign_before (limits_text op) r) ≡ Some r
+unfolding h.range_op sign_at
+range_back limits.HalfOpen r = refl
+range_back limits.Closed r = refl
+
+-- ---- closures
+
+-- what is behind an argument: the comma, or the `|` that ends the arguments
+record ArgEnds (l : List Tok) : Type 0 where
+  ends : ends_patterns l ≡ true
+  no_plus : plus.at l ≡ false
+  no_colon : colon.at l ≡ false
+
+comma_ends : (l : List Tok) → ArgEnds (alone 44 ∷ l)
+unfolding ends_patterns ends_types bound_at sign_at round_at brace_at group_at
+comma_ends l = record { ends = refl; no_plus = refl; no_colon = refl }
+
+vert_ends : (l : List Tok) → ArgEnds (vert_before l)
+unfolding ends_patterns ends_types bound_at sign_at round_at brace_at group_at
+vert_ends l = record { ends = refl; no_plus = refl; no_colon = refl }
+
+next_ends : (xs : List PatTree) (e : Bool) (r : List Tok) → ArgEnds (next_own pat_own comma_before xs e (vert_before r))
+next_ends [] true r = comma_ends _
+next_ends [] false r = vert_ends r
+next_ends (x ∷ xs) e r = comma_ends _
+
+inputs_commas : (e : Bool) (xs : List PatTree) (r : List Tok) → inputs_fit xs ≡ true → Commas closure_arg pat_own h.bar.at e (vert_before r) xs
+inputs_commas e [] r f = no_element
+inputs_commas e (x ∷ xs) r f =
+    let (i, j) = both_true (closure_arg_fits x) (inputs_fit xs) f in
+    let q = next_ends xs e r in
+    let b = closure_arg_back x _ i (parts_end.closure_args x _ q.ends q.no_plus q.no_colon) in
+    element b (arg_no_bar x _ _ b) (inputs_commas e xs r j)
+
+pub inputs_back : (xs : List PatTree) (e : Bool) (r : List Tok) → inputs_fit xs ≡ true → ends_well (is_nil xs) e ≡ true
+    → h.closure_inputs.behind (xs, e) (vert_before (elements_own pat_own comma_before xs e (vert_before r))) ≡ Some r
+unfolding h.closure_inputs sign_at
+inputs_back xs e r f w =
+    rw (listed_back closure_arg pat_own h.bar.at (λ k. closure_arg_alike) (vert_before r) refl refl e xs w (inputs_commas e xs r f)) refl
+
+abbrev from_words : Bool → Bool → Bool → List Tok → List Tok
+from_words b c d l = word_if b (codes "const") (word_if c (codes "async") (word_if d (codes "move") (vert_before l)))
+
+no_lifetimes : (b c d : Bool) (l : List Tok) → lifetimes_at (from_words b c d l) ≡ false
+unfolding lifetimes_at word_at
+no_lifetimes true c d l = refl
+no_lifetimes false true d l = refl
+no_lifetimes false false true l = refl
+no_lifetimes false false false l = refl
+
+const_back : (b c d : Bool) (l : List Tok) → (flag constant).behind b (from_words b c d l) ≡ Some (from_words false c d l)
+unfolding word_at
+const_back true c d l = refl
+const_back false true d l = refl
+const_back false false true l = refl
+const_back false false false l = refl
+
+async_back : (c d : Bool) (l : List Tok) → (flag h.async_word).behind c (from_words false c d l) ≡ Some (from_words false false d l)
+unfolding word_at
+async_back true d l = refl
+async_back false true l = refl
+async_back false false l = refl
+
+move_back : (d : Bool) (l : List Tok) → (flag h.move_word).behind d (from_words false false d l) ≡ Some (vert_before l)
+unfolding word_at
+move_back true l = refl
+move_back false l = refl
+
+lifetimes_seen : (p : LifetimesTree) (r : List Tok) → lifetimes_fit p ≡ true → lifetimes_at (lifetimes_own p r) ≡ true
+unfolding lifetimes_at lifetimes_own sign_at word_at lifetime_at
+lifetimes_seen ([], true) r f = absurd cc
+lifetimes_seen ([], false) r f = refl
+lifetimes_seen (w ∷ ws, e) r f = refl
+
+lifetimes_piece : (p : Option LifetimesTree) (b c d : Bool) (l : List Tok) → fits_if lifetimes_fit p ≡ true
+    → (maybe lifetimes_at lifetimes).behind p (before_some p lifetimes_own (from_words b c d l)) ≡ Some (from_words b c d l)
+lifetimes_piece None b c d l f = rw (no_lifetimes b c d l) refl
+lifetimes_piece (Some p) b c d l f = rw (lifetimes_seen p (from_words b c d l) f) (lifetimes_back p (from_words b c d l) f)
+
+-- behind all of it but its output
+pub head_opens : (c : ClosureHead) (r : List Tok) → head_fits c ≡ true → h.closure_head.behind c (closure_own c r) ≡ (output type true).behind c.output (return_own c.output r)
+unfolding h.closure_head
+head_opens c r f =
+    let (i, j) = both_true (fits_if lifetimes_fit c.lifetimes) _ f in
+    let (k, m) = both_true (inputs_fit c.inputs) _ j in
+    let (u, v) = both_true (ends_well (is_nil c.inputs) c.trailing) (output_fits true c.output) m in
+    let l = elements_own pat_own comma_before c.inputs c.trailing (vert_before (return_own c.output r)) in
+    rw (lifetimes_piece c.lifetimes c.constness c.asyncness c.capture l i, const_back c.constness c.asyncness c.capture l, async_back c.asyncness c.capture l, move_back c.capture l, inputs_back c.inputs c.trailing (return_own c.output r) k u) refl
+
+pub head_back : (c : ClosureHead) (r : List Tok) → head_fits c ≡ true → output_stops true c.output r ≡ true → h.closure_head.behind c (closure_own c r) ≡ Some r
+head_back c r f w =
+    let (i, j) = both_true (fits_if lifetimes_fit c.lifetimes) _ f in
+    let (k, m) = both_true (inputs_fit c.inputs) _ j in
+    let (u, v) = both_true (ends_well (is_nil c.inputs) c.trailing) (output_fits true c.output) m in
+    head_opens c r f ∙ parts_read_back.outputs true c.output r v w
+
+-- ---- what stands before an operand
+
+-- behind `&` alone a `mut` would be its own, and so would `raw` before `mut` or `const`
+abbrev pub lead_stops : Lead → List Tok → Bool
+lead_stops (e.reference false) r = not (mutable.at r) && not (h.raw_at r)
+lead_stops (e.jump j) r = jump_stops j r
+lead_stops (e.closure c) r = output_stops true c.output r
+lead_stops _ r = true
+
+pub closure_seen : (x : ClosureHead) (p : Option LifetimesTree) (b c d : Bool) (l : List Tok)
+    → h.lead_form.behind (e.closure x) (before_some p lifetimes_own (from_words b c d l)) ≡ h.closure_head.behind x (before_some p lifetimes_own (from_words b c d l))
+unfolding h.lead_form h.range_at h.jump_at sign_at word_at lifetimes_own
+closure_seen x (Some p) b c d l = refl
+closure_seen x None true c d l = refl
+closure_seen x None false true d l = refl
+closure_seen x None false false true l = refl
+closure_seen x None false false false l = refl
+
+equal_ends : (l : List Tok) → ends_patterns (alone 61 ∷ l) ≡ true
+unfolding ends_patterns ends_types bound_at sign_at round_at brace_at group_at
+equal_ends l = refl
+
+binding_back : (p : PatTree) (r : List Tok) → pat_fits true p ≡ true → h.lead_form.behind (e.binding p) (lead_own (e.binding p) r) ≡ Some r
+unfolding h.lead_form h.range_at h.jump_at sign_at word_at
+binding_back p r f =
+    let s : pat_stops true p (alone 61 ∷ r) ≡ true = parts_end.patterns true p (alone 61 ∷ r) (equal_ends r) refl in
+    rw (patterns_read_back.patterns true p (alone 61 ∷ r) f s) refl
+
+reference_back : (r : List Tok) → mutable.at r ≡ false → h.raw_at r ≡ false → h.lead_form.behind (e.reference false) (lead_own (e.reference false) r) ≡ Some r
+unfolding h.lead_form sign_at
+reference_back r f g = rw (g, f) refl
+
+mut_back : (r : List Tok) → h.lead_form.behind (e.reference true) (lead_own (e.reference true) r) ≡ Some r
+unfolding h.lead_form h.raw_at sign_at word_at
+mut_back r = refl
+
+raw_back : (m : Bool) (r : List Tok) → h.lead_form.behind (e.raw_addr m) (lead_own (e.raw_addr m) r) ≡ Some r
+unfolding h.lead_form h.raw_at sign_at word_at
+raw_back true r = refl
+raw_back false r = refl
+
+unary_back : (op : UnKind) (r : List Tok) → h.lead_form.behind (e.unary op) (lead_own (e.unary op) r) ≡ Some r
+unfolding h.lead_form sign_at
+unary_back un.Deref r = refl
+unary_back un.Not r = refl
+unary_back un.Neg r = refl
+
+range_to_back : (op : Limits) (r : List Tok) → h.lead_form.behind (e.range_to op) (lead_own (e.range_to op) r) ≡ Some r
+unfolding h.lead_form h.range_at sign_at
+range_to_back limits.HalfOpen r = range_back limits.HalfOpen r
+range_to_back limits.Closed r = range_back limits.Closed r
+
+value_back : (j : Jump) (r : List Tok) → jump_stops j r ≡ true → h.lead_form.behind (e.jump j) (lead_own (e.jump j) r) ≡ Some r
+unfolding h.lead_form h.range_at h.jump_at sign_at word_at
+value_back e.returning r s = jump_back e.returning r s
+value_back e.yielding r s = jump_back e.yielding r s
+value_back (e.breaking w) r s = jump_back (e.breaking w) r s
+
+pub lead_back : (k : Lead) (r : List Tok) → lead_fits k ≡ true → lead_stops k r ≡ true → h.lead_form.behind k (lead_own k r) ≡ Some r
+lead_back (e.unary op) r f s = unary_back op r
+lead_back (e.reference true) r f s = mut_back r
+lead_back (e.reference false) r f s =
+    let (i, j) = both_true (not (mutable.at r)) (not (h.raw_at r)) s in
+    reference_back r (not_true (mutable.at r) i) (not_true (h.raw_at r) j)
+lead_back (e.raw_addr m) r f s = raw_back m r
+lead_back (e.range_to op) r f s = range_to_back op r
+lead_back (e.binding p) r f s = binding_back p r f
+lead_back (e.jump j) r f s = value_back j r s
+lead_back (e.closure c) r f s =
+    let (i, j) = both_true (head_fits c) (is_default c.output) f in
+    closure_seen c c.lifetimes c.constness c.asyncness c.capture _ ∙ head_back c r i s

@@ -1,0 +1,490 @@
+-- The heads of expressions are read exactly where their tokens stand.
+use Rattle.std.proofs.Common.{◌≡◌, ℕ, ◌≤◌, Bool, true, false, not, ◌&&◌, ◌==◌, List, [], ◌∷◌, Option, Some, None, refl, ap, sym, arith, codes}
+use Rattle.std.specs.Str.{bytes_eq}
+use Rattle.syn_lexer.specs.Keywords.{is_reserved_word}
+use Rattle.syn_lexer.specs.declared.lexeme.Delimiter.{Delimiter}
+use Rattle.syn_lexer.specs.declared.lexeme.Delimiter.TheVariants as del
+use Rattle.syn_tokens.specs.Tok.{Tok, ident, punct, group, weight}
+use Rattle.syn_parts.specs.declared.label.PathStyle.TheVariants as style
+use Rattle.syn_parts.specs.Text.{Text}
+use Rattle.syn_parts.specs.Tree as t
+use Rattle.syn_parts.specs.Tree.{LitTree, AttributeTree, LifetimesTree, QSelfTree, PathTree, ArgumentsTree, ReturnTree}
+use Rattle.syn_parts.specs.Form.{then_by}
+use Rattle.syn_parts.specs.Mark.{sign, sign_at}
+use Rattle.syn_parts.specs.Part.{QPathTree, MacroEnd, qpath, macro_end, arguments, output, type}
+use Rattle.syn_parts.specs.Pat.{MemberTree, PatTree, a_name, an_index, dots}
+use Rattle.syn_parts.proofs.Weights.{some_is}
+use Rattle.syn_parts.proofs.Same.{compares_toks}
+use Rattle.syn_parts.proofs.Marks.{marks, begins_in_front, sign_present, word_present, and_present, star_present, bang_present, colon_present, comma_present, underscore_present, constant_present, mutable_present, quote_present, eq_present}
+use Rattle.syn_parts.proofs.Forms.{Alike, Finds, leaf_alike, Present, Sees, Only, behind_some, weaker, when_alike, mark_at_alike, then_by_alike, both_alike, shown_alike, shown_where_alike, pure_alike, never_alike, only_true, flag_at_alike, listed_alike, closed_by_alike}
+use Rattle.syn_parts.proofs.Parts.{forms, falls_by, block_alike, inside_at_alike, outer_attributes_alike, inner_attributes_alike, lifetimes_alike, mutability_alike, macro_end_alike, arguments_alike, output_alike, qpath_alike, types_alike}
+use Rattle.syn_parts.proofs.Pats.{member_alike, pattern_alike, closure_arg_alike}
+use Rattle.syn_grammar.specs.declared.kinds.UnKind.TheVariants as un
+use Rattle.syn_grammar.specs.declared.kinds.Limits.{Limits}
+use Rattle.syn_grammar.specs.declared.kinds.Limits.TheVariants as limits
+use Rattle.syn_grammar.specs.Tree as e
+use Rattle.syn_grammar.specs.Tree.{Body, Jump, Leaf, ClosureHead, Lead, Trailer, Piece}
+use Rattle.syn_grammar.specs.Head as h
+use Rattle.syn_grammar.specs.Head.{Inputs}
+use Rattle.syn_grammar.specs.Slot as s
+use Rattle.syn_parts.specs.Mark.{word_at}
+use Rattle.syn_grammar.specs.Slot.{Slot}
+
+-- ---- marks
+
+pub bar_present : Present h.bar
+bar_present = sign_present _ _
+
+pub minus_present : Present h.minus
+minus_present = sign_present _ _
+
+pub dots_present : Present dots
+dots_present = sign_present _ _
+
+pub fat_arrow_present : Present s.fat_arrow
+fat_arrow_present = sign_present _ _
+
+pub closed_range_present : Present (sign (codes "..="))
+closed_range_present = sign_present _ _
+
+pub two_dots_present : Present h.two_dots
+unfolding sign_at
+two_dots_present = begins_in_front h.two_dots (omega arith) refl
+
+pub for_present : Present s.for_word
+unfolding word_at
+for_present = begins_in_front s.for_word (omega arith) refl
+
+pub ruleset head_marks = (for_present, bar_present, minus_present, dots_present, fat_arrow_present, closed_range_present, two_dots_present, word_present, marks)
+
+-- ---- views
+
+pub only_returning : Only e.returning h.is_returning
+only_returning = record { itself = refl; only = only }
+  where
+    only : (y : Jump) → h.is_returning y ≡ true → e.returning ≡ y
+    only e.returning g = refl
+    only _ g = absurd cc
+
+pub only_yielding : Only e.yielding h.is_yielding
+only_yielding = record { itself = refl; only = only }
+  where
+    only : (y : Jump) → h.is_yielding y ≡ true → e.yielding ≡ y
+    only e.yielding g = refl
+    only _ g = absurd cc
+
+pub sees_breaking : Sees e.breaking h.from_breaking
+sees_breaking = record { there = λ x. refl; back = back }
+  where
+    back : (y : Jump) (x : Option Text) → h.from_breaking y ≡ Some x → e.breaking x ≡ y
+    back (e.breaking label) x g = ap e.breaking (sym (some_is g))
+    back _ x g = absurd cc
+
+pub only_half_open : Only limits.HalfOpen h.is_half_open
+only_half_open = record { itself = refl; only = only }
+  where
+    only : (y : Limits) → h.is_half_open y ≡ true → limits.HalfOpen ≡ y
+    only limits.HalfOpen g = refl
+    only _ g = absurd cc
+
+pub only_closed : Only limits.Closed h.is_closed
+only_closed = record { itself = refl; only = only }
+  where
+    only : (y : Limits) → h.is_closed y ≡ true → limits.Closed ≡ y
+    only limits.Closed g = refl
+    only _ g = absurd cc
+
+pub sees_body : Sees h.to_body h.from_body
+sees_body = record { there = λ x. refl; back = back }
+  where
+    back : (y : Body) (x : List AttributeTree × List Tok) → h.from_body y ≡ Some x → h.to_body x ≡ y
+    back (b) x g = ap h.to_body (sym (some_is g))
+
+pub sees_lit : Sees e.lit h.from_lit
+sees_lit = record { there = λ x. refl; back = back }
+  where
+    back : (y : Leaf) (x : LitTree) → h.from_lit y ≡ Some x → e.lit x ≡ y
+    back (e.lit z) x g = ap e.lit (sym (some_is g))
+    back _ x g = absurd cc
+
+pub only_infer : Only e.infer h.is_infer
+only_infer = record { itself = refl; only = only }
+  where
+    only : (y : Leaf) → h.is_infer y ≡ true → e.infer ≡ y
+    only e.infer g = refl
+    only _ g = absurd cc
+
+pub sees_full_range : Sees e.full_range h.from_full_range
+sees_full_range = record { there = λ x. refl; back = back }
+  where
+    back : (y : Leaf) (x : Limits) → h.from_full_range y ≡ Some x → e.full_range x ≡ y
+    back (e.full_range op) x g = ap e.full_range (sym (some_is g))
+    back _ x g = absurd cc
+
+pub sees_bare_jump : Sees e.bare_jump h.from_bare_jump
+sees_bare_jump = record { there = λ x. refl; back = back }
+  where
+    back : (y : Leaf) (x : Jump) → h.from_bare_jump y ≡ Some x → e.bare_jump x ≡ y
+    back (e.bare_jump j) x g = ap e.bare_jump (sym (some_is g))
+    back _ x g = absurd cc
+
+pub sees_continuing : Sees e.continuing h.from_continuing
+sees_continuing = record { there = λ x. refl; back = back }
+  where
+    back : (y : Leaf) (x : Option Text) → h.from_continuing y ≡ Some x → e.continuing x ≡ y
+    back (e.continuing label) x g = ap e.continuing (sym (some_is g))
+    back _ x g = absurd cc
+
+pub sees_block : Sees h.to_block h.from_block
+sees_block = record { there = λ x. refl; back = back }
+  where
+    back : (y : Leaf) (x : Option Text × Body) → h.from_block y ≡ Some x → h.to_block x ≡ y
+    back (e.block label b) x g = ap h.to_block (sym (some_is g))
+    back _ x g = absurd cc
+
+pub sees_loop : Sees h.to_loop h.from_loop
+sees_loop = record { there = λ x. refl; back = back }
+  where
+    back : (y : Leaf) (x : Option Text × Body) → h.from_loop y ≡ Some x → h.to_loop x ≡ y
+    back (e.looping label b) x g = ap h.to_loop (sym (some_is g))
+    back _ x g = absurd cc
+
+pub sees_unsafe : Sees e.unsafe_block h.from_unsafe
+sees_unsafe = record { there = λ x. refl; back = back }
+  where
+    back : (y : Leaf) (x : Body) → h.from_unsafe y ≡ Some x → e.unsafe_block x ≡ y
+    back (e.unsafe_block b) x g = ap e.unsafe_block (sym (some_is g))
+    back _ x g = absurd cc
+
+pub sees_const : Sees e.const_block h.from_const
+sees_const = record { there = λ x. refl; back = back }
+  where
+    back : (y : Leaf) (x : Body) → h.from_const y ≡ Some x → e.const_block x ≡ y
+    back (e.const_block b) x g = ap e.const_block (sym (some_is g))
+    back _ x g = absurd cc
+
+pub sees_async : Sees h.to_async h.from_async
+sees_async = record { there = λ x. refl; back = back }
+  where
+    back : (y : Leaf) (x : Bool × List Tok) → h.from_async y ≡ Some x → h.to_async x ≡ y
+    back (e.async_block m ts) x g = ap h.to_async (sym (some_is g))
+    back _ x g = absurd cc
+
+pub sees_try : Sees e.try_block h.from_try
+sees_try = record { there = λ x. refl; back = back }
+  where
+    back : (y : Leaf) (x : List Tok) → h.from_try y ≡ Some x → e.try_block x ≡ y
+    back (e.try_block ts) x g = ap e.try_block (sym (some_is g))
+    back _ x g = absurd cc
+
+pub sees_verbatim : Sees e.verbatim h.from_verbatim
+sees_verbatim = record { there = λ x. refl; back = back }
+  where
+    back : (y : Leaf) (x : List Tok) → h.from_verbatim y ≡ Some x → e.verbatim x ≡ y
+    back (e.verbatim ts) x g = ap e.verbatim (sym (some_is g))
+    back _ x g = absurd cc
+
+pub sees_head : Sees h.to_head h.from_head
+sees_head = record { there = λ x. refl; back = back }
+  where
+    back : (y : ClosureHead) (x : Option LifetimesTree × (Bool × (Bool × (Bool × (h.Inputs × ReturnTree))))) → h.from_head y ≡ Some x → h.to_head x ≡ y
+    back (z) x g = ap h.to_head (sym (some_is g))
+
+pub only_deref : Only (e.unary un.Deref) h.is_deref
+only_deref = record { itself = refl; only = only }
+  where
+    only : (y : Lead) → h.is_deref y ≡ true → (e.unary un.Deref) ≡ y
+    only (e.unary un.Deref) g = refl
+    only _ g = absurd cc
+
+pub only_not : Only (e.unary un.Not) h.is_not
+only_not = record { itself = refl; only = only }
+  where
+    only : (y : Lead) → h.is_not y ≡ true → (e.unary un.Not) ≡ y
+    only (e.unary un.Not) g = refl
+    only _ g = absurd cc
+
+pub only_neg : Only (e.unary un.Neg) h.is_neg
+only_neg = record { itself = refl; only = only }
+  where
+    only : (y : Lead) → h.is_neg y ≡ true → (e.unary un.Neg) ≡ y
+    only (e.unary un.Neg) g = refl
+    only _ g = absurd cc
+
+pub sees_reference : Sees e.reference h.from_reference
+sees_reference = record { there = λ x. refl; back = back }
+  where
+    back : (y : Lead) (x : Bool) → h.from_reference y ≡ Some x → e.reference x ≡ y
+    back (e.reference m) x g = ap e.reference (sym (some_is g))
+    back _ x g = absurd cc
+
+pub sees_raw_addr : Sees e.raw_addr h.from_raw_addr
+sees_raw_addr = record { there = λ x. refl; back = back }
+  where
+    back : (y : Lead) (x : Bool) → h.from_raw_addr y ≡ Some x → e.raw_addr x ≡ y
+    back (e.raw_addr m) x g = ap e.raw_addr (sym (some_is g))
+    back _ x g = absurd cc
+
+pub sees_range_to : Sees e.range_to h.from_range_to
+sees_range_to = record { there = λ x. refl; back = back }
+  where
+    back : (y : Lead) (x : Limits) → h.from_range_to y ≡ Some x → e.range_to x ≡ y
+    back (e.range_to op) x g = ap e.range_to (sym (some_is g))
+    back _ x g = absurd cc
+
+pub sees_binding : Sees e.binding h.from_binding
+sees_binding = record { there = λ x. refl; back = back }
+  where
+    back : (y : Lead) (x : PatTree) → h.from_binding y ≡ Some x → e.binding x ≡ y
+    back (e.binding p) x g = ap e.binding (sym (some_is g))
+    back _ x g = absurd cc
+
+pub sees_jump : Sees e.jump h.from_jump
+sees_jump = record { there = λ x. refl; back = back }
+  where
+    back : (y : Lead) (x : Jump) → h.from_jump y ≡ Some x → e.jump x ≡ y
+    back (e.jump j) x g = ap e.jump (sym (some_is g))
+    back _ x g = absurd cc
+
+pub sees_closure : Sees e.closure h.from_closure
+sees_closure = record { there = λ x. refl; back = back }
+  where
+    back : (y : Lead) (x : ClosureHead) → h.from_closure y ≡ Some x → e.closure x ≡ y
+    back (e.closure c) x g = ap e.closure (sym (some_is g))
+    back _ x g = absurd cc
+
+pub only_await : Only e.await h.is_await
+only_await = record { itself = refl; only = only }
+  where
+    only : (y : Trailer) → h.is_await y ≡ true → e.await ≡ y
+    only e.await g = refl
+    only _ g = absurd cc
+
+pub sees_method : Sees h.to_method h.from_method
+sees_method = record { there = λ x. refl; back = back }
+  where
+    back : (y : Trailer) (x : Text × ArgumentsTree) → h.from_method y ≡ Some x → h.to_method x ≡ y
+    back (e.method w a) x g = ap h.to_method (sym (some_is g))
+    back _ x g = absurd cc
+
+pub sees_field : Sees e.field h.from_field
+sees_field = record { there = λ x. refl; back = back }
+  where
+    back : (y : Trailer) (x : MemberTree) → h.from_field y ≡ Some x → e.field x ≡ y
+    back (e.field m) x g = ap e.field (sym (some_is g))
+    back _ x g = absurd cc
+
+pub only_element : Only e.element s.is_element
+only_element = record { itself = refl; only = only }
+  where
+    only : (y : Piece) → s.is_element y ≡ true → e.element ≡ y
+    only e.element g = refl
+    only _ g = absurd cc
+
+pub only_value : Only e.value s.is_value
+only_value = record { itself = refl; only = only }
+  where
+    only : (y : Piece) → s.is_value y ≡ true → e.value ≡ y
+    only e.value g = refl
+    only _ g = absurd cc
+
+pub only_repeated : Only e.repeated s.is_repeated
+only_repeated = record { itself = refl; only = only }
+  where
+    only : (y : Piece) → s.is_repeated y ≡ true → e.repeated ≡ y
+    only e.repeated g = refl
+    only _ g = absurd cc
+
+pub only_condition : Only e.condition s.is_condition
+only_condition = record { itself = refl; only = only }
+  where
+    only : (y : Piece) → s.is_condition y ≡ true → e.condition ≡ y
+    only e.condition g = refl
+    only _ g = absurd cc
+
+pub only_loop_head : Only e.loop_head s.is_loop_head
+only_loop_head = record { itself = refl; only = only }
+  where
+    only : (y : Piece) → s.is_loop_head y ≡ true → e.loop_head ≡ y
+    only e.loop_head g = refl
+    only _ g = absurd cc
+
+pub only_scrutinee : Only e.scrutinee s.is_scrutinee
+only_scrutinee = record { itself = refl; only = only }
+  where
+    only : (y : Piece) → s.is_scrutinee y ≡ true → e.scrutinee ≡ y
+    only e.scrutinee g = refl
+    only _ g = absurd cc
+
+pub only_chained : Only e.chained s.is_chained
+only_chained = record { itself = refl; only = only }
+  where
+    only : (y : Piece) → s.is_chained y ≡ true → e.chained ≡ y
+    only e.chained g = refl
+    only _ g = absurd cc
+
+pub only_guarded : Only e.guarded s.is_guarded
+only_guarded = record { itself = refl; only = only }
+  where
+    only : (y : Piece) → s.is_guarded y ≡ true → e.guarded ≡ y
+    only e.guarded g = refl
+    only _ g = absurd cc
+
+pub only_output_block : Only e.output_block s.is_output_block
+only_output_block = record { itself = refl; only = only }
+  where
+    only : (y : Piece) → s.is_output_block y ≡ true → e.output_block ≡ y
+    only e.output_block g = refl
+    only _ g = absurd cc
+
+pub only_rest : Only (e.rest true) s.is_rest
+only_rest = record { itself = refl; only = only }
+  where
+    only : (y : Piece) → s.is_rest y ≡ true → (e.rest true) ≡ y
+    only (e.rest true) g = refl
+    only _ g = absurd cc
+
+pub sees_field_value : Sees s.to_field s.from_field
+sees_field_value = record { there = λ x. refl; back = back }
+  where
+    back : (y : Piece) (x : List AttributeTree × (MemberTree × Bool)) → s.from_field y ≡ Some x → s.to_field x ≡ y
+    back (e.field_value ats m c) x g = ap s.to_field (sym (some_is g))
+    back _ x g = absurd cc
+
+pub sees_arm : Sees s.to_arm s.from_arm
+sees_arm = record { there = there; back = back }
+  where
+    there : (x : List AttributeTree × (PatTree × Bool)) → s.from_arm (s.to_arm x) ≡ Some x
+    there (ats, (p, true)) = refl
+    there (ats, (p, false)) = refl
+
+    back : (y : Piece) (x : List AttributeTree × (PatTree × Bool)) → s.from_arm y ≡ Some x → s.to_arm x ≡ y
+    back (e.guard ats p) x g = ap s.to_arm (sym (some_is g))
+    back (e.arm ats p) x g = ap s.to_arm (sym (some_is g))
+    back _ x g = absurd cc
+
+pub ruleset head_views = (only_returning, only_yielding, sees_breaking, only_half_open, only_closed, sees_body, sees_lit, only_infer, sees_full_range, sees_bare_jump, sees_continuing, sees_block, sees_loop, sees_unsafe, sees_const, sees_async, sees_try, sees_verbatim, sees_head, only_deref, only_not, only_neg, sees_reference, sees_raw_addr, sees_range_to, sees_binding, sees_jump, sees_closure, only_await, sees_method, sees_field, only_element, only_value, only_repeated, only_condition, only_loop_head, only_scrutinee, only_chained, only_guarded, only_output_block, only_rest, sees_field_value, sees_arm)
+
+-- ---- jumps, ranges, blocks
+
+pub qpath_whole : {k : ℕ} → Alike k (qpath type style.Expr) (qpath type style.Expr)
+qpath_whole {k} = weaker (qpath_alike {k = k} types_alike style.Expr)
+
+pub output_whole : {k : ℕ} → Alike k (output type true) (output type true)
+output_whole {k} = weaker (output_alike {k = k} types_alike true)
+
+pub arguments_whole : {k : ℕ} → Alike k (arguments type style.Expr) (arguments type style.Expr)
+arguments_whole {k} = weaker (arguments_alike {k = k} types_alike style.Expr)
+
+pub label_alike : {k : ℕ} → Alike k h.label h.label
+label_alike = search (forms, head_marks) depth 12
+
+pub jump_head_alike : {k : ℕ} → Alike k h.jump_head h.jump_head
+unfolding h.jump_head
+jump_head_alike = search (forms, head_marks, head_views) depth 12
+
+pub range_op_alike : {k : ℕ} → Alike k h.range_op h.range_op
+unfolding h.range_op
+range_op_alike = search (forms, head_marks, head_views) depth 12
+
+pub all_left_alike : {k : ℕ} → Alike k h.all_left h.all_left
+unfolding h.all_left weight
+all_left_alike = leaf_alike compares_toks (record { falls = λ l x n g. falls_by [] n l (ap (λ z. z.1) (some_is g)) (omega arith) })
+
+pub body_inside_alike : {k : ℕ} → Alike k h.body_inside h.body_inside
+unfolding h.body_inside
+body_inside_alike = shown_alike sees_body (both_alike inner_attributes_alike all_left_alike)
+
+pub body_alike : {k : ℕ} → Alike k h.body h.body
+unfolding h.body
+body_alike = inside_at_alike del.Brace body_inside_alike
+
+-- ---- special syntax, paths and macros
+
+pub kept_some : (b : Bool) (ts l x n : List Tok) → h.kept_if b ts l ≡ Some (x, n) → l ≡ n
+kept_some true ts l x n g = ap (λ z. z.1) (some_is g)
+kept_some false ts l x n g = absurd cc
+
+four_less : (a b c d : Tok) (l : List Tok) → weight l ≤ weight (a ∷ b ∷ c ∷ d ∷ l)
+unfolding weight
+four_less a b c d l = omega arith
+
+finds_builtin : Finds h.find_builtin
+finds_builtin = record { falls = falls }
+  where
+    falls : (l x n : List Tok) → h.find_builtin l ≡ Some (x, n) → weight n ≤ weight l
+    falls (ident b ∷ punct c q ∷ ident w ∷ group del.Parenthesis i ∷ l) x n g =
+        falls_by l n (ident b ∷ punct c q ∷ ident w ∷ group del.Parenthesis i ∷ l) (kept_some (bytes_eq b (codes "builtin") && (c == 35 && not (is_reserved_word w))) (ident b ∷ punct c q ∷ ident w ∷ group del.Parenthesis i ∷ []) l x n g) (four_less (ident b) (punct c q) (ident w) (group del.Parenthesis i) l)
+    falls _ x n g = absurd cc
+
+pub builtin_alike : {k : ℕ} → Alike k h.builtin h.builtin
+unfolding h.builtin
+builtin_alike = leaf_alike compares_toks finds_builtin
+
+named_back : (y : Leaf) (x : QPathTree × MacroEnd) → h.from_named y ≡ Some x → h.to_named x ≡ y
+named_back (e.path q p) x g = ap h.to_named (sym (some_is g))
+named_back (e.mac m) x g = ap h.to_named (sym (some_is g))
+named_back _ x g = absurd cc
+
+-- no macro stands behind a qualified path
+macro_there : (q : QSelfTree) (p : PathTree) (g : Delimiter × List Tok) (m n : List Tok) → (macro_end (q, p)).behind (Some g) m ≡ Some n
+    → h.from_named (h.to_named ((q, p), Some g)) ≡ Some ((q, p), Some g)
+unfolding macro_end
+macro_there t.no_qself p g m n b = refl
+macro_there (t.qself u i a) p g m n b = let d : None ≡ Some n = b in absurd cc
+
+pub named_alike : {k : ℕ} → Alike k h.named h.named
+unfolding h.named
+named_alike = shown_where_alike there named_back (then_by_alike qpath_whole (λ q. macro_end_alike q))
+  where
+    there : (l : List Tok) (x : QPathTree × MacroEnd) (n : List Tok) → (then_by (qpath type style.Expr) macro_end).behind x l ≡ Some n → h.from_named (h.to_named x) ≡ Some x
+    there l ((q, p), None) n g = refl
+    there l ((q, p), Some d) n g =
+        let (m, i, j) = behind_some ((qpath type style.Expr).behind (q, p) l) ((macro_end (q, p)).behind (Some d)) n g in
+        macro_there q p d m n j
+
+-- ---- leaves, what stands before an operand, and behind a dot
+
+pub leaf_form_alike : {k : ℕ} → Alike k h.leaf_form h.leaf_form
+unfolding h.leaf_form
+leaf_form_alike {k} = search (label_alike, jump_head_alike, range_op_alike, body_alike, builtin_alike, named_alike, block_alike, forms, head_marks, head_views) depth 40
+
+pub closure_inputs_alike : {k : ℕ} → Alike k h.closure_inputs h.closure_inputs
+unfolding h.closure_inputs
+closure_inputs_alike = mark_at_alike bar_present (closed_by_alike bar_present (listed_alike h.bar.at comma_present closure_arg_alike))
+
+pub closure_head_alike : {k : ℕ} → Alike k h.closure_head h.closure_head
+unfolding h.closure_head
+closure_head_alike = search (closure_inputs_alike, lifetimes_alike, output_whole, forms, head_marks, head_views) depth 16
+
+pub lead_form_alike : {k : ℕ} → Alike k h.lead_form h.lead_form
+unfolding h.lead_form
+lead_form_alike {k} = search (jump_head_alike, range_op_alike, mutability_alike, pattern_alike, closure_head_alike, forms, head_marks, head_views) depth 40
+
+pub dotted_alike : {k : ℕ} → Alike k h.dotted h.dotted
+unfolding h.dotted
+dotted_alike = search (member_alike, arguments_whole, forms, head_marks, head_views) depth 16
+
+pub for_head_alike : {k : ℕ} → Alike k s.for_head s.for_head
+for_head_alike = search (pattern_alike, forms, head_marks) depth 12
+
+-- ---- what stands before an operand in a place of its own
+
+pub field_colon_alike : {k : ℕ} (m : MemberTree) → Alike k (s.field_colon m) (s.field_colon m)
+field_colon_alike (a_name w) = flag_at_alike colon_present
+field_colon_alike (an_index n) = mark_at_alike colon_present (pure_alike only_true)
+
+pub piece_form_alike : {k : ℕ} (p : Slot) → Alike k (s.piece_form p) (s.piece_form p)
+unfolding s.piece_form
+piece_form_alike s.elements = pure_alike only_element
+piece_form_alike s.single = pure_alike only_value
+piece_form_alike s.counted = pure_alike only_repeated
+piece_form_alike s.fields = when_alike _ (mark_at_alike dots_present (pure_alike only_rest)) (shown_alike sees_field_value (both_alike outer_attributes_alike (then_by_alike member_alike field_colon_alike)))
+piece_form_alike s.conditions = pure_alike only_condition
+piece_form_alike s.otherwise = mark_at_alike (word_present _) (pure_alike only_chained)
+piece_form_alike s.loops = pure_alike only_loop_head
+piece_form_alike s.scrutinees = pure_alike only_scrutinee
+piece_form_alike s.arms = search (outer_attributes_alike, pattern_alike, forms, head_marks, head_views) depth 16
+piece_form_alike s.bodies = mark_at_alike fat_arrow_present (pure_alike only_guarded)
+piece_form_alike s.outputs = pure_alike only_output_block
+piece_form_alike {k} s.done = never_alike k

@@ -1,0 +1,304 @@
+-- The first tokens of paths, of loops and of frames that a word begins, and the tests that they pass.
+use Rattle.std.specs.Prelude.{not, ◌||◌, ◌&&◌, ◌==◌, if◌then◌else◌}
+use Rattle.std.proofs.Common.{◌≡◌, ℕ, Bool, true, false, cond, ⊎_elim, List, [], ◌∷◌, drop, codes, Option, Some, None, refl, ap, sym, ◌∙◌, subst}
+use Rattle.std.proofs.Common.{arith}
+use Rattle.std.proofs.lemmas.Bool.Decides.{nat_tests}
+use Rattle.std.specs.Str.{bytes_eq}
+use Rattle.syn_lexer.specs.Keywords.{is_reserved_word}
+use Rattle.syn_lexer.specs.declared.lexeme.Delimiter.TheVariants as del
+use Rattle.syn_lexer.specs.declared.lexeme.Spacing.{Spacing}
+use Rattle.syn_lexer.specs.declared.lexeme.Spacing.TheVariants as spacing
+use Rattle.syn_tokens.specs.Tok.{Tok, Inside, ident, punct, literal, group, weight}
+use Rattle.syn_tokens.specs.Front.{group_at}
+use Rattle.syn_parts.specs.Text.{Text, is_segment, stands_alone, is_truth}
+use Rattle.syn_parts.specs.declared.label.PathStyle.TheVariants as style
+use Rattle.syn_parts.specs.Tree as t
+use Rattle.syn_parts.specs.Tree.{PathTree, SegmentTree, QSelfTree}
+use Rattle.syn_parts.specs.Form.{Form, Outcome, Mark, then_behind, flag, maybe, is_none, if_same, joined, more, fix, iterate, split_first}
+use Rattle.syn_parts.specs.Mark.{sign_at, word_at, lifetime_at, brace_at, round_at, star, bang, and, less, colon2, constant, colon, pound}
+use Rattle.syn_parts.specs.Part.{QPathTree, qpath, path, pieces, segment, segment_name, find_segment, type, lifetimes_at, lifetime, from_bare, from_path, from_segment, arguments, turbofish_at, no_arguments}
+use Rattle.syn_parts.proofs.Ends.{sign_first}
+use Rattle.syn_parts.proofs.Fronts.{word_not, no_truth, not_for, not_underscore}
+use Rattle.syn_grammar.specs.Front.{bracket_at}
+use Rattle.syn_grammar.specs.Head as h
+use Rattle.syn_grammar.specs.Head.{closure_at, range_at, jump_at, literal_at, loop_at, loop_word, block_at, const_block_at, async_block_at, try_block_at, builtin_at, label, past_label}
+use Rattle.syn_grammar.specs.Slot.{if_word, match_word, while_word, for_word}
+use Rattle.syn_grammar.specs.Read.{leaf_at, lead_at, loop_head_at, become_word}
+use Rattle.syn_grammar.proofs.Chains.{some_is, behind_some, only_some, chosen, both_true, one_true, not_true}
+use Rattle.syn_grammar.proofs.Fronts.{word_is, no_lifetime, sign_no_leaf, flag_is}
+
+-- ---- words that no path begins with
+
+not_let : is_segment (codes "let") ≡ false
+unfolding is_segment stands_alone is_reserved_word
+not_let = refl
+
+not_return : is_segment (codes "return") ≡ false
+unfolding is_segment stands_alone is_reserved_word
+not_return = refl
+
+not_yield : is_segment (codes "yield") ≡ false
+unfolding is_segment stands_alone is_reserved_word
+not_yield = refl
+
+not_break : is_segment (codes "break") ≡ false
+unfolding is_segment stands_alone is_reserved_word
+not_break = refl
+
+not_move : is_segment (codes "move") ≡ false
+unfolding is_segment stands_alone is_reserved_word
+not_move = refl
+
+not_const : is_segment (codes "const") ≡ false
+unfolding is_segment stands_alone is_reserved_word
+not_const = refl
+
+not_async : is_segment (codes "async") ≡ false
+unfolding is_segment stands_alone is_reserved_word
+not_async = refl
+
+not_become : is_segment (codes "become") ≡ false
+unfolding is_segment stands_alone is_reserved_word
+not_become = refl
+
+not_if : is_segment (codes "if") ≡ false
+unfolding is_segment stands_alone is_reserved_word
+not_if = refl
+
+not_while : is_segment (codes "while") ≡ false
+unfolding is_segment stands_alone is_reserved_word
+not_while = refl
+
+not_match : is_segment (codes "match") ≡ false
+unfolding is_segment stands_alone is_reserved_word
+not_match = refl
+
+not_unsafe : is_segment (codes "unsafe") ≡ false
+unfolding is_segment stands_alone is_reserved_word
+not_unsafe = refl
+
+not_continue : is_segment (codes "continue") ≡ false
+unfolding is_segment stands_alone is_reserved_word
+not_continue = refl
+
+not_loop : is_segment (codes "loop") ≡ false
+unfolding is_segment stands_alone is_reserved_word
+not_loop = refl
+
+-- a path stands first, and nothing else
+pub record Named (l : List Tok) : Type 0 where
+  pub no_lead : lead_at l ≡ false
+  pub no_round : round_at l ≡ false
+  pub no_bracket : bracket_at l ≡ false
+  pub no_become : become_word.at l ≡ false
+  pub no_if : if_word.at l ≡ false
+  pub no_loop : loop_head_at l ≡ false
+  pub no_match : match_word.at l ≡ false
+  -- but two leaves may
+  pub no_leaf : try_block_at l ≡ false → builtin_at l ≡ false → leaf_at l ≡ false
+
+named_word : (w : Text) (m : List Tok) → is_segment w ≡ true → Named (ident w ∷ m)
+unfolding lead_at range_at jump_at closure_at sign_at word_at lifetimes_at loop_head_at lifetime_at round_at bracket_at group_at leaf_at literal_at loop_at block_at const_block_at async_block_at brace_at
+named_word w m g = record {
+  no_lead = rw (
+    word_not w (codes "let") g not_let,
+    word_not w (codes "return") g not_return,
+    word_not w (codes "yield") g not_yield,
+    word_not w (codes "break") g not_break,
+    word_not w (codes "move") g not_move,
+    word_not w (codes "for") g not_for,
+    word_not w (codes "const") g not_const,
+    word_not w (codes "async") g not_async,
+  ) refl;
+  no_round = refl;
+  no_bracket = refl;
+  no_become = rw (word_not w (codes "become") g not_become) refl;
+  no_if = rw (word_not w (codes "if") g not_if) refl;
+  no_loop = rw (word_not w (codes "while") g not_while, word_not w (codes "for") g not_for) refl;
+  no_match = rw (word_not w (codes "match") g not_match) refl;
+  no_leaf = λ a b. rw (
+    no_truth w g,
+    word_not w (codes "_") g not_underscore,
+    word_not w (codes "continue") g not_continue,
+    word_not w (codes "loop") g not_loop,
+    word_not w (codes "unsafe") g not_unsafe,
+    word_not w (codes "const") g not_const,
+    word_not w (codes "async") g not_async,
+    a,
+    b,
+  ) refl;
+}
+
+named_colons : (s : Spacing) (m : List Tok) → Named (punct 58 s ∷ m)
+unfolding lead_at range_at jump_at closure_at sign_at word_at lifetimes_at loop_head_at round_at bracket_at group_at
+named_colons spacing.Alone m = record { no_lead = refl; no_round = refl; no_bracket = refl; no_become = refl; no_if = refl; no_loop = rw (no_lifetime 58 spacing.Alone m refl) refl; no_match = refl; no_leaf = λ a b. sign_no_leaf 58 _ m refl }
+named_colons spacing.Joint m = record { no_lead = refl; no_round = refl; no_bracket = refl; no_become = refl; no_if = refl; no_loop = rw (no_lifetime 58 spacing.Joint m refl) refl; no_match = refl; no_leaf = λ a b. sign_no_leaf 58 _ m refl }
+
+named_less : (s : Spacing) (m : List Tok) → Named (punct 60 s ∷ m)
+unfolding lead_at range_at jump_at closure_at sign_at word_at lifetimes_at loop_head_at round_at bracket_at group_at
+named_less spacing.Alone m = record { no_lead = refl; no_round = refl; no_bracket = refl; no_become = refl; no_if = refl; no_loop = rw (no_lifetime 60 spacing.Alone m refl) refl; no_match = refl; no_leaf = λ a b. sign_no_leaf 60 _ m refl }
+named_less spacing.Joint m = record { no_lead = refl; no_round = refl; no_bracket = refl; no_become = refl; no_if = refl; no_loop = rw (no_lifetime 60 spacing.Joint m refl) refl; no_match = refl; no_leaf = λ a b. sign_no_leaf 60 _ m refl }
+
+segment_front : (s : SegmentTree) (l n : List Tok) → (segment type style.Expr).behind s l ≡ Some n → Named l
+unfolding segment segment_name
+segment_front s l n g = let (a, b, c) = behind_some (if_same bytes_eq s.ident (find_segment l)) _ n g in by_front l a b
+  where
+    by_front : (l a : List Tok) → if_same bytes_eq s.ident (find_segment l) ≡ Some a → Named l
+    by_front (ident w ∷ m) a i = by_test (is_segment w) refl i
+      where
+        by_test : (b : Bool) → is_segment w ≡ b → if_same bytes_eq s.ident (if b then Some (w, m) else None) ≡ Some a → Named (ident w ∷ m)
+        by_test true v j = named_word w m v
+        by_test false v j = absurd cc
+    by_front _ a i = absurd cc
+
+joined_front : (ss : List SegmentTree) (l n : List Tok) → (joined colon2 (segment type style.Expr)).behind ss l ≡ Some n → Named l
+joined_front [] l n g = absurd cc
+joined_front (s ∷ ss) l n g = let (a, b, c) = behind_some ((segment type style.Expr).behind s l) _ n g in segment_front s l a b
+
+path_front : (p : PathTree) (l n : List Tok) → (path type style.Expr).behind p l ≡ Some n → Named l
+unfolding path pieces
+path_front p l n g =
+    let (x, a, b) = behind_some (from_path p) _ n g in
+    let (m, c, d) = behind_some ((flag colon2).behind x.0 l) _ n b in
+    let (f, i) = flag_is colon2 x.0 l m c in by_colons x.0 x.1 m f i d
+  where
+    by_colons : (b : Bool) (ss : List SegmentTree) (m : List Tok) → colon2.at l ≡ b → m ≡ (if b then drop 2 l else l) → (joined colon2 (segment type style.Expr)).behind ss m ≡ Some n → Named l
+    by_colons true ss m f i d = sign_first 58 (58 ∷ []) (λ z. Named z) named_colons l f
+    by_colons false ss m f i d = subst (λ z. Named z) i (joined_front ss m n d)
+
+pub qpath_front : (q : QPathTree) (l n : List Tok) → (qpath type style.Expr).behind q l ≡ Some n → Named l
+unfolding qpath
+qpath_front q l n g = ⊎_elim (λ a. sign_first 60 [] (λ z. Named z) named_less l a.0)
+    (λ a. let (p, b, c) = behind_some (from_bare q) (λ p. (path type style.Expr).behind p l) n a.1 in path_front p l n c)
+    (chosen (less.at l) _ _ (Some n) g)
+
+-- ---- the path that is a word alone
+
+unfoldable pub one_word : Text → QPathTree
+one_word w = (t.no_qself, record { leading = false; segments = record { ident = w; arguments = t.no_arguments } ∷ []; trailing = false })
+
+pub word_read : (w : Text) (x : Tok) (m : List Tok) → is_segment w ≡ true → colon2.at (x ∷ m) ≡ false → (qpath type style.Expr).reads (ident w ∷ x ∷ m) ≡ Some (one_word w, x ∷ m)
+unfolding qpath path pieces segment segment_name arguments turbofish_at no_arguments more fix iterate one_word sign_at
+word_read w x m g c = by_test (stands_alone w) refl
+  where
+    by_test : (b : Bool) → stands_alone w ≡ b → (qpath type style.Expr).reads (ident w ∷ x ∷ m) ≡ Some (one_word w, x ∷ m)
+    by_test true v = rw (g, v, c) refl
+    by_test false v = rw (g, v, c, c) refl
+
+-- ---- labels
+
+pub label_past : (w : Option Text) (l m : List Tok) → label.behind w l ≡ Some m → past_label l ≡ m
+unfolding lifetime lifetime_at
+label_past None (punct c spacing.Joint ∷ ident s ∷ l) m g =
+    ⊎_elim (λ k. absurd cc) (λ k. rw k.0 (some_is k.1)) (chosen (c == 39) _ (Some (punct c spacing.Joint ∷ ident s ∷ l)) (Some m) g)
+label_past (Some x) (punct c spacing.Joint ∷ ident s ∷ l) m g =
+    ⊎_elim (λ k.
+    let (a, b, d) = behind_some (if c == 39 then if_same bytes_eq x (Some (s, l)) else None) _ m k.1 in
+    let (i, j) = only_some (c == 39) (if_same bytes_eq x (Some (s, l))) a b in
+    let (u, v) = only_some (bytes_eq x s) (Some l) a j in
+    let (y, z) = only_some (colon.at a) (Some (drop 1 a)) m d in
+    rw k.0 (ap (λ y. drop 1 y) (some_is v) ∙ some_is z)) (λ k. absurd cc) (chosen (c == 39) _ None (Some m) g)
+label_past w l m g = let (a, b) = only_some (is_none w) (Some l) m g in some_is b
+
+-- ---- loops
+
+pub record LoopFront (l : List Tok) : Type 0 where
+  pub no_leaf : leaf_at l ≡ false
+  pub no_lead : lead_at l ≡ false
+  pub no_round : round_at l ≡ false
+  pub no_bracket : bracket_at l ≡ false
+  pub no_become : become_word.at l ≡ false
+  pub no_if : if_word.at l ≡ false
+  pub loops : loop_head_at l ≡ true
+
+while_front : (l : List Tok) → LoopFront (ident (codes "while") ∷ l)
+unfolding lead_at range_at jump_at closure_at sign_at word_at lifetimes_at loop_head_at lifetime_at round_at bracket_at group_at leaf_at literal_at is_truth loop_at block_at const_block_at async_block_at try_block_at builtin_at brace_at
+while_front l = record { no_leaf = refl; no_lead = refl; no_round = refl; no_bracket = refl; no_become = refl; no_if = refl; loops = refl }
+
+for_front : (l : List Tok) → lifetimes_at (ident (codes "for") ∷ l) ≡ false → LoopFront (ident (codes "for") ∷ l)
+unfolding lead_at range_at jump_at closure_at sign_at word_at loop_head_at lifetime_at round_at bracket_at group_at leaf_at literal_at is_truth loop_at block_at const_block_at async_block_at try_block_at builtin_at brace_at
+for_front l g = record { no_leaf = refl; no_lead = rw g refl; no_round = refl; no_bracket = refl; no_become = refl; no_if = refl; loops = rw g refl }
+
+-- a loop's word behind a label or none
+labelled_front : (l m : List Tok) → past_label l ≡ m → loop_word.at m ≡ false → brace_at m ≡ false → (lifetime_at l ≡ false → LoopFront l) → LoopFront l
+unfolding lead_at range_at jump_at closure_at sign_at word_at lifetimes_at loop_head_at lifetime_at round_at bracket_at group_at leaf_at literal_at is_truth loop_at block_at const_block_at async_block_at try_block_at builtin_at
+labelled_front (punct c spacing.Joint ∷ ident s ∷ l) m g a b f =
+    ⊎_elim (λ k. let i : 39 ≡ c = grind (arith, nat_tests, k.0) in quoted i g)
+    (λ k. f k.0) (chosen (c == 39) true false _ refl)
+  where
+    quoted : 39 ≡ c → past_label (punct c spacing.Joint ∷ ident s ∷ l) ≡ m → LoopFront (punct c spacing.Joint ∷ ident s ∷ l)
+    quoted i = subst (λ z. past_label (punct z spacing.Joint ∷ ident s ∷ l) ≡ m → LoopFront (punct z spacing.Joint ∷ ident s ∷ l)) i
+        (λ g. record { no_leaf = rw (g, a, b) refl; no_lead = refl; no_round = refl; no_bracket = refl; no_become = refl; no_if = refl; loops = refl })
+labelled_front l m g a b f = f refl
+
+past_none : (l : List Tok) → lifetime_at l ≡ false → past_label l ≡ l
+past_none l g = rw g refl
+
+pub while_loop_front : (w : Option Text) (l m : List Tok) → label.behind w l ≡ Some m → while_word.at m ≡ true → LoopFront l
+unfolding brace_at group_at word_at
+while_loop_front w l m g v =
+    let a = label_past w l m g in
+    let i = word_is _ m v in
+    labelled_front l m a (rw i refl) (rw i refl) (λ b. let j : l ≡ m = sym (past_none l b) ∙ a in subst (λ z. LoopFront z) (sym (j ∙ i)) (while_front (drop 1 m)))
+
+pub for_loop_front : (w : Option Text) (l m : List Tok) → label.behind w l ≡ Some m → for_word.at m ≡ true → LoopFront l
+unfolding brace_at group_at word_at
+for_loop_front w l m g v =
+    let a = label_past w l m g in
+    let (f, n) = both_true (word_at (codes "for") m) _ v in
+    let i = word_is _ m f in
+    labelled_front l m a (rw i refl) (rw i refl) (λ b. let j : l ≡ m = sym (past_none l b) ∙ a in
+    subst (λ z. LoopFront z) (sym (j ∙ i)) (for_front (drop 1 m) (subst (λ z. lifetimes_at z ≡ false) i (not_true (lifetimes_at m) n))))
+
+-- ---- words
+
+pub record WordFront (l : List Tok) : Type 0 where
+  pub no_leaf : leaf_at l ≡ false
+  pub no_lead : lead_at l ≡ false
+  pub no_round : round_at l ≡ false
+  pub no_bracket : bracket_at l ≡ false
+
+become_first : (l : List Tok) → WordFront (ident (codes "become") ∷ l)
+unfolding lead_at range_at jump_at closure_at sign_at word_at lifetimes_at loop_head_at lifetime_at round_at bracket_at group_at leaf_at literal_at is_truth loop_at block_at const_block_at async_block_at try_block_at builtin_at brace_at
+become_first l = record { no_leaf = refl; no_lead = refl; no_round = refl; no_bracket = refl }
+
+pub become_front : (l : List Tok) → become_word.at l ≡ true → WordFront l
+become_front l g = subst (λ z. WordFront z) (sym (word_is _ l g)) (become_first (drop 1 l))
+
+pub record IfFront (l : List Tok) : Type 0 where
+  pub front : WordFront l
+  pub no_become : become_word.at l ≡ false
+
+if_first : (l : List Tok) → IfFront (ident (codes "if") ∷ l)
+unfolding lead_at range_at jump_at closure_at sign_at word_at lifetimes_at loop_head_at lifetime_at round_at bracket_at group_at leaf_at literal_at is_truth loop_at block_at const_block_at async_block_at try_block_at builtin_at brace_at
+if_first l = record { front = record { no_leaf = refl; no_lead = refl; no_round = refl; no_bracket = refl }; no_become = refl }
+
+pub if_front : (l : List Tok) → if_word.at l ≡ true → IfFront l
+if_front l g = subst (λ z. IfFront z) (sym (word_is _ l g)) (if_first (drop 1 l))
+
+pub record MatchFront (l : List Tok) : Type 0 where
+  pub front : WordFront l
+  pub no_become : become_word.at l ≡ false
+  pub no_if : if_word.at l ≡ false
+  pub no_loop : loop_head_at l ≡ false
+
+match_first : (l : List Tok) → MatchFront (ident (codes "match") ∷ l)
+unfolding lead_at range_at jump_at closure_at sign_at word_at lifetimes_at loop_head_at lifetime_at round_at bracket_at group_at leaf_at literal_at is_truth loop_at block_at const_block_at async_block_at try_block_at builtin_at brace_at
+match_first l = record { front = record { no_leaf = refl; no_lead = refl; no_round = refl; no_bracket = refl }; no_become = refl; no_if = refl; no_loop = refl }
+
+pub match_front : (l : List Tok) → match_word.at l ≡ true → MatchFront l
+match_front l g = subst (λ z. MatchFront z) (sym (word_is _ l g)) (match_first (drop 1 l))
+
+-- ---- groups
+
+pub record GroupFront (l : List Tok) : Type 0 where
+  pub no_leaf : leaf_at l ≡ false
+  pub no_lead : lead_at l ≡ false
+
+pub round_front : (i : Inside) (l : List Tok) → GroupFront (group del.Parenthesis i ∷ l)
+unfolding lead_at range_at jump_at closure_at sign_at word_at lifetimes_at lifetime_at group_at leaf_at literal_at loop_at block_at const_block_at async_block_at try_block_at builtin_at brace_at
+round_front i l = record { no_leaf = refl; no_lead = refl }
+
+pub bracket_front : (i : Inside) (l : List Tok) → GroupFront (group del.Bracket i ∷ l)
+unfolding lead_at range_at jump_at closure_at sign_at word_at lifetimes_at lifetime_at group_at leaf_at literal_at loop_at block_at const_block_at async_block_at try_block_at builtin_at brace_at
+bracket_front i l = record { no_leaf = refl; no_lead = refl }

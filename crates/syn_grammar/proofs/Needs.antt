@@ -1,0 +1,47 @@
+-- The forms that the reading of expressions follows.
+use Rattle.std.proofs.Common.{ℕ, false, arith}
+use Rattle.syn_parts.specs.declared.label.PathStyle.TheVariants as style
+use Rattle.syn_parts.specs.Part.{outer_attributes, inner_attributes, qpath, macro_end, type, QPathTree}
+use Rattle.syn_grammar.specs.Head.{leaf_form, lead_form, closure_head, dotted, label}
+use Rattle.syn_grammar.specs.Slot.{Slot, piece_form, for_head}
+use Rattle.syn_parts.specs.Form.{Form}
+use Rattle.syn_parts.specs.Laws.{IsReadable}
+use Rattle.syn_grammar.proofs.Heads.{heads_readable}
+use Rattle.syn_grammar.proofs.Chains.{Reads}
+
+pub record Heads : Type 0 where
+  pub leaves : Reads leaf_form
+  pub leads : Reads lead_form
+  pub outers : Reads outer_attributes
+  pub inners : Reads inner_attributes
+  pub qpaths : Reads (qpath type style.Expr)
+  pub macro_ends : (q : QPathTree) → Reads (macro_end q)
+  pub types : Reads (type false)
+  pub closures : Reads closure_head
+  pub dots : Reads dotted
+  pub labels : Reads label
+  pub fors : Reads for_head
+  pub pieces : (s : Slot) → Reads (piece_form s)
+
+reads : {A : Type 0} {k : ℕ} {f : Form A} → IsReadable k f → Reads f
+reads r = record {
+  sound = λ l x n h. r.stands l n x h;
+  found = λ l x n h. r.found l n x h;
+  falls = λ l x n h. omega (arith, r.moves l n x (r.found l n x h));
+}
+
+pub heads : Heads
+heads = let h = heads_readable in record {
+  leaves = reads h.leaves;
+  leads = reads h.leads;
+  outers = reads h.outer;
+  inners = reads h.inner;
+  qpaths = reads h.paths;
+  macro_ends = λ q. reads (h.macro_ends q);
+  types = reads (h.types false);
+  closures = reads h.closure_heads;
+  dots = reads h.trailers;
+  labels = reads h.labels;
+  fors = reads h.for_heads;
+  pieces = λ s. reads (h.pieces s);
+}

@@ -1,0 +1,689 @@
+-- Places and contexts; what a place asks of its occupant, from the class of what is behind.
+use Rattle.std.proofs.Common.{◌≡◌, ℕ, Bool, true, false, not, ◌&&◌, ◌||◌, List, drop, Some, None, refl, sym, ◌∙◌, ap, subst}
+use Rattle.syn_tokens.specs.Tok.{Tok}
+use Rattle.syn_parts.specs.Mark.{sign_at, word_at, round_at}
+use Rattle.syn_grammar.specs.declared.kinds.BinKind.TheVariants as bin
+use Rattle.syn_grammar.specs.declared.kinds.Limits.TheVariants as limits
+use Rattle.syn_grammar.specs.declared.kinds.Infix.{Infix}
+use Rattle.syn_grammar.specs.declared.kinds.Infix.TheVariants as inf
+use Rattle.syn_grammar.specs.declared.kinds.Level.{Level}
+use Rattle.syn_grammar.specs.declared.kinds.Level.TheVariants as lev
+use Rattle.syn_grammar.specs.declared.kinds.Place.{Place}
+use Rattle.syn_grammar.specs.declared.next.Next.{Next}
+use Rattle.syn_grammar.specs.declared.next.Next.TheVariants as next
+use Rattle.syn_grammar.specs.declared.next.Edge.{Edge}
+use Rattle.syn_grammar.specs.declared.next.Edge.TheVariants as edge
+use Rattle.syn_grammar.specs.declared.next.Context.{Context}
+use Rattle.syn_grammar.specs.Place.{plain, before_block, at_head, at, above}
+use Rattle.syn_grammar.specs.Op.{infix_at, level, is_comparison, is_range_op}
+use Rattle.syn_grammar.specs.Front.{trailer_at, bracket_at, dot_at, question_at}
+use Rattle.syn_grammar.specs.Next.{class_of, next_of, takes_next, trails, is_block_next, left_edge, dot_edge, base_edge, adorned_edge, braceless, enclosed, in_statement, in_condition, in_arm, is_half_open, is_break, left_context, base_context, right_context, adorned_context, lead_context, without_block, lead_level}
+use Rattle.syn_grammar.specs.Rule.{is_operation, prints_range, is_below, leaf_misplaced, frame_misplaced}
+use Rattle.syn_grammar.specs.Stands.{is_infix, is_range, is_cast, carries, compares, is_verbatim, is_adorned, is_branch, may_adorn, rests, goes_behind, closes, is_jump_or_let, ends, ends_operation, fits_left, is_named, is_parenthesis_or_bracket, is_base, fits_base, lead_place}
+use Rattle.syn_grammar.specs.Tree as e
+use Rattle.syn_grammar.specs.Tree.{Tree, Kids, Leaf, Lead, Frame, Trailer, Piece, Post, leaf, paren, adorned, lead, mid, post, tail, frame, none, kid, post_op, is_one, is_none, is_block_like, is_block_leaf, is_block_frame, infix_own, clear, clear_kids}
+use Rattle.syn_grammar.proofs.Bools.{or_false, neither, not_it, or_true, or_none, and_false}
+use Rattle.syn_grammar.proofs.Formed.{Formed}
+use Rattle.syn_grammar.proofs.Obeys.{Fits, FitsLeft, Obeys}
+use Rattle.syn_grammar.proofs.Shows.{Shows, is_round_next, shows_op}
+
+-- ---- the tree without marks
+
+pub range_clear : (t : Tree) → is_range (clear t) ≡ is_range t
+range_clear (leaf k) = refl
+range_clear (paren m t) = refl
+range_clear (adorned a more t) = range_clear t
+range_clear (lead k gs t) = refl
+range_clear (mid x k y) = refl
+range_clear (post x k) = refl
+range_clear (tail b k ks) = refl
+range_clear (frame k ks) = refl
+
+pub infix_clear : (t : Tree) → is_infix (clear t) ≡ is_infix t
+infix_clear (leaf k) = refl
+infix_clear (paren m t) = refl
+infix_clear (adorned a more t) = refl
+infix_clear (lead k gs t) = refl
+infix_clear (mid x k y) = refl
+infix_clear (post x k) = refl
+infix_clear (tail b k ks) = refl
+infix_clear (frame k ks) = refl
+
+pub compares_clear : (t : Tree) → compares (clear t) ≡ compares t
+compares_clear (leaf k) = refl
+compares_clear (paren m t) = refl
+compares_clear (adorned a more t) = refl
+compares_clear (lead k gs t) = refl
+compares_clear (mid x k y) = refl
+compares_clear (post x k) = refl
+compares_clear (tail b k ks) = refl
+compares_clear (frame k ks) = refl
+
+pub adorned_clear : (t : Tree) → is_adorned (clear t) ≡ is_adorned t
+adorned_clear (leaf k) = refl
+adorned_clear (paren m t) = refl
+adorned_clear (adorned a more t) = refl
+adorned_clear (lead k gs t) = refl
+adorned_clear (mid x k y) = refl
+adorned_clear (post x k) = refl
+adorned_clear (tail b k ks) = refl
+adorned_clear (frame k ks) = refl
+
+pub carries_clear : (t : Tree) → carries (clear t) ≡ carries t
+carries_clear (leaf k) = refl
+carries_clear (paren m t) = refl
+carries_clear (adorned a more t) = carries_clear t
+carries_clear (lead k gs t) = refl
+carries_clear (mid x k y) = refl
+carries_clear (post x k) = refl
+carries_clear (tail b k ks) = refl
+carries_clear (frame k ks) = refl
+
+pub cast_clear : (t : Tree) → is_cast (clear t) ≡ is_cast t
+cast_clear (leaf k) = refl
+cast_clear (paren m t) = refl
+cast_clear (adorned a more t) = refl
+cast_clear (lead k gs t) = refl
+cast_clear (mid x k y) = refl
+cast_clear (post x (e.cast ty)) = refl
+cast_clear (post x (e.range_from op)) = refl
+cast_clear (tail b k ks) = refl
+cast_clear (frame k ks) = refl
+
+pub block_clear : (t : Tree) → is_block_like (clear t) ≡ is_block_like t
+block_clear (leaf k) = refl
+block_clear (paren m t) = refl
+block_clear (adorned a more t) = block_clear t
+block_clear (lead k gs t) = refl
+block_clear (mid x k y) = refl
+block_clear (post x k) = refl
+block_clear (tail b k ks) = refl
+block_clear (frame k ks) = refl
+
+pub verbatim_clear : (t : Tree) → Formed t → is_verbatim (clear t) ≡ false
+verbatim_clear (leaf (e.lit x)) f = refl
+verbatim_clear (leaf (e.path q p)) f = refl
+verbatim_clear (leaf (e.mac m)) f = refl
+verbatim_clear (leaf e.infer) f = refl
+verbatim_clear (leaf (e.full_range op)) f = refl
+verbatim_clear (leaf (e.bare_jump j)) f = refl
+verbatim_clear (leaf (e.continuing w)) f = refl
+verbatim_clear (leaf (e.block w b)) f = refl
+verbatim_clear (leaf (e.looping w b)) f = refl
+verbatim_clear (leaf (e.unsafe_block b)) f = refl
+verbatim_clear (leaf (e.const_block b)) f = refl
+verbatim_clear (leaf (e.async_block m ts)) f = refl
+verbatim_clear (leaf (e.try_block ts)) f = refl
+verbatim_clear (leaf (e.verbatim ts)) f = absurd cc
+verbatim_clear (paren m t) f = refl
+verbatim_clear (adorned a more t) f = refl
+verbatim_clear (lead k gs t) f = refl
+verbatim_clear (mid x k y) f = refl
+verbatim_clear (post x k) f = refl
+verbatim_clear (tail b k ks) f = refl
+verbatim_clear (frame k ks) f = refl
+
+pub base_clear : (k : Trailer) (t : Tree) → is_base k (clear t) ≡ is_base k t
+base_clear k (leaf j) = refl
+base_clear k (paren m t) = refl
+base_clear k (adorned a more t) = and_false _ ∙ sym (and_false _)
+base_clear k (lead j gs t) = refl
+base_clear k (mid x j y) = refl
+base_clear k (post x j) = refl
+base_clear k (tail b (e.field m) ks) = refl
+base_clear k (tail b e.call ks) = refl
+base_clear k (tail b e.index ks) = refl
+base_clear k (tail b (e.method w a) ks) = refl
+base_clear k (tail b e.await ks) = refl
+base_clear k (tail b e.question ks) = refl
+base_clear k (frame j ks) = refl
+
+branch_frame : (k : Frame) (ks us : Kids) → is_branch (frame k ks) ≡ is_branch (frame k us)
+branch_frame e.array ks us = refl
+branch_frame e.tuple ks us = refl
+branch_frame e.repeat ks us = refl
+branch_frame (e.structure q p d) ks us = refl
+branch_frame (e.closure_block h) ks us = refl
+branch_frame e.branch ks us = refl
+branch_frame (e.while_loop w) ks us = refl
+branch_frame (e.for_loop w p) ks us = refl
+branch_frame e.choice ks us = refl
+branch_frame e.invisible ks us = refl
+
+pub branch_clear : (t : Tree) → is_branch (clear t) ≡ is_branch t
+branch_clear (leaf k) = refl
+branch_clear (paren m t) = refl
+branch_clear (adorned a more t) = refl
+branch_clear (lead k gs t) = refl
+branch_clear (mid x k y) = refl
+branch_clear (post x k) = refl
+branch_clear (tail b k ks) = refl
+branch_clear (frame k ks) = branch_frame k (clear_kids ks) ks
+
+-- ---- places and contexts
+
+abbrev pub heads : Edge → Bool
+heads edge.Free = false
+heads edge.NoBrace = false
+heads x = true
+
+pub record Meets (p : Place) (c : Context) : Type 0 where
+  pub mode : p.condition ≡ c.condition
+  pub head : p.head ≡ heads c.edge
+  -- a brace that opens a block is behind a condition
+  pub block : is_block_next c.next && not c.condition ≡ false
+
+pub meets_plain : Meets plain enclosed
+meets_plain = record { mode = refl; head = refl; block = refl }
+
+pub meets_statement : Meets at_head in_statement
+meets_statement = record { mode = refl; head = refl; block = refl }
+
+pub meets_arm : Meets at_head in_arm
+meets_arm = record { mode = refl; head = refl; block = refl }
+
+pub meets_condition : Meets before_block in_condition
+meets_condition = record { mode = refl; head = refl; block = refl }
+
+heads_left : (x : Edge) → heads x ≡ heads (left_edge x)
+heads_left edge.Free = refl
+heads_left edge.NoBrace = refl
+heads_left edge.Arm = refl
+heads_left edge.BelowArm = refl
+heads_left edge.Statement = refl
+heads_left edge.BelowStatement = refl
+
+heads_dot : (x : Edge) → heads x ≡ heads (dot_edge x)
+heads_dot edge.Free = refl
+heads_dot edge.NoBrace = refl
+heads_dot edge.Arm = refl
+heads_dot edge.BelowArm = refl
+heads_dot edge.Statement = refl
+heads_dot edge.BelowStatement = refl
+
+heads_base : (k : Trailer) (x : Edge) → heads x ≡ heads (base_edge k x)
+heads_base e.call x = heads_left x
+heads_base e.index x = heads_left x
+heads_base (e.method w a) x = heads_dot x
+heads_base (e.field m) x = heads_dot x
+heads_base e.await x = heads_dot x
+heads_base e.question x = heads_dot x
+
+heads_adorned : (x : Edge) → heads x ≡ heads (adorned_edge x)
+heads_adorned edge.Free = refl
+heads_adorned edge.NoBrace = refl
+heads_adorned edge.Arm = refl
+heads_adorned edge.BelowArm = refl
+heads_adorned edge.Statement = refl
+heads_adorned edge.BelowStatement = refl
+
+not_heads : (b : Bool) → false ≡ heads (braceless b)
+not_heads true = refl
+not_heads false = refl
+
+trailer_no_block : (k : Trailer) → is_block_next (next_of k) ≡ false
+trailer_no_block e.call = refl
+trailer_no_block e.index = refl
+trailer_no_block (e.method w a) = refl
+trailer_no_block (e.field m) = refl
+trailer_no_block e.await = refl
+trailer_no_block e.question = refl
+
+-- no operator is a trailer, nor a brace
+pub record IsOperator (n : Next) : Type 0 where
+  pub no_trailer : trails n ≡ false
+  pub no_block : is_block_next n ≡ false
+  pub no_round : is_round_next n ≡ false
+
+pub operator_class : (k : Infix) → IsOperator (class_of k)
+operator_class (inf.Binary bin.Add) = record { no_trailer = refl; no_block = refl; no_round = refl }
+operator_class (inf.Binary bin.Sub) = record { no_trailer = refl; no_block = refl; no_round = refl }
+operator_class (inf.Binary bin.Mul) = record { no_trailer = refl; no_block = refl; no_round = refl }
+operator_class (inf.Binary bin.Div) = record { no_trailer = refl; no_block = refl; no_round = refl }
+operator_class (inf.Binary bin.Rem) = record { no_trailer = refl; no_block = refl; no_round = refl }
+operator_class (inf.Binary bin.And) = record { no_trailer = refl; no_block = refl; no_round = refl }
+operator_class (inf.Binary bin.Or) = record { no_trailer = refl; no_block = refl; no_round = refl }
+operator_class (inf.Binary bin.BitXor) = record { no_trailer = refl; no_block = refl; no_round = refl }
+operator_class (inf.Binary bin.BitAnd) = record { no_trailer = refl; no_block = refl; no_round = refl }
+operator_class (inf.Binary bin.BitOr) = record { no_trailer = refl; no_block = refl; no_round = refl }
+operator_class (inf.Binary bin.Shl) = record { no_trailer = refl; no_block = refl; no_round = refl }
+operator_class (inf.Binary bin.Shr) = record { no_trailer = refl; no_block = refl; no_round = refl }
+operator_class (inf.Binary bin.Eq) = record { no_trailer = refl; no_block = refl; no_round = refl }
+operator_class (inf.Binary bin.Lt) = record { no_trailer = refl; no_block = refl; no_round = refl }
+operator_class (inf.Binary bin.Le) = record { no_trailer = refl; no_block = refl; no_round = refl }
+operator_class (inf.Binary bin.Ne) = record { no_trailer = refl; no_block = refl; no_round = refl }
+operator_class (inf.Binary bin.Ge) = record { no_trailer = refl; no_block = refl; no_round = refl }
+operator_class (inf.Binary bin.Gt) = record { no_trailer = refl; no_block = refl; no_round = refl }
+operator_class (inf.Binary bin.AddAssign) = record { no_trailer = refl; no_block = refl; no_round = refl }
+operator_class (inf.Binary bin.SubAssign) = record { no_trailer = refl; no_block = refl; no_round = refl }
+operator_class (inf.Binary bin.MulAssign) = record { no_trailer = refl; no_block = refl; no_round = refl }
+operator_class (inf.Binary bin.DivAssign) = record { no_trailer = refl; no_block = refl; no_round = refl }
+operator_class (inf.Binary bin.RemAssign) = record { no_trailer = refl; no_block = refl; no_round = refl }
+operator_class (inf.Binary bin.BitXorAssign) = record { no_trailer = refl; no_block = refl; no_round = refl }
+operator_class (inf.Binary bin.BitAndAssign) = record { no_trailer = refl; no_block = refl; no_round = refl }
+operator_class (inf.Binary bin.BitOrAssign) = record { no_trailer = refl; no_block = refl; no_round = refl }
+operator_class (inf.Binary bin.ShlAssign) = record { no_trailer = refl; no_block = refl; no_round = refl }
+operator_class (inf.Binary bin.ShrAssign) = record { no_trailer = refl; no_block = refl; no_round = refl }
+operator_class inf.Assign = record { no_trailer = refl; no_block = refl; no_round = refl }
+operator_class (inf.Range limits.HalfOpen) = record { no_trailer = refl; no_block = refl; no_round = refl }
+operator_class (inf.Range limits.Closed) = record { no_trailer = refl; no_block = refl; no_round = refl }
+operator_class inf.Cast = record { no_trailer = refl; no_block = refl; no_round = refl }
+
+-- how many tokens an operator has
+abbrev pub count_of : Infix → ℕ
+count_of (inf.Binary bin.Add) = 1
+count_of (inf.Binary bin.Sub) = 1
+count_of (inf.Binary bin.Mul) = 1
+count_of (inf.Binary bin.Div) = 1
+count_of (inf.Binary bin.Rem) = 1
+count_of (inf.Binary bin.And) = 2
+count_of (inf.Binary bin.Or) = 2
+count_of (inf.Binary bin.BitXor) = 1
+count_of (inf.Binary bin.BitAnd) = 1
+count_of (inf.Binary bin.BitOr) = 1
+count_of (inf.Binary bin.Shl) = 2
+count_of (inf.Binary bin.Shr) = 2
+count_of (inf.Binary bin.Eq) = 2
+count_of (inf.Binary bin.Lt) = 1
+count_of (inf.Binary bin.Le) = 2
+count_of (inf.Binary bin.Ne) = 2
+count_of (inf.Binary bin.Ge) = 2
+count_of (inf.Binary bin.Gt) = 1
+count_of (inf.Binary bin.AddAssign) = 2
+count_of (inf.Binary bin.SubAssign) = 2
+count_of (inf.Binary bin.MulAssign) = 2
+count_of (inf.Binary bin.DivAssign) = 2
+count_of (inf.Binary bin.RemAssign) = 2
+count_of (inf.Binary bin.BitXorAssign) = 2
+count_of (inf.Binary bin.BitAndAssign) = 2
+count_of (inf.Binary bin.BitOrAssign) = 2
+count_of (inf.Binary bin.ShlAssign) = 3
+count_of (inf.Binary bin.ShrAssign) = 3
+count_of inf.Assign = 1
+count_of (inf.Range limits.HalfOpen) = 2
+count_of (inf.Range limits.Closed) = 3
+count_of inf.Cast = 1
+
+pub own_infix : (k : Infix) (l : List Tok) → infix_at (infix_own k l) ≡ Some (k, count_of k)
+unfolding infix_at sign_at word_at
+own_infix (inf.Binary bin.Add) l = refl
+own_infix (inf.Binary bin.Sub) l = refl
+own_infix (inf.Binary bin.Mul) l = refl
+own_infix (inf.Binary bin.Div) l = refl
+own_infix (inf.Binary bin.Rem) l = refl
+own_infix (inf.Binary bin.And) l = refl
+own_infix (inf.Binary bin.Or) l = refl
+own_infix (inf.Binary bin.BitXor) l = refl
+own_infix (inf.Binary bin.BitAnd) l = refl
+own_infix (inf.Binary bin.BitOr) l = refl
+own_infix (inf.Binary bin.Shl) l = refl
+own_infix (inf.Binary bin.Shr) l = refl
+own_infix (inf.Binary bin.Eq) l = refl
+own_infix (inf.Binary bin.Lt) l = refl
+own_infix (inf.Binary bin.Le) l = refl
+own_infix (inf.Binary bin.Ne) l = refl
+own_infix (inf.Binary bin.Ge) l = refl
+own_infix (inf.Binary bin.Gt) l = refl
+own_infix (inf.Binary bin.AddAssign) l = refl
+own_infix (inf.Binary bin.SubAssign) l = refl
+own_infix (inf.Binary bin.MulAssign) l = refl
+own_infix (inf.Binary bin.DivAssign) l = refl
+own_infix (inf.Binary bin.RemAssign) l = refl
+own_infix (inf.Binary bin.BitXorAssign) l = refl
+own_infix (inf.Binary bin.BitAndAssign) l = refl
+own_infix (inf.Binary bin.BitOrAssign) l = refl
+own_infix (inf.Binary bin.ShlAssign) l = refl
+own_infix (inf.Binary bin.ShrAssign) l = refl
+own_infix inf.Assign l = refl
+own_infix (inf.Range limits.HalfOpen) l = refl
+own_infix (inf.Range limits.Closed) l = refl
+own_infix inf.Cast l = refl
+
+pub own_drop : (k : Infix) (l : List Tok) → drop (count_of k) (infix_own k l) ≡ l
+own_drop (inf.Binary bin.Add) l = refl
+own_drop (inf.Binary bin.Sub) l = refl
+own_drop (inf.Binary bin.Mul) l = refl
+own_drop (inf.Binary bin.Div) l = refl
+own_drop (inf.Binary bin.Rem) l = refl
+own_drop (inf.Binary bin.And) l = refl
+own_drop (inf.Binary bin.Or) l = refl
+own_drop (inf.Binary bin.BitXor) l = refl
+own_drop (inf.Binary bin.BitAnd) l = refl
+own_drop (inf.Binary bin.BitOr) l = refl
+own_drop (inf.Binary bin.Shl) l = refl
+own_drop (inf.Binary bin.Shr) l = refl
+own_drop (inf.Binary bin.Eq) l = refl
+own_drop (inf.Binary bin.Lt) l = refl
+own_drop (inf.Binary bin.Le) l = refl
+own_drop (inf.Binary bin.Ne) l = refl
+own_drop (inf.Binary bin.Ge) l = refl
+own_drop (inf.Binary bin.Gt) l = refl
+own_drop (inf.Binary bin.AddAssign) l = refl
+own_drop (inf.Binary bin.SubAssign) l = refl
+own_drop (inf.Binary bin.MulAssign) l = refl
+own_drop (inf.Binary bin.DivAssign) l = refl
+own_drop (inf.Binary bin.RemAssign) l = refl
+own_drop (inf.Binary bin.BitXorAssign) l = refl
+own_drop (inf.Binary bin.BitAndAssign) l = refl
+own_drop (inf.Binary bin.BitOrAssign) l = refl
+own_drop (inf.Binary bin.ShlAssign) l = refl
+own_drop (inf.Binary bin.ShrAssign) l = refl
+own_drop inf.Assign l = refl
+own_drop (inf.Range limits.HalfOpen) l = refl
+own_drop (inf.Range limits.Closed) l = refl
+own_drop inf.Cast l = refl
+
+pub meets_left : (p : Place) (k : Infix) (c : Context) → Meets p c → Meets p (left_context k c)
+meets_left p k c m = record { mode = m.mode; head = m.head ∙ heads_left c.edge; block = rw (operator_class k).no_block refl }
+
+pub meets_base : (p : Place) (k : Trailer) (c : Context) → Meets p c → Meets p (base_context k c)
+meets_base p k c m = record { mode = m.mode; head = m.head ∙ heads_base k c.edge; block = rw (trailer_no_block k) refl }
+
+pub meets_adorned : (p : Place) (c : Context) → Meets p c → Meets p (adorned_context c)
+meets_adorned p c m = record { mode = m.mode; head = m.head ∙ heads_adorned c.edge; block = m.block }
+
+pub meets_right : (p : Place) (k : Infix) (c : Context) → Meets p c → Meets (at p (level k)) (right_context k c)
+meets_right p k c m = record { mode = m.mode; head = not_heads (is_half_open k && c.condition); block = m.block }
+
+jump_no_block : (n : Next) → is_block_next (without_block n) && true ≡ false
+jump_no_block next.End = refl
+jump_no_block next.Assign = refl
+jump_no_block next.ShiftLeftAssign = refl
+jump_no_block next.Range = refl
+jump_no_block next.OrOr = refl
+jump_no_block next.AndAnd = refl
+jump_no_block next.Compare = refl
+jump_no_block next.Less = refl
+jump_no_block next.Or = refl
+jump_no_block next.Caret = refl
+jump_no_block next.And = refl
+jump_no_block next.ShiftLeft = refl
+jump_no_block next.ShiftRight = refl
+jump_no_block next.Plus = refl
+jump_no_block next.Minus = refl
+jump_no_block next.Star = refl
+jump_no_block next.Divide = refl
+jump_no_block next.As = refl
+jump_no_block next.Dot = refl
+jump_no_block next.Question = refl
+jump_no_block next.Parenthesis = refl
+jump_no_block next.Bracket = refl
+jump_no_block next.Block = refl
+jump_no_block next.Brace = refl
+
+pub meets_lead : (p : Place) (k : Lead) (c : Context) → Meets p c → Meets (lead_place p k) (lead_context k c)
+meets_lead p (e.unary op) c m = record { mode = m.mode; head = refl; block = m.block }
+meets_lead p (e.reference b) c m = record { mode = m.mode; head = refl; block = m.block }
+meets_lead p (e.raw_addr b) c m = record { mode = m.mode; head = refl; block = m.block }
+meets_lead p (e.range_to op) c m = record { mode = m.mode; head = not_heads (is_half_open (inf.Range op) && c.condition); block = m.block }
+meets_lead p (e.binding w) c m = record { mode = m.mode; head = refl; block = m.block }
+meets_lead p (e.jump j) c m = record { mode = refl; head = not_heads (is_break j && c.condition); block = jump_no_block c.next }
+meets_lead p (e.closure h) c m = record { mode = m.mode; head = refl; block = m.block }
+
+pub lead_level_is : (p : Place) (k : Lead) → lead_level k ≡ (lead_place p k).level
+lead_level_is p (e.unary op) = refl
+lead_level_is p (e.reference b) = refl
+lead_level_is p (e.raw_addr b) = refl
+lead_level_is p (e.range_to op) = refl
+lead_level_is p (e.binding w) = refl
+lead_level_is p (e.jump j) = refl
+lead_level_is p (e.closure h) = refl
+
+-- ---- at a head
+
+below_adorned : (x : Edge) → is_below (adorned_edge x) ≡ is_below x
+below_adorned edge.Free = refl
+below_adorned edge.NoBrace = refl
+below_adorned edge.Arm = refl
+below_adorned edge.BelowArm = refl
+below_adorned edge.Statement = refl
+below_adorned edge.BelowStatement = refl
+
+below_leaf : (c : Context) (k : Leaf) → is_below c.edge ≡ true → leaf_misplaced c k ≡ false → is_block_leaf k ≡ false
+below_leaf c (e.lit x) e h = refl
+below_leaf c (e.path q p) e h = refl
+below_leaf c (e.mac m) e h = refl
+below_leaf c e.infer e h = refl
+below_leaf c (e.full_range op) e h = refl
+below_leaf c (e.bare_jump j) e h = refl
+below_leaf c (e.continuing w) e h = refl
+below_leaf c (e.block None b) e h = absurd (let f : true ≡ false = sym e ∙ (or_false _ _ h).0 in cc)
+below_leaf c (e.block (Some w) b) e h = absurd (let f : true ≡ false = sym (rw e refl) ∙ h in cc)
+below_leaf c (e.looping w b) e h = absurd (let f : true ≡ false = sym (rw e refl) ∙ h in cc)
+below_leaf c (e.unsafe_block b) e h = absurd (let f : true ≡ false = sym (rw e refl) ∙ h in cc)
+below_leaf c (e.const_block b) e h = absurd (let f : true ≡ false = sym (rw e refl) ∙ h in cc)
+below_leaf c (e.async_block m ts) e h = refl
+below_leaf c (e.try_block ts) e h = absurd (let f : true ≡ false = sym (rw e refl) ∙ h in cc)
+below_leaf c (e.verbatim ts) e h = refl
+
+below_frame : (c : Context) (k : Frame) → is_below c.edge ≡ true → frame_misplaced c k ≡ false → is_block_frame k ≡ false
+below_frame c e.array b h = refl
+below_frame c e.tuple b h = refl
+below_frame c e.repeat b h = refl
+below_frame c (e.structure q p d) b h = refl
+below_frame c (e.closure_block k) b h = refl
+below_frame c e.branch b h = absurd (let f : true ≡ false = sym (rw b refl) ∙ h in cc)
+below_frame c (e.while_loop w) b h = absurd (let f : true ≡ false = sym (rw b refl) ∙ h in cc)
+below_frame c (e.for_loop w p) b h = absurd (let f : true ≡ false = sym (rw b refl) ∙ h in cc)
+below_frame c e.choice b h = absurd (let f : true ≡ false = sym (rw b refl) ∙ h in cc)
+below_frame c e.invisible b h = refl
+
+-- on the left at a head no block-like expression stands
+no_block : (v : Level) (c : Context) (t : Tree) → is_below c.edge ≡ true → Obeys v c t → is_block_like t ≡ false
+no_block v c (leaf k) b h = below_leaf c k b (or_false _ _ h).1
+no_block v c (paren m t) b h = refl
+no_block v c (adorned a more t) b h = no_block v (adorned_context c) t (below_adorned c.edge ∙ b) h.1
+no_block v c (lead k gs t) b h = refl
+no_block v c (mid x k y) b h = refl
+no_block v c (post x k) b h = refl
+no_block v c (tail t k ks) b h = refl
+no_block v c (frame k ks) b h = below_frame c k b h.0
+
+-- left of an operator, a call or an index
+pub goes_free : (p : Place) (v : Level) (c d : Context) (t : Tree) → Meets p c → d.edge ≡ left_edge c.edge → Obeys v d t → rests p (clear t) ≡ false
+goes_free p v c d t m s h = go c.edge refl
+  where
+    below : is_below d.edge ≡ true → rests p (clear t) ≡ false
+    below b = rw (block_clear t, no_block v d t b h) (and_false p.head)
+
+    go : (x : Edge) → c.edge ≡ x → rests p (clear t) ≡ false
+    go edge.Free i = rw (m.head, i) refl
+    go edge.NoBrace i = rw (m.head, i) refl
+    go edge.Arm i = below (rw (s, i) refl)
+    go edge.BelowArm i = below (rw (s, i) refl)
+    go edge.Statement i = below (rw (s, i) refl)
+    go edge.BelowStatement i = below (rw (s, i) refl)
+
+-- ---- what may stand behind
+
+no_trailer_behind : (r b q d : Bool) → r || (b || (q || d)) ≡ false → d || q ≡ false
+no_trailer_behind r b q d h =
+    let x = or_false r _ h in
+    let y = or_false b _ x.1 in
+    let z = or_false q _ y.1 in
+    neither _ _ z.1 z.0
+
+none_behind : (w : Bool) (l : List Tok) → trailer_at l ≡ false → goes_behind w l ≡ false
+unfolding trailer_at
+none_behind true l h = no_trailer_behind (round_at l) (bracket_at l) (question_at l) (dot_at l) h
+none_behind false l h = h
+
+not_and : (a b c : Bool) → a && b ≡ false → (a ≡ false → c ≡ false) → not (b && c) ≡ true
+not_and true true c h g = absurd cc
+not_and true false c h g = refl
+not_and false true c h g = rw (g refl) refl
+not_and false false c h g = refl
+
+pub closes_by : (p : Place) (x : Tree) (l : List Tok) → trailer_at l && (carries x || is_cast x) ≡ false → closes p x l ≡ true
+unfolding closes
+closes_by p x l h = not_and (trailer_at l) (carries x || is_cast x) _ h (none_behind (rests p x) l)
+
+pub fits_closes : (p : Place) (v : Level) (t : Tree) (n : Next) (l : List Tok) → Shows n l → Fits v t n → closes p (clear t) l ≡ true
+fits_closes p v t n l s f = closes_by p (clear t) l (rw (ap (λ x. x.trailer) s.same, carries_clear t, cast_clear t) f.no_trailer)
+
+ends_or : (r w g a b : Bool) → g && not r ≡ false → r || (w || not (g || ((a && false) || (b && false)))) ≡ true
+ends_or true w g a b h = refl
+ends_or false true g a b h = refl
+ends_or false false true a b h = absurd cc
+ends_or false false false true true h = refl
+ends_or false false false true false h = refl
+ends_or false false false false true h = refl
+ends_or false false false false false h = refl
+
+pub fits_ends : (p : Place) (t : Tree) (n : Next) (l : List Tok) → Shows n l → Fits p.level t n → ends p (clear t) l ≡ true
+unfolding ends
+fits_ends p t n l s f =
+    rw (range_clear t, shows_op n l s p.level, ap (λ x. x.dots) s.same, ap (λ x. x.arrow) s.same)
+    (ends_or (is_range t) (rests p (clear t)) (takes_next p.level n) (above lev.Range p.level) (is_jump_or_let p.level) f.no_operator)
+
+pub left_closes : (p : Place) (x : Tree) (k : Infix) (l : List Tok) → Shows (class_of k) l → closes p x l ≡ true
+left_closes p x k l s = closes_by p x l (rw (ap (λ x. x.trailer) s.same, (operator_class k).no_trailer) refl)
+
+not_three : (r a b w : Bool) → r ≡ false → a && b ≡ false → w ≡ false → not (r || ((b && a) || w)) ≡ true
+not_three r true true w p q s = absurd cc
+not_three r true false w p q s = rw (p, s) refl
+not_three r false true w p q s = rw (p, s) refl
+not_three r false false w p q s = rw (p, s) refl
+
+pub left_fits : (p : Place) (k : Infix) (t : Tree) → FitsLeft k t → rests p (clear t) ≡ false → fits_left p k (clear t) ≡ true
+unfolding fits_left
+left_fits p k t f h = rw (range_clear t, compares_clear t) (not_three (is_range t) (compares t) (is_comparison k) (rests p (clear t)) f.no_range f.no_chain h)
+
+pub base_fits : (p : Place) (k : Trailer) (t : Tree) → is_base k t ≡ true → is_parenthesis_or_bracket k && rests p (clear t) ≡ false → fits_base p k (clear t) ≡ true
+unfolding fits_base
+base_fits p k t b h = rw (base_clear k t, b, h) refl
+
+pub operation_ends : (k : Infix) (n : Next) (l : List Tok) → Shows n l → ends_operation k l ≡ true
+unfolding ends_operation
+operation_ends k n l s = rw (ap (λ x. x.arrow) s.same) (or_true (is_range_op k))
+
+unadorned_range : (t : Tree) → is_adorned t ≡ false → prints_range t ≡ false → is_range t ≡ false
+unadorned_range (leaf k) a h = h
+unadorned_range (paren m t) a h = refl
+unadorned_range (adorned b more t) a h = absurd cc
+unadorned_range (lead k gs t) a h = h
+unadorned_range (mid x k y) a h = h
+unadorned_range (post x k) a h = h
+unadorned_range (tail b k ks) a h = refl
+unadorned_range (frame k ks) a h = refl
+
+pub adorns : (p : Place) (t : Tree) → Formed t → is_adorned t ≡ false → is_operation t ≡ false → may_adorn p (clear t) ≡ true
+adorns p t f a o =
+    let q = or_false (is_infix t) (prints_range t) o in
+    rw (infix_clear t, q.0, adorned_clear t, a, verbatim_clear t f, range_clear t, unadorned_range t a q.1) (or_true p.head)
+
+-- ---- a named field or a cast before `(`
+
+abbrev pub ends_named : Tree → Bool
+ends_named (tail b (e.field m) ks) = is_named m
+ends_named (adorned a more t) = ends_named t
+ends_named _ = false
+
+pub record Calls (t : Tree) (n : Next) : Type 0 where
+  pub none : is_round_next n && (ends_named t || is_cast t) ≡ false
+
+named_carries : (t : Tree) → carries t ≡ false → ends_named t ≡ false
+named_carries (leaf k) h = refl
+named_carries (paren m t) h = refl
+named_carries (adorned a more t) h = named_carries t h
+named_carries (lead k gs t) h = refl
+named_carries (mid x k y) h = refl
+named_carries (post x k) h = refl
+named_carries (tail b k ks) h = absurd cc
+named_carries (frame k ks) h = refl
+
+round_trails : (n : Next) (a b : Bool) → trails n && a ≡ false → (a ≡ false → b ≡ false) → is_round_next n && b ≡ false
+round_trails next.Parenthesis a b h g = g h
+round_trails next.End a b h g = refl
+round_trails next.Assign a b h g = refl
+round_trails next.ShiftLeftAssign a b h g = refl
+round_trails next.Range a b h g = refl
+round_trails next.OrOr a b h g = refl
+round_trails next.AndAnd a b h g = refl
+round_trails next.Compare a b h g = refl
+round_trails next.Less a b h g = refl
+round_trails next.Or a b h g = refl
+round_trails next.Caret a b h g = refl
+round_trails next.And a b h g = refl
+round_trails next.ShiftLeft a b h g = refl
+round_trails next.ShiftRight a b h g = refl
+round_trails next.Plus a b h g = refl
+round_trails next.Minus a b h g = refl
+round_trails next.Star a b h g = refl
+round_trails next.Divide a b h g = refl
+round_trails next.As a b h g = refl
+round_trails next.Dot a b h g = refl
+round_trails next.Question a b h g = refl
+round_trails next.Bracket a b h g = refl
+round_trails next.Block a b h g = refl
+round_trails next.Brace a b h g = refl
+
+pub fits_calls : (v : Level) (t : Tree) (n : Next) → Fits v t n → Calls t n
+fits_calls v t n f = record { none = round_trails n (carries t || is_cast t) _ f.no_trailer (λ h. let p = or_false _ _ h in neither _ _ (named_carries t p.0) p.1) }
+
+pub left_calls : (t : Tree) (k : Infix) → Calls t (class_of k)
+left_calls t k = record { none = rw (operator_class k).no_round refl }
+
+base_call : (t : Tree) → is_base e.call t ≡ true → ends_named t || is_cast t ≡ false
+base_call (leaf k) h = refl
+base_call (paren m t) h = refl
+base_call (adorned a more t) h = absurd (let f : true ≡ false = sym h ∙ and_false _ in cc)
+base_call (lead k gs t) h = refl
+base_call (mid x k y) h = refl
+base_call (post x k) h = absurd cc
+base_call (tail b (e.field m) ks) h = or_none _ ∙ not_it _ h
+base_call (tail b e.call ks) h = refl
+base_call (tail b e.index ks) h = refl
+base_call (tail b (e.method w a) ks) h = refl
+base_call (tail b e.await ks) h = refl
+base_call (tail b e.question ks) h = refl
+base_call (frame k ks) h = refl
+
+pub base_calls : (t : Tree) (k : Trailer) → is_base k t ≡ true → Calls t (next_of k)
+base_calls t e.call h = record { none = base_call t h }
+base_calls t e.index h = record { none = refl }
+base_calls t (e.method w a) h = record { none = refl }
+base_calls t (e.field m) h = record { none = refl }
+base_calls t e.await h = record { none = refl }
+base_calls t e.question h = record { none = refl }
+
+pub adorned_calls : (a : _) (more : _) (t : Tree) (n : Next) → is_operation t ≡ false → Calls (adorned a more t) n → Calls t n
+adorned_calls a more t n o h = record { none = ap (λ x. is_round_next n && (ends_named t || x)) (no_cast t o) ∙ h.none }
+  where
+    no_cast : (t : Tree) → is_operation t ≡ false → is_cast t ≡ false
+    no_cast (leaf k) h = refl
+    no_cast (paren m t) h = refl
+    no_cast (adorned a more t) h = refl
+    no_cast (lead k gs t) h = refl
+    no_cast (mid x k y) h = refl
+    no_cast (post x k) h = absurd cc
+    no_cast (tail b k ks) h = refl
+    no_cast (frame k ks) h = refl
+
+-- ---- kids
+
+pub level_fits : (v w : Level) (t : Tree) (n : Next) → v ≡ w → Fits v t n → Fits w t n
+level_fits v w t n e f = subst (λ x. Fits x t n) e f
+
+pub level_obeys : (v w : Level) (c : Context) (t : Tree) → v ≡ w → Obeys v c t → Obeys w c t
+level_obeys v w c t e h = subst (λ x. Obeys x c t) e h
+
+-- nothing that follows an operand in a place of its own goes on with it
+pub end_fits : (t : Tree) → Fits lev.Jump t next.End
+end_fits t = record { no_operator = refl; no_trailer = refl }
+
+pub block_fits : (t : Tree) → Fits lev.Jump t next.Block
+block_fits t = record { no_operator = refl; no_trailer = refl }
+
+-- a block-like whole at a head stands before all but `.` and `?`
+pub rests_ends : (x : Tree) (l : List Tok) → is_block_like x ≡ true → ends at_head x l ≡ true
+unfolding ends
+rests_ends x l h = rw h (or_true (is_range x))
+
+pub rests_closes : (x : Tree) (l : List Tok) → is_block_like x ≡ true → dot_at l ≡ false → question_at l ≡ false → closes at_head x l ≡ true
+unfolding closes
+rests_closes x l h d q = rw (h, d, q) (flat (carries x || is_cast x))
+  where
+    flat : (b : Bool) → not (b && false) ≡ true
+    flat true = refl
+    flat false = refl

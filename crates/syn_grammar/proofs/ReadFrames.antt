@@ -1,0 +1,327 @@
+-- Frames, parentheses and what stands before an operand: what stands is read.
+use Rattle.std.specs.Prelude.{not, ◌||◌, ◌&&◌, if◌then◌else◌}
+use Rattle.std.proofs.Common.{◌≡◌, ℕ, zero, suc, ◌<◌, ◌≤◌, Bool, true, false, cond, ⊎_elim, List, [], ◌∷◌, ◌++◌, drop, length, codes, Option, Some, None, refl, ap, sym, ◌∙◌, subst, arith}
+use Rattle.syn_lexer.specs.declared.lexeme.Delimiter.TheVariants as del
+use Rattle.syn_lexer.specs.declared.lexeme.Delimiter.{Delimiter}
+use Rattle.syn_lexer.specs.declared.lexeme.Spacing.{Spacing}
+use Rattle.syn_lexer.specs.declared.lexeme.Spacing.TheVariants as spacing
+use Rattle.syn_tokens.specs.Tok.{Tok, Inside, ident, punct, group, toks, weight, weight-toks}
+use Rattle.syn_tokens.specs.Front.{group_at, is_empty}
+use Rattle.syn_parts.specs.Text.{Text, is_segment, stands_alone}
+use Rattle.syn_lexer.specs.Keywords.{is_reserved_word}
+use Rattle.syn_parts.specs.declared.label.PathStyle.TheVariants as style
+use Rattle.syn_parts.specs.Form.{Form, Outcome, and_then, then_behind, then_by, joined, more}
+use Rattle.syn_parts.specs.Mark.{colon2, sign_at, word_at, brace_at, round_at, lifetime_at, pound, semi, comma, underscore}
+use Rattle.syn_parts.specs.Part.{QPathTree, MacroEnd, qpath, path, pieces, segment, segment_name, type, macro_end, is_bare, lifetimes_at}
+use Rattle.syn_parts.specs.Pat.{dots, PatTree}
+use Rattle.syn_parts.proofs.Ends.{sign_first}
+use Rattle.syn_parts.proofs.Same.{same_toks-refl}
+use Rattle.syn_grammar.specs.declared.kinds.Place.{Place}
+use Rattle.syn_grammar.specs.declared.kinds.Limits.{Limits}
+use Rattle.syn_grammar.specs.declared.kinds.Limits.TheVariants as limits
+use Rattle.syn_grammar.specs.Place.{plain, before_block}
+use Rattle.syn_grammar.specs.Front.{bracket_at}
+use Rattle.syn_grammar.specs.Tree as tr
+use Rattle.syn_grammar.specs.Tree.{Tree, Kids, Leaf, Lead, Frame, Piece, Ending, Jump, ClosureHead, leaf, paren, lead, frame, none, kid, is_one}
+use Rattle.syn_grammar.specs.Head as h
+use Rattle.syn_grammar.specs.Head.{leaf_form, lead_form, closure_head, named, to_named, label, range_at, jump_at, range_op, jump_head, from_full_range, from_bare_jump, closure_at, try_block_at, builtin_at}
+use Rattle.syn_grammar.specs.Slot as s
+use Rattle.syn_grammar.specs.Slot.{Slot, Holder, may_end, elements, single, counted, after, piece_form, piece_place, ending_at, comma_or_end, frame_head, frame_holder, if_at, for_head, if_word, match_word, while_word, for_word, is_repeated}
+use Rattle.syn_grammar.specs.Stands.{Node, Content, holds_within, holds_bare, Operands, no_more, one_more, short, block, Stands, ends, closes, ends_piece, ends_list, short_value, takes_block, leaf_stands, lead_stands, lead_place, frame_stands, is_try_alone, has_no_comma, ends_jump}
+use Rattle.syn_grammar.specs.Read.{Reading, leaf_read, leaf_at, lead_at, loop_head_at, become_word, lead_read, led, unled, named_read, named_by, structure_read, structured, standing, framed_by, content, bare_operands, round_read, rounded, bracket_read, bracket_inside, bracketed, elements_by, repeated_by, loop_read, looped, kept_from, is_taken, taken, atom, all_of}
+use Rattle.syn_grammar.proofs.HeadMoves.{IsLess, taken_is, tail_falls}
+use Rattle.syn_grammar.proofs.Chains.{neither, some_is, then_some, behind_some, only_some, chosen, both_true, not_true}
+use Rattle.syn_grammar.proofs.Needs.{heads}
+use Rattle.syn_grammar.proofs.Lesses.{node_less}
+use Rattle.syn_grammar.proofs.Sound.{Element, element_is, empty_is, group_is, ends_a_piece}
+use Rattle.syn_grammar.proofs.SoundAtoms.{NoLeaf, NoLead, no_leaf, no_lead, named_reads}
+use Rattle.syn_grammar.proofs.Fronts.{and_false, word_is, no_lifetime, sign_no_leaf, Fronted, Closed, lead_front, closure_front, range_lead, range_leads, jump_lead, jump_leads, range_no_leaf, jump_no_leaf}
+use Rattle.syn_grammar.proofs.NameFronts.{one_word, word_read, Named, qpath_front, LoopFront, while_loop_front, for_loop_front, WordFront, IfFront, MatchFront, become_front, if_front, match_front, GroupFront, round_front, bracket_front}
+use Rattle.syn_grammar.proofs.HeadMoves.{ending_left, dropped, group_inside, frame_less, trailer_left, less_then, then_less}
+use Rattle.syn_grammar.proofs.ReadAtoms.{Counted, leads, unnamed, unled_read, leaf_atom, brace_no_macro, ends_is, none_is, comma_no_semi, counted_is, element_kind}
+use Rattle.syn_grammar.proofs.ReadOperands.{there, full, bare_read, within_read, content_read}
+
+all_read : {A : Type 0} (o : Outcome A) (x : A) → o ≡ Some (x, []) → all_of o ≡ Some x
+all_read o x g = rw g refl
+
+group_there : (d : Delimiter) (l : List Tok) (i n : List Tok) → group_at d l ≡ Some (i, n) → (j : Inside) × (l ≡ group d j ∷ n) × (toks j ≡ i)
+group_there d l i n g = group_is d l i n g
+
+no_try : (p : Place) (q : QPathTree) (d : Bool) (ks : Kids) → frame_stands p (tr.structure q.0 q.1 d) ks ≡ true → (p.condition ≡ false) × (is_try_alone q.0 q.1 ≡ false)
+unfolding frame_stands
+no_try p q d ks g = neither p.condition (is_try_alone q.0 q.1) (not_true _ g)
+
+by_word : (q : QPathTree) (w : Text) (x : Tok) (m n : List Tok) → is_segment w ≡ true → colon2.at (x ∷ m) ≡ false → (qpath type style.Expr).behind q (ident w ∷ x ∷ m) ≡ Some n → (one_word w ≡ q) × (x ∷ m ≡ n)
+by_word q w x m n a b g =
+    let i : Some (one_word w, x ∷ m) ≡ Some (q, n) = sym (word_read w x m a b) ∙ heads.qpaths.found (ident w ∷ x ∷ m) q n g in
+    let j = some_is i in (ap (λ (r : QPathTree × List Tok). r.0) j, ap (λ (r : QPathTree × List Tok). r.1) j)
+
+-- no struct expression begins with the block of a `try`, nor as special syntax does
+brace_is : (l : List Tok) → brace_at l ≡ true → (i : Inside) × (n : List Tok) × (l ≡ group del.Brace i ∷ n)
+unfolding brace_at group_at
+brace_is (group del.Brace i ∷ l) g = (i, l, refl)
+brace_is _ g = absurd cc
+
+pound_is : (l : List Tok) → pound.at l ≡ true → (s : Spacing) × (n : List Tok) × (l ≡ punct 35 s ∷ n)
+pound_is l g = sign_first 35 [] (λ z. (s : Spacing) × (n : List Tok) × (z ≡ punct 35 s ∷ n)) (λ s n. (s, n, refl)) l g
+
+try_segment : is_segment (codes "try") ≡ true
+unfolding is_segment stands_alone is_reserved_word
+try_segment = refl
+
+builtin_segment : is_segment (codes "builtin") ≡ true
+unfolding is_segment stands_alone is_reserved_word
+builtin_segment = refl
+
+brace_no_colons : (i : Inside) (n : List Tok) → colon2.at (group del.Brace i ∷ n) ≡ false
+unfolding sign_at
+brace_no_colons i n = refl
+
+pound_no_colons : (s : Spacing) (n : List Tok) → colon2.at (punct 35 s ∷ n) ≡ false
+unfolding sign_at
+pound_no_colons spacing.Alone n = refl
+pound_no_colons spacing.Joint n = refl
+
+try_alone : is_try_alone (one_word (codes "try")).0 (one_word (codes "try")).1 ≡ true
+unfolding one_word
+try_alone = refl
+
+-- no struct expression begins with the block of a `try`, nor as special syntax does
+structure_no_try : (q : QPathTree) (l m : List Tok) → (qpath type style.Expr).behind q l ≡ Some m → is_try_alone q.0 q.1 ≡ false → try_block_at l ≡ false
+unfolding try_block_at
+structure_no_try q l m g t = by_test (try_block_at l) refl
+  where
+    by_test : (b : Bool) → try_block_at l ≡ b → b ≡ false
+    by_test false v = refl
+    by_test true v =
+        let (a, b) = both_true (word_at (codes "try") l) (brace_at (drop 1 l)) v in
+        let (i, n, c) = brace_is (drop 1 l) b in
+        let d : l ≡ ident (codes "try") ∷ group del.Brace i ∷ n = word_is (codes "try") l a ∙ ap (λ z. ident (codes "try") ∷ z) c in
+        let (f, j) = by_word q (codes "try") (group del.Brace i) n m try_segment (brace_no_colons i n) (subst (λ z. (qpath type style.Expr).behind q z ≡ Some m) d g) in
+        let o : is_try_alone q.0 q.1 ≡ true = subst (λ (r : QPathTree). is_try_alone r.0 r.1 ≡ true) f try_alone in absurd (cc (o, t))
+
+no_brace_pound : (s : Spacing) (n : List Tok) (y : List Tok × List Tok) → group_at del.Brace (punct 35 s ∷ n) ≡ Some y → ⊥
+unfolding group_at
+no_brace_pound s n y g = absurd cc
+
+structure_no_builtin : (q : QPathTree) (l m i n : List Tok) → (qpath type style.Expr).behind q l ≡ Some m → group_at del.Brace m ≡ Some (i, n) → builtin_at l ≡ false
+unfolding builtin_at
+structure_no_builtin q l m i n g t = by_test (builtin_at l) refl
+  where
+    by_test : (b : Bool) → builtin_at l ≡ b → b ≡ false
+    by_test false v = refl
+    by_test true v =
+        let (a, b) = both_true (word_at (codes "builtin") l) (pound.at (drop 1 l)) v in
+        let (w, y, c) = pound_is (drop 1 l) b in
+        let d : l ≡ ident (codes "builtin") ∷ punct 35 w ∷ y = word_is (codes "builtin") l a ∙ ap (λ z. ident (codes "builtin") ∷ z) c in
+        let (f, j) = by_word q (codes "builtin") (punct 35 w) y m builtin_segment (pound_no_colons w y) (subst (λ z. (qpath type style.Expr).behind q z ≡ Some m) d g) in
+        absurd (no_brace_pound w y (i, n) (subst (λ z. group_at del.Brace z ≡ Some (i, n)) (sym j) t))
+
+for_first_no_while : (m : List Tok) → while_word.at (ident (codes "for") ∷ m) ≡ false
+unfolding word_at
+for_first_no_while m = refl
+
+brace_there : (m i n : List Tok) → group_at del.Brace m ≡ Some (i, n) → brace_at m ≡ true
+unfolding brace_at
+brace_there m i n g = rw g refl
+
+pick : {A : Type 0} (b c : Bool) (x y : A) → b ≡ true → c ≡ false → (if b && not c then x else y) ≡ x
+pick b c x y g i = rw (g, i) refl
+
+group_of_content : {l n : List Tok} {ks : Kids} → Content (s.within del.Parenthesis elements false) l ks n → (j : Inside) × (l ≡ group del.Parenthesis j ∷ n)
+group_of_content {l} {n} (holds_within {i = i} g d f) = let (j, v, w) = group_is del.Parenthesis l i n g in (j, v)
+
+module _ (rec : Place → Reading Tree) (k : ℕ) (complete : (p : Place) (l n : List Tok) (x : Tree) → weight l < k → Stands p l x n → rec p l ≡ Some (x, n)) where
+  framed_read : (p : Place) (f : Frame) (h n : List Tok) (ks : Kids) → Content (frame_holder f) h ks n → weight h < k → frame_stands p f ks ≡ true → framed_by rec p f h ≡ Some (frame f ks, n)
+  framed_read p f h n ks c b g = rw (content_read rec k complete (frame_holder f) h n ks c b, g) refl
+
+  -- ---- before an operand
+
+  pub lead_atom : (p : Place) (f : Lead) (l m n : List Tok) (x : Tree) → lead_form.behind f l ≡ Some m → lead_stands p f m ≡ true → rec (lead_place p f) m ≡ Some (x, n)
+      → atom rec p l ≡ Some (lead f none x, n)
+  unfolding lead_read
+  lead_atom p f l m n x g s r =
+      let a = lead_front f l m g in
+      leads rec p l (Some (lead f none x, n)) a.no_leaf a.leads (rw (heads.leads.found l f m g, s, r) refl)
+
+  -- ---- in parentheses and brackets
+
+  paren_content : (i : Inside) (n : List Tok) (x : Tree) → Node plain (toks i) x [] → ends plain x [] ≡ true → closes plain x [] ≡ true
+      → Content (s.within del.Parenthesis elements false) (group del.Parenthesis i ∷ n) (kid tr.element tr.no_ending x none) n
+  unfolding group_at ending_at piece_form sign_at
+  paren_content i n x d e c = holds_within {o = []} refl (one_more {k = tr.element} refl refl d (ends_a_piece tr.element x [] refl e c) refl (no_more refl)) refl
+
+  rounds : (p : Place) (i : Inside) (n : List Tok) (q : Option (Tree × List Tok)) → round_read rec (group del.Parenthesis i ∷ n) ≡ q → atom rec p (group del.Parenthesis i ∷ n) ≡ q
+  unfolding atom round_at group_at
+  rounds p i n q g = let a = round_front i n in rw (a.no_leaf, a.no_lead) g
+
+  pub paren_atom : (p : Place) (i : Inside) (n : List Tok) (x : Tree) → weight (group del.Parenthesis i ∷ n) ≤ k → Node plain (toks i) x [] → ends plain x [] ≡ true → closes plain x [] ≡ true
+      → atom rec p (group del.Parenthesis i ∷ n) ≡ Some (paren false x, n)
+  unfolding round_read
+  paren_atom p i n x b d e c =
+      rounds p i n (Some (paren false x, n)) (rw (within_read rec k complete del.Parenthesis elements false (group del.Parenthesis i ∷ n) n (kid tr.element tr.no_ending x none) (paren_content i n x d e c) b) refl)
+
+  tuple_rounded : (p : Place) (ks : Kids) → frame_stands p tr.tuple ks ≡ true → rounded rec ks ≡ frame tr.tuple ks
+  unfolding frame_stands
+  tuple_rounded p none g = refl
+  tuple_rounded p (kid q c x ks) g = rw (not_true _ g) refl
+
+  tuple_atom : (p : Place) (i : Inside) (n : List Tok) (ks : Kids) → Content (s.within del.Parenthesis elements false) (group del.Parenthesis i ∷ n) ks n → weight (group del.Parenthesis i ∷ n) ≤ k
+      → frame_stands p tr.tuple ks ≡ true → atom rec p (group del.Parenthesis i ∷ n) ≡ Some (frame tr.tuple ks, n)
+  unfolding round_read
+  tuple_atom p i n ks c b g =
+      rounds p i n (Some (frame tr.tuple ks, n)) (rw (within_read rec k complete del.Parenthesis elements false (group del.Parenthesis i ∷ n) n ks c b) (ap (λ z. Some (z, n)) (tuple_rounded p ks g)))
+
+  brackets : (p : Place) (i : Inside) (n : List Tok) (x : Tree) → bracket_inside rec (toks i) ≡ Some x → atom rec p (group del.Bracket i ∷ n) ≡ Some (x, n)
+  unfolding atom round_at bracket_at group_at bracket_read
+  brackets p i n x g = let a = bracket_front i n in rw (a.no_leaf, a.no_lead, g) refl
+
+  bracket_end : (m r : List Tok) (c : Ending) (x : Tree) (ks : Kids) → comma_or_end m ≡ Some (c, r) → bare_operands rec elements r ≡ Some (ks, []) → all_of (elements_by rec x m) ≡ Some (frame tr.array (kid tr.element c x ks))
+  unfolding ending_at
+  bracket_end m r c x ks a b = rw (a, b) refl
+
+  array_of : (l : List Tok) (c : Ending) (x : Tree) (ks : Kids) → Element l c x ks [] → weight l < k → bracket_inside rec l ≡ Some (frame tr.array (kid tr.element c x ks))
+  unfolding ending_at
+  array_of l c x ks a b =
+      let f = full rec k complete plain l a.middle x b a.node a.ending a.closing in
+      let i = node_less a.node in
+      let j = tail_falls (ending_left tr.element x a.middle c a.rest a.behind) in
+      let r = bare_read rec k complete elements a.rest [] ks a.more (omega (arith, i.less, j)) in
+      rw (there (node_less a.node), f, comma_no_semi a.middle a.rest c a.behind) (bracket_end a.middle a.rest c x ks a.behind r)
+
+  array_inside : (l : List Tok) (ks : Kids) → Operands elements l ks [] → weight l < k → bracket_inside rec l ≡ Some (frame tr.array ks)
+  array_inside l none d b = let (g, v) = none_is d in rw g refl
+  array_inside l (kid q c x ks) d b = array_of l c x ks (element_is d) b ∙ ap (λ z. Some (frame tr.array (kid z c x ks))) (sym (element_kind d))
+
+  repeat_of : (l : List Tok) (q : Piece) (c : Ending) (x : Tree) (ks : Kids) → Counted l q c x ks [] → weight l < k → bracket_inside rec l ≡ Some (frame tr.repeat (kid q c x ks))
+  repeat_of l q c x ks a b =
+      let f = full rec k complete plain l a.middle x b a.node a.ending a.closing in
+      let i = node_less a.node in
+      let r = bare_read rec k complete single (drop 1 a.middle) [] ks a.more (omega (arith, i.less, tail_falls (dropped 1 a.middle))) in
+      rw (there (node_less a.node), f, a.semicolon, r) (ap (λ (z : Piece × Ending). Some (frame tr.repeat (kid z.0 z.1 x ks))) (pair_is a.kind a.none_behind))
+    where
+      pair_is : q ≡ tr.repeated → c ≡ tr.no_ending → ◌≡◌ {A = Piece × Ending} (tr.repeated, tr.no_ending) (q, c)
+      pair_is v w = rw (v, w) refl
+
+  repeat_inside : (l : List Tok) (ks : Kids) → Operands counted l ks [] → weight l < k → bracket_inside rec l ≡ Some (frame tr.repeat ks)
+  repeat_inside l none d b = let (g, v) = none_is d in absurd cc
+  repeat_inside l (kid q c x ks) d b = repeat_of l q c x ks (counted_is d) b
+
+  array_atom : (p : Place) (l n : List Tok) (ks : Kids) → Content (s.within del.Bracket elements false) l ks n → weight l ≤ k → atom rec p l ≡ Some (frame tr.array ks, n)
+  array_atom p l n ks (holds_within {i = i} {o = o} g d f) b =
+      let (j, v, w) = group_is del.Bracket l i n g in
+      let t = group_inside del.Bracket l i n g in
+      let e : bracket_inside rec i ≡ Some (frame tr.array ks) = array_inside i ks (subst (λ z. Operands elements i ks z) (empty_is o f) d) (omega arith) in
+      subst (λ z. atom rec p z ≡ Some (frame tr.array ks, n)) (sym v) (brackets p j n (frame tr.array ks) (subst (λ z. bracket_inside rec z ≡ Some (frame tr.array ks)) (sym w) e))
+
+  repeat_atom : (p : Place) (l n : List Tok) (ks : Kids) → Content (s.within del.Bracket counted false) l ks n → weight l ≤ k → atom rec p l ≡ Some (frame tr.repeat ks, n)
+  repeat_atom p l n ks (holds_within {i = i} {o = o} g d f) b =
+      let (j, v, w) = group_is del.Bracket l i n g in
+      let t = group_inside del.Bracket l i n g in
+      let e : bracket_inside rec i ≡ Some (frame tr.repeat ks) = repeat_inside i ks (subst (λ z. Operands counted i ks z) (empty_is o f) d) (omega arith) in
+      subst (λ z. atom rec p z ≡ Some (frame tr.repeat ks, n)) (sym v) (brackets p j n (frame tr.repeat ks) (subst (λ z. bracket_inside rec z ≡ Some (frame tr.repeat ks)) (sym w) e))
+
+  round_atom : (p : Place) (l n : List Tok) (ks : Kids) → Content (s.within del.Parenthesis elements false) l ks n → weight l ≤ k → frame_stands p tr.tuple ks ≡ true → atom rec p l ≡ Some (frame tr.tuple ks, n)
+  round_atom p l n ks c b g =
+      let (j, v) = group_of_content c in
+      subst (λ z. atom rec p z ≡ Some (frame tr.tuple ks, n)) (sym v)
+      (tuple_atom p j n ks (subst (λ z. Content (s.within del.Parenthesis elements false) z ks n) v c) (subst (λ z. weight z ≤ k) v b) g)
+
+  -- ---- struct expressions
+
+  structure_inside : (p : Place) (q : QPathTree) (d : Bool) (l i n o : List Tok) (ks : Kids) → group_at del.Brace l ≡ Some (i, n) → bare_operands rec s.fields i ≡ Some (ks, o) → ends_list d o ≡ true
+      → frame_stands p (tr.structure q.0 q.1 d) ks ≡ true → structure_read rec p q l ≡ Some (frame (tr.structure q.0 q.1 d) ks, n)
+  structure_inside p q d l i n o ks a b e g =
+      let v : d ≡ not (is_empty o) = ends_is d o e in
+      rw (a, b) (subst (λ z. structured rec p q z o ks n ≡ Some (frame (tr.structure q.0 q.1 d) ks, n)) v (rw (e, g) refl))
+
+  structure_atom : (p : Place) (q : QPathTree) (d : Bool) (l m n : List Tok) (ks : Kids) → (qpath type style.Expr).behind q l ≡ Some m → Content (s.within del.Brace s.fields d) m ks n → weight m < k
+      → frame_stands p (tr.structure q.0 q.1 d) ks ≡ true → atom rec p l ≡ Some (frame (tr.structure q.0 q.1 d) ks, n)
+  unfolding named_read
+  structure_atom p q d l m n ks a (holds_within {i = i} {o = o} g c f) b t =
+      let (u, v) = no_try p q d ks t in
+      let front = qpath_front q l m a in
+      let (j, w, y) = group_is del.Brace m i n g in
+      let r = structure_inside p q d m i n o ks g (bare_read rec k complete s.fields i o ks c (omega (arith, group_inside del.Brace m i n g))) f t in
+      let e : (macro_end q).reads m ≡ Some (None, m) = subst (λ z. (macro_end q).reads z ≡ Some (None, z)) (sym w) (brace_no_macro q j n) in
+      unnamed rec p l (Some (frame (tr.structure q.0 q.1 d) ks, n)) (front.no_leaf (structure_no_try q l m a v) (structure_no_builtin q l m i n a g)) front
+      (rw (heads.qpaths.found l q m a, e) (pick (brace_at m) p.condition (structure_read rec p q m) (standing p (to_named (q, None)) m) (brace_there m i n g) u ∙ r))
+
+  -- ---- frames without a delimiter
+
+  ifs : (p : Place) (l : List Tok) (q : Option (Tree × List Tok)) → if_word.at l ≡ true → framed_by rec p tr.branch (drop 1 l) ≡ q → atom rec p l ≡ q
+  unfolding atom
+  ifs p l q g r = let a = if_front l g in rw (a.front.no_leaf, a.front.no_lead, a.front.no_round, a.front.no_bracket, a.no_become, g) r
+
+  matches : (p : Place) (l : List Tok) (q : Option (Tree × List Tok)) → match_word.at l ≡ true → framed_by rec p tr.choice (drop 1 l) ≡ q → atom rec p l ≡ q
+  unfolding atom
+  matches p l q g r = let a = match_front l g in rw (a.front.no_leaf, a.front.no_lead, a.front.no_round, a.front.no_bracket, a.no_become, a.no_if, a.no_loop, g) r
+
+  loop_reads : (p : Place) (l : List Tok) (q : Option (Tree × List Tok)) → LoopFront l → loop_read rec p l ≡ q → atom rec p l ≡ q
+  unfolding atom
+  loop_reads p l q a r = rw (a.no_leaf, a.no_lead, a.no_round, a.no_bracket, a.no_become, a.no_if, a.loops) r
+
+  while_read : (p : Place) (w : Option Text) (l m : List Tok) (q : Option (Tree × List Tok)) → label.behind w l ≡ Some m → while_word.at m ≡ true → framed_by rec p (tr.while_loop w) (drop 1 m) ≡ q → loop_read rec p l ≡ q
+  unfolding loop_read
+  while_read p w l m q a b r = rw (heads.labels.found l w m a, b) r
+
+  for_read : (p : Place) (w : Option Text) (x : PatTree) (l m h : List Tok) (q : Option (Tree × List Tok)) → label.behind w l ≡ Some m → while_word.at m ≡ false → for_head.behind x m ≡ Some h
+      → framed_by rec p (tr.for_loop w x) h ≡ q → loop_read rec p l ≡ q
+  unfolding loop_read
+  for_read p w x l m h q a b c r = rw (heads.labels.found l w m a, b, heads.fors.found m x h c) r
+
+  for_no_while : (m : List Tok) → for_word.at m ≡ true → while_word.at m ≡ false
+  for_no_while m g = let (a, b) = both_true (word_at (codes "for") m) _ g in subst (λ z. while_word.at z ≡ false) (sym (word_is (codes "for") m a)) (for_first_no_while (drop 1 m))
+
+  closure_atom : (p : Place) (f : ClosureHead) (l m : List Tok) (q : Option (Tree × List Tok)) → closure_head.behind f l ≡ Some m → lead_stands p (tr.closure f) m ≡ false → framed_by rec p (tr.closure_block f) m ≡ q → atom rec p l ≡ q
+  closure_atom p f l m q a b r =
+      let c = closure_front f l m a in
+      let d = c.closures f ∙ a in
+      let g = lead_front (tr.closure f) l m d in
+      leads rec p l q g.no_leaf g.leads (unled_read rec p (tr.closure f) l m q d b r)
+
+  no_lead_stands : (p : Place) (f : ClosureHead) (m : List Tok) (ks : Kids) → frame_stands p (tr.closure_block f) ks ≡ true → lead_stands p (tr.closure f) m ≡ false
+  unfolding frame_stands lead_stands
+  no_lead_stands p f m ks g = not_true _ g
+
+  pub frame_atom : (p : Place) (f : Frame) (l h n : List Tok) (ks : Kids) → frame_head f l ≡ Some h → Content (frame_holder f) h ks n → weight l ≤ k → frame_stands p f ks ≡ true → atom rec p l ≡ Some (frame f ks, n)
+  frame_atom p tr.array l h n ks a c b g = array_atom p l n ks (subst (λ z. Content (s.within del.Bracket elements false) z ks n) (sym (some_is a)) c) b
+  frame_atom p tr.tuple l h n ks a c b g = round_atom p l n ks (subst (λ z. Content (s.within del.Parenthesis elements false) z ks n) (sym (some_is a)) c) b g
+  frame_atom p tr.repeat l h n ks a c b g = repeat_atom p l n ks (subst (λ z. Content (s.within del.Bracket counted false) z ks n) (sym (some_is a)) c) b
+  frame_atom p (tr.structure q w d) l h n ks a c b g = let u = frame_less (tr.structure q w d) l h refl a in structure_atom p (q, w) d l h n ks a c (omega (arith, u.less)) g
+  frame_atom p (tr.closure_block f) l h n ks a c b g =
+      let u = frame_less (tr.closure_block f) l h refl a in
+      closure_atom p f l h (Some (frame (tr.closure_block f) ks, n)) a (no_lead_stands p f h ks g) (framed_read p (tr.closure_block f) h n ks c (omega (arith, u.less)) g)
+  frame_atom p tr.branch l h n ks a c b g =
+      let u = frame_less tr.branch l h refl a in
+      let (v, w) = only_some (if_word.at l) (Some (drop 1 l)) h a in
+      ifs p l (Some (frame tr.branch ks, n)) v (subst (λ z. framed_by rec p tr.branch z ≡ Some (frame tr.branch ks, n)) (sym (some_is w)) (framed_read p tr.branch h n ks c (omega (arith, u.less)) g))
+  frame_atom p tr.choice l h n ks a c b g =
+      let u = frame_less tr.choice l h refl a in
+      let (v, w) = only_some (match_word.at l) (Some (drop 1 l)) h a in
+      matches p l (Some (frame tr.choice ks, n)) v (subst (λ z. framed_by rec p tr.choice z ≡ Some (frame tr.choice ks, n)) (sym (some_is w)) (framed_read p tr.choice h n ks c (omega (arith, u.less)) g))
+  frame_atom p (tr.while_loop x) l h n ks a c b g =
+      let u = frame_less (tr.while_loop x) l h refl a in
+      let (m, i, j) = behind_some (label.behind x l) (if_at while_word) h a in
+      let (v, w) = only_some (while_word.at m) (Some (drop 1 m)) h j in
+      loop_reads p l (Some (frame (tr.while_loop x) ks, n)) (while_loop_front x l m i v) (while_read p x l m (Some (frame (tr.while_loop x) ks, n)) i v
+      (subst (λ z. framed_by rec p (tr.while_loop x) z ≡ Some (frame (tr.while_loop x) ks, n)) (sym (some_is w)) (framed_read p (tr.while_loop x) h n ks c (omega (arith, u.less)) g)))
+  frame_atom p (tr.for_loop x y) l h n ks a c b g =
+      let u = frame_less (tr.for_loop x y) l h refl a in
+      let (m, i, j) = behind_some (label.behind x l) (for_head.behind y) h a in
+      let (v, w) = only_some (for_word.at m) _ h j in
+      loop_reads p l (Some (frame (tr.for_loop x y) ks, n)) (for_loop_front x l m i v) (for_read p x y l m h (Some (frame (tr.for_loop x y) ks, n)) i (for_no_while m v) j
+      (framed_read p (tr.for_loop x y) h n ks c (omega (arith, u.less)) g))
+  frame_atom p tr.invisible l h n ks a c b g = absurd cc
+
+  -- ---- `become`
+
+  becomes : (p : Place) (l n : List Tok) (q : Option (Tree × List Tok)) → become_word.at l ≡ true → and_then (rec plain (drop 1 l)) (kept_from rec l) ≡ q → atom rec p l ≡ q
+  unfolding atom
+  becomes p l n q g r = let a = become_front l g in rw (a.no_leaf, a.no_lead, a.no_round, a.no_bracket, g) r
+
+  kept_is : (l n ts : List Tok) (x : Tree) → l ≡ ts ++ n → kept_from rec l x n ≡ Some (leaf (tr.verbatim ts), n)
+  kept_is l n ts x g = subst (λ z. kept_from rec z x n ≡ Some (leaf (tr.verbatim ts), n)) (sym g) (rw (taken_is ts n, same_toks-refl (ts ++ n)) refl)
+
+  pub become_atom : (p : Place) (l n ts : List Tok) (x : Tree) → become_word.at l ≡ true → rec plain (drop 1 l) ≡ Some (x, n) → l ≡ ts ++ n → atom rec p l ≡ Some (leaf (tr.verbatim ts), n)
+  become_atom p l n ts x w r g = becomes p l n (Some (leaf (tr.verbatim ts), n)) w (rw r (kept_is l n ts x g))
