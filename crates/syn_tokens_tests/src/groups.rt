@@ -281,26 +281,18 @@ fn head(input: &mut ParseBuffer<'_>) -> Result<Ident, Error> {
     Ok(word)
 }
 
-/// The place of what is left behind two groups, the second one read here or on a fork.
-fn left_in_two(alloc: Global, is_on_fork: bool) -> Result<Option<Span>, Error> {
+/// The place of what is left behind two groups.
+fn left_in_two(alloc: Global) -> Result<Option<Span>, Error> {
     let tokens = lex(alloc, "(a b) (c d)")?;
     let mut input = ParseBuffer::new(&tokens)?;
     let _ = head(&mut input)?;
-    if is_on_fork {
-        let mut fork = input.fork()?;
-        let _ = head(&mut fork)?;
-        input.advance_to(&fork);
-    } else {
-        let _ = head(&mut input)?;
-    }
+    let _ = head(&mut input)?;
     Ok(input.leftover())
 }
 
-/// The first note stays, whether a group or a fork has another.
+/// The first note stays where another group has one. (That it stays where a fork has one is a clause of `advance_to`.)
 #[test]
 fn left_in_two_groups(rt: HostRuntime) -> Result<(), Fail> {
-    let first = Some(Span { lo: 3, hi: 4 });
-    assert_eq!(rt; left_in_two(rt.alloc(), false)?, first);
-    assert_eq!(rt; left_in_two(rt.alloc(), true)?, first);
+    assert_eq!(rt; left_in_two(rt.alloc())?, Some(Span { lo: 3, hi: 4 }));
     Ok(())
 }
