@@ -45,11 +45,6 @@ pub and_true : (b : Bool) → b && true ≡ b
 and_true true = refl
 and_true false = refl
 
--- where the second is true, the first is false
-pub not_both : (a b : Bool) → a && b ≡ false → b ≡ true → a ≡ false
-not_both true b h e = sym e ∙ h
-not_both false b h e = refl
-
 -- ---- levels
 
 takes_rank : ℕ → ℕ → Bool

@@ -156,17 +156,6 @@ block_leaf p (e.const_block b) r h = (refl, refl)
 block_leaf p (e.try_block ts) r h = (refl, refl)
 block_leaf p k r h = absurd cc
 
-block_plain : (t : Tree) → is_block_like t ≡ true → is_adorned t ≡ false → is_operation t ≡ false
-block_plain (leaf (e.full_range op)) h a = absurd cc
-block_plain (leaf k) h a = refl
-block_plain (paren m t) h a = refl
-block_plain (adorned b more t) h a = absurd cc
-block_plain (lead k gs t) h a = absurd cc
-block_plain (mid x k y) h a = absurd cc
-block_plain (post x k) h a = absurd cc
-block_plain (tail b k ks) h a = refl
-block_plain (frame k ks) h a = refl
-
 block_pound : (t : Tree) (r : List Tok) → is_block_like t ≡ true → is_adorned t ≡ false → pound.at (own t r) ≡ false
 unfolding sign_at
 block_pound (leaf (e.block None b)) r h a = refl
@@ -255,17 +244,9 @@ frame_made : (p : Place) (k : Frame) (ks : Kids) (r : List Tok) → frame_fits k
     → Node p (own (frame k ks) r) (clear (frame k ks)) r
 frame_made p k ks r f g q z = st.is_frame (heads_back.frames k ks (kids_own ks (behind_operands (enclosure k) r)) r f g) q z
 
-done_none : (last : Bool) (ks : Kids) → FormedKids slot.done last ks → is_none ks ≡ true
-done_none last none f = refl
-done_none last (kid k c t ks) f = absurd (let g = f.0.piece in cc)
-
 nothing_held : (ks : Kids) (r : List Tok) → FormedKids slot.done false ks → Content nothing r (clear_kids ks) r
 nothing_held none r f = st.holds_none
 nothing_held (kid k c t ks) r f = absurd (let g = f.0.piece in cc)
-
-no_kids : (ks : Kids) → FormedKids slot.done false ks → ks ≡ none
-no_kids none f = refl
-no_kids (kid k c t ks) f = absurd (let g = f.0.piece in cc)
 
 not_kept : (t : Tree) → is_branch t ≡ true → is_kept_block t ≡ false
 not_kept (frame k ks) h = refl

@@ -1,229 +1,308 @@
--- What stands for the tokens is read.
-use Rattle.std.specs.Prelude.{not, ◌||◌, ◌&&◌, if◌then◌else◌}
-use Rattle.std.proofs.Common.{◌≡◌, ℕ, zero, suc, ◌<◌, ◌≤◌, Bool, true, false, cond, ⊎_elim, List, [], ◌∷◌, ◌++◌, drop, length, codes, Option, Some, None, refl, ap, sym, ◌∙◌, subst, arith}
+-- Trailers, attributes and operations, one behind the other: what stands for the tokens is read.
+use Rattle.std.specs.Prelude.{not, ◌||◌, ◌&&◌}
+use Rattle.std.proofs.Common.{◌≡◌, ℕ, zero, suc, ◌<◌, ◌≤◌, Bool, true, false, List, [], ◌∷◌, ◌++◌, drop, codes, Option, Some, None, refl, ap, sym, ◌∙◌, subst, arith}
 use Rattle.syn_lexer.specs.declared.lexeme.Delimiter.TheVariants as del
-use Rattle.syn_lexer.specs.declared.lexeme.Delimiter.{Delimiter}
-use Rattle.syn_lexer.specs.declared.lexeme.Spacing.{Spacing}
 use Rattle.syn_lexer.specs.declared.lexeme.Spacing.TheVariants as spacing
-use Rattle.syn_tokens.specs.Tok.{Tok, Inside, ident, literal, punct, group, toks, weight, weight-toks}
-use Rattle.syn_tokens.specs.Front.{group_at, is_empty}
-use Rattle.syn_tokens.specs.Floats.{float_parts}
-use Rattle.syn_parts.specs.Form.{Form, Outcome, and_then, then_behind, more, more_step, fix, iterate, split_first, is_nil}
+use Rattle.syn_tokens.specs.Tok.{Tok, ident, literal, punct, group, weight}
 use Rattle.syn_parts.specs.Tree.{AttributeTree}
-use Rattle.syn_parts.specs.Mark.{sign_at, word_at, brace_at, round_at, pound}
-use Rattle.syn_parts.specs.Part.{outer_attributes, outer_body, type}
+use Rattle.syn_parts.specs.Mark.{sign_at, pound}
+use Rattle.syn_parts.specs.Part.{outer_attributes}
 use Rattle.syn_parts.specs.Pat.{an_index}
-use Rattle.syn_parts.proofs.Ends.{sign_first}
+use Rattle.syn_parts.proofs.Marks.{word_present}
 use Rattle.syn_parts.proofs.Same.{same_toks-refl}
 use Rattle.syn_grammar.specs.declared.kinds.Place.{Place}
 use Rattle.syn_grammar.specs.declared.kinds.Infix.{Infix}
 use Rattle.syn_grammar.specs.declared.kinds.Infix.TheVariants as inf
 use Rattle.syn_grammar.specs.declared.kinds.Limits.TheVariants as limits
 use Rattle.syn_grammar.specs.declared.kinds.Level.{Level}
-use Rattle.syn_grammar.specs.Place.{plain, before_block, at, takes}
+use Rattle.syn_grammar.specs.Place.{plain, at, takes}
 use Rattle.syn_grammar.specs.Op.{infix_at, level, goes_on, takes_by, is_comparison}
-use Rattle.syn_grammar.specs.Front.{bracket_at, question_at, dot_at, trailer_at, ends_open_range}
 use Rattle.syn_grammar.specs.Tree as tr
 use Rattle.syn_grammar.specs.Tree.{Tree, Kids, Post, Trailer, leaf, paren, adorned, lead, mid, post, tail, frame, none, kid, post_op}
-use Rattle.syn_grammar.specs.Head.{dotted}
-use Rattle.syn_grammar.specs.Slot as s
-use Rattle.syn_grammar.specs.Slot.{Slot, trailer_holder}
-use Rattle.syn_grammar.specs.Stands.{Node, is_leaf, is_become, is_attributed, is_paren, is_adorned_by, is_lead, is_mid, is_post, is_tail, is_indexed, is_frame, Content, holds_within, Stands, ends, closes, compares, goes_behind, carries, is_cast, rests, is_range, is_infix, is_adorned, is_pounded, fits_left, fits_base, is_base, is_call, is_named_field, is_parenthesis_or_bracket, lead_place, may_adorn, mid_stands, post_stands, post_behind, ends_operation, refuses_dots, refuses_arrow, trailer_head, fields_head, name_at, indices_at, steps_of, open_steps, closed_steps, named_behind, with_steps, fields_of}
-use Rattle.syn_grammar.specs.Read.{Reading, content, trailed_by, indexed_by, dotted_by, trailed, trail, core, atom, operand, attributed, adorned_by, is_taken, taken, verbatim_of, stop, taken_by, taken_at, next_operator, operation, post_made, mid_read, longer, closing, turn, climb, at_place}
-use Rattle.syn_grammar.proofs.HeadMoves.{IsLess, less_then, then_less, dropped, marked, taken_is, tail_falls, left, left_less, fields_less, trailer_less, trailer_left, grouped}
-use Rattle.syn_grammar.proofs.Chains.{some_is, only_some, behind_some, chosen, both_true, neither, not_true, one_true}
+use Rattle.syn_grammar.specs.Slot.{trailer_holder}
+use Rattle.syn_grammar.specs.Stands.{Node, is_leaf, is_become, is_attributed, is_paren, is_adorned_by, is_lead, is_mid, is_post, is_tail, is_indexed, is_frame, Content, Stands, ends, closes, compares, goes_behind, carries, is_cast, rests, is_range, is_adorned, is_pounded, fits_left, lead_place, may_adorn, mid_stands, post_stands, post_behind, ends_operation, refuses_dots, refuses_arrow, trailer_head, fields_of}
+use Rattle.syn_grammar.specs.Read.{Reading, trailed, trail, core, atom, operand, attributed, verbatim_of, stop, taken_by, taken_at, next_operator, post_made, mid_read, longer, turn, climb, at_place, become_word}
+use Rattle.syn_grammar.proofs.HeadMoves.{post_left, IsLess, less_then, marked, taken_is, tail_falls, left, left_less, fields_less, trailer_less, trailer_left}
+use Rattle.syn_grammar.proofs.Chains.{some_is, neither, not_true}
 use Rattle.syn_grammar.proofs.Needs.{heads}
-use Rattle.syn_grammar.proofs.Lesses.{here, node_less, content_left, operator_less}
-use Rattle.syn_grammar.proofs.Sound.{group_is}
-use Rattle.syn_grammar.proofs.Fronts.{second_true, first_true}
+use Rattle.syn_grammar.proofs.Lesses.{within_less, here, node_less, content_left, operator_less}
+use Rattle.syn_tokens.specs.Input.{IsTail}
+use Rattle.syn_grammar.proofs.ReadTrailers.{pound_there, pound_behind, base_is, index_next, tail_next}
 use Rattle.syn_grammar.proofs.ReadOperands.{full, content_read}
 use Rattle.syn_grammar.proofs.ReadAtoms.{leaf_atom, no_pound}
 use Rattle.syn_grammar.proofs.ReadFrames.{lead_atom, paren_atom, frame_atom, become_atom}
 
--- ---- attributes
+tail_less : (t : Trailer) (m h n : List Tok) (is : List ℕ) (ks : Kids) → trailer_head t m ≡ Some (is, h) → Content (trailer_holder t) h ks n → IsTail n h → IsLess n m
+unfolding trailer_head
+tail_less tr.call m h n is ks a c t = subst (λ z. IsLess n z) (sym (ap (λ (r : List ℕ × List Tok). r.1) (some_is a))) (within_less c)
+tail_less tr.index m h n is ks a c t = subst (λ z. IsLess n z) (sym (ap (λ (r : List ℕ × List Tok). r.1) (some_is a))) (within_less c)
+tail_less tr.question m h n is ks a c t = less_then (trailer_less tr.question m is h refl a) t
+tail_less (tr.method w g) m h n is ks a c t = less_then (trailer_less (tr.method w g) m is h refl a) t
+tail_less (tr.field y) m h n is ks a c t = less_then (trailer_less (tr.field y) m is h refl a) t
+tail_less tr.await m h n is ks a c t = less_then (trailer_less tr.await m is h refl a) t
 
-pub pound_there : (a : AttributeTree) (ats : List AttributeTree) (l m : List Tok) → outer_attributes.behind (a ∷ ats) l ≡ Some m → pound.at l ≡ true
-unfolding outer_attributes more fix iterate
-pound_there a ats l m g = ⊎_elim (λ j. j.0) (λ j. absurd cc) (chosen (pound.at l) _ None (Some m) g)
+-- ---- which nodes are operands without attributes
 
-iterated : (n : ℕ) (ats : List AttributeTree) (l m : List Tok) → (iterate (more_step pound outer_body) n tt).behind ats l ≡ Some m → pound.at m ≡ false
-unfolding iterate
-iterated zero ats l m g = absurd cc
-iterated (suc n) ats l m g = by_test (pound.at l) refl (λ xs i h. iterated n xs i m h) g
-  where
-    by_parts : (o : Option (AttributeTree × List AttributeTree)) → ((xs : List AttributeTree) (i : List Tok) → (iterate (more_step pound outer_body) n tt).behind xs i ≡ Some m → pound.at m ≡ false)
-        → then_behind o (λ z. then_behind (outer_body.behind z.0 (drop 1 l)) ((iterate (more_step pound outer_body) n tt).behind z.1)) ≡ Some m → pound.at m ≡ false
-    by_parts None again h = absurd cc
-    by_parts (Some z) again h = let (i, a, b) = behind_some (outer_body.behind z.0 (drop 1 l)) _ m h in again z.1 i b
+abbrev is_plain : {p : Place} {l n : List Tok} {x : Tree} → Node p l x n → Bool
+is_plain (is_attributed a more fs b d i j) = false
+is_plain (is_adorned_by b f d) = false
+is_plain (is_mid d c f i t g r e q a) = false
+is_plain (is_post d c f i t b g a) = false
+is_plain _ = true
 
-    by_test : (b : Bool) → pound.at l ≡ b → ((xs : List AttributeTree) (i : List Tok) → (iterate (more_step pound outer_body) n tt).behind xs i ≡ Some m → pound.at m ≡ false)
-        → cond b (cond b (then_behind (split_first ats) (λ z. then_behind (outer_body.behind z.0 (drop 1 l)) ((iterate (more_step pound outer_body) n tt).behind z.1))) None) (cond (is_nil ats) (Some l) None) ≡ Some m → pound.at m ≡ false
-    by_test true v again h = by_parts (split_first ats) again h
-    by_test false v again h = let (a, b) = only_some (is_nil ats) (Some l) m h in subst (λ z. pound.at z ≡ false) (some_is b) v
+abbrev is_operand : {p : Place} {l n : List Tok} {x : Tree} → Node p l x n → Bool
+is_operand (is_mid d c f i t g r e q a) = false
+is_operand (is_post d c f i t b g a) = false
+is_operand _ = true
 
-pub pound_behind : (ats : List AttributeTree) (l m : List Tok) → outer_attributes.behind ats l ≡ Some m → pound.at m ≡ false
-unfolding outer_attributes more fix
-pound_behind ats l m g = iterated (suc (weight l)) ats l m g
+same_first : (x : Tok) (l m : List Tok) → pound.at (x ∷ l) ≡ true → pound.at (x ∷ m) ≡ true
+unfolding sign_at
+same_first (punct c spacing.Alone) l m g = g
+same_first (punct c spacing.Joint) l m g = g
+same_first (ident w) l m g = absurd cc
+same_first (literal w) l m g = absurd cc
+same_first (group d i) l m g = absurd cc
 
--- ---- trailers
+word_less : (l : List Tok) → become_word.at l ≡ true → weight (drop 1 l) < weight l
+word_less l g = let a = marked (word_present (codes "become")) l g in a.less
 
-pub record Dotted (m : List Tok) : Type 0 where
-  pub no_round : round_at m ≡ false
-  pub no_bracket : bracket_at m ≡ false
-  pub no_question : question_at m ≡ false
+-- tokens with an attribute first
+pounded : (l fs m ts us : List Tok) → pound.at l ≡ true → pound.at m ≡ false → l ≡ fs ++ m → us ≡ fs ++ ts → pound.at us ≡ true
+pounded l [] m ts us a b i j = let c : l ≡ m = i in absurd (cc (a, b, ap (λ z. pound.at z) c))
+pounded l (x ∷ fs) m ts us a b i j = subst (λ z. pound.at z ≡ true) (sym j) (same_first x (fs ++ m) (fs ++ ts) (subst (λ z. pound.at z ≡ true) i a))
 
-dot_first : (s : Spacing) (m : List Tok) → Dotted (punct 46 s ∷ m)
-unfolding round_at bracket_at group_at question_at sign_at
-dot_first spacing.Alone m = record { no_round = refl; no_bracket = refl; no_question = refl }
-dot_first spacing.Joint m = record { no_round = refl; no_bracket = refl; no_question = refl }
+base_plain : {p : Place} {l n : List Tok} {x : Tree} (d : Node p l x n) → carries x ≡ true → is_adorned x ≡ false → is_pounded x ≡ false → is_plain d ≡ true
+base_plain (is_attributed {l = l} {m = m} {ts = ts} {us = us} a more fs b d i j) c f g = absurd (cc (g, pounded l fs m ts us (pound_there a more l m b) (pound_behind (a ∷ more) l m b) i j))
+base_plain (is_adorned_by b h d) c f g = absurd cc
+base_plain (is_mid d c h i t g r e q a) v f w = absurd cc
+base_plain (is_post d c h i t b g a) v f w = absurd cc
+base_plain _ c f g = refl
 
-dot_front : (m : List Tok) → dot_at m ≡ true → Dotted m
-unfolding dot_at
-dot_front m g = let (a, b) = both_true (sign_at (codes ".") m) _ g in sign_first 46 [] (λ z. Dotted z) dot_first m a
+verbatim_plain : {p : Place} {l n ts : List Tok} {x : Tree} (d : Node p l x n) → x ≡ leaf (tr.verbatim ts) → pound.at l ≡ false → is_plain d ≡ true
+verbatim_plain (is_attributed {l = l} {m = m} a more fs b d i j) e g = absurd (cc (g, pound_there a more l m b))
+verbatim_plain (is_adorned_by b h d) e g = absurd cc
+verbatim_plain (is_mid d c h i t g r e q a) v f = absurd cc
+verbatim_plain (is_post d c h i t b g a) v f = absurd cc
+verbatim_plain _ e g = refl
 
-question_front : (m : List Tok) → question_at m ≡ true → (round_at m ≡ false) × (bracket_at m ≡ false)
-unfolding question_at round_at bracket_at group_at
-question_front m g = sign_first 63 [] (λ z. (round_at z ≡ false) × (bracket_at z ≡ false)) (λ s n. (refl, refl)) m g
+adorned_plain : {p : Place} {l n : List Tok} {x : Tree} (d : Node p l x n) → may_adorn p x ≡ true → is_plain d ≡ true
+adorned_plain (is_attributed a more fs b d i j) g = absurd cc
+adorned_plain (is_adorned_by b h d) g = absurd cc
+adorned_plain (is_mid d c h i t g r e q a) v = absurd cc
+adorned_plain (is_post d c h i t b g a) v = absurd cc
+adorned_plain _ g = refl
 
-bracket_group : (m i n : List Tok) → group_at del.Bracket m ≡ Some (i, n) → (round_at m ≡ false) × (bracket_at m ≡ true)
-unfolding round_at bracket_at group_at
-bracket_group m i n g = let (j, v, w) = group_is del.Bracket m i n g in rw v (refl, refl)
+may_no_verbatim : (p : Place) (x : Tree) → may_adorn p x ≡ true → verbatim_of x ≡ None
+may_no_verbatim p (leaf (tr.verbatim ts)) g = absurd cc
+may_no_verbatim p (leaf _) g = refl
+may_no_verbatim p _ g = refl
 
-round_group : (m i n : List Tok) → group_at del.Parenthesis m ≡ Some (i, n) → round_at m ≡ true
-unfolding round_at
-round_group m i n g = rw g refl
+less_closes : (a g : Bool) → not ((a || false) && g) ≡ true → (c : Bool) → c ≡ false → not ((a || c) && g) ≡ true
+less_closes a g h c v = rw v h
 
-content_group : {d : Delimiter} {v : Slot} {b : Bool} {l n : List Tok} {ks : Kids} → Content (s.within d v b) l ks n → (i : List Tok) × (group_at d l ≡ Some (i, n))
-content_group (holds_within {i = i} g o f) = (i, g)
+may_no_cast : (p : Place) (x : Tree) → may_adorn p x ≡ true → is_cast x ≡ false
+may_no_cast p (post x k) g = absurd cc
+may_no_cast p _ g = refl
 
-name_no_index : (l : List Tok) (q : List ℕ × List Tok) → name_at l ≡ Some q → indices_at l ≡ None
-unfolding name_at indices_at
-name_no_index (literal t ∷ l) q g = by_steps (steps_of (float_parts t)) g
-  where
-    by_steps : (o : Option (List ℕ × Bool)) → open_steps o l ≡ Some q → closed_steps o l ≡ None
-    by_steps None h = refl
-    by_steps (Some (is, true)) h = refl
-    by_steps (Some (is, false)) h = absurd cc
-name_no_index _ q g = refl
-
-pub record Base (b : Tree) : Type 0 where
-  pub carrying : carries b ≡ true
-  pub bare : is_adorned b ≡ false
-  pub no_pound : is_pounded b ≡ false
-
-pub base_is : (p : Place) (t : Trailer) (b : Tree) → fits_base p t b ≡ true → Base b
-unfolding fits_base
-base_is p t b g =
-    let (a, c) = both_true (is_base t b) _ g in
-    let (d, f) = both_true (carries b) (not (is_adorned b || is_pounded b) && not (is_call t && is_named_field b)) a in
-    let (h, i) = both_true (not (is_adorned b || is_pounded b)) _ f in
-    let (j, k) = neither (is_adorned b) (is_pounded b) (not_true _ h) in
-    record { carrying = d; bare = j; no_pound = k }
-
-base_no_rest : (p : Place) (t : Trailer) (b : Tree) → fits_base p t b ≡ true → is_parenthesis_or_bracket t ≡ true → rests p b ≡ false
-unfolding fits_base
-base_no_rest p t b g h =
-    let (a, c) = both_true (is_base t b) _ g in
-    let d : (is_parenthesis_or_bracket t && rests p b) ≡ false = not_true _ c in rw h at d
-
-opens : (p : Place) (b : Tree) (m : List Tok) → carries b ≡ true → goes_behind (rests p b) m ≡ true → closes p b m ≡ false
+bare_closes : (p : Place) (a : AttributeTree) (more : List AttributeTree) (x : Tree) (n : List Tok) → may_adorn p x ≡ true → closes p (adorned a more x) n ≡ true → closes p x n ≡ true
 unfolding closes
-opens p b m c g = rw (c, g) refl
+bare_closes p a more x n m h = less_closes (carries x) (goes_behind (rests p x) n) h (is_cast x) (may_no_cast p x m)
 
-dot_goes : (b : Bool) (m : List Tok) → dot_at m ≡ true → goes_behind b m ≡ true
-unfolding trailer_at
-dot_goes true m g = first_true _ g
-dot_goes false m g = second_true (round_at m) (second_true (bracket_at m) (second_true (question_at m) g))
+goes_none : (v : Level) (n : List Tok) → goes_on v n ≡ false → taken_at v n ≡ None
+unfolding goes_on taken_at
+goes_none v n h = go (infix_at n) h
+  where
+    go : (o : Option (Infix × ℕ)) → takes_by v o ≡ false → taken_by v o ≡ None
+    go None h = refl
+    go (Some k) h = rw h refl
 
-question_goes : (b : Bool) (m : List Tok) → question_at m ≡ true → goes_behind b m ≡ true
-unfolding trailer_at
-question_goes true m g = second_true (dot_at m) g
-question_goes false m g = second_true (round_at m) (second_true (bracket_at m) (first_true _ g))
+ends_next : (p : Place) (x : Tree) (n : List Tok) → ends p x n ≡ true → next_operator p x n ≡ None
+unfolding ends
+ends_next p x n h = go (is_range x) (rests p x) (goes_on p.level n) refl refl refl h
+  where
+    go : (a b c : Bool) → is_range x ≡ a → rests p x ≡ b → goes_on p.level n ≡ c → (a || (b || not (c || (refuses_dots p.level n || refuses_arrow p.level n)))) ≡ true → next_operator p x n ≡ None
+    go true b c u v w h = rw u refl
+    go false true c u v w h = rw (u, v) refl
+    go false false true u v w h = absurd cc
+    go false false false u v w h = rw (u, v) (goes_none p.level n w)
 
-round_goes : (b : Bool) (m : List Tok) → b ≡ false → round_at m ≡ true → goes_behind b m ≡ true
-unfolding trailer_at
-round_goes true m a g = absurd cc
-round_goes false m a g = first_true _ g
-
-bracket_goes : (b : Bool) (m : List Tok) → b ≡ false → bracket_at m ≡ true → goes_behind b m ≡ true
-unfolding trailer_at
-bracket_goes true m a g = absurd cc
-bracket_goes false m a g = second_true (round_at m) (first_true _ g)
+next_is : (p : Place) (x : Tree) (n : List Tok) (op : Infix) (count : ℕ) → fits_left p op x ≡ true → infix_at n ≡ Some (op, count) → takes p.level (level op) ≡ true → next_operator p x n ≡ Some (op, count)
+unfolding fits_left taken_at
+next_is p x n op count f i t =
+    let (a, b) = neither (is_range x) ((is_comparison op && compares x) || rests p x) (not_true _ f) in
+    let (c, d) = neither (is_comparison op && compares x) (rests p x) b in rw (a, d, i, t) refl
 
 module _ (rec : Place → Reading Tree) where
-  -- a trailer that is read behind a base, from which the base can go on
-  pub record Next (p : Place) (b : Tree) (m : List Tok) (x : Tree) (n : List Tok) : Type 0 where
-    pub opened : closes p b m ≡ false
-    pub reading : trailed rec p b m ≡ Some (x, n)
+  -- ---- where the reading of an operand comes to
 
-  round_next : (p : Place) (b : Tree) (m n : List Tok) (ks : Kids) → fits_base p tr.call b ≡ true → round_at m ≡ true → content rec (trailer_holder tr.call) m ≡ Some (ks, n) → Next p b m (tail b tr.call ks) n
-  unfolding trailed
-  round_next p b m n ks f r c =
-      let a = base_is p tr.call b f in
-      record { opened = opens p b m a.carrying (round_goes (rests p b) m (base_no_rest p tr.call b f refl) r); reading = rw (r, f, c) refl }
+  record Trails (p : Place) (l : List Tok) (x : Tree) (n : List Tok) : Type 0 where
+    turns : ℕ
+    few : weight n < turns
+    came : core rec p l ≡ trail rec p turns x n
+    started : pound.at l ≡ false
 
-  bracket_next : (p : Place) (b : Tree) (m n : List Tok) (ks : Kids) → fits_base p tr.index b ≡ true → round_at m ≡ false → bracket_at m ≡ true → content rec (trailer_holder tr.index) m ≡ Some (ks, n) → Next p b m (tail b tr.index ks) n
-  unfolding trailed
-  bracket_next p b m n ks f q r c =
-      let a = base_is p tr.index b f in
-      record { opened = opens p b m a.carrying (bracket_goes (rests p b) m (base_no_rest p tr.index b f refl) r); reading = rw (q, r, f, c) refl }
+  from_atom : (p : Place) (l n : List Tok) (x : Tree) → atom rec p l ≡ Some (x, n) → Trails p l x n
+  unfolding core
+  from_atom p l n x g = record { turns = suc (weight n); few = omega arith; came = rw g refl; started = no_pound rec p l (x, n) g }
 
-  question_next : (p : Place) (b : Tree) (m n : List Tok) (ks : Kids) → fits_base p tr.question b ≡ true → question_at m ≡ true → content rec (trailer_holder tr.question) (drop 1 m) ≡ Some (ks, n) → Next p b m (tail b tr.question ks) n
-  unfolding trailed
-  question_next p b m n ks f q c =
-      let a = base_is p tr.question b f in
-      let (u, v) = question_front m q in
-      record { opened = opens p b m a.carrying (question_goes (rests p b) m q); reading = rw (u, v, q, f, c) refl }
+  on : (turns : ℕ) (p : Place) (l m n : List Tok) (b x : Tree) → weight m < turns → core rec p l ≡ trail rec p turns b m → pound.at l ≡ false → closes p b m ≡ false → trailed rec p b m ≡ Some (x, n) → weight n < weight m → Trails p l x n
+  unfolding trail
+  on zero p l m n b x f c s a r w = absurd (omega arith)
+  on (suc turns) p l m n b x f c s a r w = record { turns = turns; few = omega arith; came = c ∙ rw (a, r) refl; started = s }
 
-  dot_next : (p : Place) (t : Trailer) (b : Tree) (m h g n : List Tok) (is : List ℕ) (ks : Kids) → fits_base p t b ≡ true → dot_at m ≡ true → name_at (drop 1 m) ≡ Some (is, h) → dotted.behind t h ≡ Some g
-      → content rec (trailer_holder t) g ≡ Some (ks, n) → Next p b m (tail (fields_of b is) t ks) n
-  unfolding trailed
-  dot_next p t b m h g n is ks f d i j c =
-      let a = base_is p t b f in
-      let u = dot_front m d in
-      record { opened = opens p b m a.carrying (dot_goes (rests p b) m d); reading = rw (u.no_round, u.no_bracket, u.no_question, d, name_no_index (drop 1 m) (is, h) i, i, heads.dots.found h t g j, f, c) refl }
+  ended : (turns : ℕ) (p : Place) (x : Tree) (n : List Tok) → weight n < turns → closes p x n ≡ true → trail rec p turns x n ≡ Some (x, n)
+  unfolding trail
+  ended zero p x n f c = absurd (omega arith)
+  ended (suc turns) p x n f c = rw c refl
 
-  pub index_next : (p : Place) (b : Tree) (m n : List Tok) (i : ℕ) (is : List ℕ) → fits_base p (tr.field (an_index i)) b ≡ true → fields_head m ≡ Some (i ∷ is, n) → Next p b m (fields_of b (i ∷ is)) n
-  unfolding trailed fields_head
-  index_next p b m n i is f g =
-      let a = base_is p (tr.field (an_index i)) b f in
-      let (d, c) = only_some (dot_at m) (indices_at (drop 1 m)) (i ∷ is, n) g in
-      let u = dot_front m d in
-      record { opened = opens p b m a.carrying (dot_goes (rests p b) m d); reading = rw (u.no_round, u.no_bracket, u.no_question, d, c, f) refl }
+  core_read : (p : Place) (l n : List Tok) (x : Tree) → Trails p l x n → closes p x n ≡ true → core rec p l ≡ Some (x, n)
+  core_read p l n x t c = t.came ∙ ended t.turns p x n t.few c
 
-  dotted_next : (p : Place) (t : Trailer) (b : Tree) (m g n : List Tok) (is : List ℕ) (ks : Kids) → fits_base p t b ≡ true → cond (dot_at m) (named_behind t (name_at (drop 1 m))) None ≡ Some (is, g)
-      → content rec (trailer_holder t) g ≡ Some (ks, n) → Next p b m (tail (fields_of b is) t ks) n
-  dotted_next p t b m g n is ks f h c =
-      let (d, i) = only_some (dot_at m) (named_behind t (name_at (drop 1 m))) (is, g) h in by_name d (name_at (drop 1 m)) refl i
-    where
-      by_behind : dot_at m ≡ true → (js : List ℕ) (j : List Tok) → name_at (drop 1 m) ≡ Some (js, j) → (o : Option (List Tok)) → dotted.behind t j ≡ o → with_steps js o ≡ Some (is, g) → Next p b m (tail (fields_of b is) t ks) n
-      by_behind d js j v None w i = absurd cc
-      by_behind d js j v (Some y) w i =
-          let u : (js, y) ≡ (is, g) = some_is i in
-          let x : js ≡ is = ap (λ (r : List ℕ × List Tok). r.0) u in
-          let z : y ≡ g = ap (λ (r : List ℕ × List Tok). r.1) u in
-          dot_next p t b m j g n is ks f d (subst (λ r. name_at (drop 1 m) ≡ Some (r, j)) x v) (w ∙ ap (λ r. Some r) z) c
+  bare_operand : (p : Place) (l : List Tok) (q : Option (Tree × List Tok)) → pound.at l ≡ false → core rec p l ≡ q → operand rec p l ≡ q
+  unfolding operand
+  bare_operand p l q a r = rw a r
 
-      by_name : dot_at m ≡ true → (o : Option (List ℕ × List Tok)) → name_at (drop 1 m) ≡ o → named_behind t o ≡ Some (is, g) → Next p b m (tail (fields_of b is) t ks) n
-      by_name d None v i = absurd cc
-      by_name d (Some q) v i = by_behind d q.0 q.1 v (dotted.behind t q.1) refl i
+  behind_attributes : (p : Place) (l m n : List Tok) (ats : List AttributeTree) (x : Tree) (q : Option (Tree × List Tok)) → pound.at l ≡ true → outer_attributes.behind ats l ≡ Some m → core rec p m ≡ Some (x, n)
+      → attributed p l m ats x n ≡ q → operand rec p l ≡ q
+  unfolding operand
+  behind_attributes p l m n ats x q a b c r = rw (a, heads.outers.found l ats m b, c) r
 
-  pub tail_next : (p : Place) (t : Trailer) (b : Tree) (m g n : List Tok) (is : List ℕ) (ks : Kids) → fits_base p t b ≡ true → trailer_head t m ≡ Some (is, g) → Content (trailer_holder t) g ks n
-      → content rec (trailer_holder t) g ≡ Some (ks, n) → Next p b m (tail (fields_of b is) t ks) n
-  unfolding trailer_head
-  tail_next p tr.call b m g n is ks f h d c =
-      let u : ([], m) ≡ (is, g) = some_is h in
-      subst (λ (r : List ℕ × List Tok). content rec (trailer_holder tr.call) r.1 ≡ Some (ks, n) → Content (trailer_holder tr.call) r.1 ks n → Next p b m (tail (fields_of b r.0) tr.call ks) n) u
-      (λ c d. let (i, w) = content_group d in round_next p b m n ks f (round_group m i n w) c) c d
-  tail_next p tr.index b m g n is ks f h d c =
-      let u : ([], m) ≡ (is, g) = some_is h in
-      subst (λ (r : List ℕ × List Tok). content rec (trailer_holder tr.index) r.1 ≡ Some (ks, n) → Content (trailer_holder tr.index) r.1 ks n → Next p b m (tail (fields_of b r.0) tr.index ks) n) u
-      (λ c d. let (i, w) = content_group d in let (v, y) = bracket_group m i n w in bracket_next p b m n ks f v y c) c d
-  tail_next p tr.question b m g n is ks f h d c =
-      let (q, i) = only_some (question_at m) (Some ([], drop 1 m)) (is, g) h in
-      let u : ([], drop 1 m) ≡ (is, g) = some_is i in
-      subst (λ (r : List ℕ × List Tok). content rec (trailer_holder tr.question) r.1 ≡ Some (ks, n) → Next p b m (tail (fields_of b r.0) tr.question ks) n) u
-      (λ c. question_next p b m n ks f q c) c
-  tail_next p (tr.method w a) b m g n is ks f h d c = dotted_next p (tr.method w a) b m g n is ks f h c
-  tail_next p (tr.field y) b m g n is ks f h d c = dotted_next p (tr.field y) b m g n is ks f h c
-  tail_next p tr.await b m g n is ks f h d c = dotted_next p tr.await b m g n is ks f h c
+  tokens_adorned : (p : Place) (l m n fs ts us : List Tok) (a : AttributeTree) (more : List AttributeTree) → l ≡ fs ++ m → us ≡ fs ++ ts → attributed p l m (a ∷ more) (leaf (tr.verbatim ts)) n ≡ Some (leaf (tr.verbatim us), n)
+  tokens_adorned p l m n fs ts us a more i j =
+      subst (λ z. attributed p z m (a ∷ more) (leaf (tr.verbatim ts)) n ≡ Some (leaf (tr.verbatim us), n)) (sym i) (rw (taken_is fs m, same_toks-refl (fs ++ m), j) refl)
+
+  tree_adorned : (p : Place) (l m n : List Tok) (x : Tree) (a : AttributeTree) (more : List AttributeTree) → may_adorn p x ≡ true → attributed p l m (a ∷ more) x n ≡ Some (adorned a more x, n)
+  tree_adorned p l m n x a more g = rw (may_no_verbatim p x g, g) refl
+
+  module _ (k : ℕ) (complete : (p : Place) (l n : List Tok) (x : Tree) → weight l < k → Stands p l x n → rec p l ≡ Some (x, n)) where
+    core_comes : {p : Place} {l n : List Tok} {x : Tree} (d : Node p l x n) → weight l ≤ k → is_plain d ≡ true → Trails p l x n
+    core_comes (is_leaf {p = p} {l = l} {n = n} {k = f} h g) b y = from_atom p l n (leaf f) (leaf_atom rec p f l n h g)
+    core_comes (is_become {p = p} {l = l} {n = n} {ts = ts} {x = x} w d e c i) b y =
+        from_atom p l n (leaf (tr.verbatim ts)) (become_atom rec k complete p l n ts x w (full rec k complete plain (drop 1 l) n x (omega (arith, word_less l w)) d e c) i)
+    core_comes (is_attributed a more fs v d i j) b y = absurd cc
+    core_comes (is_adorned_by v f d) b y = absurd cc
+    core_comes (is_mid d c f i t g r e q a) b y = absurd cc
+    core_comes (is_post d c f i t v g a) b y = absurd cc
+    core_comes (is_paren {p = p} {i = i} {n = n} {x = x} d e c) b y = from_atom p (group del.Parenthesis i ∷ n) n (paren false x) (paren_atom rec k complete p i n x b d e c)
+    core_comes (is_lead {p = p} {l = l} {m = m} {n = n} {k = f} {x = x} h g d e c) b y =
+        let u = left_less here.leads f l m h in
+        from_atom p l n (lead f none x) (lead_atom rec k complete p f l m n x h g (full rec k complete (lead_place p f) m n x (omega (arith, u.less)) d e c))
+    core_comes (is_tail {p = p} {l = l} {m = m} {h = h} {n = n} {b = v} {x = x} {k = t} {is = is} {ks = ks} d f a c i) b y =
+        let w = base_is p t v f in
+        let r = core_comes d b (base_plain d w.carrying w.bare w.no_pound) in
+        let g = node_less d in
+        let z = tail_less t m h n is ks a c (content_left c) in
+        let o = tail_next rec p t v m h n is ks f a c (content_read rec k complete (trailer_holder t) h n ks c (omega (arith, g.less, tail_falls (trailer_left t m is h a)))) in
+        subst (λ u. Trails p l (tail u t ks) n) (sym i) (on r.turns p l m n v (tail (fields_of v is) t ks) r.few r.came r.started o.opened o.reading z.less)
+    core_comes (is_indexed {p = p} {l = l} {m = m} {n = n} {b = v} {x = x} {i = i} {is = is} d f a j) b y =
+        let w = base_is p (tr.field (an_index i)) v f in
+        let r = core_comes d b (base_plain d w.carrying w.bare w.no_pound) in
+        let o = index_next rec p v m n i is f a in
+        let z = fields_less m (i ∷ is) n a in
+        subst (λ u. Trails p l u n) (sym j) (on r.turns p l m n v (fields_of v (i ∷ is)) r.few r.came r.started o.opened o.reading z.less)
+    core_comes (is_frame {p = p} {l = l} {h = h} {n = n} {k = f} {ks = ks} a c g) b y = from_atom p l n (frame f ks) (frame_atom rec k complete p f l h n ks a c b g)
+
+    plain_operand : {p : Place} {l n : List Tok} {x : Tree} (d : Node p l x n) → weight l ≤ k → is_plain d ≡ true → closes p x n ≡ true → operand rec p l ≡ Some (x, n)
+    plain_operand {p} {l} {n} {x} d b y c = let t = core_comes d b y in bare_operand p l (Some (x, n)) t.started (core_read p l n x t c)
+
+    operand_comes : {p : Place} {l n : List Tok} {x : Tree} (d : Node p l x n) → weight l ≤ k → is_operand d ≡ true → closes p x n ≡ true → operand rec p l ≡ Some (x, n)
+    unfolding closes
+    operand_comes (is_attributed {p = p} {l = l} {m = m} {n = n} {ts = ts} {us = us} a more fs v d i j) b y c =
+        let t = core_comes d (omega (arith, tail_falls (left here.outer (a ∷ more) l m v))) (verbatim_plain d refl (pound_behind (a ∷ more) l m v)) in
+        behind_attributes p l m n (a ∷ more) (leaf (tr.verbatim ts)) (Some (leaf (tr.verbatim us), n)) (pound_there a more l m v) v (core_read p m n (leaf (tr.verbatim ts)) t c)
+        (tokens_adorned p l m n fs ts us a more i j)
+    operand_comes (is_adorned_by {p = p} {l = l} {m = m} {n = n} {a = a} {more = more} {x = x} v f d) b y c =
+        let t = core_comes d (omega (arith, tail_falls (left here.outer (a ∷ more) l m v))) (adorned_plain d f) in
+        behind_attributes p l m n (a ∷ more) x (Some (adorned a more x, n)) (pound_there a more l m v) v (core_read p m n x t (bare_closes p a more x n f c)) (tree_adorned p l m n x a more f)
+    operand_comes (is_mid d c f i t g r e q a) b y v = absurd cc
+    operand_comes (is_post d c f i t v g a) b y w = absurd cc
+    operand_comes (is_leaf h g) b y c = plain_operand (is_leaf h g) b refl c
+    operand_comes (is_become w d e v i) b y c = plain_operand (is_become w d e v i) b refl c
+    operand_comes (is_paren d e v) b y c = plain_operand (is_paren d e v) b refl c
+    operand_comes (is_lead h g d e v) b y c = plain_operand (is_lead h g d e v) b refl c
+    operand_comes (is_tail d f a v i) b y c = plain_operand (is_tail d f a v i) b refl c
+    operand_comes (is_indexed d f a j) b y c = plain_operand (is_indexed d f a j) b refl c
+    operand_comes (is_frame a v g) b y c = plain_operand (is_frame a v g) b refl c
+
+  -- ---- operations
+
+  record Climbs (p : Place) (l : List Tok) (x : Tree) (n : List Tok) : Type 0 where
+    turns : ℕ
+    few : weight n < turns
+    came : at_place rec p l ≡ climb rec p turns x n
+
+  from_operand : (p : Place) (l n : List Tok) (x : Tree) → operand rec p l ≡ Some (x, n) → Climbs p l x n
+  unfolding at_place
+  from_operand p l n x g = record { turns = suc (weight n); few = omega arith; came = rw g refl }
+
+  operated : (p : Place) (x y : Tree) (m n : List Tok) (op : Infix) (count : ℕ) (next : Tree → Reading Tree) → fits_left p op x ≡ true → longer rec p x op (drop count m) ≡ Some (y, n) → closes p y n ≡ true
+      → turn rec p x (Some (op, count)) next m ≡ next y n
+  operated p x y m n op count next f r c = rw (f, r, c) refl
+
+  step : (turns : ℕ) (p : Place) (l m n : List Tok) (x y : Tree) (op : Infix) (count : ℕ) → weight m < turns → at_place rec p l ≡ climb rec p turns x m → fits_left p op x ≡ true → infix_at m ≡ Some (op, count)
+      → takes p.level (level op) ≡ true → longer rec p x op (drop count m) ≡ Some (y, n) → closes p y n ≡ true → weight n < weight m → Climbs p l y n
+  unfolding climb
+  step zero p l m n x y op count b g f i t r c w = absurd (omega arith)
+  step (suc turns) p l m n x y op count b g f i t r c w = record {
+    turns = turns;
+    few = omega arith;
+    came = g ∙ (rw (next_is p x m op count f i t) (operated p x y m n op count (climb rec p turns) f r c));
+  }
+
+  mid_reads : (p : Place) (x y : Tree) (m n : List Tok) (op : Infix) → mid_stands p op m ≡ true → rec (at p (level op)) m ≡ Some (y, n) → ends_operation op n ≡ true → mid_read rec p x op m ≡ Some (mid x op y, n)
+  mid_reads p x y m n op g r a = rw (g, r, a) refl
+
+  longer_mid : (p : Place) (x y : Tree) (m n : List Tok) (op : Infix) → mid_stands p op m ≡ true → rec (at p (level op)) m ≡ Some (y, n) → ends_operation op n ≡ true → longer rec p x op m ≡ Some (mid x op y, n)
+  unfolding longer mid_stands
+  longer_mid p x y m n (inf.Binary op) g r a = mid_reads p x y m n (inf.Binary op) g r a
+  longer_mid p x y m n inf.Assign g r a = mid_reads p x y m n inf.Assign g r a
+  longer_mid p x y m n (inf.Range limits.Closed) g r a = mid_reads p x y m n (inf.Range limits.Closed) g r a
+  longer_mid p x y m n (inf.Range limits.HalfOpen) g r a = rw (not_true _ g, r, a) refl
+  longer_mid p x y m n inf.Cast g r a = absurd cc
+
+  post_reads : (p : Place) (x : Tree) (q : Post) (n : List Tok) → post_stands p q n ≡ true → ends_operation (post_op q) n ≡ true → post_made rec p x q n ≡ Some (post x q, n)
+  post_reads p x q n g a = rw (g, a) refl
+
+  longer_post : (p : Place) (x : Tree) (m n : List Tok) (q : Post) → post_behind q m ≡ Some n → post_stands p q n ≡ true → ends_operation (post_op q) n ≡ true → longer rec p x (post_op q) m ≡ Some (post x q, n)
+  unfolding longer post_stands
+  longer_post p x m n (tr.cast ty) b g a = rw (heads.types.found m ty n b) (post_reads p x (tr.cast ty) n g a)
+  longer_post p x m n (tr.range_from limits.HalfOpen) b g a =
+      subst (λ z. longer rec p x (inf.Range limits.HalfOpen) z ≡ Some (post x (tr.range_from limits.HalfOpen), n)) (sym (some_is b)) (rw (g, a) refl)
+  longer_post p x m n (tr.range_from limits.Closed) b g a = absurd cc
+
+  mid_closes : (p : Place) (x y : Tree) (op : Infix) (n : List Tok) → closes p (mid x op y) n ≡ true
+  unfolding closes
+  mid_closes p x y op n = refl
+
+  module _ (k : ℕ) (complete : (p : Place) (l n : List Tok) (x : Tree) → weight l < k → Stands p l x n → rec p l ≡ Some (x, n)) where
+    comes : {p : Place} {l n : List Tok} {x : Tree} (d : Node p l x n) → weight l ≤ k → closes p x n ≡ true → Climbs p l x n
+    comes (is_mid {p = p} {l = l} {m = m} {n = n} {x = x} {y = y} {op = op} {count = count} d c f i t g r e q a) b v =
+        let u = comes d b c in
+        let w = node_less d in
+        let z = operator_less m op count i in
+        let o = node_less r in
+        step u.turns p l m n x (mid x op y) op count u.few u.came f i t
+        (longer_mid p x y (drop count m) n op g (full rec k complete (at p (level op)) (drop count m) n y (omega (arith, w.less, z.less)) r e q) a) (mid_closes p x y op n) (omega (arith, z.less, o.less))
+    comes (is_post {p = p} {l = l} {m = m} {n = n} {x = x} {k = q} {count = count} d c f i t g s a) b v =
+        let u = comes d b c in
+        let z = less_then (operator_less m (post_op q) count i) (post_left q (drop count m) n g) in
+        step u.turns p l m n x (post x q) (post_op q) count u.few u.came f i t (longer_post p x (drop count m) n q g s a) v z.less
+    comes (is_attributed {p = p} {l = l} {n = n} {us = us} a more fs w d i j) b c = from_operand p l n (leaf (tr.verbatim us)) (operand_comes k complete (is_attributed a more fs w d i j) b refl c)
+    comes (is_adorned_by {p = p} {l = l} {n = n} {a = a} {more = more} {x = x} w f d) b c = from_operand p l n (adorned a more x) (operand_comes k complete (is_adorned_by w f d) b refl c)
+    comes (is_leaf {p = p} {l = l} {n = n} {k = f} h g) b c = from_operand p l n (leaf f) (operand_comes k complete (is_leaf h g) b refl c)
+    comes (is_become {p = p} {l = l} {n = n} {ts = ts} w d e v i) b c = from_operand p l n (leaf (tr.verbatim ts)) (operand_comes k complete (is_become w d e v i) b refl c)
+    comes (is_paren {p = p} {i = i} {n = n} {x = x} d e v) b c = from_operand p (group del.Parenthesis i ∷ n) n (paren false x) (operand_comes k complete (is_paren d e v) b refl c)
+    comes (is_lead {p = p} {l = l} {n = n} {k = f} {x = x} h g d e v) b c = from_operand p l n (lead f none x) (operand_comes k complete (is_lead h g d e v) b refl c)
+    comes (is_tail {p = p} {l = l} {n = n} {x = x} {k = t} {ks = ks} d f a v i) b c = from_operand p l n (tail x t ks) (operand_comes k complete (is_tail d f a v i) b refl c)
+    comes (is_indexed {p = p} {l = l} {n = n} {x = x} d f a j) b c = from_operand p l n x (operand_comes k complete (is_indexed d f a j) b refl c)
+    comes (is_frame {p = p} {l = l} {n = n} {k = f} {ks = ks} a v g) b c = from_operand p l n (frame f ks) (operand_comes k complete (is_frame a v g) b refl c)
+
+    climb_ends : (p : Place) (turns : ℕ) (x : Tree) (n : List Tok) → weight n < turns → ends p x n ≡ true → climb rec p turns x n ≡ Some (x, n)
+    unfolding climb stop
+    climb_ends p zero x n f h = absurd (omega arith)
+    climb_ends p (suc turns) x n f h = rw (ends_next p x n h, h) refl
+
+    pub at_place_complete : (p : Place) (l n : List Tok) (x : Tree) → weight l ≤ k → Stands p l x n → at_place rec p l ≡ Some (x, n)
+    at_place_complete p l n x b s =
+        let c = comes s.node b s.closing in
+        c.came ∙ climb_ends p c.turns x n c.few s.ending

@@ -1,16 +1,16 @@
 -- Reading is exact.
-use Rattle.std.proofs.Common.{◌≡◌, ℕ, zero, suc, ◌≤◌, List, Some, None, ap, sym, ◌∙◌, arith}
+use Rattle.std.proofs.Common.{◌≡◌, ℕ, zero, suc, ◌≤◌, List, Some, ap, sym, ◌∙◌, arith}
 use Rattle.syn_tokens.specs.Tok.{Tok, weight}
 use Rattle.syn_grammar.specs.declared.kinds.Place.{Place}
 use Rattle.syn_grammar.specs.Tree.{Tree}
 use Rattle.syn_grammar.specs.Stands.{Stands}
-use Rattle.syn_grammar.specs.Read.{at_place, bounded, expr}
+use Rattle.syn_grammar.specs.Read.{bounded, expr}
 use Rattle.syn_grammar.specs.Exact.{ReadingIsExact, OneTree}
 use Rattle.syn_grammar.proofs.Chains.{some_is}
 use Rattle.syn_grammar.proofs.Needs.{heads}
 use Rattle.syn_grammar.proofs.Lesses.{node_less}
 use Rattle.syn_grammar.proofs.SoundTurns.{at_place_sound}
-use Rattle.syn_grammar.proofs.CompleteTurns.{at_place_complete}
+use Rattle.syn_grammar.proofs.Complete.{at_place_complete}
 
 bounded_sound : (k : ℕ) (p : Place) (l : List Tok) (x : Tree) (n : List Tok) → bounded k p l ≡ Some (x, n) → Stands p l x n
 unfolding bounded

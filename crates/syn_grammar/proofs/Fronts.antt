@@ -1,33 +1,24 @@
 -- Which tests the first tokens of each kind pass.
 use Rattle.std.specs.Prelude.{not, ◌||◌, ◌&&◌, ◌==◌, if◌then◌else◌}
-use Rattle.std.proofs.Common.{◌≡◌, ℕ, Bool, true, false, cond, ⊎_elim, List, [], ◌∷◌, drop, codes, Option, Some, None, refl, ap, sym, ◌∙◌, subst}
+use Rattle.std.proofs.Common.{◌≡◌, ℕ, Bool, true, false, cond, ⊎_elim, List, [], ◌∷◌, drop, codes, Some, None, refl, ap, sym, ◌∙◌, subst}
 use Rattle.std.proofs.lemmas.Slice.Eq.{bytes_eq-Decides}
 use Rattle.std.specs.Str.{bytes_eq}
-use Rattle.syn_lexer.specs.Keywords.{is_reserved_word}
-use Rattle.syn_lexer.specs.declared.lexeme.Delimiter.TheVariants as del
 use Rattle.syn_lexer.specs.declared.lexeme.Spacing.{Spacing}
 use Rattle.syn_lexer.specs.declared.lexeme.Spacing.TheVariants as spacing
-use Rattle.syn_tokens.specs.Tok.{Tok, Inside, ident, punct, literal, group}
+use Rattle.syn_tokens.specs.Tok.{Tok, ident, punct, literal, group}
 use Rattle.syn_tokens.specs.Front.{group_at}
-use Rattle.syn_parts.specs.Text.{Text, is_segment, stands_alone, is_truth}
-use Rattle.syn_parts.specs.declared.label.PathStyle.TheVariants as style
-use Rattle.syn_parts.specs.Tree as t
-use Rattle.syn_parts.specs.Tree.{PathTree, SegmentTree, QSelfTree}
-use Rattle.syn_parts.specs.Form.{Form, Outcome, Mark, then_behind, flag, maybe, is_none}
-use Rattle.syn_parts.specs.Mark.{sign_at, word_at, lifetime_at, brace_at, round_at, star, bang, and, less, colon2, constant, colon, pound}
-use Rattle.syn_parts.specs.Part.{QPathTree, qpath, path, pieces, segment, segment_name, type, lifetimes_at, lifetimes, lifetime, output}
+use Rattle.syn_parts.specs.Text.{Text, is_truth}
+use Rattle.syn_parts.specs.Form.{Mark, then_behind, flag, maybe, is_none}
+use Rattle.syn_parts.specs.Mark.{sign_at, word_at, lifetime_at, brace_at, star, bang, and, constant}
+use Rattle.syn_parts.specs.Part.{type, lifetimes_at, lifetimes, output}
 use Rattle.syn_parts.proofs.Ends.{sign_first}
-use Rattle.syn_parts.proofs.Fronts.{word_not, no_truth}
-use Rattle.syn_grammar.specs.Front.{bracket_at}
 use Rattle.syn_grammar.specs.declared.kinds.Limits.{Limits}
 use Rattle.syn_grammar.specs.Tree as tr
 use Rattle.syn_grammar.specs.Tree.{Lead, ClosureHead, Jump}
 use Rattle.syn_grammar.specs.Head as h
 use Rattle.syn_grammar.specs.Head.{lead_form, closure_head, closure_inputs, closure_at, bar, move_word, async_word, raw_at, minus, let_word, range_at, jump_at, jump_head, literal_at, loop_at, block_at, const_block_at, async_block_at, try_block_at, builtin_at, label, past_label, range_op}
-use Rattle.syn_grammar.specs.Slot.{if_word, match_word, while_word, for_word, else_word}
-use Rattle.syn_grammar.specs.Read.{leaf_at, lead_at, loop_head_at, become_word}
+use Rattle.syn_grammar.specs.Read.{leaf_at, lead_at}
 use Rattle.syn_grammar.proofs.Chains.{some_is, behind_some, only_some, chosen, both_true, one_true}
-use Rattle.syn_grammar.proofs.SoundAtoms.{NoLeaf}
 
 pub word_is : (w : Text) (l : List Tok) → word_at w l ≡ true → l ≡ ident w ∷ drop 1 l
 unfolding word_at

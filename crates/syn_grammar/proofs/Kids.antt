@@ -37,10 +37,11 @@ use Rattle.syn_grammar.proofs.Bools.{both_true, not_it, or_true}
 use Rattle.syn_grammar.proofs.HeadPlaces.{is_written, piece_stops, ending_stops, is_scrutinee}
 use Rattle.syn_grammar.proofs.HeadsBack.{heads_back}
 use Rattle.syn_grammar.proofs.PatFront.{NoBody, attributes_front, outer_front}
-use Rattle.syn_grammar.proofs.Formed.{is_comma, piece_filled, KidFormed, Formed, FormedKids}
+use Rattle.syn_grammar.proofs.FillIns.{dots_there, comma_there, block_clear}
+use Rattle.syn_grammar.proofs.Formed.{KidFormed, Formed, FormedKids}
 use Rattle.syn_grammar.proofs.Obeys.{Fits, Obeys}
 use Rattle.syn_grammar.proofs.Shows.{Shows, shows_nothing, shows_comma, shows_semi, shows_fat_arrow, shows_block}
-use Rattle.syn_grammar.proofs.Places.{Meets, Calls, meets_plain, meets_arm, meets_condition, block_clear, branch_clear, fits_ends, fits_closes, rests_ends, rests_closes}
+use Rattle.syn_grammar.proofs.Places.{Meets, Calls, meets_plain, meets_arm, meets_condition, branch_clear, fits_ends, fits_closes, rests_ends, rests_closes}
 
 -- ---- the place of an operand
 
@@ -81,7 +82,7 @@ plain_ends e.chained x l b p q = absurd cc
 plain_ends e.output_block x l b p q = absurd cc
 plain_ends k x l b p q = rw (p, q) refl
 
-written : (k : Piece) → piece_filled k ≡ is_written k
+written : (k : Piece) → dots_there k ≡ is_written k
 written (e.rest d) = refl
 written k = refl
 
@@ -151,7 +152,7 @@ shows_empty : (r : List Tok) → is_empty r ≡ true → Shows next.End r
 shows_empty [] h = shows_nothing
 shows_empty (a ∷ r) h = absurd cc
 
-listed : (x : Slot) (last : Bool) (c : Ending) (u t : Tree) (ks : Kids) (r : List Tok) → not (not (is_none ks) || last) || is_comma c ≡ true → ending_fits e.element c ≡ true
+listed : (x : Slot) (last : Bool) (c : Ending) (u t : Tree) (ks : Kids) (r : List Tok) → comma_there e.element c t (not (is_none ks)) last ≡ true → ending_fits e.element c ≡ true
     → (last ≡ false → is_empty r ≡ true) → Shows next.End (ending_own e.element c (kids_own ks r) r) × (ending_stops e.element u c (kids_own ks r) ≡ true)
 listed x last e.comma u t ks r g f w = (shows_comma spacing.Alone _, refl)
 listed x false e.no_ending u t none r g f w = (shows_empty r (w refl), w refl)
@@ -311,11 +312,6 @@ regular x last k c t ks r g f fs w d q =
 
 -- ---- the bodies of arms
 
-abbrev pub is_body : Piece → Bool
-is_body e.guarded = true
-is_body (e.arm ats p) = true
-is_body _ = false
-
 -- what is behind a body that ends with a block
 abbrev pub Blocked : Tree → Type 0
 Blocked t = (l : List Tok) → is_block_like t ≡ true → word_at (codes "else") l ≡ false → Node at_head (own t l) (clear t) l
@@ -340,7 +336,7 @@ arm_first last (kid (e.guard ats p) c t ks) r f h = if_spelled ats p _ f.0.piece
 arm_first last (kid (e.arm ats p) c t ks) r f h = arrow_spelled ats p _ f.0.piece
 arm_first last (kid k c t ks) r f h = absurd (let p = f.0.piece in cc)
 
-must_block : (b : Bool) → not (true && not b) || false ≡ true → b ≡ true
+must_block : (b : Bool) → not (true && not b) ≡ true → b ≡ true
 must_block true h = refl
 must_block false h = absurd cc
 

@@ -1,13 +1,12 @@
 -- What is left behind an expression is a tail of the list, and weighs less.
-use Rattle.std.proofs.Common.{◌≡◌, ℕ, zero, suc, ◌+◌, ◌<◌, ◌≤◌, Bool, true, false, not, ◌&&◌, cond, List, [], ◌∷◌, ◌++◌, drop, length, Option, Some, None, refl, ap, sym, subst, arith}
+use Rattle.std.proofs.Common.{◌≡◌, ℕ, ◌<◌, Bool, true, false, cond, List, [], ◌∷◌, drop, Option, Some, None, refl, sym, subst, arith}
 use Rattle.syn_lexer.specs.declared.lexeme.Delimiter.{Delimiter}
 use Rattle.syn_lexer.specs.declared.lexeme.Delimiter.TheVariants as del
 use Rattle.syn_tokens.specs.Tok.{Tok, group, weight}
-use Rattle.syn_tokens.specs.Front.{group_at}
 use Rattle.syn_tokens.specs.Input.{IsTail}
 use Rattle.syn_parts.specs.Text.{Text}
 use Rattle.syn_parts.specs.Mark.{sign_at, word_at}
-use Rattle.syn_parts.specs.Pat.{a_name, an_index}
+use Rattle.syn_parts.specs.Pat.{a_name}
 use Rattle.syn_parts.proofs.Tails.{nothing_taken, tail_then, one_taken}
 use Rattle.syn_parts.proofs.Weights.{some_is, one_at_least, drop_smaller}
 use Rattle.syn_grammar.specs.declared.kinds.Place.{Place}
@@ -20,8 +19,7 @@ use Rattle.syn_grammar.specs.Slot as s
 use Rattle.syn_grammar.specs.Slot.{Slot, Holder, frame_head, frame_holder, piece_form}
 use Rattle.syn_grammar.specs.Stands.{Node, is_leaf, is_become, is_attributed, is_paren, is_adorned_by, is_lead, is_mid, is_post, is_tail, is_indexed, is_frame, Content, holds_none, holds_within, holds_bare, Operands, no_more, one_more, short, block, arms_inside, short_value}
 use Rattle.syn_grammar.proofs.Heads.{HeadsAreReadable, heads_readable}
-use Rattle.syn_grammar.proofs.HeadMoves.{IsLess, less_then, then_less, dropped, grouped, left, left_less, fields_less, trailer_left, frame_less, frame_left, post_left, ending_left}
-use Rattle.syn_grammar.proofs.Chains.{chosen}
+use Rattle.syn_grammar.proofs.HeadMoves.{IsLess, less_then, then_less, dropped, grouped, left, left_less, fields_less, trailer_left, frame_less, post_left, ending_left}
 use Rattle.syn_grammar.proofs.SoundAtoms.{no_some}
 
 pub here : HeadsAreReadable

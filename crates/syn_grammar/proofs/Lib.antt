@@ -3,7 +3,7 @@ pub mod Obeys
 pub mod Formed
 pub mod Edges
 pub mod Good
-pub mod Filled
+pub mod Bare
 pub mod Shows
 pub mod OwnFronts
 pub mod Places
@@ -44,6 +44,6 @@ pub mod NameFronts
 pub mod ReadOperands
 pub mod ReadAtoms
 pub mod ReadFrames
+pub mod ReadTrailers
 pub mod Complete
-pub mod CompleteTurns
 pub mod Exact

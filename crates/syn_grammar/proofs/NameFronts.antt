@@ -1,6 +1,6 @@
 -- The first tokens of paths, of loops and of frames that a word begins, and the tests that they pass.
-use Rattle.std.specs.Prelude.{not, ◌||◌, ◌&&◌, ◌==◌, if◌then◌else◌}
-use Rattle.std.proofs.Common.{◌≡◌, ℕ, Bool, true, false, cond, ⊎_elim, List, [], ◌∷◌, drop, codes, Option, Some, None, refl, ap, sym, ◌∙◌, subst}
+use Rattle.std.specs.Prelude.{◌==◌, if◌then◌else◌}
+use Rattle.std.proofs.Common.{◌≡◌, Bool, true, false, ⊎_elim, List, [], ◌∷◌, drop, codes, Option, Some, None, refl, ap, sym, ◌∙◌, subst}
 use Rattle.std.proofs.Common.{arith}
 use Rattle.std.proofs.lemmas.Bool.Decides.{nat_tests}
 use Rattle.std.specs.Str.{bytes_eq}
@@ -8,23 +8,22 @@ use Rattle.syn_lexer.specs.Keywords.{is_reserved_word}
 use Rattle.syn_lexer.specs.declared.lexeme.Delimiter.TheVariants as del
 use Rattle.syn_lexer.specs.declared.lexeme.Spacing.{Spacing}
 use Rattle.syn_lexer.specs.declared.lexeme.Spacing.TheVariants as spacing
-use Rattle.syn_tokens.specs.Tok.{Tok, Inside, ident, punct, literal, group, weight}
+use Rattle.syn_tokens.specs.Tok.{Tok, Inside, ident, punct, group}
 use Rattle.syn_tokens.specs.Front.{group_at}
 use Rattle.syn_parts.specs.Text.{Text, is_segment, stands_alone, is_truth}
 use Rattle.syn_parts.specs.declared.label.PathStyle.TheVariants as style
 use Rattle.syn_parts.specs.Tree as t
 use Rattle.syn_parts.specs.Tree.{PathTree, SegmentTree, QSelfTree}
-use Rattle.syn_parts.specs.Form.{Form, Outcome, Mark, then_behind, flag, maybe, is_none, if_same, joined, more, fix, iterate, split_first}
-use Rattle.syn_parts.specs.Mark.{sign_at, word_at, lifetime_at, brace_at, round_at, star, bang, and, less, colon2, constant, colon, pound}
-use Rattle.syn_parts.specs.Part.{QPathTree, qpath, path, pieces, segment, segment_name, find_segment, type, lifetimes_at, lifetime, from_bare, from_path, from_segment, arguments, turbofish_at, no_arguments}
+use Rattle.syn_parts.specs.Form.{flag, is_none, if_same, joined, more, fix, iterate}
+use Rattle.syn_parts.specs.Mark.{sign_at, word_at, lifetime_at, brace_at, round_at, less, colon2, colon}
+use Rattle.syn_parts.specs.Part.{QPathTree, qpath, path, pieces, segment, segment_name, find_segment, type, lifetimes_at, lifetime, from_bare, from_path, arguments, turbofish_at, no_arguments}
 use Rattle.syn_parts.proofs.Ends.{sign_first}
 use Rattle.syn_parts.proofs.Fronts.{word_not, no_truth, not_for, not_underscore}
 use Rattle.syn_grammar.specs.Front.{bracket_at}
-use Rattle.syn_grammar.specs.Head as h
 use Rattle.syn_grammar.specs.Head.{closure_at, range_at, jump_at, literal_at, loop_at, loop_word, block_at, const_block_at, async_block_at, try_block_at, builtin_at, label, past_label}
 use Rattle.syn_grammar.specs.Slot.{if_word, match_word, while_word, for_word}
 use Rattle.syn_grammar.specs.Read.{leaf_at, lead_at, loop_head_at, become_word}
-use Rattle.syn_grammar.proofs.Chains.{some_is, behind_some, only_some, chosen, both_true, one_true, not_true}
+use Rattle.syn_grammar.proofs.Chains.{some_is, behind_some, only_some, chosen, both_true, not_true}
 use Rattle.syn_grammar.proofs.Fronts.{word_is, no_lifetime, sign_no_leaf, flag_is}
 
 -- ---- words that no path begins with

@@ -23,6 +23,7 @@ use Rattle.syn_grammar.specs.Stands.{is_infix, is_range, is_cast, carries, compa
 use Rattle.syn_grammar.specs.Tree as e
 use Rattle.syn_grammar.specs.Tree.{Tree, Kids, Leaf, Lead, Frame, Trailer, Piece, Post, leaf, paren, adorned, lead, mid, post, tail, frame, none, kid, post_op, is_one, is_none, is_block_like, is_block_leaf, is_block_frame, infix_own, clear, clear_kids}
 use Rattle.syn_grammar.proofs.Bools.{or_false, neither, not_it, or_true, or_none, and_false}
+use Rattle.syn_grammar.proofs.FillIns.{block_clear}
 use Rattle.syn_grammar.proofs.Formed.{Formed}
 use Rattle.syn_grammar.proofs.Obeys.{Fits, FitsLeft, Obeys}
 use Rattle.syn_grammar.proofs.Shows.{Shows, is_round_next, shows_op}
@@ -89,16 +90,6 @@ cast_clear (post x (e.cast ty)) = refl
 cast_clear (post x (e.range_from op)) = refl
 cast_clear (tail b k ks) = refl
 cast_clear (frame k ks) = refl
-
-pub block_clear : (t : Tree) → is_block_like (clear t) ≡ is_block_like t
-block_clear (leaf k) = refl
-block_clear (paren m t) = refl
-block_clear (adorned a more t) = block_clear t
-block_clear (lead k gs t) = refl
-block_clear (mid x k y) = refl
-block_clear (post x k) = refl
-block_clear (tail b k ks) = refl
-block_clear (frame k ks) = refl
 
 pub verbatim_clear : (t : Tree) → Formed t → is_verbatim (clear t) ≡ false
 verbatim_clear (leaf (e.lit x)) f = refl

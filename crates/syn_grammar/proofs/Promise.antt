@@ -17,7 +17,8 @@ use Rattle.syn_grammar.specs.Rule.{printed}
 use Rattle.syn_grammar.specs.WellFormed.{well, is_well_formed}
 use Rattle.syn_grammar.specs.Printed.{Position, in_plain, as_statement, as_condition, as_arm, allows, context_of, StandsPrinted, PrintedStands}
 use Rattle.syn_grammar.proofs.Obeys.{Fits, Obeys}
-use Rattle.syn_grammar.proofs.Filled.{formed_fill, printed_formed}
+use Rattle.syn_grammar.proofs.Formed.{formed_fill}
+use Rattle.syn_grammar.proofs.Bare.{printed_formed}
 use Rattle.syn_grammar.proofs.Good.{printed_good}
 use Rattle.syn_grammar.proofs.Shows.{Shows, shows_nothing, shows_comma, shows_semi, shows_block}
 use Rattle.syn_grammar.proofs.Places.{Meets, meets_plain, meets_statement, meets_arm, meets_condition, end_fits, block_fits, fits_calls, fits_ends, fits_closes}

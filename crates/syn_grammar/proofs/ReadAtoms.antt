@@ -1,42 +1,34 @@
--- By what stands first: what stands is read.
-use Rattle.std.specs.Prelude.{not, ◌||◌, ◌&&◌, if◌then◌else◌}
-use Rattle.std.proofs.Common.{◌≡◌, ℕ, zero, suc, ◌<◌, ◌≤◌, Bool, true, false, cond, ⊎_elim, List, [], ◌∷◌, ◌++◌, drop, length, codes, Option, Some, None, refl, ap, sym, ◌∙◌, subst, arith}
+-- Leaves, paths and lists of operands: what stands is read.
+use Rattle.std.specs.Prelude.{not, ◌||◌, ◌&&◌}
+use Rattle.std.proofs.Common.{◌≡◌, Bool, true, false, ⊎_elim, List, [], ◌∷◌, drop, Option, Some, None, refl, ap, sym, ◌∙◌, subst}
 use Rattle.syn_lexer.specs.declared.lexeme.Delimiter.TheVariants as del
-use Rattle.syn_lexer.specs.declared.lexeme.Delimiter.{Delimiter}
 use Rattle.syn_lexer.specs.declared.lexeme.Spacing.{Spacing}
 use Rattle.syn_lexer.specs.declared.lexeme.Spacing.TheVariants as spacing
-use Rattle.syn_tokens.specs.Tok.{Tok, Inside, ident, punct, group, toks, weight, weight-toks}
+use Rattle.syn_tokens.specs.Tok.{Tok, Inside, punct, group}
 use Rattle.syn_tokens.specs.Front.{group_at, is_empty}
-use Rattle.syn_parts.specs.Text.{Text, is_segment}
 use Rattle.syn_parts.specs.declared.label.PathStyle.TheVariants as style
-use Rattle.syn_parts.specs.Form.{Form, Outcome, and_then, then_behind, then_by, joined, more}
-use Rattle.syn_parts.specs.Mark.{sign_at, word_at, brace_at, round_at, lifetime_at, pound, semi, comma, underscore}
+use Rattle.syn_parts.specs.Form.{and_then, then_behind, then_by}
+use Rattle.syn_parts.specs.Mark.{sign_at, word_at, brace_at, round_at, pound, semi, comma}
 use Rattle.syn_parts.specs.Part.{QPathTree, MacroEnd, qpath, path, pieces, segment, segment_name, type, macro_end, is_bare, lifetimes_at}
-use Rattle.syn_parts.specs.Pat.{dots}
 use Rattle.syn_parts.proofs.Ends.{sign_first}
-use Rattle.syn_parts.proofs.Same.{same_toks-refl}
 use Rattle.syn_grammar.specs.declared.kinds.Place.{Place}
 use Rattle.syn_grammar.specs.declared.kinds.Limits.{Limits}
 use Rattle.syn_grammar.specs.declared.kinds.Limits.TheVariants as limits
-use Rattle.syn_grammar.specs.Place.{plain, before_block}
+use Rattle.syn_grammar.specs.Place.{plain}
 use Rattle.syn_grammar.specs.Front.{bracket_at}
 use Rattle.syn_grammar.specs.Tree as tr
 use Rattle.syn_grammar.specs.Tree.{Tree, Kids, Leaf, Lead, Frame, Piece, Ending, Jump, ClosureHead, leaf, paren, lead, frame, none, kid, is_one}
 use Rattle.syn_grammar.specs.Head as h
 use Rattle.syn_grammar.specs.Head.{leaf_form, lead_form, closure_head, named, to_named, label, range_at, jump_at, range_op, jump_head, from_full_range, from_bare_jump, closure_at}
-use Rattle.syn_grammar.specs.Slot as s
-use Rattle.syn_grammar.specs.Slot.{Slot, Holder, may_end, elements, single, counted, after, piece_form, piece_place, ending_at, comma_or_end, frame_head, frame_holder, if_at, for_head, if_word, match_word, while_word, for_word, is_repeated}
-use Rattle.syn_grammar.specs.Stands.{Node, Content, holds_within, holds_bare, Operands, no_more, one_more, short, block, Stands, ends, closes, ends_piece, ends_list, short_value, takes_block, leaf_stands, lead_stands, lead_place, frame_stands, is_try_alone, has_no_comma, ends_jump}
-use Rattle.syn_grammar.specs.Read.{Reading, leaf_read, leaf_at, lead_at, loop_head_at, become_word, lead_read, led, unled, named_read, named_by, structure_read, structured, standing, framed_by, content, bare_operands, round_read, rounded, bracket_read, bracket_inside, bracketed, elements_by, repeated_by, loop_read, looped, kept_from, is_taken, taken, atom}
-use Rattle.syn_grammar.proofs.HeadMoves.{IsLess, taken_is, tail_falls}
-use Rattle.syn_grammar.proofs.Chains.{some_is, then_some, behind_some, only_some, chosen, both_true, not_true}
+use Rattle.syn_grammar.specs.Slot.{Slot, may_end, elements, single, counted, after, piece_form, piece_place, ending_at, comma_or_end}
+use Rattle.syn_grammar.specs.Stands.{Node, Operands, no_more, one_more, short, block, ends, closes, ends_piece, ends_list, short_value, takes_block, leaf_stands, lead_stands}
+use Rattle.syn_grammar.specs.Read.{Reading, leaf_read, leaf_at, lead_at, loop_head_at, lead_read, unled, named_read, named_by, atom}
+use Rattle.syn_grammar.proofs.Chains.{some_is, then_some, behind_some, only_some, chosen, both_true}
 use Rattle.syn_grammar.proofs.Needs.{heads}
-use Rattle.syn_grammar.proofs.Lesses.{node_less}
-use Rattle.syn_grammar.proofs.Sound.{Element, element_is, empty_is, group_is, ends_a_piece}
-use Rattle.syn_grammar.proofs.SoundAtoms.{NoLeaf, NoLead, no_leaf, no_lead, named_reads}
-use Rattle.syn_grammar.proofs.Fronts.{and_false, word_is, no_lifetime, sign_no_leaf, Fronted, Closed, lead_front, closure_front, range_lead, range_leads, jump_lead, jump_leads, range_no_leaf, jump_no_leaf}
-use Rattle.syn_grammar.proofs.NameFronts.{Named, qpath_front, LoopFront, while_loop_front, for_loop_front, WordFront, IfFront, MatchFront, become_front, if_front, match_front, GroupFront, round_front, bracket_front}
-use Rattle.syn_grammar.proofs.ReadOperands.{there, full, bare_read, within_read, content_read}
+use Rattle.syn_grammar.proofs.Sound.{empty_is}
+use Rattle.syn_grammar.proofs.SoundAtoms.{NoLeaf, no_leaf, named_reads}
+use Rattle.syn_grammar.proofs.Fronts.{and_false, no_lifetime, sign_no_leaf, range_lead, range_leads, jump_lead, jump_leads}
+use Rattle.syn_grammar.proofs.NameFronts.{Named, qpath_front}
 
 -- ---- leaves
 

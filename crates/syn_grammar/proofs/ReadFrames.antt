@@ -1,44 +1,40 @@
 -- Frames, parentheses and what stands before an operand: what stands is read.
-use Rattle.std.specs.Prelude.{not, ◌||◌, ◌&&◌, if◌then◌else◌}
-use Rattle.std.proofs.Common.{◌≡◌, ℕ, zero, suc, ◌<◌, ◌≤◌, Bool, true, false, cond, ⊎_elim, List, [], ◌∷◌, ◌++◌, drop, length, codes, Option, Some, None, refl, ap, sym, ◌∙◌, subst, arith}
+use Rattle.std.specs.Prelude.{not, ◌&&◌, if◌then◌else◌}
+use Rattle.std.proofs.Common.{◌≡◌, ℕ, ◌<◌, ◌≤◌, Bool, true, false, List, [], ◌∷◌, ◌++◌, drop, codes, Option, Some, None, refl, ap, sym, ◌∙◌, subst, arith}
 use Rattle.syn_lexer.specs.declared.lexeme.Delimiter.TheVariants as del
 use Rattle.syn_lexer.specs.declared.lexeme.Delimiter.{Delimiter}
 use Rattle.syn_lexer.specs.declared.lexeme.Spacing.{Spacing}
 use Rattle.syn_lexer.specs.declared.lexeme.Spacing.TheVariants as spacing
-use Rattle.syn_tokens.specs.Tok.{Tok, Inside, ident, punct, group, toks, weight, weight-toks}
+use Rattle.syn_tokens.specs.Tok.{Tok, Inside, ident, punct, group, toks, weight}
 use Rattle.syn_tokens.specs.Front.{group_at, is_empty}
 use Rattle.syn_parts.specs.Text.{Text, is_segment, stands_alone}
 use Rattle.syn_lexer.specs.Keywords.{is_reserved_word}
 use Rattle.syn_parts.specs.declared.label.PathStyle.TheVariants as style
-use Rattle.syn_parts.specs.Form.{Form, Outcome, and_then, then_behind, then_by, joined, more}
-use Rattle.syn_parts.specs.Mark.{colon2, sign_at, word_at, brace_at, round_at, lifetime_at, pound, semi, comma, underscore}
-use Rattle.syn_parts.specs.Part.{QPathTree, MacroEnd, qpath, path, pieces, segment, segment_name, type, macro_end, is_bare, lifetimes_at}
-use Rattle.syn_parts.specs.Pat.{dots, PatTree}
+use Rattle.syn_parts.specs.Form.{Outcome, and_then}
+use Rattle.syn_parts.specs.Mark.{colon2, sign_at, word_at, brace_at, round_at, pound}
+use Rattle.syn_parts.specs.Part.{QPathTree, qpath, type, macro_end}
+use Rattle.syn_parts.specs.Pat.{PatTree}
 use Rattle.syn_parts.proofs.Ends.{sign_first}
 use Rattle.syn_parts.proofs.Same.{same_toks-refl}
 use Rattle.syn_grammar.specs.declared.kinds.Place.{Place}
-use Rattle.syn_grammar.specs.declared.kinds.Limits.{Limits}
-use Rattle.syn_grammar.specs.declared.kinds.Limits.TheVariants as limits
-use Rattle.syn_grammar.specs.Place.{plain, before_block}
+use Rattle.syn_grammar.specs.Place.{plain}
 use Rattle.syn_grammar.specs.Front.{bracket_at}
 use Rattle.syn_grammar.specs.Tree as tr
 use Rattle.syn_grammar.specs.Tree.{Tree, Kids, Leaf, Lead, Frame, Piece, Ending, Jump, ClosureHead, leaf, paren, lead, frame, none, kid, is_one}
-use Rattle.syn_grammar.specs.Head as h
-use Rattle.syn_grammar.specs.Head.{leaf_form, lead_form, closure_head, named, to_named, label, range_at, jump_at, range_op, jump_head, from_full_range, from_bare_jump, closure_at, try_block_at, builtin_at}
+use Rattle.syn_grammar.specs.Head.{lead_form, closure_head, to_named, label, try_block_at, builtin_at}
 use Rattle.syn_grammar.specs.Slot as s
 use Rattle.syn_grammar.specs.Slot.{Slot, Holder, may_end, elements, single, counted, after, piece_form, piece_place, ending_at, comma_or_end, frame_head, frame_holder, if_at, for_head, if_word, match_word, while_word, for_word, is_repeated}
-use Rattle.syn_grammar.specs.Stands.{Node, Content, holds_within, holds_bare, Operands, no_more, one_more, short, block, Stands, ends, closes, ends_piece, ends_list, short_value, takes_block, leaf_stands, lead_stands, lead_place, frame_stands, is_try_alone, has_no_comma, ends_jump}
-use Rattle.syn_grammar.specs.Read.{Reading, leaf_read, leaf_at, lead_at, loop_head_at, become_word, lead_read, led, unled, named_read, named_by, structure_read, structured, standing, framed_by, content, bare_operands, round_read, rounded, bracket_read, bracket_inside, bracketed, elements_by, repeated_by, loop_read, looped, kept_from, is_taken, taken, atom, all_of}
-use Rattle.syn_grammar.proofs.HeadMoves.{IsLess, taken_is, tail_falls}
-use Rattle.syn_grammar.proofs.Chains.{neither, some_is, then_some, behind_some, only_some, chosen, both_true, not_true}
+use Rattle.syn_grammar.specs.Stands.{Node, Content, holds_within, Operands, no_more, one_more, Stands, ends, closes, ends_list, lead_stands, lead_place, frame_stands, is_try_alone}
+use Rattle.syn_grammar.specs.Read.{Reading, become_word, lead_read, named_read, structure_read, structured, standing, framed_by, bare_operands, round_read, rounded, bracket_read, bracket_inside, elements_by, loop_read, kept_from, atom, all_of}
+use Rattle.syn_grammar.proofs.HeadMoves.{taken_is, tail_falls}
+use Rattle.syn_grammar.proofs.Chains.{neither, some_is, behind_some, only_some, both_true, not_true}
 use Rattle.syn_grammar.proofs.Needs.{heads}
 use Rattle.syn_grammar.proofs.Lesses.{node_less}
 use Rattle.syn_grammar.proofs.Sound.{Element, element_is, empty_is, group_is, ends_a_piece}
-use Rattle.syn_grammar.proofs.SoundAtoms.{NoLeaf, NoLead, no_leaf, no_lead, named_reads}
-use Rattle.syn_grammar.proofs.Fronts.{and_false, word_is, no_lifetime, sign_no_leaf, Fronted, Closed, lead_front, closure_front, range_lead, range_leads, jump_lead, jump_leads, range_no_leaf, jump_no_leaf}
-use Rattle.syn_grammar.proofs.NameFronts.{one_word, word_read, Named, qpath_front, LoopFront, while_loop_front, for_loop_front, WordFront, IfFront, MatchFront, become_front, if_front, match_front, GroupFront, round_front, bracket_front}
-use Rattle.syn_grammar.proofs.HeadMoves.{ending_left, dropped, group_inside, frame_less, trailer_left, less_then, then_less}
-use Rattle.syn_grammar.proofs.ReadAtoms.{Counted, leads, unnamed, unled_read, leaf_atom, brace_no_macro, ends_is, none_is, comma_no_semi, counted_is, element_kind}
+use Rattle.syn_grammar.proofs.Fronts.{word_is, lead_front, closure_front}
+use Rattle.syn_grammar.proofs.NameFronts.{one_word, word_read, qpath_front, LoopFront, while_loop_front, for_loop_front, become_front, if_front, match_front, round_front, bracket_front}
+use Rattle.syn_grammar.proofs.HeadMoves.{ending_left, dropped, group_inside, frame_less}
+use Rattle.syn_grammar.proofs.ReadAtoms.{Counted, leads, unnamed, unled_read, brace_no_macro, ends_is, none_is, comma_no_semi, counted_is, element_kind}
 use Rattle.syn_grammar.proofs.ReadOperands.{there, full, bare_read, within_read, content_read}
 
 all_read : {A : Type 0} (o : Outcome A) (x : A) → o ≡ Some (x, []) → all_of o ≡ Some x

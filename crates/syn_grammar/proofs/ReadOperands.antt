@@ -1,28 +1,26 @@
 -- Operands in places of their own: what stands is read.
-use Rattle.std.specs.Prelude.{not, ◌||◌, ◌&&◌, if◌then◌else◌}
-use Rattle.std.proofs.Common.{◌≡◌, ℕ, zero, suc, ◌<◌, ◌≤◌, Bool, true, false, ⊎_elim, List, [], ◌∷◌, ◌++◌, drop, length, codes, Option, Some, None, refl, ap, sym, ◌∙◌, subst, arith}
+use Rattle.std.proofs.Common.{◌≡◌, ℕ, zero, suc, ◌<◌, ◌≤◌, Bool, true, false, ⊎_elim, List, [], ◌∷◌, drop, Option, Some, None, refl, ap, sym, subst, arith}
 use Rattle.syn_lexer.specs.declared.lexeme.Delimiter.TheVariants as del
 use Rattle.syn_lexer.specs.declared.lexeme.Delimiter.{Delimiter}
 use Rattle.syn_tokens.specs.Tok.{Tok, weight}
 use Rattle.syn_tokens.specs.Front.{group_at, is_empty}
 use Rattle.syn_tokens.specs.Input.{IsTail}
 use Rattle.syn_parts.specs.Tree.{AttributeTree}
-use Rattle.syn_parts.specs.Mark.{brace_at, word_at}
+use Rattle.syn_parts.specs.Mark.{brace_at}
 use Rattle.syn_parts.specs.Part.{inner_attributes}
 use Rattle.syn_parts.specs.Pat.{a_name, an_index, dots}
 use Rattle.syn_grammar.specs.declared.kinds.Place.{Place}
-use Rattle.syn_grammar.specs.Place.{plain, before_block}
+use Rattle.syn_grammar.specs.Place.{before_block}
 use Rattle.syn_grammar.specs.Tree as tr
 use Rattle.syn_grammar.specs.Tree.{Tree, Kids, Frame, Piece, Ending, frame, none, kid, plain_block, is_silent}
 use Rattle.syn_grammar.specs.Slot as s
 use Rattle.syn_grammar.specs.Slot.{Slot, Holder, conditions, scrutinees, arms, after, may_end, piece_form, piece_place, ending_at, is_scrutinee, is_rest, if_word, else_word}
-use Rattle.syn_grammar.specs.Stands.{Node, is_leaf, is_become, is_attributed, is_paren, is_adorned_by, is_lead, is_mid, is_post, is_tail, is_indexed, is_frame, Content, holds_none, holds_within, holds_bare, Operands, no_more, one_more, short, block, arms_inside, Stands, ends, closes, ends_piece, ends_list, short_value, takes_block, is_branch, fields_of}
+use Rattle.syn_grammar.specs.Stands.{Node, is_indexed, is_frame, Content, holds_none, holds_within, holds_bare, Operands, no_more, one_more, short, block, arms_inside, Stands, ends, closes, ends_piece, short_value, takes_block, is_branch, fields_of}
 use Rattle.syn_grammar.specs.Read.{Reading, is_scrutinees, branch_by, operand_of, operands_by, operands, bare_operands, content}
-use Rattle.syn_grammar.proofs.HeadMoves.{IsLess, less_then, then_less, dropped, grouped, group_inside, left, left_less, frame_less, ending_left, tail_falls}
-use Rattle.syn_grammar.proofs.Heads.{heads_readable}
+use Rattle.syn_grammar.proofs.HeadMoves.{IsLess, less_then, then_less, grouped, group_inside, left, frame_less, ending_left, tail_falls}
 use Rattle.syn_grammar.proofs.Chains.{some_is, only_some, chosen, both_true}
 use Rattle.syn_grammar.proofs.Needs.{heads}
-use Rattle.syn_grammar.proofs.Lesses.{here, node_less, operands_left, short_less}
+use Rattle.syn_grammar.proofs.Lesses.{here, node_less, short_less}
 use Rattle.syn_grammar.proofs.Fronts.{word_no_brace}
 
 -- ---- slots

@@ -1,32 +1,26 @@
 -- What stands first, and trailers behind it: what is read stands.
-use Rattle.std.specs.Prelude.{not, ◌||◌, ◌&&◌, if◌then◌else◌}
-use Rattle.std.proofs.Common.{◌≡◌, ℕ, zero, suc, Bool, true, false, ⊎_elim, List, [], ◌∷◌, ◌++◌, drop, length, Option, Some, None, refl, ap, sym, ◌∙◌, subst}
+use Rattle.std.specs.Prelude.{not, ◌&&◌, if◌then◌else◌}
+use Rattle.std.proofs.Common.{◌≡◌, Bool, true, false, ⊎_elim, List, [], ◌++◌, drop, Option, Some, None, refl, ap, sym, ◌∙◌, subst}
 use Rattle.syn_lexer.specs.declared.lexeme.Delimiter.TheVariants as del
-use Rattle.syn_lexer.specs.declared.lexeme.Delimiter.{Delimiter}
-use Rattle.syn_tokens.specs.Tok.{Tok, Inside, ident, literal, punct, group, toks, weight, inside-toks}
-use Rattle.syn_tokens.specs.Front.{group_at, group_of, same_delimiter, is_empty}
-use Rattle.syn_parts.specs.Text.{Text}
+use Rattle.syn_tokens.specs.Tok.{Tok, toks}
+use Rattle.syn_tokens.specs.Front.{group_at, is_empty}
 use Rattle.syn_parts.specs.declared.label.PathStyle.TheVariants as style
-use Rattle.syn_parts.specs.Tree.{AttributeTree}
-use Rattle.syn_parts.specs.Form.{Form, Outcome, Mark, and_then, then_behind}
-use Rattle.syn_parts.specs.Mark.{star, bang, and, brace_at, round_at, semi, underscore, word_at}
-use Rattle.syn_parts.specs.Part.{inner_attributes, outer_attributes, qpath, macro_end, type, QPathTree, MacroEnd}
-use Rattle.syn_parts.specs.Pat.{an_index}
+use Rattle.syn_parts.specs.Form.{and_then}
+use Rattle.syn_parts.specs.Mark.{star, bang, and, brace_at, round_at, semi, underscore}
+use Rattle.syn_parts.specs.Part.{qpath, macro_end, type, QPathTree, MacroEnd}
 use Rattle.syn_parts.proofs.Same.{same_toks-true}
 use Rattle.syn_grammar.specs.declared.kinds.Place.{Place}
-use Rattle.syn_grammar.specs.declared.kinds.Infix.{Infix}
-use Rattle.syn_grammar.specs.Place.{plain, before_block, at, takes}
-use Rattle.syn_grammar.specs.Op.{infix_at, level}
+use Rattle.syn_grammar.specs.Place.{plain}
 use Rattle.syn_grammar.specs.Tree as tr
 use Rattle.syn_grammar.specs.Tree.{Tree, Kids, ClosureHead, Leaf, Lead, Post, Trailer, Frame, Piece, Ending, leaf, paren, adorned, lead, mid, post, tail, frame, none, kid, plain_block, post_op, is_one, is_silent}
 use Rattle.syn_grammar.specs.Head.{minus, let_word, raw_at, raw_word, leaf_form, lead_form, closure_head, to_named, from_closure, label, named, literal_at, range_at, jump_at, continue_word, loop_at, block_at, unsafe_word, const_block_at, async_block_at, try_block_at, builtin_at}
-use Rattle.syn_grammar.specs.Slot.{Slot, Holder, elements, single, counted, fields, conditions, otherwise, loops, scrutinees, arms, bodies, outputs, done, after, may_end, piece_form, piece_place, ending_at, frame_head, frame_holder, trailer_holder, nothing, within, bare, is_chained, if_word, while_word, for_head, match_word, comma_or_end, is_element}
-use Rattle.syn_grammar.specs.Stands.{Node, is_leaf, is_become, is_attributed, is_paren, is_adorned_by, is_lead, is_mid, is_post, is_tail, is_indexed, is_frame, Content, holds_none, holds_within, holds_bare, Operands, no_more, one_more, short, block, arms_inside, Stands, ends, closes, ends_piece, ends_list, short_value, takes_block, leaf_stands, lead_stands, lead_place, frame_stands, has_no_comma, is_branch}
-use Rattle.syn_grammar.specs.Read.{Reading, standing, leaf_read, is_scrutinees, ended_by, branch_by, block_by, value_by, operand_of, armed, operands_by, operands, bare_operands, ended_list, content, framed_by, all_of, before, rounded, round_read, repeated_by, elements_by, bracketed, bracket_inside, bracket_read, structured, structure_read, named_by, named_read, unled, led, lead_read, looped, loop_read, kept_from, become_word, is_taken, taken, leaf_at, lead_at, loop_head_at, atom, trailed_by, indexed_by, dotted_by, trailed, trail, core, adorned_by, attributed, verbatim_of, operand, post_made, mid_read, longer, closing, turn, climb, at_place, stop, taken_by, taken_at, next_operator, operation}
-use Rattle.syn_grammar.proofs.Chains.{some_is, then_some, behind_some, all_some, before_some, only_some, chosen, both_true, neither, one_true, not_true, not_false, Reads}
+use Rattle.syn_grammar.specs.Slot.{elements, single, fields, piece_form, ending_at, within, if_word, while_word, for_head, match_word, comma_or_end}
+use Rattle.syn_grammar.specs.Stands.{Node, is_leaf, is_become, is_paren, is_lead, is_frame, Content, holds_within, no_more, one_more, Stands, ends, closes, ends_list, leaf_stands, lead_stands, lead_place, frame_stands, has_no_comma}
+use Rattle.syn_grammar.specs.Read.{Reading, standing, ended_by, bare_operands, content, framed_by, all_of, before, rounded, round_read, repeated_by, elements_by, bracketed, bracket_inside, bracket_read, structured, structure_read, named_by, named_read, unled, led, lead_read, looped, loop_read, kept_from, become_word, is_taken, taken, leaf_at, lead_at, loop_head_at, atom}
+use Rattle.syn_grammar.proofs.Chains.{some_is, then_some, all_some, before_some, only_some, chosen, both_true, neither}
 use Rattle.syn_grammar.proofs.Needs.{Heads}
-use Rattle.syn_grammar.specs.Front.{bracket_at, question_at, dot_at}
-use Rattle.syn_grammar.proofs.Sound.{moved, leaf_read_sound, bare_sound, content_sound, framed_sound, element_is, group_is, empty_is, no_comma_is, ends_a_piece}
+use Rattle.syn_grammar.specs.Front.{bracket_at}
+use Rattle.syn_grammar.proofs.Sound.{moved, leaf_read_sound, bare_sound, content_sound, framed_sound, element_is, group_is, no_comma_is, ends_a_piece}
 
 -- ---- which leaf it is
 

@@ -1,25 +1,20 @@
 -- Trailers, attributes and operations: what is read stands.
-use Rattle.std.specs.Prelude.{not, ◌||◌, ◌&&◌, if◌then◌else◌}
-use Rattle.std.proofs.Common.{◌≡◌, ℕ, zero, suc, Bool, true, false, ⊎_elim, List, [], ◌∷◌, ◌++◌, drop, length, Option, Some, None, refl, ap, sym, ◌∙◌, subst}
-use Rattle.syn_lexer.specs.declared.lexeme.Delimiter.TheVariants as del
-use Rattle.syn_lexer.specs.declared.lexeme.Delimiter.{Delimiter}
-use Rattle.syn_tokens.specs.Tok.{Tok, Inside, ident, literal, punct, group, toks, weight, inside-toks}
-use Rattle.syn_tokens.specs.Front.{group_at, group_of, same_delimiter, is_empty}
-use Rattle.syn_parts.specs.Text.{Text}
-use Rattle.syn_parts.specs.declared.label.PathStyle.TheVariants as style
+use Rattle.std.specs.Prelude.{not, ◌||◌, ◌&&◌}
+use Rattle.std.proofs.Common.{◌≡◌, ℕ, zero, suc, Bool, true, false, ⊎_elim, List, [], ◌∷◌, ◌++◌, drop, Option, Some, None, refl, ap, sym, ◌∙◌, subst}
+use Rattle.syn_tokens.specs.Tok.{Tok, weight}
 use Rattle.syn_parts.specs.Tree.{AttributeTree}
-use Rattle.syn_parts.specs.Form.{Form, Outcome, Mark, and_then, then_behind}
-use Rattle.syn_parts.specs.Part.{inner_attributes, outer_attributes, qpath, macro_end, type, QPathTree, MacroEnd}
+use Rattle.syn_parts.specs.Form.{and_then}
+use Rattle.syn_parts.specs.Part.{outer_attributes, type}
 use Rattle.syn_parts.specs.Pat.{an_index}
 use Rattle.syn_parts.proofs.Same.{same_toks-true}
 use Rattle.syn_grammar.specs.declared.kinds.Place.{Place}
 use Rattle.syn_grammar.specs.declared.kinds.Infix.{Infix}
-use Rattle.syn_grammar.specs.Place.{plain, before_block, at, takes}
+use Rattle.syn_grammar.specs.Place.{at, takes}
 use Rattle.syn_grammar.specs.Op.{infix_at, level}
 use Rattle.syn_grammar.specs.Tree as tr
 use Rattle.syn_grammar.specs.Tree.{Tree, Kids, ClosureHead, Leaf, Lead, Post, Trailer, Frame, Piece, Ending, leaf, paren, adorned, lead, mid, post, tail, frame, none, kid, plain_block, post_op, is_one, is_silent}
-use Rattle.syn_grammar.specs.Read.{Reading, standing, leaf_read, is_scrutinees, ended_by, branch_by, block_by, value_by, operand_of, armed, operands_by, operands, bare_operands, ended_list, content, framed_by, all_of, before, rounded, round_read, repeated_by, elements_by, bracketed, bracket_inside, bracket_read, structured, structure_read, named_by, named_read, unled, led, lead_read, looped, loop_read, kept_from, become_word, is_taken, taken, leaf_at, lead_at, loop_head_at, atom, trailed_by, indexed_by, dotted_by, trailed, trail, core, adorned_by, attributed, verbatim_of, operand, post_made, mid_read, longer, closing, turn, climb, at_place, stop, taken_by, taken_at, next_operator, operation}
-use Rattle.syn_grammar.proofs.Chains.{some_is, then_some, behind_some, all_some, before_some, only_some, chosen, both_true, neither, one_true, not_true, not_false, Reads}
+use Rattle.syn_grammar.specs.Read.{Reading, content, is_taken, taken, atom, trailed_by, indexed_by, dotted_by, trailed, trail, core, adorned_by, attributed, verbatim_of, operand, post_made, mid_read, longer, closing, turn, climb, at_place, stop, taken_by, taken_at, next_operator, operation}
+use Rattle.syn_grammar.proofs.Chains.{some_is, then_some, only_some, chosen}
 use Rattle.syn_grammar.proofs.Needs.{Heads}
 use Rattle.syn_parts.specs.Mark.{pound, round_at}
 use Rattle.syn_grammar.specs.declared.kinds.Limits.TheVariants as limits
