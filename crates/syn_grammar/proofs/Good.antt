@@ -154,7 +154,7 @@ kid_obeys e.output_block t g s =
 kid_obeys e.grouped t g s = at_kid t enclosed _ g refl
 kid_obeys e.stray t g s = absurd cc
 
-not_kept : (k : Piece) (t : Tree) → is_kept_block t ≡ false → keeps_block k t ≡ false
+pub not_kept : (k : Piece) (t : Tree) → is_kept_block t ≡ false → keeps_block k t ≡ false
 not_kept e.element t h = refl
 not_kept e.value t h = refl
 not_kept e.repeated t h = refl

@@ -24,6 +24,9 @@ pub mod HeadPlaces
 pub mod HeadTrailers
 pub mod HeadFrames
 pub mod HeadsBack
+pub mod Kept
+pub mod Tight
+pub mod Spares
 pub mod HeadTold
 pub mod WorkedRows
 pub mod Flat
@@ -47,3 +50,11 @@ pub mod ReadFrames
 pub mod ReadTrailers
 pub mod Complete
 pub mod Exact
+pub mod ShownFronts
+pub mod ShownParts
+pub mod ShownFirst
+pub mod Shown
+pub mod ShownTypes
+pub mod Needless
+pub mod Unclear
+pub mod SparedPairs

@@ -7,4 +7,5 @@ pub mod next;
 pub mod note;
 pub mod printing;
 pub mod rows;
+pub mod sparing;
 pub mod trees;

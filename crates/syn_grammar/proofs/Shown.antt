@@ -1,0 +1,269 @@
+-- What stands obeys the binding rules, said along the tree.
+use Rattle.std.proofs.Common.{◌≡◌, ℕ, Bool, true, false, not, ◌&&◌, ◌||◌, List, [], ◌∷◌, drop, Option, Some, None, refl, sym, ◌∙◌, ap, subst}
+use Rattle.std.specs.Prelude.{if◌then◌else◌}
+use Rattle.syn_lexer.specs.declared.lexeme.Delimiter.TheVariants as del
+use Rattle.syn_tokens.specs.Tok.{Tok}
+use Rattle.syn_tokens.specs.Front.{group_at}
+use Rattle.syn_parts.specs.Tree.{TypeTree}
+use Rattle.syn_parts.specs.Part.{type}
+use Rattle.syn_parts.specs.Pat.{an_index, a_name}
+use Rattle.syn_parts.specs.Mark.{lt, brace_at}
+use Rattle.syn_parts.specs.Ends.{ends_open}
+use Rattle.syn_grammar.specs.declared.kinds.Level.{Level}
+use Rattle.syn_grammar.specs.declared.kinds.Level.TheVariants as lev
+use Rattle.syn_grammar.specs.declared.kinds.Place.{Place}
+use Rattle.syn_grammar.specs.declared.next.Next.TheVariants as next
+use Rattle.syn_grammar.specs.declared.next.Context.{Context}
+use Rattle.syn_grammar.specs.Place.{plain, at}
+use Rattle.syn_grammar.specs.Op.{level}
+use Rattle.syn_grammar.specs.Front.{dot_at, question_at}
+use Rattle.syn_grammar.specs.Head.{leaf_form, lead_form}
+use Rattle.syn_grammar.specs.Next.{enclosed, in_condition, next_of, left_context, base_context, right_context, adorned_context, lead_context, lead_level, piece_context}
+use Rattle.syn_grammar.specs.Slot.{Slot, Holder, within, ending_at, behind_loop, behind_condition, piece_place, trailer_holder}
+use Rattle.syn_grammar.specs.Stands.{Node, is_leaf, is_become, is_attributed, is_paren, is_adorned_by, is_lead, is_mid, is_post, is_tail, is_indexed, is_frame, Content, holds_none, holds_within, holds_bare, Operands, no_more, one_more, short, block, arms_inside, fits_base, fields_of, fields_head, trailer_head, is_base, is_call, carries, is_adorned, is_pounded, post_behind, post_stands, lead_place, short_value, takes_block}
+use Rattle.syn_grammar.specs.Tree as e
+use Rattle.syn_grammar.specs.Tree.{Tree, Kids, Leaf, Lead, Post, Trailer, Piece, Ending, leaf, paren, adorned, lead, mid, post, tail, frame, none, kid, post_op, plain_block, is_silent, is_block_like}
+use Rattle.syn_grammar.specs.Rule.{is_below, is_braceless, post_refuses, is_less_next, is_bare_break}
+use Rattle.syn_grammar.specs.Printed.{plainly_adorned, kids_plainly}
+use Rattle.syn_grammar.proofs.Bools.{both_true, both, not_it}
+use Rattle.syn_grammar.proofs.Obeys.{Fits, begins_label, Obeys, ObeysKids}
+use Rattle.syn_grammar.proofs.ShownFronts.{Front, front_end, front_operator, front_call, front_index, front_block, front_dot, front_question}
+use Rattle.syn_grammar.proofs.ShownParts.{Agrees, agrees_plain, agrees_condition, agrees_arm, agrees_left, agrees_base, agrees_adorned, agrees_right, agrees_lead, front_lead, lead_above, right_above, lead_brace, right_brace, leaf_shown, lead_placed, frame_shown, fits_shown, left_shown, lead_head, base_below, base_braceless, below_left, left_braceless, adorned_below, adorned_braceless, dot_twice, dot_above, dot_braceless, post_shown}
+use Rattle.syn_grammar.proofs.ShownFirst.{block_first, label_first, bare_break}
+use Rattle.syn_grammar.proofs.Chains.{some_is}
+
+-- what is asked of the first token and of the edge
+abbrev pub At : Context → List Tok → Tree → Type 0
+At c l x = (is_below c.edge && is_block_like x ≡ false) × (is_braceless c.edge && brace_at l ≡ false)
+
+-- ---- fields of fields
+
+carries_fields : (is : List ℕ) (k : Trailer) (b : Tree) (i : ℕ) → is_call k ≡ false → is_base k (fields_of (tail b (e.field (an_index i)) none) is) ≡ true
+carries_fields [] k b i h = rw h refl
+carries_fields (j ∷ is) k b i h = carries_fields is k (tail b (e.field (an_index i)) none) j h
+
+abbrev field_context : ℕ → Context → Context
+field_context i c = base_context (e.field (an_index i)) c
+
+field_twice : (i j : ℕ) (c : Context) → field_context i (field_context j c) ≡ field_context i c
+field_twice i j c = ap (λ x. record { condition = c.condition; edge = x; next = next.Dot }) (dot_twice c.edge)
+
+obeys_fields : (is : List ℕ) (i : ℕ) (v : Level) (c : Context) (b : Tree) → is_base (e.field (an_index i)) b ≡ true → Obeys v (field_context i c) b → Obeys v c (fields_of b (i ∷ is))
+obeys_fields [] i v c b h o = (h, o, tt)
+obeys_fields (j ∷ is) i v c b h o =
+    obeys_fields is j v c (tail b (e.field (an_index i)) none) refl
+    (h, subst (λ (d : Context). Obeys v d b) (sym (field_twice i j c)) o, tt)
+
+plain_fields : (is : List ℕ) (b : Tree) → plainly_adorned (fields_of b is) ≡ true → plainly_adorned b ≡ true
+plain_fields [] b h = h
+plain_fields (i ∷ is) b h = (both_true _ _ (plain_fields is (tail b (e.field (an_index i)) none) h)).0
+
+no_steps : (x y : List ℕ × List Tok) (i : ℕ) (is : List ℕ) → Some x ≡ Some y → x.0 ≡ [] → y.0 ≡ i ∷ is → ⊥
+no_steps x y i is t p q =
+    let r : i ∷ is ≡ [] = sym q ∙ sym (ap (λ (z : List ℕ × List Tok). z.0) (some_is t)) ∙ p in cc
+
+no_tested : (b : Bool) (x y : List ℕ × List Tok) (i : ℕ) (is : List ℕ) → (if b then Some x else None) ≡ Some y → x.0 ≡ [] → y.0 ≡ i ∷ is → ⊥
+no_tested true x y i is t p q = no_steps x y i is t p q
+no_tested false x y i is t p q = absurd cc
+
+fields_dot : (k : Trailer) (m h : List Tok) (i : ℕ) (is : List ℕ) → trailer_head k m ≡ Some (i ∷ is, h) → (is_call k ≡ false) × (next_of k ≡ next.Dot)
+unfolding trailer_head
+fields_dot e.call m h i is t = absurd (no_steps ([], m) (i ∷ is, h) i is t refl refl)
+fields_dot e.index m h i is t = absurd (no_steps ([], m) (i ∷ is, h) i is t refl refl)
+fields_dot e.question m h i is t = absurd (no_tested (question_at m) ([], drop 1 m) (i ∷ is, h) i is t refl refl)
+fields_dot (e.method w a) m h i is t = (refl, refl)
+fields_dot (e.field f) m h i is t = (refl, refl)
+fields_dot e.await m h i is t = (refl, refl)
+
+test_of : {A : Type 0} (b : Bool) (o : Option A) (y : A) → (if b then o else None) ≡ Some y → b ≡ true
+test_of true o y h = refl
+test_of false o y h = absurd cc
+
+call_inside : (x y : List ℕ × List Tok) → Some x ≡ Some y → x.1 ≡ y.1
+call_inside x y t = ap (λ (p : List ℕ × List Tok). p.1) (some_is t)
+
+holder_group : (d : _) (s : Slot) (z : Bool) (l n : List Tok) (ks : Kids) → Content (within d s z) l ks n → (g : List Tok × List Tok) × (group_at d l ≡ Some g)
+holder_group d s z l n ks (holds_within {i = i} g o e) = ((i, n), g)
+
+front_trailer : (k : Trailer) (m h n : List Tok) (is : List ℕ) (ks : Kids) → trailer_head k m ≡ Some (is, h) → Content (trailer_holder k) h ks n → Front (next_of k) m
+unfolding trailer_head
+front_trailer e.call m h n is ks t c =
+    let g = holder_group _ _ _ h n ks c in front_call m g.0 (ap (group_at del.Parenthesis) (call_inside ([], m) (is, h) t) ∙ g.1)
+front_trailer e.index m h n is ks t c =
+    let g = holder_group _ _ _ h n ks c in front_index m g.0 (ap (group_at del.Bracket) (call_inside ([], m) (is, h) t) ∙ g.1)
+front_trailer e.question m h n is ks t c = front_question m (test_of (question_at m) _ _ t)
+front_trailer (e.method w a) m h n is ks t c = front_dot m (test_of (dot_at m) _ _ t)
+front_trailer (e.field f) m h n is ks t c = front_dot m (test_of (dot_at m) _ _ t)
+front_trailer e.await m h n is ks t c = front_dot m (test_of (dot_at m) _ _ t)
+
+front_fields : (m : List Tok) (y : List ℕ × List Tok) → fields_head m ≡ Some y → Front next.Dot m
+unfolding fields_head
+front_fields m y t = front_dot m (test_of (dot_at m) _ y t)
+
+-- ---- kids
+
+behind_block : (c : Ending) (h n : List Tok) (o : Option (List Tok × List Tok)) → group_at del.Brace h ≡ o → behind_condition o ≡ Some (c, n) → Front next.Block h
+behind_block c h n None q t = absurd cc
+behind_block c h n (Some g) q t = front_block h g q
+
+behind_loop_block : (c : Ending) (h n : List Tok) (o : Option (List Tok × List Tok)) → group_at del.Brace h ≡ o → behind_loop o ≡ Some (c, n) → Front next.Block h
+behind_loop_block c h n None q t = absurd cc
+behind_loop_block c h n (Some g) q t = front_block h g q
+
+abbrev pub ShownAt : Place → List Tok → Tree → List Tok → Type 0
+ShownAt p l x n = (c : Context) → Agrees p c → Front c.next n → At c l x → Obeys p.level c x
+
+piece_shown : (k : Piece) (l n m : List Tok) (x : Tree) (c : Ending) → ending_at k x n ≡ Some (c, m) → ShownAt (piece_place k) l x n → Obeys lev.Jump (piece_context k) x
+unfolding ending_at
+piece_shown e.element l n m x c t s = s enclosed agrees_plain (front_end n) (refl, refl)
+piece_shown e.value l n m x c t s = s enclosed agrees_plain (front_end n) (refl, refl)
+piece_shown e.repeated l n m x c t s = s enclosed agrees_plain (front_end n) (refl, refl)
+piece_shown (e.field_value ats y b) l n m x c t s = s enclosed agrees_plain (front_end n) (refl, refl)
+piece_shown (e.rest d) l n m x c t s = s enclosed agrees_plain (front_end n) (refl, refl)
+piece_shown e.condition l n m x c t s = s in_condition agrees_condition (behind_block c n m _ refl t) (refl, refl)
+piece_shown e.loop_head l n m x c t s = s in_condition agrees_condition (behind_loop_block c n m _ refl t) (refl, refl)
+piece_shown e.scrutinee l n m x c t s = absurd cc
+piece_shown e.chained l n m x c t s = s enclosed agrees_plain (front_end n) (refl, refl)
+piece_shown (e.guard ats y) l n m x c t s = s enclosed agrees_plain (front_end n) (refl, refl)
+piece_shown e.guarded l n m x c t s = s (piece_context e.guarded) agrees_arm (front_end n) (refl, refl)
+piece_shown (e.arm ats y) l n m x c t s = s (piece_context (e.arm ats y)) agrees_arm (front_end n) (refl, refl)
+piece_shown e.output_block l n m x c t s = s enclosed agrees_plain (front_end n) (refl, refl)
+piece_shown e.grouped l n m x c t s = s enclosed agrees_plain (front_end n) (refl, refl)
+piece_shown e.stray l n m x c t s = s enclosed agrees_plain (front_end n) (refl, refl)
+
+block_shown : (k : Piece) (i : List Tok) → takes_block k ≡ true → Obeys lev.Jump (piece_context k) (plain_block i)
+block_shown e.chained i h = refl
+block_shown e.output_block i h = refl
+block_shown _ i h = absurd cc
+
+short_silent : (k : Piece) (x : Tree) → short_value k ≡ Some x → is_silent k ≡ false → ⊥
+short_silent (e.field_value ats (a_name w) false) x h s = absurd cc
+short_silent (e.field_value ats (a_name w) true) x h s = absurd cc
+short_silent (e.field_value ats (an_index i) b) x h s = absurd cc
+short_silent _ x h s = absurd cc
+
+no_bare_label : (k : Lead) (l m n : List Tok) (p : Place) (x : Tree) → lead_form.behind k l ≡ Some m → Node p m x n → is_bare_break k && begins_label x ≡ false
+no_bare_label (e.jump (e.breaking None)) l m n p x h d = go (begins_label x) refl
+  where
+    go : (b : Bool) → begins_label x ≡ b → b ≡ false
+    go true q = absurd (let r : true ≡ false = sym (label_first d q) ∙ bare_break l m h in cc)
+    go false q = refl
+no_bare_label _ l m n p x h d = refl
+
+lead_level_is : (p : Place) (k : Lead) → (lead_place p k).level ≡ lead_level k
+lead_level_is p (e.unary op) = refl
+lead_level_is p (e.reference m) = refl
+lead_level_is p (e.raw_addr m) = refl
+lead_level_is p (e.range_to op) = refl
+lead_level_is p (e.binding x) = refl
+lead_level_is p (e.jump j) = refl
+lead_level_is p (e.closure h) = refl
+
+-- A type that would take arguments at `<` has none behind it.
+abbrev pub TypesClose : Type 0
+TypesClose = (x : TypeTree) (l n : List Tok) → (type false).behind x l ≡ Some n → lt.at n ≡ true → ends_open x ≡ false
+
+base_field : (k : Trailer) (i : ℕ) (b : Tree) → is_base k b ≡ true → is_base (e.field (an_index i)) b ≡ true
+base_field k i b h =
+    let p = both_true (carries b) _ h in
+    let q = both_true (not (is_adorned b || is_pounded b)) _ p.1 in
+    both (carries b) _ p.0 (both (not (is_adorned b || is_pounded b)) true q.0 refl)
+
+base_is : (p : Place) (k : Trailer) (b : Tree) → fits_base p k b ≡ true → is_base k b ≡ true
+unfolding fits_base
+base_is p k b h = (both_true _ _ h).0
+
+-- at an index of a field
+index_shown : (p : Place) (c : Context) (l y : List Tok) (b : Tree) (i : ℕ) → Agrees p c → is_braceless c.edge && brace_at l ≡ false → Front next.Dot y → ShownAt p l b y
+    → Obeys p.level (field_context i c) b
+index_shown p c l y b i m z f s =
+    s (field_context i c) (agrees_base p (e.field (an_index i)) c m) f
+    (ap (λ x. x && is_block_like b) (dot_above c.edge), ap (λ x. x && brace_at l) (dot_braceless c.edge) ∙ z)
+
+tail_shown : (p : Place) (c : Context) (k : Trailer) (l y h : List Tok) (b x : Tree) (is : List ℕ) → Agrees p c → is_braceless c.edge && brace_at l ≡ false
+    → fits_base p k b ≡ true → trailer_head k y ≡ Some (is, h) → Front (next_of k) y → x ≡ fields_of b is → ShownAt p l b y
+    → (is_base k x ≡ true) × Obeys p.level (base_context k c) x
+tail_shown p c k l y h b x [] m z f t r q s = (
+  ap (is_base k) q ∙ base_is p k b f,
+  subst (λ a. Obeys p.level (base_context k c) a) (sym q)
+      (s (base_context k c) (agrees_base p k c m) r (base_below p c k b m f, ap (λ a. a && brace_at l) (base_braceless k c.edge) ∙ z)),
+)
+tail_shown p c k l y h b x (i ∷ is) m z f t r q s =
+    let d = fields_dot k y h i is t in (
+      ap (is_base k) q ∙ carries_fields is k b i d.0,
+      subst (λ a. Obeys p.level (base_context k c) a) (sym q)
+          (obeys_fields is i p.level (base_context k c) b (base_field k i b (base_is p k b f))
+          (index_shown p (base_context k c) l y b i (agrees_base p k c m) (ap (λ a. a && brace_at l) (base_braceless k c.edge) ∙ z)
+          (subst (λ n. Front n y) d.1 r) s)),
+    )
+
+module _ (closed : TypesClose) where
+  post_refused : (p : Place) (c : Context) (k : Post) (l n : List Tok) → Agrees p c → Front c.next n → post_behind k l ≡ Some n → post_stands p k n ≡ true → post_refuses k c.next ≡ false
+  post_refused p c (e.cast x) l n m f h t = go (is_less_next c.next) refl
+    where
+      go : (b : Bool) → is_less_next c.next ≡ b → b && ends_open x ≡ false
+      go true q = closed x l n h (f.less q)
+      go false q = refl
+  post_refused p c (e.range_from op) l n m f h t = post_shown p c op n m f t
+
+  mutual
+    pub shown : {p : Place} {l n : List Tok} {x : Tree} → Node p l x n → plainly_adorned x ≡ true → ShownAt p l x n
+    shown (is_leaf {p = p} {l = l} {n = n} {k = k} f g) a c m s b = leaf_shown p c k l n m s g b.0 b.1 (λ y q. block_first y l n (ap (λ (z : Leaf). leaf_form.behind z l) (sym q) ∙ f))
+    shown (is_become w d q r o) a c m s b = b.0
+    shown (is_attributed z more fs f d q r) a c m s b = b.0
+    shown (is_paren {n = n} {x = x} d q r) a c m s b =
+        (shown d a enclosed agrees_plain (front_end []) (refl, refl), fits_shown plain next.End [] x refl (front_end []) q r)
+    shown (is_adorned_by {x = x} f g d) a c m s b =
+        let h = both_true _ _ a in
+        (not_it _ h.0, shown d h.1 (adorned_context c) (agrees_adorned _ c m) s (adorned_below c.edge (is_block_like x) b.0, adorned_braceless c.edge _))
+    shown (is_lead {p = p} {l = l} {m = y} {n = n} {k = k} {x = x} f g d q r) a c m s b = (
+      lead_placed c k m.no_statement,
+      subst (λ v. Obeys v (lead_context k c) x) (lead_level_is p k)
+          (shown d a (lead_context k c) (agrees_lead p k c m) (front_lead k c n s) (lead_above k c (is_block_like x), lead_brace p k c y m g)),
+      subst (λ v. Fits v x (lead_context k c).next) (lead_level_is p k) (fits_shown (lead_place p k) (lead_context k c).next n x (lead_head p k) (front_lead k c n s) q r),
+      no_bare_label k l y n (lead_place p k) x f d,
+    )
+    shown (is_mid {p = p} {l = l} {m = y} {n = n} {x = x} {y = z} {op = op} {count = count} d q r i t o d2 u v w) a c m s b =
+        let h = both_true _ _ a in
+        let f = left_shown p op x r in (
+          t,
+          shown d h.0 (left_context op c) (agrees_left p op c m) (front_operator y op count i)
+              (below_left c.edge p.head _ m.head m.no_statement f.1, ap (λ k. k && brace_at l) (left_braceless c.edge) ∙ b.1),
+          f.0,
+          shown d2 h.1 (right_context op c) (agrees_right p op c m) s (right_above op c (is_block_like z), right_brace p op c (drop count y) m o),
+          fits_shown (at p (level op)) c.next n z refl s u v,
+        )
+    shown (is_post {p = p} {l = l} {m = y} {n = n} {x = x} {k = k} {count = count} d q r i t u o w) a c m s b =
+        let f = left_shown p (post_op k) x r in (
+          t,
+          shown d a (left_context (post_op k) c) (agrees_left p (post_op k) c m) (front_operator y (post_op k) count i)
+              (below_left c.edge p.head _ m.head m.no_statement f.1, ap (λ k. k && brace_at l) (left_braceless c.edge) ∙ b.1),
+          f.0,
+          post_refused p c k (drop count y) n m s u o,
+        )
+    shown (is_tail {p = p} {l = l} {m = y} {h = h} {n = n} {b = z} {x = x} {k = k} {is = is} {ks = ks} d f t o q) a c m s b =
+        let u = both_true _ _ a in
+        let v = plain_fields is z (ap plainly_adorned (sym q) ∙ u.0) in
+        let r = tail_shown p c k l y h z x is m b.1 f t (front_trailer k y h n is ks t o) q (shown d v) in
+        (r.0, r.1, shown_content o u.1)
+    shown (is_indexed {p = p} {l = l} {m = y} {n = n} {b = z} {x = x} {i = i} {is = is} d f t q) a c m s b =
+        let v = plain_fields (i ∷ is) z (ap plainly_adorned (sym q) ∙ a) in
+        subst (λ w. Obeys p.level c w) (sym q)
+        (obeys_fields is i p.level c z (base_is p (e.field (an_index i)) z f) (index_shown p c l y z i m b.1 (front_fields y (i ∷ is, n) t) (shown d v)))
+    shown (is_frame {p = p} {k = k} {ks = ks} f o g) a c m s b = (frame_shown p c k ks m g b.0, shown_content o a)
+
+    shown_content : {h : Holder} {l n : List Tok} {ks : Kids} → Content h l ks n → kids_plainly ks ≡ true → ObeysKids ks
+    shown_content holds_none a = tt
+    shown_content (holds_within g o q) a = shown_operands o a
+    shown_content (holds_bare o) a = shown_operands o a
+
+    shown_operands : {s : Slot} {l o : List Tok} {ks : Kids} → Operands s l ks o → kids_plainly ks ≡ true → ObeysKids ks
+    shown_operands (no_more q) a = tt
+    shown_operands (one_more {m = m} {h = h} {n = n} {k = k} {c = c} {x = x} f g d q t more) a =
+        let u = both_true _ _ a in
+        (λ e. piece_shown k m h n x c t (shown d u.0), shown_operands more u.1)
+    shown_operands (short {k = k} {x = x} f g t more) a = (λ e. absurd (short_silent k x g e), shown_operands more (both_true _ _ a).1)
+    shown_operands (block {i = i} {k = k} f g t more) a = (λ e. block_shown k i g, shown_operands more a)
+    shown_operands (arms_inside {l = l} {i = i} {h = h} {n = n} {x = x} d q r g u more) a =
+        let w = both_true _ _ a in
+        (λ e. shown d w.0 in_condition agrees_condition (front_block h (i, n) g) (refl, refl), shown_operands more w.1)
