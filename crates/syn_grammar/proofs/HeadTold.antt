@@ -172,7 +172,7 @@ short_told ats w r f i g = by_colon (colon.at r) (sym (field_opens ats (a_name w
     by_colon true g = absurd cc
     by_colon false g = refl
 
-unwritten_told : (l n : List Tok) → (piece_form s.fields).behind (e.rest false) l ≡ Some n → ⊥
+pub unwritten_told : (l n : List Tok) → (piece_form s.fields).behind (e.rest false) l ≡ Some n → ⊥
 unfolding piece_form
 unwritten_told l n g = by_dots (dots.at l) g
   where

@@ -58,3 +58,4 @@ pub mod ShownTypes
 pub mod Needless
 pub mod Unclear
 pub mod SparedPairs
+pub mod StoodFilled

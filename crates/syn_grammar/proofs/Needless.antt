@@ -94,7 +94,7 @@ bare_in : (p : Place) (c : Context) (x : Tree) (l n : List Tok) → p.level ≡ 
     → put (place_asks lev.Jump c x) (bare enclosed x) (bare c x) ≡ x
 bare_in p c x l n v m f b a d = kept_in x c (proper d) (subst (λ z. Obeys z c x) v (shown open_types d a c m f b))
 
-bare_there : (s : Position) (x : Tree) (l r : List Tok) → is_sparing s ≡ true → allows s r ≡ true → plainly_adorned x ≡ true → Node (place_of s) l x r
+pub bare_there : (s : Position) (x : Tree) (l r : List Tok) → is_sparing s ≡ true → allows s r ≡ true → plainly_adorned x ≡ true → Node (place_of s) l x r
     → put (place_asks lev.Jump (context_of s) x) (bare enclosed x) (bare (context_of s) x) ≡ x
 bare_there in_plain x l r v h a d = bare_in plain enclosed x l r refl agrees_plain (front_end r) (refl, refl) a d
 bare_there as_statement x l r v h a d = absurd cc

@@ -1,9 +1,15 @@
 //! Laws of sparing parentheses, each the contract of a call.
 
-ghost use Rattle.syn_grammar.specs.Printed.{NoneNeedlessly};
+ghost use Rattle.syn_grammar.specs.Printed.{NoneNeedlessly, OwnSpelling};
 
 /// No parentheses are added to a well-formed tree in plain position, in a condition or in an arm exactly where the tree's own
 /// spelling stands there for it. (In operations with attributes they always are.)
 pub fn none_needlessly()
     ensures { NoneNeedlessly }
+{}
+
+/// Whatever list of tokens a tree stands for in plain position, it is printed as its own spelling, if no operation in it has
+/// attributes.
+pub fn own_spelling()
+    ensures { OwnSpelling }
 {}
