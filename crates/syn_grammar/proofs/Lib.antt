@@ -59,3 +59,4 @@ pub mod Needless
 pub mod Unclear
 pub mod SparedPairs
 pub mod StoodFilled
+pub mod SparedPlain

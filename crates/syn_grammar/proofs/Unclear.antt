@@ -26,7 +26,7 @@ prints_clear (post x k) = refl
 prints_clear (tail b k ks) = refl
 prints_clear (frame k ks) = refl
 
-operation_clear : (t : Tree) → is_operation (clear t) ≡ is_operation t
+pub operation_clear : (t : Tree) → is_operation (clear t) ≡ is_operation t
 operation_clear t = ap (λ b. b || prints_range (clear t)) (infix_clear t) ∙ ap (λ b. is_infix t || b) (prints_clear t)
 
 label_clear : (t : Tree) → begins_label (clear t) ≡ begins_label t

@@ -1,6 +1,6 @@
 //! Laws of sparing parentheses, each the contract of a call.
 
-ghost use Rattle.syn_grammar.specs.Printed.{NoneNeedlessly, OwnSpelling};
+ghost use Rattle.syn_grammar.specs.Printed.{NoneNeedlessly, NoPairSpared, OwnSpelling};
 
 /// No parentheses are added to a well-formed tree in plain position, in a condition or in an arm exactly where the tree's own
 /// spelling stands there for it. (In operations with attributes they always are.)
@@ -12,4 +12,10 @@ pub fn none_needlessly()
 /// attributes.
 pub fn own_spelling()
     ensures { OwnSpelling }
+{}
+
+/// None of the pairs that are added to a well-formed tree in plain position, in a condition or in an arm can be left out by
+/// itself: without it the tree stands for no list of tokens there. (No operation in the tree has attributes.)
+pub fn no_pair_spared()
+    ensures { NoPairSpared }
 {}
