@@ -60,3 +60,9 @@ pub mod Unclear
 pub mod SparedPairs
 pub mod StoodFilled
 pub mod SparedPlain
+pub mod LastTypes
+pub mod FirstLabel
+pub mod LastBraces
+pub mod LastFormed
+pub mod AskedRows
+pub mod LastNames

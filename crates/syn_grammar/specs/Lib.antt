@@ -16,3 +16,5 @@ pub mod Same
 pub mod Sparing
 pub mod Printed
 pub mod Rows
+pub mod Query
+pub mod QueryRows

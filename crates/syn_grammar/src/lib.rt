@@ -6,6 +6,7 @@ pub mod laws;
 pub mod next;
 pub mod note;
 pub mod printing;
+pub mod queries;
 pub mod rows;
 pub mod sparing;
 pub mod trees;

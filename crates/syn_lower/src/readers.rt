@@ -25,7 +25,7 @@ use syn_tokens::error::Result;
 
 /// Reads a type; behind its `impl` or `dyn` several bounds may stand, or one.
 #[tactic(auto, using(syn_parts::proofs::Parts::type_is))]
-fn ty(input: &mut ParseBuffer<'_>, several: bool) -> Result<Box<Type>>
+pub fn ty(input: &mut ParseBuffer<'_>, several: bool) -> Result<Box<Type>>
     ensures value { Reads (λ x. type_of x.value) ((part.type several).reads input.old.rest) result input.new.rest }
     ensures noted { input.new.noted ≡ input.old.noted }
     ensures shrinks { weight input.new.rest ≤ weight input.old.rest }

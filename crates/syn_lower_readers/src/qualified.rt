@@ -72,7 +72,7 @@ fn is_bare<T: HasTree>(qself: &Option<QSelfOf<T>>, path: &PathOf<T>) -> bool
 }
 
 /// What stands behind the path of a macro: `!` and a group.
-type MacroEnd = (Not, MacroDelimiter, TokenStream);
+pub type MacroEnd = (Not, MacroDelimiter, TokenStream);
 
 /// A path as a type, or the macro that `!` and a group behind it make.
 fn path_or_macro<T: IsType + Drop>(
@@ -96,7 +96,7 @@ fn path_or_macro<T: IsType + Drop>(
 
 /// Reads `!` and a group behind a path that they make a macro.
 #[tactic(auto, unfolding(syn_parts::specs::Part::macro_end))]
-fn macro_end<T: HasTree>(
+pub fn macro_end<T: HasTree>(
     input: &mut ParseBuffer<'_>,
     qself: &Option<QSelfOf<T>>,
     path: &PathOf<T>,

@@ -1,0 +1,92 @@
+-- What is read of an operand, a leaf, a lead or a trailer is what its kind says.
+use Rattle.std.proofs.Common.{◌≡◌, Bool, true, false, cond, drop, refl, Option, None}
+use Rattle.syn_parts.specs.Mark.{star, bang, and, underscore, round_at}
+use Rattle.syn_grammar.specs.Front.{bracket_at, question_at, dot_at}
+use Rattle.syn_grammar.specs.Head as h
+use Rattle.syn_grammar.specs.Head.{leaf_form, lead_form, dotted}
+use Rattle.syn_grammar.specs.Slot.{if_word, match_word}
+use Rattle.syn_grammar.specs.Read as r
+use Rattle.syn_grammar.specs.Read.{atom, trailed}
+use Rattle.syn_expr_front.specs.declared.start.Atom.{Atom}
+use Rattle.syn_expr_front.specs.declared.start.Atom.TheVariants as kind
+use Rattle.syn_expr_front.specs.declared.start.LeafStart.{LeafStart}
+use Rattle.syn_expr_front.specs.declared.start.LeafStart.TheVariants as leaf
+use Rattle.syn_expr_front.specs.declared.start.LeadStart.{LeadStart}
+use Rattle.syn_expr_front.specs.declared.start.LeadStart.TheVariants as lead
+use Rattle.syn_expr_front.specs.declared.start.TrailerStart.{TrailerStart}
+use Rattle.syn_expr_front.specs.declared.start.TrailerStart.TheVariants as trailer
+use Rattle.syn_expr_front.specs.declared.start.NameStart.{NameStart}
+use Rattle.syn_expr_front.specs.declared.start.NameStart.TheVariants as named
+use Rattle.syn_expr_front.specs.Begins.{AtomsAreChosen, LeavesAreChosen, LeadsAreChosen, TrailersAreChosen, NamesAreChosen, atom_by, leaf_by, lead_by, trailer_by, name_by}
+
+-- what a choice makes is the choice of what is made
+pick : {A B : Type 0} (f : A → B) (b : Bool) (x y : A) (u v : B) → u ≡ f x → v ≡ f y → cond b u v ≡ f (cond b x y)
+pick f true x y u v g k = g
+pick f false x y u v g k = k
+
+first : {A B : Type 0} (f : A → B) (b : Bool) (x y : A) (v : B) → v ≡ f y → cond b (f x) v ≡ f (cond b x y)
+first f true x y v k = refl
+first f false x y v k = k
+
+-- the same behind one test more
+inner : {A B : Type 0} (f : A → Option B) (a b : Bool) (x y : A) (u v : Option B) → cond a u None ≡ f x → cond a v None ≡ f y → cond a (cond b u v) None ≡ f (cond b x y)
+inner f a true x y u v g k = g
+inner f a false x y u v g k = k
+
+pub atoms_are_chosen : AtomsAreChosen
+unfolding atom
+atoms_are_chosen expr p l =
+    let f = λ (k : Atom). atom_by expr p k l in
+    first f (r.leaf_at l) kind.Leaf _ _
+    (first f (r.lead_at l) kind.Lead _ _
+    (first f (round_at l) kind.Parenthesis _ _
+    (first f (bracket_at l) kind.Bracket _ _
+    (first f (r.become_word.at l) kind.Become _ _
+    (first f (if_word.at l) kind.If _ _
+    (first f (r.loop_head_at l) kind.Loop _ _
+    (first f (match_word.at l) kind.Match _ _ refl)))))))
+
+pub leaves_are_chosen : LeavesAreChosen
+unfolding leaf_form
+leaves_are_chosen l =
+    let f = λ (k : LeafStart). (leaf_by k).reads l in
+    first f (h.literal_at l) leaf.Literal _ _
+    (first f (underscore.at l) leaf.Underscore _ _
+    (first f (h.range_at l) leaf.Range _ _
+    (first f (h.jump_at l) leaf.Jump _ _
+    (first f (h.continue_word.at l) leaf.Continue _ _
+    (first f (h.loop_at l) leaf.Loop _ _
+    (first f (h.block_at l) leaf.Block _ _
+    (first f (h.unsafe_word.at l) leaf.Unsafe _ _
+    (first f (h.const_block_at l) leaf.Const _ _
+    (first f (h.async_block_at l) leaf.Async _ _
+    (first f (h.try_block_at l) leaf.Try _ _
+    (first f (h.builtin_at l) leaf.Builtin _ _ refl)))))))))))
+
+pub leads_are_chosen : LeadsAreChosen
+unfolding lead_form
+leads_are_chosen l =
+    let f = λ (k : LeadStart). (lead_by k).reads l in
+    first f (star.at l) lead.Deref _ _
+    (first f (bang.at l) lead.Not _ _
+    (first f (h.minus.at l) lead.Neg _ _
+    (pick f (and.at l) _ _ _ _ (inner f (and.at l) (h.raw_at (drop 1 l)) lead.RawAddr lead.Reference _ _ refl refl)
+    (first f (h.range_at l) lead.Range _ _
+    (first f (h.let_word.at l) lead.Let _ _
+    (first f (h.jump_at l) lead.Jump _ _ refl))))))
+
+pub trailers_are_chosen : TrailersAreChosen
+unfolding trailed
+trailers_are_chosen expr p b l =
+    let f = λ (k : TrailerStart). trailer_by expr p b k l in
+    first f (round_at l) trailer.Call _ _
+    (first f (bracket_at l) trailer.Index _ _
+    (first f (question_at l) trailer.Question _ _
+    (first f (dot_at l) trailer.Dot _ _ refl)))
+
+pub names_are_chosen : NamesAreChosen
+unfolding dotted
+names_are_chosen l =
+    let f = λ (k : NameStart). (name_by k).reads l in
+    first f (h.await_word.at l) named.Await _ _
+    (first f (h.method_at l) named.Method _ _ refl)

@@ -1,0 +1,296 @@
+//! Which operand stands first, by its first tokens.
+
+ghost use Rattle.std.specs.Prelude.{◌≡◌, ◌&&◌, ◌||◌, not, drop};
+ghost use Rattle.syn_grammar.specs.Head as head;
+ghost use Rattle.syn_grammar.specs.Read as read;
+ghost use Rattle.syn_grammar.specs.Slot as slot;
+ghost use Rattle.syn_parts.specs.Mark as mark;
+ghost use Rattle.syn_tokens.specs.View.{toks_of};
+
+use syn_lexer::reserved::is_reserved_word;
+use syn_lower_leaves::leaf::lifetime_at;
+use syn_lower_leaves::lifetime::Lifetime;
+use syn_lower_leaves::text::is_truth;
+use syn_lower_lists::front::lifetimes_at;
+use syn_tokens::buffer::{ParseBuffer, Token};
+use syn_tokens::token::{
+    And, Async, Become, Brace, Break, Const, Continue, DotDot, Else, For, If, In, Let, Loop, Match,
+    Minus, Move, Mut, Not, Or, Paren, PathSep, Pound, Raw, Return, Star, Try, Underscore, Unsafe,
+    While, Yield,
+};
+use syn_tokens::tree::TokenTree;
+
+/// The trees behind so many, none where there are fewer.
+#[tactic(auto, using(syn_tokens::proofs::Views::views))]
+fn behind(trees: &[TokenTree], count: usize) -> &[TokenTree]
+    ensures { toks_of result.now ≡ drop count (toks_of trees.now) }
+{
+    if count < trees.len() {
+        let (_, more) = trees.split_at(count);
+        more
+    } else {
+        &[]
+    }
+}
+
+/// The trees behind the label that stands first, all where none does.
+fn past_label(trees: &[TokenTree]) -> &[TokenTree]
+    ensures { toks_of result.now ≡ head.past_label (toks_of trees.now) }
+{
+    if Lifetime::peek(trees) {
+        behind(trees, 3)
+    } else {
+        trees
+    }
+}
+
+/// Whether a literal stands first, `true` and `false` being two (Rust Reference, "Literal expressions").
+#[tactic(auto, unfolding(syn_grammar::specs::Head::literal_at))]
+pub fn literal_at(input: &ParseBuffer<'_>) -> bool
+    ensures { result ≡ head.literal_at input.now.rest }
+{
+    match input.first() {
+        Some(TokenTree::Literal(_)) => true,
+        Some(TokenTree::Ident(word)) => is_truth(word.as_str()),
+        Some(TokenTree::Punct(_)) => false,
+        Some(TokenTree::Group(_)) => false,
+        None => false,
+    }
+}
+
+/// Whether `loop` stands first, a label before it or not (Rust Reference, "Infinite loops").
+#[tactic(auto, unfolding(syn_grammar::specs::Head::loop_at, syn_tokens::specs::Sign::word_text, syn_parts::specs::Mark::word_at))]
+pub fn loop_at(input: &ParseBuffer<'_>) -> bool
+    ensures { result ≡ head.loop_at input.now.rest }
+{
+    Loop::peek(past_label(input.trees()))
+}
+
+/// Whether a brace stands first, a label before it or not (Rust Reference, "Block expressions").
+#[tactic(auto, unfolding(syn_grammar::specs::Head::block_at, syn_parts::specs::Mark::brace_at))]
+pub fn block_at(input: &ParseBuffer<'_>) -> bool
+    ensures { result ≡ head.block_at input.now.rest }
+{
+    Brace::peek(past_label(input.trees()))
+}
+
+/// Whether `const` and a brace stand first (Rust Reference, "Const blocks").
+#[tactic(auto, unfolding(syn_grammar::specs::Head::const_block_at, syn_tokens::specs::Sign::word_text, syn_parts::specs::Mark::word_at, syn_parts::specs::Mark::brace_at))]
+pub fn const_block_at(input: &ParseBuffer<'_>) -> bool
+    ensures { result ≡ head.const_block_at input.now.rest }
+{
+    input.peek::<Const>() && Brace::peek(behind(input.trees(), 1))
+}
+
+/// Whether `async` and a brace stand first, `move` between them or not (Rust Reference, "`async` blocks").
+#[tactic(auto, unfolding(syn_grammar::specs::Head::async_block_at, syn_tokens::specs::Sign::word_text, syn_parts::specs::Mark::word_at, syn_parts::specs::Mark::brace_at))]
+pub fn async_block_at(input: &ParseBuffer<'_>) -> bool
+    ensures { result ≡ head.async_block_at input.now.rest }
+{
+    let trees = input.trees();
+    let second = behind(trees, 1);
+    Async::peek(trees)
+        && (Brace::peek(second) || Move::peek(second) && Brace::peek(behind(trees, 2)))
+}
+
+/// Whether `try` and a brace stand first.
+#[tactic(auto, unfolding(syn_grammar::specs::Head::try_block_at, syn_tokens::specs::Sign::word_text, syn_parts::specs::Mark::word_at, syn_parts::specs::Mark::brace_at))]
+pub fn try_block_at(input: &ParseBuffer<'_>) -> bool
+    ensures { result ≡ head.try_block_at input.now.rest }
+{
+    input.peek::<Try>() && Brace::peek(behind(input.trees(), 1))
+}
+
+/// Whether `builtin` and `#` stand first: special syntax.
+#[tactic(auto, unfolding(syn_grammar::specs::Head::builtin_at, syn_tokens::specs::Sign::sign_text, syn_parts::specs::Mark::word_at, syn_parts::specs::Mark::sign_at))]
+pub fn builtin_at(input: &ParseBuffer<'_>) -> bool
+    ensures { result ≡ head.builtin_at input.now.rest }
+{
+    match input.trees() {
+        [TokenTree::Ident(word), more @ ..] => word.as_str() == "builtin" && Pound::peek(more),
+        _ => false,
+    }
+}
+
+/// Whether `..` stands first, what is joined to it or not (Rust Reference, "Range expressions").
+#[tactic(auto, unfolding(syn_grammar::specs::Head::range_at, syn_tokens::specs::Sign::sign_text, syn_parts::specs::Mark::sign_at))]
+pub fn range_at(input: &ParseBuffer<'_>) -> bool
+    ensures { result ≡ head.range_at input.now.rest }
+{
+    input.peek::<DotDot>()
+}
+
+/// Whether `return`, `yield` or `break` stands first (Rust Reference, "`return` expressions", "`break` expressions").
+#[tactic(auto, unfolding(syn_grammar::specs::Head::jump_at, syn_tokens::specs::Sign::word_text, syn_parts::specs::Mark::word_at))]
+pub fn jump_at(input: &ParseBuffer<'_>) -> bool
+    ensures { result ≡ head.jump_at input.now.rest }
+{
+    input.peek::<Return>() || input.peek::<Yield>() || input.peek::<Break>()
+}
+
+/// Whether `const` stands first, and no brace behind it.
+#[tactic(auto, unfolding(syn_tokens::specs::Sign::word_text, syn_parts::specs::Mark::word_at, syn_parts::specs::Mark::brace_at))]
+fn const_closure_at(input: &ParseBuffer<'_>) -> bool
+    ensures { result ≡ (mark.constant.at input.now.rest && not (mark.brace_at (drop 1 input.now.rest))) }
+{
+    input.peek::<Const>() && !Brace::peek(behind(input.trees(), 1))
+}
+
+/// Whether `async` stands first, and `|` behind it, or `move` and no brace.
+#[tactic(auto, unfolding(syn_tokens::specs::Sign::word_text, syn_tokens::specs::Sign::sign_text, syn_parts::specs::Mark::word_at, syn_parts::specs::Mark::sign_at, syn_parts::specs::Mark::brace_at))]
+fn async_closure_at(input: &ParseBuffer<'_>) -> bool
+    ensures { result ≡ (head.async_word.at input.now.rest && (head.bar.at (drop 1 input.now.rest) || (head.move_word.at (drop 1 input.now.rest) && not (mark.brace_at (drop 2 input.now.rest))))) }
+{
+    let trees = input.trees();
+    let second = behind(trees, 1);
+    Async::peek(trees) && (Or::peek(second) || Move::peek(second) && !Brace::peek(behind(trees, 2)))
+}
+
+/// Whether the head of a closure stands first (Rust Reference, "Closure expressions").
+#[tactic(auto, unfolding(syn_grammar::specs::Head::closure_at, syn_tokens::specs::Sign::word_text, syn_tokens::specs::Sign::sign_text, syn_parts::specs::Mark::word_at, syn_parts::specs::Mark::sign_at))]
+pub fn closure_at(input: &ParseBuffer<'_>) -> bool
+    ensures { result ≡ head.closure_at input.now.rest }
+{
+    input.peek::<Or>()
+        || input.peek::<Move>()
+        || lifetimes_at(input)
+        || const_closure_at(input)
+        || async_closure_at(input)
+}
+
+/// Whether the word `raw` and one of a raw borrow stand first: `mut` or `const`.
+#[tactic(auto, unfolding(syn_grammar::specs::Head::raw_at, syn_tokens::specs::Sign::word_text, syn_parts::specs::Mark::word_at))]
+fn raw_first(trees: &[TokenTree]) -> bool
+    ensures { result ≡ head.raw_at (toks_of trees.now) }
+{
+    let second = behind(trees, 1);
+    Raw::peek(trees) && (Mut::peek(second) || Const::peek(second))
+}
+
+/// Whether `raw` stands first, and `mut` or `const` behind it (Rust Reference, "Raw borrow operators").
+pub fn raw_at(input: &ParseBuffer<'_>) -> bool
+    ensures { result ≡ head.raw_at input.now.rest }
+{
+    raw_first(input.trees())
+}
+
+/// Whether `raw` stands behind the first token, and `mut` or `const` behind it (Rust Reference, "Raw borrow operators").
+pub(crate) fn raw_behind(input: &ParseBuffer<'_>) -> bool
+    ensures { result ≡ head.raw_at (drop 1 input.now.rest) }
+{
+    raw_first(behind(input.trees(), 1))
+}
+
+/// Whether a name stands first, and parentheses or `::` behind it: that of a method (Rust Reference, "Method-call
+/// expressions").
+#[tactic(auto, unfolding(syn_grammar::specs::Head::method_at, syn_tokens::specs::Sign::sign_text, syn_parts::specs::Mark::sign_at, syn_parts::specs::Mark::round_at))]
+pub fn method_at(input: &ParseBuffer<'_>) -> bool
+    ensures { result ≡ head.method_at input.now.rest }
+{
+    match input.trees() {
+        [TokenTree::Ident(word), more @ ..] => {
+            !is_reserved_word(word.as_str()) && (Paren::peek(more) || PathSep::peek(more))
+        }
+        _ => false,
+    }
+}
+
+/// Whether `become` stands first.
+#[tactic(auto, unfolding(syn_tokens::specs::Sign::word_text, syn_parts::specs::Mark::word_at))]
+pub fn become_at(input: &ParseBuffer<'_>) -> bool
+    ensures { result ≡ read.become_word.at input.now.rest }
+{
+    input.peek::<Become>()
+}
+
+/// Whether `if` stands first (Rust Reference, "`if` expressions").
+#[tactic(auto, unfolding(syn_tokens::specs::Sign::word_text, syn_parts::specs::Mark::word_at))]
+pub fn if_at(input: &ParseBuffer<'_>) -> bool
+    ensures { result ≡ slot.if_word.at input.now.rest }
+{
+    input.peek::<If>()
+}
+
+/// Whether `else` stands first (Rust Reference, "`if` expressions").
+#[tactic(auto, unfolding(syn_tokens::specs::Sign::word_text, syn_parts::specs::Mark::word_at))]
+pub fn else_at(input: &ParseBuffer<'_>) -> bool
+    ensures { result ≡ slot.else_word.at input.now.rest }
+{
+    input.peek::<Else>()
+}
+
+/// Whether `match` stands first (Rust Reference, "`match` expressions").
+#[tactic(auto, unfolding(syn_tokens::specs::Sign::word_text, syn_parts::specs::Mark::word_at))]
+pub fn match_at(input: &ParseBuffer<'_>) -> bool
+    ensures { result ≡ slot.match_word.at input.now.rest }
+{
+    input.peek::<Match>()
+}
+
+/// Whether `while` stands first (Rust Reference, "Predicate loops").
+#[tactic(auto, unfolding(syn_tokens::specs::Sign::word_text, syn_parts::specs::Mark::word_at))]
+pub fn while_at(input: &ParseBuffer<'_>) -> bool
+    ensures { result ≡ slot.while_word.at input.now.rest }
+{
+    input.peek::<While>()
+}
+
+/// Whether `for` stands first that begins no lifetimes of a closure (Rust Reference, "Iterator loops").
+#[tactic(auto, unfolding(syn_tokens::specs::Sign::word_text, syn_parts::specs::Mark::word_at))]
+pub fn for_at(input: &ParseBuffer<'_>) -> bool
+    ensures { result ≡ slot.for_word.at input.now.rest }
+{
+    input.peek::<For>() && !lifetimes_at(input)
+}
+
+/// Whether `in` stands first (Rust Reference, "Iterator loops").
+#[tactic(auto, unfolding(syn_tokens::specs::Sign::word_text, syn_parts::specs::Mark::word_at))]
+pub fn in_at(input: &ParseBuffer<'_>) -> bool
+    ensures { result ≡ slot.in_word.at input.now.rest }
+{
+    input.peek::<In>()
+}
+
+/// Whether a label, `while` or `for` stands first (Rust Reference, "Loop expressions").
+#[tactic(auto, unfolding(syn_grammar::specs::Read::loop_head_at))]
+pub fn loop_head_at(input: &ParseBuffer<'_>) -> bool
+    ensures { result ≡ read.loop_head_at input.now.rest }
+{
+    lifetime_at(input) || while_at(input) || for_at(input)
+}
+
+/// Whether a block stands first, by its word or its brace.
+fn kept_block_at(input: &ParseBuffer<'_>) -> bool
+    ensures { result ≡ (head.const_block_at input.now.rest || (head.async_block_at input.now.rest || (head.try_block_at input.now.rest || head.builtin_at input.now.rest))) }
+{
+    const_block_at(input) || async_block_at(input) || try_block_at(input) || builtin_at(input)
+}
+
+/// Whether a leaf stands first that is no path, macro, jump or range.
+#[tactic(auto, unfolding(syn_grammar::specs::Read::leaf_at, syn_tokens::specs::Sign::word_text, syn_parts::specs::Mark::word_at))]
+pub fn leaf_at(input: &ParseBuffer<'_>) -> bool
+    ensures { result ≡ read.leaf_at input.now.rest }
+{
+    literal_at(input)
+        || input.peek::<Underscore>()
+        || input.peek::<Continue>()
+        || loop_at(input)
+        || block_at(input)
+        || input.peek::<Unsafe>()
+        || kept_block_at(input)
+}
+
+/// Whether the operator of one operand stands first, `..`, `let`, a jump or the head of a closure.
+#[tactic(auto, unfolding(syn_grammar::specs::Read::lead_at, syn_tokens::specs::Sign::word_text, syn_tokens::specs::Sign::sign_text, syn_parts::specs::Mark::word_at, syn_parts::specs::Mark::sign_at))]
+pub fn lead_at(input: &ParseBuffer<'_>) -> bool
+    ensures { result ≡ read.lead_at input.now.rest }
+{
+    input.peek::<Star>()
+        || input.peek::<Not>()
+        || input.peek::<Minus>()
+        || input.peek::<And>()
+        || range_at(input)
+        || input.peek::<Let>()
+        || jump_at(input)
+        || closure_at(input)
+}

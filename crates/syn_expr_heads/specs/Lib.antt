@@ -1,0 +1,4 @@
+pub mod Leads
+pub mod Leaves
+pub mod Reads
+pub mod View

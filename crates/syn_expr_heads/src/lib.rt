@@ -1,0 +1,15 @@
+//! The readers of what stands before, between and behind the operands of expressions: leaves, the tokens before an operand,
+//! those of a trailer, of a closure, of a field and of an arm.
+#![tactic(auto)]
+
+pub mod block;
+pub mod closure;
+pub mod ending;
+pub mod field;
+pub mod jump;
+pub mod label;
+pub mod lead;
+pub mod leaf;
+pub mod trailer;
+pub mod types;
+pub mod word;

@@ -1,0 +1,291 @@
+//! The words and signs of expressions, at the front of the input. Each is taken where it stands first; else nothing changes.
+
+ghost use Rattle.std.specs.Prelude.{◌≡◌, ◌<◌, ◌≤◌, true, false, drop, is_some, Some, IfSome, MatchOption};
+ghost use Rattle.syn_grammar.specs.Front as front;
+ghost use Rattle.syn_grammar.specs.Head as head;
+ghost use Rattle.syn_grammar.specs.Read as read;
+ghost use Rattle.syn_grammar.specs.Slot as slot;
+ghost use Rattle.syn_lower_leaves.specs.Reads.{Takes};
+ghost use Rattle.syn_parts.specs.Form.{flag};
+ghost use Rattle.syn_parts.specs.Mark as mark;
+ghost use Rattle.syn_parts.specs.Pat as pat;
+ghost use Rattle.syn_tokens.specs.Sign as sign_spec;
+ghost use Rattle.syn_tokens.specs.Tok.{weight};
+
+use syn_tokens::buffer::ParseBuffer;
+use syn_tokens::token::{
+    Async, Await, Become, Break, Colon, Continue, Dot, DotDot, Else, FatArrow, If, In, Let, Loop,
+    Match, Minus, Move, Or, Raw, Return, Sign, Try, While, Word, Yield,
+};
+
+/// Takes a token of some puncts.
+#[tactic(auto, using(syn_tokens::proofs::Signs::fronts))]
+fn sign<const N: usize, const K: usize>(input: &mut ParseBuffer<'_>) -> Option<Sign<N, K>>
+    ensures value { MatchOption result ((sign_spec.sees N K input.old.rest ≡ false) × (input.new ≡ input.old)) (λ _. (sign_spec.sees N K input.old.rest ≡ true) × (input.new ≡ record input.old { rest = drop N input.old.rest })) }
+    ensures smaller { IfSome result (λ _. weight input.new.rest < weight input.old.rest) }
+{
+    if !input.peek::<Sign<N, K>>() {
+        return None;
+    }
+    let spans = input.spans();
+    input.skip(N);
+    Some(Sign { spans })
+}
+
+/// Takes a word.
+#[tactic(auto, using(syn_tokens::proofs::Signs::fronts))]
+fn word<const K: usize>(input: &mut ParseBuffer<'_>) -> Option<Word<K>>
+    ensures value { MatchOption result ((sign_spec.sees_word K input.old.rest ≡ false) × (input.new ≡ input.old)) (λ _. (sign_spec.sees_word K input.old.rest ≡ true) × (input.new ≡ record input.old { rest = drop 1 input.old.rest })) }
+    ensures smaller { IfSome result (λ _. weight input.new.rest < weight input.old.rest) }
+{
+    if !input.peek::<Word<K>>() {
+        return None;
+    }
+    let span = input.span();
+    input.skip(1);
+    Some(Word { span })
+}
+
+/// Takes `return`.
+#[tactic(auto, unfolding(syn_tokens::specs::Sign::word_text, syn_parts::specs::Mark::word_at))]
+pub fn return_word(input: &mut ParseBuffer<'_>) -> Option<Return>
+    ensures value { Takes head.return_word input.old result input.new }
+    ensures smaller { IfSome result (λ _. weight input.new.rest < weight input.old.rest) }
+    ensures shrinks { weight input.new.rest ≤ weight input.old.rest }
+{
+    word(input)
+}
+
+/// Takes `yield`.
+#[tactic(auto, unfolding(syn_tokens::specs::Sign::word_text, syn_parts::specs::Mark::word_at))]
+pub fn yield_word(input: &mut ParseBuffer<'_>) -> Option<Yield>
+    ensures value { Takes head.yield_word input.old result input.new }
+    ensures smaller { IfSome result (λ _. weight input.new.rest < weight input.old.rest) }
+    ensures shrinks { weight input.new.rest ≤ weight input.old.rest }
+{
+    word(input)
+}
+
+/// Takes `break`.
+#[tactic(auto, unfolding(syn_tokens::specs::Sign::word_text, syn_parts::specs::Mark::word_at))]
+pub fn break_word(input: &mut ParseBuffer<'_>) -> Option<Break>
+    ensures value { Takes head.break_word input.old result input.new }
+    ensures smaller { IfSome result (λ _. weight input.new.rest < weight input.old.rest) }
+    ensures shrinks { weight input.new.rest ≤ weight input.old.rest }
+{
+    word(input)
+}
+
+/// Takes `continue`.
+#[tactic(auto, unfolding(syn_tokens::specs::Sign::word_text, syn_parts::specs::Mark::word_at))]
+pub fn continue_word(input: &mut ParseBuffer<'_>) -> Option<Continue>
+    ensures value { Takes head.continue_word input.old result input.new }
+    ensures smaller { IfSome result (λ _. weight input.new.rest < weight input.old.rest) }
+    ensures shrinks { weight input.new.rest ≤ weight input.old.rest }
+{
+    word(input)
+}
+
+/// Takes `loop`.
+#[tactic(auto, unfolding(syn_tokens::specs::Sign::word_text, syn_parts::specs::Mark::word_at))]
+pub fn loop_word(input: &mut ParseBuffer<'_>) -> Option<Loop>
+    ensures value { Takes head.loop_word input.old result input.new }
+    ensures smaller { IfSome result (λ _. weight input.new.rest < weight input.old.rest) }
+    ensures shrinks { weight input.new.rest ≤ weight input.old.rest }
+{
+    word(input)
+}
+
+/// Takes `async`.
+#[tactic(auto, unfolding(syn_tokens::specs::Sign::word_text, syn_parts::specs::Mark::word_at))]
+pub fn async_word(input: &mut ParseBuffer<'_>) -> Option<Async>
+    ensures value { Takes head.async_word input.old result input.new }
+    ensures flag { (flag head.async_word).reads input.old.rest ≡ Some (is_some result, input.new.rest) }
+    ensures smaller { IfSome result (λ _. weight input.new.rest < weight input.old.rest) }
+    ensures shrinks { weight input.new.rest ≤ weight input.old.rest }
+{
+    word(input)
+}
+
+/// Takes `move`.
+#[tactic(auto, unfolding(syn_tokens::specs::Sign::word_text, syn_parts::specs::Mark::word_at))]
+pub fn move_word(input: &mut ParseBuffer<'_>) -> Option<Move>
+    ensures value { Takes head.move_word input.old result input.new }
+    ensures flag { (flag head.move_word).reads input.old.rest ≡ Some (is_some result, input.new.rest) }
+    ensures smaller { IfSome result (λ _. weight input.new.rest < weight input.old.rest) }
+    ensures shrinks { weight input.new.rest ≤ weight input.old.rest }
+{
+    word(input)
+}
+
+/// Takes `try`.
+#[tactic(auto, unfolding(syn_tokens::specs::Sign::word_text, syn_parts::specs::Mark::word_at))]
+pub fn try_word(input: &mut ParseBuffer<'_>) -> Option<Try>
+    ensures value { Takes head.try_word input.old result input.new }
+    ensures smaller { IfSome result (λ _. weight input.new.rest < weight input.old.rest) }
+    ensures shrinks { weight input.new.rest ≤ weight input.old.rest }
+{
+    word(input)
+}
+
+/// Takes `let`.
+#[tactic(auto, unfolding(syn_tokens::specs::Sign::word_text, syn_parts::specs::Mark::word_at))]
+pub fn let_word(input: &mut ParseBuffer<'_>) -> Option<Let>
+    ensures value { Takes head.let_word input.old result input.new }
+    ensures smaller { IfSome result (λ _. weight input.new.rest < weight input.old.rest) }
+    ensures shrinks { weight input.new.rest ≤ weight input.old.rest }
+{
+    word(input)
+}
+
+/// Takes `raw`.
+#[tactic(auto, unfolding(syn_tokens::specs::Sign::word_text, syn_parts::specs::Mark::word_at))]
+pub fn raw_word(input: &mut ParseBuffer<'_>) -> Option<Raw>
+    ensures value { Takes head.raw_word input.old result input.new }
+    ensures smaller { IfSome result (λ _. weight input.new.rest < weight input.old.rest) }
+    ensures shrinks { weight input.new.rest ≤ weight input.old.rest }
+{
+    word(input)
+}
+
+/// Takes `await`.
+#[tactic(auto, unfolding(syn_tokens::specs::Sign::word_text, syn_parts::specs::Mark::word_at))]
+pub fn await_word(input: &mut ParseBuffer<'_>) -> Option<Await>
+    ensures value { Takes head.await_word input.old result input.new }
+    ensures smaller { IfSome result (λ _. weight input.new.rest < weight input.old.rest) }
+    ensures shrinks { weight input.new.rest ≤ weight input.old.rest }
+{
+    word(input)
+}
+
+/// Takes `if`.
+#[tactic(auto, unfolding(syn_tokens::specs::Sign::word_text, syn_parts::specs::Mark::word_at))]
+pub fn if_word(input: &mut ParseBuffer<'_>) -> Option<If>
+    ensures value { Takes slot.if_word input.old result input.new }
+    ensures smaller { IfSome result (λ _. weight input.new.rest < weight input.old.rest) }
+    ensures shrinks { weight input.new.rest ≤ weight input.old.rest }
+{
+    word(input)
+}
+
+/// Takes `else`.
+#[tactic(auto, unfolding(syn_tokens::specs::Sign::word_text, syn_parts::specs::Mark::word_at))]
+pub fn else_word(input: &mut ParseBuffer<'_>) -> Option<Else>
+    ensures value { Takes slot.else_word input.old result input.new }
+    ensures smaller { IfSome result (λ _. weight input.new.rest < weight input.old.rest) }
+    ensures shrinks { weight input.new.rest ≤ weight input.old.rest }
+{
+    word(input)
+}
+
+/// Takes `in`.
+#[tactic(auto, unfolding(syn_tokens::specs::Sign::word_text, syn_parts::specs::Mark::word_at))]
+pub fn in_word(input: &mut ParseBuffer<'_>) -> Option<In>
+    ensures value { Takes slot.in_word input.old result input.new }
+    ensures smaller { IfSome result (λ _. weight input.new.rest < weight input.old.rest) }
+    ensures shrinks { weight input.new.rest ≤ weight input.old.rest }
+{
+    word(input)
+}
+
+/// Takes `while`.
+#[tactic(auto, unfolding(syn_tokens::specs::Sign::word_text, syn_parts::specs::Mark::word_at))]
+pub fn while_word(input: &mut ParseBuffer<'_>) -> Option<While>
+    ensures value { Takes slot.while_word input.old result input.new }
+    ensures smaller { IfSome result (λ _. weight input.new.rest < weight input.old.rest) }
+    ensures shrinks { weight input.new.rest ≤ weight input.old.rest }
+{
+    word(input)
+}
+
+/// Takes `match`.
+#[tactic(auto, unfolding(syn_tokens::specs::Sign::word_text, syn_parts::specs::Mark::word_at))]
+pub fn match_word(input: &mut ParseBuffer<'_>) -> Option<Match>
+    ensures value { Takes slot.match_word input.old result input.new }
+    ensures smaller { IfSome result (λ _. weight input.new.rest < weight input.old.rest) }
+    ensures shrinks { weight input.new.rest ≤ weight input.old.rest }
+{
+    word(input)
+}
+
+/// Takes `become`.
+#[tactic(auto, unfolding(syn_tokens::specs::Sign::word_text, syn_parts::specs::Mark::word_at))]
+pub fn become_word(input: &mut ParseBuffer<'_>) -> Option<Become>
+    ensures value { Takes read.become_word input.old result input.new }
+    ensures smaller { IfSome result (λ _. weight input.new.rest < weight input.old.rest) }
+    ensures shrinks { weight input.new.rest ≤ weight input.old.rest }
+{
+    word(input)
+}
+
+/// Takes `|`.
+#[tactic(auto, unfolding(syn_tokens::specs::Sign::sign_text, syn_parts::specs::Mark::sign_at))]
+pub fn bar(input: &mut ParseBuffer<'_>) -> Option<Or>
+    ensures value { Takes head.bar input.old result input.new }
+    ensures smaller { IfSome result (λ _. weight input.new.rest < weight input.old.rest) }
+    ensures shrinks { weight input.new.rest ≤ weight input.old.rest }
+{
+    sign(input)
+}
+
+/// Whether `|` stands first, whatever is joined to it.
+#[tactic(auto, unfolding(syn_tokens::specs::Sign::sign_text, syn_parts::specs::Mark::sign_at))]
+pub fn bar_at(input: &ParseBuffer<'_>) -> bool
+    ensures { result ≡ head.bar.at input.now.rest }
+{
+    input.peek::<Or>()
+}
+
+/// Takes `-`.
+#[tactic(auto, unfolding(syn_tokens::specs::Sign::sign_text, syn_parts::specs::Mark::sign_at))]
+pub fn minus(input: &mut ParseBuffer<'_>) -> Option<Minus>
+    ensures value { Takes head.minus input.old result input.new }
+    ensures smaller { IfSome result (λ _. weight input.new.rest < weight input.old.rest) }
+    ensures shrinks { weight input.new.rest ≤ weight input.old.rest }
+{
+    sign(input)
+}
+
+/// Takes `..`.
+#[tactic(auto, unfolding(syn_tokens::specs::Sign::sign_text, syn_parts::specs::Mark::sign_at))]
+pub fn dots(input: &mut ParseBuffer<'_>) -> Option<DotDot>
+    ensures value { Takes pat.dots input.old result input.new }
+    ensures smaller { IfSome result (λ _. weight input.new.rest < weight input.old.rest) }
+    ensures shrinks { weight input.new.rest ≤ weight input.old.rest }
+{
+    sign(input)
+}
+
+/// Takes `=>`.
+#[tactic(auto, unfolding(syn_tokens::specs::Sign::sign_text, syn_parts::specs::Mark::sign_at))]
+pub fn fat_arrow(input: &mut ParseBuffer<'_>) -> Option<FatArrow>
+    ensures value { Takes slot.fat_arrow input.old result input.new }
+    ensures smaller { IfSome result (λ _. weight input.new.rest < weight input.old.rest) }
+    ensures shrinks { weight input.new.rest ≤ weight input.old.rest }
+{
+    sign(input)
+}
+
+/// Takes `:`.
+#[tactic(auto, unfolding(syn_tokens::specs::Sign::sign_text, syn_parts::specs::Mark::sign_at))]
+pub fn colon(input: &mut ParseBuffer<'_>) -> Option<Colon>
+    ensures value { Takes mark.colon input.old result input.new }
+    ensures flag { (flag mark.colon).reads input.old.rest ≡ Some (is_some result, input.new.rest) }
+    ensures smaller { IfSome result (λ _. weight input.new.rest < weight input.old.rest) }
+    ensures shrinks { weight input.new.rest ≤ weight input.old.rest }
+{
+    sign(input)
+}
+
+/// Takes `.` that doesn't begin `..`.
+#[tactic(auto, unfolding(syn_tokens::specs::Sign::sign_text, syn_parts::specs::Mark::sign_at, syn_grammar::specs::Front::dot_at))]
+pub fn dot(input: &mut ParseBuffer<'_>) -> Option<Dot>
+    ensures value { Takes (record { at = front.dot_at; count = 1 }) input.old result input.new }
+    ensures smaller { IfSome result (λ _. weight input.new.rest < weight input.old.rest) }
+    ensures shrinks { weight input.new.rest ≤ weight input.old.rest }
+{
+    if input.peek::<DotDot>() {
+        return None;
+    }
+    sign(input)
+}

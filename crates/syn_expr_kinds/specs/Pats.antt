@@ -1,0 +1,49 @@
+-- What stands beside patterns in a tree: their guards, and the arms of a `match` (Rust Reference, "Match expressions").
+use Rattle.std.specs.Prelude.{Bool, if◌then◌else◌, List, [], ◌∷◌, map, flat_map}
+use Rattle.syn_parts.specs.Tree.{AttributeTree, ReturnTree, default, given}
+use Rattle.syn_parts.specs.Pat.{PatTree, guarded}
+use Rattle.syn_pat_kinds.specs.View.{PatView}
+use Rattle.syn_grammar.specs.Tree as e
+use Rattle.syn_grammar.specs.Tree.{Tree, Kids, Ending, Piece, ClosureHead, lead, frame, none, kid}
+
+-- guards in patterns where none may stand, before the other operands
+abbrev pub strays : List Tree → Kids → Kids
+strays [] ks = ks
+strays (g ∷ gs) ks = kid e.stray e.no_ending g (strays gs ks)
+
+abbrev pub trees : List PatView → List PatTree
+trees vs = map (λ v. v.tree) vs
+
+abbrev pub guards : List PatView → List Tree
+guards vs = flat_map (λ v. v.guards) vs
+
+-- ---- closures
+
+-- With an output its body is a block of its own.
+abbrev pub closure_by : ReturnTree → ClosureHead → List Tree → Tree → Tree
+closure_by default h gs body = lead (e.closure h) (strays gs none) body
+closure_by (given ty) h gs body = frame (e.closure_block h) (strays gs (kid e.output_block e.no_ending body none))
+
+-- ---- arms
+
+pub record ArmView : Type 0 where
+  pub attrs : List AttributeTree
+  pub pat : PatView
+  pub body : Tree
+  pub comma : Bool
+
+-- The last of these guards is the arm's own.
+abbrev pub guard_kids : Piece → Tree → List Tree → Kids → Kids
+guard_kids k g [] ks = kid k e.no_ending g ks
+guard_kids k g (h ∷ gs) ks = kid e.stray e.no_ending g (guard_kids k h gs ks)
+
+abbrev pub arm_ending : Bool → Ending
+arm_ending b = if b then e.comma else e.no_ending
+
+abbrev pub arm_kids : ArmView → PatTree → List Tree → Kids → Kids
+arm_kids x (guarded p) (g ∷ gs) more = guard_kids (e.guard x.attrs p) g gs (kid e.guarded (arm_ending x.comma) x.body more)
+arm_kids x p gs more = strays gs (kid (e.arm x.attrs p) (arm_ending x.comma) x.body more)
+
+abbrev pub arms : List ArmView → Kids
+arms [] = none
+arms (x ∷ xs) = arm_kids x x.pat.tree x.pat.guards (arms xs)

@@ -1,0 +1,16 @@
+//! The kinds of expressions (Rust Reference, "Expressions"), a struct each, as in syn.
+//!
+//! A struct that holds expressions is generic in them, so that it stands below the type of expressions: `ExprCallOf<Expr>` is
+//! syn's `ExprCall`. The kinds that hold patterns stand beside that type.
+#![tactic(auto)]
+
+pub mod atom;
+pub mod block;
+pub mod jump;
+pub mod kinds;
+pub mod node;
+pub mod operation;
+pub mod pattern;
+pub mod shape;
+pub mod structure;
+pub mod trailer;

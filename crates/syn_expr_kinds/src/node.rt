@@ -1,0 +1,275 @@
+//! A look at an expression by its shape: what asks about a node, or goes through a tree, matches a few shapes in place of
+//! forty kinds. Nothing is copied: each part is lent.
+
+ghost use Rattle.std.specs.Prelude.{◌≡◌};
+ghost use Rattle.syn_expr_kinds.specs.Node as spec;
+
+use crate::structure::FieldValueOf;
+use syn_expr_parts::label::Label;
+use syn_expr_parts::member::Member;
+use syn_lower::attr::Attribute;
+use syn_lower::lifetime::Lifetime;
+use syn_lower::lit::Lit;
+use syn_lower::mac::Macro;
+use syn_lower::path::{AngleBracketedGenericArguments, Path, QSelf};
+use syn_lower::punctuated::Punctuated;
+use syn_lower::stmt::Block;
+use syn_lower::ty::{BoundLifetimes, PointerMutability, ReturnType, Type};
+use syn_op::limits::RangeLimits;
+use syn_op::op::{BinOp, UnOp};
+use syn_pat_kinds::kinds::HasPatTree;
+use syn_tokens::token::{
+    And, As, Async, Await, Brace, Bracket, Break, Comma, Const, Continue, Dot, DotDot, Else, Eq,
+    FatArrow, For, Group, If, In, Let, Loop, Match, Move, Mut, Or, Paren, Question, Raw, Return,
+    Semi, Try, Underscore, Unsafe, While, Yield,
+};
+use syn_tokens::tree::{Ident, TokenStream};
+
+/// The attributes of a node.
+pub enum Attributes<'a> {
+    /// It has no place for any: its tokens are kept.
+    None,
+    /// All stand before it.
+    Before(&'a Vec<Attribute>),
+    /// The outer ones stand before it, the inner ones first in its braces.
+    Around(&'a Vec<Attribute>),
+}
+
+/// Braces with their block, and the attributes of the node that has them: the inner ones stand first in the braces.
+pub struct Braces<'a> {
+    /// The attributes of the node.
+    pub attrs: &'a Vec<Attribute>,
+    /// The block.
+    pub block: &'a Block,
+}
+
+/// `return`, `yield` or `break`.
+pub enum Jump<'a> {
+    /// `return`
+    Return(&'a Return),
+    /// `yield`
+    Yield(&'a Yield),
+    /// `break`, and its label.
+    Break(&'a Break, &'a Option<Lifetime>),
+}
+
+/// What is closed at both ends and holds no expression, and jumps and ranges without an operand.
+pub enum Leaf<'a> {
+    /// A literal.
+    Lit(&'a Lit),
+    /// A path, and the type that it is qualified by.
+    Path(&'a Option<QSelf>, &'a Path),
+    /// A call of a macro.
+    Macro(&'a Macro),
+    /// `_`
+    Infer(&'a Underscore),
+    /// A range without a start and an end.
+    Range(&'a RangeLimits),
+    /// A jump without a value.
+    Jump(Jump<'a>),
+    /// `continue`, and its label.
+    Continue(&'a Continue, &'a Option<Lifetime>),
+    /// A block, and its label.
+    Block(&'a Option<Label>, Braces<'a>),
+    /// `loop`, with its label.
+    Loop(&'a Option<Label>, &'a Loop, Braces<'a>),
+    /// `unsafe`
+    Unsafe(&'a Unsafe, Braces<'a>),
+    /// `const`
+    Const(&'a Const, Braces<'a>),
+    /// `async`, and perhaps `move`.
+    Async(&'a Async, &'a Option<Move>, &'a Block),
+    /// `try`
+    TryBlock(&'a Try, &'a Block),
+    /// Tokens that are kept.
+    Verbatim(&'a TokenStream),
+}
+
+/// A closure up to its body.
+pub struct Closure<'a, P> {
+    /// `for<..>`
+    pub lifetimes: &'a Option<BoundLifetimes>,
+    /// `const`
+    pub constness: &'a Option<Const>,
+    /// `async`
+    pub asyncness: &'a Option<Async>,
+    /// `move`
+    pub capture: &'a Option<Move>,
+    /// The first `|`.
+    pub inputs_begin: &'a Or,
+    /// The arguments.
+    pub inputs: &'a Punctuated<P, Comma>,
+    /// The second `|`.
+    pub inputs_end: &'a Or,
+    /// The output.
+    pub output: &'a ReturnType,
+}
+
+/// The tokens before an operand with which a node ends.
+pub enum Lead<'a, P> {
+    /// `!`, `-` or `*`
+    Unary(&'a UnOp),
+    /// `&`, and perhaps `mut`.
+    Reference(&'a And, &'a Option<Mut>),
+    /// `&raw const` or `&raw mut`
+    RawAddr(&'a And, &'a Raw, &'a PointerMutability),
+    /// A range without a start.
+    Range(&'a RangeLimits),
+    /// `let` with its pattern and `=`.
+    Let(&'a Let, &'a Box<P>, &'a Eq),
+    /// A jump before its value.
+    Jump(Jump<'a>),
+    /// A closure without an output.
+    Closure(Closure<'a, P>),
+}
+
+/// The operator between two operands.
+pub enum Operator<'a> {
+    /// A binary operator.
+    Binary(&'a BinOp),
+    /// `=`
+    Assign(&'a Eq),
+    /// `..` or `..=`
+    Range(&'a RangeLimits),
+}
+
+/// The tokens behind an operand with which a node begins.
+pub enum Post<'a> {
+    /// `as` and a type.
+    Cast(&'a As, &'a Box<Type>),
+    /// A range without an end.
+    Range(&'a RangeLimits),
+}
+
+/// A trailer.
+pub enum Trailer<'a> {
+    /// `(..)`
+    Call(&'a Paren),
+    /// `[..]`
+    Index(&'a Bracket),
+    /// `.name::<..>(..)`
+    Method(&'a Dot, &'a Ident, &'a Option<AngleBracketedGenericArguments>, &'a Paren),
+    /// `.name` or `.0`
+    Field(&'a Dot, &'a Member),
+    /// `.await`
+    Await(&'a Dot, &'a Await),
+    /// `?`
+    Try(&'a Question),
+}
+
+/// What has its operands in places of their own.
+pub enum Frame<'a, P> {
+    /// `[a, b]`
+    Array(&'a Bracket),
+    /// `(a, b)`
+    Tuple(&'a Paren),
+    /// `[a; n]`
+    Repeat(&'a Bracket),
+    /// `S { a: b, ..c }`; whether a `..` ends it with no expression behind.
+    Struct(&'a Option<QSelf>, &'a Path, &'a Brace, bool),
+    /// A closure with an output.
+    Closure(Closure<'a, P>),
+    /// `if`
+    If(&'a If),
+    /// `while`, with its label.
+    While(&'a Option<Label>, &'a While),
+    /// `for p in`, with its label.
+    ForLoop(&'a Option<Label>, &'a For, &'a Box<P>, &'a In),
+    /// `match`, and the braces round its arms.
+    Match(&'a Match, &'a Brace),
+    /// An invisible group.
+    Group(&'a Group),
+}
+
+/// The operands of a trailer or a frame, with the tokens between them.
+pub enum Operands<'a, E, A> {
+    /// No operands.
+    None,
+    /// A list with commas.
+    Elements(&'a Punctuated<E, Comma>),
+    /// An index.
+    Index(&'a Box<E>),
+    /// What an invisible group holds.
+    Grouped(&'a Box<E>),
+    /// A value, `;` and how often it is repeated.
+    Repeated(&'a Box<E>, &'a Semi, &'a Box<E>),
+    /// The fields of a struct expression, `..` and what the other fields are taken of.
+    Fields(&'a Punctuated<FieldValueOf<E>, Comma>, &'a Option<DotDot>, &'a Option<Box<E>>),
+    /// The condition of an `if`, its block, and what stands behind `else`.
+    If(&'a Box<E>, &'a Block, &'a Option<(Else, Box<E>)>),
+    /// The condition of a loop, or what gives its values, and its block.
+    Loop(&'a Box<E>, Braces<'a>),
+    /// What a `match` looks at, the attributes of the node, and the arms.
+    Arms(&'a Box<E>, &'a Vec<Attribute>, &'a Vec<A>),
+    /// The body of a closure with an output.
+    Body(&'a Box<E>),
+}
+
+/// An expression by its shape.
+pub enum Node<'a, E, P, A> {
+    /// Closed at both ends, without an operand at an end or in a place of its own.
+    Leaf(Leaf<'a>),
+    /// In parentheses.
+    Paren(&'a Paren, &'a Box<E>),
+    /// Tokens, then an operand.
+    Lead(Lead<'a, P>, &'a Box<E>),
+    /// Two operands with an operator between.
+    Mid(&'a Box<E>, Operator<'a>, &'a Box<E>),
+    /// An operand, then tokens.
+    Post(&'a Box<E>, Post<'a>),
+    /// A base with a trailer.
+    Tail(&'a Box<E>, Trailer<'a>, Operands<'a, E, A>),
+    /// Operands in places of their own.
+    Frame(Frame<'a, P>, Operands<'a, E, A>),
+}
+
+/// A node: its shape behind its attributes.
+pub struct View<'a, E, P, A> {
+    /// Its attributes.
+    pub attrs: Attributes<'a>,
+    /// Its shape.
+    pub node: Node<'a, E, P, A>,
+}
+
+/// The parts of a match arm.
+pub struct ArmParts<'a, E, P> {
+    /// The attributes.
+    pub attrs: &'a Vec<Attribute>,
+    /// The pattern: before the guard, if there is one.
+    pub pat: &'a P,
+    /// The guard: `if` and an expression.
+    pub guard: Option<(&'a If, &'a Box<E>)>,
+    /// `=>`
+    pub fat_arrow_token: &'a FatArrow,
+    /// The body.
+    pub body: &'a Box<E>,
+    /// The comma behind it.
+    pub comma: &'a Option<Comma>,
+}
+
+/// The type of expressions, as one looks at them.
+pub trait HasNode {
+    ghost use Rattle.syn_grammar.specs.Tree.{Tree};
+    ghost use Rattle.syn_pat_kinds.specs.View.{PatView};
+    ghost use Rattle.syn_expr_kinds.specs.Pats.{ArmView};
+
+    /// An expression without its places.
+    ghost tree: { Self → Tree };
+
+    /// The type of patterns.
+    type Pat: HasPatTree;
+
+    /// The type of match arms.
+    type Arm;
+
+    /// An arm without its places.
+    ghost arm: { Self.Arm → ArmView };
+
+    /// The shape of an expression.
+    fn view(&self) -> View<'_, Self, Self::Pat, Self::Arm>
+        ensures { tree self.now ≡ spec.tree_of tree Self.Pat.view arm result };
+
+    /// The parts of an arm.
+    fn arm_parts(x: &Self::Arm) -> ArmParts<'_, Self, Self::Pat>
+        ensures { arm x.now ≡ spec.arm_of tree Self.Pat.view result };
+}

@@ -1,0 +1,4 @@
+pub mod View
+pub mod Number
+pub mod Refusal
+pub mod Label

@@ -1,0 +1,45 @@
+-- What spells an index alone, and why no member or index is read.
+use Rattle.std.specs.Prelude.{◌≡◌, ◌⊎◌, ℕ, Bool, true, false, ◌==◌, if◌then◌else◌, List, ◌∷◌, Option, Some, None}
+use Rattle.syn_tokens.specs.Tok.{Tok, literal}
+use Rattle.syn_tokens.specs.declared.error.ErrorKind.{ErrorKind}
+use Rattle.syn_tokens.specs.declared.error.ErrorKind.TheVariants.{ExpectedMember, ExpectedUnsuffixedInteger, IndexOutOfRange}
+use Rattle.syn_parts.specs.declared.label.LitKind.{LitKind}
+use Rattle.syn_parts.specs.declared.label.LitKind.TheVariants as kind
+use Rattle.syn_parts.specs.Text.{kind_of}
+use Rattle.syn_parts.specs.Form.{Form, Outcome, leaf}
+use Rattle.syn_parts.specs.Pat.{index_of, integer_value}
+
+abbrev pub found_if : Option ℕ → List Tok → Outcome ℕ
+found_if None l = None
+found_if (Some n) l = Some (n, l)
+
+abbrev pub find_index : List Tok → Outcome ℕ
+find_index (literal text ∷ l) = found_if (index_of text) l
+find_index _ = None
+
+unfoldable pub index : Form ℕ
+index = leaf (λ n m. n == m) find_index
+
+-- an integer that has a value is too large for an index, and another has a suffix
+abbrev pub by_value : Option ℕ → ErrorKind
+by_value None = ExpectedUnsuffixedInteger
+by_value (Some n) = IndexOutOfRange
+
+abbrev pub index_refusal : List Tok → ErrorKind
+index_refusal (literal text ∷ l) = by_value (integer_value text)
+index_refusal _ = ExpectedUnsuffixedInteger
+
+abbrev pub is_integer : Option LitKind → Bool
+is_integer (Some kind.Int) = true
+is_integer _ = false
+
+abbrev pub member_refusal : List Tok → ErrorKind
+member_refusal (literal text ∷ l) = if is_integer (kind_of text) then by_value (integer_value text) else ExpectedMember
+member_refusal _ = ExpectedMember
+
+-- the kinds that these are
+abbrev pub MayRefuseIndex : ErrorKind → Type 0
+MayRefuseIndex k = (k ≡ ExpectedUnsuffixedInteger) ⊎ (k ≡ IndexOutOfRange)
+
+abbrev pub MayRefuseMember : ErrorKind → Type 0
+MayRefuseMember k = (k ≡ ExpectedMember) ⊎ MayRefuseIndex k

@@ -1,0 +1,336 @@
+-- The last of the own tokens of a tree: whether it is a group in braces.
+use Rattle.std.proofs.Common.{◌≡◌, ◌||◌, ◌==◌, Bool, true, false, not, List, [], ◌∷◌, ◌++◌, Option, Some, None, refl, ap, ◌∙◌}
+use Rattle.std.specs.Prelude.{codes, if◌then◌else◌}
+use Rattle.syn_lexer.specs.declared.lexeme.Delimiter.TheVariants as del
+use Rattle.syn_tokens.specs.Tok.{Tok, ident, literal, group, inside}
+use Rattle.syn_parts.specs.declared.label.LitKind.{LitKind}
+use Rattle.syn_parts.specs.declared.label.LitKind.TheVariants as kind
+use Rattle.syn_parts.specs.Text.{Text}
+use Rattle.syn_parts.specs.Tree as t
+use Rattle.syn_parts.specs.Tree.{AttributeTree, LifetimesTree, LitTree, QSelfTree, PathTree, Segments}
+use Rattle.syn_parts.specs.Part.{MacroTree}
+use Rattle.syn_parts.specs.Pat as p
+use Rattle.syn_parts.specs.Pat.{MemberTree, PatBound, PatTree, SubPat, Pats, Fields, FieldTree}
+use Rattle.syn_parts.specs.Own.{alone, joint, before_if, colon2_before, type_own, segments_own, lit_own, lit_own_by, number_own, attribute_own, block_own, lifetimes_own, arguments_own, path_own, qualified_own, macro_own}
+use Rattle.syn_parts.specs.PatOwn.{attributes_own, member_own, range_bound_own, limits_before, vert_before, no_more_pats, pat_own, sub_own, or_own}
+use Rattle.syn_parts.proofs.Appends.{lit_append, type_append, segments_append, arguments_append}
+use Rattle.syn_grammar.specs.declared.kinds.UnKind.TheVariants as un
+use Rattle.syn_grammar.specs.declared.kinds.BinKind.TheVariants as bin
+use Rattle.syn_grammar.specs.declared.kinds.Limits.TheVariants as limits
+use Rattle.syn_grammar.specs.declared.kinds.Infix.{Infix}
+use Rattle.syn_grammar.specs.declared.kinds.Infix.TheVariants as inf
+use Rattle.syn_grammar.specs.Tree as e
+use Rattle.syn_grammar.specs.Tree.{Tree, Kids, Jump, Leaf, Lead, Post, Trailer, Frame, Piece, Ending, ClosureHead, leaf, paren, adorned, lead, mid, post, tail, frame, none, kid, word_if, label_own, jump_own, own, own_tokens, kids_own, leaf_own, lead_own, closure_own, infix_own, post_own, trailer_own, frame_own, framed, enclosure, behind_operands, piece_own, ending_own, inside_of, is_silent, is_repeated}
+use Rattle.syn_grammar.specs.Query.{last_braces, is_braces, blocked, kids_blocked, return_brace, leaf_brace, lead_brace, post_brace, piece_brace, operand_brace, frame_brace, frame_head_brace, tree_brace, kids_brace}
+use Rattle.syn_grammar.proofs.LastTypes.{Fixed, over, through, if_there, if_some, one, first, colons, for_lifetimes, elements, type_last, return_last}
+
+-- ---- what stands before others: attributes, literals, paths and patterns
+
+attributes : (ats : List AttributeTree) (l : List Tok) (b : Bool) → Fixed l b → Fixed (attributes_own ats l) b
+unfolding attribute_own
+attributes [] l b f = f
+attributes (a ∷ more) l b f =
+    one (alone 35) _ b (if_there a.inner (λ m. alone 33 ∷ m) (one (alone 33)) _ b (one (group del.Bracket (inside a.tokens)) _ b (attributes more l b f)))
+
+literals : (x : LitTree) (l : List Tok) (b : Bool) → Fixed l b → Fixed (lit_own x l) b
+literals x l b f = through {F = lit_own x} (lit_append x) l b f
+
+qualified : (q : QSelfTree) (w : PathTree) (l : List Tok) (b : Bool) → Fixed l b → Fixed (qualified_own (q, w) l) b
+qualified q w l b f = through {F = qualified_own (q, w)} (type_append (t.path q w.leading (t.segments_of w.segments) w.trailing)) l b f
+
+paths : (w : PathTree) (l : List Tok) (b : Bool) → Fixed l b → Fixed (path_own w l) b
+paths w l b f =
+    if_there w.leading colon2_before colons _ b
+    (through {F = segments_own 0 (t.segments_of w.segments) w.trailing} (segments_append 0 (t.segments_of w.segments) w.trailing) l b f)
+
+macros : (m : MacroTree) (l : List Tok) (b : Bool) → Fixed l b → Fixed (macro_own m l) b
+macros m l b f = paths m.path _ b (one (alone 33) _ b (one (group m.delimiter (inside m.tokens)) l b f))
+
+members : (m : MemberTree) (l : List Tok) (b : Bool) → Fixed l b → Fixed (member_own m l) b
+members (p.a_name w) l b f = one _ l b f
+members (p.an_index n) l b f = one _ l b f
+
+dots : (closed : Bool) (l : List Tok) (b : Bool) → Fixed l b → Fixed (limits_before closed l) b
+dots true l b f = one _ _ b (one _ _ b (one _ l b f))
+dots false l b f = one _ _ b (one _ l b f)
+
+bounds : (x : PatBound) (l : List Tok) (b : Bool) → Fixed l b → Fixed (range_bound_own x l) b
+bounds (p.lit_bound x) l b f = literals x l b f
+bounds (p.path_bound q w) l b f = qualified q w l b f
+
+words : (there : Bool) (w : Text) (l : List Tok) (b : Bool) → Fixed l b → Fixed (word_if there w l) b
+words there w l b f = if_there there (λ m. ident w ∷ m) (one (ident w)) l b f
+
+mutual
+  patterns : (x : PatTree) (l : List Tok) (b : Bool) → Fixed l b → Fixed (pat_own x l) b
+  patterns p.wild l b f = one _ l b f
+  patterns p.rest l b f = dots false l b f
+  patterns (p.range s c n) l b f = if_some s range_bound_own bounds _ b (dots c _ b (if_some n range_bound_own bounds l b f))
+  patterns (p.a_lit x) l b f = literals x l b f
+  patterns (p.a_binding r m w s) l b f = words r (codes "ref") _ b (words m (codes "mut") _ b (one (ident w) _ b (sub_patterns s l b f)))
+  patterns (p.a_path q w) l b f = qualified q w l b f
+  patterns (p.a_mac m) l b f = macros m l b f
+  patterns (p.a_struct w fs c d) l b f = paths w _ b (one _ l b f)
+  patterns (p.tuple_struct w ps c) l b f = paths w _ b (one _ l b f)
+  patterns (p.a_tuple ps c) l b f = one _ l b f
+  patterns (p.a_paren x) l b f = one _ l b f
+  patterns (p.a_slice ps c) l b f = one _ l b f
+  patterns (p.a_reference m x) l b f = one (alone 38) _ b (words m (codes "mut") _ b (patterns x l b f))
+  patterns (p.a_block ts) l b f = one _ _ b (one _ l b f)
+  patterns (p.alternatives v ps c) l b f = if_there v vert_before (one (alone 124)) _ b (or_patterns ps c l b f)
+  patterns (p.guarded x) l b f = patterns x l b f
+  patterns (p.typed x y) l b f = patterns x _ b (one (alone 58) _ b (through {F = type_own y} (type_append y) l b f))
+  patterns (p.attributed a more x) l b f = attributes (a ∷ more) _ b (patterns x l b f)
+
+  sub_patterns : (s : SubPat) (l : List Tok) (b : Bool) → Fixed l b → Fixed (sub_own s l) b
+  sub_patterns p.no_sub l b f = f
+  sub_patterns (p.sub x) l b f = one (alone 64) _ b (patterns x l b f)
+
+  or_patterns : (ps : Pats) (c : Bool) (l : List Tok) (b : Bool) → Fixed l b → Fixed (or_own ps c l) b
+  or_patterns p.no_pats c l b f = f
+  or_patterns (p.more_pats x ps) c l b f = patterns x _ b (if_there (not (no_more_pats ps) || c) vert_before (one (alone 124)) _ b (or_patterns ps c l b f))
+
+-- ---- the tree as it is: what stands behind `else` ends with what it ends with
+
+abbrev pub kid_spelled : Bool → Piece → Bool → Bool
+kid_spelled before e.chained bare = bare
+kid_spelled before k bare = operand_brace before k bare
+
+abbrev mutual
+  pub as_spelled : Bool → Tree → Bool
+  as_spelled before (leaf k) = leaf_brace before k
+  as_spelled before (paren m x) = false
+  as_spelled before (adorned a more x) = as_spelled false x
+  as_spelled before (lead k gs x) = as_spelled (lead_brace k) x
+  as_spelled before (mid x k y) = as_spelled false y
+  as_spelled before (post x k) = post_brace k
+  as_spelled before (tail x k ks) = false
+  as_spelled before (frame k ks) = frame_brace k (kids_spelled (frame_head_brace k) ks)
+
+  pub kids_spelled : Bool → Kids → Bool
+  kids_spelled before none = before
+  kids_spelled before (kid k e.no_ending x ks) = kids_spelled (kid_spelled before k (as_spelled (piece_brace before k) x)) ks
+  kids_spelled before (kid k e.comma x ks) = kids_spelled false ks
+  kids_spelled before (kid k (e.braced b) x ks) = kids_spelled true ks
+  kids_spelled before (kid k (e.opened ats) x ks) = true
+
+-- ---- the blocked tree, as it is, ends so
+
+pub kept : (before : Bool) (k : Piece) (c : Ending) (x y : Tree) (ks ms : Kids)
+    → kid_spelled before k (as_spelled (piece_brace before k) y) ≡ operand_brace before k (tree_brace (piece_brace before k) x)
+    → ((b : Bool) → kids_spelled b ms ≡ kids_brace b ks) → kids_spelled before (kid k c y ms) ≡ kids_brace before (kid k c x ks)
+kept before k e.no_ending x y ks ms same h = h _ ∙ ap (λ b. kids_brace b ks) same
+kept before k e.comma x y ks ms same h = h false
+kept before k (e.braced b) x y ks ms same h = h true
+kept before k (e.opened ats) x y ks ms same h = refl
+
+mutual
+  pub blocked_ends : (before : Bool) (x : Tree) → as_spelled before (blocked x) ≡ tree_brace before x
+  blocked_ends before (leaf k) = refl
+  blocked_ends before (paren m x) = refl
+  blocked_ends before (adorned a more x) = blocked_ends false x
+  blocked_ends before (lead k gs x) = blocked_ends (lead_brace k) x
+  blocked_ends before (mid x k y) = blocked_ends false y
+  blocked_ends before (post x k) = refl
+  blocked_ends before (tail x k ks) = refl
+  blocked_ends before (frame k ks) = ap (frame_brace k) (blocked_kids (frame_head_brace k) ks)
+
+  blocked_kids : (before : Bool) (ks : Kids) → kids_spelled before (kids_blocked ks) ≡ kids_brace before ks
+  blocked_kids before none = refl
+  blocked_kids before (kid e.chained c x ks) = kept before e.chained c x _ ks (kids_blocked ks) refl (λ b. blocked_kids b ks)
+  blocked_kids before (kid k c x ks) =
+      kept before k c x (blocked x) ks (kids_blocked ks) (ap (operand_brace before k) (blocked_ends (piece_brace before k) x)) (λ b. blocked_kids b ks)
+
+-- ---- the tree ends so as it is spelled
+
+kept_last : (before : Bool) (ts r : List Tok) → last_braces before (ts ++ r) ≡ last_braces (last_braces before ts) r
+kept_last before [] r = refl
+kept_last before (u ∷ ts) r = kept_last (is_braces u) ts r
+
+number_last : (before : Bool) (text : Text) (r : List Tok) → last_braces before (number_own text r) ≡ last_braces false r
+number_last before [] r = refl
+number_last before (c ∷ text) r = by (c == 45)
+  where
+    by : (b : Bool) → last_braces before (if b then alone 45 ∷ literal text ∷ r else literal (c ∷ text) ∷ r) ≡ last_braces false r
+    by true = refl
+    by false = refl
+
+lit_last : (before : Bool) (k : LitKind) (text : Text) (r : List Tok) → last_braces before (lit_own_by k text r) ≡ last_braces false r
+lit_last before kind.Bool text r = refl
+lit_last before kind.Int text r = number_last before text r
+lit_last before kind.Float text r = number_last before text r
+lit_last before kind.Str text r = refl
+lit_last before kind.ByteStr text r = refl
+lit_last before kind.CStr text r = refl
+lit_last before kind.Byte text r = refl
+lit_last before kind.Char text r = refl
+
+jump_last : (before : Bool) (j : Jump) (r : List Tok) → last_braces before (jump_own j r) ≡ last_braces false r
+jump_last before e.returning r = refl
+jump_last before e.yielding r = refl
+jump_last before (e.breaking None) r = refl
+jump_last before (e.breaking (Some w)) r = refl
+
+leaf_last : (before : Bool) (k : Leaf) (r : List Tok) → last_braces before (leaf_own k r) ≡ last_braces (leaf_brace before k) r
+unfolding lit_own block_own
+leaf_last before (e.lit x) r = lit_last before x.kind x.text r
+leaf_last before (e.path q w) r = type_last before (t.path q w.leading (t.segments_of w.segments) w.trailing) r
+leaf_last before (e.mac m) r = (paths m.path _ _ (one (alone 33) _ _ (first (group m.delimiter (inside m.tokens)) r _ refl))).behind before
+leaf_last before e.infer r = refl
+leaf_last before (e.full_range limits.HalfOpen) r = refl
+leaf_last before (e.full_range limits.Closed) r = refl
+leaf_last before (e.bare_jump j) r = jump_last before j r
+leaf_last before (e.continuing None) r = refl
+leaf_last before (e.continuing (Some w)) r = refl
+leaf_last before (e.block None b) r = refl
+leaf_last before (e.block (Some w) b) r = refl
+leaf_last before (e.looping None b) r = refl
+leaf_last before (e.looping (Some w) b) r = refl
+leaf_last before (e.unsafe_block b) r = refl
+leaf_last before (e.const_block b) r = refl
+leaf_last before (e.async_block true ts) r = refl
+leaf_last before (e.async_block false ts) r = refl
+leaf_last before (e.try_block ts) r = refl
+leaf_last before (e.verbatim ts) r = kept_last before ts r
+
+closure_last : (h : ClosureHead) (before : Bool) (r : List Tok) → last_braces before (closure_own h r) ≡ last_braces (return_brace h.output) r
+closure_last h before r =
+    (if_some h.lifetimes lifetimes_own for_lifetimes _ _ (words h.constness (codes "const") _ _ (words h.asyncness (codes "async") _ _ (words h.capture (codes "move") _ _
+    (one (alone 124) _ _ (elements pat_own patterns h.inputs h.trailing _ _ (first (alone 124) _ _ (return_last h.output r)))))))).behind before
+
+lead_last : (before : Bool) (k : Lead) (r : List Tok) → last_braces before (lead_own k r) ≡ last_braces (lead_brace k) r
+lead_last before (e.unary un.Deref) r = refl
+lead_last before (e.unary un.Not) r = refl
+lead_last before (e.unary un.Neg) r = refl
+lead_last before (e.reference true) r = refl
+lead_last before (e.reference false) r = refl
+lead_last before (e.raw_addr m) r = refl
+lead_last before (e.range_to limits.HalfOpen) r = refl
+lead_last before (e.range_to limits.Closed) r = refl
+lead_last before (e.binding x) r = (patterns x _ _ (first (alone 61) r _ refl)).behind false
+lead_last before (e.jump j) r = jump_last before j r
+lead_last before (e.closure h) r = closure_last h before r
+
+infix_last : (before : Bool) (k : Infix) (r : List Tok) → last_braces before (infix_own k r) ≡ last_braces false r
+infix_last before (inf.Binary bin.Add) r = refl
+infix_last before (inf.Binary bin.Sub) r = refl
+infix_last before (inf.Binary bin.Mul) r = refl
+infix_last before (inf.Binary bin.Div) r = refl
+infix_last before (inf.Binary bin.Rem) r = refl
+infix_last before (inf.Binary bin.And) r = refl
+infix_last before (inf.Binary bin.Or) r = refl
+infix_last before (inf.Binary bin.BitXor) r = refl
+infix_last before (inf.Binary bin.BitAnd) r = refl
+infix_last before (inf.Binary bin.BitOr) r = refl
+infix_last before (inf.Binary bin.Shl) r = refl
+infix_last before (inf.Binary bin.Shr) r = refl
+infix_last before (inf.Binary bin.Eq) r = refl
+infix_last before (inf.Binary bin.Lt) r = refl
+infix_last before (inf.Binary bin.Le) r = refl
+infix_last before (inf.Binary bin.Ne) r = refl
+infix_last before (inf.Binary bin.Ge) r = refl
+infix_last before (inf.Binary bin.Gt) r = refl
+infix_last before (inf.Binary bin.AddAssign) r = refl
+infix_last before (inf.Binary bin.SubAssign) r = refl
+infix_last before (inf.Binary bin.MulAssign) r = refl
+infix_last before (inf.Binary bin.DivAssign) r = refl
+infix_last before (inf.Binary bin.RemAssign) r = refl
+infix_last before (inf.Binary bin.BitXorAssign) r = refl
+infix_last before (inf.Binary bin.BitAndAssign) r = refl
+infix_last before (inf.Binary bin.BitOrAssign) r = refl
+infix_last before (inf.Binary bin.ShlAssign) r = refl
+infix_last before (inf.Binary bin.ShrAssign) r = refl
+infix_last before inf.Assign r = refl
+infix_last before (inf.Range limits.HalfOpen) r = refl
+infix_last before (inf.Range limits.Closed) r = refl
+infix_last before inf.Cast r = refl
+
+post_last : (before : Bool) (k : Post) (r : List Tok) → last_braces before (post_own k r) ≡ last_braces (post_brace k) r
+post_last before (e.cast x) r = type_last false x r
+post_last before (e.range_from op) r = infix_last before (inf.Range op) r
+
+trailer_last : (before : Bool) (k : Trailer) (i r : List Tok) → last_braces before (trailer_own k i r) ≡ last_braces false r
+trailer_last before e.call i r = refl
+trailer_last before e.index i r = refl
+trailer_last before (e.method w a) i r =
+    (through {F = arguments_own a} (arguments_append a) _ _ (first (group del.Parenthesis (inside i)) r _ refl)).behind false
+trailer_last before (e.field (p.a_name w)) i r = refl
+trailer_last before (e.field (p.an_index n)) i r = refl
+trailer_last before e.await i r = refl
+trailer_last before e.question i r = refl
+
+label_last : (before : Bool) (w : Option Text) (l : List Tok) (b : Bool) → Fixed l b → last_braces before (label_own w l) ≡ b
+label_last before None l b f = f.behind before
+label_last before (Some w) l b f = f.behind false
+
+-- behind attributes, the last of which ends with brackets
+adorned_last : (before : Bool) (a : AttributeTree) (more : List AttributeTree) (l : List Tok) → last_braces before (attributes_own (a ∷ more) l) ≡ last_braces false l
+unfolding attribute_own
+adorned_last before a [] l = (if_there a.inner (λ m. alone 33 ∷ m) (one (alone 33)) _ _ (first (group del.Bracket (inside a.tokens)) l _ refl)).behind false
+adorned_last before a (b ∷ more) l =
+    (if_there a.inner (λ m. alone 33 ∷ m) (one (alone 33)) _ _ (first (group del.Bracket (inside a.tokens)) _ _ (adorned_last false b more l))).behind false
+
+members_last : (m : MemberTree) (l : List Tok) (b : Bool) → last_braces false l ≡ b → Fixed (member_own m l) b
+members_last (p.a_name w) l b h = first _ l b h
+members_last (p.an_index n) l b h = first _ l b h
+
+piece_last : (before : Bool) (k : Piece) (l : List Tok) → last_braces before (piece_own k l) ≡ last_braces (piece_brace before k) l
+piece_last before (e.field_value ats m true) l = (attributes ats _ _ (members_last m _ _ refl)).behind before
+piece_last before (e.field_value ats m false) l = (attributes ats _ _ (members_last m _ _ refl)).behind before
+piece_last true (e.rest true) l = refl
+piece_last false (e.rest true) l = refl
+piece_last true (e.rest false) l = refl
+piece_last false (e.rest false) l = refl
+piece_last before e.chained l = refl
+piece_last before (e.guard ats x) l = (attributes ats _ _ (patterns x _ _ (first (ident (codes "if")) l _ refl))).behind before
+piece_last before e.guarded l = refl
+piece_last before (e.arm ats x) l = (attributes ats _ _ (patterns x _ _ (one (joint 61) _ _ (first (alone 62) l _ refl)))).behind before
+piece_last before k l = refl
+
+operand_last : (before : Bool) (silent : Bool) (x : Tree) (l : List Tok) → last_braces before (own x l) ≡ last_braces (as_spelled before x) l
+    → last_braces before (if silent then l else own x l) ≡ last_braces (if silent then before else as_spelled before x) l
+operand_last before true x l h = refl
+operand_last before false x l h = h
+
+repeated_last : (before repeated : Bool) (l : List Tok) → last_braces before (before_if repeated (λ m. alone 59 ∷ m) l) ≡ last_braces (if repeated then false else before) l
+repeated_last before true l = refl
+repeated_last before false l = refl
+
+kid_is : (before : Bool) (k : Piece) (bare : Bool) → (if is_repeated k then false else (if is_silent k then piece_brace before k else bare)) ≡ kid_spelled before k bare
+kid_is before e.chained bare = refl
+kid_is before k bare = refl
+
+mutual
+  pub tree_last : (before : Bool) (x : Tree) (r : List Tok) → last_braces before (own x r) ≡ last_braces (as_spelled before x) r
+  tree_last before (leaf k) r = leaf_last before k r
+  tree_last before (paren m x) r = refl
+  tree_last before (adorned a more x) r = adorned_last before a more (own x r) ∙ tree_last false x r
+  tree_last before (lead k gs x) r = lead_last before k _ ∙ tree_last (lead_brace k) x r
+  tree_last before (mid x k y) r = tree_last before x _ ∙ infix_last _ k _ ∙ tree_last false y r
+  tree_last before (post x k) r = tree_last before x _ ∙ post_last _ k r
+  tree_last before (tail x k ks) r = tree_last before x _ ∙ trailer_last _ k _ r
+  tree_last before (frame e.array ks) r = refl
+  tree_last before (frame e.tuple ks) r = refl
+  tree_last before (frame e.repeat ks) r = refl
+  tree_last before (frame e.invisible ks) r = refl
+  tree_last before (frame (e.structure q w d) ks) r =
+      (over (qualified_own (q, w) []) _ _ (first (group del.Brace _) r _ refl)).behind before
+  tree_last before (frame (e.closure_block h) ks) r = closure_last h before _ ∙ kids_last (return_brace h.output) ks r
+  tree_last before (frame e.branch ks) r = kids_last false ks r
+  tree_last before (frame (e.while_loop w) ks) r = label_last before w _ _ (first (ident (codes "while")) _ _ (kids_last false ks r))
+  tree_last before (frame (e.for_loop w x) ks) r =
+      label_last before w _ _ (one (ident (codes "for")) _ _ (patterns x _ _ (first (ident (codes "in")) _ _ (kids_last false ks r))))
+  tree_last before (frame e.choice ks) r = kids_last false ks r
+
+  kids_last : (before : Bool) (ks : Kids) (r : List Tok) → last_braces before (kids_own ks r) ≡ last_braces (kids_spelled before ks) r
+  kids_last before none r = refl
+  kids_last before (kid k e.no_ending x ks) r =
+      piece_last before k _ ∙ operand_last (piece_brace before k) (is_silent k) x _ (tree_last (piece_brace before k) x _)
+      ∙ repeated_last _ (is_repeated k) _ ∙ kids_last _ ks r
+      ∙ ap (λ b. last_braces (kids_spelled b ks) r) (kid_is before k (as_spelled (piece_brace before k) x))
+  kids_last before (kid k e.comma x ks) r =
+      piece_last before k _ ∙ operand_last (piece_brace before k) (is_silent k) x _ (tree_last (piece_brace before k) x _) ∙ kids_last false ks r
+  kids_last before (kid k (e.braced b) x ks) r =
+      piece_last before k _ ∙ operand_last (piece_brace before k) (is_silent k) x _ (tree_last (piece_brace before k) x _) ∙ kids_last true ks r
+  kids_last before (kid k (e.opened ats) x ks) r =
+      piece_last before k _ ∙ operand_last (piece_brace before k) (is_silent k) x _ (tree_last (piece_brace before k) x _)

@@ -1,0 +1,3 @@
+pub mod Longest
+pub mod Operators
+pub mod Equality

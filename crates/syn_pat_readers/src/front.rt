@@ -1,0 +1,235 @@
+//! What stands first, as the readers of patterns ask, and the tokens that only patterns have.
+
+ghost use Rattle.std.specs.Prelude.{◌≡◌, ◌<◌, ◌≤◌, ◌&&◌, not, true, false, drop, is_some, IfSome, MatchOption, Some};
+ghost use Rattle.syn_lower_leaves.specs.Reads.{Takes};
+ghost use Rattle.syn_parts.specs.Form.{flag};
+ghost use Rattle.syn_parts.specs.Mark as mark;
+ghost use Rattle.syn_parts.specs.Part as part;
+ghost use Rattle.syn_parts.specs.Pat as pat;
+ghost use Rattle.syn_tokens.specs.Sign as sign_spec;
+ghost use Rattle.syn_tokens.specs.Tok.{weight};
+ghost use Rattle.syn_tokens.specs.View.{toks_of};
+
+use syn_lexer::reserved::is_reserved_word;
+use syn_lower_leaves::text::{is_number, is_segment, is_truth};
+use syn_tokens::buffer::{ParseBuffer, Token};
+use syn_tokens::token::{
+    At, Brace, Colon, DotDot, DotDotDot, DotDotEq, Lt, Mut, Ne, Not, Or, OrEq, OrOr, Paren,
+    PathSep, Ref, Sign, Word,
+};
+use syn_tokens::tree::TokenTree;
+
+/// Takes a token of some puncts.
+#[tactic(auto, using(syn_tokens::proofs::Signs::fronts))]
+fn sign<const N: usize, const K: usize>(input: &mut ParseBuffer<'_>) -> Option<Sign<N, K>>
+    ensures value { MatchOption result ((sign_spec.sees N K input.old.rest ≡ false) × (input.new ≡ input.old)) (λ _. (sign_spec.sees N K input.old.rest ≡ true) × (input.new ≡ record input.old { rest = drop N input.old.rest })) }
+    ensures smaller { IfSome result (λ _. weight input.new.rest < weight input.old.rest) }
+{
+    if !input.peek::<Sign<N, K>>() {
+        return None;
+    }
+    let spans = input.spans();
+    input.skip(N);
+    Some(Sign { spans })
+}
+
+/// Takes `..`.
+#[tactic(auto, unfolding(syn_tokens::specs::Sign::sign_text, syn_parts::specs::Mark::sign_at))]
+pub fn dots(input: &mut ParseBuffer<'_>) -> Option<DotDot>
+    ensures value { Takes pat.dots input.old result input.new }
+    ensures flag { (flag pat.dots).reads input.old.rest ≡ Some (is_some result, input.new.rest) }
+    ensures smaller { IfSome result (λ _. weight input.new.rest < weight input.old.rest) }
+    ensures shrinks { weight input.new.rest ≤ weight input.old.rest }
+{
+    sign(input)
+}
+
+/// Takes `..=`.
+#[tactic(auto, unfolding(syn_tokens::specs::Sign::sign_text, syn_parts::specs::Mark::sign_at))]
+pub fn dots_eq(input: &mut ParseBuffer<'_>) -> Option<DotDotEq>
+    ensures value { Takes pat.dots_eq input.old result input.new }
+    ensures smaller { IfSome result (λ _. weight input.new.rest < weight input.old.rest) }
+    ensures shrinks { weight input.new.rest ≤ weight input.old.rest }
+{
+    sign(input)
+}
+
+/// Takes `...`.
+#[tactic(auto, unfolding(syn_tokens::specs::Sign::sign_text, syn_parts::specs::Mark::sign_at))]
+pub fn three_dots(input: &mut ParseBuffer<'_>) -> Option<DotDotDot>
+    ensures value { Takes pat.three_dots input.old result input.new }
+    ensures smaller { IfSome result (λ _. weight input.new.rest < weight input.old.rest) }
+    ensures shrinks { weight input.new.rest ≤ weight input.old.rest }
+{
+    sign(input)
+}
+
+/// Takes `@`.
+#[tactic(auto, unfolding(syn_tokens::specs::Sign::sign_text, syn_parts::specs::Mark::sign_at))]
+pub fn at_sign(input: &mut ParseBuffer<'_>) -> Option<At>
+    ensures value { Takes pat.at_sign input.old result input.new }
+    ensures smaller { IfSome result (λ _. weight input.new.rest < weight input.old.rest) }
+    ensures shrinks { weight input.new.rest ≤ weight input.old.rest }
+{
+    sign(input)
+}
+
+/// Takes `:`, whatever is joined to it.
+#[tactic(auto, unfolding(syn_tokens::specs::Sign::sign_text, syn_parts::specs::Mark::sign_at))]
+pub fn colon(input: &mut ParseBuffer<'_>) -> Option<Colon>
+    ensures value { Takes mark.colon input.old result input.new }
+    ensures smaller { IfSome result (λ _. weight input.new.rest < weight input.old.rest) }
+    ensures shrinks { weight input.new.rest ≤ weight input.old.rest }
+{
+    sign(input)
+}
+
+/// Takes `|` that begins neither `||` nor `|=`.
+#[tactic(auto, unfolding(syn_tokens::specs::Sign::sign_text, syn_parts::specs::Mark::sign_at))]
+pub fn vert(input: &mut ParseBuffer<'_>) -> Option<Or>
+    ensures value { Takes pat.vert input.old result input.new }
+    ensures flag { (flag pat.vert).reads input.old.rest ≡ Some (is_some result, input.new.rest) }
+    ensures smaller { IfSome result (λ _. weight input.new.rest < weight input.old.rest) }
+    ensures shrinks { weight input.new.rest ≤ weight input.old.rest }
+{
+    if input.peek::<OrOr>() || input.peek::<OrEq>() {
+        return None;
+    }
+    sign(input)
+}
+
+/// Takes `ref`.
+#[tactic(auto, using(syn_tokens::proofs::Signs::fronts), unfolding(syn_tokens::specs::Sign::word_text, syn_parts::specs::Mark::word_at))]
+pub fn by_ref(input: &mut ParseBuffer<'_>) -> Option<Ref>
+    ensures value { Takes pat.by_ref input.old result input.new }
+    ensures flag { (flag pat.by_ref).reads input.old.rest ≡ Some (is_some result, input.new.rest) }
+    ensures smaller { IfSome result (λ _. weight input.new.rest < weight input.old.rest) }
+    ensures shrinks { weight input.new.rest ≤ weight input.old.rest }
+{
+    if !input.peek::<Ref>() {
+        return None;
+    }
+    let span = input.span();
+    input.skip(1);
+    Some(Word { span })
+}
+
+/// Whether `..` stands first.
+#[tactic(auto, unfolding(syn_tokens::specs::Sign::sign_text, syn_parts::specs::Mark::sign_at))]
+pub fn dots_at(input: &ParseBuffer<'_>) -> bool
+    ensures { result ≡ pat.dots.at input.now.rest }
+{
+    input.peek::<DotDot>()
+}
+
+/// Whether `:` stands first, whatever is joined to it.
+#[tactic(auto, unfolding(syn_tokens::specs::Sign::sign_text, syn_parts::specs::Mark::sign_at))]
+pub fn colon_at(input: &ParseBuffer<'_>) -> bool
+    ensures { result ≡ mark.colon.at input.now.rest }
+{
+    input.peek::<Colon>()
+}
+
+/// Whether a literal or a `-` stands first.
+pub fn lit_first(input: &ParseBuffer<'_>) -> bool
+    ensures { result ≡ pat.lit_first input.now.rest }
+{
+    match input.first() {
+        Some(TokenTree::Literal(_)) => true,
+        Some(TokenTree::Ident(word)) => is_truth(word.as_str()),
+        Some(TokenTree::Punct(punct)) => punct.ch == '-',
+        Some(TokenTree::Group(_)) => false,
+        None => false,
+    }
+}
+
+/// Whether a number stands first.
+fn begins_number(rest: &[TokenTree]) -> bool
+    ensures { result ≡ pat.begins_number (toks_of rest.now) }
+{
+    match rest {
+        [TokenTree::Literal(literal), ..] => is_number(literal.as_str()),
+        _ => false,
+    }
+}
+
+/// Whether a literal stands first, a number perhaps behind a `-`.
+fn begins_lit(input: &ParseBuffer<'_>) -> bool
+    ensures { result ≡ pat.begins_lit input.now.rest }
+{
+    match input.trees() {
+        [TokenTree::Literal(_), ..] => true,
+        [TokenTree::Ident(word), ..] => is_truth(word.as_str()),
+        [TokenTree::Punct(punct), more @ ..] => punct.ch == '-' && begins_number(more),
+        _ => false,
+    }
+}
+
+/// Whether the word of a path's segment stands first.
+fn begins_segment(input: &ParseBuffer<'_>) -> bool
+    ensures { result ≡ pat.begins_segment input.now.rest }
+{
+    match input.first() {
+        Some(TokenTree::Ident(word)) => is_segment(word.as_str()),
+        _ => false,
+    }
+}
+
+/// Whether the bound of a range begins: a literal, or a path.
+#[tactic(auto, unfolding(syn_tokens::specs::Sign::sign_text, syn_parts::specs::Mark::sign_at, syn_parts::specs::Pat::bound_at))]
+pub fn bound_at(input: &ParseBuffer<'_>) -> bool
+    ensures { result ≡ pat.bound_at input.now.rest }
+{
+    begins_lit(input) || begins_segment(input) || input.peek::<PathSep>() || input.peek::<Lt>()
+}
+
+/// Whether a path, a macro, a struct or a range goes on behind a name.
+#[tactic(auto, unfolding(syn_tokens::specs::Sign::sign_text, syn_parts::specs::Mark::sign_at, syn_parts::specs::Mark::brace_at, syn_parts::specs::Mark::round_at))]
+fn goes_on(rest: &[TokenTree]) -> bool
+    ensures { result ≡ pat.goes_on (toks_of rest.now) }
+{
+    PathSep::peek(rest)
+        || Not::peek(rest) && !Ne::peek(rest)
+        || Brace::peek(rest)
+        || Paren::peek(rest)
+        || DotDot::peek(rest)
+}
+
+/// Whether a name stands first that nothing goes on behind.
+fn lone_name_at(input: &ParseBuffer<'_>) -> bool
+    ensures { result ≡ (part.is_name_there input.now.rest && not (pat.goes_on (drop 1 input.now.rest))) }
+{
+    match input.trees() {
+        [TokenTree::Ident(word), more @ ..] => !is_reserved_word(word.as_str()) && !goes_on(more),
+        _ => false,
+    }
+}
+
+/// Whether a binding stands first: `ref`, `mut`, or a name that nothing goes on behind.
+#[tactic(auto, unfolding(syn_tokens::specs::Sign::word_text, syn_parts::specs::Mark::word_at, syn_parts::specs::Pat::binding_at))]
+pub fn binding_at(input: &ParseBuffer<'_>) -> bool
+    ensures { result ≡ pat.binding_at input.now.rest }
+{
+    input.peek::<Ref>() || input.peek::<Mut>() || lone_name_at(input)
+}
+
+/// Whether a member and `:` stand first.
+#[tactic(auto, unfolding(syn_tokens::specs::Sign::sign_text, syn_parts::specs::Mark::sign_at, syn_parts::specs::Pat::full_at))]
+pub fn full_at(input: &ParseBuffer<'_>) -> bool
+    ensures { result ≡ pat.full_at input.now.rest }
+{
+    match input.trees() {
+        [TokenTree::Ident(word), more @ ..] => {
+            !is_reserved_word(word.as_str()) && Colon::peek(more)
+        }
+        [TokenTree::Literal(_), more @ ..] => Colon::peek(more),
+        _ => false,
+    }
+}
+
+/// Whether no field of a struct follows: the end, or `..`.
+pub fn fields_stop(input: &ParseBuffer<'_>) -> bool
+    ensures { result ≡ pat.fields_stop input.now.rest }
+{
+    input.is_empty() || dots_at(input)
+}

@@ -1,0 +1,11 @@
+//! The readers of patterns and of what they hold, over any type of patterns and any reader of the patterns inside.
+//!
+//! Memory aside, they refuse as `ExpectedPart` of a path where no pattern begins, of a literal at a `-` that no number
+//! follows, of a macro behind `a!`; as `ExpectedToken` of any other token that is missing; as `Index` and `Member` are
+//! refused; and as `UnexpectedToken` at what is left in a group.
+#![tactic(auto)]
+
+pub mod front;
+pub mod grammar;
+pub mod kinds;
+pub mod range;
