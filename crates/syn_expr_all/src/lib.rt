@@ -5,5 +5,8 @@ pub mod closure;
 pub mod control;
 pub mod expr;
 mod from;
+mod make;
+mod make_pat;
+mod node;
 pub mod pat;
 mod placeholder;

@@ -1,21 +1,20 @@
--- An expression by its shape, as a tree: by the trees of its operands, the views of its patterns and arms.
+-- What is lent of an expression, by its tree: its attributes, its shape and its operands.
 use Rattle.std.specs.Prelude.{Bool, false, List, [], ◌∷◌, ◌++◌, map, Option, Some, None, is_some}
 use denote.Ref.{Bor}
 use Rattle.std.specs.declared.boxed.Box.{Box}
 use Rattle.std.specs.declared.alloc.Global.{Global}
 use Rattle.syn_parts.specs.Tree.{AttributeTree}
-use Rattle.syn_parts.specs.Pat.{guarded}
 use Rattle.syn_grammar.specs.declared.kinds.Infix.{Infix}
 use Rattle.syn_grammar.specs.declared.kinds.Infix.TheVariants as inf
 use Rattle.syn_grammar.specs.Tree as e
-use Rattle.syn_grammar.specs.Tree.{Tree, Kids, Body, ClosureHead, adorn, none, kid}
+use Rattle.syn_grammar.specs.Tree.{Tree, Kids, Body, ClosureHead, none, kid}
 use Rattle.syn_lower_leaves.specs.View.{lit_of, lifetime_of}
 use Rattle.syn_lower.specs.View.{mapped, path_of, qself_or, macro_of, is_mut, lifetimes_of, return_of, values, trails, type_of}
 use Rattle.syn_op.specs.View.{un_kind, bin_kind, limits_kind}
 use Rattle.syn_expr_parts.specs.View.{member_of, label_of}
 use Rattle.syn_pat_kinds.specs.View.{PatView}
 use Rattle.syn_expr_kinds.specs.Attrs.{attrs_of, outer_of, inner_of}
-use Rattle.syn_expr_kinds.specs.Pats.{ArmView, strays, trees, guards, arms}
+use Rattle.syn_expr_kinds.specs.Pats.{ArmView, trees, guards, arms}
 use Rattle.syn_expr_kinds.specs.View.{boxed, elements, fields, field_value_of, option_kid, else_of, body_of, turbofish_of}
 use Rattle.syn_expr_kinds.specs.declared.node.Attributes.{Attributes}
 use Rattle.syn_expr_kinds.specs.declared.node.Attributes.TheVariants as attributes
@@ -37,10 +36,8 @@ use Rattle.syn_expr_kinds.specs.declared.node.Frame.{Frame}
 use Rattle.syn_expr_kinds.specs.declared.node.Frame.TheVariants as frame
 use Rattle.syn_expr_kinds.specs.declared.node.Operands.{Operands}
 use Rattle.syn_expr_kinds.specs.declared.node.Operands.TheVariants as operands
-use Rattle.syn_expr_kinds.specs.declared.node.Node.{Node}
-use Rattle.syn_expr_kinds.specs.declared.node.Node.TheVariants as node
-use Rattle.syn_expr_kinds.specs.declared.node.View.{View}
-use Rattle.syn_expr_kinds.specs.declared.node.ArmParts.{ArmParts}
+use Rattle.syn_expr_kinds.specs.declared.node.Shape.{Shape}
+use Rattle.syn_expr_kinds.specs.declared.node.Shape.TheVariants as shape
 
 -- ---- labels
 
@@ -137,44 +134,87 @@ module _ {P : Type 0} (pat : P → PatView) where
   frame_guards (frame.ForLoop label t p u) = (pat p.now.value).guards
   frame_guards _ = []
 
--- ---- operands
+-- ---- what is told of a tree
 
-module _ {E A : Type 0} (tree : E → Tree) (arm : A → ArmView) where
-  abbrev pub kids_of : Operands E A → Kids
-  kids_of operands.None = none
-  kids_of (operands.Elements xs) = elements (map tree (values xs.now)) (trails xs.now)
-  kids_of (operands.Index x) = kid e.value e.no_ending (tree x.now.value) none
-  kids_of (operands.Grouped x) = kid e.grouped e.no_ending (tree x.now.value) none
-  kids_of (operands.Repeated x t y) = kid e.repeated e.no_ending (tree x.now.value) (kid e.value e.no_ending (tree y.now.value) none)
-  kids_of (operands.Fields xs dots rest) =
-      fields (map (field_value_of tree) (values xs.now)) (trails xs.now) (option_kid (e.rest (is_some dots.now)) (boxed tree rest.now))
-  kids_of (operands.If x b more) = kid e.condition (e.braced (body_of [] b.now.stmts)) (tree x.now.value) (else_of tree more.now)
-  kids_of (operands.Loop x b) = kid e.loop_head (e.braced (braces_of b)) (tree x.now.value) none
-  kids_of (operands.Arms x ats xs) = kid e.scrutinee (e.opened (inner_of ats.now)) (tree x.now.value) (arms (map arm xs.now.items))
-  kids_of (operands.Body x) = kid e.output_block e.no_ending (tree x.now.value) none
+-- the attributes before it
+abbrev pub attributes_at : Tree → List AttributeTree
+attributes_at (e.adorned a more t) = a ∷ more
+attributes_at _ = []
 
--- ---- nodes
+-- guards in patterns where none may stand, before the other operands; and these
+abbrev pub stray_trees : Kids → List Tree
+stray_trees (kid e.stray c t ks) = t ∷ stray_trees ks
+stray_trees _ = []
 
-module _ {E P A : Type 0} (tree : E → Tree) (pat : P → PatView) (arm : A → ArmView) where
-  abbrev pub node_of : Node E P A → Tree
-  node_of (node.Leaf k) = e.leaf (leaf_of k)
-  node_of (node.Paren t x) = e.paren false (tree x.now.value)
-  node_of (node.Lead k x) = e.lead (lead_of pat k) (strays (lead_guards pat k) none) (tree x.now.value)
-  node_of (node.Mid x op y) = e.mid (tree x.now.value) (operator_of op) (tree y.now.value)
-  node_of (node.Post x k) = e.post (tree x.now.value) (post_of k)
-  node_of (node.Tail x k ks) = e.tail (tree x.now.value) (trailer_of k) (kids_of tree arm ks)
-  node_of (node.Frame k ks) = e.frame (frame_of pat k) (strays (frame_guards pat k) (kids_of tree arm ks))
+abbrev pub without_strays : Kids → Kids
+without_strays (kid e.stray c t ks) = without_strays ks
+without_strays ks = ks
 
-  abbrev pub tree_of : View E P A → Tree
-  tree_of x = adorn (before_of x.attrs) (node_of x.node)
+-- A node but for its operands; guards in its patterns, where none may stand, are of its shape.
+pub data ShapeTree : Type 0 where
+  leaf_shape : e.Leaf → ShapeTree
+  paren_shape : ShapeTree
+  lead_shape : e.Lead → List Tree → ShapeTree
+  mid_shape : Infix → ShapeTree
+  post_shape : e.Post → ShapeTree
+  tail_shape : e.Trailer → ShapeTree
+  frame_shape : e.Frame → List Tree → ShapeTree
 
--- ---- arms
+abbrev pub shape_at : Tree → ShapeTree
+shape_at (e.leaf k) = leaf_shape k
+shape_at (e.paren m t) = paren_shape
+shape_at (e.adorned a more t) = shape_at t
+shape_at (e.lead k gs t) = lead_shape k (stray_trees gs)
+shape_at (e.mid x op y) = mid_shape op
+shape_at (e.post x k) = post_shape k
+shape_at (e.tail b k ks) = tail_shape k
+shape_at (e.frame k ks) = frame_shape k (stray_trees ks)
 
--- the pattern with the guard behind it
-abbrev pub with_guard : {E S : Type 0} → (E → Tree) → PatView → Option (Bor S × Bor (Box E Global)) → PatView
-with_guard tree p None = p
-with_guard tree p (Some q) = record { tree = guarded p.tree; guards = p.guards ++ tree q.1.now.value ∷ [] }
+pub data OperandTrees : Type 0 where
+  no_trees : OperandTrees
+  one_tree : Tree → OperandTrees
+  two_trees : Tree → Tree → OperandTrees
+  based : Tree → Kids → OperandTrees
+  framed : Kids → OperandTrees
 
-abbrev pub arm_of : {E P : Type 0} → (E → Tree) → (P → PatView) → ArmParts E P → ArmView
-arm_of tree pat x =
-    record { attrs = attrs_of x.attrs.now; pat = with_guard tree (pat x.pat.now) x.guard; body = tree x.body.now.value; comma = is_some x.comma.now }
+-- a base alone, or with what its trailer holds
+abbrev pub based_by : Tree → Kids → OperandTrees
+based_by b none = one_tree b
+based_by b (kid k c t ks) = based b (kid k c t ks)
+
+abbrev pub operands_at : Tree → OperandTrees
+operands_at (e.leaf k) = no_trees
+operands_at (e.paren m t) = one_tree t
+operands_at (e.adorned a more t) = operands_at t
+operands_at (e.lead k gs t) = one_tree t
+operands_at (e.mid x op y) = two_trees x y
+operands_at (e.post x k) = one_tree x
+operands_at (e.tail b k ks) = based_by b ks
+operands_at (e.frame k ks) = framed (without_strays ks)
+
+-- ---- what is lent
+
+abbrev pub shape_of : {P : Type 0} → (P → PatView) → Shape P → ShapeTree
+shape_of pat (shape.Leaf k) = leaf_shape (leaf_of k)
+shape_of pat (shape.Paren t) = paren_shape
+shape_of pat (shape.Lead k) = lead_shape (lead_of pat k) (lead_guards pat k)
+shape_of pat (shape.Mid op) = mid_shape (operator_of op)
+shape_of pat (shape.Post k) = post_shape (post_of k)
+shape_of pat (shape.Tail k) = tail_shape (trailer_of k)
+shape_of pat (shape.Frame k) = frame_shape (frame_of pat k) (frame_guards pat k)
+
+abbrev pub operands_of : {E A : Type 0} → (E → Tree) → (A → ArmView) → Operands E A → OperandTrees
+operands_of tree arm operands.None = no_trees
+operands_of tree arm (operands.One x) = one_tree (tree x.now.value)
+operands_of tree arm (operands.Two x y) = two_trees (tree x.now.value) (tree y.now.value)
+operands_of tree arm (operands.Call x xs) = based_by (tree x.now.value) (elements (map tree (values xs.now)) (trails xs.now))
+operands_of tree arm (operands.Index x y) = based (tree x.now.value) (kid e.value e.no_ending (tree y.now.value) none)
+operands_of tree arm (operands.Elements xs) = framed (elements (map tree (values xs.now)) (trails xs.now))
+operands_of tree arm (operands.Grouped x) = framed (kid e.grouped e.no_ending (tree x.now.value) none)
+operands_of tree arm (operands.Repeated x t y) = framed (kid e.repeated e.no_ending (tree x.now.value) (kid e.value e.no_ending (tree y.now.value) none))
+operands_of tree arm (operands.Fields xs dots rest) =
+    framed (fields (map (field_value_of tree) (values xs.now)) (trails xs.now) (option_kid (e.rest (is_some dots.now)) (boxed tree rest.now)))
+operands_of tree arm (operands.If x b more) = framed (kid e.condition (e.braced (body_of [] b.now.stmts)) (tree x.now.value) (else_of tree more.now))
+operands_of tree arm (operands.Loop x b) = framed (kid e.loop_head (e.braced (braces_of b)) (tree x.now.value) none)
+operands_of tree arm (operands.Arms x ats xs) = framed (kid e.scrutinee (e.opened (inner_of ats.now)) (tree x.now.value) (arms (map arm xs.now.items)))
+operands_of tree arm (operands.Body x) = framed (kid e.output_block e.no_ending (tree x.now.value) none)

@@ -1,9 +1,11 @@
 //! A look at an expression by its shape: what asks about a node, or goes through a tree, matches a few shapes in place of
-//! forty kinds. Nothing is copied: each part is lent.
+//! forty kinds. Nothing is copied: each part is lent. The attributes, the shape and the operands of a node are lent by
+//! calls of their own, since what is lent at once of so large a family of types has to be small for the prover.
 
 ghost use Rattle.std.specs.Prelude.{◌≡◌};
 ghost use Rattle.syn_expr_kinds.specs.Node as spec;
 
+use crate::kinds::{HasArmView, HasExprTree};
 use crate::structure::FieldValueOf;
 use syn_expr_parts::label::Label;
 use syn_expr_parts::member::Member;
@@ -181,14 +183,38 @@ pub enum Frame<'a, P> {
     Group(&'a Group),
 }
 
-/// The operands of a trailer or a frame, with the tokens between them.
+/// What a node is, but for its operands.
+pub enum Shape<'a, P> {
+    /// Closed at both ends, without an operand at an end or in a place of its own.
+    Leaf(Leaf<'a>),
+    /// In parentheses.
+    Paren(&'a Paren),
+    /// Tokens, then an operand.
+    Lead(Lead<'a, P>),
+    /// An operator between two operands.
+    Mid(Operator<'a>),
+    /// An operand, then tokens.
+    Post(Post<'a>),
+    /// A base with a trailer.
+    Tail(Trailer<'a>),
+    /// Operands in places of their own.
+    Frame(Frame<'a, P>),
+}
+
+/// The operands of a node from left to right, with the tokens between those of a frame.
 pub enum Operands<'a, E, A> {
-    /// No operands.
+    /// None.
     None,
+    /// One: in parentheses, behind or before tokens, or the base of a trailer that holds none.
+    One(&'a Box<E>),
+    /// The operands of an operator.
+    Two(&'a Box<E>, &'a Box<E>),
+    /// A base, and arguments with commas.
+    Call(&'a Box<E>, &'a Punctuated<E, Comma>),
+    /// A base and its index.
+    Index(&'a Box<E>, &'a Box<E>),
     /// A list with commas.
     Elements(&'a Punctuated<E, Comma>),
-    /// An index.
-    Index(&'a Box<E>),
     /// What an invisible group holds.
     Grouped(&'a Box<E>),
     /// A value, `;` and how often it is repeated.
@@ -205,71 +231,26 @@ pub enum Operands<'a, E, A> {
     Body(&'a Box<E>),
 }
 
-/// An expression by its shape.
-pub enum Node<'a, E, P, A> {
-    /// Closed at both ends, without an operand at an end or in a place of its own.
-    Leaf(Leaf<'a>),
-    /// In parentheses.
-    Paren(&'a Paren, &'a Box<E>),
-    /// Tokens, then an operand.
-    Lead(Lead<'a, P>, &'a Box<E>),
-    /// Two operands with an operator between.
-    Mid(&'a Box<E>, Operator<'a>, &'a Box<E>),
-    /// An operand, then tokens.
-    Post(&'a Box<E>, Post<'a>),
-    /// A base with a trailer.
-    Tail(&'a Box<E>, Trailer<'a>, Operands<'a, E, A>),
-    /// Operands in places of their own.
-    Frame(Frame<'a, P>, Operands<'a, E, A>),
-}
+/// The type of expressions, as one goes through them.
+pub trait HasNode: HasExprTree {
+    /// The type of match arms.
+    type Arm: HasArmView;
 
-/// A node: its shape behind its attributes.
-pub struct View<'a, E, P, A> {
-    /// Its attributes.
-    pub attrs: Attributes<'a>,
-    /// Its shape.
-    pub node: Node<'a, E, P, A>,
-}
+    /// The attributes of a node.
+    fn attributes(&self) -> Attributes<'_>
+        ensures { spec.before_of result ≡ spec.attributes_at (Self.tree self.now) };
 
-/// The parts of a match arm.
-pub struct ArmParts<'a, E, P> {
-    /// The attributes.
-    pub attrs: &'a Vec<Attribute>,
-    /// The pattern: before the guard, if there is one.
-    pub pat: &'a P,
-    /// The guard: `if` and an expression.
-    pub guard: Option<(&'a If, &'a Box<E>)>,
-    /// `=>`
-    pub fat_arrow_token: &'a FatArrow,
-    /// The body.
-    pub body: &'a Box<E>,
-    /// The comma behind it.
-    pub comma: &'a Option<Comma>,
+    /// Its operands.
+    fn operands(&self) -> Operands<'_, Self, Self::Arm>
+        ensures { spec.operands_of Self.tree Self.Arm.view result ≡ spec.operands_at (Self.tree self.now) };
 }
 
 /// The type of expressions, as one looks at them.
-pub trait HasNode {
-    ghost use Rattle.syn_grammar.specs.Tree.{Tree};
-    ghost use Rattle.syn_pat_kinds.specs.View.{PatView};
-    ghost use Rattle.syn_expr_kinds.specs.Pats.{ArmView};
-
-    /// An expression without its places.
-    ghost tree: { Self → Tree };
-
+pub trait HasShape: HasNode {
     /// The type of patterns.
     type Pat: HasPatTree;
 
-    /// The type of match arms.
-    type Arm;
-
-    /// An arm without its places.
-    ghost arm: { Self.Arm → ArmView };
-
-    /// The shape of an expression.
-    fn view(&self) -> View<'_, Self, Self::Pat, Self::Arm>
-        ensures { tree self.now ≡ spec.tree_of tree Self.Pat.view arm result };
-
-    /// The parts of an arm.
-    fn arm_parts(x: &Self::Arm) -> ArmParts<'_, Self, Self::Pat>
-        ensures { arm x.now ≡ spec.arm_of tree Self.Pat.view result };
+    /// What a node is, but for its operands.
+    fn shape(&self) -> Shape<'_, Self::Pat>
+        ensures { spec.shape_of Self.Pat.view result ≡ spec.shape_at (Self.tree self.now) };
 }

@@ -1,0 +1,7 @@
+use Rattle.std.proofs.Common.{◌≡◌, ◌∙◌, ap, sym, rules}
+use Rattle.syn_expr_all.proofs.TreeOf.{tree-Match, choice-is}
+use Rattle.syn_expr_all.specs.declared.control.ExprMatch.{out-roll-ExprMatch}
+use Rattle.syn_expr_all.proofs.make.ExprIsExpr.match_expr.Goals as goal
+
+pub returns : goal.returns
+returns c = tree-Match _ ∙ choice-is _ ∙ search (rules, out-roll-ExprMatch)
