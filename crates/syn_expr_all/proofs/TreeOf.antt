@@ -123,7 +123,7 @@ tree_map (Expr-F.While x) = refl
 tree_map (Expr-F.Yield x) = search (rules, map-map, map-append)
 tree_map (Expr-F.Verbatim x) = refl
 
-tree_out : (x : Expr) → tree_of x ≡ tree_layer views (out-Expr x)
+pub tree_out : (x : Expr) → tree_of x ≡ tree_layer views (out-Expr x)
 unfolding tree_of pat_of closure_of arm_of for_loop_of binding_of choice_of guard_of
 tree_out x = fold_out-Expr Tree PatView Tree ArmView Tree Tree Tree PatView tree_step pat_step closure_step arm_step for_loop_step binding_step choice_step guard_step x ∙ tree_map (out-Expr x)
 

@@ -2,102 +2,11 @@
 
 ghost use Rattle.std.specs.Prelude.{◌≡◌};
 ghost use Rattle.syn_expr_kinds.specs.Node as spec;
-ghost use Rattle.syn_expr_all.specs.View.{tree_of, pat_of, arm_of, closure_of, for_loop_of, binding_of, choice_of};
+ghost use Rattle.syn_expr_all.specs.View.{tree_of, arm_of};
 
-use crate::closure::ExprClosure;
-use crate::control::{Arm, ExprForLoop, ExprLet, ExprMatch};
+use crate::control::Arm;
 use crate::expr::Expr;
-use crate::pat::Pat;
-use syn_expr_kinds::node::{Attributes, Braces, Closure, Frame, HasNode, Lead, Operands, Shape};
-use syn_lower::ty::ReturnType;
-
-#[tactic(auto, using(crate::proofs::TreeOf::members, syn_expr_kinds::proofs::Shapes::shapes))]
-impl ExprClosure {
-    /// What it is, but for its body.
-    pub fn shape(&self) -> Shape<'_, Pat>
-        ensures { spec.shape_of pat_of result ≡ spec.shape_at (closure_of self.now) }
-    {
-        let head = Closure {
-            lifetimes: &self.lifetimes,
-            constness: &self.constness,
-            asyncness: &self.asyncness,
-            capture: &self.capture,
-            inputs_begin: &self.inputs_begin,
-            inputs: &self.inputs,
-            inputs_end: &self.inputs_end,
-            output: &self.output,
-        };
-        match &self.output {
-            ReturnType::Default => Shape::Lead(Lead::Closure(head)),
-            ReturnType::Given(_, _) => Shape::Frame(Frame::Closure(head)),
-        }
-    }
-
-    /// Its body.
-    pub fn operands(&self) -> Operands<'_, Expr, Arm>
-        ensures { spec.operands_of tree_of arm_of result ≡ spec.operands_at (closure_of self.now) }
-    {
-        match &self.output {
-            ReturnType::Default => Operands::One(&self.body),
-            ReturnType::Given(_, _) => Operands::Body(&self.body),
-        }
-    }
-}
-
-#[tactic(auto, using(crate::proofs::TreeOf::members, syn_expr_kinds::proofs::Shapes::shapes))]
-impl ExprForLoop {
-    /// What it is, but for its operand.
-    pub fn shape(&self) -> Shape<'_, Pat>
-        ensures { spec.shape_of pat_of result ≡ spec.shape_at (for_loop_of self.now) }
-    {
-        Shape::Frame(Frame::ForLoop(&self.label, &self.for_token, &self.pat, &self.in_token))
-    }
-
-    /// What gives its values, and its block.
-    pub fn operands(&self) -> Operands<'_, Expr, Arm>
-        ensures { spec.operands_of tree_of arm_of result ≡ spec.operands_at (for_loop_of self.now) }
-    {
-        let body = Braces {
-            attrs: &self.attrs,
-            block: &self.body,
-        };
-        Operands::Loop(&self.expr, body)
-    }
-}
-
-#[tactic(auto, using(crate::proofs::TreeOf::members, syn_expr_kinds::proofs::Shapes::shapes))]
-impl ExprLet {
-    /// What it is, but for its operand.
-    pub fn shape(&self) -> Shape<'_, Pat>
-        ensures { spec.shape_of pat_of result ≡ spec.shape_at (binding_of self.now) }
-    {
-        Shape::Lead(Lead::Let(&self.let_token, &self.pat, &self.eq_token))
-    }
-
-    /// What is to match its pattern.
-    pub fn operands(&self) -> Operands<'_, Expr, Arm>
-        ensures { spec.operands_of tree_of arm_of result ≡ spec.operands_at (binding_of self.now) }
-    {
-        Operands::One(&self.expr)
-    }
-}
-
-#[tactic(auto, using(crate::proofs::TreeOf::members, syn_expr_kinds::proofs::Shapes::shapes))]
-impl ExprMatch {
-    /// What it is, but for what it looks at and its arms.
-    pub fn shape(&self) -> Shape<'_, Pat>
-        ensures { spec.shape_of pat_of result ≡ spec.shape_at (choice_of self.now) }
-    {
-        Shape::Frame(Frame::Match(&self.match_token, &self.brace_token))
-    }
-
-    /// What it looks at, and its arms.
-    pub fn operands(&self) -> Operands<'_, Expr, Arm>
-        ensures { spec.operands_of tree_of arm_of result ≡ spec.operands_at (choice_of self.now) }
-    {
-        Operands::Arms(&self.expr, &self.attrs, &self.arms)
-    }
-}
+use syn_expr_kinds::node::{Attributes, HasNode, Operands};
 
 #[tactic(auto, using(crate::proofs::TreeOf::kinds, crate::proofs::TreeOf::members, syn_expr_kinds::proofs::Shapes::shapes))]
 impl HasNode for Expr {

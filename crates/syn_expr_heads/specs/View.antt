@@ -6,7 +6,7 @@ use Rattle.syn_expr_parts.specs.View.{label_of, member_of}
 use Rattle.syn_op.specs.View.{un_kind, limits_kind}
 use Rattle.syn_parts.specs.Tree as t
 use Rattle.syn_parts.specs.Tree.{ArgumentsTree}
-use Rattle.syn_parts.specs.Pat.{PatTree}
+use Rattle.syn_pat_kinds.specs.View.{PatView}
 use Rattle.syn_lower_lists.specs.View.{lifetimes_of, is_mut, values, trails}
 use Rattle.syn_lower_generic.specs.View.{angle_of}
 use Rattle.syn_lower_generic.specs.declared.path.AngleBracketedGenericArgumentsOf.{AngleBracketedGenericArgumentsOf}
@@ -72,40 +72,40 @@ abbrev pub ending_of : {A : Type 0} → Option A → e.Ending
 ending_of None = e.no_ending
 ending_of (Some c) = e.comma
 
--- ---- what holds patterns, by their trees and the guards in them
+-- ---- what holds patterns, and the guards in these
 
-abbrev pub arm_of : {P : Type 0} → (P → PatTree) → ArmHead P → e.Piece
-arm_of f (arm.Guard ats p w) = e.guard (map attribute_of ats.items) (f p)
-arm_of f (arm.Arm ats p w) = e.arm (map attribute_of ats.items) (f p)
+abbrev pub arm_of : {P : Type 0} → (P → PatView) → ArmHead P → e.Piece
+arm_of f (arm.Guard ats p w) = e.guard (map attribute_of ats.items) (f p).tree
+arm_of f (arm.Arm ats p w) = e.arm (map attribute_of ats.items) (f p).tree
 
-abbrev pub arm_guards : {P : Type 0} → (P → List Tree) → ArmHead P → List Tree
-arm_guards g (arm.Guard ats p w) = g p
-arm_guards g (arm.Arm ats p w) = g p
+abbrev pub arm_guards : {P : Type 0} → (P → PatView) → ArmHead P → List Tree
+arm_guards f (arm.Guard ats p w) = (f p).guards
+arm_guards f (arm.Arm ats p w) = (f p).guards
 
-abbrev pub closure_of : {P : Type 0} → (P → PatTree) → ClosureHead P → e.ClosureHead
+abbrev pub closure_of : {P : Type 0} → (P → PatView) → ClosureHead P → e.ClosureHead
 closure_of f x = record {
   lifetimes = mapped lifetimes_of x.lifetimes;
   constness = is_some x.constness;
   asyncness = is_some x.asyncness;
   capture = is_some x.capture;
-  inputs = map f (values x.inputs);
+  inputs = map (λ v. v.tree) (map f (values x.inputs));
   trailing = trails x.inputs;
   output = return_of x.output;
 }
 
-abbrev pub closure_guards : {P : Type 0} → (P → List Tree) → ClosureHead P → List Tree
-closure_guards g x = flat_map g (values x.inputs)
+abbrev pub closure_guards : {P : Type 0} → (P → PatView) → ClosureHead P → List Tree
+closure_guards f x = flat_map (λ v. v.guards) (map f (values x.inputs))
 
-abbrev pub lead_of : {P : Type 0} → (P → PatTree) → LeadHead P → e.Lead
+abbrev pub lead_of : {P : Type 0} → (P → PatView) → LeadHead P → e.Lead
 lead_of f (lead.Unary op) = e.unary (un_kind op)
 lead_of f (lead.Reference w m) = e.reference (is_some m)
 lead_of f (lead.RawAddr w r m) = e.raw_addr (is_mut m)
 lead_of f (lead.RangeTo op) = e.range_to (limits_kind op)
-lead_of f (lead.Let w p q) = e.binding (f p)
+lead_of f (lead.Let w p q) = e.binding (f p).tree
 lead_of f (lead.Jump j) = e.jump (jump_of j)
 lead_of f (lead.Closure h) = e.closure (closure_of f h)
 
-abbrev pub lead_guards : {P : Type 0} → (P → List Tree) → LeadHead P → List Tree
-lead_guards g (lead.Let w p q) = g p
-lead_guards g (lead.Closure h) = closure_guards g h
-lead_guards g _ = []
+abbrev pub lead_guards : {P : Type 0} → (P → PatView) → LeadHead P → List Tree
+lead_guards f (lead.Let w p q) = (f p).guards
+lead_guards f (lead.Closure h) = closure_guards f h
+lead_guards f _ = []

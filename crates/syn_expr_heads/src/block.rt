@@ -1,8 +1,9 @@
 //! What stands in the braces of a block (Rust Reference, "Block expressions").
 
-ghost use Rattle.std.specs.Prelude.{◌≡◌, ◌≤◌, [], IfOk};
+ghost use Rattle.std.specs.Prelude.{◌≡◌, ◌≤◌, [], true, IfOk};
 ghost use Rattle.syn_expr_heads.specs.View.{body_of};
 ghost use Rattle.syn_grammar.specs.Head as head;
+ghost use Rattle.syn_grammar.specs.WellFormed.{attributes_inner};
 ghost use Rattle.syn_lower_leaves.specs.Reads.{Reads};
 ghost use Rattle.syn_tokens.specs.Tok.{weight};
 
@@ -15,10 +16,11 @@ use syn_tokens::error::Result;
 use syn_tokens::token::Brace;
 
 /// Reads inner attributes, as many as there are, and keeps all that is behind them.
-#[tactic(auto, unfolding(syn_grammar::specs::Head::body_inside, syn_grammar::specs::Head::all_left))]
+#[tactic(auto, using(crate::proofs::Inner::inner), unfolding(syn_grammar::specs::Head::body_inside, syn_grammar::specs::Head::all_left))]
 fn body_inside(content: &mut ParseBuffer<'_>, brace_token: Brace) -> Result<Body>
     ensures value { Reads body_of (head.body_inside.reads content.old.rest) result content.new.rest }
     ensures all { IfOk result (λ _. content.new.rest ≡ []) }
+    ensures inner { IfOk result (λ b. attributes_inner (body_of b).inner ≡ true) }
 {
     let attrs = inner_attributes(content)?;
     let stmts = copy_trees(content.alloc(), content.trees())?;
@@ -32,6 +34,7 @@ fn body_inside(content: &mut ParseBuffer<'_>, brace_token: Brace) -> Result<Body
 #[tactic(auto, unfolding(syn_grammar::specs::Head::body))]
 pub fn body(input: &mut ParseBuffer<'_>) -> Result<Body>
     ensures value { Reads body_of (head.body.reads input.old.rest) result input.new.rest }
+    ensures inner { IfOk result (λ b. attributes_inner (body_of b).inner ≡ true) }
     ensures noted { input.new.noted ≡ input.old.noted }
     ensures shrinks { weight input.new.rest ≤ weight input.old.rest }
 {

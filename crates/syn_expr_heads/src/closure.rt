@@ -1,6 +1,6 @@
 //! The readers of closures up to their bodies (Rust Reference, "Closure expressions").
 
-ghost use Rattle.std.specs.Prelude.{◌≡◌, ◌≤◌, ◌+◌, map, flat_map, IfOk, []};
+ghost use Rattle.std.specs.Prelude.{◌≡◌, ◌≤◌, ◌+◌, map, IfOk, []};
 ghost use Rattle.syn_expr_heads.specs.Reads.{CallableArg, ReadsArg};
 ghost use Rattle.syn_expr_heads.specs.View.{closure_guards, closure_of};
 ghost use Rattle.syn_grammar.specs.Head as head;
@@ -9,15 +9,17 @@ ghost use Rattle.syn_lower_leaves.specs.Reads.{Reads};
 ghost use Rattle.syn_parts.specs.Form as form;
 ghost use Rattle.syn_parts.specs.Mark as mark;
 ghost use Rattle.syn_parts.specs.Pat as pat;
+ghost use Rattle.syn_pat_kinds.specs.View as kinds;
 ghost use Rattle.syn_tokens.specs.Tok.{weight};
 
-use crate::types::{ClosureHead, HasPat};
+use crate::types::ClosureHead;
 use crate::word::{async_word, bar, bar_at, move_word};
 use syn_lower::readers::ty;
 use syn_lower_leaves::front::{comma, constant};
 use syn_lower_lists::punctuated::Punctuated;
 use syn_lower_lists::readers::maybe_lifetimes;
 use syn_lower_readers::grammar::Grammar;
+use syn_pat_kinds::kinds::HasPatTree;
 use syn_tokens::buffer::{ParseBuffer, Token};
 use syn_tokens::error::{ErrorKind, Expected, Result};
 use syn_tokens::token::{Comma, Or};
@@ -32,16 +34,16 @@ pub struct Closures<G> {
 /// The arguments of a closure between its bars.
 type Inputs<P> = (Or, Punctuated<P, Comma>, Or);
 
-impl<P: HasPat + Drop, G: Fn(&mut ParseBuffer<'_>) -> Result<P>> Closures<G> {
+impl<P: HasPatTree + Drop, G: Fn(&mut ParseBuffer<'_>) -> Result<P>> Closures<G> {
     /// Reads arguments with commas between, before `|`.
     #[tactic(auto, using(crate::proofs::Loops::args))]
     fn args(&self, input: &mut ParseBuffer<'_>) -> Result<Punctuated<P, Comma>>
         requires callable { CallableArg (weight input.old.rest + 1) (G.pre self.now.arg) }
-        requires reads { ReadsArg P.tree P.guards (G.post self.now.arg) }
-        ensures value { Reads (λ p. (map P.tree (view.values p), view.trails p)) ((form.listed mark.comma head.bar.at pat.closure_arg).reads input.old.rest) result input.new.rest }
+        requires reads { ReadsArg P.view (G.post self.now.arg) }
+        ensures value { Reads (λ p. (map (λ x. (P.view x).tree) (view.values p), view.trails p)) ((form.listed mark.comma head.bar.at pat.closure_arg).reads input.old.rest) result input.new.rest }
         ensures noted { input.new.noted ≡ input.old.noted }
         ensures shrinks { weight input.new.rest ≤ weight input.old.rest }
-        ensures bare { IfOk result (λ p. flat_map P.guards (view.values p) ≡ []) }
+        ensures bare { IfOk result (λ p. kinds.guards_in P.view (view.values p) ≡ []) }
     {
         let mut found = Punctuated::new(input.alloc());
         'items: while !bar_at(input) {
@@ -58,11 +60,11 @@ impl<P: HasPat + Drop, G: Fn(&mut ParseBuffer<'_>) -> Result<P>> Closures<G> {
     #[tactic(auto, unfolding(syn_grammar::specs::Head::closure_inputs))]
     fn inputs(&self, input: &mut ParseBuffer<'_>) -> Result<Inputs<P>>
         requires callable { CallableArg (weight input.old.rest) (G.pre self.now.arg) }
-        requires reads { ReadsArg P.tree P.guards (G.post self.now.arg) }
-        ensures value { Reads (λ i. (map P.tree (view.values i.1), view.trails i.1)) (head.closure_inputs.reads input.old.rest) result input.new.rest }
+        requires reads { ReadsArg P.view (G.post self.now.arg) }
+        ensures value { Reads (λ i. (map (λ x. (P.view x).tree) (view.values i.1), view.trails i.1)) (head.closure_inputs.reads input.old.rest) result input.new.rest }
         ensures noted { input.new.noted ≡ input.old.noted }
         ensures shrinks { weight input.new.rest ≤ weight input.old.rest }
-        ensures bare { IfOk result (λ i. flat_map P.guards (view.values i.1) ≡ []) }
+        ensures bare { IfOk result (λ i. kinds.guards_in P.view (view.values i.1) ≡ []) }
     {
         let Some(inputs_begin) = bar(input) else {
             return Err(input.error(ErrorKind::ExpectedToken(Expected::One(Or::wanted()))));
@@ -77,14 +79,14 @@ impl<P: HasPat + Drop, G: Fn(&mut ParseBuffer<'_>) -> Result<P>> Closures<G> {
     /// Reads a closure up to its body: lifetimes, `const`, `async`, `move`, each if it stands there, the arguments between
     /// bars, and what it returns (Rust Reference, "Closure expressions"). A missing bar is refused as `ExpectedToken` of
     /// it, an argument as its reader refuses it, and the type behind `->` as a type is.
-    #[tactic(auto, unfolding(syn_grammar::specs::Head::closure_head))]
+    #[tactic(auto, using(crate::proofs::Loops::inputs), unfolding(syn_grammar::specs::Head::closure_head))]
     pub fn closure_head(&self, input: &mut ParseBuffer<'_>) -> Result<ClosureHead<P>>
         requires callable { CallableArg (weight input.old.rest) (G.pre self.now.arg) }
-        requires reads { ReadsArg P.tree P.guards (G.post self.now.arg) }
-        ensures value { Reads (closure_of P.tree) (head.closure_head.reads input.old.rest) result input.new.rest }
+        requires reads { ReadsArg P.view (G.post self.now.arg) }
+        ensures value { Reads (closure_of P.view) (head.closure_head.reads input.old.rest) result input.new.rest }
         ensures noted { input.new.noted ≡ input.old.noted }
         ensures shrinks { weight input.new.rest ≤ weight input.old.rest }
-        ensures bare { IfOk result (λ h. closure_guards P.guards h ≡ []) }
+        ensures bare { IfOk result (λ h. closure_guards P.view h ≡ []) }
     {
         let lifetimes = maybe_lifetimes(input)?;
         let constness = constant(input);

@@ -1,9 +1,10 @@
 //! What stands behind an operand in a place of its own, and the words and signs before one.
 
-ghost use Rattle.std.specs.Prelude.{◌≡◌, ◌≤◌};
+ghost use Rattle.std.specs.Prelude.{◌≡◌, ◌≤◌, true, IfOk};
 ghost use Rattle.syn_expr_heads.specs.View.{body_of, ending_of};
 ghost use Rattle.syn_grammar.specs.Slot as slot;
 ghost use Rattle.syn_grammar.specs.Tree as e;
+ghost use Rattle.syn_grammar.specs.WellFormed.{attributes_inner};
 ghost use Rattle.syn_lexer.specs.declared.lexeme.Delimiter.TheVariants as del;
 ghost use Rattle.syn_lower_leaves.specs.Reads.{Reads};
 ghost use Rattle.syn_tokens.specs.Front.{group_at};
@@ -80,6 +81,7 @@ pub fn behind_condition(input: &mut ParseBuffer<'_>) -> Result<Block>
 #[tactic(auto, unfolding(syn_grammar::specs::Slot::ending_at, syn_grammar::specs::Head::body))]
 pub fn behind_loop_head(input: &mut ParseBuffer<'_>) -> Result<Body>
     ensures value { (x : e.Tree) → Reads (λ b. e.braced (body_of b)) (slot.ending_at e.loop_head x input.old.rest) result input.new.rest }
+    ensures inner { IfOk result (λ b. attributes_inner (body_of b).inner ≡ true) }
     ensures noted { input.new.noted ≡ input.old.noted }
     ensures shrinks { weight input.new.rest ≤ weight input.old.rest }
 {

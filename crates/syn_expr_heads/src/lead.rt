@@ -16,7 +16,7 @@ ghost use Rattle.syn_tokens.specs.Tok.{weight};
 
 use crate::closure::Closures;
 use crate::jump::jump_head;
-use crate::types::{ArmHead, ForHead, HasPat, LeadHead};
+use crate::types::{ArmHead, ForHead, LeadHead};
 use crate::word::{fat_arrow, if_word, in_word, let_word, minus, raw_word};
 use syn_expr_front::atom::{jump_at, range_at, raw_at};
 use syn_lower_leaves::front::{and, bang, eq, for_word, mutable, star};
@@ -25,6 +25,7 @@ use syn_lower_lists::front::lifetimes_at;
 use syn_lower_lists::readers::pointer_mutability;
 use syn_op::limits::range_limits;
 use syn_op::op::UnOp;
+use syn_pat_kinds::kinds::HasPatTree;
 use syn_tokens::buffer::{ParseBuffer, Token};
 use syn_tokens::error::{ErrorKind, Expected, Result};
 use syn_tokens::token::{And, Eq, FatArrow, For, If, In, Let, Raw};
@@ -39,9 +40,9 @@ pub struct Leads<F, G> {
 }
 
 /// Reads what stands behind `&` before an operand: `raw` and `mut` or `const`, or `mut` or nothing.
-fn borrow<P: HasPat + Drop>(input: &mut ParseBuffer<'_>, and_token: And) -> Result<LeadHead<P>>
-    ensures value { Reads (lead_of P.tree) (leads.borrow.reads input.old.rest) result input.new.rest }
-    ensures bare { IfOk result (λ h. lead_guards P.guards h ≡ []) }
+fn borrow<P: HasPatTree + Drop>(input: &mut ParseBuffer<'_>, and_token: And) -> Result<LeadHead<P>>
+    ensures value { Reads (lead_of P.view) (leads.borrow.reads input.old.rest) result input.new.rest }
+    ensures bare { IfOk result (λ h. lead_guards P.view h ≡ []) }
     ensures noted { input.new.noted ≡ input.old.noted }
     ensures shrinks { weight input.new.rest ≤ weight input.old.rest }
 {
@@ -56,16 +57,16 @@ fn borrow<P: HasPat + Drop>(input: &mut ParseBuffer<'_>, and_token: And) -> Resu
 }
 
 impl<
-    P: HasPat + Drop,
+    P: HasPatTree + Drop,
     F: Fn(&mut ParseBuffer<'_>, bool) -> Result<P>,
     G: Fn(&mut ParseBuffer<'_>) -> Result<P> + Copy,
 > Leads<F, G> {
     /// Reads a pattern and `=` behind `let`.
     fn binding(&self, input: &mut ParseBuffer<'_>, let_token: Let) -> Result<LeadHead<P>>
         requires pat { Callable (weight input.old.rest + 1) (F.pre self.now.pat) }
-        requires reads { ReadsPat P.tree P.guards (F.post self.now.pat) }
-        ensures value { Reads (lead_of P.tree) (leads.binding.reads input.old.rest) result input.new.rest }
-        ensures bare { IfOk result (λ h. lead_guards P.guards h ≡ []) }
+        requires reads { ReadsPat P.view (F.post self.now.pat) }
+        ensures value { Reads (lead_of P.view) (leads.binding.reads input.old.rest) result input.new.rest }
+        ensures bare { IfOk result (λ h. lead_guards P.view h ≡ []) }
         ensures noted { input.new.noted ≡ input.old.noted }
         ensures shrinks { weight input.new.rest ≤ weight input.old.rest }
     {
@@ -79,11 +80,11 @@ impl<
     /// Reads what begins with a range's operator, a word or a bar.
     fn word_lead(&self, input: &mut ParseBuffer<'_>) -> Result<LeadHead<P>>
         requires pat { Callable (weight input.old.rest + 1) (F.pre self.now.pat) }
-        requires reads { ReadsPat P.tree P.guards (F.post self.now.pat) }
+        requires reads { ReadsPat P.view (F.post self.now.pat) }
         requires arg { CallableArg (weight input.old.rest) (G.pre self.now.arg) }
-        requires arg_reads { ReadsArg P.tree P.guards (G.post self.now.arg) }
-        ensures value { Reads (lead_of P.tree) (leads.word_lead.reads input.old.rest) result input.new.rest }
-        ensures bare { IfOk result (λ h. lead_guards P.guards h ≡ []) }
+        requires arg_reads { ReadsArg P.view (G.post self.now.arg) }
+        ensures value { Reads (lead_of P.view) (leads.word_lead.reads input.old.rest) result input.new.rest }
+        ensures bare { IfOk result (λ h. lead_guards P.view h ≡ []) }
         ensures noted { input.new.noted ≡ input.old.noted }
         ensures shrinks { weight input.new.rest ≤ weight input.old.rest }
     {
@@ -109,11 +110,11 @@ impl<
     #[tactic(auto, unfolding(syn_grammar::specs::Head::lead_form))]
     pub fn lead(&self, input: &mut ParseBuffer<'_>) -> Result<LeadHead<P>>
         requires pat { Callable (weight input.old.rest + 1) (F.pre self.now.pat) }
-        requires reads { ReadsPat P.tree P.guards (F.post self.now.pat) }
+        requires reads { ReadsPat P.view (F.post self.now.pat) }
         requires arg { CallableArg (weight input.old.rest) (G.pre self.now.arg) }
-        requires arg_reads { ReadsArg P.tree P.guards (G.post self.now.arg) }
-        ensures value { Reads (lead_of P.tree) (head.lead_form.reads input.old.rest) result input.new.rest }
-        ensures bare { IfOk result (λ h. lead_guards P.guards h ≡ []) }
+        requires arg_reads { ReadsArg P.view (G.post self.now.arg) }
+        ensures value { Reads (lead_of P.view) (head.lead_form.reads input.old.rest) result input.new.rest }
+        ensures bare { IfOk result (λ h. lead_guards P.view h ≡ []) }
         ensures noted { input.new.noted ≡ input.old.noted }
         ensures shrinks { weight input.new.rest ≤ weight input.old.rest }
     {
@@ -136,9 +137,9 @@ impl<
     /// `ExpectedToken` of `for` or `in`, and inside as a pattern is.
     pub fn for_head(&self, input: &mut ParseBuffer<'_>) -> Result<ForHead<P>>
         requires pat { Callable (weight input.old.rest + 1) (F.pre self.now.pat) }
-        requires reads { ReadsPat P.tree P.guards (F.post self.now.pat) }
-        ensures value { Reads (λ h. P.tree h.pat) (slot.for_head.reads input.old.rest) result input.new.rest }
-        ensures bare { IfOk result (λ h. P.guards h.pat ≡ []) }
+        requires reads { ReadsPat P.view (F.post self.now.pat) }
+        ensures value { Reads (λ h. (P.view h.pat).tree) (slot.for_head.reads input.old.rest) result input.new.rest }
+        ensures bare { IfOk result (λ h. (P.view h.pat).guards ≡ []) }
         ensures noted { input.new.noted ≡ input.old.noted }
         ensures shrinks { weight input.new.rest ≤ weight input.old.rest }
     {
@@ -165,9 +166,9 @@ impl<
     #[tactic(auto, unfolding(syn_grammar::specs::Slot::piece_form))]
     pub fn arm(&self, input: &mut ParseBuffer<'_>) -> Result<ArmHead<P>>
         requires pat { Callable (weight input.old.rest + 1) (F.pre self.now.pat) }
-        requires reads { ReadsPat P.tree P.guards (F.post self.now.pat) }
-        ensures value { Reads (arm_of P.tree) ((slot.piece_form slot.arms).reads input.old.rest) result input.new.rest }
-        ensures bare { IfOk result (λ h. arm_guards P.guards h ≡ []) }
+        requires reads { ReadsPat P.view (F.post self.now.pat) }
+        ensures value { Reads (arm_of P.view) ((slot.piece_form slot.arms).reads input.old.rest) result input.new.rest }
+        ensures bare { IfOk result (λ h. arm_guards P.view h ≡ []) }
         ensures noted { input.new.noted ≡ input.old.noted }
         ensures shrinks { weight input.new.rest ≤ weight input.old.rest }
     {

@@ -19,19 +19,6 @@ use syn_tokens::token::{
 };
 use syn_tokens::tree::{Ident, TokenStream};
 
-/// The type of patterns, as contracts see it.
-pub trait HasPat {
-    ghost use Rattle.std.specs.Prelude.{List};
-    ghost use Rattle.syn_grammar.specs.Tree.{Tree};
-    ghost use Rattle.syn_parts.specs.Pat.{PatTree};
-
-    /// A pattern without its places and the guards in it.
-    ghost tree: { Self → PatTree };
-
-    /// The guards in it, from left to right, which stand where none may.
-    ghost guards: { Self → List Tree };
-}
-
 /// A block with the inner attributes that stand first in its braces.
 #[derive(Drop, PartialEq)]
 pub struct Body {

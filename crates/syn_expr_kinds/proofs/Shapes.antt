@@ -4,15 +4,44 @@ use Rattle.std.proofs.lemmas.List.{append-nil}
 use Rattle.syn_parts.specs.Tree.{AttributeTree}
 use Rattle.syn_grammar.specs.Tree as e
 use Rattle.syn_grammar.specs.Tree.{Tree, Kids, Piece, adorn, none, kid}
-use Rattle.syn_expr_kinds.specs.Node.{attributes_at, stray_trees, without_strays, shape_at, operands_at}
+use Rattle.syn_expr_kinds.specs.Node.{attributes_at, stray_trees, without_strays, operands_at, leaf_at, is_paren, lead_at, operator_at, post_at, trailer_at, frame_at}
+use Rattle.syn_expr_notes.specs.Kind.{kind_at}
 use Rattle.syn_expr_kinds.specs.Pats.{strays}
 use Rattle.syn_expr_kinds.specs.View.{FieldView, elements, fields, option_kid}
 
 -- attributes before it change nothing else
 
-pub shape-adorn : (ats : List AttributeTree) (t : Tree) → shape_at (adorn ats t) ≡ shape_at t
-shape-adorn [] t = refl
-shape-adorn (a ∷ more) t = refl
+pub kind-adorn : (ats : List AttributeTree) (t : Tree) → kind_at (adorn ats t) ≡ kind_at t
+kind-adorn [] t = refl
+kind-adorn (a ∷ more) t = refl
+
+pub leaf-adorn : (ats : List AttributeTree) (t : Tree) → leaf_at (adorn ats t) ≡ leaf_at t
+leaf-adorn [] t = refl
+leaf-adorn (a ∷ more) t = refl
+
+pub paren-adorn : (ats : List AttributeTree) (t : Tree) → is_paren (adorn ats t) ≡ is_paren t
+paren-adorn [] t = refl
+paren-adorn (a ∷ more) t = refl
+
+pub lead-adorn : (ats : List AttributeTree) (t : Tree) → lead_at (adorn ats t) ≡ lead_at t
+lead-adorn [] t = refl
+lead-adorn (a ∷ more) t = refl
+
+pub operator-adorn : (ats : List AttributeTree) (t : Tree) → operator_at (adorn ats t) ≡ operator_at t
+operator-adorn [] t = refl
+operator-adorn (a ∷ more) t = refl
+
+pub post-adorn : (ats : List AttributeTree) (t : Tree) → post_at (adorn ats t) ≡ post_at t
+post-adorn [] t = refl
+post-adorn (a ∷ more) t = refl
+
+pub trailer-adorn : (ats : List AttributeTree) (t : Tree) → trailer_at (adorn ats t) ≡ trailer_at t
+trailer-adorn [] t = refl
+trailer-adorn (a ∷ more) t = refl
+
+pub frame-adorn : (ats : List AttributeTree) (t : Tree) → frame_at (adorn ats t) ≡ frame_at t
+frame-adorn [] t = refl
+frame-adorn (a ∷ more) t = refl
 
 pub operands-adorn : (ats : List AttributeTree) (t : Tree) → operands_at (adorn ats t) ≡ operands_at t
 operands-adorn [] t = refl
@@ -50,4 +79,4 @@ pub strays-gone : (gs : List Tree) (ks : Kids) → without_strays (strays gs ks)
 strays-gone [] ks = refl
 strays-gone (g ∷ gs) ks = strays-gone gs ks
 
-pub ruleset shapes = (shape-adorn, operands-adorn, attributes-adorn, elements-strays, elements-all, fields-strays, fields-all, strays-first, strays-gone, append-nil)
+pub ruleset shapes = (kind-adorn, leaf-adorn, paren-adorn, lead-adorn, operator-adorn, post-adorn, trailer-adorn, frame-adorn, operands-adorn, attributes-adorn, elements-strays, elements-all, fields-strays, fields-all, strays-first, strays-gone, append-nil)

@@ -1,5 +1,5 @@
 -- The attributes of a node, as its tree has them (Rust Reference, "Attributes").
-use Rattle.std.specs.Prelude.{Bool, true, ◌&&◌, if◌then◌else◌, List, [], ◌∷◌, map}
+use Rattle.std.specs.Prelude.{Bool, true, not, ◌&&◌, if◌then◌else◌, List, [], ◌∷◌, map}
 use Rattle.std.specs.declared.vec.Vec.{Vec}
 use Rattle.std.specs.declared.alloc.Global.{Global}
 use Rattle.syn_parts.specs.Tree.{AttributeTree}
@@ -21,6 +21,10 @@ from_inner (a ∷ more) = if a.inner then a ∷ more else from_inner more
 abbrev pub all_inner : List AttributeTree → Bool
 all_inner [] = true
 all_inner (a ∷ more) = a.inner && all_inner more
+
+abbrev pub all_outer : List AttributeTree → Bool
+all_outer [] = true
+all_outer (a ∷ more) = not a.inner && all_outer more
 
 -- no outer one stands behind an inner one
 abbrev pub is_in_order : List AttributeTree → Bool

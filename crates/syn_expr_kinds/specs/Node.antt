@@ -1,5 +1,5 @@
--- What is lent of an expression, by its tree: its attributes, its shape and its operands.
-use Rattle.std.specs.Prelude.{Bool, false, List, [], ◌∷◌, ◌++◌, map, Option, Some, None, is_some}
+-- What is lent of an expression, by its tree: its attributes, its operands, and what it is but for them.
+use Rattle.std.specs.Prelude.{Bool, true, false, List, [], ◌∷◌, ◌++◌, map, Option, Some, None, is_some}
 use denote.Ref.{Bor}
 use Rattle.std.specs.declared.boxed.Box.{Box}
 use Rattle.std.specs.declared.alloc.Global.{Global}
@@ -36,8 +36,6 @@ use Rattle.syn_expr_kinds.specs.declared.node.Frame.{Frame}
 use Rattle.syn_expr_kinds.specs.declared.node.Frame.TheVariants as frame
 use Rattle.syn_expr_kinds.specs.declared.node.Operands.{Operands}
 use Rattle.syn_expr_kinds.specs.declared.node.Operands.TheVariants as operands
-use Rattle.syn_expr_kinds.specs.declared.node.Shape.{Shape}
-use Rattle.syn_expr_kinds.specs.declared.node.Shape.TheVariants as shape
 
 -- ---- labels
 
@@ -134,6 +132,12 @@ module _ {P : Type 0} (pat : P → PatView) where
   frame_guards (frame.ForLoop label t p u) = (pat p.now.value).guards
   frame_guards _ = []
 
+  abbrev pub lead_seen : Lead P → e.Lead × List Tree
+  lead_seen k = (lead_of k, lead_guards k)
+
+  abbrev pub frame_seen : Frame P → e.Frame × List Tree
+  frame_seen k = (frame_of k, frame_guards k)
+
 -- ---- what is told of a tree
 
 -- the attributes before it
@@ -150,25 +154,43 @@ abbrev pub without_strays : Kids → Kids
 without_strays (kid e.stray c t ks) = without_strays ks
 without_strays ks = ks
 
--- A node but for its operands; guards in its patterns, where none may stand, are of its shape.
-pub data ShapeTree : Type 0 where
-  leaf_shape : e.Leaf → ShapeTree
-  paren_shape : ShapeTree
-  lead_shape : e.Lead → List Tree → ShapeTree
-  mid_shape : Infix → ShapeTree
-  post_shape : e.Post → ShapeTree
-  tail_shape : e.Trailer → ShapeTree
-  frame_shape : e.Frame → List Tree → ShapeTree
+-- ---- what a node is but for its operands, by its shape
 
-abbrev pub shape_at : Tree → ShapeTree
-shape_at (e.leaf k) = leaf_shape k
-shape_at (e.paren m t) = paren_shape
-shape_at (e.adorned a more t) = shape_at t
-shape_at (e.lead k gs t) = lead_shape k (stray_trees gs)
-shape_at (e.mid x op y) = mid_shape op
-shape_at (e.post x k) = post_shape k
-shape_at (e.tail b k ks) = tail_shape k
-shape_at (e.frame k ks) = frame_shape k (stray_trees ks)
+abbrev pub leaf_at : Tree → Option e.Leaf
+leaf_at (e.leaf k) = Some k
+leaf_at (e.adorned a more t) = leaf_at t
+leaf_at _ = None
+
+abbrev pub is_paren : Tree → Bool
+is_paren (e.paren m t) = true
+is_paren (e.adorned a more t) = is_paren t
+is_paren _ = false
+
+-- with the guards in its patterns, where none may stand
+abbrev pub lead_at : Tree → Option (e.Lead × List Tree)
+lead_at (e.lead k gs t) = Some (k, stray_trees gs)
+lead_at (e.adorned a more t) = lead_at t
+lead_at _ = None
+
+abbrev pub operator_at : Tree → Option Infix
+operator_at (e.mid x op y) = Some op
+operator_at (e.adorned a more t) = operator_at t
+operator_at _ = None
+
+abbrev pub post_at : Tree → Option e.Post
+post_at (e.post x k) = Some k
+post_at (e.adorned a more t) = post_at t
+post_at _ = None
+
+abbrev pub trailer_at : Tree → Option e.Trailer
+trailer_at (e.tail b k ks) = Some k
+trailer_at (e.adorned a more t) = trailer_at t
+trailer_at _ = None
+
+abbrev pub frame_at : Tree → Option (e.Frame × List Tree)
+frame_at (e.frame k ks) = Some (k, stray_trees ks)
+frame_at (e.adorned a more t) = frame_at t
+frame_at _ = None
 
 pub data OperandTrees : Type 0 where
   no_trees : OperandTrees
@@ -193,15 +215,6 @@ operands_at (e.tail b k ks) = based_by b ks
 operands_at (e.frame k ks) = framed (without_strays ks)
 
 -- ---- what is lent
-
-abbrev pub shape_of : {P : Type 0} → (P → PatView) → Shape P → ShapeTree
-shape_of pat (shape.Leaf k) = leaf_shape (leaf_of k)
-shape_of pat (shape.Paren t) = paren_shape
-shape_of pat (shape.Lead k) = lead_shape (lead_of pat k) (lead_guards pat k)
-shape_of pat (shape.Mid op) = mid_shape (operator_of op)
-shape_of pat (shape.Post k) = post_shape (post_of k)
-shape_of pat (shape.Tail k) = tail_shape (trailer_of k)
-shape_of pat (shape.Frame k) = frame_shape (frame_of pat k) (frame_guards pat k)
 
 abbrev pub operands_of : {E A : Type 0} → (E → Tree) → (A → ArmView) → Operands E A → OperandTrees
 operands_of tree arm operands.None = no_trees

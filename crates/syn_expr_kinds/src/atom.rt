@@ -1,8 +1,20 @@
 //! Kinds that are closed at both ends: literals, paths, macros, and what stands in brackets or parentheses.
+#![tactic(auto, using(crate::proofs::Shapes::shapes))]
 
+ghost use Rattle.std.specs.Prelude.{◌≡◌, Some};
+ghost use Rattle.syn_grammar.specs.Tree.{Tree};
+ghost use Rattle.syn_pat_kinds.specs.View.{PatView};
+ghost use Rattle.syn_expr_kinds.specs.Node.{frame_at, frame_seen, leaf_at, leaf_of, operands_at, operands_of};
+ghost use Rattle.syn_expr_kinds.specs.Pats.{ArmView};
+ghost use Rattle.syn_expr_kinds.specs.View.{expr_array_of, expr_group_of, expr_infer_of, expr_lit_of, expr_macro_of, expr_paren_of, expr_path_of, expr_repeat_of, expr_tuple_of};
+ghost use Rattle.syn_expr_notes.specs.Kind.{kind_at};
+
+use crate::node::{Frame, Leaf, Operands};
+use syn_expr_notes::kind::NodeKind;
+use syn_expr_notes::label::LeafKind;
 use syn_lower::attr::Attribute;
 use syn_lower::lit::Lit;
-use syn_lower::mac::Macro;
+use syn_lower::mac::{Macro, MacroDelimiter};
 use syn_lower::path::{Path, QSelf};
 use syn_lower::punctuated::Punctuated;
 use syn_tokens::token::{Bracket, Comma, Group, Paren, Semi, Underscore};
@@ -102,4 +114,121 @@ pub struct ExprTupleOf<E> {
     pub paren_token: Paren,
     /// The elements.
     pub elems: Punctuated<E, Comma>,
+}
+
+impl<E> ExprArrayOf<E> {
+    /// What it is, but for its operands.
+    pub fn frame<P>(&self) -> Frame<'_, P>
+        ensures { (tree : E → Tree) (pat : P → PatView) → Some (frame_seen pat result) ≡ frame_at (expr_array_of tree self.now) }
+    {
+        Frame::Array(&self.bracket_token)
+    }
+
+    /// Its operands.
+    pub fn operands<A>(&self) -> Operands<'_, E, A>
+        ensures { (tree : E → Tree) (arm : A → ArmView) → operands_of tree arm result ≡ operands_at (expr_array_of tree self.now) }
+    {
+        Operands::Elements(&self.elems)
+    }
+}
+
+impl<E> ExprGroupOf<E> {
+    /// What it is, but for its operands.
+    pub fn frame<P>(&self) -> Frame<'_, P>
+        ensures { (tree : E → Tree) (pat : P → PatView) → Some (frame_seen pat result) ≡ frame_at (expr_group_of tree self.now) }
+    {
+        Frame::Group(&self.group_token)
+    }
+
+    /// Its operands.
+    pub fn operands<A>(&self) -> Operands<'_, E, A>
+        ensures { (tree : E → Tree) (arm : A → ArmView) → operands_of tree arm result ≡ operands_at (expr_group_of tree self.now) }
+    {
+        Operands::Grouped(&self.expr)
+    }
+}
+
+impl ExprInfer {
+    /// It, as it is lent: all of it but its attributes.
+    pub fn leaf(&self) -> Leaf<'_>
+        ensures { Some (leaf_of result) ≡ leaf_at (expr_infer_of self.now) }
+    {
+        Leaf::Infer(&self.underscore_token)
+    }
+}
+
+impl ExprLit {
+    /// It, as it is lent: all of it but its attributes.
+    pub fn leaf(&self) -> Leaf<'_>
+        ensures { Some (leaf_of result) ≡ leaf_at (expr_lit_of self.now) }
+    {
+        Leaf::Lit(&self.lit)
+    }
+}
+
+impl ExprMacro {
+    /// Its kind.
+    pub fn kind(&self) -> NodeKind
+        ensures { result ≡ kind_at (expr_macro_of self.now) }
+    {
+        let braced = matches!(self.mac.delimiter, MacroDelimiter::Brace(_));
+        NodeKind::Leaf(LeafKind::Macro { braced })
+    }
+
+    /// It, as it is lent: all of it but its attributes.
+    pub fn leaf(&self) -> Leaf<'_>
+        ensures { Some (leaf_of result) ≡ leaf_at (expr_macro_of self.now) }
+    {
+        Leaf::Macro(&self.mac)
+    }
+}
+
+impl<E> ExprParenOf<E> {
+    /// Its operands.
+    pub fn operands<A>(&self) -> Operands<'_, E, A>
+        ensures { (tree : E → Tree) (arm : A → ArmView) → operands_of tree arm result ≡ operands_at (expr_paren_of tree self.now) }
+    {
+        Operands::One(&self.expr)
+    }
+}
+
+impl ExprPath {
+    /// It, as it is lent: all of it but its attributes.
+    pub fn leaf(&self) -> Leaf<'_>
+        ensures { Some (leaf_of result) ≡ leaf_at (expr_path_of self.now) }
+    {
+        Leaf::Path(&self.qself, &self.path)
+    }
+}
+
+impl<E> ExprRepeatOf<E> {
+    /// What it is, but for its operands.
+    pub fn frame<P>(&self) -> Frame<'_, P>
+        ensures { (tree : E → Tree) (pat : P → PatView) → Some (frame_seen pat result) ≡ frame_at (expr_repeat_of tree self.now) }
+    {
+        Frame::Repeat(&self.bracket_token)
+    }
+
+    /// Its operands.
+    pub fn operands<A>(&self) -> Operands<'_, E, A>
+        ensures { (tree : E → Tree) (arm : A → ArmView) → operands_of tree arm result ≡ operands_at (expr_repeat_of tree self.now) }
+    {
+        Operands::Repeated(&self.expr, &self.semi_token, &self.len)
+    }
+}
+
+impl<E> ExprTupleOf<E> {
+    /// What it is, but for its operands.
+    pub fn frame<P>(&self) -> Frame<'_, P>
+        ensures { (tree : E → Tree) (pat : P → PatView) → Some (frame_seen pat result) ≡ frame_at (expr_tuple_of tree self.now) }
+    {
+        Frame::Tuple(&self.paren_token)
+    }
+
+    /// Its operands.
+    pub fn operands<A>(&self) -> Operands<'_, E, A>
+        ensures { (tree : E → Tree) (arm : A → ArmView) → operands_of tree arm result ≡ operands_at (expr_tuple_of tree self.now) }
+    {
+        Operands::Elements(&self.elems)
+    }
 }

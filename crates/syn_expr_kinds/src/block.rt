@@ -1,5 +1,18 @@
 //! Blocks, `if` and loops.
+#![tactic(auto, using(crate::proofs::Shapes::shapes))]
 
+ghost use Rattle.std.specs.Prelude.{◌≡◌, Some};
+ghost use Rattle.syn_grammar.specs.Tree.{Tree};
+ghost use Rattle.syn_pat_kinds.specs.View.{PatView};
+ghost use Rattle.syn_expr_kinds.specs.Attrs.{inner_of};
+ghost use Rattle.syn_expr_kinds.specs.Node.{braces_of, frame_at, frame_seen, leaf_at, leaf_of, operands_at, operands_of};
+ghost use Rattle.syn_expr_kinds.specs.Pats.{ArmView};
+ghost use Rattle.syn_expr_kinds.specs.View.{body_of, expr_async_of, expr_block_of, expr_const_of, expr_if_of, expr_loop_of, expr_try_block_of, expr_unsafe_of, expr_while_of};
+ghost use Rattle.syn_expr_notes.specs.Kind.{kind_at};
+
+use crate::node::{Braces, Frame, Leaf, Operands};
+use syn_expr_notes::kind::NodeKind;
+use syn_expr_notes::label::{FrameKind, LeafKind};
 use syn_expr_parts::label::Label;
 use syn_expr_parts::modifiers::BlockModifiers;
 use syn_lower::attr::Attribute;
@@ -110,4 +123,125 @@ pub struct ExprWhileOf<E> {
     pub cond: Box<E>,
     /// The block that is repeated.
     pub body: Block,
+}
+
+/// Braces of a node with these attributes.
+fn braces<'a>(attrs: &'a Vec<Attribute>, block: &'a Block) -> Braces<'a>
+    ensures { braces_of result ≡ body_of (inner_of attrs.now) block.now.stmts }
+{
+    Braces { attrs, block }
+}
+
+impl ExprAsync {
+    /// It, as it is lent: all of it but its attributes.
+    pub fn leaf(&self) -> Leaf<'_>
+        ensures { Some (leaf_of result) ≡ leaf_at (expr_async_of self.now) }
+    {
+        Leaf::Async(&self.async_token, &self.capture, &self.block)
+    }
+}
+
+impl ExprBlock {
+    /// Its kind.
+    pub fn kind(&self) -> NodeKind
+        ensures { result ≡ kind_at (expr_block_of self.now) }
+    {
+        let labelled = self.label.is_some();
+        NodeKind::Leaf(LeafKind::Block { labelled })
+    }
+
+    /// It, as it is lent: all of it but its attributes.
+    pub fn leaf(&self) -> Leaf<'_>
+        ensures { Some (leaf_of result) ≡ leaf_at (expr_block_of self.now) }
+    {
+        Leaf::Block(&self.label, braces(&self.attrs, &self.block))
+    }
+}
+
+impl ExprConst {
+    /// It, as it is lent: all of it but its attributes.
+    pub fn leaf(&self) -> Leaf<'_>
+        ensures { Some (leaf_of result) ≡ leaf_at (expr_const_of self.now) }
+    {
+        Leaf::Const(&self.const_token, braces(&self.attrs, &self.block))
+    }
+}
+
+impl<E> ExprIfOf<E> {
+    /// What it is, but for its operands.
+    pub fn frame<P>(&self) -> Frame<'_, P>
+        ensures { (tree : E → Tree) (pat : P → PatView) → Some (frame_seen pat result) ≡ frame_at (expr_if_of tree self.now) }
+    {
+        Frame::If(&self.if_token)
+    }
+
+    /// Its operands.
+    pub fn operands<A>(&self) -> Operands<'_, E, A>
+        ensures { (tree : E → Tree) (arm : A → ArmView) → operands_of tree arm result ≡ operands_at (expr_if_of tree self.now) }
+    {
+        Operands::If(&self.cond, &self.then_branch, &self.else_branch)
+    }
+}
+
+impl ExprLoop {
+    /// Its kind.
+    pub fn kind(&self) -> NodeKind
+        ensures { result ≡ kind_at (expr_loop_of self.now) }
+    {
+        let labelled = self.label.is_some();
+        NodeKind::Leaf(LeafKind::BlockLike { labelled })
+    }
+
+    /// It, as it is lent: all of it but its attributes.
+    pub fn leaf(&self) -> Leaf<'_>
+        ensures { Some (leaf_of result) ≡ leaf_at (expr_loop_of self.now) }
+    {
+        Leaf::Loop(
+            &self.label,
+            &self.loop_token,
+            braces(&self.attrs, &self.body),
+        )
+    }
+}
+
+impl ExprTryBlock {
+    /// It, as it is lent: all of it but its attributes.
+    pub fn leaf(&self) -> Leaf<'_>
+        ensures { Some (leaf_of result) ≡ leaf_at (expr_try_block_of self.now) }
+    {
+        Leaf::TryBlock(&self.try_token, &self.block)
+    }
+}
+
+impl ExprUnsafe {
+    /// It, as it is lent: all of it but its attributes.
+    pub fn leaf(&self) -> Leaf<'_>
+        ensures { Some (leaf_of result) ≡ leaf_at (expr_unsafe_of self.now) }
+    {
+        Leaf::Unsafe(&self.unsafe_token, braces(&self.attrs, &self.block))
+    }
+}
+
+impl<E> ExprWhileOf<E> {
+    /// Its kind.
+    pub fn kind(&self) -> NodeKind
+        ensures { (tree : E → Tree) → result ≡ kind_at (expr_while_of tree self.now) }
+    {
+        let labelled = self.label.is_some();
+        NodeKind::Frame(FrameKind::BlockLike { labelled })
+    }
+
+    /// What it is, but for its operands.
+    pub fn frame<P>(&self) -> Frame<'_, P>
+        ensures { (tree : E → Tree) (pat : P → PatView) → Some (frame_seen pat result) ≡ frame_at (expr_while_of tree self.now) }
+    {
+        Frame::While(&self.label, &self.while_token)
+    }
+
+    /// Its operands.
+    pub fn operands<A>(&self) -> Operands<'_, E, A>
+        ensures { (tree : E → Tree) (arm : A → ArmView) → operands_of tree arm result ≡ operands_at (expr_while_of tree self.now) }
+    {
+        Operands::Loop(&self.cond, braces(&self.attrs, &self.body))
+    }
 }

@@ -1,5 +1,19 @@
 //! Jumps.
+#![tactic(auto, using(crate::proofs::Shapes::shapes))]
 
+ghost use Rattle.std.specs.Prelude.{◌≡◌, Some};
+ghost use Rattle.syn_grammar.specs.Tree.{Tree};
+ghost use Rattle.syn_grammar.specs.Tree as e;
+ghost use Rattle.syn_lower.specs.View.{mapped};
+ghost use Rattle.syn_pat_kinds.specs.View.{PatView};
+ghost use Rattle.syn_expr_kinds.specs.Node.{lead_at, lead_seen, leaf_at, leaf_of, operands_at, operands_of};
+ghost use Rattle.syn_expr_kinds.specs.Pats.{ArmView};
+ghost use Rattle.syn_expr_kinds.specs.View.{boxed, expr_break_of, expr_continue_of, expr_return_of, expr_yield_of, jump_with};
+ghost use Rattle.syn_expr_notes.specs.Kind.{kind_at};
+
+use crate::node::{Jump, Lead, Leaf, Operands};
+use syn_expr_notes::kind::NodeKind;
+use syn_expr_notes::label::{LeadKind, LeafKind};
 use syn_lower::attr::Attribute;
 use syn_lower::lifetime::Lifetime;
 use syn_tokens::token::{Break, Continue, Return, Yield};
@@ -48,4 +62,143 @@ pub struct ExprYieldOf<E> {
     pub yield_token: Yield,
     /// The value that is given.
     pub expr: Option<Box<E>>,
+}
+
+/// The value of a jump, if it has one.
+fn value<E, A>(value: &Option<Box<E>>) -> Operands<'_, E, A>
+    ensures { (tree : E → Tree) (arm : A → ArmView) → operands_of tree arm result ≡ operands_at (jump_with e.returning (boxed tree value.now)) }
+{
+    match value {
+        None => Operands::None,
+        Some(x) => Operands::One(x),
+    }
+}
+
+impl<E> ExprBreakOf<E> {
+    /// Its kind.
+    pub fn kind(&self) -> NodeKind
+        ensures { (tree : E → Tree) → result ≡ kind_at (expr_break_of tree self.now) }
+    {
+        match &self.expr {
+            None => NodeKind::Leaf(LeafKind::Break),
+            Some(_) => {
+                let labelled = self.label.is_some();
+                NodeKind::Lead(LeadKind::Break { labelled })
+            }
+        }
+    }
+
+    /// It, where it has no operand.
+    pub fn leaf(&self) -> Option<Leaf<'_>>
+        ensures { (tree : E → Tree) → mapped leaf_of result ≡ leaf_at (expr_break_of tree self.now) }
+    {
+        match &self.expr {
+            None => Some(Leaf::Jump(Jump::Break(&self.break_token, &self.label))),
+            Some(_) => None,
+        }
+    }
+
+    /// What stands before its operand, where it ends with one.
+    pub fn lead<P>(&self) -> Option<Lead<'_, P>>
+        ensures { (tree : E → Tree) (pat : P → PatView) → mapped (lead_seen pat) result ≡ lead_at (expr_break_of tree self.now) }
+    {
+        match &self.expr {
+            None => None,
+            Some(_) => Some(Lead::Jump(Jump::Break(&self.break_token, &self.label))),
+        }
+    }
+
+    /// Its operands.
+    pub fn operands<A>(&self) -> Operands<'_, E, A>
+        ensures { (tree : E → Tree) (arm : A → ArmView) → operands_of tree arm result ≡ operands_at (expr_break_of tree self.now) }
+    {
+        value(&self.expr)
+    }
+}
+
+impl ExprContinue {
+    /// It, as it is lent: all of it but its attributes.
+    pub fn leaf(&self) -> Leaf<'_>
+        ensures { Some (leaf_of result) ≡ leaf_at (expr_continue_of self.now) }
+    {
+        Leaf::Continue(&self.continue_token, &self.label)
+    }
+}
+
+impl<E> ExprReturnOf<E> {
+    /// Its kind.
+    pub fn kind(&self) -> NodeKind
+        ensures { (tree : E → Tree) → result ≡ kind_at (expr_return_of tree self.now) }
+    {
+        match &self.expr {
+            None => NodeKind::Leaf(LeafKind::Jump),
+            Some(_) => NodeKind::Lead(LeadKind::Jump),
+        }
+    }
+
+    /// It, where it has no operand.
+    pub fn leaf(&self) -> Option<Leaf<'_>>
+        ensures { (tree : E → Tree) → mapped leaf_of result ≡ leaf_at (expr_return_of tree self.now) }
+    {
+        match &self.expr {
+            None => Some(Leaf::Jump(Jump::Return(&self.return_token))),
+            Some(_) => None,
+        }
+    }
+
+    /// What stands before its operand, where it ends with one.
+    pub fn lead<P>(&self) -> Option<Lead<'_, P>>
+        ensures { (tree : E → Tree) (pat : P → PatView) → mapped (lead_seen pat) result ≡ lead_at (expr_return_of tree self.now) }
+    {
+        match &self.expr {
+            None => None,
+            Some(_) => Some(Lead::Jump(Jump::Return(&self.return_token))),
+        }
+    }
+
+    /// Its operands.
+    pub fn operands<A>(&self) -> Operands<'_, E, A>
+        ensures { (tree : E → Tree) (arm : A → ArmView) → operands_of tree arm result ≡ operands_at (expr_return_of tree self.now) }
+    {
+        value(&self.expr)
+    }
+}
+
+impl<E> ExprYieldOf<E> {
+    /// Its kind.
+    pub fn kind(&self) -> NodeKind
+        ensures { (tree : E → Tree) → result ≡ kind_at (expr_yield_of tree self.now) }
+    {
+        match &self.expr {
+            None => NodeKind::Leaf(LeafKind::Jump),
+            Some(_) => NodeKind::Lead(LeadKind::Jump),
+        }
+    }
+
+    /// It, where it has no operand.
+    pub fn leaf(&self) -> Option<Leaf<'_>>
+        ensures { (tree : E → Tree) → mapped leaf_of result ≡ leaf_at (expr_yield_of tree self.now) }
+    {
+        match &self.expr {
+            None => Some(Leaf::Jump(Jump::Yield(&self.yield_token))),
+            Some(_) => None,
+        }
+    }
+
+    /// What stands before its operand, where it ends with one.
+    pub fn lead<P>(&self) -> Option<Lead<'_, P>>
+        ensures { (tree : E → Tree) (pat : P → PatView) → mapped (lead_seen pat) result ≡ lead_at (expr_yield_of tree self.now) }
+    {
+        match &self.expr {
+            None => None,
+            Some(_) => Some(Lead::Jump(Jump::Yield(&self.yield_token))),
+        }
+    }
+
+    /// Its operands.
+    pub fn operands<A>(&self) -> Operands<'_, E, A>
+        ensures { (tree : E → Tree) (arm : A → ArmView) → operands_of tree arm result ≡ operands_at (expr_yield_of tree self.now) }
+    {
+        value(&self.expr)
+    }
 }

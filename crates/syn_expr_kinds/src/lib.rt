@@ -11,6 +11,5 @@ pub mod kinds;
 pub mod node;
 pub mod operation;
 pub mod pattern;
-pub mod shape;
 pub mod structure;
 pub mod trailer;

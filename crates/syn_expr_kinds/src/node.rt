@@ -2,11 +2,14 @@
 //! forty kinds. Nothing is copied: each part is lent. The attributes, the shape and the operands of a node are lent by
 //! calls of their own, since what is lent at once of so large a family of types has to be small for the prover.
 
-ghost use Rattle.std.specs.Prelude.{◌≡◌};
+ghost use Rattle.std.specs.Prelude.{◌≡◌, is_some};
 ghost use Rattle.syn_expr_kinds.specs.Node as spec;
+ghost use Rattle.syn_expr_notes.specs.Kind.{kind_at};
+ghost use Rattle.syn_lower.specs.View.{mapped};
 
 use crate::kinds::{HasArmView, HasExprTree};
 use crate::structure::FieldValueOf;
+use syn_expr_notes::kind::NodeKind;
 use syn_expr_parts::label::Label;
 use syn_expr_parts::member::Member;
 use syn_lower::attr::Attribute;
@@ -183,24 +186,6 @@ pub enum Frame<'a, P> {
     Group(&'a Group),
 }
 
-/// What a node is, but for its operands.
-pub enum Shape<'a, P> {
-    /// Closed at both ends, without an operand at an end or in a place of its own.
-    Leaf(Leaf<'a>),
-    /// In parentheses.
-    Paren(&'a Paren),
-    /// Tokens, then an operand.
-    Lead(Lead<'a, P>),
-    /// An operator between two operands.
-    Mid(Operator<'a>),
-    /// An operand, then tokens.
-    Post(Post<'a>),
-    /// A base with a trailer.
-    Tail(Trailer<'a>),
-    /// Operands in places of their own.
-    Frame(Frame<'a, P>),
-}
-
 /// The operands of a node from left to right, with the tokens between those of a frame.
 pub enum Operands<'a, E, A> {
     /// None.
@@ -245,12 +230,44 @@ pub trait HasNode: HasExprTree {
         ensures { spec.operands_of Self.tree Self.Arm.view result ≡ spec.operands_at (Self.tree self.now) };
 }
 
-/// The type of expressions, as one looks at them.
-pub trait HasShape: HasNode {
+/// The type of expressions, as one asks for their kinds.
+pub trait HasKind: HasExprTree {
+    /// The kind of a node, whatever attributes stand before it.
+    fn kind(&self) -> NodeKind
+        ensures { result ≡ kind_at (Self.tree self.now) };
+}
+
+/// The type of expressions, as one looks at them: what a node is but for its operands, lent by the shape that it has. Each
+/// shape has a call of its own, since what is lent at once of so large a family of types has to be small for the prover.
+pub trait HasShape: HasNode + HasKind {
     /// The type of patterns.
     type Pat: HasPatTree;
 
-    /// What a node is, but for its operands.
-    fn shape(&self) -> Shape<'_, Self::Pat>
-        ensures { spec.shape_of Self.Pat.view result ≡ spec.shape_at (Self.tree self.now) };
+    /// What is closed at both ends and holds no expression, or has no operand.
+    fn leaf(&self) -> Option<Leaf<'_>>
+        ensures { mapped spec.leaf_of result ≡ spec.leaf_at (Self.tree self.now) };
+
+    /// Parentheses.
+    fn paren(&self) -> Option<&Paren>
+        ensures { is_some result ≡ spec.is_paren (Self.tree self.now) };
+
+    /// What stands before an operand, with the guards in its patterns.
+    fn lead(&self) -> Option<Lead<'_, Self::Pat>>
+        ensures { mapped (spec.lead_seen Self.Pat.view) result ≡ spec.lead_at (Self.tree self.now) };
+
+    /// The operator between two operands.
+    fn operator(&self) -> Option<Operator<'_>>
+        ensures { mapped spec.operator_of result ≡ spec.operator_at (Self.tree self.now) };
+
+    /// What stands behind an operand.
+    fn post(&self) -> Option<Post<'_>>
+        ensures { mapped spec.post_of result ≡ spec.post_at (Self.tree self.now) };
+
+    /// The trailer behind its base.
+    fn trailer(&self) -> Option<Trailer<'_>>
+        ensures { mapped spec.trailer_of result ≡ spec.trailer_at (Self.tree self.now) };
+
+    /// What has its operands in places of their own, with the guards in its patterns.
+    fn frame(&self) -> Option<Frame<'_, Self::Pat>>
+        ensures { mapped (spec.frame_seen Self.Pat.view) result ≡ spec.frame_at (Self.tree self.now) };
 }

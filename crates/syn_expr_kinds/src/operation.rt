@@ -1,6 +1,21 @@
 //! Operators and their operands.
+#![tactic(auto, using(crate::proofs::Shapes::shapes))]
 
+ghost use Rattle.std.specs.Prelude.{◌≡◌, Some};
+ghost use Rattle.syn_grammar.specs.Tree.{Tree};
+ghost use Rattle.syn_lower.specs.View.{mapped};
+ghost use Rattle.syn_pat_kinds.specs.View.{PatView};
+ghost use Rattle.syn_expr_kinds.specs.Node.{lead_at, lead_seen, leaf_at, leaf_of, operands_at, operands_of, operator_at, operator_of, post_at, post_of};
+ghost use Rattle.syn_expr_kinds.specs.Pats.{ArmView};
+ghost use Rattle.syn_expr_kinds.specs.View.{expr_assign_of, expr_binary_of, expr_cast_of, expr_range_of, expr_raw_addr_of, expr_reference_of, expr_unary_of};
+ghost use Rattle.syn_expr_notes.specs.Kind.{kind_at};
+
+use crate::node::{Lead, Leaf, Operands, Operator, Post};
+use syn_expr_notes::kind::NodeKind;
+use syn_expr_notes::label::{LeadKind, LeafKind, PostKind};
+use syn_grammar::kinds::Infix;
 use syn_lower::attr::Attribute;
+use syn_lower::ends_open;
 use syn_lower::ty::{PointerMutability, Type};
 use syn_op::limits::RangeLimits;
 use syn_op::op::{BinOp, UnOp};
@@ -96,4 +111,182 @@ pub struct ExprUnaryOf<E> {
     pub op: UnOp,
     /// The operand.
     pub expr: Box<E>,
+}
+
+impl<E> ExprAssignOf<E> {
+    /// Its operator.
+    pub fn operator(&self) -> Operator<'_>
+        ensures { (tree : E → Tree) → Some (operator_of result) ≡ operator_at (expr_assign_of tree self.now) }
+    {
+        Operator::Assign(&self.eq_token)
+    }
+
+    /// Its operands.
+    pub fn operands<A>(&self) -> Operands<'_, E, A>
+        ensures { (tree : E → Tree) (arm : A → ArmView) → operands_of tree arm result ≡ operands_at (expr_assign_of tree self.now) }
+    {
+        Operands::Two(&self.left, &self.right)
+    }
+}
+
+impl<E> ExprBinaryOf<E> {
+    /// Its kind.
+    pub fn kind(&self) -> NodeKind
+        ensures { (tree : E → Tree) → result ≡ kind_at (expr_binary_of tree self.now) }
+    {
+        NodeKind::Mid(Infix::Binary(self.op.kind()))
+    }
+
+    /// Its operator.
+    pub fn operator(&self) -> Operator<'_>
+        ensures { (tree : E → Tree) → Some (operator_of result) ≡ operator_at (expr_binary_of tree self.now) }
+    {
+        Operator::Binary(&self.op)
+    }
+
+    /// Its operands.
+    pub fn operands<A>(&self) -> Operands<'_, E, A>
+        ensures { (tree : E → Tree) (arm : A → ArmView) → operands_of tree arm result ≡ operands_at (expr_binary_of tree self.now) }
+    {
+        Operands::Two(&self.left, &self.right)
+    }
+}
+
+impl<E> ExprCastOf<E> {
+    /// Its kind.
+    pub fn kind(&self) -> NodeKind
+        ensures { (tree : E → Tree) → result ≡ kind_at (expr_cast_of tree self.now) }
+    {
+        let ends_open = ends_open(&self.ty);
+        NodeKind::Post(PostKind::Cast { ends_open })
+    }
+
+    /// What stands behind its operand.
+    pub fn post(&self) -> Post<'_>
+        ensures { (tree : E → Tree) → Some (post_of result) ≡ post_at (expr_cast_of tree self.now) }
+    {
+        Post::Cast(&self.as_token, &self.ty)
+    }
+
+    /// Its operands.
+    pub fn operands<A>(&self) -> Operands<'_, E, A>
+        ensures { (tree : E → Tree) (arm : A → ArmView) → operands_of tree arm result ≡ operands_at (expr_cast_of tree self.now) }
+    {
+        Operands::One(&self.expr)
+    }
+}
+
+impl<E> ExprRangeOf<E> {
+    /// Its kind.
+    pub fn kind(&self) -> NodeKind
+        ensures { (tree : E → Tree) → result ≡ kind_at (expr_range_of tree self.now) }
+    {
+        let limits = self.limits.kind();
+        match (&self.start, &self.end) {
+            (None, None) => NodeKind::Leaf(LeafKind::FullRange),
+            (None, Some(_)) => NodeKind::Lead(LeadKind::RangeTo(limits)),
+            (Some(_), None) => NodeKind::Post(PostKind::RangeFrom(limits)),
+            (Some(_), Some(_)) => NodeKind::Mid(Infix::Range(limits)),
+        }
+    }
+
+    /// It, where it has no operand.
+    pub fn leaf(&self) -> Option<Leaf<'_>>
+        ensures { (tree : E → Tree) → mapped leaf_of result ≡ leaf_at (expr_range_of tree self.now) }
+    {
+        match (&self.start, &self.end) {
+            (None, None) => Some(Leaf::Range(&self.limits)),
+            _ => None,
+        }
+    }
+
+    /// What stands before its operand, where it ends with one.
+    pub fn lead<P>(&self) -> Option<Lead<'_, P>>
+        ensures { (tree : E → Tree) (pat : P → PatView) → mapped (lead_seen pat) result ≡ lead_at (expr_range_of tree self.now) }
+    {
+        match (&self.start, &self.end) {
+            (None, Some(_)) => Some(Lead::Range(&self.limits)),
+            _ => None,
+        }
+    }
+
+    /// What stands behind its operand, where it begins with one.
+    pub fn post(&self) -> Option<Post<'_>>
+        ensures { (tree : E → Tree) → mapped post_of result ≡ post_at (expr_range_of tree self.now) }
+    {
+        match (&self.start, &self.end) {
+            (Some(_), None) => Some(Post::Range(&self.limits)),
+            _ => None,
+        }
+    }
+
+    /// Its operator, where it has two operands.
+    pub fn operator(&self) -> Option<Operator<'_>>
+        ensures { (tree : E → Tree) → mapped operator_of result ≡ operator_at (expr_range_of tree self.now) }
+    {
+        match (&self.start, &self.end) {
+            (Some(_), Some(_)) => Some(Operator::Range(&self.limits)),
+            _ => None,
+        }
+    }
+
+    /// Its operands.
+    pub fn operands<A>(&self) -> Operands<'_, E, A>
+        ensures { (tree : E → Tree) (arm : A → ArmView) → operands_of tree arm result ≡ operands_at (expr_range_of tree self.now) }
+    {
+        match (&self.start, &self.end) {
+            (None, None) => Operands::None,
+            (None, Some(y)) => Operands::One(y),
+            (Some(x), None) => Operands::One(x),
+            (Some(x), Some(y)) => Operands::Two(x, y),
+        }
+    }
+}
+
+impl<E> ExprRawAddrOf<E> {
+    /// What stands before its operand.
+    pub fn lead<P>(&self) -> Lead<'_, P>
+        ensures { (tree : E → Tree) (pat : P → PatView) → Some (lead_seen pat result) ≡ lead_at (expr_raw_addr_of tree self.now) }
+    {
+        Lead::RawAddr(&self.and_token, &self.raw, &self.mutability)
+    }
+
+    /// Its operands.
+    pub fn operands<A>(&self) -> Operands<'_, E, A>
+        ensures { (tree : E → Tree) (arm : A → ArmView) → operands_of tree arm result ≡ operands_at (expr_raw_addr_of tree self.now) }
+    {
+        Operands::One(&self.expr)
+    }
+}
+
+impl<E> ExprReferenceOf<E> {
+    /// What stands before its operand.
+    pub fn lead<P>(&self) -> Lead<'_, P>
+        ensures { (tree : E → Tree) (pat : P → PatView) → Some (lead_seen pat result) ≡ lead_at (expr_reference_of tree self.now) }
+    {
+        Lead::Reference(&self.and_token, &self.mutability)
+    }
+
+    /// Its operands.
+    pub fn operands<A>(&self) -> Operands<'_, E, A>
+        ensures { (tree : E → Tree) (arm : A → ArmView) → operands_of tree arm result ≡ operands_at (expr_reference_of tree self.now) }
+    {
+        Operands::One(&self.expr)
+    }
+}
+
+impl<E> ExprUnaryOf<E> {
+    /// What stands before its operand.
+    pub fn lead<P>(&self) -> Lead<'_, P>
+        ensures { (tree : E → Tree) (pat : P → PatView) → Some (lead_seen pat result) ≡ lead_at (expr_unary_of tree self.now) }
+    {
+        Lead::Unary(&self.op)
+    }
+
+    /// Its operands.
+    pub fn operands<A>(&self) -> Operands<'_, E, A>
+        ensures { (tree : E → Tree) (arm : A → ArmView) → operands_of tree arm result ≡ operands_at (expr_unary_of tree self.now) }
+    {
+        Operands::One(&self.expr)
+    }
 }

@@ -1,5 +1,14 @@
 //! Struct expressions and their fields.
+#![tactic(auto, using(crate::proofs::Shapes::shapes))]
 
+ghost use Rattle.std.specs.Prelude.{◌≡◌, Some};
+ghost use Rattle.syn_grammar.specs.Tree.{Tree};
+ghost use Rattle.syn_pat_kinds.specs.View.{PatView};
+ghost use Rattle.syn_expr_kinds.specs.Node.{frame_at, frame_seen, operands_at, operands_of};
+ghost use Rattle.syn_expr_kinds.specs.Pats.{ArmView};
+ghost use Rattle.syn_expr_kinds.specs.View.{expr_struct_of};
+
+use crate::node::{Frame, Operands};
 use syn_expr_parts::member::Member;
 use syn_lower::attr::Attribute;
 use syn_lower::path::{Path, QSelf};
@@ -36,4 +45,25 @@ pub struct FieldValueOf<E> {
     pub colon_token: Option<Colon>,
     /// The value.
     pub expr: E,
+}
+
+impl<E> ExprStructOf<E> {
+    /// What it is, but for its operands.
+    pub fn frame<P>(&self) -> Frame<'_, P>
+        ensures { (tree : E → Tree) (pat : P → PatView) → Some (frame_seen pat result) ≡ frame_at (expr_struct_of tree self.now) }
+    {
+        Frame::Struct(
+            &self.qself,
+            &self.path,
+            &self.brace_token,
+            self.dot2_token.is_some() && self.rest.is_none(),
+        )
+    }
+
+    /// Its operands.
+    pub fn operands<A>(&self) -> Operands<'_, E, A>
+        ensures { (tree : E → Tree) (arm : A → ArmView) → operands_of tree arm result ≡ operands_at (expr_struct_of tree self.now) }
+    {
+        Operands::Fields(&self.fields, &self.dot2_token, &self.rest)
+    }
 }

@@ -1,5 +1,16 @@
 //! What stands behind an operand: calls, indices, fields, `.await` and `?`.
+#![tactic(auto, using(crate::proofs::Shapes::shapes))]
 
+ghost use Rattle.std.specs.Prelude.{◌≡◌, Some};
+ghost use Rattle.syn_grammar.specs.Tree.{Tree};
+ghost use Rattle.syn_expr_kinds.specs.Node.{operands_at, operands_of, trailer_at, trailer_of};
+ghost use Rattle.syn_expr_kinds.specs.Pats.{ArmView};
+ghost use Rattle.syn_expr_kinds.specs.View.{expr_await_of, expr_call_of, expr_field_of, expr_index_of, expr_method_call_of, expr_try_of};
+ghost use Rattle.syn_expr_notes.specs.Kind.{kind_at};
+
+use crate::node::{Operands, Trailer};
+use syn_expr_notes::kind::NodeKind;
+use syn_expr_notes::label::TrailerKind;
 use syn_expr_parts::member::Member;
 use syn_lower::attr::Attribute;
 use syn_lower::path::AngleBracketedGenericArguments;
@@ -87,4 +98,113 @@ pub struct ExprTryOf<E> {
     pub expr: Box<E>,
     /// `?`
     pub question_token: Question,
+}
+
+impl<E> ExprAwaitOf<E> {
+    /// Its trailer.
+    pub fn trailer(&self) -> Trailer<'_>
+        ensures { (tree : E → Tree) → Some (trailer_of result) ≡ trailer_at (expr_await_of tree self.now) }
+    {
+        Trailer::Await(&self.dot_token, &self.await_token)
+    }
+
+    /// Its operands.
+    pub fn operands<A>(&self) -> Operands<'_, E, A>
+        ensures { (tree : E → Tree) (arm : A → ArmView) → operands_of tree arm result ≡ operands_at (expr_await_of tree self.now) }
+    {
+        Operands::One(&self.base)
+    }
+}
+
+impl<E> ExprCallOf<E> {
+    /// Its trailer.
+    pub fn trailer(&self) -> Trailer<'_>
+        ensures { (tree : E → Tree) → Some (trailer_of result) ≡ trailer_at (expr_call_of tree self.now) }
+    {
+        Trailer::Call(&self.paren_token)
+    }
+
+    /// Its operands.
+    pub fn operands<A>(&self) -> Operands<'_, E, A>
+        ensures { (tree : E → Tree) (arm : A → ArmView) → operands_of tree arm result ≡ operands_at (expr_call_of tree self.now) }
+    {
+        Operands::Call(&self.func, &self.args)
+    }
+}
+
+impl<E> ExprFieldOf<E> {
+    /// Its kind.
+    pub fn kind(&self) -> NodeKind
+        ensures { (tree : E → Tree) → result ≡ kind_at (expr_field_of tree self.now) }
+    {
+        let named = matches!(self.member, Member::Named(_));
+        NodeKind::Tail(TrailerKind::Field { named })
+    }
+
+    /// Its trailer.
+    pub fn trailer(&self) -> Trailer<'_>
+        ensures { (tree : E → Tree) → Some (trailer_of result) ≡ trailer_at (expr_field_of tree self.now) }
+    {
+        Trailer::Field(&self.dot_token, &self.member)
+    }
+
+    /// Its operands.
+    pub fn operands<A>(&self) -> Operands<'_, E, A>
+        ensures { (tree : E → Tree) (arm : A → ArmView) → operands_of tree arm result ≡ operands_at (expr_field_of tree self.now) }
+    {
+        Operands::One(&self.base)
+    }
+}
+
+impl<E> ExprIndexOf<E> {
+    /// Its trailer.
+    pub fn trailer(&self) -> Trailer<'_>
+        ensures { (tree : E → Tree) → Some (trailer_of result) ≡ trailer_at (expr_index_of tree self.now) }
+    {
+        Trailer::Index(&self.bracket_token)
+    }
+
+    /// Its operands.
+    pub fn operands<A>(&self) -> Operands<'_, E, A>
+        ensures { (tree : E → Tree) (arm : A → ArmView) → operands_of tree arm result ≡ operands_at (expr_index_of tree self.now) }
+    {
+        Operands::Index(&self.expr, &self.index)
+    }
+}
+
+impl<E> ExprMethodCallOf<E> {
+    /// Its trailer.
+    pub fn trailer(&self) -> Trailer<'_>
+        ensures { (tree : E → Tree) → Some (trailer_of result) ≡ trailer_at (expr_method_call_of tree self.now) }
+    {
+        Trailer::Method(
+            &self.dot_token,
+            &self.method,
+            &self.turbofish,
+            &self.paren_token,
+        )
+    }
+
+    /// Its operands.
+    pub fn operands<A>(&self) -> Operands<'_, E, A>
+        ensures { (tree : E → Tree) (arm : A → ArmView) → operands_of tree arm result ≡ operands_at (expr_method_call_of tree self.now) }
+    {
+        Operands::Call(&self.receiver, &self.args)
+    }
+}
+
+impl<E> ExprTryOf<E> {
+    /// Its trailer.
+    pub fn trailer(&self) -> Trailer<'_>
+        ensures { (tree : E → Tree) → Some (trailer_of result) ≡ trailer_at (expr_try_of tree self.now) }
+    {
+        Trailer::Try(&self.question_token)
+    }
+
+    /// Its operands.
+    pub fn operands<A>(&self) -> Operands<'_, E, A>
+        ensures { (tree : E → Tree) (arm : A → ArmView) → operands_of tree arm result ≡ operands_at (expr_try_of tree self.now) }
+    {
+        Operands::One(&self.expr)
+    }
 }

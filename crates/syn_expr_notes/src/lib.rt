@@ -5,6 +5,7 @@
 pub mod class;
 pub mod context;
 pub mod decide;
+pub mod kind;
 pub mod label;
 pub mod note;
 pub mod set;

@@ -2,6 +2,7 @@
 //! puncts, as in syn. Their names stand in syn's modules, and here at the root too.
 #![tactic(auto)]
 
+pub mod ends;
 pub mod generics;
 mod kinds;
 pub mod mac;
@@ -12,6 +13,7 @@ pub mod readers;
 pub mod stmt;
 pub mod ty;
 
+pub use ends::ends_open;
 pub use mac::{Macro, MacroDelimiter};
 pub use path::{
     AngleBracketedGenericArguments, AssocType, GenericArgument, ParenthesizedGenericArguments,

@@ -1,1 +1,4 @@
 pub mod Loops
+pub mod Args
+pub mod Paths
+pub mod Rests

@@ -119,7 +119,7 @@ pub fn literal<P: IsPat>(input: &mut ParseBuffer<'_>) -> Result<P>
 impl<P: ReadPat + Drop, F: Fn(&mut ParseBuffer<'_>, bool) -> Result<P>> Grammar<F> {
     /// Reads a pattern into a box.
     #[tactic(auto)]
-    fn inner(&self, input: &mut ParseBuffer<'_>, multi: bool) -> Result<Box<P>>
+    pub(crate) fn inner(&self, input: &mut ParseBuffer<'_>, multi: bool) -> Result<Box<P>>
         requires callable { Callable (weight input.old.rest + 1) (F.pre self.now.pat) }
         requires reads { ReadsPat P.view (F.post self.now.pat) }
         ensures value { Reads (λ x. (P.view x.value).tree) ((pat.pattern multi).reads input.old.rest) result input.new.rest }
@@ -195,7 +195,7 @@ impl<P: ReadPat + Drop, F: Fn(&mut ParseBuffer<'_>, bool) -> Result<P>> Grammar<
 
     /// Reads patterns with commas between, to the end of a group.
     #[tactic(auto, using(crate::proofs::Loops::patterns))]
-    fn elems(&self, input: &mut ParseBuffer<'_>) -> Result<Punctuated<P, Comma>>
+    pub(crate) fn elems(&self, input: &mut ParseBuffer<'_>) -> Result<Punctuated<P, Comma>>
         requires callable { Callable (weight input.old.rest + 1) (F.pre self.now.pat) }
         requires reads { ReadsPat P.view (F.post self.now.pat) }
         ensures value { Reads (λ p. (map (λ x. (P.view x).tree) (view.values p), view.trails p)) ((form.listed mark.comma front_spec.is_empty (pat.pattern true)).reads input.old.rest) result input.new.rest }

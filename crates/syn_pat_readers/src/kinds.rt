@@ -2,7 +2,10 @@
 
 ghost use Rattle.std.specs.Prelude.{◌≡◌};
 ghost use Rattle.syn_parts.specs.Pat as pat;
+ghost use Rattle.syn_pat_kinds.specs.View.{view_with};
+ghost use Rattle.syn_pat_readers.specs.Reads.{unattributed};
 
+use syn_lower::attr::Attribute;
 use syn_pat_kinds::kinds::IsPat;
 
 /// A type of patterns that readers read.
@@ -10,4 +13,8 @@ pub trait ReadPat: IsPat {
     /// Whether it is `..` alone, without attributes.
     fn is_rest(&self) -> bool
         ensures { result ≡ pat.is_rest (Self.view self.now).tree };
+
+    /// The pattern with these attributes in the place of its own.
+    fn with_attrs(self, attrs: Vec<Attribute>) -> Self
+        ensures { Self.view result ≡ view_with attrs (unattributed (Self.view self).tree) (Self.view self).guards };
 }

@@ -5,7 +5,9 @@
 //! refused; and as `UnexpectedToken` at what is left in a group.
 #![tactic(auto)]
 
+pub mod choice;
 pub mod front;
 pub mod grammar;
 pub mod kinds;
+mod path;
 pub mod range;

@@ -1,0 +1,140 @@
+//! What is lent of an expression that holds patterns.
+
+ghost use Rattle.std.specs.Prelude.{◌≡◌, Some};
+ghost use Rattle.syn_expr_kinds.specs.Node as spec;
+ghost use Rattle.syn_expr_notes.specs.Kind.{kind_at};
+ghost use Rattle.syn_lower.specs.View.{mapped};
+ghost use Rattle.syn_expr_all.specs.View.{tree_of, pat_of, arm_of, closure_of, for_loop_of, binding_of, choice_of};
+
+use crate::closure::ExprClosure;
+use crate::control::{Arm, ExprForLoop, ExprLet, ExprMatch};
+use crate::expr::Expr;
+use crate::pat::Pat;
+use syn_expr_kinds::node::{Braces, Closure, Frame, Lead, Operands};
+use syn_expr_notes::kind::NodeKind;
+use syn_expr_notes::label::{FrameKind, LeadKind};
+use syn_lower::ty::ReturnType;
+
+#[tactic(auto, using(crate::proofs::TreeOf::members, syn_expr_kinds::proofs::Shapes::shapes))]
+impl ExprClosure {
+    /// Its kind: with an output its body is a block of its own.
+    pub fn kind(&self) -> NodeKind
+        ensures { result ≡ kind_at (closure_of self.now) }
+    {
+        match &self.output {
+            ReturnType::Default => NodeKind::Lead(LeadKind::Closure),
+            ReturnType::Given(_, _) => NodeKind::Frame(FrameKind::Other),
+        }
+    }
+
+    /// What stands before its body, where it has no output.
+    pub fn lead(&self) -> Option<Lead<'_, Pat>>
+        ensures { mapped (spec.lead_seen pat_of) result ≡ spec.lead_at (closure_of self.now) }
+    {
+        match &self.output {
+            ReturnType::Default => Some(Lead::Closure(Closure {
+                lifetimes: &self.lifetimes,
+                constness: &self.constness,
+                asyncness: &self.asyncness,
+                capture: &self.capture,
+                inputs_begin: &self.inputs_begin,
+                inputs: &self.inputs,
+                inputs_end: &self.inputs_end,
+                output: &self.output,
+            })),
+            ReturnType::Given(_, _) => None,
+        }
+    }
+
+    /// What it is but for its body, where it has an output.
+    pub fn frame(&self) -> Option<Frame<'_, Pat>>
+        ensures { mapped (spec.frame_seen pat_of) result ≡ spec.frame_at (closure_of self.now) }
+    {
+        match &self.output {
+            ReturnType::Default => None,
+            ReturnType::Given(_, _) => Some(Frame::Closure(Closure {
+                lifetimes: &self.lifetimes,
+                constness: &self.constness,
+                asyncness: &self.asyncness,
+                capture: &self.capture,
+                inputs_begin: &self.inputs_begin,
+                inputs: &self.inputs,
+                inputs_end: &self.inputs_end,
+                output: &self.output,
+            })),
+        }
+    }
+
+    /// Its body.
+    pub fn operands(&self) -> Operands<'_, Expr, Arm>
+        ensures { spec.operands_of tree_of arm_of result ≡ spec.operands_at (closure_of self.now) }
+    {
+        match &self.output {
+            ReturnType::Default => Operands::One(&self.body),
+            ReturnType::Given(_, _) => Operands::Body(&self.body),
+        }
+    }
+}
+
+#[tactic(auto, using(crate::proofs::TreeOf::members, syn_expr_kinds::proofs::Shapes::shapes))]
+impl ExprForLoop {
+    /// Its kind.
+    pub fn kind(&self) -> NodeKind
+        ensures { result ≡ kind_at (for_loop_of self.now) }
+    {
+        let labelled = self.label.is_some();
+        NodeKind::Frame(FrameKind::BlockLike { labelled })
+    }
+
+    /// What it is, but for its operand.
+    pub fn frame(&self) -> Frame<'_, Pat>
+        ensures { Some (spec.frame_seen pat_of result) ≡ spec.frame_at (for_loop_of self.now) }
+    {
+        Frame::ForLoop(&self.label, &self.for_token, &self.pat, &self.in_token)
+    }
+
+    /// What gives its values, and its block.
+    pub fn operands(&self) -> Operands<'_, Expr, Arm>
+        ensures { spec.operands_of tree_of arm_of result ≡ spec.operands_at (for_loop_of self.now) }
+    {
+        let body = Braces {
+            attrs: &self.attrs,
+            block: &self.body,
+        };
+        Operands::Loop(&self.expr, body)
+    }
+}
+
+#[tactic(auto, using(crate::proofs::TreeOf::members, syn_expr_kinds::proofs::Shapes::shapes))]
+impl ExprLet {
+    /// What stands before its operand.
+    pub fn lead(&self) -> Lead<'_, Pat>
+        ensures { Some (spec.lead_seen pat_of result) ≡ spec.lead_at (binding_of self.now) }
+    {
+        Lead::Let(&self.let_token, &self.pat, &self.eq_token)
+    }
+
+    /// What is to match its pattern.
+    pub fn operands(&self) -> Operands<'_, Expr, Arm>
+        ensures { spec.operands_of tree_of arm_of result ≡ spec.operands_at (binding_of self.now) }
+    {
+        Operands::One(&self.expr)
+    }
+}
+
+#[tactic(auto, using(crate::proofs::TreeOf::members, syn_expr_kinds::proofs::Shapes::shapes))]
+impl ExprMatch {
+    /// What it is, but for what it looks at and its arms.
+    pub fn frame(&self) -> Frame<'_, Pat>
+        ensures { Some (spec.frame_seen pat_of result) ≡ spec.frame_at (choice_of self.now) }
+    {
+        Frame::Match(&self.match_token, &self.brace_token)
+    }
+
+    /// What it looks at, and its arms.
+    pub fn operands(&self) -> Operands<'_, Expr, Arm>
+        ensures { spec.operands_of tree_of arm_of result ≡ spec.operands_at (choice_of self.now) }
+    {
+        Operands::Arms(&self.expr, &self.attrs, &self.arms)
+    }
+}

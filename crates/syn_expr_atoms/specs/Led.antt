@@ -1,0 +1,26 @@
+-- What is read behind what stands before an operand, by what that is.
+use Rattle.std.specs.Prelude.{if◌then◌else◌, Some}
+use Rattle.syn_parts.specs.Form.{and_then}
+use Rattle.syn_lexer.specs.declared.lexeme.Delimiter.TheVariants as del
+use Rattle.syn_tokens.specs.Front.{group_at}
+use Rattle.syn_grammar.specs.declared.kinds.Place.{Place}
+use Rattle.syn_grammar.specs.Tree as e
+use Rattle.syn_grammar.specs.Tree.{Tree, Lead, Leaf, ClosureHead, lead, none, plain_block}
+use Rattle.syn_grammar.specs.Stands.{lead_stands, lead_place}
+use Rattle.syn_grammar.specs.Read.{Reading, ◌<$>◌, expr, standing, framed_by}
+
+-- its operand
+abbrev pub behind : Place → Lead → Reading Tree
+behind p k = lead k none <$> expr (lead_place p k)
+
+-- its operand, or nothing, where it is a leaf without one
+abbrev pub behind_or : Place → Lead → Leaf → Reading Tree
+behind_or p k x m = if lead_stands p k m then behind p k m else standing p x m
+
+-- the body of a closure: an operand, or behind an output a block
+abbrev pub body_of : Place → ClosureHead → Reading Tree
+body_of p h m = if lead_stands p (e.closure h) m then behind p (e.closure h) m else framed_by expr p (e.closure_block h) m
+
+-- a block that keeps its tokens
+abbrev pub block : Reading Tree
+block l = and_then (group_at del.Brace l) (λ i n. Some (plain_block i, n))

@@ -1,0 +1,47 @@
+//! The readers of leaves: what is closed at both ends and holds no expression (Rust Reference, "Expressions").
+
+ghost use Rattle.std.specs.Prelude.{◌≡◌, ◌≤◌, true};
+ghost use Rattle.syn_expr_atoms.specs.Inner.{has_inner};
+ghost use Rattle.syn_expr_heads.specs.View.{leaf_of};
+ghost use Rattle.syn_grammar.specs.Read as read;
+ghost use Rattle.syn_lower_leaves.specs.Reads.{Reads};
+ghost use Rattle.syn_tokens.specs.Tok.{weight};
+
+use crate::made::leaf_expr;
+use crate::stands::leaf_stands;
+use syn_expr_heads::leaf::leaf as leaf_head;
+use syn_expr_heads::types::LeafHead;
+use syn_expr_kinds::kinds::IsExpr;
+use syn_grammar::kinds::Place;
+use syn_tokens::buffer::ParseBuffer;
+use syn_tokens::error::{ErrorKind, Result};
+
+/// Makes an expression of a leaf that was read, where it stands before what is left. It is refused as `UnexpectedToken` where
+/// the next token goes on it: a brace behind a path, `#` behind `builtin`, the value of a jump, the end of a range.
+pub fn standing<E: IsExpr + Drop>(
+    input: &ParseBuffer<'_>,
+    place: Place,
+    leaf: LeafHead,
+) -> Result<Box<E>>
+    requires inner { has_inner (leaf_of leaf) ≡ true }
+    ensures { Reads (λ b. E.tree b.value) (read.standing place (leaf_of leaf) input.now.rest) result input.now.rest }
+{
+    if !leaf_stands(input, place, &leaf) {
+        return Err(input.error(ErrorKind::UnexpectedToken));
+    }
+    let alloc = input.alloc();
+    Ok(Box::new(alloc, leaf_expr(alloc, leaf))?)
+}
+
+/// Reads a leaf, by what stands first (Rust Reference, "Literal expressions", "Underscore expressions", "Block expressions",
+/// "Infinite loops", "`continue` expressions"). It is refused as `syn_expr_heads::leaf::leaf` refuses it, and as
+/// `UnexpectedToken` where the next token goes on it.
+#[tactic(auto, using(crate::proofs::Inner::leaf_inner), unfolding(syn_grammar::specs::Read::leaf_read))]
+pub fn leaf<E: IsExpr + Drop>(input: &mut ParseBuffer<'_>, place: Place) -> Result<Box<E>>
+    ensures value { Reads (λ b. E.tree b.value) (read.leaf_read place input.old.rest) result input.new.rest }
+    ensures noted { input.new.noted ≡ input.old.noted }
+    ensures shrinks { weight input.new.rest ≤ weight input.old.rest }
+{
+    let leaf = leaf_head(input)?;
+    standing(input, place, leaf)
+}

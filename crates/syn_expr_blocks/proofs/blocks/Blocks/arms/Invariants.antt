@@ -1,0 +1,15 @@
+use Rattle.std.proofs.Common.{◌≡◌, ◌≤◌, map}
+use Rattle.syn_tokens.specs.Tok.{weight}
+use Rattle.syn_grammar.specs.Read.{expr, bare_operands}
+use Rattle.syn_grammar.specs.Slot as slot
+use Rattle.syn_expr_blocks.specs.Parts.{arms_behind}
+use Rattle.syn_expr_blocks.proofs.blocks.Blocks.arms.Given as goal
+
+abbrev pub invariant-arms : goal.invariant-arms
+invariant-arms g l = record {
+  value : bare_operands expr slot.arms l.fn.input.rest ≡ arms_behind (map g.E.Arm.HasArmView.view l.found.items) l.input.rest;
+  shrinks : weight l.input.rest ≤ weight l.fn.input.rest;
+}
+
+abbrev pub decreases-arms : goal.decreases-arms
+decreases-arms g l = weight l.input.rest

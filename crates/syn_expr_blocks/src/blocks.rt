@@ -1,0 +1,335 @@
+//! The readers of `if`, of loops with a head and of `match` (Rust Reference, "`if` expressions", "Loop expressions", "Match
+//! expressions").
+//!
+//! They are methods that take the reader of the expressions inside as a function, so that each is proved by itself; a crate
+//! above ties the knot.
+
+ghost use Rattle.std.specs.Prelude.{◌≡◌, ◌≤◌, ◌+◌, [], map, IfOk};
+ghost use Rattle.syn_expr_blocks.specs.Parts as parts;
+ghost use Rattle.syn_expr_ends.specs.Reads.{Callable, ReadsExpr};
+ghost use Rattle.syn_expr_kinds.specs.Attrs.{attrs_of};
+ghost use Rattle.syn_expr_kinds.specs.Pats as pats;
+ghost use Rattle.syn_expr_kinds.specs.View as of;
+ghost use Rattle.syn_expr_parts.specs.View.{label_of};
+ghost use Rattle.syn_grammar.specs.Read as read;
+ghost use Rattle.syn_grammar.specs.Slot as slot;
+ghost use Rattle.syn_grammar.specs.Tree as e;
+ghost use Rattle.syn_lower_leaves.specs.Reads.{Reads};
+ghost use Rattle.syn_lower_leaves.specs.View.{mapped};
+ghost use Rattle.syn_parts.specs.Form as form;
+ghost use Rattle.syn_tokens.specs.Tok.{weight};
+
+use crate::head::{arm_head, for_head};
+use std::alloc::{AllocError, Global};
+use syn_expr_ends::kinds::ReadPats;
+use syn_expr_ends::like::is_block_like;
+use syn_expr_heads::ending::{behind_arm, behind_condition, behind_loop_head, guarded};
+use syn_expr_heads::label::maybe_label;
+use syn_expr_heads::types::ArmHead;
+use syn_expr_heads::word::{else_word, if_word, while_word};
+use syn_expr_kinds::block::{ExprBlock, ExprIfOf, ExprWhileOf};
+use syn_expr_kinds::kinds::IsExpr;
+use syn_expr_kinds::node::HasKind;
+use syn_expr_kinds::pattern::{ArmOf, ExprForLoopOf, ExprMatchOf, PatGuardOf};
+use syn_expr_parts::label::Label;
+use syn_grammar::kinds::{Level, Place};
+use syn_lower_leaves::attr::Attribute;
+use syn_lower_leaves::kept::{block, inner_attributes};
+use syn_tokens::buffer::ParseBuffer;
+use syn_tokens::error::Result;
+use syn_tokens::token::{Else, FatArrow, If, Match, While};
+
+/// Before the block of an `if` or a loop and the arms of a `match`.
+const BEFORE_BLOCK: Place = Place {
+    level: Level::Jump,
+    condition: true,
+    head: false,
+};
+
+/// The body of an arm.
+const AT_HEAD: Place = Place {
+    level: Level::Jump,
+    condition: false,
+    head: true,
+};
+
+/// The guard of an arm.
+const PLAIN: Place = Place {
+    level: Level::Jump,
+    condition: false,
+    head: false,
+};
+
+/// The readers over that of the expressions inside.
+#[derive(Clone, Copy)]
+pub struct Blocks<F> {
+    /// Reads an expression at a place.
+    pub expr: F,
+}
+
+/// A value in a box.
+fn boxed<T: Drop>(alloc: Global, x: T) -> std::result::Result<Box<T>, AllocError>
+    ensures { IfOk result (λ b. b.value ≡ x) }
+{
+    Ok(Box::new(alloc, x)?)
+}
+
+/// Reads a block, as an expression.
+#[tactic(auto, unfolding(syn_parts::specs::Part::block, syn_parts::specs::Part::kept, syn_expr_kinds::specs::Attrs::outer_of, syn_expr_kinds::specs::Attrs::inner_of))]
+fn kept_block<E: IsExpr + Drop>(input: &mut ParseBuffer<'_>) -> Result<Box<E>>
+    ensures value { Reads (λ x. E.tree x.value) (parts.kept_block input.old.rest) result input.new.rest }
+    ensures noted { input.new.noted ≡ input.old.noted }
+    ensures shrinks { weight input.new.rest ≤ weight input.old.rest }
+{
+    let block = block(input)?;
+    let alloc = input.alloc();
+    let x = E::block(ExprBlock {
+        attrs: Vec::new(alloc),
+        label: None,
+        block,
+    });
+    Ok(boxed(alloc, x)?)
+}
+
+impl<E: IsExpr + HasKind + Drop, F: Fn(&mut ParseBuffer<'_>, Place) -> Result<Box<E>>> Blocks<F>
+where
+    E::Pat: ReadPats + Drop,
+    E::Arm: Drop,
+{
+    /// Reads an `if` behind its word.
+    #[cycle(chain)]
+    #[tactic(auto, using(crate::proofs::Parts::branches), unfolding(syn_expr_kinds::specs::Attrs::attrs_of))]
+    fn chain(&self, input: &mut ParseBuffer<'_>, if_token: If) -> Result<Box<E>>
+        requires callable { Callable (weight input.old.rest + 1) (F.pre self.now.expr) }
+        requires reads { ReadsExpr E.tree (F.post self.now.expr) }
+        ensures value { Reads (λ x. E.tree x.value) (parts.branch input.old.rest) result input.new.rest }
+        ensures noted { input.new.noted ≡ input.old.noted }
+        ensures shrinks { weight input.new.rest ≤ weight input.old.rest }
+    {
+        let cond = (self.expr)(input, BEFORE_BLOCK)?;
+        let then_branch = behind_condition(input)?;
+        let else_branch = self.otherwise(input)?;
+        let alloc = input.alloc();
+        let x = E::if_expr(ExprIfOf {
+            attrs: Vec::new(alloc),
+            if_token,
+            cond,
+            then_branch,
+            else_branch,
+        });
+        Ok(boxed(alloc, x)?)
+    }
+
+    /// Reads `else` before an `if` or a block, or nothing.
+    #[cycle(chain)]
+    fn otherwise(&self, input: &mut ParseBuffer<'_>) -> Result<Option<(Else, Box<E>)>>
+        requires callable { Callable (weight input.old.rest + 1) (F.pre self.now.expr) }
+        requires reads { ReadsExpr E.tree (F.post self.now.expr) }
+        ensures value { Reads (of.else_of E.tree) (parts.otherwise input.old.rest) result input.new.rest }
+        ensures noted { input.new.noted ≡ input.old.noted }
+        ensures shrinks { weight input.new.rest ≤ weight input.old.rest }
+    {
+        let Some(else_token) = else_word(input) else {
+            return Ok(None);
+        };
+        let x = match if_word(input) {
+            Some(if_token) => self.chain(input, if_token)?,
+            None => kept_block(input)?,
+        };
+        Ok(Some((else_token, x)))
+    }
+
+    /// Reads an `if` behind its word: a condition, a block, and `else` before another `if` or a block, or nothing (Rust
+    /// Reference, "`if` expressions"). It is refused as the condition is, and as `ExpectedToken` of `{` where a block is
+    /// missing.
+    #[tactic(auto, unfolding(crate::specs::Parts::branch, syn_grammar::specs::Stands::frame_stands))]
+    pub fn branch(&self, input: &mut ParseBuffer<'_>, place: Place, if_token: If) -> Result<Box<E>>
+        requires callable { Callable (weight input.old.rest + 1) (F.pre self.now.expr) }
+        requires reads { ReadsExpr E.tree (F.post self.now.expr) }
+        ensures value { Reads (λ x. E.tree x.value) (read.framed_by read.expr place e.branch input.old.rest) result input.new.rest }
+        ensures noted { input.new.noted ≡ input.old.noted }
+        ensures shrinks { weight input.new.rest ≤ weight input.old.rest }
+    {
+        self.chain(input, if_token)
+    }
+
+    /// Reads a `while` loop behind its word.
+    #[tactic(auto, using(crate::proofs::Inner::inners), unfolding(crate::specs::Parts::headed))]
+    fn while_loop(
+        &self,
+        input: &mut ParseBuffer<'_>,
+        label: Option<Label>,
+        while_token: While,
+    ) -> Result<Box<E>>
+        requires callable { Callable (weight input.old.rest + 1) (F.pre self.now.expr) }
+        requires reads { ReadsExpr E.tree (F.post self.now.expr) }
+        ensures value { Reads (λ x. E.tree x.value) (parts.headed (e.while_loop (mapped label_of label)) input.old.rest) result input.new.rest }
+        ensures noted { input.new.noted ≡ input.old.noted }
+        ensures shrinks { weight input.new.rest ≤ weight input.old.rest }
+    {
+        let cond = (self.expr)(input, BEFORE_BLOCK)?;
+        let body = behind_loop_head(input)?;
+        let x = E::while_expr(ExprWhileOf {
+            attrs: body.attrs,
+            label,
+            while_token,
+            cond,
+            body: body.block,
+        });
+        Ok(boxed(input.alloc(), x)?)
+    }
+
+    /// Reads a `for` loop behind its label.
+    #[tactic(auto, using(crate::proofs::Inner::inners, crate::proofs::Parts::for_loops), unfolding(crate::specs::Parts::headed))]
+    fn for_loop(&self, input: &mut ParseBuffer<'_>, label: Option<Label>) -> Result<Box<E>>
+        requires callable { Callable (weight input.old.rest) (F.pre self.now.expr) }
+        requires reads { ReadsExpr E.tree (F.post self.now.expr) }
+        ensures value { Reads (λ x. E.tree x.value) (form.and_then (slot.for_head.reads input.old.rest) (λ t n. parts.headed (e.for_loop (mapped label_of label) t) n)) result input.new.rest }
+        ensures noted { input.new.noted ≡ input.old.noted }
+        ensures shrinks { weight input.new.rest ≤ weight input.old.rest }
+    {
+        let head = for_head(input)?;
+        let pat = boxed(input.alloc(), head.pat)?;
+        let expr = (self.expr)(input, BEFORE_BLOCK)?;
+        let body = behind_loop_head(input)?;
+        let x = E::for_loop(ExprForLoopOf {
+            attrs: body.attrs,
+            label,
+            for_token: head.for_token,
+            pat,
+            in_token: head.in_token,
+            expr,
+            body: body.block,
+        });
+        Ok(boxed(input.alloc(), x)?)
+    }
+
+    /// Reads a `while` or a `for` loop, with a label or none (Rust Reference, "Predicate loops", "Iterator loops", "Loop
+    /// labels"). It is refused as `ExpectedToken` of `for` where none of them begins, as `ExpectedToken` where another token
+    /// is missing, and inside as a pattern or an expression is.
+    #[tactic(auto, using(crate::proofs::Parts::loops))]
+    pub fn loop_head(&self, input: &mut ParseBuffer<'_>, place: Place) -> Result<Box<E>>
+        requires callable { Callable (weight input.old.rest) (F.pre self.now.expr) }
+        requires reads { ReadsExpr E.tree (F.post self.now.expr) }
+        ensures value { Reads (λ x. E.tree x.value) (read.loop_read read.expr place input.old.rest) result input.new.rest }
+        ensures noted { input.new.noted ≡ input.old.noted }
+        ensures shrinks { weight input.new.rest ≤ weight input.old.rest }
+    {
+        let label = maybe_label(input)?;
+        match while_word(input) {
+            Some(while_token) => self.while_loop(input, label, while_token),
+            None => self.for_loop(input, label),
+        }
+    }
+
+    /// Reads the body of an arm, and its comma.
+    #[tactic(auto, unfolding(crate::specs::Parts::arm_body))]
+    fn arm_body(
+        &self,
+        input: &mut ParseBuffer<'_>,
+        attrs: Vec<Attribute>,
+        pat: E::Pat,
+        fat_arrow_token: FatArrow,
+    ) -> Result<E::Arm>
+        requires callable { Callable (weight input.old.rest + 1) (F.pre self.now.expr) }
+        requires reads { ReadsExpr E.tree (F.post self.now.expr) }
+        ensures value { Reads E.Arm.view (parts.arm_body (attrs_of attrs) (E.Pat.view pat).tree (E.Pat.view pat).guards input.old.rest) result input.new.rest }
+        ensures noted { input.new.noted ≡ input.old.noted }
+        ensures shrinks { weight input.new.rest ≤ weight input.old.rest }
+    {
+        let body = (self.expr)(input, AT_HEAD)?;
+        let comma = behind_arm(input, is_block_like(&*body))?;
+        Ok(E::arm(ArmOf {
+            attrs,
+            pat,
+            fat_arrow_token,
+            body,
+            comma,
+        }))
+    }
+
+    /// Reads an arm.
+    #[tactic(auto, using(crate::proofs::Parts::one), unfolding(crate::specs::Parts::one_arm, syn_expr_kinds::specs::Attrs::attrs_of))]
+    fn arm(&self, input: &mut ParseBuffer<'_>) -> Result<E::Arm>
+        requires callable { Callable (weight input.old.rest + 1) (F.pre self.now.expr) }
+        requires reads { ReadsExpr E.tree (F.post self.now.expr) }
+        ensures value { Reads E.Arm.view (parts.one_arm input.old.rest) result input.new.rest }
+        ensures noted { input.new.noted ≡ input.old.noted }
+        ensures shrinks { weight input.new.rest ≤ weight input.old.rest }
+    {
+        match arm_head(input)? {
+            ArmHead::Guard(attrs, pat, if_token) => {
+                let guard = (self.expr)(input, PLAIN)?;
+                let fat_arrow_token = guarded(input)?;
+                let alloc = input.alloc();
+                let pat = E::guarded(PatGuardOf {
+                    attrs: Vec::new(alloc),
+                    pat: boxed(alloc, pat)?,
+                    if_token,
+                    guard,
+                });
+                self.arm_body(input, attrs, pat, fat_arrow_token)
+            }
+            ArmHead::Arm(attrs, pat, fat_arrow_token) => {
+                self.arm_body(input, attrs, pat, fat_arrow_token)
+            }
+        }
+    }
+
+    /// Reads arms to the end.
+    #[tactic(auto, using(crate::proofs::Parts::many, crate::proofs::Parts::one))]
+    fn arms(&self, input: &mut ParseBuffer<'_>) -> Result<Vec<E::Arm>>
+        requires callable { Callable (weight input.old.rest + 1) (F.pre self.now.expr) }
+        requires reads { ReadsExpr E.tree (F.post self.now.expr) }
+        ensures value { Reads (λ v. pats.arms (map E.Arm.view v.items)) (read.bare_operands read.expr slot.arms input.old.rest) result input.new.rest }
+        ensures all { IfOk result (λ _. input.new.rest ≡ []) }
+    {
+        let mut found = Vec::new(input.alloc());
+        'arms: while !input.is_empty() {
+            found.push(self.arm(input)?)?;
+        }
+        Ok(found)
+    }
+
+    /// Reads a `match` behind its word.
+    #[tactic(auto, using(crate::proofs::Parts::choices, crate::proofs::Inner::inners))]
+    fn matched(&self, input: &mut ParseBuffer<'_>, match_token: Match) -> Result<Box<E>>
+        requires callable { Callable (weight input.old.rest + 1) (F.pre self.now.expr) }
+        requires reads { ReadsExpr E.tree (F.post self.now.expr) }
+        ensures value { Reads (λ x. E.tree x.value) (parts.choice input.old.rest) result input.new.rest }
+        ensures noted { input.new.noted ≡ input.old.noted }
+        ensures shrinks { weight input.new.rest ≤ weight input.old.rest }
+    {
+        let expr = (self.expr)(input, BEFORE_BLOCK)?;
+        let (brace_token, mut content) = input.parse_braces()?;
+        let attrs = inner_attributes(&mut content)?;
+        let arms = self.arms(&mut content)?;
+        let x = E::match_expr(ExprMatchOf {
+            attrs,
+            match_token,
+            expr,
+            brace_token,
+            arms,
+        });
+        Ok(boxed(input.alloc(), x)?)
+    }
+
+    /// Reads a `match` behind its word: what it looks at, and its arms in braces, each with its guard, its body and its
+    /// comma (Rust Reference, "Match expressions"). It is refused as `ExpectedToken` where a token is missing, and inside
+    /// as a pattern or an expression is.
+    #[tactic(auto, unfolding(crate::specs::Parts::choice, syn_grammar::specs::Stands::frame_stands))]
+    pub fn choice(
+        &self,
+        input: &mut ParseBuffer<'_>,
+        place: Place,
+        match_token: Match,
+    ) -> Result<Box<E>>
+        requires callable { Callable (weight input.old.rest + 1) (F.pre self.now.expr) }
+        requires reads { ReadsExpr E.tree (F.post self.now.expr) }
+        ensures value { Reads (λ x. E.tree x.value) (read.framed_by read.expr place e.choice input.old.rest) result input.new.rest }
+        ensures noted { input.new.noted ≡ input.old.noted }
+        ensures shrinks { weight input.new.rest ≤ weight input.old.rest }
+    {
+        self.matched(input, match_token)
+    }
+}

@@ -1,0 +1,51 @@
+//! What the readers of the kinds of expressions ask of the types of expressions and of patterns.
+
+ghost use Rattle.std.specs.Prelude.{◌≡◌, ◌≤◌, IfOk, [], MatchResult, true, false};
+ghost use Rattle.syn_expr_ends.specs.Kind.{all_outer};
+ghost use Rattle.syn_expr_kinds.specs.Attrs.{attrs_of};
+ghost use Rattle.syn_grammar.specs.Stands.{is_adorned, is_verbatim};
+ghost use Rattle.syn_grammar.specs.Tree as e;
+ghost use Rattle.syn_lower_leaves.specs.Reads.{Reads};
+ghost use Rattle.syn_parts.specs.Pat as pat;
+ghost use Rattle.syn_tokens.specs.Tok.{weight};
+
+use std::alloc::AllocError;
+use syn_expr_kinds::kinds::IsExpr;
+use syn_expr_kinds::node::{HasKind, HasNode};
+use syn_lower_leaves::attr::Attribute;
+use syn_pat_kinds::kinds::HasPatTree;
+use syn_tokens::buffer::ParseBuffer;
+use syn_tokens::error::Result;
+use syn_tokens::tree::TokenStream;
+
+/// The type of patterns: it has readers. What they read holds no guard.
+pub trait ReadPats: HasPatTree {
+    /// Reads a pattern; behind it `|` and more may stand, or one alone.
+    fn read_pattern(input: &mut ParseBuffer<'_>, multi: bool) -> Result<Self>
+        ensures value { Reads (λ x. (Self.view x).tree) ((pat.pattern multi).reads input.old.rest) result input.new.rest }
+        ensures unguarded { IfOk result (λ x. (Self.view x).guards ≡ []) }
+        ensures noted { input.new.noted ≡ input.old.noted }
+        ensures shrinks { weight input.new.rest ≤ weight input.old.rest };
+
+    /// Reads the argument of a closure.
+    fn read_closure_arg(input: &mut ParseBuffer<'_>) -> Result<Self>
+        ensures value { Reads (λ x. (Self.view x).tree) (pat.closure_arg.reads input.old.rest) result input.new.rest }
+        ensures unguarded { IfOk result (λ x. (Self.view x).guards ≡ []) }
+        ensures noted { input.new.noted ≡ input.old.noted }
+        ensures shrinks { weight input.new.rest ≤ weight input.old.rest };
+}
+
+/// The type of expressions: one is made of each kind, and is asked for its kind and its tokens, and given
+/// attributes.
+pub trait ReadExprs: IsExpr + HasNode + HasKind {
+    /// The tokens that are kept, where it is of these; else it is given back.
+    fn into_verbatim(self) -> std::result::Result<TokenStream, Self>
+        ensures { MatchResult result (λ ts. Self.tree self ≡ e.leaf (e.verbatim ts)) (λ x. (x ≡ self) × (is_verbatim (Self.tree self) ≡ false)) };
+
+    /// It with outer attributes before it, where none stand before it and it isn't of tokens that are kept.
+    fn with_attrs(self, attrs: Vec<Attribute>) -> std::result::Result<Self, AllocError>
+        requires outer { all_outer (attrs_of attrs) ≡ true }
+        requires bare { is_adorned (Self.tree self) ≡ false }
+        requires not_kept { is_verbatim (Self.tree self) ≡ false }
+        ensures { IfOk result (λ x. Self.tree x ≡ e.adorn (attrs_of attrs) (Self.tree self)) };
+}

@@ -1,0 +1,6 @@
+//! The readers of what stands in parentheses, in brackets and in the braces of a struct expression.
+#![tactic(auto)]
+
+pub mod lists;
+pub mod structure;
+mod word;

@@ -1,0 +1,199 @@
+//! The reader of what stands in the braces of a struct expression (Rust Reference, "Struct expressions").
+
+ghost use Rattle.std.specs.Prelude.{◌≡◌, ◌≤◌, ◌+◌, is_some, None};
+ghost use Rattle.syn_expr_ends.specs.Reads.{Callable, ReadsExpr};
+ghost use Rattle.syn_expr_kinds.specs.View.{boxed};
+ghost use Rattle.syn_expr_lists.specs.Fields.{base, braced, entry, value_at};
+ghost use Rattle.syn_expr_lists.specs.View.{entry_of, fields_of};
+ghost use Rattle.syn_expr_parts.specs.View.{member_of};
+ghost use Rattle.syn_grammar.specs.Read as read;
+ghost use Rattle.syn_lower.specs.View.{path_of, qself_or, type_of};
+ghost use Rattle.syn_lower_leaves.specs.Reads.{Reads};
+ghost use Rattle.syn_tokens.specs.Tok.{weight};
+
+use crate::lists::{Lists, PLAIN};
+use crate::word::{is_word_alone, named};
+use syn_expr_ends::kinds::ReadExprs;
+use syn_expr_heads::ending::comma_or_end;
+use syn_expr_heads::field::field;
+use syn_expr_heads::types::FieldHead;
+use syn_expr_kinds::structure::{ExprStructOf, FieldValueOf};
+use syn_expr_parts::member::Member;
+use syn_grammar::kinds::Place;
+use syn_lower::path::{Path, QSelf};
+use syn_lower::punctuated::Punctuated;
+use syn_tokens::buffer::{ParseBuffer, Token};
+use syn_tokens::error::{ErrorKind, Expected, Result};
+use syn_tokens::token::{Colon, Comma, DotDot};
+
+/// One of what stands in the braces.
+#[derive(Drop)]
+pub enum Entry<E> {
+    /// A field, and the comma behind it.
+    Field(FieldValueOf<E>, Option<Comma>),
+    /// `..`, and the expression behind it.
+    Rest(DotDot, Option<Box<E>>),
+}
+
+/// What stands in the braces.
+#[derive(Drop)]
+pub struct Fields<E> {
+    /// The fields.
+    pub fields: Punctuated<FieldValueOf<E>, Comma>,
+    /// `..`
+    pub dot2_token: Option<DotDot>,
+    /// Where the other fields come from.
+    pub rest: Option<Box<E>>,
+}
+
+/// Fields behind which no `..` stands.
+fn without_rest<E>(fields: Punctuated<FieldValueOf<E>, Comma>) -> Fields<E>
+    ensures { result ≡ record { fields = fields; dot2_token = None; rest = None } }
+{
+    Fields {
+        fields,
+        dot2_token: None,
+        rest: None,
+    }
+}
+
+impl<E: ReadExprs + Drop, F: Fn(&mut ParseBuffer<'_>, Place) -> Result<Box<E>>> Lists<F> {
+    /// Reads the value of a field behind its colon; without one a name says it.
+    fn value(&self, input: &mut ParseBuffer<'_>, member: &Member, has_colon: bool) -> Result<E>
+        requires callable { Callable (weight input.old.rest + 1) (F.pre self.now.expr) }
+        requires reads { ReadsExpr E.tree (F.post self.now.expr) }
+        ensures value { Reads E.tree (value_at (member_of member.now) has_colon input.old.rest) result input.new.rest }
+        ensures noted { input.new.noted ≡ input.old.noted }
+        ensures shrinks { weight input.new.rest ≤ weight input.old.rest }
+    {
+        if has_colon {
+            let x = (self.expr)(input, PLAIN)?;
+            return Ok(Box::into_inner(x));
+        }
+        match member {
+            Member::Named(name) => named(input.alloc(), name),
+            Member::Unnamed(_) => {
+                Err(input.error(ErrorKind::ExpectedToken(Expected::One(Colon::wanted()))))
+            }
+        }
+    }
+
+    /// Reads the expression behind `..`, to the end of the input, or nothing there.
+    #[tactic(auto)]
+    fn base(&self, input: &mut ParseBuffer<'_>) -> Result<Option<Box<E>>>
+        requires callable { Callable (weight input.old.rest + 1) (F.pre self.now.expr) }
+        requires reads { ReadsExpr E.tree (F.post self.now.expr) }
+        ensures value { Reads (boxed E.tree) (base input.old.rest) result input.new.rest }
+        ensures noted { input.new.noted ≡ input.old.noted }
+        ensures shrinks { weight input.new.rest ≤ weight input.old.rest }
+    {
+        if input.is_empty() {
+            return Ok(None);
+        }
+        let x = (self.expr)(input, PLAIN)?;
+        if !input.is_empty() {
+            return Err(input.error(ErrorKind::UnexpectedToken));
+        }
+        Ok(Some(x))
+    }
+
+    /// Reads a field with its comma, or `..` and what is behind it.
+    #[tactic(auto, unfolding(crate::specs::Fields::entry, syn_expr_kinds::specs::Attrs::attrs_of))]
+    fn entry(&self, input: &mut ParseBuffer<'_>) -> Result<Entry<E>>
+        requires callable { Callable (weight input.old.rest + 1) (F.pre self.now.expr) }
+        requires reads { ReadsExpr E.tree (F.post self.now.expr) }
+        ensures value { Reads (entry_of E.tree) (entry input.old.rest) result input.new.rest }
+        ensures noted { input.new.noted ≡ input.old.noted }
+        ensures shrinks { weight input.new.rest ≤ weight input.old.rest }
+    {
+        match field(input)? {
+            FieldHead::Rest(dot2_token) => {
+                let rest = self.base(input)?;
+                Ok(Entry::Rest(dot2_token, rest))
+            }
+            FieldHead::Field(attrs, member, colon_token) => {
+                let expr = self.value(input, &member, colon_token.is_some())?;
+                let comma = comma_or_end(input)?;
+                let field = FieldValueOf {
+                    attrs,
+                    member,
+                    colon_token,
+                    expr,
+                };
+                Ok(Entry::Field(field, comma))
+            }
+        }
+    }
+
+    /// Reads what stands in the braces, to the end of the input.
+    #[tactic(auto, using(crate::proofs::Fields::turns))]
+    fn fields(&self, input: &mut ParseBuffer<'_>) -> Result<Fields<E>>
+        requires callable { Callable (weight input.old.rest + 1) (F.pre self.now.expr) }
+        requires reads { ReadsExpr E.tree (F.post self.now.expr) }
+        ensures value { Reads (fields_of E.tree) (braced input.old.rest) result input.new.rest }
+        ensures noted { input.new.noted ≡ input.old.noted }
+        ensures shrinks { weight input.new.rest ≤ weight input.old.rest }
+    {
+        let mut fields = Punctuated::new(input.alloc());
+        'fields: while !input.is_empty() {
+            match self.entry(input)? {
+                Entry::Rest(dot2_token, rest) => {
+                    return Ok(Fields {
+                        fields,
+                        dot2_token: Some(dot2_token),
+                        rest,
+                    });
+                }
+                Entry::Field(field, comma) => {
+                    fields.push_value(field)?;
+                    let Some(comma) = comma else {
+                        return Ok(without_rest(fields));
+                    };
+                    fields.push_punct(comma)?;
+                }
+            }
+        }
+        Ok(without_rest(fields))
+    }
+
+    /// Reads a struct expression behind its path: the braces, in them fields with commas between, and perhaps `..` behind
+    /// them, with an expression or without (Rust Reference, "Struct expressions"). None stands before the block of a
+    /// condition, nor behind the path `try`: there it is refused as `UnexpectedToken`. Another token is refused as `ExpectedToken`
+    /// of `{`, a missing comma as `ExpectedToken` of it, what stands behind the expression of `..` as `UnexpectedToken`, and a
+    /// field as `field` refuses it.
+    #[tactic(auto, using(crate::proofs::Structures::structures), unfolding(syn_expr_kinds::specs::Attrs::attrs_of))]
+    pub fn structure(
+        &self,
+        input: &mut ParseBuffer<'_>,
+        place: Place,
+        qself: Option<QSelf>,
+        path: Path,
+    ) -> Result<Box<E>>
+        requires callable { Callable (weight input.old.rest) (F.pre self.now.expr) }
+        requires reads { ReadsExpr E.tree (F.post self.now.expr) }
+        ensures value { Reads (λ b. E.tree b.value) (read.structure_read read.expr place (qself_or type_of qself, path_of type_of path) input.old.rest) result input.new.rest }
+        ensures noted { input.new.noted ≡ input.old.noted }
+        ensures shrinks { weight input.new.rest ≤ weight input.old.rest }
+    {
+        if place.condition || is_word_alone(&qself, &path, "try") {
+            return Err(input.error(ErrorKind::UnexpectedToken));
+        }
+        let (brace_token, mut content) = input.parse_braces()?;
+        let Fields {
+            fields,
+            dot2_token,
+            rest,
+        } = self.fields(&mut content)?;
+        let attrs = Vec::new(input.alloc());
+        let x = E::struct_expr(ExprStructOf {
+            attrs,
+            qself,
+            path,
+            brace_token,
+            fields,
+            dot2_token,
+            rest,
+        });
+        Ok(Box::new(input.alloc(), x)?)
+    }
+}

@@ -1,0 +1,9 @@
+//! The tokens of all that is no operand: what stands before, between and behind the operands of an expression, and what
+//! holds none. Each is put at the end of a stream; that memory ran out is all that it is refused for, and what was there
+//! before stays in front.
+#![tactic(auto)]
+
+pub mod attrs;
+pub mod body;
+pub mod mark;
+pub mod put;

@@ -1,0 +1,22 @@
+-- Where `..` may follow the fields of a struct.
+use Rattle.std.proofs.Common.{◌≡◌, not, ◌&&◌, List, [], ◌∷◌, ◌++◌, map, Option, Some, None, refl}
+use Rattle.std.specs.Prelude.{◌||◌, is_some}
+use Rattle.std.specs.declared.boxed.Box.{Box}
+use Rattle.std.specs.declared.alloc.Global.{Global}
+use Rattle.syn_parts.specs.Form.{is_nil}
+use Rattle.syn_lower_lists.specs.Punct.{takes_value}
+use Rattle.syn_lower_lists.specs.View.{values, trails, last_of, is_some_pair}
+use Rattle.syn_lower_lists.specs.declared.punctuated.Punctuated.{Punctuated}
+
+-- behind none, or behind a comma
+pub takes_rest : {A B P : Type 0} (f : A → B) (p : Punctuated A P) → takes_value p ≡ (is_nil (map f (values p)) || trails p)
+unfolding takes_value values trails
+takes_rest {A} {B} {P} f p = by p.inner.items p.last
+  where
+    by : (xs : List (A × P)) (o : Option (Box A Global)) → not (is_some o) ≡ (is_nil (map f (map (λ q. q.0) xs ++ last_of o)) || (is_some_pair xs && not (is_some o)))
+    by [] None = refl
+    by [] (Some b) = refl
+    by (x ∷ xs) None = refl
+    by (x ∷ xs) (Some b) = refl
+
+pub ruleset rests = (takes_rest)
