@@ -1,1 +1,3 @@
+pub mod Arm
 pub mod Before
+pub mod Framed

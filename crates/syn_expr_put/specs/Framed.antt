@@ -1,0 +1,18 @@
+-- What encloses the operands of a node, with these tokens of the operands; and what stands before a field's value.
+use Rattle.std.specs.Prelude.{List, [], ◌∷◌, ◌++◌, Option, Some, None}
+use Rattle.syn_tokens.specs.Tok.{Tok}
+use Rattle.syn_parts.specs.Own.{alone, before_if, enclosed}
+use Rattle.syn_parts.specs.PatOwn.{attributes_own, member_own}
+use Rattle.syn_grammar.specs.Tree.{Frame, Enclosure, enclosure}
+use Rattle.syn_expr_kinds.specs.View.{FieldView}
+
+abbrev pub in_enclosure : Option Enclosure → List Tok → List Tok
+in_enclosure None inside = []
+in_enclosure (Some e) inside = e.head ++ enclosed e.delimiter (inside ++ e.ending) []
+
+-- nothing, where no delimiter encloses them
+abbrev pub framed_own : Frame → List Tok → List Tok
+framed_own k inside = in_enclosure (enclosure k) inside
+
+abbrev pub field_own : FieldView → List Tok → List Tok
+field_own x r = attributes_own x.attrs (member_own x.member (before_if x.colon (λ l. alone 58 ∷ l) r))

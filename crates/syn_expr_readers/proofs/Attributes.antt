@@ -1,0 +1,96 @@
+-- Attributes before an operand, as they are read.
+use Rattle.std.specs.Prelude.{not, ◌&&◌}
+use Rattle.std.proofs.Common.{◌≡◌, ℕ, zero, suc, Bool, true, false, cond, List, [], ◌∷◌, ◌++◌, drop, Option, Some, None, refl, sym, subst}
+use Rattle.syn_tokens.specs.Tok.{Tok, weight}
+use Rattle.syn_tokens.specs.Input.{IsTail}
+use Rattle.syn_parts.specs.Form.{then_behind, more, more_step, fix, iterate}
+use Rattle.syn_parts.specs.Tree.{AttributeTree}
+use Rattle.syn_parts.specs.Mark.{pound}
+use Rattle.syn_parts.specs.Part.{outer_attributes, outer_body, kept}
+use Rattle.syn_lexer.specs.declared.lexeme.Delimiter.TheVariants as del
+use Rattle.syn_parts.proofs.Same.{same_toks-refl}
+use Rattle.syn_grammar.specs.declared.kinds.Place.{Place}
+use Rattle.syn_grammar.specs.Tree as tr
+use Rattle.syn_grammar.specs.Tree.{Tree, adorn, adorned, leaf}
+use Rattle.syn_grammar.specs.Stands.{is_adorned, is_verbatim, may_adorn}
+use Rattle.syn_grammar.specs.Read.{adorned_by, attributed, before, verbatim_of}
+use Rattle.syn_expr_readers.specs.Loops.{outer_operand, with_outer}
+use Rattle.syn_grammar.proofs.Chains.{behind_some}
+use Rattle.syn_grammar.proofs.Needs.{heads}
+use Rattle.syn_grammar.proofs.HeadMoves.{left, taken_is}
+use Rattle.syn_grammar.proofs.Lesses.{here}
+use Rattle.syn_expr_ends.specs.Kind.{all_outer}
+
+pub outers_left : (l m : List Tok) (ats : List AttributeTree) → outer_attributes.reads l ≡ Some (ats, m) → IsTail m l
+outers_left l m ats h = left here.outer ats l m (heads.outers.sound l ats m h)
+
+-- ---- all are outer ones
+
+style_is : (b : Bool) (a : AttributeTree) (f : List Tok → Option (List Tok)) (m : List Tok) → a.inner ≡ b → then_behind (cond b None (Some a.tokens)) f ≡ Some m → not b ≡ true
+style_is true a f m e h = absurd cc
+style_is false a f m e h = refl
+
+body_outer : (a : AttributeTree) (l m : List Tok) → outer_body.behind a l ≡ Some m → not a.inner ≡ true
+unfolding outer_body
+body_outer a l m h = style_is a.inner a (λ ts. (kept del.Bracket).behind ts l) m refl h
+
+iterated : (n : ℕ) (ats : List AttributeTree) (l m : List Tok) → (iterate (more_step pound outer_body) n tt).behind ats l ≡ Some m → all_outer ats ≡ true
+unfolding iterate
+iterated zero ats l m g = absurd cc
+iterated (suc n) [] l m g = refl
+iterated (suc n) (a ∷ more) l m g = by_test (pound.at l) (λ i d. iterated n more i m d) g
+  where
+    by_test : (b : Bool) → ((i : List Tok) → (iterate (more_step pound outer_body) n tt).behind more i ≡ Some m → all_outer more ≡ true) → cond b (cond b (then_behind (outer_body.behind a (drop 1 l)) ((iterate (more_step pound outer_body) n tt).behind more)) None) (cond false (Some l) None) ≡ Some m → (not a.inner && all_outer more) ≡ true
+    by_test true again h =
+        let (i, c, d) = behind_some (outer_body.behind a (drop 1 l)) _ m h in
+        rw (body_outer a (drop 1 l) i c) (again i d)
+    by_test false again h = absurd cc
+
+pub outers_are : (l m : List Tok) (ats : List AttributeTree) → outer_attributes.reads l ≡ Some (ats, m) → all_outer ats ≡ true
+unfolding outer_attributes more fix
+outers_are l m ats h = iterated (suc (weight l)) ats l m (heads.outers.sound l ats m h)
+
+-- ---- where `#` stands there is one
+
+none_there : (l m : List Tok) → pound.at l ≡ true → outer_attributes.behind [] l ≡ Some m → ⊥
+unfolding outer_attributes more fix iterate
+none_there l m g h = by_test (pound.at l) g h
+  where
+    by_test : (b : Bool) → b ≡ true → cond b (cond b None None) (Some l) ≡ Some m → ⊥
+    by_test true g h = absurd cc
+    by_test false g h = absurd cc
+
+told_adorned : (p : Place) (l m n fs : List Tok) (a : AttributeTree) (more : List AttributeTree) (x : Tree) (o : Option (List Tok)) → l ≡ fs ++ m
+    → adorned_by p l m a more x o n ≡ before (with_outer p fs (a ∷ more) x o) (λ y. y) n
+told_adorned p l m n fs a more x None i = by_test (may_adorn p x)
+  where
+    by_test : (b : Bool) → cond b (Some (adorned a more x, n)) None ≡ before (cond b (Some (adorned a more x)) None) (λ y. y) n
+    by_test true = refl
+    by_test false = refl
+told_adorned p l m n fs a more x (Some ts) i =
+    subst (λ z. adorned_by p z m a more x (Some ts) n ≡ Some (leaf (tr.verbatim (fs ++ ts)), n)) (sym i) (rw (taken_is fs m, same_toks-refl (fs ++ m)) refl)
+
+-- an operand with the attributes that were read before it
+pub outer_is : (p : Place) (l m n fs : List Tok) (ats : List AttributeTree) (x : Tree) → pound.at l ≡ true → outer_attributes.reads l ≡ Some (ats, m) → l ≡ fs ++ m
+    → attributed p l m ats x n ≡ outer_operand p fs ats x n
+outer_is p l m n fs [] x g h i = absurd (none_there l m g (heads.outers.sound l [] m h))
+outer_is p l m n fs (a ∷ more) x g h i = told_adorned p l m n fs a more x (verbatim_of x) i
+
+no_verbatim : (x : Tree) → is_verbatim x ≡ false → verbatim_of x ≡ None
+no_verbatim (leaf (tr.verbatim ts)) h = absurd cc
+no_verbatim (leaf _) h = refl
+no_verbatim _ h = refl
+
+pub outer_tree : (p : Place) (fs n : List Tok) (ats : List AttributeTree) (x : Tree) → is_verbatim x ≡ false → may_adorn p x ≡ true → outer_operand p fs ats x n ≡ Some (adorn ats x, n)
+outer_tree p fs n ats x v h = rw (no_verbatim x v, h) refl
+
+pub outer_refused : (p : Place) (fs n : List Tok) (ats : List AttributeTree) (x : Tree) → is_verbatim x ≡ false → may_adorn p x ≡ false → outer_operand p fs ats x n ≡ None
+outer_refused p fs n ats x v h = rw (no_verbatim x v, h) refl
+
+pub adorned-not : (p : Place) (x : Tree) → may_adorn p x ≡ true → is_adorned x ≡ false
+adorned-not p (tr.adorned a more x) h = absurd cc
+adorned-not p _ h = refl
+
+pub ruleset attributes = (outers_left, outers_are, outer_is)
+
+pub ruleset outers = (outer_tree, outer_refused, adorned-not)

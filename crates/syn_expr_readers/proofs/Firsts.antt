@@ -1,0 +1,74 @@
+-- What is read of an operand, by what stands first.
+use Rattle.std.proofs.Common.{◌≡◌, Bool, true, false, cond, List, drop, refl, ◌∙◌}
+use Rattle.syn_tokens.specs.Tok.{Tok}
+use Rattle.syn_parts.specs.Mark.{round_at}
+use Rattle.syn_parts.specs.Form.{and_then}
+use Rattle.syn_grammar.specs.declared.kinds.Place.{Place}
+use Rattle.syn_grammar.specs.Place.{plain}
+use Rattle.syn_grammar.specs.Front.{bracket_at}
+use Rattle.syn_grammar.specs.Slot.{if_word, match_word}
+use Rattle.syn_grammar.specs.Tree as e
+use Rattle.syn_grammar.specs.Read as r
+use Rattle.syn_grammar.specs.Read.{atom as atom_read, expr}
+use Rattle.syn_expr_front.specs.Begins.{atom_of}
+use Rattle.syn_expr_front.specs.declared.start.Atom.TheVariants as atom
+use Rattle.syn_expr_front.proofs.Choices.{atoms_are_chosen}
+
+pub first-leaf : (p : Place) (l : List Tok) → atom_of l ≡ atom.Leaf → atom_read expr p l ≡ r.leaf_read p l
+first-leaf p l h = atoms_are_chosen expr p l ∙ rw h refl
+
+pub first-lead : (p : Place) (l : List Tok) → atom_of l ≡ atom.Lead → atom_read expr p l ≡ r.lead_read expr p l
+first-lead p l h = atoms_are_chosen expr p l ∙ rw h refl
+
+pub first-round : (p : Place) (l : List Tok) → atom_of l ≡ atom.Parenthesis → atom_read expr p l ≡ r.round_read expr l
+first-round p l h = atoms_are_chosen expr p l ∙ rw h refl
+
+pub first-bracket : (p : Place) (l : List Tok) → atom_of l ≡ atom.Bracket → atom_read expr p l ≡ r.bracket_read expr l
+first-bracket p l h = atoms_are_chosen expr p l ∙ rw h refl
+
+pub first-become : (p : Place) (l : List Tok) → atom_of l ≡ atom.Become → atom_read expr p l ≡ and_then (expr plain (drop 1 l)) (r.kept_from expr l)
+first-become p l h = atoms_are_chosen expr p l ∙ rw h refl
+
+pub first-branch : (p : Place) (l : List Tok) → atom_of l ≡ atom.If → atom_read expr p l ≡ r.framed_by expr p e.branch (drop 1 l)
+first-branch p l h = atoms_are_chosen expr p l ∙ rw h refl
+
+pub first-loop : (p : Place) (l : List Tok) → atom_of l ≡ atom.Loop → atom_read expr p l ≡ r.loop_read expr p l
+first-loop p l h = atoms_are_chosen expr p l ∙ rw h refl
+
+pub first-choice : (p : Place) (l : List Tok) → atom_of l ≡ atom.Match → atom_read expr p l ≡ r.framed_by expr p e.choice (drop 1 l)
+first-choice p l h = atoms_are_chosen expr p l ∙ rw h refl
+
+pub first-named : (p : Place) (l : List Tok) → atom_of l ≡ atom.Named → atom_read expr p l ≡ r.named_read expr p l
+first-named p l h = atoms_are_chosen expr p l ∙ rw h refl
+
+-- ---- the words
+
+sixth : (a b c d e f g h : Bool) → cond a atom.Leaf (cond b atom.Lead (cond c atom.Parenthesis (cond d atom.Bracket (cond e atom.Become (cond f atom.If (cond g atom.Loop (cond h atom.Match atom.Named))))))) ≡ atom.If → f ≡ true
+sixth true b c d e f g h i = absurd cc
+sixth false true c d e f g h i = absurd cc
+sixth false false true d e f g h i = absurd cc
+sixth false false false true e f g h i = absurd cc
+sixth false false false false true f g h i = absurd cc
+sixth false false false false false true g h i = refl
+sixth false false false false false false true h i = absurd cc
+sixth false false false false false false false true i = absurd cc
+sixth false false false false false false false false i = absurd cc
+
+pub if-first : (l : List Tok) → atom_of l ≡ atom.If → if_word.at l ≡ true
+if-first l h = sixth (r.leaf_at l) (r.lead_at l) (round_at l) (bracket_at l) (r.become_word.at l) (if_word.at l) (r.loop_head_at l) (match_word.at l) h
+
+eighth : (a b c d e f g h : Bool) → cond a atom.Leaf (cond b atom.Lead (cond c atom.Parenthesis (cond d atom.Bracket (cond e atom.Become (cond f atom.If (cond g atom.Loop (cond h atom.Match atom.Named))))))) ≡ atom.Match → h ≡ true
+eighth true b c d e f g h i = absurd cc
+eighth false true c d e f g h i = absurd cc
+eighth false false true d e f g h i = absurd cc
+eighth false false false true e f g h i = absurd cc
+eighth false false false false true f g h i = absurd cc
+eighth false false false false false true g h i = absurd cc
+eighth false false false false false false true h i = absurd cc
+eighth false false false false false false false true i = refl
+eighth false false false false false false false false i = absurd cc
+
+pub match-first : (l : List Tok) → atom_of l ≡ atom.Match → match_word.at l ≡ true
+match-first l h = eighth (r.leaf_at l) (r.lead_at l) (round_at l) (bracket_at l) (r.become_word.at l) (if_word.at l) (r.loop_head_at l) (match_word.at l) h
+
+pub ruleset firsts = (first-leaf, first-lead, first-round, first-bracket, first-become, first-branch, first-loop, first-choice, first-named, if-first, match-first)

@@ -1,0 +1,67 @@
+-- What the loops over operators and trailers go by.
+use Rattle.std.proofs.Common.{◌≡◌, ℕ, ◌<◌, true, false, List, drop, Option, Some, None, refl, ◌∙◌}
+use Rattle.syn_tokens.specs.Tok.{Tok, weight}
+use Rattle.syn_grammar.specs.declared.kinds.Infix.{Infix}
+use Rattle.syn_grammar.specs.declared.kinds.Place.{Place}
+use Rattle.syn_grammar.specs.Tree.{Tree}
+use Rattle.syn_grammar.specs.Stands.{closes, ends, fits_left}
+use Rattle.syn_grammar.specs.Read.{longer, next_operator, stop, trailed, turn, expr}
+use Rattle.syn_grammar.proofs.Lesses.{operator_less}
+use Rattle.syn_expr_readers.specs.Loops.{operations, trailers}
+use Rattle.syn_expr_readers.proofs.Turns.{climb_turn, trail_turn, trailed_less, next_some}
+
+-- ---- operations
+
+turn_is : (p : Place) (x : Tree) (l : List Tok) (o : Option (Infix × ℕ)) → next_operator p x l ≡ o → operations p x l ≡ turn expr p x o (operations p) l
+unfolding operations
+turn_is p x l o i = climb_turn p x l ∙ rw i refl
+
+-- one is read
+pub operation_read : (p : Place) (x y : Tree) (l m : List Tok) (op : Infix) (count : ℕ) → next_operator p x l ≡ Some (op, count) → fits_left p op x ≡ true
+    → longer expr p x op (drop count l) ≡ Some (y, m) → closes p y m ≡ true → operations p x l ≡ operations p y m
+operation_read p x y l m op count i f h c = turn_is p x l (Some (op, count)) i ∙ rw (f, h, c) refl
+
+-- or refused
+pub operation_refused : (p : Place) (x : Tree) (l : List Tok) (op : Infix) (count : ℕ) → next_operator p x l ≡ Some (op, count) → fits_left p op x ≡ true
+    → longer expr p x op (drop count l) ≡ None → operations p x l ≡ None
+operation_refused p x l op count i f h = turn_is p x l (Some (op, count)) i ∙ rw (f, h) refl
+
+pub operation_misfit : (p : Place) (x : Tree) (l : List Tok) (op : Infix) (count : ℕ) → next_operator p x l ≡ Some (op, count) → fits_left p op x ≡ false → operations p x l ≡ None
+operation_misfit p x l op count i f = turn_is p x l (Some (op, count)) i ∙ rw f refl
+
+-- a trailer is left behind it
+pub operation_open : (p : Place) (x y : Tree) (l m : List Tok) (op : Infix) (count : ℕ) → next_operator p x l ≡ Some (op, count) → fits_left p op x ≡ true
+    → longer expr p x op (drop count l) ≡ Some (y, m) → closes p y m ≡ false → operations p x l ≡ None
+operation_open p x y l m op count i f h c = turn_is p x l (Some (op, count)) i ∙ rw (f, h, c) refl
+
+pub operations_end : (p : Place) (x : Tree) (l : List Tok) → next_operator p x l ≡ None → ends p x l ≡ true → operations p x l ≡ Some (x, l)
+unfolding stop
+operations_end p x l i h = turn_is p x l None i ∙ rw h refl
+
+pub operations_cut : (p : Place) (x : Tree) (l : List Tok) → next_operator p x l ≡ None → ends p x l ≡ false → operations p x l ≡ None
+unfolding stop
+operations_cut p x l i h = turn_is p x l None i ∙ rw h refl
+
+pub operator_falls : (p : Place) (x : Tree) (l : List Tok) (op : Infix) (count : ℕ) → next_operator p x l ≡ Some (op, count) → weight (drop count l) < weight l
+operator_falls p x l op count i = let a = operator_less l op count (next_some p x l (op, count) i) in a.less
+
+pub ruleset operators = (operation_read, operation_refused, operation_misfit, operation_open, operations_end, operations_cut, operator_falls)
+
+-- ---- trailers
+
+pub trailer_read : (p : Place) (b c : Tree) (l m : List Tok) → closes p b l ≡ false → trailed expr p b l ≡ Some (c, m) → trailers p b l ≡ trailers p c m
+unfolding trailers
+trailer_read p b c l m h i = trail_turn p b l ∙ rw (h, i) refl
+
+pub trailer_refused : (p : Place) (b : Tree) (l : List Tok) → closes p b l ≡ false → trailed expr p b l ≡ None → trailers p b l ≡ None
+unfolding trailers
+trailer_refused p b l h i = trail_turn p b l ∙ rw (h, i) refl
+
+pub trailers_end : (p : Place) (b : Tree) (l : List Tok) → closes p b l ≡ true → trailers p b l ≡ Some (b, l)
+unfolding trailers
+trailers_end p b l h = trail_turn p b l ∙ rw h refl
+
+pub trailer_falls : (p : Place) (b c : Tree) (l m : List Tok) → trailed expr p b l ≡ Some (c, m) → weight m < weight l
+trailer_falls p b c l m h = let a = trailed_less p b l (c, m) h in a.less
+
+pub ruleset trails = (trailer_read, trailer_refused, trailers_end, trailer_falls)

@@ -1,0 +1,14 @@
+//! The reader of expressions: operands, and trailers, operators and attributes round them.
+//!
+//! `Grammar` holds the reader of the expressions inside; a crate above ties the knot.
+#![tactic(auto)]
+
+pub mod ends;
+pub mod fields;
+pub mod grammar;
+pub mod make;
+pub mod operands;
+pub mod operations;
+mod refusal;
+pub mod told;
+pub mod trailers;

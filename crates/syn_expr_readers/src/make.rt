@@ -1,0 +1,277 @@
+//! Expressions made of what was read, in boxes and without attributes.
+
+ghost use Rattle.std.specs.Prelude.{◌≡◌, IfOk, map};
+ghost use Rattle.syn_expr_kinds.specs.View as of;
+ghost use Rattle.syn_expr_parts.specs.View.{member_of};
+ghost use Rattle.syn_grammar.specs.Tree as e;
+ghost use Rattle.syn_grammar.specs.declared.kinds.Infix.TheVariants as inf;
+ghost use Rattle.syn_lower.specs.View.{type_of, values, trails};
+ghost use Rattle.syn_op.specs.View.{limits_kind};
+
+use std::alloc::{AllocError, Global};
+use syn_expr_kinds::kinds::IsExpr;
+use syn_expr_kinds::operation::{ExprAssignOf, ExprBinaryOf, ExprCastOf, ExprRangeOf};
+use syn_expr_kinds::trailer::{
+    ExprAwaitOf, ExprCallOf, ExprFieldOf, ExprIndexOf, ExprMethodCallOf, ExprTryOf,
+};
+use syn_expr_parts::member::Member;
+use syn_grammar::kinds::{BinKind, Limits};
+use syn_lower::path::AngleBracketedGenericArguments;
+use syn_lower::punctuated::Punctuated;
+use syn_lower::ty::Type;
+use syn_op::limits::RangeLimits;
+use syn_op::op::BinOp;
+use syn_tokens::span::Span;
+use syn_tokens::token::{As, Await, Bracket, Comma, Dot, DotDot, DotDotEq, Eq, Paren, Question};
+use syn_tokens::tree::Ident;
+
+/// An expression in a box.
+pub(crate) fn boxed<E: IsExpr + Drop>(
+    alloc: Global,
+    x: E,
+) -> std::result::Result<Box<E>, AllocError>
+    ensures { IfOk result (λ b. E.tree b.value ≡ E.tree x) }
+{
+    Ok(Box::new(alloc, x)?)
+}
+
+/// The operator of a range of this kind, at these places.
+pub(crate) fn limits(kind: Limits, spans: [Span; 3]) -> RangeLimits
+    ensures { limits_kind result ≡ kind }
+{
+    let [first, second, _] = spans;
+    match kind {
+        Limits::HalfOpen => RangeLimits::HalfOpen(DotDot {
+            spans: [first, second],
+        }),
+        Limits::Closed => RangeLimits::Closed(DotDotEq { spans }),
+    }
+}
+
+/// A binary operator between its operands.
+#[tactic(auto, unfolding(syn_expr_kinds::specs::Attrs::attrs_of))]
+pub(crate) fn binary<E: IsExpr + Drop>(
+    alloc: Global,
+    left: Box<E>,
+    kind: BinKind,
+    spans: [Span; 3],
+    right: Box<E>,
+) -> std::result::Result<Box<E>, AllocError>
+    ensures { IfOk result (λ b. E.tree b.value ≡ e.mid (E.tree left.value) (inf.Binary kind) (E.tree right.value)) }
+{
+    let attrs = Vec::new(alloc);
+    let op = BinOp::of_kind(kind, spans);
+    let binary = ExprBinaryOf {
+        attrs,
+        left,
+        op,
+        right,
+    };
+    boxed(alloc, E::binary(binary))
+}
+
+/// `=` between its operands.
+#[tactic(auto, unfolding(syn_expr_kinds::specs::Attrs::attrs_of))]
+pub(crate) fn assign<E: IsExpr + Drop>(
+    alloc: Global,
+    left: Box<E>,
+    eq_token: Eq,
+    right: Box<E>,
+) -> std::result::Result<Box<E>, AllocError>
+    ensures { IfOk result (λ b. E.tree b.value ≡ e.mid (E.tree left.value) inf.Assign (E.tree right.value)) }
+{
+    let attrs = Vec::new(alloc);
+    let assign = ExprAssignOf {
+        attrs,
+        left,
+        eq_token,
+        right,
+    };
+    boxed(alloc, E::assign(assign))
+}
+
+/// `as` and a type behind an operand.
+#[tactic(auto, unfolding(syn_expr_kinds::specs::Attrs::attrs_of))]
+pub(crate) fn cast<E: IsExpr + Drop>(
+    alloc: Global,
+    expr: Box<E>,
+    as_token: As,
+    ty: Box<Type>,
+) -> std::result::Result<Box<E>, AllocError>
+    ensures { IfOk result (λ b. E.tree b.value ≡ e.post (E.tree expr.value) (e.cast (type_of ty.value))) }
+{
+    let attrs = Vec::new(alloc);
+    let cast = ExprCastOf {
+        attrs,
+        expr,
+        as_token,
+        ty,
+    };
+    boxed(alloc, E::cast(cast))
+}
+
+/// A range without an end.
+#[tactic(auto, unfolding(syn_expr_kinds::specs::Attrs::attrs_of))]
+pub(crate) fn range_from<E: IsExpr + Drop>(
+    alloc: Global,
+    start: Box<E>,
+    limits: RangeLimits,
+) -> std::result::Result<Box<E>, AllocError>
+    ensures { IfOk result (λ b. E.tree b.value ≡ e.post (E.tree start.value) (e.range_from (limits_kind limits))) }
+{
+    let attrs = Vec::new(alloc);
+    let range = ExprRangeOf {
+        attrs,
+        start: Some(start),
+        limits,
+        end: None,
+    };
+    boxed(alloc, E::range(range))
+}
+
+/// A range with a start and an end.
+#[tactic(auto, unfolding(syn_expr_kinds::specs::Attrs::attrs_of))]
+pub(crate) fn range_between<E: IsExpr + Drop>(
+    alloc: Global,
+    start: Box<E>,
+    limits: RangeLimits,
+    end: Box<E>,
+) -> std::result::Result<Box<E>, AllocError>
+    ensures { IfOk result (λ b. E.tree b.value ≡ e.mid (E.tree start.value) (inf.Range (limits_kind limits)) (E.tree end.value)) }
+{
+    let attrs = Vec::new(alloc);
+    let range = ExprRangeOf {
+        attrs,
+        start: Some(start),
+        limits,
+        end: Some(end),
+    };
+    boxed(alloc, E::range(range))
+}
+
+/// Arguments behind what is called.
+#[tactic(auto, unfolding(syn_expr_kinds::specs::Attrs::attrs_of))]
+pub(crate) fn call<E: IsExpr + Drop>(
+    alloc: Global,
+    func: Box<E>,
+    paren_token: Paren,
+    args: Punctuated<E, Comma>,
+) -> std::result::Result<Box<E>, AllocError>
+    ensures { IfOk result (λ b. E.tree b.value ≡ e.tail (E.tree func.value) e.call (of.elements (map E.tree (values args)) (trails args))) }
+{
+    let attrs = Vec::new(alloc);
+    let call = ExprCallOf {
+        attrs,
+        func,
+        paren_token,
+        args,
+    };
+    boxed(alloc, E::call(call))
+}
+
+/// An index behind what has it.
+#[tactic(auto, unfolding(syn_expr_kinds::specs::Attrs::attrs_of))]
+pub(crate) fn index<E: IsExpr + Drop>(
+    alloc: Global,
+    expr: Box<E>,
+    bracket_token: Bracket,
+    index: Box<E>,
+) -> std::result::Result<Box<E>, AllocError>
+    ensures { IfOk result (λ b. E.tree b.value ≡ e.tail (E.tree expr.value) e.index (e.kid e.value e.no_ending (E.tree index.value) e.none)) }
+{
+    let attrs = Vec::new(alloc);
+    let index = ExprIndexOf {
+        attrs,
+        expr,
+        bracket_token,
+        index,
+    };
+    boxed(alloc, E::index(index))
+}
+
+/// `?` behind what is tried.
+#[tactic(auto, unfolding(syn_expr_kinds::specs::Attrs::attrs_of))]
+pub(crate) fn question<E: IsExpr + Drop>(
+    alloc: Global,
+    expr: Box<E>,
+    question_token: Question,
+) -> std::result::Result<Box<E>, AllocError>
+    ensures { IfOk result (λ b. E.tree b.value ≡ e.tail (E.tree expr.value) e.question e.none) }
+{
+    let attrs = Vec::new(alloc);
+    let question = ExprTryOf {
+        attrs,
+        expr,
+        question_token,
+    };
+    boxed(alloc, E::try_expr(question))
+}
+
+/// A member behind what has it.
+#[tactic(auto, unfolding(syn_expr_kinds::specs::Attrs::attrs_of))]
+pub(crate) fn field<E: IsExpr + Drop>(
+    alloc: Global,
+    base: Box<E>,
+    dot_token: Dot,
+    member: Member,
+) -> std::result::Result<Box<E>, AllocError>
+    ensures { IfOk result (λ b. E.tree b.value ≡ e.tail (E.tree base.value) (e.field (member_of member)) e.none) }
+{
+    let attrs = Vec::new(alloc);
+    let field = ExprFieldOf {
+        attrs,
+        base,
+        dot_token,
+        member,
+    };
+    boxed(alloc, E::field(field))
+}
+
+/// `.await` behind what is awaited.
+#[tactic(auto, unfolding(syn_expr_kinds::specs::Attrs::attrs_of))]
+pub(crate) fn awaited<E: IsExpr + Drop>(
+    alloc: Global,
+    base: Box<E>,
+    dot_token: Dot,
+    await_token: Await,
+) -> std::result::Result<Box<E>, AllocError>
+    ensures { IfOk result (λ b. E.tree b.value ≡ e.tail (E.tree base.value) e.await e.none) }
+{
+    let attrs = Vec::new(alloc);
+    let awaited = ExprAwaitOf {
+        attrs,
+        base,
+        dot_token,
+        await_token,
+    };
+    boxed(alloc, E::await_expr(awaited))
+}
+
+/// The name of a method, with its arguments in angle brackets.
+pub(crate) type MethodName = (Ident, Option<AngleBracketedGenericArguments>);
+
+/// The call of a method on a receiver.
+#[tactic(auto, unfolding(syn_expr_kinds::specs::Attrs::attrs_of))]
+pub(crate) fn method<E: IsExpr + Drop>(
+    alloc: Global,
+    receiver: Box<E>,
+    dot_token: Dot,
+    name: MethodName,
+    arguments: (Paren, Punctuated<E, Comma>),
+) -> std::result::Result<Box<E>, AllocError>
+    ensures { IfOk result (λ b. E.tree b.value ≡ e.tail (E.tree receiver.value) (e.method name.0 (of.turbofish_of name.1)) (of.elements (map E.tree (values arguments.1)) (trails arguments.1))) }
+{
+    let attrs = Vec::new(alloc);
+    let (method, turbofish) = name;
+    let (paren_token, args) = arguments;
+    let method = ExprMethodCallOf {
+        attrs,
+        receiver,
+        dot_token,
+        method,
+        turbofish,
+        paren_token,
+        args,
+    };
+    boxed(alloc, E::method_call(method))
+}

@@ -1,0 +1,198 @@
+//! The readers of operands: by what stands first, with their trailers and attributes (Rust Reference, "Expressions",
+//! "Expression attributes").
+
+ghost use Rattle.std.specs.Prelude.{◌≡◌, ◌≤◌, true, drop};
+ghost use Rattle.syn_expr_ends.specs.Kind.{all_outer};
+ghost use Rattle.syn_expr_ends.specs.Reads.{Callable, ReadsExpr};
+ghost use Rattle.syn_expr_kinds.specs.Attrs.{attrs_of};
+ghost use Rattle.syn_expr_readers.specs.Loops.{outer_operand};
+ghost use Rattle.syn_grammar.specs.Read as read;
+ghost use Rattle.syn_grammar.specs.Slot as slot;
+ghost use Rattle.syn_grammar.specs.Tree as e;
+ghost use Rattle.syn_lower_leaves.specs.Reads.{Reads};
+ghost use Rattle.syn_tokens.specs.Tok.{weight};
+ghost use Rattle.syn_tokens.specs.View.{toks_of};
+
+use crate::grammar::Grammar;
+use crate::make;
+use crate::refusal;
+use crate::told::may_adorn;
+use syn_expr_atoms::atoms::Atoms;
+use syn_expr_atoms::leaf::{leaf, standing};
+use syn_expr_blocks::blocks::Blocks;
+use syn_expr_ends::kinds::{ReadExprs, ReadPats};
+use syn_expr_front::sign::brace_at;
+use syn_expr_front::start::{Atom, atom_at};
+use syn_expr_heads::leaf::path_or_macro;
+use syn_expr_heads::word::{if_word, match_word};
+use syn_expr_kinds::kinds::IsExpr;
+use syn_expr_lists::lists::Lists;
+use syn_grammar::kinds::Place;
+use syn_lower_leaves::attr::Attribute;
+use syn_lower_leaves::kept::outer_attributes;
+use syn_lower_readers::qualified::macro_end;
+use syn_tokens::buffer::ParseBuffer;
+use syn_tokens::copy::copy_trees;
+use syn_tokens::error::{Error, ErrorKind, Expected, Result};
+use syn_tokens::span::Span;
+use syn_tokens::token::{If, Match, Pound};
+use syn_tokens::tree::TokenTree;
+
+/// An operand with the attributes that stand before it, given the tokens of these: they are the first of an operand's tokens
+/// that are kept. Before a range without a start they are refused, at its operator, which stands at the span.
+#[tactic(auto, using(crate::proofs::Attributes::outers))]
+fn with_outer<E: ReadExprs + Drop>(
+    input: &ParseBuffer<'_>,
+    place: Place,
+    tokens: &[TokenTree],
+    attrs: Vec<Attribute>,
+    x: Box<E>,
+    span: Span,
+) -> Result<Box<E>>
+    requires outer { all_outer (attrs_of attrs) ≡ true }
+    ensures { Reads (λ b. E.tree b.value) (outer_operand place (toks_of tokens.now) (attrs_of attrs) (E.tree x.value) input.now.rest) result input.now.rest }
+{
+    match Box::into_inner(x).into_verbatim() {
+        Ok(more) => {
+            let mut kept = copy_trees(input.alloc(), tokens)?;
+            kept.append(more)?;
+            Ok(make::boxed(input.alloc(), E::verbatim(kept))?)
+        }
+        Err(x) => {
+            if !may_adorn(place, &x) {
+                return Err(Error::new(span, ErrorKind::RangeAttributes));
+            }
+            Ok(make::boxed(input.alloc(), x.with_attrs(attrs)?)?)
+        }
+    }
+}
+
+impl<E: ReadExprs + Drop, F: Fn(&mut ParseBuffer<'_>, Place) -> Result<Box<E>> + Copy> Grammar<F>
+where
+    E::Pat: ReadPats + Drop,
+    <E as IsExpr>::Arm: Drop,
+{
+    /// Reads a path, the call of a macro, or a struct expression.
+    #[tactic(auto, using(syn_expr_atoms::proofs::Inner::named_inner), unfolding(syn_grammar::specs::Read::named_read))]
+    fn named(&self, input: &mut ParseBuffer<'_>, place: Place) -> Result<Box<E>>
+        requires callable { Callable (weight input.old.rest) (F.pre self.now.expr) }
+        requires reads { ReadsExpr E.tree (F.post self.now.expr) }
+        ensures value { Reads (λ b. E.tree b.value) (read.named_read read.expr place input.old.rest) result input.new.rest }
+        ensures noted { input.new.noted ≡ input.old.noted }
+        ensures shrinks { weight input.new.rest ≤ weight input.old.rest }
+    {
+        let (qself, path) = refusal::qpath(input)?;
+        let end = macro_end(input, &qself, &path)?;
+        if end.is_none() && brace_at(input) && !place.condition {
+            let lists = Lists { expr: self.expr };
+            return lists.structure(input, place, qself, path);
+        }
+        standing(input, place, path_or_macro(qself, path, end))
+    }
+
+    /// Reads an `if`.
+    fn branch(&self, input: &mut ParseBuffer<'_>, place: Place) -> Result<Box<E>>
+        requires callable { Callable (weight input.old.rest) (F.pre self.now.expr) }
+        requires reads { ReadsExpr E.tree (F.post self.now.expr) }
+        requires first { slot.if_word.at input.old.rest ≡ true }
+        ensures value { Reads (λ b. E.tree b.value) (read.framed_by read.expr place e.branch (drop 1 input.old.rest)) result input.new.rest }
+        ensures noted { input.new.noted ≡ input.old.noted }
+        ensures shrinks { weight input.new.rest ≤ weight input.old.rest }
+    {
+        let Some(if_token) = if_word(input) else {
+            return Err(input.error(ErrorKind::ExpectedToken(Expected::One(If::wanted()))));
+        };
+        let blocks = Blocks { expr: self.expr };
+        blocks.branch(input, place, if_token)
+    }
+
+    /// Reads a `match`.
+    fn choice(&self, input: &mut ParseBuffer<'_>, place: Place) -> Result<Box<E>>
+        requires callable { Callable (weight input.old.rest) (F.pre self.now.expr) }
+        requires reads { ReadsExpr E.tree (F.post self.now.expr) }
+        requires first { slot.match_word.at input.old.rest ≡ true }
+        ensures value { Reads (λ b. E.tree b.value) (read.framed_by read.expr place e.choice (drop 1 input.old.rest)) result input.new.rest }
+        ensures noted { input.new.noted ≡ input.old.noted }
+        ensures shrinks { weight input.new.rest ≤ weight input.old.rest }
+    {
+        let Some(match_token) = match_word(input) else {
+            return Err(input.error(ErrorKind::ExpectedToken(Expected::One(Match::wanted()))));
+        };
+        let blocks = Blocks { expr: self.expr };
+        blocks.choice(input, place, match_token)
+    }
+
+    /// Reads an operand without trailers, by what stands first.
+    #[tactic(auto, using(crate::proofs::Firsts::firsts))]
+    fn atom(&self, input: &mut ParseBuffer<'_>, place: Place) -> Result<Box<E>>
+        requires callable { Callable (weight input.old.rest) (F.pre self.now.expr) }
+        requires reads { ReadsExpr E.tree (F.post self.now.expr) }
+        ensures value { Reads (λ b. E.tree b.value) (read.atom read.expr place input.old.rest) result input.new.rest }
+        ensures noted { input.new.noted ≡ input.old.noted }
+        ensures shrinks { weight input.new.rest ≤ weight input.old.rest }
+    {
+        let lists = Lists { expr: self.expr };
+        let blocks = Blocks { expr: self.expr };
+        let atoms = Atoms { expr: self.expr };
+        match atom_at(input) {
+            Atom::Leaf => leaf(input, place),
+            Atom::Lead => atoms.lead(input, place),
+            Atom::Parenthesis => lists.round(input),
+            Atom::Bracket => lists.bracket(input),
+            Atom::Become => atoms.tail_call(input),
+            Atom::If => self.branch(input, place),
+            Atom::Loop => blocks.loop_head(input, place),
+            Atom::Match => self.choice(input, place),
+            Atom::Named => self.named(input, place),
+        }
+    }
+
+    /// Reads an operand with its trailers.
+    #[tactic(auto, unfolding(syn_grammar::specs::Read::core, crate::specs::Loops::trailers))]
+    fn core(&self, input: &mut ParseBuffer<'_>, place: Place) -> Result<Box<E>>
+        requires callable { Callable (weight input.old.rest) (F.pre self.now.expr) }
+        requires reads { ReadsExpr E.tree (F.post self.now.expr) }
+        ensures value { Reads (λ b. E.tree b.value) (read.core read.expr place input.old.rest) result input.new.rest }
+        ensures noted { input.new.noted ≡ input.old.noted }
+        ensures shrinks { weight input.new.rest ≤ weight input.old.rest }
+    {
+        let base = self.atom(input, place)?;
+        self.trail(input, place, base)
+    }
+
+    /// Reads an operand behind its attributes. Before a range without a start they are refused as `RangeAttributes`, but at a
+    /// head.
+    #[tactic(auto, using(crate::proofs::Attributes::attributes), unfolding(syn_grammar::specs::Read::operand, syn_expr_kinds::specs::Attrs::attrs_of, syn_tokens::specs::Sign::sign_text, syn_parts::specs::Mark::sign_at))]
+    fn operand(&self, input: &mut ParseBuffer<'_>, place: Place) -> Result<Box<E>>
+        requires callable { Callable (weight input.old.rest) (F.pre self.now.expr) }
+        requires reads { ReadsExpr E.tree (F.post self.now.expr) }
+        ensures value { Reads (λ b. E.tree b.value) (read.operand read.expr place input.old.rest) result input.new.rest }
+        ensures noted { input.new.noted ≡ input.old.noted }
+        ensures shrinks { weight input.new.rest ≤ weight input.old.rest }
+    {
+        if !input.peek::<Pound>() {
+            return self.core(input, place);
+        }
+        let start = input.fork()?;
+        let attrs = outer_attributes(input)?;
+        let tokens = start.until(input);
+        let span = refusal::operator_span(input);
+        let x = self.core(input, place)?;
+        with_outer(input, place, tokens, attrs, x, span)
+    }
+
+    /// Reads the expression at a place: an operand, and the operations that it begins.
+    ///
+    /// It is refused as what it holds is: an operand, its trailers and the operations.
+    #[tactic(auto, unfolding(syn_grammar::specs::Read::at_place, crate::specs::Loops::operations))]
+    pub fn at_place(&self, input: &mut ParseBuffer<'_>, place: Place) -> Result<Box<E>>
+        requires callable { Callable (weight input.old.rest) (F.pre self.now.expr) }
+        requires reads { ReadsExpr E.tree (F.post self.now.expr) }
+        ensures value { Reads (λ b. E.tree b.value) (read.at_place read.expr place input.old.rest) result input.new.rest }
+        ensures noted { input.new.noted ≡ input.old.noted }
+        ensures shrinks { weight input.new.rest ≤ weight input.old.rest }
+    {
+        let first = self.operand(input, place)?;
+        self.climb(input, place, first)
+    }
+}

@@ -1,0 +1,195 @@
+//! What the reading asks of an expression that was read: by its kind, and by whether attributes stand before it.
+
+ghost use Rattle.std.specs.Prelude.{◌≡◌, not, map};
+ghost use Rattle.syn_expr_kinds.specs.Attrs.{all_inner};
+ghost use Rattle.syn_expr_readers.specs.Kind as spec;
+ghost use Rattle.syn_grammar.specs.Stands as stands;
+ghost use Rattle.syn_lower_leaves.specs.View.{attribute_of};
+ghost use Rattle.syn_parts.specs.Form.{is_nil};
+
+use syn_expr_ends::like::is_block_like;
+use syn_expr_kinds::node::{Attributes, HasKind, HasNode};
+use syn_expr_notes::kind::NodeKind;
+use syn_expr_notes::label::{LeafKind, TrailerKind};
+use syn_grammar::kinds::{Infix, Place};
+use syn_lower_leaves::attr::{AttrStyle, Attribute};
+use syn_op::level::{is_comparison, is_range_op};
+
+/// Whether there are any.
+fn has_some(attrs: &[Attribute]) -> bool
+    ensures { result ≡ not (is_nil attrs.now) }
+{
+    matches!(attrs, [_, ..])
+}
+
+/// Whether one of them is an outer attribute.
+fn has_outer(mut attrs: &[Attribute]) -> bool
+    ensures { result ≡ not (all_inner (map attribute_of attrs.entry.now)) }
+{
+    'attributes: while let [first, more @ ..] = attrs {
+        if matches!(first.style, AttrStyle::Outer) {
+            return true;
+        }
+        attrs = more;
+    }
+    false
+}
+
+/// Whether attributes stand before it (Rust Reference, "Expression attributes").
+#[tactic(auto, using(crate::proofs::Adorned::adorned), unfolding(syn_expr_kinds::specs::Attrs::attrs_of, syn_expr_kinds::specs::Attrs::outer_of))]
+pub fn is_adorned<E: HasNode>(x: &E) -> bool
+    ensures { result ≡ stands.is_adorned (E.tree x.now) }
+{
+    match x.attributes() {
+        Attributes::None => false,
+        Attributes::Before(attrs) => has_some(attrs),
+        Attributes::Around(attrs) => has_outer(attrs),
+    }
+}
+
+/// The kind of a node before which no attribute stands; none of another.
+#[tactic(auto, unfolding(crate::specs::Kind::bare_kind))]
+pub fn bare_kind<E: HasNode + HasKind>(x: &E) -> Option<NodeKind>
+    ensures { result ≡ spec.bare_kind (E.tree x.now) }
+{
+    if is_adorned(x) { None } else { Some(x.kind()) }
+}
+
+/// Whether a trailer may stand behind it.
+#[tactic(auto, using(crate::proofs::ByKind::kinds))]
+pub fn carries<E: HasKind>(x: &E) -> bool
+    ensures { result ≡ stands.carries (E.tree x.now) }
+{
+    match x.kind() {
+        NodeKind::Leaf(leaf) => !leaf.is_range(),
+        NodeKind::Lead(lead) => lead.carries(),
+        NodeKind::Mid(_) => false,
+        NodeKind::Post(_) => false,
+        NodeKind::Paren => true,
+        NodeKind::Tail(_) => true,
+        NodeKind::Frame(_) => true,
+    }
+}
+
+/// Whether it is a range, behind attributes too (Rust Reference, "Range expressions").
+#[tactic(auto, using(crate::proofs::ByKind::kinds))]
+pub fn is_range<E: HasKind>(x: &E) -> bool
+    ensures { result ≡ stands.is_range (E.tree x.now) }
+{
+    match x.kind() {
+        NodeKind::Leaf(leaf) => leaf.is_range(),
+        NodeKind::Lead(lead) => lead.is_range(),
+        NodeKind::Mid(op) => is_range_op(op),
+        NodeKind::Post(post) => is_range_op(post.op()),
+        NodeKind::Paren => false,
+        NodeKind::Tail(_) => false,
+        NodeKind::Frame(_) => false,
+    }
+}
+
+/// Whether it is a comparison without parentheses (Rust Reference, "Comparison Operators").
+#[tactic(auto, using(crate::proofs::ByKind::kinds))]
+pub fn compares<E: HasNode + HasKind>(x: &E) -> bool
+    ensures { result ≡ stands.compares (E.tree x.now) }
+{
+    match bare_kind(x) {
+        Some(NodeKind::Mid(op)) => is_comparison(op),
+        _ => false,
+    }
+}
+
+/// Whether it is an operation with an infix operator.
+#[tactic(auto, using(crate::proofs::ByKind::kinds))]
+pub fn is_infix<E: HasNode + HasKind>(x: &E) -> bool
+    ensures { result ≡ stands.is_infix (E.tree x.now) }
+{
+    matches!(bare_kind(x), Some(NodeKind::Mid(_) | NodeKind::Post(_)))
+}
+
+/// Whether it is a cast (Rust Reference, "Type cast expressions").
+#[tactic(auto, using(crate::proofs::ByKind::kinds))]
+pub fn is_cast<E: HasNode + HasKind>(x: &E) -> bool
+    ensures { result ≡ stands.is_cast (E.tree x.now) }
+{
+    match bare_kind(x) {
+        Some(NodeKind::Post(post)) => post.is_cast(),
+        _ => false,
+    }
+}
+
+/// Whether it is tokens that are kept.
+#[tactic(auto, using(crate::proofs::ByKind::kinds))]
+pub fn is_verbatim<E: HasNode + HasKind>(x: &E) -> bool
+    ensures { result ≡ stands.is_verbatim (E.tree x.now) }
+{
+    matches!(
+        bare_kind(x),
+        Some(NodeKind::Leaf(LeafKind::Verbatim { .. }))
+    )
+}
+
+/// Whether it is tokens that are kept, `#` the first of them.
+#[tactic(auto, using(crate::proofs::ByKind::kinds))]
+pub fn is_pounded<E: HasNode + HasKind>(x: &E) -> bool
+    ensures { result ≡ stands.is_pounded (E.tree x.now) }
+{
+    match bare_kind(x) {
+        Some(NodeKind::Leaf(leaf)) => leaf.is_pounded(),
+        _ => false,
+    }
+}
+
+/// Whether it is a field with a name (Rust Reference, "Field access expressions").
+#[tactic(auto, using(crate::proofs::ByKind::kinds))]
+pub fn is_named_field<E: HasNode + HasKind>(x: &E) -> bool
+    ensures { result ≡ stands.is_named_field (E.tree x.now) }
+{
+    match bare_kind(x) {
+        Some(NodeKind::Tail(trailer)) => trailer.is_named_field(),
+        _ => false,
+    }
+}
+
+/// Whether it is the whole where it stands at a head: it is like a block (Rust Reference, "Expression statements").
+pub fn rests<E: HasKind>(place: Place, x: &E) -> bool
+    ensures { result ≡ stands.rests place (E.tree x.now) }
+{
+    place.head && is_block_like(x)
+}
+
+/// Whether attributes may stand before it: none do, it is neither an operation nor tokens that are kept, and a range only at
+/// a head (Rust Reference, "Expression attributes").
+pub fn may_adorn<E: HasNode + HasKind>(place: Place, x: &E) -> bool
+    ensures { result ≡ stands.may_adorn place (E.tree x.now) }
+{
+    !(is_infix(x) || is_adorned(x) || is_verbatim(x)) && (place.head || !is_range(x))
+}
+
+/// Whether it may be the left operand of an operator: it is no range, no comparison before another, and not the whole.
+#[tactic(auto, unfolding(syn_grammar::specs::Stands::fits_left))]
+pub fn fits_left<E: HasNode + HasKind>(place: Place, op: Infix, x: &E) -> bool
+    ensures { result ≡ stands.fits_left place op (E.tree x.now) }
+{
+    !(is_range(x) || is_comparison(op) && compares(x) || rests(place, x))
+}
+
+/// Whether `?` or a trailer with a dot may stand behind it.
+fn is_base<E: HasNode + HasKind>(x: &E) -> bool
+    ensures { result ≡ spec.is_base (E.tree x.now) }
+{
+    carries(x) && !(is_adorned(x) || is_pounded(x))
+}
+
+/// Whether a trailer of this kind may stand behind it: it carries one, and attributes don't stand before it; arguments stand
+/// behind no field with a name, and neither they nor an index behind what is the whole (Rust Reference, "Call expressions",
+/// "Array and slice indexing expressions").
+pub fn fits_base<E: HasNode + HasKind>(place: Place, kind: TrailerKind, x: &E) -> bool
+    ensures { result ≡ spec.fits_base place kind (E.tree x.now) }
+{
+    is_base(x)
+        && match kind {
+            TrailerKind::Call => !is_named_field(x) && !rests(place, x),
+            TrailerKind::Index => !rests(place, x),
+            _ => true,
+        }
+}

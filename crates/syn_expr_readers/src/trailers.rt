@@ -1,0 +1,231 @@
+//! The readers of trailers: calls, indices, `?`, and what stands behind a dot (Rust Reference, "Call expressions", "Array and
+//! slice indexing expressions", "Field access expressions", "Method-call expressions", "Await expressions").
+
+ghost use Rattle.std.specs.Prelude.{◌≡◌, ◌≤◌, ◌+◌, [], if◌then◌else◌, false, Some, None};
+ghost use Rattle.syn_expr_ends.specs.Reads.{Callable, ReadsExpr};
+ghost use Rattle.syn_expr_heads.specs.View.{trailer_of};
+ghost use Rattle.syn_expr_notes.specs.Label.{trailer_kind};
+ghost use Rattle.syn_expr_notes.specs.declared.label.TrailerKind.TheVariants as kinds;
+ghost use Rattle.syn_expr_readers.specs.Kind as told;
+ghost use Rattle.syn_expr_readers.specs.Loops.{trailers};
+ghost use Rattle.syn_grammar.specs.Head as head;
+ghost use Rattle.syn_grammar.specs.Read as read;
+ghost use Rattle.syn_grammar.specs.Stands as stands;
+ghost use Rattle.syn_grammar.specs.Tree as e;
+ghost use Rattle.syn_lower_leaves.specs.Reads.{Reads};
+ghost use Rattle.syn_parts.specs.Form.{and_then};
+ghost use Rattle.syn_tokens.specs.Tok.{weight};
+
+use crate::ends::closes;
+use crate::fields::fields;
+use crate::grammar::Grammar;
+use crate::make;
+use crate::told::fits_base;
+use syn_expr_ends::kinds::ReadExprs;
+use syn_expr_front::float::{FloatIndices, indices, indices_before_name, refusal};
+use syn_expr_front::sign::bracket_at;
+use syn_expr_heads::trailer::dotted;
+use syn_expr_heads::types::TrailerHead;
+use syn_expr_heads::word::dot;
+use syn_expr_lists::lists::Lists;
+use syn_expr_notes::label::TrailerKind;
+use syn_grammar::kinds::Place;
+use syn_lower_leaves::front;
+use syn_lower_lists::front::round_at;
+use syn_tokens::buffer::ParseBuffer;
+use syn_tokens::error::{ErrorKind, Result};
+use syn_tokens::token::{Dot, Question};
+
+/// The kind of the trailer that begins so.
+fn head_kind(head: &TrailerHead) -> TrailerKind
+    ensures { result ≡ trailer_kind (trailer_of head.now) }
+{
+    match head {
+        TrailerHead::Await(_) => TrailerKind::Await,
+        TrailerHead::Method(_, _) => TrailerKind::Method,
+        TrailerHead::Field(member) => TrailerKind::Field {
+            named: member.is_named(),
+        },
+    }
+}
+
+/// Makes `?`, which was taken, part of its base.
+#[tactic(auto, using(crate::proofs::Bases::bases))]
+fn question<E: ReadExprs + Drop>(
+    input: &mut ParseBuffer<'_>,
+    place: Place,
+    base: Box<E>,
+    question_token: Question,
+) -> Result<Box<E>>
+    ensures value { Reads (λ b. E.tree b.value) (read.trailed_by read.expr place (E.tree base.value) [] e.question input.old.rest) result input.new.rest }
+    ensures same { input.new ≡ input.old }
+{
+    if !fits_base(place, TrailerKind::Try, &*base) {
+        return Err(input.error(ErrorKind::UnexpectedToken));
+    }
+    Ok(make::question(input.alloc(), base, question_token)?)
+}
+
+/// Makes indices, which were taken behind a dot, part of their base.
+#[tactic(auto, using(crate::proofs::Bases::bases))]
+fn indexed<E: ReadExprs + Drop>(
+    input: &ParseBuffer<'_>,
+    place: Place,
+    base: Box<E>,
+    dot_token: Dot,
+    indices: FloatIndices<'_>,
+) -> Result<Box<E>>
+    ensures value { Reads (λ b. E.tree b.value) (if told.fits_base place (kinds.Field false) (E.tree base.value) then Some (stands.fields_of (E.tree base.value) indices.entry, input.now.rest) else None) result input.now.rest }
+{
+    if !fits_base(place, TrailerKind::Field { named: false }, &*base) {
+        return Err(input.error(ErrorKind::UnexpectedToken));
+    }
+    let (x, _) = fields(input.alloc(), base, dot_token, indices)?;
+    Ok(x)
+}
+
+impl<E: ReadExprs + Drop, F: Fn(&mut ParseBuffer<'_>, Place) -> Result<Box<E>> + Copy> Grammar<F> {
+    /// Reads the arguments of a call.
+    #[tactic(auto, using(crate::proofs::Bases::bases))]
+    fn call(&self, input: &mut ParseBuffer<'_>, place: Place, base: Box<E>) -> Result<Box<E>>
+        requires callable { Callable (weight input.old.rest) (F.pre self.now.expr) }
+        requires reads { ReadsExpr E.tree (F.post self.now.expr) }
+        ensures value { Reads (λ b. E.tree b.value) (read.trailed_by read.expr place (E.tree base.value) [] e.call input.old.rest) result input.new.rest }
+        ensures noted { input.new.noted ≡ input.old.noted }
+        ensures shrinks { weight input.new.rest ≤ weight input.old.rest }
+    {
+        if !fits_base(place, TrailerKind::Call, &*base) {
+            return Err(input.error(ErrorKind::UnexpectedToken));
+        }
+        let lists = Lists { expr: self.expr };
+        let (paren_token, args) = lists.arguments(input)?;
+        Ok(make::call(input.alloc(), base, paren_token, args)?)
+    }
+
+    /// Reads an index in brackets.
+    #[tactic(auto, using(crate::proofs::Bases::bases))]
+    fn index(&self, input: &mut ParseBuffer<'_>, place: Place, base: Box<E>) -> Result<Box<E>>
+        requires callable { Callable (weight input.old.rest) (F.pre self.now.expr) }
+        requires reads { ReadsExpr E.tree (F.post self.now.expr) }
+        ensures value { Reads (λ b. E.tree b.value) (read.trailed_by read.expr place (E.tree base.value) [] e.index input.old.rest) result input.new.rest }
+        ensures noted { input.new.noted ≡ input.old.noted }
+        ensures shrinks { weight input.new.rest ≤ weight input.old.rest }
+    {
+        if !fits_base(place, TrailerKind::Index, &*base) {
+            return Err(input.error(ErrorKind::UnexpectedToken));
+        }
+        let lists = Lists { expr: self.expr };
+        let (bracket_token, index) = lists.index(input)?;
+        Ok(make::index(input.alloc(), base, bracket_token, index)?)
+    }
+
+    /// Reads `await`, a field or a method with its arguments, behind the indices of a float that stand before it.
+    #[tactic(auto, using(crate::proofs::Bases::bases))]
+    fn named_trailer(
+        &self,
+        input: &mut ParseBuffer<'_>,
+        place: Place,
+        base: Box<E>,
+        dot_token: Dot,
+        indices: FloatIndices<'_>,
+    ) -> Result<Box<E>>
+        requires callable { Callable (weight input.old.rest + 1) (F.pre self.now.expr) }
+        requires reads { ReadsExpr E.tree (F.post self.now.expr) }
+        ensures value { Reads (λ b. E.tree b.value) (and_then (head.dotted.reads input.old.rest) (read.trailed_by read.expr place (E.tree base.value) indices.entry)) result input.new.rest }
+        ensures noted { input.new.noted ≡ input.old.noted }
+        ensures shrinks { weight input.new.rest ≤ weight input.old.rest }
+    {
+        let head = dotted(input)?;
+        if !fits_base(place, head_kind(&head), &*base) {
+            return Err(input.error(ErrorKind::UnexpectedToken));
+        }
+        let (base, dot_token) = fields(input.alloc(), base, dot_token, indices)?;
+        match head {
+            TrailerHead::Await(await_token) => Ok(make::awaited(
+                input.alloc(),
+                base,
+                dot_token,
+                await_token,
+            )?),
+            TrailerHead::Field(member) => Ok(make::field(input.alloc(), base, dot_token, member)?),
+            TrailerHead::Method(name, turbofish) => {
+                let lists = Lists { expr: self.expr };
+                let arguments = lists.arguments(input)?;
+                let name = (name, turbofish);
+                Ok(make::method(input.alloc(), base, dot_token, name, arguments)?)
+            }
+        }
+    }
+
+    /// Reads what stands behind a dot: indices, or a name with what belongs to it.
+    #[tactic(auto, using(crate::proofs::Bases::bases))]
+    fn behind_dot(
+        &self,
+        input: &mut ParseBuffer<'_>,
+        place: Place,
+        base: Box<E>,
+        dot_token: Dot,
+    ) -> Result<Box<E>>
+        requires callable { Callable (weight input.old.rest + 1) (F.pre self.now.expr) }
+        requires reads { ReadsExpr E.tree (F.post self.now.expr) }
+        ensures value { Reads (λ b. E.tree b.value) (read.dotted_by read.expr place (E.tree base.value) (stands.indices_at input.old.rest) input.old.rest) result input.new.rest }
+        ensures noted { input.new.noted ≡ input.old.noted }
+        ensures shrinks { weight input.new.rest ≤ weight input.old.rest }
+    {
+        if let Some(indices) = indices(input) {
+            return indexed(input, place, base, dot_token, indices);
+        }
+        let Some(indices) = indices_before_name(input) else {
+            return Err(refusal(input));
+        };
+        self.named_trailer(input, place, base, dot_token, indices)
+    }
+
+    /// Reads a trailer behind its base.
+    #[tactic(auto, unfolding(syn_grammar::specs::Read::trailed, syn_grammar::specs::Front::question_at))]
+    fn trailed(&self, input: &mut ParseBuffer<'_>, place: Place, base: Box<E>) -> Result<Box<E>>
+        requires callable { Callable (weight input.old.rest) (F.pre self.now.expr) }
+        requires reads { ReadsExpr E.tree (F.post self.now.expr) }
+        ensures value { Reads (λ b. E.tree b.value) (read.trailed read.expr place (E.tree base.value) input.old.rest) result input.new.rest }
+        ensures noted { input.new.noted ≡ input.old.noted }
+        ensures shrinks { weight input.new.rest ≤ weight input.old.rest }
+    {
+        if round_at(input) {
+            return self.call(input, place, base);
+        }
+        if bracket_at(input) {
+            return self.index(input, place, base);
+        }
+        if let Some(question_token) = front::question(input) {
+            return question(input, place, base, question_token);
+        }
+        let Some(dot_token) = dot(input) else {
+            return Err(input.error(ErrorKind::UnexpectedToken));
+        };
+        self.behind_dot(input, place, base, dot_token)
+    }
+
+    /// Reads the trailers behind a base, as many as there are.
+    ///
+    /// It is refused as `UnexpectedToken` at a trailer that its base doesn't take, as `ExpectedMember`,
+    /// `ExpectedUnsuffixedInteger` or `IndexOutOfRange` where no name, method or index is behind a dot, and inside as arguments,
+    /// an index or a type are.
+    #[tactic(auto, using(crate::proofs::Loops::trails))]
+    pub(crate) fn trail(
+        &self,
+        input: &mut ParseBuffer<'_>,
+        place: Place,
+        mut base: Box<E>,
+    ) -> Result<Box<E>>
+        requires callable { Callable (weight input.old.rest) (F.pre self.now.expr) }
+        requires reads { ReadsExpr E.tree (F.post self.now.expr) }
+        ensures value { Reads (λ b. E.tree b.value) (trailers place (E.tree base.value) input.old.rest) result input.new.rest }
+        ensures noted { input.new.noted ≡ input.old.noted }
+        ensures shrinks { weight input.new.rest ≤ weight input.old.rest }
+    {
+        'trailers: while !closes(input, place, &*base) {
+            base = self.trailed(input, place, base)?;
+        }
+        Ok(base)
+    }
+}
