@@ -8,12 +8,20 @@ ghost use Rattle.syn_grammar.specs.Tree.{Tree};
 
 use crate::joined::joined;
 use std::alloc::AllocError;
-use syn_expr_kinds::atom::{ExprArrayOf, ExprGroupOf, ExprInfer, ExprLit, ExprMacro, ExprParenOf, ExprPath, ExprRepeatOf, ExprTupleOf};
+use syn_expr_kinds::atom::{
+    ExprArrayOf, ExprGroupOf, ExprInfer, ExprLit, ExprMacro, ExprParenOf, ExprPath, ExprRepeatOf,
+    ExprTupleOf,
+};
 use syn_expr_kinds::block::{ExprAsync, ExprIfOf, ExprTryBlock};
 use syn_expr_kinds::jump::{ExprBreakOf, ExprContinue, ExprReturnOf, ExprYieldOf};
-use syn_expr_kinds::operation::{ExprAssignOf, ExprBinaryOf, ExprCastOf, ExprRangeOf, ExprRawAddrOf, ExprReferenceOf, ExprUnaryOf};
-use syn_expr_kinds::structure::{ExprStructOf};
-use syn_expr_kinds::trailer::{ExprAwaitOf, ExprCallOf, ExprFieldOf, ExprIndexOf, ExprMethodCallOf, ExprTryOf};
+use syn_expr_kinds::operation::{
+    ExprAssignOf, ExprBinaryOf, ExprCastOf, ExprRangeOf, ExprRawAddrOf, ExprReferenceOf,
+    ExprUnaryOf,
+};
+use syn_expr_kinds::structure::ExprStructOf;
+use syn_expr_kinds::trailer::{
+    ExprAwaitOf, ExprCallOf, ExprFieldOf, ExprIndexOf, ExprMethodCallOf, ExprTryOf,
+};
 use syn_lower::attr::Attribute;
 
 /// It behind more attributes.
@@ -132,10 +140,7 @@ pub fn async_block(x: ExprAsync, attrs: Vec<Attribute>) -> Result<ExprAsync, All
 }
 
 /// It behind more attributes.
-pub fn if_expr<E: Drop>(
-    x: ExprIfOf<E>,
-    attrs: Vec<Attribute>,
-) -> Result<ExprIfOf<E>, AllocError>
+pub fn if_expr<E: Drop>(x: ExprIfOf<E>, attrs: Vec<Attribute>) -> Result<ExprIfOf<E>, AllocError>
     ensures { (tree : E → Tree) → IfOk result (λ y. Behind (attrs_of attrs) (expr_if_of tree x) (expr_if_of tree y)) }
 {
     Ok(ExprIfOf {
@@ -230,10 +235,7 @@ pub fn binary<E: Drop>(
 }
 
 /// It behind more attributes.
-pub fn cast<E: Drop>(
-    x: ExprCastOf<E>,
-    attrs: Vec<Attribute>,
-) -> Result<ExprCastOf<E>, AllocError>
+pub fn cast<E: Drop>(x: ExprCastOf<E>, attrs: Vec<Attribute>) -> Result<ExprCastOf<E>, AllocError>
     ensures { (tree : E → Tree) → IfOk result (λ y. Behind (attrs_of attrs) (expr_cast_of tree x) (expr_cast_of tree y)) }
 {
     Ok(ExprCastOf {
@@ -321,10 +323,7 @@ pub fn await_expr<E: Drop>(
 }
 
 /// It behind more attributes.
-pub fn call<E: Drop>(
-    x: ExprCallOf<E>,
-    attrs: Vec<Attribute>,
-) -> Result<ExprCallOf<E>, AllocError>
+pub fn call<E: Drop>(x: ExprCallOf<E>, attrs: Vec<Attribute>) -> Result<ExprCallOf<E>, AllocError>
     ensures { (tree : E → Tree) → IfOk result (λ y. Behind (attrs_of attrs) (expr_call_of tree x) (expr_call_of tree y)) }
 {
     Ok(ExprCallOf {
@@ -373,10 +372,7 @@ pub fn method_call<E: Drop>(
 }
 
 /// It behind more attributes.
-pub fn try_expr<E: Drop>(
-    x: ExprTryOf<E>,
-    attrs: Vec<Attribute>,
-) -> Result<ExprTryOf<E>, AllocError>
+pub fn try_expr<E: Drop>(x: ExprTryOf<E>, attrs: Vec<Attribute>) -> Result<ExprTryOf<E>, AllocError>
     ensures { (tree : E → Tree) → IfOk result (λ y. Behind (attrs_of attrs) (expr_try_of tree x) (expr_try_of tree y)) }
 {
     Ok(ExprTryOf {

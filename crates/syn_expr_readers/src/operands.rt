@@ -14,9 +14,8 @@ ghost use Rattle.syn_tokens.specs.Tok.{weight};
 ghost use Rattle.syn_tokens.specs.View.{toks_of};
 
 use crate::grammar::Grammar;
-use crate::make;
-use crate::refusal;
 use crate::told::may_adorn;
+use crate::{make, refusal};
 use syn_expr_atoms::atoms::Atoms;
 use syn_expr_atoms::leaf::{leaf, standing};
 use syn_expr_blocks::blocks::Blocks;
