@@ -1,0 +1,10 @@
+//! What is noted of each node of an expression before anything is printed: one pass over the whole tree puts the notes of
+//! its nodes into a list, from which a printer takes them in the order in which it comes to the nodes.
+#![tactic(auto)]
+
+pub mod arm;
+mod node;
+pub mod notes;
+
+pub use arm::HasArms;
+pub use notes::collect;

@@ -1,0 +1,10 @@
+pub mod Appends
+pub mod Stacks
+pub mod Spellings
+pub mod Kids
+pub mod Lists
+pub mod Fields
+pub mod Braced
+pub mod Arms
+pub mod Lents
+pub mod Sizes

@@ -1,0 +1,6 @@
+//! The printer of expressions.
+#![tactic(auto)]
+
+pub mod node;
+pub mod notes;
+pub mod operands;
