@@ -13,7 +13,7 @@ use Rattle.syn_grammar.specs.Tree.{Tree, Kids, Ending, Piece, none, kid}
 use Rattle.syn_grammar.specs.Notes.{stack, kids_below}
 use Rattle.syn_expr_kinds.specs.Pats.{ArmView, strays, guard_kids, arm_ending, arm_kids, arms}
 use Rattle.syn_expr_kinds.specs.View.{FieldView, elements, fields, option_kid}
-use Rattle.syn_expr_collect.specs.Arm.{last_guard, guard_by, guard_at}
+use Rattle.syn_expr_collect.specs.Arm.{last_guard, guard_by}
 use Rattle.syn_expr_collect.specs.Below.{backwards, total, field_below, field_visited, option_below, option_visited, arm_below, arm_visited}
 use Rattle.syn_expr_collect.specs.Visited.{visited, kids_visited}
 

@@ -1,5 +1,5 @@
 -- The note of a node, and what its operands make of a pass over it.
-use Rattle.std.proofs.Common.{◌≡◌, ℕ, ◌+◌, ◌≤◌, Bool, true, false, not, if◌then◌else◌, List, [], ◌∷◌, ◌++◌, refl, sym, ap, ◌∙◌, arith}
+use Rattle.std.proofs.Common.{◌≡◌, ◌+◌, Bool, true, false, not, if◌then◌else◌, List, [], ◌∷◌, ◌++◌, refl, sym, ap, ◌∙◌, arith}
 use Rattle.std.proofs.lemmas.List.{append-nil}
 use Rattle.syn_tokens.specs.Tok.{Tok}
 use Rattle.syn_parts.specs.Tree.{AttributeTree}
@@ -18,7 +18,7 @@ use Rattle.syn_expr_notes.specs.declared.label.LeadKind.{LeadKind}
 use Rattle.syn_expr_notes.specs.declared.label.PostKind.{PostKind}
 use Rattle.syn_expr_notes.specs.declared.label.TrailerKind.{TrailerKind}
 use Rattle.syn_expr_notes.specs.declared.label.FrameKind.{FrameKind}
-use Rattle.syn_expr_kinds.specs.Attrs.{all_inner, is_in_order, before_inner, from_inner, outer_part}
+use Rattle.syn_expr_kinds.specs.Attrs.{all_inner, before_inner, from_inner, outer_part}
 use Rattle.syn_expr_kinds.specs.Node.{attributes_at, without_strays, operands_at, based_by}
 use Rattle.syn_expr_collect.specs.Below.{plain_note, has_some, noted_behind, AreFirst, operands_below, operands_visited}
 use Rattle.syn_expr_collect.specs.Visited.{visited, kids_visited}

@@ -3,8 +3,10 @@
 #![tactic(auto)]
 
 pub mod arm;
+pub mod edges;
 mod node;
 pub mod notes;
 
 pub use arm::HasArms;
+pub use edges::note_of;
 pub use notes::collect;

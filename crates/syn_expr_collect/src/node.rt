@@ -66,6 +66,17 @@ fn has_before(attributes: Attributes<'_>) -> bool
     }
 }
 
+/// The note of a node behind its attributes.
+pub(crate) fn behind(attributes: Attributes<'_>, note: Note) -> Note
+    ensures { result ≡ noted_behind (before_of attributes.entry) note }
+{
+    if has_before(attributes) {
+        adorned_note(note)
+    } else {
+        note
+    }
+}
+
 /// Keeps the note of a node behind its attributes.
 pub(crate) fn keep(
     notes: &mut Vec<Note>,
@@ -75,11 +86,7 @@ pub(crate) fn keep(
     ensures same { IfOk result (λ n. n ≡ noted_behind (before_of attributes.entry) note) }
     ensures kept { OnOk result (notes.new.items ≡ notes.old.items ++ noted_behind (before_of attributes.entry) note ∷ []) }
 {
-    let note = if has_before(attributes) {
-        adorned_note(note)
-    } else {
-        note
-    };
+    let note = behind(attributes, note);
     notes.push(note)?;
     Ok(note)
 }

@@ -1,0 +1,2 @@
+pub mod Fixup
+pub mod Operator

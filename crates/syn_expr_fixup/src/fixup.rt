@@ -1,0 +1,309 @@
+//! Where an expression is printed: what decides about its parentheses, but the expression itself.
+
+ghost use Rattle.std.specs.Prelude.{◌≡◌, false, if◌then◌else◌};
+ghost use Rattle.syn_grammar.specs.Next as spec;
+ghost use Rattle.syn_grammar.specs.Next.{base_context, class_of, is_half_open, lead_context, left_context, right_context};
+ghost use Rattle.syn_grammar.specs.Rule.{bad, base_wrapped, left_wrapped, low, place_wrapped};
+ghost use Rattle.syn_grammar.specs.Tree as e;
+ghost use Rattle.syn_grammar.specs.Tree.{Lead, Trailer};
+ghost use Rattle.syn_grammar.specs.declared.kinds.Infix.{Infix};
+ghost use Rattle.syn_grammar.specs.declared.kinds.Level.TheVariants as lev;
+ghost use Rattle.syn_grammar.specs.declared.next.Next.TheVariants as next;
+ghost use Rattle.syn_expr_fixup.specs.Fixup.{Fits, is_jump, is_optional, level_if, parenthesized, whole_at};
+ghost use Rattle.syn_expr_fixup.specs.Operator.{operator_at};
+
+use std::marker::Model;
+use syn_expr_collect::note_of;
+use syn_expr_kinds::node::{HasKind, HasNode};
+use syn_expr_notes::class::{is_block_next, is_brace_next, without_block};
+use syn_expr_notes::context::{base_context, in_arm, in_condition, in_statement, left_context};
+use syn_expr_notes::decide::{base_wrapped_by, left_wrapped_by, misplaced_by, wrapped_by};
+use syn_expr_notes::label::TrailerKind;
+use syn_expr_notes::set::has;
+use syn_grammar::kinds::{BinKind, Infix, Level, Limits};
+use syn_grammar::next::{Context, Edge, Next};
+
+/// Where an expression is printed: what stands round it and behind it, and how tightly it has to bind there.
+///
+/// `if (S {}) {}` and `x = S {}`: a struct expression needs parentheses in a condition.
+/// `(match x {}) + 1;` and `x = match x {} + 1;`: a block-like expression needs them at the head of a statement where
+/// something follows it.
+/// `(a + b) * c` and `a + b`: an operator needs them where the place takes a tighter one.
+#[derive(Clone, Copy)]
+pub struct FixupContext {
+    context: Context,
+    level: Level,
+}
+
+impl Model for FixupContext {
+    ghost use Rattle.syn_expr_fixup.specs.Fixup.{Fixup};
+
+    ghost Value = { Fixup };
+
+    ghost view = { λ f. record { context = f.context; level = f.level } };
+
+    ghost inverse = { λ v. record { context = v.context; level = v.level } };
+}
+
+/// The level that answers a question about an operand: the lowest where it is put in parentheses, else the highest.
+fn level_if(wrapped: bool) -> Level
+    ensures { result ≡ level_if wrapped }
+{
+    if wrapped {
+        Level::Jump
+    } else {
+        Level::Unambiguous
+    }
+}
+
+/// An operator of the level, whose first token begins an expression or generic arguments as is said; none for a level of no
+/// infix operator.
+fn operator_by(level: Level, can_begin_expr: bool, can_begin_generics: bool) -> Option<Infix>
+    ensures { result ≡ operator_at level can_begin_expr can_begin_generics }
+{
+    match level {
+        Level::Assign => {
+            if can_begin_generics {
+                Some(Infix::Binary(BinKind::ShlAssign))
+            } else {
+                Some(Infix::Assign)
+            }
+        }
+        Level::Range => Some(Infix::Range(Limits::HalfOpen)),
+        Level::Or => Some(Infix::Binary(BinKind::Or)),
+        Level::And => Some(Infix::Binary(BinKind::And)),
+        Level::Compare => {
+            Some(Infix::Binary(if can_begin_expr {
+                BinKind::Lt
+            } else {
+                BinKind::Eq
+            }))
+        }
+        Level::BitOr => Some(Infix::Binary(BinKind::BitOr)),
+        Level::BitXor => Some(Infix::Binary(BinKind::BitXor)),
+        Level::BitAnd => Some(Infix::Binary(BinKind::BitAnd)),
+        Level::Shift => {
+            Some(Infix::Binary(if can_begin_expr {
+                BinKind::Shl
+            } else {
+                BinKind::Shr
+            }))
+        }
+        Level::Sum => {
+            Some(Infix::Binary(if can_begin_expr {
+                BinKind::Sub
+            } else {
+                BinKind::Add
+            }))
+        }
+        Level::Product => {
+            Some(Infix::Binary(if can_begin_expr {
+                BinKind::Mul
+            } else {
+                BinKind::Div
+            }))
+        }
+        Level::Cast => Some(Infix::Cast),
+        Level::Jump | Level::Let | Level::Prefix | Level::Unambiguous => None,
+    }
+}
+
+/// Without a block, where a jump's value is: a brace behind it would be that of a struct expression.
+fn reset_next(reset: bool, next: Next) -> Next
+    ensures { result ≡ (if reset then spec.without_block next else next) }
+{
+    if reset { without_block(next) } else { next }
+}
+
+impl FixupContext {
+    /// For itself, with nothing round it and nothing behind.
+    ///
+    /// `(a + b) * c` needs its parentheses; `a * b + c` none.
+    pub const NONE: FixupContext = FixupContext {
+        context: Context {
+            condition: false,
+            edge: Edge::Free,
+            next: Next::End,
+        },
+        level: Level::Jump,
+    };
+
+    /// At the head of a statement (Rust Reference, "Expression statements").
+    ///
+    /// `({ a }) + b;` needs its parentheses, since the block would be a statement of its own; `a + { b };` none.
+    pub fn new_stmt() -> FixupContext
+        ensures { result ≡ whole_at spec.in_statement }
+    {
+        FixupContext {
+            context: in_statement(),
+            level: Level::Jump,
+        }
+    }
+
+    /// The body of a match arm (Rust Reference, "`match` expressions").
+    ///
+    /// `_ => ({ a }) + b,` needs its parentheses; `_ => { a }.b,` none.
+    pub fn new_match_arm() -> FixupContext
+        ensures { result ≡ whole_at spec.in_arm }
+    {
+        FixupContext {
+            context: in_arm(),
+            level: Level::Jump,
+        }
+    }
+
+    /// Before the block of an `if`, `while`, `match` or `for` (Rust Reference, "`if` expressions").
+    ///
+    /// `if (S {}) {}` needs its parentheses; `if f(S {}) {}` none.
+    pub fn new_condition() -> FixupContext
+        ensures { result ≡ whole_at spec.in_condition }
+    {
+        FixupContext {
+            context: in_condition(),
+            level: Level::Jump,
+        }
+    }
+
+    /// What the rule asks of the place.
+    pub fn context(self) -> Context
+        ensures { result ≡ self.context }
+    {
+        self.context
+    }
+
+    /// What decides about a left operand of an operator with this precedence: `Unambiguous` where it is left bare for its
+    /// level, else `Jump`, and the place of the operand. It is told of the operator's first token whether it can begin an
+    /// expression (`-`) and generic arguments (`<`). With `Unambiguous`: the base of an index.
+    ///
+    /// `(a + b) * c` needs its parentheses; `a * b + c` none.
+    #[tactic(auto, using(crate::proofs::Classes::operands))]
+    pub fn leftmost_subexpression_with_operator<E: HasNode + HasKind>(
+        self,
+        expr: &E,
+        next_operator_can_begin_expr: bool,
+        next_operator_can_begin_generics: bool,
+        precedence: Level,
+    ) -> (Level, FixupContext)
+        ensures level { (k : Infix) → Fits k precedence next_operator_can_begin_expr next_operator_can_begin_generics
+            → result.0 ≡ level_if (left_wrapped k (E.tree expr.now) (bad (E.tree expr.now) (class_of k))) }
+        ensures place { (k : Infix) → Fits k precedence next_operator_can_begin_expr next_operator_can_begin_generics
+            → result.1.context ≡ left_context k self.context }
+        ensures base { precedence ≡ lev.Unambiguous → result.0 ≡ level_if (base_wrapped e.index (E.tree expr.now) (bad (E.tree expr.now) next.Bracket)) }
+        ensures based { precedence ≡ lev.Unambiguous → result.1.context ≡ base_context e.index self.context }
+    {
+        let note = note_of(expr);
+        match operator_by(
+            precedence,
+            next_operator_can_begin_expr,
+            next_operator_can_begin_generics,
+        ) {
+            Some(op) => {
+                let place = FixupContext {
+                    context: left_context(op, self.context),
+                    level: precedence,
+                };
+                (level_if(left_wrapped_by(op, note)), place)
+            }
+            None => {
+                let place = FixupContext {
+                    context: base_context(TrailerKind::Index, self.context),
+                    level: precedence,
+                };
+                (level_if(base_wrapped_by(TrailerKind::Index, note)), place)
+            }
+        }
+    }
+
+    /// What decides about the base before a dot: `Unambiguous` where it is left bare for its level, else `Jump`, and the
+    /// place of the base.
+    ///
+    /// `(a + b).c` needs its parentheses; `a[b].c` none.
+    #[tactic(auto, using(crate::proofs::Classes::operands))]
+    pub fn leftmost_subexpression_with_dot<E: HasNode + HasKind>(
+        self,
+        expr: &E,
+    ) -> (Level, FixupContext)
+        ensures level { (k : Trailer) → spec.next_of k ≡ next.Dot → result.0 ≡ level_if (base_wrapped k (E.tree expr.now) (bad (E.tree expr.now) next.Dot)) }
+        ensures place { (k : Trailer) → spec.next_of k ≡ next.Dot → result.1.context ≡ base_context k self.context }
+    {
+        let place = FixupContext {
+            context: base_context(TrailerKind::Await, self.context),
+            level: Level::Unambiguous,
+        };
+        (
+            level_if(base_wrapped_by(TrailerKind::Await, note_of(expr))),
+            place,
+        )
+    }
+
+    /// What decides about an operand at the right end, behind an operator of this precedence: `Unambiguous` where it is left
+    /// bare for its level, else `Jump`, and the place of the operand.
+    ///
+    /// `a - (b - c)` needs its parentheses; `a - b * c` none.
+    pub fn rightmost_subexpression<E: HasNode + HasKind>(
+        self,
+        expr: &E,
+        precedence: Level,
+    ) -> (Level, FixupContext)
+        ensures level { result.0 ≡ level_if (place_wrapped precedence (E.tree expr.now) self.context.next (low (E.tree expr.now)) (bad (E.tree expr.now) self.context.next)) }
+        ensures place { (k : Infix) → is_half_open k ≡ false → result.1.context ≡ right_context k self.context }
+    {
+        let place = self.rightmost_subexpression_fixup(false, false, precedence);
+        (place.rightmost_subexpression_precedence(expr), place)
+    }
+
+    /// The place of an operand at the right end, behind an operator of this precedence. `reset_allow_struct`: behind a jump,
+    /// where struct expressions may stand even in a condition. `optional_operand`: it might be left out, so that in a
+    /// condition a brace there would be that of the block.
+    ///
+    /// `if a..({ b }) {}` needs its parentheses; `if a..=({ b }) {}` none.
+    pub fn rightmost_subexpression_fixup(
+        self,
+        reset_allow_struct: bool,
+        optional_operand: bool,
+        precedence: Level,
+    ) -> FixupContext
+        ensures right { (k : Infix) → reset_allow_struct ≡ false → optional_operand ≡ is_half_open k → result.context ≡ right_context k self.context }
+        ensures lead { (k : Lead) → reset_allow_struct ≡ is_jump k → optional_operand ≡ is_optional k → result.context ≡ lead_context k self.context }
+        ensures level { result.level ≡ precedence }
+    {
+        let context = Context {
+            condition: !reset_allow_struct && self.context.condition,
+            edge: if optional_operand && self.context.condition {
+                Edge::NoBrace
+            } else {
+                Edge::Free
+            },
+            next: reset_next(reset_allow_struct, self.context.next),
+        };
+        FixupContext {
+            context,
+            level: precedence,
+        }
+    }
+
+    /// Whether an operand in this place is left bare for its level: `Unambiguous` where it is, else `Jump`.
+    ///
+    /// Behind `-`, `(a - b)` needs its parentheses; `a * b` none.
+    #[tactic(auto, using(crate::proofs::Classes::operands))]
+    pub fn rightmost_subexpression_precedence<E: HasNode + HasKind>(self, expr: &E) -> Level
+        ensures { result ≡ level_if (place_wrapped self.level (E.tree expr.now) self.context.next (low (E.tree expr.now)) (bad (E.tree expr.now) self.context.next)) }
+    {
+        level_if(wrapped_by(self.level, note_of(expr), self.context.next))
+    }
+
+    /// Whether this place refuses an expression for what it is itself, or for the brace behind the place, which it would take:
+    /// a block-like expression below the head of a statement or of an arm's body, a `let` or a macro with braces in a
+    /// statement, a struct expression in a condition, a jump or a range without its value before a brace.
+    ///
+    /// `if (S {}) {}` needs its parentheses; `x = S {}` none.
+    #[tactic(auto, using(crate::proofs::Classes::operands))]
+    pub fn parenthesize<E: HasNode + HasKind>(self, expr: &E) -> bool
+        ensures { result ≡ parenthesized self.context (E.tree expr.now) }
+    {
+        let note = note_of(expr);
+        let next = self.context.next;
+        misplaced_by(self.context, note.sort)
+            || (is_block_next(next) || is_brace_next(next)) && has(note.ends, next)
+    }
+}
