@@ -204,7 +204,7 @@ pat_map (Pat-F.Typed x) = refl
 pat_map (Pat-F.Wild x) = refl
 pat_map (Pat-F.Guard x) = refl
 
-pat_out : (x : Pat) → pat_of x ≡ pat_layer views (out-Pat x)
+pub pat_out : (x : Pat) → pat_of x ≡ pat_layer views (out-Pat x)
 unfolding tree_of pat_of closure_of arm_of for_loop_of binding_of choice_of guard_of
 pat_out x = fold_out-Pat Tree PatView Tree ArmView Tree Tree Tree PatView tree_step pat_step closure_step arm_step for_loop_step binding_step choice_step guard_step x ∙ pat_map (out-Pat x)
 

@@ -1,6 +1,9 @@
-//! Expressions and the patterns in them, as in syn.
+//! Expressions and the patterns in them, as in syn. Their names stand here at the root too, with those of tokens and of their
+//! readers that each program needs. Types, paths, attributes, literals and the other lower parts stand at the root of
+//! `syn_lower`.
 #![tactic(auto)]
 
+mod behind;
 pub mod closure;
 pub mod control;
 pub mod expr;
@@ -9,6 +12,31 @@ mod kind;
 mod make;
 mod make_pat;
 mod node;
+mod parse;
 pub mod pat;
 mod pattern;
 mod placeholder;
+mod read_expr;
+mod read_pat;
+
+pub use expr::{
+    Arm, Expr, ExprArray, ExprAssign, ExprAsync, ExprAwait, ExprBinary, ExprBlock, ExprBreak,
+    ExprCall, ExprCast, ExprClosure, ExprConst, ExprContinue, ExprField, ExprForLoop, ExprGroup,
+    ExprIf, ExprIndex, ExprInfer, ExprLet, ExprLit, ExprLoop, ExprMacro, ExprMatch, ExprMethodCall,
+    ExprParen, ExprPath, ExprRange, ExprRawAddr, ExprReference, ExprRepeat, ExprReturn, ExprStruct,
+    ExprTry, ExprTryBlock, ExprTuple, ExprUnary, ExprUnsafe, ExprWhile, ExprYield, FieldValue,
+};
+pub use pat::{
+    FieldPat, FieldPatKind, FullFieldPat, Pat, PatConst, PatGuard, PatIdent, PatLit, PatMacro,
+    PatOr, PatParen, PatPath, PatRange, PatReference, PatRest, PatSlice, PatStruct, PatTuple,
+    PatTupleStruct, PatType, PatWild, RangeBound, ShortFieldPat,
+};
+pub use syn_expr_parts::label::Label;
+pub use syn_expr_parts::member::{Index, Member};
+pub use syn_expr_parts::modifiers::{BlockModifiers, ClosureModifiers};
+pub use syn_op::limits::RangeLimits;
+pub use syn_op::op::{BinOp, UnOp};
+pub use syn_tokens::{
+    Delimiter, Error, ErrorKind, Group, Ident, Literal, Parse, ParseBuffer, Punct, Result, Spacing,
+    Span, ToTokens, Token, TokenStream, TokenTree, lex, parse_str, parse2, to_text, token,
+};
