@@ -3,6 +3,7 @@
 //! `syn_lower`.
 #![tactic(auto)]
 
+mod arm;
 mod behind;
 pub mod closure;
 pub mod control;
@@ -16,8 +17,10 @@ mod parse;
 pub mod pat;
 mod pattern;
 mod placeholder;
+mod print_pat;
 mod read_expr;
 mod read_pat;
+mod shape;
 
 pub use expr::{
     Arm, Expr, ExprArray, ExprAssign, ExprAsync, ExprAwait, ExprBinary, ExprBlock, ExprBreak,
