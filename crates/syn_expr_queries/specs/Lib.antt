@@ -1,0 +1,4 @@
+pub mod Ends
+pub mod Node
+pub mod Frames
+pub mod Right

@@ -1,0 +1,13 @@
+//! What is known of the operands that stand in places of their own.
+
+ghost use Rattle.std.specs.Prelude.{◌≡◌, true};
+ghost use Rattle.syn_expr_queries.specs.Frames.{frames_hold};
+
+use syn_expr_kinds::node::HasShape;
+
+/// The type of expressions, as one asks for what is last in it.
+pub trait HasFrames: HasShape {
+    /// The condition of an `if`, of a loop and of a `match` has its braces behind it, and a closure with an output has its
+    /// body alone.
+    ghost framed: { (x : Self) → frames_hold (Self.tree x) ≡ true };
+}

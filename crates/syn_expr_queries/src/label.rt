@@ -1,0 +1,98 @@
+//! Whether a label is first in an expression.
+
+ghost use Rattle.std.specs.Prelude.{◌≡◌};
+ghost use Rattle.syn_expr_kinds.specs.Node.{leaf_of};
+ghost use Rattle.syn_expr_queries.specs.Node.{kept_at, kept_of, is_labelled, word_behind};
+ghost use Rattle.syn_grammar.specs.Query as query;
+ghost use Rattle.syn_lower_leaves.specs.View.{mapped};
+
+use crate::attributes::has_before;
+use crate::operands::first;
+use crate::tokens::begins_with_lifetime;
+use syn_expr_kinds::node::{Braces, HasShape, Jump, Leaf};
+use syn_expr_notes::kind::NodeKind;
+use syn_grammar::kinds::Infix;
+use syn_tokens::tree::TokenStream;
+
+/// The tokens that are kept.
+fn kept(leaf: Leaf<'_>) -> Option<&'_ TokenStream>
+    ensures { mapped (λ ts. ts.now) result ≡ kept_of (leaf_of leaf.entry) }
+{
+    match leaf {
+        Leaf::Verbatim(tokens) => Some(tokens),
+        Leaf::Lit(_)
+        | Leaf::Path(_, _)
+        | Leaf::Macro(_)
+        | Leaf::Infer(_)
+        | Leaf::Range(_)
+        | Leaf::Continue(_, _)
+        | Leaf::Async(_, _, _)
+        | Leaf::TryBlock(_, _) => None,
+        Leaf::Jump(jump) => match jump {
+            Jump::Return(_) | Jump::Yield(_) | Jump::Break(_, _) => None,
+        },
+        Leaf::Block(_, Braces { attrs: _, block: _ }) => None,
+        Leaf::Loop(_, _, Braces { attrs: _, block: _ }) => None,
+        Leaf::Unsafe(_, Braces { attrs: _, block: _ }) => None,
+        Leaf::Const(_, Braces { attrs: _, block: _ }) => None,
+    }
+}
+
+/// Whether a word stands behind the operand with which a node of this kind begins, which of all that may is `as` alone; none
+/// where it begins with no operand.
+fn word_behind(kind: NodeKind) -> Option<bool>
+    ensures { result ≡ word_behind kind }
+{
+    match kind {
+        NodeKind::Mid(op) => Some(op == Infix::Cast),
+        NodeKind::Post(kind) => Some(kind.is_cast()),
+        NodeKind::Tail(_) => Some(false),
+        NodeKind::Leaf(_) | NodeKind::Paren | NodeKind::Lead(_) | NodeKind::Frame(_) => None,
+    }
+}
+
+/// Whether a node of this kind, which begins with no operand, has a label.
+fn is_labelled(kind: NodeKind) -> bool
+    ensures { result ≡ is_labelled kind }
+{
+    match kind {
+        NodeKind::Leaf(kind) => kind.is_labelled(),
+        NodeKind::Frame(kind) => kind.is_labelled(),
+        NodeKind::Paren
+        | NodeKind::Lead(_)
+        | NodeKind::Mid(_)
+        | NodeKind::Post(_)
+        | NodeKind::Tail(_) => false,
+    }
+}
+
+/// The tokens that a node keeps, if it is such.
+fn kept_tokens<E: HasShape>(expr: &E) -> Option<&TokenStream>
+    ensures { mapped (λ ts. ts.now) result ≡ kept_at (E.tree expr.now) }
+{
+    match expr.leaf() {
+        Some(leaf) => kept(leaf),
+        None => None,
+    }
+}
+
+/// Whether a label is first in an expression; `word`: whether a word stands behind it.
+#[tactic(auto, using(crate::proofs::Labels::labels, crate::proofs::Nodes::smaller))]
+pub(crate) fn begins_with_label<E: HasShape>(expr: &E, word: bool) -> bool
+    ensures { result ≡ query.tree_leads word (E.tree expr.now) }
+{
+    if has_before(expr.attributes()) {
+        return false;
+    }
+    let kind = expr.kind();
+    if let Some(word) = word_behind(kind) {
+        return match first(expr.operands()) {
+            Some(x) => begins_with_label(x, word),
+            None => false,
+        };
+    }
+    match kept_tokens(expr) {
+        Some(tokens) => begins_with_lifetime(tokens, word),
+        None => is_labelled(kind),
+    }
+}

@@ -1,0 +1,152 @@
+//! Whether an expression ends with a group in braces.
+
+ghost use Rattle.std.specs.Prelude.{◌≡◌};
+ghost use Rattle.syn_expr_kinds.specs.Node.{leaf_of, lead_of, post_of, frame_of};
+ghost use Rattle.syn_expr_queries.specs.Node.{is_operation};
+ghost use Rattle.syn_expr_queries.specs.Right.{NodeTells, frame_right};
+ghost use Rattle.syn_grammar.specs.Query as query;
+ghost use Rattle.syn_lower.specs.View.{return_of};
+ghost use Rattle.syn_pat_kinds.specs.View.{PatView};
+
+use crate::attributes::behind;
+use crate::brace::{is_brace, output_brace, path_brace, type_brace};
+use crate::frames::HasFrames;
+use crate::operands::last;
+use crate::tokens::ends_with_braces;
+use syn_expr_kinds::node::{Braces, Closure, Frame, Jump, Lead, Leaf, Post};
+use syn_expr_notes::kind::NodeKind;
+
+/// What is last in a node.
+enum Right {
+    /// No operand: whether braces are.
+    Told(bool),
+    /// An operand; whether braces stand before it.
+    Operand(bool),
+}
+
+/// Whether what holds no expression ends with braces; `before`: whether braces stand before it.
+fn leaf_brace(leaf: Leaf<'_>, before: bool) -> bool
+    ensures { result ≡ query.leaf_brace before (leaf_of leaf.entry) }
+{
+    match leaf {
+        Leaf::Path(qself, path) => path_brace(qself, path, before),
+        Leaf::Macro(mac) => is_brace(&mac.delimiter),
+        Leaf::Block(_, Braces { attrs: _, block: _ }) => true,
+        Leaf::Loop(_, _, Braces { attrs: _, block: _ }) => true,
+        Leaf::Unsafe(_, Braces { attrs: _, block: _ }) => true,
+        Leaf::Const(_, Braces { attrs: _, block: _ }) => true,
+        Leaf::Async(_, _, _) | Leaf::TryBlock(_, _) => true,
+        Leaf::Jump(jump) => match jump {
+            Jump::Return(_) | Jump::Yield(_) | Jump::Break(_, _) => false,
+        },
+        Leaf::Verbatim(tokens) => ends_with_braces(tokens, before),
+        Leaf::Lit(_) | Leaf::Infer(_) | Leaf::Range(_) | Leaf::Continue(_, _) => false,
+    }
+}
+
+/// Whether the head of a closure ends with braces: only its output does.
+fn closure_brace<P>(closure: Closure<'_, P>) -> bool
+    ensures { result ≡ query.return_brace (return_of closure.entry.output.now) }
+{
+    let Closure {
+        lifetimes: _,
+        constness: _,
+        asyncness: _,
+        capture: _,
+        inputs_begin: _,
+        inputs: _,
+        inputs_end: _,
+        output,
+    } = closure;
+    output_brace(output)
+}
+
+/// Whether braces stand before the operand that this has behind it: only an output ends with such.
+fn lead_brace<P>(lead: Lead<'_, P>) -> bool
+    ensures { (pat : P → PatView) → result ≡ query.lead_brace (lead_of pat lead.entry) }
+{
+    match lead {
+        Lead::Closure(closure) => closure_brace(closure),
+        Lead::Unary(_)
+        | Lead::Reference(_, _)
+        | Lead::RawAddr(_, _, _)
+        | Lead::Range(_)
+        | Lead::Let(_, _, _) => false,
+        Lead::Jump(jump) => match jump {
+            Jump::Return(_) | Jump::Yield(_) | Jump::Break(_, _) => false,
+        },
+    }
+}
+
+/// Whether what stands behind an operand ends with braces.
+fn post_brace(post: Post<'_>) -> bool
+    ensures { result ≡ query.post_brace (post_of post.entry) }
+{
+    match post {
+        Post::Cast(_, ty) => type_brace(ty, false),
+        Post::Range(_) => false,
+    }
+}
+
+/// What is last in a frame.
+fn frame_right<P>(frame: Frame<'_, P>) -> Right
+    ensures { (pat : P → PatView) → result ≡ frame_right (frame_of pat frame.entry) }
+{
+    match frame {
+        Frame::Array(_) | Frame::Tuple(_) | Frame::Repeat(_) | Frame::Group(_) => {
+            Right::Told(false)
+        }
+        Frame::Struct(_, _, _, _)
+        | Frame::If(_)
+        | Frame::While(_, _)
+        | Frame::ForLoop(_, _, _, _)
+        | Frame::Match(_, _) => Right::Told(true),
+        Frame::Closure(closure) => Right::Operand(closure_brace(closure)),
+    }
+}
+
+/// Whether a node of this kind is an operator between two operands.
+fn is_operation(kind: NodeKind) -> bool
+    ensures { result ≡ is_operation kind }
+{
+    matches!(kind, NodeKind::Mid(_))
+}
+
+/// What is last in a node; `before`: whether braces stand before it.
+#[tactic(auto, using(crate::proofs::Rights::rights))]
+fn node_right<E: HasFrames>(expr: &E, before: bool) -> Right
+    ensures { NodeTells result before (E.tree expr.now) }
+{
+    if let Some(leaf) = expr.leaf() {
+        let before = behind(before, expr.attributes());
+        return Right::Told(leaf_brace(leaf, before));
+    }
+    if let Some(lead) = expr.lead() {
+        return Right::Operand(lead_brace(lead));
+    }
+    if let Some(post) = expr.post() {
+        return Right::Told(post_brace(post));
+    }
+    if let Some(frame) = expr.frame() {
+        return frame_right(frame);
+    }
+    if is_operation(expr.kind()) {
+        Right::Operand(false)
+    } else {
+        Right::Told(false)
+    }
+}
+
+/// Whether an expression ends with braces; `before`: whether braces stand before it.
+#[tactic(auto, using(crate::proofs::Nodes::smaller))]
+pub(crate) fn node_brace<E: HasFrames>(expr: &E, before: bool) -> bool
+    ensures { result ≡ query.tree_brace before (E.tree expr.now) }
+{
+    match node_right(expr, before) {
+        Right::Told(is_brace) => is_brace,
+        Right::Operand(before) => match last(expr.operands()) {
+            Some(x) => node_brace(x, before),
+            None => false,
+        },
+    }
+}
