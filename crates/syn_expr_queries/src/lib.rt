@@ -5,10 +5,13 @@
 mod attributes;
 mod brace;
 pub mod classify;
+pub mod fits;
 pub mod frames;
+pub mod heads;
 mod label;
 mod name;
 mod operands;
+pub mod own;
 mod right;
 mod tokens;
 mod types;

@@ -1,0 +1,193 @@
+//! Whether what a node is but for its operands is read back in its place.
+
+ghost use Rattle.std.specs.Str.{bytes_eq};
+ghost use Rattle.std.specs.Prelude.{◌≡◌, ◌&&◌, map};
+ghost use Rattle.syn_expr_kinds.specs.Node.{braces_of, leaf_of, post_of, trailer_of};
+ghost use Rattle.syn_expr_kinds.specs.Attrs.{attrs_of};
+ghost use Rattle.syn_expr_kinds.specs.View.{turbofish_of};
+ghost use Rattle.syn_expr_parts.specs.View.{member_of};
+ghost use Rattle.syn_grammar.specs.Stands as stands;
+ghost use Rattle.syn_grammar.specs.Tree as e;
+ghost use Rattle.syn_grammar.specs.WellFormed as spec;
+ghost use Rattle.syn_lower.specs.View.{type_of, values, segment_of, path_of, qself_or, arguments_of};
+ghost use Rattle.syn_lower_leaves.specs.View.{lit_of};
+ghost use Rattle.syn_parts.specs.Fits.{arguments_fit, unsigned_fits};
+ghost use Rattle.syn_parts.specs.PatFits.{attributes_outer, member_fits};
+ghost use Rattle.syn_parts.specs.declared.label.PathStyle.TheVariants as style;
+ghost use Rattle.syn_parts.specs.Part as part;
+
+use syn_expr_kinds::node::{Braces, Jump, Leaf, Post, Trailer};
+use syn_expr_parts::member::Member;
+use syn_grammar::kinds::Infix;
+use syn_lexer::reserved::is_reserved_word;
+use syn_lower::attr::{AttrStyle, Attribute};
+use syn_lower::lit::Lit;
+use syn_lower::path::{
+    AngleBracketedGenericArguments, Path, PathArguments, PathSegment, PathStyle, QSelf,
+};
+use syn_lower::punctuated::Punctuated;
+use syn_lower::qpath_is_read_back;
+use syn_op::limits::RangeLimits;
+use syn_tokens::buffer::Token;
+use syn_tokens::token::{Not, PathSep, Pound};
+use syn_tokens::tree::TokenStream;
+
+/// Whether a literal is read back, and has no sign: one with a sign is two expressions.
+#[tactic(auto, unfolding(syn_parts::specs::Fits::lit_fits))]
+fn lit_fits(lit: &Lit) -> bool
+    ensures { result ≡ unsigned_fits (lit_of lit.now) }
+{
+    match lit {
+        Lit::Str(x) => x.is_read_back(),
+        Lit::ByteStr(x) => x.is_read_back(),
+        Lit::CStr(x) => x.is_read_back(),
+        Lit::Byte(x) => x.is_read_back(),
+        Lit::Char(x) => x.is_read_back(),
+        Lit::Int(x) => x.is_read_back(),
+        Lit::Float(x) => x.is_read_back(),
+        Lit::Bool(x) => x.is_read_back(),
+    }
+}
+
+/// Whether a segment is this word without arguments.
+fn is_word(segment: &PathSegment, word: &str) -> bool
+    ensures { result ≡ bytes_eq segment.now.ident word.now && part.has_none (arguments_of segment.now.arguments) }
+{
+    segment.ident.as_str() == word && matches!(segment.arguments, PathArguments::None)
+}
+
+/// Whether this word is the only segment.
+#[tactic(auto, unfolding(syn_lower_lists::specs::View::values))]
+fn is_sole(segments: &Punctuated<PathSegment, PathSep>, word: &str) -> bool
+    ensures { result ≡ stands.is_sole word.now (map (segment_of type_of) (values segments.now)) }
+{
+    match (segments.inner.as_slice(), &segments.last) {
+        ([], Some(segment)) => is_word(segment, word),
+        ([(segment, _)], None) => is_word(segment, word),
+        _ => false,
+    }
+}
+
+/// Whether a path is this word alone.
+pub fn is_word_alone(qself: &Option<QSelf>, path: &Path, word: &str) -> bool
+    ensures { result ≡ stands.is_word_alone word.now (qself_or type_of qself.now) (path_of type_of path.now) }
+{
+    qself.is_none() && path.leading_colon.is_none() && is_sole(&path.segments, word)
+}
+
+/// Whether a path is read back as an expression: `try` alone is not.
+pub fn path_fits(qself: &Option<QSelf>, path: &Path) -> bool
+    ensures { result ≡ spec.leaf_fits (e.path (qself_or type_of qself.now) (path_of type_of path.now)) }
+{
+    qpath_is_read_back(qself, path, true) && !is_word_alone(qself, path, "try")
+}
+
+/// Whether `#` and `!` stand first.
+#[tactic(auto, unfolding(syn_tokens::specs::Sign::sign_text, syn_parts::specs::Mark::sign_at))]
+fn begins_with_inner(tokens: &TokenStream) -> bool
+    ensures { result ≡ part.pound_bang.at tokens.now }
+{
+    match tokens.trees() {
+        [_, more @ ..] => Pound::peek(tokens.trees()) && Not::peek(more),
+        [] => false,
+    }
+}
+
+/// Whether what stands in braces is read back: its tokens don't begin as an inner attribute does.
+#[tactic(auto, using(crate::proofs::Inner::inner), unfolding(syn_expr_kinds::specs::Attrs::inner_of))]
+pub fn braces_fit(braces: Braces<'_>) -> bool
+    ensures { result ≡ spec.body_fits (braces_of braces.entry) }
+{
+    let Braces { attrs: _, block } = braces;
+    !begins_with_inner(&block.stmts)
+}
+
+/// Whether what holds no expression is read back.
+pub fn leaf_fits(leaf: Leaf<'_>) -> bool
+    ensures { result ≡ spec.leaf_fits (leaf_of leaf.entry) }
+{
+    match leaf {
+        Leaf::Lit(x) => lit_fits(x),
+        Leaf::Path(qself, path) => path_fits(qself, path),
+        Leaf::Macro(x) => x.is_read_back(),
+        Leaf::Range(limits) => matches!(limits, RangeLimits::HalfOpen(_)),
+        Leaf::Block(_, braces) => braces_fit(braces),
+        Leaf::Loop(_, _, braces) => braces_fit(braces),
+        Leaf::Unsafe(_, braces) => braces_fit(braces),
+        Leaf::Const(_, braces) => braces_fit(braces),
+        Leaf::Jump(jump) => match jump {
+            Jump::Return(_) | Jump::Yield(_) | Jump::Break(_, _) => true,
+        },
+        Leaf::Infer(_) | Leaf::Continue(_, _) | Leaf::Async(_, _, _) | Leaf::TryBlock(_, _) => {
+            true
+        }
+        Leaf::Verbatim(_) => false,
+    }
+}
+
+/// Whether an operator has an operand on its right: a cast has none.
+pub fn infix_fits(op: Infix) -> bool
+    ensures { result ≡ spec.infix_fits op }
+{
+    op != Infix::Cast
+}
+
+/// Whether what stands behind an operand is read back.
+pub fn post_fits(post: Post<'_>) -> bool
+    ensures { result ≡ spec.post_fits (post_of post.entry) }
+{
+    match post {
+        Post::Cast(_, ty) => ty.is_read_back(false),
+        Post::Range(limits) => matches!(limits, RangeLimits::HalfOpen(_)),
+    }
+}
+
+/// Whether a member is read back: a name that is no reserved word, and each index.
+#[tactic(auto, using(crate::proofs::Indices::indices))]
+pub fn member_fits(member: &Member) -> bool
+    ensures { result ≡ member_fits (member_of member.now) }
+{
+    match member {
+        Member::Named(name) => !is_reserved_word(name.as_str()),
+        Member::Unnamed(index) => {
+            prove!(index.index <= u32::MAX);
+            true
+        }
+    }
+}
+
+/// Whether the arguments in angle brackets of a method are read back, if it has any.
+fn turbofish_fits(turbofish: &Option<AngleBracketedGenericArguments>) -> bool
+    ensures { result ≡ arguments_fit style.Expr (turbofish_of turbofish.now) }
+{
+    match turbofish {
+        Some(x) => x.is_read_back(PathStyle::Expr),
+        None => true,
+    }
+}
+
+/// Whether a trailer is read back, but for what it encloses.
+pub fn trailer_fits(trailer: Trailer<'_>) -> bool
+    ensures { result ≡ spec.trailer_fits (trailer_of trailer.entry) }
+{
+    match trailer {
+        Trailer::Method(_, name, turbofish, _) => {
+            !is_reserved_word(name.as_str()) && turbofish_fits(turbofish)
+        }
+        Trailer::Field(_, member) => member_fits(member),
+        Trailer::Call(_) | Trailer::Index(_) | Trailer::Await(_, _) | Trailer::Try(_) => true,
+    }
+}
+
+/// Whether all attributes are outer ones.
+#[tactic(auto, unfolding(syn_expr_kinds::specs::Attrs::attrs_of))]
+pub fn all_outer(attrs: &Vec<Attribute>) -> bool
+    ensures { result ≡ attributes_outer (attrs_of attrs.now) }
+{
+    for attr in attrs {
+        if !matches!(attr.style, AttrStyle::Outer) {
+            return false;
+        }
+    }
+    true
+}
