@@ -12,7 +12,8 @@ use Rattle.syn_grammar.specs.Tree as e
 use Rattle.syn_grammar.specs.Tree.{Tree, Kids, Piece, Ending, none, kid, piece_own, ending_own, is_none, is_block_like, with_comma}
 use Rattle.syn_expr_kinds.specs.Pats.{guard_kids, arm_ending}
 use Rattle.syn_expr_print.specs.Printing.{kids_spelled, piece_spelled, whole}
-use Rattle.syn_expr_print.proofs.Kids.{loud-spelled, comma_if}
+use Rattle.syn_expr_print.specs.Placed.{comma_if}
+use Rattle.syn_expr_print.proofs.Kids.{loud-spelled}
 
 -- ---- the body, with a comma behind it where one is there or needed
 

@@ -15,7 +15,8 @@ use Rattle.syn_grammar.specs.Tree as e
 use Rattle.syn_grammar.specs.Tree.{Tree, Kids, Ending, none, kid, piece_own, ending_own, is_none, with_comma}
 use Rattle.syn_expr_kinds.specs.View.{FieldView, fields}
 use Rattle.syn_expr_print.specs.Printing.{kids_spelled, piece_spelled, whole, field_spelled}
-use Rattle.syn_expr_print.proofs.Kids.{loud-spelled, silent-spelled, comma-stays, comma_if}
+use Rattle.syn_expr_print.specs.Placed.{comma_if}
+use Rattle.syn_expr_print.proofs.Kids.{loud-spelled, silent-spelled, comma-stays}
 
 -- fields with the commas behind them, before others
 abbrev pub field_kids : {F P : Type 0} → (F → FieldView) → List (F × P) → Kids → Kids

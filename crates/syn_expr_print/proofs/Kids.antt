@@ -6,7 +6,7 @@ use Rattle.std.specs.Prelude.{codes}
 use Rattle.syn_lexer.specs.declared.lexeme.Delimiter.TheVariants as del
 use Rattle.syn_tokens.specs.Tok.{Tok, ident}
 use Rattle.syn_parts.specs.Tree.{AttributeTree}
-use Rattle.syn_parts.specs.Own.{alone, joint, before_if}
+use Rattle.syn_parts.specs.Own.{alone, joint}
 use Rattle.syn_parts.specs.Own as own_parts
 use Rattle.syn_parts.specs.PatOwn.{attributes_own}
 use Rattle.syn_pat_kinds.proofs.Appends.{attributes_append}
@@ -15,6 +15,7 @@ use Rattle.syn_grammar.specs.Next.{enclosed, in_condition, in_statement, piece_c
 use Rattle.syn_grammar.specs.Rule.{put, piece_put, place_asks, bare, bare_kids}
 use Rattle.syn_grammar.specs.Tree as e
 use Rattle.syn_grammar.specs.Tree.{Tree, Kids, Body, Piece, Ending, none, kid, own, own_tokens, kids_own, piece_own, ending_own, inside_of, body_own, is_silent, is_repeated, is_none, is_block_like, needs_comma, with_comma, fill_piece, fill, fill_kids}
+use Rattle.syn_expr_print.specs.Placed.{comma_if}
 use Rattle.syn_expr_print.specs.Printing.{whole, kids_spelled, piece_spelled}
 use Rattle.syn_expr_print.proofs.Appends.{piece_append, own_append}
 
@@ -88,10 +89,6 @@ element-comma last t ks =
     loud-spelled last e.element e.comma t ks refl
     ∙ ap (λ c. piece_spelled e.element t ++ ending_own e.element c (kids_spelled last ks) []) (comma-stays (not (is_none ks) || last))
     ∙ ap (λ l. l ++ (alone 44 ∷ kids_spelled last ks)) (element-is t)
-
--- behind the last operand
-abbrev pub comma_if : Bool → List Tok
-comma_if b = before_if b (λ l. alone 44 ∷ l) []
 
 pub none-spelled : (last : Bool) → kids_spelled last none ≡ []
 unfolding kids_spelled

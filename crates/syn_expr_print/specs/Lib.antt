@@ -1,3 +1,6 @@
+pub mod Placed
 pub mod Printing
+pub mod Prints
 pub mod Shape
 pub mod Taken
+pub mod Operation

@@ -1,0 +1,132 @@
+-- Whether a node is a block without a label and attributes, and what is printed of the body of a closure with an output.
+use Rattle.std.specs.Prelude.{not, ◌&&◌, if◌then◌else◌, Option, Some, None, is_some}
+use Rattle.std.proofs.Common.{◌≡◌, Bool, true, false, List, [], ◌∷◌, refl, sym, ap, ◌∙◌}
+use Rattle.syn_tokens.specs.Tok.{Tok}
+use Rattle.syn_parts.specs.Tree.{AttributeTree}
+use Rattle.syn_lower_leaves.specs.View.{mapped}
+use Rattle.syn_grammar.specs.declared.note.Sort.{Sort}
+use Rattle.syn_grammar.specs.declared.note.Sort.TheVariants as sort
+use Rattle.syn_grammar.specs.Notes.{note_of, leaf_sort, adorned_sort}
+use Rattle.syn_grammar.specs.Rule.{is_plain_leaf, is_plain_block, is_operation}
+use Rattle.syn_grammar.specs.Tree as e
+use Rattle.syn_grammar.specs.Tree.{Tree, Leaf, leaf, paren, adorned, lead, mid, post, tail, frame}
+use Rattle.syn_expr_collect.specs.Below.{has_some}
+use Rattle.syn_expr_kinds.specs.Attrs.{all_inner, from_inner, is_in_order, inner_part}
+use Rattle.syn_expr_kinds.specs.Node.{leaf_at}
+use Rattle.syn_expr_kinds.specs.View.{body_of}
+use Rattle.syn_expr_parts.specs.View.{label_of}
+use Rattle.syn_expr_parts.specs.declared.label.Label.{Label}
+use Rattle.syn_expr_print.specs.Placed.{is_block_sort}
+use Rattle.syn_expr_print.proofs.Braced.{output-plain, output-braced}
+
+-- ---- attributes that stand first in the braces
+
+-- whether there are such, by those that are left: behind an inner one all have to be inner ones
+unfoldable pub inner_left : Bool → List AttributeTree → Bool
+inner_left true ats = all_inner ats
+inner_left false ats = has_some (inner_part ats)
+
+pub inner-start : (ats : List AttributeTree) → inner_left false ats ≡ has_some (inner_part ats)
+unfolding inner_left
+inner-start ats = refl
+
+pub inner-end : (found : Bool) → inner_left found [] ≡ found
+unfolding inner_left
+inner-end true = refl
+inner-end false = refl
+
+from-here : (a : AttributeTree) (more : List AttributeTree) → a.inner ≡ true → from_inner (a ∷ more) ≡ a ∷ more
+from-here a more h = ap (λ b. if b then a ∷ more else from_inner more) h
+
+from-behind : (a : AttributeTree) (more : List AttributeTree) → a.inner ≡ false → from_inner (a ∷ more) ≡ from_inner more
+from-behind a more h = ap (λ b. if b then a ∷ more else from_inner more) h
+
+pub inner-more : (found : Bool) (a : AttributeTree) (more : List AttributeTree) → a.inner ≡ true → inner_left found (a ∷ more) ≡ inner_left true more
+unfolding inner_left
+inner-more true a more h = ap (λ b. b && all_inner more) h
+inner-more false a more h =
+    ap (λ l. has_some (if all_inner l then l else [])) (from-here a more h)
+    ∙ ap (λ b. has_some (if b && all_inner more then a ∷ more else [])) h
+    ∙ some-if (all_inner more)
+  where
+    some-if : (b : Bool) → has_some (if b then a ∷ more else []) ≡ b
+    some-if true = refl
+    some-if false = refl
+
+pub outer-more : (a : AttributeTree) (more : List AttributeTree) → a.inner ≡ false → inner_left false (a ∷ more) ≡ inner_left false more
+unfolding inner_left
+outer-more a more h = ap (λ l. has_some (if all_inner l then l else [])) (from-behind a more h)
+
+pub outer-behind : (a : AttributeTree) (more : List AttributeTree) → a.inner ≡ false → inner_left true (a ∷ more) ≡ false
+unfolding inner_left
+outer-behind a more h = ap (λ b. b && all_inner more) h
+
+pub ruleset inners = (inner-start, inner-end, inner-more, outer-more, outer-behind)
+
+-- ---- blocks
+
+and-true : (b : Bool) → b ≡ b && true
+and-true true = refl
+and-true false = refl
+
+and-false : (b : Bool) → false ≡ b && false
+and-false true = refl
+and-false false = refl
+
+pub plain-block : (label : Option Label) (ats : List AttributeTree) (ts : List Tok) → is_plain_leaf (e.block (mapped label_of label) (body_of ats ts)) ≡ not (is_some label) && not (has_some ats)
+plain-block None [] ts = refl
+plain-block None (a ∷ more) ts = refl
+plain-block (Some w) ats ts = refl
+
+plain-sort : (k : Leaf) → is_plain_leaf k ≡ is_plain_leaf k && is_block_sort (leaf_sort k)
+plain-sort (e.block None b) = and-true (is_plain_leaf (e.block None b))
+plain-sort (e.block (Some w) b) = refl
+plain-sort (e.lit x) = refl
+plain-sort (e.path q p) = refl
+plain-sort (e.mac m) = refl
+plain-sort e.infer = refl
+plain-sort (e.full_range op) = refl
+plain-sort (e.bare_jump j) = refl
+plain-sort (e.continuing w) = refl
+plain-sort (e.looping w b) = refl
+plain-sort (e.unsafe_block b) = refl
+plain-sort (e.const_block b) = refl
+plain-sort (e.async_block m ts) = refl
+plain-sort (e.try_block ts) = refl
+plain-sort (e.verbatim ts) = refl
+
+-- behind attributes a node's note says of no block
+behind-sort : (b : Bool) (s : Sort) → is_block_sort (if b then sort.Other else adorned_sort s) ≡ false
+behind-sort true s = refl
+behind-sort false sort.Block = refl
+behind-sort false sort.BlockLike = refl
+behind-sort false sort.BracedMacro = refl
+behind-sort false sort.Let = refl
+behind-sort false sort.Struct = refl
+behind-sort false sort.Other = refl
+
+pub plain-is : (t : Tree) (k : Leaf) → leaf_at t ≡ Some k → is_plain_block t ≡ is_plain_leaf k && is_block_sort (note_of t).sort
+plain-is (leaf j) k h = let i : j ≡ k = cc in ap (λ z. is_plain_leaf z) i ∙ plain-sort k ∙ ap (λ z. is_plain_leaf k && is_block_sort (leaf_sort z)) (sym i)
+plain-is (adorned a more t) k h = and-false (is_plain_leaf k) ∙ ap (λ b. is_plain_leaf k && b) (sym (behind-sort (note_of t).operation (note_of t).sort))
+plain-is (paren m t) k h = absurd cc
+plain-is (lead j gs t) k h = absurd cc
+plain-is (mid x j y) k h = absurd cc
+plain-is (post x j) k h = absurd cc
+plain-is (tail b j ks) k h = absurd cc
+plain-is (frame j ks) k h = absurd cc
+
+pub never-plain : (t : Tree) → leaf_at t ≡ None → is_plain_block t ≡ false
+never-plain (leaf k) h = absurd cc
+never-plain (adorned a more t) h = refl
+never-plain (paren m t) h = refl
+never-plain (lead k gs t) h = refl
+never-plain (mid x k y) h = refl
+never-plain (post x k) h = refl
+never-plain (tail b k ks) h = refl
+never-plain (frame k ks) h = refl
+
+pub ruleset leaves = (plain-block)
+
+pub ruleset plains = (plain-is, never-plain)
+
+pub ruleset outputs = (output-plain, output-braced)

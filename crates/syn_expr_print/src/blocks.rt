@@ -1,0 +1,152 @@
+//! What stands in braces that may be added: what is behind `else`, and the body of a closure with an output (Rust Reference,
+//! "`if` expressions", "Closure expressions").
+
+ghost use Rattle.std.specs.Prelude.{◌≡◌, ◌+◌, ◌++◌, ◌∷◌, [], map, OnOk};
+ghost use Rattle.syn_expr_collect.specs.Below.{has_some};
+ghost use Rattle.syn_expr_kinds.specs.Attrs.{inner_part};
+ghost use Rattle.syn_expr_kinds.specs.Node.{leaf_of};
+ghost use Rattle.syn_expr_print.specs.Placed as placed;
+ghost use Rattle.syn_expr_print.specs.Printing as printing;
+ghost use Rattle.syn_expr_print.specs.Printing.{EndsWith, piece_spelled};
+ghost use Rattle.syn_expr_print.specs.Prints.{Callable, Prints};
+ghost use Rattle.syn_expr_print.specs.Taken.{Taken};
+ghost use Rattle.syn_grammar.specs.Next as next;
+ghost use Rattle.syn_grammar.specs.Notes.{below, note_of, stack};
+ghost use Rattle.syn_grammar.specs.Rule as rule;
+ghost use Rattle.syn_grammar.specs.Rule.{is_plain_leaf};
+ghost use Rattle.syn_grammar.specs.Tree as e;
+ghost use Rattle.syn_grammar.specs.Tree.{size};
+ghost use Rattle.syn_lexer.specs.declared.lexeme.Delimiter.TheVariants as del;
+ghost use Rattle.syn_lower_leaves.specs.View.{attribute_of};
+ghost use Rattle.syn_tokens.specs.Input.{IsFront};
+ghost use Rattle.syn_tokens.specs.Tok as tok;
+
+use crate::node::HasPrint;
+use crate::notes::{Notes, take_note};
+use crate::operand::inside;
+use syn_expr_kinds::node::{Braces, HasShape, Jump, Leaf};
+use syn_expr_notes::context::{enclosed, in_statement};
+use syn_expr_notes::decide::place_by;
+use syn_expr_put::body::put_braces;
+use syn_expr_put::put::Grown;
+use syn_grammar::kinds::Level;
+use syn_grammar::next::Context;
+use syn_grammar::note::{Note, Sort};
+use syn_lower::attr::{AttrStyle, Attribute};
+use syn_tokens::token::Brace;
+use syn_tokens::tree::TokenStream;
+
+fn is_inner(attr: &Attribute) -> bool
+    ensures { result ≡ (attribute_of attr.now).inner }
+{
+    matches!(attr.style, AttrStyle::Inner(_))
+}
+
+/// Whether any stand first in the braces of the node that has these attributes: there are inner ones, and no outer one is
+/// behind an inner one.
+#[tactic(auto, using(crate::proofs::Plain::inners))]
+fn has_inner(mut attrs: &[Attribute]) -> bool
+    ensures { result ≡ has_some (inner_part (map attribute_of attrs.entry.now)) }
+{
+    let mut found = false;
+    'attrs: while let [attr, more @ ..] = attrs {
+        if is_inner(attr) {
+            found = true;
+        } else if found {
+            return false;
+        }
+        attrs = more;
+    }
+    found
+}
+
+/// Whether it is a block without a label, and without attributes in its braces.
+#[tactic(auto, using(crate::proofs::Plain::leaves), unfolding(syn_expr_kinds::specs::Attrs::inner_of))]
+fn is_plain(leaf: Leaf<'_>) -> bool
+    ensures { result ≡ is_plain_leaf (leaf_of leaf.entry) }
+{
+    match leaf {
+        Leaf::Block(label, Braces { attrs, block: _ }) => label.is_none() && !has_inner(attrs),
+        Leaf::Loop(_, _, Braces { attrs: _, block: _ }) => false,
+        Leaf::Unsafe(_, Braces { attrs: _, block: _ }) => false,
+        Leaf::Const(_, Braces { attrs: _, block: _ }) => false,
+        Leaf::Jump(Jump::Return(_)) => false,
+        Leaf::Jump(Jump::Yield(_)) => false,
+        Leaf::Jump(Jump::Break(_, _)) => false,
+        Leaf::Lit(_)
+        | Leaf::Path(_, _)
+        | Leaf::Macro(_)
+        | Leaf::Infer(_)
+        | Leaf::Range(_)
+        | Leaf::Continue(_, _)
+        | Leaf::Async(_, _, _)
+        | Leaf::TryBlock(_, _)
+        | Leaf::Verbatim(_) => false,
+    }
+}
+
+/// Whether a note is that of a block without a label, before which no attributes stand.
+fn is_block_sort(sort: Sort) -> bool
+    ensures { result ≡ placed.is_block_sort sort }
+{
+    matches!(sort, Sort::Block)
+}
+
+/// Whether a node is a block without a label and attributes; `note` is its note.
+#[tactic(auto, using(crate::proofs::Plain::plains))]
+fn is_plain_block<E: HasShape>(x: &E, note: Note) -> bool
+    requires { note ≡ note_of (E.tree x.now) }
+    ensures { result ≡ rule.is_plain_block (E.tree x.now) }
+{
+    match x.leaf() {
+        Some(leaf) => is_plain(leaf) && is_block_sort(note.sort),
+        None => false,
+    }
+}
+
+/// Prints what is put in braces, where it stands as a statement; its note was taken.
+#[tactic(auto, using(syn_tokens::proofs::Fronts::fronts, crate::proofs::Spellings::roles))]
+pub(crate) fn braced<E: HasPrint, F: Fn(&mut TokenStream, &mut Notes, &E, Context) -> Grown>(
+    bare: &F,
+    tokens: &mut TokenStream,
+    notes: &mut Notes,
+    x: &E,
+    note: Note,
+) -> Grown
+    requires note { note ≡ note_of (E.tree x.now) }
+    requires callable { Callable E.tree (size (E.tree x.now) + 1) (F.pre bare.now) }
+    requires prints { Prints E.tree (F.post bare.now) }
+    requires stacked { EndsWith notes.old.left.items (below (E.tree x.now)) }
+    ensures text { OnOk result (tokens.new ≡ tokens.old ++ tok.group del.Brace (tok.inside (printing.whole next.in_statement (E.tree x.now))) ∷ []) }
+    ensures front { IsFront tokens.old tokens.new }
+    ensures taken { OnOk result (Taken notes.old notes.new (below (E.tree x.now))) }
+{
+    let mut statement = TokenStream::new(tokens.alloc());
+    let context = in_statement();
+    let wrapped = place_by(Level::Jump, context, note);
+    inside(bare, &mut statement, notes, x, wrapped, context)?;
+    put_braces(tokens, &Brace::default(), statement)
+}
+
+/// Prints the body of a closure with an output: a block, or anything else in braces.
+#[tactic(auto, using(syn_tokens::proofs::Fronts::fronts, crate::proofs::Spellings::roles, crate::proofs::Plain::outputs, crate::proofs::Stacks::takes))]
+pub(crate) fn output<E: HasPrint, F: Fn(&mut TokenStream, &mut Notes, &E, Context) -> Grown>(
+    bare: &F,
+    tokens: &mut TokenStream,
+    notes: &mut Notes,
+    x: &E,
+) -> Grown
+    requires callable { Callable E.tree (size (E.tree x.now) + 1) (F.pre bare.now) }
+    requires prints { Prints E.tree (F.post bare.now) }
+    requires stacked { EndsWith notes.old.left.items (stack (E.tree x.now)) }
+    ensures text { OnOk result (tokens.new ≡ tokens.old ++ piece_spelled e.output_block (E.tree x.now)) }
+    ensures front { IsFront tokens.old tokens.new }
+    ensures taken { OnOk result (Taken notes.old notes.new (stack (E.tree x.now))) }
+{
+    let note = take_note(notes, x);
+    if is_plain_block(x, note) {
+        inside(bare, tokens, notes, x, false, enclosed())
+    } else {
+        braced(bare, tokens, notes, x, note)
+    }
+}

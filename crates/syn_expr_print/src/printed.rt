@@ -1,0 +1,184 @@
+//! A whole node, in a place where it is left bare: its attributes, and behind them what it is by its shape.
+
+ghost use Rattle.std.specs.Prelude.{◌≡◌, ◌++◌, true, OnOk};
+ghost use Rattle.syn_expr_collect.specs.Below.{has_some};
+ghost use Rattle.syn_expr_kinds.specs.Attrs as spec;
+ghost use Rattle.syn_expr_kinds.specs.Attrs.{attrs_of};
+ghost use Rattle.syn_expr_kinds.specs.Node.{attributes_at, before_of};
+ghost use Rattle.syn_expr_print.specs.Operation.{is_operation_kind};
+ghost use Rattle.syn_expr_print.specs.Printing.{EndsWith, core, spelled, spelled_in};
+ghost use Rattle.syn_expr_print.specs.Prints.{Callable, Prints};
+ghost use Rattle.syn_expr_print.specs.Taken.{Taken};
+ghost use Rattle.syn_grammar.specs.Notes.{below};
+ghost use Rattle.syn_grammar.specs.Tree.{size};
+ghost use Rattle.syn_tokens.specs.Input.{IsFront};
+
+use crate::ends::{lead, leaf, mid, paren, post};
+use crate::frames::frame;
+use crate::node::HasPrint;
+use crate::notes::Notes;
+use crate::tail::tail;
+use syn_expr_collect::HasArms;
+use syn_expr_kinds::node::Attributes;
+use syn_expr_notes::context::{adorned_context, enclosed};
+use syn_expr_notes::kind::NodeKind;
+use syn_expr_put::arm::HasArmHead;
+use syn_expr_put::attrs::put_attributes;
+use syn_expr_put::body::put_parens;
+use syn_expr_put::lead::PutPat;
+use syn_expr_put::put::Grown;
+use syn_grammar::next::Context;
+use syn_lower::attr::{AttrStyle, Attribute};
+use syn_tokens::tree::TokenStream;
+
+/// Whether all attributes are inner ones.
+#[tactic(auto, unfolding(syn_expr_kinds::specs::Attrs::attrs_of))]
+fn all_inner(attrs: &Vec<Attribute>) -> bool
+    ensures { result ≡ spec.all_inner (attrs_of attrs.now) }
+{
+    for attr in attrs {
+        if matches!(attr.style, AttrStyle::Outer) {
+            return false;
+        }
+    }
+    true
+}
+
+/// Whether attributes stand before a node.
+#[tactic(auto, using(crate::proofs::Adorned::outer), unfolding(syn_expr_kinds::specs::Attrs::attrs_of, syn_expr_kinds::specs::Attrs::outer_of))]
+fn is_adorned(attributes: Attributes<'_>) -> bool
+    ensures { result ≡ has_some (before_of attributes.entry) }
+{
+    match attributes {
+        Attributes::None => false,
+        Attributes::Before(attrs) => !attrs.is_empty(),
+        Attributes::Around(attrs) => !all_inner(attrs),
+    }
+}
+
+/// Whether it is an operation: attributes before one would be those of its first operand.
+fn is_operation(kind: NodeKind) -> bool
+    ensures { result ≡ is_operation_kind kind }
+{
+    match kind {
+        NodeKind::Leaf(kind) => kind.is_range(),
+        NodeKind::Lead(kind) => kind.is_range(),
+        NodeKind::Mid(_) | NodeKind::Post(_) => true,
+        NodeKind::Paren | NodeKind::Tail(_) | NodeKind::Frame(_) => false,
+    }
+}
+
+/// Prints a node but for the attributes before it, by its shape.
+#[tactic(auto, using(syn_tokens::proofs::Fronts::fronts, crate::proofs::Lending::shapes))]
+fn shape<E: HasPrint + HasArms, F: Fn(&mut TokenStream, &mut Notes, &E, Context) -> Grown>(
+    bare: &F,
+    tokens: &mut TokenStream,
+    notes: &mut Notes,
+    x: &E,
+    context: Context,
+) -> Grown
+where
+    E::Arm: HasArmHead,
+    E::Pat: PutPat,
+    requires callable { Callable E.tree (size (E.tree x.now)) (F.pre bare.now) }
+    requires prints { Prints E.tree (F.post bare.now) }
+    requires stacked { EndsWith notes.old.left.items (below (E.tree x.now)) }
+    ensures text { OnOk result (tokens.new ≡ tokens.old ++ spelled context (core (E.tree x.now))) }
+    ensures front { IsFront tokens.old tokens.new }
+    ensures taken { OnOk result (Taken notes.old notes.new (below (E.tree x.now))) }
+{
+    match x.kind() {
+        NodeKind::Leaf(kind) => leaf(tokens, x, kind, context),
+        NodeKind::Paren => paren(bare, tokens, notes, x, context),
+        NodeKind::Lead(kind) => lead(bare, tokens, notes, x, kind, context),
+        NodeKind::Mid(op) => mid(bare, tokens, notes, x, op, context),
+        NodeKind::Post(kind) => post(bare, tokens, notes, x, kind, context),
+        NodeKind::Tail(kind) => tail(bare, tokens, notes, x, kind, context),
+        NodeKind::Frame(_) => frame(bare, tokens, notes, x),
+    }
+}
+
+/// Prints a node behind its attributes, in parentheses where it is `wrapped`.
+#[tactic(auto, using(syn_tokens::proofs::Fronts::fronts, crate::proofs::Spellings::roles))]
+fn behind<E: HasPrint + HasArms, F: Fn(&mut TokenStream, &mut Notes, &E, Context) -> Grown>(
+    bare: &F,
+    tokens: &mut TokenStream,
+    notes: &mut Notes,
+    x: &E,
+    wrapped: bool,
+    context: Context,
+) -> Grown
+where
+    E::Arm: HasArmHead,
+    E::Pat: PutPat,
+    requires callable { Callable E.tree (size (E.tree x.now)) (F.pre bare.now) }
+    requires prints { Prints E.tree (F.post bare.now) }
+    requires stacked { EndsWith notes.old.left.items (below (E.tree x.now)) }
+    ensures text { OnOk result (tokens.new ≡ tokens.old ++ spelled_in wrapped context (core (E.tree x.now))) }
+    ensures front { IsFront tokens.old tokens.new }
+    ensures taken { OnOk result (Taken notes.old notes.new (below (E.tree x.now))) }
+{
+    if wrapped {
+        let mut content = TokenStream::new(tokens.alloc());
+        shape(bare, &mut content, notes, x, enclosed())?;
+        put_parens(tokens, content)
+    } else {
+        shape(bare, tokens, notes, x, context)
+    }
+}
+
+/// Prints the attributes before a node, and the node behind them; an operation stands in parentheses there, without which
+/// they would be those of its first operand.
+#[tactic(auto, using(syn_tokens::proofs::Fronts::fronts))]
+fn adorned<E: HasPrint + HasArms, F: Fn(&mut TokenStream, &mut Notes, &E, Context) -> Grown>(
+    bare: &F,
+    tokens: &mut TokenStream,
+    notes: &mut Notes,
+    x: &E,
+    context: Context,
+) -> Grown
+where
+    E::Arm: HasArmHead,
+    E::Pat: PutPat,
+    requires adorned { has_some (attributes_at (E.tree x.now)) ≡ true }
+    requires callable { Callable E.tree (size (E.tree x.now)) (F.pre bare.now) }
+    requires prints { Prints E.tree (F.post bare.now) }
+    requires stacked { EndsWith notes.old.left.items (below (E.tree x.now)) }
+    ensures text { OnOk result (tokens.new ≡ tokens.old ++ spelled context (E.tree x.now)) }
+    ensures front { IsFront tokens.old tokens.new }
+    ensures taken { OnOk result (Taken notes.old notes.new (below (E.tree x.now))) }
+{
+    put_attributes(tokens, x.attributes())?;
+    let wrapped = is_operation(x.kind());
+    let place = adorned_context(context);
+    behind(bare, tokens, notes, x, wrapped, place)
+}
+
+/// Prints a node whose note was taken, without parentheses of its own: the attributes before it, and what it is by its shape.
+/// The nodes below it that are left bare are printed by `smaller`.
+///
+/// Memory may run out; a part of the tokens may then follow what was there.
+#[tactic(auto, using(syn_tokens::proofs::Fronts::fronts, crate::proofs::Adorned::plain))]
+pub fn bare<E: HasPrint + HasArms, F: Fn(&mut TokenStream, &mut Notes, &E, Context) -> Grown>(
+    smaller: &F,
+    tokens: &mut TokenStream,
+    notes: &mut Notes,
+    x: &E,
+    context: Context,
+) -> Grown
+where
+    E::Arm: HasArmHead,
+    E::Pat: PutPat,
+    requires callable { Callable E.tree (size (E.tree x.now)) (F.pre smaller.now) }
+    requires prints { Prints E.tree (F.post smaller.now) }
+    requires stacked { EndsWith notes.old.left.items (below (E.tree x.now)) }
+    ensures text { OnOk result (tokens.new ≡ tokens.old ++ spelled context (E.tree x.now)) }
+    ensures front { IsFront tokens.old tokens.new }
+    ensures taken { OnOk result (Taken notes.old notes.new (below (E.tree x.now))) }
+{
+    if is_adorned(x.attributes()) {
+        adorned(smaller, tokens, notes, x, context)
+    } else {
+        shape(smaller, tokens, notes, x, context)
+    }
+}
