@@ -1,28 +1,25 @@
 -- What is printed of the arms of a `match`, by what is lent of them.
 use Rattle.std.specs.Prelude.{not, ◌||◌, ◌&&◌, codes, map, nat_eq, Option, Some, None, is_some}
-use Rattle.std.proofs.Common.{◌≡◌, ℕ, ◌+◌, ◌≤◌, Bool, true, false, List, [], ◌∷◌, ◌++◌, length, refl, sym, ap, ◌∙◌, append_assoc, arith}
+use Rattle.std.proofs.Common.{◌≡◌, ◌+◌, ◌≤◌, Bool, false, List, [], ◌∷◌, ◌++◌, length, refl, sym, ap, ◌∙◌, append_assoc, arith}
 use Rattle.std.proofs.lemmas.Bool.Decides.{nat_tests}
-use Rattle.std.proofs.lemmas.List.{append-nil}
 use Rattle.syn_tokens.specs.Tok.{Tok, ident}
 use Rattle.syn_lower_leaves.specs.View.{mapped}
 use Rattle.syn_parts.specs.Form.{is_nil}
 use Rattle.syn_parts.specs.Own.{alone, joint}
 use Rattle.syn_parts.specs.Pat.{PatTree, guarded}
-use Rattle.syn_parts.specs.PatOwn.{attributes_own, pat_own}
+use Rattle.syn_parts.specs.PatOwn.{pat_own}
 use Rattle.syn_pat_kinds.proofs.Appends.{attributes_append}
-use Rattle.syn_grammar.specs.declared.note.Note.{Note}
 use Rattle.syn_grammar.specs.Next.{enclosed, in_arm}
-use Rattle.syn_grammar.specs.Notes.{kids_below}
 use Rattle.syn_grammar.specs.Tree as e
 use Rattle.syn_grammar.specs.Tree.{Tree, Kids, none, kid, is_block_like, is_none, size, kids_size}
 use Rattle.syn_expr_kinds.specs.Pats.{ArmView, strays, guard_kids, arm_ending, arm_kids, arms}
 use Rattle.syn_expr_put.specs.Arm.{guarded_by, has_guard}
 use Rattle.syn_expr_collect.specs.Arm.{guard_by, guard_at, last_guard}
-use Rattle.syn_expr_collect.specs.Below.{backwards, total, arm_below}
+use Rattle.syn_expr_collect.specs.Below.{total}
 use Rattle.syn_expr_collect.proofs.Lists.{arms_below}
-use Rattle.syn_expr_print.specs.Placed.{comma_if, option_size, arm_size, guard_spelled, arm_spelled, has_comma, arms_spelled}
+use Rattle.syn_expr_print.specs.Placed.{comma_if, option_size, arm_size, guard_spelled, arm_spelled, arms_spelled}
 use Rattle.syn_expr_print.specs.Printing.{kids_spelled, whole}
-use Rattle.syn_expr_print.proofs.Arms.{last_of, body_spelled, head_spelled, arm-spelled, guard-spelled, guarded-spelled, guards-spelled}
+use Rattle.syn_expr_print.proofs.Arms.{last_of, head_spelled, arm-spelled, guard-spelled, guarded-spelled, guards-spelled}
 use Rattle.syn_expr_print.proofs.Kids.{none-spelled}
 use Rattle.syn_expr_print.proofs.Spellings.{strays-spelled}
 

@@ -1,6 +1,6 @@
 -- The notes of a tree are no more than its nodes.
-use Rattle.std.specs.Prelude.{◌-◌, ◌*◌, ◌^◌, min, if◌then◌else◌}
-use Rattle.std.proofs.Common.{◌≡◌, ℕ, Bool, true, false, ◌+◌, ◌≤◌, List, [], ◌∷◌, ◌++◌, length, ap, arith}
+use Rattle.std.specs.Prelude.{◌-◌, ◌*◌, ◌^◌, min}
+use Rattle.std.proofs.Common.{◌≡◌, ℕ, true, false, ◌+◌, ◌≤◌, List, [], ◌∷◌, ◌++◌, length, arith}
 use Rattle.std.proofs.lemmas.List.{length-append}
 use Rattle.syn_grammar.specs.declared.note.Note.{Note}
 use Rattle.syn_grammar.specs.Notes.{note_of, stack, below, kids_below}

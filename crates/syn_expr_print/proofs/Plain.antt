@@ -7,11 +7,11 @@ use Rattle.syn_lower_leaves.specs.View.{mapped}
 use Rattle.syn_grammar.specs.declared.note.Sort.{Sort}
 use Rattle.syn_grammar.specs.declared.note.Sort.TheVariants as sort
 use Rattle.syn_grammar.specs.Notes.{note_of, leaf_sort, adorned_sort}
-use Rattle.syn_grammar.specs.Rule.{is_plain_leaf, is_plain_block, is_operation}
+use Rattle.syn_grammar.specs.Rule.{is_plain_leaf, is_plain_block}
 use Rattle.syn_grammar.specs.Tree as e
 use Rattle.syn_grammar.specs.Tree.{Tree, Leaf, leaf, paren, adorned, lead, mid, post, tail, frame}
 use Rattle.syn_expr_collect.specs.Below.{has_some}
-use Rattle.syn_expr_kinds.specs.Attrs.{all_inner, from_inner, is_in_order, inner_part}
+use Rattle.syn_expr_kinds.specs.Attrs.{all_inner, from_inner, inner_part}
 use Rattle.syn_expr_kinds.specs.Node.{leaf_at}
 use Rattle.syn_expr_kinds.specs.View.{body_of}
 use Rattle.syn_expr_parts.specs.View.{label_of}

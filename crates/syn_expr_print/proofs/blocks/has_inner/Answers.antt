@@ -1,5 +1,5 @@
 -- An attribute, and those behind it.
-use Rattle.std.proofs.Common.{◌≡◌, ◌-◌, ◌≤◌, ◌∷◌, [], false, true, length, take, drop, map, sym, ap, ◌∙◌, arith}
+use Rattle.std.proofs.Common.{◌-◌, ◌∷◌, length, take, drop, map, sym, ap, ◌∙◌, arith}
 use Rattle.syn_lower_leaves.specs.View.{attribute_of}
 use Rattle.syn_expr_print.proofs.Plain.{inner_left, inner-start, inner-end, inner-more, outer-more}
 use Rattle.syn_expr_print.proofs.Turns.{cut_item, nil-below}

@@ -1,5 +1,5 @@
 -- An arm and those behind it.
-use Rattle.std.proofs.Common.{◌≡◌, ◌+◌, ◌-◌, ◌≤◌, ◌++◌, length, take, drop, map, subst, sym, ap, ◌∙◌, arith}
+use Rattle.std.proofs.Common.{◌-◌, ◌++◌, length, take, drop, map, subst, sym, ap, ◌∙◌, arith}
 use Rattle.std.specs.Prelude.{not}
 use Rattle.syn_tokens.proofs.Fronts.{front_through}
 use Rattle.syn_expr_collect.specs.Below.{arm_below, backwards, total}

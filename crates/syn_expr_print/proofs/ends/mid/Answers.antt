@@ -1,5 +1,5 @@
 -- The left operand, the operator, the right operand; the left operand's notes come first.
-use Rattle.std.proofs.Common.{◌≡◌, ◌++◌, subst}
+use Rattle.std.proofs.Common.{subst}
 use Rattle.syn_grammar.specs.Notes.{stack}
 use Rattle.syn_expr_print.specs.Printing.{EndsWith}
 use Rattle.syn_expr_print.proofs.Lending.{mid-parts}

@@ -1,5 +1,5 @@
 -- The operand, and then what stands behind it.
-use Rattle.std.proofs.Common.{◌≡◌, ◌++◌, ap, ◌∙◌}
+use Rattle.std.proofs.Common.{◌++◌, ap, ◌∙◌}
 use Rattle.syn_grammar.specs.Next.{left_context}
 use Rattle.syn_grammar.specs.Notes.{note_of, left_by}
 use Rattle.syn_expr_print.specs.Printing.{spelled_in}

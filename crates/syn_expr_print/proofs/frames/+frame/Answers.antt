@@ -1,10 +1,10 @@
 -- What stands behind `else`, and a frame with its operands.
-use Rattle.std.proofs.Common.{◌≡◌, ◌+◌, ◌≤◌, ◌++◌, true, false, OnOk, map, subst, sym, ap, ◌∙◌, arith, rules}
+use Rattle.std.proofs.Common.{◌≡◌, ◌+◌, ◌++◌, OnOk, map, subst, sym, ap, ◌∙◌, arith, rules}
 use Rattle.syn_grammar.specs.Next.{enclosed}
 use Rattle.syn_grammar.specs.Notes.{stack, kids_below}
 use Rattle.syn_grammar.specs.Tree.{size, kids_size}
 use Rattle.syn_lower_leaves.specs.View.{mapped}
-use Rattle.syn_expr_kinds.specs.Node.{frame_of, frame_seen, operands_at, operands_of}
+use Rattle.syn_expr_kinds.specs.Node.{frame_seen, operands_at, operands_of}
 use Rattle.syn_expr_kinds.specs.Pats.{arms}
 use Rattle.syn_expr_collect.specs.Below.{arm_below, backwards}
 use Rattle.syn_expr_collect.proofs.Lists.{arms_below}

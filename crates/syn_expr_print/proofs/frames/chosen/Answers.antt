@@ -1,5 +1,5 @@
 -- The arms behind what is looked at.
-use Rattle.std.proofs.Common.{◌≡◌, ◌+◌, ◌≤◌, ◌++◌, subst, sym, ap, arith}
+use Rattle.std.proofs.Common.{◌++◌, subst, sym, ap, arith}
 use Rattle.syn_grammar.specs.Notes.{stack}
 use Rattle.syn_expr_collect.specs.Below.{arm_below, backwards, total}
 use Rattle.syn_expr_print.specs.Placed.{arm_size}

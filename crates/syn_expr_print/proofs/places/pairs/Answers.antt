@@ -1,5 +1,5 @@
 -- An element and its comma.
-use Rattle.std.proofs.Common.{◌≡◌, ◌+◌, ◌≤◌, ◌++◌, ◌∷◌, [], get_or, subst, sym, ap, ◌∙◌, arith}
+use Rattle.std.proofs.Common.{◌++◌, ◌∷◌, [], get_or, subst, sym, ap, ◌∙◌, arith}
 use Rattle.syn_tokens.specs.Sign.{sign_text}
 use Rattle.syn_tokens.proofs.Fronts.{front_through}
 use Rattle.syn_parts.specs.Own.{alone}

@@ -1,5 +1,5 @@
 -- Each node is noted, and printed at most once.
-use Rattle.std.proofs.Common.{◌≡◌, ◌≤◌, ◌-◌, ◌*◌, subst, sym}
+use Rattle.std.proofs.Common.{◌≤◌, ◌-◌, ◌*◌, subst, sym}
 use Rattle.std.specs.Prelude.{◌^◌, min}
 use Rattle.syn_expr_collect.specs.Visited.{visited}
 use Rattle.syn_expr_print.proofs.Counts.{twice-visited}

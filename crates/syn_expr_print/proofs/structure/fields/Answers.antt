@@ -1,5 +1,5 @@
 -- The fields with commas, the last, and what the others are taken of.
-use Rattle.std.proofs.Common.{◌≡◌, ◌+◌, ◌≤◌, ◌++◌, OnOk, map, subst, sym, ap, ◌∙◌, append_assoc, arith}
+use Rattle.std.proofs.Common.{◌≡◌, ◌++◌, OnOk, subst, sym, ap, ◌∙◌, append_assoc, arith}
 use Rattle.std.specs.Prelude.{is_some}
 use Rattle.syn_lower_lists.specs.Printed.{comma, pairs_printed}
 use Rattle.syn_grammar.specs.Tree.{size}

@@ -1,6 +1,6 @@
 -- The base, and then what the trailer holds; the notes of the base come first.
-use Rattle.std.proofs.Common.{◌≡◌, ◌+◌, ◌<◌, ◌≤◌, [], ◌++◌, false, subst, sym, ap, ◌∙◌, arith}
-use Rattle.syn_grammar.specs.Notes.{kids_below, stack}
+use Rattle.std.proofs.Common.{[], ◌++◌, false, subst, sym, ap, ◌∙◌, arith}
+use Rattle.syn_grammar.specs.Notes.{kids_below}
 use Rattle.syn_grammar.specs.Tree.{kids_size, trailer_own}
 use Rattle.syn_expr_kinds.specs.Node.{operands_at, operands_of, trailer_of}
 use Rattle.syn_expr_print.specs.Printing.{EndsWith, kids_spelled, operand_kids}
