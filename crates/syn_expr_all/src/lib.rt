@@ -17,6 +17,7 @@ mod parse;
 pub mod pat;
 mod pattern;
 mod placeholder;
+mod print;
 mod print_pat;
 mod read_expr;
 mod read_pat;
@@ -34,6 +35,7 @@ pub use pat::{
     PatOr, PatParen, PatPath, PatRange, PatReference, PatRest, PatSlice, PatStruct, PatTuple,
     PatTupleStruct, PatType, PatWild, RangeBound, ShortFieldPat,
 };
+pub use print::print_counted;
 pub use syn_expr_parts::label::Label;
 pub use syn_expr_parts::member::{Index, Member};
 pub use syn_expr_parts::modifiers::{BlockModifiers, ClosureModifiers};
