@@ -20,7 +20,7 @@ use syn_lower::punctuated::Punctuated;
 use syn_tokens::token::{Bracket, Comma, Group, Paren, Semi, Underscore};
 
 /// `[a, b]` (Rust Reference, "Array expressions").
-#[derive(Drop)]
+#[derive(Drop, PartialEq)]
 pub struct ExprArrayOf<E> {
     /// The attributes.
     pub attrs: Vec<Attribute>,
@@ -31,7 +31,7 @@ pub struct ExprArrayOf<E> {
 }
 
 /// An expression in delimiters that are not seen, which a macro's expansion leaves.
-#[derive(Drop)]
+#[derive(Drop, PartialEq)]
 pub struct ExprGroupOf<E> {
     /// The attributes.
     pub attrs: Vec<Attribute>,
@@ -42,7 +42,7 @@ pub struct ExprGroupOf<E> {
 }
 
 /// `_`, to be inferred, or as a place that is assigned to and dropped (Rust Reference, "Underscore expressions").
-#[derive(Drop)]
+#[derive(Drop, PartialEq)]
 pub struct ExprInfer {
     /// The attributes.
     pub attrs: Vec<Attribute>,
@@ -51,7 +51,7 @@ pub struct ExprInfer {
 }
 
 /// A literal (Rust Reference, "Literal expressions").
-#[derive(Drop)]
+#[derive(Drop, PartialEq)]
 pub struct ExprLit {
     /// The attributes.
     pub attrs: Vec<Attribute>,
@@ -60,7 +60,7 @@ pub struct ExprLit {
 }
 
 /// The call of a macro (Rust Reference, "Macro Invocation").
-#[derive(Drop)]
+#[derive(Drop, PartialEq)]
 pub struct ExprMacro {
     /// The attributes.
     pub attrs: Vec<Attribute>,
@@ -69,7 +69,7 @@ pub struct ExprMacro {
 }
 
 /// `(a)` (Rust Reference, "Grouped expressions").
-#[derive(Drop)]
+#[derive(Drop, PartialEq)]
 pub struct ExprParenOf<E> {
     /// The attributes.
     pub attrs: Vec<Attribute>,
@@ -80,7 +80,7 @@ pub struct ExprParenOf<E> {
 }
 
 /// `a::b`, `<T as A>::b` (Rust Reference, "Path expressions").
-#[derive(Drop)]
+#[derive(Drop, PartialEq)]
 pub struct ExprPath {
     /// The attributes.
     pub attrs: Vec<Attribute>,
@@ -91,7 +91,7 @@ pub struct ExprPath {
 }
 
 /// `[a; n]` (Rust Reference, "Array expressions").
-#[derive(Drop)]
+#[derive(Drop, PartialEq)]
 pub struct ExprRepeatOf<E> {
     /// The attributes.
     pub attrs: Vec<Attribute>,
@@ -106,7 +106,7 @@ pub struct ExprRepeatOf<E> {
 }
 
 /// `()`, `(a,)`, `(a, b)` (Rust Reference, "Tuple expressions").
-#[derive(Drop)]
+#[derive(Drop, PartialEq)]
 pub struct ExprTupleOf<E> {
     /// The attributes.
     pub attrs: Vec<Attribute>,

@@ -20,7 +20,7 @@ use syn_lower::stmt::Block;
 use syn_tokens::token::{Async, Const, Else, If, Loop, Move, Try, Unsafe, While};
 
 /// `async { .. }`, `async move { .. }` (Rust Reference, "`async` blocks").
-#[derive(Drop)]
+#[derive(Drop, PartialEq)]
 pub struct ExprAsync {
     /// The attributes.
     pub attrs: Vec<Attribute>,
@@ -35,7 +35,7 @@ pub struct ExprAsync {
 }
 
 /// `{ .. }`, `'a: { .. }` (Rust Reference, "Block expressions", "Labelled block expressions").
-#[derive(Drop)]
+#[derive(Drop, PartialEq)]
 pub struct ExprBlock {
     /// The attributes: those before it, and those first in its braces.
     pub attrs: Vec<Attribute>,
@@ -46,7 +46,7 @@ pub struct ExprBlock {
 }
 
 /// `const { .. }` (Rust Reference, "`const` blocks").
-#[derive(Drop)]
+#[derive(Drop, PartialEq)]
 pub struct ExprConst {
     /// The attributes: those before it, and those first in its braces.
     pub attrs: Vec<Attribute>,
@@ -59,7 +59,7 @@ pub struct ExprConst {
 }
 
 /// `if a { .. } else { .. }` (Rust Reference, "`if` expressions").
-#[derive(Drop)]
+#[derive(Drop, PartialEq)]
 pub struct ExprIfOf<E> {
     /// The attributes.
     pub attrs: Vec<Attribute>,
@@ -74,7 +74,7 @@ pub struct ExprIfOf<E> {
 }
 
 /// `loop { .. }` (Rust Reference, "Infinite loops").
-#[derive(Drop)]
+#[derive(Drop, PartialEq)]
 pub struct ExprLoop {
     /// The attributes: those before it, and those first in its braces.
     pub attrs: Vec<Attribute>,
@@ -87,7 +87,7 @@ pub struct ExprLoop {
 }
 
 /// `try { .. }`, which is not stable.
-#[derive(Drop)]
+#[derive(Drop, PartialEq)]
 pub struct ExprTryBlock {
     /// The attributes.
     pub attrs: Vec<Attribute>,
@@ -100,7 +100,7 @@ pub struct ExprTryBlock {
 }
 
 /// `unsafe { .. }` (Rust Reference, "`unsafe` blocks").
-#[derive(Drop)]
+#[derive(Drop, PartialEq)]
 pub struct ExprUnsafe {
     /// The attributes: those before it, and those first in its braces.
     pub attrs: Vec<Attribute>,
@@ -111,7 +111,7 @@ pub struct ExprUnsafe {
 }
 
 /// `while a { .. }` (Rust Reference, "Predicate loops").
-#[derive(Drop)]
+#[derive(Drop, PartialEq)]
 pub struct ExprWhileOf<E> {
     /// The attributes: those before it, and those first in its braces.
     pub attrs: Vec<Attribute>,

@@ -19,7 +19,7 @@ use syn_lower::lifetime::Lifetime;
 use syn_tokens::token::{Break, Continue, Return, Yield};
 
 /// `break`, `break 'a b` (Rust Reference, "`break` expressions").
-#[derive(Drop)]
+#[derive(Drop, PartialEq)]
 pub struct ExprBreakOf<E> {
     /// The attributes.
     pub attrs: Vec<Attribute>,
@@ -32,7 +32,7 @@ pub struct ExprBreakOf<E> {
 }
 
 /// `continue`, `continue 'a` (Rust Reference, "`continue` expressions").
-#[derive(Drop)]
+#[derive(Drop, PartialEq)]
 pub struct ExprContinue {
     /// The attributes.
     pub attrs: Vec<Attribute>,
@@ -43,7 +43,7 @@ pub struct ExprContinue {
 }
 
 /// `return`, `return a` (Rust Reference, "`return` expressions").
-#[derive(Drop)]
+#[derive(Drop, PartialEq)]
 pub struct ExprReturnOf<E> {
     /// The attributes.
     pub attrs: Vec<Attribute>,
@@ -54,7 +54,7 @@ pub struct ExprReturnOf<E> {
 }
 
 /// `yield`, `yield a`, which is not stable.
-#[derive(Drop)]
+#[derive(Drop, PartialEq)]
 pub struct ExprYieldOf<E> {
     /// The attributes.
     pub attrs: Vec<Attribute>,

@@ -22,7 +22,7 @@ use syn_op::op::{BinOp, UnOp};
 use syn_tokens::token::{And, As, Eq, Mut, Raw};
 
 /// `a = b` (Rust Reference, "Assignment expressions").
-#[derive(Drop)]
+#[derive(Drop, PartialEq)]
 pub struct ExprAssignOf<E> {
     /// The attributes.
     pub attrs: Vec<Attribute>,
@@ -36,7 +36,7 @@ pub struct ExprAssignOf<E> {
 
 /// `a + b`, `a += b` (Rust Reference, "Arithmetic and Logical Binary Operators", "Comparison Operators", "Lazy boolean
 /// operators", "Compound assignment expressions").
-#[derive(Drop)]
+#[derive(Drop, PartialEq)]
 pub struct ExprBinaryOf<E> {
     /// The attributes.
     pub attrs: Vec<Attribute>,
@@ -49,7 +49,7 @@ pub struct ExprBinaryOf<E> {
 }
 
 /// `a as T` (Rust Reference, "Type cast expressions").
-#[derive(Drop)]
+#[derive(Drop, PartialEq)]
 pub struct ExprCastOf<E> {
     /// The attributes.
     pub attrs: Vec<Attribute>,
@@ -62,7 +62,7 @@ pub struct ExprCastOf<E> {
 }
 
 /// `a..b`, `a..`, `..=b`, `..` (Rust Reference, "Range expressions").
-#[derive(Drop)]
+#[derive(Drop, PartialEq)]
 pub struct ExprRangeOf<E> {
     /// The attributes.
     pub attrs: Vec<Attribute>,
@@ -75,7 +75,7 @@ pub struct ExprRangeOf<E> {
 }
 
 /// `&raw const a`, `&raw mut a` (Rust Reference, "Raw borrow operators").
-#[derive(Drop)]
+#[derive(Drop, PartialEq)]
 pub struct ExprRawAddrOf<E> {
     /// The attributes.
     pub attrs: Vec<Attribute>,
@@ -90,7 +90,7 @@ pub struct ExprRawAddrOf<E> {
 }
 
 /// `&a`, `&mut a` (Rust Reference, "Borrow operators").
-#[derive(Drop)]
+#[derive(Drop, PartialEq)]
 pub struct ExprReferenceOf<E> {
     /// The attributes.
     pub attrs: Vec<Attribute>,
@@ -103,7 +103,7 @@ pub struct ExprReferenceOf<E> {
 }
 
 /// `*a`, `!a`, `-a` (Rust Reference, "The dereference operator", "Negation operators").
-#[derive(Drop)]
+#[derive(Drop, PartialEq)]
 pub struct ExprUnaryOf<E> {
     /// The attributes.
     pub attrs: Vec<Attribute>,

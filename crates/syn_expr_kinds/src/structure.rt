@@ -16,7 +16,7 @@ use syn_lower::punctuated::Punctuated;
 use syn_tokens::token::{Brace, Colon, Comma, DotDot};
 
 /// `S { a: 1, b, ..rest }` (Rust Reference, "Struct expressions").
-#[derive(Drop)]
+#[derive(Drop, PartialEq)]
 pub struct ExprStructOf<E> {
     /// The attributes.
     pub attrs: Vec<Attribute>,
@@ -35,7 +35,7 @@ pub struct ExprStructOf<E> {
 }
 
 /// `a: 1`, `0: x`, `b` (Rust Reference, "Struct expressions").
-#[derive(Drop)]
+#[derive(Drop, PartialEq)]
 pub struct FieldValueOf<E> {
     /// The attributes.
     pub attrs: Vec<Attribute>,

@@ -19,7 +19,7 @@ use syn_tokens::token::{Await, Bracket, Comma, Dot, Paren, Question};
 use syn_tokens::tree::Ident;
 
 /// `a.await` (Rust Reference, "Await expressions").
-#[derive(Drop)]
+#[derive(Drop, PartialEq)]
 pub struct ExprAwaitOf<E> {
     /// The attributes.
     pub attrs: Vec<Attribute>,
@@ -32,7 +32,7 @@ pub struct ExprAwaitOf<E> {
 }
 
 /// `f(a, b)` (Rust Reference, "Call expressions").
-#[derive(Drop)]
+#[derive(Drop, PartialEq)]
 pub struct ExprCallOf<E> {
     /// The attributes.
     pub attrs: Vec<Attribute>,
@@ -45,7 +45,7 @@ pub struct ExprCallOf<E> {
 }
 
 /// `a.b`, `a.0` (Rust Reference, "Field access expressions", "Tuple indexing expressions").
-#[derive(Drop)]
+#[derive(Drop, PartialEq)]
 pub struct ExprFieldOf<E> {
     /// The attributes.
     pub attrs: Vec<Attribute>,
@@ -58,7 +58,7 @@ pub struct ExprFieldOf<E> {
 }
 
 /// `a[i]` (Rust Reference, "Array and slice indexing expressions").
-#[derive(Drop)]
+#[derive(Drop, PartialEq)]
 pub struct ExprIndexOf<E> {
     /// The attributes.
     pub attrs: Vec<Attribute>,
@@ -71,7 +71,7 @@ pub struct ExprIndexOf<E> {
 }
 
 /// `a.f(b)`, `a.f::<T>(b)` (Rust Reference, "Method-call expressions").
-#[derive(Drop)]
+#[derive(Drop, PartialEq)]
 pub struct ExprMethodCallOf<E> {
     /// The attributes.
     pub attrs: Vec<Attribute>,
@@ -90,7 +90,7 @@ pub struct ExprMethodCallOf<E> {
 }
 
 /// `a?` (Rust Reference, "The try propagation expression").
-#[derive(Drop)]
+#[derive(Drop, PartialEq)]
 pub struct ExprTryOf<E> {
     /// The attributes.
     pub attrs: Vec<Attribute>,

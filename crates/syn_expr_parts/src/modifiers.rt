@@ -5,7 +5,7 @@ ghost use Rattle.std.specs.Prelude.{IsOk};
 use syn_tokens::error::Result;
 
 /// The modifiers of a closure: none.
-#[derive(Clone, Copy, Debug, Default)]
+#[derive(Clone, Copy, Debug, Default, PartialEq, Eq)]
 pub struct ClosureModifiers {}
 
 impl ClosureModifiers {
@@ -18,7 +18,7 @@ impl ClosureModifiers {
 }
 
 /// The modifiers of a block: none.
-#[derive(Clone, Copy, Debug, Default)]
+#[derive(Clone, Copy, Debug, Default, PartialEq, Eq)]
 pub struct BlockModifiers {}
 
 impl BlockModifiers {
