@@ -205,8 +205,8 @@ where
     }
 
     /// Reads a `while` or a `for` loop, with a label or none (Rust Reference, "Predicate loops", "Iterator loops", "Loop
-    /// labels"). It is refused as `ExpectedToken` of `for` where none of them begins, as `ExpectedToken` where another token
-    /// is missing, and inside as a pattern or an expression is.
+    /// labels"). It is refused as `ExpectedLoopOrBlock` where none of them stands behind the label, as `ExpectedToken` where
+    /// another token is missing, and inside as a pattern or an expression is.
     #[tactic(auto, using(crate::proofs::Parts::loops))]
     pub fn loop_head(&self, input: &mut ParseBuffer<'_>, place: Place) -> Result<Box<E>>
         requires callable { Callable (weight input.old.rest) (F.pre self.now.expr) }

@@ -28,7 +28,7 @@ use syn_op::op::UnOp;
 use syn_pat_kinds::kinds::HasPatTree;
 use syn_tokens::buffer::{ParseBuffer, Token};
 use syn_tokens::error::{ErrorKind, Expected, Result};
-use syn_tokens::token::{And, Eq, FatArrow, For, If, In, Let, Raw};
+use syn_tokens::token::{And, Eq, FatArrow, In, Let, Raw};
 
 /// The readers of what holds patterns, over those of the patterns.
 #[derive(Clone, Copy)]
@@ -133,8 +133,9 @@ impl<
         self.word_lead(input)
     }
 
-    /// Reads `for` that begins no lifetimes, a pattern and `in` (Rust Reference, "Iterator loops"). It is refused as
-    /// `ExpectedToken` of `for` or `in`, and inside as a pattern is.
+    /// Reads `for` that begins no lifetimes, a pattern and `in` (Rust Reference, "Iterator loops"). Where no `for` stands, which
+    /// can only be behind a label, it is refused as `ExpectedLoopOrBlock`, else as `ExpectedToken` of `in`, and inside as a
+    /// pattern is.
     pub fn for_head(&self, input: &mut ParseBuffer<'_>) -> Result<ForHead<P>>
         requires pat { Callable (weight input.old.rest + 1) (F.pre self.now.pat) }
         requires reads { ReadsPat P.view (F.post self.now.pat) }
@@ -144,10 +145,10 @@ impl<
         ensures shrinks { weight input.new.rest ≤ weight input.old.rest }
     {
         if lifetimes_at(input) {
-            return Err(input.error(ErrorKind::ExpectedToken(Expected::One(For::wanted()))));
+            return Err(input.error(ErrorKind::ExpectedLoopOrBlock));
         }
         let Some(for_token) = for_word(input) else {
-            return Err(input.error(ErrorKind::ExpectedToken(Expected::One(For::wanted()))));
+            return Err(input.error(ErrorKind::ExpectedLoopOrBlock));
         };
         let pat = (self.pat)(input, true)?;
         let Some(in_token) = in_word(input) else {
@@ -161,8 +162,8 @@ impl<
     }
 
     /// Reads an arm up to its guard or its body: attributes, a pattern, and `if` or `=>` (Rust Reference, "Match
-    /// expressions"). It is refused as `ExpectedToken` of `if` or `=>`, and of `[` at an attribute without brackets, and
-    /// inside as a pattern is.
+    /// expressions"). It is refused as `ExpectedToken` of `=>`, and of `[` at an attribute without brackets, and inside as a
+    /// pattern is.
     #[tactic(auto, unfolding(syn_grammar::specs::Slot::piece_form))]
     pub fn arm(&self, input: &mut ParseBuffer<'_>) -> Result<ArmHead<P>>
         requires pat { Callable (weight input.old.rest + 1) (F.pre self.now.pat) }
@@ -178,7 +179,7 @@ impl<
             return Ok(ArmHead::Guard(attrs, pat, if_token));
         }
         let Some(fat_arrow_token) = fat_arrow(input) else {
-            let wanted = Expected::Two(If::wanted(), FatArrow::wanted());
+            let wanted = Expected::One(FatArrow::wanted());
             return Err(input.error(ErrorKind::ExpectedToken(wanted)));
         };
         Ok(ArmHead::Arm(attrs, pat, fat_arrow_token))
