@@ -4,6 +4,7 @@
 #![tactic(auto)]
 
 mod arm;
+mod attrs;
 mod behind;
 pub mod closure;
 pub mod control;
