@@ -4,7 +4,6 @@
 #![tactic(auto)]
 
 mod arm;
-mod attrs;
 mod behind;
 pub mod closure;
 pub mod control;
