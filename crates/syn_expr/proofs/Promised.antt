@@ -15,6 +15,7 @@ use Rattle.syn_grammar.proofs.Promise.{printed_stands}
 use Rattle.syn_grammar.proofs.Same.{printed_is_same}
 use Rattle.syn_grammar.proofs.SparedPlain.{no_pair_spared}
 use Rattle.syn_grammar.proofs.StoodFilled.{own_spelling}
+use Rattle.syn_expr_print.specs.Printing.{whole}
 use Rattle.syn_expr_print.proofs.Appends.{own_append}
 use Rattle.syn_expr.specs.Promises.{Puts, StandsBack, IsOwn, Spares, IsSparing, Prints}
 use Rattle.syn_expr.proofs.Marks.{own_clear, clear_twice, plain_clear, put_clear}
@@ -61,6 +62,13 @@ prints : (s : Position) (t : Tree) → Prints s t (own_tokens (printed_in s t))
 prints s t = record { tokens = refl; back = stands_back s t; own = own_there s t; sparing = is_sparing_there s t }
 
 -- ---- of what a printer wrote in the context of a position
+
+pub text_at : (t : Tree) (c d : Context) (old new : List Tok) → new ≡ old ++ whole d t → d ≡ c → new ≡ old ++ own_tokens (printed c t)
+unfolding whole
+text_at t c d old new h e = h ∙ ap (λ (x : Context). old ++ own_tokens (printed x t)) e
+
+pub text_of : (t : Tree) (c d : Context) (old new : List Tok) → new ≡ old ++ whole d t → d ≡ c → old ≡ [] → new ≡ own_tokens (printed c t)
+text_of t c d old new h e n = text_at t c d old new h e ∙ ap (λ (l : List Tok). l ++ own_tokens (printed c t)) n
 
 pub back_at : (s : Position) (t : Tree) (c : Context) (old new : List Tok) → new ≡ old ++ own_tokens (printed c t) → c ≡ context_of s → Puts old new (StandsBack s t)
 back_at s t c old new h e = (own_tokens (printed c t), h, subst (λ (d : Context). StandsBack s t (own_tokens (printed d t))) (sym e) (stands_back s t))

@@ -1,10 +1,9 @@
 -- How often nodes are visited, against how many there are.
-use Rattle.std.proofs.Common.{◌≡◌, Bool, true, false, ◌+◌, ◌*◌, ◌-◌, ◌^◌, ◌≤◌, ◌&&◌, ◌||◌, refl, sym, ap, ◌∙◌, arith, subst}
+use Rattle.std.proofs.Common.{◌≡◌, Bool, true, false, ◌+◌, ◌*◌, ◌-◌, ◌^◌, ◌≤◌, ◌&&◌, ◌||◌, ◌∷◌, refl, ap, arith}
 use Rattle.std.specs.Prelude.{ℕ, min}
 use Rattle.syn_grammar.specs.Slot.{Slot, elements, single, counted, fields, conditions, otherwise, loops, scrutinees, arms, bodies, outputs, done, after}
 use Rattle.syn_grammar.specs.Tree as e
 use Rattle.syn_grammar.specs.Tree.{Tree, Kids, Piece, Ending, leaf, paren, adorned, lead, mid, post, tail, frame, none, kid, size, kids_size, is_none}
-use Rattle.syn_grammar.specs.Stands.{is_adorned}
 use Rattle.syn_grammar.specs.WellFormed.{well, kids_well, is_well_formed, lead_fits, infix_fits, post_fits, trailer_fits, frame_fits, trailer_slot, frame_slot, piece_fits, ending_fits, keeps_block, is_kept_block}
 use Rattle.syn_parts.specs.PatFits.{attributes_outer}
 use Rattle.syn_grammar.proofs.Flat.{left_of, right_of}
