@@ -17,7 +17,7 @@ use Rattle.syn_grammar.proofs.SparedPlain.{no_pair_spared}
 use Rattle.syn_grammar.proofs.StoodFilled.{own_spelling}
 use Rattle.syn_expr_print.specs.Printing.{whole}
 use Rattle.syn_expr_print.proofs.Appends.{own_append}
-use Rattle.syn_expr.specs.Promises.{Puts, StandsBack, IsOwn, Spares, IsSparing, Prints}
+use Rattle.syn_expr.specs.Promises.{Puts, StandsBack, IsOwn, Spares, IsSparing, PrintedAs}
 use Rattle.syn_expr.proofs.Marks.{own_clear, clear_twice, plain_clear, put_clear}
 
 pub stands_back : (s : Position) (t : Tree) → StandsBack s t (own_tokens (printed_in s t))
@@ -58,7 +58,7 @@ own_there as_statement t e = absurd cc
 own_there as_condition t e = absurd cc
 own_there as_arm t e = absurd cc
 
-prints : (s : Position) (t : Tree) → Prints s t (own_tokens (printed_in s t))
+prints : (s : Position) (t : Tree) → PrintedAs s t (own_tokens (printed_in s t))
 prints s t = record { tokens = refl; back = stands_back s t; own = own_there s t; sparing = is_sparing_there s t }
 
 -- ---- of what a printer wrote in the context of a position
@@ -79,6 +79,6 @@ own_at t c old new h e = (own_tokens (printed c t), h, subst (λ (d : Context). 
 pub sparing_at : (s : Position) (t : Tree) (c : Context) (old new : List Tok) → new ≡ old ++ own_tokens (printed c t) → c ≡ context_of s → Puts old new (IsSparing s t)
 sparing_at s t c old new h e = (own_tokens (printed c t), h, subst (λ (d : Context). IsSparing s t (own_tokens (printed d t))) (sym e) (is_sparing_there s t))
 
-pub prints_at : (s : Position) (t : Tree) (c : Context) (ts : List Tok) → ts ≡ own_tokens (printed c t) → c ≡ context_of s → Prints s t ts
+pub prints_at : (s : Position) (t : Tree) (c : Context) (ts : List Tok) → ts ≡ own_tokens (printed c t) → c ≡ context_of s → PrintedAs s t ts
 prints_at s t c ts h e =
-    subst (λ (l : List Tok). Prints s t l) (sym h) (subst (λ (d : Context). Prints s t (own_tokens (printed d t))) (sym e) (prints s t))
+    subst (λ (l : List Tok). PrintedAs s t l) (sym h) (subst (λ (d : Context). PrintedAs s t (own_tokens (printed d t))) (sym e) (prints s t))

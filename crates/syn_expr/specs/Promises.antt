@@ -37,7 +37,7 @@ IsSparing s t ts =
     is_well_formed t ≡ true → plainly_adorned t ≡ true → is_sparing s ≡ true → (p : Tree) × (ts ≡ own_tokens p) × Spares s t p
 
 -- all of this of the tokens of a tree that is printed in a position
-pub record Prints (s : Position) (t : Tree) (ts : List Tok) : Type 0 where
+pub record PrintedAs (s : Position) (t : Tree) (ts : List Tok) : Type 0 where
   pub tokens : ts ≡ own_tokens (printed_in s t)
   pub back : StandsBack s t ts
   pub own : s ≡ in_plain → IsOwn t ts

@@ -3,7 +3,7 @@
 ghost use Rattle.std.specs.Prelude.{◌≡◌, ◌++◌, ◌*◌, ◌-◌, ◌^◌, ◌≤◌, true, min, IfErr, IfOk, OnOk};
 ghost use Rattle.syn_expr_all.specs.View.{tree_of};
 ghost use Rattle.syn_expr_collect.specs.Visited.{visited};
-ghost use Rattle.syn_expr.specs.Promises.{Puts, StandsBack, IsOwn, IsSparing, Prints};
+ghost use Rattle.syn_expr.specs.Promises.{Puts, StandsBack, IsOwn, IsSparing, PrintedAs};
 ghost use Rattle.syn_grammar.specs.Next.{enclosed};
 ghost use Rattle.syn_grammar.specs.Printed.{Position, context_of};
 ghost use Rattle.syn_grammar.specs.Rule.{printed};
@@ -45,7 +45,7 @@ pub fn print_expr(expr: &Expr, tokens: &mut TokenStream, fixup: FixupContext) ->
 /// Memory may run out (`OutOfMemory`).
 pub fn print_counted(alloc: Global, expr: &Expr, fixup: FixupContext) -> Result<(TokenStream, u64)>
     ensures ok { IfOk result (λ r. r.0 ≡ own_tokens (printed fixup.context (tree_of expr.now))) }
-    ensures promised { IfOk result (λ r. (s : Position) → fixup.context ≡ context_of s → Prints s (tree_of expr.now) r.0) }
+    ensures promised { IfOk result (λ r. (s : Position) → fixup.context ≡ context_of s → PrintedAs s (tree_of expr.now) r.0) }
     ensures least { IfOk result (λ r. is_well_formed (tree_of expr.now) ≡ true → min (size (tree_of expr.now)) (2 ^ 64 - 1) ≤ r.1) }
     ensures most { IfOk result (λ r. r.1 ≤ min (2 * size (tree_of expr.now)) (2 ^ 64 - 1)) }
     ensures visits { IfOk result (λ r. min (visited (tree_of expr.now)) (2 ^ 64 - 1) ≤ r.1) }
