@@ -204,7 +204,7 @@ const PRINTED: [(&str, &str, &str); 129] = [
 ];
 
 /// Position, input and refusal.
-const REFUSED: [(&str, &str, &str); 73] = [
+const REFUSED: [(&str, &str, &str); 72] = [
     ("plain", "", "refused at 0..0: expected an expression"),
     ("plain", "a +", "refused at 3..3: expected an expression"),
     ("plain", "a b", "refused at 2..3: unexpected token"),
@@ -440,11 +440,6 @@ const REFUSED: [(&str, &str, &str); 73] = [
         "plain",
         "x[a b] + y[c d]",
         "refused at 4..5: unexpected token",
-    ),
-    (
-        "plain",
-        "x[a b] +",
-        "refused at 8..8: expected an expression",
     ),
 ];
 
