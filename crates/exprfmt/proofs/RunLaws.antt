@@ -18,7 +18,7 @@ use Rattle.syn_tokens.specs.declared.error.ErrorKind.TheVariants.{OutOfMemory}
 use Rattle.syn_grammar.specs.declared.next.Context.{Context}
 use Rattle.syn_grammar.specs.Next.{enclosed}
 use Rattle.syn_grammar.specs.Place.{plain}
-use Rattle.syn_grammar.specs.Printed.{Position, in_plain, context_of}
+use Rattle.syn_grammar.specs.Printed.{Position, context_of}
 use Rattle.syn_grammar.specs.Rule as rule
 use Rattle.syn_grammar.specs.Stands.{Stands}
 use Rattle.syn_grammar.specs.Tree.{Tree, own_tokens}

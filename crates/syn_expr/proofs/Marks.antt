@@ -1,5 +1,5 @@
 -- Marks play no part in what is printed.
-use Rattle.std.proofs.Common.{◌≡◌, Bool, true, false, not, ◌&&◌, List, [], ◌∷◌, ◌++◌, refl, sym, ◌∙◌, ap}
+use Rattle.std.proofs.Common.{◌≡◌, Bool, true, false, not, ◌&&◌, List, [], ◌∷◌, refl, sym, ◌∙◌, ap}
 use Rattle.std.specs.Prelude.{if◌then◌else◌}
 use Rattle.syn_lexer.specs.declared.lexeme.Delimiter.TheVariants as del
 use Rattle.syn_tokens.specs.Tok.{Tok}
@@ -11,7 +11,7 @@ use Rattle.syn_grammar.specs.declared.kinds.Level.TheVariants as lev
 use Rattle.syn_grammar.specs.declared.next.Context.{Context}
 use Rattle.syn_grammar.specs.declared.note.Note.{Note}
 use Rattle.syn_grammar.specs.declared.note.Sort.TheVariants as sort
-use Rattle.syn_grammar.specs.Next.{enclosed, in_statement, left_context, base_context, right_context, adorned_context, lead_context, lead_level, piece_context}
+use Rattle.syn_grammar.specs.Next.{enclosed, in_statement, left_context, base_context, right_context, adorned_context, lead_context, piece_context}
 use Rattle.syn_grammar.specs.Notes.{note_of, adorned_note, lead_note, mid_note, post_note, closed_note, base_wrapped_by, is_named_trailer, place_by, left_by, base_by, lead_by}
 use Rattle.syn_grammar.specs.Op.{level}
 use Rattle.syn_grammar.specs.Printed.{plainly_adorned, kids_plainly}

@@ -17,7 +17,7 @@ use Rattle.syn_grammar.proofs.SparedPlain.{no_pair_spared}
 use Rattle.syn_grammar.proofs.StoodFilled.{own_spelling}
 use Rattle.syn_expr_print.specs.Printing.{whole}
 use Rattle.syn_expr_print.proofs.Appends.{own_append}
-use Rattle.syn_expr.specs.Promises.{Puts, StandsBack, IsOwn, Spares, IsSparing, PrintedAs}
+use Rattle.syn_expr.specs.Promises.{Puts, StandsBack, IsOwn, IsSparing, PrintedAs}
 use Rattle.syn_expr.proofs.Marks.{own_clear, clear_twice, plain_clear, put_clear}
 
 pub stands_back : (s : Position) (t : Tree) → StandsBack s t (own_tokens (printed_in s t))

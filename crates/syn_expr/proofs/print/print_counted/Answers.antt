@@ -1,4 +1,3 @@
-use Rattle.std.proofs.Common.{◌≡◌, ◌++◌}
 use Rattle.syn_expr_all.specs.View.{tree_of}
 use Rattle.syn_expr.proofs.Promised.{text_of, prints_at}
 use Rattle.syn_expr.proofs.Sizes.{at_least_once, at_most_twice}

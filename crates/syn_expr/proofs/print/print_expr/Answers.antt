@@ -1,4 +1,3 @@
-use Rattle.std.proofs.Common.{◌≡◌, ◌++◌}
 use Rattle.syn_expr_all.specs.View.{tree_of}
 use Rattle.syn_expr.proofs.Promised.{text_at, back_at, own_at, sparing_at}
 use Rattle.syn_expr.proofs.print.print_expr.Goals as goal
