@@ -4,11 +4,13 @@
 
 pub mod laws;
 pub mod position;
+pub mod precedence;
 pub mod print;
 
 pub use laws::read_back;
 pub use laws::read_back_before;
 pub use position::Position;
+pub use precedence::Precedence;
 pub use print::print_counted;
 pub use print::print_expr;
 pub use syn_expr_all::Arm;
