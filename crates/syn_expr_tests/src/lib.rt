@@ -2,10 +2,16 @@
 #![tactic(auto)]
 
 #[cfg(test)]
-mod operators;
+mod asking;
+#[cfg(test)]
+mod bare;
+#[cfg(test)]
+mod built;
+#[cfg(test)]
+mod position;
 #[cfg(test)]
 mod printing;
 #[cfg(test)]
 mod reading;
 #[cfg(test)]
-mod texts;
+mod table;

@@ -1,0 +1,101 @@
+//! Where an expression stands, as tests print it there and read it again.
+
+use rows::words;
+use std::alloc::Global;
+use syn_expr::{
+    Error, Expr, FixupContext, ParseBuffer, TokenStream, lex, parse_str, print_expr, to_text,
+};
+
+/// Where an expression stands.
+#[derive(Clone, Copy)]
+pub(crate) enum Position {
+    /// By itself, as between delimiters.
+    Plain,
+    /// At the head of a statement.
+    Statement,
+    /// Before a block.
+    Condition,
+    /// Behind the `=>` of an arm.
+    Arm,
+}
+
+impl Position {
+    /// How it is printed there.
+    fn fixup(self) -> FixupContext {
+        match self {
+            Position::Plain => FixupContext::NONE,
+            Position::Statement => FixupContext::new_stmt(),
+            Position::Condition => FixupContext::new_condition(),
+            Position::Arm => FixupContext::new_match_arm(),
+        }
+    }
+
+    /// What may stand behind it.
+    fn rest(self) -> &'static str {
+        match self {
+            Position::Plain => "",
+            Position::Statement => ";",
+            Position::Condition => "{ a }",
+            Position::Arm => ", b",
+        }
+    }
+
+    /// Reads what stands there.
+    pub(crate) fn read(self, input: &mut ParseBuffer<'_>) -> Result<Expr, Error> {
+        match self {
+            Position::Plain => input.parse::<Expr>(),
+            Position::Condition => Expr::parse_without_eager_brace(input),
+            Position::Statement | Position::Arm => Expr::parse_with_earlier_boundary_rule(input),
+        }
+    }
+}
+
+/// What is printed of an expression.
+fn tokens_of(alloc: Global, expr: &Expr, position: Position) -> Result<TokenStream, Error> {
+    let mut tokens = TokenStream::new(alloc);
+    print_expr(expr, &mut tokens, position.fixup())?;
+    Ok(tokens)
+}
+
+/// The text of what is printed of an expression.
+pub(crate) fn text_of(alloc: Global, expr: &Expr, position: Position) -> Result<String, Error> {
+    to_text(&tokens_of(alloc, expr, position)?)
+}
+
+/// What is printed of an expression, as it is read before what may stand behind it. Nothing is given where another rest is
+/// left.
+pub(crate) fn read_back(
+    alloc: Global,
+    expr: &Expr,
+    position: Position,
+) -> Result<Option<Expr>, Error> {
+    let mut tokens = tokens_of(alloc, expr, position)?;
+    let printed = tokens.len();
+    tokens.append(lex(alloc, position.rest())?)?;
+    let mut input = ParseBuffer::new(&tokens)?;
+    let read = position.read(&mut input)?;
+    Ok(if tokens.len() - input.len() == printed {
+        Some(read)
+    } else {
+        None
+    })
+}
+
+/// The text of what is printed of an expression, which has to be the same once it was read back.
+pub(crate) fn printed_twice(
+    alloc: Global,
+    expr: &Expr,
+    position: Position,
+) -> Result<String, Error> {
+    let text = text_of(alloc, expr, position)?;
+    match read_back(alloc, expr, position)? {
+        Some(again) if text_of(alloc, &again, position)?.as_str() == text.as_str() => Ok(text),
+        Some(_) => words(alloc, "printed in another way once it was read back"),
+        None => words(alloc, "another rest is left"),
+    }
+}
+
+/// What is printed of the expression that a text is.
+pub(crate) fn printed_at(alloc: Global, text: &str, position: Position) -> Result<String, Error> {
+    printed_twice(alloc, &parse_str::<Expr>(alloc, text)?, position)
+}
