@@ -1,6 +1,5 @@
 //! What no clause says of the queries, and of equality.
 
-use crate::table::check;
 use rows::words;
 use std::alloc::Global;
 use std::test::Fail;
@@ -8,6 +7,7 @@ use syn_expr::{
     Error, Expr, ParseBuffer, Type, expr_leading_label, lex, parse_str,
     requires_comma_to_be_match_arm, requires_semi_to_be_stmt, trailing_unparameterized_path,
 };
+use syn_expr_rows::table::check;
 
 /// What has to stand behind an expression, as an arm's body and as a statement.
 fn behind(alloc: Global, text: &str) -> Result<String, Error> {

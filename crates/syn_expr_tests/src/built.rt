@@ -1,8 +1,6 @@
 //! What no clause says of trees that only programs build: what is filled in, what is told of a tree that is not well-formed,
 //! invisible groups, and trees of many nodes.
 
-use crate::position::{Position, printed_at, text_of};
-use crate::table::check;
 use rows::words;
 use std::alloc::Global;
 use std::test::Fail;
@@ -11,6 +9,8 @@ use syn_expr::{
     ExprRange, ExprStruct, ExprTuple, FieldValue, FixupContext, Punctuated, RangeLimits,
     ReturnType, parse_str, print_counted, to_text,
 };
+use syn_expr_rows::position::{Position, printed_at, text_of};
+use syn_expr_rows::table::check;
 
 /// An expression in a box.
 fn boxed(alloc: Global, text: &str) -> Result<Box<Expr>, Error> {

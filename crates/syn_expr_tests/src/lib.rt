@@ -4,14 +4,8 @@
 #[cfg(test)]
 mod asking;
 #[cfg(test)]
-mod bare;
-#[cfg(test)]
 mod built;
-#[cfg(test)]
-mod position;
 #[cfg(test)]
 mod printing;
 #[cfg(test)]
 mod reading;
-#[cfg(test)]
-mod table;

@@ -1,10 +1,10 @@
 //! What no clause says of printing: the texts of what is read, and of what programs build, in each position.
 
-use crate::bare::bare_at;
-use crate::position::{Position, printed_at};
-use crate::table::check;
 use std::alloc::Global;
 use std::test::Fail;
+use syn_expr_rows::bare::bare_at;
+use syn_expr_rows::position::{Position, printed_at};
+use syn_expr_rows::table::check;
 
 const PLAIN: &str = "
 -a * !b - c                    ~ - a * ! b - c

@@ -1,12 +1,12 @@
 //! What no clause says of reading: of which kind an expression is, which texts are refused, where and why, and what is left
 //! behind an expression.
 
-use crate::position::Position;
-use crate::table::check;
 use rows::{left_by, printed, words};
 use std::alloc::Global;
 use std::test::Fail;
 use syn_expr::{Error, Expr, parse_str};
+use syn_expr_rows::position::Position;
+use syn_expr_rows::table::check;
 
 /// The name of its kind.
 fn kind_of(expr: &Expr) -> &'static str {
@@ -179,7 +179,7 @@ x as u8.y()       ~ refused at 7..8: casts cannot be followed by a method call
 x as u8.await     ~ refused at 7..8: casts cannot be followed by `.await`
 x as u8?          ~ refused at 7..8: casts cannot be followed by `?`
 x as u8[0]        ~ refused at 7..10: casts cannot be followed by indexing
-x as u8(0)        ~ refused at 7..10: casts cannot be followed by a function call
+x as [u8](0)      ~ refused at 9..12: casts cannot be followed by a function call
 #[k] ..b          ~ refused at 5..7: attributes are not allowed on range expressions starting with `..`
 a = #[k] ..b      ~ refused at 9..11: attributes are not allowed on range expressions starting with `..`
 break 'a: loop {} ~ refused at 6..17: parentheses required

@@ -15,7 +15,7 @@ fn told(alloc: Global, answer: Result<String, Error>) -> Result<String, Error> {
 }
 
 /// As `rows::check`, of rows that have `~` between what is given and what has to be answered.
-pub(crate) fn check<F: Fn(Global, &str) -> Result<String, Error>>(
+pub fn check<F: Fn(Global, &str) -> Result<String, Error>>(
     alloc: Global,
     table: &str,
     answer: F,

@@ -8,7 +8,7 @@ use syn_expr::{
 
 /// Where an expression stands.
 #[derive(Clone, Copy)]
-pub(crate) enum Position {
+pub enum Position {
     /// By itself, as between delimiters.
     Plain,
     /// At the head of a statement.
@@ -40,8 +40,8 @@ impl Position {
         }
     }
 
-    /// Reads what stands there.
-    pub(crate) fn read(self, input: &mut ParseBuffer<'_>) -> Result<Expr, Error> {
+    /// Reads what stands there. It is refused as the reader of the position refuses it.
+    pub fn read(self, input: &mut ParseBuffer<'_>) -> Result<Expr, Error> {
         match self {
             Position::Plain => input.parse::<Expr>(),
             Position::Condition => Expr::parse_without_eager_brace(input),
@@ -58,35 +58,35 @@ fn tokens_of(alloc: Global, expr: &Expr, position: Position) -> Result<TokenStre
 }
 
 /// The text of what is printed of an expression.
-pub(crate) fn text_of(alloc: Global, expr: &Expr, position: Position) -> Result<String, Error> {
+pub fn text_of(alloc: Global, expr: &Expr, position: Position) -> Result<String, Error> {
     to_text(&tokens_of(alloc, expr, position)?)
 }
 
-/// What is printed of an expression, as it is read before what may stand behind it. Nothing is given where another rest is
-/// left.
-pub(crate) fn read_back(
+/// What tokens are read as before what may stand behind them. Nothing is given where another rest is left.
+pub fn read_at(
     alloc: Global,
-    expr: &Expr,
+    mut tokens: TokenStream,
     position: Position,
 ) -> Result<Option<Expr>, Error> {
-    let mut tokens = tokens_of(alloc, expr, position)?;
-    let printed = tokens.len();
-    tokens.append(lex(alloc, position.rest())?)?;
+    let rest = lex(alloc, position.rest())?;
+    let left = rest.len();
+    tokens.append(rest)?;
     let mut input = ParseBuffer::new(&tokens)?;
     let read = position.read(&mut input)?;
-    Ok(if tokens.len() - input.len() == printed {
+    Ok(if input.len() == left {
         Some(read)
     } else {
         None
     })
 }
 
+/// What is printed of an expression, as it is read there again.
+pub fn read_back(alloc: Global, expr: &Expr, position: Position) -> Result<Option<Expr>, Error> {
+    read_at(alloc, tokens_of(alloc, expr, position)?, position)
+}
+
 /// The text of what is printed of an expression, which has to be the same once it was read back.
-pub(crate) fn printed_twice(
-    alloc: Global,
-    expr: &Expr,
-    position: Position,
-) -> Result<String, Error> {
+pub fn printed_twice(alloc: Global, expr: &Expr, position: Position) -> Result<String, Error> {
     let text = text_of(alloc, expr, position)?;
     match read_back(alloc, expr, position)? {
         Some(again) if text_of(alloc, &again, position)?.as_str() == text.as_str() => Ok(text),
@@ -96,6 +96,6 @@ pub(crate) fn printed_twice(
 }
 
 /// What is printed of the expression that a text is.
-pub(crate) fn printed_at(alloc: Global, text: &str, position: Position) -> Result<String, Error> {
+pub fn printed_at(alloc: Global, text: &str, position: Position) -> Result<String, Error> {
     printed_twice(alloc, &parse_str::<Expr>(alloc, text)?, position)
 }

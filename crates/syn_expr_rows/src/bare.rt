@@ -23,7 +23,7 @@ fn bare_if(alloc: Global, operand: Option<Box<Expr>>) -> Result<Option<Box<Expr>
 
 /// An expression without the parentheses round it and round the operands of operators, of jumps and of `let`, and round what
 /// trailers stand behind.
-pub(crate) fn bare(alloc: Global, expr: Box<Expr>) -> Result<Box<Expr>, Error> {
+pub fn bare(alloc: Global, expr: Box<Expr>) -> Result<Box<Expr>, Error> {
     match Box::into_inner(expr) {
         Expr::Paren(x) => bare(alloc, x.expr),
         Expr::Binary(x) => {
@@ -86,7 +86,7 @@ pub(crate) fn bare(alloc: Global, expr: Box<Expr>) -> Result<Box<Expr>, Error> {
 }
 
 /// What is printed of a text's tree without its parentheses. Read back it has to be the same tree, but for parentheses.
-pub(crate) fn bare_at(alloc: Global, text: &str, position: Position) -> Result<String, Error> {
+pub fn bare_at(alloc: Global, text: &str, position: Position) -> Result<String, Error> {
     let expr = bare(alloc, boxed(alloc, parse_str::<Expr>(alloc, text)?)?)?;
     let Some(again) = read_back(alloc, &expr, position)? else {
         return words(alloc, "another rest is left");
