@@ -183,7 +183,7 @@ x as [u8](0)      ~ refused at 9..12: casts cannot be followed by a function cal
 #[k] ..b          ~ refused at 5..7: attributes are not allowed on range expressions starting with `..`
 a = #[k] ..b      ~ refused at 9..11: attributes are not allowed on range expressions starting with `..`
 break 'a: loop {} ~ refused at 6..17: parentheses required
-/// d             ~ refused at 0..18: doc comment
+/// d             ~ refused at 0..5: doc comment
 ";
 
 #[test]
