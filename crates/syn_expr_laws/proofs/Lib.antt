@@ -1,0 +1,3 @@
+pub mod TreeEq
+pub mod Shapes
+pub mod KindTies
