@@ -84,7 +84,7 @@ use Rattle.syn_expr_laws.proofs.KindTies.{no_dict, limits_tie, qself_same, qself
 
 -- ---- a pattern behind its attributes
 
-pat_tie : {A B : Type 0} (attrs : A → Attrs) {v : A → B} {F : A → A → Bool} (tree : B → PatTree) (gs : B → List Tree) → ((b : B) → is_bare (tree b) ≡ true)
+pub pat_tie : {A B : Type 0} (attrs : A → Attrs) {v : A → B} {F : A → A → Bool} (tree : B → PatTree) (gs : B → List Tree) → ((b : B) → is_bare (tree b) ≡ true)
     → ((x y : A) → tree (v x) ≡ tree (v y) → gs (v x) ≡ gs (v y) → v x ≡ v y) → IsEqualityOf v F
     → IsEqualityOf (λ x. view_with (attrs x) (tree (v x)) (gs (v x))) (λ x y. attrs_test (attrs x) (attrs y) && F x y)
 unfolding attrs_of
@@ -216,6 +216,22 @@ module _ (T : RattleType) {g : T.Denot → PatView} {E : T.Denot → T.Denot →
 
       back : (x y : Punctuated T.Denot A) → listed x ≡ listed y → (map g (values x), trails x) ≡ (map g (values y), trails y)
       back x y h = pair_path (views_once g filled (values x) (values y) (trees_told (map (λ p. (g p).tree) (values x)) (map (λ p. (g p).tree) (values y)) (ap (λ p. p.0) h)) (ap (λ p. p.1.0) h)) (ap (λ p. p.1.1) h)
+
+  -- those of a closure's arguments, as lists
+  abbrev told : {A : Type 0} → Punctuated T.Denot A → List PatTree × (List Tree × Bool)
+  told p = (map (λ v. v.tree) (map g (values p)), (flat_map (λ v. v.guards) (map g (values p)), trails p))
+
+  of_lists : (l : List T.Denot) → (map (λ v. v.tree) (map g l), flat_map (λ v. v.guards) (map g l)) ≡ (map (λ p. (g p).tree) l, flat_map (λ p. (g p).guards) l)
+  of_lists [] = refl
+  of_lists (x ∷ xs) = let h = of_lists xs in pair_path (ap (λ p. (g x).tree ∷ p.0) h) (ap (λ p. (g x).guards ++ p.1) h)
+
+  pub told_tie : {A : Type 0} → IsEqualityOf {A = Punctuated T.Denot A} told (PunctTest E)
+  told_tie {A} = into_tie {f = λ (p : Punctuated T.Denot A). (map g (values p), trails p)} told (λ x y h. ap (λ p. (map (λ v. v.tree) p.0, (flat_map (λ v. v.guards) p.0, p.1))) h) back (punctuated_tie tie)
+    where
+      back : (x y : Punctuated T.Denot A) → told x ≡ told y → (map g (values x), trails x) ≡ (map g (values y), trails y)
+      back x y h =
+          let k = sym (of_lists (values x)) ∙ (ap (λ p. (p.0, p.1.0)) h ∙ of_lists (values y)) in
+          pair_path (views_once g filled (values x) (values y) (ap (λ p. p.0) k) (ap (λ p. p.1) k)) (ap (λ p. p.1.1) h)
 
   pub tuple_struct_tie : IsEqualityOf (pat_tuple_struct_of g) (tuple_struct_test.ghosts T (record { eq = E }) no_dict).eq
   tuple_struct_tie = let it = pat_tie {A = PatTupleStructOf T.Denot} {B = PathTree × Listed} (λ x. x.attrs) (λ b. t.tuple_struct b.0 b.1.0 b.1.1.1) (λ b. b.1.1.0) (λ b. refl) (λ x y h k. pair_path (cc) (pair_path (cc) (pair_path k (cc))))

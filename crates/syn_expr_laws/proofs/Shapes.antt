@@ -108,7 +108,7 @@ comma_elements (x ∷ []) false = refl
 comma_elements (x ∷ y ∷ ys) b = comma_elements (y ∷ ys) b
 
 -- a comma ends no empty list
-trailed : {A P B : Type 0} (f : A → B) (p : Punctuated A P) → trails p ≡ (is_some_pair (map f (values p)) && trails p)
+pub trailed : {A P B : Type 0} (f : A → B) (p : Punctuated A P) → trails p ≡ (is_some_pair (map f (values p)) && trails p)
 unfolding values trails
 trailed {A} {P} f p = by p.inner.items
   where
