@@ -36,7 +36,13 @@ pub fn compares_with_itself(expr: &Expr) -> bool
 }
 
 fn main(rt: HostRuntime) -> io::Result<()> {
-    for text in ["a == a", "a[0] < a[ 0 ]", "a || !(b.c != b.c)", "a == (a)", "a + a"] {
+    for text in [
+        "a == a",
+        "a[0] < a[ 0 ]",
+        "a || !(b.c != b.c)",
+        "a == (a)",
+        "a + a",
+    ] {
         match parse_str::<Expr>(rt.alloc(), text) {
             Ok(expr) if compares_with_itself(&expr) => {
                 println!(rt; "{text}: a value is compared with itself")?;

@@ -327,5 +327,3 @@ module _ (T : RattleType) {f : T.Denot → Tree} {E : T.Denot → T.Denot → Bo
   pub field_value_kind_tie : IsEqualityOf (field_value_of f) (field_value_test.ghosts T (record { eq = E }) no_dict).eq
   field_value_kind_tie =
       let it = made_tie {B = List AttributeTree × (MemberTree × (Bool × Tree))} {C = FieldView} (λ p. record { attrs = p.0; member = p.1.0; colon = p.1.1.0; value = p.1.1.1 }) (λ p q h. pair_path (ap (λ (r : FieldView). r.attrs) h) (pair_path (ap (λ (r : FieldView). r.member) h) (pair_path (ap (λ (r : FieldView). r.colon) h) (ap (λ (r : FieldView). r.value) h)))) (both_tie (on_tie {C = FieldValueOf T.Denot} (λ x. x.attrs) attrs_tie) (both_tie (on_tie {C = FieldValueOf T.Denot} (λ x. x.member) member_tie) (both_tie (on_tie {C = FieldValueOf T.Denot} (λ x. x.colon_token) some_tie) (on_tie {C = FieldValueOf T.Denot} (λ x. x.expr) tie)))) in it
-
-

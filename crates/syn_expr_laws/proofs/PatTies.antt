@@ -91,8 +91,8 @@ unfolding attrs_of
 pat_tie {A} {B} attrs {v} tree gs plain once u =
     into_tie {f = λ x. (attrs_of (attrs x), v x)} (λ x. view_with (attrs x) (tree (v x)) (gs (v x))) (λ x y h i. record { tree = attributed_by (h i).0 (tree (h i).1); guards = gs (h i).1 })
     (λ x y h.
-      let r = attributed_once (attrs_of (attrs x)) (attrs_of (attrs y)) (tree (v x)) (tree (v y)) (plain (v x)) (plain (v y)) (ap (λ (w : PatView). w.tree) h) in
-      pair_path r.0 (once x y r.1 (ap (λ (w : PatView). w.guards) h)))
+    let r = attributed_once (attrs_of (attrs x)) (attrs_of (attrs y)) (tree (v x)) (tree (v y)) (plain (v x)) (plain (v y)) (ap (λ (w : PatView). w.tree) h) in
+    pair_path r.0 (once x y r.1 (ap (λ (w : PatView). w.guards) h)))
     (both_tie (on_tie attrs attrs_tie) u)
 
 -- ---- what holds no patterns
@@ -311,7 +311,7 @@ module _ (T : RattleType) {g : T.Denot → PatView} {E : T.Denot → T.Denot →
       there : (x y : Punctuated (FieldPatOf T.Denot) A) → (map field_view (values x), trails x) ≡ (map field_view (values y), trails y) → fielded x ≡ fielded y
       there x y h =
           let k : (map (field_pat_of g) (values x), flat_map (λ y. field_guards g y.kind) (values x)) ≡ (map (field_pat_of g) (values y), flat_map (λ y. field_guards g y.kind) (values y)) =
-            of_field_views (values x) ∙ (ap (λ p. (map (λ v. record { attrs = v.0; field = v.1.0 }) p.0, flat_map (λ v. v.1.1) p.0)) h ∙ sym (of_field_views (values y))) in
+          of_field_views (values x) ∙ (ap (λ p. (map (λ v. record { attrs = v.0; field = v.1.0 }) p.0, flat_map (λ v. v.1.1) p.0)) h ∙ sym (of_field_views (values y))) in
           pair_path (ap (λ p. t.fields_of p.0) k) (pair_path (ap (λ p. p.1) k) (ap (λ p. p.1) h))
 
       back : (x y : Punctuated (FieldPatOf T.Denot) A) → fielded x ≡ fielded y → (map field_view (values x), trails x) ≡ (map field_view (values y), trails y)

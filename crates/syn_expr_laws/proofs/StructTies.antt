@@ -88,15 +88,15 @@ module _ (T : RattleType) {f : T.Denot → Tree} {E : T.Denot → T.Denot → Bo
       let p = parts x in let q = parts y in
       let k : fields p.1.1.0.0 p.1.1.0.1 (rest_kid p.1.1.1.0 p.1.1.1.1) ≡ fields q.1.1.0.0 q.1.1.0.1 (rest_kid q.1.1.1.0 q.1.1.1.1) = cc in
       let r = dots_told p.1.1.1.0 q.1.1.1.0 p.1.1.1.1 q.1.1.1.1 (cc)
-        (sym (rest_told p.1.1.0.0 p.1.1.0.1 p.1.1.1.0 p.1.1.1.1) ∙ (ap rest_in k ∙ rest_told q.1.1.0.0 q.1.1.0.1 q.1.1.1.0 q.1.1.1.1)) in
+      (sym (rest_told p.1.1.0.0 p.1.1.0.1 p.1.1.1.0 p.1.1.1.1) ∙ (ap rest_in k ∙ rest_told q.1.1.0.0 q.1.1.0.1 q.1.1.1.0 q.1.1.1.1)) in
       pair_path (cc) (pair_path (cc) (pair_path
-        (pair_path
-          (sym (fields_told p.1.1.0.0 p.1.1.0.1 p.1.1.1.0 p.1.1.1.1) ∙ (ap fields_in k ∙ fields_told q.1.1.0.0 q.1.1.0.1 q.1.1.1.0 q.1.1.1.1))
-          (trailed (field_value_of f) x.fields ∙ (sym (comma_told p.1.1.0.0 p.1.1.0.1 p.1.1.1.0 p.1.1.1.1) ∙ (ap comma_in k ∙ (comma_told q.1.1.0.0 q.1.1.0.1 q.1.1.1.0 q.1.1.1.1 ∙ sym (trailed (field_value_of f) y.fields))))))
-        (pair_path r.0 r.1)))
+      (pair_path
+      (sym (fields_told p.1.1.0.0 p.1.1.0.1 p.1.1.1.0 p.1.1.1.1) ∙ (ap fields_in k ∙ fields_told q.1.1.0.0 q.1.1.0.1 q.1.1.1.0 q.1.1.1.1))
+      (trailed (field_value_of f) x.fields ∙ (sym (comma_told p.1.1.0.0 p.1.1.0.1 p.1.1.1.0 p.1.1.1.1) ∙ (ap comma_in k ∙ (comma_told q.1.1.0.0 q.1.1.0.1 q.1.1.1.0 q.1.1.1.1 ∙ sym (trailed (field_value_of f) y.fields))))))
+      (pair_path r.0 r.1)))
 
   pub struct_kind_tie : IsEqualityOf (expr_struct_of f) (struct_test.ghosts T (record { eq = E }) no_dict).eq
   struct_kind_tie =
       let it = behind_tie {A = S} (λ x. x.attrs) (λ x. refl) (into_tie {f = parts} (λ x. struct_with (parts x)) (λ x y h. ap struct_with h) parts_once
-        (both_tie (on_tie {C = S} (λ x. x.qself) qself_or_tie) (both_tie (on_tie {C = S} (λ x. x.path) path_tie)
-        (both_tie (on_tie {C = S} (λ x. x.fields) (punctuated_tie (field_value_kind_tie T tie))) (both_tie (on_tie {C = S} (λ x. x.dot2_token) some_tie) (on_tie {C = S} (λ x. x.rest) (boxed_tie tie))))))) in it
+      (both_tie (on_tie {C = S} (λ x. x.qself) qself_or_tie) (both_tie (on_tie {C = S} (λ x. x.path) path_tie)
+      (both_tie (on_tie {C = S} (λ x. x.fields) (punctuated_tie (field_value_kind_tie T tie))) (both_tie (on_tie {C = S} (λ x. x.dot2_token) some_tie) (on_tie {C = S} (λ x. x.rest) (boxed_tie tie))))))) in it

@@ -185,7 +185,7 @@ HeadParts = Option LifetimesTree × (Bool × (Bool × (Bool × (List PatTree × 
 closure_head_eq : Discrete ClosureHead
 closure_head_eq = through {B = HeadParts} (λ x. (x.lifetimes, (x.constness, (x.asyncness, (x.capture, (x.inputs, (x.trailing, x.output)))))))
     (λ x y h. let a = ap (λ p. p.0) h in let b = ap (λ p. p.1.0) h in let c = ap (λ p. p.1.1.0) h in let d = ap (λ p. p.1.1.1.0) h in let f = ap (λ p. p.1.1.1.1.0) h in let g = ap (λ p. p.1.1.1.1.1.0) h in let k = ap (λ p. p.1.1.1.1.1.1) h in
-     λ i. record { lifetimes = a i; constness = b i; asyncness = c i; capture = d i; inputs = f i; trailing = g i; output = k i })
+    λ i. record { lifetimes = a i; constness = b i; asyncness = c i; capture = d i; inputs = f i; trailing = g i; output = k i })
     (×_discrete (option_eq lifetimes_eq) (×_discrete Bool-discrete (×_discrete Bool-discrete (×_discrete Bool-discrete (×_discrete (List-discrete pat_eq) (×_discrete Bool-discrete return_eq))))))
 
 jump_eq : (x y : Jump) → Dec (x ≡ y)
