@@ -18,13 +18,7 @@ fn swapped(alloc: Global, text: &str) -> Result<String> {
 }
 
 fn main(rt: HostRuntime) -> io::Result<()> {
-    for text in [
-        "a - b",
-        "a - b - c",
-        "return + 1",
-        "x as u8 == |y| y",
-        "a - b c",
-    ] {
+    for text in ["a - b", "a - b - c", "return + 1", "a - b c"] {
         match swapped(rt.alloc(), text) {
             Ok(swapped) => println!(rt; "{text} becomes {swapped}")?,
             Err(e) => {

@@ -82,10 +82,10 @@ is_bare _ = true
 pub attributed_once : (a b : List AttributeTree) (p q : PatTree) → is_bare p ≡ true → is_bare q ≡ true → attributed_by a p ≡ attributed_by b q → (a ≡ b) × (p ≡ q)
 attributed_once [] [] p q k l h = (refl, h)
 attributed_once [] (b ∷ bs) p q k l h = absurd (let m : true ≡ false = sym k ∙ ap is_bare h in cc)
-attributed_once (a ∷ as) [] p q k l h = absurd (let m : false ≡ true = ap is_bare h ∙ l in cc)
-attributed_once (a ∷ as) (b ∷ bs) p q k l h = (cc, cc)
+attributed_once (a ∷ ms) [] p q k l h = absurd (let m : false ≡ true = ap is_bare h ∙ l in cc)
+attributed_once (a ∷ ms) (b ∷ bs) p q k l h = (cc, cc)
 
 pub places-behind : (a : List AttributeTree) (p : PatTree) → places (attributed_by a p) ≡ places p
 unfolding places
 places-behind [] p = refl
-places-behind (a ∷ as) p = refl
+places-behind (a ∷ ms) p = refl

@@ -41,8 +41,8 @@ is_core _ = true
 adorn_once : (a b : List AttributeTree) (t u : Tree) → is_core t ≡ true → is_core u ≡ true → adorn a t ≡ adorn b u → (a ≡ b) × (t ≡ u)
 adorn_once [] [] t u p q h = (refl, h)
 adorn_once [] (b ∷ bs) t u p q h = absurd (let k : true ≡ false = sym p ∙ ap is_core h in cc)
-adorn_once (a ∷ as) [] t u p q h = absurd (let k : false ≡ true = ap is_core h ∙ q in cc)
-adorn_once (a ∷ as) (b ∷ bs) t u p q h = (cc, cc)
+adorn_once (a ∷ ms) [] t u p q h = absurd (let k : false ≡ true = ap is_core h ∙ q in cc)
+adorn_once (a ∷ ms) (b ∷ bs) t u p q h = (cc, cc)
 
 -- a node behind its attributes
 pub behind_tie : {A : Type 0} (attrs : A → Attrs) {core : A → Tree} {F : A → A → Bool} → ((x : A) → is_core (core x) ≡ true) → IsEqualityOf core F
@@ -75,9 +75,9 @@ unfolding attrs_of outer_of inner_of
 around_tie {A} {B} attrs {g} make plain once t =
     into_tie {f = λ x. (attrs_of (attrs x), g x)} (λ x. adorn (outer_of (attrs x)) (make (inner_of (attrs x)) (g x))) (λ x y h i. adorn (outer_part (h i).0) (make (inner_part (h i).0) (h i).1))
     (λ x y h.
-      let r = adorn_once (outer_of (attrs x)) (outer_of (attrs y)) (make (inner_of (attrs x)) (g x)) (make (inner_of (attrs y)) (g y)) (plain (inner_of (attrs x)) (g x)) (plain (inner_of (attrs y)) (g y)) h in
-      let s = once (inner_of (attrs x)) (inner_of (attrs y)) (g x) (g y) r.1 in
-      pair_path (sym (halves (attrs_of (attrs x))) ∙ ((λ i. r.0 i ++ s.0 i) ∙ halves (attrs_of (attrs y)))) s.1)
+    let r = adorn_once (outer_of (attrs x)) (outer_of (attrs y)) (make (inner_of (attrs x)) (g x)) (make (inner_of (attrs y)) (g y)) (plain (inner_of (attrs x)) (g x)) (plain (inner_of (attrs y)) (g y)) h in
+    let s = once (inner_of (attrs x)) (inner_of (attrs y)) (g x) (g y) r.1 in
+    pair_path (sym (halves (attrs_of (attrs x))) ∙ ((λ i. r.0 i ++ s.0 i) ∙ halves (attrs_of (attrs y)))) s.1)
     (both_tie (on_tie attrs attrs_tie) t)
 
 -- ---- operands with commas
@@ -127,8 +127,8 @@ pub elements_tie : {A P : Type 0} {f : A → Tree} {E : A → A → Bool} → Is
 elements_tie {A} {P} {f} t =
     into_tie {f = λ (p : Punctuated A P). (map f (values p), trails p)} (λ p. elements (map f (values p)) (trails p)) (λ x y h i. elements (h i).0 (h i).1)
     (λ x y h.
-      pair_path (sym (trees_elements (map f (values x)) (trails x)) ∙ (ap trees_in h ∙ trees_elements (map f (values y)) (trails y)))
-      (trailed f x ∙ (sym (comma_elements (map f (values x)) (trails x)) ∙ (ap comma_in h ∙ (comma_elements (map f (values y)) (trails y) ∙ sym (trailed f y))))))
+    pair_path (sym (trees_elements (map f (values x)) (trails x)) ∙ (ap trees_in h ∙ trees_elements (map f (values y)) (trails y)))
+    (trailed f x ∙ (sym (comma_elements (map f (values x)) (trails x)) ∙ (ap comma_in h ∙ (comma_elements (map f (values y)) (trails y) ∙ sym (trailed f y))))))
     (punctuated_tie t)
 
 -- ---- an operand that may be missing
