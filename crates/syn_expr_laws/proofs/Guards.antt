@@ -11,7 +11,7 @@ use Rattle.syn_lower_leaves.proofs.Ties.{pair_path}
 
 -- ---- the places for guards
 
-mutual
+unfoldable mutual
   pub places : PatTree → ℕ
   places (t.a_binding r m w s) = sub_places s
   places (t.a_struct p fs e d) = fields_places fs
@@ -48,13 +48,13 @@ IsFilled v = length v.guards ≡ places v.tree
 
 -- ---- lists of patterns
 
-split : (gs hs more rest : List Tree) → length gs ≡ length hs → gs ++ more ≡ hs ++ rest → (gs ≡ hs) × (more ≡ rest)
+pub split : (gs hs more rest : List Tree) → length gs ≡ length hs → gs ++ more ≡ hs ++ rest → (gs ≡ hs) × (more ≡ rest)
 split [] [] more rest l h = (refl, h)
 split [] (y ∷ hs) more rest l h = absurd cc
 split (x ∷ gs) [] more rest l h = absurd cc
 split (x ∷ gs) (y ∷ hs) more rest l h = let r = split gs hs more rest (cc) (cc) in let p : gs ≡ hs = r.0 in let q : x ≡ y = cc in (cc, r.1)
 
-view_path : (v w : PatView) → v.tree ≡ w.tree → v.guards ≡ w.guards → v ≡ w
+pub view_path : (v w : PatView) → v.tree ≡ w.tree → v.guards ≡ w.guards → v ≡ w
 view_path v w a b = λ i. record { tree = a i; guards = b i }
 
 module _ {P : Type 0} (g : P → PatView) (filled : (p : P) → IsFilled (g p)) where

@@ -1,5 +1,5 @@
 -- Operands beside patterns tell what they are made of: guards of patterns where none may stand, and the arms of a `match`.
-use Rattle.std.proofs.Common.{◌≡◌, Bool, true, false, List, [], ◌∷◌, ◌++◌, refl, sym, ◌∙◌, ap, append-nil, append-assoc}
+use Rattle.std.proofs.Common.{◌≡◌, Bool, true, false, List, [], ◌∷◌, ◌++◌, refl, sym, ◌∙◌, ap, append-nil, append_assoc}
 use Rattle.syn_parts.specs.Tree.{AttributeTree, ReturnTree, default, given}
 use Rattle.syn_parts.specs.Pat as t
 use Rattle.syn_parts.specs.Pat.{PatTree, guarded}
@@ -11,7 +11,7 @@ use Rattle.syn_lower_leaves.proofs.Ties.{pair_path}
 
 -- ---- guards where none may stand
 
-is_stray : Kids → Bool
+abbrev pub is_stray : Kids → Bool
 is_stray (kid e.stray d x ks) = true
 is_stray _ = false
 
@@ -51,14 +51,14 @@ comma_told false = refl
 behind_strays : (gs hs : List Tree) (ks : Kids) → arms_in gs (strays hs ks) ≡ arms_in (gs ++ hs) ks
 unfolding arms_in
 behind_strays gs [] ks = ap (λ l. arms_in l ks) (sym (append-nil gs))
-behind_strays gs (h ∷ hs) ks = behind_strays (gs ++ h ∷ []) hs ks ∙ ap (λ l. arms_in l ks) (append-assoc gs (h ∷ []) hs)
+behind_strays gs (h ∷ hs) ks = behind_strays (gs ++ h ∷ []) hs ks ∙ ap (λ l. arms_in l ks) (append_assoc gs (h ∷ []) hs)
 
 -- an arm whose pattern is guarded
 behind_guards : (ats : List AttributeTree) (p : PatTree) (b : Bool) (x : Tree) (gs : List Tree) (g : Tree) (hs : List Tree) (ks : Kids)
     → arms_in gs (guard_kids (e.guard ats p) g hs (kid e.guarded (arm_ending b) x ks)) ≡ record { attrs = ats; pat = record { tree = guarded p; guards = gs ++ g ∷ hs }; body = x; comma = b } ∷ arms_in [] ks
 unfolding arms_in
 behind_guards ats p b x gs g [] ks = ap (λ c. record { attrs = ats; pat = record { tree = guarded p; guards = gs ++ g ∷ [] }; body = x; comma = c } ∷ arms_in [] ks) (comma_told b)
-behind_guards ats p b x gs g (h ∷ hs) ks = behind_guards ats p b x (gs ++ g ∷ []) h hs ks ∙ ap (λ l. record { attrs = ats; pat = record { tree = guarded p; guards = l }; body = x; comma = b } ∷ arms_in [] ks) (append-assoc gs (g ∷ []) (h ∷ hs))
+behind_guards ats p b x gs g (h ∷ hs) ks = behind_guards ats p b x (gs ++ g ∷ []) h hs ks ∙ ap (λ l. record { attrs = ats; pat = record { tree = guarded p; guards = l }; body = x; comma = b } ∷ arms_in [] ks) (append_assoc gs (g ∷ []) (h ∷ hs))
 
 plain_arm : (x : ArmView) (p : PatTree) (ks : Kids) → arms_in [] (strays x.pat.guards (kid (e.arm x.attrs p) (arm_ending x.comma) x.body ks)) ≡ record { attrs = x.attrs; pat = record { tree = p; guards = x.pat.guards }; body = x.body; comma = x.comma } ∷ arms_in [] ks
 unfolding arms_in
@@ -73,6 +73,7 @@ one_arm x (guarded p) (g ∷ gs) ks h = behind_guards x.attrs p x.comma x.body [
 one_arm x p gs ks h = unguarded_arm x p gs ks h
 
 arms_told : (l : List ArmView) → arms_in [] (arms l) ≡ l
+unfolding arms_in
 arms_told [] = refl
 arms_told (x ∷ xs) = one_arm x x.pat.tree x.pat.guards (arms xs) refl ∙ ap (λ l. x ∷ l) (arms_told xs)
 

@@ -10,7 +10,7 @@ use Rattle.syn_parts.specs.Text.{Text}
 use Rattle.syn_parts.specs.Tree.{AttributeTree, TypeTree, QSelfTree, PathTree, ArgumentsTree, no_arguments}
 use Rattle.syn_parts.specs.Pat.{MemberTree}
 use Rattle.syn_grammar.specs.Tree as e
-use Rattle.syn_grammar.specs.Tree.{Tree, Kids, Jump, leaf, paren, lead, mid, post, tail, frame, none, kid, adorn}
+use Rattle.syn_grammar.specs.Tree.{Tree, Kids, Body, Jump, leaf, paren, lead, mid, post, tail, frame, none, kid, adorn}
 use Rattle.syn_grammar.specs.declared.kinds.BinKind.{BinKind}
 use Rattle.syn_grammar.specs.declared.kinds.UnKind.{UnKind}
 use Rattle.syn_grammar.specs.declared.kinds.Limits.{Limits}
@@ -157,12 +157,23 @@ range_core l None (Some y) = refl
 range_core l (Some x) None = refl
 range_core l (Some x) (Some y) = refl
 
-range_once : (l m : Limits) (a b c d : Option Tree) → range_between l a b ≡ range_between m c d → (a, (l, b)) ≡ (c, (m, d))
-range_once l m None None None None h = pair_path refl (pair_path (cc) refl)
-range_once l m None (Some y) None (Some z) h = let p : y ≡ z = cc in pair_path refl (pair_path (cc) (ap Some p))
-range_once l m (Some x) None (Some w) None h = let p : x ≡ w = cc in pair_path (ap Some p) (pair_path (cc) refl)
-range_once l m (Some x) (Some y) (Some w) (Some z) h = let p : x ≡ w = cc in let q : y ≡ z = cc in pair_path (ap Some p) (pair_path (cc) (ap Some q))
-range_once l m _ _ _ _ h = absurd cc
+range_once : (l m : Limits) (a b c d : Option Tree) → range_between l a b ≡ range_between m c d → (a ≡ c) × ((l ≡ m) × (b ≡ d))
+range_once l m None None None None h = (refl, (cc, refl))
+range_once l m None (Some y) None (Some z) h = let p : y ≡ z = cc in (refl, (cc, ap Some p))
+range_once l m (Some x) None (Some w) None h = let p : x ≡ w = cc in (ap Some p, (cc, refl))
+range_once l m (Some x) (Some y) (Some w) (Some z) h = let p : x ≡ w = cc in let q : y ≡ z = cc in (ap Some p, (cc, ap Some q))
+range_once l m None None None (Some z) h = absurd cc
+range_once l m None None (Some w) None h = absurd cc
+range_once l m None None (Some w) (Some z) h = absurd cc
+range_once l m None (Some y) None None h = absurd cc
+range_once l m None (Some y) (Some w) None h = absurd cc
+range_once l m None (Some y) (Some w) (Some z) h = absurd cc
+range_once l m (Some x) None None None h = absurd cc
+range_once l m (Some x) None None (Some z) h = absurd cc
+range_once l m (Some x) None (Some w) (Some z) h = absurd cc
+range_once l m (Some x) (Some y) None None h = absurd cc
+range_once l m (Some x) (Some y) None (Some z) h = absurd cc
+range_once l m (Some x) (Some y) (Some w) None h = absurd cc
 
 jump_core : (j : Jump) (o : Option Tree) → is_core (jump_with j o) ≡ true
 jump_core j None = refl
@@ -171,7 +182,8 @@ jump_core j (Some x) = refl
 jump_once : (j k : Jump) (o p : Option Tree) → jump_with j o ≡ jump_with k p → (j ≡ k) × (o ≡ p)
 jump_once j k None None h = (cc, refl)
 jump_once j k (Some x) (Some y) h = let p : x ≡ y = cc in (cc, ap Some p)
-jump_once j k _ _ h = absurd cc
+jump_once j k None (Some y) h = absurd cc
+jump_once j k (Some x) None h = absurd cc
 
 -- ---- each kind
 
@@ -197,15 +209,15 @@ async_kind_tie =
 
 pub block_kind_tie : IsEqualityOf expr_block_of block_test.ghosts.eq
 block_kind_tie =
-    let it = around_tie {B = Option Text × List Tok} (λ x. x.attrs) (λ a p. leaf (e.block p.0 (body_of a p.1))) (λ a p. refl) (λ a b p q h. (cc, pair_path (cc) (cc))) (both_tie (on_tie {C = ExprBlock} (λ x. x.label) (option_tie label_tie)) (on_tie {C = ExprBlock} (λ x. x.block) block_tie)) in it
+    let it = around_tie {B = Option Text × List Tok} (λ x. x.attrs) (λ a p. leaf (e.block p.0 (body_of a p.1))) (λ a p. refl) (λ a b p q h. let k : body_of a p.1 ≡ body_of b q.1 = cc in (ap (λ (x : Body). x.inner) k, pair_path (cc) (ap (λ (x : Body). x.tokens) k))) (both_tie (on_tie {C = ExprBlock} (λ x. x.label) (option_tie label_tie)) (on_tie {C = ExprBlock} (λ x. x.block) block_tie)) in it
 
 pub const_kind_tie : IsEqualityOf expr_const_of const_test.ghosts.eq
 const_kind_tie =
-    let it = around_tie {B = List Tok} (λ x. x.attrs) (λ a p. leaf (e.const_block (body_of a p))) (λ a p. refl) (λ a b p q h. (cc, cc)) (on_tie {C = ExprConst} (λ x. x.block) block_tie) in it
+    let it = around_tie {B = List Tok} (λ x. x.attrs) (λ a p. leaf (e.const_block (body_of a p))) (λ a p. refl) (λ a b p q h. let k : body_of a p ≡ body_of b q = cc in (ap (λ (x : Body). x.inner) k, ap (λ (x : Body). x.tokens) k)) (on_tie {C = ExprConst} (λ x. x.block) block_tie) in it
 
 pub loop_kind_tie : IsEqualityOf expr_loop_of loop_test.ghosts.eq
 loop_kind_tie =
-    let it = around_tie {B = Option Text × List Tok} (λ x. x.attrs) (λ a p. leaf (e.looping p.0 (body_of a p.1))) (λ a p. refl) (λ a b p q h. (cc, pair_path (cc) (cc))) (both_tie (on_tie {C = ExprLoop} (λ x. x.label) (option_tie label_tie)) (on_tie {C = ExprLoop} (λ x. x.body) block_tie)) in it
+    let it = around_tie {B = Option Text × List Tok} (λ x. x.attrs) (λ a p. leaf (e.looping p.0 (body_of a p.1))) (λ a p. refl) (λ a b p q h. let k : body_of a p.1 ≡ body_of b q.1 = cc in (ap (λ (x : Body). x.inner) k, pair_path (cc) (ap (λ (x : Body). x.tokens) k))) (both_tie (on_tie {C = ExprLoop} (λ x. x.label) (option_tie label_tie)) (on_tie {C = ExprLoop} (λ x. x.body) block_tie)) in it
 
 pub try_block_kind_tie : IsEqualityOf expr_try_block_of try_block_test.ghosts.eq
 try_block_kind_tie =
@@ -213,7 +225,7 @@ try_block_kind_tie =
 
 pub unsafe_kind_tie : IsEqualityOf expr_unsafe_of unsafe_test.ghosts.eq
 unsafe_kind_tie =
-    let it = around_tie {B = List Tok} (λ x. x.attrs) (λ a p. leaf (e.unsafe_block (body_of a p))) (λ a p. refl) (λ a b p q h. (cc, cc)) (on_tie {C = ExprUnsafe} (λ x. x.block) block_tie) in it
+    let it = around_tie {B = List Tok} (λ x. x.attrs) (λ a p. leaf (e.unsafe_block (body_of a p))) (λ a p. refl) (λ a b p q h. let k : body_of a p ≡ body_of b q = cc in (ap (λ (x : Body). x.inner) k, ap (λ (x : Body). x.tokens) k)) (on_tie {C = ExprUnsafe} (λ x. x.block) block_tie) in it
 
 pub continue_kind_tie : IsEqualityOf expr_continue_of continue_test.ghosts.eq
 continue_kind_tie =
@@ -266,7 +278,7 @@ module _ (T : RattleType) {f : T.Denot → Tree} {E : T.Denot → T.Denot → Bo
 
   pub range_kind_tie : IsEqualityOf (expr_range_of f) (range_test.ghosts T (record { eq = E }) no_dict).eq
   range_kind_tie =
-      let it = behind_tie (λ x. x.attrs) (λ x. range_core (limits_kind x.limits) (boxed f x.start) (boxed f x.end)) (made_tie {B = Option Tree × (Limits × Option Tree)} (λ p. range_between p.1.0 p.0 p.1.1) (λ p q h. range_once p.1.0 q.1.0 p.0 p.1.1 q.0 q.1.1 h) (both_tie (on_tie {C = ExprRangeOf T.Denot} (λ x. x.start) (boxed_tie tie)) (both_tie (on_tie {C = ExprRangeOf T.Denot} (λ x. x.limits) limits_tie) (on_tie {C = ExprRangeOf T.Denot} (λ x. x.end) (boxed_tie tie))))) in it
+      let it = behind_tie (λ x. x.attrs) (λ x. range_core (limits_kind x.limits) (boxed f x.start) (boxed f x.end)) (made_tie {B = Option Tree × (Limits × Option Tree)} (λ p. range_between p.1.0 p.0 p.1.1) (λ p q h. let r = range_once p.1.0 q.1.0 p.0 p.1.1 q.0 q.1.1 h in pair_path r.0 (pair_path r.1.0 r.1.1)) (both_tie (on_tie {C = ExprRangeOf T.Denot} (λ x. x.start) (boxed_tie tie)) (both_tie (on_tie {C = ExprRangeOf T.Denot} (λ x. x.limits) limits_tie) (on_tie {C = ExprRangeOf T.Denot} (λ x. x.end) (boxed_tie tie))))) in it
 
   pub raw_addr_kind_tie : IsEqualityOf (expr_raw_addr_of f) (raw_addr_test.ghosts T (record { eq = E }) no_dict).eq
   raw_addr_kind_tie =
@@ -306,11 +318,11 @@ module _ (T : RattleType) {f : T.Denot → Tree} {E : T.Denot → T.Denot → Bo
 
   pub if_kind_tie : IsEqualityOf (expr_if_of f) (if_test.ghosts T (record { eq = E }) no_dict).eq
   if_kind_tie =
-      let it = behind_tie (λ x. x.attrs) (λ x. refl) (made_tie {B = Tree × (List Tok × Kids)} (λ p. frame e.branch (kid e.condition (e.braced (body_of [] p.1.0)) p.0 p.1.1)) (λ p q h. pair_path (cc) (pair_path (cc) (cc))) (both_tie (on_tie {C = ExprIfOf T.Denot} (λ x. x.cond) box) (both_tie (on_tie {C = ExprIfOf T.Denot} (λ x. x.then_branch) block_tie) (on_tie {C = ExprIfOf T.Denot} (λ x. x.else_branch) else_tie)))) in it
+      let it = behind_tie (λ x. x.attrs) (λ x. refl) (made_tie {B = Tree × (List Tok × Kids)} (λ p. frame e.branch (kid e.condition (e.braced (body_of [] p.1.0)) p.0 p.1.1)) (λ p q h. let k : body_of [] p.1.0 ≡ body_of [] q.1.0 = cc in pair_path (cc) (pair_path (ap (λ (b : Body). b.tokens) k) (cc))) (both_tie (on_tie {C = ExprIfOf T.Denot} (λ x. x.cond) box) (both_tie (on_tie {C = ExprIfOf T.Denot} (λ x. x.then_branch) block_tie) (on_tie {C = ExprIfOf T.Denot} (λ x. x.else_branch) else_tie)))) in it
 
   pub while_kind_tie : IsEqualityOf (expr_while_of f) (while_test.ghosts T (record { eq = E }) no_dict).eq
   while_kind_tie =
-      let it = around_tie {B = Option Text × (Tree × List Tok)} (λ x. x.attrs) (λ a p. frame (e.while_loop p.0) (kid e.loop_head (e.braced (body_of a p.1.1)) p.1.0 none)) (λ a p. refl) (λ a b p q h. (cc, pair_path (cc) (pair_path (cc) (cc)))) (both_tie (on_tie {C = ExprWhileOf T.Denot} (λ x. x.label) (option_tie label_tie)) (both_tie (on_tie {C = ExprWhileOf T.Denot} (λ x. x.cond) box) (on_tie {C = ExprWhileOf T.Denot} (λ x. x.body) block_tie))) in it
+      let it = around_tie {B = Option Text × (Tree × List Tok)} (λ x. x.attrs) (λ a p. frame (e.while_loop p.0) (kid e.loop_head (e.braced (body_of a p.1.1)) p.1.0 none)) (λ a p. refl) (λ a b p q h. let k : body_of a p.1.1 ≡ body_of b q.1.1 = cc in (ap (λ (x : Body). x.inner) k, pair_path (cc) (pair_path (cc) (ap (λ (x : Body). x.tokens) k)))) (both_tie (on_tie {C = ExprWhileOf T.Denot} (λ x. x.label) (option_tie label_tie)) (both_tie (on_tie {C = ExprWhileOf T.Denot} (λ x. x.cond) box) (on_tie {C = ExprWhileOf T.Denot} (λ x. x.body) block_tie))) in it
 
   pub break_kind_tie : IsEqualityOf (expr_break_of f) (break_test.ghosts T (record { eq = E }) no_dict).eq
   break_kind_tie =

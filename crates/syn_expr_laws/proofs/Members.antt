@@ -6,7 +6,7 @@ use Rattle.syn_parts.specs.Tree.{AttributeTree, LifetimesTree, ReturnTree, defau
 use Rattle.syn_parts.specs.Pat as t
 use Rattle.syn_parts.specs.Pat.{PatTree}
 use Rattle.syn_grammar.specs.Tree as e
-use Rattle.syn_grammar.specs.Tree.{Tree, Kids, ClosureHead, lead, frame, none, kid}
+use Rattle.syn_grammar.specs.Tree.{Tree, Kids, Body, ClosureHead, lead, frame, none, kid}
 use Rattle.syn_pat_kinds.specs.View.{PatView}
 use Rattle.syn_expr_kinds.specs.Pats.{ArmView, strays, trees, guards, closure_by, arms}
 use Rattle.syn_expr_kinds.specs.View.{body_of}
@@ -49,7 +49,7 @@ pub loop_once : (a b : List AttributeTree) (p q : LoopParts) → loop_with a p �
 loop_once a b p q h =
     let k : strays p.1.0.1 (kid e.loop_head (e.braced (body_of a p.1.1.1)) p.1.1.0 none) ≡ strays q.1.0.1 (kid e.loop_head (e.braced (body_of b q.1.1.1)) q.1.1.0 none) = cc in
     let r = strays_once p.1.0.1 q.1.0.1 (kid e.loop_head (e.braced (body_of a p.1.1.1)) p.1.1.0 none) (kid e.loop_head (e.braced (body_of b q.1.1.1)) q.1.1.0 none) refl refl k in
-    let m = r.1 in (cc, pair_path (cc) (pair_path (pair_path (cc) r.0) (pair_path (cc) (cc))))
+    let m = r.1 in let n : body_of a p.1.1.1 ≡ body_of b q.1.1.1 = cc in (ap (λ (x : Body). x.inner) n, pair_path (cc) (pair_path (pair_path (cc) r.0) (pair_path (cc) (ap (λ (x : Body). x.tokens) n))))
 
 abbrev pub BindingParts : Type 0
 BindingParts = (PatTree × List Tree) × Tree

@@ -162,7 +162,7 @@ module _ (T : RattleType) {g : T.Denot → PatView} {E : T.Denot → T.Denot →
   sub_tie : {A : Type 0} → IsEqualityOf {A = Option (A × Box T.Denot Global)} {B = SubPat × List Tree} (λ s. (sub_of g s, sub_guards g s)) (option_eq (λ a b. E a.1.value b.1.value))
   sub_tie {A} = record { same = go }
     where
-      go : (x y : Option (A × Box T.Denot Global)) → (option_eq (λ (a b : A × Box T.Denot Global). E a.1.value b.1.value) x y ≡ true) ↔ ((sub_of g x, sub_guards g x) ≡ (sub_of g y, sub_guards g y))
+      go : (x y : Option (A × Box T.Denot Global)) → (option_eq (λ (a b : A × Box T.Denot Global). E a.1.value b.1.value) x y ≡ true) ↔ (◌≡◌ {A = SubPat × List Tree} (sub_of g x, sub_guards g x) (sub_of g y, sub_guards g y))
       go None None = (λ h. refl, λ h. refl)
       go None (Some y) = (λ h. absurd cc, λ h. absurd (let k = ap (λ p. p.0) h in cc))
       go (Some x) None = (λ h. absurd cc, λ h. absurd (let k = ap (λ p. p.0) h in cc))
@@ -202,33 +202,33 @@ module _ (T : RattleType) {g : T.Denot → PatView} {E : T.Denot → T.Denot →
   trees_told : (l m : List PatTree) → t.pats_of l ≡ t.pats_of m → l ≡ m
   trees_told l m h = sym (pats-pats_of l) ∙ (ap t.pats h ∙ pats-pats_of m)
 
-  of_views : (l : List T.Denot) → (pats_in g l, guards_in g l) ≡ (t.pats_of (map (λ v. v.tree) (map g l)), flat_map (λ v. v.guards) (map g l))
+  of_views : (l : List T.Denot) → ◌≡◌ {A = Pats × List Tree} (pats_in g l, guards_in g l) (t.pats_of (map (λ v. v.tree) (map g l)), flat_map (λ v. v.guards) (map g l))
   of_views [] = refl
   of_views (x ∷ xs) = let h = of_views xs in pair_path (ap (λ p. t.more_pats (g x).tree p.0) h) (ap (λ p. (g x).guards ++ p.1) h)
 
   listed_tie : {A : Type 0} → IsEqualityOf {A = Punctuated T.Denot A} listed (PunctTest E)
   listed_tie {A} = into_tie {f = λ (p : Punctuated T.Denot A). (map g (values p), trails p)} listed there back (punctuated_tie tie)
     where
-      there : (x y : Punctuated T.Denot A) → (map g (values x), trails x) ≡ (map g (values y), trails y) → listed x ≡ listed y
+      there : (x y : Punctuated T.Denot A) → ◌≡◌ {A = List PatView × Bool} (map g (values x), trails x) (map g (values y), trails y) → listed x ≡ listed y
       there x y h =
-          let k : (pats_in g (values x), guards_in g (values x)) ≡ (pats_in g (values y), guards_in g (values y)) = of_views (values x) ∙ (ap (λ p. (t.pats_of (map (λ v. v.tree) p.0), flat_map (λ v. v.guards) p.0)) h ∙ sym (of_views (values y))) in
+          let k : ◌≡◌ {A = Pats × List Tree} (pats_in g (values x), guards_in g (values x)) (pats_in g (values y), guards_in g (values y)) = of_views (values x) ∙ (ap (λ p. (t.pats_of (map (λ v. v.tree) p.0), flat_map (λ v. v.guards) p.0)) h ∙ sym (of_views (values y))) in
           pair_path (ap (λ p. p.0) k) (pair_path (ap (λ p. p.1) k) (ap (λ p. p.1) h))
 
-      back : (x y : Punctuated T.Denot A) → listed x ≡ listed y → (map g (values x), trails x) ≡ (map g (values y), trails y)
+      back : (x y : Punctuated T.Denot A) → listed x ≡ listed y → ◌≡◌ {A = List PatView × Bool} (map g (values x), trails x) (map g (values y), trails y)
       back x y h = pair_path (views_once g filled (values x) (values y) (trees_told (map (λ p. (g p).tree) (values x)) (map (λ p. (g p).tree) (values y)) (ap (λ p. p.0) h)) (ap (λ p. p.1.0) h)) (ap (λ p. p.1.1) h)
 
   -- those of a closure's arguments, as lists
   abbrev told : {A : Type 0} → Punctuated T.Denot A → List PatTree × (List Tree × Bool)
   told p = (map (λ v. v.tree) (map g (values p)), (flat_map (λ v. v.guards) (map g (values p)), trails p))
 
-  of_lists : (l : List T.Denot) → (map (λ v. v.tree) (map g l), flat_map (λ v. v.guards) (map g l)) ≡ (map (λ p. (g p).tree) l, flat_map (λ p. (g p).guards) l)
+  of_lists : (l : List T.Denot) → ◌≡◌ {A = List PatTree × List Tree} (map (λ v. v.tree) (map g l), flat_map (λ v. v.guards) (map g l)) (map (λ p. (g p).tree) l, flat_map (λ p. (g p).guards) l)
   of_lists [] = refl
   of_lists (x ∷ xs) = let h = of_lists xs in pair_path (ap (λ p. (g x).tree ∷ p.0) h) (ap (λ p. (g x).guards ++ p.1) h)
 
   pub told_tie : {A : Type 0} → IsEqualityOf {A = Punctuated T.Denot A} told (PunctTest E)
   told_tie {A} = into_tie {f = λ (p : Punctuated T.Denot A). (map g (values p), trails p)} told (λ x y h. ap (λ p. (map (λ v. v.tree) p.0, (flat_map (λ v. v.guards) p.0, p.1))) h) back (punctuated_tie tie)
     where
-      back : (x y : Punctuated T.Denot A) → told x ≡ told y → (map g (values x), trails x) ≡ (map g (values y), trails y)
+      back : (x y : Punctuated T.Denot A) → told x ≡ told y → ◌≡◌ {A = List PatView × Bool} (map g (values x), trails x) (map g (values y), trails y)
       back x y h =
           let k = sym (of_lists (values x)) ∙ (ap (λ p. (p.0, p.1.0)) h ∙ of_lists (values y)) in
           pair_path (views_once g filled (values x) (values y) (ap (λ p. p.0) k) (ap (λ p. p.1) k)) (ap (λ p. p.1.1) h)
@@ -258,7 +258,7 @@ module _ (T : RattleType) {g : T.Denot → PatView} {E : T.Denot → T.Denot →
   kind_tie : IsEqualityOf {B = FieldView} (λ k. (field_of g k, field_guards g k)) (field_kind_test.ghosts T (record { eq = E }) no_dict).eq
   kind_tie = record { same = go }
     where
-      go : (x y : FieldPatKindOf T.Denot) → ((field_kind_test.ghosts T (record { eq = E }) no_dict).eq x y ≡ true) ↔ ((field_of g x, field_guards g x) ≡ (field_of g y, field_guards g y))
+      go : (x y : FieldPatKindOf T.Denot) → ((field_kind_test.ghosts T (record { eq = E }) no_dict).eq x y ≡ true) ↔ (◌≡◌ {A = FieldView} (field_of g x, field_guards g x) (field_of g y, field_guards g y))
       go (field.Short x) (field.Short y) = (
         λ h. ap (λ b. (t.short b.0 b.1.0 b.1.1, [])) ((short_tie.same x y).0 h),
         λ h. (short_tie.same x y).1 (let k = ap (λ p. p.0) h in pair_path (cc) (pair_path (cc) (cc))),
@@ -290,7 +290,7 @@ module _ (T : RattleType) {g : T.Denot → PatView} {E : T.Denot → T.Denot →
   filled_field (field.Short x) = refl
   filled_field (field.Full x) = filled x.pat.value
 
-  of_field_views : (l : List (FieldPatOf T.Denot)) → (map (field_pat_of g) l, flat_map (λ y. field_guards g y.kind) l) ≡ (map (λ v. record { attrs = v.0; field = v.1.0 }) (map field_view l), flat_map (λ v. v.1.1) (map field_view l))
+  of_field_views : (l : List (FieldPatOf T.Denot)) → ◌≡◌ {A = List FieldPatTree × List Tree} (map (field_pat_of g) l, flat_map (λ y. field_guards g y.kind) l) (map (λ v. record { attrs = v.0; field = v.1.0 }) (map field_view l), flat_map (λ v. v.1.1) (map field_view l))
   of_field_views [] = refl
   of_field_views (x ∷ xs) = let h = of_field_views xs in pair_path (ap (λ p. field_pat_of g x ∷ p.0) h) (ap (λ p. field_guards g x.kind ++ p.1) h)
 
@@ -308,13 +308,13 @@ module _ (T : RattleType) {g : T.Denot → PatView} {E : T.Denot → T.Denot →
   fielded_tie : {A : Type 0} → IsEqualityOf {A = Punctuated (FieldPatOf T.Denot) A} fielded (PunctTest (field_test.ghosts T (record { eq = E }) no_dict).eq)
   fielded_tie {A} = into_tie {f = λ (p : Punctuated (FieldPatOf T.Denot) A). (map field_view (values p), trails p)} fielded there back (punctuated_tie field_tie)
     where
-      there : (x y : Punctuated (FieldPatOf T.Denot) A) → (map field_view (values x), trails x) ≡ (map field_view (values y), trails y) → fielded x ≡ fielded y
+      there : (x y : Punctuated (FieldPatOf T.Denot) A) → ◌≡◌ {A = List (List AttributeTree × FieldView) × Bool} (map field_view (values x), trails x) (map field_view (values y), trails y) → fielded x ≡ fielded y
       there x y h =
-          let k : (map (field_pat_of g) (values x), flat_map (λ y. field_guards g y.kind) (values x)) ≡ (map (field_pat_of g) (values y), flat_map (λ y. field_guards g y.kind) (values y)) =
+          let k : ◌≡◌ {A = List FieldPatTree × List Tree} (map (field_pat_of g) (values x), flat_map (λ y. field_guards g y.kind) (values x)) (map (field_pat_of g) (values y), flat_map (λ y. field_guards g y.kind) (values y)) =
           of_field_views (values x) ∙ (ap (λ p. (map (λ v. record { attrs = v.0; field = v.1.0 }) p.0, flat_map (λ v. v.1.1) p.0)) h ∙ sym (of_field_views (values y))) in
           pair_path (ap (λ p. t.fields_of p.0) k) (pair_path (ap (λ p. p.1) k) (ap (λ p. p.1) h))
 
-      back : (x y : Punctuated (FieldPatOf T.Denot) A) → fielded x ≡ fielded y → (map field_view (values x), trails x) ≡ (map field_view (values y), trails y)
+      back : (x y : Punctuated (FieldPatOf T.Denot) A) → fielded x ≡ fielded y → ◌≡◌ {A = List (List AttributeTree × FieldView) × Bool} (map field_view (values x), trails x) (map field_view (values y), trails y)
       back x y h = pair_path (fields_once (values x) (values y) (fields_told (map (field_pat_of g) (values x)) (map (field_pat_of g) (values y)) (ap (λ p. p.0) h)) (ap (λ p. p.1.0) h)) (ap (λ p. p.1.1) h)
 
   pub struct_tie : IsEqualityOf (pat_struct_of g) (struct_test.ghosts T (record { eq = E }) no_dict).eq

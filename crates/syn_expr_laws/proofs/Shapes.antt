@@ -1,5 +1,5 @@
 -- Trees tell what they are made of: attributes before a node and in its braces, and operands in places of their own.
-use Rattle.std.proofs.Common.{◌≡◌, ◌↔◌, Bool, true, false, not, ◌&&◌, List, [], ◌∷◌, ◌++◌, map, Option, Some, None, is_some, refl, sym, ◌∙◌, ap, append-nil}
+use Rattle.std.proofs.Common.{◌≡◌, ◌↔◌, Bool, true, false, not, ◌&&◌, if◌then◌else◌, List, [], ◌∷◌, ◌++◌, map, Option, Some, None, is_some, refl, sym, ◌∙◌, ap, append-nil}
 use Rattle.std.specs.Cmp.Lexicographic.{pointwise}
 use Rattle.std.specs.Option.{option_eq}
 use Rattle.std.specs.declared.vec.Vec.{Vec}
@@ -52,20 +52,20 @@ behind_tie {A} attrs {core} plain t =
     (λ x y h. let r = adorn_once (attrs_of (attrs x)) (attrs_of (attrs y)) (core x) (core y) (plain x) (plain y) h in pair_path r.0 r.1) (both_tie (on_tie attrs attrs_tie) t)
 
 -- both parts, one behind the other, are all attributes in their order
+one_whole : (b : Bool) (a : AttributeTree) (l m more : List AttributeTree) → l ++ m ≡ more → (if b then [] else a ∷ l) ++ (if b then a ∷ more else m) ≡ a ∷ more
+one_whole true a l m more h = refl
+one_whole false a l m more h = ap (λ k. a ∷ k) h
+
 whole : (ats : List AttributeTree) → before_inner ats ++ from_inner ats ≡ ats
 whole [] = refl
-whole (a ∷ more) = by a.inner refl
-  where
-    by : (b : Bool) → a.inner ≡ b → before_inner (a ∷ more) ++ from_inner (a ∷ more) ≡ a ∷ more
-    by true h = rw h refl
-    by false h = rw h (ap (λ l. a ∷ l) (whole more))
+whole (a ∷ more) = one_whole a.inner a (before_inner more) (from_inner more) more (whole more)
+
+either_half : (b : Bool) (ats : List AttributeTree) → (if b then before_inner ats else ats) ++ (if b then from_inner ats else []) ≡ ats
+either_half true ats = whole ats
+either_half false ats = append-nil ats
 
 halves : (ats : List AttributeTree) → outer_part ats ++ inner_part ats ≡ ats
-halves ats = by (is_in_order ats) refl
-  where
-    by : (b : Bool) → is_in_order ats ≡ b → outer_part ats ++ inner_part ats ≡ ats
-    by true h = rw h (whole ats)
-    by false h = rw h (append-nil ats)
+halves ats = either_half (is_in_order ats) ats
 
 -- a node behind its outer attributes, with the inner ones in its braces
 pub around_tie : {A B : Type 0} (attrs : A → Attrs) {g : A → B} {F : A → A → Bool} (make : List AttributeTree → B → Tree) → ((a : List AttributeTree) (p : B) → is_core (make a p) ≡ true)

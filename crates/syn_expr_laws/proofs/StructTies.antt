@@ -44,7 +44,7 @@ fields_told [] t d None = refl
 fields_told [] t d (Some x) = refl
 fields_told (f ∷ fs) t d r = ap (λ l. f ∷ l) (fields_told fs t d r)
 
-rest_told : (l : List FieldView) (t d : Bool) (r : Option Tree) → rest_in (fields l t (rest_kid d r)) ≡ mapped (λ x. (d, x)) r
+rest_told : (l : List FieldView) (t d : Bool) (r : Option Tree) → rest_in (fields l t (rest_kid d r)) ≡ mapped {B = Bool × Tree} (λ x. (d, x)) r
 unfolding rest_in
 rest_told [] t d None = refl
 rest_told [] t d (Some x) = refl
@@ -61,12 +61,12 @@ comma_told (f ∷ []) false d (Some x) = refl
 comma_told (f ∷ g ∷ fs) t d r = comma_told (g ∷ fs) t d r
 
 -- with no rest the struct expression itself says whether `..` stands there
-dots_told : (d c : Bool) (r s : Option Tree) → (d && not (is_some r)) ≡ (c && not (is_some s)) → mapped (λ x. (d, x)) r ≡ mapped (λ x. (c, x)) s → (d ≡ c) × (r ≡ s)
+dots_told : (d c : Bool) (r s : Option Tree) → (d && not (is_some r)) ≡ (c && not (is_some s)) → mapped {B = Bool × Tree} (λ x. (d, x)) r ≡ mapped {B = Bool × Tree} (λ x. (c, x)) s → (d ≡ c) × (r ≡ s)
 dots_told true true None None h k = (refl, refl)
 dots_told true false None None h k = absurd cc
 dots_told false true None None h k = absurd cc
 dots_told false false None None h k = (refl, refl)
-dots_told d c (Some x) (Some y) h k = let p : (d, x) ≡ (c, y) = cc in (ap (λ q. q.0) p, ap (λ q. Some q.1) p)
+dots_told d c (Some x) (Some y) h k = let p : ◌≡◌ {A = Bool × Tree} (d, x) (c, y) = cc in (ap (λ q. q.0) p, ap (λ q. Some q.1) p)
 dots_told d c None (Some y) h k = absurd cc
 dots_told d c (Some x) None h k = absurd cc
 
