@@ -15,12 +15,16 @@ use Rattle.syn_tokens.specs.Tok.{Tok}
 use Rattle.syn_tokens.specs.declared.error.Error.{Error}
 use Rattle.syn_tokens.specs.declared.error.ErrorKind.{ErrorKind}
 use Rattle.syn_tokens.specs.declared.error.ErrorKind.TheVariants.{OutOfMemory}
-use Rattle.syn_five_kinds.specs.Place.{plain}
-use Rattle.syn_five_kinds.specs.Stands.{Stands}
-use Rattle.syn_five_kinds.specs.Tree.{Tree}
-use Rattle.syn_expr.specs.declared.expr.Expr.{Expr}
-use Rattle.syn_expr.specs.Reads.{SpellsExpr}
-use Rattle.syn_expr.specs.View.{seen_of, SeenExpr}
+use Rattle.syn_grammar.specs.declared.next.Context.{Context}
+use Rattle.syn_grammar.specs.Next.{enclosed}
+use Rattle.syn_grammar.specs.Place.{plain}
+use Rattle.syn_grammar.specs.Printed.{Position, context_of}
+use Rattle.syn_grammar.specs.Rule as rule
+use Rattle.syn_grammar.specs.Stands.{Stands}
+use Rattle.syn_grammar.specs.Tree.{Tree, own_tokens}
+use Rattle.syn_expr_all.specs.declared.expr.Expr.{Expr}
+use Rattle.syn_expr_all.specs.View.{tree_of}
+use Rattle.syn_expr.specs.Promises.{Puts, StandsBack, IsOwn, IsSparing, PrintedAs}
 use Rattle.exprfmt.specs.Run.{GainsFront, IsLine, StandsFor, NothingStands, AreLeft, Follows, Writer, Takes, Prints, Reports, Ran, line, printed, refused, foreign, failed, out_of_memory}
 use Rattle.exprfmt.specs.FaultView.{outcome_of}
 use Rattle.exprfmt.specs.declared.run.Fault.{Fault}
@@ -90,10 +94,27 @@ refused_by OutOfMemory cs h = inl refl
 refused_by k cs h = inr (λ t s. let e = h t s in cc)
 
 pub read_refused : (cs : List ℕ) (ts : List Tok) (r : Result Expr Error) → ((l : List Tok) → Spells cs l → ts ≡ l)
-    → ((s : SeenExpr) → SpellsExpr ts s [] → Gives seen_of s r) → IfErr r (λ e. (e.kind ≡ OutOfMemory) ⊎ NothingStands cs)
+    → ((t : Tree) → Stands plain ts t [] → Gives tree_of t r) → IfErr r (λ e. (e.kind ≡ OutOfMemory) ⊎ NothingStands cs)
 read_refused cs ts (Ok x) one found = tt
 read_refused cs ts (Err e) one found =
-    refused_by e.kind cs (λ t s. found (record { tree = t; inner = [] }) (subst (λ (m : List Tok). Stands plain m t []) (sym (one s.0 s.1)) s.2, refl))
+    refused_by e.kind cs (λ t s. found t (subst (λ (m : List Tok). Stands plain m t []) (sym (one s.0 s.1)) s.2))
+
+-- ---- what is printed
+
+alone : (Promised : List Tok → Type 0) (old new : List Tok) → old ≡ [] → Puts old new Promised → Promised new
+alone Promised old new e (ts, put, kept) = subst Promised (sym (put ∙ ap (λ (l : List Tok). l ++ ts) e)) kept
+
+-- what a printer promises of tokens behind none
+pub printed_as : (s : Position) (t : Tree) (c : Context) (old new : List Tok) → old ≡ [] → c ≡ context_of s → new ≡ old ++ own_tokens (rule.printed c t)
+    → ((p : Position) → c ≡ context_of p → Puts old new (StandsBack p t)) → (c ≡ enclosed → Puts old new (IsOwn t))
+    → ((p : Position) → c ≡ context_of p → Puts old new (IsSparing p t)) → PrintedAs s t new
+printed_as s t c old new e is text back own sparing =
+    record {
+      tokens = text ∙ ap (λ (l : List Tok). l ++ own_tokens (rule.printed c t)) e ∙ ap (λ (d : Context). own_tokens (rule.printed d t)) is;
+      back = alone (StandsBack s t) old new e (back s is);
+      own = λ p. alone (IsOwn t) old new e (own (is ∙ ap context_of p));
+      sparing = alone (IsSparing s t) old new e (sparing s is);
+    }
 
 -- ---- what is reported
 
@@ -114,12 +135,12 @@ reports_memory f e errors is wrote = subst (λ (h : Fault). Reports (outcome_of 
 
 -- ---- how a run ends
 
-pub reported : (left : Option (List ℕ)) (bytes : List ℕ) (unread : Bool) (f : Fault) (output errors : Writer) → AreLeft left bytes → Follows bytes unread (outcome_of f)
-    → output.after ≡ output.before → Reports (outcome_of f) errors → Ran left unread 1 output errors
-reported left bytes unread (Refused e) output errors a h k (inl w) = (bytes, refused e, a, h, (refl, k, w))
-reported left bytes unread (Refused e) output errors a h k (inr w) = (bytes, out_of_memory, a, inl refl, (refl, k, w))
-reported left bytes unread NotUtf8 output errors a h k w = (bytes, foreign, a, h, (refl, k, w))
-reported left bytes unread Failed output errors a h k w = (bytes, failed, a, h, (refl, k, w))
+pub reported : (s : Position) (left : Option (List ℕ)) (bytes : List ℕ) (unread : Bool) (f : Fault) (output errors : Writer) → AreLeft left bytes → Follows s bytes unread (outcome_of f)
+    → output.after ≡ output.before → Reports (outcome_of f) errors → Ran s left unread 1 output errors
+reported s left bytes unread (Refused e) output errors a h k (inl w) = (bytes, refused e, a, h, (refl, k, w))
+reported s left bytes unread (Refused e) output errors a h k (inr w) = (bytes, out_of_memory, a, inl refl, (refl, k, w))
+reported s left bytes unread NotUtf8 output errors a h k w = (bytes, foreign, a, h, (refl, k, w))
+reported s left bytes unread Failed output errors a h k w = (bytes, failed, a, h, (refl, k, w))
 
 prints_whole : (b : Bool) (errors : Writer) → b ≡ false → errors.after ≡ errors.before → Prints b 0 errors
 prints_whole true errors h k = absurd cc
@@ -129,17 +150,17 @@ prints_front : (b : Bool) (errors : Writer) → b ≡ true → Takes errors (lin
 prints_front true errors h k = (refl, k)
 prints_front false errors h k = absurd cc
 
-printed_by : (left : Option (List ℕ)) (bytes text : List ℕ) (unread : Bool) (status : ℕ) (output errors : Writer) → AreLeft left bytes → IsUtf8 bytes → IsLine (chars bytes) text
-    → Takes output text → Prints output.broke status errors → Ran left unread status output errors
-printed_by left bytes text unread status output errors a utf8 is wrote prints =
+printed_by : (s : Position) (left : Option (List ℕ)) (bytes text : List ℕ) (unread : Bool) (status : ℕ) (output errors : Writer) → AreLeft left bytes → IsUtf8 bytes → IsLine s (chars bytes) text
+    → Takes output text → Prints output.broke status errors → Ran s left unread status output errors
+printed_by s left bytes text unread status output errors a utf8 is wrote prints =
     (bytes, printed is.0, a, (utf8, is.1), (rw is.2 at wrote, prints))
 
-pub printed_whole : (left : Option (List ℕ)) (bytes text : List ℕ) (unread : Bool) (output errors : Writer) → AreLeft left bytes → IsUtf8 bytes → IsLine (chars bytes) text
-    → Takes output text → output.broke ≡ false → errors.after ≡ errors.before → Ran left unread 0 output errors
-printed_whole left bytes text unread output errors a utf8 is wrote h k =
-    printed_by left bytes text unread 0 output errors a utf8 is wrote (prints_whole output.broke errors h k)
+pub printed_whole : (s : Position) (left : Option (List ℕ)) (bytes text : List ℕ) (unread : Bool) (output errors : Writer) → AreLeft left bytes → IsUtf8 bytes → IsLine s (chars bytes) text
+    → Takes output text → output.broke ≡ false → errors.after ≡ errors.before → Ran s left unread 0 output errors
+printed_whole s left bytes text unread output errors a utf8 is wrote h k =
+    printed_by s left bytes text unread 0 output errors a utf8 is wrote (prints_whole output.broke errors h k)
 
-pub printed_front : (left : Option (List ℕ)) (bytes text : List ℕ) (unread : Bool) (output errors : Writer) → AreLeft left bytes → IsUtf8 bytes → IsLine (chars bytes) text
-    → Takes output text → output.broke ≡ true → Takes errors (line failed) → Ran left unread 1 output errors
-printed_front left bytes text unread output errors a utf8 is wrote h k =
-    printed_by left bytes text unread 1 output errors a utf8 is wrote (prints_front output.broke errors h k)
+pub printed_front : (s : Position) (left : Option (List ℕ)) (bytes text : List ℕ) (unread : Bool) (output errors : Writer) → AreLeft left bytes → IsUtf8 bytes → IsLine s (chars bytes) text
+    → Takes output text → output.broke ≡ true → Takes errors (line failed) → Ran s left unread 1 output errors
+printed_front s left bytes text unread output errors a utf8 is wrote h k =
+    printed_by s left bytes text unread 1 output errors a utf8 is wrote (prints_front output.broke errors h k)

@@ -8,9 +8,20 @@ use Rattle.syn_tokens.specs.Text.{text}
 use Rattle.syn_tokens.specs.declared.error.Error.{Error}
 use Rattle.syn_tokens.specs.declared.error.ErrorKind.TheVariants.{OutOfMemory}
 use Rattle.syn_tokens.specs.ErrorText.{kind_text}
-use Rattle.syn_five_kinds.specs.Place.{plain}
-use Rattle.syn_five_kinds.specs.Stands.{Stands}
-use Rattle.syn_five_kinds.specs.Tree.{Tree, own_tokens}
+use Rattle.syn_grammar.specs.Place.{plain}
+use Rattle.syn_grammar.specs.Printed.{Position}
+use Rattle.syn_grammar.specs.Stands.{Stands}
+use Rattle.syn_grammar.specs.Tree.{Tree}
+use Rattle.syn_expr.specs.Promises.{PrintedAs}
+use Rattle.syn_expr.specs.declared.position.Position as code
+use Rattle.syn_expr.specs.declared.position.Position.TheVariants as named
+
+-- the name of a position
+abbrev pub word : code.Position → List ℕ
+word named.Plain = codes "plain"
+word named.Stmt = codes "stmt"
+word named.Cond = codes "cond"
+word named.Arm = codes "arm"
 
 -- how a run ends: with printed tokens, a refusal, an input that is no UTF-8, or a read that failed
 pub data Outcome : Type 0 where
@@ -35,25 +46,25 @@ usage = codes "usage: exprfmt plain|stmt|cond|arm [bare]" ++ 10 ∷ []
 abbrev pub StandsFor : List ℕ → Tree → Type 0
 StandsFor cs t = (l : List Tok) × Spells cs l × Stands plain l t []
 
--- some tree stands for the text, and these are its own tokens
-abbrev pub IsPrinted : List ℕ → List Tok → Type 0
-IsPrinted cs ts = (t : Tree) × StandsFor cs t × (ts ≡ own_tokens t)
+-- some tree stands for the text, and these are its tokens as they are promised of it where it is printed in the position
+abbrev pub IsPrinted : Position → List ℕ → List Tok → Type 0
+IsPrinted s cs ts = (t : Tree) × StandsFor cs t × PrintedAs s t ts
 
 -- the text is cut into no tokens, or no tree stands for the whole of them
 abbrev pub NothingStands : List ℕ → Type 0
 NothingStands cs = (t : Tree) → StandsFor cs t → ⊥
 
 -- the line of the printed expression
-abbrev pub IsLine : List ℕ → List ℕ → Type 0
-IsLine cs bytes = (ts : List Tok) × IsPrinted cs ts × (bytes ≡ text ts ++ 10 ∷ [])
+abbrev pub IsLine : Position → List ℕ → List ℕ → Type 0
+IsLine s cs bytes = (ts : List Tok) × IsPrinted s cs ts × (bytes ≡ text ts ++ 10 ∷ [])
 
 -- The outcome is that of the input, unless memory runs out or a read failed: the expression that stands for it is
 -- printed, and it is refused only where none does.
-abbrev pub Follows : List ℕ → Bool → Outcome → Type 0
-Follows bytes unread (printed ts) = IsUtf8 bytes × IsPrinted (chars bytes) ts
-Follows bytes unread (refused e) = (e.kind ≡ OutOfMemory) ⊎ (IsUtf8 bytes × NothingStands (chars bytes))
-Follows bytes unread foreign = IsUtf8 bytes → ⊥
-Follows bytes unread failed = unread ≡ true
+abbrev pub Follows : Position → List ℕ → Bool → Outcome → Type 0
+Follows s bytes unread (printed ts) = IsUtf8 bytes × IsPrinted s (chars bytes) ts
+Follows s bytes unread (refused e) = (e.kind ≡ OutOfMemory) ⊎ (IsUtf8 bytes × NothingStands (chars bytes))
+Follows s bytes unread foreign = IsUtf8 bytes → ⊥
+Follows s bytes unread failed = unread ≡ true
 
 -- ---- what is written, where the bytes that a writer holds are known
 
@@ -93,9 +104,10 @@ abbrev pub AreLeft : Option (List ℕ) → List ℕ → Type 0
 AreLeft None bytes = Unit {0}
 AreLeft (Some left) bytes = bytes ≡ left
 
--- A run over a reader with these bytes left, of which a read failed or not: it had an outcome that follows from them.
-abbrev pub Ran : Option (List ℕ) → Bool → ℕ → Writer → Writer → Type 0
-Ran left unread status output errors = (bytes : List ℕ) × (o : Outcome) × AreLeft left bytes × Follows bytes unread o × Ends o status output errors
+-- A run for a position over a reader with these bytes left, of which a read failed or not: it had an outcome that follows from
+-- them.
+abbrev pub Ran : Position → Option (List ℕ) → Bool → ℕ → Writer → Writer → Type 0
+Ran s left unread status output errors = (bytes : List ℕ) × (o : Outcome) × AreLeft left bytes × Follows s bytes unread o × Ends o status output errors
 
 -- ---- the report of an outcome: memory runs out where the line has no room
 

@@ -1,4 +1,6 @@
-//! `exprfmt plain`: reads the text of an expression from standard input and prints it as its tokens.
+//! `exprfmt plain|stmt|cond|arm`: reads the text of an expression from standard input and prints it for this position, as its
+//! tokens with the parentheses that they need there: by itself, as a statement, as a condition before a block, or as the body
+//! of a match arm.
 //!
 //! Status 0: the printed line is on standard output. Status 1: the input was refused, or reading or writing failed;
 //! one line on standard error says so. Status 2: the arguments are no words of the program; the usage stands on
@@ -10,10 +12,11 @@ mod run;
 mod tests;
 mod watched;
 
-use run::{Position, run, usage};
+use run::{named, run, usage};
 use std::env::Env;
 use std::process::ExitCode;
 use std::{env, io};
+use syn_expr::position::Position;
 use watched::Watched;
 
 fn main(rt: HostRuntime) -> ExitCode {
@@ -39,5 +42,5 @@ fn position_of(rt: &(impl Env + Alloc)) -> Option<Position> {
     if args.next().is_some() {
         return None;
     }
-    Position::named(word.as_str())
+    named(word.as_str())
 }

@@ -1,14 +1,13 @@
 //! What the program does, over any reader and writers.
 
-ghost use Rattle.std.specs.Prelude.{◌≡◌, ◌≢◌, ◌⊎◌, ℕ, Bool, true, false, List, Some, None, IfOk, IfErr, string_bytes, codes, [], chars};
+ghost use Rattle.std.specs.Prelude.{◌≡◌, ◌≢◌, ◌⊎◌, ℕ, Bool, true, false, List, Some, IfOk, IfErr, IfSome, string_bytes, chars};
 ghost use Rattle.std.specs.Str.{IsUtf8};
 ghost use Rattle.std.specs.IoError.{error_kind};
 ghost use Rattle.std.specs.declared.io.ErrorKind.TheVariants.{OutOfMemory};
-ghost use Rattle.syn_tokens.specs.Tok.{Tok};
-ghost use Rattle.syn_five_kinds.specs.Place.{plain};
-ghost use Rattle.syn_five_kinds.specs.Stands.{Stands};
-ghost use Rattle.syn_five_kinds.specs.Tree.{own_tokens};
-ghost use Rattle.syn_expr.specs.View.{tree_of};
+ghost use Rattle.syn_expr_all.specs.View.{tree_of};
+ghost use Rattle.syn_expr.specs.Positions.{position_of};
+ghost use Rattle.syn_expr.specs.Promises.{PrintedAs};
+ghost use Rattle.syn_grammar.specs.Printed as grammar;
 ghost use Rattle.exprfmt.specs.Run as spec;
 ghost use Rattle.exprfmt.specs.FaultView.{outcome_of};
 
@@ -17,8 +16,8 @@ use std::alloc::Global;
 use std::fmt::{InlineText, Write as _};
 use std::io;
 use std::io::{Read, Write};
-use syn_expr::expr::Expr;
-use syn_expr::fixup::FixupContext;
+use syn_expr::Expr;
+use syn_expr::position::Position;
 use syn_expr::print::print_expr;
 use syn_tokens::error::{Error, ErrorKind, Result};
 use syn_tokens::lexer::lex;
@@ -27,23 +26,17 @@ use syn_tokens::text::to_text;
 use syn_tokens::tree::TokenStream;
 use syn_tokens::whole::parse2;
 
-/// Where the printed expression is to stand.
-#[derive(Clone, Copy, Debug, PartialEq, Eq)]
-pub enum Position {
-    /// By itself, as in delimiters: nothing follows.
-    Plain,
-}
-
-impl Position {
-    /// The position of this name. Those that are not there yet are no names.
-    pub fn named(name: &str) -> Option<Position>
-        ensures plain { name.now ≡ codes "plain" → result ≡ Some Position.Plain }
-        ensures other { name.now ≢ codes "plain" → result ≡ None }
-    {
-        match name {
-            "plain" => Some(Position::Plain),
-            _ => None,
-        }
+/// The position of this name.
+pub fn named(name: &str) -> Option<Position>
+    ensures named { (p : Position) → name.now ≡ spec.word p → result ≡ Some p }
+    ensures word { IfSome result (λ p. name.now ≡ spec.word p) }
+{
+    match name {
+        "plain" => Some(Position::Plain),
+        "stmt" => Some(Position::Stmt),
+        "cond" => Some(Position::Cond),
+        "arm" => Some(Position::Arm),
+        _ => None,
     }
 }
 
@@ -77,14 +70,11 @@ fn read(alloc: Global, text: &str) -> Result<Expr>
 
 /// The tokens of the printed expression.
 fn printed(alloc: Global, position: Position, expr: &Expr) -> Result<TokenStream>
-    ensures value { IfOk result (λ s. (l : List Tok) → Stands plain l (tree_of expr.now) [] → s ≡ own_tokens (tree_of expr.now)) }
+    ensures value { IfOk result (λ ts. PrintedAs (position_of position) (tree_of expr.now) ts) }
     ensures refused { IfErr result (λ e. e.kind ≡ ErrorKind.OutOfMemory) }
 {
-    let context = match position {
-        Position::Plain => FixupContext::NONE,
-    };
     let mut tokens = TokenStream::new(alloc);
-    match print_expr(expr, &mut tokens, context) {
+    match print_expr(expr, &mut tokens, position.fixup()) {
         Ok(()) => Ok(tokens),
         Err(e) => Err(e),
     }
@@ -92,7 +82,7 @@ fn printed(alloc: Global, position: Position, expr: &Expr) -> Result<TokenStream
 
 /// The line for a text, with its newline.
 fn line_of_text(alloc: Global, position: Position, text: &str) -> Result<String>
-    ensures value { IfOk result (λ s. spec.IsLine (chars text.now) (string_bytes s)) }
+    ensures value { IfOk result (λ s. spec.IsLine (position_of position) (chars text.now) (string_bytes s)) }
     ensures refused { IfErr result (λ e. (e.kind ≡ ErrorKind.OutOfMemory) ⊎ spec.NothingStands (chars text.now)) }
 {
     let expr = match read(alloc, text) {
@@ -115,8 +105,8 @@ fn line_of_text(alloc: Global, position: Position, text: &str) -> Result<String>
 
 /// The line for an input.
 fn line_of(alloc: Global, position: Position, bytes: &[u8]) -> std::result::Result<String, Fault>
-    ensures value { IfOk result (λ s. IsUtf8 bytes.now × spec.IsLine (chars bytes.now) (string_bytes s)) }
-    ensures refused { IfErr result (λ f. spec.Follows bytes.now false (outcome_of f)) }
+    ensures value { IfOk result (λ s. IsUtf8 bytes.now × spec.IsLine (position_of position) (chars bytes.now) (string_bytes s)) }
+    ensures refused { IfErr result (λ f. spec.Follows (position_of position) bytes.now false (outcome_of f)) }
 {
     let text = match str::from_utf8(bytes) {
         Ok(text) => text,
@@ -130,7 +120,7 @@ fn line_of(alloc: Global, position: Position, bytes: &[u8]) -> std::result::Resu
 
 /// The fault of a read that failed.
 fn read_fault(e: &io::Error) -> Fault
-    ensures follows { (bytes : List ℕ) (unread : Bool) → unread ≡ true → spec.Follows bytes unread (outcome_of result) }
+    ensures follows { (s : grammar.Position) (bytes : List ℕ) (unread : Bool) → unread ≡ true → spec.Follows s bytes unread (outcome_of result) }
     ensures memory { error_kind e.now ≡ OutOfMemory → outcome_of result ≡ spec.out_of_memory }
     ensures other { error_kind e.now ≢ OutOfMemory → outcome_of result ≡ spec.failed }
 {
@@ -147,8 +137,8 @@ fn line_of_rest<R: Read>(
     position: Position,
     input: &mut Watched<R>,
 ) -> std::result::Result<String, Fault>
-    ensures value { IfOk result (λ s. (bytes : List ℕ) × spec.AreLeft (R.remaining input.old.inner) bytes × IsUtf8 bytes × spec.IsLine (chars bytes) (string_bytes s)) }
-    ensures refused { IfErr result (λ f. (bytes : List ℕ) × spec.AreLeft (R.remaining input.old.inner) bytes × spec.Follows bytes input.new.failed (outcome_of f)) }
+    ensures value { IfOk result (λ s. (bytes : List ℕ) × spec.AreLeft (R.remaining input.old.inner) bytes × IsUtf8 bytes × spec.IsLine (position_of position) (chars bytes) (string_bytes s)) }
+    ensures refused { IfErr result (λ f. (bytes : List ℕ) × spec.AreLeft (R.remaining input.old.inner) bytes × spec.Follows (position_of position) bytes input.new.failed (outcome_of f)) }
 {
     let mut bytes = Vec::new(alloc);
     match input.read_to_end(&mut bytes) {
@@ -179,7 +169,7 @@ fn report<E: Write>(errors: &mut Watched<E>, fault: Fault)
     };
 }
 
-/// Reads the input to its end, and writes the printed expression and a newline to `output`, or one line to `errors`
+/// Reads the input to its end, and writes the expression, printed for the position, and a newline to `output`, or one line to `errors`
 /// that says why not: where the lexer or the reader refused the text, that it is no UTF-8, or that a read or a write
 /// failed. The result is the status: 0 where the expression was printed, else 1. Where a write fails, `output` has
 /// gained a front of its line, and nothing else; and so has `errors`.
@@ -190,7 +180,7 @@ pub fn run<R: Read, W: Write, E: Write>(
     output: &mut Watched<W>,
     errors: &mut Watched<E>,
 ) -> u8
-    ensures { spec.Ran (R.remaining input.old.inner) input.new.failed result (spec.writer (W.contents output.old.inner) output.new.failed (W.contents output.new.inner)) (spec.writer (E.contents errors.old.inner) errors.new.failed (E.contents errors.new.inner)) }
+    ensures { spec.Ran (position_of position) (R.remaining input.old.inner) input.new.failed result (spec.writer (W.contents output.old.inner) output.new.failed (W.contents output.new.inner)) (spec.writer (E.contents errors.old.inner) errors.new.failed (E.contents errors.new.inner)) }
 {
     let line = match line_of_rest(alloc, position, input) {
         Ok(line) => line,

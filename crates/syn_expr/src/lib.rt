@@ -2,8 +2,15 @@
 //! parts and with what `syn_tokens` has there: a program needs no other crate of these.
 #![tactic(auto)]
 
+pub mod laws;
+pub mod position;
+pub mod precedence;
 pub mod print;
 
+pub use laws::read_back;
+pub use laws::read_back_before;
+pub use position::Position;
+pub use precedence::Precedence;
 pub use print::print_counted;
 pub use print::print_expr;
 pub use syn_expr_all::Arm;
@@ -84,10 +91,10 @@ pub use syn_expr_all::pat;
 pub use syn_expr_fixup::FixupContext;
 pub use syn_expr_fixup::fixup;
 pub use syn_expr_queries::classify;
-pub use syn_expr_queries::classify::expr_leading_label;
-pub use syn_expr_queries::classify::requires_comma_to_be_match_arm;
-pub use syn_expr_queries::classify::requires_semi_to_be_stmt;
-pub use syn_expr_queries::classify::trailing_unparameterized_path;
+pub use syn_expr_queries::expr_leading_label;
+pub use syn_expr_queries::requires_comma_to_be_match_arm;
+pub use syn_expr_queries::requires_semi_to_be_stmt;
+pub use syn_expr_queries::trailing_unparameterized_path;
 pub use syn_lower::Abi;
 pub use syn_lower::AngleBracketedGenericArguments;
 pub use syn_lower::AssocType;

@@ -1,10 +1,14 @@
 //! The printer of expressions: a tree's own tokens, with the parentheses that it needs.
 
-ghost use Rattle.std.specs.Prelude.{◌≡◌, ◌++◌, ◌*◌, ◌-◌, ◌^◌, ◌≤◌, min, IfErr, IfOk, OnOk};
-ghost use Rattle.syn_grammar.specs.Rule.{printed};
-ghost use Rattle.syn_grammar.specs.Tree.{own_tokens, size};
+ghost use Rattle.std.specs.Prelude.{◌≡◌, ◌++◌, ◌*◌, ◌-◌, ◌^◌, ◌≤◌, true, min, IfErr, IfOk, OnOk};
 ghost use Rattle.syn_expr_all.specs.View.{tree_of};
 ghost use Rattle.syn_expr_collect.specs.Visited.{visited};
+ghost use Rattle.syn_expr.specs.Promises.{Puts, StandsBack, IsOwn, IsSparing, PrintedAs};
+ghost use Rattle.syn_grammar.specs.Next.{enclosed};
+ghost use Rattle.syn_grammar.specs.Printed.{Position, context_of};
+ghost use Rattle.syn_grammar.specs.Rule.{printed};
+ghost use Rattle.syn_grammar.specs.Tree.{own_tokens, size};
+ghost use Rattle.syn_grammar.specs.WellFormed.{is_well_formed};
 ghost use Rattle.syn_tokens.specs.Input.{IsFront};
 
 use std::alloc::Global;
@@ -16,24 +20,35 @@ use syn_tokens::tree::TokenStream;
 /// Puts the tokens of an expression at the end, with the parentheses that it needs where it is printed, and no others: those
 /// without which the tokens would be read as another tree, or not at all (Rust Reference, "Expression precedence").
 ///
-/// Memory may run out (`OutOfMemory`); a part of the tokens may then follow what was there.
+/// How tightly an operand has to bind there plays no part: who prints an operand asks that before. Memory may run out
+/// (`OutOfMemory`); a part of the tokens may then follow what was there.
 pub fn print_expr(expr: &Expr, tokens: &mut TokenStream, fixup: FixupContext) -> Result<()>
     ensures ok { OnOk result (tokens.new ≡ tokens.old ++ own_tokens (printed fixup.context (tree_of expr.now))) }
     ensures front { IsFront tokens.old tokens.new }
     ensures err { IfErr result (λ e. e.kind ≡ ErrorKind.OutOfMemory) }
+
+    // In the position that this is, they stand for the same tree.
+    ensures back { OnOk result ((s : Position) → fixup.context ≡ context_of s → Puts tokens.old tokens.new (StandsBack s (tree_of expr.now))) }
+    // What stands for some list is written as its own spelling.
+    ensures own { OnOk result (fixup.context ≡ enclosed → Puts tokens.old tokens.new (IsOwn (tree_of expr.now))) }
+    // No parentheses are added needlessly, and none of them can be left out.
+    ensures sparing { OnOk result ((s : Position) → fixup.context ≡ context_of s → Puts tokens.old tokens.new (IsSparing s (tree_of expr.now))) }
 {
     syn_expr_all::print_counted(expr, tokens, fixup.context())?;
     Ok(())
 }
 
 /// The tokens that `print_expr` puts at the end, and how often a node was visited: by the pass that notes the ends of each
-/// node, and by the printing. A count that reaches the greatest `u64` stays there.
+/// node, and by the printing; each at least once, and at most twice. Guards in patterns where none may stand aren't visited. A
+/// count that reaches the greatest `u64` stays there.
 ///
 /// Memory may run out (`OutOfMemory`).
 pub fn print_counted(alloc: Global, expr: &Expr, fixup: FixupContext) -> Result<(TokenStream, u64)>
     ensures ok { IfOk result (λ r. r.0 ≡ own_tokens (printed fixup.context (tree_of expr.now))) }
-    ensures least { IfOk result (λ r. min (visited (tree_of expr.now)) (2 ^ 64 - 1) ≤ r.1) }
+    ensures promised { IfOk result (λ r. (s : Position) → fixup.context ≡ context_of s → PrintedAs s (tree_of expr.now) r.0) }
+    ensures least { IfOk result (λ r. is_well_formed (tree_of expr.now) ≡ true → min (size (tree_of expr.now)) (2 ^ 64 - 1) ≤ r.1) }
     ensures most { IfOk result (λ r. r.1 ≤ min (2 * size (tree_of expr.now)) (2 ^ 64 - 1)) }
+    ensures visits { IfOk result (λ r. min (visited (tree_of expr.now)) (2 ^ 64 - 1) ≤ r.1) }
     ensures err { IfErr result (λ e. e.kind ≡ ErrorKind.OutOfMemory) }
 {
     let mut tokens = TokenStream::new(alloc);

@@ -1,0 +1,84 @@
+-- What is printed of a tree in a position keeps all that is promised.
+use Rattle.std.proofs.Common.{◌≡◌, ◌↔◌, true, List, [], ◌++◌, refl, sym, ◌∙◌, ap, subst}
+use Rattle.syn_tokens.specs.Tok.{Tok}
+use Rattle.syn_grammar.specs.declared.next.Context.{Context}
+use Rattle.syn_grammar.specs.Next.{enclosed}
+use Rattle.syn_grammar.specs.Printed.{Position, in_plain, as_statement, as_condition, as_arm, context_of, place_of, allows, is_sparing, plainly_adorned, printed_in}
+use Rattle.syn_grammar.specs.Rule.{printed}
+use Rattle.syn_grammar.specs.Stands.{Stands}
+use Rattle.syn_grammar.specs.Tree.{Tree, own, own_tokens, clear, fill}
+use Rattle.syn_grammar.specs.WellFormed.{is_well_formed}
+use Rattle.syn_grammar.proofs.FillIns.{plainly_fill}
+use Rattle.syn_grammar.proofs.Flat.{flatten_clear}
+use Rattle.syn_grammar.proofs.Needless.{bare_there}
+use Rattle.syn_grammar.proofs.Promise.{printed_stands}
+use Rattle.syn_grammar.proofs.Same.{printed_is_same}
+use Rattle.syn_grammar.proofs.SparedPlain.{no_pair_spared}
+use Rattle.syn_grammar.proofs.StoodFilled.{own_spelling}
+use Rattle.syn_expr_print.specs.Printing.{whole}
+use Rattle.syn_expr_print.proofs.Appends.{own_append}
+use Rattle.syn_expr.specs.Promises.{Puts, StandsBack, IsOwn, IsSparing, PrintedAs}
+use Rattle.syn_expr.proofs.Marks.{own_clear, clear_twice, plain_clear, put_clear}
+
+pub stands_back : (s : Position) (t : Tree) → StandsBack s t (own_tokens (printed_in s t))
+stands_back s t w = (
+  clear (printed_in s t),
+  flatten_clear (printed_in s t) ∙ printed_is_same (context_of s) t w,
+  λ rest h. subst (λ (l : List Tok). Stands (place_of s) l (clear (printed_in s t)) rest) (own_append (printed_in s t) rest) (printed_stands s t rest w h).1,
+)
+
+pub is_own : (t : Tree) → IsOwn t (own_tokens (printed enclosed t))
+is_own t l d a = ap own_tokens (own_spelling t l d a)
+
+needless : (s : Position) (t : Tree) (r : List Tok) → is_well_formed t ≡ true → plainly_adorned t ≡ true → is_sparing s ≡ true → allows s r ≡ true
+    → (clear (printed_in s t) ≡ clear (fill t)) ↔ Stands (place_of s) (own (fill t) r) (clear (fill t)) r
+needless s t r w a v h =
+    let p = printed_in s t in (
+      λ q. subst (λ (l : List Tok). Stands (place_of s) l (clear (fill t)) r) (sym (own_clear p r) ∙ ap (λ (x : Tree). own x r) q ∙ own_clear (fill t) r)
+          (subst (λ (x : Tree). Stands (place_of s) (own p r) x r) q (printed_stands s t r w h).1),
+      λ d. sym (put_clear (context_of s) (fill t))
+          ∙ ap clear (bare_there s (clear (fill t)) (own (fill t) r) r v h (plain_clear (fill t) ∙ plainly_fill t ∙ a) d.node)
+          ∙ clear_twice (fill t),
+    )
+
+pub is_sparing_there : (s : Position) (t : Tree) → IsSparing s t (own_tokens (printed_in s t))
+is_sparing_there s t w a v = (
+  printed_in s t,
+  refl,
+  record {
+    same = printed_is_same (context_of s) t w;
+    none_needlessly = λ rest h. needless s t rest w a v h;
+    no_pair_spared = λ q l rest h o d. no_pair_spared s t q l rest w a v h o d;
+  },
+)
+
+own_there : (s : Position) (t : Tree) → s ≡ in_plain → IsOwn t (own_tokens (printed_in s t))
+own_there in_plain t e = is_own t
+own_there as_statement t e = absurd cc
+own_there as_condition t e = absurd cc
+own_there as_arm t e = absurd cc
+
+prints : (s : Position) (t : Tree) → PrintedAs s t (own_tokens (printed_in s t))
+prints s t = record { tokens = refl; back = stands_back s t; own = own_there s t; sparing = is_sparing_there s t }
+
+-- ---- of what a printer wrote in the context of a position
+
+pub text_at : (t : Tree) (c d : Context) (old new : List Tok) → new ≡ old ++ whole d t → d ≡ c → new ≡ old ++ own_tokens (printed c t)
+unfolding whole
+text_at t c d old new h e = h ∙ ap (λ (x : Context). old ++ own_tokens (printed x t)) e
+
+pub text_of : (t : Tree) (c d : Context) (old new : List Tok) → new ≡ old ++ whole d t → d ≡ c → old ≡ [] → new ≡ own_tokens (printed c t)
+text_of t c d old new h e n = text_at t c d old new h e ∙ ap (λ (l : List Tok). l ++ own_tokens (printed c t)) n
+
+pub back_at : (s : Position) (t : Tree) (c : Context) (old new : List Tok) → new ≡ old ++ own_tokens (printed c t) → c ≡ context_of s → Puts old new (StandsBack s t)
+back_at s t c old new h e = (own_tokens (printed c t), h, subst (λ (d : Context). StandsBack s t (own_tokens (printed d t))) (sym e) (stands_back s t))
+
+pub own_at : (t : Tree) (c : Context) (old new : List Tok) → new ≡ old ++ own_tokens (printed c t) → c ≡ enclosed → Puts old new (IsOwn t)
+own_at t c old new h e = (own_tokens (printed c t), h, subst (λ (d : Context). IsOwn t (own_tokens (printed d t))) (sym e) (is_own t))
+
+pub sparing_at : (s : Position) (t : Tree) (c : Context) (old new : List Tok) → new ≡ old ++ own_tokens (printed c t) → c ≡ context_of s → Puts old new (IsSparing s t)
+sparing_at s t c old new h e = (own_tokens (printed c t), h, subst (λ (d : Context). IsSparing s t (own_tokens (printed d t))) (sym e) (is_sparing_there s t))
+
+pub prints_at : (s : Position) (t : Tree) (c : Context) (ts : List Tok) → ts ≡ own_tokens (printed c t) → c ≡ context_of s → PrintedAs s t ts
+prints_at s t c ts h e =
+    subst (λ (l : List Tok). PrintedAs s t l) (sym h) (subst (λ (d : Context). PrintedAs s t (own_tokens (printed d t))) (sym e) (prints s t))

@@ -1,0 +1,53 @@
+-- How tightly an expression binds, by its tree.
+use Rattle.std.specs.Prelude.{Bool, false, not, ◌||◌, if◌then◌else◌, List, [], ◌∷◌}
+use Rattle.syn_parts.specs.Tree.{AttributeTree}
+use Rattle.syn_grammar.specs.declared.kinds.Level.{Level}
+use Rattle.syn_grammar.specs.declared.kinds.Level.TheVariants as lev
+use Rattle.syn_grammar.specs.Op.{level}
+use Rattle.syn_grammar.specs.Tree.{Tree}
+use Rattle.syn_expr_notes.specs.declared.kind.NodeKind.{NodeKind}
+use Rattle.syn_expr_notes.specs.declared.kind.NodeKind.TheVariants as node
+use Rattle.syn_expr_notes.specs.declared.label.LeafKind.TheVariants as leafs
+use Rattle.syn_expr_notes.specs.Kind.{kind_at}
+use Rattle.syn_expr_notes.specs.Label.{lead_level, post_op}
+use Rattle.syn_expr_kinds.specs.Node.{attributes_at}
+use Rattle.syn_expr.specs.declared.precedence.Precedence.{Precedence}
+use Rattle.syn_expr.specs.declared.precedence.Precedence.TheVariants as prec
+
+abbrev pub level_of : Precedence → Level
+level_of prec.Jump = lev.Jump
+level_of prec.Assign = lev.Assign
+level_of prec.Range = lev.Range
+level_of prec.Or = lev.Or
+level_of prec.And = lev.And
+level_of prec.Let = lev.Let
+level_of prec.Compare = lev.Compare
+level_of prec.BitOr = lev.BitOr
+level_of prec.BitXor = lev.BitXor
+level_of prec.BitAnd = lev.BitAnd
+level_of prec.Shift = lev.Shift
+level_of prec.Sum = lev.Sum
+level_of prec.Product = lev.Product
+level_of prec.Cast = lev.Cast
+level_of prec.Prefix = lev.Prefix
+level_of prec.Unambiguous = lev.Unambiguous
+
+-- of a node by itself: its operator's, where it has one
+abbrev pub kind_level : NodeKind → Level
+kind_level (node.Leaf leafs.FullRange) = lev.Range
+kind_level (node.Lead k) = lead_level k
+kind_level (node.Mid op) = level op
+kind_level (node.Post k) = level (post_op k)
+kind_level _ = lev.Unambiguous
+
+-- behind an outer attribute
+abbrev pub behind : Level → Level
+behind lev.Unambiguous = lev.Prefix
+behind v = v
+
+abbrev pub has_outer : List AttributeTree → Bool
+has_outer [] = false
+has_outer (a ∷ more) = not a.inner || has_outer more
+
+abbrev pub tree_level : Tree → Level
+tree_level t = if has_outer (attributes_at t) then behind (kind_level (kind_at t)) else kind_level (kind_at t)

@@ -1,0 +1,44 @@
+-- What is promised of the tokens that are printed of a tree.
+use Rattle.std.specs.Prelude.{◌≡◌, ◌↔◌, ◌++◌, true, List, []}
+use Rattle.syn_tokens.specs.Tok.{Tok}
+use Rattle.syn_grammar.specs.Place.{plain}
+use Rattle.syn_grammar.specs.Printed.{Position, in_plain, place_of, allows, is_sparing, plainly_adorned, printed_in}
+use Rattle.syn_grammar.specs.Sparing.{OneLess}
+use Rattle.syn_grammar.specs.Stands.{Stands}
+use Rattle.syn_grammar.specs.Tree.{Tree, own, own_tokens, clear, fill, IsSameTree}
+use Rattle.syn_grammar.specs.WellFormed.{is_well_formed}
+
+-- what was put behind the old tokens
+abbrev pub Puts : List Tok → List Tok → (List Tok → Type 0) → Type 0
+Puts old new Promised = (ts : List Tok) × (new ≡ old ++ ts) × Promised ts
+
+-- The tokens of a well-formed tree stand in the position, before whatever it allows, for the same tree up to parentheses and
+-- fill-ins.
+abbrev pub StandsBack : Position → Tree → List Tok → Type 0
+StandsBack s t ts =
+    is_well_formed t ≡ true → (x : Tree) × IsSameTree t x × ((rest : List Tok) → allows s rest ≡ true → Stands (place_of s) (ts ++ rest) x rest)
+
+-- Of a tree that stands for some list, with no attributes on operations, they are its own spelling.
+abbrev pub IsOwn : Tree → List Tok → Type 0
+IsOwn t ts = (l : List Tok) → Stands plain l t [] → plainly_adorned t ≡ true → ts ≡ own_tokens t
+
+-- The tree t is printed as p, in which the added pairs are marked.
+pub record Spares (s : Position) (t p : Tree) : Type 0 where
+  pub same : IsSameTree t p
+  -- No pair is added exactly where the tree's own spelling, with its fill-ins, stands there for it.
+  pub none_needlessly : (rest : List Tok) → allows s rest ≡ true
+      → (clear p ≡ clear (fill t)) ↔ Stands (place_of s) (own (fill t) rest) (clear (fill t)) rest
+  -- With one of the added pairs left out, it stands for no list.
+  pub no_pair_spared : (q : Tree) (l rest : List Tok) → allows s rest ≡ true → OneLess p q → Stands (place_of s) l (clear q) rest → ⊥
+
+-- They are those of a tree whose pairs are needed, but in a statement, and where operations have attributes.
+abbrev pub IsSparing : Position → Tree → List Tok → Type 0
+IsSparing s t ts =
+    is_well_formed t ≡ true → plainly_adorned t ≡ true → is_sparing s ≡ true → (p : Tree) × (ts ≡ own_tokens p) × Spares s t p
+
+-- all of this of the tokens of a tree that is printed in a position
+pub record PrintedAs (s : Position) (t : Tree) (ts : List Tok) : Type 0 where
+  pub tokens : ts ≡ own_tokens (printed_in s t)
+  pub back : StandsBack s t ts
+  pub own : s ≡ in_plain → IsOwn t ts
+  pub sparing : IsSparing s t ts

@@ -1,0 +1,50 @@
+//! What follows of the readers and the printer together, of their contracts alone.
+
+ghost use Rattle.std.specs.Prelude.{◌≡◌, true, MatchResult};
+ghost use Rattle.syn_expr_all.specs.View.{tree_of};
+ghost use Rattle.syn_expr.specs.Positions.{position_of};
+ghost use Rattle.syn_grammar.specs.Printed.{allows};
+ghost use Rattle.syn_grammar.specs.Tree.{IsSameTree};
+ghost use Rattle.syn_grammar.specs.WellFormed.{is_well_formed};
+
+use crate::position::Position;
+use crate::print::print_expr;
+use std::alloc::Global;
+use syn_expr_all::Expr;
+use syn_expr_fixup::FixupContext;
+use syn_tokens::buffer::ParseBuffer;
+use syn_tokens::copy::copy_trees;
+use syn_tokens::error::{ErrorKind, Result};
+use syn_tokens::tree::TokenStream;
+use syn_tokens::whole::parse2;
+
+/// Prints an expression for itself and reads the tokens: a well-formed one is read back as the same tree, up to parentheses
+/// and fill-ins, unless memory runs out (`OutOfMemory`).
+pub fn read_back(alloc: Global, expr: &Expr) -> Result<Expr>
+    ensures { is_well_formed (tree_of expr.now) ≡ true → MatchResult result (λ x. IsSameTree (tree_of expr.now) (tree_of x)) (λ e. e.kind ≡ ErrorKind.OutOfMemory) }
+{
+    let mut tokens = TokenStream::new(alloc);
+    print_expr(expr, &mut tokens, FixupContext::NONE)?;
+    parse2::<Expr>(tokens)
+}
+
+/// Prints an expression in a position, puts other tokens behind it, and reads what stands there: before whatever the position
+/// allows a well-formed expression is read back as the same tree, up to parentheses and fill-ins, and all behind it is left,
+/// unless memory runs out (`OutOfMemory`). It answers what was read, and what is left.
+pub fn read_back_before(
+    alloc: Global,
+    position: Position,
+    expr: &Expr,
+    behind: TokenStream,
+) -> Result<(Expr, TokenStream)>
+    ensures { is_well_formed (tree_of expr.now) ≡ true → allows (position_of position) behind ≡ true
+        → MatchResult result (λ r. IsSameTree (tree_of expr.now) (tree_of r.0) × (r.1 ≡ behind)) (λ e. e.kind ≡ ErrorKind.OutOfMemory) }
+{
+    let mut tokens = TokenStream::new(alloc);
+    print_expr(expr, &mut tokens, position.fixup())?;
+    tokens.append(behind)?;
+    let mut input = ParseBuffer::new(&tokens)?;
+    let read = position.parse(&mut input)?;
+    let left = copy_trees(alloc, input.trees())?;
+    Ok((read, left))
+}
