@@ -1,11 +1,11 @@
 //! Trees without parentheses, as programs build them.
 
-use crate::position::{Position, read_back, text_of};
+use crate::again::{read_back, text_of};
 use rows::words;
 use std::alloc::Global;
 use syn_expr::{
     Error, Expr, ExprAssign, ExprAwait, ExprBinary, ExprBreak, ExprCall, ExprCast, ExprField,
-    ExprLet, ExprRange, ExprReference, ExprReturn, ExprTry, ExprUnary, parse_str,
+    ExprLet, ExprRange, ExprReference, ExprReturn, ExprTry, ExprUnary, Position, parse_str,
 };
 
 /// An expression in a box.

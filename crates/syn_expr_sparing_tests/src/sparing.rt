@@ -4,9 +4,9 @@
 use crate::trees::up_to;
 use std::alloc::Global;
 use std::test::Fail;
-use syn_expr::{Error, ErrorKind, Expr, lex, parse_str};
+use syn_expr::{Error, ErrorKind, Expr, Position, lex, parse_str};
+use syn_expr_rows::again::{read_at, text_of};
 use syn_expr_rows::bare::bare;
-use syn_expr_rows::position::{Position, read_at, text_of};
 
 /// Whether a text is read as a tree, but for parentheses, before what may stand behind it.
 fn is_read_as(alloc: Global, text: &str, tree: &Expr, position: Position) -> Result<bool, Error> {
@@ -67,7 +67,7 @@ fn wrong(alloc: Global, tree: &Expr, position: Position) -> Result<Option<&'stat
 /// Whether nothing is wrong with what is printed of the tree of a text, in each position.
 fn check_tree(alloc: Global, text: &str) -> Result<(), Fail> {
     let tree = bare(alloc, Box::new(alloc, parse_str::<Expr>(alloc, text)?)?)?;
-    for position in [Position::Plain, Position::Condition, Position::Arm] {
+    for position in [Position::Plain, Position::Cond, Position::Arm] {
         if let Some(fault) = wrong(alloc, &tree, position)? {
             return Err(Fail::new(format_args!("{text} {fault}")));
         }

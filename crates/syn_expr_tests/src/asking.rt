@@ -4,7 +4,7 @@ use rows::words;
 use std::alloc::Global;
 use std::test::Fail;
 use syn_expr::{
-    Error, Expr, ParseBuffer, Type, expr_leading_label, lex, parse_str,
+    Error, Expr, ParseBuffer, Precedence, Type, expr_leading_label, lex, parse_str,
     requires_comma_to_be_match_arm, requires_semi_to_be_stmt, trailing_unparameterized_path,
 };
 use syn_expr_rows::table::check;
@@ -99,13 +99,50 @@ as   ~ none
      ~ none
 ";
 
+/// The level of an expression, which is no lower than the lowest.
+fn level(alloc: Global, text: &str) -> Result<String, Error> {
+    let level = Precedence::of(&parse_str::<Expr>(alloc, text)?);
+    if level < Precedence::MIN {
+        return words(alloc, "below the lowest");
+    }
+    Ok(format!(in alloc; "{level:?}")?)
+}
+
+const LEVELS: &str = "
+return a    ~ Jump
+|a| a       ~ Jump
+a = b       ~ Assign
+a += b      ~ Assign
+a..         ~ Range
+a || b      ~ Or
+a && b      ~ And
+let a = b   ~ Let
+a < b       ~ Compare
+a | b       ~ BitOr
+a ^ b       ~ BitXor
+a & b       ~ BitAnd
+a << b      ~ Shift
+a - b       ~ Sum
+a % b       ~ Product
+a as u8     ~ Cast
+-a          ~ Prefix
+&raw mut a  ~ Prefix
+#[k] a.b    ~ Prefix
+#[k] return ~ Prefix
+return      ~ Unambiguous
+|| -> A {}  ~ Unambiguous
+(a + b)     ~ Unambiguous
+become a    ~ Unambiguous
+";
+
 #[test]
 fn queries(rt: HostRuntime) -> Result<(), Fail> {
     let alloc = rt.alloc();
     check(alloc, BEHIND, behind)?;
     check(alloc, FIRST, first)?;
     check(alloc, NAMES_LAST, name_last)?;
-    check(alloc, BEGINNINGS, begins)
+    check(alloc, BEGINNINGS, begins)?;
+    check(alloc, LEVELS, level)
 }
 
 /// Whether two texts, `<>` between them, are equal expressions.

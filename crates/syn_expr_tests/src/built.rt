@@ -6,10 +6,10 @@ use std::alloc::Global;
 use std::test::Fail;
 use syn_expr::{
     Error, Expr, ExprBinary, ExprCall, ExprClosure, ExprField, ExprGroup, ExprIf, ExprMatch,
-    ExprRange, ExprStruct, ExprTuple, FieldValue, FixupContext, Punctuated, RangeLimits,
+    ExprRange, ExprStruct, ExprTuple, FieldValue, FixupContext, Position, Punctuated, RangeLimits,
     ReturnType, parse_str, print_counted, to_text,
 };
-use syn_expr_rows::position::{Position, printed_at, text_of};
+use syn_expr_rows::again::{printed_at, text_of};
 use syn_expr_rows::table::check;
 
 /// An expression in a box.

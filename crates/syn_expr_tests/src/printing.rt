@@ -2,8 +2,9 @@
 
 use std::alloc::Global;
 use std::test::Fail;
+use syn_expr::Position;
+use syn_expr_rows::again::printed_at;
 use syn_expr_rows::bare::bare_at;
-use syn_expr_rows::position::{Position, printed_at};
 use syn_expr_rows::table::check;
 
 const PLAIN: &str = "
@@ -92,10 +93,10 @@ fn what_was_read_in_each_position(rt: HostRuntime) -> Result<(), Fail> {
         printed_at(alloc, text, Position::Plain)
     })?;
     check(alloc, STATEMENTS, |alloc, text| {
-        printed_at(alloc, text, Position::Statement)
+        printed_at(alloc, text, Position::Stmt)
     })?;
     check(alloc, CONDITIONS, |alloc, text| {
-        printed_at(alloc, text, Position::Condition)
+        printed_at(alloc, text, Position::Cond)
     })?;
     check(alloc, ARMS, |alloc, text| {
         printed_at(alloc, text, Position::Arm)
@@ -172,10 +173,10 @@ fn trees_without_parentheses_in_each_position(rt: HostRuntime) -> Result<(), Fai
         bare_at(alloc, text, Position::Plain)
     })?;
     check(alloc, STATEMENT_TREES, |alloc, text| {
-        bare_at(alloc, text, Position::Statement)
+        bare_at(alloc, text, Position::Stmt)
     })?;
     check(alloc, CONDITION_TREES, |alloc, text| {
-        bare_at(alloc, text, Position::Condition)
+        bare_at(alloc, text, Position::Cond)
     })?;
     check(alloc, ARM_TREES, |alloc, text| {
         bare_at(alloc, text, Position::Arm)

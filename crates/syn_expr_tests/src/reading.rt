@@ -4,8 +4,7 @@
 use rows::{left_by, printed, words};
 use std::alloc::Global;
 use std::test::Fail;
-use syn_expr::{Error, Expr, parse_str};
-use syn_expr_rows::position::Position;
+use syn_expr::{Error, Expr, Position, parse_str};
 use syn_expr_rows::table::check;
 
 /// The name of its kind.
@@ -196,7 +195,7 @@ fn refused_texts(rt: HostRuntime) -> Result<(), Fail> {
 
 /// What is left of a text behind the expression at its front.
 fn left_at(alloc: Global, text: &str, position: Position) -> Result<String, Error> {
-    left_by(alloc, text, |input| position.read(input).err())
+    left_by(alloc, text, |input| position.parse(input).err())
 }
 
 const BEHIND: &str = "
@@ -237,9 +236,9 @@ fn what_is_left_behind(rt: HostRuntime) -> Result<(), Fail> {
         left_at(alloc, text, Position::Plain)
     })?;
     check(alloc, BEHIND_HEADS, |alloc, text| {
-        left_at(alloc, text, Position::Statement)
+        left_at(alloc, text, Position::Stmt)
     })?;
     check(alloc, BEHIND_CONDITIONS, |alloc, text| {
-        left_at(alloc, text, Position::Condition)
+        left_at(alloc, text, Position::Cond)
     })
 }

@@ -1,52 +1,18 @@
-//! Where an expression stands, as tests print it there and read it again.
+//! Expressions, printed where they stand and read again.
 
 use rows::words;
 use std::alloc::Global;
 use syn_expr::{
-    Error, Expr, FixupContext, ParseBuffer, TokenStream, lex, parse_str, print_expr, to_text,
+    Error, Expr, ParseBuffer, Position, TokenStream, lex, parse_str, print_expr, to_text,
 };
 
-/// Where an expression stands.
-#[derive(Clone, Copy)]
-pub enum Position {
-    /// By itself, as between delimiters.
-    Plain,
-    /// At the head of a statement.
-    Statement,
-    /// Before a block.
-    Condition,
-    /// Behind the `=>` of an arm.
-    Arm,
-}
-
-impl Position {
-    /// How it is printed there.
-    fn fixup(self) -> FixupContext {
-        match self {
-            Position::Plain => FixupContext::NONE,
-            Position::Statement => FixupContext::new_stmt(),
-            Position::Condition => FixupContext::new_condition(),
-            Position::Arm => FixupContext::new_match_arm(),
-        }
-    }
-
-    /// What may stand behind it.
-    fn rest(self) -> &'static str {
-        match self {
-            Position::Plain => "",
-            Position::Statement => ";",
-            Position::Condition => "{ a }",
-            Position::Arm => ", b",
-        }
-    }
-
-    /// Reads what stands there. It is refused as the reader of the position refuses it.
-    pub fn read(self, input: &mut ParseBuffer<'_>) -> Result<Expr, Error> {
-        match self {
-            Position::Plain => input.parse::<Expr>(),
-            Position::Condition => Expr::parse_without_eager_brace(input),
-            Position::Statement | Position::Arm => Expr::parse_with_earlier_boundary_rule(input),
-        }
+/// What may stand behind an expression in a position.
+fn rest(position: Position) -> &'static str {
+    match position {
+        Position::Plain => "",
+        Position::Stmt => ";",
+        Position::Cond => "{ a }",
+        Position::Arm => ", b",
     }
 }
 
@@ -68,11 +34,11 @@ pub fn read_at(
     mut tokens: TokenStream,
     position: Position,
 ) -> Result<Option<Expr>, Error> {
-    let rest = lex(alloc, position.rest())?;
-    let left = rest.len();
-    tokens.append(rest)?;
+    let behind = lex(alloc, rest(position))?;
+    let left = behind.len();
+    tokens.append(behind)?;
     let mut input = ParseBuffer::new(&tokens)?;
-    let read = position.read(&mut input)?;
+    let read = position.parse(&mut input)?;
     Ok(if input.len() == left {
         Some(read)
     } else {
