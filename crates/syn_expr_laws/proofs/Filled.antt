@@ -15,11 +15,11 @@ use Rattle.syn_pat_kinds.specs.View.{PatView, attributed_by, field_of, field_gua
 use Rattle.syn_pat_kinds.specs.declared.pat.FieldPatOf.{FieldPatOf}
 use Rattle.syn_pat_kinds.specs.declared.pat.FieldPatKindOf.{FieldPatKindOf}
 use Rattle.syn_pat_kinds.specs.declared.pat.FieldPatKindOf.TheVariants as field
-use Rattle.syn_expr_all.specs.declared.expr.Expr.{Expr, map-Pat, map-PatGuard}
+use Rattle.syn_expr_all.specs.declared.expr.Expr.{Expr}
 use Rattle.syn_expr_all.specs.declared.expr.Expr.TheOpen.{Pat-F, PatGuard-F}
 use Rattle.syn_expr_all.specs.declared.expr.Expr.TheShapes as shapes
-use Rattle.syn_expr_all.specs.declared.pat.Pat.{Pat, ind-Pat, roll-Pat, out-roll-Pat}
-use Rattle.syn_expr_all.specs.declared.pat.PatGuard.{PatGuard, roll-PatGuard, out-roll-PatGuard}
+use Rattle.syn_expr_all.specs.declared.pat.Pat.{Pat, map-Pat, ind-Pat, roll-Pat, out-roll-Pat}
+use Rattle.syn_expr_all.specs.declared.pat.PatGuard.{PatGuard, map-PatGuard, roll-PatGuard, out-roll-PatGuard}
 use Rattle.syn_expr_all.specs.declared.closure.ExprClosure.{ExprClosure}
 use Rattle.syn_expr_all.specs.declared.control.Arm.{Arm}
 use Rattle.syn_expr_all.specs.declared.control.ExprForLoop.{ExprForLoop}

@@ -1,6 +1,6 @@
 -- The equality of expressions and patterns, which hold one another: the test of their trees is what one step of the derived test
 -- makes of it, and only the derived test is.
-use Rattle.std.proofs.Common.{◌≡◌, ℕ, Bool, true, false, List, [], ◌∷◌, ◌++◌, map, flat_map, Option, Some, None, is_some, refl, sym, ◌∙◌, ap}
+use Rattle.std.proofs.Common.{◌≡◌, ℕ, Bool, true, false, not, ◌&&◌, List, [], ◌∷◌, ◌++◌, map, flat_map, Option, Some, None, is_some, refl, sym, ◌∙◌, ap}
 use mathlib.Core.HLevel.{Discrete, ×_discrete}
 use mathlib.Core.Bool.{Bool-discrete}
 use mathlib.Core.List.{List-discrete}
@@ -21,13 +21,17 @@ use Rattle.syn_grammar.specs.declared.kinds.Infix.TheVariants as inf
 use Rattle.syn_lower_leaves.specs.Equal.{IsEqualityOf}
 use Rattle.syn_lower_leaves.proofs.Ties.{both_tie, on_tie, into_tie, made_tie, option_tie, some_tie, list_tie, pair_path, along, by_test, rank_end, rank_more, decides, decided_tie, one_test, is_compared}
 use Rattle.syn_lower_leaves.proofs.LeafTies.{toks_tie, block_tie}
-use Rattle.syn_lower.specs.View.{mapped, lifetimes_of, return_of, values, trails}
-use Rattle.syn_lower_laws.proofs.Sames.{lifetimes_tie, return_tie}
-use Rattle.syn_expr_parts.specs.View.{label_of}
+use Rattle.syn_lower_leaves.specs.View.{lit_of, lifetime_of}
+use Rattle.syn_lower.specs.View.{mapped, lifetimes_of, return_of, values, trails, type_of, path_of, qself_or, macro_of, is_mut, is_some_pair}
+use Rattle.syn_op.specs.View.{bin_kind, un_kind, limits_kind}
+use Rattle.syn_lower_laws.proofs.PartTies.{lifetimes_tie}
+use Rattle.syn_lower_laws.proofs.Sames.{return_tie}
+use Rattle.syn_expr_parts.specs.View.{label_of, member_of}
 use Rattle.syn_expr_parts.proofs.Ties.{label_tie}
-use Rattle.syn_pat_kinds.specs.View.{PatView, attributed_by}
+use Rattle.syn_pat_kinds.specs.View.{PatView, attributed_by, attributes_of, pats_in, sub_of, field_pat_of, is_closed, bound_of}
 use Rattle.syn_expr_kinds.specs.Pats.{ArmView, closure_by}
-use Rattle.syn_expr_kinds.specs.View.{range_between, jump_with, field_value_of}
+use Rattle.syn_expr_kinds.specs.Attrs.{attrs_of, outer_of, inner_of}
+use Rattle.syn_expr_kinds.specs.View.{range_between, jump_with, field_value_of, elements, boxed, fields, option_kid, body_of, else_of, turbofish_of}
 use Rattle.syn_expr_kinds.specs.contracts.structure.FieldValueOfPartialEq.TheImpl as field_value_test
 use Rattle.syn_expr_all.specs.declared.expr.Expr.{Expr}
 use Rattle.syn_expr_all.specs.declared.expr.Expr.TheBlock as block
@@ -249,47 +253,57 @@ kind_closure p = by p.1.1.1.1.1.0
     by default = refl
     by (given x) = refl
 
+-- what stands behind the attributes of each
+abbrev loop_core : ExprForLoop → Tree
+loop_core x = let c = out-ExprForLoop x in loop_with (inner_of c.attrs) (mapped label_of c.label, (((pat_of c.pat.value).tree, (pat_of c.pat.value).guards), (tree_of c.expr.value, c.body.stmts)))
+
+abbrev binding_core : ExprLet → Tree
+binding_core x = let c = out-ExprLet x in binding_with (((pat_of c.pat.value).tree, (pat_of c.pat.value).guards), tree_of c.expr.value)
+
+abbrev choice_core : ExprMatch → Tree
+choice_core x = let c = out-ExprMatch x in choice_with (inner_of c.attrs) (tree_of c.expr.value, map arm_of c.arms.items)
+
 expr_steps : IsEqualityOf tree_of (λ (x y : Expr). step block.member-Expr x y)
 expr_steps =
-    let it = (rank_more tree_kind {k = 0} {view = λ (c : Choice expr_row.the_parts). tree_of (expr_row.the_make c)} (along (λ v. tree-Array v.0) (on_tie (λ v. v.0) (kinds.array_kind_tie expr_row.the_row expr_tests))) (λ v. ap tree_kind (tree-Array v.0) ∙ kind_behind _ _)
-    (rank_more tree_kind (along (λ v. tree-Assign v.0) (on_tie (λ v. v.0) (kinds.assign_kind_tie expr_row.the_row expr_tests))) (λ v. ap tree_kind (tree-Assign v.0) ∙ kind_behind _ _)
-    (rank_more tree_kind (along (λ v. tree-Async v.0) (on_tie (λ v. v.0) kinds.async_kind_tie)) (λ v. ap tree_kind (tree-Async v.0) ∙ kind_behind _ _)
-    (rank_more tree_kind (along (λ v. tree-Await v.0) (on_tie (λ v. v.0) (kinds.await_kind_tie expr_row.the_row expr_tests))) (λ v. ap tree_kind (tree-Await v.0) ∙ kind_behind _ _)
-    (rank_more tree_kind (along (λ v. tree-Binary v.0) (on_tie (λ v. v.0) (kinds.binary_kind_tie expr_row.the_row expr_tests))) (λ v. ap tree_kind (tree-Binary v.0) ∙ kind_behind _ _)
-    (rank_more tree_kind (along (λ v. tree-Block v.0) (on_tie (λ v. v.0) kinds.block_kind_tie)) (λ v. ap tree_kind (tree-Block v.0) ∙ kind_behind _ _)
-    (rank_more tree_kind (along (λ v. tree-Break v.0) (on_tie (λ v. v.0) (kinds.break_kind_tie expr_row.the_row expr_tests))) (λ v. ap tree_kind (tree-Break v.0) ∙ (kind_behind _ _ ∙ kind_jump _ _))
-    (rank_more tree_kind (along (λ v. tree-Call v.0) (on_tie (λ v. v.0) (kinds.call_kind_tie expr_row.the_row expr_tests))) (λ v. ap tree_kind (tree-Call v.0) ∙ kind_behind _ _)
-    (rank_more tree_kind (along (λ v. tree-Cast v.0) (on_tie (λ v. v.0) (kinds.cast_kind_tie expr_row.the_row expr_tests))) (λ v. ap tree_kind (tree-Cast v.0) ∙ kind_behind _ _)
-    (rank_more tree_kind (along (λ v. tree-Closure v.0) (on_tie (λ v. v.0) closure_tests)) (λ v. ap tree_kind (tree-Closure v.0) ∙ (ap tree_kind (closure-is v.0) ∙ (kind_behind _ _ ∙ kind_closure (closure_parts v.0))))
-    (rank_more tree_kind (along (λ v. tree-Const v.0) (on_tie (λ v. v.0) kinds.const_kind_tie)) (λ v. ap tree_kind (tree-Const v.0) ∙ kind_behind _ _)
-    (rank_more tree_kind (along (λ v. tree-Continue v.0) (on_tie (λ v. v.0) kinds.continue_kind_tie)) (λ v. ap tree_kind (tree-Continue v.0) ∙ kind_behind _ _)
-    (rank_more tree_kind (along (λ v. tree-Field v.0) (on_tie (λ v. v.0) (kinds.field_kind_tie expr_row.the_row expr_tests))) (λ v. ap tree_kind (tree-Field v.0) ∙ kind_behind _ _)
-    (rank_more tree_kind (along (λ v. tree-ForLoop v.0) (on_tie (λ v. v.0) for_loop_tests)) (λ v. ap tree_kind (tree-ForLoop v.0) ∙ (ap tree_kind (for_loop-is v.0) ∙ kind_behind _ _))
-    (rank_more tree_kind (along (λ v. tree-Group v.0) (on_tie (λ v. v.0) (kinds.group_kind_tie expr_row.the_row expr_tests))) (λ v. ap tree_kind (tree-Group v.0) ∙ kind_behind _ _)
-    (rank_more tree_kind (along (λ v. tree-If v.0) (on_tie (λ v. v.0) (kinds.if_kind_tie expr_row.the_row expr_tests))) (λ v. ap tree_kind (tree-If v.0) ∙ kind_behind _ _)
-    (rank_more tree_kind (along (λ v. tree-Index v.0) (on_tie (λ v. v.0) (kinds.index_kind_tie expr_row.the_row expr_tests))) (λ v. ap tree_kind (tree-Index v.0) ∙ kind_behind _ _)
-    (rank_more tree_kind (along (λ v. tree-Infer v.0) (on_tie (λ v. v.0) kinds.infer_kind_tie)) (λ v. ap tree_kind (tree-Infer v.0) ∙ kind_behind _ _)
-    (rank_more tree_kind (along (λ v. tree-Let v.0) (on_tie (λ v. v.0) binding_tests)) (λ v. ap tree_kind (tree-Let v.0) ∙ (ap tree_kind (binding-is v.0) ∙ kind_behind _ _))
-    (rank_more tree_kind (along (λ v. tree-Lit v.0) (on_tie (λ v. v.0) kinds.lit_kind_tie)) (λ v. ap tree_kind (tree-Lit v.0) ∙ kind_behind _ _)
-    (rank_more tree_kind (along (λ v. tree-Loop v.0) (on_tie (λ v. v.0) kinds.loop_kind_tie)) (λ v. ap tree_kind (tree-Loop v.0) ∙ kind_behind _ _)
-    (rank_more tree_kind (along (λ v. tree-Macro v.0) (on_tie (λ v. v.0) kinds.mac_kind_tie)) (λ v. ap tree_kind (tree-Macro v.0) ∙ kind_behind _ _)
-    (rank_more tree_kind (along (λ v. tree-Match v.0) (on_tie (λ v. v.0) choice_tests)) (λ v. ap tree_kind (tree-Match v.0) ∙ (ap tree_kind (choice-is v.0) ∙ kind_behind _ _))
-    (rank_more tree_kind (along (λ v. tree-MethodCall v.0) (on_tie (λ v. v.0) (kinds.method_kind_tie expr_row.the_row expr_tests))) (λ v. ap tree_kind (tree-MethodCall v.0) ∙ kind_behind _ _)
-    (rank_more tree_kind (along (λ v. tree-Paren v.0) (on_tie (λ v. v.0) (kinds.paren_kind_tie expr_row.the_row expr_tests))) (λ v. ap tree_kind (tree-Paren v.0) ∙ kind_behind _ _)
-    (rank_more tree_kind (along (λ v. tree-Path v.0) (on_tie (λ v. v.0) kinds.path_kind_tie)) (λ v. ap tree_kind (tree-Path v.0) ∙ kind_behind _ _)
-    (rank_more tree_kind (along (λ v. tree-Range v.0) (on_tie (λ v. v.0) (kinds.range_kind_tie expr_row.the_row expr_tests))) (λ v. ap tree_kind (tree-Range v.0) ∙ (kind_behind _ _ ∙ kind_range _ _ _))
-    (rank_more tree_kind (along (λ v. tree-RawAddr v.0) (on_tie (λ v. v.0) (kinds.raw_addr_kind_tie expr_row.the_row expr_tests))) (λ v. ap tree_kind (tree-RawAddr v.0) ∙ kind_behind _ _)
-    (rank_more tree_kind (along (λ v. tree-Reference v.0) (on_tie (λ v. v.0) (kinds.reference_kind_tie expr_row.the_row expr_tests))) (λ v. ap tree_kind (tree-Reference v.0) ∙ kind_behind _ _)
-    (rank_more tree_kind (along (λ v. tree-Repeat v.0) (on_tie (λ v. v.0) (kinds.repeat_kind_tie expr_row.the_row expr_tests))) (λ v. ap tree_kind (tree-Repeat v.0) ∙ kind_behind _ _)
-    (rank_more tree_kind (along (λ v. tree-Return v.0) (on_tie (λ v. v.0) (kinds.return_kind_tie expr_row.the_row expr_tests))) (λ v. ap tree_kind (tree-Return v.0) ∙ (kind_behind _ _ ∙ kind_jump _ _))
-    (rank_more tree_kind (along (λ v. tree-Struct v.0) (on_tie (λ v. v.0) (structs.struct_kind_tie expr_row.the_row expr_tests))) (λ v. ap tree_kind (tree-Struct v.0) ∙ kind_behind _ _)
-    (rank_more tree_kind (along (λ v. tree-Try v.0) (on_tie (λ v. v.0) (kinds.try_kind_tie expr_row.the_row expr_tests))) (λ v. ap tree_kind (tree-Try v.0) ∙ kind_behind _ _)
-    (rank_more tree_kind (along (λ v. tree-TryBlock v.0) (on_tie (λ v. v.0) kinds.try_block_kind_tie)) (λ v. ap tree_kind (tree-TryBlock v.0) ∙ kind_behind _ _)
-    (rank_more tree_kind (along (λ v. tree-Tuple v.0) (on_tie (λ v. v.0) (kinds.tuple_kind_tie expr_row.the_row expr_tests))) (λ v. ap tree_kind (tree-Tuple v.0) ∙ kind_behind _ _)
-    (rank_more tree_kind (along (λ v. tree-Unary v.0) (on_tie (λ v. v.0) (kinds.unary_kind_tie expr_row.the_row expr_tests))) (λ v. ap tree_kind (tree-Unary v.0) ∙ kind_behind _ _)
-    (rank_more tree_kind (along (λ v. tree-Unsafe v.0) (on_tie (λ v. v.0) kinds.unsafe_kind_tie)) (λ v. ap tree_kind (tree-Unsafe v.0) ∙ kind_behind _ _)
-    (rank_more tree_kind (along (λ v. tree-While v.0) (on_tie (λ v. v.0) (kinds.while_kind_tie expr_row.the_row expr_tests))) (λ v. ap tree_kind (tree-While v.0) ∙ kind_behind _ _)
-    (rank_more tree_kind (along (λ v. tree-Yield v.0) (on_tie (λ v. v.0) (kinds.yield_kind_tie expr_row.the_row expr_tests))) (λ v. ap tree_kind (tree-Yield v.0) ∙ (kind_behind _ _ ∙ kind_jump _ _))
+    let it = (rank_more tree_kind {k = 0} {view = λ (c : Choice expr_row.the_parts). tree_of (expr_row.the_make c)} (along (λ v. tree-Array v.0) (on_tie (λ v. v.0) (kinds.array_kind_tie expr_row.the_row expr_tests))) (λ v. ap tree_kind (tree-Array v.0) ∙ kind_behind (attrs_of v.0.attrs) (frame e.array (elements (map tree_of (values v.0.elems)) (trails v.0.elems))))
+    (rank_more tree_kind (along (λ v. tree-Assign v.0) (on_tie (λ v. v.0) (kinds.assign_kind_tie expr_row.the_row expr_tests))) (λ v. ap tree_kind (tree-Assign v.0) ∙ kind_behind (attrs_of v.0.attrs) (mid (tree_of v.0.left.value) inf.Assign (tree_of v.0.right.value)))
+    (rank_more tree_kind (along (λ v. tree-Async v.0) (on_tie (λ v. v.0) kinds.async_kind_tie)) (λ v. ap tree_kind (tree-Async v.0) ∙ kind_behind (attrs_of v.0.attrs) (leaf (e.async_block (is_some v.0.capture) v.0.block.stmts)))
+    (rank_more tree_kind (along (λ v. tree-Await v.0) (on_tie (λ v. v.0) (kinds.await_kind_tie expr_row.the_row expr_tests))) (λ v. ap tree_kind (tree-Await v.0) ∙ kind_behind (attrs_of v.0.attrs) (tail (tree_of v.0.base.value) e.await none))
+    (rank_more tree_kind (along (λ v. tree-Binary v.0) (on_tie (λ v. v.0) (kinds.binary_kind_tie expr_row.the_row expr_tests))) (λ v. ap tree_kind (tree-Binary v.0) ∙ kind_behind (attrs_of v.0.attrs) (mid (tree_of v.0.left.value) (inf.Binary (bin_kind v.0.op)) (tree_of v.0.right.value)))
+    (rank_more tree_kind (along (λ v. tree-Block v.0) (on_tie (λ v. v.0) kinds.block_kind_tie)) (λ v. ap tree_kind (tree-Block v.0) ∙ kind_behind (outer_of v.0.attrs) (leaf (e.block (mapped label_of v.0.label) (body_of (inner_of v.0.attrs) v.0.block.stmts))))
+    (rank_more tree_kind (along (λ v. tree-Break v.0) (on_tie (λ v. v.0) (kinds.break_kind_tie expr_row.the_row expr_tests))) (λ v. ap tree_kind (tree-Break v.0) ∙ (kind_behind (attrs_of v.0.attrs) (jump_with (e.breaking (mapped lifetime_of v.0.label)) (boxed tree_of v.0.expr)) ∙ kind_jump (e.breaking (mapped lifetime_of v.0.label)) (boxed tree_of v.0.expr)))
+    (rank_more tree_kind (along (λ v. tree-Call v.0) (on_tie (λ v. v.0) (kinds.call_kind_tie expr_row.the_row expr_tests))) (λ v. ap tree_kind (tree-Call v.0) ∙ kind_behind (attrs_of v.0.attrs) (tail (tree_of v.0.func.value) e.call (elements (map tree_of (values v.0.args)) (trails v.0.args))))
+    (rank_more tree_kind (along (λ v. tree-Cast v.0) (on_tie (λ v. v.0) (kinds.cast_kind_tie expr_row.the_row expr_tests))) (λ v. ap tree_kind (tree-Cast v.0) ∙ kind_behind (attrs_of v.0.attrs) (post (tree_of v.0.expr.value) (e.cast (type_of v.0.ty.value))))
+    (rank_more tree_kind (along (λ v. tree-Closure v.0) (on_tie (λ v. v.0) closure_tests)) (λ v. ap tree_kind (tree-Closure v.0) ∙ (ap tree_kind (closure-is v.0) ∙ (kind_behind (attrs_of (out-ExprClosure v.0).attrs) (closure_with (closure_parts v.0)) ∙ kind_closure (closure_parts v.0))))
+    (rank_more tree_kind (along (λ v. tree-Const v.0) (on_tie (λ v. v.0) kinds.const_kind_tie)) (λ v. ap tree_kind (tree-Const v.0) ∙ kind_behind (outer_of v.0.attrs) (leaf (e.const_block (body_of (inner_of v.0.attrs) v.0.block.stmts))))
+    (rank_more tree_kind (along (λ v. tree-Continue v.0) (on_tie (λ v. v.0) kinds.continue_kind_tie)) (λ v. ap tree_kind (tree-Continue v.0) ∙ kind_behind (attrs_of v.0.attrs) (leaf (e.continuing (mapped lifetime_of v.0.label))))
+    (rank_more tree_kind (along (λ v. tree-Field v.0) (on_tie (λ v. v.0) (kinds.field_kind_tie expr_row.the_row expr_tests))) (λ v. ap tree_kind (tree-Field v.0) ∙ kind_behind (attrs_of v.0.attrs) (tail (tree_of v.0.base.value) (e.field (member_of v.0.member)) none))
+    (rank_more tree_kind (along (λ v. tree-ForLoop v.0) (on_tie (λ v. v.0) for_loop_tests)) (λ v. ap tree_kind (tree-ForLoop v.0) ∙ (ap tree_kind (for_loop-is v.0) ∙ kind_behind (outer_of (out-ExprForLoop v.0).attrs) (loop_core v.0)))
+    (rank_more tree_kind (along (λ v. tree-Group v.0) (on_tie (λ v. v.0) (kinds.group_kind_tie expr_row.the_row expr_tests))) (λ v. ap tree_kind (tree-Group v.0) ∙ kind_behind (attrs_of v.0.attrs) (frame e.invisible (kid e.grouped e.no_ending (tree_of v.0.expr.value) none)))
+    (rank_more tree_kind (along (λ v. tree-If v.0) (on_tie (λ v. v.0) (kinds.if_kind_tie expr_row.the_row expr_tests))) (λ v. ap tree_kind (tree-If v.0) ∙ kind_behind (attrs_of v.0.attrs) (frame e.branch (kid e.condition (e.braced (body_of [] v.0.then_branch.stmts)) (tree_of v.0.cond.value) (else_of tree_of v.0.else_branch))))
+    (rank_more tree_kind (along (λ v. tree-Index v.0) (on_tie (λ v. v.0) (kinds.index_kind_tie expr_row.the_row expr_tests))) (λ v. ap tree_kind (tree-Index v.0) ∙ kind_behind (attrs_of v.0.attrs) (tail (tree_of v.0.expr.value) e.index (kid e.value e.no_ending (tree_of v.0.index.value) none)))
+    (rank_more tree_kind (along (λ v. tree-Infer v.0) (on_tie (λ v. v.0) kinds.infer_kind_tie)) (λ v. ap tree_kind (tree-Infer v.0) ∙ kind_behind (attrs_of v.0.attrs) (leaf e.infer))
+    (rank_more tree_kind (along (λ v. tree-Let v.0) (on_tie (λ v. v.0) binding_tests)) (λ v. ap tree_kind (tree-Let v.0) ∙ (ap tree_kind (binding-is v.0) ∙ kind_behind (attrs_of (out-ExprLet v.0).attrs) (binding_core v.0)))
+    (rank_more tree_kind (along (λ v. tree-Lit v.0) (on_tie (λ v. v.0) kinds.lit_kind_tie)) (λ v. ap tree_kind (tree-Lit v.0) ∙ kind_behind (attrs_of v.0.attrs) (leaf (e.lit (lit_of v.0.lit))))
+    (rank_more tree_kind (along (λ v. tree-Loop v.0) (on_tie (λ v. v.0) kinds.loop_kind_tie)) (λ v. ap tree_kind (tree-Loop v.0) ∙ kind_behind (outer_of v.0.attrs) (leaf (e.looping (mapped label_of v.0.label) (body_of (inner_of v.0.attrs) v.0.body.stmts))))
+    (rank_more tree_kind (along (λ v. tree-Macro v.0) (on_tie (λ v. v.0) kinds.mac_kind_tie)) (λ v. ap tree_kind (tree-Macro v.0) ∙ kind_behind (attrs_of v.0.attrs) (leaf (e.mac (macro_of type_of v.0.mac))))
+    (rank_more tree_kind (along (λ v. tree-Match v.0) (on_tie (λ v. v.0) choice_tests)) (λ v. ap tree_kind (tree-Match v.0) ∙ (ap tree_kind (choice-is v.0) ∙ kind_behind (outer_of (out-ExprMatch v.0).attrs) (choice_core v.0)))
+    (rank_more tree_kind (along (λ v. tree-MethodCall v.0) (on_tie (λ v. v.0) (kinds.method_kind_tie expr_row.the_row expr_tests))) (λ v. ap tree_kind (tree-MethodCall v.0) ∙ kind_behind (attrs_of v.0.attrs) (tail (tree_of v.0.receiver.value) (e.method v.0.method (turbofish_of v.0.turbofish)) (elements (map tree_of (values v.0.args)) (trails v.0.args))))
+    (rank_more tree_kind (along (λ v. tree-Paren v.0) (on_tie (λ v. v.0) (kinds.paren_kind_tie expr_row.the_row expr_tests))) (λ v. ap tree_kind (tree-Paren v.0) ∙ kind_behind (attrs_of v.0.attrs) (paren false (tree_of v.0.expr.value)))
+    (rank_more tree_kind (along (λ v. tree-Path v.0) (on_tie (λ v. v.0) kinds.path_kind_tie)) (λ v. ap tree_kind (tree-Path v.0) ∙ kind_behind (attrs_of v.0.attrs) (leaf (e.path (qself_or type_of v.0.qself) (path_of type_of v.0.path))))
+    (rank_more tree_kind (along (λ v. tree-Range v.0) (on_tie (λ v. v.0) (kinds.range_kind_tie expr_row.the_row expr_tests))) (λ v. ap tree_kind (tree-Range v.0) ∙ (kind_behind (attrs_of v.0.attrs) (range_between (limits_kind v.0.limits) (boxed tree_of v.0.start) (boxed tree_of v.0.end)) ∙ kind_range (limits_kind v.0.limits) (boxed tree_of v.0.start) (boxed tree_of v.0.end)))
+    (rank_more tree_kind (along (λ v. tree-RawAddr v.0) (on_tie (λ v. v.0) (kinds.raw_addr_kind_tie expr_row.the_row expr_tests))) (λ v. ap tree_kind (tree-RawAddr v.0) ∙ kind_behind (attrs_of v.0.attrs) (lead (e.raw_addr (is_mut v.0.mutability)) none (tree_of v.0.expr.value)))
+    (rank_more tree_kind (along (λ v. tree-Reference v.0) (on_tie (λ v. v.0) (kinds.reference_kind_tie expr_row.the_row expr_tests))) (λ v. ap tree_kind (tree-Reference v.0) ∙ kind_behind (attrs_of v.0.attrs) (lead (e.reference (is_some v.0.mutability)) none (tree_of v.0.expr.value)))
+    (rank_more tree_kind (along (λ v. tree-Repeat v.0) (on_tie (λ v. v.0) (kinds.repeat_kind_tie expr_row.the_row expr_tests))) (λ v. ap tree_kind (tree-Repeat v.0) ∙ kind_behind (attrs_of v.0.attrs) (frame e.repeat (kid e.repeated e.no_ending (tree_of v.0.expr.value) (kid e.value e.no_ending (tree_of v.0.len.value) none))))
+    (rank_more tree_kind (along (λ v. tree-Return v.0) (on_tie (λ v. v.0) (kinds.return_kind_tie expr_row.the_row expr_tests))) (λ v. ap tree_kind (tree-Return v.0) ∙ (kind_behind (attrs_of v.0.attrs) (jump_with e.returning (boxed tree_of v.0.expr)) ∙ kind_jump e.returning (boxed tree_of v.0.expr)))
+    (rank_more tree_kind (along (λ v. tree-Struct v.0) (on_tie (λ v. v.0) (structs.struct_kind_tie expr_row.the_row expr_tests))) (λ v. ap tree_kind (tree-Struct v.0) ∙ kind_behind (attrs_of v.0.attrs) (let dots = is_some v.0.dot2_token in let rest = boxed tree_of v.0.rest in frame (e.structure (qself_or type_of v.0.qself) (path_of type_of v.0.path) (dots && not (is_some rest))) (fields (map (field_value_of tree_of) (values v.0.fields)) (trails v.0.fields) (option_kid (e.rest dots) rest))))
+    (rank_more tree_kind (along (λ v. tree-Try v.0) (on_tie (λ v. v.0) (kinds.try_kind_tie expr_row.the_row expr_tests))) (λ v. ap tree_kind (tree-Try v.0) ∙ kind_behind (attrs_of v.0.attrs) (tail (tree_of v.0.expr.value) e.question none))
+    (rank_more tree_kind (along (λ v. tree-TryBlock v.0) (on_tie (λ v. v.0) kinds.try_block_kind_tie)) (λ v. ap tree_kind (tree-TryBlock v.0) ∙ kind_behind (attrs_of v.0.attrs) (leaf (e.try_block v.0.block.stmts)))
+    (rank_more tree_kind (along (λ v. tree-Tuple v.0) (on_tie (λ v. v.0) (kinds.tuple_kind_tie expr_row.the_row expr_tests))) (λ v. ap tree_kind (tree-Tuple v.0) ∙ kind_behind (attrs_of v.0.attrs) (frame e.tuple (elements (map tree_of (values v.0.elems)) (trails v.0.elems))))
+    (rank_more tree_kind (along (λ v. tree-Unary v.0) (on_tie (λ v. v.0) (kinds.unary_kind_tie expr_row.the_row expr_tests))) (λ v. ap tree_kind (tree-Unary v.0) ∙ kind_behind (attrs_of v.0.attrs) (lead (e.unary (un_kind v.0.op)) none (tree_of v.0.expr.value)))
+    (rank_more tree_kind (along (λ v. tree-Unsafe v.0) (on_tie (λ v. v.0) kinds.unsafe_kind_tie)) (λ v. ap tree_kind (tree-Unsafe v.0) ∙ kind_behind (outer_of v.0.attrs) (leaf (e.unsafe_block (body_of (inner_of v.0.attrs) v.0.block.stmts))))
+    (rank_more tree_kind (along (λ v. tree-While v.0) (on_tie (λ v. v.0) (kinds.while_kind_tie expr_row.the_row expr_tests))) (λ v. ap tree_kind (tree-While v.0) ∙ kind_behind (outer_of v.0.attrs) (frame (e.while_loop (mapped label_of v.0.label)) (kid e.loop_head (e.braced (body_of (inner_of v.0.attrs) v.0.body.stmts)) (tree_of v.0.cond.value) none)))
+    (rank_more tree_kind (along (λ v. tree-Yield v.0) (on_tie (λ v. v.0) (kinds.yield_kind_tie expr_row.the_row expr_tests))) (λ v. ap tree_kind (tree-Yield v.0) ∙ (kind_behind (attrs_of v.0.attrs) (jump_with e.yielding (boxed tree_of v.0.expr)) ∙ kind_jump e.yielding (boxed tree_of v.0.expr)))
     (rank_more tree_kind (along (λ v. tree-Verbatim v.0) (on_tie (λ v. v.0) (made_tie (λ ts. leaf (e.verbatim ts)) (λ p q h. cc) toks_tie))) (λ v. ap tree_kind (tree-Verbatim v.0)) (rank_end tree_kind))))))))))))))))))))))))))))))))))))))))) in
     along (λ x. ap tree_of (sym (expr_row.the_eta x))) (on_tie {C = Expr} expr_row.as_values it.tie)
 
@@ -322,23 +336,23 @@ pattern_behind (a ∷ more) p = refl
 
 pat_steps : IsEqualityOf pat_of (λ (x y : Pat). step block.member-Pat x y)
 pat_steps =
-    let it = (rank_more view_kind {k = 0} {view = λ (c : Choice pat_row.the_parts). pat_of (pat_row.the_make c)} (along (λ v. pat-Const v.0) (on_tie (λ v. v.0) pats.const_tie)) (λ v. ap view_kind (pat-Const v.0) ∙ pattern_behind _ _)
-    (rank_more view_kind (along (λ v. pat-Guard v.0) (on_tie (λ v. v.0) guard_tests)) (λ v. ap view_kind (pat-Guard v.0) ∙ (ap view_kind (guard-is v.0) ∙ pattern_behind _ _))
-    (rank_more view_kind (along (λ v. pat-Ident v.0) (on_tie (λ v. v.0) (pats.ident_tie pat_row.the_row pat_tests filled))) (λ v. ap view_kind (pat-Ident v.0) ∙ pattern_behind _ _)
-    (rank_more view_kind (along (λ v. pat-Lit v.0) (on_tie (λ v. v.0) pats.lit_pat_tie)) (λ v. ap view_kind (pat-Lit v.0) ∙ pattern_behind _ _)
-    (rank_more view_kind (along (λ v. pat-Macro v.0) (on_tie (λ v. v.0) pats.mac_pat_tie)) (λ v. ap view_kind (pat-Macro v.0) ∙ pattern_behind _ _)
-    (rank_more view_kind (along (λ v. pat-Or v.0) (on_tie (λ v. v.0) (pats.or_tie pat_row.the_row pat_tests filled))) (λ v. ap view_kind (pat-Or v.0) ∙ pattern_behind _ _)
-    (rank_more view_kind (along (λ v. pat-Paren v.0) (on_tie (λ v. v.0) (pats.paren_tie pat_row.the_row pat_tests filled))) (λ v. ap view_kind (pat-Paren v.0) ∙ pattern_behind _ _)
-    (rank_more view_kind (along (λ v. pat-Path v.0) (on_tie (λ v. v.0) pats.path_pat_tie)) (λ v. ap view_kind (pat-Path v.0) ∙ pattern_behind _ _)
-    (rank_more view_kind (along (λ v. pat-Range v.0) (on_tie (λ v. v.0) pats.range_tie)) (λ v. ap view_kind (pat-Range v.0) ∙ pattern_behind _ _)
-    (rank_more view_kind (along (λ v. pat-Reference v.0) (on_tie (λ v. v.0) (pats.reference_tie pat_row.the_row pat_tests filled))) (λ v. ap view_kind (pat-Reference v.0) ∙ pattern_behind _ _)
-    (rank_more view_kind (along (λ v. pat-Rest v.0) (on_tie (λ v. v.0) pats.rest_tie)) (λ v. ap view_kind (pat-Rest v.0) ∙ pattern_behind _ _)
-    (rank_more view_kind (along (λ v. pat-Slice v.0) (on_tie (λ v. v.0) (pats.slice_tie pat_row.the_row pat_tests filled))) (λ v. ap view_kind (pat-Slice v.0) ∙ pattern_behind _ _)
-    (rank_more view_kind (along (λ v. pat-Struct v.0) (on_tie (λ v. v.0) (pats.struct_tie pat_row.the_row pat_tests filled))) (λ v. ap view_kind (pat-Struct v.0) ∙ pattern_behind _ _)
-    (rank_more view_kind (along (λ v. pat-Tuple v.0) (on_tie (λ v. v.0) (pats.tuple_tie pat_row.the_row pat_tests filled))) (λ v. ap view_kind (pat-Tuple v.0) ∙ pattern_behind _ _)
-    (rank_more view_kind (along (λ v. pat-TupleStruct v.0) (on_tie (λ v. v.0) (pats.tuple_struct_tie pat_row.the_row pat_tests filled))) (λ v. ap view_kind (pat-TupleStruct v.0) ∙ pattern_behind _ _)
-    (rank_more view_kind (along (λ v. pat-Typed v.0) (on_tie (λ v. v.0) (pats.typed_tie pat_row.the_row pat_tests filled))) (λ v. ap view_kind (pat-Typed v.0) ∙ pattern_behind _ _)
-    (rank_more view_kind (along (λ v. pat-Wild v.0) (on_tie (λ v. v.0) pats.wild_tie)) (λ v. ap view_kind (pat-Wild v.0) ∙ pattern_behind _ _) (rank_end view_kind)))))))))))))))))) in
+    let it = (rank_more view_kind {k = 0} {view = λ (c : Choice pat_row.the_parts). pat_of (pat_row.the_make c)} (along (λ v. pat-Const v.0) (on_tie (λ v. v.0) pats.const_tie)) (λ v. ap view_kind (pat-Const v.0) ∙ pattern_behind (attributes_of v.0.attrs) (t.a_block v.0.block.stmts))
+    (rank_more view_kind (along (λ v. pat-Guard v.0) (on_tie (λ v. v.0) guard_tests)) (λ v. ap view_kind (pat-Guard v.0) ∙ (ap view_kind (guard-is v.0) ∙ pattern_behind (attributes_of (out-PatGuard v.0).attrs) (t.guarded (pat_of (out-PatGuard v.0).pat.value).tree)))
+    (rank_more view_kind (along (λ v. pat-Ident v.0) (on_tie (λ v. v.0) (pats.ident_tie pat_row.the_row pat_tests filled))) (λ v. ap view_kind (pat-Ident v.0) ∙ pattern_behind (attributes_of v.0.attrs) (t.a_binding (is_some v.0.by_ref) (is_some v.0.mutability) v.0.ident (sub_of pat_of v.0.subpat)))
+    (rank_more view_kind (along (λ v. pat-Lit v.0) (on_tie (λ v. v.0) pats.lit_pat_tie)) (λ v. ap view_kind (pat-Lit v.0) ∙ pattern_behind (attributes_of v.0.attrs) (t.a_lit (lit_of v.0.lit)))
+    (rank_more view_kind (along (λ v. pat-Macro v.0) (on_tie (λ v. v.0) pats.mac_pat_tie)) (λ v. ap view_kind (pat-Macro v.0) ∙ pattern_behind (attributes_of v.0.attrs) (t.a_mac (macro_of type_of v.0.mac)))
+    (rank_more view_kind (along (λ v. pat-Or v.0) (on_tie (λ v. v.0) (pats.or_tie pat_row.the_row pat_tests filled))) (λ v. ap view_kind (pat-Or v.0) ∙ pattern_behind (attributes_of v.0.attrs) (t.alternatives (is_some v.0.leading_vert) (pats_in pat_of (values v.0.cases)) (trails v.0.cases)))
+    (rank_more view_kind (along (λ v. pat-Paren v.0) (on_tie (λ v. v.0) (pats.paren_tie pat_row.the_row pat_tests filled))) (λ v. ap view_kind (pat-Paren v.0) ∙ pattern_behind (attributes_of v.0.attrs) (t.a_paren (pat_of v.0.pat.value).tree))
+    (rank_more view_kind (along (λ v. pat-Path v.0) (on_tie (λ v. v.0) pats.path_pat_tie)) (λ v. ap view_kind (pat-Path v.0) ∙ pattern_behind (attributes_of v.0.attrs) (t.a_path (qself_or type_of v.0.qself) (path_of type_of v.0.path)))
+    (rank_more view_kind (along (λ v. pat-Range v.0) (on_tie (λ v. v.0) pats.range_tie)) (λ v. ap view_kind (pat-Range v.0) ∙ pattern_behind (attributes_of v.0.attrs) (t.range (mapped bound_of v.0.start) (is_closed v.0.limits) (mapped bound_of v.0.end)))
+    (rank_more view_kind (along (λ v. pat-Reference v.0) (on_tie (λ v. v.0) (pats.reference_tie pat_row.the_row pat_tests filled))) (λ v. ap view_kind (pat-Reference v.0) ∙ pattern_behind (attributes_of v.0.attrs) (t.a_reference (is_some v.0.mutability) (pat_of v.0.pat.value).tree))
+    (rank_more view_kind (along (λ v. pat-Rest v.0) (on_tie (λ v. v.0) pats.rest_tie)) (λ v. ap view_kind (pat-Rest v.0) ∙ pattern_behind (attributes_of v.0.attrs) t.rest)
+    (rank_more view_kind (along (λ v. pat-Slice v.0) (on_tie (λ v. v.0) (pats.slice_tie pat_row.the_row pat_tests filled))) (λ v. ap view_kind (pat-Slice v.0) ∙ pattern_behind (attributes_of v.0.attrs) (t.a_slice (pats_in pat_of (values v.0.elems)) (trails v.0.elems)))
+    (rank_more view_kind (along (λ v. pat-Struct v.0) (on_tie (λ v. v.0) (pats.struct_tie pat_row.the_row pat_tests filled))) (λ v. ap view_kind (pat-Struct v.0) ∙ pattern_behind (attributes_of v.0.attrs) (t.a_struct (path_of type_of v.0.path) (t.fields_of (map (field_pat_of pat_of) (values v.0.fields))) (trails v.0.fields) (is_some v.0.rest)))
+    (rank_more view_kind (along (λ v. pat-Tuple v.0) (on_tie (λ v. v.0) (pats.tuple_tie pat_row.the_row pat_tests filled))) (λ v. ap view_kind (pat-Tuple v.0) ∙ pattern_behind (attributes_of v.0.attrs) (t.a_tuple (pats_in pat_of (values v.0.elems)) (trails v.0.elems)))
+    (rank_more view_kind (along (λ v. pat-TupleStruct v.0) (on_tie (λ v. v.0) (pats.tuple_struct_tie pat_row.the_row pat_tests filled))) (λ v. ap view_kind (pat-TupleStruct v.0) ∙ pattern_behind (attributes_of v.0.attrs) (t.tuple_struct (path_of type_of v.0.path) (pats_in pat_of (values v.0.elems)) (trails v.0.elems)))
+    (rank_more view_kind (along (λ v. pat-Typed v.0) (on_tie (λ v. v.0) (pats.typed_tie pat_row.the_row pat_tests filled))) (λ v. ap view_kind (pat-Typed v.0) ∙ pattern_behind (attributes_of v.0.attrs) (t.typed (pat_of v.0.pat.value).tree (type_of v.0.ty.value)))
+    (rank_more view_kind (along (λ v. pat-Wild v.0) (on_tie (λ v. v.0) pats.wild_tie)) (λ v. ap view_kind (pat-Wild v.0) ∙ pattern_behind (attributes_of v.0.attrs) t.wild) (rank_end view_kind)))))))))))))))))) in
     along (λ x. ap pat_of (sym (pat_row.the_eta x))) (on_tie {C = Pat} pat_row.as_values it.tie)
 
 -- ---- the derived test
