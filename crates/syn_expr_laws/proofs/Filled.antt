@@ -1,5 +1,5 @@
 -- In each pattern there is a guard for each place.
-use Rattle.std.proofs.Common.{◌≡◌, ℕ, ◌+◌, List, [], ◌∷◌, ◌++◌, map, flat_map, length, Option, Some, None, refl, sym, ◌∙◌, ap, subst, rules, arith}
+use Rattle.std.proofs.Common.{◌≡◌, ℕ, ◌+◌, List, [], ◌∷◌, ◌++◌, map, flat_map, length, Option, Some, None, is_some, refl, sym, ◌∙◌, ap, subst, rules, arith}
 use Rattle.std.proofs.lemmas.List.{map-append, length-append}
 use Rattle.std.proofs.lemmas.List.Folds.{flat_map-map}
 use Rattle.std.proofs.lemmas.Grind.{flat_map-append}
@@ -10,8 +10,9 @@ use Rattle.syn_parts.specs.Tree.{AttributeTree}
 use Rattle.syn_parts.specs.Pat as t
 use Rattle.syn_parts.specs.Pat.{PatTree}
 use Rattle.syn_grammar.specs.Tree.{Tree}
-use Rattle.syn_lower.specs.View.{last_of}
-use Rattle.syn_pat_kinds.specs.View.{PatView, attributed_by, field_of, field_guards, field_pat_of}
+use Rattle.syn_lower_leaves.specs.View.{mapped, lit_of}
+use Rattle.syn_lower.specs.View.{last_of, type_of, path_of, qself_or, macro_of}
+use Rattle.syn_pat_kinds.specs.View.{PatView, attributed_by, attributes_of, bound_of, is_closed, field_of, field_guards, field_pat_of}
 use Rattle.syn_pat_kinds.specs.declared.pat.FieldPatOf.{FieldPatOf}
 use Rattle.syn_pat_kinds.specs.declared.pat.FieldPatKindOf.{FieldPatKindOf}
 use Rattle.syn_pat_kinds.specs.declared.pat.FieldPatKindOf.TheVariants as field
@@ -63,29 +64,37 @@ module _ {E P C A F L M G : Type 0} (e0 : E → Expr) (p0 : P → Pat) (c0 : C �
   last-25 : (o : Option (Box (FieldPatOf P) Global)) → Every (λ f. IsFilledField f.kind) (last_of (shapes.former-Pat-Struct-0-at-25.map P Pat p0 o))
   last-25 = elim [ None ↦ tt | Some b ↦ (field-22 b.value.kind, tt) ]
 
+  -- a field of a struct, with its punct
+  abbrev in_field : {S : Type 0} → FieldPatOf P × S → FieldPatOf Pat × S
+  in_field q = (record { attrs = q.0.attrs; kind = shapes.former-Pat-Struct-0-at-10.map P Pat p0 q.0.kind }, q.1)
+
   layer : (y : Pat-F E P C A F L M G) → IsFilled (pat_layer views (map-Pat E P C A F L M G Expr Pat ExprClosure Arm ExprForLoop ExprLet ExprMatch PatGuard e0 p0 c0 a0 f0 l0 m0 g0 y))
   unfolding values trails places sub_places pats_places
-  layer (Pat-F.Pat::Const x) = behind _ _ _ refl
-  layer (Pat-F.Ident x) = behind _ _ _ (search (rules, map-map, map-append, p1))
-  layer (Pat-F.Pat::Lit x) = behind _ _ _ refl
-  layer (Pat-F.Pat::Macro x) = behind _ _ _ refl
-  layer (Pat-F.Or x) = let h = filled-all (λ p. pat_of (p0 p)) p1 (values x.cases) in behind _ _ _ (search (rules, map-map, map-append, flat_map-map, flat_map-append, h))
-  layer (Pat-F.Pat::Paren x) = behind _ _ _ (p1 x.pat.value)
-  layer (Pat-F.Pat::Path x) = behind _ _ _ refl
-  layer (Pat-F.Pat::Range x) = behind _ _ _ refl
-  layer (Pat-F.Pat::Reference x) = behind _ _ _ (p1 x.pat.value)
-  layer (Pat-F.Rest x) = behind _ _ _ refl
-  layer (Pat-F.Slice x) = let h = filled-all (λ p. pat_of (p0 p)) p1 (values x.elems) in behind _ _ _ (search (rules, map-map, map-append, flat_map-map, flat_map-append, h))
-  layer (Pat-F.Pat::Struct x) = behind _ _ _ (fields_filled _ (every_items (λ f. IsFilledField f.kind) _ (λ q. field-10 q.0.kind) x.fields.inner.items _ (last-25 x.fields.last)))
-  layer (Pat-F.Pat::Tuple x) = let h = filled-all (λ p. pat_of (p0 p)) p1 (values x.elems) in behind _ _ _ (search (rules, map-map, map-append, flat_map-map, flat_map-append, h))
-  layer (Pat-F.TupleStruct x) = let h = filled-all (λ p. pat_of (p0 p)) p1 (values x.elems) in behind _ _ _ (search (rules, map-map, map-append, flat_map-map, flat_map-append, h))
-  layer (Pat-F.Typed x) = behind _ _ _ (p1 x.pat.value)
-  layer (Pat-F.Wild x) = behind _ _ _ refl
+  layer (Pat-F.Pat::Const x) = behind (attributes_of x.attrs) (t.a_block x.block.stmts) [] refl
+  layer (Pat-F.Ident x) = search (rules, places-behind, map-map, map-append, p1)
+  layer (Pat-F.Pat::Lit x) = behind (attributes_of x.attrs) (t.a_lit (lit_of x.lit)) [] refl
+  layer (Pat-F.Pat::Macro x) = behind (attributes_of x.attrs) (t.a_mac (macro_of type_of x.mac)) [] refl
+  layer (Pat-F.Or x) = let h = filled-all (λ p. pat_of (p0 p)) p1 (values x.cases) in search (rules, places-behind, map-map, map-append, flat_map-map, flat_map-append, h)
+  layer (Pat-F.Pat::Paren x) = behind (attributes_of x.attrs) (t.a_paren (pat_of (p0 x.pat.value)).tree) (pat_of (p0 x.pat.value)).guards (p1 x.pat.value)
+  layer (Pat-F.Pat::Path x) = behind (attributes_of x.attrs) (t.a_path (qself_or type_of x.qself) (path_of type_of x.path)) [] refl
+  layer (Pat-F.Pat::Range x) = behind (attributes_of x.attrs) (t.range (mapped bound_of x.start) (is_closed x.limits) (mapped bound_of x.end)) [] refl
+  layer (Pat-F.Pat::Reference x) = behind (attributes_of x.attrs) (t.a_reference (is_some x.mutability) (pat_of (p0 x.pat.value)).tree) (pat_of (p0 x.pat.value)).guards (p1 x.pat.value)
+  layer (Pat-F.Rest x) = behind (attributes_of x.attrs) t.rest [] refl
+  layer (Pat-F.Slice x) = let h = filled-all (λ p. pat_of (p0 p)) p1 (values x.elems) in search (rules, places-behind, map-map, map-append, flat_map-map, flat_map-append, h)
+  layer (Pat-F.Pat::Struct x) =
+      let h = fields_filled (map (λ q. q.0) (map in_field x.fields.inner.items) ++ last_of (shapes.former-Pat-Struct-0-at-25.map P Pat p0 x.fields.last))
+      (every_items (λ f. IsFilledField f.kind) in_field (λ q. field-10 q.0.kind) x.fields.inner.items (last_of (shapes.former-Pat-Struct-0-at-25.map P Pat p0 x.fields.last)) (last-25 x.fields.last)) in
+      search (rules, places-behind, h)
+  layer (Pat-F.Pat::Tuple x) = let h = filled-all (λ p. pat_of (p0 p)) p1 (values x.elems) in search (rules, places-behind, map-map, map-append, flat_map-map, flat_map-append, h)
+  layer (Pat-F.TupleStruct x) = let h = filled-all (λ p. pat_of (p0 p)) p1 (values x.elems) in search (rules, places-behind, map-map, map-append, flat_map-map, flat_map-append, h)
+  layer (Pat-F.Typed x) = behind (attributes_of x.attrs) (t.typed (pat_of (p0 x.pat.value)).tree (type_of x.ty.value)) (pat_of (p0 x.pat.value)).guards (p1 x.pat.value)
+  layer (Pat-F.Wild x) = behind (attributes_of x.attrs) t.wild [] refl
   layer (Pat-F.Guard x) = g1 x
 
   guarded_layer : (y : PatGuard-F E P C A F L M G) → IsFilled (guard_layer views (map-PatGuard E P C A F L M G Expr Pat ExprClosure Arm ExprForLoop ExprLet ExprMatch PatGuard e0 p0 c0 a0 f0 l0 m0 g0 y))
   unfolding places
-  guarded_layer y = behind _ _ _ (length-append (pat_of (p0 y.pat.value)).guards (tree_of (e0 y.guard.value) ∷ []) ∙ ap (λ n. n + 1) (p1 y.pat.value))
+  guarded_layer y = behind (attributes_of y.attrs) (t.guarded (pat_of (p0 y.pat.value)).tree) ((pat_of (p0 y.pat.value)).guards ++ tree_of (e0 y.guard.value) ∷ [])
+      (length-append (pat_of (p0 y.pat.value)).guards (tree_of (e0 y.guard.value) ∷ []) ∙ ap (λ n. n + 1) (p1 y.pat.value))
 
 pub filled : (x : Pat) → IsFilled (pat_of x)
 filled = ind-Pat (λ x. Unit) (λ x. IsFilled (pat_of x)) (λ x. Unit) (λ x. Unit) (λ x. Unit) (λ x. Unit) (λ x. Unit) (λ x. IsFilled (guard_of x))
