@@ -2,10 +2,10 @@
 #![tactic(auto)]
 
 #[cfg(test)]
-mod operators;
+mod asking;
+#[cfg(test)]
+mod built;
 #[cfg(test)]
 mod printing;
 #[cfg(test)]
 mod reading;
-#[cfg(test)]
-mod texts;

@@ -1,256 +1,184 @@
-//! What no clause says of printing: the texts of trees that are read and of trees that users build, how often nodes are
-//! visited, and that deep trees are printed.
+//! What no clause says of printing: the texts of what is read, and of what programs build, in each position.
 
-use crate::texts::{agreed, text_of};
-use rows::{check, words};
 use std::alloc::Global;
 use std::test::Fail;
-use syn_expr::attr::AttrStyle;
-use syn_expr::expr::{Expr, ExprBinary, ExprUnary};
-use syn_expr::fixup::FixupContext;
-use syn_expr::laws::read_back;
-use syn_expr::op::{BinOp, UnOp};
-use syn_expr::print::{print_counted, print_expr};
-use syn_tokens::buffer::ToTokens;
-use syn_tokens::error::{Error, ErrorKind};
-use syn_tokens::span::Span;
-use syn_tokens::text::to_text;
-use syn_tokens::token::{Minus, Not, Plus, Star};
-use syn_tokens::tree::TokenStream;
-use syn_tokens::whole::parse_str;
+use syn_expr::Position;
+use syn_expr_rows::again::printed_at;
+use syn_expr_rows::bare::bare_at;
+use syn_expr_rows::table::check;
 
-/// The text of what is printed.
-fn text_by_printer(alloc: Global, expr: &Expr) -> Result<String, Error> {
-    let mut tokens = TokenStream::new(alloc);
-    print_expr(expr, &mut tokens, FixupContext::NONE)?;
-    to_text(&tokens)
-}
-
-/// One of three operators as users make it.
-fn operator(text: &str) -> BinOp {
-    if text == "+" {
-        return BinOp::Add(Plus::default());
-    }
-    if text == "-" {
-        return BinOp::Sub(Minus::default());
-    }
-    BinOp::Mul(Star::default())
-}
-
-/// An expression of a text, in a box.
-fn boxed(alloc: Global, text: &str) -> Result<Box<Expr>, Error> {
-    Ok(Box::new(alloc, parse_str::<Expr>(alloc, text)?)?)
-}
-
-/// An operation of two texts that are read first, without parentheses.
-fn binary_of(alloc: Global, left: &str, op: BinOp, right: &str) -> Result<Expr, Error> {
-    let left = boxed(alloc, left)?;
-    let right = boxed(alloc, right)?;
-    Ok(Expr::Binary(ExprBinary {
-        attrs: Vec::new(alloc),
-        left,
-        op,
-        right,
-    }))
-}
-
-/// An operation of a row that has `~` on both sides of the operator.
-fn binary(alloc: Global, row: &str) -> Result<Expr, Error> {
-    let refusal = Error::new(Span::call_site(), ErrorKind::UnexpectedToken);
-    let (left, rest) = row.split_once('~').ok_or(refusal)?;
-    let (op, right) = rest.split_once('~').ok_or(refusal)?;
-    binary_of(alloc, left, operator(op.trim()), right)
-}
-
-/// The negation of an expression.
-fn negated(alloc: Global, expr: Expr) -> Result<Expr, Error> {
-    Ok(Expr::Unary(ExprUnary {
-        attrs: Vec::new(alloc),
-        op: UnOp::Neg(Minus::default()),
-        expr: Box::new(alloc, expr)?,
-    }))
-}
-
-const OPERATIONS: &str = "
-a ~ - ~ b - c     | a - (b - c)
--a ~ * ~ b        | - a * b
-a + b ~ - ~ c * d | a + b - c * d
+const PLAIN: &str = "
+-a * !b - c                    ~ - a * ! b - c
+a--b                           ~ a - - b
+a&&&b                          ~ a && & b
+a||||b                         ~ a || | | b
+a<<=b                          ~ a <<= b
+a =- b                         ~ a = - b
+f(a,)(b).g(c)?[d]              ~ f (a ,) (b) . g (c) ? [d]
+x.0.1                          ~ x . 0 . 1
+x.0. await                     ~ x . 0 . await
+x.0xFF                         ~ x . 255
+x.4294967295                   ~ x . 4294967295
+[#[k] a; 2]                    ~ [# [k] a ; 2]
+&raw const a                   ~ & raw const a
+S { a: x, b, ..c }             ~ S { a : x , b , .. c }
+S { .. }                       ~ S { .. }
+S { #[k] a: b }                ~ S { # [k] a : b }
+<T as A>::B                    ~ < T as A > :: B
+x.f::<u8>(y)                   ~ x . f :: < u8 > (y)
+a::m!{}                        ~ a :: m ! {}
+m != x                         ~ m != x
+#[k] -a + b                    ~ # [k] - a + b
+#[k] a.b                       ~ # [k] a . b
+x as Vec<u8>>y                 ~ x as Vec < u8 > > y
+move |#[k] x: u8| x            ~ move | # [k] x : u8 | x
+|x| -> u8 { x }                ~ | x | -> u8 { x }
+|x| .. + 1                     ~ | x | .. + 1
+let x = .. = y                 ~ let x = .. = y
+a = ..b = c                    ~ a = .. b = c
+return a + .. ?                ~ return a + .. ?
+unsafe { #![k] a }             ~ unsafe { # ! [k] a }
+async { #![k] a }              ~ async { #! [k] a }
+if let Some(x) = y && z {}     ~ if let Some (x) = y && z {}
+if return S {} {}              ~ if return S {} {}
+'a: while x { }                ~ 'a : while x {}
+for x in 0..n { }              ~ for x in 0 .. n {}
+match x { #[k] _ => y }        ~ match x { # [k] _ => y }
+match x { _ => {} y => 2 }     ~ match x { _ => {} y => 2 }
+match x { a if b => c, _ => {} } ~ match x { a if b => c , _ => {} }
+break #[k] 'a: loop {}         ~ break # [k] 'a : loop {}
+become f(x)                    ~ become f (x)
+let 1...1.5 = x                ~ let 1 ..= 1.5 = x
+a as [u8; x.0.1]               ~ a as [u8 ; x . 0.1]
 ";
 
-/// What is printed of an operation.
-fn operation(alloc: Global, row: &str) -> Result<String, Error> {
-    text_by_printer(alloc, &binary(alloc, row)?)
-}
+const STATEMENTS: &str = "
+if cond { f } else { g } () ~ (if cond { f } else { g }) ()
+m! {} - 1                   ~ (m ! {}) - 1
+{ a } + b                   ~ ({ a }) + b
+loop {}[0]                  ~ (loop {}) [0]
+match x {}?.y               ~ match x {} ? . y
+unsafe { a } as u8          ~ (unsafe { a }) as u8
+-{ a }                      ~ - { a }
+let x = y                   ~ (let x = y)
+let x = y && z              ~ (let x = y) && z
+";
 
-/// What is printed of the negation of an operation.
-fn negation(alloc: Global, row: &str) -> Result<String, Error> {
-    let operation = binary(alloc, row)?;
-    text_by_printer(alloc, &negated(alloc, operation)?)
-}
+const CONDITIONS: &str = "
+*S {}       ~ * (S {})
+x == S {}   ~ x == (S {})
+f(S {})     ~ f (S {})
+return      ~ (return)
+return x    ~ return (x)
+return S {} ~ return S {}
+x + return  ~ x + (return)
+break       ~ break
+break ..    ~ break (..)
+break break ~ break (break)
+..          ~ ..
+";
 
-#[test]
-fn parentheses_where_they_are_needed(rt: HostRuntime) -> Result<(), Fail> {
-    check(rt.alloc(), OPERATIONS, operation)?;
-    check(rt.alloc(), "a ~ + ~ b | - (a + b)", negation)
-}
-
-/// An operation behind the attribute `#[k]`.
-fn attributed(alloc: Global, row: &str) -> Result<Expr, Error> {
-    let mut word = parse_str::<Expr>(alloc, "#[k] x")?;
-    let attrs = word.replace_attrs(Vec::new(alloc));
-    let mut operation = binary(alloc, row)?;
-    let _ = operation.replace_attrs(attrs);
-    Ok(operation)
-}
-
-/// What is printed of an operation behind an attribute.
-fn attributed_operation(alloc: Global, row: &str) -> Result<String, Error> {
-    text_by_printer(alloc, &attributed(alloc, row)?)
-}
-
-/// What is printed of the negation of an operation behind an attribute.
-fn attributed_negation(alloc: Global, row: &str) -> Result<String, Error> {
-    let operation = attributed(alloc, row)?;
-    text_by_printer(alloc, &negated(alloc, operation)?)
-}
-
-#[test]
-fn an_operation_behind_attributes_is_in_parentheses(rt: HostRuntime) -> Result<(), Fail> {
-    check(
-        rt.alloc(),
-        "a ~ + ~ b | # [k] (a + b)",
-        attributed_operation,
-    )?;
-    check(
-        rt.alloc(),
-        "a ~ + ~ b | - # [k] (a + b)",
-        attributed_negation,
-    )
-}
-
-#[test]
-fn inner_attributes_are_kept_and_not_printed(rt: HostRuntime) -> Result<(), Fail> {
-    let mut word = parse_str::<Expr>(rt.alloc(), "#[k] x")?;
-    let mut attrs = word.replace_attrs(Vec::new(rt.alloc()));
-    for attr in attrs.iter_mut() {
-        attr.style = AttrStyle::Inner(Not::default());
-    }
-    let mut operation = binary(rt.alloc(), "a ~ + ~ b")?;
-    let none = operation.replace_attrs(attrs);
-    assert!(rt; none.is_empty());
-    let text = text_by_printer(rt.alloc(), &operation)?;
-    assert_eq!(rt; text.as_str(), "a + b");
-    let own = operation.replace_attrs(Vec::new(rt.alloc()));
-    assert_eq!(rt; own.len(), 1);
-    assert!(rt; matches!(own[0].style, AttrStyle::Inner(_)));
-    Ok(())
-}
-
-/// What is printed of an expression once it was read back.
-fn text_read_back(alloc: Global, expr: &Expr) -> Result<String, Error> {
-    text_by_printer(alloc, &read_back(alloc, expr)?)
-}
-
-/// What is printed of an expression. It has to be the same once it was read back.
-fn printed_twice(alloc: Global, text: &str) -> Result<String, Error> {
-    let expr = parse_str::<Expr>(alloc, text)?;
-    agreed(
-        alloc,
-        text_by_printer(alloc, &expr),
-        text_read_back(alloc, &expr),
-    )
-}
-
-const READ: &str = "
--a * !b - c       | - a * ! b - c
-((a+b))*c         | ((a + b)) * c
-#[k] -1 << ::x::y | # [k] - 1 << :: x :: y
-true && 1.5 <= *p | true && 1.5 <= * p
+const ARMS: &str = "
+if cond { f } else { g } () ~ (if cond { f } else { g }) ()
+{ a } + b                   ~ ({ a }) + b
+m! {} - 1                   ~ m ! {} - 1
+match x {}.f()              ~ match x {} . f ()
+let x = y && z              ~ let x = y && z
 ";
 
 #[test]
-fn what_was_read_prints_as_it_is(rt: HostRuntime) -> Result<(), Fail> {
-    check(rt.alloc(), READ, printed_twice)
+fn what_was_read_in_each_position(rt: HostRuntime) -> Result<(), Fail> {
+    let alloc = rt.alloc();
+    check(alloc, PLAIN, |alloc, text| {
+        printed_at(alloc, text, Position::Plain)
+    })?;
+    check(alloc, STATEMENTS, |alloc, text| {
+        printed_at(alloc, text, Position::Stmt)
+    })?;
+    check(alloc, CONDITIONS, |alloc, text| {
+        printed_at(alloc, text, Position::Cond)
+    })?;
+    check(alloc, ARMS, |alloc, text| {
+        printed_at(alloc, text, Position::Arm)
+    })
 }
 
-/// Puts what a node of a kind prints for itself at the end.
-fn put_by_kind(expr: &Expr, tokens: &mut TokenStream) -> Result<(), Error> {
-    match expr {
-        Expr::Binary(x) => x.to_tokens(tokens),
-        Expr::Lit(x) => x.to_tokens(tokens),
-        Expr::Paren(x) => x.to_tokens(tokens),
-        Expr::Path(x) => x.to_tokens(tokens),
-        Expr::Unary(x) => x.to_tokens(tokens),
-    }
-}
+/// Each tree has parentheses round what stands behind or between its operators.
+const PLAIN_TREES: &str = "
+(a - b) - c               ~ a - b - c
+a - (b - c)               ~ a - (b - c)
+-(a + b)                  ~ - (a + b)
+(-a) * b                  ~ - a * b
+((-a) * (!b)) - c         ~ - a * ! b - c
+a = (b = c)               ~ a = b = c
+(a = b) = c               ~ (a = b) = c
+a + (b = c)               ~ a + (b = c)
+(a < b) < c               ~ (a < b) < c
+(-a).f                    ~ (- a) . f
+-(a.f)                    ~ - a . f
+(x.f)(y)                  ~ (x . f) (y)
+(x.0)(y)                  ~ x . 0 (y)
+(|x| x)(1)                ~ (| x | x) (1)
+(return a)?               ~ (return a) ?
+(#[k] return).x           ~ (# [k] return) . x
+(#[k] x.0)(y)             ~ (# [k] x . 0) (y)
+(a..b)..c                 ~ (a .. b) .. c
+(a + (b as u8)) < c       ~ a + (b as u8) < c
+(x as u8) <= y            ~ x as u8 <= y
+(x as u8) <<= 1           ~ (x as u8) <<= 1
+(x as Vec<u8>) > y        ~ x as Vec < u8 > > y
+let x = (a && b)          ~ let x = (a && b)
+(let x = a) && b          ~ let x = a && b
+(return) - 1              ~ (return) - 1
+(return) + 1              ~ return + 1
+(1 + return 1) + 1        ~ 1 + (return 1) + 1
+(a + return b) * c        ~ (a + return b) * c
+(a || ..b) + c            ~ (a || .. b) + c
+(a || ..) + c             ~ a || .. + c
+(a = (..b)) = c           ~ a = .. b = c
+(a + (return ..)) / b     ~ (a + return ..) / b
+v + ((q || ..) / c)       ~ v + (q || .. / c)
+a + ((-..) / c)           ~ a + - .. / c
+#[k] (a + b)              ~ a + b
+break ('a: loop {})       ~ break ('a : loop {})
+";
 
-/// The text of what a node of a kind prints for itself.
-fn text_by_kind(alloc: Global, expr: &Expr) -> Result<String, Error> {
-    let mut tokens = TokenStream::new(alloc);
-    put_by_kind(expr, &mut tokens)?;
-    to_text(&tokens)
-}
+const STATEMENT_TREES: &str = "
+({ a }) + b      ~ ({ a }) + b
+({ a }).f        ~ { a } . f
+(m!{}) - (1)     ~ (m ! {}) - 1
+m!() - (1)       ~ m ! () - 1
+(let x = y) && z ~ (let x = y) && z
+";
 
-/// What an expression prints for itself. Its kind has to print the same.
-fn by_itself(alloc: Global, text: &str) -> Result<String, Error> {
-    let expr = parse_str::<Expr>(alloc, text)?;
-    agreed(alloc, text_of(alloc, &expr), text_by_kind(alloc, &expr))
-}
+const CONDITION_TREES: &str = "
+break ({ #![k] x })   ~ break ({ # ! [k] x })
+break (#[k] { x })    ~ break # [k] { x }
+x .. ({ #![k] y })    ~ x .. ({ # ! [k] y })
+x ..= ({ y })         ~ x ..= { y }
+(S {}) == (x)         ~ (S {}) == x
+(S {}).f              ~ (S {}) . f
+";
 
-const KINDS: &str = "
-#[k] a   | # [k] a
-#[k] 1   | # [k] 1
-#[k] (a) | # [k] (a)
-#[k] !a  | # [k] ! a
-a == b   | a == b
+const ARM_TREES: &str = "
+({ a }) + b   ~ ({ a }) + b
+(m!{}) - (1)  ~ m ! {} - 1
+(loop {})(a)  ~ (loop {}) (a)
 ";
 
 #[test]
-fn each_kind_prints_for_itself(rt: HostRuntime) -> Result<(), Fail> {
-    check(rt.alloc(), KINDS, by_itself)
-}
-
-/// What is printed of an expression of six nodes. Each has to be visited once or twice.
-fn visited(alloc: Global, expr: &Expr) -> Result<String, Error> {
-    let (tokens, visits) = print_counted(alloc, expr, FixupContext::NONE)?;
-    if visits < 6 || 12 < visits {
-        return words(alloc, "other numbers of visits");
-    }
-    to_text(&tokens)
-}
-
-/// What is printed of an operation whose nodes are counted.
-fn counted(alloc: Global, row: &str) -> Result<String, Error> {
-    visited(alloc, &binary(alloc, row)?)
-}
-
-#[test]
-fn visits_are_counted(rt: HostRuntime) -> Result<(), Fail> {
-    check(rt.alloc(), "a + b ~ * ~ -c | (a + b) * - c", counted)
-}
-
-/// An expression behind ten thousand signs.
-fn deep(alloc: Global, text: &str) -> Result<Expr, Error> {
-    let mut expr = parse_str::<Expr>(alloc, text)?;
-    for _ in 0..10_000 {
-        expr = negated(alloc, expr)?;
-    }
-    Ok(expr)
-}
-
-/// How many tokens are printed of an expression.
-fn number_of_tokens(alloc: Global, expr: &Expr) -> Result<String, Error> {
-    let mut tokens = TokenStream::new(alloc);
-    print_expr(expr, &mut tokens, FixupContext::NONE)?;
-    Ok(format!(in alloc; "{}", tokens.len())?)
-}
-
-/// How many tokens are printed of a text behind ten thousand signs.
-fn number_behind_signs(alloc: Global, text: &str) -> Result<String, Error> {
-    number_of_tokens(alloc, &deep(alloc, text)?)
-}
-
-#[test]
-fn deep_trees(rt: HostRuntime) -> Result<(), Fail> {
-    check(rt.alloc(), "a | 10001", number_behind_signs)
+fn trees_without_parentheses_in_each_position(rt: HostRuntime) -> Result<(), Fail> {
+    let alloc = rt.alloc();
+    check(alloc, PLAIN_TREES, |alloc, text| {
+        bare_at(alloc, text, Position::Plain)
+    })?;
+    check(alloc, STATEMENT_TREES, |alloc, text| {
+        bare_at(alloc, text, Position::Stmt)
+    })?;
+    check(alloc, CONDITION_TREES, |alloc, text| {
+        bare_at(alloc, text, Position::Cond)
+    })?;
+    check(alloc, ARM_TREES, |alloc, text| {
+        bare_at(alloc, text, Position::Arm)
+    })
 }

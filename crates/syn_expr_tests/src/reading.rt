@@ -1,279 +1,244 @@
-//! What no clause says of reading: which trees texts are read as, where their tokens are, and which texts are refused,
-//! where and why.
+//! What no clause says of reading: of which kind an expression is, which texts are refused, where and why, and what is left
+//! behind an expression.
 
-use crate::texts::{name_of, text_of};
-use rows::{check, printed, words};
+use rows::{left_by, printed, words};
 use std::alloc::Global;
 use std::test::Fail;
-use syn_expr::attr::Attribute;
-use syn_expr::expr::{Expr, ExprPath};
-use syn_expr::lit::Lit;
-use syn_expr::op::{BinOp, UnOp};
-use syn_tokens::error::Error;
-use syn_tokens::span::Span;
-use syn_tokens::whole::parse_str;
+use syn_expr::{Error, Expr, Position, parse_str};
+use syn_expr_rows::table::check;
 
-/// A mark for each attribute.
-fn marks(attrs: &Vec<Attribute>) -> &'static str {
-    match attrs.len() {
-        0 => "",
-        1 => "@",
-        2 => "@@",
-        _ => "many @ ",
-    }
-}
-
-/// A node without others below it.
-fn leaf(
-    alloc: Global,
-    attrs: &Vec<Attribute>,
-    text: Result<String, Error>,
-) -> Result<String, Error> {
-    Ok(format!(in alloc; "{}{}", marks(attrs), text?)?)
-}
-
-/// A node by its name, with the trees below it.
-fn node(
-    alloc: Global,
-    attrs: &Vec<Attribute>,
-    name: Result<String, Error>,
-    below: Result<String, Error>,
-) -> Result<String, Error> {
-    Ok(format!(in alloc; "{}{}({})", marks(attrs), name?, below?)?)
-}
-
-/// Two trees side by side.
-fn pair(
-    alloc: Global,
-    left: Result<String, Error>,
-    right: Result<String, Error>,
-) -> Result<String, Error> {
-    Ok(format!(in alloc; "{}, {}", left?, right?)?)
-}
-
-/// The tree of an expression: behind each node its operands, and in front of it its attributes, a mark each.
-fn tree(alloc: Global, expr: &Expr) -> Result<String, Error> {
+/// The name of its kind.
+fn kind_of(expr: &Expr) -> &'static str {
     match expr {
-        Expr::Binary(x) => {
-            let below = pair(alloc, tree(alloc, &x.left), tree(alloc, &x.right));
-            node(alloc, &x.attrs, name_of(alloc, &x.op), below)
-        }
-        Expr::Unary(x) => node(alloc, &x.attrs, name_of(alloc, &x.op), tree(alloc, &x.expr)),
-        Expr::Paren(x) => node(alloc, &x.attrs, words(alloc, "Paren"), tree(alloc, &x.expr)),
-        Expr::Lit(x) => leaf(alloc, &x.attrs, text_of(alloc, x)),
-        Expr::Path(x) => leaf(alloc, &x.attrs, text_of(alloc, x)),
+        Expr::Array(_) => "Array",
+        Expr::Assign(_) => "Assign",
+        Expr::Async(_) => "Async",
+        Expr::Await(_) => "Await",
+        Expr::Binary(_) => "Binary",
+        Expr::Block(_) => "Block",
+        Expr::Break(_) => "Break",
+        Expr::Call(_) => "Call",
+        Expr::Cast(_) => "Cast",
+        Expr::Closure(_) => "Closure",
+        Expr::Const(_) => "Const",
+        Expr::Continue(_) => "Continue",
+        Expr::Field(_) => "Field",
+        Expr::ForLoop(_) => "ForLoop",
+        Expr::Group(_) => "Group",
+        Expr::If(_) => "If",
+        Expr::Index(_) => "Index",
+        Expr::Infer(_) => "Infer",
+        Expr::Let(_) => "Let",
+        Expr::Lit(_) => "Lit",
+        Expr::Loop(_) => "Loop",
+        Expr::Macro(_) => "Macro",
+        Expr::Match(_) => "Match",
+        Expr::MethodCall(_) => "MethodCall",
+        Expr::Paren(_) => "Paren",
+        Expr::Path(_) => "Path",
+        Expr::Range(_) => "Range",
+        Expr::RawAddr(_) => "RawAddr",
+        Expr::Reference(_) => "Reference",
+        Expr::Repeat(_) => "Repeat",
+        Expr::Return(_) => "Return",
+        Expr::Struct(_) => "Struct",
+        Expr::Try(_) => "Try",
+        Expr::TryBlock(_) => "TryBlock",
+        Expr::Tuple(_) => "Tuple",
+        Expr::Unary(_) => "Unary",
+        Expr::Unsafe(_) => "Unsafe",
+        Expr::While(_) => "While",
+        Expr::Yield(_) => "Yield",
+        Expr::Verbatim(_) => "Verbatim",
     }
 }
 
-/// The tree that a text is read as.
-fn tree_of(alloc: Global, text: &str) -> Result<String, Error> {
-    tree(alloc, &parse_str::<Expr>(alloc, text)?)
+/// The name of the kind that a text is of. What is printed of it has to be read as an equal expression.
+fn kind_of_text(alloc: Global, text: &str) -> Result<String, Error> {
+    let expr = parse_str::<Expr>(alloc, text)?;
+    let again = parse_str::<Expr>(alloc, printed::<Expr>(alloc, text)?.as_str())?;
+    let is_same = expr == again;
+    words(alloc, if is_same { kind_of(&expr) } else { "another" })
 }
 
-const GROUPED: &str = "
-a - b - c       | Sub(Sub(a, b), c)
-a += b -= c - d | AddAssign(a, SubAssign(b, Sub(c, d)))
--a * !b - c     | Sub(Mul(Neg(a), Not(b)), c)
-(a < b) < c     | Lt(Paren(Lt(a, b)), c)
+const KINDS: &str = "
+[a, b,]                         ~ Array
+[]                              ~ Array
+a = b = c                       ~ Assign
+_ = f(x)                        ~ Assign
+async move { a }                ~ Async
+a.await                         ~ Await
+a + b                           ~ Binary
+a >>= b                         ~ Binary
+return + 1                      ~ Binary
+a || .. + c                     ~ Binary
+a = b.. + c                     ~ Binary
+{ a }                           ~ Block
+'a: {}                          ~ Block
+break                           ~ Break
+break 'a b                      ~ Break
+f(a)(b,)                        ~ Call
+if c { f } else { g } ()        ~ Call
+a as &dyn B                     ~ Cast
+break .. as u8                  ~ Cast
+|a, _: u8| a + b                ~ Closure
+for<'a> const async move || {}  ~ Closure
+|| -> u8 { a }                  ~ Closure
+const {}                        ~ Const
+continue 'a                     ~ Continue
+x.0.1                           ~ Field
+builtin # f(x).y                ~ Field
+'a: for (a, _) in b {}          ~ ForLoop
+if a {} else if b {} else {}    ~ If
+a[b]                            ~ Index
+_                               ~ Infer
+let A(b) | C = d                ~ Let
+-1 + 2                          ~ Binary
+1.5                             ~ Lit
+b'a'                            ~ Lit
+'a: loop {}                     ~ Loop
+a::m!{}                         ~ Macro
+match a { b if c => d, _ => {} } ~ Match
+a.f::<u8>(b)                    ~ MethodCall
+(a)                             ~ Paren
+<A as B>::c::<d>                ~ Path
+a..b                            ~ Range
+a..                             ~ Range
+..=b                            ~ Range
+..                              ~ Range
+&raw mut a                      ~ RawAddr
+&raw[0]                         ~ Reference
+&&mut a                         ~ Reference
+[a; n]                          ~ Repeat
+return - 1                      ~ Return
+A::<b> { c: d, 0: e, f, ..g }   ~ Struct
+a.b?                            ~ Try
+return .. ?                     ~ Try
+try {}                          ~ TryBlock
+()                              ~ Tuple
+(a,)                            ~ Tuple
+!a.b                            ~ Unary
+unsafe {}                       ~ Unsafe
+'a: while let A = b && c {}     ~ While
+yield a                         ~ Yield
+become f(x)                     ~ Verbatim
+builtin # f(x)                  ~ Verbatim
 ";
 
 #[test]
-fn operators_take_their_operands(rt: HostRuntime) -> Result<(), Fail> {
-    check(rt.alloc(), GROUPED, tree_of)
+fn each_kind_is_read(rt: HostRuntime) -> Result<(), Fail> {
+    check(rt.alloc(), KINDS, kind_of_text)
 }
 
-const LONGEST: &str = "
-a--b    | Sub(a, Neg(b))
-a<<b>>c | Shr(Shl(a, b), c)
+const NO_EXPRESSIONS: &str = "
+                ~ refused at 0..0: expected an expression
+a +             ~ refused at 3..3: expected an expression
+a ..=           ~ refused at 5..5: expected an expression
+a + = b         ~ refused at 4..5: expected an expression
+a << = b        ~ refused at 5..6: expected an expression
+a === b         ~ refused at 4..5: expected an expression
+x[]             ~ refused at 2..3: expected an expression
+S { .. , }      ~ refused at 7..8: expected an expression
+'a: x           ~ refused at 4..5: expected loop or block expression
+a b             ~ refused at 2..3: unexpected token
+a..b..c         ~ refused at 4..5: unexpected token
+a.. =b          ~ refused at 4..5: unexpected token
+a => b          ~ refused at 2..3: unexpected token
+a #[k] + b      ~ refused at 2..3: unexpected token
+a as u8 .. + 1  ~ refused at 11..12: unexpected token
+&.. ?           ~ refused at 4..5: unexpected token
+if x == S {} {} ~ refused at 13..15: unexpected token
+x[a b] + y[c d] ~ refused at 4..5: unexpected token
+[a; b c]        ~ refused at 6..7: unexpected token
+S { ..b c }     ~ refused at 8..9: unexpected token
+";
+
+const MISSING: &str = "
+f(a b)                 ~ refused at 4..5: expected `,`
+(a b)                  ~ refused at 3..4: expected `,`
+S { a: b c }           ~ refused at 9..10: expected `,`
+match x { _ => 1 2 }   ~ refused at 17..18: expected `,`
+match x { _ => {} (1) } ~ refused at 22..23: expected `=>`
+S { 0 }                ~ refused at 6..7: expected `:`
+[a b]                  ~ refused at 3..4: expected `,` or `;`
+static || x            ~ refused at 0..6: expected `|`
+x . =                  ~ refused at 4..5: expected identifier or integer
+x.0. 1.2               ~ refused at 5..8: expected identifier or integer
+x.0u8                  ~ refused at 2..5: expected unsuffixed integer
+x.1e3                  ~ refused at 2..5: expected unsuffixed integer
+x.4294967296           ~ refused at 2..12: index out of range
+";
+
+const OPERATORS: &str = "
+a < b < c         ~ refused at 6..7: comparison operators cannot be chained
+a < b == c        ~ refused at 6..7: comparison operators cannot be chained
+a <- b            ~ refused at 2..3: unexpected operator `<-`, if this is intended to be a comparison against a negative then a space is required: `< -`
+x as u8.y         ~ refused at 7..8: casts cannot be followed by a field access
+x as u8.y()       ~ refused at 7..8: casts cannot be followed by a method call
+x as u8.await     ~ refused at 7..8: casts cannot be followed by `.await`
+x as u8?          ~ refused at 7..8: casts cannot be followed by `?`
+x as u8[0]        ~ refused at 7..10: casts cannot be followed by indexing
+x as [u8](0)      ~ refused at 9..12: casts cannot be followed by a function call
+#[k] ..b          ~ refused at 5..7: attributes are not allowed on range expressions starting with `..`
+a = #[k] ..b      ~ refused at 9..11: attributes are not allowed on range expressions starting with `..`
+break 'a: loop {} ~ refused at 6..17: parentheses required
+/// d             ~ refused at 0..5: doc comment
 ";
 
 #[test]
-fn the_longest_operator_counts(rt: HostRuntime) -> Result<(), Fail> {
-    check(rt.alloc(), LONGEST, tree_of)
+fn refused_texts(rt: HostRuntime) -> Result<(), Fail> {
+    let alloc = rt.alloc();
+    check(alloc, NO_EXPRESSIONS, printed::<Expr>)?;
+    check(alloc, MISSING, printed::<Expr>)?;
+    check(alloc, OPERATORS, printed::<Expr>)
 }
 
-const BEHIND_ATTRIBUTES: &str = "
-#[k] -a + b     | Add(@Neg(a), b)
--#[k] #[j(1)] a | Neg(@@# [k] # [j (1)] a)
+/// What is left of a text behind the expression at its front.
+fn left_at(alloc: Global, text: &str, position: Position) -> Result<String, Error> {
+    left_by(alloc, text, |input| position.parse(input).err())
+}
+
+const BEHIND: &str = "
+a b         ~ b
+a + b, c    ~ , c
+a..b ... c  ~ ... c
+{ a } + b   ~
+m!{} - b; c ~ ; c
+S {} {}     ~ {}
+";
+
+const BEHIND_HEADS: &str = "
+if c { f } else { g } () ~ ()
+{ a } + b                ~ + b
+{ a }.b + c, d           ~ , d
+match a {}?.b; c         ~ ; c
+m!{} - b; c              ~ ; c
+-{ a } + b               ~
+#[k] ..b                 ~
+let a = b && c;          ~ ;
+";
+
+const BEHIND_CONDITIONS: &str = "
+*S {}          ~ {}
+x == S {}      ~ {}
+f(S {}) {}     ~ {}
+return S {} {} ~ {}
+break {}       ~ {}
+.. {}          ~ {}
+..= {} {}      ~ {}
+match a {} {}  ~ {}
 ";
 
 #[test]
-fn attributes_belong_to_the_operand_behind_them(rt: HostRuntime) -> Result<(), Fail> {
-    check(rt.alloc(), BEHIND_ATTRIBUTES, tree_of)
-}
-
-/// The kind of a literal, or which truth value it is.
-fn kind(lit: &Lit) -> &'static str {
-    match lit {
-        Lit::Int(_) => "integer",
-        Lit::Float(_) => "float",
-        Lit::Bool(truth) if truth.value => "truth",
-        Lit::Bool(_) => "falsehood",
-    }
-}
-
-/// The kind of the literal that a text is read as.
-fn kind_of_literal(alloc: Global, text: &str) -> Result<String, Error> {
-    let kind = match &parse_str::<Expr>(alloc, text)? {
-        Expr::Lit(x) => kind(&x.lit),
-        _ => "no literal",
-    };
-    words(alloc, kind)
-}
-
-const LITERALS: &str = "
-1       | integer
-0x1e5   | integer
-1_000u8 | integer
-1.5     | float
-1e3     | float
-2.      | float
-true    | truth
-false   | falsehood
-";
-
-#[test]
-fn kinds_of_literals(rt: HostRuntime) -> Result<(), Fail> {
-    check(rt.alloc(), LITERALS, kind_of_literal)
-}
-
-/// What a path is printed as, which shows its segments, and whether `::` is in front.
-fn path(alloc: Global, x: &ExprPath) -> Result<String, Error> {
-    let kind = match x.path.leading_colon {
-        Some(_) => "global",
-        None => "local",
-    };
-    Ok(format!(in alloc; "{kind}: {}", text_of(alloc, x)?)?)
-}
-
-/// The path that a text is read as.
-fn path_of(alloc: Global, text: &str) -> Result<String, Error> {
-    match &parse_str::<Expr>(alloc, text)? {
-        Expr::Path(x) => path(alloc, x),
-        _ => words(alloc, "no path"),
-    }
-}
-
-const PATHS: &str = "
-a                 | local: a
-::a               | global: :: a
-std::mem::swap    | local: std :: mem :: swap
-crate::r#match    | local: crate :: r#match
-Self::self::super | local: Self :: self :: super
-";
-
-#[test]
-fn segments_of_paths(rt: HostRuntime) -> Result<(), Fail> {
-    check(rt.alloc(), PATHS, path_of)
-}
-
-const REFUSED: &str = "
-a +        | 3..3 expected an expression
-|0..0 expected an expression
-a + = b    | 4..5 expected an expression
-()         | 1..2 expected an expression
-# a        | 0..1 expected an expression
-a b        | 2..3 unexpected token
-a < b < c  | 6..7 comparison operators cannot be chained
-a < b == c | 6..7 comparison operators cannot be chained
-(a b)      | 3..4 expected `,`
-a::1       | 3..4 expected identifier
-";
-
-const LEFT_ARROWS: &str = "
-a <- b     | 2..3 unexpected operator `<-`, if this is intended to be a comparison against a negative then a space is required: `< -`
-a + b <- c | 6..7 unexpected operator `<-`, if this is intended to be a comparison against a negative then a space is required: `< -`
-";
-
-#[test]
-fn refused_expressions(rt: HostRuntime) -> Result<(), Fail> {
-    check(rt.alloc(), REFUSED, printed::<Expr>)?;
-    check(rt.alloc(), LEFT_ARROWS, printed::<Expr>)
-}
-
-/// Whether a text is an expression.
-fn verdict(alloc: Global, text: &str) -> Result<String, Error> {
-    match printed::<Expr>(alloc, text) {
-        Ok(_) => words(alloc, "read"),
-        Err(_) => words(alloc, "refused"),
-    }
-}
-
-const NOT_HERE_YET: &str = "
-a = b         | refused
-a..b          | refused
-a...b         | refused
-a as b        | refused
-f(x)          | refused
-x.y           | refused
-x[0]          | refused
-x?            | refused
-m!()          | refused
-S {}          | refused
-[a]           | refused
-return        | refused
-&a            | refused
-'x'           | refused
-{ a }         | refused
-try           | refused
-builtin # f() | refused
-a::<b>        | refused
--1.f          | refused
-";
-
-#[test]
-fn kinds_that_are_not_here_yet_are_refused(rt: HostRuntime) -> Result<(), Fail> {
-    check(rt.alloc(), NOT_HERE_YET, verdict)
-}
-
-/// Puts places at the end of a text.
-fn put_places(alloc: Global, spans: &[Span], places: &mut String) -> Result<(), Error> {
-    for span in spans {
-        let place = format!(in alloc; "{}..{} ", span.lo, span.hi)?;
-        places.push_str(place.as_str())?;
-    }
-    Ok(())
-}
-
-/// Puts the places of the tokens of some kinds of nodes at the end of a text, from a node to what it has last.
-fn put_tokens(alloc: Global, expr: &Expr, places: &mut String) -> Result<(), Error> {
-    match expr {
-        Expr::Binary(x) => {
-            if let BinOp::ShlAssign(op) = x.op {
-                put_places(alloc, &op.spans, places)?;
-            }
-            put_tokens(alloc, &x.right, places)
-        }
-        Expr::Unary(x) => {
-            if let UnOp::Neg(op) = x.op {
-                put_places(alloc, &op.spans, places)?;
-            }
-            put_tokens(alloc, &x.expr, places)
-        }
-        Expr::Paren(x) => {
-            put_places(alloc, &[x.paren_token.span], places)?;
-            put_tokens(alloc, &x.expr, places)
-        }
-        Expr::Lit(x) => match x.lit {
-            Lit::Bool(truth) => put_places(alloc, &[truth.span], places),
-            Lit::Int(_) | Lit::Float(_) => Ok(()),
-        },
-        Expr::Path(_) => Ok(()),
-    }
-}
-
-/// The places of the tokens of an expression.
-fn places(alloc: Global, text: &str) -> Result<String, Error> {
-    let mut places = String::new(alloc);
-    put_tokens(alloc, &parse_str::<Expr>(alloc, text)?, &mut places)?;
-    Ok(places)
-}
-
-#[test]
-fn tokens_keep_their_places(rt: HostRuntime) -> Result<(), Fail> {
-    check(
-        rt.alloc(),
-        "a <<= -(true) | 2..3 3..4 4..5 6..7 7..13 8..12",
-        places,
-    )
+fn what_is_left_behind(rt: HostRuntime) -> Result<(), Fail> {
+    let alloc = rt.alloc();
+    check(alloc, BEHIND, |alloc, text| {
+        left_at(alloc, text, Position::Plain)
+    })?;
+    check(alloc, BEHIND_HEADS, |alloc, text| {
+        left_at(alloc, text, Position::Stmt)
+    })?;
+    check(alloc, BEHIND_CONDITIONS, |alloc, text| {
+        left_at(alloc, text, Position::Cond)
+    })
 }

@@ -1,0 +1,10 @@
+pub mod TreeEq
+pub mod Shapes
+pub mod KindTies
+pub mod StructTies
+pub mod Guards
+pub mod PatTies
+pub mod Kids
+pub mod Members
+pub mod Filled
+pub mod Sames
