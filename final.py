@@ -31,3 +31,47 @@ sub(A, [
 ])
 row(A, '| `syn_five_kinds` |', [])
 row(A, '| `syn_expr` |', ['| `syn_expr` | what a program names, at its root; and what callers are promised: the printer with a `FixupContext` (`print`), the four positions (`position`), and what follows of the readers and the printer together (`laws`) | `syn_expr_all`, `syn_expr_fixup`, `syn_expr_queries` |'])
+
+P = 'docs/PROVED.md'
+text = open(P, encoding='utf-8').read()
+a = text.index('## Expressions (`syn_expr`')
+b = text.index('## The grammar of all forty kinds')
+EXPR = '''## Expressions (`syn_expr`)
+
+What callers are promised, for all forty kinds. Trees, what stands for which tokens, and the parenthesis rule are definitions of `syn_grammar/specs`; the tree of an `Expr` is `tree_of` of `syn_expr_all/specs/View.antt`.
+
+| Promise | Contract | Definition |
+|---|---|---|
+| **Exact reading.** From a stream in which no leftover was noted, `Expr::parse` answers a tree and leaves a rest exactly where that tree stands before that rest: the tokens spell it, and it obeys the binding rules; `Expr::parse_without_eager_brace` the same before a block, `Expr::parse_with_earlier_boundary_rule` at the head of a statement or an arm's body. Any refusal but want of memory comes only where no tree stands there; the latter two leave the input as it was where they refuse | `impl Parse for Expr` with the clauses of `Parse`; clauses `read`, `found`, `stays` of the other two (`syn_expr_all/src/parse.rt`); over a whole list `parse2::<Expr>`, over a text `parse_str::<Expr>` (`syn_tokens/src/whole.rt`) | `Stands.antt`, `Place.antt` |
+| At most one tree and one rest stand for a list at a place | `one_tree` (`syn_grammar/src/laws.rt`) | `Exact.antt` |
+| **Printing.** `print_expr` puts behind the tokens that were there the tree's own spelling with parentheses by one rule. Old tokens stay in front on every outcome, and the only refusal is want of memory | `print_expr`, clauses `ok`, `front` and `err` (`syn_expr/src/print.rt`) | `own_tokens` in `Tree.antt`, `printed` in `Rule.antt` |
+| **Printed trees stand.** In plain, statement, condition and arm position, before whatever the position allows, what is printed of a well-formed tree stands for the same tree up to parentheses and fill-ins | `print_expr`, clause `back` | `StandsBack` in `syn_expr/specs/Promises.antt`; `Printed.antt`, `WellFormed.antt` |
+| **Own spelling.** A tree that stands for some list, whatever its spacing, and in which no operation has attributes, is printed in plain position as its own spelling | `print_expr`, clause `own` | `IsOwn` in `syn_expr/specs/Promises.antt` |
+| **Sparing parentheses.** In plain, condition and arm position, of a well-formed tree in which no operation has attributes: none is added exactly where the tree's own spelling, with its fill-ins, stands for it, and no added pair can be left out by itself: without it the tree stands for no list at all | `print_expr`, clause `sparing` | `IsSparing` in `syn_expr/specs/Promises.antt`; `Sparing.antt` |
+| **Read back.** What is printed of a well-formed tree is read in the same position as the same tree, up to parentheses and fill-ins, and what stands behind it is left, whatever the position allows there | `read_back`, `read_back_before` (`syn_expr/src/laws.rt`), from the contracts of `print_expr` and the readers alone | `IsSameTree` in `Tree.antt` |
+| **Visits.** `print_counted` answers how often a node was visited: at most twice the number of nodes, and of a well-formed tree at least that number (at the greatest `u64` it stays) | `print_counted`, clauses `least` and `most` | `size` in `Tree.antt` |
+@EXTRA@| Whether an expression begins with what is left | `Expr::peek` (`syn_expr_all/src/parse.rt`) | `Front.antt` |
+| A pattern is read exactly, without alternatives and with them; what is read has no guard | `Pat::parse_single`, `Pat::parse_multi_with_leading_vert` (`syn_expr_all/src/read_pat.rt`) | `Pat.antt` of `syn_parts/specs` |
+| What a place asks of an operand: whether it is left bare for its level, on the left of an operator or before a dot, and at the right end; its place; and whether the place refuses an expression for what it is itself, or for the brace behind it | `FixupContext` (`syn_expr_fixup/src/fixup.rt`) | `Rule.antt`, `Next.antt`; `syn_expr_fixup/specs/Fixup.antt` |
+| Whether a comma has to follow an expression as a match arm, and a semicolon as a statement; whether its tokens begin with a label@BRACE@; whether a type ends in a name without arguments | `requires_comma_to_be_match_arm`, `requires_semi_to_be_stmt`, `expr_leading_label`@BRACECALL@, `trailing_unparameterized_path` (`syn_expr_queries/src/classify.rt`) | `Binding.antt`, `Query.antt`, whose laws say it of the own tokens |
+
+'''
+text = text[:a] + EXPR + text[b:]
+text = text.replace('''Laws of definitions, before the code that will meet them: forty kinds of expressions in plain, statement, condition and arm position. Nothing here speaks of `Expr` yet, which has five kinds and stands on `syn_five_kinds`.''',
+'''Laws of the definitions that the contracts above speak of, by themselves: forty kinds of expressions in plain, statement, condition and arm position.''')
+text = text.replace('''## On the way to the code of all kinds
+
+The reader and the printer of all forty kinds. `exprfmt` doesn't stand on them yet, and that what is printed is read back is not composed for them yet: it is a law of the definitions alone.
+''','''## Inside: the parts of expressions, readers and printers by kind
+''')
+for start in ('| **Exact reading of all forty kinds.**', '| Whether an expression begins with what is left | `Expr::peek` (`parse.rt`)', '| A pattern is read exactly, without alternatives and with them; what is read has no guard | `Pat::parse_single`, `Pat::parse_multi_with_leading_vert` (`syn_expr_all/src/read_pat.rt`) | `Pat.antt` of `syn_parts/specs` |\n| Whether a type', '| What a place asks of an operand: whether it is left bare for its level, on the left of an operator or before a dot, and at the right end; its place; and whether the place refuses an expression for what it is itself, or for the brace behind it | `FixupContext` (`syn_expr_fixup/src/fixup.rt`) | `Rule.antt`, `Next.antt` of', '| Whether a comma has to follow an expression as a match arm, and a semicolon as a statement; whether its tokens begin with a label, and whether they end with braces; whether a type ends in a name without arguments | `requires_comma'):
+    second = text.index('## Inside:')
+    i = text.find(start, second)
+    if i < 0:
+        print('gone:', start[:60]); continue
+    j = text.index('\n', i) + 1
+    text = text[:i] + text[j:]
+text = text.replace("Patterns have definitions and laws, and the structs of their kinds with printers (`syn_pat_kinds`); their type reaches expressions and comes with them. `syn_expr` doesn't stand on `syn_lower` yet: its paths, literals and attributes are those of the first kinds.\n\n", '')
+text = text.replace('''where the input is UTF-8, falls into tokens and some tree stands for the whole of them, it writes the text of that tree's own spelling and a newline, status 0;''', '''where the input is UTF-8, falls into tokens and some tree stands for the whole of them, it writes the text of what is printed of that tree in the position and a newline, status 0: tokens for which all holds that `print_expr` promises in that position;''')
+text = text.replace('''- Of `syn_expr` and the program: the other kinds of expressions, and the positions statement, condition and arm.\n''', '')
+open(P, 'w', encoding='utf-8').write(text)
