@@ -27,7 +27,7 @@ sub(A, [
     ('| `syn_five_kinds/specs/Rule.antt`, `Next.antt` | where a printer puts parentheses |\n', ''),
     ('| `syn_five_kinds/specs/Printed.antt`, `Sparing.antt` | what is promised of a printed tree |\n', ''),
     ('| `syn_expr/specs/View.antt` | the tree of an `Expr`: one layer, folded |\n', '| `syn_expr/specs/Positions.antt`, `Promises.antt` | the positions by their contexts; what is promised of a print in each |\n'),
-    ("the reading on lists (`syn_five_kinds/specs/Read.antt`)", "the reading on lists (`syn_grammar/specs/Read.antt`)"),
+    ("a reading on lists (`syn_five_kinds/specs/Read.antt`)", "a reading on lists (`syn_grammar/specs/Read.antt`)"),
 ])
 row(A, '| `syn_five_kinds` |', [])
 row(A, '| `syn_expr` |', ['| `syn_expr` | what a program names, at its root; and what callers are promised: the printer with a `FixupContext` (`print`), the four positions (`position`), and what follows of the readers and the printer together (`laws`) | `syn_expr_all`, `syn_expr_fixup`, `syn_expr_queries` |'])
@@ -71,6 +71,7 @@ for start in ('| **Exact reading of all forty kinds.**', '| Whether an expressio
         print('gone:', start[:60]); continue
     j = text.index('\n', i) + 1
     text = text[:i] + text[j:]
+text = text.replace("can be joined again. A law of the definitions: no code splits floats yet, and no reader has fields or calls behind a dot |", "can be joined again: a law of the definitions, by which a reader takes the indices that a float behind a dot is |")
 text = text.replace("Patterns have definitions and laws, and the structs of their kinds with printers (`syn_pat_kinds`); their type reaches expressions and comes with them. `syn_expr` doesn't stand on `syn_lower` yet: its paths, literals and attributes are those of the first kinds.\n\n", '')
 text = text.replace('''where the input is UTF-8, falls into tokens and some tree stands for the whole of them, it writes the text of that tree's own spelling and a newline, status 0;''', '''where the input is UTF-8, falls into tokens and some tree stands for the whole of them, it writes the text of what is printed of that tree in the position and a newline, status 0: tokens for which all holds that `print_expr` promises in that position;''')
 text = text.replace('''- Of `syn_expr` and the program: the other kinds of expressions, and the positions statement, condition and arm.\n''', '')
