@@ -78,3 +78,46 @@ text = text.replace("Patterns have definitions and laws, and the structs of thei
 text = text.replace('''`run` reads, over any reader and writers, and does exactly this: where the input is UTF-8, falls into tokens and some tree stands for the whole of them, it writes the text of that tree's own spelling and a newline, status 0;''', '''`run` reads, over any reader and writers, and does exactly this, for the position that it is told (plain, statement, condition, arm): where the input is UTF-8, falls into tokens and some tree stands for the whole of them in plain position, it writes the text of tokens that keep all promises of `print_expr` for that tree in the position (`PrintedAs`: they stand there for the same tree, in plain position they are its own spelling, parentheses are spared), and a newline, status 0;''')
 text = text.replace('''- Of `syn_expr` and the program: the other kinds of expressions, and the positions statement, condition and arm.\n''', '')
 open(P, 'w', encoding='utf-8').write(text)
+
+import sys
+has = set(sys.argv[1:])
+text = open(P, encoding='utf-8').read()
+extra = ''
+if 'laws' in has:
+    extra += '| **Equality.** `==` of two expressions, patterns, arms or fields, and of two structs that hold patterns, is true exactly where their trees are equal: it ignores places | `equal_expressions`, `equal_kinds_with_patterns` (`syn_expr_laws/src/same.rt`) | `tree_of` and its like in `syn_expr_all/specs/View.antt` |\n'
+if 'flatten' in has:
+    extra += '| **Flattening.** `flatten` takes out all parentheses, those in guards too, and puts their attributes before those of what they held | `flatten` (`@FLATSRC@`) | `flatten` in `Tree.antt` |\n'
+if 'well' in has:
+    extra += '| **The test of being well-formed** is exact | `is_well_formed` (`@WELLSRC@`) | `WellFormed.antt` |\n'
+text = text.replace('@EXTRA@', extra)
+brace = 'well' in has
+text = text.replace('@BRACE@', ', and whether they end with braces' if brace else '').replace('@BRACECALL@', ', `expr_trailing_brace`' if brace else '')
+text = text.replace('The gate tries those of `syn_tokens`, `syn_expr` and `exprfmt` that are named after what they break.', 'The gate tries those that are named after what they break.')
+text = text.replace('`syn_lower_tests`, `syn_expr_tests`)', '`syn_lower_tests`, `syn_expr_tests`, `exprfmt`)')
+text = text.replace('''- Speed: `bench/run` counts instructions.
+''', '''- Speed: `bench/run` counts instructions.
+- That each tree of at most four nodes over operators that compete is printed without a pair that could be left out, and read back: `syn_expr_sparing_tests` tries all of them, in plain, condition and arm position. It is a law as well, of well-formed trees of any size.
+''')
+if 'well' not in has:
+    text = text.replace('''## What is neither
+
+''', '''## What is neither
+
+- Whether a tree is well-formed is a definition that contracts name (`WellFormed.antt`), which no code of a whole tree decides yet; `flatten` is no code yet either.
+''')
+open(P, 'w', encoding='utf-8').write(text)
+row(A, '| `exprfmt`, `example` |', ['| `exprfmt` | the program in four positions (`run`, over readers and writers that are `watched` for failures) | `syn_expr` |', "| `example`, `example_lint`, `example_fold` | what a user would write: the README's example, which swaps operands; a lint that finds comparisons of a value with itself; the value of an operation on constants | `syn_expr` |"] )
+if 'laws' in has:
+    lines = open(A, encoding='utf-8').read().split('\n')
+    i = [k for k, l in enumerate(lines) if l.startswith('| `syn_expr` |')][0]
+    lines.insert(i + 1, '| `syn_expr_laws` | that `==` is equality of trees, as contracts of functions that do nothing (`same`) | `syn_expr_all` |')
+    open(A, 'w', encoding='utf-8').write('\n'.join(lines))
+sub(A, [
+    ('`syn_lower_tests`, `syn_expr_tests` | the tests of the crate that each is named after.', '`syn_lower_tests`, `syn_expr_tests`, `syn_expr_sparing_tests` | the tests of the crate that each is named after; `syn_expr_rows` has what the last two share: tables of expressions and positions.'),
+    ('(`syn_expr`, `syn_tokens`, `exprfmt`), and all others', '(in `syn_tokens`, `syn_op`, `syn_expr_notes`, `syn_expr_lists`, `syn_expr_readers`, `syn_expr`, `exprfmt`), and all others'),
+])
+sub('docs/DECISIONS.md', [('Decided in the definitions of `syn_grammar`; the code of the kinds beyond the first five follows them.', 'Decided in the definitions of `syn_grammar`; the code follows them.')])
+if 'well' not in has:
+    lines = open('docs/DIFFERENCES.md', encoding='utf-8').read().split('\n')
+    lines = [l for l in lines if not l.startswith('| no `flatten`, no `is_well_formed`')]
+    open('docs/DIFFERENCES.md', 'w', encoding='utf-8').write('\n'.join(lines))
