@@ -121,3 +121,7 @@ if 'well' not in has:
     lines = open('docs/DIFFERENCES.md', encoding='utf-8').read().split('\n')
     lines = [l for l in lines if not l.startswith('| no `flatten`, no `is_well_formed`')]
     open('docs/DIFFERENCES.md', 'w', encoding='utf-8').write('\n'.join(lines))
+sub('exprfmt', [
+    ('The first time takes some twenty minutes of one processor, since all that it stands on is proved then;\n# standard error shows how far that is.', 'The first time takes hours of one processor, since all that it stands on is proved then; standard\n# error shows how far that is.'),
+    ('runs it within a minute, by `rt try`, and says on standard error that nothing was proved.', 'runs it by `rt try` within minutes, and says on standard error that nothing was proved.'),
+])
