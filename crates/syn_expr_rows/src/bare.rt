@@ -14,6 +14,7 @@ fn boxed(alloc: Global, expr: Expr) -> Result<Box<Expr>, Error> {
 }
 
 /// An operand that may be missing.
+#[cycle(bare)]
 fn bare_if(alloc: Global, operand: Option<Box<Expr>>) -> Result<Option<Box<Expr>>, Error> {
     match operand {
         Some(x) => Ok(Some(bare(alloc, x)?)),
@@ -23,6 +24,7 @@ fn bare_if(alloc: Global, operand: Option<Box<Expr>>) -> Result<Option<Box<Expr>
 
 /// An expression without the parentheses round it and round the operands of operators, of jumps and of `let`, and round what
 /// trailers stand behind.
+#[cycle(bare)]
 pub fn bare(alloc: Global, expr: Box<Expr>) -> Result<Box<Expr>, Error> {
     match Box::into_inner(expr) {
         Expr::Paren(x) => bare(alloc, x.expr),
