@@ -1,0 +1,38 @@
+-- The arms of a `match`.
+use Rattle.std.proofs.Common.{◌≡◌, Bool, List, [], ◌∷◌, map, refl, ap, ◌∙◌}
+use Rattle.syn_parts.specs.Tree.{AttributeTree, ReturnTree, default, given}
+use Rattle.syn_parts.specs.Pat as p
+use Rattle.syn_parts.specs.Pat.{PatTree}
+use Rattle.syn_grammar.specs.Tree as e
+use Rattle.syn_grammar.specs.Tree.{Tree, Kids, Piece, ClosureHead, none, kid}
+use Rattle.syn_expr_kinds.specs.Pats.{ArmView, strays, guard_kids, arm_kids, arm_ending, arms, closure_by}
+use Rattle.syn_expr_flat.specs.Each.{Each}
+use Rattle.syn_expr_flat.specs.Flat.{IsFlat}
+use Rattle.syn_expr_flat.specs.Pats.{IsFlatArm}
+use Rattle.syn_expr_flat.proofs.Kids.{AreFlat, none_flat, kid_flat, strays_flat, leads_flat, frame_flat}
+use Rattle.syn_expr_flat.proofs.Nodes.{is_plain}
+
+guards_flat : (k : Piece) (g h : Tree) (gs hs : List Tree) (ts us : Kids) → IsFlat g h → Each IsFlat gs hs → AreFlat ts us
+    → AreFlat (guard_kids k g gs ts) (guard_kids k h hs us)
+unfolding Each
+guards_flat k g h [] [] ts us one all more = kid_flat k e.no_ending g h ts us one more
+guards_flat k g h (x ∷ gs) (y ∷ hs) ts us one all more = kid_flat e.stray e.no_ending g h (guard_kids k x gs ts) (guard_kids k y hs us) one (guards_flat k x y gs hs ts us all.0 all.1 more)
+guards_flat k g h [] (y ∷ hs) ts us one all more = absurd all
+guards_flat k g h (x ∷ gs) [] ts us one all more = absurd all
+
+abbrev no_guard : ArmView → ArmView → PatTree → List Tree → List Tree → Kids → Kids → Type 0
+no_guard a b t gs hs ts us = AreFlat (strays gs (kid (e.arm a.attrs t) (arm_ending a.comma) a.body ts)) (strays hs (kid (e.arm a.attrs t) (arm_ending a.comma) b.body us))
+
+arm_flat : (a b : ArmView) (t : PatTree) (gs hs : List Tree) (ts us : Kids) → b.attrs ≡ a.attrs → b.comma ≡ a.comma → IsFlat a.body b.body → Each IsFlat gs hs → AreFlat ts us
+    → AreFlat (arm_kids a t gs ts) (arm_kids b t hs us)
+unfolding Each
+arm_flat a b (p.guarded q) (g ∷ gs) (h ∷ hs) ts us at comma body all more = λ o.
+    ap (λ z. guard_kids (e.guard z q) h hs (kid e.guarded (arm_ending b.comma) b.body us)) at
+    ∙ ap (λ z. guard_kids (e.guard a.attrs q) h hs (kid e.guarded (arm_ending z) b.body us)) comma
+    ∙ guards_flat (e.guard a.attrs q) g h gs hs _ _ all.0 all.1 (kid_flat e.guarded (arm_ending a.comma) a.body b.body ts us body more) o
+arm_flat a b (p.guarded q) [] (h ∷ hs) ts us at comma body all more = absurd all
+arm_flat a b (p.guarded q) (g ∷ gs) [] ts us at comma body all more = absurd all
+arm_flat a b (p.guarded q) [] [] ts us at comma body all more = λ o.
+    ap (λ z. kid (e.arm z (p.guarded q)) (arm_ending b.comma) b.body us) at
+    ∙ ap (λ z. kid (e.arm a.attrs (p.guarded q)) (arm_ending z) b.body us) comma
+    ∙ kid_flat (e.arm a.attrs (p.guarded q)) (arm_ending a.comma) a.body b.body ts us body more o

@@ -1,0 +1,6 @@
+pub mod Arms
+pub mod Attrs
+pub mod Each
+pub mod Kids
+pub mod Nodes
+pub mod Pats

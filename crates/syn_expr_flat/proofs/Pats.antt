@@ -1,0 +1,28 @@
+-- Patterns in patterns, each without the parentheses of its guards.
+use Rattle.std.proofs.Common.{◌≡◌, Bool, List, [], ◌∷◌, ◌++◌, map, flat_map, Option, Some, None, refl, sym, ap, ◌∙◌}
+use Rattle.std.specs.declared.boxed.Box.{Box}
+use Rattle.std.specs.declared.alloc.Global.{Global}
+use Rattle.syn_grammar.specs.Tree.{Tree}
+use Rattle.syn_pat_kinds.specs.View.{PatView, pats_in, guards_in, values}
+use Rattle.syn_parts.specs.Pat as t
+use Rattle.syn_expr_flat.specs.Each.{Each}
+use Rattle.syn_expr_flat.specs.Flat.{IsFlat}
+use Rattle.syn_expr_flat.specs.Pats.{IsFlatPat}
+use Rattle.syn_expr_flat.proofs.Each.{each_none, each_one, each_both}
+
+same_trees : {P : Type 0} (f : P → PatView) (xs ys : List P) → Each (λ x y. IsFlatPat (f x) (f y)) xs ys → map (λ p. (f p).tree) ys ≡ map (λ p. (f p).tree) xs
+unfolding Each
+same_trees f [] [] h = refl
+same_trees f (x ∷ xs) (y ∷ ys) h = ap (λ z. z ∷ map (λ p. (f p).tree) ys) h.0.0 ∙ ap (λ l. (f x).tree ∷ l) (same_trees f xs ys h.1)
+same_trees f [] (y ∷ ys) h = absurd h
+same_trees f (x ∷ xs) [] h = absurd h
+
+pub same_pats : {P : Type 0} (f : P → PatView) (xs ys : List P) → Each (λ x y. IsFlatPat (f x) (f y)) xs ys → pats_in f ys ≡ pats_in f xs
+same_pats f xs ys h = ap t.pats_of (same_trees f xs ys h)
+
+pub guards_flat : {P : Type 0} (f : P → PatView) (xs ys : List P) → Each (λ x y. IsFlatPat (f x) (f y)) xs ys → Each IsFlat (guards_in f xs) (guards_in f ys)
+unfolding Each
+guards_flat f [] [] h = tt
+guards_flat f (x ∷ xs) (y ∷ ys) h = each_both IsFlat (f x).guards (guards_in f xs) (f y).guards (guards_in f ys) h.0.1 (guards_flat f xs ys h.1)
+guards_flat f [] (y ∷ ys) h = absurd h
+guards_flat f (x ∷ xs) [] h = absurd h
