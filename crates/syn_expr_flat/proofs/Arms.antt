@@ -7,9 +7,9 @@ use Rattle.syn_grammar.specs.Tree as e
 use Rattle.syn_grammar.specs.Tree.{Tree, Kids, Piece, ClosureHead, none, kid}
 use Rattle.syn_expr_kinds.specs.Pats.{ArmView, strays, guard_kids, arm_kids, arm_ending, arms, closure_by}
 use Rattle.syn_expr_flat.specs.Each.{Each}
-use Rattle.syn_expr_flat.specs.Flat.{IsFlat}
+use Rattle.syn_expr_flat.specs.Flat.{IsFlat, AreFlat}
 use Rattle.syn_expr_flat.specs.Pats.{IsFlatArm}
-use Rattle.syn_expr_flat.proofs.Kids.{AreFlat, none_flat, kid_flat, strays_flat, leads_flat, frame_flat}
+use Rattle.syn_expr_flat.proofs.Kids.{none_flat, kid_flat, strays_flat, leads_flat, frame_flat}
 use Rattle.syn_expr_flat.proofs.Nodes.{is_plain}
 
 guards_flat : (k : Piece) (g h : Tree) (gs hs : List Tree) (ts us : Kids) → IsFlat g h → Each IsFlat gs hs → AreFlat ts us

@@ -11,13 +11,8 @@ use Rattle.syn_lower_lists.specs.declared.punctuated.Punctuated.{Punctuated}
 use Rattle.syn_expr_kinds.specs.Pats.{strays}
 use Rattle.syn_expr_kinds.specs.View.{FieldView, boxed, elements, ending_of, fields, else_of, option_kid, range_between, jump_with}
 use Rattle.syn_expr_flat.specs.Each.{Each}
-use Rattle.syn_expr_flat.specs.Flat.{IsFlat}
-use Rattle.syn_expr_flat.specs.Outer.{HaveOuterParens}
+use Rattle.syn_expr_flat.specs.Flat.{IsFlat, AreFlat, IsFlatField}
 use Rattle.syn_expr_flat.proofs.Nodes.{is_plain, lead_flat, mid_flat, post_flat, leaf_flat}
-
--- us are ts without their parentheses
-abbrev pub AreFlat : Kids → Kids → Type 0
-AreFlat ts us = HaveOuterParens ts → us ≡ flatten_kids ts
 
 pub none_flat : AreFlat none none
 none_flat = λ h. refl
@@ -58,9 +53,6 @@ pub list_flat : {A P : Type 0} (f : A → Tree) (x y : Punctuated A P) → Each 
 list_flat f x y h same = λ o. ap (elements (map f (values y))) same ∙ elements_flat f (values x) (values y) (trails x) h o
 
 -- ---- fields
-
-abbrev pub IsFlatField : FieldView → FieldView → Type 0
-IsFlatField u v = (v.attrs ≡ u.attrs) × (v.member ≡ u.member) × (v.colon ≡ u.colon) × IsFlat u.value v.value
 
 fields_nil : {A : Type 0} (f : A → FieldView) (xs ys : List A) → Each (λ x y. IsFlatField (f x) (f y)) xs ys → is_nil (map f ys) ≡ is_nil (map f xs)
 unfolding Each
@@ -143,3 +135,5 @@ strays_flat [] [] ts us h more = more
 strays_flat (g ∷ gs) (k ∷ ks) ts us h more = kid_flat e.stray e.no_ending g k (strays gs ts) (strays ks us) h.0 (strays_flat gs ks ts us h.1 more)
 strays_flat [] (k ∷ ks) ts us h more = absurd h
 strays_flat (g ∷ gs) [] ts us h more = absurd h
+
+pub ruleset kids = (none_flat, kid_flat)

@@ -1,4 +1,3 @@
-pub mod Arms
 pub mod Attrs
 pub mod Each
 pub mod Kids

@@ -3,8 +3,12 @@ use Rattle.std.proofs.Common.{◌≡◌, Bool, List, [], ◌∷◌, ◌++◌, ma
 use Rattle.std.specs.declared.boxed.Box.{Box}
 use Rattle.std.specs.declared.alloc.Global.{Global}
 use Rattle.syn_grammar.specs.Tree.{Tree}
-use Rattle.syn_pat_kinds.specs.View.{PatView, pats_in, guards_in, values}
+use Rattle.std.specs.declared.vec.Vec.{Vec}
+use Rattle.syn_lower_leaves.specs.declared.attr.Attribute.{Attribute}
+use Rattle.syn_lower_lists.specs.declared.punctuated.Punctuated.{Punctuated}
+use Rattle.syn_pat_kinds.specs.View.{PatView, pats_in, guards_in, values, trails, view_with, attributed_by, attributes_of}
 use Rattle.syn_parts.specs.Pat as t
+use Rattle.syn_parts.specs.Pat.{PatTree, Pats}
 use Rattle.syn_expr_flat.specs.Each.{Each}
 use Rattle.syn_expr_flat.specs.Flat.{IsFlat}
 use Rattle.syn_expr_flat.specs.Pats.{IsFlatPat}
@@ -26,3 +30,15 @@ guards_flat f [] [] h = tt
 guards_flat f (x ∷ xs) (y ∷ ys) h = each_both IsFlat (f x).guards (guards_in f xs) (f y).guards (guards_in f ys) h.0.1 (guards_flat f xs ys h.1)
 guards_flat f [] (y ∷ ys) h = absurd h
 guards_flat f (x ∷ xs) [] h = absurd h
+
+attributed : (v : Vec Attribute Global) (p q : PatTree) (gs hs : List Tree) → q ≡ p → Each IsFlat gs hs → IsFlatPat (view_with v p gs) (view_with v q hs)
+attributed v p q gs hs same h = (ap (attributed_by (attributes_of v)) same, h)
+
+-- a pattern that holds one
+pub one_flat : (k : PatTree → PatTree) (v : Vec Attribute Global) (x y : PatView) → IsFlatPat x y → IsFlatPat (view_with v (k x.tree) x.guards) (view_with v (k y.tree) y.guards)
+one_flat k v x y h = attributed v (k x.tree) (k y.tree) x.guards y.guards (ap k h.0) h.1
+
+-- a pattern that holds a list
+pub list_flat : {P Q : Type 0} (k : Pats → Bool → PatTree) (v : Vec Attribute Global) (f : P → PatView) (x y : Punctuated P Q) → Each (λ a b. IsFlatPat (f a) (f b)) (values x) (values y)
+    → trails y ≡ trails x → IsFlatPat (view_with v (k (pats_in f (values x)) (trails x)) (guards_in f (values x))) (view_with v (k (pats_in f (values y)) (trails y)) (guards_in f (values y)))
+list_flat k v f x y h same = attributed v _ _ _ _ (ap (λ ps. k ps (trails y)) (same_pats f (values x) (values y) h) ∙ ap (k (pats_in f (values x))) same) (guards_flat f (values x) (values y) h)

@@ -5,13 +5,21 @@ use Rattle.std.specs.declared.alloc.Global.{Global}
 use Rattle.std.specs.declared.alloc.AllocError.{AllocError}
 use Rattle.syn_parts.specs.Tree.{AttributeTree}
 use Rattle.syn_lower_leaves.specs.declared.attr.Attribute.{Attribute}
-use Rattle.syn_grammar.specs.Tree.{Tree, prepend, flatten}
+use Rattle.syn_grammar.specs.Tree.{Tree, Kids, prepend, flatten, flatten_kids}
 use Rattle.syn_expr_kinds.specs.Attrs.{attrs_of, all_outer}
-use Rattle.syn_expr_flat.specs.Outer.{HasOuterParens}
+use Rattle.syn_expr_kinds.specs.View.{FieldView}
+use Rattle.syn_expr_flat.specs.Outer.{HasOuterParens, HaveOuterParens}
 
 -- u is t without its parentheses
 abbrev pub IsFlat : Tree → Tree → Type 0
 IsFlat t u = HasOuterParens t → u ≡ flatten t
+
+-- us are the operands ts without their parentheses
+abbrev pub AreFlat : Kids → Kids → Type 0
+AreFlat ts us = HaveOuterParens ts → us ≡ flatten_kids ts
+
+abbrev pub IsFlatField : FieldView → FieldView → Type 0
+IsFlatField u v = (v.attrs ≡ u.attrs) × (v.member ≡ u.member) × (v.colon ≡ u.colon) × IsFlat u.value v.value
 
 -- a call that flattens what it is given
 abbrev pub Flattens : {E : Type 0} → (E → Tree) → (E → Result E AllocError → Type 0) → Type 0
