@@ -20,8 +20,8 @@ guards_flat k g h (x ∷ gs) (y ∷ hs) ts us one all more = kid_flat e.stray e.
 guards_flat k g h [] (y ∷ hs) ts us one all more = absurd all
 guards_flat k g h (x ∷ gs) [] ts us one all more = absurd all
 
-abbrev no_guard : ArmView → ArmView → PatTree → List Tree → List Tree → Kids → Kids → Type 0
-no_guard a b t gs hs ts us = AreFlat (strays gs (kid (e.arm a.attrs t) (arm_ending a.comma) a.body ts)) (strays hs (kid (e.arm a.attrs t) (arm_ending a.comma) b.body us))
+
+
 
 arm_flat : (a b : ArmView) (t : PatTree) (gs hs : List Tree) (ts us : Kids) → b.attrs ≡ a.attrs → b.comma ≡ a.comma → IsFlat a.body b.body → Each IsFlat gs hs → AreFlat ts us
     → AreFlat (arm_kids a t gs ts) (arm_kids b t hs us)
@@ -36,3 +36,26 @@ arm_flat a b (p.guarded q) [] [] ts us at comma body all more = λ o.
     ap (λ z. kid (e.arm z (p.guarded q)) (arm_ending b.comma) b.body us) at
     ∙ ap (λ z. kid (e.arm a.attrs (p.guarded q)) (arm_ending z) b.body us) comma
     ∙ kid_flat (e.arm a.attrs (p.guarded q)) (arm_ending a.comma) a.body b.body ts us body more o
+arm_flat a b _ gs hs ts us at comma body all more = λ o.
+    ap (λ z. strays hs (kid (e.arm z _) (arm_ending b.comma) b.body us)) at
+    ∙ ap (λ z. strays hs (kid (e.arm a.attrs _) (arm_ending z) b.body us)) comma
+    ∙ strays_flat gs hs _ _ all (kid_flat (e.arm a.attrs _) (arm_ending a.comma) a.body b.body ts us body more) o
+
+pub arms_flat : {A : Type 0} (f : A → ArmView) (xs ys : List A) → Each (λ x y. IsFlatArm (f x) (f y)) xs ys → AreFlat (arms (map f xs)) (arms (map f ys))
+unfolding Each
+arms_flat f [] [] h = none_flat
+arms_flat f (x ∷ xs) (y ∷ ys) h = λ o.
+    ap (λ z. arm_kids (f y) z (f y).pat.guards (arms (map f ys))) h.0.1.0
+    ∙ arm_flat (f x) (f y) (f x).pat.tree (f x).pat.guards (f y).pat.guards (arms (map f xs)) (arms (map f ys)) h.0.0 h.0.3 h.0.2 h.0.1.1 (arms_flat f xs ys h.1) o
+arms_flat f [] (y ∷ ys) h = absurd h
+arms_flat f (x ∷ xs) [] h = absurd h
+
+-- ---- closures
+
+pub closure_plain : (r : ReturnTree) (h : ClosureHead) (gs : List Tree) (t : Tree) → is_plain (closure_by r h gs t) ≡ true
+closure_plain default h gs t = refl
+closure_plain (given ty) h gs t = refl
+
+pub closure_flat : (r : ReturnTree) (h : ClosureHead) (gs hs : List Tree) (t u : Tree) → Each IsFlat gs hs → IsFlat t u → IsFlat (closure_by r h gs t) (closure_by r h hs u)
+closure_flat default h gs hs t u all one = leads_flat (e.closure h) (strays gs none) (strays hs none) t u (strays_flat gs hs none none all none_flat) one
+closure_flat (given ty) h gs hs t u all one = frame_flat (e.closure_block h) _ _ (strays_flat gs hs _ _ all (kid_flat e.output_block e.no_ending t u none none one none_flat))

@@ -1,5 +1,6 @@
-pub mod Attrs
+pub mod Arms
 pub mod Each
+pub mod Kept
 pub mod Kids
 pub mod Nodes
 pub mod Pats

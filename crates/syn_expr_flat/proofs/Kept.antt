@@ -13,3 +13,5 @@ use Rattle.syn_expr_flat.specs.Flat.{IsFlatBehind}
 
 pub kept_behind : (v : Vec Attribute Global) (ts us : List Tok) → us ≡ attributes_own (attrs_of v) [] ++ ts → IsFlatBehind (Some v) (leaf (e.verbatim ts)) (leaf (e.verbatim us))
 kept_behind v ts us h = λ o p. ap (λ l. leaf (e.verbatim l)) (h ∙ sym (attributes_append (attrs_of v) ts))
+
+pub ruleset kept = (kept_behind)
