@@ -28,7 +28,7 @@ module _ {A B : Type 0} (R : A → B → Type 0) where
 
 pub ruleset each = (each_none, each_one, each_more)
 
-each_map : {A B C D : Type 0} (f : A → C) (g : B → D) (R : C → D → Type 0) (xs : List A) (ys : List B)
+pub each_map : {A B C D : Type 0} (f : A → C) (g : B → D) (R : C → D → Type 0) (xs : List A) (ys : List B)
     → Each (λ x y. R (f x) (g y)) xs ys → Each R (map f xs) (map g ys)
 unfolding Each
 each_map f g R [] [] h = h

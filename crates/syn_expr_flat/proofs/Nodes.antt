@@ -141,3 +141,5 @@ at_paren (Some w) [] v t u joined flat = λ o h.
     let same = joined ∙ append-nil (attrs_of w) in flat (ap all_outer same ∙ o) h ∙ ap (λ l. prepend l (flatten t)) same
 at_paren (Some w) (a ∷ more) v t u joined flat = λ o h.
     flat (ap all_outer joined ∙ outer_both (attrs_of w) (a ∷ more) o h.0) h.1 ∙ ap (λ l. prepend l (flatten t)) joined ∙ more_before (attrs_of w) (a ∷ more) (flatten t)
+
+pub ruleset parens = (at_paren)

@@ -14,7 +14,7 @@ use Rattle.syn_expr_flat.specs.Flat.{IsFlat}
 use Rattle.syn_expr_flat.specs.Pats.{IsFlatPat}
 use Rattle.syn_expr_flat.proofs.Each.{each_none, each_one, each_both}
 
-same_trees : {P : Type 0} (f : P → PatView) (xs ys : List P) → Each (λ x y. IsFlatPat (f x) (f y)) xs ys → map (λ p. (f p).tree) ys ≡ map (λ p. (f p).tree) xs
+pub same_trees : {P : Type 0} (f : P → PatView) (xs ys : List P) → Each (λ x y. IsFlatPat (f x) (f y)) xs ys → map (λ p. (f p).tree) ys ≡ map (λ p. (f p).tree) xs
 unfolding Each
 same_trees f [] [] h = refl
 same_trees f (x ∷ xs) (y ∷ ys) h = ap (λ z. z ∷ map (λ p. (f p).tree) ys) h.0.0 ∙ ap (λ l. (f x).tree ∷ l) (same_trees f xs ys h.1)
@@ -42,3 +42,9 @@ one_flat k v x y h = attributed v (k x.tree) (k y.tree) x.guards y.guards (ap k 
 pub list_flat : {P Q : Type 0} (k : Pats → Bool → PatTree) (v : Vec Attribute Global) (f : P → PatView) (x y : Punctuated P Q) → Each (λ a b. IsFlatPat (f a) (f b)) (values x) (values y)
     → trails y ≡ trails x → IsFlatPat (view_with v (k (pats_in f (values x)) (trails x)) (guards_in f (values x))) (view_with v (k (pats_in f (values y)) (trails y)) (guards_in f (values y)))
 list_flat k v f x y h same = attributed v _ _ _ _ (ap (λ ps. k ps (trails y)) (same_pats f (values x) (values y) h) ∙ ap (k (pats_in f (values x))) same) (guards_flat f (values x) (values y) h)
+
+-- a pattern that holds no other
+pub alone_flat : (v : Vec Attribute Global) (p : PatTree) → IsFlatPat (view_with v p []) (view_with v p [])
+alone_flat v p = (refl, each_none IsFlat)
+
+pub ruleset leaves = (alone_flat)
