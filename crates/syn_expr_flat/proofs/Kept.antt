@@ -12,6 +12,11 @@ use Rattle.syn_expr_kinds.specs.Attrs.{attrs_of}
 use Rattle.syn_expr_flat.specs.Flat.{IsFlatBehind}
 
 pub kept_behind : (v : Vec Attribute Global) (ts us : List Tok) → us ≡ attributes_own (attrs_of v) [] ++ ts → IsFlatBehind (Some v) (leaf (e.verbatim ts)) (leaf (e.verbatim us))
+unfolding IsFlatBehind
 kept_behind v ts us h = λ o p. ap (λ l. leaf (e.verbatim l)) (h ∙ sym (attributes_append (attrs_of v) ts))
 
-pub ruleset kept = (kept_behind)
+pub kept_alone : (ts : List Tok) → IsFlatBehind None (leaf (e.verbatim ts)) (leaf (e.verbatim ts))
+unfolding IsFlatBehind
+kept_alone ts = λ o p. refl
+
+pub ruleset kept = (kept_behind, kept_alone)

@@ -1,4 +1,6 @@
 -- Operands in places of their own, each without its parentheses.
+use Rattle.std.specs.Prelude.{not, ◌&&◌}
+use Rattle.syn_parts.specs.Tree.{QSelfTree, PathTree}
 use Rattle.std.proofs.Common.{◌≡◌, Bool, List, [], ◌∷◌, map, Option, Some, None, is_some, true, refl, ap, ◌∙◌}
 use Rattle.std.specs.declared.boxed.Box.{Box}
 use Rattle.std.specs.declared.alloc.Global.{Global}
@@ -12,21 +14,26 @@ use Rattle.syn_expr_kinds.specs.Pats.{strays}
 use Rattle.syn_expr_kinds.specs.View.{FieldView, boxed, elements, ending_of, fields, else_of, option_kid, range_between, jump_with}
 use Rattle.syn_expr_flat.specs.Each.{Each}
 use Rattle.syn_expr_flat.specs.Flat.{IsFlat, AreFlat, IsFlatField}
-use Rattle.syn_expr_flat.proofs.Nodes.{is_plain, lead_flat, mid_flat, post_flat, leaf_flat}
+use Rattle.syn_expr_flat.proofs.Nodes.{same_flat, is_plain, lead_flat, mid_flat, post_flat, leaf_flat}
 
 pub none_flat : AreFlat none none
+unfolding AreFlat
 none_flat = λ h. refl
 
 pub kid_flat : (k : Piece) (c : Ending) (t u : Tree) (ts us : Kids) → IsFlat t u → AreFlat ts us → AreFlat (kid k c t ts) (kid k c u us)
+unfolding IsFlat AreFlat
 kid_flat k c t u ts us one more = λ h. ap (λ z. kid k c z us) (one h.0) ∙ ap (kid k c (flatten t)) (more h.1)
 
 pub frame_flat : (k : e.Frame) (ts us : Kids) → AreFlat ts us → IsFlat (frame k ts) (frame k us)
+unfolding IsFlat AreFlat
 frame_flat k ts us all = λ h. ap (frame k) (all h)
 
 pub tail_flat : (k : e.Trailer) (b c : Tree) (ts us : Kids) → IsFlat b c → AreFlat ts us → IsFlat (tail b k ts) (tail c k us)
+unfolding IsFlat AreFlat
 tail_flat k b c ts us one all = λ h. ap (λ z. tail z k us) (one h.0) ∙ ap (tail (flatten b) k) (all h.1)
 
 pub leads_flat : (k : e.Lead) (ts us : Kids) (t u : Tree) → AreFlat ts us → IsFlat t u → IsFlat (lead k ts t) (lead k us u)
+unfolding IsFlat AreFlat
 leads_flat k ts us t u all one = λ h. ap (λ z. lead k z u) (all h.0) ∙ ap (lead k (flatten_kids ts)) (one h.1)
 
 -- ---- lists
@@ -40,7 +47,7 @@ each_nil f (x ∷ xs) [] h = absurd h
 
 elements_flat : {A : Type 0} (f : A → Tree) (xs ys : List A) (b : Bool) → Each (λ x y. IsFlat (f x) (f y)) xs ys
     → AreFlat (elements (map f xs) b) (elements (map f ys) b)
-unfolding Each
+unfolding Each AreFlat
 elements_flat f [] [] b h = none_flat
 elements_flat f (x ∷ xs) (y ∷ ys) b h = λ o.
     ap (λ z. kid e.element (ending_of z b) (f y) (elements (map f ys) b)) (each_nil f xs ys h.1)
@@ -50,6 +57,7 @@ elements_flat f (x ∷ xs) [] b h = absurd h
 
 pub list_flat : {A P : Type 0} (f : A → Tree) (x y : Punctuated A P) → Each (λ x y. IsFlat (f x) (f y)) (values x) (values y) → trails y ≡ trails x
     → AreFlat (elements (map f (values x)) (trails x)) (elements (map f (values y)) (trails y))
+unfolding AreFlat
 list_flat f x y h same = λ o. ap (elements (map f (values y))) same ∙ elements_flat f (values x) (values y) (trails x) h o
 
 -- ---- fields
@@ -63,7 +71,7 @@ fields_nil f (x ∷ xs) [] h = absurd h
 
 fields_flat : {A : Type 0} (f : A → FieldView) (xs ys : List A) (b : Bool) (ts us : Kids) → Each (λ x y. IsFlatField (f x) (f y)) xs ys → AreFlat ts us
     → AreFlat (fields (map f xs) b ts) (fields (map f ys) b us)
-unfolding Each
+unfolding Each AreFlat
 fields_flat f [] [] b ts us h more = more
 fields_flat f (x ∷ xs) (y ∷ ys) b ts us h more = λ o.
     ap (λ z. kid (e.field_value (f y).attrs (f y).member (f y).colon) (ending_of z b) (f y).value (fields (map f ys) b us)) (fields_nil f xs ys h.1)
@@ -76,6 +84,7 @@ fields_flat f (x ∷ xs) [] b ts us h more = absurd h
 
 pub struct_flat : {A P : Type 0} (f : A → FieldView) (x y : Punctuated A P) (ts us : Kids) → Each (λ x y. IsFlatField (f x) (f y)) (values x) (values y) → trails y ≡ trails x
     → AreFlat ts us → AreFlat (fields (map f (values x)) (trails x) ts) (fields (map f (values y)) (trails y) us)
+unfolding AreFlat
 struct_flat f x y ts us h same more = λ o. ap (λ b. fields (map f (values y)) b us) same ∙ fields_flat f (values x) (values y) (trails x) ts us h more o
 
 -- ---- operands that may be there
@@ -97,6 +106,12 @@ module _ {E : Type 0} (f : E → Tree) where
   same_some (Some x) (Some y) h = refl
   same_some None (Some y) h = absurd h
   same_some (Some x) None h = absurd h
+
+  -- a struct expression whose rest, if it has one, was flattened
+  pub same_rest : (q : QSelfTree) (p : PathTree) (dots : Bool) (x y : Option (Box E Global)) (ts us : Kids) → IsFlatSome x y → AreFlat ts us
+      → IsFlat (frame (e.structure q p (dots && not (is_some (boxed f x)))) ts) (frame (e.structure q p (dots && not (is_some (boxed f y)))) us)
+  same_rest q p dots x y ts us h all =
+      same_flat _ _ _ (ap (λ b. frame (e.structure q p (dots && not b)) us) (same_some x y h)) (frame_flat (e.structure q p (dots && not (is_some (boxed f x)))) ts us all)
 
   pub jump_plain : (j : Jump) (x : Option (Box E Global)) → is_plain (jump_with j (boxed f x)) ≡ true
   jump_plain j None = refl

@@ -64,21 +64,31 @@ pub at_node : (ats : Option (Vec Attribute Global)) (own now : List AttributeTre
     → (all_outer (before ats) ≡ true → now ≡ before ats ++ own)
     → (all_outer (before ats) ≡ true → IsFlat t u)
     → IsFlatBehind ats (adorn own t) (adorn now u)
+unfolding IsFlat IsFlatBehind
 at_node ats own now t u plain joined flat = λ o h.
     ap (λ l. adorn l u) (joined o) ∙ ap (adorn (before ats ++ own)) (flat o (outer_inside own t h)) ∙ sym (behind_plain ats own t plain)
+
+-- by what it is equal to
+pub same_flat : (t u u' : Tree) → u' ≡ u → IsFlat t u → IsFlat t u'
+unfolding IsFlat
+same_flat t u u' same flat = λ h. same ∙ flat h
 
 -- ---- by shape
 
 pub leaf_flat : (k : Leaf) → IsFlat (leaf k) (leaf k)
+unfolding IsFlat
 leaf_flat k = λ h. refl
 
 pub lead_flat : (k : e.Lead) (t u : Tree) → IsFlat t u → IsFlat (lead k none t) (lead k none u)
+unfolding IsFlat
 lead_flat k t u flat = λ h. ap (lead k none) (flat h.1)
 
 pub mid_flat : (k : Infix) (x y t u : Tree) → IsFlat x t → IsFlat y u → IsFlat (mid x k y) (mid t k u)
+unfolding IsFlat
 mid_flat k x y t u left right = λ h. ap (λ z. mid z k u) (left h.0) ∙ ap (mid (flatten x) k) (right h.1)
 
 pub post_flat : (k : e.Post) (t u : Tree) → IsFlat t u → IsFlat (post t k) (post u k)
+unfolding IsFlat
 post_flat k t u flat = λ h. ap (λ z. post z k) (flat h)
 
 -- ---- parentheses
@@ -135,6 +145,7 @@ outer_both (a ∷ more) ys h k =
 -- what parentheses held, behind their attributes too
 pub at_paren : (ats : Option (Vec Attribute Global)) (own : List AttributeTree) (v : Vec Attribute Global) (t u : Tree)
     → attrs_of v ≡ before ats ++ own → IsFlatBehind (Some v) t u → IsFlatBehind ats (adorn own (paren false t)) u
+unfolding IsFlatBehind
 at_paren None [] v t u joined flat = λ o h. flat (ap all_outer joined) h ∙ ap (λ l. prepend l (flatten t)) joined ∙ none_before (flatten t)
 at_paren None (a ∷ more) v t u joined flat = λ o h. flat (ap all_outer joined ∙ h.0) h.1 ∙ ap (λ l. prepend l (flatten t)) joined
 at_paren (Some w) [] v t u joined flat = λ o h.
@@ -142,4 +153,9 @@ at_paren (Some w) [] v t u joined flat = λ o h.
 at_paren (Some w) (a ∷ more) v t u joined flat = λ o h.
     flat (ap all_outer joined ∙ outer_both (attrs_of w) (a ∷ more) o h.0) h.1 ∙ ap (λ l. prepend l (flatten t)) joined ∙ more_before (attrs_of w) (a ∷ more) (flatten t)
 
-pub ruleset parens = (at_paren)
+-- where no parentheses stood round it
+pub none_behind : (t u : Tree) → IsFlatBehind None t u → IsFlat t u
+unfolding IsFlat IsFlatBehind
+none_behind t u flat = λ h. flat refl h
+
+pub ruleset parens = (at_paren, none_behind)

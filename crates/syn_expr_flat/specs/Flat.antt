@@ -11,11 +11,11 @@ use Rattle.syn_expr_kinds.specs.View.{FieldView}
 use Rattle.syn_expr_flat.specs.Outer.{HasOuterParens, HaveOuterParens}
 
 -- u is t without its parentheses
-abbrev pub IsFlat : Tree → Tree → Type 0
+unfoldable pub IsFlat : Tree → Tree → Type 0
 IsFlat t u = HasOuterParens t → u ≡ flatten t
 
 -- us are the operands ts without their parentheses
-abbrev pub AreFlat : Kids → Kids → Type 0
+unfoldable pub AreFlat : Kids → Kids → Type 0
 AreFlat ts us = HaveOuterParens ts → us ≡ flatten_kids ts
 
 abbrev pub IsFlatField : FieldView → FieldView → Type 0
@@ -36,5 +36,5 @@ behind None t = t
 behind (Some v) t = prepend (attrs_of v) t
 
 -- u is t without its parentheses, behind these outer attributes
-abbrev pub IsFlatBehind : Option (Vec Attribute Global) → Tree → Tree → Type 0
+unfoldable pub IsFlatBehind : Option (Vec Attribute Global) → Tree → Tree → Type 0
 IsFlatBehind ats t u = all_outer (before ats) ≡ true → HasOuterParens t → u ≡ behind ats (flatten t)

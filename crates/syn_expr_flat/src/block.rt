@@ -22,7 +22,10 @@ fn else_branch<E: HasExprTree + Drop, F: Fn(E) -> Flattened<E>>(
     ensures { IfOk result (λ y. AreFlat (else_of E.tree x) (else_of E.tree y)) }
 {
     match x {
-        Some((token, x)) => Ok(Some((token, boxed(x, flatten)?))),
+        Some(both) => {
+            let (token, x) = both;
+            Ok(Some((token, boxed(x, flatten)?)))
+        }
         None => Ok(None),
     }
 }

@@ -5,17 +5,20 @@ ghost use Rattle.std.specs.Option.{ForSome};
 ghost use Rattle.syn_pat_kinds.specs.View.{pat_ident_of, pat_or_of, pat_paren_of, pat_reference_of, pat_slice_of, pat_struct_of, pat_tuple_of, pat_tuple_struct_of, pat_type_of, sub_guards, sub_of};
 ghost use Rattle.syn_pat_kinds.specs.declared.pat.FieldPatKindOf.TheVariants as field;
 ghost use Rattle.syn_pat_kinds.specs.declared.pat.FullFieldPatOf.{FullFieldPatOf};
+ghost use Rattle.syn_pat_kinds.specs.declared.pat.FieldPatOf.{FieldPatOf};
+ghost use Rattle.syn_lower_lists.specs.View.{last_of, trails, values};
 ghost use Rattle.syn_expr_flat.specs.Each.{Each};
 ghost use Rattle.syn_expr_flat.specs.Flat.{IsFlat};
 ghost use Rattle.syn_expr_flat.specs.Pats.{FlattensPat, IsFlatPat, IsFlatKind, IsFlatFieldPat};
 
 use crate::operands::{Flattened, boxed, punctuated};
+use syn_lower::punctuated::Punctuated;
 use syn_pat_kinds::kinds::HasPatTree;
 use syn_pat_kinds::pat::{
     FieldPatKindOf, FieldPatOf, FullFieldPatOf, PatIdentOf, PatOrOf, PatParenOf, PatReferenceOf,
     PatSliceOf, PatStructOf, PatTupleOf, PatTupleStructOf, PatTypeOf,
 };
-use syn_tokens::token::At;
+use syn_tokens::token::{At, Comma};
 
 /// What stands behind `@`, without the parentheses in its guards.
 #[tactic(auto, using(crate::proofs::Each::each))]
@@ -29,7 +32,10 @@ fn sub_pattern<P: HasPatTree + Drop, F: Fn(P) -> Flattened<P>>(
     ensures flat { IfOk result (λ y. Each IsFlat (sub_guards P.view x) (sub_guards P.view y)) }
 {
     match x {
-        Some((token, x)) => Ok(Some((token, boxed(x, flatten)?))),
+        Some(both) => {
+            let (token, x) = both;
+            Ok(Some((token, boxed(x, flatten)?)))
+        }
         None => Ok(None),
     }
 }
@@ -83,6 +89,62 @@ fn field_pat<P: HasPatTree + Drop, F: Fn(P) -> Flattened<P>>(
     })
 }
 
+/// The fields that commas follow.
+#[tactic(auto, using(crate::proofs::Each::each))]
+fn pairs<P: HasPatTree + Drop, F: Fn(P) -> Flattened<P>>(
+    xs: Vec<(FieldPatOf<P>, Comma)>,
+    flatten: F,
+) -> Flattened<Vec<(FieldPatOf<P>, Comma)>>
+    requires inner { (q : FieldPatOf P × _) (p : FullFieldPatOf P) → Contains xs.items q → q.0.kind ≡ field.Full p → F.pre flatten p.pat.value }
+    requires gives { FlattensPat P.view (F.post flatten) }
+    ensures { IfOk result (λ ys. Each (λ p q. IsFlatFieldPat P.view p.0 q.0) xs.items ys.items) }
+{
+    let mut out = Vec::new(*xs.allocator());
+    for (x, comma) in xs {
+        out.push((field_pat(x, &flatten)?, comma))?;
+    }
+    Ok(out)
+}
+
+/// The field that none follows.
+#[tactic(auto, using(crate::proofs::Each::each))]
+fn last_field<P: HasPatTree + Drop, F: Fn(P) -> Flattened<P>>(
+    x: Option<Box<FieldPatOf<P>>>,
+    flatten: F,
+) -> Flattened<Option<Box<FieldPatOf<P>>>>
+    requires inner { (b : _) (p : FullFieldPatOf P) → x ≡ Some b → b.value.kind ≡ field.Full p → F.pre flatten p.pat.value }
+    requires gives { FlattensPat P.view (F.post flatten) }
+    ensures { IfOk result (λ y. Each (λ a b. IsFlatFieldPat P.view a b) (last_of x) (last_of y)) }
+{
+    match x {
+        Some(x) => {
+            let alloc = *Box::allocator(&x);
+            Ok(Some(Box::new(
+                alloc,
+                field_pat(Box::into_inner(x), flatten)?,
+            )?))
+        }
+        None => Ok(None),
+    }
+}
+
+/// The fields, without the parentheses in their guards.
+fn fields<P: HasPatTree + Drop, F: Fn(P) -> Flattened<P>>(
+    x: Punctuated<FieldPatOf<P>, Comma>,
+    flatten: F,
+) -> Flattened<Punctuated<FieldPatOf<P>, Comma>>
+    requires inner { (q : _) (p : FullFieldPatOf P) → Contains x.inner.items q → q.0.kind ≡ field.Full p → F.pre flatten p.pat.value }
+    requires last { (b : _) (p : FullFieldPatOf P) → x.last ≡ Some b → b.value.kind ≡ field.Full p → F.pre flatten p.pat.value }
+    requires gives { FlattensPat P.view (F.post flatten) }
+    ensures values { IfOk result (λ y. Each (λ a b. IsFlatFieldPat P.view a b) (values x) (values y)) }
+    ensures trails { IfOk result (λ y. trails y ≡ trails x) }
+{
+    let Punctuated { inner, last } = x;
+    let inner = pairs(inner, &flatten)?;
+    let last = last_field(last, flatten)?;
+    Ok(Punctuated { inner, last })
+}
+
 /// It without the parentheses in its guards.
 pub fn struct_pat<P: HasPatTree + Drop, F: Fn(P) -> Flattened<P>>(
     x: PatStructOf<P>,
@@ -94,7 +156,7 @@ pub fn struct_pat<P: HasPatTree + Drop, F: Fn(P) -> Flattened<P>>(
     ensures { IfOk result (λ y. IsFlatPat (pat_struct_of P.view x) (pat_struct_of P.view y)) }
 {
     Ok(PatStructOf {
-        fields: punctuated(x.fields, |field| field_pat(field, &flatten))?,
+        fields: fields(x.fields, flatten)?,
         ..x
     })
 }
