@@ -9,12 +9,13 @@ ghost use Rattle.syn_expr_all.specs.declared.control.ExprForLoop.{out-ExprForLoo
 ghost use Rattle.syn_expr_all.specs.declared.control.ExprLet.{out-ExprLet};
 ghost use Rattle.syn_expr_all.specs.declared.control.ExprMatch.{out-ExprMatch};
 ghost use Rattle.syn_expr_all.specs.declared.pat.PatGuard.{out-PatGuard};
+ghost use Rattle.syn_expr_flat.specs.Each.{Each};
 ghost use Rattle.syn_expr_flat.specs.Flat.{Flattens, IsFlatBehind};
 ghost use Rattle.syn_expr_flat.specs.Pats.{FlattensPat, IsFlatArm, IsFlatPat};
 
 use syn_expr_all::{Arm, Expr, ExprClosure, ExprForLoop, ExprLet, ExprMatch, Pat, PatGuard};
 use syn_expr_flat::attrs::{Before, joined};
-use syn_expr_flat::operands::{Flattened, all, boxed, punctuated};
+use syn_expr_flat::operands::{Flattened, boxed, punctuated};
 
 /// It without the parentheses in it, behind more attributes.
 pub fn closure<F: Fn(Expr) -> Flattened<Expr>, G: Fn(Pat) -> Flattened<Pat>>(
@@ -116,6 +117,26 @@ fn arm<F: Fn(Expr) -> Flattened<Expr>, G: Fn(Pat) -> Flattened<Pat>>(
     })
 }
 
+/// Arms, each without the parentheses in it.
+#[tactic(auto, using(syn_expr_flat::proofs::Each::each))]
+fn cases<F: Fn(Expr) -> Flattened<Expr>, G: Fn(Pat) -> Flattened<Pat>>(
+    xs: Vec<Arm>,
+    flatten: F,
+    flatten_pat: G,
+) -> Flattened<Vec<Arm>>
+    requires patterns { (x : Arm) → Contains xs.items x → G.pre flatten_pat (out-Arm x).pat }
+    requires bodies { (x : Arm) → Contains xs.items x → F.pre flatten (out-Arm x).body.value }
+    requires gives { Flattens tree_of (F.post flatten) }
+    requires gives_pat { FlattensPat pat_of (G.post flatten_pat) }
+    ensures { IfOk result (λ ys. Each (λ a b. IsFlatArm (arm_of a) (arm_of b)) xs.items ys.items) }
+{
+    let mut out = Vec::new(*xs.allocator());
+    for x in xs {
+        out.push(arm(x, &flatten, &flatten_pat)?)?;
+    }
+    Ok(out)
+}
+
 /// It without the parentheses in it, behind more attributes.
 pub fn choice<F: Fn(Expr) -> Flattened<Expr>, G: Fn(Pat) -> Flattened<Pat>>(
     x: ExprMatch,
@@ -136,7 +157,7 @@ pub fn choice<F: Fn(Expr) -> Flattened<Expr>, G: Fn(Pat) -> Flattened<Pat>>(
         match_token,
         expr: boxed(expr, &flatten)?,
         brace_token,
-        arms: all(arms, |x| arm(x, &flatten, &flatten_pat))?,
+        arms: cases(arms, flatten, flatten_pat)?,
     })
 }
 

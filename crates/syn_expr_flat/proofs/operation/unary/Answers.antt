@@ -1,7 +1,3 @@
-use Rattle.syn_expr_flat.proofs.Arms.{arms_flat}
-use Rattle.syn_expr_flat.proofs.Kept.{kept_behind}
-use Rattle.syn_expr_flat.proofs.Kids.{range_flat}
-use Rattle.syn_expr_flat.proofs.Pats.{struct_flat}
 use Rattle.std.proofs.Common.{refl}
 use Rattle.syn_expr_flat.proofs.Nodes.{at_node, lead_flat}
 use Rattle.syn_expr_flat.proofs.operation.unary.Goals as goal

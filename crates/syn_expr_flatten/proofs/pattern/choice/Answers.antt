@@ -6,4 +6,4 @@ use Rattle.syn_expr_flatten.proofs.Members.{match_behind, seen}
 use Rattle.syn_expr_flatten.proofs.pattern.choice.Goals as goal
 
 pub returns : goal.returns
-returns g c = seen _ _ _ _ _ (choice-is c.args.x) (choice-is _ ∙ ap (choice_layer views) (out-roll-ExprMatch _)) (match_behind views.tree views.arm (choice_parts (out-ExprMatch c.args.x)) _ _ _ c.args.attrs c.in_ok-joined.ensures.outer c.in_ok-joined.ensures.inner (c.requires.gives _ _ c.in_ok-boxed.ensures) ?)
+returns g c = seen _ _ _ _ _ (choice-is c.args.x) (choice-is _ ∙ ap (choice_layer views) (out-roll-ExprMatch _)) (match_behind views.tree views.arm (choice_parts (out-ExprMatch c.args.x)) _ _ _ c.args.attrs c.in_ok-joined.ensures.outer c.in_ok-joined.ensures.inner (c.requires.gives _ _ c.in_ok-boxed.ensures) c.in_ok-cases.ensures)
