@@ -59,10 +59,10 @@ pub fn ident<P: HasPatTree + Drop, F: Fn(P) -> Flattened<P>>(
 #[tactic(auto, using(crate::proofs::Each::each))]
 fn field_kind<P: HasPatTree + Drop, F: Fn(P) -> Flattened<P>>(
     x: FieldPatKindOf<P>,
-    flatten: F,
+    flatten: &F,
 ) -> Flattened<FieldPatKindOf<P>>
-    requires inner { (p : FullFieldPatOf P) → x ≡ field.Full p → F.pre flatten p.pat.value }
-    requires gives { FlattensPat P.view (F.post flatten) }
+    requires inner { (p : FullFieldPatOf P) → x ≡ field.Full p → F.pre flatten.now p.pat.value }
+    requires gives { FlattensPat P.view (F.post flatten.now) }
     ensures { IfOk result (λ y. IsFlatKind P.view x y) }
 {
     match x {
@@ -77,10 +77,10 @@ fn field_kind<P: HasPatTree + Drop, F: Fn(P) -> Flattened<P>>(
 /// A field without the parentheses in its guards.
 fn field_pat<P: HasPatTree + Drop, F: Fn(P) -> Flattened<P>>(
     x: FieldPatOf<P>,
-    flatten: F,
+    flatten: &F,
 ) -> Flattened<FieldPatOf<P>>
-    requires inner { (p : FullFieldPatOf P) → x.kind ≡ field.Full p → F.pre flatten p.pat.value }
-    requires gives { FlattensPat P.view (F.post flatten) }
+    requires inner { (p : FullFieldPatOf P) → x.kind ≡ field.Full p → F.pre flatten.now p.pat.value }
+    requires gives { FlattensPat P.view (F.post flatten.now) }
     ensures { IfOk result (λ y. IsFlatFieldPat P.view x y) }
 {
     Ok(FieldPatOf {
@@ -121,7 +121,7 @@ fn last_field<P: HasPatTree + Drop, F: Fn(P) -> Flattened<P>>(
             let alloc = *Box::allocator(&x);
             Ok(Some(Box::new(
                 alloc,
-                field_pat(Box::into_inner(x), flatten)?,
+                field_pat(Box::into_inner(x), &flatten)?,
             )?))
         }
         None => Ok(None),

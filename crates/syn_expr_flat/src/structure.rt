@@ -18,10 +18,10 @@ use syn_tokens::token::Comma;
 /// A field without the parentheses in it.
 fn field_value<E: HasExprTree + Drop, F: Fn(E) -> Flattened<E>>(
     x: FieldValueOf<E>,
-    flatten: F,
+    flatten: &F,
 ) -> Flattened<FieldValueOf<E>>
-    requires value { F.pre flatten x.expr }
-    requires gives { Flattens E.tree (F.post flatten) }
+    requires value { F.pre flatten.now x.expr }
+    requires gives { Flattens E.tree (F.post flatten.now) }
     ensures { IfOk result (λ y. IsFlatField (field_value_of E.tree x) (field_value_of E.tree y)) }
 {
     Ok(FieldValueOf {
@@ -62,7 +62,7 @@ fn last_field<E: HasExprTree + Drop, F: Fn(E) -> Flattened<E>>(
             let alloc = *Box::allocator(&x);
             Ok(Some(Box::new(
                 alloc,
-                field_value(Box::into_inner(x), flatten)?,
+                field_value(Box::into_inner(x), &flatten)?,
             )?))
         }
         None => Ok(None),
