@@ -93,15 +93,15 @@ fn field_pat<P: HasPatTree + Drop, F: Fn(P) -> Flattened<P>>(
 #[tactic(auto, using(crate::proofs::Each::each))]
 fn pairs<P: HasPatTree + Drop, F: Fn(P) -> Flattened<P>>(
     xs: Vec<(FieldPatOf<P>, Comma)>,
-    flatten: F,
+    flatten: &F,
 ) -> Flattened<Vec<(FieldPatOf<P>, Comma)>>
-    requires inner { (q : FieldPatOf P × _) (p : FullFieldPatOf P) → Contains xs.items q → q.0.kind ≡ field.Full p → F.pre flatten p.pat.value }
-    requires gives { FlattensPat P.view (F.post flatten) }
+    requires inner { (x : FieldPatOf P) (comma : _) (p : FullFieldPatOf P) → Contains xs.items (x, comma) → x.kind ≡ field.Full p → F.pre flatten.now p.pat.value }
+    requires gives { FlattensPat P.view (F.post flatten.now) }
     ensures { IfOk result (λ ys. Each (λ p q. IsFlatFieldPat P.view p.0 q.0) xs.items ys.items) }
 {
     let mut out = Vec::new(*xs.allocator());
     for (x, comma) in xs {
-        out.push((field_pat(x, &flatten)?, comma))?;
+        out.push((field_pat(x, flatten)?, comma))?;
     }
     Ok(out)
 }
@@ -110,10 +110,10 @@ fn pairs<P: HasPatTree + Drop, F: Fn(P) -> Flattened<P>>(
 #[tactic(auto, using(crate::proofs::Each::each))]
 fn last_field<P: HasPatTree + Drop, F: Fn(P) -> Flattened<P>>(
     x: Option<Box<FieldPatOf<P>>>,
-    flatten: F,
+    flatten: &F,
 ) -> Flattened<Option<Box<FieldPatOf<P>>>>
-    requires inner { (b : _) (p : FullFieldPatOf P) → x ≡ Some b → b.value.kind ≡ field.Full p → F.pre flatten p.pat.value }
-    requires gives { FlattensPat P.view (F.post flatten) }
+    requires inner { (b : _) (p : FullFieldPatOf P) → x ≡ Some b → b.value.kind ≡ field.Full p → F.pre flatten.now p.pat.value }
+    requires gives { FlattensPat P.view (F.post flatten.now) }
     ensures { IfOk result (λ y. Each (λ a b. IsFlatFieldPat P.view a b) (last_of x) (last_of y)) }
 {
     match x {
@@ -121,7 +121,7 @@ fn last_field<P: HasPatTree + Drop, F: Fn(P) -> Flattened<P>>(
             let alloc = *Box::allocator(&x);
             Ok(Some(Box::new(
                 alloc,
-                field_pat(Box::into_inner(x), &flatten)?,
+                field_pat(Box::into_inner(x), flatten)?,
             )?))
         }
         None => Ok(None),
@@ -141,7 +141,7 @@ fn fields<P: HasPatTree + Drop, F: Fn(P) -> Flattened<P>>(
 {
     let Punctuated { inner, last } = x;
     let inner = pairs(inner, &flatten)?;
-    let last = last_field(last, flatten)?;
+    let last = last_field(last, &flatten)?;
     Ok(Punctuated { inner, last })
 }
 

@@ -34,15 +34,15 @@ fn field_value<E: HasExprTree + Drop, F: Fn(E) -> Flattened<E>>(
 #[tactic(auto, using(crate::proofs::Each::each))]
 fn pairs<E: HasExprTree + Drop, F: Fn(E) -> Flattened<E>>(
     xs: Vec<(FieldValueOf<E>, Comma)>,
-    flatten: F,
+    flatten: &F,
 ) -> Flattened<Vec<(FieldValueOf<E>, Comma)>>
-    requires fields { (q : FieldValueOf E × _) → Contains xs.items q → F.pre flatten q.0.expr }
-    requires gives { Flattens E.tree (F.post flatten) }
+    requires fields { (x : FieldValueOf E) (comma : _) → Contains xs.items (x, comma) → F.pre flatten.now x.expr }
+    requires gives { Flattens E.tree (F.post flatten.now) }
     ensures { IfOk result (λ ys. Each (λ p q. IsFlatField (field_value_of E.tree p.0) (field_value_of E.tree q.0)) xs.items ys.items) }
 {
     let mut out = Vec::new(*xs.allocator());
     for (x, comma) in xs {
-        out.push((field_value(x, &flatten)?, comma))?;
+        out.push((field_value(x, flatten)?, comma))?;
     }
     Ok(out)
 }
@@ -51,10 +51,10 @@ fn pairs<E: HasExprTree + Drop, F: Fn(E) -> Flattened<E>>(
 #[tactic(auto, using(crate::proofs::Each::each))]
 fn last_field<E: HasExprTree + Drop, F: Fn(E) -> Flattened<E>>(
     x: Option<Box<FieldValueOf<E>>>,
-    flatten: F,
+    flatten: &F,
 ) -> Flattened<Option<Box<FieldValueOf<E>>>>
-    requires field { ForSome x (λ b. F.pre flatten b.value.expr) }
-    requires gives { Flattens E.tree (F.post flatten) }
+    requires field { ForSome x (λ b. F.pre flatten.now b.value.expr) }
+    requires gives { Flattens E.tree (F.post flatten.now) }
     ensures { IfOk result (λ y. Each (λ a b. IsFlatField (field_value_of E.tree a) (field_value_of E.tree b)) (last_of x) (last_of y)) }
 {
     match x {
@@ -62,7 +62,7 @@ fn last_field<E: HasExprTree + Drop, F: Fn(E) -> Flattened<E>>(
             let alloc = *Box::allocator(&x);
             Ok(Some(Box::new(
                 alloc,
-                field_value(Box::into_inner(x), &flatten)?,
+                field_value(Box::into_inner(x), flatten)?,
             )?))
         }
         None => Ok(None),
@@ -82,7 +82,7 @@ fn fields<E: HasExprTree + Drop, F: Fn(E) -> Flattened<E>>(
 {
     let Punctuated { inner, last } = x;
     let inner = pairs(inner, &flatten)?;
-    let last = last_field(last, flatten)?;
+    let last = last_field(last, &flatten)?;
     Ok(Punctuated { inner, last })
 }
 
