@@ -67,7 +67,9 @@ fn flattened(x: Expr, attrs: Before) -> Flattened<Expr>
         Expr::MethodCall(x) => Ok(Expr::MethodCall(trailer::method_call(x, attrs, operand)?)),
         Expr::Paren(x) => {
             let ExprParen {
-                attrs: own, expr, ..
+                attrs: own,
+                expr,
+                ..
             } = x;
             flattened(Box::into_inner(expr), Some(joined(attrs, own)?))
         }

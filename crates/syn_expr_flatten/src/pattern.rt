@@ -31,7 +31,19 @@ pub fn closure<F: Fn(Expr) -> Flattened<Expr>, G: Fn(Pat) -> Flattened<Pat>>(
     requires gives_pat { FlattensPat pat_of (G.post flatten_pat) }
     ensures { IfOk result (λ y. IsFlatBehind attrs (closure_of x) (closure_of y)) }
 {
-    let ExprClosure { attrs: own, lifetimes, modifiers, constness, asyncness, capture, inputs_begin, inputs, inputs_end, output, body } = x;
+    let ExprClosure {
+        attrs: own,
+        lifetimes,
+        modifiers,
+        constness,
+        asyncness,
+        capture,
+        inputs_begin,
+        inputs,
+        inputs_end,
+        output,
+        body,
+    } = x;
     Ok(ExprClosure {
         attrs: joined(attrs, own)?,
         lifetimes,
@@ -60,7 +72,15 @@ pub fn for_loop<F: Fn(Expr) -> Flattened<Expr>, G: Fn(Pat) -> Flattened<Pat>>(
     requires gives_pat { FlattensPat pat_of (G.post flatten_pat) }
     ensures { IfOk result (λ y. IsFlatBehind attrs (for_loop_of x) (for_loop_of y)) }
 {
-    let ExprForLoop { attrs: own, label, for_token, pat, in_token, expr, body } = x;
+    let ExprForLoop {
+        attrs: own,
+        label,
+        for_token,
+        pat,
+        in_token,
+        expr,
+        body,
+    } = x;
     Ok(ExprForLoop {
         attrs: joined(attrs, own)?,
         label,
@@ -85,7 +105,13 @@ pub fn binding<F: Fn(Expr) -> Flattened<Expr>, G: Fn(Pat) -> Flattened<Pat>>(
     requires gives_pat { FlattensPat pat_of (G.post flatten_pat) }
     ensures { IfOk result (λ y. IsFlatBehind attrs (binding_of x) (binding_of y)) }
 {
-    let ExprLet { attrs: own, let_token, pat, eq_token, expr } = x;
+    let ExprLet {
+        attrs: own,
+        let_token,
+        pat,
+        eq_token,
+        expr,
+    } = x;
     Ok(ExprLet {
         attrs: joined(attrs, own)?,
         let_token,
@@ -107,7 +133,13 @@ fn arm<F: Fn(Expr) -> Flattened<Expr>, G: Fn(Pat) -> Flattened<Pat>>(
     requires gives_pat { FlattensPat pat_of (G.post flatten_pat) }
     ensures { IfOk result (λ y. IsFlatArm (arm_of x) (arm_of y)) }
 {
-    let Arm { attrs, pat, fat_arrow_token, body, comma } = x;
+    let Arm {
+        attrs,
+        pat,
+        fat_arrow_token,
+        body,
+        comma,
+    } = x;
     Ok(Arm {
         attrs,
         pat: flatten_pat(pat)?,
@@ -151,7 +183,13 @@ pub fn choice<F: Fn(Expr) -> Flattened<Expr>, G: Fn(Pat) -> Flattened<Pat>>(
     requires gives_pat { FlattensPat pat_of (G.post flatten_pat) }
     ensures { IfOk result (λ y. IsFlatBehind attrs (choice_of x) (choice_of y)) }
 {
-    let ExprMatch { attrs: own, match_token, expr, brace_token, arms } = x;
+    let ExprMatch {
+        attrs: own,
+        match_token,
+        expr,
+        brace_token,
+        arms,
+    } = x;
     Ok(ExprMatch {
         attrs: joined(attrs, own)?,
         match_token,
@@ -173,7 +211,12 @@ pub fn guard<F: Fn(Expr) -> Flattened<Expr>, G: Fn(Pat) -> Flattened<Pat>>(
     requires gives_pat { FlattensPat pat_of (G.post flatten_pat) }
     ensures { IfOk result (λ y. IsFlatPat (guard_of x) (guard_of y)) }
 {
-    let PatGuard { attrs, pat, if_token, guard } = x;
+    let PatGuard {
+        attrs,
+        pat,
+        if_token,
+        guard,
+    } = x;
     Ok(PatGuard {
         attrs,
         pat: boxed(pat, flatten_pat)?,
