@@ -57,18 +57,18 @@ closure_behind f g x v is b ats joined args same body =
     let vs = map g (values is) in
     let all : Each IsFlatPat us vs = each_map g g IsFlatPat (values x.inputs) (values is) args in
     at_node ats _ _ _ _ (closure_plain (return_of x.output) (head (trees us) (trails x.inputs)) (guards us) (f x.body.value)) (λ o. joined) (λ o. same_flat _ _ _
-      (ap (λ ps. closure_by (return_of x.output) (head ps (trails is)) (guards vs) (f b.value)) (same_trees (λ v. v) us vs all)
-      ∙ ap (λ last. closure_by (return_of x.output) (head (trees us) last) (guards vs) (f b.value)) same)
-      (closure_flat (return_of x.output) (head (trees us) (trails x.inputs)) (guards us) (guards vs) (f x.body.value) (f b.value) (guards_flat (λ v. v) us vs all) body))
+    (ap (λ ps. closure_by (return_of x.output) (head ps (trails is)) (guards vs) (f b.value)) (same_trees (λ v. v) us vs all)
+    ∙ ap (λ last. closure_by (return_of x.output) (head (trees us) last) (guards vs) (f b.value)) same)
+    (closure_flat (return_of x.output) (head (trees us) (trails x.inputs)) (guards us) (guards vs) (f x.body.value) (f b.value) (guards_flat (λ v. v) us vs all) body))
 
 pub let_behind : {E P : Type 0} (f : E → Tree) (g : P → PatView) (x : ExprLetOf E P) (v : Vec Attribute Global) (p : Box P Global) (b : Box E Global) (ats : Option (Vec Attribute Global))
     → attrs_of v ≡ before ats ++ attrs_of x.attrs → IsFlatPat (g x.pat.value) (g p.value) → IsFlat (f x.expr.value) (f b.value)
     → IsFlatBehind ats (expr_let_of f g x) (expr_let_of f g (record x { attrs = v; pat = p; expr = b }))
 let_behind f g x v p b ats joined pat value =
     at_node ats _ _ _ _ refl (λ o. joined) (λ o. same_flat _ _ _
-      (ap (λ z. lead (e.binding z) (strays (g p.value).guards none) (f b.value)) pat.0)
-      (leads_flat (e.binding (g x.pat.value).tree) (strays (g x.pat.value).guards none) (strays (g p.value).guards none) (f x.expr.value) (f b.value)
-        (strays_flat (g x.pat.value).guards (g p.value).guards none none pat.1 none_flat) value))
+    (ap (λ z. lead (e.binding z) (strays (g p.value).guards none) (f b.value)) pat.0)
+    (leads_flat (e.binding (g x.pat.value).tree) (strays (g x.pat.value).guards none) (strays (g p.value).guards none) (f x.expr.value) (f b.value)
+    (strays_flat (g x.pat.value).guards (g p.value).guards none none pat.1 none_flat) value))
 
 pub for_loop_behind : {E P : Type 0} (f : E → Tree) (g : P → PatView) (x : ExprForLoopOf E P) (v : Vec Attribute Global) (p : Box P Global) (b : Box E Global) (ats : Option (Vec Attribute Global))
     → (all_outer (before ats) ≡ true → outer_of v ≡ before ats ++ outer_of x.attrs) → (all_outer (before ats) ≡ true → inner_of v ≡ inner_of x.attrs)
@@ -76,20 +76,20 @@ pub for_loop_behind : {E P : Type 0} (f : E → Tree) (g : P → PatView) (x : E
     → IsFlatBehind ats (expr_for_loop_of f g x) (expr_for_loop_of f g (record x { attrs = v; pat = p; expr = b }))
 for_loop_behind f g x v p b ats outer inner pat value =
     let at : PatTree → List AttributeTree → Tree = λ q l. frame (e.for_loop (mapped label_of x.label) q)
-      (strays (g p.value).guards (kid e.loop_head (e.braced (body_of l x.body.stmts)) (f b.value) none)) in
+    (strays (g p.value).guards (kid e.loop_head (e.braced (body_of l x.body.stmts)) (f b.value) none)) in
     at_node ats _ _ _ _ refl outer (λ o. same_flat _ _ _
-      (ap (λ q. at q (inner_of v)) pat.0 ∙ ap (at (g x.pat.value).tree) (inner o))
-      (frame_flat _ _ _ (strays_flat (g x.pat.value).guards (g p.value).guards _ _ pat.1
-        (kid_flat e.loop_head (e.braced (body_of (inner_of x.attrs) x.body.stmts)) (f x.expr.value) (f b.value) none none value none_flat))))
+    (ap (λ q. at q (inner_of v)) pat.0 ∙ ap (at (g x.pat.value).tree) (inner o))
+    (frame_flat _ _ _ (strays_flat (g x.pat.value).guards (g p.value).guards _ _ pat.1
+    (kid_flat e.loop_head (e.braced (body_of (inner_of x.attrs) x.body.stmts)) (f x.expr.value) (f b.value) none none value none_flat))))
 
-pub match_behind : {E A : Type 0} (f : E → Tree) (g : A → ArmView) (x : ExprMatchOf E A) (v : Vec Attribute Global) (b : Box E Global) (as : Vec A Global) (ats : Option (Vec Attribute Global))
+pub match_behind : {E A : Type 0} (f : E → Tree) (g : A → ArmView) (x : ExprMatchOf E A) (v : Vec Attribute Global) (b : Box E Global) (arms_now : Vec A Global) (ats : Option (Vec Attribute Global))
     → (all_outer (before ats) ≡ true → outer_of v ≡ before ats ++ outer_of x.attrs) → (all_outer (before ats) ≡ true → inner_of v ≡ inner_of x.attrs)
-    → IsFlat (f x.expr.value) (f b.value) → Each (λ p q. IsFlatArm (g p) (g q)) x.arms.items as.items
-    → IsFlatBehind ats (expr_match_of f g x) (expr_match_of f g (record x { attrs = v; expr = b; arms = as }))
-match_behind f g x v b as ats outer inner value all =
+    → IsFlat (f x.expr.value) (f b.value) → Each (λ p q. IsFlatArm (g p) (g q)) x.arms.items arms_now.items
+    → IsFlatBehind ats (expr_match_of f g x) (expr_match_of f g (record x { attrs = v; expr = b; arms = arms_now }))
+match_behind f g x v b arms_now ats outer inner value all =
     at_node ats _ _ _ _ refl outer (λ o. same_flat _ _ _
-      (ap (λ l. frame e.choice (kid e.scrutinee (e.opened l) (f b.value) (arms (map g as.items)))) (inner o))
-      (frame_flat e.choice _ _ (kid_flat e.scrutinee (e.opened (inner_of x.attrs)) (f x.expr.value) (f b.value) (arms (map g x.arms.items)) (arms (map g as.items)) value (arms_flat g x.arms.items as.items all))))
+    (ap (λ l. frame e.choice (kid e.scrutinee (e.opened l) (f b.value) (arms (map g arms_now.items)))) (inner o))
+    (frame_flat e.choice _ _ (kid_flat e.scrutinee (e.opened (inner_of x.attrs)) (f x.expr.value) (f b.value) (arms (map g x.arms.items)) (arms (map g arms_now.items)) value (arms_flat g x.arms.items arms_now.items all))))
 
 pub guard_behind : {E P : Type 0} (f : E → Tree) (g : P → PatView) (x : PatGuardOf E P) (p : Box P Global) (b : Box E Global)
     → IsFlatPat (g x.pat.value) (g p.value) → IsFlat (f x.guard.value) (f b.value)
