@@ -35,19 +35,6 @@ pub fn optional<T: Drop, F: Fn(T) -> Flattened<T>>(
     }
 }
 
-/// A list. Refused as `boxed` is.
-#[tactic(auto, using(crate::proofs::Each::each))]
-pub fn all<T: Drop, F: Fn(T) -> Flattened<T>>(xs: Vec<T>, flatten: F) -> Flattened<Vec<T>>
-    requires { (x : T) → Contains xs.items x → F.pre flatten x }
-    ensures { IfOk result (λ ys. Each (λ a b. F.post flatten a (Ok b)) xs.items ys.items) }
-{
-    let mut out = Vec::new(*xs.allocator());
-    for x in xs {
-        out.push(flatten(x)?)?;
-    }
-    Ok(out)
-}
-
 /// The values that puncts follow.
 #[tactic(auto, using(crate::proofs::Each::each))]
 fn pairs<T: Drop, P: Drop, F: Fn(T) -> Flattened<T>>(

@@ -89,19 +89,32 @@ fn field_pat<P: HasPatTree + Drop, F: Fn(P) -> Flattened<P>>(
     })
 }
 
+/// A field and the comma that follows it.
+fn pair<P: HasPatTree + Drop, F: Fn(P) -> Flattened<P>>(
+    q: (FieldPatOf<P>, Comma),
+    flatten: &F,
+) -> Flattened<(FieldPatOf<P>, Comma)>
+    requires inner { (p : FullFieldPatOf P) → q.0.kind ≡ field.Full p → F.pre flatten.now p.pat.value }
+    requires gives { FlattensPat P.view (F.post flatten.now) }
+    ensures { IfOk result (λ r. IsFlatFieldPat P.view q.0 r.0) }
+{
+    let (x, comma) = q;
+    Ok((field_pat(x, flatten)?, comma))
+}
+
 /// The fields that commas follow.
 #[tactic(auto, using(crate::proofs::Each::each))]
 fn pairs<P: HasPatTree + Drop, F: Fn(P) -> Flattened<P>>(
     xs: Vec<(FieldPatOf<P>, Comma)>,
     flatten: &F,
 ) -> Flattened<Vec<(FieldPatOf<P>, Comma)>>
-    requires inner { (x : FieldPatOf P) (comma : _) (p : FullFieldPatOf P) → Contains xs.items (x, comma) → x.kind ≡ field.Full p → F.pre flatten.now p.pat.value }
+    requires inner { (q : _) (p : FullFieldPatOf P) → Contains xs.items q → q.0.kind ≡ field.Full p → F.pre flatten.now p.pat.value }
     requires gives { FlattensPat P.view (F.post flatten.now) }
     ensures { IfOk result (λ ys. Each (λ p q. IsFlatFieldPat P.view p.0 q.0) xs.items ys.items) }
 {
     let mut out = Vec::new(*xs.allocator());
-    for (x, comma) in xs {
-        out.push((field_pat(x, flatten)?, comma))?;
+    for q in xs {
+        out.push(pair(q, flatten)?)?;
     }
     Ok(out)
 }

@@ -30,19 +30,32 @@ fn field_value<E: HasExprTree + Drop, F: Fn(E) -> Flattened<E>>(
     })
 }
 
+/// A field and the comma that follows it.
+fn pair<E: HasExprTree + Drop, F: Fn(E) -> Flattened<E>>(
+    q: (FieldValueOf<E>, Comma),
+    flatten: &F,
+) -> Flattened<(FieldValueOf<E>, Comma)>
+    requires value { F.pre flatten.now q.0.expr }
+    requires gives { Flattens E.tree (F.post flatten.now) }
+    ensures { IfOk result (λ r. IsFlatField (field_value_of E.tree q.0) (field_value_of E.tree r.0)) }
+{
+    let (x, comma) = q;
+    Ok((field_value(x, flatten)?, comma))
+}
+
 /// The fields that commas follow.
 #[tactic(auto, using(crate::proofs::Each::each))]
 fn pairs<E: HasExprTree + Drop, F: Fn(E) -> Flattened<E>>(
     xs: Vec<(FieldValueOf<E>, Comma)>,
     flatten: &F,
 ) -> Flattened<Vec<(FieldValueOf<E>, Comma)>>
-    requires fields { (x : FieldValueOf E) (comma : _) → Contains xs.items (x, comma) → F.pre flatten.now x.expr }
+    requires fields { (q : _) → Contains xs.items q → F.pre flatten.now q.0.expr }
     requires gives { Flattens E.tree (F.post flatten.now) }
     ensures { IfOk result (λ ys. Each (λ p q. IsFlatField (field_value_of E.tree p.0) (field_value_of E.tree q.0)) xs.items ys.items) }
 {
     let mut out = Vec::new(*xs.allocator());
-    for (x, comma) in xs {
-        out.push((field_value(x, flatten)?, comma))?;
+    for q in xs {
+        out.push(pair(q, flatten)?)?;
     }
     Ok(out)
 }

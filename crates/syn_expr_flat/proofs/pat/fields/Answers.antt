@@ -2,7 +2,7 @@ use Rattle.syn_expr_flat.proofs.Each.{each_value, each_trails}
 use Rattle.syn_expr_flat.proofs.pat.fields.Goals as goal
 
 pub pairs-requires-clause-inner : goal.pairs-requires-clause-inner
-pairs-requires-clause-inner g c = λ x comma p h k. c.requires.inner (x, comma) p h k
+pairs-requires-clause-inner g c = λ q p h k. c.requires.inner q p h k
 
 pub returns-clause-values : goal.returns-clause-values
 returns-clause-values g c = each_value _ _ _ c.in_ok-inner.ensures c.in_ok-last.ensures
