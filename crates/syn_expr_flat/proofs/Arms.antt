@@ -20,8 +20,6 @@ guards_flat k g h (x ∷ gs) (y ∷ hs) ts us one all more = kid_flat e.stray e.
 guards_flat k g h [] (y ∷ hs) ts us one all more = absurd all
 guards_flat k g h (x ∷ gs) [] ts us one all more = absurd all
 
-
-
 plain_arm : (a b : ArmView) (t : PatTree) (gs hs : List Tree) (ts us : Kids) → b.attrs ≡ a.attrs → b.comma ≡ a.comma → IsFlat a.body b.body → Each IsFlat gs hs → AreFlat ts us
     → AreFlat (strays gs (kid (e.arm a.attrs t) (arm_ending a.comma) a.body ts)) (strays hs (kid (e.arm b.attrs t) (arm_ending b.comma) b.body us))
 unfolding AreFlat
@@ -29,7 +27,7 @@ plain_arm a b t gs hs ts us at comma body all more = λ o.
     ap (λ z. strays hs (kid (e.arm z t) (arm_ending b.comma) b.body us)) at
     ∙ ap (λ z. strays hs (kid (e.arm a.attrs t) (arm_ending z) b.body us)) comma
     ∙ strays_flat gs hs (kid (e.arm a.attrs t) (arm_ending a.comma) a.body ts) (kid (e.arm a.attrs t) (arm_ending a.comma) b.body us) all
-      (kid_flat (e.arm a.attrs t) (arm_ending a.comma) a.body b.body ts us body more) o
+    (kid_flat (e.arm a.attrs t) (arm_ending a.comma) a.body b.body ts us body more) o
 
 arm_flat : (a b : ArmView) (t : PatTree) (gs hs : List Tree) (ts us : Kids) → b.attrs ≡ a.attrs → b.comma ≡ a.comma → IsFlat a.body b.body → Each IsFlat gs hs → AreFlat ts us
     → AreFlat (arm_kids a t gs ts) (arm_kids b t hs us)

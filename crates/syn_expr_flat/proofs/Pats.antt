@@ -64,7 +64,7 @@ fields_flat f (x ∷ xs) [] h = absurd h
 pub struct_flat : {P Q : Type 0} (f : P → PatView) (v : Vec Attribute Global) (p : PathTree) (rest : Bool) (x y : Punctuated (FieldPatOf P) Q) → Each (λ a b. IsFlatFieldPat f a b) (values x) (values y)
     → trails y ≡ trails x
     → IsFlatPat (view_with v (t.a_struct p (t.fields_of (map (field_pat_of f) (values x))) (trails x) rest) (flat_map (λ y. field_guards f y.kind) (values x)))
-      (view_with v (t.a_struct p (t.fields_of (map (field_pat_of f) (values y))) (trails y) rest) (flat_map (λ y. field_guards f y.kind) (values y)))
+    (view_with v (t.a_struct p (t.fields_of (map (field_pat_of f) (values y))) (trails y) rest) (flat_map (λ y. field_guards f y.kind) (values y)))
 struct_flat f v p rest x y h same =
     attributed v _ _ _ _ (ap (λ l. t.a_struct p (t.fields_of l) (trails y) rest) (same_fields f (values x) (values y) h) ∙ ap (λ b. t.a_struct p (t.fields_of (map (field_pat_of f) (values x))) b rest) same)
     (fields_flat f (values x) (values y) h)

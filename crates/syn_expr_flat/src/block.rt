@@ -7,8 +7,8 @@ ghost use Rattle.syn_expr_flat.specs.Flat.{AreFlat, Flattens, IsFlatBehind};
 
 use crate::attrs::{Before, joined};
 use crate::operands::{Flattened, boxed};
-use syn_expr_kinds::kinds::HasExprTree;
 use syn_expr_kinds::block::{ExprIfOf, ExprWhileOf};
+use syn_expr_kinds::kinds::HasExprTree;
 use syn_tokens::token::Else;
 
 #[tactic(auto, using(crate::proofs::Kids::kids))]

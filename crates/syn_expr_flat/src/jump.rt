@@ -7,8 +7,8 @@ ghost use Rattle.syn_expr_flat.specs.Flat.{Flattens, IsFlatBehind};
 
 use crate::attrs::{Before, joined};
 use crate::operands::{Flattened, optional};
-use syn_expr_kinds::kinds::HasExprTree;
 use syn_expr_kinds::jump::{ExprBreakOf, ExprReturnOf, ExprYieldOf};
+use syn_expr_kinds::kinds::HasExprTree;
 
 /// It without the parentheses in it, behind more attributes.
 pub fn break_expr<E: HasExprTree + Drop, F: Fn(E) -> Flattened<E>>(

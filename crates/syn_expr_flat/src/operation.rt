@@ -8,7 +8,10 @@ ghost use Rattle.syn_expr_flat.specs.Flat.{Flattens, IsFlatBehind};
 use crate::attrs::{Before, joined};
 use crate::operands::{Flattened, boxed, optional};
 use syn_expr_kinds::kinds::HasExprTree;
-use syn_expr_kinds::operation::{ExprAssignOf, ExprBinaryOf, ExprCastOf, ExprRangeOf, ExprRawAddrOf, ExprReferenceOf, ExprUnaryOf};
+use syn_expr_kinds::operation::{
+    ExprAssignOf, ExprBinaryOf, ExprCastOf, ExprRangeOf, ExprRawAddrOf, ExprReferenceOf,
+    ExprUnaryOf,
+};
 
 /// It without the parentheses in it, behind more attributes.
 pub fn assign<E: HasExprTree + Drop, F: Fn(E) -> Flattened<E>>(

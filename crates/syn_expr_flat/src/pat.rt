@@ -132,10 +132,7 @@ fn last_field<P: HasPatTree + Drop, F: Fn(P) -> Flattened<P>>(
     match x {
         Some(x) => {
             let alloc = *Box::allocator(&x);
-            Ok(Some(Box::new(
-                alloc,
-                field_pat(Box::into_inner(x), flatten)?,
-            )?))
+            Ok(Some(Box::new(alloc, field_pat(Box::into_inner(x), flatten)?)?))
         }
         None => Ok(None),
     }

@@ -73,10 +73,7 @@ fn last_field<E: HasExprTree + Drop, F: Fn(E) -> Flattened<E>>(
     match x {
         Some(x) => {
             let alloc = *Box::allocator(&x);
-            Ok(Some(Box::new(
-                alloc,
-                field_value(Box::into_inner(x), flatten)?,
-            )?))
+            Ok(Some(Box::new(alloc, field_value(Box::into_inner(x), flatten)?)?))
         }
         None => Ok(None),
     }

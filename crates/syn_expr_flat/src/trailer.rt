@@ -8,7 +8,9 @@ ghost use Rattle.syn_expr_flat.specs.Flat.{Flattens, IsFlatBehind};
 use crate::attrs::{Before, joined};
 use crate::operands::{Flattened, boxed, punctuated};
 use syn_expr_kinds::kinds::HasExprTree;
-use syn_expr_kinds::trailer::{ExprAwaitOf, ExprCallOf, ExprFieldOf, ExprIndexOf, ExprMethodCallOf, ExprTryOf};
+use syn_expr_kinds::trailer::{
+    ExprAwaitOf, ExprCallOf, ExprFieldOf, ExprIndexOf, ExprMethodCallOf, ExprTryOf,
+};
 
 /// It without the parentheses in it, behind more attributes.
 pub fn await_expr<E: HasExprTree + Drop, F: Fn(E) -> Flattened<E>>(

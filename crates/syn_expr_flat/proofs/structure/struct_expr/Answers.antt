@@ -8,4 +8,4 @@ pub returns : goal.returns
 returns g c =
     let rest = each_by _ _ (λ a b. c.requires.gives a _) _ _ c.in_ok-optional.ensures in
     at_node _ _ _ _ _ refl (λ o. c.in_ok-joined.ensures.all) (λ o. same_rest g.E.HasExprTree.tree _ _ _ _ _ _ _ rest
-      (struct_flat _ _ _ _ _ c.in_ok-fields.ensures.values c.in_ok-fields.ensures.trails (option_flat g.E.HasExprTree.tree _ _ _ rest)))
+    (struct_flat _ _ _ _ _ c.in_ok-fields.ensures.values c.in_ok-fields.ensures.trails (option_flat g.E.HasExprTree.tree _ _ _ rest)))
