@@ -4,3 +4,4 @@ pub mod Kept
 pub mod Kids
 pub mod Nodes
 pub mod Pats
+pub mod Taken
