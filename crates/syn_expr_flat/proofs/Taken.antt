@@ -1,5 +1,6 @@
 -- What a vector's iterator gives is among its items.
-use Rattle.std.specs.Prelude.{Contains, All, Yields}
+use Rattle.std.specs.Iterator.{Yields}
+use Rattle.std.specs.List.{All, Contains}
 use Rattle.std.proofs.Common.{◌≡◌, List, [], ◌∷◌, ◌++◌, length, Some, refl, sym, ap, subst, ◌∙◌}
 use Rattle.std.proofs.iter.Next.{Yields-more}
 use Rattle.std.proofs.Math.Seq.{take-append_seam}
