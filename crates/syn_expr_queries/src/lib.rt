@@ -2,16 +2,13 @@
 //! whether a label is first in it and braces last, and whether a type ends in a name without arguments.
 #![tactic(auto)]
 
-mod attributes;
+pub mod attributes;
 mod brace;
 pub mod classify;
-pub mod fits;
 pub mod frames;
-pub mod heads;
 mod label;
 mod name;
 mod operands;
-pub mod own;
 mod right;
 mod tokens;
 mod types;

@@ -8,7 +8,7 @@ use Rattle.syn_grammar.specs.WellFormed.{leaf_fits, infix_fits, post_fits, trail
 use Rattle.syn_expr_notes.specs.declared.kind.NodeKind.{NodeKind}
 use Rattle.syn_expr_notes.specs.declared.kind.NodeKind.TheVariants as node
 use Rattle.syn_expr_kinds.specs.Node.{stray_trees}
-use Rattle.syn_expr_queries.specs.Alone.{lead_alone, frame_alone}
+use Rattle.syn_expr_well.specs.Alone.{lead_alone, frame_alone}
 
 -- ---- a node but for its operands
 

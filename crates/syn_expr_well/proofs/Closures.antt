@@ -16,7 +16,7 @@ use Rattle.syn_pat_kinds.specs.View.{PatView}
 use Rattle.syn_expr_kinds.specs.Node.{inputs_of, closure_of}
 use Rattle.syn_expr_kinds.specs.declared.node.Closure.{Closure}
 use Rattle.syn_expr_kinds.specs.Pats.{trees, guards}
-use Rattle.syn_expr_queries.specs.Alone.{argument_fits}
+use Rattle.syn_expr_well.specs.Alone.{argument_fits}
 
 -- ---- tests together
 
@@ -41,7 +41,7 @@ swap false b c = refl
 
 -- ---- arguments
 
-nil_append : {A : Type 0} (xs ys : List A) → is_nil (xs ++ ys) ≡ (is_nil xs && is_nil ys)
+pub nil_append : {A : Type 0} (xs ys : List A) → is_nil (xs ++ ys) ≡ (is_nil xs && is_nil ys)
 nil_append [] ys = refl
 nil_append (x ∷ xs) ys = refl
 

@@ -7,9 +7,9 @@ use Rattle.syn_grammar.specs.Tree.{Tree, Leaf, Lead, Post, Trailer, Frame, leaf,
 use Rattle.syn_grammar.specs.WellFormed.{leaf_fits, post_fits, trailer_fits, trailer_slot, frame_slot}
 use Rattle.syn_expr_notes.specs.Kind.{kind_at}
 use Rattle.syn_expr_kinds.specs.Node.{attributes_at, leaf_at, lead_at, post_at, trailer_at, frame_at}
-use Rattle.syn_expr_queries.specs.Alone.{lead_alone, frame_alone}
+use Rattle.syn_expr_well.specs.Alone.{lead_alone, frame_alone}
 use Rattle.syn_expr_queries.specs.Node.{has_some}
-use Rattle.syn_expr_queries.specs.Well.{own_fits, kind_fits, frame_dots, slot_at, dots_at, bare_leaf, is_if_frame}
+use Rattle.syn_expr_well.specs.Well.{own_fits, kind_fits, frame_dots, slot_at, dots_at, bare_leaf, is_if_frame}
 
 -- ---- where its operands stand
 

@@ -2,8 +2,8 @@
 use Rattle.std.proofs.Common.{◌&&◌, true, ap, sym, ◌∙◌}
 use Rattle.syn_parts.specs.Fits.{output_fits}
 use Rattle.syn_lower.specs.View.{return_of}
-use Rattle.syn_expr_queries.proofs.Closures.{closure_is}
-use Rattle.syn_expr_queries.proofs.heads.closure_fits.Goals as goal
+use Rattle.syn_expr_well.proofs.Closures.{closure_is}
+use Rattle.syn_expr_well.proofs.heads.closure_fits.Goals as goal
 
 pub returns-then-arguments_fit : goal.returns-then-arguments_fit
 returns-then-arguments_fit g c =

@@ -1,27 +1,26 @@
 //! Whether what holds patterns is read back, but for its operands.
 
 ghost use Rattle.std.specs.List.{list_all};
-ghost use Rattle.std.specs.Prelude.{◌≡◌, ◌&&◌, not, map};
+ghost use Rattle.std.specs.Prelude.{◌≡◌, ◌&&◌, true, not, map};
 ghost use Rattle.syn_expr_kinds.specs.Node.{closure_of, frame_seen, inputs_of, lead_seen};
 ghost use Rattle.syn_expr_kinds.specs.Pats.{guards};
-ghost use Rattle.syn_expr_queries.specs.Alone as spec;
+ghost use Rattle.syn_expr_well.specs.Alone as spec;
 ghost use Rattle.syn_grammar.specs.WellFormed.{head_fits};
 ghost use Rattle.syn_lower.specs.View.{return_of, values};
 ghost use Rattle.syn_parts.specs.Form.{is_nil};
 ghost use Rattle.syn_parts.specs.Part.{is_default};
 
 use crate::fits::path_fits;
-use crate::frames::HasFrames;
-use syn_expr_kinds::node::{Closure, Frame, Jump, Lead};
+use syn_expr_kinds::node::{Closure, Frame, HasShape, Jump, Lead};
 use syn_lower::punctuated::Punctuated;
 use syn_lower::ty::ReturnType;
 use syn_tokens::token::Comma;
 
 /// The type of expressions, as one asks whether the patterns in them are read back.
-pub trait HasPatFits: HasFrames {
+pub trait HasPatFits: HasShape {
     /// Whether a pattern is read back where alternatives may stand, and no guard stands in it.
     fn pat_fits(pat: &Self::Pat) -> bool
-        ensures { result ≡ spec.alone_fits (Self.Pat.view pat.now) };
+        ensures { result ≡ spec.fits_alone true (Self.Pat.view pat.now) };
 
     /// Whether a pattern is read back as an argument of a closure, and no guard stands in it.
     fn argument_fits(pat: &Self::Pat) -> bool

@@ -2,8 +2,8 @@
 use Rattle.std.proofs.Common.{◌≡◌, Some, ap, sym, ◌∙◌}
 use Rattle.syn_lower_leaves.specs.View.{mapped}
 use Rattle.syn_expr_kinds.specs.Node.{lead_seen, frame_seen, lead_at, frame_at}
-use Rattle.syn_expr_queries.proofs.Owns.{own-lead, own-frame}
-use Rattle.syn_expr_queries.proofs.own.own_fits.Goals as goal
+use Rattle.syn_expr_well.proofs.Owns.{own-lead, own-frame}
+use Rattle.syn_expr_well.proofs.own.own_fits.Goals as goal
 
 pub returns-in-Some-lead : goal.returns-in-Some-lead
 returns-in-Some-lead g c =

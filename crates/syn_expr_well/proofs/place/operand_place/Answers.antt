@@ -2,8 +2,8 @@
 use Rattle.std.proofs.Common.{◌≡◌, Some, ap, sym, ◌∙◌}
 use Rattle.syn_lower_leaves.specs.View.{mapped}
 use Rattle.syn_expr_kinds.specs.Node.{frame_seen, frame_at}
-use Rattle.syn_expr_queries.proofs.Owns.{slot-frame, dots-frame}
-use Rattle.syn_expr_queries.proofs.own.operand_place.Goals as goal
+use Rattle.syn_expr_well.proofs.Owns.{slot-frame, dots-frame}
+use Rattle.syn_expr_well.proofs.place.operand_place.Goals as goal
 
 pub returns-in-Some-frame-clause-slot : goal.returns-in-Some-frame-clause-slot
 returns-in-Some-frame-clause-slot g c =

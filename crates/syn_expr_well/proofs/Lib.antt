@@ -1,0 +1,9 @@
+pub mod Inner
+pub mod Indices
+pub mod Closures
+pub mod Patterns
+pub mod Orders
+pub mod Owns
+pub mod Kept
+pub mod Operands
+pub mod Wholes

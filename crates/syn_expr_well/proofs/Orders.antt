@@ -1,0 +1,72 @@
+-- Outer attributes before inner ones, and others.
+use Rattle.std.proofs.Common.{◌≡◌, Bool, true, false, not, ◌&&◌, ◌||◌, if◌then◌else◌, List, [], ◌∷◌, refl, ap, sym, ◌∙◌}
+use Rattle.syn_parts.specs.Form.{is_nil}
+use Rattle.syn_parts.specs.Tree.{AttributeTree}
+use Rattle.syn_parts.specs.PatFits.{attributes_outer}
+use Rattle.syn_expr_kinds.specs.Attrs.{before_inner, from_inner, all_inner, is_in_order, outer_part, inner_part}
+use Rattle.syn_expr_well.specs.Orders.{in_order_behind}
+
+-- ---- one by one
+
+order_by : (b : Bool) (a : AttributeTree) (more : List AttributeTree) → a.inner ≡ b → is_in_order (a ∷ more) ≡ in_order_behind b more
+order_by true a more h = rw h (ap (λ b. b && all_inner more) h)
+order_by false a more h = rw h refl
+
+pub order-inner : (a : AttributeTree) (more : List AttributeTree) → a.inner ≡ true → is_in_order (a ∷ more) ≡ all_inner more
+order-inner a more h = order_by true a more h
+
+pub order-outer : (a : AttributeTree) (more : List AttributeTree) → a.inner ≡ false → is_in_order (a ∷ more) ≡ is_in_order more
+order-outer a more h = order_by false a more h
+
+pub ruleset orders = (order-inner, order-outer)
+
+-- ---- those before a node
+
+before_outer : (ats : List AttributeTree) → attributes_outer (before_inner ats) ≡ true
+before_outer [] = refl
+before_outer (a ∷ more) = by a.inner refl
+  where
+    by : (b : Bool) → a.inner ≡ b → attributes_outer (if b then [] else a ∷ before_inner more) ≡ true
+    by true h = refl
+    by false h = rw h (before_outer more)
+
+-- out of order one is an inner one
+not_outer : (ats : List AttributeTree) → is_in_order ats ≡ false → attributes_outer ats ≡ false
+not_outer [] h = absurd cc
+not_outer (a ∷ more) h = by a.inner refl
+  where
+    by : (b : Bool) → a.inner ≡ b → (not b && attributes_outer more) ≡ false
+    by true k = refl
+    by false k = not_outer more (sym (order-outer a more k) ∙ h)
+
+part_outer : (b : Bool) (ats : List AttributeTree) → is_in_order ats ≡ b → attributes_outer (if b then before_inner ats else ats) ≡ b
+part_outer true ats h = before_outer ats
+part_outer false ats h = not_outer ats h
+
+pub outer-order : (ats : List AttributeTree) → attributes_outer (outer_part ats) ≡ is_in_order ats
+outer-order ats = part_outer (is_in_order ats) ats refl
+
+pub ruleset outers = (outer-order)
+
+-- ---- those in its braces
+
+from_nil : (ats : List AttributeTree) → is_nil (from_inner ats) ≡ attributes_outer ats
+from_nil [] = refl
+from_nil (a ∷ more) = by a.inner
+  where
+    by : (b : Bool) → is_nil (if b then a ∷ more else from_inner more) ≡ (not b && attributes_outer more)
+    by true = refl
+    by false = from_nil more
+
+or_not : (b : Bool) (ats : List AttributeTree) → is_in_order ats ≡ b → is_nil (if b then from_inner ats else []) ≡ (attributes_outer ats || not b)
+or_not true ats h = from_nil ats ∙ by (attributes_outer ats)
+  where
+    by : (c : Bool) → c ≡ (c || false)
+    by true = refl
+    by false = refl
+or_not false ats h = ap (λ c. c || true) (sym (not_outer ats h))
+
+pub inner-nil : (ats : List AttributeTree) → is_nil (inner_part ats) ≡ (attributes_outer ats || not (is_in_order ats))
+inner-nil ats = or_not (is_in_order ats) ats refl
+
+pub ruleset inners = (inner-nil)

@@ -1,0 +1,5 @@
+pub mod Alone
+pub mod Orders
+pub mod Places
+pub mod Well
+pub mod Walk
