@@ -1,6 +1,6 @@
 -- Each kind of pattern is read back, with no guard in it, where its parts are.
-use Rattle.std.proofs.Common.{◌≡◌, Bool, true, false, not, ◌&&◌, ◌||◌, List, [], ◌∷◌, ◌++◌, length, map, Option, Some, None, refl, ap, sym, ◌∙◌}
-use Rattle.std.proofs.lemmas.List.{map-append}
+use Rattle.std.proofs.Common.{◌≡◌, Bool, true, false, not, ◌&&◌, ◌||◌, List, [], ◌∷◌, ◌++◌, length, map, Option, Some, None, refl, ap, sym, ◌∙◌, ◌==◌, arith}
+use Rattle.std.proofs.lemmas.List.{map-append, length-map}
 use Rattle.std.specs.List.{list_all}
 use Rattle.std.specs.Prelude.{flat_map, is_some}
 use Rattle.std.specs.declared.vec.Vec.{Vec}
@@ -46,7 +46,8 @@ use Rattle.syn_pat_kinds.specs.declared.pat.PatReferenceOf.{PatReferenceOf}
 use Rattle.syn_pat_kinds.specs.declared.pat.PatConst.{PatConst}
 use Rattle.syn_pat_kinds.specs.declared.pat.PatOrOf.{PatOrOf}
 use Rattle.syn_pat_kinds.specs.declared.pat.PatTypeOf.{PatTypeOf}
-use Rattle.syn_expr_well.specs.Alone.{fits_alone, attributes_at, behind, fits_behind, sub_alone, is_sole_rest, kind_alone, field_alone}
+use Rattle.syn_expr_well.specs.declared.patterns.PatSort.TheVariants as sort
+use Rattle.syn_expr_well.specs.Alone.{fits_alone, attributes_at, behind, fits_behind, sort_at, is_rest_sort, is_mut_sort, sub_alone, is_sole_rest, kind_alone, field_alone}
 use Rattle.syn_expr_well.proofs.Closures.{and_true, and_false, four, swap, nil_append}
 
 -- ---- attributes
@@ -104,6 +105,70 @@ behind_by (a ∷ more) p h = refl
 
 shown : (b : Bool) (ats : List AttributeTree) (p : PatTree) (gs : List Tree) → behind p ≡ p → (pat_fits b (behind (attributed_by ats p)) && is_nil gs) ≡ (pat_fits b p && is_nil gs)
 shown b ats p gs h = ap (λ q. pat_fits b q && is_nil gs) (behind_by ats p h)
+
+-- ---- what the pattern round another asks of it
+
+sort_by : (ats : List AttributeTree) (p : PatTree) → (length ats == 0) ≡ true → sort_at (attributed_by ats p) ≡ sort_at p
+sort_by [] p h = refl
+sort_by (a ∷ more) p h = absurd grind (arith, h)
+
+sort_behind : (ats : List AttributeTree) (p : PatTree) → (length ats == 0) ≡ false → sort_at (attributed_by ats p) ≡ sort.Other
+sort_behind [] p h = absurd cc
+sort_behind (a ∷ more) p h = refl
+
+pub sort-bare : (ats : Vec Attribute Global) (p : PatTree) → (length ats.items == 0) ≡ true → sort_at (attributed_by (map attribute_of ats.items) p) ≡ sort_at p
+sort-bare ats p h = sort_by (map attribute_of ats.items) p (ap (λ n. n == 0) (length-map ats.items attribute_of) ∙ h)
+
+pub sort-behind : (ats : Vec Attribute Global) (p : PatTree) → (length ats.items == 0) ≡ false → sort_at (attributed_by (map attribute_of ats.items) p) ≡ sort.Other
+sort-behind ats p h = sort_behind (map attribute_of ats.items) p (ap (λ n. n == 0) (length-map ats.items attribute_of) ∙ h)
+
+pub ruleset sorts = (sort-bare, sort-behind)
+
+pub rest-asked : (p : PatTree) → is_rest p ≡ is_rest_sort (sort_at p)
+rest-asked (t.a_binding false false w s) = refl
+rest-asked (t.a_binding false true w s) = refl
+rest-asked (t.a_binding true m w s) = refl
+rest-asked t.wild = refl
+rest-asked t.rest = refl
+rest-asked (t.range s c e) = refl
+rest-asked (t.a_lit x) = refl
+rest-asked (t.a_path q p) = refl
+rest-asked (t.a_mac m) = refl
+rest-asked (t.a_struct p fs e d) = refl
+rest-asked (t.tuple_struct p ps e) = refl
+rest-asked (t.a_tuple ps e) = refl
+rest-asked (t.a_paren p) = refl
+rest-asked (t.a_slice ps e) = refl
+rest-asked (t.a_reference m p) = refl
+rest-asked (t.a_block ts) = refl
+rest-asked (t.alternatives l ps e) = refl
+rest-asked (t.guarded p) = refl
+rest-asked (t.typed p x) = refl
+rest-asked (t.attributed a more p) = refl
+
+pub mut-asked : (p : PatTree) → begins_mut p ≡ is_mut_sort (sort_at p)
+mut-asked (t.a_binding false false w s) = refl
+mut-asked (t.a_binding false true w s) = refl
+mut-asked (t.a_binding true m w s) = refl
+mut-asked t.wild = refl
+mut-asked t.rest = refl
+mut-asked (t.range s c e) = refl
+mut-asked (t.a_lit x) = refl
+mut-asked (t.a_path q p) = refl
+mut-asked (t.a_mac m) = refl
+mut-asked (t.a_struct p fs e d) = refl
+mut-asked (t.tuple_struct p ps e) = refl
+mut-asked (t.a_tuple ps e) = refl
+mut-asked (t.a_paren p) = refl
+mut-asked (t.a_slice ps e) = refl
+mut-asked (t.a_reference m p) = refl
+mut-asked (t.a_block ts) = refl
+mut-asked (t.alternatives l ps e) = refl
+mut-asked (t.guarded p) = refl
+mut-asked (t.typed p x) = refl
+mut-asked (t.attributed a more p) = refl
+
+pub ruleset asked = (rest-asked, mut-asked)
 
 -- ---- lists
 

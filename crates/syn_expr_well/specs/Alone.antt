@@ -8,13 +8,15 @@ use Rattle.syn_parts.specs.Tree.{AttributeTree, SegmentTree}
 use Rattle.syn_parts.specs.Part.{has_none}
 use Rattle.syn_parts.specs.Pat as t
 use Rattle.syn_parts.specs.Pat.{PatTree}
-use Rattle.syn_parts.specs.PatFits.{attributes_outer, member_fits, pat_fits, closure_arg_fits}
+use Rattle.syn_parts.specs.PatFits.{attributes_outer, member_fits, pat_fits, typed_fits, closure_arg_fits}
 use Rattle.syn_grammar.specs.Tree.{Tree, Lead, Frame, none}
 use Rattle.syn_grammar.specs.WellFormed.{lead_fits, frame_fits}
 use Rattle.syn_pat_kinds.specs.View.{PatView, attributes_of, member_of}
 use Rattle.syn_pat_kinds.specs.declared.pat.FieldPatOf.{FieldPatOf}
 use Rattle.syn_pat_kinds.specs.declared.pat.FieldPatKindOf.{FieldPatKindOf}
 use Rattle.syn_pat_kinds.specs.declared.pat.FieldPatKindOf.TheVariants as kind
+use Rattle.syn_expr_well.specs.declared.patterns.PatSort.{PatSort}
+use Rattle.syn_expr_well.specs.declared.patterns.PatSort.TheVariants as sort
 
 -- ---- patterns
 
@@ -40,7 +42,27 @@ behind p = p
 abbrev pub fits_behind : Bool → PatView → Bool
 fits_behind several p = pat_fits several (behind p.tree) && is_nil p.guards
 
+abbrev pub argument_behind : PatView → Bool
+argument_behind p = typed_fits (behind p.tree) && is_nil p.guards
+
 -- ---- in other patterns
+
+abbrev pub binding_sort : Bool → Bool → PatSort
+binding_sort false true = sort.Mut
+binding_sort _ _ = sort.Other
+
+abbrev pub sort_at : PatTree → PatSort
+sort_at t.rest = sort.Rest
+sort_at (t.a_binding b m w s) = binding_sort b m
+sort_at _ = sort.Other
+
+abbrev pub is_rest_sort : PatSort → Bool
+is_rest_sort sort.Rest = true
+is_rest_sort _ = false
+
+abbrev pub is_mut_sort : PatSort → Bool
+is_mut_sort sort.Mut = true
+is_mut_sort _ = false
 
 -- the pattern behind `@`
 abbrev pub sub_alone : {P A : Type 0} → (P → PatView) → Option (A × Box P Global) → Bool

@@ -20,9 +20,20 @@ use syn_op::limits::RangeLimits;
 use syn_pat_kinds::kinds::HasPatTree;
 use syn_pat_kinds::pat::{
     FieldPatKindOf, FieldPatOf, PatIdentOf, PatLit, PatMacro, PatOrOf, PatParenOf, PatPath,
-    PatRange, PatReferenceOf, PatSliceOf, PatStructOf, PatTupleOf, PatTupleStructOf, RangeBound,
+    PatRange, PatReferenceOf, PatRest, PatSliceOf, PatStructOf, PatTupleOf, PatTupleStructOf, RangeBound,
 };
 use syn_tokens::token::{At, PathSep};
+
+/// What the pattern round another asks of it.
+#[derive(Clone, Copy)]
+pub enum PatSort {
+    /// `..`
+    Rest,
+    /// `mut` and a name.
+    Mut,
+    /// Another, or one behind attributes.
+    Other,
+}
 
 /// The type of patterns, as one looks at them.
 pub trait HasPatShape: HasPatTree {
@@ -30,13 +41,49 @@ pub trait HasPatShape: HasPatTree {
     fn attrs(&self) -> &Vec<Attribute>
         ensures { of.attributes_of result.now ≡ spec.attributes_at (Self.view self.now).tree };
 
-    /// Whether it is `..`, with no attributes before it.
-    fn is_rest(&self) -> bool
-        ensures { result ≡ is_rest (Self.view self.now).tree };
+    /// What the pattern round it asks of it.
+    fn sort(&self) -> PatSort
+        ensures { result ≡ spec.sort_at (Self.view self.now).tree };
+}
 
-    /// Whether `mut` and a name begin it.
-    fn begins_mut(&self) -> bool
-        ensures { result ≡ fits.begins_mut (Self.view self.now).tree };
+/// The sort of `..`.
+#[tactic(auto, using(crate::proofs::Patterns::sorts))]
+pub fn rest_sort(x: &PatRest) -> PatSort
+    ensures { result ≡ spec.sort_at (of.pat_rest_of x.now).tree }
+{
+    if x.attrs.is_empty() {
+        PatSort::Rest
+    } else {
+        PatSort::Other
+    }
+}
+
+/// The sort of a name that is bound.
+#[tactic(auto, using(crate::proofs::Patterns::sorts))]
+pub fn ident_sort<P: HasPatTree>(x: &PatIdentOf<P>) -> PatSort
+    ensures { result ≡ spec.sort_at (of.pat_ident_of P.view x.now).tree }
+{
+    if x.attrs.is_empty() && x.by_ref.is_none() && x.mutability.is_some() {
+        PatSort::Mut
+    } else {
+        PatSort::Other
+    }
+}
+
+/// Whether it is `..`, with no attributes before it.
+#[tactic(auto, using(crate::proofs::Patterns::asked))]
+fn is_rest<P: HasPatShape>(pat: &P) -> bool
+    ensures { result ≡ is_rest (P.view pat.now).tree }
+{
+    matches!(pat.sort(), PatSort::Rest)
+}
+
+/// Whether `mut` and a name begin it.
+#[tactic(auto, using(crate::proofs::Patterns::asked))]
+fn begins_mut<P: HasPatShape>(pat: &P) -> bool
+    ensures { result ≡ fits.begins_mut (P.view pat.now).tree }
+{
+    matches!(pat.sort(), PatSort::Mut)
 }
 
 /// The type of patterns, as one asks whether they are read back.
@@ -88,7 +135,7 @@ fn is_sole_rest<P: HasPatShape, S>(list: &Punctuated<P, S>) -> bool
     ensures { result ≡ spec.is_sole_rest P.view list.now.inner.items list.now.last }
 {
     match &list.last {
-        Some(pat) => list.inner.is_empty() && pat.is_rest(),
+        Some(pat) => list.inner.is_empty() && is_rest::<P>(pat),
         None => false,
     }
 }
@@ -295,7 +342,7 @@ pub fn tuple_fits<P: FitPat>(x: &PatTupleOf<P>, several: bool) -> bool
 pub fn paren_fits<P: FitPat>(x: &PatParenOf<P>, several: bool) -> bool
     ensures { result ≡ spec.fits_behind several (of.pat_paren_of P.view x.now) }
 {
-    pat_fits::<P>(&x.pat, true) && !x.pat.is_rest()
+    pat_fits::<P>(&x.pat, true) && !is_rest::<P>(&x.pat)
 }
 
 /// Whether a slice is read back.
@@ -311,7 +358,7 @@ pub fn slice_fits<P: FitPat>(x: &PatSliceOf<P>, several: bool) -> bool
 pub fn reference_fits<P: FitPat>(x: &PatReferenceOf<P>, several: bool) -> bool
     ensures { result ≡ spec.fits_behind several (of.pat_reference_of P.view x.now) }
 {
-    pat_fits::<P>(&x.pat, false) && (x.mutability.is_some() || !x.pat.begins_mut())
+    pat_fits::<P>(&x.pat, false) && (x.mutability.is_some() || !begins_mut::<P>(&x.pat))
 }
 
 /// Whether alternatives are read back where they may stand: one alone has a `|` before it, and none ends them.
