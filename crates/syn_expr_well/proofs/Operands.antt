@@ -15,7 +15,7 @@ use Rattle.syn_lower_lists.specs.declared.punctuated.Punctuated.{Punctuated}
 use Rattle.syn_lower_lists.specs.View.{values, trails, last_of, mapped}
 use Rattle.syn_lower_leaves.specs.View.{attribute_of}
 use Rattle.syn_lower_leaves.specs.declared.attr.Attribute.{Attribute}
-use Rattle.syn_grammar.specs.Slot as s
+use Rattle.syn_grammar.specs.Slot as slot
 use Rattle.syn_grammar.specs.Slot.{Slot}
 use Rattle.syn_grammar.specs.Tree as e
 use Rattle.syn_grammar.specs.Tree.{Tree, Kids, Ending, Piece, Body, none, kid}
@@ -59,45 +59,45 @@ element_ends true true = refl
 element_ends true false = refl
 element_ends false d = refl
 
-elements_in : (ts : List Tree) (b : Bool) → kids_well s.elements (elements ts b) ≡ list_all well ts
+elements_in : (ts : List Tree) (b : Bool) → kids_well slot.elements (elements ts b) ≡ list_all well ts
 elements_in [] b = refl
-elements_in (t ∷ ts) b = ap (λ c. c && (well t && kids_well s.elements (elements ts b))) (element_ends (is_nil ts) b) ∙ ap (λ c. well t && c) (elements_in ts b)
+elements_in (t ∷ ts) b = ap (λ c. c && (well t && kids_well slot.elements (elements ts b))) (element_ends (is_nil ts) b) ∙ ap (λ c. well t && c) (elements_in ts b)
 
 not_element : (s : Slot) (c : Ending) (t : Tree) → is_elements s ≡ false → piece_fits s e.element c t ≡ false
-not_element s.elements c t h = absurd cc
-not_element s.single c t h = refl
-not_element s.counted c t h = refl
-not_element s.fields c t h = refl
-not_element s.conditions c t h = refl
-not_element s.otherwise c t h = refl
-not_element s.loops c t h = refl
-not_element s.scrutinees c t h = refl
-not_element s.arms c t h = refl
-not_element s.bodies c t h = refl
-not_element s.outputs c t h = refl
-not_element s.done c t h = refl
+not_element slot.elements c t h = absurd cc
+not_element slot.single c t h = refl
+not_element slot.counted c t h = refl
+not_element slot.fields c t h = refl
+not_element slot.conditions c t h = refl
+not_element slot.otherwise c t h = refl
+not_element slot.loops c t h = refl
+not_element slot.scrutinees c t h = refl
+not_element slot.arms c t h = refl
+not_element slot.bodies c t h = refl
+not_element slot.outputs c t h = refl
+not_element slot.done c t h = refl
 
 elements_out : (s : Slot) (ts : List Tree) (b : Bool) → is_elements s ≡ false → kids_well s (elements ts b) ≡ (is_nil ts && may_stop s)
 elements_out s [] b h = refl
-elements_out s (t ∷ ts) b h = ap (λ c. (c && ending_fits e.element (ending_of (is_nil ts) b)) && (well t && kids_well s.elements (elements ts b))) (not_element s (ending_of (is_nil ts) b) t h)
+elements_out s (t ∷ ts) b h = ap (λ c. (c && ending_fits e.element (ending_of (is_nil ts) b)) && (well t && kids_well slot.elements (elements ts b))) (not_element s (ending_of (is_nil ts) b) t h)
 
 nil_map : {A B : Type 0} (f : A → B) (xs : List A) → is_nil (map f xs) ≡ is_nil xs
 nil_map f [] = refl
 nil_map f (x ∷ xs) = refl
 
 pub elements-in : {E : Type 0} (f : E → Tree) (s : Slot) (xs : List E) (b : Bool) → is_elements s ≡ true → kids_well s (elements (map f xs) b) ≡ list_all (λ x. well (f x)) xs
-elements-in f s.elements xs b h = elements_in (map f xs) b ∙ all_map well f xs
-elements-in f s.single xs b h = absurd cc
-elements-in f s.counted xs b h = absurd cc
-elements-in f s.fields xs b h = absurd cc
-elements-in f s.conditions xs b h = absurd cc
-elements-in f s.otherwise xs b h = absurd cc
-elements-in f s.loops xs b h = absurd cc
-elements-in f s.scrutinees xs b h = absurd cc
-elements-in f s.arms xs b h = absurd cc
-elements-in f s.bodies xs b h = absurd cc
-elements-in f s.outputs xs b h = absurd cc
-elements-in f s.done xs b h = absurd cc
+elements-in f slot.elements xs b h = elements_in (map f xs) b ∙ all_map well f xs
+elements-in f slot.single xs b h = absurd cc
+elements-in f slot.counted xs b h = absurd cc
+elements-in f slot.fields xs b h = absurd cc
+elements-in f slot.conditions xs b h = absurd cc
+elements-in f slot.otherwise xs b h = absurd cc
+elements-in f slot.loops xs b h = absurd cc
+elements-in f slot.scrutinees xs b h = absurd cc
+elements-in f slot.arms xs b h = absurd cc
+elements-in f slot.bodies xs b h = absurd cc
+elements-in f slot.outputs xs b h = absurd cc
+elements-in f slot.done xs b h = absurd cc
 
 pub elements-out : {E : Type 0} (f : E → Tree) (s : Slot) (xs : List E) (b : Bool) → is_elements s ≡ false → kids_well s (elements (map f xs) b) ≡ (is_nil xs && may_stop s)
 elements-out f s xs b h = elements_out s (map f xs) b h ∙ ap (λ c. c && may_stop s) (nil_map f xs)
@@ -109,7 +109,7 @@ pub elements-some : {E : Type 0} (xs : List E) → (xs ≡ [] → ⊥) → is_ni
 elements-some [] h = absurd (h refl)
 elements-some (x ∷ xs) h = refl
 
-pub ruleset elements = (elements-in, elements-out, elements-empty, elements-some)
+pub ruleset element_lists = (elements-in, elements-out, elements-empty, elements-some)
 
 -- ---- fields
 
@@ -128,16 +128,16 @@ and_assoc : (a b c : Bool) → ((a && b) && c) ≡ (a && (b && c))
 and_assoc true b c = refl
 and_assoc false b c = refl
 
-field_first : (x : FieldView) (xs : List FieldView) (b : Bool) (rest : Kids) → kids_well s.fields (fields (x ∷ xs) b rest) ≡ (field_well x && kids_well s.fields (fields xs b rest))
+field_first : (x : FieldView) (xs : List FieldView) (b : Bool) (rest : Kids) → kids_well slot.fields (fields (x ∷ xs) b rest) ≡ (field_well x && kids_well slot.fields (fields xs b rest))
 field_first x xs b rest =
-    ap (λ d. ((attributes_outer x.attrs && (member_fits x.member && (x.colon || is_name_path x.member x.value))) && d) && (well x.value && kids_well s.fields (fields xs b rest))) (field_ends x.attrs x.member x.colon (is_nil xs) b)
-    ∙ field_shuffle (attributes_outer x.attrs) (member_fits x.member) (x.colon || is_name_path x.member x.value) (well x.value) (kids_well s.fields (fields xs b rest))
+    ap (λ d. ((attributes_outer x.attrs && (member_fits x.member && (x.colon || is_name_path x.member x.value))) && d) && (well x.value && kids_well slot.fields (fields xs b rest))) (field_ends x.attrs x.member x.colon (is_nil xs) b)
+    ∙ field_shuffle (attributes_outer x.attrs) (member_fits x.member) (x.colon || is_name_path x.member x.value) (well x.value) (kids_well slot.fields (fields xs b rest))
 
-rest_in : (d : Bool) (o : Option Tree) → kids_well s.fields (option_kid (e.rest d) o) ≡ option_well o
+rest_in : (d : Bool) (o : Option Tree) → kids_well slot.fields (option_kid (e.rest d) o) ≡ option_well o
 rest_in d None = refl
 rest_in d (Some t) = and_true (well t)
 
-fields_in : (xs : List FieldView) (b d : Bool) (o : Option Tree) → kids_well s.fields (fields xs b (option_kid (e.rest d) o)) ≡ (list_all field_well xs && option_well o)
+fields_in : (xs : List FieldView) (b d : Bool) (o : Option Tree) → kids_well slot.fields (fields xs b (option_kid (e.rest d) o)) ≡ (list_all field_well xs && option_well o)
 fields_in [] b d o = rest_in d o
 fields_in (x ∷ xs) b d o =
     field_first x xs b (option_kid (e.rest d) o) ∙ (ap (λ c. field_well x && c) (fields_in xs b d o) ∙ sym (and_assoc (field_well x) (list_all field_well xs) (option_well o)))
@@ -148,61 +148,61 @@ fields_rest [] b d (Some t) = refl
 fields_rest (x ∷ xs) b d o = fields_rest xs b d o
 
 not_field : (s : Slot) (x : FieldView) (c : Ending) → is_fields s ≡ false → piece_fits s (e.field_value x.attrs x.member x.colon) c x.value ≡ false
-not_field s.elements x c h = refl
-not_field s.single x c h = refl
-not_field s.counted x c h = refl
-not_field s.fields x c h = absurd cc
-not_field s.conditions x c h = refl
-not_field s.otherwise x c h = refl
-not_field s.loops x c h = refl
-not_field s.scrutinees x c h = refl
-not_field s.arms x c h = refl
-not_field s.bodies x c h = refl
-not_field s.outputs x c h = refl
-not_field s.done x c h = refl
+not_field slot.elements x c h = refl
+not_field slot.single x c h = refl
+not_field slot.counted x c h = refl
+not_field slot.fields x c h = absurd cc
+not_field slot.conditions x c h = refl
+not_field slot.otherwise x c h = refl
+not_field slot.loops x c h = refl
+not_field slot.scrutinees x c h = refl
+not_field slot.arms x c h = refl
+not_field slot.bodies x c h = refl
+not_field slot.outputs x c h = refl
+not_field slot.done x c h = refl
 
 not_rest : (s : Slot) (d : Bool) (c : Ending) (t : Tree) → is_fields s ≡ false → piece_fits s (e.rest d) c t ≡ false
-not_rest s.elements d c t h = refl
-not_rest s.single d c t h = refl
-not_rest s.counted d c t h = refl
-not_rest s.fields d c t h = absurd cc
-not_rest s.conditions d c t h = refl
-not_rest s.otherwise d c t h = refl
-not_rest s.loops d c t h = refl
-not_rest s.scrutinees d c t h = refl
-not_rest s.arms d c t h = refl
-not_rest s.bodies d c t h = refl
-not_rest s.outputs d c t h = refl
-not_rest s.done d c t h = refl
+not_rest slot.elements d c t h = refl
+not_rest slot.single d c t h = refl
+not_rest slot.counted d c t h = refl
+not_rest slot.fields d c t h = absurd cc
+not_rest slot.conditions d c t h = refl
+not_rest slot.otherwise d c t h = refl
+not_rest slot.loops d c t h = refl
+not_rest slot.scrutinees d c t h = refl
+not_rest slot.arms d c t h = refl
+not_rest slot.bodies d c t h = refl
+not_rest slot.outputs d c t h = refl
+not_rest slot.done d c t h = refl
 
 fields_out : (s : Slot) (xs : List FieldView) (b d : Bool) (o : Option Tree) → is_fields s ≡ false → kids_well s (fields xs b (option_kid (e.rest d) o)) ≡ (is_nil xs && (not (is_some o) && may_stop s))
 fields_out s [] b d None h = refl
 fields_out s [] b d (Some t) h = ap (λ c. (c && true) && (well t && true)) (not_rest s d e.no_ending t h)
 fields_out s (x ∷ xs) b d o h =
-    ap (λ c. (c && ending_fits (e.field_value x.attrs x.member x.colon) (ending_of (is_nil xs) b)) && (well x.value && kids_well s.fields (fields xs b (option_kid (e.rest d) o)))) (not_field s x (ending_of (is_nil xs) b) h)
+    ap (λ c. (c && ending_fits (e.field_value x.attrs x.member x.colon) (ending_of (is_nil xs) b)) && (well x.value && kids_well slot.fields (fields xs b (option_kid (e.rest d) o)))) (not_field s x (ending_of (is_nil xs) b) h)
 
 some_boxed : {E : Type 0} (f : E → Tree) (o : Option (Box E Global)) → is_some (boxed f o) ≡ is_some o
 some_boxed f None = refl
 some_boxed f (Some x) = refl
 
 fields_by : {F : Type 0} (f : F → FieldView) (xs : List F) (b d dots : Bool) (o : Option Tree)
-    → operands_well s.fields dots (framed (fields (map f xs) b (option_kid (e.rest d) o))) ≡ (not (dots && is_some o) && (list_all (λ x. field_well (f x)) xs && option_well o))
+    → operands_well slot.fields dots (framed (fields (map f xs) b (option_kid (e.rest d) o))) ≡ (not (dots && is_some o) && (list_all (λ x. field_well (f x)) xs && option_well o))
 fields_by f xs b d dots o = rw (fields_rest (map f xs) b d o, fields_in (map f xs) b d o, all_map field_well f xs) refl
 
 pub fields-in : {E F : Type 0} (f : F → FieldView) (g : E → Tree) (s : Slot) (dots : Bool) (xs : List F) (b d : Bool) (o : Option (Box E Global)) → is_fields s ≡ true
     → operands_well s dots (framed (fields (map f xs) b (option_kid (e.rest d) (boxed g o)))) ≡ (not (dots && is_some o) && (list_all (λ x. field_well (f x)) xs && option_well (boxed g o)))
-fields-in f g s.elements dots xs b d o h = absurd cc
-fields-in f g s.single dots xs b d o h = absurd cc
-fields-in f g s.counted dots xs b d o h = absurd cc
-fields-in f g s.fields dots xs b d o h = fields_by f xs b d dots (boxed g o) ∙ ap (λ c. not (dots && c) && (list_all (λ x. field_well (f x)) xs && option_well (boxed g o))) (some_boxed g o)
-fields-in f g s.conditions dots xs b d o h = absurd cc
-fields-in f g s.otherwise dots xs b d o h = absurd cc
-fields-in f g s.loops dots xs b d o h = absurd cc
-fields-in f g s.scrutinees dots xs b d o h = absurd cc
-fields-in f g s.arms dots xs b d o h = absurd cc
-fields-in f g s.bodies dots xs b d o h = absurd cc
-fields-in f g s.outputs dots xs b d o h = absurd cc
-fields-in f g s.done dots xs b d o h = absurd cc
+fields-in f g slot.elements dots xs b d o h = absurd cc
+fields-in f g slot.single dots xs b d o h = absurd cc
+fields-in f g slot.counted dots xs b d o h = absurd cc
+fields-in f g slot.fields dots xs b d o h = fields_by f xs b d dots (boxed g o) ∙ ap (λ c. not (dots && c) && (list_all (λ x. field_well (f x)) xs && option_well (boxed g o))) (some_boxed g o)
+fields-in f g slot.conditions dots xs b d o h = absurd cc
+fields-in f g slot.otherwise dots xs b d o h = absurd cc
+fields-in f g slot.loops dots xs b d o h = absurd cc
+fields-in f g slot.scrutinees dots xs b d o h = absurd cc
+fields-in f g slot.arms dots xs b d o h = absurd cc
+fields-in f g slot.bodies dots xs b d o h = absurd cc
+fields-in f g slot.outputs dots xs b d o h = absurd cc
+fields-in f g slot.done dots xs b d o h = absurd cc
 
 out_of : (dots n m : Bool) (o : Bool) → (not (dots && o) && (n && (not o && m))) ≡ (n && (not o && m))
 out_of true n m false = refl
@@ -215,107 +215,107 @@ pub fields-out : {E F : Type 0} (f : F → FieldView) (g : E → Tree) (s : Slot
 fields-out f g s dots xs b d o h =
     rw (fields_rest (map f xs) b d (boxed g o), fields_out s (map f xs) b d (boxed g o) h, some_boxed g o, nil_map f xs) (out_of dots (is_nil xs) (may_stop s) (is_some o))
 
-pub ruleset fields = (fields-in, fields-out, elements-empty, elements-some)
+pub ruleset field_lists = (fields-in, fields-out, elements-empty, elements-some)
 
 -- ---- other operands in places of their own
 
 value_in : (s : Slot) (c : Ending) (t : Tree) → piece_fits s e.value c t ≡ is_single s
-value_in s.elements c t = refl
-value_in s.single c t = refl
-value_in s.counted c t = refl
-value_in s.fields c t = refl
-value_in s.conditions c t = refl
-value_in s.otherwise c t = refl
-value_in s.loops c t = refl
-value_in s.scrutinees c t = refl
-value_in s.arms c t = refl
-value_in s.bodies c t = refl
-value_in s.outputs c t = refl
-value_in s.done c t = refl
+value_in slot.elements c t = refl
+value_in slot.single c t = refl
+value_in slot.counted c t = refl
+value_in slot.fields c t = refl
+value_in slot.conditions c t = refl
+value_in slot.otherwise c t = refl
+value_in slot.loops c t = refl
+value_in slot.scrutinees c t = refl
+value_in slot.arms c t = refl
+value_in slot.bodies c t = refl
+value_in slot.outputs c t = refl
+value_in slot.done c t = refl
 
 repeated_in : (s : Slot) (c : Ending) (t : Tree) → piece_fits s e.repeated c t ≡ is_counted s
-repeated_in s.elements c t = refl
-repeated_in s.single c t = refl
-repeated_in s.counted c t = refl
-repeated_in s.fields c t = refl
-repeated_in s.conditions c t = refl
-repeated_in s.otherwise c t = refl
-repeated_in s.loops c t = refl
-repeated_in s.scrutinees c t = refl
-repeated_in s.arms c t = refl
-repeated_in s.bodies c t = refl
-repeated_in s.outputs c t = refl
-repeated_in s.done c t = refl
+repeated_in slot.elements c t = refl
+repeated_in slot.single c t = refl
+repeated_in slot.counted c t = refl
+repeated_in slot.fields c t = refl
+repeated_in slot.conditions c t = refl
+repeated_in slot.otherwise c t = refl
+repeated_in slot.loops c t = refl
+repeated_in slot.scrutinees c t = refl
+repeated_in slot.arms c t = refl
+repeated_in slot.bodies c t = refl
+repeated_in slot.outputs c t = refl
+repeated_in slot.done c t = refl
 
 condition_in : (s : Slot) (c : Ending) (t : Tree) → piece_fits s e.condition c t ≡ is_conditions s
-condition_in s.elements c t = refl
-condition_in s.single c t = refl
-condition_in s.counted c t = refl
-condition_in s.fields c t = refl
-condition_in s.conditions c t = refl
-condition_in s.otherwise c t = refl
-condition_in s.loops c t = refl
-condition_in s.scrutinees c t = refl
-condition_in s.arms c t = refl
-condition_in s.bodies c t = refl
-condition_in s.outputs c t = refl
-condition_in s.done c t = refl
+condition_in slot.elements c t = refl
+condition_in slot.single c t = refl
+condition_in slot.counted c t = refl
+condition_in slot.fields c t = refl
+condition_in slot.conditions c t = refl
+condition_in slot.otherwise c t = refl
+condition_in slot.loops c t = refl
+condition_in slot.scrutinees c t = refl
+condition_in slot.arms c t = refl
+condition_in slot.bodies c t = refl
+condition_in slot.outputs c t = refl
+condition_in slot.done c t = refl
 
 loop_head_in : (s : Slot) (c : Ending) (t : Tree) → piece_fits s e.loop_head c t ≡ is_loops s
-loop_head_in s.elements c t = refl
-loop_head_in s.single c t = refl
-loop_head_in s.counted c t = refl
-loop_head_in s.fields c t = refl
-loop_head_in s.conditions c t = refl
-loop_head_in s.otherwise c t = refl
-loop_head_in s.loops c t = refl
-loop_head_in s.scrutinees c t = refl
-loop_head_in s.arms c t = refl
-loop_head_in s.bodies c t = refl
-loop_head_in s.outputs c t = refl
-loop_head_in s.done c t = refl
+loop_head_in slot.elements c t = refl
+loop_head_in slot.single c t = refl
+loop_head_in slot.counted c t = refl
+loop_head_in slot.fields c t = refl
+loop_head_in slot.conditions c t = refl
+loop_head_in slot.otherwise c t = refl
+loop_head_in slot.loops c t = refl
+loop_head_in slot.scrutinees c t = refl
+loop_head_in slot.arms c t = refl
+loop_head_in slot.bodies c t = refl
+loop_head_in slot.outputs c t = refl
+loop_head_in slot.done c t = refl
 
 scrutinee_in : (s : Slot) (c : Ending) (t : Tree) → piece_fits s e.scrutinee c t ≡ is_scrutinees s
-scrutinee_in s.elements c t = refl
-scrutinee_in s.single c t = refl
-scrutinee_in s.counted c t = refl
-scrutinee_in s.fields c t = refl
-scrutinee_in s.conditions c t = refl
-scrutinee_in s.otherwise c t = refl
-scrutinee_in s.loops c t = refl
-scrutinee_in s.scrutinees c t = refl
-scrutinee_in s.arms c t = refl
-scrutinee_in s.bodies c t = refl
-scrutinee_in s.outputs c t = refl
-scrutinee_in s.done c t = refl
+scrutinee_in slot.elements c t = refl
+scrutinee_in slot.single c t = refl
+scrutinee_in slot.counted c t = refl
+scrutinee_in slot.fields c t = refl
+scrutinee_in slot.conditions c t = refl
+scrutinee_in slot.otherwise c t = refl
+scrutinee_in slot.loops c t = refl
+scrutinee_in slot.scrutinees c t = refl
+scrutinee_in slot.arms c t = refl
+scrutinee_in slot.bodies c t = refl
+scrutinee_in slot.outputs c t = refl
+scrutinee_in slot.done c t = refl
 
 output_in : (s : Slot) (c : Ending) (t : Tree) → piece_fits s e.output_block c t ≡ (is_outputs s && is_kept_block t)
-output_in s.elements c t = refl
-output_in s.single c t = refl
-output_in s.counted c t = refl
-output_in s.fields c t = refl
-output_in s.conditions c t = refl
-output_in s.otherwise c t = refl
-output_in s.loops c t = refl
-output_in s.scrutinees c t = refl
-output_in s.arms c t = refl
-output_in s.bodies c t = refl
-output_in s.outputs c t = refl
-output_in s.done c t = refl
+output_in slot.elements c t = refl
+output_in slot.single c t = refl
+output_in slot.counted c t = refl
+output_in slot.fields c t = refl
+output_in slot.conditions c t = refl
+output_in slot.otherwise c t = refl
+output_in slot.loops c t = refl
+output_in slot.scrutinees c t = refl
+output_in slot.arms c t = refl
+output_in slot.bodies c t = refl
+output_in slot.outputs c t = refl
+output_in slot.done c t = refl
 
 grouped_in : (s : Slot) (c : Ending) (t : Tree) → piece_fits s e.grouped c t ≡ false
-grouped_in s.elements c t = refl
-grouped_in s.single c t = refl
-grouped_in s.counted c t = refl
-grouped_in s.fields c t = refl
-grouped_in s.conditions c t = refl
-grouped_in s.otherwise c t = refl
-grouped_in s.loops c t = refl
-grouped_in s.scrutinees c t = refl
-grouped_in s.arms c t = refl
-grouped_in s.bodies c t = refl
-grouped_in s.outputs c t = refl
-grouped_in s.done c t = refl
+grouped_in slot.elements c t = refl
+grouped_in slot.single c t = refl
+grouped_in slot.counted c t = refl
+grouped_in slot.fields c t = refl
+grouped_in slot.conditions c t = refl
+grouped_in slot.otherwise c t = refl
+grouped_in slot.loops c t = refl
+grouped_in slot.scrutinees c t = refl
+grouped_in slot.arms c t = refl
+grouped_in slot.bodies c t = refl
+grouped_in slot.outputs c t = refl
+grouped_in slot.done c t = refl
 
 not_both : (b : Bool) → not (b && false) ≡ true
 not_both true = refl
@@ -348,7 +348,7 @@ chain_is true false w = and_true w
 chain_is false true w = refl
 chain_is false false w = refl
 
-else_in : {E S : Type 0} (f : E → Tree) (o : Option (S × Box E Global)) → kids_well s.otherwise (else_of f o) ≡ else_well (mapped (λ q. f q.1.value) o)
+else_in : {E S : Type 0} (f : E → Tree) (o : Option (S × Box E Global)) → kids_well slot.otherwise (else_of f o) ≡ else_well (mapped (λ q. f q.1.value) o)
 else_in f None = refl
 else_in f (Some q) = chain_is (is_branch (f q.1.value)) (is_kept_block (f q.1.value)) (well (f q.1.value))
 
@@ -394,24 +394,24 @@ guard_shuffle false p g w r = refl
 
 abbrev ArmWell : ArmView → Kids → PatTree → List Tree → Type 0
 ArmWell x more p gs =
-    kids_well s.arms (arm_kids x p gs more) ≡ (((attributes_outer x.attrs && arm_pattern p gs) && (option_well (guard_by p gs) && well x.body)) && kids_well s.arms more)
+    kids_well slot.arms (arm_kids x p gs more) ≡ (((attributes_outer x.attrs && arm_pattern p gs) && (option_well (guard_by p gs) && well x.body)) && kids_well slot.arms more)
 
 -- without a guard of its own
 bare_arm : (x : ArmView) (more : Kids) (p : PatTree) (gs : List Tree)
-    → kids_well s.arms (strays gs (kid (e.arm x.attrs p) (arm_ending x.comma) x.body more)) ≡ (((attributes_outer x.attrs && (pat_fits true p && is_nil gs)) && (true && well x.body)) && kids_well s.arms more)
-bare_arm x more p [] = rw (arm_ends x.attrs p x.comma) (arm_shuffle (attributes_outer x.attrs) (pat_fits true p) (well x.body) (kids_well s.arms more))
+    → kids_well slot.arms (strays gs (kid (e.arm x.attrs p) (arm_ending x.comma) x.body more)) ≡ (((attributes_outer x.attrs && (pat_fits true p && is_nil gs)) && (true && well x.body)) && kids_well slot.arms more)
+bare_arm x more p [] = rw (arm_ends x.attrs p x.comma) (arm_shuffle (attributes_outer x.attrs) (pat_fits true p) (well x.body) (kids_well slot.arms more))
 bare_arm x more p (g ∷ gs) = by (attributes_outer x.attrs) (pat_fits true p)
   where
-    by : (a b : Bool) → false ≡ (((a && (b && false)) && (true && well x.body)) && kids_well s.arms more)
+    by : (a b : Bool) → false ≡ (((a && (b && false)) && (true && well x.body)) && kids_well slot.arms more)
     by true true = refl
     by true false = refl
     by false b = refl
 
 own_guard : (x : ArmView) (more : Kids) (p : PatTree) (g : Tree) (gs : List Tree) → ArmWell x more (guarded p) (g ∷ gs)
-own_guard x more p g [] = rw (guarded_ends x.comma) (guard_shuffle (attributes_outer x.attrs) (pat_fits true p) (well g) (well x.body) (kids_well s.arms more))
+own_guard x more p g [] = rw (guarded_ends x.comma) (guard_shuffle (attributes_outer x.attrs) (pat_fits true p) (well g) (well x.body) (kids_well slot.arms more))
 own_guard x more p g (h ∷ gs) = by (attributes_outer x.attrs) (pat_fits true p)
   where
-    by : (a b : Bool) → false ≡ (((a && (b && false)) && (well (last_guard h gs) && well x.body)) && kids_well s.arms more)
+    by : (a b : Bool) → false ≡ (((a && (b && false)) && (well (last_guard h gs) && well x.body)) && kids_well slot.arms more)
     by true true = refl
     by true false = refl
     by false b = refl
@@ -421,7 +421,7 @@ arm_is x more (guarded p) [] = bare_arm x more (guarded p) []
 arm_is x more (guarded p) (g ∷ gs) = own_guard x more p g gs
 arm_is x more p gs = bare_arm x more p gs
 
-arms_in : (xs : List ArmView) → kids_well s.arms (arms xs) ≡ list_all arm_well xs
+arms_in : (xs : List ArmView) → kids_well slot.arms (arms xs) ≡ list_all arm_well xs
 arms_in [] = refl
 arms_in (x ∷ xs) = arm_is x (arms xs) x.pat.tree x.pat.guards ∙ ap (λ b. arm_well x && b) (arms_in xs)
 

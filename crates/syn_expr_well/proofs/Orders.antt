@@ -9,7 +9,7 @@ use Rattle.syn_expr_well.specs.Orders.{in_order_behind}
 -- ---- one by one
 
 order_by : (b : Bool) (a : AttributeTree) (more : List AttributeTree) → a.inner ≡ b → is_in_order (a ∷ more) ≡ in_order_behind b more
-order_by true a more h = rw h (ap (λ b. b && all_inner more) h)
+order_by true a more h = rw h refl
 order_by false a more h = rw h refl
 
 pub order-inner : (a : AttributeTree) (more : List AttributeTree) → a.inner ≡ true → is_in_order (a ∷ more) ≡ all_inner more
@@ -24,20 +24,20 @@ pub ruleset orders = (order-inner, order-outer)
 
 before_outer : (ats : List AttributeTree) → attributes_outer (before_inner ats) ≡ true
 before_outer [] = refl
-before_outer (a ∷ more) = by a.inner refl
+before_outer (a ∷ more) = by a.inner refl (before_outer more)
   where
-    by : (b : Bool) → a.inner ≡ b → attributes_outer (if b then [] else a ∷ before_inner more) ≡ true
-    by true h = refl
-    by false h = rw h (before_outer more)
+    by : (b : Bool) → a.inner ≡ b → attributes_outer (before_inner more) ≡ true → attributes_outer (if b then [] else a ∷ before_inner more) ≡ true
+    by true h k = refl
+    by false h k = rw h k
 
 -- out of order one is an inner one
 not_outer : (ats : List AttributeTree) → is_in_order ats ≡ false → attributes_outer ats ≡ false
 not_outer [] h = absurd cc
-not_outer (a ∷ more) h = by a.inner refl
+not_outer (a ∷ more) h = by a.inner refl (λ i. not_outer more i)
   where
-    by : (b : Bool) → a.inner ≡ b → (not b && attributes_outer more) ≡ false
-    by true k = refl
-    by false k = not_outer more (sym (order-outer a more k) ∙ h)
+    by : (b : Bool) → a.inner ≡ b → (is_in_order more ≡ false → attributes_outer more ≡ false) → (not b && attributes_outer more) ≡ false
+    by true k f = refl
+    by false k f = f (sym (order-outer a more k) ∙ h)
 
 part_outer : (b : Bool) (ats : List AttributeTree) → is_in_order ats ≡ b → attributes_outer (if b then before_inner ats else ats) ≡ b
 part_outer true ats h = before_outer ats
@@ -52,11 +52,11 @@ pub ruleset outers = (outer-order)
 
 from_nil : (ats : List AttributeTree) → is_nil (from_inner ats) ≡ attributes_outer ats
 from_nil [] = refl
-from_nil (a ∷ more) = by a.inner
+from_nil (a ∷ more) = by a.inner (from_nil more)
   where
-    by : (b : Bool) → is_nil (if b then a ∷ more else from_inner more) ≡ (not b && attributes_outer more)
-    by true = refl
-    by false = from_nil more
+    by : (b : Bool) → is_nil (from_inner more) ≡ attributes_outer more → is_nil (if b then a ∷ more else from_inner more) ≡ (not b && attributes_outer more)
+    by true h = refl
+    by false h = h
 
 or_not : (b : Bool) (ats : List AttributeTree) → is_in_order ats ≡ b → is_nil (if b then from_inner ats else []) ≡ (attributes_outer ats || not b)
 or_not true ats h = from_nil ats ∙ by (attributes_outer ats)

@@ -68,7 +68,7 @@ fn list_well<E: HasWell>(elements: &Punctuated<E, Comma>) -> bool
 
 /// Whether the elements of a list are read back in their places.
 #[cycle(is_well)]
-#[tactic(auto, using(crate::proofs::Operands::elements))]
+#[tactic(auto, using(crate::proofs::Operands::element_lists))]
 fn elements_well<E: HasWell>(place: Place, elements: &Punctuated<E, Comma>) -> bool
     ensures { result ≡ kids_well (slot_of place) (of.elements (map E.tree (values elements.now)) (trails elements.now)) }
 {
@@ -132,7 +132,7 @@ fn rest_well<E: HasWell>(rest: &Option<Box<E>>) -> bool
 
 /// Whether the fields of a struct expression are read back in their places, and what the others are taken of.
 #[cycle(is_well)]
-#[tactic(auto, using(crate::proofs::Operands::fields))]
+#[tactic(auto, using(crate::proofs::Operands::field_lists))]
 fn fields_well<E: HasWell>(
     place: Place,
     fields: &Punctuated<FieldValueOf<E>, Comma>,
