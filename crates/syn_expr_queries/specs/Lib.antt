@@ -2,3 +2,4 @@ pub mod Ends
 pub mod Node
 pub mod Frames
 pub mod Right
+pub mod Framed

@@ -5,6 +5,7 @@
 pub mod attributes;
 mod brace;
 pub mod classify;
+mod expr;
 pub mod frames;
 mod label;
 mod name;

@@ -7,3 +7,4 @@ pub mod Owns
 pub mod Kept
 pub mod Operands
 pub mod Wholes
+pub mod Pats

@@ -3,3 +3,4 @@ pub mod Orders
 pub mod Places
 pub mod Well
 pub mod Walk
+pub mod Whole

@@ -2,12 +2,14 @@
 #![tactic(auto)]
 
 mod attributes;
+pub mod expr;
 pub mod fits;
 pub mod heads;
 mod kept;
 pub mod own;
+mod pat;
 pub mod patterns;
 pub mod place;
 pub mod walk;
 
-pub use walk::{HasWell, is_well};
+pub use expr::is_well_formed;
