@@ -1,10 +1,10 @@
 pub mod Inner
 pub mod Indices
 pub mod Closures
-pub mod Patterns
+pub mod PatKinds
 pub mod Orders
 pub mod Owns
-pub mod Kept
+pub mod KeptLeaves
 pub mod Operands
 pub mod Wholes
 pub mod Pats

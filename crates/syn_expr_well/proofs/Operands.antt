@@ -26,6 +26,7 @@ use Rattle.syn_expr_kinds.specs.Node.{framed, based, based_by}
 use Rattle.syn_expr_kinds.specs.Pats.{ArmView, strays, guard_kids, arm_ending, arm_kids, arms}
 use Rattle.syn_expr_kinds.specs.View.{FieldView, ending_of, elements, fields, option_kid, boxed, else_of, body_of}
 use Rattle.syn_expr_collect.specs.Arm.{last_guard, guard_by, guard_at}
+use Rattle.syn_expr_collect.proofs.Lists.{some_visited, none_visited}
 use Rattle.syn_expr_well.specs.Places.{is_elements, is_single, is_counted, is_fields, is_conditions, is_loops, is_scrutinees, is_outputs}
 use Rattle.syn_expr_well.specs.Walk.{operands_well, option_well, field_well, chain_well, else_well, arm_pattern, arm_head, arm_well}
 use Rattle.syn_expr_well.proofs.Closures.{and_true, and_false}
@@ -50,7 +51,7 @@ all-none f p h = all_values f p ∙ (ap (λ c. list_all (λ q. f q.0) p.inner.it
 pub all-not : {A P : Type 0} (f : A → Bool) (p : Punctuated A P) → list_all (λ q. f q.0) p.inner.items ≡ false → list_all f (values p) ≡ false
 all-not f p h = all_values f p ∙ ap (λ b. b && list_all f (last_of p.last)) h
 
-pub ruleset lists = (all-some, all-none, all-not)
+pub ruleset lists = (all-some, all-none, all-not, some_visited, none_visited)
 
 -- ---- elements
 

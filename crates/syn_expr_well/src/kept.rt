@@ -51,7 +51,7 @@ fn is_kept_leaf(leaf: Leaf<'_>) -> bool
 }
 
 /// Whether it is the block of its tokens alone, without attributes.
-#[tactic(auto, using(crate::proofs::Kept::blocks))]
+#[tactic(auto, using(crate::proofs::KeptLeaves::blocks))]
 pub(crate) fn is_kept_block<E: HasShape>(expr: &E) -> bool
     ensures { result ≡ spec.is_kept_block (E.tree expr.now) }
 {
@@ -89,7 +89,7 @@ fn is_word(leaf: Leaf<'_>, word: &str) -> bool
 }
 
 /// Whether it is the path that is this name, without attributes.
-#[tactic(auto, using(crate::proofs::Kept::names))]
+#[tactic(auto, using(crate::proofs::KeptLeaves::names))]
 fn is_name<E: HasShape>(expr: &E, name: &str) -> bool
     ensures { result ≡ spec.is_name_path (a_name name.now) (E.tree expr.now) }
 {
@@ -100,7 +100,7 @@ fn is_name<E: HasShape>(expr: &E, name: &str) -> bool
 }
 
 /// Whether it is the path that is the name of this field.
-#[tactic(auto, using(crate::proofs::Kept::names))]
+#[tactic(auto, using(crate::proofs::KeptLeaves::names))]
 pub(crate) fn is_name_path<E: HasShape>(member: &Member, expr: &E) -> bool
     ensures { result ≡ spec.is_name_path (member_of member.now) (E.tree expr.now) }
 {

@@ -48,7 +48,7 @@ impl HasPatShape for Pat {
     }
 }
 
-#[tactic(auto, using(syn_expr_all::proofs::TreeOf::pats, syn_expr_all::proofs::TreeOf::members, crate::proofs::Patterns::always))]
+#[tactic(auto, using(syn_expr_all::proofs::TreeOf::pats, syn_expr_all::proofs::TreeOf::members, crate::proofs::PatKinds::always))]
 impl FitPat for Pat {
     #[cycle(fits)]
     fn fits_behind(&self, several: bool) -> bool {

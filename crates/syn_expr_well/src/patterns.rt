@@ -47,7 +47,7 @@ pub trait HasPatShape: HasPatTree {
 }
 
 /// The sort of `..`.
-#[tactic(auto, using(crate::proofs::Patterns::sorts))]
+#[tactic(auto, using(crate::proofs::PatKinds::sorts))]
 pub fn rest_sort(x: &PatRest) -> PatSort
     ensures { result ≡ spec.sort_at (of.pat_rest_of x.now).tree }
 {
@@ -59,7 +59,7 @@ pub fn rest_sort(x: &PatRest) -> PatSort
 }
 
 /// The sort of a name that is bound.
-#[tactic(auto, using(crate::proofs::Patterns::sorts))]
+#[tactic(auto, using(crate::proofs::PatKinds::sorts))]
 pub fn ident_sort<P: HasPatTree>(x: &PatIdentOf<P>) -> PatSort
     ensures { result ≡ spec.sort_at (of.pat_ident_of P.view x.now).tree }
 {
@@ -71,7 +71,7 @@ pub fn ident_sort<P: HasPatTree>(x: &PatIdentOf<P>) -> PatSort
 }
 
 /// Whether it is `..`, with no attributes before it.
-#[tactic(auto, using(crate::proofs::Patterns::asked))]
+#[tactic(auto, using(crate::proofs::PatKinds::asked))]
 fn is_rest<P: HasPatShape>(pat: &P) -> bool
     ensures { result ≡ is_rest (P.view pat.now).tree }
 {
@@ -79,7 +79,7 @@ fn is_rest<P: HasPatShape>(pat: &P) -> bool
 }
 
 /// Whether `mut` and a name begin it.
-#[tactic(auto, using(crate::proofs::Patterns::asked))]
+#[tactic(auto, using(crate::proofs::PatKinds::asked))]
 fn begins_mut<P: HasPatShape>(pat: &P) -> bool
     ensures { result ≡ fits.begins_mut (P.view pat.now).tree }
 {
@@ -95,7 +95,7 @@ pub trait FitPat: HasPatShape {
 }
 
 /// Whether a pattern is read back, where alternatives may stand or may not, and no guard stands in it.
-#[tactic(auto, using(crate::proofs::Patterns::wholes), unfolding(syn_expr_kinds::specs::Attrs::attrs_of))]
+#[tactic(auto, using(crate::proofs::PatKinds::wholes), unfolding(syn_expr_kinds::specs::Attrs::attrs_of))]
 pub fn pat_fits<P: FitPat>(pat: &P, several: bool) -> bool
     ensures { result ≡ spec.fits_alone several (P.view pat.now) }
 {
@@ -161,7 +161,7 @@ fn bound_or(missing: bool, bound: &Option<RangeBound>) -> bool
 }
 
 /// Whether a range is read back: one without a bound is closed, and a closed one has an end.
-#[tactic(auto, using(crate::proofs::Patterns::ranges))]
+#[tactic(auto, using(crate::proofs::PatKinds::ranges))]
 pub fn range_fits(x: &PatRange, several: bool) -> bool
     ensures { result ≡ spec.fits_behind several (of.pat_range_of x.now) }
 {
@@ -171,7 +171,7 @@ pub fn range_fits(x: &PatRange, several: bool) -> bool
 }
 
 /// Whether a literal is read back, perhaps with a sign.
-#[tactic(auto, using(crate::proofs::Patterns::kinds))]
+#[tactic(auto, using(crate::proofs::PatKinds::kinds))]
 pub fn lit_fits(x: &PatLit, several: bool) -> bool
     ensures { result ≡ spec.fits_behind several (of.pat_lit_of x.now) }
 {
@@ -189,7 +189,7 @@ fn sub_fits<P: FitPat>(sub: &Option<(At, Box<P>)>) -> bool
 }
 
 /// Whether a name that is bound is read back, and what stands behind its `@`.
-#[tactic(auto, using(crate::proofs::Patterns::kinds))]
+#[tactic(auto, using(crate::proofs::PatKinds::kinds))]
 pub fn ident_fits<P: FitPat>(x: &PatIdentOf<P>, several: bool) -> bool
     ensures { result ≡ spec.fits_behind several (of.pat_ident_of P.view x.now) }
 {
@@ -216,7 +216,7 @@ fn is_sole_name(segments: &Punctuated<PathSegment, PathSep>) -> bool
 }
 
 /// Whether a path is one name, which is read as what it binds.
-#[tactic(auto, using(crate::proofs::Patterns::names))]
+#[tactic(auto, using(crate::proofs::PatKinds::names))]
 fn is_one_name(qself: &Option<QSelf>, path: &Path) -> bool
     ensures { result ≡ fits.is_one_name (qself_or type_of qself.now) (path_of type_of path.now) }
 {
@@ -224,7 +224,7 @@ fn is_one_name(qself: &Option<QSelf>, path: &Path) -> bool
 }
 
 /// Whether a path is read back: one name is not.
-#[tactic(auto, using(crate::proofs::Patterns::kinds))]
+#[tactic(auto, using(crate::proofs::PatKinds::kinds))]
 pub fn path_fits(x: &PatPath, several: bool) -> bool
     ensures { result ≡ spec.fits_behind several (of.pat_path_of x.now) }
 {
@@ -245,7 +245,7 @@ fn pairs_bare(mut pairs: &[(PathSegment, PathSep)]) -> bool
 }
 
 /// Whether no segment has arguments.
-#[tactic(auto, using(crate::proofs::Patterns::bares), unfolding(syn_lower_lists::specs::View::values))]
+#[tactic(auto, using(crate::proofs::PatKinds::bares), unfolding(syn_lower_lists::specs::View::values))]
 fn are_bare(segments: &Punctuated<PathSegment, PathSep>) -> bool
     ensures { result ≡ segments_bare (map (segment_of type_of) (values segments.now)) }
 {
@@ -259,7 +259,7 @@ fn are_bare(segments: &Punctuated<PathSegment, PathSep>) -> bool
 }
 
 /// Whether the call of a macro is read back: no segment of its path has arguments.
-#[tactic(auto, using(crate::proofs::Patterns::kinds))]
+#[tactic(auto, using(crate::proofs::PatKinds::kinds))]
 pub fn macro_fits(x: &PatMacro, several: bool) -> bool
     ensures { result ≡ spec.fits_behind several (of.pat_macro_of x.now) }
 {
@@ -312,7 +312,7 @@ fn fields_fit<P: FitPat, S>(list: &Punctuated<FieldPatOf<P>, S>) -> bool
 }
 
 /// Whether a struct pattern is read back: between its fields and `..` a comma stands.
-#[tactic(auto, using(crate::proofs::Patterns::structs))]
+#[tactic(auto, using(crate::proofs::PatKinds::structs))]
 pub fn struct_fits<P: FitPat>(x: &PatStructOf<P>, several: bool) -> bool
     ensures { result ≡ spec.fits_behind several (of.pat_struct_of P.view x.now) }
 {
@@ -322,7 +322,7 @@ pub fn struct_fits<P: FitPat>(x: &PatStructOf<P>, several: bool) -> bool
 }
 
 /// Whether a tuple struct pattern is read back.
-#[tactic(auto, using(crate::proofs::Patterns::kinds))]
+#[tactic(auto, using(crate::proofs::PatKinds::kinds))]
 pub fn tuple_struct_fits<P: FitPat>(x: &PatTupleStructOf<P>, several: bool) -> bool
     ensures { result ≡ spec.fits_behind several (of.pat_tuple_struct_of P.view x.now) }
 {
@@ -330,7 +330,7 @@ pub fn tuple_struct_fits<P: FitPat>(x: &PatTupleStructOf<P>, several: bool) -> b
 }
 
 /// Whether a tuple is read back: behind one pattern a comma stands, unless it is `..`.
-#[tactic(auto, using(crate::proofs::Patterns::kinds))]
+#[tactic(auto, using(crate::proofs::PatKinds::kinds))]
 pub fn tuple_fits<P: FitPat>(x: &PatTupleOf<P>, several: bool) -> bool
     ensures { result ≡ spec.fits_behind several (of.pat_tuple_of P.view x.now) }
 {
@@ -338,7 +338,7 @@ pub fn tuple_fits<P: FitPat>(x: &PatTupleOf<P>, several: bool) -> bool
 }
 
 /// Whether a pattern in parentheses is read back: `..` alone would be a tuple.
-#[tactic(auto, using(crate::proofs::Patterns::kinds))]
+#[tactic(auto, using(crate::proofs::PatKinds::kinds))]
 pub fn paren_fits<P: FitPat>(x: &PatParenOf<P>, several: bool) -> bool
     ensures { result ≡ spec.fits_behind several (of.pat_paren_of P.view x.now) }
 {
@@ -346,7 +346,7 @@ pub fn paren_fits<P: FitPat>(x: &PatParenOf<P>, several: bool) -> bool
 }
 
 /// Whether a slice is read back.
-#[tactic(auto, using(crate::proofs::Patterns::kinds))]
+#[tactic(auto, using(crate::proofs::PatKinds::kinds))]
 pub fn slice_fits<P: FitPat>(x: &PatSliceOf<P>, several: bool) -> bool
     ensures { result ≡ spec.fits_behind several (of.pat_slice_of P.view x.now) }
 {
@@ -354,7 +354,7 @@ pub fn slice_fits<P: FitPat>(x: &PatSliceOf<P>, several: bool) -> bool
 }
 
 /// Whether a reference is read back: behind `&` a `mut` would belong to it.
-#[tactic(auto, using(crate::proofs::Patterns::kinds))]
+#[tactic(auto, using(crate::proofs::PatKinds::kinds))]
 pub fn reference_fits<P: FitPat>(x: &PatReferenceOf<P>, several: bool) -> bool
     ensures { result ≡ spec.fits_behind several (of.pat_reference_of P.view x.now) }
 {
@@ -362,7 +362,7 @@ pub fn reference_fits<P: FitPat>(x: &PatReferenceOf<P>, several: bool) -> bool
 }
 
 /// Whether alternatives are read back where they may stand: one alone has a `|` before it, and none ends them.
-#[tactic(auto, using(crate::proofs::Patterns::kinds))]
+#[tactic(auto, using(crate::proofs::PatKinds::kinds))]
 pub fn or_fits<P: FitPat>(x: &PatOrOf<P>, several: bool) -> bool
     ensures { result ≡ spec.fits_behind several (of.pat_or_of P.view x.now) }
 {

@@ -202,7 +202,7 @@ fn arms_well<E: HasWell>(mut arms: &[E::Arm]) -> bool
 
 /// Whether the operands of a node are read back in their places.
 #[cycle(is_well)]
-#[tactic(auto, using(crate::proofs::Operands::operands))]
+#[tactic(auto, using(crate::proofs::Operands::operands, syn_expr_collect::proofs::Lists::lists, syn_expr_collect::proofs::Nodes::based))]
 fn operands_well<E: HasWell>(place: Place, operands: Operands<'_, E, E::Arm>) -> bool
     ensures { result ≡ spec.operands_well (slot_of place) (dots_of place) (operands_of E.tree E.Arm.view operands.entry) }
 {
@@ -237,7 +237,7 @@ fn operands_well<E: HasWell>(place: Place, operands: Operands<'_, E, E::Arm>) ->
 /// Whether an expression is read back: the attributes before it are outer ones, and the node is read back by itself and its
 /// operands in their places.
 #[cycle(is_well)]
-#[tactic(auto, using(crate::proofs::Wholes::wholes))]
+#[tactic(auto, using(crate::proofs::Wholes::wholes, syn_expr_collect::proofs::Nodes::nodes))]
 pub fn is_well<E: HasWell>(expr: &E) -> bool
     ensures { result ≡ well (E.tree expr.now) }
 {
