@@ -24,7 +24,7 @@ fn all_inner(attrs: &Vec<Attribute>) -> bool
 
 /// Whether attributes stand before a node.
 #[tactic(auto, using(crate::proofs::Nodes::outer), unfolding(syn_expr_kinds::specs::Attrs::attrs_of, syn_expr_kinds::specs::Attrs::outer_of))]
-pub fn has_before(attributes: Attributes<'_>) -> bool
+pub(crate) fn has_before(attributes: Attributes<'_>) -> bool
     ensures { result ≡ has_some (before_of attributes.entry) }
 {
     match attributes {

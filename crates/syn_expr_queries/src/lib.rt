@@ -2,7 +2,7 @@
 //! whether a label is first in it and braces last, and whether a type ends in a name without arguments.
 #![tactic(auto)]
 
-pub mod attributes;
+mod attributes;
 mod brace;
 pub mod classify;
 mod expr;

@@ -1,10 +1,12 @@
 -- Outer attributes before inner ones, and others.
-use Rattle.std.proofs.Common.{◌≡◌, Bool, true, false, not, ◌&&◌, ◌||◌, if◌then◌else◌, List, [], ◌∷◌, refl, ap, sym, ◌∙◌}
+use Rattle.std.proofs.Common.{◌≡◌, Bool, true, false, not, ◌&&◌, ◌||◌, if◌then◌else◌, ◌==◌, List, [], ◌∷◌, length, map, refl, ap, sym, ◌∙◌, arith}
 use Rattle.syn_parts.specs.Form.{is_nil}
 use Rattle.syn_parts.specs.Tree.{AttributeTree}
 use Rattle.syn_parts.specs.PatFits.{attributes_outer}
+use Rattle.syn_lower_leaves.specs.View.{attribute_of}
+use Rattle.syn_lower_leaves.specs.declared.attr.Attribute.{Attribute}
 use Rattle.syn_expr_kinds.specs.Attrs.{before_inner, from_inner, all_inner, is_in_order, outer_part, inner_part}
-use Rattle.syn_expr_well.specs.Orders.{in_order_behind}
+use Rattle.syn_expr_well.specs.Orders.{in_order_behind, begins_outer}
 
 -- ---- one by one
 
@@ -47,6 +49,22 @@ pub outer-order : (ats : List AttributeTree) → attributes_outer (outer_part at
 outer-order ats = part_outer (is_in_order ats) ats refl
 
 pub ruleset outers = (outer-order)
+
+nil_if : (o i : Bool) (ats bs : List AttributeTree) (a : AttributeTree) → is_nil (if o then (if i then [] else a ∷ bs) else a ∷ ats) ≡ (not (not i) && o)
+nil_if true true ats bs a = refl
+nil_if true false ats bs a = refl
+nil_if false true ats bs a = refl
+nil_if false false ats bs a = refl
+
+pub bare-part : (ats : List AttributeTree) → is_nil (outer_part ats) ≡ (not (begins_outer ats) && is_in_order ats)
+bare-part [] = refl
+bare-part (a ∷ more) = nil_if (is_in_order (a ∷ more)) a.inner more (before_inner more) a
+
+pub bare-map : (ats : List Attribute) → is_nil (map attribute_of ats) ≡ (length ats == 0)
+bare-map [] = refl
+bare-map (a ∷ ats) = grind (arith, nat_tests)
+
+pub ruleset bares = (bare-part, bare-map)
 
 -- ---- those in its braces
 

@@ -1,5 +1,6 @@
 -- What a node is but for its operands, by the shape that is lent.
 use Rattle.std.proofs.Common.{◌≡◌, true, false, List, Some, None, refl, ap, sym, ◌∙◌}
+use Rattle.syn_parts.specs.Form.{is_nil}
 use Rattle.syn_grammar.specs.Slot as s
 use Rattle.syn_grammar.specs.Stands.{is_branch}
 use Rattle.syn_grammar.specs.Tree as e
@@ -8,7 +9,6 @@ use Rattle.syn_grammar.specs.WellFormed.{leaf_fits, post_fits, trailer_fits, tra
 use Rattle.syn_expr_notes.specs.Kind.{kind_at}
 use Rattle.syn_expr_kinds.specs.Node.{attributes_at, leaf_at, lead_at, post_at, trailer_at, frame_at}
 use Rattle.syn_expr_well.specs.Alone.{lead_alone, frame_alone}
-use Rattle.syn_expr_queries.specs.Node.{has_some}
 use Rattle.syn_expr_well.specs.Well.{own_fits, kind_fits, frame_dots, slot_at, dots_at, bare_leaf, is_if_frame}
 
 -- ---- where its operands stand
@@ -141,7 +141,7 @@ pub ruleset owns = (own-leaf, own-lead, own-post, own-trailer, own-frame, own-ki
 
 -- ---- without attributes
 
-pub leaf-adorned : (t : Tree) → has_some (attributes_at t) ≡ true → None ≡ bare_leaf t
+pub leaf-adorned : (t : Tree) → is_nil (attributes_at t) ≡ false → None ≡ bare_leaf t
 leaf-adorned (leaf l) h = absurd cc
 leaf-adorned (paren m t) h = absurd cc
 leaf-adorned (adorned a more t) h = refl
@@ -151,7 +151,7 @@ leaf-adorned (post x l) h = absurd cc
 leaf-adorned (tail x l ks) h = absurd cc
 leaf-adorned (frame l ks) h = absurd cc
 
-pub leaf-bare : (t : Tree) → has_some (attributes_at t) ≡ false → leaf_at t ≡ bare_leaf t
+pub leaf-bare : (t : Tree) → is_nil (attributes_at t) ≡ true → leaf_at t ≡ bare_leaf t
 leaf-bare (leaf l) h = refl
 leaf-bare (paren m t) h = refl
 leaf-bare (adorned a more t) h = absurd cc
@@ -161,7 +161,7 @@ leaf-bare (post x l) h = refl
 leaf-bare (tail x l ks) h = refl
 leaf-bare (frame l ks) h = refl
 
-pub branch-adorned : (t : Tree) → has_some (attributes_at t) ≡ true → false ≡ is_branch t
+pub branch-adorned : (t : Tree) → is_nil (attributes_at t) ≡ false → false ≡ is_branch t
 branch-adorned (leaf l) h = absurd cc
 branch-adorned (paren m t) h = absurd cc
 branch-adorned (adorned a more t) h = refl
@@ -183,7 +183,7 @@ if_frame (e.for_loop l p) ks = refl
 if_frame e.choice ks = refl
 if_frame e.invisible ks = refl
 
-pub branch-frame : (k : Frame × List Tree) (t : Tree) → has_some (attributes_at t) ≡ false → frame_at t ≡ Some k → is_if_frame k.0 ≡ is_branch t
+pub branch-frame : (k : Frame × List Tree) (t : Tree) → is_nil (attributes_at t) ≡ true → frame_at t ≡ Some k → is_if_frame k.0 ≡ is_branch t
 branch-frame k (leaf l) h i = absurd cc
 branch-frame k (paren m t) h i = absurd cc
 branch-frame k (adorned a more t) h i = absurd cc

@@ -4,6 +4,7 @@ ghost use Rattle.std.specs.Prelude.{◌≡◌};
 ghost use Rattle.syn_expr_kinds.specs.Attrs as spec;
 ghost use Rattle.syn_expr_kinds.specs.Attrs.{attrs_of, inner_of};
 ghost use Rattle.syn_expr_kinds.specs.Node.{before_of};
+ghost use Rattle.syn_expr_well.specs.Orders.{begins_outer};
 ghost use Rattle.syn_parts.specs.Form.{is_nil};
 ghost use Rattle.syn_parts.specs.PatFits.{attributes_outer};
 
@@ -25,6 +26,29 @@ fn is_in_order(attrs: &Vec<Attribute>) -> bool
         }
     }
     true
+}
+
+/// Whether an outer attribute is the first.
+#[tactic(auto, unfolding(syn_expr_kinds::specs::Attrs::attrs_of))]
+fn begins_outer(attrs: &Vec<Attribute>) -> bool
+    ensures { result ≡ begins_outer (attrs_of attrs.now) }
+{
+    match attrs.as_slice() {
+        [attr, ..] => matches!(attr.style, AttrStyle::Outer),
+        [] => false,
+    }
+}
+
+/// Whether no attributes stand before a node.
+#[tactic(auto, using(crate::proofs::Orders::bares), unfolding(syn_expr_kinds::specs::Attrs::attrs_of, syn_expr_kinds::specs::Attrs::outer_of))]
+pub(crate) fn is_bare(attributes: Attributes<'_>) -> bool
+    ensures { result ≡ is_nil (before_of attributes.entry) }
+{
+    match attributes {
+        Attributes::None => true,
+        Attributes::Before(attrs) => attrs.is_empty(),
+        Attributes::Around(attrs) => !begins_outer(attrs) && is_in_order(attrs),
+    }
 }
 
 /// Whether the attributes before a node are outer ones.

@@ -7,7 +7,7 @@ ghost use Rattle.syn_grammar.specs.Stands.{is_branch};
 ghost use Rattle.syn_lower_leaves.specs.View.{mapped};
 ghost use Rattle.syn_pat_kinds.specs.View.{PatView};
 
-use syn_expr_queries::attributes::has_before;
+use crate::attributes::is_bare;
 use crate::fits::{infix_fits, leaf_fits, post_fits, trailer_fits};
 use crate::heads::{HasPatFits, frame_fits, lead_fits};
 use syn_expr_kinds::node::{Closure, Frame, HasShape, Leaf};
@@ -56,7 +56,7 @@ pub fn own_fits<E: HasPatFits>(expr: &E) -> bool
 pub fn bare_leaf<E: HasShape>(expr: &E) -> Option<Leaf<'_>>
     ensures { mapped leaf_of result ≡ spec.bare_leaf (E.tree expr.now) }
 {
-    if has_before(expr.attributes()) {
+    if !is_bare(expr.attributes()) {
         return None;
     }
     expr.leaf()
@@ -96,7 +96,7 @@ fn is_if<P>(frame: Frame<'_, P>) -> bool
 pub fn is_branch<E: HasShape>(expr: &E) -> bool
     ensures { result ≡ is_branch (E.tree expr.now) }
 {
-    if has_before(expr.attributes()) {
+    if !is_bare(expr.attributes()) {
         return false;
     }
     match expr.frame() {
