@@ -1,5 +1,5 @@
 -- Outer attributes before inner ones, and others.
-use Rattle.std.proofs.Common.{◌≡◌, Bool, true, false, not, ◌&&◌, ◌||◌, if◌then◌else◌, ◌==◌, List, [], ◌∷◌, length, map, refl, ap, sym, ◌∙◌, arith}
+use Rattle.std.proofs.Common.{◌≡◌, Bool, true, false, not, ◌&&◌, ◌||◌, if◌then◌else◌, ◌==◌, List, [], ◌∷◌, length, map, refl, ap, sym, ◌∙◌, rules}
 use Rattle.syn_parts.specs.Form.{is_nil}
 use Rattle.syn_parts.specs.Tree.{AttributeTree}
 use Rattle.syn_parts.specs.PatFits.{attributes_outer}
@@ -62,7 +62,7 @@ bare-part (a ∷ more) = nil_if (is_in_order (a ∷ more)) a.inner more (before_
 
 pub bare-map : (ats : List Attribute) → is_nil (map attribute_of ats) ≡ (length ats == 0)
 bare-map [] = refl
-bare-map (a ∷ ats) = grind (arith, nat_tests)
+bare-map (a ∷ ats) = search rules
 
 pub ruleset bares = (bare-part, bare-map)
 

@@ -1,5 +1,6 @@
 -- Each kind of pattern is read back, with no guard in it, where its parts are.
 use Rattle.std.proofs.Common.{◌≡◌, Bool, true, false, not, ◌&&◌, ◌||◌, List, [], ◌∷◌, ◌++◌, length, map, Option, Some, None, refl, ap, sym, ◌∙◌, ◌==◌, arith}
+use Rattle.std.proofs.lemmas.Bool.{eqb-true}
 use Rattle.std.proofs.lemmas.List.{map-append, length-map}
 use Rattle.std.specs.List.{list_all}
 use Rattle.std.specs.Prelude.{flat_map, is_some}
@@ -110,7 +111,7 @@ shown b ats p gs h = ap (λ q. pat_fits b q && is_nil gs) (behind_by ats p h)
 
 sort_by : (ats : List AttributeTree) (p : PatTree) → (length ats == 0) ≡ true → sort_at (attributed_by ats p) ≡ sort_at p
 sort_by [] p h = refl
-sort_by (a ∷ more) p h = absurd grind (arith, h)
+sort_by (a ∷ more) p h = let e : length (a ∷ more) ≡ 0 = eqb-true (length (a ∷ more)) 0 h in absurd (omega arith)
 
 sort_behind : (ats : List AttributeTree) (p : PatTree) → (length ats == 0) ≡ false → sort_at (attributed_by ats p) ≡ sort.Other
 sort_behind [] p h = absurd cc

@@ -1,6 +1,6 @@
 -- What is told of a pattern by its kind.
 use Rattle.std.proofs.Common.{◌≡◌, Bool, true, false, not, ◌&&◌, ◌==◌, List, [], ◌∷◌, ◌++◌, length, map, Some, None, refl, sym, ap, subst, ◌∙◌, arith}
-use Rattle.std.proofs.lemmas.List.{length-map}
+use Rattle.std.proofs.lemmas.Bool.{eqb-true}
 use Rattle.syn_parts.specs.Form.{is_nil}
 use Rattle.syn_parts.specs.Tree.{AttributeTree}
 use Rattle.syn_parts.specs.Pat as t
@@ -170,7 +170,7 @@ pub arm-other : (x : Pat) → ((y : PatGuard) → x ≡ pt.Guard y → ⊥) → 
 arm-other x not_guard = arm_other (pat_of x).tree (pat_of x).guards (no-guard x not_guard)
 
 not_empty : (a : Attribute) (ats : List Attribute) → (length (a ∷ ats) == 0) ≡ true → ⊥
-not_empty a ats h = absurd grind (arith, h)
+not_empty a ats h = let e : length (a ∷ ats) ≡ 0 = eqb-true (length (a ∷ ats)) 0 h in omega arith
 
 -- the guard of the arm is the last of those in its pattern
 own_alone : (p : PatTree) (gs : List Tree) (g : Tree) → arm_pattern (guarded p) (gs ++ g ∷ []) ≡ (pat_fits true p && is_nil gs)

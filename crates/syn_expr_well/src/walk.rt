@@ -29,12 +29,12 @@ pub trait HasWell: HasPatFits + HasArms {
     ghost use Rattle.std.specs.Prelude.{◌≡◌, true};
     ghost use Rattle.syn_expr_well.specs.Walk.{is_whole};
 
-    /// Of no node more is told than is lent.
-    ghost whole: { (x : Self) → is_whole (Self.tree x) ≡ true };
-
     /// Whether the attributes and the pattern of an arm are read back, with no guard in the pattern but the arm's own.
     fn arm_fits(arm: &Self::Arm) -> bool
         ensures { result ≡ spec.arm_head (Self.Arm.view arm.now) };
+
+    /// Of no node more is told than is lent.
+    ghost whole: { (x : Self) → is_whole (Self.tree x) ≡ true };
 }
 
 /// Whether each of the values that commas follow is read back.
