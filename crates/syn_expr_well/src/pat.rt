@@ -8,9 +8,9 @@ ghost use Rattle.syn_pat_kinds.specs.View as of;
 
 use crate::fits::all_outer;
 use crate::patterns::{
-    FitPat, HasPatShape, PatSort, ident_fits, ident_sort, lit_fits, macro_fits, or_fits, paren_fits,
-    pat_fits, path_fits, range_fits, reference_fits, rest_sort, slice_fits, struct_fits, tuple_fits,
-    tuple_struct_fits,
+    FitPat, HasPatShape, PatSort, ident_fits, ident_sort, lit_fits, macro_fits, or_fits,
+    paren_fits, pat_fits, path_fits, range_fits, reference_fits, rest_sort, slice_fits,
+    struct_fits, tuple_fits, tuple_struct_fits,
 };
 use syn_expr_all::pat::{Pat, PatGuard, PatType};
 use syn_lower::attr::Attribute;

@@ -20,7 +20,8 @@ use syn_op::limits::RangeLimits;
 use syn_pat_kinds::kinds::HasPatTree;
 use syn_pat_kinds::pat::{
     FieldPatKindOf, FieldPatOf, PatIdentOf, PatLit, PatMacro, PatOrOf, PatParenOf, PatPath,
-    PatRange, PatReferenceOf, PatRest, PatSliceOf, PatStructOf, PatTupleOf, PatTupleStructOf, RangeBound,
+    PatRange, PatReferenceOf, PatRest, PatSliceOf, PatStructOf, PatTupleOf, PatTupleStructOf,
+    RangeBound,
 };
 use syn_tokens::token::{At, PathSep};
 

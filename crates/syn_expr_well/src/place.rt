@@ -158,4 +158,3 @@ pub fn operand_place<E: HasShape>(expr: &E) -> Place
         None => Place::Done,
     }
 }
-

@@ -211,9 +211,7 @@ fn operands_well<E: HasWell>(place: Place, operands: Operands<'_, E, E::Arm>) ->
         Operands::One(x) => is_well::<E>(x) && place.may_stop(),
         Operands::Two(x, y) => is_well::<E>(x) && is_well::<E>(y),
         Operands::Call(x, arguments) => is_well::<E>(x) && elements_well(place, arguments),
-        Operands::Index(x, index) => {
-            is_well::<E>(x) && place.is_single() && is_well::<E>(index)
-        }
+        Operands::Index(x, index) => { is_well::<E>(x) && place.is_single() && is_well::<E>(index) }
         Operands::Elements(elements) => elements_well(place, elements),
         Operands::Grouped(_) => false,
         Operands::Repeated(x, _, len) => {

@@ -72,8 +72,15 @@ fn what_is_read(rt: HostRuntime) -> Result<(), Fail> {
 
 /// An `if` with this behind `else`.
 fn chained(alloc: Global, text: &str) -> Result<String, Error> {
-    let Expr::If(ExprIf { attrs, if_token, cond, then_branch, else_branch: Some((token, _)) }) =
-        parse_str::<Expr>(alloc, "if a {} else {}")?
+    let Expr::If(
+        ExprIf {
+            attrs,
+            if_token,
+            cond,
+            then_branch,
+            else_branch: Some((token, _)),
+        },
+    ) = parse_str::<Expr>(alloc, "if a {} else {}")?
     else {
         return Err(unexpected());
     };
@@ -134,21 +141,48 @@ fn short_field(alloc: Global, row: &str) -> Result<String, Error> {
     let Some((name, value)) = row.split_once('~') else {
         return Err(unexpected());
     };
-    let Expr::Struct(ExprStruct { attrs, qself, path, brace_token, mut fields, dot2_token, rest }) =
-        parse_str::<Expr>(alloc, "S { a }")?
+    let Expr::Struct(
+        ExprStruct {
+            attrs,
+            qself,
+            path,
+            brace_token,
+            mut fields,
+            dot2_token,
+            rest,
+        },
+    ) = parse_str::<Expr>(alloc, "S { a }")?
     else {
         return Err(unexpected());
     };
     let Some(field) = fields.last.take() else {
         return Err(unexpected());
     };
-    let FieldValue { attrs: before, member: _, colon_token, expr: _ } = Box::into_inner(field);
+    let FieldValue {
+        attrs: before,
+        member: _,
+        colon_token,
+        expr: _,
+    } = Box::into_inner(field);
     let member = syn_expr_all::Member::Named(word(alloc, name)?);
     let expr = parse_str::<Expr>(alloc, value)?;
-    fields.push_value(FieldValue { attrs: before, member, colon_token, expr })?;
+    fields.push_value(FieldValue {
+        attrs: before,
+        member,
+        colon_token,
+        expr,
+    })?;
     told(
         alloc,
-        &Expr::Struct(ExprStruct { attrs, qself, path, brace_token, fields, dot2_token, rest }),
+        &Expr::Struct(ExprStruct {
+            attrs,
+            qself,
+            path,
+            brace_token,
+            fields,
+            dot2_token,
+            rest,
+        }),
     )
 }
 
