@@ -10,7 +10,7 @@ use Rattle.syn_grammar.specs.Tree.{Tree, Kids, Ending, Piece, Trailer, Frame, le
 use Rattle.syn_grammar.specs.WellFormed.{well, kids_well, has_rest, may_stop, trailer_fits, trailer_slot, frame_fits, frame_slot, lead_fits, piece_fits}
 use Rattle.syn_expr_kinds.specs.Node.{attributes_at, operands_at, stray_trees, without_strays, based_by}
 use Rattle.syn_expr_well.specs.Well.{own_fits, slot_at, dots_at, frame_dots}
-use Rattle.syn_expr_well.specs.Walk.{operands_well, is_plain, is_whole}
+use Rattle.syn_expr_well.specs.Walk.{operands_well, node_fits, is_plain, is_whole}
 use Rattle.syn_expr_well.proofs.Closures.{and_true, and_false}
 
 -- this is asked of a node but for the attributes before it
@@ -157,4 +157,19 @@ whole-is (post x k) h = core_is (post x k) h
 whole-is (tail b k ks) h = core_is (tail b k ks) h
 whole-is (frame k ks) h = core_is (frame k ks) h
 
-pub ruleset wholes = (whole-is)
+and_assoc : (a b c : Bool) → ((a && b) && c) ≡ (a && (b && c))
+and_assoc true b c = refl
+and_assoc false b c = refl
+
+-- by the node itself, and then by its operands
+
+node_is : (t : Tree) → is_whole t ≡ true → (node_fits t && operands_well (slot_at t) (dots_at t) (operands_at t)) ≡ well t
+node_is t h = and_assoc (attributes_outer (attributes_at t)) (own_fits t) (operands_well (slot_at t) (dots_at t) (operands_at t)) ∙ whole-is t h
+
+pub well-then : (t : Tree) → is_whole t ≡ true → node_fits t ≡ true → operands_well (slot_at t) (dots_at t) (operands_at t) ≡ well t
+well-then t h n = sym (ap (λ b. b && operands_well (slot_at t) (dots_at t) (operands_at t)) n) ∙ node_is t h
+
+pub well-else : (t : Tree) → is_whole t ≡ true → node_fits t ≡ false → false ≡ well t
+well-else t h n = sym (ap (λ b. b && operands_well (slot_at t) (dots_at t) (operands_at t)) n) ∙ node_is t h
+
+pub ruleset wholes = (well-then, well-else)

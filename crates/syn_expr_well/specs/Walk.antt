@@ -9,10 +9,11 @@ use Rattle.syn_grammar.specs.Stands.{is_branch, is_word_alone}
 use Rattle.syn_grammar.specs.Tree as e
 use Rattle.syn_grammar.specs.Tree.{Tree, Leaf, is_none}
 use Rattle.syn_grammar.specs.WellFormed.{well, kids_well, has_rest, may_stop, is_kept_block, is_kept_leaf, is_name_path}
-use Rattle.syn_expr_kinds.specs.Node.{without_strays, OperandTrees, no_trees, one_tree, two_trees, based, framed}
+use Rattle.syn_expr_kinds.specs.Node.{attributes_at, without_strays, OperandTrees, no_trees, one_tree, two_trees, based, framed}
 use Rattle.syn_expr_kinds.specs.Pats.{ArmView}
 use Rattle.syn_expr_kinds.specs.View.{FieldView}
 use Rattle.syn_expr_collect.specs.Arm.{guard_at}
+use Rattle.syn_expr_well.specs.Well.{own_fits}
 
 -- ---- operands
 
@@ -70,6 +71,10 @@ named_by w None = false
 named_by w (Some k) = is_word_leaf w k
 
 -- ---- nodes
+
+-- but for its operands
+abbrev pub node_fits : Tree → Bool
+node_fits t = attributes_outer (attributes_at t) && own_fits t
 
 -- of no node more is told than is lent: attributes stand once before it, and before an operand only guards stand where none may
 abbrev pub is_plain : Tree → Bool

@@ -37,6 +37,13 @@ pub trait HasWell: HasPatFits + HasArms {
     ghost whole: { (x : Self) → is_whole (Self.tree x) ≡ true };
 }
 
+/// Whether a node is read back but for its operands: the attributes before it are outer ones.
+fn node_fits<E: HasWell>(expr: &E) -> bool
+    ensures { result ≡ spec.node_fits (E.tree expr.now) }
+{
+    before_fit(expr.attributes()) && own_fits(expr)
+}
+
 /// Whether each of the values that commas follow is read back.
 #[cycle(is_well)]
 fn pairs_well<E: HasWell>(mut pairs: &[(E, Comma)]) -> bool
@@ -232,14 +239,11 @@ fn operands_well<E: HasWell>(place: Place, operands: Operands<'_, E, E::Arm>) ->
     }
 }
 
-/// Whether an expression is read back: the attributes before it are outer ones, and the node is read back by itself and its
-/// operands in their places.
+/// Whether an expression is read back: its node by itself, and its operands in their places.
 #[cycle(is_well)]
 #[tactic(auto, using(crate::proofs::Wholes::wholes, syn_expr_collect::proofs::Nodes::nodes))]
 pub fn is_well<E: HasWell>(expr: &E) -> bool
     ensures { result ≡ well (E.tree expr.now) }
 {
-    before_fit(expr.attributes())
-        && own_fits(expr)
-        && operands_well(operand_place(expr), expr.operands())
+    node_fits(expr) && operands_well(operand_place(expr), expr.operands())
 }
