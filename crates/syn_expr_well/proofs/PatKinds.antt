@@ -21,7 +21,9 @@ use Rattle.syn_lexer.specs.Keywords.{is_reserved_word}
 use Rattle.syn_lower_leaves.specs.declared.mac.MacroDelimiter.{MacroDelimiter}
 use Rattle.syn_lower_leaves.specs.declared.mac.MacroDelimiter.TheVariants as mac
 use Rattle.syn_lower_leaves.specs.declared.attr.Attribute.{Attribute}
+use Rattle.syn_lower_generic.specs.declared.path.PathSegmentOf.{PathSegmentOf}
 use Rattle.syn_lower_generic.specs.View.{delimiter_of}
+use Rattle.syn_lower.specs.declared.ty.«Type».{«Type»}
 use Rattle.syn_lower_lists.specs.declared.punctuated.Punctuated.{Punctuated}
 use Rattle.syn_lower_lists.specs.Punct.{is_one}
 use Rattle.syn_lower_lists.specs.View.{last_of, is_some_pair, mapped}
@@ -252,7 +254,31 @@ bare-append (x ∷ xs) ys = by (has_none x.arguments) (bare-append xs ys)
     by true h = h
     by false h = refl
 
-pub ruleset bares = (bare-append, map-append, and_true)
+bare_pairs : {A P : Type 0} (f : A → SegmentTree) (xs : List (A × P)) → segments_bare (map f (map (λ q. q.0) xs)) ≡ segments_bare (map (λ q. f q.0) xs)
+bare_pairs f [] = refl
+bare_pairs f (x ∷ xs) = ap (λ b. has_none (f x.0).arguments && b) (bare_pairs f xs)
+
+bare_values : {P : Type 0} (p : Punctuated (PathSegmentOf «Type») P)
+    → segments_bare (map (segment_of type_of) (values p)) ≡ (segments_bare (map (λ q. segment_of type_of q.0) p.inner.items) && segments_bare (map (segment_of type_of) (last_of p.last)))
+unfolding values
+bare_values p =
+    ap segments_bare (map-append (segment_of type_of) (map (λ q. q.0) p.inner.items) (last_of p.last))
+    ∙ (bare-append (map (segment_of type_of) (map (λ q. q.0) p.inner.items)) (map (segment_of type_of) (last_of p.last))
+    ∙ ap (λ b. b && segments_bare (map (segment_of type_of) (last_of p.last))) (bare_pairs (segment_of type_of) p.inner.items))
+
+pub bare-some : {P : Type 0} (p : Punctuated (PathSegmentOf «Type») P) (b : Box (PathSegmentOf «Type») Global) → p.last ≡ Some b
+    → segments_bare (map (segment_of type_of) (values p)) ≡ (segments_bare (map (λ q. segment_of type_of q.0) p.inner.items) && has_none (segment_of type_of b.value).arguments)
+bare-some p b h =
+    bare_values p ∙ ap (λ c. segments_bare (map (λ q. segment_of type_of q.0) p.inner.items) && c) (ap (λ o. segments_bare (map (segment_of type_of) (last_of o))) h ∙ and_true (has_none (segment_of type_of b.value).arguments))
+
+pub bare-none : {P : Type 0} (p : Punctuated (PathSegmentOf «Type») P) → p.last ≡ None → segments_bare (map (segment_of type_of) (values p)) ≡ segments_bare (map (λ q. segment_of type_of q.0) p.inner.items)
+bare-none p h =
+    bare_values p ∙ (ap (λ c. segments_bare (map (λ q. segment_of type_of q.0) p.inner.items) && c) (ap (λ o. segments_bare (map (segment_of type_of) (last_of o))) h) ∙ and_true _)
+
+pub bare-not : {P : Type 0} (p : Punctuated (PathSegmentOf «Type») P) → segments_bare (map (λ q. segment_of type_of q.0) p.inner.items) ≡ false → segments_bare (map (segment_of type_of) (values p)) ≡ false
+bare-not p h = bare_values p ∙ ap (λ b. b && segments_bare (map (segment_of type_of) (last_of p.last))) h
+
+pub ruleset bares = (bare-some, bare-none, bare-not)
 
 shown_delimiter : (d : MacroDelimiter) → is_macro_delimiter (delimiter_of d) ≡ true
 shown_delimiter (mac.Paren x) = refl

@@ -15,6 +15,7 @@ use syn_lower::attr::Attribute;
 use syn_lower::path::{Path, PathArguments, PathSegment, PathStyle, QSelf};
 use syn_lower::punctuated::Punctuated;
 use syn_lower::qpath_is_read_back;
+use syn_lower_generic::fits::has_none;
 use syn_lower_lists::fits::is_one;
 use syn_op::limits::RangeLimits;
 use syn_pat_kinds::kinds::HasPatTree;
@@ -217,7 +218,6 @@ fn is_sole_name(segments: &Punctuated<PathSegment, PathSep>) -> bool
 }
 
 /// Whether a path is one name, which is read as what it binds.
-#[tactic(auto, using(crate::proofs::PatKinds::names))]
 fn is_one_name(qself: &Option<QSelf>, path: &Path) -> bool
     ensures { result ≡ fits.is_one_name (qself_or type_of qself.now) (path_of type_of path.now) }
 {
@@ -237,7 +237,7 @@ fn pairs_bare(mut pairs: &[(PathSegment, PathSep)]) -> bool
     ensures { result ≡ segments_bare (map (λ q. segment_of type_of q.0) pairs.entry.now) }
 {
     'pairs: while let [(segment, _), more @ ..] = pairs {
-        if !matches!(segment.arguments, PathArguments::None) {
+        if !has_none(&segment.arguments) {
             return false;
         }
         pairs = more;
@@ -246,7 +246,7 @@ fn pairs_bare(mut pairs: &[(PathSegment, PathSep)]) -> bool
 }
 
 /// Whether no segment has arguments.
-#[tactic(auto, using(crate::proofs::PatKinds::bares), unfolding(syn_lower_lists::specs::View::values))]
+#[tactic(auto, using(crate::proofs::PatKinds::bares))]
 fn are_bare(segments: &Punctuated<PathSegment, PathSep>) -> bool
     ensures { result ≡ segments_bare (map (segment_of type_of) (values segments.now)) }
 {
@@ -254,7 +254,7 @@ fn are_bare(segments: &Punctuated<PathSegment, PathSep>) -> bool
         return false;
     }
     match &segments.last {
-        Some(segment) => matches!(segment.arguments, PathArguments::None),
+        Some(segment) => has_none(&segment.arguments),
         None => true,
     }
 }
