@@ -8,15 +8,16 @@ ghost use Rattle.syn_pat_kinds.specs.View as of;
 
 use crate::fits::all_outer;
 use crate::patterns::{
-    FitPat, HasPatShape, PatSort, ident_fits, ident_sort, lit_fits, macro_fits, or_fits,
+    FitPat, PatSort, ident_fits, ident_sort, lit_fits, macro_fits, or_fits,
     paren_fits, pat_fits, path_fits, range_fits, reference_fits, rest_sort, slice_fits,
     struct_fits, tuple_fits, tuple_struct_fits,
 };
 use syn_expr_all::pat::{Pat, PatGuard, PatType};
 use syn_lower::attr::Attribute;
 
-#[tactic(auto, using(syn_expr_all::proofs::TreeOf::pats, syn_expr_all::proofs::TreeOf::members, crate::proofs::Pats::shapes))]
-impl HasPatShape for Pat {
+#[tactic(auto, using(syn_expr_all::proofs::TreeOf::pats, syn_expr_all::proofs::TreeOf::members, crate::proofs::Pats::shapes, crate::proofs::PatKinds::always))]
+impl FitPat for Pat {
+    #[cycle(fits)]
     fn attrs(&self) -> &Vec<Attribute> {
         match self {
             Pat::Const(x) => &x.attrs,
@@ -39,6 +40,7 @@ impl HasPatShape for Pat {
         }
     }
 
+    #[cycle(fits)]
     fn sort(&self) -> PatSort {
         match self {
             Pat::Rest(x) => rest_sort(x),
@@ -46,10 +48,7 @@ impl HasPatShape for Pat {
             _ => PatSort::Other,
         }
     }
-}
 
-#[tactic(auto, using(syn_expr_all::proofs::TreeOf::pats, syn_expr_all::proofs::TreeOf::members, crate::proofs::PatKinds::always))]
-impl FitPat for Pat {
     #[cycle(fits)]
     fn fits_behind(&self, several: bool) -> bool {
         match self {
