@@ -8,16 +8,15 @@ ghost use Rattle.syn_pat_kinds.specs.View as of;
 
 use crate::fits::all_outer;
 use crate::patterns::{
-    FitPat, PatSort, ident_fits, ident_sort, lit_fits, macro_fits, or_fits,
+    FitPat, HasPatAttrs, HasPatSort, PatSort, ident_fits, ident_sort, lit_fits, macro_fits, or_fits,
     paren_fits, pat_fits, path_fits, range_fits, reference_fits, rest_sort, slice_fits,
     struct_fits, tuple_fits, tuple_struct_fits,
 };
 use syn_expr_all::pat::{Pat, PatGuard, PatType};
 use syn_lower::attr::Attribute;
 
-#[tactic(auto, using(syn_expr_all::proofs::TreeOf::pats, syn_expr_all::proofs::TreeOf::members, crate::proofs::Pats::shapes, crate::proofs::PatKinds::always))]
-impl FitPat for Pat {
-    #[cycle(fits)]
+#[tactic(auto, using(syn_expr_all::proofs::TreeOf::pats, syn_expr_all::proofs::TreeOf::members, crate::proofs::Pats::shapes))]
+impl HasPatAttrs for Pat {
     fn attrs(&self) -> &Vec<Attribute> {
         match self {
             Pat::Const(x) => &x.attrs,
@@ -39,8 +38,10 @@ impl FitPat for Pat {
             Pat::Wild(x) => &x.attrs,
         }
     }
+}
 
-    #[cycle(fits)]
+#[tactic(auto, using(syn_expr_all::proofs::TreeOf::pats, syn_expr_all::proofs::TreeOf::members, crate::proofs::Pats::shapes))]
+impl HasPatSort for Pat {
     fn sort(&self) -> PatSort {
         match self {
             Pat::Rest(x) => rest_sort(x),
@@ -48,7 +49,10 @@ impl FitPat for Pat {
             _ => PatSort::Other,
         }
     }
+}
 
+#[tactic(auto, using(syn_expr_all::proofs::TreeOf::pats, syn_expr_all::proofs::TreeOf::members, crate::proofs::PatKinds::always))]
+impl FitPat for Pat {
     #[cycle(fits)]
     fn fits_behind(&self, several: bool) -> bool {
         match self {

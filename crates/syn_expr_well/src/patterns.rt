@@ -37,17 +37,23 @@ pub enum PatSort {
     Other,
 }
 
-/// The type of patterns, as one asks whether they are read back. All is one trait without laws, so that a recursion over
-/// patterns may go through code that is generic in such a type.
-pub trait FitPat: HasPatTree {
+/// The type of patterns, as one looks at what stands before them. Each question is a trait of its own: where `Pat` asks itself
+/// through code that is generic in such a type, a trait with several methods can't be passed on.
+pub trait HasPatAttrs: HasPatTree {
     /// The attributes before it.
     fn attrs(&self) -> &Vec<Attribute>
         ensures { of.attributes_of result.now ≡ spec.attributes_at (Self.view self.now).tree };
+}
 
+/// The type of patterns, as one looks at them from outside.
+pub trait HasPatSort: HasPatAttrs {
     /// What the pattern round it asks of it.
     fn sort(&self) -> PatSort
         ensures { result ≡ spec.sort_at (Self.view self.now).tree };
+}
 
+/// The type of patterns, as one asks whether they are read back.
+pub trait FitPat: HasPatSort {
     /// Whether what stands behind the attributes of a pattern is read back, where alternatives may stand or may not, and no
     /// guard stands in it.
     fn fits_behind(&self, several: bool) -> bool
@@ -80,7 +86,7 @@ pub fn ident_sort<P: HasPatTree>(x: &PatIdentOf<P>) -> PatSort
 
 /// Whether it is `..`, with no attributes before it.
 #[tactic(auto, using(crate::proofs::PatKinds::asked))]
-fn is_rest<P: FitPat>(pat: &P) -> bool
+fn is_rest<P: HasPatSort>(pat: &P) -> bool
     ensures { result ≡ is_rest (P.view pat.now).tree }
 {
     matches!(pat.sort(), PatSort::Rest)
@@ -88,7 +94,7 @@ fn is_rest<P: FitPat>(pat: &P) -> bool
 
 /// Whether `mut` and a name begin it.
 #[tactic(auto, using(crate::proofs::PatKinds::asked))]
-fn begins_mut<P: FitPat>(pat: &P) -> bool
+fn begins_mut<P: HasPatSort>(pat: &P) -> bool
     ensures { result ≡ fits.begins_mut (P.view pat.now).tree }
 {
     matches!(pat.sort(), PatSort::Mut)
@@ -131,7 +137,7 @@ fn pats_fit<P: FitPat, S>(list: &Punctuated<P, S>, several: bool) -> bool
 
 /// Whether a list is `..` alone, with no punct behind it.
 #[tactic(auto, unfolding(syn_lower_lists::specs::View::values))]
-fn is_sole_rest<P: FitPat, S>(list: &Punctuated<P, S>) -> bool
+fn is_sole_rest<P: HasPatSort, S>(list: &Punctuated<P, S>) -> bool
     ensures { result ≡ spec.is_sole_rest P.view list.now.inner.items list.now.last }
 {
     match &list.last {
