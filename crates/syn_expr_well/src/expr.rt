@@ -8,7 +8,7 @@ ghost use Rattle.syn_grammar.specs.WellFormed as spec;
 use crate::fits::all_outer;
 use crate::heads::HasPatFits;
 use crate::pat;
-use crate::patterns::pat_fits;
+use crate::patterns::FitPat;
 use crate::walk::{HasWell, is_well};
 use syn_expr_all::control::Arm;
 use syn_expr_all::expr::Expr;
@@ -16,7 +16,7 @@ use syn_expr_all::pat::Pat;
 
 impl HasPatFits for Expr {
     fn pat_fits(pat: &Pat) -> bool {
-        pat_fits(pat, true)
+        pat.fits(true)
     }
 
     fn argument_fits(pat: &Pat) -> bool {

@@ -5,23 +5,20 @@ ghost use Rattle.std.specs.Prelude.{◌≡◌, ◌&&◌, true, false, map};
 ghost use Rattle.syn_expr_well.specs.Alone as spec;
 ghost use Rattle.syn_lower.specs.View.{type_of, values, mapped, segment_of, path_of, qself_or};
 ghost use Rattle.syn_parts.specs.Part.{segments_bare};
-ghost use Rattle.syn_parts.specs.Pat.{is_rest};
 ghost use Rattle.syn_parts.specs.PatFits as fits;
 ghost use Rattle.syn_pat_kinds.specs.View as of;
 
 use crate::fits::{all_outer, member_fits};
 use syn_lexer::reserved::is_reserved_word;
-use syn_lower::attr::Attribute;
 use syn_lower::path::{Path, PathArguments, PathSegment, PathStyle, QSelf};
 use syn_lower::punctuated::Punctuated;
 use syn_lower::qpath_is_read_back;
 use syn_lower_generic::fits::has_none;
-use syn_lower_lists::fits::is_one;
 use syn_op::limits::RangeLimits;
 use syn_pat_kinds::kinds::HasPatTree;
 use syn_pat_kinds::pat::{
-    FieldPatKindOf, FieldPatOf, PatIdentOf, PatLit, PatMacro, PatOrOf, PatParenOf, PatPath,
-    PatRange, PatReferenceOf, PatRest, PatSliceOf, PatStructOf, PatTupleOf, PatTupleStructOf,
+    FieldPatKindOf, FieldPatOf, PatIdentOf, PatLit, PatMacro, PatOrOf, PatPath,
+    PatRange, PatRest, PatSliceOf, PatStructOf, PatTupleStructOf,
     RangeBound,
 };
 use syn_tokens::token::{At, PathSep};
@@ -37,27 +34,12 @@ pub enum PatSort {
     Other,
 }
 
-/// The type of patterns, as one looks at what stands before them. Each question is a trait of its own: where `Pat` asks itself
-/// through code that is generic in such a type, a trait with several methods can't be passed on.
-pub trait HasPatAttrs: HasPatTree {
-    /// The attributes before it.
-    fn attrs(&self) -> &Vec<Attribute>
-        ensures { of.attributes_of result.now ≡ spec.attributes_at (Self.view self.now).tree };
-}
-
-/// The type of patterns, as one looks at them from outside.
-pub trait HasPatSort: HasPatAttrs {
-    /// What the pattern round it asks of it.
-    fn sort(&self) -> PatSort
-        ensures { result ≡ spec.sort_at (Self.view self.now).tree };
-}
-
-/// The type of patterns, as one asks whether they are read back.
-pub trait FitPat: HasPatSort {
-    /// Whether what stands behind the attributes of a pattern is read back, where alternatives may stand or may not, and no
-    /// guard stands in it.
-    fn fits_behind(&self, several: bool) -> bool
-        ensures { result ≡ spec.fits_behind several (Self.view self.now) };
+/// The type of patterns, as one asks whether they are read back. It is one question, without others beside it: `Pat` asks
+/// itself through code that is generic in such a type, and what is not part of that recursion can't be passed on there.
+pub trait FitPat: HasPatTree {
+    /// Whether a pattern is read back, where alternatives may stand or may not, and no guard stands in it.
+    fn fits(&self, several: bool) -> bool
+        ensures { result ≡ spec.fits_alone several (Self.view self.now) };
 }
 
 /// The sort of `..`.
@@ -84,36 +66,12 @@ pub fn ident_sort<P: HasPatTree>(x: &PatIdentOf<P>) -> PatSort
     }
 }
 
-/// Whether it is `..`, with no attributes before it.
-#[tactic(auto, using(crate::proofs::PatKinds::asked))]
-fn is_rest<P: HasPatSort>(pat: &P) -> bool
-    ensures { result ≡ is_rest (P.view pat.now).tree }
-{
-    matches!(pat.sort(), PatSort::Rest)
-}
-
-/// Whether `mut` and a name begin it.
-#[tactic(auto, using(crate::proofs::PatKinds::asked))]
-fn begins_mut<P: HasPatSort>(pat: &P) -> bool
-    ensures { result ≡ fits.begins_mut (P.view pat.now).tree }
-{
-    matches!(pat.sort(), PatSort::Mut)
-}
-
-/// Whether a pattern is read back, where alternatives may stand or may not, and no guard stands in it.
-#[tactic(auto, using(crate::proofs::PatKinds::wholes), unfolding(syn_expr_kinds::specs::Attrs::attrs_of))]
-pub fn pat_fits<P: FitPat>(pat: &P, several: bool) -> bool
-    ensures { result ≡ spec.fits_alone several (P.view pat.now) }
-{
-    pat.attrs().is_empty() && pat.fits_behind(several)
-}
-
 /// Whether each of the patterns that puncts follow is read back.
 fn pairs_fit<P: FitPat, S>(mut pairs: &[(P, S)], several: bool) -> bool
     ensures { result ≡ list_all (λ p. spec.fits_alone several (P.view p)) (map (λ q. q.0) pairs.entry.now) }
 {
     'pairs: while let [(pat, _), more @ ..] = pairs {
-        if !pat_fits(pat, several) {
+        if !pat.fits(several) {
             return false;
         }
         pairs = more;
@@ -123,26 +81,15 @@ fn pairs_fit<P: FitPat, S>(mut pairs: &[(P, S)], several: bool) -> bool
 
 /// Whether each pattern of a list is read back.
 #[tactic(auto, using(syn_lower_lists::proofs::Fitting::lists), unfolding(syn_lower_lists::specs::View::values))]
-fn pats_fit<P: FitPat, S>(list: &Punctuated<P, S>, several: bool) -> bool
+pub fn pats_fit<P: FitPat, S>(list: &Punctuated<P, S>, several: bool) -> bool
     ensures { result ≡ list_all (λ p. spec.fits_alone several (P.view p)) (values list.now) }
 {
     if !pairs_fit(&list.inner, several) {
         return false;
     }
     match &list.last {
-        Some(pat) => pat_fits::<P>(pat, several),
+        Some(pat) => pat.fits(several),
         None => true,
-    }
-}
-
-/// Whether a list is `..` alone, with no punct behind it.
-#[tactic(auto, unfolding(syn_lower_lists::specs::View::values))]
-fn is_sole_rest<P: HasPatSort, S>(list: &Punctuated<P, S>) -> bool
-    ensures { result ≡ spec.is_sole_rest P.view list.now.inner.items list.now.last }
-{
-    match &list.last {
-        Some(pat) => list.inner.is_empty() && is_rest::<P>(pat),
-        None => false,
     }
 }
 
@@ -189,7 +136,7 @@ fn sub_fits<P: FitPat>(sub: &Option<(At, Box<P>)>) -> bool
     ensures { result ≡ spec.sub_alone P.view sub.now }
 {
     match sub {
-        Some((_, pat)) => pat_fits::<P>(pat, false),
+        Some((_, pat)) => pat.fits(false),
         None => true,
     }
 }
@@ -277,7 +224,7 @@ fn kind_fits<P: FitPat>(kind: &FieldPatKindOf<P>) -> bool
 {
     match kind {
         FieldPatKindOf::Short(x) => !is_reserved_word(x.ident.as_str()),
-        FieldPatKindOf::Full(x) => member_fits(&x.member) && pat_fits::<P>(&x.pat, true),
+        FieldPatKindOf::Full(x) => member_fits(&x.member) && x.pat.fits(true),
     }
 }
 
@@ -334,36 +281,12 @@ pub fn tuple_struct_fits<P: FitPat>(x: &PatTupleStructOf<P>, several: bool) -> b
     x.path.is_read_back(PathStyle::Expr) && pats_fit(&x.elems, true)
 }
 
-/// Whether a tuple is read back: behind one pattern a comma stands, unless it is `..`.
-#[tactic(auto, using(crate::proofs::PatKinds::kinds))]
-pub fn tuple_fits<P: FitPat>(x: &PatTupleOf<P>, several: bool) -> bool
-    ensures { result ≡ spec.fits_behind several (of.pat_tuple_of P.view x.now) }
-{
-    pats_fit(&x.elems, true) && (!is_one(&x.elems) || is_sole_rest(&x.elems))
-}
-
-/// Whether a pattern in parentheses is read back: `..` alone would be a tuple.
-#[tactic(auto, using(crate::proofs::PatKinds::kinds))]
-pub fn paren_fits<P: FitPat>(x: &PatParenOf<P>, several: bool) -> bool
-    ensures { result ≡ spec.fits_behind several (of.pat_paren_of P.view x.now) }
-{
-    pat_fits::<P>(&x.pat, true) && !is_rest::<P>(&x.pat)
-}
-
 /// Whether a slice is read back.
 #[tactic(auto, using(crate::proofs::PatKinds::kinds))]
 pub fn slice_fits<P: FitPat>(x: &PatSliceOf<P>, several: bool) -> bool
     ensures { result ≡ spec.fits_behind several (of.pat_slice_of P.view x.now) }
 {
     pats_fit(&x.elems, true)
-}
-
-/// Whether a reference is read back: behind `&` a `mut` would belong to it.
-#[tactic(auto, using(crate::proofs::PatKinds::kinds))]
-pub fn reference_fits<P: FitPat>(x: &PatReferenceOf<P>, several: bool) -> bool
-    ensures { result ≡ spec.fits_behind several (of.pat_reference_of P.view x.now) }
-{
-    pat_fits::<P>(&x.pat, false) && (x.mutability.is_some() || !begins_mut::<P>(&x.pat))
 }
 
 /// Whether alternatives are read back where they may stand: one alone has a `|` before it, and none ends them.
