@@ -17,9 +17,8 @@ use syn_lower_generic::fits::has_none;
 use syn_op::limits::RangeLimits;
 use syn_pat_kinds::kinds::HasPatTree;
 use syn_pat_kinds::pat::{
-    FieldPatKindOf, FieldPatOf, PatIdentOf, PatLit, PatMacro, PatOrOf, PatPath,
-    PatRange, PatRest, PatSliceOf, PatStructOf, PatTupleStructOf,
-    RangeBound,
+    FieldPatKindOf, FieldPatOf, PatIdentOf, PatLit, PatMacro, PatOrOf, PatPath, PatRange, PatRest,
+    PatSliceOf, PatStructOf, PatTupleStructOf, RangeBound,
 };
 use syn_tokens::token::{At, PathSep};
 
