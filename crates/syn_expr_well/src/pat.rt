@@ -141,6 +141,8 @@ fn fits_behind(pat: &Pat, several: bool) -> bool
 
 #[tactic(auto, using(crate::proofs::PatKinds::wholes), unfolding(syn_expr_kinds::specs::Attrs::attrs_of))]
 impl FitPat for Pat {
+    ghost shown = { pat_of };
+
     #[cycle(fits)]
     fn fits(&self, several: bool) -> bool {
         attrs(self).is_empty() && fits_behind(self, several)

@@ -35,10 +35,15 @@ pub enum PatSort {
 
 /// The type of patterns, as one asks whether they are read back. It is one question, without others beside it: `Pat` asks
 /// itself through code that is generic in such a type, and what is not part of that recursion can't be passed on there.
-pub trait FitPat: HasPatTree {
+pub trait FitPat {
+    ghost use Rattle.syn_pat_kinds.specs.View.{PatView};
+
+    /// A pattern without its places, and the guards in it.
+    ghost shown: { Self → PatView };
+
     /// Whether a pattern is read back, where alternatives may stand or may not, and no guard stands in it.
     fn fits(&self, several: bool) -> bool
-        ensures { result ≡ spec.fits_alone several (Self.view self.now) };
+        ensures { result ≡ spec.fits_alone several (Self.shown self.now) };
 }
 
 /// The sort of `..`.
@@ -67,7 +72,7 @@ pub fn ident_sort<P: HasPatTree>(x: &PatIdentOf<P>) -> PatSort
 
 /// Whether each of the patterns that puncts follow is read back.
 fn pairs_fit<P: FitPat, S>(mut pairs: &[(P, S)], several: bool) -> bool
-    ensures { result ≡ list_all (λ p. spec.fits_alone several (P.view p)) (map (λ q. q.0) pairs.entry.now) }
+    ensures { result ≡ list_all (λ p. spec.fits_alone several (P.shown p)) (map (λ q. q.0) pairs.entry.now) }
 {
     'pairs: while let [(pat, _), more @ ..] = pairs {
         if !pat.fits(several) {
@@ -81,7 +86,7 @@ fn pairs_fit<P: FitPat, S>(mut pairs: &[(P, S)], several: bool) -> bool
 /// Whether each pattern of a list is read back.
 #[tactic(auto, using(syn_lower_lists::proofs::Fitting::lists), unfolding(syn_lower_lists::specs::View::values))]
 pub fn pats_fit<P: FitPat, S>(list: &Punctuated<P, S>, several: bool) -> bool
-    ensures { result ≡ list_all (λ p. spec.fits_alone several (P.view p)) (values list.now) }
+    ensures { result ≡ list_all (λ p. spec.fits_alone several (P.shown p)) (values list.now) }
 {
     if !pairs_fit(&list.inner, several) {
         return false;
@@ -132,7 +137,7 @@ pub fn lit_fits(x: &PatLit, several: bool) -> bool
 
 /// Whether what stands behind `@` is read back, if there is such.
 fn sub_fits<P: FitPat>(sub: &Option<(At, Box<P>)>) -> bool
-    ensures { result ≡ spec.sub_alone P.view sub.now }
+    ensures { result ≡ spec.sub_alone P.shown sub.now }
 {
     match sub {
         Some((_, pat)) => pat.fits(false),
@@ -143,7 +148,7 @@ fn sub_fits<P: FitPat>(sub: &Option<(At, Box<P>)>) -> bool
 /// Whether a name that is bound is read back, and what stands behind its `@`.
 #[tactic(auto, using(crate::proofs::PatKinds::kinds))]
 pub fn ident_fits<P: FitPat>(x: &PatIdentOf<P>, several: bool) -> bool
-    ensures { result ≡ spec.fits_behind several (of.pat_ident_of P.view x.now) }
+    ensures { result ≡ spec.fits_behind several (of.pat_ident_of P.shown x.now) }
 {
     !is_reserved_word(x.ident.as_str()) && sub_fits(&x.subpat)
 }
@@ -219,7 +224,7 @@ pub fn macro_fits(x: &PatMacro, several: bool) -> bool
 
 /// Whether what a field of a struct pattern is behind its attributes is read back.
 fn kind_fits<P: FitPat>(kind: &FieldPatKindOf<P>) -> bool
-    ensures { result ≡ spec.kind_alone P.view kind.now }
+    ensures { result ≡ spec.kind_alone P.shown kind.now }
 {
     match kind {
         FieldPatKindOf::Short(x) => !is_reserved_word(x.ident.as_str()),
@@ -230,14 +235,14 @@ fn kind_fits<P: FitPat>(kind: &FieldPatKindOf<P>) -> bool
 /// Whether a field of a struct pattern is read back.
 #[tactic(auto, unfolding(syn_expr_kinds::specs::Attrs::attrs_of))]
 fn field_fits<P: FitPat>(field: &FieldPatOf<P>) -> bool
-    ensures { result ≡ spec.field_alone P.view field.now }
+    ensures { result ≡ spec.field_alone P.shown field.now }
 {
     all_outer(&field.attrs) && kind_fits(&field.kind)
 }
 
 /// Whether each of the fields that puncts follow is read back.
 fn field_pairs_fit<P: FitPat, S>(mut pairs: &[(FieldPatOf<P>, S)]) -> bool
-    ensures { result ≡ list_all (spec.field_alone P.view) (map (λ q. q.0) pairs.entry.now) }
+    ensures { result ≡ list_all (spec.field_alone P.shown) (map (λ q. q.0) pairs.entry.now) }
 {
     'pairs: while let [(field, _), more @ ..] = pairs {
         if !field_fits(field) {
@@ -251,7 +256,7 @@ fn field_pairs_fit<P: FitPat, S>(mut pairs: &[(FieldPatOf<P>, S)]) -> bool
 /// Whether each field of a struct pattern is read back.
 #[tactic(auto, using(syn_lower_lists::proofs::Fitting::lists), unfolding(syn_lower_lists::specs::View::values))]
 fn fields_fit<P: FitPat, S>(list: &Punctuated<FieldPatOf<P>, S>) -> bool
-    ensures { result ≡ list_all (spec.field_alone P.view) (values list.now) }
+    ensures { result ≡ list_all (spec.field_alone P.shown) (values list.now) }
 {
     if !field_pairs_fit(&list.inner) {
         return false;
@@ -265,7 +270,7 @@ fn fields_fit<P: FitPat, S>(list: &Punctuated<FieldPatOf<P>, S>) -> bool
 /// Whether a struct pattern is read back: between its fields and `..` a comma stands.
 #[tactic(auto, using(crate::proofs::PatKinds::structs))]
 pub fn struct_fits<P: FitPat>(x: &PatStructOf<P>, several: bool) -> bool
-    ensures { result ≡ spec.fits_behind several (of.pat_struct_of P.view x.now) }
+    ensures { result ≡ spec.fits_behind several (of.pat_struct_of P.shown x.now) }
 {
     x.path.is_read_back(PathStyle::Expr)
         && fields_fit(&x.fields)
@@ -275,7 +280,7 @@ pub fn struct_fits<P: FitPat>(x: &PatStructOf<P>, several: bool) -> bool
 /// Whether a tuple struct pattern is read back.
 #[tactic(auto, using(crate::proofs::PatKinds::kinds))]
 pub fn tuple_struct_fits<P: FitPat>(x: &PatTupleStructOf<P>, several: bool) -> bool
-    ensures { result ≡ spec.fits_behind several (of.pat_tuple_struct_of P.view x.now) }
+    ensures { result ≡ spec.fits_behind several (of.pat_tuple_struct_of P.shown x.now) }
 {
     x.path.is_read_back(PathStyle::Expr) && pats_fit(&x.elems, true)
 }
@@ -283,7 +288,7 @@ pub fn tuple_struct_fits<P: FitPat>(x: &PatTupleStructOf<P>, several: bool) -> b
 /// Whether a slice is read back.
 #[tactic(auto, using(crate::proofs::PatKinds::kinds))]
 pub fn slice_fits<P: FitPat>(x: &PatSliceOf<P>, several: bool) -> bool
-    ensures { result ≡ spec.fits_behind several (of.pat_slice_of P.view x.now) }
+    ensures { result ≡ spec.fits_behind several (of.pat_slice_of P.shown x.now) }
 {
     pats_fit(&x.elems, true)
 }
@@ -291,7 +296,7 @@ pub fn slice_fits<P: FitPat>(x: &PatSliceOf<P>, several: bool) -> bool
 /// Whether alternatives are read back where they may stand: one alone has a `|` before it, and none ends them.
 #[tactic(auto, using(crate::proofs::PatKinds::kinds))]
 pub fn or_fits<P: FitPat>(x: &PatOrOf<P>, several: bool) -> bool
-    ensures { result ≡ spec.fits_behind several (of.pat_or_of P.view x.now) }
+    ensures { result ≡ spec.fits_behind several (of.pat_or_of P.shown x.now) }
 {
     several
         && x.cases.last.is_some()
