@@ -1,0 +1,91 @@
+-- What stands for tokens has outer attributes alone before its parentheses.
+use Rattle.std.specs.Prelude.{not, ◌&&◌}
+use Rattle.std.proofs.Common.{◌≡◌, ℕ, zero, suc, Bool, true, false, cond, List, [], ◌∷◌, drop, Option, Some, None, refl, sym, subst}
+use Rattle.syn_lexer.specs.declared.lexeme.Delimiter.TheVariants as del
+use Rattle.syn_tokens.specs.Tok.{Tok, weight}
+use Rattle.syn_parts.specs.Form.{then_behind, more, more_step, fix, iterate}
+use Rattle.syn_parts.specs.Mark.{pound}
+use Rattle.syn_parts.specs.Part.{outer_attributes, outer_body, kept}
+use Rattle.syn_parts.specs.Pat.{an_index, a_name}
+use Rattle.syn_parts.specs.Tree.{AttributeTree}
+use Rattle.syn_grammar.specs.declared.kinds.Place.{Place}
+use Rattle.syn_grammar.specs.Slot.{Slot, Holder}
+use Rattle.syn_grammar.specs.Stands.{Node, is_leaf, is_become, is_attributed, is_paren, is_adorned_by, is_lead, is_mid, is_post, is_tail, is_indexed, is_frame, Content, holds_none, holds_within, holds_bare, Operands, no_more, one_more, short, block, arms_inside, fields_of, short_value, path_of, Stands}
+use Rattle.syn_grammar.specs.Tree as e
+use Rattle.syn_grammar.specs.Tree.{Tree, Kids, Piece, leaf, paren, adorned, lead, mid, post, tail, frame, none, kid}
+use Rattle.syn_grammar.proofs.Chains.{behind_some}
+use Rattle.syn_expr_kinds.specs.Attrs.{all_outer}
+use Rattle.syn_expr_flat.specs.Outer.{AreOuter, HasOuterParens, HaveOuterParens}
+
+-- ---- attributes before an operand are outer ones
+
+style_is : (b : Bool) (a : AttributeTree) (f : List Tok → Option (List Tok)) (m : List Tok) → a.inner ≡ b → then_behind (cond b None (Some a.tokens)) f ≡ Some m → not b ≡ true
+style_is true a f m e h = absurd cc
+style_is false a f m e h = refl
+
+body_outer : (a : AttributeTree) (l m : List Tok) → outer_body.behind a l ≡ Some m → not a.inner ≡ true
+unfolding outer_body
+body_outer a l m h = style_is a.inner a (λ ts. (kept del.Bracket).behind ts l) m refl h
+
+iterated : (n : ℕ) (ats : List AttributeTree) (l m : List Tok) → (iterate (more_step pound outer_body) n tt).behind ats l ≡ Some m → all_outer ats ≡ true
+unfolding iterate
+iterated zero ats l m g = absurd cc
+iterated (suc n) [] l m g = refl
+iterated (suc n) (a ∷ others) l m g = by_test (pound.at l) (λ i d. iterated n others i m d) g
+  where
+    by_test : (b : Bool) → ((i : List Tok) → (iterate (more_step pound outer_body) n tt).behind others i ≡ Some m → all_outer others ≡ true)
+        → cond b (cond b (then_behind (outer_body.behind a (drop 1 l)) ((iterate (more_step pound outer_body) n tt).behind others)) None) (cond false (Some l) None) ≡ Some m
+        → (not a.inner && all_outer others) ≡ true
+    by_test true again h =
+        let (i, c, d) = behind_some (outer_body.behind a (drop 1 l)) _ m h in
+        rw (body_outer a (drop 1 l) i c) (again i d)
+    by_test false again h = absurd cc
+
+outer_behind : (ats : List AttributeTree) (l m : List Tok) → outer_attributes.behind ats l ≡ Some m → all_outer ats ≡ true
+unfolding outer_attributes more fix
+outer_behind ats l m h = iterated (suc (weight l)) ats l m h
+
+before_any : (ats : List AttributeTree) (t : Tree) → all_outer ats ≡ true → AreOuter ats t
+before_any ats (paren m t) h = h
+before_any ats _ h = tt
+
+-- ---- what stands
+
+fields_outer : (is : List ℕ) (b : Tree) → HasOuterParens b → HasOuterParens (fields_of b is)
+fields_outer [] b h = h
+fields_outer (i ∷ is) b h = fields_outer is (tail b (e.field (an_index i)) none) (h, tt)
+
+short_outer : (k : Piece) (x : Tree) → short_value k ≡ Some x → HasOuterParens x
+short_outer (e.field_value ats (a_name w) false) x h = let q : path_of w ≡ x = cc in subst HasOuterParens q tt
+short_outer (e.field_value ats (a_name w) true) x h = absurd cc
+short_outer (e.field_value ats (an_index i) b) x h = absurd cc
+short_outer _ x h = absurd cc
+
+mutual
+  node_outer : {p : Place} {l n : List Tok} {x : Tree} → Node p l x n → HasOuterParens x
+  node_outer (is_leaf f g) = tt
+  node_outer (is_become w d q r o) = tt
+  node_outer (is_attributed z others fs f d q r) = tt
+  node_outer (is_paren d q r) = node_outer d
+  node_outer (is_adorned_by {l = l} {m = m} {a = a} {more = others} {x = x} f g d) = (before_any (a ∷ others) x (outer_behind (a ∷ others) l m f), node_outer d)
+  node_outer (is_lead f g d q r) = (tt, node_outer d)
+  node_outer (is_mid d q r i t o d2 u v w) = (node_outer d, node_outer d2)
+  node_outer (is_post d q r i t u o w) = node_outer d
+  node_outer (is_tail {b = b} {is = is} d f t o q) = (subst HasOuterParens (sym q) (fields_outer is b (node_outer d)), content_outer o)
+  node_outer (is_indexed {b = b} {i = i} {is = is} d f t q) = subst HasOuterParens (sym q) (fields_outer (i ∷ is) b (node_outer d))
+  node_outer (is_frame f o g) = content_outer o
+
+  content_outer : {h : Holder} {l n : List Tok} {ks : Kids} → Content h l ks n → HaveOuterParens ks
+  content_outer holds_none = tt
+  content_outer (holds_within g o q) = operands_outer o
+  content_outer (holds_bare o) = operands_outer o
+
+  pub operands_outer : {s : Slot} {l o : List Tok} {ks : Kids} → Operands s l ks o → HaveOuterParens ks
+  operands_outer (no_more q) = tt
+  operands_outer (one_more f g d q t others) = (node_outer d, operands_outer others)
+  operands_outer (short {k = k} {x = x} f g t others) = (short_outer k x g, operands_outer others)
+  operands_outer (block f g t others) = (tt, operands_outer others)
+  operands_outer (arms_inside d q r g u others) = (node_outer d, operands_outer others)
+
+pub stands_outer : (p : Place) (l : List Tok) (t : Tree) (r : List Tok) → Stands p l t r → HasOuterParens t
+stands_outer p l t r s = node_outer s.node

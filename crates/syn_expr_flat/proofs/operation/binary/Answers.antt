@@ -1,0 +1,6 @@
+use Rattle.std.proofs.Common.{refl}
+use Rattle.syn_expr_flat.proofs.Nodes.{at_node, mid_flat}
+use Rattle.syn_expr_flat.proofs.operation.binary.Goals as goal
+
+pub returns : goal.returns
+returns g c = at_node _ _ _ _ _ refl (λ o. c.in_ok-joined.ensures.all) (λ o. mid_flat _ _ _ _ _ (c.requires.gives _ _ c.in_ok-boxed.ensures) (c.requires.gives _ _ c.in_ok-boxed-2.ensures))

@@ -1,0 +1,7 @@
+use Rattle.syn_parts.specs.Pat as t
+use Rattle.syn_expr_flat.proofs.Each.{each_by}
+use Rattle.syn_expr_flat.proofs.Pats.{list_flat}
+use Rattle.syn_expr_flat.proofs.pat.slice.Goals as goal
+
+pub returns : goal.returns
+returns g c = list_flat t.a_slice c.args.x.attrs g.P.HasPatTree.view _ _ (each_by _ _ (λ a b. c.requires.gives a _) _ _ c.in_ok-punctuated.ensures.values) c.in_ok-punctuated.ensures.trails

@@ -1,0 +1,40 @@
+-- What is left of an expression without its parentheses.
+use Rattle.std.specs.Prelude.{◌≡◌, true, List, [], Option, Some, None, Result, IfOk}
+use Rattle.std.specs.declared.vec.Vec.{Vec}
+use Rattle.std.specs.declared.alloc.Global.{Global}
+use Rattle.std.specs.declared.alloc.AllocError.{AllocError}
+use Rattle.syn_parts.specs.Tree.{AttributeTree}
+use Rattle.syn_lower_leaves.specs.declared.attr.Attribute.{Attribute}
+use Rattle.syn_grammar.specs.Tree.{Tree, Kids, prepend, flatten, flatten_kids}
+use Rattle.syn_expr_kinds.specs.Attrs.{attrs_of, all_outer}
+use Rattle.syn_expr_kinds.specs.View.{FieldView}
+use Rattle.syn_expr_flat.specs.Outer.{HasOuterParens, HaveOuterParens}
+
+-- u is t without its parentheses
+unfoldable pub IsFlat : Tree → Tree → Type 0
+IsFlat t u = HasOuterParens t → u ≡ flatten t
+
+-- us are the operands ts without their parentheses
+unfoldable pub AreFlat : Kids → Kids → Type 0
+AreFlat ts us = HaveOuterParens ts → us ≡ flatten_kids ts
+
+abbrev pub IsFlatField : FieldView → FieldView → Type 0
+IsFlatField u v = (v.attrs ≡ u.attrs) × (v.member ≡ u.member) × (v.colon ≡ u.colon) × IsFlat u.value v.value
+
+-- a call that flattens what it is given
+abbrev pub Flattens : {E : Type 0} → (E → Tree) → (E → Result E AllocError → Type 0) → Type 0
+Flattens tree post = (x : _) (r : _) → post x r → IfOk r (λ y. IsFlat (tree x) (tree y))
+
+-- ---- behind attributes of parentheses that stood round it
+
+abbrev pub before : Option (Vec Attribute Global) → List AttributeTree
+before None = []
+before (Some v) = attrs_of v
+
+abbrev pub behind : Option (Vec Attribute Global) → Tree → Tree
+behind None t = t
+behind (Some v) t = prepend (attrs_of v) t
+
+-- u is t without its parentheses, behind these outer attributes
+unfoldable pub IsFlatBehind : Option (Vec Attribute Global) → Tree → Tree → Type 0
+IsFlatBehind ats t u = all_outer (before ats) ≡ true → HasOuterParens t → u ≡ behind ats (flatten t)

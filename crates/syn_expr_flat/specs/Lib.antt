@@ -1,0 +1,4 @@
+pub mod Each
+pub mod Flat
+pub mod Outer
+pub mod Pats

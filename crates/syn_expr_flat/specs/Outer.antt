@@ -1,0 +1,26 @@
+-- Trees in which parentheses have outer attributes alone, as all that are read have: parentheses have no braces in which an
+-- inner one could stand.
+use Rattle.std.specs.Prelude.{◌≡◌, ⊤, true, List, ◌∷◌}
+use Rattle.syn_parts.specs.Tree.{AttributeTree}
+use Rattle.syn_grammar.specs.Tree.{Tree, Kids, leaf, paren, adorned, lead, mid, post, tail, frame, none, kid}
+use Rattle.syn_expr_kinds.specs.Attrs.{all_outer}
+
+-- attributes before a tree
+abbrev pub AreOuter : List AttributeTree → Tree → Type 0
+AreOuter ats (paren m t) = all_outer ats ≡ true
+AreOuter ats _ = ⊤
+
+abbrev mutual
+  pub HasOuterParens : Tree → Type 0
+  HasOuterParens (leaf k) = ⊤
+  HasOuterParens (paren m t) = HasOuterParens t
+  HasOuterParens (adorned a more t) = AreOuter (a ∷ more) t × HasOuterParens t
+  HasOuterParens (lead k gs t) = HaveOuterParens gs × HasOuterParens t
+  HasOuterParens (mid x k y) = HasOuterParens x × HasOuterParens y
+  HasOuterParens (post x k) = HasOuterParens x
+  HasOuterParens (tail b k ks) = HasOuterParens b × HaveOuterParens ks
+  HasOuterParens (frame k ks) = HaveOuterParens ks
+
+  pub HaveOuterParens : Kids → Type 0
+  HaveOuterParens none = ⊤
+  HaveOuterParens (kid k c t ks) = HasOuterParens t × HaveOuterParens ks

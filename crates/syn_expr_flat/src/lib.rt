@@ -1,0 +1,14 @@
+//! Each kind of expression and of pattern without the parentheses of expressions in it, over what takes those away inside.
+//! Attributes that stood before parentheses come before those of the expression that these held.
+#![tactic(auto)]
+
+pub mod atom;
+pub mod attrs;
+pub mod block;
+pub mod jump;
+pub mod leaf;
+pub mod operands;
+pub mod operation;
+pub mod pat;
+pub mod structure;
+pub mod trailer;
