@@ -4,6 +4,7 @@ ghost use Rattle.std.specs.Prelude.{◌≡◌};
 ghost use Rattle.syn_expr_all.specs.View.{guard_of, pat_of};
 ghost use Rattle.syn_expr_well.specs.Alone as spec;
 ghost use Rattle.syn_expr_well.specs.Walk.{arm_pattern};
+ghost use Rattle.syn_parts.specs.Form.{is_nil};
 ghost use Rattle.syn_parts.specs.Pat.{is_rest};
 ghost use Rattle.syn_parts.specs.PatFits.{begins_mut};
 ghost use Rattle.syn_pat_kinds.specs.View as of;
@@ -43,6 +44,14 @@ fn attrs(pat: &Pat) -> &Vec<Attribute>
         Pat::Typed(x) => &x.attrs,
         Pat::Wild(x) => &x.attrs,
     }
+}
+
+/// Whether no attributes stand before a pattern.
+#[tactic(auto, using(crate::proofs::Orders::bares))]
+fn is_bare(pat: &Pat) -> bool
+    ensures { result ≡ is_nil (spec.attributes_at (pat_of pat.now).tree) }
+{
+    attrs(pat).is_empty()
 }
 
 /// What the pattern round it asks of a pattern.
@@ -139,13 +148,13 @@ fn fits_behind(pat: &Pat, several: bool) -> bool
     }
 }
 
-#[tactic(auto, using(crate::proofs::PatKinds::wholes), unfolding(syn_expr_kinds::specs::Attrs::attrs_of))]
+#[tactic(auto, using(crate::proofs::PatKinds::wholes))]
 impl FitPat for Pat {
     ghost shown = { pat_of };
 
     #[cycle(fits)]
     fn fits(&self, several: bool) -> bool {
-        attrs(self).is_empty() && fits_behind(self, several)
+        is_bare(self) && fits_behind(self, several)
     }
 }
 
