@@ -1,5 +1,5 @@
 -- Each kind of pattern is read back, with no guard in it, where its parts are.
-use Rattle.std.proofs.Common.{◌≡◌, Bool, true, false, not, ◌&&◌, ◌||◌, List, [], ◌∷◌, ◌++◌, length, map, Option, Some, None, refl, ap, sym, ◌∙◌, ◌==◌, arith}
+use Rattle.std.proofs.Common.{◌≡◌, Bool, true, false, not, ◌&&◌, ◌||◌, List, [], ◌∷◌, ◌++◌, length, map, Option, Some, None, refl, ap, sym, ◌∙◌, ◌==◌, arith, rules}
 use Rattle.std.proofs.lemmas.Bool.{eqb-true}
 use Rattle.std.proofs.lemmas.List.{map-append, length-map}
 use Rattle.std.specs.List.{list_all}
@@ -172,6 +172,17 @@ mut-asked (t.typed p x) = refl
 mut-asked (t.attributed a more p) = refl
 
 pub ruleset asked = (rest-asked, mut-asked)
+
+-- `..` alone in a list
+pub sole-some : {P S : Type 0} (f : P → PatView) (xs : List (P × S)) (p : Box P Global) → is_sole_rest f xs (Some p) ≡ ((length xs == 0) && is_rest (f p.value).tree)
+sole-some f [] p = refl
+sole-some f (x ∷ xs) p = let n : false ≡ (length (x ∷ xs) == 0) = search rules in ap (λ b. b && is_rest (f p.value).tree) n
+
+pub sole-none : {P S : Type 0} (f : P → PatView) (xs : List (P × S)) → is_sole_rest f xs None ≡ false
+sole-none f [] = refl
+sole-none f (x ∷ xs) = refl
+
+pub ruleset soles = (sole-some, sole-none)
 
 -- ---- lists
 

@@ -83,7 +83,7 @@ fn begins_mut(pat: &Pat) -> bool
 }
 
 /// Whether a list is `..` alone, with no punct behind it.
-#[tactic(auto, unfolding(syn_lower_lists::specs::View::values))]
+#[tactic(auto, using(crate::proofs::PatKinds::soles))]
 fn is_sole_rest(list: &Punctuated<Pat, Comma>) -> bool
     ensures { result ≡ spec.is_sole_rest pat_of list.now.inner.items list.now.last }
 {
