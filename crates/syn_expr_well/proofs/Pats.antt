@@ -78,22 +78,22 @@ typed_by (a ∷ more) p gs h i = ap (λ b. b && is_nil gs) i
 untyped_kind : (x : Pat) → ((y : PatTypeOf Pat) → x ≡ pt.Typed y → ⊥) → argument_behind (pat_layer views (out-Pat x)) ≡ fits_behind false (pat_layer views (out-Pat x))
 untyped_kind x not_typed =
     elim (out-Pat x) as (λ l. roll-Pat l ≡ x → argument_behind (pat_layer views l) ≡ fits_behind false (pat_layer views l)) [
-      | Pat-F.Pat::Const y ↦ λ r. typed_by (attributes_of y.attrs) _ _ refl refl
+      | Pat-F.Pat::Const y ↦ λ r. typed_by (attributes_of y.attrs) _ [] refl refl
       | Pat-F.Ident y ↦ λ r. typed_by (attributes_of y.attrs) _ _ refl refl
-      | Pat-F.Pat::Lit y ↦ λ r. typed_by (attributes_of y.attrs) _ _ refl refl
-      | Pat-F.Pat::Macro y ↦ λ r. typed_by (attributes_of y.attrs) _ _ refl refl
+      | Pat-F.Pat::Lit y ↦ λ r. typed_by (attributes_of y.attrs) _ [] refl refl
+      | Pat-F.Pat::Macro y ↦ λ r. typed_by (attributes_of y.attrs) _ [] refl refl
       | Pat-F.Or y ↦ λ r. typed_by (attributes_of y.attrs) _ _ refl refl
       | Pat-F.Pat::Paren y ↦ λ r. typed_by (attributes_of y.attrs) _ _ refl refl
-      | Pat-F.Pat::Path y ↦ λ r. typed_by (attributes_of y.attrs) _ _ refl refl
-      | Pat-F.Pat::Range y ↦ λ r. typed_by (attributes_of y.attrs) _ _ refl refl
+      | Pat-F.Pat::Path y ↦ λ r. typed_by (attributes_of y.attrs) _ [] refl refl
+      | Pat-F.Pat::Range y ↦ λ r. typed_by (attributes_of y.attrs) _ [] refl refl
       | Pat-F.Pat::Reference y ↦ λ r. typed_by (attributes_of y.attrs) _ _ refl refl
-      | Pat-F.Rest y ↦ λ r. typed_by (attributes_of y.attrs) _ _ refl refl
+      | Pat-F.Rest y ↦ λ r. typed_by (attributes_of y.attrs) _ [] refl refl
       | Pat-F.Slice y ↦ λ r. typed_by (attributes_of y.attrs) _ _ refl refl
       | Pat-F.Pat::Struct y ↦ λ r. typed_by (attributes_of y.attrs) _ _ refl refl
       | Pat-F.Pat::Tuple y ↦ λ r. typed_by (attributes_of y.attrs) _ _ refl refl
       | Pat-F.TupleStruct y ↦ λ r. typed_by (attributes_of y.attrs) _ _ refl refl
       | Pat-F.Typed y ↦ λ r. absurd (not_typed y (sym r ∙ pt.rolls-Typed y))
-      | Pat-F.Wild y ↦ λ r. typed_by (attributes_of y.attrs) _ _ refl refl
+      | Pat-F.Wild y ↦ λ r. typed_by (attributes_of y.attrs) _ [] refl refl
       | Pat-F.Guard y ↦ λ r. rw (guard-is y) (typed_by (attributes_of (out-PatGuard y).attrs) _ _ refl refl)
     ] (roll-out-Pat x)
 
@@ -190,9 +190,13 @@ arm_behind [] p gs h = absurd cc
 arm_behind (a ∷ ats) p gs h = refl
 
 pub arm-bare : (x : PatGuard) → (length (out-PatGuard x).attrs.items == 0) ≡ true → arm_pattern (guard_of x).tree (guard_of x).guards ≡ fits_alone true (pat_of (out-PatGuard x).pat.value)
-arm-bare x h = ap (λ v. arm_pattern v.tree v.guards) (guard-is x) ∙ arm_bare (out-PatGuard x).attrs.items _ _ _ h
+arm-bare x h =
+    let v = pat_of (out-PatGuard x).pat.value in
+    ap (λ w. arm_pattern w.tree w.guards) (guard-is x) ∙ arm_bare (out-PatGuard x).attrs.items v.tree v.guards (tree_of (out-PatGuard x).guard.value) h
 
 pub arm-behind : (x : PatGuard) → (length (out-PatGuard x).attrs.items == 0) ≡ false → arm_pattern (guard_of x).tree (guard_of x).guards ≡ false
-arm-behind x h = ap (λ v. arm_pattern v.tree v.guards) (guard-is x) ∙ arm_behind (out-PatGuard x).attrs.items _ _ h
+arm-behind x h =
+    let v = pat_of (out-PatGuard x).pat.value in
+    ap (λ w. arm_pattern w.tree w.guards) (guard-is x) ∙ arm_behind (out-PatGuard x).attrs.items (guarded v.tree) (v.guards ++ tree_of (out-PatGuard x).guard.value ∷ []) h
 
 pub ruleset guards = (arm-other, arm-bare, arm-behind)
