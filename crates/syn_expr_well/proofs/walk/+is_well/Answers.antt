@@ -1,12 +1,12 @@
 -- What is left of lists, of arms and of a node.
-use Rattle.std.proofs.Common.{◌≡◌, ap, sym, ◌∙◌, rules}
+use Rattle.std.proofs.Common.{ap, sym, ◌∙◌, rules}
 use Rattle.std.specs.List.{list_all}
 use Rattle.syn_grammar.specs.WellFormed.{well}
-use Rattle.syn_expr_kinds.specs.Node.{operands_at, operands_of}
+use Rattle.syn_expr_kinds.specs.Node.{operands_of}
 use Rattle.syn_expr_kinds.specs.View.{field_value_of}
 use Rattle.syn_expr_collect.specs.Below.{operands_visited, total, arm_visited}
 use Rattle.syn_expr_collect.proofs.Lists.{arms_visited}
-use Rattle.syn_expr_well.specs.Places.{dots_of, slot_of}
+use Rattle.syn_expr_well.specs.Places.{dots_of}
 use Rattle.syn_expr_well.specs.Well.{slot_at, dots_at}
 use Rattle.syn_expr_well.specs.Walk.{operands_well, field_well}
 use Rattle.syn_expr_well.proofs.Operands.{all-some}
