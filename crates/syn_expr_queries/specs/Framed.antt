@@ -19,7 +19,7 @@ use Rattle.syn_expr_kinds.specs.declared.pattern.ExprForLoopOf.{ExprForLoopOf}
 use Rattle.syn_expr_kinds.specs.declared.pattern.ExprLetOf.{ExprLetOf}
 use Rattle.syn_expr_kinds.specs.declared.pattern.ExprMatchOf.{ExprMatchOf}
 use Rattle.syn_expr_kinds.specs.View.{body_of, else_of, range_between, jump_with}
-use Rattle.syn_expr_queries.specs.Frames.{is_body, is_loop, is_if, frames_hold}
+use Rattle.syn_expr_queries.specs.Frames.{is_body, is_loop, frames_hold}
 use Rattle.syn_expr_all.specs.declared.expr.Expr.{Expr, map-Expr, fold_out-Expr, out-Expr}
 use Rattle.syn_expr_all.specs.declared.expr.Expr.TheOpen.{Expr-F, ExprClosure-F, ExprForLoop-F, ExprLet-F, ExprMatch-F}
 use Rattle.syn_expr_all.specs.declared.pat.Pat.{Pat}
