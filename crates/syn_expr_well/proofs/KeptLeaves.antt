@@ -1,7 +1,7 @@
 -- Leaves in a certain form, by what is lent of a node without attributes.
-use Rattle.std.proofs.Common.{◌≡◌, false, Option, Some, None, refl, ap, sym, ◌∙◌}
+use Rattle.std.proofs.Common.{◌≡◌, false, Some, None, refl, ap, ◌∙◌}
 use Rattle.syn_parts.specs.Text.{Text}
-use Rattle.syn_parts.specs.Pat.{a_name, an_index}
+use Rattle.syn_parts.specs.Pat.{a_name}
 use Rattle.syn_grammar.specs.Tree as e
 use Rattle.syn_grammar.specs.Tree.{Tree, Leaf, leaf, paren, adorned, lead, mid, post, tail, frame}
 use Rattle.syn_grammar.specs.WellFormed.{is_kept_leaf, is_kept_block, is_name_path}

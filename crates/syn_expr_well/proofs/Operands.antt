@@ -1,6 +1,5 @@
 -- Operands in their places, by what is lent of them.
-use Rattle.std.proofs.Common.{◌≡◌, Bool, true, false, not, ◌&&◌, ◌||◌, if◌then◌else◌, List, [], ◌∷◌, ◌++◌, map, Option, Some, None, refl, ap, sym, ◌∙◌}
-use Rattle.std.proofs.lemmas.List.{append-nil}
+use Rattle.std.proofs.Common.{◌≡◌, Bool, true, false, not, ◌&&◌, ◌||◌, List, [], ◌∷◌, map, Option, Some, None, refl, ap, sym, ◌∙◌}
 use Rattle.std.proofs.lemmas.List.Folds.{list_all-append}
 use Rattle.std.specs.List.{list_all}
 use Rattle.std.specs.Prelude.{is_some}
@@ -12,23 +11,23 @@ use Rattle.syn_parts.specs.Form.{is_nil}
 use Rattle.syn_parts.specs.Pat.{PatTree, guarded}
 use Rattle.syn_parts.specs.PatFits.{attributes_outer, member_fits, pat_fits}
 use Rattle.syn_lower_lists.specs.declared.punctuated.Punctuated.{Punctuated}
-use Rattle.syn_lower_lists.specs.View.{values, trails, last_of, mapped}
+use Rattle.syn_lower_lists.specs.View.{values, last_of, mapped}
 use Rattle.syn_lower_leaves.specs.View.{attribute_of}
 use Rattle.syn_lower_leaves.specs.declared.attr.Attribute.{Attribute}
 use Rattle.syn_grammar.specs.Slot as slot
 use Rattle.syn_grammar.specs.Slot.{Slot}
 use Rattle.syn_grammar.specs.Tree as e
 use Rattle.syn_grammar.specs.Tree.{Tree, Kids, Ending, Piece, Body, none, kid}
-use Rattle.syn_grammar.specs.WellFormed.{well, kids_well, has_rest, may_stop, body_fits, attributes_inner, is_kept_block, is_name_path, piece_fits, ending_fits, keeps_block}
+use Rattle.syn_grammar.specs.WellFormed.{well, kids_well, has_rest, may_stop, body_fits, is_kept_block, is_name_path, piece_fits, ending_fits}
 use Rattle.syn_grammar.specs.Stands.{is_branch}
 use Rattle.syn_expr_kinds.specs.Attrs.{inner_part, inner_of}
 use Rattle.syn_expr_kinds.specs.Node.{framed, based, based_by}
 use Rattle.syn_expr_kinds.specs.Pats.{ArmView, strays, guard_kids, arm_ending, arm_kids, arms}
 use Rattle.syn_expr_kinds.specs.View.{FieldView, ending_of, elements, fields, option_kid, boxed, else_of, body_of}
-use Rattle.syn_expr_collect.specs.Arm.{last_guard, guard_by, guard_at}
+use Rattle.syn_expr_collect.specs.Arm.{last_guard, guard_by}
 use Rattle.syn_expr_collect.proofs.Lists.{some_visited, none_visited}
 use Rattle.syn_expr_well.specs.Places.{is_elements, is_single, is_counted, is_fields, is_conditions, is_loops, is_scrutinees, is_outputs}
-use Rattle.syn_expr_well.specs.Walk.{operands_well, option_well, field_well, chain_well, else_well, arm_pattern, arm_head, arm_well}
+use Rattle.syn_expr_well.specs.Walk.{operands_well, option_well, field_well, else_well, arm_pattern, arm_well}
 use Rattle.syn_expr_well.proofs.Closures.{and_true, and_false}
 use Rattle.syn_expr_well.proofs.Inner.{part_inner}
 

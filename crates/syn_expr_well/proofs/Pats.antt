@@ -1,5 +1,5 @@
 -- What is told of a pattern by its kind.
-use Rattle.std.proofs.Common.{◌≡◌, Bool, true, false, not, ◌&&◌, ◌==◌, List, [], ◌∷◌, ◌++◌, length, map, Some, None, refl, sym, ap, subst, ◌∙◌, arith}
+use Rattle.std.proofs.Common.{◌≡◌, Bool, true, false, ◌&&◌, ◌==◌, List, [], ◌∷◌, ◌++◌, length, map, None, refl, sym, ap, ◌∙◌, arith}
 use Rattle.std.proofs.lemmas.Bool.{eqb-true}
 use Rattle.syn_parts.specs.Form.{is_nil}
 use Rattle.syn_parts.specs.Tree.{AttributeTree}
@@ -27,7 +27,7 @@ use Rattle.syn_expr_all.proofs.Guards.{no-guard}
 use Rattle.syn_expr_well.specs.declared.patterns.PatSort.TheVariants as sort
 use Rattle.syn_expr_well.specs.Alone.{fits_alone, argument_fits, attributes_at, behind, fits_behind, argument_behind, sort_at}
 use Rattle.syn_expr_well.specs.Walk.{arm_pattern}
-use Rattle.syn_expr_well.proofs.Closures.{and_true, and_false, nil_append}
+use Rattle.syn_expr_well.proofs.Closures.{and_true, and_false}
 
 -- ---- attributes
 

@@ -1,5 +1,5 @@
 -- A node is well-formed where its attributes, what it is but for its operands, and these are.
-use Rattle.std.proofs.Common.{◌≡◌, Bool, true, false, not, ◌&&◌, List, [], ◌∷◌, Option, Some, None, refl, ap, sym, ◌∙◌}
+use Rattle.std.proofs.Common.{◌≡◌, Bool, true, false, not, ◌&&◌, [], refl, ap, sym, ◌∙◌}
 use Rattle.syn_parts.specs.Form.{is_nil}
 use Rattle.syn_parts.specs.PatFits.{attributes_outer}
 use Rattle.syn_grammar.specs.Slot as s
@@ -7,11 +7,11 @@ use Rattle.syn_grammar.specs.Slot.{Slot}
 use Rattle.syn_grammar.specs.Stands.{is_adorned}
 use Rattle.syn_grammar.specs.Tree as e
 use Rattle.syn_grammar.specs.Tree.{Tree, Kids, Ending, Piece, Trailer, Frame, leaf, paren, adorned, lead, mid, post, tail, frame, none, kid, is_none}
-use Rattle.syn_grammar.specs.WellFormed.{well, kids_well, has_rest, may_stop, trailer_fits, trailer_slot, frame_fits, frame_slot, lead_fits, piece_fits}
+use Rattle.syn_grammar.specs.WellFormed.{well, kids_well, has_rest, trailer_fits, trailer_slot, frame_fits, frame_slot, lead_fits, piece_fits}
 use Rattle.syn_expr_kinds.specs.Node.{attributes_at, operands_at, stray_trees, without_strays, based_by}
 use Rattle.syn_expr_well.specs.Well.{own_fits, slot_at, dots_at, frame_dots}
 use Rattle.syn_expr_well.specs.Walk.{operands_well, node_fits, is_plain, is_whole}
-use Rattle.syn_expr_well.proofs.Closures.{and_true, and_false}
+use Rattle.syn_expr_well.proofs.Closures.{and_true}
 
 -- this is asked of a node but for the attributes before it
 abbrev core_well : Tree → Bool

@@ -1,5 +1,5 @@
 -- Whether operands are well-formed in their places, by what is lent of their node.
-use Rattle.std.specs.Prelude.{Bool, true, false, not, ◌||◌, ◌&&◌, List, [], ◌∷◌, Option, Some, None}
+use Rattle.std.specs.Prelude.{Bool, true, false, not, ◌||◌, ◌&&◌, List, ◌∷◌, Option, Some, None}
 use Rattle.syn_parts.specs.Form.{is_nil}
 use Rattle.syn_parts.specs.Text.{Text}
 use Rattle.syn_parts.specs.Pat.{PatTree, guarded}

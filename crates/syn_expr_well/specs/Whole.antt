@@ -1,11 +1,10 @@
 -- Of no node more is told than is lent of it.
 use Rattle.std.proofs.Common.{◌≡◌, true, List, [], ◌∷◌, refl, ap, ◌∙◌}
-use Rattle.syn_grammar.specs.Tree as e
 use Rattle.syn_grammar.specs.Tree.{Tree, Lead, leaf, paren, adorned, lead, mid, post, tail, frame, none, is_none}
 use Rattle.syn_expr_kinds.specs.Node.{OperandTrees, no_trees, one_tree, two_trees, based, framed, without_strays, operands_at}
 use Rattle.syn_expr_kinds.specs.Pats.{strays}
 use Rattle.syn_expr_print.specs.Shape.{ShapeTree, leaf_shape, paren_shape, lead_shape, mid_shape, post_shape, tail_shape, frame_shape, shape_at}
-use Rattle.syn_expr_print.specs.Printing.{core, node_of, IsLent}
+use Rattle.syn_expr_print.specs.Printing.{core, node_of}
 use Rattle.syn_expr_all.specs.declared.expr.Expr.{Expr}
 use Rattle.syn_expr_all.specs.View.{tree_of}
 use Rattle.syn_expr_all.specs.Lents.{tree_lent}
