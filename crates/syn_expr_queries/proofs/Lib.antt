@@ -4,7 +4,3 @@ pub mod Likes
 pub mod Nodes
 pub mod Labels
 pub mod Rights
-pub mod Inner
-pub mod Indices
-pub mod Closures
-pub mod Owns

@@ -2,6 +2,4 @@ pub mod Ends
 pub mod Node
 pub mod Frames
 pub mod Right
-pub mod Alone
-pub mod Well
-pub mod Places
+pub mod Framed

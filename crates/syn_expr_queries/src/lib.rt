@@ -5,13 +5,11 @@
 mod attributes;
 mod brace;
 pub mod classify;
-pub mod fits;
+mod expr;
 pub mod frames;
-pub mod heads;
 mod label;
 mod name;
 mod operands;
-pub mod own;
 mod right;
 mod tokens;
 mod types;

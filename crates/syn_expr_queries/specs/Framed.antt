@@ -1,0 +1,174 @@
+-- What an expression holds in places of their own: the condition of an `if`, of a loop and of a `match` has its braces behind
+-- it, and a closure with an output has its body alone.
+use Rattle.std.proofs.Common.{◌≡◌, true, List, [], ◌∷◌, Option, Some, None, refl, sym, subst}
+use Rattle.std.specs.Prelude.{map, is_some}
+use Rattle.std.specs.declared.boxed.Box.{Box}
+use Rattle.std.specs.declared.alloc.Global.{Global}
+use Rattle.syn_parts.specs.Tree.{AttributeTree, ReturnTree, default, given}
+use Rattle.syn_grammar.specs.declared.kinds.Limits.{Limits}
+use Rattle.syn_grammar.specs.Tree as e
+use Rattle.syn_grammar.specs.Tree.{Tree, Body, Jump, ClosureHead, lead, frame, none, kid, adorn}
+use Rattle.syn_lower.specs.View.{mapped, lifetimes_of, return_of, values, trails}
+use Rattle.syn_expr_parts.specs.View.{label_of}
+use Rattle.syn_pat_kinds.specs.View.{PatView}
+use Rattle.syn_expr_kinds.specs.Attrs.{attrs_of, outer_of, inner_of}
+use Rattle.syn_expr_kinds.specs.Both.{expr_closure_of, expr_for_loop_of, expr_let_of, expr_match_of}
+use Rattle.syn_expr_kinds.specs.Pats.{ArmView, strays, trees, guards, closure_by, arms}
+use Rattle.syn_expr_kinds.specs.declared.pattern.ExprClosureOf.{ExprClosureOf}
+use Rattle.syn_expr_kinds.specs.declared.pattern.ExprForLoopOf.{ExprForLoopOf}
+use Rattle.syn_expr_kinds.specs.declared.pattern.ExprLetOf.{ExprLetOf}
+use Rattle.syn_expr_kinds.specs.declared.pattern.ExprMatchOf.{ExprMatchOf}
+use Rattle.syn_expr_kinds.specs.View.{body_of, else_of, range_between, jump_with}
+use Rattle.syn_expr_queries.specs.Frames.{is_body, is_loop, frames_hold}
+use Rattle.syn_expr_all.specs.declared.expr.Expr.{Expr, map-Expr, fold_out-Expr, out-Expr}
+use Rattle.syn_expr_all.specs.declared.expr.Expr.TheOpen.{Expr-F, ExprClosure-F, ExprForLoop-F, ExprLet-F, ExprMatch-F}
+use Rattle.syn_expr_all.specs.declared.pat.Pat.{Pat}
+use Rattle.syn_expr_all.specs.declared.pat.PatGuard.{PatGuard}
+use Rattle.syn_expr_all.specs.declared.closure.ExprClosure.{ExprClosure, map-ExprClosure, out-ExprClosure, fold_out-ExprClosure}
+use Rattle.syn_expr_all.specs.declared.control.Arm.{Arm}
+use Rattle.syn_expr_all.specs.declared.control.ExprForLoop.{ExprForLoop, map-ExprForLoop, out-ExprForLoop, fold_out-ExprForLoop}
+use Rattle.syn_expr_all.specs.declared.control.ExprLet.{ExprLet, map-ExprLet, out-ExprLet, fold_out-ExprLet}
+use Rattle.syn_expr_all.specs.declared.control.ExprMatch.{ExprMatch, map-ExprMatch, out-ExprMatch, fold_out-ExprMatch}
+use Rattle.syn_expr_all.specs.View.{shown, closure_parts, for_loop_parts, binding_parts, choice_parts, tree_of, pat_of, closure_of, arm_of, for_loop_of, binding_of, choice_of, guard_of, tree_step, pat_step, closure_step, arm_step, for_loop_step, binding_step, choice_step, guard_step}
+
+record IsFramed (t : Tree) : Type 0 where
+  holds : frames_hold t ≡ true
+
+-- ---- trees without attributes before them
+
+behind : (ats : List AttributeTree) (t : Tree) → IsFramed t → IsFramed (adorn ats t)
+behind [] t h = h
+behind (a ∷ more) t h = record { holds = h.holds }
+
+body_last : (gs : List Tree) (t : Tree) → is_body (strays gs (kid e.output_block e.no_ending t none)) ≡ true
+body_last [] t = refl
+body_last (g ∷ gs) t = body_last gs t
+
+closure_by_framed : (r : ReturnTree) (h : ClosureHead) (gs : List Tree) (t : Tree) → IsFramed (closure_by r h gs t)
+closure_by_framed default h gs t = record { holds = refl }
+closure_by_framed (given ty) h gs t = record { holds = body_last gs t }
+
+loop_last : (gs : List Tree) (b : Body) (t : Tree) → is_loop (strays gs (kid e.loop_head (e.braced b) t none)) ≡ true
+loop_last [] b t = refl
+loop_last (g ∷ gs) b t = loop_last gs b t
+
+if_framed : {E S : Type 0} (f : E → Tree) (b : Body) (t : Tree) (o : Option (S × Box E Global)) → IsFramed (frame e.branch (kid e.condition (e.braced b) t (else_of f o)))
+if_framed f b t None = record { holds = refl }
+if_framed f b t (Some q) = record { holds = refl }
+
+range_framed : (op : Limits) (x y : Option Tree) → IsFramed (range_between op x y)
+range_framed op None None = record { holds = refl }
+range_framed op None (Some y) = record { holds = refl }
+range_framed op (Some x) None = record { holds = refl }
+range_framed op (Some x) (Some y) = record { holds = refl }
+
+jump_framed : (j : Jump) (x : Option Tree) → IsFramed (jump_with j x)
+jump_framed j None = record { holds = refl }
+jump_framed j (Some x) = record { holds = refl }
+
+-- ---- those that hold patterns
+
+closure_kind : {E P : Type 0} (f : E → Tree) (g : P → PatView) (x : ExprClosureOf E P) → IsFramed (expr_closure_of f g x)
+closure_kind f g x =
+    let inputs = map g (values x.inputs) in
+    let head : e.ClosureHead = record {
+      lifetimes = mapped lifetimes_of x.lifetimes;
+      constness = is_some x.constness;
+      asyncness = is_some x.asyncness;
+      capture = is_some x.capture;
+      inputs = trees inputs;
+      trailing = trails x.inputs;
+      output = return_of x.output;
+    } in
+    behind (attrs_of x.attrs) (closure_by (return_of x.output) head (guards inputs) (f x.body.value)) (closure_by_framed (return_of x.output) head (guards inputs) (f x.body.value))
+
+for_loop_kind : {E P : Type 0} (f : E → Tree) (g : P → PatView) (x : ExprForLoopOf E P) → IsFramed (expr_for_loop_of f g x)
+for_loop_kind f g x =
+    let p = g x.pat.value in
+    let b = body_of (inner_of x.attrs) x.body.stmts in
+    behind (outer_of x.attrs) (frame (e.for_loop (mapped label_of x.label) p.tree) (strays p.guards (kid e.loop_head (e.braced b) (f x.expr.value) none))) (record { holds = loop_last p.guards b (f x.expr.value) })
+
+binding_kind : {E P : Type 0} (f : E → Tree) (g : P → PatView) (x : ExprLetOf E P) → IsFramed (expr_let_of f g x)
+binding_kind f g x = let p = g x.pat.value in behind (attrs_of x.attrs) (lead (e.binding p.tree) (strays p.guards none) (f x.expr.value)) (record { holds = refl })
+
+choice_kind : {E A : Type 0} (f : E → Tree) (a : A → ArmView) (x : ExprMatchOf E A) → IsFramed (expr_match_of f a x)
+choice_kind f a x = behind (outer_of x.attrs) (frame e.choice (kid e.scrutinee (e.opened (inner_of x.attrs)) (f x.expr.value) (arms (map a x.arms.items)))) (record { holds = refl })
+
+closure_layer_framed : (l : ExprClosure-F Tree PatView Tree ArmView Tree Tree Tree PatView) → IsFramed (closure_step l)
+closure_layer_framed l = closure_kind shown.tree shown.pat (closure_parts l)
+
+closure_framed : (x : ExprClosure) → IsFramed (closure_of x)
+unfolding tree_of pat_of closure_of arm_of for_loop_of binding_of choice_of guard_of
+closure_framed x = subst (λ t. IsFramed t) (sym (fold_out-ExprClosure Tree PatView Tree ArmView Tree Tree Tree PatView tree_step pat_step closure_step arm_step for_loop_step binding_step choice_step guard_step x)) (closure_layer_framed (map-ExprClosure Expr Pat ExprClosure Arm ExprForLoop ExprLet ExprMatch PatGuard Tree PatView Tree ArmView Tree Tree Tree PatView tree_of pat_of closure_of arm_of for_loop_of binding_of choice_of guard_of (out-ExprClosure x)))
+
+for_loop_layer_framed : (l : ExprForLoop-F Tree PatView Tree ArmView Tree Tree Tree PatView) → IsFramed (for_loop_step l)
+for_loop_layer_framed l = for_loop_kind shown.tree shown.pat (for_loop_parts l)
+
+for_loop_framed : (x : ExprForLoop) → IsFramed (for_loop_of x)
+unfolding tree_of pat_of closure_of arm_of for_loop_of binding_of choice_of guard_of
+for_loop_framed x = subst (λ t. IsFramed t) (sym (fold_out-ExprForLoop Tree PatView Tree ArmView Tree Tree Tree PatView tree_step pat_step closure_step arm_step for_loop_step binding_step choice_step guard_step x)) (for_loop_layer_framed (map-ExprForLoop Expr Pat ExprClosure Arm ExprForLoop ExprLet ExprMatch PatGuard Tree PatView Tree ArmView Tree Tree Tree PatView tree_of pat_of closure_of arm_of for_loop_of binding_of choice_of guard_of (out-ExprForLoop x)))
+
+binding_layer_framed : (l : ExprLet-F Tree PatView Tree ArmView Tree Tree Tree PatView) → IsFramed (binding_step l)
+binding_layer_framed l = binding_kind shown.tree shown.pat (binding_parts l)
+
+binding_framed : (x : ExprLet) → IsFramed (binding_of x)
+unfolding tree_of pat_of closure_of arm_of for_loop_of binding_of choice_of guard_of
+binding_framed x = subst (λ t. IsFramed t) (sym (fold_out-ExprLet Tree PatView Tree ArmView Tree Tree Tree PatView tree_step pat_step closure_step arm_step for_loop_step binding_step choice_step guard_step x)) (binding_layer_framed (map-ExprLet Expr Pat ExprClosure Arm ExprForLoop ExprLet ExprMatch PatGuard Tree PatView Tree ArmView Tree Tree Tree PatView tree_of pat_of closure_of arm_of for_loop_of binding_of choice_of guard_of (out-ExprLet x)))
+
+choice_layer_framed : (l : ExprMatch-F Tree PatView Tree ArmView Tree Tree Tree PatView) → IsFramed (choice_step l)
+choice_layer_framed l = choice_kind shown.tree shown.arm (choice_parts l)
+
+choice_framed : (x : ExprMatch) → IsFramed (choice_of x)
+unfolding tree_of pat_of closure_of arm_of for_loop_of binding_of choice_of guard_of
+choice_framed x = subst (λ t. IsFramed t) (sym (fold_out-ExprMatch Tree PatView Tree ArmView Tree Tree Tree PatView tree_step pat_step closure_step arm_step for_loop_step binding_step choice_step guard_step x)) (choice_layer_framed (map-ExprMatch Expr Pat ExprClosure Arm ExprForLoop ExprLet ExprMatch PatGuard Tree PatView Tree ArmView Tree Tree Tree PatView tree_of pat_of closure_of arm_of for_loop_of binding_of choice_of guard_of (out-ExprMatch x)))
+
+-- ---- each kind
+
+layer_framed : (l : Expr-F Expr Pat ExprClosure Arm ExprForLoop ExprLet ExprMatch PatGuard) → IsFramed (tree_step (map-Expr Expr Pat ExprClosure Arm ExprForLoop ExprLet ExprMatch PatGuard Tree PatView Tree ArmView Tree Tree Tree PatView tree_of pat_of closure_of arm_of for_loop_of binding_of choice_of guard_of l))
+layer_framed (Expr-F.Array x) = behind (attrs_of x.attrs) _ (record { holds = refl })
+layer_framed (Expr-F.Assign x) = behind (attrs_of x.attrs) _ (record { holds = refl })
+layer_framed (Expr-F.Async x) = behind (attrs_of x.attrs) _ (record { holds = refl })
+layer_framed (Expr-F.Await x) = behind (attrs_of x.attrs) _ (record { holds = refl })
+layer_framed (Expr-F.Binary x) = behind (attrs_of x.attrs) _ (record { holds = refl })
+layer_framed (Expr-F.Block x) = behind (outer_of x.attrs) _ (record { holds = refl })
+layer_framed (Expr-F.Break x) = behind (attrs_of x.attrs) _ (jump_framed _ _)
+layer_framed (Expr-F.Call x) = behind (attrs_of x.attrs) _ (record { holds = refl })
+layer_framed (Expr-F.Cast x) = behind (attrs_of x.attrs) _ (record { holds = refl })
+layer_framed (Expr-F.Closure x) = closure_framed x
+layer_framed (Expr-F.Expr::Const x) = behind (outer_of x.attrs) _ (record { holds = refl })
+layer_framed (Expr-F.Continue x) = behind (attrs_of x.attrs) _ (record { holds = refl })
+layer_framed (Expr-F.Field x) = behind (attrs_of x.attrs) _ (record { holds = refl })
+layer_framed (Expr-F.ForLoop x) = for_loop_framed x
+layer_framed (Expr-F.Group x) = behind (attrs_of x.attrs) _ (record { holds = refl })
+layer_framed (Expr-F.If x) = behind (attrs_of x.attrs) _ (if_framed _ _ _ _)
+layer_framed (Expr-F.Index x) = behind (attrs_of x.attrs) _ (record { holds = refl })
+layer_framed (Expr-F.Infer x) = behind (attrs_of x.attrs) _ (record { holds = refl })
+layer_framed (Expr-F.Let x) = binding_framed x
+layer_framed (Expr-F.Expr::Lit x) = behind (attrs_of x.attrs) _ (record { holds = refl })
+layer_framed (Expr-F.Loop x) = behind (outer_of x.attrs) _ (record { holds = refl })
+layer_framed (Expr-F.Expr::Macro x) = behind (attrs_of x.attrs) _ (record { holds = refl })
+layer_framed (Expr-F.Match x) = choice_framed x
+layer_framed (Expr-F.MethodCall x) = behind (attrs_of x.attrs) _ (record { holds = refl })
+layer_framed (Expr-F.Expr::Paren x) = behind (attrs_of x.attrs) _ (record { holds = refl })
+layer_framed (Expr-F.Expr::Path x) = behind (attrs_of x.attrs) _ (record { holds = refl })
+layer_framed (Expr-F.Expr::Range x) = behind (attrs_of x.attrs) _ (range_framed _ _ _)
+layer_framed (Expr-F.RawAddr x) = behind (attrs_of x.attrs) _ (record { holds = refl })
+layer_framed (Expr-F.Expr::Reference x) = behind (attrs_of x.attrs) _ (record { holds = refl })
+layer_framed (Expr-F.Repeat x) = behind (attrs_of x.attrs) _ (record { holds = refl })
+layer_framed (Expr-F.Return x) = behind (attrs_of x.attrs) _ (jump_framed _ _)
+layer_framed (Expr-F.Expr::Struct x) = behind (attrs_of x.attrs) _ (record { holds = refl })
+layer_framed (Expr-F.Try x) = behind (attrs_of x.attrs) _ (record { holds = refl })
+layer_framed (Expr-F.TryBlock x) = behind (attrs_of x.attrs) _ (record { holds = refl })
+layer_framed (Expr-F.Expr::Tuple x) = behind (attrs_of x.attrs) _ (record { holds = refl })
+layer_framed (Expr-F.Unary x) = behind (attrs_of x.attrs) _ (record { holds = refl })
+layer_framed (Expr-F.Unsafe x) = behind (outer_of x.attrs) _ (record { holds = refl })
+layer_framed (Expr-F.While x) = behind (outer_of x.attrs) _ (record { holds = refl })
+layer_framed (Expr-F.Yield x) = behind (attrs_of x.attrs) _ (jump_framed _ _)
+layer_framed (Expr-F.Verbatim x) = record { holds = refl }
+
+expr_framed : (x : Expr) → IsFramed (tree_of x)
+unfolding tree_of pat_of closure_of arm_of for_loop_of binding_of choice_of guard_of
+expr_framed x = subst (λ t. IsFramed t) (sym (fold_out-Expr Tree PatView Tree ArmView Tree Tree Tree PatView tree_step pat_step closure_step arm_step for_loop_step binding_step choice_step guard_step x)) (layer_framed (out-Expr x))
+
+pub tree_framed : (x : Expr) → frames_hold (tree_of x) ≡ true
+tree_framed x = (expr_framed x).holds

@@ -1,0 +1,10 @@
+pub mod Inner
+pub mod Indices
+pub mod Closures
+pub mod PatKinds
+pub mod Orders
+pub mod Owns
+pub mod KeptLeaves
+pub mod Operands
+pub mod Wholes
+pub mod Pats

@@ -1,0 +1,7 @@
+-- The walk asks just this.
+use Rattle.syn_grammar.specs.WellFormed.{is_well_formed}
+use Rattle.syn_expr_well.proofs.expr.is_well_formed.Goals as goal
+
+pub returns : goal.returns
+unfolding is_well_formed
+returns c = c.is_well.ensures

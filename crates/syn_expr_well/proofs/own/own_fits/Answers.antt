@@ -1,0 +1,22 @@
+-- What holds patterns is read back, by the shape that is lent.
+use Rattle.std.proofs.Common.{◌≡◌, Some, ap, sym, ◌∙◌}
+use Rattle.syn_lower_leaves.specs.View.{mapped}
+use Rattle.syn_expr_kinds.specs.Node.{lead_seen, frame_seen, lead_at, frame_at}
+use Rattle.syn_expr_well.proofs.Owns.{own-lead, own-frame}
+use Rattle.syn_expr_well.proofs.own.own_fits.Goals as goal
+
+pub returns-in-Some-lead : goal.returns-in-Some-lead
+returns-in-Some-lead g c =
+    let t = g.E.HasExprTree.tree c.args.expr.now in
+    let pat = g.E.Pat.HasPatTree.view in
+    let k = lead_seen pat c.in-Some-lead.lead in
+    let l : lead_at t ≡ Some k = sym c.lead.ensures ∙ ap (mapped (lead_seen pat)) c.in-Some-lead.is in
+    c.lead_fits.ensures ∙ own-lead k t l
+
+pub returns-in-Some-frame : goal.returns-in-Some-frame
+returns-in-Some-frame g c =
+    let t = g.E.HasExprTree.tree c.args.expr.now in
+    let pat = g.E.Pat.HasPatTree.view in
+    let k = frame_seen pat c.in-Some-frame.frame in
+    let l : frame_at t ≡ Some k = sym c.frame.ensures ∙ ap (mapped (frame_seen pat)) c.in-Some-frame.is in
+    c.frame_fits.ensures ∙ own-frame k t l

@@ -1,0 +1,6 @@
+pub mod Alone
+pub mod Orders
+pub mod Places
+pub mod Well
+pub mod Walk
+pub mod Whole

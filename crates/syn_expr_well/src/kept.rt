@@ -1,0 +1,111 @@
+//! Operands that stand only in a certain form: blocks that keep their tokens, and values that are the name of their field.
+
+ghost use Rattle.std.specs.Prelude.{◌≡◌};
+ghost use Rattle.syn_expr_kinds.specs.Node.{braces_of, leaf_of};
+ghost use Rattle.syn_expr_parts.specs.View.{member_of};
+ghost use Rattle.syn_expr_well.specs.Walk.{is_word_leaf};
+ghost use Rattle.syn_grammar.specs.WellFormed as spec;
+ghost use Rattle.syn_parts.specs.Form.{is_nil};
+ghost use Rattle.syn_parts.specs.Pat.{a_name};
+
+use crate::attributes::has_no_inner;
+use crate::fits::is_word_alone;
+use crate::own::bare_leaf;
+use syn_expr_kinds::node::{Braces, HasShape, Jump, Leaf};
+use syn_expr_parts::member::Member;
+
+/// Whether none of the attributes of a node stands in its braces.
+fn has_plain_braces(braces: Braces<'_>) -> bool
+    ensures { result ≡ is_nil (braces_of braces.entry).inner }
+{
+    let Braces { attrs, block: _ } = braces;
+    has_no_inner(attrs)
+}
+
+/// Whether it is the block of its tokens alone.
+fn is_kept_leaf(leaf: Leaf<'_>) -> bool
+    ensures { result ≡ spec.is_kept_leaf (leaf_of leaf.entry) }
+{
+    match leaf {
+        Leaf::Block(label, braces) => {
+            let plain = has_plain_braces(braces);
+            label.is_none() && plain
+        }
+        Leaf::Loop(_, _, braces) | Leaf::Unsafe(_, braces) | Leaf::Const(_, braces) => {
+            let Braces { attrs: _, block: _ } = braces;
+            false
+        }
+        Leaf::Jump(jump) => match jump {
+            Jump::Return(_) | Jump::Yield(_) | Jump::Break(_, _) => false,
+        },
+        Leaf::Lit(_)
+        | Leaf::Path(_, _)
+        | Leaf::Macro(_)
+        | Leaf::Infer(_)
+        | Leaf::Range(_)
+        | Leaf::Continue(_, _)
+        | Leaf::Async(_, _, _)
+        | Leaf::TryBlock(_, _)
+        | Leaf::Verbatim(_) => false,
+    }
+}
+
+/// Whether it is the block of its tokens alone, without attributes.
+#[tactic(auto, using(crate::proofs::KeptLeaves::blocks))]
+pub(crate) fn is_kept_block<E: HasShape>(expr: &E) -> bool
+    ensures { result ≡ spec.is_kept_block (E.tree expr.now) }
+{
+    match bare_leaf(expr) {
+        Some(leaf) => is_kept_leaf(leaf),
+        None => false,
+    }
+}
+
+/// Whether it is the path that is this word.
+fn is_word(leaf: Leaf<'_>, word: &str) -> bool
+    ensures { result ≡ is_word_leaf word.now (leaf_of leaf.entry) }
+{
+    match leaf {
+        Leaf::Path(qself, path) => is_word_alone(qself, path, word),
+        Leaf::Block(_, braces)
+        | Leaf::Loop(_, _, braces)
+        | Leaf::Unsafe(_, braces)
+        | Leaf::Const(_, braces) => {
+            let Braces { attrs: _, block: _ } = braces;
+            false
+        }
+        Leaf::Jump(jump) => match jump {
+            Jump::Return(_) | Jump::Yield(_) | Jump::Break(_, _) => false,
+        },
+        Leaf::Lit(_)
+        | Leaf::Macro(_)
+        | Leaf::Infer(_)
+        | Leaf::Range(_)
+        | Leaf::Continue(_, _)
+        | Leaf::Async(_, _, _)
+        | Leaf::TryBlock(_, _)
+        | Leaf::Verbatim(_) => false,
+    }
+}
+
+/// Whether it is the path that is this name, without attributes.
+#[tactic(auto, using(crate::proofs::KeptLeaves::names))]
+fn is_name<E: HasShape>(expr: &E, name: &str) -> bool
+    ensures { result ≡ spec.is_name_path (a_name name.now) (E.tree expr.now) }
+{
+    match bare_leaf(expr) {
+        Some(leaf) => is_word(leaf, name),
+        None => false,
+    }
+}
+
+/// Whether it is the path that is the name of this field.
+#[tactic(auto, using(crate::proofs::KeptLeaves::names))]
+pub(crate) fn is_name_path<E: HasShape>(member: &Member, expr: &E) -> bool
+    ensures { result ≡ spec.is_name_path (member_of member.now) (E.tree expr.now) }
+{
+    match member {
+        Member::Named(name) => is_name(expr, name.as_str()),
+        Member::Unnamed(_) => false,
+    }
+}

@@ -1,0 +1,106 @@
+//! Whether a node is read back but for its operands.
+
+ghost use Rattle.std.specs.Prelude.{◌≡◌};
+ghost use Rattle.syn_expr_kinds.specs.Node.{frame_of, leaf_of};
+ghost use Rattle.syn_expr_well.specs.Well as spec;
+ghost use Rattle.syn_grammar.specs.Stands.{is_branch};
+ghost use Rattle.syn_lower_leaves.specs.View.{mapped};
+ghost use Rattle.syn_pat_kinds.specs.View.{PatView};
+
+use crate::attributes::is_bare;
+use crate::fits::{infix_fits, leaf_fits, post_fits, trailer_fits};
+use crate::heads::{HasPatFits, frame_fits, lead_fits};
+use syn_expr_kinds::node::{Closure, Frame, HasShape, Leaf};
+use syn_expr_notes::kind::NodeKind;
+
+/// Whether an operator of this kind of node is read back; where it is none, nothing is asked.
+fn kind_fits(kind: NodeKind) -> bool
+    ensures { result ≡ spec.kind_fits kind }
+{
+    match kind {
+        NodeKind::Mid(op) => infix_fits(op),
+        NodeKind::Leaf(_)
+        | NodeKind::Paren
+        | NodeKind::Lead(_)
+        | NodeKind::Post(_)
+        | NodeKind::Tail(_)
+        | NodeKind::Frame(_) => true,
+    }
+}
+
+/// Whether a node is read back but for its operands and the attributes before it.
+#[tactic(auto, using(crate::proofs::Owns::owns))]
+pub fn own_fits<E: HasPatFits>(expr: &E) -> bool
+    ensures { result ≡ spec.own_fits (E.tree expr.now) }
+{
+    if let Some(leaf) = expr.leaf() {
+        return leaf_fits(leaf);
+    }
+    if let Some(lead) = expr.lead() {
+        return lead_fits::<E>(lead);
+    }
+    if let Some(post) = expr.post() {
+        return post_fits(post);
+    }
+    if let Some(trailer) = expr.trailer() {
+        return trailer_fits(trailer);
+    }
+    if let Some(frame) = expr.frame() {
+        return frame_fits::<E>(frame);
+    }
+    kind_fits(expr.kind())
+}
+
+/// What holds no expression, and has no attributes before it.
+#[tactic(auto, using(crate::proofs::Owns::bares))]
+pub fn bare_leaf<E: HasShape>(expr: &E) -> Option<Leaf<'_>>
+    ensures { mapped leaf_of result ≡ spec.bare_leaf (E.tree expr.now) }
+{
+    if !is_bare(expr.attributes()) {
+        return None;
+    }
+    expr.leaf()
+}
+
+/// Whether a frame is that of an `if`.
+fn is_if<P>(frame: Frame<'_, P>) -> bool
+    ensures { (pat : P → PatView) → result ≡ spec.is_if_frame (frame_of pat frame.entry) }
+{
+    match frame {
+        Frame::If(_) => true,
+        Frame::Closure(
+            Closure {
+                lifetimes: _,
+                constness: _,
+                asyncness: _,
+                capture: _,
+                inputs_begin: _,
+                inputs: _,
+                inputs_end: _,
+                output: _,
+            },
+        ) => false,
+        Frame::Array(_)
+        | Frame::Tuple(_)
+        | Frame::Repeat(_)
+        | Frame::Struct(_, _, _, _)
+        | Frame::While(_, _)
+        | Frame::ForLoop(_, _, _, _)
+        | Frame::Match(_, _)
+        | Frame::Group(_) => false,
+    }
+}
+
+/// Whether it is an `if` without attributes.
+#[tactic(auto, using(crate::proofs::Owns::bares))]
+pub fn is_branch<E: HasShape>(expr: &E) -> bool
+    ensures { result ≡ is_branch (E.tree expr.now) }
+{
+    if !is_bare(expr.attributes()) {
+        return false;
+    }
+    match expr.frame() {
+        Some(frame) => is_if(frame),
+        None => false,
+    }
+}

@@ -1,0 +1,160 @@
+//! Where the operands of a node stand.
+
+ghost use Rattle.std.specs.Prelude.{◌≡◌, false};
+ghost use Rattle.syn_expr_kinds.specs.Node.{frame_of, trailer_of};
+ghost use Rattle.syn_expr_well.specs.Places.{dots_of, slot_of, is_elements, is_single, is_counted, is_fields, is_conditions, is_loops, is_scrutinees, is_outputs};
+ghost use Rattle.syn_expr_well.specs.Well as spec;
+ghost use Rattle.syn_grammar.specs.WellFormed as well;
+ghost use Rattle.syn_pat_kinds.specs.View.{PatView};
+
+use syn_expr_kinds::node::{Closure, Frame, HasShape, Trailer};
+
+/// Where the operands of a node stand.
+#[derive(Clone, Copy)]
+pub enum Place {
+    /// In a list with commas.
+    Elements,
+    /// One in brackets.
+    Single,
+    /// Before `;`, and behind it.
+    Counted,
+    /// In a struct expression; whether `..` ends it with no expression behind.
+    Fields(bool),
+    /// Before the block of an `if`.
+    Conditions,
+    /// Before the block of a loop.
+    Loops,
+    /// Before the arms of a `match`.
+    Scrutinees,
+    /// Behind the output of a closure.
+    Outputs,
+    /// In no place of their own.
+    Done,
+}
+
+impl Place {
+    /// Whether they stand in a list with commas.
+    pub(crate) fn is_elements(self) -> bool
+        ensures { result ≡ is_elements (slot_of self) }
+    {
+        matches!(self, Place::Elements)
+    }
+
+    /// Whether they stand as one in brackets.
+    pub(crate) fn is_single(self) -> bool
+        ensures { result ≡ is_single (slot_of self) }
+    {
+        matches!(self, Place::Single)
+    }
+
+    /// Whether they stand before `;` and behind it.
+    pub(crate) fn is_counted(self) -> bool
+        ensures { result ≡ is_counted (slot_of self) }
+    {
+        matches!(self, Place::Counted)
+    }
+
+    /// Whether they stand in a struct expression.
+    pub(crate) fn is_fields(self) -> bool
+        ensures { result ≡ is_fields (slot_of self) }
+    {
+        matches!(self, Place::Fields(_))
+    }
+
+    /// Whether they stand before the block of an `if`.
+    pub(crate) fn is_conditions(self) -> bool
+        ensures { result ≡ is_conditions (slot_of self) }
+    {
+        matches!(self, Place::Conditions)
+    }
+
+    /// Whether they stand before the block of a loop.
+    pub(crate) fn is_loops(self) -> bool
+        ensures { result ≡ is_loops (slot_of self) }
+    {
+        matches!(self, Place::Loops)
+    }
+
+    /// Whether they stand before the arms of a `match`.
+    pub(crate) fn is_scrutinees(self) -> bool
+        ensures { result ≡ is_scrutinees (slot_of self) }
+    {
+        matches!(self, Place::Scrutinees)
+    }
+
+    /// Whether they stand behind the output of a closure.
+    pub(crate) fn is_outputs(self) -> bool
+        ensures { result ≡ is_outputs (slot_of self) }
+    {
+        matches!(self, Place::Outputs)
+    }
+
+    /// Whether `..` ends the fields.
+    pub(crate) fn has_dots(self) -> bool
+        ensures { result ≡ dots_of self }
+    {
+        matches!(self, Place::Fields(true))
+    }
+
+    /// Whether there may be none.
+    pub(crate) fn may_stop(self) -> bool
+        ensures { result ≡ well.may_stop (slot_of self) }
+    {
+        matches!(self, Place::Elements | Place::Fields(_) | Place::Done)
+    }
+}
+
+/// Where the operands of a trailer stand.
+fn trailer_place(trailer: Trailer<'_>) -> Place
+    ensures slot { slot_of result ≡ well.trailer_slot (trailer_of trailer.entry) }
+    ensures dots { dots_of result ≡ false }
+{
+    match trailer {
+        Trailer::Call(_) | Trailer::Method(_, _, _, _) => Place::Elements,
+        Trailer::Index(_) => Place::Single,
+        Trailer::Field(_, _) | Trailer::Await(_, _) | Trailer::Try(_) => Place::Done,
+    }
+}
+
+/// Where the operands of a frame stand.
+fn frame_place<P>(frame: Frame<'_, P>) -> Place
+    ensures slot { (pat : P → PatView) → slot_of result ≡ well.frame_slot (frame_of pat frame.entry) }
+    ensures dots { (pat : P → PatView) → dots_of result ≡ spec.frame_dots (frame_of pat frame.entry) }
+{
+    match frame {
+        Frame::Array(_) | Frame::Tuple(_) => Place::Elements,
+        Frame::Repeat(_) => Place::Counted,
+        Frame::Struct(_, _, _, dots) => Place::Fields(dots),
+        Frame::Closure(
+            Closure {
+                lifetimes: _,
+                constness: _,
+                asyncness: _,
+                capture: _,
+                inputs_begin: _,
+                inputs: _,
+                inputs_end: _,
+                output: _,
+            },
+        ) => Place::Outputs,
+        Frame::If(_) => Place::Conditions,
+        Frame::While(_, _) | Frame::ForLoop(_, _, _, _) => Place::Loops,
+        Frame::Match(_, _) => Place::Scrutinees,
+        Frame::Group(_) => Place::Done,
+    }
+}
+
+/// Where the operands of a node stand.
+#[tactic(auto, using(crate::proofs::Owns::places))]
+pub fn operand_place<E: HasShape>(expr: &E) -> Place
+    ensures slot { slot_of result ≡ spec.slot_at (E.tree expr.now) }
+    ensures dots { dots_of result ≡ spec.dots_at (E.tree expr.now) }
+{
+    if let Some(trailer) = expr.trailer() {
+        return trailer_place(trailer);
+    }
+    match expr.frame() {
+        Some(frame) => frame_place(frame),
+        None => Place::Done,
+    }
+}
