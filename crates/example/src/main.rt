@@ -4,16 +4,16 @@
 use std::alloc::Global;
 use std::io;
 use std::mem::swap;
-use syn_expr::{Expr, Result, ToTokens, TokenStream, parse_str, to_text};
+use syn_expr::{Expr, HeldExpr, Result, ToTokens, TokenStream, parse_str, to_text};
 
 /// The text of an operation with its operands swapped. What is no operation stays as it is.
 fn swapped(alloc: Global, text: &str) -> Result<String> {
-    let mut expr = parse_str::<Expr>(alloc, text)?;
-    if let Expr::Binary(operation) = &mut expr {
+    let mut held = parse_str::<HeldExpr>(alloc, text)?;
+    if let Expr::Binary(operation) = &mut held.expr {
         swap(&mut operation.left, &mut operation.right);
     }
     let mut tokens = TokenStream::new(alloc);
-    expr.to_tokens(&mut tokens)?;
+    held.to_tokens(&mut tokens)?;
     to_text(&tokens)
 }
 

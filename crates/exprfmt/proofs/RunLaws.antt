@@ -22,7 +22,7 @@ use Rattle.syn_grammar.specs.Printed.{Position, context_of}
 use Rattle.syn_grammar.specs.Rule as rule
 use Rattle.syn_grammar.specs.Stands.{Stands}
 use Rattle.syn_grammar.specs.Tree.{Tree, own_tokens}
-use Rattle.syn_expr_all.specs.declared.expr.Expr.{Expr}
+use Rattle.syn_expr_all.specs.declared.held.HeldExpr.{HeldExpr}
 use Rattle.syn_expr_all.specs.View.{tree_of}
 use Rattle.syn_expr.specs.Promises.{Puts, StandsBack, IsOwn, IsSparing, PrintedAs}
 use Rattle.exprfmt.specs.Run.{GainsFront, IsLine, StandsFor, NothingStands, AreLeft, Follows, Writer, Takes, Prints, Reports, Ran, line, printed, refused, foreign, failed, out_of_memory}
@@ -93,8 +93,8 @@ refused_by : (k : ErrorKind) (cs : List ℕ) → ((t : Tree) → StandsFor cs t 
 refused_by OutOfMemory cs h = inl refl
 refused_by k cs h = inr (λ t s. let e = h t s in cc)
 
-pub read_refused : (cs : List ℕ) (ts : List Tok) (r : Result Expr Error) → ((l : List Tok) → Spells cs l → ts ≡ l)
-    → ((t : Tree) → Stands plain ts t [] → Gives tree_of t r) → IfErr r (λ e. (e.kind ≡ OutOfMemory) ⊎ NothingStands cs)
+pub read_refused : (cs : List ℕ) (ts : List Tok) (r : Result HeldExpr Error) → ((l : List Tok) → Spells cs l → ts ≡ l)
+    → ((t : Tree) → Stands plain ts t [] → Gives (λ h. tree_of h.expr) t r) → IfErr r (λ e. (e.kind ≡ OutOfMemory) ⊎ NothingStands cs)
 read_refused cs ts (Ok x) one found = tt
 read_refused cs ts (Err e) one found =
     refused_by e.kind cs (λ t s. found t (subst (λ (m : List Tok). Stands plain m t []) (sym (one s.0 s.1)) s.2))

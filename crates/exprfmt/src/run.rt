@@ -16,9 +16,9 @@ use std::alloc::Global;
 use std::fmt::{InlineText, Write as _};
 use std::io;
 use std::io::{Read, Write};
-use syn_expr::Expr;
 use syn_expr::position::Position;
 use syn_expr::print::print_expr;
+use syn_expr::{Expr, HeldExpr};
 use syn_tokens::error::{Error, ErrorKind, Result};
 use syn_tokens::lexer::lex;
 use syn_tokens::span::Span;
@@ -57,15 +57,15 @@ const OUT_OF_MEMORY: Error = Error {
 };
 
 /// The expression that the whole text is.
-fn read(alloc: Global, text: &str) -> Result<Expr>
-    ensures value { IfOk result (λ x. spec.StandsFor (chars text.now) (tree_of x)) }
+fn read(alloc: Global, text: &str) -> Result<HeldExpr>
+    ensures value { IfOk result (λ x. spec.StandsFor (chars text.now) (tree_of x.expr)) }
     ensures refused { IfErr result (λ e. (e.kind ≡ ErrorKind.OutOfMemory) ⊎ spec.NothingStands (chars text.now)) }
 {
     let tokens = match lex(alloc, text) {
         Ok(tokens) => tokens,
         Err(e) => return Err(e),
     };
-    parse2::<Expr>(tokens)
+    parse2::<HeldExpr>(tokens)
 }
 
 /// The tokens of the printed expression.
@@ -85,11 +85,11 @@ fn line_of_text(alloc: Global, position: Position, text: &str) -> Result<String>
     ensures value { IfOk result (λ s. spec.IsLine (position_of position) (chars text.now) (string_bytes s)) }
     ensures refused { IfErr result (λ e. (e.kind ≡ ErrorKind.OutOfMemory) ⊎ spec.NothingStands (chars text.now)) }
 {
-    let expr = match read(alloc, text) {
-        Ok(expr) => expr,
+    let held = match read(alloc, text) {
+        Ok(held) => held,
         Err(e) => return Err(e),
     };
-    let tokens = match printed(alloc, position, &expr) {
+    let tokens = match printed(alloc, position, &held.expr) {
         Ok(tokens) => tokens,
         Err(e) => return Err(e),
     };

@@ -1,22 +1,35 @@
 //! What follows of the readers and the printer together, of their contracts alone.
 
-ghost use Rattle.std.specs.Prelude.{◌≡◌, true, MatchResult};
+ghost use Rattle.std.specs.Prelude.{◌≡◌, [], true, MatchResult};
 ghost use Rattle.syn_expr_all.specs.View.{tree_of};
 ghost use Rattle.syn_expr.specs.Positions.{position_of};
+ghost use Rattle.syn_grammar.specs.Place.{plain};
 ghost use Rattle.syn_grammar.specs.Printed.{allows};
-ghost use Rattle.syn_grammar.specs.Tree.{IsSameTree};
+ghost use Rattle.syn_grammar.specs.Stands.{Stands};
+ghost use Rattle.syn_grammar.specs.Tree.{IsSameTree, Tree};
 ghost use Rattle.syn_grammar.specs.WellFormed.{is_well_formed};
+ghost use Rattle.syn_tokens.specs.Input.{Gives};
 
 use crate::position::Position;
 use crate::print::print_expr;
 use std::alloc::Global;
-use syn_expr_all::Expr;
+use syn_expr_all::{Expr, HeldExpr};
 use syn_expr_fixup::FixupContext;
 use syn_tokens::buffer::ParseBuffer;
 use syn_tokens::copy::copy_trees;
 use syn_tokens::error::{ErrorKind, Result};
 use syn_tokens::tree::TokenStream;
 use syn_tokens::whole::parse2;
+
+/// Reads the expression that is the whole list.
+fn read_whole(tokens: TokenStream) -> Result<Expr>
+    ensures { (x : Tree) → Stands plain tokens x [] → Gives tree_of x result }
+{
+    match parse2::<HeldExpr>(tokens) {
+        Ok(read) => Ok(read.into_inner()),
+        Err(e) => Err(e),
+    }
+}
 
 /// Prints an expression for itself and reads the tokens: a well-formed one is read back as the same tree, up to parentheses
 /// and fill-ins, unless memory runs out (`OutOfMemory`).
@@ -25,7 +38,7 @@ pub fn read_back(alloc: Global, expr: &Expr) -> Result<Expr>
 {
     let mut tokens = TokenStream::new(alloc);
     print_expr(expr, &mut tokens, FixupContext::NONE)?;
-    parse2::<Expr>(tokens)
+    read_whole(tokens)
 }
 
 /// Prints an expression in a position, puts other tokens behind it, and reads what stands there: before whatever the position
@@ -44,7 +57,10 @@ pub fn read_back_before(
     print_expr(expr, &mut tokens, position.fixup())?;
     tokens.append(behind)?;
     let mut input = ParseBuffer::new(&tokens)?;
-    let read = position.parse(&mut input)?;
+    let read = match position.parse(&mut input) {
+        Ok(expr) => HeldExpr { expr },
+        Err(e) => return Err(e),
+    };
     let left = copy_trees(alloc, input.trees())?;
-    Ok((read, left))
+    Ok((read.into_inner(), left))
 }

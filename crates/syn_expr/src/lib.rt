@@ -61,6 +61,7 @@ pub use syn_expr_all::FieldPat;
 pub use syn_expr_all::FieldPatKind;
 pub use syn_expr_all::FieldValue;
 pub use syn_expr_all::FullFieldPat;
+pub use syn_expr_all::HeldExpr;
 pub use syn_expr_all::Index;
 pub use syn_expr_all::Label;
 pub use syn_expr_all::Member;

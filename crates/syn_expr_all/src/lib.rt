@@ -4,11 +4,13 @@
 #![tactic(auto)]
 
 mod arm;
+mod attrs;
 mod behind;
 pub mod closure;
 pub mod control;
 pub mod expr;
 mod from;
+pub mod held;
 mod kind;
 mod make;
 mod make_pat;
@@ -30,6 +32,7 @@ pub use expr::{
     ExprParen, ExprPath, ExprRange, ExprRawAddr, ExprReference, ExprRepeat, ExprReturn, ExprStruct,
     ExprTry, ExprTryBlock, ExprTuple, ExprUnary, ExprUnsafe, ExprWhile, ExprYield, FieldValue,
 };
+pub use held::HeldExpr;
 pub use pat::{
     FieldPat, FieldPatKind, FullFieldPat, Pat, PatConst, PatGuard, PatIdent, PatLit, PatMacro,
     PatOr, PatParen, PatPath, PatRange, PatReference, PatRest, PatSlice, PatStruct, PatTuple,

@@ -23,10 +23,7 @@ module _ {A B : Type 0} (R : A → B → Type 0) where
   each_both [] xs' (y ∷ ys) ys' h k = absurd h
   each_both (x ∷ xs) xs' [] ys' h k = absurd h
 
-  pub each_more : (xs : List A) (ys : List B) (x : A) (y : B) → Each R xs ys → R x y → Each R (xs ++ x ∷ []) (ys ++ y ∷ [])
-  each_more xs ys x y h k = each_both xs (x ∷ []) ys (y ∷ []) h (each_one x y k)
-
-pub ruleset each = (each_none, each_one, each_more)
+pub ruleset each = (each_none, each_one)
 
 pub each_map : {A B C D : Type 0} (f : A → C) (g : B → D) (R : C → D → Type 0) (xs : List A) (ys : List B)
     → Each (λ x y. R (f x) (g y)) xs ys → Each R (map f xs) (map g ys)

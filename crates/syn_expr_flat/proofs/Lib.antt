@@ -1,7 +1,10 @@
 pub mod Arms
+pub mod Calls
 pub mod Each
 pub mod Kept
 pub mod Kids
 pub mod Nodes
 pub mod OuterParens
 pub mod Pats
+pub mod Refs
+pub mod Upto

@@ -3,6 +3,7 @@ use Rattle.std.specs.Prelude.{◌≡◌, true, List, [], Option, Some, None, Res
 use Rattle.std.specs.declared.vec.Vec.{Vec}
 use Rattle.std.specs.declared.alloc.Global.{Global}
 use Rattle.std.specs.declared.alloc.AllocError.{AllocError}
+use denote.Ref.{MutBor}
 use Rattle.syn_parts.specs.Tree.{AttributeTree}
 use Rattle.syn_lower_leaves.specs.declared.attr.Attribute.{Attribute}
 use Rattle.syn_grammar.specs.Tree.{Tree, Kids, prepend, flatten, flatten_kids}
@@ -21,9 +22,9 @@ AreFlat ts us = HaveOuterParens ts → us ≡ flatten_kids ts
 abbrev pub IsFlatField : FieldView → FieldView → Type 0
 IsFlatField u v = (v.attrs ≡ u.attrs) × (v.member ≡ u.member) × (v.colon ≡ u.colon) × IsFlat u.value v.value
 
--- a call that flattens what it is given
-abbrev pub Flattens : {E : Type 0} → (E → Tree) → (E → Result E AllocError → Type 0) → Type 0
-Flattens tree post = (x : _) (r : _) → post x r → IfOk r (λ y. IsFlat (tree x) (tree y))
+-- a call that flattens what it is lent
+abbrev pub Flattens : {E : Type 0} → (E → Tree) → (MutBor E → Result (Unit {0}) AllocError → MutBor E → Type 0) → Type 0
+Flattens tree post = (old new : MutBor _) (r : _) → post old r new → IfOk r (λ _. IsFlat (tree old.now) (tree new.now))
 
 -- ---- behind attributes of parentheses that stood round it
 
@@ -38,3 +39,7 @@ behind (Some v) t = prepend (attrs_of v) t
 -- u is t without its parentheses, behind these outer attributes
 unfoldable pub IsFlatBehind : Option (Vec Attribute Global) → Tree → Tree → Type 0
 IsFlatBehind ats t u = all_outer (before ats) ≡ true → HasOuterParens t → u ≡ behind ats (flatten t)
+
+-- a call that flattens what it is lent, behind attributes that it is given
+abbrev pub FlattensBehind : {E : Type 0} → (E → Tree) → (MutBor E → Option (Vec Attribute Global) → Result (Unit {0}) AllocError → MutBor E → Type 0) → Type 0
+FlattensBehind tree post = (old new : MutBor _) (ats : _) (r : _) → post old ats r new → IfOk r (λ _. IsFlatBehind ats (tree old.now) (tree new.now))

@@ -1,3 +1,4 @@
+pub mod Calls
 pub mod Each
 pub mod Flat
 pub mod Outer

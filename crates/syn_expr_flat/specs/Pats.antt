@@ -1,6 +1,7 @@
 -- What is left of patterns and arms, where the guards have no parentheses.
 use Rattle.std.specs.Prelude.{◌≡◌, Result, IfOk}
 use Rattle.std.specs.declared.alloc.AllocError.{AllocError}
+use denote.Ref.{MutBor}
 use Rattle.syn_pat_kinds.specs.View.{PatView, field_of, field_guards, field_pat_of}
 use Rattle.syn_pat_kinds.specs.declared.pat.FieldPatKindOf.{FieldPatKindOf}
 use Rattle.syn_pat_kinds.specs.declared.pat.FieldPatOf.{FieldPatOf}
@@ -18,9 +19,9 @@ IsFlatKind f x y = (field_of f y ≡ field_of f x) × Each IsFlat (field_guards 
 abbrev pub IsFlatFieldPat : {P : Type 0} → (P → PatView) → FieldPatOf P → FieldPatOf P → Type 0
 IsFlatFieldPat f x y = (field_pat_of f y ≡ field_pat_of f x) × Each IsFlat (field_guards f x.kind) (field_guards f y.kind)
 
--- a call that flattens the pattern that it is given
-abbrev pub FlattensPat : {P : Type 0} → (P → PatView) → (P → Result P AllocError → Type 0) → Type 0
-FlattensPat view post = (x : _) (r : _) → post x r → IfOk r (λ y. IsFlatPat (view x) (view y))
+-- a call that flattens the pattern that it is lent
+abbrev pub FlattensPat : {P : Type 0} → (P → PatView) → (MutBor P → Result (Unit {0}) AllocError → MutBor P → Type 0) → Type 0
+FlattensPat view post = (old new : MutBor _) (r : _) → post old r new → IfOk r (λ _. IsFlatPat (view old.now) (view new.now))
 
 abbrev pub IsFlatArm : ArmView → ArmView → Type 0
 IsFlatArm a b = (b.attrs ≡ a.attrs) × IsFlatPat a.pat b.pat × IsFlat a.body b.body × (b.comma ≡ a.comma)

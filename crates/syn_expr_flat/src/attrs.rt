@@ -5,20 +5,22 @@ ghost use Rattle.syn_expr_flat.specs.Flat.{before};
 ghost use Rattle.syn_expr_kinds.specs.Attrs.{all_outer, attrs_of, inner_of, outer_of};
 
 use crate::operands::Flattened;
-use syn_expr_attrs::joined;
+use std::mem::replace;
+use syn_expr_attrs::joined::joined;
 use syn_lower::attr::Attribute;
 
 /// The attributes of parentheses that stood round an expression; None where none stood there.
 pub type Before = Option<Vec<Attribute>>;
 
-/// All attributes of an expression that has these of its own. Refused where memory runs out.
-pub fn joined(attrs: Before, own: Vec<Attribute>) -> Flattened<Vec<Attribute>>
-    ensures all { IfOk result (λ v. attrs_of v ≡ before attrs ++ attrs_of own) }
-    ensures outer { IfOk result (λ v. all_outer (before attrs) ≡ true → outer_of v ≡ before attrs ++ outer_of own) }
-    ensures inner { IfOk result (λ v. all_outer (before attrs) ≡ true → inner_of v ≡ inner_of own) }
+/// Puts these before the attributes that an expression has of its own. Refused where memory runs out.
+pub fn put_before(attrs: Before, own: &mut Vec<Attribute>) -> Flattened<()>
+    ensures all { IfOk result (λ _. attrs_of own.new ≡ before attrs ++ attrs_of own.old) }
+    ensures outer { IfOk result (λ _. all_outer (before attrs) ≡ true → outer_of own.new ≡ before attrs ++ outer_of own.old) }
+    ensures inner { IfOk result (λ _. all_outer (before attrs) ≡ true → inner_of own.new ≡ inner_of own.old) }
 {
-    match attrs {
-        Some(attrs) => joined::joined(attrs, own),
-        None => Ok(own),
+    if let Some(attrs) = attrs {
+        let alloc = *own.allocator();
+        *own = joined(attrs, replace(own, Vec::new(alloc)))?;
     }
+    Ok(())
 }

@@ -3,65 +3,62 @@
 ghost use Rattle.std.specs.Prelude.{IfOk};
 ghost use Rattle.std.specs.Option.{ForSome};
 ghost use Rattle.syn_expr_kinds.specs.View.{else_of, expr_if_of, expr_while_of};
+ghost use Rattle.syn_expr_flat.specs.Calls.{Takes};
 ghost use Rattle.syn_expr_flat.specs.Flat.{AreFlat, Flattens, IsFlatBehind};
 
-use crate::attrs::{Before, joined};
+use crate::attrs::{Before, put_before};
 use crate::operands::{Flattened, boxed};
 use syn_expr_kinds::block::{ExprIfOf, ExprWhileOf};
 use syn_expr_kinds::kinds::HasExprTree;
 use syn_tokens::token::Else;
 
-#[tactic(auto, using(crate::proofs::Kids::kids))]
 /// What stands behind `else`, without the parentheses in it.
-fn else_branch<E: HasExprTree + Drop, F: Fn(E) -> Flattened<E>>(
-    x: Option<(Else, Box<E>)>,
+#[tactic(auto, using(crate::proofs::Kids::kids, crate::proofs::Calls::flat_by))]
+fn else_branch<E: HasExprTree + Drop, F: Fn(&mut E) -> Flattened<()>>(
+    x: &mut Option<(Else, Box<E>)>,
     flatten: F,
-) -> Flattened<Option<(Else, Box<E>)>>
-    requires other { ForSome x (λ q. F.pre flatten q.1.value) }
+) -> Flattened<()>
+    requires other { ForSome x.old (λ q. Takes (F.pre flatten) q.1.value) }
     requires gives { Flattens E.tree (F.post flatten) }
-    ensures { IfOk result (λ y. AreFlat (else_of E.tree x) (else_of E.tree y)) }
+    ensures { IfOk result (λ _. AreFlat (else_of E.tree x.old) (else_of E.tree x.new)) }
 {
     match x {
         Some(both) => {
-            let (token, x) = both;
-            Ok(Some((token, boxed(x, flatten)?)))
+            boxed(&mut both.1, flatten)?;
+            Ok(())
         }
-        None => Ok(None),
+        None => Ok(()),
     }
 }
 
 /// It without the parentheses in it, behind more attributes.
-pub fn if_expr<E: HasExprTree + Drop, F: Fn(E) -> Flattened<E>>(
-    x: ExprIfOf<E>,
+pub fn if_expr<E: HasExprTree + Drop, F: Fn(&mut E) -> Flattened<()>>(
+    x: &mut ExprIfOf<E>,
     attrs: Before,
     flatten: F,
-) -> Flattened<ExprIfOf<E>>
-    requires cond { F.pre flatten x.cond.value }
-    requires other { ForSome x.else_branch (λ q. F.pre flatten q.1.value) }
+) -> Flattened<()>
+    requires cond { Takes (F.pre flatten) x.old.cond.value }
+    requires other { ForSome x.old.else_branch (λ q. Takes (F.pre flatten) q.1.value) }
     requires gives { Flattens E.tree (F.post flatten) }
-    ensures { IfOk result (λ y. IsFlatBehind attrs (expr_if_of E.tree x) (expr_if_of E.tree y)) }
+    ensures { IfOk result (λ _. IsFlatBehind attrs (expr_if_of E.tree x.old) (expr_if_of E.tree x.new)) }
 {
-    Ok(ExprIfOf {
-        attrs: joined(attrs, x.attrs)?,
-        cond: boxed(x.cond, &flatten)?,
-        else_branch: else_branch(x.else_branch, flatten)?,
-        ..x
-    })
+    put_before(attrs, &mut x.attrs)?;
+    boxed(&mut x.cond, &flatten)?;
+    else_branch(&mut x.else_branch, flatten)?;
+    Ok(())
 }
 
 /// It without the parentheses in it, behind more attributes.
-pub fn while_expr<E: HasExprTree + Drop, F: Fn(E) -> Flattened<E>>(
-    x: ExprWhileOf<E>,
+pub fn while_expr<E: HasExprTree + Drop, F: Fn(&mut E) -> Flattened<()>>(
+    x: &mut ExprWhileOf<E>,
     attrs: Before,
     flatten: F,
-) -> Flattened<ExprWhileOf<E>>
-    requires cond { F.pre flatten x.cond.value }
+) -> Flattened<()>
+    requires cond { Takes (F.pre flatten) x.old.cond.value }
     requires gives { Flattens E.tree (F.post flatten) }
-    ensures { IfOk result (λ y. IsFlatBehind attrs (expr_while_of E.tree x) (expr_while_of E.tree y)) }
+    ensures { IfOk result (λ _. IsFlatBehind attrs (expr_while_of E.tree x.old) (expr_while_of E.tree x.new)) }
 {
-    Ok(ExprWhileOf {
-        attrs: joined(attrs, x.attrs)?,
-        cond: boxed(x.cond, flatten)?,
-        ..x
-    })
+    put_before(attrs, &mut x.attrs)?;
+    boxed(&mut x.cond, flatten)?;
+    Ok(())
 }

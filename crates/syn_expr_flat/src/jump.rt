@@ -3,60 +3,55 @@
 ghost use Rattle.std.specs.Prelude.{IfOk};
 ghost use Rattle.std.specs.Option.{ForSome};
 ghost use Rattle.syn_expr_kinds.specs.View.{expr_break_of, expr_return_of, expr_yield_of};
+ghost use Rattle.syn_expr_flat.specs.Calls.{Takes};
 ghost use Rattle.syn_expr_flat.specs.Flat.{Flattens, IsFlatBehind};
 
-use crate::attrs::{Before, joined};
+use crate::attrs::{Before, put_before};
 use crate::operands::{Flattened, optional};
 use syn_expr_kinds::jump::{ExprBreakOf, ExprReturnOf, ExprYieldOf};
 use syn_expr_kinds::kinds::HasExprTree;
 
 /// It without the parentheses in it, behind more attributes.
-pub fn break_expr<E: HasExprTree + Drop, F: Fn(E) -> Flattened<E>>(
-    x: ExprBreakOf<E>,
+pub fn break_expr<E: HasExprTree + Drop, F: Fn(&mut E) -> Flattened<()>>(
+    x: &mut ExprBreakOf<E>,
     attrs: Before,
     flatten: F,
-) -> Flattened<ExprBreakOf<E>>
-    requires expr { ForSome x.expr (λ b. F.pre flatten b.value) }
+) -> Flattened<()>
+    requires expr { ForSome x.old.expr (λ b. Takes (F.pre flatten) b.value) }
     requires gives { Flattens E.tree (F.post flatten) }
-    ensures { IfOk result (λ y. IsFlatBehind attrs (expr_break_of E.tree x) (expr_break_of E.tree y)) }
+    ensures { IfOk result (λ _. IsFlatBehind attrs (expr_break_of E.tree x.old) (expr_break_of E.tree x.new)) }
 {
-    Ok(ExprBreakOf {
-        attrs: joined(attrs, x.attrs)?,
-        expr: optional(x.expr, flatten)?,
-        ..x
-    })
+    put_before(attrs, &mut x.attrs)?;
+    optional(&mut x.expr, flatten)?;
+    Ok(())
 }
 
 /// It without the parentheses in it, behind more attributes.
-pub fn return_expr<E: HasExprTree + Drop, F: Fn(E) -> Flattened<E>>(
-    x: ExprReturnOf<E>,
+pub fn return_expr<E: HasExprTree + Drop, F: Fn(&mut E) -> Flattened<()>>(
+    x: &mut ExprReturnOf<E>,
     attrs: Before,
     flatten: F,
-) -> Flattened<ExprReturnOf<E>>
-    requires expr { ForSome x.expr (λ b. F.pre flatten b.value) }
+) -> Flattened<()>
+    requires expr { ForSome x.old.expr (λ b. Takes (F.pre flatten) b.value) }
     requires gives { Flattens E.tree (F.post flatten) }
-    ensures { IfOk result (λ y. IsFlatBehind attrs (expr_return_of E.tree x) (expr_return_of E.tree y)) }
+    ensures { IfOk result (λ _. IsFlatBehind attrs (expr_return_of E.tree x.old) (expr_return_of E.tree x.new)) }
 {
-    Ok(ExprReturnOf {
-        attrs: joined(attrs, x.attrs)?,
-        expr: optional(x.expr, flatten)?,
-        ..x
-    })
+    put_before(attrs, &mut x.attrs)?;
+    optional(&mut x.expr, flatten)?;
+    Ok(())
 }
 
 /// It without the parentheses in it, behind more attributes.
-pub fn yield_expr<E: HasExprTree + Drop, F: Fn(E) -> Flattened<E>>(
-    x: ExprYieldOf<E>,
+pub fn yield_expr<E: HasExprTree + Drop, F: Fn(&mut E) -> Flattened<()>>(
+    x: &mut ExprYieldOf<E>,
     attrs: Before,
     flatten: F,
-) -> Flattened<ExprYieldOf<E>>
-    requires expr { ForSome x.expr (λ b. F.pre flatten b.value) }
+) -> Flattened<()>
+    requires expr { ForSome x.old.expr (λ b. Takes (F.pre flatten) b.value) }
     requires gives { Flattens E.tree (F.post flatten) }
-    ensures { IfOk result (λ y. IsFlatBehind attrs (expr_yield_of E.tree x) (expr_yield_of E.tree y)) }
+    ensures { IfOk result (λ _. IsFlatBehind attrs (expr_yield_of E.tree x.old) (expr_yield_of E.tree x.new)) }
 {
-    Ok(ExprYieldOf {
-        attrs: joined(attrs, x.attrs)?,
-        expr: optional(x.expr, flatten)?,
-        ..x
-    })
+    put_before(attrs, &mut x.attrs)?;
+    optional(&mut x.expr, flatten)?;
+    Ok(())
 }

@@ -4,118 +4,96 @@ ghost use Rattle.std.specs.Prelude.{IfOk};
 ghost use Rattle.syn_expr_kinds.specs.View.{expr_infer_of, expr_lit_of, expr_macro_of, expr_path_of, expr_async_of, expr_try_block_of, expr_continue_of, expr_block_of, expr_const_of, expr_loop_of, expr_unsafe_of};
 ghost use Rattle.syn_expr_flat.specs.Flat.{IsFlatBehind};
 
-use crate::attrs::{Before, joined};
+use crate::attrs::{Before, put_before};
 use crate::operands::Flattened;
 use syn_expr_kinds::atom::{ExprInfer, ExprLit, ExprMacro, ExprPath};
 use syn_expr_kinds::block::{ExprAsync, ExprBlock, ExprConst, ExprLoop, ExprTryBlock, ExprUnsafe};
 use syn_expr_kinds::jump::ExprContinue;
 
 /// It behind more attributes.
-pub fn infer(x: ExprInfer, attrs: Before) -> Flattened<ExprInfer>
-    ensures { IfOk result (λ y. IsFlatBehind attrs (expr_infer_of x) (expr_infer_of y)) }
+pub fn infer(x: &mut ExprInfer, attrs: Before) -> Flattened<()>
+    ensures { IfOk result (λ _. IsFlatBehind attrs (expr_infer_of x.old) (expr_infer_of x.new)) }
 {
-    Ok(ExprInfer {
-        attrs: joined(attrs, x.attrs)?,
-        ..x
-    })
+    put_before(attrs, &mut x.attrs)?;
+    Ok(())
 }
 
 /// It behind more attributes.
-pub fn lit(x: ExprLit, attrs: Before) -> Flattened<ExprLit>
-    ensures { IfOk result (λ y. IsFlatBehind attrs (expr_lit_of x) (expr_lit_of y)) }
+pub fn lit(x: &mut ExprLit, attrs: Before) -> Flattened<()>
+    ensures { IfOk result (λ _. IsFlatBehind attrs (expr_lit_of x.old) (expr_lit_of x.new)) }
 {
-    Ok(ExprLit {
-        attrs: joined(attrs, x.attrs)?,
-        ..x
-    })
+    put_before(attrs, &mut x.attrs)?;
+    Ok(())
 }
 
 /// It behind more attributes.
-pub fn mac(x: ExprMacro, attrs: Before) -> Flattened<ExprMacro>
-    ensures { IfOk result (λ y. IsFlatBehind attrs (expr_macro_of x) (expr_macro_of y)) }
+pub fn mac(x: &mut ExprMacro, attrs: Before) -> Flattened<()>
+    ensures { IfOk result (λ _. IsFlatBehind attrs (expr_macro_of x.old) (expr_macro_of x.new)) }
 {
-    Ok(ExprMacro {
-        attrs: joined(attrs, x.attrs)?,
-        ..x
-    })
+    put_before(attrs, &mut x.attrs)?;
+    Ok(())
 }
 
 /// It behind more attributes.
-pub fn path(x: ExprPath, attrs: Before) -> Flattened<ExprPath>
-    ensures { IfOk result (λ y. IsFlatBehind attrs (expr_path_of x) (expr_path_of y)) }
+pub fn path(x: &mut ExprPath, attrs: Before) -> Flattened<()>
+    ensures { IfOk result (λ _. IsFlatBehind attrs (expr_path_of x.old) (expr_path_of x.new)) }
 {
-    Ok(ExprPath {
-        attrs: joined(attrs, x.attrs)?,
-        ..x
-    })
+    put_before(attrs, &mut x.attrs)?;
+    Ok(())
 }
 
 /// It behind more attributes.
-pub fn async_block(x: ExprAsync, attrs: Before) -> Flattened<ExprAsync>
-    ensures { IfOk result (λ y. IsFlatBehind attrs (expr_async_of x) (expr_async_of y)) }
+pub fn async_block(x: &mut ExprAsync, attrs: Before) -> Flattened<()>
+    ensures { IfOk result (λ _. IsFlatBehind attrs (expr_async_of x.old) (expr_async_of x.new)) }
 {
-    Ok(ExprAsync {
-        attrs: joined(attrs, x.attrs)?,
-        ..x
-    })
+    put_before(attrs, &mut x.attrs)?;
+    Ok(())
 }
 
 /// It behind more attributes.
-pub fn try_block(x: ExprTryBlock, attrs: Before) -> Flattened<ExprTryBlock>
-    ensures { IfOk result (λ y. IsFlatBehind attrs (expr_try_block_of x) (expr_try_block_of y)) }
+pub fn try_block(x: &mut ExprTryBlock, attrs: Before) -> Flattened<()>
+    ensures { IfOk result (λ _. IsFlatBehind attrs (expr_try_block_of x.old) (expr_try_block_of x.new)) }
 {
-    Ok(ExprTryBlock {
-        attrs: joined(attrs, x.attrs)?,
-        ..x
-    })
+    put_before(attrs, &mut x.attrs)?;
+    Ok(())
 }
 
 /// It behind more attributes.
-pub fn continue_expr(x: ExprContinue, attrs: Before) -> Flattened<ExprContinue>
-    ensures { IfOk result (λ y. IsFlatBehind attrs (expr_continue_of x) (expr_continue_of y)) }
+pub fn continue_expr(x: &mut ExprContinue, attrs: Before) -> Flattened<()>
+    ensures { IfOk result (λ _. IsFlatBehind attrs (expr_continue_of x.old) (expr_continue_of x.new)) }
 {
-    Ok(ExprContinue {
-        attrs: joined(attrs, x.attrs)?,
-        ..x
-    })
+    put_before(attrs, &mut x.attrs)?;
+    Ok(())
 }
 
 /// It behind more attributes.
-pub fn block(x: ExprBlock, attrs: Before) -> Flattened<ExprBlock>
-    ensures { IfOk result (λ y. IsFlatBehind attrs (expr_block_of x) (expr_block_of y)) }
+pub fn block(x: &mut ExprBlock, attrs: Before) -> Flattened<()>
+    ensures { IfOk result (λ _. IsFlatBehind attrs (expr_block_of x.old) (expr_block_of x.new)) }
 {
-    Ok(ExprBlock {
-        attrs: joined(attrs, x.attrs)?,
-        ..x
-    })
+    put_before(attrs, &mut x.attrs)?;
+    Ok(())
 }
 
 /// It behind more attributes.
-pub fn const_block(x: ExprConst, attrs: Before) -> Flattened<ExprConst>
-    ensures { IfOk result (λ y. IsFlatBehind attrs (expr_const_of x) (expr_const_of y)) }
+pub fn const_block(x: &mut ExprConst, attrs: Before) -> Flattened<()>
+    ensures { IfOk result (λ _. IsFlatBehind attrs (expr_const_of x.old) (expr_const_of x.new)) }
 {
-    Ok(ExprConst {
-        attrs: joined(attrs, x.attrs)?,
-        ..x
-    })
+    put_before(attrs, &mut x.attrs)?;
+    Ok(())
 }
 
 /// It behind more attributes.
-pub fn loop_expr(x: ExprLoop, attrs: Before) -> Flattened<ExprLoop>
-    ensures { IfOk result (λ y. IsFlatBehind attrs (expr_loop_of x) (expr_loop_of y)) }
+pub fn loop_expr(x: &mut ExprLoop, attrs: Before) -> Flattened<()>
+    ensures { IfOk result (λ _. IsFlatBehind attrs (expr_loop_of x.old) (expr_loop_of x.new)) }
 {
-    Ok(ExprLoop {
-        attrs: joined(attrs, x.attrs)?,
-        ..x
-    })
+    put_before(attrs, &mut x.attrs)?;
+    Ok(())
 }
 
 /// It behind more attributes.
-pub fn unsafe_block(x: ExprUnsafe, attrs: Before) -> Flattened<ExprUnsafe>
-    ensures { IfOk result (λ y. IsFlatBehind attrs (expr_unsafe_of x) (expr_unsafe_of y)) }
+pub fn unsafe_block(x: &mut ExprUnsafe, attrs: Before) -> Flattened<()>
+    ensures { IfOk result (λ _. IsFlatBehind attrs (expr_unsafe_of x.old) (expr_unsafe_of x.new)) }
 {
-    Ok(ExprUnsafe {
-        attrs: joined(attrs, x.attrs)?,
-        ..x
-    })
+    put_before(attrs, &mut x.attrs)?;
+    Ok(())
 }

@@ -9,6 +9,7 @@ pub mod jump;
 pub mod leaf;
 pub mod operands;
 pub mod operation;
+pub mod paren;
 pub mod pat;
 pub mod structure;
 pub mod trailer;

@@ -1,69 +1,70 @@
-//! What holds operands, with each operand as a function makes it.
+//! What holds operands, with each operand as a function leaves it.
 
-ghost use Rattle.std.specs.Prelude.{◌≡◌, IfOk, Ok, Contains};
+ghost use Rattle.std.specs.Prelude.{◌≡◌, IfOk, Contains};
 ghost use Rattle.std.specs.Option.{ForSome};
 ghost use Rattle.syn_lower_lists.specs.View.{values, trails, last_of};
+ghost use Rattle.syn_expr_flat.specs.Calls.{Leaves, Takes};
 ghost use Rattle.syn_expr_flat.specs.Each.{Each};
 
 use std::alloc::AllocError;
 use syn_lower::punctuated::Punctuated;
 
-/// What is answered inside. That memory ran out is all that flattening is refused for.
+/// What is answered inside. That memory ran out is all that flattening is refused for; nothing is said then of what was given.
 pub type Flattened<T> = Result<T, AllocError>;
 
-/// One operand. Refused where the function refuses it, or memory runs out; what was given is gone then.
-pub fn boxed<T: Drop, F: Fn(T) -> Flattened<T>>(x: Box<T>, flatten: F) -> Flattened<Box<T>>
-    requires { F.pre flatten x.value }
-    ensures { IfOk result (λ y. F.post flatten x.value (Ok y.value)) }
+/// One operand. Refused where the function refuses it.
+pub fn boxed<T: Drop, F: Fn(&mut T) -> Flattened<()>>(x: &mut Box<T>, flatten: F) -> Flattened<()>
+    requires { Takes (F.pre flatten) x.old.value }
+    ensures { IfOk result (λ _. Leaves (F.post flatten) x.old.value x.new.value) }
 {
-    let alloc = *Box::allocator(&x);
-    Ok(Box::new(alloc, flatten(Box::into_inner(x))?)?)
+    flatten(x)?;
+    Ok(())
 }
 
 /// An operand that may be there. Refused as `boxed` is.
 #[tactic(auto, using(crate::proofs::Each::each))]
-pub fn optional<T: Drop, F: Fn(T) -> Flattened<T>>(
-    x: Option<Box<T>>,
+pub fn optional<T: Drop, F: Fn(&mut T) -> Flattened<()>>(
+    x: &mut Option<Box<T>>,
     flatten: F,
-) -> Flattened<Option<Box<T>>>
-    requires { ForSome x (λ b. F.pre flatten b.value) }
-    ensures { IfOk result (λ y. Each (λ a b. F.post flatten a (Ok b)) (last_of x) (last_of y)) }
+) -> Flattened<()>
+    requires { ForSome x.old (λ b. Takes (F.pre flatten) b.value) }
+    ensures { IfOk result (λ _. Each (Leaves (F.post flatten)) (last_of x.old) (last_of x.new)) }
 {
     match x {
-        Some(x) => Ok(Some(boxed(x, flatten)?)),
-        None => Ok(None),
+        Some(x) => {
+            boxed(x, flatten)?;
+            Ok(())
+        }
+        None => Ok(()),
     }
 }
 
 /// The values that puncts follow.
-#[tactic(auto, using(crate::proofs::Each::each))]
-fn pairs<T: Drop, P: Drop, F: Fn(T) -> Flattened<T>>(
-    xs: Vec<(T, P)>,
+#[tactic(auto, using(crate::proofs::Upto::upto))]
+fn pairs<T: Drop, P: Drop, F: Fn(&mut T) -> Flattened<()>>(
+    xs: &mut Vec<(T, P)>,
     flatten: F,
-) -> Flattened<Vec<(T, P)>>
-    requires { (q : T × P) → Contains xs.items q → F.pre flatten q.0 }
-    ensures { IfOk result (λ ys. Each (λ p q. F.post flatten p.0 (Ok q.0)) xs.items ys.items) }
+) -> Flattened<()>
+    requires { (q : T × P) → Contains xs.old.items q → Takes (F.pre flatten) q.0 }
+    ensures { IfOk result (λ _. Each (λ p q. Leaves (F.post flatten) p.0 q.0) xs.old.items xs.new.items) }
 {
-    let mut out = Vec::new(*xs.allocator());
-    for (x, punct) in xs {
-        out.push((flatten(x)?, punct))?;
+    for pair in xs.iter_mut() {
+        flatten(&mut pair.0)?;
     }
-    Ok(out)
+    Ok(())
 }
 
 /// A list with puncts, which stay. Refused as `boxed` is.
-#[tactic(auto, using(crate::proofs::Each::each))]
-pub fn punctuated<T: Drop, P: Drop, F: Fn(T) -> Flattened<T>>(
-    x: Punctuated<T, P>,
+pub fn punctuated<T: Drop, P: Drop, F: Fn(&mut T) -> Flattened<()>>(
+    x: &mut Punctuated<T, P>,
     flatten: F,
-) -> Flattened<Punctuated<T, P>>
-    requires inner { (q : T × P) → Contains x.inner.items q → F.pre flatten q.0 }
-    requires last { ForSome x.last (λ b. F.pre flatten b.value) }
-    ensures values { IfOk result (λ y. Each (λ a b. F.post flatten a (Ok b)) (values x) (values y)) }
-    ensures trails { IfOk result (λ y. trails y ≡ trails x) }
+) -> Flattened<()>
+    requires inner { (q : T × P) → Contains x.old.inner.items q → Takes (F.pre flatten) q.0 }
+    requires last { ForSome x.old.last (λ b. Takes (F.pre flatten) b.value) }
+    ensures values { IfOk result (λ _. Each (Leaves (F.post flatten)) (values x.old) (values x.new)) }
+    ensures trails { IfOk result (λ _. trails x.new ≡ trails x.old) }
 {
-    let Punctuated { inner, last } = x;
-    let inner = pairs(inner, &flatten)?;
-    let last = optional(last, flatten)?;
-    Ok(Punctuated { inner, last })
+    pairs(&mut x.inner, &flatten)?;
+    optional(&mut x.last, flatten)?;
+    Ok(())
 }

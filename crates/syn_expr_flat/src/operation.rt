@@ -3,9 +3,10 @@
 ghost use Rattle.std.specs.Prelude.{IfOk};
 ghost use Rattle.std.specs.Option.{ForSome};
 ghost use Rattle.syn_expr_kinds.specs.View.{expr_assign_of, expr_binary_of, expr_cast_of, expr_range_of, expr_raw_addr_of, expr_reference_of, expr_unary_of};
+ghost use Rattle.syn_expr_flat.specs.Calls.{Takes};
 ghost use Rattle.syn_expr_flat.specs.Flat.{Flattens, IsFlatBehind};
 
-use crate::attrs::{Before, joined};
+use crate::attrs::{Before, put_before};
 use crate::operands::{Flattened, boxed, optional};
 use syn_expr_kinds::kinds::HasExprTree;
 use syn_expr_kinds::operation::{
@@ -14,126 +15,112 @@ use syn_expr_kinds::operation::{
 };
 
 /// It without the parentheses in it, behind more attributes.
-pub fn assign<E: HasExprTree + Drop, F: Fn(E) -> Flattened<E>>(
-    x: ExprAssignOf<E>,
+pub fn assign<E: HasExprTree + Drop, F: Fn(&mut E) -> Flattened<()>>(
+    x: &mut ExprAssignOf<E>,
     attrs: Before,
     flatten: F,
-) -> Flattened<ExprAssignOf<E>>
-    requires left { F.pre flatten x.left.value }
-    requires right { F.pre flatten x.right.value }
+) -> Flattened<()>
+    requires left { Takes (F.pre flatten) x.old.left.value }
+    requires right { Takes (F.pre flatten) x.old.right.value }
     requires gives { Flattens E.tree (F.post flatten) }
-    ensures { IfOk result (λ y. IsFlatBehind attrs (expr_assign_of E.tree x) (expr_assign_of E.tree y)) }
+    ensures { IfOk result (λ _. IsFlatBehind attrs (expr_assign_of E.tree x.old) (expr_assign_of E.tree x.new)) }
 {
-    Ok(ExprAssignOf {
-        attrs: joined(attrs, x.attrs)?,
-        left: boxed(x.left, &flatten)?,
-        right: boxed(x.right, flatten)?,
-        ..x
-    })
+    put_before(attrs, &mut x.attrs)?;
+    boxed(&mut x.left, &flatten)?;
+    boxed(&mut x.right, flatten)?;
+    Ok(())
 }
 
 /// It without the parentheses in it, behind more attributes.
-pub fn binary<E: HasExprTree + Drop, F: Fn(E) -> Flattened<E>>(
-    x: ExprBinaryOf<E>,
+pub fn binary<E: HasExprTree + Drop, F: Fn(&mut E) -> Flattened<()>>(
+    x: &mut ExprBinaryOf<E>,
     attrs: Before,
     flatten: F,
-) -> Flattened<ExprBinaryOf<E>>
-    requires left { F.pre flatten x.left.value }
-    requires right { F.pre flatten x.right.value }
+) -> Flattened<()>
+    requires left { Takes (F.pre flatten) x.old.left.value }
+    requires right { Takes (F.pre flatten) x.old.right.value }
     requires gives { Flattens E.tree (F.post flatten) }
-    ensures { IfOk result (λ y. IsFlatBehind attrs (expr_binary_of E.tree x) (expr_binary_of E.tree y)) }
+    ensures { IfOk result (λ _. IsFlatBehind attrs (expr_binary_of E.tree x.old) (expr_binary_of E.tree x.new)) }
 {
-    Ok(ExprBinaryOf {
-        attrs: joined(attrs, x.attrs)?,
-        left: boxed(x.left, &flatten)?,
-        right: boxed(x.right, flatten)?,
-        ..x
-    })
+    put_before(attrs, &mut x.attrs)?;
+    boxed(&mut x.left, &flatten)?;
+    boxed(&mut x.right, flatten)?;
+    Ok(())
 }
 
 /// It without the parentheses in it, behind more attributes.
-pub fn cast<E: HasExprTree + Drop, F: Fn(E) -> Flattened<E>>(
-    x: ExprCastOf<E>,
+pub fn cast<E: HasExprTree + Drop, F: Fn(&mut E) -> Flattened<()>>(
+    x: &mut ExprCastOf<E>,
     attrs: Before,
     flatten: F,
-) -> Flattened<ExprCastOf<E>>
-    requires expr { F.pre flatten x.expr.value }
+) -> Flattened<()>
+    requires expr { Takes (F.pre flatten) x.old.expr.value }
     requires gives { Flattens E.tree (F.post flatten) }
-    ensures { IfOk result (λ y. IsFlatBehind attrs (expr_cast_of E.tree x) (expr_cast_of E.tree y)) }
+    ensures { IfOk result (λ _. IsFlatBehind attrs (expr_cast_of E.tree x.old) (expr_cast_of E.tree x.new)) }
 {
-    Ok(ExprCastOf {
-        attrs: joined(attrs, x.attrs)?,
-        expr: boxed(x.expr, flatten)?,
-        ..x
-    })
+    put_before(attrs, &mut x.attrs)?;
+    boxed(&mut x.expr, flatten)?;
+    Ok(())
 }
 
 /// It without the parentheses in it, behind more attributes.
-pub fn range<E: HasExprTree + Drop, F: Fn(E) -> Flattened<E>>(
-    x: ExprRangeOf<E>,
+pub fn range<E: HasExprTree + Drop, F: Fn(&mut E) -> Flattened<()>>(
+    x: &mut ExprRangeOf<E>,
     attrs: Before,
     flatten: F,
-) -> Flattened<ExprRangeOf<E>>
-    requires starts { ForSome x.start (λ b. F.pre flatten b.value) }
-    requires ends { ForSome x.end (λ b. F.pre flatten b.value) }
+) -> Flattened<()>
+    requires starts { ForSome x.old.start (λ b. Takes (F.pre flatten) b.value) }
+    requires ends { ForSome x.old.end (λ b. Takes (F.pre flatten) b.value) }
     requires gives { Flattens E.tree (F.post flatten) }
-    ensures { IfOk result (λ y. IsFlatBehind attrs (expr_range_of E.tree x) (expr_range_of E.tree y)) }
+    ensures { IfOk result (λ _. IsFlatBehind attrs (expr_range_of E.tree x.old) (expr_range_of E.tree x.new)) }
 {
-    Ok(ExprRangeOf {
-        attrs: joined(attrs, x.attrs)?,
-        start: optional(x.start, &flatten)?,
-        end: optional(x.end, flatten)?,
-        ..x
-    })
+    put_before(attrs, &mut x.attrs)?;
+    optional(&mut x.start, &flatten)?;
+    optional(&mut x.end, flatten)?;
+    Ok(())
 }
 
 /// It without the parentheses in it, behind more attributes.
-pub fn raw_addr<E: HasExprTree + Drop, F: Fn(E) -> Flattened<E>>(
-    x: ExprRawAddrOf<E>,
+pub fn raw_addr<E: HasExprTree + Drop, F: Fn(&mut E) -> Flattened<()>>(
+    x: &mut ExprRawAddrOf<E>,
     attrs: Before,
     flatten: F,
-) -> Flattened<ExprRawAddrOf<E>>
-    requires expr { F.pre flatten x.expr.value }
+) -> Flattened<()>
+    requires expr { Takes (F.pre flatten) x.old.expr.value }
     requires gives { Flattens E.tree (F.post flatten) }
-    ensures { IfOk result (λ y. IsFlatBehind attrs (expr_raw_addr_of E.tree x) (expr_raw_addr_of E.tree y)) }
+    ensures { IfOk result (λ _. IsFlatBehind attrs (expr_raw_addr_of E.tree x.old) (expr_raw_addr_of E.tree x.new)) }
 {
-    Ok(ExprRawAddrOf {
-        attrs: joined(attrs, x.attrs)?,
-        expr: boxed(x.expr, flatten)?,
-        ..x
-    })
+    put_before(attrs, &mut x.attrs)?;
+    boxed(&mut x.expr, flatten)?;
+    Ok(())
 }
 
 /// It without the parentheses in it, behind more attributes.
-pub fn reference<E: HasExprTree + Drop, F: Fn(E) -> Flattened<E>>(
-    x: ExprReferenceOf<E>,
+pub fn reference<E: HasExprTree + Drop, F: Fn(&mut E) -> Flattened<()>>(
+    x: &mut ExprReferenceOf<E>,
     attrs: Before,
     flatten: F,
-) -> Flattened<ExprReferenceOf<E>>
-    requires expr { F.pre flatten x.expr.value }
+) -> Flattened<()>
+    requires expr { Takes (F.pre flatten) x.old.expr.value }
     requires gives { Flattens E.tree (F.post flatten) }
-    ensures { IfOk result (λ y. IsFlatBehind attrs (expr_reference_of E.tree x) (expr_reference_of E.tree y)) }
+    ensures { IfOk result (λ _. IsFlatBehind attrs (expr_reference_of E.tree x.old) (expr_reference_of E.tree x.new)) }
 {
-    Ok(ExprReferenceOf {
-        attrs: joined(attrs, x.attrs)?,
-        expr: boxed(x.expr, flatten)?,
-        ..x
-    })
+    put_before(attrs, &mut x.attrs)?;
+    boxed(&mut x.expr, flatten)?;
+    Ok(())
 }
 
 /// It without the parentheses in it, behind more attributes.
-pub fn unary<E: HasExprTree + Drop, F: Fn(E) -> Flattened<E>>(
-    x: ExprUnaryOf<E>,
+pub fn unary<E: HasExprTree + Drop, F: Fn(&mut E) -> Flattened<()>>(
+    x: &mut ExprUnaryOf<E>,
     attrs: Before,
     flatten: F,
-) -> Flattened<ExprUnaryOf<E>>
-    requires expr { F.pre flatten x.expr.value }
+) -> Flattened<()>
+    requires expr { Takes (F.pre flatten) x.old.expr.value }
     requires gives { Flattens E.tree (F.post flatten) }
-    ensures { IfOk result (λ y. IsFlatBehind attrs (expr_unary_of E.tree x) (expr_unary_of E.tree y)) }
+    ensures { IfOk result (λ _. IsFlatBehind attrs (expr_unary_of E.tree x.old) (expr_unary_of E.tree x.new)) }
 {
-    Ok(ExprUnaryOf {
-        attrs: joined(attrs, x.attrs)?,
-        expr: boxed(x.expr, flatten)?,
-        ..x
-    })
+    put_before(attrs, &mut x.attrs)?;
+    boxed(&mut x.expr, flatten)?;
+    Ok(())
 }

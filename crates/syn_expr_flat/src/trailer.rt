@@ -3,9 +3,10 @@
 ghost use Rattle.std.specs.Prelude.{Contains, IfOk};
 ghost use Rattle.std.specs.Option.{ForSome};
 ghost use Rattle.syn_expr_kinds.specs.View.{expr_await_of, expr_call_of, expr_field_of, expr_index_of, expr_method_call_of, expr_try_of};
+ghost use Rattle.syn_expr_flat.specs.Calls.{Takes};
 ghost use Rattle.syn_expr_flat.specs.Flat.{Flattens, IsFlatBehind};
 
-use crate::attrs::{Before, joined};
+use crate::attrs::{Before, put_before};
 use crate::operands::{Flattened, boxed, punctuated};
 use syn_expr_kinds::kinds::HasExprTree;
 use syn_expr_kinds::trailer::{
@@ -13,111 +14,99 @@ use syn_expr_kinds::trailer::{
 };
 
 /// It without the parentheses in it, behind more attributes.
-pub fn await_expr<E: HasExprTree + Drop, F: Fn(E) -> Flattened<E>>(
-    x: ExprAwaitOf<E>,
+pub fn await_expr<E: HasExprTree + Drop, F: Fn(&mut E) -> Flattened<()>>(
+    x: &mut ExprAwaitOf<E>,
     attrs: Before,
     flatten: F,
-) -> Flattened<ExprAwaitOf<E>>
-    requires base { F.pre flatten x.base.value }
+) -> Flattened<()>
+    requires base { Takes (F.pre flatten) x.old.base.value }
     requires gives { Flattens E.tree (F.post flatten) }
-    ensures { IfOk result (λ y. IsFlatBehind attrs (expr_await_of E.tree x) (expr_await_of E.tree y)) }
+    ensures { IfOk result (λ _. IsFlatBehind attrs (expr_await_of E.tree x.old) (expr_await_of E.tree x.new)) }
 {
-    Ok(ExprAwaitOf {
-        attrs: joined(attrs, x.attrs)?,
-        base: boxed(x.base, flatten)?,
-        ..x
-    })
+    put_before(attrs, &mut x.attrs)?;
+    boxed(&mut x.base, flatten)?;
+    Ok(())
 }
 
 /// It without the parentheses in it, behind more attributes.
-pub fn call<E: HasExprTree + Drop, F: Fn(E) -> Flattened<E>>(
-    x: ExprCallOf<E>,
+pub fn call<E: HasExprTree + Drop, F: Fn(&mut E) -> Flattened<()>>(
+    x: &mut ExprCallOf<E>,
     attrs: Before,
     flatten: F,
-) -> Flattened<ExprCallOf<E>>
-    requires func { F.pre flatten x.func.value }
-    requires args { (q : _) → Contains x.args.inner.items q → F.pre flatten q.0 }
-    requires last { ForSome x.args.last (λ b. F.pre flatten b.value) }
+) -> Flattened<()>
+    requires func { Takes (F.pre flatten) x.old.func.value }
+    requires args { (q : _) → Contains x.old.args.inner.items q → Takes (F.pre flatten) q.0 }
+    requires last { ForSome x.old.args.last (λ b. Takes (F.pre flatten) b.value) }
     requires gives { Flattens E.tree (F.post flatten) }
-    ensures { IfOk result (λ y. IsFlatBehind attrs (expr_call_of E.tree x) (expr_call_of E.tree y)) }
+    ensures { IfOk result (λ _. IsFlatBehind attrs (expr_call_of E.tree x.old) (expr_call_of E.tree x.new)) }
 {
-    Ok(ExprCallOf {
-        attrs: joined(attrs, x.attrs)?,
-        func: boxed(x.func, &flatten)?,
-        args: punctuated(x.args, flatten)?,
-        ..x
-    })
+    put_before(attrs, &mut x.attrs)?;
+    boxed(&mut x.func, &flatten)?;
+    punctuated(&mut x.args, flatten)?;
+    Ok(())
 }
 
 /// It without the parentheses in it, behind more attributes.
-pub fn field<E: HasExprTree + Drop, F: Fn(E) -> Flattened<E>>(
-    x: ExprFieldOf<E>,
+pub fn field<E: HasExprTree + Drop, F: Fn(&mut E) -> Flattened<()>>(
+    x: &mut ExprFieldOf<E>,
     attrs: Before,
     flatten: F,
-) -> Flattened<ExprFieldOf<E>>
-    requires base { F.pre flatten x.base.value }
+) -> Flattened<()>
+    requires base { Takes (F.pre flatten) x.old.base.value }
     requires gives { Flattens E.tree (F.post flatten) }
-    ensures { IfOk result (λ y. IsFlatBehind attrs (expr_field_of E.tree x) (expr_field_of E.tree y)) }
+    ensures { IfOk result (λ _. IsFlatBehind attrs (expr_field_of E.tree x.old) (expr_field_of E.tree x.new)) }
 {
-    Ok(ExprFieldOf {
-        attrs: joined(attrs, x.attrs)?,
-        base: boxed(x.base, flatten)?,
-        ..x
-    })
+    put_before(attrs, &mut x.attrs)?;
+    boxed(&mut x.base, flatten)?;
+    Ok(())
 }
 
 /// It without the parentheses in it, behind more attributes.
-pub fn index<E: HasExprTree + Drop, F: Fn(E) -> Flattened<E>>(
-    x: ExprIndexOf<E>,
+pub fn index<E: HasExprTree + Drop, F: Fn(&mut E) -> Flattened<()>>(
+    x: &mut ExprIndexOf<E>,
     attrs: Before,
     flatten: F,
-) -> Flattened<ExprIndexOf<E>>
-    requires expr { F.pre flatten x.expr.value }
-    requires index { F.pre flatten x.index.value }
+) -> Flattened<()>
+    requires expr { Takes (F.pre flatten) x.old.expr.value }
+    requires index { Takes (F.pre flatten) x.old.index.value }
     requires gives { Flattens E.tree (F.post flatten) }
-    ensures { IfOk result (λ y. IsFlatBehind attrs (expr_index_of E.tree x) (expr_index_of E.tree y)) }
+    ensures { IfOk result (λ _. IsFlatBehind attrs (expr_index_of E.tree x.old) (expr_index_of E.tree x.new)) }
 {
-    Ok(ExprIndexOf {
-        attrs: joined(attrs, x.attrs)?,
-        expr: boxed(x.expr, &flatten)?,
-        index: boxed(x.index, flatten)?,
-        ..x
-    })
+    put_before(attrs, &mut x.attrs)?;
+    boxed(&mut x.expr, &flatten)?;
+    boxed(&mut x.index, flatten)?;
+    Ok(())
 }
 
 /// It without the parentheses in it, behind more attributes.
-pub fn method_call<E: HasExprTree + Drop, F: Fn(E) -> Flattened<E>>(
-    x: ExprMethodCallOf<E>,
+pub fn method_call<E: HasExprTree + Drop, F: Fn(&mut E) -> Flattened<()>>(
+    x: &mut ExprMethodCallOf<E>,
     attrs: Before,
     flatten: F,
-) -> Flattened<ExprMethodCallOf<E>>
-    requires receiver { F.pre flatten x.receiver.value }
-    requires args { (q : _) → Contains x.args.inner.items q → F.pre flatten q.0 }
-    requires last { ForSome x.args.last (λ b. F.pre flatten b.value) }
+) -> Flattened<()>
+    requires receiver { Takes (F.pre flatten) x.old.receiver.value }
+    requires args { (q : _) → Contains x.old.args.inner.items q → Takes (F.pre flatten) q.0 }
+    requires last { ForSome x.old.args.last (λ b. Takes (F.pre flatten) b.value) }
     requires gives { Flattens E.tree (F.post flatten) }
-    ensures { IfOk result (λ y. IsFlatBehind attrs (expr_method_call_of E.tree x) (expr_method_call_of E.tree y)) }
+    ensures { IfOk result (λ _. IsFlatBehind attrs (expr_method_call_of E.tree x.old) (expr_method_call_of E.tree x.new)) }
 {
-    Ok(ExprMethodCallOf {
-        attrs: joined(attrs, x.attrs)?,
-        receiver: boxed(x.receiver, &flatten)?,
-        args: punctuated(x.args, flatten)?,
-        ..x
-    })
+    put_before(attrs, &mut x.attrs)?;
+    boxed(&mut x.receiver, &flatten)?;
+    punctuated(&mut x.args, flatten)?;
+    Ok(())
 }
 
 /// It without the parentheses in it, behind more attributes.
-pub fn try_expr<E: HasExprTree + Drop, F: Fn(E) -> Flattened<E>>(
-    x: ExprTryOf<E>,
+pub fn try_expr<E: HasExprTree + Drop, F: Fn(&mut E) -> Flattened<()>>(
+    x: &mut ExprTryOf<E>,
     attrs: Before,
     flatten: F,
-) -> Flattened<ExprTryOf<E>>
-    requires expr { F.pre flatten x.expr.value }
+) -> Flattened<()>
+    requires expr { Takes (F.pre flatten) x.old.expr.value }
     requires gives { Flattens E.tree (F.post flatten) }
-    ensures { IfOk result (λ y. IsFlatBehind attrs (expr_try_of E.tree x) (expr_try_of E.tree y)) }
+    ensures { IfOk result (λ _. IsFlatBehind attrs (expr_try_of E.tree x.old) (expr_try_of E.tree x.new)) }
 {
-    Ok(ExprTryOf {
-        attrs: joined(attrs, x.attrs)?,
-        expr: boxed(x.expr, flatten)?,
-        ..x
-    })
+    put_before(attrs, &mut x.attrs)?;
+    boxed(&mut x.expr, flatten)?;
+    Ok(())
 }

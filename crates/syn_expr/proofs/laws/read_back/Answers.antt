@@ -5,4 +5,4 @@ use Rattle.syn_expr.proofs.ReadBack.{given_back}
 use Rattle.syn_expr.proofs.laws.read_back.Goals as goal
 
 pub returns : goal.returns
-returns c = λ w. given_back (tree_of c.args.expr.now) _ _ c.parse2.result w c.new-tokens.ensures (c.in_ok-print_expr.ensures.back in_plain refl) c.parse2.ensures.found
+returns c = λ w. given_back (tree_of c.args.expr.now) _ _ c.read_whole.result w c.new-tokens.ensures (c.in_ok-print_expr.ensures.back in_plain refl) c.read_whole.ensures

@@ -8,4 +8,4 @@ use Rattle.syn_expr_flat.proofs.Nodes.{at_node, leaf_flat, same_flat}
 use Rattle.syn_expr_flat.proofs.leaf.block.Goals as goal
 
 pub returns : goal.returns
-returns c = at_node _ _ _ _ _ refl (λ o. c.in_ok-joined.ensures.outer o) (λ o. same_flat _ _ _ (ap (λ l. leaf (e.block (mapped label_of c.args.x.label) (body_of l c.args.x.block.stmts))) (c.in_ok-joined.ensures.inner o)) (leaf_flat _))
+returns c = at_node _ _ _ _ _ refl (λ o. c.in_ok-put_before.ensures.outer o) (λ o. same_flat _ _ _ (ap (λ l. leaf (e.block (mapped label_of c.args.x.now.label) (body_of l c.args.x.now.block.stmts))) (c.in_ok-put_before.ensures.inner o)) (leaf_flat _))

@@ -1,6 +1,6 @@
-use Rattle.std.proofs.Common.{Ok}
-use Rattle.syn_expr_flat.specs.Each.{Each}
+use Rattle.syn_expr_flat.specs.Calls.{Leaves}
+use Rattle.syn_expr_flat.proofs.Upto.{Upto}
 use Rattle.syn_expr_flat.proofs.operands.pairs.Given as goal
 
-abbrev pub invariant-loop-x : goal.invariant-loop-x
-invariant-loop-x g l = Each (λ p q. g.F.Fn.post l.flatten (p.0, tt) (Ok q.0)) l.yielded l.out.items
+abbrev pub invariant-loop-pair : goal.invariant-loop-pair
+invariant-loop-pair g l = Upto (λ p q. Leaves (λ x r y. g.F.Fn.post l.flatten (x, tt) (r, (y, tt))) p.0 q.0) l.pair-index l.fn.xs.items l.pair-items

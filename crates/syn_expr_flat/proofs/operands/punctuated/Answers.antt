@@ -1,8 +1,12 @@
-use Rattle.syn_expr_flat.proofs.Each.{each_value, each_trails}
+use Rattle.syn_expr_flat.proofs.Each.{each_by, each_value, each_trails}
+use Rattle.syn_expr_flat.proofs.Refs.{anew, by_ref}
 use Rattle.syn_expr_flat.proofs.operands.punctuated.Goals as goal
 
+pub pairs-requires : goal.pairs-requires
+pairs-requires g c = λ q has lent is. λ n. c.requires.inner q has (anew lent n lent.now) is
+
 pub returns-clause-values : goal.returns-clause-values
-returns-clause-values g c = each_value _ _ _ c.in_ok-inner.ensures c.in_ok-last.ensures
+returns-clause-values g c = each_value _ _ _ (each_by _ _ (λ p q call. by_ref _ p.0 q.0 call) _ _ c.in_ok-pairs.ensures) c.in_ok-optional.ensures
 
 pub returns-clause-trails : goal.returns-clause-trails
-returns-clause-trails g c = each_trails _ _ _ _ c.in_ok-inner.ensures c.in_ok-last.ensures
+returns-clause-trails g c = each_trails _ _ _ _ c.in_ok-pairs.ensures c.in_ok-optional.ensures

@@ -1,8 +1,10 @@
 use Rattle.std.proofs.Common.{refl}
+use Rattle.syn_expr_flat.proofs.Calls.{flat_by}
 use Rattle.syn_expr_flat.proofs.Each.{each_by}
 use Rattle.syn_expr_flat.proofs.Kids.{tail_flat, list_flat}
 use Rattle.syn_expr_flat.proofs.Nodes.{at_node}
+use Rattle.syn_expr_flat.proofs.Refs.{by_ref}
 use Rattle.syn_expr_flat.proofs.trailer.method_call.Goals as goal
 
 pub returns : goal.returns
-returns g c = at_node _ _ _ _ _ refl (λ o. c.in_ok-joined.ensures.all) (λ o. tail_flat _ _ _ _ _ (c.requires.gives _ _ c.in_ok-boxed.ensures) (list_flat g.E.HasExprTree.tree _ _ (each_by _ _ (λ a b. c.requires.gives a _) _ _ c.in_ok-punctuated.ensures.values) c.in_ok-punctuated.ensures.trails))
+returns g c = at_node _ _ _ _ _ refl (λ o. c.in_ok-put_before.ensures.all) (λ o. tail_flat _ _ _ _ _ (flat_by g.E.HasExprTree.tree _ c.requires.gives _ _ (by_ref _ _ _ c.in_ok-boxed.ensures)) (list_flat g.E.HasExprTree.tree _ _ (each_by _ _ (flat_by g.E.HasExprTree.tree _ c.requires.gives) _ _ c.in_ok-punctuated.ensures.values) c.in_ok-punctuated.ensures.trails))

@@ -1,0 +1,56 @@
+//! A lint: tells of each expression whether it compares a value with itself.
+#![tactic(auto)]
+
+ghost use Rattle.std.specs.Prelude.{◌≡◌, true};
+ghost use Rattle.syn_expr_all.specs.View.{tree_of};
+ghost use Rattle.lint.specs.Lint.{ComparesWithItself};
+
+use std::alloc::Global;
+use std::io;
+use syn_expr::{Expr, HeldExpr, Precedence, Result, parse_str};
+use syn_expr_laws::same::equal_expressions;
+
+/// Whether the same expression stands on both sides of a comparison.
+fn compares_with_itself(expr: &Expr) -> bool
+    ensures sound { result ≡ true → ComparesWithItself (tree_of expr.now) }
+    ensures complete { ComparesWithItself (tree_of expr.now) → result ≡ true }
+{
+    // That `==` of expressions is equality of their trees.
+    equal_expressions();
+    match expr {
+        Expr::Binary(operation) => match Precedence::of_binop(&operation.op) {
+            Precedence::Compare => *operation.left == *operation.right,
+            _ => false,
+        },
+        _ => false,
+    }
+}
+
+/// What the lint says of a text.
+fn verdict(alloc: Global, text: &str) -> Result<&'static str> {
+    let held = parse_str::<HeldExpr>(alloc, text)?;
+    Ok(if compares_with_itself(&held.expr) {
+        "compares a value with itself"
+    } else {
+        "is fine"
+    })
+}
+
+fn main(rt: HostRuntime) -> io::Result<()> {
+    for text in [
+        "a.b[0] < a.b[0]",
+        "f(x) == f(x)",
+        "a < b",
+        "a + a",
+        "a == a == a",
+    ] {
+        match verdict(rt.alloc(), text) {
+            Ok(verdict) => println!(rt; "{text} {verdict}")?,
+            Err(e) => {
+                let (lo, hi, kind) = (e.span.lo, e.span.hi, e.kind);
+                println!(rt; "{text} is refused at {lo}..{hi}: {kind}")?;
+            }
+        }
+    }
+    Ok(())
+}

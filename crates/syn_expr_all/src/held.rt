@@ -1,0 +1,69 @@
+//! An expression that its user holds to the end of a scope.
+
+ghost use Rattle.std.specs.Prelude.{◌≡◌};
+
+use crate::expr::Expr;
+use syn_tokens::buffer::{Parse, ParseBuffer, ToTokens};
+use syn_tokens::error::Result;
+use syn_tokens::tree::TokenStream;
+
+/// An expression that is let go with this value. A program that lets a bare `Expr` go, or has one alive where it may return
+/// early, proves of each type of expressions again that it can be let go, ten minutes of a processor; one that holds it here
+/// doesn't. It is read and printed as the expression is: `parse_str::<HeldExpr>(alloc, text)?`.
+pub struct HeldExpr {
+    /// The expression.
+    pub expr: Expr,
+}
+
+impl Drop for HeldExpr {
+    fn drop(self) {
+        let HeldExpr { expr: _ } = self;
+    }
+}
+
+impl HeldExpr {
+    /// The expression, which is the caller's to let go.
+    pub fn into_inner(self) -> Expr
+        ensures { result ≡ self.expr }
+    {
+        let HeldExpr { expr } = self;
+        expr
+    }
+}
+
+impl Parse for HeldExpr {
+    ghost use Rattle.syn_expr_all.specs.View.{tree_of};
+    ghost use Rattle.syn_grammar.specs.Place.{plain};
+    ghost use Rattle.syn_grammar.specs.Stands.{Stands};
+    ghost use Rattle.syn_grammar.specs.Tree.{Tree};
+
+    ghost Seen = { Tree };
+
+    ghost seen = { λ x. tree_of x.expr };
+
+    /// The tree stands before the rest, by the binding rules.
+    ghost spells = { Stands plain };
+
+    ghost least = { 1 };
+
+    /// Reads an expression, and is refused as the reader of expressions refuses it.
+    fn parse(input: &mut ParseBuffer<'_>) -> Result<Self> {
+        match Expr::parse(input) {
+            Ok(expr) => Ok(HeldExpr { expr }),
+            Err(e) => Err(e),
+        }
+    }
+}
+
+impl ToTokens for HeldExpr {
+    ghost use Rattle.syn_expr_all.specs.View.{tree_of};
+    ghost use Rattle.syn_expr_print.specs.Printing.{whole};
+    ghost use Rattle.syn_grammar.specs.Next as next;
+
+    ghost printed = { λ x. whole next.enclosed (tree_of x.expr) };
+
+    /// Prints the expression as between delimiters, where it stands for itself.
+    fn to_tokens(&self, tokens: &mut TokenStream) -> Result<()> {
+        self.expr.to_tokens(tokens)
+    }
+}

@@ -1,0 +1,16 @@
+-- Calls that change what they are lent, told by the values alone.
+use Rattle.std.specs.Prelude.{◌≡◌, Result, Ok}
+use Rattle.std.specs.declared.alloc.AllocError.{AllocError}
+use denote.Ref.{MutBor}
+
+-- a call that may be lent x
+abbrev pub Takes : {E : Type 0} → (MutBor E → Type 0) → E → Type 0
+Takes pre x = (lent : MutBor _) → lent.now ≡ x → pre lent
+
+-- a call that was lent x may have answered `Ok`, and left y there
+pub record Leaves {E : Type 0} (post : MutBor E → Result (Unit {0}) AllocError → MutBor E → Type 0) (x y : E) : Type 0 where
+  pub old : MutBor E
+  pub new : MutBor E
+  pub shows : old.now ≡ x
+  pub leaves : new.now ≡ y
+  pub met : post old (Ok tt) new

@@ -1,0 +1,31 @@
+//! Parentheses, of which what they held is left.
+
+ghost use Rattle.std.specs.Prelude.{IfOk};
+ghost use Rattle.syn_expr_flat.specs.Calls.{Takes};
+ghost use Rattle.syn_expr_flat.specs.Flat.{FlattensBehind, IsFlatBehind};
+ghost use Rattle.syn_expr_kinds.specs.View.{expr_paren_of};
+
+use crate::attrs::{Before, put_before};
+use crate::operands::Flattened;
+use std::mem::replace;
+use syn_expr_kinds::atom::ExprParenOf;
+use syn_expr_kinds::kinds::HasExprTree;
+
+/// What the parentheses hold, behind their attributes, and these behind more. It is left in its box, for the caller to put in the
+/// place of the parentheses. Refused where the function refuses it, or memory runs out.
+#[tactic(auto, using(crate::proofs::Nodes::parens))]
+pub fn unwrapped<E: HasExprTree + Drop, F: Fn(&mut E, Before) -> Flattened<()>>(
+    x: &mut ExprParenOf<E>,
+    attrs: Before,
+    flatten: F,
+) -> Flattened<()>
+    requires held { (all : _) → Takes (λ lent. F.pre flatten lent all) x.old.expr.value }
+    requires gives { FlattensBehind E.tree (F.post flatten) }
+    ensures { IfOk result (λ _. IsFlatBehind attrs (expr_paren_of E.tree x.old) (E.tree x.new.expr.value)) }
+{
+    put_before(attrs, &mut x.attrs)?;
+    let alloc = *x.attrs.allocator();
+    let all = replace(&mut x.attrs, Vec::new(alloc));
+    flatten(&mut x.expr, Some(all))?;
+    Ok(())
+}
