@@ -24,6 +24,7 @@ mod print_pat;
 mod read_expr;
 mod read_pat;
 mod shape;
+mod single;
 
 pub use expr::{
     Arm, Expr, ExprArray, ExprAssign, ExprAsync, ExprAwait, ExprBinary, ExprBlock, ExprBreak,

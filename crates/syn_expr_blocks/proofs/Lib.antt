@@ -1,2 +1,3 @@
+pub mod Arms
 pub mod Inner
 pub mod Parts

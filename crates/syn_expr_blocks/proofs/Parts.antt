@@ -285,13 +285,15 @@ behind_less (e.guard ats p) l q h =
 behind_less (e.arm ats p) l q h = body_less ats p [] l q h
 behind_less _ l q h = absurd cc
 
-pub arm_less : (l : List Tok) (x : ArmView) (n : List Tok) → one_arm l ≡ Some (x, n) → weight n < weight l
+pub arm_is_less : (l : List Tok) (x : ArmView) (n : List Tok) → one_arm l ≡ Some (x, n) → IsLess n l
 unfolding one_arm
-arm_less l x n h =
+arm_is_less l x n h =
     let (k, i, f) = then_some ((piece_form slot.arms).reads l) arm_behind (x, n) h in
     let b = heads.pieces slot.arms in
-    let d = then_less (left (here.pieces slot.arms) k.0 l k.1 (b.sound l k.0 k.1 i)) (behind_less k.0 k.1 (x, n) f) in
-    d.less
+    then_less (left (here.pieces slot.arms) k.0 l k.1 (b.sound l k.0 k.1 i)) (behind_less k.0 k.1 (x, n) f)
+
+pub arm_less : (l : List Tok) (x : ArmView) (n : List Tok) → one_arm l ≡ Some (x, n) → weight n < weight l
+arm_less l x n h = let d = arm_is_less l x n h in d.less
 
 -- so does `for`, its pattern and `in`
 pub for_less : (l : List Tok) (t : PatTree) (n : List Tok) → for_head.reads l ≡ Some (t, n) → weight n < weight l

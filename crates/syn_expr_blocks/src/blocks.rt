@@ -248,9 +248,11 @@ where
         }))
     }
 
-    /// Reads an arm.
+    /// Reads an arm: outer attributes, a pattern with alternatives, a guard or none, `=>`, its body, and a comma, which none
+    /// has to be behind the last and behind a block (Rust Reference, "`match` expressions"). It is refused as `ExpectedToken`
+    /// where a token is missing, and inside as an attribute, a pattern or an expression is.
     #[tactic(auto, using(crate::proofs::Parts::one), unfolding(crate::specs::Parts::one_arm, syn_expr_kinds::specs::Attrs::attrs_of))]
-    fn arm(&self, input: &mut ParseBuffer<'_>) -> Result<E::Arm>
+    pub fn arm(&self, input: &mut ParseBuffer<'_>) -> Result<E::Arm>
         requires callable { Callable (weight input.old.rest + 1) (F.pre self.now.expr) }
         requires reads { ReadsExpr E.tree (F.post self.now.expr) }
         ensures value { Reads E.Arm.view (parts.one_arm input.old.rest) result input.new.rest }
@@ -276,12 +278,14 @@ where
         }
     }
 
-    /// Reads arms to the end.
+    /// Reads arms to the end of the input. It is refused as `arm` is.
     #[tactic(auto, using(crate::proofs::Parts::many, crate::proofs::Parts::one))]
-    fn arms(&self, input: &mut ParseBuffer<'_>) -> Result<Vec<E::Arm>>
+    pub fn arms(&self, input: &mut ParseBuffer<'_>) -> Result<Vec<E::Arm>>
         requires callable { Callable (weight input.old.rest + 1) (F.pre self.now.expr) }
         requires reads { ReadsExpr E.tree (F.post self.now.expr) }
         ensures value { Reads (λ v. pats.arms (map E.Arm.view v.items)) (read.bare_operands read.expr slot.arms input.old.rest) result input.new.rest }
+        ensures noted { input.new.noted ≡ input.old.noted }
+        ensures shrinks { weight input.new.rest ≤ weight input.old.rest }
         ensures all { IfOk result (λ _. input.new.rest ≡ []) }
     {
         let mut found = Vec::new(input.alloc());

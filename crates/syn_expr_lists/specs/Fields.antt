@@ -27,6 +27,14 @@ pub data Entry : Type 0 where
 abbrev pub base : Reading (Option Tree)
 base l = if is_empty l then Some (None, l) else and_then (expr plain l) (λ x n. only_if (is_empty n) (Some (Some x, n)))
 
+-- a field by itself, without what ends it
+abbrev pub field_by : Piece → Reading FieldView
+field_by (e.field_value ats m c) l = and_then (value_at m c l) (λ x n. Some (record { attrs = ats; member = m; colon = c; value = x }, n))
+field_by _ l = None
+
+unfoldable pub one_field : Reading FieldView
+one_field l = and_then ((piece_form s.fields).reads l) field_by
+
 abbrev pub entry_by : Piece → Reading Entry
 entry_by (e.field_value ats m c) l = and_then (value_at m c l) (λ x n. and_then (comma_or_end n) (λ d o. Some (a_field d (record { attrs = ats; member = m; colon = c; value = x }), o)))
 entry_by (e.rest d) l = and_then (base l) (λ x n. Some (the_rest x, n))

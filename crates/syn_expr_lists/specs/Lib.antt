@@ -1,3 +1,4 @@
 pub mod Elements
+pub mod FieldStands
 pub mod Fields
 pub mod View

@@ -2,8 +2,8 @@
 
 ghost use Rattle.std.specs.Prelude.{◌≡◌, ◌≤◌, ◌+◌, is_some, None};
 ghost use Rattle.syn_expr_ends.specs.Reads.{Callable, ReadsExpr};
-ghost use Rattle.syn_expr_kinds.specs.View.{boxed};
-ghost use Rattle.syn_expr_lists.specs.Fields.{base, braced, entry, value_at};
+ghost use Rattle.syn_expr_kinds.specs.View.{boxed, field_value_of};
+ghost use Rattle.syn_expr_lists.specs.Fields.{base, braced, entry, one_field, value_at};
 ghost use Rattle.syn_expr_lists.specs.View.{entry_of, fields_of};
 ghost use Rattle.syn_expr_parts.specs.View.{member_of};
 ghost use Rattle.syn_grammar.specs.Read as read;
@@ -74,6 +74,32 @@ impl<E: ReadExprs + Drop, F: Fn(&mut ParseBuffer<'_>, Place) -> Result<Box<E>>> 
             Member::Named(name) => named(input.alloc(), name),
             Member::Unnamed(_) => {
                 Err(input.error(ErrorKind::ExpectedToken(Expected::One(Colon::wanted()))))
+            }
+        }
+    }
+
+    /// Reads a field by itself, without the comma behind it: outer attributes, a member, and its value behind a colon, which
+    /// only a name may be without (Rust Reference, "Struct expressions"). It is refused as `ExpectedMember` where no member
+    /// stands, as `ExpectedToken` of the colon where an index has none, and as its attributes and its value are.
+    #[tactic(auto, unfolding(crate::specs::Fields::one_field, syn_expr_kinds::specs::Attrs::attrs_of))]
+    pub fn field_value(&self, input: &mut ParseBuffer<'_>) -> Result<FieldValueOf<E>>
+        requires callable { Callable (weight input.old.rest + 1) (F.pre self.now.expr) }
+        requires reads { ReadsExpr E.tree (F.post self.now.expr) }
+        ensures value { Reads (field_value_of E.tree) (one_field input.old.rest) result input.new.rest }
+        ensures noted { input.new.noted ≡ input.old.noted }
+        ensures shrinks { weight input.new.rest ≤ weight input.old.rest }
+    {
+        let no_member = input.error(ErrorKind::ExpectedMember);
+        match field(input)? {
+            FieldHead::Rest(_) => Err(no_member),
+            FieldHead::Field(attrs, member, colon_token) => {
+                let expr = self.value(input, &member, colon_token.is_some())?;
+                Ok(FieldValueOf {
+                    attrs,
+                    member,
+                    colon_token,
+                    expr,
+                })
             }
         }
     }

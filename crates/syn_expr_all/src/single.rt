@@ -1,0 +1,129 @@
+//! Arms and fields by themselves (Rust Reference, "`match` expressions", "Struct expressions").
+
+ghost use Rattle.std.specs.Prelude.{◌≡◌, ◌≤◌, ◌+◌, [], List, map, IfErr, IfOk, MatchResult};
+ghost use Rattle.syn_expr_all.specs.View.{arm_of, tree_of};
+ghost use Rattle.syn_expr_blocks.specs.Arms.{ArmStands};
+ghost use Rattle.syn_expr_kinds.specs.Pats.{ArmView, arms};
+ghost use Rattle.syn_expr_kinds.specs.View.{FieldView, field_value_of};
+ghost use Rattle.syn_expr_lists.specs.FieldStands.{FieldStands};
+ghost use Rattle.syn_grammar.specs.Slot as slot;
+ghost use Rattle.syn_grammar.specs.Stands.{Operands};
+ghost use Rattle.syn_grammar.specs.Tree.{Kids};
+ghost use Rattle.syn_tokens.specs.Input.{IsAfter};
+ghost use Rattle.syn_tokens.specs.Tok.{Tok, weight};
+
+use crate::expr::{Arm, FieldValue};
+use crate::read_expr::expr_at;
+use syn_expr_blocks::blocks::Blocks;
+use syn_expr_lists::lists::Lists;
+use syn_tokens::buffer::{Parse, ParseBuffer};
+use syn_tokens::error::{ErrorKind, Result};
+
+/// Reads an arm. The input stays where it was where it is refused.
+#[tactic(auto, using(crate::proofs::Single::arms))]
+fn arm_ahead(input: &mut ParseBuffer<'_>) -> Result<Arm>
+    ensures read { IfOk result (λ x. ArmStands input.old.rest (arm_of x) input.new.rest) }
+    ensures found { (x : ArmView) (rest : List Tok) → ArmStands input.old.rest x rest → MatchResult result (λ v. (arm_of v ≡ x) × (input.new.rest ≡ rest)) (λ e. e.kind ≡ ErrorKind.OutOfMemory) }
+    ensures noted { input.new.noted ≡ input.old.noted }
+    ensures after { IsAfter input.old input.new }
+    ensures stays { IfErr result (λ _. input.new ≡ input.old) }
+    ensures moves { IfOk result (λ _. 1 + weight input.new.rest ≤ weight input.old.rest) }
+{
+    let mut ahead = input.fork()?;
+    let x = match (Blocks { expr: expr_at }).arm(&mut ahead) {
+        Ok(x) => x,
+        Err(e) => return Err(e),
+    };
+    input.advance_to(&ahead);
+    Ok(x)
+}
+
+/// Reads a field. The input stays where it was where it is refused.
+#[tactic(auto, using(crate::proofs::Single::fields))]
+fn field_ahead(input: &mut ParseBuffer<'_>) -> Result<FieldValue>
+    ensures read { IfOk result (λ x. FieldStands input.old.rest (field_value_of tree_of x) input.new.rest) }
+    ensures found { (x : FieldView) (rest : List Tok) → FieldStands input.old.rest x rest → MatchResult result (λ v. (field_value_of tree_of v ≡ x) × (input.new.rest ≡ rest)) (λ e. e.kind ≡ ErrorKind.OutOfMemory) }
+    ensures noted { input.new.noted ≡ input.old.noted }
+    ensures after { IsAfter input.old input.new }
+    ensures stays { IfErr result (λ _. input.new ≡ input.old) }
+    ensures moves { IfOk result (λ _. 1 + weight input.new.rest ≤ weight input.old.rest) }
+{
+    let mut ahead = input.fork()?;
+    let x = match (Lists { expr: expr_at }).field_value(&mut ahead) {
+        Ok(x) => x,
+        Err(e) => return Err(e),
+    };
+    input.advance_to(&ahead);
+    Ok(x)
+}
+
+impl Parse for Arm {
+    ghost use Rattle.syn_expr_all.specs.View.{arm_of};
+    ghost use Rattle.syn_expr_blocks.specs.Arms.{ArmStands};
+    ghost use Rattle.syn_expr_kinds.specs.Pats.{ArmView};
+
+    ghost Seen = { ArmView };
+
+    ghost seen = { arm_of };
+
+    /// The arm stands before the rest: its pattern, its guard and its body.
+    ghost spells = { ArmStands };
+
+    ghost least = { 1 };
+
+    /// Reads an arm of a `match`: outer attributes, a pattern with alternatives, a guard or none, `=>`, its body, and a comma,
+    /// which none has to be at the end and behind a block (Rust Reference, "`match` expressions").
+    ///
+    /// It is refused, memory aside, only where none stands, and the input then stays where it was: as `ExpectedToken` where a
+    /// token is missing, and as its attributes, its pattern, its guard and its body are.
+    fn parse(input: &mut ParseBuffer<'_>) -> Result<Self> {
+        arm_ahead(input)
+    }
+}
+
+impl Arm {
+    /// Reads the arms of a `match` to the end of the input, as they stand in its braces (Rust Reference, "`match`
+    /// expressions"). They are read exactly where arms stand up to the end, unless memory runs out. It is refused as the
+    /// reader of an arm refuses one, and the input then stays where it was.
+    #[tactic(auto, using(crate::proofs::Single::all_arms))]
+    pub fn parse_multiple(input: &mut ParseBuffer<'_>) -> Result<Vec<Arm>>
+        ensures read { IfOk result (λ v. Operands slot.arms input.old.rest (arms (map arm_of v.items)) []) }
+        ensures found { (ks : Kids) → Operands slot.arms input.old.rest ks [] → MatchResult result (λ v. arms (map arm_of v.items) ≡ ks) (λ e. e.kind ≡ ErrorKind.OutOfMemory) }
+        ensures end { IfOk result (λ _. input.new.rest ≡ []) }
+        ensures noted { input.new.noted ≡ input.old.noted }
+        ensures stays { IfErr result (λ _. input.new ≡ input.old) }
+    {
+        let mut ahead = input.fork()?;
+        let arms = match (Blocks { expr: expr_at }).arms(&mut ahead) {
+            Ok(arms) => arms,
+            Err(e) => return Err(e),
+        };
+        input.advance_to(&ahead);
+        Ok(arms)
+    }
+}
+
+impl Parse for FieldValue {
+    ghost use Rattle.syn_expr_all.specs.View.{tree_of};
+    ghost use Rattle.syn_expr_kinds.specs.View.{FieldView, field_value_of};
+    ghost use Rattle.syn_expr_lists.specs.FieldStands.{FieldStands};
+
+    ghost Seen = { FieldView };
+
+    ghost seen = { field_value_of tree_of };
+
+    /// The field stands before the rest: its member and its value.
+    ghost spells = { FieldStands };
+
+    ghost least = { 1 };
+
+    /// Reads a field of a struct expression, without the comma behind it: outer attributes, a member, and its value behind a
+    /// colon, which only a name may be without (Rust Reference, "Struct expressions").
+    ///
+    /// It is refused, memory aside, only where none stands, and the input then stays where it was: as `ExpectedMember` where
+    /// no member stands, as `ExpectedToken` of the colon where an index has none, and as its attributes, its index and its
+    /// value are.
+    fn parse(input: &mut ParseBuffer<'_>) -> Result<Self> {
+        field_ahead(input)
+    }
+}
