@@ -38,25 +38,6 @@ fn arm_ahead(input: &mut ParseBuffer<'_>) -> Result<Arm>
     Ok(x)
 }
 
-/// Reads a field. The input stays where it was where it is refused.
-#[tactic(auto, using(crate::proofs::Single::fields))]
-fn field_ahead(input: &mut ParseBuffer<'_>) -> Result<FieldValue>
-    ensures read { IfOk result (λ x. FieldStands input.old.rest (field_value_of tree_of x) input.new.rest) }
-    ensures found { (x : FieldView) (rest : List Tok) → FieldStands input.old.rest x rest → MatchResult result (λ v. (field_value_of tree_of v ≡ x) × (input.new.rest ≡ rest)) (λ e. e.kind ≡ ErrorKind.OutOfMemory) }
-    ensures noted { input.new.noted ≡ input.old.noted }
-    ensures after { IsAfter input.old input.new }
-    ensures stays { IfErr result (λ _. input.new ≡ input.old) }
-    ensures moves { IfOk result (λ _. 1 + weight input.new.rest ≤ weight input.old.rest) }
-{
-    let mut ahead = input.fork()?;
-    let x = match (Lists { expr: expr_at }).field_value(&mut ahead) {
-        Ok(x) => x,
-        Err(e) => return Err(e),
-    };
-    input.advance_to(&ahead);
-    Ok(x)
-}
-
 impl Parse for Arm {
     ghost use Rattle.syn_expr_all.specs.View.{arm_of};
     ghost use Rattle.syn_expr_blocks.specs.Arms.{ArmStands};
@@ -103,27 +84,27 @@ impl Arm {
     }
 }
 
-impl Parse for FieldValue {
-    ghost use Rattle.syn_expr_all.specs.View.{tree_of};
-    ghost use Rattle.syn_expr_kinds.specs.View.{FieldView, field_value_of};
-    ghost use Rattle.syn_expr_lists.specs.FieldStands.{FieldStands};
-
-    ghost Seen = { FieldView };
-
-    ghost seen = { field_value_of tree_of };
-
-    /// The field stands before the rest: its member and its value.
-    ghost spells = { FieldStands };
-
-    ghost least = { 1 };
-
-    /// Reads a field of a struct expression, without the comma behind it: outer attributes, a member, and its value behind a
-    /// colon, which only a name may be without (Rust Reference, "Struct expressions").
-    ///
-    /// It is refused, memory aside, only where none stands, and the input then stays where it was: as `ExpectedMember` where
-    /// no member stands, as `ExpectedToken` of the colon where an index has none, and as its attributes, its index and its
-    /// value are.
-    fn parse(input: &mut ParseBuffer<'_>) -> Result<Self> {
-        field_ahead(input)
-    }
+/// Reads a field of a struct expression, without the comma behind it: outer attributes, a member, and its value behind a colon,
+/// which only a name may be without (Rust Reference, "Struct expressions"). It is read exactly where one stands, unless memory
+/// runs out. It is refused as `ExpectedMember` where no member stands, as `ExpectedToken` of the colon where an index has none,
+/// and as its attributes, its index and its value are; the input then stays where it was.
+///
+/// It is no `Parse`, since `FieldValue` names a generic struct of a lower crate, and this crate can have no `impl` of another
+/// crate's trait for it.
+#[tactic(auto, using(crate::proofs::Single::fields))]
+pub fn parse_field_value(input: &mut ParseBuffer<'_>) -> Result<FieldValue>
+    ensures read { IfOk result (λ x. FieldStands input.old.rest (field_value_of tree_of x) input.new.rest) }
+    ensures found { (x : FieldView) (rest : List Tok) → FieldStands input.old.rest x rest → MatchResult result (λ v. (field_value_of tree_of v ≡ x) × (input.new.rest ≡ rest)) (λ e. e.kind ≡ ErrorKind.OutOfMemory) }
+    ensures noted { input.new.noted ≡ input.old.noted }
+    ensures after { IsAfter input.old input.new }
+    ensures stays { IfErr result (λ _. input.new ≡ input.old) }
+    ensures moves { IfOk result (λ _. 1 + weight input.new.rest ≤ weight input.old.rest) }
+{
+    let mut ahead = input.fork()?;
+    let x = match (Lists { expr: expr_at }).field_value(&mut ahead) {
+        Ok(x) => x,
+        Err(e) => return Err(e),
+    };
+    input.advance_to(&ahead);
+    Ok(x)
 }
