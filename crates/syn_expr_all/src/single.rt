@@ -20,7 +20,7 @@ use syn_tokens::buffer::{Parse, ParseBuffer};
 use syn_tokens::error::{ErrorKind, Result};
 
 /// Reads an arm. The input stays where it was where it is refused.
-#[tactic(auto, using(crate::proofs::Single::arms))]
+#[tactic(auto, using(crate::proofs::Parts::arms))]
 fn arm_ahead(input: &mut ParseBuffer<'_>) -> Result<Arm>
     ensures read { IfOk result (λ x. ArmStands input.old.rest (arm_of x) input.new.rest) }
     ensures found { (x : ArmView) (rest : List Tok) → ArmStands input.old.rest x rest → MatchResult result (λ v. (arm_of v ≡ x) × (input.new.rest ≡ rest)) (λ e. e.kind ≡ ErrorKind.OutOfMemory) }
@@ -66,7 +66,7 @@ impl Arm {
     /// Reads the arms of a `match` to the end of the input, as they stand in its braces (Rust Reference, "`match`
     /// expressions"). They are read exactly where arms stand up to the end, unless memory runs out. It is refused as the
     /// reader of an arm refuses one, and the input then stays where it was.
-    #[tactic(auto, using(crate::proofs::Single::all_arms))]
+    #[tactic(auto, using(crate::proofs::Parts::all_arms))]
     pub fn parse_multiple(input: &mut ParseBuffer<'_>) -> Result<Vec<Arm>>
         ensures read { IfOk result (λ v. Operands slot.arms input.old.rest (arms (map arm_of v.items)) []) }
         ensures found { (ks : Kids) → Operands slot.arms input.old.rest ks [] → MatchResult result (λ v. arms (map arm_of v.items) ≡ ks) (λ e. e.kind ≡ ErrorKind.OutOfMemory) }
@@ -91,7 +91,7 @@ impl Arm {
 ///
 /// It is no `Parse`, since `FieldValue` names a generic struct of a lower crate, and this crate can have no `impl` of another
 /// crate's trait for it.
-#[tactic(auto, using(crate::proofs::Single::fields))]
+#[tactic(auto, using(crate::proofs::Parts::fields))]
 pub fn parse_field_value(input: &mut ParseBuffer<'_>) -> Result<FieldValue>
     ensures read { IfOk result (λ x. FieldStands input.old.rest (field_value_of tree_of x) input.new.rest) }
     ensures found { (x : FieldView) (rest : List Tok) → FieldStands input.old.rest x rest → MatchResult result (λ v. (field_value_of tree_of v ≡ x) × (input.new.rest ≡ rest)) (λ e. e.kind ≡ ErrorKind.OutOfMemory) }

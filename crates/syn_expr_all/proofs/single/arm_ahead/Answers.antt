@@ -1,5 +1,5 @@
 use Rattle.std.proofs.Common.{ap}
-use Rattle.syn_expr_all.proofs.Single.{arm_stands, arm_refused}
+use Rattle.syn_expr_all.proofs.Parts.{arm_stands, arm_refused}
 use Rattle.syn_expr_all.proofs.single.arm_ahead.Goals as goal
 
 pub returns-clause-read : goal.returns-clause-read
