@@ -1,5 +1,5 @@
 -- Reading an arm, arms or a field is exact, for callers.
-use Rattle.std.proofs.Common.{◌≡◌, ◌≢◌, ◌+◌, ◌≤◌, List, [], Option, Some, None, ap, sym, ◌∙◌, refl, arith}
+use Rattle.std.proofs.Common.{◌≡◌, ◌≢◌, ◌+◌, ◌≤◌, List, [], Option, Some, None, ap, sym, ◌∙◌, append-nil, arith}
 use Rattle.std.proofs.lemmas.Option.{none-some}
 use Rattle.syn_tokens.specs.Tok.{Tok, weight}
 use Rattle.syn_tokens.specs.Input.{IsTail}
@@ -59,6 +59,10 @@ arm_refused l n u k h s = refused_by k h (arm_complete l u n s)
 pub ruleset arms = (arm_tail, arm_moves, arm_stands, arm_same, arm_refused)
 
 -- ---- arms to the end
+
+pub ends_left : (l n : List Tok) → n ≡ [] → IsTail n l
+ends_left l [] e = record { front = l; is = sym (append-nil l) }
+ends_left l n e = absurd cc
 
 pub arms_stand : (l n : List Tok) (t : Kids) → bare_operands expr slot.arms l ≡ Some (t, n) → n ≡ [] → Operands slot.arms l t []
 arms_stand l [] t h e = arms_sound l t [] h
