@@ -1,5 +1,5 @@
 -- Reading an arm, arms or a field is exact, for callers.
-use Rattle.std.proofs.Common.{◌≡◌, ◌≢◌, ◌+◌, ◌≤◌, List, [], Option, Some, None, ap, sym, ◌∙◌, append-nil, arith}
+use Rattle.std.proofs.Common.{◌≡◌, ◌≢◌, ◌+◌, ◌≤◌, List, [], Option, Some, None, ap, sym, ◌∙◌, refl, append-nil, arith}
 use Rattle.std.proofs.lemmas.Option.{none-some}
 use Rattle.syn_tokens.specs.Tok.{Tok, weight}
 use Rattle.syn_tokens.specs.Input.{IsTail}
