@@ -9,6 +9,8 @@
 
 mod run;
 #[cfg(test)]
+mod tables;
+#[cfg(test)]
 mod tests;
 mod watched;
 
