@@ -11,6 +11,7 @@ use Rattle.std.proofs.KnownBytes.{Appends-trans}
 use Rattle.std.proofs.lemmas.Fmt.{decimal_digit}
 use Rattle.syn_tokens.specs.Input.{Gives}
 use Rattle.syn_tokens.specs.Lex.{Spells}
+use Rattle.syn_tokens.specs.Text.{text}
 use Rattle.syn_tokens.specs.Tok.{Tok}
 use Rattle.syn_tokens.specs.declared.error.Error.{Error}
 use Rattle.syn_tokens.specs.declared.error.ErrorKind.{ErrorKind}
@@ -21,7 +22,7 @@ use Rattle.syn_grammar.specs.Place.{plain}
 use Rattle.syn_grammar.specs.Printed.{Position, context_of}
 use Rattle.syn_grammar.specs.Rule as rule
 use Rattle.syn_grammar.specs.Stands.{Stands}
-use Rattle.syn_grammar.specs.Tree.{Tree, own_tokens, flatten}
+use Rattle.syn_grammar.specs.Tree.{Tree, own_tokens}
 use Rattle.syn_expr_flat.specs.Flat.{IsFlat}
 use Rattle.syn_expr_flat.proofs.OuterParens.{stands_outer}
 use Rattle.syn_expr_all.specs.declared.held.HeldExpr.{HeldExpr}
@@ -109,10 +110,6 @@ unfolding IsFlat
 bare_meant true t u e flat cs s = flat (stands_outer plain s.0 t [] s.2)
 bare_meant false t u e flat cs s = absurd cc
 
-pub same_meant : (bare : Bool) (t : Tree) → bare ≡ false → t ≡ meant bare t
-same_meant true t e = absurd cc
-same_meant false t e = refl
-
 alone : (Promised : List Tok → Type 0) (old new : List Tok) → old ≡ [] → Puts old new Promised → Promised new
 alone Promised old new e (ts, put, kept) = subst Promised (sym (put ∙ ap (λ (l : List Tok). l ++ ts) e)) kept
 
@@ -127,6 +124,10 @@ printed_as s t c old new e is text back own sparing =
       own = λ p. alone (IsOwn t) old new e (own (is ∙ ap context_of p));
       sparing = alone (IsSparing s t) old new e (sparing s is);
     }
+
+pub line_is : (s : Position) (bare : Bool) (cs : List ℕ) (t u : Tree) (ts : List Tok) (bytes : List ℕ) → StandsFor cs t → ((ds : List ℕ) → StandsFor ds t → u ≡ meant bare t)
+    → PrintedAs s u ts → bytes ≡ text ts ++ 10 ∷ [] → IsLine s bare cs bytes
+line_is s bare cs t u ts bytes stands same is written = (ts, (t, stands, subst (λ (v : Tree). PrintedAs s v ts) (same cs stands) is), written)
 
 -- ---- what is reported
 
