@@ -198,11 +198,11 @@ fn report<E: Write>(errors: &mut Watched<E>, fault: Fault)
     };
 }
 
-/// Reads the input to its end, and writes the expression, with `bare` without the parentheses that it has, printed for the
-/// position, and a newline to `output`, or one line to `errors` that says why not: where the lexer or the reader refused the
-/// text or memory ran out, that it is no UTF-8, or that a read or a write failed. The result is the status: 0 where the
-/// expression was printed, else 1. Where a write fails, `output` has gained a front of its line, and nothing else; and so
-/// has `errors`.
+/// Reads the input to its end, and writes the expression, with `bare` without the parentheses that it has, printed for
+/// the position, and a newline to `output`, or one line to `errors` that says why not: where the lexer or the reader
+/// refused the text or memory ran out, that it is no UTF-8, or that a read or a write failed. The result is the status:
+/// 0 where the expression was printed, else 1. Where a write fails, `output` has gained a front of its line, and
+/// nothing else; and so has `errors`.
 pub fn run<R: Read, W: Write, E: Write>(
     alloc: Global,
     position: Position,

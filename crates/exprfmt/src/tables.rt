@@ -133,8 +133,8 @@ plain ~ a + b ~ a + b
 plain ~ a + b * (c) ~ a + b * (c)
 ";
 
-/// The same of expressions that are printed without the parentheses that they have. Those of patterns and types stay, and so
-/// do tokens that are kept as they are.
+/// The same of expressions that are printed without the parentheses that they have. Those of patterns and types stay,
+/// and so do tokens that are kept as they are.
 pub const BARE: &str = "
 plain bare ~ v + (q || .. / c) ~ v + (q || .. / c)
 plain bare ~ (return) - 1 ~ (return) - 1
