@@ -98,5 +98,6 @@ fn flattened(x: &mut Expr, attrs: Before) -> Flattened<()>
 pub(crate) fn operand(x: &mut Expr) -> Flattened<()>
     ensures { IfOk result (λ _. IsFlat (tree_of x.old) (tree_of x.new)) }
 {
-    flattened(x, None)
+    flattened(x, None)?;
+    Ok(())
 }
