@@ -98,18 +98,18 @@ pub(crate) fn let_expr<F: Fn(&mut Expr) -> Flattened<()>, G: Fn(&mut Pat) -> Fla
 
 /// An arm without the parentheses in it.
 fn arm<F: Fn(&mut Expr) -> Flattened<()>, G: Fn(&mut Pat) -> Flattened<()>>(
-    x: &mut Arm,
+    one: &mut Arm,
     flatten: F,
     pattern: G,
 ) -> Flattened<()>
-    requires pat { Takes (G.pre pattern) (out-Arm x.old).pat }
-    requires body { Takes (F.pre flatten) (out-Arm x.old).body.value }
+    requires pat { Takes (G.pre pattern) (out-Arm one.old).pat }
+    requires body { Takes (F.pre flatten) (out-Arm one.old).body.value }
     requires pats { FlattensPat pat_of (G.post pattern) }
     requires gives { Flattens tree_of (F.post flatten) }
-    ensures { IfOk result (λ _. IsFlatArm (arm_of x.old) (arm_of x.new)) }
+    ensures { IfOk result (λ _. IsFlatArm (arm_of one.old) (arm_of one.new)) }
 {
-    pattern(&mut x.pat)?;
-    boxed(&mut x.body, flatten)?;
+    pattern(&mut one.pat)?;
+    boxed(&mut one.body, flatten)?;
     Ok(())
 }
 
