@@ -5,7 +5,7 @@ use Rattle.syn_expr_all.specs.declared.expr.Expr.TheVariants as ex
 use Rattle.syn_expr_all.specs.declared.pat.Pat.TheVariants as pt
 use Rattle.syn_expr_all.proofs.TreeOf as of
 use Rattle.syn_expr_flat.proofs.Nodes.{none_behind}
-use Rattle.syn_expr_flatten.proofs.Made.{arm, case}
+use Rattle.syn_expr_flatten.proofs.Made.{arm, bare, case}
 use Rattle.syn_expr_flatten.proofs.knot.+flatten.Goals as goal
 
 pub flattened-returns-in-Array : goal.flattened-returns-in-Array
@@ -160,3 +160,24 @@ pattern-returns-in-TupleStruct t c = rw (c.in-TupleStruct.is, pt.outs-TupleStruc
 
 pub pattern-returns-in-Typed : goal.pattern-returns-in-Typed
 pattern-returns-in-Typed t c = rw (c.in-Typed.is, pt.outs-Typed c.in-Typed.x) (case _ _ _ (of.pat-Typed c.in-Typed.x ∙ sym (ap (pat_type_of pat_of) c.in-Typed.x-is)) (of.pat-Typed c.typed.new.x) c.typed.ensures)
+
+pub pattern-returns-in-Const : goal.pattern-returns-in-Const
+pattern-returns-in-Const t c = bare _ _ _ (ap pat_of c.in-Const.is ∙ of.pat-Const _)
+
+pub pattern-returns-in-Lit : goal.pattern-returns-in-Lit
+pattern-returns-in-Lit t c = bare _ _ _ (ap pat_of c.in-Lit.is ∙ of.pat-Lit _)
+
+pub pattern-returns-in-Macro : goal.pattern-returns-in-Macro
+pattern-returns-in-Macro t c = bare _ _ _ (ap pat_of c.in-Macro.is ∙ of.pat-Macro _)
+
+pub pattern-returns-in-Path : goal.pattern-returns-in-Path
+pattern-returns-in-Path t c = bare _ _ _ (ap pat_of c.in-Path.is ∙ of.pat-Path _)
+
+pub pattern-returns-in-Range : goal.pattern-returns-in-Range
+pattern-returns-in-Range t c = bare _ _ _ (ap pat_of c.in-Range.is ∙ of.pat-Range _)
+
+pub pattern-returns-in-Rest : goal.pattern-returns-in-Rest
+pattern-returns-in-Rest t c = bare _ _ _ (ap pat_of c.in-Rest.is ∙ of.pat-Rest _)
+
+pub pattern-returns-in-Wild : goal.pattern-returns-in-Wild
+pattern-returns-in-Wild t c = bare _ _ _ (ap pat_of c.in-Wild.is ∙ of.pat-Wild _)
