@@ -1,8 +1,9 @@
 -- What holds both expressions and patterns, made anew of what was flattened.
-use Rattle.std.proofs.Common.{◌≡◌, true, List, [], ◌∷◌, ◌++◌, map, Option, is_some, refl, ap, ◌∙◌}
+use Rattle.std.proofs.Common.{◌≡◌, Bool, true, List, [], ◌∷◌, ◌++◌, map, Option, is_some, refl, ap, ◌∙◌}
 use Rattle.std.specs.declared.vec.Vec.{Vec}
 use Rattle.std.specs.declared.boxed.Box.{Box}
 use Rattle.std.specs.declared.alloc.Global.{Global}
+use Rattle.syn_parts.specs.Tree.{AttributeTree}
 use Rattle.syn_parts.specs.Pat as t
 use Rattle.syn_parts.specs.Pat.{PatTree}
 use Rattle.syn_lower.specs.View.{mapped, lifetimes_of, return_of, values, trails}
@@ -36,7 +37,7 @@ use Rattle.syn_expr_flat.proofs.Pats.{attributed}
 abbrev pub Joined : Option (Vec Attribute Global) → Vec Attribute Global → Vec Attribute Global → Type 0
 Joined ats old new = (all_outer (before ats) ≡ true → outer_of new ≡ before ats ++ outer_of old) × (all_outer (before ats) ≡ true → inner_of new ≡ inner_of old)
 
-module _ {E P : Type 0} (f : E → Tree) (g : P → PatView) where
+module _ {P : Type 0} (g : P → PatView) where
   abbrev pub ArePats : List P → List P → Type 0
   ArePats xs ys = Each (λ x y. IsFlatPat (g x) (g y)) xs ys
 
@@ -54,11 +55,12 @@ module _ {E P : Type 0} (f : E → Tree) (g : P → PatView) where
   inputs_flat [] (y ∷ ys) h = absurd h
   inputs_flat (x ∷ xs) [] h = absurd h
 
+module _ {E P : Type 0} (f : E → Tree) (g : P → PatView) where
   pub closure_behind : (ats : Option (Vec Attribute Global)) (x : ExprClosureOf E P) (v : Vec Attribute Global) (ps : Punctuated P Comma) (b : Box E Global)
-      → attrs_of v ≡ before ats ++ attrs_of x.attrs → ArePats (values x.inputs) (values ps) → trails ps ≡ trails x.inputs → IsFlat (f x.body.value) (f b.value)
+      → attrs_of v ≡ before ats ++ attrs_of x.attrs → ArePats g (values x.inputs) (values ps) → trails ps ≡ trails x.inputs → IsFlat (f x.body.value) (f b.value)
       → IsFlatBehind ats (expr_closure_of f g x) (expr_closure_of f g (record x { attrs = v; inputs = ps; body = b }))
   closure_behind ats x v ps b joined inputs same body =
-      let head : List PatTree → _ → ClosureHead = λ l c. record {
+      let head : List PatTree → Bool → ClosureHead = λ l c. record {
         lifetimes = mapped lifetimes_of x.lifetimes;
         constness = is_some x.constness;
         asyncness = is_some x.asyncness;
@@ -67,16 +69,16 @@ module _ {E P : Type 0} (f : E → Tree) (g : P → PatView) where
         trailing = c;
         output = return_of x.output;
       } in
-      let whole = λ h. closure_by (return_of x.output) h (guards (map g (values ps))) (f b.value) in
+      let whole : ClosureHead → Tree = λ h. closure_by (return_of x.output) h (guards (map g (values ps))) (f b.value) in
       at_node ats _ _ _ _ (closure_plain (return_of x.output) _ _ _) (λ o. joined) (λ o. same_flat _ _ _
-      (ap (λ l. whole (head l (trails ps))) (same_inputs (values x.inputs) (values ps) inputs) ∙ ap (λ c. whole (head (trees (map g (values x.inputs))) c)) same)
-      (closure_flat (return_of x.output) _ _ _ _ _ (inputs_flat (values x.inputs) (values ps) inputs) body))
+      (ap (λ l. whole (head l (trails ps))) (same_inputs g (values x.inputs) (values ps) inputs) ∙ ap (λ c. whole (head (trees (map g (values x.inputs))) c)) same)
+      (closure_flat (return_of x.output) _ _ _ _ _ (inputs_flat g (values x.inputs) (values ps) inputs) body))
 
   pub for_loop_behind : (ats : Option (Vec Attribute Global)) (x : ExprForLoopOf E P) (v : Vec Attribute Global) (p : Box P Global) (b : Box E Global)
       → Joined ats x.attrs v → IsFlatPat (g x.pat.value) (g p.value) → IsFlat (f x.expr.value) (f b.value)
       → IsFlatBehind ats (expr_for_loop_of f g x) (expr_for_loop_of f g (record x { attrs = v; pat = p; expr = b }))
   for_loop_behind ats x v p b joined pat expr =
-      let whole = λ l q. frame (e.for_loop (mapped label_of x.label) q) (strays (g p.value).guards (kid e.loop_head (e.braced (body_of l x.body.stmts)) (f b.value) none)) in
+      let whole : List AttributeTree → PatTree → Tree = λ l q. frame (e.for_loop (mapped label_of x.label) q) (strays (g p.value).guards (kid e.loop_head (e.braced (body_of l x.body.stmts)) (f b.value) none)) in
       at_node ats _ _ _ _ refl joined.0 (λ o. same_flat _ _ _
       (ap (λ l. whole l (g p.value).tree) (joined.1 o) ∙ ap (whole (inner_of x.attrs)) pat.0)
       (frame_flat _ _ _ (strays_flat _ _ _ _ pat.1 (kid_flat _ _ _ _ _ _ expr none_flat))))
@@ -95,7 +97,7 @@ module _ {E P : Type 0} (f : E → Tree) (g : P → PatView) where
 
   pub guard_flat : (x : PatGuardOf E P) (p : Box P Global) (b : Box E Global) → IsFlatPat (g x.pat.value) (g p.value) → IsFlat (f x.guard.value) (f b.value)
       → IsFlatPat (guarded_of f g x) (guarded_of f g (record x { pat = p; guard = b }))
-  guard_flat x p b pat guard = attributed x.attrs _ _ _ _ (ap t.guarded pat.0) (each_both IsFlat _ _ _ _ pat.1 (each_one IsFlat _ _ guard))
+  guard_flat x p b pat guard = attributed x.attrs _ _ _ _ (ap t.guarded pat.0) (each_both IsFlat (g x.pat.value).guards (f x.guard.value ∷ []) (g p.value).guards (f b.value ∷ []) pat.1 (each_one IsFlat (f x.guard.value) (f b.value) guard))
 
 module _ {E A : Type 0} (f : E → Tree) (a : A → ArmView) where
   pub match_behind : (ats : Option (Vec Attribute Global)) (x : ExprMatchOf E A) (v : Vec Attribute Global) (b : Box E Global) (more : Vec A Global)

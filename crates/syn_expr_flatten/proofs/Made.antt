@@ -44,7 +44,7 @@ arm_made x p b pat body =
     related IsFlatArm (arm-is x) (arm-is _ ∙ ap (arm_layer views) (out-roll-Arm _)) (arm_flat tree_of pat_of (arm_parts (out-Arm x)) p b pat body)
 
 pub closure_made : (ats : Option (Vec Attribute Global)) (x : ExprClosure) (v : Vec Attribute Global) (ps : Punctuated Pat Comma) (b : Box Expr Global)
-    → attrs_of v ≡ before ats ++ attrs_of (out-ExprClosure x).attrs → ArePats tree_of pat_of (values (out-ExprClosure x).inputs) (values ps) → trails ps ≡ trails (out-ExprClosure x).inputs
+    → attrs_of v ≡ before ats ++ attrs_of (out-ExprClosure x).attrs → ArePats pat_of (values (out-ExprClosure x).inputs) (values ps) → trails ps ≡ trails (out-ExprClosure x).inputs
     → IsFlat (tree_of (out-ExprClosure x).body.value) (tree_of b.value)
     → IsFlatBehind ats (closure_of x) (closure_of (roll-ExprClosure (record (out-ExprClosure x) { attrs = v; inputs = ps; body = b })))
 closure_made ats x v ps b joined inputs same body =
