@@ -1,32 +1,36 @@
-//! Every small tree, printed in each position where no parentheses are spared: what is printed is read back, and without one
-//! of the pairs it is not.
+//! Every tree of at most five nodes over a path, ranges, `return`, `?` and an operator of each of some levels, printed in each
+//! position: what is printed is read there as the same tree, and without any one of its pairs of parentheses it is not.
 
 use std::alloc::Global;
 use std::test::Fail;
 use syn_expr::{
     Error, ErrorKind, Expr, HeldExpr, ParseBuffer, Position, TokenStream, copy_trees,
-    flatten_in_place, lex, parse_str, print_expr, to_text,
+    flatten_in_place, is_well_formed, lex, parse_str, print_expr, to_text,
 };
 
 /// The trees of one node.
 const LEAVES: [&str; 3] = ["a", "..", "return"];
 
-/// What stands before and behind an operand that is alone.
-const AROUND_ONE: [(&str, &str); 5] = [("-", ""), ("return", ""), ("..", ""), ("", ".."), ("", "?")];
+/// What stands before and behind an operand that is the only one.
+const AROUND_ONE: [(&str, &str); 5] = [
+    ("-", ""),
+    ("..", ""),
+    ("return", ""),
+    ("", ".."),
+    ("", "?"),
+];
 
 /// What stands between two operands.
-const BETWEEN_TWO: [&str; 6] = ["+", "*", "<", "||", "=", ".."];
+const BETWEEN_TWO: [&str; 6] = ["=", "..", "||", "<", "+", "*"];
 
 /// How many nodes a tree has at most.
 const NODES: usize = 5;
 
-/// How many trees there are of each number of nodes, from one on: of the numbers before, 5 times the last and 6 times the sum of
-/// the products of two that are together the last but one.
+/// How many trees there are by the number of their nodes: of one the leaves; of more 5 for each tree of one node less, and 6 for
+/// each two trees that have together one node less.
 const COUNTS: [usize; NODES] = [3, 15, 129, 1185, 11919];
 
-/// Texts of trees, each operand in parentheses, by the number of nodes.
-type Texts = Vec<Vec<String>>;
-
+/// The texts of the leaves.
 fn leaves(alloc: Global) -> Result<Vec<String>, Error> {
     let mut texts = Vec::new(alloc);
     for leaf in LEAVES {
@@ -35,7 +39,7 @@ fn leaves(alloc: Global) -> Result<Vec<String>, Error> {
     Ok(texts)
 }
 
-/// Adds the trees whose operand is one of these.
+/// Adds the texts of the trees over one of these.
 fn push_around(texts: &mut Vec<String>, alloc: Global, operands: &[String]) -> Result<(), Error> {
     for operand in operands {
         for (before, behind) in AROUND_ONE {
@@ -45,7 +49,7 @@ fn push_around(texts: &mut Vec<String>, alloc: Global, operands: &[String]) -> R
     Ok(())
 }
 
-/// Adds the trees whose first operand is one of `lefts`, and the second one of `rights`.
+/// Adds the texts of the trees over one of `lefts` and one of `rights`.
 fn push_between(
     texts: &mut Vec<String>,
     alloc: Global,
@@ -62,8 +66,8 @@ fn push_between(
     Ok(())
 }
 
-/// The trees of one node more than the greatest of these, which are all that are smaller.
-fn larger(alloc: Global, smaller: &Texts) -> Result<Vec<String>, Error> {
+/// The texts of the trees of one node more than those given, which are all that have fewer, by the number of their nodes.
+fn larger(alloc: Global, smaller: &[Vec<String>]) -> Result<Vec<String>, Error> {
     let mut texts = Vec::new(alloc);
     if let Some((last, front)) = smaller.split_last() {
         push_around(&mut texts, alloc, last)?;
@@ -74,24 +78,34 @@ fn larger(alloc: Global, smaller: &Texts) -> Result<Vec<String>, Error> {
     Ok(texts)
 }
 
-/// The trees of at most this many nodes.
-fn trees(alloc: Global) -> Result<Texts, Error> {
-    let mut trees = Vec::new(alloc);
-    trees.push(leaves(alloc)?)?;
+/// The texts of all trees, by the number of their nodes, each operand in parentheses.
+fn all_texts(alloc: Global) -> Result<Vec<Vec<String>>, Error> {
+    let mut all = Vec::new(alloc);
+    all.push(leaves(alloc)?)?;
     for _ in 1..NODES {
-        trees.push(larger(alloc, &trees)?)?;
+        all.push(larger(alloc, &all)?)?;
     }
-    Ok(trees)
+    Ok(all)
 }
 
-/// The expression of a text, without parentheses.
+#[test]
+fn no_tree_is_missing(rt: HostRuntime) -> Result<(), Fail> {
+    let all = all_texts(rt.alloc())?;
+    assert_eq!(rt; all.len(), NODES);
+    for (texts, count) in all.iter().zip(COUNTS) {
+        assert_eq!(rt; texts.len(), count);
+    }
+    Ok(())
+}
+
+/// The expression of a text without its parentheses.
 fn flat(alloc: Global, text: &str) -> Result<HeldExpr, Error> {
     let mut held = parse_str::<HeldExpr>(alloc, text)?;
     flatten_in_place(&mut held.expr)?;
     Ok(held)
 }
 
-/// What is printed of an expression in a position.
+/// The text of what is printed of an expression in a position.
 fn printed(alloc: Global, position: Position, expr: &Expr) -> Result<String, Error> {
     let mut tokens = TokenStream::new(alloc);
     print_expr(expr, &mut tokens, position.fixup())?;
@@ -108,16 +122,16 @@ fn behind(position: Position) -> &'static str {
     }
 }
 
-/// What a reader gives of an expression that is to stand in a position: the expression without parentheses where it was read
-/// and what stands behind it is left, and none where it was refused or something else is left.
-fn read(alloc: Global, position: Position, text: &str) -> Result<Option<HeldExpr>, Error> {
+/// The expression that a text is read as in a position, without its parentheses. There is none where it is refused, or where
+/// something else is left than what stands behind an expression there.
+fn read_in(alloc: Global, position: Position, text: &str) -> Result<Option<HeldExpr>, Error> {
     let behind = behind(position);
-    let whole = format!(in alloc; "{text} {behind}")?;
-    let tokens = lex(alloc, whole.as_str())?;
+    let tokens = lex(alloc, format!(in alloc; "{text} {behind}")?.as_str())?;
     let mut input = ParseBuffer::new(&tokens)?;
     let mut held = match position.parse(&mut input) {
         Ok(expr) => HeldExpr { expr },
-        Err(e) => return if e.kind == ErrorKind::OutOfMemory { Err(e) } else { Ok(None) },
+        Err(e) if e.kind == ErrorKind::OutOfMemory => return Err(e),
+        Err(_) => return Ok(None),
     };
     let left = to_text(&copy_trees(alloc, input.trees())?)?;
     if left.as_str() != behind {
@@ -127,58 +141,61 @@ fn read(alloc: Global, position: Position, text: &str) -> Result<Option<HeldExpr
     Ok(Some(held))
 }
 
-/// Whether a text is read in a position as this expression, up to parentheses.
+/// Whether a text is read in a position as this expression, which has no parentheses, up to those of the text.
 fn is_read_as(alloc: Global, position: Position, text: &str, expr: &Expr) -> Result<bool, Error> {
-    match read(alloc, position, text)? {
+    match read_in(alloc, position, text)? {
         Some(held) => Ok(held.expr == *expr),
         None => Ok(false),
     }
 }
 
-/// The text without the pair of parentheses that opens at this place.
+/// A text with blanks in place of the pair of parentheses of which the first is the character of this number.
 fn without_pair(alloc: Global, text: &str, start: usize) -> Result<String, Error> {
-    let mut rest = String::new(alloc);
-    // How many parentheses are open, the one at the place and those in it.
+    let mut without = String::new(alloc);
+    // How many parentheses are open: of the pair, and in it.
     let mut open = 0usize;
-    for (place, char) in text.chars().enumerate() {
-        let mut kept = char;
-        if char == '(' && (place == start || open > 0) {
+    for (number, char) in text.chars().enumerate() {
+        let is_in = open > 0;
+        if char == '(' && (is_in || number == start) {
             open = open.saturating_add(1);
-            if place == start {
-                kept = ' ';
-            }
-        } else if char == ')' && open > 0 {
+        } else if char == ')' && is_in {
             open -= 1;
-            if open == 0 {
-                kept = ' ';
-            }
         }
-        rest.push(kept)?;
+        // The pair begins where none was open before, and ends where none is open any more.
+        let is_pair = is_in != (open > 0);
+        without.push(if is_pair { ' ' } else { char })?;
     }
-    Ok(rest)
+    Ok(without)
 }
 
-/// Fails where the tree of this text is printed in the position and isn't read back, or is read back too without one of the
-/// pairs of parentheses.
+/// Fails where the tree of a text isn't well-formed, isn't read back from what is printed of it in a position, or is read back
+/// from that without one of its pairs of parentheses.
 fn check(alloc: Global, position: Position, text: &str) -> Result<(), Fail> {
     let held = flat(alloc, text)?;
+    if !is_well_formed(&held.expr) {
+        return Err(Fail::new(format_args!("{text} is not well-formed")));
+    }
     let printed = printed(alloc, position, &held.expr)?;
     if !is_read_as(alloc, position, printed.as_str(), &held.expr)? {
-        return Err(Fail::new(format_args!("{text} is not read back from {printed}")));
+        return Err(Fail::new(format_args!("{text} is printed as {printed}, and not read back")));
     }
-    for (place, char) in printed.as_str().chars().enumerate() {
+    // Each pair was added: the tree has none, and none of its kinds is spelled with any.
+    for (number, char) in printed.as_str().chars().enumerate() {
         if char == '(' {
-            let rest = without_pair(alloc, printed.as_str(), place)?;
-            if is_read_as(alloc, position, rest.as_str(), &held.expr)? {
-                return Err(Fail::new(format_args!("{text} is read back from {rest} too, and not only from {printed}")));
+            let without = without_pair(alloc, printed.as_str(), number)?;
+            if is_read_as(alloc, position, without.as_str(), &held.expr)? {
+                return Err(Fail::new(format_args!(
+                    "{text} is printed as {printed}, and {without} is enough"
+                )));
             }
         }
     }
     Ok(())
 }
 
+/// Tries each tree in a position.
 fn check_all(alloc: Global, position: Position) -> Result<(), Fail> {
-    for texts in &trees(alloc)? {
+    for texts in &all_texts(alloc)? {
         for text in texts {
             check(alloc, position, text.as_str())?;
         }
@@ -187,18 +204,13 @@ fn check_all(alloc: Global, position: Position) -> Result<(), Fail> {
 }
 
 #[test]
-fn are_all_trees(rt: HostRuntime) -> Result<(), Fail> {
-    let trees = trees(rt.alloc())?;
-    assert_eq!(rt; trees.len(), NODES);
-    for (texts, count) in trees.iter().zip(COUNTS) {
-        assert_eq!(rt; texts.len(), count);
-    }
-    Ok(())
+fn plain(rt: HostRuntime) -> Result<(), Fail> {
+    check_all(rt.alloc(), Position::Plain)
 }
 
 #[test]
-fn plain(rt: HostRuntime) -> Result<(), Fail> {
-    check_all(rt.alloc(), Position::Plain)
+fn statements(rt: HostRuntime) -> Result<(), Fail> {
+    check_all(rt.alloc(), Position::Stmt)
 }
 
 #[test]
