@@ -26,8 +26,8 @@ const BETWEEN_TWO: [&str; 6] = ["=", "..", "||", "<", "+", "*"];
 /// How many nodes a tree has at most.
 const NODES: usize = 5;
 
-/// How many trees there are by the number of their nodes: of one the leaves; of more 5 for each tree of one node less, and
-/// 6 for each two trees that have together one node less.
+/// How many trees there are by the number of their nodes: of one the leaves; of more 5 for each tree of one node less,
+/// and 6 for each two trees that have one node less together.
 const COUNTS: [usize; NODES] = [3, 15, 129, 1185, 11919];
 
 /// The texts of the leaves.
@@ -66,7 +66,7 @@ fn push_between(
     Ok(())
 }
 
-/// The texts of the trees of one node more than those given: these are all that have fewer, by the number of their nodes.
+/// The texts of the trees of one node more than those given, which are all smaller ones by the number of their nodes.
 fn larger(alloc: Global, smaller: &[Vec<String>]) -> Result<Vec<String>, Error> {
     let mut texts = Vec::new(alloc);
     if let Some((last, front)) = smaller.split_last() {
@@ -168,8 +168,8 @@ fn without_pair(alloc: Global, text: &str, start: usize) -> Result<String, Error
     Ok(without)
 }
 
-/// Fails where the tree of a text isn't well-formed, isn't read back from what is printed of it in a position, or is read
-/// back from that without one of its pairs of parentheses.
+/// Fails where the tree of a text isn't well-formed, or isn't read back from what is printed of it in a position, or is
+/// also read back from that without one of its pairs of parentheses.
 fn check(alloc: Global, position: Position, text: &str) -> Result<(), Fail> {
     let held = flat(alloc, text)?;
     if !is_well_formed(&held.expr) {
