@@ -23,7 +23,8 @@ const AROUND_ONE: [(&str, &str); 5] = [
 /// What stands between two operands.
 const BETWEEN_TWO: [&str; 6] = ["=", "..", "||", "<", "+", "*"];
 
-/// How many nodes a tree has at most.
+/// How many nodes a tree has at most. The tests take seconds as they are built; `rt try --test`, which looks for bad
+/// accesses too, wants `--seconds 600` for this many, and no more than its own limit for one node less.
 const NODES: usize = 5;
 
 /// How many trees there are by the number of their nodes: of one the leaves; of more 5 for each tree of one node less,
