@@ -12,7 +12,8 @@ use syn_tokens::error::{ErrorKind, Result};
 /// Takes away all parentheses in an expression, those round it too, wherever an expression may stand: in its operands,
 /// in the guards of patterns, in the bodies of arms and closures. Blocks stay as they are, whose tokens are kept. The
 /// attributes that stood before parentheses come before those of the expression in them; before tokens that are kept
-/// they are the first of these tokens.
+/// they are the first of these tokens. This is said of expressions in which parentheses have outer attributes alone, as
+/// in all that are read.
 ///
 /// It means the same: an expression is printed with the parentheses that it needs, whether it has any or not
 /// (`print_expr`).
