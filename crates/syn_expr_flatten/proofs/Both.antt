@@ -9,7 +9,6 @@ use Rattle.syn_parts.specs.Pat.{PatTree}
 use Rattle.syn_lower.specs.View.{mapped, lifetimes_of, return_of, values, trails}
 use Rattle.syn_lower_leaves.specs.declared.attr.Attribute.{Attribute}
 use Rattle.syn_lower_lists.specs.declared.punctuated.Punctuated.{Punctuated}
-use Rattle.syn_tokens.specs.declared.token.Comma.{Comma}
 use Rattle.syn_grammar.specs.Tree as e
 use Rattle.syn_grammar.specs.Tree.{Tree, ClosureHead, lead, frame, kid, none}
 use Rattle.syn_expr_parts.specs.View.{label_of}
@@ -56,7 +55,7 @@ module _ {P : Type 0} (g : P → PatView) where
   inputs_flat (x ∷ xs) [] h = absurd h
 
 module _ {E P : Type 0} (f : E → Tree) (g : P → PatView) where
-  pub closure_behind : (ats : Option (Vec Attribute Global)) (x : ExprClosureOf E P) (v : Vec Attribute Global) (ps : Punctuated P Comma) (b : Box E Global)
+  pub closure_behind : (ats : Option (Vec Attribute Global)) (x : ExprClosureOf E P) (v : Vec Attribute Global) (ps : Punctuated P _) (b : Box E Global)
       → attrs_of v ≡ before ats ++ attrs_of x.attrs → ArePats g (values x.inputs) (values ps) → trails ps ≡ trails x.inputs → IsFlat (f x.body.value) (f b.value)
       → IsFlatBehind ats (expr_closure_of f g x) (expr_closure_of f g (record x { attrs = v; inputs = ps; body = b }))
   closure_behind ats x v ps b joined inputs same body =

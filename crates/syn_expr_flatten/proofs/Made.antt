@@ -7,7 +7,6 @@ use Rattle.std.specs.declared.alloc.Global.{Global}
 use Rattle.syn_lower.specs.View.{values, trails}
 use Rattle.syn_lower_leaves.specs.declared.attr.Attribute.{Attribute}
 use Rattle.syn_lower_lists.specs.declared.punctuated.Punctuated.{Punctuated}
-use Rattle.syn_tokens.specs.declared.token.Comma.{Comma}
 use Rattle.syn_grammar.specs.Tree.{Tree}
 use Rattle.syn_parts.specs.Pat.{PatTree}
 use Rattle.syn_pat_kinds.specs.View.{PatView, view_with}
@@ -36,40 +35,40 @@ pub guard_made : (x : PatGuard) (p : Box Pat Global) (b : Box Expr Global)
     → IsFlatPat (pat_of (out-PatGuard x).pat.value) (pat_of p.value) → IsFlat (tree_of (out-PatGuard x).guard.value) (tree_of b.value)
     → IsFlatPat (guard_of x) (guard_of (roll-PatGuard (record (out-PatGuard x) { pat = p; guard = b })))
 guard_made x p b pat guard =
-    related IsFlatPat (guard-is x) (guard-is _ ∙ ap (guard_layer views) (out-roll-PatGuard _)) (guard_flat tree_of pat_of (guard_parts (out-PatGuard x)) p b pat guard)
+    related IsFlatPat (guard-is x) (guard-is _ ∙ ap (guard_layer views) (out-roll-PatGuard (record (out-PatGuard x) { pat = p; guard = b }))) (guard_flat tree_of pat_of (guard_parts (out-PatGuard x)) p b pat guard)
 
 pub arm_made : (x : Arm) (p : Pat) (b : Box Expr Global) → IsFlatPat (pat_of (out-Arm x).pat) (pat_of p) → IsFlat (tree_of (out-Arm x).body.value) (tree_of b.value)
     → IsFlatArm (arm_of x) (arm_of (roll-Arm (record (out-Arm x) { pat = p; body = b })))
 arm_made x p b pat body =
-    related IsFlatArm (arm-is x) (arm-is _ ∙ ap (arm_layer views) (out-roll-Arm _)) (arm_flat tree_of pat_of (arm_parts (out-Arm x)) p b pat body)
+    related IsFlatArm (arm-is x) (arm-is _ ∙ ap (arm_layer views) (out-roll-Arm (record (out-Arm x) { pat = p; body = b }))) (arm_flat tree_of pat_of (arm_parts (out-Arm x)) p b pat body)
 
-pub closure_made : (ats : Option (Vec Attribute Global)) (x : ExprClosure) (v : Vec Attribute Global) (ps : Punctuated Pat Comma) (b : Box Expr Global)
+pub closure_made : (ats : Option (Vec Attribute Global)) (x : ExprClosure) (v : Vec Attribute Global) (ps : Punctuated Pat _) (b : Box Expr Global)
     → attrs_of v ≡ before ats ++ attrs_of (out-ExprClosure x).attrs → ArePats pat_of (values (out-ExprClosure x).inputs) (values ps) → trails ps ≡ trails (out-ExprClosure x).inputs
     → IsFlat (tree_of (out-ExprClosure x).body.value) (tree_of b.value)
     → IsFlatBehind ats (closure_of x) (closure_of (roll-ExprClosure (record (out-ExprClosure x) { attrs = v; inputs = ps; body = b })))
 closure_made ats x v ps b joined inputs same body =
-    related (IsFlatBehind ats) (closure-is x) (closure-is _ ∙ ap (closure_layer views) (out-roll-ExprClosure _))
+    related (IsFlatBehind ats) (closure-is x) (closure-is _ ∙ ap (closure_layer views) (out-roll-ExprClosure (record (out-ExprClosure x) { attrs = v; inputs = ps; body = b })))
     (closure_behind tree_of pat_of ats (closure_parts (out-ExprClosure x)) v ps b joined inputs same body)
 
 pub for_loop_made : (ats : Option (Vec Attribute Global)) (x : ExprForLoop) (v : Vec Attribute Global) (p : Box Pat Global) (b : Box Expr Global)
     → Joined ats (out-ExprForLoop x).attrs v → IsFlatPat (pat_of (out-ExprForLoop x).pat.value) (pat_of p.value) → IsFlat (tree_of (out-ExprForLoop x).expr.value) (tree_of b.value)
     → IsFlatBehind ats (for_loop_of x) (for_loop_of (roll-ExprForLoop (record (out-ExprForLoop x) { attrs = v; pat = p; expr = b })))
 for_loop_made ats x v p b joined pat expr =
-    related (IsFlatBehind ats) (for_loop-is x) (for_loop-is _ ∙ ap (for_loop_layer views) (out-roll-ExprForLoop _))
+    related (IsFlatBehind ats) (for_loop-is x) (for_loop-is _ ∙ ap (for_loop_layer views) (out-roll-ExprForLoop (record (out-ExprForLoop x) { attrs = v; pat = p; expr = b })))
     (for_loop_behind tree_of pat_of ats (for_loop_parts (out-ExprForLoop x)) v p b joined pat expr)
 
 pub let_made : (ats : Option (Vec Attribute Global)) (x : ExprLet) (v : Vec Attribute Global) (p : Box Pat Global) (b : Box Expr Global)
     → attrs_of v ≡ before ats ++ attrs_of (out-ExprLet x).attrs → IsFlatPat (pat_of (out-ExprLet x).pat.value) (pat_of p.value) → IsFlat (tree_of (out-ExprLet x).expr.value) (tree_of b.value)
     → IsFlatBehind ats (binding_of x) (binding_of (roll-ExprLet (record (out-ExprLet x) { attrs = v; pat = p; expr = b })))
 let_made ats x v p b joined pat expr =
-    related (IsFlatBehind ats) (binding-is x) (binding-is _ ∙ ap (binding_layer views) (out-roll-ExprLet _))
+    related (IsFlatBehind ats) (binding-is x) (binding-is _ ∙ ap (binding_layer views) (out-roll-ExprLet (record (out-ExprLet x) { attrs = v; pat = p; expr = b })))
     (let_behind tree_of pat_of ats (binding_parts (out-ExprLet x)) v p b joined pat expr)
 
 pub match_made : (ats : Option (Vec Attribute Global)) (x : ExprMatch) (v : Vec Attribute Global) (b : Box Expr Global) (more : Vec Arm Global)
     → Joined ats (out-ExprMatch x).attrs v → IsFlat (tree_of (out-ExprMatch x).expr.value) (tree_of b.value) → Each (λ p q. IsFlatArm (arm_of p) (arm_of q)) (out-ExprMatch x).arms.items more.items
     → IsFlatBehind ats (choice_of x) (choice_of (roll-ExprMatch (record (out-ExprMatch x) { attrs = v; expr = b; arms = more })))
 match_made ats x v b more joined expr all =
-    related (IsFlatBehind ats) (choice-is x) (choice-is _ ∙ ap (choice_layer views) (out-roll-ExprMatch _))
+    related (IsFlatBehind ats) (choice-is x) (choice-is _ ∙ ap (choice_layer views) (out-roll-ExprMatch (record (out-ExprMatch x) { attrs = v; expr = b; arms = more })))
     (match_behind tree_of arm_of ats (choice_parts (out-ExprMatch x)) v b more joined expr all)
 
 -- ---- what an arm of the knot answers: x was matched, and y is left

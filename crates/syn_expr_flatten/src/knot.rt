@@ -1,4 +1,4 @@
-//! The knot of `syn_expr_flat`: expressions of all kinds and the patterns in them, without the parentheses of expressions.
+//! The knot of `syn_expr_flat`: expressions and patterns of all kinds, without the parentheses of expressions in them.
 
 ghost use Rattle.std.specs.Prelude.{IfOk};
 ghost use Rattle.syn_expr_all.specs.View.{pat_of, tree_of};

@@ -9,15 +9,16 @@ use syn_expr_all::expr::Expr;
 use syn_expr_all::held::HeldExpr;
 use syn_tokens::error::{ErrorKind, Result};
 
-/// Takes away all parentheses in an expression, those round it too, wherever an expression may stand: in its operands, in the
-/// guards of patterns, in the bodies of arms and closures. Blocks stay as they are, whose tokens are kept. The attributes that
-/// stood before parentheses come before those of the expression in them; before tokens that are kept they are the first of
-/// these tokens.
+/// Takes away all parentheses in an expression, those round it too, wherever an expression may stand: in its operands,
+/// in the guards of patterns, in the bodies of arms and closures. Blocks stay as they are, whose tokens are kept. The
+/// attributes that stood before parentheses come before those of the expression in them; before tokens that are kept
+/// they are the first of these tokens. This is said of expressions in which parentheses have outer attributes alone, as
+/// in all that are read.
 ///
-/// The tree that is left means the same: an expression is printed with the parentheses that it needs, whether it has any or
-/// not (`print_expr`).
+/// It means the same: an expression is printed with the parentheses that it needs, whether it has any or not
+/// (`print_expr`).
 ///
-/// Memory may run out (`OutOfMemory`): nothing is then said of what is left in the expression's place, but that it is one.
+/// Memory may run out (`OutOfMemory`): of what is left in the place of the expression nothing is then said.
 pub fn flatten_in_place(expr: &mut Expr) -> Result<()>
     ensures tree { IfOk result (λ _. IsFlat (tree_of expr.old) (tree_of expr.new)) }
     ensures memory { IfErr result (λ e. e.kind ≡ ErrorKind.OutOfMemory) }
