@@ -8,10 +8,7 @@ use syn_expr_flat::operands::Flattened;
 
 /// Each element, as the function leaves it. Refused where the function refuses one.
 #[tactic(auto, using(syn_expr_flat::proofs::Upto::upto))]
-pub(crate) fn each<T: Drop, F: Fn(&mut T) -> Flattened<()>>(
-    xs: &mut Vec<T>,
-    flatten: F,
-) -> Flattened<()>
+pub(crate) fn each<T, F: Fn(&mut T) -> Flattened<()>>(xs: &mut Vec<T>, flatten: F) -> Flattened<()>
     requires { (x : T) → Contains xs.old.items x → Takes (F.pre flatten) x }
     ensures { IfOk result (λ _. Each (Leaves (F.post flatten)) xs.old.items xs.new.items) }
 {
