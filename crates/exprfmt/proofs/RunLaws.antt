@@ -11,6 +11,7 @@ use Rattle.std.proofs.KnownBytes.{Appends-trans}
 use Rattle.std.proofs.lemmas.Fmt.{decimal_digit}
 use Rattle.syn_tokens.specs.Input.{Gives}
 use Rattle.syn_tokens.specs.Lex.{Spells}
+use Rattle.syn_tokens.specs.Text.{text}
 use Rattle.syn_tokens.specs.Tok.{Tok}
 use Rattle.syn_tokens.specs.declared.error.Error.{Error}
 use Rattle.syn_tokens.specs.declared.error.ErrorKind.{ErrorKind}
@@ -22,10 +23,12 @@ use Rattle.syn_grammar.specs.Printed.{Position, context_of}
 use Rattle.syn_grammar.specs.Rule as rule
 use Rattle.syn_grammar.specs.Stands.{Stands}
 use Rattle.syn_grammar.specs.Tree.{Tree, own_tokens}
+use Rattle.syn_expr_flat.specs.Flat.{IsFlat}
+use Rattle.syn_expr_flat.proofs.OuterParens.{stands_outer}
 use Rattle.syn_expr_all.specs.declared.held.HeldExpr.{HeldExpr}
 use Rattle.syn_expr_all.specs.View.{tree_of}
 use Rattle.syn_expr.specs.Promises.{Puts, StandsBack, IsOwn, IsSparing, PrintedAs}
-use Rattle.exprfmt.specs.Run.{GainsFront, IsLine, StandsFor, NothingStands, AreLeft, Follows, Writer, Takes, Prints, Reports, Ran, line, printed, refused, foreign, failed, out_of_memory}
+use Rattle.exprfmt.specs.Run.{GainsFront, IsLine, StandsFor, NothingStands, meant, AreLeft, Follows, Writer, Takes, Prints, Reports, Ran, line, printed, refused, foreign, failed, out_of_memory}
 use Rattle.exprfmt.specs.FaultView.{outcome_of}
 use Rattle.exprfmt.specs.declared.run.Fault.{Fault}
 use Rattle.exprfmt.specs.declared.run.Fault.TheVariants.{Refused, NotUtf8, Failed}
@@ -99,7 +102,13 @@ read_refused cs ts (Ok x) one found = tt
 read_refused cs ts (Err e) one found =
     refused_by e.kind cs (λ t s. found t (subst (λ (m : List Tok). Stands plain m t []) (sym (one s.0 s.1)) s.2))
 
--- ---- what is printed
+-- ---- what is printed of it
+
+-- what is left of a tree that stands, without its parentheses
+pub bare_meant : (bare : Bool) (t u : Tree) → bare ≡ true → IsFlat t u → (cs : List ℕ) → StandsFor cs t → u ≡ meant bare t
+unfolding IsFlat
+bare_meant true t u e flat cs s = flat (stands_outer plain s.0 t [] s.2)
+bare_meant false t u e flat cs s = absurd cc
 
 alone : (Promised : List Tok → Type 0) (old new : List Tok) → old ≡ [] → Puts old new Promised → Promised new
 alone Promised old new e (ts, put, kept) = subst Promised (sym (put ∙ ap (λ (l : List Tok). l ++ ts) e)) kept
@@ -115,6 +124,10 @@ printed_as s t c old new e is text back own sparing =
       own = λ p. alone (IsOwn t) old new e (own (is ∙ ap context_of p));
       sparing = alone (IsSparing s t) old new e (sparing s is);
     }
+
+pub line_is : (s : Position) (bare : Bool) (cs : List ℕ) (t u : Tree) (ts : List Tok) (bytes : List ℕ) → StandsFor cs t → ((ds : List ℕ) → StandsFor ds t → u ≡ meant bare t)
+    → PrintedAs s u ts → bytes ≡ text ts ++ 10 ∷ [] → IsLine s bare cs bytes
+line_is s bare cs t u ts bytes stands same is written = (ts, (t, stands, subst (λ (v : Tree). PrintedAs s v ts) (same cs stands) is), written)
 
 -- ---- what is reported
 
@@ -135,12 +148,12 @@ reports_memory f e errors is wrote = subst (λ (h : Fault). Reports (outcome_of 
 
 -- ---- how a run ends
 
-pub reported : (s : Position) (left : Option (List ℕ)) (bytes : List ℕ) (unread : Bool) (f : Fault) (output errors : Writer) → AreLeft left bytes → Follows s bytes unread (outcome_of f)
-    → output.after ≡ output.before → Reports (outcome_of f) errors → Ran s left unread 1 output errors
-reported s left bytes unread (Refused e) output errors a h k (inl w) = (bytes, refused e, a, h, (refl, k, w))
-reported s left bytes unread (Refused e) output errors a h k (inr w) = (bytes, out_of_memory, a, inl refl, (refl, k, w))
-reported s left bytes unread NotUtf8 output errors a h k w = (bytes, foreign, a, h, (refl, k, w))
-reported s left bytes unread Failed output errors a h k w = (bytes, failed, a, h, (refl, k, w))
+pub reported : (s : Position) (bare : Bool) (left : Option (List ℕ)) (bytes : List ℕ) (unread : Bool) (f : Fault) (output errors : Writer) → AreLeft left bytes
+    → Follows s bare bytes unread (outcome_of f) → output.after ≡ output.before → Reports (outcome_of f) errors → Ran s bare left unread 1 output errors
+reported s bare left bytes unread (Refused e) output errors a h k (inl w) = (bytes, refused e, a, h, (refl, k, w))
+reported s bare left bytes unread (Refused e) output errors a h k (inr w) = (bytes, out_of_memory, a, inl refl, (refl, k, w))
+reported s bare left bytes unread NotUtf8 output errors a h k w = (bytes, foreign, a, h, (refl, k, w))
+reported s bare left bytes unread Failed output errors a h k w = (bytes, failed, a, h, (refl, k, w))
 
 prints_whole : (b : Bool) (errors : Writer) → b ≡ false → errors.after ≡ errors.before → Prints b 0 errors
 prints_whole true errors h k = absurd cc
@@ -150,17 +163,17 @@ prints_front : (b : Bool) (errors : Writer) → b ≡ true → Takes errors (lin
 prints_front true errors h k = (refl, k)
 prints_front false errors h k = absurd cc
 
-printed_by : (s : Position) (left : Option (List ℕ)) (bytes text : List ℕ) (unread : Bool) (status : ℕ) (output errors : Writer) → AreLeft left bytes → IsUtf8 bytes → IsLine s (chars bytes) text
-    → Takes output text → Prints output.broke status errors → Ran s left unread status output errors
-printed_by s left bytes text unread status output errors a utf8 is wrote prints =
+printed_by : (s : Position) (bare : Bool) (left : Option (List ℕ)) (bytes text : List ℕ) (unread : Bool) (status : ℕ) (output errors : Writer) → AreLeft left bytes → IsUtf8 bytes
+    → IsLine s bare (chars bytes) text → Takes output text → Prints output.broke status errors → Ran s bare left unread status output errors
+printed_by s bare left bytes text unread status output errors a utf8 is wrote prints =
     (bytes, printed is.0, a, (utf8, is.1), (rw is.2 at wrote, prints))
 
-pub printed_whole : (s : Position) (left : Option (List ℕ)) (bytes text : List ℕ) (unread : Bool) (output errors : Writer) → AreLeft left bytes → IsUtf8 bytes → IsLine s (chars bytes) text
-    → Takes output text → output.broke ≡ false → errors.after ≡ errors.before → Ran s left unread 0 output errors
-printed_whole s left bytes text unread output errors a utf8 is wrote h k =
-    printed_by s left bytes text unread 0 output errors a utf8 is wrote (prints_whole output.broke errors h k)
+pub printed_whole : (s : Position) (bare : Bool) (left : Option (List ℕ)) (bytes text : List ℕ) (unread : Bool) (output errors : Writer) → AreLeft left bytes → IsUtf8 bytes
+    → IsLine s bare (chars bytes) text → Takes output text → output.broke ≡ false → errors.after ≡ errors.before → Ran s bare left unread 0 output errors
+printed_whole s bare left bytes text unread output errors a utf8 is wrote h k =
+    printed_by s bare left bytes text unread 0 output errors a utf8 is wrote (prints_whole output.broke errors h k)
 
-pub printed_front : (s : Position) (left : Option (List ℕ)) (bytes text : List ℕ) (unread : Bool) (output errors : Writer) → AreLeft left bytes → IsUtf8 bytes → IsLine s (chars bytes) text
-    → Takes output text → output.broke ≡ true → Takes errors (line failed) → Ran s left unread 1 output errors
-printed_front s left bytes text unread output errors a utf8 is wrote h k =
-    printed_by s left bytes text unread 1 output errors a utf8 is wrote (prints_front output.broke errors h k)
+pub printed_front : (s : Position) (bare : Bool) (left : Option (List ℕ)) (bytes text : List ℕ) (unread : Bool) (output errors : Writer) → AreLeft left bytes → IsUtf8 bytes
+    → IsLine s bare (chars bytes) text → Takes output text → output.broke ≡ true → Takes errors (line failed) → Ran s bare left unread 1 output errors
+printed_front s bare left bytes text unread output errors a utf8 is wrote h k =
+    printed_by s bare left bytes text unread 1 output errors a utf8 is wrote (prints_front output.broke errors h k)

@@ -11,7 +11,7 @@ use Rattle.syn_tokens.specs.ErrorText.{kind_text}
 use Rattle.syn_grammar.specs.Place.{plain}
 use Rattle.syn_grammar.specs.Printed.{Position}
 use Rattle.syn_grammar.specs.Stands.{Stands}
-use Rattle.syn_grammar.specs.Tree.{Tree}
+use Rattle.syn_grammar.specs.Tree.{Tree, flatten}
 use Rattle.syn_expr.specs.Promises.{PrintedAs}
 use Rattle.syn_expr.specs.declared.position.Position as code
 use Rattle.syn_expr.specs.declared.position.Position.TheVariants as named
@@ -22,6 +22,10 @@ word named.Plain = codes "plain"
 word named.Stmt = codes "stmt"
 word named.Cond = codes "cond"
 word named.Arm = codes "arm"
+
+-- the word behind it by which the parentheses that the expression has are taken away
+abbrev pub bare_word : List ℕ
+bare_word = codes "bare"
 
 -- how a run ends: with printed tokens, a refusal, an input that is no UTF-8, or a read that failed
 pub data Outcome : Type 0 where
@@ -46,25 +50,31 @@ usage = codes "usage: exprfmt plain|stmt|cond|arm [bare]" ++ 10 ∷ []
 abbrev pub StandsFor : List ℕ → Tree → Type 0
 StandsFor cs t = (l : List Tok) × Spells cs l × Stands plain l t []
 
--- some tree stands for the text, and these are its tokens as they are promised of it where it is printed in the position
-abbrev pub IsPrinted : Position → List ℕ → List Tok → Type 0
-IsPrinted s cs ts = (t : Tree) × StandsFor cs t × PrintedAs s t ts
+-- the tree that is printed of one: where `bare` was asked, the same without its parentheses
+abbrev pub meant : Bool → Tree → Tree
+meant false t = t
+meant true t = flatten t
+
+-- Some tree stands for the text, and these are the tokens that are promised of it, or of it without its parentheses, where
+-- it is printed in the position.
+abbrev pub IsPrinted : Position → Bool → List ℕ → List Tok → Type 0
+IsPrinted s bare cs ts = (t : Tree) × StandsFor cs t × PrintedAs s (meant bare t) ts
 
 -- the text is cut into no tokens, or no tree stands for the whole of them
 abbrev pub NothingStands : List ℕ → Type 0
 NothingStands cs = (t : Tree) → StandsFor cs t → ⊥
 
 -- the line of the printed expression
-abbrev pub IsLine : Position → List ℕ → List ℕ → Type 0
-IsLine s cs bytes = (ts : List Tok) × IsPrinted s cs ts × (bytes ≡ text ts ++ 10 ∷ [])
+abbrev pub IsLine : Position → Bool → List ℕ → List ℕ → Type 0
+IsLine s bare cs bytes = (ts : List Tok) × IsPrinted s bare cs ts × (bytes ≡ text ts ++ 10 ∷ [])
 
 -- The outcome is that of the input, unless memory runs out or a read failed: the expression that stands for it is
 -- printed, and it is refused only where none does.
-abbrev pub Follows : Position → List ℕ → Bool → Outcome → Type 0
-Follows s bytes unread (printed ts) = IsUtf8 bytes × IsPrinted s (chars bytes) ts
-Follows s bytes unread (refused e) = (e.kind ≡ OutOfMemory) ⊎ (IsUtf8 bytes × NothingStands (chars bytes))
-Follows s bytes unread foreign = IsUtf8 bytes → ⊥
-Follows s bytes unread failed = unread ≡ true
+abbrev pub Follows : Position → Bool → List ℕ → Bool → Outcome → Type 0
+Follows s bare bytes unread (printed ts) = IsUtf8 bytes × IsPrinted s bare (chars bytes) ts
+Follows s bare bytes unread (refused e) = (e.kind ≡ OutOfMemory) ⊎ (IsUtf8 bytes × NothingStands (chars bytes))
+Follows s bare bytes unread foreign = IsUtf8 bytes → ⊥
+Follows s bare bytes unread failed = unread ≡ true
 
 -- ---- what is written, where the bytes that a writer holds are known
 
@@ -104,10 +114,11 @@ abbrev pub AreLeft : Option (List ℕ) → List ℕ → Type 0
 AreLeft None bytes = Unit {0}
 AreLeft (Some left) bytes = bytes ≡ left
 
--- A run for a position over a reader with these bytes left, of which a read failed or not: it had an outcome that follows from
--- them.
-abbrev pub Ran : Position → Option (List ℕ) → Bool → ℕ → Writer → Writer → Type 0
-Ran s left unread status output errors = (bytes : List ℕ) × (o : Outcome) × AreLeft left bytes × Follows s bytes unread o × Ends o status output errors
+-- A run for a position, `bare` or not, over a reader with these bytes left, of which a read failed or not: it had an outcome
+-- that follows from them.
+abbrev pub Ran : Position → Bool → Option (List ℕ) → Bool → ℕ → Writer → Writer → Type 0
+Ran s bare left unread status output errors =
+    (bytes : List ℕ) × (o : Outcome) × AreLeft left bytes × Follows s bare bytes unread o × Ends o status output errors
 
 -- ---- the report of an outcome: memory runs out where the line has no room
 

@@ -1,6 +1,7 @@
-//! `exprfmt plain|stmt|cond|arm`: reads the text of an expression from standard input and prints it for this position, as its
-//! tokens with the parentheses that they need there: by itself, as a statement, as a condition before a block, or as the body
-//! of a match arm.
+//! `exprfmt plain|stmt|cond|arm [bare]`: reads the text of an expression from standard input and prints it for this
+//! position, as its tokens with the parentheses that they need there: by itself, as a statement, as a condition before
+//! a block, or as the body of a match arm. With `bare` it first loses the parentheses that it has, so that those alone
+//! stand which it needs.
 //!
 //! Status 0: the printed line is on standard output. Status 1: the input was refused, or reading or writing failed;
 //! one line on standard error says so. Status 2: the arguments are no words of the program; the usage stands on
@@ -9,10 +10,12 @@
 
 mod run;
 #[cfg(test)]
+mod tables;
+#[cfg(test)]
 mod tests;
 mod watched;
 
-use run::{named, run, usage};
+use run::{is_bare, named, run, usage};
 use std::env::Env;
 use std::process::ExitCode;
 use std::{env, io};
@@ -21,10 +24,11 @@ use watched::Watched;
 
 fn main(rt: HostRuntime) -> ExitCode {
     let mut errors = Watched::new(rt.stderr());
-    let status = match position_of(&rt) {
-        Some(position) => run(
+    let status = match asked(&rt) {
+        Some((position, bare)) => run(
             rt.alloc(),
             position,
+            bare,
             &mut Watched::new(rt.reader()),
             &mut Watched::new(io::writer(&rt)),
             &mut errors,
@@ -34,13 +38,18 @@ fn main(rt: HostRuntime) -> ExitCode {
     ExitCode::from(status)
 }
 
-/// The position that the one argument names.
-fn position_of(rt: &(impl Env + Alloc)) -> Option<Position> {
+/// What the arguments ask for: the position, and whether `bare` stands behind it.
+fn asked(rt: &(impl Env + Alloc)) -> Option<(Position, bool)> {
     let mut args = env::args(rt).ok()?;
     let _ = args.next()?;
-    let word = args.next()?;
+    let position = named(args.next()?.as_str())?;
+    let bare = match args.next() {
+        Some(word) if is_bare(word.as_str()) => true,
+        Some(_) => return None,
+        None => false,
+    };
     if args.next().is_some() {
         return None;
     }
-    named(word.as_str())
+    Some((position, bare))
 }

@@ -18,7 +18,7 @@ use std::io;
 use std::io::{Read, Write};
 use syn_expr::position::Position;
 use syn_expr::print::print_expr;
-use syn_expr::{Expr, HeldExpr};
+use syn_expr::{Expr, HeldExpr, flatten_in_place};
 use syn_tokens::error::{Error, ErrorKind, Result};
 use syn_tokens::lexer::lex;
 use syn_tokens::span::Span;
@@ -38,6 +38,14 @@ pub fn named(name: &str) -> Option<Position>
         "arm" => Some(Position::Arm),
         _ => None,
     }
+}
+
+/// Whether this is the word by which parentheses are taken away.
+pub fn is_bare(word: &str) -> bool
+    ensures known { word.now ≡ spec.bare_word → result ≡ true }
+    ensures word { result ≡ true → word.now ≡ spec.bare_word }
+{
+    word == "bare"
 }
 
 /// Why nothing was printed.
@@ -68,6 +76,17 @@ fn read(alloc: Global, text: &str) -> Result<HeldExpr>
     parse2::<HeldExpr>(tokens)
 }
 
+/// Makes of an expression that was read what is printed of it: with `bare` it loses its parentheses.
+fn prepare(bare: bool, expr: &mut Expr) -> Result<()>
+    ensures tree { IfOk result (λ _. (cs : List ℕ) → spec.StandsFor cs (tree_of expr.old) → tree_of expr.new ≡ spec.meant bare (tree_of expr.old)) }
+    ensures refused { IfErr result (λ e. e.kind ≡ ErrorKind.OutOfMemory) }
+{
+    if bare {
+        flatten_in_place(expr)?;
+    }
+    Ok(())
+}
+
 /// The tokens of the printed expression.
 fn printed(alloc: Global, position: Position, expr: &Expr) -> Result<TokenStream>
     ensures value { IfOk result (λ ts. PrintedAs (position_of position) (tree_of expr.now) ts) }
@@ -81,14 +100,18 @@ fn printed(alloc: Global, position: Position, expr: &Expr) -> Result<TokenStream
 }
 
 /// The line for a text, with its newline.
-fn line_of_text(alloc: Global, position: Position, text: &str) -> Result<String>
-    ensures value { IfOk result (λ s. spec.IsLine (position_of position) (chars text.now) (string_bytes s)) }
+fn line_of_text(alloc: Global, position: Position, bare: bool, text: &str) -> Result<String>
+    ensures value { IfOk result (λ s. spec.IsLine (position_of position) bare (chars text.now) (string_bytes s)) }
     ensures refused { IfErr result (λ e. (e.kind ≡ ErrorKind.OutOfMemory) ⊎ spec.NothingStands (chars text.now)) }
 {
-    let held = match read(alloc, text) {
+    let mut held = match read(alloc, text) {
         Ok(held) => held,
         Err(e) => return Err(e),
     };
+    match prepare(bare, &mut held.expr) {
+        Ok(()) => (),
+        Err(e) => return Err(e),
+    }
     let tokens = match printed(alloc, position, &held.expr) {
         Ok(tokens) => tokens,
         Err(e) => return Err(e),
@@ -104,15 +127,20 @@ fn line_of_text(alloc: Global, position: Position, text: &str) -> Result<String>
 }
 
 /// The line for an input.
-fn line_of(alloc: Global, position: Position, bytes: &[u8]) -> std::result::Result<String, Fault>
-    ensures value { IfOk result (λ s. IsUtf8 bytes.now × spec.IsLine (position_of position) (chars bytes.now) (string_bytes s)) }
-    ensures refused { IfErr result (λ f. spec.Follows (position_of position) bytes.now false (outcome_of f)) }
+fn line_of(
+    alloc: Global,
+    position: Position,
+    bare: bool,
+    bytes: &[u8],
+) -> std::result::Result<String, Fault>
+    ensures value { IfOk result (λ s. IsUtf8 bytes.now × spec.IsLine (position_of position) bare (chars bytes.now) (string_bytes s)) }
+    ensures refused { IfErr result (λ f. spec.Follows (position_of position) bare bytes.now false (outcome_of f)) }
 {
     let text = match str::from_utf8(bytes) {
         Ok(text) => text,
         Err(_) => return Err(Fault::NotUtf8),
     };
-    match line_of_text(alloc, position, text) {
+    match line_of_text(alloc, position, bare, text) {
         Ok(line) => Ok(line),
         Err(e) => Err(Fault::Refused(e)),
     }
@@ -120,7 +148,7 @@ fn line_of(alloc: Global, position: Position, bytes: &[u8]) -> std::result::Resu
 
 /// The fault of a read that failed.
 fn read_fault(e: &io::Error) -> Fault
-    ensures follows { (s : grammar.Position) (bytes : List ℕ) (unread : Bool) → unread ≡ true → spec.Follows s bytes unread (outcome_of result) }
+    ensures follows { (s : grammar.Position) (bare : Bool) (bytes : List ℕ) (unread : Bool) → unread ≡ true → spec.Follows s bare bytes unread (outcome_of result) }
     ensures memory { error_kind e.now ≡ OutOfMemory → outcome_of result ≡ spec.out_of_memory }
     ensures other { error_kind e.now ≢ OutOfMemory → outcome_of result ≡ spec.failed }
 {
@@ -135,14 +163,15 @@ fn read_fault(e: &io::Error) -> Fault
 fn line_of_rest<R: Read>(
     alloc: Global,
     position: Position,
+    bare: bool,
     input: &mut Watched<R>,
 ) -> std::result::Result<String, Fault>
-    ensures value { IfOk result (λ s. (bytes : List ℕ) × spec.AreLeft (R.remaining input.old.inner) bytes × IsUtf8 bytes × spec.IsLine (position_of position) (chars bytes) (string_bytes s)) }
-    ensures refused { IfErr result (λ f. (bytes : List ℕ) × spec.AreLeft (R.remaining input.old.inner) bytes × spec.Follows (position_of position) bytes input.new.failed (outcome_of f)) }
+    ensures value { IfOk result (λ s. (bytes : List ℕ) × spec.AreLeft (R.remaining input.old.inner) bytes × IsUtf8 bytes × spec.IsLine (position_of position) bare (chars bytes) (string_bytes s)) }
+    ensures refused { IfErr result (λ f. (bytes : List ℕ) × spec.AreLeft (R.remaining input.old.inner) bytes × spec.Follows (position_of position) bare bytes input.new.failed (outcome_of f)) }
 {
     let mut bytes = Vec::new(alloc);
     match input.read_to_end(&mut bytes) {
-        Ok(()) => line_of(alloc, position, bytes.as_slice()),
+        Ok(()) => line_of(alloc, position, bare, bytes.as_slice()),
         Err(e) => Err(read_fault(&e)),
     }
 }
@@ -169,20 +198,22 @@ fn report<E: Write>(errors: &mut Watched<E>, fault: Fault)
     };
 }
 
-/// Reads the input to its end, and writes the expression, printed for the position, and a newline to `output`, or one line to `errors`
-/// that says why not: where the lexer or the reader refused the text, that it is no UTF-8, or that a read or a write
-/// failed. The result is the status: 0 where the expression was printed, else 1. Where a write fails, `output` has
-/// gained a front of its line, and nothing else; and so has `errors`.
+/// Reads the input to its end, and writes the expression, with `bare` without the parentheses that it has, printed for
+/// the position, and a newline to `output`, or one line to `errors` that says why not: where the lexer or the reader
+/// refused the text or memory ran out, that it is no UTF-8, or that a read or a write failed. The result is the status:
+/// 0 where the expression was printed, else 1. Where a write fails, `output` has gained a front of its line, and
+/// nothing else; and so has `errors`.
 pub fn run<R: Read, W: Write, E: Write>(
     alloc: Global,
     position: Position,
+    bare: bool,
     input: &mut Watched<R>,
     output: &mut Watched<W>,
     errors: &mut Watched<E>,
 ) -> u8
-    ensures { spec.Ran (position_of position) (R.remaining input.old.inner) input.new.failed result (spec.writer (W.contents output.old.inner) output.new.failed (W.contents output.new.inner)) (spec.writer (E.contents errors.old.inner) errors.new.failed (E.contents errors.new.inner)) }
+    ensures { spec.Ran (position_of position) bare (R.remaining input.old.inner) input.new.failed result (spec.writer (W.contents output.old.inner) output.new.failed (W.contents output.new.inner)) (spec.writer (E.contents errors.old.inner) errors.new.failed (E.contents errors.new.inner)) }
 {
-    let line = match line_of_rest(alloc, position, input) {
+    let line = match line_of_rest(alloc, position, bare, input) {
         Ok(line) => line,
         Err(fault) => {
             report(errors, fault);

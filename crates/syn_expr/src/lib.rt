@@ -92,6 +92,8 @@ pub use syn_expr_all::parse_field_value;
 pub use syn_expr_all::pat;
 pub use syn_expr_fixup::FixupContext;
 pub use syn_expr_fixup::fixup;
+pub use syn_expr_flatten::flatten;
+pub use syn_expr_flatten::flatten_in_place;
 pub use syn_expr_queries::classify;
 pub use syn_expr_queries::expr_leading_label;
 pub use syn_expr_queries::expr_trailing_brace;

@@ -168,7 +168,7 @@ fn collect_arms<E: HasArms + HasKind>(
 /// for them.
 #[cycle(collect)]
 #[tactic(auto, using(crate::proofs::Lists::lists, crate::proofs::Nodes::based))]
-fn collect_operands<E: HasArms + HasKind>(
+pub fn collect_operands<E: HasArms + HasKind>(
     notes: &mut Vec<Note>,
     visits: &mut u64,
     operands: Operands<'_, E, E::Arm>,

@@ -12,7 +12,7 @@ use syn_expr_kinds::atom::{ExprArrayOf, ExprGroupOf, ExprRepeatOf, ExprTupleOf};
 use syn_expr_kinds::kinds::HasExprTree;
 
 /// It without the parentheses in it, behind more attributes.
-pub fn array<E: HasExprTree + Drop, F: Fn(&mut E) -> Flattened<()>>(
+pub fn array<E: HasExprTree, F: Fn(&mut E) -> Flattened<()>>(
     x: &mut ExprArrayOf<E>,
     attrs: Before,
     flatten: F,
@@ -28,7 +28,7 @@ pub fn array<E: HasExprTree + Drop, F: Fn(&mut E) -> Flattened<()>>(
 }
 
 /// It without the parentheses in it, behind more attributes.
-pub fn group<E: HasExprTree + Drop, F: Fn(&mut E) -> Flattened<()>>(
+pub fn group<E: HasExprTree, F: Fn(&mut E) -> Flattened<()>>(
     x: &mut ExprGroupOf<E>,
     attrs: Before,
     flatten: F,
@@ -43,7 +43,7 @@ pub fn group<E: HasExprTree + Drop, F: Fn(&mut E) -> Flattened<()>>(
 }
 
 /// It without the parentheses in it, behind more attributes.
-pub fn repeat<E: HasExprTree + Drop, F: Fn(&mut E) -> Flattened<()>>(
+pub fn repeat<E: HasExprTree, F: Fn(&mut E) -> Flattened<()>>(
     x: &mut ExprRepeatOf<E>,
     attrs: Before,
     flatten: F,
@@ -60,7 +60,7 @@ pub fn repeat<E: HasExprTree + Drop, F: Fn(&mut E) -> Flattened<()>>(
 }
 
 /// It without the parentheses in it, behind more attributes.
-pub fn tuple<E: HasExprTree + Drop, F: Fn(&mut E) -> Flattened<()>>(
+pub fn tuple<E: HasExprTree, F: Fn(&mut E) -> Flattened<()>>(
     x: &mut ExprTupleOf<E>,
     attrs: Before,
     flatten: F,

@@ -14,7 +14,7 @@ use syn_tokens::token::Else;
 
 /// What stands behind `else`, without the parentheses in it.
 #[tactic(auto, using(crate::proofs::Kids::kids, crate::proofs::Calls::flat_by))]
-fn else_branch<E: HasExprTree + Drop, F: Fn(&mut E) -> Flattened<()>>(
+fn else_branch<E: HasExprTree, F: Fn(&mut E) -> Flattened<()>>(
     x: &mut Option<(Else, Box<E>)>,
     flatten: F,
 ) -> Flattened<()>
@@ -32,7 +32,7 @@ fn else_branch<E: HasExprTree + Drop, F: Fn(&mut E) -> Flattened<()>>(
 }
 
 /// It without the parentheses in it, behind more attributes.
-pub fn if_expr<E: HasExprTree + Drop, F: Fn(&mut E) -> Flattened<()>>(
+pub fn if_expr<E: HasExprTree, F: Fn(&mut E) -> Flattened<()>>(
     x: &mut ExprIfOf<E>,
     attrs: Before,
     flatten: F,
@@ -49,7 +49,7 @@ pub fn if_expr<E: HasExprTree + Drop, F: Fn(&mut E) -> Flattened<()>>(
 }
 
 /// It without the parentheses in it, behind more attributes.
-pub fn while_expr<E: HasExprTree + Drop, F: Fn(&mut E) -> Flattened<()>>(
+pub fn while_expr<E: HasExprTree, F: Fn(&mut E) -> Flattened<()>>(
     x: &mut ExprWhileOf<E>,
     attrs: Before,
     flatten: F,

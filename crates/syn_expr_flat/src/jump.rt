@@ -12,7 +12,7 @@ use syn_expr_kinds::jump::{ExprBreakOf, ExprReturnOf, ExprYieldOf};
 use syn_expr_kinds::kinds::HasExprTree;
 
 /// It without the parentheses in it, behind more attributes.
-pub fn break_expr<E: HasExprTree + Drop, F: Fn(&mut E) -> Flattened<()>>(
+pub fn break_expr<E: HasExprTree, F: Fn(&mut E) -> Flattened<()>>(
     x: &mut ExprBreakOf<E>,
     attrs: Before,
     flatten: F,
@@ -27,7 +27,7 @@ pub fn break_expr<E: HasExprTree + Drop, F: Fn(&mut E) -> Flattened<()>>(
 }
 
 /// It without the parentheses in it, behind more attributes.
-pub fn return_expr<E: HasExprTree + Drop, F: Fn(&mut E) -> Flattened<()>>(
+pub fn return_expr<E: HasExprTree, F: Fn(&mut E) -> Flattened<()>>(
     x: &mut ExprReturnOf<E>,
     attrs: Before,
     flatten: F,
@@ -42,7 +42,7 @@ pub fn return_expr<E: HasExprTree + Drop, F: Fn(&mut E) -> Flattened<()>>(
 }
 
 /// It without the parentheses in it, behind more attributes.
-pub fn yield_expr<E: HasExprTree + Drop, F: Fn(&mut E) -> Flattened<()>>(
+pub fn yield_expr<E: HasExprTree, F: Fn(&mut E) -> Flattened<()>>(
     x: &mut ExprYieldOf<E>,
     attrs: Before,
     flatten: F,

@@ -13,7 +13,7 @@ use syn_lower::punctuated::Punctuated;
 pub type Flattened<T> = Result<T, AllocError>;
 
 /// One operand. Refused where the function refuses it.
-pub fn boxed<T: Drop, F: Fn(&mut T) -> Flattened<()>>(x: &mut Box<T>, flatten: F) -> Flattened<()>
+pub fn boxed<T, F: Fn(&mut T) -> Flattened<()>>(x: &mut Box<T>, flatten: F) -> Flattened<()>
     requires { Takes (F.pre flatten) x.old.value }
     ensures { IfOk result (λ _. Leaves (F.post flatten) x.old.value x.new.value) }
 {
@@ -23,7 +23,7 @@ pub fn boxed<T: Drop, F: Fn(&mut T) -> Flattened<()>>(x: &mut Box<T>, flatten: F
 
 /// An operand that may be there. Refused as `boxed` is.
 #[tactic(auto, using(crate::proofs::Each::each))]
-pub fn optional<T: Drop, F: Fn(&mut T) -> Flattened<()>>(
+pub fn optional<T, F: Fn(&mut T) -> Flattened<()>>(
     x: &mut Option<Box<T>>,
     flatten: F,
 ) -> Flattened<()>
@@ -41,10 +41,7 @@ pub fn optional<T: Drop, F: Fn(&mut T) -> Flattened<()>>(
 
 /// The values that puncts follow.
 #[tactic(auto, using(crate::proofs::Upto::upto))]
-fn pairs<T: Drop, P: Drop, F: Fn(&mut T) -> Flattened<()>>(
-    xs: &mut Vec<(T, P)>,
-    flatten: F,
-) -> Flattened<()>
+fn pairs<T, P, F: Fn(&mut T) -> Flattened<()>>(xs: &mut Vec<(T, P)>, flatten: F) -> Flattened<()>
     requires { (q : T × P) → Contains xs.old.items q → Takes (F.pre flatten) q.0 }
     ensures { IfOk result (λ _. Each (λ p q. Leaves (F.post flatten) p.0 q.0) xs.old.items xs.new.items) }
 {
@@ -55,7 +52,7 @@ fn pairs<T: Drop, P: Drop, F: Fn(&mut T) -> Flattened<()>>(
 }
 
 /// A list with puncts, which stay. Refused as `boxed` is.
-pub fn punctuated<T: Drop, P: Drop, F: Fn(&mut T) -> Flattened<()>>(
+pub fn punctuated<T, P, F: Fn(&mut T) -> Flattened<()>>(
     x: &mut Punctuated<T, P>,
     flatten: F,
 ) -> Flattened<()>

@@ -15,7 +15,7 @@ use syn_expr_kinds::operation::{
 };
 
 /// It without the parentheses in it, behind more attributes.
-pub fn assign<E: HasExprTree + Drop, F: Fn(&mut E) -> Flattened<()>>(
+pub fn assign<E: HasExprTree, F: Fn(&mut E) -> Flattened<()>>(
     x: &mut ExprAssignOf<E>,
     attrs: Before,
     flatten: F,
@@ -32,7 +32,7 @@ pub fn assign<E: HasExprTree + Drop, F: Fn(&mut E) -> Flattened<()>>(
 }
 
 /// It without the parentheses in it, behind more attributes.
-pub fn binary<E: HasExprTree + Drop, F: Fn(&mut E) -> Flattened<()>>(
+pub fn binary<E: HasExprTree, F: Fn(&mut E) -> Flattened<()>>(
     x: &mut ExprBinaryOf<E>,
     attrs: Before,
     flatten: F,
@@ -49,7 +49,7 @@ pub fn binary<E: HasExprTree + Drop, F: Fn(&mut E) -> Flattened<()>>(
 }
 
 /// It without the parentheses in it, behind more attributes.
-pub fn cast<E: HasExprTree + Drop, F: Fn(&mut E) -> Flattened<()>>(
+pub fn cast<E: HasExprTree, F: Fn(&mut E) -> Flattened<()>>(
     x: &mut ExprCastOf<E>,
     attrs: Before,
     flatten: F,
@@ -64,7 +64,7 @@ pub fn cast<E: HasExprTree + Drop, F: Fn(&mut E) -> Flattened<()>>(
 }
 
 /// It without the parentheses in it, behind more attributes.
-pub fn range<E: HasExprTree + Drop, F: Fn(&mut E) -> Flattened<()>>(
+pub fn range<E: HasExprTree, F: Fn(&mut E) -> Flattened<()>>(
     x: &mut ExprRangeOf<E>,
     attrs: Before,
     flatten: F,
@@ -81,7 +81,7 @@ pub fn range<E: HasExprTree + Drop, F: Fn(&mut E) -> Flattened<()>>(
 }
 
 /// It without the parentheses in it, behind more attributes.
-pub fn raw_addr<E: HasExprTree + Drop, F: Fn(&mut E) -> Flattened<()>>(
+pub fn raw_addr<E: HasExprTree, F: Fn(&mut E) -> Flattened<()>>(
     x: &mut ExprRawAddrOf<E>,
     attrs: Before,
     flatten: F,
@@ -96,7 +96,7 @@ pub fn raw_addr<E: HasExprTree + Drop, F: Fn(&mut E) -> Flattened<()>>(
 }
 
 /// It without the parentheses in it, behind more attributes.
-pub fn reference<E: HasExprTree + Drop, F: Fn(&mut E) -> Flattened<()>>(
+pub fn reference<E: HasExprTree, F: Fn(&mut E) -> Flattened<()>>(
     x: &mut ExprReferenceOf<E>,
     attrs: Before,
     flatten: F,
@@ -111,7 +111,7 @@ pub fn reference<E: HasExprTree + Drop, F: Fn(&mut E) -> Flattened<()>>(
 }
 
 /// It without the parentheses in it, behind more attributes.
-pub fn unary<E: HasExprTree + Drop, F: Fn(&mut E) -> Flattened<()>>(
+pub fn unary<E: HasExprTree, F: Fn(&mut E) -> Flattened<()>>(
     x: &mut ExprUnaryOf<E>,
     attrs: Before,
     flatten: F,

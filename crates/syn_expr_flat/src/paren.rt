@@ -14,7 +14,7 @@ use syn_expr_kinds::kinds::HasExprTree;
 /// What the parentheses hold, behind their attributes, and these behind more. It is left in its box, for the caller to put in the
 /// place of the parentheses. Refused where the function refuses it, or memory runs out.
 #[tactic(auto, using(crate::proofs::Nodes::parens))]
-pub fn unwrapped<E: HasExprTree + Drop, F: Fn(&mut E, Before) -> Flattened<()>>(
+pub fn unwrapped<E: HasExprTree, F: Fn(&mut E, Before) -> Flattened<()>>(
     x: &mut ExprParenOf<E>,
     attrs: Before,
     flatten: F,

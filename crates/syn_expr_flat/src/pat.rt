@@ -20,7 +20,7 @@ use syn_tokens::token::At;
 
 /// What stands behind `@`, without the parentheses in its guards.
 #[tactic(auto, using(crate::proofs::Each::each))]
-fn sub_pattern<P: HasPatTree + Drop, F: Fn(&mut P) -> Flattened<()>>(
+fn sub_pattern<P: HasPatTree, F: Fn(&mut P) -> Flattened<()>>(
     x: &mut Option<(At, Box<P>)>,
     flatten: F,
 ) -> Flattened<()>
@@ -39,7 +39,7 @@ fn sub_pattern<P: HasPatTree + Drop, F: Fn(&mut P) -> Flattened<()>>(
 }
 
 /// It without the parentheses in its guards.
-pub fn ident<P: HasPatTree + Drop, F: Fn(&mut P) -> Flattened<()>>(
+pub fn ident<P: HasPatTree, F: Fn(&mut P) -> Flattened<()>>(
     x: &mut PatIdentOf<P>,
     flatten: F,
 ) -> Flattened<()>
@@ -53,7 +53,7 @@ pub fn ident<P: HasPatTree + Drop, F: Fn(&mut P) -> Flattened<()>>(
 
 /// What a field is, without the parentheses in its guards.
 #[tactic(auto, using(crate::proofs::Each::each))]
-fn field_kind<P: HasPatTree + Drop, F: Fn(&mut P) -> Flattened<()>>(
+fn field_kind<P: HasPatTree, F: Fn(&mut P) -> Flattened<()>>(
     x: &mut FieldPatKindOf<P>,
     flatten: F,
 ) -> Flattened<()>
@@ -71,7 +71,7 @@ fn field_kind<P: HasPatTree + Drop, F: Fn(&mut P) -> Flattened<()>>(
 }
 
 /// It without the parentheses in its guards.
-pub fn struct_pat<P: HasPatTree + Drop, F: Fn(&mut P) -> Flattened<()>>(
+pub fn struct_pat<P: HasPatTree, F: Fn(&mut P) -> Flattened<()>>(
     x: &mut PatStructOf<P>,
     flatten: F,
 ) -> Flattened<()>
@@ -95,7 +95,7 @@ pub fn struct_pat<P: HasPatTree + Drop, F: Fn(&mut P) -> Flattened<()>>(
 }
 
 /// It without the parentheses in its guards.
-pub fn or<P: HasPatTree + Drop, F: Fn(&mut P) -> Flattened<()>>(
+pub fn or<P: HasPatTree, F: Fn(&mut P) -> Flattened<()>>(
     x: &mut PatOrOf<P>,
     flatten: F,
 ) -> Flattened<()>
@@ -109,7 +109,7 @@ pub fn or<P: HasPatTree + Drop, F: Fn(&mut P) -> Flattened<()>>(
 }
 
 /// It without the parentheses in its guards.
-pub fn paren<P: HasPatTree + Drop, F: Fn(&mut P) -> Flattened<()>>(
+pub fn paren<P: HasPatTree, F: Fn(&mut P) -> Flattened<()>>(
     x: &mut PatParenOf<P>,
     flatten: F,
 ) -> Flattened<()>
@@ -122,7 +122,7 @@ pub fn paren<P: HasPatTree + Drop, F: Fn(&mut P) -> Flattened<()>>(
 }
 
 /// It without the parentheses in its guards.
-pub fn reference<P: HasPatTree + Drop, F: Fn(&mut P) -> Flattened<()>>(
+pub fn reference<P: HasPatTree, F: Fn(&mut P) -> Flattened<()>>(
     x: &mut PatReferenceOf<P>,
     flatten: F,
 ) -> Flattened<()>
@@ -135,7 +135,7 @@ pub fn reference<P: HasPatTree + Drop, F: Fn(&mut P) -> Flattened<()>>(
 }
 
 /// It without the parentheses in its guards.
-pub fn slice<P: HasPatTree + Drop, F: Fn(&mut P) -> Flattened<()>>(
+pub fn slice<P: HasPatTree, F: Fn(&mut P) -> Flattened<()>>(
     x: &mut PatSliceOf<P>,
     flatten: F,
 ) -> Flattened<()>
@@ -149,7 +149,7 @@ pub fn slice<P: HasPatTree + Drop, F: Fn(&mut P) -> Flattened<()>>(
 }
 
 /// It without the parentheses in its guards.
-pub fn tuple<P: HasPatTree + Drop, F: Fn(&mut P) -> Flattened<()>>(
+pub fn tuple<P: HasPatTree, F: Fn(&mut P) -> Flattened<()>>(
     x: &mut PatTupleOf<P>,
     flatten: F,
 ) -> Flattened<()>
@@ -163,7 +163,7 @@ pub fn tuple<P: HasPatTree + Drop, F: Fn(&mut P) -> Flattened<()>>(
 }
 
 /// It without the parentheses in its guards.
-pub fn tuple_struct<P: HasPatTree + Drop, F: Fn(&mut P) -> Flattened<()>>(
+pub fn tuple_struct<P: HasPatTree, F: Fn(&mut P) -> Flattened<()>>(
     x: &mut PatTupleStructOf<P>,
     flatten: F,
 ) -> Flattened<()>
@@ -177,7 +177,7 @@ pub fn tuple_struct<P: HasPatTree + Drop, F: Fn(&mut P) -> Flattened<()>>(
 }
 
 /// It without the parentheses in its guards.
-pub fn typed<P: HasPatTree + Drop, F: Fn(&mut P) -> Flattened<()>>(
+pub fn typed<P: HasPatTree, F: Fn(&mut P) -> Flattened<()>>(
     x: &mut PatTypeOf<P>,
     flatten: F,
 ) -> Flattened<()>

@@ -12,7 +12,7 @@ use syn_expr_kinds::kinds::HasExprTree;
 use syn_expr_kinds::structure::{ExprStructOf, FieldValueOf};
 
 /// It without the parentheses in it, behind more attributes.
-pub fn struct_expr<E: HasExprTree + Drop, F: Fn(&mut E) -> Flattened<()>>(
+pub fn struct_expr<E: HasExprTree, F: Fn(&mut E) -> Flattened<()>>(
     x: &mut ExprStructOf<E>,
     attrs: Before,
     flatten: F,

@@ -14,7 +14,7 @@ use syn_expr_kinds::trailer::{
 };
 
 /// It without the parentheses in it, behind more attributes.
-pub fn await_expr<E: HasExprTree + Drop, F: Fn(&mut E) -> Flattened<()>>(
+pub fn await_expr<E: HasExprTree, F: Fn(&mut E) -> Flattened<()>>(
     x: &mut ExprAwaitOf<E>,
     attrs: Before,
     flatten: F,
@@ -29,7 +29,7 @@ pub fn await_expr<E: HasExprTree + Drop, F: Fn(&mut E) -> Flattened<()>>(
 }
 
 /// It without the parentheses in it, behind more attributes.
-pub fn call<E: HasExprTree + Drop, F: Fn(&mut E) -> Flattened<()>>(
+pub fn call<E: HasExprTree, F: Fn(&mut E) -> Flattened<()>>(
     x: &mut ExprCallOf<E>,
     attrs: Before,
     flatten: F,
@@ -47,7 +47,7 @@ pub fn call<E: HasExprTree + Drop, F: Fn(&mut E) -> Flattened<()>>(
 }
 
 /// It without the parentheses in it, behind more attributes.
-pub fn field<E: HasExprTree + Drop, F: Fn(&mut E) -> Flattened<()>>(
+pub fn field<E: HasExprTree, F: Fn(&mut E) -> Flattened<()>>(
     x: &mut ExprFieldOf<E>,
     attrs: Before,
     flatten: F,
@@ -62,7 +62,7 @@ pub fn field<E: HasExprTree + Drop, F: Fn(&mut E) -> Flattened<()>>(
 }
 
 /// It without the parentheses in it, behind more attributes.
-pub fn index<E: HasExprTree + Drop, F: Fn(&mut E) -> Flattened<()>>(
+pub fn index<E: HasExprTree, F: Fn(&mut E) -> Flattened<()>>(
     x: &mut ExprIndexOf<E>,
     attrs: Before,
     flatten: F,
@@ -79,7 +79,7 @@ pub fn index<E: HasExprTree + Drop, F: Fn(&mut E) -> Flattened<()>>(
 }
 
 /// It without the parentheses in it, behind more attributes.
-pub fn method_call<E: HasExprTree + Drop, F: Fn(&mut E) -> Flattened<()>>(
+pub fn method_call<E: HasExprTree, F: Fn(&mut E) -> Flattened<()>>(
     x: &mut ExprMethodCallOf<E>,
     attrs: Before,
     flatten: F,
@@ -97,7 +97,7 @@ pub fn method_call<E: HasExprTree + Drop, F: Fn(&mut E) -> Flattened<()>>(
 }
 
 /// It without the parentheses in it, behind more attributes.
-pub fn try_expr<E: HasExprTree + Drop, F: Fn(&mut E) -> Flattened<()>>(
+pub fn try_expr<E: HasExprTree, F: Fn(&mut E) -> Flattened<()>>(
     x: &mut ExprTryOf<E>,
     attrs: Before,
     flatten: F,

@@ -104,17 +104,17 @@ fn is_branch<E: HasShape>(x: &E) -> bool
 
 /// What is asked of a frame before its operands are printed.
 #[derive(Clone, Copy)]
-struct Asked {
+pub struct Asked {
     /// A delimiter encloses the operands.
-    is_enclosed: bool,
+    pub is_enclosed: bool,
     /// A comma is needed behind the last: behind the one of a tuple, and before the `..` that ends a struct expression.
-    needs_comma: bool,
+    pub needs_comma: bool,
     /// The braces round the arms of a `match`; of other nodes some that have no place.
-    brace: Brace,
+    pub brace: Brace,
 }
 
 /// What is asked of a frame, where there is one operand or not.
-fn round<P: HasPatTree>(frame: Frame<'_, P>, is_one: bool) -> Asked
+pub fn round<P: HasPatTree>(frame: Frame<'_, P>, is_one: bool) -> Asked
     ensures enclosed { result.is_enclosed ≡ is_some (enclosure (frame_of P.view frame.entry)) }
     ensures comma { result.needs_comma ≡ placed.needs_last (frame_of P.view frame.entry) is_one }
 {
@@ -177,7 +177,7 @@ fn is_one_field<E>(fields: &Punctuated<FieldValueOf<E>, Comma>, rest: &Option<Bo
 
 /// Whether there is one operand.
 #[tactic(auto, using(crate::proofs::Rounds::ones))]
-fn is_one<E, A>(operands: Operands<'_, E, A>) -> bool
+pub fn is_one<E, A>(operands: Operands<'_, E, A>) -> bool
     ensures { (tree : E → Tree) (arm : A → ArmView) → result ≡ e.is_one (operand_kids (operands_of tree arm operands.entry)) }
 {
     match operands {
@@ -363,10 +363,7 @@ where
 /// a trailer holds. `needs_comma`: one is needed behind the last; `brace`: those round the arms of a `match`.
 #[cycle(frame)]
 #[tactic(auto, using(syn_tokens::proofs::Fronts::fronts, crate::proofs::Stacks::takes, crate::proofs::Kids::kids, crate::proofs::Lents::based, crate::proofs::Choices::choices, crate::proofs::Turns::nils))]
-pub(crate) fn kids<
-    E: HasPrint + HasArms,
-    F: Fn(&mut TokenStream, &mut Notes, &E, Context) -> Grown,
->(
+pub fn kids<E: HasPrint + HasArms, F: Fn(&mut TokenStream, &mut Notes, &E, Context) -> Grown>(
     bare: &F,
     tokens: &mut TokenStream,
     notes: &mut Notes,

@@ -74,7 +74,7 @@ pub fn whole<E: HasPrint, F: Fn(&mut TokenStream, &mut Notes, &E, Context) -> Gr
 
 /// Prints the operand behind its lead, with which a node ends; `context` is that of the node.
 #[tactic(auto, using(syn_tokens::proofs::Fronts::fronts, crate::proofs::Stacks::takes))]
-pub(crate) fn behind_lead<E: HasPrint, F: Fn(&mut TokenStream, &mut Notes, &E, Context) -> Grown>(
+pub fn behind_lead<E: HasPrint, F: Fn(&mut TokenStream, &mut Notes, &E, Context) -> Grown>(
     bare: &F,
     tokens: &mut TokenStream,
     notes: &mut Notes,
@@ -97,7 +97,7 @@ pub(crate) fn behind_lead<E: HasPrint, F: Fn(&mut TokenStream, &mut Notes, &E, C
 
 /// Prints the operand on the left of an operator; `context` is that of the node.
 #[tactic(auto, using(syn_tokens::proofs::Fronts::fronts, crate::proofs::Stacks::takes))]
-pub(crate) fn left_of<E: HasPrint, F: Fn(&mut TokenStream, &mut Notes, &E, Context) -> Grown>(
+pub fn left_of<E: HasPrint, F: Fn(&mut TokenStream, &mut Notes, &E, Context) -> Grown>(
     bare: &F,
     tokens: &mut TokenStream,
     notes: &mut Notes,
@@ -120,7 +120,7 @@ pub(crate) fn left_of<E: HasPrint, F: Fn(&mut TokenStream, &mut Notes, &E, Conte
 
 /// Prints the operand on the right of an operator; `context` is that of the node.
 #[tactic(auto, using(syn_tokens::proofs::Fronts::fronts, crate::proofs::Stacks::takes))]
-pub(crate) fn right_of<E: HasPrint, F: Fn(&mut TokenStream, &mut Notes, &E, Context) -> Grown>(
+pub fn right_of<E: HasPrint, F: Fn(&mut TokenStream, &mut Notes, &E, Context) -> Grown>(
     bare: &F,
     tokens: &mut TokenStream,
     notes: &mut Notes,
@@ -143,7 +143,7 @@ pub(crate) fn right_of<E: HasPrint, F: Fn(&mut TokenStream, &mut Notes, &E, Cont
 
 /// Prints the base of a trailer; `context` is that of the node.
 #[tactic(auto, using(syn_tokens::proofs::Fronts::fronts, crate::proofs::Stacks::takes))]
-pub(crate) fn base_of<E: HasPrint, F: Fn(&mut TokenStream, &mut Notes, &E, Context) -> Grown>(
+pub fn base_of<E: HasPrint, F: Fn(&mut TokenStream, &mut Notes, &E, Context) -> Grown>(
     bare: &F,
     tokens: &mut TokenStream,
     notes: &mut Notes,

@@ -56,7 +56,7 @@ pub trait HasPrinter: HasPrint<Pat: PutPat> + HasArms<Arm: HasArmHead> {}
 
 /// Prints a node whose note was taken, without parentheses of its own, and all below it.
 #[tactic(auto, using(syn_tokens::proofs::Fronts::fronts))]
-fn node<E: HasPrinter>(
+pub fn node<E: HasPrinter>(
     tokens: &mut TokenStream,
     notes: &mut Notes,
     x: &E,

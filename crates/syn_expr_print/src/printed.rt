@@ -46,7 +46,7 @@ fn all_inner(attrs: &Vec<Attribute>) -> bool
 
 /// Whether attributes stand before a node.
 #[tactic(auto, using(crate::proofs::Adorned::outer), unfolding(syn_expr_kinds::specs::Attrs::attrs_of, syn_expr_kinds::specs::Attrs::outer_of))]
-fn is_adorned(attributes: Attributes<'_>) -> bool
+pub fn is_adorned(attributes: Attributes<'_>) -> bool
     ensures { result ≡ has_some (before_of attributes.entry) }
 {
     match attributes {
@@ -57,7 +57,7 @@ fn is_adorned(attributes: Attributes<'_>) -> bool
 }
 
 /// Whether it is an operation: attributes before one would be those of its first operand.
-fn is_operation(kind: NodeKind) -> bool
+pub fn is_operation(kind: NodeKind) -> bool
     ensures { result ≡ is_operation_kind kind }
 {
     match kind {

@@ -1,0 +1,11 @@
+//! An expression without the parentheses in it: `syn_expr_flat` over `Expr`, where the knot is tied.
+#![tactic(auto)]
+
+mod each;
+mod kept;
+mod knot;
+mod members;
+mod paren;
+mod whole;
+
+pub use whole::{flatten, flatten_in_place};

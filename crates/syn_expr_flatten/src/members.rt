@@ -1,0 +1,146 @@
+//! What holds both expressions and patterns, over what flattens each.
+
+ghost use Rattle.std.specs.Prelude.{Contains, IfOk};
+ghost use Rattle.std.specs.Option.{ForSome};
+ghost use Rattle.syn_expr_all.specs.View.{arm_of, binding_of, choice_of, closure_of, for_loop_of, guard_of, pat_of, tree_of};
+ghost use Rattle.syn_expr_all.specs.declared.closure.ExprClosure.{out-ExprClosure};
+ghost use Rattle.syn_expr_all.specs.declared.control.Arm.{Arm, out-Arm};
+ghost use Rattle.syn_expr_all.specs.declared.control.ExprForLoop.{out-ExprForLoop};
+ghost use Rattle.syn_expr_all.specs.declared.control.ExprLet.{out-ExprLet};
+ghost use Rattle.syn_expr_all.specs.declared.control.ExprMatch.{out-ExprMatch};
+ghost use Rattle.syn_expr_all.specs.declared.pat.PatGuard.{out-PatGuard};
+ghost use Rattle.syn_expr_flat.specs.Calls.{Takes};
+ghost use Rattle.syn_expr_flat.specs.Flat.{Flattens, IsFlatBehind};
+ghost use Rattle.syn_expr_flat.specs.Pats.{FlattensPat, IsFlatArm, IsFlatPat};
+
+use crate::each::each;
+use syn_expr_all::closure::ExprClosure;
+use syn_expr_all::control::{Arm, ExprForLoop, ExprLet, ExprMatch};
+use syn_expr_all::expr::Expr;
+use syn_expr_all::pat::{Pat, PatGuard};
+use syn_expr_flat::attrs::{Before, put_before};
+use syn_expr_flat::operands::{Flattened, boxed, punctuated};
+
+/// A pattern with a guard, without the parentheses in it.
+pub(crate) fn guarded<F: Fn(&mut Expr) -> Flattened<()>, G: Fn(&mut Pat) -> Flattened<()>>(
+    x: &mut PatGuard,
+    flatten: F,
+    pattern: G,
+) -> Flattened<()>
+    requires pat { Takes (G.pre pattern) (out-PatGuard x.old).pat.value }
+    requires guard { Takes (F.pre flatten) (out-PatGuard x.old).guard.value }
+    requires pats { FlattensPat pat_of (G.post pattern) }
+    requires gives { Flattens tree_of (F.post flatten) }
+    ensures { IfOk result (λ _. IsFlatPat (guard_of x.old) (guard_of x.new)) }
+{
+    boxed(&mut x.pat, pattern)?;
+    boxed(&mut x.guard, flatten)?;
+    Ok(())
+}
+
+/// It without the parentheses in it, behind more attributes.
+pub(crate) fn closure<F: Fn(&mut Expr) -> Flattened<()>, G: Fn(&mut Pat) -> Flattened<()>>(
+    x: &mut ExprClosure,
+    attrs: Before,
+    flatten: F,
+    pattern: G,
+) -> Flattened<()>
+    requires inputs { (q : _) → Contains (out-ExprClosure x.old).inputs.inner.items q → Takes (G.pre pattern) q.0 }
+    requires last { ForSome (out-ExprClosure x.old).inputs.last (λ b. Takes (G.pre pattern) b.value) }
+    requires body { Takes (F.pre flatten) (out-ExprClosure x.old).body.value }
+    requires pats { FlattensPat pat_of (G.post pattern) }
+    requires gives { Flattens tree_of (F.post flatten) }
+    ensures { IfOk result (λ _. IsFlatBehind attrs (closure_of x.old) (closure_of x.new)) }
+{
+    put_before(attrs, &mut x.attrs)?;
+    punctuated(&mut x.inputs, pattern)?;
+    boxed(&mut x.body, flatten)?;
+    Ok(())
+}
+
+/// It without the parentheses in it, behind more attributes.
+pub(crate) fn for_loop<F: Fn(&mut Expr) -> Flattened<()>, G: Fn(&mut Pat) -> Flattened<()>>(
+    x: &mut ExprForLoop,
+    attrs: Before,
+    flatten: F,
+    pattern: G,
+) -> Flattened<()>
+    requires pat { Takes (G.pre pattern) (out-ExprForLoop x.old).pat.value }
+    requires expr { Takes (F.pre flatten) (out-ExprForLoop x.old).expr.value }
+    requires pats { FlattensPat pat_of (G.post pattern) }
+    requires gives { Flattens tree_of (F.post flatten) }
+    ensures { IfOk result (λ _. IsFlatBehind attrs (for_loop_of x.old) (for_loop_of x.new)) }
+{
+    put_before(attrs, &mut x.attrs)?;
+    boxed(&mut x.pat, pattern)?;
+    boxed(&mut x.expr, flatten)?;
+    Ok(())
+}
+
+/// It without the parentheses in it, behind more attributes.
+pub(crate) fn let_expr<F: Fn(&mut Expr) -> Flattened<()>, G: Fn(&mut Pat) -> Flattened<()>>(
+    x: &mut ExprLet,
+    attrs: Before,
+    flatten: F,
+    pattern: G,
+) -> Flattened<()>
+    requires pat { Takes (G.pre pattern) (out-ExprLet x.old).pat.value }
+    requires expr { Takes (F.pre flatten) (out-ExprLet x.old).expr.value }
+    requires pats { FlattensPat pat_of (G.post pattern) }
+    requires gives { Flattens tree_of (F.post flatten) }
+    ensures { IfOk result (λ _. IsFlatBehind attrs (binding_of x.old) (binding_of x.new)) }
+{
+    put_before(attrs, &mut x.attrs)?;
+    boxed(&mut x.pat, pattern)?;
+    boxed(&mut x.expr, flatten)?;
+    Ok(())
+}
+
+/// An arm without the parentheses in it.
+fn arm<F: Fn(&mut Expr) -> Flattened<()>, G: Fn(&mut Pat) -> Flattened<()>>(
+    one: &mut Arm,
+    flatten: F,
+    pattern: G,
+) -> Flattened<()>
+    requires pat { Takes (G.pre pattern) (out-Arm one.old).pat }
+    requires body { Takes (F.pre flatten) (out-Arm one.old).body.value }
+    requires pats { FlattensPat pat_of (G.post pattern) }
+    requires gives { Flattens tree_of (F.post flatten) }
+    ensures { IfOk result (λ _. IsFlatArm (arm_of one.old) (arm_of one.new)) }
+{
+    pattern(&mut one.pat)?;
+    boxed(&mut one.body, flatten)?;
+    Ok(())
+}
+
+/// It without the parentheses in it, behind more attributes.
+pub(crate) fn match_expr<F: Fn(&mut Expr) -> Flattened<()>, G: Fn(&mut Pat) -> Flattened<()>>(
+    x: &mut ExprMatch,
+    attrs: Before,
+    flatten: F,
+    pattern: G,
+) -> Flattened<()>
+    requires expr { Takes (F.pre flatten) (out-ExprMatch x.old).expr.value }
+    requires arms { (one : Arm) → Contains (out-ExprMatch x.old).arms.items one → Takes (G.pre pattern) (out-Arm one).pat }
+    requires bodies { (one : Arm) → Contains (out-ExprMatch x.old).arms.items one → Takes (F.pre flatten) (out-Arm one).body.value }
+    requires pats { FlattensPat pat_of (G.post pattern) }
+    requires gives { Flattens tree_of (F.post flatten) }
+    ensures { IfOk result (λ _. IsFlatBehind attrs (choice_of x.old) (choice_of x.new)) }
+{
+    put_before(attrs, &mut x.attrs)?;
+    boxed(&mut x.expr, &flatten)?;
+    each(
+        &mut x.arms,
+        |one: &mut Arm| -> Flattened<()>
+            requires pat { Takes (G.pre pattern) (out-Arm one.old).pat }
+            requires body { Takes (F.pre flatten) (out-Arm one.old).body.value }
+            requires pats { FlattensPat pat_of (G.post pattern) }
+            requires gives { Flattens tree_of (F.post flatten) }
+            ensures { IfOk result (λ _. IsFlatArm (arm_of one.old) (arm_of one.new)) }
+        {
+            arm(one, &flatten, &pattern)?;
+            Ok(())
+        },
+    )?;
+    Ok(())
+}

@@ -1,0 +1,39 @@
+//! Flattening as callers have it.
+
+ghost use Rattle.std.specs.Prelude.{◌≡◌, IfErr, IfOk};
+ghost use Rattle.syn_expr_all.specs.View.{tree_of};
+ghost use Rattle.syn_expr_flat.specs.Flat.{IsFlat};
+
+use crate::knot::operand;
+use syn_expr_all::expr::Expr;
+use syn_expr_all::held::HeldExpr;
+use syn_tokens::error::{ErrorKind, Result};
+
+/// Takes away all parentheses in an expression, those round it too, wherever an expression may stand: in its operands,
+/// in the guards of patterns, in the bodies of arms and closures. Blocks stay as they are, whose tokens are kept. The
+/// attributes that stood before parentheses come before those of the expression in them; before tokens that are kept
+/// they are the first of these tokens. This is said of expressions in which parentheses have outer attributes alone, as
+/// in all that are read.
+///
+/// It means the same: an expression is printed with the parentheses that it needs, whether it has any or not
+/// (`print_expr`).
+///
+/// Memory may run out (`OutOfMemory`): of what is left in the place of the expression nothing is then said.
+pub fn flatten_in_place(expr: &mut Expr) -> Result<()>
+    ensures tree { IfOk result (λ _. IsFlat (tree_of expr.old) (tree_of expr.new)) }
+    ensures memory { IfErr result (λ e. e.kind ≡ ErrorKind.OutOfMemory) }
+{
+    operand(expr)?;
+    Ok(())
+}
+
+/// The expression without parentheses: what `flatten_in_place` leaves of it. Where memory runs out (`OutOfMemory`) the
+/// expression is let go.
+pub fn flatten(expr: Expr) -> Result<Expr>
+    ensures tree { IfOk result (λ y. IsFlat (tree_of expr) (tree_of y)) }
+    ensures memory { IfErr result (λ e. e.kind ≡ ErrorKind.OutOfMemory) }
+{
+    let mut held = HeldExpr { expr };
+    flatten_in_place(&mut held.expr)?;
+    Ok(held.into_inner())
+}

@@ -1,0 +1,5 @@
+//! Tests of `syn_expr`, in a crate of their own: tests inside of a crate are proved together with it once more.
+#![tactic(auto)]
+
+#[cfg(test)]
+mod small;
