@@ -9,4 +9,4 @@ pub mod notes;
 
 pub use arm::HasArms;
 pub use edges::note_of;
-pub use notes::{collect, collect_operands};
+pub use notes::{collect, collect_arm, collect_field, collect_operands};

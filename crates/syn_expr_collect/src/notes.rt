@@ -57,7 +57,7 @@ fn collect_elements<E: HasArms + HasKind>(
 
 /// Notes the value of a field. One that isn't spelled is visited too, and its notes are taken away again.
 #[cycle(collect)]
-fn collect_field<E: HasArms + HasKind>(
+pub fn collect_field<E: HasArms + HasKind>(
     notes: &mut Vec<Note>,
     visits: &mut u64,
     field: &FieldValueOf<E>,
@@ -131,7 +131,7 @@ fn collect_rest<E: HasArms + HasKind>(
 
 /// Notes the body of an arm, and then its guard.
 #[cycle(collect)]
-fn collect_arm<E: HasArms + HasKind>(
+pub fn collect_arm<E: HasArms + HasKind>(
     notes: &mut Vec<Note>,
     visits: &mut u64,
     arm: &E::Arm,

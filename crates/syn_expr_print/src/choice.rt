@@ -111,7 +111,7 @@ fn body<E: HasPrint, F: Fn(&mut TokenStream, &mut Notes, &E, Context) -> Grown>(
 /// Prints an arm: its attributes, its pattern, the guard, the value, and a comma where there is one or one is needed, since
 /// `more` arms follow.
 #[tactic(auto, using(syn_tokens::proofs::Fronts::fronts, crate::proofs::Stacks::takes, crate::proofs::Choices::guards))]
-fn arm<E: HasPrint + HasArms, F: Fn(&mut TokenStream, &mut Notes, &E, Context) -> Grown>(
+pub fn arm<E: HasPrint + HasArms, F: Fn(&mut TokenStream, &mut Notes, &E, Context) -> Grown>(
     bare: &F,
     tokens: &mut TokenStream,
     notes: &mut Notes,

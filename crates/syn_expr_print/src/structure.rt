@@ -31,7 +31,7 @@ use syn_tokens::tree::TokenStream;
 
 /// Prints a field. Without a colon its value isn't spelled, and has no notes.
 #[tactic(auto, using(syn_tokens::proofs::Fronts::fronts, crate::proofs::Turns::turns), unfolding(crate::specs::Printing::field_spelled))]
-fn field<E: HasPrint, F: Fn(&mut TokenStream, &mut Notes, &E, Context) -> Grown>(
+pub fn field<E: HasPrint, F: Fn(&mut TokenStream, &mut Notes, &E, Context) -> Grown>(
     bare: &F,
     tokens: &mut TokenStream,
     notes: &mut Notes,
