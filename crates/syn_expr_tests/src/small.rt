@@ -100,7 +100,7 @@ fn no_tree_is_missing(rt: HostRuntime) -> Result<(), Fail> {
 }
 
 /// The expression of a text without its parentheses.
-fn flat(alloc: Global, text: &str) -> Result<HeldExpr, Error> {
+pub(crate) fn flat(alloc: Global, text: &str) -> Result<HeldExpr, Error> {
     let mut held = parse_str::<HeldExpr>(alloc, text)?;
     flatten_in_place(&mut held.expr)?;
     Ok(held)
@@ -123,23 +123,34 @@ fn behind(position: Position) -> &'static str {
     }
 }
 
-/// The expression that a text is read as in a position, without its parentheses. There is none where it is refused, or
-/// where something else is left than what stands behind an expression there.
-fn read_in(alloc: Global, position: Position, text: &str) -> Result<Option<HeldExpr>, Error> {
-    let behind = behind(position);
-    let tokens = lex(alloc, format!(in alloc; "{text} {behind}")?.as_str())?;
+/// The expression that a text is read as in a position, without its parentheses, and the text of what is left. There is
+/// none where it is refused.
+pub(crate) fn left_by(
+    alloc: Global,
+    position: Position,
+    text: &str,
+) -> Result<Option<(HeldExpr, String)>, Error> {
+    let tokens = lex(alloc, text)?;
     let mut input = ParseBuffer::new(&tokens)?;
     let mut held = match position.parse(&mut input) {
         Ok(expr) => HeldExpr { expr },
         Err(e) if e.kind == ErrorKind::OutOfMemory => return Err(e),
         Err(_) => return Ok(None),
     };
-    let left = to_text(&copy_trees(alloc, input.trees())?)?;
-    if left.as_str() != behind {
-        return Ok(None);
-    }
     flatten_in_place(&mut held.expr)?;
-    Ok(Some(held))
+    let left = to_text(&copy_trees(alloc, input.trees())?)?;
+    Ok(Some((held, left)))
+}
+
+/// The expression that a text is read as in a position, without its parentheses, before what may stand behind it there.
+/// There is none where it is refused, or where something else is left.
+fn read_in(alloc: Global, position: Position, text: &str) -> Result<Option<HeldExpr>, Error> {
+    let behind = behind(position);
+    let text = format!(in alloc; "{text} {behind}")?;
+    match left_by(alloc, position, text.as_str())? {
+        Some((held, left)) if left.as_str() == behind => Ok(Some(held)),
+        _ => Ok(None),
+    }
 }
 
 /// Whether a text is read in a position as this expression, which has no parentheses, up to those of the text.
