@@ -1,0 +1,162 @@
+//! Kinds that are closed at both ends: literals, paths, macros, and what stands in brackets or parentheses.
+#![tactic(auto, using(syn_tokens::proofs::Fronts::fronts, crate::proofs::Kinds::leaves, crate::proofs::Kinds::plain, crate::proofs::Kinds::closed))]
+
+use crate::ends::paren;
+use crate::frames::inside;
+use crate::kind::KindToTokens;
+use syn_expr_kinds::atom::{
+    ExprArrayOf, ExprGroupOf, ExprInfer, ExprLit, ExprMacro, ExprParenOf, ExprPath, ExprRepeatOf,
+    ExprTupleOf,
+};
+use syn_expr_kinds::node::{Attributes, Frame, Leaf, Operands};
+use syn_expr_print::frames::is_one;
+use syn_expr_print::print::HasPrinter;
+use syn_expr_put::attrs::put_attributes;
+use syn_expr_put::frame::put_framed;
+use syn_expr_put::leaf::put_leaf;
+use syn_tokens::error::Result;
+use syn_tokens::tree::TokenStream;
+
+impl<E: HasPrinter> KindToTokens for ExprArrayOf<E> {
+    ghost use Rattle.syn_expr_kinds.specs.View.{expr_array_of};
+    ghost use Rattle.syn_expr_print.specs.Printing.{whole};
+    ghost use Rattle.syn_grammar.specs.Next.{enclosed};
+
+    ghost own = { λ x. whole enclosed (expr_array_of E.tree x) };
+
+    /// Puts the elements in brackets, with their commas.
+    fn to_tokens(&self, tokens: &mut TokenStream) -> Result<()> {
+        put_attributes(tokens, Attributes::Before(&self.attrs))?;
+        let operands = Operands::Elements(&self.elems);
+        let inside = inside::<E>(tokens, operands, false)?;
+        put_framed::<E::Pat>(tokens, Frame::Array(&self.bracket_token), inside)?;
+        Ok(())
+    }
+}
+
+impl<E: HasPrinter> KindToTokens for ExprGroupOf<E> {
+    ghost use Rattle.syn_expr_kinds.specs.View.{expr_group_of};
+    ghost use Rattle.syn_expr_print.specs.Printing.{whole};
+    ghost use Rattle.syn_grammar.specs.Next.{enclosed};
+
+    ghost own = { λ x. whole enclosed (expr_group_of E.tree x) };
+
+    /// Puts an invisible group.
+    fn to_tokens(&self, tokens: &mut TokenStream) -> Result<()> {
+        put_attributes(tokens, Attributes::Before(&self.attrs))?;
+        let operands = Operands::Grouped(&self.expr);
+        let inside = inside::<E>(tokens, operands, false)?;
+        put_framed::<E::Pat>(tokens, Frame::Group(&self.group_token), inside)?;
+        Ok(())
+    }
+}
+
+impl KindToTokens for ExprInfer {
+    ghost use Rattle.syn_expr_kinds.specs.View.{expr_infer_of};
+    ghost use Rattle.syn_expr_print.specs.Printing.{whole};
+    ghost use Rattle.syn_grammar.specs.Next.{enclosed};
+
+    ghost own = { λ x. whole enclosed (expr_infer_of x) };
+
+    /// Puts `_`.
+    fn to_tokens(&self, tokens: &mut TokenStream) -> Result<()> {
+        put_attributes(tokens, Attributes::Before(&self.attrs))?;
+        put_leaf(tokens, Leaf::Infer(&self.underscore_token))?;
+        Ok(())
+    }
+}
+
+impl KindToTokens for ExprLit {
+    ghost use Rattle.syn_expr_kinds.specs.View.{expr_lit_of};
+    ghost use Rattle.syn_expr_print.specs.Printing.{whole};
+    ghost use Rattle.syn_grammar.specs.Next.{enclosed};
+
+    ghost own = { λ x. whole enclosed (expr_lit_of x) };
+
+    /// Puts a literal.
+    fn to_tokens(&self, tokens: &mut TokenStream) -> Result<()> {
+        put_attributes(tokens, Attributes::Before(&self.attrs))?;
+        put_leaf(tokens, Leaf::Lit(&self.lit))?;
+        Ok(())
+    }
+}
+
+impl KindToTokens for ExprMacro {
+    ghost use Rattle.syn_expr_kinds.specs.View.{expr_macro_of};
+    ghost use Rattle.syn_expr_print.specs.Printing.{whole};
+    ghost use Rattle.syn_grammar.specs.Next.{enclosed};
+
+    ghost own = { λ x. whole enclosed (expr_macro_of x) };
+
+    /// Puts the call of a macro.
+    fn to_tokens(&self, tokens: &mut TokenStream) -> Result<()> {
+        put_attributes(tokens, Attributes::Before(&self.attrs))?;
+        put_leaf(tokens, Leaf::Macro(&self.mac))?;
+        Ok(())
+    }
+}
+
+impl<E: HasPrinter> KindToTokens for ExprParenOf<E> {
+    ghost use Rattle.syn_expr_kinds.specs.View.{expr_paren_of};
+    ghost use Rattle.syn_expr_print.specs.Printing.{whole};
+    ghost use Rattle.syn_grammar.specs.Next.{enclosed};
+
+    ghost own = { λ x. whole enclosed (expr_paren_of E.tree x) };
+
+    /// Puts parentheses, with what they enclose.
+    fn to_tokens(&self, tokens: &mut TokenStream) -> Result<()> {
+        put_attributes(tokens, Attributes::Before(&self.attrs))?;
+        paren::<E>(tokens, &self.paren_token, &self.expr)?;
+        Ok(())
+    }
+}
+
+impl KindToTokens for ExprPath {
+    ghost use Rattle.syn_expr_kinds.specs.View.{expr_path_of};
+    ghost use Rattle.syn_expr_print.specs.Printing.{whole};
+    ghost use Rattle.syn_grammar.specs.Next.{enclosed};
+
+    ghost own = { λ x. whole enclosed (expr_path_of x) };
+
+    /// Puts a path, and the type that it is qualified by.
+    fn to_tokens(&self, tokens: &mut TokenStream) -> Result<()> {
+        put_attributes(tokens, Attributes::Before(&self.attrs))?;
+        put_leaf(tokens, Leaf::Path(&self.qself, &self.path))?;
+        Ok(())
+    }
+}
+
+impl<E: HasPrinter> KindToTokens for ExprRepeatOf<E> {
+    ghost use Rattle.syn_expr_kinds.specs.View.{expr_repeat_of};
+    ghost use Rattle.syn_expr_print.specs.Printing.{whole};
+    ghost use Rattle.syn_grammar.specs.Next.{enclosed};
+
+    ghost own = { λ x. whole enclosed (expr_repeat_of E.tree x) };
+
+    /// Puts a value, `;` and how often it is repeated, in brackets.
+    fn to_tokens(&self, tokens: &mut TokenStream) -> Result<()> {
+        put_attributes(tokens, Attributes::Before(&self.attrs))?;
+        let operands = Operands::Repeated(&self.expr, &self.semi_token, &self.len);
+        let inside = inside::<E>(tokens, operands, false)?;
+        put_framed::<E::Pat>(tokens, Frame::Repeat(&self.bracket_token), inside)?;
+        Ok(())
+    }
+}
+
+impl<E: HasPrinter> KindToTokens for ExprTupleOf<E> {
+    ghost use Rattle.syn_expr_kinds.specs.View.{expr_tuple_of};
+    ghost use Rattle.syn_expr_print.specs.Printing.{whole};
+    ghost use Rattle.syn_grammar.specs.Next.{enclosed};
+
+    ghost own = { λ x. whole enclosed (expr_tuple_of E.tree x) };
+
+    /// Puts the elements in parentheses, with their commas; behind one alone a comma always stands.
+    fn to_tokens(&self, tokens: &mut TokenStream) -> Result<()> {
+        put_attributes(tokens, Attributes::Before(&self.attrs))?;
+        let one = is_one::<E, E::Arm>(Operands::Elements(&self.elems));
+        let operands = Operands::Elements(&self.elems);
+        let inside = inside::<E>(tokens, operands, one)?;
+        put_framed::<E::Pat>(tokens, Frame::Tuple(&self.paren_token), inside)?;
+        Ok(())
+    }
+}
