@@ -1,5 +1,4 @@
 pub mod Enclosed
-pub mod Behind
+pub mod Adorning
 pub mod Shapes
-pub mod Kinds
 pub mod Parts

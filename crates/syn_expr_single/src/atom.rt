@@ -1,8 +1,8 @@
 //! Kinds that are closed at both ends: literals, paths, macros, and what stands in brackets or parentheses.
-#![tactic(auto, using(syn_tokens::proofs::Fronts::fronts, crate::proofs::Kinds::leaves, crate::proofs::Kinds::plain, crate::proofs::Kinds::closed))]
+#![tactic(auto, using(syn_tokens::proofs::Fronts::fronts))]
 
-use crate::ends::paren;
-use crate::frames::inside;
+use crate::ends;
+use crate::frames::closed;
 use crate::kind::KindToTokens;
 use syn_expr_kinds::atom::{
     ExprArrayOf, ExprGroupOf, ExprInfer, ExprLit, ExprMacro, ExprParenOf, ExprPath, ExprRepeatOf,
@@ -11,9 +11,6 @@ use syn_expr_kinds::atom::{
 use syn_expr_kinds::node::{Attributes, Frame, Leaf, Operands};
 use syn_expr_print::frames::is_one;
 use syn_expr_print::print::HasPrinter;
-use syn_expr_put::attrs::put_attributes;
-use syn_expr_put::frame::put_framed;
-use syn_expr_put::leaf::put_leaf;
 use syn_tokens::error::Result;
 use syn_tokens::tree::TokenStream;
 
@@ -26,10 +23,15 @@ impl<E: HasPrinter> KindToTokens for ExprArrayOf<E> {
 
     /// Puts the elements in brackets, with their commas.
     fn to_tokens(&self, tokens: &mut TokenStream) -> Result<()> {
-        put_attributes(tokens, Attributes::Before(&self.attrs))?;
+        let frame = Frame::Array(&self.bracket_token);
         let operands = Operands::Elements(&self.elems);
-        let inside = inside::<E>(tokens, operands, false)?;
-        put_framed::<E::Pat>(tokens, Frame::Array(&self.bracket_token), inside)?;
+        closed::<E, E::Pat>(
+            tokens,
+            Attributes::Before(&self.attrs),
+            frame,
+            operands,
+            false,
+        )?;
         Ok(())
     }
 }
@@ -43,10 +45,15 @@ impl<E: HasPrinter> KindToTokens for ExprGroupOf<E> {
 
     /// Puts an invisible group.
     fn to_tokens(&self, tokens: &mut TokenStream) -> Result<()> {
-        put_attributes(tokens, Attributes::Before(&self.attrs))?;
+        let frame = Frame::Group(&self.group_token);
         let operands = Operands::Grouped(&self.expr);
-        let inside = inside::<E>(tokens, operands, false)?;
-        put_framed::<E::Pat>(tokens, Frame::Group(&self.group_token), inside)?;
+        closed::<E, E::Pat>(
+            tokens,
+            Attributes::Before(&self.attrs),
+            frame,
+            operands,
+            false,
+        )?;
         Ok(())
     }
 }
@@ -60,8 +67,8 @@ impl KindToTokens for ExprInfer {
 
     /// Puts `_`.
     fn to_tokens(&self, tokens: &mut TokenStream) -> Result<()> {
-        put_attributes(tokens, Attributes::Before(&self.attrs))?;
-        put_leaf(tokens, Leaf::Infer(&self.underscore_token))?;
+        let leaf = Leaf::Infer(&self.underscore_token);
+        ends::leaf(tokens, Attributes::Before(&self.attrs), leaf)?;
         Ok(())
     }
 }
@@ -75,8 +82,8 @@ impl KindToTokens for ExprLit {
 
     /// Puts a literal.
     fn to_tokens(&self, tokens: &mut TokenStream) -> Result<()> {
-        put_attributes(tokens, Attributes::Before(&self.attrs))?;
-        put_leaf(tokens, Leaf::Lit(&self.lit))?;
+        let leaf = Leaf::Lit(&self.lit);
+        ends::leaf(tokens, Attributes::Before(&self.attrs), leaf)?;
         Ok(())
     }
 }
@@ -90,8 +97,8 @@ impl KindToTokens for ExprMacro {
 
     /// Puts the call of a macro.
     fn to_tokens(&self, tokens: &mut TokenStream) -> Result<()> {
-        put_attributes(tokens, Attributes::Before(&self.attrs))?;
-        put_leaf(tokens, Leaf::Macro(&self.mac))?;
+        let leaf = Leaf::Macro(&self.mac);
+        ends::leaf(tokens, Attributes::Before(&self.attrs), leaf)?;
         Ok(())
     }
 }
@@ -105,8 +112,8 @@ impl<E: HasPrinter> KindToTokens for ExprParenOf<E> {
 
     /// Puts parentheses, with what they enclose.
     fn to_tokens(&self, tokens: &mut TokenStream) -> Result<()> {
-        put_attributes(tokens, Attributes::Before(&self.attrs))?;
-        paren::<E>(tokens, &self.paren_token, &self.expr)?;
+        let attributes = Attributes::Before(&self.attrs);
+        ends::paren::<E>(tokens, attributes, &self.paren_token, &self.expr)?;
         Ok(())
     }
 }
@@ -120,8 +127,8 @@ impl KindToTokens for ExprPath {
 
     /// Puts a path, and the type that it is qualified by.
     fn to_tokens(&self, tokens: &mut TokenStream) -> Result<()> {
-        put_attributes(tokens, Attributes::Before(&self.attrs))?;
-        put_leaf(tokens, Leaf::Path(&self.qself, &self.path))?;
+        let leaf = Leaf::Path(&self.qself, &self.path);
+        ends::leaf(tokens, Attributes::Before(&self.attrs), leaf)?;
         Ok(())
     }
 }
@@ -135,10 +142,15 @@ impl<E: HasPrinter> KindToTokens for ExprRepeatOf<E> {
 
     /// Puts a value, `;` and how often it is repeated, in brackets.
     fn to_tokens(&self, tokens: &mut TokenStream) -> Result<()> {
-        put_attributes(tokens, Attributes::Before(&self.attrs))?;
+        let frame = Frame::Repeat(&self.bracket_token);
         let operands = Operands::Repeated(&self.expr, &self.semi_token, &self.len);
-        let inside = inside::<E>(tokens, operands, false)?;
-        put_framed::<E::Pat>(tokens, Frame::Repeat(&self.bracket_token), inside)?;
+        closed::<E, E::Pat>(
+            tokens,
+            Attributes::Before(&self.attrs),
+            frame,
+            operands,
+            false,
+        )?;
         Ok(())
     }
 }
@@ -152,11 +164,16 @@ impl<E: HasPrinter> KindToTokens for ExprTupleOf<E> {
 
     /// Puts the elements in parentheses, with their commas; behind one alone a comma always stands.
     fn to_tokens(&self, tokens: &mut TokenStream) -> Result<()> {
-        put_attributes(tokens, Attributes::Before(&self.attrs))?;
         let one = is_one::<E, E::Arm>(Operands::Elements(&self.elems));
+        let frame = Frame::Tuple(&self.paren_token);
         let operands = Operands::Elements(&self.elems);
-        let inside = inside::<E>(tokens, operands, one)?;
-        put_framed::<E::Pat>(tokens, Frame::Tuple(&self.paren_token), inside)?;
+        closed::<E, E::Pat>(
+            tokens,
+            Attributes::Before(&self.attrs),
+            frame,
+            operands,
+            one,
+        )?;
         Ok(())
     }
 }

@@ -20,7 +20,7 @@ use syn_tokens::tree::TokenStream;
 /// these the attributes would be those of its first operand (Rust Reference, "Expression attributes").
 ///
 /// Memory may run out; a part of the tokens may then follow what was there.
-#[tactic(auto, using(syn_tokens::proofs::Fronts::fronts, crate::proofs::Behind::operations))]
+#[tactic(auto, using(syn_tokens::proofs::Fronts::fronts, crate::proofs::Adorning::operations))]
 pub fn operation(tokens: &mut TokenStream, attrs: &Vec<Attribute>, printed: TokenStream) -> Grown
     ensures text { (t : Tree) → is_operation t ≡ true → printed ≡ spelled next.enclosed t → OnOk result (tokens.new ≡ tokens.old ++ whole next.enclosed (adorn (attrs_of attrs.now) t)) }
     ensures front { IsFront tokens.old tokens.new }

@@ -1,16 +1,14 @@
 //! Blocks, `if` and the loops without a pattern.
-#![tactic(auto, using(syn_tokens::proofs::Fronts::fronts, crate::proofs::Kinds::leaves, crate::proofs::Kinds::opened))]
+#![tactic(auto, using(syn_tokens::proofs::Fronts::fronts))]
 
-use crate::frames::placed;
+use crate::ends;
+use crate::frames::opened;
 use crate::kind::KindToTokens;
 use syn_expr_kinds::block::{
     ExprAsync, ExprBlock, ExprConst, ExprIfOf, ExprLoop, ExprTryBlock, ExprUnsafe, ExprWhileOf,
 };
 use syn_expr_kinds::node::{Attributes, Braces, Frame, Leaf, Operands};
 use syn_expr_print::print::HasPrinter;
-use syn_expr_put::attrs::put_attributes;
-use syn_expr_put::frame::put_frame_head;
-use syn_expr_put::leaf::put_leaf;
 use syn_tokens::error::Result;
 use syn_tokens::token::Brace;
 use syn_tokens::tree::TokenStream;
@@ -24,9 +22,8 @@ impl KindToTokens for ExprAsync {
 
     /// Puts `async`, `move` where it is there, and the block.
     fn to_tokens(&self, tokens: &mut TokenStream) -> Result<()> {
-        put_attributes(tokens, Attributes::Before(&self.attrs))?;
         let leaf = Leaf::Async(&self.async_token, &self.capture, &self.block);
-        put_leaf(tokens, leaf)?;
+        ends::leaf(tokens, Attributes::Before(&self.attrs), leaf)?;
         Ok(())
     }
 }
@@ -40,12 +37,12 @@ impl KindToTokens for ExprBlock {
 
     /// Puts a block behind its label; the inner attributes stand first in its braces.
     fn to_tokens(&self, tokens: &mut TokenStream) -> Result<()> {
-        put_attributes(tokens, Attributes::Around(&self.attrs))?;
         let braces = Braces {
             attrs: &self.attrs,
             block: &self.block,
         };
-        put_leaf(tokens, Leaf::Block(&self.label, braces))?;
+        let leaf = Leaf::Block(&self.label, braces);
+        ends::leaf(tokens, Attributes::Around(&self.attrs), leaf)?;
         Ok(())
     }
 }
@@ -59,12 +56,12 @@ impl KindToTokens for ExprConst {
 
     /// Puts `const` and the block; the inner attributes stand first in its braces.
     fn to_tokens(&self, tokens: &mut TokenStream) -> Result<()> {
-        put_attributes(tokens, Attributes::Around(&self.attrs))?;
         let braces = Braces {
             attrs: &self.attrs,
             block: &self.block,
         };
-        put_leaf(tokens, Leaf::Const(&self.const_token, braces))?;
+        let leaf = Leaf::Const(&self.const_token, braces);
+        ends::leaf(tokens, Attributes::Around(&self.attrs), leaf)?;
         Ok(())
     }
 }
@@ -78,10 +75,15 @@ impl<E: HasPrinter> KindToTokens for ExprIfOf<E> {
 
     /// Puts `if`, the condition and the block, and behind `else` an `if`, a block, or anything else in braces.
     fn to_tokens(&self, tokens: &mut TokenStream) -> Result<()> {
-        put_attributes(tokens, Attributes::Before(&self.attrs))?;
-        put_frame_head::<E::Pat>(tokens, Frame::If(&self.if_token))?;
+        let frame = Frame::If(&self.if_token);
         let operands = Operands::If(&self.cond, &self.then_branch, &self.else_branch);
-        placed::<E>(tokens, operands, false, Brace::default())?;
+        opened::<E, E::Pat>(
+            tokens,
+            Attributes::Before(&self.attrs),
+            frame,
+            operands,
+            Brace::default(),
+        )?;
         Ok(())
     }
 }
@@ -95,12 +97,12 @@ impl KindToTokens for ExprLoop {
 
     /// Puts `loop` behind its label, and the block; the inner attributes stand first in its braces.
     fn to_tokens(&self, tokens: &mut TokenStream) -> Result<()> {
-        put_attributes(tokens, Attributes::Around(&self.attrs))?;
         let braces = Braces {
             attrs: &self.attrs,
             block: &self.body,
         };
-        put_leaf(tokens, Leaf::Loop(&self.label, &self.loop_token, braces))?;
+        let leaf = Leaf::Loop(&self.label, &self.loop_token, braces);
+        ends::leaf(tokens, Attributes::Around(&self.attrs), leaf)?;
         Ok(())
     }
 }
@@ -114,8 +116,8 @@ impl KindToTokens for ExprTryBlock {
 
     /// Puts `try` and the block.
     fn to_tokens(&self, tokens: &mut TokenStream) -> Result<()> {
-        put_attributes(tokens, Attributes::Before(&self.attrs))?;
-        put_leaf(tokens, Leaf::TryBlock(&self.try_token, &self.block))?;
+        let leaf = Leaf::TryBlock(&self.try_token, &self.block);
+        ends::leaf(tokens, Attributes::Before(&self.attrs), leaf)?;
         Ok(())
     }
 }
@@ -129,12 +131,12 @@ impl KindToTokens for ExprUnsafe {
 
     /// Puts `unsafe` and the block; the inner attributes stand first in its braces.
     fn to_tokens(&self, tokens: &mut TokenStream) -> Result<()> {
-        put_attributes(tokens, Attributes::Around(&self.attrs))?;
         let braces = Braces {
             attrs: &self.attrs,
             block: &self.block,
         };
-        put_leaf(tokens, Leaf::Unsafe(&self.unsafe_token, braces))?;
+        let leaf = Leaf::Unsafe(&self.unsafe_token, braces);
+        ends::leaf(tokens, Attributes::Around(&self.attrs), leaf)?;
         Ok(())
     }
 }
@@ -148,16 +150,17 @@ impl<E: HasPrinter> KindToTokens for ExprWhileOf<E> {
 
     /// Puts `while` behind its label, the condition and the block; the inner attributes stand first in its braces.
     fn to_tokens(&self, tokens: &mut TokenStream) -> Result<()> {
-        put_attributes(tokens, Attributes::Around(&self.attrs))?;
-        put_frame_head::<E::Pat>(tokens, Frame::While(&self.label, &self.while_token))?;
         let braces = Braces {
             attrs: &self.attrs,
             block: &self.body,
         };
-        placed::<E>(
+        let frame = Frame::While(&self.label, &self.while_token);
+        let operands = Operands::Loop(&self.cond, braces);
+        opened::<E, E::Pat>(
             tokens,
-            Operands::Loop(&self.cond, braces),
-            false,
+            Attributes::Around(&self.attrs),
+            frame,
+            operands,
             Brace::default(),
         )?;
         Ok(())

@@ -3,11 +3,12 @@
 
 ghost use Rattle.std.specs.Prelude.{◌≡◌, ◌++◌, false, OnOk};
 ghost use Rattle.syn_expr_kinds.specs.Attrs.{attrs_of};
-ghost use Rattle.syn_expr_kinds.specs.Node.{lead_guards, lead_of, operator_of, post_of};
+ghost use Rattle.syn_expr_kinds.specs.Node.{before_of, lead_guards, lead_of, leaf_of, operator_of, post_of};
 ghost use Rattle.syn_expr_kinds.specs.Pats.{strays};
 ghost use Rattle.syn_expr_notes.specs.Label.{lead_kind};
 ghost use Rattle.syn_expr_print.specs.Printing.{spelled, whole};
 ghost use Rattle.syn_grammar.specs.Next as next;
+ghost use Rattle.syn_grammar.specs.Stands.{is_range_lead, is_range_leaf};
 ghost use Rattle.syn_grammar.specs.Tree as e;
 ghost use Rattle.syn_grammar.specs.Tree.{adorn, post_op};
 ghost use Rattle.syn_op.specs.View.{limits_kind};
@@ -15,11 +16,12 @@ ghost use Rattle.syn_tokens.specs.Input.{IsFront};
 
 use crate::behind::operation;
 use crate::noted::{note_one, note_two};
-use syn_expr_kinds::node::{Lead, Leaf, Operator, Post};
+use syn_expr_kinds::node::{Attributes, Lead, Leaf, Operator, Post};
 use syn_expr_notes::context::enclosed;
 use syn_expr_notes::label::LeadKind;
 use syn_expr_print::operand::{behind_lead, left_of, right_of};
 use syn_expr_print::print::{HasPrinter, node, print_in};
+use syn_expr_put::attrs::put_attributes;
 use syn_expr_put::body::put_paren;
 use syn_expr_put::lead::{PutPat, put_lead};
 use syn_expr_put::leaf::put_leaf;
@@ -33,11 +35,25 @@ use syn_tokens::tree::TokenStream;
 
 // ---- what is no operation
 
-/// Prints parentheses with what stands in them.
+/// Prints what holds no operand, behind its attributes.
 ///
 /// Memory may run out, here and in all that prints a node by its shape; a part of the tokens may then follow what was there.
+#[tactic(auto, using(syn_tokens::proofs::Fronts::fronts))]
+pub fn leaf(tokens: &mut TokenStream, attributes: Attributes<'_>, leaf: Leaf<'_>) -> Grown
+    requires { is_range_leaf (leaf_of leaf) ≡ false }
+    ensures text { OnOk result (tokens.new ≡ tokens.old ++ whole next.enclosed (adorn (before_of attributes.entry) (e.leaf (leaf_of leaf.entry)))) }
+    ensures front { IsFront tokens.old tokens.new }
+{
+    let before = put_attributes(tokens, attributes);
+    let put = put_leaf(tokens, leaf);
+    before?;
+    put?;
+    Ok(())
+}
+
+/// Prints parentheses with what stands in them.
 #[tactic(auto, using(syn_tokens::proofs::Fronts::fronts, crate::proofs::Shapes::parens))]
-pub fn paren<E: HasPrinter>(tokens: &mut TokenStream, paren: &Paren, x: &E) -> Grown
+fn bare_paren<E: HasPrinter>(tokens: &mut TokenStream, paren: &Paren, x: &E) -> Grown
     ensures text { OnOk result (tokens.new ≡ tokens.old ++ spelled next.enclosed (e.paren false (E.tree x.now))) }
     ensures front { IsFront tokens.old tokens.new }
 {
@@ -46,9 +62,25 @@ pub fn paren<E: HasPrinter>(tokens: &mut TokenStream, paren: &Paren, x: &E) -> G
     put_paren(tokens, paren, content)
 }
 
-/// Prints a node that ends with its operand, behind what stands before it; `kind` is that of the lead.
+/// Prints parentheses with what stands in them, behind their attributes.
+#[tactic(auto, using(syn_tokens::proofs::Fronts::fronts))]
+pub fn paren<E: HasPrinter>(
+    tokens: &mut TokenStream,
+    attributes: Attributes<'_>,
+    paren: &Paren,
+    x: &E,
+) -> Grown
+    ensures text { OnOk result (tokens.new ≡ tokens.old ++ whole next.enclosed (adorn (before_of attributes.entry) (e.paren false (E.tree x.now)))) }
+    ensures front { IsFront tokens.old tokens.new }
+{
+    put_attributes(tokens, attributes)?;
+    bare_paren(tokens, paren, x)?;
+    Ok(())
+}
+
+/// Prints a lead and the operand behind it; `kind` is that of the lead.
 #[tactic(auto, using(syn_tokens::proofs::Fronts::fronts, crate::proofs::Shapes::leads))]
-pub fn lead<E: HasPrinter, P: PutPat>(
+fn led<E: HasPrinter, P: PutPat>(
     tokens: &mut TokenStream,
     lead: Lead<'_, P>,
     kind: LeadKind,
@@ -61,6 +93,28 @@ pub fn lead<E: HasPrinter, P: PutPat>(
     put_lead(tokens, lead)?;
     let mut notes = note_one(tokens, x)?;
     behind_lead(&node::<E>, tokens, &mut notes, x, kind, enclosed())
+}
+
+/// Prints a node that ends with its operand, behind its attributes and what stands before the operand; `kind` is that of the
+/// lead.
+#[tactic(auto, using(syn_tokens::proofs::Fronts::fronts))]
+pub fn lead<E: HasPrinter, P: PutPat>(
+    tokens: &mut TokenStream,
+    attributes: Attributes<'_>,
+    lead: Lead<'_, P>,
+    kind: LeadKind,
+    x: &E,
+) -> Grown
+    requires kind { lead_kind (lead_of P.view lead) ≡ kind }
+    requires plain { is_range_lead (lead_of P.view lead) ≡ false }
+    ensures text { OnOk result (tokens.new ≡ tokens.old ++ whole next.enclosed (adorn (before_of attributes.entry) (e.lead (lead_of P.view lead.entry) (strays (lead_guards P.view lead.entry) e.none) (E.tree x.now)))) }
+    ensures front { IsFront tokens.old tokens.new }
+{
+    let before = put_attributes(tokens, attributes);
+    let put = led(tokens, lead, kind, x);
+    before?;
+    put?;
+    Ok(())
 }
 
 // ---- operations
@@ -77,7 +131,7 @@ fn infix(operator: &Operator<'_>) -> Infix
 }
 
 /// Prints two operands with their operator.
-#[tactic(auto, using(syn_tokens::proofs::Fronts::fronts, crate::proofs::Shapes::mids))]
+#[tactic(auto, using(syn_tokens::proofs::Fronts::fronts, syn_expr_print::proofs::Stacks::takes, crate::proofs::Shapes::mids))]
 fn between<E: HasPrinter>(tokens: &mut TokenStream, x: &E, operator: Operator<'_>, y: &E) -> Grown
     ensures text { OnOk result (tokens.new ≡ tokens.old ++ spelled next.enclosed (e.mid (E.tree x.now) (operator_of operator.entry) (E.tree y.now))) }
     ensures front { IsFront tokens.old tokens.new }
@@ -119,7 +173,8 @@ fn posted<E: HasPrinter>(tokens: &mut TokenStream, x: &E, post: Post<'_>, op: In
     put_post(&mut end, post)?;
     let mut notes = note_one(tokens, x)?;
     left_of(&node::<E>, tokens, &mut notes, x, op, enclosed())?;
-    grown(tokens.append(end))
+    grown(tokens.append(end))?;
+    Ok(())
 }
 
 /// Prints a node that begins with its operand, behind its attributes in parentheses; `op` is the operator that stands behind
@@ -154,7 +209,7 @@ pub fn range_to<E: HasPrinter>(
 {
     let mut printed = TokenStream::new(tokens.alloc());
     let kind = LeadKind::RangeTo(limits.kind());
-    lead::<E, E::Pat>(&mut printed, Lead::Range(limits), kind, y)?;
+    led::<E, E::Pat>(&mut printed, Lead::Range(limits), kind, y)?;
     operation(tokens, attrs, printed)
 }
 

@@ -1,14 +1,12 @@
 //! Jumps.
-#![tactic(auto, using(syn_tokens::proofs::Fronts::fronts, crate::proofs::Kinds::leaves, crate::proofs::Kinds::plain))]
+#![tactic(auto, using(syn_tokens::proofs::Fronts::fronts))]
 
-use crate::ends::lead;
+use crate::ends::{lead, leaf};
 use crate::kind::KindToTokens;
 use syn_expr_kinds::jump::{ExprBreakOf, ExprContinue, ExprReturnOf, ExprYieldOf};
 use syn_expr_kinds::node::{Attributes, Jump, Lead, Leaf};
 use syn_expr_notes::label::LeadKind;
 use syn_expr_print::print::HasPrinter;
-use syn_expr_put::attrs::put_attributes;
-use syn_expr_put::leaf::put_leaf;
 use syn_tokens::error::Result;
 use syn_tokens::tree::TokenStream;
 
@@ -21,10 +19,11 @@ impl<E: HasPrinter> KindToTokens for ExprBreakOf<E> {
 
     /// Puts `break`, its label and its value.
     fn to_tokens(&self, tokens: &mut TokenStream) -> Result<()> {
-        put_attributes(tokens, Attributes::Before(&self.attrs))?;
+        let attributes = Attributes::Before(&self.attrs);
         match &self.expr {
-            None => put_leaf(
+            None => leaf(
                 tokens,
+                attributes,
                 Leaf::Jump(Jump::Break(&self.break_token, &self.label)),
             )?,
             Some(x) => {
@@ -32,6 +31,7 @@ impl<E: HasPrinter> KindToTokens for ExprBreakOf<E> {
                 let kind = LeadKind::Break { labelled };
                 lead::<E, E::Pat>(
                     tokens,
+                    attributes,
                     Lead::Jump(Jump::Break(&self.break_token, &self.label)),
                     kind,
                     x,
@@ -51,8 +51,8 @@ impl KindToTokens for ExprContinue {
 
     /// Puts `continue` and its label.
     fn to_tokens(&self, tokens: &mut TokenStream) -> Result<()> {
-        put_attributes(tokens, Attributes::Before(&self.attrs))?;
-        put_leaf(tokens, Leaf::Continue(&self.continue_token, &self.label))?;
+        let jump = Leaf::Continue(&self.continue_token, &self.label);
+        leaf(tokens, Attributes::Before(&self.attrs), jump)?;
         Ok(())
     }
 }
@@ -66,12 +66,17 @@ impl<E: HasPrinter> KindToTokens for ExprReturnOf<E> {
 
     /// Puts `return` and its value.
     fn to_tokens(&self, tokens: &mut TokenStream) -> Result<()> {
-        put_attributes(tokens, Attributes::Before(&self.attrs))?;
+        let attributes = Attributes::Before(&self.attrs);
         match &self.expr {
-            None => put_leaf(tokens, Leaf::Jump(Jump::Return(&self.return_token)))?,
+            None => leaf(
+                tokens,
+                attributes,
+                Leaf::Jump(Jump::Return(&self.return_token)),
+            )?,
             Some(x) => {
                 lead::<E, E::Pat>(
                     tokens,
+                    attributes,
                     Lead::Jump(Jump::Return(&self.return_token)),
                     LeadKind::Jump,
                     x,
@@ -91,12 +96,17 @@ impl<E: HasPrinter> KindToTokens for ExprYieldOf<E> {
 
     /// Puts `yield` and its value.
     fn to_tokens(&self, tokens: &mut TokenStream) -> Result<()> {
-        put_attributes(tokens, Attributes::Before(&self.attrs))?;
+        let attributes = Attributes::Before(&self.attrs);
         match &self.expr {
-            None => put_leaf(tokens, Leaf::Jump(Jump::Yield(&self.yield_token)))?,
+            None => leaf(
+                tokens,
+                attributes,
+                Leaf::Jump(Jump::Yield(&self.yield_token)),
+            )?,
             Some(x) => {
                 lead::<E, E::Pat>(
                     tokens,
+                    attributes,
                     Lead::Jump(Jump::Yield(&self.yield_token)),
                     LeadKind::Jump,
                     x,

@@ -1,5 +1,5 @@
 //! Operators and their operands.
-#![tactic(auto, using(syn_tokens::proofs::Fronts::fronts, crate::proofs::Kinds::plain))]
+#![tactic(auto, using(syn_tokens::proofs::Fronts::fronts))]
 
 use crate::ends::{full_range, lead, mid, post, range_to};
 use crate::kind::KindToTokens;
@@ -10,7 +10,6 @@ use syn_expr_kinds::operation::{
 };
 use syn_expr_notes::label::LeadKind;
 use syn_expr_print::print::HasPrinter;
-use syn_expr_put::attrs::put_attributes;
 use syn_grammar::kinds::Infix;
 use syn_tokens::error::Result;
 use syn_tokens::tree::TokenStream;
@@ -94,9 +93,9 @@ impl<E: HasPrinter> KindToTokens for ExprRawAddrOf<E> {
 
     /// Puts `&raw const` or `&raw mut`, and the place.
     fn to_tokens(&self, tokens: &mut TokenStream) -> Result<()> {
-        put_attributes(tokens, Attributes::Before(&self.attrs))?;
+        let attributes = Attributes::Before(&self.attrs);
         let borrow = Lead::RawAddr(&self.and_token, &self.raw, &self.mutability);
-        lead::<E, E::Pat>(tokens, borrow, LeadKind::Prefix, &self.expr)?;
+        lead::<E, E::Pat>(tokens, attributes, borrow, LeadKind::Prefix, &self.expr)?;
         Ok(())
     }
 }
@@ -110,9 +109,9 @@ impl<E: HasPrinter> KindToTokens for ExprReferenceOf<E> {
 
     /// Puts `&` or `&mut`, and the operand.
     fn to_tokens(&self, tokens: &mut TokenStream) -> Result<()> {
-        put_attributes(tokens, Attributes::Before(&self.attrs))?;
+        let attributes = Attributes::Before(&self.attrs);
         let borrow = Lead::Reference(&self.and_token, &self.mutability);
-        lead::<E, E::Pat>(tokens, borrow, LeadKind::Prefix, &self.expr)?;
+        lead::<E, E::Pat>(tokens, attributes, borrow, LeadKind::Prefix, &self.expr)?;
         Ok(())
     }
 }
@@ -126,8 +125,9 @@ impl<E: HasPrinter> KindToTokens for ExprUnaryOf<E> {
 
     /// Puts the operator, and its operand.
     fn to_tokens(&self, tokens: &mut TokenStream) -> Result<()> {
-        put_attributes(tokens, Attributes::Before(&self.attrs))?;
-        lead::<E, E::Pat>(tokens, Lead::Unary(&self.op), LeadKind::Prefix, &self.expr)?;
+        let attributes = Attributes::Before(&self.attrs);
+        let op = Lead::Unary(&self.op);
+        lead::<E, E::Pat>(tokens, attributes, op, LeadKind::Prefix, &self.expr)?;
         Ok(())
     }
 }

@@ -1,15 +1,13 @@
 //! Kinds that hold patterns: closures, `for`, `let` in a condition, and `match`.
-#![tactic(auto, using(syn_tokens::proofs::Fronts::fronts, crate::proofs::Kinds::plain, crate::proofs::Kinds::opened))]
+#![tactic(auto, using(syn_tokens::proofs::Fronts::fronts))]
 
 use crate::ends::lead;
-use crate::frames::placed;
+use crate::frames::opened;
 use crate::kind::KindToTokens;
 use syn_expr_kinds::node::{Attributes, Braces, Closure, Frame, Lead, Operands};
 use syn_expr_kinds::pattern::{ExprClosureOf, ExprForLoopOf, ExprLetOf, ExprMatchOf};
 use syn_expr_notes::label::LeadKind;
 use syn_expr_print::print::HasPrinter;
-use syn_expr_put::attrs::put_attributes;
-use syn_expr_put::frame::put_frame_head;
 use syn_expr_put::lead::PutPat;
 use syn_lower::ty::ReturnType;
 use syn_tokens::error::Result;
@@ -25,7 +23,7 @@ impl<E: HasPrinter, P: PutPat> KindToTokens for ExprClosureOf<E, P> {
 
     /// Puts the closure up to its body, and the body; behind an output that is a block, or in braces.
     fn to_tokens(&self, tokens: &mut TokenStream) -> Result<()> {
-        put_attributes(tokens, Attributes::Before(&self.attrs))?;
+        let attributes = Attributes::Before(&self.attrs);
         let closure = Closure {
             lifetimes: &self.lifetimes,
             constness: &self.constness,
@@ -39,11 +37,12 @@ impl<E: HasPrinter, P: PutPat> KindToTokens for ExprClosureOf<E, P> {
         match &self.output {
             ReturnType::Default => {
                 let closure = Lead::Closure(closure);
-                lead::<E, P>(tokens, closure, LeadKind::Closure, &self.body)?
+                lead::<E, P>(tokens, attributes, closure, LeadKind::Closure, &self.body)?
             }
             ReturnType::Given(_, _) => {
-                put_frame_head::<P>(tokens, Frame::Closure(closure))?;
-                placed::<E>(tokens, Operands::Body(&self.body), false, Brace::default())?
+                let closure = Frame::Closure(closure);
+                let body = Operands::Body(&self.body);
+                opened::<E, P>(tokens, attributes, closure, body, Brace::default())?
             }
         }
         Ok(())
@@ -59,17 +58,17 @@ impl<E: HasPrinter, P: PutPat> KindToTokens for ExprForLoopOf<E, P> {
 
     /// Puts `for` behind its label, the pattern, what gives the values, and the block; the inner attributes stand first in its braces.
     fn to_tokens(&self, tokens: &mut TokenStream) -> Result<()> {
-        put_attributes(tokens, Attributes::Around(&self.attrs))?;
-        let frame = Frame::ForLoop(&self.label, &self.for_token, &self.pat, &self.in_token);
-        put_frame_head::<P>(tokens, frame)?;
         let braces = Braces {
             attrs: &self.attrs,
             block: &self.body,
         };
-        placed::<E>(
+        let frame = Frame::ForLoop(&self.label, &self.for_token, &self.pat, &self.in_token);
+        let operands = Operands::Loop(&self.expr, braces);
+        opened::<E, P>(
             tokens,
-            Operands::Loop(&self.expr, braces),
-            false,
+            Attributes::Around(&self.attrs),
+            frame,
+            operands,
             Brace::default(),
         )?;
         Ok(())
@@ -85,9 +84,9 @@ impl<E: HasPrinter, P: PutPat> KindToTokens for ExprLetOf<E, P> {
 
     /// Puts `let`, the pattern, `=` and the scrutinee.
     fn to_tokens(&self, tokens: &mut TokenStream) -> Result<()> {
-        put_attributes(tokens, Attributes::Before(&self.attrs))?;
+        let attributes = Attributes::Before(&self.attrs);
         let binding = Lead::Let(&self.let_token, &self.pat, &self.eq_token);
-        lead::<E, P>(tokens, binding, LeadKind::Let, &self.expr)?;
+        lead::<E, P>(tokens, attributes, binding, LeadKind::Let, &self.expr)?;
         Ok(())
     }
 }
@@ -101,11 +100,15 @@ impl<E: HasPrinter> KindToTokens for ExprMatchOf<E, E::Arm> {
 
     /// Puts `match`, what it looks at, and the arms in braces; the inner attributes stand first in these.
     fn to_tokens(&self, tokens: &mut TokenStream) -> Result<()> {
-        put_attributes(tokens, Attributes::Around(&self.attrs))?;
         let frame = Frame::Match(&self.match_token, &self.brace_token);
-        put_frame_head::<E::Pat>(tokens, frame)?;
         let operands = Operands::Arms(&self.expr, &self.attrs, &self.arms);
-        placed::<E>(tokens, operands, false, self.brace_token)?;
+        opened::<E, E::Pat>(
+            tokens,
+            Attributes::Around(&self.attrs),
+            frame,
+            operands,
+            self.brace_token,
+        )?;
         Ok(())
     }
 }

@@ -1,13 +1,11 @@
 //! Struct expressions.
-#![tactic(auto, using(syn_tokens::proofs::Fronts::fronts, crate::proofs::Kinds::closed))]
+#![tactic(auto, using(syn_tokens::proofs::Fronts::fronts))]
 
-use crate::frames::inside;
+use crate::frames::closed;
 use crate::kind::KindToTokens;
 use syn_expr_kinds::node::{Attributes, Frame, Operands};
 use syn_expr_kinds::structure::ExprStructOf;
 use syn_expr_print::print::HasPrinter;
-use syn_expr_put::attrs::put_attributes;
-use syn_expr_put::frame::put_framed;
 use syn_tokens::error::Result;
 use syn_tokens::tree::TokenStream;
 
@@ -20,12 +18,16 @@ impl<E: HasPrinter> KindToTokens for ExprStructOf<E> {
 
     /// Puts the path, and in braces the fields with their commas, `..` and what the other fields are taken of.
     fn to_tokens(&self, tokens: &mut TokenStream) -> Result<()> {
-        put_attributes(tokens, Attributes::Before(&self.attrs))?;
         let dots = self.dot2_token.is_some() && self.rest.is_none();
-        let operands = Operands::Fields(&self.fields, &self.dot2_token, &self.rest);
-        let inside = inside::<E>(tokens, operands, dots)?;
         let frame = Frame::Struct(&self.qself, &self.path, &self.brace_token, dots);
-        put_framed::<E::Pat>(tokens, frame, inside)?;
+        let operands = Operands::Fields(&self.fields, &self.dot2_token, &self.rest);
+        closed::<E, E::Pat>(
+            tokens,
+            Attributes::Before(&self.attrs),
+            frame,
+            operands,
+            dots,
+        )?;
         Ok(())
     }
 }

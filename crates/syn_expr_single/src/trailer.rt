@@ -1,5 +1,5 @@
 //! What stands behind an operand: calls, indices, fields, `.await` and `?`.
-#![tactic(auto, using(syn_tokens::proofs::Fronts::fronts, crate::proofs::Kinds::plain))]
+#![tactic(auto, using(syn_tokens::proofs::Fronts::fronts))]
 
 use crate::kind::KindToTokens;
 use crate::trails::{call, indexed, method, trailed};
@@ -10,7 +10,6 @@ use syn_expr_kinds::trailer::{
 use syn_expr_notes::label::TrailerKind;
 use syn_expr_parts::member::Member;
 use syn_expr_print::print::HasPrinter;
-use syn_expr_put::attrs::put_attributes;
 use syn_tokens::error::Result;
 use syn_tokens::tree::TokenStream;
 
@@ -23,9 +22,9 @@ impl<E: HasPrinter> KindToTokens for ExprAwaitOf<E> {
 
     /// Puts the base and `.await`.
     fn to_tokens(&self, tokens: &mut TokenStream) -> Result<()> {
-        put_attributes(tokens, Attributes::Before(&self.attrs))?;
+        let attributes = Attributes::Before(&self.attrs);
         let trailer = Trailer::Await(&self.dot_token, &self.await_token);
-        trailed::<E>(tokens, &self.base, trailer, TrailerKind::Await)?;
+        trailed::<E>(tokens, attributes, &self.base, trailer, TrailerKind::Await)?;
         Ok(())
     }
 }
@@ -39,7 +38,6 @@ impl<E: HasPrinter> KindToTokens for ExprCallOf<E> {
 
     /// Puts what is called, and the arguments in parentheses.
     fn to_tokens(&self, tokens: &mut TokenStream) -> Result<()> {
-        put_attributes(tokens, Attributes::Before(&self.attrs))?;
         call(tokens, self)?;
         Ok(())
     }
@@ -54,11 +52,11 @@ impl<E: HasPrinter> KindToTokens for ExprFieldOf<E> {
 
     /// Puts the base, `.` and the name or index.
     fn to_tokens(&self, tokens: &mut TokenStream) -> Result<()> {
-        put_attributes(tokens, Attributes::Before(&self.attrs))?;
+        let attributes = Attributes::Before(&self.attrs);
         let named = matches!(self.member, Member::Named(_));
         let kind = TrailerKind::Field { named };
         let trailer = Trailer::Field(&self.dot_token, &self.member);
-        trailed::<E>(tokens, &self.base, trailer, kind)?;
+        trailed::<E>(tokens, attributes, &self.base, trailer, kind)?;
         Ok(())
     }
 }
@@ -72,8 +70,14 @@ impl<E: HasPrinter> KindToTokens for ExprIndexOf<E> {
 
     /// Puts what is indexed, and the index in brackets.
     fn to_tokens(&self, tokens: &mut TokenStream) -> Result<()> {
-        put_attributes(tokens, Attributes::Before(&self.attrs))?;
-        indexed::<E>(tokens, &self.expr, &self.bracket_token, &self.index)?;
+        let attributes = Attributes::Before(&self.attrs);
+        indexed::<E>(
+            tokens,
+            attributes,
+            &self.expr,
+            &self.bracket_token,
+            &self.index,
+        )?;
         Ok(())
     }
 }
@@ -87,7 +91,6 @@ impl<E: HasPrinter> KindToTokens for ExprMethodCallOf<E> {
 
     /// Puts the receiver, `.` and the method with its generic arguments, and the arguments in parentheses.
     fn to_tokens(&self, tokens: &mut TokenStream) -> Result<()> {
-        put_attributes(tokens, Attributes::Before(&self.attrs))?;
         method(tokens, self)?;
         Ok(())
     }
@@ -102,9 +105,9 @@ impl<E: HasPrinter> KindToTokens for ExprTryOf<E> {
 
     /// Puts the base and `?`.
     fn to_tokens(&self, tokens: &mut TokenStream) -> Result<()> {
-        put_attributes(tokens, Attributes::Before(&self.attrs))?;
+        let attributes = Attributes::Before(&self.attrs);
         let trailer = Trailer::Try(&self.question_token);
-        trailed::<E>(tokens, &self.expr, trailer, TrailerKind::Try)?;
+        trailed::<E>(tokens, attributes, &self.expr, trailer, TrailerKind::Try)?;
         Ok(())
     }
 }

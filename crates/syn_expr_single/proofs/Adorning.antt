@@ -1,6 +1,7 @@
 -- A node behind its attributes, as it is printed by itself.
-use Rattle.std.proofs.Common.{◌≡◌, true, false, List, [], ◌∷◌, ◌++◌, refl, ap, ◌∙◌}
+use Rattle.std.proofs.Common.{◌≡◌, true, false, List, [], ◌∷◌, ◌++◌, refl, sym, ap, ◌∙◌, append_assoc}
 use Rattle.syn_lexer.specs.declared.lexeme.Delimiter.TheVariants as del
+use Rattle.syn_tokens.specs.Tok.{Tok}
 use Rattle.syn_parts.specs.Tree.{AttributeTree}
 use Rattle.syn_parts.specs.Own as own_parts
 use Rattle.syn_parts.specs.PatOwn.{attributes_own}
@@ -36,4 +37,19 @@ operation-wrapped (a ∷ more) t h o =
     ∙ ap (λ w. attributes_own (a ∷ more) [] ++ spelled_in w enclosed t) o
     ∙ ap (λ l. attributes_own (a ∷ more) [] ++ l) (spelled-wrapped enclosed t)
 
-pub ruleset operations = (operation-bare, operation-wrapped)
+-- ---- one part behind the other
+
+pub plain-written : (ats : List AttributeTree) (t : Tree) (x t0 t1 t2 : List Tok) → is_operation t ≡ false → spelled enclosed t ≡ x
+    → t1 ≡ t0 ++ attributes_own ats [] → t2 ≡ t1 ++ x → t2 ≡ t0 ++ whole enclosed (adorn ats t)
+plain-written ats t x t0 t1 t2 h s p g =
+    g ∙ ap (λ l. l ++ x) p ∙ append_assoc t0 (attributes_own ats []) x
+    ∙ ap (λ l. t0 ++ (attributes_own ats [] ++ l)) (sym s) ∙ ap (λ l. t0 ++ l) (sym (behind-plain ats t h))
+
+pub wrapped-written : (ats : List AttributeTree) (t : Tree) (x t0 t1 t2 : List Tok) → has_some ats ≡ true → is_operation t ≡ true → x ≡ spelled enclosed t
+    → t1 ≡ t0 ++ attributes_own ats [] → t2 ≡ t1 ++ own_parts.enclosed del.Parenthesis x [] → t2 ≡ t0 ++ whole enclosed (adorn ats t)
+wrapped-written ats t x t0 t1 t2 h o s p g =
+    let y = own_parts.enclosed del.Parenthesis x [] in
+    g ∙ ap (λ l. l ++ y) p ∙ append_assoc t0 (attributes_own ats []) y
+    ∙ ap (λ l. t0 ++ (attributes_own ats [] ++ own_parts.enclosed del.Parenthesis l [])) s ∙ ap (λ l. t0 ++ l) (sym (operation-wrapped ats t h o))
+
+pub ruleset operations = (operation-bare)
