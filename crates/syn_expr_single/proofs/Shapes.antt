@@ -8,6 +8,7 @@ use Rattle.syn_parts.specs.Own as own_parts
 use Rattle.syn_parts.specs.PatOwn.{attributes_own}
 use Rattle.syn_grammar.specs.declared.kinds.Infix.{Infix}
 use Rattle.syn_grammar.specs.declared.kinds.Limits.{Limits}
+use Rattle.syn_grammar.specs.declared.next.Context.{Context}
 use Rattle.syn_grammar.specs.Next.{enclosed, base_context, lead_context, left_context, right_context}
 use Rattle.syn_grammar.specs.Notes.{note_of, stack, kids_below, base_by, lead_by, left_by, place_by}
 use Rattle.syn_grammar.specs.Op.{level}
@@ -103,14 +104,22 @@ pub held-written : (q : TrailerKind) (k : e.Trailer) (b : Tree) (ks : Kids) (t0 
 held-written q k b ks t0 t1 t2 end held h p i d g =
     tail-written q k b ks t0 t1 t2 h p (g ∙ ap (λ l. t1 ++ l) (d ∙ ap (λ l. trailer_own k l []) i))
 
+-- where the context is known to be that of plain position
+pub held-at : (d : Context) (q : TrailerKind) (k : e.Trailer) (b : Tree) (ks : Kids) (t0 t1 t2 end held : List Tok) → d ≡ enclosed → trailer_kind k ≡ q
+    → ((k : e.Trailer) → trailer_kind k ≡ q → t1 ≡ t0 ++ spelled_in (base_by k (base_context k d) (note_of b)) (base_context k d) b)
+    → held ≡ kids_spelled false ks → end ≡ trailer_own k held [] → t2 ≡ t1 ++ end → t2 ≡ t0 ++ spelled enclosed (e.tail b k ks)
+held-at d q k b ks t0 t1 t2 end held s h p i w g =
+    held-written q k b ks t0 t1 t2 end held h (λ j l. p j l ∙ ap (λ z. t0 ++ spelled_in (base_by j (base_context j z) (note_of b)) (base_context j z) b) s) i w g
+
 pub nothing-held : (l : List Tok) → l ≡ [] → l ≡ kids_spelled false e.none
 nothing-held l h = h ∙ sym (none-spelled false)
+
+pub index-held : (d : Context) (t : Tree) (h0 h1 : List Tok) → d ≡ enclosed → h0 ≡ [] → h1 ≡ h0 ++ whole d t → h1 ≡ kids_spelled false (e.kid e.value e.no_ending t e.none)
+index-held d t h0 h1 s n g = g ∙ ap (λ l. l ++ whole d t) n ∙ ap (λ z. whole z t) s ∙ sym (value-spelled false t)
 
 pub below-based : (b : Tree) (ks : Kids) → operands_below (based_by b ks) ≡ kids_below ks ++ stack b
 below-based b e.none = refl
 below-based b (e.kid k c t ks) = refl
-
-pub ruleset tails = (held-written, nothing-held, value-spelled)
 
 pub ruleset calls = (below-based)
 

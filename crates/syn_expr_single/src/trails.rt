@@ -32,7 +32,7 @@ use syn_tokens::token::{Bracket, Comma};
 use syn_tokens::tree::TokenStream;
 
 /// Prints a base, and behind it a trailer that holds no operand; `kind` is that of the trailer.
-#[tactic(auto, using(syn_tokens::proofs::Fronts::fronts, crate::proofs::Shapes::tails))]
+#[tactic(auto, using(syn_tokens::proofs::Fronts::fronts))]
 fn behind_base<E: HasPrinter>(
     tokens: &mut TokenStream,
     base: &E,
@@ -93,7 +93,7 @@ fn called<E: HasPrinter>(
 }
 
 /// Prints a call without its attributes.
-#[tactic(auto, using(syn_tokens::proofs::Fronts::fronts, crate::proofs::Shapes::tails))]
+#[tactic(auto, using(syn_tokens::proofs::Fronts::fronts))]
 fn bare_call<E: HasPrinter>(tokens: &mut TokenStream, x: &ExprCallOf<E>) -> Grown
     ensures text { OnOk result (tokens.new ≡ tokens.old ++ spelled next.enclosed (e.tail (E.tree x.now.func.value) e.call (view.elements (map E.tree (values x.now.args)) (trails x.now.args)))) }
     ensures front { IsFront tokens.old tokens.new }
@@ -115,7 +115,7 @@ pub fn call<E: HasPrinter>(tokens: &mut TokenStream, x: &ExprCallOf<E>) -> Grown
 }
 
 /// Prints the call of a method without its attributes.
-#[tactic(auto, using(syn_tokens::proofs::Fronts::fronts, crate::proofs::Shapes::tails))]
+#[tactic(auto, using(syn_tokens::proofs::Fronts::fronts))]
 fn bare_method<E: HasPrinter>(tokens: &mut TokenStream, x: &ExprMethodCallOf<E>) -> Grown
     ensures text { OnOk result (tokens.new ≡ tokens.old ++ spelled next.enclosed (e.tail (E.tree x.now.receiver.value) (e.method x.now.method (turbofish_of x.now.turbofish)) (view.elements (map E.tree (values x.now.args)) (trails x.now.args)))) }
     ensures front { IsFront tokens.old tokens.new }
@@ -139,7 +139,7 @@ pub fn method<E: HasPrinter>(tokens: &mut TokenStream, x: &ExprMethodCallOf<E>) 
 }
 
 /// Prints what is indexed with its index in brackets, without attributes.
-#[tactic(auto, using(syn_tokens::proofs::Fronts::fronts, syn_expr_print::proofs::Stacks::takes, crate::proofs::Shapes::tails))]
+#[tactic(auto, using(syn_tokens::proofs::Fronts::fronts, syn_expr_print::proofs::Stacks::takes))]
 fn bare_index<E: HasPrinter>(
     tokens: &mut TokenStream,
     base: &E,
