@@ -1,4 +1,6 @@
-//! Kinds that are closed at both ends: literals, paths, macros, and what stands in brackets or parentheses.
+//! Kinds that are closed at both ends, by themselves: literals, paths, macros, and what stands in brackets or parentheses (Rust
+//! Reference, "Literal expressions", "Path expressions", "Macro Invocation", "Array expressions", "Tuple expressions", "Grouped
+//! expressions", "Underscore expressions").
 #![tactic(auto, using(syn_tokens::proofs::Fronts::fronts))]
 
 use crate::ends;

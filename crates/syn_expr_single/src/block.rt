@@ -1,4 +1,5 @@
-//! Blocks, `if` and the loops without a pattern.
+//! Blocks, `if` and the loops without a pattern, by themselves (Rust Reference, "Block expressions", "`if` expressions", "Loop
+//! expressions").
 #![tactic(auto, using(syn_tokens::proofs::Fronts::fronts))]
 
 use crate::ends;

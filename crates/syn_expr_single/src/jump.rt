@@ -1,4 +1,4 @@
-//! Jumps.
+//! Jumps by themselves (Rust Reference, "`break` expressions", "`continue` expressions", "`return` expressions").
 #![tactic(auto, using(syn_tokens::proofs::Fronts::fronts))]
 
 use crate::ends::{lead, leaf};

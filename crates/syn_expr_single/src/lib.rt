@@ -5,8 +5,9 @@
 //! its kind, and only its operands are expressions of the type `E`; so the crate stands beside that type, over the traits of
 //! [`HasPrinter`](syn_expr_print::print::HasPrinter).
 //!
-//! [`KindToTokens`] is implemented by the kinds of `syn_expr_kinds`. The functions of [`ends`], [`trails`] and [`frames`]
-//! print a node by its shape: whoever has a struct of its own for a kind, as for those that hold patterns, prints it by these.
+//! [`KindToTokens`] is implemented by the kinds of `syn_expr_kinds` and by fields; an arm is printed by
+//! [`arm_to_tokens`]. The functions of [`ends`], [`trails`] and [`frames`] print a node by its shape:
+//! whoever has a struct of its own for a kind, as for those that hold patterns, prints it by these.
 #![tactic(auto)]
 
 pub mod atom;
@@ -25,3 +26,4 @@ pub mod trailer;
 pub mod trails;
 
 pub use kind::KindToTokens;
+pub use part::arm_to_tokens;

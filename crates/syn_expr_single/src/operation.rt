@@ -1,4 +1,4 @@
-//! Operators and their operands.
+//! Operators and their operands, by themselves (Rust Reference, "Operator expressions", "Range expressions").
 #![tactic(auto, using(syn_tokens::proofs::Fronts::fronts))]
 
 use crate::ends::{full_range, lead, mid, post, range_to};

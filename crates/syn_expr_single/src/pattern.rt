@@ -1,4 +1,5 @@
-//! Kinds that hold patterns: closures, `for`, `let` in a condition, and `match`.
+//! Kinds that hold patterns, by themselves: closures, `for`, `let` in a condition, and `match` (Rust Reference, "Closure
+//! expressions", "Iterator loops", "`if let` patterns", "Match expressions").
 #![tactic(auto, using(syn_tokens::proofs::Fronts::fronts))]
 
 use crate::ends::lead;
@@ -56,7 +57,8 @@ impl<E: HasPrinter, P: PutPat> KindToTokens for ExprForLoopOf<E, P> {
 
     ghost own = { λ x. whole enclosed (expr_for_loop_of E.tree P.view x) };
 
-    /// Puts `for` behind its label, the pattern, what gives the values, and the block; the inner attributes stand first in its braces.
+    /// Puts `for` behind its label, the pattern, what gives the values, and the block; the inner attributes stand first in its
+    /// braces.
     fn to_tokens(&self, tokens: &mut TokenStream) -> Result<()> {
         let braces = Braces {
             attrs: &self.attrs,

@@ -1,4 +1,4 @@
-//! Struct expressions.
+//! Struct expressions by themselves (Rust Reference, "Struct expressions").
 #![tactic(auto, using(syn_tokens::proofs::Fronts::fronts))]
 
 use crate::frames::closed;

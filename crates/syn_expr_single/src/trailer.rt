@@ -1,4 +1,6 @@
-//! What stands behind an operand: calls, indices, fields, `.await` and `?`.
+//! What stands behind an operand, by itself: calls, indices, fields, `.await` and `?` (Rust Reference, "Call expressions",
+//! "Method-call expressions", "Field access expressions", "Array and array index expressions", "Await expressions", "The
+//! question mark operator").
 #![tactic(auto, using(syn_tokens::proofs::Fronts::fronts))]
 
 use crate::kind::KindToTokens;
