@@ -1,0 +1,4 @@
+pub mod Enclosed
+pub mod Adorning
+pub mod Shapes
+pub mod Parts

@@ -1,0 +1,34 @@
+//! An operation behind its attributes.
+
+ghost use Rattle.std.specs.Prelude.{◌≡◌, ◌++◌, true, OnOk};
+ghost use Rattle.syn_expr_kinds.specs.Attrs.{attrs_of};
+ghost use Rattle.syn_expr_print.specs.Printing.{spelled, whole};
+ghost use Rattle.syn_grammar.specs.Next as next;
+ghost use Rattle.syn_grammar.specs.Rule.{is_operation};
+ghost use Rattle.syn_grammar.specs.Tree.{Tree, adorn};
+ghost use Rattle.syn_tokens.specs.Input.{IsFront};
+
+use syn_expr_kinds::node::Attributes;
+use syn_expr_print::printed::is_adorned;
+use syn_expr_put::attrs::put_attributes;
+use syn_expr_put::body::put_parens;
+use syn_expr_put::put::{Grown, grown};
+use syn_lower::attr::Attribute;
+use syn_tokens::tree::TokenStream;
+
+/// Puts attributes, and behind them what was printed of an operation: in parentheses, unless there are no attributes. Without
+/// these the attributes would be those of its first operand (Rust Reference, "Expression attributes").
+///
+/// Memory may run out; a part of the tokens may then follow what was there.
+#[tactic(auto, using(syn_tokens::proofs::Fronts::fronts, crate::proofs::Adorning::operations))]
+pub fn operation(tokens: &mut TokenStream, attrs: &Vec<Attribute>, printed: TokenStream) -> Grown
+    ensures text { (t : Tree) → is_operation t ≡ true → printed ≡ spelled next.enclosed t → OnOk result (tokens.new ≡ tokens.old ++ whole next.enclosed (adorn (attrs_of attrs.now) t)) }
+    ensures front { IsFront tokens.old tokens.new }
+{
+    if is_adorned(Attributes::Before(attrs)) {
+        put_attributes(tokens, Attributes::Before(attrs))?;
+        put_parens(tokens, printed)
+    } else {
+        grown(tokens.append(printed))
+    }
+}

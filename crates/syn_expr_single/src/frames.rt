@@ -1,0 +1,90 @@
+//! What has its operands in places of their own (Rust Reference, "Array expressions", "Tuple expressions", "Struct
+//! expressions", "`if` expressions", "Loop expressions", "`match` expressions", "Closure expressions"), by what is lent of it.
+
+ghost use Rattle.std.specs.Prelude.{◌≡◌, ◌++◌, false, is_some, true, OnOk};
+ghost use Rattle.syn_expr_kinds.specs.Node.{before_of, frame_guards, frame_of, framed, operands_of};
+ghost use Rattle.syn_expr_kinds.specs.Pats.{strays};
+ghost use Rattle.syn_expr_print.specs.Placed.{needs_last};
+ghost use Rattle.syn_expr_print.specs.Printing.{kids_spelled, operand_kids, whole};
+ghost use Rattle.syn_grammar.specs.Next as next;
+ghost use Rattle.syn_grammar.specs.Tree as e;
+ghost use Rattle.syn_grammar.specs.Tree.{adorn, enclosure};
+ghost use Rattle.syn_tokens.specs.Input.{IsFront};
+
+use crate::noted::noted;
+use syn_expr_kinds::node::{Attributes, Frame, Operands};
+use syn_expr_print::frames::kids;
+use syn_expr_print::print::{HasPrinter, node};
+use syn_expr_put::attrs::put_attributes;
+use syn_expr_put::frame::{put_frame_head, put_framed};
+use syn_expr_put::lead::PutPat;
+use syn_expr_put::put::Grown;
+use syn_tokens::token::Brace;
+use syn_tokens::tree::TokenStream;
+
+/// Prints operands in places of their own, with what stands between them. `needs_comma`: one is needed behind the last: behind
+/// the one of a tuple, and before the `..` that ends a struct expression. `brace`: those round the arms of a `match`; of other
+/// nodes some that have no place.
+#[tactic(auto, using(syn_tokens::proofs::Fronts::fronts, crate::proofs::Shapes::placed))]
+fn placed<E: HasPrinter>(
+    tokens: &mut TokenStream,
+    operands: Operands<'_, E, E::Arm>,
+    needs_comma: bool,
+    brace: Brace,
+) -> Grown
+    requires framed { operands_of E.tree E.Arm.view operands ≡ framed (operand_kids (operands_of E.tree E.Arm.view operands)) }
+    ensures text { OnOk result (tokens.new ≡ tokens.old ++ kids_spelled needs_comma (operand_kids (operands_of E.tree E.Arm.view operands.entry))) }
+    ensures front { IsFront tokens.old tokens.new }
+{
+    let (mut notes, operands) = noted::<E>(tokens, operands)?;
+    kids(&node::<E>, tokens, &mut notes, operands, needs_comma, brace)
+}
+
+/// Prints a node with a delimiter round its operands, behind its attributes. `needs_comma`: a comma is needed behind the last.
+#[tactic(auto, using(syn_tokens::proofs::Fronts::fronts))]
+pub fn closed<E: HasPrinter, P: PutPat>(
+    tokens: &mut TokenStream,
+    attributes: Attributes<'_>,
+    frame: Frame<'_, P>,
+    operands: Operands<'_, E, E::Arm>,
+    needs_comma: bool,
+) -> Grown
+    requires closed { is_some (enclosure (frame_of P.view frame)) ≡ true }
+    requires framed { operands_of E.tree E.Arm.view operands ≡ framed (operand_kids (operands_of E.tree E.Arm.view operands)) }
+    requires comma { needs_comma ≡ needs_last (frame_of P.view frame) (e.is_one (operand_kids (operands_of E.tree E.Arm.view operands))) }
+    ensures text { OnOk result (tokens.new ≡ tokens.old ++ whole next.enclosed (adorn (before_of attributes.entry) (e.frame (frame_of P.view frame.entry) (strays (frame_guards P.view frame.entry) (operand_kids (operands_of E.tree E.Arm.view operands.entry)))))) }
+    ensures front { IsFront tokens.old tokens.new }
+{
+    let mut inside = TokenStream::new(tokens.alloc());
+    let before = put_attributes(tokens, attributes);
+    let held = placed::<E>(&mut inside, operands, needs_comma, Brace::default());
+    let put = put_framed(tokens, frame, inside);
+    before?;
+    held?;
+    put?;
+    Ok(())
+}
+
+/// Prints a node with a head before its operands, and no delimiter round them, behind its attributes. `brace`: those round the
+/// arms of a `match`; of other nodes some that have no place.
+#[tactic(auto, using(syn_tokens::proofs::Fronts::fronts))]
+pub fn opened<E: HasPrinter, P: PutPat>(
+    tokens: &mut TokenStream,
+    attributes: Attributes<'_>,
+    frame: Frame<'_, P>,
+    operands: Operands<'_, E, E::Arm>,
+    brace: Brace,
+) -> Grown
+    requires open { is_some (enclosure (frame_of P.view frame)) ≡ false }
+    requires framed { operands_of E.tree E.Arm.view operands ≡ framed (operand_kids (operands_of E.tree E.Arm.view operands)) }
+    ensures text { OnOk result (tokens.new ≡ tokens.old ++ whole next.enclosed (adorn (before_of attributes.entry) (e.frame (frame_of P.view frame.entry) (strays (frame_guards P.view frame.entry) (operand_kids (operands_of E.tree E.Arm.view operands.entry)))))) }
+    ensures front { IsFront tokens.old tokens.new }
+{
+    let before = put_attributes(tokens, attributes);
+    let head = put_frame_head(tokens, frame);
+    let held = placed::<E>(tokens, operands, false, brace);
+    before?;
+    head?;
+    held?;
+    Ok(())
+}
