@@ -2,12 +2,8 @@
 //! and an arm of a `match` (Rust Reference, "Expressions").
 //!
 //! The printer of whole expressions goes through a node by what is lent of it. Here a node's parts are lent by the struct of
-//! its kind, and only its operands are expressions of the type `E`; so the crate stands beside that type, over the traits of
-//! [`HasPrinter`](syn_expr_print::print::HasPrinter).
-//!
-//! [`KindToTokens`] is implemented by the kinds of `syn_expr_kinds` and by fields; an arm is printed by
-//! [`arm_to_tokens`]. The functions of [`ends`], [`trails`] and [`frames`] print a node by its shape:
-//! whoever has a struct of its own for a kind, as for those that hold patterns, prints it by these.
+//! its kind, and only its operands are expressions: the functions of [`ends`], [`trails`] and [`frames`] print a node by its
+//! shape, over any type of expressions, and [`KindToTokens`] is implemented by each kind with them.
 #![tactic(auto)]
 
 pub mod atom;
@@ -26,4 +22,3 @@ pub mod trailer;
 pub mod trails;
 
 pub use kind::KindToTokens;
-pub use part::arm_to_tokens;

@@ -62,13 +62,10 @@ impl<E: HasPrinter> KindToTokens for FieldValueOf<E> {
     }
 }
 
-/// Prints an arm by itself: its attributes, its pattern, its guard, `=>`, its value, and its comma where it has one (Rust
-/// Reference, "`match` expressions"). Behind the value no comma is added.
-///
-/// An arm is of the type that the expressions name, which says where its guard is. It is refused for want of memory alone, as
-/// `OutOfMemory`; a part of the tokens may then stand behind the old ones.
+/// Puts an arm by itself: its attributes, its pattern, its guard, `=>`, its value, and its comma where it has one (Rust
+/// Reference, "Match expressions").
 #[tactic(auto, using(syn_tokens::proofs::Fronts::fronts, crate::proofs::Parts::arms))]
-pub fn arm_to_tokens<E: HasPrinter>(arm: &E::Arm, tokens: &mut TokenStream) -> Result<()>
+pub(crate) fn arm_to_tokens<E: HasPrinter>(arm: &E::Arm, tokens: &mut TokenStream) -> Result<()>
     ensures text { OnOk result (tokens.new ≡ tokens.old ++ (arm_spelled (E.Arm.view arm.now) ++ comma_if (E.Arm.view arm.now).comma)) }
     ensures front { IsFront tokens.old tokens.new }
     ensures err { IfErr result (λ e. e.kind ≡ ErrorKind.OutOfMemory) }

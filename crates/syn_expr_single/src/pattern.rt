@@ -1,26 +1,26 @@
 //! Kinds that hold patterns, by themselves: closures, `for`, `let` in a condition, and `match` (Rust Reference, "Closure
-//! expressions", "Iterator loops", "`if let` patterns", "Match expressions").
-#![tactic(auto, using(syn_tokens::proofs::Fronts::fronts))]
+//! expressions", "Iterator loops", "`if let` patterns", "Match expressions"); and the arms of a `match`. These are structs of
+//! `syn_expr_all`, since they name the type of patterns.
+#![tactic(auto, using(syn_tokens::proofs::Fronts::fronts, syn_expr_all::proofs::TreeOf::members))]
 
 use crate::ends::lead;
 use crate::frames::opened;
 use crate::kind::KindToTokens;
+use crate::part::arm_to_tokens;
+use syn_expr_all::{Arm, Expr, ExprClosure, ExprForLoop, ExprLet, ExprMatch, Pat};
 use syn_expr_kinds::node::{Attributes, Braces, Closure, Frame, Lead, Operands};
-use syn_expr_kinds::pattern::{ExprClosureOf, ExprForLoopOf, ExprLetOf, ExprMatchOf};
 use syn_expr_notes::label::LeadKind;
-use syn_expr_print::print::HasPrinter;
-use syn_expr_put::lead::PutPat;
 use syn_lower::ty::ReturnType;
 use syn_tokens::error::Result;
 use syn_tokens::token::Brace;
 use syn_tokens::tree::TokenStream;
 
-impl<E: HasPrinter, P: PutPat> KindToTokens for ExprClosureOf<E, P> {
-    ghost use Rattle.syn_expr_kinds.specs.Both.{expr_closure_of};
+impl KindToTokens for ExprClosure {
+    ghost use Rattle.syn_expr_all.specs.View.{closure_of};
     ghost use Rattle.syn_expr_print.specs.Printing.{whole};
     ghost use Rattle.syn_grammar.specs.Next.{enclosed};
 
-    ghost own = { λ x. whole enclosed (expr_closure_of E.tree P.view x) };
+    ghost own = { λ x. whole enclosed (closure_of x) };
 
     /// Puts the closure up to its body, and the body; behind an output that is a block, or in braces.
     fn to_tokens(&self, tokens: &mut TokenStream) -> Result<()> {
@@ -38,24 +38,24 @@ impl<E: HasPrinter, P: PutPat> KindToTokens for ExprClosureOf<E, P> {
         match &self.output {
             ReturnType::Default => {
                 let closure = Lead::Closure(closure);
-                lead::<E, P>(tokens, attributes, closure, LeadKind::Closure, &self.body)?
+                lead::<Expr, Pat>(tokens, attributes, closure, LeadKind::Closure, &self.body)?
             }
             ReturnType::Given(_, _) => {
                 let closure = Frame::Closure(closure);
                 let body = Operands::Body(&self.body);
-                opened::<E, P>(tokens, attributes, closure, body, Brace::default())?
+                opened::<Expr, Pat>(tokens, attributes, closure, body, Brace::default())?
             }
         }
         Ok(())
     }
 }
 
-impl<E: HasPrinter, P: PutPat> KindToTokens for ExprForLoopOf<E, P> {
-    ghost use Rattle.syn_expr_kinds.specs.Both.{expr_for_loop_of};
+impl KindToTokens for ExprForLoop {
+    ghost use Rattle.syn_expr_all.specs.View.{for_loop_of};
     ghost use Rattle.syn_expr_print.specs.Printing.{whole};
     ghost use Rattle.syn_grammar.specs.Next.{enclosed};
 
-    ghost own = { λ x. whole enclosed (expr_for_loop_of E.tree P.view x) };
+    ghost own = { λ x. whole enclosed (for_loop_of x) };
 
     /// Puts `for` behind its label, the pattern, what gives the values, and the block; the inner attributes stand first in its
     /// braces.
@@ -66,7 +66,7 @@ impl<E: HasPrinter, P: PutPat> KindToTokens for ExprForLoopOf<E, P> {
         };
         let frame = Frame::ForLoop(&self.label, &self.for_token, &self.pat, &self.in_token);
         let operands = Operands::Loop(&self.expr, braces);
-        opened::<E, P>(
+        opened::<Expr, Pat>(
             tokens,
             Attributes::Around(&self.attrs),
             frame,
@@ -77,34 +77,34 @@ impl<E: HasPrinter, P: PutPat> KindToTokens for ExprForLoopOf<E, P> {
     }
 }
 
-impl<E: HasPrinter, P: PutPat> KindToTokens for ExprLetOf<E, P> {
-    ghost use Rattle.syn_expr_kinds.specs.Both.{expr_let_of};
+impl KindToTokens for ExprLet {
+    ghost use Rattle.syn_expr_all.specs.View.{binding_of};
     ghost use Rattle.syn_expr_print.specs.Printing.{whole};
     ghost use Rattle.syn_grammar.specs.Next.{enclosed};
 
-    ghost own = { λ x. whole enclosed (expr_let_of E.tree P.view x) };
+    ghost own = { λ x. whole enclosed (binding_of x) };
 
     /// Puts `let`, the pattern, `=` and the scrutinee.
     fn to_tokens(&self, tokens: &mut TokenStream) -> Result<()> {
         let attributes = Attributes::Before(&self.attrs);
         let binding = Lead::Let(&self.let_token, &self.pat, &self.eq_token);
-        lead::<E, P>(tokens, attributes, binding, LeadKind::Let, &self.expr)?;
+        lead::<Expr, Pat>(tokens, attributes, binding, LeadKind::Let, &self.expr)?;
         Ok(())
     }
 }
 
-impl<E: HasPrinter> KindToTokens for ExprMatchOf<E, E::Arm> {
-    ghost use Rattle.syn_expr_kinds.specs.Both.{expr_match_of};
+impl KindToTokens for ExprMatch {
+    ghost use Rattle.syn_expr_all.specs.View.{choice_of};
     ghost use Rattle.syn_expr_print.specs.Printing.{whole};
     ghost use Rattle.syn_grammar.specs.Next.{enclosed};
 
-    ghost own = { λ x. whole enclosed (expr_match_of E.tree E.Arm.view x) };
+    ghost own = { λ x. whole enclosed (choice_of x) };
 
     /// Puts `match`, what it looks at, and the arms in braces; the inner attributes stand first in these.
     fn to_tokens(&self, tokens: &mut TokenStream) -> Result<()> {
         let frame = Frame::Match(&self.match_token, &self.brace_token);
         let operands = Operands::Arms(&self.expr, &self.attrs, &self.arms);
-        opened::<E, E::Pat>(
+        opened::<Expr, Pat>(
             tokens,
             Attributes::Around(&self.attrs),
             frame,
@@ -112,5 +112,18 @@ impl<E: HasPrinter> KindToTokens for ExprMatchOf<E, E::Arm> {
             self.brace_token,
         )?;
         Ok(())
+    }
+}
+
+impl KindToTokens for Arm {
+    ghost use Rattle.std.specs.Prelude.{◌++◌};
+    ghost use Rattle.syn_expr_all.specs.View.{arm_of};
+    ghost use Rattle.syn_expr_print.specs.Placed.{arm_spelled, comma_if};
+
+    ghost own = { λ x. arm_spelled (arm_of x) ++ comma_if (arm_of x).comma };
+
+    /// Puts the attributes, the pattern, the guard, `=>`, the value, and the comma where it has one.
+    fn to_tokens(&self, tokens: &mut TokenStream) -> Result<()> {
+        arm_to_tokens::<Expr>(self, tokens)
     }
 }
