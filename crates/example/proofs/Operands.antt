@@ -1,24 +1,18 @@
 -- What the swap does to a tree, and what follows of a text.
-use Rattle.std.proofs.Common.{◌≡◌, ◌⊎◌, inl, inr, ℕ, List, [], ◌∷◌, ◌++◌, refl, sym, ap, ◌∙◌, subst, Option, Some, None, Result, Ok, Err, rules, string_bytes}
-use Rattle.std.specs.Prelude.{IfOk, IfErr, MatchResult, String}
-use Rattle.std.specs.declared.boxed.Box.{Box}
+use Rattle.std.proofs.Common.{◌≡◌, ℕ, List, [], ◌∷◌, ◌++◌, refl, sym, ap, ◌∙◌, subst, Option, Some, None, Result, Ok, Err, rules, string_bytes}
+use Rattle.std.specs.Prelude.{IfOk, MatchResult, String}
 use Rattle.std.specs.declared.alloc.Global.{Global}
-use Rattle.syn_tokens.specs.Input.{Gives}
-use Rattle.syn_tokens.specs.Lex.{Spells}
 use Rattle.syn_tokens.specs.Text.{text}
 use Rattle.syn_tokens.specs.Tok.{Tok}
 use Rattle.syn_tokens.specs.declared.error.Error.{Error}
-use Rattle.syn_tokens.specs.declared.error.ErrorKind.{ErrorKind}
 use Rattle.syn_tokens.specs.declared.error.ErrorKind.TheVariants.{OutOfMemory}
 use Rattle.syn_parts.specs.Tree.{AttributeTree, ReturnTree, default, given}
 use Rattle.syn_grammar.specs.declared.kinds.Infix.TheVariants as inf
 use Rattle.syn_grammar.specs.declared.kinds.Limits.{Limits}
 use Rattle.syn_grammar.specs.declared.next.Context.{Context}
 use Rattle.syn_grammar.specs.Next.{enclosed}
-use Rattle.syn_grammar.specs.Place.{plain}
 use Rattle.syn_grammar.specs.Printed.{in_plain}
 use Rattle.syn_grammar.specs.Rule as rule
-use Rattle.syn_grammar.specs.Stands.{Stands}
 use Rattle.syn_grammar.specs.Tree.{Tree, Jump, ClosureHead, adorn, mid, own_tokens}
 use Rattle.syn_op.specs.View.{bin_kind}
 use Rattle.syn_expr_kinds.specs.declared.operation.ExprBinaryOf.{ExprBinaryOf}
@@ -28,7 +22,6 @@ use Rattle.syn_expr_kinds.specs.View.{jump_with, range_between}
 use Rattle.syn_expr_all.specs.declared.expr.Expr.{Expr, out-Expr, roll-Expr, roll-out-Expr}
 use Rattle.syn_expr_all.specs.declared.expr.Expr.TheVariants as ex
 use Rattle.syn_expr_all.specs.declared.expr.Expr.TheOpen.{Expr-F}
-use Rattle.syn_expr_all.specs.declared.held.HeldExpr.{HeldExpr}
 use Rattle.syn_expr_all.specs.declared.pat.Pat.{Pat}
 use Rattle.syn_expr_all.specs.declared.pat.PatGuard.{PatGuard}
 use Rattle.syn_expr_all.specs.declared.closure.ExprClosure.{ExprClosure}
@@ -40,7 +33,7 @@ use Rattle.syn_expr_all.specs.View.{tree_layer, tree_of, views}
 use Rattle.syn_expr_all.proofs.TreeOf.{tree_out, tree-Binary, closure-is, for_loop-is, binding-is, choice-is}
 use Rattle.syn_expr.specs.Promises.{PrintedAs}
 use Rattle.syn_expr.proofs.Promised.{prints_at}
-use Rattle.example.specs.Swapped.{swapped_tree, StandsFor, IsSwapped, NothingStands}
+use Rattle.example.specs.Swapped.{swapped_tree, StandsFor, IsSwapped}
 
 -- ---- an operation
 
@@ -48,13 +41,12 @@ behind : (ats : List AttributeTree) (t : Tree) → swapped_tree (adorn ats t) �
 behind [] t = refl
 behind (a ∷ more) t = refl
 
-pub exchanged : (x : Expr) (o : ExprBinaryOf Expr) (left right : Box Expr Global) → x ≡ ex.Binary o → left ≡ o.right → right ≡ o.left
-    → tree_of (ex.Binary (record { attrs = o.attrs; left = left; op = o.op; right = right })) ≡ swapped_tree (tree_of x)
-exchanged x o left right is from_right from_left =
-    tree-Binary (record { attrs = o.attrs; left = left; op = o.op; right = right }) ∙ rw (from_right, from_left) refl
-    ∙ sym (ap (λ y. swapped_tree (tree_of y)) is ∙ ap swapped_tree (tree-Binary o) ∙ behind (attrs_of o.attrs) (mid (tree_of o.left.value) (inf.Binary (bin_kind o.op)) (tree_of o.right.value)))
+pub exchanged : (o : ExprBinaryOf Expr) → tree_of (ex.Binary (record o { left = o.right; right = o.left })) ≡ swapped_tree (tree_of (ex.Binary o))
+exchanged o =
+    tree-Binary (record o { left = o.right; right = o.left })
+    ∙ sym (ap swapped_tree (tree-Binary o) ∙ behind (attrs_of o.attrs) (mid (tree_of o.left.value) (inf.Binary (bin_kind o.op)) (tree_of o.right.value)))
 
--- ---- what is none
+-- ---- anything else
 
 adorn_stays : (ats : List AttributeTree) (t : Tree) → swapped_tree t ≡ t → swapped_tree (adorn ats t) ≡ adorn ats t
 adorn_stays ats t h = behind ats t ∙ ap (adorn ats) h
@@ -84,13 +76,6 @@ left_alone x none =
     sym (ap swapped_tree (tree_out x) ∙ layer_stays (out-Expr x) (λ b h. none b (sym (roll-out-Expr x) ∙ ap roll-Expr h ∙ ex.rolls-Binary b)) ∙ sym (tree_out x))
 
 -- ---- a text
-
-refused_by : (k : ErrorKind) (cs : List ℕ) → ((t : Tree) → StandsFor cs t → k ≡ OutOfMemory) → (k ≡ OutOfMemory) ⊎ NothingStands cs
-refused_by OutOfMemory cs h = inl refl
-refused_by k cs h = inr (λ t s. let e = h t s in cc)
-
-pub refused : (cs : List ℕ) (e : Error) → ((t : Tree) (l : List Tok) → Spells cs l → Stands plain l t [] → Gives {A = HeldExpr} (λ h. tree_of h.expr) t (Err e)) → (e.kind ≡ OutOfMemory) ⊎ NothingStands cs
-refused cs e found = refused_by e.kind cs (λ t s. found t s.0 s.1 s.2)
 
 pub printed : (cs : List ℕ) (t u : Tree) (c : Context) (old new : List Tok) (r : Result (String Global) Error) → StandsFor cs t → u ≡ swapped_tree t → c ≡ enclosed → old ≡ []
     → new ≡ old ++ own_tokens (rule.printed c u) → MatchResult r (λ s. string_bytes s ≡ text new) (λ e. e.kind ≡ OutOfMemory) → IfOk r (λ s. IsSwapped cs (string_bytes s))

@@ -34,16 +34,16 @@ behind : (ats : List AttributeTree) (t : Tree) → value_of (adorn ats t) ≡ va
 behind [] t = refl
 behind (a ∷ more) t = refl
 
-value-Lit : (x : ExprLit) → value_of (tree_of (ex.Lit x)) ≡ literal_value (lit_of x.lit)
+pub value-Lit : (x : ExprLit) → value_of (tree_of (ex.Lit x)) ≡ literal_value (lit_of x.lit)
 value-Lit x = ap value_of (tree-Lit x) ∙ behind (attrs_of x.attrs) (leaf (lit (lit_of x.lit)))
 
-value-Paren : (x : ExprParenOf Expr) → value_of (tree_of (ex.Paren x)) ≡ value_of (tree_of x.expr.value)
+pub value-Paren : (x : ExprParenOf Expr) → value_of (tree_of (ex.Paren x)) ≡ value_of (tree_of x.expr.value)
 value-Paren x = ap value_of (tree-Paren x) ∙ behind (attrs_of x.attrs) (paren false (tree_of x.expr.value))
 
-value-Unary : (x : ExprUnaryOf Expr) → value_of (tree_of (ex.Unary x)) ≡ option_and_then (prefix_value (un_kind x.op)) (value_of (tree_of x.expr.value))
+pub value-Unary : (x : ExprUnaryOf Expr) → value_of (tree_of (ex.Unary x)) ≡ option_and_then (prefix_value (un_kind x.op)) (value_of (tree_of x.expr.value))
 value-Unary x = ap value_of (tree-Unary x) ∙ behind (attrs_of x.attrs) (lead (unary (un_kind x.op)) none (tree_of x.expr.value))
 
-value-Binary : (x : ExprBinaryOf Expr) → value_of (tree_of (ex.Binary x)) ≡ combined (binary_value (bin_kind x.op)) (value_of (tree_of x.left.value)) (value_of (tree_of x.right.value))
+pub value-Binary : (x : ExprBinaryOf Expr) → value_of (tree_of (ex.Binary x)) ≡ combined (binary_value (bin_kind x.op)) (value_of (tree_of x.left.value)) (value_of (tree_of x.right.value))
 value-Binary x = ap value_of (tree-Binary x) ∙ behind (attrs_of x.attrs) (mid (tree_of x.left.value) (inf.Binary (bin_kind x.op)) (tree_of x.right.value))
 
 pub ruleset kinds = (value-Lit, value-Paren, value-Unary, value-Binary)
