@@ -1,19 +1,35 @@
 //! Reads operations, swaps the operands of each, and prints it: parentheses stand where they are needed.
 #![tactic(auto)]
 
+ghost use Rattle.std.specs.Prelude.{◌≡◌, ◌⊎◌, IfErr, IfOk, chars, string_bytes};
+ghost use Rattle.syn_expr_all.specs.View.{tree_of};
+ghost use Rattle.example.specs.Swapped.{IsSwapped, NothingStands, swapped_tree};
+
 use std::alloc::Global;
 use std::io;
 use std::mem::swap;
-use syn_expr::{Expr, HeldExpr, Result, ToTokens, TokenStream, parse_str, to_text};
+use syn_expr::{
+    ErrorKind, Expr, FixupContext, HeldExpr, Result, TokenStream, parse_str, print_expr, to_text,
+};
 
-/// The text of an operation with its operands swapped. What is no operation stays as it is.
-fn swapped(alloc: Global, text: &str) -> Result<String> {
-    let mut held = parse_str::<HeldExpr>(alloc, text)?;
-    if let Expr::Binary(operation) = &mut held.expr {
+/// Swaps the operands of an operation. What is no operation stays as it is.
+fn swap_operands(expr: &mut Expr)
+    ensures { tree_of expr.new ≡ swapped_tree (tree_of expr.old) }
+{
+    if let Expr::Binary(operation) = expr {
         swap(&mut operation.left, &mut operation.right);
     }
+}
+
+/// The text of an expression, with the operands swapped where it is an operation.
+fn swapped(alloc: Global, text: &str) -> Result<String>
+    ensures value { IfOk result (λ s. IsSwapped (chars text.now) (string_bytes s)) }
+    ensures refused { IfErr result (λ e. (e.kind ≡ ErrorKind.OutOfMemory) ⊎ NothingStands (chars text.now)) }
+{
+    let mut held = parse_str::<HeldExpr>(alloc, text)?;
+    swap_operands(&mut held.expr);
     let mut tokens = TokenStream::new(alloc);
-    held.to_tokens(&mut tokens)?;
+    print_expr(&held.expr, &mut tokens, FixupContext::NONE)?;
     to_text(&tokens)
 }
 

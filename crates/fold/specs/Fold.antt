@@ -1,0 +1,84 @@
+-- The value of an expression of integers, as an `i64` (Rust Reference, "Integer literal expressions", "Grouped expressions",
+-- "Negation operators", "Arithmetic and Logical Binary Operators", "Overflow").
+use Rattle.std.specs.Prelude.{◌≡◌, ℕ, zero, ◌^◌, Bool, false, nat_lt, if◌then◌else◌, List, [], ◌∷◌, Option, Some, None, option_map, option_and_then, ℤ, pos, negsuc, ◌+ℤ◌, ◌-ℤ◌, ◌*ℤ◌, neg_ℤ, int_div, int_rem}
+use Rattle.syn_tokens.specs.Lex.{Spells}
+use Rattle.syn_tokens.specs.Tok.{Tok, literal}
+use Rattle.syn_parts.specs.declared.label.LitKind.{LitKind}
+use Rattle.syn_parts.specs.declared.label.LitKind.TheVariants as kind
+use Rattle.syn_parts.specs.Pat.{index_of}
+use Rattle.syn_parts.specs.Text.{Text}
+use Rattle.syn_parts.specs.Tree.{LitTree}
+use Rattle.syn_grammar.specs.declared.kinds.BinKind.{BinKind}
+use Rattle.syn_grammar.specs.declared.kinds.BinKind.TheVariants as bin
+use Rattle.syn_grammar.specs.declared.kinds.Infix.TheVariants as inf
+use Rattle.syn_grammar.specs.declared.kinds.UnKind.{UnKind}
+use Rattle.syn_grammar.specs.declared.kinds.UnKind.TheVariants as un
+use Rattle.syn_grammar.specs.Place.{plain}
+use Rattle.syn_grammar.specs.Stands.{Stands}
+use Rattle.syn_grammar.specs.Tree.{Tree, leaf, lit, paren, adorned, lead, unary, mid}
+
+-- ---- literals
+
+-- an integer of any base, with underscores or without, that has no suffix and is not above 4294967295
+abbrev pub integer : Text → Option ℤ
+integer text = option_map pos (index_of text)
+
+-- the same of a single token
+abbrev pub token_value : List Tok → Option ℤ
+token_value (literal text ∷ []) = integer text
+token_value _ = None
+
+abbrev pub value_by_kind : LitKind → Text → Option ℤ
+value_by_kind kind.Int text = integer text
+value_by_kind _ text = None
+
+abbrev pub literal_value : LitTree → Option ℤ
+literal_value x = value_by_kind x.kind x.text
+
+-- ---- operations
+
+-- from -2 ^ 63 to 2 ^ 63 - 1
+abbrev pub fits : ℤ → Bool
+fits (pos n) = nat_lt n (2 ^ 63)
+fits (negsuc n) = nat_lt n (2 ^ 63)
+
+-- A result that overflows is no value.
+abbrev pub checked : ℤ → Option ℤ
+checked z = if fits z then Some z else None
+
+-- The divisor is not zero, and the quotient, rounded towards zero, doesn't overflow.
+abbrev pub divides : ℤ → ℤ → Bool
+divides x (pos zero) = false
+divides x y = fits (int_div x y)
+
+abbrev pub prefix_value : UnKind → ℤ → Option ℤ
+prefix_value un.Neg x = checked (neg_ℤ x)
+prefix_value _ x = None
+
+abbrev pub binary_value : BinKind → ℤ → ℤ → Option ℤ
+binary_value bin.Add x y = checked (x +ℤ y)
+binary_value bin.Sub x y = checked (x -ℤ y)
+binary_value bin.Mul x y = checked (x *ℤ y)
+binary_value bin.Div x y = if divides x y then Some (int_div x y) else None
+binary_value bin.Rem x y = if divides x y then Some (int_rem x y) else None
+binary_value _ x y = None
+
+-- by the values of two operands, where both have one
+abbrev pub combined : (ℤ → ℤ → Option ℤ) → Option ℤ → Option ℤ → Option ℤ
+combined f (Some x) (Some y) = f x y
+combined f _ _ = None
+
+-- ---- expressions
+
+-- Attributes are looked through. Nothing else has a value.
+abbrev pub value_of : Tree → Option ℤ
+value_of (leaf (lit x)) = literal_value x
+value_of (paren m t) = value_of t
+value_of (adorned a more t) = value_of t
+value_of (lead (unary k) gs t) = option_and_then (prefix_value k) (value_of t)
+value_of (mid x (inf.Binary k) y) = combined (binary_value k) (value_of x) (value_of y)
+value_of _ = None
+
+-- Some tree stands for the tokens that the text is cut into, and this is its value.
+abbrev pub IsValueOf : List ℕ → Option ℤ → Type 0
+IsValueOf cs v = (t : Tree) × (ts : List Tok) × Spells cs ts × Stands plain ts t [] × (v ≡ value_of t)

@@ -1,0 +1,124 @@
+//! Folds constants: tells the value of each expression that is made of integers and arithmetic alone.
+#![tactic(auto)]
+
+ghost use Rattle.std.specs.Prelude.{◌≡◌, IfErr, IfOk, chars, option_and_then};
+ghost use Rattle.syn_tokens.specs.View.{toks_of};
+ghost use Rattle.syn_lower_leaves.specs.View.{lit_of};
+ghost use Rattle.syn_op.specs.View.{bin_kind, un_kind};
+ghost use Rattle.syn_expr_all.specs.View.{tree_of};
+ghost use Rattle.fold.specs.Fold as spec;
+
+use std::alloc::Global;
+use std::io;
+use syn_expr::op::{BinOp, UnOp};
+use syn_expr::{
+    ErrorKind, Expr, HeldExpr, Lit, Result, ToTokens, TokenStream, TokenTree, parse_str,
+};
+use syn_expr_parts::number::index_of;
+
+/// The value of a single token, if it is an integer without a suffix that is not above 4294967295.
+#[tactic(auto, using(syn_tokens::proofs::Views::views))]
+fn token_value(tokens: &[TokenTree]) -> Option<i64>
+    ensures { result ≡ spec.token_value (toks_of tokens.now) }
+{
+    match tokens {
+        [TokenTree::Literal(literal)] => index_of(literal.as_str()).map(i64::from),
+        _ => None,
+    }
+}
+
+/// The value of a literal, if it is such an integer.
+#[tactic(auto, using(crate::proofs::Literals::own_value))]
+fn literal_value(alloc: Global, lit: &Lit) -> Result<Option<i64>>
+    ensures value { IfOk result (λ v. v ≡ spec.literal_value (lit_of lit.now)) }
+    ensures memory { IfErr result (λ e. e.kind ≡ ErrorKind.OutOfMemory) }
+{
+    let Lit::Int(number) = lit else {
+        return Ok(None);
+    };
+    let mut tokens = TokenStream::new(alloc);
+    number.to_tokens(&mut tokens)?;
+    Ok(token_value(tokens.trees()))
+}
+
+/// The value of an operand behind a prefix operator, if it has one and does not overflow.
+fn prefix_value(op: &UnOp, operand: Option<i64>) -> Option<i64>
+    ensures { result ≡ option_and_then (spec.prefix_value (un_kind op.now)) operand }
+{
+    match op {
+        UnOp::Neg(_) => operand?.checked_neg(),
+        UnOp::Deref(_) | UnOp::Not(_) => None,
+    }
+}
+
+/// The value of a binary operation, if its operands have one and it neither overflows nor divides by zero.
+fn binary_value(op: &BinOp, left: Option<i64>, right: Option<i64>) -> Option<i64>
+    ensures { result ≡ spec.combined (spec.binary_value (bin_kind op.now)) left right }
+{
+    let (left, right) = (left?, right?);
+    match op {
+        BinOp::Add(_) => left.checked_add(right),
+        BinOp::Sub(_) => left.checked_sub(right),
+        BinOp::Mul(_) => left.checked_mul(right),
+        BinOp::Div(_) => left.checked_div(right),
+        BinOp::Rem(_) => left.checked_rem(right),
+        _ => None,
+    }
+}
+
+/// The value of an expression of integers, parentheses, `-`, and `+`, `-`, `*`, `/` and `%`, whatever attributes it has. No other
+/// expression has a value, nor has one in which an operation overflows or divides by zero.
+///
+/// Memory may run out (`OutOfMemory`).
+#[tactic(auto, using(crate::proofs::Values::kinds))]
+fn value(alloc: Global, expr: &Expr) -> Result<Option<i64>>
+    ensures value { IfOk result (λ v. v ≡ spec.value_of (tree_of expr.now)) }
+    ensures memory { IfErr result (λ e. e.kind ≡ ErrorKind.OutOfMemory) }
+{
+    match expr {
+        Expr::Lit(literal) => literal_value(alloc, &literal.lit),
+        Expr::Paren(paren) => value(alloc, &paren.expr),
+        Expr::Unary(operation) => {
+            let operand = value(alloc, &operation.expr)?;
+            Ok(prefix_value(&operation.op, operand))
+        }
+        Expr::Binary(operation) => {
+            let left = value(alloc, &operation.left)?;
+            let right = value(alloc, &operation.right)?;
+            Ok(binary_value(&operation.op, left, right))
+        }
+        _ => Ok(None),
+    }
+}
+
+/// The value of the expression that a text is.
+fn value_of_text(alloc: Global, text: &str) -> Result<Option<i64>>
+    ensures { IfOk result (λ v. spec.IsValueOf (chars text.now) v) }
+{
+    let held = parse_str::<HeldExpr>(alloc, text)?;
+    value(alloc, &held.expr)
+}
+
+fn main(rt: HostRuntime) -> io::Result<()> {
+    for text in [
+        "1 + 2 * 3",
+        "(1 + 2) * 3",
+        "-(7 / 2)",
+        "-7 % 3",
+        "0xff_ff - 0b1",
+        "1 / 0",
+        "4294967295 * 4294967295",
+        "a + 1",
+        "1 +",
+    ] {
+        match value_of_text(rt.alloc(), text) {
+            Ok(Some(value)) => println!(rt; "{text} is {value}")?,
+            Ok(None) => println!(rt; "{text} has no value")?,
+            Err(e) => {
+                let (lo, hi, kind) = (e.span.lo, e.span.hi, e.kind);
+                println!(rt; "{text} is refused at {lo}..{hi}: {kind}")?;
+            }
+        }
+    }
+    Ok(())
+}
