@@ -1,5 +1,5 @@
 -- What the code makes anew of what holds both expressions and patterns.
-use Rattle.std.proofs.Common.{◌≡◌, [], ◌++◌, Option, Result, IfOk, subst, sym, ap, ◌∙◌}
+use Rattle.std.proofs.Common.{◌≡◌, [], ◌++◌, Option, Result, IfOk, refl, subst, sym, ap, ◌∙◌}
 use Rattle.std.specs.declared.alloc.AllocError.{AllocError}
 use Rattle.std.specs.declared.vec.Vec.{Vec}
 use Rattle.std.specs.declared.boxed.Box.{Box}
@@ -8,8 +8,7 @@ use Rattle.syn_lower.specs.View.{values, trails}
 use Rattle.syn_lower_leaves.specs.declared.attr.Attribute.{Attribute}
 use Rattle.syn_lower_lists.specs.declared.punctuated.Punctuated.{Punctuated}
 use Rattle.syn_grammar.specs.Tree.{Tree}
-use Rattle.syn_parts.specs.Pat.{PatTree}
-use Rattle.syn_pat_kinds.specs.View.{PatView, view_with}
+use Rattle.syn_pat_kinds.specs.View.{PatView}
 use Rattle.syn_expr_kinds.specs.Attrs.{attrs_of}
 use Rattle.syn_expr_all.specs.declared.expr.Expr.{Expr}
 use Rattle.syn_expr_all.specs.declared.pat.Pat.{Pat}
@@ -24,7 +23,6 @@ use Rattle.syn_expr_all.proofs.TreeOf.{arm-is, binding-is, choice-is, closure-is
 use Rattle.syn_expr_flat.specs.Each.{Each}
 use Rattle.syn_expr_flat.specs.Flat.{IsFlat, IsFlatBehind, before}
 use Rattle.syn_expr_flat.specs.Pats.{IsFlatArm, IsFlatPat}
-use Rattle.syn_expr_flat.proofs.Pats.{alone_flat}
 use Rattle.syn_expr_flatten.proofs.Both.{ArePats, Joined, arm_flat, closure_behind, for_loop_behind, guard_flat, let_behind, match_behind}
 
 -- what is related by what both are
@@ -81,5 +79,6 @@ pub case : (r : Result (Unit {0}) AllocError) (x y : Pat) {p q : PatView} → pa
 case r x y {p = p} old new flat = subst (λ z. IfOk r (λ a. IsFlatPat z (pat_of y))) (sym old) (subst (λ z. IfOk r (λ a. IsFlatPat p z)) (sym new) flat)
 
 -- a pattern that holds no other
-pub bare : (x : Pat) (v : Vec Attribute Global) (p : PatTree) → pat_of x ≡ view_with v p [] → IsFlatPat (pat_of x) (pat_of x)
-bare x v p is = related IsFlatPat is is (alone_flat v p)
+pub bare : (x : Pat) (u : PatView) → pat_of x ≡ u → u.guards ≡ [] → IsFlatPat (pat_of x) (pat_of x)
+unfolding Each
+bare x u is none = related IsFlatPat is is (refl, subst (λ l. Each IsFlat l l) (sym none) tt)

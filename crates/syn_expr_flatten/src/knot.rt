@@ -1,12 +1,13 @@
 //! The knot of `syn_expr_flat`: expressions and patterns of all kinds, without the parentheses of expressions in them.
 
 ghost use Rattle.std.specs.Prelude.{IfOk};
-ghost use Rattle.syn_expr_all.specs.View.{pat_of, tree_of};
+ghost use Rattle.syn_expr_all.specs.View.{arm_of, pat_of, tree_of};
 ghost use Rattle.syn_expr_flat.specs.Flat.{IsFlat, IsFlatBehind};
-ghost use Rattle.syn_expr_flat.specs.Pats.{IsFlatPat};
+ghost use Rattle.syn_expr_flat.specs.Pats.{IsFlatArm, IsFlatPat};
 
 use crate::paren::lift;
 use crate::{kept, members};
+use syn_expr_all::control::Arm;
 use syn_expr_all::expr::Expr;
 use syn_expr_all::pat::Pat;
 use syn_expr_flat::attrs::Before;
@@ -40,6 +41,14 @@ fn pattern(x: &mut Pat) -> Flattened<()>
     }
 }
 
+/// An arm without the parentheses in it.
+#[cycle(flatten)]
+fn arm(x: &mut Arm) -> Flattened<()>
+    ensures { IfOk result (λ _. IsFlatArm (arm_of x.old) (arm_of x.new)) }
+{
+    members::arm(x, operand, pattern)
+}
+
 /// An expression without the parentheses in it, behind the attributes of those that stood round it.
 #[cycle(flatten)]
 fn flattened(x: &mut Expr, attrs: Before) -> Flattened<()>
@@ -68,7 +77,7 @@ fn flattened(x: &mut Expr, attrs: Before) -> Flattened<()>
         Expr::Lit(x) => leaf::lit(x, attrs),
         Expr::Loop(x) => leaf::loop_expr(x, attrs),
         Expr::Macro(x) => leaf::mac(x, attrs),
-        Expr::Match(x) => members::match_expr(x, attrs, operand, pattern),
+        Expr::Match(x) => members::match_expr(x, attrs, operand, arm),
         Expr::MethodCall(x) => trailer::method_call(x, attrs, operand),
         Expr::Paren(paren) => {
             unwrapped(paren, attrs, flattened)?;

@@ -12,6 +12,7 @@ ghost use Rattle.syn_expr_all.specs.declared.pat.PatGuard.{out-PatGuard};
 ghost use Rattle.syn_expr_flat.specs.Calls.{Takes};
 ghost use Rattle.syn_expr_flat.specs.Flat.{Flattens, IsFlatBehind};
 ghost use Rattle.syn_expr_flat.specs.Pats.{FlattensPat, IsFlatArm, IsFlatPat};
+ghost use Rattle.syn_expr_flatten.specs.Arms.{FlattensArm};
 
 use crate::each::each;
 use syn_expr_all::closure::ExprClosure;
@@ -97,7 +98,7 @@ pub(crate) fn let_expr<F: Fn(&mut Expr) -> Flattened<()>, G: Fn(&mut Pat) -> Fla
 }
 
 /// An arm without the parentheses in it.
-fn arm<F: Fn(&mut Expr) -> Flattened<()>, G: Fn(&mut Pat) -> Flattened<()>>(
+pub(crate) fn arm<F: Fn(&mut Expr) -> Flattened<()>, G: Fn(&mut Pat) -> Flattened<()>>(
     one: &mut Arm,
     flatten: F,
     pattern: G,
@@ -114,33 +115,20 @@ fn arm<F: Fn(&mut Expr) -> Flattened<()>, G: Fn(&mut Pat) -> Flattened<()>>(
 }
 
 /// It without the parentheses in it, behind more attributes.
-pub(crate) fn match_expr<F: Fn(&mut Expr) -> Flattened<()>, G: Fn(&mut Pat) -> Flattened<()>>(
+pub(crate) fn match_expr<F: Fn(&mut Expr) -> Flattened<()>, A: Fn(&mut Arm) -> Flattened<()>>(
     x: &mut ExprMatch,
     attrs: Before,
     flatten: F,
-    pattern: G,
+    arm: A,
 ) -> Flattened<()>
     requires expr { Takes (F.pre flatten) (out-ExprMatch x.old).expr.value }
-    requires arms { (one : Arm) → Contains (out-ExprMatch x.old).arms.items one → Takes (G.pre pattern) (out-Arm one).pat }
-    requires bodies { (one : Arm) → Contains (out-ExprMatch x.old).arms.items one → Takes (F.pre flatten) (out-Arm one).body.value }
-    requires pats { FlattensPat pat_of (G.post pattern) }
+    requires arms { (one : Arm) → Contains (out-ExprMatch x.old).arms.items one → Takes (A.pre arm) one }
     requires gives { Flattens tree_of (F.post flatten) }
+    requires each { FlattensArm arm_of (A.post arm) }
     ensures { IfOk result (λ _. IsFlatBehind attrs (choice_of x.old) (choice_of x.new)) }
 {
     put_before(attrs, &mut x.attrs)?;
-    boxed(&mut x.expr, &flatten)?;
-    each(
-        &mut x.arms,
-        |one: &mut Arm| -> Flattened<()>
-            requires pat { Takes (G.pre pattern) (out-Arm one.old).pat }
-            requires body { Takes (F.pre flatten) (out-Arm one.old).body.value }
-            requires pats { FlattensPat pat_of (G.post pattern) }
-            requires gives { Flattens tree_of (F.post flatten) }
-            ensures { IfOk result (λ _. IsFlatArm (arm_of one.old) (arm_of one.new)) }
-        {
-            arm(one, &flatten, &pattern)?;
-            Ok(())
-        },
-    )?;
+    boxed(&mut x.expr, flatten)?;
+    each(&mut x.arms, arm)?;
     Ok(())
 }

@@ -1,6 +1,7 @@
 -- In each arm what the arm's own function leaves is put back into its kind.
 use Rattle.std.proofs.Common.{refl, sym, ap, ◌∙◌}
 use Rattle.syn_expr_all.specs.View.{binding_of, choice_of, closure_of, expr_array_of, expr_assign_of, expr_async_of, expr_await_of, expr_binary_of, expr_block_of, expr_break_of, expr_call_of, expr_cast_of, expr_const_of, expr_continue_of, expr_field_of, expr_group_of, expr_if_of, expr_index_of, expr_infer_of, expr_lit_of, expr_loop_of, expr_macro_of, expr_method_call_of, expr_paren_of, expr_path_of, expr_range_of, expr_raw_addr_of, expr_reference_of, expr_repeat_of, expr_return_of, expr_struct_of, expr_try_block_of, expr_try_of, expr_tuple_of, expr_unary_of, expr_unsafe_of, expr_while_of, expr_yield_of, for_loop_of, guard_of, pat_ident_of, pat_of, pat_or_of, pat_paren_of, pat_reference_of, pat_slice_of, pat_struct_of, pat_tuple_of, pat_tuple_struct_of, pat_type_of, tree_of}
+use Rattle.syn_grammar.specs.Tree.{leaf, verbatim}
 use Rattle.syn_expr_all.specs.declared.expr.Expr.TheVariants as ex
 use Rattle.syn_expr_all.specs.declared.pat.Pat.TheVariants as pt
 use Rattle.syn_expr_all.proofs.TreeOf as of
@@ -124,7 +125,7 @@ pub flattened-returns-in-Yield : goal.flattened-returns-in-Yield
 flattened-returns-in-Yield t c = rw (c.in-Yield.is, ex.outs-Yield c.in-Yield.x) (arm _ _ _ _ (of.tree-Yield c.in-Yield.x ∙ sym (ap (expr_yield_of tree_of) c.in-Yield.x-is)) (of.tree-Yield c.yield_expr.new.x) c.yield_expr.ensures)
 
 pub flattened-returns-in-Verbatim : goal.flattened-returns-in-Verbatim
-flattened-returns-in-Verbatim t c = rw (c.in-Verbatim.is, ex.outs-Verbatim c.in-Verbatim.tokens) (arm _ _ _ _ (of.tree-Verbatim _) (of.tree-Verbatim _) c.behind.ensures)
+flattened-returns-in-Verbatim t c = rw (c.in-Verbatim.is, ex.outs-Verbatim c.in-Verbatim.tokens) (arm _ _ _ _ (of.tree-Verbatim c.in-Verbatim.tokens ∙ sym (ap (λ l. leaf (verbatim l)) c.in-Verbatim.tokens-is)) (of.tree-Verbatim c.behind.new.tokens) c.behind.ensures)
 
 pub flattened-returns-in_ok-unwrapped-in-Paren : goal.flattened-returns-in_ok-unwrapped-in-Paren
 flattened-returns-in_ok-unwrapped-in-Paren t c =
@@ -165,22 +166,22 @@ pub pattern-returns-in-Typed : goal.pattern-returns-in-Typed
 pattern-returns-in-Typed t c = rw (c.in-Typed.is, pt.outs-Typed c.in-Typed.x) (case _ _ _ (of.pat-Typed c.in-Typed.x ∙ sym (ap (pat_type_of pat_of) c.in-Typed.x-is)) (of.pat-Typed c.typed.new.x) c.typed.ensures)
 
 pub pattern-returns-in-Const : goal.pattern-returns-in-Const
-pattern-returns-in-Const t c = bare _ _ _ (ap pat_of c.in-Const.is ∙ of.pat-Const _)
+pattern-returns-in-Const t c = bare _ _ (ap pat_of c.in-Const.is ∙ of.pat-Const c.in-Const.field-0) refl
 
 pub pattern-returns-in-Lit : goal.pattern-returns-in-Lit
-pattern-returns-in-Lit t c = bare _ _ _ (ap pat_of c.in-Lit.is ∙ of.pat-Lit _)
+pattern-returns-in-Lit t c = bare _ _ (ap pat_of c.in-Lit.is ∙ of.pat-Lit c.in-Lit.field-0) refl
 
 pub pattern-returns-in-Macro : goal.pattern-returns-in-Macro
-pattern-returns-in-Macro t c = bare _ _ _ (ap pat_of c.in-Macro.is ∙ of.pat-Macro _)
+pattern-returns-in-Macro t c = bare _ _ (ap pat_of c.in-Macro.is ∙ of.pat-Macro c.in-Macro.field-0) refl
 
 pub pattern-returns-in-Path : goal.pattern-returns-in-Path
-pattern-returns-in-Path t c = bare _ _ _ (ap pat_of c.in-Path.is ∙ of.pat-Path _)
+pattern-returns-in-Path t c = bare _ _ (ap pat_of c.in-Path.is ∙ of.pat-Path c.in-Path.field-0) refl
 
 pub pattern-returns-in-Range : goal.pattern-returns-in-Range
-pattern-returns-in-Range t c = bare _ _ _ (ap pat_of c.in-Range.is ∙ of.pat-Range _)
+pattern-returns-in-Range t c = bare _ _ (ap pat_of c.in-Range.is ∙ of.pat-Range c.in-Range.field-0) refl
 
 pub pattern-returns-in-Rest : goal.pattern-returns-in-Rest
-pattern-returns-in-Rest t c = bare _ _ _ (ap pat_of c.in-Rest.is ∙ of.pat-Rest _)
+pattern-returns-in-Rest t c = bare _ _ (ap pat_of c.in-Rest.is ∙ of.pat-Rest c.in-Rest.field-0) refl
 
 pub pattern-returns-in-Wild : goal.pattern-returns-in-Wild
-pattern-returns-in-Wild t c = bare _ _ _ (ap pat_of c.in-Wild.is ∙ of.pat-Wild _)
+pattern-returns-in-Wild t c = bare _ _ (ap pat_of c.in-Wild.is ∙ of.pat-Wild c.in-Wild.field-0) refl

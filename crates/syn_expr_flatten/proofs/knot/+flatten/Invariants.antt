@@ -10,3 +10,6 @@ decreases-operand l = 2 * goal.size-operand l + 1
 
 abbrev pub decreases-pattern : goal.decreases-pattern
 decreases-pattern l = 2 * goal.size-pattern l
+
+abbrev pub decreases-arm : goal.decreases-arm
+decreases-arm l = 2 * goal.size-arm l

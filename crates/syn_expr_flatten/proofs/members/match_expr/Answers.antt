@@ -2,12 +2,10 @@ use Rattle.syn_expr_all.specs.View.{arm_of, tree_of}
 use Rattle.syn_expr_flat.specs.Pats.{IsFlatArm}
 use Rattle.syn_expr_flat.proofs.Calls.{flat_by, left_by}
 use Rattle.syn_expr_flat.proofs.Each.{each_by}
-use Rattle.syn_expr_flat.proofs.Refs.{by_ref}
 use Rattle.syn_expr_flatten.proofs.Made.{match_made}
 use Rattle.syn_expr_flatten.proofs.members.match_expr.Goals as goal
 
 pub returns : goal.returns
-returns g c =
-    let one = left_by _ (λ x y. IsFlatArm (arm_of x) (arm_of y)) (λ old new r met. met) in
-    match_made c.args.attrs c.args.x.now _ _ _ (c.in_ok-put_before.ensures.outer, c.in_ok-put_before.ensures.inner)
-    (flat_by tree_of _ c.requires.gives _ _ (by_ref _ _ _ c.in_ok-boxed.ensures)) (each_by _ _ one _ _ c.in_ok-each.ensures)
+returns g c = match_made c.args.attrs c.args.x.now _ _ _ (c.in_ok-put_before.ensures.outer, c.in_ok-put_before.ensures.inner)
+    (flat_by tree_of _ c.requires.gives _ _ c.in_ok-boxed.ensures)
+    (each_by _ _ (left_by _ (λ x y. IsFlatArm (arm_of x) (arm_of y)) c.requires.each) _ _ c.in_ok-each.ensures)
