@@ -1,11 +1,15 @@
+use Rattle.std.proofs.Common.{Contains, subst}
 use Rattle.syn_expr_all.specs.View.{arm_of, tree_of}
 use Rattle.syn_expr_flat.specs.Pats.{IsFlatArm}
 use Rattle.syn_expr_flat.proofs.Calls.{flat_by, left_by}
 use Rattle.syn_expr_flat.proofs.Each.{each_by}
-use Rattle.syn_expr_flatten.proofs.Made.{match_made}
+use Rattle.syn_expr_flatten.proofs.Matches.{arms_same, match_left}
 use Rattle.syn_expr_flatten.proofs.members.match_expr.Goals as goal
 
+pub each-requires : goal.each-requires
+each-requires g c = λ one has. c.requires.arms one (subst (λ l. Contains l one) (arms_same c.args.x.now c.put_before.new.own c.boxed.new.x) has)
+
 pub returns : goal.returns
-returns g c = match_made c.args.attrs c.args.x.now _ _ _ (c.in_ok-put_before.ensures.outer, c.in_ok-put_before.ensures.inner)
+returns g c = match_left c.args.attrs c.args.x.now c.put_before.new.own c.boxed.new.x _ (c.in_ok-put_before.ensures.outer, c.in_ok-put_before.ensures.inner)
     (flat_by tree_of _ c.requires.gives _ _ c.in_ok-boxed.ensures)
     (each_by _ _ (left_by _ (λ x y. IsFlatArm (arm_of x) (arm_of y)) c.requires.each) _ _ c.in_ok-each.ensures)
