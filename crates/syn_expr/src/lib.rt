@@ -100,7 +100,6 @@ pub use syn_expr_queries::expr_trailing_brace;
 pub use syn_expr_queries::requires_comma_to_be_match_arm;
 pub use syn_expr_queries::requires_semi_to_be_stmt;
 pub use syn_expr_queries::trailing_unparameterized_path;
-pub use syn_expr_single::KindToTokens;
 pub use syn_expr_well::is_well_formed;
 pub use syn_lower::Abi;
 pub use syn_lower::AngleBracketedGenericArguments;

@@ -57,7 +57,7 @@ impl Parse for HeldExpr {
 
 impl ToTokens for HeldExpr {
     ghost use Rattle.syn_expr_all.specs.View.{tree_of};
-    ghost use Rattle.syn_expr_print.specs.Printing.{whole};
+    ghost use Rattle.syn_expr_kinds.specs.Printed.{whole};
     ghost use Rattle.syn_grammar.specs.Next as next;
 
     ghost printed = { λ x. whole next.enclosed (tree_of x.expr) };

@@ -3,7 +3,7 @@
 ghost use Rattle.std.specs.Prelude.{◌≡◌, ◌++◌, ◌*◌, ◌-◌, ◌^◌, ◌≤◌, min, IfErr, IfOk, OnOk};
 ghost use Rattle.syn_expr_all.specs.View.{tree_of};
 ghost use Rattle.syn_expr_collect.specs.Visited.{visited};
-ghost use Rattle.syn_expr_print.specs.Printing.{whole};
+ghost use Rattle.syn_expr_kinds.specs.Printed.{whole};
 ghost use Rattle.syn_tokens.specs.Input.{IsFront};
 
 use crate::expr::Expr;
@@ -33,7 +33,7 @@ pub fn print_counted(expr: &Expr, tokens: &mut TokenStream, context: Context) ->
 
 impl ToTokens for Expr {
     ghost use Rattle.syn_expr_all.specs.View.{tree_of};
-    ghost use Rattle.syn_expr_print.specs.Printing.{whole};
+    ghost use Rattle.syn_expr_kinds.specs.Printed.{whole};
     ghost use Rattle.syn_grammar.specs.Next as next;
 
     ghost printed = { λ x. whole next.enclosed (tree_of x) };

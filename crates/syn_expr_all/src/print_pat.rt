@@ -5,8 +5,8 @@ ghost use Rattle.syn_pat_kinds.specs.Printed.{attributes_printed};
 ghost use Rattle.syn_tokens.specs.Input.{IsFront};
 
 use crate::pat::Pat;
+use syn_expr_kinds::put::{Grown, put};
 use syn_expr_put::lead::PutPat;
-use syn_expr_put::put::{Grown, put};
 use syn_lower::attr::Attribute;
 use syn_pat_kinds::print::print_attributes;
 use syn_tokens::buffer::ToTokens;

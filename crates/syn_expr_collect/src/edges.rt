@@ -6,7 +6,7 @@ ghost use Rattle.syn_expr_kinds.specs.Node.{operands_of};
 ghost use Rattle.syn_grammar.specs.Notes.{note_of};
 
 use crate::node::{behind, closed, plain_note};
-use syn_expr_kinds::node::{Braces, HasKind, HasNode, Operands};
+use syn_expr_kinds::node::{HasKind, HasNode, Operands};
 use syn_grammar::note::Note;
 
 /// The notes of the first two operands, as far as that of their owner asks for them.
@@ -25,7 +25,7 @@ fn first_notes<E: HasNode + HasKind>(operands: Operands<'_, E, E::Arm>) -> (Note
         | Operands::If(x, _, _)
         | Operands::Arms(x, _, _)
         | Operands::Body(x) => (note_of::<E>(x), closed()),
-        Operands::Loop(x, Braces { attrs: _, block: _ }) => (note_of::<E>(x), closed()),
+        Operands::Loop(x, _) => (note_of::<E>(x), closed()),
         Operands::None | Operands::Elements(_) | Operands::Fields(_, _, _) => (closed(), closed()),
     }
 }

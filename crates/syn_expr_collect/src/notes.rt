@@ -11,7 +11,7 @@ ghost use Rattle.syn_lower_lists.specs.View.{values};
 use crate::arm::HasArms;
 use crate::node::{closed, keep, plain_note};
 use std::alloc::AllocError;
-use syn_expr_kinds::node::{Braces, HasKind, Operands};
+use syn_expr_kinds::node::{HasKind, Operands};
 use syn_expr_kinds::structure::FieldValueOf;
 use syn_expr_notes::note::tick;
 use syn_grammar::note::Note;
@@ -216,9 +216,7 @@ pub fn collect_operands<E: HasArms + HasKind>(
             }
             Ok((collect::<E>(notes, visits, condition)?, closed()))
         }
-        Operands::Loop(x, Braces { attrs: _, block: _ }) => {
-            Ok((collect::<E>(notes, visits, x)?, closed()))
-        }
+        Operands::Loop(x, _) => { Ok((collect::<E>(notes, visits, x)?, closed())) }
         Operands::Arms(x, _, arms) => {
             collect_arms::<E>(notes, visits, arms)?;
             Ok((collect::<E>(notes, visits, x)?, closed()))

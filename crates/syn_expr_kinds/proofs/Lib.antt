@@ -1,1 +1,4 @@
 pub mod Shapes
+pub mod Attributes
+pub mod Owns
+pub mod Leaves

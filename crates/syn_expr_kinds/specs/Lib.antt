@@ -1,5 +1,7 @@
 pub mod Attrs
+pub mod Before
 pub mod Both
 pub mod Node
 pub mod Pats
+pub mod Printed
 pub mod View

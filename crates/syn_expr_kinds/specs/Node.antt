@@ -1,8 +1,5 @@
 -- What is lent of an expression, by its tree: its attributes, its operands, and what it is but for them.
-use Rattle.std.specs.Prelude.{Bool, true, false, List, [], ◌∷◌, ◌++◌, map, Option, Some, None, is_some}
-use denote.Ref.{Bor}
-use Rattle.std.specs.declared.boxed.Box.{Box}
-use Rattle.std.specs.declared.alloc.Global.{Global}
+use Rattle.std.specs.Prelude.{Bool, true, false, List, [], ◌∷◌, map, Option, Some, None, is_some}
 use Rattle.syn_parts.specs.Tree.{AttributeTree}
 use Rattle.syn_grammar.specs.declared.kinds.Infix.{Infix}
 use Rattle.syn_grammar.specs.declared.kinds.Infix.TheVariants as inf
@@ -198,6 +195,12 @@ pub data OperandTrees : Type 0 where
   two_trees : Tree → Tree → OperandTrees
   based : Tree → Kids → OperandTrees
   framed : Kids → OperandTrees
+
+-- the operands in places of their own
+abbrev pub operand_kids : OperandTrees → Kids
+operand_kids (based b ks) = ks
+operand_kids (framed ks) = ks
+operand_kids _ = none
 
 -- a base alone, or with what its trailer holds
 abbrev pub based_by : Tree → Kids → OperandTrees

@@ -9,7 +9,9 @@ ghost use Rattle.syn_expr_kinds.specs.Pats.{ArmView};
 ghost use Rattle.syn_expr_kinds.specs.View.{expr_array_of, expr_group_of, expr_infer_of, expr_lit_of, expr_macro_of, expr_paren_of, expr_path_of, expr_repeat_of, expr_tuple_of};
 ghost use Rattle.syn_expr_notes.specs.Kind.{kind_at};
 
-use crate::node::{Frame, Leaf, Operands};
+use crate::leaf::put_whole_leaf;
+use crate::node::{Attributes, Frame, Leaf, Operands};
+use crate::shape::PutShape;
 use syn_expr_notes::kind::NodeKind;
 use syn_expr_notes::label::LeafKind;
 use syn_lower::attr::Attribute;
@@ -17,7 +19,10 @@ use syn_lower::lit::Lit;
 use syn_lower::mac::{Macro, MacroDelimiter};
 use syn_lower::path::{Path, QSelf};
 use syn_lower::punctuated::Punctuated;
+use syn_tokens::buffer::ToTokens;
+use syn_tokens::error::Result;
 use syn_tokens::token::{Bracket, Comma, Group, Paren, Semi, Underscore};
+use syn_tokens::tree::TokenStream;
 
 /// `[a, b]` (Rust Reference, "Array expressions").
 #[derive(Drop, PartialEq)]
@@ -230,5 +235,157 @@ impl<E> ExprTupleOf<E> {
         ensures { (tree : E → Tree) (arm : A → ArmView) → operands_of tree arm result ≡ operands_at (expr_tuple_of tree self.now) }
     {
         Operands::Elements(&self.elems)
+    }
+}
+
+#[tactic(auto, using(syn_tokens::proofs::Fronts::fronts))]
+impl<E: PutShape> ToTokens for ExprArrayOf<E> {
+    ghost use Rattle.syn_expr_kinds.specs.Printed.{whole};
+    ghost use Rattle.syn_expr_kinds.specs.View.{expr_array_of};
+    ghost use Rattle.syn_grammar.specs.Next.{enclosed};
+
+    ghost printed = { λ x. whole enclosed (expr_array_of E.tree x) };
+
+    /// Puts the elements in brackets, with their commas.
+    fn to_tokens(&self, tokens: &mut TokenStream) -> Result<()> {
+        let frame = Frame::Array(&self.bracket_token);
+        let operands = Operands::Elements(&self.elems);
+        E::put_frame(tokens, Attributes::Before(&self.attrs), frame, operands)?;
+        Ok(())
+    }
+}
+
+#[tactic(auto, using(syn_tokens::proofs::Fronts::fronts))]
+impl<E: PutShape> ToTokens for ExprGroupOf<E> {
+    ghost use Rattle.syn_expr_kinds.specs.Printed.{whole};
+    ghost use Rattle.syn_expr_kinds.specs.View.{expr_group_of};
+    ghost use Rattle.syn_grammar.specs.Next.{enclosed};
+
+    ghost printed = { λ x. whole enclosed (expr_group_of E.tree x) };
+
+    /// Puts an invisible group.
+    fn to_tokens(&self, tokens: &mut TokenStream) -> Result<()> {
+        let frame = Frame::Group(&self.group_token);
+        let operands = Operands::Grouped(&self.expr);
+        E::put_frame(tokens, Attributes::Before(&self.attrs), frame, operands)?;
+        Ok(())
+    }
+}
+
+#[tactic(auto, using(syn_tokens::proofs::Fronts::fronts))]
+impl ToTokens for ExprInfer {
+    ghost use Rattle.syn_expr_kinds.specs.Printed.{whole};
+    ghost use Rattle.syn_expr_kinds.specs.View.{expr_infer_of};
+    ghost use Rattle.syn_grammar.specs.Next.{enclosed};
+
+    ghost printed = { λ x. whole enclosed (expr_infer_of x) };
+
+    /// Puts `_`.
+    fn to_tokens(&self, tokens: &mut TokenStream) -> Result<()> {
+        let leaf = Leaf::Infer(&self.underscore_token);
+        put_whole_leaf(tokens, Attributes::Before(&self.attrs), leaf)?;
+        Ok(())
+    }
+}
+
+#[tactic(auto, using(syn_tokens::proofs::Fronts::fronts))]
+impl ToTokens for ExprLit {
+    ghost use Rattle.syn_expr_kinds.specs.Printed.{whole};
+    ghost use Rattle.syn_expr_kinds.specs.View.{expr_lit_of};
+    ghost use Rattle.syn_grammar.specs.Next.{enclosed};
+
+    ghost printed = { λ x. whole enclosed (expr_lit_of x) };
+
+    /// Puts a literal.
+    fn to_tokens(&self, tokens: &mut TokenStream) -> Result<()> {
+        let leaf = Leaf::Lit(&self.lit);
+        put_whole_leaf(tokens, Attributes::Before(&self.attrs), leaf)?;
+        Ok(())
+    }
+}
+
+#[tactic(auto, using(syn_tokens::proofs::Fronts::fronts))]
+impl ToTokens for ExprMacro {
+    ghost use Rattle.syn_expr_kinds.specs.Printed.{whole};
+    ghost use Rattle.syn_expr_kinds.specs.View.{expr_macro_of};
+    ghost use Rattle.syn_grammar.specs.Next.{enclosed};
+
+    ghost printed = { λ x. whole enclosed (expr_macro_of x) };
+
+    /// Puts the call of a macro.
+    fn to_tokens(&self, tokens: &mut TokenStream) -> Result<()> {
+        let leaf = Leaf::Macro(&self.mac);
+        put_whole_leaf(tokens, Attributes::Before(&self.attrs), leaf)?;
+        Ok(())
+    }
+}
+
+#[tactic(auto, using(syn_tokens::proofs::Fronts::fronts))]
+impl<E: PutShape> ToTokens for ExprParenOf<E> {
+    ghost use Rattle.syn_expr_kinds.specs.Printed.{whole};
+    ghost use Rattle.syn_expr_kinds.specs.View.{expr_paren_of};
+    ghost use Rattle.syn_grammar.specs.Next.{enclosed};
+
+    ghost printed = { λ x. whole enclosed (expr_paren_of E.tree x) };
+
+    /// Puts parentheses, with what they enclose.
+    fn to_tokens(&self, tokens: &mut TokenStream) -> Result<()> {
+        E::put_paren(
+            tokens,
+            Attributes::Before(&self.attrs),
+            &self.paren_token,
+            &self.expr,
+        )?;
+        Ok(())
+    }
+}
+
+#[tactic(auto, using(syn_tokens::proofs::Fronts::fronts))]
+impl ToTokens for ExprPath {
+    ghost use Rattle.syn_expr_kinds.specs.Printed.{whole};
+    ghost use Rattle.syn_expr_kinds.specs.View.{expr_path_of};
+    ghost use Rattle.syn_grammar.specs.Next.{enclosed};
+
+    ghost printed = { λ x. whole enclosed (expr_path_of x) };
+
+    /// Puts a path, and the type that it is qualified by.
+    fn to_tokens(&self, tokens: &mut TokenStream) -> Result<()> {
+        let leaf = Leaf::Path(&self.qself, &self.path);
+        put_whole_leaf(tokens, Attributes::Before(&self.attrs), leaf)?;
+        Ok(())
+    }
+}
+
+#[tactic(auto, using(syn_tokens::proofs::Fronts::fronts))]
+impl<E: PutShape> ToTokens for ExprRepeatOf<E> {
+    ghost use Rattle.syn_expr_kinds.specs.Printed.{whole};
+    ghost use Rattle.syn_expr_kinds.specs.View.{expr_repeat_of};
+    ghost use Rattle.syn_grammar.specs.Next.{enclosed};
+
+    ghost printed = { λ x. whole enclosed (expr_repeat_of E.tree x) };
+
+    /// Puts a value, `;` and how often it is repeated, in brackets.
+    fn to_tokens(&self, tokens: &mut TokenStream) -> Result<()> {
+        let frame = Frame::Repeat(&self.bracket_token);
+        let operands = Operands::Repeated(&self.expr, &self.semi_token, &self.len);
+        E::put_frame(tokens, Attributes::Before(&self.attrs), frame, operands)?;
+        Ok(())
+    }
+}
+
+#[tactic(auto, using(syn_tokens::proofs::Fronts::fronts))]
+impl<E: PutShape> ToTokens for ExprTupleOf<E> {
+    ghost use Rattle.syn_expr_kinds.specs.Printed.{whole};
+    ghost use Rattle.syn_expr_kinds.specs.View.{expr_tuple_of};
+    ghost use Rattle.syn_grammar.specs.Next.{enclosed};
+
+    ghost printed = { λ x. whole enclosed (expr_tuple_of E.tree x) };
+
+    /// Puts the elements in parentheses, with their commas; behind one alone a comma always stands.
+    fn to_tokens(&self, tokens: &mut TokenStream) -> Result<()> {
+        let frame = Frame::Tuple(&self.paren_token);
+        let operands = Operands::Elements(&self.elems);
+        E::put_frame(tokens, Attributes::Before(&self.attrs), frame, operands)?;
+        Ok(())
     }
 }

@@ -10,14 +10,19 @@ ghost use Rattle.syn_expr_kinds.specs.Pats.{ArmView};
 ghost use Rattle.syn_expr_kinds.specs.View.{body_of, expr_async_of, expr_block_of, expr_const_of, expr_if_of, expr_loop_of, expr_try_block_of, expr_unsafe_of, expr_while_of};
 ghost use Rattle.syn_expr_notes.specs.Kind.{kind_at};
 
-use crate::node::{Braces, Frame, Leaf, Operands};
+use crate::leaf::put_whole_leaf;
+use crate::node::{Attributes, Braces, Frame, Leaf, Operands};
+use crate::shape::PutShape;
 use syn_expr_notes::kind::NodeKind;
 use syn_expr_notes::label::{FrameKind, LeafKind};
 use syn_expr_parts::label::Label;
 use syn_expr_parts::modifiers::BlockModifiers;
 use syn_lower::attr::Attribute;
 use syn_lower::stmt::Block;
+use syn_tokens::buffer::ToTokens;
+use syn_tokens::error::Result;
 use syn_tokens::token::{Async, Const, Else, If, Loop, Move, Try, Unsafe, While};
+use syn_tokens::tree::TokenStream;
 
 /// `async { .. }`, `async move { .. }` (Rust Reference, "`async` blocks").
 #[derive(Drop, PartialEq)]
@@ -243,5 +248,155 @@ impl<E> ExprWhileOf<E> {
         ensures { (tree : E → Tree) (arm : A → ArmView) → operands_of tree arm result ≡ operands_at (expr_while_of tree self.now) }
     {
         Operands::Loop(&self.cond, braces(&self.attrs, &self.body))
+    }
+}
+
+#[tactic(auto, using(syn_tokens::proofs::Fronts::fronts))]
+impl ToTokens for ExprAsync {
+    ghost use Rattle.syn_expr_kinds.specs.Printed.{whole};
+    ghost use Rattle.syn_expr_kinds.specs.View.{expr_async_of};
+    ghost use Rattle.syn_grammar.specs.Next.{enclosed};
+
+    ghost printed = { λ x. whole enclosed (expr_async_of x) };
+
+    /// Puts `async`, `move` where it is there, and the block.
+    fn to_tokens(&self, tokens: &mut TokenStream) -> Result<()> {
+        let leaf = Leaf::Async(&self.async_token, &self.capture, &self.block);
+        put_whole_leaf(tokens, Attributes::Before(&self.attrs), leaf)?;
+        Ok(())
+    }
+}
+
+#[tactic(auto, using(syn_tokens::proofs::Fronts::fronts))]
+impl ToTokens for ExprBlock {
+    ghost use Rattle.syn_expr_kinds.specs.Printed.{whole};
+    ghost use Rattle.syn_expr_kinds.specs.View.{expr_block_of};
+    ghost use Rattle.syn_grammar.specs.Next.{enclosed};
+
+    ghost printed = { λ x. whole enclosed (expr_block_of x) };
+
+    /// Puts a block behind its label; the inner attributes stand first in its braces.
+    fn to_tokens(&self, tokens: &mut TokenStream) -> Result<()> {
+        let braces = Braces {
+            attrs: &self.attrs,
+            block: &self.block,
+        };
+        let leaf = Leaf::Block(&self.label, braces);
+        put_whole_leaf(tokens, Attributes::Around(&self.attrs), leaf)?;
+        Ok(())
+    }
+}
+
+#[tactic(auto, using(syn_tokens::proofs::Fronts::fronts))]
+impl ToTokens for ExprConst {
+    ghost use Rattle.syn_expr_kinds.specs.Printed.{whole};
+    ghost use Rattle.syn_expr_kinds.specs.View.{expr_const_of};
+    ghost use Rattle.syn_grammar.specs.Next.{enclosed};
+
+    ghost printed = { λ x. whole enclosed (expr_const_of x) };
+
+    /// Puts `const` and the block; the inner attributes stand first in its braces.
+    fn to_tokens(&self, tokens: &mut TokenStream) -> Result<()> {
+        let braces = Braces {
+            attrs: &self.attrs,
+            block: &self.block,
+        };
+        let leaf = Leaf::Const(&self.const_token, braces);
+        put_whole_leaf(tokens, Attributes::Around(&self.attrs), leaf)?;
+        Ok(())
+    }
+}
+
+#[tactic(auto, using(syn_tokens::proofs::Fronts::fronts))]
+impl<E: PutShape> ToTokens for ExprIfOf<E> {
+    ghost use Rattle.syn_expr_kinds.specs.Printed.{whole};
+    ghost use Rattle.syn_expr_kinds.specs.View.{expr_if_of};
+    ghost use Rattle.syn_grammar.specs.Next.{enclosed};
+
+    ghost printed = { λ x. whole enclosed (expr_if_of E.tree x) };
+
+    /// Puts `if`, the condition and the block, and behind `else` an `if`, a block, or anything else in braces.
+    fn to_tokens(&self, tokens: &mut TokenStream) -> Result<()> {
+        let frame = Frame::If(&self.if_token);
+        let operands = Operands::If(&self.cond, &self.then_branch, &self.else_branch);
+        E::put_frame(tokens, Attributes::Before(&self.attrs), frame, operands)?;
+        Ok(())
+    }
+}
+
+#[tactic(auto, using(syn_tokens::proofs::Fronts::fronts))]
+impl ToTokens for ExprLoop {
+    ghost use Rattle.syn_expr_kinds.specs.Printed.{whole};
+    ghost use Rattle.syn_expr_kinds.specs.View.{expr_loop_of};
+    ghost use Rattle.syn_grammar.specs.Next.{enclosed};
+
+    ghost printed = { λ x. whole enclosed (expr_loop_of x) };
+
+    /// Puts `loop` behind its label, and the block; the inner attributes stand first in its braces.
+    fn to_tokens(&self, tokens: &mut TokenStream) -> Result<()> {
+        let braces = Braces {
+            attrs: &self.attrs,
+            block: &self.body,
+        };
+        let leaf = Leaf::Loop(&self.label, &self.loop_token, braces);
+        put_whole_leaf(tokens, Attributes::Around(&self.attrs), leaf)?;
+        Ok(())
+    }
+}
+
+#[tactic(auto, using(syn_tokens::proofs::Fronts::fronts))]
+impl ToTokens for ExprTryBlock {
+    ghost use Rattle.syn_expr_kinds.specs.Printed.{whole};
+    ghost use Rattle.syn_expr_kinds.specs.View.{expr_try_block_of};
+    ghost use Rattle.syn_grammar.specs.Next.{enclosed};
+
+    ghost printed = { λ x. whole enclosed (expr_try_block_of x) };
+
+    /// Puts `try` and the block.
+    fn to_tokens(&self, tokens: &mut TokenStream) -> Result<()> {
+        let leaf = Leaf::TryBlock(&self.try_token, &self.block);
+        put_whole_leaf(tokens, Attributes::Before(&self.attrs), leaf)?;
+        Ok(())
+    }
+}
+
+#[tactic(auto, using(syn_tokens::proofs::Fronts::fronts))]
+impl ToTokens for ExprUnsafe {
+    ghost use Rattle.syn_expr_kinds.specs.Printed.{whole};
+    ghost use Rattle.syn_expr_kinds.specs.View.{expr_unsafe_of};
+    ghost use Rattle.syn_grammar.specs.Next.{enclosed};
+
+    ghost printed = { λ x. whole enclosed (expr_unsafe_of x) };
+
+    /// Puts `unsafe` and the block; the inner attributes stand first in its braces.
+    fn to_tokens(&self, tokens: &mut TokenStream) -> Result<()> {
+        let braces = Braces {
+            attrs: &self.attrs,
+            block: &self.block,
+        };
+        let leaf = Leaf::Unsafe(&self.unsafe_token, braces);
+        put_whole_leaf(tokens, Attributes::Around(&self.attrs), leaf)?;
+        Ok(())
+    }
+}
+
+#[tactic(auto, using(syn_tokens::proofs::Fronts::fronts))]
+impl<E: PutShape> ToTokens for ExprWhileOf<E> {
+    ghost use Rattle.syn_expr_kinds.specs.Printed.{whole};
+    ghost use Rattle.syn_expr_kinds.specs.View.{expr_while_of};
+    ghost use Rattle.syn_grammar.specs.Next.{enclosed};
+
+    ghost printed = { λ x. whole enclosed (expr_while_of E.tree x) };
+
+    /// Puts `while` behind its label, the condition and the block; the inner attributes stand first in its braces.
+    fn to_tokens(&self, tokens: &mut TokenStream) -> Result<()> {
+        let braces = Braces {
+            attrs: &self.attrs,
+            block: &self.body,
+        };
+        let frame = Frame::While(&self.label, &self.while_token);
+        let operands = Operands::Loop(&self.cond, braces);
+        E::put_frame(tokens, Attributes::Around(&self.attrs), frame, operands)?;
+        Ok(())
     }
 }

@@ -11,12 +11,17 @@ ghost use Rattle.syn_expr_kinds.specs.Pats.{ArmView};
 ghost use Rattle.syn_expr_kinds.specs.View.{boxed, expr_break_of, expr_continue_of, expr_return_of, expr_yield_of, jump_with};
 ghost use Rattle.syn_expr_notes.specs.Kind.{kind_at};
 
-use crate::node::{Jump, Lead, Leaf, Operands};
+use crate::leaf::put_whole_leaf;
+use crate::node::{Attributes, Jump, Lead, Leaf, Operands};
+use crate::shape::PutShape;
 use syn_expr_notes::kind::NodeKind;
 use syn_expr_notes::label::{LeadKind, LeafKind};
 use syn_lower::attr::Attribute;
 use syn_lower::lifetime::Lifetime;
+use syn_tokens::buffer::ToTokens;
+use syn_tokens::error::Result;
 use syn_tokens::token::{Break, Continue, Return, Yield};
+use syn_tokens::tree::TokenStream;
 
 /// `break`, `break 'a b` (Rust Reference, "`break` expressions").
 #[derive(Drop, PartialEq)]
@@ -200,5 +205,81 @@ impl<E> ExprYieldOf<E> {
         ensures { (tree : E → Tree) (arm : A → ArmView) → operands_of tree arm result ≡ operands_at (expr_yield_of tree self.now) }
     {
         value(&self.expr)
+    }
+}
+
+#[tactic(auto, using(syn_tokens::proofs::Fronts::fronts))]
+impl<E: PutShape> ToTokens for ExprBreakOf<E> {
+    ghost use Rattle.syn_expr_kinds.specs.Printed.{whole};
+    ghost use Rattle.syn_expr_kinds.specs.View.{expr_break_of};
+    ghost use Rattle.syn_grammar.specs.Next.{enclosed};
+
+    ghost printed = { λ x. whole enclosed (expr_break_of E.tree x) };
+
+    /// Puts `break`, its label and its value.
+    fn to_tokens(&self, tokens: &mut TokenStream) -> Result<()> {
+        let jump = Jump::Break(&self.break_token, &self.label);
+        let attributes = Attributes::Before(&self.attrs);
+        match &self.expr {
+            Some(x) => E::put_lead(tokens, attributes, Lead::Jump(jump), x)?,
+            None => put_whole_leaf(tokens, attributes, Leaf::Jump(jump))?,
+        }
+        Ok(())
+    }
+}
+
+#[tactic(auto, using(syn_tokens::proofs::Fronts::fronts))]
+impl ToTokens for ExprContinue {
+    ghost use Rattle.syn_expr_kinds.specs.Printed.{whole};
+    ghost use Rattle.syn_expr_kinds.specs.View.{expr_continue_of};
+    ghost use Rattle.syn_grammar.specs.Next.{enclosed};
+
+    ghost printed = { λ x. whole enclosed (expr_continue_of x) };
+
+    /// Puts `continue` and its label.
+    fn to_tokens(&self, tokens: &mut TokenStream) -> Result<()> {
+        let leaf = Leaf::Continue(&self.continue_token, &self.label);
+        put_whole_leaf(tokens, Attributes::Before(&self.attrs), leaf)?;
+        Ok(())
+    }
+}
+
+#[tactic(auto, using(syn_tokens::proofs::Fronts::fronts))]
+impl<E: PutShape> ToTokens for ExprReturnOf<E> {
+    ghost use Rattle.syn_expr_kinds.specs.Printed.{whole};
+    ghost use Rattle.syn_expr_kinds.specs.View.{expr_return_of};
+    ghost use Rattle.syn_grammar.specs.Next.{enclosed};
+
+    ghost printed = { λ x. whole enclosed (expr_return_of E.tree x) };
+
+    /// Puts `return` and its value.
+    fn to_tokens(&self, tokens: &mut TokenStream) -> Result<()> {
+        let jump = Jump::Return(&self.return_token);
+        let attributes = Attributes::Before(&self.attrs);
+        match &self.expr {
+            Some(x) => E::put_lead(tokens, attributes, Lead::Jump(jump), x)?,
+            None => put_whole_leaf(tokens, attributes, Leaf::Jump(jump))?,
+        }
+        Ok(())
+    }
+}
+
+#[tactic(auto, using(syn_tokens::proofs::Fronts::fronts))]
+impl<E: PutShape> ToTokens for ExprYieldOf<E> {
+    ghost use Rattle.syn_expr_kinds.specs.Printed.{whole};
+    ghost use Rattle.syn_expr_kinds.specs.View.{expr_yield_of};
+    ghost use Rattle.syn_grammar.specs.Next.{enclosed};
+
+    ghost printed = { λ x. whole enclosed (expr_yield_of E.tree x) };
+
+    /// Puts `yield` and its value.
+    fn to_tokens(&self, tokens: &mut TokenStream) -> Result<()> {
+        let jump = Jump::Yield(&self.yield_token);
+        let attributes = Attributes::Before(&self.attrs);
+        match &self.expr {
+            Some(x) => E::put_lead(tokens, attributes, Lead::Jump(jump), x)?,
+            None => put_whole_leaf(tokens, attributes, Leaf::Jump(jump))?,
+        }
+        Ok(())
     }
 }

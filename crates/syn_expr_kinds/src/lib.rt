@@ -5,11 +5,16 @@
 #![tactic(auto)]
 
 pub mod atom;
+pub mod attrs;
 pub mod block;
+pub mod body;
 pub mod jump;
 pub mod kinds;
+pub mod leaf;
 pub mod node;
 pub mod operation;
 pub mod pattern;
+pub mod put;
+pub mod shape;
 pub mod structure;
 pub mod trailer;

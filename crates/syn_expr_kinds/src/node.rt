@@ -9,6 +9,7 @@ ghost use Rattle.syn_lower.specs.View.{mapped};
 
 use crate::kinds::{HasArmView, HasExprTree};
 use crate::structure::FieldValueOf;
+use std::alloc::AllocError;
 use syn_expr_notes::kind::NodeKind;
 use syn_expr_parts::label::Label;
 use syn_expr_parts::member::Member;
@@ -31,6 +32,7 @@ use syn_tokens::token::{
 use syn_tokens::tree::{Ident, TokenStream};
 
 /// The attributes of a node.
+#[derive(Clone, Copy)]
 pub enum Attributes<'a> {
     /// It has no place for any: its tokens are kept.
     None,
@@ -41,6 +43,7 @@ pub enum Attributes<'a> {
 }
 
 /// Braces with their block, and the attributes of the node that has them: the inner ones stand first in the braces.
+#[derive(Clone, Copy)]
 pub struct Braces<'a> {
     /// The attributes of the node.
     pub attrs: &'a Vec<Attribute>,
@@ -49,6 +52,7 @@ pub struct Braces<'a> {
 }
 
 /// `return`, `yield` or `break`.
+#[derive(Clone, Copy)]
 pub enum Jump<'a> {
     /// `return`
     Return(&'a Return),
@@ -59,6 +63,7 @@ pub enum Jump<'a> {
 }
 
 /// What is closed at both ends and holds no expression, and jumps and ranges without an operand.
+#[derive(Clone, Copy)]
 pub enum Leaf<'a> {
     /// A literal.
     Lit(&'a Lit),
@@ -110,6 +115,18 @@ pub struct Closure<'a, P> {
     pub output: &'a ReturnType,
 }
 
+impl<'a, P> Copy for Closure<'a, P> {}
+
+impl<'a, P> Clone for Closure<'a, P> {
+    ghost is_clone = { λ x y. y ≡ x };
+
+    ghost is_infallible = { λ _. Unit {0} };
+
+    fn clone(&self) -> Result<Self, AllocError> {
+        Ok(*self)
+    }
+}
+
 /// The tokens before an operand with which a node ends.
 pub enum Lead<'a, P> {
     /// `!`, `-` or `*`
@@ -128,7 +145,20 @@ pub enum Lead<'a, P> {
     Closure(Closure<'a, P>),
 }
 
+impl<'a, P> Copy for Lead<'a, P> {}
+
+impl<'a, P> Clone for Lead<'a, P> {
+    ghost is_clone = { λ x y. y ≡ x };
+
+    ghost is_infallible = { λ _. Unit {0} };
+
+    fn clone(&self) -> Result<Self, AllocError> {
+        Ok(*self)
+    }
+}
+
 /// The operator between two operands.
+#[derive(Clone, Copy)]
 pub enum Operator<'a> {
     /// A binary operator.
     Binary(&'a BinOp),
@@ -139,6 +169,7 @@ pub enum Operator<'a> {
 }
 
 /// The tokens behind an operand with which a node begins.
+#[derive(Clone, Copy)]
 pub enum Post<'a> {
     /// `as` and a type.
     Cast(&'a As, &'a Box<Type>),
@@ -147,6 +178,7 @@ pub enum Post<'a> {
 }
 
 /// A trailer.
+#[derive(Clone, Copy)]
 pub enum Trailer<'a> {
     /// `(..)`
     Call(&'a Paren),
@@ -186,6 +218,18 @@ pub enum Frame<'a, P> {
     Group(&'a Group),
 }
 
+impl<'a, P> Copy for Frame<'a, P> {}
+
+impl<'a, P> Clone for Frame<'a, P> {
+    ghost is_clone = { λ x y. y ≡ x };
+
+    ghost is_infallible = { λ _. Unit {0} };
+
+    fn clone(&self) -> Result<Self, AllocError> {
+        Ok(*self)
+    }
+}
+
 /// The operands of a node from left to right, with the tokens between those of a frame.
 pub enum Operands<'a, E, A> {
     /// None.
@@ -214,6 +258,18 @@ pub enum Operands<'a, E, A> {
     Arms(&'a Box<E>, &'a Vec<Attribute>, &'a Vec<A>),
     /// The body of a closure with an output.
     Body(&'a Box<E>),
+}
+
+impl<'a, E, A> Copy for Operands<'a, E, A> {}
+
+impl<'a, E, A> Clone for Operands<'a, E, A> {
+    ghost is_clone = { λ x y. y ≡ x };
+
+    ghost is_infallible = { λ _. Unit {0} };
+
+    fn clone(&self) -> Result<Self, AllocError> {
+        Ok(*self)
+    }
 }
 
 /// The type of expressions, as one goes through them.

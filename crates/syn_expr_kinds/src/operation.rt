@@ -10,7 +10,8 @@ ghost use Rattle.syn_expr_kinds.specs.Pats.{ArmView};
 ghost use Rattle.syn_expr_kinds.specs.View.{expr_assign_of, expr_binary_of, expr_cast_of, expr_range_of, expr_raw_addr_of, expr_reference_of, expr_unary_of};
 ghost use Rattle.syn_expr_notes.specs.Kind.{kind_at};
 
-use crate::node::{Lead, Leaf, Operands, Operator, Post};
+use crate::node::{Attributes, Lead, Leaf, Operands, Operator, Post};
+use crate::shape::PutShape;
 use syn_expr_notes::kind::NodeKind;
 use syn_expr_notes::label::{LeadKind, LeafKind, PostKind};
 use syn_grammar::kinds::Infix;
@@ -19,7 +20,10 @@ use syn_lower::ends_open;
 use syn_lower::ty::{PointerMutability, Type};
 use syn_op::limits::RangeLimits;
 use syn_op::op::{BinOp, UnOp};
+use syn_tokens::buffer::ToTokens;
+use syn_tokens::error::Result;
 use syn_tokens::token::{And, As, Eq, Mut, Raw};
+use syn_tokens::tree::TokenStream;
 
 /// `a = b` (Rust Reference, "Assignment expressions").
 #[derive(Drop, PartialEq)]
@@ -288,5 +292,116 @@ impl<E> ExprUnaryOf<E> {
         ensures { (tree : E → Tree) (arm : A → ArmView) → operands_of tree arm result ≡ operands_at (expr_unary_of tree self.now) }
     {
         Operands::One(&self.expr)
+    }
+}
+
+#[tactic(auto, using(syn_tokens::proofs::Fronts::fronts))]
+impl<E: PutShape> ToTokens for ExprAssignOf<E> {
+    ghost use Rattle.syn_expr_kinds.specs.Printed.{whole};
+    ghost use Rattle.syn_expr_kinds.specs.View.{expr_assign_of};
+    ghost use Rattle.syn_grammar.specs.Next.{enclosed};
+
+    ghost printed = { λ x. whole enclosed (expr_assign_of E.tree x) };
+
+    /// Puts both operands round `=`.
+    fn to_tokens(&self, tokens: &mut TokenStream) -> Result<()> {
+        let operator = Operator::Assign(&self.eq_token);
+        E::put_mid(tokens, &self.attrs, &self.left, operator, &self.right)?;
+        Ok(())
+    }
+}
+
+#[tactic(auto, using(syn_tokens::proofs::Fronts::fronts))]
+impl<E: PutShape> ToTokens for ExprBinaryOf<E> {
+    ghost use Rattle.syn_expr_kinds.specs.Printed.{whole};
+    ghost use Rattle.syn_expr_kinds.specs.View.{expr_binary_of};
+    ghost use Rattle.syn_grammar.specs.Next.{enclosed};
+
+    ghost printed = { λ x. whole enclosed (expr_binary_of E.tree x) };
+
+    /// Puts both operands round the operator.
+    fn to_tokens(&self, tokens: &mut TokenStream) -> Result<()> {
+        let operator = Operator::Binary(&self.op);
+        E::put_mid(tokens, &self.attrs, &self.left, operator, &self.right)?;
+        Ok(())
+    }
+}
+
+#[tactic(auto, using(syn_tokens::proofs::Fronts::fronts))]
+impl<E: PutShape> ToTokens for ExprCastOf<E> {
+    ghost use Rattle.syn_expr_kinds.specs.Printed.{whole};
+    ghost use Rattle.syn_expr_kinds.specs.View.{expr_cast_of};
+    ghost use Rattle.syn_grammar.specs.Next.{enclosed};
+
+    ghost printed = { λ x. whole enclosed (expr_cast_of E.tree x) };
+
+    /// Puts the operand, `as` and the type.
+    fn to_tokens(&self, tokens: &mut TokenStream) -> Result<()> {
+        let cast = Post::Cast(&self.as_token, &self.ty);
+        E::put_post(tokens, &self.attrs, &self.expr, cast)?;
+        Ok(())
+    }
+}
+
+#[tactic(auto, using(syn_tokens::proofs::Fronts::fronts))]
+impl<E: PutShape> ToTokens for ExprRangeOf<E> {
+    ghost use Rattle.syn_expr_kinds.specs.Printed.{whole};
+    ghost use Rattle.syn_expr_kinds.specs.View.{expr_range_of};
+    ghost use Rattle.syn_grammar.specs.Next.{enclosed};
+
+    ghost printed = { λ x. whole enclosed (expr_range_of E.tree x) };
+
+    /// Puts `..` or `..=` between the ends that are there.
+    fn to_tokens(&self, tokens: &mut TokenStream) -> Result<()> {
+        E::put_range(tokens, &self.attrs, &self.start, &self.limits, &self.end)?;
+        Ok(())
+    }
+}
+
+#[tactic(auto, using(syn_tokens::proofs::Fronts::fronts))]
+impl<E: PutShape> ToTokens for ExprRawAddrOf<E> {
+    ghost use Rattle.syn_expr_kinds.specs.Printed.{whole};
+    ghost use Rattle.syn_expr_kinds.specs.View.{expr_raw_addr_of};
+    ghost use Rattle.syn_grammar.specs.Next.{enclosed};
+
+    ghost printed = { λ x. whole enclosed (expr_raw_addr_of E.tree x) };
+
+    /// Puts `&raw const` or `&raw mut`, and the place.
+    fn to_tokens(&self, tokens: &mut TokenStream) -> Result<()> {
+        let lead = Lead::RawAddr(&self.and_token, &self.raw, &self.mutability);
+        E::put_lead(tokens, Attributes::Before(&self.attrs), lead, &self.expr)?;
+        Ok(())
+    }
+}
+
+#[tactic(auto, using(syn_tokens::proofs::Fronts::fronts))]
+impl<E: PutShape> ToTokens for ExprReferenceOf<E> {
+    ghost use Rattle.syn_expr_kinds.specs.Printed.{whole};
+    ghost use Rattle.syn_expr_kinds.specs.View.{expr_reference_of};
+    ghost use Rattle.syn_grammar.specs.Next.{enclosed};
+
+    ghost printed = { λ x. whole enclosed (expr_reference_of E.tree x) };
+
+    /// Puts `&` or `&mut`, and the operand.
+    fn to_tokens(&self, tokens: &mut TokenStream) -> Result<()> {
+        let lead = Lead::Reference(&self.and_token, &self.mutability);
+        E::put_lead(tokens, Attributes::Before(&self.attrs), lead, &self.expr)?;
+        Ok(())
+    }
+}
+
+#[tactic(auto, using(syn_tokens::proofs::Fronts::fronts))]
+impl<E: PutShape> ToTokens for ExprUnaryOf<E> {
+    ghost use Rattle.syn_expr_kinds.specs.Printed.{whole};
+    ghost use Rattle.syn_expr_kinds.specs.View.{expr_unary_of};
+    ghost use Rattle.syn_grammar.specs.Next.{enclosed};
+
+    ghost printed = { λ x. whole enclosed (expr_unary_of E.tree x) };
+
+    /// Puts the operator, and its operand.
+    fn to_tokens(&self, tokens: &mut TokenStream) -> Result<()> {
+        let lead = Lead::Unary(&self.op);
+        E::put_lead(tokens, Attributes::Before(&self.attrs), lead, &self.expr)?;
+        Ok(())
     }
 }

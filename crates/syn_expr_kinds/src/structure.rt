@@ -8,12 +8,16 @@ ghost use Rattle.syn_expr_kinds.specs.Node.{frame_at, frame_seen, operands_at, o
 ghost use Rattle.syn_expr_kinds.specs.Pats.{ArmView};
 ghost use Rattle.syn_expr_kinds.specs.View.{expr_struct_of};
 
-use crate::node::{Frame, Operands};
+use crate::node::{Attributes, Frame, Operands};
+use crate::shape::PutShape;
 use syn_expr_parts::member::Member;
 use syn_lower::attr::Attribute;
 use syn_lower::path::{Path, QSelf};
 use syn_lower::punctuated::Punctuated;
+use syn_tokens::buffer::ToTokens;
+use syn_tokens::error::Result;
 use syn_tokens::token::{Brace, Colon, Comma, DotDot};
+use syn_tokens::tree::TokenStream;
 
 /// `S { a: 1, b, ..rest }` (Rust Reference, "Struct expressions").
 #[derive(Drop, PartialEq)]
@@ -65,5 +69,37 @@ impl<E> ExprStructOf<E> {
         ensures { (tree : E → Tree) (arm : A → ArmView) → operands_of tree arm result ≡ operands_at (expr_struct_of tree self.now) }
     {
         Operands::Fields(&self.fields, &self.dot2_token, &self.rest)
+    }
+}
+
+#[tactic(auto, using(syn_tokens::proofs::Fronts::fronts))]
+impl<E: PutShape> ToTokens for ExprStructOf<E> {
+    ghost use Rattle.syn_expr_kinds.specs.Printed.{whole};
+    ghost use Rattle.syn_expr_kinds.specs.View.{expr_struct_of};
+    ghost use Rattle.syn_grammar.specs.Next.{enclosed};
+
+    ghost printed = { λ x. whole enclosed (expr_struct_of E.tree x) };
+
+    /// Puts the path, and in braces the fields with their commas, `..` and what the other fields are taken of.
+    fn to_tokens(&self, tokens: &mut TokenStream) -> Result<()> {
+        let dots = self.dot2_token.is_some() && self.rest.is_none();
+        let frame = Frame::Struct(&self.qself, &self.path, &self.brace_token, dots);
+        let operands = Operands::Fields(&self.fields, &self.dot2_token, &self.rest);
+        E::put_frame(tokens, Attributes::Before(&self.attrs), frame, operands)?;
+        Ok(())
+    }
+}
+
+#[tactic(auto, using(syn_tokens::proofs::Fronts::fronts))]
+impl<E: PutShape> ToTokens for FieldValueOf<E> {
+    ghost use Rattle.syn_expr_kinds.specs.Printed.{field_spelled};
+    ghost use Rattle.syn_expr_kinds.specs.View.{field_value_of};
+
+    ghost printed = { λ x. field_spelled (field_value_of E.tree x) };
+
+    /// Puts the attributes and the name or index, and behind a colon the value. No comma stands behind it.
+    fn to_tokens(&self, tokens: &mut TokenStream) -> Result<()> {
+        E::put_field(tokens, self)?;
+        Ok(())
     }
 }

@@ -8,15 +8,18 @@ ghost use Rattle.syn_expr_kinds.specs.Pats.{ArmView};
 ghost use Rattle.syn_expr_kinds.specs.View.{expr_await_of, expr_call_of, expr_field_of, expr_index_of, expr_method_call_of, expr_try_of};
 ghost use Rattle.syn_expr_notes.specs.Kind.{kind_at};
 
-use crate::node::{Operands, Trailer};
+use crate::node::{Attributes, Operands, Trailer};
+use crate::shape::PutShape;
 use syn_expr_notes::kind::NodeKind;
 use syn_expr_notes::label::TrailerKind;
 use syn_expr_parts::member::Member;
 use syn_lower::attr::Attribute;
 use syn_lower::path::AngleBracketedGenericArguments;
 use syn_lower::punctuated::Punctuated;
+use syn_tokens::buffer::ToTokens;
+use syn_tokens::error::Result;
 use syn_tokens::token::{Await, Bracket, Comma, Dot, Paren, Question};
-use syn_tokens::tree::Ident;
+use syn_tokens::tree::{Ident, TokenStream};
 
 /// `a.await` (Rust Reference, "Await expressions").
 #[derive(Drop, PartialEq)]
@@ -206,5 +209,124 @@ impl<E> ExprTryOf<E> {
         ensures { (tree : E → Tree) (arm : A → ArmView) → operands_of tree arm result ≡ operands_at (expr_try_of tree self.now) }
     {
         Operands::One(&self.expr)
+    }
+}
+
+#[tactic(auto, using(syn_tokens::proofs::Fronts::fronts))]
+impl<E: PutShape> ToTokens for ExprAwaitOf<E> {
+    ghost use Rattle.syn_expr_kinds.specs.Printed.{whole};
+    ghost use Rattle.syn_expr_kinds.specs.View.{expr_await_of};
+    ghost use Rattle.syn_grammar.specs.Next.{enclosed};
+
+    ghost printed = { λ x. whole enclosed (expr_await_of E.tree x) };
+
+    /// Puts the base and `.await`.
+    fn to_tokens(&self, tokens: &mut TokenStream) -> Result<()> {
+        let trailer = Trailer::Await(&self.dot_token, &self.await_token);
+        E::put_trailed(tokens, Attributes::Before(&self.attrs), &self.base, trailer)?;
+        Ok(())
+    }
+}
+
+#[tactic(auto, using(syn_tokens::proofs::Fronts::fronts))]
+impl<E: PutShape> ToTokens for ExprCallOf<E> {
+    ghost use Rattle.syn_expr_kinds.specs.Printed.{whole};
+    ghost use Rattle.syn_expr_kinds.specs.View.{expr_call_of};
+    ghost use Rattle.syn_grammar.specs.Next.{enclosed};
+
+    ghost printed = { λ x. whole enclosed (expr_call_of E.tree x) };
+
+    /// Puts what is called, and the arguments in parentheses.
+    fn to_tokens(&self, tokens: &mut TokenStream) -> Result<()> {
+        let trailer = Trailer::Call(&self.paren_token);
+        E::put_called(
+            tokens,
+            Attributes::Before(&self.attrs),
+            &self.func,
+            trailer,
+            &self.args,
+        )?;
+        Ok(())
+    }
+}
+
+#[tactic(auto, using(syn_tokens::proofs::Fronts::fronts))]
+impl<E: PutShape> ToTokens for ExprFieldOf<E> {
+    ghost use Rattle.syn_expr_kinds.specs.Printed.{whole};
+    ghost use Rattle.syn_expr_kinds.specs.View.{expr_field_of};
+    ghost use Rattle.syn_grammar.specs.Next.{enclosed};
+
+    ghost printed = { λ x. whole enclosed (expr_field_of E.tree x) };
+
+    /// Puts the base, `.` and the name or index.
+    fn to_tokens(&self, tokens: &mut TokenStream) -> Result<()> {
+        let trailer = Trailer::Field(&self.dot_token, &self.member);
+        E::put_trailed(tokens, Attributes::Before(&self.attrs), &self.base, trailer)?;
+        Ok(())
+    }
+}
+
+#[tactic(auto, using(syn_tokens::proofs::Fronts::fronts))]
+impl<E: PutShape> ToTokens for ExprIndexOf<E> {
+    ghost use Rattle.syn_expr_kinds.specs.Printed.{whole};
+    ghost use Rattle.syn_expr_kinds.specs.View.{expr_index_of};
+    ghost use Rattle.syn_grammar.specs.Next.{enclosed};
+
+    ghost printed = { λ x. whole enclosed (expr_index_of E.tree x) };
+
+    /// Puts what is indexed, and the index in brackets.
+    fn to_tokens(&self, tokens: &mut TokenStream) -> Result<()> {
+        let bracket = &self.bracket_token;
+        E::put_indexed(
+            tokens,
+            Attributes::Before(&self.attrs),
+            &self.expr,
+            bracket,
+            &self.index,
+        )?;
+        Ok(())
+    }
+}
+
+#[tactic(auto, using(syn_tokens::proofs::Fronts::fronts))]
+impl<E: PutShape> ToTokens for ExprMethodCallOf<E> {
+    ghost use Rattle.syn_expr_kinds.specs.Printed.{whole};
+    ghost use Rattle.syn_expr_kinds.specs.View.{expr_method_call_of};
+    ghost use Rattle.syn_grammar.specs.Next.{enclosed};
+
+    ghost printed = { λ x. whole enclosed (expr_method_call_of E.tree x) };
+
+    /// Puts the receiver, `.` and the method with its generic arguments, and the arguments in parentheses.
+    fn to_tokens(&self, tokens: &mut TokenStream) -> Result<()> {
+        let trailer = Trailer::Method(
+            &self.dot_token,
+            &self.method,
+            &self.turbofish,
+            &self.paren_token,
+        );
+        E::put_called(
+            tokens,
+            Attributes::Before(&self.attrs),
+            &self.receiver,
+            trailer,
+            &self.args,
+        )?;
+        Ok(())
+    }
+}
+
+#[tactic(auto, using(syn_tokens::proofs::Fronts::fronts))]
+impl<E: PutShape> ToTokens for ExprTryOf<E> {
+    ghost use Rattle.syn_expr_kinds.specs.Printed.{whole};
+    ghost use Rattle.syn_expr_kinds.specs.View.{expr_try_of};
+    ghost use Rattle.syn_grammar.specs.Next.{enclosed};
+
+    ghost printed = { λ x. whole enclosed (expr_try_of E.tree x) };
+
+    /// Puts the base and `?`.
+    fn to_tokens(&self, tokens: &mut TokenStream) -> Result<()> {
+        let trailer = Trailer::Try(&self.question_token);
+        E::put_trailed(tokens, Attributes::Before(&self.attrs), &self.expr, trailer)?;
+        Ok(())
     }
 }

@@ -8,7 +8,7 @@ use Rattle.syn_grammar.specs.Next.{adorned_context}
 use Rattle.syn_grammar.specs.Rule.{is_operation}
 use Rattle.syn_grammar.specs.Stands.{is_adorned, is_range_leaf, is_range_lead}
 use Rattle.syn_grammar.specs.Tree as e
-use Rattle.syn_grammar.specs.Tree.{Tree, Kids, Leaf, Lead, leaf, paren, adorned, lead, mid, post, tail, frame}
+use Rattle.syn_grammar.specs.Tree.{Tree, Leaf, Lead, leaf, paren, adorned, lead, mid, post, tail, frame}
 use Rattle.syn_expr_notes.specs.Kind.{kind_at}
 use Rattle.syn_expr_notes.specs.Label as label
 use Rattle.syn_expr_notes.specs.Label.{leaf_kind, lead_kind}

@@ -17,7 +17,7 @@ use Rattle.syn_grammar.specs.declared.kinds.Infix.{Infix}
 use Rattle.syn_grammar.specs.declared.kinds.Infix.TheVariants as inf
 use Rattle.syn_grammar.specs.Op.{binary_text, limits_text, unary_text}
 use Rattle.syn_grammar.specs.Tree as e
-use Rattle.syn_grammar.specs.Tree.{Tree, Kids, Body, Jump, Leaf, Lead, Post, Trailer, Frame, Enclosure, Piece, Ending, ClosureHead, leaf, paren, adorned, lead, mid, post, tail, frame, none, kid, sign_before, word_if, label_own, body_own, jump_own, leaf_own, vert_before, closure_own, lead_own, infix_own, post_own, trailer_own, frame_own, enclosure, piece_own, is_silent, is_repeated, inside_of, ending_own, framed, behind_operands, own, kids_own}
+use Rattle.syn_grammar.specs.Tree.{Tree, Kids, Jump, Leaf, Lead, Post, Trailer, Frame, Enclosure, Piece, Ending, ClosureHead, leaf, paren, adorned, lead, mid, post, tail, frame, none, kid, sign_before, word_if, label_own, body_own, jump_own, leaf_own, closure_own, lead_own, infix_own, post_own, trailer_own, frame_own, enclosure, piece_own, is_silent, is_repeated, inside_of, ending_own, framed, behind_operands, own, kids_own}
 
 -- tokens before others, which follow as they are
 abbrev pub Before : (List Tok → List Tok) → Type 0

@@ -9,9 +9,10 @@ use Rattle.syn_parts.specs.PatOwn.{attributes_own, pat_own}
 use Rattle.syn_pat_kinds.proofs.Appends.{attributes_append, pat_append}
 use Rattle.syn_grammar.specs.Next.{enclosed, in_arm}
 use Rattle.syn_grammar.specs.Tree as e
-use Rattle.syn_grammar.specs.Tree.{Tree, Kids, Piece, Ending, none, kid, piece_own, ending_own, is_none, is_block_like, with_comma}
+use Rattle.syn_grammar.specs.Tree.{Tree, Kids, Piece, none, kid, piece_own, ending_own, is_none, is_block_like, with_comma}
 use Rattle.syn_expr_kinds.specs.Pats.{guard_kids, arm_ending}
-use Rattle.syn_expr_print.specs.Printing.{kids_spelled, piece_spelled, whole}
+use Rattle.syn_expr_kinds.specs.Printed.{whole}
+use Rattle.syn_expr_print.specs.Printing.{kids_spelled, piece_spelled}
 use Rattle.syn_expr_print.specs.Placed.{comma_if}
 use Rattle.syn_expr_print.proofs.Kids.{loud-spelled}
 

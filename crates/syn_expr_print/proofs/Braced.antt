@@ -9,7 +9,8 @@ use Rattle.syn_grammar.specs.Next.{enclosed, in_statement}
 use Rattle.syn_grammar.specs.Rule.{put, place_asks, bare, chained_bare, is_chainable, is_plain_block}
 use Rattle.syn_grammar.specs.Tree as e
 use Rattle.syn_grammar.specs.Tree.{Tree, Kids, Leaf, Frame, leaf, paren, adorned, lead, mid, post, tail, frame, own_tokens, plain_block, fill}
-use Rattle.syn_expr_print.specs.Printing.{spelled, whole, piece_spelled}
+use Rattle.syn_expr_kinds.specs.Printed.{whole}
+use Rattle.syn_expr_print.specs.Printing.{spelled, piece_spelled}
 
 chainable-fill : (t : Tree) → is_chainable (fill t) ≡ is_chainable t
 chainable-fill (leaf k) = refl

@@ -10,12 +10,13 @@ use Rattle.syn_grammar.specs.Next.{enclosed, in_statement}
 use Rattle.syn_grammar.specs.Notes.{kids_below}
 use Rattle.syn_grammar.specs.Rule.{is_chainable}
 use Rattle.syn_grammar.specs.Tree as e
-use Rattle.syn_grammar.specs.Tree.{Tree, Kids, leaf, paren, adorned, lead, mid, post, tail, frame, none, kid, kids_size}
+use Rattle.syn_grammar.specs.Tree.{Tree, leaf, paren, adorned, lead, mid, post, tail, frame, none, kid, kids_size}
 use Rattle.syn_expr_kinds.specs.Node.{frame_at, operands_at}
 use Rattle.syn_expr_kinds.specs.View.{else_of}
 use Rattle.syn_expr_collect.specs.Below.{option_below}
 use Rattle.syn_expr_print.specs.Placed.{is_block, is_branch, option_size, else_tree, else_spelled}
-use Rattle.syn_expr_print.specs.Printing.{spelled, whole, kids_spelled, piece_spelled, core, node_of, IsLent}
+use Rattle.syn_expr_kinds.specs.Printed.{whole}
+use Rattle.syn_expr_print.specs.Printing.{spelled, kids_spelled, piece_spelled, core, node_of, IsLent}
 use Rattle.syn_expr_print.specs.Shape.{shape_at}
 use Rattle.syn_expr_print.proofs.Braced.{chained-braced, chained-frame, chained-adorned, chained-leaf, chained-adorned-leaf}
 use Rattle.syn_expr_print.proofs.Kids.{none-spelled, chained-spelled}

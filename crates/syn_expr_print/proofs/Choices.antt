@@ -18,7 +18,8 @@ use Rattle.syn_expr_collect.specs.Arm.{guard_by, guard_at, last_guard}
 use Rattle.syn_expr_collect.specs.Below.{total}
 use Rattle.syn_expr_collect.proofs.Lists.{arms_below}
 use Rattle.syn_expr_print.specs.Placed.{comma_if, option_size, arm_size, guard_spelled, arm_spelled, arms_spelled}
-use Rattle.syn_expr_print.specs.Printing.{kids_spelled, whole}
+use Rattle.syn_expr_kinds.specs.Printed.{whole}
+use Rattle.syn_expr_print.specs.Printing.{kids_spelled}
 use Rattle.syn_expr_print.proofs.Arms.{last_of, head_spelled, arm-spelled, guard-spelled, guarded-spelled, guards-spelled}
 use Rattle.syn_expr_print.proofs.Kids.{none-spelled}
 use Rattle.syn_expr_print.proofs.Spellings.{strays-spelled}

@@ -14,7 +14,8 @@ use Rattle.syn_grammar.specs.Next.{enclosed}
 use Rattle.syn_grammar.specs.Tree as e
 use Rattle.syn_grammar.specs.Tree.{Tree, Kids, Ending, none, kid, piece_own, ending_own, is_none, with_comma}
 use Rattle.syn_expr_kinds.specs.View.{FieldView, fields}
-use Rattle.syn_expr_print.specs.Printing.{kids_spelled, piece_spelled, whole, field_spelled}
+use Rattle.syn_expr_kinds.specs.Printed.{whole, field_spelled}
+use Rattle.syn_expr_print.specs.Printing.{kids_spelled, piece_spelled}
 use Rattle.syn_expr_print.specs.Placed.{comma_if}
 use Rattle.syn_expr_print.proofs.Kids.{loud-spelled, silent-spelled, comma-stays}
 

@@ -14,9 +14,10 @@ use Rattle.syn_grammar.specs.declared.kinds.Level.TheVariants as lev
 use Rattle.syn_grammar.specs.Next.{enclosed, in_condition, in_statement, piece_context}
 use Rattle.syn_grammar.specs.Rule.{put, piece_put, place_asks, bare, bare_kids}
 use Rattle.syn_grammar.specs.Tree as e
-use Rattle.syn_grammar.specs.Tree.{Tree, Kids, Body, Piece, Ending, none, kid, own, own_tokens, kids_own, piece_own, ending_own, inside_of, body_own, is_silent, is_repeated, is_none, is_block_like, needs_comma, with_comma, fill_piece, fill, fill_kids}
+use Rattle.syn_grammar.specs.Tree.{Tree, Kids, Body, Piece, Ending, none, kid, own, kids_own, piece_own, ending_own, inside_of, body_own, is_silent, is_none, needs_comma, with_comma, fill_piece, fill, fill_kids}
 use Rattle.syn_expr_print.specs.Placed.{comma_if}
-use Rattle.syn_expr_print.specs.Printing.{whole, kids_spelled, piece_spelled}
+use Rattle.syn_expr_kinds.specs.Printed.{whole}
+use Rattle.syn_expr_print.specs.Printing.{kids_spelled, piece_spelled}
 use Rattle.syn_expr_print.proofs.Appends.{piece_append, own_append}
 
 inside-nil : (c : Ending) → inside_of c [] ≡ []

@@ -14,7 +14,7 @@ use Rattle.syn_grammar.specs.Tree as e
 use Rattle.syn_grammar.specs.Tree.{Tree, Kids, Leaf, Post, Trailer, Frame, Enclosure, leaf, paren, adorned, lead, mid, post, tail, frame, none, kid, leaf_own, lead_own, infix_own, post_own, post_op, trailer_own, frame_own, enclosure, needs_last_comma, size, kids_size}
 use Rattle.syn_expr_notes.specs.Kind.{kind_at}
 use Rattle.syn_expr_notes.specs.Label as label
-use Rattle.syn_expr_notes.specs.Label.{leaf_kind, lead_kind, post_kind, trailer_kind, frame_kind}
+use Rattle.syn_expr_notes.specs.Label.{lead_kind, post_kind, trailer_kind}
 use Rattle.syn_expr_notes.specs.declared.kind.NodeKind.TheVariants as kind
 use Rattle.syn_expr_notes.specs.declared.label.LeafKind.{LeafKind}
 use Rattle.syn_expr_notes.specs.declared.label.LeadKind.{LeadKind}
@@ -22,9 +22,9 @@ use Rattle.syn_expr_notes.specs.declared.label.PostKind.{PostKind}
 use Rattle.syn_expr_notes.specs.declared.label.TrailerKind.{TrailerKind}
 use Rattle.syn_expr_notes.specs.declared.label.FrameKind.{FrameKind}
 use Rattle.syn_expr_print.specs.Shape.{leaf_shape, paren_shape, lead_shape, mid_shape, post_shape, tail_shape, frame_shape, shape_at}
-use Rattle.syn_expr_kinds.specs.Node.{no_trees, one_tree, two_trees, based_by, framed, operands_at, leaf_at, is_paren, lead_at, operator_at, post_at, trailer_at, frame_at}
+use Rattle.syn_expr_kinds.specs.Node.{no_trees, one_tree, two_trees, based_by, framed, operands_at, leaf_at, is_paren, lead_at, operator_at, post_at, trailer_at, frame_at, operand_kids}
 use Rattle.syn_expr_kinds.specs.Pats.{strays}
-use Rattle.syn_expr_print.specs.Printing.{spelled, spelled_in, kids_spelled, core, node_of, first_of, second_of, operand_kids, IsLent}
+use Rattle.syn_expr_print.specs.Printing.{spelled, spelled_in, kids_spelled, core, node_of, first_of, second_of, IsLent}
 use Rattle.syn_expr_print.proofs.Spellings.{leaf-spelled, paren-spelled, lead-spelled, mid-spelled, post-spelled, tail-spelled, open-spelled, closed-spelled, strays-spelled, strays-below, below-core, size-core}
 
 -- ---- a base is the first operand, whether its trailer holds others or not

@@ -6,7 +6,7 @@ use Rattle.std.specs.declared.alloc.Global.{Global}
 use Rattle.syn_lower_lists.specs.View.{values, trails, last_of, is_some_pair}
 use Rattle.syn_lower_lists.specs.declared.punctuated.Punctuated.{Punctuated}
 use Rattle.syn_grammar.specs.Tree as e
-use Rattle.syn_grammar.specs.Tree.{Tree, Kids, none, kid, size, kids_size}
+use Rattle.syn_grammar.specs.Tree.{Tree, Kids, none, kid}
 use Rattle.syn_expr_kinds.specs.View.{elements}
 use Rattle.syn_expr_print.proofs.Kids.{element-comma, element-last, none-spelled}
 

@@ -15,7 +15,8 @@ use Rattle.syn_grammar.specs.Tree.{Tree, Kids, none, kid, size, kids_size}
 use Rattle.syn_expr_kinds.specs.View.{FieldView, boxed, elements, fields, option_kid}
 use Rattle.syn_expr_collect.specs.Below.{backwards, total, field_below, option_below}
 use Rattle.syn_expr_print.specs.Placed.{comma_if, last_field_below, last_field_size, last_field_spelled, last_spelled, option_size, rest_spelled}
-use Rattle.syn_expr_print.specs.Printing.{whole, kids_spelled, field_spelled}
+use Rattle.syn_expr_kinds.specs.Printed.{whole, field_spelled}
+use Rattle.syn_expr_print.specs.Printing.{kids_spelled}
 use Rattle.syn_expr_print.proofs.Kids.{none-spelled, element-comma, element-last, rest-spelled}
 use Rattle.syn_expr_print.proofs.Lists.{last_kid, pair_kids, lists-elements}
 use Rattle.syn_expr_print.proofs.Fields.{field_kids, last_field, fields-are, field-comma, field-last}

@@ -11,20 +11,20 @@ use Rattle.syn_grammar.specs.Notes.{below, kids_below}
 use Rattle.syn_grammar.specs.Tree as e
 use Rattle.syn_grammar.specs.Tree.{Tree, Kids, Enclosure, frame_own, enclosure, needs_last_comma}
 use Rattle.syn_pat_kinds.specs.View.{PatView}
-use Rattle.syn_expr_kinds.specs.Node.{frame_at, frame_of, frame_guards, frame_seen, operands_at}
+use Rattle.syn_expr_kinds.specs.Node.{frame_at, frame_of, frame_guards, frame_seen, operands_at, operand_kids}
 use Rattle.syn_expr_kinds.specs.Pats.{ArmView, arms, strays}
 use Rattle.syn_expr_kinds.specs.View.{FieldView, boxed, elements, fields, option_kid, else_of}
 use Rattle.syn_expr_kinds.specs.declared.node.Frame.{Frame}
 use Rattle.syn_expr_kinds.specs.declared.node.Frame.TheVariants as frame
 use Rattle.syn_expr_put.specs.Framed.{framed_own, in_enclosure}
 use Rattle.syn_expr_print.specs.Placed.{is_enclosed, needs_comma, needs_last, is_single, is_one_field}
-use Rattle.syn_expr_print.specs.Printing.{spelled, kids_spelled, core, operand_kids, IsLent}
+use Rattle.syn_expr_print.specs.Printing.{spelled, kids_spelled, core, IsLent}
 use Rattle.syn_expr_print.proofs.Choices.{arms-none}
 use Rattle.syn_expr_print.proofs.Lents.{first-based, second-based, kids-based, open-text, closed-text, frame-below}
 
 module _ {P : Type 0} (pat : P → PatView) where
   -- guards where none may stand are no operands
-  last-seen : (k : Frame P) (ks : Kids) → needs_last_comma (frame_of pat k) (strays (frame_guards pat k) ks) ≡ needs_last (frame_of pat k) (e.is_one ks)
+  pub last-seen : (k : Frame P) (ks : Kids) → needs_last_comma (frame_of pat k) (strays (frame_guards pat k) ks) ≡ needs_last (frame_of pat k) (e.is_one ks)
   last-seen (frame.Array t) ks = refl
   last-seen (frame.Tuple t) ks = refl
   last-seen (frame.Repeat t) ks = refl

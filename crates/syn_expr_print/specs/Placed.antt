@@ -21,7 +21,8 @@ use Rattle.syn_expr_kinds.specs.Pats.{ArmView}
 use Rattle.syn_expr_kinds.specs.View.{FieldView}
 use Rattle.syn_expr_collect.specs.Arm.{guard_at}
 use Rattle.syn_expr_collect.specs.Below.{field_below}
-use Rattle.syn_expr_print.specs.Printing.{field_spelled, piece_spelled, whole}
+use Rattle.syn_expr_kinds.specs.Printed.{field_spelled, whole}
+use Rattle.syn_expr_print.specs.Printing.{piece_spelled}
 
 -- ---- lists with commas
 

@@ -1,17 +1,16 @@
 -- What a printer writes of a node and of its operands, and the notes that it takes.
-use Rattle.std.specs.Prelude.{◌≡◌, Bool, false, if◌then◌else◌, List, [], ◌++◌, Option, Some, None}
+use Rattle.std.specs.Prelude.{◌≡◌, Bool, false, List, [], ◌++◌, Option, Some, None}
 use Rattle.syn_tokens.specs.Tok.{Tok}
 use Rattle.syn_grammar.specs.declared.next.Context.{Context}
 use Rattle.syn_grammar.specs.declared.note.Note.{Note}
 use Rattle.syn_grammar.specs.declared.kinds.Level.TheVariants as lev
 use Rattle.syn_grammar.specs.Next.{enclosed, in_statement, piece_context}
-use Rattle.syn_grammar.specs.Rule.{put, piece_put, place_asks, bare, bare_kids, printed}
+use Rattle.syn_grammar.specs.Rule.{put, piece_put, place_asks, bare, bare_kids}
 use Rattle.syn_grammar.specs.Tree as e
-use Rattle.syn_grammar.specs.Tree.{Tree, Kids, Piece, leaf, paren, adorned, lead, mid, post, tail, frame, none, own_tokens, kids_own, piece_own, fill, fill_kids}
+use Rattle.syn_grammar.specs.Tree.{Tree, Kids, Piece, leaf, paren, adorned, lead, mid, post, tail, frame, none, own_tokens, kids_own, fill, fill_kids}
 use Rattle.syn_expr_kinds.specs.Node.{OperandTrees, no_trees, one_tree, two_trees, based, framed, operands_at}
 use Rattle.syn_expr_print.specs.Shape.{ShapeTree, leaf_shape, paren_shape, lead_shape, mid_shape, post_shape, tail_shape, frame_shape, shape_at}
 use Rattle.syn_expr_kinds.specs.Pats.{strays}
-use Rattle.syn_expr_kinds.specs.View.{FieldView}
 
 -- ---- notes
 
@@ -30,10 +29,6 @@ spelled c t = own_tokens (bare c (fill t))
 unfoldable pub spelled_in : Bool → Context → Tree → List Tok
 spelled_in wrapped c t = own_tokens (put wrapped (bare enclosed (fill t)) (bare c (fill t)))
 
--- of a tree where the rule decides about its parentheses
-unfoldable pub whole : Context → Tree → List Tok
-whole c t = own_tokens (printed c t)
-
 -- of operands in places of their own; `last`: behind the last one a comma is needed
 unfoldable pub kids_spelled : Bool → Kids → List Tok
 kids_spelled last ks = kids_own (bare_kids (fill_kids last ks)) []
@@ -44,10 +39,6 @@ piece_spelled k t =
     own_tokens (piece_put k (fill t) (bare enclosed (fill t)) (bare (piece_context k) (fill t))
     (put (place_asks lev.Jump in_statement (fill t)) (bare enclosed (fill t)) (bare in_statement (fill t)))
     (place_asks lev.Jump (piece_context k) (fill t)))
-
--- of a field; without a colon its value is not spelled
-unfoldable pub field_spelled : FieldView → List Tok
-field_spelled x = piece_own (e.field_value x.attrs x.member x.colon) [] ++ (if x.colon then whole enclosed x.value else [])
 
 -- ---- nodes by what is lent of them
 
@@ -66,12 +57,6 @@ first_of _ = None
 abbrev pub second_of : OperandTrees → Option Tree
 second_of (two_trees x y) = Some y
 second_of _ = None
-
--- the operands in places of their own
-abbrev pub operand_kids : OperandTrees → Kids
-operand_kids (based b ks) = ks
-operand_kids (framed ks) = ks
-operand_kids _ = none
 
 -- the node of which these are lent; of no node other ones are
 abbrev pub node_of : ShapeTree → OperandTrees → Tree

@@ -6,7 +6,7 @@ ghost use Rattle.syn_expr_collect.specs.Below.{has_some};
 ghost use Rattle.syn_expr_kinds.specs.Attrs.{inner_part};
 ghost use Rattle.syn_expr_kinds.specs.Node.{leaf_of};
 ghost use Rattle.syn_expr_print.specs.Placed as placed;
-ghost use Rattle.syn_expr_print.specs.Printing as printing;
+ghost use Rattle.syn_expr_kinds.specs.Printed as printed;
 ghost use Rattle.syn_expr_print.specs.Printing.{EndsWith, piece_spelled};
 ghost use Rattle.syn_expr_print.specs.Prints.{Callable, Prints};
 ghost use Rattle.syn_expr_print.specs.Taken.{Taken};
@@ -24,11 +24,11 @@ ghost use Rattle.syn_tokens.specs.Tok as tok;
 use crate::node::HasPrint;
 use crate::notes::{Notes, take_note};
 use crate::operand::inside;
-use syn_expr_kinds::node::{Braces, HasShape, Jump, Leaf};
+use syn_expr_kinds::body::put_braces;
+use syn_expr_kinds::node::{HasShape, Leaf};
+use syn_expr_kinds::put::Grown;
 use syn_expr_notes::context::{enclosed, in_statement};
 use syn_expr_notes::decide::place_by;
-use syn_expr_put::body::put_braces;
-use syn_expr_put::put::Grown;
 use syn_grammar::kinds::Level;
 use syn_grammar::next::Context;
 use syn_grammar::note::{Note, Sort};
@@ -66,19 +66,17 @@ fn is_plain(leaf: Leaf<'_>) -> bool
     ensures { result ≡ is_plain_leaf (leaf_of leaf.entry) }
 {
     match leaf {
-        Leaf::Block(label, Braces { attrs, block: _ }) => label.is_none() && !has_inner(attrs),
-        Leaf::Loop(_, _, Braces { attrs: _, block: _ }) => false,
-        Leaf::Unsafe(_, Braces { attrs: _, block: _ }) => false,
-        Leaf::Const(_, Braces { attrs: _, block: _ }) => false,
-        Leaf::Jump(Jump::Return(_)) => false,
-        Leaf::Jump(Jump::Yield(_)) => false,
-        Leaf::Jump(Jump::Break(_, _)) => false,
+        Leaf::Block(label, braces) => label.is_none() && !has_inner(braces.attrs),
         Leaf::Lit(_)
         | Leaf::Path(_, _)
         | Leaf::Macro(_)
         | Leaf::Infer(_)
         | Leaf::Range(_)
+        | Leaf::Jump(_)
         | Leaf::Continue(_, _)
+        | Leaf::Loop(_, _, _)
+        | Leaf::Unsafe(_, _)
+        | Leaf::Const(_, _)
         | Leaf::Async(_, _, _)
         | Leaf::TryBlock(_, _)
         | Leaf::Verbatim(_) => false,
@@ -117,7 +115,7 @@ pub(crate) fn braced<E: HasPrint, F: Fn(&mut TokenStream, &mut Notes, &E, Contex
     requires callable { Callable E.tree (size (E.tree x.now) + 1) (F.pre bare.now) }
     requires prints { Prints E.tree (F.post bare.now) }
     requires stacked { EndsWith notes.old.left.items (below (E.tree x.now)) }
-    ensures text { OnOk result (tokens.new ≡ tokens.old ++ tok.group del.Brace (tok.inside (printing.whole next.in_statement (E.tree x.now))) ∷ []) }
+    ensures text { OnOk result (tokens.new ≡ tokens.old ++ tok.group del.Brace (tok.inside (printed.whole next.in_statement (E.tree x.now))) ∷ []) }
     ensures front { IsFront tokens.old tokens.new }
     ensures taken { OnOk result (Taken notes.old notes.new (below (E.tree x.now))) }
 {

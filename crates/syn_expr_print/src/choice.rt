@@ -3,7 +3,7 @@
 ghost use Rattle.std.specs.Prelude.{◌≡◌, ◌+◌, ◌++◌, ◌∷◌, ◌||◌, ◌&&◌, not, map, is_some, OnOk};
 ghost use Rattle.syn_expr_collect.specs.Below.{arm_below, backwards, option_below, total};
 ghost use Rattle.syn_expr_print.specs.Placed.{arm_size, arm_spelled, arms_spelled, comma_if, guard_spelled, has_comma, option_size};
-ghost use Rattle.syn_expr_print.specs.Printing as printing;
+ghost use Rattle.syn_expr_kinds.specs.Printed as printed;
 ghost use Rattle.syn_expr_print.specs.Printing.{EndsWith};
 ghost use Rattle.syn_expr_print.specs.Prints.{Callable, Prints};
 ghost use Rattle.syn_expr_print.specs.Taken.{Taken};
@@ -20,12 +20,12 @@ use crate::notes::Notes;
 use crate::operand::whole;
 use syn_expr_collect::HasArms;
 use syn_expr_kinds::node::HasKind;
+use syn_expr_kinds::put::{Grown, put};
 use syn_expr_notes::context::{enclosed, in_arm};
 use syn_expr_notes::kind::NodeKind;
 use syn_expr_notes::label::{FrameKind, LeafKind};
 use syn_expr_put::arm::{ArmHead, HasArmHead, put_arm_head};
 use syn_expr_put::mark::{put_arrow, put_comma, put_if};
-use syn_expr_put::put::{Grown, put};
 use syn_grammar::next::Context;
 use syn_tokens::token::{Comma, FatArrow, If};
 use syn_tokens::tree::TokenStream;
@@ -100,7 +100,7 @@ fn body<E: HasPrint, F: Fn(&mut TokenStream, &mut Notes, &E, Context) -> Grown>(
     requires callable { Callable E.tree (size (E.tree x.now) + 1) (F.pre bare.now) }
     requires prints { Prints E.tree (F.post bare.now) }
     requires stacked { EndsWith notes.old.left.items (stack (E.tree x.now)) }
-    ensures text { OnOk result (tokens.new ≡ tokens.old ++ (joint 61 ∷ alone 62 ∷ printing.whole next.in_arm (E.tree x.now))) }
+    ensures text { OnOk result (tokens.new ≡ tokens.old ++ (joint 61 ∷ alone 62 ∷ printed.whole next.in_arm (E.tree x.now))) }
     ensures front { IsFront tokens.old tokens.new }
     ensures taken { OnOk result (Taken notes.old notes.new (stack (E.tree x.now))) }
 {

@@ -4,13 +4,13 @@
 ghost use Rattle.std.specs.Prelude.{◌≡◌, ◌+◌, ◌++◌, [], map, true, is_some, OnOk};
 ghost use Rattle.syn_expr_collect.specs.Below.{arm_below, backwards, option_below, total};
 ghost use Rattle.syn_expr_kinds.specs.Attrs.{inner_of};
-ghost use Rattle.syn_expr_kinds.specs.Node.{braces_of, frame_at, frame_of, operands_at, operands_of};
+ghost use Rattle.syn_expr_kinds.specs.Node.{braces_of, frame_at, frame_of, operand_kids, operands_at, operands_of};
 ghost use Rattle.syn_expr_kinds.specs.Pats.{ArmView};
 ghost use Rattle.syn_expr_kinds.specs.View.{body_of};
 ghost use Rattle.syn_expr_print.specs.Placed as placed;
 ghost use Rattle.syn_expr_print.specs.Placed.{arm_size, arms_spelled, else_spelled, else_tree, option_size};
-ghost use Rattle.syn_expr_print.specs.Printing as printing;
-ghost use Rattle.syn_expr_print.specs.Printing.{EndsWith, core, kids_spelled, operand_kids, piece_spelled, spelled};
+ghost use Rattle.syn_expr_kinds.specs.Printed as printed;
+ghost use Rattle.syn_expr_print.specs.Printing.{EndsWith, core, kids_spelled, piece_spelled, spelled};
 ghost use Rattle.syn_expr_print.specs.Prints.{Callable, Prints};
 ghost use Rattle.syn_expr_print.specs.Taken.{Taken};
 ghost use Rattle.syn_grammar.specs.Next as next;
@@ -33,18 +33,18 @@ use crate::operand::{inside, whole};
 use crate::places::{elements, repeated};
 use crate::structure::fields;
 use syn_expr_collect::HasArms;
-use syn_expr_kinds::node::{Braces, Closure, Frame, HasKind, HasShape, Operands};
+use syn_expr_kinds::attrs::put_inner;
+use syn_expr_kinds::body::{put_body, put_braces};
+use syn_expr_kinds::node::{Braces, Frame, HasKind, HasShape, Operands};
+use syn_expr_kinds::put::{Grown, put};
 use syn_expr_kinds::structure::FieldValueOf;
 use syn_expr_notes::context::{enclosed, in_condition};
 use syn_expr_notes::kind::NodeKind;
 use syn_expr_notes::label::LeafKind;
 use syn_expr_put::arm::HasArmHead;
-use syn_expr_put::attrs::put_inner;
-use syn_expr_put::body::{put_body, put_braces};
 use syn_expr_put::frame::{put_frame_head, put_framed};
 use syn_expr_put::lead::PutPat;
 use syn_expr_put::mark::put_else;
-use syn_expr_put::put::{Grown, put};
 use syn_grammar::next::Context;
 use syn_lower::attr::Attribute;
 use syn_lower::punctuated::Punctuated;
@@ -77,18 +77,7 @@ fn is_if<P: HasPatTree>(frame: Frame<'_, P>) -> bool
         | Frame::ForLoop(_, _, _, _)
         | Frame::Match(_, _)
         | Frame::Group(_) => false,
-        Frame::Closure(
-            Closure {
-                lifetimes: _,
-                constness: _,
-                asyncness: _,
-                capture: _,
-                inputs_begin: _,
-                inputs: _,
-                inputs_end: _,
-                output: _,
-            },
-        ) => false,
+        Frame::Closure(_) => false,
     }
 }
 
@@ -142,18 +131,7 @@ pub fn round<P: HasPatTree>(frame: Frame<'_, P>, is_one: bool) -> Asked
             brace: *brace,
             ..open
         },
-        Frame::Closure(
-            Closure {
-                lifetimes: _,
-                constness: _,
-                asyncness: _,
-                capture: _,
-                inputs_begin: _,
-                inputs: _,
-                inputs_end: _,
-                output: _,
-            },
-        ) => open,
+        Frame::Closure(_) => open,
     }
 }
 
@@ -191,7 +169,7 @@ pub fn is_one<E, A>(operands: Operands<'_, E, A>) -> bool
         Operands::Repeated(_, _, _) => false,
         Operands::Fields(fields, _, rest) => is_one_field(fields, rest),
         Operands::If(_, _, otherwise) => otherwise.is_none(),
-        Operands::Loop(_, Braces { attrs: _, block: _ }) => true,
+        Operands::Loop(_, _) => true,
         Operands::Arms(_, _, arms) => arms.is_empty(),
         Operands::Body(_) => true,
     }
@@ -221,13 +199,12 @@ fn looped<E: HasPrint, F: Fn(&mut TokenStream, &mut Notes, &E, Context) -> Grown
     requires callable { Callable E.tree (size (E.tree head.now) + 1) (F.pre bare.now) }
     requires prints { Prints E.tree (F.post bare.now) }
     requires stacked { EndsWith notes.old.left.items (stack (E.tree head.now)) }
-    ensures text { OnOk result (tokens.new ≡ tokens.old ++ (printing.whole next.in_condition (E.tree head.now) ++ body_own (braces_of braces.entry) [])) }
+    ensures text { OnOk result (tokens.new ≡ tokens.old ++ (printed.whole next.in_condition (E.tree head.now) ++ body_own (braces_of braces.entry) [])) }
     ensures front { IsFront tokens.old tokens.new }
     ensures taken { OnOk result (Taken notes.old notes.new (stack (E.tree head.now))) }
 {
-    let Braces { attrs, block } = braces;
     whole(bare, tokens, notes, head, in_condition())?;
-    put_body(tokens, Braces { attrs, block })
+    put_body(tokens, braces)
 }
 
 /// Prints what a `match` looks at, and its arms in their braces, behind the inner attributes.
@@ -246,7 +223,7 @@ where
     requires callable { Callable E.tree (size (E.tree scrutinee.now) + (total (λ x. arm_size (E.Arm.view x)) arms.now.items + 1)) (F.pre bare.now) }
     requires prints { Prints E.tree (F.post bare.now) }
     requires stacked { EndsWith notes.old.left.items (backwards (λ x. arm_below (E.Arm.view x)) arms.now.items ++ stack (E.tree scrutinee.now)) }
-    ensures text { OnOk result (tokens.new ≡ tokens.old ++ (printing.whole next.in_condition (E.tree scrutinee.now) ++ own_parts.enclosed del.Brace (attributes_own (inner_of attrs.now) [] ++ arms_spelled (map E.Arm.view arms.now.items)) [])) }
+    ensures text { OnOk result (tokens.new ≡ tokens.old ++ (printed.whole next.in_condition (E.tree scrutinee.now) ++ own_parts.enclosed del.Brace (attributes_own (inner_of attrs.now) [] ++ arms_spelled (map E.Arm.view arms.now.items)) [])) }
     ensures front { IsFront tokens.old tokens.new }
     ensures taken { OnOk result (Taken notes.old notes.new (backwards (λ x. arm_below (E.Arm.view x)) arms.now.items ++ stack (E.tree scrutinee.now))) }
 {
@@ -298,7 +275,7 @@ fn guarded<E: HasPrint, F: Fn(&mut TokenStream, &mut Notes, &E, Context) -> Grow
     requires callable { Callable E.tree (size (E.tree condition.now) + 1) (F.pre bare.now) }
     requires prints { Prints E.tree (F.post bare.now) }
     requires stacked { EndsWith notes.old.left.items (stack (E.tree condition.now)) }
-    ensures text { OnOk result (tokens.new ≡ tokens.old ++ (printing.whole next.in_condition (E.tree condition.now) ++ body_own (body_of [] block.now.stmts) [])) }
+    ensures text { OnOk result (tokens.new ≡ tokens.old ++ (printed.whole next.in_condition (E.tree condition.now) ++ body_own (body_of [] block.now.stmts) [])) }
     ensures front { IsFront tokens.old tokens.new }
     ensures taken { OnOk result (Taken notes.old notes.new (stack (E.tree condition.now))) }
 {
@@ -351,7 +328,7 @@ where
     requires callable { Callable E.tree (size (E.tree condition.now) + (option_size (else_tree E.tree otherwise.now) + 1)) (F.pre bare.now) }
     requires prints { Prints E.tree (F.post bare.now) }
     requires stacked { EndsWith notes.old.left.items (option_below (else_tree E.tree otherwise.now) ++ stack (E.tree condition.now)) }
-    ensures text { OnOk result (tokens.new ≡ tokens.old ++ (printing.whole next.in_condition (E.tree condition.now) ++ (body_own (body_of [] block.now.stmts) [] ++ else_spelled (else_tree E.tree otherwise.now)))) }
+    ensures text { OnOk result (tokens.new ≡ tokens.old ++ (printed.whole next.in_condition (E.tree condition.now) ++ (body_own (body_of [] block.now.stmts) [] ++ else_spelled (else_tree E.tree otherwise.now)))) }
     ensures front { IsFront tokens.old tokens.new }
     ensures taken { OnOk result (Taken notes.old notes.new (option_below (else_tree E.tree otherwise.now) ++ stack (E.tree condition.now))) }
 {

@@ -2,7 +2,7 @@
 
 ghost use Rattle.std.specs.Prelude.{◌≡◌, ◌+◌, ◌++◌, OnOk};
 ghost use Rattle.syn_expr_notes.specs.Label.{lead_kind, trailer_kind};
-ghost use Rattle.syn_expr_print.specs.Printing as printing;
+ghost use Rattle.syn_expr_kinds.specs.Printed as printed;
 ghost use Rattle.syn_expr_print.specs.Printing.{EndsWith, spelled_in};
 ghost use Rattle.syn_expr_print.specs.Prints.{Callable, Prints};
 ghost use Rattle.syn_expr_print.specs.Taken.{Taken};
@@ -15,11 +15,11 @@ ghost use Rattle.syn_tokens.specs.Input.{IsFront};
 
 use crate::node::HasPrint;
 use crate::notes::{Notes, take_note};
+use syn_expr_kinds::body::put_parens;
+use syn_expr_kinds::put::Grown;
 use syn_expr_notes::context::{base_context, enclosed, lead_context, left_context, right_context};
 use syn_expr_notes::decide::{base_by, lead_by, left_by, place_by};
 use syn_expr_notes::label::{LeadKind, TrailerKind};
-use syn_expr_put::body::put_parens;
-use syn_expr_put::put::Grown;
 use syn_grammar::kinds::{Infix, Level};
 use syn_grammar::next::Context;
 use syn_op::level::level;
@@ -63,7 +63,7 @@ pub fn whole<E: HasPrint, F: Fn(&mut TokenStream, &mut Notes, &E, Context) -> Gr
     requires callable { Callable E.tree (size (E.tree x.now) + 1) (F.pre bare.now) }
     requires prints { Prints E.tree (F.post bare.now) }
     requires stacked { EndsWith notes.old.left.items (stack (E.tree x.now)) }
-    ensures text { OnOk result (tokens.new ≡ tokens.old ++ printing.whole context (E.tree x.now)) }
+    ensures text { OnOk result (tokens.new ≡ tokens.old ++ printed.whole context (E.tree x.now)) }
     ensures front { IsFront tokens.old tokens.new }
     ensures taken { OnOk result (Taken notes.old notes.new (stack (E.tree x.now))) }
 {

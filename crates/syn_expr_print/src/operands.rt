@@ -7,7 +7,7 @@ ghost use Rattle.syn_grammar.specs.Tree.{Tree};
 ghost use Rattle.syn_lower_leaves.specs.View.{mapped};
 ghost use Rattle.syn_expr_print.specs.Printing.{first_of, second_of};
 
-use syn_expr_kinds::node::{Braces, Operands};
+use syn_expr_kinds::node::Operands;
 
 /// The operand at an end of a node, or the first of two.
 #[tactic(auto, using(crate::proofs::Lents::based))]
@@ -24,11 +24,8 @@ pub fn first<'a, E, A>(operands: Operands<'a, E, A>) -> Option<&'a E>
         | Operands::Fields(_, _, _)
         | Operands::If(_, _, _)
         | Operands::Arms(_, _, _)
-        | Operands::Body(_) => None,
-        Operands::Loop(_, braces) => {
-            let Braces { attrs: _, block: _ } = braces;
-            None
-        }
+        | Operands::Body(_)
+        | Operands::Loop(_, _) => None,
     }
 }
 
@@ -49,10 +46,7 @@ pub fn second<'a, E, A>(operands: Operands<'a, E, A>) -> Option<&'a E>
         | Operands::Fields(_, _, _)
         | Operands::If(_, _, _)
         | Operands::Arms(_, _, _)
-        | Operands::Body(_) => None,
-        Operands::Loop(_, braces) => {
-            let Braces { attrs: _, block: _ } = braces;
-            None
-        }
+        | Operands::Body(_)
+        | Operands::Loop(_, _) => None,
     }
 }

@@ -7,7 +7,7 @@ ghost use Rattle.syn_expr_kinds.specs.View as view;
 ghost use Rattle.syn_expr_kinds.specs.View.{boxed};
 ghost use Rattle.syn_expr_print.specs.Placed.{last_spelled, option_size};
 ghost use Rattle.syn_expr_print.specs.Printing.{EndsWith, kids_spelled};
-ghost use Rattle.syn_expr_print.specs.Printing as printing;
+ghost use Rattle.syn_expr_kinds.specs.Printed as printed;
 ghost use Rattle.syn_expr_print.specs.Prints.{Callable, Prints};
 ghost use Rattle.syn_expr_print.specs.Taken.{Taken};
 ghost use Rattle.syn_grammar.specs.Next as next;
@@ -21,9 +21,9 @@ ghost use Rattle.syn_tokens.specs.Input.{IsFront};
 use crate::node::HasPrint;
 use crate::notes::Notes;
 use crate::operand::whole;
+use syn_expr_kinds::put::{Grown, put};
 use syn_expr_notes::context::enclosed;
 use syn_expr_put::mark::{put_comma, put_semi};
-use syn_expr_put::put::{Grown, put};
 use syn_grammar::next::Context;
 use syn_lower::punctuated::Punctuated;
 use syn_tokens::token::{Comma, Semi};
@@ -40,7 +40,7 @@ fn pairs<E: HasPrint, F: Fn(&mut TokenStream, &mut Notes, &E, Context) -> Grown>
     requires callable { Callable E.tree (total (λ q. size (E.tree q.0)) pairs.now + 1) (F.pre bare.now) }
     requires prints { Prints E.tree (F.post bare.now) }
     requires stacked { EndsWith notes.old.left.items (backwards (λ q. stack (E.tree q.0)) pairs.now) }
-    ensures text { OnOk result (tokens.new ≡ tokens.old ++ pairs_printed (λ x. printing.whole next.enclosed (E.tree x)) comma pairs.entry.now) }
+    ensures text { OnOk result (tokens.new ≡ tokens.old ++ pairs_printed (λ x. printed.whole next.enclosed (E.tree x)) comma pairs.entry.now) }
     ensures front { IsFront tokens.old tokens.new }
     ensures taken { OnOk result (Taken notes.old notes.new (backwards (λ q. stack (E.tree q.0)) pairs.entry.now)) }
 {
@@ -111,7 +111,7 @@ pub fn repeated<E: HasPrint, F: Fn(&mut TokenStream, &mut Notes, &E, Context) ->
     requires callable { Callable E.tree (size (E.tree value.now) + size (E.tree len.now) + 1) (F.pre bare.now) }
     requires prints { Prints E.tree (F.post bare.now) }
     requires stacked { EndsWith notes.old.left.items (stack (E.tree len.now) ++ stack (E.tree value.now)) }
-    ensures text { OnOk result (tokens.new ≡ tokens.old ++ (printing.whole next.enclosed (E.tree value.now) ++ alone 59 ∷ printing.whole next.enclosed (E.tree len.now))) }
+    ensures text { OnOk result (tokens.new ≡ tokens.old ++ (printed.whole next.enclosed (E.tree value.now) ++ alone 59 ∷ printed.whole next.enclosed (E.tree len.now))) }
     ensures front { IsFront tokens.old tokens.new }
     ensures taken { OnOk result (Taken notes.old notes.new (stack (E.tree len.now) ++ stack (E.tree value.now))) }
 {

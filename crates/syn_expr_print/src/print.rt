@@ -2,7 +2,7 @@
 
 ghost use Rattle.std.specs.Prelude.{◌≡◌, ◌+◌, ◌++◌, ◌-◌, ◌*◌, ◌^◌, ◌≤◌, min, IfOk, OnOk};
 ghost use Rattle.syn_expr_collect.specs.Visited.{visited};
-ghost use Rattle.syn_expr_print.specs.Printing as printing;
+ghost use Rattle.syn_expr_kinds.specs.Printed as printed;
 ghost use Rattle.syn_expr_print.specs.Printing.{EndsWith, spelled};
 ghost use Rattle.syn_expr_print.specs.Prints.{Callable, Prints};
 ghost use Rattle.syn_expr_print.specs.Taken.{Taken};
@@ -16,9 +16,9 @@ use crate::operand::whole;
 use crate::printed::bare;
 use std::alloc::AllocError;
 use syn_expr_collect::{HasArms, collect};
+use syn_expr_kinds::put::Grown;
 use syn_expr_put::arm::HasArmHead;
 use syn_expr_put::lead::PutPat;
-use syn_expr_put::put::Grown;
 use syn_grammar::next::Context;
 use syn_tokens::tree::TokenStream;
 
@@ -38,7 +38,7 @@ pub(crate) fn print_with<
 >(bare: &F, tokens: &mut TokenStream, x: &E, context: Context) -> Result<u64, AllocError>
     requires callable { Callable E.tree (size (E.tree x.now) + 1) (F.pre bare.now) }
     requires prints { Prints E.tree (F.post bare.now) }
-    ensures text { OnOk result (tokens.new ≡ tokens.old ++ printing.whole context (E.tree x.now)) }
+    ensures text { OnOk result (tokens.new ≡ tokens.old ++ printed.whole context (E.tree x.now)) }
     ensures front { IsFront tokens.old tokens.new }
     ensures least { IfOk result (λ n. min (visited (E.tree x.now)) (2 ^ 64 - 1) ≤ n) }
     ensures most { IfOk result (λ n. n ≤ min (2 * visited (E.tree x.now)) (2 ^ 64 - 1)) }
@@ -82,7 +82,7 @@ pub fn print_in<E: HasPrinter>(
     x: &E,
     context: Context,
 ) -> Result<u64, AllocError>
-    ensures text { OnOk result (tokens.new ≡ tokens.old ++ printing.whole context (E.tree x.now)) }
+    ensures text { OnOk result (tokens.new ≡ tokens.old ++ printed.whole context (E.tree x.now)) }
     ensures front { IsFront tokens.old tokens.new }
     ensures least { IfOk result (λ n. min (visited (E.tree x.now)) (2 ^ 64 - 1) ≤ n) }
     ensures most { IfOk result (λ n. n ≤ min (2 * visited (E.tree x.now)) (2 ^ 64 - 1)) }

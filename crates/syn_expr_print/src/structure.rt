@@ -5,7 +5,8 @@ ghost use Rattle.syn_expr_collect.specs.Below.{backwards, field_below, option_be
 ghost use Rattle.syn_expr_kinds.specs.View as view;
 ghost use Rattle.syn_expr_kinds.specs.View.{boxed, field_value_of, option_kid};
 ghost use Rattle.syn_expr_print.specs.Placed.{last_field_below, last_field_size, last_field_spelled, option_size, rest_spelled};
-ghost use Rattle.syn_expr_print.specs.Printing.{EndsWith, field_spelled, kids_spelled};
+ghost use Rattle.syn_expr_kinds.specs.Printed.{field_spelled};
+ghost use Rattle.syn_expr_print.specs.Printing.{EndsWith, kids_spelled};
 ghost use Rattle.syn_expr_print.specs.Prints.{Callable, Prints};
 ghost use Rattle.syn_expr_print.specs.Taken.{Taken};
 ghost use Rattle.syn_grammar.specs.Notes.{kids_below};
@@ -19,18 +20,18 @@ ghost use Rattle.syn_tokens.specs.Input.{IsFront};
 use crate::node::HasPrint;
 use crate::notes::Notes;
 use crate::operand::whole;
+use syn_expr_kinds::put::{Grown, put};
 use syn_expr_kinds::structure::FieldValueOf;
 use syn_expr_notes::context::enclosed;
 use syn_expr_put::frame::put_field_head;
 use syn_expr_put::mark::{put_comma, put_dots};
-use syn_expr_put::put::{Grown, put};
 use syn_grammar::next::Context;
 use syn_lower::punctuated::Punctuated;
 use syn_tokens::token::{Comma, DotDot};
 use syn_tokens::tree::TokenStream;
 
 /// Prints a field. Without a colon its value isn't spelled, and has no notes.
-#[tactic(auto, using(syn_tokens::proofs::Fronts::fronts, crate::proofs::Turns::turns), unfolding(crate::specs::Printing::field_spelled))]
+#[tactic(auto, using(syn_tokens::proofs::Fronts::fronts, crate::proofs::Turns::turns), unfolding(syn_expr_kinds::specs::Printed::field_spelled))]
 pub fn field<E: HasPrint, F: Fn(&mut TokenStream, &mut Notes, &E, Context) -> Grown>(
     bare: &F,
     tokens: &mut TokenStream,

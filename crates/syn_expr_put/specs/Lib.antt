@@ -1,3 +1,2 @@
 pub mod Arm
-pub mod Before
 pub mod Framed

@@ -7,18 +7,18 @@ ghost use Rattle.syn_expr_put.specs.Framed.{framed_own, field_own};
 ghost use Rattle.syn_grammar.specs.Tree.{frame_own};
 ghost use Rattle.syn_tokens.specs.Input.{IsFront};
 
-use crate::attrs::put_all;
 use crate::lead::{PutPat, put_closure};
-use crate::leaf::put_path;
 use crate::mark::put_dots;
-use crate::put::{Grown, put, put_some, put_tree};
+use syn_expr_kinds::attrs::put_all;
 use syn_expr_kinds::kinds::HasExprTree;
-use syn_expr_kinds::node::{Closure, Frame};
+use syn_expr_kinds::leaf::put_path;
+use syn_expr_kinds::node::Frame;
+use syn_expr_kinds::put::{Grown, put, put_some, put_tree};
 use syn_expr_kinds::structure::FieldValueOf;
 use syn_tokens::tree::TokenStream;
 
 /// Puts what stands before the operands of a node whose operands no delimiter encloses; before others nothing.
-#[tactic(auto, using(syn_tokens::proofs::Fronts::fronts, crate::proofs::Owns::owns), unfolding(syn_tokens::specs::Sign::word_text))]
+#[tactic(auto, using(syn_tokens::proofs::Fronts::fronts, syn_expr_kinds::proofs::Owns::owns), unfolding(syn_tokens::specs::Sign::word_text))]
 pub fn put_frame_head<P: PutPat>(tokens: &mut TokenStream, frame: Frame<'_, P>) -> Grown
     ensures ok { OnOk result (tokens.new ≡ tokens.old ++ frame_own (frame_of P.view frame.entry) []) }
     ensures front { IsFront tokens.old tokens.new }
@@ -47,7 +47,7 @@ pub fn put_frame_head<P: PutPat>(tokens: &mut TokenStream, frame: Frame<'_, P>) 
 
 /// Puts the delimiter round the operands of a node, with what stands before it and behind the operands in it; `inside` is
 /// what is printed of the operands. Of a node whose operands no delimiter encloses nothing is put.
-#[tactic(auto, using(syn_tokens::proofs::Fronts::fronts, crate::proofs::Owns::owns))]
+#[tactic(auto, using(syn_tokens::proofs::Fronts::fronts, syn_expr_kinds::proofs::Owns::owns))]
 pub fn put_framed<P: PutPat>(
     tokens: &mut TokenStream,
     frame: Frame<'_, P>,
@@ -67,18 +67,7 @@ pub fn put_framed<P: PutPat>(
             put_path(tokens, qself, path)?;
             put_tree(tokens, brace.enclose(inside))
         }
-        Frame::Closure(
-            Closure {
-                lifetimes: _,
-                constness: _,
-                asyncness: _,
-                capture: _,
-                inputs_begin: _,
-                inputs: _,
-                inputs_end: _,
-                output: _,
-            },
-        ) => Ok(()),
+        Frame::Closure(_) => Ok(()),
         Frame::If(_) => Ok(()),
         Frame::While(_, _) => Ok(()),
         Frame::ForLoop(_, _, _, _) => Ok(()),
@@ -88,7 +77,7 @@ pub fn put_framed<P: PutPat>(
 }
 
 /// Puts a field up to its value: its attributes, its name or index, and a colon if there is one.
-#[tactic(auto, using(syn_tokens::proofs::Fronts::fronts, crate::proofs::Owns::fields), unfolding(syn_tokens::specs::Sign::sign_text, syn_expr_kinds::specs::Attrs::attrs_of))]
+#[tactic(auto, using(syn_tokens::proofs::Fronts::fronts, syn_expr_kinds::proofs::Owns::fields), unfolding(syn_tokens::specs::Sign::sign_text, syn_expr_kinds::specs::Attrs::attrs_of))]
 pub fn put_field_head<E: HasExprTree>(tokens: &mut TokenStream, field: &FieldValueOf<E>) -> Grown
     ensures ok { OnOk result (tokens.new ≡ tokens.old ++ field_own (field_value_of E.tree field.now) []) }
     ensures front { IsFront tokens.old tokens.new }

@@ -7,9 +7,9 @@ ghost use Rattle.syn_lower_lists.specs.Printed.{comma, pairs_printed, punctuated
 ghost use Rattle.syn_parts.specs.PatOwn.{pat_own};
 ghost use Rattle.syn_tokens.specs.Input.{IsFront};
 
-use crate::leaf::put_jump;
-use crate::put::{Grown, put, put_some};
+use syn_expr_kinds::leaf::put_jump;
 use syn_expr_kinds::node::{Closure, Lead};
+use syn_expr_kinds::put::{Grown, put, put_some};
 use syn_lower::punctuated::Punctuated;
 use syn_pat_kinds::kinds::HasPatTree;
 use syn_tokens::token::Comma;
@@ -55,7 +55,7 @@ fn put_inputs<P: PutPat>(tokens: &mut TokenStream, inputs: &Punctuated<P, Comma>
 }
 
 /// Puts a closure up to its body.
-#[tactic(auto, using(syn_tokens::proofs::Fronts::fronts, crate::proofs::Owns::owns), unfolding(syn_tokens::specs::Sign::sign_text, syn_tokens::specs::Sign::word_text))]
+#[tactic(auto, using(syn_tokens::proofs::Fronts::fronts, syn_expr_kinds::proofs::Owns::owns), unfolding(syn_tokens::specs::Sign::sign_text, syn_tokens::specs::Sign::word_text))]
 pub(crate) fn put_closure<P: PutPat>(tokens: &mut TokenStream, closure: Closure<'_, P>) -> Grown
     ensures ok { OnOk result (tokens.new ≡ tokens.old ++ closure_own (closure_of P.view closure.entry) []) }
     ensures front { IsFront tokens.old tokens.new }
@@ -81,7 +81,7 @@ pub(crate) fn put_closure<P: PutPat>(tokens: &mut TokenStream, closure: Closure<
 }
 
 /// Puts what stands before an operand with which a node ends.
-#[tactic(auto, using(syn_tokens::proofs::Fronts::fronts, crate::proofs::Owns::owns), unfolding(syn_tokens::specs::Sign::sign_text, syn_tokens::specs::Sign::word_text))]
+#[tactic(auto, using(syn_tokens::proofs::Fronts::fronts, syn_expr_kinds::proofs::Owns::owns), unfolding(syn_tokens::specs::Sign::sign_text, syn_tokens::specs::Sign::word_text))]
 pub fn put_lead<P: PutPat>(tokens: &mut TokenStream, lead: Lead<'_, P>) -> Grown
     ensures ok { OnOk result (tokens.new ≡ tokens.old ++ lead_own (lead_of P.view lead.entry) []) }
     ensures front { IsFront tokens.old tokens.new }

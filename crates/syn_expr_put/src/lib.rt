@@ -4,11 +4,7 @@
 #![tactic(auto)]
 
 pub mod arm;
-pub mod attrs;
-pub mod body;
 pub mod frame;
 pub mod lead;
-pub mod leaf;
 pub mod mark;
-pub mod put;
 pub mod small;

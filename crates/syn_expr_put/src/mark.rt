@@ -5,7 +5,7 @@ ghost use Rattle.syn_parts.specs.Own.{alone, joint};
 ghost use Rattle.syn_tokens.specs.Input.{IsFront};
 ghost use Rattle.syn_tokens.specs.Tok.{ident};
 
-use crate::put::{Grown, put};
+use syn_expr_kinds::put::{Grown, put};
 use syn_tokens::token::{Comma, DotDot, Else, FatArrow, If, Semi};
 use syn_tokens::tree::TokenStream;
 

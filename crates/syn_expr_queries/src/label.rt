@@ -9,7 +9,7 @@ ghost use Rattle.syn_lower_leaves.specs.View.{mapped};
 use crate::attributes::has_before;
 use crate::operands::first;
 use crate::tokens::begins_with_lifetime;
-use syn_expr_kinds::node::{Braces, HasShape, Jump, Leaf};
+use syn_expr_kinds::node::{HasShape, Leaf};
 use syn_expr_notes::kind::NodeKind;
 use syn_grammar::kinds::Infix;
 use syn_tokens::tree::TokenStream;
@@ -25,16 +25,14 @@ fn kept(leaf: Leaf<'_>) -> Option<&'_ TokenStream>
         | Leaf::Macro(_)
         | Leaf::Infer(_)
         | Leaf::Range(_)
+        | Leaf::Jump(_)
         | Leaf::Continue(_, _)
+        | Leaf::Block(_, _)
+        | Leaf::Loop(_, _, _)
+        | Leaf::Unsafe(_, _)
+        | Leaf::Const(_, _)
         | Leaf::Async(_, _, _)
         | Leaf::TryBlock(_, _) => None,
-        Leaf::Jump(jump) => match jump {
-            Jump::Return(_) | Jump::Yield(_) | Jump::Break(_, _) => None,
-        },
-        Leaf::Block(_, Braces { attrs: _, block: _ }) => None,
-        Leaf::Loop(_, _, Braces { attrs: _, block: _ }) => None,
-        Leaf::Unsafe(_, Braces { attrs: _, block: _ }) => None,
-        Leaf::Const(_, Braces { attrs: _, block: _ }) => None,
     }
 }
 

@@ -7,7 +7,7 @@ ghost use Rattle.syn_expr_queries.specs.Node.{first_of, last_of};
 ghost use Rattle.syn_grammar.specs.Tree.{Tree};
 ghost use Rattle.syn_lower_leaves.specs.View.{mapped};
 
-use syn_expr_kinds::node::{Braces, Operands};
+use syn_expr_kinds::node::Operands;
 
 /// The operand with which a node begins.
 #[tactic(auto, using(crate::proofs::Nodes::based))]
@@ -24,11 +24,8 @@ pub(crate) fn first<'a, E, A>(operands: Operands<'a, E, A>) -> Option<&'a E>
         | Operands::Fields(_, _, _)
         | Operands::If(_, _, _)
         | Operands::Arms(_, _, _)
-        | Operands::Body(_) => None,
-        Operands::Loop(_, braces) => {
-            let Braces { attrs: _, block: _ } = braces;
-            None
-        }
+        | Operands::Body(_)
+        | Operands::Loop(_, _) => None,
     }
 }
 
@@ -49,10 +46,7 @@ pub(crate) fn last<'a, E, A>(operands: Operands<'a, E, A>) -> Option<&'a E>
         | Operands::Repeated(_, _, _)
         | Operands::Fields(_, _, _)
         | Operands::If(_, _, _)
-        | Operands::Arms(_, _, _) => None,
-        Operands::Loop(_, braces) => {
-            let Braces { attrs: _, block: _ } = braces;
-            None
-        }
+        | Operands::Arms(_, _, _)
+        | Operands::Loop(_, _) => None,
     }
 }

@@ -13,7 +13,7 @@ use crate::brace::{is_brace, output_brace, path_brace, type_brace};
 use crate::frames::HasFrames;
 use crate::operands::last;
 use crate::tokens::ends_with_braces;
-use syn_expr_kinds::node::{Braces, Closure, Frame, Jump, Lead, Leaf, Post};
+use syn_expr_kinds::node::{Closure, Frame, Lead, Leaf, Post};
 use syn_expr_notes::kind::NodeKind;
 
 /// What is last in a node.
@@ -31,16 +31,16 @@ fn leaf_brace(leaf: Leaf<'_>, before: bool) -> bool
     match leaf {
         Leaf::Path(qself, path) => path_brace(qself, path, before),
         Leaf::Macro(mac) => is_brace(&mac.delimiter),
-        Leaf::Block(_, Braces { attrs: _, block: _ }) => true,
-        Leaf::Loop(_, _, Braces { attrs: _, block: _ }) => true,
-        Leaf::Unsafe(_, Braces { attrs: _, block: _ }) => true,
-        Leaf::Const(_, Braces { attrs: _, block: _ }) => true,
-        Leaf::Async(_, _, _) | Leaf::TryBlock(_, _) => true,
-        Leaf::Jump(jump) => match jump {
-            Jump::Return(_) | Jump::Yield(_) | Jump::Break(_, _) => false,
-        },
+        Leaf::Block(_, _)
+        | Leaf::Loop(_, _, _)
+        | Leaf::Unsafe(_, _)
+        | Leaf::Const(_, _)
+        | Leaf::Async(_, _, _)
+        | Leaf::TryBlock(_, _) => true,
         Leaf::Verbatim(tokens) => ends_with_braces(tokens, before),
-        Leaf::Lit(_) | Leaf::Infer(_) | Leaf::Range(_) | Leaf::Continue(_, _) => false,
+        Leaf::Lit(_) | Leaf::Infer(_) | Leaf::Range(_) | Leaf::Jump(_) | Leaf::Continue(_, _) => {
+            false
+        },
     }
 }
 
@@ -48,17 +48,7 @@ fn leaf_brace(leaf: Leaf<'_>, before: bool) -> bool
 fn closure_brace<P>(closure: Closure<'_, P>) -> bool
     ensures { result ≡ query.return_brace (return_of closure.entry.output.now) }
 {
-    let Closure {
-        lifetimes: _,
-        constness: _,
-        asyncness: _,
-        capture: _,
-        inputs_begin: _,
-        inputs: _,
-        inputs_end: _,
-        output,
-    } = closure;
-    output_brace(output)
+    output_brace(closure.output)
 }
 
 /// Whether braces stand before the operand that this has behind it: only an output ends with such.
@@ -72,9 +62,7 @@ fn lead_brace<P>(lead: Lead<'_, P>) -> bool
         | Lead::RawAddr(_, _, _)
         | Lead::Range(_)
         | Lead::Let(_, _, _) => false,
-        Lead::Jump(jump) => match jump {
-            Jump::Return(_) | Jump::Yield(_) | Jump::Break(_, _) => false,
-        },
+        Lead::Jump(_) => false,
     }
 }
 

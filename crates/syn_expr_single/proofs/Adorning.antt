@@ -9,7 +9,8 @@ use Rattle.syn_grammar.specs.Next.{enclosed}
 use Rattle.syn_grammar.specs.Rule.{is_operation}
 use Rattle.syn_grammar.specs.Tree.{Tree, adorned, adorn}
 use Rattle.syn_expr_collect.specs.Below.{has_some}
-use Rattle.syn_expr_print.specs.Printing.{spelled, spelled_in, whole}
+use Rattle.syn_expr_kinds.specs.Printed.{whole}
+use Rattle.syn_expr_print.specs.Printing.{spelled, spelled_in}
 use Rattle.syn_expr_print.proofs.Spellings.{spelled-adorned, spelled-bare, spelled-wrapped}
 use Rattle.syn_expr_single.proofs.Enclosed.{whole-bare}
 

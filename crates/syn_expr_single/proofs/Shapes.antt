@@ -13,20 +13,22 @@ use Rattle.syn_grammar.specs.Next.{enclosed, base_context, lead_context, left_co
 use Rattle.syn_grammar.specs.Notes.{note_of, stack, kids_below, base_by, lead_by, left_by, place_by}
 use Rattle.syn_grammar.specs.Op.{level}
 use Rattle.syn_grammar.specs.Tree as e
-use Rattle.syn_grammar.specs.Tree.{Tree, Kids, Enclosure, adorn, leaf_own, lead_own, infix_own, post_own, post_op, trailer_own, frame_own, enclosure, needs_last_comma}
+use Rattle.syn_grammar.specs.Tree.{Tree, Kids, Enclosure, adorn, leaf_own, lead_own, infix_own, post_own, post_op, trailer_own, frame_own, enclosure}
 use Rattle.syn_expr_notes.specs.Label.{lead_kind, trailer_kind}
 use Rattle.syn_expr_notes.specs.declared.label.LeadKind.{LeadKind}
 use Rattle.syn_expr_notes.specs.declared.label.TrailerKind.{TrailerKind}
 use Rattle.syn_expr_collect.specs.Below.{operands_below}
 use Rattle.syn_pat_kinds.specs.View.{PatView}
-use Rattle.syn_expr_kinds.specs.Node.{OperandTrees, based_by, framed, frame_of, frame_guards}
+use Rattle.syn_expr_kinds.specs.Node.{OperandTrees, based_by, framed, frame_of, frame_guards, operand_kids}
 use Rattle.syn_expr_kinds.specs.Pats.{strays}
 use Rattle.syn_expr_kinds.specs.declared.node.Frame.{Frame}
 use Rattle.syn_expr_kinds.specs.declared.node.Frame.TheVariants as frame
 use Rattle.syn_expr_put.specs.Framed.{framed_own, in_enclosure}
 use Rattle.syn_expr_print.specs.Placed.{needs_last}
-use Rattle.syn_expr_print.specs.Printing.{spelled, spelled_in, whole, kids_spelled, operand_kids}
+use Rattle.syn_expr_kinds.specs.Printed.{whole}
+use Rattle.syn_expr_print.specs.Printing.{spelled, spelled_in, kids_spelled}
 use Rattle.syn_expr_print.proofs.Kids.{none-spelled, value-spelled}
+use Rattle.syn_expr_print.proofs.Rounds.{last-seen}
 use Rattle.syn_expr_print.proofs.Spellings.{leaf-spelled, paren-spelled, lead-spelled, mid-spelled, post-spelled, tail-spelled, open-spelled, closed-spelled, strays-spelled}
 use Rattle.syn_expr_single.proofs.Enclosed.{whole-bare}
 use Rattle.syn_expr_single.proofs.Adorning.{behind-plain}
@@ -131,19 +133,6 @@ below-framed o h = ap operands_below h
 pub ruleset placed = (below-framed)
 
 module _ {P : Type 0} (pat : P → PatView) where
-  -- guards where none may stand are no operands
-  last-seen : (k : Frame P) (ks : Kids) → needs_last_comma (frame_of pat k) (strays (frame_guards pat k) ks) ≡ needs_last (frame_of pat k) (e.is_one ks)
-  last-seen (frame.Array t) ks = refl
-  last-seen (frame.Tuple t) ks = refl
-  last-seen (frame.Repeat t) ks = refl
-  last-seen (frame.Struct q p t dots) ks = refl
-  last-seen (frame.Closure x) ks = refl
-  last-seen (frame.If t) ks = refl
-  last-seen (frame.While label t) ks = refl
-  last-seen (frame.ForLoop label t p u) ks = refl
-  last-seen (frame.Match t u) ks = refl
-  last-seen (frame.Group t) ks = refl
-
   -- without a delimiter no comma is needed behind the last
   last-open : (k : Frame P) (ks : Kids) → is_some (enclosure (frame_of pat k)) ≡ false → needs_last (frame_of pat k) (e.is_one ks) ≡ false
   last-open (frame.Array t) ks h = refl
@@ -169,7 +158,7 @@ module _ {P : Type 0} (pat : P → PatView) where
       by None i h = absurd cc
       by (Some x) i h =
           closed-spelled enclosed (frame_of pat k) all x i
-          ∙ ap (λ w. in_enclosure (Some x) (kids_spelled w all)) (last-seen k ks ∙ sym m)
+          ∙ ap (λ w. in_enclosure (Some x) (kids_spelled w all)) (last-seen pat k ks ∙ sym m)
           ∙ ap (λ l. in_enclosure (Some x) l) (strays-spelled b (frame_guards pat k) ks)
           ∙ ap (λ o. in_enclosure o (kids_spelled b ks)) (sym i)
 
@@ -185,7 +174,7 @@ module _ {P : Type 0} (pat : P → PatView) where
       by (Some x) i g = absurd cc
       by None i g =
           open-spelled enclosed (frame_of pat k) all i
-          ∙ ap (λ w. frame_own (frame_of pat k) [] ++ kids_spelled w all) (last-seen k ks ∙ last-open k ks h)
+          ∙ ap (λ w. frame_own (frame_of pat k) [] ++ kids_spelled w all) (last-seen pat k ks ∙ last-open k ks h)
           ∙ ap (λ l. frame_own (frame_of pat k) [] ++ l) (strays-spelled false (frame_guards pat k) ks)
 
   pub closed-written : (ats : List AttributeTree) (k : Frame P) (ks : Kids) (b : Bool) (i0 i1 t0 t1 t2 : List Tok) → is_some (enclosure (frame_of pat k)) ≡ true

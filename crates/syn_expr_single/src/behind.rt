@@ -2,17 +2,18 @@
 
 ghost use Rattle.std.specs.Prelude.{◌≡◌, ◌++◌, true, OnOk};
 ghost use Rattle.syn_expr_kinds.specs.Attrs.{attrs_of};
-ghost use Rattle.syn_expr_print.specs.Printing.{spelled, whole};
+ghost use Rattle.syn_expr_kinds.specs.Printed.{whole};
+ghost use Rattle.syn_expr_print.specs.Printing.{spelled};
 ghost use Rattle.syn_grammar.specs.Next as next;
 ghost use Rattle.syn_grammar.specs.Rule.{is_operation};
 ghost use Rattle.syn_grammar.specs.Tree.{Tree, adorn};
 ghost use Rattle.syn_tokens.specs.Input.{IsFront};
 
+use syn_expr_kinds::attrs::put_attributes;
+use syn_expr_kinds::body::put_parens;
 use syn_expr_kinds::node::Attributes;
+use syn_expr_kinds::put::{Grown, grown};
 use syn_expr_print::printed::is_adorned;
-use syn_expr_put::attrs::put_attributes;
-use syn_expr_put::body::put_parens;
-use syn_expr_put::put::{Grown, grown};
 use syn_lower::attr::Attribute;
 use syn_tokens::tree::TokenStream;
 

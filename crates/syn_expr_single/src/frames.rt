@@ -2,23 +2,24 @@
 //! expressions", "`if` expressions", "Loop expressions", "`match` expressions", "Closure expressions"), by what is lent of it.
 
 ghost use Rattle.std.specs.Prelude.{◌≡◌, ◌++◌, false, is_some, true, OnOk};
-ghost use Rattle.syn_expr_kinds.specs.Node.{before_of, frame_guards, frame_of, framed, operands_of};
+ghost use Rattle.syn_expr_kinds.specs.Node.{before_of, frame_guards, frame_of, framed, operand_kids, operands_of};
 ghost use Rattle.syn_expr_kinds.specs.Pats.{strays};
 ghost use Rattle.syn_expr_print.specs.Placed.{needs_last};
-ghost use Rattle.syn_expr_print.specs.Printing.{kids_spelled, operand_kids, whole};
+ghost use Rattle.syn_expr_kinds.specs.Printed.{whole};
+ghost use Rattle.syn_expr_print.specs.Printing.{kids_spelled};
 ghost use Rattle.syn_grammar.specs.Next as next;
 ghost use Rattle.syn_grammar.specs.Tree as e;
 ghost use Rattle.syn_grammar.specs.Tree.{adorn, enclosure};
 ghost use Rattle.syn_tokens.specs.Input.{IsFront};
 
-use crate::noted::noted;
+use crate::noted::note_operands;
+use syn_expr_kinds::attrs::put_attributes;
 use syn_expr_kinds::node::{Attributes, Frame, Operands};
-use syn_expr_print::frames::kids;
+use syn_expr_kinds::put::Grown;
+use syn_expr_print::frames::{is_one, kids, round};
 use syn_expr_print::print::{HasPrinter, node};
-use syn_expr_put::attrs::put_attributes;
 use syn_expr_put::frame::{put_frame_head, put_framed};
 use syn_expr_put::lead::PutPat;
-use syn_expr_put::put::Grown;
 use syn_tokens::token::Brace;
 use syn_tokens::tree::TokenStream;
 
@@ -36,13 +37,13 @@ fn placed<E: HasPrinter>(
     ensures text { OnOk result (tokens.new ≡ tokens.old ++ kids_spelled needs_comma (operand_kids (operands_of E.tree E.Arm.view operands.entry))) }
     ensures front { IsFront tokens.old tokens.new }
 {
-    let (mut notes, operands) = noted::<E>(tokens, operands)?;
+    let mut notes = note_operands::<E>(tokens, operands)?;
     kids(&node::<E>, tokens, &mut notes, operands, needs_comma, brace)
 }
 
 /// Prints a node with a delimiter round its operands, behind its attributes. `needs_comma`: a comma is needed behind the last.
 #[tactic(auto, using(syn_tokens::proofs::Fronts::fronts))]
-pub fn closed<E: HasPrinter, P: PutPat>(
+fn closed<E: HasPrinter, P: PutPat>(
     tokens: &mut TokenStream,
     attributes: Attributes<'_>,
     frame: Frame<'_, P>,
@@ -56,19 +57,16 @@ pub fn closed<E: HasPrinter, P: PutPat>(
     ensures front { IsFront tokens.old tokens.new }
 {
     let mut inside = TokenStream::new(tokens.alloc());
-    let before = put_attributes(tokens, attributes);
-    let held = placed::<E>(&mut inside, operands, needs_comma, Brace::default());
-    let put = put_framed(tokens, frame, inside);
-    before?;
-    held?;
-    put?;
+    put_attributes(tokens, attributes)?;
+    placed::<E>(&mut inside, operands, needs_comma, Brace::default())?;
+    put_framed(tokens, frame, inside)?;
     Ok(())
 }
 
 /// Prints a node with a head before its operands, and no delimiter round them, behind its attributes. `brace`: those round the
 /// arms of a `match`; of other nodes some that have no place.
 #[tactic(auto, using(syn_tokens::proofs::Fronts::fronts))]
-pub fn opened<E: HasPrinter, P: PutPat>(
+fn opened<E: HasPrinter, P: PutPat>(
     tokens: &mut TokenStream,
     attributes: Attributes<'_>,
     frame: Frame<'_, P>,
@@ -80,11 +78,28 @@ pub fn opened<E: HasPrinter, P: PutPat>(
     ensures text { OnOk result (tokens.new ≡ tokens.old ++ whole next.enclosed (adorn (before_of attributes.entry) (e.frame (frame_of P.view frame.entry) (strays (frame_guards P.view frame.entry) (operand_kids (operands_of E.tree E.Arm.view operands.entry)))))) }
     ensures front { IsFront tokens.old tokens.new }
 {
-    let before = put_attributes(tokens, attributes);
-    let head = put_frame_head(tokens, frame);
-    let held = placed::<E>(tokens, operands, false, brace);
-    before?;
-    head?;
-    held?;
+    put_attributes(tokens, attributes)?;
+    put_frame_head(tokens, frame)?;
+    placed::<E>(tokens, operands, false, brace)?;
     Ok(())
+}
+
+/// Prints a node that has its operands in places of their own, behind its attributes.
+#[tactic(auto, using(syn_tokens::proofs::Fronts::fronts))]
+pub fn frame<E: HasPrinter, P: PutPat>(
+    tokens: &mut TokenStream,
+    attributes: Attributes<'_>,
+    frame: Frame<'_, P>,
+    operands: Operands<'_, E, E::Arm>,
+) -> Grown
+    requires { operands_of E.tree E.Arm.view operands ≡ framed (operand_kids (operands_of E.tree E.Arm.view operands)) }
+    ensures text { OnOk result (tokens.new ≡ tokens.old ++ whole next.enclosed (adorn (before_of attributes.entry) (e.frame (frame_of P.view frame.entry) (strays (frame_guards P.view frame.entry) (operand_kids (operands_of E.tree E.Arm.view operands.entry)))))) }
+    ensures front { IsFront tokens.old tokens.new }
+{
+    let asked = round(frame, is_one::<E, E::Arm>(operands));
+    if asked.is_enclosed {
+        closed::<E, P>(tokens, attributes, frame, operands, asked.needs_comma)
+    } else {
+        opened::<E, P>(tokens, attributes, frame, operands, asked.brace)
+    }
 }

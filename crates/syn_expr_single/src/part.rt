@@ -1,22 +1,21 @@
-//! Parts of expressions: a field of a struct expression, and an arm of a `match`.
-#![tactic(auto, using(syn_tokens::proofs::Fronts::fronts))]
+//! Parts of expressions: a field of a struct expression, and an arm of a `match` (Rust Reference, "Struct expressions", "`match`
+//! expressions").
 
-ghost use Rattle.std.specs.Prelude.{◌≡◌, ◌++◌, IfErr, IfOk, OnOk};
+ghost use Rattle.std.specs.Prelude.{◌≡◌, ◌++◌, IfOk, OnOk};
 ghost use Rattle.syn_expr_collect.specs.Below.{arm_below, field_below};
+ghost use Rattle.syn_expr_kinds.specs.Printed.{field_spelled};
 ghost use Rattle.syn_expr_kinds.specs.View.{field_value_of};
 ghost use Rattle.syn_expr_print.specs.Placed.{arm_spelled, comma_if};
 ghost use Rattle.syn_expr_print.specs.Printing.{EndsWith};
 ghost use Rattle.syn_tokens.specs.Input.{IsFront};
 
-use crate::kind::KindToTokens;
 use std::alloc::AllocError;
 use syn_expr_collect::{collect_arm, collect_field};
+use syn_expr_kinds::put::Grown;
 use syn_expr_kinds::structure::FieldValueOf;
-use syn_expr_print::choice::arm;
 use syn_expr_print::notes::Notes;
 use syn_expr_print::print::{HasPrinter, node};
-use syn_expr_print::structure::field;
-use syn_tokens::error::{ErrorKind, Result};
+use syn_expr_print::{choice, structure};
 use syn_tokens::tree::TokenStream;
 
 /// The notes of the value of a field.
@@ -24,7 +23,7 @@ use syn_tokens::tree::TokenStream;
 fn note_field<E: HasPrinter>(
     tokens: &TokenStream,
     field: &FieldValueOf<E>,
-) -> std::result::Result<Notes, AllocError>
+) -> Result<Notes, AllocError>
     ensures { IfOk result (λ n. EndsWith n.left.items (field_below (field_value_of E.tree field.now))) }
 {
     let mut visits = 0;
@@ -35,10 +34,7 @@ fn note_field<E: HasPrinter>(
 
 /// The notes of the value of an arm, and of its guard.
 #[tactic(auto, using(syn_expr_print::proofs::Stacks::ends_all))]
-fn note_arm<E: HasPrinter>(
-    tokens: &TokenStream,
-    arm: &E::Arm,
-) -> std::result::Result<Notes, AllocError>
+fn note_arm<E: HasPrinter>(tokens: &TokenStream, arm: &E::Arm) -> Result<Notes, AllocError>
     ensures { IfOk result (λ n. EndsWith n.left.items (arm_below (E.Arm.view arm.now))) }
 {
     let mut visits = 0;
@@ -47,30 +43,22 @@ fn note_arm<E: HasPrinter>(
     Ok(Notes { left, visits })
 }
 
-impl<E: HasPrinter> KindToTokens for FieldValueOf<E> {
-    ghost use Rattle.syn_expr_kinds.specs.View.{field_value_of};
-    ghost use Rattle.syn_expr_print.specs.Printing.{field_spelled};
-
-    ghost own = { λ x. field_spelled (field_value_of E.tree x) };
-
-    /// Puts the attributes and the name or index, and behind a colon the value. No comma stands behind it (Rust Reference,
-    /// "Struct expressions").
-    fn to_tokens(&self, tokens: &mut TokenStream) -> Result<()> {
-        let mut notes = note_field(tokens, self)?;
-        field(&node::<E>, tokens, &mut notes, self)?;
-        Ok(())
-    }
+/// Prints a field: its attributes and its name or index, and behind a colon its value. No comma stands behind it.
+#[tactic(auto, using(syn_tokens::proofs::Fronts::fronts))]
+pub fn field<E: HasPrinter>(tokens: &mut TokenStream, field: &FieldValueOf<E>) -> Grown
+    ensures text { OnOk result (tokens.new ≡ tokens.old ++ field_spelled (field_value_of E.tree field.now)) }
+    ensures front { IsFront tokens.old tokens.new }
+{
+    let mut notes = note_field(tokens, field)?;
+    structure::field(&node::<E>, tokens, &mut notes, field)
 }
 
-/// Puts an arm by itself: its attributes, its pattern, its guard, `=>`, its value, and its comma where it has one (Rust
-/// Reference, "Match expressions").
+/// Prints an arm: its attributes, its pattern, its guard, `=>`, its value, and its comma where it has one.
 #[tactic(auto, using(syn_tokens::proofs::Fronts::fronts, crate::proofs::Parts::arms))]
-pub(crate) fn arm_to_tokens<E: HasPrinter>(arm: &E::Arm, tokens: &mut TokenStream) -> Result<()>
+pub fn arm<E: HasPrinter>(tokens: &mut TokenStream, arm: &E::Arm) -> Grown
     ensures text { OnOk result (tokens.new ≡ tokens.old ++ (arm_spelled (E.Arm.view arm.now) ++ comma_if (E.Arm.view arm.now).comma)) }
     ensures front { IsFront tokens.old tokens.new }
-    ensures err { IfErr result (λ e. e.kind ≡ ErrorKind.OutOfMemory) }
 {
     let mut notes = note_arm::<E>(tokens, arm)?;
-    self::arm(&node::<E>, tokens, &mut notes, arm, false)?;
-    Ok(())
+    choice::arm(&node::<E>, tokens, &mut notes, arm, false)
 }

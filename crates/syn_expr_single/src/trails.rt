@@ -2,12 +2,11 @@
 //! "Array and array index expressions", "Await expressions", "The question mark operator"), by what is lent of them.
 
 ghost use Rattle.std.specs.Prelude.{◌≡◌, ◌++◌, false, map, IfOk, OnOk};
-ghost use Rattle.syn_expr_kinds.specs.Attrs.{attrs_of};
 ghost use Rattle.syn_expr_kinds.specs.Node.{before_of, trailer_of};
-ghost use Rattle.syn_expr_kinds.specs.View.{turbofish_of};
 ghost use Rattle.syn_expr_kinds.specs.View as view;
 ghost use Rattle.syn_expr_notes.specs.Label.{trailer_kind};
-ghost use Rattle.syn_expr_print.specs.Printing.{kids_spelled, spelled, spelled_in, whole};
+ghost use Rattle.syn_expr_kinds.specs.Printed.{whole};
+ghost use Rattle.syn_expr_print.specs.Printing.{kids_spelled, spelled, spelled_in};
 ghost use Rattle.syn_grammar.specs.Next as next;
 ghost use Rattle.syn_grammar.specs.Notes.{base_by, note_of};
 ghost use Rattle.syn_grammar.specs.Tree as e;
@@ -17,32 +16,43 @@ ghost use Rattle.syn_tokens.specs.Input.{IsFront};
 
 use crate::noted::{note_one, note_operands, note_two};
 use std::alloc::AllocError;
+use syn_expr_kinds::attrs::put_attributes;
 use syn_expr_kinds::node::{Attributes, Operands, Trailer};
-use syn_expr_kinds::trailer::{ExprCallOf, ExprMethodCallOf};
+use syn_expr_kinds::put::{Grown, grown};
 use syn_expr_notes::context::enclosed;
 use syn_expr_notes::label::TrailerKind;
+use syn_expr_parts::member::Member;
 use syn_expr_print::operand::{base_of, whole};
 use syn_expr_print::places::elements;
 use syn_expr_print::print::{HasPrinter, node};
-use syn_expr_put::attrs::put_attributes;
-use syn_expr_put::put::{Grown, grown};
 use syn_expr_put::small::put_trailer;
 use syn_lower::punctuated::Punctuated;
 use syn_tokens::token::{Bracket, Comma};
 use syn_tokens::tree::TokenStream;
 
-/// Prints a base, and behind it a trailer that holds no operand; `kind` is that of the trailer.
+/// The kind of a trailer.
+fn trailer_kind(trailer: Trailer<'_>) -> TrailerKind
+    ensures { result ≡ trailer_kind (trailer_of trailer.entry) }
+{
+    match trailer {
+        Trailer::Call(_) => TrailerKind::Call,
+        Trailer::Index(_) => TrailerKind::Index,
+        Trailer::Method(_, _, _, _) => TrailerKind::Method,
+        Trailer::Field(_, member) => TrailerKind::Field {
+            named: matches!(member, Member::Named(_)),
+        },
+        Trailer::Await(_, _) => TrailerKind::Await,
+        Trailer::Try(_) => TrailerKind::Try,
+    }
+}
+
+/// Prints a base, and behind it a trailer that holds no operand.
 #[tactic(auto, using(syn_tokens::proofs::Fronts::fronts))]
-fn behind_base<E: HasPrinter>(
-    tokens: &mut TokenStream,
-    base: &E,
-    trailer: Trailer<'_>,
-    kind: TrailerKind,
-) -> Grown
-    requires { trailer_kind (trailer_of trailer) ≡ kind }
+fn behind_base<E: HasPrinter>(tokens: &mut TokenStream, base: &E, trailer: Trailer<'_>) -> Grown
     ensures text { OnOk result (tokens.new ≡ tokens.old ++ spelled next.enclosed (e.tail (E.tree base.now) (trailer_of trailer.entry) e.none)) }
     ensures front { IsFront tokens.old tokens.new }
 {
+    let kind = trailer_kind(trailer);
     let mut end = TokenStream::new(tokens.alloc());
     let held = TokenStream::new(tokens.alloc());
     put_trailer(&mut end, trailer, held)?;
@@ -52,23 +62,19 @@ fn behind_base<E: HasPrinter>(
     Ok(())
 }
 
-/// Prints a base with a trailer that holds no operand, behind the attributes; `kind` is that of the trailer.
+/// Prints a base with a trailer that holds no operand, behind the attributes.
 #[tactic(auto, using(syn_tokens::proofs::Fronts::fronts))]
 pub fn trailed<E: HasPrinter>(
     tokens: &mut TokenStream,
     attributes: Attributes<'_>,
     base: &E,
     trailer: Trailer<'_>,
-    kind: TrailerKind,
 ) -> Grown
-    requires { trailer_kind (trailer_of trailer) ≡ kind }
     ensures text { OnOk result (tokens.new ≡ tokens.old ++ whole next.enclosed (adorn (before_of attributes.entry) (e.tail (E.tree base.now) (trailer_of trailer.entry) e.none))) }
     ensures front { IsFront tokens.old tokens.new }
 {
-    let before = put_attributes(tokens, attributes);
-    let put = behind_base(tokens, base, trailer, kind);
-    before?;
-    put?;
+    put_attributes(tokens, attributes)?;
+    behind_base(tokens, base, trailer)?;
     Ok(())
 }
 
@@ -92,49 +98,36 @@ fn called<E: HasPrinter>(
     Ok(held)
 }
 
-/// Prints a call without its attributes.
+/// Prints a base with a trailer that holds arguments.
 #[tactic(auto, using(syn_tokens::proofs::Fronts::fronts))]
-fn bare_call<E: HasPrinter>(tokens: &mut TokenStream, x: &ExprCallOf<E>) -> Grown
-    ensures text { OnOk result (tokens.new ≡ tokens.old ++ spelled next.enclosed (e.tail (E.tree x.now.func.value) e.call (view.elements (map E.tree (values x.now.args)) (trails x.now.args)))) }
+fn applied<E: HasPrinter>(
+    tokens: &mut TokenStream,
+    base: &Box<E>,
+    trailer: Trailer<'_>,
+    args: &Punctuated<E, Comma>,
+) -> Grown
+    ensures text { OnOk result (tokens.new ≡ tokens.old ++ spelled next.enclosed (e.tail (E.tree base.now.value) (trailer_of trailer.entry) (view.elements (map E.tree (values args.now)) (trails args.now)))) }
     ensures front { IsFront tokens.old tokens.new }
 {
-    let held = called::<E>(tokens, &x.func, TrailerKind::Call, &x.args)?;
-    put_trailer(tokens, Trailer::Call(&x.paren_token), held)?;
-    Ok(())
-}
-
-/// Prints a call: what is called, and its arguments in parentheses, behind its attributes.
-#[tactic(auto, using(syn_tokens::proofs::Fronts::fronts))]
-pub fn call<E: HasPrinter>(tokens: &mut TokenStream, x: &ExprCallOf<E>) -> Grown
-    ensures text { OnOk result (tokens.new ≡ tokens.old ++ whole next.enclosed (adorn (attrs_of x.now.attrs) (e.tail (E.tree x.now.func.value) e.call (view.elements (map E.tree (values x.now.args)) (trails x.now.args))))) }
-    ensures front { IsFront tokens.old tokens.new }
-{
-    put_attributes(tokens, Attributes::Before(&x.attrs))?;
-    bare_call(tokens, x)?;
-    Ok(())
-}
-
-/// Prints the call of a method without its attributes.
-#[tactic(auto, using(syn_tokens::proofs::Fronts::fronts))]
-fn bare_method<E: HasPrinter>(tokens: &mut TokenStream, x: &ExprMethodCallOf<E>) -> Grown
-    ensures text { OnOk result (tokens.new ≡ tokens.old ++ spelled next.enclosed (e.tail (E.tree x.now.receiver.value) (e.method x.now.method (turbofish_of x.now.turbofish)) (view.elements (map E.tree (values x.now.args)) (trails x.now.args)))) }
-    ensures front { IsFront tokens.old tokens.new }
-{
-    let held = called::<E>(tokens, &x.receiver, TrailerKind::Method, &x.args)?;
-    let trailer = Trailer::Method(&x.dot_token, &x.method, &x.turbofish, &x.paren_token);
+    let held = called::<E>(tokens, base, trailer_kind(trailer), args)?;
     put_trailer(tokens, trailer, held)?;
     Ok(())
 }
 
-/// Prints the call of a method: the receiver, the name with its generic arguments, and its arguments in parentheses, behind its
-/// attributes.
+/// Prints what is called, or the receiver of a method, with its arguments in parentheses, behind the attributes.
 #[tactic(auto, using(syn_tokens::proofs::Fronts::fronts))]
-pub fn method<E: HasPrinter>(tokens: &mut TokenStream, x: &ExprMethodCallOf<E>) -> Grown
-    ensures text { OnOk result (tokens.new ≡ tokens.old ++ whole next.enclosed (adorn (attrs_of x.now.attrs) (e.tail (E.tree x.now.receiver.value) (e.method x.now.method (turbofish_of x.now.turbofish)) (view.elements (map E.tree (values x.now.args)) (trails x.now.args))))) }
+pub fn call<E: HasPrinter>(
+    tokens: &mut TokenStream,
+    attributes: Attributes<'_>,
+    base: &Box<E>,
+    trailer: Trailer<'_>,
+    args: &Punctuated<E, Comma>,
+) -> Grown
+    ensures text { OnOk result (tokens.new ≡ tokens.old ++ whole next.enclosed (adorn (before_of attributes.entry) (e.tail (E.tree base.now.value) (trailer_of trailer.entry) (view.elements (map E.tree (values args.now)) (trails args.now))))) }
     ensures front { IsFront tokens.old tokens.new }
 {
-    put_attributes(tokens, Attributes::Before(&x.attrs))?;
-    bare_method(tokens, x)?;
+    put_attributes(tokens, attributes)?;
+    applied::<E>(tokens, base, trailer, args)?;
     Ok(())
 }
 

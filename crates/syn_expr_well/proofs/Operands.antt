@@ -17,7 +17,7 @@ use Rattle.syn_lower_leaves.specs.declared.attr.Attribute.{Attribute}
 use Rattle.syn_grammar.specs.Slot as slot
 use Rattle.syn_grammar.specs.Slot.{Slot}
 use Rattle.syn_grammar.specs.Tree as e
-use Rattle.syn_grammar.specs.Tree.{Tree, Kids, Ending, Piece, Body, none, kid}
+use Rattle.syn_grammar.specs.Tree.{Tree, Kids, Ending, Body, none, kid}
 use Rattle.syn_grammar.specs.WellFormed.{well, kids_well, has_rest, may_stop, body_fits, is_kept_block, is_name_path, piece_fits, ending_fits}
 use Rattle.syn_grammar.specs.Stands.{is_branch}
 use Rattle.syn_expr_kinds.specs.Attrs.{inner_part, inner_of}

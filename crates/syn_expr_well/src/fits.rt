@@ -16,7 +16,7 @@ ghost use Rattle.syn_parts.specs.PatFits.{attributes_outer, member_fits};
 ghost use Rattle.syn_parts.specs.declared.label.PathStyle.TheVariants as style;
 ghost use Rattle.syn_parts.specs.Part as part;
 
-use syn_expr_kinds::node::{Braces, Jump, Leaf, Post, Trailer};
+use syn_expr_kinds::node::{Braces, Leaf, Post, Trailer};
 use syn_expr_parts::member::Member;
 use syn_grammar::kinds::Infix;
 use syn_lexer::reserved::is_reserved_word;
@@ -98,8 +98,7 @@ fn begins_with_inner(tokens: &TokenStream) -> bool
 pub fn braces_fit(braces: Braces<'_>) -> bool
     ensures { result ≡ spec.body_fits (braces_of braces.entry) }
 {
-    let Braces { attrs: _, block } = braces;
-    !begins_with_inner(&block.stmts)
+    !begins_with_inner(&braces.block.stmts)
 }
 
 /// Whether what holds no expression is read back.
@@ -115,9 +114,7 @@ pub fn leaf_fits(leaf: Leaf<'_>) -> bool
         Leaf::Loop(_, _, braces) => braces_fit(braces),
         Leaf::Unsafe(_, braces) => braces_fit(braces),
         Leaf::Const(_, braces) => braces_fit(braces),
-        Leaf::Jump(jump) => match jump {
-            Jump::Return(_) | Jump::Yield(_) | Jump::Break(_, _) => true,
-        },
+        Leaf::Jump(_) => true,
         Leaf::Infer(_) | Leaf::Continue(_, _) | Leaf::Async(_, _, _) | Leaf::TryBlock(_, _) => {
             true
         }

@@ -11,7 +11,7 @@ ghost use Rattle.syn_parts.specs.Form.{is_nil};
 ghost use Rattle.syn_parts.specs.Part.{is_default};
 
 use crate::fits::path_fits;
-use syn_expr_kinds::node::{Closure, Frame, HasShape, Jump, Lead};
+use syn_expr_kinds::node::{Closure, Frame, HasShape, Lead};
 use syn_lower::punctuated::Punctuated;
 use syn_lower::ty::ReturnType;
 use syn_tokens::token::Comma;
@@ -65,17 +65,7 @@ fn has_output(output: &ReturnType) -> bool
 fn closure_fits<E: HasPatFits>(closure: Closure<'_, E::Pat>) -> bool
     ensures { result ≡ (head_fits (closure_of E.Pat.view closure.entry) && is_nil (guards (inputs_of E.Pat.view closure.entry))) }
 {
-    let Closure {
-        lifetimes: _,
-        constness: _,
-        asyncness: _,
-        capture: _,
-        inputs_begin: _,
-        inputs,
-        inputs_end: _,
-        output,
-    } = closure;
-    arguments_fit::<E>(inputs) && output.is_read_back(true)
+    arguments_fit::<E>(closure.inputs) && closure.output.is_read_back(true)
 }
 
 /// Whether what stands before an operand is read back, and no guard stands in its patterns.
@@ -90,9 +80,7 @@ pub fn lead_fits<E: HasPatFits>(lead: Lead<'_, E::Pat>) -> bool
             closure_fits::<E>(closure) && !has_output
         }
         Lead::Unary(_) | Lead::Reference(_, _) | Lead::RawAddr(_, _, _) | Lead::Range(_) => true,
-        Lead::Jump(jump) => match jump {
-            Jump::Return(_) | Jump::Yield(_) | Jump::Break(_, _) => true,
-        },
+        Lead::Jump(_) => true,
     }
 }
 

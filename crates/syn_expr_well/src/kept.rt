@@ -11,15 +11,14 @@ ghost use Rattle.syn_parts.specs.Pat.{a_name};
 use crate::attributes::has_no_inner;
 use crate::fits::is_word_alone;
 use crate::own::bare_leaf;
-use syn_expr_kinds::node::{Braces, HasShape, Jump, Leaf};
+use syn_expr_kinds::node::{Braces, HasShape, Leaf};
 use syn_expr_parts::member::Member;
 
 /// Whether none of the attributes of a node stands in its braces.
 fn has_plain_braces(braces: Braces<'_>) -> bool
     ensures { result ≡ is_nil (braces_of braces.entry).inner }
 {
-    let Braces { attrs, block: _ } = braces;
-    has_no_inner(attrs)
+    has_no_inner(braces.attrs)
 }
 
 /// Whether it is the block of its tokens alone.
@@ -27,23 +26,17 @@ fn is_kept_leaf(leaf: Leaf<'_>) -> bool
     ensures { result ≡ spec.is_kept_leaf (leaf_of leaf.entry) }
 {
     match leaf {
-        Leaf::Block(label, braces) => {
-            let plain = has_plain_braces(braces);
-            label.is_none() && plain
-        }
-        Leaf::Loop(_, _, braces) | Leaf::Unsafe(_, braces) | Leaf::Const(_, braces) => {
-            let Braces { attrs: _, block: _ } = braces;
-            false
-        }
-        Leaf::Jump(jump) => match jump {
-            Jump::Return(_) | Jump::Yield(_) | Jump::Break(_, _) => false,
-        },
+        Leaf::Block(label, braces) => { label.is_none() && has_plain_braces(braces) }
         Leaf::Lit(_)
         | Leaf::Path(_, _)
         | Leaf::Macro(_)
         | Leaf::Infer(_)
         | Leaf::Range(_)
+        | Leaf::Jump(_)
         | Leaf::Continue(_, _)
+        | Leaf::Loop(_, _, _)
+        | Leaf::Unsafe(_, _)
+        | Leaf::Const(_, _)
         | Leaf::Async(_, _, _)
         | Leaf::TryBlock(_, _)
         | Leaf::Verbatim(_) => false,
@@ -67,20 +60,15 @@ fn is_word(leaf: Leaf<'_>, word: &str) -> bool
 {
     match leaf {
         Leaf::Path(qself, path) => is_word_alone(qself, path, word),
-        Leaf::Block(_, braces)
-        | Leaf::Loop(_, _, braces)
-        | Leaf::Unsafe(_, braces)
-        | Leaf::Const(_, braces) => {
-            let Braces { attrs: _, block: _ } = braces;
-            false
-        }
-        Leaf::Jump(jump) => match jump {
-            Jump::Return(_) | Jump::Yield(_) | Jump::Break(_, _) => false,
-        },
         Leaf::Lit(_)
         | Leaf::Macro(_)
         | Leaf::Infer(_)
         | Leaf::Range(_)
+        | Leaf::Jump(_)
+        | Leaf::Block(_, _)
+        | Leaf::Loop(_, _, _)
+        | Leaf::Unsafe(_, _)
+        | Leaf::Const(_, _)
         | Leaf::Continue(_, _)
         | Leaf::Async(_, _, _)
         | Leaf::TryBlock(_, _)

@@ -10,7 +10,7 @@ ghost use Rattle.syn_pat_kinds.specs.View.{PatView};
 use crate::attributes::is_bare;
 use crate::fits::{infix_fits, leaf_fits, post_fits, trailer_fits};
 use crate::heads::{HasPatFits, frame_fits, lead_fits};
-use syn_expr_kinds::node::{Closure, Frame, HasShape, Leaf};
+use syn_expr_kinds::node::{Frame, HasShape, Leaf};
 use syn_expr_notes::kind::NodeKind;
 
 /// Whether an operator of this kind of node is read back; where it is none, nothing is asked.
@@ -68,18 +68,7 @@ fn is_if<P>(frame: Frame<'_, P>) -> bool
 {
     match frame {
         Frame::If(_) => true,
-        Frame::Closure(
-            Closure {
-                lifetimes: _,
-                constness: _,
-                asyncness: _,
-                capture: _,
-                inputs_begin: _,
-                inputs: _,
-                inputs_end: _,
-                output: _,
-            },
-        ) => false,
+        Frame::Closure(_) => false,
         Frame::Array(_)
         | Frame::Tuple(_)
         | Frame::Repeat(_)

@@ -7,7 +7,7 @@ ghost use Rattle.syn_expr_well.specs.Well as spec;
 ghost use Rattle.syn_grammar.specs.WellFormed as well;
 ghost use Rattle.syn_pat_kinds.specs.View.{PatView};
 
-use syn_expr_kinds::node::{Closure, Frame, HasShape, Trailer};
+use syn_expr_kinds::node::{Frame, HasShape, Trailer};
 
 /// Where the operands of a node stand.
 #[derive(Clone, Copy)]
@@ -125,18 +125,7 @@ fn frame_place<P>(frame: Frame<'_, P>) -> Place
         Frame::Array(_) | Frame::Tuple(_) => Place::Elements,
         Frame::Repeat(_) => Place::Counted,
         Frame::Struct(_, _, _, dots) => Place::Fields(dots),
-        Frame::Closure(
-            Closure {
-                lifetimes: _,
-                constness: _,
-                asyncness: _,
-                capture: _,
-                inputs_begin: _,
-                inputs: _,
-                inputs_end: _,
-                output: _,
-            },
-        ) => Place::Outputs,
+        Frame::Closure(_) => Place::Outputs,
         Frame::If(_) => Place::Conditions,
         Frame::While(_, _) | Frame::ForLoop(_, _, _, _) => Place::Loops,
         Frame::Match(_, _) => Place::Scrutinees,

@@ -4,18 +4,18 @@ use Rattle.syn_grammar.specs.Next.{enclosed}
 use Rattle.syn_grammar.specs.Notes.{stack, kids_below}
 use Rattle.syn_grammar.specs.Tree.{size, kids_size}
 use Rattle.syn_lower_leaves.specs.View.{mapped}
-use Rattle.syn_expr_kinds.specs.Node.{frame_seen, operands_at, operands_of}
+use Rattle.syn_expr_kinds.specs.Node.{frame_seen, operands_at, operands_of, operand_kids}
 use Rattle.syn_expr_kinds.specs.Pats.{arms}
 use Rattle.syn_expr_collect.specs.Below.{arm_below, backwards}
 use Rattle.syn_expr_collect.proofs.Lists.{arms_below}
-use Rattle.syn_expr_print.specs.Printing.{EndsWith, kids_spelled, operand_kids, spelled}
+use Rattle.syn_expr_print.specs.Printing.{EndsWith, kids_spelled, spelled}
 use Rattle.syn_expr_print.specs.Taken.{Taken}
 use Rattle.syn_expr_print.proofs.Chains.{branch-chained, block-chained, other-chained}
 use Rattle.syn_expr_print.proofs.Choices.{arms-size}
 use Rattle.syn_expr_print.proofs.Rounds.{framed-below, framed-text, open-frame-text}
 use Rattle.syn_expr_print.proofs.Sizes.{kids-less}
 use Rattle.syn_expr_print.proofs.Spellings.{spelled-bare}
-use Rattle.syn_expr_put.proofs.Owns.{then}
+use Rattle.syn_expr_kinds.proofs.Owns.{then}
 use Rattle.syn_expr_print.proofs.frames.+frame.Goals as goal
 
 -- ---- behind `else`

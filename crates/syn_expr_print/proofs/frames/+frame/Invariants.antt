@@ -1,9 +1,8 @@
 -- What stands behind `else` is smaller than its `if`.
 use Rattle.std.proofs.Common.{◌+◌, ◌*◌}
 use Rattle.syn_grammar.specs.Tree.{size, kids_size}
-use Rattle.syn_expr_kinds.specs.Node.{operands_of}
+use Rattle.syn_expr_kinds.specs.Node.{operands_of, operand_kids}
 use Rattle.syn_expr_print.specs.Placed.{else_tree, option_size}
-use Rattle.syn_expr_print.specs.Printing.{operand_kids}
 use Rattle.syn_expr_print.proofs.frames.+frame.Given as goal
 
 abbrev pub decreases-frame : goal.decreases-frame

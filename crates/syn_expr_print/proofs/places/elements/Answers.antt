@@ -5,10 +5,11 @@ use Rattle.syn_grammar.specs.Next.{enclosed}
 use Rattle.syn_grammar.specs.Notes.{stack}
 use Rattle.syn_grammar.specs.Tree.{size}
 use Rattle.syn_expr_kinds.specs.View.{boxed}
-use Rattle.syn_expr_put.proofs.Owns.{then}
+use Rattle.syn_expr_kinds.proofs.Owns.{then}
 use Rattle.syn_expr_collect.specs.Below.{backwards, option_below, total}
 use Rattle.syn_expr_print.specs.Placed.{last_spelled}
-use Rattle.syn_expr_print.specs.Printing.{EndsWith, whole}
+use Rattle.syn_expr_kinds.specs.Printed.{whole}
+use Rattle.syn_expr_print.specs.Printing.{EndsWith}
 use Rattle.syn_expr_print.proofs.Pairs.{elements-text, elements-below, elements-size}
 use Rattle.syn_expr_print.proofs.Stacks.{ends_back, taken-left, taken-on}
 use Rattle.syn_expr_print.proofs.places.elements.Goals as goal

@@ -8,7 +8,7 @@ use Rattle.syn_grammar.specs.Next.{enclosed}
 use Rattle.syn_grammar.specs.Notes.{stack}
 use Rattle.syn_grammar.specs.Tree.{size}
 use Rattle.syn_expr_collect.specs.Below.{backwards, total}
-use Rattle.syn_expr_print.specs.Printing.{whole}
+use Rattle.syn_expr_kinds.specs.Printed.{whole}
 use Rattle.syn_expr_print.specs.Taken.{Going}
 use Rattle.syn_expr_print.proofs.Turns.{cut, going-next, going-on, sign_behind}
 use Rattle.syn_expr_print.proofs.places.pairs.Goals as goal

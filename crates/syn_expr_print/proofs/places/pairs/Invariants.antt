@@ -5,7 +5,7 @@ use Rattle.syn_grammar.specs.Notes.{stack}
 use Rattle.syn_grammar.specs.Tree.{size}
 use Rattle.syn_lower_lists.specs.Printed.{comma, pairs_printed}
 use Rattle.syn_expr_collect.specs.Below.{backwards, total}
-use Rattle.syn_expr_print.specs.Printing.{whole}
+use Rattle.syn_expr_kinds.specs.Printed.{whole}
 use Rattle.syn_expr_print.specs.Taken.{Going}
 use Rattle.syn_expr_print.proofs.places.pairs.Given as goal
 

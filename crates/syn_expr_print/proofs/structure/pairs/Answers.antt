@@ -7,7 +7,7 @@ use Rattle.syn_lower_lists.specs.Printed.{comma, pairs_printed}
 use Rattle.syn_grammar.specs.Tree.{size}
 use Rattle.syn_expr_kinds.specs.View.{field_value_of}
 use Rattle.syn_expr_collect.specs.Below.{backwards, field_below, total}
-use Rattle.syn_expr_print.specs.Printing.{field_spelled}
+use Rattle.syn_expr_kinds.specs.Printed.{field_spelled}
 use Rattle.syn_expr_print.specs.Taken.{Going}
 use Rattle.syn_expr_print.proofs.Turns.{cut, going-next, going-on, sign_behind}
 use Rattle.syn_expr_print.proofs.structure.pairs.Goals as goal

@@ -2,8 +2,8 @@
 use Rattle.std.proofs.Common.{[], ◌++◌, false, subst, sym, ap, ◌∙◌, arith}
 use Rattle.syn_grammar.specs.Notes.{kids_below}
 use Rattle.syn_grammar.specs.Tree.{kids_size, trailer_own}
-use Rattle.syn_expr_kinds.specs.Node.{operands_at, operands_of, trailer_of}
-use Rattle.syn_expr_print.specs.Printing.{EndsWith, kids_spelled, operand_kids}
+use Rattle.syn_expr_kinds.specs.Node.{operands_at, operands_of, trailer_of, operand_kids}
+use Rattle.syn_expr_print.specs.Printing.{EndsWith, kids_spelled}
 use Rattle.syn_expr_print.specs.Taken.{Taken}
 use Rattle.syn_expr_print.proofs.Lending.{on-map, tail-written}
 use Rattle.syn_expr_print.proofs.Lents.{tail-told}

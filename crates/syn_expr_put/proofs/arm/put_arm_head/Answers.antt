@@ -4,7 +4,7 @@ use Rattle.syn_parts.specs.PatOwn.{attributes_own, pat_own}
 use Rattle.syn_lower_leaves.specs.View.{attribute_of}
 use Rattle.syn_pat_kinds.proofs.Appends.{attributes_append}
 use Rattle.syn_expr_kinds.specs.Attrs.{attrs_of}
-use Rattle.syn_expr_put.proofs.Owns.{then}
+use Rattle.syn_expr_kinds.proofs.Owns.{then}
 use Rattle.syn_expr_put.proofs.arm.put_arm_head.Goals as goal
 
 pub returns-clause-ok : goal.returns-clause-ok

@@ -6,7 +6,7 @@ use Rattle.syn_lower_leaves.specs.View.{attribute_of}
 use Rattle.syn_lower_lists.specs.Printed.{option_printed}
 use Rattle.syn_expr_parts.specs.View.{member_of}
 use Rattle.syn_expr_kinds.specs.Attrs.{attrs_of}
-use Rattle.syn_expr_put.proofs.Owns.{colon, field_is, then}
+use Rattle.syn_expr_kinds.proofs.Owns.{colon, field_is, then}
 use Rattle.syn_expr_put.proofs.frame.put_field_head.Goals as goal
 
 pub returns-clause-ok : goal.returns-clause-ok

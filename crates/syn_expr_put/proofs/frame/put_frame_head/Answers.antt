@@ -9,7 +9,7 @@ use Rattle.syn_grammar.specs.Tree.{frame_own, label_own}
 use Rattle.syn_lower.specs.View.{mapped}
 use Rattle.syn_expr_parts.specs.View.{label_of}
 use Rattle.syn_expr_kinds.specs.Node.{frame_of}
-use Rattle.syn_expr_put.proofs.Owns.{label_first, then}
+use Rattle.syn_expr_kinds.proofs.Owns.{label_first, then}
 use Rattle.syn_expr_put.proofs.frame.put_frame_head.Goals as goal
 
 pub returns-in_ok-put_some-in-While-clause-ok : goal.returns-in_ok-put_some-in-While-clause-ok

@@ -2,7 +2,7 @@
 use Rattle.std.proofs.Common.{◌≡◌, ◌++◌, OnOk, subst, sym, ap, ◌∙◌}
 use Rattle.syn_tokens.specs.Sign.{sign_text, word_text}
 use Rattle.syn_tokens.proofs.Fronts.{front_through}
-use Rattle.syn_expr_put.proofs.Owns.{closure_is, then}
+use Rattle.syn_expr_kinds.proofs.Owns.{closure_is, then}
 use Rattle.syn_expr_put.proofs.lead.put_closure.Goals as goal
 
 pub returns-in_err-put_inputs-clause-front : goal.returns-in_err-put_inputs-clause-front

@@ -8,7 +8,7 @@ use Rattle.syn_parts.specs.PatOwn.{pat_own}
 use Rattle.syn_pat_kinds.proofs.Appends.{pat_append}
 use Rattle.syn_grammar.specs.Tree.{lead_own}
 use Rattle.syn_expr_kinds.specs.Node.{lead_of}
-use Rattle.syn_expr_put.proofs.Owns.{then, word_last}
+use Rattle.syn_expr_kinds.proofs.Owns.{then, word_last}
 use Rattle.syn_expr_put.proofs.lead.put_lead.Goals as goal
 
 pub returns-in_ok-put-in-Reference-clause-ok : goal.returns-in_ok-put-in-Reference-clause-ok

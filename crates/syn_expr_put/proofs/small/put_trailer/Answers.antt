@@ -7,7 +7,7 @@ use Rattle.syn_lower_lists.specs.Printed.{option_printed}
 use Rattle.syn_lower_generic.specs.Printed.{angle_printed}
 use Rattle.syn_grammar.specs.Tree.{trailer_own}
 use Rattle.syn_expr_kinds.specs.Node.{trailer_of}
-use Rattle.syn_expr_put.proofs.Owns.{then, turbofish_first, type_toks}
+use Rattle.syn_expr_kinds.proofs.Owns.{then, turbofish_first, type_toks}
 use Rattle.syn_expr_put.proofs.small.put_trailer.Goals as goal
 
 pub returns-in_ok-put_some-in-Method-clause-ok : goal.returns-in_ok-put_some-in-Method-clause-ok

@@ -3,4 +3,4 @@ use Rattle.syn_expr_single.proofs.Adorning.{plain-written}
 use Rattle.syn_expr_single.proofs.ends.lead.Goals as goal
 
 pub returns-clause-text : goal.returns-clause-text
-returns-clause-text g c = plain-written _ _ _ _ _ _ c.requires.plain refl c.in_ok-before.ensures.ok c.in_ok-put.ensures.text
+returns-clause-text g c = plain-written _ _ _ _ _ _ c.requires refl c.in_ok-put_attributes.ensures.ok c.in_ok-led.ensures.text

@@ -1,4 +1,4 @@
-use Rattle.std.proofs.Common.{◌≡◌, ◌∙◌, ap}
+use Rattle.std.proofs.Common.{◌∙◌}
 use Rattle.syn_expr_all.proofs.TreeOf.{tree-ForLoop, for_loop-is}
 use Rattle.syn_expr_all.proofs.make.ExprIsExpr.for_loop.Goals as goal
 

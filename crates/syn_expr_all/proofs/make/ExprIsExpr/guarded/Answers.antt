@@ -1,4 +1,4 @@
-use Rattle.std.proofs.Common.{◌≡◌, ◌∙◌, ap}
+use Rattle.std.proofs.Common.{◌∙◌}
 use Rattle.syn_expr_all.proofs.TreeOf.{pat-Guard, guard-is}
 use Rattle.syn_expr_all.proofs.make.ExprIsExpr.guarded.Goals as goal
 

@@ -1,4 +1,4 @@
-use Rattle.std.proofs.Common.{◌≡◌, ◌∙◌, ap, sym, rules}
+use Rattle.std.proofs.Common.{◌∙◌, rules}
 use Rattle.syn_expr_all.proofs.TreeOf.{tree-Match, choice-is}
 use Rattle.syn_expr_all.specs.declared.control.ExprMatch.{out-roll-ExprMatch}
 use Rattle.syn_expr_all.proofs.make.ExprIsExpr.match_expr.Goals as goal

@@ -1,0 +1,135 @@
+//! Attributes (Rust Reference, "Attributes"): those before a node, and the inner ones, which stand first in its braces.
+
+ghost use Rattle.std.specs.Prelude.{◌≡◌, ◌++◌, [], map, OnOk};
+ghost use Rattle.syn_expr_kinds.specs.Attrs as spec;
+ghost use Rattle.syn_expr_kinds.specs.Attrs.{inner_of};
+ghost use Rattle.syn_expr_kinds.specs.Node.{before_of};
+ghost use Rattle.syn_expr_kinds.specs.Before.{before_printed};
+ghost use Rattle.syn_lower_leaves.specs.ReadBack.{all_printed};
+ghost use Rattle.syn_lower_leaves.specs.View.{attribute_of};
+ghost use Rattle.syn_parts.specs.PatOwn.{attributes_own};
+ghost use Rattle.syn_tokens.specs.Input.{IsFront};
+
+use crate::node::Attributes;
+use crate::put::{Grown, put};
+use syn_lower::attr::{AttrStyle, Attribute};
+use syn_tokens::buffer::ToTokens;
+use syn_tokens::tree::TokenStream;
+
+fn is_inner(attr: &Attribute) -> bool
+    ensures { result ≡ (attribute_of attr.now).inner }
+{
+    matches!(attr.style, AttrStyle::Inner(_))
+}
+
+/// The attributes from the first inner one on.
+fn from_inner(attrs: &[Attribute]) -> &[Attribute]
+    ensures { map attribute_of result.now ≡ spec.from_inner (map attribute_of attrs.now) }
+{
+    let mut rest = attrs;
+    'rest: while let [attr, more @ ..] = rest {
+        if is_inner(attr) {
+            return rest;
+        }
+        rest = more;
+    }
+    rest
+}
+
+/// Whether all are inner ones.
+fn all_inner(mut attrs: &[Attribute]) -> bool
+    ensures { result ≡ spec.all_inner (map attribute_of attrs.entry.now) }
+{
+    'attrs: while let [attr, more @ ..] = attrs {
+        if !is_inner(attr) {
+            return false;
+        }
+        attrs = more;
+    }
+    true
+}
+
+/// Whether no outer one stands behind an inner one.
+fn is_in_order(attrs: &[Attribute]) -> bool
+    ensures { result ≡ spec.is_in_order (map attribute_of attrs.now) }
+{
+    all_inner(from_inner(attrs))
+}
+
+/// Puts parts, one behind another.
+#[tactic(auto, using(syn_tokens::proofs::Fronts::fronts))]
+fn put_parts<T: ToTokens>(tokens: &mut TokenStream, mut parts: &[T]) -> Grown
+    ensures ok { OnOk result (tokens.new ≡ tokens.old ++ all_printed T.printed parts.entry.now) }
+    ensures front { IsFront tokens.old tokens.new }
+{
+    'parts: while let [part, more @ ..] = parts {
+        put(tokens, part)?;
+        parts = more;
+    }
+    Ok(())
+}
+
+/// Puts attributes, one behind another.
+#[tactic(auto, using(crate::proofs::Attributes::attrs))]
+pub fn put_all(tokens: &mut TokenStream, attrs: &[Attribute]) -> Grown
+    ensures ok { OnOk result (tokens.new ≡ tokens.old ++ attributes_own (map attribute_of attrs.now) []) }
+    ensures front { IsFront tokens.old tokens.new }
+{
+    put_parts(tokens, attrs)
+}
+
+/// Puts the attributes before the first inner one.
+#[tactic(auto, using(syn_tokens::proofs::Fronts::fronts))]
+fn put_before_inner(tokens: &mut TokenStream, mut attrs: &[Attribute]) -> Grown
+    ensures ok { OnOk result (tokens.new ≡ tokens.old ++ before_printed attrs.entry.now) }
+    ensures front { IsFront tokens.old tokens.new }
+{
+    'attrs: while let [attr, more @ ..] = attrs {
+        if is_inner(attr) {
+            return Ok(());
+        }
+        put(tokens, attr)?;
+        attrs = more;
+    }
+    Ok(())
+}
+
+/// Puts those of a node with braces that stand before it: all but the inner ones, and all where an outer one stands behind
+/// an inner one.
+#[tactic(auto, using(syn_tokens::proofs::Fronts::fronts, crate::proofs::Attributes::outer))]
+fn put_outer(tokens: &mut TokenStream, attrs: &[Attribute]) -> Grown
+    ensures ok { OnOk result (tokens.new ≡ tokens.old ++ attributes_own (spec.outer_part (map attribute_of attrs.now)) []) }
+    ensures front { IsFront tokens.old tokens.new }
+{
+    if is_in_order(attrs) {
+        put_before_inner(tokens, attrs)
+    } else {
+        put_all(tokens, attrs)
+    }
+}
+
+/// Puts those of a node with braces that stand first in them.
+#[tactic(auto, using(syn_tokens::proofs::Fronts::fronts, crate::proofs::Attributes::attrs), unfolding(crate::specs::Attrs::inner_of))]
+pub fn put_inner(tokens: &mut TokenStream, attrs: &Vec<Attribute>) -> Grown
+    ensures ok { OnOk result (tokens.new ≡ tokens.old ++ attributes_own (inner_of attrs.now) []) }
+    ensures front { IsFront tokens.old tokens.new }
+{
+    if is_in_order(attrs) {
+        put_all(tokens, from_inner(attrs))
+    } else {
+        Ok(())
+    }
+}
+
+/// Puts the attributes that stand before a node.
+#[tactic(auto, using(syn_tokens::proofs::Fronts::fronts, crate::proofs::Attributes::attrs), unfolding(crate::specs::Attrs::attrs_of, crate::specs::Attrs::outer_of))]
+pub fn put_attributes(tokens: &mut TokenStream, attributes: Attributes<'_>) -> Grown
+    ensures ok { OnOk result (tokens.new ≡ tokens.old ++ attributes_own (before_of attributes.entry) []) }
+    ensures front { IsFront tokens.old tokens.new }
+{
+    match attributes {
+        Attributes::None => Ok(()),
+        Attributes::Before(attrs) => put_all(tokens, attrs),
+        Attributes::Around(attrs) => put_outer(tokens, attrs),
+    }
+}

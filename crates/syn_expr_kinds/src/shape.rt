@@ -1,0 +1,127 @@
+//! What a kind of expressions asks of the type of expressions to be printed by itself (Rust Reference, "Expressions").
+
+ghost use Rattle.std.specs.Prelude.{◌≡◌, ◌++◌, false, map, OnOk};
+ghost use Rattle.syn_expr_kinds.specs.Attrs.{attrs_of};
+ghost use Rattle.syn_expr_kinds.specs.Node.{before_of, framed, frame_guards, frame_of, lead_guards, lead_of, operand_kids, operands_of, operator_of, post_of, trailer_of};
+ghost use Rattle.syn_expr_kinds.specs.Pats.{strays};
+ghost use Rattle.syn_expr_kinds.specs.Printed.{field_spelled, whole};
+ghost use Rattle.syn_expr_kinds.specs.View.{boxed, elements, field_value_of, range_between};
+ghost use Rattle.syn_grammar.specs.Next.{enclosed};
+ghost use Rattle.syn_grammar.specs.Stands.{is_range_lead};
+ghost use Rattle.syn_grammar.specs.Tree as e;
+ghost use Rattle.syn_grammar.specs.Tree.{adorn};
+ghost use Rattle.syn_lower.specs.View.{values, trails};
+ghost use Rattle.syn_op.specs.View.{limits_kind};
+ghost use Rattle.syn_tokens.specs.Input.{IsFront};
+
+use crate::node::{Attributes, Frame, HasShape, Lead, Operands, Operator, Post, Trailer};
+use crate::put::Grown;
+use crate::structure::FieldValueOf;
+use syn_lower::attr::Attribute;
+use syn_lower::punctuated::Punctuated;
+use syn_op::limits::RangeLimits;
+use syn_tokens::token::{Bracket, Comma, Paren};
+use syn_tokens::tree::TokenStream;
+
+/// The type of expressions, as what puts a node by itself: behind its attributes, with the parentheses that it needs inside and
+/// no others. Each shape has a call of its own, which is lent the parts of the node.
+///
+/// An operation that has attributes stands in parentheses behind them, since they would be those of its first operand. That
+/// memory ran out is all that a call is refused for; a part of the tokens may then follow what was there.
+pub trait PutShape: HasShape {
+    /// Puts parentheses with what stands in them.
+    fn put_paren(
+        tokens: &mut TokenStream,
+        attributes: Attributes<'_>,
+        paren: &Paren,
+        x: &Self,
+    ) -> Grown
+        ensures text { OnOk result (tokens.new ≡ tokens.old ++ whole enclosed (adorn (before_of attributes.entry) (e.paren false (Self.tree x.now)))) }
+        ensures front { IsFront tokens.old tokens.new };
+
+    /// Puts what stands before an operand, and the operand.
+    fn put_lead(
+        tokens: &mut TokenStream,
+        attributes: Attributes<'_>,
+        lead: Lead<'_, Self::Pat>,
+        x: &Self,
+    ) -> Grown
+        requires { is_range_lead (lead_of Self.Pat.view lead) ≡ false }
+        ensures text { OnOk result (tokens.new ≡ tokens.old ++ whole enclosed (adorn (before_of attributes.entry) (e.lead (lead_of Self.Pat.view lead.entry) (strays (lead_guards Self.Pat.view lead.entry) e.none) (Self.tree x.now)))) }
+        ensures front { IsFront tokens.old tokens.new };
+
+    /// Puts two operands with their operator.
+    fn put_mid(
+        tokens: &mut TokenStream,
+        attrs: &Vec<Attribute>,
+        x: &Self,
+        operator: Operator<'_>,
+        y: &Self,
+    ) -> Grown
+        ensures text { OnOk result (tokens.new ≡ tokens.old ++ whole enclosed (adorn (attrs_of attrs.now) (e.mid (Self.tree x.now) (operator_of operator.entry) (Self.tree y.now)))) }
+        ensures front { IsFront tokens.old tokens.new };
+
+    /// Puts an operand, and what stands behind it.
+    fn put_post(tokens: &mut TokenStream, attrs: &Vec<Attribute>, x: &Self, post: Post<'_>) -> Grown
+        ensures text { OnOk result (tokens.new ≡ tokens.old ++ whole enclosed (adorn (attrs_of attrs.now) (e.post (Self.tree x.now) (post_of post.entry)))) }
+        ensures front { IsFront tokens.old tokens.new };
+
+    /// Puts a range, between the ends that are there.
+    fn put_range(
+        tokens: &mut TokenStream,
+        attrs: &Vec<Attribute>,
+        start: &Option<Box<Self>>,
+        limits: &RangeLimits,
+        end: &Option<Box<Self>>,
+    ) -> Grown
+        ensures text { OnOk result (tokens.new ≡ tokens.old ++ whole enclosed (adorn (attrs_of attrs.now) (range_between (limits_kind limits.now) (boxed Self.tree start.now) (boxed Self.tree end.now)))) }
+        ensures front { IsFront tokens.old tokens.new };
+
+    /// Puts a base, and a trailer that holds no operand.
+    fn put_trailed(
+        tokens: &mut TokenStream,
+        attributes: Attributes<'_>,
+        base: &Self,
+        trailer: Trailer<'_>,
+    ) -> Grown
+        ensures text { OnOk result (tokens.new ≡ tokens.old ++ whole enclosed (adorn (before_of attributes.entry) (e.tail (Self.tree base.now) (trailer_of trailer.entry) e.none))) }
+        ensures front { IsFront tokens.old tokens.new };
+
+    /// Puts a base, and a trailer that holds arguments.
+    fn put_called(
+        tokens: &mut TokenStream,
+        attributes: Attributes<'_>,
+        base: &Box<Self>,
+        trailer: Trailer<'_>,
+        args: &Punctuated<Self, Comma>,
+    ) -> Grown
+        ensures text { OnOk result (tokens.new ≡ tokens.old ++ whole enclosed (adorn (before_of attributes.entry) (e.tail (Self.tree base.now.value) (trailer_of trailer.entry) (elements (map Self.tree (values args.now)) (trails args.now))))) }
+        ensures front { IsFront tokens.old tokens.new };
+
+    /// Puts what is indexed, and its index in brackets.
+    fn put_indexed(
+        tokens: &mut TokenStream,
+        attributes: Attributes<'_>,
+        base: &Self,
+        bracket: &Bracket,
+        index: &Self,
+    ) -> Grown
+        ensures text { OnOk result (tokens.new ≡ tokens.old ++ whole enclosed (adorn (before_of attributes.entry) (e.tail (Self.tree base.now) e.index (e.kid e.value e.no_ending (Self.tree index.now) e.none)))) }
+        ensures front { IsFront tokens.old tokens.new };
+
+    /// Puts what has its operands in places of their own.
+    fn put_frame(
+        tokens: &mut TokenStream,
+        attributes: Attributes<'_>,
+        frame: Frame<'_, Self::Pat>,
+        operands: Operands<'_, Self, Self::Arm>,
+    ) -> Grown
+        requires { operands_of Self.tree Self.Arm.view operands ≡ framed (operand_kids (operands_of Self.tree Self.Arm.view operands)) }
+        ensures text { OnOk result (tokens.new ≡ tokens.old ++ whole enclosed (adorn (before_of attributes.entry) (e.frame (frame_of Self.Pat.view frame.entry) (strays (frame_guards Self.Pat.view frame.entry) (operand_kids (operands_of Self.tree Self.Arm.view operands.entry)))))) }
+        ensures front { IsFront tokens.old tokens.new };
+
+    /// Puts a field of a struct expression, without a comma behind it.
+    fn put_field(tokens: &mut TokenStream, field: &FieldValueOf<Self>) -> Grown
+        ensures text { OnOk result (tokens.new ≡ tokens.old ++ field_spelled (field_value_of Self.tree field.now)) }
+        ensures front { IsFront tokens.old tokens.new };
+}
