@@ -33,7 +33,8 @@ use Rattle.syn_expr_all.specs.View.{tree_layer, tree_of, views}
 use Rattle.syn_expr_all.proofs.TreeOf.{tree_out, tree-Binary, closure-is, for_loop-is, binding-is, choice-is}
 use Rattle.syn_expr.specs.Promises.{PrintedAs}
 use Rattle.syn_expr.proofs.Promised.{prints_at}
-use Rattle.example.specs.Swapped.{swapped_tree, StandsFor, IsSwapped}
+use Rattle.example.specs.Swapped.{swapped_tree, IsSwapped}
+use Rattle.syn_expr.specs.Texts.{StandsFor}
 
 -- ---- an operation
 

@@ -1,14 +1,12 @@
 -- What becomes of a text: its expression with the operands swapped (Rust Reference, "Operator expressions").
-use Rattle.std.specs.Prelude.{◌≡◌, ℕ, List, []}
+use Rattle.std.specs.Prelude.{◌≡◌, ℕ, List}
 use Rattle.syn_tokens.specs.Tok.{Tok}
-use Rattle.syn_tokens.specs.Lex.{Spells}
 use Rattle.syn_tokens.specs.Text.{text}
 use Rattle.syn_grammar.specs.declared.kinds.Infix.TheVariants as inf
-use Rattle.syn_grammar.specs.Place.{plain}
 use Rattle.syn_grammar.specs.Printed.{in_plain}
-use Rattle.syn_grammar.specs.Stands.{Stands}
 use Rattle.syn_grammar.specs.Tree.{Tree, adorned, mid}
 use Rattle.syn_expr.specs.Promises.{PrintedAs}
+use Rattle.syn_expr.specs.Texts.{StandsFor}
 
 -- An operation, behind its attributes, has its operands swapped; anything else stays.
 abbrev pub swapped_tree : Tree → Tree
@@ -16,15 +14,7 @@ swapped_tree (adorned a more t) = adorned a more (swapped_tree t)
 swapped_tree (mid x (inf.Binary k) y) = mid y (inf.Binary k) x
 swapped_tree t = t
 
--- the text is cut into tokens for the whole of which the tree stands
-abbrev pub StandsFor : List ℕ → Tree → Type 0
-StandsFor cs t = (l : List Tok) × Spells cs l × Stands plain l t []
-
 -- Some tree stands for the text, and `bytes` is the text of tokens that keep all that is promised of this tree with the
 -- operands swapped.
 abbrev pub IsSwapped : List ℕ → List ℕ → Type 0
 IsSwapped cs bytes = (t : Tree) × (ts : List Tok) × StandsFor cs t × PrintedAs in_plain (swapped_tree t) ts × (bytes ≡ text ts)
-
--- the text is cut into no tokens, or no tree stands for the whole of them
-abbrev pub NothingStands : List ℕ → Type 0
-NothingStands cs = (t : Tree) → StandsFor cs t → ⊥

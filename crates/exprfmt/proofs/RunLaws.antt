@@ -28,7 +28,8 @@ use Rattle.syn_expr_flat.proofs.OuterParens.{stands_outer}
 use Rattle.syn_expr_all.specs.declared.held.HeldExpr.{HeldExpr}
 use Rattle.syn_expr_all.specs.View.{tree_of}
 use Rattle.syn_expr.specs.Promises.{Puts, StandsBack, IsOwn, IsSparing, PrintedAs}
-use Rattle.exprfmt.specs.Run.{GainsFront, IsLine, StandsFor, NothingStands, meant, AreLeft, Follows, Writer, Takes, Prints, Reports, Ran, line, printed, refused, foreign, failed, out_of_memory}
+use Rattle.exprfmt.specs.Run.{GainsFront, IsLine, meant, AreLeft, Follows, Writer, Takes, Prints, Reports, Ran, line, printed, refused, foreign, failed, out_of_memory}
+use Rattle.syn_expr.specs.Texts.{StandsFor, NothingStands}
 use Rattle.exprfmt.specs.FaultView.{outcome_of}
 use Rattle.exprfmt.specs.declared.run.Fault.{Fault}
 use Rattle.exprfmt.specs.declared.run.Fault.TheVariants.{Refused, NotUtf8, Failed}

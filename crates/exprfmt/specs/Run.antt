@@ -3,16 +3,14 @@ use Rattle.std.specs.Prelude.{◌≡◌, ◌⊎◌, ℕ, Bool, true, false, List
 use Rattle.std.specs.Str.{IsUtf8}
 use Rattle.std.specs.Io.KnownBytes.{Appends}
 use Rattle.syn_tokens.specs.Tok.{Tok}
-use Rattle.syn_tokens.specs.Lex.{Spells}
 use Rattle.syn_tokens.specs.Text.{text}
 use Rattle.syn_tokens.specs.declared.error.Error.{Error}
 use Rattle.syn_tokens.specs.declared.error.ErrorKind.TheVariants.{OutOfMemory}
 use Rattle.syn_tokens.specs.ErrorText.{kind_text}
-use Rattle.syn_grammar.specs.Place.{plain}
 use Rattle.syn_grammar.specs.Printed.{Position}
-use Rattle.syn_grammar.specs.Stands.{Stands}
 use Rattle.syn_grammar.specs.Tree.{Tree, flatten}
 use Rattle.syn_expr.specs.Promises.{PrintedAs}
+use Rattle.syn_expr.specs.Texts.{StandsFor, NothingStands}
 use Rattle.syn_expr.specs.declared.position.Position as code
 use Rattle.syn_expr.specs.declared.position.Position.TheVariants as named
 
@@ -46,10 +44,6 @@ line failed = codes "input or output failed" ++ 10 ∷ []
 abbrev pub usage : List ℕ
 usage = codes "usage: exprfmt plain|stmt|cond|arm [bare]" ++ 10 ∷ []
 
--- the text is cut into tokens for the whole of which the tree stands
-abbrev pub StandsFor : List ℕ → Tree → Type 0
-StandsFor cs t = (l : List Tok) × Spells cs l × Stands plain l t []
-
 -- the tree that is printed of one: where `bare` was asked, the same without its parentheses
 abbrev pub meant : Bool → Tree → Tree
 meant false t = t
@@ -59,10 +53,6 @@ meant true t = flatten t
 -- it is printed in the position.
 abbrev pub IsPrinted : Position → Bool → List ℕ → List Tok → Type 0
 IsPrinted s bare cs ts = (t : Tree) × StandsFor cs t × PrintedAs s (meant bare t) ts
-
--- the text is cut into no tokens, or no tree stands for the whole of them
-abbrev pub NothingStands : List ℕ → Type 0
-NothingStands cs = (t : Tree) → StandsFor cs t → ⊥
 
 -- the line of the printed expression
 abbrev pub IsLine : Position → Bool → List ℕ → List ℕ → Type 0

@@ -7,6 +7,7 @@ ghost use Rattle.std.specs.declared.io.ErrorKind.TheVariants.{OutOfMemory};
 ghost use Rattle.syn_expr_all.specs.View.{tree_of};
 ghost use Rattle.syn_expr.specs.Positions.{position_of};
 ghost use Rattle.syn_expr.specs.Promises.{PrintedAs};
+ghost use Rattle.syn_expr.specs.Texts.{NothingStands, StandsFor};
 ghost use Rattle.syn_grammar.specs.Printed as grammar;
 ghost use Rattle.exprfmt.specs.Run as spec;
 ghost use Rattle.exprfmt.specs.FaultView.{outcome_of};
@@ -66,8 +67,8 @@ const OUT_OF_MEMORY: Error = Error {
 
 /// The expression that the whole text is.
 fn read(alloc: Global, text: &str) -> Result<HeldExpr>
-    ensures value { IfOk result (λ x. spec.StandsFor (chars text.now) (tree_of x.expr)) }
-    ensures refused { IfErr result (λ e. (e.kind ≡ ErrorKind.OutOfMemory) ⊎ spec.NothingStands (chars text.now)) }
+    ensures value { IfOk result (λ x. StandsFor (chars text.now) (tree_of x.expr)) }
+    ensures refused { IfErr result (λ e. (e.kind ≡ ErrorKind.OutOfMemory) ⊎ NothingStands (chars text.now)) }
 {
     let tokens = match lex(alloc, text) {
         Ok(tokens) => tokens,
@@ -78,7 +79,7 @@ fn read(alloc: Global, text: &str) -> Result<HeldExpr>
 
 /// Makes of an expression that was read what is printed of it: with `bare` it loses its parentheses.
 fn prepare(bare: bool, expr: &mut Expr) -> Result<()>
-    ensures tree { IfOk result (λ _. (cs : List ℕ) → spec.StandsFor cs (tree_of expr.old) → tree_of expr.new ≡ spec.meant bare (tree_of expr.old)) }
+    ensures tree { IfOk result (λ _. (cs : List ℕ) → StandsFor cs (tree_of expr.old) → tree_of expr.new ≡ spec.meant bare (tree_of expr.old)) }
     ensures refused { IfErr result (λ e. e.kind ≡ ErrorKind.OutOfMemory) }
 {
     if bare {
@@ -102,7 +103,7 @@ fn printed(alloc: Global, position: Position, expr: &Expr) -> Result<TokenStream
 /// The line for a text, with its newline.
 fn line_of_text(alloc: Global, position: Position, bare: bool, text: &str) -> Result<String>
     ensures value { IfOk result (λ s. spec.IsLine (position_of position) bare (chars text.now) (string_bytes s)) }
-    ensures refused { IfErr result (λ e. (e.kind ≡ ErrorKind.OutOfMemory) ⊎ spec.NothingStands (chars text.now)) }
+    ensures refused { IfErr result (λ e. (e.kind ≡ ErrorKind.OutOfMemory) ⊎ NothingStands (chars text.now)) }
 {
     let mut held = match read(alloc, text) {
         Ok(held) => held,

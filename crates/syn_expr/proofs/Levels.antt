@@ -2,7 +2,7 @@
 use Rattle.std.proofs.Common.{◌≡◌, Bool, true, false, not, ◌&&◌, ◌||◌, if◌then◌else◌, List, [], ◌∷◌, refl, sym}
 use Rattle.syn_tokens.specs.Tok.{Tok}
 use Rattle.syn_parts.specs.Tree.{AttributeTree}
-use Rattle.syn_expr_kinds.specs.Attrs.{all_inner, before_inner, from_inner, is_in_order, outer_part}
+use Rattle.syn_expr_kinds.specs.Attrs.{all_inner, before_inner, is_in_order, outer_part}
 use Rattle.syn_expr.specs.Levels.{has_outer}
 
 none_outer : (ats : List AttributeTree) → all_inner ats ≡ true → has_outer ats ≡ false

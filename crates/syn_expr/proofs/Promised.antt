@@ -15,7 +15,7 @@ use Rattle.syn_grammar.proofs.Promise.{printed_stands}
 use Rattle.syn_grammar.proofs.Same.{printed_is_same}
 use Rattle.syn_grammar.proofs.SparedPlain.{no_pair_spared}
 use Rattle.syn_grammar.proofs.StoodFilled.{own_spelling}
-use Rattle.syn_expr_print.specs.Printing.{whole}
+use Rattle.syn_expr_kinds.specs.Printed.{whole}
 use Rattle.syn_expr_print.proofs.Appends.{own_append}
 use Rattle.syn_expr.specs.Promises.{Puts, StandsBack, IsOwn, IsSparing, PrintedAs}
 use Rattle.syn_expr.proofs.Marks.{own_clear, clear_twice, plain_clear, put_clear}

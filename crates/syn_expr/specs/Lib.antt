@@ -1,3 +1,4 @@
 pub mod Levels
 pub mod Positions
 pub mod Promises
+pub mod Texts

@@ -25,3 +25,7 @@ FlattensPat view post = (old new : MutBor _) (r : _) → post old r new → IfOk
 
 abbrev pub IsFlatArm : ArmView → ArmView → Type 0
 IsFlatArm a b = (b.attrs ≡ a.attrs) × IsFlatPat a.pat b.pat × IsFlat a.body b.body × (b.comma ≡ a.comma)
+
+-- a call that flattens the arm that it is lent
+abbrev pub FlattensArm : {A : Type 0} → (A → ArmView) → (MutBor A → Result (Unit {0}) AllocError → MutBor A → Type 0) → Type 0
+FlattensArm view post = (old new : MutBor _) (r : _) → post old r new → IfOk r (λ _. IsFlatArm (view old.now) (view new.now))

@@ -7,9 +7,9 @@ ghost use Rattle.syn_grammar.specs.Tree.{leaf, verbatim};
 use std::mem::replace;
 use syn_expr_flat::attrs::Before;
 use syn_expr_flat::operands::Flattened;
+use syn_expr_kinds::attrs::put_attributes;
 use syn_expr_kinds::node::Attributes;
-use syn_expr_put::attrs::put_attributes;
-use syn_expr_put::put::grown;
+use syn_expr_kinds::put::grown;
 use syn_tokens::tree::TokenStream;
 
 /// Tokens that are kept, with those of more attributes before them. Refused where memory runs out.

@@ -11,8 +11,7 @@ ghost use Rattle.syn_expr_all.specs.declared.control.ExprMatch.{out-ExprMatch};
 ghost use Rattle.syn_expr_all.specs.declared.pat.PatGuard.{out-PatGuard};
 ghost use Rattle.syn_expr_flat.specs.Calls.{Takes};
 ghost use Rattle.syn_expr_flat.specs.Flat.{Flattens, IsFlatBehind};
-ghost use Rattle.syn_expr_flat.specs.Pats.{FlattensPat, IsFlatArm, IsFlatPat};
-ghost use Rattle.syn_expr_flatten.specs.Arms.{FlattensArm};
+ghost use Rattle.syn_expr_flat.specs.Pats.{FlattensArm, FlattensPat, IsFlatArm, IsFlatPat};
 
 use crate::each::each;
 use syn_expr_all::closure::ExprClosure;
