@@ -11,25 +11,11 @@ ghost use Rattle.syn_tokens.specs.Tok.{Tok, weight};
 
 use crate::expr::Expr;
 use crate::read_expr::expr_at;
-use syn_expr_atoms::place::PLAIN;
+use syn_expr_ends::place::{AT_HEAD, BEFORE_BLOCK, PLAIN};
 use syn_expr_front::sign;
-use syn_grammar::kinds::{Level, Place};
+use syn_grammar::kinds::Place;
 use syn_tokens::buffer::{Parse, ParseBuffer};
 use syn_tokens::error::{ErrorKind, Result};
-
-/// Before the block of an `if` or a loop and the arms of a `match`.
-const BEFORE_BLOCK: Place = Place {
-    level: Level::Jump,
-    condition: true,
-    head: false,
-};
-
-/// A statement, or the body of an arm.
-const AT_HEAD: Place = Place {
-    level: Level::Jump,
-    condition: false,
-    head: true,
-};
 
 /// Reads the expression at a place. The input stays where it was where it is refused.
 #[tactic(auto, using(crate::proofs::Exactly::parsing))]

@@ -19,9 +19,9 @@ ghost use Rattle.syn_tokens.specs.Tok.{Tok, weight};
 
 use crate::leaf::standing;
 use crate::made::{closure_expr, jump_expr, plain_block, range_expr};
-use crate::place::{PLAIN, at};
 use crate::stands::ends_jump;
 use syn_expr_ends::kinds::{ReadExprs, ReadPats};
+use syn_expr_ends::place::{PLAIN, at};
 use syn_expr_front::sign::{begins_expr, ends_open_range};
 use syn_expr_front::start::Atom;
 use syn_expr_heads::lead::Leads;

@@ -4,5 +4,4 @@
 pub mod atoms;
 pub mod leaf;
 pub mod made;
-pub mod place;
 pub mod stands;

@@ -22,43 +22,23 @@ ghost use Rattle.syn_tokens.specs.Tok.{weight};
 use crate::head::{arm_head, for_head};
 use std::alloc::{AllocError, Global};
 use syn_expr_ends::kinds::ReadPats;
-use syn_expr_ends::like::is_block_like;
+use syn_expr_ends::place::{AT_HEAD, BEFORE_BLOCK, PLAIN};
 use syn_expr_heads::ending::{behind_arm, behind_condition, behind_loop_head, guarded};
 use syn_expr_heads::label::maybe_label;
 use syn_expr_heads::types::ArmHead;
 use syn_expr_heads::word::{else_word, if_word, while_word};
 use syn_expr_kinds::block::{ExprBlock, ExprIfOf, ExprWhileOf};
 use syn_expr_kinds::kinds::IsExpr;
+use syn_expr_kinds::like::is_block_like;
 use syn_expr_kinds::node::HasKind;
 use syn_expr_kinds::pattern::{ArmOf, ExprForLoopOf, ExprMatchOf, PatGuardOf};
 use syn_expr_parts::label::Label;
-use syn_grammar::kinds::{Level, Place};
+use syn_grammar::kinds::Place;
 use syn_lower_leaves::attr::Attribute;
 use syn_lower_leaves::kept::{block, inner_attributes};
 use syn_tokens::buffer::ParseBuffer;
 use syn_tokens::error::Result;
 use syn_tokens::token::{Else, FatArrow, If, Match, While};
-
-/// Before the block of an `if` or a loop and the arms of a `match`.
-const BEFORE_BLOCK: Place = Place {
-    level: Level::Jump,
-    condition: true,
-    head: false,
-};
-
-/// The body of an arm.
-const AT_HEAD: Place = Place {
-    level: Level::Jump,
-    condition: false,
-    head: true,
-};
-
-/// The guard of an arm.
-const PLAIN: Place = Place {
-    level: Level::Jump,
-    condition: false,
-    head: false,
-};
 
 /// The readers over that of the expressions inside.
 #[derive(Clone, Copy)]

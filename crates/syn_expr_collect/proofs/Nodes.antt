@@ -18,29 +18,12 @@ use Rattle.syn_expr_notes.specs.declared.label.LeadKind.{LeadKind}
 use Rattle.syn_expr_notes.specs.declared.label.PostKind.{PostKind}
 use Rattle.syn_expr_notes.specs.declared.label.TrailerKind.{TrailerKind}
 use Rattle.syn_expr_notes.specs.declared.label.FrameKind.{FrameKind}
-use Rattle.syn_expr_kinds.specs.Attrs.{all_inner, before_inner, from_inner, outer_part}
+use Rattle.syn_expr_kinds.specs.Attrs.{has_some}
 use Rattle.syn_expr_kinds.specs.Node.{attributes_at, without_strays, operands_at, based_by}
-use Rattle.syn_expr_collect.specs.Below.{plain_note, has_some, noted_behind, AreFirst, operands_below, operands_visited}
+use Rattle.syn_expr_collect.specs.Below.{plain_note, noted_behind, AreFirst, operands_below, operands_visited}
 use Rattle.syn_expr_collect.specs.Visited.{visited, kids_visited}
 
 -- ---- attributes
-
--- those of a node with braces: one stands before it where one is an outer one
-some_if : (b : Bool) (ats bs : List AttributeTree) (a : AttributeTree) → has_some (if b then a ∷ ats else a ∷ bs) ≡ true
-some_if true ats bs a = refl
-some_if false ats bs a = refl
-
-none_if : (b : Bool) (ats : List AttributeTree) (a : AttributeTree) → has_some (if b then [] else a ∷ ats) ≡ not b
-none_if true ats a = refl
-none_if false ats a = refl
-
-outer_first : (i : Bool) (ts : List Tok) (more : List AttributeTree) → let ats : List AttributeTree = record { inner = i; tokens = ts } ∷ more in has_some (outer_part ats) ≡ not (all_inner ats)
-outer_first true ts more = none_if (all_inner more) more (record { inner = true; tokens = ts })
-outer_first false ts more = some_if (all_inner (from_inner more)) (before_inner more) more (record { inner = false; tokens = ts })
-
-pub outer_some : (ats : List AttributeTree) → has_some (outer_part ats) ≡ not (all_inner ats)
-outer_some [] = refl
-outer_some (a ∷ more) = outer_first a.inner a.tokens more
 
 -- attributes twice note as once
 twice_sort : (b : Bool) (s : Sort) → adorned_sort (if b then sort.Other else adorned_sort s) ≡ (if b then sort.Other else adorned_sort s)
@@ -185,4 +168,4 @@ visited_is (frame l ks) = ap (λ n. 1 + n) (strays_visited ks)
 
 pub ruleset based = (based_below, based_visited)
 
-pub ruleset nodes = (outer_some, behind_is, below_is, visited_is)
+pub ruleset nodes = (behind_is, below_is, visited_is)

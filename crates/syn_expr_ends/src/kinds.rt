@@ -1,7 +1,7 @@
 //! What the readers of the kinds of expressions ask of the types of expressions and of patterns.
 
 ghost use Rattle.std.specs.Prelude.{◌≡◌, ◌≤◌, IfOk, [], MatchResult, true, false};
-ghost use Rattle.syn_expr_ends.specs.Kind.{all_outer};
+ghost use Rattle.syn_expr_kinds.specs.Attrs.{all_outer};
 ghost use Rattle.syn_expr_kinds.specs.Attrs.{attrs_of};
 ghost use Rattle.syn_grammar.specs.Stands.{is_adorned, is_verbatim};
 ghost use Rattle.syn_grammar.specs.Tree as e;

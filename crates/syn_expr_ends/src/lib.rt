@@ -2,4 +2,4 @@
 #![tactic(auto)]
 
 pub mod kinds;
-pub mod like;
+pub mod place;

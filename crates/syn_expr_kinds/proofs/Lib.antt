@@ -1,4 +1,6 @@
 pub mod Shapes
+pub mod Lents
+pub mod Likes
 pub mod Attributes
 pub mod Owns
 pub mod Leaves

@@ -207,6 +207,26 @@ abbrev pub based_by : Tree → Kids → OperandTrees
 based_by b none = one_tree b
 based_by b (kid k c t ks) = based b (kid k c t ks)
 
+-- the operand with which a node begins: its first one, and the base of a trailer
+abbrev pub first_of : OperandTrees → Option Tree
+first_of (one_tree t) = Some t
+first_of (two_trees x y) = Some x
+first_of (based b ks) = Some b
+first_of _ = None
+
+-- the second of two
+abbrev pub second_of : OperandTrees → Option Tree
+second_of (two_trees x y) = Some y
+second_of _ = None
+
+-- the one with which a node ends, or behind which its trailer stands
+abbrev pub last_of : OperandTrees → Option Tree
+last_of (one_tree t) = Some t
+last_of (two_trees x y) = Some y
+last_of (based b ks) = Some b
+last_of (framed (kid e.output_block c t ks)) = Some t
+last_of _ = None
+
 abbrev pub operands_at : Tree → OperandTrees
 operands_at (e.leaf k) = no_trees
 operands_at (e.paren m t) = one_tree t

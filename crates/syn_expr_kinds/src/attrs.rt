@@ -3,14 +3,15 @@
 ghost use Rattle.std.specs.Prelude.{◌≡◌, ◌++◌, [], map, OnOk};
 ghost use Rattle.syn_expr_kinds.specs.Attrs as spec;
 ghost use Rattle.syn_expr_kinds.specs.Attrs.{inner_of};
-ghost use Rattle.syn_expr_kinds.specs.Node.{before_of};
+ghost use Rattle.syn_expr_kinds.specs.Node.{before_of, braces_of};
 ghost use Rattle.syn_expr_kinds.specs.Before.{before_printed};
 ghost use Rattle.syn_lower_leaves.specs.ReadBack.{all_printed};
 ghost use Rattle.syn_lower_leaves.specs.View.{attribute_of};
+ghost use Rattle.syn_parts.specs.Form.{is_nil};
 ghost use Rattle.syn_parts.specs.PatOwn.{attributes_own};
 ghost use Rattle.syn_tokens.specs.Input.{IsFront};
 
-use crate::node::Attributes;
+use crate::node::{Attributes, Braces};
 use crate::put::{Grown, put};
 use syn_lower::attr::{AttrStyle, Attribute};
 use syn_tokens::buffer::ToTokens;
@@ -50,10 +51,34 @@ fn all_inner(mut attrs: &[Attribute]) -> bool
 }
 
 /// Whether no outer one stands behind an inner one.
-fn is_in_order(attrs: &[Attribute]) -> bool
+pub fn is_in_order(attrs: &[Attribute]) -> bool
     ensures { result ≡ spec.is_in_order (map attribute_of attrs.now) }
 {
     all_inner(from_inner(attrs))
+}
+
+impl Attributes<'_> {
+    /// Whether none stand before the node.
+    #[tactic(auto, using(crate::proofs::Attributes::bares), unfolding(crate::specs::Attrs::attrs_of, crate::specs::Attrs::outer_of))]
+    pub fn is_empty(self) -> bool
+        ensures { result ≡ is_nil (before_of self.entry) }
+    {
+        match self {
+            Attributes::None => true,
+            Attributes::Before(attrs) => attrs.is_empty(),
+            Attributes::Around(attrs) => all_inner(attrs),
+        }
+    }
+}
+
+impl Braces<'_> {
+    /// Whether none of the attributes of the node stand first in them.
+    #[tactic(auto, using(crate::proofs::Attributes::inners), unfolding(crate::specs::Attrs::inner_of))]
+    pub fn is_bare(self) -> bool
+        ensures { result ≡ is_nil (braces_of self.entry).inner }
+    {
+        !is_in_order(self.attrs) || from_inner(self.attrs).is_empty()
+    }
 }
 
 /// Puts parts, one behind another.

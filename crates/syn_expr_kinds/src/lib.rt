@@ -11,6 +11,7 @@ pub mod body;
 pub mod jump;
 pub mod kinds;
 pub mod leaf;
+pub mod like;
 pub mod node;
 pub mod operation;
 pub mod pattern;

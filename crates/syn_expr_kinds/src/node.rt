@@ -95,6 +95,24 @@ pub enum Leaf<'a> {
     Verbatim(&'a TokenStream),
 }
 
+impl Leaf<'_> {
+    ghost use Rattle.syn_expr_kinds.specs.Node.{leaf_of};
+    ghost use Rattle.syn_grammar.specs.Rule.{is_plain_leaf};
+    ghost use Rattle.syn_grammar.specs.WellFormed.{is_kept_leaf};
+
+    /// Whether it is a block without a label, and without attributes in its braces: the block of its tokens alone.
+    #[tactic(auto, using(crate::proofs::Lents::blocks))]
+    pub fn is_plain_block(self) -> bool
+        ensures plain { result ≡ is_plain_leaf (leaf_of self.entry) }
+        ensures kept { result ≡ is_kept_leaf (leaf_of self.entry) }
+    {
+        match self {
+            Leaf::Block(label, braces) => label.is_none() && braces.is_bare(),
+            _ => false,
+        }
+    }
+}
+
 /// A closure up to its body.
 pub struct Closure<'a, P> {
     /// `for<..>`
@@ -269,6 +287,63 @@ impl<'a, E, A> Clone for Operands<'a, E, A> {
 
     fn clone(&self) -> Result<Self, AllocError> {
         Ok(*self)
+    }
+}
+
+impl<'a, E, A> Operands<'a, E, A> {
+    ghost use Rattle.syn_expr_kinds.specs.Node.{first_of, last_of, operands_of, second_of};
+    ghost use Rattle.syn_expr_kinds.specs.Pats.{ArmView};
+    ghost use Rattle.syn_grammar.specs.Tree.{Tree};
+
+    /// The operand with which a node begins: its first one, and the base of a trailer.
+    #[tactic(auto, using(crate::proofs::Lents::based))]
+    pub fn first(self) -> Option<&'a E>
+        ensures { (tree : E → Tree) (arm : A → ArmView) → mapped (λ x. tree x.now) result ≡ first_of (operands_of tree arm self.entry) }
+    {
+        match self {
+            Operands::One(x) | Operands::Two(x, _) | Operands::Call(x, _) | Operands::Index(x, _) =>
+                Some(x),
+            _ => None,
+        }
+    }
+
+    /// The second of two operands.
+    #[tactic(auto, using(crate::proofs::Lents::based))]
+    pub fn second(self) -> Option<&'a E>
+        ensures { (tree : E → Tree) (arm : A → ArmView) → mapped (λ x. tree x.now) result ≡ second_of (operands_of tree arm self.entry) }
+    {
+        match self {
+            Operands::Two(_, y) => Some(y),
+            _ => None,
+        }
+    }
+
+    /// The operand with which a node ends, or behind which its trailer stands.
+    #[tactic(auto, using(crate::proofs::Lents::based))]
+    pub fn last(self) -> Option<&'a E>
+        ensures { (tree : E → Tree) (arm : A → ArmView) → mapped (λ x. tree x.now) result ≡ last_of (operands_of tree arm self.entry) }
+    {
+        match self {
+            Operands::One(x)
+            | Operands::Two(_, x)
+            | Operands::Call(x, _)
+            | Operands::Index(x, _)
+            | Operands::Body(x) => Some(x),
+            _ => None,
+        }
+    }
+}
+
+impl<'a, P> Frame<'a, P> {
+    ghost use Rattle.syn_expr_kinds.specs.Node.{frame_of};
+    ghost use Rattle.syn_grammar.specs.Rule.{is_if};
+    ghost use Rattle.syn_pat_kinds.specs.View.{PatView};
+
+    /// Whether it is an `if`.
+    pub fn is_if(self) -> bool
+        ensures { (pat : P → PatView) → result ≡ is_if (frame_of pat self.entry) }
+    {
+        matches!(self, Frame::If(_))
     }
 }
 

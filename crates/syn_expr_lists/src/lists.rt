@@ -15,21 +15,15 @@ ghost use Rattle.syn_tokens.specs.Front.{is_empty};
 ghost use Rattle.syn_tokens.specs.Tok.{weight};
 
 use syn_expr_ends::kinds::ReadExprs;
+use syn_expr_ends::place::PLAIN;
 use syn_expr_heads::ending::comma_or_end;
 use syn_expr_kinds::atom::{ExprArrayOf, ExprParenOf, ExprRepeatOf, ExprTupleOf};
-use syn_grammar::kinds::{Level, Place};
+use syn_grammar::kinds::Place;
 use syn_lower_leaves::front::{comma, semi};
 use syn_lower_lists::punctuated::Punctuated;
 use syn_tokens::buffer::ParseBuffer;
 use syn_tokens::error::{ErrorKind, Result};
 use syn_tokens::token::{Bracket, Comma, Paren, Semi};
-
-/// The place of what stands alone in delimiters, and of an element of a list.
-pub(crate) const PLAIN: Place = Place {
-    level: Level::Jump,
-    condition: false,
-    head: false,
-};
 
 /// The readers over that of the expressions inside.
 #[derive(Clone, Copy)]

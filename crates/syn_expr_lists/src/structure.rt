@@ -11,9 +11,10 @@ ghost use Rattle.syn_lower.specs.View.{path_of, qself_or, type_of};
 ghost use Rattle.syn_lower_leaves.specs.Reads.{Reads};
 ghost use Rattle.syn_tokens.specs.Tok.{weight};
 
-use crate::lists::{Lists, PLAIN};
+use crate::lists::Lists;
 use crate::word::{is_word_alone, named};
 use syn_expr_ends::kinds::ReadExprs;
+use syn_expr_ends::place::PLAIN;
 use syn_expr_heads::ending::comma_or_end;
 use syn_expr_heads::field::field;
 use syn_expr_heads::types::FieldHead;

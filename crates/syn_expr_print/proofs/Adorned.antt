@@ -13,14 +13,11 @@ use Rattle.syn_expr_notes.specs.Kind.{kind_at}
 use Rattle.syn_expr_notes.specs.Label as label
 use Rattle.syn_expr_notes.specs.Label.{leaf_kind, lead_kind}
 use Rattle.syn_expr_kinds.specs.Node.{OperandTrees, no_trees, one_tree, two_trees, based, framed, attributes_at, operands_at}
-use Rattle.syn_expr_collect.specs.Below.{has_some}
-use Rattle.syn_expr_collect.proofs.Nodes.{outer_some}
+use Rattle.syn_expr_kinds.specs.Attrs.{has_some}
 use Rattle.syn_expr_print.specs.Operation.{is_operation_kind}
 use Rattle.syn_expr_print.specs.Printing.{spelled, spelled_in, core, node_of, IsLent}
 use Rattle.syn_expr_print.specs.Shape.{ShapeTree, leaf_shape, paren_shape, lead_shape, mid_shape, post_shape, tail_shape, frame_shape, shape_at}
 use Rattle.syn_expr_print.proofs.Spellings.{spelled-adorned, core-plain}
-
-pub ruleset outer = (outer_some)
 
 -- ---- operations
 

@@ -20,10 +20,10 @@ use Rattle.syn_expr_notes.specs.declared.label.LeadKind.{LeadKind}
 use Rattle.syn_expr_notes.specs.declared.label.PostKind.{PostKind}
 use Rattle.syn_expr_notes.specs.declared.label.TrailerKind.{TrailerKind}
 use Rattle.syn_expr_notes.specs.declared.label.FrameKind.{FrameKind}
-use Rattle.syn_expr_kinds.specs.Node.{operands_at, leaf_at, is_paren, lead_at, operator_at, post_at, trailer_at, frame_at, operand_kids}
+use Rattle.syn_expr_kinds.specs.Node.{operands_at, leaf_at, is_paren, lead_at, operator_at, post_at, trailer_at, frame_at, operand_kids, first_of, second_of}
 use Rattle.syn_lower_leaves.specs.View.{mapped}
 use Rattle.syn_expr_print.specs.declared.notes.Notes.{Notes}
-use Rattle.syn_expr_print.specs.Printing.{spelled, spelled_in, kids_spelled, core, first_of, second_of, IsLent}
+use Rattle.syn_expr_print.specs.Printing.{spelled, spelled_in, kids_spelled, core, IsLent}
 use Rattle.syn_expr_print.specs.Taken.{Taken}
 use Rattle.syn_expr_print.proofs.Sizes.{first-size, second-size, kids-less}
 use Rattle.syn_expr_print.proofs.Lents.{leaf-there, leaf-text, leaf-below, is-paren, paren-first, paren-text, paren-below, lead-there, lead-first, lead-text, lead-below, lead-kind, mid-operator, mid-first, mid-second, mid-text, mid-below, post-there, post-first, post-text, post-below, post-operator, tail-there, tail-first, tail-text, tail-kind, tail-told, frame-there}

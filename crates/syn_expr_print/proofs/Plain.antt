@@ -1,69 +1,15 @@
 -- Whether a node is a block without a label and attributes, and what is printed of the body of a closure with an output.
-use Rattle.std.specs.Prelude.{not, ◌&&◌, if◌then◌else◌, Option, Some, None, is_some}
-use Rattle.std.proofs.Common.{◌≡◌, Bool, true, false, List, [], ◌∷◌, refl, sym, ap, ◌∙◌}
-use Rattle.syn_tokens.specs.Tok.{Tok}
-use Rattle.syn_parts.specs.Tree.{AttributeTree}
-use Rattle.syn_lower_leaves.specs.View.{mapped}
+use Rattle.std.specs.Prelude.{◌&&◌, if◌then◌else◌, Some, None}
+use Rattle.std.proofs.Common.{◌≡◌, Bool, true, false, refl, sym, ap, ◌∙◌}
 use Rattle.syn_grammar.specs.declared.note.Sort.{Sort}
 use Rattle.syn_grammar.specs.declared.note.Sort.TheVariants as sort
 use Rattle.syn_grammar.specs.Notes.{note_of, leaf_sort, adorned_sort}
 use Rattle.syn_grammar.specs.Rule.{is_plain_leaf, is_plain_block}
 use Rattle.syn_grammar.specs.Tree as e
 use Rattle.syn_grammar.specs.Tree.{Tree, Leaf, leaf, paren, adorned, lead, mid, post, tail, frame}
-use Rattle.syn_expr_collect.specs.Below.{has_some}
-use Rattle.syn_expr_kinds.specs.Attrs.{all_inner, from_inner, inner_part}
 use Rattle.syn_expr_kinds.specs.Node.{leaf_at}
-use Rattle.syn_expr_kinds.specs.View.{body_of}
-use Rattle.syn_expr_parts.specs.View.{label_of}
-use Rattle.syn_expr_parts.specs.declared.label.Label.{Label}
 use Rattle.syn_expr_print.specs.Placed.{is_block_sort}
 use Rattle.syn_expr_print.proofs.Braced.{output-plain, output-braced}
-
--- ---- attributes that stand first in the braces
-
--- whether there are such, by those that are left: behind an inner one all have to be inner ones
-unfoldable pub inner_left : Bool → List AttributeTree → Bool
-inner_left true ats = all_inner ats
-inner_left false ats = has_some (inner_part ats)
-
-pub inner-start : (ats : List AttributeTree) → inner_left false ats ≡ has_some (inner_part ats)
-unfolding inner_left
-inner-start ats = refl
-
-pub inner-end : (found : Bool) → inner_left found [] ≡ found
-unfolding inner_left
-inner-end true = refl
-inner-end false = refl
-
-from-here : (a : AttributeTree) (more : List AttributeTree) → a.inner ≡ true → from_inner (a ∷ more) ≡ a ∷ more
-from-here a more h = ap (λ b. if b then a ∷ more else from_inner more) h
-
-from-behind : (a : AttributeTree) (more : List AttributeTree) → a.inner ≡ false → from_inner (a ∷ more) ≡ from_inner more
-from-behind a more h = ap (λ b. if b then a ∷ more else from_inner more) h
-
-pub inner-more : (found : Bool) (a : AttributeTree) (more : List AttributeTree) → a.inner ≡ true → inner_left found (a ∷ more) ≡ inner_left true more
-unfolding inner_left
-inner-more true a more h = ap (λ b. b && all_inner more) h
-inner-more false a more h =
-    ap (λ l. has_some (if all_inner l then l else [])) (from-here a more h)
-    ∙ ap (λ b. has_some (if b && all_inner more then a ∷ more else [])) h
-    ∙ some-if (all_inner more)
-  where
-    some-if : (b : Bool) → has_some (if b then a ∷ more else []) ≡ b
-    some-if true = refl
-    some-if false = refl
-
-pub outer-more : (a : AttributeTree) (more : List AttributeTree) → a.inner ≡ false → inner_left false (a ∷ more) ≡ inner_left false more
-unfolding inner_left
-outer-more a more h = ap (λ l. has_some (if all_inner l then l else [])) (from-behind a more h)
-
-pub outer-behind : (a : AttributeTree) (more : List AttributeTree) → a.inner ≡ false → inner_left true (a ∷ more) ≡ false
-unfolding inner_left
-outer-behind a more h = ap (λ b. b && all_inner more) h
-
-pub ruleset inners = (inner-start, inner-end, inner-more, outer-more, outer-behind)
-
--- ---- blocks
 
 and-true : (b : Bool) → b ≡ b && true
 and-true true = refl
@@ -72,11 +18,6 @@ and-true false = refl
 and-false : (b : Bool) → false ≡ b && false
 and-false true = refl
 and-false false = refl
-
-pub plain-block : (label : Option Label) (ats : List AttributeTree) (ts : List Tok) → is_plain_leaf (e.block (mapped label_of label) (body_of ats ts)) ≡ not (is_some label) && not (has_some ats)
-plain-block None [] ts = refl
-plain-block None (a ∷ more) ts = refl
-plain-block (Some w) ats ts = refl
 
 plain-sort : (k : Leaf) → is_plain_leaf k ≡ is_plain_leaf k && is_block_sort (leaf_sort k)
 plain-sort (e.block None b) = and-true (is_plain_leaf (e.block None b))
@@ -124,8 +65,6 @@ never-plain (mid x k y) h = refl
 never-plain (post x k) h = refl
 never-plain (tail b k ks) h = refl
 never-plain (frame k ks) h = refl
-
-pub ruleset leaves = (plain-block)
 
 pub ruleset plains = (plain-is, never-plain)
 

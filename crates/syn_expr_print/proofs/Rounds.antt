@@ -20,7 +20,8 @@ use Rattle.syn_expr_put.specs.Framed.{framed_own, in_enclosure}
 use Rattle.syn_expr_print.specs.Placed.{is_enclosed, needs_comma, needs_last, is_single, is_one_field}
 use Rattle.syn_expr_print.specs.Printing.{spelled, kids_spelled, core, IsLent}
 use Rattle.syn_expr_print.proofs.Choices.{arms-none}
-use Rattle.syn_expr_print.proofs.Lents.{first-based, second-based, kids-based, open-text, closed-text, frame-below}
+use Rattle.syn_expr_kinds.proofs.Lents.{first-based, second-based, kids-based}
+use Rattle.syn_expr_print.proofs.Lents.{open-text, closed-text, frame-below}
 
 module _ {P : Type 0} (pat : P → PatView) where
   -- guards where none may stand are no operands

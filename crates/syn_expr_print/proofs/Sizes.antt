@@ -3,9 +3,8 @@ use Rattle.std.specs.Prelude.{Some}
 use Rattle.std.proofs.Common.{◌≡◌, ◌<◌, ◌≤◌, ap, arith}
 use Rattle.syn_grammar.specs.Tree as e
 use Rattle.syn_grammar.specs.Tree.{Tree, Kids, leaf, paren, adorned, lead, mid, post, tail, frame, none, kid, size, kids_size}
-use Rattle.syn_expr_kinds.specs.Node.{operands_at, without_strays, operand_kids}
-use Rattle.syn_expr_print.specs.Printing.{first_of, second_of}
-use Rattle.syn_expr_print.proofs.Lents.{first-based, second-based, kids-based}
+use Rattle.syn_expr_kinds.specs.Node.{operands_at, without_strays, operand_kids, first_of, second_of}
+use Rattle.syn_expr_kinds.proofs.Lents.{first-based, second-based, kids-based}
 
 pub first-size : (t u : Tree) → first_of (operands_at t) ≡ Some u → size u < size t
 first-size (leaf k) u h = absurd cc

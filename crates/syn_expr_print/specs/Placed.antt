@@ -16,7 +16,6 @@ use Rattle.syn_grammar.specs.Tree.{Tree, Kids, Frame, enclosure, is_block_like, 
 use Rattle.syn_expr_notes.specs.declared.kind.NodeKind.{NodeKind}
 use Rattle.syn_expr_notes.specs.declared.kind.NodeKind.TheVariants as node
 use Rattle.syn_expr_notes.specs.declared.label.LeafKind.TheVariants as leaf
-use Rattle.syn_expr_notes.specs.declared.label.FrameKind.TheVariants as frame
 use Rattle.syn_expr_kinds.specs.Pats.{ArmView}
 use Rattle.syn_expr_kinds.specs.View.{FieldView}
 use Rattle.syn_expr_collect.specs.Arm.{guard_at}
@@ -134,9 +133,3 @@ is_block_sort _ = false
 abbrev pub is_block_kind : NodeKind → Bool
 is_block_kind (node.Leaf (leaf.Block b)) = true
 is_block_kind _ = false
-
-abbrev pub is_like_block : NodeKind → Bool
-is_like_block (node.Leaf (leaf.Block b)) = true
-is_like_block (node.Leaf (leaf.BlockLike b)) = true
-is_like_block (node.Frame (frame.BlockLike b)) = true
-is_like_block _ = false

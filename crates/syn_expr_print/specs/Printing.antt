@@ -47,17 +47,6 @@ abbrev pub core : Tree → Tree
 core (adorned a more t) = t
 core t = t
 
--- the operand at an end, or the first of two; and the other of two
-abbrev pub first_of : OperandTrees → Option Tree
-first_of (one_tree t) = Some t
-first_of (two_trees x y) = Some x
-first_of (based b ks) = Some b
-first_of _ = None
-
-abbrev pub second_of : OperandTrees → Option Tree
-second_of (two_trees x y) = Some y
-second_of _ = None
-
 -- the node of which these are lent; of no node other ones are
 abbrev pub node_of : ShapeTree → OperandTrees → Tree
 node_of (leaf_shape k) no_trees = leaf k

@@ -2,9 +2,6 @@
 //! "`if` expressions", "Closure expressions").
 
 ghost use Rattle.std.specs.Prelude.{◌≡◌, ◌+◌, ◌++◌, ◌∷◌, [], map, OnOk};
-ghost use Rattle.syn_expr_collect.specs.Below.{has_some};
-ghost use Rattle.syn_expr_kinds.specs.Attrs.{inner_part};
-ghost use Rattle.syn_expr_kinds.specs.Node.{leaf_of};
 ghost use Rattle.syn_expr_print.specs.Placed as placed;
 ghost use Rattle.syn_expr_kinds.specs.Printed as printed;
 ghost use Rattle.syn_expr_print.specs.Printing.{EndsWith, piece_spelled};
@@ -13,11 +10,9 @@ ghost use Rattle.syn_expr_print.specs.Taken.{Taken};
 ghost use Rattle.syn_grammar.specs.Next as next;
 ghost use Rattle.syn_grammar.specs.Notes.{below, note_of, stack};
 ghost use Rattle.syn_grammar.specs.Rule as rule;
-ghost use Rattle.syn_grammar.specs.Rule.{is_plain_leaf};
 ghost use Rattle.syn_grammar.specs.Tree as e;
 ghost use Rattle.syn_grammar.specs.Tree.{size};
 ghost use Rattle.syn_lexer.specs.declared.lexeme.Delimiter.TheVariants as del;
-ghost use Rattle.syn_lower_leaves.specs.View.{attribute_of};
 ghost use Rattle.syn_tokens.specs.Input.{IsFront};
 ghost use Rattle.syn_tokens.specs.Tok as tok;
 
@@ -25,63 +20,15 @@ use crate::node::HasPrint;
 use crate::notes::{Notes, take_note};
 use crate::operand::inside;
 use syn_expr_kinds::body::put_braces;
-use syn_expr_kinds::node::{HasShape, Leaf};
+use syn_expr_kinds::node::HasShape;
 use syn_expr_kinds::put::Grown;
 use syn_expr_notes::context::{enclosed, in_statement};
 use syn_expr_notes::decide::place_by;
 use syn_grammar::kinds::Level;
 use syn_grammar::next::Context;
 use syn_grammar::note::{Note, Sort};
-use syn_lower::attr::{AttrStyle, Attribute};
 use syn_tokens::token::Brace;
 use syn_tokens::tree::TokenStream;
-
-fn is_inner(attr: &Attribute) -> bool
-    ensures { result ≡ (attribute_of attr.now).inner }
-{
-    matches!(attr.style, AttrStyle::Inner(_))
-}
-
-/// Whether any stand first in the braces of the node that has these attributes: there are inner ones, and no outer one is
-/// behind an inner one.
-#[tactic(auto, using(crate::proofs::Plain::inners))]
-fn has_inner(mut attrs: &[Attribute]) -> bool
-    ensures { result ≡ has_some (inner_part (map attribute_of attrs.entry.now)) }
-{
-    let mut found = false;
-    'attrs: while let [attr, more @ ..] = attrs {
-        if is_inner(attr) {
-            found = true;
-        } else if found {
-            return false;
-        }
-        attrs = more;
-    }
-    found
-}
-
-/// Whether it is a block without a label, and without attributes in its braces.
-#[tactic(auto, using(crate::proofs::Plain::leaves), unfolding(syn_expr_kinds::specs::Attrs::inner_of))]
-fn is_plain(leaf: Leaf<'_>) -> bool
-    ensures { result ≡ is_plain_leaf (leaf_of leaf.entry) }
-{
-    match leaf {
-        Leaf::Block(label, braces) => label.is_none() && !has_inner(braces.attrs),
-        Leaf::Lit(_)
-        | Leaf::Path(_, _)
-        | Leaf::Macro(_)
-        | Leaf::Infer(_)
-        | Leaf::Range(_)
-        | Leaf::Jump(_)
-        | Leaf::Continue(_, _)
-        | Leaf::Loop(_, _, _)
-        | Leaf::Unsafe(_, _)
-        | Leaf::Const(_, _)
-        | Leaf::Async(_, _, _)
-        | Leaf::TryBlock(_, _)
-        | Leaf::Verbatim(_) => false,
-    }
-}
 
 /// Whether a note is that of a block without a label, before which no attributes stand.
 fn is_block_sort(sort: Sort) -> bool
@@ -97,7 +44,7 @@ fn is_plain_block<E: HasShape>(x: &E, note: Note) -> bool
     ensures { result ≡ rule.is_plain_block (E.tree x.now) }
 {
     match x.leaf() {
-        Some(leaf) => is_plain(leaf) && is_block_sort(note.sort),
+        Some(leaf) => leaf.is_plain_block() && is_block_sort(note.sort),
         None => false,
     }
 }

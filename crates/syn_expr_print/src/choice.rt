@@ -19,28 +19,15 @@ use crate::node::HasPrint;
 use crate::notes::Notes;
 use crate::operand::whole;
 use syn_expr_collect::HasArms;
+use syn_expr_kinds::like::is_block_like;
 use syn_expr_kinds::node::HasKind;
 use syn_expr_kinds::put::{Grown, put};
 use syn_expr_notes::context::{enclosed, in_arm};
-use syn_expr_notes::kind::NodeKind;
-use syn_expr_notes::label::{FrameKind, LeafKind};
 use syn_expr_put::arm::{ArmHead, HasArmHead, put_arm_head};
 use syn_expr_put::mark::{put_arrow, put_comma, put_if};
 use syn_grammar::next::Context;
 use syn_tokens::token::{Comma, FatArrow, If};
 use syn_tokens::tree::TokenStream;
-
-/// Whether it is a block, a loop, an `if` or a `match`, behind attributes too: no comma is needed behind it.
-#[tactic(auto, using(crate::proofs::Likes::likes))]
-fn is_block_like<E: HasKind>(x: &E) -> bool
-    ensures { result ≡ e.is_block_like (E.tree x.now) }
-{
-    match x.kind() {
-        NodeKind::Leaf(LeafKind::Block { .. } | LeafKind::BlockLike { .. }) => true,
-        NodeKind::Frame(FrameKind::BlockLike { .. }) => true,
-        _ => false,
-    }
-}
 
 /// Whether a comma is needed behind an arm with this value: `more` arms follow.
 fn needs_comma<E: HasKind>(more: bool, x: &E) -> bool

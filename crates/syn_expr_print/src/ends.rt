@@ -2,10 +2,10 @@
 //! expressions", "Grouped expressions", "Range expressions", "`return` expressions", "Closure expressions").
 
 ghost use Rattle.std.specs.Prelude.{◌≡◌, ◌++◌, [], Some, is_some, true, OnOk};
-ghost use Rattle.syn_expr_kinds.specs.Node.{operands_at};
+ghost use Rattle.syn_expr_kinds.specs.Node.{first_of, operands_at, second_of};
 ghost use Rattle.syn_expr_notes.specs.Kind.{kind_at};
 ghost use Rattle.syn_expr_notes.specs.declared.kind.NodeKind.TheVariants as node;
-ghost use Rattle.syn_expr_print.specs.Printing.{EndsWith, core, first_of, second_of, spelled};
+ghost use Rattle.syn_expr_print.specs.Printing.{EndsWith, core, spelled};
 ghost use Rattle.syn_expr_print.specs.Prints.{Callable, Prints};
 ghost use Rattle.syn_expr_print.specs.Taken.{Taken};
 ghost use Rattle.syn_grammar.specs.Notes.{below};
@@ -15,7 +15,6 @@ ghost use Rattle.syn_tokens.specs.Input.{IsFront};
 use crate::node::HasPrint;
 use crate::notes::{Notes, take_note};
 use crate::operand::{behind_lead, inside, left_of, right_of};
-use crate::operands::{first, second};
 use syn_expr_kinds::body::put_paren;
 use syn_expr_kinds::leaf::put_leaf;
 use syn_expr_kinds::node::HasNode;
@@ -33,7 +32,7 @@ pub(crate) fn first_operand<E: HasNode>(x: &E) -> &E
     requires { is_some (first_of (operands_at (E.tree x.now))) ≡ true }
     ensures { first_of (operands_at (E.tree x.now)) ≡ Some (E.tree result.now) }
 {
-    first(x.operands()).unwrap()
+    x.operands().first().unwrap()
 }
 
 /// The second of two operands.
@@ -41,7 +40,7 @@ fn second_operand<E: HasNode>(x: &E) -> &E
     requires { is_some (second_of (operands_at (E.tree x.now))) ≡ true }
     ensures { second_of (operands_at (E.tree x.now)) ≡ Some (E.tree result.now) }
 {
-    second(x.operands()).unwrap()
+    x.operands().second().unwrap()
 }
 
 /// Prints what holds no operand.

@@ -15,7 +15,6 @@ ghost use Rattle.syn_expr_print.specs.Prints.{Callable, Prints};
 ghost use Rattle.syn_expr_print.specs.Taken.{Taken};
 ghost use Rattle.syn_grammar.specs.Next as next;
 ghost use Rattle.syn_grammar.specs.Notes.{below, kids_below, stack};
-ghost use Rattle.syn_grammar.specs.Rule as rule;
 ghost use Rattle.syn_grammar.specs.Tree as e;
 ghost use Rattle.syn_grammar.specs.Tree.{Tree, body_own, enclosure, kids_size, size};
 ghost use Rattle.syn_grammar.specs.declared.next.Context as contexts;
@@ -63,30 +62,12 @@ fn is_block<E: HasKind>(x: &E) -> bool
     matches!(x.kind(), NodeKind::Leaf(LeafKind::Block { .. }))
 }
 
-/// Whether it is the frame of an `if`.
-fn is_if<P: HasPatTree>(frame: Frame<'_, P>) -> bool
-    ensures { result ≡ rule.is_if (frame_of P.view frame.entry) }
-{
-    match frame {
-        Frame::If(_) => true,
-        Frame::Array(_)
-        | Frame::Tuple(_)
-        | Frame::Repeat(_)
-        | Frame::Struct(_, _, _, _)
-        | Frame::While(_, _)
-        | Frame::ForLoop(_, _, _, _)
-        | Frame::Match(_, _)
-        | Frame::Group(_) => false,
-        Frame::Closure(_) => false,
-    }
-}
-
 /// Whether it is an `if`, behind attributes too.
 fn is_branch<E: HasShape>(x: &E) -> bool
     ensures { result ≡ placed.is_branch (frame_at (E.tree x.now)) }
 {
     match x.frame() {
-        Some(frame) => is_if(frame),
+        Some(frame) => frame.is_if(),
         None => false,
     }
 }

@@ -8,7 +8,6 @@ pub mod frames;
 pub mod node;
 pub mod notes;
 pub mod operand;
-pub mod operands;
 pub mod places;
 pub mod print;
 pub mod printed;

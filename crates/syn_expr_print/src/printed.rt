@@ -1,10 +1,8 @@
 //! A whole node, in a place where it is left bare: its attributes, and behind them what it is by its shape.
 
 ghost use Rattle.std.specs.Prelude.{◌≡◌, ◌++◌, true, OnOk};
-ghost use Rattle.syn_expr_collect.specs.Below.{has_some};
-ghost use Rattle.syn_expr_kinds.specs.Attrs as spec;
-ghost use Rattle.syn_expr_kinds.specs.Attrs.{attrs_of};
-ghost use Rattle.syn_expr_kinds.specs.Node.{attributes_at, before_of};
+ghost use Rattle.syn_expr_kinds.specs.Attrs.{has_some};
+ghost use Rattle.syn_expr_kinds.specs.Node.{attributes_at};
 ghost use Rattle.syn_expr_print.specs.Operation.{is_operation_kind};
 ghost use Rattle.syn_expr_print.specs.Printing.{EndsWith, core, spelled, spelled_in};
 ghost use Rattle.syn_expr_print.specs.Prints.{Callable, Prints};
@@ -21,40 +19,13 @@ use crate::tail::tail;
 use syn_expr_collect::HasArms;
 use syn_expr_kinds::attrs::put_attributes;
 use syn_expr_kinds::body::put_parens;
-use syn_expr_kinds::node::Attributes;
 use syn_expr_kinds::put::Grown;
 use syn_expr_notes::context::{adorned_context, enclosed};
 use syn_expr_notes::kind::NodeKind;
 use syn_expr_put::arm::HasArmHead;
 use syn_expr_put::lead::PutPat;
 use syn_grammar::next::Context;
-use syn_lower::attr::{AttrStyle, Attribute};
 use syn_tokens::tree::TokenStream;
-
-/// Whether all attributes are inner ones.
-#[tactic(auto, unfolding(syn_expr_kinds::specs::Attrs::attrs_of))]
-fn all_inner(attrs: &Vec<Attribute>) -> bool
-    ensures { result ≡ spec.all_inner (attrs_of attrs.now) }
-{
-    for attr in attrs {
-        if matches!(attr.style, AttrStyle::Outer) {
-            return false;
-        }
-    }
-    true
-}
-
-/// Whether attributes stand before a node.
-#[tactic(auto, using(crate::proofs::Adorned::outer), unfolding(syn_expr_kinds::specs::Attrs::attrs_of, syn_expr_kinds::specs::Attrs::outer_of))]
-pub fn is_adorned(attributes: Attributes<'_>) -> bool
-    ensures { result ≡ has_some (before_of attributes.entry) }
-{
-    match attributes {
-        Attributes::None => false,
-        Attributes::Before(attrs) => !attrs.is_empty(),
-        Attributes::Around(attrs) => !all_inner(attrs),
-    }
-}
 
 /// Whether it is an operation: attributes before one would be those of its first operand.
 pub fn is_operation(kind: NodeKind) -> bool
@@ -176,9 +147,9 @@ where
     ensures front { IsFront tokens.old tokens.new }
     ensures taken { OnOk result (Taken notes.old notes.new (below (E.tree x.now))) }
 {
-    if is_adorned(x.attributes()) {
-        adorned(smaller, tokens, notes, x, context)
-    } else {
+    if x.attributes().is_empty() {
         shape(smaller, tokens, notes, x, context)
+    } else {
+        adorned(smaller, tokens, notes, x, context)
     }
 }

@@ -5,9 +5,10 @@ use Rattle.syn_grammar.specs.Query.{tree_leads, kept_leads}
 use Rattle.syn_grammar.specs.Tree as e
 use Rattle.syn_grammar.specs.Tree.{Tree, leaf, paren, adorned, lead, mid, post, tail, frame}
 use Rattle.syn_expr_notes.specs.Kind.{kind_at}
-use Rattle.syn_expr_kinds.specs.Node.{attributes_at, operands_at}
-use Rattle.syn_expr_queries.specs.Node.{has_some, is_labelled, word_behind, first_of, asked, kept_at}
-use Rattle.syn_expr_queries.proofs.Nodes.{first-based}
+use Rattle.syn_expr_kinds.specs.Attrs.{has_some}
+use Rattle.syn_expr_kinds.specs.Node.{attributes_at, operands_at, first_of}
+use Rattle.syn_expr_queries.specs.Node.{is_labelled, word_behind, asked, kept_at}
+use Rattle.syn_expr_kinds.proofs.Lents.{first-based}
 
 -- behind attributes none is first
 pub leads-adorned : (w : Bool) (t : Tree) → has_some (attributes_at t) ≡ true → false ≡ tree_leads w t

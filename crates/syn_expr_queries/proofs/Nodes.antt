@@ -1,57 +1,9 @@
--- Attributes before a node, and the operands at its ends.
-use Rattle.std.proofs.Common.{◌≡◌, ◌<◌, ◌≤◌, Bool, true, false, not, if◌then◌else◌, List, [], ◌∷◌, Option, Some, None, refl, sym, arith}
-use Rattle.syn_tokens.specs.Tok.{Tok}
-use Rattle.syn_parts.specs.Tree.{AttributeTree}
+-- The operands at the ends of a node are smaller than it.
+use Rattle.std.proofs.Common.{◌≡◌, ◌<◌, ◌≤◌, Some, sym, arith}
 use Rattle.syn_grammar.specs.Tree as e
 use Rattle.syn_grammar.specs.Tree.{Tree, Kids, Piece, Ending, leaf, paren, adorned, lead, mid, post, tail, frame, none, kid, size, kids_size}
-use Rattle.syn_expr_kinds.specs.Attrs.{all_inner, before_inner, from_inner, outer_part}
-use Rattle.syn_expr_kinds.specs.Node.{framed, based_by, without_strays, operands_at}
-use Rattle.syn_expr_kinds.specs.View.{FieldView, elements, fields, option_kid}
-use Rattle.syn_expr_queries.specs.Node.{has_some, first_of, last_of}
-
--- ---- attributes
-
--- those of a node with braces: one stands before it where one is an outer one
-some_if : (b : Bool) (ats bs : List AttributeTree) (a : AttributeTree) → has_some (if b then a ∷ ats else a ∷ bs) ≡ true
-some_if true ats bs a = refl
-some_if false ats bs a = refl
-
-none_if : (b : Bool) (ats : List AttributeTree) (a : AttributeTree) → has_some (if b then [] else a ∷ ats) ≡ not b
-none_if true ats a = refl
-none_if false ats a = refl
-
-outer_first : (i : Bool) (ts : List Tok) (more : List AttributeTree) → let ats : List AttributeTree = record { inner = i; tokens = ts } ∷ more in has_some (outer_part ats) ≡ not (all_inner ats)
-outer_first true ts more = none_if (all_inner more) more (record { inner = true; tokens = ts })
-outer_first false ts more = some_if (all_inner (from_inner more)) (before_inner more) more (record { inner = false; tokens = ts })
-
-pub outer_some : (ats : List AttributeTree) → has_some (outer_part ats) ≡ not (all_inner ats)
-outer_some [] = refl
-outer_some (a ∷ more) = outer_first a.inner a.tokens more
-
-pub ruleset outer = (outer_some)
-
--- ---- operands
-
-pub first-based : (b : Tree) (ks : Kids) → first_of (based_by b ks) ≡ Some b
-first-based b none = refl
-first-based b (kid k c t ks) = refl
-
-pub last-based : (b : Tree) (ks : Kids) → last_of (based_by b ks) ≡ Some b
-last-based b none = refl
-last-based b (kid k c t ks) = refl
-
-pub last-elements : (ts : List Tree) (b : Bool) → last_of (framed (elements ts b)) ≡ None
-last-elements [] b = refl
-last-elements (t ∷ ts) b = refl
-
-pub last-fields : (xs : List FieldView) (b d : Bool) (o : Option Tree) → last_of (framed (fields xs b (option_kid (e.rest d) o))) ≡ None
-last-fields [] b d None = refl
-last-fields [] b d (Some x) = refl
-last-fields (x ∷ xs) b d o = refl
-
-pub ruleset based = (first-based, last-based, last-elements, last-fields)
-
--- ---- an operand is smaller than its node
+use Rattle.syn_expr_kinds.specs.Node.{framed, without_strays, operands_at, first_of, last_of}
+use Rattle.syn_expr_kinds.proofs.Lents.{first-based, last-based}
 
 pub first-smaller : (t x : Tree) → first_of (operands_at t) ≡ Some x → size x < size t
 first-smaller (leaf k) x h = absurd cc

@@ -5,9 +5,10 @@ use Rattle.syn_expr_notes.specs.Kind.{kind_at}
 use Rattle.syn_grammar.specs.Query.{leaf_brace, lead_brace, post_brace, return_brace, tree_brace, kids_brace}
 use Rattle.syn_grammar.specs.Tree as e
 use Rattle.syn_grammar.specs.Tree.{Tree, Kids, Body, Piece, Ending, Leaf, Lead, Post, Frame, leaf, paren, adorned, lead, mid, post, tail, frame, none, kid}
-use Rattle.syn_expr_kinds.specs.Node.{framed, attributes_at, without_strays, operands_at, leaf_at, lead_at, post_at, frame_at}
+use Rattle.syn_expr_kinds.specs.Attrs.{has_some}
+use Rattle.syn_expr_kinds.specs.Node.{framed, attributes_at, without_strays, operands_at, leaf_at, lead_at, post_at, frame_at, last_of}
 use Rattle.syn_expr_queries.specs.Frames.{is_body, is_loop, is_if, is_match, frame_holds, frames_hold}
-use Rattle.syn_expr_queries.specs.Node.{has_some, is_operation, last_of, asked}
+use Rattle.syn_expr_queries.specs.Node.{is_operation, asked}
 use Rattle.syn_expr_queries.specs.Right.{frame_right, NodeTells}
 use Rattle.syn_expr_queries.specs.declared.right.Right.{Right}
 use Rattle.syn_expr_queries.specs.declared.right.Right.TheVariants as right

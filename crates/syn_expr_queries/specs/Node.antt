@@ -1,30 +1,16 @@
 -- What is told of a node by what is lent of it.
-use Rattle.std.specs.Prelude.{Bool, true, false, List, [], ◌∷◌, Option, Some, None}
+use Rattle.std.specs.Prelude.{Bool, true, false, List, Option, Some, None}
 use Rattle.syn_tokens.specs.Tok.{Tok}
-use Rattle.syn_parts.specs.Tree.{AttributeTree}
 use Rattle.syn_grammar.specs.Query.{is_cast_op}
 use Rattle.syn_grammar.specs.Tree as e
-use Rattle.syn_grammar.specs.Tree.{Tree, Leaf, kid}
+use Rattle.syn_grammar.specs.Tree.{Tree, Leaf}
 use Rattle.syn_expr_notes.specs.Label.{leaf_labelled, frame_labelled, is_cast_post}
 use Rattle.syn_expr_notes.specs.declared.kind.NodeKind.{NodeKind}
 use Rattle.syn_expr_notes.specs.declared.kind.NodeKind.TheVariants as node
 use Rattle.syn_expr_notes.specs.declared.label.LeafKind.TheVariants as leafs
-use Rattle.syn_expr_notes.specs.declared.label.FrameKind.TheVariants as frames
-use Rattle.syn_expr_kinds.specs.Node.{OperandTrees, one_tree, two_trees, based, framed, leaf_at}
-
--- ---- attributes
-
-abbrev pub has_some : List AttributeTree → Bool
-has_some [] = false
-has_some (a ∷ more) = true
+use Rattle.syn_expr_kinds.specs.Node.{leaf_at}
 
 -- ---- kinds
-
-abbrev pub is_like_block : NodeKind → Bool
-is_like_block (node.Leaf (leafs.Block labelled)) = true
-is_like_block (node.Leaf (leafs.BlockLike labelled)) = true
-is_like_block (node.Frame (frames.BlockLike labelled)) = true
-is_like_block _ = false
 
 -- a call of a macro with braces
 abbrev pub is_braced_call : NodeKind → Bool
@@ -48,21 +34,6 @@ is_operation (node.Mid op) = true
 is_operation _ = false
 
 -- ---- operands
-
--- the one with which a node begins
-abbrev pub first_of : OperandTrees → Option Tree
-first_of (one_tree t) = Some t
-first_of (two_trees x y) = Some x
-first_of (based b ks) = Some b
-first_of _ = None
-
--- the one with which a node ends, or behind which its trailer stands
-abbrev pub last_of : OperandTrees → Option Tree
-last_of (one_tree t) = Some t
-last_of (two_trees x y) = Some y
-last_of (based b ks) = Some b
-last_of (framed (kid e.output_block c t ks)) = Some t
-last_of _ = None
 
 -- what a query answers of an operand; where there is none, false
 abbrev pub asked : (Tree → Bool) → Option Tree → Bool

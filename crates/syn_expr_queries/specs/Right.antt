@@ -3,8 +3,8 @@ use Rattle.std.specs.Prelude.{◌≡◌, Bool, true, false}
 use Rattle.syn_grammar.specs.Query.{return_brace, tree_brace}
 use Rattle.syn_grammar.specs.Tree as e
 use Rattle.syn_grammar.specs.Tree.{Tree, Frame}
-use Rattle.syn_expr_kinds.specs.Node.{operands_at}
-use Rattle.syn_expr_queries.specs.Node.{last_of, asked}
+use Rattle.syn_expr_kinds.specs.Node.{operands_at, last_of}
+use Rattle.syn_expr_queries.specs.Node.{asked}
 use Rattle.syn_expr_queries.specs.declared.right.Right.{Right}
 use Rattle.syn_expr_queries.specs.declared.right.Right.TheVariants as right
 

@@ -9,22 +9,18 @@ use crate::frames::HasFrames;
 use crate::label::begins_with_label;
 use crate::name::ends_in_name;
 use crate::right::node_brace;
+use syn_expr_kinds::like::is_block_like;
 use syn_expr_kinds::node::{HasKind, HasShape};
 use syn_expr_notes::kind::NodeKind;
-use syn_expr_notes::label::{FrameKind, LeafKind};
+use syn_expr_notes::label::LeafKind;
 use syn_lower::ty::Type;
 
 /// Whether a match arm with this body needs a comma behind it (Rust Reference, "Match expressions"): any does but an `if`, a
 /// `match`, a loop and a block that is not `async`, whatever attributes stand before it.
-#[tactic(auto, using(crate::proofs::Likes::likes))]
 pub fn requires_comma_to_be_match_arm<E: HasKind>(expr: &E) -> bool
     ensures { result ≡ spec.requires_comma_to_be_match_arm (E.tree expr.now) }
 {
-    match expr.kind() {
-        NodeKind::Leaf(LeafKind::Block { .. } | LeafKind::BlockLike { .. }) => false,
-        NodeKind::Frame(FrameKind::BlockLike { .. }) => false,
-        _ => true,
-    }
+    !is_block_like(expr)
 }
 
 /// Whether a statement of this expression needs a semicolon behind it (Rust Reference, "Expression statements"): as for a match

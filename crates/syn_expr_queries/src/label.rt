@@ -6,8 +6,6 @@ ghost use Rattle.syn_expr_queries.specs.Node.{kept_at, kept_of, is_labelled, wor
 ghost use Rattle.syn_grammar.specs.Query as query;
 ghost use Rattle.syn_lower_leaves.specs.View.{mapped};
 
-use crate::attributes::has_before;
-use crate::operands::first;
 use crate::tokens::begins_with_lifetime;
 use syn_expr_kinds::node::{HasShape, Leaf};
 use syn_expr_notes::kind::NodeKind;
@@ -79,12 +77,12 @@ fn kept_tokens<E: HasShape>(expr: &E) -> Option<&TokenStream>
 pub(crate) fn begins_with_label<E: HasShape>(expr: &E, word: bool) -> bool
     ensures { result ≡ query.tree_leads word (E.tree expr.now) }
 {
-    if has_before(expr.attributes()) {
+    if !expr.attributes().is_empty() {
         return false;
     }
     let kind = expr.kind();
     if let Some(word) = word_behind(kind) {
-        return match first(expr.operands()) {
+        return match expr.operands().first() {
             Some(x) => begins_with_label(x, word),
             None => false,
         };

@@ -9,7 +9,6 @@ mod expr;
 pub mod frames;
 mod label;
 mod name;
-mod operands;
 mod right;
 mod tokens;
 mod types;

@@ -11,7 +11,6 @@ ghost use Rattle.syn_pat_kinds.specs.View.{PatView};
 use crate::attributes::behind;
 use crate::brace::{is_brace, output_brace, path_brace, type_brace};
 use crate::frames::HasFrames;
-use crate::operands::last;
 use crate::tokens::ends_with_braces;
 use syn_expr_kinds::node::{Closure, Frame, Lead, Leaf, Post};
 use syn_expr_notes::kind::NodeKind;
@@ -132,7 +131,7 @@ pub(crate) fn node_brace<E: HasFrames>(expr: &E, before: bool) -> bool
 {
     match node_right(expr, before) {
         Right::Told(is_brace) => is_brace,
-        Right::Operand(before) => match last(expr.operands()) {
+        Right::Operand(before) => match expr.operands().last() {
             Some(x) => node_brace(x, before),
             None => false,
         },

@@ -19,7 +19,7 @@ use Rattle.syn_grammar.proofs.Chains.{behind_some}
 use Rattle.syn_grammar.proofs.Needs.{heads}
 use Rattle.syn_grammar.proofs.HeadMoves.{left, taken_is}
 use Rattle.syn_grammar.proofs.Lesses.{here}
-use Rattle.syn_expr_ends.specs.Kind.{all_outer}
+use Rattle.syn_expr_kinds.specs.Attrs.{all_outer}
 
 pub outers_left : (l m : List Tok) (ats : List AttributeTree) → outer_attributes.reads l ≡ Some (ats, m) → IsTail m l
 outers_left l m ats h = left here.outer ats l m (heads.outers.sound l ats m h)

@@ -2,7 +2,7 @@
 //! "Expression attributes").
 
 ghost use Rattle.std.specs.Prelude.{◌≡◌, ◌≤◌, true, drop};
-ghost use Rattle.syn_expr_ends.specs.Kind.{all_outer};
+ghost use Rattle.syn_expr_kinds.specs.Attrs.{all_outer};
 ghost use Rattle.syn_expr_ends.specs.Reads.{Callable, ReadsExpr};
 ghost use Rattle.syn_expr_kinds.specs.Attrs.{attrs_of};
 ghost use Rattle.syn_expr_readers.specs.Loops.{outer_operand};

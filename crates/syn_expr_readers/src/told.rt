@@ -1,50 +1,22 @@
 //! What the reading asks of an expression that was read: by its kind, and by whether attributes stand before it.
 
-ghost use Rattle.std.specs.Prelude.{◌≡◌, not, map};
-ghost use Rattle.syn_expr_kinds.specs.Attrs.{all_inner};
+ghost use Rattle.std.specs.Prelude.{◌≡◌, not};
 ghost use Rattle.syn_expr_readers.specs.Kind as spec;
 ghost use Rattle.syn_grammar.specs.Stands as stands;
-ghost use Rattle.syn_lower_leaves.specs.View.{attribute_of};
-ghost use Rattle.syn_parts.specs.Form.{is_nil};
 
-use syn_expr_ends::like::is_block_like;
-use syn_expr_kinds::node::{Attributes, HasKind, HasNode};
+use syn_expr_kinds::like::is_block_like;
+use syn_expr_kinds::node::{HasKind, HasNode};
 use syn_expr_notes::kind::NodeKind;
 use syn_expr_notes::label::{LeafKind, TrailerKind};
 use syn_grammar::kinds::{Infix, Place};
-use syn_lower_leaves::attr::{AttrStyle, Attribute};
 use syn_op::level::{is_comparison, is_range_op};
 
-/// Whether there are any.
-fn has_some(attrs: &[Attribute]) -> bool
-    ensures { result ≡ not (is_nil attrs.now) }
-{
-    matches!(attrs, [_, ..])
-}
-
-/// Whether one of them is an outer attribute.
-fn has_outer(mut attrs: &[Attribute]) -> bool
-    ensures { result ≡ not (all_inner (map attribute_of attrs.entry.now)) }
-{
-    'attributes: while let [first, more @ ..] = attrs {
-        if matches!(first.style, AttrStyle::Outer) {
-            return true;
-        }
-        attrs = more;
-    }
-    false
-}
-
 /// Whether attributes stand before it (Rust Reference, "Expression attributes").
-#[tactic(auto, using(crate::proofs::Adorned::adorned), unfolding(syn_expr_kinds::specs::Attrs::attrs_of, syn_expr_kinds::specs::Attrs::outer_of))]
+#[tactic(auto, using(crate::proofs::Adorned::adorned))]
 pub fn is_adorned<E: HasNode>(x: &E) -> bool
     ensures { result ≡ stands.is_adorned (E.tree x.now) }
 {
-    match x.attributes() {
-        Attributes::None => false,
-        Attributes::Before(attrs) => has_some(attrs),
-        Attributes::Around(attrs) => has_outer(attrs),
-    }
+    !x.attributes().is_empty()
 }
 
 /// The kind of a node before which no attribute stands; none of another.

@@ -8,7 +8,7 @@ use Rattle.syn_parts.specs.PatOwn.{attributes_own}
 use Rattle.syn_grammar.specs.Next.{enclosed}
 use Rattle.syn_grammar.specs.Rule.{is_operation}
 use Rattle.syn_grammar.specs.Tree.{Tree, adorned, adorn}
-use Rattle.syn_expr_collect.specs.Below.{has_some}
+use Rattle.syn_expr_kinds.specs.Attrs.{has_some}
 use Rattle.syn_expr_kinds.specs.Printed.{whole}
 use Rattle.syn_expr_print.specs.Printing.{spelled, spelled_in}
 use Rattle.syn_expr_print.proofs.Spellings.{spelled-adorned, spelled-bare, spelled-wrapped}

@@ -13,7 +13,6 @@ use syn_expr_kinds::attrs::put_attributes;
 use syn_expr_kinds::body::put_parens;
 use syn_expr_kinds::node::Attributes;
 use syn_expr_kinds::put::{Grown, grown};
-use syn_expr_print::printed::is_adorned;
 use syn_lower::attr::Attribute;
 use syn_tokens::tree::TokenStream;
 
@@ -26,10 +25,11 @@ pub fn operation(tokens: &mut TokenStream, attrs: &Vec<Attribute>, printed: Toke
     ensures text { (t : Tree) → is_operation t ≡ true → printed ≡ spelled next.enclosed t → OnOk result (tokens.new ≡ tokens.old ++ whole next.enclosed (adorn (attrs_of attrs.now) t)) }
     ensures front { IsFront tokens.old tokens.new }
 {
-    if is_adorned(Attributes::Before(attrs)) {
-        put_attributes(tokens, Attributes::Before(attrs))?;
-        put_parens(tokens, printed)
-    } else {
+    let attributes = Attributes::Before(attrs);
+    if attributes.is_empty() {
         grown(tokens.append(printed))
+    } else {
+        put_attributes(tokens, attributes)?;
+        put_parens(tokens, printed)
     }
 }

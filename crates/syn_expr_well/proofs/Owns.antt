@@ -1,6 +1,7 @@
 -- What a node is but for its operands, by the shape that is lent.
 use Rattle.std.proofs.Common.{◌≡◌, true, false, List, Some, None, refl, ap, sym, ◌∙◌}
 use Rattle.syn_parts.specs.Form.{is_nil}
+use Rattle.syn_grammar.specs.Rule.{is_if}
 use Rattle.syn_grammar.specs.Slot as s
 use Rattle.syn_grammar.specs.Stands.{is_branch}
 use Rattle.syn_grammar.specs.Tree as e
@@ -9,7 +10,7 @@ use Rattle.syn_grammar.specs.WellFormed.{leaf_fits, post_fits, trailer_fits, tra
 use Rattle.syn_expr_notes.specs.Kind.{kind_at}
 use Rattle.syn_expr_kinds.specs.Node.{attributes_at, leaf_at, lead_at, post_at, trailer_at, frame_at}
 use Rattle.syn_expr_well.specs.Alone.{lead_alone, frame_alone}
-use Rattle.syn_expr_well.specs.Well.{own_fits, kind_fits, frame_dots, slot_at, dots_at, bare_leaf, is_if_frame}
+use Rattle.syn_expr_well.specs.Well.{own_fits, kind_fits, frame_dots, slot_at, dots_at, bare_leaf}
 
 -- ---- where its operands stand
 
@@ -171,7 +172,7 @@ branch-adorned (post x l) h = absurd cc
 branch-adorned (tail x l ks) h = absurd cc
 branch-adorned (frame l ks) h = absurd cc
 
-if_frame : (k : Frame) (ks : _) → is_if_frame k ≡ is_branch (frame k ks)
+if_frame : (k : Frame) (ks : _) → is_if k ≡ is_branch (frame k ks)
 if_frame e.array ks = refl
 if_frame e.tuple ks = refl
 if_frame e.repeat ks = refl
@@ -183,7 +184,7 @@ if_frame (e.for_loop l p) ks = refl
 if_frame e.choice ks = refl
 if_frame e.invisible ks = refl
 
-pub branch-frame : (k : Frame × List Tree) (t : Tree) → is_nil (attributes_at t) ≡ true → frame_at t ≡ Some k → is_if_frame k.0 ≡ is_branch t
+pub branch-frame : (k : Frame × List Tree) (t : Tree) → is_nil (attributes_at t) ≡ true → frame_at t ≡ Some k → is_if k.0 ≡ is_branch t
 branch-frame k (leaf l) h i = absurd cc
 branch-frame k (paren m t) h i = absurd cc
 branch-frame k (adorned a more t) h i = absurd cc
@@ -191,7 +192,7 @@ branch-frame k (lead l gs t) h i = absurd cc
 branch-frame k (mid x l y) h i = absurd cc
 branch-frame k (post x l) h i = absurd cc
 branch-frame k (tail x l ks) h i = absurd cc
-branch-frame k (frame l ks) h i = let q : l ≡ k.0 = cc in ap is_if_frame (sym q) ∙ if_frame l ks
+branch-frame k (frame l ks) h i = let q : l ≡ k.0 = cc in ap is_if (sym q) ∙ if_frame l ks
 
 pub branch-none : (t : Tree) → frame_at t ≡ None → false ≡ is_branch t
 branch-none (leaf l) h = refl

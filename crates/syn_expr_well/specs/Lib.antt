@@ -1,5 +1,4 @@
 pub mod Alone
-pub mod Orders
 pub mod Places
 pub mod Well
 pub mod Walk

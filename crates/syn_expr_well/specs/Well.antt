@@ -48,7 +48,3 @@ dots_at _ = false
 abbrev pub bare_leaf : Tree → Option Leaf
 bare_leaf (e.leaf k) = Some k
 bare_leaf _ = None
-
-abbrev pub is_if_frame : Frame → Bool
-is_if_frame e.branch = true
-is_if_frame _ = false

@@ -1,47 +1,16 @@
 //! Operands that stand only in a certain form: blocks that keep their tokens, and values that are the name of their field.
 
 ghost use Rattle.std.specs.Prelude.{◌≡◌};
-ghost use Rattle.syn_expr_kinds.specs.Node.{braces_of, leaf_of};
+ghost use Rattle.syn_expr_kinds.specs.Node.{leaf_of};
 ghost use Rattle.syn_expr_parts.specs.View.{member_of};
 ghost use Rattle.syn_expr_well.specs.Walk.{is_word_leaf};
 ghost use Rattle.syn_grammar.specs.WellFormed as spec;
-ghost use Rattle.syn_parts.specs.Form.{is_nil};
 ghost use Rattle.syn_parts.specs.Pat.{a_name};
 
-use crate::attributes::has_no_inner;
 use crate::fits::is_word_alone;
 use crate::own::bare_leaf;
-use syn_expr_kinds::node::{Braces, HasShape, Leaf};
+use syn_expr_kinds::node::{HasShape, Leaf};
 use syn_expr_parts::member::Member;
-
-/// Whether none of the attributes of a node stands in its braces.
-fn has_plain_braces(braces: Braces<'_>) -> bool
-    ensures { result ≡ is_nil (braces_of braces.entry).inner }
-{
-    has_no_inner(braces.attrs)
-}
-
-/// Whether it is the block of its tokens alone.
-fn is_kept_leaf(leaf: Leaf<'_>) -> bool
-    ensures { result ≡ spec.is_kept_leaf (leaf_of leaf.entry) }
-{
-    match leaf {
-        Leaf::Block(label, braces) => { label.is_none() && has_plain_braces(braces) }
-        Leaf::Lit(_)
-        | Leaf::Path(_, _)
-        | Leaf::Macro(_)
-        | Leaf::Infer(_)
-        | Leaf::Range(_)
-        | Leaf::Jump(_)
-        | Leaf::Continue(_, _)
-        | Leaf::Loop(_, _, _)
-        | Leaf::Unsafe(_, _)
-        | Leaf::Const(_, _)
-        | Leaf::Async(_, _, _)
-        | Leaf::TryBlock(_, _)
-        | Leaf::Verbatim(_) => false,
-    }
-}
 
 /// Whether it is the block of its tokens alone, without attributes.
 #[tactic(auto, using(crate::proofs::KeptLeaves::blocks))]
@@ -49,7 +18,7 @@ pub(crate) fn is_kept_block<E: HasShape>(expr: &E) -> bool
     ensures { result ≡ spec.is_kept_block (E.tree expr.now) }
 {
     match bare_leaf(expr) {
-        Some(leaf) => is_kept_leaf(leaf),
+        Some(leaf) => leaf.is_plain_block(),
         None => false,
     }
 }
@@ -60,19 +29,7 @@ fn is_word(leaf: Leaf<'_>, word: &str) -> bool
 {
     match leaf {
         Leaf::Path(qself, path) => is_word_alone(qself, path, word),
-        Leaf::Lit(_)
-        | Leaf::Macro(_)
-        | Leaf::Infer(_)
-        | Leaf::Range(_)
-        | Leaf::Jump(_)
-        | Leaf::Block(_, _)
-        | Leaf::Loop(_, _, _)
-        | Leaf::Unsafe(_, _)
-        | Leaf::Const(_, _)
-        | Leaf::Continue(_, _)
-        | Leaf::Async(_, _, _)
-        | Leaf::TryBlock(_, _)
-        | Leaf::Verbatim(_) => false,
+        _ => false,
     }
 }
 

@@ -1,16 +1,14 @@
 //! Whether a node is read back but for its operands.
 
 ghost use Rattle.std.specs.Prelude.{◌≡◌};
-ghost use Rattle.syn_expr_kinds.specs.Node.{frame_of, leaf_of};
+ghost use Rattle.syn_expr_kinds.specs.Node.{leaf_of};
 ghost use Rattle.syn_expr_well.specs.Well as spec;
 ghost use Rattle.syn_grammar.specs.Stands.{is_branch};
 ghost use Rattle.syn_lower_leaves.specs.View.{mapped};
-ghost use Rattle.syn_pat_kinds.specs.View.{PatView};
 
-use crate::attributes::is_bare;
 use crate::fits::{infix_fits, leaf_fits, post_fits, trailer_fits};
 use crate::heads::{HasPatFits, frame_fits, lead_fits};
-use syn_expr_kinds::node::{Frame, HasShape, Leaf};
+use syn_expr_kinds::node::{HasShape, Leaf};
 use syn_expr_notes::kind::NodeKind;
 
 /// Whether an operator of this kind of node is read back; where it is none, nothing is asked.
@@ -56,28 +54,10 @@ pub fn own_fits<E: HasPatFits>(expr: &E) -> bool
 pub fn bare_leaf<E: HasShape>(expr: &E) -> Option<Leaf<'_>>
     ensures { mapped leaf_of result ≡ spec.bare_leaf (E.tree expr.now) }
 {
-    if !is_bare(expr.attributes()) {
+    if !expr.attributes().is_empty() {
         return None;
     }
     expr.leaf()
-}
-
-/// Whether a frame is that of an `if`.
-fn is_if<P>(frame: Frame<'_, P>) -> bool
-    ensures { (pat : P → PatView) → result ≡ spec.is_if_frame (frame_of pat frame.entry) }
-{
-    match frame {
-        Frame::If(_) => true,
-        Frame::Closure(_) => false,
-        Frame::Array(_)
-        | Frame::Tuple(_)
-        | Frame::Repeat(_)
-        | Frame::Struct(_, _, _, _)
-        | Frame::While(_, _)
-        | Frame::ForLoop(_, _, _, _)
-        | Frame::Match(_, _)
-        | Frame::Group(_) => false,
-    }
 }
 
 /// Whether it is an `if` without attributes.
@@ -85,11 +65,11 @@ fn is_if<P>(frame: Frame<'_, P>) -> bool
 pub fn is_branch<E: HasShape>(expr: &E) -> bool
     ensures { result ≡ is_branch (E.tree expr.now) }
 {
-    if !is_bare(expr.attributes()) {
+    if !expr.attributes().is_empty() {
         return false;
     }
     match expr.frame() {
-        Some(frame) => is_if(frame),
+        Some(frame) => frame.is_if(),
         None => false,
     }
 }

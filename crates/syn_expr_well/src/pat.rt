@@ -47,7 +47,7 @@ fn attrs(pat: &Pat) -> &Vec<Attribute>
 }
 
 /// Whether no attributes stand before a pattern.
-#[tactic(auto, using(crate::proofs::Orders::bares))]
+#[tactic(auto, using(syn_expr_kinds::proofs::Attributes::bares))]
 fn is_bare(pat: &Pat) -> bool
     ensures { result ≡ is_nil (spec.attributes_at (pat_of pat.now).tree) }
 {

@@ -2,8 +2,9 @@
 use Rattle.std.proofs.Common.{◌≡◌, ◌&&◌, not, Some, ap, sym, subst, ◌∙◌}
 use Rattle.syn_grammar.specs.Query as query
 use Rattle.syn_lower_leaves.specs.View.{mapped}
-use Rattle.syn_expr_kinds.specs.Node.{leaf_of, lead_seen, frame_seen, operands_at, leaf_at, lead_at, frame_at}
-use Rattle.syn_expr_queries.specs.Node.{has_some, last_of, asked}
+use Rattle.syn_expr_kinds.specs.Attrs.{has_some}
+use Rattle.syn_expr_kinds.specs.Node.{leaf_of, lead_seen, frame_seen, operands_at, leaf_at, lead_at, frame_at, last_of}
+use Rattle.syn_expr_queries.specs.Node.{asked}
 use Rattle.syn_expr_queries.specs.Right.{NodeTells}
 use Rattle.syn_expr_queries.proofs.Rights.{right-leaf, right-lead, right-frame}
 use Rattle.syn_expr_queries.proofs.right.node_right.Goals as goal

@@ -5,11 +5,25 @@ ghost use Rattle.syn_grammar.specs.Place as places;
 
 use syn_grammar::kinds::{Level, Place};
 
-/// The whole of a list, and what stands inside of delimiters.
+/// The whole of a list, an element of one, and what stands alone in delimiters.
 pub const PLAIN: Place = Place {
     level: Level::Jump,
     condition: false,
     head: false,
+};
+
+/// Before the block of an `if` or a loop and the arms of a `match`.
+pub const BEFORE_BLOCK: Place = Place {
+    level: Level::Jump,
+    condition: true,
+    head: false,
+};
+
+/// A statement, or the body of an arm.
+pub const AT_HEAD: Place = Place {
+    level: Level::Jump,
+    condition: false,
+    head: true,
 };
 
 /// The place of a right operand, or of the operand behind what stands before it, at this level.

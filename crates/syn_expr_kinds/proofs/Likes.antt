@@ -1,9 +1,18 @@
 -- An expression is like a block by its kind.
-use Rattle.std.proofs.Common.{◌≡◌, refl}
+use Rattle.std.proofs.Common.{◌≡◌, Bool, true, false, refl}
 use Rattle.syn_grammar.specs.Tree as e
 use Rattle.syn_grammar.specs.Tree.{Tree, is_block_like}
 use Rattle.syn_expr_notes.specs.Kind.{kind_at}
-use Rattle.syn_expr_ends.specs.Kind.{is_like_block}
+use Rattle.syn_expr_notes.specs.declared.kind.NodeKind.{NodeKind}
+use Rattle.syn_expr_notes.specs.declared.kind.NodeKind.TheVariants as node
+use Rattle.syn_expr_notes.specs.declared.label.LeafKind.TheVariants as leafs
+use Rattle.syn_expr_notes.specs.declared.label.FrameKind.TheVariants as frames
+
+abbrev pub is_like_block : NodeKind → Bool
+is_like_block (node.Leaf (leafs.Block labelled)) = true
+is_like_block (node.Leaf (leafs.BlockLike labelled)) = true
+is_like_block (node.Frame (frames.BlockLike labelled)) = true
+is_like_block _ = false
 
 pub like-kind : (t : Tree) → is_block_like t ≡ is_like_block (kind_at t)
 like-kind (e.leaf (e.lit x)) = refl

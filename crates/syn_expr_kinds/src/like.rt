@@ -3,13 +3,13 @@
 ghost use Rattle.std.specs.Prelude.{◌≡◌};
 ghost use Rattle.syn_grammar.specs.Tree as e;
 
-use syn_expr_kinds::node::HasKind;
+use crate::node::HasKind;
 use syn_expr_notes::kind::NodeKind;
 use syn_expr_notes::label::{FrameKind, LeafKind};
 
 /// Whether it is a block, a loop, an `if` or a `match`, behind attributes too: where it is the whole of a statement or of an
 /// arm's body, no operator goes on it (Rust Reference, "Expression statements").
-#[tactic(auto, using(crate::proofs::Blocks::likes))]
+#[tactic(auto, using(crate::proofs::Likes::likes))]
 pub fn is_block_like<E: HasKind>(x: &E) -> bool
     ensures { result ≡ e.is_block_like (E.tree x.now) }
 {
