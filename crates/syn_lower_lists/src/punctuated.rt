@@ -7,12 +7,19 @@ use std::alloc::Global;
 use syn_tokens::error::{ErrorKind, Result};
 
 /// Values with puncts between, and perhaps one at the end.
-#[derive(Drop, PartialEq)]
+#[derive(PartialEq)]
 pub struct Punctuated<T, P> {
     /// The values that puncts follow, each with its own.
     pub inner: Vec<(T, P)>,
     /// The value that none follows.
     pub last: Option<Box<T>>,
+}
+
+// Written out and not derived: a crate that lets a list go calls this, and doesn't prove it again for each type of values.
+impl<T: Drop, P: Drop> Drop for Punctuated<T, P> {
+    fn drop(self) {
+        let Punctuated { inner: _, last: _ } = self;
+    }
 }
 
 impl<T: Drop, P: Drop> Punctuated<T, P> {
