@@ -18,7 +18,7 @@ use Rattle.syn_expr_notes.specs.declared.label.LeadKind.{LeadKind}
 use Rattle.syn_expr_notes.specs.declared.label.PostKind.{PostKind}
 use Rattle.syn_expr_notes.specs.declared.label.TrailerKind.{TrailerKind}
 use Rattle.syn_expr_notes.specs.declared.label.FrameKind.{FrameKind}
-use Rattle.syn_expr_kinds.specs.Attrs.{has_some}
+use Rattle.syn_parts.specs.Form.{is_nil}
 use Rattle.syn_expr_kinds.specs.Node.{attributes_at, without_strays, operands_at, based_by}
 use Rattle.syn_expr_collect.specs.Below.{plain_note, noted_behind, AreFirst, operands_below, operands_visited}
 use Rattle.syn_expr_collect.specs.Visited.{visited, kids_visited}
@@ -38,14 +38,14 @@ twice_sort false sort.Other = refl
 twice : (n : Note) → adorned_note (adorned_note n) ≡ adorned_note n
 twice n = rw (twice_sort n.operation n.sort) refl
 
-twice_if : (b : Bool) (n : Note) → adorned_note (if b then adorned_note n else n) ≡ adorned_note n
-twice_if true n = twice n
-twice_if false n = refl
+twice_if : (b : Bool) (n : Note) → adorned_note (if b then n else adorned_note n) ≡ adorned_note n
+twice_if true n = refl
+twice_if false n = twice n
 
 pub behind_is : (t : Tree) → noted_behind (attributes_at t) (plain_note t) ≡ note_of t
 behind_is (leaf k) = refl
 behind_is (paren m t) = refl
-behind_is (adorned a more t) = sym (twice_if (has_some (attributes_at t)) (plain_note t)) ∙ ap adorned_note (behind_is t)
+behind_is (adorned a more t) = sym (twice_if (is_nil (attributes_at t)) (plain_note t)) ∙ ap adorned_note (behind_is t)
 behind_is (lead k gs t) = refl
 behind_is (mid x k y) = refl
 behind_is (post x k) = refl

@@ -5,7 +5,7 @@ use Rattle.syn_grammar.specs.declared.note.Note.{Note}
 use Rattle.syn_grammar.specs.Tree as e
 use Rattle.syn_grammar.specs.Tree.{Tree}
 use Rattle.syn_grammar.specs.Notes.{note_of, stack, kids_below, adorned_note}
-use Rattle.syn_expr_kinds.specs.Attrs.{has_some}
+use Rattle.syn_parts.specs.Form.{is_nil}
 use Rattle.syn_expr_kinds.specs.Node.{OperandTrees, no_trees, one_tree, two_trees, based, framed}
 use Rattle.syn_expr_kinds.specs.Pats.{ArmView}
 use Rattle.syn_expr_kinds.specs.View.{FieldView}
@@ -20,7 +20,7 @@ plain_note (e.adorned a more t) = plain_note t
 plain_note t = note_of t
 
 abbrev pub noted_behind : List AttributeTree → Note → Note
-noted_behind ats n = if has_some ats then adorned_note n else n
+noted_behind ats n = if is_nil ats then n else adorned_note n
 
 -- ---- its operands together
 

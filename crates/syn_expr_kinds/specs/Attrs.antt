@@ -2,16 +2,12 @@
 use Rattle.std.specs.Prelude.{Bool, true, not, ◌&&◌, if◌then◌else◌, List, [], ◌∷◌, map}
 use Rattle.std.specs.declared.vec.Vec.{Vec}
 use Rattle.std.specs.declared.alloc.Global.{Global}
-use Rattle.syn_parts.specs.Form.{is_nil}
 use Rattle.syn_parts.specs.Tree.{AttributeTree}
 use Rattle.syn_lower_leaves.specs.View.{attribute_of}
 use Rattle.syn_lower_leaves.specs.declared.attr.Attribute.{Attribute}
 
 unfoldable pub attrs_of : Vec Attribute Global → List AttributeTree
 attrs_of v = map attribute_of v.items
-
-abbrev pub has_some : List AttributeTree → Bool
-has_some ats = not (is_nil ats)
 
 -- those before the first inner one, and those from it on
 abbrev pub before_inner : List AttributeTree → List AttributeTree

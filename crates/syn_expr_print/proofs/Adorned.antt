@@ -13,7 +13,7 @@ use Rattle.syn_expr_notes.specs.Kind.{kind_at}
 use Rattle.syn_expr_notes.specs.Label as label
 use Rattle.syn_expr_notes.specs.Label.{leaf_kind, lead_kind}
 use Rattle.syn_expr_kinds.specs.Node.{OperandTrees, no_trees, one_tree, two_trees, based, framed, attributes_at, operands_at}
-use Rattle.syn_expr_kinds.specs.Attrs.{has_some}
+use Rattle.syn_parts.specs.Form.{is_nil}
 use Rattle.syn_expr_print.specs.Operation.{is_operation_kind}
 use Rattle.syn_expr_print.specs.Printing.{spelled, spelled_in, core, node_of, IsLent}
 use Rattle.syn_expr_print.specs.Shape.{ShapeTree, leaf_shape, paren_shape, lead_shape, mid_shape, post_shape, tail_shape, frame_shape, shape_at}
@@ -85,26 +85,26 @@ operation-core t l = plain-operation (core t) (ap is_adorned l ∙ plain-node (s
 
 -- ---- attributes
 
-pub adorned-text : (c : Context) (t : Tree) → IsLent t → has_some (attributes_at t) ≡ true
+pub adorned-text : (c : Context) (t : Tree) → IsLent t → is_nil (attributes_at t) ≡ false
     → spelled c t ≡ attributes_own (attributes_at t) [] ++ spelled_in (is_operation_kind (kind_at t)) (adorned_context c) (core t)
 adorned-text c t l h = by (attributes_at t) refl h
   where
-    by : (x : List AttributeTree) → attributes_at t ≡ x → has_some x ≡ true → spelled c t ≡ attributes_own (attributes_at t) [] ++ spelled_in (is_operation_kind (kind_at t)) (adorned_context c) (core t)
+    by : (x : List AttributeTree) → attributes_at t ≡ x → is_nil x ≡ false → spelled c t ≡ attributes_own (attributes_at t) [] ++ spelled_in (is_operation_kind (kind_at t)) (adorned_context c) (core t)
     by [] i g = absurd cc
     by (a ∷ more) i g =
         spelled-adorned c t a more i
         ∙ ap (λ w. attributes_own (a ∷ more) [] ++ spelled_in w (adorned_context c) (core t)) (operation-core t l)
         ∙ ap (λ z. attributes_own z [] ++ spelled_in (is_operation_kind (kind_at t)) (adorned_context c) (core t)) (sym i)
 
-pub plain-text : (c : Context) (t : Tree) → has_some (attributes_at t) ≡ false → spelled c (core t) ≡ spelled c t
+pub plain-text : (c : Context) (t : Tree) → is_nil (attributes_at t) ≡ true → spelled c (core t) ≡ spelled c t
 plain-text c t h = by (attributes_at t) refl h
   where
-    by : (x : List AttributeTree) → attributes_at t ≡ x → has_some x ≡ false → spelled c (core t) ≡ spelled c t
+    by : (x : List AttributeTree) → attributes_at t ≡ x → is_nil x ≡ true → spelled c (core t) ≡ spelled c t
     by [] i g = ap (λ z. spelled c z) (core-plain t i)
     by (a ∷ more) i g = absurd cc
 
 -- the attributes, and then the node
-pub adorned-joined : (c d : Context) (t : Tree) (ats : List AttributeTree) (w : Bool) (old now : List Tok) → IsLent t → has_some (attributes_at t) ≡ true
+pub adorned-joined : (c d : Context) (t : Tree) (ats : List AttributeTree) (w : Bool) (old now : List Tok) → IsLent t → is_nil (attributes_at t) ≡ false
     → ats ≡ attributes_at t → now ≡ old ++ attributes_own ats [] → d ≡ adorned_context c → w ≡ is_operation_kind (kind_at t)
     → now ++ spelled_in w d (core t) ≡ old ++ spelled c t
 adorned-joined c d t ats w old now l h a m e f =

@@ -1,7 +1,7 @@
 //! A whole node, in a place where it is left bare: its attributes, and behind them what it is by its shape.
 
 ghost use Rattle.std.specs.Prelude.{◌≡◌, ◌++◌, true, OnOk};
-ghost use Rattle.syn_expr_kinds.specs.Attrs.{has_some};
+ghost use Rattle.syn_parts.specs.Form.{is_nil};
 ghost use Rattle.syn_expr_kinds.specs.Node.{attributes_at};
 ghost use Rattle.syn_expr_print.specs.Operation.{is_operation_kind};
 ghost use Rattle.syn_expr_print.specs.Printing.{EndsWith, core, spelled, spelled_in};
@@ -111,7 +111,7 @@ fn adorned<E: HasPrint + HasArms, F: Fn(&mut TokenStream, &mut Notes, &E, Contex
 where
     E::Arm: HasArmHead,
     E::Pat: PutPat,
-    requires adorned { has_some (attributes_at (E.tree x.now)) ≡ true }
+    requires adorned { is_nil (attributes_at (E.tree x.now)) ≡ false }
     requires callable { Callable E.tree (size (E.tree x.now)) (F.pre bare.now) }
     requires prints { Prints E.tree (F.post bare.now) }
     requires stacked { EndsWith notes.old.left.items (below (E.tree x.now)) }

@@ -5,13 +5,13 @@ use Rattle.syn_grammar.specs.Query.{tree_leads, kept_leads}
 use Rattle.syn_grammar.specs.Tree as e
 use Rattle.syn_grammar.specs.Tree.{Tree, leaf, paren, adorned, lead, mid, post, tail, frame}
 use Rattle.syn_expr_notes.specs.Kind.{kind_at}
-use Rattle.syn_expr_kinds.specs.Attrs.{has_some}
+use Rattle.syn_parts.specs.Form.{is_nil}
 use Rattle.syn_expr_kinds.specs.Node.{attributes_at, operands_at, first_of}
 use Rattle.syn_expr_queries.specs.Node.{is_labelled, word_behind, asked, kept_at}
 use Rattle.syn_expr_kinds.proofs.Lents.{first-based}
 
 -- behind attributes none is first
-pub leads-adorned : (w : Bool) (t : Tree) → has_some (attributes_at t) ≡ true → false ≡ tree_leads w t
+pub leads-adorned : (w : Bool) (t : Tree) → is_nil (attributes_at t) ≡ false → false ≡ tree_leads w t
 leads-adorned w (leaf k) h = absurd cc
 leads-adorned w (paren m t) h = absurd cc
 leads-adorned w (adorned a more t) h = refl
@@ -22,7 +22,7 @@ leads-adorned w (tail b k ks) h = absurd cc
 leads-adorned w (frame k ks) h = absurd cc
 
 -- that of the operand with which it begins
-pub leads-first : (w v : Bool) (t : Tree) → has_some (attributes_at t) ≡ false → word_behind (kind_at t) ≡ Some v → asked (tree_leads v) (first_of (operands_at t)) ≡ tree_leads w t
+pub leads-first : (w v : Bool) (t : Tree) → is_nil (attributes_at t) ≡ true → word_behind (kind_at t) ≡ Some v → asked (tree_leads v) (first_of (operands_at t)) ≡ tree_leads w t
 leads-first w v (leaf k) h g = absurd cc
 leads-first w v (paren m t) h g = absurd cc
 leads-first w v (adorned a more t) h g = absurd cc
@@ -34,7 +34,7 @@ leads-first w v (tail b k ks) h g = rw (first-based b ks) cc
 leads-first w v (frame k ks) h g = absurd cc
 
 -- kept tokens
-pub leads-kept : (w : Bool) (ts : List Tok) (t : Tree) → has_some (attributes_at t) ≡ false → kept_at t ≡ Some ts → kept_leads w ts ≡ tree_leads w t
+pub leads-kept : (w : Bool) (ts : List Tok) (t : Tree) → is_nil (attributes_at t) ≡ true → kept_at t ≡ Some ts → kept_leads w ts ≡ tree_leads w t
 leads-kept w ts (leaf (e.verbatim us)) h g = cc
 leads-kept w ts (leaf (e.lit x)) h g = absurd cc
 leads-kept w ts (leaf (e.path q p)) h g = absurd cc
@@ -58,7 +58,7 @@ leads-kept w ts (tail b k ks) h g = absurd cc
 leads-kept w ts (frame k ks) h g = absurd cc
 
 -- any other is labelled or not by its kind
-pub leads-kind : (w : Bool) (t : Tree) → has_some (attributes_at t) ≡ false → word_behind (kind_at t) ≡ None → kept_at t ≡ None → is_labelled (kind_at t) ≡ tree_leads w t
+pub leads-kind : (w : Bool) (t : Tree) → is_nil (attributes_at t) ≡ true → word_behind (kind_at t) ≡ None → kept_at t ≡ None → is_labelled (kind_at t) ≡ tree_leads w t
 leads-kind w (leaf (e.verbatim us)) h g n = absurd cc
 leads-kind w (leaf (e.lit x)) h g n = refl
 leads-kind w (leaf (e.path q p)) h g n = refl

@@ -5,7 +5,7 @@ use Rattle.syn_expr_notes.specs.Kind.{kind_at}
 use Rattle.syn_grammar.specs.Query.{leaf_brace, lead_brace, post_brace, return_brace, tree_brace, kids_brace}
 use Rattle.syn_grammar.specs.Tree as e
 use Rattle.syn_grammar.specs.Tree.{Tree, Kids, Body, Piece, Ending, Leaf, Lead, Post, Frame, leaf, paren, adorned, lead, mid, post, tail, frame, none, kid}
-use Rattle.syn_expr_kinds.specs.Attrs.{has_some}
+use Rattle.syn_parts.specs.Form.{is_nil}
 use Rattle.syn_expr_kinds.specs.Node.{framed, attributes_at, without_strays, operands_at, leaf_at, lead_at, post_at, frame_at, last_of}
 use Rattle.syn_expr_queries.specs.Frames.{is_body, is_loop, is_if, is_match, frame_holds, frames_hold}
 use Rattle.syn_expr_queries.specs.Node.{is_operation, asked}
@@ -171,7 +171,7 @@ and_false : (b : Bool) → (b && false) ≡ false
 and_false true = refl
 and_false false = refl
 
-pub right-leaf : (b : Bool) (k : Leaf) (t : Tree) → leaf_at t ≡ Some k → leaf_brace (b && not (has_some (attributes_at t))) k ≡ tree_brace b t
+pub right-leaf : (b : Bool) (k : Leaf) (t : Tree) → leaf_at t ≡ Some k → leaf_brace (b && is_nil (attributes_at t)) k ≡ tree_brace b t
 right-leaf b k (leaf l) h = rw (and_true b) cc
 right-leaf b k (paren m t) h = absurd cc
 right-leaf b k (adorned a more t) h = rw (and_false b) (right-leaf false k t h)

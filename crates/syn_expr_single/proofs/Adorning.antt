@@ -8,7 +8,7 @@ use Rattle.syn_parts.specs.PatOwn.{attributes_own}
 use Rattle.syn_grammar.specs.Next.{enclosed}
 use Rattle.syn_grammar.specs.Rule.{is_operation}
 use Rattle.syn_grammar.specs.Tree.{Tree, adorned, adorn}
-use Rattle.syn_expr_kinds.specs.Attrs.{has_some}
+use Rattle.syn_parts.specs.Form.{is_nil}
 use Rattle.syn_expr_kinds.specs.Printed.{whole}
 use Rattle.syn_expr_print.specs.Printing.{spelled, spelled_in}
 use Rattle.syn_expr_print.proofs.Spellings.{spelled-adorned, spelled-bare, spelled-wrapped}
@@ -26,11 +26,11 @@ behind-plain (a ∷ more) t h =
     ∙ ap (λ w. attributes_own (a ∷ more) [] ++ spelled_in w enclosed t) h
     ∙ ap (λ l. attributes_own (a ∷ more) [] ++ l) (spelled-bare enclosed t)
 
-pub operation-bare : (ats : List AttributeTree) (t : Tree) → has_some ats ≡ false → whole enclosed (adorn ats t) ≡ spelled enclosed t
+pub operation-bare : (ats : List AttributeTree) (t : Tree) → is_nil ats ≡ true → whole enclosed (adorn ats t) ≡ spelled enclosed t
 operation-bare [] t h = whole-bare t
 operation-bare (a ∷ more) t h = absurd cc
 
-pub operation-wrapped : (ats : List AttributeTree) (t : Tree) → has_some ats ≡ true → is_operation t ≡ true
+pub operation-wrapped : (ats : List AttributeTree) (t : Tree) → is_nil ats ≡ false → is_operation t ≡ true
     → whole enclosed (adorn ats t) ≡ attributes_own ats [] ++ own_parts.enclosed del.Parenthesis (spelled enclosed t) []
 operation-wrapped [] t h o = absurd cc
 operation-wrapped (a ∷ more) t h o =
@@ -46,7 +46,7 @@ plain-written ats t x t0 t1 t2 h s p g =
     g ∙ ap (λ l. l ++ x) p ∙ append_assoc t0 (attributes_own ats []) x
     ∙ ap (λ l. t0 ++ (attributes_own ats [] ++ l)) (sym s) ∙ ap (λ l. t0 ++ l) (sym (behind-plain ats t h))
 
-pub wrapped-written : (ats : List AttributeTree) (t : Tree) (x t0 t1 t2 : List Tok) → has_some ats ≡ true → is_operation t ≡ true → x ≡ spelled enclosed t
+pub wrapped-written : (ats : List AttributeTree) (t : Tree) (x t0 t1 t2 : List Tok) → is_nil ats ≡ false → is_operation t ≡ true → x ≡ spelled enclosed t
     → t1 ≡ t0 ++ attributes_own ats [] → t2 ≡ t1 ++ own_parts.enclosed del.Parenthesis x [] → t2 ≡ t0 ++ whole enclosed (adorn ats t)
 wrapped-written ats t x t0 t1 t2 h o s p g =
     let y = own_parts.enclosed del.Parenthesis x [] in
