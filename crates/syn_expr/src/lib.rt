@@ -88,7 +88,6 @@ pub use syn_expr_all::RangeLimits;
 pub use syn_expr_all::ShortFieldPat;
 pub use syn_expr_all::UnOp;
 pub use syn_expr_all::expr;
-pub use syn_expr_all::parse_field_value;
 pub use syn_expr_all::pat;
 pub use syn_expr_fixup::FixupContext;
 pub use syn_expr_fixup::fixup;

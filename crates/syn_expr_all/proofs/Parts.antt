@@ -17,7 +17,7 @@ use Rattle.syn_expr_blocks.specs.Arms.{ArmStands}
 use Rattle.syn_expr_blocks.specs.Parts.{one_arm}
 use Rattle.syn_expr_blocks.proofs.Arms.{arm_sound, arm_complete, arms_sound, arms_complete}
 use Rattle.syn_expr_blocks.proofs.Parts.{arm_is_less}
-use Rattle.syn_expr_lists.specs.FieldStands.{FieldStands}
+use Rattle.syn_expr_kinds.specs.FieldStands.{FieldStands}
 use Rattle.syn_expr_lists.specs.Fields.{one_field}
 use Rattle.syn_expr_lists.proofs.FieldStands.{field_sound, field_complete, field_is_less}
 

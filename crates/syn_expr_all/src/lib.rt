@@ -42,7 +42,6 @@ pub use pat::{
     PatTupleStruct, PatType, PatWild, RangeBound, ShortFieldPat,
 };
 pub use print::print_counted;
-pub use single::parse_field_value;
 pub use syn_expr_parts::label::Label;
 pub use syn_expr_parts::member::{Index, Member};
 pub use syn_expr_parts::modifiers::{BlockModifiers, ClosureModifiers};

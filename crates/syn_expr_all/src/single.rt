@@ -1,20 +1,19 @@
 //! Arms and fields by themselves (Rust Reference, "`match` expressions", "Struct expressions").
 
 ghost use Rattle.std.specs.Prelude.{◌≡◌, ◌≤◌, ◌+◌, [], List, map, IfErr, IfOk, MatchResult};
-ghost use Rattle.syn_expr_all.specs.View.{arm_of, tree_of};
+ghost use Rattle.syn_expr_all.specs.View.{arm_of};
 ghost use Rattle.syn_expr_blocks.specs.Arms.{ArmStands};
 ghost use Rattle.syn_expr_kinds.specs.Pats.{ArmView, arms};
-ghost use Rattle.syn_expr_kinds.specs.View.{FieldView, field_value_of};
-ghost use Rattle.syn_expr_lists.specs.FieldStands.{FieldStands};
 ghost use Rattle.syn_grammar.specs.Slot as slot;
 ghost use Rattle.syn_grammar.specs.Stands.{Operands};
 ghost use Rattle.syn_grammar.specs.Tree.{Kids};
 ghost use Rattle.syn_tokens.specs.Input.{IsAfter};
 ghost use Rattle.syn_tokens.specs.Tok.{Tok, weight};
 
-use crate::expr::{Arm, FieldValue};
+use crate::expr::{Arm, Expr, FieldValue};
 use crate::read_expr::expr_at;
 use syn_expr_blocks::blocks::Blocks;
+use syn_expr_kinds::parse::ParseField;
 use syn_expr_lists::lists::Lists;
 use syn_tokens::buffer::{Parse, ParseBuffer};
 use syn_tokens::error::{ErrorKind, Result};
@@ -84,27 +83,16 @@ impl Arm {
     }
 }
 
-/// Reads a field of a struct expression, without the comma behind it: outer attributes, a member, and its value behind a colon,
-/// which only a name may be without (Rust Reference, "Struct expressions"). It is read exactly where one stands, unless memory
-/// runs out. It is refused as `ExpectedMember` where no member stands, as `ExpectedToken` of the colon where an index has none,
-/// and as its attributes, its index and its value are; the input then stays where it was.
-///
-/// It is no `Parse`, since `FieldValue` names a generic struct of a lower crate, and this crate can have no `impl` of another
-/// crate's trait for it.
-#[tactic(auto, using(crate::proofs::Parts::fields))]
-pub fn parse_field_value(input: &mut ParseBuffer<'_>) -> Result<FieldValue>
-    ensures read { IfOk result (λ x. FieldStands input.old.rest (field_value_of tree_of x) input.new.rest) }
-    ensures found { (x : FieldView) (rest : List Tok) → FieldStands input.old.rest x rest → MatchResult result (λ v. (field_value_of tree_of v ≡ x) × (input.new.rest ≡ rest)) (λ e. e.kind ≡ ErrorKind.OutOfMemory) }
-    ensures noted { input.new.noted ≡ input.old.noted }
-    ensures after { IsAfter input.old input.new }
-    ensures stays { IfErr result (λ _. input.new ≡ input.old) }
-    ensures moves { IfOk result (λ _. 1 + weight input.new.rest ≤ weight input.old.rest) }
-{
-    let mut ahead = input.fork()?;
-    let x = match (Lists { expr: expr_at }).field_value(&mut ahead) {
-        Ok(x) => x,
-        Err(e) => return Err(e),
-    };
-    input.advance_to(&ahead);
-    Ok(x)
+impl ParseField for Expr {
+    /// Reads a field on a fork, so that the input stays where it was where it is refused.
+    #[tactic(auto, using(crate::proofs::Parts::fields))]
+    fn parse_field(input: &mut ParseBuffer<'_>) -> Result<FieldValue> {
+        let mut ahead = input.fork()?;
+        let x = match (Lists { expr: expr_at }).field_value(&mut ahead) {
+            Ok(x) => x,
+            Err(e) => return Err(e),
+        };
+        input.advance_to(&ahead);
+        Ok(x)
+    }
 }

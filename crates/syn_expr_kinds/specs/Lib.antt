@@ -5,3 +5,4 @@ pub mod Node
 pub mod Pats
 pub mod Printed
 pub mod View
+pub mod FieldStands

@@ -14,6 +14,7 @@ pub mod leaf;
 pub mod like;
 pub mod node;
 pub mod operation;
+pub mod parse;
 pub mod pattern;
 pub mod put;
 pub mod shape;

@@ -16,7 +16,7 @@ use Rattle.syn_grammar.proofs.HeadMoves.{IsLess, left_less, less_then}
 use Rattle.syn_grammar.proofs.Lesses.{here}
 use Rattle.syn_expr_heads.proofs.Turns.{expr_less}
 use Rattle.syn_expr_kinds.specs.View.{FieldView}
-use Rattle.syn_expr_lists.specs.FieldStands.{FieldStands, with_colon, by_name}
+use Rattle.syn_expr_kinds.specs.FieldStands.{FieldStands, with_colon, by_name}
 use Rattle.syn_expr_lists.specs.Fields.{field_by, one_field}
 
 by_piece : (k : Piece) (l m : List Tok) (q : FieldView × List Tok) → (piece_form slot.fields).behind k l ≡ Some m → field_by k m ≡ Some q → FieldStands l q.0 q.1

@@ -1,4 +1,3 @@
 pub mod Elements
-pub mod FieldStands
 pub mod Fields
 pub mod View

@@ -1,6 +1,6 @@
 use Rattle.std.proofs.Common.{ap}
 use Rattle.syn_expr_all.proofs.Parts.{field_stands, field_refused}
-use Rattle.syn_expr_all.proofs.single.parse_field_value.Goals as goal
+use Rattle.syn_expr_all.proofs.single.ExprParseField.parse_field.Goals as goal
 
 pub returns-clause-read : goal.returns-clause-read
 returns-clause-read c =

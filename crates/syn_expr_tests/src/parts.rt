@@ -1,0 +1,94 @@
+//! Arms and fields read by themselves: as they are printed.
+
+use std::alloc::Global;
+use std::test::Fail;
+use syn_expr::token::{Brace, Match};
+use syn_expr::{
+    Arm, Error, Expr, ExprMatch, ExprParen, FieldValue, HeldExpr, Parse, ParseBuffer, ToTokens,
+    TokenStream, lex, parse_str, to_text,
+};
+
+/// Fields.
+const FIELDS: [&str; 4] = ["a: 1", "0: x", "b", "#[c] d: e + f"];
+
+/// Whether a field that is read by itself is printed as its own tokens.
+fn is_field(alloc: Global, text: &str) -> Result<bool, Error> {
+    let tokens = lex(alloc, text)?;
+    let mut input = ParseBuffer::new(&tokens)?;
+    let field = match FieldValue::parse(&mut input) {
+        Ok(field) => field,
+        Err(e) => return Err(e),
+    };
+    let mut printed = TokenStream::new(alloc);
+    let put = field.to_tokens(&mut printed);
+    let FieldValue {
+        attrs: _,
+        member: _,
+        colon_token: _,
+        expr,
+    } = field;
+    let _held = HeldExpr { expr };
+    put?;
+    Ok(to_text(&printed)? == to_text(&tokens)?)
+}
+
+#[test]
+fn fields_are_read_by_themselves(rt: HostRuntime) -> Result<(), Fail> {
+    for text in FIELDS {
+        assert!(rt; is_field(rt.alloc(), text)?);
+    }
+    Ok(())
+}
+
+/// Arms, and the `match` that has them.
+const ARMS: [(&str, &str); 3] = [
+    ("", "match x {}"),
+    ("a => b", "match x { a => b }"),
+    (
+        "#[k] a | b if c => {} d => e + f, _ => return,",
+        "match x { #[k] a | b if c => {} d => e + f, _ => return, }",
+    ),
+];
+
+/// A `match` whose arms are read by themselves.
+fn choice(alloc: Global, text: &str) -> Result<HeldExpr, Error> {
+    let tokens = lex(alloc, text)?;
+    let mut input = ParseBuffer::new(&tokens)?;
+    let ExprParen {
+        attrs,
+        paren_token: _,
+        expr,
+    } = match parse_str::<HeldExpr>(alloc, "(x)")?.into_inner() {
+        Expr::Paren(paren) => paren,
+        expr => return Ok(HeldExpr { expr }),
+    };
+    match Arm::parse_multiple(&mut input) {
+        Ok(arms) => Ok(HeldExpr {
+            expr: Expr::Match(ExprMatch {
+                attrs,
+                match_token: Match::default(),
+                expr,
+                brace_token: Brace::default(),
+                arms,
+            }),
+        }),
+        Err(e) => {
+            let _held = HeldExpr {
+                expr: Box::into_inner(expr),
+            };
+            Err(e)
+        }
+    }
+}
+
+#[test]
+fn arms_are_read_by_themselves(rt: HostRuntime) -> Result<(), Fail> {
+    for (text, whole) in ARMS {
+        let held = choice(rt.alloc(), text)?;
+        let mut printed = TokenStream::new(rt.alloc());
+        held.expr.to_tokens(&mut printed)?;
+        let tokens = lex(rt.alloc(), whole)?;
+        assert_eq!(rt; to_text(&printed)?.as_str(), to_text(&tokens)?.as_str());
+    }
+    Ok(())
+}
