@@ -1,6 +1,6 @@
 -- What stands before an operand, what is read where no operand follows it, and the tokens that `become` keeps.
 use Rattle.std.specs.Prelude.{not, if◌then◌else◌}
-use Rattle.std.proofs.Common.{◌≡◌, ℕ, zero, suc, ◌<◌, Bool, true, false, ⊎_elim, List, [], ◌∷◌, ◌++◌, drop, codes, Option, Some, None, refl, sym, ◌∙◌, subst, arith}
+use Rattle.std.proofs.Common.{◌≡◌, ℕ, zero, suc, ◌<◌, Bool, true, false, ⊎_elim, List, [], ◌∷◌, ◌++◌, drop, codes, Option, Some, None, refl, sym, ap, ◌∙◌, subst, arith}
 use Rattle.syn_lexer.specs.declared.lexeme.Delimiter.TheVariants as del
 use Rattle.syn_tokens.specs.Tok.{Tok, weight}
 use Rattle.syn_tokens.specs.Front.{group_at}
@@ -22,7 +22,7 @@ use Rattle.syn_grammar.specs.Tree.{Tree, ClosureHead, Jump, Lead, leaf, frame, n
 use Rattle.syn_grammar.specs.Head.{minus, let_word, raw_at, raw_word, range_at, range_op, jump_at, jump_head, leaf_form, lead_form}
 use Rattle.syn_grammar.specs.Slot as slot
 use Rattle.syn_grammar.specs.Slot.{piece_form}
-use Rattle.syn_grammar.specs.Stands.{frame_stands}
+use Rattle.syn_grammar.specs.Stands.{frame_stands, lead_stands}
 use Rattle.syn_grammar.specs.Read as read
 use Rattle.syn_grammar.specs.Read.{Reading, operands, bare_operands, content, framed_by, only_if, led, leaf_read, kept_from, become_word, expr}
 use Rattle.syn_grammar.proofs.Chains.{chosen}
@@ -34,7 +34,7 @@ use Rattle.syn_grammar.proofs.Lesses.{node_less}
 use Rattle.syn_grammar.proofs.SoundAtoms.{no_leaf, no_some, skip}
 use Rattle.syn_expr_front.specs.Begins.{atom_of, atom_by}
 use Rattle.syn_expr_front.specs.declared.start.Atom.TheVariants as atom
-use Rattle.syn_expr_atoms.specs.Led.{behind_or}
+use Rattle.syn_expr_atoms.specs.Led.{behind, behind_or, body_of, block}
 
 -- what is left weighs less
 pub lead_less : (l : List Tok) (k : Lead) (m : List Tok) → lead_form.reads l ≡ Some (k, m) → weight m < weight l
@@ -124,6 +124,18 @@ module _ (rec : Place → Reading Tree) where
           ≡ and_then o (λ i n. only_if (not (is_default h.output)) (Some (frame (e.closure_block h) (kid e.output_block e.no_ending (plain_block i) none), n)))
       by_group None g = rw g refl
       by_group (Some q) g = rw (g, none_left (weight l) q.1 (omega (arith, taken del.Brace l q.0 q.1 g))) refl
+
+none_of : (h : ClosureHead) (o : Option (List Tok × List Tok)) → and_then o (λ i n. Some (plain_block i, n)) ≡ None
+    → and_then o (λ i n. only_if (not (is_default h.output)) (Some (frame (e.closure_block h) (kid e.output_block e.no_ending (plain_block i) none), n))) ≡ None
+none_of h None g = refl
+none_of h (Some q) g = absurd cc
+
+-- where no block stands behind an output, no body does
+pub output_refused : {K : Type 0} (p : Place) (h : ClosureHead) (l : List Tok) → is_default h.output ≡ false → (K → block l ≡ None) → K → body_of p h l ≡ None
+unfolding lead_stands
+output_refused p h l d b k =
+    ap (λ c. if c then behind p (e.closure h) l else framed_by expr p (e.closure_block h) l) d
+    ∙ (block_reads expr p h l ∙ none_of h (group_at del.Brace l) (b k))
 
 -- ---- what an expression leaves
 
