@@ -320,7 +320,7 @@ where
 /// Prints the operands of a node that are in places of their own, with what stands between them: those of a frame, or what
 /// a trailer holds. `needs_comma`: one is needed behind the last; `brace`: those round the arms of a `match`.
 #[cycle(frame)]
-#[tactic(auto, using(syn_tokens::proofs::Fronts::fronts, crate::proofs::Stacks::takes, crate::proofs::Kids::kids, crate::proofs::Lents::based, crate::proofs::Choices::choices, crate::proofs::Turns::nils))]
+#[tactic(auto, using(syn_tokens::proofs::Fronts::fronts, crate::proofs::Stacks::takes, crate::proofs::Kids::kids, syn_expr_kinds::proofs::Lents::based, crate::proofs::Choices::choices, crate::proofs::Turns::nils))]
 pub fn kids<E: HasPrint + HasArms, F: Fn(&mut TokenStream, &mut Notes, &E, Context) -> Grown>(
     bare: &F,
     tokens: &mut TokenStream,

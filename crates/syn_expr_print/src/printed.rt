@@ -1,6 +1,6 @@
 //! A whole node, in a place where it is left bare: its attributes, and behind them what it is by its shape.
 
-ghost use Rattle.std.specs.Prelude.{◌≡◌, ◌++◌, true, OnOk};
+ghost use Rattle.std.specs.Prelude.{◌≡◌, ◌++◌, false, OnOk};
 ghost use Rattle.syn_parts.specs.Form.{is_nil};
 ghost use Rattle.syn_expr_kinds.specs.Node.{attributes_at};
 ghost use Rattle.syn_expr_print.specs.Operation.{is_operation_kind};
