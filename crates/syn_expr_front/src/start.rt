@@ -1,7 +1,7 @@
 //! Which of the operands, of the leaves, of the leads and of the trailers is read, by what stands first. No other part of the
 //! input decides it.
 
-ghost use Rattle.std.specs.Prelude.{◌≡◌};
+ghost use Rattle.std.specs.Prelude.{◌≡◌, true};
 ghost use Rattle.syn_expr_front.specs.Begins as begins;
 ghost use Rattle.syn_expr_front.specs.Begins.{AtomsAreChosen, LeavesAreChosen, LeadsAreChosen, TrailersAreChosen, NamesAreChosen};
 
@@ -11,9 +11,11 @@ use crate::atom::{
     try_block_at,
 };
 use crate::sign::{bracket_at, dot_at, question_at};
+use syn_lexer::reserved::is_reserved_word;
 use syn_lower_lists::front::round_at;
 use syn_tokens::buffer::ParseBuffer;
 use syn_tokens::token::{And, Await, Continue, Let, Minus, Not, Star, Underscore, Unsafe};
+use syn_tokens::tree::TokenTree;
 
 /// Which operand is read.
 #[derive(Clone, Copy, Debug, PartialEq, Eq)]
@@ -137,10 +139,27 @@ fn worded(input: &ParseBuffer<'_>) -> Atom
     Atom::Named
 }
 
+/// Whether a name stands first, which begins a path, a macro or a struct expression and nothing else.
+#[tactic(auto, using(crate::proofs::Names::names_begin_paths))]
+fn name_at(input: &ParseBuffer<'_>) -> bool
+    ensures { result ≡ true → begins.atom_of input.now.rest ≡ Atom.Named }
+{
+    match input.first() {
+        Some(TokenTree::Ident(word)) => {
+            !is_reserved_word(word.as_str()) && word.as_str() != "builtin"
+        }
+        _ => false,
+    }
+}
+
 /// Which operand is read (Rust Reference, "Expressions").
 pub fn atom_at(input: &ParseBuffer<'_>) -> Atom
     ensures { result ≡ begins.atom_of input.now.rest }
 {
+    // Most operands begin with a name, so no other word is compared with it first.
+    if name_at(input) {
+        return Atom::Named;
+    }
     if leaf_at(input) {
         return Atom::Leaf;
     }
