@@ -1,14 +1,17 @@
--- What is told of a pattern by its attributes, and what is left of it without them.
-use Rattle.std.proofs.Common.{◌≡◌, false, List, [], ◌∷◌, map, refl, ap, sym, ◌∙◌, rules}
+-- What a pattern's reader leaves, what is told of a pattern by its attributes, and what is left of it without them.
+use Rattle.std.proofs.Common.{◌≡◌, Bool, false, Some, List, [], ◌∷◌, map, refl, ap, sym, ◌∙◌, rules}
 use Rattle.std.specs.Prelude.{◌==◌, length}
 use Rattle.std.specs.Vec.{vec_len}
 use Rattle.std.specs.declared.vec.Vec.{Vec}
 use Rattle.std.specs.declared.alloc.Global.{Global}
+use Rattle.syn_grammar.proofs.Heads.{heads_readable}
 use Rattle.syn_grammar.specs.Tree.{Tree}
 use Rattle.syn_lower_leaves.specs.declared.attr.Attribute.{Attribute}
 use Rattle.syn_parts.specs.Tree.{AttributeTree}
 use Rattle.syn_parts.specs.Pat as t
-use Rattle.syn_parts.specs.Pat.{PatTree, is_rest}
+use Rattle.syn_parts.specs.Pat.{PatTree, is_rest, pattern}
+use Rattle.syn_tokens.specs.Input.{IsTail}
+use Rattle.syn_tokens.specs.Tok.{Tok}
 use Rattle.syn_pat_kinds.specs.View.{PatView, attribute_of, attributed_by, attributes_of, view_with}
 use Rattle.syn_pat_kinds.specs.declared.pat.PatRest.{PatRest}
 use Rattle.syn_pat_readers.specs.Reads.{unattributed}
@@ -24,6 +27,11 @@ use Rattle.syn_expr_all.specs.declared.pat.Pat.TheVariants as pt
 use Rattle.syn_expr_all.specs.declared.pat.PatGuard.{PatGuard, out-PatGuard}
 use Rattle.syn_expr_all.specs.View.{pat_layer, pat_of, views}
 use Rattle.syn_expr_all.proofs.TreeOf.{pat_out, guard-is}
+
+-- ---- what is left
+
+pub pattern_tail : (multi : Bool) (l n : List Tok) (x : PatTree) → (pattern multi).reads l ≡ Some (x, n) → IsTail n l
+pattern_tail multi l n x h = let r = heads_readable.patterns multi in r.tail l n x h
 
 -- ---- whether a pattern is `..` alone
 

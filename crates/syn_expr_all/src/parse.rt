@@ -3,7 +3,7 @@
 ghost use Rattle.std.specs.Prelude.{◌≡◌, ◌≤◌, ◌+◌, IfErr, IfOk, List, MatchResult};
 ghost use Rattle.syn_expr_all.specs.View.{tree_of};
 ghost use Rattle.syn_grammar.specs.Front.{begins_expr};
-ghost use Rattle.syn_grammar.specs.Place.{at_head, before_block};
+ghost use Rattle.syn_grammar.specs.Place.{at_head, before_block, plain};
 ghost use Rattle.syn_grammar.specs.Stands.{Stands};
 ghost use Rattle.syn_grammar.specs.Tree.{Tree};
 ghost use Rattle.syn_tokens.specs.Input.{IsAfter};
@@ -65,7 +65,14 @@ impl Parse for Expr {
     /// - as its literals, paths, types, patterns, attributes and macros are;
     /// - as `ExpectedToken` where another token stands than the one that must, and as `UnexpectedToken` where nothing reads
     ///   it.
-    fn parse(input: &mut ParseBuffer<'_>) -> Result<Self> {
+    fn parse(input: &mut ParseBuffer<'_>) -> Result<Self>
+        ensures read { IfOk result (λ x. Stands plain input.old.rest (tree_of x) input.new.rest) }
+        ensures found { (x : Tree) (rest : List Tok) → Stands plain input.old.rest x rest → MatchResult result (λ v. (tree_of v ≡ x) × (input.new.rest ≡ rest)) (λ e. e.kind ≡ ErrorKind.OutOfMemory) }
+        ensures noted { input.new.noted ≡ input.old.noted }
+        ensures after { IsAfter input.old input.new }
+        ensures stays { IfErr result (λ _. input.new ≡ input.old) }
+        ensures moves { IfOk result (λ _. 1 + weight input.new.rest ≤ weight input.old.rest) }
+    {
         ahead(input, PLAIN)
     }
 }

@@ -1,11 +1,12 @@
 //! The reader of patterns, which ties the knot of `syn_pat_readers`, and those that stand on it.
 
-ghost use Rattle.std.specs.Prelude.{◌≡◌, ◌≤◌, [], true, false, IfOk};
+ghost use Rattle.std.specs.Prelude.{◌≡◌, ◌≤◌, [], true, false, IfErr, IfOk};
 ghost use Rattle.syn_expr_all.specs.View.{guard_of, pat_of};
 ghost use Rattle.syn_lower_leaves.specs.Reads.{Reads};
 ghost use Rattle.syn_parts.specs.Pat as pat;
 ghost use Rattle.syn_pat_kinds.specs.View.{view_with};
 ghost use Rattle.syn_pat_readers.specs.Reads.{unattributed};
+ghost use Rattle.syn_tokens.specs.Input.{IsAfter};
 ghost use Rattle.syn_tokens.specs.Tok.{weight};
 
 use crate::pat::{
@@ -86,21 +87,42 @@ impl ReadPats for Pat {
     }
 }
 
+/// Reads a pattern on a fork, so that the input stays where it was where the pattern is refused.
+#[tactic(auto, using(crate::proofs::ReadPat::pattern_tail))]
+fn ahead(input: &mut ParseBuffer<'_>, multi: bool) -> Result<Pat>
+    ensures value { Reads (λ x. (pat_of x).tree) ((pat.pattern multi).reads input.old.rest) result input.new.rest }
+    ensures unguarded { IfOk result (λ x. (pat_of x).guards ≡ []) }
+    ensures noted { input.new.noted ≡ input.old.noted }
+    ensures after { IsAfter input.old input.new }
+    ensures stays { IfErr result (λ _. input.new ≡ input.old) }
+    ensures shrinks { weight input.new.rest ≤ weight input.old.rest }
+{
+    let mut ahead = input.fork()?;
+    let x = match pat_at(&mut ahead, multi) {
+        Ok(x) => x,
+        Err(e) => return Err(e),
+    };
+    input.advance_to(&ahead);
+    Ok(x)
+}
+
 impl Pat {
     /// Reads a pattern without alternatives; a `|` behind it is left (Rust Reference, "Patterns", `PatternNoTopAlt`).
     ///
     /// It is read exactly where one stands, unless memory runs out, and has neither attributes nor a guard. It is refused as
     /// `ExpectedPart` of a path where no pattern begins, of a literal where no number follows a `-`, and of a macro where no
     /// group follows the `!` of one; as `ExpectedToken` where another token stands than the one that must, as
-    /// `UnexpectedToken` where one is left in a group, and inside as members, types and attributes are. Tokens may then have
-    /// been passed over.
+    /// `UnexpectedToken` where one is left in a group, and inside as members, types and attributes are. The input then
+    /// stays where it was.
     pub fn parse_single(input: &mut ParseBuffer<'_>) -> Result<Pat>
         ensures value { Reads (λ x. (pat_of x).tree) ((pat.pattern false).reads input.old.rest) result input.new.rest }
         ensures unguarded { IfOk result (λ x. (pat_of x).guards ≡ []) }
         ensures noted { input.new.noted ≡ input.old.noted }
+        ensures after { IsAfter input.old input.new }
+        ensures stays { IfErr result (λ _. input.new ≡ input.old) }
         ensures shrinks { weight input.new.rest ≤ weight input.old.rest }
     {
-        pat_at(input, false)
+        ahead(input, false)
     }
 
     /// Reads a pattern with alternatives or without, and `|` before the first or not (Rust Reference, "Or-patterns"). A
@@ -110,8 +132,10 @@ impl Pat {
         ensures value { Reads (λ x. (pat_of x).tree) ((pat.pattern true).reads input.old.rest) result input.new.rest }
         ensures unguarded { IfOk result (λ x. (pat_of x).guards ≡ []) }
         ensures noted { input.new.noted ≡ input.old.noted }
+        ensures after { IsAfter input.old input.new }
+        ensures stays { IfErr result (λ _. input.new ≡ input.old) }
         ensures shrinks { weight input.new.rest ≤ weight input.old.rest }
     {
-        pat_at(input, true)
+        ahead(input, true)
     }
 }

@@ -18,25 +18,6 @@ use syn_expr_lists::lists::Lists;
 use syn_tokens::buffer::{Parse, ParseBuffer};
 use syn_tokens::error::{ErrorKind, Result};
 
-/// Reads an arm. The input stays where it was where it is refused.
-#[tactic(auto, using(crate::proofs::Parts::arms))]
-fn arm_ahead(input: &mut ParseBuffer<'_>) -> Result<Arm>
-    ensures read { IfOk result (λ x. ArmStands input.old.rest (arm_of x) input.new.rest) }
-    ensures found { (x : ArmView) (rest : List Tok) → ArmStands input.old.rest x rest → MatchResult result (λ v. (arm_of v ≡ x) × (input.new.rest ≡ rest)) (λ e. e.kind ≡ ErrorKind.OutOfMemory) }
-    ensures noted { input.new.noted ≡ input.old.noted }
-    ensures after { IsAfter input.old input.new }
-    ensures stays { IfErr result (λ _. input.new ≡ input.old) }
-    ensures moves { IfOk result (λ _. 1 + weight input.new.rest ≤ weight input.old.rest) }
-{
-    let mut ahead = input.fork()?;
-    let x = match (Blocks { expr: expr_at }).arm(&mut ahead) {
-        Ok(x) => x,
-        Err(e) => return Err(e),
-    };
-    input.advance_to(&ahead);
-    Ok(x)
-}
-
 impl Parse for Arm {
     ghost use Rattle.syn_expr_all.specs.View.{arm_of};
     ghost use Rattle.syn_expr_blocks.specs.Arms.{ArmStands};
@@ -56,8 +37,22 @@ impl Parse for Arm {
     ///
     /// It is refused, memory aside, only where none stands, and the input then stays where it was: as `ExpectedToken` where a
     /// token is missing, and as its attributes, its pattern, its guard and its body are.
-    fn parse(input: &mut ParseBuffer<'_>) -> Result<Self> {
-        arm_ahead(input)
+    #[tactic(auto, using(crate::proofs::Parts::arms))]
+    fn parse(input: &mut ParseBuffer<'_>) -> Result<Self>
+        ensures read { IfOk result (λ x. ArmStands input.old.rest (arm_of x) input.new.rest) }
+        ensures found { (x : ArmView) (rest : List Tok) → ArmStands input.old.rest x rest → MatchResult result (λ v. (arm_of v ≡ x) × (input.new.rest ≡ rest)) (λ e. e.kind ≡ ErrorKind.OutOfMemory) }
+        ensures noted { input.new.noted ≡ input.old.noted }
+        ensures after { IsAfter input.old input.new }
+        ensures stays { IfErr result (λ _. input.new ≡ input.old) }
+        ensures moves { IfOk result (λ _. 1 + weight input.new.rest ≤ weight input.old.rest) }
+    {
+        let mut ahead = input.fork()?;
+        let x = match (Blocks { expr: expr_at }).arm(&mut ahead) {
+            Ok(x) => x,
+            Err(e) => return Err(e),
+        };
+        input.advance_to(&ahead);
+        Ok(x)
     }
 }
 

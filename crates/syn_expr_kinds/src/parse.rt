@@ -42,7 +42,14 @@ impl<E: ParseField> Parse for FieldValueOf<E> {
     /// It is refused, memory aside, only where none stands, and the input then stays where it was: as `ExpectedMember` where
     /// no member stands, as `ExpectedToken` of the colon where an index has none, and as its attributes, its index and its
     /// value are.
-    fn parse(input: &mut ParseBuffer<'_>) -> Result<Self> {
+    fn parse(input: &mut ParseBuffer<'_>) -> Result<Self>
+        ensures read { IfOk result (λ x. FieldStands input.old.rest (field_value_of E.tree x) input.new.rest) }
+        ensures found { (x : FieldView) (rest : List Tok) → FieldStands input.old.rest x rest → MatchResult result (λ v. (field_value_of E.tree v ≡ x) × (input.new.rest ≡ rest)) (λ e. e.kind ≡ ErrorKind.OutOfMemory) }
+        ensures noted { input.new.noted ≡ input.old.noted }
+        ensures after { IsAfter input.old input.new }
+        ensures stays { IfErr result (λ _. input.new ≡ input.old) }
+        ensures moves { IfOk result (λ _. 1 + weight input.new.rest ≤ weight input.old.rest) }
+    {
         E::parse_field(input)
     }
 }

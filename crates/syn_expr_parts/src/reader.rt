@@ -1,6 +1,6 @@
 //! The readers of members and indices: each says as what it refuses.
 
-ghost use Rattle.std.specs.Prelude.{◌≡◌, ◌⊎◌, ◌<◌, ◌≤◌, ◌+◌, drop, true, false, IfErr, IfOk, IfSome};
+ghost use Rattle.std.specs.Prelude.{◌≡◌, ◌⊎◌, ◌<◌, ◌≤◌, ◌+◌, IfErr, IfOk, IfSome};
 ghost use Rattle.syn_expr_parts.specs.Label as labels;
 ghost use Rattle.syn_expr_parts.specs.Refusal as refusal;
 ghost use Rattle.syn_expr_parts.specs.View as view;
@@ -30,6 +30,7 @@ pub fn index(input: &mut ParseBuffer<'_>) -> Result<Index>
     ensures noted { input.new.noted ≡ input.old.noted }
     ensures shrinks { weight input.new.rest ≤ weight input.old.rest }
     ensures after { IsAfter input.old input.new }
+    ensures stays { IfErr result (λ _. input.new ≡ input.old) }
     ensures moves { IfOk result (λ _. 1 + weight input.new.rest ≤ weight input.old.rest) }
     ensures refused { IfErr result (λ e. (e.kind ≡ refusal.index_refusal input.old.rest) × refusal.MayRefuseIndex e.kind) }
 {
@@ -57,6 +58,7 @@ pub fn member(input: &mut ParseBuffer<'_>) -> Result<Member>
     ensures noted { input.new.noted ≡ input.old.noted }
     ensures shrinks { weight input.new.rest ≤ weight input.old.rest }
     ensures after { IsAfter input.old input.new }
+    ensures stays { IfErr result (λ _. input.new ≡ input.old) }
     ensures moves { IfOk result (λ _. 1 + weight input.new.rest ≤ weight input.old.rest) }
     ensures refused { IfErr result (λ e. (e.kind ≡ OutOfMemory) ⊎ ((e.kind ≡ refusal.member_refusal input.old.rest) × refusal.MayRefuseMember e.kind)) }
 {

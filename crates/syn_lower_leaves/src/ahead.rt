@@ -1,6 +1,6 @@
 //! Reading on a fork: what each reader of a part has in common with the others.
 
-ghost use Rattle.std.specs.Prelude.{◌≡◌, ◌≤◌, ◌+◌, IfOk, List, None, Some};
+ghost use Rattle.std.specs.Prelude.{◌≡◌, ◌≤◌, ◌+◌, IfErr, IfOk, List, None, Some};
 ghost use Rattle.syn_parts.specs.Laws.{IsReadable};
 ghost use Rattle.syn_tokens.specs.Input.{IsAfter, Reaches};
 ghost use Rattle.syn_tokens.specs.Tok.{Tok, weight};
@@ -36,6 +36,8 @@ pub fn ahead<T: ReadByForm>(input: &mut ParseBuffer<'_>) -> Result<T>
     ensures read { IfOk result (λ v. T.form.behind (T.seen v) input.old.rest ≡ Some input.new.rest) }
     ensures found { (s : T.Seen) (rest : List Tok) → input.old.noted ≡ None → T.form.behind s input.old.rest ≡ Some rest → Reaches T.seen s rest result input.new }
     ensures after { IsAfter input.old input.new }
+    ensures noted { input.new.noted ≡ input.old.noted }
+    ensures stays { IfErr result (λ _. input.new ≡ input.old) }
     ensures moves { IfOk result (λ v. T.least + weight input.new.rest ≤ weight input.old.rest) }
 {
     let mut ahead = input.fork()?;

@@ -59,7 +59,7 @@ pub trait Parse {
     ghost use Rattle.syn_tokens.specs.Tok.{Tok};
     ghost use Rattle.syn_tokens.specs.Input.{Input};
     ghost use Rattle.syn_tokens.specs.declared.error.ErrorKind.{ErrorKind};
-    ghost use Rattle.std.specs.Prelude.{ℕ};
+    ghost use Rattle.std.specs.Prelude.{◌≡◌, ℕ};
 
     /// What contracts see of a value: all but its places.
     ghost Seen: { Type 0 };
@@ -78,6 +78,9 @@ pub trait Parse {
     /// `leaves list input`: what a read that answers may leave of the list, with the note that it may make.
     ghost leaves: { List Tok → Input → Type 0 } = { λ _ _. Unit {0} };
 
+    /// `stays before after`: where a refusal leaves the input. That is where it was, but for a type that says otherwise.
+    ghost stays: { Input → Input → Type 0 } = { λ before after. after ≡ before };
+
     /// Reads a value. It is read exactly where the front of the list spells one, unless memory runs out; inside
     /// the recursion of a type's own readers call `T::parse(input)`, not `input.parse::<T>()`.
     /// A list that begins with no value is refused: the reader of each type says as what, and where.
@@ -89,7 +92,8 @@ pub trait Parse {
         ensures after { IsAfter input.old input.new }
         ensures moves { IfOk result (λ v. least + weight input.new.rest ≤ weight input.old.rest) }
         ensures refused { IfErr result (λ e. refuses e.kind) }
-        ensures leaves { IfOk result (λ v. leaves input.old.rest input.new) };
+        ensures leaves { IfOk result (λ v. leaves input.old.rest input.new) }
+        ensures stays { IfErr result (λ _. stays input.old input.new) };
 }
 
 /// What is written as tokens.
@@ -291,7 +295,8 @@ impl<'a> ParseBuffer<'a> {
         T::peek(past_one(past_one(self.rest)))
     }
 
-    /// Reads a `T`. It is refused as the reader of `T` refuses it, and tokens may then have been passed over.
+    /// Reads a `T`. It is refused as the reader of `T` refuses it, and the input is then where that leaves it: where it
+    /// was, of each type here.
     pub fn parse<T: Parse>(&mut self) -> Result<T>
         ensures read { IfOk result (λ v. self.new.noted ≡ None → T.spells self.old.rest (T.seen v) self.new.rest) }
         ensures found { (s : T.Seen) (rest : List Tok) → self.old.noted ≡ None → T.spells self.old.rest s rest → Reaches T.seen s rest result self.new }
@@ -299,6 +304,7 @@ impl<'a> ParseBuffer<'a> {
         ensures moves { IfOk result (λ v. T.least + weight self.new.rest ≤ weight self.old.rest) }
         ensures refused { IfErr result (λ e. T.refuses e.kind) }
         ensures leaves { IfOk result (λ v. T.leaves self.old.rest self.new) }
+        ensures stays { IfErr result (λ _. T.stays self.old self.new) }
     {
         T::parse(self)
     }

@@ -1,6 +1,6 @@
 use Rattle.std.proofs.Common.{ap}
 use Rattle.syn_expr_all.proofs.Parts.{arm_stands, arm_refused}
-use Rattle.syn_expr_all.proofs.single.arm_ahead.Goals as goal
+use Rattle.syn_expr_all.proofs.single.ArmParse.parse.Goals as goal
 
 pub returns-clause-read : goal.returns-clause-read
 returns-clause-read c =
