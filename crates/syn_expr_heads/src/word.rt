@@ -1,6 +1,6 @@
 //! The words and signs of expressions, at the front of the input. Each is taken where it stands first; else nothing changes.
 
-ghost use Rattle.std.specs.Prelude.{◌≡◌, ◌<◌, ◌≤◌, true, false, drop, is_some, Some, IfSome, MatchOption};
+ghost use Rattle.std.specs.Prelude.{◌≡◌, ◌<◌, ◌≤◌, is_some, Some, IfSome};
 ghost use Rattle.syn_grammar.specs.Front as front;
 ghost use Rattle.syn_grammar.specs.Head as head;
 ghost use Rattle.syn_grammar.specs.Read as read;
@@ -9,42 +9,14 @@ ghost use Rattle.syn_lower_leaves.specs.Reads.{Takes};
 ghost use Rattle.syn_parts.specs.Form.{flag};
 ghost use Rattle.syn_parts.specs.Mark as mark;
 ghost use Rattle.syn_parts.specs.Pat as pat;
-ghost use Rattle.syn_tokens.specs.Sign as sign_spec;
 ghost use Rattle.syn_tokens.specs.Tok.{weight};
 
+use syn_lower_leaves::front::{sign, word};
 use syn_tokens::buffer::ParseBuffer;
 use syn_tokens::token::{
     Async, Await, Become, Break, Colon, Continue, Dot, DotDot, Else, FatArrow, If, In, Let, Loop,
-    Match, Minus, Move, Or, Raw, Return, Sign, Try, While, Word, Yield,
+    Match, Minus, Move, Or, Raw, Return, Sign, Try, While, Yield,
 };
-
-/// Takes a token of some puncts.
-#[tactic(auto, using(syn_tokens::proofs::Signs::fronts))]
-fn sign<const N: usize, const K: usize>(input: &mut ParseBuffer<'_>) -> Option<Sign<N, K>>
-    ensures value { MatchOption result ((sign_spec.sees N K input.old.rest ≡ false) × (input.new ≡ input.old)) (λ _. (sign_spec.sees N K input.old.rest ≡ true) × (input.new ≡ record input.old { rest = drop N input.old.rest })) }
-    ensures smaller { IfSome result (λ _. weight input.new.rest < weight input.old.rest) }
-{
-    if !input.peek::<Sign<N, K>>() {
-        return None;
-    }
-    let spans = input.spans();
-    input.skip(N);
-    Some(Sign { spans })
-}
-
-/// Takes a word.
-#[tactic(auto, using(syn_tokens::proofs::Signs::fronts))]
-fn word<const K: usize>(input: &mut ParseBuffer<'_>) -> Option<Word<K>>
-    ensures value { MatchOption result ((sign_spec.sees_word K input.old.rest ≡ false) × (input.new ≡ input.old)) (λ _. (sign_spec.sees_word K input.old.rest ≡ true) × (input.new ≡ record input.old { rest = drop 1 input.old.rest })) }
-    ensures smaller { IfSome result (λ _. weight input.new.rest < weight input.old.rest) }
-{
-    if !input.peek::<Word<K>>() {
-        return None;
-    }
-    let span = input.span();
-    input.skip(1);
-    Some(Word { span })
-}
 
 /// Takes `return`.
 #[tactic(auto, unfolding(syn_tokens::specs::Sign::word_text, syn_parts::specs::Mark::word_at))]

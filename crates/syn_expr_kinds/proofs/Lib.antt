@@ -4,3 +4,4 @@ pub mod Likes
 pub mod Attributes
 pub mod Owns
 pub mod Leaves
+pub mod Sizes

@@ -3,7 +3,7 @@ use Rattle.std.proofs.Common.{◌≡◌, Bool, List, [], ◌∷◌, ◌++◌, Op
 use Rattle.std.proofs.lemmas.List.{append-nil}
 use Rattle.syn_parts.specs.Tree.{AttributeTree}
 use Rattle.syn_grammar.specs.Tree as e
-use Rattle.syn_grammar.specs.Tree.{Tree, Kids, adorn, kid}
+use Rattle.syn_grammar.specs.Tree.{Tree, Kids, adorn}
 use Rattle.syn_expr_kinds.specs.Node.{attributes_at, stray_trees, without_strays, operands_at, leaf_at, is_paren, lead_at, operator_at, post_at, trailer_at, frame_at}
 use Rattle.syn_expr_notes.specs.Kind.{kind_at}
 use Rattle.syn_expr_kinds.specs.Pats.{strays}

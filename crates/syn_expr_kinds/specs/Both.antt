@@ -17,19 +17,20 @@ use Rattle.syn_expr_kinds.specs.declared.pattern.ExprMatchOf.{ExprMatchOf}
 use Rattle.syn_expr_kinds.specs.declared.pattern.ArmOf.{ArmOf}
 use Rattle.syn_expr_kinds.specs.declared.pattern.PatGuardOf.{PatGuardOf}
 
+abbrev pub closure_head_of : {E P : Type 0} → (P → PatView) → ExprClosureOf E P → e.ClosureHead
+closure_head_of g x = record {
+  lifetimes = mapped lifetimes_of x.lifetimes;
+  constness = is_some x.constness;
+  asyncness = is_some x.asyncness;
+  capture = is_some x.capture;
+  inputs = trees (map g (values x.inputs));
+  trailing = trails x.inputs;
+  output = return_of x.output;
+}
+
 abbrev pub expr_closure_of : {E P : Type 0} → (E → Tree) → (P → PatView) → ExprClosureOf E P → Tree
 expr_closure_of f g x =
-    let inputs = map g (values x.inputs) in
-    let head : e.ClosureHead = record {
-      lifetimes = mapped lifetimes_of x.lifetimes;
-      constness = is_some x.constness;
-      asyncness = is_some x.asyncness;
-      capture = is_some x.capture;
-      inputs = trees inputs;
-      trailing = trails x.inputs;
-      output = return_of x.output;
-    } in
-    adorn (attrs_of x.attrs) (closure_by (return_of x.output) head (guards inputs) (f x.body.value))
+    adorn (attrs_of x.attrs) (closure_by (return_of x.output) (closure_head_of g x) (guards (map g (values x.inputs))) (f x.body.value))
 
 abbrev pub expr_for_loop_of : {E P : Type 0} → (E → Tree) → (P → PatView) → ExprForLoopOf E P → Tree
 expr_for_loop_of f g x =

@@ -25,7 +25,7 @@ use Rattle.syn_lower_leaves.specs.View.{mapped}
 use Rattle.syn_expr_print.specs.declared.notes.Notes.{Notes}
 use Rattle.syn_expr_print.specs.Printing.{spelled, spelled_in, kids_spelled, core, IsLent}
 use Rattle.syn_expr_print.specs.Taken.{Taken}
-use Rattle.syn_expr_print.proofs.Sizes.{first-size, second-size, kids-less}
+use Rattle.syn_expr_kinds.proofs.Sizes.{first-smaller, second-smaller, kids-smaller}
 use Rattle.syn_expr_print.proofs.Lents.{leaf-there, leaf-text, leaf-below, is-paren, paren-first, paren-text, paren-below, lead-there, lead-first, lead-text, lead-below, lead-kind, mid-operator, mid-first, mid-second, mid-text, mid-below, post-there, post-first, post-text, post-below, post-operator, tail-there, tail-first, tail-text, tail-kind, tail-told, frame-there}
 use Rattle.syn_expr_print.proofs.Stacks.{taken-none}
 
@@ -86,16 +86,16 @@ base-operand t q h = there (first_of (operands_at t)) (tail-first t q h)
 -- ---- sizes
 
 pub less-first : (t u : Tree) (n : ℕ) → first_of (operands_at t) ≡ Some u → n < size u + 1 → n < size t
-less-first t u n h l = let s = first-size t u h in omega arith
+less-first t u n h l = let s = first-smaller t u h in omega arith
 
 pub less-second : (t u : Tree) (n : ℕ) → second_of (operands_at t) ≡ Some u → n < size u + 1 → n < size t
-less-second t u n h l = let s = second-size t u h in omega arith
+less-second t u n h l = let s = second-smaller t u h in omega arith
 
 pub less-kids : (t : Tree) (n : ℕ) → n < kids_size (operand_kids (operands_at t)) + 1 → n < size t
-less-kids t n l = let s = kids-less t in omega arith
+less-kids t n l = let s = kids-smaller t in omega arith
 
 pub first-less : (t u : Tree) → first_of (operands_at t) ≡ Some u → size u < size t
-first-less t u h = first-size t u h
+first-less t u h = first-smaller t u h
 
 -- what holds where the last step is not refused
 pub on-map : {U X : Type 0} {A B : Type 0} (r : Result U X) → OnOk r A → (A → B) → OnOk r B

@@ -14,7 +14,6 @@ pub mod Lents
 pub mod Chains
 pub mod Likes
 pub mod Rounds
-pub mod Sizes
 pub mod Lending
 pub mod Counts
 pub mod Adorned

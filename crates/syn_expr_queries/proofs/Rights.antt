@@ -1,5 +1,5 @@
 -- What is last in a node, by what is lent of it.
-use Rattle.std.proofs.Common.{◌≡◌, Bool, true, false, not, ◌&&◌, List, Some, None, refl, sym, ap, subst}
+use Rattle.std.proofs.Common.{◌≡◌, Bool, true, false, ◌&&◌, List, Some, None, refl, sym, ap, subst}
 use Rattle.syn_parts.specs.Tree.{AttributeTree}
 use Rattle.syn_expr_notes.specs.Kind.{kind_at}
 use Rattle.syn_grammar.specs.Query.{leaf_brace, lead_brace, post_brace, return_brace, tree_brace, kids_brace}

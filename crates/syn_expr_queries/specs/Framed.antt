@@ -1,19 +1,19 @@
 -- What an expression holds in places of their own: the condition of an `if`, of a loop and of a `match` has its braces behind
 -- it, and a closure with an output has its body alone.
 use Rattle.std.proofs.Common.{◌≡◌, true, List, [], ◌∷◌, Option, Some, None, refl, sym, subst}
-use Rattle.std.specs.Prelude.{map, is_some}
+use Rattle.std.specs.Prelude.{map}
 use Rattle.std.specs.declared.boxed.Box.{Box}
 use Rattle.std.specs.declared.alloc.Global.{Global}
 use Rattle.syn_parts.specs.Tree.{AttributeTree, ReturnTree, default, given}
 use Rattle.syn_grammar.specs.declared.kinds.Limits.{Limits}
 use Rattle.syn_grammar.specs.Tree as e
 use Rattle.syn_grammar.specs.Tree.{Tree, Body, Jump, ClosureHead, lead, frame, none, kid, adorn}
-use Rattle.syn_lower.specs.View.{mapped, lifetimes_of, return_of, values, trails}
+use Rattle.syn_lower.specs.View.{mapped, return_of, values}
 use Rattle.syn_expr_parts.specs.View.{label_of}
 use Rattle.syn_pat_kinds.specs.View.{PatView}
 use Rattle.syn_expr_kinds.specs.Attrs.{attrs_of, outer_of, inner_of}
-use Rattle.syn_expr_kinds.specs.Both.{expr_closure_of, expr_for_loop_of, expr_let_of, expr_match_of}
-use Rattle.syn_expr_kinds.specs.Pats.{ArmView, strays, trees, guards, closure_by, arms}
+use Rattle.syn_expr_kinds.specs.Both.{closure_head_of, expr_closure_of, expr_for_loop_of, expr_let_of, expr_match_of}
+use Rattle.syn_expr_kinds.specs.Pats.{ArmView, strays, guards, closure_by, arms}
 use Rattle.syn_expr_kinds.specs.declared.pattern.ExprClosureOf.{ExprClosureOf}
 use Rattle.syn_expr_kinds.specs.declared.pattern.ExprForLoopOf.{ExprForLoopOf}
 use Rattle.syn_expr_kinds.specs.declared.pattern.ExprLetOf.{ExprLetOf}
@@ -70,17 +70,9 @@ jump_framed j (Some x) = record { holds = refl }
 
 closure_kind : {E P : Type 0} (f : E → Tree) (g : P → PatView) (x : ExprClosureOf E P) → IsFramed (expr_closure_of f g x)
 closure_kind f g x =
-    let inputs = map g (values x.inputs) in
-    let head : e.ClosureHead = record {
-      lifetimes = mapped lifetimes_of x.lifetimes;
-      constness = is_some x.constness;
-      asyncness = is_some x.asyncness;
-      capture = is_some x.capture;
-      inputs = trees inputs;
-      trailing = trails x.inputs;
-      output = return_of x.output;
-    } in
-    behind (attrs_of x.attrs) (closure_by (return_of x.output) head (guards inputs) (f x.body.value)) (closure_by_framed (return_of x.output) head (guards inputs) (f x.body.value))
+    let head = closure_head_of g x in
+    let inputs = guards (map g (values x.inputs)) in
+    behind (attrs_of x.attrs) (closure_by (return_of x.output) head inputs (f x.body.value)) (closure_by_framed (return_of x.output) head inputs (f x.body.value))
 
 for_loop_kind : {E P : Type 0} (f : E → Tree) (g : P → PatView) (x : ExprForLoopOf E P) → IsFramed (expr_for_loop_of f g x)
 for_loop_kind f g x =

@@ -1,7 +1,7 @@
 //! Whether a type ends with a group in braces. What is spelled by no tokens, as a path without segments, answers what stands
 //! before it.
 
-ghost use Rattle.std.specs.Prelude.{◌≡◌, ◌&&◌, not, false, map};
+ghost use Rattle.std.specs.Prelude.{◌≡◌, ◌&&◌, false, map};
 ghost use Rattle.syn_expr_queries.specs.Ends.{Tells};
 ghost use Rattle.syn_grammar.specs.Query as query;
 ghost use Rattle.syn_grammar.specs.Rule.{is_brace_delimiter};

@@ -73,11 +73,11 @@ fn kept_tokens<E: HasShape>(expr: &E) -> Option<&TokenStream>
 }
 
 /// Whether a label is first in an expression; `word`: whether a word stands behind it.
-#[tactic(auto, using(crate::proofs::Labels::labels, crate::proofs::Nodes::smaller))]
+#[tactic(auto, using(crate::proofs::Labels::labels, syn_expr_kinds::proofs::Sizes::smaller))]
 pub(crate) fn begins_with_label<E: HasShape>(expr: &E, word: bool) -> bool
     ensures { result ≡ query.tree_leads word (E.tree expr.now) }
 {
-    if !expr.attributes().is_empty() {
+    if !expr.attributes().has_none_before() {
         return false;
     }
     let kind = expr.kind();

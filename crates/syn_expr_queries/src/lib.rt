@@ -2,7 +2,6 @@
 //! whether a label is first in it and braces last, and whether a type ends in a name without arguments.
 #![tactic(auto)]
 
-mod attributes;
 mod brace;
 pub mod classify;
 mod expr;

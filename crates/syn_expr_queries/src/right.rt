@@ -1,18 +1,18 @@
 //! Whether an expression ends with a group in braces.
 
-ghost use Rattle.std.specs.Prelude.{◌≡◌};
-ghost use Rattle.syn_expr_kinds.specs.Node.{leaf_of, lead_of, post_of, frame_of};
+ghost use Rattle.std.specs.Prelude.{◌≡◌, ◌&&◌};
+ghost use Rattle.syn_expr_kinds.specs.Node.{before_of, leaf_of, lead_of, post_of, frame_of};
 ghost use Rattle.syn_expr_queries.specs.Node.{is_operation};
 ghost use Rattle.syn_expr_queries.specs.Right.{NodeTells, frame_right};
 ghost use Rattle.syn_grammar.specs.Query as query;
 ghost use Rattle.syn_lower.specs.View.{return_of};
+ghost use Rattle.syn_parts.specs.Form.{is_nil};
 ghost use Rattle.syn_pat_kinds.specs.View.{PatView};
 
-use crate::attributes::behind;
 use crate::brace::{is_brace, output_brace, path_brace, type_brace};
 use crate::frames::HasFrames;
 use crate::tokens::ends_with_braces;
-use syn_expr_kinds::node::{Closure, Frame, Lead, Leaf, Post};
+use syn_expr_kinds::node::{Attributes, Closure, Frame, Lead, Leaf, Post};
 use syn_expr_notes::kind::NodeKind;
 
 /// What is last in a node.
@@ -99,6 +99,13 @@ fn is_operation(kind: NodeKind) -> bool
     matches!(kind, NodeKind::Mid(_))
 }
 
+/// Whether braces stand before a node, behind its attributes: not where it has any.
+fn behind(before: bool, attributes: Attributes<'_>) -> bool
+    ensures { result ≡ (before && is_nil (before_of attributes.entry)) }
+{
+    attributes.has_none_before() && before
+}
+
 /// What is last in a node; `before`: whether braces stand before it.
 #[tactic(auto, using(crate::proofs::Rights::rights))]
 fn node_right<E: HasFrames>(expr: &E, before: bool) -> Right
@@ -125,7 +132,7 @@ fn node_right<E: HasFrames>(expr: &E, before: bool) -> Right
 }
 
 /// Whether an expression ends with braces; `before`: whether braces stand before it.
-#[tactic(auto, using(crate::proofs::Nodes::smaller))]
+#[tactic(auto, using(syn_expr_kinds::proofs::Sizes::smaller))]
 pub(crate) fn node_brace<E: HasFrames>(expr: &E, before: bool) -> bool
     ensures { result ≡ query.tree_brace before (E.tree expr.now) }
 {

@@ -13,13 +13,13 @@ use Rattle.syn_parts.specs.Tree.{TypeTree, SegmentTree, FnArgTree, GenericTree, 
 use Rattle.syn_parts.specs.Own.{alone, joint, one_less, before_if, before_some, comma_before, colon2_before, closed_at, qself_end, at_most, count_segments, lifetime_own, lifetimes_own, extern_own, enclosed, elements_own, type_own, types_own, segments_own, arguments_own, generics_own, generic_own, return_own, args_own, bounds_own, bound_own, segment_own, arg_own, macro_own}
 use Rattle.syn_parts.proofs.Appends.{type_append, arguments_append, generic_append, bound_append, lifetimes_own-append, extern_append}
 use Rattle.syn_parts.proofs.TypesBack.{plus_before}
-use Rattle.syn_lower_lists.proofs.Owns.{Appends, listed_own-punctuated}
+use Rattle.syn_lower_lists.proofs.Owns.{punctuated_same, Appends, listed_own-punctuated}
 use Rattle.syn_lower_lists.specs.declared.punctuated.Punctuated.{Punctuated}
 use Rattle.syn_lower_lists.specs.declared.ty.BoundLifetimes.{BoundLifetimes}
 use Rattle.syn_lower_lists.specs.declared.ty.Abi.{Abi}
 use Rattle.syn_lower_leaves.specs.declared.lifetime.Lifetime.{Lifetime}
 use Rattle.syn_lower_generic.specs.View.{values, trails, last_of, is_some_pair, lifetime_of, lifetimes_of, mapped, abi_of, return_of, assoc_of, generic_of, angle_of, round_of, arguments_of, arg_of, segment_of, path_of, qself_or, macro_of, trait_of, bound_of, path_with, type_path_of, type_macro_of, reference_of, ptr_of, slice_of, array_of, tuple_of, paren_of, fn_ptr_of, impl_trait_of, trait_object_of}
-use Rattle.syn_lower_generic.specs.Printed.{option_printed, pairs_printed, punctuated_printed, comma, colon2, plus, word, return_printed, assoc_printed, generic_printed, angle_printed, round_printed, parenthesized_printed, arguments_printed, segment_printed, path_printed, macro_printed, closed_printed, inside_printed, qself_end_printed, qualified_printed, qpath_printed, trait_printed, bound_printed, type_path_printed, reference_printed, ptr_printed, slice_printed, array_printed, tuple_printed, paren_printed, impl_printed, object_printed, arg_printed, fn_head_printed, fn_ptr_printed}
+use Rattle.syn_lower_generic.specs.Printed.{option_printed, punctuated_printed, comma, colon2, plus, word, return_printed, assoc_printed, generic_printed, angle_printed, round_printed, parenthesized_printed, arguments_printed, segment_printed, path_printed, macro_printed, closed_printed, inside_printed, qself_end_printed, qualified_printed, qpath_printed, trait_printed, bound_printed, type_path_printed, reference_printed, ptr_printed, slice_printed, array_printed, tuple_printed, paren_printed, impl_printed, object_printed, arg_printed, fn_head_printed, fn_ptr_printed}
 use Rattle.syn_lower_generic.specs.declared.mac.MacroOf.{MacroOf}
 use Rattle.syn_lower_generic.specs.declared.path.PathOf.{PathOf}
 use Rattle.syn_lower_generic.specs.declared.path.PathSegmentOf.{PathSegmentOf}
@@ -149,21 +149,6 @@ one_less-is (suc n) = omega arith
 count_is : {A : Type 0} (f : A → SegmentTree) (xs : List A) → count_segments (t.segments_of (map f xs)) ≡ length xs
 count_is f [] = refl
 count_is f (x ∷ xs) = let e = count_is f xs in cc
-
--- ---- equal printers
-
-pairs_same : {A P : Type 0} (g h : A → List Tok) (c : P → List Tok) → ((x : A) → g x ≡ h x) → (xs : List (A × P)) → pairs_printed g c xs ≡ pairs_printed h c xs
-pairs_same g h c e [] = refl
-pairs_same g h c e (q ∷ xs) = let one = e q.0 in let more = pairs_same g h c e xs in cc
-
-last_same : {A : Type 0} (g h : A → List Tok) → ((x : A) → g x ≡ h x) → (o : Option (Box A Global)) → option_printed (λ b. g b.value) o ≡ option_printed (λ b. h b.value) o
-unfolding option_printed
-last_same g h e None = refl
-last_same g h e (Some b) = e b.value
-
-punctuated_same : {A P : Type 0} (g h : A → List Tok) (c : P → List Tok) → ((x : A) → g x ≡ h x) → (p : Punctuated A P) → punctuated_printed g c p ≡ punctuated_printed h c p
-unfolding punctuated_printed
-punctuated_same g h c e p = let pairs = pairs_same g h c e p.inner.items in let last = last_same g h e p.last in cc
 
 -- ---- each part, by the trees of the types
 

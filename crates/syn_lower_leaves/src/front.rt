@@ -13,9 +13,9 @@ use syn_tokens::token::{
     Ne, Not, PathSep, Plus, Pound, Question, RArrow, Semi, Sign, Star, Underscore, Unsafe, Word,
 };
 
-/// Takes a token of some puncts.
+/// Takes a token of some puncts, where it stands first; else nothing changes.
 #[tactic(auto, using(syn_tokens::proofs::Signs::fronts))]
-fn sign<const N: usize, const K: usize>(input: &mut ParseBuffer<'_>) -> Option<Sign<N, K>>
+pub fn sign<const N: usize, const K: usize>(input: &mut ParseBuffer<'_>) -> Option<Sign<N, K>>
     ensures value { MatchOption result ((sign_spec.sees N K input.old.rest ≡ false) × (input.new ≡ input.old)) (λ _. (sign_spec.sees N K input.old.rest ≡ true) × (input.new ≡ record input.old { rest = drop N input.old.rest })) }
     ensures smaller { IfSome result (λ _. weight input.new.rest < weight input.old.rest) }
 {
@@ -27,9 +27,9 @@ fn sign<const N: usize, const K: usize>(input: &mut ParseBuffer<'_>) -> Option<S
     Some(Sign { spans })
 }
 
-/// Takes a word.
+/// Takes a word, where it stands first; else nothing changes.
 #[tactic(auto, using(syn_tokens::proofs::Signs::fronts))]
-fn word<const K: usize>(input: &mut ParseBuffer<'_>) -> Option<Word<K>>
+pub fn word<const K: usize>(input: &mut ParseBuffer<'_>) -> Option<Word<K>>
     ensures value { MatchOption result ((sign_spec.sees_word K input.old.rest ≡ false) × (input.new ≡ input.old)) (λ _. (sign_spec.sees_word K input.old.rest ≡ true) × (input.new ≡ record input.old { rest = drop 1 input.old.rest })) }
     ensures smaller { IfSome result (λ _. weight input.new.rest < weight input.old.rest) }
 {

@@ -43,3 +43,18 @@ lifetimes_append = record { before = λ x r. refl }
 pub lifetimes_own-parts : (x : BoundLifetimes) → lifetimes_own (lifetimes_of x) [] ≡ ident (codes "for") ∷ alone 60 ∷ (punctuated_printed (λ l. lifetime_own (lifetime_of l) []) comma x.lifetimes ++ alone 62 ∷ [])
 unfolding lifetimes_own
 lifetimes_own-parts x = ap (λ m. ident (codes "for") ∷ alone 60 ∷ m) (listed_own-punctuated lifetime_own comma_before lifetime_of comma lifetimes_append (λ p r. refl) x.lifetimes (alone 62 ∷ []))
+
+-- ---- equal printers of the values
+
+pairs_same : {A P : Type 0} (g h : A → List Tok) (c : P → List Tok) → ((x : A) → g x ≡ h x) → (xs : List (A × P)) → pairs_printed g c xs ≡ pairs_printed h c xs
+pairs_same g h c e [] = refl
+pairs_same g h c e (q ∷ xs) = let one = e q.0 in let more = pairs_same g h c e xs in cc
+
+last_same : {A : Type 0} (g h : A → List Tok) → ((x : A) → g x ≡ h x) → (o : Option (Box A Global)) → option_printed (λ b. g b.value) o ≡ option_printed (λ b. h b.value) o
+unfolding option_printed
+last_same g h e None = refl
+last_same g h e (Some b) = e b.value
+
+pub punctuated_same : {A P : Type 0} (g h : A → List Tok) (c : P → List Tok) → ((x : A) → g x ≡ h x) → (p : Punctuated A P) → punctuated_printed g c p ≡ punctuated_printed h c p
+unfolding punctuated_printed
+punctuated_same g h c e p = let pairs = pairs_same g h c e p.inner.items in let last = last_same g h e p.last in cc

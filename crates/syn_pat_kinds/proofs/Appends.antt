@@ -10,7 +10,7 @@ use Rattle.syn_parts.specs.Tree.{AttributeTree, PathTree, QSelfTree}
 use Rattle.syn_parts.specs.Part.{MacroTree}
 use Rattle.syn_parts.specs.Own.{alone, before_if, before_some, colon2_before, enclosed, attribute_own, path_own, qualified_own, macro_own}
 use Rattle.syn_parts.specs.Pat as p
-use Rattle.syn_parts.specs.Pat.{MemberTree, PatBound, PatTree, SubPat, Pats, Fields, FieldTree}
+use Rattle.syn_parts.specs.Pat.{MemberTree, PatBound, PatTree, SubPat, Pats, FieldTree}
 use Rattle.syn_parts.specs.PatOwn.{limits_before, range_bound_own, member_own, vert_before, word_if, attributes_own, no_more_pats, pat_own, sub_own, pats_own, or_own, fields_own, field_own}
 use Rattle.syn_parts.proofs.Appends.{lit_append, type_append, segments_append}
 

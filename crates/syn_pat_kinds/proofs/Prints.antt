@@ -19,9 +19,8 @@ use Rattle.syn_grammar.specs.Op.{limits_text}
 use Rattle.syn_op.specs.View.{limits_kind}
 use Rattle.syn_op.specs.declared.limits.RangeLimits.{RangeLimits}
 use Rattle.syn_op.specs.declared.limits.RangeLimits.TheVariants as limits
-use Rattle.syn_lower_lists.proofs.Owns.{Appends, listed_own-punctuated}
+use Rattle.syn_lower_lists.proofs.Owns.{Appends, listed_own-punctuated, punctuated_same}
 use Rattle.syn_lower_lists.specs.declared.punctuated.Punctuated.{Punctuated}
-use Rattle.syn_lower_lists.specs.Printed.{pairs_printed}
 use Rattle.syn_lower_generic.proofs.Prints.{qpath_print, path_print, macro_print}
 use Rattle.syn_lower_leaves.specs.declared.attr.Attribute.{Attribute}
 use Rattle.syn_pat_kinds.proofs.Appends.{attribute_append, attributes_append, bound_append, member_append, pat_append, field_append}
@@ -128,21 +127,6 @@ pat_appends = record { before = pat_append }
 
 field_appends : Appends one_field
 field_appends = record { before = λ x r. attributes_append x.attrs _ ∙ ap (λ m. attributes_own x.attrs [] ++ m) (field_append x.field r) ∙ sym (append_assoc (attributes_own x.attrs []) (field_own x.field []) r) ∙ ap (λ m. m ++ r) (sym (attributes_append x.attrs (field_own x.field []))) }
-
--- ---- equal printers
-
-pairs_same : {A P : Type 0} (g h : A → List Tok) (c : P → List Tok) → ((x : A) → g x ≡ h x) → (xs : List (A × P)) → pairs_printed g c xs ≡ pairs_printed h c xs
-pairs_same g h c e [] = refl
-pairs_same g h c e (q ∷ xs) = let one = e q.0 in let more = pairs_same g h c e xs in cc
-
-last_same : {A : Type 0} (g h : A → List Tok) → ((x : A) → g x ≡ h x) → (o : Option (Box A Global)) → option_printed (λ b. g b.value) o ≡ option_printed (λ b. h b.value) o
-unfolding option_printed
-last_same g h e None = refl
-last_same g h e (Some b) = e b.value
-
-punctuated_same : {A P : Type 0} (g h : A → List Tok) (c : P → List Tok) → ((x : A) → g x ≡ h x) → (p : Punctuated A P) → punctuated_printed g c p ≡ punctuated_printed h c p
-unfolding punctuated_printed
-punctuated_same g h c e p = let pairs = pairs_same g h c e p.inner.items in let last = last_same g h e p.last in cc
 
 -- ---- kinds that hold no patterns
 

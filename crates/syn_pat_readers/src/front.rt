@@ -1,16 +1,16 @@
 //! What stands first, as the readers of patterns ask, and the tokens that only patterns have.
 
-ghost use Rattle.std.specs.Prelude.{◌≡◌, ◌<◌, ◌≤◌, ◌&&◌, not, true, false, drop, is_some, IfSome, MatchOption, Some};
+ghost use Rattle.std.specs.Prelude.{◌≡◌, ◌<◌, ◌≤◌, ◌&&◌, not, true, false, drop, is_some, IfSome, Some};
 ghost use Rattle.syn_lower_leaves.specs.Reads.{Takes};
 ghost use Rattle.syn_parts.specs.Form.{flag};
 ghost use Rattle.syn_parts.specs.Mark as mark;
 ghost use Rattle.syn_parts.specs.Part as part;
 ghost use Rattle.syn_parts.specs.Pat as pat;
-ghost use Rattle.syn_tokens.specs.Sign as sign_spec;
 ghost use Rattle.syn_tokens.specs.Tok.{weight};
 ghost use Rattle.syn_tokens.specs.View.{toks_of};
 
 use syn_lexer::reserved::is_reserved_word;
+use syn_lower_leaves::front::sign;
 use syn_lower_leaves::text::{is_number, is_segment, is_truth};
 use syn_tokens::buffer::{ParseBuffer, Token};
 use syn_tokens::token::{
@@ -18,20 +18,6 @@ use syn_tokens::token::{
     PathSep, Ref, Sign, Word,
 };
 use syn_tokens::tree::TokenTree;
-
-/// Takes a token of some puncts.
-#[tactic(auto, using(syn_tokens::proofs::Signs::fronts))]
-fn sign<const N: usize, const K: usize>(input: &mut ParseBuffer<'_>) -> Option<Sign<N, K>>
-    ensures value { MatchOption result ((sign_spec.sees N K input.old.rest ≡ false) × (input.new ≡ input.old)) (λ _. (sign_spec.sees N K input.old.rest ≡ true) × (input.new ≡ record input.old { rest = drop N input.old.rest })) }
-    ensures smaller { IfSome result (λ _. weight input.new.rest < weight input.old.rest) }
-{
-    if !input.peek::<Sign<N, K>>() {
-        return None;
-    }
-    let spans = input.spans();
-    input.skip(N);
-    Some(Sign { spans })
-}
 
 /// Takes `..`.
 #[tactic(auto, unfolding(syn_tokens::specs::Sign::sign_text, syn_parts::specs::Mark::sign_at))]

@@ -1,6 +1,6 @@
 //! The readers of ranges and literals as patterns (Rust Reference, "Range patterns", "Literal patterns", "Rest patterns").
 
-ghost use Rattle.std.specs.Prelude.{◌≡◌, ◌≤◌, [], IfOk};
+ghost use Rattle.std.specs.Prelude.{◌≡◌, ◌≤◌};
 ghost use Rattle.syn_lower_leaves.specs.Reads.{Reads};
 ghost use Rattle.syn_parts.specs.Form as form;
 ghost use Rattle.syn_parts.specs.Pat as pat;

@@ -13,7 +13,7 @@ use Rattle.syn_expr_print.specs.Taken.{Taken}
 use Rattle.syn_expr_print.proofs.Chains.{branch-chained, block-chained, other-chained}
 use Rattle.syn_expr_print.proofs.Choices.{arms-size}
 use Rattle.syn_expr_print.proofs.Rounds.{framed-below, framed-text, open-frame-text}
-use Rattle.syn_expr_print.proofs.Sizes.{kids-less}
+use Rattle.syn_expr_kinds.proofs.Sizes.{kids-smaller}
 use Rattle.syn_expr_print.proofs.Spellings.{spelled-bare}
 use Rattle.syn_expr_kinds.proofs.Owns.{then}
 use Rattle.syn_expr_print.proofs.frames.+frame.Goals as goal
@@ -44,7 +44,7 @@ chained-returns-else-is_block-clause-text g t c =
 pub content-kids-requires : goal.content-kids-requires
 content-kids-requires g t c κs within =
     let x = g.E.HasExprTree.tree c.args.x.now in
-    let s = kids-less x in
+    let s = kids-smaller x in
     let o = ap (λ z. kids_size (operand_kids z)) c.operands.ensures in
     let b = framed-below x (g.met.E.HasPrint.lent c.args.x.now) c.requires.framed ∙ ap (λ z. kids_below (operand_kids z)) (sym c.operands.ensures) in
     let ends = subst (λ l. EndsWith c.args.notes.now.left.items l) b c.requires.stacked in

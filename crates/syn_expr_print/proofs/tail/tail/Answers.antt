@@ -7,7 +7,7 @@ use Rattle.syn_expr_print.specs.Printing.{EndsWith, kids_spelled}
 use Rattle.syn_expr_print.specs.Taken.{Taken}
 use Rattle.syn_expr_print.proofs.Lending.{on-map, tail-written}
 use Rattle.syn_expr_print.proofs.Lents.{tail-told}
-use Rattle.syn_expr_print.proofs.Sizes.{kids-less}
+use Rattle.syn_expr_kinds.proofs.Sizes.{kids-smaller}
 use Rattle.syn_expr_print.proofs.Stacks.{ends_back, taken-both, taken-left}
 use Rattle.syn_expr_print.proofs.tail.tail.Goals as goal
 
@@ -19,7 +19,7 @@ base_of-requires-clause-stacked g c =
 
 pub kids-requires-clause-callable : goal.kids-requires-clause-callable
 kids-requires-clause-callable g c =
-    let s = kids-less (g.E.HasExprTree.tree c.args.x.now) in
+    let s = kids-smaller (g.E.HasExprTree.tree c.args.x.now) in
     let v = ap (λ o. kids_size (operand_kids o)) c.operands.ensures in
     λ out notes x d l e. c.requires.callable out notes x d (omega arith) e
 
