@@ -42,7 +42,7 @@ pub(crate) fn plain_note(kind: NodeKind, first: Note, second: Note) -> Note
 pub(crate) fn behind(attributes: Attributes<'_>, note: Note) -> Note
     ensures { result ≡ noted_behind (before_of attributes.entry) note }
 {
-    if attributes.is_empty() {
+    if attributes.has_none_before() {
         note
     } else {
         adorned_note(note)

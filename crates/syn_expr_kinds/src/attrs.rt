@@ -60,7 +60,7 @@ pub fn is_in_order(attrs: &[Attribute]) -> bool
 impl Attributes<'_> {
     /// Whether none stand before the node.
     #[tactic(auto, using(crate::proofs::Attributes::bares), unfolding(crate::specs::Attrs::attrs_of, crate::specs::Attrs::outer_of))]
-    pub fn is_empty(self) -> bool
+    pub fn has_none_before(self) -> bool
         ensures { result ≡ is_nil (before_of self.entry) }
     {
         match self {

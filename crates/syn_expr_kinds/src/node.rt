@@ -26,8 +26,8 @@ use syn_op::op::{BinOp, UnOp};
 use syn_pat_kinds::kinds::HasPatTree;
 use syn_tokens::token::{
     And, As, Async, Await, Brace, Bracket, Break, Comma, Const, Continue, Dot, DotDot, Else, Eq,
-    FatArrow, For, Group, If, In, Let, Loop, Match, Move, Mut, Or, Paren, Question, Raw, Return,
-    Semi, Try, Underscore, Unsafe, While, Yield,
+    For, Group, If, In, Let, Loop, Match, Move, Mut, Or, Paren, Question, Raw, Return, Semi, Try,
+    Underscore, Unsafe, While, Yield,
 };
 use syn_tokens::tree::{Ident, TokenStream};
 

@@ -147,7 +147,7 @@ where
     ensures front { IsFront tokens.old tokens.new }
     ensures taken { OnOk result (Taken notes.old notes.new (below (E.tree x.now))) }
 {
-    if x.attributes().is_empty() {
+    if x.attributes().has_none_before() {
         shape(smaller, tokens, notes, x, context)
     } else {
         adorned(smaller, tokens, notes, x, context)

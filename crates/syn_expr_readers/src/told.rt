@@ -1,6 +1,6 @@
 //! What the reading asks of an expression that was read: by its kind, and by whether attributes stand before it.
 
-ghost use Rattle.std.specs.Prelude.{◌≡◌, not};
+ghost use Rattle.std.specs.Prelude.{◌≡◌};
 ghost use Rattle.syn_expr_readers.specs.Kind as spec;
 ghost use Rattle.syn_grammar.specs.Stands as stands;
 
@@ -16,7 +16,7 @@ use syn_op::level::{is_comparison, is_range_op};
 pub fn is_adorned<E: HasNode>(x: &E) -> bool
     ensures { result ≡ stands.is_adorned (E.tree x.now) }
 {
-    !x.attributes().is_empty()
+    !x.attributes().has_none_before()
 }
 
 /// The kind of a node before which no attribute stands; none of another.

@@ -26,7 +26,7 @@ pub fn operation(tokens: &mut TokenStream, attrs: &Vec<Attribute>, printed: Toke
     ensures front { IsFront tokens.old tokens.new }
 {
     let attributes = Attributes::Before(attrs);
-    if attributes.is_empty() {
+    if attributes.has_none_before() {
         grown(tokens.append(printed))
     } else {
         put_attributes(tokens, attributes)?;

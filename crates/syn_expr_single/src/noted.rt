@@ -1,12 +1,10 @@
 //! The notes of the operands of a node, from which they are printed.
 
-ghost use Rattle.std.specs.Prelude.{◌≡◌, ◌++◌, IfOk};
+ghost use Rattle.std.specs.Prelude.{◌++◌, IfOk};
 ghost use Rattle.syn_expr_collect.specs.Below.{operands_below};
 ghost use Rattle.syn_expr_kinds.specs.Node.{operands_of};
-ghost use Rattle.syn_expr_kinds.specs.Pats.{ArmView};
 ghost use Rattle.syn_expr_print.specs.Printing.{EndsWith};
 ghost use Rattle.syn_grammar.specs.Notes.{stack};
-ghost use Rattle.syn_grammar.specs.Tree.{Tree};
 
 use std::alloc::AllocError;
 use syn_expr_collect::{collect, collect_operands};

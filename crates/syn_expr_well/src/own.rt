@@ -54,7 +54,7 @@ pub fn own_fits<E: HasPatFits>(expr: &E) -> bool
 pub fn bare_leaf<E: HasShape>(expr: &E) -> Option<Leaf<'_>>
     ensures { mapped leaf_of result ≡ spec.bare_leaf (E.tree expr.now) }
 {
-    if !expr.attributes().is_empty() {
+    if !expr.attributes().has_none_before() {
         return None;
     }
     expr.leaf()
@@ -65,7 +65,7 @@ pub fn bare_leaf<E: HasShape>(expr: &E) -> Option<Leaf<'_>>
 pub fn is_branch<E: HasShape>(expr: &E) -> bool
     ensures { result ≡ is_branch (E.tree expr.now) }
 {
-    if !expr.attributes().is_empty() {
+    if !expr.attributes().has_none_before() {
         return false;
     }
     match expr.frame() {
