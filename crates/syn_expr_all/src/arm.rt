@@ -1,7 +1,7 @@
 //! What is lent of the arms of a `match` (Rust Reference, "Match expressions").
 
 ghost use Rattle.std.specs.Prelude.{◌≡◌, is_some};
-ghost use Rattle.syn_expr_all.specs.View.{tree_of, pat_of, guard_of, arm_of};
+ghost use Rattle.syn_expr_all.specs.View.{tree_of, pat_of, guard_of};
 ghost use Rattle.syn_expr_collect.specs.Arm.{guard_by};
 ghost use Rattle.syn_expr_put.specs.Arm.{guarded_by};
 ghost use Rattle.syn_lower.specs.View.{mapped};

@@ -1,9 +1,5 @@
 //! What is lent of an expression of each kind.
 
-ghost use Rattle.std.specs.Prelude.{◌≡◌};
-ghost use Rattle.syn_expr_kinds.specs.Node as spec;
-ghost use Rattle.syn_expr_all.specs.View.{tree_of, arm_of};
-
 use crate::control::Arm;
 use crate::expr::Expr;
 use syn_expr_kinds::node::{Attributes, HasNode, Operands};

@@ -1,10 +1,6 @@
 //! What is lent of an expression of each kind but for its operands, by the shape that it has.
 
-ghost use Rattle.std.specs.Prelude.{◌≡◌, is_some};
 ghost use Rattle.syn_expr_all.specs.Lents as lents;
-ghost use Rattle.syn_expr_all.specs.View.{tree_of, pat_of};
-ghost use Rattle.syn_expr_kinds.specs.Node as spec;
-ghost use Rattle.syn_lower.specs.View.{mapped};
 
 use crate::expr::Expr;
 use crate::pat::Pat;

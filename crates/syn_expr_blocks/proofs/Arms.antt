@@ -10,7 +10,7 @@ use Rattle.syn_grammar.specs.Slot as slot
 use Rattle.syn_grammar.specs.Slot.{behind_arm, fat_arrow, piece_form}
 use Rattle.syn_grammar.specs.Stands.{Stands, Operands}
 use Rattle.syn_grammar.specs.Read.{expr, bare_operands}
-use Rattle.syn_grammar.proofs.Chains.{some_is, then_some, chosen}
+use Rattle.syn_grammar.proofs.Chains.{some_is, then_some}
 use Rattle.syn_grammar.proofs.Needs.{heads}
 use Rattle.syn_grammar.proofs.Exact.{expr_sound, expr_complete}
 use Rattle.syn_grammar.proofs.Sound.{bare_sound}

@@ -16,7 +16,7 @@ use Rattle.syn_grammar.specs.Tree as e
 use Rattle.syn_grammar.specs.Tree.{Tree, Kids, Piece, Ending, Frame, frame, none, kid, plain_block}
 use Rattle.syn_grammar.specs.Slot as slot
 use Rattle.syn_grammar.specs.Head.{label}
-use Rattle.syn_grammar.specs.Slot.{piece_form, piece_place, ending_at, behind_arm, if_word, else_word, while_word, for_head, fat_arrow, after}
+use Rattle.syn_grammar.specs.Slot.{piece_form, ending_at, behind_arm, if_word, else_word, while_word, for_head, fat_arrow, after}
 use Rattle.syn_grammar.specs.Stands.{frame_stands}
 use Rattle.syn_grammar.specs.Read.{Reading, expr, all_of, before, ended_by, operand_of, operands_by, bare_operands, content, framed_by, looped, loop_read}
 use Rattle.syn_grammar.proofs.Chains.{some_is, then_some}

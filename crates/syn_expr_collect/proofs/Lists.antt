@@ -9,7 +9,7 @@ use Rattle.syn_lower_lists.specs.View.{values, last_of}
 use Rattle.syn_parts.specs.Pat.{PatTree, guarded}
 use Rattle.syn_grammar.specs.declared.note.Note.{Note}
 use Rattle.syn_grammar.specs.Tree as e
-use Rattle.syn_grammar.specs.Tree.{Tree, Kids, Ending, Piece, none, kid}
+use Rattle.syn_grammar.specs.Tree.{Tree, Kids, kid}
 use Rattle.syn_grammar.specs.Notes.{stack, kids_below}
 use Rattle.syn_expr_kinds.specs.Pats.{ArmView, strays, guard_kids, arm_ending, arm_kids, arms}
 use Rattle.syn_expr_kinds.specs.View.{FieldView, elements, fields, option_kid}

@@ -1,5 +1,5 @@
 -- What is noted of a node and of its operands, by what is lent of them.
-use Rattle.std.specs.Prelude.{◌≡◌, ℕ, ◌+◌, Bool, true, false, if◌then◌else◌, List, [], ◌∷◌, ◌++◌, Option, Some, None}
+use Rattle.std.specs.Prelude.{◌≡◌, ℕ, ◌+◌, if◌then◌else◌, List, [], ◌∷◌, ◌++◌, Option, Some, None}
 use Rattle.syn_parts.specs.Tree.{AttributeTree}
 use Rattle.syn_grammar.specs.declared.note.Note.{Note}
 use Rattle.syn_grammar.specs.Tree as e

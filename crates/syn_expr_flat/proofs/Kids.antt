@@ -7,7 +7,7 @@ use Rattle.std.specs.declared.alloc.Global.{Global}
 use Rattle.syn_parts.specs.Form.{is_nil}
 use Rattle.syn_grammar.specs.declared.kinds.Limits.{Limits}
 use Rattle.syn_grammar.specs.Tree as e
-use Rattle.syn_grammar.specs.Tree.{Tree, Kids, Ending, Piece, Jump, leaf, lead, mid, post, tail, frame, none, kid, flatten, flatten_kids}
+use Rattle.syn_grammar.specs.Tree.{Tree, Kids, Ending, Piece, Jump, lead, tail, frame, none, kid, flatten, flatten_kids}
 use Rattle.syn_lower.specs.View.{values, trails, last_of}
 use Rattle.syn_lower_lists.specs.declared.punctuated.Punctuated.{Punctuated}
 use Rattle.syn_expr_kinds.specs.Pats.{strays}

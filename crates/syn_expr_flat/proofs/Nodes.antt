@@ -11,7 +11,7 @@ use Rattle.syn_parts.specs.PatOwn.{attributes_own}
 use Rattle.syn_lower_leaves.specs.declared.attr.Attribute.{Attribute}
 use Rattle.syn_grammar.specs.declared.kinds.Infix.{Infix}
 use Rattle.syn_grammar.specs.Tree as e
-use Rattle.syn_grammar.specs.Tree.{Tree, Kids, Leaf, leaf, paren, adorned, lead, mid, post, tail, frame, none, kid, adorn, prepend, flatten, flatten_kids}
+use Rattle.syn_grammar.specs.Tree.{Tree, Leaf, leaf, paren, adorned, lead, mid, post, tail, frame, none, adorn, prepend, flatten}
 use Rattle.syn_grammar.specs.Stands.{is_verbatim_leaf}
 use Rattle.syn_expr_kinds.specs.Attrs.{attrs_of, all_outer}
 use Rattle.syn_expr_flat.specs.Outer.{HasOuterParens}

@@ -12,7 +12,7 @@ use Rattle.syn_grammar.specs.declared.kinds.Place.{Place}
 use Rattle.syn_grammar.specs.Slot.{Slot, Holder}
 use Rattle.syn_grammar.specs.Stands.{Node, is_leaf, is_become, is_attributed, is_paren, is_adorned_by, is_lead, is_mid, is_post, is_tail, is_indexed, is_frame, Content, holds_none, holds_within, holds_bare, Operands, no_more, one_more, short, block, arms_inside, fields_of, short_value, path_of, Stands}
 use Rattle.syn_grammar.specs.Tree as e
-use Rattle.syn_grammar.specs.Tree.{Tree, Kids, Piece, leaf, paren, adorned, lead, mid, post, tail, frame, none, kid}
+use Rattle.syn_grammar.specs.Tree.{Tree, Kids, Piece, paren, tail, none}
 use Rattle.syn_grammar.proofs.Chains.{behind_some}
 use Rattle.syn_expr_kinds.specs.Attrs.{all_outer}
 use Rattle.syn_expr_flat.specs.Outer.{AreOuter, HasOuterParens, HaveOuterParens}

@@ -5,9 +5,7 @@ ghost use Rattle.syn_expr_heads.specs.View.{body_of, ending_of};
 ghost use Rattle.syn_grammar.specs.Slot as slot;
 ghost use Rattle.syn_grammar.specs.Tree as e;
 ghost use Rattle.syn_grammar.specs.WellFormed.{attributes_inner};
-ghost use Rattle.syn_lexer.specs.declared.lexeme.Delimiter.TheVariants as del;
 ghost use Rattle.syn_lower_leaves.specs.Reads.{Reads};
-ghost use Rattle.syn_tokens.specs.Front.{group_at};
 ghost use Rattle.syn_tokens.specs.Tok.{weight};
 
 use crate::block::body;

@@ -9,8 +9,6 @@ ghost use Rattle.syn_grammar.specs.Head as head;
 ghost use Rattle.syn_grammar.specs.Slot as slot;
 ghost use Rattle.syn_lower_leaves.specs.Reads.{Reads};
 ghost use Rattle.syn_lower_readers.specs.Reads.{Callable};
-ghost use Rattle.syn_parts.specs.Form as form;
-ghost use Rattle.syn_parts.specs.Mark as mark;
 ghost use Rattle.syn_parts.specs.Pat as pat;
 ghost use Rattle.syn_tokens.specs.Tok.{weight};
 

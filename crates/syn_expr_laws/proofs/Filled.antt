@@ -1,5 +1,5 @@
 -- In each pattern there is a guard for each place.
-use Rattle.std.proofs.Common.{◌≡◌, ℕ, ◌+◌, List, [], ◌∷◌, ◌++◌, map, flat_map, length, Option, Some, None, is_some, refl, sym, ◌∙◌, ap, subst, rules, arith}
+use Rattle.std.proofs.Common.{◌≡◌, ◌+◌, List, [], ◌∷◌, ◌++◌, map, flat_map, length, Option, Some, None, is_some, refl, sym, ◌∙◌, ap, subst, rules}
 use Rattle.std.proofs.lemmas.List.{map-append, length-append}
 use Rattle.std.proofs.lemmas.List.Folds.{flat_map-map}
 use Rattle.std.proofs.lemmas.Grind.{flat_map-append}
@@ -12,7 +12,7 @@ use Rattle.syn_parts.specs.Pat.{PatTree}
 use Rattle.syn_grammar.specs.Tree.{Tree}
 use Rattle.syn_lower_leaves.specs.View.{mapped, lit_of}
 use Rattle.syn_lower.specs.View.{last_of, type_of, path_of, qself_or, macro_of}
-use Rattle.syn_pat_kinds.specs.View.{PatView, attributed_by, attributes_of, bound_of, is_closed, field_of, field_guards, field_pat_of}
+use Rattle.syn_pat_kinds.specs.View.{attributed_by, attributes_of, bound_of, is_closed, field_of, field_guards, field_pat_of}
 use Rattle.syn_pat_kinds.specs.declared.pat.FieldPatOf.{FieldPatOf}
 use Rattle.syn_pat_kinds.specs.declared.pat.FieldPatKindOf.{FieldPatKindOf}
 use Rattle.syn_pat_kinds.specs.declared.pat.FieldPatKindOf.TheVariants as field

@@ -1,13 +1,12 @@
 -- Guards stand beside a pattern's tree, from left to right, as many as it has places for: so the tree of a list of patterns
 -- and the guards of all tell the guards of each.
-use Rattle.std.proofs.Common.{◌≡◌, ℕ, ◌+◌, suc, Bool, true, false, List, [], ◌∷◌, ◌++◌, map, flat_map, length, refl, sym, ◌∙◌, ap, arith}
+use Rattle.std.proofs.Common.{◌≡◌, ℕ, ◌+◌, Bool, true, false, List, [], ◌∷◌, ◌++◌, map, flat_map, length, refl, sym, ◌∙◌, ap}
 use Rattle.std.proofs.lemmas.List.{length-append}
 use Rattle.syn_parts.specs.Tree.{AttributeTree}
 use Rattle.syn_parts.specs.Pat as t
-use Rattle.syn_parts.specs.Pat.{PatTree, SubPat, Pats, Fields, FieldTree, FieldPatTree}
+use Rattle.syn_parts.specs.Pat.{PatTree, SubPat, Pats, Fields, FieldTree}
 use Rattle.syn_grammar.specs.Tree.{Tree}
 use Rattle.syn_pat_kinds.specs.View.{PatView, attributed_by}
-use Rattle.syn_lower_leaves.proofs.Ties.{pair_path}
 
 -- ---- the places for guards
 

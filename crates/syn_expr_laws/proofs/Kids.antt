@@ -4,10 +4,8 @@ use Rattle.syn_parts.specs.Tree.{AttributeTree, ReturnTree, default, given}
 use Rattle.syn_parts.specs.Pat as t
 use Rattle.syn_parts.specs.Pat.{PatTree, guarded}
 use Rattle.syn_grammar.specs.Tree as e
-use Rattle.syn_grammar.specs.Tree.{Tree, Kids, Piece, Ending, ClosureHead, lead, frame, none, kid}
-use Rattle.syn_pat_kinds.specs.View.{PatView}
+use Rattle.syn_grammar.specs.Tree.{Tree, Kids, Ending, ClosureHead, none, kid}
 use Rattle.syn_expr_kinds.specs.Pats.{ArmView, strays, guard_kids, arm_kids, arm_ending, arms, closure_by}
-use Rattle.syn_lower_leaves.proofs.Ties.{pair_path}
 
 -- ---- guards where none may stand
 

@@ -1,5 +1,5 @@
 -- The equality of each kind of expression that holds no pattern, by that of the expressions in it.
-use Rattle.std.proofs.Common.{◌≡◌, ◌↔◌, Bool, true, false, not, ◌&&◌, List, [], ◌∷◌, ◌++◌, map, Option, Some, None, is_some, refl, sym, ◌∙◌, ap}
+use Rattle.std.proofs.Common.{◌≡◌, ◌↔◌, Bool, true, false, List, [], Option, Some, None, refl, ap}
 use Rattle.std.specs.Option.{option_eq}
 use denote.RattleType.{RattleType}
 use mir.Syntax.{Dict, impl, tnil, dnil}
@@ -7,17 +7,17 @@ use Rattle.std.specs.declared.boxed.Box.{Box}
 use Rattle.std.specs.declared.alloc.Global.{Global}
 use Rattle.syn_tokens.specs.Tok.{Tok}
 use Rattle.syn_parts.specs.Text.{Text}
-use Rattle.syn_parts.specs.Tree.{AttributeTree, TypeTree, QSelfTree, PathTree, ArgumentsTree, no_arguments}
+use Rattle.syn_parts.specs.Tree.{AttributeTree, TypeTree, QSelfTree, PathTree, ArgumentsTree}
 use Rattle.syn_parts.specs.Pat.{MemberTree}
 use Rattle.syn_grammar.specs.Tree as e
-use Rattle.syn_grammar.specs.Tree.{Tree, Kids, Body, Jump, leaf, paren, lead, mid, post, tail, frame, none, kid, adorn}
+use Rattle.syn_grammar.specs.Tree.{Tree, Kids, Body, Jump, leaf, paren, lead, mid, post, tail, frame, none, kid}
 use Rattle.syn_grammar.specs.declared.kinds.BinKind.{BinKind}
 use Rattle.syn_grammar.specs.declared.kinds.UnKind.{UnKind}
 use Rattle.syn_grammar.specs.declared.kinds.Limits.{Limits}
 use Rattle.syn_grammar.specs.declared.kinds.Infix.TheVariants as inf
 use Rattle.syn_lower_leaves.specs.Equal.{IsEqualityOf}
 use Rattle.syn_lower_leaves.specs.View.{mapped, lifetime_of}
-use Rattle.syn_lower_leaves.proofs.Ties.{both_tie, on_tie, into_tie, made_tie, option_tie, some_tie, text_tie, pair_path, and_true_tie, constant_tie}
+use Rattle.syn_lower_leaves.proofs.Ties.{both_tie, on_tie, made_tie, option_tie, some_tie, text_tie, pair_path, and_true_tie, constant_tie}
 use Rattle.syn_lower_leaves.proofs.LeafTies.{lifetime_tie, block_tie, lit_tie}
 use Rattle.syn_lower.specs.View.{type_of, qself_or}
 use Rattle.syn_lower.specs.declared.ty.«Type».{«Type»}
@@ -34,7 +34,6 @@ use Rattle.syn_op.specs.contracts.same.BinOpPartialEq.TheImpl as bin_test
 use Rattle.syn_op.specs.contracts.same.UnOpPartialEq.TheImpl as un_test
 use Rattle.syn_op.specs.contracts.same.RangeLimitsPartialEq.TheImpl as limits_test
 use Rattle.syn_op.proofs.Equality.{binary, prefix, limits}
-use Rattle.syn_expr_parts.specs.View.{member_of, label_of}
 use Rattle.syn_expr_parts.proofs.Ties.{member_tie, label_tie}
 use Rattle.syn_expr_kinds.specs.declared.atom.ExprArrayOf.{ExprArrayOf}
 use Rattle.syn_expr_kinds.specs.contracts.atom.ExprArrayOfPartialEq.TheImpl as array_test
@@ -46,7 +45,6 @@ use Rattle.syn_expr_kinds.specs.declared.atom.ExprRepeatOf.{ExprRepeatOf}
 use Rattle.syn_expr_kinds.specs.contracts.atom.ExprRepeatOfPartialEq.TheImpl as repeat_test
 use Rattle.syn_expr_kinds.specs.declared.atom.ExprTupleOf.{ExprTupleOf}
 use Rattle.syn_expr_kinds.specs.contracts.atom.ExprTupleOfPartialEq.TheImpl as tuple_test
-use Rattle.syn_expr_kinds.specs.declared.atom.ExprInfer.{ExprInfer}
 use Rattle.syn_expr_kinds.specs.contracts.atom.ExprInferPartialEq.TheImpl as infer_test
 use Rattle.syn_expr_kinds.specs.declared.atom.ExprLit.{ExprLit}
 use Rattle.syn_expr_kinds.specs.contracts.atom.ExprLitPartialEq.TheImpl as lit_test
@@ -106,9 +104,8 @@ use Rattle.syn_expr_kinds.specs.declared.jump.ExprYieldOf.{ExprYieldOf}
 use Rattle.syn_expr_kinds.specs.contracts.jump.ExprYieldOfPartialEq.TheImpl as yield_test
 use Rattle.syn_expr_kinds.specs.declared.structure.FieldValueOf.{FieldValueOf}
 use Rattle.syn_expr_kinds.specs.contracts.structure.FieldValueOfPartialEq.TheImpl as field_value_test
-use Rattle.syn_expr_kinds.specs.declared.structure.ExprStructOf.{ExprStructOf}
 use Rattle.syn_expr_kinds.specs.contracts.structure.ExprStructOfPartialEq.TheImpl as struct_test
-use Rattle.syn_expr_kinds.specs.View.{boxed, FieldView, fields, option_kid, range_between, jump_with, body_of, else_of, turbofish_of, expr_array_of, expr_group_of, expr_paren_of, expr_repeat_of, expr_tuple_of, expr_infer_of, expr_lit_of, expr_macro_of, expr_path_of, expr_assign_of, expr_binary_of, expr_cast_of, expr_range_of, expr_raw_addr_of, expr_reference_of, expr_unary_of, expr_await_of, expr_call_of, expr_field_of, expr_index_of, expr_method_call_of, expr_try_of, expr_async_of, expr_block_of, expr_const_of, expr_if_of, expr_loop_of, expr_try_block_of, expr_unsafe_of, expr_while_of, expr_break_of, expr_continue_of, expr_return_of, expr_yield_of, field_value_of, expr_struct_of}
+use Rattle.syn_expr_kinds.specs.View.{boxed, FieldView, range_between, jump_with, body_of, else_of, turbofish_of, expr_array_of, expr_group_of, expr_paren_of, expr_repeat_of, expr_tuple_of, expr_infer_of, expr_lit_of, expr_macro_of, expr_path_of, expr_assign_of, expr_binary_of, expr_cast_of, expr_range_of, expr_raw_addr_of, expr_reference_of, expr_unary_of, expr_await_of, expr_call_of, expr_field_of, expr_index_of, expr_method_call_of, expr_try_of, expr_async_of, expr_block_of, expr_const_of, expr_if_of, expr_loop_of, expr_try_block_of, expr_unsafe_of, expr_while_of, expr_break_of, expr_continue_of, expr_return_of, expr_yield_of, field_value_of}
 use Rattle.syn_expr_laws.proofs.Shapes.{behind_tie, around_tie, attrs_tie, elements_tie, boxed_tie, is_core}
 
 abbrev pub no_dict : Dict

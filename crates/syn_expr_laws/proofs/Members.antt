@@ -1,14 +1,13 @@
 -- The equality of what holds both expressions and patterns, by that of both: of its parts, as the types of the cycle have them.
-use Rattle.std.proofs.Common.{◌≡◌, Bool, true, false, List, [], ◌∷◌, ◌++◌, map, flat_map, Option, is_some, refl, sym, ◌∙◌, ap}
+use Rattle.std.proofs.Common.{◌≡◌, Bool, true, List, [], ◌∷◌, ◌++◌, Option, refl, ap}
 use Rattle.syn_tokens.specs.Tok.{Tok}
 use Rattle.syn_parts.specs.Text.{Text}
 use Rattle.syn_parts.specs.Tree.{AttributeTree, LifetimesTree, ReturnTree, default, given}
 use Rattle.syn_parts.specs.Pat as t
 use Rattle.syn_parts.specs.Pat.{PatTree}
 use Rattle.syn_grammar.specs.Tree as e
-use Rattle.syn_grammar.specs.Tree.{Tree, Kids, Body, ClosureHead, lead, frame, none, kid}
-use Rattle.syn_pat_kinds.specs.View.{PatView}
-use Rattle.syn_expr_kinds.specs.Pats.{ArmView, strays, trees, guards, closure_by, arms}
+use Rattle.syn_grammar.specs.Tree.{Tree, Body, ClosureHead, lead, frame, none, kid}
+use Rattle.syn_expr_kinds.specs.Pats.{ArmView, strays, closure_by, arms}
 use Rattle.syn_expr_kinds.specs.View.{body_of}
 use Rattle.syn_lower_leaves.proofs.Ties.{pair_path}
 use Rattle.syn_expr_laws.proofs.Shapes.{is_core}

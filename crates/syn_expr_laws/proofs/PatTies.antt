@@ -1,8 +1,7 @@
 -- The equality of each kind of pattern, by that of the patterns in it.
-use Rattle.std.proofs.Common.{◌≡◌, ◌↔◌, Bool, true, false, ◌&&◌, List, [], ◌∷◌, ◌++◌, map, flat_map, Option, Some, None, is_some, length, refl, sym, ◌∙◌, ap}
+use Rattle.std.proofs.Common.{◌≡◌, ◌↔◌, Bool, true, ◌&&◌, List, [], ◌∷◌, ◌++◌, map, flat_map, Option, Some, None, is_some, length, refl, sym, ◌∙◌, ap}
 use Rattle.std.specs.Option.{option_eq}
 use denote.RattleType.{RattleType}
-use mir.Syntax.{Dict, impl, tnil, dnil}
 use Rattle.std.specs.declared.boxed.Box.{Box}
 use Rattle.std.specs.declared.alloc.Global.{Global}
 use Rattle.syn_tokens.specs.Tok.{Tok}
@@ -14,7 +13,7 @@ use Rattle.syn_parts.specs.Pat.{MemberTree, PatTree, PatBound, SubPat, Pats, Fie
 use Rattle.syn_parts.proofs.Trees.{pats-pats_of, fields-fields_of}
 use Rattle.syn_grammar.specs.Tree.{Tree}
 use Rattle.syn_lower_leaves.specs.Equal.{IsEqualityOf}
-use Rattle.syn_lower_leaves.proofs.Ties.{both_tie, on_tie, into_tie, made_tie, option_tie, some_tie, text_tie, pair_path, and_true_tie, constant_tie}
+use Rattle.syn_lower_leaves.proofs.Ties.{both_tie, on_tie, into_tie, option_tie, some_tie, text_tie, pair_path, constant_tie}
 use Rattle.syn_lower_leaves.proofs.LeafTies.{block_tie, lit_tie}
 use Rattle.syn_lower.specs.View.{type_of, path_of, qself_or, values, trails}
 use Rattle.syn_lower.specs.declared.ty.«Type».{«Type»}

@@ -8,8 +8,6 @@ use native.Mathlib.Decide.{map_dec}
 use denote.Enum.Declared.{Choice}
 use denote.Hole.Carrier.{Values}
 use denote.Hole.Compared.{compared}
-use Rattle.syn_tokens.specs.Tok.{Tok}
-use Rattle.syn_parts.specs.Text.{Text}
 use Rattle.syn_parts.specs.Tree.{AttributeTree, ReturnTree, default, given}
 use Rattle.syn_parts.specs.Pat as t
 use Rattle.syn_parts.specs.Pat.{PatTree}
@@ -22,7 +20,7 @@ use Rattle.syn_lower_leaves.specs.Equal.{IsEqualityOf}
 use Rattle.syn_lower_leaves.proofs.Ties.{both_tie, on_tie, into_tie, made_tie, option_tie, some_tie, list_tie, pair_path, along, by_test, rank_end, rank_more, decides, decided_tie, one_test, is_compared}
 use Rattle.syn_lower_leaves.proofs.LeafTies.{toks_tie, block_tie}
 use Rattle.syn_lower_leaves.specs.View.{lit_of, lifetime_of}
-use Rattle.syn_lower.specs.View.{mapped, lifetimes_of, return_of, values, trails, type_of, path_of, qself_or, macro_of, is_mut, is_some_pair}
+use Rattle.syn_lower.specs.View.{mapped, lifetimes_of, return_of, values, trails, type_of, path_of, qself_or, macro_of, is_mut}
 use Rattle.syn_op.specs.View.{bin_kind, un_kind, limits_kind}
 use Rattle.syn_lower_laws.proofs.PartTies.{lifetimes_tie}
 use Rattle.syn_lower_laws.proofs.Sames.{return_tie}

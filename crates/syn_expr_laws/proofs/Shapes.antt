@@ -5,12 +5,10 @@ use Rattle.std.specs.Option.{option_eq}
 use Rattle.std.specs.declared.vec.Vec.{Vec}
 use Rattle.std.specs.declared.boxed.Box.{Box}
 use Rattle.std.specs.declared.alloc.Global.{Global}
-use Rattle.syn_parts.specs.Form.{is_nil}
 use Rattle.syn_parts.specs.Tree.{AttributeTree}
 use Rattle.syn_grammar.specs.Tree as e
 use Rattle.syn_grammar.specs.Tree.{Tree, Kids, Ending, adorn, adorned, none, kid}
 use Rattle.syn_lower_leaves.specs.Equal.{IsEqualityOf}
-use Rattle.syn_lower_leaves.specs.View.{attribute_of}
 use Rattle.syn_lower_leaves.specs.declared.attr.Attribute.{Attribute}
 use Rattle.syn_lower_leaves.specs.contracts.attr.AttributePartialEq.TheImpl as attribute_test
 use Rattle.syn_lower_leaves.proofs.Ties.{both_tie, on_tie, into_tie, list_tie, pair_path}
@@ -19,7 +17,7 @@ use Rattle.syn_lower_lists.specs.View.{values, trails, is_some_pair, last_of}
 use Rattle.syn_lower_lists.specs.declared.punctuated.Punctuated.{Punctuated}
 use Rattle.syn_lower_laws.proofs.ListTies.{punctuated_tie}
 use Rattle.syn_expr_kinds.specs.Attrs.{attrs_of, outer_of, inner_of, outer_part, inner_part, before_inner, from_inner, is_in_order}
-use Rattle.syn_expr_kinds.specs.View.{elements, ending_of, boxed, FieldView, fields, option_kid}
+use Rattle.syn_expr_kinds.specs.View.{elements, boxed}
 
 -- ---- attributes
 

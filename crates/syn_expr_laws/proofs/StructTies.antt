@@ -1,17 +1,16 @@
 -- The equality of struct expressions, by that of the expressions in their fields.
 use Rattle.std.proofs.Common.{◌≡◌, Bool, true, false, not, ◌&&◌, List, [], ◌∷◌, map, Option, Some, None, is_some, refl, sym, ◌∙◌, ap}
 use denote.RattleType.{RattleType}
-use Rattle.syn_parts.specs.Form.{is_nil}
 use Rattle.syn_parts.specs.Tree.{QSelfTree, PathTree}
 use Rattle.syn_grammar.specs.Tree as e
-use Rattle.syn_grammar.specs.Tree.{Tree, Kids, Ending, frame, none, kid}
+use Rattle.syn_grammar.specs.Tree.{Tree, Kids, Ending, frame, kid}
 use Rattle.syn_lower_leaves.specs.Equal.{IsEqualityOf}
 use Rattle.syn_lower_leaves.specs.View.{mapped}
 use Rattle.syn_lower_leaves.proofs.Ties.{both_tie, on_tie, into_tie, some_tie, pair_path}
 use Rattle.syn_lower.specs.View.{type_of, path_of, qself_or, values, trails, is_some_pair}
 use Rattle.syn_lower_laws.proofs.ListTies.{punctuated_tie}
 use Rattle.syn_lower_laws.proofs.Sames.{path_tie}
-use Rattle.syn_expr_kinds.specs.View.{boxed, FieldView, fields, ending_of, option_kid, field_value_of, expr_struct_of}
+use Rattle.syn_expr_kinds.specs.View.{boxed, FieldView, fields, option_kid, field_value_of, expr_struct_of}
 use Rattle.syn_expr_kinds.specs.declared.structure.ExprStructOf.{ExprStructOf}
 use Rattle.syn_expr_kinds.specs.contracts.structure.ExprStructOfPartialEq.TheImpl as struct_test
 use Rattle.syn_expr_laws.proofs.Shapes.{behind_tie, boxed_tie, trailed}

@@ -1,5 +1,5 @@
 -- Whether two trees of expressions are equal can be decided.
-use Rattle.std.proofs.Common.{◌≡◌, ℕ, Bool, true, false, List, Option, Some, None, refl, sym, ◌∙◌, ap}
+use Rattle.std.proofs.Common.{◌≡◌, Bool, true, false, List, Option, Some, None, refl, sym, ◌∙◌, ap}
 use mathlib.Core.HLevel.{Discrete, ×_discrete}
 use mathlib.Core.Bool.{Bool-discrete}
 use mathlib.Core.List.{List-discrete}
@@ -11,7 +11,7 @@ use Rattle.syn_tokens.specs.Front.{same_delimiter}
 use Rattle.syn_tokens.specs.Same.{same_list, same_list-true, same_list_equiv, same_delimiter-true, same_delimiter-refl}
 use Rattle.syn_parts.specs.Text.{Text}
 use Rattle.syn_parts.specs.Tree as t
-use Rattle.syn_parts.specs.Tree.{LitTree, AttributeTree, LifetimesTree, TypeTree, SegmentTree, PathTree, QSelfTree, no_qself, ArgumentsTree, ReturnTree}
+use Rattle.syn_parts.specs.Tree.{LitTree, AttributeTree, LifetimesTree, TypeTree, SegmentTree, PathTree, QSelfTree, no_qself, ReturnTree}
 use Rattle.syn_parts.specs.Part.{MacroTree}
 use Rattle.syn_parts.specs.Pat.{MemberTree, a_name, an_index, PatBound, lit_bound, path_bound, PatTree, wild, rest, range, a_lit, a_binding, a_path, a_mac, a_struct, tuple_struct, a_tuple, a_paren, a_slice, a_reference, a_block, alternatives, guarded, typed, attributed, SubPat, no_sub, sub, Pats, no_pats, more_pats, Fields, no_fields, more_fields, FieldTree, short, full}
 use Rattle.syn_parts.specs.Same.{same_lit}

@@ -1,10 +1,10 @@
 -- A field by itself is read exactly where it stands.
-use Rattle.std.proofs.Common.{◌≡◌, true, false, List, Some, refl, ap, sym, subst, arith}
+use Rattle.std.proofs.Common.{◌≡◌, true, false, List, Some, refl, subst}
 use Rattle.syn_tokens.specs.Tok.{Tok}
 use Rattle.syn_parts.specs.Pat.{a_name, an_index}
 use Rattle.syn_grammar.specs.Place.{plain}
 use Rattle.syn_grammar.specs.Tree as e
-use Rattle.syn_grammar.specs.Tree.{Tree, Piece}
+use Rattle.syn_grammar.specs.Tree.{Piece}
 use Rattle.syn_grammar.specs.Slot as slot
 use Rattle.syn_grammar.specs.Slot.{piece_form}
 use Rattle.syn_grammar.specs.Stands.{path_of}

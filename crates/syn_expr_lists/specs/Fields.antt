@@ -5,7 +5,7 @@ use Rattle.syn_parts.specs.Form.{and_then}
 use Rattle.syn_parts.specs.Pat.{MemberTree, a_name, an_index}
 use Rattle.syn_grammar.specs.Place.{plain}
 use Rattle.syn_grammar.specs.Tree as e
-use Rattle.syn_grammar.specs.Tree.{Tree, Kids, Piece, Ending, none}
+use Rattle.syn_grammar.specs.Tree.{Tree, Kids, Piece, Ending}
 use Rattle.syn_grammar.specs.Slot as s
 use Rattle.syn_grammar.specs.Slot.{piece_form, comma_or_end}
 use Rattle.syn_grammar.specs.Stands.{ends_list, path_of}

@@ -23,7 +23,7 @@ use syn_lower_leaves::front::{comma, semi};
 use syn_lower_lists::punctuated::Punctuated;
 use syn_tokens::buffer::ParseBuffer;
 use syn_tokens::error::{ErrorKind, Result};
-use syn_tokens::token::{Bracket, Comma, Paren, Semi};
+use syn_tokens::token::{Bracket, Comma, Paren};
 
 /// The readers over that of the expressions inside.
 #[derive(Clone, Copy)]

@@ -9,7 +9,7 @@ use Rattle.syn_parts.specs.PatOwn.{attributes_own, pat_own}
 use Rattle.syn_pat_kinds.proofs.Appends.{attributes_append, pat_append}
 use Rattle.syn_grammar.specs.Next.{enclosed, in_arm}
 use Rattle.syn_grammar.specs.Tree as e
-use Rattle.syn_grammar.specs.Tree.{Tree, Kids, Piece, none, kid, piece_own, ending_own, is_none, is_block_like, with_comma}
+use Rattle.syn_grammar.specs.Tree.{Tree, Kids, Piece, kid, piece_own, ending_own, is_none, is_block_like, with_comma}
 use Rattle.syn_expr_kinds.specs.Pats.{guard_kids, arm_ending}
 use Rattle.syn_expr_kinds.specs.Printed.{whole}
 use Rattle.syn_expr_print.specs.Printing.{kids_spelled, piece_spelled}

@@ -11,7 +11,7 @@ use Rattle.syn_parts.specs.PatOwn.{pat_own}
 use Rattle.syn_pat_kinds.proofs.Appends.{attributes_append}
 use Rattle.syn_grammar.specs.Next.{enclosed, in_arm}
 use Rattle.syn_grammar.specs.Tree as e
-use Rattle.syn_grammar.specs.Tree.{Tree, Kids, none, kid, is_block_like, is_none, size, kids_size}
+use Rattle.syn_grammar.specs.Tree.{Tree, Kids, kid, is_block_like, is_none, size, kids_size}
 use Rattle.syn_expr_kinds.specs.Pats.{ArmView, strays, guard_kids, arm_ending, arm_kids, arms}
 use Rattle.syn_expr_put.specs.Arm.{guarded_by, has_guard}
 use Rattle.syn_expr_collect.specs.Arm.{guard_by, guard_at, last_guard}

@@ -12,7 +12,7 @@ use Rattle.syn_lower_lists.specs.View.{values, trails, last_of, is_some_pair}
 use Rattle.syn_lower_lists.specs.declared.punctuated.Punctuated.{Punctuated}
 use Rattle.syn_grammar.specs.Next.{enclosed}
 use Rattle.syn_grammar.specs.Tree as e
-use Rattle.syn_grammar.specs.Tree.{Tree, Kids, Ending, none, kid, piece_own, ending_own, is_none, with_comma}
+use Rattle.syn_grammar.specs.Tree.{Tree, Kids, Ending, kid, piece_own, ending_own, is_none, with_comma}
 use Rattle.syn_expr_kinds.specs.View.{FieldView, fields}
 use Rattle.syn_expr_kinds.specs.Printed.{whole, field_spelled}
 use Rattle.syn_expr_print.specs.Printing.{kids_spelled, piece_spelled}

@@ -23,7 +23,7 @@ use Rattle.syn_expr_notes.specs.declared.label.TrailerKind.{TrailerKind}
 use Rattle.syn_expr_notes.specs.declared.label.FrameKind.{FrameKind}
 use Rattle.syn_expr_print.specs.Shape.{leaf_shape, paren_shape, lead_shape, mid_shape, post_shape, tail_shape, frame_shape, shape_at}
 use Rattle.syn_expr_kinds.specs.Node.{no_trees, one_tree, two_trees, based_by, framed, operands_at, leaf_at, is_paren, lead_at, operator_at, post_at, trailer_at, frame_at, operand_kids, first_of, second_of}
-use Rattle.syn_expr_kinds.proofs.Lents.{first-based, second-based, kids-based}
+use Rattle.syn_expr_kinds.proofs.Lents.{first-based}
 use Rattle.syn_expr_kinds.specs.Pats.{strays}
 use Rattle.syn_expr_print.specs.Printing.{spelled, spelled_in, kids_spelled, core, node_of, IsLent}
 use Rattle.syn_expr_print.proofs.Spellings.{leaf-spelled, paren-spelled, lead-spelled, mid-spelled, post-spelled, tail-spelled, open-spelled, closed-spelled, strays-spelled, strays-below, below-core, size-core}

@@ -11,7 +11,7 @@ use Rattle.syn_lower_lists.specs.declared.punctuated.Punctuated.{Punctuated}
 use Rattle.syn_grammar.specs.Next.{enclosed}
 use Rattle.syn_grammar.specs.Notes.{stack, kids_below}
 use Rattle.syn_grammar.specs.Tree as e
-use Rattle.syn_grammar.specs.Tree.{Tree, Kids, none, kid, size, kids_size}
+use Rattle.syn_grammar.specs.Tree.{Tree, Kids, size, kids_size}
 use Rattle.syn_expr_kinds.specs.View.{FieldView, boxed, elements, fields, option_kid}
 use Rattle.syn_expr_collect.specs.Below.{backwards, total, field_below, option_below}
 use Rattle.syn_expr_print.specs.Placed.{comma_if, last_field_below, last_field_size, last_field_spelled, last_spelled, option_size, rest_spelled}

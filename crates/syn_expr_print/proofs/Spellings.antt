@@ -16,7 +16,7 @@ use Rattle.syn_grammar.specs.Next.{enclosed, left_context, right_context, base_c
 use Rattle.syn_grammar.specs.Notes.{note_of, below, kids_below, place_by, left_by, base_by, lead_by}
 use Rattle.syn_grammar.specs.Rule.{put, bare, bare_kids, is_operation, lead_asks, left_asks, base_asks, place_asks}
 use Rattle.syn_grammar.specs.Tree as e
-use Rattle.syn_grammar.specs.Tree.{Tree, Kids, Leaf, Lead, Post, Trailer, Frame, Enclosure, leaf, paren, adorned, lead, mid, post, tail, frame, kid, adorn, own, own_tokens, kids_own, leaf_own, lead_own, infix_own, post_own, post_op, trailer_own, frame_own, enclosure, framed, fill, fill_kids, needs_last_comma, size}
+use Rattle.syn_grammar.specs.Tree.{Tree, Kids, Leaf, Lead, Post, Trailer, Frame, Enclosure, leaf, paren, adorned, lead, mid, post, tail, frame, own, own_tokens, kids_own, leaf_own, lead_own, infix_own, post_own, post_op, trailer_own, frame_own, enclosure, framed, fill, fill_kids, needs_last_comma, size}
 use Rattle.syn_grammar.proofs.NoteLemmas.{notes_are_right, note_fill}
 use Rattle.syn_grammar.proofs.FillIns.{operation_fill}
 use Rattle.syn_expr_kinds.specs.Node.{attributes_at}

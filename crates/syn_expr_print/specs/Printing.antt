@@ -1,5 +1,5 @@
 -- What a printer writes of a node and of its operands, and the notes that it takes.
-use Rattle.std.specs.Prelude.{◌≡◌, Bool, false, List, [], ◌++◌, Option, Some, None}
+use Rattle.std.specs.Prelude.{◌≡◌, Bool, false, List, [], ◌++◌}
 use Rattle.syn_tokens.specs.Tok.{Tok}
 use Rattle.syn_grammar.specs.declared.next.Context.{Context}
 use Rattle.syn_grammar.specs.declared.note.Note.{Note}

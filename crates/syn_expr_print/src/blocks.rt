@@ -1,7 +1,7 @@
 //! What stands in braces that may be added: what is behind `else`, and the body of a closure with an output (Rust Reference,
 //! "`if` expressions", "Closure expressions").
 
-ghost use Rattle.std.specs.Prelude.{◌≡◌, ◌+◌, ◌++◌, ◌∷◌, [], map, OnOk};
+ghost use Rattle.std.specs.Prelude.{◌≡◌, ◌+◌, ◌++◌, ◌∷◌, [], OnOk};
 ghost use Rattle.syn_expr_print.specs.Placed as placed;
 ghost use Rattle.syn_expr_kinds.specs.Printed as printed;
 ghost use Rattle.syn_expr_print.specs.Printing.{EndsWith, piece_spelled};

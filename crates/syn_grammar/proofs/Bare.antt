@@ -7,7 +7,7 @@ use Rattle.syn_grammar.specs.Next.{enclosed, in_arm, in_statement, left_context,
 use Rattle.syn_grammar.specs.Op.{level}
 use Rattle.syn_grammar.specs.Stands.{is_adorned, is_branch}
 use Rattle.syn_grammar.specs.Tree as e
-use Rattle.syn_grammar.specs.Tree.{Tree, Kids, Leaf, Frame, Lead, Piece, Ending, leaf, paren, adorned, lead, mid, post, tail, frame, none, kid, post_op, is_none, is_one, is_block_like, is_block_leaf, is_block_frame, is_silent, needs_comma, needs_last_comma, with_comma, fill_piece, fill, fill_kids, plain_block, own_tokens}
+use Rattle.syn_grammar.specs.Tree.{Tree, Kids, Leaf, Frame, Piece, Ending, leaf, paren, adorned, lead, mid, post, tail, frame, none, kid, post_op, is_none, is_one, is_block_like, needs_comma, needs_last_comma, fill}
 use Rattle.syn_grammar.specs.Slot as s
 use Rattle.syn_grammar.specs.Slot.{Slot, after}
 use Rattle.syn_grammar.specs.Rule.{is_operation, refuses, misplaced, leaf_misplaced, place_asks, left_asks, base_asks, lead_asks, put, piece_put, bare, bare_kids}

@@ -15,7 +15,7 @@ use Rattle.syn_grammar.specs.Place.{rank, takes, at}
 use Rattle.syn_grammar.specs.Op.{infix_at, level, binary_level, goes_on, is_comparison}
 use Rattle.syn_grammar.specs.Next.{lead_level}
 use Rattle.syn_grammar.specs.Tree as e
-use Rattle.syn_grammar.specs.Tree.{Tree, Kids, Leaf, Lead, Post, Trailer, Frame, Piece, leaf, paren, adorned, lead, mid, post, tail, frame, none, kid, post_op}
+use Rattle.syn_grammar.specs.Tree.{Tree, Kids, Leaf, Lead, Trailer, Piece, leaf, paren, adorned, lead, mid, post, tail, frame, none, post_op}
 use Rattle.syn_grammar.specs.Slot.{Slot, Holder}
 use Rattle.syn_grammar.specs.Stands.{Node, Content, Operands, is_leaf, is_become, is_attributed, is_paren, is_adorned_by, is_lead, is_mid, is_post, is_tail, is_indexed, is_frame, holds_none, holds_within, holds_bare, no_more, one_more, short, block, arms_inside, is_base, fits_base, fields_of, trailer_head, short_value, path_of, fits_left, ends, lead_place, refuses_dots, refuses_arrow, compares, carries, is_range, is_infix, is_range_leaf, is_range_lead, is_prefix}
 use Rattle.syn_grammar.specs.Binding.{everywhere, kids_everywhere, binds_right, as_tight, binds_left, compares_once, ranges_stay, RightOperandBindsTighter, LeftOperandBindsAsTight, ComparisonsDontChain, RangeIsNoLeftOperand}

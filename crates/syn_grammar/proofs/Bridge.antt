@@ -7,7 +7,7 @@ use Rattle.syn_parts.specs.Tree.{AttributeTree, QSelfTree, PathTree}
 use Rattle.syn_parts.specs.Part.{is_default}
 use Rattle.syn_parts.specs.Mark.{sign_at, word_at, pound}
 use Rattle.syn_parts.specs.Own as o
-use Rattle.syn_parts.specs.Own.{lifetime_own, before_if, joint, alone}
+use Rattle.syn_parts.specs.Own.{before_if, joint, alone}
 use Rattle.syn_parts.specs.Pat.{a_name, an_index}
 use Rattle.syn_parts.specs.Fits.{qpath_fits}
 use Rattle.syn_parts.proofs.PatsBack.{attributes_back}
@@ -23,11 +23,11 @@ use Rattle.syn_grammar.specs.Op.{level}
 use Rattle.syn_grammar.specs.Next.{without_block, enclosed, left_context, base_context, right_context, adorned_context, lead_context, lead_level, piece_context}
 use Rattle.syn_grammar.specs.Rule.{is_operation}
 use Rattle.syn_grammar.specs.Slot as slot
-use Rattle.syn_grammar.specs.Slot.{Slot, Holder, nothing, within, bare, after, piece_place, frame_holder, trailer_holder}
+use Rattle.syn_grammar.specs.Slot.{Slot, nothing, within, piece_place, frame_holder, trailer_holder}
 use Rattle.syn_grammar.specs.Stands as st
-use Rattle.syn_grammar.specs.Stands.{Node, Content, Operands, is_infix, is_range, is_adorned, is_branch, is_try_alone, carries, rests, ends, closes, ends_list, is_base, is_parenthesis_or_bracket, has_no_comma, frame_stands, leaf_stands, mid_stands, lead_place}
+use Rattle.syn_grammar.specs.Stands.{Node, Content, Operands, is_adorned, is_branch, is_try_alone, rests, ends_list, is_base, is_parenthesis_or_bracket, has_no_comma, frame_stands, leaf_stands, mid_stands, lead_place}
 use Rattle.syn_grammar.specs.Tree as e
-use Rattle.syn_grammar.specs.Tree.{Tree, Kids, Leaf, Frame, Piece, Trailer, leaf, paren, adorned, lead, mid, post, tail, frame, none, kid, post_op, is_none, is_one, is_block_like, is_block_leaf, infix_own, post_own, trailer_own, leaf_own, own, kids_own, enclosure, behind_operands, clear, clear_kids}
+use Rattle.syn_grammar.specs.Tree.{Tree, Kids, Leaf, Frame, Trailer, leaf, paren, adorned, lead, mid, post, tail, frame, none, kid, post_op, is_one, is_block_like, is_block_leaf, infix_own, post_own, trailer_own, own, kids_own, enclosure, behind_operands, clear, clear_kids}
 use Rattle.syn_grammar.specs.WellFormed.{trailer_fits, frame_fits, piece_fits, is_kept_block}
 use Rattle.syn_grammar.proofs.Bools.{or_false, both_true, not_it, and_false, and_true}
 use Rattle.syn_grammar.proofs.HeadsBack.{heads_back}

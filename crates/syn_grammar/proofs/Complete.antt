@@ -18,7 +18,7 @@ use Rattle.syn_grammar.specs.declared.kinds.Level.{Level}
 use Rattle.syn_grammar.specs.Place.{plain, at, takes}
 use Rattle.syn_grammar.specs.Op.{infix_at, level, goes_on, takes_by, is_comparison}
 use Rattle.syn_grammar.specs.Tree as tr
-use Rattle.syn_grammar.specs.Tree.{Tree, Kids, Post, Trailer, leaf, paren, adorned, lead, mid, post, tail, frame, none, kid, post_op}
+use Rattle.syn_grammar.specs.Tree.{Tree, Kids, Post, Trailer, leaf, paren, adorned, lead, mid, post, tail, frame, none, post_op}
 use Rattle.syn_grammar.specs.Slot.{trailer_holder}
 use Rattle.syn_grammar.specs.Stands.{Node, is_leaf, is_become, is_attributed, is_paren, is_adorned_by, is_lead, is_mid, is_post, is_tail, is_indexed, is_frame, Content, Stands, ends, closes, compares, goes_behind, carries, is_cast, rests, is_range, is_adorned, is_pounded, fits_left, lead_place, may_adorn, mid_stands, post_stands, post_behind, ends_operation, refuses_dots, refuses_arrow, trailer_head, fields_of}
 use Rattle.syn_grammar.specs.Read.{Reading, trailed, trail, core, atom, operand, attributed, verbatim_of, stop, taken_by, taken_at, next_operator, post_made, mid_read, longer, turn, climb, at_place, become_word}

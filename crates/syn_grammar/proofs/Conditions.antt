@@ -5,7 +5,7 @@ use Rattle.syn_tokens.specs.Tok.{Tok}
 use Rattle.syn_parts.specs.Pat.{a_name, an_index}
 use Rattle.syn_grammar.specs.declared.kinds.Place.{Place}
 use Rattle.syn_grammar.specs.Tree as e
-use Rattle.syn_grammar.specs.Tree.{Tree, Kids, Leaf, Lead, Post, Trailer, Frame, Piece, leaf, paren, adorned, lead, mid, post, tail, frame, none, kid, is_block_like, is_block_leaf}
+use Rattle.syn_grammar.specs.Tree.{Tree, Kids, Frame, Piece, leaf, paren, adorned, lead, mid, post, tail, frame, none, is_block_like}
 use Rattle.syn_grammar.specs.Slot.{Slot, Holder, piece_place}
 use Rattle.syn_grammar.specs.Stands.{Node, Content, Operands, is_leaf, is_become, is_attributed, is_paren, is_adorned_by, is_lead, is_mid, is_post, is_tail, is_indexed, is_frame, holds_none, holds_within, holds_bare, no_more, one_more, short, block, arms_inside, fields_of, short_value, path_of, frame_stands}
 use Rattle.syn_grammar.specs.Binding.{is_structure, has_no_structure, conditions_hold, keeps_conditions, ConditionsHaveNoStructures, is_braced_macro, CommaTestsDiffer}

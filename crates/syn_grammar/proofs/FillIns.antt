@@ -3,7 +3,7 @@ use Rattle.std.specs.Prelude.{not, ◌&&◌}
 use Rattle.std.proofs.Common.{◌≡◌, Bool, true, false, refl, sym, ◌∙◌, ap}
 use Rattle.syn_parts.specs.Pat.{MemberTree, a_name, an_index}
 use Rattle.syn_grammar.specs.Tree as e
-use Rattle.syn_grammar.specs.Tree.{Tree, Kids, Leaf, Lead, Post, Trailer, Frame, Piece, Ending, leaf, paren, adorned, lead, mid, post, tail, frame, none, kid, is_none, is_one, is_block_like, needs_comma, needs_last_comma, with_comma, fill_piece, fill, fill_kids, clear, clear_kids}
+use Rattle.syn_grammar.specs.Tree.{Tree, Kids, Frame, Piece, Ending, leaf, paren, adorned, lead, mid, post, tail, frame, none, kid, is_none, is_one, is_block_like, needs_comma, needs_last_comma, with_comma, fill_piece, fill, fill_kids, clear, clear_kids}
 use Rattle.syn_grammar.specs.Slot.{Slot, fields, otherwise, outputs, after}
 use Rattle.syn_grammar.specs.Stands.{is_adorned, is_branch, is_infix}
 use Rattle.syn_grammar.specs.Rule.{is_operation, prints_range}

@@ -3,7 +3,7 @@ use Rattle.std.specs.Prelude.{not, ◌&&◌}
 use Rattle.std.proofs.Common.{◌≡◌, Bool, true, false, List, ◌∷◌, refl, ◌∙◌, ap}
 use Rattle.syn_parts.specs.Tree.{AttributeTree}
 use Rattle.syn_grammar.specs.Tree as e
-use Rattle.syn_grammar.specs.Tree.{Tree, Kids, Leaf, Lead, Post, Trailer, Frame, leaf, paren, adorned, lead, mid, post, tail, frame, none, kid, prepend, flatten, flatten_kids, clear, clear_kids}
+use Rattle.syn_grammar.specs.Tree.{Tree, Kids, Leaf, leaf, paren, adorned, lead, mid, post, tail, frame, none, kid, prepend, flatten, flatten_kids, clear, clear_kids}
 use Rattle.syn_grammar.specs.Stands.{is_verbatim_leaf}
 use Rattle.syn_grammar.specs.Same.{FlattenIsIdempotent}
 

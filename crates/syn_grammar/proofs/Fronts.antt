@@ -16,7 +16,7 @@ use Rattle.syn_grammar.specs.declared.kinds.Limits.{Limits}
 use Rattle.syn_grammar.specs.Tree as tr
 use Rattle.syn_grammar.specs.Tree.{Lead, ClosureHead, Jump}
 use Rattle.syn_grammar.specs.Head as h
-use Rattle.syn_grammar.specs.Head.{lead_form, closure_head, closure_inputs, closure_at, bar, move_word, async_word, raw_at, minus, let_word, range_at, jump_at, jump_head, literal_at, loop_at, block_at, const_block_at, async_block_at, try_block_at, builtin_at, label, past_label, range_op}
+use Rattle.syn_grammar.specs.Head.{lead_form, closure_head, closure_inputs, closure_at, bar, move_word, async_word, minus, let_word, range_at, jump_at, jump_head, literal_at, loop_at, block_at, const_block_at, async_block_at, try_block_at, builtin_at, range_op}
 use Rattle.syn_grammar.specs.Read.{leaf_at, lead_at}
 use Rattle.syn_grammar.proofs.Chains.{some_is, behind_some, only_some, chosen, both_true, one_true}
 

@@ -32,7 +32,7 @@ use Rattle.syn_grammar.specs.declared.kinds.Limits.TheVariants as limits
 use Rattle.syn_grammar.specs.Op.{limits_text}
 use Rattle.syn_grammar.specs.Head as h
 use Rattle.syn_grammar.specs.Tree as e
-use Rattle.syn_grammar.specs.Tree.{Body, Jump, Leaf, Lead, ClosureHead, lead_own, label_own, body_own, jump_own, closure_own, word_if, vert_before, sign_before}
+use Rattle.syn_grammar.specs.Tree.{Body, Jump, Lead, ClosureHead, lead_own, label_own, body_own, jump_own, closure_own, word_if, vert_before, sign_before}
 use Rattle.syn_grammar.specs.WellFormed.{attributes_inner, body_fits, inputs_fit, head_fits, lead_fits}
 
 -- ---- inner attributes and bodies

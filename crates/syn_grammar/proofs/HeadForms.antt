@@ -15,7 +15,7 @@ use Rattle.syn_parts.specs.Part.{QPathTree, MacroEnd, qpath, macro_end, argument
 use Rattle.syn_parts.specs.Pat.{MemberTree, PatTree, a_name, an_index, dots}
 use Rattle.syn_parts.proofs.Weights.{some_is}
 use Rattle.syn_parts.proofs.Same.{compares_toks}
-use Rattle.syn_parts.proofs.Marks.{marks, begins_in_front, sign_present, word_present, and_present, star_present, bang_present, colon_present, comma_present, underscore_present, constant_present, mutable_present, quote_present, eq_present}
+use Rattle.syn_parts.proofs.Marks.{marks, begins_in_front, sign_present, word_present, colon_present, comma_present}
 use Rattle.syn_parts.proofs.Forms.{Alike, Finds, leaf_alike, Present, Sees, Only, behind_some, weaker, when_alike, mark_at_alike, then_by_alike, both_alike, shown_alike, shown_where_alike, pure_alike, never_alike, only_true, flag_at_alike, listed_alike, closed_by_alike}
 use Rattle.syn_parts.proofs.Parts.{forms, falls_by, block_alike, inside_at_alike, outer_attributes_alike, inner_attributes_alike, lifetimes_alike, mutability_alike, macro_end_alike, arguments_alike, output_alike, qpath_alike, types_alike}
 use Rattle.syn_parts.proofs.Pats.{member_alike, pattern_alike, closure_arg_alike}

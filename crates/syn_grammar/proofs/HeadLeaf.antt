@@ -7,7 +7,7 @@ use Rattle.syn_tokens.specs.Front.{group_at}
 use Rattle.syn_parts.specs.declared.label.PathStyle.TheVariants as style
 use Rattle.syn_parts.specs.Text.{Text, is_segment, is_truth, stands_alone}
 use Rattle.syn_parts.specs.Tree as t
-use Rattle.syn_parts.specs.Tree.{LitTree, QSelfTree, PathTree, SegmentTree, Segments, ArgumentsTree}
+use Rattle.syn_parts.specs.Tree.{LitTree, QSelfTree, PathTree, SegmentTree, ArgumentsTree}
 use Rattle.syn_parts.specs.Mark.{sign_at, word_at, lifetime_at, brace_at, colon2, not_ne}
 use Rattle.syn_parts.specs.Own.{alone, colon2_before, enclosed, arguments_own, no_more_segments, lit_own, block_own, qualified_own, path_own, macro_own}
 use Rattle.syn_parts.specs.Part.{MacroTree, find_lit, truth_if, turbofish_at, unsigned, is_bare, segments_bare, has_none, macro_end, qpath, type}
@@ -24,7 +24,7 @@ use Rattle.syn_parts.proofs.ReadBack.{block_back}
 use Rattle.syn_grammar.specs.declared.kinds.Limits.TheVariants as limits
 use Rattle.syn_grammar.specs.Head as h
 use Rattle.syn_grammar.specs.Tree as e
-use Rattle.syn_grammar.specs.Tree.{Body, Jump, Leaf, leaf_own, label_own, body_own, jump_own, word_if}
+use Rattle.syn_grammar.specs.Tree.{Body, Jump, Leaf, leaf_own, body_own}
 use Rattle.syn_grammar.specs.Stands.{is_word_alone, is_try_alone}
 use Rattle.syn_grammar.specs.WellFormed.{leaf_fits, body_fits}
 use Rattle.syn_grammar.proofs.HeadBack.{body_back, label_back, lifetime_or_none, jump_back, range_back, jump_stops, label_stops}

@@ -1,5 +1,5 @@
 -- The pattern of a `for` loop doesn't begin as the lifetimes of a closure do.
-use Rattle.std.proofs.Common.{◌≡◌, ℕ, Bool, true, false, not, ◌||◌, ◌&&◌, ◌==◌, List, [], ◌∷◌, drop, Option, Some, None, refl, sym, subst, ◌∙◌, codes, arith}
+use Rattle.std.proofs.Common.{◌≡◌, Bool, true, false, ◌||◌, ◌&&◌, List, [], ◌∷◌, drop, Option, Some, None, refl, sym, subst, ◌∙◌, codes, arith}
 use Rattle.syn_lexer.specs.declared.lexeme.Spacing.{Spacing}
 use Rattle.syn_lexer.specs.declared.lexeme.Spacing.TheVariants as spacing
 use Rattle.std.proofs.lemmas.Bool.Decides.{nat_tests}

@@ -21,9 +21,9 @@ use Rattle.syn_parts.proofs.PatsBack.{attributes_back, member_back}
 use Rattle.syn_parts.proofs.PatWholeTold.{patterns_read_back}
 use Rattle.syn_grammar.specs.Head as h
 use Rattle.syn_grammar.specs.Slot as s
-use Rattle.syn_grammar.specs.Slot.{Slot, piece_form, ending_at, frame_head, for_head}
+use Rattle.syn_grammar.specs.Slot.{Slot, piece_form, ending_at}
 use Rattle.syn_grammar.specs.Tree as e
-use Rattle.syn_grammar.specs.Tree.{Body, Tree, Piece, Ending, Trailer, Frame, Post, ClosureHead, piece_own, ending_own, trailer_own, frame_own, post_own, body_own, label_own, is_block_like, is_silent, inside_of}
+use Rattle.syn_grammar.specs.Tree.{Body, Tree, Piece, Ending, piece_own, ending_own, body_own, is_block_like}
 use Rattle.syn_grammar.specs.WellFormed.{body_fits, piece_fits, ending_fits, is_name_path}
 use Rattle.syn_grammar.proofs.HeadBack.{body_inside_back}
 use Rattle.syn_grammar.proofs.HeadFront.{pattern_no_pound}

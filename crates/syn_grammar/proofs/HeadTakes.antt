@@ -8,7 +8,7 @@ use Rattle.syn_parts.specs.declared.label.PathStyle.TheVariants as style
 use Rattle.syn_parts.specs.Form.{Form, Mark, mark, then_by, both}
 use Rattle.syn_parts.specs.Part.{unsigned}
 use Rattle.syn_parts.specs.Pat as p
-use Rattle.syn_parts.specs.Pat.{MemberTree, a_name, an_index}
+use Rattle.syn_parts.specs.Pat.{MemberTree}
 use Rattle.syn_parts.proofs.Weights.{one_at_least}
 use Rattle.syn_parts.proofs.Forms.{Alike, Present}
 use Rattle.syn_parts.proofs.Parts.{forms, lifetimes_alike, block_alike, mutability_alike, outer_attributes_alike, macro_end_alike}

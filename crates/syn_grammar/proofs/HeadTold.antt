@@ -7,7 +7,7 @@ use Rattle.syn_tokens.specs.Front.{group_at, is_empty}
 use Rattle.syn_parts.specs.declared.label.PathStyle.TheVariants as style
 use Rattle.syn_parts.specs.Text.{Text, is_truth}
 use Rattle.syn_parts.specs.Tree as t
-use Rattle.syn_parts.specs.Tree.{AttributeTree, QSelfTree, PathTree, SegmentTree, ArgumentsTree, LifetimesTree}
+use Rattle.syn_parts.specs.Tree.{AttributeTree, QSelfTree, PathTree, SegmentTree, ArgumentsTree}
 use Rattle.syn_parts.specs.Mark.{sign_at, word_at, lifetime_at, brace_at, round_at, colon, colon2, comma, not_ne, mutable}
 use Rattle.syn_parts.specs.Own.{qualified_own}
 use Rattle.syn_parts.specs.Part.{has_none, is_bare, macro_end, qpath, type}

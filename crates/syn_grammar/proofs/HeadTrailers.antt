@@ -10,7 +10,7 @@ use Rattle.syn_tokens.specs.Front.{group_at}
 use Rattle.syn_parts.specs.declared.label.PathStyle.TheVariants as style
 use Rattle.syn_parts.specs.Text.{Text, is_number, has_radix, byte_at}
 use Rattle.syn_parts.specs.Tree as t
-use Rattle.syn_parts.specs.Tree.{ArgumentsTree, QSelfTree, PathTree}
+use Rattle.syn_parts.specs.Tree.{ArgumentsTree}
 use Rattle.syn_parts.specs.Mark.{sign_at, word_at, round_at, colon2}
 use Rattle.syn_parts.specs.Own.{enclosed, arguments_own}
 use Rattle.syn_parts.specs.Part.{turbofish_at}
@@ -27,7 +27,7 @@ use Rattle.syn_grammar.specs.Front.{dot_at, question_at}
 use Rattle.syn_grammar.specs.Head as h
 use Rattle.syn_grammar.specs.Stands.{trailer_head, fields_head, name_at, indices_at}
 use Rattle.syn_grammar.specs.Tree as e
-use Rattle.syn_grammar.specs.Tree.{Trailer, Frame, Post, ClosureHead, Enclosure, Kids, trailer_own, framed, enclosure, frame_own, post_own, post_op, infix_own, label_own}
+use Rattle.syn_grammar.specs.Tree.{Trailer, trailer_own}
 use Rattle.syn_grammar.specs.WellFormed.{trailer_fits}
 
 -- ---- trailers

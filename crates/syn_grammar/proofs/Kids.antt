@@ -10,7 +10,7 @@ use Rattle.syn_tokens.specs.Front.{group_at, is_empty}
 use Rattle.syn_parts.specs.declared.label.PathStyle.TheVariants as style
 use Rattle.syn_parts.specs.Text.{Text, is_segment, stands_alone, is_truth}
 use Rattle.syn_parts.specs.Tree as t
-use Rattle.syn_parts.specs.Tree.{AttributeTree, QSelfTree, PathTree, SegmentTree, ReturnTree}
+use Rattle.syn_parts.specs.Tree.{AttributeTree, SegmentTree, ReturnTree}
 use Rattle.syn_parts.specs.Form.{is_nil}
 use Rattle.syn_parts.specs.Mark.{sign_at, word_at, round_at, brace_at, comma}
 use Rattle.syn_parts.specs.Own.{alone, joint}
@@ -27,11 +27,11 @@ use Rattle.syn_grammar.specs.declared.next.Next.TheVariants as next
 use Rattle.syn_grammar.specs.Place.{plain, before_block, at_head}
 use Rattle.syn_grammar.specs.Next.{piece_context}
 use Rattle.syn_grammar.specs.Slot as s
-use Rattle.syn_grammar.specs.Slot.{Slot, after, may_end, piece_form, piece_place, ending_at}
+use Rattle.syn_grammar.specs.Slot.{Slot, after, may_end, piece_place}
 use Rattle.syn_grammar.specs.Stands as st
-use Rattle.syn_grammar.specs.Stands.{Node, Operands, is_branch, is_word_alone, ends, closes, ends_piece, ends_list, path_of, short_value, takes_block}
+use Rattle.syn_grammar.specs.Stands.{Node, Operands, is_branch, ends, closes, ends_piece, ends_list, path_of, short_value, takes_block}
 use Rattle.syn_grammar.specs.Tree as e
-use Rattle.syn_grammar.specs.Tree.{Tree, Kids, Piece, Ending, Body, leaf, paren, adorned, lead, mid, post, tail, frame, none, kid, is_none, is_block_like, is_silent, needs_comma, piece_own, ending_own, inside_of, own, kids_own, clear, clear_kids}
+use Rattle.syn_grammar.specs.Tree.{Tree, Kids, Piece, Ending, Body, leaf, none, kid, is_none, is_block_like, is_silent, piece_own, ending_own, inside_of, own, kids_own, clear, clear_kids}
 use Rattle.syn_grammar.specs.WellFormed.{piece_fits, ending_fits, may_stop, has_rest, is_kept_block, is_name_path}
 use Rattle.syn_grammar.proofs.Bools.{both_true, not_it, or_true}
 use Rattle.syn_grammar.proofs.HeadPlaces.{is_written, piece_stops, ending_stops, is_scrutinee}

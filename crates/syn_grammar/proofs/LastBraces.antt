@@ -7,10 +7,10 @@ use Rattle.syn_parts.specs.declared.label.LitKind.{LitKind}
 use Rattle.syn_parts.specs.declared.label.LitKind.TheVariants as kind
 use Rattle.syn_parts.specs.Text.{Text}
 use Rattle.syn_parts.specs.Tree as t
-use Rattle.syn_parts.specs.Tree.{AttributeTree, LifetimesTree, LitTree, QSelfTree, PathTree, Segments}
+use Rattle.syn_parts.specs.Tree.{AttributeTree, LitTree, QSelfTree, PathTree}
 use Rattle.syn_parts.specs.Part.{MacroTree}
 use Rattle.syn_parts.specs.Pat as p
-use Rattle.syn_parts.specs.Pat.{MemberTree, PatBound, PatTree, SubPat, Pats, Fields, FieldTree}
+use Rattle.syn_parts.specs.Pat.{MemberTree, PatBound, PatTree, SubPat, Pats}
 use Rattle.syn_parts.specs.Own.{alone, joint, before_if, colon2_before, type_own, segments_own, lit_own, lit_own_by, number_own, attribute_own, block_own, lifetimes_own, arguments_own, path_own, qualified_own, macro_own}
 use Rattle.syn_parts.specs.PatOwn.{attributes_own, member_own, range_bound_own, limits_before, vert_before, no_more_pats, pat_own, sub_own, or_own}
 use Rattle.syn_parts.proofs.Appends.{lit_append, type_append, segments_append, arguments_append}
@@ -20,7 +20,7 @@ use Rattle.syn_grammar.specs.declared.kinds.Limits.TheVariants as limits
 use Rattle.syn_grammar.specs.declared.kinds.Infix.{Infix}
 use Rattle.syn_grammar.specs.declared.kinds.Infix.TheVariants as inf
 use Rattle.syn_grammar.specs.Tree as e
-use Rattle.syn_grammar.specs.Tree.{Tree, Kids, Jump, Leaf, Lead, Post, Trailer, Frame, Piece, Ending, ClosureHead, leaf, paren, adorned, lead, mid, post, tail, frame, none, kid, word_if, label_own, jump_own, own, own_tokens, kids_own, leaf_own, lead_own, closure_own, infix_own, post_own, trailer_own, frame_own, framed, enclosure, behind_operands, piece_own, ending_own, inside_of, is_silent, is_repeated}
+use Rattle.syn_grammar.specs.Tree.{Tree, Kids, Jump, Leaf, Lead, Post, Trailer, Piece, Ending, ClosureHead, leaf, paren, adorned, lead, mid, post, tail, frame, none, kid, word_if, label_own, jump_own, own, kids_own, leaf_own, lead_own, closure_own, infix_own, post_own, trailer_own, piece_own, is_silent, is_repeated}
 use Rattle.syn_grammar.specs.Query.{last_braces, is_braces, blocked, kids_blocked, return_brace, leaf_brace, lead_brace, post_brace, piece_brace, operand_brace, frame_brace, frame_head_brace, tree_brace, kids_brace}
 use Rattle.syn_grammar.proofs.LastTypes.{Fixed, over, through, if_there, if_some, one, first, colons, for_lifetimes, elements, type_last, return_last}
 

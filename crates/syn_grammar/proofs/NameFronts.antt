@@ -13,7 +13,7 @@ use Rattle.syn_tokens.specs.Front.{group_at}
 use Rattle.syn_parts.specs.Text.{Text, is_segment, stands_alone, is_truth}
 use Rattle.syn_parts.specs.declared.label.PathStyle.TheVariants as style
 use Rattle.syn_parts.specs.Tree as t
-use Rattle.syn_parts.specs.Tree.{PathTree, SegmentTree, QSelfTree}
+use Rattle.syn_parts.specs.Tree.{PathTree, SegmentTree}
 use Rattle.syn_parts.specs.Form.{flag, is_none, if_same, joined, more, fix, iterate}
 use Rattle.syn_parts.specs.Mark.{sign_at, word_at, lifetime_at, brace_at, round_at, less, colon2, colon}
 use Rattle.syn_parts.specs.Part.{QPathTree, qpath, path, pieces, segment, segment_name, find_segment, type, lifetimes_at, lifetime, from_bare, from_path, arguments, turbofish_at, no_arguments}

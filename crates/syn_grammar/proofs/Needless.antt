@@ -15,7 +15,7 @@ use Rattle.syn_grammar.specs.Next.{enclosed, in_condition, in_arm}
 use Rattle.syn_grammar.specs.Slot.{Slot, Holder}
 use Rattle.syn_grammar.specs.Stands.{Node, is_leaf, is_become, is_attributed, is_paren, is_adorned_by, is_lead, is_mid, is_post, is_tail, is_indexed, is_frame, Content, holds_none, holds_within, holds_bare, Operands, no_more, one_more, short, block, arms_inside, fields_of, ends_piece, short_value, takes_block, Stands}
 use Rattle.syn_grammar.specs.Tree as e
-use Rattle.syn_grammar.specs.Tree.{Tree, Kids, Piece, leaf, paren, adorned, lead, mid, post, tail, frame, none, kid, plain_block, is_silent, own, fill, clear}
+use Rattle.syn_grammar.specs.Tree.{Tree, Kids, Piece, tail, none, plain_block, is_silent, own, fill, clear}
 use Rattle.syn_grammar.specs.Rule.{place_asks, put, bare}
 use Rattle.syn_grammar.specs.Printed.{Position, in_plain, as_statement, as_condition, as_arm, allows, context_of, place_of, is_sparing, plainly_adorned, NoneNeedlessly}
 use Rattle.syn_grammar.proofs.Kept.{block_there, Proper, ProperKids, kept_in}

@@ -21,7 +21,7 @@ use Rattle.syn_grammar.specs.Op.{level}
 use Rattle.syn_grammar.specs.Next.{class_of, next_of, lead_level, lead_next, left_context, base_context, adorned_context, adorned_edge}
 use Rattle.syn_grammar.specs.Stands.{is_call, is_named_field, is_adorned, is_pounded, carries, compares, is_cast}
 use Rattle.syn_grammar.specs.Tree as e
-use Rattle.syn_grammar.specs.Tree.{Tree, Kids, Leaf, Lead, Post, Trailer, Frame, Piece, leaf, paren, adorned, lead, mid, post, tail, frame, none, kid, size, kids_size, fill, fill_kids, fill_piece, needs_last_comma, post_op, is_silent, is_block_leaf}
+use Rattle.syn_grammar.specs.Tree.{Tree, Kids, Leaf, Lead, Post, Trailer, Frame, Piece, leaf, paren, adorned, lead, mid, post, tail, frame, none, kid, size, kids_size, fill, fill_kids, fill_piece, needs_last_comma, post_op, is_silent}
 use Rattle.syn_grammar.specs.Rule.{leaf_refuses, post_refuses, is_operation, prints_range, prints_carrier, refuses, misplaced, leaf_misplaced, frame_misplaced, lead_misplaced, is_below, is_braceless, is_below_statement, is_statement, is_brace_delimiter, is_bare_break, lower, ends_badly, left_wrapped, base_wrapped, place_wrapped, low, bad, labelled}
 use Rattle.syn_grammar.specs.Notes.{index, classes, bit, bits, set_of, has, misplaced_by, wrapped_by, left_wrapped_by, base_wrapped_by, end_by, lead_end_by, leaf_sort, lead_sort, frame_sort, adorned_sort, left_low, is_cast_post, is_named_trailer, adorned_note, lead_note, mid_note, post_note, closed_note, note_of, below, kids_below, NotesAreRight}
 

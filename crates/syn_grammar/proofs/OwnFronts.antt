@@ -13,7 +13,7 @@ use Rattle.syn_parts.specs.declared.label.PathStyle.{PathStyle}
 use Rattle.syn_parts.specs.declared.label.PathStyle.TheVariants as style
 use Rattle.syn_parts.specs.Text.{Text, is_segment, stands_alone, is_truth}
 use Rattle.syn_parts.specs.Tree as t
-use Rattle.syn_parts.specs.Tree.{LitTree, AttributeTree, LifetimesTree, QSelfTree, PathTree, SegmentTree, Segments, ArgumentsTree}
+use Rattle.syn_parts.specs.Tree.{AttributeTree, LifetimesTree, QSelfTree, SegmentTree, Segments, ArgumentsTree}
 use Rattle.syn_parts.specs.Part.{MacroTree}
 use Rattle.syn_parts.specs.Mark.{sign_at, word_at, lifetime_at, brace_at, mutable, constant}
 use Rattle.syn_parts.specs.Own.{alone, before_if, before_some, colon2_before, enclosed, separated, no_more_segments, type_own, lit_own, number_own, lifetimes_own, attribute_own, segments_own, arguments_own, path_own, qualified_own, macro_own}
@@ -29,7 +29,7 @@ use Rattle.syn_grammar.specs.Head.{raw_at}
 use Rattle.syn_grammar.specs.Next.{class_of, next_of}
 use Rattle.syn_grammar.specs.Rule.{leaf_labelled, frame_labelled}
 use Rattle.syn_grammar.specs.Tree as e
-use Rattle.syn_grammar.specs.Tree.{Tree, Kids, Leaf, Lead, Frame, Post, word_if, vert_before, ClosureHead, leaf, paren, adorned, lead, mid, post, tail, frame, none, kid, post_op, own, kids_own, leaf_own, lead_own, closure_own, frame_own, framed, enclosure, behind_operands, infix_own, post_own, trailer_own}
+use Rattle.syn_grammar.specs.Tree.{Tree, Kids, Leaf, Lead, Frame, Post, word_if, vert_before, leaf, paren, adorned, lead, mid, post, tail, frame, post_op, own, leaf_own, lead_own, framed, enclosure, post_own}
 use Rattle.syn_grammar.specs.WellFormed.{leaf_fits, frame_fits}
 use Rattle.syn_grammar.proofs.Bools.{both_true, not_it, and_false, or_none}
 use Rattle.syn_grammar.proofs.Formed.{Formed}

@@ -21,7 +21,7 @@ use Rattle.syn_grammar.specs.Next.{class_of, next_of, takes_next, trails, is_blo
 use Rattle.syn_grammar.specs.Rule.{is_operation, prints_range, is_below, leaf_misplaced, frame_misplaced}
 use Rattle.syn_grammar.specs.Stands.{is_infix, is_range, is_cast, carries, compares, is_verbatim, is_adorned, is_branch, may_adorn, rests, goes_behind, closes, is_jump_or_let, ends, ends_operation, fits_left, is_named, is_parenthesis_or_bracket, is_base, fits_base, lead_place}
 use Rattle.syn_grammar.specs.Tree as e
-use Rattle.syn_grammar.specs.Tree.{Tree, Kids, Leaf, Lead, Frame, Trailer, Piece, Post, leaf, paren, adorned, lead, mid, post, tail, frame, none, kid, post_op, is_one, is_none, is_block_like, is_block_leaf, is_block_frame, infix_own, clear, clear_kids}
+use Rattle.syn_grammar.specs.Tree.{Tree, Kids, Leaf, Lead, Frame, Trailer, leaf, paren, adorned, lead, mid, post, tail, frame, none, is_block_like, is_block_leaf, is_block_frame, infix_own, clear, clear_kids}
 use Rattle.syn_grammar.proofs.Bools.{or_false, neither, not_it, or_true, or_none, and_false}
 use Rattle.syn_grammar.proofs.FillIns.{block_clear}
 use Rattle.syn_grammar.proofs.Formed.{Formed}

@@ -17,9 +17,9 @@ use Rattle.syn_grammar.specs.declared.kinds.Limits.TheVariants as limits
 use Rattle.syn_grammar.specs.Place.{plain}
 use Rattle.syn_grammar.specs.Front.{bracket_at}
 use Rattle.syn_grammar.specs.Tree as tr
-use Rattle.syn_grammar.specs.Tree.{Tree, Kids, Leaf, Lead, Frame, Piece, Ending, Jump, ClosureHead, leaf, paren, lead, frame, none, kid, is_one}
+use Rattle.syn_grammar.specs.Tree.{Tree, Kids, Leaf, Lead, Piece, Ending, Jump, leaf, none, kid}
 use Rattle.syn_grammar.specs.Head as h
-use Rattle.syn_grammar.specs.Head.{leaf_form, lead_form, closure_head, named, to_named, label, range_at, jump_at, range_op, jump_head, from_full_range, from_bare_jump, closure_at}
+use Rattle.syn_grammar.specs.Head.{leaf_form, lead_form, named, to_named, range_at, jump_at, range_op, jump_head, from_full_range, from_bare_jump, closure_at}
 use Rattle.syn_grammar.specs.Slot.{Slot, may_end, elements, single, counted, after, piece_form, piece_place, ending_at, comma_or_end}
 use Rattle.syn_grammar.specs.Stands.{Node, Operands, no_more, one_more, short, block, ends, closes, ends_piece, ends_list, short_value, takes_block, leaf_stands, lead_stands}
 use Rattle.syn_grammar.specs.Read.{Reading, leaf_read, leaf_at, lead_at, loop_head_at, lead_read, unled, named_read, named_by, atom}

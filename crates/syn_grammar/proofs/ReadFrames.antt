@@ -20,10 +20,10 @@ use Rattle.syn_grammar.specs.declared.kinds.Place.{Place}
 use Rattle.syn_grammar.specs.Place.{plain}
 use Rattle.syn_grammar.specs.Front.{bracket_at}
 use Rattle.syn_grammar.specs.Tree as tr
-use Rattle.syn_grammar.specs.Tree.{Tree, Kids, Leaf, Lead, Frame, Piece, Ending, Jump, ClosureHead, leaf, paren, lead, frame, none, kid, is_one}
+use Rattle.syn_grammar.specs.Tree.{Tree, Kids, Lead, Frame, Piece, Ending, ClosureHead, leaf, paren, lead, frame, none, kid}
 use Rattle.syn_grammar.specs.Head.{lead_form, closure_head, to_named, label, try_block_at, builtin_at}
 use Rattle.syn_grammar.specs.Slot as s
-use Rattle.syn_grammar.specs.Slot.{Slot, Holder, may_end, elements, single, counted, after, piece_form, piece_place, ending_at, comma_or_end, frame_head, frame_holder, if_at, for_head, if_word, match_word, while_word, for_word, is_repeated}
+use Rattle.syn_grammar.specs.Slot.{elements, single, counted, piece_form, ending_at, comma_or_end, frame_head, frame_holder, if_at, for_head, if_word, match_word, while_word, for_word}
 use Rattle.syn_grammar.specs.Stands.{Node, Content, holds_within, Operands, no_more, one_more, Stands, ends, closes, ends_list, lead_stands, lead_place, frame_stands, is_try_alone}
 use Rattle.syn_grammar.specs.Read.{Reading, become_word, lead_read, named_read, structure_read, structured, standing, framed_by, bare_operands, round_read, rounded, bracket_read, bracket_inside, elements_by, loop_read, kept_from, atom, all_of}
 use Rattle.syn_grammar.proofs.HeadMoves.{taken_is, tail_falls}

@@ -12,7 +12,7 @@ use Rattle.syn_parts.specs.Pat.{a_name, an_index, dots}
 use Rattle.syn_grammar.specs.declared.kinds.Place.{Place}
 use Rattle.syn_grammar.specs.Place.{before_block}
 use Rattle.syn_grammar.specs.Tree as tr
-use Rattle.syn_grammar.specs.Tree.{Tree, Kids, Frame, Piece, Ending, frame, none, kid, plain_block, is_silent}
+use Rattle.syn_grammar.specs.Tree.{Tree, Kids, Piece, Ending, none, kid, plain_block, is_silent}
 use Rattle.syn_grammar.specs.Slot as s
 use Rattle.syn_grammar.specs.Slot.{Slot, Holder, conditions, scrutinees, arms, after, may_end, piece_form, piece_place, ending_at, is_scrutinee, is_rest, if_word, else_word}
 use Rattle.syn_grammar.specs.Stands.{Node, is_indexed, is_frame, Content, holds_none, holds_within, holds_bare, Operands, no_more, one_more, short, block, arms_inside, Stands, ends, closes, ends_piece, short_value, takes_block, is_branch, fields_of}

@@ -17,7 +17,7 @@ use Rattle.syn_parts.proofs.Ends.{sign_first}
 use Rattle.syn_grammar.specs.declared.kinds.Place.{Place}
 use Rattle.syn_grammar.specs.Front.{bracket_at, question_at, dot_at, trailer_at}
 use Rattle.syn_grammar.specs.Tree as tr
-use Rattle.syn_grammar.specs.Tree.{Tree, Kids, Post, Trailer, leaf, paren, adorned, lead, mid, post, tail, frame, none, kid, post_op}
+use Rattle.syn_grammar.specs.Tree.{Tree, Kids, Trailer, tail}
 use Rattle.syn_grammar.specs.Head.{dotted}
 use Rattle.syn_grammar.specs.Slot as s
 use Rattle.syn_grammar.specs.Slot.{Slot, trailer_holder}

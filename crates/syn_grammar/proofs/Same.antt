@@ -8,7 +8,7 @@ use Rattle.syn_grammar.specs.declared.kinds.Infix.{Infix}
 use Rattle.syn_grammar.specs.Op.{level}
 use Rattle.syn_grammar.specs.Next.{enclosed, in_statement, lead_context, left_context, right_context, base_context, adorned_context, piece_context}
 use Rattle.syn_grammar.specs.Tree as e
-use Rattle.syn_grammar.specs.Tree.{Tree, Kids, Leaf, Lead, Post, Trailer, Frame, Piece, Ending, leaf, paren, adorned, lead, mid, post, tail, frame, none, kid, is_none, is_one, is_block_like, needs_comma, needs_last_comma, fill, prepend, flatten, flatten_kids, post_op, is_silent}
+use Rattle.syn_grammar.specs.Tree.{Tree, Kids, Trailer, Piece, Ending, leaf, paren, adorned, lead, mid, post, tail, frame, none, kid, is_none, fill, prepend, flatten, flatten_kids, post_op, is_silent}
 use Rattle.syn_grammar.specs.Slot.{Slot, otherwise, outputs, after}
 use Rattle.syn_grammar.specs.Stands.{is_adorned, is_branch, takes_block}
 use Rattle.syn_grammar.specs.Rule.{is_operation, is_chainable, is_plain_block, chained_bare, put, piece_put, lead_asks, left_asks, base_asks, place_asks, bare, bare_kids}

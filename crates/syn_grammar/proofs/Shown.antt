@@ -22,7 +22,7 @@ use Rattle.syn_grammar.specs.Next.{enclosed, in_condition, next_of, left_context
 use Rattle.syn_grammar.specs.Slot.{Slot, Holder, within, ending_at, behind_loop, behind_condition, piece_place, trailer_holder}
 use Rattle.syn_grammar.specs.Stands.{Node, is_leaf, is_become, is_attributed, is_paren, is_adorned_by, is_lead, is_mid, is_post, is_tail, is_indexed, is_frame, Content, holds_none, holds_within, holds_bare, Operands, no_more, one_more, short, block, arms_inside, fits_base, fields_of, fields_head, trailer_head, is_base, is_call, carries, is_adorned, is_pounded, post_behind, post_stands, lead_place, short_value, takes_block}
 use Rattle.syn_grammar.specs.Tree as e
-use Rattle.syn_grammar.specs.Tree.{Tree, Kids, Leaf, Lead, Post, Trailer, Piece, Ending, leaf, paren, adorned, lead, mid, post, tail, frame, none, kid, post_op, plain_block, is_silent, is_block_like}
+use Rattle.syn_grammar.specs.Tree.{Tree, Kids, Leaf, Lead, Post, Trailer, Piece, Ending, tail, none, post_op, plain_block, is_silent, is_block_like}
 use Rattle.syn_grammar.specs.Rule.{is_below, is_braceless, post_refuses, is_less_next, is_bare_break}
 use Rattle.syn_grammar.specs.Printed.{plainly_adorned, kids_plainly}
 use Rattle.syn_grammar.proofs.Bools.{both_true, both, not_it}

@@ -13,7 +13,7 @@ use Rattle.syn_grammar.specs.Head.{leaf_form, named, label, body, literal_at, ra
 use Rattle.syn_grammar.specs.Slot.{frame_head}
 use Rattle.syn_grammar.specs.Stands.{Node, is_leaf, is_become, is_attributed, is_paren, is_adorned_by, is_lead, is_mid, is_post, is_tail, is_indexed, is_frame, fields_of}
 use Rattle.syn_grammar.specs.Tree as e
-use Rattle.syn_grammar.specs.Tree.{Tree, Leaf, Frame, Body, leaf, tail, none}
+use Rattle.syn_grammar.specs.Tree.{Tree, Leaf, Frame, Body, tail, none}
 use Rattle.syn_grammar.specs.Rule.{leaf_labelled, frame_labelled}
 use Rattle.syn_grammar.proofs.Obeys.{begins_label}
 use Rattle.syn_grammar.proofs.Chains.{behind_some}

@@ -20,7 +20,7 @@ use Rattle.syn_grammar.specs.Front.{begins_expr, ends_open_range, trailer_at, do
 use Rattle.syn_grammar.specs.Next.{class_of, next_of, takes_next, trails, begins_next, is_block_next, is_brace_next, without_block, enclosed, in_condition, in_arm, left_edge, dot_edge, base_edge, adorned_edge, braceless, left_context, base_context, right_context, adorned_context, lead_context}
 use Rattle.syn_grammar.specs.Stands.{is_range, is_cast, carries, compares, rests, goes_behind, refuses_dots, refuses_arrow, ends, closes, fits_left, fits_base, leaf_stands, lead_stands, lead_place, mid_stands, post_stands, ends_jump, frame_stands}
 use Rattle.syn_grammar.specs.Tree as e
-use Rattle.syn_grammar.specs.Tree.{Tree, Leaf, Lead, Post, Trailer, Frame, Piece, Jump, is_block_leaf, is_block_frame, is_block_like}
+use Rattle.syn_grammar.specs.Tree.{Tree, Leaf, Lead, Trailer, Frame, Jump, is_block_leaf, is_block_frame, is_block_like}
 use Rattle.syn_grammar.specs.Rule.{ends_range_next, jump_refuses, leaf_refuses, leaf_misplaced, lead_misplaced, frame_misplaced, is_below, is_below_statement, is_statement, is_braceless, is_brace_delimiter}
 use Rattle.syn_grammar.proofs.Bools.{or_false, both_true, neither, not_it, and_false}
 use Rattle.syn_grammar.proofs.Obeys.{Fits, FitsLeft}

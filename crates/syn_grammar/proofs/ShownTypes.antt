@@ -1,6 +1,6 @@
 -- A type that could go on with a `<` doesn't stand before one, whatever list it is read from.
 use Rattle.std.specs.Prelude.{nat_le, is_some, ◌==◌}
-use Rattle.std.proofs.Common.{◌≡◌, ℕ, zero, suc, Bool, true, false, not, cond, ◌&&◌, ◌||◌, ◌⊎◌, inl, inr, ⊎_elim, List, [], ◌∷◌, ◌++◌, take, drop, length, Option, Some, None, refl, sym, ◌∙◌, ap, subst}
+use Rattle.std.proofs.Common.{◌≡◌, ℕ, zero, suc, Bool, true, false, not, cond, ◌&&◌, List, [], ◌∷◌, take, drop, length, Option, Some, None, refl, sym, ◌∙◌, ap, subst}
 use Rattle.syn_lexer.specs.declared.lexeme.Delimiter.TheVariants as del
 use Rattle.syn_tokens.specs.Tok.{Tok}
 use Rattle.syn_tokens.specs.Front.{group_at, is_empty}
@@ -11,7 +11,7 @@ use Rattle.syn_parts.specs.Tree.{TypeTree, Types, QSelfTree, Segments, SegmentTr
 use Rattle.syn_parts.specs.Form as form
 use Rattle.syn_parts.specs.Form.{Form, Mark, when, case, group_case, mark, maybe, flag, pure, joined, more, listed, closed_by, then_behind, shown, both}
 use Rattle.syn_parts.specs.Mark.{and, star, bang, underscore, implementing, dynamic, comma, plus, colon2, lt, less, arrow, fn_word, mutable, lifetime_at, round_at, gt, as_word, not_ne, question}
-use Rattle.syn_parts.specs.Part.{type, at_place, reference, pointer, slice_or_array, tuple_or_paren, fn_at, fn_pointer, fn_head, fn_arg, implements, object, named, is_never, is_infer, is_default, has_none, no_arguments, angle_at, angle_bracketed, parenthesized, arguments, segment, segment_name, output, path, pieces, qualified, qpath, macro_end, bounds, bound, trait_bound, lifetime, lifetimes, lifetimes_at, mutability, from_given, from_outlives, is_bare, to_bare, from_bare, qualified_by, Qualified, QPathTree}
+use Rattle.syn_parts.specs.Part.{type, at_place, reference, pointer, slice_or_array, tuple_or_paren, fn_at, fn_pointer, fn_head, fn_arg, implements, object, named, is_never, is_infer, is_default, no_arguments, angle_at, angle_bracketed, parenthesized, arguments, segment, segment_name, output, path, pieces, qualified, qpath, macro_end, bounds, bound, trait_bound, lifetime, lifetimes, lifetimes_at, mutability, from_given, from_outlives, is_bare, to_bare, from_bare, qualified_by, Qualified, QPathTree}
 use Rattle.syn_parts.specs.Ends.{ends_open, segments_open, arguments_open, return_open, bounds_open, bound_open}
 use Rattle.syn_parts.proofs.Weights.{some_is}
 use Rattle.syn_parts.proofs.Marks.{colon2_present, plus_present}
@@ -19,7 +19,7 @@ use Rattle.syn_parts.proofs.Forms.{Alike, Present, Refuses, behind_some, more_op
 use Rattle.syn_parts.proofs.Parts.{whole_segment_alike}
 use Rattle.syn_parts.proofs.TypesBack.{bound_whole}
 use Rattle.syn_parts.proofs.TypesTold.{type_opens}
-use Rattle.syn_parts.proofs.Told.{first_only, second_only, mark_tells, maybe_none}
+use Rattle.syn_parts.proofs.Told.{first_only, second_only, mark_tells}
 use Rattle.syn_grammar.proofs.Chains.{only_some}
 use Rattle.syn_grammar.proofs.Shown.{TypesClose}
 

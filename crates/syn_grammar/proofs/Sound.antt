@@ -11,7 +11,7 @@ use Rattle.syn_parts.specs.Part.{inner_attributes}
 use Rattle.syn_grammar.specs.declared.kinds.Place.{Place}
 use Rattle.syn_grammar.specs.Place.{plain, before_block}
 use Rattle.syn_grammar.specs.Tree as tr
-use Rattle.syn_grammar.specs.Tree.{Tree, Kids, ClosureHead, Leaf, Lead, Post, Trailer, Frame, Piece, Ending, leaf, paren, adorned, lead, mid, post, tail, frame, none, kid, plain_block, post_op, is_one, is_silent}
+use Rattle.syn_grammar.specs.Tree.{Tree, Kids, Frame, Piece, Ending, leaf, frame, none, kid, plain_block, is_silent}
 use Rattle.syn_grammar.specs.Head.{leaf_form}
 use Rattle.syn_grammar.specs.Slot.{Slot, Holder, elements, conditions, scrutinees, arms, after, may_end, piece_form, piece_place, ending_at, frame_head, frame_holder, nothing, within, bare, is_chained, if_word, comma_or_end}
 use Rattle.syn_grammar.specs.Stands.{Node, is_leaf, is_frame, Content, holds_none, holds_within, holds_bare, Operands, no_more, one_more, short, block, arms_inside, Stands, ends, closes, ends_piece, ends_list, short_value, takes_block, leaf_stands, frame_stands, is_branch}

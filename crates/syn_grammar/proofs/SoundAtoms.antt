@@ -12,7 +12,7 @@ use Rattle.syn_parts.proofs.Same.{same_toks-true}
 use Rattle.syn_grammar.specs.declared.kinds.Place.{Place}
 use Rattle.syn_grammar.specs.Place.{plain}
 use Rattle.syn_grammar.specs.Tree as tr
-use Rattle.syn_grammar.specs.Tree.{Tree, Kids, ClosureHead, Leaf, Lead, Post, Trailer, Frame, Piece, Ending, leaf, paren, adorned, lead, mid, post, tail, frame, none, kid, plain_block, post_op, is_one, is_silent}
+use Rattle.syn_grammar.specs.Tree.{Tree, Kids, ClosureHead, Lead, Piece, Ending, leaf, paren, lead, frame, none, kid, is_one}
 use Rattle.syn_grammar.specs.Head.{minus, let_word, raw_at, raw_word, leaf_form, lead_form, closure_head, to_named, from_closure, label, named, literal_at, range_at, jump_at, continue_word, loop_at, block_at, unsafe_word, const_block_at, async_block_at, try_block_at, builtin_at}
 use Rattle.syn_grammar.specs.Slot.{elements, single, fields, piece_form, ending_at, within, if_word, while_word, for_head, match_word, comma_or_end}
 use Rattle.syn_grammar.specs.Stands.{Node, is_leaf, is_become, is_paren, is_lead, is_frame, Content, holds_within, no_more, one_more, Stands, ends, closes, ends_list, leaf_stands, lead_stands, lead_place, frame_stands, has_no_comma}

@@ -12,7 +12,7 @@ use Rattle.syn_grammar.specs.declared.kinds.Infix.{Infix}
 use Rattle.syn_grammar.specs.Place.{at, takes}
 use Rattle.syn_grammar.specs.Op.{infix_at, level}
 use Rattle.syn_grammar.specs.Tree as tr
-use Rattle.syn_grammar.specs.Tree.{Tree, Kids, ClosureHead, Leaf, Lead, Post, Trailer, Frame, Piece, Ending, leaf, paren, adorned, lead, mid, post, tail, frame, none, kid, plain_block, post_op, is_one, is_silent}
+use Rattle.syn_grammar.specs.Tree.{Tree, Post, Trailer, leaf, adorned, mid, post, tail, post_op}
 use Rattle.syn_grammar.specs.Read.{Reading, content, is_taken, taken, atom, trailed_by, indexed_by, dotted_by, trailed, trail, core, adorned_by, attributed, verbatim_of, operand, post_made, mid_read, longer, closing, turn, climb, at_place, stop, taken_by, taken_at, next_operator, operation}
 use Rattle.syn_grammar.proofs.Chains.{some_is, then_some, only_some, chosen}
 use Rattle.syn_grammar.proofs.Needs.{Heads}

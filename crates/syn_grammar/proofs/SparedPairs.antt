@@ -1,15 +1,11 @@
 -- With one added pair less, no list stands for the tree.
-use Rattle.std.proofs.Common.{◌≡◌, Bool, true, false, not, ◌&&◌, ◌||◌, inl, inr, List, refl, sym, ◌∙◌, ap, subst}
+use Rattle.std.proofs.Common.{◌≡◌, true, List, refl}
 use Rattle.syn_tokens.specs.Tok.{Tok}
 use Rattle.syn_grammar.specs.declared.kinds.Level.TheVariants as lev
-use Rattle.syn_grammar.specs.declared.next.Context.{Context}
-use Rattle.syn_grammar.specs.Place.{plain, before_block, at_head}
-use Rattle.syn_grammar.specs.Next.{enclosed, in_statement, in_condition, in_arm, left_context, base_context, right_context, adorned_context, lead_context, piece_context}
-use Rattle.syn_grammar.specs.Op.{level}
+use Rattle.syn_grammar.specs.Next.{enclosed, in_condition, in_arm}
 use Rattle.syn_grammar.specs.Stands.{Stands, Node}
 use Rattle.syn_grammar.specs.Tree as e
-use Rattle.syn_grammar.specs.Tree.{Tree, Kids, Piece, leaf, paren, adorned, lead, mid, post, tail, frame, none, kid, post_op, clear, fill}
-use Rattle.syn_grammar.specs.Rule.{is_operation, put, bare, bare_kids}
+use Rattle.syn_grammar.specs.Tree.{Tree, clear, fill}
 use Rattle.syn_grammar.specs.Sparing.{OneLess}
 use Rattle.syn_grammar.specs.WellFormed.{is_well_formed}
 use Rattle.syn_grammar.specs.Printed.{Position, in_plain, as_statement, as_condition, as_arm, allows, context_of, place_of, is_sparing, printed_in, plainly_adorned}

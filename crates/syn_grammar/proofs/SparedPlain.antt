@@ -1,21 +1,19 @@
 -- One pair less of a printed tree without attributes on operations has none either.
-use Rattle.std.proofs.Common.{◌≡◌, Bool, true, false, not, ◌&&◌, ◌||◌, inl, inr, ◌⊎◌, List, ◌∷◌, cond, refl, sym, ◌∙◌, ap, subst}
+use Rattle.std.proofs.Common.{◌≡◌, Bool, true, false, not, ◌&&◌, ◌||◌, inl, inr, List, ◌∷◌, cond, refl, sym, ◌∙◌, ap, subst}
 use Rattle.syn_grammar.specs.declared.next.Context.{Context}
 use Rattle.syn_grammar.specs.declared.kinds.Level.TheVariants as lev
-use Rattle.syn_grammar.specs.Next.{enclosed, in_statement, left_context, base_context, right_context, adorned_context, lead_context, piece_context}
-use Rattle.syn_grammar.specs.Op.{level}
+use Rattle.syn_grammar.specs.Next.{enclosed, left_context, base_context, right_context, adorned_context, lead_context, piece_context}
 use Rattle.syn_grammar.specs.Tree as e
-use Rattle.syn_grammar.specs.Tree.{Tree, Kids, Piece, leaf, paren, adorned, lead, mid, post, tail, frame, none, kid, post_op, clear, clear_kids, fill, own_tokens, plain_block, is_silent}
-use Rattle.syn_grammar.specs.Stands.{is_infix}
-use Rattle.syn_grammar.specs.Rule.{is_operation, prints_range, put, bare, bare_kids, piece_put, chained_bare, is_chainable, is_plain_block, place_asks}
+use Rattle.syn_grammar.specs.Tree.{Tree, Kids, Piece, leaf, paren, adorned, lead, mid, post, tail, frame, none, kid, post_op, clear, clear_kids, fill}
+use Rattle.syn_grammar.specs.Rule.{is_operation, put, bare, bare_kids, piece_put, chained_bare, is_chainable, is_plain_block}
 use Rattle.syn_grammar.specs.Sparing.{OneLess, OneLessKid}
 use Rattle.syn_grammar.specs.Printed.{NoPairSpared, printed_in, plainly_adorned, kids_plainly, context_of}
 use Rattle.syn_grammar.proofs.Bools.{both, both_true}
-use Rattle.syn_grammar.specs.WellFormed.{well, kids_well, piece_fits, ending_fits, keeps_block, is_kept_block, is_name_path, is_well_formed, trailer_fits, frame_fits, lead_fits, infix_fits, post_fits, trailer_slot, frame_slot}
+use Rattle.syn_grammar.specs.WellFormed.{well, kids_well, piece_fits, ending_fits, keeps_block, is_name_path, is_well_formed, trailer_fits, frame_fits, lead_fits, infix_fits, post_fits, trailer_slot, frame_slot}
 use Rattle.syn_grammar.specs.Slot as s
 use Rattle.syn_grammar.specs.Slot.{Slot, after}
 use Rattle.syn_parts.specs.Tree.{AttributeTree}
-use Rattle.syn_parts.specs.Pat.{MemberTree, a_name, an_index}
+use Rattle.syn_parts.specs.Pat.{MemberTree, a_name}
 use Rattle.syn_parts.specs.PatFits.{attributes_outer, member_fits}
 use Rattle.syn_grammar.specs.Stands.{is_adorned}
 use Rattle.syn_grammar.specs.Tree.{Ending, is_none}

@@ -12,7 +12,7 @@ use Rattle.syn_grammar.specs.Op.{level, is_comparison}
 use Rattle.syn_grammar.specs.Next.{class_of, next_of, enclosed, in_statement, left_context, base_context, right_context, adorned_context, lead_context, lead_level, piece_context}
 use Rattle.syn_grammar.specs.Stands.{is_range, is_base, is_branch, compares}
 use Rattle.syn_grammar.specs.Tree as e
-use Rattle.syn_grammar.specs.Tree.{Tree, Kids, Leaf, Lead, Piece, Ending, Trailer, Frame, leaf, paren, adorned, lead, mid, post, tail, frame, none, kid, post_op, is_silent, plain_block, own_tokens, needs_last_comma}
+use Rattle.syn_grammar.specs.Tree.{Tree, Kids, Leaf, Lead, Piece, Ending, Trailer, leaf, paren, adorned, lead, mid, post, tail, frame, none, kid, post_op, is_silent, needs_last_comma}
 use Rattle.syn_grammar.specs.Slot.{Slot, elements, single, counted, fields, conditions, otherwise, loops, scrutinees, arms, bodies, outputs, done, after}
 use Rattle.syn_grammar.specs.Rule.{is_operation, prints_range, is_bare_break, bad, place_asks, left_asks, base_asks, lead_asks, put, is_chainable, is_plain_block, piece_put, bare, bare_kids}
 use Rattle.syn_grammar.specs.Sparing.{OneLess, OneLessKid}
@@ -23,7 +23,7 @@ use Rattle.syn_grammar.proofs.Formed.{Formed, FormedKids}
 use Rattle.syn_grammar.proofs.Edges.{range_bare, compares_bare, infix_bare, base_bare}
 use Rattle.syn_grammar.proofs.Good.{not_kept}
 use Rattle.syn_grammar.proofs.Kept as kept
-use Rattle.syn_grammar.proofs.Kept.{Tight, not_asked, not_wrapped, left_bare, level_small, lead_small}
+use Rattle.syn_grammar.proofs.Kept.{not_asked, left_bare, level_small, lead_small}
 use Rattle.syn_grammar.proofs.Tight.{tight, no_bare_label}
 
 -- what belongs behind `else` and a closure's output, and what is not spelled

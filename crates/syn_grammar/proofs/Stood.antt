@@ -3,7 +3,7 @@ use Rattle.std.proofs.Common.{◌≡◌, Bool, true, false, not, ◌&&◌, ◌||
 use Rattle.syn_tokens.specs.Tok.{Tok}
 use Rattle.syn_tokens.specs.Front.{is_empty}
 use Rattle.syn_parts.specs.Tree as t
-use Rattle.syn_parts.specs.Tree.{TypeTree, ReturnTree, QSelfTree, PathTree}
+use Rattle.syn_parts.specs.Tree.{TypeTree, ReturnTree}
 use Rattle.syn_parts.specs.Mark.{sign_at, word_at, brace_at, lifetime_at}
 use Rattle.syn_parts.specs.Part.{is_default, is_bare}
 use Rattle.syn_parts.specs.Ends.{ends_open}
@@ -25,7 +25,7 @@ use Rattle.syn_grammar.specs.Next.{begins_next, is_block_next, is_brace_next, le
 use Rattle.syn_grammar.specs.Rule.{ends_range_next, jump_refuses, leaf_refuses, is_less_next, post_refuses, is_braceless, is_below, is_bare_break}
 use Rattle.syn_grammar.specs.Stands.{is_try_alone, is_word_alone, ends_jump, leaf_stands, lead_stands, mid_stands, post_stands, post_behind}
 use Rattle.syn_grammar.specs.Tree as e
-use Rattle.syn_grammar.specs.Tree.{Tree, Kids, Leaf, Lead, Post, Jump, Trailer, leaf, paren, adorned, lead, mid, post, tail, frame, none, kid, post_op, own, post_own}
+use Rattle.syn_grammar.specs.Tree.{Tree, Leaf, Lead, Post, Jump, Trailer, leaf, paren, adorned, lead, mid, post, tail, frame, none, post_op, post_own}
 use Rattle.syn_grammar.specs.WellFormed.{leaf_fits, lead_fits, infix_fits, post_fits}
 use Rattle.syn_grammar.proofs.Bools.{or_false, both_true, not_true, or_true, and_false, and_true}
 use Rattle.syn_grammar.proofs.HeadBack.{lead_stops, label_stops}

@@ -1,12 +1,12 @@
 -- What stands has its commas and dots: nothing is filled in.
-use Rattle.std.proofs.Common.{◌≡◌, ℕ, ◌<◌, Bool, true, false, not, ◌||◌, ◌&&◌, cond, List, [], ◌∷◌, ◌++◌, ◌∙◌, drop, Option, Some, None, refl, sym, subst, ap, arith}
+use Rattle.std.proofs.Common.{◌≡◌, ℕ, Bool, true, false, not, ◌||◌, ◌&&◌, cond, List, [], ◌∷◌, ◌++◌, ◌∙◌, drop, Some, None, refl, sym, subst, ap, arith}
 use Rattle.syn_lexer.specs.declared.lexeme.Delimiter.TheVariants as del
 use Rattle.syn_tokens.specs.Tok.{Tok, weight}
 use Rattle.syn_tokens.specs.Input.{IsTail}
 use Rattle.syn_tokens.specs.Front.{is_empty}
 use Rattle.syn_parts.specs.Form.{Outcome}
 use Rattle.syn_parts.specs.Mark.{comma}
-use Rattle.syn_parts.specs.Pat.{a_name, an_index, dots}
+use Rattle.syn_parts.specs.Pat.{a_name, an_index}
 use Rattle.syn_parts.proofs.Weights.{some_is}
 use Rattle.syn_grammar.specs.declared.kinds.Level.TheVariants as lev
 use Rattle.syn_grammar.specs.declared.kinds.Place.{Place}

@@ -1,5 +1,5 @@
 -- Marks play no part in the binding rules.
-use Rattle.std.proofs.Common.{◌≡◌, Bool, true, false, not, ◌&&◌, ◌||◌, refl, sym, ◌∙◌, ap}
+use Rattle.std.proofs.Common.{◌≡◌, not, ◌&&◌, ◌||◌, refl, sym, ◌∙◌, ap}
 use Rattle.syn_grammar.specs.declared.kinds.Infix.{Infix}
 use Rattle.syn_grammar.specs.declared.kinds.Level.{Level}
 use Rattle.syn_grammar.specs.declared.kinds.Level.TheVariants as lev
@@ -7,12 +7,10 @@ use Rattle.syn_grammar.specs.declared.next.Next.{Next}
 use Rattle.syn_grammar.specs.declared.next.Next.TheVariants as next
 use Rattle.syn_grammar.specs.declared.next.Context.{Context}
 use Rattle.syn_grammar.specs.Op.{level, is_comparison}
-use Rattle.syn_grammar.specs.Next.{takes_next, trails, enclosed, left_context, base_context, right_context, adorned_context, lead_context, lead_level, piece_context}
-use Rattle.syn_grammar.specs.Stands.{is_range, is_infix}
+use Rattle.syn_grammar.specs.Next.{takes_next, enclosed, left_context, base_context, right_context, adorned_context, lead_context, lead_level, piece_context}
+use Rattle.syn_grammar.specs.Stands.{is_infix}
 use Rattle.syn_grammar.specs.Tree.{Tree, Kids, leaf, paren, adorned, lead, mid, post, tail, frame, none, kid, post_op, clear, clear_kids}
 use Rattle.syn_grammar.specs.Rule.{is_operation, prints_range, is_bare_break}
-use Rattle.syn_grammar.specs.Printed.{plainly_adorned, kids_plainly}
-use Rattle.syn_grammar.proofs.Bools.{neither, or_false}
 use Rattle.syn_grammar.proofs.Obeys.{Fits, FitsLeft, begins_label, Obeys, ObeysKids}
 use Rattle.syn_grammar.proofs.Places.{range_clear, infix_clear, compares_clear, carries_clear, cast_clear, base_clear}
 

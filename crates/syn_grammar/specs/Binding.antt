@@ -9,7 +9,7 @@ use Rattle.syn_grammar.specs.Place.{rank, takes, plain}
 use Rattle.syn_grammar.specs.Op.{level, is_comparison}
 use Rattle.syn_grammar.specs.Next.{lead_level}
 use Rattle.syn_grammar.specs.Tree as e
-use Rattle.syn_grammar.specs.Tree.{Tree, Kids, Jump, Lead, Frame, Piece, leaf, paren, adorned, lead, mid, post, tail, frame, none, kid, post_op, is_block_like}
+use Rattle.syn_grammar.specs.Tree.{Tree, Kids, Jump, Frame, leaf, paren, adorned, lead, mid, post, tail, frame, none, kid, post_op, is_block_like}
 use Rattle.syn_grammar.specs.Head.{lead_form}
 use Rattle.syn_grammar.specs.Slot.{piece_place}
 use Rattle.syn_grammar.specs.Stands.{Node, Stands, compares, is_range, is_infix, lead_stands}

@@ -1,7 +1,7 @@
 -- What stands at the front of a list of tokens.
-use Rattle.std.specs.Prelude.{Bool, true, false, not, ◌||◌, ◌&&◌, List, [], ◌∷◌, drop, codes}
+use Rattle.std.specs.Prelude.{Bool, true, false, not, ◌||◌, ◌&&◌, List, [], ◌∷◌, codes}
 use Rattle.syn_lexer.specs.declared.lexeme.Delimiter.TheVariants as del
-use Rattle.syn_tokens.specs.Tok.{Tok, ident, punct, literal, group}
+use Rattle.syn_tokens.specs.Tok.{ident, punct, literal, group}
 use Rattle.syn_tokens.specs.Front.{sees_group, is_empty}
 use Rattle.syn_parts.specs.Text.{Text}
 use Rattle.syn_parts.specs.Form.{Test}

@@ -1,20 +1,18 @@
 -- What spells a leaf, what stands before or behind an operand, and a trailer: forms over those of the lower parts.
-use Rattle.std.specs.Prelude.{ℕ, Bool, true, false, not, ◌||◌, ◌&&◌, ◌==◌, if◌then◌else◌, List, [], ◌∷◌, drop, codes, Option, Some, None}
+use Rattle.std.specs.Prelude.{Bool, true, false, not, ◌||◌, ◌&&◌, ◌==◌, if◌then◌else◌, List, [], ◌∷◌, drop, codes, Option, Some, None}
 use Rattle.std.specs.Str.{bytes_eq}
 use Rattle.syn_lexer.specs.Keywords.{is_reserved_word}
-use Rattle.syn_lexer.specs.declared.lexeme.Delimiter.{Delimiter}
 use Rattle.syn_lexer.specs.declared.lexeme.Delimiter.TheVariants as del
 use Rattle.syn_tokens.specs.Tok.{Tok, ident, punct, literal, group}
 use Rattle.syn_parts.specs.declared.label.PathStyle.TheVariants as style
 use Rattle.syn_parts.specs.Text.{Text, is_truth}
 use Rattle.syn_parts.specs.Same.{same_toks}
 use Rattle.syn_parts.specs.Tree as t
-use Rattle.syn_parts.specs.Tree.{LitTree, AttributeTree, LifetimesTree, QSelfTree, PathTree, ArgumentsTree, ReturnTree}
-use Rattle.syn_parts.specs.Form.{Form, Outcome, Test, Mark, leaf, when, mark, then_by, both, shown, pure, inside, case, flag, is_true, maybe, listed, closed_by}
-use Rattle.syn_parts.specs.Mark.{sign, sign_at, word, word_at, lifetime_at, brace_at, round_at, and, star, bang, comma, colon, colon2, eq, mutable, constant, underscore}
-use Rattle.syn_parts.specs.Part.{name, is_name_there, lifetime, unsigned, block, inner_attributes, lifetimes, lifetimes_at, QPathTree, MacroEnd, MacroTree, qpath, macro_end, mutability, arguments, output, type}
+use Rattle.syn_parts.specs.Tree.{LitTree, AttributeTree, LifetimesTree, ArgumentsTree, ReturnTree}
+use Rattle.syn_parts.specs.Form.{Form, Outcome, Test, Mark, leaf, when, mark, then_by, both, shown, pure, inside, case, flag, maybe, listed, closed_by}
+use Rattle.syn_parts.specs.Mark.{sign, sign_at, word, lifetime_at, brace_at, round_at, and, star, bang, comma, colon, colon2, eq, mutable, constant, underscore}
+use Rattle.syn_parts.specs.Part.{name, is_name_there, lifetime, unsigned, block, inner_attributes, lifetimes, lifetimes_at, QPathTree, MacroEnd, qpath, macro_end, mutability, arguments, output, type}
 use Rattle.syn_parts.specs.Pat.{MemberTree, PatTree, member, pattern, closure_arg}
-use Rattle.syn_grammar.specs.declared.kinds.UnKind.{UnKind}
 use Rattle.syn_grammar.specs.declared.kinds.UnKind.TheVariants as un
 use Rattle.syn_grammar.specs.declared.kinds.Limits.{Limits}
 use Rattle.syn_grammar.specs.declared.kinds.Limits.TheVariants as limits

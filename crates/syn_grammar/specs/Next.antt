@@ -1,7 +1,5 @@
 -- What a printer has to know of the place of a node: what stands behind it, and what is round it.
-use Rattle.std.specs.Prelude.{Bool, true, false, not, ◌||◌, ◌&&◌, if◌then◌else◌, Option, Some, None}
-use Rattle.syn_parts.specs.Tree.{AttributeTree}
-use Rattle.syn_parts.specs.Pat.{PatTree}
+use Rattle.std.specs.Prelude.{Bool, true, false, ◌&&◌, Option, Some, None}
 use Rattle.syn_grammar.specs.declared.kinds.BinKind.{BinKind}
 use Rattle.syn_grammar.specs.declared.kinds.BinKind.TheVariants as bin
 use Rattle.syn_grammar.specs.declared.kinds.Limits.TheVariants as limits
@@ -16,7 +14,7 @@ use Rattle.syn_grammar.specs.declared.next.Edge.TheVariants as edge
 use Rattle.syn_grammar.specs.declared.next.Context.{Context}
 use Rattle.syn_grammar.specs.Place.{takes}
 use Rattle.syn_grammar.specs.Tree as e
-use Rattle.syn_grammar.specs.Tree.{Jump, Lead, Post, Trailer, Piece}
+use Rattle.syn_grammar.specs.Tree.{Jump, Lead, Trailer, Piece}
 
 -- ---- classes of tokens
 

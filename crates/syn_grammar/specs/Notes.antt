@@ -16,7 +16,7 @@ use Rattle.syn_grammar.specs.Next.{class_of, next_of, takes_next, trails, lead_l
 use Rattle.syn_grammar.specs.Stands.{is_range_leaf, is_range_lead, is_prefix, is_call, is_named, is_pounded_leaf}
 use Rattle.syn_grammar.specs.Rule.{leaf_refuses, post_refuses, is_below, is_below_statement, is_statement, is_braceless, is_brace_delimiter, lower, is_bare_break, leaf_labelled, frame_labelled, is_operation, place_asks, left_asks, base_asks, lead_asks}
 use Rattle.syn_grammar.specs.Tree as e
-use Rattle.syn_grammar.specs.Tree.{Tree, Kids, Leaf, Lead, Post, Trailer, Frame, Piece, leaf, paren, adorned, lead, mid, post, tail, frame, none, kid, size, fill, post_op, is_block_leaf, is_block_frame, is_silent}
+use Rattle.syn_grammar.specs.Tree.{Tree, Kids, Leaf, Lead, Post, Trailer, Frame, leaf, paren, adorned, lead, mid, post, tail, frame, none, kid, size, fill, post_op, is_block_leaf, is_block_frame, is_silent}
 
 -- ---- sets of classes, a bit for each, the first lowest
 

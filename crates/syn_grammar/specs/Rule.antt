@@ -1,9 +1,8 @@
 -- The parenthesis rule: a printer puts a node in parentheses where, left bare and with its operands printed by this
 -- rule, it would break a binding rule that is charged to it.
-use Rattle.std.specs.Prelude.{Bool, true, false, not, ◌||◌, ◌&&◌, if◌then◌else◌, List, [], ◌∷◌, Option, Some, None}
+use Rattle.std.specs.Prelude.{Bool, true, false, not, ◌||◌, ◌&&◌, if◌then◌else◌, Some, None}
 use Rattle.syn_lexer.specs.declared.lexeme.Delimiter.{Delimiter}
 use Rattle.syn_lexer.specs.declared.lexeme.Delimiter.TheVariants as del
-use Rattle.syn_parts.specs.Text.{Text}
 use Rattle.syn_parts.specs.Ends.{ends_open}
 use Rattle.syn_parts.specs.Form.{is_nil}
 use Rattle.syn_grammar.specs.declared.kinds.Infix.{Infix}
@@ -17,7 +16,7 @@ use Rattle.syn_grammar.specs.declared.next.Context.{Context}
 use Rattle.syn_grammar.specs.Place.{above, takes}
 use Rattle.syn_grammar.specs.Op.{level, is_comparison}
 use Rattle.syn_grammar.specs.Next.{class_of, next_of, takes_next, trails, begins_next, is_block_next, is_brace_next, enclosed, in_statement, left_context, base_context, right_context, adorned_context, lead_context, lead_next, lead_level, piece_context}
-use Rattle.syn_grammar.specs.Stands.{is_infix, is_range, is_range_leaf, is_cast, carries, compares, is_base}
+use Rattle.syn_grammar.specs.Stands.{is_infix, is_range, is_cast, carries, compares, is_base}
 use Rattle.syn_grammar.specs.Tree as e
 use Rattle.syn_grammar.specs.Tree.{Tree, Kids, Leaf, Lead, Post, Jump, Frame, Piece, Trailer, leaf, paren, adorned, lead, mid, post, tail, frame, none, kid, own_tokens, fill, plain_block, post_op, is_block_leaf, is_block_frame, is_silent}
 

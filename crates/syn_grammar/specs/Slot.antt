@@ -1,14 +1,13 @@
 -- The operands of a frame or a trailer, one behind the other: in which slot each stands, and what spells the tokens before
 -- and behind it.
-use Rattle.std.specs.Prelude.{Bool, true, false, not, ◌||◌, ◌&&◌, if◌then◌else◌, List, [], ◌∷◌, drop, codes, Option, Some, None}
+use Rattle.std.specs.Prelude.{Bool, true, false, not, ◌||◌, ◌&&◌, if◌then◌else◌, List, [], drop, codes, Option, Some, None}
 use Rattle.syn_lexer.specs.declared.lexeme.Delimiter.{Delimiter}
 use Rattle.syn_lexer.specs.declared.lexeme.Delimiter.TheVariants as del
 use Rattle.syn_tokens.specs.Tok.{Tok}
 use Rattle.syn_tokens.specs.Front.{group_at, is_empty}
-use Rattle.syn_parts.specs.Text.{Text}
 use Rattle.syn_parts.specs.Tree.{AttributeTree}
 use Rattle.syn_parts.specs.declared.label.PathStyle.TheVariants as style
-use Rattle.syn_parts.specs.Form.{Form, Outcome, Test, Mark, and_then, then_behind, when, mark, then_by, both, shown, pure, case, flag, is_true, closed_by}
+use Rattle.syn_parts.specs.Form.{Form, Outcome, Test, Mark, then_behind, mark, then_by, both, shown, pure, case, flag, is_true, closed_by}
 use Rattle.syn_parts.specs.Mark.{sign, word, comma, semi, colon, word_at}
 use Rattle.syn_parts.specs.Part.{lifetimes_at, outer_attributes, qpath, type}
 use Rattle.syn_parts.specs.Pat.{MemberTree, PatTree, a_name, an_index, member, pattern, dots}

@@ -4,14 +4,13 @@ use Rattle.std.specs.Prelude.{◌≡◌, ℕ, Bool, true, false, not, ◌||◌, 
 use Rattle.std.specs.Str.{bytes_eq}
 use Rattle.syn_lexer.specs.declared.lexeme.Delimiter.TheVariants as del
 use Rattle.syn_lexer.specs.declared.lexeme.Delimiter.{Delimiter}
-use Rattle.syn_tokens.specs.Tok.{Tok, Inside, ident, literal, punct, group, toks}
+use Rattle.syn_tokens.specs.Tok.{Tok, Inside, ident, literal, group, toks}
 use Rattle.syn_tokens.specs.Front.{group_at, is_empty}
 use Rattle.syn_tokens.specs.Floats.{float_parts}
 use Rattle.syn_parts.specs.Text.{Text}
 use Rattle.syn_parts.specs.Tree as t
-use Rattle.syn_parts.specs.Tree.{AttributeTree, QSelfTree, PathTree, SegmentTree, TypeTree}
+use Rattle.syn_parts.specs.Tree.{AttributeTree, QSelfTree, PathTree, SegmentTree}
 use Rattle.syn_parts.specs.Mark.{sign_at, word_at, brace_at, colon}
-use Rattle.syn_parts.specs.Form.{then_behind}
 use Rattle.syn_parts.specs.Part.{has_none, is_default, outer_attributes, inner_attributes, type}
 use Rattle.syn_parts.specs.Pat.{MemberTree, a_name, an_index, index_of, dots}
 use Rattle.syn_grammar.specs.declared.kinds.Limits.TheVariants as limits

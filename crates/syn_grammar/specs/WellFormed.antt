@@ -1,21 +1,19 @@
 -- The trees that a reader can give back: no kept tokens, no invisible group, and each part is read back in its place
 -- (`Fits` and `PatOwn` of the lower parts say which are).
-use Rattle.std.specs.Prelude.{Bool, true, false, not, ◌||◌, ◌&&◌, List, [], ◌∷◌, codes, Option, Some, None}
-use Rattle.std.specs.Str.{bytes_eq}
+use Rattle.std.specs.Prelude.{Bool, true, false, not, ◌||◌, ◌&&◌, List, [], ◌∷◌, None}
 use Rattle.syn_lexer.specs.Keywords.{is_reserved_word}
 use Rattle.syn_parts.specs.declared.label.PathStyle.TheVariants as style
-use Rattle.syn_parts.specs.Text.{Text}
-use Rattle.syn_parts.specs.Tree.{AttributeTree, QSelfTree, PathTree, ArgumentsTree}
+use Rattle.syn_parts.specs.Tree.{AttributeTree}
 use Rattle.syn_parts.specs.Form.{is_nil}
 use Rattle.syn_parts.specs.Part.{pound_bang, is_default}
 use Rattle.syn_parts.specs.Fits.{fits_if, unsigned_fits, qpath_fits, macro_fits, type_fits, arguments_fit, lifetimes_fit, output_fits, ends_well}
-use Rattle.syn_parts.specs.Pat.{MemberTree, PatTree, a_name, an_index}
+use Rattle.syn_parts.specs.Pat.{MemberTree, PatTree, a_name}
 use Rattle.syn_parts.specs.PatFits.{member_fits, pat_fits, closure_arg_fits, attributes_outer}
 use Rattle.syn_grammar.specs.declared.kinds.Limits.TheVariants as limits
 use Rattle.syn_grammar.specs.declared.kinds.Infix.{Infix}
 use Rattle.syn_grammar.specs.declared.kinds.Infix.TheVariants as inf
 use Rattle.syn_grammar.specs.Tree as e
-use Rattle.syn_grammar.specs.Tree.{Tree, Kids, Body, Jump, Leaf, Lead, Post, Trailer, Frame, Piece, Ending, ClosureHead, leaf, paren, adorned, lead, mid, post, tail, frame, none, kid, is_none}
+use Rattle.syn_grammar.specs.Tree.{Tree, Kids, Body, Leaf, Lead, Post, Trailer, Frame, Piece, Ending, ClosureHead, leaf, paren, adorned, lead, mid, post, tail, frame, none, kid, is_none}
 use Rattle.syn_grammar.specs.Slot.{Slot, elements, single, counted, fields, conditions, otherwise, loops, scrutinees, arms, bodies, outputs, done, after}
 use Rattle.syn_grammar.specs.Stands.{is_try_alone, is_word_alone, is_adorned, is_branch}
 

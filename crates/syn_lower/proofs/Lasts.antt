@@ -1,5 +1,5 @@
 -- The right end of a list is that of the last in it.
-use Rattle.std.proofs.Common.{◌≡◌, List, [], ◌∷◌, ◌++◌, map, refl}
+use Rattle.std.proofs.Common.{◌≡◌, List, [], ◌∷◌, ◌++◌, refl}
 use Rattle.std.proofs.lemmas.List.{map-append}
 use Rattle.syn_parts.specs.Ends.{segments_open, arguments_open, bounds_open, bound_open}
 use Rattle.syn_parts.specs.Tree as t

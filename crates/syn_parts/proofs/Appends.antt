@@ -9,7 +9,7 @@ use Rattle.syn_parts.specs.declared.label.LitKind.{LitKind}
 use Rattle.syn_parts.specs.declared.label.LitKind.TheVariants as kind
 use Rattle.syn_parts.specs.Text.{Text}
 use Rattle.syn_parts.specs.Tree as t
-use Rattle.syn_parts.specs.Tree.{LitTree, LifetimesTree, TypeTree, Types, QSelfTree, Segments, FnArgs, ArgumentsTree, Generics, GenericTree, ReturnTree, Bounds, BoundTree}
+use Rattle.syn_parts.specs.Tree.{LitTree, LifetimesTree, TypeTree, QSelfTree, Segments, ArgumentsTree, Generics, GenericTree, ReturnTree, Bounds, BoundTree}
 use Rattle.syn_parts.specs.Own.{alone, joint, before_if, before_some, comma_before, colon2_before, closed_at, qself_end, lifetime_own, lifetimes_own, lit_own, lit_own_by, number_own, string_own, extern_own, enclosed, count_segments, inner_count, at_most, no_more_segments, no_more_generics, no_more_bounds, type_own, types_own, qself_own, segments_own, arguments_own, generics_own, generic_own, return_own, args_own, bounds_own, bound_own, elements_own, one_less}
 
 -- ---- what follows the own tokens of a type follows them as they are

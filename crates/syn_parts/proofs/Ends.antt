@@ -10,7 +10,7 @@ use Rattle.syn_tokens.specs.Front.{group_at, same_delimiter}
 use Rattle.syn_parts.specs.declared.label.PathStyle.TheVariants as style
 use Rattle.syn_parts.specs.Text.{Text, stands_alone, is_segment, is_truth}
 use Rattle.syn_parts.specs.Tree as t
-use Rattle.syn_parts.specs.Tree.{TypeTree, Segments, ArgumentsTree, ReturnTree, Bounds, BoundTree, PathTree, QSelfTree}
+use Rattle.syn_parts.specs.Tree.{TypeTree, Segments, ArgumentsTree, ReturnTree, Bounds, BoundTree, QSelfTree}
 use Rattle.syn_parts.specs.Mark.{sign_at, colon, colon2, lt, round_at, brace_at, arrow, not_ne, plus}
 use Rattle.syn_parts.specs.Part.{angle_at, turbofish_at, QPathTree}
 use Rattle.syn_parts.specs.Own.{inner_count, count_segments, no_more_segments}

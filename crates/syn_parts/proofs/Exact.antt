@@ -6,7 +6,7 @@ use Rattle.syn_parts.specs.declared.label.PathStyle.{PathStyle}
 use Rattle.syn_parts.specs.declared.label.PathStyle.TheVariants as style
 use Rattle.syn_parts.specs.Text.{Text}
 use Rattle.syn_parts.specs.Tree as t
-use Rattle.syn_parts.specs.Tree.{LitTree, TypeTree, PathTree, FnArgTree, ArgumentsTree, GenericTree, ReturnTree, BoundTree}
+use Rattle.syn_parts.specs.Tree.{LitTree, TypeTree, PathTree, ArgumentsTree, GenericTree, ReturnTree}
 use Rattle.syn_parts.specs.Form.{Form, Test}
 use Rattle.syn_parts.specs.Mark.{sign_at, round_at}
 use Rattle.syn_parts.specs.Part.{string_at, is_arg_name, angle_at, turbofish_at, name, lit, unsigned, lifetimes, macro, path, qpath, segment, arguments, angle_bracketed, parenthesized, angle, generic, assoc, fn_arg, abi, bound, trait_bound, bounds, output, type}

@@ -13,7 +13,7 @@ use Rattle.syn_parts.specs.Part.{const_at, assoc_at, arg_name_at, lifetimes_at, 
 use Rattle.syn_parts.specs.Own.{alone, colon2_before, before_if, before_some, type_own, segments_own, arguments_own, lifetimes_own, extern_own, no_more_segments, enclosed}
 use Rattle.syn_parts.specs.Fits.{type_fits, segments_fit, bare_segments}
 use Rattle.syn_parts.specs.Tree as t
-use Rattle.syn_parts.specs.Tree.{TypeTree, Segments, ArgumentsTree, LifetimesTree, LitTree, FnArgs, ReturnTree}
+use Rattle.syn_parts.specs.Tree.{TypeTree, Segments, ArgumentsTree, LitTree}
 use Rattle.syn_parts.proofs.Same.{both_true, not_true}
 
 -- a word of a path is none of the others

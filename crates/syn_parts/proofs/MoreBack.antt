@@ -6,7 +6,7 @@ use Rattle.syn_parts.specs.declared.label.PathStyle.{PathStyle}
 use Rattle.syn_parts.specs.declared.label.PathStyle.TheVariants as style
 use Rattle.syn_parts.specs.Text.{Text, is_segment, stands_alone}
 use Rattle.syn_parts.specs.Tree as t
-use Rattle.syn_parts.specs.Tree.{LitTree, TypeTree, SegmentTree, FnArgTree, ArgumentsTree, GenericTree, BoundTree, ReturnTree}
+use Rattle.syn_parts.specs.Tree.{LitTree, TypeTree, SegmentTree, FnArgTree, ArgumentsTree, GenericTree, BoundTree}
 use Rattle.syn_parts.specs.Mark.{sign_at, word_at, eq, lone_colon}
 use Rattle.syn_parts.specs.Part.{string_at, abi, mutability, arg_name_at, assoc_at, is_arg_name, has_none, type, generic, assoc, angle, angle_bracketed, parenthesized, arguments, segment, trait_bound, bounds, fn_arg}
 use Rattle.syn_parts.specs.Own.{type_own, generic_own, arguments_own, segment_own, arg_own, assoc_own, angle_own, mutability_own, extern_own, lifetimes_own, bound_own, bounds_own, bounds_list_own}

@@ -11,7 +11,7 @@ use Rattle.syn_parts.specs.declared.label.PathStyle.{PathStyle}
 use Rattle.syn_parts.specs.declared.label.PathStyle.TheVariants as style
 use Rattle.syn_parts.specs.Text.{Text, is_segment, is_truth, is_number, kind_of}
 use Rattle.syn_parts.specs.Tree as t
-use Rattle.syn_parts.specs.Tree.{LitTree, AttributeTree, LifetimesTree, TypeTree, SegmentTree, PathTree, FnArgTree, ArgumentsTree, GenericTree, ReturnTree, BoundTree}
+use Rattle.syn_parts.specs.Tree.{LitTree, TypeTree, PathTree}
 use Rattle.syn_tokens.specs.Front.{group_at}
 use Rattle.syn_parts.specs.Form.{Form, then_by, inside}
 use Rattle.syn_parts.specs.Part.{word_if, find_ident, find_segment, find_word, lit_if, truth_if, find_lit, negative_if, find_signed, string_if, find_string, find_group, find_all, find_const, const_if, find_arg_name, is_arg_name, name, segment_name, lifetime, unsigned, lit, string, kept, any_group, rest_of, constant_tokens, arg_name, outer_body, inner_body, attribute, outer_attributes, inner_attributes, block, no_arguments, lifetimes, abi, mutability, output, generic, assoc, angle, angle_bracketed, parenthesized, arguments, segment, pieces, path, qualified, qpath, bound, trait_bound, bounds, reference, pointer, slice_or_array, tuple_or_paren, fn_arg, fn_head, fn_pointer, implements, object, macro_end, named, at_place, type, SpellsType, macro, MacroEnd, QPathTree, to_named, from_named}

@@ -9,11 +9,11 @@ use Rattle.syn_tokens.specs.Tok.{Tok, ident, literal, weight}
 use Rattle.syn_parts.specs.declared.label.PathStyle.TheVariants as style
 use Rattle.syn_parts.specs.Text.{Text}
 use Rattle.syn_parts.specs.Tree as t
-use Rattle.syn_parts.specs.Tree.{LitTree, AttributeTree, PathTree, TypeTree}
+use Rattle.syn_parts.specs.Tree.{LitTree, AttributeTree, TypeTree}
 use Rattle.syn_parts.specs.Form.{Form, then_by, both, joined, more, flag, mark, maybe}
 use Rattle.syn_parts.specs.Mark.{sign_at, colon}
 use Rattle.syn_parts.specs.Part.{outer_attributes, qpath, type, QPathTree}
-use Rattle.syn_parts.specs.Pat.{MemberTree, PatBound, PatTree, SubPat, Pats, Fields, FieldTree, FieldPatTree, PathEnd}
+use Rattle.syn_parts.specs.Pat.{MemberTree, PatBound, PatTree, SubPat, Pats, FieldTree, FieldPatTree, PathEnd}
 use Rattle.syn_parts.specs.Pat as p
 use Rattle.syn_parts.proofs.Weights.{some_is}
 use Rattle.syn_parts.proofs.Marks.{marks, begins_in_front, sign_present, word_present, underscore_present, constant_present, and_present}

@@ -16,7 +16,7 @@ use Rattle.syn_parts.specs.Text.{Text, is_segment, is_truth, is_number, number_k
 use Rattle.syn_parts.specs.Same.{same_kind}
 use Rattle.syn_parts.specs.Tree as t
 use Rattle.syn_parts.specs.Tree.{LitTree, AttributeTree, PathTree, SegmentTree, QSelfTree, Segments, ArgumentsTree, TypeTree}
-use Rattle.syn_parts.specs.Form.{Form, Mark, flag, mark, maybe, pure, listed, joined, more, when, shown, both, is_nil}
+use Rattle.syn_parts.specs.Form.{flag, mark, maybe, pure, listed, joined, more, when, shown, both, is_nil}
 use Rattle.syn_parts.specs.Form as form
 use Rattle.syn_parts.specs.Mark.{pound, sign_at, word_at, brace_at, round_at, comma, colon, colon2, not_ne, mutable}
 use Rattle.syn_parts.specs.Part.{angle_at, turbofish_at, lit, is_lit_there, qpath, type, MacroTree, has_none, segments_bare, outer_attributes, outer_body}

@@ -13,7 +13,7 @@ use Rattle.syn_parts.specs.declared.label.PathStyle.TheVariants as style
 use Rattle.syn_parts.specs.Text.{Text}
 use Rattle.syn_parts.specs.Tree as t
 use Rattle.syn_parts.specs.Tree.{TypeTree, LitTree, AttributeTree, PathTree, SegmentTree, QSelfTree, ArgumentsTree}
-use Rattle.syn_parts.specs.Form.{Form, Mark, Test, flag, mark, maybe, pure, listed, joined, more, when, case, group_case, then_by, shown, both, then_behind, if_same, is_nil}
+use Rattle.syn_parts.specs.Form.{Form, Test, flag, mark, maybe, pure, listed, joined, more, when, case, group_case, then_by, shown, both, then_behind, if_same, is_nil}
 use Rattle.syn_parts.specs.Form as form
 use Rattle.syn_parts.specs.Mark.{underscore, constant, pound, sign_at, word_at, brace_at, round_at, comma, colon, colon2, not_ne, mutable, and}
 use Rattle.syn_parts.specs.Part.{lit, name, block, qpath, type, QPathTree, MacroTree, has_none, segments_bare, is_bare, any_group, outer_attributes, outer_body}

@@ -13,7 +13,7 @@ use Rattle.syn_parts.specs.Text.{Text, is_segment, is_truth, is_number, kind_of}
 use Rattle.syn_parts.specs.Tree.{LitTree}
 use Rattle.syn_parts.specs.Form.{Form, Outcome, Test, Mark, and_then, when, mark, then_by, both, shown, inside_reads, inside, joined}
 use Rattle.syn_parts.specs.Mark.{gt, implementing, dynamic}
-use Rattle.syn_parts.specs.Part.{word_if, find_ident, find_segment, find_word, lit_if, truth_if, find_lit, negative_if, find_signed, find_const, const_if, name, segment_name, lifetime, unsigned, lit, kept, constant_tokens, attribute, outer_body, inner_body, pound_bang, block, lifetimes, generic, segment, pieces, path, qpath, bound, fn_pointer, fn_head, named, at_place, type, macro}
+use Rattle.syn_parts.specs.Part.{find_ident, find_segment, find_lit, find_signed, find_const, name, segment_name, lifetime, lit, kept, constant_tokens, block, lifetimes, generic, segment, pieces, path, qpath, bound, fn_pointer, named, at_place, type, macro}
 use Rattle.syn_parts.specs.Part as p
 use Rattle.syn_parts.proofs.Weights.{some_is, taken, one_at_least}
 use Rattle.syn_parts.proofs.Same.{compares_texts}

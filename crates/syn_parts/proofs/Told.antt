@@ -3,7 +3,7 @@ use Rattle.std.proofs.Common.{◌≡◌, ℕ, Bool, true, false, not, ◌&&◌, 
 use Rattle.syn_lexer.specs.declared.lexeme.Delimiter.{Delimiter}
 use Rattle.syn_tokens.specs.Tok.{Tok, toks, inside, toks-inside}
 use Rattle.syn_tokens.specs.Front.{group_at}
-use Rattle.syn_parts.specs.Form.{Form, Mark, Test, when, then_by, both, mark, flag, maybe, shown, pure, is_none, itself, inside_behind, closed_by, tail, listed, more, joined, cons, uncons, is_true, is_nil}
+use Rattle.syn_parts.specs.Form.{Form, Mark, Test, when, then_by, both, mark, flag, maybe, shown, pure, is_none, itself, inside_behind, closed_by, tail, listed, more, joined, cons, uncons, is_nil}
 use Rattle.syn_parts.specs.Form as form
 use Rattle.syn_parts.specs.Own.{alone, before_if, before_some, enclosed, elements_own, comma_before}
 use Rattle.syn_parts.specs.Mark.{sign_at, comma, gt}

@@ -14,7 +14,7 @@ use Rattle.syn_parts.specs.declared.label.PathStyle.TheVariants as style
 use Rattle.syn_parts.specs.Text.{Text, is_segment, stands_alone, is_truth, is_number, kind_of}
 use Rattle.syn_parts.specs.Same.{same_group}
 use Rattle.syn_parts.specs.Tree as t
-use Rattle.syn_parts.specs.Tree.{LitTree, LifetimesTree, TypeTree, Types, QSelfTree, Segments, SegmentTree, PathTree, FnArgs, FnArgTree, ArgumentsTree, Generics, GenericTree, ReturnTree, Bounds, BoundTree}
+use Rattle.syn_parts.specs.Tree.{LitTree, LifetimesTree, TypeTree, Types, QSelfTree, Segments, SegmentTree, FnArgs, ArgumentsTree, Generics, GenericTree, ReturnTree, Bounds, BoundTree}
 use Rattle.syn_parts.specs.Form.{maybe, flag, listed, joined, is_nil}
 use Rattle.syn_parts.specs.Mark.{sign_at, word_at, lifetime_at, round_at, brace_at, comma, colon2, plus, question, gt, less, eq, lone_colon, not_ne, arrow, mutable, unsafe_word, extern_word}
 use Rattle.syn_parts.specs.Part.{lifetime, lifetimes, lifetimes_at, const_at, assoc_at, arg_name_at, angle_at, turbofish_at, fn_at, string_at, string, abi, rest_of, constant_tokens, any_group, arg_name, is_arg_name, no_arguments, has_none, fn_head, macro_end, type, output, generic, angle, angle_bracketed, parenthesized, arguments, segment, pieces, path, qualified, qpath, bound, bounds, reference, pointer, slice_or_array, tuple_or_paren, fn_arg, fn_pointer, implements, object, named, at_place, tuple_of, segments_bare, FnHead}

@@ -11,8 +11,8 @@ use Rattle.syn_parts.specs.declared.label.PathStyle.{PathStyle}
 use Rattle.syn_parts.specs.declared.label.PathStyle.TheVariants as style
 use Rattle.syn_parts.specs.Text.{Text, is_segment, stands_alone}
 use Rattle.syn_parts.specs.Tree as t
-use Rattle.syn_parts.specs.Tree.{LitTree, LifetimesTree, TypeTree, Types, QSelfTree, Segments, SegmentTree, PathTree, FnArgs, FnArgTree, ArgumentsTree, Generics, GenericTree, ReturnTree, Bounds, BoundTree}
-use Rattle.syn_parts.specs.Form.{Form, Mark, Test, when, case, group_case, mark, both, then_by, maybe, flag, shown, pure, listed, joined, closed_by, inside_behind, then_behind, is_nil}
+use Rattle.syn_parts.specs.Tree.{LifetimesTree, TypeTree, Types, QSelfTree, Segments, SegmentTree, PathTree, FnArgs, ArgumentsTree, Generics, GenericTree, ReturnTree, Bounds, BoundTree}
+use Rattle.syn_parts.specs.Form.{Form, Test, when, case, group_case, mark, both, maybe, flag, shown, pure, listed, joined, closed_by, then_behind, is_nil}
 use Rattle.syn_parts.specs.Form as form
 use Rattle.syn_parts.specs.Mark.{sign_at, word_at, lifetime_at, round_at, comma, colon2, plus, question, gt, less, eq, lone_colon, not_ne, arrow, mutable, unsafe_word, extern_word, fn_word, semi, and, star, bang, underscore, implementing, dynamic, as_word}
 use Rattle.syn_parts.specs.Part.{name, segment_name, lifetime, lifetimes, lifetimes_at, const_at, assoc_at, arg_name_at, angle_at, turbofish_at, fn_at, rest_of, constant_tokens, any_group, arg_name, is_arg_name, no_arguments, has_none, fn_head, abi, macro_end, type, output, generic, assoc, angle, angle_bracketed, parenthesized, arguments, is_default, from_given, segment, pieces, path, qualified, qpath, bound, trait_bound, bounds, reference, pointer, slice_or_array, tuple_or_paren, fn_arg, fn_pointer, implements, object, named, at_place, tuple_of, is_bare, FnHead, is_never, is_infer, to_assoc, from_assoc, from_lifetime, from_const, from_type, from_outlives, to_bare, from_bare}

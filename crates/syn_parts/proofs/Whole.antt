@@ -5,7 +5,7 @@ use Rattle.syn_parts.specs.declared.label.PathStyle.{PathStyle}
 use Rattle.syn_parts.specs.declared.label.PathStyle.TheVariants as style
 use Rattle.syn_parts.specs.Text.{Text, is_segment, stands_alone}
 use Rattle.syn_parts.specs.Tree as t
-use Rattle.syn_parts.specs.Tree.{PathTree, SegmentTree, Segments, ReturnTree}
+use Rattle.syn_parts.specs.Tree.{SegmentTree, Segments, ReturnTree}
 use Rattle.syn_parts.specs.Form.{Form}
 use Rattle.syn_parts.specs.Mark.{sign_at, colon2, arrow}
 use Rattle.syn_parts.specs.Part.{has_none, macro, path, qpath, output, type, MacroTree}

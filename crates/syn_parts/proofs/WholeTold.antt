@@ -5,7 +5,7 @@ use Rattle.syn_parts.specs.declared.label.PathStyle.{PathStyle}
 use Rattle.syn_parts.specs.declared.label.PathStyle.TheVariants as style
 use Rattle.syn_parts.specs.Text.{Text}
 use Rattle.syn_parts.specs.Tree as t
-use Rattle.syn_parts.specs.Tree.{TypeTree, QSelfTree, SegmentTree, PathTree, FnArgTree, ArgumentsTree, GenericTree, ReturnTree, BoundTree}
+use Rattle.syn_parts.specs.Tree.{TypeTree, QSelfTree, SegmentTree, ArgumentsTree, GenericTree, ReturnTree, BoundTree}
 use Rattle.syn_parts.specs.Form.{mark}
 use Rattle.syn_parts.specs.Mark.{sign_at, not_ne}
 use Rattle.syn_parts.specs.Part.{path, qpath, segment, trait_bound, bounds, assoc, angle, angle_bracketed, parenthesized, output, macro, type, any_group, MacroTree}

@@ -18,7 +18,7 @@ use Rattle.syn_parts.specs.Mark.{lone_colon, colon2, arrow, eq, plus, not_ne, ro
 use Rattle.syn_parts.specs.Part.{has_none, is_arg_name, angle_at, turbofish_at, string_at, MacroTree, QPathTree}
 use Rattle.syn_parts.specs.Own.{no_more_types, no_more_segments, no_more_generics, no_more_args, no_more_bounds, count_segments, inner_count, one_less, colon2_before}
 use Rattle.syn_parts.specs.Tree as t
-use Rattle.syn_parts.specs.Tree.{LitTree, AttributeTree, LifetimesTree, TypeTree, Types, QSelfTree, Segments, SegmentTree, PathTree, FnArgs, FnArgTree, ArgumentsTree, Generics, GenericTree, ReturnTree, Bounds, BoundTree}
+use Rattle.syn_parts.specs.Tree.{LitTree, LifetimesTree, TypeTree, Types, QSelfTree, Segments, SegmentTree, PathTree, FnArgs, FnArgTree, ArgumentsTree, Generics, GenericTree, ReturnTree, Bounds, BoundTree}
 
 -- ---- literals
 
