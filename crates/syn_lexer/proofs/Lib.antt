@@ -1,4 +1,4 @@
 pub mod CommentLaws
 pub mod LengthLaws
 pub mod LexLaws
-pub mod SameFirst
+pub mod SameLength

@@ -1,6 +1,6 @@
 //! White space and comments.
 
-ghost use Rattle.std.specs.Prelude.{◌≡◌, ◌≤◌, ◌<◌, ◌+◌, length, drop, IfSome, MatchResult, Ok, Err, true, false};
+ghost use Rattle.std.specs.Prelude.{◌≡◌, ◌≤◌, ◌<◌, ◌+◌, length, IfSome, Ok, Err, true, false};
 ghost use Rattle.std.specs.List.{prefix_len};
 ghost use Rattle.syn_lexer.specs.Blanks as spec;
 ghost use Rattle.syn_lexer.specs.Text.{reading_of, IsWithin};

@@ -1,6 +1,6 @@
 //! The lexeme at the front of a text.
 
-ghost use Rattle.std.specs.Prelude.{◌≡◌, ◌≤◌, ◌<◌, ◌↔◌, length, drop, slice_index, IsTrue, IfErr, MatchResult, Some, None, Err};
+ghost use Rattle.std.specs.Prelude.{◌≡◌, ◌<◌, ◌↔◌, length, IsTrue, IfErr, MatchResult, Some, None, Err};
 ghost use Rattle.syn_lexer.specs.Lex as spec;
 ghost use Rattle.syn_lexer.specs.Text.{reading_of, IsWithin};
 

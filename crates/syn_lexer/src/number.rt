@@ -1,6 +1,6 @@
 //! Integer and float literals.
 
-ghost use Rattle.std.specs.Prelude.{◌≡◌, ◌≤◌, ◌<◌, ◌+◌, length, drop, true, false};
+ghost use Rattle.std.specs.Prelude.{◌≡◌, ◌≤◌, ◌<◌, ◌+◌, length, true};
 ghost use Rattle.std.specs.List.{prefix_len};
 ghost use Rattle.syn_lexer.specs.Numbers as spec;
 ghost use Rattle.syn_lexer.specs.Text.{reading_of, IsWithin};

@@ -1,6 +1,6 @@
 //! Character, string, byte and C string literals, and lifetimes.
 
-ghost use Rattle.std.specs.Prelude.{◌≡◌, ◌≤◌, ◌<◌, ◌+◌, length, drop, IfSome, MatchOption, true, false};
+ghost use Rattle.std.specs.Prelude.{◌≡◌, ◌≤◌, ◌<◌, ◌+◌, length, IfSome, MatchOption, true, false};
 ghost use Rattle.std.specs.List.{prefix_len};
 ghost use Rattle.syn_lexer.specs.Quotes as spec;
 ghost use Rattle.syn_lexer.specs.Text.{reading_of, IsWithin};

@@ -1,7 +1,7 @@
 -- The text of some trees.
-use Rattle.std.proofs.Common.{◌≡◌, ◌≤◌, ℕ, List, [], ◌∷◌, ◌++◌, length, refl, ap, arith, append_assoc}
+use Rattle.std.proofs.Common.{◌≡◌, ◌≤◌, List, [], ◌∷◌, ◌++◌, length, refl, ap, arith, append_assoc}
 use Rattle.syn_lexer.specs.declared.lexeme.Delimiter.TheVariants.{Brace}
-use Rattle.syn_tokens.specs.Tok.{Tok, Inside, inside, inside_weight-inside, toks-inside}
+use Rattle.syn_tokens.specs.Tok.{Tok, inside, inside_weight-inside, toks-inside}
 use Rattle.syn_tokens.specs.Text.{margin, text, text_inside, text_of, gap}
 use Rattle.syn_tokens.specs.View.{toks_of}
 use Rattle.syn_tokens.specs.declared.tree.TokenTree.{TokenTree}

@@ -1,6 +1,6 @@
 //! A position in a borrowed list of token trees, and the traits of what is read there and printed.
 
-ghost use Rattle.std.specs.Prelude.{is_some, ◌≡◌, ◌≤◌, ◌<◌, ◌+◌, ◌++◌, ◌||◌, not, [], ◌∷◌, length, drop, List, IfOk, IfErr, IfSome, IsOk, MatchOption, IsTrue, true, false};
+ghost use Rattle.std.specs.Prelude.{is_some, ◌≡◌, ◌≤◌, ◌<◌, ◌+◌, ◌++◌, ◌||◌, [], ◌∷◌, length, drop, List, IfOk, IfErr, IfSome, IsOk, MatchOption, true};
 ghost use Rattle.syn_tokens.specs.Front as front;
 ghost use Rattle.syn_tokens.specs.Input as spec;
 ghost use Rattle.syn_tokens.specs.Input.{Input, Reaches, IsTail, IsAfter};

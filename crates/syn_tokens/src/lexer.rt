@@ -1,6 +1,6 @@
 //! Cuts a text into token trees.
 
-ghost use Rattle.std.specs.Prelude.{◌≡◌, ◌≢◌, ◌≤◌, ◌++◌, ◌∷◌, ◌⊎◌, [], List, length, chars, encode_utf8_all, IfOk, IfErr, OnOk, MatchResult, IfSome, string_bytes};
+ghost use Rattle.std.specs.Prelude.{◌≡◌, ◌≢◌, ◌++◌, ◌∷◌, ◌⊎◌, [], List, chars, encode_utf8_all, IfOk, IfErr, OnOk, MatchResult, IfSome, string_bytes};
 ghost use Rattle.std.specs.Rc.{rc_str_bytes};
 ghost use Rattle.syn_tokens.specs.Input.{Gives};
 ghost use Rattle.syn_tokens.specs.Lex as spec;
@@ -45,16 +45,16 @@ pub(crate) fn chars_of(alloc: Global, text: &str) -> Result<Vec<char>>
     Ok(text.chars().collect::<Vec<char>>(alloc)?)
 }
 
-/// The text of some characters.
-fn text_of(alloc: Global, mut z: &[char]) -> Result<String>
-    ensures { MatchResult result (λ s. string_bytes s ≡ encode_utf8_all z.entry.now) (λ e. e.kind ≡ ErrorKind.OutOfMemory) }
+/// Has a text be these characters.
+fn spell(text: &mut String, mut z: &[char]) -> Result<()>
+    ensures { MatchResult result (λ _. string_bytes text.new ≡ encode_utf8_all z.entry.now) (λ e. e.kind ≡ ErrorKind.OutOfMemory) }
 {
-    let mut text = String::new(alloc);
+    text.clear();
     while let [c, more @ ..] = z {
         text.push(*c)?;
         z = more;
     }
-    Ok(text)
+    Ok(())
 }
 
 /// How many texts are at hand to be shared.
@@ -73,6 +73,8 @@ struct Known<'a> {
 struct Texts<'a> {
     known: Vec<Known<'a>>,
     next: usize,
+    /// Where a text is spelled before it is made: it takes its memory once.
+    spelled: String,
 }
 
 impl<'a> Texts<'a> {
@@ -80,6 +82,7 @@ impl<'a> Texts<'a> {
         Texts {
             known: Vec::new(alloc),
             next: 0,
+            spelled: String::new(alloc),
         }
     }
 
@@ -89,8 +92,7 @@ impl<'a> Texts<'a> {
         ensures err { IfErr result (λ e. e.kind ≡ ErrorKind.OutOfMemory) }
     {
         for known in &self.known {
-            // Texts that differ do so most often in their last character.
-            if known.read.last() == read.last() && known.read == read {
+            if known.read == read {
                 return Ok(Some(known.text.clone()?));
             }
         }
@@ -120,7 +122,8 @@ impl<'a> Texts<'a> {
         if let Some(text) = self.find(read)? {
             return Ok(text);
         }
-        let text = RcStr::from_string(text_of(alloc, read)?)?;
+        spell(&mut self.spelled, read)?;
+        let text = RcStr::from_str(alloc, self.spelled.as_str())?;
         let shared = text.clone()?;
         self.keep(Known { read, text })?;
         Ok(shared)

@@ -1,6 +1,6 @@
 //! The readers and printers of the token trees themselves, which copy.
 
-ghost use Rattle.std.specs.Prelude.{◌≡◌, ◌≤◌, ◌+◌, ◌⊎◌, ℕ, List, [], ◌∷◌, IfOk, IfErr, true, false};
+ghost use Rattle.std.specs.Prelude.{◌≡◌, ◌≤◌, ◌+◌, ◌⊎◌, ℕ, List, [], ◌∷◌, IfOk, IfErr, false};
 ghost use Rattle.syn_lexer.specs.Keywords.{is_reserved_word};
 ghost use Rattle.syn_tokens.specs.Input.{Reaches, IsAfter};
 ghost use Rattle.syn_tokens.specs.Tok.{Tok, weight};

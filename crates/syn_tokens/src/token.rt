@@ -1,13 +1,12 @@
 //! The tokens of one or more puncts, the words and the delimiters.
 
-ghost use Rattle.std.specs.Prelude.{◌≡◌, ◌≤◌, ◌+◌, ◌++◌, List, [], ◌∷◌, drop, replicate, IsTrue, IfOk, IfErr, OnOk, OnErr, false};
+ghost use Rattle.std.specs.Prelude.{◌≡◌, ◌+◌, ◌++◌, [], ◌∷◌, replicate, IfErr, OnOk, OnErr, false};
 ghost use Rattle.syn_lexer.specs.declared.lexeme.Delimiter.TheVariants as delimiter;
 ghost use Rattle.syn_tokens.specs.Front as front;
-ghost use Rattle.syn_tokens.specs.Input.{IsFront, IsAfter, Reaches};
+ghost use Rattle.syn_tokens.specs.Input.{IsFront};
 ghost use Rattle.syn_tokens.specs.Places.{IsAt};
 ghost use Rattle.syn_tokens.specs.Sign as spec;
 ghost use Rattle.syn_tokens.specs.Tok as tok;
-ghost use Rattle.syn_tokens.specs.Tok.{Tok, weight};
 ghost use Rattle.syn_tokens.specs.View.{tok_of, toks_of};
 ghost use Rattle.syn_tokens.specs.declared.error.ErrorKind.TheVariants as kind;
 ghost use Rattle.syn_tokens.specs.declared.error.Expected.TheVariants as expected;
