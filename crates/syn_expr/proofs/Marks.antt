@@ -14,7 +14,6 @@ use Rattle.syn_grammar.specs.declared.note.Sort.TheVariants as sort
 use Rattle.syn_grammar.specs.Next.{enclosed, in_statement, left_context, base_context, right_context, adorned_context, lead_context, piece_context}
 use Rattle.syn_grammar.specs.Notes.{note_of, adorned_note, lead_note, mid_note, post_note, closed_note, base_wrapped_by, is_named_trailer, place_by, left_by, base_by, lead_by}
 use Rattle.syn_grammar.specs.Op.{level}
-use Rattle.syn_grammar.specs.Printed.{plainly_adorned, kids_plainly}
 use Rattle.syn_grammar.specs.Rule.{is_operation, put, piece_put, bare, bare_kids, place_asks, left_asks, base_asks, lead_asks, is_chainable, is_plain_block, chained_bare}
 use Rattle.syn_grammar.specs.Tree as e
 use Rattle.syn_grammar.specs.Tree.{Tree, Kids, Lead, Trailer, Piece, Ending, leaf, paren, adorned, lead, mid, post, tail, frame, none, kid, own, kids_own, own_tokens, clear, clear_kids, plain_block, post_op, is_silent, lead_own, infix_own, post_own, trailer_own, framed, enclosure, behind_operands, inside_of, ending_own, piece_own}
@@ -70,21 +69,6 @@ mutual
   clear_twice_kids : (ks : Kids) → clear_kids (clear_kids ks) ≡ clear_kids ks
   clear_twice_kids none = refl
   clear_twice_kids (kid k c t ks) = same_kid _ _ _ _ k c (clear_twice t) (clear_twice_kids ks)
-
-mutual
-  pub plain_clear : (t : Tree) → plainly_adorned (clear t) ≡ plainly_adorned t
-  plain_clear (leaf k) = refl
-  plain_clear (paren m t) = plain_clear t
-  plain_clear (adorned a more t) = rw (operation_clear t, plain_clear t) refl
-  plain_clear (lead k gs t) = rw (plain_clear_kids gs, plain_clear t) refl
-  plain_clear (mid x k y) = rw (plain_clear x, plain_clear y) refl
-  plain_clear (post x k) = plain_clear x
-  plain_clear (tail b k ks) = rw (plain_clear b, plain_clear_kids ks) refl
-  plain_clear (frame k ks) = plain_clear_kids ks
-
-  plain_clear_kids : (ks : Kids) → kids_plainly (clear_kids ks) ≡ kids_plainly ks
-  plain_clear_kids none = refl
-  plain_clear_kids (kid k c t ks) = rw (plain_clear t, plain_clear_kids ks) refl
 
 -- ---- what is noted, and what is decided by it
 

@@ -13,12 +13,12 @@ use Rattle.syn_grammar.proofs.Flat.{flatten_clear}
 use Rattle.syn_grammar.proofs.Needless.{bare_there}
 use Rattle.syn_grammar.proofs.Promise.{printed_stands}
 use Rattle.syn_grammar.proofs.Same.{printed_is_same}
-use Rattle.syn_grammar.proofs.SparedPlain.{no_pair_spared}
+use Rattle.syn_grammar.proofs.SparedPlain.{no_pair_spared, plain_clear}
 use Rattle.syn_grammar.proofs.StoodFilled.{own_spelling}
 use Rattle.syn_expr_kinds.specs.Printed.{whole}
 use Rattle.syn_expr_print.proofs.Appends.{own_append}
 use Rattle.syn_expr.specs.Promises.{Puts, StandsBack, IsOwn, IsSparing, PrintedAs}
-use Rattle.syn_expr.proofs.Marks.{own_clear, clear_twice, plain_clear, put_clear}
+use Rattle.syn_expr.proofs.Marks.{own_clear, clear_twice, put_clear}
 
 pub stands_back : (s : Position) (t : Tree) → StandsBack s t (own_tokens (printed_in s t))
 stands_back s t w = (

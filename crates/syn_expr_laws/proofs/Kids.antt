@@ -1,7 +1,6 @@
 -- Operands beside patterns tell what they are made of: guards of patterns where none may stand, and the arms of a `match`.
 use Rattle.std.proofs.Common.{◌≡◌, Bool, true, false, List, [], ◌∷◌, ◌++◌, refl, sym, ◌∙◌, ap, append-nil, append_assoc}
 use Rattle.syn_parts.specs.Tree.{AttributeTree, ReturnTree, default, given}
-use Rattle.syn_parts.specs.Pat as t
 use Rattle.syn_parts.specs.Pat.{PatTree, guarded}
 use Rattle.syn_grammar.specs.Tree as e
 use Rattle.syn_grammar.specs.Tree.{Tree, Kids, Ending, ClosureHead, none, kid}

@@ -104,7 +104,6 @@ use Rattle.syn_expr_kinds.specs.declared.jump.ExprYieldOf.{ExprYieldOf}
 use Rattle.syn_expr_kinds.specs.contracts.jump.ExprYieldOfPartialEq.TheImpl as yield_test
 use Rattle.syn_expr_kinds.specs.declared.structure.FieldValueOf.{FieldValueOf}
 use Rattle.syn_expr_kinds.specs.contracts.structure.FieldValueOfPartialEq.TheImpl as field_value_test
-use Rattle.syn_expr_kinds.specs.contracts.structure.ExprStructOfPartialEq.TheImpl as struct_test
 use Rattle.syn_expr_kinds.specs.View.{boxed, FieldView, range_between, jump_with, body_of, else_of, turbofish_of, expr_array_of, expr_group_of, expr_paren_of, expr_repeat_of, expr_tuple_of, expr_infer_of, expr_lit_of, expr_macro_of, expr_path_of, expr_assign_of, expr_binary_of, expr_cast_of, expr_range_of, expr_raw_addr_of, expr_reference_of, expr_unary_of, expr_await_of, expr_call_of, expr_field_of, expr_index_of, expr_method_call_of, expr_try_of, expr_async_of, expr_block_of, expr_const_of, expr_if_of, expr_loop_of, expr_try_block_of, expr_unsafe_of, expr_while_of, expr_break_of, expr_continue_of, expr_return_of, expr_yield_of, field_value_of}
 use Rattle.syn_expr_laws.proofs.Shapes.{behind_tie, around_tie, attrs_tie, elements_tie, boxed_tie, is_core}
 

@@ -33,9 +33,7 @@ use Rattle.syn_expr_kinds.specs.View.{range_between, jump_with, field_value_of, 
 use Rattle.syn_expr_kinds.specs.contracts.structure.FieldValueOfPartialEq.TheImpl as field_value_test
 use Rattle.syn_expr_all.specs.declared.expr.Expr.{Expr}
 use Rattle.syn_expr_all.specs.declared.expr.Expr.TheBlock as block
-use Rattle.syn_expr_all.specs.declared.expr.Expr.TheVariants as ex
 use Rattle.syn_expr_all.specs.declared.pat.Pat.{Pat}
-use Rattle.syn_expr_all.specs.declared.pat.Pat.TheVariants as pt
 use Rattle.syn_expr_all.specs.declared.pat.PatGuard.{PatGuard, out-PatGuard}
 use Rattle.syn_expr_all.specs.declared.closure.ExprClosure.{ExprClosure, out-ExprClosure}
 use Rattle.syn_expr_all.specs.declared.control.Arm.{Arm, out-Arm}

@@ -1,6 +1,6 @@
 //! The reader of what stands in the braces of a struct expression (Rust Reference, "Struct expressions").
 
-ghost use Rattle.std.specs.Prelude.{◌≡◌, ◌≤◌, ◌+◌, is_some, None};
+ghost use Rattle.std.specs.Prelude.{◌≡◌, ◌≤◌, ◌+◌, None};
 ghost use Rattle.syn_expr_ends.specs.Reads.{Callable, ReadsExpr};
 ghost use Rattle.syn_expr_kinds.specs.View.{boxed, field_value_of};
 ghost use Rattle.syn_expr_lists.specs.Fields.{base, braced, entry, one_field, value_at};

@@ -2,7 +2,6 @@
 
 ghost use Rattle.std.specs.Prelude.{◌≡◌, ◌+◌, ◌-◌, ◌^◌, ◌&&◌, min, not, if◌then◌else◌};
 ghost use Rattle.syn_grammar.specs.Notes as spec;
-ghost use Rattle.syn_grammar.specs.Rule as rule;
 ghost use Rattle.syn_grammar.specs.Tree.{Leaf, Lead, Post, Trailer, Frame};
 ghost use Rattle.syn_grammar.specs.declared.kinds.Level.TheVariants as lev;
 ghost use Rattle.syn_expr_notes.specs.Label.{leaf_kind, lead_kind, post_kind, trailer_kind, frame_kind, tail_note, frame_note};

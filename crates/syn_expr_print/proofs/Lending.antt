@@ -94,9 +94,6 @@ less-second t u n h l = let s = second-smaller t u h in omega arith
 pub less-kids : (t : Tree) (n : ℕ) → n < kids_size (operand_kids (operands_at t)) + 1 → n < size t
 less-kids t n l = let s = kids-smaller t in omega arith
 
-pub first-less : (t u : Tree) → first_of (operands_at t) ≡ Some u → size u < size t
-first-less t u h = first-smaller t u h
-
 -- what holds where the last step is not refused
 pub on-map : {U X : Type 0} {A B : Type 0} (r : Result U X) → OnOk r A → (A → B) → OnOk r B
 on-map (Ok x) h f = f h

@@ -1,13 +1,11 @@
 -- Attributes before an operand, as they are read.
-use Rattle.std.specs.Prelude.{not, ◌&&◌}
-use Rattle.std.proofs.Common.{◌≡◌, ℕ, zero, suc, Bool, true, false, cond, List, [], ◌∷◌, ◌++◌, drop, Option, Some, None, refl, sym, subst}
-use Rattle.syn_tokens.specs.Tok.{Tok, weight}
+use Rattle.std.proofs.Common.{◌≡◌, Bool, true, false, cond, List, [], ◌∷◌, ◌++◌, Option, Some, None, refl, sym, subst}
+use Rattle.syn_tokens.specs.Tok.{Tok}
 use Rattle.syn_tokens.specs.Input.{IsTail}
-use Rattle.syn_parts.specs.Form.{then_behind, more, more_step, fix, iterate}
+use Rattle.syn_parts.specs.Form.{more, fix, iterate}
 use Rattle.syn_parts.specs.Tree.{AttributeTree}
 use Rattle.syn_parts.specs.Mark.{pound}
-use Rattle.syn_parts.specs.Part.{outer_attributes, outer_body, kept}
-use Rattle.syn_lexer.specs.declared.lexeme.Delimiter.TheVariants as del
+use Rattle.syn_parts.specs.Part.{outer_attributes}
 use Rattle.syn_parts.proofs.Same.{same_toks-refl}
 use Rattle.syn_grammar.specs.declared.kinds.Place.{Place}
 use Rattle.syn_grammar.specs.Tree as tr
@@ -15,40 +13,17 @@ use Rattle.syn_grammar.specs.Tree.{Tree, adorn, adorned, leaf}
 use Rattle.syn_grammar.specs.Stands.{is_adorned, is_verbatim, may_adorn}
 use Rattle.syn_grammar.specs.Read.{adorned_by, attributed, before, verbatim_of}
 use Rattle.syn_expr_readers.specs.Loops.{outer_operand, with_outer}
-use Rattle.syn_grammar.proofs.Chains.{behind_some}
 use Rattle.syn_grammar.proofs.Needs.{heads}
 use Rattle.syn_grammar.proofs.HeadMoves.{left, taken_is}
 use Rattle.syn_grammar.proofs.Lesses.{here}
 use Rattle.syn_expr_kinds.specs.Attrs.{all_outer}
+use Rattle.syn_expr_kinds.proofs.Outers.{outer_behind}
 
 pub outers_left : (l m : List Tok) (ats : List AttributeTree) → outer_attributes.reads l ≡ Some (ats, m) → IsTail m l
 outers_left l m ats h = left here.outer ats l m (heads.outers.sound l ats m h)
 
--- ---- all are outer ones
-
-style_is : (b : Bool) (a : AttributeTree) (f : List Tok → Option (List Tok)) (m : List Tok) → a.inner ≡ b → then_behind (cond b None (Some a.tokens)) f ≡ Some m → not b ≡ true
-style_is true a f m e h = absurd cc
-style_is false a f m e h = refl
-
-body_outer : (a : AttributeTree) (l m : List Tok) → outer_body.behind a l ≡ Some m → not a.inner ≡ true
-unfolding outer_body
-body_outer a l m h = style_is a.inner a (λ ts. (kept del.Bracket).behind ts l) m refl h
-
-iterated : (n : ℕ) (ats : List AttributeTree) (l m : List Tok) → (iterate (more_step pound outer_body) n tt).behind ats l ≡ Some m → all_outer ats ≡ true
-unfolding iterate
-iterated zero ats l m g = absurd cc
-iterated (suc n) [] l m g = refl
-iterated (suc n) (a ∷ more) l m g = by_test (pound.at l) (λ i d. iterated n more i m d) g
-  where
-    by_test : (b : Bool) → ((i : List Tok) → (iterate (more_step pound outer_body) n tt).behind more i ≡ Some m → all_outer more ≡ true) → cond b (cond b (then_behind (outer_body.behind a (drop 1 l)) ((iterate (more_step pound outer_body) n tt).behind more)) None) (cond false (Some l) None) ≡ Some m → (not a.inner && all_outer more) ≡ true
-    by_test true again h =
-        let (i, c, d) = behind_some (outer_body.behind a (drop 1 l)) _ m h in
-        rw (body_outer a (drop 1 l) i c) (again i d)
-    by_test false again h = absurd cc
-
 pub outers_are : (l m : List Tok) (ats : List AttributeTree) → outer_attributes.reads l ≡ Some (ats, m) → all_outer ats ≡ true
-unfolding outer_attributes more fix
-outers_are l m ats h = iterated (suc (weight l)) ats l m (heads.outers.sound l ats m h)
+outers_are l m ats h = outer_behind ats l m (heads.outers.sound l ats m h)
 
 -- ---- where `#` stands there is one
 

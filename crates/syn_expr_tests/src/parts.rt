@@ -40,6 +40,60 @@ fn fields_are_read_by_themselves(rt: HostRuntime) -> Result<(), Fail> {
     Ok(())
 }
 
+/// Single arms.
+const SINGLE: [&str; 3] = ["a => b", "#[k] a | b if c => {}", "_ => return,"];
+
+/// Whether an arm that is read by itself is printed as its own tokens, with its comma. It is let go with a `match` that is held
+/// and had room for it before it was read: letting a bare arm go is proved type by type.
+fn is_arm(alloc: Global, text: &str) -> Result<bool, Error> {
+    let tokens = lex(alloc, text)?;
+    let mut input = ParseBuffer::new(&tokens)?;
+    let mut printed = TokenStream::new(alloc);
+    let ExprMatch {
+        attrs,
+        match_token,
+        expr,
+        brace_token,
+        mut arms,
+    } = match parse_str::<HeldExpr>(alloc, "match x {}")?.into_inner() {
+        Expr::Match(choice) => choice,
+        expr => {
+            let _held = HeldExpr { expr };
+            return Ok(false);
+        }
+    };
+    let put = match arms.reserve(1) {
+        Ok(()) => match Arm::parse(&mut input) {
+            Ok(arm) => {
+                let put = arm.to_tokens(&mut printed);
+                arms.push_reserved(arm);
+                put
+            }
+            Err(e) => Err(e),
+        },
+        Err(e) => Err(Error::from(e)),
+    };
+    let _held = HeldExpr {
+        expr: Expr::Match(ExprMatch {
+            attrs,
+            match_token,
+            expr,
+            brace_token,
+            arms,
+        }),
+    };
+    put?;
+    Ok(to_text(&printed)? == to_text(&tokens)?)
+}
+
+#[test]
+fn an_arm_is_read_by_itself(rt: HostRuntime) -> Result<(), Fail> {
+    for text in SINGLE {
+        assert!(rt; is_arm(rt.alloc(), text)?);
+    }
+    Ok(())
+}
+
 /// Arms, and the `match` that has them.
 const ARMS: [(&str, &str); 3] = [
     ("", "match x {}"),

@@ -15,7 +15,7 @@ use Rattle.syn_grammar.specs.Op.{level}
 use Rattle.syn_grammar.specs.Next.{class_of, enclosed, left_context, base_context, adorned_context, lead_context, lead_next, lead_level}
 use Rattle.syn_grammar.specs.Stands.{is_range, is_range_leaf, is_infix, is_cast, carries, compares, is_call, is_base}
 use Rattle.syn_grammar.specs.Tree as e
-use Rattle.syn_grammar.specs.Tree.{Tree, Leaf, Lead, Post, Trailer, Frame, Jump, leaf, paren, adorned, lead, mid, post, tail, frame, post_op}
+use Rattle.syn_grammar.specs.Tree.{Tree, Leaf, Lead, Post, Trailer, Frame, leaf, paren, adorned, lead, mid, post, tail, frame, post_op}
 use Rattle.syn_grammar.specs.Rule.{is_operation, prints_range, prints_carrier, leaf_refuses, leaf_misplaced, lead_misplaced, frame_misplaced, post_refuses, misplaced, self_wrapped, lower, ends_badly, left_wrapped, low, bad, labelled, left_asks, base_asks, put, bare}
 use Rattle.syn_grammar.proofs.Bools.{or_false, neither, or_true, or_none, both_true, and_false, lower_takes}
 use Rattle.syn_grammar.proofs.Obeys.{begins_label}
@@ -80,7 +80,7 @@ cast_bare c (post x (e.range_from op)) = refl
 cast_bare c (tail b k ks) = refl
 cast_bare c (frame k ks) = refl
 
-not_cast : (t : Tree) → is_operation t ≡ false → is_cast t ≡ false
+pub not_cast : (t : Tree) → is_operation t ≡ false → is_cast t ≡ false
 not_cast (leaf k) h = refl
 not_cast (paren m t) h = refl
 not_cast (adorned a more t) h = refl

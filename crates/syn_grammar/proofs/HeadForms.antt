@@ -25,7 +25,6 @@ use Rattle.syn_grammar.specs.declared.kinds.Limits.TheVariants as limits
 use Rattle.syn_grammar.specs.Tree as e
 use Rattle.syn_grammar.specs.Tree.{Body, Jump, Leaf, ClosureHead, Lead, Trailer, Piece}
 use Rattle.syn_grammar.specs.Head as h
-use Rattle.syn_grammar.specs.Head.{Inputs}
 use Rattle.syn_grammar.specs.Slot as s
 use Rattle.syn_parts.specs.Mark.{word_at}
 use Rattle.syn_grammar.specs.Slot.{Slot}

@@ -15,7 +15,7 @@ use Rattle.syn_parts.specs.Fits.{unsigned_fits, qpath_fits, path_fits, macro_fit
 use Rattle.syn_parts.proofs.Same.{both_true, not_true}
 use Rattle.syn_parts.proofs.Behind.{or_true, and_false}
 use Rattle.syn_parts.proofs.Forms.{Alike}
-use Rattle.syn_parts.proofs.Fronts.{word_not, no_truth, not_underscore}
+use Rattle.syn_parts.proofs.Fronts.{NoSegment, word_not, no_truth, not_underscore, not_unsafe}
 use Rattle.syn_parts.proofs.TypesBack.{group_back}
 use Rattle.syn_parts.proofs.Whole.{parts_read_back}
 use Rattle.syn_parts.proofs.Ends.{parts_end}
@@ -108,43 +108,17 @@ try_back ts r = block_back ts r
 
 -- ---- paths
 
-not_return : is_segment (codes "return") ≡ false
+-- words that leaves begin with, and no path
+pub not_leaf_words : NoSegment (codes "return") × NoSegment (codes "yield") × NoSegment (codes "break") × NoSegment (codes "continue") × NoSegment (codes "loop") × NoSegment (codes "const") × NoSegment (codes "async")
 unfolding is_segment stands_alone is_reserved_word
-not_return = refl
-
-not_yield : is_segment (codes "yield") ≡ false
-unfolding is_segment stands_alone is_reserved_word
-not_yield = refl
-
-not_break : is_segment (codes "break") ≡ false
-unfolding is_segment stands_alone is_reserved_word
-not_break = refl
-
-not_continue : is_segment (codes "continue") ≡ false
-unfolding is_segment stands_alone is_reserved_word
-not_continue = refl
-
-not_loop : is_segment (codes "loop") ≡ false
-unfolding is_segment stands_alone is_reserved_word
-not_loop = refl
-
-not_unsafe : is_segment (codes "unsafe") ≡ false
-unfolding is_segment stands_alone is_reserved_word
-not_unsafe = refl
-
-not_const : is_segment (codes "const") ≡ false
-unfolding is_segment stands_alone is_reserved_word
-not_const = refl
-
-not_async : is_segment (codes "async") ≡ false
-unfolding is_segment stands_alone is_reserved_word
-not_async = refl
+not_leaf_words = (refl, refl, refl, refl, refl, refl, refl)
 
 -- a word of a path leads to the paths, but `try` before a brace and `builtin` before `#`
 named_word : (k : Leaf) (w : Text) (l : List Tok) → is_segment w ≡ true → (bytes_eq w (codes "try") && brace_at l) ≡ false → (bytes_eq w (codes "builtin") && sign_at (codes "#") l) ≡ false
     → h.leaf_form.behind k (ident w ∷ l) ≡ h.named.behind k (ident w ∷ l)
 unfolding h.leaf_form h.literal_at h.range_at h.jump_at h.loop_at h.block_at h.const_block_at h.async_block_at h.try_block_at h.builtin_at word_at lifetime_at sign_at brace_at group_at
 named_word k w l g i j =
+    let (not_return, not_yield, not_break, not_continue, not_loop, not_const, not_async) = not_leaf_words in
     rw (no_truth w g, word_not w (codes "_") g not_underscore, word_not w (codes "return") g not_return, word_not w (codes "yield") g not_yield, word_not w (codes "break") g not_break, word_not w (codes "continue") g not_continue, word_not w (codes "loop") g not_loop, word_not w (codes "unsafe") g not_unsafe, word_not w (codes "const") g not_const, word_not w (codes "async") g not_async, i, j) refl
 
 colon2_seen : (k : Leaf) (l : List Tok) → h.leaf_form.behind k (colon2_before l) ≡ h.named.behind k (colon2_before l)

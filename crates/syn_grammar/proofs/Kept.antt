@@ -20,7 +20,7 @@ use Rattle.syn_grammar.specs.Rule.{is_operation, prints_range, prints_carrier, r
 use Rattle.syn_grammar.specs.WellFormed.{is_kept_block}
 use Rattle.syn_grammar.proofs.Bools.{or_false, neither, and_false, lower_takes}
 use Rattle.syn_grammar.proofs.Obeys.{Fits, FitsLeft, begins_label, Obeys, ObeysKids}
-use Rattle.syn_grammar.proofs.Edges.{lead_next_is}
+use Rattle.syn_grammar.proofs.Edges.{lead_next_is, not_cast}
 
 -- ---- trees that have no marks, and whose blocks stand where they must be bare
 
@@ -102,16 +102,6 @@ range_obeys (mid x k y) v c i = refl
 range_obeys (post x k) v c i = refl
 range_obeys (tail b k ks) v c i = refl
 range_obeys (frame k ks) v c i = refl
-
-not_cast : (t : Tree) → is_operation t ≡ false → is_cast t ≡ false
-not_cast (leaf k) h = refl
-not_cast (paren m t) h = refl
-not_cast (adorned a more t) h = refl
-not_cast (lead k gs t) h = refl
-not_cast (mid x k y) h = refl
-not_cast (post x k) h = absurd cc
-not_cast (tail b k ks) h = refl
-not_cast (frame k ks) h = refl
 
 pub carrier_obeys : (t : Tree) (v : Level) (c : Context) → Obeys v c t → prints_carrier t ≡ carries t || is_cast t
 carrier_obeys (leaf k) v c i = refl

@@ -18,71 +18,19 @@ use Rattle.syn_parts.specs.Form.{flag, is_none, if_same, joined, more, fix, iter
 use Rattle.syn_parts.specs.Mark.{sign_at, word_at, lifetime_at, brace_at, round_at, less, colon2, colon}
 use Rattle.syn_parts.specs.Part.{QPathTree, qpath, path, pieces, segment, segment_name, find_segment, type, lifetimes_at, lifetime, from_bare, from_path, arguments, turbofish_at, no_arguments}
 use Rattle.syn_parts.proofs.Ends.{sign_first}
-use Rattle.syn_parts.proofs.Fronts.{word_not, no_truth, not_for, not_underscore}
+use Rattle.syn_parts.proofs.Fronts.{NoSegment, word_not, no_truth, not_for, not_underscore, not_unsafe}
 use Rattle.syn_grammar.specs.Front.{bracket_at}
 use Rattle.syn_grammar.specs.Head.{closure_at, range_at, jump_at, literal_at, loop_at, loop_word, block_at, const_block_at, async_block_at, try_block_at, builtin_at, label, past_label}
 use Rattle.syn_grammar.specs.Slot.{if_word, match_word, while_word, for_word}
 use Rattle.syn_grammar.specs.Read.{leaf_at, lead_at, loop_head_at, become_word}
 use Rattle.syn_grammar.proofs.Chains.{some_is, behind_some, only_some, chosen, both_true, not_true}
 use Rattle.syn_grammar.proofs.Fronts.{word_is, no_lifetime, sign_no_leaf, flag_is}
+use Rattle.syn_grammar.proofs.HeadLeaf.{not_leaf_words}
 
--- ---- words that no path begins with
-
-not_let : is_segment (codes "let") ≡ false
+-- words that no path and no leaf begins with
+not_other_words : NoSegment (codes "let") × NoSegment (codes "move") × NoSegment (codes "become") × NoSegment (codes "if") × NoSegment (codes "while") × NoSegment (codes "match")
 unfolding is_segment stands_alone is_reserved_word
-not_let = refl
-
-not_return : is_segment (codes "return") ≡ false
-unfolding is_segment stands_alone is_reserved_word
-not_return = refl
-
-not_yield : is_segment (codes "yield") ≡ false
-unfolding is_segment stands_alone is_reserved_word
-not_yield = refl
-
-not_break : is_segment (codes "break") ≡ false
-unfolding is_segment stands_alone is_reserved_word
-not_break = refl
-
-not_move : is_segment (codes "move") ≡ false
-unfolding is_segment stands_alone is_reserved_word
-not_move = refl
-
-not_const : is_segment (codes "const") ≡ false
-unfolding is_segment stands_alone is_reserved_word
-not_const = refl
-
-not_async : is_segment (codes "async") ≡ false
-unfolding is_segment stands_alone is_reserved_word
-not_async = refl
-
-not_become : is_segment (codes "become") ≡ false
-unfolding is_segment stands_alone is_reserved_word
-not_become = refl
-
-not_if : is_segment (codes "if") ≡ false
-unfolding is_segment stands_alone is_reserved_word
-not_if = refl
-
-not_while : is_segment (codes "while") ≡ false
-unfolding is_segment stands_alone is_reserved_word
-not_while = refl
-
-not_match : is_segment (codes "match") ≡ false
-unfolding is_segment stands_alone is_reserved_word
-not_match = refl
-
-not_unsafe : is_segment (codes "unsafe") ≡ false
-unfolding is_segment stands_alone is_reserved_word
-not_unsafe = refl
-
-not_continue : is_segment (codes "continue") ≡ false
-unfolding is_segment stands_alone is_reserved_word
-not_continue = refl
-
-not_loop : is_segment (codes "loop") ≡ false
-unfolding is_segment stands_alone is_reserved_word
-not_loop = refl
+not_other_words = (refl, refl, refl, refl, refl, refl)
 
 -- a path stands first, and nothing else
 pub record Named (l : List Tok) : Type 0 where
@@ -96,37 +44,40 @@ pub record Named (l : List Tok) : Type 0 where
   -- but two leaves may
   pub no_leaf : try_block_at l ≡ false → builtin_at l ≡ false → leaf_at l ≡ false
 
-named_word : (w : Text) (m : List Tok) → is_segment w ≡ true → Named (ident w ∷ m)
+pub named_word : (w : Text) (m : List Tok) → is_segment w ≡ true → Named (ident w ∷ m)
 unfolding lead_at range_at jump_at closure_at sign_at word_at lifetimes_at loop_head_at lifetime_at round_at bracket_at group_at leaf_at literal_at loop_at block_at const_block_at async_block_at brace_at
-named_word w m g = record {
-  no_lead = rw (
-    word_not w (codes "let") g not_let,
-    word_not w (codes "return") g not_return,
-    word_not w (codes "yield") g not_yield,
-    word_not w (codes "break") g not_break,
-    word_not w (codes "move") g not_move,
-    word_not w (codes "for") g not_for,
-    word_not w (codes "const") g not_const,
-    word_not w (codes "async") g not_async,
-  ) refl;
-  no_round = refl;
-  no_bracket = refl;
-  no_become = rw (word_not w (codes "become") g not_become) refl;
-  no_if = rw (word_not w (codes "if") g not_if) refl;
-  no_loop = rw (word_not w (codes "while") g not_while, word_not w (codes "for") g not_for) refl;
-  no_match = rw (word_not w (codes "match") g not_match) refl;
-  no_leaf = λ a b. rw (
-    no_truth w g,
-    word_not w (codes "_") g not_underscore,
-    word_not w (codes "continue") g not_continue,
-    word_not w (codes "loop") g not_loop,
-    word_not w (codes "unsafe") g not_unsafe,
-    word_not w (codes "const") g not_const,
-    word_not w (codes "async") g not_async,
-    a,
-    b,
-  ) refl;
-}
+named_word w m g =
+    let (not_return, not_yield, not_break, not_continue, not_loop, not_const, not_async) = not_leaf_words in
+    let (not_let, not_move, not_become, not_if, not_while, not_match) = not_other_words in
+    record {
+      no_lead = rw (
+        word_not w (codes "let") g not_let,
+        word_not w (codes "return") g not_return,
+        word_not w (codes "yield") g not_yield,
+        word_not w (codes "break") g not_break,
+        word_not w (codes "move") g not_move,
+        word_not w (codes "for") g not_for,
+        word_not w (codes "const") g not_const,
+        word_not w (codes "async") g not_async,
+      ) refl;
+      no_round = refl;
+      no_bracket = refl;
+      no_become = rw (word_not w (codes "become") g not_become) refl;
+      no_if = rw (word_not w (codes "if") g not_if) refl;
+      no_loop = rw (word_not w (codes "while") g not_while, word_not w (codes "for") g not_for) refl;
+      no_match = rw (word_not w (codes "match") g not_match) refl;
+      no_leaf = λ a b. rw (
+        no_truth w g,
+        word_not w (codes "_") g not_underscore,
+        word_not w (codes "continue") g not_continue,
+        word_not w (codes "loop") g not_loop,
+        word_not w (codes "unsafe") g not_unsafe,
+        word_not w (codes "const") g not_const,
+        word_not w (codes "async") g not_async,
+        a,
+        b,
+      ) refl;
+    }
 
 named_colons : (s : Spacing) (m : List Tok) → Named (punct 58 s ∷ m)
 unfolding lead_at range_at jump_at closure_at sign_at word_at lifetimes_at loop_head_at round_at bracket_at group_at

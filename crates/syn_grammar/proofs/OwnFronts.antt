@@ -18,7 +18,7 @@ use Rattle.syn_parts.specs.Part.{MacroTree}
 use Rattle.syn_parts.specs.Mark.{sign_at, word_at, lifetime_at, brace_at, mutable, constant}
 use Rattle.syn_parts.specs.Own.{alone, before_if, before_some, colon2_before, enclosed, separated, no_more_segments, type_own, lit_own, number_own, lifetimes_own, attribute_own, segments_own, arguments_own, path_own, qualified_own, macro_own}
 use Rattle.syn_parts.specs.Fits.{unsigned_fits, segments_fit, path_fits, qpath_fits, macro_fits}
-use Rattle.syn_parts.proofs.Fronts.{word_not}
+use Rattle.syn_parts.proofs.Fronts.{word_not, not_mut}
 use Rattle.syn_parts.proofs.Appends.{type_append}
 use Rattle.syn_grammar.specs.declared.kinds.UnKind.TheVariants as un
 use Rattle.syn_grammar.specs.declared.kinds.Limits.TheVariants as limits
@@ -76,10 +76,6 @@ pub shows_quiet : (n : Next) (r : List Tok) → Shows n r → Quiet r
 shows_quiet n r s = record { no_mut = ap (λ x. x.mutable) s.same; no_const = ap (λ x. x.constant) s.same }
 
 -- ---- paths
-
-not_mut : is_segment (codes "mut") ≡ false
-unfolding is_segment stands_alone is_reserved_word
-not_mut = refl
 
 not_as : is_segment (codes "as") ≡ false
 unfolding is_segment stands_alone is_reserved_word

@@ -1,71 +1,29 @@
 -- A type that could go on with a `<` doesn't stand before one, whatever list it is read from.
-use Rattle.std.specs.Prelude.{nat_le, is_some, ◌==◌}
+use Rattle.std.specs.Prelude.{nat_le, ◌==◌}
 use Rattle.std.proofs.Common.{◌≡◌, ℕ, zero, suc, Bool, true, false, not, cond, ◌&&◌, List, [], ◌∷◌, take, drop, length, Option, Some, None, refl, sym, ◌∙◌, ap, subst}
 use Rattle.syn_lexer.specs.declared.lexeme.Delimiter.TheVariants as del
 use Rattle.syn_tokens.specs.Tok.{Tok}
-use Rattle.syn_tokens.specs.Front.{group_at, is_empty}
+use Rattle.syn_tokens.specs.Front.{is_empty}
 use Rattle.syn_parts.specs.declared.label.PathStyle.TheVariants as style
 use Rattle.syn_parts.specs.Text.{Text, stands_alone}
 use Rattle.syn_parts.specs.Tree as t
 use Rattle.syn_parts.specs.Tree.{TypeTree, Types, QSelfTree, Segments, SegmentTree, ArgumentsTree, FnArgs, ReturnTree, Bounds, BoundTree, LifetimesTree, LitTree, PathTree}
 use Rattle.syn_parts.specs.Form as form
-use Rattle.syn_parts.specs.Form.{Form, Mark, when, case, group_case, mark, maybe, flag, pure, joined, more, listed, closed_by, then_behind, shown, both}
-use Rattle.syn_parts.specs.Mark.{and, star, bang, underscore, implementing, dynamic, comma, plus, colon2, lt, less, arrow, fn_word, mutable, lifetime_at, round_at, gt, as_word, not_ne, question}
-use Rattle.syn_parts.specs.Part.{type, at_place, reference, pointer, slice_or_array, tuple_or_paren, fn_at, fn_pointer, fn_head, fn_arg, implements, object, named, is_never, is_infer, is_default, no_arguments, angle_at, angle_bracketed, parenthesized, arguments, segment, segment_name, output, path, pieces, qualified, qpath, macro_end, bounds, bound, trait_bound, lifetime, lifetimes, lifetimes_at, mutability, from_given, from_outlives, is_bare, to_bare, from_bare, qualified_by, Qualified, QPathTree}
+use Rattle.syn_parts.specs.Form.{Form, Mark, when, case, mark, maybe, flag, pure, joined, more, listed, closed_by, then_behind, both}
+use Rattle.syn_parts.specs.Mark.{and, star, implementing, dynamic, comma, plus, colon2, lt, less, arrow, fn_word, mutable, lifetime_at, round_at, gt, as_word, not_ne, question}
+use Rattle.syn_parts.specs.Part.{type, at_place, reference, pointer, slice_or_array, tuple_or_paren, fn_at, fn_pointer, fn_head, fn_arg, implements, object, named, is_default, no_arguments, angle_at, angle_bracketed, parenthesized, arguments, segment, segment_name, output, path, pieces, qualified, qpath, macro_end, bounds, bound, trait_bound, lifetime, lifetimes, lifetimes_at, mutability, from_given, from_outlives, is_bare, to_bare, from_bare, qualified_by, Qualified, QPathTree}
 use Rattle.syn_parts.specs.Ends.{ends_open, segments_open, arguments_open, return_open, bounds_open, bound_open}
 use Rattle.syn_parts.proofs.Weights.{some_is}
 use Rattle.syn_parts.proofs.Marks.{colon2_present, plus_present}
-use Rattle.syn_parts.proofs.Forms.{Alike, Present, Refuses, behind_some, more_opens, when_refuses, mark_refuses, inside_refuses, shown_refuses, pure_refuses}
+use Rattle.syn_parts.proofs.Forms.{Alike, Present, behind_some, more_opens, when_refuses, mark_refuses, inside_refuses, shown_refuses, pure_refuses}
 use Rattle.syn_parts.proofs.Parts.{whole_segment_alike}
 use Rattle.syn_parts.proofs.TypesBack.{bound_whole}
-use Rattle.syn_parts.proofs.TypesTold.{type_opens}
+use Rattle.syn_parts.proofs.TypesTold.{type_opens, from_bang, from_star, by_words, past_fn, path_named}
 use Rattle.syn_parts.proofs.Told.{first_only, second_only, mark_tells}
 use Rattle.syn_grammar.proofs.Chains.{only_some}
 use Rattle.syn_grammar.proofs.Shown.{TypesClose}
 
 -- ---- which kind of type it is
-
-abbrev from_words : Bool → Form TypeTree
-from_words b = when fn_at (fn_pointer type) (case implementing (implements type b) (case dynamic (object type b) (named type)))
-
-abbrev from_round_group : Bool → Form TypeTree
-from_round_group b = group_case del.Parenthesis (tuple_or_paren type) (from_words b)
-
-abbrev from_bracket : Bool → Form TypeTree
-from_bracket b = group_case del.Bracket (slice_or_array type) (from_round_group b)
-
-abbrev from_underscore : Bool → Form TypeTree
-from_underscore b = case underscore (pure t.infer is_infer) (from_bracket b)
-
-abbrev from_bang : Bool → Form TypeTree
-from_bang b = case bang (pure t.never is_never) (from_underscore b)
-
-abbrev from_star : Bool → Form TypeTree
-from_star b = case star (pointer type) (from_bang b)
-
-module _ (b : Bool) (x : TypeTree) (r1 : Refuses (reference type) x) (r2 : Refuses (pointer type) x) (r3 : is_never x ≡ false) (r4 : is_infer x ≡ false) (r5 : Refuses (slice_or_array type) x) (r6 : Refuses (tuple_or_paren type) x) where
-  by_words : (l n : List Tok) → (at_place type b).behind x l ≡ Some n → (from_words b).behind x l ≡ Some n
-  unfolding at_place
-  by_words l n h =
-      let (a1, h1) = second_only and.at (mark and (reference type)) (from_star b) x (mark_refuses and r1) l n h in
-      let (a2, h2) = second_only star.at (mark star (pointer type)) (from_bang b) x (mark_refuses star r2) l n h1 in
-      let (a3, h3) = second_only bang.at (mark bang (pure t.never is_never)) (from_underscore b) x (mark_refuses bang (pure_refuses t.never is_never x r3)) l n h2 in
-      let (a4, h4) = second_only underscore.at (mark underscore (pure t.infer is_infer)) (from_bracket b) x (mark_refuses underscore (pure_refuses t.infer is_infer x r4)) l n h3 in
-      let (a5, h5) = second_only (λ l. is_some (group_at del.Bracket l)) (form.inside del.Bracket (slice_or_array type)) (from_round_group b) x (inside_refuses del.Bracket r5) l n h4 in
-      let (a6, h6) = second_only (λ l. is_some (group_at del.Parenthesis l)) (form.inside del.Parenthesis (tuple_or_paren type)) (from_words b) x (inside_refuses del.Parenthesis r6) l n h5 in
-      h6
-
-  past_fn : Refuses (fn_pointer type) x → (l n : List Tok) → (at_place type b).behind x l ≡ Some n → (case implementing (implements type b) (case dynamic (object type b) (named type))).behind x l ≡ Some n
-  past_fn r7 l n h = (second_only fn_at (fn_pointer type) (case implementing (implements type b) (case dynamic (object type b) (named type))) x r7 l n (by_words l n h)).1
-
-path_named : (b : Bool) (q : QSelfTree) (d : Bool) (ss : Segments) (e : Bool) (l n : List Tok) → (at_place type b).behind (t.path q d ss e) l ≡ Some n → (named type).behind (t.path q d ss e) l ≡ Some n
-unfolding reference pointer slice_or_array tuple_or_paren fn_pointer implements object
-path_named b q d ss e l n h =
-    let x = t.path q d ss e in
-    let h0 = past_fn b x (search shown_refuses) (search shown_refuses) refl refl (search shown_refuses) (search shown_refuses) (search shown_refuses) l n h in
-    let (a2, h2) = second_only implementing.at (mark implementing (implements type b)) (case dynamic (object type b) (named type)) x (mark_refuses {f = implements type b} implementing (search shown_refuses)) l n h0 in
-    let (a3, h3) = second_only dynamic.at (mark dynamic (object type b)) (named type) x (mark_refuses {f = object type b} dynamic (search shown_refuses)) l n h2 in
-    h3
 
 impl_bounds : (b : Bool) (bs : Bounds) (e : Bool) (l n : List Tok) → (at_place type b).behind (t.impl_trait bs e) l ≡ Some n → (bounds type b).behind (t.bounds bs, e) (drop 1 l) ≡ Some n
 unfolding reference pointer slice_or_array tuple_or_paren fn_pointer implements object named

@@ -4,7 +4,6 @@ use Rattle.syn_tokens.specs.Tok.{Tok}
 use Rattle.syn_grammar.specs.declared.kinds.Level.TheVariants as lev
 use Rattle.syn_grammar.specs.Next.{enclosed, in_condition, in_arm}
 use Rattle.syn_grammar.specs.Stands.{Stands, Node}
-use Rattle.syn_grammar.specs.Tree as e
 use Rattle.syn_grammar.specs.Tree.{Tree, clear, fill}
 use Rattle.syn_grammar.specs.Sparing.{OneLess}
 use Rattle.syn_grammar.specs.WellFormed.{is_well_formed}

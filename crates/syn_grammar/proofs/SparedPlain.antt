@@ -1,7 +1,6 @@
 -- One pair less of a printed tree without attributes on operations has none either.
 use Rattle.std.proofs.Common.{◌≡◌, Bool, true, false, not, ◌&&◌, ◌||◌, inl, inr, List, ◌∷◌, cond, refl, sym, ◌∙◌, ap, subst}
 use Rattle.syn_grammar.specs.declared.next.Context.{Context}
-use Rattle.syn_grammar.specs.declared.kinds.Level.TheVariants as lev
 use Rattle.syn_grammar.specs.Next.{enclosed, left_context, base_context, right_context, adorned_context, lead_context, piece_context}
 use Rattle.syn_grammar.specs.Tree as e
 use Rattle.syn_grammar.specs.Tree.{Tree, Kids, Piece, leaf, paren, adorned, lead, mid, post, tail, frame, none, kid, post_op, clear, clear_kids, fill}
@@ -223,7 +222,7 @@ mutual
       record { plain = both _ _ g.plain m.plain; apart = both _ _ g.apart m.apart }
 
 mutual
-  plain_clear : (t : Tree) → plainly_adorned (clear t) ≡ plainly_adorned t
+  pub plain_clear : (t : Tree) → plainly_adorned (clear t) ≡ plainly_adorned t
   plain_clear (leaf k) = refl
   plain_clear (paren m t) = plain_clear t
   plain_clear (adorned a more t) = rw (operation_clear t, plain_clear t) refl

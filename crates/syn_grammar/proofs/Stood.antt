@@ -25,7 +25,7 @@ use Rattle.syn_grammar.specs.Next.{begins_next, is_block_next, is_brace_next, le
 use Rattle.syn_grammar.specs.Rule.{ends_range_next, jump_refuses, leaf_refuses, is_less_next, post_refuses, is_braceless, is_below, is_bare_break}
 use Rattle.syn_grammar.specs.Stands.{is_try_alone, is_word_alone, ends_jump, leaf_stands, lead_stands, mid_stands, post_stands, post_behind}
 use Rattle.syn_grammar.specs.Tree as e
-use Rattle.syn_grammar.specs.Tree.{Tree, Leaf, Lead, Post, Jump, Trailer, leaf, paren, adorned, lead, mid, post, tail, frame, none, post_op, post_own}
+use Rattle.syn_grammar.specs.Tree.{Tree, Leaf, Lead, Post, Jump, Trailer, leaf, paren, adorned, lead, mid, post, tail, frame, post_op, post_own}
 use Rattle.syn_grammar.specs.WellFormed.{leaf_fits, lead_fits, infix_fits, post_fits}
 use Rattle.syn_grammar.proofs.Bools.{or_false, both_true, not_true, or_true, and_false, and_true}
 use Rattle.syn_grammar.proofs.HeadBack.{lead_stops, label_stops}

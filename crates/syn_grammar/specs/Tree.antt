@@ -15,7 +15,6 @@ use Rattle.syn_parts.specs.Own.{alone, joint, before_if, before_some, comma_befo
 use Rattle.syn_parts.specs.PatOwn.{attributes_own, member_own, pat_own}
 use Rattle.syn_grammar.specs.declared.kinds.UnKind.{UnKind}
 use Rattle.syn_grammar.specs.declared.kinds.Limits.{Limits}
-use Rattle.syn_grammar.specs.declared.kinds.Limits.TheVariants as limits
 use Rattle.syn_grammar.specs.declared.kinds.Infix.{Infix}
 use Rattle.syn_grammar.specs.declared.kinds.Infix.TheVariants as inf
 use Rattle.syn_grammar.specs.Op.{binary_text, limits_text, unary_text}

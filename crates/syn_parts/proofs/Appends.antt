@@ -14,18 +14,18 @@ use Rattle.syn_parts.specs.Own.{alone, joint, before_if, before_some, comma_befo
 
 -- ---- what follows the own tokens of a type follows them as they are
 
-both : {F G : List Tok → List Tok} → ((r : List Tok) → F r ≡ F [] ++ r) → ((r : List Tok) → G r ≡ G [] ++ r) → (r : List Tok) → F (G r) ≡ F (G []) ++ r
+pub both : {F G : List Tok → List Tok} → ((r : List Tok) → F r ≡ F [] ++ r) → ((r : List Tok) → G r ≡ G [] ++ r) → (r : List Tok) → F (G r) ≡ F (G []) ++ r
 both {F} {G} f g r =
     f (G r) ∙ ap (λ m. F [] ++ m) (g r) ∙ sym (append_assoc (F []) (G []) r) ∙ ap (λ m. m ++ r) (sym (f (G [])))
 
-one : (t : Tok) (r : List Tok) → t ∷ r ≡ (t ∷ []) ++ r
+pub one : (t : Tok) (r : List Tok) → t ∷ r ≡ (t ∷ []) ++ r
 one t r = refl
 
-if_there : (b : Bool) {F : List Tok → List Tok} → ((r : List Tok) → F r ≡ F [] ++ r) → (r : List Tok) → before_if b F r ≡ before_if b F [] ++ r
+pub if_there : (b : Bool) {F : List Tok → List Tok} → ((r : List Tok) → F r ≡ F [] ++ r) → (r : List Tok) → before_if b F r ≡ before_if b F [] ++ r
 if_there true f r = f r
 if_there false f r = refl
 
-if_some : {A : Type 0} (o : Option A) (own : A → List Tok → List Tok) → ((x : A) (r : List Tok) → own x r ≡ own x [] ++ r) → (r : List Tok) → before_some o own r ≡ before_some o own [] ++ r
+pub if_some : {A : Type 0} (o : Option A) (own : A → List Tok → List Tok) → ((x : A) (r : List Tok) → own x r ≡ own x [] ++ r) → (r : List Tok) → before_some o own r ≡ before_some o own [] ++ r
 if_some None own h r = refl
 if_some (Some x) own h r = h x r
 

@@ -24,6 +24,10 @@ word_not w text h k = by_bool (bytes_eq w text) refl
     by_bool false e = refl
     by_bool true e = let d : w ≡ text = (bytes_eq-Decides w text).0 e in absurd cc
 
+-- a word that no path has
+abbrev pub NoSegment : Text → Type 0
+NoSegment w = is_segment w ≡ false
+
 pub not_mut : is_segment (codes "mut") ≡ false
 unfolding is_segment stands_alone is_reserved_word
 not_mut = refl
@@ -36,42 +40,29 @@ pub not_for : is_segment (codes "for") ≡ false
 unfolding is_segment stands_alone is_reserved_word
 not_for = refl
 
-not_unsafe : is_segment (codes "unsafe") ≡ false
+pub not_unsafe : is_segment (codes "unsafe") ≡ false
 unfolding is_segment stands_alone is_reserved_word
 not_unsafe = refl
 
-not_extern : is_segment (codes "extern") ≡ false
+not_type_words : NoSegment (codes "extern") × NoSegment (codes "fn") × NoSegment (codes "impl") × NoSegment (codes "dyn")
 unfolding is_segment stands_alone is_reserved_word
-not_extern = refl
+not_type_words = (refl, refl, refl, refl)
 
-not_fn : is_segment (codes "fn") ≡ false
+not_truths : NoSegment (codes "true") × NoSegment (codes "false")
 unfolding is_segment stands_alone is_reserved_word
-not_fn = refl
-
-not_impl : is_segment (codes "impl") ≡ false
-unfolding is_segment stands_alone is_reserved_word
-not_impl = refl
-
-not_dyn : is_segment (codes "dyn") ≡ false
-unfolding is_segment stands_alone is_reserved_word
-not_dyn = refl
-
-not_truth : is_segment (codes "true") ≡ false
-unfolding is_segment stands_alone is_reserved_word
-not_truth = refl
-
-not_falsehood : is_segment (codes "false") ≡ false
-unfolding is_segment stands_alone is_reserved_word
-not_falsehood = refl
+not_truths = (refl, refl)
 
 pub no_truth : (w : Text) → is_segment w ≡ true → is_truth w ≡ false
 unfolding is_truth
-no_truth w h = rw (word_not w (codes "true") h not_truth, word_not w (codes "false") h not_falsehood) refl
+no_truth w h =
+    let (not_truth, not_falsehood) = not_truths in
+    rw (word_not w (codes "true") h not_truth, word_not w (codes "false") h not_falsehood) refl
 
 -- a word of a path leads to the paths
 pub named_word : (b : Bool) (x : TypeTree) (w : Text) (l : List Tok) → is_segment w ≡ true → (at_place type b).behind x (ident w ∷ l) ≡ (named type).behind x (ident w ∷ l)
 unfolding at_place sign_at word_at fn_at lifetimes_at group_at
 named_word b x w l h =
+    let (not_extern, not_fn, not_impl, not_dyn) = not_type_words in
     rw (word_not w (codes "_") h not_underscore, word_not w (codes "for") h not_for, word_not w (codes "unsafe") h not_unsafe, word_not w (codes "extern") h not_extern, word_not w (codes "fn") h not_fn, word_not w (codes "impl") h not_impl, word_not w (codes "dyn") h not_dyn) refl
 
 pub named_colon2 : (b : Bool) (x : TypeTree) (l : List Tok) → (at_place type b).behind x (colon2_before l) ≡ (named type).behind x (colon2_before l)

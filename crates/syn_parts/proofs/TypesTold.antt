@@ -47,15 +47,15 @@ from_bracket b = group_case del.Bracket (slice_or_array type) (from_round_group 
 abbrev from_underscore : Bool → Form TypeTree
 from_underscore b = case underscore (pure t.infer is_infer) (from_bracket b)
 
-abbrev from_bang : Bool → Form TypeTree
+abbrev pub from_bang : Bool → Form TypeTree
 from_bang b = case bang (pure t.never is_never) (from_underscore b)
 
-abbrev from_star : Bool → Form TypeTree
+abbrev pub from_star : Bool → Form TypeTree
 from_star b = case star (pointer type) (from_bang b)
 
 -- a function pointer or a path, which begin with words
 module _ (b : Bool) (x : TypeTree) (r1 : Refuses (reference type) x) (r2 : Refuses (pointer type) x) (r3 : is_never x ≡ false) (r4 : is_infer x ≡ false) (r5 : Refuses (slice_or_array type) x) (r6 : Refuses (tuple_or_paren type) x) where
-  by_words : (l n : List Tok) → (at_place type b).behind x l ≡ Some n → (from_words b).behind x l ≡ Some n
+  pub by_words : (l n : List Tok) → (at_place type b).behind x l ≡ Some n → (from_words b).behind x l ≡ Some n
   unfolding at_place
   by_words l n h =
       let (a1, h1) = second_only and.at (mark and (reference type)) (from_star b) x (mark_refuses and r1) l n h in
@@ -66,14 +66,16 @@ module _ (b : Bool) (x : TypeTree) (r1 : Refuses (reference type) x) (r2 : Refus
       let (a6, h6) = second_only (λ l. is_some (group_at del.Parenthesis l)) (form.inside del.Parenthesis (tuple_or_paren type)) (from_words b) x (inside_refuses del.Parenthesis r6) l n h5 in
       h6
 
+  pub past_fn : Refuses (fn_pointer type) x → (l n : List Tok) → (at_place type b).behind x l ≡ Some n → (case implementing (implements type b) (case dynamic (object type b) (named type))).behind x l ≡ Some n
+  past_fn r7 l n h = (second_only fn_at (fn_pointer type) (case implementing (implements type b) (case dynamic (object type b) (named type))) x r7 l n (by_words l n h)).1
+
   by_path : Refuses (fn_pointer type) x → Refuses (implements type b) x → Refuses (object type b) x → (l n : List Tok) → (at_place type b).behind x l ≡ Some n → (named type).behind x l ≡ Some n
   by_path r7 r8 r9 l n h =
-      let (a1, h1) = second_only fn_at (fn_pointer type) (case implementing (implements type b) (case dynamic (object type b) (named type))) x r7 l n (by_words l n h) in
-      let (a2, h2) = second_only implementing.at (mark implementing (implements type b)) (case dynamic (object type b) (named type)) x (mark_refuses implementing r8) l n h1 in
+      let (a2, h2) = second_only implementing.at (mark implementing (implements type b)) (case dynamic (object type b) (named type)) x (mark_refuses implementing r8) l n (past_fn r7 l n h) in
       let (a3, h3) = second_only dynamic.at (mark dynamic (object type b)) (named type) x (mark_refuses dynamic r9) l n h2 in
       h3
 
-path_named : (b : Bool) (q : QSelfTree) (d : Bool) (ss : Segments) (e : Bool) (l n : List Tok) → (at_place type b).behind (t.path q d ss e) l ≡ Some n → (named type).behind (t.path q d ss e) l ≡ Some n
+pub path_named : (b : Bool) (q : QSelfTree) (d : Bool) (ss : Segments) (e : Bool) (l n : List Tok) → (at_place type b).behind (t.path q d ss e) l ≡ Some n → (named type).behind (t.path q d ss e) l ≡ Some n
 unfolding reference pointer slice_or_array tuple_or_paren fn_pointer implements object
 path_named b q d ss e l n h =
     by_path b (t.path q d ss e) (search shown_refuses) (search shown_refuses) refl refl (search shown_refuses) (search shown_refuses) (search shown_refuses) (search shown_refuses) (search shown_refuses) l n h

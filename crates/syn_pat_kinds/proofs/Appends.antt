@@ -1,5 +1,5 @@
 -- What follows the own tokens of a pattern follows them as they are.
-use Rattle.std.proofs.Common.{◌≡◌, Bool, true, false, not, ◌||◌, List, [], ◌∷◌, ◌++◌, Option, Some, None, refl, sym, ap, ◌∙◌, append_assoc}
+use Rattle.std.proofs.Common.{◌≡◌, Bool, true, false, not, ◌||◌, List, [], ◌∷◌, ◌++◌, refl}
 use Rattle.std.specs.Prelude.{codes}
 use Rattle.syn_lexer.specs.declared.lexeme.Delimiter.{Delimiter}
 use Rattle.syn_lexer.specs.declared.lexeme.Delimiter.TheVariants as del
@@ -8,28 +8,13 @@ use Rattle.syn_parts.specs.Text.{Text}
 use Rattle.syn_parts.specs.Tree as t
 use Rattle.syn_parts.specs.Tree.{AttributeTree, PathTree, QSelfTree}
 use Rattle.syn_parts.specs.Part.{MacroTree}
-use Rattle.syn_parts.specs.Own.{alone, before_if, before_some, colon2_before, enclosed, attribute_own, path_own, qualified_own, macro_own}
+use Rattle.syn_parts.specs.Own.{alone, before_if, colon2_before, enclosed, attribute_own, path_own, qualified_own, macro_own}
 use Rattle.syn_parts.specs.Pat as p
 use Rattle.syn_parts.specs.Pat.{MemberTree, PatBound, PatTree, SubPat, Pats, FieldTree}
 use Rattle.syn_parts.specs.PatOwn.{limits_before, range_bound_own, member_own, vert_before, word_if, attributes_own, no_more_pats, pat_own, sub_own, pats_own, or_own, fields_own, field_own}
-use Rattle.syn_parts.proofs.Appends.{lit_append, type_append, segments_append}
+use Rattle.syn_parts.proofs.Appends.{both, one, if_there, if_some, lit_append, type_append, segments_append}
 
 -- ---- parts
-
-both : {F G : List Tok → List Tok} → ((r : List Tok) → F r ≡ F [] ++ r) → ((r : List Tok) → G r ≡ G [] ++ r) → (r : List Tok) → F (G r) ≡ F (G []) ++ r
-both {F} {G} f g r =
-    f (G r) ∙ ap (λ m. F [] ++ m) (g r) ∙ sym (append_assoc (F []) (G []) r) ∙ ap (λ m. m ++ r) (sym (f (G [])))
-
-one : (t : Tok) (r : List Tok) → t ∷ r ≡ (t ∷ []) ++ r
-one t r = refl
-
-if_there : (b : Bool) {F : List Tok → List Tok} → ((r : List Tok) → F r ≡ F [] ++ r) → (r : List Tok) → before_if b F r ≡ before_if b F [] ++ r
-if_there true f r = f r
-if_there false f r = refl
-
-if_some : {A : Type 0} (o : Option A) (own : A → List Tok → List Tok) → ((x : A) (r : List Tok) → own x r ≡ own x [] ++ r) → (r : List Tok) → before_some o own r ≡ before_some o own [] ++ r
-if_some None own h r = refl
-if_some (Some x) own h r = h x r
 
 words : (b : Bool) (w : Text) (r : List Tok) → word_if b w r ≡ word_if b w [] ++ r
 words b w r = if_there b (one (ident w)) r
