@@ -2,7 +2,7 @@
 #![tactic(auto)]
 
 mod attributes;
-pub mod expr;
+mod expr;
 pub mod fits;
 pub mod heads;
 mod kept;
@@ -12,4 +12,4 @@ pub mod patterns;
 pub mod place;
 pub mod walk;
 
-pub use expr::is_well_formed;
+pub use walk::is_well;

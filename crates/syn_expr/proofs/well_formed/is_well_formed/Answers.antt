@@ -1,6 +1,6 @@
 -- The walk asks just this.
 use Rattle.syn_grammar.specs.WellFormed.{is_well_formed}
-use Rattle.syn_expr_well.proofs.expr.is_well_formed.Goals as goal
+use Rattle.syn_expr.proofs.well_formed.is_well_formed.Goals as goal
 
 pub returns : goal.returns
 unfolding is_well_formed
