@@ -12,6 +12,7 @@ use Rattle.syn_grammar.specs.Tree as e
 use Rattle.syn_grammar.specs.Tree.{Tree, Kids, Piece, kid, piece_own, ending_own, is_none, is_block_like, with_comma}
 use Rattle.syn_expr_kinds.specs.Pats.{guard_kids, arm_ending}
 use Rattle.syn_expr_kinds.specs.Printed.{whole}
+use Rattle.syn_expr_collect.specs.Arm.{last_guard}
 use Rattle.syn_expr_print.specs.Printing.{kids_spelled, piece_spelled}
 use Rattle.syn_expr_print.specs.Placed.{comma_if}
 use Rattle.syn_expr_print.proofs.Kids.{loud-spelled}
@@ -81,10 +82,6 @@ stray-spelled : (last : Bool) (g : Tree) (ks : Kids) → kids_spelled last (kid 
 unfolding kids_spelled
 stray-spelled last g ks = refl
 
-abbrev pub last_of : Tree → List Tree → Tree
-last_of g [] = g
-last_of g (h ∷ gs) = last_of h gs
-
-pub guards-spelled : (last : Bool) (k : Piece) (g : Tree) (gs : List Tree) (ks : Kids) → kids_spelled last (guard_kids k g gs ks) ≡ kids_spelled last (kid k e.no_ending (last_of g gs) ks)
+pub guards-spelled : (last : Bool) (k : Piece) (g : Tree) (gs : List Tree) (ks : Kids) → kids_spelled last (guard_kids k g gs ks) ≡ kids_spelled last (kid k e.no_ending (last_guard g gs) ks)
 guards-spelled last k g [] ks = refl
 guards-spelled last k g (h ∷ gs) ks = stray-spelled last g (guard_kids k h gs ks) ∙ guards-spelled last k h gs ks

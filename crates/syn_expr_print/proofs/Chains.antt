@@ -1,25 +1,18 @@
 -- What is printed behind `else`, by what is lent of it.
-use Rattle.std.specs.Prelude.{Option, Some, None}
-use Rattle.std.proofs.Common.{◌≡◌, Bool, true, false, List, [], ◌∷◌, refl, arith}
-use Rattle.std.specs.declared.boxed.Box.{Box}
-use Rattle.std.specs.declared.alloc.Global.{Global}
+use Rattle.std.proofs.Common.{◌≡◌, true, false, List, [], ◌∷◌, refl}
 use Rattle.syn_lexer.specs.declared.lexeme.Delimiter.TheVariants as del
 use Rattle.syn_tokens.specs.Tok.{group, inside}
 use Rattle.syn_parts.specs.Tree.{AttributeTree}
 use Rattle.syn_grammar.specs.Next.{enclosed, in_statement}
-use Rattle.syn_grammar.specs.Notes.{kids_below}
 use Rattle.syn_grammar.specs.Rule.{is_chainable}
 use Rattle.syn_grammar.specs.Tree as e
-use Rattle.syn_grammar.specs.Tree.{Tree, leaf, paren, adorned, lead, mid, post, tail, frame, none, kid, kids_size}
+use Rattle.syn_grammar.specs.Tree.{Tree, leaf, paren, adorned, lead, mid, post, tail, frame, none, kid}
 use Rattle.syn_expr_kinds.specs.Node.{frame_at, operands_at}
-use Rattle.syn_expr_kinds.specs.View.{else_of}
-use Rattle.syn_expr_collect.specs.Below.{option_below}
-use Rattle.syn_expr_print.specs.Placed.{is_block, is_branch, option_size, else_tree, else_spelled}
+use Rattle.syn_expr_print.specs.Placed.{is_block, is_branch}
 use Rattle.syn_expr_kinds.specs.Printed.{whole}
-use Rattle.syn_expr_print.specs.Printing.{spelled, kids_spelled, piece_spelled, core, node_of, IsLent}
+use Rattle.syn_expr_print.specs.Printing.{spelled, piece_spelled, core, node_of, IsLent}
 use Rattle.syn_expr_print.specs.Shape.{shape_at}
 use Rattle.syn_expr_print.proofs.Braced.{chained-braced, chained-frame, chained-adorned, chained-leaf, chained-adorned-leaf}
-use Rattle.syn_expr_print.proofs.Kids.{none-spelled, chained-spelled}
 
 -- attributes that are lent of a node are all that stand before it
 lent-once : (u t : Tree) (a : AttributeTree) (more : List AttributeTree) → adorned a more t ≡ node_of (shape_at u) (operands_at u) → ⊥
@@ -80,26 +73,3 @@ no-chain (tail b k ks) h c = refl
 
 pub other-chained : (t : Tree) → is_branch (frame_at t) ≡ false → is_block t ≡ false → piece_spelled e.chained t ≡ group del.Brace (inside (whole in_statement t)) ∷ []
 other-chained t h b = chained-braced t (no-chain t h b)
-
-pub branch-there : (o : Option (e.Frame × List Tree)) → is_branch o ≡ true → o ≡ None → ⊥
-branch-there None h e = absurd cc
-branch-there (Some p) h e = absurd cc
-
--- ---- what stands behind the block
-
-module _ {E S : Type 0} (f : E → Tree) where
-  pub else-text : (last : Bool) (o : Option (S × Box E Global)) → kids_spelled last (else_of f o) ≡ else_spelled (else_tree f o)
-  else-text last None = none-spelled last
-  else-text last (Some q) = chained-spelled last (f q.1.value)
-
-  pub else-below : (o : Option (S × Box E Global)) → kids_below (else_of f o) ≡ option_below (else_tree f o)
-  else-below None = refl
-  else-below (Some q) = refl
-
-  pub else-size : (o : Option (S × Box E Global)) → kids_size (else_of f o) ≡ option_size (else_tree f o)
-  else-size None = refl
-  else-size (Some q) = omega arith
-
-pub ruleset chains = (branch-chained, block-chained, other-chained)
-
-pub ruleset elses = (else-text, else-below, else-size)

@@ -1,9 +1,8 @@
 -- What is printed of the arms of a `match`, by what is lent of them.
-use Rattle.std.specs.Prelude.{not, ◌||◌, ◌&&◌, codes, map, nat_eq, Option, Some, None, is_some}
+use Rattle.std.specs.Prelude.{not, ◌||◌, ◌&&◌, codes, map, nat_eq, is_some}
 use Rattle.std.proofs.Common.{◌≡◌, ◌+◌, ◌≤◌, Bool, false, List, [], ◌∷◌, ◌++◌, length, refl, sym, ap, ◌∙◌, append_assoc, arith}
 use Rattle.std.proofs.lemmas.Bool.Decides.{nat_tests}
 use Rattle.syn_tokens.specs.Tok.{Tok, ident}
-use Rattle.syn_lower_leaves.specs.View.{mapped}
 use Rattle.syn_parts.specs.Form.{is_nil}
 use Rattle.syn_parts.specs.Own.{alone, joint}
 use Rattle.syn_parts.specs.Pat.{PatTree, guarded}
@@ -20,7 +19,7 @@ use Rattle.syn_expr_collect.proofs.Lists.{arms_below}
 use Rattle.syn_expr_print.specs.Placed.{comma_if, option_size, arm_size, guard_spelled, arm_spelled, arms_spelled}
 use Rattle.syn_expr_kinds.specs.Printed.{whole}
 use Rattle.syn_expr_print.specs.Printing.{kids_spelled}
-use Rattle.syn_expr_print.proofs.Arms.{last_of, head_spelled, arm-spelled, guard-spelled, guarded-spelled, guards-spelled}
+use Rattle.syn_expr_print.proofs.Arms.{head_spelled, arm-spelled, guard-spelled, guarded-spelled, guards-spelled}
 use Rattle.syn_expr_print.proofs.Kids.{none-spelled}
 use Rattle.syn_expr_print.proofs.Spellings.{strays-spelled}
 
@@ -34,17 +33,9 @@ guards-by p gs = refl
 pub guard-there : (x : ArmView) → has_guard x ≡ is_some (guard_at x)
 guard-there x = guards-by x.pat.tree x.pat.guards
 
-pub mapped-some : {A B : Type 0} (f : A → B) (o : Option A) → is_some (mapped f o) ≡ is_some o
-mapped-some f None = refl
-mapped-some f (Some x) = refl
-
 pub ruleset guards = (guard-there, attributes_append)
 
 -- ---- an arm before others
-
-last-same : (g : Tree) (gs : List Tree) → last_of g gs ≡ last_guard g gs
-last-same g [] = refl
-last-same g (h ∷ gs) = last-same h gs
 
 abbrev behind : ArmView → List Tok → List Tok
 behind x l = joint 61 ∷ alone 62 ∷ (whole in_arm x.body ++ l)
@@ -66,9 +57,8 @@ arm-by x more last (guarded p) [] = unguarded x more last (guarded p) []
 arm-by x more last (guarded p) (g ∷ gs) =
     let ks = kid e.guarded (arm_ending x.comma) x.body more in
     guards-spelled last (e.guard x.attrs p) g gs ks
-    ∙ guard-spelled last x.attrs p (last_of g gs) ks
-    ∙ ap (λ l. head_spelled x.attrs p ++ (ident (codes "if") ∷ (whole enclosed (last_of g gs) ++ l))) (guarded-spelled last x.comma x.body more)
-    ∙ ap (λ t. head_spelled x.attrs p ++ (ident (codes "if") ∷ (whole enclosed t ++ behind x (after x more last)))) (last-same g gs)
+    ∙ guard-spelled last x.attrs p (last_guard g gs) ks
+    ∙ ap (λ l. head_spelled x.attrs p ++ (ident (codes "if") ∷ (whole enclosed (last_guard g gs) ++ l))) (guarded-spelled last x.comma x.body more)
 arm-by x more last p gs = unguarded x more last p gs
 
 arm-text : (x : ArmView) (more : Kids) (last : Bool) → kids_spelled last (arm_kids x x.pat.tree x.pat.guards more) ≡ arm_spelled x ++ after x more last

@@ -75,10 +75,6 @@ pub comma-stays : (b : Bool) → with_comma b e.comma ≡ e.comma
 comma-stays true = refl
 comma-stays false = refl
 
-braces-stay : (b : Bool) (x : Body) → with_comma b (e.braced x) ≡ e.braced x
-braces-stay true x = refl
-braces-stay false x = refl
-
 -- ---- a list with commas
 
 element-is : (t : Tree) → piece_spelled e.element t ≡ whole enclosed t

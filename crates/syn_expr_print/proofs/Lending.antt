@@ -180,9 +180,6 @@ tail-written f o l q c t u t0 t1 t2 n h m s v p g =
 
 -- ---- what is below, by the kind
 
-pub paren-stack : (t u : Tree) → IsLent t → kind_at t ≡ kind.Paren → first_of (operands_at t) ≡ Some u → below t ≡ stack u
-paren-stack t u n h o = paren-below t u n h o
-
 pub lead-stack : (t u : Tree) (q : LeadKind) → IsLent t → kind_at t ≡ kind.Lead q → first_of (operands_at t) ≡ Some u → below t ≡ stack u
 lead-stack t u q n h o = by (lead_at t) refl
   where
@@ -199,7 +196,7 @@ post-stack t u q n h o = by (post_at t) refl
 
 pub ruleset leaf_ends = (leaf-some, leaf-written, leaf-none)
 
-pub ruleset paren_ends = (paren-some, paren-operand, less-first, paren-written, paren-stack)
+pub ruleset paren_ends = (paren-some, paren-operand, less-first, paren-written, paren-below)
 
 pub ruleset lead_ends = (lead-some, lead-operand, less-first, lead-written, lead-stack)
 

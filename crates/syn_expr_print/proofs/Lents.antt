@@ -1,17 +1,16 @@
 -- A node by what is lent of it: what is printed of it, and the notes and the size of what is below.
 use Rattle.std.specs.Prelude.{Option, Some, None}
-use Rattle.std.proofs.Common.{◌≡◌, ◌+◌, ◌<◌, ◌≤◌, Bool, true, false, List, [], ◌∷◌, ◌++◌, refl, sym, ap, ◌∙◌, append_assoc, arith}
+use Rattle.std.proofs.Common.{◌≡◌, ◌+◌, true, false, List, [], ◌∷◌, ◌++◌, refl, sym, ap, ◌∙◌}
 use Rattle.syn_lexer.specs.declared.lexeme.Delimiter.TheVariants as del
-use Rattle.syn_tokens.specs.Tok.{Tok, group, inside}
+use Rattle.syn_tokens.specs.Tok.{group, inside}
 use Rattle.syn_parts.specs.Own as own_parts
 use Rattle.syn_grammar.specs.declared.kinds.Infix.{Infix}
 use Rattle.syn_grammar.specs.declared.next.Context.{Context}
-use Rattle.syn_grammar.specs.declared.note.Note.{Note}
 use Rattle.syn_grammar.specs.Op.{level}
 use Rattle.syn_grammar.specs.Next.{enclosed, left_context, right_context, base_context, lead_context}
 use Rattle.syn_grammar.specs.Notes.{note_of, stack, below, kids_below, place_by, left_by, base_by, lead_by}
 use Rattle.syn_grammar.specs.Tree as e
-use Rattle.syn_grammar.specs.Tree.{Tree, Kids, Leaf, Post, Trailer, Frame, Enclosure, leaf, paren, adorned, lead, mid, post, tail, frame, none, kid, leaf_own, lead_own, infix_own, post_own, post_op, trailer_own, frame_own, enclosure, needs_last_comma, size, kids_size}
+use Rattle.syn_grammar.specs.Tree.{Tree, Kids, Leaf, Post, Trailer, Frame, Enclosure, leaf, paren, adorned, lead, mid, post, tail, frame, none, kid, leaf_own, lead_own, infix_own, post_own, post_op, trailer_own, frame_own, enclosure, needs_last_comma}
 use Rattle.syn_expr_notes.specs.Kind.{kind_at}
 use Rattle.syn_expr_notes.specs.Label as label
 use Rattle.syn_expr_notes.specs.Label.{lead_kind, post_kind, trailer_kind}
@@ -26,7 +25,7 @@ use Rattle.syn_expr_kinds.specs.Node.{no_trees, one_tree, two_trees, based_by, f
 use Rattle.syn_expr_kinds.proofs.Lents.{first-based}
 use Rattle.syn_expr_kinds.specs.Pats.{strays}
 use Rattle.syn_expr_print.specs.Printing.{spelled, spelled_in, kids_spelled, core, node_of, IsLent}
-use Rattle.syn_expr_print.proofs.Spellings.{leaf-spelled, paren-spelled, lead-spelled, mid-spelled, post-spelled, tail-spelled, open-spelled, closed-spelled, strays-spelled, strays-below, below-core, size-core}
+use Rattle.syn_expr_print.proofs.Spellings.{leaf-spelled, paren-spelled, lead-spelled, mid-spelled, post-spelled, tail-spelled, open-spelled, closed-spelled, strays-spelled, strays-below, below-core}
 
 -- ---- tokens, and an operand
 
@@ -59,9 +58,6 @@ lead-text c t p u l a o = ap (λ z. spelled c z) (lead-core t p u l a o) ∙ lea
 
 pub lead-below : (t : Tree) (p : e.Lead × List Tree) (u : Tree) → IsLent t → lead_at t ≡ Some p → first_of (operands_at t) ≡ Some u → below t ≡ stack u
 lead-below t p u l a o = below-core t ∙ ap below (lead-core t p u l a o)
-
-pub lead-size : (t : Tree) (p : e.Lead × List Tree) (u : Tree) → IsLent t → lead_at t ≡ Some p → first_of (operands_at t) ≡ Some u → size u < size t
-lead-size t p u l a o = let s : size t ≡ 1 + (kids_size (strays p.1 none) + size u) = size-core t ∙ ap size (lead-core t p u l a o) in omega arith
 
 pub lead-kind : (t : Tree) (p : e.Lead × List Tree) (q : LeadKind) → kind_at t ≡ kind.Lead q → lead_at t ≡ Some p → lead_kind p.0 ≡ q
 lead-kind (lead k gs t) p q i h = cc
@@ -190,11 +186,6 @@ paren-text c t u l a o = ap (λ z. spelled c z) (paren-core t u l a o) ∙ paren
 pub paren-below : (t u : Tree) → IsLent t → kind_at t ≡ kind.Paren → first_of (operands_at t) ≡ Some u → below t ≡ stack u
 paren-below t u l a o = below-core t ∙ ap below (paren-core t u l a o)
 
-pub paren-size : (t u : Tree) → IsLent t → kind_at t ≡ kind.Paren → first_of (operands_at t) ≡ Some u → size u < size t
-paren-size t u l a o = let s : size t ≡ 1 + size u = size-core t ∙ ap size (paren-core t u l a o) in omega arith
-
-pub ruleset parens = (paren-text, paren-below)
-
 -- ---- two operands
 
 pub mid-operator : (t : Tree) (q : Infix) → kind_at t ≡ kind.Mid q → operator_at t ≡ Some q
@@ -257,25 +248,6 @@ mid-text c t q u v l a o n = ap (λ z. spelled c z) (mid-core t q u v l a o n) �
 
 pub mid-below : (t : Tree) (q : Infix) (u v : Tree) → IsLent t → kind_at t ≡ kind.Mid q → first_of (operands_at t) ≡ Some u → second_of (operands_at t) ≡ Some v → below t ≡ stack v ++ stack u
 mid-below t q u v l a o n = below-core t ∙ ap below (mid-core t q u v l a o n)
-
-pub mid-size : (t : Tree) (q : Infix) (u v : Tree) → IsLent t → kind_at t ≡ kind.Mid q → first_of (operands_at t) ≡ Some u → second_of (operands_at t) ≡ Some v
-    → (size u < size t) × (size v < size t)
-mid-size t q u v l a o n = let s : size t ≡ 1 + (size u + size v) = size-core t ∙ ap size (mid-core t q u v l a o n) in (omega arith, omega arith)
-
--- as it is written, one part behind the other
-pub mid-written : (c : Context) (t : Tree) (q : Infix) (u v : Tree) (t0 t1 t2 : List Tok) (n1 n2 : Note) (d1 d2 : Context) (w1 w2 : Bool)
-    → spelled c (core t) ≡ spelled_in (left_by q (left_context q c) (note_of u)) (left_context q c) u
-    ++ (infix_own q [] ++ spelled_in (place_by (level q) (right_context q c) (note_of v)) (right_context q c) v)
-    → d1 ≡ left_context q c → n1 ≡ note_of u → w1 ≡ left_by q d1 n1 → d2 ≡ right_context q c → n2 ≡ note_of v → w2 ≡ place_by (level q) d2 n2
-    → t1 ≡ t0 ++ spelled_in w1 d1 u → t2 ≡ t1 ++ infix_own q [] → t2 ++ spelled_in w2 d2 v ≡ t0 ++ spelled c (core t)
-mid-written c t q u v t0 t1 t2 n1 n2 d1 d2 w1 w2 s e1 e2 e3 e4 e5 e6 e7 e8 =
-    let x = spelled_in (left_by q (left_context q c) (note_of u)) (left_context q c) u in
-    let y = spelled_in (place_by (level q) (right_context q c) (note_of v)) (right_context q c) v in
-    let first : spelled_in w1 d1 u ≡ x = rw (e3, e2, e1) refl in
-    let second : spelled_in w2 d2 v ≡ y = rw (e6, e5, e4) refl in
-    let front : t2 ≡ (t0 ++ x) ++ infix_own q [] = e8 ∙ ap (λ l. l ++ infix_own q []) (e7 ∙ ap (λ l. t0 ++ l) first) in
-    ap (λ l. l ++ spelled_in w2 d2 v) front ∙ ap (λ l. ((t0 ++ x) ++ infix_own q []) ++ l) second
-    ∙ append_assoc (t0 ++ x) (infix_own q []) y ∙ append_assoc t0 x (infix_own q [] ++ y) ∙ ap (λ l. t0 ++ l) (sym s)
 
 pub ruleset mids = (mid-text, mid-below, mid-operator)
 
@@ -347,9 +319,6 @@ post-text c t p u l a o = ap (λ z. spelled c z) (post-core t p u l a o) ∙ pos
 
 pub post-below : (t : Tree) (p : Post) (u : Tree) → IsLent t → post_at t ≡ Some p → first_of (operands_at t) ≡ Some u → below t ≡ stack u
 post-below t p u l a o = below-core t ∙ ap below (post-core t p u l a o)
-
-pub post-size : (t : Tree) (p : Post) (u : Tree) → IsLent t → post_at t ≡ Some p → first_of (operands_at t) ≡ Some u → size u < size t
-post-size t p u l a o = let s : size t ≡ 1 + size u = size-core t ∙ ap size (post-core t p u l a o) in omega arith
 
 pub ruleset posts = (post-text, post-below, post-operator)
 
@@ -433,11 +402,6 @@ tail-told t q u l i o = by (trailer_at t) refl
     by (Some p) h = tail-below t p u l h o
     by None h = absurd (tail-there t q i h)
 
-pub tail-size : (t : Tree) (p : Trailer) (u : Tree) → IsLent t → trailer_at t ≡ Some p → first_of (operands_at t) ≡ Some u
-    → (size u < size t) × (kids_size (operand_kids (operands_at t)) < size t)
-tail-size t p u l a o =
-    let s : size t ≡ 1 + (size u + kids_size (operand_kids (operands_at t))) = size-core t ∙ ap size (tail-core t p u l a o) in (omega arith, omega arith)
-
 pub ruleset tails = (tail-text, tail-below, tail-kind)
 
 -- ---- frames
@@ -492,15 +456,5 @@ closed-text c t p x l a h =
 
 pub frame-below : (t : Tree) (p : Frame × List Tree) → IsLent t → frame_at t ≡ Some p → below t ≡ kids_below (operand_kids (operands_at t))
 frame-below t p l a = below-core t ∙ ap below (frame-core t p l a) ∙ strays-below p.1 (operand_kids (operands_at t))
-
-strays-size : (gs : List Tree) (ks : Kids) → kids_size ks ≤ kids_size (strays gs ks)
-strays-size [] ks = omega arith
-strays-size (g ∷ gs) ks = let h = strays-size gs ks in omega arith
-
-pub frame-size : (t : Tree) (p : Frame × List Tree) → IsLent t → frame_at t ≡ Some p → kids_size (operand_kids (operands_at t)) < size t
-frame-size t p l a =
-    let ks = operand_kids (operands_at t) in
-    let s : size t ≡ 1 + kids_size (strays p.1 ks) = size-core t ∙ ap size (frame-core t p l a) in
-    let h = strays-size p.1 ks in omega arith
 
 pub ruleset frames = (open-text, closed-text, frame-below)

@@ -8,7 +8,6 @@ use Rattle.syn_lower_lists.specs.declared.punctuated.Punctuated.{Punctuated}
 use Rattle.syn_grammar.specs.Tree as e
 use Rattle.syn_grammar.specs.Tree.{Tree, Kids, none, kid}
 use Rattle.syn_expr_kinds.specs.View.{elements}
-use Rattle.syn_expr_print.proofs.Kids.{element-comma, element-last, none-spelled}
 
 -- the last element, behind which no comma stands
 abbrev pub last_kid : {E : Type 0} → (E → Tree) → Option (Box E Global) → Kids
@@ -40,5 +39,3 @@ lists-by f (q ∷ ps) (Some x) = lists-last f (q ∷ ps) x.value
 pub lists-elements : {E P : Type 0} (f : E → Tree) (p : Punctuated E P) → elements (map f (values p)) (trails p) ≡ pair_kids f p.inner.items (last_kid f p.last)
 unfolding values trails
 lists-elements f p = lists-by f p.inner.items p.last
-
-pub ruleset lists = (lists-elements, element-comma, element-last, none-spelled)

@@ -6,21 +6,14 @@ use Rattle.syn_grammar.specs.declared.note.Sort.TheVariants as sort
 use Rattle.syn_grammar.specs.Notes.{note_of, leaf_sort, adorned_sort}
 use Rattle.syn_grammar.specs.Rule.{is_plain_leaf, is_plain_block}
 use Rattle.syn_grammar.specs.Tree as e
+use Rattle.syn_grammar.proofs.Bools.{and_true, and_false}
 use Rattle.syn_grammar.specs.Tree.{Tree, Leaf, leaf, paren, adorned, lead, mid, post, tail, frame}
 use Rattle.syn_expr_kinds.specs.Node.{leaf_at}
 use Rattle.syn_expr_print.specs.Placed.{is_block_sort}
 use Rattle.syn_expr_print.proofs.Braced.{output-plain, output-braced}
 
-and-true : (b : Bool) → b ≡ b && true
-and-true true = refl
-and-true false = refl
-
-and-false : (b : Bool) → false ≡ b && false
-and-false true = refl
-and-false false = refl
-
 plain-sort : (k : Leaf) → is_plain_leaf k ≡ is_plain_leaf k && is_block_sort (leaf_sort k)
-plain-sort (e.block None b) = and-true (is_plain_leaf (e.block None b))
+plain-sort (e.block None b) = sym (and_true (is_plain_leaf (e.block None b)))
 plain-sort (e.block (Some w) b) = refl
 plain-sort (e.lit x) = refl
 plain-sort (e.path q p) = refl
@@ -48,7 +41,7 @@ behind-sort false sort.Other = refl
 
 pub plain-is : (t : Tree) (k : Leaf) → leaf_at t ≡ Some k → is_plain_block t ≡ is_plain_leaf k && is_block_sort (note_of t).sort
 plain-is (leaf j) k h = let i : j ≡ k = cc in ap (λ z. is_plain_leaf z) i ∙ plain-sort k ∙ ap (λ z. is_plain_leaf k && is_block_sort (leaf_sort z)) (sym i)
-plain-is (adorned a more t) k h = and-false (is_plain_leaf k) ∙ ap (λ b. is_plain_leaf k && b) (sym (behind-sort (note_of t).operation (note_of t).sort))
+plain-is (adorned a more t) k h = sym (and_false (is_plain_leaf k)) ∙ ap (λ b. is_plain_leaf k && b) (sym (behind-sort (note_of t).operation (note_of t).sort))
 plain-is (paren m t) k h = absurd cc
 plain-is (lead j gs t) k h = absurd cc
 plain-is (mid x j y) k h = absurd cc

@@ -16,7 +16,7 @@ use Rattle.syn_grammar.specs.Next.{enclosed, left_context, right_context, base_c
 use Rattle.syn_grammar.specs.Notes.{note_of, below, kids_below, place_by, left_by, base_by, lead_by}
 use Rattle.syn_grammar.specs.Rule.{put, bare, bare_kids, is_operation, lead_asks, left_asks, base_asks, place_asks}
 use Rattle.syn_grammar.specs.Tree as e
-use Rattle.syn_grammar.specs.Tree.{Tree, Kids, Leaf, Lead, Post, Trailer, Frame, Enclosure, leaf, paren, adorned, lead, mid, post, tail, frame, own, own_tokens, kids_own, leaf_own, lead_own, infix_own, post_own, post_op, trailer_own, frame_own, enclosure, framed, fill, fill_kids, needs_last_comma, size}
+use Rattle.syn_grammar.specs.Tree.{Tree, Kids, Leaf, Lead, Post, Trailer, Frame, Enclosure, leaf, paren, adorned, lead, mid, post, tail, frame, own, own_tokens, kids_own, leaf_own, lead_own, infix_own, post_own, post_op, trailer_own, frame_own, enclosure, framed, fill, fill_kids, needs_last_comma}
 use Rattle.syn_grammar.proofs.NoteLemmas.{notes_are_right, note_fill}
 use Rattle.syn_grammar.proofs.FillIns.{operation_fill}
 use Rattle.syn_expr_kinds.specs.Node.{attributes_at}
@@ -81,16 +81,6 @@ below-core (mid x k y) = refl
 below-core (post x k) = refl
 below-core (tail b k ks) = refl
 below-core (frame k ks) = refl
-
-pub size-core : (t : Tree) → size t ≡ size (core t)
-size-core (adorned b bs t) = refl
-size-core (leaf k) = refl
-size-core (paren m t) = refl
-size-core (lead k gs t) = refl
-size-core (mid x k y) = refl
-size-core (post x k) = refl
-size-core (tail b k ks) = refl
-size-core (frame k ks) = refl
 
 -- ---- nodes of one shape
 
@@ -178,5 +168,3 @@ strays-spelled last (g ∷ gs) ks = strays-spelled last gs ks
 pub strays-below : (gs : List Tree) (ks : Kids) → kids_below (strays gs ks) ≡ kids_below ks
 strays-below [] ks = refl
 strays-below (g ∷ gs) ks = append-nil (kids_below (strays gs ks)) ∙ strays-below gs ks
-
-pub ruleset adorns = (spelled-adorned, core-plain, below-core)

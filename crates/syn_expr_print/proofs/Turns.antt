@@ -1,5 +1,5 @@
 -- The turns of a loop: the notes of what comes next are left.
-use Rattle.std.proofs.Common.{◌≡◌, ◌-◌, ◌≤◌, List, [], ◌∷◌, ◌++◌, length, take, drop, get_or, refl, sym, ◌∙◌, ap, subst, append_assoc, arith}
+use Rattle.std.proofs.Common.{◌≡◌, ◌-◌, ◌≤◌, List, [], ◌∷◌, ◌++◌, length, take, drop, get_or, sym, ◌∙◌, ap, subst, append_assoc, arith}
 use Rattle.std.proofs.lemmas.List.{append-nil, take_all}
 use Rattle.syn_tokens.specs.Tok.{Tok}
 use Rattle.syn_grammar.specs.declared.note.Note.{Note}
@@ -33,10 +33,6 @@ cut (x ∷ xs) d h = ap (λ l. x ∷ l) (sym (take_all (length (x ∷ xs) - 1) x
 
 pub cut_item : {A : Type 0} (xs : List A) (d : A) → 1 ≤ length xs → d ≡ get_or xs 0 d → xs ≡ d ∷ take (length xs - 1) (drop 1 xs)
 cut_item xs d h e = cut xs d h ∙ ap (λ x. x ∷ take (length xs - 1) (drop 1 xs)) (sym e)
-
-pub nil-below : {A : Type 0} (xs : List A) → length xs ≤ 0 → xs ≡ []
-nil-below [] h = refl
-nil-below (x ∷ xs) h = absurd (omega arith)
 
 -- an operand and the sign behind it
 pub sign_behind : (now x s more : List Tok) {mid new all : List Tok} → mid ≡ now ++ x → new ≡ mid ++ s → now ++ ((x ++ s) ++ more) ≡ all → new ++ more ≡ all

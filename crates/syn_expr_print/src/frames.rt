@@ -399,12 +399,10 @@ where
 /// What is printed doesn't depend on where it stands.
 #[cycle(frame)]
 #[tactic(auto, using(syn_tokens::proofs::Fronts::fronts, crate::proofs::Lents::frames))]
-pub fn frame<E: HasPrint + HasArms, F: Fn(&mut TokenStream, &mut Notes, &E, Context) -> Grown>(
-    bare: &F,
-    tokens: &mut TokenStream,
-    notes: &mut Notes,
-    x: &E,
-) -> Grown
+pub(crate) fn frame<
+    E: HasPrint + HasArms,
+    F: Fn(&mut TokenStream, &mut Notes, &E, Context) -> Grown,
+>(bare: &F, tokens: &mut TokenStream, notes: &mut Notes, x: &E) -> Grown
 where
     E::Arm: HasArmHead,
     E::Pat: PutPat,

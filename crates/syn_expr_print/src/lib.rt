@@ -1,9 +1,9 @@
 //! The printer of expressions.
 #![tactic(auto)]
 
-pub mod blocks;
+mod blocks;
 pub mod choice;
-pub mod ends;
+mod ends;
 pub mod frames;
 pub mod node;
 pub mod notes;
@@ -12,4 +12,4 @@ pub mod places;
 pub mod print;
 pub mod printed;
 pub mod structure;
-pub mod tail;
+mod tail;

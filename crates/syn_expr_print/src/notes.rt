@@ -19,7 +19,7 @@ pub struct Notes {
 }
 
 /// Takes the note of a node, which is visited so.
-pub fn take_note<E: HasExprTree>(notes: &mut Notes, x: &E) -> Note
+pub(crate) fn take_note<E: HasExprTree>(notes: &mut Notes, x: &E) -> Note
     requires { EndsWith notes.old.left.items (stack (E.tree x.now)) }
     ensures note { result ≡ note_of (E.tree x.now) }
     ensures taken { Taken notes.old notes.new (note_of (E.tree x.now) ∷ []) }

@@ -27,7 +27,7 @@ use syn_tokens::tree::TokenStream;
 
 /// Prints an operand whose note was taken: in parentheses where it is `wrapped`, else bare.
 #[tactic(auto, using(syn_tokens::proofs::Fronts::fronts, crate::proofs::Spellings::roles))]
-pub fn inside<E: HasPrint, F: Fn(&mut TokenStream, &mut Notes, &E, Context) -> Grown>(
+pub(crate) fn inside<E: HasPrint, F: Fn(&mut TokenStream, &mut Notes, &E, Context) -> Grown>(
     bare: &F,
     tokens: &mut TokenStream,
     notes: &mut Notes,

@@ -100,7 +100,7 @@ pub fn elements<E: HasPrint, F: Fn(&mut TokenStream, &mut Notes, &E, Context) ->
 
 /// Prints a value, `;` and how often it is repeated (Rust Reference, "Array expressions").
 #[tactic(auto, using(syn_tokens::proofs::Fronts::fronts, crate::proofs::Stacks::takes))]
-pub fn repeated<E: HasPrint, F: Fn(&mut TokenStream, &mut Notes, &E, Context) -> Grown>(
+pub(crate) fn repeated<E: HasPrint, F: Fn(&mut TokenStream, &mut Notes, &E, Context) -> Grown>(
     bare: &F,
     tokens: &mut TokenStream,
     notes: &mut Notes,

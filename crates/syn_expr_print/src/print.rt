@@ -70,10 +70,10 @@ pub fn node<E: HasPrinter>(
     bare(&node::<E>, tokens, notes, x, context)
 }
 
-/// Prints an expression in its place, with the parentheses that it needs there and inside, and no others: those without
-/// which the tokens would be read as another tree, or not at all (Rust Reference, "Expression precedence"). It answers how
-/// often a node was visited, at most twice each: once to be noted, once to be printed. A count that reaches the greatest
-/// `u64` stays there.
+/// Prints an expression in its place, with the parentheses that it needs there and inside: those without which the tokens
+/// would be read as another tree, or not at all (Rust Reference, "Expression precedence"). In a statement a `let` and a macro
+/// with braces get some that could be spared, and so may an operation behind attributes. It answers how often a node was
+/// visited, at most twice each: once to be noted, once to be printed. A count that reaches the greatest `u64` stays there.
 ///
 /// It is refused for want of memory alone; a part of the tokens may then follow what was there.
 #[tactic(auto, using(syn_tokens::proofs::Fronts::fronts))]

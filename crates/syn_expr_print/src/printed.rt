@@ -28,7 +28,7 @@ use syn_grammar::next::Context;
 use syn_tokens::tree::TokenStream;
 
 /// Whether it is an operation: attributes before one would be those of its first operand.
-pub fn is_operation(kind: NodeKind) -> bool
+pub(crate) fn is_operation(kind: NodeKind) -> bool
     ensures { result ≡ is_operation_kind kind }
 {
     match kind {
@@ -130,13 +130,10 @@ where
 ///
 /// Memory may run out; a part of the tokens may then follow what was there.
 #[tactic(auto, using(syn_tokens::proofs::Fronts::fronts, crate::proofs::Adorned::plain))]
-pub fn bare<E: HasPrint + HasArms, F: Fn(&mut TokenStream, &mut Notes, &E, Context) -> Grown>(
-    smaller: &F,
-    tokens: &mut TokenStream,
-    notes: &mut Notes,
-    x: &E,
-    context: Context,
-) -> Grown
+pub(crate) fn bare<
+    E: HasPrint + HasArms,
+    F: Fn(&mut TokenStream, &mut Notes, &E, Context) -> Grown,
+>(smaller: &F, tokens: &mut TokenStream, notes: &mut Notes, x: &E, context: Context) -> Grown
 where
     E::Arm: HasArmHead,
     E::Pat: PutPat,
