@@ -14,6 +14,7 @@ use Rattle.syn_grammar.specs.Notes.{note_of, has, misplaced_by, wrapped_by, left
 use Rattle.syn_grammar.specs.Rule.{is_less_next, is_operation, bad, low, refuses, place_wrapped, left_wrapped, base_wrapped}
 use Rattle.syn_grammar.specs.Tree as e
 use Rattle.syn_grammar.specs.Tree.{Tree, Kids, Lead, Trailer, leaf, paren, adorned, lead, mid, post, tail, frame}
+use Rattle.syn_grammar.proofs.Bools.{and_false}
 use Rattle.syn_grammar.proofs.NoteLemmas.{noted, wrapped_same, left_same, base_same}
 use Rattle.syn_expr_fixup.specs.Fixup.{Fits, parenthesized}
 use Rattle.syn_expr_fixup.specs.Operator.{operator_at}
@@ -101,10 +102,6 @@ pub place_level : (v : Level) (n : Next) (t : Tree) → wrapped_by v (note_of t)
 place_level v n t = wrapped_same v (note_of t) t n (noted t)
 
 -- ---- a brace behind a node is no operator and no trailer: what must not have it behind it refuses it itself
-
-and_false : (b : Bool) → (b && false) ≡ false
-and_false true = refl
-and_false false = refl
 
 no_block_behind : (k : Lead) (gs : Kids) (t : Tree) → bad (lead k gs t) next.Block ≡ false
 no_block_behind (e.unary o) gs t = refl

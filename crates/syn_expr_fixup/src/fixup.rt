@@ -176,6 +176,8 @@ impl FixupContext {
     /// expression (`-`) and generic arguments (`<`). With `Unambiguous`: the base of an index.
     ///
     /// `(a + b) * c` needs its parentheses; `a * b + c` none.
+    /// `next_operator_can_begin_expr`: `(return) - 1` needs its parentheses; `return + 1` none.
+    /// `next_operator_can_begin_generics`: `(x as T) <<= y` needs its parentheses; `x as T += y` none.
     #[tactic(auto, using(crate::proofs::Classes::operands))]
     pub fn leftmost_subexpression_with_operator<E: HasNode + HasKind>(
         self,
@@ -188,6 +190,7 @@ impl FixupContext {
             → result.0 ≡ level_if (left_wrapped k (E.tree expr.now) (bad (E.tree expr.now) (class_of k))) }
         ensures place { (k : Infix) → Fits k precedence next_operator_can_begin_expr next_operator_can_begin_generics
             → result.1.context ≡ left_context k self.context }
+        ensures bound { result.1.level ≡ precedence }
         ensures base { precedence ≡ lev.Unambiguous → result.0 ≡ level_if (base_wrapped e.index (E.tree expr.now) (bad (E.tree expr.now) next.Bracket)) }
         ensures based { precedence ≡ lev.Unambiguous → result.1.context ≡ base_context e.index self.context }
     {
@@ -225,6 +228,7 @@ impl FixupContext {
     ) -> (Level, FixupContext)
         ensures level { (k : Trailer) → spec.next_of k ≡ next.Dot → result.0 ≡ level_if (base_wrapped k (E.tree expr.now) (bad (E.tree expr.now) next.Dot)) }
         ensures place { (k : Trailer) → spec.next_of k ≡ next.Dot → result.1.context ≡ base_context k self.context }
+        ensures bound { result.1.level ≡ lev.Unambiguous }
     {
         let place = FixupContext {
             context: base_context(TrailerKind::Await, self.context),
@@ -237,7 +241,8 @@ impl FixupContext {
     }
 
     /// What decides about an operand at the right end, behind an operator of this precedence: `Unambiguous` where it is left
-    /// bare for its level, else `Jump`, and the place of the operand.
+    /// bare for its level, else `Jump`, and the place of the operand. Behind `..`, where the operand might be left out, ask
+    /// `rightmost_subexpression_fixup` with `optional_operand`, and then `rightmost_subexpression_precedence`.
     ///
     /// `a - (b - c)` needs its parentheses; `a - b * c` none.
     pub fn rightmost_subexpression<E: HasNode + HasKind>(
@@ -247,6 +252,7 @@ impl FixupContext {
     ) -> (Level, FixupContext)
         ensures level { result.0 ≡ level_if (place_wrapped precedence (E.tree expr.now) self.context.next (low (E.tree expr.now)) (bad (E.tree expr.now) self.context.next)) }
         ensures place { (k : Infix) → is_half_open k ≡ false → result.1.context ≡ right_context k self.context }
+        ensures bound { result.1.level ≡ precedence }
     {
         let place = self.rightmost_subexpression_fixup(false, false, precedence);
         (place.rightmost_subexpression_precedence(expr), place)
@@ -256,7 +262,8 @@ impl FixupContext {
     /// where struct expressions may stand even in a condition. `optional_operand`: it might be left out, so that in a
     /// condition a brace there would be that of the block.
     ///
-    /// `if a..({ b }) {}` needs its parentheses; `if a..=({ b }) {}` none.
+    /// `reset_allow_struct`: `if x == (S {}) {}` needs its parentheses; `if return S {} {}` none.
+    /// `optional_operand`: `if a..({ b }) {}` needs its parentheses; `if a..={ b } {}` none.
     pub fn rightmost_subexpression_fixup(
         self,
         reset_allow_struct: bool,
@@ -292,9 +299,12 @@ impl FixupContext {
         level_if(wrapped_by(self.level, note_of(expr), self.context.next))
     }
 
-    /// Whether this place refuses an expression for what it is itself, or for the brace behind the place, which it would take:
-    /// a block-like expression below the head of a statement or of an arm's body, a `let` or a macro with braces in a
-    /// statement, a struct expression in a condition, a jump or a range without its value before a brace.
+    /// Whether this place refuses an expression for what it is itself, or for the brace behind the place, which it would take.
+    /// For itself: below the head of a statement or of an arm's body a block-like expression; at the head of a statement and
+    /// below it a `let`, and below it a macro with braces; in a condition a struct expression that is in no jump's value, and
+    /// a block without a label and outer attributes, first behind a `..` or `break` that is in none. For the brace: before the
+    /// block of a condition a `return` or `yield` without a value; where that is in a jump's value, a `break` without a value
+    /// too, a path, and a range without an end and outer attributes.
     ///
     /// `if (S {}) {}` needs its parentheses; `x = S {}` none.
     #[tactic(auto, using(crate::proofs::Classes::operands))]

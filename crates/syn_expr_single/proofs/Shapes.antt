@@ -10,7 +10,7 @@ use Rattle.syn_grammar.specs.declared.kinds.Infix.{Infix}
 use Rattle.syn_grammar.specs.declared.kinds.Limits.{Limits}
 use Rattle.syn_grammar.specs.declared.next.Context.{Context}
 use Rattle.syn_grammar.specs.Next.{enclosed, base_context, lead_context, left_context, right_context}
-use Rattle.syn_grammar.specs.Notes.{note_of, stack, kids_below, base_by, lead_by, left_by, place_by}
+use Rattle.syn_grammar.specs.Notes.{note_of, kids_below, base_by, lead_by, left_by, place_by}
 use Rattle.syn_grammar.specs.Op.{level}
 use Rattle.syn_grammar.specs.Tree as e
 use Rattle.syn_grammar.specs.Tree.{Tree, Kids, Enclosure, adorn, leaf_own, lead_own, infix_own, post_own, post_op, trailer_own, frame_own, enclosure}
@@ -18,8 +18,9 @@ use Rattle.syn_expr_notes.specs.Label.{lead_kind, trailer_kind}
 use Rattle.syn_expr_notes.specs.declared.label.LeadKind.{LeadKind}
 use Rattle.syn_expr_notes.specs.declared.label.TrailerKind.{TrailerKind}
 use Rattle.syn_expr_collect.specs.Below.{operands_below}
+use Rattle.syn_expr_collect.proofs.Nodes.{based_below}
 use Rattle.syn_pat_kinds.specs.View.{PatView}
-use Rattle.syn_expr_kinds.specs.Node.{OperandTrees, based_by, framed, frame_of, frame_guards, operand_kids}
+use Rattle.syn_expr_kinds.specs.Node.{OperandTrees, framed, frame_of, frame_guards, operand_kids}
 use Rattle.syn_expr_kinds.specs.Pats.{strays}
 use Rattle.syn_expr_kinds.specs.declared.node.Frame.{Frame}
 use Rattle.syn_expr_kinds.specs.declared.node.Frame.TheVariants as frame
@@ -119,11 +120,7 @@ nothing-held l h = h ∙ sym (none-spelled false)
 pub index-held : (d : Context) (t : Tree) (h0 h1 : List Tok) → d ≡ enclosed → h0 ≡ [] → h1 ≡ h0 ++ whole d t → h1 ≡ kids_spelled false (e.kid e.value e.no_ending t e.none)
 index-held d t h0 h1 s n g = g ∙ ap (λ l. l ++ whole d t) n ∙ ap (λ z. whole z t) s ∙ sym (value-spelled false t)
 
-pub below-based : (b : Tree) (ks : Kids) → operands_below (based_by b ks) ≡ kids_below ks ++ stack b
-below-based b e.none = refl
-below-based b (e.kid k c t ks) = refl
-
-pub ruleset calls = (below-based)
+pub ruleset calls = (based_below)
 
 -- ---- operands in places of their own
 
