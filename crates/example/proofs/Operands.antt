@@ -1,37 +1,27 @@
 -- What the swap does to a tree, and what follows of a text.
-use Rattle.std.proofs.Common.{◌≡◌, ℕ, List, [], ◌∷◌, ◌++◌, refl, sym, ap, ◌∙◌, subst, Option, Some, None, Result, Ok, Err, rules, string_bytes}
+use Rattle.std.proofs.Common.{◌≡◌, ℕ, false, List, [], ◌∷◌, ◌++◌, refl, sym, ap, ◌∙◌, subst, Result, Ok, Err, string_bytes}
 use Rattle.std.specs.Prelude.{IfOk, MatchResult, String}
 use Rattle.std.specs.declared.alloc.Global.{Global}
 use Rattle.syn_tokens.specs.Text.{text}
 use Rattle.syn_tokens.specs.Tok.{Tok}
 use Rattle.syn_tokens.specs.declared.error.Error.{Error}
 use Rattle.syn_tokens.specs.declared.error.ErrorKind.TheVariants.{OutOfMemory}
-use Rattle.syn_parts.specs.Tree.{AttributeTree, ReturnTree, default, given}
+use Rattle.syn_parts.specs.Tree.{AttributeTree}
 use Rattle.syn_grammar.specs.declared.kinds.Infix.TheVariants as inf
-use Rattle.syn_grammar.specs.declared.kinds.Limits.{Limits}
 use Rattle.syn_grammar.specs.declared.next.Context.{Context}
 use Rattle.syn_grammar.specs.Next.{enclosed}
 use Rattle.syn_grammar.specs.Printed.{in_plain}
 use Rattle.syn_grammar.specs.Rule as rule
-use Rattle.syn_grammar.specs.Tree.{Tree, Jump, ClosureHead, adorn, mid, own_tokens}
+use Rattle.syn_grammar.specs.Tree.{Tree, adorn, adorned, mid, own_tokens}
 use Rattle.syn_op.specs.View.{bin_kind}
 use Rattle.syn_expr_kinds.specs.declared.operation.ExprBinaryOf.{ExprBinaryOf}
 use Rattle.syn_expr_kinds.specs.Attrs.{attrs_of}
-use Rattle.syn_expr_kinds.specs.Pats.{closure_by}
-use Rattle.syn_expr_kinds.specs.View.{jump_with, range_between}
-use Rattle.syn_expr_all.specs.declared.expr.Expr.{Expr, out-Expr, roll-Expr, roll-out-Expr}
+use Rattle.syn_expr_all.specs.declared.expr.Expr.{Expr}
 use Rattle.syn_expr_all.specs.declared.expr.Expr.TheVariants as ex
-use Rattle.syn_expr_all.specs.declared.expr.Expr.TheOpen.{Expr-F}
-use Rattle.syn_expr_all.specs.declared.pat.Pat.{Pat}
-use Rattle.syn_expr_all.specs.declared.pat.PatGuard.{PatGuard}
-use Rattle.syn_expr_all.specs.declared.closure.ExprClosure.{ExprClosure}
-use Rattle.syn_expr_all.specs.declared.control.Arm.{Arm}
-use Rattle.syn_expr_all.specs.declared.control.ExprForLoop.{ExprForLoop}
-use Rattle.syn_expr_all.specs.declared.control.ExprLet.{ExprLet}
-use Rattle.syn_expr_all.specs.declared.control.ExprMatch.{ExprMatch}
-use Rattle.syn_expr_all.specs.View.{tree_layer, tree_of, views}
-use Rattle.syn_expr_all.proofs.TreeOf.{tree_out, tree-Binary, closure-is, for_loop-is, binding-is, choice-is}
+use Rattle.syn_expr_all.specs.View.{tree_of}
+use Rattle.syn_expr_all.proofs.TreeOf.{tree-Binary}
 use Rattle.syn_expr.specs.Promises.{PrintedAs}
+use Rattle.syn_expr.proofs.Binaries.{is_binary, no_binary}
 use Rattle.syn_expr.proofs.Promised.{prints_at}
 use Rattle.example.specs.Swapped.{swapped_tree, IsSwapped}
 use Rattle.syn_expr.specs.Texts.{StandsFor}
@@ -49,32 +39,13 @@ exchanged o =
 
 -- ---- anything else
 
-adorn_stays : (ats : List AttributeTree) (t : Tree) → swapped_tree t ≡ t → swapped_tree (adorn ats t) ≡ adorn ats t
-adorn_stays ats t h = behind ats t ∙ ap (adorn ats) h
-
-jump_stays : (j : Jump) (x : Option Tree) → swapped_tree (jump_with j x) ≡ jump_with j x
-jump_stays j None = refl
-jump_stays j (Some x) = refl
-
-range_stays : (op : Limits) (x y : Option Tree) → swapped_tree (range_between op x y) ≡ range_between op x y
-range_stays op None None = refl
-range_stays op None (Some y) = refl
-range_stays op (Some x) None = refl
-range_stays op (Some x) (Some y) = refl
-
-closure_stays : (r : ReturnTree) (h : ClosureHead) (gs : List Tree) (t : Tree) → swapped_tree (closure_by r h gs t) ≡ closure_by r h gs t
-closure_stays default h gs t = refl
-closure_stays (given ty) h gs t = refl
-
-ruleset stays = (adorn_stays, jump_stays, range_stays, closure_stays, closure-is, for_loop-is, binding-is, choice-is)
-
-layer_stays : (l : Expr-F Expr Pat ExprClosure Arm ExprForLoop ExprLet ExprMatch PatGuard) → ((x : ExprBinaryOf Expr) → l ≡ Expr-F.Binary x → ⊥) → swapped_tree (tree_layer views l) ≡ tree_layer views l
-layer_stays (Expr-F.Binary x) none = absurd (none x refl)
-layer_stays _ none = search (rules, stays)
+stays : (t : Tree) → is_binary t ≡ false → swapped_tree t ≡ t
+stays (adorned a more t) h = ap (adorned a more) (stays t h)
+stays (mid x (inf.Binary k) y) h = absurd cc
+stays _ h = refl
 
 pub left_alone : (x : Expr) → ((o : ExprBinaryOf Expr) → x ≡ ex.Binary o → ⊥) → tree_of x ≡ swapped_tree (tree_of x)
-left_alone x none =
-    sym (ap swapped_tree (tree_out x) ∙ layer_stays (out-Expr x) (λ b h. none b (sym (roll-out-Expr x) ∙ ap roll-Expr h ∙ ex.rolls-Binary b)) ∙ sym (tree_out x))
+left_alone x none = sym (stays (tree_of x) (no_binary x none))
 
 -- ---- a text
 

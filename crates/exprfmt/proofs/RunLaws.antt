@@ -1,6 +1,6 @@
 -- Facts of known bytes, and what a fault writes.
-use Rattle.std.proofs.Common.{◌≡◌, ◌⊎◌, inl, inr, ℕ, Bool, true, false, List, [], ◌∷◌, ◌++◌, take, drop, refl, sym, ap, ◌∙◌, subst, append_assoc, append-nil, take-append-drop, Result, Ok, Err, arith}
-use Rattle.std.specs.Prelude.{Option, Some, None, IfSome, IfErr, chars, codes}
+use Rattle.std.proofs.Common.{◌≡◌, inl, inr, ℕ, Bool, true, false, List, [], ◌∷◌, ◌++◌, take, drop, refl, sym, ap, ◌∙◌, subst, append_assoc, append-nil, take-append-drop, arith}
+use Rattle.std.specs.Prelude.{Option, Some, None, chars, codes}
 use Rattle.std.specs.Io.KnownBytes.{Appends, Keeps}
 use Rattle.std.specs.Str.{IsUtf8}
 use Rattle.std.specs.Fmt.{WritesInCalls}
@@ -9,27 +9,17 @@ use Rattle.std.specs.List.{FoldsTo, concat}
 use Rattle.std.specs.declared.fmt.InlineText.{InlineText}
 use Rattle.std.proofs.KnownBytes.{Appends-trans}
 use Rattle.std.proofs.lemmas.Fmt.{decimal_digit}
-use Rattle.syn_tokens.specs.Input.{Gives}
-use Rattle.syn_tokens.specs.Lex.{Spells}
 use Rattle.syn_tokens.specs.Text.{text}
 use Rattle.syn_tokens.specs.Tok.{Tok}
 use Rattle.syn_tokens.specs.declared.error.Error.{Error}
-use Rattle.syn_tokens.specs.declared.error.ErrorKind.{ErrorKind}
-use Rattle.syn_tokens.specs.declared.error.ErrorKind.TheVariants.{OutOfMemory}
-use Rattle.syn_grammar.specs.declared.next.Context.{Context}
-use Rattle.syn_grammar.specs.Next.{enclosed}
 use Rattle.syn_grammar.specs.Place.{plain}
-use Rattle.syn_grammar.specs.Printed.{Position, context_of}
-use Rattle.syn_grammar.specs.Rule as rule
-use Rattle.syn_grammar.specs.Stands.{Stands}
-use Rattle.syn_grammar.specs.Tree.{Tree, own_tokens}
+use Rattle.syn_grammar.specs.Printed.{Position}
+use Rattle.syn_grammar.specs.Tree.{Tree}
 use Rattle.syn_expr_flat.specs.Flat.{IsFlat}
 use Rattle.syn_expr_flat.proofs.OuterParens.{stands_outer}
-use Rattle.syn_expr_all.specs.declared.held.HeldExpr.{HeldExpr}
-use Rattle.syn_expr_all.specs.View.{tree_of}
-use Rattle.syn_expr.specs.Promises.{Puts, StandsBack, IsOwn, IsSparing, PrintedAs}
-use Rattle.exprfmt.specs.Run.{GainsFront, IsLine, meant, AreLeft, Follows, Writer, Takes, Prints, Reports, Ran, line, printed, refused, foreign, failed, out_of_memory}
-use Rattle.syn_expr.specs.Texts.{StandsFor, NothingStands}
+use Rattle.syn_expr.specs.Promises.{PrintedAs}
+use Rattle.exprfmt.specs.Run.{IsLine, meant, AreLeft, Follows, Writer, Takes, Prints, Reports, Ran, line, printed, refused, not_utf8, failed, out_of_memory}
+use Rattle.syn_expr.specs.Texts.{StandsFor}
 use Rattle.exprfmt.specs.FaultView.{outcome_of}
 use Rattle.exprfmt.specs.declared.run.Fault.{Fault}
 use Rattle.exprfmt.specs.declared.run.Fault.TheVariants.{Refused, NotUtf8, Failed}
@@ -46,10 +36,6 @@ appends_kept (Some a) (Some b) (Some c) x p q = q ∙ p
 abbrev pub Written : Option (List ℕ) → List ℕ → List ℕ → Option (List ℕ) → Type 0
 Written old text rest new = (done : List ℕ) × (text ≡ done ++ rest) × Appends old new done
 
-pub none_written : (a : Option (List ℕ)) (text : List ℕ) → Written a text text a
-none_written None text = ([], refl, tt)
-none_written (Some a) text = ([], refl, sym (append-nil a))
-
 pub more_written : (a b c : Option (List ℕ)) (text rest : List ℕ) (n : ℕ) → Written a text rest b → Appends b c (take n rest) → Written a text (drop n rest) c
 more_written a b c text rest n (done, split, p) q = (
   done ++ take n rest,
@@ -59,12 +45,6 @@ more_written a b c text rest n (done, split, p) q = (
 
 pub written_kept : (a b c : Option (List ℕ)) (text rest : List ℕ) → Written a text rest b → Keeps b c → Written a text rest c
 written_kept a b c text rest (done, split, p) q = (done, split, appends_kept a b c done p q)
-
-pub written_front : (a b : Option (List ℕ)) (text rest : List ℕ) → Written a text rest b → GainsFront a text b
-written_front a b text rest (done, split, p) = (done, rest, split, p)
-
-pub written_whole : (a b : Option (List ℕ)) (text : List ℕ) → Written a text [] b → Appends a b text
-written_whole a b text (done, split, p) = subst (Appends a b) (sym (split ∙ append-nil done)) p
 
 -- ---- a text that is formatted into a room of fixed size
 
@@ -87,22 +67,6 @@ pub known_left : (o : Option (List ℕ)) → AreLeft o (known o)
 known_left None = tt
 known_left (Some l) = refl
 
-pub all_left : (o : Option (List ℕ)) (old new : List ℕ) → old ≡ [] → IfSome o (λ l. new ≡ old ++ l) → AreLeft o new
-all_left None old new e h = tt
-all_left (Some l) old new e h = h ∙ ap (λ x. x ++ l) e
-
--- ---- a refusal of the reader
-
-refused_by : (k : ErrorKind) (cs : List ℕ) → ((t : Tree) → StandsFor cs t → k ≡ OutOfMemory) → (k ≡ OutOfMemory) ⊎ NothingStands cs
-refused_by OutOfMemory cs h = inl refl
-refused_by k cs h = inr (λ t s. let e = h t s in cc)
-
-pub read_refused : (cs : List ℕ) (ts : List Tok) (r : Result HeldExpr Error) → ((l : List Tok) → Spells cs l → ts ≡ l)
-    → ((t : Tree) → Stands plain ts t [] → Gives (λ h. tree_of h.expr) t r) → IfErr r (λ e. (e.kind ≡ OutOfMemory) ⊎ NothingStands cs)
-read_refused cs ts (Ok x) one found = tt
-read_refused cs ts (Err e) one found =
-    refused_by e.kind cs (λ t s. found t (subst (λ (m : List Tok). Stands plain m t []) (sym (one s.0 s.1)) s.2))
-
 -- ---- what is printed of it
 
 -- what is left of a tree that stands, without its parentheses
@@ -110,21 +74,6 @@ pub bare_meant : (bare : Bool) (t u : Tree) → bare ≡ true → IsFlat t u →
 unfolding IsFlat
 bare_meant true t u e flat cs s = flat (stands_outer plain s.0 t [] s.2)
 bare_meant false t u e flat cs s = absurd cc
-
-alone : (Promised : List Tok → Type 0) (old new : List Tok) → old ≡ [] → Puts old new Promised → Promised new
-alone Promised old new e (ts, put, kept) = subst Promised (sym (put ∙ ap (λ (l : List Tok). l ++ ts) e)) kept
-
--- what a printer promises of tokens behind none
-pub printed_as : (s : Position) (t : Tree) (c : Context) (old new : List Tok) → old ≡ [] → c ≡ context_of s → new ≡ old ++ own_tokens (rule.printed c t)
-    → ((p : Position) → c ≡ context_of p → Puts old new (StandsBack p t)) → (c ≡ enclosed → Puts old new (IsOwn t))
-    → ((p : Position) → c ≡ context_of p → Puts old new (IsSparing p t)) → PrintedAs s t new
-printed_as s t c old new e is text back own sparing =
-    record {
-      tokens = text ∙ ap (λ (l : List Tok). l ++ own_tokens (rule.printed c t)) e ∙ ap (λ (d : Context). own_tokens (rule.printed d t)) is;
-      back = alone (StandsBack s t) old new e (back s is);
-      own = λ p. alone (IsOwn t) old new e (own (is ∙ ap context_of p));
-      sparing = alone (IsSparing s t) old new e (sparing s is);
-    }
 
 pub line_is : (s : Position) (bare : Bool) (cs : List ℕ) (t u : Tree) (ts : List Tok) (bytes : List ℕ) → StandsFor cs t → ((ds : List ℕ) → StandsFor ds t → u ≡ meant bare t)
     → PrintedAs s u ts → bytes ≡ text ts ++ 10 ∷ [] → IsLine s bare cs bytes
@@ -149,12 +98,12 @@ reports_memory f e errors is wrote = subst (λ (h : Fault). Reports (outcome_of 
 
 -- ---- how a run ends
 
-pub reported : (s : Position) (bare : Bool) (left : Option (List ℕ)) (bytes : List ℕ) (unread : Bool) (f : Fault) (output errors : Writer) → AreLeft left bytes
-    → Follows s bare bytes unread (outcome_of f) → output.after ≡ output.before → Reports (outcome_of f) errors → Ran s bare left unread 1 output errors
-reported s bare left bytes unread (Refused e) output errors a h k (inl w) = (bytes, refused e, a, h, (refl, k, w))
-reported s bare left bytes unread (Refused e) output errors a h k (inr w) = (bytes, out_of_memory, a, inl refl, (refl, k, w))
-reported s bare left bytes unread NotUtf8 output errors a h k w = (bytes, foreign, a, h, (refl, k, w))
-reported s bare left bytes unread Failed output errors a h k w = (bytes, failed, a, h, (refl, k, w))
+pub reported : (s : Position) (bare : Bool) (left : Option (List ℕ)) (bytes : List ℕ) (read_failed : Bool) (f : Fault) (output errors : Writer) → AreLeft left bytes
+    → Follows s bare bytes read_failed (outcome_of f) → output.after ≡ output.before → Reports (outcome_of f) errors → Ran s bare left read_failed 1 output errors
+reported s bare left bytes read_failed (Refused e) output errors a h k (inl w) = (bytes, refused e, a, h, (refl, k, w))
+reported s bare left bytes read_failed (Refused e) output errors a h k (inr w) = (bytes, out_of_memory, a, inl refl, (refl, k, w))
+reported s bare left bytes read_failed NotUtf8 output errors a h k w = (bytes, not_utf8, a, h, (refl, k, w))
+reported s bare left bytes read_failed Failed output errors a h k w = (bytes, failed, a, h, (refl, k, w))
 
 prints_whole : (b : Bool) (errors : Writer) → b ≡ false → errors.after ≡ errors.before → Prints b 0 errors
 prints_whole true errors h k = absurd cc
@@ -164,17 +113,17 @@ prints_front : (b : Bool) (errors : Writer) → b ≡ true → Takes errors (lin
 prints_front true errors h k = (refl, k)
 prints_front false errors h k = absurd cc
 
-printed_by : (s : Position) (bare : Bool) (left : Option (List ℕ)) (bytes text : List ℕ) (unread : Bool) (status : ℕ) (output errors : Writer) → AreLeft left bytes → IsUtf8 bytes
-    → IsLine s bare (chars bytes) text → Takes output text → Prints output.broke status errors → Ran s bare left unread status output errors
-printed_by s bare left bytes text unread status output errors a utf8 is wrote prints =
+printed_by : (s : Position) (bare : Bool) (left : Option (List ℕ)) (bytes text : List ℕ) (read_failed : Bool) (status : ℕ) (output errors : Writer) → AreLeft left bytes → IsUtf8 bytes
+    → IsLine s bare (chars bytes) text → Takes output text → Prints output.broke status errors → Ran s bare left read_failed status output errors
+printed_by s bare left bytes text read_failed status output errors a utf8 is wrote prints =
     (bytes, printed is.0, a, (utf8, is.1), (rw is.2 at wrote, prints))
 
-pub printed_whole : (s : Position) (bare : Bool) (left : Option (List ℕ)) (bytes text : List ℕ) (unread : Bool) (output errors : Writer) → AreLeft left bytes → IsUtf8 bytes
-    → IsLine s bare (chars bytes) text → Takes output text → output.broke ≡ false → errors.after ≡ errors.before → Ran s bare left unread 0 output errors
-printed_whole s bare left bytes text unread output errors a utf8 is wrote h k =
-    printed_by s bare left bytes text unread 0 output errors a utf8 is wrote (prints_whole output.broke errors h k)
+pub printed_whole : (s : Position) (bare : Bool) (left : Option (List ℕ)) (bytes text : List ℕ) (read_failed : Bool) (output errors : Writer) → AreLeft left bytes → IsUtf8 bytes
+    → IsLine s bare (chars bytes) text → Takes output text → output.broke ≡ false → errors.after ≡ errors.before → Ran s bare left read_failed 0 output errors
+printed_whole s bare left bytes text read_failed output errors a utf8 is wrote h k =
+    printed_by s bare left bytes text read_failed 0 output errors a utf8 is wrote (prints_whole output.broke errors h k)
 
-pub printed_front : (s : Position) (bare : Bool) (left : Option (List ℕ)) (bytes text : List ℕ) (unread : Bool) (output errors : Writer) → AreLeft left bytes → IsUtf8 bytes
-    → IsLine s bare (chars bytes) text → Takes output text → output.broke ≡ true → Takes errors (line failed) → Ran s bare left unread 1 output errors
-printed_front s bare left bytes text unread output errors a utf8 is wrote h k =
-    printed_by s bare left bytes text unread 1 output errors a utf8 is wrote (prints_front output.broke errors h k)
+pub printed_front : (s : Position) (bare : Bool) (left : Option (List ℕ)) (bytes text : List ℕ) (read_failed : Bool) (output errors : Writer) → AreLeft left bytes → IsUtf8 bytes
+    → IsLine s bare (chars bytes) text → Takes output text → output.broke ≡ true → Takes errors (line failed) → Ran s bare left read_failed 1 output errors
+printed_front s bare left bytes text read_failed output errors a utf8 is wrote h k =
+    printed_by s bare left bytes text read_failed 1 output errors a utf8 is wrote (prints_front output.broke errors h k)

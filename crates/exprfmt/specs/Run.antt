@@ -29,7 +29,7 @@ bare_word = codes "bare"
 pub data Outcome : Type 0 where
   printed : List Tok → Outcome
   refused : Error → Outcome
-  foreign : Outcome
+  not_utf8 : Outcome
   failed : Outcome
 
 -- the line that is written for it
@@ -37,7 +37,7 @@ abbrev pub line : Outcome → List ℕ
 line (printed ts) = text ts ++ 10 ∷ []
 line (refused e) =
     codes "refused at " ++ decimal e.span.lo ++ codes ".." ++ decimal e.span.hi ++ codes ": " ++ kind_text e.kind ++ 10 ∷ []
-line foreign = codes "input is not UTF-8" ++ 10 ∷ []
+line not_utf8 = codes "input is not UTF-8" ++ 10 ∷ []
 line failed = codes "input or output failed" ++ 10 ∷ []
 
 -- what is written where the arguments are no words of the program
@@ -61,10 +61,10 @@ IsLine s bare cs bytes = (ts : List Tok) × IsPrinted s bare cs ts × (bytes ≡
 -- The outcome is that of the input, unless memory runs out or a read failed: the expression that stands for it is
 -- printed, and it is refused only where none does.
 abbrev pub Follows : Position → Bool → List ℕ → Bool → Outcome → Type 0
-Follows s bare bytes unread (printed ts) = IsUtf8 bytes × IsPrinted s bare (chars bytes) ts
-Follows s bare bytes unread (refused e) = (e.kind ≡ OutOfMemory) ⊎ (IsUtf8 bytes × NothingStands (chars bytes))
-Follows s bare bytes unread foreign = IsUtf8 bytes → ⊥
-Follows s bare bytes unread failed = unread ≡ true
+Follows s bare bytes read_failed (printed ts) = IsUtf8 bytes × IsPrinted s bare (chars bytes) ts
+Follows s bare bytes read_failed (refused e) = (e.kind ≡ OutOfMemory) ⊎ (IsUtf8 bytes × NothingStands (chars bytes))
+Follows s bare bytes read_failed not_utf8 = IsUtf8 bytes → ⊥
+Follows s bare bytes read_failed failed = read_failed ≡ true
 
 -- ---- what is written, where the bytes that a writer holds are known
 
@@ -107,8 +107,8 @@ AreLeft (Some left) bytes = bytes ≡ left
 -- A run for a position, `bare` or not, over a reader with these bytes left, of which a read failed or not: it had an outcome
 -- that follows from them.
 abbrev pub Ran : Position → Bool → Option (List ℕ) → Bool → ℕ → Writer → Writer → Type 0
-Ran s bare left unread status output errors =
-    (bytes : List ℕ) × (o : Outcome) × AreLeft left bytes × Follows s bare bytes unread o × Ends o status output errors
+Ran s bare left read_failed status output errors =
+    (bytes : List ℕ) × (o : Outcome) × AreLeft left bytes × Follows s bare bytes read_failed o × Ends o status output errors
 
 -- ---- the report of an outcome: memory runs out where the line has no room
 

@@ -18,14 +18,13 @@ use std::fmt::{InlineText, Write as _};
 use std::io;
 use std::io::{Read, Write};
 use syn_expr::position::Position;
-use syn_expr::print::print_expr;
+use syn_expr::print::print_counted;
 use syn_expr::{Expr, HeldExpr, flatten_in_place};
 use syn_tokens::error::{Error, ErrorKind, Result};
-use syn_tokens::lexer::lex;
 use syn_tokens::span::Span;
 use syn_tokens::text::to_text;
 use syn_tokens::tree::TokenStream;
-use syn_tokens::whole::parse2;
+use syn_tokens::whole::parse_str;
 
 /// The position of this name.
 pub fn named(name: &str) -> Option<Position>
@@ -65,18 +64,6 @@ const OUT_OF_MEMORY: Error = Error {
     kind: ErrorKind::OutOfMemory,
 };
 
-/// The expression that the whole text is.
-fn read(alloc: Global, text: &str) -> Result<HeldExpr>
-    ensures value { IfOk result (λ x. StandsFor (chars text.now) (tree_of x.expr)) }
-    ensures refused { IfErr result (λ e. (e.kind ≡ ErrorKind.OutOfMemory) ⊎ NothingStands (chars text.now)) }
-{
-    let tokens = match lex(alloc, text) {
-        Ok(tokens) => tokens,
-        Err(e) => return Err(e),
-    };
-    parse2::<HeldExpr>(tokens)
-}
-
 /// Makes of an expression that was read what is printed of it: with `bare` it loses its parentheses.
 fn prepare(bare: bool, expr: &mut Expr) -> Result<()>
     ensures tree { IfOk result (λ _. (cs : List ℕ) → StandsFor cs (tree_of expr.old) → tree_of expr.new ≡ spec.meant bare (tree_of expr.old)) }
@@ -93,11 +80,8 @@ fn printed(alloc: Global, position: Position, expr: &Expr) -> Result<TokenStream
     ensures value { IfOk result (λ ts. PrintedAs (position_of position) (tree_of expr.now) ts) }
     ensures refused { IfErr result (λ e. e.kind ≡ ErrorKind.OutOfMemory) }
 {
-    let mut tokens = TokenStream::new(alloc);
-    match print_expr(expr, &mut tokens, position.fixup()) {
-        Ok(()) => Ok(tokens),
-        Err(e) => Err(e),
-    }
+    let (tokens, _) = print_counted(alloc, expr, position.fixup())?;
+    Ok(tokens)
 }
 
 /// The line for a text, with its newline.
@@ -105,26 +89,12 @@ fn line_of_text(alloc: Global, position: Position, bare: bool, text: &str) -> Re
     ensures value { IfOk result (λ s. spec.IsLine (position_of position) bare (chars text.now) (string_bytes s)) }
     ensures refused { IfErr result (λ e. (e.kind ≡ ErrorKind.OutOfMemory) ⊎ NothingStands (chars text.now)) }
 {
-    let mut held = match read(alloc, text) {
-        Ok(held) => held,
-        Err(e) => return Err(e),
-    };
-    match prepare(bare, &mut held.expr) {
-        Ok(()) => (),
-        Err(e) => return Err(e),
-    }
-    let tokens = match printed(alloc, position, &held.expr) {
-        Ok(tokens) => tokens,
-        Err(e) => return Err(e),
-    };
-    let mut line = match to_text(&tokens) {
-        Ok(line) => line,
-        Err(e) => return Err(e),
-    };
-    match line.push('\n') {
-        Ok(()) => Ok(line),
-        Err(_) => Err(OUT_OF_MEMORY),
-    }
+    let mut held = parse_str::<HeldExpr>(alloc, text)?;
+    prepare(bare, &mut held.expr)?;
+    let tokens = printed(alloc, position, &held.expr)?;
+    let mut line = to_text(&tokens)?;
+    line.push('\n')?;
+    Ok(line)
 }
 
 /// The line for an input.
@@ -149,7 +119,7 @@ fn line_of(
 
 /// The fault of a read that failed.
 fn read_fault(e: &io::Error) -> Fault
-    ensures follows { (s : grammar.Position) (bare : Bool) (bytes : List ℕ) (unread : Bool) → unread ≡ true → spec.Follows s bare bytes unread (outcome_of result) }
+    ensures follows { (s : grammar.Position) (bare : Bool) (bytes : List ℕ) (read_failed : Bool) → read_failed ≡ true → spec.Follows s bare bytes read_failed (outcome_of result) }
     ensures memory { error_kind e.now ≡ OutOfMemory → outcome_of result ≡ spec.out_of_memory }
     ensures other { error_kind e.now ≢ OutOfMemory → outcome_of result ≡ spec.failed }
 {

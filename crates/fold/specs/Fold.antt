@@ -1,7 +1,6 @@
 -- The value of an expression of integers, as an `i64` (Rust Reference, "Integer literal expressions", "Grouped expressions",
 -- "Negation operators", "Arithmetic and Logical Binary Operators", "Overflow").
 use Rattle.std.specs.Prelude.{◌≡◌, ℕ, zero, ◌^◌, Bool, false, nat_lt, if◌then◌else◌, List, [], ◌∷◌, Option, Some, None, option_map, option_and_then, ℤ, pos, negsuc, ◌+ℤ◌, ◌-ℤ◌, ◌*ℤ◌, neg_ℤ, int_div, int_rem}
-use Rattle.syn_tokens.specs.Lex.{Spells}
 use Rattle.syn_tokens.specs.Tok.{Tok, literal}
 use Rattle.syn_parts.specs.declared.label.LitKind.{LitKind}
 use Rattle.syn_parts.specs.declared.label.LitKind.TheVariants as kind
@@ -13,9 +12,8 @@ use Rattle.syn_grammar.specs.declared.kinds.BinKind.TheVariants as bin
 use Rattle.syn_grammar.specs.declared.kinds.Infix.TheVariants as inf
 use Rattle.syn_grammar.specs.declared.kinds.UnKind.{UnKind}
 use Rattle.syn_grammar.specs.declared.kinds.UnKind.TheVariants as un
-use Rattle.syn_grammar.specs.Place.{plain}
-use Rattle.syn_grammar.specs.Stands.{Stands}
 use Rattle.syn_grammar.specs.Tree.{Tree, leaf, lit, paren, adorned, lead, unary, mid}
+use Rattle.syn_expr.specs.Texts.{StandsFor}
 
 -- ---- literals
 
@@ -79,6 +77,6 @@ value_of (lead (unary k) gs t) = option_and_then (prefix_value k) (value_of t)
 value_of (mid x (inf.Binary k) y) = combined (binary_value k) (value_of x) (value_of y)
 value_of _ = None
 
--- Some tree stands for the tokens that the text is cut into, and this is its value.
+-- Some tree stands for the text, and this is its value.
 abbrev pub IsValueOf : List ℕ → Option ℤ → Type 0
-IsValueOf cs v = (t : Tree) × (ts : List Tok) × Spells cs ts × Stands plain ts t [] × (v ≡ value_of t)
+IsValueOf cs v = (t : Tree) × StandsFor cs t × (v ≡ value_of t)

@@ -1,11 +1,12 @@
 //! Folds constants: tells the value of each expression that is made of integers and arithmetic alone.
 #![tactic(auto)]
 
-ghost use Rattle.std.specs.Prelude.{◌≡◌, IfErr, IfOk, chars, option_and_then};
+ghost use Rattle.std.specs.Prelude.{◌≡◌, ◌⊎◌, IfErr, IfOk, chars, option_and_then};
 ghost use Rattle.syn_tokens.specs.View.{toks_of};
 ghost use Rattle.syn_lower_leaves.specs.View.{lit_of};
 ghost use Rattle.syn_op.specs.View.{bin_kind, un_kind};
 ghost use Rattle.syn_expr_all.specs.View.{tree_of};
+ghost use Rattle.syn_expr.specs.Texts.{NothingStands};
 ghost use Rattle.fold.specs.Fold as spec;
 
 use std::alloc::Global;
@@ -93,7 +94,8 @@ fn value(alloc: Global, expr: &Expr) -> Result<Option<i64>>
 
 /// The value of the expression that a text is.
 fn value_of_text(alloc: Global, text: &str) -> Result<Option<i64>>
-    ensures { IfOk result (λ v. spec.IsValueOf (chars text.now) v) }
+    ensures value { IfOk result (λ v. spec.IsValueOf (chars text.now) v) }
+    ensures refused { IfErr result (λ e. (e.kind ≡ ErrorKind.OutOfMemory) ⊎ NothingStands (chars text.now)) }
 {
     let held = parse_str::<HeldExpr>(alloc, text)?;
     value(alloc, &held.expr)

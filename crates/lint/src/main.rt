@@ -1,13 +1,14 @@
 //! A lint: tells of each expression whether it compares a value with itself.
 #![tactic(auto)]
 
-ghost use Rattle.std.specs.Prelude.{◌≡◌, true};
+ghost use Rattle.std.specs.Prelude.{◌≡◌, ◌⊎◌, IfErr, IfOk, chars, true};
 ghost use Rattle.syn_expr_all.specs.View.{tree_of};
-ghost use Rattle.lint.specs.Lint.{ComparesWithItself};
+ghost use Rattle.lint.specs.Lint.{ComparesWithItself, IsVerdictOn};
+ghost use Rattle.syn_expr.specs.Texts.{NothingStands};
 
 use std::alloc::Global;
 use std::io;
-use syn_expr::{Expr, HeldExpr, Precedence, Result, parse_str};
+use syn_expr::{ErrorKind, Expr, HeldExpr, Precedence, Result, parse_str};
 use syn_expr_laws::same::equal_expressions;
 
 /// Whether the same expression stands on both sides of a comparison.
@@ -26,14 +27,13 @@ fn compares_with_itself(expr: &Expr) -> bool
     }
 }
 
-/// What the lint says of a text.
-fn verdict(alloc: Global, text: &str) -> Result<&'static str> {
+/// Whether the expression of a text compares a value with itself.
+fn verdict(alloc: Global, text: &str) -> Result<bool>
+    ensures value { IfOk result (λ b. IsVerdictOn (chars text.now) b) }
+    ensures refused { IfErr result (λ e. (e.kind ≡ ErrorKind.OutOfMemory) ⊎ NothingStands (chars text.now)) }
+{
     let held = parse_str::<HeldExpr>(alloc, text)?;
-    Ok(if compares_with_itself(&held.expr) {
-        "compares a value with itself"
-    } else {
-        "is fine"
-    })
+    Ok(compares_with_itself(&held.expr))
 }
 
 fn main(rt: HostRuntime) -> io::Result<()> {
@@ -45,7 +45,8 @@ fn main(rt: HostRuntime) -> io::Result<()> {
         "a == a == a",
     ] {
         match verdict(rt.alloc(), text) {
-            Ok(verdict) => println!(rt; "{text} {verdict}")?,
+            Ok(true) => println!(rt; "{text} compares a value with itself")?,
+            Ok(false) => println!(rt; "{text} is fine")?,
             Err(e) => {
                 let (lo, hi, kind) = (e.span.lo, e.span.hi, e.kind);
                 println!(rt; "{text} is refused at {lo}..{hi}: {kind}")?;

@@ -43,7 +43,6 @@ needless s t r w a v h =
 
 pub is_sparing_there : (s : Position) (t : Tree) → IsSparing s t (own_tokens (printed_in s t))
 is_sparing_there s t w a v = (
-  printed_in s t,
   refl,
   record {
     same = printed_is_same (context_of s) t w;

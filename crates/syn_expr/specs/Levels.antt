@@ -14,6 +14,7 @@ use Rattle.syn_expr_kinds.specs.Node.{attributes_at}
 use Rattle.syn_expr.specs.declared.precedence.Precedence.{Precedence}
 use Rattle.syn_expr.specs.declared.precedence.Precedence.TheVariants as prec
 
+-- the level, by its name in the grammar
 abbrev pub level_of : Precedence → Level
 level_of prec.Jump = lev.Jump
 level_of prec.Assign = lev.Assign
@@ -45,9 +46,11 @@ abbrev pub behind : Level → Level
 behind lev.Unambiguous = lev.Prefix
 behind v = v
 
+-- one of the attributes is an outer one
 abbrev pub has_outer : List AttributeTree → Bool
 has_outer [] = false
 has_outer (a ∷ more) = not a.inner || has_outer more
 
+-- of a whole expression, behind its attributes
 abbrev pub tree_level : Tree → Level
 tree_level t = if has_outer (attributes_at t) then behind (kind_level (kind_at t)) else kind_level (kind_at t)

@@ -22,7 +22,7 @@ StandsBack s t ts =
 abbrev pub IsOwn : Tree → List Tok → Type 0
 IsOwn t ts = (l : List Tok) → Stands plain l t [] → plainly_adorned t ≡ true → ts ≡ own_tokens t
 
--- The tree t is printed as p, in which the added pairs are marked.
+-- p is t as it is printed; the pairs that were added are marked.
 pub record Spares (s : Position) (t p : Tree) : Type 0 where
   pub same : IsSameTree t p
   -- No pair is added exactly where the tree's own spelling, with its fill-ins, stands there for it.
@@ -31,10 +31,11 @@ pub record Spares (s : Position) (t p : Tree) : Type 0 where
   -- With one of the added pairs left out, it stands for no list.
   pub no_pair_spared : (q : Tree) (l rest : List Tok) → allows s rest ≡ true → OneLess p q → Stands (place_of s) l (clear q) rest → ⊥
 
--- They are those of a tree whose pairs are needed, but in a statement, and where operations have attributes.
+-- They are those of the tree that is printed, in which the added pairs are marked; and these pairs are needed, but in a
+-- statement, and where operations have attributes.
 abbrev pub IsSparing : Position → Tree → List Tok → Type 0
 IsSparing s t ts =
-    is_well_formed t ≡ true → plainly_adorned t ≡ true → is_sparing s ≡ true → (p : Tree) × (ts ≡ own_tokens p) × Spares s t p
+    is_well_formed t ≡ true → plainly_adorned t ≡ true → is_sparing s ≡ true → (ts ≡ own_tokens (printed_in s t)) × Spares s t (printed_in s t)
 
 -- all of this of the tokens of a tree that is printed in a position
 pub record PrintedAs (s : Position) (t : Tree) (ts : List Tok) : Type 0 where

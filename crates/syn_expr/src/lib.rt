@@ -1,5 +1,6 @@
 //! Expressions: the tree, its reader and its printer, as in syn. What a user names stands here at the root too, with the lower
-//! parts and with what `syn_tokens` has there: a program needs no other crate of these.
+//! parts and with what `syn_tokens` has there: a program that reads, changes and prints needs no other crate of these; what
+//! `==` says stands in `syn_expr_laws`.
 #![tactic(auto)]
 
 pub mod laws;
@@ -100,6 +101,8 @@ pub use syn_expr_queries::expr_trailing_brace;
 pub use syn_expr_queries::requires_comma_to_be_match_arm;
 pub use syn_expr_queries::requires_semi_to_be_stmt;
 pub use syn_expr_queries::trailing_unparameterized_path;
+pub use syn_grammar::kinds::Level;
+pub use syn_grammar::next::Context;
 pub use syn_lower::Abi;
 pub use syn_lower::AngleBracketedGenericArguments;
 pub use syn_lower::AssocType;
@@ -147,6 +150,7 @@ pub use syn_lower::TypeSlice;
 pub use syn_lower::TypeTraitObject;
 pub use syn_lower::TypeTuple;
 pub use syn_lower::attr;
+pub use syn_lower::ends_open;
 pub use syn_lower::generics;
 pub use syn_lower::lifetime;
 pub use syn_lower::lit;
@@ -155,6 +159,7 @@ pub use syn_lower::path;
 pub use syn_lower::print_qpath;
 pub use syn_lower::punctuated;
 pub use syn_lower::qpath;
+pub use syn_lower::qpath_is_read_back;
 pub use syn_lower::stmt;
 pub use syn_lower::ty;
 pub use syn_op::op;

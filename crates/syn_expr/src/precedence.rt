@@ -21,7 +21,7 @@ use syn_op::op::BinOp;
 /// The levels of binding, loosest first.
 #[derive(Clone, Copy, Debug, PartialEq, Eq, PartialOrd)]
 pub enum Precedence {
-    /// `return`, `break`, `yield` with a value, and closures.
+    /// `return`, `break`, `yield` with a value, and closures without an output.
     Jump,
     /// `=` and the compound assignments.
     Assign,
@@ -49,7 +49,7 @@ pub enum Precedence {
     Product,
     /// `as`
     Cast,
-    /// Prefix `*`, `!`, `-`, `&`.
+    /// Prefix `*`, `!`, `-`, `&`; and behind an outer attribute what is `Unambiguous` else.
     Prefix,
     /// Everything else.
     Unambiguous,
@@ -63,7 +63,7 @@ impl Precedence {
     pub fn of_binop(op: &BinOp) -> Precedence
         ensures { level_of result ≡ grammar.binary_level (bin_kind op.now) }
     {
-        of_level(binary_level(op.kind()))
+        Precedence::of_level(binary_level(op.kind()))
     }
 
     /// The level of an expression: that of its operator, of a prefix operator, a `let`, or a jump or a closure that ends with an
@@ -71,7 +71,31 @@ impl Precedence {
     pub fn of(expr: &Expr) -> Precedence
         ensures { level_of result ≡ tree_level (tree_of expr.now) }
     {
-        of_level(level_in(expr))
+        Precedence::of_level(level_in(expr))
+    }
+
+    /// A level by the name that it has here.
+    fn of_level(level: Level) -> Precedence
+        ensures { level_of result ≡ level }
+    {
+        match level {
+            Level::Jump => Precedence::Jump,
+            Level::Assign => Precedence::Assign,
+            Level::Range => Precedence::Range,
+            Level::Or => Precedence::Or,
+            Level::And => Precedence::And,
+            Level::Let => Precedence::Let,
+            Level::Compare => Precedence::Compare,
+            Level::BitOr => Precedence::BitOr,
+            Level::BitXor => Precedence::BitXor,
+            Level::BitAnd => Precedence::BitAnd,
+            Level::Shift => Precedence::Shift,
+            Level::Sum => Precedence::Sum,
+            Level::Product => Precedence::Product,
+            Level::Cast => Precedence::Cast,
+            Level::Prefix => Precedence::Prefix,
+            Level::Unambiguous => Precedence::Unambiguous,
+        }
     }
 
     /// The level, as the questions of `FixupContext` take it.
@@ -96,30 +120,6 @@ impl Precedence {
             Precedence::Prefix => Level::Prefix,
             Precedence::Unambiguous => Level::Unambiguous,
         }
-    }
-}
-
-/// A level by the name that it has here.
-fn of_level(level: Level) -> Precedence
-    ensures { level_of result ≡ level }
-{
-    match level {
-        Level::Jump => Precedence::Jump,
-        Level::Assign => Precedence::Assign,
-        Level::Range => Precedence::Range,
-        Level::Or => Precedence::Or,
-        Level::And => Precedence::And,
-        Level::Let => Precedence::Let,
-        Level::Compare => Precedence::Compare,
-        Level::BitOr => Precedence::BitOr,
-        Level::BitXor => Precedence::BitXor,
-        Level::BitAnd => Precedence::BitAnd,
-        Level::Shift => Precedence::Shift,
-        Level::Sum => Precedence::Sum,
-        Level::Product => Precedence::Product,
-        Level::Cast => Precedence::Cast,
-        Level::Prefix => Precedence::Prefix,
-        Level::Unambiguous => Precedence::Unambiguous,
     }
 }
 
@@ -148,7 +148,7 @@ fn behind_attributes(level: Level, outer: bool) -> Level
 
 /// Whether one of the attributes is an outer one.
 #[tactic(auto, unfolding(syn_expr_kinds::specs::Attrs::attrs_of))]
-fn any_outer(attrs: &Vec<Attribute>) -> bool
+fn has_outer(attrs: &Vec<Attribute>) -> bool
     ensures { result ≡ has_outer (attrs_of attrs.now) }
 {
     for attr in attrs {
@@ -169,7 +169,7 @@ fn level_in<E: HasNode + HasKind>(expr: &E) -> Level
         Attributes::None => level,
         Attributes::Before(attrs) | Attributes::Around(attrs) => behind_attributes(
             level,
-            any_outer(attrs),
+            has_outer(attrs),
         ),
     }
 }

@@ -17,8 +17,9 @@ use syn_expr_fixup::FixupContext;
 use syn_tokens::error::{ErrorKind, Result};
 use syn_tokens::tree::TokenStream;
 
-/// Puts the tokens of an expression at the end, with the parentheses that it needs where it is printed, and no others: those
-/// without which the tokens would be read as another tree, or not at all (Rust Reference, "Expression precedence").
+/// Puts the tokens of an expression at the end, with the parentheses that it needs where it is printed: those without which
+/// the tokens would be read as another tree, or not at all (Rust Reference, "Expression precedence"). In a statement a `let`
+/// and a macro with braces get some that could be spared, and so may an operation behind attributes.
 ///
 /// How tightly an operand has to bind there plays no part: who prints an operand asks that before. Memory may run out
 /// (`OutOfMemory`); a part of the tokens may then follow what was there.

@@ -30,7 +30,7 @@ read_same p l m n t u h s =
     (ap (λ q. q.0) e, ap (λ q. q.1) e)
 
 -- what stands is refused for want of memory alone
-memory_alone : (k : ErrorKind) → ((k ≢ OutOfMemory) → ⊥) → k ≡ OutOfMemory
+pub memory_alone : (k : ErrorKind) → ((k ≢ OutOfMemory) → ⊥) → k ≡ OutOfMemory
 memory_alone OutOfMemory h = refl
 memory_alone k h = absurd (h (λ e. cc))
 

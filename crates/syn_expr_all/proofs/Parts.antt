@@ -1,5 +1,5 @@
 -- Reading an arm, arms or a field is exact, for callers.
-use Rattle.std.proofs.Common.{◌≡◌, ◌≢◌, ◌+◌, ◌≤◌, List, [], Option, Some, None, ap, sym, ◌∙◌, refl, append-nil, arith}
+use Rattle.std.proofs.Common.{◌≡◌, ◌≢◌, ◌+◌, ◌≤◌, List, [], Option, Some, None, ap, sym, ◌∙◌, append-nil, arith}
 use Rattle.std.proofs.lemmas.Option.{none-some}
 use Rattle.syn_tokens.specs.Tok.{Tok, weight}
 use Rattle.syn_tokens.specs.Input.{IsTail}
@@ -20,6 +20,7 @@ use Rattle.syn_expr_blocks.proofs.Parts.{arm_is_less}
 use Rattle.syn_expr_kinds.specs.FieldStands.{FieldStands}
 use Rattle.syn_expr_lists.specs.Fields.{one_field}
 use Rattle.syn_expr_lists.proofs.FieldStands.{field_sound, field_complete, field_is_less}
+use Rattle.syn_expr_all.proofs.Exactly.{memory_alone}
 
 -- ---- of any reading
 
@@ -31,10 +32,6 @@ tail_of d = d.tail
 
 one_answer : {A : Type 0} {o : Option (A × List Tok)} {t u : A} {m n : List Tok} → o ≡ Some (t, m) → o ≡ Some (u, n) → (t ≡ u) × (m ≡ n)
 one_answer h g = let e = some_is (sym h ∙ g) in (ap (λ q. q.0) e, ap (λ q. q.1) e)
-
-memory_alone : (k : ErrorKind) → ((k ≢ OutOfMemory) → ⊥) → k ≡ OutOfMemory
-memory_alone OutOfMemory h = refl
-memory_alone k h = absurd (h (λ e. cc))
 
 refused_by : {A : Type 0} {o : Option (A × List Tok)} {u : A} {n : List Tok} (k : ErrorKind) → (k ≢ OutOfMemory → o ≡ None) → o ≡ Some (u, n) → k ≡ OutOfMemory
 refused_by {u = u} {n = n} k h g = memory_alone k (λ ne. none-some (u, n) (sym (h ne) ∙ g))

@@ -212,49 +212,49 @@ closure_map : (l : ExprClosure-F Expr Pat ExprClosure Arm ExprForLoop ExprLet Ex
 unfolding values trails
 closure_map x = search (rules, map-map, map-append, flat_map-map, flat_map-append)
 
-closure_out : (x : ExprClosure) → closure_of x ≡ closure_layer views (out-ExprClosure x)
+pub closure-is : (x : ExprClosure) → closure_of x ≡ closure_layer views (out-ExprClosure x)
 unfolding tree_of pat_of closure_of arm_of for_loop_of binding_of choice_of guard_of
-closure_out x = fold_out-ExprClosure Tree PatView Tree ArmView Tree Tree Tree PatView tree_step pat_step closure_step arm_step for_loop_step binding_step choice_step guard_step x ∙ closure_map (out-ExprClosure x)
+closure-is x = fold_out-ExprClosure Tree PatView Tree ArmView Tree Tree Tree PatView tree_step pat_step closure_step arm_step for_loop_step binding_step choice_step guard_step x ∙ closure_map (out-ExprClosure x)
 
 arm_map : (l : Arm-F Expr Pat ExprClosure Arm ExprForLoop ExprLet ExprMatch PatGuard) → arm_step (map-Arm Expr Pat ExprClosure Arm ExprForLoop ExprLet ExprMatch PatGuard Tree PatView Tree ArmView Tree Tree Tree PatView tree_of pat_of closure_of arm_of for_loop_of binding_of choice_of guard_of l) ≡ arm_layer views l
 unfolding values trails
 arm_map x = refl
 
-arm_out : (x : Arm) → arm_of x ≡ arm_layer views (out-Arm x)
+pub arm-is : (x : Arm) → arm_of x ≡ arm_layer views (out-Arm x)
 unfolding tree_of pat_of closure_of arm_of for_loop_of binding_of choice_of guard_of
-arm_out x = fold_out-Arm Tree PatView Tree ArmView Tree Tree Tree PatView tree_step pat_step closure_step arm_step for_loop_step binding_step choice_step guard_step x ∙ arm_map (out-Arm x)
+arm-is x = fold_out-Arm Tree PatView Tree ArmView Tree Tree Tree PatView tree_step pat_step closure_step arm_step for_loop_step binding_step choice_step guard_step x ∙ arm_map (out-Arm x)
 
 for_loop_map : (l : ExprForLoop-F Expr Pat ExprClosure Arm ExprForLoop ExprLet ExprMatch PatGuard) → for_loop_step (map-ExprForLoop Expr Pat ExprClosure Arm ExprForLoop ExprLet ExprMatch PatGuard Tree PatView Tree ArmView Tree Tree Tree PatView tree_of pat_of closure_of arm_of for_loop_of binding_of choice_of guard_of l) ≡ for_loop_layer views l
 unfolding values trails
 for_loop_map x = refl
 
-for_loop_out : (x : ExprForLoop) → for_loop_of x ≡ for_loop_layer views (out-ExprForLoop x)
+pub for_loop-is : (x : ExprForLoop) → for_loop_of x ≡ for_loop_layer views (out-ExprForLoop x)
 unfolding tree_of pat_of closure_of arm_of for_loop_of binding_of choice_of guard_of
-for_loop_out x = fold_out-ExprForLoop Tree PatView Tree ArmView Tree Tree Tree PatView tree_step pat_step closure_step arm_step for_loop_step binding_step choice_step guard_step x ∙ for_loop_map (out-ExprForLoop x)
+for_loop-is x = fold_out-ExprForLoop Tree PatView Tree ArmView Tree Tree Tree PatView tree_step pat_step closure_step arm_step for_loop_step binding_step choice_step guard_step x ∙ for_loop_map (out-ExprForLoop x)
 
 binding_map : (l : ExprLet-F Expr Pat ExprClosure Arm ExprForLoop ExprLet ExprMatch PatGuard) → binding_step (map-ExprLet Expr Pat ExprClosure Arm ExprForLoop ExprLet ExprMatch PatGuard Tree PatView Tree ArmView Tree Tree Tree PatView tree_of pat_of closure_of arm_of for_loop_of binding_of choice_of guard_of l) ≡ binding_layer views l
 unfolding values trails
 binding_map x = refl
 
-binding_out : (x : ExprLet) → binding_of x ≡ binding_layer views (out-ExprLet x)
+pub binding-is : (x : ExprLet) → binding_of x ≡ binding_layer views (out-ExprLet x)
 unfolding tree_of pat_of closure_of arm_of for_loop_of binding_of choice_of guard_of
-binding_out x = fold_out-ExprLet Tree PatView Tree ArmView Tree Tree Tree PatView tree_step pat_step closure_step arm_step for_loop_step binding_step choice_step guard_step x ∙ binding_map (out-ExprLet x)
+binding-is x = fold_out-ExprLet Tree PatView Tree ArmView Tree Tree Tree PatView tree_step pat_step closure_step arm_step for_loop_step binding_step choice_step guard_step x ∙ binding_map (out-ExprLet x)
 
 choice_map : (l : ExprMatch-F Expr Pat ExprClosure Arm ExprForLoop ExprLet ExprMatch PatGuard) → choice_step (map-ExprMatch Expr Pat ExprClosure Arm ExprForLoop ExprLet ExprMatch PatGuard Tree PatView Tree ArmView Tree Tree Tree PatView tree_of pat_of closure_of arm_of for_loop_of binding_of choice_of guard_of l) ≡ choice_layer views l
 unfolding values trails
 choice_map x = search (rules, map-map)
 
-choice_out : (x : ExprMatch) → choice_of x ≡ choice_layer views (out-ExprMatch x)
+pub choice-is : (x : ExprMatch) → choice_of x ≡ choice_layer views (out-ExprMatch x)
 unfolding tree_of pat_of closure_of arm_of for_loop_of binding_of choice_of guard_of
-choice_out x = fold_out-ExprMatch Tree PatView Tree ArmView Tree Tree Tree PatView tree_step pat_step closure_step arm_step for_loop_step binding_step choice_step guard_step x ∙ choice_map (out-ExprMatch x)
+choice-is x = fold_out-ExprMatch Tree PatView Tree ArmView Tree Tree Tree PatView tree_step pat_step closure_step arm_step for_loop_step binding_step choice_step guard_step x ∙ choice_map (out-ExprMatch x)
 
 guard_map : (l : PatGuard-F Expr Pat ExprClosure Arm ExprForLoop ExprLet ExprMatch PatGuard) → guard_step (map-PatGuard Expr Pat ExprClosure Arm ExprForLoop ExprLet ExprMatch PatGuard Tree PatView Tree ArmView Tree Tree Tree PatView tree_of pat_of closure_of arm_of for_loop_of binding_of choice_of guard_of l) ≡ guard_layer views l
 unfolding values trails
 guard_map x = refl
 
-guard_out : (x : PatGuard) → guard_of x ≡ guard_layer views (out-PatGuard x)
+pub guard-is : (x : PatGuard) → guard_of x ≡ guard_layer views (out-PatGuard x)
 unfolding tree_of pat_of closure_of arm_of for_loop_of binding_of choice_of guard_of
-guard_out x = fold_out-PatGuard Tree PatView Tree ArmView Tree Tree Tree PatView tree_step pat_step closure_step arm_step for_loop_step binding_step choice_step guard_step x ∙ guard_map (out-PatGuard x)
+guard-is x = fold_out-PatGuard Tree PatView Tree ArmView Tree Tree Tree PatView tree_step pat_step closure_step arm_step for_loop_step binding_step choice_step guard_step x ∙ guard_map (out-PatGuard x)
 
 -- ---- each kind of expression
 
@@ -436,23 +436,5 @@ pat-Guard x = pat_out (pt.Guard x) ∙ ap (pat_layer views) (pt.outs-Guard x)
 pub ruleset pats = (pat-Const, pat-Ident, pat-Lit, pat-Macro, pat-Or, pat-Paren, pat-Path, pat-Range, pat-Reference, pat-Rest, pat-Slice, pat-Struct, pat-Tuple, pat-TupleStruct, pat-Typed, pat-Wild, pat-Guard)
 
 -- ---- those that hold both expressions and patterns
-
-pub closure-is : (x : ExprClosure) → closure_of x ≡ closure_layer views (out-ExprClosure x)
-closure-is x = closure_out x
-
-pub arm-is : (x : Arm) → arm_of x ≡ arm_layer views (out-Arm x)
-arm-is x = arm_out x
-
-pub for_loop-is : (x : ExprForLoop) → for_loop_of x ≡ for_loop_layer views (out-ExprForLoop x)
-for_loop-is x = for_loop_out x
-
-pub binding-is : (x : ExprLet) → binding_of x ≡ binding_layer views (out-ExprLet x)
-binding-is x = binding_out x
-
-pub choice-is : (x : ExprMatch) → choice_of x ≡ choice_layer views (out-ExprMatch x)
-choice-is x = choice_out x
-
-pub guard-is : (x : PatGuard) → guard_of x ≡ guard_layer views (out-PatGuard x)
-guard-is x = guard_out x
 
 pub ruleset members = (closure-is, arm-is, for_loop-is, binding-is, choice-is, guard-is)

@@ -1,5 +1,6 @@
 -- The attributes of an expression, all that it has, and the same expression with others (Rust Reference, "Expression
--- attributes"): the outer ones stand before it; of blocks, loops and a `match` the inner ones stand first in the braces.
+-- attributes"): the outer ones stand before it; of blocks, loops and a `match` the inner ones stand first in the
+-- braces. Where an outer one stands behind an inner one, and of all other kinds, all stand before the expression.
 use Rattle.std.specs.Prelude.{List, [], ◌∷◌, ◌++◌, Option, Some, None}
 use Rattle.syn_parts.specs.Tree.{AttributeTree}
 use Rattle.syn_grammar.specs.Tree as e

@@ -1,6 +1,5 @@
-//! Expressions and the patterns in them, as in syn. Their names stand here at the root too, with those of tokens and of their
-//! readers that each program needs. Types, paths, attributes, literals and the other lower parts stand at the root of
-//! `syn_lower`.
+//! Expressions and the patterns in them, as in syn. Their names stand here at the root too. Types, paths, attributes, literals
+//! and the other lower parts stand at the root of `syn_lower`, tokens and their readers at that of `syn_tokens`.
 #![tactic(auto)]
 
 mod arm;
@@ -47,7 +46,3 @@ pub use syn_expr_parts::member::{Index, Member};
 pub use syn_expr_parts::modifiers::{BlockModifiers, ClosureModifiers};
 pub use syn_op::limits::RangeLimits;
 pub use syn_op::op::{BinOp, UnOp};
-pub use syn_tokens::{
-    Delimiter, Error, ErrorKind, Group, Ident, Literal, Parse, ParseBuffer, Punct, Result, Spacing,
-    Span, ToTokens, Token, TokenStream, TokenTree, lex, parse_str, parse2, to_text, token,
-};

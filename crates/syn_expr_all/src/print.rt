@@ -17,8 +17,9 @@ use syn_tokens::tree::TokenStream;
 impl HasPrinter for Expr {}
 
 /// Prints an expression where it stands, behind the tokens that are there: with the parentheses that it needs in this context
-/// and inside, and no others (Rust Reference, "Expression precedence"). It answers how often a node was visited, at most twice
-/// each; a count that reaches the greatest `u64` stays there.
+/// and inside (Rust Reference, "Expression precedence"); in a statement a `let` and a macro with braces get some that could be
+/// spared, and so may an operation behind attributes. It answers how often a node was visited, at most twice each; a count
+/// that reaches the greatest `u64` stays there.
 ///
 /// It is refused for want of memory alone; a part of the tokens may then stand behind the old ones.
 pub fn print_counted(expr: &Expr, tokens: &mut TokenStream, context: Context) -> Result<u64>

@@ -1,6 +1,9 @@
 pub mod Arms
 pub mod Calls
 pub mod Each
+pub mod FlatFill
+pub mod FlatWell
+pub mod FormedParens
 pub mod Kept
 pub mod Kids
 pub mod Nodes

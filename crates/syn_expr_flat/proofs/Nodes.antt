@@ -1,5 +1,5 @@
 -- Nodes that are made anew of operands without parentheses.
-use Rattle.std.specs.Prelude.{not, ◌&&◌}
+use Rattle.std.specs.Prelude.{not}
 use Rattle.std.proofs.Common.{◌≡◌, Bool, true, false, List, [], ◌∷◌, ◌++◌, Option, Some, None, refl, sym, ap, ◌∙◌}
 use Rattle.std.proofs.lemmas.List.{append-nil, append_assoc}
 use Rattle.std.specs.declared.vec.Vec.{Vec}
@@ -13,6 +13,7 @@ use Rattle.syn_grammar.specs.declared.kinds.Infix.{Infix}
 use Rattle.syn_grammar.specs.Tree as e
 use Rattle.syn_grammar.specs.Tree.{Tree, Leaf, leaf, paren, adorned, lead, mid, post, tail, frame, none, adorn, prepend, flatten}
 use Rattle.syn_grammar.specs.Stands.{is_verbatim_leaf}
+use Rattle.syn_grammar.proofs.Bools.{both_true, both}
 use Rattle.syn_expr_kinds.specs.Attrs.{attrs_of, all_outer}
 use Rattle.syn_expr_flat.specs.Outer.{HasOuterParens}
 use Rattle.syn_expr_flat.specs.Flat.{IsFlat, IsFlatBehind, before, behind}
@@ -128,19 +129,10 @@ more_before xs (b ∷ bs) (post x k) = refl
 more_before xs (b ∷ bs) (tail t k ks) = refl
 more_before xs (b ∷ bs) (frame k ks) = refl
 
-both_true : (a b : Bool) → (a && b) ≡ true → (a ≡ true) × (b ≡ true)
-both_true true true h = (refl, refl)
-both_true true false h = absurd cc
-both_true false b h = absurd cc
-
-both_hold : (a b : Bool) → a ≡ true → b ≡ true → (a && b) ≡ true
-both_hold true b p q = q
-both_hold false b p q = p
-
 outer_both : (xs ys : List AttributeTree) → all_outer xs ≡ true → all_outer ys ≡ true → all_outer (xs ++ ys) ≡ true
 outer_both [] ys h k = k
 outer_both (a ∷ more) ys h k =
-    let p = both_true (not a.inner) (all_outer more) h in both_hold (not a.inner) (all_outer (more ++ ys)) p.0 (outer_both more ys p.1 k)
+    let p = both_true (not a.inner) (all_outer more) h in both (not a.inner) (all_outer (more ++ ys)) p.0 (outer_both more ys p.1 k)
 
 -- what parentheses held, behind their attributes too
 pub at_paren : (ats : Option (Vec Attribute Global)) (own : List AttributeTree) (v : Vec Attribute Global) (t u : Tree)

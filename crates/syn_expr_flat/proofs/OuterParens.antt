@@ -12,7 +12,7 @@ use Rattle.syn_expr_kinds.specs.Attrs.{all_outer}
 use Rattle.syn_expr_kinds.proofs.Outers.{outer_behind}
 use Rattle.syn_expr_flat.specs.Outer.{AreOuter, HasOuterParens, HaveOuterParens}
 
-before_any : (ats : List AttributeTree) (t : Tree) → all_outer ats ≡ true → AreOuter ats t
+pub before_any : (ats : List AttributeTree) (t : Tree) → all_outer ats ≡ true → AreOuter ats t
 before_any ats (paren m t) h = h
 before_any ats _ h = tt
 

@@ -13,7 +13,7 @@ use Rattle.syn_expr_flat.specs.Flat.{IsFlat}
 use Rattle.syn_expr_flat.specs.Pats.{IsFlatPat, IsFlatFieldPat}
 use Rattle.syn_parts.specs.Tree.{PathTree}
 use Rattle.syn_pat_kinds.specs.declared.pat.FieldPatOf.{FieldPatOf}
-use Rattle.syn_expr_flat.proofs.Each.{each_none, each_both}
+use Rattle.syn_expr_flat.proofs.Each.{each_both}
 
 pub same_trees : {P : Type 0} (f : P → PatView) (xs ys : List P) → Each (λ x y. IsFlatPat (f x) (f y)) xs ys → map (λ p. (f p).tree) ys ≡ map (λ p. (f p).tree) xs
 unfolding Each
@@ -67,9 +67,3 @@ pub struct_flat : {P Q : Type 0} (f : P → PatView) (v : Vec Attribute Global) 
 struct_flat f v p rest x y h same =
     attributed v _ _ _ _ (ap (λ l. t.a_struct p (t.fields_of l) (trails y) rest) (same_fields f (values x) (values y) h) ∙ ap (λ b. t.a_struct p (t.fields_of (map (field_pat_of f) (values x))) b rest) same)
     (fields_flat f (values x) (values y) h)
-
--- a pattern that holds no other
-pub alone_flat : (v : Vec Attribute Global) (p : PatTree) → IsFlatPat (view_with v p []) (view_with v p [])
-alone_flat v p = (refl, each_none IsFlat)
-
-pub ruleset leaves = (alone_flat)

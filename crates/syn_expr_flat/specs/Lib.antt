@@ -1,5 +1,6 @@
 pub mod Calls
 pub mod Each
 pub mod Flat
+pub mod Laws
 pub mod Outer
 pub mod Pats

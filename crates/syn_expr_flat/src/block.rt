@@ -31,7 +31,7 @@ fn else_branch<E: HasExprTree, F: Fn(&mut E) -> Flattened<()>>(
     }
 }
 
-/// It without the parentheses in it, behind more attributes.
+/// An `if` without the parentheses in it, behind more attributes.
 pub fn if_expr<E: HasExprTree, F: Fn(&mut E) -> Flattened<()>>(
     x: &mut ExprIfOf<E>,
     attrs: Before,
@@ -48,7 +48,7 @@ pub fn if_expr<E: HasExprTree, F: Fn(&mut E) -> Flattened<()>>(
     Ok(())
 }
 
-/// It without the parentheses in it, behind more attributes.
+/// A `while` loop without the parentheses in it, behind more attributes.
 pub fn while_expr<E: HasExprTree, F: Fn(&mut E) -> Flattened<()>>(
     x: &mut ExprWhileOf<E>,
     attrs: Before,

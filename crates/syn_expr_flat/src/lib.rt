@@ -6,6 +6,7 @@ pub mod atom;
 pub mod attrs;
 pub mod block;
 pub mod jump;
+pub mod laws;
 pub mod leaf;
 pub mod operands;
 pub mod operation;
@@ -13,3 +14,5 @@ pub mod paren;
 pub mod pat;
 pub mod structure;
 pub mod trailer;
+
+pub use laws::{flattened_is_same, formed_parens_are_outer, read_parens_are_outer};

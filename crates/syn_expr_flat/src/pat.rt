@@ -38,7 +38,7 @@ fn sub_pattern<P: HasPatTree, F: Fn(&mut P) -> Flattened<()>>(
     }
 }
 
-/// It without the parentheses in its guards.
+/// A name, with what stands behind `@`, without the parentheses in its guards.
 pub fn ident<P: HasPatTree, F: Fn(&mut P) -> Flattened<()>>(
     x: &mut PatIdentOf<P>,
     flatten: F,
@@ -70,7 +70,7 @@ fn field_kind<P: HasPatTree, F: Fn(&mut P) -> Flattened<()>>(
     }
 }
 
-/// It without the parentheses in its guards.
+/// A struct pattern without the parentheses in its guards.
 pub fn struct_pat<P: HasPatTree, F: Fn(&mut P) -> Flattened<()>>(
     x: &mut PatStructOf<P>,
     flatten: F,
@@ -94,7 +94,7 @@ pub fn struct_pat<P: HasPatTree, F: Fn(&mut P) -> Flattened<()>>(
     Ok(())
 }
 
-/// It without the parentheses in its guards.
+/// Alternatives without the parentheses in their guards.
 pub fn or<P: HasPatTree, F: Fn(&mut P) -> Flattened<()>>(
     x: &mut PatOrOf<P>,
     flatten: F,
@@ -108,7 +108,7 @@ pub fn or<P: HasPatTree, F: Fn(&mut P) -> Flattened<()>>(
     Ok(())
 }
 
-/// It without the parentheses in its guards.
+/// A pattern in parentheses, which stay, without those in its guards.
 pub fn paren<P: HasPatTree, F: Fn(&mut P) -> Flattened<()>>(
     x: &mut PatParenOf<P>,
     flatten: F,
@@ -121,7 +121,7 @@ pub fn paren<P: HasPatTree, F: Fn(&mut P) -> Flattened<()>>(
     Ok(())
 }
 
-/// It without the parentheses in its guards.
+/// A reference pattern without the parentheses in its guards.
 pub fn reference<P: HasPatTree, F: Fn(&mut P) -> Flattened<()>>(
     x: &mut PatReferenceOf<P>,
     flatten: F,
@@ -134,7 +134,7 @@ pub fn reference<P: HasPatTree, F: Fn(&mut P) -> Flattened<()>>(
     Ok(())
 }
 
-/// It without the parentheses in its guards.
+/// A slice pattern without the parentheses in its guards.
 pub fn slice<P: HasPatTree, F: Fn(&mut P) -> Flattened<()>>(
     x: &mut PatSliceOf<P>,
     flatten: F,
@@ -148,7 +148,7 @@ pub fn slice<P: HasPatTree, F: Fn(&mut P) -> Flattened<()>>(
     Ok(())
 }
 
-/// It without the parentheses in its guards.
+/// A tuple pattern without the parentheses in its guards.
 pub fn tuple<P: HasPatTree, F: Fn(&mut P) -> Flattened<()>>(
     x: &mut PatTupleOf<P>,
     flatten: F,
@@ -162,7 +162,7 @@ pub fn tuple<P: HasPatTree, F: Fn(&mut P) -> Flattened<()>>(
     Ok(())
 }
 
-/// It without the parentheses in its guards.
+/// A tuple struct pattern without the parentheses in its guards.
 pub fn tuple_struct<P: HasPatTree, F: Fn(&mut P) -> Flattened<()>>(
     x: &mut PatTupleStructOf<P>,
     flatten: F,
@@ -176,7 +176,7 @@ pub fn tuple_struct<P: HasPatTree, F: Fn(&mut P) -> Flattened<()>>(
     Ok(())
 }
 
-/// It without the parentheses in its guards.
+/// A pattern with its type, without the parentheses in its guards.
 pub fn typed<P: HasPatTree, F: Fn(&mut P) -> Flattened<()>>(
     x: &mut PatTypeOf<P>,
     flatten: F,

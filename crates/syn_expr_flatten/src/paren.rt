@@ -9,8 +9,7 @@ use std::mem::replace;
 use syn_expr_all::expr::Expr;
 use syn_expr_all::held::HeldExpr;
 
-/// Puts what parentheses hold in their place, and lets them go, with the attributes before them. What is in no parentheses
-/// stays as it is.
+/// Puts what parentheses hold in their place, and lets them go, with the attributes before them.
 pub(crate) fn lift(x: &mut Expr)
     ensures { (p : ExprParenOf Expr) → x.old ≡ ex.Paren p → x.new ≡ p.expr.value }
 {

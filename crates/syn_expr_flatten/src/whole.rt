@@ -13,10 +13,12 @@ use syn_tokens::error::{ErrorKind, Result};
 /// in the guards of patterns, in the bodies of arms and closures. Blocks stay as they are, whose tokens are kept. The
 /// attributes that stood before parentheses come before those of the expression in them; before tokens that are kept
 /// they are the first of these tokens. This is said of expressions in which parentheses have outer attributes alone, as
-/// in all that are read.
+/// in all that are read (`read_parens_are_outer` of `syn_expr_flat`) and all that are well-formed
+/// (`formed_parens_are_outer`).
 ///
 /// It means the same: an expression is printed with the parentheses that it needs, whether it has any or not
-/// (`print_expr`).
+/// (`print_expr`). A well-formed one stays well-formed, and where no comma and no `..` is filled in to it when it is printed,
+/// none is then (`flattened_is_same`).
 ///
 /// Memory may run out (`OutOfMemory`): of what is left in the place of the expression nothing is then said.
 pub fn flatten_in_place(expr: &mut Expr) -> Result<()>

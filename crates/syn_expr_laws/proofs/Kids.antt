@@ -3,8 +3,9 @@ use Rattle.std.proofs.Common.{◌≡◌, Bool, true, false, List, [], ◌∷◌,
 use Rattle.syn_parts.specs.Tree.{AttributeTree, ReturnTree, default, given}
 use Rattle.syn_parts.specs.Pat.{PatTree, guarded}
 use Rattle.syn_grammar.specs.Tree as e
-use Rattle.syn_grammar.specs.Tree.{Tree, Kids, Ending, ClosureHead, none, kid}
+use Rattle.syn_grammar.specs.Tree.{Tree, Kids, ClosureHead, none, kid}
 use Rattle.syn_expr_kinds.specs.Pats.{ArmView, strays, guard_kids, arm_kids, arm_ending, arms, closure_by}
+use Rattle.syn_expr_laws.proofs.Shapes.{is_comma}
 
 -- ---- guards where none may stand
 
@@ -27,10 +28,6 @@ closure_once default (given q) a b gs hs x y h = absurd cc
 closure_once (given o) default a b gs hs x y h = absurd cc
 
 -- ---- arms
-
-is_comma : Ending → Bool
-is_comma e.comma = true
-is_comma _ = false
 
 -- the arms that these operands are, the first of which has these guards so far
 arms_in : List Tree → Kids → List ArmView

@@ -80,7 +80,7 @@ around_tie {A} {B} attrs {g} make plain once t =
 
 -- ---- operands with commas
 
-is_comma : Ending → Bool
+unfoldable pub is_comma : Ending → Bool
 is_comma e.comma = true
 is_comma _ = false
 

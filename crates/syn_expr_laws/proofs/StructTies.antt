@@ -3,7 +3,7 @@ use Rattle.std.proofs.Common.{◌≡◌, Bool, true, false, not, ◌&&◌, List,
 use denote.RattleType.{RattleType}
 use Rattle.syn_parts.specs.Tree.{QSelfTree, PathTree}
 use Rattle.syn_grammar.specs.Tree as e
-use Rattle.syn_grammar.specs.Tree.{Tree, Kids, Ending, frame, kid}
+use Rattle.syn_grammar.specs.Tree.{Tree, Kids, frame, kid}
 use Rattle.syn_lower_leaves.specs.Equal.{IsEqualityOf}
 use Rattle.syn_lower_leaves.specs.View.{mapped}
 use Rattle.syn_lower_leaves.proofs.Ties.{both_tie, on_tie, into_tie, some_tie, pair_path}
@@ -13,12 +13,8 @@ use Rattle.syn_lower_laws.proofs.Sames.{path_tie}
 use Rattle.syn_expr_kinds.specs.View.{boxed, FieldView, fields, option_kid, field_value_of, expr_struct_of}
 use Rattle.syn_expr_kinds.specs.declared.structure.ExprStructOf.{ExprStructOf}
 use Rattle.syn_expr_kinds.specs.contracts.structure.ExprStructOfPartialEq.TheImpl as struct_test
-use Rattle.syn_expr_laws.proofs.Shapes.{behind_tie, boxed_tie, trailed}
+use Rattle.syn_expr_laws.proofs.Shapes.{behind_tie, boxed_tie, is_comma, trailed}
 use Rattle.syn_expr_laws.proofs.KindTies.{no_dict, qself_or_tie, field_value_kind_tie}
-
-is_comma : Ending → Bool
-is_comma e.comma = true
-is_comma _ = false
 
 fields_in : Kids → List FieldView
 fields_in (kid (e.field_value a m c) d x ks) = record { attrs = a; member = m; colon = c; value = x } ∷ fields_in ks

@@ -1,4 +1,4 @@
-//! What follows of the contracts of `syn_expr` and of the derived `==` together, as contracts of functions that do nothing.
+//! What follows of the derived `==` of `syn_expr_all`, as contracts of functions that do nothing.
 #![tactic(auto)]
 
 pub mod same;

@@ -5,6 +5,7 @@ use Rattle.std.proofs.lemmas.List.{map-append}
 use Rattle.syn_parts.specs.Own.{count_segments}
 use Rattle.syn_parts.specs.Tree as t
 use Rattle.syn_parts.specs.Tree.{TypeTree, SegmentTree, BoundTree}
+use Rattle.syn_grammar.proofs.Bools.{and_false}
 use Rattle.syn_grammar.specs.Query.{segments_unparameterized, arguments_unparameterized, bounds_unparameterized, bound_unparameterized, segments_brace, arguments_brace, bounds_brace, bound_brace, type_brace}
 
 -- a name without arguments
@@ -40,10 +41,6 @@ pub ruleset names = (map-append, last_segment_name, last_bound_name)
 pub ruleset braces = (map-append, last_segment_brace, last_bound_brace)
 
 -- a path that a type qualifies: all of its segments stand before the `>`, or some behind it
-
-and_false : (b : Bool) → (b && false) ≡ false
-and_false true = refl
-and_false false = refl
 
 pub inside_brace : (b l a c : Bool) (x : TypeTree) (n : ℕ) (xs : List SegmentTree) → length xs ≤ n → false ≡ type_brace b (t.path (t.qself x n a) l (t.segments_of xs) c)
 inside_brace b l a c x n xs h =

@@ -5,10 +5,11 @@ use Rattle.syn_expr_notes.specs.Kind.{kind_at}
 use Rattle.syn_grammar.specs.Query.{leaf_brace, lead_brace, post_brace, return_brace, tree_brace, kids_brace}
 use Rattle.syn_grammar.specs.Tree as e
 use Rattle.syn_grammar.specs.Tree.{Tree, Kids, Body, Piece, Ending, Leaf, Lead, Post, Frame, leaf, paren, adorned, lead, mid, post, tail, frame, none, kid}
+use Rattle.syn_grammar.proofs.Bools.{and_true, and_false}
 use Rattle.syn_parts.specs.Form.{is_nil}
 use Rattle.syn_expr_kinds.specs.Node.{framed, attributes_at, without_strays, operands_at, leaf_at, lead_at, post_at, frame_at, last_of}
 use Rattle.syn_expr_queries.specs.Frames.{is_body, is_loop, is_if, is_match, frame_holds, frames_hold}
-use Rattle.syn_expr_queries.specs.Node.{is_operation, asked}
+use Rattle.syn_expr_queries.specs.Node.{is_mid, asked}
 use Rattle.syn_expr_queries.specs.Right.{frame_right, NodeTells}
 use Rattle.syn_expr_queries.specs.declared.right.Right.{Right}
 use Rattle.syn_expr_queries.specs.declared.right.Right.TheVariants as right
@@ -163,14 +164,6 @@ tells_adorned : (r : Right) (b : Bool) (a : AttributeTree) (more : List Attribut
 tells_adorned (right.Told d) b a more t h = h
 tells_adorned (right.Operand d) b a more t h = h
 
-and_true : (b : Bool) → (b && true) ≡ b
-and_true true = refl
-and_true false = refl
-
-and_false : (b : Bool) → (b && false) ≡ false
-and_false true = refl
-and_false false = refl
-
 pub right-leaf : (b : Bool) (k : Leaf) (t : Tree) → leaf_at t ≡ Some k → leaf_brace (b && is_nil (attributes_at t)) k ≡ tree_brace b t
 right-leaf b k (leaf l) h = rw (and_true b) cc
 right-leaf b k (paren m t) h = absurd cc
@@ -191,15 +184,15 @@ right-lead b k (post x l) h = absurd cc
 right-lead b k (tail x l ks) h = absurd cc
 right-lead b k (frame l ks) h = absurd cc
 
-pub right-operation : (b : Bool) (t : Tree) → is_operation (kind_at t) ≡ true → asked (tree_brace false) (last_of (operands_at t)) ≡ tree_brace b t
-right-operation b (leaf l) h = absurd cc
-right-operation b (paren m t) h = absurd cc
-right-operation b (adorned a more t) h = right-operation false t h
-right-operation b (lead l gs t) h = absurd cc
-right-operation b (mid x l y) h = refl
-right-operation b (post x l) h = absurd cc
-right-operation b (tail x l ks) h = absurd cc
-right-operation b (frame l ks) h = absurd cc
+pub right-mid : (b : Bool) (t : Tree) → is_mid (kind_at t) ≡ true → asked (tree_brace false) (last_of (operands_at t)) ≡ tree_brace b t
+right-mid b (leaf l) h = absurd cc
+right-mid b (paren m t) h = absurd cc
+right-mid b (adorned a more t) h = right-mid false t h
+right-mid b (lead l gs t) h = absurd cc
+right-mid b (mid x l y) h = refl
+right-mid b (post x l) h = absurd cc
+right-mid b (tail x l ks) h = absurd cc
+right-mid b (frame l ks) h = absurd cc
 
 pub right-post : (b : Bool) (k : Post) (t : Tree) → post_at t ≡ Some k → post_brace k ≡ tree_brace b t
 right-post b k (leaf l) h = absurd cc
@@ -222,7 +215,7 @@ right-frame b k (tail x l ks) h g = absurd cc
 right-frame b k (frame l ks) h g = let q : l ≡ k.0 = cc in subst (λ f. NodeTells (frame_right f) b (frame l ks)) q (frame_last b l ks g)
 
 -- parentheses and trailers
-pub right-other : (b : Bool) (t : Tree) → leaf_at t ≡ None → lead_at t ≡ None → post_at t ≡ None → frame_at t ≡ None → is_operation (kind_at t) ≡ false → false ≡ tree_brace b t
+pub right-other : (b : Bool) (t : Tree) → leaf_at t ≡ None → lead_at t ≡ None → post_at t ≡ None → frame_at t ≡ None → is_mid (kind_at t) ≡ false → false ≡ tree_brace b t
 right-other b (leaf l) h i j m n = absurd cc
 right-other b (paren m t) h i j k n = refl
 right-other b (adorned a more t) h i j m n = right-other false t h i j m n
@@ -232,4 +225,4 @@ right-other b (post x l) h i j m n = absurd cc
 right-other b (tail x l ks) h i j m n = refl
 right-other b (frame l ks) h i j m n = absurd cc
 
-pub ruleset rights = (right-leaf, right-lead, right-operation, right-post, right-other)
+pub ruleset rights = (right-leaf, right-lead, right-mid, right-post, right-other)

@@ -1,6 +1,6 @@
 -- What an expression holds in places of their own: the condition of an `if`, of a loop and of a `match` has its braces behind
 -- it, and a closure with an output has its body alone.
-use Rattle.std.proofs.Common.{◌≡◌, true, List, [], ◌∷◌, Option, Some, None, refl, sym, subst}
+use Rattle.std.proofs.Common.{◌≡◌, true, List, [], ◌∷◌, Option, Some, None, refl, ap, sym, ◌∙◌, subst}
 use Rattle.std.specs.Prelude.{map}
 use Rattle.std.specs.declared.boxed.Box.{Box}
 use Rattle.std.specs.declared.alloc.Global.{Global}
@@ -20,16 +20,17 @@ use Rattle.syn_expr_kinds.specs.declared.pattern.ExprLetOf.{ExprLetOf}
 use Rattle.syn_expr_kinds.specs.declared.pattern.ExprMatchOf.{ExprMatchOf}
 use Rattle.syn_expr_kinds.specs.View.{body_of, else_of, range_between, jump_with}
 use Rattle.syn_expr_queries.specs.Frames.{is_body, is_loop, frames_hold}
-use Rattle.syn_expr_all.specs.declared.expr.Expr.{Expr, map-Expr, fold_out-Expr, out-Expr}
-use Rattle.syn_expr_all.specs.declared.expr.Expr.TheOpen.{Expr-F, ExprClosure-F, ExprForLoop-F, ExprLet-F, ExprMatch-F}
+use Rattle.syn_expr_all.specs.declared.expr.Expr.{Expr, out-Expr}
+use Rattle.syn_expr_all.specs.declared.expr.Expr.TheOpen.{Expr-F}
 use Rattle.syn_expr_all.specs.declared.pat.Pat.{Pat}
 use Rattle.syn_expr_all.specs.declared.pat.PatGuard.{PatGuard}
-use Rattle.syn_expr_all.specs.declared.closure.ExprClosure.{ExprClosure, map-ExprClosure, out-ExprClosure, fold_out-ExprClosure}
+use Rattle.syn_expr_all.specs.declared.closure.ExprClosure.{ExprClosure, out-ExprClosure}
 use Rattle.syn_expr_all.specs.declared.control.Arm.{Arm}
-use Rattle.syn_expr_all.specs.declared.control.ExprForLoop.{ExprForLoop, map-ExprForLoop, out-ExprForLoop, fold_out-ExprForLoop}
-use Rattle.syn_expr_all.specs.declared.control.ExprLet.{ExprLet, map-ExprLet, out-ExprLet, fold_out-ExprLet}
-use Rattle.syn_expr_all.specs.declared.control.ExprMatch.{ExprMatch, map-ExprMatch, out-ExprMatch, fold_out-ExprMatch}
-use Rattle.syn_expr_all.specs.View.{shown, closure_parts, for_loop_parts, binding_parts, choice_parts, tree_of, pat_of, closure_of, arm_of, for_loop_of, binding_of, choice_of, guard_of, tree_step, pat_step, closure_step, arm_step, for_loop_step, binding_step, choice_step, guard_step}
+use Rattle.syn_expr_all.specs.declared.control.ExprForLoop.{ExprForLoop, out-ExprForLoop}
+use Rattle.syn_expr_all.specs.declared.control.ExprLet.{ExprLet, out-ExprLet}
+use Rattle.syn_expr_all.specs.declared.control.ExprMatch.{ExprMatch, out-ExprMatch}
+use Rattle.syn_expr_all.specs.View.{closure_parts, for_loop_parts, binding_parts, choice_parts, tree_layer, tree_of, pat_of, closure_of, arm_of, for_loop_of, binding_of, choice_of, views}
+use Rattle.syn_expr_all.proofs.TreeOf.{tree_out, closure-is, for_loop-is, binding-is, choice-is}
 
 record IsFramed (t : Tree) : Type 0 where
   holds : frames_hold t ≡ true
@@ -86,37 +87,21 @@ binding_kind f g x = let p = g x.pat.value in behind (attrs_of x.attrs) (lead (e
 choice_kind : {E A : Type 0} (f : E → Tree) (a : A → ArmView) (x : ExprMatchOf E A) → IsFramed (expr_match_of f a x)
 choice_kind f a x = behind (outer_of x.attrs) (frame e.choice (kid e.scrutinee (e.opened (inner_of x.attrs)) (f x.expr.value) (arms (map a x.arms.items)))) (record { holds = refl })
 
-closure_layer_framed : (l : ExprClosure-F Tree PatView Tree ArmView Tree Tree Tree PatView) → IsFramed (closure_step l)
-closure_layer_framed l = closure_kind shown.tree shown.pat (closure_parts l)
-
 closure_framed : (x : ExprClosure) → IsFramed (closure_of x)
-unfolding tree_of pat_of closure_of arm_of for_loop_of binding_of choice_of guard_of
-closure_framed x = subst (λ t. IsFramed t) (sym (fold_out-ExprClosure Tree PatView Tree ArmView Tree Tree Tree PatView tree_step pat_step closure_step arm_step for_loop_step binding_step choice_step guard_step x)) (closure_layer_framed (map-ExprClosure Expr Pat ExprClosure Arm ExprForLoop ExprLet ExprMatch PatGuard Tree PatView Tree ArmView Tree Tree Tree PatView tree_of pat_of closure_of arm_of for_loop_of binding_of choice_of guard_of (out-ExprClosure x)))
-
-for_loop_layer_framed : (l : ExprForLoop-F Tree PatView Tree ArmView Tree Tree Tree PatView) → IsFramed (for_loop_step l)
-for_loop_layer_framed l = for_loop_kind shown.tree shown.pat (for_loop_parts l)
+closure_framed x = subst (λ t. IsFramed t) (sym (closure-is x)) (closure_kind tree_of pat_of (closure_parts (out-ExprClosure x)))
 
 for_loop_framed : (x : ExprForLoop) → IsFramed (for_loop_of x)
-unfolding tree_of pat_of closure_of arm_of for_loop_of binding_of choice_of guard_of
-for_loop_framed x = subst (λ t. IsFramed t) (sym (fold_out-ExprForLoop Tree PatView Tree ArmView Tree Tree Tree PatView tree_step pat_step closure_step arm_step for_loop_step binding_step choice_step guard_step x)) (for_loop_layer_framed (map-ExprForLoop Expr Pat ExprClosure Arm ExprForLoop ExprLet ExprMatch PatGuard Tree PatView Tree ArmView Tree Tree Tree PatView tree_of pat_of closure_of arm_of for_loop_of binding_of choice_of guard_of (out-ExprForLoop x)))
-
-binding_layer_framed : (l : ExprLet-F Tree PatView Tree ArmView Tree Tree Tree PatView) → IsFramed (binding_step l)
-binding_layer_framed l = binding_kind shown.tree shown.pat (binding_parts l)
+for_loop_framed x = subst (λ t. IsFramed t) (sym (for_loop-is x)) (for_loop_kind tree_of pat_of (for_loop_parts (out-ExprForLoop x)))
 
 binding_framed : (x : ExprLet) → IsFramed (binding_of x)
-unfolding tree_of pat_of closure_of arm_of for_loop_of binding_of choice_of guard_of
-binding_framed x = subst (λ t. IsFramed t) (sym (fold_out-ExprLet Tree PatView Tree ArmView Tree Tree Tree PatView tree_step pat_step closure_step arm_step for_loop_step binding_step choice_step guard_step x)) (binding_layer_framed (map-ExprLet Expr Pat ExprClosure Arm ExprForLoop ExprLet ExprMatch PatGuard Tree PatView Tree ArmView Tree Tree Tree PatView tree_of pat_of closure_of arm_of for_loop_of binding_of choice_of guard_of (out-ExprLet x)))
-
-choice_layer_framed : (l : ExprMatch-F Tree PatView Tree ArmView Tree Tree Tree PatView) → IsFramed (choice_step l)
-choice_layer_framed l = choice_kind shown.tree shown.arm (choice_parts l)
+binding_framed x = subst (λ t. IsFramed t) (sym (binding-is x)) (binding_kind tree_of pat_of (binding_parts (out-ExprLet x)))
 
 choice_framed : (x : ExprMatch) → IsFramed (choice_of x)
-unfolding tree_of pat_of closure_of arm_of for_loop_of binding_of choice_of guard_of
-choice_framed x = subst (λ t. IsFramed t) (sym (fold_out-ExprMatch Tree PatView Tree ArmView Tree Tree Tree PatView tree_step pat_step closure_step arm_step for_loop_step binding_step choice_step guard_step x)) (choice_layer_framed (map-ExprMatch Expr Pat ExprClosure Arm ExprForLoop ExprLet ExprMatch PatGuard Tree PatView Tree ArmView Tree Tree Tree PatView tree_of pat_of closure_of arm_of for_loop_of binding_of choice_of guard_of (out-ExprMatch x)))
+choice_framed x = subst (λ t. IsFramed t) (sym (choice-is x)) (choice_kind tree_of arm_of (choice_parts (out-ExprMatch x)))
 
 -- ---- each kind
 
-layer_framed : (l : Expr-F Expr Pat ExprClosure Arm ExprForLoop ExprLet ExprMatch PatGuard) → IsFramed (tree_step (map-Expr Expr Pat ExprClosure Arm ExprForLoop ExprLet ExprMatch PatGuard Tree PatView Tree ArmView Tree Tree Tree PatView tree_of pat_of closure_of arm_of for_loop_of binding_of choice_of guard_of l))
+layer_framed : (l : Expr-F Expr Pat ExprClosure Arm ExprForLoop ExprLet ExprMatch PatGuard) → IsFramed (tree_layer views l)
 layer_framed (Expr-F.Array x) = behind (attrs_of x.attrs) _ (record { holds = refl })
 layer_framed (Expr-F.Assign x) = behind (attrs_of x.attrs) _ (record { holds = refl })
 layer_framed (Expr-F.Async x) = behind (attrs_of x.attrs) _ (record { holds = refl })
@@ -132,7 +117,7 @@ layer_framed (Expr-F.Continue x) = behind (attrs_of x.attrs) _ (record { holds =
 layer_framed (Expr-F.Field x) = behind (attrs_of x.attrs) _ (record { holds = refl })
 layer_framed (Expr-F.ForLoop x) = for_loop_framed x
 layer_framed (Expr-F.Group x) = behind (attrs_of x.attrs) _ (record { holds = refl })
-layer_framed (Expr-F.If x) = behind (attrs_of x.attrs) _ (if_framed _ _ _ _)
+layer_framed (Expr-F.If x) = behind (attrs_of x.attrs) _ (if_framed tree_of _ _ x.else_branch)
 layer_framed (Expr-F.Index x) = behind (attrs_of x.attrs) _ (record { holds = refl })
 layer_framed (Expr-F.Infer x) = behind (attrs_of x.attrs) _ (record { holds = refl })
 layer_framed (Expr-F.Let x) = binding_framed x
@@ -158,9 +143,5 @@ layer_framed (Expr-F.While x) = behind (outer_of x.attrs) _ (record { holds = re
 layer_framed (Expr-F.Yield x) = behind (attrs_of x.attrs) _ (jump_framed _ _)
 layer_framed (Expr-F.Verbatim x) = record { holds = refl }
 
-expr_framed : (x : Expr) → IsFramed (tree_of x)
-unfolding tree_of pat_of closure_of arm_of for_loop_of binding_of choice_of guard_of
-expr_framed x = subst (λ t. IsFramed t) (sym (fold_out-Expr Tree PatView Tree ArmView Tree Tree Tree PatView tree_step pat_step closure_step arm_step for_loop_step binding_step choice_step guard_step x)) (layer_framed (out-Expr x))
-
 pub tree_framed : (x : Expr) → frames_hold (tree_of x) ≡ true
-tree_framed x = (expr_framed x).holds
+tree_framed x = ap frames_hold (tree_out x) ∙ (layer_framed (out-Expr x)).holds

@@ -1,8 +1,8 @@
 -- What is told of a node by what is lent of it.
 use Rattle.std.specs.Prelude.{Bool, true, false, List, Option, Some, None}
 use Rattle.syn_tokens.specs.Tok.{Tok}
+use Rattle.syn_grammar.specs.Head.{from_verbatim}
 use Rattle.syn_grammar.specs.Query.{is_cast_op}
-use Rattle.syn_grammar.specs.Tree as e
 use Rattle.syn_grammar.specs.Tree.{Tree, Leaf}
 use Rattle.syn_expr_notes.specs.Label.{leaf_labelled, frame_labelled, is_cast_post}
 use Rattle.syn_expr_notes.specs.declared.kind.NodeKind.{NodeKind}
@@ -29,9 +29,9 @@ word_behind (node.Post k) = Some (is_cast_post k)
 word_behind (node.Tail k) = Some false
 word_behind _ = None
 
-abbrev pub is_operation : NodeKind → Bool
-is_operation (node.Mid op) = true
-is_operation _ = false
+abbrev pub is_mid : NodeKind → Bool
+is_mid (node.Mid op) = true
+is_mid _ = false
 
 -- ---- operands
 
@@ -42,13 +42,9 @@ asked f (Some t) = f t
 
 -- ---- kept tokens
 
-abbrev pub kept_of : Leaf → Option (List Tok)
-kept_of (e.verbatim ts) = Some ts
-kept_of _ = None
-
 abbrev pub kept_in : Option Leaf → Option (List Tok)
 kept_in None = None
-kept_in (Some k) = kept_of k
+kept_in (Some k) = from_verbatim k
 
 abbrev pub kept_at : Tree → Option (List Tok)
 kept_at t = kept_in (leaf_at t)

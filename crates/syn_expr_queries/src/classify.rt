@@ -44,7 +44,7 @@ pub fn trailing_unparameterized_path(ty: &Type) -> bool
 }
 
 /// Whether the tokens of an expression begin with a label (Rust Reference, "Loop expressions"), as those of `'a: loop {}` do,
-/// and those of `'a: {} + b`. Before attributes none is first.
+/// and those of `'a: {} + b`. Behind attributes none is first: their `#` is.
 pub fn expr_leading_label<E: HasShape>(expr: &E) -> bool
     ensures { result ≡ query.leading_label (E.tree expr.now) }
 {

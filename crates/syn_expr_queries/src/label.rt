@@ -2,7 +2,8 @@
 
 ghost use Rattle.std.specs.Prelude.{◌≡◌};
 ghost use Rattle.syn_expr_kinds.specs.Node.{leaf_of};
-ghost use Rattle.syn_expr_queries.specs.Node.{kept_at, kept_of, is_labelled, word_behind};
+ghost use Rattle.syn_expr_queries.specs.Node.{kept_at, is_labelled, word_behind};
+ghost use Rattle.syn_grammar.specs.Head.{from_verbatim};
 ghost use Rattle.syn_grammar.specs.Query as query;
 ghost use Rattle.syn_lower_leaves.specs.View.{mapped};
 
@@ -14,7 +15,7 @@ use syn_tokens::tree::TokenStream;
 
 /// The tokens that are kept.
 fn kept(leaf: Leaf<'_>) -> Option<&'_ TokenStream>
-    ensures { mapped (λ ts. ts.now) result ≡ kept_of (leaf_of leaf.entry) }
+    ensures { mapped (λ ts. ts.now) result ≡ from_verbatim (leaf_of leaf.entry) }
 {
     match leaf {
         Leaf::Verbatim(tokens) => Some(tokens),

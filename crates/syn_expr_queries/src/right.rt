@@ -2,7 +2,7 @@
 
 ghost use Rattle.std.specs.Prelude.{◌≡◌, ◌&&◌};
 ghost use Rattle.syn_expr_kinds.specs.Node.{before_of, leaf_of, lead_of, post_of, frame_of};
-ghost use Rattle.syn_expr_queries.specs.Node.{is_operation};
+ghost use Rattle.syn_expr_queries.specs.Node.{is_mid};
 ghost use Rattle.syn_expr_queries.specs.Right.{NodeTells, frame_right};
 ghost use Rattle.syn_grammar.specs.Query as query;
 ghost use Rattle.syn_lower.specs.View.{return_of};
@@ -93,8 +93,8 @@ fn frame_right<P>(frame: Frame<'_, P>) -> Right
 }
 
 /// Whether a node of this kind is an operator between two operands.
-fn is_operation(kind: NodeKind) -> bool
-    ensures { result ≡ is_operation kind }
+fn is_mid(kind: NodeKind) -> bool
+    ensures { result ≡ is_mid kind }
 {
     matches!(kind, NodeKind::Mid(_))
 }
@@ -124,7 +124,7 @@ fn node_right<E: HasFrames>(expr: &E, before: bool) -> Right
     if let Some(frame) = expr.frame() {
         return frame_right(frame);
     }
-    if is_operation(expr.kind()) {
+    if is_mid(expr.kind()) {
         Right::Operand(false)
     } else {
         Right::Told(false)

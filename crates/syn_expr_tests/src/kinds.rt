@@ -4,7 +4,7 @@ use std::alloc::Global;
 use std::test::Fail;
 use syn_expr::{Error, Expr, HeldExpr, Result, ToTokens, TokenStream, parse_str, to_text};
 
-/// A text of each kind but kept tokens, and of some behind attributes.
+/// A text of each kind but kept tokens and invisible groups, and of some behind attributes.
 const KINDS: [&str; 49] = [
     "[a, b]",
     "a = b",
@@ -112,7 +112,7 @@ fn put_kind(expr: &Expr, tokens: &mut TokenStream) -> Result<()> {
     }
 }
 
-/// Whether the kind of this text, and the expression, are both printed as the text.
+/// Whether the struct of its kind and the expression of this text are printed as the same tokens.
 fn is_its_kind(alloc: Global, text: &str) -> std::result::Result<bool, Error> {
     let held = parse_str::<HeldExpr>(alloc, text)?;
     let mut kind = TokenStream::new(alloc);

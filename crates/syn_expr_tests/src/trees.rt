@@ -1,5 +1,5 @@
-//! The trees that texts are read as. Each stands beside the same text with a pair of parentheses round each operand that
-//! is no word, number or block.
+//! The trees that texts are read as. Each stands beside the same text with a pair of parentheses round each operand, but
+//! for some that are a word, a number or a block.
 
 use crate::small::{flat, left_by};
 use std::alloc::Global;

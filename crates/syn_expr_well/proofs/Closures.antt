@@ -7,6 +7,7 @@ use Rattle.std.specs.declared.alloc.Global.{Global}
 use Rattle.syn_parts.specs.Fits.{ends_well, fits_if, lifetimes_fit, output_fits}
 use Rattle.syn_parts.specs.Form.{is_nil}
 use Rattle.syn_grammar.specs.WellFormed.{inputs_fit, head_fits}
+use Rattle.syn_grammar.proofs.Bools.{and_true, and_false}
 use Rattle.syn_lower_lists.specs.declared.punctuated.Punctuated.{Punctuated}
 use Rattle.syn_lower_lists.specs.declared.ty.BoundLifetimes.{BoundLifetimes}
 use Rattle.syn_lower_lists.specs.View.{values, trails, last_of, is_some_pair, mapped, lifetimes_of}
@@ -20,13 +21,9 @@ use Rattle.syn_expr_well.specs.Alone.{argument_fits}
 
 -- ---- tests together
 
-pub and_true : (b : Bool) → (b && true) ≡ b
-and_true true = refl
-and_true false = refl
-
-pub and_false : (b : Bool) → (b && false) ≡ false
-and_false true = refl
-and_false false = refl
+pub and_assoc : (a b c : Bool) → ((a && b) && c) ≡ (a && (b && c))
+and_assoc true b c = refl
+and_assoc false b c = refl
 
 pub four : (a b c d : Bool) → ((a && b) && (c && d)) ≡ ((a && c) && (b && d))
 four true true c d = refl

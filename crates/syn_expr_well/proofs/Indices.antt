@@ -1,6 +1,6 @@
 -- Each index is read back from its own digits.
 use Rattle.std.proofs.Common.{◌≡◌, ℕ, zero, suc, ◌+◌, ◌-◌, ◌*◌, ◌/◌, ◌%◌, ◌^◌, ◌<◌, ◌≤◌, Bool, true, false, [], ◌∷◌, refl, ap, ◌∙◌, arith}
-use Rattle.std.specs.Prelude.{nat_lt, nat_le, ◌==◌, ◌&&◌, ◌||◌, Some}
+use Rattle.std.specs.Prelude.{nat_lt, nat_le, ◌==◌, ◌||◌, Some}
 use Rattle.std.specs.Char.{is_ascii_digit}
 use Rattle.std.proofs.lemmas.Bool.Decides.{nat_tests}
 use native.Mathlib.Nat.{pow-zero, pow-suc}
@@ -8,6 +8,7 @@ use Rattle.syn_parts.specs.Text.{Text, byte_at, is_number}
 use Rattle.syn_parts.specs.Pat.{an_index, digit_value, digits_value, index_of}
 use Rattle.syn_parts.specs.PatFits.{member_fits}
 use Rattle.syn_parts.specs.PatOwn.{digits_before, index_text}
+use Rattle.syn_grammar.proofs.Bools.{and_false}
 
 -- ---- a digit
 
@@ -77,10 +78,6 @@ second_digit zero n r h i = i
 second_digit (suc k) n r h i = second_by (nat_lt n 10) k n r refl h (second_digit k)
 
 -- ---- an index
-
-and_false : (b : Bool) → (b && false) ≡ false
-and_false true = refl
-and_false false = refl
 
 index_back : (n : ℕ) → n ≤ 4294967295 → index_of (index_text n) ≡ Some n
 unfolding index_of index_text is_number

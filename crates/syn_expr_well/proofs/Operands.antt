@@ -20,15 +20,16 @@ use Rattle.syn_grammar.specs.Tree as e
 use Rattle.syn_grammar.specs.Tree.{Tree, Kids, Ending, Body, none, kid}
 use Rattle.syn_grammar.specs.WellFormed.{well, kids_well, has_rest, may_stop, body_fits, is_kept_block, is_name_path, piece_fits, ending_fits}
 use Rattle.syn_grammar.specs.Stands.{is_branch}
+use Rattle.syn_grammar.proofs.Bools.{and_true, and_false}
 use Rattle.syn_expr_kinds.specs.Attrs.{inner_part, inner_of}
 use Rattle.syn_expr_kinds.specs.Node.{framed, based, based_by}
 use Rattle.syn_expr_kinds.specs.Pats.{ArmView, strays, guard_kids, arm_ending, arm_kids, arms}
 use Rattle.syn_expr_kinds.specs.View.{FieldView, ending_of, elements, fields, option_kid, boxed, else_of, body_of}
 use Rattle.syn_expr_collect.specs.Arm.{last_guard, guard_by}
 use Rattle.syn_expr_collect.proofs.Lists.{some_visited, none_visited}
-use Rattle.syn_expr_well.specs.Places.{is_elements, is_single, is_counted, is_fields, is_conditions, is_loops, is_scrutinees, is_outputs}
+use Rattle.syn_expr_well.specs.Slots.{is_elements, is_single, is_counted, is_fields, is_conditions, is_loops, is_scrutinees, is_outputs}
 use Rattle.syn_expr_well.specs.Walk.{operands_well, option_well, field_well, else_well, arm_pattern, arm_well}
-use Rattle.syn_expr_well.proofs.Closures.{and_true, and_false}
+use Rattle.syn_expr_well.proofs.Closures.{and_assoc}
 use Rattle.syn_expr_well.proofs.Inner.{part_inner}
 
 -- ---- lists with puncts
@@ -123,10 +124,6 @@ field_shuffle true true true w r = refl
 field_shuffle true true false w r = refl
 field_shuffle true false c w r = refl
 field_shuffle false b c w r = refl
-
-and_assoc : (a b c : Bool) → ((a && b) && c) ≡ (a && (b && c))
-and_assoc true b c = refl
-and_assoc false b c = refl
 
 field_first : (x : FieldView) (xs : List FieldView) (b : Bool) (rest : Kids) → kids_well slot.fields (fields (x ∷ xs) b rest) ≡ (field_well x && kids_well slot.fields (fields xs b rest))
 field_first x xs b rest =

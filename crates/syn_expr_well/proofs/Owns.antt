@@ -74,7 +74,7 @@ dots-none (post x l) h i = refl
 dots-none (tail x l ks) h i = absurd cc
 dots-none (frame l ks) h i = absurd cc
 
-pub ruleset places = (slot-trailer, dots-trailer, slot-frame, dots-frame, slot-none, dots-none)
+pub ruleset slots = (slot-trailer, dots-trailer, slot-frame, dots-frame, slot-none, dots-none)
 
 -- ---- what it is but for them
 

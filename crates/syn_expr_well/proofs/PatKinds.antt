@@ -49,9 +49,10 @@ use Rattle.syn_pat_kinds.specs.declared.pat.PatReferenceOf.{PatReferenceOf}
 use Rattle.syn_pat_kinds.specs.declared.pat.PatConst.{PatConst}
 use Rattle.syn_pat_kinds.specs.declared.pat.PatOrOf.{PatOrOf}
 use Rattle.syn_pat_kinds.specs.declared.pat.PatTypeOf.{PatTypeOf}
+use Rattle.syn_grammar.proofs.Bools.{and_true, and_false}
 use Rattle.syn_expr_well.specs.declared.patterns.PatSort.TheVariants as sort
 use Rattle.syn_expr_well.specs.Alone.{fits_alone, attributes_at, behind, fits_behind, sort_at, is_rest_sort, is_mut_sort, sub_alone, is_sole_rest, kind_alone, field_alone}
-use Rattle.syn_expr_well.proofs.Closures.{and_true, and_false, four, swap, nil_append}
+use Rattle.syn_expr_well.proofs.Closures.{four, swap, nil_append}
 
 -- ---- attributes
 

@@ -27,7 +27,7 @@ use Rattle.syn_expr_all.proofs.Guards.{no-guard}
 use Rattle.syn_expr_well.specs.declared.patterns.PatSort.TheVariants as sort
 use Rattle.syn_expr_well.specs.Alone.{fits_alone, argument_fits, attributes_at, behind, fits_behind, argument_behind, sort_at}
 use Rattle.syn_expr_well.specs.Walk.{arm_pattern}
-use Rattle.syn_expr_well.proofs.Closures.{and_true, and_false}
+use Rattle.syn_expr_well.proofs.Closures.{swap}
 
 -- ---- attributes
 
@@ -100,14 +100,9 @@ untyped_kind x not_typed =
 pub argument-untyped : (x : Pat) → ((y : PatTypeOf Pat) → x ≡ pt.Typed y → ⊥) → argument_behind (pat_of x) ≡ fits_behind false (pat_of x)
 argument-untyped x not_typed = ap argument_behind (pat_out x) ∙ (untyped_kind x not_typed ∙ ap (fits_behind false) (sym (pat_out x)))
 
-swap_last : (a b c : Bool) → ((a && b) && c) ≡ ((a && c) && b)
-swap_last true true c = sym (and_true c)
-swap_last true false c = sym (and_false c)
-swap_last false b c = refl
-
 typed_view : (ats : List AttributeTree) (p : PatTree) (x : _) (gs : List Tree) → (typed_fits (behind (attributed_by ats (t.typed p x))) && is_nil gs) ≡ ((pat_fits false p && is_nil gs) && type_fits true x)
-typed_view [] p x gs = swap_last (pat_fits false p) (type_fits true x) (is_nil gs)
-typed_view (a ∷ more) p x gs = swap_last (pat_fits false p) (type_fits true x) (is_nil gs)
+typed_view [] p x gs = swap (pat_fits false p) (is_nil gs) (type_fits true x)
+typed_view (a ∷ more) p x gs = swap (pat_fits false p) (is_nil gs) (type_fits true x)
 
 pub argument-typed : (x : PatTypeOf Pat) → argument_behind (of.pat_type_of pat_of x) ≡ (fits_alone false (pat_of x.pat.value) && type_fits true (type_of x.ty.value))
 argument-typed x = typed_view (attributes_of x.attrs) (pat_of x.pat.value).tree (type_of x.ty.value) (pat_of x.pat.value).guards

@@ -8,10 +8,11 @@ use Rattle.syn_grammar.specs.Stands.{is_adorned}
 use Rattle.syn_grammar.specs.Tree as e
 use Rattle.syn_grammar.specs.Tree.{Tree, Kids, Ending, Piece, Trailer, Frame, leaf, paren, adorned, lead, mid, post, tail, frame, none, kid, is_none}
 use Rattle.syn_grammar.specs.WellFormed.{well, kids_well, has_rest, trailer_fits, trailer_slot, frame_fits, frame_slot, lead_fits, piece_fits}
+use Rattle.syn_grammar.proofs.Bools.{and_true}
 use Rattle.syn_expr_kinds.specs.Node.{attributes_at, operands_at, stray_trees, without_strays, based_by}
 use Rattle.syn_expr_well.specs.Well.{own_fits, slot_at, dots_at, frame_dots}
 use Rattle.syn_expr_well.specs.Walk.{operands_well, node_fits, is_plain, is_whole}
-use Rattle.syn_expr_well.proofs.Closures.{and_true}
+use Rattle.syn_expr_well.proofs.Closures.{and_assoc}
 
 -- this is asked of a node but for the attributes before it
 abbrev core_well : Tree → Bool
@@ -156,10 +157,6 @@ whole-is (mid x k y) h = core_is (mid x k y) h
 whole-is (post x k) h = core_is (post x k) h
 whole-is (tail b k ks) h = core_is (tail b k ks) h
 whole-is (frame k ks) h = core_is (frame k ks) h
-
-and_assoc : (a b c : Bool) → ((a && b) && c) ≡ (a && (b && c))
-and_assoc true b c = refl
-and_assoc false b c = refl
 
 -- by the node itself, and then by its operands
 

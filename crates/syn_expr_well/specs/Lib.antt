@@ -1,5 +1,5 @@
 pub mod Alone
-pub mod Places
+pub mod Slots
 pub mod Well
 pub mod Walk
 pub mod Whole

@@ -9,7 +9,7 @@ mod kept;
 pub mod own;
 mod pat;
 pub mod patterns;
-pub mod place;
+pub mod slot;
 pub mod walk;
 
 pub use walk::is_well;

@@ -6,7 +6,7 @@ ghost use Rattle.syn_expr_collect.specs.Arm.{guard_at};
 ghost use Rattle.syn_expr_kinds.specs.Node.{framed, operands_of};
 ghost use Rattle.syn_expr_kinds.specs.View as of;
 ghost use Rattle.syn_expr_kinds.specs.View.{boxed, field_value_of, option_kid};
-ghost use Rattle.syn_expr_well.specs.Places.{dots_of, slot_of};
+ghost use Rattle.syn_expr_well.specs.Slots.{dots_of, slot_of};
 ghost use Rattle.syn_expr_well.specs.Walk as spec;
 ghost use Rattle.syn_grammar.specs.Tree as e;
 ghost use Rattle.syn_grammar.specs.WellFormed.{kids_well, well};
@@ -17,7 +17,7 @@ use crate::fits::{all_outer, braces_fit, member_fits};
 use crate::heads::HasPatFits;
 use crate::kept::{is_kept_block, is_name_path};
 use crate::own::{is_branch, own_fits};
-use crate::place::{Place, operand_place};
+use crate::slot::{Slot, operand_slot};
 use syn_expr_collect::arm::HasArms;
 use syn_expr_kinds::node::Operands;
 use syn_expr_kinds::structure::FieldValueOf;
@@ -76,13 +76,13 @@ fn list_well<E: HasWell>(elements: &Punctuated<E, Comma>) -> bool
 /// Whether the elements of a list are read back in their places.
 #[cycle(is_well)]
 #[tactic(auto, using(crate::proofs::Operands::element_lists))]
-fn elements_well<E: HasWell>(place: Place, elements: &Punctuated<E, Comma>) -> bool
-    ensures { result ≡ kids_well (slot_of place) (of.elements (map E.tree (values elements.now)) (trails elements.now)) }
+fn elements_well<E: HasWell>(slot: Slot, elements: &Punctuated<E, Comma>) -> bool
+    ensures { result ≡ kids_well (slot_of slot) (of.elements (map E.tree (values elements.now)) (trails elements.now)) }
 {
-    if place.is_elements() {
+    if slot.is_elements() {
         list_well(elements)
     } else {
-        elements.is_empty() && place.may_stop()
+        elements.is_empty() && slot.may_stop()
     }
 }
 
@@ -141,17 +141,17 @@ fn rest_well<E: HasWell>(rest: &Option<Box<E>>) -> bool
 #[cycle(is_well)]
 #[tactic(auto, using(crate::proofs::Operands::field_lists))]
 fn fields_well<E: HasWell>(
-    place: Place,
+    slot: Slot,
     fields: &Punctuated<FieldValueOf<E>, Comma>,
     dots: &Option<DotDot>,
     rest: &Option<Box<E>>,
 ) -> bool
-    ensures { result ≡ spec.operands_well (slot_of place) (dots_of place) (framed (of.fields (map (field_value_of E.tree) (values fields.now)) (trails fields.now) (option_kid (e.rest (is_some dots.now)) (boxed E.tree rest.now)))) }
+    ensures { result ≡ spec.operands_well (slot_of slot) (dots_of slot) (framed (of.fields (map (field_value_of E.tree) (values fields.now)) (trails fields.now) (option_kid (e.rest (is_some dots.now)) (boxed E.tree rest.now)))) }
 {
-    if place.is_fields() {
-        !(place.has_dots() && rest.is_some()) && field_list_well(fields) && rest_well(rest)
+    if slot.is_fields() {
+        !(slot.has_dots() && rest.is_some()) && field_list_well(fields) && rest_well(rest)
     } else {
-        fields.is_empty() && rest.is_none() && place.may_stop()
+        fields.is_empty() && rest.is_none() && slot.may_stop()
     }
 }
 
@@ -210,32 +210,32 @@ fn arms_well<E: HasWell>(mut arms: &[E::Arm]) -> bool
 /// Whether the operands of a node are read back in their places.
 #[cycle(is_well)]
 #[tactic(auto, using(crate::proofs::Operands::operands, syn_expr_collect::proofs::Lists::lists, syn_expr_collect::proofs::Nodes::based))]
-fn operands_well<E: HasWell>(place: Place, operands: Operands<'_, E, E::Arm>) -> bool
-    ensures { result ≡ spec.operands_well (slot_of place) (dots_of place) (operands_of E.tree E.Arm.view operands.entry) }
+fn operands_well<E: HasWell>(slot: Slot, operands: Operands<'_, E, E::Arm>) -> bool
+    ensures { result ≡ spec.operands_well (slot_of slot) (dots_of slot) (operands_of E.tree E.Arm.view operands.entry) }
 {
     match operands {
         Operands::None => true,
-        Operands::One(x) => is_well::<E>(x) && place.may_stop(),
+        Operands::One(x) => is_well::<E>(x) && slot.may_stop(),
         Operands::Two(x, y) => is_well::<E>(x) && is_well::<E>(y),
-        Operands::Call(x, arguments) => is_well::<E>(x) && elements_well(place, arguments),
-        Operands::Index(x, index) => { is_well::<E>(x) && place.is_single() && is_well::<E>(index) }
-        Operands::Elements(elements) => elements_well(place, elements),
+        Operands::Call(x, arguments) => is_well::<E>(x) && elements_well(slot, arguments),
+        Operands::Index(x, index) => { is_well::<E>(x) && slot.is_single() && is_well::<E>(index) }
+        Operands::Elements(elements) => elements_well(slot, elements),
         Operands::Grouped(_) => false,
         Operands::Repeated(x, _, len) => {
-            place.is_counted() && is_well::<E>(x) && is_well::<E>(len)
+            slot.is_counted() && is_well::<E>(x) && is_well::<E>(len)
         }
-        Operands::Fields(fields, dots, rest) => fields_well(place, fields, dots, rest),
+        Operands::Fields(fields, dots, rest) => fields_well(slot, fields, dots, rest),
         Operands::If(x, _, otherwise) => {
-            place.is_conditions() && is_well::<E>(x) && else_well(otherwise)
+            slot.is_conditions() && is_well::<E>(x) && else_well(otherwise)
         }
         Operands::Loop(x, braces) => {
             let fits = braces_fit(braces);
-            place.is_loops() && fits && is_well::<E>(x)
+            slot.is_loops() && fits && is_well::<E>(x)
         }
         Operands::Arms(x, _, arms) => {
-            place.is_scrutinees() && is_well::<E>(x) && arms_well::<E>(arms)
+            slot.is_scrutinees() && is_well::<E>(x) && arms_well::<E>(arms)
         }
-        Operands::Body(x) => place.is_outputs() && is_kept_block::<E>(x),
+        Operands::Body(x) => slot.is_outputs() && is_kept_block::<E>(x),
     }
 }
 
@@ -245,5 +245,5 @@ fn operands_well<E: HasWell>(place: Place, operands: Operands<'_, E, E::Arm>) ->
 pub fn is_well<E: HasWell>(expr: &E) -> bool
     ensures { result ≡ well (E.tree expr.now) }
 {
-    node_fits(expr) && operands_well(operand_place(expr), expr.operands())
+    node_fits(expr) && operands_well(operand_slot(expr), expr.operands())
 }

@@ -6,7 +6,7 @@ use Rattle.syn_expr_kinds.specs.Node.{operands_of}
 use Rattle.syn_expr_kinds.specs.View.{field_value_of}
 use Rattle.syn_expr_collect.specs.Below.{operands_visited, total, arm_visited}
 use Rattle.syn_expr_collect.proofs.Lists.{arms_visited}
-use Rattle.syn_expr_well.specs.Places.{dots_of}
+use Rattle.syn_expr_well.specs.Slots.{dots_of}
 use Rattle.syn_expr_well.specs.Well.{slot_at, dots_at}
 use Rattle.syn_expr_well.specs.Walk.{operands_well, field_well}
 use Rattle.syn_expr_well.proofs.Operands.{all-some}
@@ -40,8 +40,8 @@ is_well-returns-then-node_fits g t c =
     let n = sym c.node_fits.ensures ∙ c.if-node_fits.true in
     let o = operands_of g.E.HasExprTree.tree g.E.Arm.HasArmView.view c.operands.result in
     c.operands_well.ensures
-    ∙ (ap (λ s. operands_well s (dots_of c.operand_place.result) o) c.operand_place.ensures.slot
-    ∙ (ap (λ d. operands_well (slot_at tree) d o) c.operand_place.ensures.dots
+    ∙ (ap (λ s. operands_well s (dots_of c.operand_slot.result) o) c.operand_slot.ensures.slot
+    ∙ (ap (λ d. operands_well (slot_at tree) d o) c.operand_slot.ensures.dots
     ∙ (ap (operands_well (slot_at tree) (dots_at tree)) c.operands.ensures ∙ well-then tree (g.met.E.HasWell.whole c.args.expr.now) n)))
 
 pub is_well-returns-else-node_fits : goal.is_well-returns-else-node_fits

@@ -3,7 +3,7 @@ use Rattle.std.proofs.Common.{◌≡◌, Some, ap, sym, ◌∙◌}
 use Rattle.syn_lower_leaves.specs.View.{mapped}
 use Rattle.syn_expr_kinds.specs.Node.{frame_seen, frame_at}
 use Rattle.syn_expr_well.proofs.Owns.{slot-frame, dots-frame}
-use Rattle.syn_expr_well.proofs.place.operand_place.Goals as goal
+use Rattle.syn_expr_well.proofs.slot.operand_slot.Goals as goal
 
 pub returns-in-Some-frame-clause-slot : goal.returns-in-Some-frame-clause-slot
 returns-in-Some-frame-clause-slot g c =
@@ -11,7 +11,7 @@ returns-in-Some-frame-clause-slot g c =
     let pat = g.E.Pat.HasPatTree.view in
     let k = frame_seen pat c.in-Some-frame.frame in
     let l : frame_at t ≡ Some k = sym c.frame.ensures ∙ ap (mapped (frame_seen pat)) c.in-Some-frame.is in
-    c.frame_place.ensures.slot pat ∙ slot-frame k t l
+    c.frame_slot.ensures.slot pat ∙ slot-frame k t l
 
 pub returns-in-Some-frame-clause-dots : goal.returns-in-Some-frame-clause-dots
 returns-in-Some-frame-clause-dots g c =
@@ -19,4 +19,4 @@ returns-in-Some-frame-clause-dots g c =
     let pat = g.E.Pat.HasPatTree.view in
     let k = frame_seen pat c.in-Some-frame.frame in
     let l : frame_at t ≡ Some k = sym c.frame.ensures ∙ ap (mapped (frame_seen pat)) c.in-Some-frame.is in
-    c.frame_place.ensures.dots pat ∙ dots-frame k t l
+    c.frame_slot.ensures.dots pat ∙ dots-frame k t l

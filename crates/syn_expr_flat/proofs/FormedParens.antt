@@ -1,0 +1,70 @@
+-- What is well-formed has outer attributes alone before its parentheses.
+use Rattle.std.specs.Prelude.{not, ◌&&◌, ◌||◌}
+use Rattle.std.proofs.Common.{◌≡◌, Bool, true, false, List, [], ◌∷◌, refl}
+use Rattle.syn_parts.specs.Tree.{AttributeTree}
+use Rattle.syn_parts.specs.PatFits.{attributes_outer}
+use Rattle.syn_grammar.specs.Tree as e
+use Rattle.syn_grammar.specs.Tree.{Tree, Kids, Piece, leaf, paren, adorned, lead, mid, post, tail, frame, none, kid, is_none}
+use Rattle.syn_grammar.specs.Slot.{Slot, after}
+use Rattle.syn_grammar.specs.Stands.{is_adorned}
+use Rattle.syn_grammar.specs.WellFormed.{is_kept_block, lead_fits, infix_fits, post_fits, trailer_fits, trailer_slot, frame_fits, frame_slot, piece_fits, ending_fits, keeps_block, well, kids_well, is_well_formed}
+use Rattle.syn_grammar.proofs.Bools.{both_true, both}
+use Rattle.syn_expr_kinds.specs.Attrs.{all_outer}
+use Rattle.syn_expr_flat.specs.Outer.{HasOuterParens, HaveOuterParens}
+use Rattle.syn_expr_flat.proofs.OuterParens.{before_any}
+
+all_are_outer : (ats : List AttributeTree) → attributes_outer ats ≡ true → all_outer ats ≡ true
+all_are_outer [] h = refl
+all_are_outer (a ∷ more) h = let p = both_true (not a.inner) (attributes_outer more) h in both _ _ p.0 (all_are_outer more p.1)
+
+none_outer : (ks : Kids) → is_none ks ≡ true → HaveOuterParens ks
+none_outer none h = tt
+none_outer (kid k c t ks) h = absurd cc
+
+-- a kept block is a leaf
+kept_outer : (t : Tree) → is_kept_block t ≡ true → HasOuterParens t
+kept_outer (leaf k) h = tt
+kept_outer _ h = absurd cc
+
+by_either : (a b : Bool) (t : Tree) → (a ≡ true → HasOuterParens t) → (b ≡ true → HasOuterParens t) → (a || b) ≡ true → HasOuterParens t
+by_either true b t f g h = f refl
+by_either false b t f g h = g h
+
+kept_or_well : (k : Piece) (t : Tree) → (keeps_block k t || well t) ≡ true → (well t ≡ true → HasOuterParens t) → HasOuterParens t
+kept_or_well e.chained t h f = by_either (is_kept_block t) (well t) t (kept_outer t) f h
+kept_or_well e.output_block t h f = by_either (is_kept_block t) (well t) t (kept_outer t) f h
+kept_or_well _ t h f = f h
+
+mutual
+  well_outer : (t : Tree) → well t ≡ true → HasOuterParens t
+  well_outer (leaf k) h = tt
+  well_outer (paren m t) h = well_outer t h
+  well_outer (adorned a more t) h =
+      let p = both_true (attributes_outer (a ∷ more)) (not (is_adorned t) && well t) h in
+      let q = both_true (not (is_adorned t)) (well t) p.1 in
+      (before_any (a ∷ more) t (all_are_outer (a ∷ more) p.0), well_outer t q.1)
+  well_outer (lead k gs t) h =
+      let p = both_true (lead_fits k) (is_none gs && well t) h in
+      let q = both_true (is_none gs) (well t) p.1 in
+      (none_outer gs q.0, well_outer t q.1)
+  well_outer (mid x k y) h =
+      let p = both_true (infix_fits k) (well x && well y) h in
+      let q = both_true (well x) (well y) p.1 in
+      (well_outer x q.0, well_outer y q.1)
+  well_outer (post x k) h = well_outer x (both_true (post_fits k) (well x) h).1
+  well_outer (tail b k ks) h =
+      let p = both_true (trailer_fits k) (well b && kids_well (trailer_slot k) ks) h in
+      let q = both_true (well b) (kids_well (trailer_slot k) ks) p.1 in
+      (well_outer b q.0, kids_outer (trailer_slot k) ks q.1)
+  well_outer (frame k ks) h = kids_outer (frame_slot k) ks (both_true (frame_fits k ks) (kids_well (frame_slot k) ks) h).1
+
+  kids_outer : (s : Slot) (ks : Kids) → kids_well s ks ≡ true → HaveOuterParens ks
+  kids_outer s none h = tt
+  kids_outer s (kid k c t ks) h =
+      let p = both_true (piece_fits s k c t && ending_fits k c) ((keeps_block k t || well t) && kids_well (after k) ks) h in
+      let r = both_true (keeps_block k t || well t) (kids_well (after k) ks) p.1 in
+      (kept_or_well k t r.0 (well_outer t), kids_outer (after k) ks r.1)
+
+pub well_formed_outer : (t : Tree) → is_well_formed t ≡ true → HasOuterParens t
+unfolding is_well_formed
+well_formed_outer = well_outer
