@@ -2,14 +2,15 @@
 use Rattle.std.proofs.Common.{◌≡◌, Bool, true, false, not, ◌&&◌, ◌||◌, if◌then◌else◌, List, [], ◌∷◌, refl, sym}
 use Rattle.syn_tokens.specs.Tok.{Tok}
 use Rattle.syn_parts.specs.Tree.{AttributeTree}
-use Rattle.syn_expr_kinds.specs.Attrs.{all_inner, before_inner, is_in_order, outer_part}
+use Rattle.syn_grammar.specs.WellFormed.{attributes_inner}
+use Rattle.syn_expr_kinds.specs.Attrs.{before_inner, is_in_order, outer_part}
 use Rattle.syn_expr.specs.Levels.{has_outer}
 
-none_outer : (ats : List AttributeTree) → all_inner ats ≡ true → has_outer ats ≡ false
+none_outer : (ats : List AttributeTree) → attributes_inner ats ≡ true → has_outer ats ≡ false
 none_outer [] h = refl
 none_outer (a ∷ more) h = first a.inner h (none_outer more)
   where
-    first : (b : Bool) → b && all_inner more ≡ true → (all_inner more ≡ true → has_outer more ≡ false) → not b || has_outer more ≡ false
+    first : (b : Bool) → b && attributes_inner more ≡ true → (attributes_inner more ≡ true → has_outer more ≡ false) → not b || has_outer more ≡ false
     first true i n = n i
     first false i n = absurd cc
 

@@ -1,19 +1,17 @@
 //! Where an expression is printed and read back, by name.
 
-ghost use Rattle.std.specs.Prelude.{◌≡◌, ◌≤◌, ◌+◌, List, IfErr, IfOk, MatchResult};
+ghost use Rattle.std.specs.Prelude.{◌≡◌};
 ghost use Rattle.syn_expr_all.specs.View.{tree_of};
+ghost use Rattle.syn_expr_kinds.specs.Exactly.{ReadsExactly};
 ghost use Rattle.syn_expr_fixup.specs.Fixup.{whole_at};
 ghost use Rattle.syn_expr.specs.Positions.{position_of};
 ghost use Rattle.syn_grammar.specs.Printed.{context_of, place_of};
 ghost use Rattle.syn_grammar.specs.Stands.{Stands};
-ghost use Rattle.syn_grammar.specs.Tree.{Tree};
-ghost use Rattle.syn_tokens.specs.Input.{IsAfter};
-ghost use Rattle.syn_tokens.specs.Tok.{Tok, weight};
 
 use syn_expr_all::Expr;
 use syn_expr_fixup::FixupContext;
 use syn_tokens::buffer::{Parse, ParseBuffer};
-use syn_tokens::error::{ErrorKind, Result};
+use syn_tokens::error::Result;
 
 /// Where an expression stands, and what may stand behind it there.
 #[derive(Clone, Copy, Debug, PartialEq, Eq)]
@@ -45,12 +43,7 @@ impl Position {
     /// `parse_without_eager_brace` or `parse_with_earlier_boundary_rule`. It is refused as that reader refuses it, and the
     /// input then stays where it was.
     pub fn parse(self, input: &mut ParseBuffer<'_>) -> Result<Expr>
-        ensures read { IfOk result (λ x. Stands (place_of (position_of self)) input.old.rest (tree_of x) input.new.rest) }
-        ensures found { (x : Tree) (rest : List Tok) → Stands (place_of (position_of self)) input.old.rest x rest → MatchResult result (λ v. (tree_of v ≡ x) × (input.new.rest ≡ rest)) (λ e. e.kind ≡ ErrorKind.OutOfMemory) }
-        ensures noted { input.new.noted ≡ input.old.noted }
-        ensures after { IsAfter input.old input.new }
-        ensures stays { IfErr result (λ _. input.new ≡ input.old) }
-        ensures moves { IfOk result (λ _. 1 + weight input.new.rest ≤ weight input.old.rest) }
+        ensures { ReadsExactly tree_of (Stands (place_of (position_of self))) input.old result input.new }
     {
         match self {
             Position::Plain => Expr::parse(input),

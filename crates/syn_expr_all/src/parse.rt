@@ -1,13 +1,11 @@
 //! The readers of expressions: in a list, before a block, and at the head of a statement or of an arm's body.
 
-ghost use Rattle.std.specs.Prelude.{◌≡◌, ◌≤◌, ◌+◌, IfErr, IfOk, List, MatchResult};
+ghost use Rattle.std.specs.Prelude.{◌≡◌};
 ghost use Rattle.syn_expr_all.specs.View.{tree_of};
+ghost use Rattle.syn_expr_kinds.specs.Exactly.{ReadsExactly};
 ghost use Rattle.syn_grammar.specs.Front.{begins_expr};
 ghost use Rattle.syn_grammar.specs.Place.{at_head, before_block, plain};
 ghost use Rattle.syn_grammar.specs.Stands.{Stands};
-ghost use Rattle.syn_grammar.specs.Tree.{Tree};
-ghost use Rattle.syn_tokens.specs.Input.{IsAfter};
-ghost use Rattle.syn_tokens.specs.Tok.{Tok, weight};
 
 use crate::expr::Expr;
 use crate::read_expr::expr_at;
@@ -15,17 +13,12 @@ use syn_expr_ends::place::{AT_HEAD, BEFORE_BLOCK, PLAIN};
 use syn_expr_front::sign;
 use syn_grammar::kinds::Place;
 use syn_tokens::buffer::{Parse, ParseBuffer};
-use syn_tokens::error::{ErrorKind, Result};
+use syn_tokens::error::Result;
 
 /// Reads the expression at a place. The input stays where it was where it is refused.
-#[tactic(auto, using(crate::proofs::Exactly::parsing))]
+#[tactic(auto, using(crate::proofs::Exactly::read_tail))]
 fn ahead(input: &mut ParseBuffer<'_>, place: Place) -> Result<Expr>
-    ensures read { IfOk result (λ x. Stands place input.old.rest (tree_of x) input.new.rest) }
-    ensures found { (x : Tree) (rest : List Tok) → Stands place input.old.rest x rest → MatchResult result (λ v. (tree_of v ≡ x) × (input.new.rest ≡ rest)) (λ e. e.kind ≡ ErrorKind.OutOfMemory) }
-    ensures noted { input.new.noted ≡ input.old.noted }
-    ensures after { IsAfter input.old input.new }
-    ensures stays { IfErr result (λ _. input.new ≡ input.old) }
-    ensures moves { IfOk result (λ _. 1 + weight input.new.rest ≤ weight input.old.rest) }
+    ensures { ReadsExactly tree_of (Stands place) input.old result input.new }
 {
     let mut ahead = input.fork()?;
     let x = match expr_at(&mut ahead, place) {
@@ -66,12 +59,7 @@ impl Parse for Expr {
     /// - as `ExpectedToken` where another token stands than the one that must, and as `UnexpectedToken` where nothing reads
     ///   it.
     fn parse(input: &mut ParseBuffer<'_>) -> Result<Self>
-        ensures read { IfOk result (λ x. Stands plain input.old.rest (tree_of x) input.new.rest) }
-        ensures found { (x : Tree) (rest : List Tok) → Stands plain input.old.rest x rest → MatchResult result (λ v. (tree_of v ≡ x) × (input.new.rest ≡ rest)) (λ e. e.kind ≡ ErrorKind.OutOfMemory) }
-        ensures noted { input.new.noted ≡ input.old.noted }
-        ensures after { IsAfter input.old input.new }
-        ensures stays { IfErr result (λ _. input.new ≡ input.old) }
-        ensures moves { IfOk result (λ _. 1 + weight input.new.rest ≤ weight input.old.rest) }
+        ensures { ReadsExactly tree_of (Stands plain) input.old result input.new }
     {
         ahead(input, PLAIN)
     }
@@ -83,12 +71,7 @@ impl Expr {
     /// expression, but inside delimiters. It is read exactly where one stands so, unless memory runs out. It is refused as
     /// `parse` refuses an expression, and the input then stays where it was.
     pub fn parse_without_eager_brace(input: &mut ParseBuffer<'_>) -> Result<Expr>
-        ensures read { IfOk result (λ x. Stands before_block input.old.rest (tree_of x) input.new.rest) }
-        ensures found { (x : Tree) (rest : List Tok) → Stands before_block input.old.rest x rest → MatchResult result (λ v. (tree_of v ≡ x) × (input.new.rest ≡ rest)) (λ e. e.kind ≡ ErrorKind.OutOfMemory) }
-        ensures noted { input.new.noted ≡ input.old.noted }
-        ensures after { IsAfter input.old input.new }
-        ensures stays { IfErr result (λ _. input.new ≡ input.old) }
-        ensures moves { IfOk result (λ _. 1 + weight input.new.rest ≤ weight input.old.rest) }
+        ensures { ReadsExactly tree_of (Stands before_block) input.old result input.new }
     {
         ahead(input, BEFORE_BLOCK)
     }
@@ -98,12 +81,7 @@ impl Expr {
     /// before a `.` or `?`. It is read exactly where one stands so, unless memory runs out. It is refused as `parse` refuses
     /// an expression, but at a range without a start behind attributes, and the input then stays where it was.
     pub fn parse_with_earlier_boundary_rule(input: &mut ParseBuffer<'_>) -> Result<Expr>
-        ensures read { IfOk result (λ x. Stands at_head input.old.rest (tree_of x) input.new.rest) }
-        ensures found { (x : Tree) (rest : List Tok) → Stands at_head input.old.rest x rest → MatchResult result (λ v. (tree_of v ≡ x) × (input.new.rest ≡ rest)) (λ e. e.kind ≡ ErrorKind.OutOfMemory) }
-        ensures noted { input.new.noted ≡ input.old.noted }
-        ensures after { IsAfter input.old input.new }
-        ensures stays { IfErr result (λ _. input.new ≡ input.old) }
-        ensures moves { IfOk result (λ _. 1 + weight input.new.rest ≤ weight input.old.rest) }
+        ensures { ReadsExactly tree_of (Stands at_head) input.old result input.new }
     {
         ahead(input, AT_HEAD)
     }

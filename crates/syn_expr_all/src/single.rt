@@ -1,14 +1,13 @@
 //! Arms and fields by themselves (Rust Reference, "`match` expressions", "Struct expressions").
 
-ghost use Rattle.std.specs.Prelude.{◌≡◌, ◌≤◌, ◌+◌, [], List, map, IfErr, IfOk, MatchResult};
+ghost use Rattle.std.specs.Prelude.{◌≡◌, [], map, IfErr, IfOk, MatchResult};
 ghost use Rattle.syn_expr_all.specs.View.{arm_of};
 ghost use Rattle.syn_expr_blocks.specs.Arms.{ArmStands};
-ghost use Rattle.syn_expr_kinds.specs.Pats.{ArmView, arms};
+ghost use Rattle.syn_expr_kinds.specs.Exactly.{ReadsExactly};
+ghost use Rattle.syn_expr_kinds.specs.Pats.{arms};
 ghost use Rattle.syn_grammar.specs.Slot as slot;
 ghost use Rattle.syn_grammar.specs.Stands.{Operands};
 ghost use Rattle.syn_grammar.specs.Tree.{Kids};
-ghost use Rattle.syn_tokens.specs.Input.{IsAfter};
-ghost use Rattle.syn_tokens.specs.Tok.{Tok, weight};
 
 use crate::expr::{Arm, Expr, FieldValue};
 use crate::read_expr::expr_at;
@@ -37,14 +36,9 @@ impl Parse for Arm {
     ///
     /// It is refused, memory aside, only where none stands, and the input then stays where it was: as `ExpectedToken` where a
     /// token is missing, and as its attributes, its pattern, its guard and its body are.
-    #[tactic(auto, using(crate::proofs::Parts::arms))]
+    #[tactic(auto, using(crate::proofs::Parts::arm_tail))]
     fn parse(input: &mut ParseBuffer<'_>) -> Result<Self>
-        ensures read { IfOk result (λ x. ArmStands input.old.rest (arm_of x) input.new.rest) }
-        ensures found { (x : ArmView) (rest : List Tok) → ArmStands input.old.rest x rest → MatchResult result (λ v. (arm_of v ≡ x) × (input.new.rest ≡ rest)) (λ e. e.kind ≡ ErrorKind.OutOfMemory) }
-        ensures noted { input.new.noted ≡ input.old.noted }
-        ensures after { IsAfter input.old input.new }
-        ensures stays { IfErr result (λ _. input.new ≡ input.old) }
-        ensures moves { IfOk result (λ _. 1 + weight input.new.rest ≤ weight input.old.rest) }
+        ensures { ReadsExactly arm_of ArmStands input.old result input.new }
     {
         let mut ahead = input.fork()?;
         let x = match (Blocks { expr: expr_at }).arm(&mut ahead) {
@@ -80,7 +74,7 @@ impl Arm {
 
 impl ParseField for Expr {
     /// Reads a field on a fork, so that the input stays where it was where it is refused.
-    #[tactic(auto, using(crate::proofs::Parts::fields))]
+    #[tactic(auto, using(crate::proofs::Parts::field_tail))]
     fn parse_field(input: &mut ParseBuffer<'_>) -> Result<FieldValue> {
         let mut ahead = input.fork()?;
         let x = match (Lists { expr: expr_at }).field_value(&mut ahead) {

@@ -5,7 +5,6 @@ use Rattle.syn_lexer.specs.declared.lexeme.Delimiter.{Delimiter}
 use Rattle.syn_tokens.specs.Tok.{Tok}
 use Rattle.syn_tokens.specs.Front.{group_at}
 use Rattle.syn_parts.specs.declared.label.PathStyle.TheVariants as style
-use Rattle.syn_parts.specs.Tree.{AttributeTree}
 use Rattle.syn_parts.specs.Form.{Form, Outcome, Test, Mark, and_then, when, mark, both, shown, then_by, case, flag, maybe, pure, whole, inside, inside_reads}
 use Rattle.syn_parts.specs.Mark.{lifetime_at, underscore, constant}
 use Rattle.syn_parts.specs.Part.{lifetime, unsigned, block, qpath, type, macro_end, QPathTree, MacroEnd, inner_attributes}
@@ -15,27 +14,7 @@ use Rattle.syn_grammar.specs.Head.{label, jump_head, range_op, all_left, to_body
 use Rattle.syn_grammar.proofs.Chains.{some_is, then_some, only_some, chosen, both_true}
 use Rattle.syn_grammar.specs.WellFormed.{attributes_inner}
 use Rattle.syn_expr_heads.proofs.Inner.{inner_attributes_inner}
-use Rattle.syn_expr_kinds.specs.Attrs.{all_inner, inner_part, outer_part}
 use Rattle.syn_expr_atoms.specs.Inner.{has_inner}
-
--- ---- inner attributes
-
-all_are : (xs : List AttributeTree) → attributes_inner xs ≡ true → all_inner xs ≡ true
-all_are [] h = refl
-all_are (a ∷ xs) h = let (i, j) = both_true a.inner (attributes_inner xs) h in rw (i, all_are xs j) refl
-
--- Where all are inner ones, none stands before the node.
-pub no_outer : (xs : List AttributeTree) → attributes_inner xs ≡ true → outer_part xs ≡ []
-no_outer [] h = refl
-no_outer (a ∷ xs) h = let (i, j) = both_true a.inner (attributes_inner xs) h in rw (i, all_are xs j) refl
-
-pub all_inside : (xs : List AttributeTree) → attributes_inner xs ≡ true → inner_part xs ≡ xs
-all_inside [] h = refl
-all_inside (a ∷ xs) h = let (i, j) = both_true a.inner (attributes_inner xs) h in rw (i, all_are xs j) refl
-
-pub ruleset inners = (no_outer, all_inside)
-
--- ---- leaves
 
 -- what a form reads passes a test
 record Passes {A : Type 0} (p : A → Bool) (f : Form A) : Type 0 where

@@ -66,7 +66,7 @@ pub fn range_expr<E: IsExpr>(alloc: Global, limits: RangeLimits, end: Option<Box
 }
 
 /// A loop without a head, with a label or none.
-#[tactic(auto, using(crate::proofs::Inner::inners), unfolding(syn_expr_kinds::specs::Attrs::outer_of, syn_expr_kinds::specs::Attrs::inner_of))]
+#[tactic(auto, using(syn_expr_kinds::proofs::Attributes::insides), unfolding(syn_expr_kinds::specs::Attrs::outer_of, syn_expr_kinds::specs::Attrs::inner_of))]
 fn loop_expr<E: IsExpr>(label: Option<Label>, loop_token: Loop, body: Body) -> E
     requires inner { attributes_inner (body_of body).inner ≡ true }
     ensures { E.tree result ≡ e.leaf (e.looping (mapped label_of label) (body_of body)) }
@@ -80,7 +80,7 @@ fn loop_expr<E: IsExpr>(label: Option<Label>, loop_token: Loop, body: Body) -> E
 }
 
 /// A block, with a label or none.
-#[tactic(auto, using(crate::proofs::Inner::inners), unfolding(syn_expr_kinds::specs::Attrs::outer_of, syn_expr_kinds::specs::Attrs::inner_of))]
+#[tactic(auto, using(syn_expr_kinds::proofs::Attributes::insides), unfolding(syn_expr_kinds::specs::Attrs::outer_of, syn_expr_kinds::specs::Attrs::inner_of))]
 fn block_expr<E: IsExpr>(label: Option<Label>, body: Body) -> E
     requires inner { attributes_inner (body_of body).inner ≡ true }
     ensures { E.tree result ≡ e.leaf (e.block (mapped label_of label) (body_of body)) }
@@ -93,7 +93,7 @@ fn block_expr<E: IsExpr>(label: Option<Label>, body: Body) -> E
 }
 
 /// An `unsafe` block.
-#[tactic(auto, using(crate::proofs::Inner::inners), unfolding(syn_expr_kinds::specs::Attrs::outer_of, syn_expr_kinds::specs::Attrs::inner_of))]
+#[tactic(auto, using(syn_expr_kinds::proofs::Attributes::insides), unfolding(syn_expr_kinds::specs::Attrs::outer_of, syn_expr_kinds::specs::Attrs::inner_of))]
 fn unsafe_expr<E: IsExpr>(unsafe_token: Unsafe, body: Body) -> E
     requires inner { attributes_inner (body_of body).inner ≡ true }
     ensures { E.tree result ≡ e.leaf (e.unsafe_block (body_of body)) }
@@ -106,7 +106,7 @@ fn unsafe_expr<E: IsExpr>(unsafe_token: Unsafe, body: Body) -> E
 }
 
 /// A `const` block.
-#[tactic(auto, using(crate::proofs::Inner::inners), unfolding(syn_expr_kinds::specs::Attrs::outer_of, syn_expr_kinds::specs::Attrs::inner_of))]
+#[tactic(auto, using(syn_expr_kinds::proofs::Attributes::insides), unfolding(syn_expr_kinds::specs::Attrs::outer_of, syn_expr_kinds::specs::Attrs::inner_of))]
 fn const_expr<E: IsExpr>(const_token: Const, body: Body) -> E
     requires inner { attributes_inner (body_of body).inner ≡ true }
     ensures { E.tree result ≡ e.leaf (e.const_block (body_of body)) }

@@ -1,52 +1,20 @@
 //! Whether a leaf, or what may be one before no operand, stands where it is, by what is behind it (Rust Reference, "Path
 //! expressions", "Range expressions", "`return` expressions", "`break` expressions").
 
-ghost use Rattle.std.specs.Prelude.{◌≡◌, ◌&&◌, map};
-ghost use Rattle.std.specs.Str.{bytes_eq};
+ghost use Rattle.std.specs.Prelude.{◌≡◌};
 ghost use Rattle.syn_expr_heads.specs.View.{jump_of, leaf_of};
 ghost use Rattle.syn_grammar.specs.Stands as stands;
 ghost use Rattle.syn_grammar.specs.Tree as e;
-ghost use Rattle.syn_lower.specs.View.{arguments_of, path_of, qself_or, segment_of, type_of, values};
-ghost use Rattle.syn_parts.specs.Part as part;
+ghost use Rattle.syn_lower.specs.View.{path_of, qself_or, type_of};
 
 use syn_expr_front::sign::{begins_expr, brace_at, ends_open_range};
 use syn_expr_heads::types::{JumpHead, LeafHead};
+use syn_expr_kinds::path::is_word_alone;
 use syn_grammar::kinds::Place;
-use syn_lower::path::{Path, PathSegment, QSelf};
-use syn_lower::punctuated::Punctuated;
-use syn_lower_generic::fits::has_none;
+use syn_lower::path::{Path, QSelf};
 use syn_op::limits::RangeLimits;
 use syn_tokens::buffer::ParseBuffer;
-use syn_tokens::token::{Colon, Ne, PathSep, Pound};
-
-/// Whether a segment is this word without arguments.
-fn is_plain(segment: &PathSegment, word: &str) -> bool
-    ensures { result ≡ (bytes_eq segment.now.ident word.now && part.has_none (arguments_of segment.now.arguments)) }
-{
-    segment.ident.as_str() == word && has_none(&segment.arguments)
-}
-
-/// Whether this word is the only segment.
-#[tactic(auto, unfolding(syn_lower_lists::specs::View::values))]
-fn is_sole(segments: &Punctuated<PathSegment, PathSep>, word: &str) -> bool
-    ensures { result ≡ stands.is_sole word.now (map (segment_of type_of) (values segments.now)) }
-{
-    match (segments.inner.as_slice(), &segments.last) {
-        ([], Some(segment)) => is_plain(segment, word),
-        ([(segment, _)], None) => is_plain(segment, word),
-        _ => false,
-    }
-}
-
-/// Whether a path is this word alone.
-fn is_word_alone(qself: &Option<QSelf>, path: &Path, word: &str) -> bool
-    ensures { result ≡ stands.is_word_alone word.now (qself_or type_of qself.now) (path_of type_of path.now) }
-{
-    match qself {
-        Some(_) => false,
-        None => path.leading_colon.is_none() && is_sole(&path.segments, word),
-    }
-}
+use syn_tokens::token::{Colon, Ne, Pound};
 
 /// Whether a path stands alone: no brace behind it makes it a struct expression, and it begins no other expression.
 #[tactic(auto, unfolding(syn_grammar::specs::Stands::leaf_stands, syn_tokens::specs::Sign::sign_text, syn_parts::specs::Mark::sign_at))]

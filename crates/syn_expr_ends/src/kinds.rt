@@ -1,12 +1,12 @@
 //! What the readers of the kinds of expressions ask of the types of expressions and of patterns.
 
 ghost use Rattle.std.specs.Prelude.{◌≡◌, ◌≤◌, IfOk, [], MatchResult, true, false};
-ghost use Rattle.syn_expr_kinds.specs.Attrs.{all_outer};
 ghost use Rattle.syn_expr_kinds.specs.Attrs.{attrs_of};
 ghost use Rattle.syn_grammar.specs.Stands.{is_adorned, is_verbatim};
 ghost use Rattle.syn_grammar.specs.Tree as e;
 ghost use Rattle.syn_lower_leaves.specs.Reads.{Reads};
 ghost use Rattle.syn_parts.specs.Pat as pat;
+ghost use Rattle.syn_parts.specs.PatFits.{attributes_outer};
 ghost use Rattle.syn_tokens.specs.Tok.{weight};
 
 use std::alloc::AllocError;
@@ -44,7 +44,7 @@ pub trait ReadExprs: IsExpr + HasNode + HasKind {
 
     /// It with outer attributes before it, where none stand before it and it isn't of tokens that are kept.
     fn with_attrs(self, attrs: Vec<Attribute>) -> std::result::Result<Self, AllocError>
-        requires outer { all_outer (attrs_of attrs) ≡ true }
+        requires outer { attributes_outer (attrs_of attrs) ≡ true }
         requires bare { is_adorned (Self.tree self) ≡ false }
         requires not_kept { is_verbatim (Self.tree self) ≡ false }
         ensures { IfOk result (λ x. Self.tree x ≡ e.adorn (attrs_of attrs) (Self.tree self)) };

@@ -1,21 +1,15 @@
 -- What is well-formed has outer attributes alone before its parentheses.
 use Rattle.std.specs.Prelude.{not, ◌&&◌, ◌||◌}
-use Rattle.std.proofs.Common.{◌≡◌, Bool, true, false, List, [], ◌∷◌, refl}
-use Rattle.syn_parts.specs.Tree.{AttributeTree}
+use Rattle.std.proofs.Common.{◌≡◌, Bool, true, false, ◌∷◌, refl}
 use Rattle.syn_parts.specs.PatFits.{attributes_outer}
 use Rattle.syn_grammar.specs.Tree as e
 use Rattle.syn_grammar.specs.Tree.{Tree, Kids, Piece, leaf, paren, adorned, lead, mid, post, tail, frame, none, kid, is_none}
 use Rattle.syn_grammar.specs.Slot.{Slot, after}
 use Rattle.syn_grammar.specs.Stands.{is_adorned}
 use Rattle.syn_grammar.specs.WellFormed.{is_kept_block, lead_fits, infix_fits, post_fits, trailer_fits, trailer_slot, frame_fits, frame_slot, piece_fits, ending_fits, keeps_block, well, kids_well, is_well_formed}
-use Rattle.syn_grammar.proofs.Bools.{both_true, both}
-use Rattle.syn_expr_kinds.specs.Attrs.{all_outer}
+use Rattle.syn_grammar.proofs.Bools.{both_true}
 use Rattle.syn_expr_flat.specs.Outer.{HasOuterParens, HaveOuterParens}
 use Rattle.syn_expr_flat.proofs.OuterParens.{before_any}
-
-all_are_outer : (ats : List AttributeTree) → attributes_outer ats ≡ true → all_outer ats ≡ true
-all_are_outer [] h = refl
-all_are_outer (a ∷ more) h = let p = both_true (not a.inner) (attributes_outer more) h in both _ _ p.0 (all_are_outer more p.1)
 
 none_outer : (ks : Kids) → is_none ks ≡ true → HaveOuterParens ks
 none_outer none h = tt
@@ -42,7 +36,7 @@ mutual
   well_outer (adorned a more t) h =
       let p = both_true (attributes_outer (a ∷ more)) (not (is_adorned t) && well t) h in
       let q = both_true (not (is_adorned t)) (well t) p.1 in
-      (before_any (a ∷ more) t (all_are_outer (a ∷ more) p.0), well_outer t q.1)
+      (before_any (a ∷ more) t p.0, well_outer t q.1)
   well_outer (lead k gs t) h =
       let p = both_true (lead_fits k) (is_none gs && well t) h in
       let q = both_true (is_none gs) (well t) p.1 in

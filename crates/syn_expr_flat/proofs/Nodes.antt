@@ -8,13 +8,14 @@ use Rattle.syn_tokens.specs.Tok.{Tok}
 use Rattle.syn_parts.specs.Tree.{AttributeTree}
 use Rattle.syn_parts.specs.Own.{attribute_own}
 use Rattle.syn_parts.specs.PatOwn.{attributes_own}
+use Rattle.syn_parts.specs.PatFits.{attributes_outer}
 use Rattle.syn_lower_leaves.specs.declared.attr.Attribute.{Attribute}
 use Rattle.syn_grammar.specs.declared.kinds.Infix.{Infix}
 use Rattle.syn_grammar.specs.Tree as e
 use Rattle.syn_grammar.specs.Tree.{Tree, Leaf, leaf, paren, adorned, lead, mid, post, tail, frame, none, adorn, prepend, flatten}
 use Rattle.syn_grammar.specs.Stands.{is_verbatim_leaf}
 use Rattle.syn_grammar.proofs.Bools.{both_true, both}
-use Rattle.syn_expr_kinds.specs.Attrs.{attrs_of, all_outer}
+use Rattle.syn_expr_kinds.specs.Attrs.{attrs_of}
 use Rattle.syn_expr_flat.specs.Outer.{HasOuterParens}
 use Rattle.syn_expr_flat.specs.Flat.{IsFlat, IsFlatBehind, before, behind}
 
@@ -62,8 +63,8 @@ outer_inside (a ∷ more) t h = h.1
 
 -- a node behind its own attributes, made anew behind all
 pub at_node : (ats : Option (Vec Attribute Global)) (own now : List AttributeTree) (t u : Tree) → is_plain t ≡ true
-    → (all_outer (before ats) ≡ true → now ≡ before ats ++ own)
-    → (all_outer (before ats) ≡ true → IsFlat t u)
+    → (attributes_outer (before ats) ≡ true → now ≡ before ats ++ own)
+    → (attributes_outer (before ats) ≡ true → IsFlat t u)
     → IsFlatBehind ats (adorn own t) (adorn now u)
 unfolding IsFlat IsFlatBehind
 at_node ats own now t u plain joined flat = λ o h.
@@ -129,21 +130,21 @@ more_before xs (b ∷ bs) (post x k) = refl
 more_before xs (b ∷ bs) (tail t k ks) = refl
 more_before xs (b ∷ bs) (frame k ks) = refl
 
-outer_both : (xs ys : List AttributeTree) → all_outer xs ≡ true → all_outer ys ≡ true → all_outer (xs ++ ys) ≡ true
+pub outer_both : (xs ys : List AttributeTree) → attributes_outer xs ≡ true → attributes_outer ys ≡ true → attributes_outer (xs ++ ys) ≡ true
 outer_both [] ys h k = k
 outer_both (a ∷ more) ys h k =
-    let p = both_true (not a.inner) (all_outer more) h in both (not a.inner) (all_outer (more ++ ys)) p.0 (outer_both more ys p.1 k)
+    let p = both_true (not a.inner) (attributes_outer more) h in both (not a.inner) (attributes_outer (more ++ ys)) p.0 (outer_both more ys p.1 k)
 
 -- what parentheses held, behind their attributes too
 pub at_paren : (ats : Option (Vec Attribute Global)) (own : List AttributeTree) (v : Vec Attribute Global) (t u : Tree)
     → attrs_of v ≡ before ats ++ own → IsFlatBehind (Some v) t u → IsFlatBehind ats (adorn own (paren false t)) u
 unfolding IsFlatBehind
-at_paren None [] v t u joined flat = λ o h. flat (ap all_outer joined) h ∙ ap (λ l. prepend l (flatten t)) joined ∙ none_before (flatten t)
-at_paren None (a ∷ more) v t u joined flat = λ o h. flat (ap all_outer joined ∙ h.0) h.1 ∙ ap (λ l. prepend l (flatten t)) joined
+at_paren None [] v t u joined flat = λ o h. flat (ap attributes_outer joined) h ∙ ap (λ l. prepend l (flatten t)) joined ∙ none_before (flatten t)
+at_paren None (a ∷ more) v t u joined flat = λ o h. flat (ap attributes_outer joined ∙ h.0) h.1 ∙ ap (λ l. prepend l (flatten t)) joined
 at_paren (Some w) [] v t u joined flat = λ o h.
-    let same = joined ∙ append-nil (attrs_of w) in flat (ap all_outer same ∙ o) h ∙ ap (λ l. prepend l (flatten t)) same
+    let same = joined ∙ append-nil (attrs_of w) in flat (ap attributes_outer same ∙ o) h ∙ ap (λ l. prepend l (flatten t)) same
 at_paren (Some w) (a ∷ more) v t u joined flat = λ o h.
-    flat (ap all_outer joined ∙ outer_both (attrs_of w) (a ∷ more) o h.0) h.1 ∙ ap (λ l. prepend l (flatten t)) joined ∙ more_before (attrs_of w) (a ∷ more) (flatten t)
+    flat (ap attributes_outer joined ∙ outer_both (attrs_of w) (a ∷ more) o h.0) h.1 ∙ ap (λ l. prepend l (flatten t)) joined ∙ more_before (attrs_of w) (a ∷ more) (flatten t)
 
 -- where no parentheses stood round it
 pub none_behind : (t u : Tree) → IsFlatBehind None t u → IsFlat t u

@@ -3,16 +3,16 @@ use Rattle.std.proofs.Common.{◌≡◌, ℕ, true, false, List, [], ◌∷◌, 
 use Rattle.syn_tokens.specs.Tok.{Tok}
 use Rattle.syn_parts.specs.Pat.{an_index, a_name}
 use Rattle.syn_parts.specs.Tree.{AttributeTree}
+use Rattle.syn_parts.specs.PatFits.{attributes_outer}
 use Rattle.syn_grammar.specs.declared.kinds.Place.{Place}
 use Rattle.syn_grammar.specs.Slot.{Slot, Holder}
 use Rattle.syn_grammar.specs.Stands.{Node, is_leaf, is_become, is_attributed, is_paren, is_adorned_by, is_lead, is_mid, is_post, is_tail, is_indexed, is_frame, Content, holds_none, holds_within, holds_bare, Operands, no_more, one_more, short, block, arms_inside, fields_of, short_value, path_of, Stands}
 use Rattle.syn_grammar.specs.Tree as e
 use Rattle.syn_grammar.specs.Tree.{Tree, Kids, Piece, paren, tail, none}
-use Rattle.syn_expr_kinds.specs.Attrs.{all_outer}
 use Rattle.syn_expr_kinds.proofs.Outers.{outer_behind}
 use Rattle.syn_expr_flat.specs.Outer.{AreOuter, HasOuterParens, HaveOuterParens}
 
-pub before_any : (ats : List AttributeTree) (t : Tree) → all_outer ats ≡ true → AreOuter ats t
+pub before_any : (ats : List AttributeTree) (t : Tree) → attributes_outer ats ≡ true → AreOuter ats t
 before_any ats (paren m t) h = h
 before_any ats _ h = tt
 

@@ -5,9 +5,10 @@ use Rattle.std.specs.declared.alloc.Global.{Global}
 use Rattle.std.specs.declared.alloc.AllocError.{AllocError}
 use denote.Ref.{MutBor}
 use Rattle.syn_parts.specs.Tree.{AttributeTree}
+use Rattle.syn_parts.specs.PatFits.{attributes_outer}
 use Rattle.syn_lower_leaves.specs.declared.attr.Attribute.{Attribute}
 use Rattle.syn_grammar.specs.Tree.{Tree, Kids, prepend, flatten, flatten_kids}
-use Rattle.syn_expr_kinds.specs.Attrs.{attrs_of, all_outer}
+use Rattle.syn_expr_kinds.specs.Attrs.{attrs_of}
 use Rattle.syn_expr_kinds.specs.View.{FieldView}
 use Rattle.syn_expr_flat.specs.Outer.{HasOuterParens, HaveOuterParens}
 
@@ -38,7 +39,7 @@ behind (Some v) t = prepend (attrs_of v) t
 
 -- u is t without its parentheses, behind these outer attributes
 unfoldable pub IsFlatBehind : Option (Vec Attribute Global) → Tree → Tree → Type 0
-IsFlatBehind ats t u = all_outer (before ats) ≡ true → HasOuterParens t → u ≡ behind ats (flatten t)
+IsFlatBehind ats t u = attributes_outer (before ats) ≡ true → HasOuterParens t → u ≡ behind ats (flatten t)
 
 -- a call that flattens what it is lent, behind attributes that it is given
 abbrev pub FlattensBehind : {E : Type 0} → (E → Tree) → (MutBor E → Option (Vec Attribute Global) → Result (Unit {0}) AllocError → MutBor E → Type 0) → Type 0

@@ -2,12 +2,12 @@
 -- inner one could stand.
 use Rattle.std.specs.Prelude.{◌≡◌, ⊤, true, List, ◌∷◌}
 use Rattle.syn_parts.specs.Tree.{AttributeTree}
+use Rattle.syn_parts.specs.PatFits.{attributes_outer}
 use Rattle.syn_grammar.specs.Tree.{Tree, Kids, leaf, paren, adorned, lead, mid, post, tail, frame, none, kid}
-use Rattle.syn_expr_kinds.specs.Attrs.{all_outer}
 
 -- attributes before a tree
 abbrev pub AreOuter : List AttributeTree → Tree → Type 0
-AreOuter ats (paren m t) = all_outer ats ≡ true
+AreOuter ats (paren m t) = attributes_outer ats ≡ true
 AreOuter ats _ = ⊤
 
 abbrev mutual

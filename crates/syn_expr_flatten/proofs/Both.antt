@@ -6,6 +6,7 @@ use Rattle.std.specs.declared.alloc.Global.{Global}
 use Rattle.syn_parts.specs.Tree.{AttributeTree}
 use Rattle.syn_parts.specs.Pat as t
 use Rattle.syn_parts.specs.Pat.{PatTree}
+use Rattle.syn_parts.specs.PatFits.{attributes_outer}
 use Rattle.syn_lower.specs.View.{mapped, lifetimes_of, return_of, values, trails}
 use Rattle.syn_lower_leaves.specs.declared.attr.Attribute.{Attribute}
 use Rattle.syn_lower_lists.specs.declared.punctuated.Punctuated.{Punctuated}
@@ -13,7 +14,7 @@ use Rattle.syn_grammar.specs.Tree as e
 use Rattle.syn_grammar.specs.Tree.{Tree, ClosureHead, lead, frame, kid, none}
 use Rattle.syn_expr_parts.specs.View.{label_of}
 use Rattle.syn_pat_kinds.specs.View.{PatView}
-use Rattle.syn_expr_kinds.specs.Attrs.{attrs_of, outer_of, inner_of, all_outer}
+use Rattle.syn_expr_kinds.specs.Attrs.{attrs_of, outer_of, inner_of}
 use Rattle.syn_expr_kinds.specs.Both.{arm_of, expr_closure_of, expr_for_loop_of, expr_let_of, expr_match_of, guarded_of}
 use Rattle.syn_expr_kinds.specs.Pats.{ArmView, arms, closure_by, guards, strays, trees}
 use Rattle.syn_expr_kinds.specs.View.{body_of}
@@ -34,7 +35,7 @@ use Rattle.syn_expr_flat.proofs.Pats.{attributed}
 
 -- these attributes, and those of parentheses before them
 abbrev pub Joined : Option (Vec Attribute Global) → Vec Attribute Global → Vec Attribute Global → Type 0
-Joined ats old new = (all_outer (before ats) ≡ true → outer_of new ≡ before ats ++ outer_of old) × (all_outer (before ats) ≡ true → inner_of new ≡ inner_of old)
+Joined ats old new = (attributes_outer (before ats) ≡ true → outer_of new ≡ before ats ++ outer_of old) × (attributes_outer (before ats) ≡ true → inner_of new ≡ inner_of old)
 
 module _ {P : Type 0} (g : P → PatView) where
   abbrev pub ArePats : List P → List P → Type 0

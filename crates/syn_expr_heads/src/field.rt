@@ -8,9 +8,9 @@ ghost use Rattle.syn_lower_leaves.specs.Reads.{Reads};
 ghost use Rattle.syn_tokens.specs.Tok.{weight};
 
 use crate::types::FieldHead;
-use crate::word::{colon, dots};
 use syn_expr_parts::member::Member;
 use syn_expr_parts::reader::member;
+use syn_lower_leaves::front::{colon, dots};
 use syn_lower_leaves::kept::outer_attributes;
 use syn_tokens::buffer::{ParseBuffer, Token};
 use syn_tokens::error::{ErrorKind, Expected, Result};

@@ -7,12 +7,11 @@ ghost use Rattle.syn_lower_leaves.specs.Reads.{Reads};
 ghost use Rattle.syn_lower_leaves.specs.View.{mapped};
 ghost use Rattle.syn_tokens.specs.Tok.{weight};
 
-use crate::word::colon;
 use syn_expr_parts::label::Label;
-use syn_lower_leaves::leaf::{lifetime, lifetime_at};
-use syn_tokens::buffer::{ParseBuffer, Token};
-use syn_tokens::error::{ErrorKind, Expected, Result};
-use syn_tokens::token::Colon;
+use syn_expr_parts::reader::label;
+use syn_lower_leaves::leaf::lifetime_at;
+use syn_tokens::buffer::ParseBuffer;
+use syn_tokens::error::Result;
 
 /// Reads a label, if a lifetime stands first (Rust Reference, "Loop labels"). A missing `:` is refused as `ExpectedToken`
 /// of it.
@@ -21,12 +20,9 @@ pub fn maybe_label(input: &mut ParseBuffer<'_>) -> Result<Option<Label>>
     ensures noted { input.new.noted ≡ input.old.noted }
     ensures shrinks { weight input.new.rest ≤ weight input.old.rest }
 {
-    if !lifetime_at(input) {
-        return Ok(None);
+    if lifetime_at(input) {
+        Ok(Some(label(input)?))
+    } else {
+        Ok(None)
     }
-    let name = lifetime(input)?;
-    let Some(colon_token) = colon(input) else {
-        return Err(input.error(ErrorKind::ExpectedToken(Expected::One(Colon::wanted()))));
-    };
-    Ok(Some(Label { name, colon_token }))
 }

@@ -7,15 +7,13 @@ ghost use Rattle.syn_grammar.specs.Read as read;
 ghost use Rattle.syn_grammar.specs.Slot as slot;
 ghost use Rattle.syn_lower_leaves.specs.Reads.{Takes};
 ghost use Rattle.syn_parts.specs.Form.{flag};
-ghost use Rattle.syn_parts.specs.Mark as mark;
-ghost use Rattle.syn_parts.specs.Pat as pat;
 ghost use Rattle.syn_tokens.specs.Tok.{weight};
 
 use syn_lower_leaves::front::{sign, word};
 use syn_tokens::buffer::ParseBuffer;
 use syn_tokens::token::{
-    Async, Await, Become, Break, Colon, Continue, Dot, DotDot, Else, FatArrow, If, In, Let, Loop,
-    Match, Minus, Move, Or, Raw, Return, Sign, Try, While, Yield,
+    Async, Await, Become, Break, Continue, Dot, DotDot, Else, FatArrow, If, In, Let, Loop, Match,
+    Minus, Move, Or, Raw, Return, Sign, Try, While, Yield,
 };
 
 /// Takes `return`.
@@ -218,31 +216,10 @@ pub fn minus(input: &mut ParseBuffer<'_>) -> Option<Minus>
     sign(input)
 }
 
-/// Takes `..`.
-#[tactic(auto, unfolding(syn_tokens::specs::Sign::sign_text, syn_parts::specs::Mark::sign_at))]
-pub fn dots(input: &mut ParseBuffer<'_>) -> Option<DotDot>
-    ensures value { Takes pat.dots input.old result input.new }
-    ensures smaller { IfSome result (λ _. weight input.new.rest < weight input.old.rest) }
-    ensures shrinks { weight input.new.rest ≤ weight input.old.rest }
-{
-    sign(input)
-}
-
 /// Takes `=>`.
 #[tactic(auto, unfolding(syn_tokens::specs::Sign::sign_text, syn_parts::specs::Mark::sign_at))]
 pub fn fat_arrow(input: &mut ParseBuffer<'_>) -> Option<FatArrow>
     ensures value { Takes slot.fat_arrow input.old result input.new }
-    ensures smaller { IfSome result (λ _. weight input.new.rest < weight input.old.rest) }
-    ensures shrinks { weight input.new.rest ≤ weight input.old.rest }
-{
-    sign(input)
-}
-
-/// Takes `:`.
-#[tactic(auto, unfolding(syn_tokens::specs::Sign::sign_text, syn_parts::specs::Mark::sign_at))]
-pub fn colon(input: &mut ParseBuffer<'_>) -> Option<Colon>
-    ensures value { Takes mark.colon input.old result input.new }
-    ensures flag { (flag mark.colon).reads input.old.rest ≡ Some (is_some result, input.new.rest) }
     ensures smaller { IfSome result (λ _. weight input.new.rest < weight input.old.rest) }
     ensures shrinks { weight input.new.rest ≤ weight input.old.rest }
 {

@@ -10,7 +10,9 @@ use Rattle.syn_lower_leaves.specs.ReadBack.{all_printed}
 use Rattle.syn_lower_leaves.specs.View.{attribute_of}
 use Rattle.syn_lower_leaves.specs.declared.attr.Attribute.{Attribute}
 use Rattle.syn_pat_kinds.proofs.Appends.{attribute_append, attributes_append}
-use Rattle.syn_expr_kinds.specs.Attrs.{before_inner, from_inner, all_inner, is_in_order, outer_part, inner_part}
+use Rattle.syn_grammar.specs.WellFormed.{attributes_inner}
+use Rattle.syn_grammar.proofs.Bools.{both_true}
+use Rattle.syn_expr_kinds.specs.Attrs.{before_inner, from_inner, is_in_order, outer_part, inner_part}
 use Rattle.syn_expr_kinds.specs.Before.{before_printed}
 
 pub all_is : (xs : List Attribute) → attributes_own (map attribute_of xs) [] ≡ all_printed (λ a. attribute_own (attribute_of a) []) xs
@@ -42,12 +44,12 @@ none_if : (b : Bool) (ats : List AttributeTree) (a : AttributeTree) → is_nil (
 none_if true ats a = refl
 none_if false ats a = refl
 
-outer_first : (i : Bool) (ts : List Tok) (more : List AttributeTree) → let ats : List AttributeTree = record { inner = i; tokens = ts } ∷ more in is_nil (outer_part ats) ≡ all_inner ats
-outer_first true ts more = none_if (all_inner more) more (record { inner = true; tokens = ts })
-outer_first false ts more = some_if (all_inner (from_inner more)) (before_inner more) more (record { inner = false; tokens = ts })
+outer_first : (i : Bool) (ts : List Tok) (more : List AttributeTree) → let ats : List AttributeTree = record { inner = i; tokens = ts } ∷ more in is_nil (outer_part ats) ≡ attributes_inner ats
+outer_first true ts more = none_if (attributes_inner more) more (record { inner = true; tokens = ts })
+outer_first false ts more = some_if (attributes_inner (from_inner more)) (before_inner more) more (record { inner = false; tokens = ts })
 
 -- those of a node with braces: one stands before it where one is an outer one
-pub outer_none : (ats : List AttributeTree) → is_nil (outer_part ats) ≡ all_inner ats
+pub outer_none : (ats : List AttributeTree) → is_nil (outer_part ats) ≡ attributes_inner ats
 outer_none [] = refl
 outer_none (a ∷ more) = outer_first a.inner a.tokens more
 
@@ -65,3 +67,15 @@ pub inner_none : (ats : List AttributeTree) → is_nil (inner_part ats) ≡ (not
 inner_none ats = inner_if (is_in_order ats) (from_inner ats)
 
 pub ruleset inners = (inner_none, none_map)
+
+-- ---- where all are inner ones
+
+pub no_outer : (ats : List AttributeTree) → attributes_inner ats ≡ true → outer_part ats ≡ []
+no_outer [] h = refl
+no_outer (a ∷ more) h = let (i, j) = both_true a.inner (attributes_inner more) h in rw (i, j) refl
+
+pub all_inside : (ats : List AttributeTree) → attributes_inner ats ≡ true → inner_part ats ≡ ats
+all_inside [] h = refl
+all_inside (a ∷ more) h = let (i, j) = both_true a.inner (attributes_inner more) h in rw (i, j) refl
+
+pub ruleset insides = (no_outer, all_inside)

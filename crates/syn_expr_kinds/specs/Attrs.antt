@@ -1,8 +1,9 @@
 -- The attributes of a node, as its tree has them (Rust Reference, "Attributes").
-use Rattle.std.specs.Prelude.{Bool, true, not, ◌&&◌, if◌then◌else◌, List, [], ◌∷◌, map}
+use Rattle.std.specs.Prelude.{Bool, if◌then◌else◌, List, [], ◌∷◌, map}
 use Rattle.std.specs.declared.vec.Vec.{Vec}
 use Rattle.std.specs.declared.alloc.Global.{Global}
 use Rattle.syn_parts.specs.Tree.{AttributeTree}
+use Rattle.syn_grammar.specs.WellFormed.{attributes_inner}
 use Rattle.syn_lower_leaves.specs.View.{attribute_of}
 use Rattle.syn_lower_leaves.specs.declared.attr.Attribute.{Attribute}
 
@@ -18,17 +19,9 @@ abbrev pub from_inner : List AttributeTree → List AttributeTree
 from_inner [] = []
 from_inner (a ∷ more) = if a.inner then a ∷ more else from_inner more
 
-abbrev pub all_inner : List AttributeTree → Bool
-all_inner [] = true
-all_inner (a ∷ more) = a.inner && all_inner more
-
-abbrev pub all_outer : List AttributeTree → Bool
-all_outer [] = true
-all_outer (a ∷ more) = not a.inner && all_outer more
-
 -- no outer one stands behind an inner one
 abbrev pub is_in_order : List AttributeTree → Bool
-is_in_order ats = all_inner (from_inner ats)
+is_in_order ats = attributes_inner (from_inner ats)
 
 -- Of a node with braces: the outer ones stand before it, the inner ones first in its braces; out of order all stand before it.
 abbrev pub outer_part : List AttributeTree → List AttributeTree

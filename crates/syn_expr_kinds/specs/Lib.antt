@@ -6,3 +6,4 @@ pub mod Pats
 pub mod Printed
 pub mod View
 pub mod FieldStands
+pub mod Exactly

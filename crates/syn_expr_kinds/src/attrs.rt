@@ -5,6 +5,7 @@ ghost use Rattle.syn_expr_kinds.specs.Attrs as spec;
 ghost use Rattle.syn_expr_kinds.specs.Attrs.{inner_of};
 ghost use Rattle.syn_expr_kinds.specs.Node.{before_of, braces_of};
 ghost use Rattle.syn_expr_kinds.specs.Before.{before_printed};
+ghost use Rattle.syn_grammar.specs.WellFormed.{attributes_inner};
 ghost use Rattle.syn_lower_leaves.specs.ReadBack.{all_printed};
 ghost use Rattle.syn_lower_leaves.specs.View.{attribute_of};
 ghost use Rattle.syn_parts.specs.Form.{is_nil};
@@ -39,7 +40,7 @@ fn from_inner(attrs: &[Attribute]) -> &[Attribute]
 
 /// Whether all are inner ones.
 fn all_inner(mut attrs: &[Attribute]) -> bool
-    ensures { result ≡ spec.all_inner (map attribute_of attrs.entry.now) }
+    ensures { result ≡ attributes_inner (map attribute_of attrs.entry.now) }
 {
     'attrs: while let [attr, more @ ..] = attrs {
         if !is_inner(attr) {

@@ -15,6 +15,7 @@ pub mod like;
 pub mod node;
 pub mod operation;
 pub mod parse;
+pub mod path;
 pub mod pattern;
 pub mod put;
 pub mod shape;

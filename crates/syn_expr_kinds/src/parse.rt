@@ -1,26 +1,19 @@
 //! What a field asks of the type of expressions to be read by itself (Rust Reference, "Struct expressions").
 
-ghost use Rattle.std.specs.Prelude.{◌≡◌, ◌≤◌, ◌+◌, List, IfErr, IfOk, MatchResult};
+ghost use Rattle.syn_expr_kinds.specs.Exactly.{ReadsExactly};
 ghost use Rattle.syn_expr_kinds.specs.FieldStands.{FieldStands};
-ghost use Rattle.syn_expr_kinds.specs.View.{FieldView, field_value_of};
-ghost use Rattle.syn_tokens.specs.Input.{IsAfter};
-ghost use Rattle.syn_tokens.specs.Tok.{Tok, weight};
+ghost use Rattle.syn_expr_kinds.specs.View.{field_value_of};
 
 use crate::kinds::HasExprTree;
 use crate::structure::FieldValueOf;
 use syn_tokens::buffer::{Parse, ParseBuffer};
-use syn_tokens::error::{ErrorKind, Result};
+use syn_tokens::error::Result;
 
 /// The type of expressions, as what reads a field of a struct expression by itself.
 pub trait ParseField: HasExprTree {
     /// Reads a field, without the comma behind it. The input stays where it was where it is refused.
     fn parse_field(input: &mut ParseBuffer<'_>) -> Result<FieldValueOf<Self>>
-        ensures read { IfOk result (λ x. FieldStands input.old.rest (field_value_of Self.tree x) input.new.rest) }
-        ensures found { (x : FieldView) (rest : List Tok) → FieldStands input.old.rest x rest → MatchResult result (λ v. (field_value_of Self.tree v ≡ x) × (input.new.rest ≡ rest)) (λ e. e.kind ≡ ErrorKind.OutOfMemory) }
-        ensures noted { input.new.noted ≡ input.old.noted }
-        ensures after { IsAfter input.old input.new }
-        ensures stays { IfErr result (λ _. input.new ≡ input.old) }
-        ensures moves { IfOk result (λ _. 1 + weight input.new.rest ≤ weight input.old.rest) };
+        ensures { ReadsExactly (field_value_of Self.tree) FieldStands input.old result input.new };
 }
 
 impl<E: ParseField> Parse for FieldValueOf<E> {
@@ -43,12 +36,7 @@ impl<E: ParseField> Parse for FieldValueOf<E> {
     /// no member stands, as `ExpectedToken` of the colon where an index has none, and as its attributes, its index and its
     /// value are.
     fn parse(input: &mut ParseBuffer<'_>) -> Result<Self>
-        ensures read { IfOk result (λ x. FieldStands input.old.rest (field_value_of E.tree x) input.new.rest) }
-        ensures found { (x : FieldView) (rest : List Tok) → FieldStands input.old.rest x rest → MatchResult result (λ v. (field_value_of E.tree v ≡ x) × (input.new.rest ≡ rest)) (λ e. e.kind ≡ ErrorKind.OutOfMemory) }
-        ensures noted { input.new.noted ≡ input.old.noted }
-        ensures after { IsAfter input.old input.new }
-        ensures stays { IfErr result (λ _. input.new ≡ input.old) }
-        ensures moves { IfOk result (λ _. 1 + weight input.new.rest ≤ weight input.old.rest) }
+        ensures { ReadsExactly (field_value_of E.tree) FieldStands input.old result input.new }
     {
         E::parse_field(input)
     }

@@ -12,12 +12,13 @@ ghost use Rattle.syn_lower_leaves.specs.Reads.{Reads};
 ghost use Rattle.syn_tokens.specs.Tok.{weight};
 
 use crate::lists::Lists;
-use crate::word::{is_word_alone, named};
+use crate::word::named;
 use syn_expr_ends::kinds::ReadExprs;
 use syn_expr_ends::place::PLAIN;
 use syn_expr_heads::ending::comma_or_end;
 use syn_expr_heads::field::field;
 use syn_expr_heads::types::FieldHead;
+use syn_expr_kinds::path::is_word_alone;
 use syn_expr_kinds::structure::{ExprStructOf, FieldValueOf};
 use syn_expr_parts::member::Member;
 use syn_grammar::kinds::Place;

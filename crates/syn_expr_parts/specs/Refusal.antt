@@ -1,13 +1,17 @@
--- What spells an index alone, and why no member or index is read.
+-- What spells an index alone, and why no member, index or label is read.
 use Rattle.std.specs.Prelude.{◌≡◌, ◌⊎◌, ℕ, Bool, true, false, ◌==◌, if◌then◌else◌, List, ◌∷◌, Option, Some, None}
 use Rattle.syn_tokens.specs.Tok.{Tok, literal}
 use Rattle.syn_tokens.specs.declared.error.ErrorKind.{ErrorKind}
-use Rattle.syn_tokens.specs.declared.error.ErrorKind.TheVariants.{ExpectedMember, ExpectedUnsuffixedInteger, IndexOutOfRange}
+use Rattle.syn_tokens.specs.declared.error.ErrorKind.TheVariants.{ExpectedMember, ExpectedToken, ExpectedUnsuffixedInteger, IndexOutOfRange}
+use Rattle.syn_tokens.specs.declared.error.Expected.TheVariants as expected
+use Rattle.syn_tokens.specs.declared.error.Wanted.TheVariants as wanted
 use Rattle.syn_parts.specs.declared.label.LitKind.{LitKind}
 use Rattle.syn_parts.specs.declared.label.LitKind.TheVariants as kind
 use Rattle.syn_parts.specs.Text.{kind_of}
 use Rattle.syn_parts.specs.Form.{Form, Outcome, leaf}
 use Rattle.syn_parts.specs.Pat.{index_of, integer_value}
+use Rattle.syn_parts.specs.Mark.{lifetime_at}
+use Rattle.syn_lower_leaves.specs.Reads.{wanted_lifetime}
 
 abbrev pub found_if : Option ℕ → List Tok → Outcome ℕ
 found_if None l = None
@@ -37,9 +41,19 @@ abbrev pub member_refusal : List Tok → ErrorKind
 member_refusal (literal text ∷ l) = if is_integer (kind_of text) then by_value (integer_value text) else ExpectedMember
 member_refusal _ = ExpectedMember
 
+-- `:` is expected, by its place in the table of signs
+abbrev pub wanted_colon : ErrorKind
+wanted_colon = ExpectedToken (expected.One (wanted.Sign 6))
+
+abbrev pub label_refusal : List Tok → ErrorKind
+label_refusal l = if lifetime_at l then wanted_colon else wanted_lifetime
+
 -- the kinds that these are
 abbrev pub MayRefuseIndex : ErrorKind → Type 0
 MayRefuseIndex k = (k ≡ ExpectedUnsuffixedInteger) ⊎ (k ≡ IndexOutOfRange)
 
 abbrev pub MayRefuseMember : ErrorKind → Type 0
 MayRefuseMember k = (k ≡ ExpectedMember) ⊎ MayRefuseIndex k
+
+abbrev pub MayRefuseLabel : ErrorKind → Type 0
+MayRefuseLabel k = (k ≡ wanted_lifetime) ⊎ (k ≡ wanted_colon)

@@ -30,14 +30,14 @@ pub struct Index {
 }
 
 impl Index {
-    /// Whether a number is an index: those below 4294967295 are.
+    /// Whether `from_usize` takes a number: those below 4294967295, as in syn. An index that is read may be 4294967295 too.
     pub fn fits(index: usize) -> bool
         ensures { result ≡ nat_lt index 4294967295 }
     {
         index < 4294967295
     }
 
-    /// The index of a number, at no place. Ask `fits` first.
+    /// The index of a number below 4294967295, at no place. Ask `fits` first.
     pub fn from_usize(index: usize) -> Index
         requires fits { index < 4294967295 }
         ensures { result ≡ record { index = index; span = record { lo = 0; hi = 0 } } }
@@ -50,7 +50,7 @@ impl Index {
 }
 
 impl Member {
-    /// The member of a number, at no place. Ask `Index::fits` first.
+    /// The member of a number below 4294967295, at no place. Ask `Index::fits` first.
     pub fn from_usize(index: usize) -> Member
         requires fits { index < 4294967295 }
         ensures { result ≡ variants.Unnamed (record { index = index; span = record { lo = 0; hi = 0 } }) }

@@ -74,6 +74,8 @@ impl ReadByForm for Label {
 
     ghost form = { spec.labeled };
 
+    ghost refuses = { λ kind. (kind ≡ OutOfMemory) ⊎ refusal.MayRefuseLabel kind };
+
     fn read(input: &mut ParseBuffer<'_>) -> Result<Self> {
         label(input)
     }
@@ -92,6 +94,8 @@ impl Parse for Label {
 
     ghost least = { 1 };
 
+    ghost refuses = { λ kind. (kind ≡ OutOfMemory) ⊎ refusal.MayRefuseLabel kind };
+
     /// Reads a label (Rust Reference, "Loop labels"); it is refused as `ExpectedToken` of a lifetime or of `:`.
     fn parse(input: &mut ParseBuffer<'_>) -> Result<Self> {
         ahead(input)
@@ -108,6 +112,7 @@ impl Label {
         ensures after { IsAfter input.old input.new }
         ensures stays { IfErr result (λ _. input.new ≡ input.old) }
         ensures moves { IfOk result (λ x. weight input.new.rest ≤ weight input.old.rest) }
+        ensures refused { IfErr result (λ e. (e.kind ≡ OutOfMemory) ⊎ (e.kind ≡ refusal.wanted_colon)) }
     {
         if !lifetime_at(input) {
             return Ok(None);

@@ -1,11 +1,10 @@
-//! The readers of members and indices: each says as what it refuses.
+//! The readers of members, indices and labels: each says as what it refuses.
 
-ghost use Rattle.std.specs.Prelude.{◌≡◌, ◌⊎◌, ◌<◌, ◌≤◌, ◌+◌, IfErr, IfOk, IfSome};
+ghost use Rattle.std.specs.Prelude.{◌≡◌, ◌⊎◌, ◌≤◌, ◌+◌, IfErr, IfOk};
 ghost use Rattle.syn_expr_parts.specs.Label as labels;
 ghost use Rattle.syn_expr_parts.specs.Refusal as refusal;
 ghost use Rattle.syn_expr_parts.specs.View as view;
-ghost use Rattle.syn_lower_leaves.specs.Reads.{Reads, Takes};
-ghost use Rattle.syn_parts.specs.Mark as mark;
+ghost use Rattle.syn_lower_leaves.specs.Reads.{Reads};
 ghost use Rattle.syn_parts.specs.Pat as spec;
 ghost use Rattle.syn_tokens.specs.Input.{IsAfter};
 ghost use Rattle.syn_tokens.specs.Tok.{weight};
@@ -15,6 +14,7 @@ use crate::label::Label;
 use crate::member::{Index, Member};
 use crate::number::{index_of, is_integer, is_unsuffixed};
 use syn_lexer::reserved::is_reserved_word;
+use syn_lower_leaves::front::colon;
 use syn_lower_leaves::leaf::lifetime;
 use syn_tokens::buffer::ParseBuffer;
 use syn_tokens::copy::copy_ident;
@@ -75,26 +75,12 @@ pub fn member(input: &mut ParseBuffer<'_>) -> Result<Member>
     }
 }
 
-/// Takes `:`, whatever is joined to it.
-#[tactic(auto, using(syn_tokens::proofs::Signs::fronts), unfolding(syn_tokens::specs::Sign::sign_text, syn_parts::specs::Mark::sign_at))]
-fn colon(input: &mut ParseBuffer<'_>) -> Option<Colon>
-    ensures value { Takes mark.colon input.old result input.new }
-    ensures smaller { IfSome result (λ _. weight input.new.rest < weight input.old.rest) }
-    ensures shrinks { weight input.new.rest ≤ weight input.old.rest }
-{
-    if !input.peek::<Colon>() {
-        return None;
-    }
-    let spans = input.spans();
-    input.skip(1);
-    Some(Colon { spans })
-}
-
 /// Reads a label. A missing lifetime or `:` is refused as `ExpectedToken` of it.
 pub fn label(input: &mut ParseBuffer<'_>) -> Result<Label>
     ensures value { Reads view.label_of (labels.labeled.reads input.old.rest) result input.new.rest }
     ensures noted { input.new.noted ≡ input.old.noted }
     ensures shrinks { weight input.new.rest ≤ weight input.old.rest }
+    ensures refused { IfErr result (λ e. (e.kind ≡ OutOfMemory) ⊎ ((e.kind ≡ refusal.label_refusal input.old.rest) × refusal.MayRefuseLabel e.kind)) }
 {
     let name = lifetime(input)?;
     let Some(colon_token) = colon(input) else {

@@ -1,57 +1,28 @@
 -- What follows the own tokens of a tree follows them as they are.
-use Rattle.std.proofs.Common.{◌≡◌, Bool, true, false, List, [], ◌∷◌, ◌++◌, Option, Some, None, refl, sym, ap, ◌∙◌, append_assoc}
-use Rattle.std.proofs.lemmas.List.{append-nil}
+use Rattle.std.proofs.Common.{◌≡◌, Bool, true, false, List, [], ◌∷◌, ◌++◌, Option, Some, None, refl}
 use Rattle.std.specs.Prelude.{codes, not, ◌||◌, if◌then◌else◌}
-use Rattle.syn_lexer.specs.declared.lexeme.Delimiter.{Delimiter}
 use Rattle.syn_lexer.specs.declared.lexeme.Delimiter.TheVariants as del
 use Rattle.syn_tokens.specs.Tok.{Tok, ident}
 use Rattle.syn_tokens.specs.Sign.{sign_toks}
 use Rattle.syn_parts.specs.Text.{Text}
 use Rattle.syn_parts.specs.Pat.{PatTree}
 use Rattle.syn_parts.specs.Form.{is_nil}
-use Rattle.syn_parts.specs.Own.{alone, joint, before_if, before_some, comma_before, enclosed, elements_own, lifetime_own, lifetimes_own, block_own}
+use Rattle.syn_parts.specs.Own.{alone, joint, comma_before, enclosed, elements_own, lifetime_own, lifetimes_own, block_own}
 use Rattle.syn_parts.specs.PatOwn.{pat_own}
-use Rattle.syn_parts.proofs.Appends.{lit_append, type_append, arguments_append, lifetimes_own-append, return_append}
-use Rattle.syn_pat_kinds.proofs.Appends.{attributes_append, qualified_append, path_append, member_append, pat_append}
+use Rattle.syn_parts.proofs.Appends.{both, one, if_there, if_some, group_first, kept_append, lifetime_append, lit_append, type_append, arguments_append, lifetimes_own-append, return_append}
+use Rattle.syn_pat_kinds.proofs.Appends.{words, attributes_append, qualified_append, path_append, member_append, pat_append}
 use Rattle.syn_grammar.specs.declared.kinds.Infix.{Infix}
 use Rattle.syn_grammar.specs.declared.kinds.Infix.TheVariants as inf
 use Rattle.syn_grammar.specs.Op.{binary_text, limits_text, unary_text}
 use Rattle.syn_grammar.specs.Tree as e
-use Rattle.syn_grammar.specs.Tree.{Tree, Kids, Jump, Leaf, Lead, Post, Trailer, Frame, Enclosure, Piece, Ending, ClosureHead, leaf, paren, adorned, lead, mid, post, tail, frame, none, kid, sign_before, word_if, label_own, body_own, jump_own, leaf_own, closure_own, lead_own, infix_own, post_own, trailer_own, frame_own, enclosure, piece_own, is_silent, is_repeated, inside_of, ending_own, framed, behind_operands, own, kids_own}
+use Rattle.syn_grammar.specs.Tree.{Tree, Kids, Jump, Leaf, Lead, Post, Trailer, Frame, Enclosure, Piece, Ending, ClosureHead, leaf, paren, adorned, lead, mid, post, tail, frame, none, kid, sign_before, label_own, body_own, jump_own, leaf_own, closure_own, lead_own, infix_own, post_own, trailer_own, frame_own, enclosure, piece_own, is_silent, is_repeated, inside_of, ending_own, framed, behind_operands, own, kids_own}
 
 -- tokens before others, which follow as they are
 abbrev pub Before : (List Tok → List Tok) → Type 0
 Before F = (r : List Tok) → F r ≡ F [] ++ r
 
-both : {F G : List Tok → List Tok} → Before F → Before G → Before (λ r. F (G r))
-both {F} {G} f g r =
-    f (G r) ∙ ap (λ m. F [] ++ m) (g r) ∙ sym (append_assoc (F []) (G []) r) ∙ ap (λ m. m ++ r) (sym (f (G [])))
-
-one : (t : Tok) → Before (λ r. t ∷ r)
-one t r = refl
-
-kept : (ts : List Tok) → Before (λ r. ts ++ r)
-kept ts r = ap (λ m. m ++ r) (sym (append-nil ts))
-
-if_there : (b : Bool) {F : List Tok → List Tok} → Before F → Before (before_if b F)
-if_there true f r = f r
-if_there false f r = refl
-
-if_some : {A : Type 0} (o : Option A) (own : A → List Tok → List Tok) → ((x : A) → Before (own x)) → Before (before_some o own)
-if_some None own h r = refl
-if_some (Some x) own h r = h x r
-
-group_first : (d : Delimiter) (ts : List Tok) → Before (enclosed d ts)
-group_first d ts r = refl
-
-words : (b : Bool) (w : Text) → Before (word_if b w)
-words b w r = if_there b (one (ident w)) r
-
 signs : (text : Text) → Before (sign_before text)
-signs text r = kept (sign_toks text) r
-
-lifetimes : (w : Text) → Before (lifetime_own w)
-lifetimes w r = refl
+signs text r = kept_append (sign_toks text) r
 
 -- ---- labels
 
@@ -62,7 +33,7 @@ labels (Some w) r = refl
 jump_append : (j : Jump) → Before (jump_own j)
 jump_append e.returning r = refl
 jump_append e.yielding r = refl
-jump_append (e.breaking w) r = both (one (ident (codes "break"))) (if_some w lifetime_own lifetimes) r
+jump_append (e.breaking w) r = both (one (ident (codes "break"))) (if_some w lifetime_own lifetime_append) r
 
 blocks : (ts : List Tok) → Before (block_own ts)
 unfolding block_own
@@ -75,14 +46,14 @@ leaf_append (e.mac m) r = both {G = λ l. alone 33 ∷ enclosed m.delimiter m.to
 leaf_append e.infer r = refl
 leaf_append (e.full_range op) r = signs (limits_text op) r
 leaf_append (e.bare_jump j) r = jump_append j r
-leaf_append (e.continuing w) r = both (one (ident (codes "continue"))) (if_some w lifetime_own lifetimes) r
+leaf_append (e.continuing w) r = both (one (ident (codes "continue"))) (if_some w lifetime_own lifetime_append) r
 leaf_append (e.block w b) r = both {G = body_own b} (labels w) (λ l. refl) r
 leaf_append (e.looping w b) r = both {G = λ l. ident (codes "loop") ∷ body_own b l} (labels w) (λ l. refl) r
 leaf_append (e.unsafe_block b) r = refl
 leaf_append (e.const_block b) r = refl
 leaf_append (e.async_block m ts) r = both (one (ident (codes "async"))) (both (words m (codes "move")) (blocks ts)) r
 leaf_append (e.try_block ts) r = both (one (ident (codes "try"))) (blocks ts) r
-leaf_append (e.verbatim ts) r = kept ts r
+leaf_append (e.verbatim ts) r = kept_append ts r
 
 inputs : (xs : List PatTree) (c : Bool) → Before (elements_own pat_own comma_before xs c)
 inputs [] c r = refl
@@ -154,7 +125,7 @@ piece_append e.stray r = refl
 framed_append : (k : Frame) (o : Option Enclosure) (F : List Tok → List Tok) → Before F
     → (r : List Tok) → framed k o (F (behind_operands o r)) r ≡ framed k o (F (behind_operands o [])) [] ++ r
 framed_append k None F f r = both (frame_append k) f r
-framed_append k (Some x) F f r = both (kept x.head) (group_first x.delimiter (F x.ending)) r
+framed_append k (Some x) F f r = both (kept_append x.head) (group_first x.delimiter (F x.ending)) r
 
 operand_append : (silent : Bool) (t : Tree) (F : List Tok → List Tok) → Before (own t) → Before F → Before (λ r. if silent then F r else own t (F r))
 operand_append true t F h f r = f r

@@ -6,6 +6,7 @@ use Rattle.syn_tokens.specs.Tok.{Tok, ident}
 use Rattle.syn_parts.specs.Form.{is_nil}
 use Rattle.syn_parts.specs.Own.{alone, joint, before_if}
 use Rattle.syn_parts.specs.PatOwn.{attributes_own, pat_own}
+use Rattle.syn_lower_leaves.specs.View.{mapped}
 use Rattle.syn_grammar.specs.declared.note.Note.{Note}
 use Rattle.syn_grammar.specs.declared.note.Sort.{Sort}
 use Rattle.syn_grammar.specs.declared.note.Sort.TheVariants as sort
@@ -80,8 +81,7 @@ arms_spelled (x ∷ xs) = (arm_spelled x ++ comma_if (has_comma x (not (is_nil x
 -- ---- behind the block of an `if`
 
 abbrev pub else_tree : {E S : Type 0} → (E → Tree) → Option (S × Box E Global) → Option Tree
-else_tree f None = None
-else_tree f (Some q) = Some (f q.1.value)
+else_tree f otherwise = mapped (λ q. f q.1.value) otherwise
 
 abbrev pub else_spelled : Option Tree → List Tok
 else_spelled None = []

@@ -2,7 +2,7 @@
 //! "Expression attributes").
 
 ghost use Rattle.std.specs.Prelude.{◌≡◌, ◌≤◌, true, drop};
-ghost use Rattle.syn_expr_kinds.specs.Attrs.{all_outer};
+ghost use Rattle.syn_parts.specs.PatFits.{attributes_outer};
 ghost use Rattle.syn_expr_ends.specs.Reads.{Callable, ReadsExpr};
 ghost use Rattle.syn_expr_kinds.specs.Attrs.{attrs_of};
 ghost use Rattle.syn_expr_readers.specs.Loops.{outer_operand};
@@ -48,7 +48,7 @@ fn with_outer<E: ReadExprs + Drop>(
     x: Box<E>,
     span: Span,
 ) -> Result<Box<E>>
-    requires outer { all_outer (attrs_of attrs) ≡ true }
+    requires outer { attributes_outer (attrs_of attrs) ≡ true }
     ensures { Reads (λ b. E.tree b.value) (outer_operand place (toks_of tokens.now) (attrs_of attrs) (E.tree x.value) input.now.rest) result input.now.rest }
 {
     match Box::into_inner(x).into_verbatim() {

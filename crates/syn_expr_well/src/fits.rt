@@ -1,15 +1,13 @@
 //! Whether what a node is but for its operands is read back in its place.
 
-ghost use Rattle.std.specs.Str.{bytes_eq};
-ghost use Rattle.std.specs.Prelude.{◌≡◌, ◌&&◌, map};
+ghost use Rattle.std.specs.Prelude.{◌≡◌};
 ghost use Rattle.syn_expr_kinds.specs.Node.{braces_of, leaf_of, post_of, trailer_of};
 ghost use Rattle.syn_expr_kinds.specs.Attrs.{attrs_of};
 ghost use Rattle.syn_expr_kinds.specs.View.{turbofish_of};
 ghost use Rattle.syn_expr_parts.specs.View.{member_of};
-ghost use Rattle.syn_grammar.specs.Stands as stands;
 ghost use Rattle.syn_grammar.specs.Tree as e;
 ghost use Rattle.syn_grammar.specs.WellFormed as spec;
-ghost use Rattle.syn_lower.specs.View.{type_of, values, segment_of, path_of, qself_or, arguments_of};
+ghost use Rattle.syn_lower.specs.View.{type_of, path_of, qself_or};
 ghost use Rattle.syn_lower_leaves.specs.View.{lit_of};
 ghost use Rattle.syn_parts.specs.Fits.{arguments_fit, unsigned_fits};
 ghost use Rattle.syn_parts.specs.PatFits.{attributes_outer, member_fits};
@@ -17,19 +15,17 @@ ghost use Rattle.syn_parts.specs.declared.label.PathStyle.TheVariants as style;
 ghost use Rattle.syn_parts.specs.Part as part;
 
 use syn_expr_kinds::node::{Braces, Leaf, Post, Trailer};
+use syn_expr_kinds::path::is_word_alone;
 use syn_expr_parts::member::Member;
 use syn_grammar::kinds::Infix;
 use syn_lexer::reserved::is_reserved_word;
 use syn_lower::attr::{AttrStyle, Attribute};
 use syn_lower::lit::Lit;
-use syn_lower::path::{
-    AngleBracketedGenericArguments, Path, PathArguments, PathSegment, PathStyle, QSelf,
-};
-use syn_lower::punctuated::Punctuated;
+use syn_lower::path::{AngleBracketedGenericArguments, Path, PathStyle, QSelf};
 use syn_lower::qpath_is_read_back;
 use syn_op::limits::RangeLimits;
 use syn_tokens::buffer::Token;
-use syn_tokens::token::{Not, PathSep, Pound};
+use syn_tokens::token::{Not, Pound};
 use syn_tokens::tree::TokenStream;
 
 /// Whether a literal is read back, and has no sign: one with a sign is two expressions.
@@ -47,32 +43,6 @@ fn lit_fits(lit: &Lit) -> bool
         Lit::Float(x) => x.is_read_back(),
         Lit::Bool(x) => x.is_read_back(),
     }
-}
-
-/// Whether a segment is this word without arguments.
-fn is_word(segment: &PathSegment, word: &str) -> bool
-    ensures { result ≡ bytes_eq segment.now.ident word.now && part.has_none (arguments_of segment.now.arguments) }
-{
-    segment.ident.as_str() == word && matches!(segment.arguments, PathArguments::None)
-}
-
-/// Whether this word is the only segment.
-#[tactic(auto, unfolding(syn_lower_lists::specs::View::values))]
-fn is_sole(segments: &Punctuated<PathSegment, PathSep>, word: &str) -> bool
-    ensures { result ≡ stands.is_sole word.now (map (segment_of type_of) (values segments.now)) }
-{
-    match (segments.inner.as_slice(), &segments.last) {
-        ([], Some(segment)) => is_word(segment, word),
-        ([(segment, _)], None) => is_word(segment, word),
-        _ => false,
-    }
-}
-
-/// Whether a path is this word alone.
-pub fn is_word_alone(qself: &Option<QSelf>, path: &Path, word: &str) -> bool
-    ensures { result ≡ stands.is_word_alone word.now (qself_or type_of qself.now) (path_of type_of path.now) }
-{
-    qself.is_none() && path.leading_colon.is_none() && is_sole(&path.segments, word)
 }
 
 /// Whether a path is read back as an expression: `try` alone is not.

@@ -7,9 +7,9 @@ ghost use Rattle.syn_expr_well.specs.Walk.{is_word_leaf};
 ghost use Rattle.syn_grammar.specs.WellFormed as spec;
 ghost use Rattle.syn_parts.specs.Pat.{a_name};
 
-use crate::fits::is_word_alone;
 use crate::own::bare_leaf;
 use syn_expr_kinds::node::{HasShape, Leaf};
+use syn_expr_kinds::path::is_word_alone;
 use syn_expr_parts::member::Member;
 
 /// Whether it is the block of its tokens alone, without attributes.

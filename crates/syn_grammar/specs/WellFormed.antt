@@ -114,10 +114,6 @@ abbrev pub is_kept_block : Tree → Bool
 is_kept_block (leaf k) = is_kept_leaf k
 is_kept_block _ = false
 
-abbrev pub is_no_comma : Ending → Bool
-is_no_comma e.comma = false
-is_no_comma _ = true
-
 -- an operand of this kind belongs into the slot, with its tokens before and behind
 abbrev pub piece_fits : Slot → Piece → Ending → Tree → Bool
 piece_fits elements e.element c t = true

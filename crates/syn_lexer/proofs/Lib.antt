@@ -1,4 +1,3 @@
 pub mod CommentLaws
-pub mod LengthLaws
+pub mod FirstBytes
 pub mod LexLaws
-pub mod SameLength

@@ -1,6 +1,6 @@
--- The words that are no identifiers (Rust Reference, "Keywords": strict and reserved ones, `_`, and the weak ones that
--- syn reserves).
-use Rattle.std.specs.Prelude.{ℕ, Bool, false, ◌||◌, List, [], ◌∷◌, codes}
+-- The words that are no identifiers: `_`, and the words of syn's list, which are the strict and reserved keywords but
+-- `gen` (Rust Reference, "Keywords").
+use Rattle.std.specs.Prelude.{ℕ, Bool, false, ◌==◌, ◌||◌, List, [], ◌∷◌, codes}
 use Rattle.std.specs.Str.{bytes_eq}
 
 abbrev pub reserved_words : List (List ℕ)
@@ -14,6 +14,10 @@ reserved_words =
     codes "struct" ∷ codes "super" ∷ codes "trait" ∷ codes "true" ∷ codes "try" ∷ codes "type" ∷
     codes "typeof" ∷ codes "unsafe" ∷ codes "unsized" ∷ codes "use" ∷ codes "virtual" ∷ codes "where" ∷
     codes "while" ∷ codes "yield" ∷ []
+
+abbrev pub begins_with : ℕ → List ℕ → Bool
+begins_with b [] = false
+begins_with b (c ∷ w) = b == c
 
 abbrev pub is_one_of : List (List ℕ) → List ℕ → Bool
 is_one_of [] w = false

@@ -13,7 +13,7 @@ pub enum LexError {
     UnterminatedComment,
     /// `r#_`, `r#self`, `r#Self`, `r#super` or `r#crate` (Rust Reference, "Identifiers").
     ReservedRawIdentifier,
-    /// A number with a missing digit or one outside of its base, or a quote that is not closed (Rust Reference,
+    /// A number with a missing digit or one outside of its base, a quote that is not closed, or `b''` (Rust Reference,
     /// "Tokens", "Literals").
     MalformedLiteral,
     /// A `'` that begins neither a character nor a lifetime, or a raw lifetime (Rust Reference, "Tokens", "Lifetimes

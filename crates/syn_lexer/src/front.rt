@@ -144,8 +144,9 @@ fn reading(text: &[char]) -> Result<Lexeme, Refusal>
 }
 
 /// The longest lexeme at the front of a text that has characters (Rust Reference, "Lexical structure"), or why it
-/// is refused: each `LexError` says when, but those of delimiters never come here. A refusal goes over the whole of a
-/// comment or a raw identifier, up to the character that does not fit a number, and to the end of what is not closed.
+/// is refused: each `LexError` says when, but those of delimiters never come here. A refusal goes over a whole doc comment
+/// or raw identifier, over a number up to the character that does not fit, over a comment or a string that is not closed
+/// to the end of the text, over a character or a byte to where its closing `'` is missing, and else over one character.
 /// The texts of literals are not looked into. Lengths are in characters; no memory is taken.
 pub fn front(text: &[char]) -> Result<Lexeme, Refusal>
     requires { 0 < length text.now }

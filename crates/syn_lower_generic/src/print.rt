@@ -1,29 +1,27 @@
-//! The printers of the parts: each writes its own spelling, the last punct of each token alone.
+//! The printers of paths, of what stands in them, and of macros: each writes its own spelling, the last punct of each token
+//! alone.
 
-ghost use Rattle.std.specs.Prelude.{length, ◌≡◌, ◌++◌, [], ◌∷◌, IfErr, OnOk, OnErr};
-ghost use Rattle.syn_lower_generic.specs.Printed.{option_printed, grouped, colon2, closed_printed, inside_printed, qself_end_printed, qualified_printed, qpath_printed, round_printed, fn_head_printed};
+ghost use Rattle.std.specs.Prelude.{length, ◌≡◌, ◌++◌, ◌∷◌, IfErr, OnOk, OnErr};
+ghost use Rattle.syn_lower_generic.specs.Printed.{grouped, colon2, closed_printed, inside_printed, qself_end_printed, qualified_printed, qpath_printed, round_printed};
 ghost use Rattle.syn_lower_generic.specs.View.{delimiter_of, values};
 ghost use Rattle.syn_parts.specs.Own.{alone, joint, at_most};
 ghost use Rattle.syn_tokens.specs.Input.{IsFront};
-ghost use Rattle.syn_tokens.specs.Tok as tok;
+
+mod ty;
 
 use crate::mac::{MacroDelimiter, MacroOf};
 use crate::path::{
     AngleBracketedGenericArgumentsOf, AssocTypeOf, GenericArgumentOf,
     ParenthesizedGenericArgumentsOf, PathArgumentsOf, PathOf, PathSegmentOf, QSelfOf,
 };
-use crate::ty::{
-    Abi, BareFnArgOf, BoundLifetimes, ReturnTypeOf, TraitBoundOf, TypeArrayOf, TypeFnPtrOf,
-    TypeImplTraitOf, TypeMacroOf, TypeParamBoundOf, TypeParenOf, TypePathOf, TypePtrOf,
-    TypeReferenceOf, TypeSliceOf, TypeTraitObjectOf, TypeTupleOf,
-};
+use crate::ty::ReturnTypeOf;
 use syn_lower_lists::print::print_some;
 use syn_lower_lists::punctuated::Punctuated;
 use syn_tokens::buffer::ToTokens;
 use syn_tokens::copy::copy_trees;
 use syn_tokens::error::{ErrorKind, Result};
-use syn_tokens::token::{As, Colon, Comma, Fn, Gt, Paren, PathSep, RArrow, Unsafe};
-use syn_tokens::tree::{Ident, TokenStream};
+use syn_tokens::token::{As, Comma, Gt, Paren, PathSep, RArrow};
+use syn_tokens::tree::TokenStream;
 
 impl<T: ToTokens> ToTokens for PathSegmentOf<T> {
     ghost use Rattle.syn_lower_generic.specs.Printed.{segment_printed};
@@ -106,164 +104,6 @@ impl<T: ToTokens> ToTokens for MacroOf<T> {
         self.bang_token.to_tokens(tokens)?;
         let inside = copy_trees(tokens.alloc(), self.tokens.trees())?;
         print_group(&self.delimiter, inside, tokens)
-    }
-}
-
-impl<T: ToTokens> ToTokens for TypeMacroOf<T> {
-    ghost use Rattle.syn_lower_generic.specs.Printed.{macro_printed};
-
-    ghost printed = { λ x. macro_printed T.printed x.mac };
-
-    fn to_tokens(&self, tokens: &mut TokenStream) -> Result<()> {
-        self.mac.to_tokens(tokens)
-    }
-}
-
-impl<T: ToTokens> ToTokens for TypeReferenceOf<T> {
-    ghost use Rattle.syn_lower_generic.specs.Printed.{reference_printed};
-
-    ghost printed = { reference_printed T.printed };
-
-    #[tactic(auto, using(syn_tokens::proofs::Fronts::fronts), unfolding(syn_tokens::specs::Sign::sign_text, syn_tokens::specs::Sign::word_text))]
-    fn to_tokens(&self, tokens: &mut TokenStream) -> Result<()> {
-        self.and_token.to_tokens(tokens)?;
-        print_some(&self.lifetime, tokens)?;
-        print_some(&self.mutability, tokens)?;
-        self.elem.to_tokens(tokens)
-    }
-}
-
-impl<T: ToTokens> ToTokens for TypePtrOf<T> {
-    ghost use Rattle.syn_lower_generic.specs.Printed.{ptr_printed};
-
-    ghost printed = { ptr_printed T.printed };
-
-    #[tactic(auto, using(syn_tokens::proofs::Fronts::fronts), unfolding(syn_tokens::specs::Sign::sign_text))]
-    fn to_tokens(&self, tokens: &mut TokenStream) -> Result<()> {
-        self.star_token.to_tokens(tokens)?;
-        self.mutability.to_tokens(tokens)?;
-        self.elem.to_tokens(tokens)
-    }
-}
-
-impl<T: ToTokens> ToTokens for TypeSliceOf<T> {
-    ghost use Rattle.syn_lower_generic.specs.Printed.{slice_printed};
-
-    ghost printed = { slice_printed T.printed };
-
-    #[tactic(auto, using(syn_tokens::proofs::Fronts::fronts))]
-    fn to_tokens(&self, tokens: &mut TokenStream) -> Result<()> {
-        let mut inside = TokenStream::new(tokens.alloc());
-        self.elem.to_tokens(&mut inside)?;
-        tokens.push(self.bracket_token.enclose(inside))?;
-        Ok(())
-    }
-}
-
-impl<T: ToTokens> ToTokens for TypeArrayOf<T> {
-    ghost use Rattle.syn_lower_generic.specs.Printed.{array_printed};
-
-    ghost printed = { array_printed T.printed };
-
-    #[tactic(auto, using(syn_tokens::proofs::Fronts::fronts), unfolding(syn_tokens::specs::Sign::sign_text))]
-    fn to_tokens(&self, tokens: &mut TokenStream) -> Result<()> {
-        let mut inside = TokenStream::new(tokens.alloc());
-        self.elem.to_tokens(&mut inside)?;
-        self.semi_token.to_tokens(&mut inside)?;
-        self.len.to_tokens(&mut inside)?;
-        tokens.push(self.bracket_token.enclose(inside))?;
-        Ok(())
-    }
-}
-
-impl<T: ToTokens> ToTokens for TypeTupleOf<T> {
-    ghost use Rattle.syn_lower_generic.specs.Printed.{tuple_printed};
-
-    ghost printed = { tuple_printed T.printed };
-
-    #[tactic(auto, using(syn_tokens::proofs::Fronts::fronts), unfolding(syn_tokens::specs::Sign::sign_text))]
-    fn to_tokens(&self, tokens: &mut TokenStream) -> Result<()> {
-        let mut inside = TokenStream::new(tokens.alloc());
-        self.elems.to_tokens(&mut inside)?;
-        tokens.push(self.paren_token.enclose(inside))?;
-        Ok(())
-    }
-}
-
-impl<T: ToTokens> ToTokens for TypeParenOf<T> {
-    ghost use Rattle.syn_lower_generic.specs.Printed.{paren_printed};
-
-    ghost printed = { paren_printed T.printed };
-
-    #[tactic(auto, using(syn_tokens::proofs::Fronts::fronts))]
-    fn to_tokens(&self, tokens: &mut TokenStream) -> Result<()> {
-        let mut inside = TokenStream::new(tokens.alloc());
-        self.elem.to_tokens(&mut inside)?;
-        tokens.push(self.paren_token.enclose(inside))?;
-        Ok(())
-    }
-}
-
-impl<T: ToTokens> ToTokens for TypeImplTraitOf<T> {
-    ghost use Rattle.syn_lower_generic.specs.Printed.{impl_printed};
-
-    ghost printed = { impl_printed T.printed };
-
-    #[tactic(auto, using(syn_tokens::proofs::Fronts::fronts), unfolding(syn_tokens::specs::Sign::sign_text, syn_tokens::specs::Sign::word_text))]
-    fn to_tokens(&self, tokens: &mut TokenStream) -> Result<()> {
-        self.impl_token.to_tokens(tokens)?;
-        self.bounds.to_tokens(tokens)
-    }
-}
-
-impl<T: ToTokens> ToTokens for TypeTraitObjectOf<T> {
-    ghost use Rattle.syn_lower_generic.specs.Printed.{object_printed};
-
-    ghost printed = { object_printed T.printed };
-
-    #[tactic(auto, using(syn_tokens::proofs::Fronts::fronts), unfolding(syn_tokens::specs::Sign::sign_text, syn_tokens::specs::Sign::word_text))]
-    fn to_tokens(&self, tokens: &mut TokenStream) -> Result<()> {
-        self.dyn_token.to_tokens(tokens)?;
-        self.bounds.to_tokens(tokens)
-    }
-}
-
-/// Prints the name of an argument, and `:`.
-#[tactic(auto, using(syn_tokens::proofs::Fronts::fronts), unfolding(syn_tokens::specs::Sign::sign_text, crate::specs::Printed::option_printed))]
-fn print_name(name: &Option<(Ident, Colon)>, tokens: &mut TokenStream) -> Result<()>
-    ensures ok { OnOk result (tokens.new ≡ tokens.old ++ option_printed (λ n. tok.ident n.0 ∷ alone 58 ∷ []) name.now) }
-    ensures err { OnErr result (IsFront tokens.old tokens.new) }
-    ensures memory { IfErr result (λ e. e.kind ≡ ErrorKind.OutOfMemory) }
-{
-    if let Some((name, colon)) = name {
-        name.to_tokens(tokens)?;
-        colon.to_tokens(tokens)?;
-    }
-    Ok(())
-}
-
-impl<T: ToTokens> ToTokens for BareFnArgOf<T> {
-    ghost use Rattle.syn_lower_generic.specs.Printed.{arg_printed};
-
-    ghost printed = { arg_printed T.printed };
-
-    #[tactic(auto, using(syn_tokens::proofs::Fronts::fronts))]
-    fn to_tokens(&self, tokens: &mut TokenStream) -> Result<()> {
-        print_name(&self.name, tokens)?;
-        self.ty.to_tokens(tokens)
-    }
-}
-
-impl<T: ToTokens> ToTokens for TraitBoundOf<T> {
-    ghost use Rattle.syn_lower_generic.specs.Printed.{trait_printed};
-
-    ghost printed = { trait_printed T.printed };
-
-    #[tactic(auto, using(syn_tokens::proofs::Fronts::fronts), unfolding(syn_tokens::specs::Sign::sign_text))]
-    fn to_tokens(&self, tokens: &mut TokenStream) -> Result<()> {
-        print_some(&self.maybe, tokens)?;
-        print_some(&self.lifetimes, tokens)?;
-        self.path.to_tokens(tokens)
     }
 }
 
@@ -418,25 +258,6 @@ fn print_arrow<T: ToTokens>(arrow: &RArrow, ty: &T, tokens: &mut TokenStream) ->
     ty.to_tokens(tokens)
 }
 
-/// Prints what stands before the arguments of a function pointer.
-#[tactic(auto, using(syn_tokens::proofs::Fronts::fronts), unfolding(crate::specs::Printed::fn_head_printed, syn_tokens::specs::Sign::word_text))]
-fn print_fn_head(
-    lifetimes: &Option<BoundLifetimes>,
-    unsafety: &Option<Unsafe>,
-    abi: &Option<Abi>,
-    fn_token: &Fn,
-    tokens: &mut TokenStream,
-) -> Result<()>
-    ensures ok { OnOk result (tokens.new ≡ tokens.old ++ fn_head_printed lifetimes.now unsafety.now abi.now) }
-    ensures err { OnErr result (IsFront tokens.old tokens.new) }
-    ensures memory { IfErr result (λ e. e.kind ≡ ErrorKind.OutOfMemory) }
-{
-    print_some(lifetimes, tokens)?;
-    print_some(unsafety, tokens)?;
-    print_some(abi, tokens)?;
-    fn_token.to_tokens(tokens)
-}
-
 impl<T: ToTokens> ToTokens for GenericArgumentOf<T> {
     ghost use Rattle.syn_lower_generic.specs.Printed.{generic_printed};
 
@@ -489,46 +310,5 @@ impl<T: ToTokens> ToTokens for ReturnTypeOf<T> {
             ReturnTypeOf::Default => Ok(()),
             ReturnTypeOf::Given(arrow, ty) => print_arrow(arrow, &**ty, tokens),
         }
-    }
-}
-
-impl<T: ToTokens> ToTokens for TypeParamBoundOf<T> {
-    ghost use Rattle.syn_lower_generic.specs.Printed.{bound_printed};
-
-    ghost printed = { bound_printed T.printed };
-
-    fn to_tokens(&self, tokens: &mut TokenStream) -> Result<()> {
-        match self {
-            TypeParamBoundOf::Lifetime(x) => x.to_tokens(tokens),
-            TypeParamBoundOf::Trait(x) => x.to_tokens(tokens),
-        }
-    }
-}
-
-impl<T: ToTokens> ToTokens for TypePathOf<T> {
-    ghost use Rattle.syn_lower_generic.specs.Printed.{type_path_printed};
-
-    ghost printed = { type_path_printed T.printed };
-
-    fn to_tokens(&self, tokens: &mut TokenStream) -> Result<()> {
-        print_with_qself(&self.qself, &self.path, tokens)
-    }
-}
-
-impl<T: ToTokens> ToTokens for TypeFnPtrOf<T> {
-    ghost use Rattle.syn_lower_generic.specs.Printed.{fn_ptr_printed};
-
-    ghost printed = { fn_ptr_printed T.printed };
-
-    #[tactic(auto, using(syn_tokens::proofs::Fronts::fronts), unfolding(syn_tokens::specs::Sign::sign_text, syn_tokens::specs::Sign::word_text))]
-    fn to_tokens(&self, tokens: &mut TokenStream) -> Result<()> {
-        print_fn_head(
-            &self.lifetimes,
-            &self.unsafety,
-            &self.abi,
-            &self.fn_token,
-            tokens,
-        )?;
-        print_round(&self.paren_token, &self.inputs, &self.output, tokens)
     }
 }

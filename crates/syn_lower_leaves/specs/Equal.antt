@@ -1,6 +1,2 @@
 -- What the equality of a part says.
-use Rattle.std.specs.Prelude.{◌≡◌, ◌↔◌, Bool, true}
-
--- The test answers true exactly where the trees are equal: it compares all that a part is made of, and no place.
-pub record IsEqualityOf {A B : Type 0} (tree : A → B) (test : A → A → Bool) : Type 0 where
-  pub same : (a b : A) → (test a b ≡ true) ↔ (tree a ≡ tree b)
+pub use Rattle.syn_parts.specs.Equal.{IsEqualityOf}

@@ -1,7 +1,10 @@
 -- What a reader ensures.
 use Rattle.std.specs.Prelude.{◌≡◌, ◌≢◌, true, false, List, drop, Option, Some, None, Result, Ok, Err}
 use Rattle.syn_tokens.specs.declared.error.Error.{Error}
-use Rattle.syn_tokens.specs.declared.error.ErrorKind.TheVariants.{OutOfMemory}
+use Rattle.syn_tokens.specs.declared.error.ErrorKind.{ErrorKind}
+use Rattle.syn_tokens.specs.declared.error.ErrorKind.TheVariants.{OutOfMemory, ExpectedToken}
+use Rattle.syn_tokens.specs.declared.error.Expected.TheVariants as expected
+use Rattle.syn_tokens.specs.declared.error.Wanted.TheVariants as wanted
 use Rattle.syn_tokens.specs.Tok.{Tok}
 use Rattle.syn_tokens.specs.Input.{Input}
 use Rattle.syn_parts.specs.Form.{Outcome, Mark}
@@ -15,3 +18,7 @@ Reads view outcome (Err e) new = e.kind ≢ OutOfMemory → outcome ≡ None
 abbrev pub Takes : {A : Type 0} → Mark → Input → Option A → Input → Type 0
 Takes m old (Some t) new = (m.at old.rest ≡ true) × (new ≡ record old { rest = drop m.count old.rest })
 Takes m old None new = (m.at old.rest ≡ false) × (new ≡ old)
+
+-- A lifetime is expected.
+abbrev pub wanted_lifetime : ErrorKind
+wanted_lifetime = ExpectedToken (expected.One wanted.Lifetime)

@@ -13,6 +13,7 @@ pub trait ReadByForm {
     ghost use Rattle.std.specs.Prelude.{ℕ};
     ghost use Rattle.syn_lower_leaves.specs.Reads.{Reads};
     ghost use Rattle.syn_parts.specs.Form.{Form};
+    ghost use Rattle.syn_tokens.specs.declared.error.ErrorKind.{ErrorKind};
 
     /// What contracts see of a value.
     ghost Seen: { Type 0 };
@@ -24,10 +25,14 @@ pub trait ReadByForm {
     /// What a read takes at least, in weight.
     ghost least: { ℕ } = { 1 };
 
+    /// What a read may be refused as.
+    ghost refuses: { ErrorKind → Type 0 } = { λ _. Unit {0} };
+
     /// Reads a value. Where it is refused, tokens may have been passed over.
     fn read(input: &mut ParseBuffer<'_>) -> Result<Self>
         ensures value { Reads seen (form.reads input.old.rest) result input.new.rest }
-        ensures noted { input.new.noted ≡ input.old.noted };
+        ensures noted { input.new.noted ≡ input.old.noted }
+        ensures refused { IfErr result (λ e. refuses e.kind) };
 }
 
 /// Reads a part on a fork, so that the input stays where it was where the part is refused.
@@ -39,6 +44,7 @@ pub fn ahead<T: ReadByForm>(input: &mut ParseBuffer<'_>) -> Result<T>
     ensures noted { input.new.noted ≡ input.old.noted }
     ensures stays { IfErr result (λ _. input.new ≡ input.old) }
     ensures moves { IfOk result (λ v. T.least + weight input.new.rest ≤ weight input.old.rest) }
+    ensures refused { IfErr result (λ e. T.refuses e.kind) }
 {
     let mut ahead = input.fork()?;
     let x = T::read(&mut ahead)?;

@@ -4,13 +4,15 @@ ghost use Rattle.std.specs.Prelude.{◌≡◌, ◌<◌, ◌≤◌, true, false, 
 ghost use Rattle.syn_lower_leaves.specs.Reads.{Takes};
 ghost use Rattle.syn_parts.specs.Form.{flag};
 ghost use Rattle.syn_parts.specs.Mark as mark;
+ghost use Rattle.syn_parts.specs.Pat as pat;
 ghost use Rattle.syn_tokens.specs.Sign as sign_spec;
 ghost use Rattle.syn_tokens.specs.Tok.{weight};
 
 use syn_tokens::buffer::ParseBuffer;
 use syn_tokens::token::{
-    And, As, Colon, Comma, Const, Dyn, Eq, EqEq, Extern, FatArrow, Fn, For, Gt, Impl, Le, Lt, Mut,
-    Ne, Not, PathSep, Plus, Pound, Question, RArrow, Semi, Sign, Star, Underscore, Unsafe, Word,
+    And, As, Colon, Comma, Const, DotDot, Dyn, Eq, EqEq, Extern, FatArrow, Fn, For, Gt, Impl, Le,
+    Lt, Mut, Ne, Not, PathSep, Plus, Pound, Question, RArrow, Semi, Sign, Star, Underscore, Unsafe,
+    Word,
 };
 
 /// Takes a token of some puncts, where it stands first; else nothing changes.
@@ -129,11 +131,33 @@ pub fn question(input: &mut ParseBuffer<'_>) -> Option<Question>
     sign(input)
 }
 
+/// Takes `:`, whatever is joined to it.
+#[tactic(auto, unfolding(syn_tokens::specs::Sign::sign_text, syn_parts::specs::Mark::sign_at))]
+pub fn colon(input: &mut ParseBuffer<'_>) -> Option<Colon>
+    ensures value { Takes mark.colon input.old result input.new }
+    ensures flag { (flag mark.colon).reads input.old.rest ≡ Some (is_some result, input.new.rest) }
+    ensures smaller { IfSome result (λ _. weight input.new.rest < weight input.old.rest) }
+    ensures shrinks { weight input.new.rest ≤ weight input.old.rest }
+{
+    sign(input)
+}
+
 /// Takes `::`.
 #[tactic(auto, unfolding(syn_tokens::specs::Sign::sign_text, syn_parts::specs::Mark::sign_at))]
 pub fn colon2(input: &mut ParseBuffer<'_>) -> Option<PathSep>
     ensures value { Takes mark.colon2 input.old result input.new }
     ensures flag { (flag mark.colon2).reads input.old.rest ≡ Some (is_some result, input.new.rest) }
+    ensures smaller { IfSome result (λ _. weight input.new.rest < weight input.old.rest) }
+    ensures shrinks { weight input.new.rest ≤ weight input.old.rest }
+{
+    sign(input)
+}
+
+/// Takes `..`.
+#[tactic(auto, unfolding(syn_tokens::specs::Sign::sign_text, syn_parts::specs::Mark::sign_at))]
+pub fn dots(input: &mut ParseBuffer<'_>) -> Option<DotDot>
+    ensures value { Takes pat.dots input.old result input.new }
+    ensures flag { (flag pat.dots).reads input.old.rest ≡ Some (is_some result, input.new.rest) }
     ensures smaller { IfSome result (λ _. weight input.new.rest < weight input.old.rest) }
     ensures shrinks { weight input.new.rest ≤ weight input.old.rest }
 {
@@ -217,7 +241,7 @@ pub fn not_ne(input: &mut ParseBuffer<'_>) -> Option<Not>
 
 /// Takes `:` that doesn't begin `::`.
 #[tactic(auto, unfolding(syn_tokens::specs::Sign::sign_text, syn_parts::specs::Mark::sign_at))]
-pub fn colon(input: &mut ParseBuffer<'_>) -> Option<Colon>
+pub fn lone_colon(input: &mut ParseBuffer<'_>) -> Option<Colon>
     ensures value { Takes mark.lone_colon input.old result input.new }
     ensures flag { (flag mark.lone_colon).reads input.old.rest ≡ Some (is_some result, input.new.rest) }
     ensures smaller { IfSome result (λ _. weight input.new.rest < weight input.old.rest) }

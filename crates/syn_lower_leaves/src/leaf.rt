@@ -1,8 +1,8 @@
 //! The readers of the parts that hold no others. A missing lifetime or identifier is refused as `ExpectedToken` of it, a
 //! missing literal as `ExpectedPart` of a literal, and a missing word of a segment as `ExpectedPart` of a path.
 
-ghost use Rattle.std.specs.Prelude.{IfErr, ◌≡◌, ◌≤◌, ◌∷◌, drop, true, false, IfOk, MatchOption, Some, None};
-ghost use Rattle.syn_lower_leaves.specs.Reads.{Reads};
+ghost use Rattle.std.specs.Prelude.{IfErr, ◌≡◌, ◌⊎◌, ◌≤◌, ◌∷◌, drop, true, false, IfOk, MatchOption, Some, None};
+ghost use Rattle.syn_lower_leaves.specs.Reads.{Reads, wanted_lifetime};
 ghost use Rattle.syn_lower_leaves.specs.View.{lifetime_of, lit_of, lit_str_of, signed};
 ghost use Rattle.syn_parts.specs.Mark as mark;
 ghost use Rattle.syn_parts.specs.Part as part;
@@ -63,6 +63,8 @@ pub fn lifetime(input: &mut ParseBuffer<'_>) -> Result<Lifetime>
     ensures value { Reads lifetime_of (part.lifetime.reads input.old.rest) result input.new.rest }
     ensures noted { input.new.noted ≡ input.old.noted }
     ensures shrinks { weight input.new.rest ≤ weight input.old.rest }
+    ensures there { IfOk result (λ _. mark.lifetime_at input.old.rest ≡ true) }
+    ensures refused { IfErr result (λ e. (e.kind ≡ ErrorKind.OutOfMemory) ⊎ ((mark.lifetime_at input.old.rest ≡ false) × (e.kind ≡ wanted_lifetime))) }
 {
     let Some((apostrophe, word)) = quoted(input.trees()) else {
         return Err(input.error(ErrorKind::ExpectedToken(Expected::One(Wanted::Lifetime))));

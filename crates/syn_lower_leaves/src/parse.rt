@@ -2,14 +2,15 @@
 //! leaves the rest.
 #![tactic(auto, using(syn_parts::proofs::Readable::readables))]
 
-ghost use Rattle.std.specs.Prelude.{◌≡◌, ◌≤◌, IfErr, IfOk, Some, map};
-ghost use Rattle.syn_lower_leaves.specs.Reads.{Reads};
+ghost use Rattle.std.specs.Prelude.{◌≡◌, ◌⊎◌, ◌≤◌, IfErr, IfOk, Some, map};
+ghost use Rattle.syn_lower_leaves.specs.Reads.{Reads, wanted_lifetime};
 ghost use Rattle.syn_lower_leaves.specs.View.{attribute_of, lifetime_of, lit_of, lit_str_of, lit_int_of, lit_float_of};
 ghost use Rattle.syn_parts.specs.Kind as kinds;
 ghost use Rattle.syn_parts.specs.declared.label.LitKind.TheVariants as kind;
 ghost use Rattle.syn_parts.specs.Part as part;
 ghost use Rattle.syn_tokens.specs.Input.{IsAfter};
 ghost use Rattle.syn_tokens.specs.Tok.{weight};
+ghost use Rattle.syn_tokens.specs.declared.error.ErrorKind.TheVariants.{OutOfMemory};
 
 use crate::ahead::{ReadByForm, ahead};
 use crate::attr::Attribute;
@@ -30,6 +31,8 @@ impl ReadByForm for Lifetime {
 
     ghost form = { part.lifetime };
 
+    ghost refuses = { λ k. (k ≡ OutOfMemory) ⊎ (k ≡ wanted_lifetime) };
+
     fn read(input: &mut ParseBuffer<'_>) -> Result<Self> {
         lifetime(input)
     }
@@ -46,6 +49,8 @@ impl Parse for Lifetime {
     ghost spells = { λ l x rest. part.lifetime.behind x l ≡ Some rest };
 
     ghost least = { 1 };
+
+    ghost refuses = { λ k. (k ≡ OutOfMemory) ⊎ (k ≡ wanted_lifetime) };
 
     /// Reads a lifetime (Rust Reference, "Lifetimes and loop labels"); it is refused as `ExpectedToken` of a lifetime.
     fn parse(input: &mut ParseBuffer<'_>) -> Result<Self> {

@@ -120,7 +120,7 @@ pub fn maybe_name(input: &mut ParseBuffer<'_>) -> Result<Option<(Ident, Colon)>>
         return Ok(None);
     }
     let name = arg_name(input)?;
-    let Some(colon) = front::colon(input) else {
+    let Some(colon) = front::lone_colon(input) else {
         return Err(input.error(ErrorKind::ExpectedToken(Expected::One(Colon::wanted()))));
     };
     Ok(Some((name, colon)))

@@ -3,7 +3,7 @@ use denote.Enum.Bare.{same_true, true_same}
 use Rattle.syn_grammar.specs.contracts.kinds.BinKind as bin_type
 use Rattle.syn_grammar.specs.contracts.kinds.UnKind as un_type
 use Rattle.syn_grammar.specs.contracts.kinds.Limits as limits_type
-use Rattle.syn_op.specs.Equal.{IsEqualityOf}
+use Rattle.syn_parts.specs.Equal.{IsEqualityOf}
 use Rattle.syn_op.specs.View.{bin_kind, un_kind, limits_kind}
 use Rattle.syn_op.specs.contracts.same.BinOpPartialEq.TheImpl as bin_eq
 use Rattle.syn_op.specs.contracts.same.UnOpPartialEq.TheImpl as un_eq

@@ -5,7 +5,7 @@ ghost use Rattle.std.specs.Ordering.{on};
 ghost use Rattle.syn_grammar.specs.contracts.kinds.BinKindPartialEq.TheImpl.Laws as bin_laws;
 ghost use Rattle.syn_grammar.specs.contracts.kinds.LimitsPartialEq.TheImpl.Laws as limits_laws;
 ghost use Rattle.syn_grammar.specs.contracts.kinds.UnKindPartialEq.TheImpl.Laws as un_laws;
-ghost use Rattle.syn_op.specs.Equal.{IsEqualityOf};
+ghost use Rattle.syn_parts.specs.Equal.{IsEqualityOf};
 ghost use Rattle.syn_op.specs.View.{bin_kind, limits_kind, un_kind};
 
 use crate::limits::RangeLimits;

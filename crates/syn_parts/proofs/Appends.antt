@@ -85,13 +85,13 @@ lifetimes_own-append p r = ap (λ m. ident (codes "for") ∷ alone 60 ∷ m) (bo
 word_first : (w : Text) (r : List Tok) → ident w ∷ r ≡ (ident w ∷ []) ++ r
 word_first w r = refl
 
-lifetime_append : (w : Text) (r : List Tok) → lifetime_own w r ≡ lifetime_own w [] ++ r
+pub lifetime_append : (w : Text) (r : List Tok) → lifetime_own w r ≡ lifetime_own w [] ++ r
 lifetime_append w r = refl
 
-group_first : (d : Delimiter) (ts r : List Tok) → enclosed d ts r ≡ enclosed d ts [] ++ r
+pub group_first : (d : Delimiter) (ts r : List Tok) → enclosed d ts r ≡ enclosed d ts [] ++ r
 group_first d ts r = refl
 
-kept_append : (ts r : List Tok) → ts ++ r ≡ (ts ++ []) ++ r
+pub kept_append : (ts r : List Tok) → ts ++ r ≡ (ts ++ []) ++ r
 kept_append ts r = ap (λ m. m ++ r) (sym (append-nil ts))
 
 mutual

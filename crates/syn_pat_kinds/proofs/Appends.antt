@@ -1,7 +1,6 @@
 -- What follows the own tokens of a pattern follows them as they are.
 use Rattle.std.proofs.Common.{◌≡◌, Bool, true, false, not, ◌||◌, List, [], ◌∷◌, ◌++◌, refl}
 use Rattle.std.specs.Prelude.{codes}
-use Rattle.syn_lexer.specs.declared.lexeme.Delimiter.{Delimiter}
 use Rattle.syn_lexer.specs.declared.lexeme.Delimiter.TheVariants as del
 use Rattle.syn_tokens.specs.Tok.{Tok, ident}
 use Rattle.syn_parts.specs.Text.{Text}
@@ -12,19 +11,16 @@ use Rattle.syn_parts.specs.Own.{alone, before_if, colon2_before, enclosed, attri
 use Rattle.syn_parts.specs.Pat as p
 use Rattle.syn_parts.specs.Pat.{MemberTree, PatBound, PatTree, SubPat, Pats, FieldTree}
 use Rattle.syn_parts.specs.PatOwn.{limits_before, range_bound_own, member_own, vert_before, word_if, attributes_own, no_more_pats, pat_own, sub_own, pats_own, or_own, fields_own, field_own}
-use Rattle.syn_parts.proofs.Appends.{both, one, if_there, if_some, lit_append, type_append, segments_append}
+use Rattle.syn_parts.proofs.Appends.{both, one, if_there, if_some, group_first, lit_append, type_append, segments_append}
 
 -- ---- parts
 
-words : (b : Bool) (w : Text) (r : List Tok) → word_if b w r ≡ word_if b w [] ++ r
+pub words : (b : Bool) (w : Text) (r : List Tok) → word_if b w r ≡ word_if b w [] ++ r
 words b w r = if_there b (one (ident w)) r
 
 limits_append : (c : Bool) (r : List Tok) → limits_before c r ≡ limits_before c [] ++ r
 limits_append true r = refl
 limits_append false r = refl
-
-group_first : (d : Delimiter) (ts r : List Tok) → enclosed d ts r ≡ enclosed d ts [] ++ r
-group_first d ts r = refl
 
 attribute_by : (b : Bool) (ts r : List Tok) → attribute_own (record { inner = b; tokens = ts }) r ≡ attribute_own (record { inner = b; tokens = ts }) [] ++ r
 unfolding attribute_own

@@ -169,7 +169,7 @@ impl<P: ReadPat + Drop, F: Fn(&mut ParseBuffer<'_>, bool) -> Result<P>> Grammar<
     {
         let attrs = outer_attributes(input)?;
         let pat = self.inner(input, false)?;
-        let Some(colon_token) = first::colon(input) else {
+        let Some(colon_token) = front::colon(input) else {
             return Ok(Box::into_inner(pat).with_attrs(attrs));
         };
         let ty = ty(input, true)?;

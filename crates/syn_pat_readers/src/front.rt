@@ -19,17 +19,6 @@ use syn_tokens::token::{
 };
 use syn_tokens::tree::TokenTree;
 
-/// Takes `..`.
-#[tactic(auto, unfolding(syn_tokens::specs::Sign::sign_text, syn_parts::specs::Mark::sign_at))]
-pub fn dots(input: &mut ParseBuffer<'_>) -> Option<DotDot>
-    ensures value { Takes pat.dots input.old result input.new }
-    ensures flag { (flag pat.dots).reads input.old.rest ≡ Some (is_some result, input.new.rest) }
-    ensures smaller { IfSome result (λ _. weight input.new.rest < weight input.old.rest) }
-    ensures shrinks { weight input.new.rest ≤ weight input.old.rest }
-{
-    sign(input)
-}
-
 /// Takes `..=`.
 #[tactic(auto, unfolding(syn_tokens::specs::Sign::sign_text, syn_parts::specs::Mark::sign_at))]
 pub fn dots_eq(input: &mut ParseBuffer<'_>) -> Option<DotDotEq>
@@ -54,16 +43,6 @@ pub fn three_dots(input: &mut ParseBuffer<'_>) -> Option<DotDotDot>
 #[tactic(auto, unfolding(syn_tokens::specs::Sign::sign_text, syn_parts::specs::Mark::sign_at))]
 pub fn at_sign(input: &mut ParseBuffer<'_>) -> Option<At>
     ensures value { Takes pat.at_sign input.old result input.new }
-    ensures smaller { IfSome result (λ _. weight input.new.rest < weight input.old.rest) }
-    ensures shrinks { weight input.new.rest ≤ weight input.old.rest }
-{
-    sign(input)
-}
-
-/// Takes `:`, whatever is joined to it.
-#[tactic(auto, unfolding(syn_tokens::specs::Sign::sign_text, syn_parts::specs::Mark::sign_at))]
-pub fn colon(input: &mut ParseBuffer<'_>) -> Option<Colon>
-    ensures value { Takes mark.colon input.old result input.new }
     ensures smaller { IfSome result (λ _. weight input.new.rest < weight input.old.rest) }
     ensures shrinks { weight input.new.rest ≤ weight input.old.rest }
 {

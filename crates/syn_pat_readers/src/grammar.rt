@@ -258,7 +258,7 @@ impl<P: ReadPat + Drop, F: Fn(&mut ParseBuffer<'_>, bool) -> Result<P>> Grammar<
             }));
         }
         let member = member(input)?;
-        let Some(colon_token) = first::colon(input) else {
+        let Some(colon_token) = front::colon(input) else {
             return Err(input.error(ErrorKind::ExpectedToken(Expected::One(Colon::wanted()))));
         };
         let pat = self.inner(input, true)?;

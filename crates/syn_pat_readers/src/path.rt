@@ -92,7 +92,7 @@ impl<P: ReadPat + Drop, F: Fn(&mut ParseBuffer<'_>, bool) -> Result<P>> Grammar<
     {
         let fields = self.fields(input)?;
         if fields.empty_or_trailing() {
-            let rest = first::dots(input);
+            let rest = front::dots(input);
             return Ok((fields, rest));
         }
         Ok((fields, None))

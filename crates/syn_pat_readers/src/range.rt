@@ -9,6 +9,7 @@ ghost use Rattle.syn_tokens.specs.Tok.{weight};
 
 use crate::front;
 use syn_lower::qpath;
+use syn_lower_leaves::front::dots;
 use syn_lower_leaves::leaf::lit;
 use syn_op::limits::RangeLimits;
 use syn_pat_kinds::pat::RangeBound;
@@ -44,7 +45,7 @@ pub fn limits(input: &mut ParseBuffer<'_>) -> Result<RangeLimits>
         let spans = operator.spans;
         return Ok(RangeLimits::Closed(DotDotEq { spans }));
     }
-    if let Some(operator) = front::dots(input) {
+    if let Some(operator) = dots(input) {
         return Ok(RangeLimits::HalfOpen(operator));
     }
     let wanted = Expected::One(DotDot::wanted());

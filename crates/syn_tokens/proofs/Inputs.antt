@@ -1,6 +1,5 @@
 -- What reads leave.
-use Rattle.std.proofs.Common.{◌≡◌, ℕ, ◌-◌, ◌≤◌, List, [], ◌∷◌, ◌++◌, length, take, drop, refl, sym, ◌∙◌, ap, arith, length-append, append_assoc, append-nil}
-use Rattle.std.specs.Prelude.{Option, Some, None}
+use Rattle.std.proofs.Common.{◌≡◌, ℕ, ◌-◌, ◌≤◌, List, [], ◌∷◌, ◌++◌, length, take, drop, refl, sym, ◌∙◌, ap, arith, length-append, append-nil}
 use Rattle.std.proofs.lemmas.List.{take-append-drop}
 use Rattle.std.proofs.Math.Seq.{drop-append_seam}
 use Rattle.syn_tokens.specs.Input.{Input, IsTail, IsAfter}
@@ -27,13 +26,6 @@ front_at xs ys h =
 pub after_same : (i : Input) → IsAfter i i
 after_same i = record { front = []; is = refl; noted = λ s h. h }
 
-pub after_then : {a b c : Input} → IsAfter a b → IsAfter b c → IsAfter a c
-after_then g h = record {
-  front = g.front ++ h.front;
-  is = g.is ∙ ap (λ t. g.front ++ t) h.is ∙ sym (append_assoc g.front h.front _);
-  noted = λ s n. h.noted s (g.noted s n);
-}
-
 pub after_drop : (n : ℕ) (i o : Input) → o ≡ record i { rest = drop n i.rest } → IsAfter i o
 after_drop n i o e = rw e record { front = take n i.rest; is = sym (take-append-drop n i.rest); noted = λ s h. h }
 
@@ -46,14 +38,6 @@ after_nothing i o e n = record { front = i.rest; is = sym (ap (λ r. i.rest ++ r
 -- a read leaves a tail
 pub tail_after : (i o : Input) → IsAfter i o → IsTail o.rest i.rest
 tail_after i o h = record { front = h.front; is = h.is }
-
-no_some : {A : Type 0} (o : Option A) → ((x : A) → o ≡ Some x → ⊥) → o ≡ None
-no_some None h = refl
-no_some (Some x) h = absurd (h x refl)
-
--- no note before where there is none after
-pub clean_before : {a b : Input} → IsAfter a b → b.noted ≡ None → a.noted ≡ None
-clean_before {a} g h = no_some a.noted (λ s n. let e = g.noted s n in cc)
 
 pub ruleset tails = (after_same, after_drop, after_one, after_nothing)
 

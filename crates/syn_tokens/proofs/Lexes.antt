@@ -7,13 +7,12 @@ use Rattle.syn_lexer.specs.declared.error.LexError.{LexError}
 use Rattle.syn_lexer.specs.declared.lexeme.Delimiter.{Delimiter}
 use Rattle.syn_lexer.specs.declared.lexeme.LexemeKind.{LexemeKind}
 use Rattle.syn_tokens.specs.Tok.{Tok}
-use Rattle.syn_tokens.specs.Lex.{Piece, pieces, pieces_from, lexeme_pieces, then_pieces, flat, Spells, open_behind, refusal_behind, refusal_at_end, refusal_from, refusal, IsRefusedAs, or_unknown}
+use Rattle.syn_tokens.specs.Lex.{Piece, pieces, pieces_from, lexeme_pieces, then_pieces, flat, Spells, open_behind, refusal_behind, refusal_at_end, refusal_from, refusal, IsRefusedAs}
 use Rattle.syn_tokens.specs.Input.{Gives}
 use Rattle.syn_tokens.specs.Nest.{misfits}
 use Rattle.syn_tokens.proofs.Nests.{one_list}
 use Rattle.syn_tokens.specs.declared.error.Error.{Error}
-use Rattle.syn_tokens.specs.declared.error.ErrorKind.{ErrorKind}
-use Rattle.syn_tokens.specs.declared.error.ErrorKind.TheVariants.{OutOfMemory, Lex}
+use Rattle.syn_tokens.specs.declared.error.ErrorKind.TheVariants.{OutOfMemory}
 
 pieces_from-drop : (n : ℕ) (z : Text) → pieces_from n z ≡ pieces (drop n z)
 unfolding pieces
@@ -128,10 +127,6 @@ refusal_step-refused st (c ∷ z) e n h is = rw is refl
 pub refusal_end : (st : List Delimiter) (z : Text) → length z ≡ 0 → refusal_from st 0 z ≡ refusal_at_end st
 refusal_end st [] h = refl
 refusal_end st (c ∷ z) h = cc
-
-pub refused_as : (o : Option LexError) (k : ErrorKind) → IsRefusedAs o k → k ≡ Lex (or_unknown o)
-refused_as None k h = absurd h
-refused_as (Some e) k h = h
 
 pub finished : (o : Option LexError) (r : Result (List Tok) Error) → MatchResult r (λ _. o ≡ None) (λ e. IsRefusedAs o e.kind)
     → MatchResult r (λ _. o ≡ None) (λ e. (e.kind ≡ OutOfMemory) ⊎ IsRefusedAs o e.kind)

@@ -47,10 +47,6 @@ pub toks-inside : (ts : List Tok) → toks (inside ts) ≡ ts
 toks-inside [] = refl
 toks-inside (t ∷ ts) = let e = toks-inside ts in cc
 
-pub inside-toks : (i : Inside) → inside (toks i) ≡ i
-inside-toks nothing = refl
-inside-toks (first t rest) = let e = inside-toks rest in cc
-
 pub weight-toks : (i : Inside) → weight (toks i) ≡ inside_weight i
 unfolding weight
 weight-toks nothing = refl

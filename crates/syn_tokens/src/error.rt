@@ -37,7 +37,7 @@ impl Error {
 /// What is refused.
 #[derive(Clone, Copy, Debug, PartialEq, Eq)]
 pub enum ErrorKind {
-    /// Memory ran out.
+    /// Memory ran out; the place tells nothing.
     OutOfMemory,
     /// No expression begins here.
     ExpectedExpression,
@@ -53,27 +53,28 @@ pub enum ErrorKind {
     RangeAttributes,
     /// A label in front of neither a loop nor a block.
     ExpectedLoopOrBlock,
-    /// Elements of an array or a tuple without a sign between.
+    /// Neither `,` nor `;` behind the first element of an array.
     ExpectedCommaOrSemi,
     /// A labeled value of a `break` that wants parentheses; the place goes from the label to the value's end.
     ParenthesesRequired,
-    /// No name or index behind a dot.
+    /// No name or index where a member stands.
     ExpectedMember,
-    /// An index with a suffix, or another literal; the place is the literal.
+    /// Not an index, or one with a suffix.
     ExpectedUnsuffixedInteger,
-    /// An index above 4294967295; the place is the literal.
+    /// An index above 4294967295; the place is the whole literal.
     IndexOutOfRange,
-    /// Another kind of expression was read; the place goes from its first to its last token.
+    /// Another kind of expression was read; the place goes from its first to its last token. No reader here answers it yet.
     ExpectedExprKind(WantedKind),
-    /// Another token stands here.
+    /// None of these tokens stands here.
     ExpectedToken(Expected),
-    /// A token that nothing reads.
+    /// A token that nothing reads, or the end where any token may stand.
     UnexpectedToken,
-    /// A part of the grammar was expected.
+    /// A part of the grammar was expected here.
     ExpectedPart(Part),
-    /// The lexer's refusal of a text.
+    /// The lexer's refusal of a text, where `lex` says; or of one that is not the single token to be made, at the place
+    /// given for it.
     Lex(LexError),
-    /// Modifiers that are not empty.
+    /// Modifiers that are not empty. No reader here answers it yet.
     ModifierNotEmpty,
 }
 
@@ -82,9 +83,9 @@ pub enum ErrorKind {
 pub enum AfterCast {
     /// `.await`
     Await,
-    /// `.name(..)`
+    /// `.name(..)` or `.name::<..>(..)`
     MethodCall,
-    /// `.name`
+    /// `.name` or `.0`
     FieldAccess,
     /// `?`
     Question,
@@ -94,7 +95,7 @@ pub enum AfterCast {
     FunctionCall,
 }
 
-/// The kinds of expressions that have a reader of their own.
+/// The kinds of expressions that a reader may want alone. No reader here answers them yet.
 #[derive(Clone, Copy, Debug, PartialEq, Eq)]
 pub enum WantedKind {
     /// `a = b`
@@ -124,13 +125,13 @@ pub enum WantedKind {
 /// A token that a reader wants.
 #[derive(Clone, Copy, Debug, PartialEq, Eq)]
 pub enum Wanted {
-    /// The sign at a place of `SIGNS`.
+    /// The sign at this place of `SIGNS`, an empty text past it.
     Sign(usize),
-    /// The word at a place of `WORDS`.
+    /// The word at this place of `WORDS`, an empty text past it.
     Word(usize),
     /// `_`
     Underscore,
-    /// An identifier that is no reserved word.
+    /// An identifier; most readers want one that is no reserved word.
     Identifier,
     /// A lifetime.
     Lifetime,
@@ -158,11 +159,11 @@ pub enum Part {
     Path,
     /// A type.
     Type,
-    /// A pattern.
+    /// A pattern. No reader here answers it yet.
     Pattern,
-    /// A macro call.
+    /// A macro call, or its group behind the `!`.
     Macro,
-    /// An attribute.
+    /// An attribute. No reader here answers it yet.
     Attribute,
 }
 

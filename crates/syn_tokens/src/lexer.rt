@@ -1,6 +1,6 @@
 //! Cuts a text into token trees.
 
-ghost use Rattle.std.specs.Prelude.{◌≡◌, ◌≢◌, ◌++◌, ◌∷◌, ◌⊎◌, [], List, chars, encode_utf8_all, IfOk, IfErr, OnOk, MatchResult, IfSome, string_bytes};
+ghost use Rattle.std.specs.Prelude.{◌≡◌, ◌≢◌, ◌++◌, ◌∷◌, ◌⊎◌, [], List, chars, encode_utf8_all, IfOk, IfErr, OnOk, MatchResult};
 ghost use Rattle.std.specs.Rc.{rc_str_bytes};
 ghost use Rattle.syn_tokens.specs.Input.{Gives};
 ghost use Rattle.syn_tokens.specs.Lex as spec;
@@ -45,89 +45,17 @@ pub(crate) fn chars_of(alloc: Global, text: &str) -> Result<Vec<char>>
     Ok(text.chars().collect::<Vec<char>>(alloc)?)
 }
 
-/// Has a text be these characters.
-fn spell(text: &mut String, mut z: &[char]) -> Result<()>
-    ensures { MatchResult result (λ _. string_bytes text.new ≡ encode_utf8_all z.entry.now) (λ e. e.kind ≡ ErrorKind.OutOfMemory) }
+/// The text of some characters.
+fn text_of(alloc: Global, mut z: &[char]) -> Result<RcStr<Global>>
+    ensures { MatchResult result (λ s. rc_str_bytes s ≡ encode_utf8_all z.entry.now) (λ e. e.kind ≡ ErrorKind.OutOfMemory) }
 {
-    text.clear();
+    // Most characters take one byte.
+    let mut text = String::with_capacity(alloc, z.len())?;
     while let [c, more @ ..] = z {
         text.push(*c)?;
         z = more;
     }
-    Ok(())
-}
-
-/// How many texts are at hand to be shared.
-const RECENT: usize = 8;
-
-/// A text that was read, and its characters.
-#[derive(Drop)]
-struct Known<'a> {
-    read: &'a [char],
-    text: RcStr<Global>,
-    ghost same: { rc_str_bytes text ≡ encode_utf8_all read.now },
-}
-
-/// The texts that were read last: one that comes again is shared, since names recur in sources.
-#[derive(Drop)]
-struct Texts<'a> {
-    known: Vec<Known<'a>>,
-    next: usize,
-    /// Where a text is spelled before it is made: it takes its memory once.
-    spelled: String,
-}
-
-impl<'a> Texts<'a> {
-    fn new(alloc: Global) -> Texts<'a> {
-        Texts {
-            known: Vec::new(alloc),
-            next: 0,
-            spelled: String::new(alloc),
-        }
-    }
-
-    /// The text of these characters, if it is at hand.
-    fn find(&self, read: &[char]) -> Result<Option<RcStr<Global>>>
-        ensures found { IfOk result (λ found. IfSome found (λ s. rc_str_bytes s ≡ encode_utf8_all read.now)) }
-        ensures err { IfErr result (λ e. e.kind ≡ ErrorKind.OutOfMemory) }
-    {
-        for known in &self.known {
-            if known.read == read {
-                return Ok(Some(known.text.clone()?));
-            }
-        }
-        Ok(None)
-    }
-
-    /// Has this text at hand, in place of the oldest where there are enough.
-    fn keep(&mut self, known: Known<'a>) -> Result<()>
-        ensures err { IfErr result (λ e. e.kind ≡ ErrorKind.OutOfMemory) }
-    {
-        if self.known.len() < RECENT {
-            self.known.push(known)?;
-            return Ok(());
-        }
-        let at = self.next % RECENT;
-        if let Some(place) = self.known.get_mut(at) {
-            *place = known;
-        }
-        self.next = (at + 1) % RECENT;
-        Ok(())
-    }
-
-    /// The text of these characters.
-    fn text_of(&mut self, alloc: Global, read: &'a [char]) -> Result<RcStr<Global>>
-        ensures { MatchResult result (λ s. rc_str_bytes s ≡ encode_utf8_all read.now) (λ e. e.kind ≡ ErrorKind.OutOfMemory) }
-    {
-        if let Some(text) = self.find(read)? {
-            return Ok(text);
-        }
-        spell(&mut self.spelled, read)?;
-        let text = RcStr::from_str(alloc, self.spelled.as_str())?;
-        let shared = text.clone()?;
-        self.keep(Known { read, text })?;
-        Ok(shared)
-    }
+    Ok(RcStr::from_string(text)?)
 }
 
 /// The place behind some characters.
@@ -191,13 +119,7 @@ impl Nest {
     }
 
     /// The `'` of a lifetime, and the identifier behind it.
-    fn lifetime<'a>(
-        &mut self,
-        alloc: Global,
-        texts: &mut Texts<'a>,
-        read: &'a [char],
-        span: Span,
-    ) -> Result<()>
+    fn lifetime(&mut self, alloc: Global, read: &[char], span: Span) -> Result<()>
         ensures ok { OnOk result (nest_pieces self.new ≡ nest_pieces self.old ++ spec.lexeme_pieces LexemeKind.Lifetime read.now) }
         ensures open { delimiters_of self.new ≡ delimiters_of self.old }
         ensures err { IfErr result (λ e. e.kind ≡ ErrorKind.OutOfMemory) }
@@ -211,7 +133,7 @@ impl Nest {
                 hi: behind,
             },
         }))?;
-        let text = texts.text_of(alloc, &read[1.min(read.len())..])?;
+        let text = text_of(alloc, &read[1.min(read.len())..])?;
         let span = Span {
             lo: behind,
             hi: span.hi,
@@ -264,14 +186,7 @@ impl Nest {
     }
 
     /// Takes the next lexeme, with its characters and its place.
-    fn take<'a>(
-        &mut self,
-        alloc: Global,
-        texts: &mut Texts<'a>,
-        kind: LexemeKind,
-        read: &'a [char],
-        span: Span,
-    ) -> Result<()>
+    fn take(&mut self, alloc: Global, kind: LexemeKind, read: &[char], span: Span) -> Result<()>
         ensures ok { OnOk result (nest_pieces self.new ≡ nest_pieces self.old ++ spec.lexeme_pieces kind read.now) }
         ensures open { OnOk result (spec.open_behind kind (delimiters_of self.old) ≡ Some (delimiters_of self.new)) }
         ensures err { IfErr result (λ e. (e.kind ≡ ErrorKind.OutOfMemory) ⊎ misfits (nest_pieces self.old ++ spec.lexeme_pieces kind read.now)) }
@@ -280,14 +195,14 @@ impl Nest {
         match kind {
             LexemeKind::Blank => Ok(()),
             LexemeKind::Ident => {
-                let text = texts.text_of(alloc, read)?;
+                let text = text_of(alloc, read)?;
                 self.leaf(TokenTree::Ident(Ident::read(text, span)))
             }
             LexemeKind::Literal => {
-                let text = texts.text_of(alloc, read)?;
+                let text = text_of(alloc, read)?;
                 self.leaf(TokenTree::Literal(Literal::read(text, span)))
             }
-            LexemeKind::Lifetime => self.lifetime(alloc, texts, read, span),
+            LexemeKind::Lifetime => self.lifetime(alloc, read, span),
             LexemeKind::Punct(ch, spacing) => {
                 self.leaf(TokenTree::Punct(Punct { ch, spacing, span }))
             }
@@ -319,7 +234,6 @@ fn lex_chars(alloc: Global, text: &[char]) -> Result<TokenStream>
     ensures kind { MatchResult result (λ _. spec.refusal text.now ≡ None) (λ e. (e.kind ≡ ErrorKind.OutOfMemory) ⊎ spec.IsRefusedAs (spec.refusal text.now) e.kind) }
 {
     let mut nest = Nest::new(alloc);
-    let mut texts = Texts::new(alloc);
     let mut rest = text;
     let mut at = 0;
     while !rest.is_empty() {
@@ -329,13 +243,7 @@ fn lex_chars(alloc: Global, text: &[char]) -> Result<TokenStream>
         };
         let (read, behind) = rest.split_at(lexeme.len);
         let end = past(at, read);
-        if let Err(e) = nest.take(
-            alloc,
-            &mut texts,
-            lexeme.kind,
-            read,
-            Span { lo: at, hi: end },
-        ) {
+        if let Err(e) = nest.take(alloc, lexeme.kind, read, Span { lo: at, hi: end }) {
             return Err(e);
         }
         rest = behind;

@@ -2,6 +2,7 @@
 //! of tokens in `token`.
 #![tactic(auto)]
 
+mod alias;
 pub mod buffer;
 pub mod copy;
 pub mod error;

@@ -1,12 +1,10 @@
-use Rattle.std.proofs.Common.{ap}
-use Rattle.syn_expr_all.proofs.Parts.{field_stands, field_refused}
+use Rattle.std.proofs.Common.{rules}
+use Rattle.syn_expr_all.proofs.Exactly.{reads_ahead, refuses_ahead}
+use Rattle.syn_expr_all.proofs.Parts.{field_exact}
 use Rattle.syn_expr_all.proofs.single.ExprParseField.parse_field.Goals as goal
 
-pub returns-clause-read : goal.returns-clause-read
-returns-clause-read c =
-    let s = field_stands _ _ _ c.in-Ok.ensures.value in
-    rw (c.advance_to.ensures.rest, ← ap (λ i. i.rest) c.in_ok-ahead.ensures.value) s
+pub returns : goal.returns
+returns c = reads_ahead field_exact _ _ _ _ c.in_ok-ahead.ensures.value (rw c.advance_to.ensures.rest c.in-Ok.ensures.value) (search rules)
 
-pub returns-in-Err-clause-found : goal.returns-in-Err-clause-found
-returns-in-Err-clause-found c = λ x rest s.
-    field_refused _ rest x _ c.in-Err.ensures.value (rw (ap (λ i. i.rest) c.in_ok-ahead.ensures.value) s)
+pub returns-in-Err : goal.returns-in-Err
+returns-in-Err c = refuses_ahead field_exact _ _ _ c.in_ok-ahead.ensures.value c.in-Err.ensures.value
