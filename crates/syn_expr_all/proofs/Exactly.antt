@@ -1,7 +1,7 @@
 -- Reading is exact, for callers: an expression, and all that is read on a fork by a reader that is exact.
-use Rattle.std.proofs.Common.{◌≡◌, ◌≢◌, List, Option, Some, None, refl, ap, sym, subst, ◌∙◌, arith}
+use Rattle.std.proofs.Common.{◌≡◌, ◌≢◌, List, Some, None, refl, ap, sym, subst, ◌∙◌, arith}
 use Rattle.std.proofs.lemmas.Option.{none-some}
-use Rattle.std.specs.Prelude.{Result, Ok, Err}
+use Rattle.std.specs.Prelude.{Ok, Err}
 use Rattle.syn_tokens.specs.Tok.{Tok}
 use Rattle.syn_tokens.specs.Input.{Input, IsTail, start_of}
 use Rattle.syn_tokens.proofs.Inputs.{after_same}

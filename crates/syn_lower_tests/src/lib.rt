@@ -4,6 +4,12 @@
 #[cfg(test)]
 mod fits;
 #[cfg(test)]
+mod path_fits;
+#[cfg(test)]
+mod path_reader;
+#[cfg(test)]
+mod piece_fits;
+#[cfg(test)]
 mod reader;
 #[cfg(test)]
 mod texts;

@@ -10,6 +10,7 @@ pub mod Same
 pub mod Leaf
 pub mod Text
 pub mod Lex
+pub mod Standing
 pub mod Nest
 pub mod Places
 pub mod Floats

@@ -1,20 +1,23 @@
 //! Cuts a text into token trees.
 
-ghost use Rattle.std.specs.Prelude.{◌≡◌, ◌≢◌, ◌++◌, ◌∷◌, ◌⊎◌, [], List, chars, encode_utf8_all, IfOk, IfErr, OnOk, MatchResult};
+ghost use Rattle.std.specs.Prelude.{◌≡◌, ◌≢◌, ◌≤◌, ◌<◌, ◌+◌, ◌^◌, ◌++◌, ◌∷◌, ◌⊎◌, [], List, length, chars, encode_utf8_all, IfOk, IfErr, OnOk, MatchResult};
 ghost use Rattle.std.specs.Rc.{rc_str_bytes};
 ghost use Rattle.syn_tokens.specs.Input.{Gives};
 ghost use Rattle.syn_tokens.specs.Lex as spec;
 ghost use Rattle.syn_tokens.specs.Nest.{nest_pieces, delimiters_of, misfits};
+ghost use Rattle.syn_tokens.specs.Standing.{AreLeft, StandAt};
 ghost use Rattle.syn_tokens.specs.Tok.{Tok};
 ghost use Rattle.syn_tokens.specs.View.{tok_of};
 
 use crate::error::{Error, ErrorKind, LexError, Result};
 use crate::same::is_same;
+use crate::shared::SharedText;
 use crate::span::Span;
 use crate::tree::{Group, Ident, Literal, Punct, TokenStream, TokenTree};
 use crate::{Delimiter, Spacing};
 use std::alloc::Global;
 use std::rc::RcStr;
+use syn_lexer::error::Refusal;
 use syn_lexer::front::front;
 use syn_lexer::lexeme::LexemeKind;
 
@@ -34,8 +37,10 @@ pub fn lex(alloc: Global, text: &str) -> Result<TokenStream>
     // The refusal is the first one in the text.
     ensures kind { MatchResult result (λ _. spec.refusal (chars text.now) ≡ None) (λ e. (e.kind ≡ ErrorKind.OutOfMemory) ⊎ spec.IsRefusedAs (spec.refusal (chars text.now)) e.kind) }
 {
+    let shared = RcStr::from_str(alloc, text)?;
     let all = chars_of(alloc, text)?;
-    lex_chars(alloc, all.as_slice())
+    prove!(text.len() <= usize::MAX);
+    lex_chars(alloc, &shared, all.as_slice())
 }
 
 /// The characters of a text.
@@ -45,31 +50,18 @@ pub(crate) fn chars_of(alloc: Global, text: &str) -> Result<Vec<char>>
     Ok(text.chars().collect::<Vec<char>>(alloc)?)
 }
 
-/// The text of some characters.
-fn text_of(alloc: Global, mut z: &[char]) -> Result<RcStr<Global>>
-    ensures { MatchResult result (λ s. rc_str_bytes s ≡ encode_utf8_all z.entry.now) (λ e. e.kind ≡ ErrorKind.OutOfMemory) }
+/// The place behind some characters that stand at a place.
+fn past(at: usize, z: &[char]) -> usize
+    requires { at + length (encode_utf8_all z.now) < 2 ^ 64 }
+    ensures { result ≡ at + length (encode_utf8_all z.now) }
 {
-    // Most characters take one byte.
-    let mut text = String::with_capacity(alloc, z.len())?;
-    while let [c, more @ ..] = z {
-        text.push(*c)?;
-        z = more;
-    }
-    Ok(RcStr::from_string(text)?)
-}
-
-/// The place behind some characters.
-fn past(at: usize, z: &[char]) -> usize {
     let mut end = at;
-    for c in z {
-        end = end.saturating_add(c.len_utf8());
+    let mut rest = z;
+    while let [c, more @ ..] = rest {
+        end += c.len_utf8();
+        rest = more;
     }
     end
-}
-
-/// The place behind the first characters.
-fn past_first(at: usize, z: &[char], count: usize) -> usize {
-    past(at, &z[..count.min(z.len())])
 }
 
 fn refusal(lo: usize, hi: usize, error: LexError) -> Error
@@ -79,6 +71,16 @@ fn refusal(lo: usize, hi: usize, error: LexError) -> Error
         span: Span { lo, hi },
         kind: ErrorKind::Lex(error),
     }
+}
+
+/// The refusal of the first characters, which stand at a place.
+fn refused_front(at: usize, rest: &[char], refused: Refusal) -> Error
+    requires within { refused.len ≤ length rest.now }
+    requires small { at + length (encode_utf8_all rest.now) < 2 ^ 64 }
+    ensures { result.kind ≡ ErrorKind.Lex refused.error }
+{
+    let (read, _) = rest.split_at(refused.len);
+    refusal(at, past(at, read), refused.error)
 }
 
 /// What was read: the groups that are open, each behind the trees before it, and the trees behind the last opening
@@ -119,12 +121,15 @@ impl Nest {
     }
 
     /// The `'` of a lifetime, and the identifier behind it.
-    fn lifetime(&mut self, alloc: Global, read: &[char], span: Span) -> Result<()>
+    fn lifetime(&mut self, text: &RcStr<Global>, read: &[char], span: Span) -> Result<()>
+        requires some { 0 < length read.now }
+        requires stands { StandAt (rc_str_bytes text.now) span.lo span.hi read.now }
         ensures ok { OnOk result (nest_pieces self.new ≡ nest_pieces self.old ++ spec.lexeme_pieces LexemeKind.Lifetime read.now) }
         ensures open { delimiters_of self.new ≡ delimiters_of self.old }
         ensures err { IfErr result (λ e. e.kind ≡ ErrorKind.OutOfMemory) }
     {
-        let behind = span.lo.saturating_add(1);
+        let (mark, _) = read.split_at(1);
+        let behind = past(span.lo, mark);
         self.leaf(TokenTree::Punct(Punct {
             ch: '\'',
             spacing: Spacing::Joint,
@@ -133,12 +138,12 @@ impl Nest {
                 hi: behind,
             },
         }))?;
-        let text = text_of(alloc, &read[1.min(read.len())..])?;
         let span = Span {
             lo: behind,
             hi: span.hi,
         };
-        self.leaf(TokenTree::Ident(Ident::read(text, span)))
+        let name = SharedText::part(text, span)?;
+        self.leaf(TokenTree::Ident(Ident::read(name, span)))
     }
 
     fn opens(&mut self, delimiter: Delimiter, at: usize) -> Result<()>
@@ -185,8 +190,16 @@ impl Nest {
         Ok(())
     }
 
-    /// Takes the next lexeme, with its characters and its place.
-    fn take(&mut self, alloc: Global, kind: LexemeKind, read: &[char], span: Span) -> Result<()>
+    /// Takes the next lexeme, with its characters and its place in the text.
+    fn take(
+        &mut self,
+        text: &RcStr<Global>,
+        kind: LexemeKind,
+        read: &[char],
+        span: Span,
+    ) -> Result<()>
+        requires some { 0 < length read.now }
+        requires stands { StandAt (rc_str_bytes text.now) span.lo span.hi read.now }
         ensures ok { OnOk result (nest_pieces self.new ≡ nest_pieces self.old ++ spec.lexeme_pieces kind read.now) }
         ensures open { OnOk result (spec.open_behind kind (delimiters_of self.old) ≡ Some (delimiters_of self.new)) }
         ensures err { IfErr result (λ e. (e.kind ≡ ErrorKind.OutOfMemory) ⊎ misfits (nest_pieces self.old ++ spec.lexeme_pieces kind read.now)) }
@@ -195,14 +208,14 @@ impl Nest {
         match kind {
             LexemeKind::Blank => Ok(()),
             LexemeKind::Ident => {
-                let text = text_of(alloc, read)?;
-                self.leaf(TokenTree::Ident(Ident::read(text, span)))
+                let word = SharedText::part(text, span)?;
+                self.leaf(TokenTree::Ident(Ident::read(word, span)))
             }
             LexemeKind::Literal => {
-                let text = text_of(alloc, read)?;
-                self.leaf(TokenTree::Literal(Literal::read(text, span)))
+                let literal = SharedText::part(text, span)?;
+                self.leaf(TokenTree::Literal(Literal::read(literal, span)))
             }
-            LexemeKind::Lifetime => self.lifetime(alloc, read, span),
+            LexemeKind::Lifetime => self.lifetime(text, read, span),
             LexemeKind::Punct(ch, spacing) => {
                 self.leaf(TokenTree::Punct(Punct { ch, spacing, span }))
             }
@@ -228,22 +241,25 @@ impl Nest {
     }
 }
 
-fn lex_chars(alloc: Global, text: &[char]) -> Result<TokenStream>
-    ensures read { IfOk result (λ s. spec.Spells text.now s) }
-    ensures refused { IfErr result (λ e. (e.kind ≡ ErrorKind.OutOfMemory) ⊎ ((ts : List Tok) → spec.Spells text.now ts → ⊥)) }
-    ensures kind { MatchResult result (λ _. spec.refusal text.now ≡ None) (λ e. (e.kind ≡ ErrorKind.OutOfMemory) ⊎ spec.IsRefusedAs (spec.refusal text.now) e.kind) }
+/// Cuts the characters of a text, whose tokens share it.
+fn lex_chars(alloc: Global, text: &RcStr<Global>, all: &[char]) -> Result<TokenStream>
+    requires left { AreLeft (rc_str_bytes text.now) 0 all.now }
+    requires small { length (rc_str_bytes text.now) < 2 ^ 64 }
+    ensures read { IfOk result (λ s. spec.Spells all.now s) }
+    ensures refused { IfErr result (λ e. (e.kind ≡ ErrorKind.OutOfMemory) ⊎ ((ts : List Tok) → spec.Spells all.now ts → ⊥)) }
+    ensures kind { MatchResult result (λ _. spec.refusal all.now ≡ None) (λ e. (e.kind ≡ ErrorKind.OutOfMemory) ⊎ spec.IsRefusedAs (spec.refusal all.now) e.kind) }
 {
     let mut nest = Nest::new(alloc);
-    let mut rest = text;
+    let mut rest = all;
     let mut at = 0;
     while !rest.is_empty() {
         let lexeme = match front(rest) {
             Ok(lexeme) => lexeme,
-            Err(e) => return Err(refusal(at, past_first(at, rest, e.len), e.error)),
+            Err(e) => return Err(refused_front(at, rest, e)),
         };
         let (read, behind) = rest.split_at(lexeme.len);
         let end = past(at, read);
-        if let Err(e) = nest.take(alloc, lexeme.kind, read, Span { lo: at, hi: end }) {
+        if let Err(e) = nest.take(text, lexeme.kind, read, Span { lo: at, hi: end }) {
             return Err(e);
         }
         rest = behind;

@@ -11,6 +11,7 @@ pub mod lexer;
 mod make;
 pub mod parse;
 pub mod same;
+mod shared;
 pub mod span;
 pub mod table;
 pub mod text;

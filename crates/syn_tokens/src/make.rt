@@ -5,10 +5,10 @@ ghost use Rattle.syn_tokens.specs.Lex.{IsIdentText, IsLiteralText, refusal, or_u
 
 use crate::error::{Error, ErrorKind, LexError, Result};
 use crate::lexer::{chars_of, lex};
+use crate::shared::SharedText;
 use crate::span::Span;
 use crate::tree::{Ident, Literal};
 use std::alloc::Global;
-use std::rc::RcStr;
 use syn_lexer::front::{is_ident, is_literal};
 
 /// Why a text that is no single token is refused: as the lexer refuses it, else as an unknown character.
@@ -36,7 +36,7 @@ impl Ident {
         if !is_ident(all.as_slice()) {
             return Err(refusal(alloc, text, span));
         }
-        let text = RcStr::from_str(alloc, text)?;
+        let text = SharedText::new(alloc, text)?;
         Ok(Ident::read(text, span))
     }
 }
@@ -54,7 +54,7 @@ impl Literal {
         if !is_literal(all.as_slice()) {
             return Err(refusal(alloc, text, span));
         }
-        let text = RcStr::from_str(alloc, text)?;
+        let text = SharedText::new(alloc, text)?;
         Ok(Literal::read(text, span))
     }
 }

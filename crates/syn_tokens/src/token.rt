@@ -22,11 +22,11 @@ pub use crate::alias::{
 };
 use crate::buffer::{Parse, ParseBuffer, ToTokens, Token};
 use crate::error::{ErrorKind, Expected, Result, Wanted};
+use crate::shared::SharedText;
 use crate::span::Span;
 use crate::table::{sign_text, word_text};
 use crate::tree::{self, Ident, Punct, TokenStream, TokenTree};
 use crate::{Delimiter, Spacing};
-use std::rc::RcStr;
 
 /// A token of N puncts, the one at place K of `SIGNS` (Rust Reference, "Punctuation"). Where that has another number of
 /// puncts, or K is past the list, it is never seen or read and prints nothing. Equality ignores places.
@@ -192,7 +192,7 @@ fn push_word(text: &str, span: Span, tokens: &mut TokenStream) -> Result<()>
     if text.is_empty() {
         return Ok(());
     }
-    let text = RcStr::from_str(tokens.alloc(), text)?;
+    let text = SharedText::new(tokens.alloc(), text)?;
     tokens.push(TokenTree::Ident(Ident::read(text, span)))?;
     Ok(())
 }

@@ -1,14 +1,13 @@
 //! Token trees and streams of them, as in proc_macro2.
 
 ghost use Rattle.std.specs.Prelude.{◌≡◌, [], ◌∷◌, ◌++◌, length, take, IfOk, IfErr, OnOk, OnErr, IsTrue, ◌↔◌};
-ghost use Rattle.std.specs.Rc.{rc_str_bytes};
 
 use crate::error::{ErrorKind, Result};
+use crate::shared::SharedText;
 use crate::span::Span;
 use crate::{Delimiter, Spacing};
 use std::alloc::{AllocError, Global};
 use std::marker::Model;
-use std::rc::RcStr;
 
 /// A character of punctuation (Rust Reference, "Punctuation"). Equality ignores its place.
 #[derive(Clone, Copy, Debug)]
@@ -27,23 +26,22 @@ pub struct Punct {
 /// `r#`. Contracts see the bytes of its text. Equality ignores its place.
 #[derive(Debug, Drop)]
 pub struct Ident {
-    text: RcStr<Global>,
+    text: SharedText,
     span: Span,
 }
 
 impl Model for Ident {
     ghost use Rattle.std.specs.Prelude.{List, ℕ};
-    ghost use Rattle.std.specs.Rc.{rc_str_bytes};
 
     ghost Value = { List ℕ };
 
-    ghost view = { λ i. rc_str_bytes i.text };
+    ghost view = { λ i. i.text };
 }
 
 impl Ident {
     /// A word that is known to be one.
-    pub(crate) fn read(text: RcStr<Global>, span: Span) -> Ident
-        ensures { result ≡ rc_str_bytes text }
+    pub(crate) fn read(text: SharedText, span: Span) -> Ident
+        ensures { result ≡ text }
     {
         Ident { text, span }
     }
@@ -59,7 +57,7 @@ impl Ident {
     pub(crate) fn copy(&self) -> std::result::Result<Ident, AllocError>
         ensures { IfOk result (λ i. i ≡ self.now) }
     {
-        let text = self.text.clone()?;
+        let text = self.text.copy()?;
         Ok(Ident::read(text, self.span))
     }
 
@@ -73,23 +71,22 @@ impl Ident {
 /// ignores its place.
 #[derive(Debug, Drop)]
 pub struct Literal {
-    text: RcStr<Global>,
+    text: SharedText,
     span: Span,
 }
 
 impl Model for Literal {
     ghost use Rattle.std.specs.Prelude.{List, ℕ};
-    ghost use Rattle.std.specs.Rc.{rc_str_bytes};
 
     ghost Value = { List ℕ };
 
-    ghost view = { λ i. rc_str_bytes i.text };
+    ghost view = { λ i. i.text };
 }
 
 impl Literal {
     /// A literal that is known to be one.
-    pub(crate) fn read(text: RcStr<Global>, span: Span) -> Literal
-        ensures { result ≡ rc_str_bytes text }
+    pub(crate) fn read(text: SharedText, span: Span) -> Literal
+        ensures { result ≡ text }
     {
         Literal { text, span }
     }
@@ -105,7 +102,7 @@ impl Literal {
     pub(crate) fn copy(&self) -> std::result::Result<Literal, AllocError>
         ensures { IfOk result (λ l. l ≡ self.now) }
     {
-        let text = self.text.clone()?;
+        let text = self.text.copy()?;
         Ok(Literal::read(text, self.span))
     }
 

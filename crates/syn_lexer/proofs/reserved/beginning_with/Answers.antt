@@ -1,4 +1,4 @@
-use Rattle.std.proofs.Common.{◌≡◌, refl, arith}
+use Rattle.std.proofs.Common.{refl, arith}
 use Rattle.syn_lexer.proofs.FirstBytes.{none_begin}
 use Rattle.syn_lexer.proofs.reserved.beginning_with.Goals as goal
 

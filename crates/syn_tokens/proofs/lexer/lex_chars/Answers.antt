@@ -1,5 +1,7 @@
 use Rattle.std.proofs.Common.{◌≡◌, ◌∙◌, ◌<◌, length, refl, arith, inl, inr}
 use Rattle.std.proofs.lemmas.Grind.{common_steps}
+use Rattle.std.specs.Rc.{rc_str_bytes}
+use Rattle.syn_tokens.proofs.Standing.{left_size, next_left, next_stand, next_size}
 use Rattle.syn_tokens.specs.Nest.{nest_pieces, delimiters_of}
 use Rattle.syn_tokens.specs.Lex.{pieces, refusal_at_end}
 use Rattle.syn_tokens.proofs.Lexes.{found, refused, so_far_more, refused_front, refused_lexeme, all_read, then_nothing, refusal_is, refusal_step, refusal_step-refused, refusal_end, finished}
@@ -7,8 +9,9 @@ use Rattle.syn_tokens.proofs.lexer.lex_chars.Goals as goal
 
 pub loop-rest-init : goal.loop-rest-init
 loop-rest-init c = record {
-  pieces_are = rw c.new-nest.ensures.nothing (then_nothing (pieces c.args.text.now));
-  refusal_is = rw c.new-nest.ensures.open (refusal_is c.args.text.now);
+  pieces_are = rw c.new-nest.ensures.nothing (then_nothing (pieces c.args.all.now));
+  left = c.requires.left;
+  refusal_is = rw c.new-nest.ensures.open (refusal_is c.args.all.now);
 }
 
 pub loop-rest-preserved : goal.loop-rest-preserved
@@ -16,8 +19,9 @@ loop-rest-preserved c =
     let more : 0 < length c.loop-rest.rest.now = grind (arith, common_steps) in
     record {
       pieces_are = rw (c.split_at.ensures.back, c.in_default.ensures.ok, c.split_at.ensures.front)
-          (so_far_more c.args.text.now c.loop-rest.rest.now (nest_pieces c.loop-rest.nest) c.in-Ok.lexeme.kind c.in-Ok.lexeme.len
+          (so_far_more c.args.all.now c.loop-rest.rest.now (nest_pieces c.loop-rest.nest) c.in-Ok.lexeme.kind c.in-Ok.lexeme.len
           c.loop-rest.invariant.pieces_are more c.in-Ok.ensures.within.0 c.in-Ok.ensures.value);
+      left = rw (c.past-end.ensures, c.split_at.ensures.front, c.split_at.ensures.back) (next_left (rc_str_bytes c.args.text.now) c.loop-rest.at c.in-Ok.lexeme.len c.loop-rest.rest.now c.loop-rest.invariant.left);
       refusal_is = rw c.split_at.ensures.back
           (c.loop-rest.invariant.refusal_is
           ∙ refusal_step (delimiters_of c.loop-rest.nest) c.loop-rest.rest.now c.in-Ok.lexeme.kind c.in-Ok.lexeme.len more c.in-Ok.ensures.within.0 c.in-Ok.ensures.value
@@ -27,21 +31,21 @@ loop-rest-preserved c =
 pub returns-in-Err-clause-refused : goal.returns-in-Err-clause-refused
 returns-in-Err-clause-refused c =
     let more : 0 < length c.loop-rest.rest.now = grind (arith, common_steps) in
-    inr (refused_front c.args.text.now c.loop-rest.rest.now (nest_pieces c.loop-rest.nest) c.loop-rest.invariant.pieces_are more c.in-Err.ensures.value)
+    inr (refused_front c.args.all.now c.loop-rest.rest.now (nest_pieces c.loop-rest.nest) c.loop-rest.invariant.pieces_are more c.in-Err.ensures.value)
 
 pub returns-in-Err-clause-kind : goal.returns-in-Err-clause-kind
 returns-in-Err-clause-kind c =
     let more : 0 < length c.loop-rest.rest.now = grind (arith, common_steps) in
     let is = c.loop-rest.invariant.refusal_is
     ∙ refusal_step-refused (delimiters_of c.loop-rest.nest) c.loop-rest.rest.now c.in-Err.e.error c.in-Err.e.len more c.in-Err.ensures.refused in
-    inr (rw is c.refusal.ensures)
+    inr (rw is c.refused_front.ensures)
 
 pub returns-in-Err-take-clause-refused : goal.returns-in-Err-take-clause-refused
 returns-in-Err-take-clause-refused c =
     let more : 0 < length c.loop-rest.rest.now = grind (arith, common_steps) in
     elim c.in-Err-take.ensures.err [
       | inl m ↦ inl m
-      | inr no_fit ↦ inr (refused_lexeme c.args.text.now c.loop-rest.rest.now (nest_pieces c.loop-rest.nest) c.in-Ok.lexeme.kind c.in-Ok.lexeme.len
+      | inr no_fit ↦ inr (refused_lexeme c.args.all.now c.loop-rest.rest.now (nest_pieces c.loop-rest.nest) c.in-Ok.lexeme.kind c.in-Ok.lexeme.len
           c.loop-rest.invariant.pieces_are more c.in-Ok.ensures.within.0 c.in-Ok.ensures.value (rw c.split_at.ensures.front at no_fit))
     ]
 
@@ -58,15 +62,30 @@ returns-in-Err-take-clause-kind c =
 pub returns-clause-read : goal.returns-clause-read
 returns-clause-read c =
     let none : length c.loop-rest.rest.now ≡ 0 = grind (arith, common_steps) in
-    found (nest_pieces c.loop-rest.nest) c.args.text.now (all_read c.args.text.now c.loop-rest.rest.now _ c.loop-rest.invariant.pieces_are none) c.finish.result c.finish.ensures.value
+    found (nest_pieces c.loop-rest.nest) c.args.all.now (all_read c.args.all.now c.loop-rest.rest.now _ c.loop-rest.invariant.pieces_are none) c.finish.result c.finish.ensures.value
 
 pub returns-clause-refused : goal.returns-clause-refused
 returns-clause-refused c =
     let none : length c.loop-rest.rest.now ≡ 0 = grind (arith, common_steps) in
-    refused (nest_pieces c.loop-rest.nest) c.args.text.now (all_read c.args.text.now c.loop-rest.rest.now _ c.loop-rest.invariant.pieces_are none) c.finish.result c.finish.ensures.value
+    refused (nest_pieces c.loop-rest.nest) c.args.all.now (all_read c.args.all.now c.loop-rest.rest.now _ c.loop-rest.invariant.pieces_are none) c.finish.result c.finish.ensures.value
 
 pub returns-clause-kind : goal.returns-clause-kind
 returns-clause-kind c =
     let none : length c.loop-rest.rest.now ≡ 0 = grind (arith, common_steps) in
     let is = c.loop-rest.invariant.refusal_is ∙ refusal_end (delimiters_of c.loop-rest.nest) c.loop-rest.rest.now none in
     rw is (finished (refusal_at_end (delimiters_of c.loop-rest.nest)) c.finish.result c.finish.ensures.kind)
+
+pub past-end-requires : goal.past-end-requires
+past-end-requires c =
+    let size = next_size (rc_str_bytes c.args.text.now) c.loop-rest.at c.in-Ok.lexeme.len c.loop-rest.rest.now c.loop-rest.invariant.left in
+    let small = c.requires.small in
+    rw c.split_at.ensures.front (omega arith)
+
+pub take-requires-clause-stands : goal.take-requires-clause-stands
+take-requires-clause-stands c = rw (c.past-end.ensures, c.split_at.ensures.front) (next_stand (rc_str_bytes c.args.text.now) c.loop-rest.at c.in-Ok.lexeme.len c.loop-rest.rest.now c.loop-rest.invariant.left)
+
+pub refused_front-requires-clause-small : goal.refused_front-requires-clause-small
+refused_front-requires-clause-small c =
+    let size = left_size (rc_str_bytes c.args.text.now) c.loop-rest.at c.loop-rest.rest.now c.loop-rest.invariant.left in
+    let small = c.requires.small in
+    omega arith
