@@ -1,5 +1,5 @@
 -- The note of a node, and what its operands make of a pass over it.
-use Rattle.std.proofs.Common.{◌≡◌, ◌+◌, Bool, true, false, if◌then◌else◌, ◌++◌, refl, sym, ap, ◌∙◌, arith}
+use Rattle.std.proofs.Common.{◌≡◌, ◌+◌, Bool, true, false, if◌then◌else◌, List, ◌++◌, refl, sym, ap, ◌∙◌, arith}
 use Rattle.std.proofs.lemmas.List.{append-nil}
 use Rattle.syn_grammar.specs.declared.kinds.Infix.{Infix}
 use Rattle.syn_grammar.specs.declared.note.Note.{Note}
@@ -17,7 +17,7 @@ use Rattle.syn_expr_notes.specs.declared.label.PostKind.{PostKind}
 use Rattle.syn_expr_notes.specs.declared.label.TrailerKind.{TrailerKind}
 use Rattle.syn_expr_notes.specs.declared.label.FrameKind.{FrameKind}
 use Rattle.syn_parts.specs.Form.{is_nil}
-use Rattle.syn_expr_kinds.specs.Node.{attributes_at, without_strays, operands_at, based_by}
+use Rattle.syn_expr_kinds.specs.Node.{attributes_at, without_strays, no_trees, operands_at, based_by}
 use Rattle.syn_expr_collect.specs.Below.{plain_note, noted_behind, AreFirst, operands_below, operands_visited}
 use Rattle.syn_expr_collect.specs.Visited.{visited, kids_visited}
 
@@ -164,6 +164,21 @@ visited_is (post x l) = refl
 visited_is (tail b l ks) = ap (λ n. 1 + n) (based_visited b ks)
 visited_is (frame l ks) = ap (λ n. 1 + n) (strays_visited ks)
 
+pub leaf_operands : (t : Tree) (k : LeafKind) → kind_at t ≡ node.Leaf k → operands_at t ≡ no_trees
+leaf_operands (leaf l) k h = refl
+leaf_operands (adorned a more t) k h = leaf_operands t k h
+leaf_operands (paren b t) k h = absurd cc
+leaf_operands (lead l gs t) k h = absurd cc
+leaf_operands (mid x op y) k h = absurd cc
+leaf_operands (post x l) k h = absurd cc
+leaf_operands (tail b l ks) k h = absurd cc
+leaf_operands (frame l ks) k h = absurd cc
+
+pub leaf_below : (old : List Note) (t : Tree) (k : LeafKind) → kind_at t ≡ node.Leaf k → old ++ operands_below (operands_at t) ≡ old
+leaf_below old t k h = ap (λ o. old ++ operands_below o) (leaf_operands t k h) ∙ append-nil old
+
 pub ruleset based = (based_below, based_visited)
+
+pub ruleset leaves = (leaf_operands)
 
 pub ruleset nodes = (behind_is, below_is, visited_is)

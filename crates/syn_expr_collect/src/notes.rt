@@ -3,8 +3,9 @@
 ghost use Rattle.std.specs.Prelude.{◌≡◌, ◌^◌, ◌+◌, ◌-◌, ◌++◌, min, IfOk, OnOk};
 ghost use Rattle.syn_expr_collect.specs.Below.{AreFirst, operands_below, operands_visited, backwards, total, field_below, field_visited, option_below, option_visited, arm_below, arm_visited};
 ghost use Rattle.syn_expr_collect.specs.Visited.{visited};
-ghost use Rattle.syn_expr_kinds.specs.Node.{operands_of};
+ghost use Rattle.syn_expr_kinds.specs.Node.{operands_at, operands_of};
 ghost use Rattle.syn_expr_kinds.specs.View.{boxed, field_value_of};
+ghost use Rattle.syn_expr_notes.specs.Kind.{kind_at};
 ghost use Rattle.syn_grammar.specs.Notes.{note_of, stack};
 ghost use Rattle.syn_lower_lists.specs.View.{values};
 
@@ -13,6 +14,7 @@ use crate::node::{closed, keep, plain_note};
 use std::alloc::AllocError;
 use syn_expr_kinds::node::{HasKind, Operands};
 use syn_expr_kinds::structure::FieldValueOf;
+use syn_expr_notes::kind::NodeKind;
 use syn_expr_notes::note::tick;
 use syn_grammar::note::Note;
 use syn_lower_lists::punctuated::Punctuated;
@@ -225,6 +227,37 @@ pub fn collect_operands<E: HasArms + HasKind>(
     }
 }
 
+/// Notes the operands of a node of this kind. A leaf has none, and isn't asked for them.
+#[cycle(collect)]
+#[tactic(auto, using(crate::proofs::Lists::lists, crate::proofs::Nodes::based, crate::proofs::Nodes::leaves))]
+fn collect_below<E: HasArms + HasKind>(
+    notes: &mut Vec<Note>,
+    visits: &mut u64,
+    expr: &E,
+    kind: NodeKind,
+) -> Result<(Note, Note), AllocError>
+    requires { kind_at (E.tree expr.now) ≡ kind }
+    ensures first { IfOk result (λ p. AreFirst (operands_at (E.tree expr.now)) p.0 p.1) }
+    ensures kept { OnOk result (notes.new.items ≡ notes.old.items ++ operands_below (operands_at (E.tree expr.now))) }
+    ensures counted { OnOk result (visits.new ≡ min (visits.old + operands_visited (operands_at (E.tree expr.now))) (2 ^ 64 - 1)) }
+{
+    match kind {
+        NodeKind::Leaf(_) => {
+            prove!(*visits <= u64::MAX);
+            Ok((closed(), closed()))
+        }
+        _ => match expr.operands() {
+            // Those of an operator are the most, and go fastest apart from the others.
+            Operands::Two(x, y) => {
+                let second = collect::<E>(notes, visits, y)?;
+                let first = collect::<E>(notes, visits, x)?;
+                Ok((first, second))
+            }
+            operands => collect_operands(notes, visits, operands),
+        },
+    }
+}
+
 /// Notes a node and all below it, an operand on the right before one on the left, and the node behind its operands; so a
 /// printer takes the notes from the end, in the order in which it comes to the nodes. Operands that aren't spelled are
 /// visited, and have no notes. It answers the note of the node, and is refused for want of memory alone.
@@ -240,7 +273,8 @@ pub fn collect<E: HasArms + HasKind>(
     ensures counted { OnOk result (visits.new ≡ min (visits.old + visited (E.tree expr.now)) (2 ^ 64 - 1)) }
 {
     tick(visits);
-    let (first, second) = collect_operands(notes, visits, expr.operands())?;
-    let note = plain_note(expr.kind(), first, second);
+    let kind = expr.kind();
+    let (first, second) = collect_below(notes, visits, expr, kind)?;
+    let note = plain_note(kind, first, second);
     keep(notes, expr.attributes(), note)
 }

@@ -1,9 +1,9 @@
 //! An operand, in parentheses where it needs them: in a place of its own, and at an end of its node.
 
-ghost use Rattle.std.specs.Prelude.{◌≡◌, ◌+◌, ◌++◌, OnOk};
+ghost use Rattle.std.specs.Prelude.{◌≡◌, ◌+◌, ◌++◌, [], OnOk};
 ghost use Rattle.syn_expr_notes.specs.Label.{lead_kind, trailer_kind};
 ghost use Rattle.syn_expr_kinds.specs.Printed as printed;
-ghost use Rattle.syn_expr_print.specs.Printing.{EndsWith, spelled_in};
+ghost use Rattle.syn_expr_print.specs.Printing.{EndsWith, spelled, spelled_in};
 ghost use Rattle.syn_expr_print.specs.Prints.{Callable, Prints};
 ghost use Rattle.syn_expr_print.specs.Taken.{Taken};
 ghost use Rattle.syn_grammar.specs.Next as next;
@@ -11,6 +11,8 @@ ghost use Rattle.syn_grammar.specs.Notes as noted;
 ghost use Rattle.syn_grammar.specs.Notes.{below, note_of, stack};
 ghost use Rattle.syn_grammar.specs.Op as operators;
 ghost use Rattle.syn_grammar.specs.Tree.{Lead, Trailer, size};
+ghost use Rattle.syn_lexer.specs.declared.lexeme.Delimiter.TheVariants as del;
+ghost use Rattle.syn_parts.specs.Own as own_parts;
 ghost use Rattle.syn_tokens.specs.Input.{IsFront};
 
 use crate::node::HasPrint;
@@ -24,6 +26,26 @@ use syn_grammar::kinds::{Infix, Level};
 use syn_grammar::next::Context;
 use syn_op::level::level;
 use syn_tokens::tree::TokenStream;
+
+/// Prints an operand whose note was taken, in parentheses.
+#[tactic(auto, using(syn_tokens::proofs::Fronts::fronts))]
+fn in_parens<E: HasPrint, F: Fn(&mut TokenStream, &mut Notes, &E, Context) -> Grown>(
+    bare: &F,
+    tokens: &mut TokenStream,
+    notes: &mut Notes,
+    x: &E,
+) -> Grown
+    requires callable { Callable E.tree (size (E.tree x.now) + 1) (F.pre bare.now) }
+    requires prints { Prints E.tree (F.post bare.now) }
+    requires stacked { EndsWith notes.old.left.items (below (E.tree x.now)) }
+    ensures text { OnOk result (tokens.new ≡ tokens.old ++ own_parts.enclosed del.Parenthesis (spelled next.enclosed (E.tree x.now)) []) }
+    ensures front { IsFront tokens.old tokens.new }
+    ensures taken { OnOk result (Taken notes.old notes.new (below (E.tree x.now))) }
+{
+    let mut content = TokenStream::new(tokens.alloc());
+    bare(&mut content, notes, x, enclosed())?;
+    put_parens(tokens, content)
+}
 
 /// Prints an operand whose note was taken: in parentheses where it is `wrapped`, else bare.
 #[tactic(auto, using(syn_tokens::proofs::Fronts::fronts, crate::proofs::Spellings::roles))]
@@ -43,9 +65,7 @@ pub(crate) fn inside<E: HasPrint, F: Fn(&mut TokenStream, &mut Notes, &E, Contex
     ensures taken { OnOk result (Taken notes.old notes.new (below (E.tree x.now))) }
 {
     if wrapped {
-        let mut content = TokenStream::new(tokens.alloc());
-        bare(&mut content, notes, x, enclosed())?;
-        put_parens(tokens, content)
+        in_parens(bare, tokens, notes, x)
     } else {
         bare(tokens, notes, x, context)
     }

@@ -5,4 +5,6 @@ pub mod ByKind
 pub mod Firsts
 pub mod Knots
 pub mod Loops
+pub mod Names
+pub mod Stops
 pub mod Turns

@@ -1,11 +1,11 @@
 //! What may stand behind an expression that was read.
 
-ghost use Rattle.std.specs.Prelude.{◌≡◌};
+ghost use Rattle.std.specs.Prelude.{◌≡◌, None};
 ghost use Rattle.syn_grammar.specs.Read as read;
 ghost use Rattle.syn_grammar.specs.Stands as stands;
 
 use crate::told::{carries, is_cast, is_range, rests};
-use syn_expr_front::operator::{goes_on, refuses_arrow, refuses_dots};
+use syn_expr_front::operator::{refuses_arrow, refuses_dots};
 use syn_expr_front::sign::{dot_at, question_at, trailer_at};
 use syn_expr_kinds::node::{HasKind, HasNode};
 use syn_grammar::kinds::{Infix, Level, Place};
@@ -25,24 +25,15 @@ fn goes_behind(input: &ParseBuffer<'_>, rests: bool) -> bool
 }
 
 /// Whether no trailer is left behind what could carry it, nor behind a cast.
-#[tactic(auto, unfolding(syn_grammar::specs::Stands::closes))]
+#[tactic(auto, using(crate::proofs::Stops::closed), unfolding(syn_grammar::specs::Stands::closes))]
 pub fn closes<E: HasNode + HasKind>(input: &ParseBuffer<'_>, place: Place, x: &E) -> bool
     ensures { result ≡ stands.closes place (E.tree x.now) input.now.rest }
 {
+    // Mostly none stands there at all, so that nothing is asked of the expression.
+    if !trailer_at(input) {
+        return true;
+    }
     !((carries(x) || is_cast(x)) && goes_behind(input, rests(place, x)))
-}
-
-/// Whether it may end here, as the whole of its place: no operator is left that the place takes, and none of the tokens that
-/// are refused there.
-#[tactic(auto, unfolding(syn_grammar::specs::Stands::ends))]
-pub fn ends<E: HasKind>(input: &ParseBuffer<'_>, place: Place, x: &E) -> bool
-    ensures { result ≡ stands.ends place (E.tree x.now) input.now.rest }
-{
-    is_range(x)
-        || rests(place, x)
-        || !(goes_on(input, place.level)
-            || refuses_dots(input, place.level)
-            || refuses_arrow(input, place.level))
 }
 
 /// The infix operator that an expression at this level takes next, and of how many tokens it is.
@@ -64,8 +55,21 @@ pub fn next_operator<E: HasKind>(
 ) -> Option<(Infix, usize)>
     ensures { result ≡ read.next_operator place (E.tree left.now) input.now.rest }
 {
+    let next = taken_at(input, place.level)?;
     if is_range(left) || rests(place, left) {
         return None;
     }
-    taken_at(input, place.level)
+    Some(next)
+}
+
+/// Whether it may end here, where no operator goes on it: it is a range or the whole, or none of the tokens stands first that
+/// are refused there.
+#[tactic(auto, using(crate::proofs::Stops::stops))]
+pub fn stops<E: HasKind>(input: &ParseBuffer<'_>, place: Place, x: &E) -> bool
+    requires { read.next_operator place (E.tree x.now) input.now.rest ≡ None }
+    ensures { result ≡ stands.ends place (E.tree x.now) input.now.rest }
+{
+    !(refuses_dots(input, place.level) || refuses_arrow(input, place.level))
+        || is_range(x)
+        || rests(place, x)
 }

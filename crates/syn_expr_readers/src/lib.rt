@@ -7,6 +7,7 @@ pub mod ends;
 pub mod fields;
 pub mod grammar;
 pub mod make;
+mod name;
 pub mod operands;
 pub mod operations;
 mod refusal;

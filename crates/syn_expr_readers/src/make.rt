@@ -3,12 +3,14 @@
 ghost use Rattle.std.specs.Prelude.{◌≡◌, IfOk, map};
 ghost use Rattle.syn_expr_kinds.specs.View as of;
 ghost use Rattle.syn_expr_parts.specs.View.{member_of};
+ghost use Rattle.syn_grammar.specs.Stands as stands;
 ghost use Rattle.syn_grammar.specs.Tree as e;
 ghost use Rattle.syn_grammar.specs.declared.kinds.Infix.TheVariants as inf;
 ghost use Rattle.syn_lower.specs.View.{type_of, values, trails};
 ghost use Rattle.syn_op.specs.View.{limits_kind};
 
 use std::alloc::{AllocError, Global};
+use syn_expr_kinds::atom::ExprPath;
 use syn_expr_kinds::kinds::IsExpr;
 use syn_expr_kinds::operation::{ExprAssignOf, ExprBinaryOf, ExprCastOf, ExprRangeOf};
 use syn_expr_kinds::trailer::{
@@ -16,7 +18,7 @@ use syn_expr_kinds::trailer::{
 };
 use syn_expr_parts::member::Member;
 use syn_grammar::kinds::{BinKind, Limits};
-use syn_lower::path::AngleBracketedGenericArguments;
+use syn_lower::path::{AngleBracketedGenericArguments, Path, PathArguments, PathSegment};
 use syn_lower::punctuated::Punctuated;
 use syn_lower::ty::Type;
 use syn_op::limits::RangeLimits;
@@ -33,6 +35,32 @@ pub(crate) fn boxed<E: IsExpr + Drop>(
     ensures { IfOk result (λ b. E.tree b.value ≡ E.tree x) }
 {
     Ok(Box::new(alloc, x)?)
+}
+
+/// The path of a name alone.
+#[tactic(auto, unfolding(syn_expr_kinds::specs::Attrs::attrs_of, syn_lower_lists::specs::View::values, syn_lower_lists::specs::View::trails))]
+pub(crate) fn name<E: IsExpr + Drop>(
+    alloc: Global,
+    ident: Ident,
+) -> std::result::Result<Box<E>, AllocError>
+    ensures { IfOk result (λ b. E.tree b.value ≡ stands.path_of ident) }
+{
+    let attrs = Vec::new(alloc);
+    let arguments = PathArguments::None;
+    let segment = Box::new(alloc, PathSegment { ident, arguments })?;
+    let path = Path {
+        leading_colon: None,
+        segments: Punctuated {
+            inner: Vec::new(alloc),
+            last: Some(segment),
+        },
+    };
+    let path = ExprPath {
+        attrs,
+        qself: None,
+        path,
+    };
+    boxed(alloc, E::path(path))
 }
 
 /// The operator of a range of this kind, at these places.

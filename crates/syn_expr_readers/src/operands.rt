@@ -14,6 +14,7 @@ ghost use Rattle.syn_tokens.specs.Tok.{weight};
 ghost use Rattle.syn_tokens.specs.View.{toks_of};
 
 use crate::grammar::Grammar;
+use crate::name::name_alone;
 use crate::told::may_adorn;
 use crate::{make, refusal};
 use syn_expr_atoms::atoms::Atoms;
@@ -31,7 +32,7 @@ use syn_lower_leaves::attr::Attribute;
 use syn_lower_leaves::kept::outer_attributes;
 use syn_lower_readers::qualified::macro_end;
 use syn_tokens::buffer::ParseBuffer;
-use syn_tokens::copy::copy_trees;
+use syn_tokens::copy::{copy_ident, copy_trees};
 use syn_tokens::error::{Error, ErrorKind, Expected, Result};
 use syn_tokens::span::Span;
 use syn_tokens::token::{If, Match, Pound};
@@ -122,7 +123,7 @@ where
     }
 
     /// Reads an operand without trailers, by what stands first.
-    #[tactic(auto, using(crate::proofs::Firsts::firsts))]
+    #[tactic(auto, using(crate::proofs::Firsts::firsts, crate::proofs::Names::name_alone))]
     fn atom(&self, input: &mut ParseBuffer<'_>, place: Place) -> Result<Box<E>>
         requires callable { Callable (weight input.old.rest) (F.pre self.now.expr) }
         requires reads { ReadsExpr E.tree (F.post self.now.expr) }
@@ -130,6 +131,12 @@ where
         ensures noted { input.new.noted ≡ input.old.noted }
         ensures shrinks { weight input.new.rest ≤ weight input.old.rest }
     {
+        // Most operands are a name alone, which is read at once.
+        if let Some(name) = name_alone(input) {
+            let name = copy_ident(input.alloc(), name)?;
+            input.skip(1);
+            return Ok(make::name(input.alloc(), name)?);
+        }
         let lists = Lists { expr: self.expr };
         let blocks = Blocks { expr: self.expr };
         let atoms = Atoms { expr: self.expr };

@@ -10,10 +10,10 @@ ghost use Rattle.syn_grammar.specs.declared.kinds.Infix.TheVariants as inf;
 ghost use Rattle.syn_lower_leaves.specs.Reads.{Reads};
 ghost use Rattle.syn_tokens.specs.Tok.{weight};
 
-use crate::ends::{closes, ends, next_operator};
+use crate::ends::{closes, next_operator, stops};
 use crate::grammar::Grammar;
 use crate::make;
-use crate::told::fits_left;
+use crate::told::chains;
 use syn_expr_ends::kinds::ReadExprs;
 use syn_expr_ends::place::at;
 use syn_expr_front::sign::{ends_open_range, left_arrow_at};
@@ -154,7 +154,7 @@ impl<E: ReadExprs + Drop, F: Fn(&mut ParseBuffer<'_>, Place) -> Result<Box<E>>> 
         ensures shrinks { weight input.new.rest ≤ weight input.old.rest }
     {
         'operators: while let Some((op, count)) = next_operator(input, place, &*left) {
-            if !fits_left(place, op, &*left) {
+            if chains(op, &*left) {
                 return Err(input.error(ErrorKind::ChainedComparison));
             }
             let spans = input.spans();
@@ -164,7 +164,7 @@ impl<E: ReadExprs + Drop, F: Fn(&mut ParseBuffer<'_>, Place) -> Result<Box<E>>> 
                 return Err(after_cast(input));
             }
         }
-        if !ends(input, place, &*left) {
+        if !stops(input, place, &*left) {
             return Err(refusal(input));
         }
         Ok(left)

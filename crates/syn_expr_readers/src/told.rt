@@ -1,7 +1,8 @@
 //! What the reading asks of an expression that was read: by its kind, and by whether attributes stand before it.
 
-ghost use Rattle.std.specs.Prelude.{◌≡◌};
+ghost use Rattle.std.specs.Prelude.{◌≡◌, ◌&&◌};
 ghost use Rattle.syn_expr_readers.specs.Kind as spec;
+ghost use Rattle.syn_grammar.specs.Op as op_spec;
 ghost use Rattle.syn_grammar.specs.Stands as stands;
 
 use syn_expr_kinds::like::is_block_like;
@@ -137,12 +138,11 @@ pub fn may_adorn<E: HasNode + HasKind>(place: Place, x: &E) -> bool
     !(is_infix(x) || is_adorned(x) || is_verbatim(x)) && (place.head || !is_range(x))
 }
 
-/// Whether it may be the left operand of an operator: it is no range, no comparison before another, and not the whole.
-#[tactic(auto, unfolding(syn_grammar::specs::Stands::fits_left))]
-pub fn fits_left<E: HasNode + HasKind>(place: Place, op: Infix, x: &E) -> bool
-    ensures { result ≡ stands.fits_left place op (E.tree x.now) }
+/// Whether it and the operator behind it would chain comparisons (Rust Reference, "Comparison Operators").
+pub fn chains<E: HasNode + HasKind>(op: Infix, x: &E) -> bool
+    ensures { result ≡ op_spec.is_comparison op && stands.compares (E.tree x.now) }
 {
-    !(is_range(x) || is_comparison(op) && compares(x) || rests(place, x))
+    is_comparison(op) && compares(x)
 }
 
 /// Whether `?` or a trailer with a dot may stand behind it.

@@ -1,6 +1,7 @@
 -- A word is reserved where it is one of the reserved words with its first byte.
-use Rattle.std.proofs.Common.{◌≡◌, ℕ, List, [], ◌∷◌, length, ◌<◌, slice_index_or, refl, sym, ap, subst, cond, Bool, true, false, arith}
-use Rattle.std.specs.Prelude.{◌==◌, ◌≢◌, ◌||◌}
+use Rattle.std.proofs.Common.{◌≡◌, ℕ, List, [], ◌∷◌, length, ◌<◌, ◌≤◌, slice_index_or, refl, sym, ap, subst, cond, Bool, true, false, arith}
+use Rattle.std.specs.Prelude.{◌==◌, ◌≢◌, ◌&&◌, ◌||◌}
+use Rattle.std.specs.Char.{is_ascii_lowercase}
 use Rattle.std.specs.List.{filter}
 use Rattle.std.specs.Str.{bytes_eq}
 use Rattle.std.proofs.lemmas.Bool.Decides.{nat_tests}
@@ -23,15 +24,71 @@ unfolding is_reserved_word
 reserved_of_some [] w d same some = absurd (grind arith)
 reserved_of_some (b ∷ s) w d same some = subst (λ v. is_one_of (filter (begins_with b) reserved_words) v ≡ is_one_of reserved_words v) same (of_first reserved_words b s)
 
-pub reserved_of_none : (w : List ℕ) → length w ≡ 0 → false ≡ is_reserved_word w
-unfolding is_reserved_word
-reserved_of_none [] none = refl
-reserved_of_none (b ∷ s) none = absurd (grind arith)
-
--- ---- and no other byte is the first of a reserved word
-
 eqb-false : (a b : ℕ) → a ≢ b → (a == b) ≡ false
 eqb-false a b other = grind (arith, nat_tests)
+
+-- ---- each is `_`, or goes on with a small letter
+
+abbrev goes_on : List ℕ → Bool
+goes_on [] = false
+goes_on (b ∷ []) = b == 95
+goes_on (b ∷ (c ∷ w)) = is_ascii_lowercase c
+
+abbrev all_go_on : List (List ℕ) → Bool
+all_go_on [] = true
+all_go_on (v ∷ words) = cond (goes_on v) (all_go_on words) false
+
+and-false : (same : Bool) → (same && false) ≡ false
+and-false true = refl
+and-false false = refl
+
+not_same : (w v : List ℕ) → goes_on w ≡ false → goes_on v ≡ true → bytes_eq w v ≡ false
+not_same [] [] other this = cc
+not_same [] (d ∷ v) other this = refl
+not_same (b ∷ w) [] other this = cc
+not_same (b ∷ []) (d ∷ []) other this =
+    rw (eqb-false b d (λ same. let alike : (b == 95) ≡ (d == 95) = ap (λ k. k == 95) same in cc)) refl
+not_same (b ∷ []) (d ∷ (e ∷ v)) other this = and-false (b == d)
+not_same (b ∷ (c ∷ w)) (d ∷ []) other this = and-false (b == d)
+not_same (b ∷ (c ∷ w)) (d ∷ (e ∷ v)) other this =
+    rw (eqb-false c e (λ same. let alike : is_ascii_lowercase c ≡ is_ascii_lowercase e = ap is_ascii_lowercase same in cc)) (and-false (b == d))
+
+not_next : (w v : List ℕ) (on : Bool) (words : List (List ℕ)) → goes_on v ≡ on → goes_on w ≡ false
+    → cond on (all_go_on words) false ≡ true → (all_go_on words ≡ true → is_one_of words w ≡ false)
+    → (bytes_eq w v || is_one_of words w) ≡ false
+not_next w v false words this other all rest = cc
+not_next w v true words this other all rest = rw (not_same w v other this) (rest all)
+
+not_one : (words : List (List ℕ)) (w : List ℕ) → goes_on w ≡ false → all_go_on words ≡ true → is_one_of words w ≡ false
+not_one [] w other all = refl
+not_one (v ∷ words) w other all = not_next w v (goes_on v) words refl other all (not_one words w other)
+
+reserved_of_other : (bytes w : List ℕ) → bytes ≡ w → goes_on bytes ≡ false → false ≡ is_reserved_word w
+unfolding is_reserved_word
+reserved_of_other bytes w same other = subst (λ v. false ≡ is_one_of reserved_words v) same (sym (not_one reserved_words bytes other refl))
+
+pub reserved_underscore : (bytes w : List ℕ) (d : ℕ) → bytes ≡ w → length bytes ≡ 1 → slice_index_or bytes 0 d ≡ 95 → true ≡ is_reserved_word w
+unfolding is_reserved_word
+reserved_underscore [] w d same one is = absurd (grind arith)
+reserved_underscore (b ∷ []) w d same one is = subst (λ v. true ≡ is_one_of reserved_words v) same (rw is refl)
+reserved_underscore (b ∷ (c ∷ s)) w d same one is = absurd (grind arith)
+
+pub reserved_of_none : (bytes w : List ℕ) → bytes ≡ w → length bytes ≡ 0 → false ≡ is_reserved_word w
+reserved_of_none [] w same none = reserved_of_other [] w same refl
+reserved_of_none (b ∷ s) w same none = absurd (grind arith)
+
+pub reserved_of_one : (bytes w : List ℕ) (d : ℕ) → bytes ≡ w → length bytes ≡ 1 → slice_index_or bytes 0 d ≢ 95 → false ≡ is_reserved_word w
+reserved_of_one [] w d same one other = absurd (grind arith)
+reserved_of_one (b ∷ []) w d same one other = reserved_of_other (b ∷ []) w same (eqb-false b 95 other)
+reserved_of_one (b ∷ (c ∷ s)) w d same one other = absurd (grind arith)
+
+pub reserved_of_more : (bytes w : List ℕ) (d : ℕ) → bytes ≡ w → 2 ≤ length bytes → is_ascii_lowercase (slice_index_or bytes 1 d) ≡ false
+    → false ≡ is_reserved_word w
+reserved_of_more [] w d same two other = absurd (grind arith)
+reserved_of_more (b ∷ []) w d same two other = absurd (grind arith)
+reserved_of_more (b ∷ (c ∷ s)) w d same two other = reserved_of_other (b ∷ (c ∷ s)) w same other
+
+-- ---- and no other byte is the first of a reserved word
 
 abbrev is_first : ℕ → Bool
 is_first b =

@@ -39,6 +39,10 @@ one_character (Some kind) = Ok (kind, 1)
 abbrev pub single : Text → Reading
 single z = one_character (single_kind z)
 
+-- an identifier, a delimiter or a punct
+abbrev pub plain : Text → Reading
+plain z = if starts_word z then Ok (Ident, word_len z) else single z
+
 -- what is no blank: a prefix belongs to the string or byte that it begins, and else to an identifier
 unfoldable pub token : Text → Reading
 token z =

@@ -13,10 +13,12 @@ use crate::text::begins;
 pub fn is_white_space(c: char) -> bool
     ensures { result ≡ spec.is_white_space c }
 {
-    matches!(
-        c,
-        '\u{9}'..='\u{d}' | ' ' | '\u{85}' | '\u{200e}' | '\u{200f}' | '\u{2028}' | '\u{2029}'
-    )
+    // Most characters are told by this one range.
+    !c.is_ascii_graphic()
+        && matches!(
+            c,
+            '\u{9}'..='\u{d}' | ' ' | '\u{85}' | '\u{200e}' | '\u{200f}' | '\u{2028}' | '\u{2029}'
+        )
 }
 
 fn more_white_space(text: &[char]) -> usize
@@ -40,7 +42,7 @@ pub fn begins_line_comment(text: &[char]) -> bool
     ensures value { result ≡ spec.begins_line_comment text.now }
     ensures within { result ≡ true → 2 ≤ length text.now }
 {
-    begins(text, &['/', '/'])
+    matches!(text, ['/', '/', ..])
 }
 
 /// Whether `/*` stands first.
@@ -48,7 +50,7 @@ pub fn begins_block_comment(text: &[char]) -> bool
     ensures value { result ≡ spec.begins_block_comment text.now }
     ensures within { result ≡ true → 2 ≤ length text.now }
 {
-    begins(text, &['/', '*'])
+    matches!(text, ['/', '*', ..])
 }
 
 /// Whether a comment stands first.

@@ -1,6 +1,7 @@
 //! The lexeme at the front of a text.
 
-ghost use Rattle.std.specs.Prelude.{◌≡◌, ◌<◌, ◌↔◌, length, IsTrue, IfErr, MatchResult, Some, None, Err};
+ghost use Rattle.std.specs.Prelude.{◌≡◌, ◌<◌, ◌↔◌, length, slice_index, false, IsTrue, IfErr, IfSome, MatchOption, MatchResult, Some, None, Err};
+ghost use Rattle.syn_lexer.specs.Blanks.{is_white_space};
 ghost use Rattle.syn_lexer.specs.Lex as spec;
 ghost use Rattle.syn_lexer.specs.Text.{reading_of, IsWithin};
 
@@ -88,40 +89,75 @@ fn single(text: &[char]) -> Result<Lexeme, Refusal>
     }
 }
 
-/// What is no blank.
-#[tactic(auto, unfolding(crate::specs::Lex::token))]
-fn token(text: &[char]) -> Result<Lexeme, Refusal>
+/// An identifier, a delimiter or a punct.
+fn plain(text: &[char]) -> Result<Lexeme, Refusal>
     requires { 0 < length text.now }
-    ensures value { reading_of result ≡ spec.token text.now }
+    ensures value { reading_of result ≡ spec.plain text.now }
     ensures within { IsWithin text.now result }
 {
-    if begins_string(text) {
-        return string(text);
-    }
-    if begins_raw_string(text) {
-        return raw_string(text);
-    }
-    if begins_byte(text) {
-        return byte(text);
-    }
-    if begins_raw_word(text) {
-        return raw_word(text);
-    }
     if starts_word(text) {
         return Ok(Lexeme {
             kind: LexemeKind::Ident,
             len: word_len(text),
         });
     }
-    if text[0].is_ascii_digit() {
-        return number(text);
-    }
-    if text[0] == '\'' {
-        return character_or_lifetime(text);
-    }
     single(text)
 }
 
+/// A comment, a literal, a raw identifier or a lifetime, if one stands here.
+// Most lexemes are none, and are read faster without the code of these between.
+#[inline(never)]
+#[tactic(auto, unfolding(crate::specs::Lex::reading, crate::specs::Lex::token))]
+fn marked(text: &[char]) -> Option<Result<Lexeme, Refusal>>
+    requires some { 0 < length text.now }
+    requires no_white_space { is_white_space (slice_index text.now 0) ≡ false }
+    ensures value { MatchOption result (spec.reading text.now ≡ spec.plain text.now) (λ r. reading_of r ≡ spec.reading text.now) }
+    ensures within { IfSome result (λ r. IsWithin text.now r) }
+{
+    if begins_line_comment(text) {
+        return Some(line_comment(text));
+    }
+    if begins_block_comment(text) {
+        return Some(block_comment(text));
+    }
+    if begins_string(text) {
+        return Some(string(text));
+    }
+    if begins_raw_string(text) {
+        return Some(raw_string(text));
+    }
+    if begins_byte(text) {
+        return Some(byte(text));
+    }
+    if begins_raw_word(text) {
+        return Some(raw_word(text));
+    }
+    if starts_word(text) {
+        return None;
+    }
+    if text[0].is_ascii_digit() {
+        return Some(number(text));
+    }
+    if text[0] == '\'' {
+        return Some(character_or_lifetime(text));
+    }
+    None
+}
+
+/// As `marked`, which is asked only behind a first character that may begin one.
+fn marked_at(text: &[char]) -> Option<Result<Lexeme, Refusal>>
+    requires some { 0 < length text.now }
+    requires no_white_space { is_white_space (slice_index text.now 0) ≡ false }
+    ensures value { MatchOption result (spec.reading text.now ≡ spec.plain text.now) (λ r. reading_of r ≡ spec.reading text.now) }
+    ensures within { IfSome result (λ r. IsWithin text.now r) }
+{
+    match text[0] {
+        '/' | '"' | '\'' | '0'..='9' | 'b' | 'c' | 'r' => marked(text),
+        _ => None,
+    }
+}
+
+#[inline(always)]
 #[tactic(auto, unfolding(crate::specs::Lex::reading))]
 fn reading(text: &[char]) -> Result<Lexeme, Refusal>
     requires { 0 < length text.now }
@@ -134,13 +170,10 @@ fn reading(text: &[char]) -> Result<Lexeme, Refusal>
             len: white_space_len(text),
         });
     }
-    if begins_line_comment(text) {
-        return line_comment(text);
+    match marked_at(text) {
+        Some(read) => read,
+        None => plain(text),
     }
-    if begins_block_comment(text) {
-        return block_comment(text);
-    }
-    token(text)
 }
 
 /// The longest lexeme at the front of a text that has characters (Rust Reference, "Lexical structure"), or why it
@@ -148,6 +181,7 @@ fn reading(text: &[char]) -> Result<Lexeme, Refusal>
 /// or raw identifier, over a number up to the character that does not fit, over a comment or a string that is not closed
 /// to the end of the text, over a character or a byte to where its closing `'` is missing, and else over one character.
 /// The texts of literals are not looked into. Lengths are in characters; no memory is taken.
+#[inline(always)]
 pub fn front(text: &[char]) -> Result<Lexeme, Refusal>
     requires { 0 < length text.now }
     ensures value { MatchResult result (λ x. spec.front text.now ≡ Some (x.kind, x.len)) (λ e. spec.front text.now ≡ None) }

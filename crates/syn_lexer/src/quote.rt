@@ -80,12 +80,10 @@ fn raw_prefix_len(text: &[char]) -> usize
     ensures value { result ≡ spec.raw_prefix_len text.now }
     ensures within { result ≤ length text.now }
 {
-    if begins(text, &['r']) {
-        1
-    } else if begins(text, &['b', 'r']) || begins(text, &['c', 'r']) {
-        2
-    } else {
-        0
+    match text {
+        ['r', ..] => 1,
+        ['b' | 'c', 'r', ..] => 2,
+        _ => 0,
     }
 }
 
@@ -110,7 +108,7 @@ pub fn begins_string(text: &[char]) -> bool
     ensures value { result ≡ spec.begins_string text.now }
     ensures within { result ≡ true → spec.string_opening_len text.now ≤ length text.now }
 {
-    begins(text, &['"']) || begins(text, &['b', '"']) || begins(text, &['c', '"'])
+    matches!(text, ['"', ..] | ['b' | 'c', '"', ..])
 }
 
 /// Whether a byte begins here.
@@ -118,7 +116,7 @@ pub fn begins_byte(text: &[char]) -> bool
     ensures value { result ≡ spec.begins_byte text.now }
     ensures within { result ≡ true → 2 ≤ length text.now }
 {
-    begins(text, &['b', '\''])
+    matches!(text, ['b', '\'', ..])
 }
 
 fn string_opening_len(text: &[char]) -> usize

@@ -50,9 +50,12 @@ fn is_one_of(mut words: &[&str], word: &str) -> bool
 pub fn is_reserved_word(word: &str) -> bool
     ensures { result ≡ spec.is_reserved_word word.now }
 {
-    let bytes = word.as_bytes();
-    if bytes.is_empty() {
-        return false;
+    match word.as_bytes() {
+        [b'_'] => true,
+        // Each of the others goes on with a small letter.
+        [first, second, ..] if second.is_ascii_lowercase() => {
+            is_one_of(beginning_with(*first), word)
+        }
+        _ => false,
     }
-    is_one_of(beginning_with(bytes[0]), word)
 }

@@ -8,12 +8,22 @@ ghost use Rattle.syn_lexer.specs.Text.{reading_of, IsWithin};
 
 use crate::error::{LexError, Refusal};
 use crate::lexeme::{Lexeme, LexemeKind};
-use crate::text::begins;
 
+#[tactic(auto, using(crate::proofs::Words::words))]
 fn is_word_start(c: char) -> bool
     ensures { result ≡ spec.is_word_start c }
 {
-    c == '_' || unicode_ident::is_xid_start(c)
+    // ASCII is told without the tables of Unicode.
+    c.is_ascii_alphabetic() || c == '_' || !c.is_ascii() && unicode_ident::is_xid_start(c)
+}
+
+/// Whether a word goes on with a character.
+#[tactic(auto, using(crate::proofs::Words::words))]
+fn goes_on(c: char) -> bool
+    ensures { result ≡ is_xid_continue c }
+{
+    // ASCII is told without the tables of Unicode.
+    c.is_ascii_alphanumeric() || c == '_' || !c.is_ascii() && unicode_ident::is_xid_continue(c)
 }
 
 /// Whether an identifier begins here, or a prefix that is spelled like one.
@@ -31,9 +41,7 @@ fn more_of_word(text: &[char]) -> usize
     ensures value { result ≡ prefix_len is_xid_continue text.now }
     ensures within { result ≤ length text.now }
 {
-    text.iter()
-        .take_while(|c| unicode_ident::is_xid_continue(**c))
-        .count()
+    text.iter().take_while(|c| goes_on(**c)).count()
 }
 
 /// How many characters the identifier at the front is.
@@ -69,7 +77,7 @@ pub fn begins_raw_word(text: &[char]) -> bool
     ensures value { result ≡ spec.begins_raw_word text.now }
     ensures within { result ≡ true → 2 < length text.now }
 {
-    begins(text, &['r', '#']) && starts_word(&text[2..])
+    matches!(text, ['r', '#', word @ ..] if starts_word(word))
 }
 
 fn is_reserved_raw(word: &[char]) -> bool

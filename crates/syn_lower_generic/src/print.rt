@@ -2,7 +2,7 @@
 //! alone.
 
 ghost use Rattle.std.specs.Prelude.{length, ◌≡◌, ◌++◌, ◌∷◌, IfErr, OnOk, OnErr};
-ghost use Rattle.syn_lower_generic.specs.Printed.{grouped, colon2, closed_printed, inside_printed, qself_end_printed, qualified_printed, qpath_printed, round_printed};
+ghost use Rattle.syn_lower_generic.specs.Printed.{grouped, colon2, closed_printed, inside_printed, path_printed, qself_end_printed, qualified_printed, qpath_printed, round_printed};
 ghost use Rattle.syn_lower_generic.specs.View.{delimiter_of, values};
 ghost use Rattle.syn_parts.specs.Own.{alone, joint, at_most};
 ghost use Rattle.syn_tokens.specs.Input.{IsFront};
@@ -35,15 +35,36 @@ impl<T: ToTokens> ToTokens for PathSegmentOf<T> {
     }
 }
 
+/// Prints a path.
+#[inline(never)]
+#[tactic(auto, using(syn_tokens::proofs::Fronts::fronts), unfolding(syn_tokens::specs::Sign::sign_text))]
+fn print_path<T: ToTokens>(path: &PathOf<T>, tokens: &mut TokenStream) -> Result<()>
+    ensures ok { OnOk result (tokens.new ≡ tokens.old ++ path_printed T.printed path.now) }
+    ensures err { OnErr result (IsFront tokens.old tokens.new) }
+    ensures memory { IfErr result (λ e. e.kind ≡ ErrorKind.OutOfMemory) }
+{
+    print_some(&path.leading_colon, tokens)?;
+    path.segments.to_tokens(tokens)
+}
+
 impl<T: ToTokens> ToTokens for PathOf<T> {
     ghost use Rattle.syn_lower_generic.specs.Printed.{path_printed};
 
     ghost printed = { path_printed T.printed };
 
-    #[tactic(auto, using(syn_tokens::proofs::Fronts::fronts), unfolding(syn_tokens::specs::Sign::sign_text))]
+    #[inline(always)]
+    #[tactic(auto, unfolding(syn_lower_lists::specs::Printed::punctuated_printed, syn_lower_lists::specs::Printed::option_printed))]
     fn to_tokens(&self, tokens: &mut TokenStream) -> Result<()> {
-        print_some(&self.leading_colon, tokens)?;
-        self.segments.to_tokens(tokens)
+        match &self.segments.last {
+            // Most paths are one word.
+            Some(segment)
+                if self.leading_colon.is_none()
+                    && self.segments.inner.is_empty()
+                    && matches!(segment.arguments, PathArgumentsOf::None) => {
+                segment.ident.to_tokens(tokens)
+            }
+            _ => print_path(self, tokens),
+        }
     }
 }
 
@@ -187,6 +208,7 @@ fn print_qself_end(
 }
 
 /// Prints a path behind the type that it is qualified by.
+#[inline(never)]
 #[tactic(auto, using(syn_tokens::proofs::Fronts::fronts), unfolding(syn_tokens::specs::Sign::sign_text))]
 fn print_qualified<T: ToTokens>(
     qself: &QSelfOf<T>,
@@ -214,6 +236,7 @@ fn print_qualified<T: ToTokens>(
 /// Prints a path and the type that it is qualified by, if there is one: `<T as a::b>::c`, or the path alone. `position`
 /// says how many segments stand before `>`; where the path has fewer, all do. `as` is printed exactly where segments stand
 /// there, whatever `as_token` is. It is refused as `OutOfMemory` alone.
+#[inline(always)]
 pub fn print_with_qself<T: ToTokens>(
     qself: &Option<QSelfOf<T>>,
     path: &PathOf<T>,

@@ -1,9 +1,9 @@
 -- The characters of a text and the bytes that they stand in.
-use Rattle.std.proofs.Common.{◌≡◌, ℕ, ◌+◌, ◌-◌, ◌≤◌, List, [], ◌∷◌, ◌++◌, length, take, drop, true, refl, sym, ◌∙◌, ap, append_assoc, arith, encode_utf8_all, chars}
+use Rattle.std.proofs.Common.{◌≡◌, Bool, ℕ, ◌+◌, ◌-◌, ◌≤◌, List, [], ◌∷◌, ◌++◌, length, take, drop, true, refl, sym, ◌∙◌, ap, append_assoc, arith, encode_utf8_all, chars}
 use Rattle.std.specs.Str.{IsUtf8, IsCharBoundary, all_scalars}
 use Rattle.std.proofs.lemmas.Bool.{and_parts}
 use Rattle.std.proofs.lemmas.List.{length-append, length-drop, drop-drop, drop_at, take_at, take-append-drop}
-use Rattle.std.proofs.lemmas.Str.{encodes-append, encodes-chars, scalars-chars, IsCharBoundary-from_drop}
+use Rattle.std.proofs.lemmas.Str.{encodes-append, encodes-chars, length-le-encodes, scalars-chars, IsCharBoundary-from_drop}
 use Rattle.syn_tokens.specs.Standing.{AreLeft, StandAt}
 
 scalars_behind : (xs ys : List ℕ) → all_scalars (xs ++ ys) ≡ true → all_scalars ys ≡ true
@@ -87,3 +87,23 @@ next_stand bytes at n cs l = (drop n cs, rw (take-append-drop n cs) l, refl)
 
 pub next_size : (bytes : List ℕ) (at n : ℕ) (cs : List ℕ) → AreLeft bytes at cs → at + length (encode_utf8_all (take n cs)) ≤ length bytes
 next_size bytes at n cs l = (next_left bytes at n cs l).within
+
+-- ---- where each character takes one byte
+
+narrow_parts : (xs ys : List ℕ) → length (encode_utf8_all (xs ++ ys)) ≡ length (xs ++ ys)
+    → (length (encode_utf8_all xs) ≡ length xs) × (length (encode_utf8_all ys) ≡ length ys)
+narrow_parts xs ys h =
+    let sizes : length (encode_utf8_all (xs ++ ys)) ≡ length (encode_utf8_all xs) + length (encode_utf8_all ys) = ap length (encodes-append xs ys) ∙ length-append (encode_utf8_all xs) (encode_utf8_all ys) in
+    let counts = length-append xs ys in
+    let front = length-le-encodes xs in
+    let back = length-le-encodes ys in
+    (omega arith, omega arith)
+
+-- the characters that are left take one byte each, where this is known
+abbrev pub narrow : Bool → List ℕ → Type 0
+narrow is_narrow cs = is_narrow ≡ true → length (encode_utf8_all cs) ≡ length cs
+
+pub next_narrow : (b : Bool) (n : ℕ) (cs : List ℕ) → narrow b cs → narrow b (take n cs) × narrow b (drop n cs)
+next_narrow b n cs h =
+    let parts : b ≡ true → (length (encode_utf8_all (take n cs)) ≡ length (take n cs)) × (length (encode_utf8_all (drop n cs)) ≡ length (drop n cs)) = λ is. narrow_parts (take n cs) (drop n cs) (rw (take-append-drop n cs) (h is)) in
+    (λ is. (parts is).0, λ is. (parts is).1)

@@ -1,6 +1,6 @@
 //! Cuts a text into token trees.
 
-ghost use Rattle.std.specs.Prelude.{◌≡◌, ◌≢◌, ◌≤◌, ◌<◌, ◌+◌, ◌^◌, ◌++◌, ◌∷◌, ◌⊎◌, [], List, length, chars, encode_utf8_all, IfOk, IfErr, OnOk, MatchResult};
+ghost use Rattle.std.specs.Prelude.{◌≡◌, ◌≢◌, ◌≤◌, ◌<◌, ◌+◌, ◌^◌, ◌++◌, ◌∷◌, ◌⊎◌, [], List, true, length, chars, encode_utf8_all, IfOk, IfErr, OnOk, MatchResult};
 ghost use Rattle.std.specs.Rc.{rc_str_bytes};
 ghost use Rattle.syn_tokens.specs.Input.{Gives};
 ghost use Rattle.syn_tokens.specs.Lex as spec;
@@ -39,7 +39,6 @@ pub fn lex(alloc: Global, text: &str) -> Result<TokenStream>
 {
     let shared = RcStr::from_str(alloc, text)?;
     let all = chars_of(alloc, text)?;
-    prove!(text.len() <= usize::MAX);
     lex_chars(alloc, &shared, all.as_slice())
 }
 
@@ -50,11 +49,15 @@ pub(crate) fn chars_of(alloc: Global, text: &str) -> Result<Vec<char>>
     Ok(text.chars().collect::<Vec<char>>(alloc)?)
 }
 
-/// The place behind some characters that stand at a place.
-fn past(at: usize, z: &[char]) -> usize
-    requires { at + length (encode_utf8_all z.now) < 2 ^ 64 }
+/// The place behind some characters that stand at a place, of which it may be known that each takes one byte.
+fn past(is_narrow: bool, at: usize, z: &[char]) -> usize
+    requires small { at + length (encode_utf8_all z.now) < 2 ^ 64 }
+    requires narrow { is_narrow ≡ true → length (encode_utf8_all z.now) ≡ length z.now }
     ensures { result ≡ at + length (encode_utf8_all z.now) }
 {
+    if is_narrow {
+        return at + z.len();
+    }
     let mut end = at;
     let mut rest = z;
     while let [c, more @ ..] = rest {
@@ -80,7 +83,7 @@ fn refused_front(at: usize, rest: &[char], refused: Refusal) -> Error
     ensures { result.kind ≡ ErrorKind.Lex refused.error }
 {
     let (read, _) = rest.split_at(refused.len);
-    refusal(at, past(at, read), refused.error)
+    refusal(at, past(false, at, read), refused.error)
 }
 
 /// What was read: the groups that are open, each behind the trees before it, and the trees behind the last opening
@@ -129,7 +132,7 @@ impl Nest {
         ensures err { IfErr result (λ e. e.kind ≡ ErrorKind.OutOfMemory) }
     {
         let (mark, _) = read.split_at(1);
-        let behind = past(span.lo, mark);
+        let behind = past(false, span.lo, mark);
         self.leaf(TokenTree::Punct(Punct {
             ch: '\'',
             spacing: Spacing::Joint,
@@ -243,12 +246,13 @@ impl Nest {
 
 /// Cuts the characters of a text, whose tokens share it.
 fn lex_chars(alloc: Global, text: &RcStr<Global>, all: &[char]) -> Result<TokenStream>
-    requires left { AreLeft (rc_str_bytes text.now) 0 all.now }
-    requires small { length (rc_str_bytes text.now) < 2 ^ 64 }
+    requires { AreLeft (rc_str_bytes text.now) 0 all.now }
     ensures read { IfOk result (λ s. spec.Spells all.now s) }
     ensures refused { IfErr result (λ e. (e.kind ≡ ErrorKind.OutOfMemory) ⊎ ((ts : List Tok) → spec.Spells all.now ts → ⊥)) }
     ensures kind { MatchResult result (λ _. spec.refusal all.now ≡ None) (λ e. (e.kind ≡ ErrorKind.OutOfMemory) ⊎ spec.IsRefusedAs (spec.refusal all.now) e.kind) }
 {
+    // Most texts are ASCII, and no character of theirs has to be measured.
+    let is_narrow = text.len() == all.len();
     let mut nest = Nest::new(alloc);
     let mut rest = all;
     let mut at = 0;
@@ -258,7 +262,7 @@ fn lex_chars(alloc: Global, text: &RcStr<Global>, all: &[char]) -> Result<TokenS
             Err(e) => return Err(refused_front(at, rest, e)),
         };
         let (read, behind) = rest.split_at(lexeme.len);
-        let end = past(at, read);
+        let end = past(is_narrow, at, read);
         if let Err(e) = nest.take(text, lexeme.kind, read, Span { lo: at, hi: end }) {
             return Err(e);
         }

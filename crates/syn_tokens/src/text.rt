@@ -71,15 +71,19 @@ fn is_joint(tree: &TokenTree) -> bool
     }
 }
 
-/// What stands between a tree and those behind it.
+/// Writes what stands between a tree and those behind it.
 #[tactic(auto, using(crate::proofs::Views::views))]
-fn gap(tree: &TokenTree, behind: &[TokenTree]) -> &'static str
-    ensures { result.now ≡ spec.gap (tok_of tree.now) (toks_of behind.now) }
+fn write_gap(
+    out: &mut String,
+    tree: &TokenTree,
+    behind: &[TokenTree],
+) -> std::result::Result<(), AllocError>
+    ensures { OnOk result (string_bytes out.new ≡ string_bytes out.old ++ spec.gap (tok_of tree.now) (toks_of behind.now)) }
 {
     if is_joint(tree) || behind.is_empty() {
-        ""
+        Ok(())
     } else {
-        " "
+        out.push(' ')
     }
 }
 
@@ -111,7 +115,7 @@ fn write_trees(out: &mut String, trees: &[TokenTree]) -> std::result::Result<(),
     let mut rest = trees;
     while let [tree, more @ ..] = rest {
         write_tree(out, tree)?;
-        out.push_str(gap(tree, more))?;
+        write_gap(out, tree, more)?;
         rest = more;
     }
     Ok(())

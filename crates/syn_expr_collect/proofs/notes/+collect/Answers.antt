@@ -5,9 +5,9 @@ use Rattle.syn_lower_lists.specs.View.{values, trails}
 use Rattle.syn_grammar.specs.Notes.{stack, below}
 use Rattle.syn_expr_kinds.specs.Node.{before_of, operands_of}
 use Rattle.syn_expr_kinds.specs.View.{boxed, elements, field_value_of}
-use Rattle.syn_expr_collect.specs.Below.{noted_behind, AreFirst, operands_below, operands_visited, backwards, total, field_below, field_visited, option_below, arm_below, arm_visited}
+use Rattle.syn_expr_collect.specs.Below.{noted_behind, operands_below, operands_visited, backwards, total, field_below, field_visited, option_below, arm_below, arm_visited}
 use Rattle.syn_expr_collect.specs.Visited.{visited}
-use Rattle.syn_expr_collect.proofs.Nodes.{behind_is, below_is, based_below, based_visited}
+use Rattle.syn_expr_collect.proofs.Nodes.{behind_is, below_is, leaf_below, based_below, based_visited}
 use Rattle.syn_expr_collect.proofs.Lists.{backwards_last, total_last, backwards_end, total_end, step_kept, two_noted, some_below, some_visited, none_below, none_visited, elements_below, elements_visited, fields_below, fields_visited, arms_below, arms_visited}
 use Rattle.syn_expr_collect.proofs.notes.+collect.Goals as goal
 
@@ -69,20 +69,22 @@ collect_arms-arms-preserved g t c =
 
 -- ---- a node
 
+pub collect_below-returns-in-Leaf-clause-kept : goal.collect_below-returns-in-Leaf-clause-kept
+collect_below-returns-in-Leaf-clause-kept g t c =
+    sym (leaf_below c.args.notes.now.items (g.E.HasExprTree.tree c.args.expr.now) _ (c.requires ∙ c.in-Leaf.is))
+
 pub collect-returns-clause-kept : goal.collect-returns-clause-kept
 collect-returns-clause-kept g t c =
     let tree = g.E.HasExprTree.tree c.args.expr.now in
-    let first = subst (λ o. AreFirst o c.in_ok-first.first c.in_ok-first.second) c.operands.ensures c.in_ok-first.ensures.first in
-    let plain = c.plain_note-note.ensures tree (sym c.kind.ensures) first in
+    let plain = c.plain_note-note.ensures tree (sym c.kind-kind.ensures) c.in_ok-first.ensures.first in
     let behind = behind_is tree in
     let under = below_is tree in
     let before = c.attributes.ensures in
-    let operands = ap operands_below c.operands.ensures in
     let kept = c.in_ok-first.ensures.kept in
     let old = c.args.notes.now.items in
     let own = noted_behind (before_of c.attributes.result) c.plain_note-note.result ∷ [] in
     let q = append_assoc old (below tree) own in
-    let e : c.collect_operands.new.notes.items ++ own ≡ old ++ stack tree = cc in
+    let e : c.collect_below.new.notes.items ++ own ≡ old ++ stack tree = cc in
     subst (λ z. OnOk c.keep.result (c.keep.new.notes.items ≡ z)) e c.keep.ensures.kept
 
 -- ---- lists

@@ -1,13 +1,10 @@
-use Rattle.std.proofs.Common.{◌≡◌, ◌∙◌, chars, arith}
+use Rattle.std.proofs.Common.{◌≡◌, ◌∙◌, chars}
 use Rattle.syn_tokens.proofs.Lexes.{gives_only}
 use Rattle.syn_tokens.proofs.Standing.{all_left}
 use Rattle.syn_tokens.proofs.lexer.lex.Goals as goal
 
-pub lex_chars-requires-clause-left : goal.lex_chars-requires-clause-left
-lex_chars-requires-clause-left c = rw (c.in_ok-shared.ensures.ok, c.as_slice.ensures.value, c.in_ok-all.ensures) (all_left c.args.text.now c.utf8.text)
-
-pub lex_chars-requires-clause-small : goal.lex_chars-requires-clause-small
-lex_chars-requires-clause-small c = let size = c.if-prove.false in rw c.in_ok-shared.ensures.ok (omega arith)
+pub lex_chars-requires : goal.lex_chars-requires
+lex_chars-requires c = rw (c.in_ok-shared.ensures.ok, c.as_slice.ensures.value, c.in_ok-all.ensures) (all_left c.args.text.now c.utf8.text)
 
 pub returns-clause-found : goal.returns-clause-found
 returns-clause-found c = λ ts is.

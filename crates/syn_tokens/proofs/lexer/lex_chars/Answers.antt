@@ -1,7 +1,8 @@
 use Rattle.std.proofs.Common.{◌≡◌, ◌∙◌, ◌<◌, length, refl, arith, inl, inr}
 use Rattle.std.proofs.lemmas.Grind.{common_steps}
+use Rattle.std.proofs.lemmas.Bool.{eqb-true}
 use Rattle.std.specs.Rc.{rc_str_bytes}
-use Rattle.syn_tokens.proofs.Standing.{left_size, next_left, next_stand, next_size}
+use Rattle.syn_tokens.proofs.Standing.{left_size, next_left, next_stand, next_size, next_narrow}
 use Rattle.syn_tokens.specs.Nest.{nest_pieces, delimiters_of}
 use Rattle.syn_tokens.specs.Lex.{pieces, refusal_at_end}
 use Rattle.syn_tokens.proofs.Lexes.{found, refused, so_far_more, refused_front, refused_lexeme, all_read, then_nothing, refusal_is, refusal_step, refusal_step-refused, refusal_end, finished}
@@ -10,7 +11,12 @@ use Rattle.syn_tokens.proofs.lexer.lex_chars.Goals as goal
 pub loop-rest-init : goal.loop-rest-init
 loop-rest-init c = record {
   pieces_are = rw c.new-nest.ensures.nothing (then_nothing (pieces c.args.all.now));
-  left = c.requires.left;
+  left = c.requires;
+  narrow_left = λ is.
+      let all = left_size (rc_str_bytes c.args.text.now) 0 c.args.all.now c.requires in
+      let same = c.len.ensures in
+      let count = eqb-true c.len.result (length c.args.all.now) is in
+      omega arith;
   refusal_is = rw c.new-nest.ensures.open (refusal_is c.args.all.now);
 }
 
@@ -22,6 +28,7 @@ loop-rest-preserved c =
           (so_far_more c.args.all.now c.loop-rest.rest.now (nest_pieces c.loop-rest.nest) c.in-Ok.lexeme.kind c.in-Ok.lexeme.len
           c.loop-rest.invariant.pieces_are more c.in-Ok.ensures.within.0 c.in-Ok.ensures.value);
       left = rw (c.past-end.ensures, c.split_at.ensures.front, c.split_at.ensures.back) (next_left (rc_str_bytes c.args.text.now) c.loop-rest.at c.in-Ok.lexeme.len c.loop-rest.rest.now c.loop-rest.invariant.left);
+      narrow_left = rw c.split_at.ensures.back (next_narrow _ c.in-Ok.lexeme.len c.loop-rest.rest.now c.loop-rest.invariant.narrow_left).1;
       refusal_is = rw c.split_at.ensures.back
           (c.loop-rest.invariant.refusal_is
           ∙ refusal_step (delimiters_of c.loop-rest.nest) c.loop-rest.rest.now c.in-Ok.lexeme.kind c.in-Ok.lexeme.len more c.in-Ok.ensures.within.0 c.in-Ok.ensures.value
@@ -75,10 +82,11 @@ returns-clause-kind c =
     let is = c.loop-rest.invariant.refusal_is ∙ refusal_end (delimiters_of c.loop-rest.nest) c.loop-rest.rest.now none in
     rw is (finished (refusal_at_end (delimiters_of c.loop-rest.nest)) c.finish.result c.finish.ensures.kind)
 
-pub past-end-requires : goal.past-end-requires
-past-end-requires c =
+pub past-end-requires-clause-small : goal.past-end-requires-clause-small
+past-end-requires-clause-small c =
     let size = next_size (rc_str_bytes c.args.text.now) c.loop-rest.at c.in-Ok.lexeme.len c.loop-rest.rest.now c.loop-rest.invariant.left in
-    let small = c.requires.small in
+    let small = c.len.type_inv in
+    let same = c.len.ensures in
     rw c.split_at.ensures.front (omega arith)
 
 pub take-requires-clause-stands : goal.take-requires-clause-stands
@@ -87,5 +95,9 @@ take-requires-clause-stands c = rw (c.past-end.ensures, c.split_at.ensures.front
 pub refused_front-requires-clause-small : goal.refused_front-requires-clause-small
 refused_front-requires-clause-small c =
     let size = left_size (rc_str_bytes c.args.text.now) c.loop-rest.at c.loop-rest.rest.now c.loop-rest.invariant.left in
-    let small = c.requires.small in
+    let small = c.len.type_inv in
+    let same = c.len.ensures in
     omega arith
+
+pub past-end-requires-clause-narrow : goal.past-end-requires-clause-narrow
+past-end-requires-clause-narrow c = rw c.split_at.ensures.front (next_narrow _ c.in-Ok.lexeme.len c.loop-rest.rest.now c.loop-rest.invariant.narrow_left).0
