@@ -24,6 +24,9 @@ fn verbatim_kind(tokens: &TokenStream) -> NodeKind
 
 #[tactic(auto, using(crate::proofs::TreeOf::kinds, crate::proofs::TreeOf::members, syn_expr_kinds::proofs::Shapes::shapes))]
 impl HasKind for Expr {
+    // Each node is asked for its kind, its operands and its leaf when it is noted and when it is printed, mostly to go on by
+    // the answer at once: a call takes longer than the answer.
+    #[inline(always)]
     fn kind(&self) -> NodeKind {
         match self {
             Expr::Infer(_) | Expr::Lit(_) | Expr::Continue(_) | Expr::Async(_) => {

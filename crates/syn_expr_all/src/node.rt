@@ -53,6 +53,8 @@ impl HasNode for Expr {
         }
     }
 
+    // As for `kind`.
+    #[inline(always)]
     fn operands(&self) -> Operands<'_, Expr, Arm> {
         match self {
             Expr::Array(x) => x.operands(),

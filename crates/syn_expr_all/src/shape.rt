@@ -12,6 +12,8 @@ use syn_tokens::token::Paren;
 impl HasShape for Expr {
     type Pat = Pat;
 
+    // As for `kind`.
+    #[inline(always)]
     fn leaf(&self) -> Option<Leaf<'_>> {
         match self {
             Expr::Async(x) => Some(x.leaf()),

@@ -47,6 +47,9 @@ pub struct Atoms<F> {
 }
 
 /// Reads what stands before an operand, over the readers of the patterns in it.
+// Once for each level of a tree the frame of what reads an operand is on the stack. What is large in it has one of its own, as
+// `binding`, `jump` and `closure` do: so trees nest three times as deep in the same stack.
+#[inline(never)]
 fn lead_head<P: ReadPats + Drop>(input: &mut ParseBuffer<'_>) -> Result<LeadHead<P>>
     ensures value { Reads (lead_of P.view) (head.lead_form.reads input.old.rest) result input.new.rest }
     ensures bare { IfOk result (λ h. lead_guards P.view h ≡ []) }
@@ -145,6 +148,7 @@ where
     }
 
     /// Reads what a pattern is bound to, behind `let` and `=`.
+    #[inline(never)]
     #[tactic(auto, unfolding(syn_expr_kinds::specs::Attrs::attrs_of))]
     fn binding(
         &self,
@@ -213,6 +217,7 @@ where
     }
 
     /// Reads the value of a jump, or nothing where none follows. `value` stands behind the jump's word.
+    #[inline(never)]
     #[tactic(auto, unfolding(syn_grammar::specs::Stands::lead_stands, syn_grammar::specs::Stands::leaf_stands))]
     fn jump(
         &self,
@@ -240,6 +245,7 @@ where
     }
 
     /// Reads the body of a closure: an expression, or a block behind an output.
+    #[inline(never)]
     #[tactic(auto, using(crate::proofs::Leads::block_reads), unfolding(syn_grammar::specs::Stands::lead_stands))]
     fn closure(
         &self,

@@ -1,5 +1,5 @@
 -- Attributes put before others.
-use Rattle.std.specs.Prelude.{not, ◌&&◌}
+use Rattle.std.specs.Prelude.{not}
 use Rattle.std.proofs.Common.{◌≡◌, Bool, true, false, cond, List, [], ◌∷◌, ◌++◌, map, refl, ap, ◌∙◌}
 use Rattle.std.proofs.lemmas.List.{append-nil, map-append}
 use Rattle.std.specs.declared.vec.Vec.{Vec}
@@ -10,6 +10,7 @@ use Rattle.syn_lower_leaves.specs.View.{attribute_of}
 use Rattle.syn_lower_leaves.specs.declared.attr.Attribute.{Attribute}
 use Rattle.syn_grammar.specs.Tree.{Tree, adorn}
 use Rattle.syn_grammar.specs.Stands.{is_adorned}
+use Rattle.syn_grammar.proofs.Chains.{both_true, not_true}
 use Rattle.syn_expr_kinds.specs.Attrs.{before_inner, from_inner, is_in_order, outer_part, inner_part, attrs_of, outer_of, inner_of}
 
 -- where none stand before it
@@ -18,15 +19,6 @@ adorn_more ats [] t h = ap (λ l. adorn l t) (append-nil ats)
 adorn_more ats (b ∷ bs) t h = absurd cc
 
 pub ruleset adorned = (adorn_more)
-
-both_true : (a b : Bool) → (a && b) ≡ true → (a ≡ true) × (b ≡ true)
-both_true true true h = (refl, refl)
-both_true true false h = absurd cc
-both_true false b h = absurd cc
-
-not_true : (a : Bool) → not a ≡ true → a ≡ false
-not_true false h = refl
-not_true true h = absurd cc
 
 from_outer : (ats bs : List AttributeTree) → attributes_outer ats ≡ true → from_inner (ats ++ bs) ≡ from_inner bs
 from_outer [] bs h = refl

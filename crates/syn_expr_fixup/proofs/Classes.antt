@@ -1,6 +1,7 @@
 -- What decides about an operand is the same for all operators of a level whose first tokens begin the same.
 use Rattle.std.proofs.Common.{◌≡◌, Bool, true, false, not, ◌||◌, ◌&&◌, refl, sym, ap, ◌∙◌, subst}
 use Rattle.std.specs.Prelude.{Option, Some, None}
+use Rattle.std.proofs.Math.Bool.{and-false}
 use Rattle.syn_grammar.specs.declared.kinds.BinKind.TheVariants as bin
 use Rattle.syn_grammar.specs.declared.kinds.Infix.{Infix}
 use Rattle.syn_grammar.specs.declared.kinds.Infix.TheVariants as inf
@@ -14,7 +15,6 @@ use Rattle.syn_grammar.specs.Notes.{note_of, has, misplaced_by, wrapped_by, left
 use Rattle.syn_grammar.specs.Rule.{is_less_next, is_operation, bad, low, refuses, place_wrapped, left_wrapped, base_wrapped}
 use Rattle.syn_grammar.specs.Tree as e
 use Rattle.syn_grammar.specs.Tree.{Tree, Kids, Lead, Trailer, leaf, paren, adorned, lead, mid, post, tail, frame}
-use Rattle.syn_grammar.proofs.Bools.{and_false}
 use Rattle.syn_grammar.proofs.NoteLemmas.{noted, wrapped_same, left_same, base_same}
 use Rattle.syn_expr_fixup.specs.Fixup.{Fits, parenthesized}
 use Rattle.syn_expr_fixup.specs.Operator.{operator_at}
@@ -115,7 +115,7 @@ no_block_behind (e.closure h) gs t = refl
 no_block : (t : Tree) → bad t next.Block ≡ false
 no_block (leaf k) = refl
 no_block (paren m t) = refl
-no_block (adorned a more t) = ap (λ b. not (is_operation t) && b) (no_block t) ∙ and_false (not (is_operation t))
+no_block (adorned a more t) = ap (λ b. not (is_operation t) && b) (no_block t) ∙ and-false (not (is_operation t))
 no_block (lead k gs t) = no_block_behind k gs t
 no_block (mid x k y) = refl
 no_block (post x k) = refl
@@ -134,7 +134,7 @@ no_brace_behind (e.closure h) gs t = refl
 no_brace : (t : Tree) → bad t next.Brace ≡ false
 no_brace (leaf k) = refl
 no_brace (paren m t) = refl
-no_brace (adorned a more t) = ap (λ b. not (is_operation t) && b) (no_brace t) ∙ and_false (not (is_operation t))
+no_brace (adorned a more t) = ap (λ b. not (is_operation t) && b) (no_brace t) ∙ and-false (not (is_operation t))
 no_brace (lead k gs t) = no_brace_behind k gs t
 no_brace (mid x k y) = refl
 no_brace (post x k) = refl

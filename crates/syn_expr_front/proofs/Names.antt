@@ -11,16 +11,16 @@ use Rattle.syn_grammar.proofs.NameFronts.{named_word}
 use Rattle.syn_expr_front.specs.Begins.{atom_of}
 use Rattle.syn_expr_front.specs.declared.start.Atom.TheVariants as atom
 
-name_segment : (w : Text) → is_reserved_word w ≡ false → is_segment w ≡ true
+pub name_segment : (w : Text) → is_reserved_word w ≡ false → is_segment w ≡ true
 unfolding is_segment
 name_segment w h = rw h refl
 
-try_reserved : is_reserved_word (codes "try") ≡ true
+pub try_reserved : is_reserved_word (codes "try") ≡ true
 unfolding is_reserved_word
 try_reserved = refl
 
 -- the two leaves that begin with a word of a path
-no_try : (w : Text) (l : List Tok) → is_reserved_word w ≡ false → try_block_at (ident w ∷ l) ≡ false
+pub no_try : (w : Text) (l : List Tok) → is_reserved_word w ≡ false → try_block_at (ident w ∷ l) ≡ false
 unfolding try_block_at word_at
 no_try w l h = rw (reserved_not w (codes "try") h try_reserved) refl
 

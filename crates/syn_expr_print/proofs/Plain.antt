@@ -1,12 +1,13 @@
 -- Whether a node is a block without a label and attributes, and what is printed of the body of a closure with an output.
 use Rattle.std.specs.Prelude.{◌&&◌, if◌then◌else◌, Some, None}
 use Rattle.std.proofs.Common.{◌≡◌, Bool, true, false, refl, sym, ap, ◌∙◌}
+use Rattle.std.proofs.Math.Bool.{and-false}
 use Rattle.syn_grammar.specs.declared.note.Sort.{Sort}
 use Rattle.syn_grammar.specs.declared.note.Sort.TheVariants as sort
 use Rattle.syn_grammar.specs.Notes.{note_of, leaf_sort, adorned_sort}
 use Rattle.syn_grammar.specs.Rule.{is_plain_leaf, is_plain_block}
 use Rattle.syn_grammar.specs.Tree as e
-use Rattle.syn_grammar.proofs.Bools.{and_true, and_false}
+use Rattle.syn_grammar.proofs.Bools.{and_true}
 use Rattle.syn_grammar.specs.Tree.{Tree, Leaf, leaf, paren, adorned, lead, mid, post, tail, frame}
 use Rattle.syn_expr_kinds.specs.Node.{leaf_at}
 use Rattle.syn_expr_print.specs.Placed.{is_block_sort}
@@ -41,7 +42,7 @@ behind-sort false sort.Other = refl
 
 pub plain-is : (t : Tree) (k : Leaf) → leaf_at t ≡ Some k → is_plain_block t ≡ is_plain_leaf k && is_block_sort (note_of t).sort
 plain-is (leaf j) k h = let i : j ≡ k = cc in ap (λ z. is_plain_leaf z) i ∙ plain-sort k ∙ ap (λ z. is_plain_leaf k && is_block_sort (leaf_sort z)) (sym i)
-plain-is (adorned a more t) k h = sym (and_false (is_plain_leaf k)) ∙ ap (λ b. is_plain_leaf k && b) (sym (behind-sort (note_of t).operation (note_of t).sort))
+plain-is (adorned a more t) k h = sym (and-false (is_plain_leaf k)) ∙ ap (λ b. is_plain_leaf k && b) (sym (behind-sort (note_of t).operation (note_of t).sort))
 plain-is (paren m t) k h = absurd cc
 plain-is (lead j gs t) k h = absurd cc
 plain-is (mid x j y) k h = absurd cc

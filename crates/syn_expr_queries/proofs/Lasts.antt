@@ -2,10 +2,10 @@
 use Rattle.std.proofs.Common.{◌≡◌, ◌≤◌, ◌<◌, ℕ, Bool, true, false, not, ◌&&◌, List, [], ◌∷◌, ◌++◌, length, suc, refl, ap, nat_le, arith}
 use Rattle.std.proofs.lemmas.Bool.Decides.{nat_tests}
 use Rattle.std.proofs.lemmas.List.{map-append}
+use Rattle.std.proofs.Math.Bool.{and-false}
 use Rattle.syn_parts.specs.Own.{count_segments}
 use Rattle.syn_parts.specs.Tree as t
 use Rattle.syn_parts.specs.Tree.{TypeTree, SegmentTree, BoundTree}
-use Rattle.syn_grammar.proofs.Bools.{and_false}
 use Rattle.syn_grammar.specs.Query.{segments_unparameterized, arguments_unparameterized, bounds_unparameterized, bound_unparameterized, segments_brace, arguments_brace, bounds_brace, bound_brace, type_brace}
 
 -- a name without arguments
@@ -52,4 +52,4 @@ pub outside_brace : (b l a c : Bool) (x : TypeTree) (n : ℕ) (xs : List Segment
 outside_brace b l a c x n xs h =
     let k = count_segments_of xs in
     let gt : nat_le (length xs) n ≡ false = grind (arith, nat_tests, h) in
-    rw (k, gt, and_false b) refl
+    rw (k, gt, and-false b) refl

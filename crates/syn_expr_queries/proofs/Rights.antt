@@ -1,11 +1,12 @@
 -- What is last in a node, by what is lent of it.
 use Rattle.std.proofs.Common.{◌≡◌, Bool, true, false, ◌&&◌, List, Some, None, refl, sym, ap, subst}
+use Rattle.std.proofs.Math.Bool.{and-false}
 use Rattle.syn_parts.specs.Tree.{AttributeTree}
 use Rattle.syn_expr_notes.specs.Kind.{kind_at}
 use Rattle.syn_grammar.specs.Query.{leaf_brace, lead_brace, post_brace, return_brace, tree_brace, kids_brace}
 use Rattle.syn_grammar.specs.Tree as e
 use Rattle.syn_grammar.specs.Tree.{Tree, Kids, Body, Piece, Ending, Leaf, Lead, Post, Frame, leaf, paren, adorned, lead, mid, post, tail, frame, none, kid}
-use Rattle.syn_grammar.proofs.Bools.{and_true, and_false}
+use Rattle.syn_grammar.proofs.Bools.{and_true}
 use Rattle.syn_parts.specs.Form.{is_nil}
 use Rattle.syn_expr_kinds.specs.Node.{framed, attributes_at, without_strays, operands_at, leaf_at, lead_at, post_at, frame_at, last_of}
 use Rattle.syn_expr_queries.specs.Frames.{is_body, is_loop, is_if, is_match, frame_holds, frames_hold}
@@ -167,7 +168,7 @@ tells_adorned (right.Operand d) b a more t h = h
 pub right-leaf : (b : Bool) (k : Leaf) (t : Tree) → leaf_at t ≡ Some k → leaf_brace (b && is_nil (attributes_at t)) k ≡ tree_brace b t
 right-leaf b k (leaf l) h = rw (and_true b) cc
 right-leaf b k (paren m t) h = absurd cc
-right-leaf b k (adorned a more t) h = rw (and_false b) (right-leaf false k t h)
+right-leaf b k (adorned a more t) h = rw (and-false b) (right-leaf false k t h)
 right-leaf b k (lead l gs t) h = absurd cc
 right-leaf b k (mid x l y) h = absurd cc
 right-leaf b k (post x l) h = absurd cc

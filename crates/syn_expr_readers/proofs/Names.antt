@@ -2,6 +2,7 @@
 use Rattle.std.specs.Prelude.{◌&&◌, ◌||◌, ◌==◌, not}
 use Rattle.std.proofs.Common.{◌≡◌, Bool, true, false, List, [], ◌∷◌, drop, codes, Some, refl, ap, sym, ◌∙◌}
 use Rattle.std.specs.Str.{bytes_eq}
+use Rattle.std.proofs.Math.Bool.{and-false}
 use Rattle.syn_lexer.specs.Keywords.{is_reserved_word}
 use Rattle.syn_lexer.specs.declared.lexeme.Delimiter.TheVariants as del
 use Rattle.syn_lexer.specs.declared.lexeme.Spacing.TheVariants as spacing
@@ -9,18 +10,19 @@ use Rattle.syn_tokens.specs.Tok.{Tok, ident, punct, group}
 use Rattle.syn_tokens.specs.Front.{group_at}
 use Rattle.syn_parts.specs.declared.label.PathStyle.TheVariants as style
 use Rattle.syn_parts.specs.Form.{fix, iterate, more}
-use Rattle.syn_parts.specs.Mark.{sign_at, word_at, brace_at, colon2, pound, not_ne}
+use Rattle.syn_parts.specs.Mark.{sign_at, brace_at, colon2, pound, not_ne}
 use Rattle.syn_parts.specs.Text.{Text, is_segment, stands_alone}
 use Rattle.syn_parts.specs.Tree as t
 use Rattle.syn_parts.specs.Part.{qpath, path, pieces, segment, segment_name, arguments, turbofish_at, no_arguments, macro_end, type}
 use Rattle.syn_parts.proofs.PatsBack.{reserved_not}
 use Rattle.syn_grammar.specs.declared.kinds.Place.{Place}
 use Rattle.syn_grammar.specs.Tree as e
-use Rattle.syn_grammar.specs.Head.{try_block_at, builtin_at}
+use Rattle.syn_grammar.specs.Head.{builtin_at}
 use Rattle.syn_grammar.specs.Stands.{leaf_stands, path_of}
 use Rattle.syn_grammar.specs.Read.{atom, named_read, expr}
 use Rattle.syn_grammar.proofs.Chains.{both_true, neither, not_true}
 use Rattle.syn_grammar.proofs.NameFronts.{named_word, one_word, word_read}
+use Rattle.syn_expr_front.proofs.Names.{name_segment, try_reserved, no_try}
 use Rattle.syn_expr_readers.specs.Names.{may_go_on, is_alone}
 
 -- nothing that goes on a name stands first
@@ -44,25 +46,9 @@ ended (group del.Brace i ∷ l) h = absurd cc
 ended (group _ i ∷ l) h = record { no_colons = refl; no_bang = refl; no_pound = refl; no_brace = refl }
 ended _ h = record { no_colons = refl; no_bang = refl; no_pound = refl; no_brace = refl }
 
-name_segment : (w : Text) → is_reserved_word w ≡ false → is_segment w ≡ true
-unfolding is_segment
-name_segment w h = rw h refl
-
-try_reserved : is_reserved_word (codes "try") ≡ true
-unfolding is_reserved_word
-try_reserved = refl
-
-no_try : (w : Text) (l : List Tok) → is_reserved_word w ≡ false → try_block_at (ident w ∷ l) ≡ false
-unfolding try_block_at word_at
-no_try w l h = rw (reserved_not w (codes "try") h try_reserved) refl
-
-and_false : (a : Bool) → (a && false) ≡ false
-and_false true = refl
-and_false false = refl
-
 no_builtin : (w : Text) (l : List Tok) → pound.at l ≡ false → builtin_at (ident w ∷ l) ≡ false
 unfolding builtin_at
-no_builtin w l h = rw h (and_false _)
+no_builtin w l h = rw h (and-false _)
 
 named_first : (w : Text) (l : List Tok) (p : Place) → is_reserved_word w ≡ false → Ended l → atom expr p (ident w ∷ l) ≡ named_read expr p (ident w ∷ l)
 unfolding atom

@@ -25,6 +25,7 @@ fn goes_behind(input: &ParseBuffer<'_>, rests: bool) -> bool
 }
 
 /// Whether no trailer is left behind what could carry it, nor behind a cast.
+#[inline(always)]
 #[tactic(auto, using(crate::proofs::Stops::closed), unfolding(syn_grammar::specs::Stands::closes))]
 pub fn closes<E: HasNode + HasKind>(input: &ParseBuffer<'_>, place: Place, x: &E) -> bool
     ensures { result ≡ stands.closes place (E.tree x.now) input.now.rest }

@@ -73,6 +73,8 @@ where
     <E as IsExpr>::Arm: Drop,
 {
     /// Reads a path, the call of a macro, or a struct expression.
+    // As `branch` and `choice`, it has a frame of its own: that of `core` is on the stack once for each level of a tree.
+    #[inline(never)]
     #[tactic(auto, using(syn_expr_atoms::proofs::Inner::named_inner), unfolding(syn_grammar::specs::Read::named_read))]
     fn named(&self, input: &mut ParseBuffer<'_>, place: Place) -> Result<Box<E>>
         requires callable { Callable (weight input.old.rest) (F.pre self.now.expr) }
@@ -91,6 +93,7 @@ where
     }
 
     /// Reads an `if`.
+    #[inline(never)]
     fn branch(&self, input: &mut ParseBuffer<'_>, place: Place) -> Result<Box<E>>
         requires callable { Callable (weight input.old.rest) (F.pre self.now.expr) }
         requires reads { ReadsExpr E.tree (F.post self.now.expr) }
@@ -107,6 +110,7 @@ where
     }
 
     /// Reads a `match`.
+    #[inline(never)]
     fn choice(&self, input: &mut ParseBuffer<'_>, place: Place) -> Result<Box<E>>
         requires callable { Callable (weight input.old.rest) (F.pre self.now.expr) }
         requires reads { ReadsExpr E.tree (F.post self.now.expr) }

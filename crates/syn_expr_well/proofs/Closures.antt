@@ -4,10 +4,11 @@ use Rattle.std.specs.List.{list_all}
 use Rattle.std.specs.Prelude.{is_some}
 use Rattle.std.specs.declared.boxed.Box.{Box}
 use Rattle.std.specs.declared.alloc.Global.{Global}
+use Rattle.std.proofs.Math.Bool.{and-false}
 use Rattle.syn_parts.specs.Fits.{ends_well, fits_if, lifetimes_fit, output_fits}
 use Rattle.syn_parts.specs.Form.{is_nil}
 use Rattle.syn_grammar.specs.WellFormed.{inputs_fit, head_fits}
-use Rattle.syn_grammar.proofs.Bools.{and_true, and_false}
+use Rattle.syn_grammar.proofs.Bools.{and_true}
 use Rattle.syn_lower_lists.specs.declared.punctuated.Punctuated.{Punctuated}
 use Rattle.syn_lower_lists.specs.declared.ty.BoundLifetimes.{BoundLifetimes}
 use Rattle.syn_lower_lists.specs.View.{values, trails, last_of, is_some_pair, mapped, lifetimes_of}
@@ -27,13 +28,13 @@ and_assoc false b c = refl
 
 pub four : (a b c d : Bool) → ((a && b) && (c && d)) ≡ ((a && c) && (b && d))
 four true true c d = refl
-four true false c d = sym (and_false c)
+four true false c d = sym (and-false c)
 four false b c d = refl
 
 -- the third is asked last
 pub swap : (a b c : Bool) → ((a && c) && b) ≡ ((a && b) && c)
 swap true true c = and_true c
-swap true false c = and_false c
+swap true false c = and-false c
 swap false b c = refl
 
 -- ---- arguments
@@ -55,7 +56,7 @@ unfolding values trails
 inputs_end {P} {C} pat p = by p.inner.items p.last
   where
     by : (xs : List (P × C)) (o : Option (Box P Global)) → ends_well (is_nil (trees (map pat (map (λ q. q.0) xs ++ last_of o)))) (is_some_pair xs && not (is_some o)) ≡ true
-    by [] o = ap not (and_false (is_nil (trees (map pat (last_of o)))))
+    by [] o = ap not (and-false (is_nil (trees (map pat (last_of o)))))
     by (q ∷ xs) o = refl
 
 pub some_lifetimes : (o : Option BoundLifetimes) → fits_if lifetimes_fit (mapped lifetimes_of o) ≡ true

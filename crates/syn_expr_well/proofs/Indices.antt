@@ -3,12 +3,12 @@ use Rattle.std.proofs.Common.{◌≡◌, ℕ, zero, suc, ◌+◌, ◌-◌, ◌*�
 use Rattle.std.specs.Prelude.{nat_lt, nat_le, ◌==◌, ◌||◌, Some}
 use Rattle.std.specs.Char.{is_ascii_digit}
 use Rattle.std.proofs.lemmas.Bool.Decides.{nat_tests}
+use Rattle.std.proofs.Math.Bool.{and-false}
 use native.Mathlib.Nat.{pow-zero, pow-suc}
 use Rattle.syn_parts.specs.Text.{Text, byte_at, is_number}
 use Rattle.syn_parts.specs.Pat.{an_index, digit_value, digits_value, index_of}
 use Rattle.syn_parts.specs.PatFits.{member_fits}
 use Rattle.syn_parts.specs.PatOwn.{digits_before, index_text}
-use Rattle.syn_grammar.proofs.Bools.{and_false}
 
 -- ---- a digit
 
@@ -84,7 +84,7 @@ unfolding index_of index_text is_number
 index_back n h =
     let a = first_by (nat_lt n 10) 9 n [] refl (first_digit 9) in
     let b = second_digit 10 n [] refl refl in
-    let c = and_false (byte_at (digits_before 10 n []) 0 == 48) in
+    let c = and-false (byte_at (digits_before 10 n []) 0 == 48) in
     let v = value_before 10 n [] (omega (arith, h)) in
     let m : nat_le n 4294967295 ≡ true = grind (arith, nat_tests, h) in
     rw (a, b, c, v, m) refl

@@ -6,6 +6,7 @@ use Rattle.std.specs.Prelude.{is_some}
 use Rattle.std.specs.declared.vec.Vec.{Vec}
 use Rattle.std.specs.declared.boxed.Box.{Box}
 use Rattle.std.specs.declared.alloc.Global.{Global}
+use Rattle.std.proofs.Math.Bool.{and-false}
 use Rattle.syn_tokens.specs.Tok.{Tok}
 use Rattle.syn_parts.specs.Form.{is_nil}
 use Rattle.syn_parts.specs.Pat.{PatTree, guarded}
@@ -20,7 +21,7 @@ use Rattle.syn_grammar.specs.Tree as e
 use Rattle.syn_grammar.specs.Tree.{Tree, Kids, Ending, Body, none, kid}
 use Rattle.syn_grammar.specs.WellFormed.{well, kids_well, has_rest, may_stop, body_fits, is_kept_block, is_name_path, piece_fits, ending_fits}
 use Rattle.syn_grammar.specs.Stands.{is_branch}
-use Rattle.syn_grammar.proofs.Bools.{and_true, and_false}
+use Rattle.syn_grammar.proofs.Bools.{and_true}
 use Rattle.syn_expr_kinds.specs.Attrs.{inner_part, inner_of}
 use Rattle.syn_expr_kinds.specs.Node.{framed, based, based_by}
 use Rattle.syn_expr_kinds.specs.Pats.{ArmView, strays, guard_kids, arm_ending, arm_kids, arms}
@@ -333,7 +334,7 @@ pub elements-well : (s : Slot) (dots : Bool) (ts : List Tree) (b : Bool) → ope
 elements-well s dots ts b = rw (no_rest ts b, not_both dots) refl
 
 pub grouped-well : (s : Slot) (dots : Bool) (t : Tree) → operands_well s dots (framed (kid e.grouped e.no_ending t none)) ≡ false
-grouped-well s dots t = rw (grouped_in s e.no_ending t) (and_false _)
+grouped-well s dots t = rw (grouped_in s e.no_ending t) (and-false _)
 
 pub repeated-well : (s : Slot) (dots : Bool) (x y : Tree) → operands_well s dots (framed (kid e.repeated e.no_ending x (kid e.value e.no_ending y none))) ≡ (is_counted s && (well x && well y))
 repeated-well s dots x y = rw (not_both dots, repeated_in s e.no_ending x, and_true (is_counted s), and_true (well y)) refl

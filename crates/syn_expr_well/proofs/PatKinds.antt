@@ -7,6 +7,7 @@ use Rattle.std.specs.Prelude.{flat_map, is_some}
 use Rattle.std.specs.declared.vec.Vec.{Vec}
 use Rattle.std.specs.declared.boxed.Box.{Box}
 use Rattle.std.specs.declared.alloc.Global.{Global}
+use Rattle.std.proofs.Math.Bool.{and-false}
 use Rattle.syn_parts.specs.declared.label.PathStyle.TheVariants as style
 use Rattle.syn_parts.specs.Form.{is_nil}
 use Rattle.syn_parts.specs.Tree.{AttributeTree, SegmentTree}
@@ -49,7 +50,7 @@ use Rattle.syn_pat_kinds.specs.declared.pat.PatReferenceOf.{PatReferenceOf}
 use Rattle.syn_pat_kinds.specs.declared.pat.PatConst.{PatConst}
 use Rattle.syn_pat_kinds.specs.declared.pat.PatOrOf.{PatOrOf}
 use Rattle.syn_pat_kinds.specs.declared.pat.PatTypeOf.{PatTypeOf}
-use Rattle.syn_grammar.proofs.Bools.{and_true, and_false}
+use Rattle.syn_grammar.proofs.Bools.{and_true}
 use Rattle.syn_expr_well.specs.declared.patterns.PatSort.TheVariants as sort
 use Rattle.syn_expr_well.specs.Alone.{fits_alone, attributes_at, behind, fits_behind, sort_at, is_rest_sort, is_mut_sort, sub_alone, is_sole_rest, kind_alone, field_alone}
 use Rattle.syn_expr_well.proofs.Closures.{four, swap, nil_append}
@@ -207,7 +208,7 @@ unfolding values trails
 pats_end {P} {S} f p = by p.inner.items p.last
   where
     by : (xs : List (P × S)) (o : Option (Box P Global)) → ends_well (no_more_pats (pats_in f (map (λ q. q.0) xs ++ last_of o))) (is_some_pair xs && not (is_some o)) ≡ true
-    by [] o = ap not (and_false (no_more_pats (pats_in f (last_of o))))
+    by [] o = ap not (and-false (no_more_pats (pats_in f (last_of o))))
     by (q ∷ xs) o = refl
 
 fields_end : {P S : Type 0} (f : P → PatView) (p : Punctuated (FieldPatOf P) S) → ends_well (no_more_fields (t.fields_of (map (field_pat_of f) (values p)))) (trails p) ≡ true
@@ -215,7 +216,7 @@ unfolding values trails
 fields_end {P} {S} f p = by p.inner.items p.last
   where
     by : (xs : List (FieldPatOf P × S)) (o : Option (Box (FieldPatOf P) Global)) → ends_well (no_more_fields (t.fields_of (map (field_pat_of f) (map (λ q. q.0) xs ++ last_of o)))) (is_some_pair xs && not (is_some o)) ≡ true
-    by [] o = ap not (and_false (no_more_fields (t.fields_of (map (field_pat_of f) (last_of o)))))
+    by [] o = ap not (and-false (no_more_fields (t.fields_of (map (field_pat_of f) (last_of o)))))
     by (q ∷ xs) o = refl
 
 -- ---- ranges
@@ -314,7 +315,7 @@ kind_is f (kind.Full x) = by (member_fits (of.member_of x.member))
 
 six : (a b c d e : Bool) → ((a && (b && c)) && (d && e)) ≡ ((a && (b && d)) && (c && e))
 six true true true d e = refl
-six true true false d e = sym (and_false d)
+six true true false d e = sym (and-false d)
 six true false c d e = refl
 six false b c d e = refl
 
@@ -340,7 +341,7 @@ rest_behind {P} {S} f d p = by d p.inner.items p.last
 
 mid_swap : (a b c d : Bool) → ((a && (b && (true && c))) && d) ≡ (a && ((b && d) && c))
 mid_swap true true c true = and_true c
-mid_swap true true c false = and_false c
+mid_swap true true c false = and-false c
 mid_swap true false c d = refl
 mid_swap false b c d = refl
 

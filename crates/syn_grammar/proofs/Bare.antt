@@ -1,5 +1,6 @@
 -- The printed tree is formed where the tree is.
 use Rattle.std.proofs.Common.{◌≡◌, Bool, true, false, not, ◌||◌, Some, None, refl, sym, ◌∙◌, ap, subst}
+use Rattle.std.proofs.Math.Bool.{and-false}
 use Rattle.syn_grammar.specs.declared.kinds.Level.TheVariants as lev
 use Rattle.syn_grammar.specs.declared.next.Next.TheVariants as next
 use Rattle.syn_grammar.specs.declared.next.Context.{Context}
@@ -12,7 +13,7 @@ use Rattle.syn_grammar.specs.Slot as s
 use Rattle.syn_grammar.specs.Slot.{Slot, after}
 use Rattle.syn_grammar.specs.Rule.{is_operation, refuses, misplaced, leaf_misplaced, place_asks, left_asks, base_asks, lead_asks, put, piece_put, bare, bare_kids}
 use Rattle.syn_grammar.specs.WellFormed.{well, frame_fits, has_rest, frame_slot, trailer_slot, piece_fits, is_kept_block, keeps_block}
-use Rattle.syn_grammar.proofs.Bools.{or_false, and_false}
+use Rattle.syn_grammar.proofs.Bools.{or_false}
 use Rattle.syn_grammar.proofs.FillIns.{comma_there}
 use Rattle.syn_grammar.proofs.Formed.{KidFormed, Formed, FormedKids, formed_fill}
 use Rattle.syn_grammar.proofs.Edges.{low_some, bad_end, self_enclosed}
@@ -130,7 +131,7 @@ leaf_arm (e.verbatim ts) = refl
 misplaced_arm : (t : Tree) → misplaced in_arm t ≡ false
 misplaced_arm (leaf k) = leaf_arm k
 misplaced_arm (paren m t) = refl
-misplaced_arm (adorned a more t) = rw (misplaced_arm t) (and_false (not (is_operation t)))
+misplaced_arm (adorned a more t) = rw (misplaced_arm t) (and-false (not (is_operation t)))
 misplaced_arm (lead (e.unary op) gs t) = refl
 misplaced_arm (lead (e.reference m) gs t) = refl
 misplaced_arm (lead (e.raw_addr m) gs t) = refl

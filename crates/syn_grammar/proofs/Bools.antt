@@ -37,10 +37,6 @@ pub or_none : (b : Bool) → b || false ≡ b
 or_none true = refl
 or_none false = refl
 
-pub and_false : (b : Bool) → b && false ≡ false
-and_false true = refl
-and_false false = refl
-
 pub and_true : (b : Bool) → b && true ≡ b
 and_true true = refl
 and_true false = refl

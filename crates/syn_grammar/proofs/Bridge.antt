@@ -1,5 +1,6 @@
 -- A printed tree that obeys the binding rules stands for its own tokens.
 use Rattle.std.proofs.Common.{◌≡◌, ℕ, Bool, true, false, not, ◌&&◌, ◌||◌, List, [], ◌∷◌, Some, None, refl, sym, ◌∙◌, ap, subst, codes}
+use Rattle.std.proofs.Math.Bool.{and-false}
 use Rattle.syn_lexer.specs.declared.lexeme.Delimiter.TheVariants as del
 use Rattle.syn_tokens.specs.Tok.{Tok, toks-inside}
 use Rattle.syn_parts.specs.declared.label.PathStyle.TheVariants as style
@@ -29,7 +30,7 @@ use Rattle.syn_grammar.specs.Stands.{Node, Content, Operands, is_adorned, is_bra
 use Rattle.syn_grammar.specs.Tree as e
 use Rattle.syn_grammar.specs.Tree.{Tree, Kids, Leaf, Frame, Trailer, leaf, paren, adorned, lead, mid, post, tail, frame, none, kid, post_op, is_one, is_block_like, is_block_leaf, infix_own, post_own, trailer_own, own, kids_own, enclosure, behind_operands, clear, clear_kids}
 use Rattle.syn_grammar.specs.WellFormed.{trailer_fits, frame_fits, piece_fits, is_kept_block}
-use Rattle.syn_grammar.proofs.Bools.{or_false, both_true, not_it, and_false, and_true}
+use Rattle.syn_grammar.proofs.Bools.{or_false, both_true, not_it, and_true}
 use Rattle.syn_grammar.proofs.HeadsBack.{heads_back}
 use Rattle.syn_grammar.proofs.HeadLeaf.{leaf_stops}
 use Rattle.syn_grammar.proofs.HeadTrailers.{trailer_stops, trailer_rest, is_indexed}
@@ -47,7 +48,7 @@ use Rattle.syn_grammar.proofs.Kids.{rests_well, operands_end, piece_meets, kid_c
 base_plain : (k : Trailer) (b : Tree) → is_base k b ≡ true → (is_adorned b ≡ false) × (is_operation b ≡ false)
 base_plain k (leaf j) h = (refl, not_it _ (both_true _ _ h).0)
 base_plain k (paren m t) h = (refl, refl)
-base_plain k (adorned a more t) h = absurd (let f : true ≡ false = sym h ∙ and_false _ in cc)
+base_plain k (adorned a more t) h = absurd (let f : true ≡ false = sym h ∙ and-false _ in cc)
 base_plain k (lead j gs t) h = (refl, (or_false _ _ (not_it _ (both_true _ _ h).0)).1)
 base_plain k (mid x j y) h = absurd cc
 base_plain k (post x j) h = absurd cc

@@ -1,6 +1,7 @@
 -- What the ends of a tree have in common with those of the printed tree.
 use Rattle.std.proofs.Common.{◌≡◌, Bool, true, false, not, ◌&&◌, ◌||◌, Some, None, refl, sym, ◌∙◌}
 use Rattle.std.specs.Prelude.{if◌then◌else◌}
+use Rattle.std.proofs.Math.Bool.{and-false}
 use Rattle.syn_grammar.specs.declared.kinds.BinKind.{BinKind}
 use Rattle.syn_grammar.specs.declared.kinds.BinKind.TheVariants as bin
 use Rattle.syn_grammar.specs.declared.kinds.Infix.{Infix}
@@ -17,7 +18,7 @@ use Rattle.syn_grammar.specs.Stands.{is_range, is_range_leaf, is_infix, is_cast,
 use Rattle.syn_grammar.specs.Tree as e
 use Rattle.syn_grammar.specs.Tree.{Tree, Leaf, Lead, Post, Trailer, Frame, leaf, paren, adorned, lead, mid, post, tail, frame, post_op}
 use Rattle.syn_grammar.specs.Rule.{is_operation, prints_range, prints_carrier, leaf_refuses, leaf_misplaced, lead_misplaced, frame_misplaced, post_refuses, misplaced, self_wrapped, lower, ends_badly, left_wrapped, low, bad, labelled, left_asks, base_asks, put, bare}
-use Rattle.syn_grammar.proofs.Bools.{or_false, neither, or_true, or_none, both_true, and_false, lower_takes}
+use Rattle.syn_grammar.proofs.Bools.{or_false, neither, or_true, or_none, both_true, lower_takes}
 use Rattle.syn_grammar.proofs.Obeys.{begins_label}
 
 -- ---- the kind of a node is that of the printed one
@@ -116,7 +117,7 @@ carrier_bare c (frame k ks) = refl
 pub base_bare : (k : Trailer) (c : Context) (b : Tree) → is_base k (bare c b) ≡ is_base k b
 base_bare k c (leaf j) = refl
 base_bare k c (paren m t) = refl
-base_bare k c (adorned a more t) = and_false _ ∙ sym (and_false _)
+base_bare k c (adorned a more t) = and-false _ ∙ sym (and-false _)
 base_bare k c (lead j gs t) = refl
 base_bare k c (mid x j y) = refl
 base_bare k c (post x j) = refl
@@ -129,7 +130,7 @@ base_bare k c (tail b e.question ks) = refl
 base_bare k c (frame j ks) = refl
 
 pub base_paren : (k : Trailer) (m : Bool) (t : Tree) → is_base k (paren m t) ≡ true
-base_paren k m t = rw (and_false (is_call k)) refl
+base_paren k m t = rw (and-false (is_call k)) refl
 
 -- ---- the first token
 
@@ -183,7 +184,7 @@ ends_end v t n w h = rw h refl
 pub bad_end : (t : Tree) → bad t next.End ≡ false
 bad_end (leaf k) = refl
 bad_end (paren m t) = refl
-bad_end (adorned a more t) = rw (bad_end t) (and_false (not (is_operation t)))
+bad_end (adorned a more t) = rw (bad_end t) (and-false (not (is_operation t)))
 bad_end (lead k gs t) = ends_end (lead_level k) t _ _ (lead_end k)
 bad_end (mid x k y) = refl
 bad_end (post x k) = refl
@@ -332,7 +333,7 @@ misplaced_leaf c (e.lit x) h = refl
 misplaced_leaf c (e.path q p) h = refl
 misplaced_leaf c (e.mac m) h = refl
 misplaced_leaf c e.infer h = refl
-misplaced_leaf c (e.full_range op) h = absurd (let g : true ≡ false = sym h ∙ and_false _ in cc)
+misplaced_leaf c (e.full_range op) h = absurd (let g : true ≡ false = sym h ∙ and-false _ in cc)
 misplaced_leaf c (e.bare_jump j) h = refl
 misplaced_leaf c (e.continuing w) h = refl
 misplaced_leaf c (e.block w b) h = refl

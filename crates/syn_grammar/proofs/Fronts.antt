@@ -1,8 +1,9 @@
 -- Which tests the first tokens of each kind pass.
-use Rattle.std.specs.Prelude.{not, ◌||◌, ◌&&◌, ◌==◌, if◌then◌else◌}
+use Rattle.std.specs.Prelude.{not, ◌||◌, ◌==◌, if◌then◌else◌}
 use Rattle.std.proofs.Common.{◌≡◌, ℕ, Bool, true, false, cond, ⊎_elim, List, [], ◌∷◌, drop, codes, Some, None, refl, ap, sym, ◌∙◌, subst}
 use Rattle.std.proofs.lemmas.Slice.Eq.{bytes_eq-Decides}
 use Rattle.std.specs.Str.{bytes_eq}
+use Rattle.std.proofs.Math.Bool.{and-false}
 use Rattle.syn_lexer.specs.declared.lexeme.Spacing.{Spacing}
 use Rattle.syn_lexer.specs.declared.lexeme.Spacing.TheVariants as spacing
 use Rattle.syn_tokens.specs.Tok.{Tok, ident, punct, literal, group}
@@ -87,16 +88,12 @@ pub second_true : (a : Bool) {b : Bool} → b ≡ true → (a || b) ≡ true
 second_true true g = refl
 second_true false g = g
 
-pub and_false : (a : Bool) → (a && false) ≡ false
-and_false true = refl
-and_false false = refl
-
 -- behind `async`
 closed_async : (l m : List Tok) (b : Bool) → move_word.at l ≡ b → m ≡ (if b then drop 1 l else l) → bar.at m ≡ true → Closed (ident (codes "async") ∷ l)
 unfolding closure_at leaf_at literal_at word_at loop_at block_at lifetime_at brace_at group_at const_block_at async_block_at try_block_at builtin_at sign_at lifetimes_at is_truth lead_form range_at jump_at
 closed_async l m true a d g =
     let n : brace_at (drop 1 l) ≡ false = subst (λ z. brace_at z ≡ false) d (sign_no_brace 124 m g) in
-    record { at = second_true (bar.at l) (rw (a, n) refl); no_leaf = rw (word_no_brace (codes "move") l a, n, and_false (move_word.at l)) refl; closures = λ f. refl }
+    record { at = second_true (bar.at l) (rw (a, n) refl); no_leaf = rw (word_no_brace (codes "move") l a, n, and-false (move_word.at l)) refl; closures = λ f. refl }
 closed_async l m false a d g =
     let b : bar.at l ≡ true = subst (λ z. bar.at z ≡ true) d g in
     record { at = rw b refl; no_leaf = rw (sign_no_brace 124 l b, a) refl; closures = λ f. refl }

@@ -1,6 +1,7 @@
 -- The printed tree obeys the binding rules.
 use Rattle.std.proofs.Common.{◌≡◌, Bool, true, false, ◌&&◌, ◌||◌, not, refl, sym, ◌∙◌, ap, subst}
 use Rattle.std.specs.Prelude.{if◌then◌else◌}
+use Rattle.std.proofs.Math.Bool.{and-false}
 use Rattle.syn_grammar.specs.declared.kinds.Infix.{Infix}
 use Rattle.syn_grammar.specs.declared.kinds.Level.{Level}
 use Rattle.syn_grammar.specs.declared.kinds.Level.TheVariants as lev
@@ -15,7 +16,7 @@ use Rattle.syn_grammar.specs.Tree.{Tree, Kids, Lead, Piece, Trailer, leaf, paren
 use Rattle.syn_grammar.specs.Rule.{is_operation, refuses, misplaced, self_wrapped, ends_badly, is_bare_break, left_wrapped, place_wrapped, low, bad, labelled, place_asks, left_asks, base_asks, put, is_chainable, chained_bare, is_plain_block, piece_put, bare, bare_kids}
 use Rattle.syn_grammar.specs.Slot.{Slot, after}
 use Rattle.syn_grammar.specs.WellFormed.{trailer_slot, frame_slot, keeps_block, is_kept_block}
-use Rattle.syn_grammar.proofs.Bools.{or_false, or_none, both_true, neither, not_true, and_false, takes_lower}
+use Rattle.syn_grammar.proofs.Bools.{or_false, or_none, both_true, neither, not_true, takes_lower}
 use Rattle.syn_grammar.proofs.Formed.{Formed, FormedKids}
 use Rattle.syn_grammar.proofs.Obeys.{Fits, FitsLeft, begins_label, Obeys, ObeysKids}
 use Rattle.syn_grammar.proofs.Edges.{compares_bare, range_bare, operation_bare, carrier_bare, base_bare, base_paren, label_bare, lead_next_is, bad_end, low_some, low_closed, carrier_closed, self_enclosed, misplaced_kind}
@@ -62,7 +63,7 @@ at_place v t c x false f g h e =
 
 no_label : (k : Lead) (c : Context) (t : Tree) (w a : Bool) → a || (is_bare_break k && labelled t) ≡ w
     → is_bare_break k && begins_label (put w (bare enclosed t) (bare c t)) ≡ false
-no_label k c t true a h = and_false (is_bare_break k)
+no_label k c t true a h = and-false (is_bare_break k)
 no_label k c t false a h = go (is_bare_break k) (or_false _ _ h).1
   where
     go : (b : Bool) → b && labelled t ≡ false → b && begins_label (bare c t) ≡ false

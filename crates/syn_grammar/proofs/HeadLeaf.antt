@@ -1,6 +1,7 @@
 -- Leaves are read back from their own tokens.
 use Rattle.std.proofs.Common.{◌≡◌, Bool, true, false, not, ◌||◌, ◌&&◌, List, [], ◌∷◌, Option, Some, None, refl, ◌∙◌, codes}
 use Rattle.std.specs.Str.{bytes_eq}
+use Rattle.std.proofs.Math.Bool.{and-false}
 use Rattle.syn_lexer.specs.Keywords.{is_reserved_word}
 use Rattle.syn_tokens.specs.Tok.{Tok, ident, literal}
 use Rattle.syn_tokens.specs.Front.{group_at}
@@ -13,7 +14,7 @@ use Rattle.syn_parts.specs.Own.{alone, colon2_before, enclosed, arguments_own, n
 use Rattle.syn_parts.specs.Part.{MacroTree, find_lit, truth_if, turbofish_at, unsigned, is_bare, segments_bare, has_none, macro_end, qpath, type}
 use Rattle.syn_parts.specs.Fits.{unsigned_fits, qpath_fits, path_fits, macro_fits, segments_fit, arguments_fit, goes_over, is_macro_delimiter}
 use Rattle.syn_parts.proofs.Same.{both_true, not_true}
-use Rattle.syn_parts.proofs.Behind.{or_true, and_false}
+use Rattle.syn_parts.proofs.Behind.{or_true}
 use Rattle.syn_parts.proofs.Forms.{Alike}
 use Rattle.syn_parts.proofs.Fronts.{NoSegment, word_not, no_truth, not_underscore, not_unsafe}
 use Rattle.syn_parts.proofs.TypesBack.{group_back}
@@ -241,10 +242,10 @@ mac_back m r f =
     behind_path r = alone 33 ∷ enclosed m.delimiter m.tokens r
 
     no_brace : (b : Bool) (r : List Tok) → (b && brace_at (behind_path r)) ≡ false
-    no_brace b r = and_false b
+    no_brace b r = and-false b
 
     no_pound : (b : Bool) (r : List Tok) → (b && sign_at (codes "#") (behind_path r)) ≡ false
-    no_pound b r = and_false b
+    no_pound b r = and-false b
 
     no_colon2 : (r : List Tok) → colon2.at (behind_path r) ≡ false
     no_colon2 r = refl

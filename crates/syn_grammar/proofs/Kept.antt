@@ -1,6 +1,7 @@
 -- A tree that obeys the binding rules is printed as it is.
 use Rattle.std.proofs.Common.{◌≡◌, Bool, true, false, not, ◌&&◌, ◌||◌, List, Some, None, refl, sym, ◌∙◌, ap, subst}
 use Rattle.std.specs.Prelude.{if◌then◌else◌}
+use Rattle.std.proofs.Math.Bool.{and-false}
 use Rattle.syn_parts.specs.Tree.{AttributeTree}
 use Rattle.syn_grammar.specs.declared.kinds.Infix.{Infix}
 use Rattle.syn_grammar.specs.declared.kinds.BinKind.{BinKind}
@@ -18,7 +19,7 @@ use Rattle.syn_grammar.specs.Tree as e
 use Rattle.syn_grammar.specs.Tree.{Tree, Kids, Leaf, Lead, Piece, Ending, Trailer, leaf, paren, adorned, lead, mid, post, tail, frame, none, kid, post_op, is_silent}
 use Rattle.syn_grammar.specs.Rule.{is_operation, prints_range, prints_carrier, refuses, misplaced, lower, ends_badly, is_bare_break, left_wrapped, base_wrapped, place_wrapped, low, bad, labelled, place_asks, left_asks, lead_asks, put, is_chainable, is_plain_block, piece_put, bare, bare_kids}
 use Rattle.syn_grammar.specs.WellFormed.{is_kept_block}
-use Rattle.syn_grammar.proofs.Bools.{or_false, neither, and_false, lower_takes}
+use Rattle.syn_grammar.proofs.Bools.{or_false, neither, lower_takes}
 use Rattle.syn_grammar.proofs.Obeys.{Fits, FitsLeft, begins_label, Obeys, ObeysKids}
 use Rattle.syn_grammar.proofs.Edges.{lead_next_is, not_cast}
 
@@ -118,9 +119,9 @@ no_label (leaf k) h = h
 no_label (paren m t) h = refl
 no_label (adorned a more t) h = refl
 no_label (lead k gs t) h = refl
-no_label (mid x k y) h = rw (no_label x h) (and_false _)
-no_label (post x k) h = rw (no_label x h) (and_false _)
-no_label (tail b k ks) h = rw (no_label b h) (and_false _)
+no_label (mid x k y) h = rw (no_label x h) (and-false _)
+no_label (post x k) h = rw (no_label x h) (and-false _)
+no_label (tail b k ks) h = rw (no_label b h) (and-false _)
 no_label (frame k ks) h = h
 
 bare_break : (k : Lead) (t : Tree) → is_bare_break k && begins_label t ≡ false → is_bare_break k && labelled t ≡ false

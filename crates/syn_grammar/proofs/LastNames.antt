@@ -2,6 +2,7 @@
 use Rattle.std.proofs.Common.{◌≡◌, ℕ, zero, suc, ◌&&◌, ◌||◌, Bool, true, false, not, List, [], ◌∷◌, ◌++◌, Option, Some, None, refl, sym, ap, subst, ◌∙◌, arith}
 use Rattle.std.specs.Prelude.{codes, nat_le}
 use Rattle.std.proofs.lemmas.Bool.Decides.{nat_tests}
+use Rattle.std.proofs.Math.Bool.{and-false}
 use Rattle.syn_lexer.specs.Keywords.{is_reserved_word}
 use Rattle.syn_lexer.specs.declared.lexeme.Delimiter.TheVariants as del
 use Rattle.syn_tokens.specs.Tok.{Tok, ident, group, inside}
@@ -18,7 +19,7 @@ use Rattle.syn_parts.specs.Fits.{type_fits, types_fit, qself_fits, segments_fit,
 use Rattle.syn_parts.proofs.Appends.{type_append, segments_append, arguments_append, generics_append, bound_append, extern_append}
 use Rattle.syn_parts.proofs.Fronts.{word_not}
 use Rattle.syn_grammar.specs.Query.{is_name, is_quote, last_name, trailing_unparameterized_path, segments_unparameterized, arguments_unparameterized, return_unparameterized, bounds_unparameterized, bound_unparameterized, UnparameterizedPathsAreLast}
-use Rattle.syn_grammar.proofs.Bools.{both_true, and_false}
+use Rattle.syn_grammar.proofs.Bools.{both_true}
 
 -- Whatever stands before, a quote too, the last token answers b.
 record Settled (l : List Tok) (b : Bool) : Type 0 where
@@ -204,7 +205,7 @@ mutual
       λ n. (through {F = bound_own d} (bound_append d) _ _ (first (alone 43) _ _ refl (bounds_end (t.more_bounds x bs) (both_true (bound_fits d) _ h).1 refl false))).behind false n
 
   bound_end : (d : BoundTree) → bound_fits d ≡ true → Ends (bound_own d []) (bound_unparameterized d)
-  bound_end (t.outlives w) h = λ n. and_false (is_name (ident w))
+  bound_end (t.outlives w) h = λ n. and-false (is_name (ident w))
   bound_end (t.a_trait q f l ss true) h = absurd cc
   bound_end (t.a_trait q f l t.no_segments false) h = absurd cc
   bound_end (t.a_trait q f l (t.more_segments w a ss) false) h =

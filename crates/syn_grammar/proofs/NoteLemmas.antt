@@ -5,6 +5,7 @@ use Rattle.std.specs.Int.{bit_at}
 use Rattle.std.proofs.lemmas.Nat.Bits.{bit_at-zero, bit_at-suc, bit_at_lowest}
 use Rattle.std.proofs.lemmas.List.{length-append}
 use Rattle.std.proofs.Math.Nat.{pow-suc}
+use Rattle.std.proofs.Math.Bool.{and-false}
 use Rattle.syn_grammar.specs.declared.kinds.Infix.{Infix}
 use Rattle.syn_grammar.specs.declared.kinds.Level.{Level}
 use Rattle.syn_grammar.specs.declared.kinds.Level.TheVariants as lev
@@ -130,10 +131,6 @@ pub record Notes (x : Note) (t : Tree) : Type 0 where
   pub labelled_is : x.labelled ≡ labelled t
   pub misplaced_is : (c : Context) → misplaced_by c x.sort ≡ misplaced c t
 
-and_false : (b : Bool) → (b && false) ≡ false
-and_false true = refl
-and_false false = refl
-
 and_and : (a b c : Bool) → ((a && b) && c) ≡ (a && (b && c))
 and_and true b c = refl
 and_and false b c = refl
@@ -144,7 +141,7 @@ neither false b = refl
 
 braced_sorted : (b : Bool) (c : Context) → misplaced_by c (if b then sort.BracedMacro else sort.Other) ≡ is_below_statement c.edge && b
 braced_sorted true c = sym (and_true _)
-braced_sorted false c = sym (and_false _)
+braced_sorted false c = sym (and-false _)
 
 leaf_sorted : (k : Leaf) (c : Context) → misplaced_by c (leaf_sort k) ≡ leaf_misplaced c k
 leaf_sorted (e.block None b) c = refl
@@ -154,7 +151,7 @@ leaf_sorted (e.looping w b) c = sym (and_true _)
 leaf_sorted (e.unsafe_block b) c = sym (and_true _)
 leaf_sorted (e.const_block b) c = sym (and_true _)
 leaf_sorted (e.try_block ts) c = sym (and_true _)
-leaf_sorted _ c = sym (and_false _)
+leaf_sorted _ c = sym (and-false _)
 
 lead_sorted : (k : Lead) (c : Context) → misplaced_by c (lead_sort k) ≡ lead_misplaced c k
 lead_sorted (e.binding p) c = refl
@@ -166,7 +163,7 @@ frame_sorted e.branch c = sym (and_true _)
 frame_sorted (e.while_loop w) c = sym (and_true _)
 frame_sorted (e.for_loop w p) c = sym (and_true _)
 frame_sorted e.choice c = sym (and_true _)
-frame_sorted _ c = sym (and_false _)
+frame_sorted _ c = sym (and-false _)
 
 below_adorned : (x : Edge) → is_below x ≡ is_below (adorned_edge x)
 below_adorned edge.NoBrace = refl
@@ -256,7 +253,7 @@ adorned_noted a more x t h = record {
   range_is = refl;
   comparison_is = refl;
   carries_is = rw (h.operation_is, h.carries_is) refl;
-  base_is = sym (and_false _);
+  base_is = sym (and-false _);
   named_is = refl;
   labelled_is = refl;
   misplaced_is = λ c. ap (λ o. misplaced_by c (if o then sort.Other else adorned_sort x.sort)) h.operation_is

@@ -3,6 +3,7 @@ use Rattle.std.proofs.Common.{◌≡◌, Bool, true, false, not, ◌||◌, ◌==
 use Rattle.std.specs.Prelude.{if◌then◌else◌}
 use Rattle.std.proofs.lemmas.Slice.Eq.{bytes_eq-Decides}
 use Rattle.std.specs.Str.{bytes_eq}
+use Rattle.std.proofs.Math.Bool.{and-false}
 use Rattle.syn_lexer.specs.Keywords.{is_reserved_word}
 use Rattle.syn_lexer.specs.declared.lexeme.Delimiter.TheVariants as del
 use Rattle.syn_tokens.specs.Tok.{Tok, Inside, ident, literal, group}
@@ -31,7 +32,7 @@ use Rattle.syn_grammar.specs.Rule.{leaf_labelled, frame_labelled}
 use Rattle.syn_grammar.specs.Tree as e
 use Rattle.syn_grammar.specs.Tree.{Tree, Kids, Leaf, Lead, Frame, Post, word_if, vert_before, leaf, paren, adorned, lead, mid, post, tail, frame, post_op, own, leaf_own, lead_own, framed, enclosure, post_own}
 use Rattle.syn_grammar.specs.WellFormed.{leaf_fits, frame_fits}
-use Rattle.syn_grammar.proofs.Bools.{both_true, not_it, and_false, or_none}
+use Rattle.syn_grammar.proofs.Bools.{both_true, not_it, or_none}
 use Rattle.syn_grammar.proofs.Formed.{Formed}
 use Rattle.syn_grammar.proofs.Obeys.{begins_label}
 use Rattle.syn_grammar.proofs.Shows.{Shows, shows_operator, shows_trailer}
@@ -105,7 +106,7 @@ word_front w l h q = record {
   label = refl;
   pound = refl;
   no_mut = rw (word_not w (codes "mut") h not_mut) refl;
-  no_raw = rw (q.no_mut, q.no_const) (and_false _);
+  no_raw = rw (q.no_mut, q.no_const) (and-false _);
   no_arrow = refl;
 }
 

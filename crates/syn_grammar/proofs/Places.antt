@@ -1,5 +1,6 @@
 -- Places and contexts; what a place asks of its occupant, from the class of what is behind.
 use Rattle.std.proofs.Common.{◌≡◌, ℕ, Bool, true, false, not, ◌&&◌, ◌||◌, List, drop, Some, None, refl, sym, ◌∙◌, ap, subst}
+use Rattle.std.proofs.Math.Bool.{and-false}
 use Rattle.syn_tokens.specs.Tok.{Tok}
 use Rattle.syn_parts.specs.Mark.{sign_at, word_at, round_at}
 use Rattle.syn_grammar.specs.declared.kinds.BinKind.TheVariants as bin
@@ -22,7 +23,7 @@ use Rattle.syn_grammar.specs.Rule.{is_operation, prints_range, is_below, leaf_mi
 use Rattle.syn_grammar.specs.Stands.{is_infix, is_range, is_cast, carries, compares, is_verbatim, is_adorned, is_branch, may_adorn, rests, goes_behind, closes, is_jump_or_let, ends, ends_operation, fits_left, is_named, is_parenthesis_or_bracket, is_base, fits_base, lead_place}
 use Rattle.syn_grammar.specs.Tree as e
 use Rattle.syn_grammar.specs.Tree.{Tree, Kids, Leaf, Lead, Frame, Trailer, leaf, paren, adorned, lead, mid, post, tail, frame, none, is_block_like, is_block_leaf, is_block_frame, infix_own, clear, clear_kids}
-use Rattle.syn_grammar.proofs.Bools.{or_false, neither, not_it, or_true, or_none, and_false}
+use Rattle.syn_grammar.proofs.Bools.{or_false, neither, not_it, or_true, or_none}
 use Rattle.syn_grammar.proofs.FillIns.{block_clear}
 use Rattle.syn_grammar.proofs.Formed.{Formed}
 use Rattle.syn_grammar.proofs.Obeys.{Fits, FitsLeft, Obeys}
@@ -117,7 +118,7 @@ verbatim_clear (frame k ks) f = refl
 pub base_clear : (k : Trailer) (t : Tree) → is_base k (clear t) ≡ is_base k t
 base_clear k (leaf j) = refl
 base_clear k (paren m t) = refl
-base_clear k (adorned a more t) = and_false _ ∙ sym (and_false _)
+base_clear k (adorned a more t) = and-false _ ∙ sym (and-false _)
 base_clear k (lead j gs t) = refl
 base_clear k (mid x j y) = refl
 base_clear k (post x j) = refl
@@ -475,7 +476,7 @@ pub goes_free : (p : Place) (v : Level) (c d : Context) (t : Tree) → Meets p c
 goes_free p v c d t m s h = go c.edge refl
   where
     below : is_below d.edge ≡ true → rests p (clear t) ≡ false
-    below b = rw (block_clear t, no_block v d t b h) (and_false p.head)
+    below b = rw (block_clear t, no_block v d t b h) (and-false p.head)
 
     go : (x : Edge) → c.edge ≡ x → rests p (clear t) ≡ false
     go edge.Free i = rw (m.head, i) refl
@@ -618,7 +619,7 @@ left_calls t k = record { none = rw (operator_class k).no_round refl }
 base_call : (t : Tree) → is_base e.call t ≡ true → ends_named t || is_cast t ≡ false
 base_call (leaf k) h = refl
 base_call (paren m t) h = refl
-base_call (adorned a more t) h = absurd (let f : true ≡ false = sym h ∙ and_false _ in cc)
+base_call (adorned a more t) h = absurd (let f : true ≡ false = sym h ∙ and-false _ in cc)
 base_call (lead k gs t) h = refl
 base_call (mid x k y) h = refl
 base_call (post x k) h = absurd cc

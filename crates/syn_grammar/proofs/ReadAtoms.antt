@@ -1,6 +1,7 @@
 -- Leaves, paths and lists of operands: what stands is read.
 use Rattle.std.specs.Prelude.{not, ◌||◌, ◌&&◌}
 use Rattle.std.proofs.Common.{◌≡◌, Bool, true, false, ⊎_elim, List, [], ◌∷◌, drop, Option, Some, None, refl, ap, sym, ◌∙◌, subst}
+use Rattle.std.proofs.Math.Bool.{and-false}
 use Rattle.syn_lexer.specs.declared.lexeme.Delimiter.TheVariants as del
 use Rattle.syn_lexer.specs.declared.lexeme.Spacing.{Spacing}
 use Rattle.syn_lexer.specs.declared.lexeme.Spacing.TheVariants as spacing
@@ -27,7 +28,7 @@ use Rattle.syn_grammar.proofs.Chains.{some_is, then_some, behind_some, only_some
 use Rattle.syn_grammar.proofs.Needs.{heads}
 use Rattle.syn_grammar.proofs.Sound.{empty_is}
 use Rattle.syn_grammar.proofs.SoundAtoms.{NoLeaf, no_leaf, named_reads}
-use Rattle.syn_grammar.proofs.Fronts.{and_false, no_lifetime, sign_no_leaf, range_lead, range_leads, jump_lead, jump_leads}
+use Rattle.syn_grammar.proofs.Fronts.{no_lifetime, sign_no_leaf, range_lead, range_leads, jump_lead, jump_leads}
 use Rattle.syn_grammar.proofs.NameFronts.{Named, qpath_front}
 
 -- ---- leaves
@@ -74,7 +75,7 @@ path_alone p q n g = let (a, b) = both_true (p.condition || not (brace_at n)) _ 
 -- no macro ends before a brace
 pub brace_no_macro : (q : QPathTree) (i : Inside) (n : List Tok) → (macro_end q).reads (group del.Brace i ∷ n) ≡ Some (None, group del.Brace i ∷ n)
 unfolding macro_end sign_at
-brace_no_macro q i n = rw (and_false (is_bare q)) refl
+brace_no_macro q i n = rw (and-false (is_bare q)) refl
 
 pub ends_is : (d : Bool) (o : List Tok) → ends_list d o ≡ true → d ≡ not (is_empty o)
 unfolding sign_at

@@ -1,5 +1,6 @@
 -- What stands obeys: the tests of a node, by the class of what stands behind it.
 use Rattle.std.proofs.Common.{◌≡◌, Bool, true, false, not, ◌&&◌, ◌||◌, List, [], ◌∷◌, Option, Some, None, refl, sym, ◌∙◌, ap, codes}
+use Rattle.std.proofs.Math.Bool.{and-false}
 use Rattle.syn_tokens.specs.Tok.{Tok, ident, punct, literal, group}
 use Rattle.syn_tokens.specs.Front.{group_at, is_empty}
 use Rattle.syn_parts.specs.Text.{Text}
@@ -22,7 +23,7 @@ use Rattle.syn_grammar.specs.Stands.{is_range, is_cast, carries, compares, rests
 use Rattle.syn_grammar.specs.Tree as e
 use Rattle.syn_grammar.specs.Tree.{Tree, Leaf, Lead, Trailer, Frame, Jump, is_block_leaf, is_block_frame, is_block_like}
 use Rattle.syn_grammar.specs.Rule.{ends_range_next, jump_refuses, leaf_refuses, leaf_misplaced, lead_misplaced, frame_misplaced, is_below, is_below_statement, is_statement, is_braceless, is_brace_delimiter}
-use Rattle.syn_grammar.proofs.Bools.{or_false, both_true, neither, not_it, and_false}
+use Rattle.syn_grammar.proofs.Bools.{or_false, both_true, neither, not_it}
 use Rattle.syn_grammar.proofs.Obeys.{Fits, FitsLeft}
 use Rattle.syn_grammar.proofs.Tight.{is_calm}
 use Rattle.syn_grammar.proofs.ShownFronts.{Front, front_jump}
@@ -240,7 +241,7 @@ agrees_lead p (e.reference b) c m = agrees_calm _ (lead_context (e.reference b) 
 agrees_lead p (e.raw_addr b) c m = agrees_calm _ (lead_context (e.raw_addr b) c) m.mode refl m.brace
 agrees_lead p (e.range_to op) c m = agrees_calm _ (lead_context (e.range_to op) c) m.mode (braceless_calm _) m.brace
 agrees_lead p (e.binding x) c m = agrees_calm _ (lead_context (e.binding x) c) m.mode refl m.brace
-agrees_lead p (e.jump j) c m = agrees_calm _ (lead_context (e.jump j) c) refl (braceless_calm _) (and_false _)
+agrees_lead p (e.jump j) c m = agrees_calm _ (lead_context (e.jump j) c) refl (braceless_calm _) (and-false _)
 agrees_lead p (e.closure h) c m = agrees_calm _ (lead_context (e.closure h) c) m.mode refl m.brace
 
 front_without : (n : Next) (l : List Tok) → Front n l → Front (without_block n) l
@@ -359,7 +360,7 @@ unfolding ends_open_range
 open_end b n h k = open_rest (is_empty n) _ (dot_at n) (word_at (codes "as") n) (b && brace_at n) h k
 
 no_block : (b x : Bool) → x ≡ false → b && x ≡ true → ⊥
-no_block b x h k = clash (b && x) k (ap (λ z. b && z) h ∙ and_false b)
+no_block b x h k = clash (b && x) k (ap (λ z. b && z) h ∙ and-false b)
 
 -- a brace behind, where none is in this class
 pub range_ends : (x : Next) (b : Bool) (n : List Tok) → Front x n → is_brace_next x && b ≡ false → ends_open_range b n ≡ true → not (ends_range_next x) ≡ false

@@ -1,5 +1,6 @@
 -- The tests of a node hold for its own tokens, from the class of what is behind.
 use Rattle.std.proofs.Common.{◌≡◌, Bool, true, false, not, ◌&&◌, ◌||◌, List, [], ◌∷◌, drop, Some, None, refl, sym, ◌∙◌, ap, codes}
+use Rattle.std.proofs.Math.Bool.{and-false}
 use Rattle.syn_tokens.specs.Tok.{Tok}
 use Rattle.syn_tokens.specs.Front.{is_empty}
 use Rattle.syn_parts.specs.Tree as t
@@ -27,7 +28,7 @@ use Rattle.syn_grammar.specs.Stands.{is_try_alone, is_word_alone, ends_jump, lea
 use Rattle.syn_grammar.specs.Tree as e
 use Rattle.syn_grammar.specs.Tree.{Tree, Leaf, Lead, Post, Jump, Trailer, leaf, paren, adorned, lead, mid, post, tail, frame, post_op, post_own}
 use Rattle.syn_grammar.specs.WellFormed.{leaf_fits, lead_fits, infix_fits, post_fits}
-use Rattle.syn_grammar.proofs.Bools.{or_false, both_true, not_true, or_true, and_false, and_true}
+use Rattle.syn_grammar.proofs.Bools.{or_false, both_true, not_true, or_true, and_true}
 use Rattle.syn_grammar.proofs.HeadBack.{lead_stops, label_stops}
 use Rattle.syn_grammar.proofs.HeadLeaf.{leaf_stops}
 use Rattle.syn_grammar.proofs.Obeys.{Obeys}
@@ -144,7 +145,7 @@ nothing_first None l h = rw h refl
 nothing_first (Some w) l h = refl
 
 pub leaf_stopped : (n : Next) (k : Leaf) (l : List Tok) → Shows n l → leaf_stops k l ≡ true
-leaf_stopped n (e.path q w) l s = rw (ap (λ x. x.colon2) s.same, ap (λ x. x.bang) s.same, ap (λ x. x.pound) s.same, and_false (is_bare (q, w)), and_false (is_word_alone (codes "builtin") q w)) refl
+leaf_stopped n (e.path q w) l s = rw (ap (λ x. x.colon2) s.same, ap (λ x. x.bang) s.same, ap (λ x. x.pound) s.same, and-false (is_bare (q, w)), and-false (is_word_alone (codes "builtin") q w)) refl
 leaf_stopped n (e.bare_jump e.returning) l s = refl
 leaf_stopped n (e.bare_jump e.yielding) l s = refl
 leaf_stopped n (e.bare_jump (e.breaking w)) l s = nothing_first w l (ap (λ x. x.lifetime) s.same)
@@ -211,7 +212,7 @@ free_of_brace p c d v w b t l m g h e i = go c.condition refl
   where
     go : (x : Bool) → c.condition ≡ x → p.condition && brace_at l ≡ false
     go false j = rw (m.mode, j) refl
-    go true j = rw (e, no_brace v d t (ap is_braceless g ∙ braced_so (w && c.condition) (rw (i, j) refl)) h) (and_false p.condition)
+    go true j = rw (e, no_brace v d t (ap is_braceless g ∙ braced_so (w && c.condition) (rw (i, j) refl)) h) (and-false p.condition)
 
 -- ---- before an operand
 

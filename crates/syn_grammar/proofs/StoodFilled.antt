@@ -1,5 +1,6 @@
 -- What stands has its commas and dots: nothing is filled in.
 use Rattle.std.proofs.Common.{◌≡◌, ℕ, Bool, true, false, not, ◌||◌, ◌&&◌, cond, List, [], ◌∷◌, ◌++◌, ◌∙◌, drop, Some, None, refl, sym, subst, ap, arith}
+use Rattle.std.proofs.Math.Bool.{and-false}
 use Rattle.syn_lexer.specs.declared.lexeme.Delimiter.TheVariants as del
 use Rattle.syn_tokens.specs.Tok.{Tok, weight}
 use Rattle.syn_tokens.specs.Input.{IsTail}
@@ -166,10 +167,6 @@ holds_scrutinee (s.within d v b) = is_scrutinees v
 holds_scrutinee (s.bare v) = is_scrutinees v
 holds_scrutinee s.nothing = false
 
-and_false : (b : Bool) → (b && false) ≡ false
-and_false true = refl
-and_false false = refl
-
 never : {b : Bool} → false ≡ true → b ≡ true
 never h = absurd cc
 
@@ -196,7 +193,7 @@ mutual
   node_filled (is_mid d c f i t g r a b q) = both _ _ (node_filled d) (node_filled r)
   node_filled (is_post d c f i t b g a) = node_filled d
   node_filled (is_tail {b = b} {k = k} {is = is} d f t c i) =
-      both _ _ (subst (λ z. filled z ≡ true) (sym i) (fields_filled b is (node_filled d))) (content_filled c false never (and_false (holds_scrutinee (s.trailer_holder k))))
+      both _ _ (subst (λ z. filled z ≡ true) (sym i) (fields_filled b is (node_filled d))) (content_filled c false never (and-false (holds_scrutinee (s.trailer_holder k))))
   node_filled (is_indexed {b = b} {i = i} {is = is} d f t j) = subst (λ z. filled z ≡ true) (sym j) (fields_filled b (i ∷ is) (node_filled d))
   node_filled (is_frame {p = p} {k = k} {ks = ks} a c g) = by_frame p k ks g (content_filled c)
 

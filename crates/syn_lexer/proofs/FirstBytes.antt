@@ -1,9 +1,10 @@
 -- A word is reserved where it is one of the reserved words with its first byte.
 use Rattle.std.proofs.Common.{◌≡◌, ℕ, List, [], ◌∷◌, length, ◌<◌, ◌≤◌, slice_index_or, refl, sym, ap, subst, cond, Bool, true, false, arith}
-use Rattle.std.specs.Prelude.{◌==◌, ◌≢◌, ◌&&◌, ◌||◌}
+use Rattle.std.specs.Prelude.{◌==◌, ◌≢◌, ◌||◌}
 use Rattle.std.specs.Char.{is_ascii_lowercase}
 use Rattle.std.specs.List.{filter}
 use Rattle.std.specs.Str.{bytes_eq}
+use Rattle.std.proofs.Math.Bool.{and-false}
 use Rattle.std.proofs.lemmas.Bool.Decides.{nat_tests}
 use Rattle.syn_lexer.specs.Keywords.{reserved_words, begins_with, is_one_of, is_reserved_word}
 
@@ -37,10 +38,6 @@ goes_on (b ∷ (c ∷ w)) = is_ascii_lowercase c
 abbrev all_go_on : List (List ℕ) → Bool
 all_go_on [] = true
 all_go_on (v ∷ words) = cond (goes_on v) (all_go_on words) false
-
-and-false : (same : Bool) → (same && false) ≡ false
-and-false true = refl
-and-false false = refl
 
 not_same : (w v : List ℕ) → goes_on w ≡ false → goes_on v ≡ true → bytes_eq w v ≡ false
 not_same [] [] other this = cc

@@ -90,6 +90,7 @@ fn single(text: &[char]) -> Result<Lexeme, Refusal>
 }
 
 /// An identifier, a delimiter or a punct.
+#[inline(always)]
 fn plain(text: &[char]) -> Result<Lexeme, Refusal>
     requires { 0 < length text.now }
     ensures value { reading_of result ≡ spec.plain text.now }

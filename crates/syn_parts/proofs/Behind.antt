@@ -1,5 +1,6 @@
 -- What is behind a part: tokens that go on with nothing, and what the tests of it look at.
 use Rattle.std.proofs.Common.{◌≡◌, Bool, true, false, ◌&&◌, ◌||◌, List, [], ◌∷◌, refl, codes}
+use Rattle.std.proofs.Math.Bool.{and-false}
 use Rattle.syn_tokens.specs.Tok.{Tok, ident}
 use Rattle.syn_tokens.specs.Front.{group_at}
 use Rattle.syn_parts.specs.declared.label.PathStyle.{PathStyle}
@@ -49,10 +50,6 @@ pub or_true : (a : Bool) → (a || true) ≡ true
 or_true true = refl
 or_true false = refl
 
-pub and_false : (a : Bool) → (a && false) ≡ false
-and_false true = refl
-and_false false = refl
-
 module _ (r : List Tok) (c : Calm r) where
   name_calm : (s : PathStyle) (w : Text) → name_stops s w r ≡ true
   name_calm style.Mod w = refl
@@ -60,7 +57,7 @@ module _ (r : List Tok) (c : Calm r) where
   name_calm style.Type w = rw (c.no_angle, c.no_round, or_true (stands_alone w)) refl
 
   mac_calm : (q : QSelfTree) (ss : Segments) → mac_stops q ss r ≡ true
-  mac_calm t.no_qself ss = rw (c.no_bang, and_false (bare_segments ss)) refl
+  mac_calm t.no_qself ss = rw (c.no_bang, and-false (bare_segments ss)) refl
   mac_calm (t.qself x n a) ss = refl
 
   mutual

@@ -1,6 +1,7 @@
 -- What stands behind a part: the tests of it fail only where a part goes on.
 use Rattle.std.proofs.Common.{◌≡◌, ℕ, zero, suc, ◌<◌, Bool, true, false, not, ◌&&◌, ◌||◌, ◌==◌, nat_lt, nat_le, List, [], ◌∷◌, refl, subst, codes, arith}
 use Rattle.std.proofs.lemmas.Bool.Decides.{nat_tests}
+use Rattle.std.proofs.Math.Bool.{and-false}
 use Rattle.syn_lexer.specs.declared.lexeme.Delimiter.{Delimiter}
 use Rattle.syn_lexer.specs.declared.lexeme.Delimiter.TheVariants as del
 use Rattle.syn_lexer.specs.declared.lexeme.Spacing.{Spacing}
@@ -20,7 +21,7 @@ use Rattle.syn_parts.specs.Pat.{PatTree}
 use Rattle.syn_parts.specs.PatFits as test
 use Rattle.syn_parts.specs.Ends.{ends_types, ends_patterns, ends_open, segments_open, arguments_open, return_open, bounds_open, bound_open, begins_more, begins_more_patterns, PartsEnd, TypesEndAt, PatternsEndAt}
 use Rattle.syn_parts.proofs.Same.{both_true, not_true}
-use Rattle.syn_parts.proofs.Behind.{Calm, and_false, or_true, type_calm, segments_calm}
+use Rattle.syn_parts.proofs.Behind.{Calm, or_true, type_calm, segments_calm}
 use Rattle.syn_parts.proofs.PatsBack.{PatCalm, single_calm}
 
 pub either_false : (a b : Bool) → (a || b) ≡ false → (a ≡ false) × (b ≡ false)
@@ -80,7 +81,7 @@ module _ (r : List Tok) (h : lt.at r ≡ true) where
   angle_there = rw h refl
 
   mac_less : (q : QSelfTree) (ss : Segments) → mac_stops q ss r ≡ true
-  mac_less t.no_qself ss = rw (no_bang, and_false (bare_segments ss)) refl
+  mac_less t.no_qself ss = rw (no_bang, and-false (bare_segments ss)) refl
   mac_less (t.qself x n a) ss = refl
 
   name_less : (b : Bool) → (b || (not (angle_at r) && not (round_at r))) ≡ not (not b)
@@ -104,8 +105,8 @@ module _ (r : List Tok) (h : lt.at r ≡ true) where
     type_less b t.never = refl
     type_less b t.infer = refl
     type_less b (t.fn_ptr f u a xs e z) = return_less z
-    type_less b (t.impl_trait bs e) = rw (no_other 43 [] refl, and_false b, and_true (bounds_stop bs r)) (bounds_less bs)
-    type_less b (t.trait_object bs e) = rw (no_other 43 [] refl, and_false b, and_true (bounds_stop bs r)) (bounds_less bs)
+    type_less b (t.impl_trait bs e) = rw (no_other 43 [] refl, and-false b, and_true (bounds_stop bs r)) (bounds_less bs)
+    type_less b (t.trait_object bs e) = rw (no_other 43 [] refl, and-false b, and_true (bounds_stop bs r)) (bounds_less bs)
 
     segments_less : (ss : Segments) → segments_stop style.Type ss r ≡ not (segments_open ss)
     segments_less t.no_segments = refl

@@ -1,5 +1,6 @@
 -- Before nothing, a part is read back exactly where it passes its test.
 use Rattle.std.proofs.Common.{◌≡◌, Bool, true, not, List, [], Option, Some, None, refl}
+use Rattle.std.proofs.Math.Bool.{and-false}
 use Rattle.syn_lexer.specs.Keywords.{is_reserved_word}
 use Rattle.syn_tokens.specs.Tok.{Tok}
 use Rattle.syn_parts.specs.declared.label.PathStyle.{PathStyle}
@@ -15,7 +16,7 @@ use Rattle.syn_parts.specs.Own.{word_own, lit_own, lifetimes_own, macro_own, pat
 use Rattle.syn_tokens.specs.Front.{group_at}
 use Rattle.syn_parts.specs.Fits.{is_word, after_name_stops, abi_stops, generic_stops, arg_stops_by, path_stops, output_stops, type_stops}
 use Rattle.syn_parts.specs.Laws.{FitsWhereReadBack, IsTestOf, PartsAreReadBack, PartsThatAreReadBackFit, TestsAreExact}
-use Rattle.syn_parts.proofs.Behind.{and_false, nil_calm, type_calm, segments_calm, arguments_calm, return_calm, bound_calm}
+use Rattle.syn_parts.proofs.Behind.{nil_calm, type_calm, segments_calm, arguments_calm, return_calm, bound_calm}
 use Rattle.syn_parts.proofs.Whole.{parts_read_back}
 use Rattle.syn_parts.proofs.WholeTold.{parts_told}
 
@@ -31,7 +32,7 @@ told = parts_told
 
 pub type_none : (b : Bool) (x : TypeTree) → type_stops b x [] ≡ true
 unfolding sign_at
-type_none b x = type_calm [] nil_calm b x (and_false b)
+type_none b x = type_calm [] nil_calm b x (and-false b)
 
 path_none : (s : PathStyle) (p : PathTree) → path_stops s p [] ≡ true
 unfolding sign_at
@@ -50,12 +51,12 @@ unfolding sign_at
 generic_none (t.a_lifetime w) = refl
 generic_none (t.a_const ts) = refl
 generic_none (t.an_assoc w x) = type_none true x
-generic_none (t.a_type x) = rw (type_none true x, and_false (is_word (λ w. not (is_reserved_word w)) x)) refl
+generic_none (t.a_type x) = rw (type_none true x, and-false (is_word (λ w. not (is_reserved_word w)) x)) refl
 
 arg_none : (w : Option Text) (x : TypeTree) → arg_stops_by w x [] ≡ true
 unfolding sign_at
 arg_none (Some w) x = type_none true x
-arg_none None x = rw (type_none true x, and_false (is_word is_arg_name x)) refl
+arg_none None x = rw (type_none true x, and-false (is_word is_arg_name x)) refl
 
 abi_none : (o : Option LitTree) → abi_stops o [] ≡ true
 unfolding string_at

@@ -1,7 +1,8 @@
 -- The first tokens of a type that fits, and how the choice between the kinds of types sees them.
-use Rattle.std.proofs.Common.{◌≡◌, ℕ, Bool, true, false, not, ◌&&◌, ◌==◌, List, ◌∷◌, Option, Some, None, refl, sym, subst, codes}
+use Rattle.std.proofs.Common.{◌≡◌, ℕ, Bool, true, false, not, ◌==◌, List, ◌∷◌, Option, Some, None, refl, sym, subst, codes}
 use Rattle.std.proofs.lemmas.Slice.Eq.{bytes_eq-Decides}
 use Rattle.std.specs.Str.{bytes_eq}
+use Rattle.std.proofs.Math.Bool.{and-false}
 use Rattle.syn_lexer.specs.Keywords.{is_reserved_word}
 use Rattle.syn_lexer.specs.declared.lexeme.Delimiter.TheVariants as del
 use Rattle.syn_parts.specs.declared.label.PathStyle.TheVariants as style
@@ -145,10 +146,6 @@ gt_word : (w : Text) (m : List Tok) → gt.at (ident w ∷ m) ≡ false
 unfolding sign_at
 gt_word w m = refl
 
-and_false : (a : Bool) → (a && false) ≡ false
-and_false true = refl
-and_false false = refl
-
 path_word : (w : Text) (l m r : List Tok) → is_segment w ≡ true → l ≡ ident w ∷ m → (eq.at r ≡ false → eq.at m ≡ false) → (lone_colon.at r ≡ false → lone_colon.at m ≡ false) → Front l r
 unfolding lifetime_at word_at const_at brace_at group_at assoc_at arg_name_at
 path_word w l m r h d p q = subst (λ z. Front z r) (sym d) (record {
@@ -157,8 +154,8 @@ path_word w l m r h d p q = subst (λ z. Front z r) (sym d) (record {
   no_mut = rw (word_not w (codes "mut") h not_mut) refl;
   no_const = rw (no_truth w h) refl;
   no_gt = gt_word w m;
-  no_assoc = λ e. rw (p e) (and_false _);
-  no_name = λ e. rw (q e) (and_false _);
+  no_assoc = λ e. rw (p e) (and-false _);
+  no_name = λ e. rw (q e) (and-false _);
 })
 
 segments_front : (e : Bool) (ss : Segments) (r : List Tok) → e ≡ false → no_more_segments ss ≡ false → segments_fit 0 style.Type ss ≡ true → Front (segments_own 0 ss e r) r

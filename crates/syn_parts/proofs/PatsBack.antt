@@ -4,6 +4,7 @@ use Rattle.std.proofs.lemmas.Bool.Decides.{nat_tests}
 use Rattle.std.proofs.lemmas.Slice.Eq.{bytes_eq-Decides}
 use Rattle.syn_parts.specs.PatOwn.{index_text}
 use Rattle.std.specs.Str.{bytes_eq}
+use Rattle.std.proofs.Math.Bool.{and-false}
 use Rattle.syn_lexer.specs.Keywords.{is_reserved_word}
 use Rattle.syn_lexer.specs.declared.lexeme.Delimiter.TheVariants as del
 use Rattle.syn_tokens.specs.Tok.{Tok, ident, literal, toks-inside}
@@ -64,10 +65,6 @@ vert_pat_calm : (l : List Tok) → PatCalm (alone 124 ∷ l)
 unfolding p.bound_at sign_at brace_at group_at
 vert_pat_calm l = record { calm = vert_calm l; no_bound = refl; no_dots = refl; no_at = refl; no_brace = refl }
 
-and_false : (a : Bool) → (a && false) ≡ false
-and_false true = refl
-and_false false = refl
-
 module _ (r : List Tok) (c : PatCalm r) where
   path_calm : (s : PathStyle) (z : PathTree) → path_stops s z r ≡ true
   path_calm s z = let k = c.calm in rw (segments_calm r k s (t.segments_of z.segments), k.no_colon2) refl
@@ -81,7 +78,7 @@ module _ (r : List Tok) (c : PatCalm r) where
   bound_calm (Some (p.path_bound q z)) = path_calm style.Expr z
 
   path_pat_calm : (q : QSelfTree) (z : PathTree) → test.path_pat_stops q z r ≡ true
-  path_pat_calm t.no_qself z = let k = c.calm in rw (k.no_bang, and_false (segments_bare z.segments), c.no_brace, k.no_round) refl
+  path_pat_calm t.no_qself z = let k = c.calm in rw (k.no_bang, and-false (segments_bare z.segments), c.no_brace, k.no_round) refl
   path_pat_calm (t.qself x n a) z = refl
 
   bare_calm : (s : SubPat) → test.not_bare s r ≡ true
@@ -386,7 +383,7 @@ unfolding p.binding_at word_at
 word_no_binding w m h k = rw (word_not w (codes "ref") h not_ref, word_not w (codes "mut") h not_mut) k
 
 goes_no_binding : (w : Text) (m : List Tok) → p.goes_on m ≡ true → (not (is_reserved_word w) && not (p.goes_on m)) ≡ false
-goes_no_binding w m h = rw h (and_false (not (is_reserved_word w)))
+goes_no_binding w m h = rw h (and-false (not (is_reserved_word w)))
 
 -- what stands behind a name that has arguments, or before another segment
 arguments_go : (a : ArgumentsTree) (l : List Tok) → arguments_fit style.Expr a ≡ true → has_none a ≡ false → p.goes_on (arguments_own a l) ≡ true
@@ -587,7 +584,7 @@ module _ (r : List Tok) where
       ∙ rw (read_back.qualified_paths style.Expr (q, z) (o.limits_before c (before_some e o.range_bound_own r)) f (dots_stop c (before_some e o.range_bound_own r) z)) (more q)
     where
       more : (q : QSelfTree) → (p.path_end p.pattern (q, z)).behind (p.range_more c e) (o.limits_before c (before_some e o.range_bound_own r)) ≡ Some r
-      more t.no_qself = rw (dots_no_bang c (before_some e o.range_bound_own r), and_false (segments_bare z.segments), dots_no_brace c (before_some e o.range_bound_own r), dots_no_round c (before_some e o.range_bound_own r), limits_dots c (before_some e o.range_bound_own r)) (end_back c e r g s)
+      more t.no_qself = rw (dots_no_bang c (before_some e o.range_bound_own r), and-false (segments_bare z.segments), dots_no_brace c (before_some e o.range_bound_own r), dots_no_round c (before_some e o.range_bound_own r), limits_dots c (before_some e o.range_bound_own r)) (end_back c e r g s)
       more (t.qself x n a) = rw (limits_dots c (before_some e o.range_bound_own r)) (end_back c e r g s)
 
   mac_step : (m : MacroTree) → path_fits style.Expr m.path ≡ true → segments_bare m.path.segments ≡ true → is_macro_delimiter m.delimiter ≡ true
@@ -604,7 +601,7 @@ module _ (r : List Tok) where
   struct_step z fs e d ts f h =
       path_single (p.a_struct z fs e d) (path_starts style.Expr t.no_qself z.leading z.trailing z.segments (enclosed del.Brace ts r) f)
       (path_no_binding t.no_qself z.leading z.trailing z.segments (enclosed del.Brace ts r) f (rw (brace_goes ts r) (or_true (not (test.is_one_name t.no_qself z)))))
-      ∙ rw (bare_path z (enclosed del.Brace ts r) f (brace_no_turbofish ts r) (brace_no_colon2 ts r), brace_no_bang ts r, and_false (segments_bare z.segments), brace_seen ts r) (brace_inside ts r fs e d h)
+      ∙ rw (bare_path z (enclosed del.Brace ts r) f (brace_no_turbofish ts r) (brace_no_colon2 ts r), brace_no_bang ts r, and-false (segments_bare z.segments), brace_seen ts r) (brace_inside ts r fs e d h)
 
   tuple_struct_step : (z : PathTree) (ps : Pats) (e : Bool) (ts : List Tok) → path_fits style.Expr z ≡ true → (listed comma is_empty (p.pattern true)).behind (p.pats ps, e) ts ≡ Some []
       → (p.single p.pattern).behind (p.tuple_struct z ps e) (path_own z (enclosed del.Parenthesis ts r)) ≡ Some r
@@ -612,7 +609,7 @@ module _ (r : List Tok) where
   tuple_struct_step z ps e ts f h =
       path_single (p.tuple_struct z ps e) (path_starts style.Expr t.no_qself z.leading z.trailing z.segments (enclosed del.Parenthesis ts r) f)
       (path_no_binding t.no_qself z.leading z.trailing z.segments (enclosed del.Parenthesis ts r) f (rw (round_goes ts r) (or_true (not (test.is_one_name t.no_qself z)))))
-      ∙ rw (bare_path z (enclosed del.Parenthesis ts r) f (round_no_turbofish ts r) (round_no_colon2 ts r), round_no_bang ts r, and_false (segments_bare z.segments), round_no_brace ts r, round_seen ts r) (round_inside ts r ps e h)
+      ∙ rw (bare_path z (enclosed del.Parenthesis ts r) f (round_no_turbofish ts r) (round_no_colon2 ts r), round_no_bang ts r, and-false (segments_bare z.segments), round_no_brace ts r, round_seen ts r) (round_inside ts r ps e h)
 
 -- ---- attributes and fields
 
@@ -651,7 +648,7 @@ short_not_full : (b m : Bool) (w : Text) (l : List Tok) → colon.at l ≡ false
 unfolding p.full_at is_reserved_word sign_at
 short_not_full true m w l h = refl
 short_not_full false true w l h = refl
-short_not_full false false w l h = rw h (and_false _)
+short_not_full false false w l h = rw h (and-false _)
 
 full_seen : (k : MemberTree) (z : PatTree) (l : List Tok) → test.member_fits k ≡ true → p.full_at (o.member_own k (alone 58 ∷ l)) ≡ true
 unfolding p.full_at sign_at

@@ -49,15 +49,11 @@ pub(crate) fn chars_of(alloc: Global, text: &str) -> Result<Vec<char>>
     Ok(text.chars().collect::<Vec<char>>(alloc)?)
 }
 
-/// The place behind some characters that stand at a place, of which it may be known that each takes one byte.
-fn past(is_narrow: bool, at: usize, z: &[char]) -> usize
-    requires small { at + length (encode_utf8_all z.now) < 2 ^ 64 }
-    requires narrow { is_narrow ≡ true → length (encode_utf8_all z.now) ≡ length z.now }
+/// The place behind some characters that stand at a place.
+fn past(at: usize, z: &[char]) -> usize
+    requires { at + length (encode_utf8_all z.now) < 2 ^ 64 }
     ensures { result ≡ at + length (encode_utf8_all z.now) }
 {
-    if is_narrow {
-        return at + z.len();
-    }
     let mut end = at;
     let mut rest = z;
     while let [c, more @ ..] = rest {
@@ -65,6 +61,15 @@ fn past(is_narrow: bool, at: usize, z: &[char]) -> usize
         rest = more;
     }
     end
+}
+
+/// As `past`, of characters of which it may be known that each takes one byte.
+fn past_read(is_narrow: bool, at: usize, z: &[char]) -> usize
+    requires small { at + length (encode_utf8_all z.now) < 2 ^ 64 }
+    requires narrow { is_narrow ≡ true → length (encode_utf8_all z.now) ≡ length z.now }
+    ensures { result ≡ at + length (encode_utf8_all z.now) }
+{
+    if is_narrow { at + z.len() } else { past(at, z) }
 }
 
 fn refusal(lo: usize, hi: usize, error: LexError) -> Error
@@ -83,7 +88,7 @@ fn refused_front(at: usize, rest: &[char], refused: Refusal) -> Error
     ensures { result.kind ≡ ErrorKind.Lex refused.error }
 {
     let (read, _) = rest.split_at(refused.len);
-    refusal(at, past(false, at, read), refused.error)
+    refusal(at, past(at, read), refused.error)
 }
 
 /// What was read: the groups that are open, each behind the trees before it, and the trees behind the last opening
@@ -132,7 +137,7 @@ impl Nest {
         ensures err { IfErr result (λ e. e.kind ≡ ErrorKind.OutOfMemory) }
     {
         let (mark, _) = read.split_at(1);
-        let behind = past(false, span.lo, mark);
+        let behind = past(span.lo, mark);
         self.leaf(TokenTree::Punct(Punct {
             ch: '\'',
             spacing: Spacing::Joint,
@@ -262,7 +267,7 @@ fn lex_chars(alloc: Global, text: &RcStr<Global>, all: &[char]) -> Result<TokenS
             Err(e) => return Err(refused_front(at, rest, e)),
         };
         let (read, behind) = rest.split_at(lexeme.len);
-        let end = past(is_narrow, at, read);
+        let end = past_read(is_narrow, at, read);
         if let Err(e) = nest.take(text, lexeme.kind, read, Span { lo: at, hi: end }) {
             return Err(e);
         }

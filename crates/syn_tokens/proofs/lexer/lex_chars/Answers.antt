@@ -27,7 +27,7 @@ loop-rest-preserved c =
       pieces_are = rw (c.split_at.ensures.back, c.in_default.ensures.ok, c.split_at.ensures.front)
           (so_far_more c.args.all.now c.loop-rest.rest.now (nest_pieces c.loop-rest.nest) c.in-Ok.lexeme.kind c.in-Ok.lexeme.len
           c.loop-rest.invariant.pieces_are more c.in-Ok.ensures.within.0 c.in-Ok.ensures.value);
-      left = rw (c.past-end.ensures, c.split_at.ensures.front, c.split_at.ensures.back) (next_left (rc_str_bytes c.args.text.now) c.loop-rest.at c.in-Ok.lexeme.len c.loop-rest.rest.now c.loop-rest.invariant.left);
+      left = rw (c.past_read-end.ensures, c.split_at.ensures.front, c.split_at.ensures.back) (next_left (rc_str_bytes c.args.text.now) c.loop-rest.at c.in-Ok.lexeme.len c.loop-rest.rest.now c.loop-rest.invariant.left);
       narrow_left = rw c.split_at.ensures.back (next_narrow _ c.in-Ok.lexeme.len c.loop-rest.rest.now c.loop-rest.invariant.narrow_left).1;
       refusal_is = rw c.split_at.ensures.back
           (c.loop-rest.invariant.refusal_is
@@ -82,15 +82,15 @@ returns-clause-kind c =
     let is = c.loop-rest.invariant.refusal_is ∙ refusal_end (delimiters_of c.loop-rest.nest) c.loop-rest.rest.now none in
     rw is (finished (refusal_at_end (delimiters_of c.loop-rest.nest)) c.finish.result c.finish.ensures.kind)
 
-pub past-end-requires-clause-small : goal.past-end-requires-clause-small
-past-end-requires-clause-small c =
+pub past_read-end-requires-clause-small : goal.past_read-end-requires-clause-small
+past_read-end-requires-clause-small c =
     let size = next_size (rc_str_bytes c.args.text.now) c.loop-rest.at c.in-Ok.lexeme.len c.loop-rest.rest.now c.loop-rest.invariant.left in
     let small = c.len.type_inv in
     let same = c.len.ensures in
     rw c.split_at.ensures.front (omega arith)
 
 pub take-requires-clause-stands : goal.take-requires-clause-stands
-take-requires-clause-stands c = rw (c.past-end.ensures, c.split_at.ensures.front) (next_stand (rc_str_bytes c.args.text.now) c.loop-rest.at c.in-Ok.lexeme.len c.loop-rest.rest.now c.loop-rest.invariant.left)
+take-requires-clause-stands c = rw (c.past_read-end.ensures, c.split_at.ensures.front) (next_stand (rc_str_bytes c.args.text.now) c.loop-rest.at c.in-Ok.lexeme.len c.loop-rest.rest.now c.loop-rest.invariant.left)
 
 pub refused_front-requires-clause-small : goal.refused_front-requires-clause-small
 refused_front-requires-clause-small c =
@@ -99,5 +99,5 @@ refused_front-requires-clause-small c =
     let same = c.len.ensures in
     omega arith
 
-pub past-end-requires-clause-narrow : goal.past-end-requires-clause-narrow
-past-end-requires-clause-narrow c = rw c.split_at.ensures.front (next_narrow _ c.in-Ok.lexeme.len c.loop-rest.rest.now c.loop-rest.invariant.narrow_left).0
+pub past_read-end-requires-clause-narrow : goal.past_read-end-requires-clause-narrow
+past_read-end-requires-clause-narrow c = rw c.split_at.ensures.front (next_narrow _ c.in-Ok.lexeme.len c.loop-rest.rest.now c.loop-rest.invariant.narrow_left).0

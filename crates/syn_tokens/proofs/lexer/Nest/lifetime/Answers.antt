@@ -13,8 +13,8 @@ use Rattle.syn_tokens.proofs.lexer.Nest.lifetime.Goals as goal
 name_stands : (bytes : List ℕ) (lo hi : ℕ) (read : List ℕ) → StandAt bytes lo hi read → StandAt bytes (lo + length (encode_utf8_all (take 1 read))) hi (drop 1 read)
 name_stands bytes lo hi read s = stand_behind bytes lo hi (take 1 read) (drop 1 read) (rw (take-append-drop 1 read) s)
 
-pub past-behind-requires-clause-small : goal.past-behind-requires-clause-small
-past-behind-requires-clause-small c =
+pub past-behind-requires : goal.past-behind-requires
+past-behind-requires c =
     let order = stand_in_order (rc_str_bytes c.args.text.now) _ c.args.span.hi (drop 1 c.args.read.now) (name_stands (rc_str_bytes c.args.text.now) c.args.span.lo c.args.span.hi c.args.read.now c.requires.stands) in
     rw c.split_at.ensures.front (omega arith)
 
