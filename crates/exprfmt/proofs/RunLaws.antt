@@ -87,7 +87,7 @@ regroup a b c d e f g =
     ∙ append_assoc (a ++ b) c (d ++ (e ++ (f ++ g))) ∙ append_assoc a b (c ++ (d ++ (e ++ (f ++ g)))) in
     sym whole
 
-memory_line : codes "refused at 0..0: out of memory" ++ 10 ∷ [] ≡ line out_of_memory
+pub memory_line : codes "refused at 0..0: out of memory" ++ 10 ∷ [] ≡ line out_of_memory
 memory_line = rw (decimal_digit 0 (omega arith)) refl
 
 pub reports_refusal : (f : Fault) (e : Error) (errors : Writer) (text : List ℕ) → f ≡ Refused e → Takes errors text → text ≡ line (refused e) → Reports (outcome_of f) errors

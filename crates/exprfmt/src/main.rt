@@ -3,9 +3,9 @@
 //! a block, or as the body of a match arm. With `bare` it first loses the parentheses that it has, so that those alone
 //! stand which it needs.
 //!
-//! Status 0: the printed line is on standard output. Status 1: the input was refused, or reading or writing failed;
-//! one line on standard error says so. Status 2: the arguments are no words of the program; the usage stands on
-//! standard error.
+//! Status 0: the printed line is on standard output. Status 1: the input was refused, memory ran out, or reading or
+//! writing failed; one line on standard error says so. Status 2: the arguments are no words of the program; the usage
+//! stands on standard error.
 #![tactic(auto)]
 
 mod run;
@@ -15,8 +15,7 @@ mod tables;
 mod tests;
 mod watched;
 
-use run::{is_bare, named, run, usage};
-use std::env::Env;
+use run::{args_failed, is_bare, named, run, usage};
 use std::process::ExitCode;
 use std::{env, io};
 use syn_expr::position::Position;
@@ -24,23 +23,25 @@ use watched::Watched;
 
 fn main(rt: HostRuntime) -> ExitCode {
     let mut errors = Watched::new(rt.stderr());
-    let status = match asked(&rt) {
-        Some((position, bare)) => run(
-            rt.alloc(),
-            position,
-            bare,
-            &mut Watched::new(rt.reader()),
-            &mut Watched::new(io::writer(&rt)),
-            &mut errors,
-        ),
-        None => usage(&mut errors),
+    let status = match env::args(&rt) {
+        Ok(args) => match asked(args) {
+            Some((position, bare)) => run(
+                rt.alloc(),
+                position,
+                bare,
+                &mut Watched::new(rt.reader()),
+                &mut Watched::new(io::writer(&rt)),
+                &mut errors,
+            ),
+            None => usage(&mut errors),
+        },
+        Err(e) => args_failed(&mut errors, &e),
     };
     ExitCode::from(status)
 }
 
 /// What the arguments ask for: the position, and whether `bare` stands behind it.
-fn asked(rt: &(impl Env + Alloc)) -> Option<(Position, bool)> {
-    let mut args = env::args(rt).ok()?;
+fn asked(mut args: env::Args) -> Option<(Position, bool)> {
     let _ = args.next()?;
     let position = named(args.next()?.as_str())?;
     let bare = match args.next() {

@@ -208,3 +208,17 @@ pub fn usage<E: Write>(errors: &mut Watched<E>) -> u8
     let _ = errors.write_all(b"usage: exprfmt plain|stmt|cond|arm [bare]\n");
     2
 }
+
+/// Writes to `errors` why the arguments could not be taken: that memory ran out, with status 1; or the usage, with that
+/// of `usage`, where one of them is no UTF-8 and so no word of the program.
+pub fn args_failed<E: Write>(errors: &mut Watched<E>, e: &io::Error) -> u8
+    ensures memory { error_kind e.now ≡ OutOfMemory → (result ≡ 1) × spec.Takes (spec.writer (E.contents errors.old.inner) errors.new.failed (E.contents errors.new.inner)) (spec.line spec.out_of_memory) }
+    ensures other { error_kind e.now ≢ OutOfMemory → (result ≡ 2) × spec.Takes (spec.writer (E.contents errors.old.inner) errors.new.failed (E.contents errors.new.inner)) spec.usage }
+{
+    if e.kind() == io::ErrorKind::OutOfMemory {
+        let _ = errors.write_all(b"refused at 0..0: out of memory\n");
+        1
+    } else {
+        usage(errors)
+    }
+}

@@ -285,6 +285,40 @@ plain ~ S { ..b c } ~ refused at 8..9: unexpected token
 plain ~ S { .. , } ~ refused at 7..8: expected an expression
 plain ~ x[] ~ refused at 2..3: expected an expression
 plain ~ x[a b] + y[c d] ~ refused at 4..5: unexpected token
+plain ~ x as + ~ refused at 5..6: expected a type
+plain ~ a::<+> ~ refused at 4..5: expected a type
+plain ~ a.b::<+>() ~ refused at 6..7: expected a type
+plain ~ |x: +| x ~ refused at 4..5: expected a type
+plain ~ |x| -> + {} ~ refused at 7..8: expected a type
+plain ~ [0; 1] as [+] ~ refused at 11..12: expected a type
+plain ~ x as &if ~ refused at 6..8: expected a type
+plain ~ <+>::b ~ refused at 1..2: expected a type
+plain ~ <T as +>::b ~ refused at 6..7: expected a path
+plain ~ x as ::+ ~ refused at 7..8: expected a path
+plain ~ x as dyn + ~ refused at 9..10: expected a path
+plain ~ let = 1 ~ refused at 4..5: expected a pattern
+plain ~ let (a, +) = b ~ refused at 8..9: expected a pattern
+plain ~ let x @ = 1 ~ refused at 8..9: expected a pattern
+plain ~ let A { b: } = c ~ refused at 11..12: expected a pattern
+plain ~ let a:: = b ~ refused at 8..9: expected a path
+plain ~ let 1..= = b ~ refused at 9..10: expected a path
+plain ~ |+| a ~ refused at 1..2: expected a pattern
+plain ~ for in x {} ~ refused at 4..6: expected a pattern
+plain ~ match x { => 1 } ~ refused at 10..11: expected a pattern
+plain ~ match x { a | => 1 } ~ refused at 14..15: expected a pattern
+plain ~ try ~ refused at 0..3: expected an expression
+plain ~ (try) ~ refused at 1..4: expected an expression
+plain ~ return try ~ refused at 7..10: expected an expression
+plain ~ try.x ~ refused at 0..3: expected an expression
+plain ~ try = 1 ~ refused at 0..3: expected an expression
+plain ~ a.b::c ~ refused at 5..6: expected `<`
+plain ~ a.b:: ~ refused at 5..5: expected `<`
+plain ~ a.b::<c>::d ~ refused at 8..9: expected `(`
+plain ~ a.b::<c> ~ refused at 8..8: expected `(`
+plain ~ builtin # (x) ~ refused at 10..13: expected identifier
+plain ~ builtin # if (x) ~ refused at 10..12: expected identifier
+plain ~ builtin # a [x] ~ refused at 12..15: expected `(`
+plain ~ builtin # ~ refused at 9..9: expected identifier
 plain bare ~ ~ refused at 0..0: expected an expression
 plain bare ~ a b ~ refused at 2..3: unexpected token
 plain bare ~ (a b) ~ refused at 3..4: expected `,`

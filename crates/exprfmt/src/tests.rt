@@ -1,6 +1,6 @@
 //! Runs over memory: rows of input and answer, the texts of refusals, and reads and writes that fail.
 
-use crate::run::{is_bare, named, run, usage};
+use crate::run::{args_failed, is_bare, named, run, usage};
 use crate::tables::{BARE, PRINTED, REFUSED};
 use crate::watched::Watched;
 use std::alloc::Global;
@@ -372,6 +372,21 @@ fn writes_the_usage(rt: HostRuntime) {
     let mut errors = Vec::new(rt.alloc());
     let status = usage(&mut Watched::new(&mut errors));
     assert_eq!(rt; status, 2);
+    assert_eq!(rt;
+        errors.as_slice(),
+        &b"usage: exprfmt plain|stmt|cond|arm [bare]\n"[..]
+    );
+}
+
+#[test]
+fn says_why_there_are_no_arguments(rt: HostRuntime) {
+    let mut errors = Vec::new(rt.alloc());
+    let refused = io::ErrorKind::OutOfMemory.into();
+    assert_eq!(rt; args_failed(&mut Watched::new(&mut errors), &refused), 1);
+    assert_eq!(rt; errors.as_slice(), &b"refused at 0..0: out of memory\n"[..]);
+    let mut errors = Vec::new(rt.alloc());
+    let no_utf8 = io::ErrorKind::InvalidData.into();
+    assert_eq!(rt; args_failed(&mut Watched::new(&mut errors), &no_utf8), 2);
     assert_eq!(rt;
         errors.as_slice(),
         &b"usage: exprfmt plain|stmt|cond|arm [bare]\n"[..]

@@ -16,7 +16,7 @@ use Rattle.syn_grammar.specs.Notes.{note_of, adorned_note, lead_note, mid_note, 
 use Rattle.syn_grammar.specs.Op.{level}
 use Rattle.syn_grammar.specs.Rule.{is_operation, put, piece_put, bare, bare_kids, place_asks, left_asks, base_asks, lead_asks, is_chainable, is_plain_block, chained_bare}
 use Rattle.syn_grammar.specs.Tree as e
-use Rattle.syn_grammar.specs.Tree.{Tree, Kids, Lead, Trailer, Piece, Ending, leaf, paren, adorned, lead, mid, post, tail, frame, none, kid, own, kids_own, own_tokens, clear, clear_kids, plain_block, post_op, is_silent, lead_own, infix_own, post_own, trailer_own, framed, enclosure, behind_operands, inside_of, ending_own, piece_own}
+use Rattle.syn_grammar.specs.Tree.{Tree, Kids, Lead, Trailer, Piece, Ending, leaf, paren, adorned, lead, mid, post, tail, frame, none, kid, outers, own, kids_own, own_tokens, clear, clear_kids, plain_block, post_op, is_silent, lead_own, infix_own, post_own, trailer_own, framed, enclosure, behind_operands, inside_of, ending_own, piece_own}
 use Rattle.syn_grammar.proofs.NoteLemmas.{notes_are_right}
 use Rattle.syn_grammar.proofs.Unclear.{operation_clear}
 
@@ -40,7 +40,7 @@ mutual
   pub own_clear : (t : Tree) (r : List Tok) → own (clear t) r ≡ own t r
   own_clear (leaf k) r = refl
   own_clear (paren m t) r = ap (λ (l : List Tok). o.enclosed del.Parenthesis l r) (own_clear t [])
-  own_clear (adorned a more t) r = ap (attributes_own (a ∷ more)) (own_clear t r)
+  own_clear (adorned a more t) r = ap (attributes_own (outers (a ∷ more))) (own_clear t r)
   own_clear (lead k gs t) r = ap (lead_own k) (own_clear t r)
   own_clear (mid x k y) r = own_clear x (infix_own k (own (clear y) r)) ∙ ap (λ (l : List Tok). own x (infix_own k l)) (own_clear y r)
   own_clear (post x k) r = own_clear x (post_own k r)

@@ -28,7 +28,7 @@ stands_back s t w = (
 )
 
 pub is_own : (t : Tree) → IsOwn t (own_tokens (printed enclosed t))
-is_own t l d a = ap own_tokens (own_spelling t l d a)
+is_own t l d = ap own_tokens (own_spelling.pairs_alone t l d)
 
 needless : (s : Position) (t : Tree) (r : List Tok) → is_well_formed t ≡ true → plainly_adorned t ≡ true → is_sparing s ≡ true → allows s r ≡ true
     → (clear (printed_in s t) ≡ clear (fill t)) ↔ Stands (place_of s) (own (fill t) r) (clear (fill t)) r

@@ -2,7 +2,7 @@
 use Rattle.std.specs.Prelude.{◌≡◌, ◌↔◌, ◌++◌, true, List, []}
 use Rattle.syn_tokens.specs.Tok.{Tok}
 use Rattle.syn_grammar.specs.Place.{plain}
-use Rattle.syn_grammar.specs.Printed.{Position, in_plain, place_of, allows, is_sparing, plainly_adorned, printed_in}
+use Rattle.syn_grammar.specs.Printed.{Position, in_plain, place_of, allows, is_sparing, plainly_adorned, parenthesize_attributed, printed_in}
 use Rattle.syn_grammar.specs.Sparing.{OneLess}
 use Rattle.syn_grammar.specs.Stands.{Stands}
 use Rattle.syn_grammar.specs.Tree.{Tree, own, own_tokens, clear, fill, IsSameTree}
@@ -18,9 +18,10 @@ abbrev pub StandsBack : Position → Tree → List Tok → Type 0
 StandsBack s t ts =
     is_well_formed t ≡ true → (x : Tree) × IsSameTree t x × ((rest : List Tok) → allows s rest ≡ true → Stands (place_of s) (ts ++ rest) x rest)
 
--- Of a tree that stands for some list, with no attributes on operations, they are its own spelling.
+-- Of a tree that stands for some list, they are its own spelling, but for a pair of parentheses round each operation that has
+-- attributes.
 abbrev pub IsOwn : Tree → List Tok → Type 0
-IsOwn t ts = (l : List Tok) → Stands plain l t [] → plainly_adorned t ≡ true → ts ≡ own_tokens t
+IsOwn t ts = (l : List Tok) → Stands plain l t [] → ts ≡ own_tokens (parenthesize_attributed t)
 
 -- p is t as it is printed; the pairs that were added are marked.
 pub record Spares (s : Position) (t p : Tree) : Type 0 where

@@ -30,7 +30,7 @@ pub fn print_expr(expr: &Expr, tokens: &mut TokenStream, fixup: FixupContext) ->
 
     // In the position that this is, they stand for the same tree.
     ensures back { OnOk result ((s : Position) → fixup.context ≡ context_of s → Puts tokens.old tokens.new (StandsBack s (tree_of expr.now))) }
-    // What stands for some list is written as its own spelling.
+    // What stands for some list is written as its own spelling, but for a pair round each operation that has attributes.
     ensures own { OnOk result (fixup.context ≡ enclosed → Puts tokens.old tokens.new (IsOwn (tree_of expr.now))) }
     // No parentheses are added needlessly, and none of them can be left out.
     ensures sparing { OnOk result ((s : Position) → fixup.context ≡ context_of s → Puts tokens.old tokens.new (IsSparing s (tree_of expr.now))) }

@@ -1,6 +1,8 @@
 -- The attributes of each kind, and others in their place.
-use Rattle.std.proofs.Common.{◌≡◌, Bool, true, false, cond, List, [], ◌∷◌, ◌++◌, map, Option, Some, None, refl, ap, sym, ◌∙◌}
-use Rattle.std.proofs.lemmas.List.{append-nil}
+use Rattle.std.specs.Prelude.{◌-◌, take}
+use Rattle.std.proofs.Common.{◌≡◌, List, [], ◌∷◌, ◌++◌, length, map, Option, Some, None, refl, ap, sym, ◌∙◌, arith}
+use Rattle.std.proofs.lemmas.List.{append-nil, take_all}
+use Rattle.syn_expr_kinds.proofs.Attributes.{all_parts}
 use Rattle.std.specs.declared.vec.Vec.{Vec}
 use Rattle.std.specs.declared.alloc.Global.{Global}
 use Rattle.syn_parts.specs.Tree.{AttributeTree, ReturnTree, default, given}
@@ -8,38 +10,18 @@ use Rattle.syn_lower_leaves.specs.View.{attribute_of}
 use Rattle.syn_lower_leaves.specs.declared.attr.Attribute.{Attribute}
 use Rattle.syn_grammar.specs.declared.kinds.Limits.{Limits}
 use Rattle.syn_grammar.specs.Tree as e
-use Rattle.syn_grammar.specs.Tree.{Tree, Kids, Jump, ClosureHead, frame, kid, none, adorn}
-use Rattle.syn_expr_kinds.specs.Attrs.{attrs_of, outer_of, inner_of, outer_part, inner_part, before_inner, from_inner, is_in_order}
+use Rattle.syn_grammar.specs.Tree.{Tree, Kids, Jump, ClosureHead, frame, kid, none, adorn, attributes_in, body_of, but_last, from_inner, kids_inner, kids_with, outers, with_attributes}
+use Rattle.syn_expr_kinds.specs.Attrs.{attrs_of, outer_of, inner_of}
 use Rattle.syn_parts.specs.Text.{Text}
 use Rattle.syn_parts.specs.Pat.{PatTree}
 use Rattle.syn_tokens.specs.Tok.{Tok}
 use Rattle.syn_expr_kinds.specs.Pats.{strays, closure_by, arms}
-use Rattle.syn_expr_kinds.specs.View.{body_of}
 use Rattle.syn_expr_kinds.specs.View.{range_between, jump_with}
 use Rattle.syn_expr_all.specs.declared.expr.Expr.{Expr}
 use Rattle.syn_expr_all.specs.declared.expr.Expr.TheVariants as ex
 use Rattle.syn_expr_all.specs.declared.control.ExprMatch.{ExprMatch, out-ExprMatch, roll-ExprMatch, out-roll-ExprMatch}
 use Rattle.syn_expr_all.specs.View.{tree_of, arm_of, choice_layer, views}
-use Rattle.syn_expr_all.specs.Replaced.{kids_inner, kids_with, attributes_in, with_attributes}
 use Rattle.syn_expr_all.proofs.TreeOf.{tree-Match, choice-is}
-
--- ---- the outer ones and the inner ones are all
-
-either_side : (b : Bool) (a : AttributeTree) (more : List AttributeTree) → before_inner more ++ from_inner more ≡ more
-    → cond b [] (a ∷ before_inner more) ++ cond b (a ∷ more) (from_inner more) ≡ a ∷ more
-either_side true a more h = refl
-either_side false a more h = ap (λ l. a ∷ l) h
-
-both_sides : (ats : List AttributeTree) → before_inner ats ++ from_inner ats ≡ ats
-both_sides [] = refl
-both_sides (a ∷ more) = either_side a.inner a more (both_sides more)
-
-in_parts : (b : Bool) (ats : List AttributeTree) → cond b (before_inner ats) ats ++ cond b (from_inner ats) [] ≡ ats
-in_parts true ats = both_sides ats
-in_parts false ats = append-nil ats
-
-all_parts : (ats : List AttributeTree) → outer_part ats ++ inner_part ats ≡ ats
-all_parts ats = in_parts (is_in_order ats) ats
 
 -- ---- attributes before a tree
 
@@ -47,9 +29,17 @@ with_adorned : (ats old : List AttributeTree) (t : Tree) → with_attributes ats
 with_adorned ats [] t = refl
 with_adorned ats (a ∷ more) t = refl
 
-in_adorned : (old : List AttributeTree) (t : Tree) → attributes_in (adorn old t) ≡ old ++ attributes_in t
-in_adorned [] t = refl
+no_last : (others : List AttributeTree) → but_last others [] ≡ []
+no_last others = take_all (0 - length others) [] (omega arith)
+
+in_adorned : (old : List AttributeTree) (t : Tree) → attributes_in (adorn old t) ≡ but_last (outers (attributes_in t)) old ++ attributes_in t
+in_adorned [] t = sym (ap (λ l. l ++ attributes_in t) (no_last (outers (attributes_in t))))
 in_adorned (a ∷ more) t = refl
+
+none_last : (ats : List AttributeTree) → but_last [] ats ≡ ats
+none_last ats =
+    let all : length ats - 0 ≡ length ats = omega arith in
+    ap (λ n. take n ats) all ∙ take_all (length ats) ats (omega arith)
 
 -- Of the tree t these attributes were given, and with others in their place it is u.
 abbrev pub Replaced : (was new : List AttributeTree) (t u : Tree) → Type 0
@@ -64,7 +54,7 @@ pub record IsPlain (t : Tree) : Type 0 where
 pub before : (was new : List AttributeTree) {x t u : Tree} → t ≡ adorn was x → u ≡ adorn new x → IsPlain x → Replaced was new t u
 before was new {x = x} old now h = (
   now ∙ sym (ap (with_attributes new) old ∙ with_adorned new was x ∙ h.put new),
-  sym (ap attributes_in old ∙ in_adorned was x ∙ ap (λ l. was ++ l) h.bare ∙ append-nil was),
+  sym (ap attributes_in old ∙ in_adorned was x ∙ ap (λ l. but_last (outers l) was ++ l) h.bare ∙ append-nil (but_last [] was) ∙ none_last was),
 )
 
 pub plain : {x : Tree} → ((ats : List AttributeTree) → with_attributes ats x ≡ adorn ats x) → attributes_in x ≡ [] → IsPlain x
@@ -87,19 +77,19 @@ closure_plain (given ty) h gs t = record { put = λ ats. refl; bare = refl }
 -- ---- a node with attributes first in its braces too
 
 pub record IsBraced (x : List AttributeTree → Tree) : Type 0 where
-  pub put : (ats old : List AttributeTree) → with_attributes ats (x old) ≡ adorn (outer_part ats) (x (inner_part ats))
+  pub put : (ats old : List AttributeTree) → with_attributes ats (x old) ≡ adorn (outers ats) (x (from_inner ats))
   pub inner : (old : List AttributeTree) → attributes_in (x old) ≡ old
 
 pub around : (x : List AttributeTree → Tree) (was new : Vec Attribute Global) {t u : Tree}
     → t ≡ adorn (outer_of was) (x (inner_of was)) → u ≡ adorn (outer_of new) (x (inner_of new)) → IsBraced x → Replaced (attrs_of was) (attrs_of new) t u
 unfolding attrs_of outer_of inner_of
 around x was new old now h =
-    let outer = outer_part (map attribute_of was.items) in let inner = inner_part (map attribute_of was.items) in (
+    let all = map attribute_of was.items in let outer = outers all in let inner = from_inner all in (
       now ∙ sym (ap (with_attributes (map attribute_of new.items)) old ∙ with_adorned (map attribute_of new.items) outer (x inner) ∙ h.put (map attribute_of new.items) inner),
-      sym (ap attributes_in old ∙ in_adorned outer (x inner) ∙ ap (λ l. outer ++ l) (h.inner inner) ∙ all_parts (map attribute_of was.items)),
+      sym (ap attributes_in old ∙ in_adorned outer (x inner) ∙ ap (λ l. but_last (outers l) outer ++ l) (h.inner inner) ∙ all_parts all),
     )
 
-pub braced : {x : List AttributeTree → Tree} → ((ats old : List AttributeTree) → with_attributes ats (x old) ≡ adorn (outer_part ats) (x (inner_part ats)))
+pub braced : {x : List AttributeTree → Tree} → ((ats old : List AttributeTree) → with_attributes ats (x old) ≡ adorn (outers ats) (x (from_inner ats)))
     → ((old : List AttributeTree) → attributes_in (x old) ≡ old) → IsBraced x
 braced put inner = record { put = put; inner = inner }
 
@@ -114,7 +104,7 @@ stray_with ats (g ∷ gs) ks = ap (kid e.stray e.no_ending g) (stray_with ats gs
 pub for_loop_braced : (label : Option Text) (p : PatTree) (gs : List Tree) (ts : List Tok) (t : Tree)
     → IsBraced (λ ats. frame (e.for_loop label p) (strays gs (kid e.loop_head (e.braced (body_of ats ts)) t none)))
 for_loop_braced label p gs ts t = record {
-  put = λ ats old. ap (λ ks. adorn (outer_part ats) (frame (e.for_loop label p) ks)) (stray_with (inner_part ats) gs (kid e.loop_head (e.braced (body_of old ts)) t none));
+  put = λ ats old. ap (λ ks. adorn (outers ats) (frame (e.for_loop label p) ks)) (stray_with (from_inner ats) gs (kid e.loop_head (e.braced (body_of old ts)) t none));
   inner = λ old. stray_inner gs (kid e.loop_head (e.braced (body_of old ts)) t none);
 }
 

@@ -1,17 +1,18 @@
 //! The attributes of an expression (Rust Reference, "Expression attributes").
 
 ghost use Rattle.std.specs.Prelude.{◌≡◌};
-ghost use Rattle.syn_expr_all.specs.Replaced.{attributes_in, with_attributes};
 ghost use Rattle.syn_expr_all.specs.View.{tree_of};
 ghost use Rattle.syn_expr_kinds.specs.Attrs.{attrs_of};
+ghost use Rattle.syn_grammar.specs.Tree.{attributes_in, with_attributes};
 
 use crate::expr::Expr;
 use std::mem::replace;
 use syn_lower::attr::Attribute;
 
 impl Expr {
-    /// Puts attributes in place of all that the expression has, before it and first in its braces, and gives the old ones.
-    /// Kept tokens have none: they stay as they are, and an empty list is given.
+    /// Puts attributes in place of all that the expression has, and gives the old ones. The outer ones are printed before it,
+    /// the inner ones first in the braces of a block, a loop or a `match`; of all other kinds an inner one is kept and not
+    /// printed. Kept tokens have no attributes: they stay as they are, and an empty list is given.
     pub fn replace_attrs(&mut self, new: Vec<Attribute>) -> Vec<Attribute>
         ensures put { tree_of self.new ≡ with_attributes (attrs_of new) (tree_of self.old) }
         ensures given { attrs_of result ≡ attributes_in (tree_of self.old) }

@@ -5,40 +5,40 @@ ghost use Rattle.syn_pat_kinds.specs.Printed.{attributes_printed};
 ghost use Rattle.syn_tokens.specs.Input.{IsFront};
 
 use crate::pat::Pat;
-use syn_expr_kinds::put::{Grown, put};
+use syn_expr_kinds::put::{Grown, grown};
 use syn_expr_put::lead::PutPat;
 use syn_lower::attr::Attribute;
-use syn_pat_kinds::print::print_attributes;
+use syn_pat_kinds::print::{PrintPat, print_attributes};
 use syn_tokens::buffer::ToTokens;
 use syn_tokens::error::{ErrorKind, Result};
 use syn_tokens::tree::TokenStream;
 
-/// Prints attributes, and a pattern behind them.
+/// Prints attributes, and a pattern after them, without its guards.
 #[tactic(auto, using(syn_tokens::proofs::Fronts::fronts))]
-fn print_behind<P: ToTokens>(
+fn print_behind<P: PrintPat>(
     attrs: &Vec<Attribute>,
     pat: &Box<P>,
     tokens: &mut TokenStream,
 ) -> Result<()>
-    ensures ok { OnOk result (tokens.new ≡ tokens.old ++ (attributes_printed attrs.now ++ P.printed pat.now.value)) }
+    ensures ok { OnOk result (tokens.new ≡ tokens.old ++ (attributes_printed attrs.now ++ P.spelled pat.now.value)) }
     ensures err { OnErr result (IsFront tokens.old tokens.new) }
     ensures memory { IfErr result (λ e. e.kind ≡ ErrorKind.OutOfMemory) }
 {
     print_attributes(attrs, tokens)?;
-    pat.to_tokens(tokens)
+    pat.print_pat(tokens)
 }
 
 /// A pattern's own spelling, without the guards in it: what prints an arm prints the guard of its pattern too, and where
 /// else one stands, none may.
-impl ToTokens for Pat {
+impl PrintPat for Pat {
     ghost use Rattle.syn_expr_all.specs.View.{pat_of};
     ghost use Rattle.syn_parts.specs.PatOwn.{pat_own};
 
-    ghost printed = { λ x. pat_own (pat_of x).tree [] };
+    ghost spelled = { λ x. pat_own (pat_of x).tree [] };
 
     #[cycle(print)]
     #[tactic(auto, using(crate::proofs::PrintsPat::kinds))]
-    fn to_tokens(&self, tokens: &mut TokenStream) -> Result<()> {
+    fn print_pat(&self, tokens: &mut TokenStream) -> Result<()> {
         match self {
             Pat::Const(x) => x.to_tokens(tokens),
             Pat::Guard(x) => print_behind(&x.attrs, &x.pat, tokens),
@@ -63,6 +63,18 @@ impl ToTokens for Pat {
 
 impl PutPat for Pat {
     fn put_pat(&self, tokens: &mut TokenStream) -> Grown {
-        put(tokens, self)
+        grown(self.print_pat(tokens))
+    }
+}
+
+impl ToTokens for Pat {
+    ghost use Rattle.syn_expr_all.specs.View.{pat_of};
+    ghost use Rattle.syn_parts.specs.PatOwn.{pat_own};
+
+    ghost printed = { λ x. pat_own (pat_of x).tree [] };
+
+    /// Puts the pattern without the guards in it. The printer of an arm puts the guard of the arm's pattern.
+    fn to_tokens(&self, tokens: &mut TokenStream) -> Result<()> {
+        self.print_pat(tokens)
     }
 }

@@ -12,12 +12,28 @@ use crate::stands::leaf_stands;
 use syn_expr_heads::leaf::leaf as leaf_head;
 use syn_expr_heads::types::LeafHead;
 use syn_expr_kinds::kinds::IsExpr;
+use syn_expr_kinds::path::is_word_alone;
 use syn_grammar::kinds::Place;
 use syn_tokens::buffer::ParseBuffer;
-use syn_tokens::error::{ErrorKind, Result};
+use syn_tokens::error::{Error, ErrorKind, Result};
 
-/// Makes an expression of a leaf that was read, where it stands before what is left. It is refused as `UnexpectedToken` where
-/// the next token goes on it: a brace behind a path, `#` behind `builtin`, the value of a jump, the end of a range.
+/// The refusal of a leaf that doesn't stand before what is left. At the path `try` no expression begins; behind any other leaf
+/// stands a token that goes on it.
+fn not_standing(input: &ParseBuffer<'_>, leaf: &LeafHead) -> Error {
+    match leaf {
+        LeafHead::Path(qself, path) if is_word_alone(qself, path, "try") => {
+            match path.segments.first() {
+                Some(word) => Error::new(word.ident.span(), ErrorKind::ExpectedExpression),
+                None => input.error(ErrorKind::ExpectedExpression),
+            }
+        }
+        _ => input.error(ErrorKind::UnexpectedToken),
+    }
+}
+
+/// Makes an expression of a leaf that was read, where it stands before what is left. The path `try` is refused as
+/// `ExpectedExpression` at its word. Any other leaf is refused as `UnexpectedToken` where the next token goes on it: a brace
+/// behind a path, `#` behind `builtin`, the value of a jump, the end of a range.
 pub fn standing<E: IsExpr + Drop>(
     input: &ParseBuffer<'_>,
     place: Place,
@@ -27,7 +43,7 @@ pub fn standing<E: IsExpr + Drop>(
     ensures { Reads (λ b. E.tree b.value) (read.standing place (leaf_of leaf) input.now.rest) result input.now.rest }
 {
     if !leaf_stands(input, place, &leaf) {
-        return Err(input.error(ErrorKind::UnexpectedToken));
+        return Err(not_standing(input, &leaf));
     }
     let alloc = input.alloc();
     Ok(Box::new(alloc, leaf_expr(alloc, leaf))?)

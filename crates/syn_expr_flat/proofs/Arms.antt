@@ -23,33 +23,33 @@ guards_flat k g h (x ∷ gs) [] ts us one all more = absurd all
 plain_arm : (a b : ArmView) (t : PatTree) (gs hs : List Tree) (ts us : Kids) → b.attrs ≡ a.attrs → b.comma ≡ a.comma → IsFlat a.body b.body → Each IsFlat gs hs → AreFlat ts us
     → AreFlat (strays gs (kid (e.arm a.attrs t) (arm_ending a.comma) a.body ts)) (strays hs (kid (e.arm b.attrs t) (arm_ending b.comma) b.body us))
 unfolding AreFlat
-plain_arm a b t gs hs ts us at comma body all more = λ o.
+plain_arm a b t gs hs ts us at comma body all more =
     ap (λ z. strays hs (kid (e.arm z t) (arm_ending b.comma) b.body us)) at
     ∙ ap (λ z. strays hs (kid (e.arm a.attrs t) (arm_ending z) b.body us)) comma
     ∙ strays_flat gs hs (kid (e.arm a.attrs t) (arm_ending a.comma) a.body ts) (kid (e.arm a.attrs t) (arm_ending a.comma) b.body us) all
-    (kid_flat (e.arm a.attrs t) (arm_ending a.comma) a.body b.body ts us body more) o
+    (kid_flat (e.arm a.attrs t) (arm_ending a.comma) a.body b.body ts us body more)
 
 arm_flat : (a b : ArmView) (t : PatTree) (gs hs : List Tree) (ts us : Kids) → b.attrs ≡ a.attrs → b.comma ≡ a.comma → IsFlat a.body b.body → Each IsFlat gs hs → AreFlat ts us
     → AreFlat (arm_kids a t gs ts) (arm_kids b t hs us)
 unfolding Each AreFlat
-arm_flat a b (p.guarded q) (g ∷ gs) (h ∷ hs) ts us at comma body all more = λ o.
+arm_flat a b (p.guarded q) (g ∷ gs) (h ∷ hs) ts us at comma body all more =
     ap (λ z. guard_kids (e.guard z q) h hs (kid e.guarded (arm_ending b.comma) b.body us)) at
     ∙ ap (λ z. guard_kids (e.guard a.attrs q) h hs (kid e.guarded (arm_ending z) b.body us)) comma
-    ∙ guards_flat (e.guard a.attrs q) g h gs hs (kid e.guarded (arm_ending a.comma) a.body ts) (kid e.guarded (arm_ending a.comma) b.body us) all.0 all.1 (kid_flat e.guarded (arm_ending a.comma) a.body b.body ts us body more) o
+    ∙ guards_flat (e.guard a.attrs q) g h gs hs (kid e.guarded (arm_ending a.comma) a.body ts) (kid e.guarded (arm_ending a.comma) b.body us) all.0 all.1 (kid_flat e.guarded (arm_ending a.comma) a.body b.body ts us body more)
 arm_flat a b (p.guarded q) [] (h ∷ hs) ts us at comma body all more = absurd all
 arm_flat a b (p.guarded q) (g ∷ gs) [] ts us at comma body all more = absurd all
-arm_flat a b (p.guarded q) [] [] ts us at comma body all more = λ o.
+arm_flat a b (p.guarded q) [] [] ts us at comma body all more =
     ap (λ z. kid (e.arm z (p.guarded q)) (arm_ending b.comma) b.body us) at
     ∙ ap (λ z. kid (e.arm a.attrs (p.guarded q)) (arm_ending z) b.body us) comma
-    ∙ kid_flat (e.arm a.attrs (p.guarded q)) (arm_ending a.comma) a.body b.body ts us body more o
+    ∙ kid_flat (e.arm a.attrs (p.guarded q)) (arm_ending a.comma) a.body b.body ts us body more
 arm_flat a b _ gs hs ts us at comma body all more = plain_arm a b _ gs hs ts us at comma body all more
 
 pub arms_flat : {A : Type 0} (f : A → ArmView) (xs ys : List A) → Each (λ x y. IsFlatArm (f x) (f y)) xs ys → AreFlat (arms (map f xs)) (arms (map f ys))
 unfolding Each AreFlat
 arms_flat f [] [] h = none_flat
-arms_flat f (x ∷ xs) (y ∷ ys) h = λ o.
+arms_flat f (x ∷ xs) (y ∷ ys) h =
     ap (λ z. arm_kids (f y) z (f y).pat.guards (arms (map f ys))) h.0.1.0
-    ∙ arm_flat (f x) (f y) (f x).pat.tree (f x).pat.guards (f y).pat.guards (arms (map f xs)) (arms (map f ys)) h.0.0 h.0.3 h.0.2 h.0.1.1 (arms_flat f xs ys h.1) o
+    ∙ arm_flat (f x) (f y) (f x).pat.tree (f x).pat.guards (f y).pat.guards (arms (map f xs)) (arms (map f ys)) h.0.0 h.0.3 h.0.2 h.0.1.1 (arms_flat f xs ys h.1)
 arms_flat f [] (y ∷ ys) h = absurd h
 arms_flat f (x ∷ xs) [] h = absurd h
 

@@ -1,9 +1,11 @@
 -- Nothing is filled in to a tree without its parentheses where nothing was before.
 use Rattle.std.specs.Prelude.{not, ◌&&◌}
-use Rattle.std.proofs.Common.{◌≡◌, Bool, true, false, List, ◌∷◌, refl, sym, ◌∙◌, ap}
+use Rattle.std.proofs.Common.{◌≡◌, Bool, true, false, List, [], ◌∷◌, ◌++◌, refl, sym, ◌∙◌, ap}
 use Rattle.syn_parts.specs.Tree.{AttributeTree}
 use Rattle.syn_grammar.specs.Tree as e
-use Rattle.syn_grammar.specs.Tree.{Tree, Kids, Leaf, Frame, Piece, Ending, leaf, paren, adorned, lead, mid, post, tail, frame, none, kid, prepend, flatten, flatten_kids, fill, is_block_like, is_none, is_one, needs_last_comma}
+use Rattle.syn_grammar.specs.Tree.{Tree, Kids, Leaf, Frame, Piece, Ending, leaf, paren, adorned, lead, mid, post, tail, frame, none, kid, adorn, prepend, flatten, flatten_kids, frame_with, inner_in, inners, kids_with, leaf_with, outside, with_inner, fill, is_block_like, is_none, is_one, needs_last_comma}
+use Rattle.syn_grammar.specs.Stands.{is_verbatim_leaf}
+use Rattle.syn_grammar.proofs.Attributes.{is_free, prepend_free}
 use Rattle.syn_grammar.proofs.Bools.{both_true, both}
 use Rattle.syn_grammar.proofs.FillIns.{filled, kids_filled, comma_there, dots_there, fill_filled, filled_stays}
 
@@ -22,16 +24,40 @@ last_flatten _ ks = refl
 
 -- ---- what ends with a block ends with one behind attributes and without parentheses
 
-leaf_behind : (a : AttributeTree) (more : List AttributeTree) (k : Leaf) → is_block_like (leaf k) ≡ true → is_block_like (prepend (a ∷ more) (leaf k)) ≡ true
-leaf_behind a more (e.verbatim ts) h = cc
-leaf_behind a more _ h = h
+block_adorn : (own : List AttributeTree) (t : Tree) → is_block_like (adorn own t) ≡ is_block_like t
+block_adorn [] t = refl
+block_adorn (a ∷ own) t = refl
 
-block_behind : (a : AttributeTree) (more : List AttributeTree) (t : Tree) → is_block_like t ≡ true → is_block_like (prepend (a ∷ more) t) ≡ true
-block_behind a more (leaf k) h = leaf_behind a more k h
-block_behind a more _ h = h
+leaf_with_block : (l : List AttributeTree) (k : Leaf) → is_block_like (leaf (leaf_with l k)) ≡ is_block_like (leaf k)
+leaf_with_block l (e.block w b) = refl
+leaf_with_block l (e.looping w b) = refl
+leaf_with_block l (e.unsafe_block b) = refl
+leaf_with_block l (e.const_block b) = refl
+leaf_with_block l _ = refl
+
+with_block : (l : List AttributeTree) (t : Tree) → is_block_like (with_inner l t) ≡ is_block_like t
+with_block l (leaf k) = leaf_with_block l k
+with_block l _ = refl
+
+-- those before it and in its braces
+put_block : (own l : List AttributeTree) (t : Tree) → is_block_like (adorn own (with_inner l t)) ≡ is_block_like t
+put_block own l t = block_adorn own (with_inner l t) ∙ with_block l t
+
+leaf_free : (k : Leaf) → is_block_like (leaf k) ≡ true → is_free (leaf k) ≡ true
+leaf_free (e.verbatim ts) h = absurd cc
+leaf_free _ h = refl
+
+block_free : (more : List AttributeTree) (t : Tree) → is_free t ≡ true → is_block_like t ≡ true → is_block_like (prepend more t) ≡ true
+block_free more t f h = ap is_block_like (prepend_free more t f) ∙ put_block (outside t more) (inners more ++ inner_in t) t ∙ h
+
+block_behind : (more : List AttributeTree) (t : Tree) → is_block_like t ≡ true → is_block_like (prepend more t) ≡ true
+block_behind more (leaf k) h = block_free more (leaf k) (leaf_free k h) h
+block_behind more (adorned b bs t) h = put_block (outside t more ++ b ∷ bs) (inners more ++ inner_in t) t ∙ h
+block_behind more (frame k ks) h = block_free more (frame k ks) refl h
+block_behind more _ h = absurd cc
 
 block_flatten : (t : Tree) → is_block_like t ≡ true → is_block_like (flatten t) ≡ true
-block_flatten (adorned a more t) h = block_behind a more (flatten t) (block_flatten t h)
+block_flatten (adorned a more t) h = block_behind (a ∷ more) (flatten t) (block_flatten t h)
 block_flatten (leaf k) h = h
 block_flatten (frame k ks) h = h
 block_flatten _ h = absurd cc
@@ -51,19 +77,63 @@ comma_flatten (e.field_value ats m b) e.no_ending t more last h = h
 comma_flatten _ e.no_ending t more last h = h
 comma_flatten k _ t more last h = refl
 
-filled_leaf : (a : AttributeTree) (more : List AttributeTree) (k : Leaf) → filled (prepend (a ∷ more) (leaf k)) ≡ true
-filled_leaf a more (e.verbatim ts) = refl
-filled_leaf a more _ = refl
+filled_adorn : (own : List AttributeTree) (t : Tree) → filled (adorn own t) ≡ filled t
+filled_adorn [] t = refl
+filled_adorn (a ∷ own) t = refl
 
-filled_behind : (a : AttributeTree) (more : List AttributeTree) (t : Tree) → filled t ≡ true → filled (prepend (a ∷ more) t) ≡ true
-filled_behind a more (leaf k) h = filled_leaf a more k
-filled_behind a more _ h = h
+none_with : (l : List AttributeTree) (ks : Kids) → is_none (kids_with l ks) ≡ is_none ks
+none_with l none = refl
+none_with l (kid k (e.braced b) t ks) = refl
+none_with l (kid k (e.opened ats) t ks) = refl
+none_with l (kid k e.no_ending t ks) = refl
+none_with l (kid k e.comma t ks) = refl
+
+kids_with_filled : (last : Bool) (l : List AttributeTree) (ks : Kids) → kids_filled last (kids_with l ks) ≡ kids_filled last ks
+kids_with_filled last l none = refl
+kids_with_filled last l (kid k (e.braced b) t ks) = refl
+kids_with_filled last l (kid k (e.opened ats) t ks) = refl
+kids_with_filled last l (kid k e.no_ending t ks) =
+    ap (λ b. (dots_there k && comma_there k e.no_ending t (not b) last) && (filled t && kids_filled last (kids_with l ks))) (none_with l ks)
+    ∙ ap (λ b. (dots_there k && comma_there k e.no_ending t (not (is_none ks)) last) && (filled t && b)) (kids_with_filled last l ks)
+kids_with_filled last l (kid k e.comma t ks) = ap (λ b. (dots_there k && true) && (filled t && b)) (kids_with_filled last l ks)
+
+frame_with_filled : (l : List AttributeTree) (k : Frame) (ks : Kids) → filled (frame k (frame_with l k ks)) ≡ filled (frame k ks)
+frame_with_filled l (e.while_loop w) ks = kids_with_filled false l ks
+frame_with_filled l (e.for_loop w p) ks = kids_with_filled false l ks
+frame_with_filled l e.choice ks = kids_with_filled false l ks
+frame_with_filled l _ ks = refl
+
+with_filled : (l : List AttributeTree) (t : Tree) → filled (with_inner l t) ≡ filled t
+with_filled l (frame k ks) = frame_with_filled l k ks
+with_filled l _ = refl
+
+put_filled : (own l : List AttributeTree) (t : Tree) → filled (adorn own (with_inner l t)) ≡ filled t
+put_filled own l t = filled_adorn own (with_inner l t) ∙ with_filled l t
+
+-- behind attributes
+filled_free : (more : List AttributeTree) (t : Tree) → is_free t ≡ true → filled t ≡ true → filled (prepend more t) ≡ true
+filled_free more t f h = ap filled (prepend_free more t f) ∙ put_filled (outside t more) (inners more ++ inner_in t) t ∙ h
+
+filled_behind : (more : List AttributeTree) (t : Tree) → filled t ≡ true → filled (prepend more t) ≡ true
+filled_behind more (adorned b bs t) h = put_filled (outside t more ++ b ∷ bs) (inners more ++ inner_in t) t ∙ h
+filled_behind more (leaf k) h = by (is_verbatim_leaf k) k refl
+  where
+    by : (b : Bool) (k : Leaf) → is_verbatim_leaf k ≡ b → filled (prepend more (leaf k)) ≡ true
+    by false k g = filled_free more (leaf k) (ap not g) refl
+    by true (e.verbatim ts) g = refl
+    by true _ g = absurd cc
+filled_behind more (paren m t) h = filled_free more (paren m t) refl h
+filled_behind more (lead k gs t) h = filled_free more (lead k gs t) refl h
+filled_behind more (mid x k y) h = filled_free more (mid x k y) refl h
+filled_behind more (post x k) h = filled_free more (post x k) refl h
+filled_behind more (tail b k ks) h = filled_free more (tail b k ks) refl h
+filled_behind more (frame k ks) h = filled_free more (frame k ks) refl h
 
 mutual
   filled_flatten : (t : Tree) → filled t ≡ true → filled (flatten t) ≡ true
   filled_flatten (leaf k) h = refl
   filled_flatten (paren m t) h = filled_flatten t h
-  filled_flatten (adorned a more t) h = filled_behind a more (flatten t) (filled_flatten t h)
+  filled_flatten (adorned a more t) h = filled_behind (a ∷ more) (flatten t) (filled_flatten t h)
   filled_flatten (lead k gs t) h = let p = both_true (kids_filled false gs) (filled t) h in both _ _ (kids_filled_flatten false gs p.0) (filled_flatten t p.1)
   filled_flatten (mid x k y) h = let p = both_true (filled x) (filled y) h in both _ _ (filled_flatten x p.0) (filled_flatten y p.1)
   filled_flatten (post x k) h = filled_flatten x h

@@ -1,6 +1,6 @@
 -- Without its parentheses a well-formed tree is well-formed.
 use Rattle.std.specs.Prelude.{not, ◌&&◌, ◌||◌}
-use Rattle.std.proofs.Common.{◌≡◌, Bool, true, false, List, ◌∷◌, refl, ◌∙◌}
+use Rattle.std.proofs.Common.{◌≡◌, Bool, true, false, List, ◌∷◌, refl, ap, ◌∙◌}
 use Rattle.syn_parts.specs.Tree.{AttributeTree}
 use Rattle.syn_parts.specs.Pat.{MemberTree, a_name, an_index}
 use Rattle.syn_parts.specs.PatFits.{member_fits, attributes_outer}
@@ -9,9 +9,9 @@ use Rattle.syn_grammar.specs.Tree.{Tree, Kids, Leaf, Frame, Piece, Ending, leaf,
 use Rattle.syn_grammar.specs.Slot.{Slot, fields, otherwise, outputs, after}
 use Rattle.syn_grammar.specs.Stands.{is_adorned, is_branch}
 use Rattle.syn_grammar.specs.WellFormed.{has_rest, is_name_path, is_kept_block, lead_fits, infix_fits, post_fits, trailer_fits, trailer_slot, frame_fits, frame_slot, piece_fits, ending_fits, keeps_block, well, kids_well, is_well_formed}
+use Rattle.syn_grammar.proofs.Attributes.{outer_both, prepend_outer, put_outer}
 use Rattle.syn_grammar.proofs.Bools.{both_true, both}
 use Rattle.syn_expr_flat.proofs.FlatFill.{none_flatten}
-use Rattle.syn_expr_flat.proofs.Nodes.{outer_both}
 
 -- ---- what belongs into a slot
 
@@ -56,20 +56,23 @@ frame_flatten _ ks = refl
 
 -- ---- behind attributes
 
-leaf_behind : (a : AttributeTree) (more : List AttributeTree) (k : Leaf) → attributes_outer (a ∷ more) ≡ true → well (leaf k) ≡ true → well (prepend (a ∷ more) (leaf k)) ≡ true
+leaf_behind : (a : AttributeTree) (more : List AttributeTree) (k : Leaf) → attributes_outer (a ∷ more) ≡ true → well (leaf k) ≡ true → well (put_outer (a ∷ more) (leaf k)) ≡ true
 leaf_behind a more (e.verbatim ts) o h = absurd cc
 leaf_behind a more _ o h = both _ _ o h
 
-well_behind : (a : AttributeTree) (more : List AttributeTree) (t : Tree) → attributes_outer (a ∷ more) ≡ true → well t ≡ true → well (prepend (a ∷ more) t) ≡ true
-well_behind a more (leaf k) o h = leaf_behind a more k o h
-well_behind a more (adorned b bs t) o h =
+outer_behind : (a : AttributeTree) (more : List AttributeTree) (t : Tree) → attributes_outer (a ∷ more) ≡ true → well t ≡ true → well (put_outer (a ∷ more) t) ≡ true
+outer_behind a more (leaf k) o h = leaf_behind a more k o h
+outer_behind a more (adorned b bs t) o h =
     let p = both_true (attributes_outer (b ∷ bs)) (not (is_adorned t) && well t) h in both _ _ (outer_both (a ∷ more) (b ∷ bs) o p.0) p.1
-well_behind a more (paren m t) o h = both _ _ o h
-well_behind a more (lead k gs t) o h = both _ _ o h
-well_behind a more (mid x k y) o h = both _ _ o h
-well_behind a more (post x k) o h = both _ _ o h
-well_behind a more (tail b k ks) o h = both _ _ o h
-well_behind a more (frame k ks) o h = both _ _ o h
+outer_behind a more (paren m t) o h = both _ _ o h
+outer_behind a more (lead k gs t) o h = both _ _ o h
+outer_behind a more (mid x k y) o h = both _ _ o h
+outer_behind a more (post x k) o h = both _ _ o h
+outer_behind a more (tail b k ks) o h = both _ _ o h
+outer_behind a more (frame k ks) o h = both _ _ o h
+
+well_behind : (a : AttributeTree) (more : List AttributeTree) (t : Tree) → attributes_outer (a ∷ more) ≡ true → well t ≡ true → well (prepend (a ∷ more) t) ≡ true
+well_behind a more t o h = ap well (prepend_outer (a ∷ more) t o) ∙ outer_behind a more t o h
 
 keeps_flatten : (k : Piece) (t : Tree) → (keeps_block k t || well t) ≡ true → (well t ≡ true → well (flatten t) ≡ true) → (keeps_block k (flatten t) || well (flatten t)) ≡ true
 keeps_flatten e.chained t h f = either (is_kept_block t) (well t) (is_kept_block (flatten t)) (well (flatten t)) (kept_flatten t) f h

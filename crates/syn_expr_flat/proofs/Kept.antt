@@ -6,17 +6,17 @@ use Rattle.syn_tokens.specs.Tok.{Tok}
 use Rattle.syn_parts.specs.PatOwn.{attributes_own}
 use Rattle.syn_lower_leaves.specs.declared.attr.Attribute.{Attribute}
 use Rattle.syn_grammar.specs.Tree as e
-use Rattle.syn_grammar.specs.Tree.{leaf}
+use Rattle.syn_grammar.specs.Tree.{leaf, outers}
 use Rattle.syn_pat_kinds.proofs.Appends.{attributes_append}
 use Rattle.syn_expr_kinds.specs.Attrs.{attrs_of}
 use Rattle.syn_expr_flat.specs.Flat.{IsFlatBehind}
 
-pub kept_behind : (v : Vec Attribute Global) (ts us : List Tok) → us ≡ attributes_own (attrs_of v) [] ++ ts → IsFlatBehind (Some v) (leaf (e.verbatim ts)) (leaf (e.verbatim us))
+pub kept_behind : (v : Vec Attribute Global) (ts us : List Tok) → us ≡ attributes_own (outers (attrs_of v)) [] ++ ts → IsFlatBehind (Some v) (leaf (e.verbatim ts)) (leaf (e.verbatim us))
 unfolding IsFlatBehind
-kept_behind v ts us h = λ o p. ap (λ l. leaf (e.verbatim l)) (h ∙ sym (attributes_append (attrs_of v) ts))
+kept_behind v ts us h = ap (λ l. leaf (e.verbatim l)) (h ∙ sym (attributes_append (outers (attrs_of v)) ts))
 
 pub kept_alone : (ts : List Tok) → IsFlatBehind None (leaf (e.verbatim ts)) (leaf (e.verbatim ts))
 unfolding IsFlatBehind
-kept_alone ts = λ o p. refl
+kept_alone ts = refl
 
 pub ruleset kept = (kept_behind, kept_alone)

@@ -18,23 +18,23 @@ use Rattle.syn_expr_flat.proofs.Nodes.{same_flat, is_plain, lead_flat, mid_flat,
 
 pub none_flat : AreFlat none none
 unfolding AreFlat
-none_flat = λ h. refl
+none_flat = refl
 
 pub kid_flat : (k : Piece) (c : Ending) (t u : Tree) (ts us : Kids) → IsFlat t u → AreFlat ts us → AreFlat (kid k c t ts) (kid k c u us)
 unfolding IsFlat AreFlat
-kid_flat k c t u ts us one more = λ h. ap (λ z. kid k c z us) (one h.0) ∙ ap (kid k c (flatten t)) (more h.1)
+kid_flat k c t u ts us one more = ap (λ z. kid k c z us) one ∙ ap (kid k c (flatten t)) more
 
 pub frame_flat : (k : e.Frame) (ts us : Kids) → AreFlat ts us → IsFlat (frame k ts) (frame k us)
 unfolding IsFlat AreFlat
-frame_flat k ts us all = λ h. ap (frame k) (all h)
+frame_flat k ts us all = ap (frame k) all
 
 pub tail_flat : (k : e.Trailer) (b c : Tree) (ts us : Kids) → IsFlat b c → AreFlat ts us → IsFlat (tail b k ts) (tail c k us)
 unfolding IsFlat AreFlat
-tail_flat k b c ts us one all = λ h. ap (λ z. tail z k us) (one h.0) ∙ ap (tail (flatten b) k) (all h.1)
+tail_flat k b c ts us one all = ap (λ z. tail z k us) one ∙ ap (tail (flatten b) k) all
 
 pub leads_flat : (k : e.Lead) (ts us : Kids) (t u : Tree) → AreFlat ts us → IsFlat t u → IsFlat (lead k ts t) (lead k us u)
 unfolding IsFlat AreFlat
-leads_flat k ts us t u all one = λ h. ap (λ z. lead k z u) (all h.0) ∙ ap (lead k (flatten_kids ts)) (one h.1)
+leads_flat k ts us t u all one = ap (λ z. lead k z u) all ∙ ap (lead k (flatten_kids ts)) one
 
 -- ---- lists
 
@@ -49,16 +49,16 @@ elements_flat : {A : Type 0} (f : A → Tree) (xs ys : List A) (b : Bool) → Ea
     → AreFlat (elements (map f xs) b) (elements (map f ys) b)
 unfolding Each AreFlat
 elements_flat f [] [] b h = none_flat
-elements_flat f (x ∷ xs) (y ∷ ys) b h = λ o.
+elements_flat f (x ∷ xs) (y ∷ ys) b h =
     ap (λ z. kid e.element (ending_of z b) (f y) (elements (map f ys) b)) (each_nil f xs ys h.1)
-    ∙ kid_flat e.element (ending_of (is_nil (map f xs)) b) (f x) (f y) (elements (map f xs) b) (elements (map f ys) b) h.0 (elements_flat f xs ys b h.1) o
+    ∙ kid_flat e.element (ending_of (is_nil (map f xs)) b) (f x) (f y) (elements (map f xs) b) (elements (map f ys) b) h.0 (elements_flat f xs ys b h.1)
 elements_flat f [] (y ∷ ys) b h = absurd h
 elements_flat f (x ∷ xs) [] b h = absurd h
 
 pub list_flat : {A P : Type 0} (f : A → Tree) (x y : Punctuated A P) → Each (λ x y. IsFlat (f x) (f y)) (values x) (values y) → trails y ≡ trails x
     → AreFlat (elements (map f (values x)) (trails x)) (elements (map f (values y)) (trails y))
 unfolding AreFlat
-list_flat f x y h same = λ o. ap (elements (map f (values y))) same ∙ elements_flat f (values x) (values y) (trails x) h o
+list_flat f x y h same = ap (elements (map f (values y))) same ∙ elements_flat f (values x) (values y) (trails x) h
 
 -- ---- fields
 
@@ -73,19 +73,19 @@ fields_flat : {A : Type 0} (f : A → FieldView) (xs ys : List A) (b : Bool) (ts
     → AreFlat (fields (map f xs) b ts) (fields (map f ys) b us)
 unfolding Each AreFlat
 fields_flat f [] [] b ts us h more = more
-fields_flat f (x ∷ xs) (y ∷ ys) b ts us h more = λ o.
+fields_flat f (x ∷ xs) (y ∷ ys) b ts us h more =
     ap (λ z. kid (e.field_value (f y).attrs (f y).member (f y).colon) (ending_of z b) (f y).value (fields (map f ys) b us)) (fields_nil f xs ys h.1)
     ∙ ap (λ z. kid (e.field_value z (f y).member (f y).colon) (ending_of (is_nil (map f xs)) b) (f y).value (fields (map f ys) b us)) h.0.0
     ∙ ap (λ z. kid (e.field_value (f x).attrs z (f y).colon) (ending_of (is_nil (map f xs)) b) (f y).value (fields (map f ys) b us)) h.0.1
     ∙ ap (λ z. kid (e.field_value (f x).attrs (f x).member z) (ending_of (is_nil (map f xs)) b) (f y).value (fields (map f ys) b us)) h.0.2
-    ∙ kid_flat _ (ending_of (is_nil (map f xs)) b) (f x).value (f y).value (fields (map f xs) b ts) (fields (map f ys) b us) h.0.3 (fields_flat f xs ys b ts us h.1 more) o
+    ∙ kid_flat _ (ending_of (is_nil (map f xs)) b) (f x).value (f y).value (fields (map f xs) b ts) (fields (map f ys) b us) h.0.3 (fields_flat f xs ys b ts us h.1 more)
 fields_flat f [] (y ∷ ys) b ts us h more = absurd h
 fields_flat f (x ∷ xs) [] b ts us h more = absurd h
 
 pub struct_flat : {A P : Type 0} (f : A → FieldView) (x y : Punctuated A P) (ts us : Kids) → Each (λ x y. IsFlatField (f x) (f y)) (values x) (values y) → trails y ≡ trails x
     → AreFlat ts us → AreFlat (fields (map f (values x)) (trails x) ts) (fields (map f (values y)) (trails y) us)
 unfolding AreFlat
-struct_flat f x y ts us h same more = λ o. ap (λ b. fields (map f (values y)) b us) same ∙ fields_flat f (values x) (values y) (trails x) ts us h more o
+struct_flat f x y ts us h same more = ap (λ b. fields (map f (values y)) b us) same ∙ fields_flat f (values x) (values y) (trails x) ts us h more
 
 -- ---- operands that may be there
 

@@ -1,4 +1,5 @@
 pub mod Arms
+pub mod Braced
 pub mod Calls
 pub mod Each
 pub mod FlatFill
@@ -9,5 +10,6 @@ pub mod Kids
 pub mod Nodes
 pub mod OuterParens
 pub mod Pats
+pub mod Puts
 pub mod Refs
 pub mod Upto

@@ -1,24 +1,22 @@
 -- What is left of an expression without its parentheses.
-use Rattle.std.specs.Prelude.{◌≡◌, true, List, [], Option, Some, None, Result, IfOk}
+use Rattle.std.specs.Prelude.{◌≡◌, List, [], Option, Some, None, Result, IfOk}
 use Rattle.std.specs.declared.vec.Vec.{Vec}
 use Rattle.std.specs.declared.alloc.Global.{Global}
 use Rattle.std.specs.declared.alloc.AllocError.{AllocError}
 use denote.Ref.{MutBor}
 use Rattle.syn_parts.specs.Tree.{AttributeTree}
-use Rattle.syn_parts.specs.PatFits.{attributes_outer}
 use Rattle.syn_lower_leaves.specs.declared.attr.Attribute.{Attribute}
 use Rattle.syn_grammar.specs.Tree.{Tree, Kids, prepend, flatten, flatten_kids}
 use Rattle.syn_expr_kinds.specs.Attrs.{attrs_of}
 use Rattle.syn_expr_kinds.specs.View.{FieldView}
-use Rattle.syn_expr_flat.specs.Outer.{HasOuterParens, HaveOuterParens}
 
 -- u is t without its parentheses
 unfoldable pub IsFlat : Tree → Tree → Type 0
-IsFlat t u = HasOuterParens t → u ≡ flatten t
+IsFlat t u = u ≡ flatten t
 
 -- us are the operands ts without their parentheses
 unfoldable pub AreFlat : Kids → Kids → Type 0
-AreFlat ts us = HaveOuterParens ts → us ≡ flatten_kids ts
+AreFlat ts us = us ≡ flatten_kids ts
 
 abbrev pub IsFlatField : FieldView → FieldView → Type 0
 IsFlatField u v = (v.attrs ≡ u.attrs) × (v.member ≡ u.member) × (v.colon ≡ u.colon) × IsFlat u.value v.value
@@ -37,9 +35,9 @@ abbrev pub behind : Option (Vec Attribute Global) → Tree → Tree
 behind None t = t
 behind (Some v) t = prepend (attrs_of v) t
 
--- u is t without its parentheses, behind these outer attributes
+-- u is t without its parentheses, behind these attributes
 unfoldable pub IsFlatBehind : Option (Vec Attribute Global) → Tree → Tree → Type 0
-IsFlatBehind ats t u = attributes_outer (before ats) ≡ true → HasOuterParens t → u ≡ behind ats (flatten t)
+IsFlatBehind ats t u = u ≡ behind ats (flatten t)
 
 -- a call that flattens what it is lent, behind attributes that it is given
 abbrev pub FlattensBehind : {E : Type 0} → (E → Tree) → (MutBor E → Option (Vec Attribute Global) → Result (Unit {0}) AllocError → MutBor E → Type 0) → Type 0

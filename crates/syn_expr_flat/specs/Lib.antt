@@ -4,3 +4,4 @@ pub mod Flat
 pub mod Laws
 pub mod Outer
 pub mod Pats
+pub mod Place

@@ -6,7 +6,7 @@ ghost use Rattle.syn_expr_kinds.specs.View.{else_of, expr_if_of, expr_while_of};
 ghost use Rattle.syn_expr_flat.specs.Calls.{Takes};
 ghost use Rattle.syn_expr_flat.specs.Flat.{AreFlat, Flattens, IsFlatBehind};
 
-use crate::attrs::{Before, put_before};
+use crate::attrs::{Before, put_around, put_before};
 use crate::operands::{Flattened, boxed};
 use syn_expr_kinds::block::{ExprIfOf, ExprWhileOf};
 use syn_expr_kinds::kinds::HasExprTree;
@@ -58,7 +58,7 @@ pub fn while_expr<E: HasExprTree, F: Fn(&mut E) -> Flattened<()>>(
     requires gives { Flattens E.tree (F.post flatten) }
     ensures { IfOk result (λ _. IsFlatBehind attrs (expr_while_of E.tree x.old) (expr_while_of E.tree x.new)) }
 {
-    put_before(attrs, &mut x.attrs)?;
+    put_around(attrs, &mut x.attrs)?;
     boxed(&mut x.cond, flatten)?;
     Ok(())
 }

@@ -2,14 +2,13 @@
 
 ghost use Rattle.syn_expr_flat.specs.Laws.{FlattenedIsSame, FormedParensAreOuter, ReadParensAreOuter};
 
-/// What is read, in whatever place, has outer attributes alone before its parentheses: so what flattening leaves of it is
-/// known.
+/// What is read, in whatever place, has outer attributes alone before its parentheses: flattening puts none of them into
+/// braces.
 pub fn read_parens_are_outer()
     ensures { ReadParensAreOuter }
 {}
 
-/// What is well-formed has outer attributes alone before its parentheses too, whether it was read or built: so what
-/// flattening leaves of it is known.
+/// What is well-formed has outer attributes alone before its parentheses too, whether it was read or built.
 pub fn formed_parens_are_outer()
     ensures { FormedParensAreOuter }
 {}

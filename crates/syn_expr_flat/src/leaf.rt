@@ -4,7 +4,7 @@ ghost use Rattle.std.specs.Prelude.{IfOk};
 ghost use Rattle.syn_expr_kinds.specs.View.{expr_infer_of, expr_lit_of, expr_macro_of, expr_path_of, expr_async_of, expr_try_block_of, expr_continue_of, expr_block_of, expr_const_of, expr_loop_of, expr_unsafe_of};
 ghost use Rattle.syn_expr_flat.specs.Flat.{IsFlatBehind};
 
-use crate::attrs::{Before, put_before};
+use crate::attrs::{Before, put_around, put_before};
 use crate::operands::Flattened;
 use syn_expr_kinds::atom::{ExprInfer, ExprLit, ExprMacro, ExprPath};
 use syn_expr_kinds::block::{ExprAsync, ExprBlock, ExprConst, ExprLoop, ExprTryBlock, ExprUnsafe};
@@ -70,7 +70,7 @@ pub fn continue_expr(x: &mut ExprContinue, attrs: Before) -> Flattened<()>
 pub fn block(x: &mut ExprBlock, attrs: Before) -> Flattened<()>
     ensures { IfOk result (λ _. IsFlatBehind attrs (expr_block_of x.old) (expr_block_of x.new)) }
 {
-    put_before(attrs, &mut x.attrs)?;
+    put_around(attrs, &mut x.attrs)?;
     Ok(())
 }
 
@@ -78,7 +78,7 @@ pub fn block(x: &mut ExprBlock, attrs: Before) -> Flattened<()>
 pub fn const_block(x: &mut ExprConst, attrs: Before) -> Flattened<()>
     ensures { IfOk result (λ _. IsFlatBehind attrs (expr_const_of x.old) (expr_const_of x.new)) }
 {
-    put_before(attrs, &mut x.attrs)?;
+    put_around(attrs, &mut x.attrs)?;
     Ok(())
 }
 
@@ -86,7 +86,7 @@ pub fn const_block(x: &mut ExprConst, attrs: Before) -> Flattened<()>
 pub fn loop_expr(x: &mut ExprLoop, attrs: Before) -> Flattened<()>
     ensures { IfOk result (λ _. IsFlatBehind attrs (expr_loop_of x.old) (expr_loop_of x.new)) }
 {
-    put_before(attrs, &mut x.attrs)?;
+    put_around(attrs, &mut x.attrs)?;
     Ok(())
 }
 
@@ -94,6 +94,6 @@ pub fn loop_expr(x: &mut ExprLoop, attrs: Before) -> Flattened<()>
 pub fn unsafe_block(x: &mut ExprUnsafe, attrs: Before) -> Flattened<()>
     ensures { IfOk result (λ _. IsFlatBehind attrs (expr_unsafe_of x.old) (expr_unsafe_of x.new)) }
 {
-    put_before(attrs, &mut x.attrs)?;
+    put_around(attrs, &mut x.attrs)?;
     Ok(())
 }

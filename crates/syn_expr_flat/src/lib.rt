@@ -1,5 +1,5 @@
 //! Each kind of expression and of pattern without the parentheses of expressions in it, over what takes those away inside.
-//! Attributes that stood before parentheses come before those of the expression that these held.
+//! The attributes of parentheses come before those of the expression that these held.
 #![tactic(auto)]
 
 pub mod atom;

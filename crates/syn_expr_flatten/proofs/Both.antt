@@ -1,23 +1,21 @@
 -- What holds both expressions and patterns, made anew of what was flattened.
-use Rattle.std.proofs.Common.{◌≡◌, Bool, true, List, [], ◌∷◌, ◌++◌, map, Option, is_some, refl, ap, ◌∙◌}
+use Rattle.std.proofs.Common.{◌≡◌, Bool, List, [], ◌∷◌, ◌++◌, map, Option, is_some, refl, ap, ◌∙◌}
 use Rattle.std.specs.declared.vec.Vec.{Vec}
 use Rattle.std.specs.declared.boxed.Box.{Box}
 use Rattle.std.specs.declared.alloc.Global.{Global}
 use Rattle.syn_parts.specs.Tree.{AttributeTree}
 use Rattle.syn_parts.specs.Pat as t
 use Rattle.syn_parts.specs.Pat.{PatTree}
-use Rattle.syn_parts.specs.PatFits.{attributes_outer}
 use Rattle.syn_lower.specs.View.{mapped, lifetimes_of, return_of, values, trails}
 use Rattle.syn_lower_leaves.specs.declared.attr.Attribute.{Attribute}
 use Rattle.syn_lower_lists.specs.declared.punctuated.Punctuated.{Punctuated}
 use Rattle.syn_grammar.specs.Tree as e
-use Rattle.syn_grammar.specs.Tree.{Tree, ClosureHead, lead, frame, kid, none}
+use Rattle.syn_grammar.specs.Tree.{Tree, ClosureHead, lead, frame, kid, none, body_of, inners, outers}
 use Rattle.syn_expr_parts.specs.View.{label_of}
 use Rattle.syn_pat_kinds.specs.View.{PatView}
 use Rattle.syn_expr_kinds.specs.Attrs.{attrs_of, outer_of, inner_of}
 use Rattle.syn_expr_kinds.specs.Both.{arm_of, expr_closure_of, expr_for_loop_of, expr_let_of, expr_match_of, guarded_of}
 use Rattle.syn_expr_kinds.specs.Pats.{ArmView, arms, closure_by, guards, strays, trees}
-use Rattle.syn_expr_kinds.specs.View.{body_of}
 use Rattle.syn_expr_kinds.specs.declared.pattern.ArmOf.{ArmOf}
 use Rattle.syn_expr_kinds.specs.declared.pattern.ExprClosureOf.{ExprClosureOf}
 use Rattle.syn_expr_kinds.specs.declared.pattern.ExprForLoopOf.{ExprForLoopOf}
@@ -28,6 +26,7 @@ use Rattle.syn_expr_flat.specs.Each.{Each}
 use Rattle.syn_expr_flat.specs.Flat.{IsFlat, IsFlatBehind, before}
 use Rattle.syn_expr_flat.specs.Pats.{IsFlatArm, IsFlatPat}
 use Rattle.syn_expr_flat.proofs.Arms.{arms_flat, closure_flat, closure_plain}
+use Rattle.syn_expr_flat.proofs.Braced.{at_braces, for_loop_braced, match_braced}
 use Rattle.syn_expr_flat.proofs.Each.{each_both, each_one}
 use Rattle.syn_expr_flat.proofs.Kids.{frame_flat, kid_flat, leads_flat, none_flat, strays_flat}
 use Rattle.syn_expr_flat.proofs.Nodes.{at_node, same_flat}
@@ -35,7 +34,7 @@ use Rattle.syn_expr_flat.proofs.Pats.{attributed}
 
 -- these attributes, and those of parentheses before them
 abbrev pub Joined : Option (Vec Attribute Global) → Vec Attribute Global → Vec Attribute Global → Type 0
-Joined ats old new = (attributes_outer (before ats) ≡ true → outer_of new ≡ before ats ++ outer_of old) × (attributes_outer (before ats) ≡ true → inner_of new ≡ inner_of old)
+Joined ats old new = (outer_of new ≡ outers (before ats) ++ outer_of old) × (inner_of new ≡ inners (before ats) ++ inner_of old)
 
 module _ {P : Type 0} (g : P → PatView) where
   abbrev pub ArePats : List P → List P → Type 0
@@ -70,7 +69,7 @@ module _ {E P : Type 0} (f : E → Tree) (g : P → PatView) where
         output = return_of x.output;
       } in
       let whole : ClosureHead → Tree = λ h. closure_by (return_of x.output) h (guards (map g (values ps))) (f b.value) in
-      at_node ats _ _ _ _ (closure_plain (return_of x.output) _ _ _) (λ o. joined) (λ o. same_flat _ _ _
+      at_node ats _ _ _ _ (closure_plain (return_of x.output) _ _ _) joined (same_flat _ _ _
       (ap (λ l. whole (head l (trails ps))) (same_inputs g (values x.inputs) (values ps) inputs) ∙ ap (λ c. whole (head (trees (map g (values x.inputs))) c)) same)
       (closure_flat (return_of x.output) _ _ _ _ _ (inputs_flat g (values x.inputs) (values ps) inputs) body))
 
@@ -78,16 +77,17 @@ module _ {E P : Type 0} (f : E → Tree) (g : P → PatView) where
       → Joined ats x.attrs v → IsFlatPat (g x.pat.value) (g p.value) → IsFlat (f x.expr.value) (f b.value)
       → IsFlatBehind ats (expr_for_loop_of f g x) (expr_for_loop_of f g (record x { attrs = v; pat = p; expr = b }))
   for_loop_behind ats x v p b joined pat expr =
-      let whole : List AttributeTree → PatTree → Tree = λ l q. frame (e.for_loop (mapped label_of x.label) q) (strays (g p.value).guards (kid e.loop_head (e.braced (body_of l x.body.stmts)) (f b.value) none)) in
-      at_node ats _ _ _ _ refl joined.0 (λ o. same_flat _ _ _
-      (ap (λ l. whole l (g p.value).tree) (joined.1 o) ∙ ap (whole (inner_of x.attrs)) pat.0)
+      let label = mapped label_of x.label in
+      let was : List AttributeTree → Tree = λ l. frame (e.for_loop label (g x.pat.value).tree) (strays (g x.pat.value).guards (kid e.loop_head (e.braced (body_of l x.body.stmts)) (f x.expr.value) none)) in
+      let now : PatTree → Tree = λ q. frame (e.for_loop label q) (strays (g p.value).guards (kid e.loop_head (e.braced (body_of (inner_of v) x.body.stmts)) (f b.value) none)) in
+      at_braces ats x.attrs v was _ (for_loop_braced label (g x.pat.value).tree (g x.pat.value).guards x.body.stmts (f x.expr.value)) joined.0 joined.1 (same_flat _ _ _ (ap now pat.0)
       (frame_flat _ _ _ (strays_flat _ _ _ _ pat.1 (kid_flat _ _ _ _ _ _ expr none_flat))))
 
   pub let_behind : (ats : Option (Vec Attribute Global)) (x : ExprLetOf E P) (v : Vec Attribute Global) (p : Box P Global) (b : Box E Global)
       → attrs_of v ≡ before ats ++ attrs_of x.attrs → IsFlatPat (g x.pat.value) (g p.value) → IsFlat (f x.expr.value) (f b.value)
       → IsFlatBehind ats (expr_let_of f g x) (expr_let_of f g (record x { attrs = v; pat = p; expr = b }))
   let_behind ats x v p b joined pat expr =
-      at_node ats _ _ _ _ refl (λ o. joined) (λ o. same_flat _ _ _
+      at_node ats _ _ _ _ refl joined (same_flat _ _ _
       (ap (λ q. lead (e.binding q) (strays (g p.value).guards none) (f b.value)) pat.0)
       (leads_flat _ _ _ _ _ (strays_flat _ _ _ _ pat.1 none_flat) expr))
 
@@ -104,6 +104,5 @@ module _ {E A : Type 0} (f : E → Tree) (a : A → ArmView) where
       → Joined ats x.attrs v → IsFlat (f x.expr.value) (f b.value) → Each (λ p q. IsFlatArm (a p) (a q)) x.arms.items more.items
       → IsFlatBehind ats (expr_match_of f a x) (expr_match_of f a (record x { attrs = v; expr = b; arms = more }))
   match_behind ats x v b more joined expr all =
-      at_node ats _ _ _ _ refl joined.0 (λ o. same_flat _ _ _
-      (ap (λ l. frame e.choice (kid e.scrutinee (e.opened l) (f b.value) (arms (map a more.items)))) (joined.1 o))
-      (frame_flat _ _ _ (kid_flat _ _ _ _ _ _ expr (arms_flat a _ _ all))))
+      at_braces ats x.attrs v (λ l. frame e.choice (kid e.scrutinee (e.opened l) (f x.expr.value) (arms (map a x.arms.items)))) _
+      (match_braced (f x.expr.value) (arms (map a x.arms.items))) joined.0 joined.1 (frame_flat _ _ _ (kid_flat _ _ _ _ _ _ expr (arms_flat a _ _ all)))

@@ -18,7 +18,7 @@ use syn_expr_all::closure::ExprClosure;
 use syn_expr_all::control::{Arm, ExprForLoop, ExprLet, ExprMatch};
 use syn_expr_all::expr::Expr;
 use syn_expr_all::pat::{Pat, PatGuard};
-use syn_expr_flat::attrs::{Before, put_before};
+use syn_expr_flat::attrs::{Before, put_around, put_before};
 use syn_expr_flat::operands::{Flattened, boxed, punctuated};
 
 /// A pattern with a guard, without the parentheses in it.
@@ -71,7 +71,7 @@ pub(crate) fn for_loop<F: Fn(&mut Expr) -> Flattened<()>, G: Fn(&mut Pat) -> Fla
     requires gives { Flattens tree_of (F.post flatten) }
     ensures { IfOk result (λ _. IsFlatBehind attrs (for_loop_of x.old) (for_loop_of x.new)) }
 {
-    put_before(attrs, &mut x.attrs)?;
+    put_around(attrs, &mut x.attrs)?;
     boxed(&mut x.pat, pattern)?;
     boxed(&mut x.expr, flatten)?;
     Ok(())
@@ -126,7 +126,7 @@ pub(crate) fn match_expr<F: Fn(&mut Expr) -> Flattened<()>, A: Fn(&mut Arm) -> F
     requires each { FlattensArm arm_of (A.post arm) }
     ensures { IfOk result (λ _. IsFlatBehind attrs (choice_of x.old) (choice_of x.new)) }
 {
-    put_before(attrs, &mut x.attrs)?;
+    put_around(attrs, &mut x.attrs)?;
     boxed(&mut x.expr, flatten)?;
     each(&mut x.arms, arm)?;
     Ok(())

@@ -11,10 +11,9 @@ use syn_tokens::error::{ErrorKind, Result};
 
 /// Takes away all parentheses in an expression, those round it too, wherever an expression may stand: in its operands,
 /// in the guards of patterns, in the bodies of arms and closures. Blocks stay as they are, whose tokens are kept. The
-/// attributes that stood before parentheses come before those of the expression in them; before tokens that are kept
-/// they are the first of these tokens. This is said of expressions in which parentheses have outer attributes alone, as
-/// in all that are read (`read_parens_are_outer` of `syn_expr_flat`) and all that are well-formed
-/// (`formed_parens_are_outer`).
+/// attributes of parentheses come before those of the expression in them; before tokens that are kept the outer ones are
+/// the first of these tokens. Inner ones, which no parentheses that are read have, are printed where the expression has
+/// braces for them, and nowhere else.
 ///
 /// It means the same: an expression is printed with the parentheses that it needs, whether it has any or not
 /// (`print_expr`). A well-formed one stays well-formed, and where no comma and no `..` is filled in to it when it is printed,

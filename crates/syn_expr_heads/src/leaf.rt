@@ -26,7 +26,7 @@ use syn_lower::path::{Path, QSelf};
 use syn_lower::readers::ty;
 use syn_lower_leaves::front::{constant, underscore, unsafe_word};
 use syn_lower_leaves::kept::block;
-use syn_lower_leaves::leaf::unsigned;
+use syn_lower_leaves::leaf::{name, unsigned};
 use syn_lower_lists::readers::maybe_lifetime;
 use syn_lower_readers::grammar::Grammar;
 use syn_lower_readers::qualified::{MacroEnd, macro_end};
@@ -35,7 +35,7 @@ use syn_parts::label::PathStyle;
 use syn_tokens::Delimiter;
 use syn_tokens::buffer::{ParseBuffer, Token};
 use syn_tokens::copy::copy_trees;
-use syn_tokens::error::{ErrorKind, Expected, Result};
+use syn_tokens::error::{Error, ErrorKind, Expected, Result, Wanted};
 use syn_tokens::token::{Async, Const, Loop, Try};
 use syn_tokens::tree::{TokenStream, TokenTree};
 
@@ -59,7 +59,23 @@ fn is_builtin(trees: &[TokenTree]) -> bool
     }
 }
 
-/// Reads `builtin`, `#`, a name and parentheses, whose tokens are kept.
+/// The refusal of special syntax that lacks its name behind `builtin` and `#`, or the parentheses behind the name.
+fn incomplete_builtin(input: &mut ParseBuffer<'_>) -> Error
+    ensures noted { input.new.noted ≡ input.old.noted }
+    ensures shrinks { weight input.new.rest ≤ weight input.old.rest }
+{
+    input.skip(2);
+    match name(input) {
+        Ok(_) => {
+            let parentheses = Wanted::Delimiter(Delimiter::Parenthesis);
+            input.error(ErrorKind::ExpectedToken(Expected::One(parentheses)))
+        }
+        Err(error) => error,
+    }
+}
+
+/// Reads `builtin`, `#`, a name and parentheses, whose tokens are kept. It is refused as `ExpectedToken` where the name or the
+/// parentheses are missing.
 #[tactic(auto, using(syn_tokens::proofs::Views::views), unfolding(syn_grammar::specs::Head::builtin))]
 fn builtin(input: &mut ParseBuffer<'_>) -> Result<TokenStream>
     ensures value { Reads (λ s. s) (head.builtin.reads input.old.rest) result input.new.rest }
@@ -67,7 +83,7 @@ fn builtin(input: &mut ParseBuffer<'_>) -> Result<TokenStream>
     ensures shrinks { weight input.new.rest ≤ weight input.old.rest }
 {
     if !is_builtin(input.trees()) {
-        return Err(input.error(ErrorKind::ExpectedExpression));
+        return Err(incomplete_builtin(input));
     }
     let mut tokens = copy_trees(input.alloc(), input.trees())?;
     tokens.truncate(4);
@@ -214,8 +230,8 @@ fn labelled_leaf(input: &mut ParseBuffer<'_>) -> Result<LeafHead>
 /// `continue`, a loop, a block, special syntax, a path or a macro (Rust Reference, "Expressions").
 ///
 /// It is refused as `ExpectedPart` of a path where none of them begins, as `ExpectedPart` of a literal at a token that is
-/// no literal's, as `ExpectedPart` of a macro where no group is behind the `!` of one, as `ExpectedExpression` at special
-/// syntax without parentheses, and as `ExpectedToken` where another token is missing.
+/// no literal's, as `ExpectedPart` of a macro where no group is behind the `!` of one, and as `ExpectedToken` where another
+/// token is missing.
 #[tactic(auto, unfolding(syn_grammar::specs::Head::leaf_form))]
 pub fn leaf(input: &mut ParseBuffer<'_>) -> Result<LeafHead>
     ensures value { Reads leaf_of (head.leaf_form.reads input.old.rest) result input.new.rest }

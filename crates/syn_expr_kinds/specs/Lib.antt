@@ -1,5 +1,5 @@
 pub mod Attrs
-pub mod Before
+pub mod Styles
 pub mod Both
 pub mod Node
 pub mod Pats

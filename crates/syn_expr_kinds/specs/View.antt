@@ -2,12 +2,12 @@
 use Rattle.std.specs.Prelude.{Bool, false, not, ◌||◌, ◌&&◌, if◌then◌else◌, List, [], ◌∷◌, map, Option, Some, None, is_some}
 use Rattle.std.specs.declared.boxed.Box.{Box}
 use Rattle.std.specs.declared.alloc.Global.{Global}
-use Rattle.syn_tokens.specs.Tok.{Tok}
 use Rattle.syn_parts.specs.Form.{is_nil}
 use Rattle.syn_parts.specs.Tree.{AttributeTree, ArgumentsTree, no_arguments}
 use Rattle.syn_parts.specs.Pat.{MemberTree}
 use Rattle.syn_grammar.specs.Tree as e
-use Rattle.syn_grammar.specs.Tree.{Tree, Kids, Ending, Piece, Body, Jump, leaf, paren, lead, mid, post, tail, frame, none, kid, adorn}
+use Rattle.syn_grammar.specs.Tree.{Tree, Kids, Ending, Piece, Jump, leaf, paren, lead, mid, post, tail, frame, none, kid, adorn}
+pub use Rattle.syn_grammar.specs.Tree.{body_of}
 use Rattle.syn_grammar.specs.declared.kinds.Infix.TheVariants as inf
 use Rattle.syn_grammar.specs.declared.kinds.Limits.{Limits}
 use Rattle.syn_lower_leaves.specs.View.{lit_of}
@@ -183,10 +183,6 @@ abbrev pub expr_try_of : {E : Type 0} → (E → Tree) → ExprTryOf E → Tree
 expr_try_of f x = adorn (attrs_of x.attrs) (tail (f x.expr.value) e.question none)
 
 -- ---- blocks
-
--- what is in the braces of a node with these attributes
-abbrev pub body_of : List AttributeTree → List Tok → Body
-body_of ats ts = record { inner = ats; tokens = ts }
 
 abbrev pub expr_async_of : ExprAsync → Tree
 expr_async_of x = adorn (attrs_of x.attrs) (leaf (e.async_block (is_some x.capture) x.block.stmts))

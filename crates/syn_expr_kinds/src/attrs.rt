@@ -1,14 +1,16 @@
 //! Attributes (Rust Reference, "Attributes"): those before a node, and the inner ones, which stand first in its braces.
 
 ghost use Rattle.std.specs.Prelude.{◌≡◌, ◌++◌, [], map, OnOk};
-ghost use Rattle.syn_expr_kinds.specs.Attrs as spec;
-ghost use Rattle.syn_expr_kinds.specs.Attrs.{inner_of};
+ghost use Rattle.syn_expr_kinds.specs.Attrs.{attrs_of, inner_of, outer_of};
 ghost use Rattle.syn_expr_kinds.specs.Node.{before_of, braces_of};
-ghost use Rattle.syn_expr_kinds.specs.Before.{before_printed};
+ghost use Rattle.syn_expr_kinds.specs.Styles.{inner_printed, outer_printed};
+ghost use Rattle.syn_grammar.specs.Tree as spec;
+ghost use Rattle.syn_grammar.specs.Tree.{inners, outers};
 ghost use Rattle.syn_grammar.specs.WellFormed.{attributes_inner};
 ghost use Rattle.syn_lower_leaves.specs.ReadBack.{all_printed};
 ghost use Rattle.syn_lower_leaves.specs.View.{attribute_of};
 ghost use Rattle.syn_parts.specs.Form.{is_nil};
+ghost use Rattle.syn_parts.specs.PatFits.{attributes_outer};
 ghost use Rattle.syn_parts.specs.PatOwn.{attributes_own};
 ghost use Rattle.syn_tokens.specs.Input.{IsFront};
 
@@ -18,14 +20,15 @@ use syn_lower::attr::{AttrStyle, Attribute};
 use syn_tokens::buffer::ToTokens;
 use syn_tokens::tree::TokenStream;
 
-fn is_inner(attr: &Attribute) -> bool
+/// Whether it is an inner one.
+pub fn is_inner(attr: &Attribute) -> bool
     ensures { result ≡ (attribute_of attr.now).inner }
 {
     matches!(attr.style, AttrStyle::Inner(_))
 }
 
 /// The attributes from the first inner one on.
-fn from_inner(attrs: &[Attribute]) -> &[Attribute]
+pub fn from_inner(attrs: &[Attribute]) -> &[Attribute]
     ensures { map attribute_of result.now ≡ spec.from_inner (map attribute_of attrs.now) }
 {
     let mut rest = attrs;
@@ -52,10 +55,24 @@ fn all_inner(mut attrs: &[Attribute]) -> bool
 }
 
 /// Whether no outer one stands behind an inner one.
-pub fn is_in_order(attrs: &[Attribute]) -> bool
-    ensures { result ≡ spec.is_in_order (map attribute_of attrs.now) }
+#[tactic(auto, unfolding(crate::specs::Attrs::inner_of))]
+pub fn is_in_order(attrs: &Vec<Attribute>) -> bool
+    ensures { result ≡ attributes_inner (inner_of attrs.now) }
 {
     all_inner(from_inner(attrs))
+}
+
+/// Whether all are outer ones.
+#[tactic(auto, unfolding(crate::specs::Attrs::attrs_of))]
+pub fn all_outer(attrs: &Vec<Attribute>) -> bool
+    ensures { result ≡ attributes_outer (attrs_of attrs.now) }
+{
+    for attr in attrs {
+        if is_inner(attr) {
+            return false;
+        }
+    }
+    true
 }
 
 impl Attributes<'_> {
@@ -70,15 +87,26 @@ impl Attributes<'_> {
             Attributes::Around(attrs) => all_inner(attrs),
         }
     }
+
+    /// Whether none are printed before the node: its inner ones stand in its braces, or nowhere.
+    #[tactic(auto, using(crate::proofs::Attributes::bares), unfolding(crate::specs::Attrs::attrs_of, crate::specs::Attrs::outer_of))]
+    pub fn prints_none_before(self) -> bool
+        ensures { result ≡ is_nil (outers (before_of self.entry)) }
+    {
+        match self {
+            Attributes::None => true,
+            Attributes::Before(attrs) | Attributes::Around(attrs) => all_inner(attrs),
+        }
+    }
 }
 
 impl Braces<'_> {
     /// Whether none of the attributes of the node stand first in them.
-    #[tactic(auto, using(crate::proofs::Attributes::inners), unfolding(crate::specs::Attrs::inner_of))]
+    #[tactic(auto, using(crate::proofs::Attributes::inside), unfolding(crate::specs::Attrs::attrs_of, crate::specs::Attrs::inner_of))]
     pub fn is_bare(self) -> bool
         ensures { result ≡ is_nil (braces_of self.entry).inner }
     {
-        !is_in_order(self.attrs) || from_inner(self.attrs).is_empty()
+        all_outer(self.attrs)
     }
 }
 
@@ -104,58 +132,62 @@ pub fn put_all(tokens: &mut TokenStream, attrs: &[Attribute]) -> Grown
     put_parts(tokens, attrs)
 }
 
-/// Puts the attributes before the first inner one.
+/// Puts the outer ones, one behind another.
 #[tactic(auto, using(syn_tokens::proofs::Fronts::fronts))]
-fn put_before_inner(tokens: &mut TokenStream, mut attrs: &[Attribute]) -> Grown
-    ensures ok { OnOk result (tokens.new ≡ tokens.old ++ before_printed attrs.entry.now) }
+fn put_outer_ones(tokens: &mut TokenStream, mut attrs: &[Attribute]) -> Grown
+    ensures ok { OnOk result (tokens.new ≡ tokens.old ++ outer_printed attrs.entry.now) }
     ensures front { IsFront tokens.old tokens.new }
 {
     'attrs: while let [attr, more @ ..] = attrs {
-        if is_inner(attr) {
-            return Ok(());
+        if !is_inner(attr) {
+            put(tokens, attr)?;
         }
-        put(tokens, attr)?;
         attrs = more;
     }
     Ok(())
 }
 
-/// Puts those of a node with braces that stand before it: all but the inner ones, and all where an outer one stands behind
-/// an inner one.
-#[tactic(auto, using(syn_tokens::proofs::Fronts::fronts, crate::proofs::Attributes::outer))]
-fn put_outer(tokens: &mut TokenStream, attrs: &[Attribute]) -> Grown
-    ensures ok { OnOk result (tokens.new ≡ tokens.old ++ attributes_own (spec.outer_part (map attribute_of attrs.now)) []) }
+/// Puts the inner ones, one behind another.
+#[tactic(auto, using(syn_tokens::proofs::Fronts::fronts))]
+fn put_inner_ones(tokens: &mut TokenStream, mut attrs: &[Attribute]) -> Grown
+    ensures ok { OnOk result (tokens.new ≡ tokens.old ++ inner_printed attrs.entry.now) }
     ensures front { IsFront tokens.old tokens.new }
 {
-    if is_in_order(attrs) {
-        put_before_inner(tokens, attrs)
-    } else {
-        put_all(tokens, attrs)
+    'attrs: while let [attr, more @ ..] = attrs {
+        if is_inner(attr) {
+            put(tokens, attr)?;
+        }
+        attrs = more;
     }
+    Ok(())
 }
 
-/// Puts those of a node with braces that stand first in them.
-#[tactic(auto, using(syn_tokens::proofs::Fronts::fronts, crate::proofs::Attributes::attrs), unfolding(crate::specs::Attrs::inner_of))]
+/// Puts those of a node or of a field that stand before it: the outer ones.
+#[tactic(auto, using(crate::proofs::Attributes::styles), unfolding(crate::specs::Attrs::outer_of))]
+pub fn put_outer(tokens: &mut TokenStream, attrs: &Vec<Attribute>) -> Grown
+    ensures ok { OnOk result (tokens.new ≡ tokens.old ++ attributes_own (outer_of attrs.now) []) }
+    ensures front { IsFront tokens.old tokens.new }
+{
+    put_outer_ones(tokens, attrs)
+}
+
+/// Puts those of a node with braces that stand first in them: the inner ones.
+#[tactic(auto, using(crate::proofs::Attributes::styles), unfolding(crate::specs::Attrs::inner_of))]
 pub fn put_inner(tokens: &mut TokenStream, attrs: &Vec<Attribute>) -> Grown
-    ensures ok { OnOk result (tokens.new ≡ tokens.old ++ attributes_own (inner_of attrs.now) []) }
+    ensures ok { OnOk result (tokens.new ≡ tokens.old ++ attributes_own (inners (inner_of attrs.now)) []) }
     ensures front { IsFront tokens.old tokens.new }
 {
-    if is_in_order(attrs) {
-        put_all(tokens, from_inner(attrs))
-    } else {
-        Ok(())
-    }
+    put_inner_ones(tokens, attrs)
 }
 
-/// Puts the attributes that stand before a node.
-#[tactic(auto, using(syn_tokens::proofs::Fronts::fronts, crate::proofs::Attributes::attrs), unfolding(crate::specs::Attrs::attrs_of, crate::specs::Attrs::outer_of))]
+/// Puts the attributes that stand before a node. An inner one stands in braces, so none is put.
+#[tactic(auto, using(crate::proofs::Attributes::once), unfolding(crate::specs::Attrs::attrs_of, crate::specs::Attrs::outer_of))]
 pub fn put_attributes(tokens: &mut TokenStream, attributes: Attributes<'_>) -> Grown
-    ensures ok { OnOk result (tokens.new ≡ tokens.old ++ attributes_own (before_of attributes.entry) []) }
+    ensures ok { OnOk result (tokens.new ≡ tokens.old ++ attributes_own (outers (before_of attributes.entry)) []) }
     ensures front { IsFront tokens.old tokens.new }
 {
     match attributes {
         Attributes::None => Ok(()),
-        Attributes::Before(attrs) => put_all(tokens, attrs),
-        Attributes::Around(attrs) => put_outer(tokens, attrs),
+        Attributes::Before(attrs) | Attributes::Around(attrs) => put_outer(tokens, attrs),
     }
 }

@@ -1,5 +1,5 @@
 -- Trees tell what they are made of: attributes before a node and in its braces, and operands in places of their own.
-use Rattle.std.proofs.Common.{◌≡◌, ◌↔◌, Bool, true, false, not, ◌&&◌, if◌then◌else◌, List, [], ◌∷◌, ◌++◌, map, Option, Some, None, is_some, refl, sym, ◌∙◌, ap, append-nil}
+use Rattle.std.proofs.Common.{◌≡◌, ◌↔◌, Bool, true, false, not, ◌&&◌, List, [], ◌∷◌, ◌++◌, map, Option, Some, None, is_some, refl, sym, ◌∙◌, ap}
 use Rattle.std.specs.Cmp.Lexicographic.{pointwise}
 use Rattle.std.specs.Option.{option_eq}
 use Rattle.std.specs.declared.vec.Vec.{Vec}
@@ -7,7 +7,7 @@ use Rattle.std.specs.declared.boxed.Box.{Box}
 use Rattle.std.specs.declared.alloc.Global.{Global}
 use Rattle.syn_parts.specs.Tree.{AttributeTree}
 use Rattle.syn_grammar.specs.Tree as e
-use Rattle.syn_grammar.specs.Tree.{Tree, Kids, Ending, adorn, adorned, none, kid}
+use Rattle.syn_grammar.specs.Tree.{Tree, Kids, Ending, adorn, adorned, from_inner, none, kid, outers}
 use Rattle.syn_lower_leaves.specs.Equal.{IsEqualityOf}
 use Rattle.syn_lower_leaves.specs.declared.attr.Attribute.{Attribute}
 use Rattle.syn_lower_leaves.specs.contracts.attr.AttributePartialEq.TheImpl as attribute_test
@@ -16,8 +16,9 @@ use Rattle.syn_lower_leaves.proofs.LeafTies.{attribute_tie}
 use Rattle.syn_lower_lists.specs.View.{values, trails, is_some_pair, last_of}
 use Rattle.syn_lower_lists.specs.declared.punctuated.Punctuated.{Punctuated}
 use Rattle.syn_lower_laws.proofs.ListTies.{punctuated_tie}
-use Rattle.syn_expr_kinds.specs.Attrs.{attrs_of, outer_of, inner_of, outer_part, inner_part, before_inner, from_inner, is_in_order}
+use Rattle.syn_expr_kinds.specs.Attrs.{attrs_of, outer_of, inner_of}
 use Rattle.syn_expr_kinds.specs.View.{elements, boxed}
+use Rattle.syn_expr_kinds.proofs.Attributes.{parts_tell}
 
 -- ---- attributes
 
@@ -49,33 +50,17 @@ behind_tie {A} attrs {core} plain t =
     into_tie {f = λ x. (attrs_of (attrs x), core x)} (λ x. adorn (attrs_of (attrs x)) (core x)) (λ x y h i. adorn (h i).0 (h i).1)
     (λ x y h. let r = adorn_once (attrs_of (attrs x)) (attrs_of (attrs y)) (core x) (core y) (plain x) (plain y) h in pair_path r.0 r.1) (both_tie (on_tie attrs attrs_tie) t)
 
--- both parts, one behind the other, are all attributes in their order
-one_whole : (b : Bool) (a : AttributeTree) (l m more : List AttributeTree) → l ++ m ≡ more → (if b then [] else a ∷ l) ++ (if b then a ∷ more else m) ≡ a ∷ more
-one_whole true a l m more h = refl
-one_whole false a l m more h = ap (λ k. a ∷ k) h
-
-whole : (ats : List AttributeTree) → before_inner ats ++ from_inner ats ≡ ats
-whole [] = refl
-whole (a ∷ more) = one_whole a.inner a (before_inner more) (from_inner more) more (whole more)
-
-either_half : (b : Bool) (ats : List AttributeTree) → (if b then before_inner ats else ats) ++ (if b then from_inner ats else []) ≡ ats
-either_half true ats = whole ats
-either_half false ats = append-nil ats
-
-halves : (ats : List AttributeTree) → outer_part ats ++ inner_part ats ≡ ats
-halves ats = either_half (is_in_order ats) ats
-
 -- a node behind its outer attributes, with the inner ones in its braces
 pub around_tie : {A B : Type 0} (attrs : A → Attrs) {g : A → B} {F : A → A → Bool} (make : List AttributeTree → B → Tree) → ((a : List AttributeTree) (p : B) → is_core (make a p) ≡ true)
     → ((a b : List AttributeTree) (p q : B) → make a p ≡ make b q → (a ≡ b) × (p ≡ q)) → IsEqualityOf g F
     → IsEqualityOf (λ x. adorn (outer_of (attrs x)) (make (inner_of (attrs x)) (g x))) (λ x y. attrs_test (attrs x) (attrs y) && F x y)
 unfolding attrs_of outer_of inner_of
 around_tie {A} {B} attrs {g} make plain once t =
-    into_tie {f = λ x. (attrs_of (attrs x), g x)} (λ x. adorn (outer_of (attrs x)) (make (inner_of (attrs x)) (g x))) (λ x y h i. adorn (outer_part (h i).0) (make (inner_part (h i).0) (h i).1))
+    into_tie {f = λ x. (attrs_of (attrs x), g x)} (λ x. adorn (outer_of (attrs x)) (make (inner_of (attrs x)) (g x))) (λ x y h i. adorn (outers (h i).0) (make (from_inner (h i).0) (h i).1))
     (λ x y h.
     let r = adorn_once (outer_of (attrs x)) (outer_of (attrs y)) (make (inner_of (attrs x)) (g x)) (make (inner_of (attrs y)) (g y)) (plain (inner_of (attrs x)) (g x)) (plain (inner_of (attrs y)) (g y)) h in
     let s = once (inner_of (attrs x)) (inner_of (attrs y)) (g x) (g y) r.1 in
-    pair_path (sym (halves (attrs_of (attrs x))) ∙ ((λ i. r.0 i ++ s.0 i) ∙ halves (attrs_of (attrs y)))) s.1)
+    pair_path (parts_tell (attrs_of (attrs x)) (attrs_of (attrs y)) r.0 s.0) s.1)
     (both_tie (on_tie attrs attrs_tie) t)
 
 -- ---- operands with commas

@@ -33,7 +33,7 @@ impl Parse for Index {
 
     ghost least = { 1 };
 
-    ghost refuses = { refusal.MayRefuseIndex };
+    ghost refuses = { λ l kind. kind ≡ refusal.index_refusal l };
 
     /// Reads an index (Rust Reference, "Tuple indexing expressions"). An integer with a suffix, or another token, is
     /// refused as `ExpectedUnsuffixedInteger`, an integer above 4294967295 as `IndexOutOfRange`. It takes no memory.
@@ -55,7 +55,7 @@ impl Parse for Member {
 
     ghost least = { 1 };
 
-    ghost refuses = { λ kind. (kind ≡ OutOfMemory) ⊎ refusal.MayRefuseMember kind };
+    ghost refuses = { λ l kind. (kind ≡ OutOfMemory) ⊎ (kind ≡ refusal.member_refusal l) };
 
     /// Reads a member, a name or an index (Rust Reference, "Field access expressions", "Tuple indexing expressions"). An
     /// integer with a suffix is refused as `ExpectedUnsuffixedInteger`, one above 4294967295 as `IndexOutOfRange`, and
@@ -74,7 +74,7 @@ impl ReadByForm for Label {
 
     ghost form = { spec.labeled };
 
-    ghost refuses = { λ kind. (kind ≡ OutOfMemory) ⊎ refusal.MayRefuseLabel kind };
+    ghost refuses = { λ l kind. (kind ≡ OutOfMemory) ⊎ (kind ≡ refusal.label_refusal l) };
 
     fn read(input: &mut ParseBuffer<'_>) -> Result<Self> {
         label(input)
@@ -94,7 +94,7 @@ impl Parse for Label {
 
     ghost least = { 1 };
 
-    ghost refuses = { λ kind. (kind ≡ OutOfMemory) ⊎ refusal.MayRefuseLabel kind };
+    ghost refuses = { λ l kind. (kind ≡ OutOfMemory) ⊎ (kind ≡ refusal.label_refusal l) };
 
     /// Reads a label (Rust Reference, "Loop labels"); it is refused as `ExpectedToken` of a lifetime or of `:`.
     fn parse(input: &mut ParseBuffer<'_>) -> Result<Self> {

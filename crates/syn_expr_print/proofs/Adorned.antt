@@ -8,7 +8,7 @@ use Rattle.syn_grammar.specs.Next.{adorned_context}
 use Rattle.syn_grammar.specs.Rule.{is_operation}
 use Rattle.syn_grammar.specs.Stands.{is_adorned, is_range_leaf, is_range_lead}
 use Rattle.syn_grammar.specs.Tree as e
-use Rattle.syn_grammar.specs.Tree.{Tree, Leaf, Lead, leaf, paren, adorned, lead, mid, post, tail, frame}
+use Rattle.syn_grammar.specs.Tree.{Tree, Leaf, Lead, leaf, paren, adorned, outers, lead, mid, post, tail, frame}
 use Rattle.syn_expr_notes.specs.Kind.{kind_at}
 use Rattle.syn_expr_notes.specs.Label as label
 use Rattle.syn_expr_notes.specs.Label.{leaf_kind, lead_kind}
@@ -86,15 +86,15 @@ operation-core t l = plain-operation (core t) (ap is_adorned l ∙ plain-node (s
 -- ---- attributes
 
 pub adorned-text : (c : Context) (t : Tree) → IsLent t → is_nil (attributes_at t) ≡ false
-    → spelled c t ≡ attributes_own (attributes_at t) [] ++ spelled_in (is_operation_kind (kind_at t)) (adorned_context c) (core t)
+    → spelled c t ≡ attributes_own (outers (attributes_at t)) [] ++ spelled_in (is_operation_kind (kind_at t)) (adorned_context c) (core t)
 adorned-text c t l h = by (attributes_at t) refl h
   where
-    by : (x : List AttributeTree) → attributes_at t ≡ x → is_nil x ≡ false → spelled c t ≡ attributes_own (attributes_at t) [] ++ spelled_in (is_operation_kind (kind_at t)) (adorned_context c) (core t)
+    by : (x : List AttributeTree) → attributes_at t ≡ x → is_nil x ≡ false → spelled c t ≡ attributes_own (outers (attributes_at t)) [] ++ spelled_in (is_operation_kind (kind_at t)) (adorned_context c) (core t)
     by [] i g = absurd cc
     by (a ∷ more) i g =
         spelled-adorned c t a more i
-        ∙ ap (λ w. attributes_own (a ∷ more) [] ++ spelled_in w (adorned_context c) (core t)) (operation-core t l)
-        ∙ ap (λ z. attributes_own z [] ++ spelled_in (is_operation_kind (kind_at t)) (adorned_context c) (core t)) (sym i)
+        ∙ ap (λ w. attributes_own (outers (a ∷ more)) [] ++ spelled_in w (adorned_context c) (core t)) (operation-core t l)
+        ∙ ap (λ z. attributes_own (outers z) [] ++ spelled_in (is_operation_kind (kind_at t)) (adorned_context c) (core t)) (sym i)
 
 pub plain-text : (c : Context) (t : Tree) → is_nil (attributes_at t) ≡ true → spelled c (core t) ≡ spelled c t
 plain-text c t h = by (attributes_at t) refl h
@@ -105,12 +105,12 @@ plain-text c t h = by (attributes_at t) refl h
 
 -- the attributes, and then the node
 pub adorned-joined : (c d : Context) (t : Tree) (ats : List AttributeTree) (w : Bool) (old now : List Tok) → IsLent t → is_nil (attributes_at t) ≡ false
-    → ats ≡ attributes_at t → now ≡ old ++ attributes_own ats [] → d ≡ adorned_context c → w ≡ is_operation_kind (kind_at t)
+    → ats ≡ attributes_at t → now ≡ old ++ attributes_own (outers ats) [] → d ≡ adorned_context c → w ≡ is_operation_kind (kind_at t)
     → now ++ spelled_in w d (core t) ≡ old ++ spelled c t
 adorned-joined c d t ats w old now l h a m e f =
     let x = spelled_in (is_operation_kind (kind_at t)) (adorned_context c) (core t) in
     let same : spelled_in w d (core t) ≡ x = rw (f, e) refl in
-    ap (λ z. now ++ z) same ∙ ap (λ z. z ++ x) (m ∙ ap (λ z. old ++ attributes_own z []) a)
-    ∙ append_assoc old (attributes_own (attributes_at t) []) x ∙ ap (λ z. old ++ z) (sym (adorned-text c t l h))
+    ap (λ z. now ++ z) same ∙ ap (λ z. z ++ x) (m ∙ ap (λ z. old ++ attributes_own (outers z) []) a)
+    ∙ append_assoc old (attributes_own (outers (attributes_at t)) []) x ∙ ap (λ z. old ++ z) (sym (adorned-text c t l h))
 
 pub ruleset plain = (plain-text)

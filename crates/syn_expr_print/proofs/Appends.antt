@@ -15,7 +15,7 @@ use Rattle.syn_grammar.specs.declared.kinds.Infix.{Infix}
 use Rattle.syn_grammar.specs.declared.kinds.Infix.TheVariants as inf
 use Rattle.syn_grammar.specs.Op.{binary_text, limits_text, unary_text}
 use Rattle.syn_grammar.specs.Tree as e
-use Rattle.syn_grammar.specs.Tree.{Tree, Kids, Jump, Leaf, Lead, Post, Trailer, Frame, Enclosure, Piece, Ending, ClosureHead, leaf, paren, adorned, lead, mid, post, tail, frame, none, kid, sign_before, label_own, body_own, jump_own, leaf_own, closure_own, lead_own, infix_own, post_own, trailer_own, frame_own, enclosure, piece_own, is_silent, is_repeated, inside_of, ending_own, framed, behind_operands, own, kids_own}
+use Rattle.syn_grammar.specs.Tree.{Tree, Kids, Jump, Leaf, Lead, Post, Trailer, Frame, Enclosure, Piece, Ending, ClosureHead, outers, leaf, paren, adorned, lead, mid, post, tail, frame, none, kid, sign_before, label_own, body_own, jump_own, leaf_own, closure_own, lead_own, infix_own, post_own, trailer_own, frame_own, enclosure, piece_own, is_silent, is_repeated, inside_of, ending_own, framed, behind_operands, own, kids_own}
 
 -- tokens before others, which follow as they are
 abbrev pub Before : (List Tok → List Tok) → Type 0
@@ -104,7 +104,7 @@ frame_append (e.structure q p d) r = refl
 frame_append e.invisible r = refl
 
 pub piece_append : (k : Piece) → Before (piece_own k)
-piece_append (e.field_value ats m c) r = both (attributes_append ats) (both (member_append m) (if_there c (one (alone 58)))) r
+piece_append (e.field_value ats m c) r = both (attributes_append (outers ats)) (both (member_append m) (if_there c (one (alone 58)))) r
 piece_append (e.rest d) r = if_there d {F = λ l. joint 46 ∷ alone 46 ∷ l} (λ l. refl) r
 piece_append e.chained r = refl
 piece_append (e.guard ats p) r = both (attributes_append ats) (both (pat_append p) (one (ident (codes "if")))) r
@@ -141,7 +141,7 @@ mutual
   pub own_append : (t : Tree) → Before (own t)
   own_append (leaf k) r = leaf_append k r
   own_append (paren m t) r = refl
-  own_append (adorned a more t) r = both (attributes_append (a ∷ more)) (own_append t) r
+  own_append (adorned a more t) r = both (attributes_append (outers (a ∷ more))) (own_append t) r
   own_append (lead k gs t) r = both (lead_append k) (own_append t) r
   own_append (mid x k y) r = both (own_append x) (both (infix_append k) (own_append y)) r
   own_append (post x k) r = both (own_append x) (post_append k) r

@@ -14,7 +14,7 @@ use Rattle.syn_grammar.specs.declared.kinds.Level.TheVariants as lev
 use Rattle.syn_grammar.specs.Next.{enclosed, in_condition, in_statement, piece_context}
 use Rattle.syn_grammar.specs.Rule.{put, piece_put, place_asks, bare, bare_kids}
 use Rattle.syn_grammar.specs.Tree as e
-use Rattle.syn_grammar.specs.Tree.{Tree, Kids, Body, Piece, Ending, none, kid, own, kids_own, piece_own, ending_own, inside_of, body_own, is_silent, is_none, needs_comma, with_comma, fill_piece, fill, fill_kids}
+use Rattle.syn_grammar.specs.Tree.{Tree, Kids, Body, Piece, Ending, none, kid, inners, own, kids_own, piece_own, ending_own, inside_of, body_own, is_silent, is_none, needs_comma, with_comma, fill_piece, fill, fill_kids}
 use Rattle.syn_expr_print.specs.Placed.{comma_if}
 use Rattle.syn_expr_kinds.specs.Printed.{whole}
 use Rattle.syn_expr_print.specs.Printing.{kids_spelled, piece_spelled}
@@ -148,11 +148,11 @@ loop-spelled last b t =
     ∙ ap (λ l. whole in_condition t ++ (body_own b [] ++ l)) (none-spelled last)
 
 pub scrutinee-spelled : (last : Bool) (ats : List AttributeTree) (t : Tree) (ks : Kids) → kids_spelled last (kid e.scrutinee (e.opened ats) t ks)
-    ≡ whole in_condition t ++ own_parts.enclosed del.Brace (attributes_own ats [] ++ kids_spelled last ks) []
+    ≡ whole in_condition t ++ own_parts.enclosed del.Brace (attributes_own (inners ats) [] ++ kids_spelled last ks) []
 scrutinee-spelled last ats t ks =
     loud-spelled last e.scrutinee (e.opened ats) t ks refl
-    ∙ ap (λ l. l ++ own_parts.enclosed del.Brace (attributes_own ats (kids_spelled last ks)) []) (scrutinee-is t)
-    ∙ ap (λ l. whole in_condition t ++ own_parts.enclosed del.Brace l []) (attributes_append ats (kids_spelled last ks))
+    ∙ ap (λ l. l ++ own_parts.enclosed del.Brace (attributes_own (inners ats) (kids_spelled last ks)) []) (scrutinee-is t)
+    ∙ ap (λ l. whole in_condition t ++ own_parts.enclosed del.Brace l []) (attributes_append (inners ats) (kids_spelled last ks))
 
 -- ---- the rest of a struct expression
 

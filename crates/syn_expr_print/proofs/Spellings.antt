@@ -16,7 +16,7 @@ use Rattle.syn_grammar.specs.Next.{enclosed, left_context, right_context, base_c
 use Rattle.syn_grammar.specs.Notes.{note_of, below, kids_below, place_by, left_by, base_by, lead_by}
 use Rattle.syn_grammar.specs.Rule.{put, bare, bare_kids, is_operation, lead_asks, left_asks, base_asks, place_asks}
 use Rattle.syn_grammar.specs.Tree as e
-use Rattle.syn_grammar.specs.Tree.{Tree, Kids, Leaf, Lead, Post, Trailer, Frame, Enclosure, leaf, paren, adorned, lead, mid, post, tail, frame, own, own_tokens, kids_own, leaf_own, lead_own, infix_own, post_own, post_op, trailer_own, frame_own, enclosure, framed, fill, fill_kids, needs_last_comma}
+use Rattle.syn_grammar.specs.Tree.{Tree, Kids, Leaf, Lead, Post, Trailer, Frame, Enclosure, leaf, paren, adorned, outers, lead, mid, post, tail, frame, own, own_tokens, kids_own, leaf_own, lead_own, infix_own, post_own, post_op, trailer_own, frame_own, enclosure, framed, fill, fill_kids, needs_last_comma}
 use Rattle.syn_grammar.proofs.NoteLemmas.{notes_are_right, note_fill}
 use Rattle.syn_grammar.proofs.FillIns.{operation_fill}
 use Rattle.syn_expr_kinds.specs.Node.{attributes_at}
@@ -47,13 +47,13 @@ pub ruleset roles = (spelled-wrapped, spelled-bare, whole-noted)
 -- ---- attributes before a node
 
 pub spelled-adorned : (c : Context) (t : Tree) (a : AttributeTree) (more : List AttributeTree) → attributes_at t ≡ a ∷ more
-    → spelled c t ≡ attributes_own (a ∷ more) [] ++ spelled_in (is_operation (core t)) (adorned_context c) (core t)
+    → spelled c t ≡ attributes_own (outers (a ∷ more)) [] ++ spelled_in (is_operation (core t)) (adorned_context c) (core t)
 unfolding spelled spelled_in
 spelled-adorned c (adorned b bs t) a more h =
     let f : adorned b bs t ≡ adorned a more t = cc in
     ap (λ z. own_tokens (bare c (fill z))) f
-    ∙ attributes_append (a ∷ more) (own_tokens (put (is_operation (fill t)) (bare enclosed (fill t)) (bare (adorned_context c) (fill t))))
-    ∙ ap (λ w. attributes_own (a ∷ more) [] ++ own_tokens (put w (bare enclosed (fill t)) (bare (adorned_context c) (fill t)))) (operation_fill t)
+    ∙ attributes_append (outers (a ∷ more)) (own_tokens (put (is_operation (fill t)) (bare enclosed (fill t)) (bare (adorned_context c) (fill t))))
+    ∙ ap (λ w. attributes_own (outers (a ∷ more)) [] ++ own_tokens (put w (bare enclosed (fill t)) (bare (adorned_context c) (fill t)))) (operation_fill t)
 spelled-adorned c (leaf k) a more h = absurd cc
 spelled-adorned c (paren m t) a more h = absurd cc
 spelled-adorned c (lead k gs t) a more h = absurd cc

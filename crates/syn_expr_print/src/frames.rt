@@ -16,7 +16,7 @@ ghost use Rattle.syn_expr_print.specs.Taken.{Taken};
 ghost use Rattle.syn_grammar.specs.Next as next;
 ghost use Rattle.syn_grammar.specs.Notes.{below, kids_below, stack};
 ghost use Rattle.syn_grammar.specs.Tree as e;
-ghost use Rattle.syn_grammar.specs.Tree.{Tree, body_own, enclosure, kids_size, size};
+ghost use Rattle.syn_grammar.specs.Tree.{Tree, body_own, enclosure, inners, kids_size, size};
 ghost use Rattle.syn_grammar.specs.declared.next.Context as contexts;
 ghost use Rattle.syn_lower_lists.specs.View.{values};
 ghost use Rattle.syn_lexer.specs.declared.lexeme.Delimiter.TheVariants as del;
@@ -204,7 +204,7 @@ where
     requires callable { Callable E.tree (size (E.tree scrutinee.now) + (total (λ x. arm_size (E.Arm.view x)) arms.now.items + 1)) (F.pre bare.now) }
     requires prints { Prints E.tree (F.post bare.now) }
     requires stacked { EndsWith notes.old.left.items (backwards (λ x. arm_below (E.Arm.view x)) arms.now.items ++ stack (E.tree scrutinee.now)) }
-    ensures text { OnOk result (tokens.new ≡ tokens.old ++ (printed.whole next.in_condition (E.tree scrutinee.now) ++ own_parts.enclosed del.Brace (attributes_own (inner_of attrs.now) [] ++ arms_spelled (map E.Arm.view arms.now.items)) [])) }
+    ensures text { OnOk result (tokens.new ≡ tokens.old ++ (printed.whole next.in_condition (E.tree scrutinee.now) ++ own_parts.enclosed del.Brace (attributes_own (inners (inner_of attrs.now)) [] ++ arms_spelled (map E.Arm.view arms.now.items)) [])) }
     ensures front { IsFront tokens.old tokens.new }
     ensures taken { OnOk result (Taken notes.old notes.new (backwards (λ x. arm_below (E.Arm.view x)) arms.now.items ++ stack (E.tree scrutinee.now))) }
 {

@@ -3,7 +3,7 @@ use Rattle.std.specs.Prelude.{List, [], ◌∷◌, ◌++◌, Option, Some, None}
 use Rattle.syn_tokens.specs.Tok.{Tok}
 use Rattle.syn_parts.specs.Own.{alone, before_if, enclosed}
 use Rattle.syn_parts.specs.PatOwn.{attributes_own, member_own}
-use Rattle.syn_grammar.specs.Tree.{Frame, Enclosure, enclosure}
+use Rattle.syn_grammar.specs.Tree.{Frame, Enclosure, enclosure, outers}
 use Rattle.syn_expr_kinds.specs.View.{FieldView}
 
 abbrev pub in_enclosure : Option Enclosure → List Tok → List Tok
@@ -15,4 +15,4 @@ abbrev pub framed_own : Frame → List Tok → List Tok
 framed_own k inside = in_enclosure (enclosure k) inside
 
 abbrev pub field_own : FieldView → List Tok → List Tok
-field_own x r = attributes_own x.attrs (member_own x.member (before_if x.colon (λ l. alone 58 ∷ l) r))
+field_own x r = attributes_own (outers x.attrs) (member_own x.member (before_if x.colon (λ l. alone 58 ∷ l) r))

@@ -9,7 +9,7 @@ ghost use Rattle.syn_tokens.specs.Input.{IsFront};
 
 use crate::lead::{PutPat, put_closure};
 use crate::mark::put_dots;
-use syn_expr_kinds::attrs::put_all;
+use syn_expr_kinds::attrs::put_outer;
 use syn_expr_kinds::kinds::HasExprTree;
 use syn_expr_kinds::leaf::put_path;
 use syn_expr_kinds::node::Frame;
@@ -76,13 +76,13 @@ pub fn put_framed<P: PutPat>(
     }
 }
 
-/// Puts a field up to its value: its attributes, its name or index, and a colon if there is one.
-#[tactic(auto, using(syn_tokens::proofs::Fronts::fronts, syn_expr_kinds::proofs::Owns::fields), unfolding(syn_tokens::specs::Sign::sign_text, syn_expr_kinds::specs::Attrs::attrs_of))]
+/// Puts a field up to its value: its outer attributes, its name or index, and a colon if there is one.
+#[tactic(auto, using(syn_tokens::proofs::Fronts::fronts, syn_expr_kinds::proofs::Owns::fields), unfolding(syn_tokens::specs::Sign::sign_text, syn_expr_kinds::specs::Attrs::attrs_of, syn_expr_kinds::specs::Attrs::outer_of))]
 pub fn put_field_head<E: HasExprTree>(tokens: &mut TokenStream, field: &FieldValueOf<E>) -> Grown
     ensures ok { OnOk result (tokens.new ≡ tokens.old ++ field_own (field_value_of E.tree field.now) []) }
     ensures front { IsFront tokens.old tokens.new }
 {
-    put_all(tokens, &field.attrs)?;
+    put_outer(tokens, &field.attrs)?;
     put(tokens, &field.member)?;
     put_some(tokens, &field.colon_token)
 }

@@ -1,15 +1,13 @@
 -- What is last in a node, by what is lent of it.
-use Rattle.std.proofs.Common.{◌≡◌, Bool, true, false, ◌&&◌, List, Some, None, refl, sym, ap, subst}
-use Rattle.std.proofs.Math.Bool.{and-false}
+use Rattle.std.proofs.Common.{◌≡◌, Bool, true, false, ◌&&◌, List, ◌∷◌, Some, None, refl, sym, ap, subst}
 use Rattle.syn_parts.specs.Tree.{AttributeTree}
 use Rattle.syn_expr_notes.specs.Kind.{kind_at}
 use Rattle.syn_grammar.specs.Query.{leaf_brace, lead_brace, post_brace, return_brace, tree_brace, kids_brace}
 use Rattle.syn_grammar.specs.Tree as e
-use Rattle.syn_grammar.specs.Tree.{Tree, Kids, Body, Piece, Ending, Leaf, Lead, Post, Frame, leaf, paren, adorned, lead, mid, post, tail, frame, none, kid}
-use Rattle.syn_grammar.proofs.Bools.{and_true}
+use Rattle.syn_grammar.specs.Tree.{Tree, Kids, Body, Piece, Ending, Leaf, Lead, Post, Frame, leaf, paren, adorned, outers, lead, mid, post, tail, frame, none, kid}
 use Rattle.syn_parts.specs.Form.{is_nil}
 use Rattle.syn_expr_kinds.specs.Node.{framed, attributes_at, without_strays, operands_at, leaf_at, lead_at, post_at, frame_at, last_of}
-use Rattle.syn_expr_queries.specs.Frames.{is_body, is_loop, is_if, is_match, frame_holds, frames_hold}
+use Rattle.syn_expr_queries.specs.Frames.{is_body, is_loop, is_if, is_match, frame_holds, bare_holds, frames_hold}
 use Rattle.syn_expr_queries.specs.Node.{is_mid, asked}
 use Rattle.syn_expr_queries.specs.Right.{frame_right, NodeTells}
 use Rattle.syn_expr_queries.specs.declared.right.Right.{Right}
@@ -160,25 +158,42 @@ frame_last b e.invisible ks h = refl
 
 -- ---- nodes
 
+pub bare_framed : (t : Tree) → bare_holds t ≡ true → frames_hold t ≡ true
+bare_framed (adorned a more t) h = absurd cc
+bare_framed (leaf k) h = h
+bare_framed (paren m t) h = h
+bare_framed (lead k gs t) h = h
+bare_framed (mid x k y) h = h
+bare_framed (post x k) h = h
+bare_framed (tail b k ks) h = h
+bare_framed (frame k ks) h = h
+
 -- behind attributes
-tells_adorned : (r : Right) (b : Bool) (a : AttributeTree) (more : List AttributeTree) (t : Tree) → NodeTells r false t → NodeTells r b (adorned a more t)
+tells_adorned : (r : Right) (b : Bool) (a : AttributeTree) (more : List AttributeTree) (t : Tree) → NodeTells r (is_nil (outers (a ∷ more)) && b) t → NodeTells r b (adorned a more t)
 tells_adorned (right.Told d) b a more t h = h
 tells_adorned (right.Operand d) b a more t h = h
 
-pub right-leaf : (b : Bool) (k : Leaf) (t : Tree) → leaf_at t ≡ Some k → leaf_brace (b && is_nil (attributes_at t)) k ≡ tree_brace b t
-right-leaf b k (leaf l) h = rw (and_true b) cc
-right-leaf b k (paren m t) h = absurd cc
-right-leaf b k (adorned a more t) h = rw (and-false b) (right-leaf false k t h)
-right-leaf b k (lead l gs t) h = absurd cc
-right-leaf b k (mid x l y) h = absurd cc
-right-leaf b k (post x l) h = absurd cc
-right-leaf b k (tail x l ks) h = absurd cc
-right-leaf b k (frame l ks) h = absurd cc
+pub right-leaf : (b : Bool) (k : Leaf) (t : Tree) → leaf_at t ≡ Some k → frames_hold t ≡ true → leaf_brace (is_nil (outers (attributes_at t)) && b) k ≡ tree_brace b t
+right-leaf b k (leaf l) h g = cc
+right-leaf b k (adorned a more (leaf l)) h g = let q : l ≡ k = cc in ap (leaf_brace (is_nil (outers (a ∷ more)) && b)) (sym q)
+right-leaf b k (adorned a more (adorned c others t)) h g = absurd cc
+right-leaf b k (adorned a more (paren m t)) h g = absurd cc
+right-leaf b k (adorned a more (lead l gs t)) h g = absurd cc
+right-leaf b k (adorned a more (mid x l y)) h g = absurd cc
+right-leaf b k (adorned a more (post x l)) h g = absurd cc
+right-leaf b k (adorned a more (tail x l ks)) h g = absurd cc
+right-leaf b k (adorned a more (frame l ks)) h g = absurd cc
+right-leaf b k (paren m t) h g = absurd cc
+right-leaf b k (lead l gs t) h g = absurd cc
+right-leaf b k (mid x l y) h g = absurd cc
+right-leaf b k (post x l) h g = absurd cc
+right-leaf b k (tail x l ks) h g = absurd cc
+right-leaf b k (frame l ks) h g = absurd cc
 
 pub right-lead : (b : Bool) (k : Lead × List Tree) (t : Tree) → lead_at t ≡ Some k → asked (tree_brace (lead_brace k.0)) (last_of (operands_at t)) ≡ tree_brace b t
 right-lead b k (leaf l) h = absurd cc
 right-lead b k (paren m t) h = absurd cc
-right-lead b k (adorned a more t) h = right-lead false k t h
+right-lead b k (adorned a more t) h = right-lead (is_nil (outers (a ∷ more)) && b) k t h
 right-lead b k (lead l gs t) h = let q : l ≡ k.0 = cc in ap (λ m. tree_brace (lead_brace m) t) (sym q)
 right-lead b k (mid x l y) h = absurd cc
 right-lead b k (post x l) h = absurd cc
@@ -188,7 +203,7 @@ right-lead b k (frame l ks) h = absurd cc
 pub right-mid : (b : Bool) (t : Tree) → is_mid (kind_at t) ≡ true → asked (tree_brace false) (last_of (operands_at t)) ≡ tree_brace b t
 right-mid b (leaf l) h = absurd cc
 right-mid b (paren m t) h = absurd cc
-right-mid b (adorned a more t) h = right-mid false t h
+right-mid b (adorned a more t) h = right-mid (is_nil (outers (a ∷ more)) && b) t h
 right-mid b (lead l gs t) h = absurd cc
 right-mid b (mid x l y) h = refl
 right-mid b (post x l) h = absurd cc
@@ -198,7 +213,7 @@ right-mid b (frame l ks) h = absurd cc
 pub right-post : (b : Bool) (k : Post) (t : Tree) → post_at t ≡ Some k → post_brace k ≡ tree_brace b t
 right-post b k (leaf l) h = absurd cc
 right-post b k (paren m t) h = absurd cc
-right-post b k (adorned a more t) h = right-post false k t h
+right-post b k (adorned a more t) h = right-post (is_nil (outers (a ∷ more)) && b) k t h
 right-post b k (lead l gs t) h = absurd cc
 right-post b k (mid x l y) h = absurd cc
 right-post b k (post x l) h = cc
@@ -208,7 +223,7 @@ right-post b k (frame l ks) h = absurd cc
 pub right-frame : (b : Bool) (k : Frame × List Tree) (t : Tree) → frame_at t ≡ Some k → frames_hold t ≡ true → NodeTells (frame_right k.0) b t
 right-frame b k (leaf l) h g = absurd cc
 right-frame b k (paren m t) h g = absurd cc
-right-frame b k (adorned a more t) h g = tells_adorned (frame_right k.0) b a more t (right-frame false k t h g)
+right-frame b k (adorned a more t) h g = tells_adorned (frame_right k.0) b a more t (right-frame (is_nil (outers (a ∷ more)) && b) k t h (bare_framed t g))
 right-frame b k (lead l gs t) h g = absurd cc
 right-frame b k (mid x l y) h g = absurd cc
 right-frame b k (post x l) h g = absurd cc
@@ -219,11 +234,11 @@ right-frame b k (frame l ks) h g = let q : l ≡ k.0 = cc in subst (λ f. NodeTe
 pub right-other : (b : Bool) (t : Tree) → leaf_at t ≡ None → lead_at t ≡ None → post_at t ≡ None → frame_at t ≡ None → is_mid (kind_at t) ≡ false → false ≡ tree_brace b t
 right-other b (leaf l) h i j m n = absurd cc
 right-other b (paren m t) h i j k n = refl
-right-other b (adorned a more t) h i j m n = right-other false t h i j m n
+right-other b (adorned a more t) h i j m n = right-other (is_nil (outers (a ∷ more)) && b) t h i j m n
 right-other b (lead l gs t) h i j m n = absurd cc
 right-other b (mid x l y) h i j m n = absurd cc
 right-other b (post x l) h i j m n = absurd cc
 right-other b (tail x l ks) h i j m n = refl
 right-other b (frame l ks) h i j m n = absurd cc
 
-pub ruleset rights = (right-leaf, right-lead, right-mid, right-post, right-other)
+pub ruleset rights = (right-lead, right-mid, right-post, right-other)

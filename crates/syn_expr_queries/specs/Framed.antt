@@ -19,7 +19,7 @@ use Rattle.syn_expr_kinds.specs.declared.pattern.ExprForLoopOf.{ExprForLoopOf}
 use Rattle.syn_expr_kinds.specs.declared.pattern.ExprLetOf.{ExprLetOf}
 use Rattle.syn_expr_kinds.specs.declared.pattern.ExprMatchOf.{ExprMatchOf}
 use Rattle.syn_expr_kinds.specs.View.{body_of, else_of, range_between, jump_with}
-use Rattle.syn_expr_queries.specs.Frames.{is_body, is_loop, frames_hold}
+use Rattle.syn_expr_queries.specs.Frames.{is_body, is_loop, bare_holds, frames_hold}
 use Rattle.syn_expr_all.specs.declared.expr.Expr.{Expr, out-Expr}
 use Rattle.syn_expr_all.specs.declared.expr.Expr.TheOpen.{Expr-F}
 use Rattle.syn_expr_all.specs.declared.pat.Pat.{Pat}
@@ -37,35 +37,48 @@ record IsFramed (t : Tree) : Type 0 where
 
 -- ---- trees without attributes before them
 
-behind : (ats : List AttributeTree) (t : Tree) → IsFramed t → IsFramed (adorn ats t)
-behind [] t h = h
+record IsBare (t : Tree) : Type 0 where
+  holds : bare_holds t ≡ true
+
+bare_framed : (t : Tree) → bare_holds t ≡ true → frames_hold t ≡ true
+bare_framed (e.adorned a more t) h = absurd cc
+bare_framed (e.leaf k) h = h
+bare_framed (e.paren m t) h = h
+bare_framed (lead k gs t) h = h
+bare_framed (e.mid x k y) h = h
+bare_framed (e.post x k) h = h
+bare_framed (e.tail b k ks) h = h
+bare_framed (frame k ks) h = h
+
+behind : (ats : List AttributeTree) (t : Tree) → IsBare t → IsFramed (adorn ats t)
+behind [] t h = record { holds = bare_framed t h.holds }
 behind (a ∷ more) t h = record { holds = h.holds }
 
 body_last : (gs : List Tree) (t : Tree) → is_body (strays gs (kid e.output_block e.no_ending t none)) ≡ true
 body_last [] t = refl
 body_last (g ∷ gs) t = body_last gs t
 
-closure_by_framed : (r : ReturnTree) (h : ClosureHead) (gs : List Tree) (t : Tree) → IsFramed (closure_by r h gs t)
-closure_by_framed default h gs t = record { holds = refl }
-closure_by_framed (given ty) h gs t = record { holds = body_last gs t }
+closure_by_bare : (r : ReturnTree) (h : ClosureHead) (gs : List Tree) (t : Tree) → IsBare (closure_by r h gs t)
+closure_by_bare default h gs t = record { holds = refl }
+closure_by_bare (given ty) h gs t = record { holds = body_last gs t }
 
 loop_last : (gs : List Tree) (b : Body) (t : Tree) → is_loop (strays gs (kid e.loop_head (e.braced b) t none)) ≡ true
 loop_last [] b t = refl
 loop_last (g ∷ gs) b t = loop_last gs b t
 
-if_framed : {E S : Type 0} (f : E → Tree) (b : Body) (t : Tree) (o : Option (S × Box E Global)) → IsFramed (frame e.branch (kid e.condition (e.braced b) t (else_of f o)))
-if_framed f b t None = record { holds = refl }
-if_framed f b t (Some q) = record { holds = refl }
+if_bare : {E S : Type 0} (f : E → Tree) (b : Body) (t : Tree) (o : Option (S × Box E Global)) → IsBare (frame e.branch (kid e.condition (e.braced b) t (else_of f o)))
+if_bare f b t None = record { holds = refl }
+if_bare f b t (Some q) = record { holds = refl }
 
-range_framed : (op : Limits) (x y : Option Tree) → IsFramed (range_between op x y)
-range_framed op None None = record { holds = refl }
-range_framed op None (Some y) = record { holds = refl }
-range_framed op (Some x) None = record { holds = refl }
-range_framed op (Some x) (Some y) = record { holds = refl }
+range_bare : (op : Limits) (x y : Option Tree) → IsBare (range_between op x y)
+range_bare op None None = record { holds = refl }
+range_bare op None (Some y) = record { holds = refl }
+range_bare op (Some x) None = record { holds = refl }
+range_bare op (Some x) (Some y) = record { holds = refl }
 
-jump_framed : (j : Jump) (x : Option Tree) → IsFramed (jump_with j x)
-jump_framed j None = record { holds = refl }
-jump_framed j (Some x) = record { holds = refl }
+jump_bare : (j : Jump) (x : Option Tree) → IsBare (jump_with j x)
+jump_bare j None = record { holds = refl }
+jump_bare j (Some x) = record { holds = refl }
 
 -- ---- those that hold patterns
 
@@ -73,7 +86,7 @@ closure_kind : {E P : Type 0} (f : E → Tree) (g : P → PatView) (x : ExprClos
 closure_kind f g x =
     let head = closure_head_of g x in
     let inputs = guards (map g (values x.inputs)) in
-    behind (attrs_of x.attrs) (closure_by (return_of x.output) head inputs (f x.body.value)) (closure_by_framed (return_of x.output) head inputs (f x.body.value))
+    behind (attrs_of x.attrs) (closure_by (return_of x.output) head inputs (f x.body.value)) (closure_by_bare (return_of x.output) head inputs (f x.body.value))
 
 for_loop_kind : {E P : Type 0} (f : E → Tree) (g : P → PatView) (x : ExprForLoopOf E P) → IsFramed (expr_for_loop_of f g x)
 for_loop_kind f g x =
@@ -108,7 +121,7 @@ layer_framed (Expr-F.Async x) = behind (attrs_of x.attrs) _ (record { holds = re
 layer_framed (Expr-F.Await x) = behind (attrs_of x.attrs) _ (record { holds = refl })
 layer_framed (Expr-F.Binary x) = behind (attrs_of x.attrs) _ (record { holds = refl })
 layer_framed (Expr-F.Block x) = behind (outer_of x.attrs) _ (record { holds = refl })
-layer_framed (Expr-F.Break x) = behind (attrs_of x.attrs) _ (jump_framed _ _)
+layer_framed (Expr-F.Break x) = behind (attrs_of x.attrs) _ (jump_bare _ _)
 layer_framed (Expr-F.Call x) = behind (attrs_of x.attrs) _ (record { holds = refl })
 layer_framed (Expr-F.Cast x) = behind (attrs_of x.attrs) _ (record { holds = refl })
 layer_framed (Expr-F.Closure x) = closure_framed x
@@ -117,7 +130,7 @@ layer_framed (Expr-F.Continue x) = behind (attrs_of x.attrs) _ (record { holds =
 layer_framed (Expr-F.Field x) = behind (attrs_of x.attrs) _ (record { holds = refl })
 layer_framed (Expr-F.ForLoop x) = for_loop_framed x
 layer_framed (Expr-F.Group x) = behind (attrs_of x.attrs) _ (record { holds = refl })
-layer_framed (Expr-F.If x) = behind (attrs_of x.attrs) _ (if_framed tree_of _ _ x.else_branch)
+layer_framed (Expr-F.If x) = behind (attrs_of x.attrs) _ (if_bare tree_of _ _ x.else_branch)
 layer_framed (Expr-F.Index x) = behind (attrs_of x.attrs) _ (record { holds = refl })
 layer_framed (Expr-F.Infer x) = behind (attrs_of x.attrs) _ (record { holds = refl })
 layer_framed (Expr-F.Let x) = binding_framed x
@@ -128,11 +141,11 @@ layer_framed (Expr-F.Match x) = choice_framed x
 layer_framed (Expr-F.MethodCall x) = behind (attrs_of x.attrs) _ (record { holds = refl })
 layer_framed (Expr-F.Expr::Paren x) = behind (attrs_of x.attrs) _ (record { holds = refl })
 layer_framed (Expr-F.Expr::Path x) = behind (attrs_of x.attrs) _ (record { holds = refl })
-layer_framed (Expr-F.Expr::Range x) = behind (attrs_of x.attrs) _ (range_framed _ _ _)
+layer_framed (Expr-F.Expr::Range x) = behind (attrs_of x.attrs) _ (range_bare _ _ _)
 layer_framed (Expr-F.RawAddr x) = behind (attrs_of x.attrs) _ (record { holds = refl })
 layer_framed (Expr-F.Expr::Reference x) = behind (attrs_of x.attrs) _ (record { holds = refl })
 layer_framed (Expr-F.Repeat x) = behind (attrs_of x.attrs) _ (record { holds = refl })
-layer_framed (Expr-F.Return x) = behind (attrs_of x.attrs) _ (jump_framed _ _)
+layer_framed (Expr-F.Return x) = behind (attrs_of x.attrs) _ (jump_bare _ _)
 layer_framed (Expr-F.Expr::Struct x) = behind (attrs_of x.attrs) _ (record { holds = refl })
 layer_framed (Expr-F.Try x) = behind (attrs_of x.attrs) _ (record { holds = refl })
 layer_framed (Expr-F.TryBlock x) = behind (attrs_of x.attrs) _ (record { holds = refl })
@@ -140,7 +153,7 @@ layer_framed (Expr-F.Expr::Tuple x) = behind (attrs_of x.attrs) _ (record { hold
 layer_framed (Expr-F.Unary x) = behind (attrs_of x.attrs) _ (record { holds = refl })
 layer_framed (Expr-F.Unsafe x) = behind (outer_of x.attrs) _ (record { holds = refl })
 layer_framed (Expr-F.While x) = behind (outer_of x.attrs) _ (record { holds = refl })
-layer_framed (Expr-F.Yield x) = behind (attrs_of x.attrs) _ (jump_framed _ _)
+layer_framed (Expr-F.Yield x) = behind (attrs_of x.attrs) _ (jump_bare _ _)
 layer_framed (Expr-F.Verbatim x) = record { holds = refl }
 
 pub tree_framed : (x : Expr) → frames_hold (tree_of x) ≡ true

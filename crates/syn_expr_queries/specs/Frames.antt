@@ -1,5 +1,5 @@
 -- What is known of the operands that stand in places of their own: those whose node ends with braces, and the body of a
--- closure with an output.
+-- closure with an output. All attributes of a node are in one list.
 use Rattle.std.specs.Prelude.{Bool, true, false}
 use Rattle.syn_grammar.specs.Tree as e
 use Rattle.syn_grammar.specs.Tree.{Tree, Kids, Frame, none, kid}
@@ -33,8 +33,13 @@ frame_holds (e.for_loop label p) ks = is_loop ks
 frame_holds e.choice ks = is_match ks
 frame_holds _ ks = true
 
+-- of a node without attributes before it
+abbrev pub bare_holds : Tree → Bool
+bare_holds (e.adorned a more t) = false
+bare_holds (e.frame k ks) = frame_holds k ks
+bare_holds _ = true
+
 -- of a node
 abbrev pub frames_hold : Tree → Bool
-frames_hold (e.adorned a more t) = frames_hold t
-frames_hold (e.frame k ks) = frame_holds k ks
-frames_hold _ = true
+frames_hold (e.adorned a more t) = bare_holds t
+frames_hold t = bare_holds t

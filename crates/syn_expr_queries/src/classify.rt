@@ -44,8 +44,8 @@ pub fn trailing_unparameterized_path(ty: &Type) -> bool
 }
 
 /// Whether the tokens of an expression begin with a label (Rust Reference, "Loop expressions"), as those of `'a: loop {}` do,
-/// and those of `'a: {} + b`. Behind attributes none is first: their `#` is.
-pub fn expr_leading_label<E: HasShape>(expr: &E) -> bool
+/// and those of `'a: {} + b`. Behind outer attributes none is first: their `#` is.
+pub fn expr_leading_label<E: HasFrames>(expr: &E) -> bool
     ensures { result ≡ query.leading_label (E.tree expr.now) }
 {
     begins_with_label(expr, false)

@@ -8,6 +8,6 @@ use syn_expr_kinds::node::HasShape;
 /// The type of expressions, as one asks for what is last in it.
 pub trait HasFrames: HasShape {
     /// The condition of an `if`, of a loop and of a `match` has its braces behind it, and a closure with an output has its
-    /// body alone.
+    /// body alone; the attributes of a node are one list.
     ghost framed: { (x : Self) → frames_hold (Self.tree x) ≡ true };
 }

@@ -7,6 +7,7 @@ ghost use Rattle.syn_grammar.specs.Head.{from_verbatim};
 ghost use Rattle.syn_grammar.specs.Query as query;
 ghost use Rattle.syn_lower_leaves.specs.View.{mapped};
 
+use crate::frames::HasFrames;
 use crate::tokens::begins_with_lifetime;
 use syn_expr_kinds::node::{HasShape, Leaf};
 use syn_expr_notes::kind::NodeKind;
@@ -75,10 +76,10 @@ fn kept_tokens<E: HasShape>(expr: &E) -> Option<&TokenStream>
 
 /// Whether a label is first in an expression; `word`: whether a word stands behind it.
 #[tactic(auto, using(crate::proofs::Labels::labels, syn_expr_kinds::proofs::Sizes::smaller))]
-pub(crate) fn begins_with_label<E: HasShape>(expr: &E, word: bool) -> bool
+pub(crate) fn begins_with_label<E: HasFrames>(expr: &E, word: bool) -> bool
     ensures { result ≡ query.tree_leads word (E.tree expr.now) }
 {
-    if !expr.attributes().has_none_before() {
+    if !expr.attributes().prints_none_before() {
         return false;
     }
     let kind = expr.kind();

@@ -5,6 +5,7 @@ ghost use Rattle.syn_expr_kinds.specs.Node.{before_of, leaf_of, lead_of, post_of
 ghost use Rattle.syn_expr_queries.specs.Node.{is_mid};
 ghost use Rattle.syn_expr_queries.specs.Right.{NodeTells, frame_right};
 ghost use Rattle.syn_grammar.specs.Query as query;
+ghost use Rattle.syn_grammar.specs.Tree.{outers};
 ghost use Rattle.syn_lower.specs.View.{return_of};
 ghost use Rattle.syn_parts.specs.Form.{is_nil};
 ghost use Rattle.syn_pat_kinds.specs.View.{PatView};
@@ -99,11 +100,11 @@ fn is_mid(kind: NodeKind) -> bool
     matches!(kind, NodeKind::Mid(_))
 }
 
-/// Whether braces stand before a node, behind its attributes: not where it has any.
+/// Whether braces stand before a node, behind its attributes: not where any are printed before it.
 fn behind(before: bool, attributes: Attributes<'_>) -> bool
-    ensures { result ≡ (before && is_nil (before_of attributes.entry)) }
+    ensures { result ≡ (is_nil (outers (before_of attributes.entry)) && before) }
 {
-    attributes.has_none_before() && before
+    attributes.prints_none_before() && before
 }
 
 /// What is last in a node; `before`: whether braces stand before it.

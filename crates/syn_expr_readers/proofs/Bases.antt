@@ -1,15 +1,19 @@
 -- Which bases take which trailers, and which indices stand behind a dot.
 use Rattle.std.specs.Prelude.{not, ◌||◌, ◌&&◌}
 use Rattle.std.proofs.Common.{◌≡◌, ℕ, Bool, true, false, cond, List, [], ◌∷◌, Option, Some, None, refl, ap}
+use Rattle.syn_lexer.specs.declared.lexeme.Delimiter.{Delimiter}
+use Rattle.syn_lexer.specs.declared.lexeme.Delimiter.TheVariants as del
 use Rattle.syn_tokens.specs.Tok.{Tok, ident, literal, punct, group}
+use Rattle.syn_tokens.specs.Front.{group_at}
 use Rattle.syn_tokens.specs.Floats.{float_parts}
+use Rattle.syn_parts.specs.Mark.{colon2, sign_at}
 use Rattle.syn_parts.specs.Pat.{an_index, index_of}
 use Rattle.syn_grammar.specs.declared.kinds.Place.{Place}
 use Rattle.syn_grammar.specs.Tree as e
 use Rattle.syn_grammar.specs.Tree.{Tree}
 use Rattle.syn_grammar.specs.Stands as stands
 use Rattle.syn_grammar.specs.Stands.{fields_of, fits_base, indices_at, step, steps_of, closed_steps}
-use Rattle.syn_grammar.specs.Slot.{nothing}
+use Rattle.syn_grammar.specs.Slot.{nothing, trailer_holder}
 use Rattle.syn_grammar.specs.Read.{content, indexed_by, expr}
 use Rattle.syn_grammar.proofs.Chains.{some_is}
 use Rattle.syn_expr_notes.specs.Label.{trailer_kind}
@@ -76,5 +80,18 @@ indexed p t l n (i ∷ is) h = rw (fits-kind p (e.field (an_index i)) t) refl
 pub nothing-held : (l : List Tok) → content expr nothing l ≡ Some (e.none, l)
 unfolding content
 nothing-held l = refl
+
+-- No arguments stand first where `::` does.
+no_group : (d : Delimiter) (l : List Tok) → colon2.at l ≡ true → group_at d l ≡ None
+unfolding group_at sign_at
+no_group d [] h = refl
+no_group d (ident w ∷ l) h = refl
+no_group d (punct c s ∷ l) h = refl
+no_group d (literal w ∷ l) h = refl
+no_group d (group g i ∷ l) h = absurd cc
+
+pub no_arguments : (l : List Tok) → colon2.at l ≡ true → content expr (trailer_holder e.call) l ≡ None
+unfolding content
+no_arguments l h = rw (no_group del.Parenthesis l h) refl
 
 pub ruleset bases = (fits-kind, indexed, nothing-held)

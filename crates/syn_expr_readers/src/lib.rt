@@ -6,6 +6,7 @@
 pub mod ends;
 pub mod fields;
 pub mod grammar;
+pub mod leftover;
 pub mod make;
 mod name;
 pub mod operands;

@@ -1,18 +1,21 @@
 //! The readers of trailers: calls, indices, `?`, and what stands behind a dot (Rust Reference, "Call expressions", "Array and
 //! slice indexing expressions", "Field access expressions", "Method-call expressions", "Await expressions").
 
-ghost use Rattle.std.specs.Prelude.{◌≡◌, ◌≤◌, ◌+◌, [], if◌then◌else◌, false, Some, None};
+ghost use Rattle.std.specs.Prelude.{◌≡◌, ◌≤◌, ◌+◌, [], if◌then◌else◌, false, map, Some, None};
 ghost use Rattle.syn_expr_ends.specs.Reads.{Callable, ReadsExpr};
 ghost use Rattle.syn_expr_heads.specs.View.{trailer_of};
+ghost use Rattle.syn_expr_kinds.specs.View.{elements};
 ghost use Rattle.syn_expr_notes.specs.Label.{trailer_kind};
 ghost use Rattle.syn_expr_notes.specs.declared.label.TrailerKind.TheVariants as kinds;
 ghost use Rattle.syn_expr_readers.specs.Kind as told;
 ghost use Rattle.syn_expr_readers.specs.Loops.{trailers};
 ghost use Rattle.syn_grammar.specs.Head as head;
 ghost use Rattle.syn_grammar.specs.Read as read;
+ghost use Rattle.syn_grammar.specs.Slot as slot;
 ghost use Rattle.syn_grammar.specs.Stands as stands;
 ghost use Rattle.syn_grammar.specs.Tree as e;
 ghost use Rattle.syn_lower_leaves.specs.Reads.{Reads};
+ghost use Rattle.syn_lower_lists.specs.View.{trails, values};
 ghost use Rattle.syn_parts.specs.Form.{and_then};
 ghost use Rattle.syn_tokens.specs.Tok.{weight};
 
@@ -32,9 +35,10 @@ use syn_expr_notes::label::TrailerKind;
 use syn_grammar::kinds::Place;
 use syn_lower_leaves::front;
 use syn_lower_lists::front::round_at;
+use syn_lower_lists::punctuated::Punctuated;
 use syn_tokens::buffer::ParseBuffer;
-use syn_tokens::error::{ErrorKind, Result};
-use syn_tokens::token::{Dot, Question};
+use syn_tokens::error::{ErrorKind, Expected, Result};
+use syn_tokens::token::{Comma, Dot, Lt, Paren, Question};
 
 /// The kind of the trailer that begins so.
 fn head_kind(head: &TrailerHead) -> TrailerKind
@@ -119,6 +123,27 @@ impl<E: ReadExprs + Drop, F: Fn(&mut ParseBuffer<'_>, Place) -> Result<Box<E>> +
         Ok(make::index(input.alloc(), base, bracket_token, index)?)
     }
 
+    /// Reads the arguments of a method behind its name and its turbofish, if it has one. A `::` that begins no turbofish is
+    /// refused as `ExpectedToken` of the `<` that is missing behind it.
+    #[tactic(auto, using(crate::proofs::Bases::no_arguments))]
+    fn method_arguments(
+        &self,
+        input: &mut ParseBuffer<'_>,
+        has_turbofish: bool,
+    ) -> Result<(Paren, Punctuated<E, Comma>)>
+        requires callable { Callable (weight input.old.rest) (F.pre self.now.expr) }
+        requires reads { ReadsExpr E.tree (F.post self.now.expr) }
+        ensures value { Reads (λ a. elements (map E.tree (values a.1)) (trails a.1)) (read.content read.expr (slot.trailer_holder e.call) input.old.rest) result input.new.rest }
+        ensures noted { input.new.noted ≡ input.old.noted }
+        ensures shrinks { weight input.new.rest ≤ weight input.old.rest }
+    {
+        if !has_turbofish && front::colon2(input).is_some() {
+            return Err(input.error(ErrorKind::ExpectedToken(Expected::One(Lt::wanted()))));
+        }
+        let lists = Lists { expr: self.expr };
+        lists.arguments(input)
+    }
+
     /// Reads `await`, a field or a method with its arguments, behind the indices of a float that stand before it.
     #[tactic(auto, using(crate::proofs::Bases::bases))]
     fn named_trailer(
@@ -149,8 +174,7 @@ impl<E: ReadExprs + Drop, F: Fn(&mut ParseBuffer<'_>, Place) -> Result<Box<E>> +
             )?),
             TrailerHead::Field(member) => Ok(make::field(input.alloc(), base, dot_token, member)?),
             TrailerHead::Method(name, turbofish) => {
-                let lists = Lists { expr: self.expr };
-                let arguments = lists.arguments(input)?;
+                let arguments = self.method_arguments(input, turbofish.is_some())?;
                 let name = (name, turbofish);
                 Ok(make::method(input.alloc(), base, dot_token, name, arguments)?)
             }
@@ -208,8 +232,8 @@ impl<E: ReadExprs + Drop, F: Fn(&mut ParseBuffer<'_>, Place) -> Result<Box<E>> +
     /// Reads the trailers behind a base, as many as there are.
     ///
     /// It is refused as `UnexpectedToken` at a trailer that its base doesn't take, as `ExpectedMember`,
-    /// `ExpectedUnsuffixedInteger` or `IndexOutOfRange` where no name, method or index is behind a dot, and inside as arguments,
-    /// an index or a type are.
+    /// `ExpectedUnsuffixedInteger` or `IndexOutOfRange` where no name, method or index is behind a dot, as `ExpectedToken` where
+    /// a method lacks its arguments or the `<` of its turbofish, and inside as arguments, an index or a type are.
     #[tactic(auto, using(crate::proofs::Loops::trails))]
     pub(crate) fn trail(
         &self,

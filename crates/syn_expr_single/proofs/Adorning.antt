@@ -7,7 +7,7 @@ use Rattle.syn_parts.specs.Own as own_parts
 use Rattle.syn_parts.specs.PatOwn.{attributes_own}
 use Rattle.syn_grammar.specs.Next.{enclosed}
 use Rattle.syn_grammar.specs.Rule.{is_operation}
-use Rattle.syn_grammar.specs.Tree.{Tree, adorned, adorn}
+use Rattle.syn_grammar.specs.Tree.{Tree, adorned, adorn, outers}
 use Rattle.syn_parts.specs.Form.{is_nil}
 use Rattle.syn_expr_kinds.specs.Printed.{whole}
 use Rattle.syn_expr_print.specs.Printing.{spelled, spelled_in}
@@ -15,42 +15,42 @@ use Rattle.syn_expr_print.proofs.Spellings.{spelled-adorned, spelled-bare, spell
 use Rattle.syn_expr_single.proofs.Enclosed.{whole-bare}
 
 -- behind attributes, in parentheses where it is an operation
-pub behind-some : (a : AttributeTree) (more : List AttributeTree) (t : Tree) → whole enclosed (adorned a more t) ≡ attributes_own (a ∷ more) [] ++ spelled_in (is_operation t) enclosed t
+pub behind-some : (a : AttributeTree) (more : List AttributeTree) (t : Tree) → whole enclosed (adorned a more t) ≡ attributes_own (outers (a ∷ more)) [] ++ spelled_in (is_operation t) enclosed t
 behind-some a more t = whole-bare (adorned a more t) ∙ spelled-adorned enclosed (adorned a more t) a more refl
 
 -- what is no operation is left bare there
-pub behind-plain : (ats : List AttributeTree) (t : Tree) → is_operation t ≡ false → whole enclosed (adorn ats t) ≡ attributes_own ats [] ++ spelled enclosed t
+pub behind-plain : (ats : List AttributeTree) (t : Tree) → is_operation t ≡ false → whole enclosed (adorn ats t) ≡ attributes_own (outers ats) [] ++ spelled enclosed t
 behind-plain [] t h = whole-bare t
 behind-plain (a ∷ more) t h =
     behind-some a more t
-    ∙ ap (λ w. attributes_own (a ∷ more) [] ++ spelled_in w enclosed t) h
-    ∙ ap (λ l. attributes_own (a ∷ more) [] ++ l) (spelled-bare enclosed t)
+    ∙ ap (λ w. attributes_own (outers (a ∷ more)) [] ++ spelled_in w enclosed t) h
+    ∙ ap (λ l. attributes_own (outers (a ∷ more)) [] ++ l) (spelled-bare enclosed t)
 
 pub operation-bare : (ats : List AttributeTree) (t : Tree) → is_nil ats ≡ true → whole enclosed (adorn ats t) ≡ spelled enclosed t
 operation-bare [] t h = whole-bare t
 operation-bare (a ∷ more) t h = absurd cc
 
 pub operation-wrapped : (ats : List AttributeTree) (t : Tree) → is_nil ats ≡ false → is_operation t ≡ true
-    → whole enclosed (adorn ats t) ≡ attributes_own ats [] ++ own_parts.enclosed del.Parenthesis (spelled enclosed t) []
+    → whole enclosed (adorn ats t) ≡ attributes_own (outers ats) [] ++ own_parts.enclosed del.Parenthesis (spelled enclosed t) []
 operation-wrapped [] t h o = absurd cc
 operation-wrapped (a ∷ more) t h o =
     behind-some a more t
-    ∙ ap (λ w. attributes_own (a ∷ more) [] ++ spelled_in w enclosed t) o
-    ∙ ap (λ l. attributes_own (a ∷ more) [] ++ l) (spelled-wrapped enclosed t)
+    ∙ ap (λ w. attributes_own (outers (a ∷ more)) [] ++ spelled_in w enclosed t) o
+    ∙ ap (λ l. attributes_own (outers (a ∷ more)) [] ++ l) (spelled-wrapped enclosed t)
 
 -- ---- one part behind the other
 
 pub plain-written : (ats : List AttributeTree) (t : Tree) (x t0 t1 t2 : List Tok) → is_operation t ≡ false → spelled enclosed t ≡ x
-    → t1 ≡ t0 ++ attributes_own ats [] → t2 ≡ t1 ++ x → t2 ≡ t0 ++ whole enclosed (adorn ats t)
+    → t1 ≡ t0 ++ attributes_own (outers ats) [] → t2 ≡ t1 ++ x → t2 ≡ t0 ++ whole enclosed (adorn ats t)
 plain-written ats t x t0 t1 t2 h s p g =
-    g ∙ ap (λ l. l ++ x) p ∙ append_assoc t0 (attributes_own ats []) x
-    ∙ ap (λ l. t0 ++ (attributes_own ats [] ++ l)) (sym s) ∙ ap (λ l. t0 ++ l) (sym (behind-plain ats t h))
+    g ∙ ap (λ l. l ++ x) p ∙ append_assoc t0 (attributes_own (outers ats) []) x
+    ∙ ap (λ l. t0 ++ (attributes_own (outers ats) [] ++ l)) (sym s) ∙ ap (λ l. t0 ++ l) (sym (behind-plain ats t h))
 
 pub wrapped-written : (ats : List AttributeTree) (t : Tree) (x t0 t1 t2 : List Tok) → is_nil ats ≡ false → is_operation t ≡ true → x ≡ spelled enclosed t
-    → t1 ≡ t0 ++ attributes_own ats [] → t2 ≡ t1 ++ own_parts.enclosed del.Parenthesis x [] → t2 ≡ t0 ++ whole enclosed (adorn ats t)
+    → t1 ≡ t0 ++ attributes_own (outers ats) [] → t2 ≡ t1 ++ own_parts.enclosed del.Parenthesis x [] → t2 ≡ t0 ++ whole enclosed (adorn ats t)
 wrapped-written ats t x t0 t1 t2 h o s p g =
     let y = own_parts.enclosed del.Parenthesis x [] in
-    g ∙ ap (λ l. l ++ y) p ∙ append_assoc t0 (attributes_own ats []) y
-    ∙ ap (λ l. t0 ++ (attributes_own ats [] ++ own_parts.enclosed del.Parenthesis l [])) s ∙ ap (λ l. t0 ++ l) (sym (operation-wrapped ats t h o))
+    g ∙ ap (λ l. l ++ y) p ∙ append_assoc t0 (attributes_own (outers ats) []) y
+    ∙ ap (λ l. t0 ++ (attributes_own (outers ats) [] ++ own_parts.enclosed del.Parenthesis l [])) s ∙ ap (λ l. t0 ++ l) (sym (operation-wrapped ats t h o))
 
 pub ruleset operations = (operation-bare)

@@ -13,7 +13,7 @@ use Rattle.syn_grammar.specs.Next.{enclosed, base_context, lead_context, left_co
 use Rattle.syn_grammar.specs.Notes.{note_of, kids_below, base_by, lead_by, left_by, place_by}
 use Rattle.syn_grammar.specs.Op.{level}
 use Rattle.syn_grammar.specs.Tree as e
-use Rattle.syn_grammar.specs.Tree.{Tree, Kids, Enclosure, adorn, leaf_own, lead_own, infix_own, post_own, post_op, trailer_own, frame_own, enclosure}
+use Rattle.syn_grammar.specs.Tree.{Tree, Kids, Enclosure, adorn, outers, leaf_own, lead_own, infix_own, post_own, post_op, trailer_own, frame_own, enclosure}
 use Rattle.syn_expr_notes.specs.Label.{lead_kind, trailer_kind}
 use Rattle.syn_expr_notes.specs.declared.label.LeadKind.{LeadKind}
 use Rattle.syn_expr_notes.specs.declared.label.TrailerKind.{TrailerKind}
@@ -144,9 +144,9 @@ module _ {P : Type 0} (pat : P → PatView) where
   last-open (frame.Group t) ks h = refl
 
   pub closed-text : (ats : List AttributeTree) (k : Frame P) (ks : Kids) (b : Bool) → is_some (enclosure (frame_of pat k)) ≡ true → b ≡ needs_last (frame_of pat k) (e.is_one ks)
-      → whole enclosed (adorn ats (e.frame (frame_of pat k) (strays (frame_guards pat k) ks))) ≡ attributes_own ats [] ++ framed_own (frame_of pat k) (kids_spelled b ks)
+      → whole enclosed (adorn ats (e.frame (frame_of pat k) (strays (frame_guards pat k) ks))) ≡ attributes_own (outers ats) [] ++ framed_own (frame_of pat k) (kids_spelled b ks)
   closed-text ats k ks b h m =
-      behind-plain ats (e.frame (frame_of pat k) all) refl ∙ ap (λ l. attributes_own ats [] ++ l) (by (enclosure (frame_of pat k)) refl h)
+      behind-plain ats (e.frame (frame_of pat k) all) refl ∙ ap (λ l. attributes_own (outers ats) [] ++ l) (by (enclosure (frame_of pat k)) refl h)
     where
       all : Kids
       all = strays (frame_guards pat k) ks
@@ -160,9 +160,9 @@ module _ {P : Type 0} (pat : P → PatView) where
           ∙ ap (λ o. in_enclosure o (kids_spelled b ks)) (sym i)
 
   pub open-text : (ats : List AttributeTree) (k : Frame P) (ks : Kids) → is_some (enclosure (frame_of pat k)) ≡ false
-      → whole enclosed (adorn ats (e.frame (frame_of pat k) (strays (frame_guards pat k) ks))) ≡ attributes_own ats [] ++ (frame_own (frame_of pat k) [] ++ kids_spelled false ks)
+      → whole enclosed (adorn ats (e.frame (frame_of pat k) (strays (frame_guards pat k) ks))) ≡ attributes_own (outers ats) [] ++ (frame_own (frame_of pat k) [] ++ kids_spelled false ks)
   open-text ats k ks h =
-      behind-plain ats (e.frame (frame_of pat k) all) refl ∙ ap (λ l. attributes_own ats [] ++ l) (by (enclosure (frame_of pat k)) refl h)
+      behind-plain ats (e.frame (frame_of pat k) all) refl ∙ ap (λ l. attributes_own (outers ats) [] ++ l) (by (enclosure (frame_of pat k)) refl h)
     where
       all : Kids
       all = strays (frame_guards pat k) ks
@@ -175,19 +175,19 @@ module _ {P : Type 0} (pat : P → PatView) where
           ∙ ap (λ l. frame_own (frame_of pat k) [] ++ l) (strays-spelled false (frame_guards pat k) ks)
 
   pub closed-written : (ats : List AttributeTree) (k : Frame P) (ks : Kids) (b : Bool) (i0 i1 t0 t1 t2 : List Tok) → is_some (enclosure (frame_of pat k)) ≡ true
-      → b ≡ needs_last (frame_of pat k) (e.is_one ks) → i0 ≡ [] → i1 ≡ i0 ++ kids_spelled b ks → t1 ≡ t0 ++ attributes_own ats [] → t2 ≡ t1 ++ framed_own (frame_of pat k) i1
+      → b ≡ needs_last (frame_of pat k) (e.is_one ks) → i0 ≡ [] → i1 ≡ i0 ++ kids_spelled b ks → t1 ≡ t0 ++ attributes_own (outers ats) [] → t2 ≡ t1 ++ framed_own (frame_of pat k) i1
       → t2 ≡ t0 ++ whole enclosed (adorn ats (e.frame (frame_of pat k) (strays (frame_guards pat k) ks)))
   closed-written ats k ks b i0 i1 t0 t1 t2 h m n i p g =
       let x = λ (l : List Tok). framed_own (frame_of pat k) l in
       let j = i ∙ ap (λ l. l ++ kids_spelled b ks) n in
-      g ∙ ap (λ l. t1 ++ x l) j ∙ ap (λ l. l ++ x (kids_spelled b ks)) p ∙ append_assoc t0 (attributes_own ats []) (x (kids_spelled b ks))
+      g ∙ ap (λ l. t1 ++ x l) j ∙ ap (λ l. l ++ x (kids_spelled b ks)) p ∙ append_assoc t0 (attributes_own (outers ats) []) (x (kids_spelled b ks))
       ∙ ap (λ l. t0 ++ l) (sym (closed-text ats k ks b h m))
 
   pub open-written : (ats : List AttributeTree) (k : Frame P) (ks : Kids) (t0 t1 t2 t3 : List Tok) → is_some (enclosure (frame_of pat k)) ≡ false
-      → t1 ≡ t0 ++ attributes_own ats [] → t2 ≡ t1 ++ frame_own (frame_of pat k) [] → t3 ≡ t2 ++ kids_spelled false ks
+      → t1 ≡ t0 ++ attributes_own (outers ats) [] → t2 ≡ t1 ++ frame_own (frame_of pat k) [] → t3 ≡ t2 ++ kids_spelled false ks
       → t3 ≡ t0 ++ whole enclosed (adorn ats (e.frame (frame_of pat k) (strays (frame_guards pat k) ks)))
   open-written ats k ks t0 t1 t2 t3 h p i g =
-      let a = attributes_own ats [] in
+      let a = attributes_own (outers ats) [] in
       let x = frame_own (frame_of pat k) [] in
       let y = kids_spelled false ks in
       g ∙ ap (λ l. l ++ y) (i ∙ ap (λ l. l ++ x) p) ∙ append_assoc (t0 ++ a) x y ∙ append_assoc t0 a (x ++ y) ∙ ap (λ l. t0 ++ l) (sym (open-text ats k ks h))

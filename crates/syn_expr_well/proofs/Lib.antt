@@ -1,4 +1,3 @@
-pub mod Inner
 pub mod Indices
 pub mod Closures
 pub mod PatKinds

@@ -18,11 +18,11 @@ use Rattle.syn_lower_leaves.specs.declared.attr.Attribute.{Attribute}
 use Rattle.syn_grammar.specs.Slot as slot
 use Rattle.syn_grammar.specs.Slot.{Slot}
 use Rattle.syn_grammar.specs.Tree as e
-use Rattle.syn_grammar.specs.Tree.{Tree, Kids, Ending, Body, none, kid}
-use Rattle.syn_grammar.specs.WellFormed.{well, kids_well, has_rest, may_stop, body_fits, is_kept_block, is_name_path, piece_fits, ending_fits}
+use Rattle.syn_grammar.specs.Tree.{Tree, Kids, Ending, Body, none, kid, from_inner}
+use Rattle.syn_grammar.specs.WellFormed.{attributes_inner, well, kids_well, has_rest, may_stop, body_fits, is_kept_block, is_name_path, piece_fits, ending_fits}
 use Rattle.syn_grammar.specs.Stands.{is_branch}
 use Rattle.syn_grammar.proofs.Bools.{and_true}
-use Rattle.syn_expr_kinds.specs.Attrs.{inner_part, inner_of}
+use Rattle.syn_expr_kinds.specs.Attrs.{inner_of}
 use Rattle.syn_expr_kinds.specs.Node.{framed, based, based_by}
 use Rattle.syn_expr_kinds.specs.Pats.{ArmView, strays, guard_kids, arm_ending, arm_kids, arms}
 use Rattle.syn_expr_kinds.specs.View.{FieldView, ending_of, elements, fields, option_kid, boxed, else_of, body_of}
@@ -31,7 +31,6 @@ use Rattle.syn_expr_collect.proofs.Lists.{some_visited, none_visited}
 use Rattle.syn_expr_well.specs.Slots.{is_elements, is_single, is_counted, is_fields, is_conditions, is_loops, is_scrutinees, is_outputs}
 use Rattle.syn_expr_well.specs.Walk.{operands_well, option_well, field_well, else_well, arm_pattern, arm_well}
 use Rattle.syn_expr_well.proofs.Closures.{and_assoc}
-use Rattle.syn_expr_well.proofs.Inner.{part_inner}
 
 -- ---- lists with puncts
 
@@ -440,10 +439,15 @@ arms_rest : (xs : List ArmView) → has_rest (arms xs) ≡ false
 arms_rest [] = refl
 arms_rest (x ∷ xs) = arm_rest x (arms xs) x.pat.tree x.pat.guards ∙ arms_rest xs
 
+in_order : (a b c : Bool) → ((a && b) && c) ≡ (a && (b && c))
+in_order true b c = refl
+in_order false b c = refl
+
 pub arms-well : {A : Type 0} (f : A → ArmView) (s : Slot) (dots : Bool) (v : Vec Attribute Global) (t : Tree) (xs : List A)
-    → operands_well s dots (framed (kid e.scrutinee (e.opened (inner_of v)) t (arms (map f xs)))) ≡ (is_scrutinees s && (well t && list_all (λ x. arm_well (f x)) xs))
+    → operands_well s dots (framed (kid e.scrutinee (e.opened (inner_of v)) t (arms (map f xs)))) ≡ (is_scrutinees s && (attributes_inner (inner_of v) && (well t && list_all (λ x. arm_well (f x)) xs)))
 unfolding inner_of
 arms-well f s dots v t xs =
-    rw (arms_rest (map f xs), not_both dots, scrutinee_in s (e.opened (inner_part (map attribute_of v.items))) t, part_inner (map attribute_of v.items), and_true (is_scrutinees s), arms_in (map f xs), all_map arm_well f xs) refl
+    rw (arms_rest (map f xs), not_both dots, scrutinee_in s (e.opened (from_inner (map attribute_of v.items))) t, arms_in (map f xs), all_map arm_well f xs)
+    (in_order (is_scrutinees s) (attributes_inner (from_inner (map attribute_of v.items))) (well t && list_all (λ x. arm_well (f x)) xs))
 
 pub ruleset operands = (call-well, index-well, elements-well, grouped-well, repeated-well, if-well, loop-well, body-well, arms-well)

@@ -2,7 +2,6 @@
 
 ghost use Rattle.syn_expr_well.specs.Whole as whole;
 
-use crate::fits::all_outer;
 use crate::heads::HasPatFits;
 use crate::pat;
 use crate::patterns::FitPat;
@@ -10,6 +9,7 @@ use crate::walk::HasWell;
 use syn_expr_all::control::Arm;
 use syn_expr_all::expr::Expr;
 use syn_expr_all::pat::Pat;
+use syn_expr_kinds::attrs::all_outer;
 
 impl HasPatFits for Expr {
     fn pat_fits(pat: &Pat) -> bool {

@@ -2,7 +2,6 @@
 
 ghost use Rattle.std.specs.Prelude.{◌≡◌};
 ghost use Rattle.syn_expr_kinds.specs.Node.{braces_of, leaf_of, post_of, trailer_of};
-ghost use Rattle.syn_expr_kinds.specs.Attrs.{attrs_of};
 ghost use Rattle.syn_expr_kinds.specs.View.{turbofish_of};
 ghost use Rattle.syn_expr_parts.specs.View.{member_of};
 ghost use Rattle.syn_grammar.specs.Tree as e;
@@ -10,16 +9,16 @@ ghost use Rattle.syn_grammar.specs.WellFormed as spec;
 ghost use Rattle.syn_lower.specs.View.{type_of, path_of, qself_or};
 ghost use Rattle.syn_lower_leaves.specs.View.{lit_of};
 ghost use Rattle.syn_parts.specs.Fits.{arguments_fit, unsigned_fits};
-ghost use Rattle.syn_parts.specs.PatFits.{attributes_outer, member_fits};
+ghost use Rattle.syn_parts.specs.PatFits.{member_fits};
 ghost use Rattle.syn_parts.specs.declared.label.PathStyle.TheVariants as style;
 ghost use Rattle.syn_parts.specs.Part as part;
 
+use syn_expr_kinds::attrs::is_in_order;
 use syn_expr_kinds::node::{Braces, Leaf, Post, Trailer};
 use syn_expr_kinds::path::is_word_alone;
 use syn_expr_parts::member::Member;
 use syn_grammar::kinds::Infix;
 use syn_lexer::reserved::is_reserved_word;
-use syn_lower::attr::{AttrStyle, Attribute};
 use syn_lower::lit::Lit;
 use syn_lower::path::{AngleBracketedGenericArguments, Path, PathStyle, QSelf};
 use syn_lower::qpath_is_read_back;
@@ -63,12 +62,12 @@ fn begins_with_inner(tokens: &TokenStream) -> bool
     }
 }
 
-/// Whether what stands in braces is read back: its tokens don't begin as an inner attribute does.
-#[tactic(auto, using(crate::proofs::Inner::inner), unfolding(syn_expr_kinds::specs::Attrs::inner_of))]
+/// Whether what stands in braces is read back: no outer attribute of the node stands behind an inner one, and the tokens don't
+/// begin as an inner attribute does.
 pub fn braces_fit(braces: Braces<'_>) -> bool
     ensures { result ≡ spec.body_fits (braces_of braces.entry) }
 {
-    !begins_with_inner(&braces.block.stmts)
+    is_in_order(braces.attrs) && !begins_with_inner(&braces.block.stmts)
 }
 
 /// Whether what holds no expression is read back.
@@ -144,17 +143,4 @@ pub fn trailer_fits(trailer: Trailer<'_>) -> bool
         Trailer::Field(_, member) => member_fits(member),
         Trailer::Call(_) | Trailer::Index(_) | Trailer::Await(_, _) | Trailer::Try(_) => true,
     }
-}
-
-/// Whether all attributes are outer ones.
-#[tactic(auto, unfolding(syn_expr_kinds::specs::Attrs::attrs_of))]
-pub fn all_outer(attrs: &Vec<Attribute>) -> bool
-    ensures { result ≡ attributes_outer (attrs_of attrs.now) }
-{
-    for attr in attrs {
-        if !matches!(attr.style, AttrStyle::Outer) {
-            return false;
-        }
-    }
-    true
 }

@@ -9,12 +9,12 @@ ghost use Rattle.syn_parts.specs.Pat.{is_rest};
 ghost use Rattle.syn_parts.specs.PatFits.{begins_mut};
 ghost use Rattle.syn_pat_kinds.specs.View as of;
 
-use crate::fits::all_outer;
 use crate::patterns::{
     FitPat, PatSort, ident_fits, ident_sort, lit_fits, macro_fits, or_fits, path_fits, pats_fit,
     range_fits, rest_sort, slice_fits, struct_fits, tuple_struct_fits,
 };
 use syn_expr_all::pat::{Pat, PatGuard, PatParen, PatReference, PatTuple, PatType};
+use syn_expr_kinds::attrs::all_outer;
 use syn_lower::attr::Attribute;
 use syn_lower::punctuated::Punctuated;
 use syn_lower_lists::fits::is_one;

@@ -8,7 +8,8 @@ ghost use Rattle.syn_parts.specs.Part.{segments_bare};
 ghost use Rattle.syn_parts.specs.PatFits as fits;
 ghost use Rattle.syn_pat_kinds.specs.View as of;
 
-use crate::fits::{all_outer, member_fits};
+use crate::fits::member_fits;
+use syn_expr_kinds::attrs::all_outer;
 use syn_lexer::reserved::is_reserved_word;
 use syn_lower::path::{Path, PathArguments, PathSegment, PathStyle, QSelf};
 use syn_lower::punctuated::Punctuated;

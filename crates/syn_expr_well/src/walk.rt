@@ -13,12 +13,13 @@ ghost use Rattle.syn_grammar.specs.WellFormed.{kids_well, well};
 ghost use Rattle.syn_lower_lists.specs.View.{mapped, trails, values};
 
 use crate::attributes::before_fit;
-use crate::fits::{all_outer, braces_fit, member_fits};
+use crate::fits::{braces_fit, member_fits};
 use crate::heads::HasPatFits;
 use crate::kept::{is_kept_block, is_name_path};
 use crate::own::{is_branch, own_fits};
 use crate::slot::{Slot, operand_slot};
 use syn_expr_collect::arm::HasArms;
+use syn_expr_kinds::attrs::{all_outer, is_in_order};
 use syn_expr_kinds::node::Operands;
 use syn_expr_kinds::structure::FieldValueOf;
 use syn_lower_lists::punctuated::Punctuated;
@@ -232,8 +233,8 @@ fn operands_well<E: HasWell>(slot: Slot, operands: Operands<'_, E, E::Arm>) -> b
             let fits = braces_fit(braces);
             slot.is_loops() && fits && is_well::<E>(x)
         }
-        Operands::Arms(x, _, arms) => {
-            slot.is_scrutinees() && is_well::<E>(x) && arms_well::<E>(arms)
+        Operands::Arms(x, attrs, arms) => {
+            slot.is_scrutinees() && is_in_order(attrs) && is_well::<E>(x) && arms_well::<E>(arms)
         }
         Operands::Body(x) => slot.is_outputs() && is_kept_block::<E>(x),
     }

@@ -5,10 +5,11 @@ use Rattle.syn_lexer.specs.declared.lexeme.Delimiter.TheVariants as del
 use Rattle.syn_tokens.specs.Tok.{Tok, toks-inside}
 use Rattle.syn_parts.specs.declared.label.PathStyle.TheVariants as style
 use Rattle.syn_parts.specs.Tree.{AttributeTree, QSelfTree, PathTree}
-use Rattle.syn_parts.specs.Part.{is_default}
+use Rattle.syn_parts.specs.Part.{is_default, outer_attributes}
 use Rattle.syn_parts.specs.Mark.{sign_at, word_at, pound}
 use Rattle.syn_parts.specs.Own as o
 use Rattle.syn_parts.specs.Own.{before_if, joint, alone}
+use Rattle.syn_parts.specs.PatOwn.{attributes_own}
 use Rattle.syn_parts.specs.Pat.{a_name, an_index}
 use Rattle.syn_parts.specs.Fits.{qpath_fits}
 use Rattle.syn_parts.proofs.PatsBack.{attributes_back}
@@ -28,7 +29,7 @@ use Rattle.syn_grammar.specs.Slot.{Slot, nothing, within, piece_place, frame_hol
 use Rattle.syn_grammar.specs.Stands as st
 use Rattle.syn_grammar.specs.Stands.{Node, Content, Operands, is_adorned, is_branch, is_try_alone, rests, ends_list, is_base, is_parenthesis_or_bracket, has_no_comma, frame_stands, leaf_stands, mid_stands, lead_place}
 use Rattle.syn_grammar.specs.Tree as e
-use Rattle.syn_grammar.specs.Tree.{Tree, Kids, Leaf, Frame, Trailer, leaf, paren, adorned, lead, mid, post, tail, frame, none, kid, post_op, is_one, is_block_like, is_block_leaf, infix_own, post_own, trailer_own, own, kids_own, enclosure, behind_operands, clear, clear_kids}
+use Rattle.syn_grammar.specs.Tree.{Tree, Kids, Leaf, Frame, Trailer, leaf, paren, adorned, lead, mid, post, tail, frame, none, kid, outers, post_op, is_one, is_block_like, is_block_leaf, infix_own, post_own, trailer_own, own, kids_own, enclosure, behind_operands, clear, clear_kids}
 use Rattle.syn_grammar.specs.WellFormed.{trailer_fits, frame_fits, piece_fits, is_kept_block}
 use Rattle.syn_grammar.proofs.Bools.{or_false, both_true, not_it, and_true}
 use Rattle.syn_grammar.proofs.HeadsBack.{heads_back}
@@ -38,6 +39,7 @@ use Rattle.syn_grammar.proofs.HeadFrames.{frame_stops, frame_rest}
 use Rattle.syn_grammar.proofs.Formed.{Formed, FormedKids}
 use Rattle.syn_grammar.proofs.Obeys.{Fits, Obeys, ObeysKids}
 use Rattle.syn_grammar.proofs.Shows.{Shows, is_round_next, seen, shows_nothing, shows_operator, shows_trailer}
+use Rattle.syn_grammar.proofs.Attributes.{outers_are}
 use Rattle.syn_grammar.proofs.OwnFronts.{front, begins_pound, post_class}
 use Rattle.syn_grammar.proofs.Places.{Meets, Calls, own_infix, own_drop, meets_plain, meets_left, meets_base, meets_adorned, meets_right, meets_lead, lead_level_is, goes_free, fits_ends, fits_closes, left_closes, left_fits, base_fits, operation_ends, adorns, fits_calls, left_calls, base_calls, adorned_calls, level_fits, level_obeys}
 use Rattle.syn_grammar.proofs.Stood.{leaf_there, leaf_stopped, lead_there, lead_stopped, mid_there, post_there, post_back, post_infix}
@@ -195,7 +197,9 @@ paren_made p b t r d f =
 
 adorned_made : (p : Place) (a : AttributeTree) (more : List AttributeTree) (t : Tree) (r : List Tok) → Formed (adorned a more t) → is_operation t ≡ false → pound.at (own t r) ≡ false
     → Node p (own t r) (clear t) r → Node p (own (adorned a more t) r) (clear (adorned a more t)) r
-adorned_made p a more t r f o h d = st.is_adorned_by (attributes_back (a ∷ more) (own t r) f.0 h) (adorns p t f.2 f.1 o) d
+adorned_made p a more t r f o h d =
+    st.is_adorned_by (ap (λ l. outer_attributes.behind (a ∷ more) (attributes_own l (own t r))) (outers_are (a ∷ more) f.0) ∙ attributes_back (a ∷ more) (own t r) f.0 h)
+    (adorns p t f.2 f.1 o) d
 
 mid_made : (p : Place) (c : Context) (x : Tree) (k : Infix) (y : Tree) (r : List Tok) → Formed (mid x k y) → Meets p c → Shows c.next r → Obeys p.level c (mid x k y)
     → Node p (own x (infix_own k (own y r))) (clear x) (infix_own k (own y r)) → Node (at p (level k)) (own y r) (clear y) r

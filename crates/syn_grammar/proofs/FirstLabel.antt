@@ -7,9 +7,11 @@ use Rattle.syn_tokens.specs.Tok.{Tok, ident, punct, literal, group}
 use Rattle.syn_parts.specs.declared.label.LitKind.{LitKind}
 use Rattle.syn_parts.specs.declared.label.LitKind.TheVariants as kind
 use Rattle.syn_parts.specs.Tree as t
-use Rattle.syn_parts.specs.Tree.{QSelfTree, Segments, LifetimesTree}
+use Rattle.syn_parts.specs.Tree.{AttributeTree, QSelfTree, Segments, LifetimesTree}
+use Rattle.syn_parts.specs.Form.{is_nil}
 use Rattle.syn_parts.specs.Mark.{lifetime_at, lifetime_begins}
 use Rattle.syn_parts.specs.Own.{alone, before_if, before_some, colon2_before, enclosed, type_own, segments_own, lit_own, lit_own_by, number_own, attribute_own, lifetimes_own}
+use Rattle.syn_parts.specs.PatOwn.{attributes_own}
 use Rattle.syn_parts.proofs.Appends.{type_append}
 use Rattle.syn_grammar.specs.declared.kinds.UnKind.TheVariants as un
 use Rattle.syn_grammar.specs.declared.kinds.BinKind.TheVariants as bin
@@ -17,7 +19,7 @@ use Rattle.syn_grammar.specs.declared.kinds.Limits.TheVariants as limits
 use Rattle.syn_grammar.specs.declared.kinds.Infix.{Infix}
 use Rattle.syn_grammar.specs.declared.kinds.Infix.TheVariants as inf
 use Rattle.syn_grammar.specs.Tree as e
-use Rattle.syn_grammar.specs.Tree.{Tree, Leaf, Lead, Post, Trailer, Frame, leaf, paren, adorned, lead, mid, post, tail, frame, word_if, vert_before, own, leaf_own, lead_own, infix_own, post_op, post_own, trailer_own, framed, enclosure}
+use Rattle.syn_grammar.specs.Tree.{Tree, Leaf, Lead, Post, Trailer, Frame, leaf, paren, adorned, lead, mid, post, tail, frame, outers, word_if, vert_before, own, leaf_own, lead_own, infix_own, post_op, post_own, trailer_own, framed, enclosure}
 use Rattle.syn_grammar.specs.Rule.{frame_labelled}
 use Rattle.syn_grammar.specs.Query.{is_cast_op, kept_leads, leaf_leads, tree_leads, LeadingLabelIsFirst}
 
@@ -199,11 +201,16 @@ trailer_behind (e.field m) i l = record { no_label = refl; word_there = refl }
 trailer_behind e.await i l = record { no_label = refl; word_there = refl }
 trailer_behind e.question i l = record { no_label = refl; word_there = refl }
 
-tree_first : (x : Tree) (r : List Tok) (word : Bool) → Behind r word → lifetime_at (own x r) ≡ tree_leads word x
+attributes_first : (ats : List AttributeTree) (l : List Tok) (b : Bool) → lifetime_at l ≡ b → lifetime_at (attributes_own ats l) ≡ (is_nil ats && b)
 unfolding lifetime_at attribute_own
+attributes_first [] l b h = h
+attributes_first (a ∷ more) l b h = refl
+
+tree_first : (x : Tree) (r : List Tok) (word : Bool) → Behind r word → lifetime_at (own x r) ≡ tree_leads word x
+unfolding lifetime_at
 tree_first (leaf k) r word b = leaf_first k r b.no_label ∙ ap (λ w. leaf_leads w k) b.word_there
 tree_first (paren m x) r word b = refl
-tree_first (adorned a more x) r word b = refl
+tree_first (adorned a more x) r word b = attributes_first (outers (a ∷ more)) (own x r) (tree_leads word x) (tree_first x r word b)
 tree_first (lead k gs x) r word b = lead_first k _
 tree_first (mid x k y) r word b = tree_first x _ (is_cast_op k) (infix_behind k _)
 tree_first (post x k) r word b = tree_first x _ (is_cast_op (post_op k)) (post_behind k r)

@@ -1,24 +1,23 @@
 -- Flattening: it is done once, and it sees neither marks nor added parentheses.
-use Rattle.std.specs.Prelude.{not, ◌&&◌}
-use Rattle.std.proofs.Common.{◌≡◌, Bool, true, false, List, ◌∷◌, refl, ◌∙◌, ap}
+use Rattle.std.specs.Prelude.{not, ◌&&◌, ◌||◌, if◌then◌else◌}
+use Rattle.std.proofs.Common.{◌≡◌, Bool, true, false, List, [], ◌∷◌, ◌++◌, refl, ◌∙◌, ap}
 use Rattle.syn_parts.specs.Tree.{AttributeTree}
+use Rattle.syn_parts.specs.PatFits.{attributes_outer}
 use Rattle.syn_grammar.specs.Tree as e
-use Rattle.syn_grammar.specs.Tree.{Tree, Kids, Leaf, leaf, paren, adorned, lead, mid, post, tail, frame, none, kid, prepend, flatten, flatten_kids, clear, clear_kids}
-use Rattle.syn_grammar.specs.Stands.{is_verbatim_leaf}
+use Rattle.syn_grammar.specs.Tree.{Tree, Kids, Leaf, leaf, paren, adorned, lead, mid, post, tail, frame, none, kid, adorn, outers, inners, has_braces, frame_has_braces, kids_with, inner_in, with_inner, outside, prepend, flatten, flatten_kids, clear, clear_kids}
 use Rattle.syn_grammar.specs.Same.{FlattenIsIdempotent}
+use Rattle.syn_grammar.proofs.Attributes.{outers_outer, outer_both, outside_outer, inner_stays, with_inner_plain, with_inner_braces, with_inner_free, is_free, prepend_adorn, prepend_free, free_or}
 
--- attributes put before it stay attributes of it
-abbrev is_free : Tree → Bool
-is_free (leaf k) = not (is_verbatim_leaf k)
-is_free (adorned a more t) = false
-is_free _ = true
+-- these attributes stay before the node
+abbrev stand_before : List AttributeTree → Tree → Bool
+stand_before ats t = not (has_braces t) || attributes_outer ats
 
 -- no parentheses, and nothing that attributes would be merged with
 abbrev mutual
   flat : Tree → Bool
   flat (leaf k) = true
   flat (paren m t) = false
-  flat (adorned a more t) = is_free t && flat t
+  flat (adorned a more t) = is_free t && (stand_before (a ∷ more) t && flat t)
   flat (lead k gs t) = flat_kids gs && flat t
   flat (mid x k y) = flat x && flat y
   flat (post x k) = flat x
@@ -41,23 +40,72 @@ pub right_of : (a b : Bool) → (a && b) ≡ true → b ≡ true
 right_of true b p = p
 right_of false b p = cc
 
-leaf_stays : (a : AttributeTree) (more : List AttributeTree) (k : Leaf) → is_free (leaf k) ≡ true → prepend (a ∷ more) (leaf k) ≡ adorned a more (leaf k)
-leaf_stays a more (e.verbatim ts) h = cc
-leaf_stays a more _ h = refl
+-- ---- attributes before a tree without parentheses
 
-stays : (a : AttributeTree) (more : List AttributeTree) (t : Tree) → is_free t ≡ true → prepend (a ∷ more) t ≡ adorned a more t
-stays a more (leaf k) h = leaf_stays a more k h
-stays a more (adorned b bs t) h = cc
-stays a more _ h = refl
+outside_stays : (ats : List AttributeTree) (t : Tree) → stand_before ats t ≡ true → outside t ats ≡ ats
+outside_stays ats t h = by (has_braces t) refl h
+  where
+    by : (b : Bool) → has_braces t ≡ b → (not b || attributes_outer ats) ≡ true → outside t ats ≡ ats
+    by true g h = outside_outer t ats h
+    by false g h = ap (λ (b : Bool). if b then outers ats else ats) g
 
-flat_leaf : (a : AttributeTree) (more : List AttributeTree) (k : Leaf) → flat (prepend (a ∷ more) (leaf k)) ≡ true
-flat_leaf a more (e.verbatim ts) = refl
-flat_leaf a more _ = refl
+inside_stays : (ats : List AttributeTree) (t : Tree) → stand_before ats t ≡ true → with_inner (inners ats ++ inner_in t) t ≡ t
+inside_stays ats t h = by (has_braces t) refl h
+  where
+    by : (b : Bool) → has_braces t ≡ b → (not b || attributes_outer ats) ≡ true → with_inner (inners ats ++ inner_in t) t ≡ t
+    by true g h = inner_stays ats t h
+    by false g h = with_inner_plain (inners ats ++ inner_in t) t g
+
+stays : (a : AttributeTree) (more : List AttributeTree) (t : Tree) → is_free t ≡ true → stand_before (a ∷ more) t ≡ true → prepend (a ∷ more) t ≡ adorned a more t
+stays a more t f h =
+    prepend_free (a ∷ more) t f ∙ ap (λ l. adorn l (with_inner (inners (a ∷ more) ++ inner_in t) t)) (outside_stays (a ∷ more) t h)
+    ∙ ap (adorned a more) (inside_stays (a ∷ more) t h)
+
+flat_adorn : (ats : List AttributeTree) (t : Tree) → is_free t ≡ true → stand_before ats t ≡ true → flat t ≡ true → flat (adorn ats t) ≡ true
+flat_adorn [] t f s h = h
+flat_adorn (a ∷ more) t f s h = both _ _ f (both _ _ s h)
+
+kids_flat : (ats : List AttributeTree) (ks : Kids) → flat_kids ks ≡ true → flat_kids (kids_with ats ks) ≡ true
+kids_flat ats none h = refl
+kids_flat ats (kid k (e.braced b) t ks) h = h
+kids_flat ats (kid k (e.opened old) t ks) h = h
+kids_flat ats (kid k e.no_ending t ks) h = both (flat t) _ (left_of (flat t) _ h) (kids_flat ats ks (right_of (flat t) _ h))
+kids_flat ats (kid k e.comma t ks) h = both (flat t) _ (left_of (flat t) _ h) (kids_flat ats ks (right_of (flat t) _ h))
+
+inner_flat : (ats : List AttributeTree) (t : Tree) → flat t ≡ true → flat (with_inner ats t) ≡ true
+inner_flat ats (leaf k) h = refl
+inner_flat ats (frame k ks) h = by (frame_has_braces k)
+  where
+    by : (b : Bool) → flat_kids (if b then kids_with ats ks else ks) ≡ true
+    by true = kids_flat ats ks h
+    by false = h
+inner_flat ats _ h = h
+
+-- those that stand outside stay there, before more of that kind
+outside_stands : (ats own : List AttributeTree) (t : Tree) → stand_before own t ≡ true → stand_before (outside t ats ++ own) t ≡ true
+outside_stands ats own t h = by (has_braces t) h
+  where
+    by : (b : Bool) → (not b || attributes_outer own) ≡ true → (not b || attributes_outer ((if b then outers ats else ats) ++ own)) ≡ true
+    by true h = outer_both (outers ats) own (outers_outer ats) h
+    by false h = refl
+
+flat_put : (ats own : List AttributeTree) (t : Tree) → is_free t ≡ true → stand_before own t ≡ true → flat t ≡ true → flat (prepend ats (adorn own t)) ≡ true
+flat_put ats own t f s h =
+    let u = with_inner (inners ats ++ inner_in t) t in
+    ap flat (prepend_adorn ats own t f)
+    ∙ flat_adorn (outside t ats ++ own) u (with_inner_free (inners ats ++ inner_in t) t ∙ f)
+    (ap (λ (b : Bool). not b || attributes_outer (outside t ats ++ own)) (with_inner_braces (inners ats ++ inner_in t) t) ∙ outside_stands ats own t s)
+    (inner_flat (inners ats ++ inner_in t) t h)
+
+none_stand : (b : Bool) → (not b || true) ≡ true
+none_stand true = refl
+none_stand false = refl
 
 flat_behind : (a : AttributeTree) (more : List AttributeTree) (t : Tree) → flat t ≡ true → flat (prepend (a ∷ more) t) ≡ true
-flat_behind a more (leaf k) h = flat_leaf a more k
-flat_behind a more (paren m t) h = cc
-flat_behind a more _ h = h
+flat_behind a more t h =
+    free_or {A = λ t. flat t ≡ true → flat (prepend (a ∷ more) t) ≡ true} (λ t f h. flat_put (a ∷ more) [] t f (none_stand (has_braces t)) h)
+    (λ b bs u h. flat_put (a ∷ more) (b ∷ bs) u (left_of (is_free u) _ h) (left_of (stand_before (b ∷ bs) u) _ (right_of (is_free u) _ h))
+    (right_of (stand_before (b ∷ bs) u) _ (right_of (is_free u) _ h))) (λ ts h. refl) t h
 
 mutual
   flattened : (t : Tree) → flat (flatten t) ≡ true
@@ -78,7 +126,9 @@ mutual
   flat_stays : (t : Tree) → flat t ≡ true → flatten t ≡ t
   flat_stays (leaf k) h = refl
   flat_stays (paren m t) h = cc
-  flat_stays (adorned a more t) h = ap (prepend (a ∷ more)) (flat_stays t (right_of _ _ h)) ∙ stays a more t (left_of (is_free t) (flat t) h)
+  flat_stays (adorned a more t) h =
+      let s = right_of (is_free t) _ h in
+      ap (prepend (a ∷ more)) (flat_stays t (right_of (stand_before (a ∷ more) t) _ s)) ∙ stays a more t (left_of (is_free t) _ h) (left_of (stand_before (a ∷ more) t) _ s)
   flat_stays (lead k gs t) h = let g = kids_stay gs (left_of _ _ h) in let x = flat_stays t (right_of (flat_kids gs) _ h) in cc
   flat_stays (mid x k y) h = let u = flat_stays x (left_of _ _ h) in let v = flat_stays y (right_of (flat x) _ h) in cc
   flat_stays (post x k) h = ap (λ u. post u k) (flat_stays x h)

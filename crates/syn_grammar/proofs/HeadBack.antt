@@ -1,5 +1,5 @@
 -- Labels, jumps, ranges, bodies and the heads of closures are read back from their own tokens.
-use Rattle.std.proofs.Common.{◌≡◌, Bool, true, false, not, ◌&&◌, List, [], ◌∷◌, Option, Some, None, refl, ◌∙◌, codes}
+use Rattle.std.proofs.Common.{◌≡◌, Bool, true, false, not, ◌&&◌, List, [], ◌∷◌, Option, Some, None, refl, ap, ◌∙◌, codes}
 use Rattle.syn_tokens.specs.Tok.{Tok, toks-inside}
 use Rattle.syn_tokens.specs.Front.{group_at}
 use Rattle.syn_parts.specs.Text.{Text}
@@ -32,7 +32,8 @@ use Rattle.syn_grammar.specs.declared.kinds.Limits.TheVariants as limits
 use Rattle.syn_grammar.specs.Op.{limits_text}
 use Rattle.syn_grammar.specs.Head as h
 use Rattle.syn_grammar.specs.Tree as e
-use Rattle.syn_grammar.specs.Tree.{Body, Jump, Lead, ClosureHead, lead_own, label_own, body_own, jump_own, closure_own, word_if, vert_before, sign_before}
+use Rattle.syn_grammar.specs.Tree.{Body, Jump, Lead, ClosureHead, inners, lead_own, label_own, body_own, jump_own, closure_own, word_if, vert_before, sign_before}
+use Rattle.syn_grammar.proofs.Attributes.{inners_are}
 use Rattle.syn_grammar.specs.WellFormed.{attributes_inner, body_fits, inputs_fit, head_fits, lead_fits}
 
 -- ---- inner attributes and bodies
@@ -45,14 +46,17 @@ inner_step a xs l m g i = by_style a.inner a.tokens g
     by_style false ts d = absurd cc
     by_style true ts d = more_stands pound_bang inner_body pound_bang_present (λ k. inner_body_alike) (record { inner = true; tokens = ts } ∷ xs) _ m (rw (kept_bracket_back ts l) i)
 
-pub inner_attributes_back : (xs : List AttributeTree) (l : List Tok) → attributes_inner xs ≡ true → pound_bang.at l ≡ false → inner_attributes.behind xs (attributes_own xs l) ≡ Some l
+all_back : (xs : List AttributeTree) (l : List Tok) → attributes_inner xs ≡ true → pound_bang.at l ≡ false → inner_attributes.behind xs (attributes_own xs l) ≡ Some l
 unfolding inner_attributes
-inner_attributes_back [] l f g = more_stands pound_bang inner_body pound_bang_present (λ k. inner_body_alike) [] l l (rw g refl)
-inner_attributes_back (a ∷ xs) l f g =
+all_back [] l f g = more_stands pound_bang inner_body pound_bang_present (λ k. inner_body_alike) [] l l (rw g refl)
+all_back (a ∷ xs) l f g =
     let (i, j) = both_true a.inner (attributes_inner xs) f in
-    inner_step a xs (attributes_own xs l) l i (inner_attributes_back xs l j g)
+    inner_step a xs (attributes_own xs l) l i (all_back xs l j g)
 
-pub body_inside_back : (b : Body) → body_fits b ≡ true → h.body_inside.behind b (attributes_own b.inner b.tokens) ≡ Some []
+pub inner_attributes_back : (xs : List AttributeTree) (l : List Tok) → attributes_inner xs ≡ true → pound_bang.at l ≡ false → inner_attributes.behind xs (attributes_own (inners xs) l) ≡ Some l
+inner_attributes_back xs l f g = ap (λ ats. inner_attributes.behind xs (attributes_own ats l)) (inners_are xs f) ∙ all_back xs l f g
+
+pub body_inside_back : (b : Body) → body_fits b ≡ true → h.body_inside.behind b (attributes_own (inners b.inner) b.tokens) ≡ Some []
 unfolding h.body_inside h.all_left
 body_inside_back b f =
     let (i, j) = both_true (attributes_inner b.inner) (not (pound_bang.at b.tokens)) f in
@@ -60,7 +64,7 @@ body_inside_back b f =
 
 pub body_back : (b : Body) (r : List Tok) → body_fits b ≡ true → h.body.behind b (body_own b r) ≡ Some r
 unfolding h.body group_at
-body_back b r f = rw (toks-inside (attributes_own b.inner b.tokens), body_inside_back b f) refl
+body_back b r f = rw (toks-inside (attributes_own (inners b.inner) b.tokens), body_inside_back b f) refl
 
 -- ---- labels, jumps, ranges
 

@@ -23,8 +23,9 @@ use Rattle.syn_grammar.specs.Head as h
 use Rattle.syn_grammar.specs.Slot as s
 use Rattle.syn_grammar.specs.Slot.{Slot, piece_form, ending_at}
 use Rattle.syn_grammar.specs.Tree as e
-use Rattle.syn_grammar.specs.Tree.{Body, Tree, Piece, Ending, piece_own, ending_own, body_own, is_block_like}
+use Rattle.syn_grammar.specs.Tree.{Body, Tree, Piece, Ending, inners, piece_own, ending_own, body_own, is_block_like}
 use Rattle.syn_grammar.specs.WellFormed.{body_fits, piece_fits, ending_fits, is_name_path}
+use Rattle.syn_grammar.proofs.Attributes.{outers_are}
 use Rattle.syn_grammar.proofs.HeadBack.{body_inside_back}
 use Rattle.syn_grammar.proofs.HeadFront.{pattern_no_pound}
 use Rattle.syn_grammar.proofs.HeadForms.{body_inside_alike}
@@ -87,7 +88,7 @@ pub field_opens : (ats : List AttributeTree) (m : MemberTree) (b : Bool) (r : Li
 unfolding piece_form
 field_opens ats m b r f g =
     let q = before_if b (λ l. alone 58 ∷ l) r in
-    rw (no_dots ats m q, attributes_back ats (member_own m q) f (no_pound m q), member_back m q g) refl
+    rw (outers_are ats f, no_dots ats m q, attributes_back ats (member_own m q) f (no_pound m q), member_back m q g) refl
 
 field_value_back : (ats : List AttributeTree) (m : MemberTree) (b : Bool) (x : Tree) (r : List Tok) → attributes_outer ats ≡ true → member_fits m ≡ true → (b || is_name_path m x) ≡ true
     → piece_stops (e.field_value ats m b) r ≡ true → (piece_form s.fields).behind (e.field_value ats m b) (piece_own (e.field_value ats m b) r) ≡ Some r
@@ -166,7 +167,7 @@ loop_back : (b : Body) (l : List Tok) → body_fits b ≡ true → s.behind_loop
 unfolding group_at
 loop_back b l f =
     let a : Alike 0 h.body_inside h.body_inside = body_inside_alike in
-    rw (toks-inside (attributes_own b.inner b.tokens), a.complete (attributes_own b.inner b.tokens) b [] (body_inside_back b f)) refl
+    rw (toks-inside (attributes_own (inners b.inner) b.tokens), a.complete (attributes_own (inners b.inner) b.tokens) b [] (body_inside_back b f)) refl
 
 pub ending_back : (k : Piece) (c : Ending) (x : Tree) (l r : List Tok) → ending_fits k c ≡ true → is_scrutinee k ≡ false → ending_stops k x c l ≡ true → ending_at k x (ending_own k c l r) ≡ Some (c, l)
 unfolding ending_at sign_at
@@ -190,9 +191,9 @@ ending_back e.scrutinee c x l r f g i = absurd cc
 ending_back _ c x l r f g i = absurd cc
 
 -- the braces of a `match`
-pub opened_back : (ats : List AttributeTree) (l r : List Tok) → group_at del.Brace (ending_own e.scrutinee (e.opened ats) l r) ≡ Some (attributes_own ats l, r)
+pub opened_back : (ats : List AttributeTree) (l r : List Tok) → group_at del.Brace (ending_own e.scrutinee (e.opened ats) l r) ≡ Some (attributes_own (inners ats) l, r)
 unfolding group_at
-opened_back ats l r = rw (toks-inside (attributes_own ats l)) refl
+opened_back ats l r = rw (toks-inside (attributes_own (inners ats) l)) refl
 
 -- the group of a body and of operands
 pub group_back : (d : Delimiter) (ts r : List Tok) → group_at d (enclosed d ts r) ≡ Some (ts, r)

@@ -18,7 +18,7 @@ use Rattle.syn_grammar.specs.Head.{label, jump_head, range_op, body_inside, body
 use Rattle.syn_grammar.specs.Slot.{Slot, piece_form, ending_at, frame_head}
 use Rattle.syn_grammar.specs.Stands.{trailer_head, fields_head, post_behind}
 use Rattle.syn_grammar.specs.Tree as e
-use Rattle.syn_grammar.specs.Tree.{Body, Jump, Leaf, Lead, ClosureHead, Trailer, Tree, Kids, Frame, Post, Piece, Ending, sign_before, label_own, body_own, jump_own, leaf_own, lead_own, closure_own, piece_own, ending_own, trailer_own, framed, enclosure, infix_own}
+use Rattle.syn_grammar.specs.Tree.{Body, Jump, Leaf, Lead, ClosureHead, Trailer, Tree, Kids, Frame, Post, Piece, Ending, inners, sign_before, label_own, body_own, jump_own, leaf_own, lead_own, closure_own, piece_own, ending_own, trailer_own, framed, enclosure, infix_own}
 use Rattle.syn_grammar.specs.WellFormed.{attributes_inner, body_fits, head_fits, leaf_fits, lead_fits, piece_fits, ending_fits, trailer_fits, frame_fits, post_fits}
 use Rattle.syn_grammar.proofs.HeadBack.{label_stops, jump_stops, lead_stops, inner_attributes_back, body_inside_back, body_back, label_back, jump_back, range_back, head_back, lead_back}
 use Rattle.syn_grammar.proofs.HeadLeaf.{leaf_stops, leaf_back}
@@ -27,11 +27,11 @@ use Rattle.syn_grammar.proofs.HeadTrailers.{trailer_stops, trailer_rest, is_inde
 use Rattle.syn_grammar.proofs.HeadFrames.{frame_stops, frame_rest, post_rest, post_ends, infix_count, frame_back, post_back, infix_back}
 
 pub record HeadsAreReadBack : Type 0 where
-  pub inner : (xs : List AttributeTree) (r : List Tok) → attributes_inner xs ≡ true → pound_bang.at r ≡ false → inner_attributes.behind xs (attributes_own xs r) ≡ Some r
+  pub inner : (xs : List AttributeTree) (r : List Tok) → attributes_inner xs ≡ true → pound_bang.at r ≡ false → inner_attributes.behind xs (attributes_own (inners xs) r) ≡ Some r
   pub labels : (w : Option Text) (r : List Tok) → label_stops w r ≡ true → label.behind w (label_own w r) ≡ Some r
   pub jumps : (j : Jump) (r : List Tok) → jump_stops j r ≡ true → jump_head.behind j (jump_own j r) ≡ Some r
   pub ranges : (op : Limits) (r : List Tok) → range_op.behind op (sign_before (limits_text op) r) ≡ Some r
-  pub bodies_inside : (b : Body) → body_fits b ≡ true → body_inside.behind b (attributes_own b.inner b.tokens) ≡ Some []
+  pub bodies_inside : (b : Body) → body_fits b ≡ true → body_inside.behind b (attributes_own (inners b.inner) b.tokens) ≡ Some []
   pub bodies : (b : Body) (r : List Tok) → body_fits b ≡ true → body.behind b (body_own b r) ≡ Some r
   pub closure_heads : (c : ClosureHead) (r : List Tok) → head_fits c ≡ true → output_stops true c.output r ≡ true → closure_head.behind c (closure_own c r) ≡ Some r
   pub leaves : (k : Leaf) (r : List Tok) → leaf_fits k ≡ true → leaf_stops k r ≡ true → leaf_form.behind k (leaf_own k r) ≡ Some r
@@ -40,7 +40,7 @@ pub record HeadsAreReadBack : Type 0 where
   pub pieces : (s : Slot) (k : Piece) (c : Ending) (x : Tree) (r : List Tok) → piece_fits s k c x ≡ true → is_written k ≡ true → piece_stops k r ≡ true → (piece_form s).behind k (piece_own k r) ≡ Some r
   -- l is what is behind the ending, or inside of its brace; r is behind that brace
   pub endings : (k : Piece) (c : Ending) (x : Tree) (l r : List Tok) → ending_fits k c ≡ true → is_scrutinee k ≡ false → ending_stops k x c l ≡ true → ending_at k x (ending_own k c l r) ≡ Some (c, l)
-  pub opened : (ats : List AttributeTree) (l r : List Tok) → group_at del.Brace (ending_own e.scrutinee (e.opened ats) l r) ≡ Some (attributes_own ats l, r)
+  pub opened : (ats : List AttributeTree) (l r : List Tok) → group_at del.Brace (ending_own e.scrutinee (e.opened ats) l r) ≡ Some (attributes_own (inners ats) l, r)
   pub groups : (d : Delimiter) (ts r : List Tok) → group_at d (enclosed d ts r) ≡ Some (ts, r)
   -- i is what the trailer encloses
   pub trailers : (k : Trailer) (i r : List Tok) → trailer_fits k ≡ true → is_indexed k ≡ false → trailer_stops k r ≡ true → trailer_head k (trailer_own k i r) ≡ Some ([], trailer_rest k i r)

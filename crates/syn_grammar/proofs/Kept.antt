@@ -1,4 +1,4 @@
--- A tree that obeys the binding rules is printed as it is.
+-- A tree that obeys the binding rules with its attributed operations in parentheses is printed so.
 use Rattle.std.proofs.Common.{◌≡◌, Bool, true, false, not, ◌&&◌, ◌||◌, List, Some, None, refl, sym, ◌∙◌, ap, subst}
 use Rattle.std.specs.Prelude.{if◌then◌else◌}
 use Rattle.std.proofs.Math.Bool.{and-false}
@@ -19,9 +19,11 @@ use Rattle.syn_grammar.specs.Tree as e
 use Rattle.syn_grammar.specs.Tree.{Tree, Kids, Leaf, Lead, Piece, Ending, Trailer, leaf, paren, adorned, lead, mid, post, tail, frame, none, kid, post_op, is_silent}
 use Rattle.syn_grammar.specs.Rule.{is_operation, prints_range, prints_carrier, refuses, misplaced, lower, ends_badly, is_bare_break, left_wrapped, base_wrapped, place_wrapped, low, bad, labelled, place_asks, left_asks, lead_asks, put, is_chainable, is_plain_block, piece_put, bare, bare_kids}
 use Rattle.syn_grammar.specs.WellFormed.{is_kept_block}
+use Rattle.syn_grammar.specs.Printed.{parenthesize_attributed, parenthesize_attributed_kids}
 use Rattle.syn_grammar.proofs.Bools.{or_false, neither, lower_takes}
 use Rattle.syn_grammar.proofs.Obeys.{Fits, FitsLeft, begins_label, Obeys, ObeysKids}
 use Rattle.syn_grammar.proofs.Edges.{lead_next_is, not_cast}
+use Rattle.syn_grammar.proofs.Parenthesized.{compares_stays, label_stays, base_stays, same_mid, same_tail, same_kid}
 
 -- ---- trees that have no marks, and whose blocks stand where they must be bare
 
@@ -43,7 +45,8 @@ abbrev mutual
 
   pub ProperKids : Kids → Type 0
   ProperKids none = Unit {0}
-  ProperKids (kid k c t ks) = (block_there k t ≡ true) × (is_silent k ≡ false → Proper t) × ProperKids ks
+  ProperKids (kid k c t ks) =
+      (block_there k t ≡ true) × (is_silent k ≡ false → Proper t) × (is_silent k ≡ true → parenthesize_attributed t ≡ t) × ProperKids ks
 
 -- ---- places take what binds tightest
 
@@ -94,20 +97,37 @@ lead_small (e.closure h) = refl
 
 -- ---- what obeys is of the kind that is printed
 
-pub range_obeys : (t : Tree) (v : Level) (c : Context) → Obeys v c t → prints_range t ≡ is_range t
+-- by whether a pair stands behind the attributes
+abbrev ObeysBehind : Level → Context → Tree → Bool → Type 0
+ObeysBehind v c t b =
+    let u = put b (parenthesize_attributed t) (parenthesize_attributed t) in
+    (is_operation u ≡ false) × Obeys v (adorned_context c) u
+
+pub range_obeys : (t : Tree) (v : Level) (c : Context) → Obeys v c (parenthesize_attributed t) → prints_range t ≡ is_range (parenthesize_attributed t)
 range_obeys (leaf k) v c i = refl
 range_obeys (paren m t) v c i = refl
-range_obeys (adorned a more t) v c i = sym (or_false (is_infix t) (prints_range t) i.0).1 ∙ range_obeys t v (adorned_context c) i.1
+range_obeys (adorned a more t) v c i = go (λ h. range_obeys t v (adorned_context c) h) (is_operation t) refl i
+  where
+    go : (Obeys v (adorned_context c) (parenthesize_attributed t) → prints_range t ≡ is_range (parenthesize_attributed t)) → (b : Bool) → is_operation t ≡ b
+        → ObeysBehind v c t b → false ≡ is_range (put b (parenthesize_attributed t) (parenthesize_attributed t))
+    go again true o j = refl
+    go again false o j = sym (or_false (is_infix t) (prints_range t) o).1 ∙ again j.1
 range_obeys (lead k gs t) v c i = refl
 range_obeys (mid x k y) v c i = refl
 range_obeys (post x k) v c i = refl
 range_obeys (tail b k ks) v c i = refl
 range_obeys (frame k ks) v c i = refl
 
-pub carrier_obeys : (t : Tree) (v : Level) (c : Context) → Obeys v c t → prints_carrier t ≡ carries t || is_cast t
+pub carrier_obeys : (t : Tree) (v : Level) (c : Context) → Obeys v c (parenthesize_attributed t)
+    → prints_carrier t ≡ carries (parenthesize_attributed t) || is_cast (parenthesize_attributed t)
 carrier_obeys (leaf k) v c i = refl
 carrier_obeys (paren m t) v c i = refl
-carrier_obeys (adorned a more t) v c i = rw i.0 (carrier_obeys t v (adorned_context c) i.1 ∙ ap (λ b. carries t || b) (not_cast t i.0))
+carrier_obeys (adorned a more t) v c i = go (λ h. carrier_obeys t v (adorned_context c) h) (is_operation t) i
+  where
+    go : (Obeys v (adorned_context c) (parenthesize_attributed t) → prints_carrier t ≡ carries (parenthesize_attributed t) || is_cast (parenthesize_attributed t))
+        → (b : Bool) → ObeysBehind v c t b → b || prints_carrier t ≡ carries (put b (parenthesize_attributed t) (parenthesize_attributed t)) || false
+    go again true j = refl
+    go again false j = again j.1 ∙ ap (λ b. carries (parenthesize_attributed t) || b) (not_cast (parenthesize_attributed t) j.0)
 carrier_obeys (lead k gs t) v c i = refl
 carrier_obeys (mid x k y) v c i = refl
 carrier_obeys (post x k) v c i = refl
@@ -124,11 +144,11 @@ no_label (post x k) h = rw (no_label x h) (and-false _)
 no_label (tail b k ks) h = rw (no_label b h) (and-false _)
 no_label (frame k ks) h = h
 
-bare_break : (k : Lead) (t : Tree) → is_bare_break k && begins_label t ≡ false → is_bare_break k && labelled t ≡ false
+bare_break : (k : Lead) (t : Tree) → is_bare_break k && begins_label (parenthesize_attributed t) ≡ false → is_bare_break k && labelled t ≡ false
 bare_break k t h = go (is_bare_break k) h
   where
-    go : (b : Bool) → b && begins_label t ≡ false → b && labelled t ≡ false
-    go true i = no_label t i
+    go : (b : Bool) → b && begins_label (parenthesize_attributed t) ≡ false → b && labelled t ≡ false
+    go true i = no_label t (sym (label_stays t) ∙ i)
     go false i = refl
 
 -- ---- the edges, and the tree itself
@@ -158,7 +178,7 @@ pub record Tight (v : Level) (c : Context) (t : Tree) : Type 0 where
 
 pub record Kept (v : Level) (c : Context) (t : Tree) : Type 0 where
   pub tight : Tight v c t
-  pub same : bare c t ≡ t
+  pub same : bare c t ≡ parenthesize_attributed t
 
 pub not_wrapped : (v : Level) (c : Context) (t : Tree) → Tight v c t → place_wrapped v t c.next (low t) (bad t c.next) ≡ false
 not_wrapped v c t k = place_bare v t c.next (low t) (bad t c.next) k.edge k.end k.refused
@@ -166,59 +186,58 @@ not_wrapped v c t k = place_bare v t c.next (low t) (bad t c.next) k.edge k.end 
 pub not_asked : (v : Level) (c : Context) (t : Tree) → Tight v c t → place_asks v c t ≡ false
 not_asked v c t k = neither _ _ (not_wrapped v c t k) k.placed
 
-place_ends : (v : Level) (c : Context) (t : Tree) → Tight v c t → Obeys v c t → Fits v t c.next
+place_ends : (v : Level) (c : Context) (t : Tree) → Tight v c t → Obeys v c (parenthesize_attributed t) → Fits v (parenthesize_attributed t) c.next
     → (takes_next v c.next && not (prints_range t) ≡ false) × (trails c.next && prints_carrier t ≡ false)
 place_ends v c t k i f = (
   ap (λ b. takes_next v c.next && not b) (range_obeys t v c i) ∙ f.no_operator,
   ap (λ b. trails c.next && b) (carrier_obeys t v c i) ∙ f.no_trailer,
 )
 
-kept_lead : (k : Lead) (gs : Kids) (c : Context) (t : Tree) → Kept (lead_level k) (lead_context k c) t → Obeys (lead_level k) (lead_context k c) t
-    → Fits (lead_level k) t (lead_context k c).next → is_bare_break k && begins_label t ≡ false
-    → (bad (lead k gs t) c.next ≡ false) × (put (lead_asks k (lead_context k c) t) (bare enclosed t) (bare (lead_context k c) t) ≡ t)
+kept_lead : (k : Lead) (gs : Kids) (c : Context) (t : Tree) → Kept (lead_level k) (lead_context k c) t
+    → Obeys (lead_level k) (lead_context k c) (parenthesize_attributed t) → Fits (lead_level k) (parenthesize_attributed t) (lead_context k c).next
+    → is_bare_break k && begins_label (parenthesize_attributed t) ≡ false
+    → (bad (lead k gs t) c.next ≡ false)
+    × (put (lead_asks k (lead_context k c) t) (bare enclosed t) (bare (lead_context k c) t) ≡ parenthesize_attributed t)
 kept_lead k gs c t h i f l =
     let w = not_wrapped (lead_level k) (lead_context k c) t h.tight in
     let b = bare_break k t l in
     let p = place_ends (lead_level k) (lead_context k c) t h.tight i f in (
       subst (λ (n : Next). ends_badly (lead_level k) t n (place_wrapped (lead_level k) t n (low t) (bad t n) || (is_bare_break k && labelled t)) ≡ false)
           (lead_next_is k c) (ends_well (lead_level k) t (lead_context k c).next _ (neither _ _ w b) p.0 p.1),
-      put_bare _ (bare enclosed t) (bare (lead_context k c) t) t (neither _ _ (neither _ _ w h.tight.placed) b) h.same,
+      put_bare _ (bare enclosed t) (bare (lead_context k c) t) (parenthesize_attributed t) (neither _ _ (neither _ _ w h.tight.placed) b) h.same,
     )
 
-kept_place : (v : Level) (c : Context) (t : Tree) → Kept v c t → Obeys v c t → Fits v t c.next
-    → (ends_badly v t c.next (place_wrapped v t c.next (low t) (bad t c.next)) ≡ false) × (put (place_asks v c t) (bare enclosed t) (bare c t) ≡ t)
+kept_place : (v : Level) (c : Context) (t : Tree) → Kept v c t → Obeys v c (parenthesize_attributed t) → Fits v (parenthesize_attributed t) c.next
+    → (ends_badly v t c.next (place_wrapped v t c.next (low t) (bad t c.next)) ≡ false)
+    × (put (place_asks v c t) (bare enclosed t) (bare c t) ≡ parenthesize_attributed t)
 kept_place v c t h i f =
-    let p = place_ends v c t h.tight i f in
-    (ends_well v t c.next _ (not_wrapped v c t h.tight) p.0 p.1, put_bare _ (bare enclosed t) (bare c t) t (not_asked v c t h.tight) h.same)
+    let p = place_ends v c t h.tight i f in (
+      ends_well v t c.next _ (not_wrapped v c t h.tight) p.0 p.1,
+      put_bare _ (bare enclosed t) (bare c t) (parenthesize_attributed t) (not_asked v c t h.tight) h.same,
+    )
 
-kept_left : (v : Level) (k : Infix) (c : Context) (x : Tree) → Kept v (left_context k c) x → Obeys v (left_context k c) x → FitsLeft k x
-    → (left_wrapped k x (bad x (class_of k)) ≡ false) × (put (left_asks k (left_context k c) x) (bare enclosed x) (bare (left_context k c) x) ≡ x)
+kept_left : (v : Level) (k : Infix) (c : Context) (x : Tree) → Kept v (left_context k c) x → Obeys v (left_context k c) (parenthesize_attributed x)
+    → FitsLeft k (parenthesize_attributed x)
+    → (left_wrapped k x (bad x (class_of k)) ≡ false)
+    × (put (left_asks k (left_context k c) x) (bare enclosed x) (bare (left_context k c) x) ≡ parenthesize_attributed x)
 kept_left v k c x h i f =
-    let w = left_bare k x (bad x (class_of k)) (range_obeys x v (left_context k c) i ∙ f.no_range) f.no_chain h.tight.end h.tight.refused in
-    (w, put_bare _ (bare enclosed x) (bare (left_context k c) x) x (neither _ _ w h.tight.placed) h.same)
+    let o = ap (λ b. b && is_comparison k) (sym (compares_stays x)) ∙ f.no_chain in
+    let w = left_bare k x (bad x (class_of k)) (range_obeys x v (left_context k c) i ∙ f.no_range) o h.tight.end h.tight.refused in
+    (w, put_bare _ (bare enclosed x) (bare (left_context k c) x) (parenthesize_attributed x) (neither _ _ w h.tight.placed) h.same)
 
 same_paren : (m : Bool) (t t' : Tree) → m ≡ false → t ≡ t' → paren false t ≡ paren m t'
 same_paren m t t' p q = cc
-
-same_mid : (x x' y y' : Tree) (k : Infix) → x ≡ x' → y ≡ y' → mid x k y ≡ mid x' k y'
-same_mid x x' y y' k p q = cc
-
-same_tail : (b b' : Tree) (ks ks' : Kids) (k : Trailer) → b ≡ b' → ks ≡ ks' → tail b k ks ≡ tail b' k ks'
-same_tail b b' ks ks' k p q = cc
-
-same_kid : (t t' : Tree) (ks ks' : Kids) (k : Piece) (c : Ending) → t ≡ t' → ks ≡ ks' → kid k c t ks ≡ kid k c t' ks'
-same_kid t t' ks ks' k c p q = cc
 
 low_kept : (v : Level) (k : Infix) (x : Tree) (w : Bool) → w ≡ false → takes v (level k) ≡ true → takes v (low x) ≡ true
     → takes v (lower (level k) (if w then lev.Unambiguous else low x)) ≡ true
 low_kept v k x w e p q = rw e (lower_takes v (level k) (low x) p q)
 
--- a kid that is printed as it is
+-- a kid that is printed so
 abbrev Same : Piece → Tree → Type 0
 Same k t = piece_put k t (bare enclosed t) (bare (piece_context k) t) (put (place_asks lev.Jump in_statement t) (bare enclosed t) (bare in_statement t))
-    (place_asks lev.Jump (piece_context k) t) ≡ t
+    (place_asks lev.Jump (piece_context k) t) ≡ parenthesize_attributed t
 
-kept_block : (t : Tree) → is_kept_block t ≡ true → (bare enclosed t ≡ t) × (is_plain_block t ≡ true)
+kept_block : (t : Tree) → is_kept_block t ≡ true → (bare enclosed t ≡ parenthesize_attributed t) × (is_plain_block t ≡ true)
 kept_block (leaf (e.block None b)) h = (refl, h)
 kept_block (leaf (e.block (Some w) b)) h = absurd cc
 kept_block (leaf (e.lit x)) h = absurd cc
@@ -242,7 +261,7 @@ kept_block (post x k) h = absurd cc
 kept_block (tail b k ks) h = absurd cc
 kept_block (frame k ks) h = absurd cc
 
-kept_chained : (t : Tree) → is_branch t || is_kept_block t ≡ true → bare enclosed t ≡ t → Same e.chained t
+kept_chained : (t : Tree) → is_branch t || is_kept_block t ≡ true → bare enclosed t ≡ parenthesize_attributed t → Same e.chained t
 kept_chained (leaf k) h s = rw (chainable_leaf k h) refl
   where
     chainable_leaf : (k : Leaf) → is_kept_block (leaf k) ≡ true → is_chainable (leaf k) ≡ true
@@ -277,45 +296,65 @@ kept_chained (mid x k y) h s = absurd cc
 kept_chained (post x k) h s = absurd cc
 kept_chained (tail b k ks) h s = absurd cc
 
-kept_at : (t : Tree) (c : Context) → Kept lev.Jump c t → put (place_asks lev.Jump c t) (bare enclosed t) (bare c t) ≡ t
-kept_at t c k = put_bare _ (bare enclosed t) (bare c t) t (not_asked lev.Jump c t k.tight) k.same
+kept_at : (t : Tree) (c : Context) → Kept lev.Jump c t → put (place_asks lev.Jump c t) (bare enclosed t) (bare c t) ≡ parenthesize_attributed t
+kept_at t c k = put_bare _ (bare enclosed t) (bare c t) (parenthesize_attributed t) (not_asked lev.Jump c t k.tight) k.same
 
-kept_kid : (k : Piece) (t : Tree) → block_there k t ≡ true → (is_silent k ≡ false → Kept lev.Jump (piece_context k) t) → Same k t
-kept_kid e.element t b h = kept_at t enclosed (h refl)
-kept_kid e.value t b h = kept_at t enclosed (h refl)
-kept_kid e.repeated t b h = kept_at t enclosed (h refl)
-kept_kid (e.field_value ats m true) t b h = kept_at t enclosed (h refl)
-kept_kid (e.field_value ats m false) t b h = refl
-kept_kid (e.rest d) t b h = kept_at t enclosed (h refl)
-kept_kid e.condition t b h = kept_at t (piece_context e.condition) (h refl)
-kept_kid e.loop_head t b h = kept_at t (piece_context e.loop_head) (h refl)
-kept_kid e.scrutinee t b h = kept_at t (piece_context e.scrutinee) (h refl)
-kept_kid e.chained t b h = kept_chained t b (h refl).same
-kept_kid (e.guard ats p) t b h = kept_at t enclosed (h refl)
-kept_kid e.guarded t b h = kept_at t (piece_context e.guarded) (h refl)
-kept_kid (e.arm ats p) t b h = kept_at t (piece_context (e.arm ats p)) (h refl)
-kept_kid e.output_block t b h = let p = kept_block t b in rw p.1 p.0
-kept_kid e.grouped t b h = kept_at t enclosed (h refl)
-kept_kid e.stray t b h = refl
+kept_kid : (k : Piece) (t : Tree) → block_there k t ≡ true → (is_silent k ≡ false → Kept lev.Jump (piece_context k) t)
+    → (is_silent k ≡ true → parenthesize_attributed t ≡ t) → Same k t
+kept_kid e.element t b h z = kept_at t enclosed (h refl)
+kept_kid e.value t b h z = kept_at t enclosed (h refl)
+kept_kid e.repeated t b h z = kept_at t enclosed (h refl)
+kept_kid (e.field_value ats m true) t b h z = kept_at t enclosed (h refl)
+kept_kid (e.field_value ats m false) t b h z = sym (z refl)
+kept_kid (e.rest d) t b h z = kept_at t enclosed (h refl)
+kept_kid e.condition t b h z = kept_at t (piece_context e.condition) (h refl)
+kept_kid e.loop_head t b h z = kept_at t (piece_context e.loop_head) (h refl)
+kept_kid e.scrutinee t b h z = kept_at t (piece_context e.scrutinee) (h refl)
+kept_kid e.chained t b h z = kept_chained t b (h refl).same
+kept_kid (e.guard ats p) t b h z = kept_at t enclosed (h refl)
+kept_kid e.guarded t b h z = kept_at t (piece_context e.guarded) (h refl)
+kept_kid (e.arm ats p) t b h z = kept_at t (piece_context (e.arm ats p)) (h refl)
+kept_kid e.output_block t b h z = let p = kept_block t b in rw p.1 p.0
+kept_kid e.grouped t b h z = kept_at t enclosed (h refl)
+kept_kid e.stray t b h z = sym (z refl)
 
-kept_attributes : (v : Level) (c : Context) (a : AttributeTree) (more : List AttributeTree) (t : Tree) → is_operation t ≡ false → takes v lev.Unambiguous ≡ true
-    → Kept v (adorned_context c) t → Kept v c (adorned a more t)
-kept_attributes v c a more t o s h =
+kept_attributes : (v : Level) (c : Context) (a : AttributeTree) (more : List AttributeTree) (t : Tree) → takes v lev.Unambiguous ≡ true
+    → (b : Bool) → is_operation t ≡ b → (b ≡ true → bare enclosed t ≡ parenthesize_attributed t) → (b ≡ false → Kept v (adorned_context c) t)
+    → Kept v c (adorned a more t)
+kept_attributes v c a more t s true o f h =
     record {
-      tight = record { edge = s; end = rw (o, h.tight.end) refl; refused = rw (o, h.tight.refused) refl; placed = rw (o, h.tight.placed) refl };
-      same = ap (adorned a more) (put_bare _ (bare enclosed t) (bare (adorned_context c) t) t o h.same);
+      tight = record { edge = s; end = rw o refl; refused = rw o refl; placed = rw o refl };
+      same = rw o (ap (λ u. adorned a more (paren true u)) (f refl));
+    }
+kept_attributes v c a more t s false o f h =
+    let k = h refl in
+    record {
+      tight = record { edge = s; end = rw (o, k.tight.end) refl; refused = rw (o, k.tight.refused) refl; placed = rw (o, k.tight.placed) refl };
+      same = rw o (ap (adorned a more) k.same);
     }
 
+-- what is known of an operand behind attributes, in the pair or without one
+inside_pair : (v : Level) (c : Context) (t : Tree) (b : Bool) → ObeysBehind v c t b → b ≡ true → Obeys lev.Jump enclosed (parenthesize_attributed t)
+inside_pair v c t true i h = i.1.0
+inside_pair v c t false i h = absurd cc
+
+without_pair : (v : Level) (c : Context) (t : Tree) (b : Bool) → ObeysBehind v c t b → b ≡ false → Obeys v (adorned_context c) (parenthesize_attributed t)
+without_pair v c t true i h = absurd cc
+without_pair v c t false i h = i.1
+
 mutual
-  pub kept : (t : Tree) (v : Level) (c : Context) → takes v lev.Unambiguous ≡ true → Proper t → Obeys v c t → Kept v c t
+  pub kept : (t : Tree) (v : Level) (c : Context) → takes v lev.Unambiguous ≡ true → Proper t → Obeys v c (parenthesize_attributed t) → Kept v c t
   kept (leaf k) v c s u i =
       let p = or_false _ _ i in record { tight = record { edge = s; end = refl; refused = p.0; placed = p.1 }; same = refl }
   kept (paren m t) v c s u i =
       record {
         tight = record { edge = s; end = refl; refused = refl; placed = refl };
-        same = same_paren m (bare enclosed t) t u.0 (kept t lev.Jump enclosed refl u.1 i.0).same;
+        same = same_paren m (bare enclosed t) (parenthesize_attributed t) u.0 (kept t lev.Jump enclosed refl u.1 i.0).same;
       }
-  kept (adorned a more t) v c s u i = kept_attributes v c a more t i.0 s (kept t v (adorned_context c) s u i.1)
+  kept (adorned a more t) v c s u i =
+      kept_attributes v c a more t s (is_operation t) refl
+      (λ h. (kept t lev.Jump enclosed refl u (inside_pair v c t (is_operation t) i h)).same)
+      (λ h. kept t v (adorned_context c) s u (without_pair v c t (is_operation t) i h))
   kept (lead k gs t) v c s u i =
       let p = kept_lead k gs c t (kept t (lead_level k) (lead_context k c) (lead_small k) u i.1) i.1 i.2 i.3 in
       record { tight = record { edge = s; end = p.0; refused = refl; placed = i.0 }; same = ap (lead k gs) p.1 }
@@ -336,19 +375,21 @@ mutual
       }
   kept (tail b k ks) v c s u i =
       let h = kept b v (base_context k c) s u.0 i.1 in
-      let w = base_bare k b (bad b (next_of k)) i.0 h.tight.end h.tight.refused in
+      let w = base_bare k b (bad b (next_of k)) (sym (base_stays k b) ∙ i.0) h.tight.end h.tight.refused in
       record {
         tight = record { edge = s; end = refl; refused = refl; placed = refl };
-        same = same_tail _ _ _ _ k (put_bare _ (bare enclosed b) (bare (base_context k c) b) b (neither _ _ w h.tight.placed) h.same) (kept_kids ks u.1 i.2);
+        same = same_tail _ _ _ _ k
+            (put_bare _ (bare enclosed b) (bare (base_context k c) b) (parenthesize_attributed b) (neither _ _ w h.tight.placed) h.same) (kept_kids ks u.1 i.2);
       }
   kept (frame k ks) v c s u i =
       record { tight = record { edge = s; end = refl; refused = refl; placed = i.0 }; same = ap (frame k) (kept_kids ks u i.1) }
 
-  pub kept_kids : (ks : Kids) → ProperKids ks → ObeysKids ks → bare_kids ks ≡ ks
+  pub kept_kids : (ks : Kids) → ProperKids ks → ObeysKids (parenthesize_attributed_kids ks) → bare_kids ks ≡ parenthesize_attributed_kids ks
   kept_kids none u i = refl
   kept_kids (kid k c t ks) u i =
-      same_kid _ _ _ _ k c (kept_kid k t u.0 (λ e. kept t lev.Jump (piece_context k) refl (u.1 e) (i.0 e))) (kept_kids ks u.2 i.1)
+      same_kid _ _ _ _ k c (kept_kid k t u.0 (λ e. kept t lev.Jump (piece_context k) refl (u.1 e) (i.0 e)) u.2) (kept_kids ks u.3 i.1)
 
 -- in a position
-pub kept_in : (t : Tree) (c : Context) → Proper t → Obeys lev.Jump c t → put (place_asks lev.Jump c t) (bare enclosed t) (bare c t) ≡ t
+pub kept_in : (t : Tree) (c : Context) → Proper t → Obeys lev.Jump c (parenthesize_attributed t)
+    → put (place_asks lev.Jump c t) (bare enclosed t) (bare c t) ≡ parenthesize_attributed t
 kept_in t c u i = kept_at t c (kept t lev.Jump c refl u i)

@@ -31,7 +31,7 @@ use Rattle.syn_grammar.specs.Slot.{Slot, after, may_end, piece_place}
 use Rattle.syn_grammar.specs.Stands as st
 use Rattle.syn_grammar.specs.Stands.{Node, Operands, is_branch, ends, closes, ends_piece, ends_list, path_of, short_value, takes_block}
 use Rattle.syn_grammar.specs.Tree as e
-use Rattle.syn_grammar.specs.Tree.{Tree, Kids, Piece, Ending, Body, leaf, none, kid, is_none, is_block_like, is_silent, piece_own, ending_own, inside_of, own, kids_own, clear, clear_kids}
+use Rattle.syn_grammar.specs.Tree.{Tree, Kids, Piece, Ending, Body, inners, leaf, none, kid, is_none, is_block_like, is_silent, piece_own, ending_own, inside_of, own, kids_own, clear, clear_kids}
 use Rattle.syn_grammar.specs.WellFormed.{piece_fits, ending_fits, may_stop, has_rest, is_kept_block, is_name_path}
 use Rattle.syn_grammar.proofs.Bools.{both_true, not_it, or_true}
 use Rattle.syn_grammar.proofs.HeadPlaces.{is_written, piece_stops, ending_stops, is_scrutinee}
@@ -533,7 +533,7 @@ pub scrutinee_made : (x : Slot) (last : Bool) (c : Ending) (t : Tree) (ks : Kids
     → Stood e.scrutinee t → Operands s.arms (kids_own ks []) (clear_kids ks) []
     → Operands x (kids_own (kid e.scrutinee c t ks) r) (clear_kids (kid e.scrutinee c t ks)) r
 scrutinee_made s.scrutinees last (e.opened ats) t ks r f fs d q =
-    let b = shows_block (inside (attributes_own ats (kids_own ks []))) r in
+    let b = shows_block (inside (attributes_own (inners ats) (kids_own ks []))) r in
     st.arms_inside (d _ b) (fits_ends before_block t next.Block _ b (kid_fits e.scrutinee t)) (fits_closes before_block lev.Jump t next.Block _ b (kid_fits e.scrutinee t))
     (heads_back.opened ats (kids_own ks []) r) (heads_back.inner ats (kids_own ks []) f.ending (arms_first last ks [] fs refl)) q
 scrutinee_made s.scrutinees last c t ks r f fs d q = absurd (let p = f.ending in cc)

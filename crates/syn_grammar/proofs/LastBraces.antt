@@ -1,5 +1,5 @@
 -- The last of the own tokens of a tree: whether it is a group in braces.
-use Rattle.std.proofs.Common.{◌≡◌, ◌||◌, ◌==◌, Bool, true, false, not, List, [], ◌∷◌, ◌++◌, Option, Some, None, refl, ap, ◌∙◌}
+use Rattle.std.proofs.Common.{◌≡◌, ◌||◌, ◌&&◌, ◌==◌, Bool, true, false, not, List, [], ◌∷◌, ◌++◌, Option, Some, None, refl, ap, ◌∙◌}
 use Rattle.std.specs.Prelude.{codes, if◌then◌else◌}
 use Rattle.syn_lexer.specs.declared.lexeme.Delimiter.TheVariants as del
 use Rattle.syn_tokens.specs.Tok.{Tok, ident, literal, group, inside}
@@ -8,6 +8,7 @@ use Rattle.syn_parts.specs.declared.label.LitKind.TheVariants as kind
 use Rattle.syn_parts.specs.Text.{Text}
 use Rattle.syn_parts.specs.Tree as t
 use Rattle.syn_parts.specs.Tree.{AttributeTree, LitTree, QSelfTree, PathTree}
+use Rattle.syn_parts.specs.Form.{is_nil}
 use Rattle.syn_parts.specs.Part.{MacroTree}
 use Rattle.syn_parts.specs.Pat as p
 use Rattle.syn_parts.specs.Pat.{MemberTree, PatBound, PatTree, SubPat, Pats}
@@ -20,7 +21,7 @@ use Rattle.syn_grammar.specs.declared.kinds.Limits.TheVariants as limits
 use Rattle.syn_grammar.specs.declared.kinds.Infix.{Infix}
 use Rattle.syn_grammar.specs.declared.kinds.Infix.TheVariants as inf
 use Rattle.syn_grammar.specs.Tree as e
-use Rattle.syn_grammar.specs.Tree.{Tree, Kids, Jump, Leaf, Lead, Post, Trailer, Piece, Ending, ClosureHead, leaf, paren, adorned, lead, mid, post, tail, frame, none, kid, word_if, label_own, jump_own, own, kids_own, leaf_own, lead_own, closure_own, infix_own, post_own, trailer_own, piece_own, is_silent, is_repeated}
+use Rattle.syn_grammar.specs.Tree.{Tree, Kids, Jump, Leaf, Lead, Post, Trailer, Piece, Ending, ClosureHead, leaf, paren, adorned, lead, mid, post, tail, frame, none, kid, outers, word_if, label_own, jump_own, own, kids_own, leaf_own, lead_own, closure_own, infix_own, post_own, trailer_own, piece_own, is_silent, is_repeated}
 use Rattle.syn_grammar.specs.Query.{last_braces, is_braces, blocked, kids_blocked, return_brace, leaf_brace, lead_brace, post_brace, piece_brace, operand_brace, frame_brace, frame_head_brace, tree_brace, kids_brace}
 use Rattle.syn_grammar.proofs.LastTypes.{Fixed, over, through, if_there, if_some, one, first, colons, for_lifetimes, elements, type_last, return_last}
 
@@ -100,7 +101,7 @@ abbrev mutual
   pub as_spelled : Bool → Tree → Bool
   as_spelled before (leaf k) = leaf_brace before k
   as_spelled before (paren m x) = false
-  as_spelled before (adorned a more x) = as_spelled false x
+  as_spelled before (adorned a more x) = as_spelled (is_nil (outers (a ∷ more)) && before) x
   as_spelled before (lead k gs x) = as_spelled (lead_brace k) x
   as_spelled before (mid x k y) = as_spelled false y
   as_spelled before (post x k) = post_brace k
@@ -128,7 +129,7 @@ mutual
   pub blocked_ends : (before : Bool) (x : Tree) → as_spelled before (blocked x) ≡ tree_brace before x
   blocked_ends before (leaf k) = refl
   blocked_ends before (paren m x) = refl
-  blocked_ends before (adorned a more x) = blocked_ends false x
+  blocked_ends before (adorned a more x) = blocked_ends _ x
   blocked_ends before (lead k gs x) = blocked_ends (lead_brace k) x
   blocked_ends before (mid x k y) = blocked_ends false y
   blocked_ends before (post x k) = refl
@@ -270,13 +271,17 @@ adorned_last before a [] l = (if_there a.inner (λ m. alone 33 ∷ m) (one (alon
 adorned_last before a (b ∷ more) l =
     (if_there a.inner (λ m. alone 33 ∷ m) (one (alone 33)) _ _ (first (group del.Bracket (inside a.tokens)) _ _ (adorned_last false b more l))).behind false
 
+attributes_last : (before : Bool) (ats : List AttributeTree) (l : List Tok) → last_braces before (attributes_own ats l) ≡ last_braces (is_nil ats && before) l
+attributes_last before [] l = refl
+attributes_last before (a ∷ more) l = adorned_last before a more l
+
 members_last : (m : MemberTree) (l : List Tok) (b : Bool) → last_braces false l ≡ b → Fixed (member_own m l) b
 members_last (p.a_name w) l b h = first _ l b h
 members_last (p.an_index n) l b h = first _ l b h
 
 piece_last : (before : Bool) (k : Piece) (l : List Tok) → last_braces before (piece_own k l) ≡ last_braces (piece_brace before k) l
-piece_last before (e.field_value ats m true) l = (attributes ats _ _ (members_last m _ _ refl)).behind before
-piece_last before (e.field_value ats m false) l = (attributes ats _ _ (members_last m _ _ refl)).behind before
+piece_last before (e.field_value ats m true) l = (attributes (outers ats) _ _ (members_last m _ _ refl)).behind before
+piece_last before (e.field_value ats m false) l = (attributes (outers ats) _ _ (members_last m _ _ refl)).behind before
 piece_last true (e.rest true) l = refl
 piece_last false (e.rest true) l = refl
 piece_last true (e.rest false) l = refl
@@ -304,7 +309,7 @@ mutual
   pub tree_last : (before : Bool) (x : Tree) (r : List Tok) → last_braces before (own x r) ≡ last_braces (as_spelled before x) r
   tree_last before (leaf k) r = leaf_last before k r
   tree_last before (paren m x) r = refl
-  tree_last before (adorned a more x) r = adorned_last before a more (own x r) ∙ tree_last false x r
+  tree_last before (adorned a more x) r = attributes_last before (outers (a ∷ more)) (own x r) ∙ tree_last _ x r
   tree_last before (lead k gs x) r = lead_last before k _ ∙ tree_last (lead_brace k) x r
   tree_last before (mid x k y) r = tree_last before x _ ∙ infix_last _ k _ ∙ tree_last false y r
   tree_last before (post x k) r = tree_last before x _ ∙ post_last _ k r

@@ -67,7 +67,7 @@ mutual
   well_ends : (x : Tree) → well x ≡ true → (before : Bool) → as_spelled before x ≡ tree_brace before x
   well_ends (leaf k) w before = refl
   well_ends (paren m x) w before = refl
-  well_ends (adorned a more x) w before = well_ends x (both_true (not (is_adorned x)) _ (both_true (attributes_outer (a ∷ more)) _ w).1).1 false
+  well_ends (adorned a more x) w before = well_ends x (both_true (not (is_adorned x)) _ (both_true (attributes_outer (a ∷ more)) _ w).1).1 _
   well_ends (lead k gs x) w before = well_ends x (both_true (is_none gs) _ (both_true (lead_fits k) _ w).1).1 (lead_brace k)
   well_ends (mid x k y) w before = well_ends y (both_true (well x) _ (both_true (infix_fits k) _ w).1).1 false
   well_ends (post x k) w before = refl

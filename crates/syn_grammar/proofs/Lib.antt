@@ -1,4 +1,5 @@
 pub mod Bools
+pub mod Attributes
 pub mod Obeys
 pub mod Formed
 pub mod Edges
@@ -24,6 +25,7 @@ pub mod HeadPlaces
 pub mod HeadTrailers
 pub mod HeadFrames
 pub mod HeadsBack
+pub mod Parenthesized
 pub mod Kept
 pub mod Tight
 pub mod Spares

@@ -1,4 +1,4 @@
--- What stands has no marks, and is printed as it is.
+-- What stands has no marks, and is printed as it is, but for pairs round its attributed operations.
 use Rattle.std.proofs.Common.{◌≡◌, ℕ, Bool, true, false, ◌||◌, List, [], ◌∷◌, Option, Some, None, refl, sym, ◌∙◌, ap, subst}
 use Rattle.std.specs.Prelude.{is_some}
 use Rattle.syn_lexer.specs.declared.lexeme.Delimiter.TheVariants as del
@@ -6,6 +6,7 @@ use Rattle.syn_tokens.specs.Tok.{Tok}
 use Rattle.syn_tokens.specs.Front.{group_at}
 use Rattle.syn_parts.specs.Pat.{an_index, a_name}
 use Rattle.syn_parts.specs.Mark.{brace_at}
+use Rattle.syn_parts.proofs.Weights.{some_is}
 use Rattle.syn_grammar.specs.declared.kinds.Level.TheVariants as lev
 use Rattle.syn_grammar.specs.declared.kinds.Place.{Place}
 use Rattle.syn_grammar.specs.declared.next.Next.TheVariants as next
@@ -17,13 +18,14 @@ use Rattle.syn_grammar.specs.Stands.{Node, is_leaf, is_become, is_attributed, is
 use Rattle.syn_grammar.specs.Tree as e
 use Rattle.syn_grammar.specs.Tree.{Tree, Kids, Piece, tail, none, plain_block, is_silent, own, fill, clear}
 use Rattle.syn_grammar.specs.Rule.{place_asks, put, bare}
-use Rattle.syn_grammar.specs.Printed.{Position, in_plain, as_statement, as_condition, as_arm, allows, context_of, place_of, is_sparing, plainly_adorned, NoneNeedlessly}
+use Rattle.syn_grammar.specs.Printed.{Position, in_plain, as_statement, as_condition, as_arm, allows, context_of, place_of, is_sparing, plainly_adorned, parenthesize_attributed, NoneNeedlessly}
 use Rattle.syn_grammar.proofs.Kept.{block_there, Proper, ProperKids, kept_in}
 use Rattle.syn_grammar.proofs.ShownFronts.{Front, front_end, front_block}
 use Rattle.syn_grammar.proofs.ShownParts.{Agrees, agrees_plain, agrees_condition, agrees_arm}
-use Rattle.syn_grammar.proofs.Shown.{shown, At}
+use Rattle.syn_grammar.proofs.Shown.{shown, At, is_possible}
 use Rattle.syn_grammar.proofs.ShownTypes.{open_types}
 use Rattle.syn_grammar.proofs.Obeys.{Obeys}
+use Rattle.syn_grammar.proofs.Parenthesized.{plain_stays}
 use Rattle.syn_grammar.proofs.FillIns.{fill_clear, plainly_fill}
 use Rattle.syn_grammar.proofs.Promise.{printed_stands}
 
@@ -36,8 +38,8 @@ ends_there e.chained x n h = branch_there _ _ h
 ends_there e.output_block x n h = absurd cc
 ends_there _ x n h = refl
 
-short_there : (k : Piece) (x : Tree) → short_value k ≡ Some x → (block_there k x ≡ true) × (is_silent k ≡ true)
-short_there (e.field_value ats (a_name w) false) x h = (refl, refl)
+short_there : (k : Piece) (x : Tree) → short_value k ≡ Some x → (block_there k x ≡ true) × (is_silent k ≡ true) × (parenthesize_attributed x ≡ x)
+short_there (e.field_value ats (a_name w) false) x h = (refl, refl, subst (λ z. parenthesize_attributed z ≡ z) (some_is h) refl)
 short_there (e.field_value ats (a_name w) true) x h = absurd cc
 short_there (e.field_value ats (an_index i) b) x h = absurd cc
 short_there _ x h = absurd cc
@@ -75,11 +77,11 @@ mutual
 
   proper_operands : {s : Slot} {l o : List Tok} {ks : Kids} → Operands s l ks o → ProperKids ks
   proper_operands (no_more q) = tt
-  proper_operands (one_more {h = h} {k = k} {x = x} f g d q t more) = (ends_there k x h q, (λ e. proper d), proper_operands more)
+  proper_operands (one_more {h = h} {k = k} {x = x} f g d q t more) = (ends_there k x h q, (λ e. proper d), (λ e. silent _ _ e g), proper_operands more)
   proper_operands (short {k = k} {x = x} f g t more) =
-      let r = short_there k x g in (r.0, (λ e. silent _ _ r.1 e), proper_operands more)
-  proper_operands (block {i = i} {k = k} f g t more) = (block_is_there k i g, (λ e. tt), proper_operands more)
-  proper_operands (arms_inside d q r g u more) = (refl, (λ e. proper d), proper_operands more)
+      let r = short_there k x g in (r.0, (λ e. silent _ _ r.1 e), (λ e. r.2), proper_operands more)
+  proper_operands (block {i = i} {k = k} f g t more) = (block_is_there k i g, (λ e. tt), (λ e. refl), proper_operands more)
+  proper_operands (arms_inside d q r g u more) = (refl, (λ e. proper d), (λ e. absurd cc), proper_operands more)
 
 pub front_brace : (l : List Tok) → brace_at l ≡ true → Front next.Block l
 unfolding brace_at
@@ -89,17 +91,21 @@ front_brace l h = go (group_at del.Brace l) refl h
     go None q h = absurd cc
     go (Some g) q h = front_block l g q
 
--- What stands is printed with no parentheses, in each position that is sparing.
-bare_in : (p : Place) (c : Context) (x : Tree) (l n : List Tok) → p.level ≡ lev.Jump → Agrees p c → Front c.next n → At c l x → plainly_adorned x ≡ true → Node p l x n
-    → put (place_asks lev.Jump c x) (bare enclosed x) (bare c x) ≡ x
-bare_in p c x l n v m f b a d = kept_in x c (proper d) (subst (λ z. Obeys z c x) v (shown open_types d a c m f b))
+-- What stands is printed with no parentheses but round attributed operations, in each position that is sparing.
+pairs_in : (p : Place) (c : Context) (x : Tree) (l n : List Tok) → p.level ≡ lev.Jump → is_possible p ≡ true → Agrees p c → Front c.next n → At c l x → Node p l x n
+    → put (place_asks lev.Jump c x) (bare enclosed x) (bare c x) ≡ parenthesize_attributed x
+pairs_in p c x l n v w m f b d = kept_in x c (proper d) (subst (λ z. Obeys z c (parenthesize_attributed x)) v (shown open_types d w c m f b))
+
+pub pairs_there : (s : Position) (x : Tree) (l r : List Tok) → is_sparing s ≡ true → allows s r ≡ true → Node (place_of s) l x r
+    → put (place_asks lev.Jump (context_of s) x) (bare enclosed x) (bare (context_of s) x) ≡ parenthesize_attributed x
+pairs_there in_plain x l r v h d = pairs_in plain enclosed x l r refl refl agrees_plain (front_end r) (refl, refl) d
+pairs_there as_statement x l r v h d = absurd cc
+pairs_there as_condition x l r v h d = pairs_in before_block in_condition x l r refl refl agrees_condition (front_brace r h) (refl, refl) d
+pairs_there as_arm x l r v h d = pairs_in at_head in_arm x l r refl refl agrees_arm (front_end r) (refl, refl) d
 
 pub bare_there : (s : Position) (x : Tree) (l r : List Tok) → is_sparing s ≡ true → allows s r ≡ true → plainly_adorned x ≡ true → Node (place_of s) l x r
     → put (place_asks lev.Jump (context_of s) x) (bare enclosed x) (bare (context_of s) x) ≡ x
-bare_there in_plain x l r v h a d = bare_in plain enclosed x l r refl agrees_plain (front_end r) (refl, refl) a d
-bare_there as_statement x l r v h a d = absurd cc
-bare_there as_condition x l r v h a d = bare_in before_block in_condition x l r refl agrees_condition (front_brace r h) (refl, refl) a d
-bare_there as_arm x l r v h a d = bare_in at_head in_arm x l r refl agrees_arm (front_end r) (refl, refl) a d
+bare_there s x l r v h a d = pairs_there s x l r v h d ∙ plain_stays x a
 
 pub none_needlessly : NoneNeedlessly
 none_needlessly s t r w m a v h = (

@@ -17,6 +17,7 @@ use Rattle.syn_parts.specs.Tree as t
 use Rattle.syn_parts.specs.Tree.{AttributeTree, LifetimesTree, QSelfTree, SegmentTree, Segments, ArgumentsTree}
 use Rattle.syn_parts.specs.Part.{MacroTree}
 use Rattle.syn_parts.specs.Mark.{sign_at, word_at, lifetime_at, brace_at, mutable, constant}
+use Rattle.syn_parts.specs.PatOwn.{attributes_own}
 use Rattle.syn_parts.specs.Own.{alone, before_if, before_some, colon2_before, enclosed, separated, no_more_segments, type_own, lit_own, number_own, lifetimes_own, attribute_own, segments_own, arguments_own, path_own, qualified_own, macro_own}
 use Rattle.syn_parts.specs.Fits.{unsigned_fits, segments_fit, path_fits, qpath_fits, macro_fits}
 use Rattle.syn_parts.proofs.Fronts.{word_not, not_mut}
@@ -30,9 +31,10 @@ use Rattle.syn_grammar.specs.Head.{raw_at}
 use Rattle.syn_grammar.specs.Next.{class_of, next_of}
 use Rattle.syn_grammar.specs.Rule.{leaf_labelled, frame_labelled}
 use Rattle.syn_grammar.specs.Tree as e
-use Rattle.syn_grammar.specs.Tree.{Tree, Kids, Leaf, Lead, Frame, Post, word_if, vert_before, leaf, paren, adorned, lead, mid, post, tail, frame, post_op, own, leaf_own, lead_own, framed, enclosure, post_own}
+use Rattle.syn_grammar.specs.Tree.{Tree, Kids, Leaf, Lead, Frame, Post, word_if, vert_before, leaf, paren, adorned, lead, mid, post, tail, frame, outers, post_op, own, leaf_own, lead_own, framed, enclosure, post_own}
 use Rattle.syn_grammar.specs.WellFormed.{leaf_fits, frame_fits}
 use Rattle.syn_grammar.proofs.Bools.{both_true, not_it, or_none}
+use Rattle.syn_grammar.proofs.Attributes.{outers_are}
 use Rattle.syn_grammar.proofs.Formed.{Formed}
 use Rattle.syn_grammar.proofs.Obeys.{begins_label}
 use Rattle.syn_grammar.proofs.Shows.{Shows, shows_operator, shows_trailer}
@@ -272,7 +274,7 @@ post_class (e.range_from op) r = shows_operator (inf.Range op) r
 pub front : (t : Tree) (n : Next) (r : List Tok) → Formed t → Shows n r → Front (begins_brace t) (begins_label t) (begins_pound t) (own t r)
 front (leaf k) n r f s = leaf_front k r f (shows_quiet n r s)
 front (paren m t) n r f s = paren_front _ r
-front (adorned a more t) n r f s = adorned_front a _
+front (adorned a more t) n r f s = subst (λ l. Front false false true (attributes_own l (own t r))) (sym (outers_are (a ∷ more) f.0)) (adorned_front a _)
 front (lead k gs t) n r f s = lead_front k _
 front (mid x k y) n r f s = front x (class_of k) _ f.1 (shows_operator k (own y r))
 front (post x k) n r f s = front x (class_of (post_op k)) _ f.1 (post_class k r)

@@ -1,4 +1,4 @@
--- What stands obeys the binding rules, said along the tree.
+-- What stands obeys the binding rules, said along the tree with its attributed operations in parentheses.
 use Rattle.std.proofs.Common.{◌≡◌, ℕ, Bool, true, false, not, ◌&&◌, ◌||◌, List, [], ◌∷◌, drop, Option, Some, None, refl, sym, ◌∙◌, ap, subst}
 use Rattle.std.specs.Prelude.{if◌then◌else◌}
 use Rattle.syn_lexer.specs.declared.lexeme.Delimiter.TheVariants as del
@@ -11,24 +11,27 @@ use Rattle.syn_parts.specs.Mark.{lt, brace_at}
 use Rattle.syn_parts.specs.Ends.{ends_open}
 use Rattle.syn_grammar.specs.declared.kinds.Level.{Level}
 use Rattle.syn_grammar.specs.declared.kinds.Level.TheVariants as lev
+use Rattle.syn_grammar.specs.declared.kinds.Infix.{Infix}
 use Rattle.syn_grammar.specs.declared.kinds.Place.{Place}
+use Rattle.syn_grammar.specs.declared.next.Next.{Next}
 use Rattle.syn_grammar.specs.declared.next.Next.TheVariants as next
 use Rattle.syn_grammar.specs.declared.next.Context.{Context}
-use Rattle.syn_grammar.specs.Place.{plain, at}
-use Rattle.syn_grammar.specs.Op.{level}
+use Rattle.syn_grammar.specs.Place.{at}
+use Rattle.syn_grammar.specs.Op.{level, is_comparison}
 use Rattle.syn_grammar.specs.Front.{dot_at, question_at}
 use Rattle.syn_grammar.specs.Head.{leaf_form, lead_form}
-use Rattle.syn_grammar.specs.Next.{enclosed, in_condition, next_of, left_context, base_context, right_context, adorned_context, lead_context, lead_level, piece_context}
+use Rattle.syn_grammar.specs.Next.{enclosed, in_condition, next_of, takes_next, trails, left_context, base_context, right_context, adorned_context, lead_context, lead_level, piece_context}
 use Rattle.syn_grammar.specs.Slot.{Slot, Holder, within, ending_at, behind_loop, behind_condition, piece_place, trailer_holder}
-use Rattle.syn_grammar.specs.Stands.{Node, is_leaf, is_become, is_attributed, is_paren, is_adorned_by, is_lead, is_mid, is_post, is_tail, is_indexed, is_frame, Content, holds_none, holds_within, holds_bare, Operands, no_more, one_more, short, block, arms_inside, fits_base, fields_of, fields_head, trailer_head, is_base, is_call, carries, is_adorned, is_pounded, post_behind, post_stands, lead_place, short_value, takes_block}
+use Rattle.syn_grammar.specs.Stands.{Node, is_leaf, is_become, is_attributed, is_paren, is_adorned_by, is_lead, is_mid, is_post, is_tail, is_indexed, is_frame, Content, holds_none, holds_within, holds_bare, Operands, no_more, one_more, short, block, arms_inside, fits_base, fields_of, fields_head, trailer_head, is_base, is_call, carries, is_cast, is_range, is_infix, is_adorned, is_verbatim, is_pounded, may_adorn, post_behind, post_stands, lead_place, short_value, takes_block}
 use Rattle.syn_grammar.specs.Tree as e
-use Rattle.syn_grammar.specs.Tree.{Tree, Kids, Leaf, Lead, Post, Trailer, Piece, Ending, tail, none, post_op, plain_block, is_silent, is_block_like}
-use Rattle.syn_grammar.specs.Rule.{is_below, is_braceless, post_refuses, is_less_next, is_bare_break}
-use Rattle.syn_grammar.specs.Printed.{plainly_adorned, kids_plainly}
-use Rattle.syn_grammar.proofs.Bools.{both_true, both, not_it}
-use Rattle.syn_grammar.proofs.Obeys.{Fits, begins_label, Obeys, ObeysKids}
+use Rattle.syn_grammar.specs.Tree.{Tree, Kids, Leaf, Lead, Post, Trailer, Piece, Ending, leaf, paren, adorned, lead, mid, post, tail, frame, none, post_op, plain_block, is_silent, is_block_like}
+use Rattle.syn_grammar.specs.Rule.{is_below, is_braceless, is_operation, put, post_refuses, is_less_next, is_bare_break}
+use Rattle.syn_grammar.specs.Printed.{parenthesize_attributed, parenthesize_attributed_kids}
+use Rattle.syn_grammar.proofs.Bools.{both_true, both, not_it, or_false, or_none}
+use Rattle.syn_grammar.proofs.Obeys.{Fits, FitsLeft, begins_label, Obeys, ObeysKids}
 use Rattle.syn_grammar.proofs.ShownFronts.{Front, front_end, front_operator, front_call, front_index, front_block, front_dot, front_question}
 use Rattle.syn_grammar.proofs.ShownParts.{Agrees, agrees_plain, agrees_condition, agrees_arm, agrees_left, agrees_base, agrees_adorned, agrees_right, agrees_lead, front_lead, lead_above, right_above, lead_brace, right_brace, leaf_shown, lead_placed, frame_shown, fits_shown, left_shown, lead_head, base_below, base_braceless, below_left, left_braceless, adorned_below, adorned_braceless, dot_twice, dot_above, dot_braceless, post_shown}
+use Rattle.syn_grammar.proofs.Parenthesized.{operation_stays, compares_stays, cast_stays, label_stays, base_stays, no_range, fields_stay}
 use Rattle.syn_grammar.proofs.ShownFirst.{block_first, label_first, bare_break}
 use Rattle.syn_grammar.proofs.Chains.{some_is}
 
@@ -53,10 +56,6 @@ obeys_fields [] i v c b h o = (h, o, tt)
 obeys_fields (j ∷ is) i v c b h o =
     obeys_fields is j v c (tail b (e.field (an_index i)) none) refl
     (h, subst (λ (d : Context). Obeys v d b) (sym (field_twice i j c)) o, tt)
-
-plain_fields : (is : List ℕ) (b : Tree) → plainly_adorned (fields_of b is) ≡ true → plainly_adorned b ≡ true
-plain_fields [] b h = h
-plain_fields (i ∷ is) b h = (both_true _ _ (plain_fields is (tail b (e.field (an_index i)) none) h)).0
 
 no_steps : (x y : List ℕ × List Tok) (i : ℕ) (is : List ℕ) → Some x ≡ Some y → x.0 ≡ [] → y.0 ≡ i ∷ is → ⊥
 no_steps x y i is t p q =
@@ -111,9 +110,10 @@ behind_loop_block c h n None q t = absurd cc
 behind_loop_block c h n (Some g) q t = front_block h g q
 
 abbrev pub ShownAt : Place → List Tok → Tree → List Tok → Type 0
-ShownAt p l x n = (c : Context) → Agrees p c → Front c.next n → At c l x → Obeys p.level c x
+ShownAt p l x n = (c : Context) → Agrees p c → Front c.next n → At c l x → Obeys p.level c (parenthesize_attributed x)
 
-piece_shown : (k : Piece) (l n m : List Tok) (x : Tree) (c : Ending) → ending_at k x n ≡ Some (c, m) → ShownAt (piece_place k) l x n → Obeys lev.Jump (piece_context k) x
+piece_shown : (k : Piece) (l n m : List Tok) (x : Tree) (c : Ending) → ending_at k x n ≡ Some (c, m) → ShownAt (piece_place k) l x n
+    → Obeys lev.Jump (piece_context k) (parenthesize_attributed x)
 unfolding ending_at
 piece_shown e.element l n m x c t s = s enclosed agrees_plain (front_end n) (refl, refl)
 piece_shown e.value l n m x c t s = s enclosed agrees_plain (front_end n) (refl, refl)
@@ -175,27 +175,154 @@ base_is p k b h = (both_true _ _ h).0
 
 -- at an index of a field
 index_shown : (p : Place) (c : Context) (l y : List Tok) (b : Tree) (i : ℕ) → Agrees p c → is_braceless c.edge && brace_at l ≡ false → Front next.Dot y → ShownAt p l b y
-    → Obeys p.level (field_context i c) b
+    → Obeys p.level (field_context i c) (parenthesize_attributed b)
 index_shown p c l y b i m z f s =
     s (field_context i c) (agrees_base p (e.field (an_index i)) c m) f
     (ap (λ x. x && is_block_like b) (dot_above c.edge), ap (λ x. x && brace_at l) (dot_braceless c.edge) ∙ z)
 
 tail_shown : (p : Place) (c : Context) (k : Trailer) (l y h : List Tok) (b x : Tree) (is : List ℕ) → Agrees p c → is_braceless c.edge && brace_at l ≡ false
     → fits_base p k b ≡ true → trailer_head k y ≡ Some (is, h) → Front (next_of k) y → x ≡ fields_of b is → ShownAt p l b y
-    → (is_base k x ≡ true) × Obeys p.level (base_context k c) x
+    → (is_base k (parenthesize_attributed x) ≡ true) × Obeys p.level (base_context k c) (parenthesize_attributed x)
 tail_shown p c k l y h b x [] m z f t r q s = (
-  ap (is_base k) q ∙ base_is p k b f,
-  subst (λ a. Obeys p.level (base_context k c) a) (sym q)
+  ap (λ a. is_base k (parenthesize_attributed a)) q ∙ base_stays k b ∙ base_is p k b f,
+  subst (λ a. Obeys p.level (base_context k c) (parenthesize_attributed a)) (sym q)
       (s (base_context k c) (agrees_base p k c m) r (base_below p c k b m f, ap (λ a. a && brace_at l) (base_braceless k c.edge) ∙ z)),
 )
 tail_shown p c k l y h b x (i ∷ is) m z f t r q s =
-    let d = fields_dot k y h i is t in (
-      ap (is_base k) q ∙ carries_fields is k b i d.0,
-      subst (λ a. Obeys p.level (base_context k c) a) (sym q)
-          (obeys_fields is i p.level (base_context k c) b (base_field k i b (base_is p k b f))
+    let d = fields_dot k y h i is t in
+    let u = ap parenthesize_attributed q ∙ fields_stay (i ∷ is) b in (
+      ap (is_base k) u ∙ carries_fields is k (parenthesize_attributed b) i d.0,
+      subst (λ a. Obeys p.level (base_context k c) a) (sym u)
+          (obeys_fields is i p.level (base_context k c) (parenthesize_attributed b) (base_stays (e.field (an_index i)) b ∙ base_field k i b (base_is p k b f))
           (index_shown p (base_context k c) l y b i (agrees_base p k c m) (ap (λ a. a && brace_at l) (base_braceless k c.edge) ∙ z)
           (subst (λ n. Front n y) d.1 r) s)),
     )
+
+-- ---- the place, and attributes
+
+-- no head is in a condition
+abbrev pub is_possible : Place → Bool
+is_possible p = not (p.head && p.condition)
+
+piece_possible : (k : Piece) → is_possible (piece_place k) ≡ true
+piece_possible e.element = refl
+piece_possible e.value = refl
+piece_possible e.repeated = refl
+piece_possible (e.field_value ats m c) = refl
+piece_possible (e.rest d) = refl
+piece_possible e.condition = refl
+piece_possible e.loop_head = refl
+piece_possible e.scrutinee = refl
+piece_possible e.chained = refl
+piece_possible (e.guard ats p) = refl
+piece_possible e.guarded = refl
+piece_possible (e.arm ats p) = refl
+piece_possible e.output_block = refl
+piece_possible e.grouped = refl
+piece_possible e.stray = refl
+
+lead_possible : (p : Place) (k : Lead) → is_possible (lead_place p k) ≡ true
+lead_possible p k = ap (λ b. not (b && (lead_place p k).condition)) (lead_head p k)
+
+-- An operation behind attributes is a range without a start.
+operation_range : (x : Tree) → is_operation x ≡ true → is_infix x ≡ false → is_range x ≡ true
+operation_range (leaf k) o i = o
+operation_range (paren m t) o i = absurd cc
+operation_range (adorned a more t) o i = absurd cc
+operation_range (lead k gs t) o i = o
+operation_range (mid x k y) o i = absurd cc
+operation_range (post x k) o i = absurd cc
+operation_range (tail b k ks) o i = absurd cc
+operation_range (frame k ks) o i = absurd cc
+
+any_level : (x : Tree) (v w : Level) (c : Context) → is_operation x ≡ true → is_infix x ≡ false → Obeys v c (parenthesize_attributed x) → Obeys w c (parenthesize_attributed x)
+any_level (leaf k) v w c o i h = h
+any_level (paren m t) v w c o i h = h
+any_level (adorned a more t) v w c o i h = absurd cc
+any_level (lead k gs t) v w c o i h = h
+any_level (mid x k y) v w c o i h = absurd cc
+any_level (post x k) v w c o i h = absurd cc
+any_level (tail b k ks) v w c o i h = absurd cc
+any_level (frame k ks) v w c o i h = absurd cc
+
+-- what may stand behind attributes there
+record Behind (p : Place) (x : Tree) : Type 0 where
+  no_infix : is_infix x ≡ false
+  at_head : is_range x ≡ true → p.head ≡ true
+
+behind_attributes : (p : Place) (x : Tree) → may_adorn p x ≡ true → Behind p x
+behind_attributes p x h =
+    let (f, g) = both_true (not (is_infix x || (is_adorned x || is_verbatim x))) _ h in
+    record { no_infix = (or_false _ _ (not_it _ f)).0; at_head = λ r. sym (or_none p.head) ∙ ap (λ b. p.head || not b) (sym r) ∙ g }
+
+clash : (b : Bool) → b ≡ true → b ≡ false → ⊥
+clash b h k = let r : true ≡ false = sym h ∙ k in cc
+
+-- at a head nothing that follows is asked for, and no condition is round it
+alone_at_head : (p : Place) → is_possible p ≡ true → p.head ≡ true → Agrees p enclosed
+alone_at_head p f h =
+    record {
+      mode = sym (ap (λ b. b && p.condition) (sym h) ∙ not_it _ f);
+      head = λ z. absurd cc;
+      no_statement = refl;
+      brace = refl;
+    }
+
+-- where no head is, such pairs change nothing that a place asks of its occupant
+record SameKind (x : Tree) : Type 0 where
+  range : is_range (parenthesize_attributed x) ≡ is_range x
+  carrier : carries (parenthesize_attributed x) ≡ carries x
+
+no_operation_there : (p : Place) (x : Tree) → may_adorn p x ≡ true → p.head ≡ false → is_operation x ≡ false
+no_operation_there p x g h = go (is_operation x) refl
+  where
+    go : (b : Bool) → is_operation x ≡ b → b ≡ false
+    go true o = let f = behind_attributes p x g in absurd (clash p.head (f.at_head (operation_range x o f.no_infix)) h)
+    go false o = refl
+
+same_behind : (x : Tree) (a : _) (more : _) → is_operation x ≡ false → SameKind x → SameKind (adorned a more x)
+same_behind x a more o s =
+    record {
+      range = ap (λ b. is_range (put b (parenthesize_attributed x) (parenthesize_attributed x))) o ∙ s.range;
+      carrier = ap (λ b. carries (put b (parenthesize_attributed x) (parenthesize_attributed x))) o ∙ s.carrier;
+    }
+
+same_fields : (is : List ℕ) (b : Tree) → SameKind b → SameKind (fields_of b is)
+same_fields [] b s = s
+same_fields (i ∷ is) b s = same_fields is (tail b (e.field (an_index i)) none) (record { range = refl; carrier = refl })
+
+same_kind : {p : Place} {l n : List Tok} {x : Tree} → Node p l x n → p.head ≡ false → SameKind x
+same_kind (is_leaf f g) h = record { range = refl; carrier = refl }
+same_kind (is_become w d q r o) h = record { range = refl; carrier = refl }
+same_kind (is_attributed z more fs f d q r) h = record { range = refl; carrier = refl }
+same_kind (is_paren d q r) h = record { range = refl; carrier = refl }
+same_kind (is_adorned_by {p = p} {x = x} f g d) h = same_behind x _ _ (no_operation_there p x g h) (same_kind d h)
+same_kind (is_lead f g d q r) h = record { range = refl; carrier = refl }
+same_kind (is_mid d q r i t o d2 u v w) h = record { range = refl; carrier = refl }
+same_kind (is_post d q r i t u o w) h = record { range = refl; carrier = refl }
+same_kind (is_tail d f t o q) h = record { range = refl; carrier = refl }
+same_kind (is_indexed {b = b} {i = i} {is = is} d f t q) h = subst SameKind (sym q) (same_fields (i ∷ is) b (same_kind d h))
+same_kind (is_frame f o g) h = record { range = refl; carrier = refl }
+
+fits_kind : (v : Level) (x : Tree) (n : Next) → SameKind x → Fits v x n → Fits v (parenthesize_attributed x) n
+fits_kind v x n s f =
+    record {
+      no_operator = ap (λ b. takes_next v n && not b) s.range ∙ f.no_operator;
+      no_trailer = ap (λ b. trails n && (b || is_cast (parenthesize_attributed x))) s.carrier ∙ ap (λ b. trails n && (carries x || b)) (cast_stays x) ∙ f.no_trailer;
+    }
+
+fits_left_kind : (k : Infix) (x : Tree) → FitsLeft k x → FitsLeft k (parenthesize_attributed x)
+fits_left_kind k x f = record { no_range = no_range x f.no_range; no_chain = ap (λ b. b && is_comparison k) (compares_stays x) ∙ f.no_chain }
+
+attributes_shown : (p : Place) (x : Tree) (c : Context) → is_possible p ≡ true → may_adorn p x ≡ true → (b : Bool) → is_operation x ≡ b
+    → (Agrees p enclosed → Obeys p.level enclosed (parenthesize_attributed x)) → Obeys p.level (adorned_context c) (parenthesize_attributed x)
+    → (is_operation (put b (parenthesize_attributed x) (parenthesize_attributed x)) ≡ false)
+    × Obeys p.level (adorned_context c) (put b (parenthesize_attributed x) (parenthesize_attributed x))
+attributes_shown p x c a g true o inside h =
+    let f = behind_attributes p x g in
+    let i = inside (alone_at_head p a (f.at_head (operation_range x o f.no_infix))) in
+    (refl, (any_level x p.level lev.Jump enclosed o f.no_infix i, record { no_operator = refl; no_trailer = refl }))
+attributes_shown p x c a g false o inside h = (operation_stays x ∙ o, h)
 
 module _ (closed : TypesClose) where
   post_refused : (p : Place) (c : Context) (k : Post) (l n : List Tok) → Agrees p c → Front c.next n → post_behind k l ≡ Some n → post_stands p k n ≡ true → post_refuses k c.next ≡ false
@@ -207,63 +334,59 @@ module _ (closed : TypesClose) where
   post_refused p c (e.range_from op) l n m f h t = post_shown p c op n m f t
 
   mutual
-    pub shown : {p : Place} {l n : List Tok} {x : Tree} → Node p l x n → plainly_adorned x ≡ true → ShownAt p l x n
+    pub shown : {p : Place} {l n : List Tok} {x : Tree} → Node p l x n → is_possible p ≡ true → ShownAt p l x n
     shown (is_leaf {p = p} {l = l} {n = n} {k = k} f g) a c m s b = leaf_shown p c k l n m s g b.0 b.1 (λ y q. block_first y l n (ap (λ (z : Leaf). leaf_form.behind z l) (sym q) ∙ f))
     shown (is_become w d q r o) a c m s b = b.0
     shown (is_attributed z more fs f d q r) a c m s b = b.0
     shown (is_paren {n = n} {x = x} d q r) a c m s b =
-        (shown d a enclosed agrees_plain (front_end []) (refl, refl), fits_shown plain next.End [] x refl (front_end []) q r)
-    shown (is_adorned_by {x = x} f g d) a c m s b =
-        let h = both_true _ _ a in
-        (not_it _ h.0, shown d h.1 (adorned_context c) (agrees_adorned _ c m) s (adorned_below c.edge (is_block_like x) b.0, adorned_braceless c.edge _))
+        (shown d refl enclosed agrees_plain (front_end []) (refl, refl), record { no_operator = refl; no_trailer = refl })
+    shown (is_adorned_by {p = p} {n = n} {x = x} f g d) a c m s b =
+        attributes_shown p x c a g (is_operation x) refl (λ i. shown d a enclosed i (front_end n) (refl, refl))
+        (shown d a (adorned_context c) (agrees_adorned _ c m) s (adorned_below c.edge (is_block_like x) b.0, adorned_braceless c.edge _))
     shown (is_lead {p = p} {l = l} {m = y} {n = n} {k = k} {x = x} f g d q r) a c m s b = (
       lead_placed c k m.no_statement,
-      subst (λ v. Obeys v (lead_context k c) x) (lead_level_is p k)
-          (shown d a (lead_context k c) (agrees_lead p k c m) (front_lead k c n s) (lead_above k c (is_block_like x), lead_brace p k c y m g)),
-      subst (λ v. Fits v x (lead_context k c).next) (lead_level_is p k) (fits_shown (lead_place p k) (lead_context k c).next n x (lead_head p k) (front_lead k c n s) q r),
-      no_bare_label k l y n (lead_place p k) x f d,
+      subst (λ v. Obeys v (lead_context k c) (parenthesize_attributed x)) (lead_level_is p k)
+          (shown d (lead_possible p k) (lead_context k c) (agrees_lead p k c m) (front_lead k c n s) (lead_above k c (is_block_like x), lead_brace p k c y m g)),
+      fits_kind _ x _ (same_kind d (lead_head p k))
+          (subst (λ v. Fits v x (lead_context k c).next) (lead_level_is p k) (fits_shown (lead_place p k) (lead_context k c).next n x (lead_head p k) (front_lead k c n s) q r)),
+      ap (λ b. is_bare_break k && b) (label_stays x) ∙ no_bare_label k l y n (lead_place p k) x f d,
     )
     shown (is_mid {p = p} {l = l} {m = y} {n = n} {x = x} {y = z} {op = op} {count = count} d q r i t o d2 u v w) a c m s b =
-        let h = both_true _ _ a in
         let f = left_shown p op x r in (
           t,
-          shown d h.0 (left_context op c) (agrees_left p op c m) (front_operator y op count i)
+          shown d a (left_context op c) (agrees_left p op c m) (front_operator y op count i)
               (below_left c.edge p.head _ m.head m.no_statement f.1, ap (λ k. k && brace_at l) (left_braceless c.edge) ∙ b.1),
-          f.0,
-          shown d2 h.1 (right_context op c) (agrees_right p op c m) s (right_above op c (is_block_like z), right_brace p op c (drop count y) m o),
-          fits_shown (at p (level op)) c.next n z refl s u v,
+          fits_left_kind op x f.0,
+          shown d2 refl (right_context op c) (agrees_right p op c m) s (right_above op c (is_block_like z), right_brace p op c (drop count y) m o),
+          fits_kind (level op) z c.next (same_kind d2 refl) (fits_shown (at p (level op)) c.next n z refl s u v),
         )
     shown (is_post {p = p} {l = l} {m = y} {n = n} {x = x} {k = k} {count = count} d q r i t u o w) a c m s b =
         let f = left_shown p (post_op k) x r in (
           t,
           shown d a (left_context (post_op k) c) (agrees_left p (post_op k) c m) (front_operator y (post_op k) count i)
               (below_left c.edge p.head _ m.head m.no_statement f.1, ap (λ k. k && brace_at l) (left_braceless c.edge) ∙ b.1),
-          f.0,
+          fits_left_kind (post_op k) x f.0,
           post_refused p c k (drop count y) n m s u o,
         )
     shown (is_tail {p = p} {l = l} {m = y} {h = h} {n = n} {b = z} {x = x} {k = k} {is = is} {ks = ks} d f t o q) a c m s b =
-        let u = both_true _ _ a in
-        let v = plain_fields is z (ap plainly_adorned (sym q) ∙ u.0) in
-        let r = tail_shown p c k l y h z x is m b.1 f t (front_trailer k y h n is ks t o) q (shown d v) in
-        (r.0, r.1, shown_content o u.1)
+        let r = tail_shown p c k l y h z x is m b.1 f t (front_trailer k y h n is ks t o) q (shown d a) in
+        (r.0, r.1, shown_content o)
     shown (is_indexed {p = p} {l = l} {m = y} {n = n} {b = z} {x = x} {i = i} {is = is} d f t q) a c m s b =
-        let v = plain_fields (i ∷ is) z (ap plainly_adorned (sym q) ∙ a) in
-        subst (λ w. Obeys p.level c w) (sym q)
-        (obeys_fields is i p.level c z (base_is p (e.field (an_index i)) z f) (index_shown p c l y z i m b.1 (front_fields y (i ∷ is, n) t) (shown d v)))
-    shown (is_frame {p = p} {k = k} {ks = ks} f o g) a c m s b = (frame_shown p c k ks m g b.0, shown_content o a)
+        subst (λ w. Obeys p.level c w) (sym (ap parenthesize_attributed q ∙ fields_stay (i ∷ is) z))
+        (obeys_fields is i p.level c (parenthesize_attributed z) (base_stays (e.field (an_index i)) z ∙ base_is p (e.field (an_index i)) z f)
+        (index_shown p c l y z i m b.1 (front_fields y (i ∷ is, n) t) (shown d a)))
+    shown (is_frame {p = p} {k = k} {ks = ks} f o g) a c m s b = (frame_shown p c k ks m g b.0, shown_content o)
 
-    shown_content : {h : Holder} {l n : List Tok} {ks : Kids} → Content h l ks n → kids_plainly ks ≡ true → ObeysKids ks
-    shown_content holds_none a = tt
-    shown_content (holds_within g o q) a = shown_operands o a
-    shown_content (holds_bare o) a = shown_operands o a
+    shown_content : {h : Holder} {l n : List Tok} {ks : Kids} → Content h l ks n → ObeysKids (parenthesize_attributed_kids ks)
+    shown_content holds_none = tt
+    shown_content (holds_within g o q) = shown_operands o
+    shown_content (holds_bare o) = shown_operands o
 
-    shown_operands : {s : Slot} {l o : List Tok} {ks : Kids} → Operands s l ks o → kids_plainly ks ≡ true → ObeysKids ks
-    shown_operands (no_more q) a = tt
-    shown_operands (one_more {m = m} {h = h} {n = n} {k = k} {c = c} {x = x} f g d q t more) a =
-        let u = both_true _ _ a in
-        (λ e. piece_shown k m h n x c t (shown d u.0), shown_operands more u.1)
-    shown_operands (short {k = k} {x = x} f g t more) a = (λ e. absurd (short_silent k x g e), shown_operands more (both_true _ _ a).1)
-    shown_operands (block {i = i} {k = k} f g t more) a = (λ e. block_shown k i g, shown_operands more a)
-    shown_operands (arms_inside {l = l} {i = i} {h = h} {n = n} {x = x} d q r g u more) a =
-        let w = both_true _ _ a in
-        (λ e. shown d w.0 in_condition agrees_condition (front_block h (i, n) g) (refl, refl), shown_operands more w.1)
+    shown_operands : {s : Slot} {l o : List Tok} {ks : Kids} → Operands s l ks o → ObeysKids (parenthesize_attributed_kids ks)
+    shown_operands (no_more q) = tt
+    shown_operands (one_more {m = m} {h = h} {n = n} {k = k} {c = c} {x = x} f g d q t more) =
+        (λ e. piece_shown k m h n x c t (shown d (piece_possible k)), shown_operands more)
+    shown_operands (short {k = k} {x = x} f g t more) = (λ e. absurd (short_silent k x g e), shown_operands more)
+    shown_operands (block {i = i} {k = k} f g t more) = (λ e. block_shown k i g, shown_operands more)
+    shown_operands (arms_inside {l = l} {i = i} {h = h} {n = n} {x = x} d q r g u more) =
+        (λ e. shown d refl in_condition agrees_condition (front_block h (i, n) g) (refl, refl), shown_operands more)

@@ -18,14 +18,15 @@ use Rattle.syn_grammar.specs.Slot as s
 use Rattle.syn_grammar.specs.Slot.{Slot, Holder, after, piece_form, ending_at, comma_or_end, behind_arm}
 use Rattle.syn_grammar.specs.Stands.{Node, is_leaf, is_become, is_attributed, is_paren, is_adorned_by, is_lead, is_mid, is_post, is_tail, is_indexed, is_frame, Content, holds_none, holds_within, holds_bare, Operands, no_more, one_more, short, block, arms_inside, fields_of, short_value, takes_block, ends_list, frame_stands, has_no_comma}
 use Rattle.syn_grammar.specs.Rule.{place_asks, put, bare}
-use Rattle.syn_grammar.specs.Printed.{OwnSpelling, in_plain}
+use Rattle.syn_grammar.specs.Printed.{OwnSpelling, in_plain, parenthesize_attributed}
 use Rattle.syn_grammar.proofs.Bools.{both}
 use Rattle.syn_grammar.proofs.FillIns.{filled, kids_filled, filled_stays, comma_there, dots_there}
 use Rattle.syn_grammar.proofs.HeadMoves.{IsLess, left, grouped}
 use Rattle.syn_grammar.proofs.HeadTold.{unwritten_told}
 use Rattle.syn_grammar.proofs.Lesses.{here, node_less, operands_left, short_less}
 use Rattle.syn_grammar.proofs.SoundAtoms.{no_some}
-use Rattle.syn_grammar.proofs.Needless.{bare_there}
+use Rattle.syn_grammar.proofs.Needless.{pairs_there}
+use Rattle.syn_grammar.proofs.Parenthesized.{plain_stays}
 
 -- ---- nothing stands where nothing is left
 
@@ -217,5 +218,9 @@ pub stood_filled : {p : Place} {l n : List Tok} {x : Tree} → Node p l x n → 
 stood_filled {x = x} d = filled_stays x (node_filled d)
 
 pub own_spelling : OwnSpelling
-own_spelling t l d a =
-    subst (λ x. put (place_asks lev.Jump enclosed x) (bare enclosed x) (bare enclosed x) ≡ t) (sym (stood_filled d.node)) (bare_there in_plain t l [] refl refl a d.node)
+own_spelling =
+    record {
+      pairs_alone = λ t l d. subst (λ x. put (place_asks lev.Jump enclosed x) (bare enclosed x) (bare enclosed x) ≡ parenthesize_attributed t)
+          (sym (stood_filled d.node)) (pairs_there in_plain t l [] refl refl d.node);
+      no_pairs = plain_stays;
+    }

@@ -9,7 +9,7 @@ use Rattle.syn_grammar.specs.Place.{plain, before_block, at_head}
 use Rattle.syn_grammar.specs.Next.{enclosed, in_statement, in_condition, in_arm}
 use Rattle.syn_grammar.specs.Tree.{Tree, Kids, leaf, paren, adorned, lead, mid, post, tail, frame, none, kid, own, clear, fill, IsSameTree}
 use Rattle.syn_grammar.specs.Stands.{Stands}
-use Rattle.syn_grammar.specs.Rule.{printed, is_operation}
+use Rattle.syn_grammar.specs.Rule.{printed, put, is_operation}
 use Rattle.syn_grammar.specs.WellFormed.{is_well_formed}
 use Rattle.syn_grammar.specs.Sparing.{OneLess}
 
@@ -64,6 +64,22 @@ abbrev mutual
   kids_plainly none = true
   kids_plainly (kid k c t ks) = plainly_adorned t && kids_plainly ks
 
+-- the tree with each operation that has attributes in a pair of parentheses, behind these
+abbrev mutual
+  pub parenthesize_attributed : Tree → Tree
+  parenthesize_attributed (leaf k) = leaf k
+  parenthesize_attributed (paren m t) = paren m (parenthesize_attributed t)
+  parenthesize_attributed (adorned a more t) = adorned a more (put (is_operation t) (parenthesize_attributed t) (parenthesize_attributed t))
+  parenthesize_attributed (lead k gs t) = lead k gs (parenthesize_attributed t)
+  parenthesize_attributed (mid x k y) = mid (parenthesize_attributed x) k (parenthesize_attributed y)
+  parenthesize_attributed (post x k) = post (parenthesize_attributed x) k
+  parenthesize_attributed (tail b k ks) = tail (parenthesize_attributed b) k (parenthesize_attributed_kids ks)
+  parenthesize_attributed (frame k ks) = frame k (parenthesize_attributed_kids ks)
+
+  pub parenthesize_attributed_kids : Kids → Kids
+  parenthesize_attributed_kids none = none
+  parenthesize_attributed_kids (kid k c t ks) = kid k c (parenthesize_attributed t) (parenthesize_attributed_kids ks)
+
 -- the tree, printed in the position, stands there before this rest
 abbrev pub StandsPrinted : Position → Tree → List Tok → Type 0
 StandsPrinted s t rest = Stands (place_of s) (own (printed_in s t) rest) (clear (printed_in s t)) rest
@@ -80,9 +96,11 @@ NoneNeedlessly = (s : Position) (t : Tree) (rest : List Tok) → is_well_formed 
     → is_sparing s ≡ true → allows s rest ≡ true
     → (printed_in s t ≡ fill t) ↔ Stands (place_of s) (own (fill t) rest) (fill t) rest
 
--- Whatever list a tree stands for, it is printed as its own spelling.
-abbrev pub OwnSpelling : Type 0
-OwnSpelling = (t : Tree) (l : List Tok) → Stands plain l t [] → plainly_adorned t ≡ true → printed enclosed t ≡ t
+-- Whatever list a tree stands for, it is printed as it is, but for a pair round each operation that has attributes.
+pub record OwnSpelling : Type 0 where
+  pub pairs_alone : (t : Tree) (l : List Tok) → Stands plain l t [] → printed enclosed t ≡ parenthesize_attributed t
+  -- Where no operation has attributes, these pairs are none.
+  pub no_pairs : (t : Tree) → plainly_adorned t ≡ true → parenthesize_attributed t ≡ t
 
 -- With one of the added pairs left out, the tree stands for no list.
 abbrev pub NoPairSpared : Type 0

@@ -7,6 +7,7 @@ use Rattle.syn_lexer.specs.declared.lexeme.Spacing.TheVariants as spacing
 use Rattle.syn_tokens.specs.Tok.{Tok, ident, punct, group}
 use Rattle.syn_parts.specs.Tree as t
 use Rattle.syn_parts.specs.Tree.{TypeTree, QSelfTree, Segments, ArgumentsTree, ReturnTree, Bounds, BoundTree}
+use Rattle.syn_parts.specs.Form.{is_nil}
 use Rattle.syn_parts.specs.Mark.{lifetime_at}
 use Rattle.syn_parts.specs.Own.{count_segments, type_own}
 use Rattle.syn_parts.specs.Ends.{ends_open}
@@ -14,7 +15,7 @@ use Rattle.syn_parts.specs.Fits.{type_fits}
 use Rattle.syn_grammar.specs.declared.kinds.Infix.{Infix}
 use Rattle.syn_grammar.specs.declared.kinds.Infix.TheVariants as inf
 use Rattle.syn_grammar.specs.Tree as e
-use Rattle.syn_grammar.specs.Tree.{Body, Tree, Kids, Leaf, Lead, Post, Frame, Piece, leaf, paren, adorned, lead, mid, post, tail, frame, none, kid, own_tokens, plain_block, post_op, is_silent}
+use Rattle.syn_grammar.specs.Tree.{Body, Tree, Kids, Leaf, Lead, Post, Frame, Piece, leaf, paren, adorned, lead, mid, post, tail, frame, none, kid, outers, own_tokens, plain_block, post_op, is_silent}
 use Rattle.syn_grammar.specs.Rule.{is_brace_delimiter, leaf_labelled, frame_labelled}
 use Rattle.syn_grammar.specs.WellFormed.{is_well_formed}
 
@@ -39,9 +40,11 @@ abbrev pub leaf_leads : Bool → Leaf → Bool
 leaf_leads word (e.verbatim ts) = kept_leads word ts
 leaf_leads word k = leaf_labelled k
 
--- `word`: a word stands behind the tree, which of all that stands behind a left end is `as` alone
+-- `word`: a word stands behind the tree, which of all that stands behind a left end is `as` alone. Inner attributes before a
+-- node aren't spelled.
 abbrev pub tree_leads : Bool → Tree → Bool
 tree_leads word (leaf k) = leaf_leads word k
+tree_leads word (adorned a more t) = is_nil (outers (a ∷ more)) && tree_leads word t
 tree_leads word (mid x k y) = tree_leads (is_cast_op k) x
 tree_leads word (post x k) = tree_leads (is_cast_op (post_op k)) x
 tree_leads word (tail b k ks) = tree_leads false b
@@ -183,7 +186,7 @@ abbrev mutual
   pub tree_brace : Bool → Tree → Bool
   tree_brace before (leaf k) = leaf_brace before k
   tree_brace before (paren m t) = false
-  tree_brace before (adorned a more t) = tree_brace false t
+  tree_brace before (adorned a more t) = tree_brace (is_nil (outers (a ∷ more)) && before) t
   tree_brace before (lead k gs t) = tree_brace (lead_brace k) t
   tree_brace before (mid x k y) = tree_brace false y
   tree_brace before (post x k) = post_brace k

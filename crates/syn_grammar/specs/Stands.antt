@@ -4,7 +4,7 @@ use Rattle.std.specs.Prelude.{◌≡◌, ℕ, Bool, true, false, not, ◌||◌, 
 use Rattle.std.specs.Str.{bytes_eq}
 use Rattle.syn_lexer.specs.declared.lexeme.Delimiter.TheVariants as del
 use Rattle.syn_lexer.specs.declared.lexeme.Delimiter.{Delimiter}
-use Rattle.syn_tokens.specs.Tok.{Tok, Inside, ident, literal, group, toks}
+use Rattle.syn_tokens.specs.Tok.{Tok, Inside, literal, group, toks}
 use Rattle.syn_tokens.specs.Front.{group_at, is_empty}
 use Rattle.syn_tokens.specs.Floats.{float_parts}
 use Rattle.syn_parts.specs.Text.{Text}

@@ -2,7 +2,7 @@
 -- closed at both ends (`leaf`), in parentheses, tokens before an operand (`lead`), tokens between two operands (`mid`),
 -- tokens behind an operand (`post`), a trailer with what it encloses (`tail`), operands in places of their own (`frame`);
 -- and a shape for attributes.
-use Rattle.std.specs.Prelude.{◌≡◌, ℕ, ◌+◌, Bool, true, false, not, ◌||◌, ◌&&◌, if◌then◌else◌, List, [], ◌∷◌, ◌++◌, codes, Option, Some, None}
+use Rattle.std.specs.Prelude.{◌≡◌, ℕ, ◌+◌, ◌-◌, Bool, true, false, not, ◌||◌, ◌&&◌, if◌then◌else◌, List, [], ◌∷◌, ◌++◌, length, take, codes, Option, Some, None}
 use Rattle.syn_lexer.specs.declared.lexeme.Delimiter.{Delimiter}
 use Rattle.syn_lexer.specs.declared.lexeme.Delimiter.TheVariants as del
 use Rattle.syn_tokens.specs.Tok.{Tok, ident}
@@ -19,7 +19,7 @@ use Rattle.syn_grammar.specs.declared.kinds.Infix.{Infix}
 use Rattle.syn_grammar.specs.declared.kinds.Infix.TheVariants as inf
 use Rattle.syn_grammar.specs.Op.{binary_text, limits_text, unary_text}
 
--- what stands in the braces of a block: inner attributes, and the tokens of its statements
+-- what stands in the braces of a block: attributes, of which the inner ones are spelled, and the tokens of its statements
 pub record Body : Type 0 where
   pub inner : List AttributeTree
   pub tokens : List Tok
@@ -164,17 +164,122 @@ abbrev pub adorn : List AttributeTree → Tree → Tree
 adorn [] t = t
 adorn (a ∷ more) t = adorned a more t
 
--- attributes before those that are there; a `Verbatim` has them as its first tokens
+-- ---- attributes (Rust Reference, "Expression attributes"): the outer ones stand before an expression; of blocks, loops and
+-- a `match` the inner ones stand first in the braces, and of all other kinds no inner one is printed
+
+-- the outer ones of these, and the inner ones, in their order
+abbrev pub outers : List AttributeTree → List AttributeTree
+outers [] = []
+outers (a ∷ more) = if a.inner then outers more else a ∷ outers more
+
+abbrev pub inners : List AttributeTree → List AttributeTree
+inners [] = []
+inners (a ∷ more) = if a.inner then a ∷ inners more else inners more
+
+-- those from the first inner one on
+abbrev pub from_inner : List AttributeTree → List AttributeTree
+from_inner [] = []
+from_inner (a ∷ more) = if a.inner then a ∷ more else from_inner more
+
+-- whether inner attributes stand in the braces of the node
+abbrev pub leaf_has_braces : Leaf → Bool
+leaf_has_braces (block label b) = true
+leaf_has_braces (looping label b) = true
+leaf_has_braces (unsafe_block b) = true
+leaf_has_braces (const_block b) = true
+leaf_has_braces _ = false
+
+abbrev pub frame_has_braces : Frame → Bool
+frame_has_braces (while_loop label) = true
+frame_has_braces (for_loop label p) = true
+frame_has_braces choice = true
+frame_has_braces _ = false
+
+abbrev pub has_braces : Tree → Bool
+has_braces (leaf k) = leaf_has_braces k
+has_braces (frame k ks) = frame_has_braces k
+has_braces _ = false
+
+-- the attributes in the braces: of its list those from the first inner one on, of which the inner ones are spelled there. The
+-- outer ones among them stand before the node too: so the tree keeps the order of the list.
+abbrev pub leaf_inner : Leaf → List AttributeTree
+leaf_inner (block label b) = b.inner
+leaf_inner (looping label b) = b.inner
+leaf_inner (unsafe_block b) = b.inner
+leaf_inner (const_block b) = b.inner
+leaf_inner _ = []
+
+abbrev pub kids_inner : Kids → List AttributeTree
+kids_inner none = []
+kids_inner (kid k (braced b) t ks) = b.inner
+kids_inner (kid k (opened ats) t ks) = ats
+kids_inner (kid k c t ks) = kids_inner ks
+
+abbrev pub frame_inner : Frame → Kids → List AttributeTree
+frame_inner k ks = if frame_has_braces k then kids_inner ks else []
+
+abbrev pub inner_in : Tree → List AttributeTree
+inner_in (leaf k) = leaf_inner k
+inner_in (frame k ks) = frame_inner k ks
+inner_in _ = []
+
+-- the node with these there instead; what has no such braces stays as it is
+abbrev pub body_of : List AttributeTree → List Tok → Body
+body_of ats ts = record { inner = ats; tokens = ts }
+
+abbrev pub leaf_with : List AttributeTree → Leaf → Leaf
+leaf_with ats (block label b) = block label (body_of ats b.tokens)
+leaf_with ats (looping label b) = looping label (body_of ats b.tokens)
+leaf_with ats (unsafe_block b) = unsafe_block (body_of ats b.tokens)
+leaf_with ats (const_block b) = const_block (body_of ats b.tokens)
+leaf_with ats k = k
+
+abbrev pub kids_with : List AttributeTree → Kids → Kids
+kids_with ats none = none
+kids_with ats (kid k (braced b) t ks) = kid k (braced (body_of ats b.tokens)) t ks
+kids_with ats (kid k (opened old) t ks) = kid k (opened ats) t ks
+kids_with ats (kid k c t ks) = kid k c t (kids_with ats ks)
+
+abbrev pub frame_with : List AttributeTree → Frame → Kids → Kids
+frame_with ats k ks = if frame_has_braces k then kids_with ats ks else ks
+
+abbrev pub with_inner : List AttributeTree → Tree → Tree
+with_inner ats (leaf k) = leaf (leaf_with ats k)
+with_inner ats (frame k ks) = frame k (frame_with ats k ks)
+with_inner ats t = t
+
+-- which of these attributes stand before the node
+abbrev pub outside : Tree → List AttributeTree → List AttributeTree
+outside t ats = if has_braces t then outers ats else ats
+
+-- without its last ones, as many as the others are
+abbrev pub but_last : List AttributeTree → List AttributeTree → List AttributeTree
+but_last others ats = take (length ats - length others) ats
+
+-- all attributes of t in the order of its list: those before the first inner one, then those from it on
+abbrev pub attributes_in : Tree → List AttributeTree
+attributes_in (adorned a more t) = but_last (outers (attributes_in t)) (a ∷ more) ++ attributes_in t
+attributes_in t = inner_in t
+
+-- t with these attributes in place of its own; kept tokens have none and take none
+abbrev pub with_attributes : List AttributeTree → Tree → Tree
+with_attributes ats (adorned a more t) = with_attributes ats t
+with_attributes ats (leaf (verbatim ts)) = leaf (verbatim ts)
+with_attributes ats t = adorn (outside t ats) (with_inner (from_inner ats) t)
+
+-- Attributes before those that t has, the inner ones in its braces too; kept tokens have the outer ones as their first
+-- tokens.
 abbrev pub prepend : List AttributeTree → Tree → Tree
-prepend more (adorned b bs t) = adorn (more ++ b ∷ bs) t
-prepend more (leaf (verbatim ts)) = leaf (verbatim (attributes_own more ts))
-prepend more t = adorn more t
+prepend more (adorned b bs t) = adorn (outside t more ++ b ∷ bs) (with_inner (inners more ++ inner_in t) t)
+prepend more (leaf (verbatim ts)) = leaf (verbatim (attributes_own (outers more) ts))
+prepend more t = adorn (outside t more) (with_inner (inners more ++ inner_in t) t)
 
 -- the block of these tokens, as it stands behind `else` and behind a closure's output
 abbrev pub plain_block : List Tok → Tree
 plain_block ts = leaf (block None (record { inner = []; tokens = ts }))
 
--- ---- the tree's own spelling: its tokens from left to right, the last punct of each token alone, before the tokens r
+-- ---- the tree's own spelling: its tokens from left to right, the last punct of each token alone, before the tokens r. Of the
+-- attributes before a node and before a field the outer ones are spelled; of an arm all are.
 
 abbrev pub sign_before : Text → List Tok → List Tok
 sign_before text r = sign_toks text ++ r
@@ -186,7 +291,7 @@ abbrev pub label_own : Option Text → List Tok → List Tok
 label_own label r = before_some label (λ w l. lifetime_own w (alone 58 ∷ l)) r
 
 abbrev pub body_own : Body → List Tok → List Tok
-body_own b r = enclosed del.Brace (attributes_own b.inner b.tokens) r
+body_own b r = enclosed del.Brace (attributes_own (inners b.inner) b.tokens) r
 
 abbrev pub jump_own : Jump → List Tok → List Tok
 jump_own returning r = ident (codes "return") ∷ r
@@ -274,7 +379,7 @@ enclosure invisible = Some (record { delimiter = del.None; head = []; ending = [
 enclosure _ = None
 
 abbrev pub piece_own : Piece → List Tok → List Tok
-piece_own (field_value ats m colon) r = attributes_own ats (member_own m (before_if colon (λ l. alone 58 ∷ l) r))
+piece_own (field_value ats m colon) r = attributes_own (outers ats) (member_own m (before_if colon (λ l. alone 58 ∷ l) r))
 piece_own (rest dots) r = before_if dots (λ l. joint 46 ∷ alone 46 ∷ l) r
 piece_own chained r = ident (codes "else") ∷ r
 piece_own (guard ats p) r = attributes_own ats (pat_own p (ident (codes "if") ∷ r))
@@ -302,7 +407,7 @@ abbrev pub ending_own : Piece → Ending → List Tok → List Tok → List Tok
 ending_own k no_ending others r = before_if (is_repeated k) (λ l. alone 59 ∷ l) others
 ending_own k comma others r = alone 44 ∷ others
 ending_own k (braced b) others r = body_own b others
-ending_own k (opened ats) others r = enclosed del.Brace (attributes_own ats others) r
+ending_own k (opened ats) others r = enclosed del.Brace (attributes_own (inners ats) others) r
 
 abbrev pub framed : Frame → Option Enclosure → List Tok → List Tok → List Tok
 framed k None operands r = frame_own k operands
@@ -317,7 +422,7 @@ abbrev mutual
   pub own : Tree → List Tok → List Tok
   own (leaf k) r = leaf_own k r
   own (paren m t) r = enclosed del.Parenthesis (own t []) r
-  own (adorned a more t) r = attributes_own (a ∷ more) (own t r)
+  own (adorned a more t) r = attributes_own (outers (a ∷ more)) (own t r)
   own (lead k gs t) r = lead_own k (own t r)
   own (mid x k y) r = own x (infix_own k (own y r))
   own (post x k) r = own x (post_own k r)
@@ -351,7 +456,8 @@ abbrev mutual
   clear_kids none = none
   clear_kids (kid k e t ks) = kid k e (clear t) (clear_kids ks)
 
--- Parentheses are removed everywhere; their attributes come before those of what they held.
+-- Parentheses are removed everywhere; their attributes come before those of what they held, inner ones in the braces that
+-- this has.
 abbrev mutual
   pub flatten : Tree → Tree
   flatten (leaf k) = leaf k

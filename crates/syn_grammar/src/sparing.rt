@@ -8,8 +8,8 @@ pub fn none_needlessly()
     ensures { NoneNeedlessly }
 {}
 
-/// Whatever list of tokens a tree stands for in plain position, it is printed as its own spelling, if no operation in it has
-/// attributes.
+/// Whatever list of tokens a tree stands for in plain position, it is printed there as it is, but for one pair of parentheses
+/// round each operation that has attributes. So a tree without such operations is printed as its own spelling.
 pub fn own_spelling()
     ensures { OwnSpelling }
 {}

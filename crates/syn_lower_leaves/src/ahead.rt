@@ -10,9 +10,10 @@ use syn_tokens::error::Result;
 
 /// A part that is read by a form.
 pub trait ReadByForm {
-    ghost use Rattle.std.specs.Prelude.{ℕ};
+    ghost use Rattle.std.specs.Prelude.{List, ℕ};
     ghost use Rattle.syn_lower_leaves.specs.Reads.{Reads};
     ghost use Rattle.syn_parts.specs.Form.{Form};
+    ghost use Rattle.syn_tokens.specs.Tok.{Tok};
     ghost use Rattle.syn_tokens.specs.declared.error.ErrorKind.{ErrorKind};
 
     /// What contracts see of a value.
@@ -25,14 +26,14 @@ pub trait ReadByForm {
     /// What a read takes at least, in weight.
     ghost least: { ℕ } = { 1 };
 
-    /// What a read may be refused as.
-    ghost refuses: { ErrorKind → Type 0 } = { λ _. Unit {0} };
+    /// `refuses list kind`: what a read of the list may be refused as.
+    ghost refuses: { List Tok → ErrorKind → Type 0 } = { λ _ _. Unit {0} };
 
     /// Reads a value. Where it is refused, tokens may have been passed over.
     fn read(input: &mut ParseBuffer<'_>) -> Result<Self>
         ensures value { Reads seen (form.reads input.old.rest) result input.new.rest }
         ensures noted { input.new.noted ≡ input.old.noted }
-        ensures refused { IfErr result (λ e. refuses e.kind) };
+        ensures refused { IfErr result (λ e. refuses input.old.rest e.kind) };
 }
 
 /// Reads a part on a fork, so that the input stays where it was where the part is refused.
@@ -44,7 +45,7 @@ pub fn ahead<T: ReadByForm>(input: &mut ParseBuffer<'_>) -> Result<T>
     ensures noted { input.new.noted ≡ input.old.noted }
     ensures stays { IfErr result (λ _. input.new ≡ input.old) }
     ensures moves { IfOk result (λ v. T.least + weight input.new.rest ≤ weight input.old.rest) }
-    ensures refused { IfErr result (λ e. T.refuses e.kind) }
+    ensures refused { IfErr result (λ e. T.refuses input.old.rest e.kind) }
 {
     let mut ahead = input.fork()?;
     let x = T::read(&mut ahead)?;

@@ -31,7 +31,7 @@ impl ReadByForm for Lifetime {
 
     ghost form = { part.lifetime };
 
-    ghost refuses = { λ k. (k ≡ OutOfMemory) ⊎ (k ≡ wanted_lifetime) };
+    ghost refuses = { λ _ k. (k ≡ OutOfMemory) ⊎ (k ≡ wanted_lifetime) };
 
     fn read(input: &mut ParseBuffer<'_>) -> Result<Self> {
         lifetime(input)
@@ -50,7 +50,7 @@ impl Parse for Lifetime {
 
     ghost least = { 1 };
 
-    ghost refuses = { λ k. (k ≡ OutOfMemory) ⊎ (k ≡ wanted_lifetime) };
+    ghost refuses = { λ _ k. (k ≡ OutOfMemory) ⊎ (k ≡ wanted_lifetime) };
 
     /// Reads a lifetime (Rust Reference, "Lifetimes and loop labels"); it is refused as `ExpectedToken` of a lifetime.
     fn parse(input: &mut ParseBuffer<'_>) -> Result<Self> {

@@ -3,9 +3,11 @@
 ghost use Rattle.std.specs.Prelude.{◌≡◌, ◌||◌};
 ghost use Rattle.syn_parts.specs.Mark as mark;
 ghost use Rattle.syn_parts.specs.Part as part;
+ghost use Rattle.syn_parts.specs.Pat as pat;
 ghost use Rattle.syn_tokens.specs.View.{toks_of};
 
 use syn_lexer::reserved::is_reserved_word;
+use syn_lower_leaves::text::is_segment;
 use syn_tokens::Spacing;
 use syn_tokens::buffer::{ParseBuffer, Token};
 use syn_tokens::token::{
@@ -144,4 +146,22 @@ pub fn fn_at(input: &ParseBuffer<'_>) -> bool
         || input.peek::<Unsafe>()
         || input.peek::<Extern>()
         || input.peek::<token::Fn>()
+}
+
+/// Whether the word of a path's segment stands first.
+fn segment_at(input: &ParseBuffer<'_>) -> bool
+    ensures { result ≡ pat.begins_segment input.now.rest }
+{
+    match input.first() {
+        Some(TokenTree::Ident(word)) => is_segment(word.as_str()),
+        _ => false,
+    }
+}
+
+/// Whether a path begins, qualified by a type or not: the word of a segment stands first, `::` or `<`.
+#[tactic(auto, unfolding(syn_tokens::specs::Sign::sign_text, syn_parts::specs::Mark::sign_at))]
+pub fn path_at(input: &ParseBuffer<'_>) -> bool
+    ensures { result ≡ (pat.begins_segment input.now.rest || (mark.colon2.at input.now.rest || mark.less.at input.now.rest)) }
+{
+    segment_at(input) || input.peek::<PathSep>() || input.peek::<Lt>()
 }

@@ -1,2 +1,3 @@
+pub mod Absent
 pub mod Loops
 pub mod QPaths

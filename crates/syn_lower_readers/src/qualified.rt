@@ -20,11 +20,11 @@ use syn_lower_generic::ty::{TypeMacroOf, TypePathOf};
 use syn_lower_generic::types::{HasTree, IsType};
 use syn_lower_leaves::front;
 use syn_lower_leaves::kept::any_group;
-use syn_lower_lists::front::fn_at;
+use syn_lower_lists::front::{fn_at, path_at};
 use syn_lower_lists::punctuated::Punctuated;
 use syn_parts::label::PathStyle;
 use syn_tokens::buffer::ParseBuffer;
-use syn_tokens::error::{ErrorKind, Expected, Result};
+use syn_tokens::error::{ErrorKind, Expected, Part, Result};
 use syn_tokens::token::{As, Bracket, Gt, Lt, Not, Paren, PathSep};
 use syn_tokens::tree::TokenStream;
 
@@ -245,8 +245,8 @@ impl<T: IsType + Drop, F: Fn(&mut ParseBuffer<'_>, bool) -> Result<Box<T>>> Gram
         Ok(boxed(input.alloc(), path_or_macro(qself, path, end))?)
     }
 
-    /// Reads a type that begins with a word, `::` or `<`.
-    #[tactic(auto)]
+    /// Reads a type that begins with a word, `::` or `<`. Where none does, it is refused as `ExpectedPart` of a type.
+    #[tactic(auto, using(crate::proofs::Absent::types))]
     fn at_word(&self, input: &mut ParseBuffer<'_>, several: bool) -> Result<Box<T>>
         requires callable { Callable (weight input.old.rest) (F.pre self.now.ty) }
         requires reads { ReadsType T.tree (F.post self.now.ty) }
@@ -263,7 +263,10 @@ impl<T: IsType + Drop, F: Fn(&mut ParseBuffer<'_>, bool) -> Result<Box<T>>> Gram
         if let Some(dyn_token) = front::dynamic(input) {
             return self.object(input, dyn_token, several);
         }
-        self.named(input)
+        if path_at(input) {
+            return self.named(input);
+        }
+        Err(input.error(ErrorKind::ExpectedPart(Part::Type)))
     }
 
     /// Reads a type; behind its `impl` or `dyn` several bounds may stand, or one.

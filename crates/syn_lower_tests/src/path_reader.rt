@@ -29,7 +29,7 @@ _                 | 0..1 expected a path
 ::                | 2..2 expected a path
 a::               | 3..3 expected a path
 a::fn             | 3..5 expected a path
-a<                | 2..2 expected a path
+a<                | 2..2 expected a type
 a<b               | 3..3 expected `>`
 a(b c)            | 4..5 unexpected token
 <T>::a            | 0..1 expected a path
@@ -130,8 +130,8 @@ fn with_group<T: Parse + Drop>(alloc: Global, text: &str) -> Result<String, Erro
 }
 
 const BEFORE_GROUPS: &str = "
-    | 20..30 expected a path
-&   | 20..30 expected a path
+    | 20..30 expected a type
+&   | 20..30 expected a type
 a ! | 20..30 expected a macro
 a   | 20..30 unexpected token
 ";
@@ -169,7 +169,7 @@ Fn(A)                   | (A)
 <T>                     | 3..3 expected `::`
 <T as A                 | 7..7 expected `>`
 <T as A>::              | 10..10 expected a path
-<>::a                   | 1..2 expected a path
+<>::a                   | 1..2 expected a type
 1                       | 0..1 expected a path
 ";
 

@@ -43,13 +43,13 @@ Self<T>             |
 ! x                 | x
 != T                | = T
 _: T                | : T
-                    | 0..0 expected a path
-1                   | 0..1 expected a path
-?A                  | 0..1 expected a path
-'a                  | 0..1 expected a path
+                    | 0..0 expected a type
+1                   | 0..1 expected a type
+?A                  | 0..1 expected a type
+'a                  | 0..1 expected a type
 u8 < T              | 6..6 expected `>`
 u8 << T             | 7..7 expected `>`
-u8 <<= T            | 5..6 expected a path
+u8 <<= T            | 5..6 expected a type
 u8 <- T             | 4..5 expected a literal
 A::B::              | 6..6 expected a path
 A::fn               | 3..5 expected a path
@@ -58,27 +58,27 @@ Fn(A)::B            |
 super(A)            | (A)
 dyn 'a              |
 fn(self: A)         | 7..8 unexpected token
-fn(#[k] A)          | 3..4 expected a path
+fn(#[k] A)          | 3..4 expected a type
 A<B C>              | 4..5 expected `>`
-A<,>                | 2..3 expected a path
+A<,>                | 2..3 expected a type
 A(B C)              | 4..5 unexpected token
-A(B) ->             | 7..7 expected a path
-&                   | 1..1 expected a path
-&'a                 | 3..3 expected a path
+A(B) ->             | 7..7 expected a type
+&                   | 1..1 expected a type
+&'a                 | 3..3 expected a type
 *T                  | 1..2 expected `mut` or `const`
-[]                  | 1..2 expected a path
+[]                  | 1..2 expected a type
 [T;]                | 3..4 expected an expression
 [T, U]              | 2..3 unexpected token
 (A B)               | 3..4 unexpected token
-(,)                 | 1..2 expected a path
+(,)                 | 1..2 expected a type
 fn A                | 3..4 expected `(`
 fn(A B)             | 5..6 unexpected token
 unsafe T            | 7..8 expected `fn`
 extern "C"          | 10..10 expected `fn`
 extern 1 fn()       | 7..8 expected `fn`
 for<'a> A           | 8..9 expected `fn`
-for A               | 0..3 expected a path
-for<a> fn()         | 0..3 expected a path
+for A               | 0..3 expected a type
+for<a> fn()         | 0..3 expected a type
 impl                | 4..4 expected a path
 dyn A +             | 7..7 expected a path
 dyn A += B          | 7..8 expected a path
@@ -88,6 +88,16 @@ a! b                | 3..4 expected a macro
 <T>                 | 3..3 expected `::`
 <T as>::a           | 5..6 expected a path
 <T>::               | 5..5 expected a path
++                   | 0..1 expected a type
+[+]                 | 1..2 expected a type
+A<+>                | 2..3 expected a type
+<+>::a              | 1..2 expected a type
+<T as +>::a         | 6..7 expected a path
+::+                 | 2..3 expected a path
+A::+                | 3..4 expected a path
+dyn +               | 4..5 expected a path
+fn                  | 2..2 expected `(`
+if                  | 0..2 expected a type
 "#;
 
 #[test]
@@ -102,8 +112,8 @@ const RETURN_TYPES: &str = "
 -> dyn A + B |
 T            | T
 - > T        | - > T
-->           | 2..2 expected a path
--> {}        | 3..5 expected a path
+->           | 2..2 expected a type
+-> {}        | 3..5 expected a type
 -> *T        | 4..5 expected `mut` or `const`
 ";
 
@@ -127,7 +137,7 @@ T                                    | 0..1 expected `<`
 <T                                   | 2..2 expected `>`
 <T U>                                | 3..4 expected `>`
 <A == B>                             | 3..4 expected `>`
-<T,,>                                | 3..4 expected a path
+<T,,>                                | 3..4 expected a type
 <-T>                                 | 1..2 expected a literal
 ";
 
@@ -151,8 +161,8 @@ const IN_PARENTHESES: &str = "
 A                      | 0..1 expected `(`
 [A]                    | 0..3 expected `(`
 (A B)                  | 3..4 unexpected token
-(,)                    | 1..2 expected a path
-() ->                  | 5..5 expected a path
+(,)                    | 1..2 expected a type
+() ->                  | 5..5 expected a type
 ";
 
 #[test]
@@ -176,11 +186,11 @@ A == B    | == B
 A => B    | => B
 A<B> = C  | = C
 dyn A + B |
-          | 0..0 expected a path
+          | 0..0 expected a type
 - x       | 0..1 expected a literal
 -true     | 0..1 expected a literal
-A =       | 3..3 expected a path
->         | 0..1 expected a path
+A =       | 3..3 expected a type
+>         | 0..1 expected a type
 "#;
 
 const ASSOC_TYPES: &str = "
@@ -194,7 +204,7 @@ A             | 1..1 expected `=`
 A == B        | 2..3 expected `=`
 A => B        | 2..3 expected `=`
 A<B> = C      | 1..2 expected `=`
-A =           | 3..3 expected a path
+A =           | 3..3 expected a type
 ";
 
 #[test]
@@ -231,10 +241,10 @@ a: T, b: U   | , b : U
 _: dyn A + B |
 a::b         |
 self: T      | : T
-             | 0..0 expected a path
-a:           | 2..2 expected a path
+             | 0..0 expected a type
+a:           | 2..2 expected a type
 fn: T        | 2..3 expected `(`
-a: 1         | 3..4 expected a path
+a: 1         | 3..4 expected a type
 ";
 
 #[test]
@@ -293,30 +303,30 @@ const REFERENCES: &str = "
 &'a mut dyn A + B | + B
 T                 | 0..1 expected a type
 *const T          | 0..1 expected a type
-1                 | 0..1 expected a path
-&                 | 1..1 expected a path
+1                 | 0..1 expected a type
+&                 | 1..1 expected a type
 ";
 
 const POINTERS: &str = "
 *const T x     | x
 *mut dyn A + B | + B
 &T             | 0..1 expected a type
-1              | 0..1 expected a path
+1              | 0..1 expected a type
 *T             | 1..2 expected `mut` or `const`
 ";
 
 const SLICES: &str = "
 [dyn A + B] x | x
 [T; 1]        | 0..6 expected a type
-1             | 0..1 expected a path
-[]            | 1..2 expected a path
+1             | 0..1 expected a type
+[]            | 1..2 expected a type
 ";
 
 const ARRAYS: &str = "
 [T; x.0.1] y | y
 [T; ;]       |
 [T]          | 0..3 expected a type
-1            | 0..1 expected a path
+1            | 0..1 expected a type
 [T;]         | 3..4 expected an expression
 ";
 
@@ -325,7 +335,7 @@ const TUPLES: &str = "
 (A,)     |
 (A, B) x | x
 (A)      | 0..3 expected a type
-1        | 0..1 expected a path
+1        | 0..1 expected a type
 (A B)    | 3..4 unexpected token
 ";
 
@@ -334,7 +344,7 @@ const PARENS: &str = "
 (dyn A + B) |
 (A,)        | 0..4 expected a type
 ()          | 0..2 expected a type
-1           | 0..1 expected a path
+1           | 0..1 expected a type
 ";
 
 #[test]
@@ -351,15 +361,15 @@ fn types_around_one(rt: HostRuntime) -> Result<(), Fail> {
 const NEVERS: &str = "
 ! x | x
 _   | 0..1 expected a type
-1   | 0..1 expected a path
-    | 0..0 expected a path
+1   | 0..1 expected a type
+    | 0..0 expected a type
 ";
 
 const INFERRED: &str = "
 _ x | x
 !   | 0..1 expected a type
-1   | 0..1 expected a path
-    | 0..0 expected a path
+1   | 0..1 expected a type
+    | 0..0 expected a type
 ";
 
 const FN_POINTERS: &str = r#"
@@ -367,14 +377,14 @@ fn(a: u8) -> T x                       | x
 for<'a> unsafe extern "C" fn(_: A, B,) |
 extern fn() -> dyn A + B               | + B
 Fn()                                   | 0..2 expected a type
-1                                      | 0..1 expected a path
+1                                      | 0..1 expected a type
 unsafe                                 | 6..6 expected `fn`
 "#;
 
 const IMPL_TRAITS: &str = "
 impl A + 'a + ?B x | x
 dyn A              | 0..3 expected a type
-1                  | 0..1 expected a path
+1                  | 0..1 expected a type
 impl               | 4..4 expected a path
 impl A +           | 8..8 expected a path
 ";
@@ -383,7 +393,7 @@ const TRAIT_OBJECTS: &str = "
 dyn for<'a> A<'a> + B, c | , c
 impl A                   | 0..4 expected a type
 A                        | 0..1 expected a type
-1                        | 0..1 expected a path
+1                        | 0..1 expected a type
 dyn                      | 3..3 expected a path
 ";
 

@@ -96,7 +96,7 @@ impl Parse for RangeLimits {
 
     ghost least = { 2 };
 
-    ghost refuses = { λ kind. kind ≡ wanted_limits };
+    ghost refuses = { λ _ kind. kind ≡ wanted_limits };
 
     /// Takes `..` or `..=`, the longest token: `...` is none. Anything else is refused there as `ExpectedToken`, of these
     /// two, and nothing changes. It takes no memory.

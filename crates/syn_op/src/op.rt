@@ -219,7 +219,7 @@ impl Parse for BinOp {
 
     ghost least = { 1 };
 
-    ghost refuses = { λ kind. kind ≡ ExpectedBinaryOperator };
+    ghost refuses = { λ _ kind. kind ≡ ExpectedBinaryOperator };
 
     /// Takes the longest operator at the front. It is refused as `ExpectedBinaryOperator` where there is none, or one
     /// that is no variant, as `=`, `..` and `as`; `->`, `=>` and `<-` are none. It takes no memory.
@@ -246,7 +246,7 @@ impl Parse for UnOp {
 
     ghost least = { 1 };
 
-    ghost refuses = { λ kind. kind ≡ wanted_prefix };
+    ghost refuses = { λ _ kind. kind ≡ wanted_prefix };
 
     /// Takes `*`, `!` or `-`, one punct, joined to the next or not. It is refused as `ExpectedToken`, of these three,
     /// where none stands first. It takes no memory.

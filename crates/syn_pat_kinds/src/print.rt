@@ -2,7 +2,8 @@
 
 ghost use Rattle.std.specs.Prelude.{◌≡◌, ◌++◌, [], IfErr, OnOk, OnErr};
 ghost use Rattle.syn_lower_leaves.specs.ReadBack.{all_printed};
-ghost use Rattle.syn_pat_kinds.specs.Printed.{attributes_printed, binding_printed, sub_printed};
+ghost use Rattle.syn_lower_lists.specs.Printed.{pairs_printed};
+ghost use Rattle.syn_pat_kinds.specs.Printed.{attributes_printed, binding_printed, punctuated_printed, sub_printed};
 ghost use Rattle.syn_tokens.specs.Input.{IsFront};
 
 use crate::pat::{
@@ -11,12 +12,67 @@ use crate::pat::{
 };
 use syn_lower::attr::Attribute;
 use syn_lower::print_qpath;
+use syn_lower::punctuated::Punctuated;
 use syn_lower_generic::print::print_with_qself;
 use syn_lower_lists::print::print_some;
 use syn_tokens::buffer::ToTokens;
 use syn_tokens::error::{ErrorKind, Result};
 use syn_tokens::token::{At, Mut, Ref};
 use syn_tokens::tree::{Ident, TokenStream};
+
+/// The type of patterns, as what holds patterns prints them: without the guards in them.
+///
+/// A guard is an expression, and the printer of expressions prints patterns: so this prints none.
+pub trait PrintPat {
+    ghost use Rattle.syn_tokens.specs.Tok.{Tok};
+    ghost use Rattle.std.specs.Prelude.{◌≡◌, ◌++◌, OnOk, OnErr, IfErr, List};
+    ghost use Rattle.syn_tokens.specs.Input.{IsFront};
+    ghost use Rattle.syn_tokens.specs.declared.error.ErrorKind.TheVariants.{OutOfMemory};
+
+    /// The tokens of a pattern without its guards.
+    ghost spelled: { Self → List Tok };
+
+    /// Puts a pattern at the end, without the guards in it. Where memory runs out a part of it may follow what was there.
+    fn print_pat(&self, tokens: &mut TokenStream) -> Result<()>
+        ensures ok { OnOk result (tokens.new ≡ tokens.old ++ spelled self.now) }
+        ensures err { OnErr result (IsFront tokens.old tokens.new) }
+        ensures memory { IfErr result (λ e. e.kind ≡ OutOfMemory) };
+}
+
+/// Prints patterns with the puncts behind them.
+#[tactic(auto, using(syn_tokens::proofs::Fronts::fronts))]
+fn print_pairs<P: PrintPat, S: ToTokens>(
+    mut pairs: &[(P, S)],
+    tokens: &mut TokenStream,
+) -> Result<()>
+    ensures ok { OnOk result (tokens.new ≡ tokens.old ++ pairs_printed P.spelled S.printed pairs.entry.now) }
+    ensures err { OnErr result (IsFront tokens.old tokens.new) }
+    ensures memory { IfErr result (λ e. e.kind ≡ ErrorKind.OutOfMemory) }
+{
+    'pairs: while let [(pat, punct), more @ ..] = pairs {
+        pat.print_pat(tokens)?;
+        punct.to_tokens(tokens)?;
+        pairs = more;
+    }
+    Ok(())
+}
+
+/// Prints patterns and the puncts between them.
+#[tactic(auto, using(syn_tokens::proofs::Fronts::fronts), unfolding(syn_lower_lists::specs::Printed::punctuated_printed, syn_lower_lists::specs::Printed::option_printed))]
+fn print_pats<P: PrintPat, S: ToTokens>(
+    pats: &Punctuated<P, S>,
+    tokens: &mut TokenStream,
+) -> Result<()>
+    ensures ok { OnOk result (tokens.new ≡ tokens.old ++ punctuated_printed P.spelled S.printed pats.now) }
+    ensures err { OnErr result (IsFront tokens.old tokens.new) }
+    ensures memory { IfErr result (λ e. e.kind ≡ ErrorKind.OutOfMemory) }
+{
+    print_pairs(&pats.inner, tokens)?;
+    match &pats.last {
+        Some(pat) => pat.print_pat(tokens),
+        None => Ok(()),
+    }
+}
 
 /// Prints attributes, one behind another. It is refused as `OutOfMemory` alone, and the tokens that were there then stay in
 /// front.
@@ -162,22 +218,22 @@ pub(crate) fn print_binding(
 
 /// Prints `@` and a pattern, where they are there.
 #[tactic(auto, using(syn_tokens::proofs::Fronts::fronts), unfolding(syn_tokens::specs::Sign::sign_text))]
-fn print_sub<P: ToTokens>(subpat: &Option<(At, Box<P>)>, tokens: &mut TokenStream) -> Result<()>
-    ensures ok { OnOk result (tokens.new ≡ tokens.old ++ sub_printed P.printed subpat.now) }
+fn print_sub<P: PrintPat>(subpat: &Option<(At, Box<P>)>, tokens: &mut TokenStream) -> Result<()>
+    ensures ok { OnOk result (tokens.new ≡ tokens.old ++ sub_printed P.spelled subpat.now) }
     ensures err { OnErr result (IsFront tokens.old tokens.new) }
     ensures memory { IfErr result (λ e. e.kind ≡ ErrorKind.OutOfMemory) }
 {
     if let Some((at, pat)) = subpat {
         at.to_tokens(tokens)?;
-        pat.to_tokens(tokens)?;
+        pat.print_pat(tokens)?;
     }
     Ok(())
 }
 
-impl<P: ToTokens> ToTokens for PatIdentOf<P> {
+impl<P: PrintPat> ToTokens for PatIdentOf<P> {
     ghost use Rattle.syn_pat_kinds.specs.Printed.{ident_printed};
 
-    ghost printed = { ident_printed P.printed };
+    ghost printed = { ident_printed P.spelled };
 
     #[tactic(auto, using(syn_tokens::proofs::Fronts::fronts))]
     fn to_tokens(&self, tokens: &mut TokenStream) -> Result<()> {
@@ -187,103 +243,103 @@ impl<P: ToTokens> ToTokens for PatIdentOf<P> {
     }
 }
 
-impl<P: ToTokens> ToTokens for PatTupleStructOf<P> {
+impl<P: PrintPat> ToTokens for PatTupleStructOf<P> {
     ghost use Rattle.syn_pat_kinds.specs.Printed.{tuple_struct_printed};
 
-    ghost printed = { tuple_struct_printed P.printed };
+    ghost printed = { tuple_struct_printed P.spelled };
 
     #[tactic(auto, using(syn_tokens::proofs::Fronts::fronts), unfolding(syn_tokens::specs::Sign::sign_text))]
     fn to_tokens(&self, tokens: &mut TokenStream) -> Result<()> {
         print_attributes(&self.attrs, tokens)?;
         self.path.to_tokens(tokens)?;
         let mut inside = TokenStream::new(tokens.alloc());
-        self.elems.to_tokens(&mut inside)?;
+        print_pats(&self.elems, &mut inside)?;
         tokens.push(self.paren_token.enclose(inside))?;
         Ok(())
     }
 }
 
-impl<P: ToTokens> ToTokens for PatTupleOf<P> {
+impl<P: PrintPat> ToTokens for PatTupleOf<P> {
     ghost use Rattle.syn_pat_kinds.specs.Printed.{tuple_printed};
 
-    ghost printed = { tuple_printed P.printed };
+    ghost printed = { tuple_printed P.spelled };
 
     #[tactic(auto, using(syn_tokens::proofs::Fronts::fronts), unfolding(syn_tokens::specs::Sign::sign_text))]
     fn to_tokens(&self, tokens: &mut TokenStream) -> Result<()> {
         print_attributes(&self.attrs, tokens)?;
         let mut inside = TokenStream::new(tokens.alloc());
-        self.elems.to_tokens(&mut inside)?;
+        print_pats(&self.elems, &mut inside)?;
         tokens.push(self.paren_token.enclose(inside))?;
         Ok(())
     }
 }
 
-impl<P: ToTokens> ToTokens for PatParenOf<P> {
+impl<P: PrintPat> ToTokens for PatParenOf<P> {
     ghost use Rattle.syn_pat_kinds.specs.Printed.{paren_printed};
 
-    ghost printed = { paren_printed P.printed };
+    ghost printed = { paren_printed P.spelled };
 
     #[tactic(auto, using(syn_tokens::proofs::Fronts::fronts))]
     fn to_tokens(&self, tokens: &mut TokenStream) -> Result<()> {
         print_attributes(&self.attrs, tokens)?;
         let mut inside = TokenStream::new(tokens.alloc());
-        self.pat.to_tokens(&mut inside)?;
+        self.pat.print_pat(&mut inside)?;
         tokens.push(self.paren_token.enclose(inside))?;
         Ok(())
     }
 }
 
-impl<P: ToTokens> ToTokens for PatSliceOf<P> {
+impl<P: PrintPat> ToTokens for PatSliceOf<P> {
     ghost use Rattle.syn_pat_kinds.specs.Printed.{slice_printed};
 
-    ghost printed = { slice_printed P.printed };
+    ghost printed = { slice_printed P.spelled };
 
     #[tactic(auto, using(syn_tokens::proofs::Fronts::fronts), unfolding(syn_tokens::specs::Sign::sign_text))]
     fn to_tokens(&self, tokens: &mut TokenStream) -> Result<()> {
         print_attributes(&self.attrs, tokens)?;
         let mut inside = TokenStream::new(tokens.alloc());
-        self.elems.to_tokens(&mut inside)?;
+        print_pats(&self.elems, &mut inside)?;
         tokens.push(self.bracket_token.enclose(inside))?;
         Ok(())
     }
 }
 
-impl<P: ToTokens> ToTokens for PatReferenceOf<P> {
+impl<P: PrintPat> ToTokens for PatReferenceOf<P> {
     ghost use Rattle.syn_pat_kinds.specs.Printed.{reference_printed};
 
-    ghost printed = { reference_printed P.printed };
+    ghost printed = { reference_printed P.spelled };
 
     #[tactic(auto, using(syn_tokens::proofs::Fronts::fronts), unfolding(syn_tokens::specs::Sign::sign_text, syn_tokens::specs::Sign::word_text))]
     fn to_tokens(&self, tokens: &mut TokenStream) -> Result<()> {
         print_attributes(&self.attrs, tokens)?;
         self.and_token.to_tokens(tokens)?;
         print_some(&self.mutability, tokens)?;
-        self.pat.to_tokens(tokens)
+        self.pat.print_pat(tokens)
     }
 }
 
-impl<P: ToTokens> ToTokens for PatOrOf<P> {
+impl<P: PrintPat> ToTokens for PatOrOf<P> {
     ghost use Rattle.syn_pat_kinds.specs.Printed.{or_printed};
 
-    ghost printed = { or_printed P.printed };
+    ghost printed = { or_printed P.spelled };
 
     #[tactic(auto, using(syn_tokens::proofs::Fronts::fronts), unfolding(syn_tokens::specs::Sign::sign_text))]
     fn to_tokens(&self, tokens: &mut TokenStream) -> Result<()> {
         print_attributes(&self.attrs, tokens)?;
         print_some(&self.leading_vert, tokens)?;
-        self.cases.to_tokens(tokens)
+        print_pats(&self.cases, tokens)
     }
 }
 
-impl<P: ToTokens> ToTokens for PatTypeOf<P> {
+impl<P: PrintPat> ToTokens for PatTypeOf<P> {
     ghost use Rattle.syn_pat_kinds.specs.Printed.{typed_printed};
 
-    ghost printed = { typed_printed P.printed };
+    ghost printed = { typed_printed P.spelled };
 
     #[tactic(auto, using(syn_tokens::proofs::Fronts::fronts), unfolding(syn_tokens::specs::Sign::sign_text))]
     fn to_tokens(&self, tokens: &mut TokenStream) -> Result<()> {
         print_attributes(&self.attrs, tokens)?;
-        self.pat.to_tokens(tokens)?;
+        self.pat.print_pat(tokens)?;
         self.colon_token.to_tokens(tokens)?;
         self.ty.to_tokens(tokens)
     }

@@ -1,7 +1,7 @@
 //! The printers of struct patterns and their fields.
 
 use crate::pat::{FieldPatKindOf, FieldPatOf, FullFieldPatOf, PatStructOf, ShortFieldPat};
-use crate::print::{print_attributes, print_binding};
+use crate::print::{PrintPat, print_attributes, print_binding};
 use syn_lower_lists::print::print_some;
 use syn_tokens::buffer::ToTokens;
 use syn_tokens::error::Result;
@@ -17,23 +17,23 @@ impl ToTokens for ShortFieldPat {
     }
 }
 
-impl<P: ToTokens> ToTokens for FullFieldPatOf<P> {
+impl<P: PrintPat> ToTokens for FullFieldPatOf<P> {
     ghost use Rattle.syn_pat_kinds.specs.Printed.{full_printed};
 
-    ghost printed = { full_printed P.printed };
+    ghost printed = { full_printed P.spelled };
 
     #[tactic(auto, using(syn_tokens::proofs::Fronts::fronts), unfolding(syn_tokens::specs::Sign::sign_text))]
     fn to_tokens(&self, tokens: &mut TokenStream) -> Result<()> {
         self.member.to_tokens(tokens)?;
         self.colon_token.to_tokens(tokens)?;
-        self.pat.to_tokens(tokens)
+        self.pat.print_pat(tokens)
     }
 }
 
-impl<P: ToTokens> ToTokens for FieldPatKindOf<P> {
+impl<P: PrintPat> ToTokens for FieldPatKindOf<P> {
     ghost use Rattle.syn_pat_kinds.specs.Printed.{kind_printed};
 
-    ghost printed = { kind_printed P.printed };
+    ghost printed = { kind_printed P.spelled };
 
     fn to_tokens(&self, tokens: &mut TokenStream) -> Result<()> {
         match self {
@@ -43,10 +43,10 @@ impl<P: ToTokens> ToTokens for FieldPatKindOf<P> {
     }
 }
 
-impl<P: ToTokens> ToTokens for FieldPatOf<P> {
+impl<P: PrintPat> ToTokens for FieldPatOf<P> {
     ghost use Rattle.syn_pat_kinds.specs.Printed.{field_printed};
 
-    ghost printed = { field_printed P.printed };
+    ghost printed = { field_printed P.spelled };
 
     #[tactic(auto, using(syn_tokens::proofs::Fronts::fronts))]
     fn to_tokens(&self, tokens: &mut TokenStream) -> Result<()> {
@@ -55,10 +55,10 @@ impl<P: ToTokens> ToTokens for FieldPatOf<P> {
     }
 }
 
-impl<P: ToTokens> ToTokens for PatStructOf<P> {
+impl<P: PrintPat> ToTokens for PatStructOf<P> {
     ghost use Rattle.syn_pat_kinds.specs.Printed.{struct_printed};
 
-    ghost printed = { struct_printed P.printed };
+    ghost printed = { struct_printed P.spelled };
 
     #[tactic(auto, using(syn_tokens::proofs::Fronts::fronts), unfolding(syn_tokens::specs::Sign::sign_text))]
     fn to_tokens(&self, tokens: &mut TokenStream) -> Result<()> {

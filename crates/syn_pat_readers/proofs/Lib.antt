@@ -1,3 +1,4 @@
+pub mod Absent
 pub mod Loops
 pub mod Args
 pub mod Paths

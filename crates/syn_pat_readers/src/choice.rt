@@ -17,11 +17,12 @@ use std::alloc::Global;
 use syn_lower::readers::ty;
 use syn_lower_leaves::front;
 use syn_lower_leaves::kept::outer_attributes;
+use syn_lower_lists::front::path_at;
 use syn_lower_lists::punctuated::Punctuated;
 use syn_pat_kinds::kinds::IsPat;
 use syn_pat_kinds::pat::{PatOrOf, PatTypeOf};
 use syn_tokens::buffer::ParseBuffer;
-use syn_tokens::error::Result;
+use syn_tokens::error::{ErrorKind, Part, Result};
 use syn_tokens::token::{Bracket, Or, Paren};
 
 /// The only pattern of these, where no `|` was read; else they are alternatives.
@@ -53,8 +54,9 @@ fn alternatives<P: IsPat + Drop>(
 }
 
 impl<P: ReadPat + Drop, F: Fn(&mut ParseBuffer<'_>, bool) -> Result<P>> Grammar<F> {
-    /// Reads a single pattern that begins with neither a sign of its own, a word nor a group.
-    #[tactic(auto)]
+    /// Reads a single pattern that begins with neither a sign of its own, a word nor a group. Where none does, it is refused as
+    /// `ExpectedPart` of a pattern.
+    #[tactic(auto, using(crate::proofs::Absent::patterns))]
     fn at_operand(&self, input: &mut ParseBuffer<'_>) -> Result<P>
         requires callable { Callable (weight input.old.rest) (F.pre self.now.pat) }
         requires reads { ReadsPat P.view (F.post self.now.pat) }
@@ -72,7 +74,10 @@ impl<P: ReadPat + Drop, F: Fn(&mut ParseBuffer<'_>, bool) -> Result<P>> Grammar<
         if first::binding_at(input) {
             return self.binding(input);
         }
-        self.path(input)
+        if path_at(input) {
+            return self.path(input);
+        }
+        Err(input.error(ErrorKind::ExpectedPart(Part::Pattern)))
     }
 
     /// Reads a single pattern, as what stands first says.

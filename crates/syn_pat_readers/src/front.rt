@@ -11,11 +11,12 @@ ghost use Rattle.syn_tokens.specs.View.{toks_of};
 
 use syn_lexer::reserved::is_reserved_word;
 use syn_lower_leaves::front::sign;
-use syn_lower_leaves::text::{is_number, is_segment, is_truth};
+use syn_lower_leaves::text::{is_number, is_truth};
+use syn_lower_lists::front::path_at;
 use syn_tokens::buffer::{ParseBuffer, Token};
 use syn_tokens::token::{
-    At, Brace, Colon, DotDot, DotDotDot, DotDotEq, Lt, Mut, Ne, Not, Or, OrEq, OrOr, Paren,
-    PathSep, Ref, Sign, Word,
+    At, Brace, Colon, DotDot, DotDotDot, DotDotEq, Mut, Ne, Not, Or, OrEq, OrOr, Paren, PathSep,
+    Ref, Sign, Word,
 };
 use syn_tokens::tree::TokenTree;
 
@@ -130,22 +131,12 @@ fn begins_lit(input: &ParseBuffer<'_>) -> bool
     }
 }
 
-/// Whether the word of a path's segment stands first.
-fn begins_segment(input: &ParseBuffer<'_>) -> bool
-    ensures { result ≡ pat.begins_segment input.now.rest }
-{
-    match input.first() {
-        Some(TokenTree::Ident(word)) => is_segment(word.as_str()),
-        _ => false,
-    }
-}
-
 /// Whether the bound of a range begins: a literal, or a path.
-#[tactic(auto, unfolding(syn_tokens::specs::Sign::sign_text, syn_parts::specs::Mark::sign_at, syn_parts::specs::Pat::bound_at))]
+#[tactic(auto, unfolding(syn_parts::specs::Pat::bound_at))]
 pub fn bound_at(input: &ParseBuffer<'_>) -> bool
     ensures { result ≡ pat.bound_at input.now.rest }
 {
-    begins_lit(input) || begins_segment(input) || input.peek::<PathSep>() || input.peek::<Lt>()
+    begins_lit(input) || path_at(input)
 }
 
 /// Whether a path, a macro, a struct or a range goes on behind a name.

@@ -83,6 +83,6 @@ abbrev pub IsLeftAt : {A : Type 0} → (A → List Tok → Type 0) → List Tok 
 IsLeftAt spells rest (Some s) place = place ≡ s
 IsLeftAt {A} spells rest None place = (s : A) × spells s rest × (is_empty rest ≡ false)
 
--- A whole list is refused: as its reader refuses it, or at a token that the reader left over.
+-- A whole list is refused: as its reader refuses it, or at a token that the reader left over, with a note that it may make.
 abbrev pub IsRefused : {A : Type 0} → (ErrorKind → Type 0) → (A → List Tok → Type 0) → (Input → Type 0) → Error → Type 0
-IsRefused refuses spells leaves e = refuses e.kind ⊎ ((e.kind ≡ UnexpectedToken) × ((i : Input) × leaves i × IsLeftAt spells i.rest i.noted e.span))
+IsRefused refuses spells notes e = refuses e.kind ⊎ ((e.kind ≡ UnexpectedToken) × ((i : Input) × notes i × IsLeftAt spells i.rest i.noted e.span))

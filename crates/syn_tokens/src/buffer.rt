@@ -72,11 +72,12 @@ pub trait Parse {
     /// What a read takes at least, in weight.
     ghost least: { ℕ };
 
-    /// What a read may be refused as.
-    ghost refuses: { ErrorKind → Type 0 } = { λ _. Unit {0} };
+    /// `refuses list kind`: what a read of the list may be refused as.
+    ghost refuses: { List Tok → ErrorKind → Type 0 } = { λ _ _. Unit {0} };
 
-    /// `leaves list input`: what a read that answers may leave of the list, with the note that it may make.
-    ghost leaves: { List Tok → Input → Type 0 } = { λ _ _. Unit {0} };
+    /// `notes before after`: what a read that answers may do to the note. It leaves the note as it was, but for a type that
+    /// says otherwise. A reader that closes a group with tokens left in it notes the first of these.
+    ghost notes: { Input → Input → Type 0 } = { λ before after. after.noted ≡ before.noted };
 
     /// `stays before after`: where a refusal leaves the input. That is where it was, but for a type that says otherwise.
     ghost stays: { Input → Input → Type 0 } = { λ before after. after ≡ before };
@@ -91,8 +92,8 @@ pub trait Parse {
         ensures found { (s : Seen) (rest : List Tok) → input.old.noted ≡ None → spells input.old.rest s rest → Reaches seen s rest result input.new }
         ensures after { IsAfter input.old input.new }
         ensures moves { IfOk result (λ v. least + weight input.new.rest ≤ weight input.old.rest) }
-        ensures refused { IfErr result (λ e. refuses e.kind) }
-        ensures leaves { IfOk result (λ v. leaves input.old.rest input.new) }
+        ensures refused { IfErr result (λ e. refuses input.old.rest e.kind) }
+        ensures notes { IfOk result (λ _. notes input.old input.new) }
         ensures stays { IfErr result (λ _. stays input.old input.new) };
 }
 
@@ -302,8 +303,8 @@ impl<'a> ParseBuffer<'a> {
         ensures found { (s : T.Seen) (rest : List Tok) → self.old.noted ≡ None → T.spells self.old.rest s rest → Reaches T.seen s rest result self.new }
         ensures after { IsAfter self.old self.new }
         ensures moves { IfOk result (λ v. T.least + weight self.new.rest ≤ weight self.old.rest) }
-        ensures refused { IfErr result (λ e. T.refuses e.kind) }
-        ensures leaves { IfOk result (λ v. T.leaves self.old.rest self.new) }
+        ensures refused { IfErr result (λ e. T.refuses self.old.rest e.kind) }
+        ensures notes { IfOk result (λ _. T.notes self.old self.new) }
         ensures stays { IfErr result (λ _. T.stays self.old self.new) }
     {
         T::parse(self)

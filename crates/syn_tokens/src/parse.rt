@@ -39,7 +39,7 @@ impl Parse for Ident {
 
     ghost least = { 1 };
 
-    ghost refuses = { λ k. (k ≡ kind.OutOfMemory) ⊎ (k ≡ kind.ExpectedToken (expected.One wanted.Identifier)) };
+    ghost refuses = { λ _ k. (k ≡ kind.OutOfMemory) ⊎ (k ≡ kind.ExpectedToken (expected.One wanted.Identifier)) };
 
     /// Takes a word that is not reserved, raw or not (Rust Reference, "Identifiers"). Anything else is refused at that
     /// token as `ExpectedToken`, an identifier; and `OutOfMemory` comes, since the word is copied.
@@ -100,7 +100,7 @@ impl Parse for Literal {
 
     ghost least = { 1 };
 
-    ghost refuses = { λ k. (k ≡ kind.OutOfMemory) ⊎ (k ≡ kind.ExpectedPart part.Literal) };
+    ghost refuses = { λ _ k. (k ≡ kind.OutOfMemory) ⊎ (k ≡ kind.ExpectedPart part.Literal) };
 
     /// Takes a literal token (Rust Reference, "Literal expressions"), no sign, `true` or `false`. Anything else is
     /// refused at that token as `ExpectedPart`, a literal; and `OutOfMemory` comes, since the literal is copied.
@@ -136,7 +136,7 @@ impl Parse for TokenTree {
 
     ghost least = { 1 };
 
-    ghost refuses = { λ k. (k ≡ kind.OutOfMemory) ⊎ (k ≡ kind.UnexpectedToken) };
+    ghost refuses = { λ _ k. (k ≡ kind.OutOfMemory) ⊎ (k ≡ kind.UnexpectedToken) };
 
     /// Takes the next token or group. The end is refused as `UnexpectedToken`; and `OutOfMemory` comes, since the tree is
     /// copied.
@@ -172,7 +172,7 @@ impl Parse for TokenStream {
 
     ghost least = { 0 };
 
-    ghost refuses = { λ k. k ≡ kind.OutOfMemory };
+    ghost refuses = { λ _ k. k ≡ kind.OutOfMemory };
 
     /// Takes all that is left. It is refused only as `OutOfMemory`, since the trees are copied.
     fn parse(input: &mut ParseBuffer<'_>) -> Result<Self> {

@@ -225,7 +225,7 @@ impl<const N: usize, const K: usize> Parse for Sign<N, K> {
 
     ghost least = { 1 };
 
-    ghost refuses = { λ k. k ≡ kind.ExpectedToken (expected.One (wanted.Sign K)) };
+    ghost refuses = { λ _ k. k ≡ kind.ExpectedToken (expected.One (wanted.Sign K)) };
 
     /// Takes the sign: its puncts, each but the last joint to the next. Anything else is refused at that token as
     /// `ExpectedToken`, this sign. It takes no memory.
@@ -278,7 +278,7 @@ impl<const K: usize> Parse for Word<K> {
 
     ghost least = { 1 };
 
-    ghost refuses = { λ k. k ≡ kind.ExpectedToken (expected.One (wanted.Word K)) };
+    ghost refuses = { λ _ k. k ≡ kind.ExpectedToken (expected.One (wanted.Word K)) };
 
     /// Takes the word. Anything else is refused at that token as `ExpectedToken`, this word. It takes no memory.
     fn parse(input: &mut ParseBuffer<'_>) -> Result<Self> {
@@ -326,7 +326,7 @@ impl Parse for Underscore {
 
     ghost least = { 1 };
 
-    ghost refuses = { λ k. k ≡ kind.ExpectedToken (expected.One wanted.Underscore) };
+    ghost refuses = { λ _ k. k ≡ kind.ExpectedToken (expected.One wanted.Underscore) };
 
     /// Takes `_`. Anything else is refused at that token as `ExpectedToken`, `_`. It takes no memory.
     fn parse(input: &mut ParseBuffer<'_>) -> Result<Self> {

@@ -1,7 +1,7 @@
 //! Readers of whole lists and texts.
 
 ghost use Rattle.std.specs.Prelude.{◌≡◌, ◌⊎◌, [], List, chars, IfOk, IfErr};
-ghost use Rattle.syn_tokens.specs.Input.{Gives, IsRefused};
+ghost use Rattle.syn_tokens.specs.Input.{Gives, IsRefused, start_of};
 ghost use Rattle.syn_tokens.specs.Lex.{Spells, IsRefusedAs, refusal};
 ghost use Rattle.syn_tokens.specs.Tok.{Tok};
 
@@ -19,7 +19,7 @@ pub fn parse2<T: Parse + Drop>(tokens: TokenStream) -> Result<T>
     // What the whole list spells is read, unless memory runs out.
     ensures found { (s : T.Seen) → T.spells tokens s [] → Gives T.seen s result }
     // It is refused as the reader of a `T` refuses it, or at the token that this left over.
-    ensures refused { IfErr result (λ e. IsRefused T.refuses (T.spells tokens) (T.leaves tokens) e) }
+    ensures refused { IfErr result (λ e. IsRefused (T.refuses tokens) (T.spells tokens) (T.notes (start_of tokens)) e) }
 {
     let mut input = match ParseBuffer::new(&tokens) {
         Ok(input) => input,
@@ -46,7 +46,7 @@ pub fn parse_str<T: Parse + Drop>(alloc: Global, text: &str) -> Result<T>
     // What the tokens of the text spell is read, unless memory runs out.
     ensures found { (s : T.Seen) (ts : List Tok) → Spells (chars text.now) ts → T.spells ts s [] → Gives T.seen s result }
     // It is refused as the text is, or where memory runs out, or as its tokens are.
-    ensures refused { IfErr result (λ e. (e.kind ≡ ErrorKind.OutOfMemory) ⊎ IsRefusedAs (refusal (chars text.now)) e.kind ⊎ ((ts : List Tok) × Spells (chars text.now) ts × IsRefused T.refuses (T.spells ts) (T.leaves ts) e)) }
+    ensures refused { IfErr result (λ e. (e.kind ≡ ErrorKind.OutOfMemory) ⊎ IsRefusedAs (refusal (chars text.now)) e.kind ⊎ ((ts : List Tok) × Spells (chars text.now) ts × IsRefused (T.refuses ts) (T.spells ts) (T.notes (start_of ts)) e)) }
 {
     match lex(alloc, text) {
         Ok(tokens) => parse2::<T>(tokens),

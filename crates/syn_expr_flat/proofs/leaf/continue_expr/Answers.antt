@@ -3,4 +3,4 @@ use Rattle.syn_expr_flat.proofs.Nodes.{at_node, leaf_flat}
 use Rattle.syn_expr_flat.proofs.leaf.continue_expr.Goals as goal
 
 pub returns : goal.returns
-returns c = at_node _ _ _ _ _ refl (λ o. c.in_ok-put_before.ensures.all) (λ o. leaf_flat _)
+returns c = at_node _ _ _ _ _ refl c.in_ok-put_before.ensures (leaf_flat _)

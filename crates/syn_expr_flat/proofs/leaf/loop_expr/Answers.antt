@@ -1,11 +1,10 @@
-use Rattle.std.proofs.Common.{refl, ap}
 use Rattle.syn_grammar.specs.Tree as e
-use Rattle.syn_grammar.specs.Tree.{leaf}
+use Rattle.syn_grammar.specs.Tree.{body_of, leaf}
 use Rattle.syn_lower.specs.View.{mapped}
 use Rattle.syn_expr_parts.specs.View.{label_of}
-use Rattle.syn_expr_kinds.specs.View.{body_of}
-use Rattle.syn_expr_flat.proofs.Nodes.{at_node, leaf_flat, same_flat}
+use Rattle.syn_expr_flat.proofs.Braced.{at_braces, loop_braced}
+use Rattle.syn_expr_flat.proofs.Nodes.{leaf_flat}
 use Rattle.syn_expr_flat.proofs.leaf.loop_expr.Goals as goal
 
 pub returns : goal.returns
-returns c = at_node _ _ _ _ _ refl (λ o. c.in_ok-put_before.ensures.outer o) (λ o. same_flat _ _ _ (ap (λ l. leaf (e.looping (mapped label_of c.args.x.now.label) (body_of l c.args.x.now.body.stmts))) (c.in_ok-put_before.ensures.inner o)) (leaf_flat _))
+returns c = at_braces _ _ _ (λ l. leaf (e.looping (mapped label_of c.args.x.now.label) (body_of l c.args.x.now.body.stmts))) _ (loop_braced _ _) c.in_ok-put_around.ensures.outer c.in_ok-put_around.ensures.inner (leaf_flat _)

@@ -1,9 +1,8 @@
-use Rattle.std.proofs.Common.{refl, ap}
 use Rattle.syn_grammar.specs.Tree as e
-use Rattle.syn_grammar.specs.Tree.{leaf}
-use Rattle.syn_expr_kinds.specs.View.{body_of}
-use Rattle.syn_expr_flat.proofs.Nodes.{at_node, leaf_flat, same_flat}
+use Rattle.syn_grammar.specs.Tree.{body_of, leaf}
+use Rattle.syn_expr_flat.proofs.Braced.{at_braces, unsafe_braced}
+use Rattle.syn_expr_flat.proofs.Nodes.{leaf_flat}
 use Rattle.syn_expr_flat.proofs.leaf.unsafe_block.Goals as goal
 
 pub returns : goal.returns
-returns c = at_node _ _ _ _ _ refl (λ o. c.in_ok-put_before.ensures.outer o) (λ o. same_flat _ _ _ (ap (λ l. leaf (e.unsafe_block (body_of l c.args.x.now.block.stmts))) (c.in_ok-put_before.ensures.inner o)) (leaf_flat _))
+returns c = at_braces _ _ _ (λ l. leaf (e.unsafe_block (body_of l c.args.x.now.block.stmts))) _ (unsafe_braced _) c.in_ok-put_around.ensures.outer c.in_ok-put_around.ensures.inner (leaf_flat _)

@@ -5,4 +5,4 @@ use Rattle.syn_expr_flat.proofs.Refs.{by_ref}
 use Rattle.syn_expr_flat.proofs.operation.assign.Goals as goal
 
 pub returns : goal.returns
-returns g c = at_node _ _ _ _ _ refl (λ o. c.in_ok-put_before.ensures.all) (λ o. mid_flat _ _ _ _ _ (flat_by g.E.HasExprTree.tree _ c.requires.gives _ _ (by_ref _ _ _ c.in_ok-boxed.ensures)) (flat_by g.E.HasExprTree.tree _ c.requires.gives _ _ c.in_ok-boxed-2.ensures))
+returns g c = at_node _ _ _ _ _ refl c.in_ok-put_before.ensures (mid_flat _ _ _ _ _ (flat_by g.E.HasExprTree.tree _ c.requires.gives _ _ (by_ref _ _ _ c.in_ok-boxed.ensures)) (flat_by g.E.HasExprTree.tree _ c.requires.gives _ _ c.in_ok-boxed-2.ensures))

@@ -8,4 +8,4 @@ use Rattle.syn_expr_flat.proofs.operation.range.Goals as goal
 pub returns : goal.returns
 returns g c =
     let tree = g.E.HasExprTree.tree in
-    at_node _ _ _ _ _ (range_plain tree _ _ _) (λ o. c.in_ok-put_before.ensures.all) (λ o. range_flat tree _ _ _ _ _ (each_by _ _ (λ a b call. flat_by tree _ c.requires.gives a b (by_ref _ a b call)) _ _ c.in_ok-optional.ensures) (each_by _ _ (flat_by tree _ c.requires.gives) _ _ c.in_ok-optional-2.ensures))
+    at_node _ _ _ _ _ (range_plain tree _ _ _) c.in_ok-put_before.ensures (range_flat tree _ _ _ _ _ (each_by _ _ (λ a b call. flat_by tree _ c.requires.gives a b (by_ref _ a b call)) _ _ c.in_ok-optional.ensures) (each_by _ _ (flat_by tree _ c.requires.gives) _ _ c.in_ok-optional-2.ensures))

@@ -4,4 +4,4 @@ use Rattle.syn_expr_flat.proofs.Nodes.{at_node, lead_flat}
 use Rattle.syn_expr_flat.proofs.operation.unary.Goals as goal
 
 pub returns : goal.returns
-returns g c = at_node _ _ _ _ _ refl (λ o. c.in_ok-put_before.ensures.all) (λ o. lead_flat _ _ _ (flat_by g.E.HasExprTree.tree _ c.requires.gives _ _ c.in_ok-boxed.ensures))
+returns g c = at_node _ _ _ _ _ refl c.in_ok-put_before.ensures (lead_flat _ _ _ (flat_by g.E.HasExprTree.tree _ c.requires.gives _ _ c.in_ok-boxed.ensures))

@@ -15,5 +15,5 @@ returns g c =
     let tree = g.E.HasExprTree.tree in
     let field = left_by _ (λ x y. IsFlatField (field_value_of tree x) (field_value_of tree y)) (λ old new r met. met) in
     let rest = each_by _ _ (flat_by tree _ c.requires.gives) _ _ c.in_ok-optional.ensures in
-    at_node _ _ _ _ _ refl (λ o. c.in_ok-put_before.ensures.all) (λ o. same_rest tree _ _ _ _ _ _ _ rest
+    at_node _ _ _ _ _ refl c.in_ok-put_before.ensures (same_rest tree _ _ _ _ _ _ _ rest
     (struct_flat (field_value_of tree) _ _ _ _ (each_by _ _ field _ _ c.in_ok-punctuated.ensures.values) c.in_ok-punctuated.ensures.trails (option_flat tree _ _ _ rest)))

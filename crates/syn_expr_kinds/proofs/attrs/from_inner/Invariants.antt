@@ -1,6 +1,6 @@
 use Rattle.std.proofs.Common.{◌≡◌, length, map}
 use Rattle.syn_lower_leaves.specs.View.{attribute_of}
-use Rattle.syn_expr_kinds.specs.Attrs.{from_inner}
+use Rattle.syn_grammar.specs.Tree.{from_inner}
 use Rattle.syn_expr_kinds.proofs.attrs.from_inner.Given as goal
 
 abbrev pub invariant-rest : goal.invariant-rest

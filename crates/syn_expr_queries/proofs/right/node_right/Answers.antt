@@ -1,6 +1,7 @@
 -- What is last in a node, by the shape that is lent.
 use Rattle.std.proofs.Common.{◌≡◌, ◌&&◌, Some, ap, sym, subst, ◌∙◌}
 use Rattle.syn_grammar.specs.Query as query
+use Rattle.syn_grammar.specs.Tree.{outers}
 use Rattle.syn_lower_leaves.specs.View.{mapped}
 use Rattle.syn_parts.specs.Form.{is_nil}
 use Rattle.syn_expr_kinds.specs.Node.{leaf_of, lead_seen, frame_seen, operands_at, leaf_at, lead_at, frame_at, last_of}
@@ -13,8 +14,8 @@ pub returns-in-Some : goal.returns-in-Some
 returns-in-Some g c =
     let t = g.E.HasExprTree.tree c.args.expr.now in
     let l : leaf_at t ≡ Some (leaf_of c.in-Some.leaf) = sym c.leaf.ensures ∙ ap (mapped leaf_of) c.in-Some.is in
-    let b = c.behind-before.ensures ∙ ap (λ ats. c.args.before && is_nil ats) c.attributes.ensures in
-    c.leaf_brace.ensures ∙ (ap (λ x. query.leaf_brace x (leaf_of c.in-Some.leaf)) b ∙ right-leaf c.args.before (leaf_of c.in-Some.leaf) t l)
+    let b = c.behind-before.ensures ∙ ap (λ ats. is_nil (outers ats) && c.args.before) c.attributes.ensures in
+    c.leaf_brace.ensures ∙ (ap (λ x. query.leaf_brace x (leaf_of c.in-Some.leaf)) b ∙ right-leaf c.args.before (leaf_of c.in-Some.leaf) t l (g.met.E.HasFrames.framed c.args.expr.now))
 
 pub returns-in-Some-lead : goal.returns-in-Some-lead
 returns-in-Some-lead g c =

@@ -1,12 +1,10 @@
 -- In each arm the list is exchanged, and nothing else of the node.
 use Rattle.std.proofs.Common.{refl, sym, ap, ◌∙◌}
 use Rattle.syn_grammar.specs.Tree as e
-use Rattle.syn_grammar.specs.Tree.{leaf, frame, kid, none}
+use Rattle.syn_grammar.specs.Tree.{leaf, frame, kid, none, attributes_in, body_of, with_attributes}
 use Rattle.syn_lower.specs.View.{mapped}
 use Rattle.syn_expr_parts.specs.View.{label_of}
 use Rattle.syn_expr_kinds.specs.Attrs.{attrs_of}
-use Rattle.syn_expr_kinds.specs.View.{body_of}
-use Rattle.syn_expr_all.specs.Replaced.{with_attributes, attributes_in}
 use Rattle.syn_expr_all.specs.View.{tree_of}
 use Rattle.syn_expr_all.specs.declared.expr.Expr.TheVariants as ex
 use Rattle.syn_expr_all.specs.declared.control.ExprMatch.{out-ExprMatch}
