@@ -15,8 +15,8 @@ abbrev pub before_inner : List AttributeTree → List AttributeTree
 before_inner [] = []
 before_inner (a ∷ more) = if a.inner then [] else a ∷ before_inner more
 
--- of a node with braces, those that stand before it, and those from the first inner one on, of which the inner ones stand
--- first in its braces
+-- of a node with braces: those that stand before it, then those from the first inner one on, whose inner ones stand first
+-- in its braces
 unfoldable pub outer_of : Vec Attribute Global → List AttributeTree
 outer_of v = outers (map attribute_of v.items)
 

@@ -1,5 +1,5 @@
-//! The parts of what holds both expressions and patterns, of which the type of expressions makes its own structs: a struct that
-//! is generic in both could not stand in that type.
+//! The parts of what holds both expressions and patterns. The type of expressions makes its own structs of them: a struct
+//! that is generic in both could not stand in that type.
 
 use syn_expr_parts::label::Label;
 use syn_expr_parts::modifiers::ClosureModifiers;

@@ -210,7 +210,7 @@ pub with_inner_free : (ats : List AttributeTree) (t : Tree) → is_free (with_in
 with_inner_free ats (leaf k) = leaf_free ats k
 with_inner_free ats _ = refl
 
--- these attributes before those of the node t, of which `own` stand before it
+-- these attributes before those of the node t, where `own` stands before it already
 abbrev pub put_before : (more own : List AttributeTree) → Tree → Tree
 put_before more own t = adorn (outside t more ++ own) (with_inner (inners more ++ inner_in t) t)
 

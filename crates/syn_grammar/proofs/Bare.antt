@@ -159,9 +159,9 @@ arm_bare t = let p : refuses t next.End ≡ false = (or_false _ _ (self_enclosed
 block_arm : (t : Tree) → is_block_like (put (place_asks lev.Jump in_arm t) (bare enclosed t) (bare in_arm t)) ≡ is_block_like t
 block_arm t = rw (arm_bare t) (block_bare in_arm t)
 
--- ---- kids as printed
+-- ---- operands as printed
 
--- what the kid is printed as
+-- what the operand is printed as
 abbrev pub kid_put : Piece → Tree → Tree
 kid_put k t =
     piece_put k t (bare enclosed t) (bare (piece_context k) t) (put (place_asks lev.Jump in_statement t) (bare enclosed t) (bare in_statement t))

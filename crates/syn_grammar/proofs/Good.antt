@@ -102,7 +102,7 @@ behind_attributes v t c true g i h e f = (refl, obeys_paren t g)
 behind_attributes v t c false g i h e f =
     (operation_bare (adorned_context c) t i, g v (adorned_context c) (rw (low_closed t (or_false _ _ i).0) h) e f)
 
--- ---- kids
+-- ---- operands of frames and trailers
 
 at_kid : (t : Tree) (c : Context) (w : Bool) → Good t → place_asks lev.Jump c t ≡ w → Obeys lev.Jump c (put w (bare enclosed t) (bare c t))
 at_kid t c true g h = obeys_paren t g

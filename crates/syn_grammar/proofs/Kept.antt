@@ -232,7 +232,7 @@ low_kept : (v : Level) (k : Infix) (x : Tree) (w : Bool) → w ≡ false → tak
     → takes v (lower (level k) (if w then lev.Unambiguous else low x)) ≡ true
 low_kept v k x w e p q = rw e (lower_takes v (level k) (low x) p q)
 
--- a kid that is printed so
+-- an operand that is printed so
 abbrev Same : Piece → Tree → Type 0
 Same k t = piece_put k t (bare enclosed t) (bare (piece_context k) t) (put (place_asks lev.Jump in_statement t) (bare enclosed t) (bare in_statement t))
     (place_asks lev.Jump (piece_context k) t) ≡ parenthesize_attributed t

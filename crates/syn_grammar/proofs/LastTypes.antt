@@ -53,7 +53,7 @@ colons l b f = one (joint 58) _ b (one (alone 58) l b f)
 pub for_lifetimes : (p : t.LifetimesTree) (l : List Tok) (b : Bool) → Fixed l b → Fixed (lifetimes_own p l) b
 for_lifetimes p l b f = through {F = lifetimes_own p} (lifetimes_own-append p) l b f
 
--- ---- segments, of which n stand before a `>`
+-- ---- segments, the first n of them before a `>`
 
 closed_brace : ℕ → Bool → Bool
 closed_brace zero b = b

@@ -652,7 +652,7 @@ adorned_calls a more t n o h = record { none = ap (λ x. is_round_next n && (end
     no_cast (tail b k ks) h = refl
     no_cast (frame k ks) h = refl
 
--- ---- kids
+-- ---- operands of frames and trailers
 
 pub level_fits : (v w : Level) (t : Tree) (n : Next) → v ≡ w → Fits v t n → Fits w t n
 level_fits v w t n e f = subst (λ x. Fits x t n) e f

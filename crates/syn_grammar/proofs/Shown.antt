@@ -99,7 +99,7 @@ front_fields : (m : List Tok) (y : List ℕ × List Tok) → fields_head m ≡ S
 unfolding fields_head
 front_fields m y t = front_dot m (test_of (dot_at m) _ y t)
 
--- ---- kids
+-- ---- operands of frames and trailers
 
 behind_block : (c : Ending) (h n : List Tok) (o : Option (List Tok × List Tok)) → group_at del.Brace h ≡ o → behind_condition o ≡ Some (c, n) → Front next.Block h
 behind_block c h n None q t = absurd cc

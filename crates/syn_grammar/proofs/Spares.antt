@@ -176,7 +176,7 @@ spared_attributes v c t q s h o z i =
     let p = or_false _ _ (ap is_operation (sym x) ∙ z) in
     wrong _ (neither _ _ (sym (infix_bare enclosed t) ∙ p.0) (sym (prints_bare t) ∙ p.1)) w) o i
 
--- ---- kids
+-- ---- lists of operands
 
 no_pair_in : (w : Bool) (j k : Leaf) (q : Tree) → OneLess (if w then leaf j else leaf k) q → ⊥
 no_pair_in true j k q o = o

@@ -40,7 +40,7 @@ abbrev pub leaf_leads : Bool → Leaf → Bool
 leaf_leads word (e.verbatim ts) = kept_leads word ts
 leaf_leads word k = leaf_labelled k
 
--- `word`: a word stands behind the tree, which of all that stands behind a left end is `as` alone. Inner attributes before a
+-- `word`: a word stands behind the tree. The one word that stands behind a left end is `as`. Inner attributes before a
 -- node aren't spelled.
 abbrev pub tree_leads : Bool → Tree → Bool
 tree_leads word (leaf k) = leaf_leads word k

@@ -19,7 +19,7 @@ use Rattle.syn_grammar.specs.declared.kinds.Infix.{Infix}
 use Rattle.syn_grammar.specs.declared.kinds.Infix.TheVariants as inf
 use Rattle.syn_grammar.specs.Op.{binary_text, limits_text, unary_text}
 
--- what stands in the braces of a block: attributes, of which the inner ones are spelled, and the tokens of its statements
+-- what stands in the braces of a block: attributes (only the inner ones are spelled) and the tokens of its statements
 pub record Body : Type 0 where
   pub inner : List AttributeTree
   pub tokens : List Tok
@@ -164,8 +164,8 @@ abbrev pub adorn : List AttributeTree → Tree → Tree
 adorn [] t = t
 adorn (a ∷ more) t = adorned a more t
 
--- ---- attributes (Rust Reference, "Expression attributes"): the outer ones stand before an expression; of blocks, loops and
--- a `match` the inner ones stand first in the braces, and of all other kinds no inner one is printed
+-- ---- attributes (Rust Reference, "Expression attributes"): the outer ones stand before an expression. In blocks, loops and
+-- a `match` the inner ones stand first in the braces. Other kinds print no inner one.
 
 -- the outer ones of these, and the inner ones, in their order
 abbrev pub outers : List AttributeTree → List AttributeTree
@@ -200,8 +200,8 @@ has_braces (leaf k) = leaf_has_braces k
 has_braces (frame k ks) = frame_has_braces k
 has_braces _ = false
 
--- the attributes in the braces: of its list those from the first inner one on, of which the inner ones are spelled there. The
--- outer ones among them stand before the node too: so the tree keeps the order of the list.
+-- The attributes in the braces: those of the node's list from the first inner one on. Only the inner ones are spelled
+-- there. The outer ones among them stand before the node too: so the tree keeps the order of the list.
 abbrev pub leaf_inner : Leaf → List AttributeTree
 leaf_inner (block label b) = b.inner
 leaf_inner (looping label b) = b.inner
@@ -278,8 +278,8 @@ prepend more t = adorn (outside t more) (with_inner (inners more ++ inner_in t) 
 abbrev pub plain_block : List Tok → Tree
 plain_block ts = leaf (block None (record { inner = []; tokens = ts }))
 
--- ---- the tree's own spelling: its tokens from left to right, the last punct of each token alone, before the tokens r. Of the
--- attributes before a node and before a field the outer ones are spelled; of an arm all are.
+-- ---- the tree's own spelling: its tokens from left to right, the last punct of each token alone, before the tokens r.
+-- A node and a field have their outer attributes before them, an arm all of its attributes.
 
 abbrev pub sign_before : Text → List Tok → List Tok
 sign_before text r = sign_toks text ++ r
@@ -397,12 +397,12 @@ abbrev pub is_repeated : Piece → Bool
 is_repeated repeated = true
 is_repeated _ = false
 
--- what follows of the kids stands inside of the braces of this
+-- what stands behind the operands that follow: nothing where this opens the braces that they stand in
 abbrev pub inside_of : Ending → List Tok → List Tok
 inside_of (opened ats) r = []
 inside_of _ r = r
 
--- `others` is what is spelled of the kids that follow
+-- `others` is what the operands that follow are spelled by
 abbrev pub ending_own : Piece → Ending → List Tok → List Tok → List Tok
 ending_own k no_ending others r = before_if (is_repeated k) (λ l. alone 59 ∷ l) others
 ending_own k comma others r = alone 44 ∷ others
