@@ -285,6 +285,24 @@ plain ~ S { ..b c } ~ refused at 8..9: unexpected token
 plain ~ S { .. , } ~ refused at 7..8: expected an expression
 plain ~ x[] ~ refused at 2..3: expected an expression
 plain ~ x[a b] + y[c d] ~ refused at 4..5: unexpected token
+plain ~ x[a b] + ~ refused at 8..8: expected an expression
+plain ~ x[a b](c d) ~ refused at 9..10: expected `,`
+plain ~ (x[a b] +) ~ refused at 9..10: expected an expression
+plain ~ x[a b c] + ~ refused at 10..10: expected an expression
+plain ~ x[a b] c ~ refused at 4..5: unexpected token
+plain ~ x[a b].c + d(e) ~ refused at 4..5: unexpected token
+plain ~ x[a b].0u8 ~ refused at 7..10: expected unsuffixed integer
+plain ~ x[a b] < y < z ~ refused at 11..12: comparison operators cannot be chained
+plain ~ x[a b] ... y ~ refused at 7..8: unexpected token
+plain ~ x[a b] + y[c d] * ~ refused at 17..17: expected an expression
+plain ~ f(x[a b] y) ~ refused at 9..10: expected `,`
+plain ~ x[(a b)] + ~ refused at 5..6: expected `,`
+plain ~ x[y[a b] c] ~ refused at 6..7: unexpected token
+plain ~ x[y[a b] c] + ~ refused at 13..13: expected an expression
+plain ~ x[y[a b](c d)] ~ refused at 11..12: expected `,`
+plain ~ x[a b][c d]? ~ refused at 4..5: unexpected token
+plain ~ x[a b][c d] as u8? ~ refused at 17..18: casts cannot be followed by `?`
+plain ~ return [x[a b], +] ~ refused at 16..17: expected an expression
 plain ~ x as + ~ refused at 5..6: expected a type
 plain ~ a::<+> ~ refused at 4..5: expected a type
 plain ~ a.b::<+>() ~ refused at 6..7: expected a type
@@ -322,5 +340,6 @@ plain ~ builtin # ~ refused at 9..9: expected identifier
 plain bare ~ ~ refused at 0..0: expected an expression
 plain bare ~ a b ~ refused at 2..3: unexpected token
 plain bare ~ (a b) ~ refused at 3..4: expected `,`
+plain bare ~ (x[a b]) + ~ refused at 10..10: expected an expression
 plain bare ~ (a < b < c) ~ refused at 7..8: comparison operators cannot be chained
 ";

@@ -29,7 +29,7 @@ bare_behind (a ∷ more) p gs h = (refl, refl)
 not_empty : (a : Attribute) (ats : List Attribute) → (length (a ∷ ats) == 0) ≡ true → ⊥
 not_empty a ats h = let e : length (a ∷ ats) ≡ 0 = eqb-true (length (a ∷ ats)) 0 h in omega arith
 
-last_end : (h : Tree) (gs : List Tree) (g : Tree) → last_guard h (gs ++ g ∷ []) ≡ g
+pub last_end : (h : Tree) (gs : List Tree) (g : Tree) → last_guard h (gs ++ g ∷ []) ≡ g
 last_end h [] g = refl
 last_end h (x ∷ gs) g = last_end x gs g
 

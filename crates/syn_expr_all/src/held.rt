@@ -1,6 +1,11 @@
 //! An expression that its user holds to the end of a scope.
 
-ghost use Rattle.std.specs.Prelude.{◌≡◌};
+ghost use Rattle.std.specs.Prelude.{◌≡◌, IfErr};
+ghost use Rattle.syn_expr_all.specs.Refused.{MayRefuse};
+ghost use Rattle.syn_expr_all.specs.View.{tree_of};
+ghost use Rattle.syn_expr_kinds.specs.Exactly.{ReadsExactly};
+ghost use Rattle.syn_grammar.specs.Place.{plain};
+ghost use Rattle.syn_grammar.specs.Stands.{Stands};
 
 use crate::expr::Expr;
 use syn_tokens::buffer::{Parse, ParseBuffer, ToTokens};
@@ -32,6 +37,7 @@ impl HeldExpr {
 }
 
 impl Parse for HeldExpr {
+    ghost use Rattle.syn_expr_all.specs.Refused.{MayRefuse};
     ghost use Rattle.syn_expr_all.specs.View.{tree_of};
     ghost use Rattle.syn_grammar.specs.Place.{plain};
     ghost use Rattle.syn_grammar.specs.Stands.{Stands};
@@ -46,8 +52,13 @@ impl Parse for HeldExpr {
 
     ghost least = { 1 };
 
+    ghost refuses = { λ _ kind. MayRefuse kind };
+
     /// Reads an expression, and is refused as the reader of expressions refuses it.
-    fn parse(input: &mut ParseBuffer<'_>) -> Result<Self> {
+    fn parse(input: &mut ParseBuffer<'_>) -> Result<Self>
+        ensures exact { ReadsExactly (λ x. tree_of x.expr) (Stands plain) input.old result input.new }
+        ensures refused { IfErr result (λ e. MayRefuse e.kind) }
+    {
         match Expr::parse(input) {
             Ok(expr) => Ok(HeldExpr { expr }),
             Err(e) => Err(e),

@@ -11,6 +11,7 @@ pub mod expr;
 mod from;
 pub mod held;
 mod kind;
+mod leftover;
 mod make;
 mod make_pat;
 mod node;

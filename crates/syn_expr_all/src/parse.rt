@@ -1,35 +1,68 @@
 //! The readers of expressions: in a list, before a block, and at the head of a statement or of an arm's body.
 
-ghost use Rattle.std.specs.Prelude.{◌≡◌};
+ghost use Rattle.std.specs.Prelude.{◌≡◌, IfErr};
+ghost use Rattle.syn_expr_all.specs.Refused.{MayRefuse};
 ghost use Rattle.syn_expr_all.specs.View.{tree_of};
 ghost use Rattle.syn_expr_kinds.specs.Exactly.{ReadsExactly};
 ghost use Rattle.syn_grammar.specs.Front.{begins_expr};
 ghost use Rattle.syn_grammar.specs.Place.{at_head, before_block, plain};
 ghost use Rattle.syn_grammar.specs.Stands.{Stands};
+ghost use Rattle.syn_tokens.specs.declared.error.ErrorKind.TheVariants.{OutOfMemory};
 
 use crate::expr::Expr;
+use crate::leftover::told;
 use crate::read_expr::expr_at;
 use syn_expr_ends::place::{AT_HEAD, BEFORE_BLOCK, PLAIN};
 use syn_expr_front::sign;
 use syn_grammar::kinds::Place;
 use syn_tokens::buffer::{Parse, ParseBuffer};
-use syn_tokens::error::Result;
+use syn_tokens::error::{Error, ErrorKind, Part, Result};
+
+/// A refusal as one that readers of expressions answer. What comes is always one: the readers below make no other, but their
+/// contracts don't say so. So the last arm, which would answer another as `UnexpectedToken` at its place, is never reached.
+fn answered(refusal: Error) -> Error
+    ensures may { MayRefuse result.kind }
+    ensures memory { refusal.kind ≡ OutOfMemory → result.kind ≡ OutOfMemory }
+{
+    match refusal.kind {
+        ErrorKind::OutOfMemory
+        | ErrorKind::ExpectedExpression
+        | ErrorKind::ChainedComparison
+        | ErrorKind::LeftArrow
+        | ErrorKind::AfterCast(_)
+        | ErrorKind::RangeAttributes
+        | ErrorKind::ExpectedLoopOrBlock
+        | ErrorKind::ExpectedCommaOrSemi
+        | ErrorKind::ParenthesesRequired
+        | ErrorKind::ExpectedMember
+        | ErrorKind::ExpectedUnsuffixedInteger
+        | ErrorKind::IndexOutOfRange
+        | ErrorKind::ExpectedToken(_)
+        | ErrorKind::UnexpectedToken
+        | ErrorKind::ExpectedPart(
+            Part::Literal | Part::Path | Part::Type | Part::Pattern | Part::Macro,
+        ) => refusal,
+        _ => Error::new(refusal.span, ErrorKind::UnexpectedToken),
+    }
+}
 
 /// Reads the expression at a place. The input stays where it was where it is refused.
 #[tactic(auto, using(crate::proofs::Exactly::read_tail))]
 fn ahead(input: &mut ParseBuffer<'_>, place: Place) -> Result<Expr>
-    ensures { ReadsExactly tree_of (Stands place) input.old result input.new }
+    ensures exact { ReadsExactly tree_of (Stands place) input.old result input.new }
+    ensures refused { IfErr result (λ e. MayRefuse e.kind) }
 {
     let mut ahead = input.fork()?;
     let x = match expr_at(&mut ahead, place) {
         Ok(x) => x,
-        Err(e) => return Err(e),
+        Err(e) => return Err(answered(told(input, place, e))),
     };
     input.advance_to(&ahead);
     Ok(Box::into_inner(x))
 }
 
 impl Parse for Expr {
+    ghost use Rattle.syn_expr_all.specs.Refused.{MayRefuse};
     ghost use Rattle.syn_grammar.specs.Place.{plain};
     ghost use Rattle.syn_grammar.specs.Stands.{Stands};
     ghost use Rattle.syn_grammar.specs.Tree.{Tree};
@@ -42,6 +75,9 @@ impl Parse for Expr {
     ghost spells = { Stands plain };
 
     ghost least = { 1 };
+
+    /// Whatever the list is, it is refused as one of the kinds that are told below, and out of memory.
+    ghost refuses = { λ _ kind. MayRefuse kind };
 
     /// Reads an expression: the tree that stands at the front of the list (Rust Reference, "Expressions", "Expression
     /// precedence").
@@ -57,9 +93,11 @@ impl Parse for Expr {
     ///   behind the first element of an array;
     /// - as its literals, paths, types, patterns, attributes and macros are;
     /// - as `ExpectedToken` where another token stands than the one that must, and as `UnexpectedToken` where nothing reads
-    ///   it.
+    ///   it. In the brackets of an index that is told last: where what stands behind can't be read, the refusal of that is
+    ///   told.
     fn parse(input: &mut ParseBuffer<'_>) -> Result<Self>
-        ensures { ReadsExactly tree_of (Stands plain) input.old result input.new }
+        ensures exact { ReadsExactly tree_of (Stands plain) input.old result input.new }
+        ensures refused { IfErr result (λ e. MayRefuse e.kind) }
     {
         ahead(input, PLAIN)
     }
@@ -71,7 +109,8 @@ impl Expr {
     /// expression, but inside delimiters. It is read exactly where one stands so, unless memory runs out. It is refused as
     /// `parse` refuses an expression, and the input then stays where it was.
     pub fn parse_without_eager_brace(input: &mut ParseBuffer<'_>) -> Result<Expr>
-        ensures { ReadsExactly tree_of (Stands before_block) input.old result input.new }
+        ensures exact { ReadsExactly tree_of (Stands before_block) input.old result input.new }
+        ensures refused { IfErr result (λ e. MayRefuse e.kind) }
     {
         ahead(input, BEFORE_BLOCK)
     }
@@ -81,7 +120,8 @@ impl Expr {
     /// before a `.` or `?`. It is read exactly where one stands so, unless memory runs out. It is refused as `parse` refuses
     /// an expression, but at a range without a start behind attributes, and the input then stays where it was.
     pub fn parse_with_earlier_boundary_rule(input: &mut ParseBuffer<'_>) -> Result<Expr>
-        ensures { ReadsExactly tree_of (Stands at_head) input.old result input.new }
+        ensures exact { ReadsExactly tree_of (Stands at_head) input.old result input.new }
+        ensures refused { IfErr result (λ e. MayRefuse e.kind) }
     {
         ahead(input, AT_HEAD)
     }

@@ -1,16 +1,18 @@
 //! The printer of patterns.
 
-ghost use Rattle.std.specs.Prelude.{◌≡◌, ◌++◌, [], IfErr, OnOk, OnErr};
+ghost use Rattle.std.specs.Prelude.{◌≡◌, ◌∷◌, ◌++◌, [], codes, IfErr, OnOk, OnErr};
 ghost use Rattle.syn_pat_kinds.specs.Printed.{attributes_printed};
 ghost use Rattle.syn_tokens.specs.Input.{IsFront};
+ghost use Rattle.syn_tokens.specs.Tok.{ident};
 
-use crate::pat::Pat;
+use crate::pat::{Pat, PatGuard};
 use syn_expr_kinds::put::{Grown, grown};
 use syn_expr_put::lead::PutPat;
 use syn_lower::attr::Attribute;
 use syn_pat_kinds::print::{PrintPat, print_attributes};
 use syn_tokens::buffer::ToTokens;
 use syn_tokens::error::{ErrorKind, Result};
+use syn_tokens::token::If;
 use syn_tokens::tree::TokenStream;
 
 /// Prints attributes, and a pattern after them, without its guards.
@@ -28,8 +30,27 @@ fn print_behind<P: PrintPat>(
     pat.print_pat(tokens)
 }
 
-/// A pattern's own spelling, without the guards in it: what prints an arm prints the guard of its pattern too, and where
-/// else one stands, none may.
+/// Prints attributes, a pattern after them without the guards in it, `if`, and a guard.
+#[tactic(auto, using(syn_tokens::proofs::Fronts::fronts), unfolding(syn_tokens::specs::Sign::word_text))]
+fn print_guarded<P: PrintPat, E: ToTokens>(
+    attrs: &Vec<Attribute>,
+    pat: &Box<P>,
+    if_token: &If,
+    guard: &Box<E>,
+    tokens: &mut TokenStream,
+) -> Result<()>
+    ensures ok { OnOk result (tokens.new ≡ tokens.old ++ (attributes_printed attrs.now ++ (P.spelled pat.now.value ++ ident (codes "if") ∷ E.printed guard.now.value))) }
+    ensures err { OnErr result (IsFront tokens.old tokens.new) }
+    ensures memory { IfErr result (λ e. e.kind ≡ ErrorKind.OutOfMemory) }
+{
+    print_attributes(attrs, tokens)?;
+    pat.print_pat(tokens)?;
+    if_token.to_tokens(tokens)?;
+    guard.to_tokens(tokens)
+}
+
+/// A pattern's own spelling, without the guards in it: what prints an arm, or a pattern by itself, prints the guard of the
+/// whole behind it.
 impl PrintPat for Pat {
     ghost use Rattle.syn_expr_all.specs.View.{pat_of};
     ghost use Rattle.syn_parts.specs.PatOwn.{pat_own};
@@ -67,14 +88,31 @@ impl PutPat for Pat {
     }
 }
 
-impl ToTokens for Pat {
-    ghost use Rattle.syn_expr_all.specs.View.{pat_of};
-    ghost use Rattle.syn_parts.specs.PatOwn.{pat_own};
+impl ToTokens for PatGuard {
+    ghost use Rattle.syn_expr_all.specs.Guarded.{pat_spelled};
+    ghost use Rattle.syn_expr_all.specs.View.{guard_of};
 
-    ghost printed = { λ x. pat_own (pat_of x).tree [] };
+    ghost printed = { λ x. pat_spelled (guard_of x) };
 
-    /// Puts the pattern without the guards in it. The printer of an arm puts the guard of the arm's pattern.
+    /// Puts the attributes, the pattern without the guards in it, `if`, and the guard as the printer of an arm does.
+    #[tactic(auto, using(crate::proofs::Spelled::by_itself))]
     fn to_tokens(&self, tokens: &mut TokenStream) -> Result<()> {
-        self.print_pat(tokens)
+        print_guarded(&self.attrs, &self.pat, &self.if_token, &self.guard, tokens)
+    }
+}
+
+impl ToTokens for Pat {
+    ghost use Rattle.syn_expr_all.specs.Guarded.{pat_spelled};
+    ghost use Rattle.syn_expr_all.specs.View.{pat_of};
+
+    ghost printed = { λ x. pat_spelled (pat_of x) };
+
+    /// Puts the pattern, and its guard where it has one as a whole; without the guards of the patterns inside.
+    #[tactic(auto, using(crate::proofs::Spelled::by_itself))]
+    fn to_tokens(&self, tokens: &mut TokenStream) -> Result<()> {
+        match self {
+            Pat::Guard(x) => x.to_tokens(tokens),
+            _ => self.print_pat(tokens),
+        }
     }
 }
