@@ -12,11 +12,9 @@ use Rattle.std.proofs.lemmas.Fmt.{decimal_digit}
 use Rattle.syn_tokens.specs.Text.{text}
 use Rattle.syn_tokens.specs.Tok.{Tok}
 use Rattle.syn_tokens.specs.declared.error.Error.{Error}
-use Rattle.syn_grammar.specs.Place.{plain}
 use Rattle.syn_grammar.specs.Printed.{Position}
 use Rattle.syn_grammar.specs.Tree.{Tree}
 use Rattle.syn_expr_flat.specs.Flat.{IsFlat}
-use Rattle.syn_expr_flat.proofs.OuterParens.{stands_outer}
 use Rattle.syn_expr.specs.Promises.{PrintedAs}
 use Rattle.exprfmt.specs.Run.{IsLine, meant, AreLeft, Follows, Writer, Takes, Prints, Reports, Ran, line, printed, refused, not_utf8, failed, out_of_memory}
 use Rattle.syn_expr.specs.Texts.{StandsFor}
@@ -69,15 +67,15 @@ known_left (Some l) = refl
 
 -- ---- what is printed of it
 
--- what is left of a tree that stands, without its parentheses
-pub bare_meant : (bare : Bool) (t u : Tree) → bare ≡ true → IsFlat t u → (cs : List ℕ) → StandsFor cs t → u ≡ meant bare t
+-- what is left of a tree, without its parentheses
+pub bare_meant : (bare : Bool) (t u : Tree) → bare ≡ true → IsFlat t u → u ≡ meant bare t
 unfolding IsFlat
-bare_meant true t u e flat cs s = flat (stands_outer plain s.0 t [] s.2)
-bare_meant false t u e flat cs s = absurd cc
+bare_meant true t u e flat = flat
+bare_meant false t u e flat = absurd cc
 
-pub line_is : (s : Position) (bare : Bool) (cs : List ℕ) (t u : Tree) (ts : List Tok) (bytes : List ℕ) → StandsFor cs t → ((ds : List ℕ) → StandsFor ds t → u ≡ meant bare t)
+pub line_is : (s : Position) (bare : Bool) (cs : List ℕ) (t u : Tree) (ts : List Tok) (bytes : List ℕ) → StandsFor cs t → u ≡ meant bare t
     → PrintedAs s u ts → bytes ≡ text ts ++ 10 ∷ [] → IsLine s bare cs bytes
-line_is s bare cs t u ts bytes stands same is written = (ts, (t, stands, subst (λ (v : Tree). PrintedAs s v ts) (same cs stands) is), written)
+line_is s bare cs t u ts bytes stands same is written = (ts, (t, stands, subst (λ (v : Tree). PrintedAs s v ts) same is), written)
 
 -- ---- what is reported
 

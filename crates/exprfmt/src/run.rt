@@ -7,7 +7,7 @@ ghost use Rattle.std.specs.declared.io.ErrorKind.TheVariants.{OutOfMemory};
 ghost use Rattle.syn_expr_all.specs.View.{tree_of};
 ghost use Rattle.syn_expr.specs.Positions.{position_of};
 ghost use Rattle.syn_expr.specs.Promises.{PrintedAs};
-ghost use Rattle.syn_expr.specs.Texts.{NothingStands, StandsFor};
+ghost use Rattle.syn_expr.specs.Texts.{NothingStands};
 ghost use Rattle.syn_grammar.specs.Printed as grammar;
 ghost use Rattle.exprfmt.specs.Run as spec;
 ghost use Rattle.exprfmt.specs.FaultView.{outcome_of};
@@ -66,7 +66,7 @@ const OUT_OF_MEMORY: Error = Error {
 
 /// Makes of an expression that was read what is printed of it: with `bare` it loses its parentheses.
 fn prepare(bare: bool, expr: &mut Expr) -> Result<()>
-    ensures tree { IfOk result (λ _. (cs : List ℕ) → StandsFor cs (tree_of expr.old) → tree_of expr.new ≡ spec.meant bare (tree_of expr.old)) }
+    ensures tree { IfOk result (λ _. tree_of expr.new ≡ spec.meant bare (tree_of expr.old)) }
     ensures refused { IfErr result (λ e. e.kind ≡ ErrorKind.OutOfMemory) }
 {
     if bare {

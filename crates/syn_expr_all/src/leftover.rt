@@ -4,6 +4,7 @@
 ghost use Rattle.std.specs.Prelude.{◌≡◌};
 ghost use Rattle.syn_tokens.specs.declared.error.ErrorKind.TheVariants.{OutOfMemory};
 
+use crate::held::HeldExpr;
 use crate::read_expr::expr_at;
 use syn_expr_readers::leftover::without_leftover;
 use syn_grammar::kinds::Place;
@@ -27,7 +28,13 @@ fn try_list(list: &TokenStream, place: Place, end: Span) -> Result<()> {
     let mut input = ParseBuffer::new(list)?;
     let end_of_list = end_of(&input)?;
     match expr_at(&mut input, place) {
-        Ok(_) => Ok(()),
+        Ok(x) => {
+            // Held, so that it is not proved here again that each type of expressions can be let go.
+            let _held = HeldExpr {
+                expr: Box::into_inner(x),
+            };
+            Ok(())
+        }
         Err(e) if e.span == end_of_list => Err(Error::new(end, e.kind)),
         Err(e) => Err(e),
     }

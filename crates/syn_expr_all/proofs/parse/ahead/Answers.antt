@@ -6,4 +6,4 @@ pub returns-clause-exact : goal.returns-clause-exact
 returns-clause-exact c = reads_ahead (expr_exact _) _ _ _ _ c.in_ok-ahead.ensures.value (rw (c.into_inner.ensures, c.advance_to.ensures.rest) c.in-Ok.ensures.value) (search rules)
 
 pub returns-in-Err-clause-exact : goal.returns-in-Err-clause-exact
-returns-in-Err-clause-exact c = refuses_ahead (expr_exact _) _ _ _ c.in_ok-ahead.ensures.value (λ ne. c.in-Err.ensures.value (λ m. ne (c.answered-in-Err.ensures.memory (c.told-in-Err.ensures.memory m))))
+returns-in-Err-clause-exact c = refuses_ahead (expr_exact _) _ _ _ c.in_ok-ahead.ensures.value (λ ne. c.in-Err.ensures.value (λ m. ne (c.answered.ensures.memory (c.told.ensures.memory m))))
