@@ -2,10 +2,20 @@
 #![tactic(auto)]
 
 #[cfg(test)]
+mod attrs;
+#[cfg(test)]
 mod kinds;
 #[cfg(test)]
 mod parts;
 #[cfg(test)]
+mod pieces;
+#[cfg(test)]
+mod places;
+#[cfg(test)]
+mod questions;
+#[cfg(test)]
 mod small;
 #[cfg(test)]
 mod trees;
+#[cfg(test)]
+mod visits;

@@ -1,5 +1,6 @@
-//! Every tree of at most five nodes over a path, ranges, `return`, `?` and operators of some levels, printed in each
-//! position: what is printed is read there as the same tree, and without any one of its pairs of parentheses it is not.
+//! Every tree of at most five nodes over two paths, ranges, `return`, `?` and operators of some levels, printed in each
+//! position: what is printed is read there as the same tree; without any one of its pairs of parentheses it is not, and
+//! without all of them it is not where it has some.
 
 use std::alloc::Global;
 use std::test::Fail;
@@ -9,7 +10,7 @@ use syn_expr::{
 };
 
 /// The trees of one node.
-const LEAVES: [&str; 3] = ["a", "..", "return"];
+const LEAVES: [&str; 4] = ["a", "b", "..", "return"];
 
 /// What stands before and behind an operand that is the only one.
 const AROUND_ONE: [(&str, &str); 5] = [
@@ -29,7 +30,7 @@ const NODES: usize = 5;
 
 /// How many trees there are by the number of their nodes: of one the leaves; of more 5 for each tree of one node less,
 /// and 6 for each two trees that have one node less together.
-const COUNTS: [usize; NODES] = [3, 15, 129, 1185, 11919];
+const COUNTS: [usize; NODES] = [4, 20, 196, 1940, 21508];
 
 /// The texts of the leaves.
 fn leaves(alloc: Global) -> Result<Vec<String>, Error> {
@@ -180,8 +181,30 @@ fn without_pair(alloc: Global, text: &str, start: usize) -> Result<String, Error
     Ok(without)
 }
 
+/// A text with blanks in place of all its parentheses.
+fn without_pairs(alloc: Global, text: &str) -> Result<String, Error> {
+    let mut without = String::new(alloc);
+    for char in text.chars() {
+        without.push(if matches!(char, '(' | ')') { ' ' } else { char })?;
+    }
+    Ok(without)
+}
+
+/// Fails where an expression without parentheses is also read from this text of it without one of its pairs.
+fn check_pairs(alloc: Global, position: Position, text: &str, expr: &Expr) -> Result<(), Fail> {
+    for (number, char) in text.chars().enumerate() {
+        if char == '(' {
+            let without = without_pair(alloc, text, number)?;
+            if is_read_as(alloc, position, without.as_str(), expr)? {
+                return Err(Fail::new(format_args!("{text}: {without} is enough")));
+            }
+        }
+    }
+    Ok(())
+}
+
 /// Fails where the tree of a text isn't well-formed, or isn't read back from what is printed of it in a position, or is
-/// also read back from that without one of its pairs of parentheses.
+/// also read back from that without one of its pairs of parentheses, or without any where it has some.
 fn check(alloc: Global, position: Position, text: &str) -> Result<(), Fail> {
     let held = flat(alloc, text)?;
     if !is_well_formed(&held.expr) {
@@ -192,15 +215,10 @@ fn check(alloc: Global, position: Position, text: &str) -> Result<(), Fail> {
         return Err(Fail::new(format_args!("{text} is printed as {printed}, and not read back")));
     }
     // Each pair was added: the tree has none, and none of its kinds is spelled with any.
-    for (number, char) in printed.as_str().chars().enumerate() {
-        if char == '(' {
-            let without = without_pair(alloc, printed.as_str(), number)?;
-            if is_read_as(alloc, position, without.as_str(), &held.expr)? {
-                return Err(Fail::new(format_args!(
-                    "{text} is printed as {printed}, and {without} is enough"
-                )));
-            }
-        }
+    check_pairs(alloc, position, printed.as_str(), &held.expr)?;
+    let own = without_pairs(alloc, printed.as_str())?;
+    if own != printed && is_read_as(alloc, position, own.as_str(), &held.expr)? {
+        return Err(Fail::new(format_args!("{text} is printed as {printed}, and {own} is enough")));
     }
     Ok(())
 }
