@@ -133,6 +133,17 @@ fn refuses_with_a_place(rt: HostRuntime) -> Result<(), Fail> {
 }
 
 #[test]
+fn passes_over_sixteen_leftovers(rt: HostRuntime) -> Result<(), Fail> {
+    let input = around(rt.alloc(), "x", "[a b]", 16, " +")?;
+    let got = run_over(rt.alloc(), Position::Plain, false, input.as_bytes());
+    assert!(rt; is_answered(&got, "refused at 83..83: expected an expression", 1));
+    let input = around(rt.alloc(), "x", "[a b]", 17, " +")?;
+    let got = run_over(rt.alloc(), Position::Plain, false, input.as_bytes());
+    assert!(rt; is_answered(&got, "refused at 4..5: unexpected token", 1));
+    Ok(())
+}
+
+#[test]
 fn refuses_what_is_no_utf8(rt: HostRuntime) {
     let got = run_over(rt.alloc(), Position::Plain, false, b"a \xff b");
     assert_eq!(rt; got.status, 1);

@@ -5,7 +5,7 @@ use Rattle.std.proofs.lemmas.List.{append-nil}
 use Rattle.std.specs.Prelude.{codes}
 use Rattle.std.specs.declared.vec.Vec.{Vec}
 use Rattle.std.specs.declared.alloc.Global.{Global}
-use Rattle.syn_tokens.specs.Tok.{Tok, ident}
+use Rattle.syn_tokens.specs.Tok.{ident}
 use Rattle.syn_parts.specs.Tree.{AttributeTree}
 use Rattle.syn_parts.specs.Pat.{PatTree, guarded}
 use Rattle.syn_parts.specs.PatOwn.{pat_own}

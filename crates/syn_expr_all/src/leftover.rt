@@ -1,5 +1,5 @@
-//! Leftovers in the brackets of indices: a token in `[..]` behind a base that nothing reads, as the `b` of `x[a b]`. One is
-//! told last, where all that stands behind it can be read; until then it is passed over.
+//! Leftovers of indices: tokens in the brackets behind a base that nothing reads, as the `b` of `x[a b]`. They are told last:
+//! where all that stands behind them can be read.
 
 ghost use Rattle.std.specs.Prelude.{◌≡◌};
 ghost use Rattle.syn_tokens.specs.declared.error.ErrorKind.TheVariants.{OutOfMemory};
@@ -13,7 +13,7 @@ use syn_tokens::error::{Error, ErrorKind, Result};
 use syn_tokens::span::Span;
 use syn_tokens::tree::TokenStream;
 
-/// How many leftovers are passed over at most.
+/// How many leftovers are passed over at most. Where there are more, the first is told.
 const MOST: u32 = 16;
 
 /// Where a refusal at the end of the input is.
@@ -23,8 +23,9 @@ fn end_of(input: &ParseBuffer<'_>) -> Result<Span> {
     Ok(end.span())
 }
 
-/// Reads the expression at a place in a list by itself, which ends at `end` in the input that it is a copy of, and lets it go.
-fn try_list(list: &TokenStream, place: Place, end: Span) -> Result<()> {
+/// Reads the expression that a list begins with, by the rules of a place, and lets it go. A refusal at the end of the list is
+/// told at `end`.
+fn read_list(list: &TokenStream, place: Place, end: Span) -> Result<()> {
     let mut input = ParseBuffer::new(list)?;
     let end_of_list = end_of(&input)?;
     match expr_at(&mut input, place) {
@@ -40,14 +41,15 @@ fn try_list(list: &TokenStream, place: Place, end: Span) -> Result<()> {
     }
 }
 
-/// Reads the expression at a place again, without the leftover at this one and without those that then are found. It is
-/// refused as what stands behind them is: at the last one, where that is no leftover of an index, or in another way.
-fn try_without(input: &ParseBuffer<'_>, place: Place, first: Span) -> Result<()> {
+/// Reads the expression at a place without the leftover that begins at `first`, and then without each further one at which it
+/// is refused. It is refused as the rest is: also at a token that nothing reads and that is no leftover of an index, which
+/// is still there when it is read again.
+fn read_without(input: &ParseBuffer<'_>, place: Place, first: Span) -> Result<()> {
     let end = end_of(input)?;
     let mut leftover = first;
     let mut list = without_leftover(input.alloc(), input.trees(), leftover)?;
     for _ in 0..MOST {
-        match try_list(&list, place, end) {
+        match read_list(&list, place, end) {
             Err(e) if e.kind == ErrorKind::UnexpectedToken && e.span != leftover => {
                 leftover = e.span;
                 list = without_leftover(input.alloc(), list.trees(), leftover)?;
@@ -58,13 +60,13 @@ fn try_without(input: &ParseBuffer<'_>, place: Place, first: Span) -> Result<()>
     Ok(())
 }
 
-/// What is told of an expression that was refused at a place of the input. It is the refusal itself, but where that is at a
-/// leftover in the brackets of an index and what stands behind can't be read: then it is the refusal of that.
+/// What is told where an expression at a place of the input is refused: the refusal itself. But if that is at a leftover of an
+/// index and what stands behind it is refused too, the refusal of that is told.
 pub(crate) fn told(input: &ParseBuffer<'_>, place: Place, refusal: Error) -> Error
     ensures memory { refusal.kind ≡ OutOfMemory → result.kind ≡ OutOfMemory }
 {
     match refusal.kind {
-        ErrorKind::UnexpectedToken => match try_without(input, place, refusal.span) {
+        ErrorKind::UnexpectedToken => match read_without(input, place, refusal.span) {
             Ok(()) => refusal,
             Err(later) => later,
         },

@@ -1,11 +1,11 @@
-//! Arms and fields read by themselves: as they are printed.
+//! Arms and fields read by themselves: as they are printed; and an expression inside of parentheses, where it is refused.
 
 use std::alloc::Global;
 use std::test::Fail;
 use syn_expr::token::{Brace, Match};
 use syn_expr::{
-    Arm, Error, Expr, ExprMatch, ExprParen, FieldValue, HeldExpr, Parse, ParseBuffer, ToTokens,
-    TokenStream, lex, parse_str, to_text,
+    Arm, Error, ErrorKind, Expr, ExprMatch, ExprParen, FieldValue, HeldExpr, Parse, ParseBuffer,
+    Span, ToTokens, TokenStream, lex, parse_str, to_text,
 };
 
 /// Fields.
@@ -144,5 +144,24 @@ fn arms_are_read_by_themselves(rt: HostRuntime) -> Result<(), Fail> {
         let tokens = lex(rt.alloc(), whole)?;
         assert_eq!(rt; to_text(&printed)?.as_str(), to_text(&tokens)?.as_str());
     }
+    Ok(())
+}
+
+/// Why the expression is refused that a text has in parentheses, read by itself there.
+fn refusal_inside(alloc: Global, text: &str) -> Result<Option<Error>, Error> {
+    let tokens = lex(alloc, text)?;
+    let mut input = ParseBuffer::new(&tokens)?;
+    let (_, mut content) = input.parse_parens()?;
+    match HeldExpr::parse(&mut content) {
+        Ok(_) => Ok(None),
+        Err(e) => Ok(Some(e)),
+    }
+}
+
+#[test]
+fn the_end_inside_of_parentheses_is_where_they_close(rt: HostRuntime) -> Result<(), Fail> {
+    let closing = Error::new(Span { lo: 9, hi: 10 }, ErrorKind::ExpectedExpression);
+    assert!(rt; refusal_inside(rt.alloc(), "(x[a_b] *)")? == Some(closing));
+    assert!(rt; refusal_inside(rt.alloc(), "(x[a b] *)")? == Some(closing));
     Ok(())
 }
