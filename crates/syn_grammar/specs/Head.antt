@@ -254,32 +254,53 @@ bar = sign (codes "|")
 abbrev pub Inputs : Type 0
 Inputs = List PatTree × Bool
 
-abbrev pub to_head : Option LifetimesTree × (Bool × (Bool × (Bool × (Inputs × ReturnTree)))) → ClosureHead
+-- lifetimes, the words before the arguments, these, and the output
+abbrev pub HeadParts : Type 0
+HeadParts = Option LifetimesTree × (Bool × (Bool × (Bool × ((Bool × Bool) × (Inputs × ReturnTree)))))
+
+abbrev pub to_head : HeadParts → ClosureHead
 to_head p = record {
   lifetimes = p.0;
   constness = p.1.0;
-  asyncness = p.1.1.0;
-  capture = p.1.1.1.0;
-  inputs = p.1.1.1.1.0.0;
-  trailing = p.1.1.1.1.0.1;
-  output = p.1.1.1.1.1;
+  movability = p.1.1.0;
+  asyncness = p.1.1.1.0;
+  capture = p.1.1.1.1.0.0;
+  usage = p.1.1.1.1.0.1;
+  inputs = p.1.1.1.1.1.0.0;
+  trailing = p.1.1.1.1.1.0.1;
+  output = p.1.1.1.1.1.1;
 }
 
-abbrev pub from_head : ClosureHead → Option (Option LifetimesTree × (Bool × (Bool × (Bool × (Inputs × ReturnTree)))))
-from_head h = Some (h.lifetimes, (h.constness, (h.asyncness, (h.capture, ((h.inputs, h.trailing), h.output)))))
+abbrev pub from_head : ClosureHead → Option HeadParts
+from_head h = Some (h.lifetimes, (h.constness, (h.movability, (h.asyncness, ((h.capture, h.usage), ((h.inputs, h.trailing), h.output))))))
 
 unfoldable pub closure_inputs : Form Inputs
 closure_inputs = mark bar (closed_by bar (listed comma bar.at closure_arg))
 
+abbrev pub static_word : Mark
+static_word = word (codes "static")
+
+abbrev pub use_word : Mark
+use_word = word (codes "use")
+
+-- `use` is where `move` may be, and never both
+abbrev pub use_behind : Bool → Form Bool
+use_behind true = pure false not
+use_behind false = flag use_word
+
 unfoldable pub closure_head : Form ClosureHead
 closure_head = shown to_head from_head
-    (both (maybe lifetimes_at lifetimes) (both (flag constant) (both (flag async_word) (both (flag move_word)
-    (both closure_inputs (output type true))))))
+    (both (maybe lifetimes_at lifetimes) (both (flag constant) (both (flag static_word) (both (flag async_word)
+    (both (then_by (flag move_word) use_behind) (both closure_inputs (output type true)))))))
+
+-- what may follow the `async` of a closure: `|`, `use`, or `move` that is not before a block
+abbrev pub captures_at : Test
+captures_at l = bar.at l || (use_word.at l || (move_word.at l && not (brace_at (drop 1 l))))
 
 unfoldable pub closure_at : Test
 closure_at l =
-    bar.at l || (move_word.at l || (lifetimes_at l || ((constant.at l && not (brace_at (drop 1 l)))
-    || (async_word.at l && (bar.at (drop 1 l) || (move_word.at (drop 1 l) && not (brace_at (drop 2 l))))))))
+    bar.at l || (move_word.at l || (use_word.at l || (static_word.at l || (lifetimes_at l
+    || ((constant.at l && not (brace_at (drop 1 l))) || (async_word.at l && captures_at (drop 1 l)))))))
 
 -- ---- what stands before an operand
 

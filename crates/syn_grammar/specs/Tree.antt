@@ -51,12 +51,15 @@ pub data Leaf : Type 0 where
   -- tokens that are kept
   verbatim : List Tok → Leaf
 
--- a closure up to its body: lifetimes, `const`, `async`, `move`, its arguments and whether a comma ends them, its output
+-- a closure up to its body: lifetimes, `const`, `static`, `async`, `move`, `use`, its arguments and whether a comma ends
+-- them, its output
 pub record ClosureHead : Type 0 where
   pub lifetimes : Option LifetimesTree
   pub constness : Bool
+  pub movability : Bool
   pub asyncness : Bool
   pub capture : Bool
+  pub usage : Bool
   pub inputs : List PatTree
   pub trailing : Bool
   pub output : ReturnTree
@@ -319,8 +322,9 @@ vert_before r = alone 124 ∷ r
 
 abbrev pub closure_own : ClosureHead → List Tok → List Tok
 closure_own h r =
-    before_some h.lifetimes lifetimes_own (word_if h.constness (codes "const") (word_if h.asyncness (codes "async") (word_if h.capture (codes "move")
-    (vert_before (elements_own pat_own comma_before h.inputs h.trailing (vert_before (return_own h.output r)))))))
+    before_some h.lifetimes lifetimes_own (word_if h.constness (codes "const") (word_if h.movability (codes "static")
+    (word_if h.asyncness (codes "async") (word_if h.capture (codes "move") (word_if h.usage (codes "use")
+    (vert_before (elements_own pat_own comma_before h.inputs h.trailing (vert_before (return_own h.output r)))))))))
 
 abbrev pub lead_own : Lead → List Tok → List Tok
 lead_own (unary op) r = sign_before (unary_text op) r

@@ -47,7 +47,9 @@ inputs_fit [] = true
 inputs_fit (p ∷ ps) = closure_arg_fits p && inputs_fit ps
 
 abbrev pub head_fits : ClosureHead → Bool
-head_fits h = fits_if lifetimes_fit h.lifetimes && (inputs_fit h.inputs && (ends_well (is_nil h.inputs) h.trailing && output_fits true h.output))
+head_fits h =
+    not (h.capture && h.usage)
+    && (fits_if lifetimes_fit h.lifetimes && (inputs_fit h.inputs && (ends_well (is_nil h.inputs) h.trailing && output_fits true h.output)))
 
 abbrev pub lead_fits : Lead → Bool
 lead_fits (e.binding p) = pat_fits true p
