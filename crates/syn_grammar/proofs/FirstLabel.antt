@@ -107,14 +107,16 @@ leaf_first (e.async_block m ts) r h = refl
 leaf_first (e.try_block ts) r h = refl
 leaf_first (e.verbatim ts) r h = kept_first ts r h
 
-closure_first : (f : Option LifetimesTree) (c a m : Bool) (r : List Tok)
-    → lifetime_at (before_some f lifetimes_own (word_if c (codes "const") (word_if a (codes "async") (word_if m (codes "move") (vert_before r))))) ≡ false
+closure_first : (f : Option LifetimesTree) (c s a m u : Bool) (r : List Tok)
+    → lifetime_at (before_some f lifetimes_own (word_if c (codes "const") (word_if s (codes "static") (word_if a (codes "async") (word_if m (codes "move") (word_if u (codes "use") (vert_before r))))))) ≡ false
 unfolding lifetime_at lifetimes_own
-closure_first (Some p) c a m r = refl
-closure_first None true a m r = refl
-closure_first None false true m r = refl
-closure_first None false false true r = refl
-closure_first None false false false r = refl
+closure_first (Some p) c s a m u r = refl
+closure_first None true s a m u r = refl
+closure_first None false true a m u r = refl
+closure_first None false false true m u r = refl
+closure_first None false false false true u r = refl
+closure_first None false false false false true r = refl
+closure_first None false false false false false r = refl
 
 lead_first : (k : Lead) (r : List Tok) → lifetime_at (lead_own k r) ≡ false
 unfolding lifetime_at
@@ -129,7 +131,7 @@ lead_first (e.binding p) r = refl
 lead_first (e.jump e.returning) r = refl
 lead_first (e.jump e.yielding) r = refl
 lead_first (e.jump (e.breaking w)) r = refl
-lead_first (e.closure h) r = closure_first h.lifetimes h.constness h.asyncness h.capture _
+lead_first (e.closure h) r = closure_first h.lifetimes h.constness h.movability h.asyncness h.capture h.usage _
 
 frame_first : (k : Frame) (o r : List Tok) → lifetime_at (framed k (enclosure k) o r) ≡ frame_labelled k
 unfolding lifetime_at
@@ -139,7 +141,7 @@ frame_first e.repeat o r = refl
 frame_first (e.structure q p d) o r =
     subst (λ l. lifetime_at l ≡ false) (type_append (t.path q p.leading (t.segments_of p.segments) p.trailing) (enclosed del.Brace o r))
     (path_first q p.leading (t.segments_of p.segments) p.trailing (enclosed del.Brace o r) refl)
-frame_first (e.closure_block h) o r = closure_first h.lifetimes h.constness h.asyncness h.capture _
+frame_first (e.closure_block h) o r = closure_first h.lifetimes h.constness h.movability h.asyncness h.capture h.usage _
 frame_first e.branch o r = refl
 frame_first (e.while_loop None) o r = refl
 frame_first (e.while_loop (Some w)) o r = refl

@@ -9,7 +9,7 @@ use Rattle.syn_lexer.specs.declared.lexeme.Spacing.TheVariants as spacing
 use Rattle.syn_tokens.specs.Tok.{Tok, ident, punct, literal, group}
 use Rattle.syn_tokens.specs.Front.{group_at}
 use Rattle.syn_parts.specs.Text.{Text, is_truth}
-use Rattle.syn_parts.specs.Form.{Mark, then_behind, flag, maybe, is_none}
+use Rattle.syn_parts.specs.Form.{Mark, then_by, then_behind, flag, maybe, is_none}
 use Rattle.syn_parts.specs.Mark.{sign_at, word_at, lifetime_at, brace_at, star, bang, and, constant}
 use Rattle.syn_parts.specs.Part.{type, lifetimes_at, lifetimes, output}
 use Rattle.syn_parts.proofs.Ends.{sign_first}
@@ -17,7 +17,7 @@ use Rattle.syn_grammar.specs.declared.kinds.Limits.{Limits}
 use Rattle.syn_grammar.specs.Tree as tr
 use Rattle.syn_grammar.specs.Tree.{Lead, ClosureHead, Jump}
 use Rattle.syn_grammar.specs.Head as h
-use Rattle.syn_grammar.specs.Head.{lead_form, closure_head, closure_inputs, closure_at, bar, move_word, async_word, minus, let_word, range_at, jump_at, jump_head, literal_at, loop_at, block_at, const_block_at, async_block_at, try_block_at, builtin_at, range_op}
+use Rattle.syn_grammar.specs.Head.{lead_form, closure_head, closure_inputs, closure_at, bar, move_word, use_word, static_word, use_behind, async_word, minus, let_word, range_at, jump_at, jump_head, literal_at, loop_at, block_at, const_block_at, async_block_at, try_block_at, builtin_at, range_op}
 use Rattle.syn_grammar.specs.Read.{leaf_at, lead_at}
 use Rattle.syn_grammar.proofs.Chains.{some_is, behind_some, only_some, chosen, both_true, one_true}
 
@@ -76,31 +76,63 @@ pub record Closed (l : List Tok) : Type 0 where
   pub no_leaf : leaf_at l ≡ false
   pub closures : (f : ClosureHead) → lead_form.behind (tr.closure f) l ≡ closure_head.behind f l
 
-by_move : (l m : List Tok) (b : Bool) → move_word.at l ≡ b → m ≡ (if b then drop 1 l else l) → bar.at m ≡ true → (move_word.at l || bar.at l) ≡ true
-by_move l m true a d g = rw a refl
-by_move l m false a d g = rw (a, ← d) g
-
-no_brace_move : (l m : List Tok) (b : Bool) → move_word.at l ≡ b → m ≡ (if b then drop 1 l else l) → bar.at m ≡ true → brace_at l ≡ false
-no_brace_move l m true a d g = word_no_brace _ l a
-no_brace_move l m false a d g = subst (λ z. brace_at z ≡ false) d (sign_no_brace 124 m g)
-
 pub second_true : (a : Bool) {b : Bool} → b ≡ true → (a || b) ≡ true
 second_true true g = refl
 second_true false g = g
 
--- behind `async`
-closed_async : (l m : List Tok) (b : Bool) → move_word.at l ≡ b → m ≡ (if b then drop 1 l else l) → bar.at m ≡ true → Closed (ident (codes "async") ∷ l)
-unfolding closure_at leaf_at literal_at word_at loop_at block_at lifetime_at brace_at group_at const_block_at async_block_at try_block_at builtin_at sign_at lifetimes_at is_truth lead_form range_at jump_at
-closed_async l m true a d g =
-    let n : brace_at (drop 1 l) ≡ false = subst (λ z. brace_at z ≡ false) d (sign_no_brace 124 m g) in
-    record { at = second_true (bar.at l) (rw (a, n) refl); no_leaf = rw (word_no_brace (codes "move") l a, n, and-false (move_word.at l)) refl; closures = λ f. refl }
-closed_async l m false a d g =
-    let b : bar.at l ≡ true = subst (λ z. bar.at z ≡ true) d g in
-    record { at = rw b refl; no_leaf = rw (sign_no_brace 124 l b, a) refl; closures = λ f. refl }
+-- `move`, `use` or the first `|`
+data Captures (l : List Tok) : Type 0 where
+  by_move : move_word.at l ≡ true → bar.at (drop 1 l) ≡ true → Captures l
+  by_use : use_word.at l ≡ true → Captures l
+  by_bar : bar.at l ≡ true → Captures l
 
-closed_move : (l : List Tok) → Closed (ident (codes "move") ∷ l)
+-- A closure begins so, and no block does.
+record Begun (l : List Tok) : Type 0 where
+  closed : Closed l
+  no_brace : brace_at l ≡ false
+
+begun_move : (l : List Tok) → Begun (ident (codes "move") ∷ l)
 unfolding closure_at leaf_at literal_at word_at loop_at block_at lifetime_at brace_at group_at const_block_at async_block_at try_block_at builtin_at sign_at lifetimes_at is_truth lead_form range_at jump_at
-closed_move l = record { at = refl; no_leaf = refl; closures = λ f. refl }
+begun_move l = record { closed = record { at = refl; no_leaf = refl; closures = λ f. refl }; no_brace = refl }
+
+begun_use : (l : List Tok) → Begun (ident (codes "use") ∷ l)
+unfolding closure_at leaf_at literal_at word_at loop_at block_at lifetime_at brace_at group_at const_block_at async_block_at try_block_at builtin_at sign_at lifetimes_at is_truth lead_form range_at jump_at
+begun_use l = record { closed = record { at = refl; no_leaf = refl; closures = λ f. refl }; no_brace = refl }
+
+begun_static : (l : List Tok) → Begun (ident (codes "static") ∷ l)
+unfolding closure_at leaf_at literal_at word_at loop_at block_at lifetime_at brace_at group_at const_block_at async_block_at try_block_at builtin_at sign_at lifetimes_at is_truth lead_form range_at jump_at
+begun_static l = record { closed = record { at = refl; no_leaf = refl; closures = λ f. refl }; no_brace = refl }
+
+begun_bar : (s : Spacing) (l : List Tok) → Begun (punct 124 s ∷ l)
+unfolding closure_at leaf_at literal_at word_at loop_at block_at lifetime_at brace_at group_at const_block_at async_block_at try_block_at builtin_at sign_at lifetimes_at is_truth lead_form range_at jump_at
+begun_bar spacing.Alone l = record { closed = record { at = refl; no_leaf = sign_no_leaf 124 spacing.Alone l refl; closures = λ f. refl }; no_brace = refl }
+begun_bar spacing.Joint l = record { closed = record { at = refl; no_leaf = sign_no_leaf 124 spacing.Joint l refl; closures = λ f. refl }; no_brace = refl }
+
+-- behind `async`
+async_move : (l : List Tok) → bar.at l ≡ true → Begun (ident (codes "async") ∷ ident (codes "move") ∷ l)
+unfolding closure_at leaf_at literal_at word_at loop_at block_at lifetime_at brace_at group_at const_block_at async_block_at try_block_at builtin_at sign_at lifetimes_at is_truth lead_form range_at jump_at
+async_move l g =
+    let n = sign_no_brace 124 l g in
+    record { closed = record { at = rw n refl; no_leaf = rw n refl; closures = λ f. refl }; no_brace = refl }
+
+async_use : (l : List Tok) → Begun (ident (codes "async") ∷ ident (codes "use") ∷ l)
+unfolding closure_at leaf_at literal_at word_at loop_at block_at lifetime_at brace_at group_at const_block_at async_block_at try_block_at builtin_at sign_at lifetimes_at is_truth lead_form range_at jump_at
+async_use l = record { closed = record { at = refl; no_leaf = refl; closures = λ f. refl }; no_brace = refl }
+
+async_bar : (s : Spacing) (l : List Tok) → Begun (ident (codes "async") ∷ punct 124 s ∷ l)
+unfolding closure_at leaf_at literal_at word_at loop_at block_at lifetime_at brace_at group_at const_block_at async_block_at try_block_at builtin_at sign_at lifetimes_at is_truth lead_form range_at jump_at
+async_bar spacing.Alone l = record { closed = record { at = refl; no_leaf = refl; closures = λ f. refl }; no_brace = refl }
+async_bar spacing.Joint l = record { closed = record { at = refl; no_leaf = refl; closures = λ f. refl }; no_brace = refl }
+
+begun_captures : (l : List Tok) → Captures l → Begun l
+begun_captures l (by_move g k) = subst (λ z. Begun z) (sym (word_is _ l g)) (begun_move (drop 1 l))
+begun_captures l (by_use g) = subst (λ z. Begun z) (sym (word_is _ l g)) (begun_use (drop 1 l))
+begun_captures l (by_bar g) = sign_first 124 [] (λ z. Begun z) begun_bar l g
+
+async_captures : (l : List Tok) → Captures l → Begun (ident (codes "async") ∷ l)
+async_captures l (by_move g k) = subst (λ z. Begun (ident (codes "async") ∷ z)) (sym (word_is _ l g)) (async_move (drop 1 l) k)
+async_captures l (by_use g) = subst (λ z. Begun (ident (codes "async") ∷ z)) (sym (word_is _ l g)) (async_use (drop 1 l))
+async_captures l (by_bar g) = sign_first 124 [] (λ z. Begun (ident (codes "async") ∷ z)) async_bar l g
 
 closed_const : (l : List Tok) → brace_at l ≡ false → Closed (ident (codes "const") ∷ l)
 unfolding closure_at leaf_at literal_at word_at loop_at block_at lifetime_at brace_at group_at const_block_at async_block_at try_block_at builtin_at sign_at lifetimes_at is_truth lead_form range_at jump_at
@@ -110,48 +142,52 @@ closed_for : (l : List Tok) → lifetimes_at (ident (codes "for") ∷ l) ≡ tru
 unfolding closure_at leaf_at literal_at word_at loop_at block_at lifetime_at brace_at group_at const_block_at async_block_at try_block_at builtin_at sign_at is_truth lead_form range_at jump_at
 closed_for l g = record { at = rw g refl; no_leaf = refl; closures = λ f. refl }
 
-bar_closures : (s : Spacing) (l : List Tok) (f : ClosureHead) → lead_form.behind (tr.closure f) (punct 124 s ∷ l) ≡ closure_head.behind f (punct 124 s ∷ l)
-unfolding lead_form range_at jump_at sign_at word_at
-bar_closures spacing.Alone l f = refl
-bar_closures spacing.Joint l f = refl
+-- behind `async` or not, behind `static` or not, behind `const` or not
+begun_async : (l m : List Tok) (a : Bool) → async_word.at l ≡ a → m ≡ (if a then drop 1 l else l) → Captures m → Begun l
+begun_async l m true g d c = subst (λ z. Begun z) (sym (word_is _ l g)) (subst (λ z. Begun (ident (codes "async") ∷ z)) d (async_captures m c))
+begun_async l m false g d c = subst (λ z. Begun z) d (begun_captures m c)
 
--- behind `async` or not, behind `const` or not
-closed_from_async : (l m n : List Tok) (a b : Bool) → async_word.at l ≡ a → m ≡ (if a then drop 1 l else l) → move_word.at m ≡ b → n ≡ (if b then drop 1 m else m) → bar.at n ≡ true → Closed l
-unfolding closure_at
-closed_from_async l m n true b f g i j k =
-    subst (λ z. Closed z) (sym (word_is _ l f)) (subst (λ z. Closed (ident (codes "async") ∷ z)) g (closed_async m n b i j k))
-closed_from_async l m n false true f g i j k =
-    let v : move_word.at l ≡ true = subst (λ z. move_word.at z ≡ true) g i in
-    subst (λ z. Closed z) (sym (word_is _ l v)) (closed_move (drop 1 l))
-closed_from_async l m n false false f g i j k =
-    let v : bar.at l ≡ true = subst (λ z. bar.at z ≡ true) (j ∙ g) k in
-    record { at = rw v refl; no_leaf = sign_first 124 [] (λ z. leaf_at z ≡ false) (λ s z. sign_no_leaf 124 s z refl) l v; closures = sign_first 124 [] (λ z. (f : ClosureHead) → lead_form.behind (tr.closure f) z ≡ closure_head.behind f z) bar_closures l v }
+begun_from_static : (l m : List Tok) (a : Bool) → static_word.at l ≡ a → m ≡ (if a then drop 1 l else l) → Begun m → Begun l
+begun_from_static l m true g d c = subst (λ z. Begun z) (sym (word_is _ l g)) (begun_static (drop 1 l))
+begun_from_static l m false g d c = subst (λ z. Begun z) d c
 
-closed_no_brace : (l m n : List Tok) (a b : Bool) → async_word.at l ≡ a → m ≡ (if a then drop 1 l else l) → move_word.at m ≡ b → n ≡ (if b then drop 1 m else m) → bar.at n ≡ true → brace_at l ≡ false
-closed_no_brace l m n true b f g i j k = word_no_brace _ l f
-closed_no_brace l m n false b f g i j k = subst (λ z. brace_at z ≡ false) g (no_brace_move m n b i j k)
+closed_from_const : (l m : List Tok) (a : Bool) → constant.at l ≡ a → m ≡ (if a then drop 1 l else l) → Begun m → Closed l
+closed_from_const l m true g d c = subst (λ z. Closed z) (sym (word_is _ l g)) (subst (λ z. Closed (ident (codes "const") ∷ z)) d (closed_const m c.no_brace))
+closed_from_const l m false g d c = subst (λ z. Closed z) d c.closed
 
-closed_from_const : (l m n o : List Tok) (c a b : Bool) → constant.at l ≡ c → m ≡ (if c then drop 1 l else l) → async_word.at m ≡ a → n ≡ (if a then drop 1 m else m)
-    → move_word.at n ≡ b → o ≡ (if b then drop 1 n else n) → bar.at o ≡ true → Closed l
-closed_from_const l m n o true a b c d f g i j k =
-    subst (λ z. Closed z) (sym (word_is _ l c)) (subst (λ z. Closed (ident (codes "const") ∷ z)) d (closed_const m (closed_no_brace m n o a b f g i j k)))
-closed_from_const l m n o false a b c d f g i j k = subst (λ z. Closed z) d (closed_from_async m n o a b f g i j k)
+captures_from : (d u : Bool) (l n : List Tok) → (then_by (flag move_word) use_behind).behind (d, u) l ≡ Some n → bar.at n ≡ true → Captures l
+captures_from true u l n g k =
+    let (m, i, j) = behind_some ((flag move_word).behind true l) ((use_behind true).behind u) n g in
+    let p = flag_is move_word true l m i in
+    let (q, r) = only_some (not u) (Some m) n j in
+    by_move p.0 (subst (λ z. bar.at z ≡ true) (sym (some_is r) ∙ p.1) k)
+captures_from false u l n g k =
+    let (m, i, j) = behind_some ((flag move_word).behind false l) ((use_behind false).behind u) n g in
+    let p = flag_is move_word false l m i in
+    subst (λ z. Captures z) p.1 (by_usage u m n (flag_is use_word u m n j) k)
+  where
+    by_usage : (u : Bool) (m n : List Tok) → (use_word.at m ≡ u) × (n ≡ (if u then drop 1 m else m)) → bar.at n ≡ true → Captures m
+    by_usage true m n p k = by_use p.0
+    by_usage false m n p k = by_bar (subst (λ z. bar.at z ≡ true) p.1 k)
 
 bar_inputs : (x : h.Inputs) (l n : List Tok) → closure_inputs.behind x l ≡ Some n → bar.at l ≡ true
 unfolding closure_inputs
 bar_inputs x l n g = let (a, b) = only_some (bar.at l) _ n g in a
 
-closed_from_flags : (f : ClosureHead) (l n : List Tok) → then_behind ((flag constant).behind f.constness l) (λ m. then_behind ((flag async_word).behind f.asyncness m) (λ m. then_behind ((flag move_word).behind f.capture m)
-    (λ m. then_behind (closure_inputs.behind (f.inputs, f.trailing) m) ((output type true).behind f.output)))) ≡ Some n → Closed l
+closed_from_flags : (f : ClosureHead) (l n : List Tok) → then_behind ((flag constant).behind f.constness l) (λ m. then_behind ((flag static_word).behind f.movability m)
+    (λ m. then_behind ((flag async_word).behind f.asyncness m) (λ m. then_behind ((then_by (flag move_word) use_behind).behind (f.capture, f.usage) m)
+    (λ m. then_behind (closure_inputs.behind (f.inputs, f.trailing) m) ((output type true).behind f.output))))) ≡ Some n → Closed l
 closed_from_flags f l n g =
     let (a, b, c) = behind_some ((flag constant).behind f.constness l) _ n g in
-    let (d, i, j) = behind_some ((flag async_word).behind f.asyncness a) _ n c in
-    let (k, u, v) = behind_some ((flag move_word).behind f.capture d) _ n j in
+    let (s, t, o) = behind_some ((flag static_word).behind f.movability a) _ n c in
+    let (d, i, j) = behind_some ((flag async_word).behind f.asyncness s) _ n o in
+    let (k, u, v) = behind_some ((then_by (flag move_word) use_behind).behind (f.capture, f.usage) d) _ n j in
     let (w, x, y) = behind_some (closure_inputs.behind (f.inputs, f.trailing) k) _ n v in
     let p = flag_is constant f.constness l a b in
-    let q = flag_is async_word f.asyncness a d i in
-    let r = flag_is move_word f.capture d k u in
-    closed_from_const l a d k f.constness f.asyncness f.capture p.0 p.1 q.0 q.1 r.0 r.1 (bar_inputs (f.inputs, f.trailing) k w x)
+    let q = flag_is static_word f.movability a s t in
+    let r = flag_is async_word f.asyncness s d i in
+    let z = captures_from f.capture f.usage d k u (bar_inputs (f.inputs, f.trailing) k w x) in
+    closed_from_const l a f.constness p.0 p.1 (begun_from_static a s f.movability q.0 q.1 (begun_async s d f.asyncness r.0 r.1 z))
 
 first_of_lifetimes : (l : List Tok) → lifetimes_at l ≡ true → word_at (codes "for") l ≡ true
 unfolding lifetimes_at

@@ -4,7 +4,7 @@ use Rattle.syn_tokens.specs.Tok.{Tok, toks-inside}
 use Rattle.syn_tokens.specs.Front.{group_at}
 use Rattle.syn_parts.specs.Text.{Text}
 use Rattle.syn_parts.specs.Tree.{AttributeTree, LifetimesTree}
-use Rattle.syn_parts.specs.Form.{more, maybe, flag, is_nil}
+use Rattle.syn_parts.specs.Form.{more, maybe, flag, then_by, is_nil}
 use Rattle.syn_parts.specs.Mark.{sign_at, word_at, lifetime_at, brace_at, round_at, colon, plus, mutable, constant}
 use Rattle.syn_parts.specs.Own.{alone, before_some, comma_before, elements_own, attribute_own, lifetime_own, lifetimes_own, return_own}
 use Rattle.syn_parts.specs.Part.{pound_bang, inner_body, inner_attributes, lifetimes_at, lifetimes, lifetime, is_default, type, output}
@@ -135,33 +135,50 @@ unfolding h.closure_inputs sign_at
 inputs_back xs e r f w =
     rw (listed_back closure_arg pat_own h.bar.at (λ k. closure_arg_alike) (vert_before r) refl refl e xs w (inputs_commas e xs r f)) refl
 
-abbrev from_words : Bool → Bool → Bool → List Tok → List Tok
-from_words b c d l = word_if b (codes "const") (word_if c (codes "async") (word_if d (codes "move") (vert_before l)))
+abbrev from_words : Bool → Bool → Bool → Bool → Bool → List Tok → List Tok
+from_words a b c d u l =
+    word_if a (codes "const") (word_if b (codes "static") (word_if c (codes "async") (word_if d (codes "move") (word_if u (codes "use") (vert_before l)))))
 
-no_lifetimes : (b c d : Bool) (l : List Tok) → lifetimes_at (from_words b c d l) ≡ false
+no_lifetimes : (a b c d u : Bool) (l : List Tok) → lifetimes_at (from_words a b c d u l) ≡ false
 unfolding lifetimes_at word_at
-no_lifetimes true c d l = refl
-no_lifetimes false true d l = refl
-no_lifetimes false false true l = refl
-no_lifetimes false false false l = refl
+no_lifetimes true b c d u l = refl
+no_lifetimes false true c d u l = refl
+no_lifetimes false false true d u l = refl
+no_lifetimes false false false true u l = refl
+no_lifetimes false false false false true l = refl
+no_lifetimes false false false false false l = refl
 
-const_back : (b c d : Bool) (l : List Tok) → (flag constant).behind b (from_words b c d l) ≡ Some (from_words false c d l)
+const_back : (a b c d u : Bool) (l : List Tok) → (flag constant).behind a (from_words a b c d u l) ≡ Some (from_words false b c d u l)
 unfolding word_at
-const_back true c d l = refl
-const_back false true d l = refl
-const_back false false true l = refl
-const_back false false false l = refl
+const_back true b c d u l = refl
+const_back false true c d u l = refl
+const_back false false true d u l = refl
+const_back false false false true u l = refl
+const_back false false false false true l = refl
+const_back false false false false false l = refl
 
-async_back : (c d : Bool) (l : List Tok) → (flag h.async_word).behind c (from_words false c d l) ≡ Some (from_words false false d l)
+static_back : (b c d u : Bool) (l : List Tok) → (flag h.static_word).behind b (from_words false b c d u l) ≡ Some (from_words false false c d u l)
 unfolding word_at
-async_back true d l = refl
-async_back false true l = refl
-async_back false false l = refl
+static_back true c d u l = refl
+static_back false true d u l = refl
+static_back false false true u l = refl
+static_back false false false true l = refl
+static_back false false false false l = refl
 
-move_back : (d : Bool) (l : List Tok) → (flag h.move_word).behind d (from_words false false d l) ≡ Some (vert_before l)
+async_back : (c d u : Bool) (l : List Tok) → (flag h.async_word).behind c (from_words false false c d u l) ≡ Some (from_words false false false d u l)
 unfolding word_at
-move_back true l = refl
-move_back false l = refl
+async_back true d u l = refl
+async_back false true u l = refl
+async_back false false true l = refl
+async_back false false false l = refl
+
+capture_back : (d u : Bool) (l : List Tok) → not (d && u) ≡ true
+    → (then_by (flag h.move_word) h.use_behind).behind (d, u) (from_words false false false d u l) ≡ Some (vert_before l)
+unfolding word_at
+capture_back true true l n = absurd cc
+capture_back true false l n = refl
+capture_back false true l n = refl
+capture_back false false l n = refl
 
 lifetimes_seen : (p : LifetimesTree) (r : List Tok) → lifetimes_fit p ≡ true → lifetimes_at (lifetimes_own p r) ≡ true
 unfolding lifetimes_at lifetimes_own sign_at word_at lifetime_at
@@ -169,24 +186,33 @@ lifetimes_seen ([], true) r f = absurd cc
 lifetimes_seen ([], false) r f = refl
 lifetimes_seen (w ∷ ws, e) r f = refl
 
-lifetimes_piece : (p : Option LifetimesTree) (b c d : Bool) (l : List Tok) → fits_if lifetimes_fit p ≡ true
-    → (maybe lifetimes_at lifetimes).behind p (before_some p lifetimes_own (from_words b c d l)) ≡ Some (from_words b c d l)
-lifetimes_piece None b c d l f = rw (no_lifetimes b c d l) refl
-lifetimes_piece (Some p) b c d l f = rw (lifetimes_seen p (from_words b c d l) f) (lifetimes_back p (from_words b c d l) f)
+lifetimes_piece : (p : Option LifetimesTree) (a b c d u : Bool) (l : List Tok) → fits_if lifetimes_fit p ≡ true
+    → (maybe lifetimes_at lifetimes).behind p (before_some p lifetimes_own (from_words a b c d u l)) ≡ Some (from_words a b c d u l)
+lifetimes_piece None a b c d u l f = rw (no_lifetimes a b c d u l) refl
+lifetimes_piece (Some p) a b c d u l f = rw (lifetimes_seen p (from_words a b c d u l) f) (lifetimes_back p (from_words a b c d u l) f)
 
 -- behind all of it but its output
 pub head_opens : (c : ClosureHead) (r : List Tok) → head_fits c ≡ true → h.closure_head.behind c (closure_own c r) ≡ (output type true).behind c.output (return_own c.output r)
 unfolding h.closure_head
 head_opens c r f =
-    let (i, j) = both_true (fits_if lifetimes_fit c.lifetimes) _ f in
+    let (n, o) = both_true (not (c.capture && c.usage)) _ f in
+    let (i, j) = both_true (fits_if lifetimes_fit c.lifetimes) _ o in
     let (k, m) = both_true (inputs_fit c.inputs) _ j in
     let (u, v) = both_true (ends_well (is_nil c.inputs) c.trailing) (output_fits true c.output) m in
     let l = elements_own pat_own comma_before c.inputs c.trailing (vert_before (return_own c.output r)) in
-    rw (lifetimes_piece c.lifetimes c.constness c.asyncness c.capture l i, const_back c.constness c.asyncness c.capture l, async_back c.asyncness c.capture l, move_back c.capture l, inputs_back c.inputs c.trailing (return_own c.output r) k u) refl
+    rw (
+      lifetimes_piece c.lifetimes c.constness c.movability c.asyncness c.capture c.usage l i,
+      const_back c.constness c.movability c.asyncness c.capture c.usage l,
+      static_back c.movability c.asyncness c.capture c.usage l,
+      async_back c.asyncness c.capture c.usage l,
+      capture_back c.capture c.usage l n,
+      inputs_back c.inputs c.trailing (return_own c.output r) k u,
+    ) refl
 
 pub head_back : (c : ClosureHead) (r : List Tok) → head_fits c ≡ true → output_stops true c.output r ≡ true → h.closure_head.behind c (closure_own c r) ≡ Some r
 head_back c r f w =
-    let (i, j) = both_true (fits_if lifetimes_fit c.lifetimes) _ f in
+    let (n, o) = both_true (not (c.capture && c.usage)) _ f in
+    let (i, j) = both_true (fits_if lifetimes_fit c.lifetimes) _ o in
     let (k, m) = both_true (inputs_fit c.inputs) _ j in
     let (u, v) = both_true (ends_well (is_nil c.inputs) c.trailing) (output_fits true c.output) m in
     head_opens c r f ∙ parts_read_back.outputs true c.output r v w
@@ -200,14 +226,16 @@ lead_stops (e.jump j) r = jump_stops j r
 lead_stops (e.closure c) r = output_stops true c.output r
 lead_stops _ r = true
 
-pub closure_seen : (x : ClosureHead) (p : Option LifetimesTree) (b c d : Bool) (l : List Tok)
-    → h.lead_form.behind (e.closure x) (before_some p lifetimes_own (from_words b c d l)) ≡ h.closure_head.behind x (before_some p lifetimes_own (from_words b c d l))
+pub closure_seen : (x : ClosureHead) (p : Option LifetimesTree) (a b c d u : Bool) (l : List Tok)
+    → h.lead_form.behind (e.closure x) (before_some p lifetimes_own (from_words a b c d u l)) ≡ h.closure_head.behind x (before_some p lifetimes_own (from_words a b c d u l))
 unfolding h.lead_form h.range_at h.jump_at sign_at word_at lifetimes_own
-closure_seen x (Some p) b c d l = refl
-closure_seen x None true c d l = refl
-closure_seen x None false true d l = refl
-closure_seen x None false false true l = refl
-closure_seen x None false false false l = refl
+closure_seen x (Some p) a b c d u l = refl
+closure_seen x None true b c d u l = refl
+closure_seen x None false true c d u l = refl
+closure_seen x None false false true d u l = refl
+closure_seen x None false false false true u l = refl
+closure_seen x None false false false false true l = refl
+closure_seen x None false false false false false l = refl
 
 equal_ends : (l : List Tok) → ends_patterns (alone 61 ∷ l) ≡ true
 unfolding ends_patterns ends_types bound_at sign_at round_at brace_at group_at
@@ -261,4 +289,4 @@ lead_back (e.binding p) r f s = binding_back p r f
 lead_back (e.jump j) r f s = value_back j r s
 lead_back (e.closure c) r f s =
     let (i, j) = both_true (head_fits c) (is_default c.output) f in
-    closure_seen c c.lifetimes c.constness c.asyncness c.capture _ ∙ head_back c r i s
+    closure_seen c c.lifetimes c.constness c.movability c.asyncness c.capture c.usage _ ∙ head_back c r i s

@@ -186,7 +186,7 @@ sees_verbatim = record { there = λ x. refl; back = back }
 pub sees_head : Sees h.to_head h.from_head
 sees_head = record { there = λ x. refl; back = back }
   where
-    back : (y : ClosureHead) (x : Option LifetimesTree × (Bool × (Bool × (Bool × (h.Inputs × ReturnTree))))) → h.from_head y ≡ Some x → h.to_head x ≡ y
+    back : (y : ClosureHead) (x : h.HeadParts) → h.from_head y ≡ Some x → h.to_head x ≡ y
     back (z) x g = ap h.to_head (sym (some_is g))
 
 pub only_deref : Only (e.unary un.Deref) h.is_deref
@@ -452,9 +452,13 @@ pub closure_inputs_alike : {k : ℕ} → Alike k h.closure_inputs h.closure_inpu
 unfolding h.closure_inputs
 closure_inputs_alike = mark_at_alike bar_present (closed_by_alike bar_present (listed_alike h.bar.at comma_present closure_arg_alike))
 
+pub use_alike : {k : ℕ} (b : Bool) → Alike k (h.use_behind b) (h.use_behind b)
+use_alike true = search (forms, head_marks) depth 8
+use_alike false = search (forms, head_marks) depth 8
+
 pub closure_head_alike : {k : ℕ} → Alike k h.closure_head h.closure_head
 unfolding h.closure_head
-closure_head_alike = search (closure_inputs_alike, lifetimes_alike, output_whole, forms, head_marks, head_views) depth 16
+closure_head_alike = search (closure_inputs_alike, use_alike, lifetimes_alike, output_whole, forms, head_marks, head_views) depth 16
 
 pub lead_form_alike : {k : ℕ} → Alike k h.lead_form h.lead_form
 unfolding h.lead_form

@@ -8,9 +8,9 @@ use Rattle.syn_tokens.specs.Input.{IsTail}
 use Rattle.syn_parts.specs.declared.label.PathStyle.TheVariants as style
 use Rattle.syn_parts.specs.Text.{Text}
 use Rattle.syn_parts.specs.Same.{same_toks}
-use Rattle.syn_parts.specs.Form.{Form}
+use Rattle.syn_parts.specs.Form.{Form, then_by, flag, maybe}
 use Rattle.syn_parts.specs.Mark.{and, constant, underscore, colon}
-use Rattle.syn_parts.specs.Part.{QPathTree, no_arguments, macro_end, arguments, mutability, qpath, type}
+use Rattle.syn_parts.specs.Part.{lifetimes_at, lifetimes, QPathTree, no_arguments, macro_end, arguments, mutability, qpath, type}
 use Rattle.syn_parts.specs.Pat as p
 use Rattle.syn_parts.specs.Pat.{MemberTree, PatTree, a_name, an_index}
 use Rattle.syn_parts.proofs.Weights.{some_is}
@@ -178,9 +178,26 @@ pub leaf_form_leaves : Leaves h.leaf_form
 unfolding h.leaf_form
 leaf_form_leaves = search (label_leaves, jump_head_leaves, range_op_leaves, body_leaves, builtin_leaves, named_leaves, block_leaves, case_leaves, leaving) depth 40
 
+capture_leaves : Leaves (then_by (flag h.move_word) h.use_behind)
+capture_leaves = then_by_leaves (flag_leaves h.move_word) use_leaves
+  where
+    use_leaves : (b : Bool) → Leaves (h.use_behind b)
+    use_leaves true = pure_leaves _ _
+    use_leaves false = flag_leaves h.use_word
+
+closure_inputs_leaves : Leaves h.closure_inputs
+unfolding h.closure_inputs
+closure_inputs_leaves = search (closure_arg_leaves, leaving) depth 16
+
+closure_lifetimes_leaves : Leaves (maybe lifetimes_at lifetimes)
+closure_lifetimes_leaves = search (lifetimes_leaves, leaving) depth 8
+
 pub closure_head_leaves : Leaves h.closure_head
-unfolding h.closure_head h.closure_inputs
-closure_head_leaves = search (closure_arg_leaves, lifetimes_leaves, output_leaves type_leaves, leaving) depth 16
+unfolding h.closure_head
+closure_head_leaves =
+    shown_leaves h.to_head h.from_head (both_leaves closure_lifetimes_leaves (both_leaves (flag_leaves constant)
+    (both_leaves (flag_leaves h.static_word) (both_leaves (flag_leaves h.async_word) (both_leaves capture_leaves (both_leaves closure_inputs_leaves
+    (output_leaves type_leaves true)))))))
 
 pub lead_form_leaves : Leaves h.lead_form
 unfolding h.lead_form

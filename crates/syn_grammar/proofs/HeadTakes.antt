@@ -16,7 +16,7 @@ use Rattle.syn_parts.proofs.Pats.{pattern_alike, closure_arg_alike}
 use Rattle.syn_parts.proofs.Takes.{Takes, mark_takes, when_takes, first_takes, second_takes, shown_takes, inside_takes, name_takes, lit_takes, qpath_takes}
 use Rattle.syn_grammar.specs.Head as h
 use Rattle.syn_grammar.specs.Slot as s
-use Rattle.syn_grammar.proofs.HeadForms.{head_marks, head_views, kept_some, output_whole, arguments_whole, label_alike, body_alike, field_colon_alike}
+use Rattle.syn_grammar.proofs.HeadForms.{head_marks, head_views, kept_some, use_alike, output_whole, arguments_whole, label_alike, body_alike, field_colon_alike}
 use Rattle.syn_grammar.proofs.HeadTails.{name_some, index_some}
 
 by : (l n m : List Tok) → l ≡ n → weight l < weight m → weight n < weight m
@@ -94,7 +94,7 @@ closure_inputs_takes = search (closure_arg_alike, taking, forms, head_marks) dep
 
 pub closure_head_takes : Takes h.closure_head
 unfolding h.closure_head
-closure_head_takes = search (closure_inputs_takes, lifetimes_alike, output_whole, taking, forms, head_marks) depth 24
+closure_head_takes = search (closure_inputs_takes, use_alike, lifetimes_alike, output_whole, taking, forms, head_marks) depth 24
 
 pub lead_form_takes : Takes h.lead_form
 unfolding h.lead_form

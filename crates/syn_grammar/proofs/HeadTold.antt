@@ -87,7 +87,7 @@ lead_told (e.reference false) r f g = reference_told r g
 lead_told (e.jump j) r f g = value_told j r g
 lead_told (e.closure c) r f g =
     let (i, j) = both_true (head_fits c) _ f in
-    head_told c r i (sym (closure_seen c c.lifetimes c.constness c.asyncness c.capture _) ∙ g)
+    head_told c r i (sym (closure_seen c c.lifetimes c.constness c.movability c.asyncness c.capture c.usage _) ∙ g)
 lead_told _ r f g = refl
 
 -- ---- leaves

@@ -196,8 +196,9 @@ leaf_last before (e.verbatim ts) r = kept_last before ts r
 
 closure_last : (h : ClosureHead) (before : Bool) (r : List Tok) → last_braces before (closure_own h r) ≡ last_braces (return_brace h.output) r
 closure_last h before r =
-    (if_some h.lifetimes lifetimes_own for_lifetimes _ _ (words h.constness (codes "const") _ _ (words h.asyncness (codes "async") _ _ (words h.capture (codes "move") _ _
-    (one (alone 124) _ _ (elements pat_own patterns h.inputs h.trailing _ _ (first (alone 124) _ _ (return_last h.output r)))))))).behind before
+    (if_some h.lifetimes lifetimes_own for_lifetimes _ _ (words h.constness (codes "const") _ _ (words h.movability (codes "static") _ _
+    (words h.asyncness (codes "async") _ _ (words h.capture (codes "move") _ _ (words h.usage (codes "use") _ _
+    (one (alone 124) _ _ (elements pat_own patterns h.inputs h.trailing _ _ (first (alone 124) _ _ (return_last h.output r)))))))))).behind before
 
 lead_last : (before : Bool) (k : Lead) (r : List Tok) → last_braces before (lead_own k r) ≡ last_braces (lead_brace k) r
 lead_last before (e.unary un.Deref) r = refl

@@ -28,9 +28,9 @@ use Rattle.syn_grammar.proofs.Fronts.{word_is, no_lifetime, sign_no_leaf, flag_i
 use Rattle.syn_grammar.proofs.HeadLeaf.{not_leaf_words}
 
 -- words that no path and no leaf begins with
-not_other_words : NoSegment (codes "let") × NoSegment (codes "move") × NoSegment (codes "become") × NoSegment (codes "if") × NoSegment (codes "while") × NoSegment (codes "match")
+not_other_words : NoSegment (codes "let") × NoSegment (codes "move") × NoSegment (codes "use") × NoSegment (codes "static") × NoSegment (codes "become") × NoSegment (codes "if") × NoSegment (codes "while") × NoSegment (codes "match")
 unfolding is_segment stands_alone is_reserved_word
-not_other_words = (refl, refl, refl, refl, refl, refl)
+not_other_words = (refl, refl, refl, refl, refl, refl, refl, refl)
 
 -- a path stands first, and nothing else
 pub record Named (l : List Tok) : Type 0 where
@@ -48,7 +48,7 @@ pub named_word : (w : Text) (m : List Tok) → is_segment w ≡ true → Named (
 unfolding lead_at range_at jump_at closure_at sign_at word_at lifetimes_at loop_head_at lifetime_at round_at bracket_at group_at leaf_at literal_at loop_at block_at const_block_at async_block_at brace_at
 named_word w m g =
     let (not_return, not_yield, not_break, not_continue, not_loop, not_const, not_async) = not_leaf_words in
-    let (not_let, not_move, not_become, not_if, not_while, not_match) = not_other_words in
+    let (not_let, not_move, not_use, not_static, not_become, not_if, not_while, not_match) = not_other_words in
     record {
       no_lead = rw (
         word_not w (codes "let") g not_let,
@@ -56,6 +56,8 @@ named_word w m g =
         word_not w (codes "yield") g not_yield,
         word_not w (codes "break") g not_break,
         word_not w (codes "move") g not_move,
+        word_not w (codes "use") g not_use,
+        word_not w (codes "static") g not_static,
         word_not w (codes "for") g not_for,
         word_not w (codes "const") g not_const,
         word_not w (codes "async") g not_async,

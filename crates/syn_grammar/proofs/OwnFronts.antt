@@ -214,18 +214,20 @@ leaf_front (e.const_block b) r f q = record { begins = refl; stops = refl; brace
 leaf_front (e.async_block m ts) r f q = record { begins = refl; stops = refl; brace = refl; label = refl; pound = refl; no_mut = refl; no_raw = refl; no_arrow = refl }
 leaf_front (e.try_block ts) r f q = record { begins = refl; stops = refl; brace = refl; label = refl; pound = refl; no_mut = refl; no_raw = refl; no_arrow = refl }
 
-closure_front : (o : Option LifetimesTree) (c a m : Bool) (l : List Tok)
-    → Front false false false (before_some o lifetimes_own (word_if c (codes "const") (word_if a (codes "async") (word_if m (codes "move") (vert_before l)))))
+closure_front : (o : Option LifetimesTree) (c s a m u : Bool) (l : List Tok)
+    → Front false false false (before_some o lifetimes_own (word_if c (codes "const") (word_if s (codes "static") (word_if a (codes "async") (word_if m (codes "move") (word_if u (codes "use") (vert_before l)))))))
 unfolding begins_expr sign_begins ends_open_range dot_at sign_at word_at lifetime_at brace_at group_at raw_at lifetimes_own
-closure_front (Some x) c a m l = record { begins = refl; stops = refl; brace = refl; label = refl; pound = refl; no_mut = refl; no_raw = refl; no_arrow = refl }
-closure_front None true a m l = record { begins = refl; stops = refl; brace = refl; label = refl; pound = refl; no_mut = refl; no_raw = refl; no_arrow = refl }
-closure_front None false true m l = record { begins = refl; stops = refl; brace = refl; label = refl; pound = refl; no_mut = refl; no_raw = refl; no_arrow = refl }
-closure_front None false false true l = record { begins = refl; stops = refl; brace = refl; label = refl; pound = refl; no_mut = refl; no_raw = refl; no_arrow = refl }
-closure_front None false false false l = record { begins = refl; stops = refl; brace = refl; label = refl; pound = refl; no_mut = refl; no_raw = refl; no_arrow = refl }
+closure_front (Some x) c s a m u l = record { begins = refl; stops = refl; brace = refl; label = refl; pound = refl; no_mut = refl; no_raw = refl; no_arrow = refl }
+closure_front None true s a m u l = record { begins = refl; stops = refl; brace = refl; label = refl; pound = refl; no_mut = refl; no_raw = refl; no_arrow = refl }
+closure_front None false true a m u l = record { begins = refl; stops = refl; brace = refl; label = refl; pound = refl; no_mut = refl; no_raw = refl; no_arrow = refl }
+closure_front None false false true m u l = record { begins = refl; stops = refl; brace = refl; label = refl; pound = refl; no_mut = refl; no_raw = refl; no_arrow = refl }
+closure_front None false false false true u l = record { begins = refl; stops = refl; brace = refl; label = refl; pound = refl; no_mut = refl; no_raw = refl; no_arrow = refl }
+closure_front None false false false false true l = record { begins = refl; stops = refl; brace = refl; label = refl; pound = refl; no_mut = refl; no_raw = refl; no_arrow = refl }
+closure_front None false false false false false l = record { begins = refl; stops = refl; brace = refl; label = refl; pound = refl; no_mut = refl; no_raw = refl; no_arrow = refl }
 
 lead_front : (k : Lead) (r : List Tok) → Front false false false (lead_own k r)
 unfolding begins_expr sign_begins ends_open_range dot_at sign_at word_at lifetime_at brace_at group_at raw_at
-lead_front (e.closure h) r = closure_front h.lifetimes h.constness h.asyncness h.capture _
+lead_front (e.closure h) r = closure_front h.lifetimes h.constness h.movability h.asyncness h.capture h.usage _
 lead_front (e.unary un.Deref) r = record { begins = refl; stops = refl; brace = refl; label = refl; pound = refl; no_mut = refl; no_raw = refl; no_arrow = refl }
 lead_front (e.unary un.Not) r = record { begins = refl; stops = refl; brace = refl; label = refl; pound = refl; no_mut = refl; no_raw = refl; no_arrow = refl }
 lead_front (e.unary un.Neg) r = record { begins = refl; stops = refl; brace = refl; label = refl; pound = refl; no_mut = refl; no_raw = refl; no_arrow = refl }
@@ -243,7 +245,7 @@ unfolding begins_expr sign_begins ends_open_range dot_at sign_at word_at lifetim
 frame_front (e.structure q p d) ks o r f =
     subst (λ l. Front false false false l) (type_append (t.path q p.leading (t.segments_of p.segments) p.trailing) (enclosed del.Brace o r))
     (named_front q p.leading p.segments p.trailing (enclosed del.Brace o r) (both_true (qpath_fits style.Expr (q, p)) _ f).0 (record { no_mut = refl; no_const = refl }))
-frame_front (e.closure_block h) ks o r f = closure_front h.lifetimes h.constness h.asyncness h.capture _
+frame_front (e.closure_block h) ks o r f = closure_front h.lifetimes h.constness h.movability h.asyncness h.capture h.usage _
 frame_front e.invisible ks o r f = absurd cc
 frame_front e.array ks o r f = record { begins = refl; stops = refl; brace = refl; label = refl; pound = refl; no_mut = refl; no_raw = refl; no_arrow = refl }
 frame_front e.tuple ks o r f = record { begins = refl; stops = refl; brace = refl; label = refl; pound = refl; no_mut = refl; no_raw = refl; no_arrow = refl }

@@ -131,7 +131,7 @@ pub record PlainRows2 : Type 0 where
   -- `a&&b`
   pub row2 : Plain (ident (codes "a") ∷ joint 38 ∷ alone 38 ∷ ident (codes "b") ∷ []) (Some (ident (codes "a") ∷ joint 38 ∷ alone 38 ∷ ident (codes "b") ∷ []))
   -- `static || x`
-  pub row3 : Plain (ident (codes "static") ∷ joint 124 ∷ alone 124 ∷ ident (codes "x") ∷ []) None
+  pub row3 : Plain (ident (codes "static") ∷ joint 124 ∷ alone 124 ∷ ident (codes "x") ∷ []) (Some (ident (codes "static") ∷ alone 124 ∷ alone 124 ∷ ident (codes "x") ∷ []))
   -- `-a * !b - c`
   pub row4 : Plain (alone 45 ∷ ident (codes "a") ∷ alone 42 ∷ alone 33 ∷ ident (codes "b") ∷ alone 45 ∷ ident (codes "c") ∷ []) (Some (alone 45 ∷ ident (codes "a") ∷ alone 42 ∷ alone 33 ∷ ident (codes "b") ∷ alone 45 ∷ ident (codes "c") ∷ []))
   -- `a--b`
