@@ -4,6 +4,8 @@
 #[cfg(test)]
 mod attrs;
 #[cfg(test)]
+mod guards;
+#[cfg(test)]
 mod kinds;
 #[cfg(test)]
 mod parts;
