@@ -16,7 +16,7 @@ pub struct ExprClosure {
     pub attrs: Vec<Attribute>,
     /// `for<'a>`
     pub lifetimes: Option<BoundLifetimes>,
-    /// None: no modifier is known.
+    /// `static` and `use`, each or not. No reader gives `move` and `use` together, and no tree with both is well-formed.
     pub modifiers: ClosureModifiers,
     /// `const`
     pub constness: Option<Const>,

@@ -34,6 +34,7 @@ impl ExprClosure {
         match &self.output {
             ReturnType::Default => Some(Lead::Closure(Closure {
                 lifetimes: &self.lifetimes,
+                modifiers: &self.modifiers,
                 constness: &self.constness,
                 asyncness: &self.asyncness,
                 capture: &self.capture,
@@ -54,6 +55,7 @@ impl ExprClosure {
             ReturnType::Default => None,
             ReturnType::Given(_, _) => Some(Frame::Closure(Closure {
                 lifetimes: &self.lifetimes,
+                modifiers: &self.modifiers,
                 constness: &self.constness,
                 asyncness: &self.asyncness,
                 capture: &self.capture,

@@ -27,6 +27,7 @@ impl ToTokens for ExprClosure {
         let attributes = Attributes::Before(&self.attrs);
         let closure = Closure {
             lifetimes: &self.lifetimes,
+            modifiers: &self.modifiers,
             constness: &self.constness,
             asyncness: &self.asyncness,
             capture: &self.capture,

@@ -20,7 +20,7 @@ use syn_expr_kinds::kinds::IsExpr;
 use syn_expr_kinds::operation::ExprRangeOf;
 use syn_expr_kinds::pattern::ExprClosureOf;
 use syn_expr_parts::label::Label;
-use syn_expr_parts::modifiers::{BlockModifiers, ClosureModifiers};
+use syn_expr_parts::modifiers::BlockModifiers;
 use syn_lower_leaves::block::Block;
 use syn_op::limits::RangeLimits;
 use syn_tokens::token::{Async, Const, Loop, Move, Try, Unsafe};
@@ -205,7 +205,7 @@ pub fn closure_expr<E: IsExpr>(alloc: Global, head: ClosureHead<E::Pat>, body: B
     E::closure(ExprClosureOf {
         attrs: Vec::new(alloc),
         lifetimes: head.lifetimes,
-        modifiers: ClosureModifiers::default(),
+        modifiers: head.modifiers,
         constness: head.constness,
         asyncness: head.asyncness,
         capture: head.capture,

@@ -62,8 +62,10 @@ module _ {E P : Type 0} (f : E → Tree) (g : P → PatView) where
       let head : List PatTree → Bool → ClosureHead = λ l c. record {
         lifetimes = mapped lifetimes_of x.lifetimes;
         constness = is_some x.constness;
+        movability = is_some x.modifiers.static_token;
         asyncness = is_some x.asyncness;
         capture = is_some x.capture;
+        usage = is_some x.modifiers.use_token;
         inputs = l;
         trailing = c;
         output = return_of x.output;

@@ -15,8 +15,8 @@ use syn_lower_lists::front::lifetimes_at;
 use syn_tokens::buffer::{ParseBuffer, Token};
 use syn_tokens::token::{
     And, Async, Become, Brace, Break, Const, Continue, DotDot, Else, For, If, In, Let, Loop, Match,
-    Minus, Move, Mut, Not, Or, Paren, PathSep, Pound, Raw, Return, Star, Try, Underscore, Unsafe,
-    While, Yield,
+    Minus, Move, Mut, Not, Or, Paren, PathSep, Pound, Raw, Return, Star, Static, Try, Underscore,
+    Unsafe, Use, While, Yield,
 };
 use syn_tokens::tree::TokenTree;
 
@@ -136,14 +136,20 @@ fn const_closure_at(input: &ParseBuffer<'_>) -> bool
     input.peek::<Const>() && !Brace::peek(behind(input.trees(), 1))
 }
 
-/// Whether `async` stands first, and `|` behind it, or `move` and no brace.
+/// Whether `|`, `use`, or `move` and no brace stands first: what may stand behind the `async` of a closure.
 #[tactic(auto, unfolding(syn_tokens::specs::Sign::word_text, syn_tokens::specs::Sign::sign_text, syn_parts::specs::Mark::word_at, syn_parts::specs::Mark::sign_at, syn_parts::specs::Mark::brace_at))]
-fn async_closure_at(input: &ParseBuffer<'_>) -> bool
-    ensures { result ≡ (head.async_word.at input.now.rest && (head.bar.at (drop 1 input.now.rest) || (head.move_word.at (drop 1 input.now.rest) && not (mark.brace_at (drop 2 input.now.rest))))) }
+fn captures_first(trees: &[TokenTree]) -> bool
+    ensures { result ≡ head.captures_at (toks_of trees.now) }
 {
-    let trees = input.trees();
-    let second = behind(trees, 1);
-    Async::peek(trees) && (Or::peek(second) || Move::peek(second) && !Brace::peek(behind(trees, 2)))
+    Or::peek(trees) || Use::peek(trees) || Move::peek(trees) && !Brace::peek(behind(trees, 1))
+}
+
+/// Whether `async` stands first, and behind it what may stand there in a closure.
+#[tactic(auto, unfolding(syn_tokens::specs::Sign::word_text, syn_parts::specs::Mark::word_at))]
+fn async_closure_at(input: &ParseBuffer<'_>) -> bool
+    ensures { result ≡ (head.async_word.at input.now.rest && head.captures_at (drop 1 input.now.rest)) }
+{
+    input.peek::<Async>() && captures_first(behind(input.trees(), 1))
 }
 
 /// Whether the head of a closure stands first (Rust Reference, "Closure expressions").
@@ -153,6 +159,8 @@ pub fn closure_at(input: &ParseBuffer<'_>) -> bool
 {
     input.peek::<Or>()
         || input.peek::<Move>()
+        || input.peek::<Use>()
+        || input.peek::<Static>()
         || lifetimes_at(input)
         || const_closure_at(input)
         || async_closure_at(input)

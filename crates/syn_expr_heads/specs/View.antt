@@ -86,8 +86,10 @@ abbrev pub closure_of : {P : Type 0} → (P → PatView) → ClosureHead P → e
 closure_of f x = record {
   lifetimes = mapped lifetimes_of x.lifetimes;
   constness = is_some x.constness;
+  movability = is_some x.modifiers.static_token;
   asyncness = is_some x.asyncness;
   capture = is_some x.capture;
+  usage = is_some x.modifiers.use_token;
   inputs = map (λ v. v.tree) (map f (values x.inputs));
   trailing = trails x.inputs;
   output = return_of x.output;

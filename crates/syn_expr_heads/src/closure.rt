@@ -1,6 +1,6 @@
 //! The readers of closures up to their bodies (Rust Reference, "Closure expressions").
 
-ghost use Rattle.std.specs.Prelude.{◌≡◌, ◌≤◌, ◌+◌, map, IfOk, []};
+ghost use Rattle.std.specs.Prelude.{◌≡◌, ◌≤◌, ◌+◌, is_some, map, IfOk, Some, []};
 ghost use Rattle.syn_expr_heads.specs.Reads.{CallableArg, ReadsArg};
 ghost use Rattle.syn_expr_heads.specs.View.{closure_guards, closure_of};
 ghost use Rattle.syn_grammar.specs.Head as head;
@@ -13,7 +13,8 @@ ghost use Rattle.syn_pat_kinds.specs.View as kinds;
 ghost use Rattle.syn_tokens.specs.Tok.{weight};
 
 use crate::types::ClosureHead;
-use crate::word::{async_word, bar, bar_at, move_word};
+use crate::word::{async_word, bar, bar_at, move_word, static_word, use_word};
+use syn_expr_parts::modifiers::ClosureModifiers;
 use syn_lower::readers::ty;
 use syn_lower_leaves::front::{comma, constant};
 use syn_lower_lists::punctuated::Punctuated;
@@ -22,7 +23,7 @@ use syn_lower_readers::grammar::Grammar;
 use syn_pat_kinds::kinds::HasPatTree;
 use syn_tokens::buffer::{ParseBuffer, Token};
 use syn_tokens::error::{ErrorKind, Expected, Result};
-use syn_tokens::token::{Comma, Or};
+use syn_tokens::token::{Comma, Move, Or, Use};
 
 /// The readers of closures, over that of their arguments.
 #[derive(Clone, Copy)]
@@ -33,6 +34,18 @@ pub struct Closures<G> {
 
 /// The arguments of a closure between its bars.
 type Inputs<P> = (Or, Punctuated<P, Comma>, Or);
+
+/// Takes `move`, or `use` where that stands in its place.
+fn captures(input: &mut ParseBuffer<'_>) -> (Option<Move>, Option<Use>)
+    ensures value { (form.then_by (form.flag head.move_word) head.use_behind).reads input.old.rest ≡ Some ((is_some result.0, is_some result.1), input.new.rest) }
+    ensures noted { input.new.noted ≡ input.old.noted }
+    ensures shrinks { weight input.new.rest ≤ weight input.old.rest }
+{
+    match move_word(input) {
+        Some(token) => (Some(token), None),
+        None => (None, use_word(input)),
+    }
+}
 
 impl<P: HasPatTree + Drop, G: Fn(&mut ParseBuffer<'_>) -> Result<P>> Closures<G> {
     /// Reads arguments with commas between, before `|`.
@@ -76,9 +89,9 @@ impl<P: HasPatTree + Drop, G: Fn(&mut ParseBuffer<'_>) -> Result<P>> Closures<G>
         Ok((inputs_begin, inputs, inputs_end))
     }
 
-    /// Reads a closure up to its body: lifetimes, `const`, `async`, `move`, each if it stands there, the arguments between
-    /// bars, and what it returns (Rust Reference, "Closure expressions"). A missing bar is refused as `ExpectedToken` of
-    /// it, an argument as its reader refuses it, and the type behind `->` as a type is.
+    /// Reads a closure up to its body: lifetimes, `const`, `static`, `async`, and `move` or `use`, each if it stands there, the
+    /// arguments between bars, and what it returns (Rust Reference, "Closure expressions"). A missing bar is refused as
+    /// `ExpectedToken` of it, an argument as its reader refuses it, and the type behind `->` as a type is.
     #[tactic(auto, using(crate::proofs::Loops::inputs), unfolding(syn_grammar::specs::Head::closure_head))]
     pub fn closure_head(&self, input: &mut ParseBuffer<'_>) -> Result<ClosureHead<P>>
         requires callable { CallableArg (weight input.old.rest) (G.pre self.now.arg) }
@@ -90,12 +103,17 @@ impl<P: HasPatTree + Drop, G: Fn(&mut ParseBuffer<'_>) -> Result<P>> Closures<G>
     {
         let lifetimes = maybe_lifetimes(input)?;
         let constness = constant(input);
+        let static_token = static_word(input);
         let asyncness = async_word(input);
-        let capture = move_word(input);
+        let (capture, use_token) = captures(input);
         let (inputs_begin, inputs, inputs_end) = self.inputs(input)?;
         let output = Grammar { ty }.output(input, true)?;
         Ok(ClosureHead {
             lifetimes,
+            modifiers: ClosureModifiers {
+                static_token,
+                use_token,
+            },
             constness,
             asyncness,
             capture,

@@ -2,6 +2,7 @@
 
 use syn_expr_parts::label::Label;
 use syn_expr_parts::member::Member;
+use syn_expr_parts::modifiers::ClosureModifiers;
 use syn_lower::mac::Macro;
 use syn_lower::path::{AngleBracketedGenericArguments, Path, QSelf};
 use syn_lower::ty::ReturnType;
@@ -117,6 +118,8 @@ pub struct ForHead<P> {
 pub struct ClosureHead<P> {
     /// `for<'a>`
     pub lifetimes: Option<BoundLifetimes>,
+    /// `static` and `use`, each or not.
+    pub modifiers: ClosureModifiers,
     /// `const`
     pub constness: Option<Const>,
     /// `async`

@@ -13,7 +13,7 @@ use syn_lower_leaves::front::{sign, word};
 use syn_tokens::buffer::ParseBuffer;
 use syn_tokens::token::{
     Async, Await, Become, Break, Continue, Dot, DotDot, Else, FatArrow, If, In, Let, Loop, Match,
-    Minus, Move, Or, Raw, Return, Sign, Try, While, Yield,
+    Minus, Move, Or, Raw, Return, Sign, Static, Try, Use, While, Yield,
 };
 
 /// Takes `return`.
@@ -82,6 +82,28 @@ pub fn async_word(input: &mut ParseBuffer<'_>) -> Option<Async>
 pub fn move_word(input: &mut ParseBuffer<'_>) -> Option<Move>
     ensures value { Takes head.move_word input.old result input.new }
     ensures flag { (flag head.move_word).reads input.old.rest ≡ Some (is_some result, input.new.rest) }
+    ensures smaller { IfSome result (λ _. weight input.new.rest < weight input.old.rest) }
+    ensures shrinks { weight input.new.rest ≤ weight input.old.rest }
+{
+    word(input)
+}
+
+/// Takes `static`.
+#[tactic(auto, unfolding(syn_tokens::specs::Sign::word_text, syn_parts::specs::Mark::word_at))]
+pub fn static_word(input: &mut ParseBuffer<'_>) -> Option<Static>
+    ensures value { Takes head.static_word input.old result input.new }
+    ensures flag { (flag head.static_word).reads input.old.rest ≡ Some (is_some result, input.new.rest) }
+    ensures smaller { IfSome result (λ _. weight input.new.rest < weight input.old.rest) }
+    ensures shrinks { weight input.new.rest ≤ weight input.old.rest }
+{
+    word(input)
+}
+
+/// Takes `use`.
+#[tactic(auto, unfolding(syn_tokens::specs::Sign::word_text, syn_parts::specs::Mark::word_at))]
+pub fn use_word(input: &mut ParseBuffer<'_>) -> Option<Use>
+    ensures value { Takes head.use_word input.old result input.new }
+    ensures flag { (flag head.use_word).reads input.old.rest ≡ Some (is_some result, input.new.rest) }
     ensures smaller { IfSome result (λ _. weight input.new.rest < weight input.old.rest) }
     ensures shrinks { weight input.new.rest ≤ weight input.old.rest }
 {

@@ -102,14 +102,18 @@ module _ {P : Type 0} (pat : P → PatView) where
 
   pub closure_is : (x : Closure P) → closure_own (closure_of pat x) []
       ≡ option_printed (λ l. lifetimes_own (lifetimes_of l) []) x.lifetimes.now ++ (option_printed (word (codes "const")) x.constness.now
+      ++ (option_printed (word (codes "static")) x.modifiers.now.static_token
       ++ (option_printed (word (codes "async")) x.asyncness.now ++ (option_printed (word (codes "move")) x.capture.now
-      ++ (alone 124 ∷ (punctuated_printed (λ p. pat_own (pat p).tree []) comma x.inputs.now ++ alone 124 ∷ return_printed type_toks x.output.now)))))
+      ++ (option_printed (word (codes "use")) x.modifiers.now.use_token
+      ++ (alone 124 ∷ (punctuated_printed (λ p. pat_own (pat p).tree []) comma x.inputs.now ++ alone 124 ∷ return_printed type_toks x.output.now)))))))
   closure_is x =
       lifetimes_first x.lifetimes.now _ ∙ ap (λ l. option_printed (λ l. lifetimes_own (lifetimes_of l) []) x.lifetimes.now ++ l) (
       word_first (codes "const") x.constness.now _ ∙ ap (λ l. option_printed (word (codes "const")) x.constness.now ++ l) (
+      word_first (codes "static") x.modifiers.now.static_token _ ∙ ap (λ l. option_printed (word (codes "static")) x.modifiers.now.static_token ++ l) (
       word_first (codes "async") x.asyncness.now _ ∙ ap (λ l. option_printed (word (codes "async")) x.asyncness.now ++ l) (
-      word_first (codes "move") x.capture.now _ ∙ ap (λ l. option_printed (word (codes "move")) x.capture.now ++ alone 124 ∷ l) (
-      inputs_first x.inputs.now _ ∙ ap (λ l. punctuated_printed (λ p. pat_own (pat p).tree []) comma x.inputs.now ++ alone 124 ∷ l) (output_last x.output.now)))))
+      word_first (codes "move") x.capture.now _ ∙ ap (λ l. option_printed (word (codes "move")) x.capture.now ++ l) (
+      word_first (codes "use") x.modifiers.now.use_token _ ∙ ap (λ l. option_printed (word (codes "use")) x.modifiers.now.use_token ++ alone 124 ∷ l) (
+      inputs_first x.inputs.now _ ∙ ap (λ l. punctuated_printed (λ p. pat_own (pat p).tree []) comma x.inputs.now ++ alone 124 ∷ l) (output_last x.output.now)))))))
 
 -- ---- fields
 

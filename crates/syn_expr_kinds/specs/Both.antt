@@ -21,8 +21,10 @@ abbrev pub closure_head_of : {E P : Type 0} → (P → PatView) → ExprClosureO
 closure_head_of g x = record {
   lifetimes = mapped lifetimes_of x.lifetimes;
   constness = is_some x.constness;
+  movability = is_some x.modifiers.static_token;
   asyncness = is_some x.asyncness;
   capture = is_some x.capture;
+  usage = is_some x.modifiers.use_token;
   inputs = trees (map g (values x.inputs));
   trailing = trails x.inputs;
   output = return_of x.output;

@@ -90,8 +90,10 @@ module _ {P : Type 0} (pat : P → PatView) where
   closure_of x = record {
     lifetimes = mapped lifetimes_of x.lifetimes.now;
     constness = is_some x.constness.now;
+    movability = is_some x.modifiers.now.static_token;
     asyncness = is_some x.asyncness.now;
     capture = is_some x.capture.now;
+    usage = is_some x.modifiers.now.use_token;
     inputs = trees (inputs_of x);
     trailing = trails x.inputs.now;
     output = return_of x.output.now;

@@ -13,6 +13,7 @@ use std::alloc::AllocError;
 use syn_expr_notes::kind::NodeKind;
 use syn_expr_parts::label::Label;
 use syn_expr_parts::member::Member;
+use syn_expr_parts::modifiers::ClosureModifiers;
 use syn_lower::attr::Attribute;
 use syn_lower::lifetime::Lifetime;
 use syn_lower::lit::Lit;
@@ -117,6 +118,8 @@ impl Leaf<'_> {
 pub struct Closure<'a, P> {
     /// `for<..>`
     pub lifetimes: &'a Option<BoundLifetimes>,
+    /// `static` and `use`, each or not.
+    pub modifiers: &'a ClosureModifiers,
     /// `const`
     pub constness: &'a Option<Const>,
     /// `async`

@@ -18,7 +18,7 @@ pub struct ExprClosureOf<E, P> {
     pub attrs: Vec<Attribute>,
     /// `for<'a>`
     pub lifetimes: Option<BoundLifetimes>,
-    /// None: no modifier is known.
+    /// `static` and `use`, each or not.
     pub modifiers: ClosureModifiers,
     /// `const`
     pub constness: Option<Const>,

@@ -15,27 +15,38 @@ use Rattle.syn_expr_laws.proofs.Kids.{strays_once, closure_once, arms_once}
 -- ---- the parts of each, and what a tree is made of them
 
 abbrev pub ClosureParts : Type 0
-ClosureParts = Option LifetimesTree × (Bool × (Bool × (Bool × ((List PatTree × (List Tree × Bool)) × (ReturnTree × Tree)))))
+ClosureParts = Option LifetimesTree × ((Bool × Bool) × (Bool × (Bool × (Bool × ((List PatTree × (List Tree × Bool)) × (ReturnTree × Tree))))))
 
 abbrev pub closure_head : ClosureParts → ClosureHead
-closure_head p = record { lifetimes = p.0; constness = p.1.0; asyncness = p.1.1.0; capture = p.1.1.1.0; inputs = p.1.1.1.1.0.0; trailing = p.1.1.1.1.0.1.1; output = p.1.1.1.1.1.0 }
+closure_head p = record {
+  lifetimes = p.0;
+  constness = p.1.1.0;
+  movability = p.1.0.0;
+  asyncness = p.1.1.1.0;
+  capture = p.1.1.1.1.0;
+  usage = p.1.0.1;
+  inputs = p.1.1.1.1.1.0.0;
+  trailing = p.1.1.1.1.1.0.1.1;
+  output = p.1.1.1.1.1.1.0;
+}
 
 abbrev pub closure_with : ClosureParts → Tree
-closure_with p = closure_by p.1.1.1.1.1.0 (closure_head p) p.1.1.1.1.0.1.0 p.1.1.1.1.1.1
+closure_with p = closure_by p.1.1.1.1.1.1.0 (closure_head p) p.1.1.1.1.1.0.1.0 p.1.1.1.1.1.1.1
 
 pub closure_core : (p : ClosureParts) → is_core (closure_with p) ≡ true
-closure_core p = by p.1.1.1.1.1.0
+closure_core p = by p.1.1.1.1.1.1.0
   where
-    by : (o : ReturnTree) → is_core (closure_by o (closure_head p) p.1.1.1.1.0.1.0 p.1.1.1.1.1.1) ≡ true
+    by : (o : ReturnTree) → is_core (closure_by o (closure_head p) p.1.1.1.1.1.0.1.0 p.1.1.1.1.1.1.1) ≡ true
     by default = refl
     by (given x) = refl
 
 pub closure_parts_once : (p q : ClosureParts) → closure_with p ≡ closure_with q → p ≡ q
 closure_parts_once p q h =
-    let r = closure_once p.1.1.1.1.1.0 q.1.1.1.1.1.0 (closure_head p) (closure_head q) p.1.1.1.1.0.1.0 q.1.1.1.1.0.1.0 p.1.1.1.1.1.1 q.1.1.1.1.1.1 h in
+    let r = closure_once p.1.1.1.1.1.1.0 q.1.1.1.1.1.1.0 (closure_head p) (closure_head q) p.1.1.1.1.1.0.1.0 q.1.1.1.1.1.0.1.0 p.1.1.1.1.1.1.1 q.1.1.1.1.1.1.1 h in
     let k = r.0 in
-    pair_path (ap (λ (c : ClosureHead). c.lifetimes) k) (pair_path (ap (λ (c : ClosureHead). c.constness) k) (pair_path (ap (λ (c : ClosureHead). c.asyncness) k) (pair_path (ap (λ (c : ClosureHead). c.capture) k)
-    (pair_path (pair_path (ap (λ (c : ClosureHead). c.inputs) k) (pair_path r.1.0 (ap (λ (c : ClosureHead). c.trailing) k))) (pair_path (ap (λ (c : ClosureHead). c.output) k) r.1.1)))))
+    pair_path (ap (λ (c : ClosureHead). c.lifetimes) k) (pair_path (pair_path (ap (λ (c : ClosureHead). c.movability) k) (ap (λ (c : ClosureHead). c.usage) k))
+    (pair_path (ap (λ (c : ClosureHead). c.constness) k) (pair_path (ap (λ (c : ClosureHead). c.asyncness) k) (pair_path (ap (λ (c : ClosureHead). c.capture) k)
+    (pair_path (pair_path (ap (λ (c : ClosureHead). c.inputs) k) (pair_path r.1.0 (ap (λ (c : ClosureHead). c.trailing) k))) (pair_path (ap (λ (c : ClosureHead). c.output) k) r.1.1))))))
 
 abbrev pub LoopParts : Type 0
 LoopParts = Option Text × ((PatTree × List Tree) × (Tree × List Tok))

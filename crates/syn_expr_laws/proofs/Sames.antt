@@ -24,8 +24,8 @@ use Rattle.syn_lower.specs.View.{mapped, lifetimes_of, return_of, values, trails
 use Rattle.syn_op.specs.View.{bin_kind, un_kind, limits_kind}
 use Rattle.syn_lower_laws.proofs.PartTies.{lifetimes_tie}
 use Rattle.syn_lower_laws.proofs.Sames.{return_tie}
-use Rattle.syn_expr_parts.specs.View.{label_of, member_of}
-use Rattle.syn_expr_parts.proofs.Ties.{label_tie}
+use Rattle.syn_expr_parts.specs.View.{label_of, member_of, modifiers_of}
+use Rattle.syn_expr_parts.proofs.Ties.{label_tie, modifiers_tie}
 use Rattle.syn_pat_kinds.specs.View.{PatView, attributed_by, attributes_of, pats_in, sub_of, field_pat_of, is_closed, bound_of}
 use Rattle.syn_expr_kinds.specs.Pats.{ArmView, closure_by}
 use Rattle.syn_expr_kinds.specs.Attrs.{attrs_of, outer_of, inner_of}
@@ -125,13 +125,13 @@ abbrev step : (j : block.the_members) → Value j → Value j → Bool
 step = expr_test.the_step test
 
 abbrev closure_parts : ExprClosure → ClosureParts
-closure_parts x = let c = out-ExprClosure x in (mapped lifetimes_of c.lifetimes, (is_some c.constness, (is_some c.asyncness, (is_some c.capture, ((map (λ v. v.tree) (map pat_of (values c.inputs)), (flat_map (λ v. v.guards) (map pat_of (values c.inputs)), trails c.inputs)), (return_of c.output, tree_of c.body.value))))))
+closure_parts x = let c = out-ExprClosure x in (mapped lifetimes_of c.lifetimes, (modifiers_of c.modifiers, (is_some c.constness, (is_some c.asyncness, (is_some c.capture, ((map (λ v. v.tree) (map pat_of (values c.inputs)), (flat_map (λ v. v.guards) (map pat_of (values c.inputs)), trails c.inputs)), (return_of c.output, tree_of c.body.value)))))))
 
 closure_steps : IsEqualityOf closure_of (λ (x y : ExprClosure). step block.member-ExprClosure x y)
 closure_steps = along closure-is (behind_tie {A = ExprClosure} (λ x. (out-ExprClosure x).attrs) (λ x. closure_core (closure_parts x)) (made_tie {B = ClosureParts} closure_with closure_parts_once
-    (both_tie (on_tie {C = ExprClosure} (λ x. (out-ExprClosure x).lifetimes) (option_tie lifetimes_tie)) (both_tie (on_tie {C = ExprClosure} (λ x. (out-ExprClosure x).constness) some_tie) (both_tie (on_tie {C = ExprClosure} (λ x. (out-ExprClosure x).asyncness) some_tie)
+    (both_tie (on_tie {C = ExprClosure} (λ x. (out-ExprClosure x).lifetimes) (option_tie lifetimes_tie)) (both_tie (on_tie {C = ExprClosure} (λ x. (out-ExprClosure x).modifiers) modifiers_tie) (both_tie (on_tie {C = ExprClosure} (λ x. (out-ExprClosure x).constness) some_tie) (both_tie (on_tie {C = ExprClosure} (λ x. (out-ExprClosure x).asyncness) some_tie)
     (both_tie (on_tie {C = ExprClosure} (λ x. (out-ExprClosure x).capture) some_tie) (both_tie (on_tie {C = ExprClosure} (λ x. (out-ExprClosure x).inputs) (told_tie pat_row.the_row pat_tests filled)) (both_tie (on_tie {C = ExprClosure} (λ x. (out-ExprClosure x).output) return_tie)
-    (on_tie {C = ExprClosure} (λ x. (out-ExprClosure x).body.value) expr_tests)))))))))
+    (on_tie {C = ExprClosure} (λ x. (out-ExprClosure x).body.value) expr_tests))))))))))
 
 arm_steps : IsEqualityOf arm_of (λ (x y : Arm). step block.member-Arm x y)
 arm_steps = along arm-is (made_tie {B = List AttributeTree × (PatView × (Tree × Bool))} {C = ArmView} (λ p. record { attrs = p.0; pat = p.1.0; body = p.1.1.0; comma = p.1.1.1 })
@@ -243,9 +243,9 @@ kind_jump j None = refl
 kind_jump j (Some x) = refl
 
 kind_closure : (p : ClosureParts) → tree_kind (closure_with p) ≡ 9
-kind_closure p = by p.1.1.1.1.1.0
+kind_closure p = by p.1.1.1.1.1.1.0
   where
-    by : (r : ReturnTree) → tree_kind (closure_by r (closure_head p) p.1.1.1.1.0.1.0 p.1.1.1.1.1.1) ≡ 9
+    by : (r : ReturnTree) → tree_kind (closure_by r (closure_head p) p.1.1.1.1.1.0.1.0 p.1.1.1.1.1.1.1) ≡ 9
     by default = refl
     by (given x) = refl
 

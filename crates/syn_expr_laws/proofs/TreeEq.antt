@@ -180,13 +180,14 @@ body_eq : Discrete Body
 body_eq = through {B = List AttributeTree × List Tok} (λ x. (x.inner, x.tokens)) (λ x y h. let a = ap (λ p. p.0) h in let b = ap (λ p. p.1) h in λ i. record { inner = a i; tokens = b i }) (×_discrete attributes_eq toks_eq)
 
 abbrev HeadParts : Type 0
-HeadParts = Option LifetimesTree × (Bool × (Bool × (Bool × (List PatTree × (Bool × ReturnTree)))))
+HeadParts = Option LifetimesTree × (Bool × ((Bool × Bool) × (Bool × (Bool × (List PatTree × (Bool × ReturnTree))))))
 
 closure_head_eq : Discrete ClosureHead
-closure_head_eq = through {B = HeadParts} (λ x. (x.lifetimes, (x.constness, (x.asyncness, (x.capture, (x.inputs, (x.trailing, x.output)))))))
-    (λ x y h. let a = ap (λ p. p.0) h in let b = ap (λ p. p.1.0) h in let c = ap (λ p. p.1.1.0) h in let d = ap (λ p. p.1.1.1.0) h in let f = ap (λ p. p.1.1.1.1.0) h in let g = ap (λ p. p.1.1.1.1.1.0) h in let k = ap (λ p. p.1.1.1.1.1.1) h in
-    λ i. record { lifetimes = a i; constness = b i; asyncness = c i; capture = d i; inputs = f i; trailing = g i; output = k i })
-    (×_discrete (option_eq lifetimes_eq) (×_discrete Bool-discrete (×_discrete Bool-discrete (×_discrete Bool-discrete (×_discrete (List-discrete pat_eq) (×_discrete Bool-discrete return_eq))))))
+closure_head_eq = through {B = HeadParts} (λ x. (x.lifetimes, (x.constness, ((x.movability, x.usage), (x.asyncness, (x.capture, (x.inputs, (x.trailing, x.output))))))))
+    (λ x y h. let a = ap (λ p. p.0) h in let b = ap (λ p. p.1.0) h in let m = ap (λ p. p.1.1.0.0) h in let u = ap (λ p. p.1.1.0.1) h in
+    let c = ap (λ p. p.1.1.1.0) h in let d = ap (λ p. p.1.1.1.1.0) h in let f = ap (λ p. p.1.1.1.1.1.0) h in let g = ap (λ p. p.1.1.1.1.1.1.0) h in let k = ap (λ p. p.1.1.1.1.1.1.1) h in
+    λ i. record { lifetimes = a i; constness = b i; movability = m i; asyncness = c i; capture = d i; usage = u i; inputs = f i; trailing = g i; output = k i })
+    (×_discrete (option_eq lifetimes_eq) (×_discrete Bool-discrete (×_discrete (×_discrete Bool-discrete Bool-discrete) (×_discrete Bool-discrete (×_discrete Bool-discrete (×_discrete (List-discrete pat_eq) (×_discrete Bool-discrete return_eq)))))))
 
 jump_eq : (x y : Jump) → Dec (x ≡ y)
 jump_eq e.returning e.returning = yes refl

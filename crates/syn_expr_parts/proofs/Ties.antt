@@ -1,18 +1,20 @@
--- The equality of members, indices and labels.
+-- The equality of members, indices, labels and modifiers.
 use Rattle.std.proofs.Common.{◌≡◌, ◌↔◌, ℕ, true, ap}
 use Rattle.syn_parts.specs.Text.{Text}
 use Rattle.syn_parts.specs.Pat.{MemberTree, a_name, an_index}
 use Rattle.syn_lower_leaves.specs.Equal.{IsEqualityOf}
-use Rattle.syn_lower_leaves.proofs.Ties.{and_true_tie, on_tie, text_tie, number_tie}
+use Rattle.syn_lower_leaves.proofs.Ties.{and_true_tie, both_tie, on_tie, some_tie, text_tie, number_tie}
 use Rattle.syn_lower_leaves.proofs.LeafTies.{lifetime_tie}
-use Rattle.syn_expr_parts.specs.View.{member_of, label_of}
+use Rattle.syn_expr_parts.specs.View.{member_of, label_of, modifiers_of}
 use Rattle.syn_expr_parts.specs.declared.label.Label.{Label}
 use Rattle.syn_expr_parts.specs.declared.member.Index.{Index}
 use Rattle.syn_expr_parts.specs.declared.member.Member.{Member}
 use Rattle.syn_expr_parts.specs.declared.member.Member.TheVariants as member
+use Rattle.syn_expr_parts.specs.declared.modifiers.ClosureModifiers.{ClosureModifiers}
 use Rattle.syn_expr_parts.specs.contracts.member.IndexPartialEq.TheImpl as index_eq
 use Rattle.syn_expr_parts.specs.contracts.member.MemberPartialEq.TheImpl as member_eq
 use Rattle.syn_expr_parts.specs.contracts.label.LabelPartialEq.TheImpl as label_eq
+use Rattle.syn_expr_parts.specs.contracts.modifiers.ClosureModifiersPartialEq.TheImpl as modifiers_eq
 
 pub index_tie : IsEqualityOf (λ (x : Index). x.index) index_eq.ghosts.eq
 index_tie = on_tie {C = Index} (λ x. x.index) number_tie
@@ -37,4 +39,7 @@ member_tie = record { same = go }
 pub label_tie : IsEqualityOf label_of label_eq.ghosts.eq
 label_tie = and_true_tie (on_tie {C = Label} (λ x. x.name) lifetime_tie)
 
-pub ruleset ties = (index_tie, member_tie, label_tie)
+pub modifiers_tie : IsEqualityOf modifiers_of modifiers_eq.ghosts.eq
+modifiers_tie = both_tie (on_tie {C = ClosureModifiers} (λ x. x.static_token) some_tie) (on_tie {C = ClosureModifiers} (λ x. x.use_token) some_tie)
+
+pub ruleset ties = (index_tie, member_tie, label_tie, modifiers_tie)

@@ -1,4 +1,4 @@
--- What spells an index alone, and why no member, index or label is read.
+-- What spells an index alone, why no member, index or label is read, and where modifiers are refused.
 use Rattle.std.specs.Prelude.{◌≡◌, ◌⊎◌, ℕ, Bool, true, false, ◌==◌, if◌then◌else◌, List, ◌∷◌, Option, Some, None}
 use Rattle.syn_tokens.specs.Tok.{Tok, literal}
 use Rattle.syn_tokens.specs.declared.error.ErrorKind.{ErrorKind}
@@ -11,7 +11,10 @@ use Rattle.syn_parts.specs.Text.{kind_of}
 use Rattle.syn_parts.specs.Form.{Form, Outcome, leaf}
 use Rattle.syn_parts.specs.Pat.{index_of, integer_value}
 use Rattle.syn_parts.specs.Mark.{lifetime_at}
+use Rattle.syn_tokens.specs.declared.span.Span.{Span}
 use Rattle.syn_lower_leaves.specs.Reads.{wanted_lifetime}
+use Rattle.syn_lower_leaves.specs.View.{mapped}
+use Rattle.syn_expr_parts.specs.declared.modifiers.ClosureModifiers.{ClosureModifiers}
 
 abbrev pub found_if : Option ℕ → List Tok → Outcome ℕ
 found_if None l = None
@@ -57,3 +60,12 @@ MayRefuseMember k = (k ≡ ExpectedMember) ⊎ MayRefuseIndex k
 
 abbrev pub MayRefuseLabel : ErrorKind → Type 0
 MayRefuseLabel k = (k ≡ wanted_lifetime) ⊎ (k ≡ wanted_colon)
+
+-- the first of two places
+abbrev pub first_place : Option Span → Option Span → Option Span
+first_place None o = o
+first_place (Some s) o = Some s
+
+-- where the first modifier of a closure is: `static`, else `use`
+abbrev pub modifier_span : ClosureModifiers → Option Span
+modifier_span x = first_place (mapped (λ t. t.span) x.static_token) (mapped (λ t. t.span) x.use_token)

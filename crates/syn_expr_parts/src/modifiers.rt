@@ -1,18 +1,32 @@
-//! Modifiers of closures and blocks, of which there are none yet.
+//! Modifiers of closures and blocks.
 
-ghost use Rattle.std.specs.Prelude.{IsOk};
+ghost use Rattle.std.specs.Prelude.{◌≡◌, IsErrAnd, IsOk, MatchOption};
+ghost use Rattle.syn_expr_parts.specs.Refusal.{modifier_span};
 
-use syn_tokens::error::Result;
+use syn_tokens::error::{Error, ErrorKind, Result};
+use syn_tokens::token::{Static, Use};
 
-/// The modifiers of a closure: none.
+/// The modifiers of a closure: the words before its arguments but `const`, `async` and `move`, which `ExprClosure` has itself.
+/// Equality ignores places.
 #[derive(Clone, Copy, Debug, Default, PartialEq, Eq)]
-pub struct ClosureModifiers {}
+pub struct ClosureModifiers {
+    /// `static`
+    pub static_token: Option<Static>,
+    /// `use`; no closure with `move` is read with it.
+    pub use_token: Option<Use>,
+}
 
 impl ClosureModifiers {
-    /// Whether there are none, which is always so.
+    /// Whether there are none. They are refused as `ModifierNotEmpty`, at `static` where that is there, else at `use`.
     pub fn require_empty(&self) -> Result<()>
-        ensures { IsOk result }
+        ensures { MatchOption (modifier_span self.now) (IsOk result) (λ s. IsErrAnd result (λ e. (e.kind ≡ ErrorKind.ModifierNotEmpty) × (e.span ≡ s))) }
     {
+        if let Some(token) = &self.static_token {
+            return Err(Error::new(token.span, ErrorKind::ModifierNotEmpty));
+        }
+        if let Some(token) = &self.use_token {
+            return Err(Error::new(token.span, ErrorKind::ModifierNotEmpty));
+        }
         Ok(())
     }
 }

@@ -61,8 +61,9 @@ inputs (x ∷ xs) c r = both (pat_append x) (both (if_there (not (is_nil xs) || 
 
 pub closure_append : (h : ClosureHead) → Before (closure_own h)
 closure_append h r =
-    both (if_some h.lifetimes lifetimes_own lifetimes_own-append) (both (words h.constness (codes "const")) (both (words h.asyncness (codes "async")) (both (words h.capture (codes "move"))
-    (both (one (alone 124)) (both (inputs h.inputs h.trailing) (both (one (alone 124)) (return_append h.output))))))) r
+    both (if_some h.lifetimes lifetimes_own lifetimes_own-append) (both (words h.constness (codes "const")) (both (words h.movability (codes "static")) (both (words h.asyncness (codes "async"))
+    (both (words h.capture (codes "move")) (both (words h.usage (codes "use"))
+    (both (one (alone 124)) (both (inputs h.inputs h.trailing) (both (one (alone 124)) (return_append h.output))))))))) r
 
 pub lead_append : (k : Lead) → Before (lead_own k)
 lead_append (e.unary op) r = signs (unary_text op) r

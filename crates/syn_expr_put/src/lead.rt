@@ -62,6 +62,7 @@ pub(crate) fn put_closure<P: PutPat>(tokens: &mut TokenStream, closure: Closure<
 {
     let Closure {
         lifetimes,
+        modifiers,
         constness,
         asyncness,
         capture,
@@ -72,8 +73,10 @@ pub(crate) fn put_closure<P: PutPat>(tokens: &mut TokenStream, closure: Closure<
     } = closure;
     put_some(tokens, lifetimes)?;
     put_some(tokens, constness)?;
+    put_some(tokens, &modifiers.static_token)?;
     put_some(tokens, asyncness)?;
     put_some(tokens, capture)?;
+    put_some(tokens, &modifiers.use_token)?;
     put(tokens, inputs_begin)?;
     put_inputs(tokens, inputs)?;
     put(tokens, inputs_end)?;

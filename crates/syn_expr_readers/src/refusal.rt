@@ -11,10 +11,9 @@ use syn_lower::readers::ty;
 use syn_lower_readers::grammar::Grammar;
 use syn_op::infix::infix_at;
 use syn_parts::label::PathStyle;
-use syn_tokens::buffer::{ParseBuffer, Token};
-use syn_tokens::error::{Error, ErrorKind, Expected, Part, Result};
+use syn_tokens::buffer::ParseBuffer;
+use syn_tokens::error::{Error, ErrorKind, Part, Result};
 use syn_tokens::span::Span;
-use syn_tokens::token::{Or, Static};
 
 /// Where the operator that is first stands; the first token, where none is.
 pub(crate) fn operator_span(input: &ParseBuffer<'_>) -> Span {
@@ -32,37 +31,29 @@ pub(crate) fn operator_span(input: &ParseBuffer<'_>) -> Span {
     }
 }
 
-/// What is told where no expression begins. `static` does begin a closure, which is read no further: its `|` is missing there.
-fn absent(input: &ParseBuffer<'_>) -> ErrorKind {
-    if input.peek::<Static>() {
-        ErrorKind::ExpectedToken(Expected::One(Or::wanted()))
-    } else {
-        ErrorKind::ExpectedExpression
-    }
-}
-
-/// The refusal of a path: where it has not even a first token, no expression begins there, and `absent` is told.
-fn of_path(e: Error, start: Span, absent: ErrorKind) -> Error
+/// The refusal of a path: where it has not even a first token, no expression begins there.
+fn of_path(e: Error, start: Span) -> Error
     ensures { result.kind ≢ ErrorKind.OutOfMemory → e.kind ≢ ErrorKind.OutOfMemory }
 {
     match e.kind {
-        ErrorKind::ExpectedPart(Part::Path) if e.span == start => { Error::new(start, absent) }
+        ErrorKind::ExpectedPart(Part::Path) if e.span == start => {
+            Error::new(start, ErrorKind::ExpectedExpression)
+        }
         _ => e,
     }
 }
 
 /// Reads a path and the type that it is qualified by, if there is one. Where not even its first token stands there, it is
-/// refused as `ExpectedExpression`, or at `static` as `ExpectedToken` of `|`, else as a path is.
+/// refused as `ExpectedExpression`, else as a path is.
 pub(crate) fn qpath(input: &mut ParseBuffer<'_>) -> Result<(Option<QSelf>, Path)>
     ensures value { Reads (λ q. (qself_or type_of q.0, path_of type_of q.1)) ((part.qpath part.type PathStyle.Expr).reads input.old.rest) result input.new.rest }
     ensures noted { input.new.noted ≡ input.old.noted }
     ensures shrinks { weight input.new.rest ≤ weight input.old.rest }
 {
     let start = input.span();
-    let kind = absent(input);
     let types = Grammar { ty };
     match types.qpath(input, PathStyle::Expr) {
         Ok(found) => Ok(found),
-        Err(e) => Err(of_path(e, start, kind)),
+        Err(e) => Err(of_path(e, start)),
     }
 }

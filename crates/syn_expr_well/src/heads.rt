@@ -65,7 +65,9 @@ fn has_output(output: &ReturnType) -> bool
 fn closure_fits<E: HasPatFits>(closure: Closure<'_, E::Pat>) -> bool
     ensures { result ≡ (head_fits (closure_of E.Pat.view closure.entry) && is_nil (guards (inputs_of E.Pat.view closure.entry))) }
 {
-    arguments_fit::<E>(closure.inputs) && closure.output.is_read_back(true)
+    !(closure.capture.is_some() && closure.modifiers.use_token.is_some())
+        && arguments_fit::<E>(closure.inputs)
+        && closure.output.is_read_back(true)
 }
 
 /// Whether what stands before an operand is read back, and no guard stands in its patterns.

@@ -5,18 +5,33 @@ use Rattle.syn_tokens.proofs.Fronts.{front_through}
 use Rattle.syn_expr_kinds.proofs.Owns.{closure_is, then}
 use Rattle.syn_expr_put.proofs.lead.put_closure.Goals as goal
 
+pub returns-in_err-put_some-6-clause-front : goal.returns-in_err-put_some-6-clause-front
+returns-in_err-put_some-6-clause-front g c =
+    let two = front_through _ _ _ c.in_ok-put_some.ensures.front c.in_ok-put_some-2.ensures.front in
+    let four = front_through _ _ _ two (front_through _ _ _ c.in_ok-put_some-3.ensures.front c.in_ok-put_some-4.ensures.front) in
+    front_through _ _ _ four (front_through _ _ _ c.in_ok-put_some-5.ensures.front c.in_err-put_some-6.ensures.front)
+
+pub returns-in_err-put-clause-front : goal.returns-in_err-put-clause-front
+returns-in_err-put-clause-front g c =
+    let two = front_through _ _ _ c.in_ok-put_some.ensures.front c.in_ok-put_some-2.ensures.front in
+    let four = front_through _ _ _ two (front_through _ _ _ c.in_ok-put_some-3.ensures.front c.in_ok-put_some-4.ensures.front) in
+    let six = front_through _ _ _ four (front_through _ _ _ c.in_ok-put_some-5.ensures.front c.in_ok-put_some-6.ensures.front) in
+    front_through _ _ _ six c.in_err-put.ensures.front
+
 pub returns-in_err-put_inputs-clause-front : goal.returns-in_err-put_inputs-clause-front
 returns-in_err-put_inputs-clause-front g c =
-    let b = front_through _ _ _ c.in_ok-put_some.ensures.front c.in_ok-put_some-2.ensures.front in
-    let d = front_through _ _ _ b (front_through _ _ _ c.in_ok-put_some-3.ensures.front c.in_ok-put_some-4.ensures.front) in
-    front_through _ _ _ d (front_through _ _ _ c.in_ok-put.ensures.front c.in_err-put_inputs.ensures.front)
+    let two = front_through _ _ _ c.in_ok-put_some.ensures.front c.in_ok-put_some-2.ensures.front in
+    let four = front_through _ _ _ two (front_through _ _ _ c.in_ok-put_some-3.ensures.front c.in_ok-put_some-4.ensures.front) in
+    let six = front_through _ _ _ four (front_through _ _ _ c.in_ok-put_some-5.ensures.front c.in_ok-put_some-6.ensures.front) in
+    front_through _ _ _ six (front_through _ _ _ c.in_ok-put.ensures.front c.in_err-put_inputs.ensures.front)
 
 pub returns-in_err-put-2-clause-front : goal.returns-in_err-put-2-clause-front
 returns-in_err-put-2-clause-front g c =
-    let b = front_through _ _ _ c.in_ok-put_some.ensures.front c.in_ok-put_some-2.ensures.front in
-    let d = front_through _ _ _ b (front_through _ _ _ c.in_ok-put_some-3.ensures.front c.in_ok-put_some-4.ensures.front) in
-    let f = front_through _ _ _ d (front_through _ _ _ c.in_ok-put.ensures.front c.in_ok-put_inputs.ensures.front) in
-    front_through _ _ _ f c.in_err-put-2.ensures.front
+    let two = front_through _ _ _ c.in_ok-put_some.ensures.front c.in_ok-put_some-2.ensures.front in
+    let four = front_through _ _ _ two (front_through _ _ _ c.in_ok-put_some-3.ensures.front c.in_ok-put_some-4.ensures.front) in
+    let six = front_through _ _ _ four (front_through _ _ _ c.in_ok-put_some-5.ensures.front c.in_ok-put_some-6.ensures.front) in
+    let eight = front_through _ _ _ six (front_through _ _ _ c.in_ok-put.ensures.front c.in_ok-put_inputs.ensures.front) in
+    front_through _ _ _ eight c.in_err-put-2.ensures.front
 
 pub returns-clause-ok : goal.returns-clause-ok
 unfolding sign_text word_text
@@ -24,7 +39,9 @@ returns-clause-ok g c =
     let old = c.args.tokens.now in
     let e = then c.put_inputs.new.tokens _ _ c.in_ok-put-2.ensures.ok
     ∙ then c.put.new.tokens _ _ c.in_ok-put_inputs.ensures.ok
-    ∙ then c.put_some-4.new.tokens _ _ c.in_ok-put.ensures.ok
+    ∙ then c.put_some-6.new.tokens _ _ c.in_ok-put.ensures.ok
+    ∙ then c.put_some-5.new.tokens _ _ c.in_ok-put_some-6.ensures.ok
+    ∙ then c.put_some-4.new.tokens _ _ c.in_ok-put_some-5.ensures.ok
     ∙ then c.put_some-3.new.tokens _ _ c.in_ok-put_some-4.ensures.ok
     ∙ then c.put_some-2.new.tokens _ _ c.in_ok-put_some-3.ensures.ok
     ∙ then c.put_some.new.tokens _ _ c.in_ok-put_some-2.ensures.ok
@@ -34,7 +51,8 @@ returns-clause-ok g c =
 
 pub returns-clause-front : goal.returns-clause-front
 returns-clause-front g c =
-    let b = front_through _ _ _ c.in_ok-put_some.ensures.front c.in_ok-put_some-2.ensures.front in
-    let d = front_through _ _ _ b (front_through _ _ _ c.in_ok-put_some-3.ensures.front c.in_ok-put_some-4.ensures.front) in
-    let f = front_through _ _ _ d (front_through _ _ _ c.in_ok-put.ensures.front c.in_ok-put_inputs.ensures.front) in
-    front_through _ _ _ f (front_through _ _ _ c.in_ok-put-2.ensures.front c.put-3.ensures.front)
+    let two = front_through _ _ _ c.in_ok-put_some.ensures.front c.in_ok-put_some-2.ensures.front in
+    let four = front_through _ _ _ two (front_through _ _ _ c.in_ok-put_some-3.ensures.front c.in_ok-put_some-4.ensures.front) in
+    let six = front_through _ _ _ four (front_through _ _ _ c.in_ok-put_some-5.ensures.front c.in_ok-put_some-6.ensures.front) in
+    let eight = front_through _ _ _ six (front_through _ _ _ c.in_ok-put.ensures.front c.in_ok-put_inputs.ensures.front) in
+    front_through _ _ _ eight (front_through _ _ _ c.in_ok-put-2.ensures.front c.put-3.ensures.front)
