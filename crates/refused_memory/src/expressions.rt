@@ -44,7 +44,7 @@ fn expression(alloc: Global, text: &str, reader: Reader) -> Result<String> {
     read(&tokens, &input, answer)
 }
 
-/// A field that is read by itself. It is let go by the expression that it has.
+/// A field that is read by itself. Its expression is dropped as a `HeldExpr`.
 fn field(alloc: Global, text: &str) -> Result<String> {
     let tokens = lex(alloc, text)?;
     let mut input = ParseBuffer::new(&tokens)?;
@@ -64,7 +64,7 @@ fn field(alloc: Global, text: &str) -> Result<String> {
     }
 }
 
-/// An arm that is read by itself. It is let go with a `match` that had room for it before it was read.
+/// An arm that is read by itself. It is dropped inside of a `match` that had room for it before it was read.
 fn arm(alloc: Global, text: &str) -> Result<String> {
     let tokens = lex(alloc, text)?;
     let mut input = ParseBuffer::new(&tokens)?;

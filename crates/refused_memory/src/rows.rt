@@ -1,4 +1,4 @@
-//! What the rows share: how an answer is told, and what is looked at where memory is refused.
+//! What the rows share: how an answer is printed, and what is checked where an allocation fails.
 
 use std::alloc::Global;
 use syn_expr::{

@@ -1,5 +1,5 @@
-//! Leftovers of indices: tokens in the brackets behind a base that nothing reads, as the `b` of `x[a b]`. They are told last:
-//! where all that stands behind them can be read.
+//! Leftovers of indices: tokens in the brackets after a base that nothing reads, as the `b` of `x[a b]`. They are reported
+//! last: only where everything after them can be read. `x[a b] + c` is refused at the `b`, and `x[a b] +` at its end.
 
 ghost use Rattle.std.specs.Prelude.{◌≡◌};
 ghost use Rattle.syn_tokens.specs.declared.error.ErrorKind.TheVariants.{OutOfMemory};
@@ -13,7 +13,7 @@ use syn_tokens::error::{Error, ErrorKind, Result};
 use syn_tokens::span::Span;
 use syn_tokens::tree::TokenStream;
 
-/// How many leftovers are passed over at most. Where there are more, the first is told.
+/// How many leftovers are skipped at most. Where there are more, the first is reported.
 const MOST: u32 = 16;
 
 /// Where a refusal at the end of the input is.
@@ -23,14 +23,14 @@ fn end_of(input: &ParseBuffer<'_>) -> Result<Span> {
     Ok(end.span())
 }
 
-/// Reads the expression that a list begins with, by the rules of a place, and lets it go. A refusal at the end of the list is
-/// told at `end`.
+/// Reads the expression that a list begins with, by the rules of a place, and drops it. A refusal at the end of the list is
+/// reported at `end`.
 fn read_list(list: &TokenStream, place: Place, end: Span) -> Result<()> {
     let mut input = ParseBuffer::new(list)?;
     let end_of_list = end_of(&input)?;
     match expr_at(&mut input, place) {
         Ok(x) => {
-            // Held, so that it is not proved here again that each type of expressions can be let go.
+            // The drop of an expression is proved once, for `HeldExpr`.
             let _held = HeldExpr {
                 expr: Box::into_inner(x),
             };
@@ -41,9 +41,9 @@ fn read_list(list: &TokenStream, place: Place, end: Span) -> Result<()> {
     }
 }
 
-/// Reads the expression at a place without the leftover that begins at `first`, and then without each further one at which it
-/// is refused. It is refused as the rest is: also at a token that nothing reads and that is no leftover of an index, which
-/// is still there when it is read again.
+/// Reads the expression at a place without the leftover that begins at `first`, and then without each further one at which
+/// reading is refused. What is left is refused as it would be by itself. A token that nothing reads and that is no leftover
+/// of an index is still there when it is read again, so that refusal stays.
 fn read_without(input: &ParseBuffer<'_>, place: Place, first: Span) -> Result<()> {
     let end = end_of(input)?;
     let mut leftover = first;
@@ -60,8 +60,8 @@ fn read_without(input: &ParseBuffer<'_>, place: Place, first: Span) -> Result<()
     Ok(())
 }
 
-/// What is told where an expression at a place of the input is refused: the refusal itself. But if that is at a leftover of an
-/// index and what stands behind it is refused too, the refusal of that is told.
+/// The refusal to report where an expression at a place of the input is refused. It is the given one, unless that is at a
+/// leftover of an index and what comes after the leftover is refused too: then it is the later one.
 pub(crate) fn told(input: &ParseBuffer<'_>, place: Place, refusal: Error) -> Error
     ensures memory { refusal.kind ≡ OutOfMemory → result.kind ≡ OutOfMemory }
 {
