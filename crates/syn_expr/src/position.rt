@@ -1,6 +1,7 @@
 //! Where an expression is printed and read back, by name.
 
-ghost use Rattle.std.specs.Prelude.{◌≡◌};
+ghost use Rattle.std.specs.Prelude.{◌≡◌, IfErr};
+ghost use Rattle.syn_expr_all.specs.Refused.{MayRefuse};
 ghost use Rattle.syn_expr_all.specs.View.{tree_of};
 ghost use Rattle.syn_expr_kinds.specs.Exactly.{ReadsExactly};
 ghost use Rattle.syn_expr_fixup.specs.Fixup.{whole_at};
@@ -43,7 +44,8 @@ impl Position {
     /// `parse_without_eager_brace` or `parse_with_earlier_boundary_rule`. It is refused as that reader refuses it, and the
     /// input then stays where it was.
     pub fn parse(self, input: &mut ParseBuffer<'_>) -> Result<Expr>
-        ensures { ReadsExactly tree_of (Stands (place_of (position_of self))) input.old result input.new }
+        ensures exact { ReadsExactly tree_of (Stands (place_of (position_of self))) input.old result input.new }
+        ensures refused { IfErr result (λ e. MayRefuse e.kind) }
     {
         match self {
             Position::Plain => Expr::parse(input),
