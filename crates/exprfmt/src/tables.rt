@@ -117,6 +117,14 @@ plain ~ a + .. * c ~ a + .. * c
 plain ~ a = b = ..c = d ~ a = b = .. c = d
 plain ~ let x = .. = y ~ let x = .. = y
 plain ~ |x| .. + 1 ~ | x | .. + 1
+plain ~ static || x ~ static | | x
+plain ~ use |x| x ~ use | x | x
+plain ~ const static async use |x| x ~ const static async use | x | x
+plain ~ static move || x ~ static move | | x
+plain ~ for<'a> static |x| x ~ for < 'a > static | x | x
+plain ~ async use || {} ~ async use | | {}
+plain ~ return use || x ~ return use | | x
+cond ~ use |x| S {} ~ use | x | (S {})
 plain ~ break .. as u8 ~ break .. as u8
 plain ~ a + #[k] b ~ a + # [k] b
 plain ~ f(#[k] a, b) ~ f (# [k] a , b)
@@ -197,6 +205,9 @@ plain bare ~ [(a), (b)] ~ [a , b]
 plain bare ~ [(a); (3)] ~ [a ; 3]
 plain bare ~ S { a: (x), ..(c) } ~ S { a : x , .. c }
 plain bare ~ |x| (x) ~ | x | x
+plain bare ~ (static |x| x) + 1 ~ (static | x | x) + 1
+plain bare ~ (use |x| ..) + 1 ~ use | x | .. + 1
+plain bare ~ (async use || return).x ~ (async use | | return) . x
 plain bare ~ |x| -> u8 { (x) } ~ | x | -> u8 { (x) }
 plain bare ~ if (a) { (b) } else if (c) {} ~ if a { (b) } else if c {}
 plain bare ~ if (S {} == x) {} ~ if (S {}) == x {}
@@ -252,7 +263,12 @@ plain ~ 'a: x ~ refused at 4..5: expected loop or block expression
 plain ~ [a b] ~ refused at 3..4: expected `,` or `;`
 plain ~ x . = ~ refused at 4..5: expected identifier or integer
 plain ~ match x { _ => 1 2 } ~ refused at 17..18: expected `,`
-plain ~ static || x ~ refused at 0..6: expected `|`
+plain ~ move use || x ~ refused at 5..8: expected `|`
+plain ~ static static || x ~ refused at 7..13: expected `|`
+plain ~ async static || x ~ refused at 0..5: expected an expression
+plain ~ use x ~ refused at 4..5: expected `|`
+plain ~ static {} ~ refused at 7..9: expected `|`
+plain ~ async use {} ~ refused at 10..12: expected `|`
 plain ~ x.0. 1.2 ~ refused at 5..8: expected identifier or integer
 plain ~ x.1e3 ~ refused at 2..5: expected unsuffixed integer
 plain ~ S { 0 } ~ refused at 6..7: expected `:`

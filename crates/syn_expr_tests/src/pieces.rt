@@ -5,8 +5,9 @@ use std::alloc::Global;
 use std::mem::replace;
 use std::test::Fail;
 use syn_expr::{
-    Attribute, BlockModifiers, ClosureModifiers, Error, Expr, HeldExpr, Index, Label, Member,
-    ParseBuffer, ToTokens, TokenStream, is_well_formed, lex, parse_str, to_text,
+    Attribute, BlockModifiers, ClosureModifiers, Error, ErrorKind, Expr, HeldExpr, Index, Label,
+    Member, ParseBuffer, Span, ToTokens, TokenStream, is_well_formed, lex, parse_str, to_text,
+    token,
 };
 
 /// Members, and whether one is a name.
@@ -73,19 +74,19 @@ fn labels_may_be_missing(rt: HostRuntime) -> Result<(), Fail> {
     })
 }
 
-/// Whether the modifiers of an expression are said to be none. There is no answer where it has none to ask.
-fn have_none(expr: &Expr) -> Option<bool> {
+/// What the modifiers of an expression answer where none are wanted. There is no answer where it has none to ask.
+fn without_modifiers(expr: &Expr) -> Option<Result<(), Error>> {
     match expr {
-        Expr::Closure(x) => Some(x.modifiers.require_empty().is_ok()),
-        Expr::Async(x) => Some(x.modifiers.require_empty().is_ok()),
-        Expr::Const(x) => Some(x.modifiers.require_empty().is_ok()),
-        Expr::TryBlock(x) => Some(x.modifiers.require_empty().is_ok()),
+        Expr::Closure(x) => Some(x.modifiers.require_empty()),
+        Expr::Async(x) => Some(x.modifiers.require_empty()),
+        Expr::Const(x) => Some(x.modifiers.require_empty()),
+        Expr::TryBlock(x) => Some(x.modifiers.require_empty()),
         _ => None,
     }
 }
 
 #[test]
-fn there_are_no_modifiers(rt: HostRuntime) -> Result<(), Fail> {
+fn most_have_no_modifiers(rt: HostRuntime) -> Result<(), Fail> {
     assert!(rt; ClosureModifiers::default().require_empty().is_ok());
     assert!(rt; BlockModifiers::default().require_empty().is_ok());
     for text in [
@@ -96,8 +97,62 @@ fn there_are_no_modifiers(rt: HostRuntime) -> Result<(), Fail> {
         "try {}",
     ] {
         let held = parse_str::<HeldExpr>(rt.alloc(), text)?;
-        assert_eq!(rt; have_none(&held.expr), Some(true), "{text}");
+        assert_eq!(rt; without_modifiers(&held.expr), Some(Ok(())), "{text}");
     }
+    Ok(())
+}
+
+/// Closures with modifiers, and the place of the first.
+const MODIFIED: [(&str, usize, usize); 6] = [
+    ("static || x", 0, 6),
+    ("static move |x| x", 0, 6),
+    ("use || x", 0, 3),
+    ("async use |x| x", 6, 9),
+    ("const static async use |x| x", 6, 12),
+    ("for<'a> use |x| -> u8 { x }", 8, 11),
+];
+
+#[test]
+fn modifiers_are_refused_at_the_first(rt: HostRuntime) -> Result<(), Fail> {
+    for (text, lo, hi) in MODIFIED {
+        let held = parse_str::<HeldExpr>(rt.alloc(), text)?;
+        let refusal = Error::new(Span { lo, hi }, ErrorKind::ModifierNotEmpty);
+        assert_eq!(rt; without_modifiers(&held.expr), Some(Err(refusal)), "{text}");
+    }
+    Ok(())
+}
+
+/// Gives a closure `use`, whatever it has.
+fn put_use(expr: &mut Expr) {
+    if let Expr::Closure(x) = expr {
+        x.modifiers.use_token = Some(token::Use::default());
+    }
+}
+
+#[test]
+fn a_closure_with_move_and_use_is_no_tree_of_a_text(rt: HostRuntime) -> Result<(), Fail> {
+    let mut held = parse_str::<HeldExpr>(rt.alloc(), "static async move |x| x")?;
+    assert!(rt; is_well_formed(&held.expr));
+    put_use(&mut held.expr);
+    assert_eq!(rt;
+        printed(rt.alloc(), &held.expr)?.as_str(),
+        "static async move use | x | x"
+    );
+    assert!(rt; !is_well_formed(&held.expr));
+    Ok(())
+}
+
+#[test]
+fn equality_sees_modifiers(rt: HostRuntime) -> Result<(), Fail> {
+    let plain = parse_str::<HeldExpr>(rt.alloc(), "|x| x")?;
+    for text in ["static |x| x", "use |x| x"] {
+        let held = parse_str::<HeldExpr>(rt.alloc(), text)?;
+        assert!(rt; held.expr != plain.expr, "{text}");
+    }
+    let mut held = parse_str::<HeldExpr>(rt.alloc(), "|x| x")?;
+    assert!(rt; held.expr == plain.expr);
+    put_use(&mut held.expr);
+    assert!(rt; held.expr == parse_str::<HeldExpr>(rt.alloc(), "use |x| x")?.expr);
     Ok(())
 }
 
