@@ -149,6 +149,13 @@ if #[k] a {}                     ~ if # [k] a {}
 a
 a + b
 a + b * (c)
+static || x                      ~ static | | x
+use |x| x                        ~ use | x | x
+const static async use |x| x     ~ const static async use | x | x
+static move || x                 ~ static move | | x
+for<'a> static |x| x             ~ for < 'a > static | x | x
+(static |x| x) + 1               ~ (static | x | x) + 1
+(use |x| ..) + 1                 ~ (use | x | ..) + 1
 ";
 
 /// The same of texts that are refused.
@@ -214,6 +221,10 @@ S { .. , }
 x[]                       ~ x []
 x[a b] + y[c d]           ~ x [a b] + y [c d]
 x[a b] +                  ~ x [a b] +
+move use || x             ~ move use | | x
+static static || x        ~ static static | | x
+use x
+async static || x         ~ async static | | x
 ";
 
 /// What is printed of a list that is read whole. There is none where it is refused.

@@ -63,12 +63,26 @@ pub some_lifetimes : (o : Option BoundLifetimes) → fits_if lifetimes_fit (mapp
 some_lifetimes None = refl
 some_lifetimes (Some x) = lifetimes_always x
 
-pub closure_is : {P : Type 0} (pat : P → PatView) (x : Closure P)
-    → (head_fits (closure_of pat x) && is_nil (guards (inputs_of pat x))) ≡ (list_all (λ p. argument_fits (pat p)) (values x.inputs.now) && output_fits true (return_of x.output.now))
-closure_is pat x =
+-- whether `move` and `use` don't both stand there
+abbrev pub captures : {P : Type 0} → Closure P → Bool
+captures x = not (is_some x.capture.now && is_some x.modifiers.now.use_token)
+
+abbrev pub behind_captures : {P : Type 0} → (P → PatView) → Closure P → Bool
+behind_captures pat x =
+    fits_if lifetimes_fit (mapped lifetimes_of x.lifetimes.now)
+    && (inputs_fit (trees (inputs_of pat x)) && (ends_well (is_nil (trees (inputs_of pat x))) (trails x.inputs.now) && output_fits true (return_of x.output.now)))
+
+behind_is : {P : Type 0} (pat : P → PatView) (x : Closure P)
+    → (behind_captures pat x && is_nil (guards (inputs_of pat x))) ≡ (list_all (λ p. argument_fits (pat p)) (values x.inputs.now) && output_fits true (return_of x.output.now))
+behind_is pat x =
     let l = some_lifetimes x.lifetimes.now in
     let n = inputs_end pat x.inputs.now in
     let a = arguments_alone pat (values x.inputs.now) in
     rw (l, n, a) (swap (inputs_fit (trees (map pat (values x.inputs.now)))) (is_nil (guards (map pat (values x.inputs.now)))) (output_fits true (return_of x.output.now)))
+
+pub closure_is : {P : Type 0} (pat : P → PatView) (x : Closure P)
+    → (head_fits (closure_of pat x) && is_nil (guards (inputs_of pat x)))
+    ≡ (captures x && (list_all (λ p. argument_fits (pat p)) (values x.inputs.now) && output_fits true (return_of x.output.now)))
+closure_is pat x = and_assoc (captures x) (behind_captures pat x) (is_nil (guards (inputs_of pat x))) ∙ ap (λ b. captures x && b) (behind_is pat x)
 
 pub ruleset ends = (and_true, swap)

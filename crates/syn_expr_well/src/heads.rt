@@ -1,7 +1,7 @@
 //! Whether what holds patterns is read back, but for its operands.
 
 ghost use Rattle.std.specs.List.{list_all};
-ghost use Rattle.std.specs.Prelude.{◌≡◌, ◌&&◌, true, not, map};
+ghost use Rattle.std.specs.Prelude.{◌≡◌, ◌&&◌, true, not, map, is_some};
 ghost use Rattle.syn_expr_kinds.specs.Node.{closure_of, frame_seen, inputs_of, lead_seen};
 ghost use Rattle.syn_expr_kinds.specs.Pats.{guards};
 ghost use Rattle.syn_expr_well.specs.Alone as spec;
@@ -12,9 +12,10 @@ ghost use Rattle.syn_parts.specs.Part.{is_default};
 
 use crate::fits::path_fits;
 use syn_expr_kinds::node::{Closure, Frame, HasShape, Lead};
+use syn_expr_parts::modifiers::ClosureModifiers;
 use syn_lower::punctuated::Punctuated;
 use syn_lower::ty::ReturnType;
-use syn_tokens::token::Comma;
+use syn_tokens::token::{Comma, Move};
 
 /// The type of expressions, as one asks whether the patterns in them are read back.
 pub trait HasPatFits: HasShape {
@@ -61,13 +62,21 @@ fn has_output(output: &ReturnType) -> bool
     matches!(output, ReturnType::Given(_, _))
 }
 
+/// Whether `move` and `use` don't both stand there.
+fn captures_fit(capture: &Option<Move>, modifiers: &ClosureModifiers) -> bool
+    ensures { result ≡ not (is_some capture.now && is_some modifiers.now.use_token) }
+{
+    !(capture.is_some() && modifiers.use_token.is_some())
+}
+
 /// Whether a closure is read back up to its body, and no guard stands in its arguments.
 fn closure_fits<E: HasPatFits>(closure: Closure<'_, E::Pat>) -> bool
     ensures { result ≡ (head_fits (closure_of E.Pat.view closure.entry) && is_nil (guards (inputs_of E.Pat.view closure.entry))) }
 {
-    !(closure.capture.is_some() && closure.modifiers.use_token.is_some())
-        && arguments_fit::<E>(closure.inputs)
-        && closure.output.is_read_back(true)
+    if !captures_fit(closure.capture, closure.modifiers) {
+        return false;
+    }
+    arguments_fit::<E>(closure.inputs) && closure.output.is_read_back(true)
 }
 
 /// Whether what stands before an operand is read back, and no guard stands in its patterns.
