@@ -1,3 +1,4 @@
+pub mod Groups
 pub mod Kind
 pub mod Loops
 pub mod Names

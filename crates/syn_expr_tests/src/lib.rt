@@ -2,7 +2,11 @@
 #![tactic(auto)]
 
 #[cfg(test)]
+mod alone;
+#[cfg(test)]
 mod attrs;
+#[cfg(test)]
+mod groups;
 #[cfg(test)]
 mod guards;
 #[cfg(test)]
