@@ -122,7 +122,7 @@ where
     /// Reads an `if` behind its word: a condition, a block, and `else` before another `if` or a block, or nothing (Rust
     /// Reference, "`if` expressions"). It is refused as the condition is, and as `ExpectedToken` of `{` where a block is
     /// missing.
-    #[tactic(auto, unfolding(crate::specs::Parts::branch, syn_grammar::specs::Stands::frame_stands, syn_grammar::specs::Stands::frame_ends))]
+    #[tactic(auto, unfolding(crate::specs::Parts::branch, syn_grammar::specs::Stands::frame_stands))]
     pub fn branch(&self, input: &mut ParseBuffer<'_>, place: Place, if_token: If) -> Result<Box<E>>
         requires callable { Callable (weight input.old.rest + 1) (F.pre self.now.expr) }
         requires reads { ReadsExpr E.tree (F.post self.now.expr) }
@@ -301,7 +301,7 @@ where
     /// Reads a `match` behind its word: what it looks at, and its arms in braces, each with its guard, its body and its
     /// comma (Rust Reference, "Match expressions"). It is refused as `ExpectedToken` where a token is missing, and inside
     /// as a pattern or an expression is.
-    #[tactic(auto, unfolding(crate::specs::Parts::choice, syn_grammar::specs::Stands::frame_stands, syn_grammar::specs::Stands::frame_ends))]
+    #[tactic(auto, unfolding(crate::specs::Parts::choice, syn_grammar::specs::Stands::frame_stands))]
     pub fn choice(
         &self,
         input: &mut ParseBuffer<'_>,

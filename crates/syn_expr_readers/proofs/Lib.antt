@@ -3,7 +3,6 @@ pub mod Attributes
 pub mod Bases
 pub mod ByKind
 pub mod Firsts
-pub mod Groups
 pub mod Knots
 pub mod Loops
 pub mod Names

@@ -2,11 +2,7 @@
 #![tactic(auto)]
 
 #[cfg(test)]
-mod alone;
-#[cfg(test)]
 mod attrs;
-#[cfg(test)]
-mod groups;
 #[cfg(test)]
 mod guards;
 #[cfg(test)]

@@ -1,9 +1,9 @@
 use Rattle.std.proofs.Common.{◌++◌, ap, ◌∙◌}
 use Rattle.syn_expr_kinds.specs.Attrs.{outer_of}
-use Rattle.syn_expr_kinds.proofs.Adorned.{outer_all}
+use Rattle.syn_expr_attrs.proofs.Adorned.{outer_all}
 use Rattle.syn_expr_all.specs.declared.control.ExprMatch.{out-ExprMatch}
 use Rattle.syn_expr_all.proofs.Matches.{choice_behind}
-use Rattle.syn_expr_all.proofs.control.ExprMatch.behind_more.Goals as goal
+use Rattle.syn_expr_all.proofs.control.ExprMatch.behind.Goals as goal
 
 pub returns : goal.returns
 returns c = λ o.

@@ -1,11 +1,11 @@
 use Rattle.std.proofs.Common.{◌++◌, ap, ◌∙◌}
 use Rattle.syn_expr_kinds.specs.Attrs.{outer_of}
-use Rattle.syn_expr_kinds.proofs.Adorned.{outer_all}
+use Rattle.syn_expr_attrs.proofs.Adorned.{outer_all}
 use Rattle.syn_expr_all.specs.View.{for_loop_parts, views}
 use Rattle.syn_expr_all.specs.declared.control.ExprForLoop.{out-ExprForLoop}
 use Rattle.syn_expr_all.proofs.Matches.{for_loop_behind}
 use Rattle.syn_expr_all.proofs.TreeOf.{for_loop-is}
-use Rattle.syn_expr_all.proofs.control.ExprForLoop.behind_more.Goals as goal
+use Rattle.syn_expr_all.proofs.control.ExprForLoop.behind.Goals as goal
 
 pub returns : goal.returns
 returns c = λ o b.

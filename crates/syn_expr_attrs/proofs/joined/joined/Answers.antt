@@ -1,5 +1,5 @@
-use Rattle.syn_expr_kinds.proofs.Adorned.{joined_all, joined_outer, joined_inner}
-use Rattle.syn_expr_kinds.proofs.joined.joined.Goals as goal
+use Rattle.syn_expr_attrs.proofs.Adorned.{joined_all, joined_outer, joined_inner}
+use Rattle.syn_expr_attrs.proofs.joined.joined.Goals as goal
 
 pub returns-clause-all : goal.returns-clause-all
 returns-clause-all c = joined_all _ _ _ c.in_ok-append.ensures.items

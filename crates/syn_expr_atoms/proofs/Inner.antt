@@ -10,12 +10,11 @@ use Rattle.syn_parts.specs.Mark.{lifetime_at, underscore, constant}
 use Rattle.syn_parts.specs.Part.{lifetime, unsigned, block, qpath, type, macro_end, QPathTree, MacroEnd, inner_attributes}
 use Rattle.syn_grammar.specs.Tree as e
 use Rattle.syn_grammar.specs.Tree.{Body, Leaf}
-use Rattle.syn_grammar.specs.Head.{label, jump_head, range_op, all_left, to_body, from_body, body_inside, body, from_lit, is_infer, from_full_range, from_bare_jump, from_continuing, to_block, from_block, to_loop, from_loop, from_unsafe, from_const, to_async, from_async, from_try, from_verbatim, to_named, from_named, continue_word, loop_word, unsafe_word, async_word, move_word, try_word, literal_at, range_at, jump_at, loop_at, block_at, const_block_at, async_block_at, try_block_at, builtin_at, builtin}
+use Rattle.syn_grammar.specs.Head.{label, jump_head, range_op, all_left, to_body, from_body, body_inside, body, from_lit, is_infer, from_full_range, from_bare_jump, from_continuing, to_block, from_block, to_loop, from_loop, from_unsafe, from_const, to_async, from_async, from_try, from_verbatim, to_named, from_named, continue_word, loop_word, unsafe_word, async_word, move_word, try_word, literal_at, range_at, jump_at, loop_at, block_at, const_block_at, async_block_at, try_block_at, builtin_at, builtin, named, leaf_form}
 use Rattle.syn_grammar.proofs.Chains.{some_is, then_some, only_some, chosen, both_true}
 use Rattle.syn_grammar.specs.WellFormed.{attributes_inner}
-use Rattle.syn_expr_heads.specs.Leaves.{named, leaf_form}
 use Rattle.syn_expr_heads.proofs.Inner.{inner_attributes_inner}
-use Rattle.syn_expr_kinds.specs.Inner.{has_inner}
+use Rattle.syn_expr_atoms.specs.Inner.{has_inner}
 
 -- what a form reads passes a test
 record Passes {A : Type 0} (p : A → Bool) (f : Form A) : Type 0 where
@@ -88,6 +87,7 @@ named_inner ((q, p), None) = refl
 named_inner ((q, p), Some g) = refl
 
 named_passes : Passes has_inner named
+unfolding named
 named_passes = shown_passes to_named from_named (any_passes (then_by (qpath type style.Expr) macro_end)) (λ x h. named_inner x)
 
 leaf_passes : Passes has_inner leaf_form
