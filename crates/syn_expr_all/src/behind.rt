@@ -8,6 +8,7 @@ ghost use Rattle.syn_expr_kinds.specs.Attrs.{attrs_of};
 use crate::closure::ExprClosure;
 use crate::control::{ExprForLoop, ExprLet, ExprMatch};
 use crate::expr::Expr;
+use crate::let_go::let_go;
 use std::alloc::AllocError;
 use syn_expr_attrs::{around, before};
 use syn_expr_ends::kinds::ReadExprs;
@@ -78,6 +79,10 @@ impl ReadExprs for Expr {
             held = &x.expr;
         }
         is_block_like(held)
+    }
+
+    fn let_go(self) {
+        let_go(self);
     }
 
     fn into_verbatim(self) -> Result<TokenStream, Expr> {

@@ -21,7 +21,8 @@ ghost use Rattle.syn_tokens.specs.Tok.{weight};
 
 use crate::head::{arm_head, for_head};
 use std::alloc::{AllocError, Global};
-use syn_expr_ends::kinds::ReadPats;
+use syn_expr_ends::held::Held;
+use syn_expr_ends::kinds::{ReadExprs, ReadPats};
 use syn_expr_ends::place::{AT_HEAD, BEFORE_BLOCK, PLAIN};
 use syn_expr_heads::ending::{behind_arm, behind_condition, behind_loop_head, guarded};
 use syn_expr_heads::label::maybe_label;
@@ -30,7 +31,6 @@ use syn_expr_heads::word::{else_word, if_word, while_word};
 use syn_expr_kinds::block::{ExprBlock, ExprIfOf, ExprWhileOf};
 use syn_expr_kinds::kinds::IsExpr;
 use syn_expr_kinds::like::is_block_like;
-use syn_expr_kinds::node::HasKind;
 use syn_expr_kinds::pattern::{ArmOf, ExprForLoopOf, ExprMatchOf, PatGuardOf};
 use syn_expr_parts::label::Label;
 use syn_grammar::kinds::Place;
@@ -71,10 +71,10 @@ fn kept_block<E: IsExpr + Drop>(input: &mut ParseBuffer<'_>) -> Result<Box<E>>
     Ok(boxed(alloc, x)?)
 }
 
-impl<E: IsExpr + HasKind + Drop, F: Fn(&mut ParseBuffer<'_>, Place) -> Result<Box<E>>> Blocks<F>
+impl<E: ReadExprs + Drop, F: Fn(&mut ParseBuffer<'_>, Place) -> Result<Box<E>>> Blocks<F>
 where
     E::Pat: ReadPats + Drop,
-    E::Arm: Drop,
+    <E as IsExpr>::Arm: Drop,
 {
     /// Reads an `if` behind its word.
     // Not in the frame of its caller, which is on the stack once for each level of a tree.
@@ -88,14 +88,16 @@ where
         ensures noted { input.new.noted ≡ input.old.noted }
         ensures shrinks { weight input.new.rest ≤ weight input.old.rest }
     {
-        let cond = (self.expr)(input, BEFORE_BLOCK)?;
+        let cond = Held {
+            expr: (self.expr)(input, BEFORE_BLOCK)?,
+        };
         let then_branch = behind_condition(input)?;
         let else_branch = self.otherwise(input)?;
         let alloc = input.alloc();
         let x = E::if_expr(ExprIfOf {
             attrs: Vec::new(alloc),
             if_token,
-            cond,
+            cond: cond.into_inner(),
             then_branch,
             else_branch,
         });
@@ -151,13 +153,15 @@ where
         ensures noted { input.new.noted ≡ input.old.noted }
         ensures shrinks { weight input.new.rest ≤ weight input.old.rest }
     {
-        let cond = (self.expr)(input, BEFORE_BLOCK)?;
+        let cond = Held {
+            expr: (self.expr)(input, BEFORE_BLOCK)?,
+        };
         let body = behind_loop_head(input)?;
         let x = E::while_expr(ExprWhileOf {
             attrs: body.attrs,
             label,
             while_token,
-            cond,
+            cond: cond.into_inner(),
             body: body.block,
         });
         Ok(boxed(input.alloc(), x)?)
@@ -176,7 +180,9 @@ where
     {
         let head = for_head(input)?;
         let pat = boxed(input.alloc(), head.pat)?;
-        let expr = (self.expr)(input, BEFORE_BLOCK)?;
+        let expr = Held {
+            expr: (self.expr)(input, BEFORE_BLOCK)?,
+        };
         let body = behind_loop_head(input)?;
         let x = E::for_loop(ExprForLoopOf {
             attrs: body.attrs,
@@ -184,7 +190,7 @@ where
             for_token: head.for_token,
             pat,
             in_token: head.in_token,
-            expr,
+            expr: expr.into_inner(),
             body: body.block,
         });
         Ok(boxed(input.alloc(), x)?)
@@ -220,20 +226,22 @@ where
         attrs: Vec<Attribute>,
         pat: E::Pat,
         fat_arrow_token: FatArrow,
-    ) -> Result<E::Arm>
+    ) -> Result<<E as IsExpr>::Arm>
         requires callable { Callable (weight input.old.rest + 1) (F.pre self.now.expr) }
         requires reads { ReadsExpr E.tree (F.post self.now.expr) }
         ensures value { Reads E.Arm.view (parts.arm_body (attrs_of attrs) (E.Pat.view pat).tree (E.Pat.view pat).guards input.old.rest) result input.new.rest }
         ensures noted { input.new.noted ≡ input.old.noted }
         ensures shrinks { weight input.new.rest ≤ weight input.old.rest }
     {
-        let body = (self.expr)(input, AT_HEAD)?;
-        let comma = behind_arm(input, is_block_like(&*body))?;
+        let body = Held {
+            expr: (self.expr)(input, AT_HEAD)?,
+        };
+        let comma = behind_arm(input, is_block_like(&*body.expr))?;
         Ok(E::arm(ArmOf {
             attrs,
             pat,
             fat_arrow_token,
-            body,
+            body: body.into_inner(),
             comma,
         }))
     }
@@ -244,7 +252,7 @@ where
     // Not in the frame of its caller, which is on the stack once for each level of a tree.
     #[inline(never)]
     #[tactic(auto, using(crate::proofs::Parts::one), unfolding(crate::specs::Parts::one_arm, syn_expr_kinds::specs::Attrs::attrs_of))]
-    pub fn arm(&self, input: &mut ParseBuffer<'_>) -> Result<E::Arm>
+    pub fn arm(&self, input: &mut ParseBuffer<'_>) -> Result<<E as IsExpr>::Arm>
         requires callable { Callable (weight input.old.rest + 1) (F.pre self.now.expr) }
         requires reads { ReadsExpr E.tree (F.post self.now.expr) }
         ensures value { Reads E.Arm.view (parts.one_arm input.old.rest) result input.new.rest }
@@ -253,14 +261,16 @@ where
     {
         match arm_head(input)? {
             ArmHead::Guard(attrs, pat, if_token) => {
-                let guard = (self.expr)(input, PLAIN)?;
+                let guard = Held {
+                    expr: (self.expr)(input, PLAIN)?,
+                };
                 let fat_arrow_token = guarded(input)?;
                 let alloc = input.alloc();
                 let pat = E::guarded(PatGuardOf {
                     attrs: Vec::new(alloc),
                     pat: boxed(alloc, pat)?,
                     if_token,
-                    guard,
+                    guard: guard.into_inner(),
                 });
                 self.arm_body(input, attrs, pat, fat_arrow_token)
             }
@@ -272,7 +282,7 @@ where
 
     /// Reads arms to the end of the input. It is refused as `arm` is.
     #[tactic(auto, using(crate::proofs::Parts::many, crate::proofs::Parts::one))]
-    pub fn arms(&self, input: &mut ParseBuffer<'_>) -> Result<Vec<E::Arm>>
+    pub fn arms(&self, input: &mut ParseBuffer<'_>) -> Result<Vec<<E as IsExpr>::Arm>>
         requires callable { Callable (weight input.old.rest + 1) (F.pre self.now.expr) }
         requires reads { ReadsExpr E.tree (F.post self.now.expr) }
         ensures value { Reads (λ v. pats.arms (map E.Arm.view v.items)) (read.bare_operands read.expr slot.arms input.old.rest) result input.new.rest }
@@ -298,14 +308,16 @@ where
         ensures noted { input.new.noted ≡ input.old.noted }
         ensures shrinks { weight input.new.rest ≤ weight input.old.rest }
     {
-        let expr = (self.expr)(input, BEFORE_BLOCK)?;
+        let expr = Held {
+            expr: (self.expr)(input, BEFORE_BLOCK)?,
+        };
         let (brace_token, mut content) = input.parse_braces()?;
         let attrs = inner_attributes(&mut content)?;
         let arms = self.arms(&mut content)?;
         let x = E::match_expr(ExprMatchOf {
             attrs,
             match_token,
-            expr,
+            expr: expr.into_inner(),
             brace_token,
             arms,
         });

@@ -46,6 +46,9 @@ pub trait ReadExprs: IsExpr + HasNode + HasKind {
     fn holds_block(&self) -> bool
         ensures { result ≡ holds_block (Self.tree self.now) };
 
+    /// Lets it go, and all in it, in no more stack than reading it takes: a chain of operands takes none.
+    fn let_go(self);
+
     /// The tokens that are kept, where it is of these; else it is given back.
     fn into_verbatim(self) -> std::result::Result<TokenStream, Self>
         ensures { MatchResult result (λ ts. Self.tree self ≡ e.leaf (e.verbatim ts)) (λ x. (x ≡ self) × (is_verbatim (Self.tree self) ≡ false)) };

@@ -14,6 +14,7 @@ ghost use Rattle.syn_tokens.specs.Tok.{weight};
 
 use crate::lists::Lists;
 use crate::word::named;
+use syn_expr_ends::held::given_up;
 use syn_expr_ends::kinds::ReadExprs;
 use syn_expr_ends::place::PLAIN;
 use syn_expr_heads::ending::comma_or_end;
@@ -125,7 +126,7 @@ impl<E: ReadExprs + Drop, F: Fn(&mut ParseBuffer<'_>, Place) -> Result<Box<E>>> 
         }
         let x = (self.expr)(input, PLAIN)?;
         if !input.is_empty() {
-            return Err(input.error(ErrorKind::UnexpectedToken));
+            return Err(given_up(x, input.error(ErrorKind::UnexpectedToken)));
         }
         Ok(Some(x))
     }

@@ -17,3 +17,4 @@ pub mod Rounds
 pub mod Lending
 pub mod Counts
 pub mod Adorned
+pub mod Spines

@@ -14,6 +14,7 @@ use crate::ends::{closes, next_operator, stops};
 use crate::grammar::Grammar;
 use crate::make;
 use crate::told::chains;
+use syn_expr_ends::held::{Held, given_up};
 use syn_expr_ends::kinds::ReadExprs;
 use syn_expr_ends::place::at;
 use syn_expr_front::sign::{ends_open_range, left_arrow_at};
@@ -26,6 +27,15 @@ use syn_tokens::error::{AfterCast, Error, ErrorKind, Result};
 use syn_tokens::span::Span;
 use syn_tokens::token::{As, Await, Eq, Paren, PathSep};
 use syn_tokens::tree::TokenTree;
+
+/// The places of the puncts of an operator of so many tokens. Most have one.
+fn operator_spans(input: &ParseBuffer<'_>, count: usize) -> [Span; 3] {
+    if count == 1 {
+        [input.span(); 3]
+    } else {
+        input.spans()
+    }
+}
 
 /// Which trailer with a dot stands first.
 fn dotted_trailer(trees: &[TokenTree]) -> AfterCast {
@@ -69,7 +79,7 @@ impl<E: ReadExprs + Drop, F: Fn(&mut ParseBuffer<'_>, Place) -> Result<Box<E>>> 
     {
         let right = (self.expr)(input, at(place, level_of(op)))?;
         if left_arrow_at(input) {
-            return Err(input.error(ErrorKind::LeftArrow));
+            return Err(given_up(right, input.error(ErrorKind::LeftArrow)));
         }
         Ok(right)
     }
@@ -96,8 +106,9 @@ impl<E: ReadExprs + Drop, F: Fn(&mut ParseBuffer<'_>, Place) -> Result<Box<E>>> 
         if matches!(kind, Limits::HalfOpen) && ends_open_range(input, place.condition) {
             return Ok(make::range_from(input.alloc(), start, limits)?);
         }
+        let start = Held { expr: start };
         let end = (self.expr)(input, at(place, Level::Range))?;
-        Ok(make::range_between(input.alloc(), start, limits, end)?)
+        Ok(make::range_between(input.alloc(), start.into_inner(), limits, end)?)
     }
 
     /// Reads what stands behind an operator, which was taken, and its left operand: the operation that they are.
@@ -119,23 +130,24 @@ impl<E: ReadExprs + Drop, F: Fn(&mut ParseBuffer<'_>, Place) -> Result<Box<E>>> 
         ensures shrinks { weight input.new.rest ≤ weight input.old.rest }
     {
         let [first, _, _] = spans;
+        let left = Held { expr: left };
         match op {
             Infix::Binary(kind) => {
                 let right = self.right(input, place, op)?;
-                Ok(make::binary(input.alloc(), left, kind, spans, right)?)
+                Ok(make::binary(input.alloc(), left.into_inner(), kind, spans, right)?)
             }
             Infix::Assign => {
                 let right = self.right(input, place, op)?;
                 let eq_token = Eq { spans: [first] };
-                Ok(make::assign(input.alloc(), left, eq_token, right)?)
+                Ok(make::assign(input.alloc(), left.into_inner(), eq_token, right)?)
             }
-            Infix::Range(kind) => self.range(input, place, left, kind, spans),
+            Infix::Range(kind) => self.range(input, place, left.into_inner(), kind, spans),
             Infix::Cast => {
                 let ty = ty(input, false)?;
                 if left_arrow_at(input) {
                     return Err(input.error(ErrorKind::LeftArrow));
                 }
-                Ok(make::cast(input.alloc(), left, As { span: first }, ty)?)
+                Ok(make::cast(input.alloc(), left.into_inner(), As { span: first }, ty)?)
             }
         }
     }
@@ -159,17 +171,17 @@ impl<E: ReadExprs + Drop, F: Fn(&mut ParseBuffer<'_>, Place) -> Result<Box<E>>> 
     {
         'operators: while let Some((op, count)) = next_operator(input, place, &*left) {
             if chains(op, &*left) {
-                return Err(input.error(ErrorKind::ChainedComparison));
+                return Err(given_up(left, input.error(ErrorKind::ChainedComparison)));
             }
-            let spans = input.spans();
+            let spans = operator_spans(input, count);
             input.skip(count);
             left = self.longer(input, place, left, op, spans)?;
             if !closes(input, place, &*left) {
-                return Err(after_cast(input));
+                return Err(given_up(left, after_cast(input)));
             }
         }
         if !stops(input, place, &*left) {
-            return Err(refusal(input));
+            return Err(given_up(left, refusal(input)));
         }
         Ok(left)
     }
