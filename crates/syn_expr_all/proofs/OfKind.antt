@@ -9,7 +9,6 @@ use Rattle.syn_grammar.specs.Tree as tr
 use Rattle.syn_grammar.specs.Tree.{Tree, Leaf, Lead, Post, Trailer, Frame, Jump, ClosureHead, leaf, paren, adorned, lead, mid, post, tail, frame, none, kid, adorn, is_block_like}
 use Rattle.syn_grammar.specs.Stands.{is_adorned, is_branch, is_cast, is_range, holds_block}
 use Rattle.syn_grammar.specs.Alone.{unadorned, ungrouped, is_array, is_assign, is_await, is_binary, is_break, is_call, is_closure, is_field, is_for_loop, is_index, is_let, is_match, is_method_call, is_paren, is_raw_addr, is_repeat, is_return, is_try, is_tuple, is_unary, is_while, is_yield}
-use Rattle.syn_expr_kinds.specs.Attrs.{attrs_of}
 use Rattle.syn_expr_kinds.specs.Pats.{closure_by}
 use Rattle.syn_expr_kinds.specs.View.{jump_with, range_between, boxed, expr_array_of, expr_assign_of, expr_await_of, expr_binary_of, expr_break_of, expr_call_of, expr_cast_of, expr_field_of, expr_if_of, expr_index_of, expr_method_call_of, expr_paren_of, expr_range_of, expr_raw_addr_of, expr_repeat_of, expr_return_of, expr_try_of, expr_tuple_of, expr_unary_of, expr_while_of, expr_yield_of}
 use Rattle.syn_expr_kinds.specs.declared.atom.ExprArrayOf.{ExprArrayOf}
@@ -45,7 +44,7 @@ use Rattle.syn_expr_all.specs.declared.control.ExprForLoop.{ExprForLoop}
 use Rattle.syn_expr_all.specs.declared.control.ExprLet.{ExprLet}
 use Rattle.syn_expr_all.specs.declared.control.ExprMatch.{ExprMatch}
 use Rattle.syn_expr_all.specs.View.{tree_layer, tree_of, views, closure_of, for_loop_of, binding_of, choice_of}
-use Rattle.syn_expr_all.proofs.TreeOf.{tree_out, tree-Group, tree-Array, tree-Assign, tree-Await, tree-Binary, tree-Break, tree-Call, tree-Cast, tree-Closure, tree-Field, tree-ForLoop, tree-If, tree-Index, tree-Let, tree-Match, tree-MethodCall, tree-Paren, tree-Range, tree-RawAddr, tree-Repeat, tree-Return, tree-Try, tree-Tuple, tree-Unary, tree-While, tree-Yield, closure-is, for_loop-is, binding-is, choice-is}
+use Rattle.syn_expr_all.proofs.TreeOf.{tree_out, tree-Array, tree-Assign, tree-Await, tree-Binary, tree-Break, tree-Call, tree-Cast, tree-Closure, tree-Field, tree-ForLoop, tree-If, tree-Index, tree-Let, tree-Match, tree-MethodCall, tree-Paren, tree-Range, tree-RawAddr, tree-Repeat, tree-Return, tree-Try, tree-Tuple, tree-Unary, tree-While, tree-Yield, closure-is, for_loop-is, binding-is, choice-is}
 
 -- ---- a name of each kind that is taken out
 
@@ -648,13 +647,10 @@ pub holds_other : (v : Expr) → ((x : ExprGroupOf Expr) → v ≡ ex.Group x �
 holds_other v other = holds_bare (tree_of v) (not_group v other)
 
 -- attributes before a group go with it
-ungrouped_in : (ats : List AttributeTree) (t : Tree) → ungrouped (adorn ats (frame tr.invisible (kid tr.grouped tr.no_ending t none))) ≡ ungrouped t
+pub ungrouped_in : (ats : List AttributeTree) (t : Tree) → ungrouped (adorn ats (frame tr.invisible (kid tr.grouped tr.no_ending t none))) ≡ ungrouped t
 ungrouped_in [] t = refl
 ungrouped_in (a ∷ more) t = refl
 
--- what a group holds, in no group
-pub ungrouped_from : (v r : Expr) (x : ExprGroupOf Expr) → v ≡ ex.Group x → tree_of r ≡ ungrouped (tree_of x.expr.value) → tree_of r ≡ ungrouped (tree_of v)
-ungrouped_from v r x same h =
-    h ∙ sym (ap (λ u. ungrouped (tree_of u)) same ∙ ap ungrouped (tree-Group x) ∙ ungrouped_in (attrs_of x.attrs) (tree_of x.expr.value))
+pub ruleset groups = (ungrouped_other, ungrouped_in)
 
 pub ruleset held = (holds_other)

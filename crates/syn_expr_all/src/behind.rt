@@ -11,7 +11,7 @@ use crate::expr::Expr;
 use crate::let_go::let_go;
 use std::alloc::AllocError;
 use syn_expr_attrs::{around, before};
-use syn_expr_ends::kinds::ReadExprs;
+use syn_expr_ends::kinds::{LetGo, ReadExprs};
 use syn_expr_kinds::joined::joined;
 use syn_expr_kinds::like::is_block_like;
 use syn_lower::attr::Attribute;
@@ -70,6 +70,12 @@ impl ExprMatch {
     }
 }
 
+impl LetGo for Expr {
+    fn let_go(self) {
+        let_go(self);
+    }
+}
+
 #[tactic(auto, using(crate::proofs::TreeOf::kinds))]
 impl ReadExprs for Expr {
     #[tactic(auto, using(crate::proofs::TreeOf::kinds, crate::proofs::Holds::held, crate::proofs::OfKind::held))]
@@ -79,10 +85,6 @@ impl ReadExprs for Expr {
             held = &x.expr;
         }
         is_block_like(held)
-    }
-
-    fn let_go(self) {
-        let_go(self);
     }
 
     fn into_verbatim(self) -> Result<TokenStream, Expr> {

@@ -28,6 +28,7 @@ pub(crate) trait Kind {
 }
 
 /// What an expression is in invisible groups, in as many as there are; attributes before a group go with it.
+#[tactic(auto, using(crate::proofs::TreeOf::kinds, crate::proofs::OfKind::groups))]
 pub(crate) fn ungrouped(x: Expr) -> Expr
     ensures { tree_of result ≡ alone.ungrouped (tree_of x) }
 {

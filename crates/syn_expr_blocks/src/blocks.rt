@@ -22,7 +22,7 @@ ghost use Rattle.syn_tokens.specs.Tok.{weight};
 use crate::head::{arm_head, for_head};
 use std::alloc::{AllocError, Global};
 use syn_expr_ends::held::Held;
-use syn_expr_ends::kinds::{ReadExprs, ReadPats};
+use syn_expr_ends::kinds::{LetGo, ReadPats};
 use syn_expr_ends::place::{AT_HEAD, BEFORE_BLOCK, PLAIN};
 use syn_expr_heads::ending::{behind_arm, behind_condition, behind_loop_head, guarded};
 use syn_expr_heads::label::maybe_label;
@@ -31,6 +31,7 @@ use syn_expr_heads::word::{else_word, if_word, while_word};
 use syn_expr_kinds::block::{ExprBlock, ExprIfOf, ExprWhileOf};
 use syn_expr_kinds::kinds::IsExpr;
 use syn_expr_kinds::like::is_block_like;
+use syn_expr_kinds::node::HasKind;
 use syn_expr_kinds::pattern::{ArmOf, ExprForLoopOf, ExprMatchOf, PatGuardOf};
 use syn_expr_parts::label::Label;
 use syn_grammar::kinds::Place;
@@ -71,10 +72,10 @@ fn kept_block<E: IsExpr + Drop>(input: &mut ParseBuffer<'_>) -> Result<Box<E>>
     Ok(boxed(alloc, x)?)
 }
 
-impl<E: ReadExprs + Drop, F: Fn(&mut ParseBuffer<'_>, Place) -> Result<Box<E>>> Blocks<F>
+impl<E: IsExpr + HasKind + LetGo + Drop, F: Fn(&mut ParseBuffer<'_>, Place) -> Result<Box<E>>> Blocks<F>
 where
     E::Pat: ReadPats + Drop,
-    <E as IsExpr>::Arm: Drop,
+    E::Arm: Drop,
 {
     /// Reads an `if` behind its word.
     // Not in the frame of its caller, which is on the stack once for each level of a tree.
@@ -226,7 +227,7 @@ where
         attrs: Vec<Attribute>,
         pat: E::Pat,
         fat_arrow_token: FatArrow,
-    ) -> Result<<E as IsExpr>::Arm>
+    ) -> Result<E::Arm>
         requires callable { Callable (weight input.old.rest + 1) (F.pre self.now.expr) }
         requires reads { ReadsExpr E.tree (F.post self.now.expr) }
         ensures value { Reads E.Arm.view (parts.arm_body (attrs_of attrs) (E.Pat.view pat).tree (E.Pat.view pat).guards input.old.rest) result input.new.rest }
@@ -252,7 +253,7 @@ where
     // Not in the frame of its caller, which is on the stack once for each level of a tree.
     #[inline(never)]
     #[tactic(auto, using(crate::proofs::Parts::one), unfolding(crate::specs::Parts::one_arm, syn_expr_kinds::specs::Attrs::attrs_of))]
-    pub fn arm(&self, input: &mut ParseBuffer<'_>) -> Result<<E as IsExpr>::Arm>
+    pub fn arm(&self, input: &mut ParseBuffer<'_>) -> Result<E::Arm>
         requires callable { Callable (weight input.old.rest + 1) (F.pre self.now.expr) }
         requires reads { ReadsExpr E.tree (F.post self.now.expr) }
         ensures value { Reads E.Arm.view (parts.one_arm input.old.rest) result input.new.rest }
@@ -282,7 +283,7 @@ where
 
     /// Reads arms to the end of the input. It is refused as `arm` is.
     #[tactic(auto, using(crate::proofs::Parts::many, crate::proofs::Parts::one))]
-    pub fn arms(&self, input: &mut ParseBuffer<'_>) -> Result<Vec<<E as IsExpr>::Arm>>
+    pub fn arms(&self, input: &mut ParseBuffer<'_>) -> Result<Vec<E::Arm>>
         requires callable { Callable (weight input.old.rest + 1) (F.pre self.now.expr) }
         requires reads { ReadsExpr E.tree (F.post self.now.expr) }
         ensures value { Reads (λ v. pats.arms (map E.Arm.view v.items)) (read.bare_operands read.expr slot.arms input.old.rest) result input.new.rest }

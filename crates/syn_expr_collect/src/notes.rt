@@ -1,15 +1,13 @@
 //! One pass over an expression, which notes each node.
 
-ghost use Rattle.std.specs.Prelude.{◌≡◌, ◌^◌, ◌+◌, ◌-◌, ◌++◌, min, IfOk, OnOk};
+ghost use Rattle.std.specs.Prelude.{◌≡◌, ◌^◌, ◌+◌, ◌-◌, ◌++◌, min, IfOk, IfSome, OnOk, Some};
 ghost use Rattle.syn_expr_collect.specs.Below.{AreFirst, operands_below, operands_visited, backwards, total, field_below, field_visited, option_below, option_visited, arm_below, arm_visited};
 ghost use Rattle.syn_expr_collect.specs.Visited.{visited};
-ghost use Rattle.syn_expr_collect.specs.Spine.{IsSecond, Leads, above, behind_below, behind_visited};
-ghost use Rattle.syn_expr_kinds.specs.Node.{operands_at, operands_of};
+ghost use Rattle.syn_expr_collect.specs.Spine.{IsSecond, behind_below, behind_visited, over, whole_over};
+ghost use Rattle.syn_expr_kinds.specs.Node.{first_of, operands_at, operands_of};
 ghost use Rattle.syn_expr_kinds.specs.View.{boxed, field_value_of};
 ghost use Rattle.syn_expr_notes.specs.Kind.{kind_at};
-ghost use Rattle.syn_expr_notes.specs.declared.kind.NodeKind.TheVariants as node;
 ghost use Rattle.syn_grammar.specs.Notes.{note_of, stack};
-ghost use Rattle.syn_grammar.specs.Tree.{Tree};
 ghost use Rattle.syn_lower_lists.specs.View.{values};
 
 use crate::arm::HasArms;
@@ -18,8 +16,7 @@ use std::alloc::AllocError;
 use syn_expr_kinds::node::{HasKind, Operands};
 use syn_expr_kinds::structure::FieldValueOf;
 use syn_expr_notes::kind::NodeKind;
-use syn_expr_notes::label::LeafKind;
-use syn_expr_notes::note::tick;
+use syn_expr_notes::note::{leaf_note, tick};
 use syn_grammar::note::Note;
 use syn_lower_lists::punctuated::Punctuated;
 use syn_tokens::token::Comma;
@@ -261,16 +258,16 @@ fn collect_behind<E: HasArms + HasKind>(
     }
 }
 
-/// Notes the nodes over a first operand with this note, the innermost first, each by the note of its second operand beside
-/// it, and answers the note of the outermost.
-#[tactic(auto, using(crate::proofs::Nodes::nodes, crate::proofs::Spines::spines))]
+/// Notes the nodes over a first operand with this note, the innermost first, each with the note of its second operand, and
+/// answers the note of the outermost.
+#[tactic(auto, using(crate::proofs::Spines::over_more, crate::proofs::Spines::whole_over_more))]
 fn close<E: HasArms + HasKind>(
     notes: &mut Vec<Note>,
     mut spine: Vec<(&E, Note)>,
     mut note: Note,
 ) -> Result<Note, AllocError>
-    ensures same { (top t : Tree) → Leads E.tree top spine.items t → note ≡ note_of t → IfOk result (λ n. n ≡ note_of top) }
-    ensures kept { (top t : Tree) → Leads E.tree top spine.items t → note ≡ note_of t → OnOk result (notes.new.items ≡ notes.old.items ++ above E.tree spine.items) }
+    ensures same { IfOk result (λ n. n ≡ whole_over E.tree spine.items note) }
+    ensures kept { OnOk result (notes.new.items ≡ notes.old.items ++ over E.tree spine.items note) }
 {
     while let Some((x, second)) = spine.pop() {
         note = keep(notes, x.attributes(), plain_note(x.kind(), note, second))?;
@@ -278,34 +275,13 @@ fn close<E: HasArms + HasKind>(
     Ok(note)
 }
 
-/// Notes a leaf.
-// At each leaf of a tree, so without a call.
-#[inline(always)]
-#[tactic(auto, using(crate::proofs::Nodes::nodes, crate::proofs::Nodes::leaves))]
-fn collect_leaf<E: HasArms + HasKind>(
-    notes: &mut Vec<Note>,
-    visits: &mut u64,
-    x: &E,
-    kind: LeafKind,
-) -> Result<Note, AllocError>
-    requires { kind_at (E.tree x.now) ≡ node.Leaf kind }
-    ensures same { IfOk result (λ n. n ≡ note_of (E.tree x.now)) }
-    ensures kept { OnOk result (notes.new.items ≡ notes.old.items ++ stack (E.tree x.now)) }
-    ensures counted { OnOk result (visits.new ≡ min (visits.old + visited (E.tree x.now)) (2 ^ 64 - 1)) }
-{
-    tick(visits);
-    keep(
-        notes,
-        x.attributes(),
-        plain_note(NodeKind::Leaf(kind), closed(), closed()),
-    )
-}
-
-/// Notes a node that is no leaf, and all below it. Down first operands it goes by a loop, and takes memory for those that have
-/// operands themselves.
+/// Notes a node and all below it, an operand on the right before one on the left, and the node behind its operands; so a
+/// printer takes the notes from the end, in the order in which it comes to the nodes. Operands that aren't spelled are
+/// visited, and have no notes. It answers the note of the node, and is refused for want of memory alone. Down first operands
+/// it goes by a loop: a sum of many terms, a chain of trailers and prefix operators take no stack.
 #[cycle(collect)]
-#[tactic(auto, using(crate::proofs::Nodes::nodes, crate::proofs::Spines::spines))]
-fn collect_spine<E: HasArms + HasKind>(
+#[tactic(auto, using(crate::proofs::Nodes::nodes))]
+pub fn collect<E: HasArms + HasKind>(
     notes: &mut Vec<Note>,
     visits: &mut u64,
     expr: &E,
@@ -318,39 +294,26 @@ fn collect_spine<E: HasArms + HasKind>(
     let mut x = expr;
     loop {
         tick(visits);
+        let kind = x.kind();
+        if let NodeKind::Leaf(leaf) = kind {
+            let note = keep(notes, x.attributes(), leaf_note(leaf))?;
+            return close(notes, spine, note);
+        }
         let operands = x.operands();
         let Some(first) = operands.first() else {
             let (first, second) = collect_operands(notes, visits, operands)?;
-            let note = keep(notes, x.attributes(), plain_note(x.kind(), first, second))?;
+            let note = keep(notes, x.attributes(), plain_note(kind, first, second))?;
             return close(notes, spine, note);
         };
         let second = collect_behind(notes, visits, operands)?;
-        if let NodeKind::Leaf(kind) = first.kind() {
-            let first = collect_leaf(notes, visits, first, kind)?;
-            let note = keep(notes, x.attributes(), plain_note(x.kind(), first, second))?;
+        // Most first operands are leaves, for which no memory is taken.
+        if let NodeKind::Leaf(leaf) = first.kind() {
+            tick(visits);
+            let first = keep(notes, first.attributes(), leaf_note(leaf))?;
+            let note = keep(notes, x.attributes(), plain_note(kind, first, second))?;
             return close(notes, spine, note);
         }
         spine.push((x, second))?;
         x = first;
-    }
-}
-
-/// Notes a node and all below it, an operand on the right before one on the left, and the node behind its operands; so a
-/// printer takes the notes from the end, in the order in which it comes to the nodes. Operands that aren't spelled are
-/// visited, and have no notes. It answers the note of the node, and is refused for want of memory alone. Down first operands
-/// it goes by a loop: a sum of many terms, a chain of trailers and prefix operators take no stack.
-#[cycle(collect)]
-pub fn collect<E: HasArms + HasKind>(
-    notes: &mut Vec<Note>,
-    visits: &mut u64,
-    expr: &E,
-) -> Result<Note, AllocError>
-    ensures same { IfOk result (λ n. n ≡ note_of (E.tree expr.now)) }
-    ensures kept { OnOk result (notes.new.items ≡ notes.old.items ++ stack (E.tree expr.now)) }
-    ensures counted { OnOk result (visits.new ≡ min (visits.old + visited (E.tree expr.now)) (2 ^ 64 - 1)) }
-{
-    match expr.kind() {
-        NodeKind::Leaf(kind) => collect_leaf(notes, visits, expr, kind),
-        _ => collect_spine(notes, visits, expr),
     }
 }

@@ -5,13 +5,13 @@
 
 ghost use Rattle.std.specs.Prelude.{◌≡◌};
 
-use crate::kinds::ReadExprs;
+use crate::kinds::LetGo;
 use syn_lower::punctuated::Punctuated;
 use syn_tokens::error::Error;
 use syn_tokens::token::Comma;
 
 /// A refusal, where an expression that was read is given up for it.
-pub fn given_up<E: ReadExprs>(expr: Box<E>, refusal: Error) -> Error
+pub fn given_up<E: LetGo>(expr: Box<E>, refusal: Error) -> Error
     ensures { result ≡ refusal }
 {
     Box::into_inner(expr).let_go();
@@ -19,19 +19,19 @@ pub fn given_up<E: ReadExprs>(expr: Box<E>, refusal: Error) -> Error
 }
 
 /// An expression that was read.
-pub struct Held<E: ReadExprs> {
+pub struct Held<E: LetGo> {
     /// The expression.
     pub expr: Box<E>,
 }
 
-impl<E: ReadExprs + Drop> Drop for Held<E> {
+impl<E: LetGo + Drop> Drop for Held<E> {
     fn drop(self) {
         let Held { expr } = self;
         Box::into_inner(expr).let_go();
     }
 }
 
-impl<E: ReadExprs> Held<E> {
+impl<E: LetGo> Held<E> {
     /// The expression, which is the caller's to let go.
     pub fn into_inner(self) -> Box<E>
         ensures { result ≡ self.expr }
@@ -42,25 +42,24 @@ impl<E: ReadExprs> Held<E> {
 }
 
 /// Elements of a list that were read.
-pub struct HeldList<E: ReadExprs> {
+pub struct HeldList<E: LetGo> {
     /// The elements.
     pub list: Punctuated<E, Comma>,
 }
 
-impl<E: ReadExprs + Drop> Drop for HeldList<E> {
+impl<E: LetGo + Drop> Drop for HeldList<E> {
     fn drop(self) {
-        let HeldList { list } = self;
-        let (pairs, last) = list.into_parts();
-        for (x, _) in pairs {
+        let HeldList { mut list } = self;
+        while let Some((x, _)) = list.inner.pop() {
             x.let_go();
         }
-        if let Some(x) = last {
+        if let Some(x) = list.last.take() {
             Box::into_inner(x).let_go();
         }
     }
 }
 
-impl<E: ReadExprs> HeldList<E> {
+impl<E: LetGo> HeldList<E> {
     /// The elements, which are the caller's to let go.
     pub fn into_inner(self) -> Punctuated<E, Comma>
         ensures { result ≡ self.list }

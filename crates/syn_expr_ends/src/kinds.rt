@@ -38,16 +38,20 @@ pub trait ReadPats: HasPatTree {
         ensures shrinks { weight input.new.rest ≤ weight input.old.rest };
 }
 
+/// What is let go by a loop.
+// Apart from the readers of all kinds, since of those two name a type of arms.
+pub trait LetGo {
+    /// Lets it go, and all in it, in no more stack than reading it takes: a chain of operands takes none.
+    fn let_go(self);
+}
+
 /// The type of expressions: one is made of each kind, and is asked for its kind, its tokens and its path, and given
 /// attributes.
-pub trait ReadExprs: IsExpr + HasNode + HasKind {
+pub trait ReadExprs: IsExpr + HasNode + HasKind + LetGo {
     /// Whether it is like a block, or what holds one in invisible groups is: where it is the whole of a statement or of an arm's
     /// body, no operator goes on it (Rust Reference, "Expression statements").
     fn holds_block(&self) -> bool
         ensures { result ≡ holds_block (Self.tree self.now) };
-
-    /// Lets it go, and all in it, in no more stack than reading it takes: a chain of operands takes none.
-    fn let_go(self);
 
     /// The tokens that are kept, where it is of these; else it is given back.
     fn into_verbatim(self) -> std::result::Result<TokenStream, Self>

@@ -17,4 +17,3 @@ pub mod Rounds
 pub mod Lending
 pub mod Counts
 pub mod Adorned
-pub mod Spines

@@ -6,12 +6,10 @@ ghost use Rattle.std.specs.Prelude.{◌≡◌, ◌++◌, true, OnOk};
 ghost use Rattle.syn_expr_notes.specs.Kind.{kind_at};
 ghost use Rattle.syn_expr_print.specs.Printing.{EndsWith, core, spelled};
 ghost use Rattle.syn_expr_print.specs.Prints.{Callable, Prints};
-ghost use Rattle.syn_expr_collect.specs.Spine.{behind_below};
-ghost use Rattle.syn_expr_kinds.specs.Node.{operands_at};
-ghost use Rattle.syn_expr_print.specs.Spine.{begins, behind_spelled, first_place, first_wrapped, is_spine};
+ghost use Rattle.syn_expr_print.specs.Spine.{begins, behind_below, behind_spelled, first_place, first_wrapped, is_spine};
 ghost use Rattle.syn_expr_print.specs.Taken.{Taken};
 ghost use Rattle.syn_grammar.specs.Notes.{below};
-ghost use Rattle.syn_grammar.specs.Tree.{Tree, size};
+ghost use Rattle.syn_grammar.specs.Tree.{size};
 ghost use Rattle.syn_tokens.specs.Input.{IsFront};
 
 use crate::ends::{first_operand, second_operand};
@@ -34,7 +32,7 @@ use syn_tokens::tree::TokenStream;
 
 /// Where the first operand of a node of this kind stands.
 fn first_context(kind: NodeKind, context: Context) -> Context
-    ensures { (t : Tree) → kind_at t ≡ kind → result ≡ first_place t context }
+    ensures { result ≡ first_place kind context }
 {
     match kind {
         NodeKind::Mid(op) => left_context(op, context),
@@ -46,7 +44,7 @@ fn first_context(kind: NodeKind, context: Context) -> Context
 
 /// Whether the first operand of a node of this kind is wrapped in its place, by its note.
 fn is_wrapped(kind: NodeKind, place: Context, note: Note) -> bool
-    ensures { (t : Tree) → kind_at t ≡ kind → result ≡ first_wrapped t place note }
+    ensures { result ≡ first_wrapped kind place note }
 {
     match kind {
         NodeKind::Mid(op) => left_by(op, place, note),
@@ -82,10 +80,10 @@ where
     requires begins { begins (kind_at (E.tree x.now)) ≡ true }
     requires callable { Callable E.tree (size (E.tree x.now)) (F.pre bare.now) }
     requires prints { Prints E.tree (F.post bare.now) }
-    requires stacked { EndsWith notes.old.left.items (behind_below (operands_at (E.tree x.now))) }
-    ensures text { OnOk result (tokens.new ≡ tokens.old ++ behind_spelled context (E.tree x.now)) }
+    requires stacked { EndsWith notes.old.left.items (behind_below (E.tree x.now)) }
+    ensures text { OnOk result (tokens.new ≡ tokens.old ++ behind_spelled context (core (E.tree x.now))) }
     ensures front { IsFront tokens.old tokens.new }
-    ensures taken { OnOk result (Taken notes.old notes.new (behind_below (operands_at (E.tree x.now)))) }
+    ensures taken { OnOk result (Taken notes.old notes.new (behind_below (E.tree x.now))) }
 {
     match x.kind() {
         NodeKind::Mid(op) => {

@@ -7,6 +7,6 @@ pub mod Groups
 pub mod Knots
 pub mod Loops
 pub mod Names
-pub mod Operators
+pub mod Prefix
 pub mod Stops
 pub mod Turns

@@ -2,4 +2,4 @@ pub mod Groups
 pub mod Kind
 pub mod Loops
 pub mod Names
-pub mod Operators
+pub mod Prefix

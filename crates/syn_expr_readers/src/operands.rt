@@ -34,7 +34,6 @@ use syn_expr_front::sign::brace_at;
 use syn_expr_front::start::{Atom, atom_at};
 use syn_expr_heads::leaf::path_or_macro;
 use syn_expr_heads::word::{if_word, match_word};
-use syn_expr_kinds::begins::told;
 use syn_expr_kinds::kinds::IsExpr;
 use syn_expr_kinds::path::is_word_alone;
 use syn_expr_lists::lists::Lists;
@@ -43,7 +42,6 @@ use syn_lower::path::{Path, QSelf};
 use syn_lower::readers::ty;
 use syn_lower_leaves::attr::Attribute;
 use syn_lower_leaves::kept::outer_attributes;
-use syn_lower_leaves::leaf::lifetime_at;
 use syn_lower_readers::grammar::Grammar as TypeGrammar;
 use syn_lower_readers::qualified::{is_bare, macro_end};
 use syn_parts::label::PathStyle;
@@ -215,8 +213,7 @@ where
         }
     }
 
-    /// Reads an invisible group: an operand, or the front of a path that goes on behind it. One that holds a lifetime alone is
-    /// refused as `ExpectedExpression`, where it stands.
+    /// Reads an invisible group: an operand, or the front of a path that goes on behind it.
     #[inline(never)]
     #[tactic(auto, using(crate::proofs::Groups::groups), unfolding(crate::specs::Groups::group))]
     fn group(&self, input: &mut ParseBuffer<'_>, place: Place) -> Result<Box<E>>
@@ -226,17 +223,8 @@ where
         ensures noted { input.new.noted ≡ input.old.noted }
         ensures shrinks { weight input.new.rest ≤ weight input.old.rest }
     {
-        let none = input.error(ErrorKind::ExpectedExpression);
         let (group_token, mut content) = input.parse_group()?;
-        let begins = if lifetime_at(&content) && content.len() == 2 {
-            Err(none)
-        } else {
-            Ok(())
-        };
-        let x = match (self.expr)(&mut content, PLAIN) {
-            Ok(x) => x,
-            Err(e) => return Err(told(e, begins)),
-        };
+        let x = (self.expr)(&mut content, PLAIN)?;
         if !content.is_empty() {
             return Err(given_up(x, content.error(ErrorKind::UnexpectedToken)));
         }
@@ -279,7 +267,7 @@ where
 
     /// Reads an operand without trailers, by what stands first. It is refused as its parts are, as `ExpectedExpression` where none
     /// begins, and as `ExpectedLoopOrBlock` where neither a loop nor a block is behind a label.
-    #[tactic(auto, using(crate::proofs::Firsts::firsts, crate::proofs::Names::name_alone, crate::proofs::Operators::prefix_first))]
+    #[tactic(auto, using(crate::proofs::Firsts::firsts, crate::proofs::Names::name_alone, crate::proofs::Prefix::prefix_first))]
     pub fn atom(&self, input: &mut ParseBuffer<'_>, place: Place) -> Result<Box<E>>
         requires callable { Callable (weight input.old.rest) (F.pre self.now.expr) }
         requires reads { ReadsExpr E.tree (F.post self.now.expr) }

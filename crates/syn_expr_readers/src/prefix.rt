@@ -1,10 +1,10 @@
 //! The reader of prefix operators, one behind the other: they are counted, the operand is read, and then it is wrapped by
 //! each of them (Rust Reference, "Operator expressions"). So their number takes no stack.
 
-ghost use Rattle.std.specs.Prelude.{◌≡◌, ◌<◌, ◌≤◌, ◌+◌, true, IfSome, length, take};
+ghost use Rattle.std.specs.Prelude.{◌≡◌, ◌≤◌, ◌+◌, true, length, take};
 ghost use Rattle.syn_expr_atoms.specs.Led as led;
 ghost use Rattle.syn_expr_ends.specs.Reads.{Callable, ReadsExpr};
-ghost use Rattle.syn_expr_readers.specs.Operators.{are_operators, operator_at, operator_of, wrapped};
+ghost use Rattle.syn_expr_readers.specs.Prefix.{are_operators, operator_at, operator_of, wrapped};
 ghost use Rattle.syn_grammar.specs.Tree as e;
 ghost use Rattle.syn_lower_leaves.specs.Reads.{Reads};
 ghost use Rattle.syn_lower_leaves.specs.View.{mapped};
@@ -24,7 +24,7 @@ use syn_tokens::token::Sign;
 use syn_tokens::tree::TokenTree;
 
 /// The prefix operator that a token is, joined to the next or not.
-#[tactic(auto, unfolding(crate::specs::Operators::operator_of))]
+#[tactic(auto, unfolding(crate::specs::Prefix::operator_of))]
 fn operator(tree: &TokenTree) -> Option<UnOp>
     ensures { mapped un_kind result ≡ operator_of (tok_of tree.now) }
 {
@@ -43,16 +43,14 @@ fn operator(tree: &TokenTree) -> Option<UnOp>
 }
 
 /// The prefix operator that stands first.
-#[tactic(auto, using(crate::proofs::Operators::first_taken))]
 pub(crate) fn first_operator(input: &ParseBuffer<'_>) -> Option<UnOp>
-    ensures value { mapped un_kind result ≡ operator_at input.now.rest }
-    ensures present { IfSome result (λ _. 0 < length input.now.rest) }
+    ensures { mapped un_kind result ≡ operator_at input.now.rest }
 {
     operator(input.first()?)
 }
 
 /// How many prefix operators stand first, one behind the other.
-#[tactic(auto, using(crate::proofs::Operators::counted))]
+#[tactic(auto, using(crate::proofs::Prefix::counted))]
 fn operator_count(trees: &[TokenTree]) -> usize
     ensures all { are_operators (take result (toks_of trees.now)) ≡ true }
     ensures within { result ≤ length trees.now }
@@ -71,7 +69,7 @@ fn operator_count(trees: &[TokenTree]) -> usize
 
 impl<E: ReadExprs + Drop, F: Fn(&mut ParseBuffer<'_>, Place) -> Result<Box<E>> + Copy> Grammar<F> {
     /// Wraps an operand in the prefix operators before it, the last of them first, each with the trailers behind it.
-    #[tactic(auto, using(crate::proofs::Operators::wraps))]
+    #[tactic(auto, using(crate::proofs::Prefix::wraps))]
     fn wrapped(
         &self,
         input: &mut ParseBuffer<'_>,
@@ -98,7 +96,7 @@ impl<E: ReadExprs + Drop, F: Fn(&mut ParseBuffer<'_>, Place) -> Result<Box<E>> +
     /// Reads the operand of a prefix operator, which was taken.
     // Not in the frame of its caller, which is on the stack once for each level of a tree.
     #[inline(never)]
-    #[tactic(auto, using(crate::proofs::Operators::chains))]
+    #[tactic(auto, using(crate::proofs::Prefix::chains))]
     pub(crate) fn prefixed(
         &self,
         input: &mut ParseBuffer<'_>,

@@ -84,7 +84,7 @@ if @(S) { a }             | if: if @ (S) { a }
 match @(x) { _ => 1 }     | match: match @ (x) { _ => 1 }
 @(a b)                    | 4..5 unexpected token
 @()                       | 1..3 expected an expression
-@('a)                     | 1..5 expected an expression
+@('a)                     | 1..5 expected `:`
 @(return) a               | 10..11 unexpected token
 ";
 

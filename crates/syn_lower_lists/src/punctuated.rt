@@ -69,18 +69,6 @@ impl<T: Drop, P: Drop> Punctuated<T, P> {
         Ok(())
     }
 
-    /// Puts a value at the end that is in a box already, where the list is empty or a punct is last. It takes no memory.
-    #[tactic(auto, unfolding(crate::specs::View::values, crate::specs::View::trails, crate::specs::Punct::puncts, crate::specs::Punct::takes_value))]
-    pub fn push_boxed(&mut self, value: Box<T>)
-        requires { takes_value self.old ≡ true }
-        ensures values { values self.new ≡ values self.old ++ value.value ∷ [] }
-        ensures puncts { puncts self.new ≡ puncts self.old }
-        ensures trails { trails self.new ≡ false }
-        ensures open { takes_value self.new ≡ false }
-    {
-        self.last = Some(value);
-    }
-
     /// Puts a punct at the end, behind a value. Where memory runs out the list stays as it was, and the punct is
     /// given up.
     #[tactic(auto, unfolding(crate::specs::View::values, crate::specs::View::trails, crate::specs::Punct::puncts, crate::specs::Punct::takes_value))]
@@ -116,14 +104,6 @@ impl<T: Drop, P: Drop> Punctuated<T, P> {
 impl<T, P> Punctuated<T, P> {
     ghost use Rattle.syn_lower_lists.specs.View.{values, trails};
     ghost use Rattle.syn_lower_lists.specs.PunctIter.{left};
-
-    /// The values that puncts follow, each with its own, and the value that none follows.
-    pub fn into_parts(self) -> (Vec<(T, P)>, Option<Box<T>>)
-        ensures { result ≡ (self.inner, self.last) }
-    {
-        let Punctuated { inner, last } = self;
-        (inner, last)
-    }
 
     /// How many values there are.
     #[tactic(auto, unfolding(crate::specs::View::values))]

@@ -4,7 +4,6 @@ pub mod View
 pub mod TokSize
 pub mod Front
 pub mod Sign
-pub mod Shared
 pub mod Input
 pub mod ErrorText
 pub mod Same

@@ -126,9 +126,9 @@ pub enum WantedKind {
 #[derive(Clone, Copy, Debug, PartialEq, Eq)]
 pub enum Wanted {
     /// The sign at this place of `SIGNS`, an empty text past it.
-    Sign(u8),
+    Sign(usize),
     /// The word at this place of `WORDS`, an empty text past it.
-    Word(u8),
+    Word(usize),
     /// `_`
     Underscore,
     /// An identifier; most readers want one that is no reserved word.
@@ -250,8 +250,8 @@ impl fmt::Display for Wanted {
 
     fn fmt<W: fmt::Write>(&self, f: &mut fmt::Formatter<W>) -> fmt::Result {
         match self {
-            Wanted::Sign(k) => write!(f, "`{}`", sign_text(usize::from(*k))),
-            Wanted::Word(k) => write!(f, "`{}`", word_text(usize::from(*k))),
+            Wanted::Sign(k) => write!(f, "`{}`", sign_text(*k)),
+            Wanted::Word(k) => write!(f, "`{}`", word_text(*k)),
             Wanted::Underscore => f.write_str("`_`"),
             Wanted::Identifier => f.write_str("identifier"),
             Wanted::Lifetime => f.write_str("lifetime"),

@@ -1,15 +1,11 @@
 -- What is read behind prefix operators, one behind the other.
-use Rattle.std.specs.Prelude.{◌==◌, ◌&&◌, ◌||◌, is_some}
-use Rattle.std.proofs.Common.{◌≡◌, ℕ, zero, suc, ◌+◌, ◌-◌, ◌<◌, ◌≤◌, Bool, true, false, cond, List, [], ◌∷◌, ◌++◌, take, drop, length, get_or, Option, Some, None, refl, sym, ap, ◌∙◌, subst, arith}
-use Rattle.std.proofs.Math.Seq.{take-suc, take-length}
+use Rattle.std.specs.Prelude.{◌==◌, ◌&&◌, ◌||◌, not, is_some, if◌then◌else◌}
+use Rattle.std.proofs.Common.{◌≡◌, ℕ, zero, suc, ◌+◌, ◌≤◌, Bool, true, false, cond, List, [], ◌∷◌, ◌++◌, take, drop, length, Option, Some, None, refl, sym, ap, ◌∙◌, subst, arith}
 use Rattle.std.proofs.lemmas.Bool.{eqb-true}
-use Rattle.std.proofs.lemmas.List.{drop-drop}
 use Rattle.syn_lexer.specs.declared.lexeme.Spacing.{Spacing}
 use Rattle.syn_lexer.specs.declared.lexeme.Spacing.TheVariants.{Alone, Joint}
-use Rattle.syn_tokens.specs.Tok.{Tok, punct, ident, literal, group}
+use Rattle.syn_tokens.specs.Tok.{Tok, punct, ident, literal, group, weight}
 use Rattle.syn_tokens.specs.Front.{group_at}
-use Rattle.syn_tokens.specs.View.{tok_of, toks_of, toks_of-append, toks_of-take, toks_of-drop}
-use Rattle.syn_tokens.specs.declared.tree.TokenTree.{TokenTree}
 use Rattle.syn_parts.specs.Form.{Outcome, and_then}
 use Rattle.syn_parts.specs.Mark.{sign_at, word_at, brace_at, lifetime_at, pound}
 use Rattle.syn_parts.specs.Part.{outer_attributes}
@@ -21,16 +17,15 @@ use Rattle.syn_grammar.specs.declared.kinds.Level.TheVariants as lev
 use Rattle.syn_grammar.specs.declared.kinds.Place.{Place}
 use Rattle.syn_grammar.specs.declared.kinds.UnKind.{UnKind}
 use Rattle.syn_grammar.specs.declared.kinds.UnKind.TheVariants as un
-use Rattle.syn_grammar.specs.Place.{at, takes}
+use Rattle.syn_grammar.specs.Place.{at, takes, above}
 use Rattle.syn_grammar.specs.Op.{level, infix_at, goes_on, takes_by}
 use Rattle.syn_grammar.specs.Head.{lead_form, literal_at, loop_at, block_at, const_block_at, async_block_at, try_block_at, builtin_at}
 use Rattle.syn_grammar.specs.Tree.{Tree, lead, unary, none}
 use Rattle.syn_grammar.specs.Stands.{ends, is_range, rests, lead_stands}
-use Rattle.syn_grammar.specs.Read.{Reading, ◌<$>◌, ◌>>=◌, atom, attributed, leaf_at, lead_at, lead_read, core, operand, at_place, climb, stop, taken_at, taken_by, next_operator, expr}
+use Rattle.syn_grammar.specs.Read.{Reading, ◌<$>◌, ◌>>=◌, atom, attributed, leaf_at, lead_at, lead_read, core, operand, at_place, climb, trail, stop, taken_at, taken_by, next_operator, expr}
 use Rattle.syn_grammar.proofs.Chains.{both_true}
-use Rattle.syn_expr_atoms.specs.Led.{behind}
 use Rattle.syn_expr_readers.specs.Loops.{operations, trailers}
-use Rattle.syn_expr_readers.specs.Operators.{operator_of, operator_at, are_operators, wrap, wrapped}
+use Rattle.syn_expr_readers.specs.Prefix.{operator_of, operator_at, are_operators, wrap, wrapped}
 use Rattle.syn_expr_readers.proofs.Knots.{expr_is}
 
 -- ---- an operator that stands first is told before anything else
@@ -99,10 +94,6 @@ no_pound (group d i) l k h = absurd cc
 pub prefix_first : (p : Place) (l : List Tok) (k : UnKind) → operator_at l ≡ Some k → atom expr p l ≡ (lead (unary k) none <$> expr (at p lev.Prefix)) (drop 1 l)
 prefix_first p [] k h = absurd cc
 prefix_first p (t ∷ l) k h = first_is p t l k h
-
-pub first_taken : (l : List Tok) (k : UnKind) → Some k ≡ operator_at l → 0 < length l
-first_taken [] k h = absurd cc
-first_taken (t ∷ l) k h = omega arith
 
 -- ---- at the level of prefix operators no operation goes on
 
@@ -226,30 +217,10 @@ chain p (suc n) (t ∷ l) e h =
     ∙ ap (λ (o : Outcome Tree). and_then o (wrap p (operator_of t))) (chain p n l e b)
     ∙ then_then (expr p (drop n l)) (wrapped p (take n l)) (wrap p (operator_of t))
 
-operators_read : (p : Place) (n : ℕ) (l : List Tok) → are_operators (take n l) ≡ true → expr (at p lev.Prefix) l ≡ and_then (expr (at p lev.Prefix) (drop n l)) (wrapped (at p lev.Prefix) (take n l))
+pub operators_read : (p : Place) (n : ℕ) (l : List Tok) → are_operators (take n l) ≡ true → expr (at p lev.Prefix) l ≡ and_then (expr (at p lev.Prefix) (drop n l)) (wrapped (at p lev.Prefix) (take n l))
 operators_read p n l h = chain (at p lev.Prefix) n l (inner_is p) h
 
--- an operator before them
-first_behind : (p : Place) (k : UnKind) (n : ℕ) (l : List Tok) → are_operators (take n l) ≡ true
-    → behind p (unary k) l ≡ and_then (and_then (expr (at p lev.Prefix) (drop n l)) (wrapped (at p lev.Prefix) (take n l))) (λ x m. Some (lead (unary k) none x, m))
-first_behind p k n l h = ap (λ (o : Outcome Tree). and_then o (λ x m. Some (lead (unary k) none x, m))) (operators_read p n l h)
-
-pub operand_refused : (p : Place) (k : UnKind) (n : ℕ) (l : List Tok) → are_operators (take n l) ≡ true → expr (at p lev.Prefix) (drop n l) ≡ None → behind p (unary k) l ≡ None
-operand_refused p k n l h i = first_behind p k n l h ∙ rw i refl
-
-pub operand_wrapped : (p : Place) (k : UnKind) (n : ℕ) (l m o : List Tok) (xs : List TokenTree) (x y : Tree) → are_operators (take n l) ≡ true → toks_of xs ≡ l
-    → expr (at p lev.Prefix) (drop n l) ≡ Some (x, m) → wrapped (at p lev.Prefix) (toks_of (take n xs)) x m ≡ Some (y, o) → behind p (unary k) l ≡ Some (lead (unary k) none y, o)
-operand_wrapped p k n l m o xs x y h e i j =
-    let f : wrapped (at p lev.Prefix) (take n l) x m ≡ Some (y, o) = subst (λ ts. wrapped (at p lev.Prefix) ts x m ≡ Some (y, o)) (toks_of-take n xs ∙ ap (take n) e) j in
-    first_behind p k n l h ∙ rw (i, f) refl
-
-pub operand_unwrapped : (p : Place) (k : UnKind) (n : ℕ) (l m : List Tok) (xs : List TokenTree) (x : Tree) → are_operators (take n l) ≡ true → toks_of xs ≡ l
-    → expr (at p lev.Prefix) (drop n l) ≡ Some (x, m) → wrapped (at p lev.Prefix) (toks_of (take n xs)) x m ≡ None → behind p (unary k) l ≡ None
-operand_unwrapped p k n l m xs x h e i j =
-    let f : wrapped (at p lev.Prefix) (take n l) x m ≡ None = subst (λ ts. wrapped (at p lev.Prefix) ts x m ≡ None) (toks_of-take n xs ∙ ap (take n) e) j in
-    first_behind p k n l h ∙ rw (i, f) refl
-
-pub ruleset chains = (operand_refused, operand_wrapped, operand_unwrapped)
+pub ruleset chains = (operators_read)
 
 -- ---- the last of them first
 
@@ -259,34 +230,7 @@ last_wraps p (s ∷ ts) t x l =
     ap (λ (o : Outcome Tree). and_then o (wrap p (operator_of s))) (last_wraps p ts t x l)
     ∙ then_then (wrap p (operator_of t) x l) (wrapped p ts) (wrap p (operator_of s))
 
--- in a slice: all but the last, and the last
-last_split : (xs : List TokenTree) (d : TokenTree) → 1 ≤ length xs → d ≡ get_or xs (length xs - 1) d → xs ≡ take (length xs - 1) xs ++ d ∷ []
-last_split xs d h e =
-    let n : suc (length xs - 1) ≡ length xs = omega arith in
-    let a = take-suc xs (length xs - 1) d (omega arith) in
-    let b = take-length xs in
-    cc
-
-wraps_end : (p : Place) (xs : List TokenTree) (d : TokenTree) (x : Tree) (l : List Tok) → 1 ≤ length xs → d ≡ get_or xs (length xs - 1) d
-    → wrapped p (toks_of xs) x l ≡ and_then (wrap p (operator_of (tok_of d)) x l) (wrapped p (toks_of (take (length xs - 1) xs)))
-wraps_end p xs d x l h e =
-    ap (λ ts. wrapped p (toks_of ts) x l) (last_split xs d h e)
-    ∙ ap (λ ts. wrapped p ts x l) (toks_of-append (take (length xs - 1) xs) (d ∷ []))
-    ∙ last_wraps p (toks_of (take (length xs - 1) xs)) (tok_of d) x l
-
-pub wraps_none : (p : Place) (xs : List TokenTree) (d : TokenTree) (x : Tree) (l : List Tok) → 1 ≤ length xs → d ≡ get_or xs (length xs - 1) d → operator_of (tok_of d) ≡ None
-    → wrapped p (toks_of xs) x l ≡ wrapped p (toks_of (take (length xs - 1) xs)) x l
-wraps_none p xs d x l h e n = wraps_end p xs d x l h e ∙ rw n refl
-
-pub wraps_read : (p : Place) (xs : List TokenTree) (d : TokenTree) (x y : Tree) (l m : List Tok) (k : UnKind) → 1 ≤ length xs → d ≡ get_or xs (length xs - 1) d → operator_of (tok_of d) ≡ Some k
-    → trailers p (lead (unary k) none x) l ≡ Some (y, m) → wrapped p (toks_of xs) x l ≡ wrapped p (toks_of (take (length xs - 1) xs)) y m
-wraps_read p xs d x y l m k h e n i = wraps_end p xs d x l h e ∙ rw (n, i) refl
-
-pub wraps_refused : (p : Place) (xs : List TokenTree) (d : TokenTree) (x : Tree) (l : List Tok) (k : UnKind) → 1 ≤ length xs → d ≡ get_or xs (length xs - 1) d → operator_of (tok_of d) ≡ Some k
-    → trailers p (lead (unary k) none x) l ≡ None → wrapped p (toks_of xs) x l ≡ None
-wraps_refused p xs d x l k h e n i = wraps_end p xs d x l h e ∙ rw (n, i) refl
-
-pub ruleset wraps = (wraps_none, wraps_read, wraps_refused)
+pub ruleset wraps = (last_wraps)
 
 -- ---- their number
 
@@ -302,16 +246,4 @@ one_more (suc n) (s ∷ l) m t e a h = let (b, c) = both_true (is_some (operator
     by_first true b c = c
     by_first false b c = absurd cc
 
--- in a slice: the first, and what is behind it
-first_split : (xs : List TokenTree) (d : TokenTree) → 1 ≤ length xs → d ≡ get_or xs 0 d → toks_of xs ≡ tok_of d ∷ toks_of (drop 1 xs)
-first_split [] d h e = absurd (omega arith)
-first_split (t ∷ xs) d h e = ap (λ s. tok_of s ∷ toks_of xs) (sym e)
-
-pub first_counted : (n : ℕ) (l : List Tok) (xs : List TokenTree) (d : TokenTree) → 1 ≤ length xs → d ≡ get_or xs 0 d → drop n l ≡ toks_of xs → are_operators (take n l) ≡ true
-    → is_some (operator_of (tok_of d)) ≡ true → are_operators (take (n + 1) l) ≡ true
-first_counted n l xs d h e i a b = one_more n l (toks_of (drop 1 xs)) (tok_of d) (i ∙ first_split xs d h e) a b
-
-pub behind_first : (n : ℕ) (l : List Tok) (xs : List TokenTree) → drop n l ≡ toks_of xs → drop (n + 1) l ≡ toks_of (drop 1 xs)
-behind_first n l xs i = sym (drop-drop 1 n l) ∙ ap (drop 1) i ∙ sym (toks_of-drop 1 xs)
-
-pub ruleset counted = (first_counted, behind_first)
+pub ruleset counted = (one_more)
