@@ -2,7 +2,6 @@
 //! and the other lower parts stand at the root of `syn_lower`, tokens and their readers at that of `syn_tokens`.
 #![tactic(auto)]
 
-mod alone;
 mod arm;
 mod attrs;
 mod behind;
@@ -13,11 +12,9 @@ mod from;
 pub mod held;
 mod kind;
 mod leftover;
-mod let_go;
 mod make;
 mod make_pat;
 mod node;
-mod of_kind;
 mod parse;
 pub mod pat;
 mod pattern;

@@ -1,2 +1,2 @@
-pub mod Closed
+pub mod Inner
 pub mod Leads

@@ -20,7 +20,6 @@ ghost use Rattle.syn_tokens.specs.Tok.{Tok, weight};
 use crate::leaf::standing;
 use crate::made::{closure_expr, jump_expr, plain_block, range_expr};
 use crate::stands::ends_jump;
-use syn_expr_ends::held::{Held, given_up};
 use syn_expr_ends::kinds::{ReadExprs, ReadPats};
 use syn_expr_ends::place::{PLAIN, at};
 use syn_expr_front::sign::{begins_expr, ends_open_range};
@@ -81,8 +80,6 @@ where
     E::Pat: ReadPats + Drop,
 {
     /// Reads the operand of `*`, `!` or `-`.
-    // Not in the frame of its caller, which is on the stack once for each level of a tree.
-    #[inline(never)]
     #[tactic(auto, unfolding(syn_expr_kinds::specs::Attrs::attrs_of))]
     fn unary(&self, input: &mut ParseBuffer<'_>, place: Place, op: UnOp) -> Result<Box<E>>
         requires callable { Callable (weight input.old.rest + 1) (F.pre self.now.expr) }
@@ -97,8 +94,6 @@ where
     }
 
     /// Reads the operand of `&` or `&mut`.
-    // Not in the frame of its caller, which is on the stack once for each level of a tree.
-    #[inline(never)]
     #[tactic(auto, unfolding(syn_expr_kinds::specs::Attrs::attrs_of))]
     fn reference(
         &self,
@@ -125,8 +120,6 @@ where
     }
 
     /// Reads the operand of `&raw mut` or `&raw const`.
-    // Not in the frame of its caller, which is on the stack once for each level of a tree.
-    #[inline(never)]
     #[tactic(auto, unfolding(syn_expr_kinds::specs::Attrs::attrs_of))]
     fn raw_addr(
         &self,
@@ -185,8 +178,6 @@ where
     }
 
     /// Reads the end of a range without a start, or nothing where no end follows.
-    // Not in the frame of its caller, which is on the stack once for each level of a tree.
-    #[inline(never)]
     #[tactic(auto, unfolding(syn_grammar::specs::Stands::lead_stands))]
     fn range_to(
         &self,
@@ -220,10 +211,7 @@ where
             Err(error) => return error,
         };
         match (self.expr)(&mut behind, PLAIN) {
-            Ok(x) => given_up(
-                x,
-                Error::new(value.span_until(&behind), ErrorKind::ParenthesesRequired),
-            ),
+            Ok(_) => Error::new(value.span_until(&behind), ErrorKind::ParenthesesRequired),
             Err(error) => error,
         }
     }
@@ -287,8 +275,6 @@ where
     /// It is refused as `Leads::lead` refuses what stands first, as the expression inside is, as `ExpectedToken` of `{` where
     /// no block is behind an output, and as `ParenthesesRequired` where a label and `:` stand behind `break`, from the label to
     /// the end of the value.
-    // Not in the frame of its caller, which is on the stack once for each level of a tree.
-    #[inline(never)]
     #[tactic(auto, using(crate::proofs::Leads::leads, crate::proofs::Leads::less), unfolding(syn_grammar::specs::Read::lead_read, syn_grammar::specs::Stands::lead_stands))]
     pub fn lead(&self, input: &mut ParseBuffer<'_>, place: Place) -> Result<Box<E>>
         requires callable { Callable (weight input.old.rest) (F.pre self.now.expr) }
@@ -317,8 +303,6 @@ where
     }
 
     /// Reads `become` and an expression, whose tokens are kept with the word. It is refused as the expression is.
-    // Not in the frame of its caller, which is on the stack once for each level of a tree.
-    #[inline(never)]
     #[tactic(auto, using(crate::proofs::Leads::becomes))]
     pub fn tail_call(&self, input: &mut ParseBuffer<'_>) -> Result<Box<E>>
         requires callable { Callable (weight input.old.rest) (F.pre self.now.expr) }
@@ -330,9 +314,7 @@ where
     {
         let word = input.fork()?;
         input.skip(1);
-        let _called = Held {
-            expr: (self.expr)(input, PLAIN)?,
-        };
+        let _called = (self.expr)(input, PLAIN)?;
         let alloc = input.alloc();
         let tokens = copy_trees(alloc, word.until(input))?;
         Ok(Box::new(alloc, E::verbatim(tokens))?)

@@ -21,8 +21,7 @@ ghost use Rattle.syn_tokens.specs.Tok.{weight};
 
 use crate::head::{arm_head, for_head};
 use std::alloc::{AllocError, Global};
-use syn_expr_ends::held::Held;
-use syn_expr_ends::kinds::{LetGo, ReadPats};
+use syn_expr_ends::kinds::ReadPats;
 use syn_expr_ends::place::{AT_HEAD, BEFORE_BLOCK, PLAIN};
 use syn_expr_heads::ending::{behind_arm, behind_condition, behind_loop_head, guarded};
 use syn_expr_heads::label::maybe_label;
@@ -72,14 +71,12 @@ fn kept_block<E: IsExpr + Drop>(input: &mut ParseBuffer<'_>) -> Result<Box<E>>
     Ok(boxed(alloc, x)?)
 }
 
-impl<E: IsExpr + HasKind + LetGo + Drop, F: Fn(&mut ParseBuffer<'_>, Place) -> Result<Box<E>>> Blocks<F>
+impl<E: IsExpr + HasKind + Drop, F: Fn(&mut ParseBuffer<'_>, Place) -> Result<Box<E>>> Blocks<F>
 where
     E::Pat: ReadPats + Drop,
     E::Arm: Drop,
 {
     /// Reads an `if` behind its word.
-    // Not in the frame of its caller, which is on the stack once for each level of a tree.
-    #[inline(never)]
     #[cycle(chain)]
     #[tactic(auto, using(crate::proofs::Parts::branches), unfolding(syn_expr_kinds::specs::Attrs::attrs_of))]
     fn chain(&self, input: &mut ParseBuffer<'_>, if_token: If) -> Result<Box<E>>
@@ -89,16 +86,14 @@ where
         ensures noted { input.new.noted ≡ input.old.noted }
         ensures shrinks { weight input.new.rest ≤ weight input.old.rest }
     {
-        let cond = Held {
-            expr: (self.expr)(input, BEFORE_BLOCK)?,
-        };
+        let cond = (self.expr)(input, BEFORE_BLOCK)?;
         let then_branch = behind_condition(input)?;
         let else_branch = self.otherwise(input)?;
         let alloc = input.alloc();
         let x = E::if_expr(ExprIfOf {
             attrs: Vec::new(alloc),
             if_token,
-            cond: cond.into_inner(),
+            cond,
             then_branch,
             else_branch,
         });
@@ -127,7 +122,7 @@ where
     /// Reads an `if` behind its word: a condition, a block, and `else` before another `if` or a block, or nothing (Rust
     /// Reference, "`if` expressions"). It is refused as the condition is, and as `ExpectedToken` of `{` where a block is
     /// missing.
-    #[tactic(auto, unfolding(crate::specs::Parts::branch, syn_grammar::specs::Stands::frame_stands, syn_grammar::specs::Stands::frame_ends))]
+    #[tactic(auto, unfolding(crate::specs::Parts::branch, syn_grammar::specs::Stands::frame_stands))]
     pub fn branch(&self, input: &mut ParseBuffer<'_>, place: Place, if_token: If) -> Result<Box<E>>
         requires callable { Callable (weight input.old.rest + 1) (F.pre self.now.expr) }
         requires reads { ReadsExpr E.tree (F.post self.now.expr) }
@@ -139,8 +134,6 @@ where
     }
 
     /// Reads a `while` loop behind its word.
-    // Not in the frame of its caller, which is on the stack once for each level of a tree.
-    #[inline(never)]
     #[tactic(auto, using(crate::proofs::Inner::inners), unfolding(crate::specs::Parts::headed))]
     fn while_loop(
         &self,
@@ -154,23 +147,19 @@ where
         ensures noted { input.new.noted ≡ input.old.noted }
         ensures shrinks { weight input.new.rest ≤ weight input.old.rest }
     {
-        let cond = Held {
-            expr: (self.expr)(input, BEFORE_BLOCK)?,
-        };
+        let cond = (self.expr)(input, BEFORE_BLOCK)?;
         let body = behind_loop_head(input)?;
         let x = E::while_expr(ExprWhileOf {
             attrs: body.attrs,
             label,
             while_token,
-            cond: cond.into_inner(),
+            cond,
             body: body.block,
         });
         Ok(boxed(input.alloc(), x)?)
     }
 
     /// Reads a `for` loop behind its label.
-    // Not in the frame of its caller, which is on the stack once for each level of a tree.
-    #[inline(never)]
     #[tactic(auto, using(crate::proofs::Inner::inners, crate::proofs::Parts::for_loops), unfolding(crate::specs::Parts::headed))]
     fn for_loop(&self, input: &mut ParseBuffer<'_>, label: Option<Label>) -> Result<Box<E>>
         requires callable { Callable (weight input.old.rest) (F.pre self.now.expr) }
@@ -181,9 +170,7 @@ where
     {
         let head = for_head(input)?;
         let pat = boxed(input.alloc(), head.pat)?;
-        let expr = Held {
-            expr: (self.expr)(input, BEFORE_BLOCK)?,
-        };
+        let expr = (self.expr)(input, BEFORE_BLOCK)?;
         let body = behind_loop_head(input)?;
         let x = E::for_loop(ExprForLoopOf {
             attrs: body.attrs,
@@ -191,7 +178,7 @@ where
             for_token: head.for_token,
             pat,
             in_token: head.in_token,
-            expr: expr.into_inner(),
+            expr,
             body: body.block,
         });
         Ok(boxed(input.alloc(), x)?)
@@ -200,8 +187,6 @@ where
     /// Reads a `while` or a `for` loop, with a label or none (Rust Reference, "Predicate loops", "Iterator loops", "Loop
     /// labels"). It is refused as `ExpectedLoopOrBlock` where none of them stands behind the label, as `ExpectedToken` where
     /// another token is missing, and inside as a pattern or an expression is.
-    // Not in the frame of its caller, which is on the stack once for each level of a tree.
-    #[inline(never)]
     #[tactic(auto, using(crate::proofs::Parts::loops))]
     pub fn loop_head(&self, input: &mut ParseBuffer<'_>, place: Place) -> Result<Box<E>>
         requires callable { Callable (weight input.old.rest) (F.pre self.now.expr) }
@@ -218,8 +203,6 @@ where
     }
 
     /// Reads the body of an arm, and its comma.
-    // Not in the frame of its caller, which is on the stack once for each level of a tree.
-    #[inline(never)]
     #[tactic(auto, unfolding(crate::specs::Parts::arm_body))]
     fn arm_body(
         &self,
@@ -234,15 +217,13 @@ where
         ensures noted { input.new.noted ≡ input.old.noted }
         ensures shrinks { weight input.new.rest ≤ weight input.old.rest }
     {
-        let body = Held {
-            expr: (self.expr)(input, AT_HEAD)?,
-        };
-        let comma = behind_arm(input, is_block_like(&*body.expr))?;
+        let body = (self.expr)(input, AT_HEAD)?;
+        let comma = behind_arm(input, is_block_like(&*body))?;
         Ok(E::arm(ArmOf {
             attrs,
             pat,
             fat_arrow_token,
-            body: body.into_inner(),
+            body,
             comma,
         }))
     }
@@ -250,8 +231,6 @@ where
     /// Reads an arm: outer attributes, a pattern with alternatives, a guard or none, `=>`, its body, and a comma, which none
     /// has to be behind the last and behind a block (Rust Reference, "`match` expressions"). It is refused as `ExpectedToken`
     /// where a token is missing, and inside as an attribute, a pattern or an expression is.
-    // Not in the frame of its caller, which is on the stack once for each level of a tree.
-    #[inline(never)]
     #[tactic(auto, using(crate::proofs::Parts::one), unfolding(crate::specs::Parts::one_arm, syn_expr_kinds::specs::Attrs::attrs_of))]
     pub fn arm(&self, input: &mut ParseBuffer<'_>) -> Result<E::Arm>
         requires callable { Callable (weight input.old.rest + 1) (F.pre self.now.expr) }
@@ -262,16 +241,14 @@ where
     {
         match arm_head(input)? {
             ArmHead::Guard(attrs, pat, if_token) => {
-                let guard = Held {
-                    expr: (self.expr)(input, PLAIN)?,
-                };
+                let guard = (self.expr)(input, PLAIN)?;
                 let fat_arrow_token = guarded(input)?;
                 let alloc = input.alloc();
                 let pat = E::guarded(PatGuardOf {
                     attrs: Vec::new(alloc),
                     pat: boxed(alloc, pat)?,
                     if_token,
-                    guard: guard.into_inner(),
+                    guard,
                 });
                 self.arm_body(input, attrs, pat, fat_arrow_token)
             }
@@ -299,8 +276,6 @@ where
     }
 
     /// Reads a `match` behind its word.
-    // Not in the frame of its caller, which is on the stack once for each level of a tree.
-    #[inline(never)]
     #[tactic(auto, using(crate::proofs::Parts::choices, crate::proofs::Inner::inners))]
     fn matched(&self, input: &mut ParseBuffer<'_>, match_token: Match) -> Result<Box<E>>
         requires callable { Callable (weight input.old.rest + 1) (F.pre self.now.expr) }
@@ -309,16 +284,14 @@ where
         ensures noted { input.new.noted ≡ input.old.noted }
         ensures shrinks { weight input.new.rest ≤ weight input.old.rest }
     {
-        let expr = Held {
-            expr: (self.expr)(input, BEFORE_BLOCK)?,
-        };
+        let expr = (self.expr)(input, BEFORE_BLOCK)?;
         let (brace_token, mut content) = input.parse_braces()?;
         let attrs = inner_attributes(&mut content)?;
         let arms = self.arms(&mut content)?;
         let x = E::match_expr(ExprMatchOf {
             attrs,
             match_token,
-            expr: expr.into_inner(),
+            expr,
             brace_token,
             arms,
         });
@@ -328,7 +301,7 @@ where
     /// Reads a `match` behind its word: what it looks at, and its arms in braces, each with its guard, its body and its
     /// comma (Rust Reference, "Match expressions"). It is refused as `ExpectedToken` where a token is missing, and inside
     /// as a pattern or an expression is.
-    #[tactic(auto, unfolding(crate::specs::Parts::choice, syn_grammar::specs::Stands::frame_stands, syn_grammar::specs::Stands::frame_ends))]
+    #[tactic(auto, unfolding(crate::specs::Parts::choice, syn_grammar::specs::Stands::frame_stands))]
     pub fn choice(
         &self,
         input: &mut ParseBuffer<'_>,

@@ -1,10 +1,9 @@
 //! One pass over an expression, which notes each node.
 
-ghost use Rattle.std.specs.Prelude.{◌≡◌, ◌^◌, ◌+◌, ◌-◌, ◌++◌, min, IfOk, IfSome, OnOk, Some};
+ghost use Rattle.std.specs.Prelude.{◌≡◌, ◌^◌, ◌+◌, ◌-◌, ◌++◌, min, IfOk, OnOk};
 ghost use Rattle.syn_expr_collect.specs.Below.{AreFirst, operands_below, operands_visited, backwards, total, field_below, field_visited, option_below, option_visited, arm_below, arm_visited};
 ghost use Rattle.syn_expr_collect.specs.Visited.{visited};
-ghost use Rattle.syn_expr_collect.specs.Spine.{IsSecond, behind_below, behind_visited, over, whole_over};
-ghost use Rattle.syn_expr_kinds.specs.Node.{first_of, operands_at, operands_of};
+ghost use Rattle.syn_expr_kinds.specs.Node.{operands_at, operands_of};
 ghost use Rattle.syn_expr_kinds.specs.View.{boxed, field_value_of};
 ghost use Rattle.syn_expr_notes.specs.Kind.{kind_at};
 ghost use Rattle.syn_grammar.specs.Notes.{note_of, stack};
@@ -16,7 +15,7 @@ use std::alloc::AllocError;
 use syn_expr_kinds::node::{HasKind, Operands};
 use syn_expr_kinds::structure::FieldValueOf;
 use syn_expr_notes::kind::NodeKind;
-use syn_expr_notes::note::{leaf_note, tick};
+use syn_expr_notes::note::tick;
 use syn_grammar::note::Note;
 use syn_lower_lists::punctuated::Punctuated;
 use syn_tokens::token::Comma;
@@ -228,57 +227,40 @@ pub fn collect_operands<E: HasArms + HasKind>(
     }
 }
 
-/// Notes the operands of a node but its first one, from right to left, and answers the note of the second, as far as that of
-/// the node asks for it.
+/// Notes the operands of a node of this kind. A leaf has none, and isn't asked for them.
 #[cycle(collect)]
-#[tactic(auto, using(crate::proofs::Lists::lists, crate::proofs::Nodes::based))]
-fn collect_behind<E: HasArms + HasKind>(
+#[tactic(auto, using(crate::proofs::Lists::lists, crate::proofs::Nodes::based, crate::proofs::Nodes::leaves))]
+fn collect_below<E: HasArms + HasKind>(
     notes: &mut Vec<Note>,
     visits: &mut u64,
-    operands: Operands<'_, E, E::Arm>,
-) -> Result<Note, AllocError>
-    ensures second { IfOk result (λ n. IsSecond (operands_of E.tree E.Arm.view operands.entry) n) }
-    ensures kept { OnOk result (notes.new.items ≡ notes.old.items ++ behind_below (operands_of E.tree E.Arm.view operands.entry)) }
-    ensures counted { OnOk result (visits.new ≡ min (visits.old + behind_visited (operands_of E.tree E.Arm.view operands.entry)) (2 ^ 64 - 1)) }
+    expr: &E,
+    kind: NodeKind,
+) -> Result<(Note, Note), AllocError>
+    requires { kind_at (E.tree expr.now) ≡ kind }
+    ensures first { IfOk result (λ p. AreFirst (operands_at (E.tree expr.now)) p.0 p.1) }
+    ensures kept { OnOk result (notes.new.items ≡ notes.old.items ++ operands_below (operands_at (E.tree expr.now))) }
+    ensures counted { OnOk result (visits.new ≡ min (visits.old + operands_visited (operands_at (E.tree expr.now))) (2 ^ 64 - 1)) }
 {
-    match operands {
-        Operands::Two(_, y) => collect::<E>(notes, visits, y),
-        Operands::Call(_, arguments) => {
-            collect_elements(notes, visits, arguments)?;
-            Ok(closed())
-        }
-        Operands::Index(_, index) => {
-            collect::<E>(notes, visits, index)?;
-            Ok(closed())
-        }
-        _ => {
+    match kind {
+        NodeKind::Leaf(_) => {
             prove!(*visits <= u64::MAX);
-            Ok(closed())
+            Ok((closed(), closed()))
         }
+        _ => match expr.operands() {
+            // Those of an operator are the most, and go fastest apart from the others.
+            Operands::Two(x, y) => {
+                let second = collect::<E>(notes, visits, y)?;
+                let first = collect::<E>(notes, visits, x)?;
+                Ok((first, second))
+            }
+            operands => collect_operands(notes, visits, operands),
+        },
     }
-}
-
-/// Notes the nodes over a first operand with this note, the innermost first, each with the note of its second operand, and
-/// answers the note of the outermost.
-#[tactic(auto, using(crate::proofs::Spines::over_more, crate::proofs::Spines::whole_over_more))]
-fn close<E: HasArms + HasKind>(
-    notes: &mut Vec<Note>,
-    mut spine: Vec<(&E, Note)>,
-    mut note: Note,
-) -> Result<Note, AllocError>
-    ensures same { IfOk result (λ n. n ≡ whole_over E.tree spine.items note) }
-    ensures kept { OnOk result (notes.new.items ≡ notes.old.items ++ over E.tree spine.items note) }
-{
-    while let Some((x, second)) = spine.pop() {
-        note = keep(notes, x.attributes(), plain_note(x.kind(), note, second))?;
-    }
-    Ok(note)
 }
 
 /// Notes a node and all below it, an operand on the right before one on the left, and the node behind its operands; so a
 /// printer takes the notes from the end, in the order in which it comes to the nodes. Operands that aren't spelled are
-/// visited, and have no notes. It answers the note of the node, and is refused for want of memory alone. Down first operands
-/// it goes by a loop: a sum of many terms, a chain of trailers and prefix operators take no stack.
+/// visited, and have no notes. It answers the note of the node, and is refused for want of memory alone.
 #[cycle(collect)]
 #[tactic(auto, using(crate::proofs::Nodes::nodes))]
 pub fn collect<E: HasArms + HasKind>(
@@ -290,30 +272,9 @@ pub fn collect<E: HasArms + HasKind>(
     ensures kept { OnOk result (notes.new.items ≡ notes.old.items ++ stack (E.tree expr.now)) }
     ensures counted { OnOk result (visits.new ≡ min (visits.old + visited (E.tree expr.now)) (2 ^ 64 - 1)) }
 {
-    let mut spine = Vec::new(*notes.allocator());
-    let mut x = expr;
-    loop {
-        tick(visits);
-        let kind = x.kind();
-        if let NodeKind::Leaf(leaf) = kind {
-            let note = keep(notes, x.attributes(), leaf_note(leaf))?;
-            return close(notes, spine, note);
-        }
-        let operands = x.operands();
-        let Some(first) = operands.first() else {
-            let (first, second) = collect_operands(notes, visits, operands)?;
-            let note = keep(notes, x.attributes(), plain_note(kind, first, second))?;
-            return close(notes, spine, note);
-        };
-        let second = collect_behind(notes, visits, operands)?;
-        // Most first operands are leaves, for which no memory is taken.
-        if let NodeKind::Leaf(leaf) = first.kind() {
-            tick(visits);
-            let first = keep(notes, first.attributes(), leaf_note(leaf))?;
-            let note = keep(notes, x.attributes(), plain_note(kind, first, second))?;
-            return close(notes, spine, note);
-        }
-        spine.push((x, second))?;
-        x = first;
-    }
+    tick(visits);
+    let kind = expr.kind();
+    let (first, second) = collect_below(notes, visits, expr, kind)?;
+    let note = plain_note(kind, first, second);
+    keep(notes, expr.attributes(), note)
 }

@@ -1,4 +1,3 @@
-pub mod Closed
 pub mod Inner
 pub mod Loops
 pub mod Turns

@@ -7,4 +7,3 @@ pub mod Printed
 pub mod View
 pub mod FieldStands
 pub mod Exactly
-pub mod Inner

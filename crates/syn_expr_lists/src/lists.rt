@@ -14,90 +14,16 @@ ghost use Rattle.syn_lower_lists.specs.View.{values, trails};
 ghost use Rattle.syn_tokens.specs.Front.{is_empty};
 ghost use Rattle.syn_tokens.specs.Tok.{weight};
 
-use std::alloc::{AllocError, Global};
-use syn_expr_ends::held::{Held, HeldList, given_up};
 use syn_expr_ends::kinds::ReadExprs;
 use syn_expr_ends::place::PLAIN;
 use syn_expr_heads::ending::comma_or_end;
 use syn_expr_kinds::atom::{ExprArrayOf, ExprParenOf, ExprRepeatOf, ExprTupleOf};
-use syn_expr_kinds::kinds::IsExpr;
 use syn_grammar::kinds::Place;
 use syn_lower_leaves::front::{comma, semi};
 use syn_lower_lists::punctuated::Punctuated;
 use syn_tokens::buffer::ParseBuffer;
 use syn_tokens::error::{ErrorKind, Result};
-use syn_tokens::token::{Bracket, Comma, Paren, Semi};
-
-/// An array of these elements.
-// Not in the frame of its caller, which is on the stack once for each level of a tree.
-#[inline(never)]
-#[tactic(auto, unfolding(syn_expr_kinds::specs::Attrs::attrs_of))]
-fn array<E: IsExpr + Drop>(
-    alloc: Global,
-    bracket_token: Bracket,
-    elems: Punctuated<E, Comma>,
-) -> std::result::Result<Box<E>, AllocError>
-    ensures { IfOk result (λ b. E.tree b.value ≡ e.frame e.array (elements (map E.tree (values elems)) (trails elems))) }
-{
-    let attrs = Vec::new(alloc);
-    let x = E::array(ExprArrayOf {
-        attrs,
-        bracket_token,
-        elems,
-    });
-    Ok(Box::new(alloc, x)?)
-}
-
-/// An array of one element that is repeated.
-// Not in the frame of its caller, which is on the stack once for each level of a tree.
-#[inline(never)]
-#[tactic(auto, unfolding(syn_expr_kinds::specs::Attrs::attrs_of))]
-fn repeat<E: IsExpr + Drop>(
-    alloc: Global,
-    bracket_token: Bracket,
-    expr: Box<E>,
-    semi_token: Semi,
-    len: Box<E>,
-) -> std::result::Result<Box<E>, AllocError>
-    ensures { IfOk result (λ b. E.tree b.value ≡ e.frame e.repeat (e.kid e.repeated e.no_ending (E.tree expr.value) (e.kid e.value e.no_ending (E.tree len.value) e.none))) }
-{
-    let attrs = Vec::new(alloc);
-    let x = E::repeat(ExprRepeatOf {
-        attrs,
-        bracket_token,
-        expr,
-        semi_token,
-        len,
-    });
-    Ok(Box::new(alloc, x)?)
-}
-
-/// An expression in parentheses, where it is one and no comma is behind it; else a tuple.
-// Not in the frame of its caller, which is on the stack once for each level of a tree.
-#[inline(never)]
-#[tactic(auto, using(crate::proofs::Elements::rounds), unfolding(syn_expr_kinds::specs::Attrs::attrs_of))]
-fn rounded<E: IsExpr + Drop>(
-    alloc: Global,
-    paren_token: Paren,
-    elems: Punctuated<E, Comma>,
-) -> std::result::Result<Box<E>, AllocError>
-    ensures { IfOk result (λ b. E.tree b.value ≡ read.rounded read.expr (elements (map E.tree (values elems)) (trails elems))) }
-{
-    let attrs = Vec::new(alloc);
-    let x = match elems.into_one() {
-        Ok(expr) => E::paren(ExprParenOf {
-            attrs,
-            paren_token,
-            expr,
-        }),
-        Err(elems) => E::tuple(ExprTupleOf {
-            attrs,
-            paren_token,
-            elems,
-        }),
-    };
-    Ok(Box::new(alloc, x)?)
-}
+use syn_tokens::token::{Bracket, Comma, Paren};
 
 /// The readers over that of the expressions inside.
 #[derive(Clone, Copy)]
@@ -116,11 +42,9 @@ impl<E: ReadExprs + Drop, F: Fn(&mut ParseBuffer<'_>, Place) -> Result<Box<E>>> 
         ensures noted { input.new.noted ≡ input.old.noted }
         ensures shrinks { weight input.new.rest ≤ weight input.old.rest }
     {
-        let x = Held {
-            expr: (self.expr)(input, PLAIN)?,
-        };
+        let x = (self.expr)(input, PLAIN)?;
         let comma = comma_or_end(input)?;
-        Ok((x.into_inner(), comma))
+        Ok((x, comma))
     }
 
     /// Reads the elements behind those that were read, each with its comma, to the end of the input.
@@ -128,7 +52,7 @@ impl<E: ReadExprs + Drop, F: Fn(&mut ParseBuffer<'_>, Place) -> Result<Box<E>>> 
     fn more_elements(
         &self,
         input: &mut ParseBuffer<'_>,
-        found: Punctuated<E, Comma>,
+        mut found: Punctuated<E, Comma>,
     ) -> Result<Punctuated<E, Comma>>
         requires callable { Callable (weight input.old.rest + 1) (F.pre self.now.expr) }
         requires reads { ReadsExpr E.tree (F.post self.now.expr) }
@@ -138,16 +62,15 @@ impl<E: ReadExprs + Drop, F: Fn(&mut ParseBuffer<'_>, Place) -> Result<Box<E>>> 
         ensures noted { input.new.noted ≡ input.old.noted }
         ensures shrinks { weight input.new.rest ≤ weight input.old.rest }
     {
-        let mut held = HeldList { list: found };
         'elements: while !input.is_empty() {
             let (x, comma) = self.element(input)?;
-            held.list.push_boxed(x);
+            found.push_value(Box::into_inner(x))?;
             let Some(comma) = comma else {
-                return Ok(held.into_inner());
+                return Ok(found);
             };
-            held.list.push_punct(comma)?;
+            found.push_punct(comma)?;
         }
-        Ok(held.into_inner())
+        Ok(found)
     }
 
     /// Reads elements with commas between, and perhaps one at the end, to the end of the input. A missing comma is refused as
@@ -181,7 +104,7 @@ impl<E: ReadExprs + Drop, F: Fn(&mut ParseBuffer<'_>, Place) -> Result<Box<E>>> 
 
     /// Reads a tuple, or an expression in parentheses: one without a comma (Rust Reference, "Tuple expressions", "Grouped
     /// expressions"). Another token is refused as `ExpectedToken` of `(`, a missing comma as `ExpectedToken` of it.
-    #[tactic(auto, unfolding(syn_grammar::specs::Read::content, syn_grammar::specs::Read::round_read))]
+    #[tactic(auto, using(crate::proofs::Elements::rounds), unfolding(syn_grammar::specs::Read::content, syn_grammar::specs::Read::round_read, syn_expr_kinds::specs::Attrs::attrs_of))]
     pub fn round(&self, input: &mut ParseBuffer<'_>) -> Result<Box<E>>
         requires callable { Callable (weight input.old.rest) (F.pre self.now.expr) }
         requires reads { ReadsExpr E.tree (F.post self.now.expr) }
@@ -189,14 +112,25 @@ impl<E: ReadExprs + Drop, F: Fn(&mut ParseBuffer<'_>, Place) -> Result<Box<E>>> 
         ensures noted { input.new.noted ≡ input.old.noted }
         ensures shrinks { weight input.new.rest ≤ weight input.old.rest }
     {
+        let attrs = Vec::new(input.alloc());
         let (paren_token, elems) = self.arguments(input)?;
-        Ok(rounded(input.alloc(), paren_token, elems)?)
+        let x = match elems.into_one() {
+            Ok(expr) => E::paren(ExprParenOf {
+                attrs,
+                paren_token,
+                expr,
+            }),
+            Err(elems) => E::tuple(ExprTupleOf {
+                attrs,
+                paren_token,
+                elems,
+            }),
+        };
+        Ok(Box::new(input.alloc(), x)?)
     }
 
     /// Reads an index in its brackets (Rust Reference, "Array and slice indexing expressions"). Another token is refused as
     /// `ExpectedToken` of `[`, what is left behind the index as `UnexpectedToken`.
-    // Not in the frame of its caller, which is on the stack once for each level of a tree.
-    #[inline(never)]
     #[tactic(auto, using(crate::proofs::Elements::singles), unfolding(crate::specs::Elements::single, syn_grammar::specs::Read::content))]
     pub fn index(&self, input: &mut ParseBuffer<'_>) -> Result<(Bracket, Box<E>)>
         requires callable { Callable (weight input.old.rest) (F.pre self.now.expr) }
@@ -208,15 +142,13 @@ impl<E: ReadExprs + Drop, F: Fn(&mut ParseBuffer<'_>, Place) -> Result<Box<E>>> 
         let (bracket_token, mut content) = input.parse_brackets()?;
         let index = (self.expr)(&mut content, PLAIN)?;
         if !content.is_empty() {
-            return Err(given_up(index, content.error(ErrorKind::UnexpectedToken)));
+            return Err(content.error(ErrorKind::UnexpectedToken));
         }
         Ok((bracket_token, index))
     }
 
     /// Reads the elements of an array behind the first expression in its brackets. A missing comma is refused as
     /// `ExpectedCommaOrSemi`.
-    // Not in the frame of its caller, which is on the stack once for each level of a tree.
-    #[inline(never)]
     #[tactic(auto, using(crate::proofs::Elements::firsts))]
     fn behind_first(
         &self,
@@ -229,51 +161,58 @@ impl<E: ReadExprs + Drop, F: Fn(&mut ParseBuffer<'_>, Place) -> Result<Box<E>>> 
         ensures noted { input.new.noted ≡ input.old.noted }
         ensures shrinks { weight input.new.rest ≤ weight input.old.rest }
     {
-        let mut held = HeldList {
-            list: Punctuated::new(input.alloc()),
-        };
-        held.list.push_boxed(first);
+        let mut elems = Punctuated::new(input.alloc());
+        elems.push_value(Box::into_inner(first))?;
         if let Some(comma) = comma(input) {
-            held.list.push_punct(comma)?;
-            return self.more_elements(input, held.into_inner());
+            elems.push_punct(comma)?;
+            return self.more_elements(input, elems);
         }
         if !input.is_empty() {
             return Err(input.error(ErrorKind::ExpectedCommaOrSemi));
         }
-        Ok(held.into_inner())
+        Ok(elems)
     }
 
     /// Reads what stands in brackets.
-    // Not in the frame of its caller, which is on the stack once for each level of a tree.
-    #[inline(never)]
-    #[tactic(auto, unfolding(crate::specs::Elements::bracketed, crate::specs::Elements::single))]
-    fn bracketed(&self, input: &mut ParseBuffer<'_>, bracket_token: Bracket) -> Result<Box<E>>
+    #[tactic(auto, unfolding(crate::specs::Elements::bracketed, crate::specs::Elements::single, syn_expr_kinds::specs::Attrs::attrs_of))]
+    fn bracketed(&self, input: &mut ParseBuffer<'_>, bracket_token: Bracket) -> Result<E>
         requires callable { Callable (weight input.old.rest + 1) (F.pre self.now.expr) }
         requires reads { ReadsExpr E.tree (F.post self.now.expr) }
-        ensures value { Reads (λ b. E.tree b.value) (bracketed input.old.rest) result input.new.rest }
+        ensures value { Reads E.tree (bracketed input.old.rest) result input.new.rest }
         ensures noted { input.new.noted ≡ input.old.noted }
         ensures shrinks { weight input.new.rest ≤ weight input.old.rest }
     {
+        let attrs = Vec::new(input.alloc());
         if input.is_empty() {
             let elems = Punctuated::new(input.alloc());
-            return Ok(array(input.alloc(), bracket_token, elems)?);
+            return Ok(E::array(ExprArrayOf {
+                attrs,
+                bracket_token,
+                elems,
+            }));
         }
         let expr = (self.expr)(input, PLAIN)?;
         if let Some(semi_token) = semi(input) {
-            let expr = Held { expr };
             let len = (self.expr)(input, PLAIN)?;
-            let expr = expr.into_inner();
-            return Ok(repeat(input.alloc(), bracket_token, expr, semi_token, len)?);
+            return Ok(E::repeat(ExprRepeatOf {
+                attrs,
+                bracket_token,
+                expr,
+                semi_token,
+                len,
+            }));
         }
         let elems = self.behind_first(input, expr)?;
-        Ok(array(input.alloc(), bracket_token, elems)?)
+        Ok(E::array(ExprArrayOf {
+            attrs,
+            bracket_token,
+            elems,
+        }))
     }
 
     /// Reads an array of its elements, or of one that is repeated (Rust Reference, "Array expressions"). Another token is
     /// refused as `ExpectedToken` of `[`, a missing sign behind the first element as `ExpectedCommaOrSemi`, a missing comma
     /// behind another as `ExpectedToken` of it, and what is left behind the length as `UnexpectedToken`.
-    // Not in the frame of its caller, which is on the stack once for each level of a tree.
-    #[inline(never)]
     #[tactic(auto, using(crate::proofs::Elements::brackets))]
     pub fn bracket(&self, input: &mut ParseBuffer<'_>) -> Result<Box<E>>
         requires callable { Callable (weight input.old.rest) (F.pre self.now.expr) }
@@ -285,8 +224,8 @@ impl<E: ReadExprs + Drop, F: Fn(&mut ParseBuffer<'_>, Place) -> Result<Box<E>>> 
         let (bracket_token, mut content) = input.parse_brackets()?;
         let x = self.bracketed(&mut content, bracket_token)?;
         if !content.is_empty() {
-            return Err(given_up(x, content.error(ErrorKind::UnexpectedToken)));
+            return Err(content.error(ErrorKind::UnexpectedToken));
         }
-        Ok(x)
+        Ok(Box::new(input.alloc(), x)?)
     }
 }

@@ -3,10 +3,8 @@ pub mod Attributes
 pub mod Bases
 pub mod ByKind
 pub mod Firsts
-pub mod Groups
 pub mod Knots
 pub mod Loops
 pub mod Names
-pub mod Prefix
 pub mod Stops
 pub mod Turns

@@ -1,5 +1,3 @@
-pub mod Groups
 pub mod Kind
 pub mod Loops
 pub mod Names
-pub mod Prefix

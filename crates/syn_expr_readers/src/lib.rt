@@ -11,7 +11,6 @@ pub mod make;
 mod name;
 pub mod operands;
 pub mod operations;
-mod prefix;
 mod refusal;
 pub mod told;
 pub mod trailers;

@@ -14,7 +14,6 @@ use crate::ends::{closes, next_operator, stops};
 use crate::grammar::Grammar;
 use crate::make;
 use crate::told::chains;
-use syn_expr_ends::held::{Held, given_up};
 use syn_expr_ends::kinds::ReadExprs;
 use syn_expr_ends::place::at;
 use syn_expr_front::sign::{ends_open_range, left_arrow_at};
@@ -27,15 +26,6 @@ use syn_tokens::error::{AfterCast, Error, ErrorKind, Result};
 use syn_tokens::span::Span;
 use syn_tokens::token::{As, Await, Eq, Paren, PathSep};
 use syn_tokens::tree::TokenTree;
-
-/// The places of the puncts of an operator of so many tokens. Most have one.
-fn operator_spans(input: &ParseBuffer<'_>, count: usize) -> [Span; 3] {
-    if count == 1 {
-        [input.span(); 3]
-    } else {
-        input.spans()
-    }
-}
 
 /// Which trailer with a dot stands first.
 fn dotted_trailer(trees: &[TokenTree]) -> AfterCast {
@@ -79,14 +69,12 @@ impl<E: ReadExprs + Drop, F: Fn(&mut ParseBuffer<'_>, Place) -> Result<Box<E>>> 
     {
         let right = (self.expr)(input, at(place, level_of(op)))?;
         if left_arrow_at(input) {
-            return Err(given_up(right, input.error(ErrorKind::LeftArrow)));
+            return Err(input.error(ErrorKind::LeftArrow));
         }
         Ok(right)
     }
 
     /// Reads what stands behind the operator of a range: its end, or nothing.
-    // Not in the frame of its caller, which is on the stack once for each level of a tree.
-    #[inline(never)]
     #[tactic(auto, unfolding(syn_grammar::specs::Read::longer, syn_grammar::specs::Stands::ends_operation, syn_grammar::specs::Stands::mid_stands, syn_grammar::specs::Stands::post_stands))]
     fn range(
         &self,
@@ -106,14 +94,11 @@ impl<E: ReadExprs + Drop, F: Fn(&mut ParseBuffer<'_>, Place) -> Result<Box<E>>> 
         if matches!(kind, Limits::HalfOpen) && ends_open_range(input, place.condition) {
             return Ok(make::range_from(input.alloc(), start, limits)?);
         }
-        let start = Held { expr: start };
         let end = (self.expr)(input, at(place, Level::Range))?;
-        Ok(make::range_between(input.alloc(), start.into_inner(), limits, end)?)
+        Ok(make::range_between(input.alloc(), start, limits, end)?)
     }
 
     /// Reads what stands behind an operator, which was taken, and its left operand: the operation that they are.
-    // Not in the frame of its caller, which is on the stack once for each level of a tree.
-    #[inline(never)]
     #[tactic(auto, unfolding(syn_grammar::specs::Read::longer, syn_grammar::specs::Stands::ends_operation, syn_grammar::specs::Stands::mid_stands, syn_grammar::specs::Stands::post_stands))]
     fn longer(
         &self,
@@ -130,24 +115,23 @@ impl<E: ReadExprs + Drop, F: Fn(&mut ParseBuffer<'_>, Place) -> Result<Box<E>>> 
         ensures shrinks { weight input.new.rest ≤ weight input.old.rest }
     {
         let [first, _, _] = spans;
-        let left = Held { expr: left };
         match op {
             Infix::Binary(kind) => {
                 let right = self.right(input, place, op)?;
-                Ok(make::binary(input.alloc(), left.into_inner(), kind, spans, right)?)
+                Ok(make::binary(input.alloc(), left, kind, spans, right)?)
             }
             Infix::Assign => {
                 let right = self.right(input, place, op)?;
                 let eq_token = Eq { spans: [first] };
-                Ok(make::assign(input.alloc(), left.into_inner(), eq_token, right)?)
+                Ok(make::assign(input.alloc(), left, eq_token, right)?)
             }
-            Infix::Range(kind) => self.range(input, place, left.into_inner(), kind, spans),
+            Infix::Range(kind) => self.range(input, place, left, kind, spans),
             Infix::Cast => {
                 let ty = ty(input, false)?;
                 if left_arrow_at(input) {
                     return Err(input.error(ErrorKind::LeftArrow));
                 }
-                Ok(make::cast(input.alloc(), left.into_inner(), As { span: first }, ty)?)
+                Ok(make::cast(input.alloc(), left, As { span: first }, ty)?)
             }
         }
     }
@@ -171,17 +155,17 @@ impl<E: ReadExprs + Drop, F: Fn(&mut ParseBuffer<'_>, Place) -> Result<Box<E>>> 
     {
         'operators: while let Some((op, count)) = next_operator(input, place, &*left) {
             if chains(op, &*left) {
-                return Err(given_up(left, input.error(ErrorKind::ChainedComparison)));
+                return Err(input.error(ErrorKind::ChainedComparison));
             }
-            let spans = operator_spans(input, count);
+            let spans = input.spans();
             input.skip(count);
             left = self.longer(input, place, left, op, spans)?;
             if !closes(input, place, &*left) {
-                return Err(given_up(left, after_cast(input)));
+                return Err(after_cast(input));
             }
         }
         if !stops(input, place, &*left) {
-            return Err(given_up(left, refusal(input)));
+            return Err(refusal(input));
         }
         Ok(left)
     }
