@@ -61,7 +61,7 @@ pub record Reached (text : List ℕ) (offset : ℕ) (place : LineColumn) (left :
   pub counted : count ≡ length done
   pub count_fits : count + length rest ≤ length text
 
--- what is to be told of the place of an offset
+-- the line and column of an offset, step by step
 pub record Placed (text : List ℕ) (offset : ℕ) (place : LineColumn) (line_text rest : List ℕ) (count : ℕ) : Type 0 where
   pub at_place : place ≡ line_column offset (chars text)
   pub from_start : chars line_text ≡ from_line offset (chars text)
