@@ -94,7 +94,7 @@ fn prints_them_without_their_parentheses(rt: HostRuntime) -> Result<(), Fail> {
     check(rt.alloc(), BARE, 0)
 }
 
-/// A text, another as often as is told, and a third.
+/// A text, another `count` times behind it, and a third.
 fn around(alloc: Global, first: &str, again: &str, count: u32, last: &str) -> Result<String, Fail> {
     let mut text = String::new(alloc);
     text.push_str(first)?;

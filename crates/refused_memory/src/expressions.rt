@@ -2,7 +2,7 @@
 
 use crate::rows::{Behind, both, printed, read, refused, tell, words};
 use std::alloc::Global;
-use syn_expr::token::{Brace, Match};
+use syn_expr::token::{Brace, Group, Match};
 use syn_expr::{
     Arm, Error, Expr, ExprMatch, ExprParen, FieldValue, HeldExpr, Parse, ParseBuffer, Position,
     Result, ToTokens, TokenStream, flatten, flatten_in_place, lex, parse_str, parse2,
@@ -36,12 +36,26 @@ fn read_by(reader: Reader, input: &mut ParseBuffer<'_>) -> Result<Expr> {
     }
 }
 
+/// The expression that tokens begin with, read and printed.
+fn front(tokens: &TokenStream, reader: Reader) -> Result<String> {
+    let mut input = ParseBuffer::new(tokens)?;
+    let answer = held(read_by(reader, &mut input));
+    read(tokens, &input, answer)
+}
+
 /// The expression that a text begins with, read and printed.
 fn expression(alloc: Global, text: &str, reader: Reader) -> Result<String> {
     let tokens = lex(alloc, text)?;
-    let mut input = ParseBuffer::new(&tokens)?;
-    let answer = held(read_by(reader, &mut input));
-    read(&tokens, &input, answer)
+    front(&tokens, reader)
+}
+
+/// An expression with invisible groups, of which one is the front of a path and one an operand.
+fn grouped(alloc: Global) -> Result<String> {
+    let mut tokens = TokenStream::new(alloc);
+    tokens.push(Group::default().enclose(lex(alloc, "a")?))?;
+    tokens.append(lex(alloc, "::b * ")?)?;
+    tokens.push(Group::default().enclose(lex(alloc, "c + d")?))?;
+    front(&tokens, Reader::Whole)
 }
 
 /// A field that is read by itself. Its expression is dropped as a `HeldExpr`.
@@ -205,6 +219,7 @@ pub fn readers(rt: &HostRuntime) {
         "Expr::parse",
         expression(alloc, "a - [b, (c, d e)]", Reader::Whole),
     );
+    tell(rt, "Expr::parse", grouped(alloc));
     tell(
         rt,
         "Expr::parse_without_eager_brace",

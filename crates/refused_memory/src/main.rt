@@ -4,6 +4,7 @@
 //! row what it answers with ample memory.
 #![tactic(auto)]
 
+mod alone;
 mod expressions;
 mod kinds;
 mod lower;
@@ -21,5 +22,8 @@ fn main(rt: HostRuntime) {
     kinds::operands(&rt);
     kinds::blocks(&rt);
     expressions::readers(&rt);
+    alone::first(&rt);
+    alone::second(&rt);
+    alone::third(&rt);
     expressions::printers(&rt);
 }

@@ -44,7 +44,7 @@ fn copied(alloc: Global, text: &str) -> Result<String> {
     to_text(&copy_trees(alloc, copies.trees())?)
 }
 
-/// The calls of a buffer, none of which takes memory but for what is read.
+/// Enters a group of each kind. The calls of a buffer take no memory; the words that are read there do.
 fn entered(alloc: Global) -> Result<String> {
     let mut tokens = lex(alloc, "(a) {b} [c]")?;
     tokens.push(token::Group::default().enclose(lex(alloc, "d")?))?;

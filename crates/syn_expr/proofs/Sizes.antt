@@ -1,7 +1,7 @@
 -- How often nodes are visited, against how many there are.
 use Rattle.std.proofs.Common.{◌≡◌, Bool, true, false, ◌+◌, ◌*◌, ◌-◌, ◌^◌, ◌≤◌, ◌&&◌, ◌||◌, ◌∷◌, refl, ap, arith}
 use Rattle.std.specs.Prelude.{ℕ, min}
-use Rattle.syn_grammar.specs.Slot.{Slot, elements, single, counted, fields, conditions, otherwise, loops, scrutinees, arms, bodies, outputs, done, after}
+use Rattle.syn_grammar.specs.Slot.{Slot, elements, single, counted, fields, conditions, otherwise, loops, scrutinees, arms, bodies, outputs, groups, done, after}
 use Rattle.syn_grammar.specs.Tree as e
 use Rattle.syn_grammar.specs.Tree.{Tree, Kids, Piece, Ending, leaf, paren, adorned, lead, mid, post, tail, frame, none, kid, size, kids_size, is_none}
 use Rattle.syn_grammar.specs.WellFormed.{well, kids_well, is_well_formed, lead_fits, infix_fits, post_fits, trailer_fits, frame_fits, trailer_slot, frame_slot, piece_fits, ending_fits, keeps_block, is_kept_block}
@@ -52,6 +52,7 @@ never_stray scrutinees c t = refl
 never_stray arms c t = refl
 never_stray bodies c t = refl
 never_stray outputs c t = refl
+never_stray groups c t = refl
 never_stray done c t = refl
 
 not_stray : (k : Piece) (s : Slot) (c : Ending) (t : Tree) → piece_fits s k c t ≡ true → is_stray k ≡ false

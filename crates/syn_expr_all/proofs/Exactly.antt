@@ -1,75 +1,11 @@
 -- Reading is exact, for callers: an expression, and all that is read on a fork by a reader that is exact.
-use Rattle.std.proofs.Common.{◌≡◌, ◌≢◌, List, Some, None, refl, ap, sym, subst, ◌∙◌, arith}
-use Rattle.std.proofs.lemmas.Option.{none-some}
-use Rattle.std.specs.Prelude.{Ok, Err}
+use Rattle.std.proofs.Common.{◌≡◌, List, Some}
 use Rattle.syn_tokens.specs.Tok.{Tok}
-use Rattle.syn_tokens.specs.Input.{Input, IsTail, start_of}
-use Rattle.syn_tokens.proofs.Inputs.{after_same}
-use Rattle.syn_tokens.specs.declared.error.Error.{Error}
-use Rattle.syn_tokens.specs.declared.error.ErrorKind.{ErrorKind}
-use Rattle.syn_tokens.specs.declared.error.ErrorKind.TheVariants.{OutOfMemory}
-use Rattle.syn_parts.specs.Form.{Outcome}
+use Rattle.syn_tokens.specs.Input.{IsTail}
 use Rattle.syn_grammar.specs.Tree.{Tree}
 use Rattle.syn_grammar.specs.declared.kinds.Place.{Place}
-use Rattle.syn_grammar.specs.Stands.{Stands}
 use Rattle.syn_grammar.specs.Read.{expr}
-use Rattle.syn_grammar.proofs.Chains.{some_is}
-use Rattle.syn_grammar.proofs.Exact.{expr_sound, expr_complete}
-use Rattle.syn_grammar.proofs.HeadMoves.{IsLess}
-use Rattle.syn_grammar.proofs.Lesses.{node_less}
-use Rattle.syn_expr_kinds.specs.Exactly.{ReadsExactly}
-
--- A reading is exact: it gives what stands, all that does, and takes tokens.
-pub record IsExact {B : Type 0} (reads : List Tok → Outcome B) (stands : List Tok → B → List Tok → Type 0) : Type 0 where
-  pub sound : (l : List Tok) (x : B) (n : List Tok) → reads l ≡ Some (x, n) → stands l x n
-  pub complete : (l : List Tok) (x : B) (n : List Tok) → stands l x n → reads l ≡ Some (x, n)
-  pub less : (l : List Tok) (x : B) (n : List Tok) → reads l ≡ Some (x, n) → IsLess n l
-
--- ---- what is given, and what is refused
-
-pub same_read : {B : Type 0} {o : Outcome B} {x y : B} {m n : List Tok} → o ≡ Some (x, m) → o ≡ Some (y, n) → (x ≡ y) × (m ≡ n)
-same_read h g = let e = some_is (sym h ∙ g) in (ap (λ q. q.0) e, ap (λ q. q.1) e)
-
-memory_alone : (k : ErrorKind) → (k ≢ OutOfMemory → ⊥) → k ≡ OutOfMemory
-memory_alone OutOfMemory h = refl
-memory_alone k h = absurd (h (λ e. cc))
-
--- what stands is refused for want of memory alone
-pub refused_by : {B : Type 0} {o : Outcome B} {x : B} {n : List Tok} (k : ErrorKind) → (k ≢ OutOfMemory → o ≡ None) → o ≡ Some (x, n) → k ≡ OutOfMemory
-refused_by {x = x} {n = n} k h g = memory_alone k (λ ne. none-some (x, n) (sym (h ne) ∙ g))
-
--- ---- on a fork
-
-pub reads_ahead : {A B : Type 0} {seen : A → B} {reads : List Tok → Outcome B} {stands : List Tok → B → List Tok → Type 0} → IsExact reads stands → (old fork new : Input) (v : A) → fork ≡ start_of old.rest → reads fork.rest ≡ Some (seen v, new.rest) → new.noted ≡ old.noted → ReadsExactly seen stands old (Ok v) new
-reads_ahead {seen = seen} {reads = reads} exact old fork new v f h n =
-    let r : reads old.rest ≡ Some (seen v, new.rest) = subst (λ i. reads i.rest ≡ Some (seen v, new.rest)) f h in
-    let d = exact.less _ _ _ r in
-    record {
-      read = exact.sound _ _ _ r;
-      found = λ x rest s. same_read r (exact.complete _ x rest s);
-      noted = n;
-      after = record { front = d.tail.front; is = d.tail.is; noted = λ s e. n ∙ e };
-      stays = tt;
-      moves = omega (arith, d.less);
-    }
-
-pub refuses_ahead : {A B : Type 0} {seen : A → B} {reads : List Tok → Outcome B} {stands : List Tok → B → List Tok → Type 0} → IsExact reads stands → (old fork : Input) (e : Error) → fork ≡ start_of old.rest → (e.kind ≢ OutOfMemory → reads fork.rest ≡ None) → ReadsExactly seen stands old (Err e) old
-refuses_ahead {reads = reads} exact old fork e f h = record {
-  read = tt;
-  found = λ x rest s. refused_by e.kind (λ ne. subst (λ i. reads i.rest ≡ None) f (h ne)) (exact.complete _ x rest s);
-  noted = refl;
-  after = after_same old;
-  stays = refl;
-  moves = tt;
-}
-
--- ---- an expression
-
-expr_less : (p : Place) (l : List Tok) (t : Tree) (n : List Tok) → expr p l ≡ Some (t, n) → IsLess n l
-expr_less p l t n h = let s = expr_sound p l t n h in node_less s.node
-
-pub expr_exact : (p : Place) → IsExact (expr p) (Stands p)
-expr_exact p = record { sound = expr_sound p; complete = expr_complete p; less = expr_less p }
+use Rattle.syn_grammar.proofs.Alone.{expr_exact}
 
 pub read_tail : (p : Place) (l n : List Tok) (t : Tree) → expr p l ≡ Some (t, n) → IsTail n l
-read_tail p l n t h = let d = expr_less p l t n h in d.tail
+read_tail p l n t h = let e = expr_exact p in e.tail l t n h

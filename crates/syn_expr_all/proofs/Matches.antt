@@ -18,7 +18,7 @@ use Rattle.syn_expr_kinds.specs.declared.pattern.ExprClosureOf.{ExprClosureOf}
 use Rattle.syn_expr_kinds.specs.declared.pattern.ExprForLoopOf.{ExprForLoopOf}
 use Rattle.syn_expr_kinds.specs.declared.pattern.ExprLetOf.{ExprLetOf}
 use Rattle.syn_expr_kinds.specs.declared.pattern.ExprMatchOf.{ExprMatchOf}
-use Rattle.syn_expr_attrs.proofs.Adorned.{adorn_more}
+use Rattle.syn_expr_kinds.proofs.Adorned.{adorn_more}
 use Rattle.syn_expr_all.specs.declared.control.ExprMatch.{ExprMatch, out-ExprMatch, roll-ExprMatch, out-roll-ExprMatch}
 use Rattle.syn_expr_all.specs.View.{choice_layer, choice_of, choice_parts, views}
 use Rattle.syn_expr_all.proofs.TreeOf.{choice-is}

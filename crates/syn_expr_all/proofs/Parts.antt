@@ -17,12 +17,13 @@ use Rattle.syn_expr_blocks.proofs.Parts.{arm_is_less}
 use Rattle.syn_expr_kinds.specs.FieldStands.{FieldStands}
 use Rattle.syn_expr_lists.specs.Fields.{one_field}
 use Rattle.syn_expr_lists.proofs.FieldStands.{field_sound, field_complete, field_is_less}
-use Rattle.syn_expr_all.proofs.Exactly.{IsExact, refused_by, same_read}
+use Rattle.syn_grammar.specs.Exact.{IsExact}
+use Rattle.syn_expr_kinds.proofs.Exactly.{refused_by, same_read}
 
 -- ---- an arm
 
 pub arm_exact : IsExact one_arm ArmStands
-arm_exact = record { sound = arm_sound; complete = arm_complete; less = arm_is_less }
+arm_exact = record { sound = arm_sound; complete = arm_complete; tail = λ l x n h. let d = arm_is_less l x n h in d.tail; less = λ l x n h. let d = arm_is_less l x n h in d.less }
 
 pub arm_tail : (l n : List Tok) (t : ArmView) → one_arm l ≡ Some (t, n) → IsTail n l
 arm_tail l n t h = let d = arm_is_less l t n h in d.tail
@@ -48,7 +49,7 @@ pub ruleset all_arms = (arms_stand, arms_same, arms_refused)
 -- ---- a field
 
 pub field_exact : IsExact one_field FieldStands
-field_exact = record { sound = field_sound; complete = field_complete; less = field_is_less }
+field_exact = record { sound = field_sound; complete = field_complete; tail = λ l x n h. let d = field_is_less l x n h in d.tail; less = λ l x n h. let d = field_is_less l x n h in d.less }
 
 pub field_tail : (l n : List Tok) (t : FieldView) → one_field l ≡ Some (t, n) → IsTail n l
 field_tail l n t h = let d = field_is_less l t n h in d.tail

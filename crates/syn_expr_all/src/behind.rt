@@ -9,16 +9,18 @@ use crate::closure::ExprClosure;
 use crate::control::{ExprForLoop, ExprLet, ExprMatch};
 use crate::expr::Expr;
 use std::alloc::AllocError;
-use syn_expr_attrs::joined::joined;
 use syn_expr_attrs::{around, before};
 use syn_expr_ends::kinds::ReadExprs;
+use syn_expr_kinds::joined::joined;
+use syn_expr_kinds::like::is_block_like;
 use syn_lower::attr::Attribute;
+use syn_lower::path::{Path, QSelf};
 use syn_tokens::tree::TokenStream;
 
 #[tactic(auto, using(crate::proofs::TreeOf::members))]
 impl ExprClosure {
     /// It behind more attributes.
-    fn behind(self, attrs: Vec<Attribute>) -> Result<ExprClosure, AllocError>
+    pub(crate) fn behind_more(self, attrs: Vec<Attribute>) -> Result<ExprClosure, AllocError>
         ensures { IfOk result (λ y. Behind (attrs_of attrs) (closure_of self) (closure_of y)) }
     {
         Ok(ExprClosure {
@@ -31,7 +33,7 @@ impl ExprClosure {
 #[tactic(auto, using(crate::proofs::TreeOf::members))]
 impl ExprForLoop {
     /// It behind more attributes.
-    fn behind(self, attrs: Vec<Attribute>) -> Result<ExprForLoop, AllocError>
+    pub(crate) fn behind_more(self, attrs: Vec<Attribute>) -> Result<ExprForLoop, AllocError>
         ensures { IfOk result (λ y. Behind (attrs_of attrs) (for_loop_of self) (for_loop_of y)) }
     {
         Ok(ExprForLoop {
@@ -44,7 +46,7 @@ impl ExprForLoop {
 #[tactic(auto, using(crate::proofs::TreeOf::members))]
 impl ExprLet {
     /// It behind more attributes.
-    fn behind(self, attrs: Vec<Attribute>) -> Result<ExprLet, AllocError>
+    pub(crate) fn behind_more(self, attrs: Vec<Attribute>) -> Result<ExprLet, AllocError>
         ensures { IfOk result (λ y. Behind (attrs_of attrs) (binding_of self) (binding_of y)) }
     {
         Ok(ExprLet {
@@ -57,7 +59,7 @@ impl ExprLet {
 #[tactic(auto, using(crate::proofs::TreeOf::members))]
 impl ExprMatch {
     /// It behind more attributes.
-    fn behind(self, attrs: Vec<Attribute>) -> Result<ExprMatch, AllocError>
+    pub(crate) fn behind_more(self, attrs: Vec<Attribute>) -> Result<ExprMatch, AllocError>
         ensures { IfOk result (λ y. Behind (attrs_of attrs) (choice_of self) (choice_of y)) }
     {
         Ok(ExprMatch {
@@ -69,9 +71,31 @@ impl ExprMatch {
 
 #[tactic(auto, using(crate::proofs::TreeOf::kinds))]
 impl ReadExprs for Expr {
+    #[tactic(auto, using(crate::proofs::TreeOf::kinds, crate::proofs::Holds::held, crate::proofs::OfKind::held))]
+    fn holds_block(&self) -> bool {
+        let mut held = self;
+        'groups: while let Expr::Group(x) = held {
+            held = &x.expr;
+        }
+        is_block_like(held)
+    }
+
     fn into_verbatim(self) -> Result<TokenStream, Expr> {
         match self {
             Expr::Verbatim(tokens) => Ok(tokens),
+            x => Err(x),
+        }
+    }
+
+    #[tactic(auto, using(crate::proofs::TreeOf::kinds, crate::proofs::Paths::paths))]
+    fn into_path(self) -> Result<(Option<QSelf>, Path), Expr> {
+        match self {
+            Expr::Path(x) => {
+                if x.attrs.is_empty() {
+                    return Ok((x.qself, x.path));
+                }
+                Err(Expr::Path(x))
+            }
             x => Err(x),
         }
     }
@@ -87,20 +111,20 @@ impl ReadExprs for Expr {
             Expr::Break(x) => Ok(Expr::Break(before::break_expr(x, attrs)?)),
             Expr::Call(x) => Ok(Expr::Call(before::call(x, attrs)?)),
             Expr::Cast(x) => Ok(Expr::Cast(before::cast(x, attrs)?)),
-            Expr::Closure(x) => Ok(Expr::Closure(x.behind(attrs)?)),
+            Expr::Closure(x) => Ok(Expr::Closure(x.behind_more(attrs)?)),
             Expr::Const(x) => Ok(Expr::Const(around::const_block(x, attrs)?)),
             Expr::Continue(x) => Ok(Expr::Continue(before::continue_expr(x, attrs)?)),
             Expr::Field(x) => Ok(Expr::Field(before::field(x, attrs)?)),
-            Expr::ForLoop(x) => Ok(Expr::ForLoop(x.behind(attrs)?)),
+            Expr::ForLoop(x) => Ok(Expr::ForLoop(x.behind_more(attrs)?)),
             Expr::Group(x) => Ok(Expr::Group(before::group(x, attrs)?)),
             Expr::If(x) => Ok(Expr::If(before::if_expr(x, attrs)?)),
             Expr::Index(x) => Ok(Expr::Index(before::index(x, attrs)?)),
             Expr::Infer(x) => Ok(Expr::Infer(before::infer(x, attrs)?)),
-            Expr::Let(x) => Ok(Expr::Let(x.behind(attrs)?)),
+            Expr::Let(x) => Ok(Expr::Let(x.behind_more(attrs)?)),
             Expr::Lit(x) => Ok(Expr::Lit(before::lit(x, attrs)?)),
             Expr::Loop(x) => Ok(Expr::Loop(around::loop_expr(x, attrs)?)),
             Expr::Macro(x) => Ok(Expr::Macro(before::mac(x, attrs)?)),
-            Expr::Match(x) => Ok(Expr::Match(x.behind(attrs)?)),
+            Expr::Match(x) => Ok(Expr::Match(x.behind_more(attrs)?)),
             Expr::MethodCall(x) => Ok(Expr::MethodCall(before::method_call(x, attrs)?)),
             Expr::Paren(x) => Ok(Expr::Paren(before::paren(x, attrs)?)),
             Expr::Path(x) => Ok(Expr::Path(before::path(x, attrs)?)),

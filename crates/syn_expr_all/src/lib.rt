@@ -2,6 +2,7 @@
 //! and the other lower parts stand at the root of `syn_lower`, tokens and their readers at that of `syn_tokens`.
 #![tactic(auto)]
 
+mod alone;
 mod arm;
 mod attrs;
 mod behind;
@@ -15,6 +16,7 @@ mod leftover;
 mod make;
 mod make_pat;
 mod node;
+mod of_kind;
 mod parse;
 pub mod pat;
 mod pattern;

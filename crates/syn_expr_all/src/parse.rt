@@ -46,6 +46,14 @@ fn answered(refusal: Error) -> Error
     }
 }
 
+/// What is told where the expression at a place of the input is refused.
+pub(crate) fn refusal(input: &ParseBuffer<'_>, place: Place, e: Error) -> Error
+    ensures may { MayRefuse result.kind }
+    ensures memory { e.kind ≡ OutOfMemory → result.kind ≡ OutOfMemory }
+{
+    answered(told(input, place, e))
+}
+
 /// Reads the expression at a place. The input stays where it was where it is refused.
 #[tactic(auto, using(crate::proofs::Exactly::read_tail))]
 fn ahead(input: &mut ParseBuffer<'_>, place: Place) -> Result<Expr>
@@ -55,7 +63,7 @@ fn ahead(input: &mut ParseBuffer<'_>, place: Place) -> Result<Expr>
     let mut ahead = input.fork()?;
     let x = match expr_at(&mut ahead, place) {
         Ok(x) => x,
-        Err(e) => return Err(answered(told(input, place, e))),
+        Err(e) => return Err(refusal(input, place, e)),
     };
     input.advance_to(&ahead);
     Ok(Box::into_inner(x))

@@ -20,9 +20,10 @@ use Rattle.syn_grammar.specs.Place.{plain}
 use Rattle.syn_grammar.specs.Tree as e
 use Rattle.syn_grammar.specs.Tree.{Tree, ClosureHead, Jump, Lead, leaf, frame, none, kid, plain_block}
 use Rattle.syn_grammar.specs.Head.{minus, let_word, raw_at, raw_word, range_at, range_op, jump_at, jump_head, leaf_form, lead_form}
+use Rattle.syn_grammar.specs.Path.{invisible_at}
 use Rattle.syn_grammar.specs.Slot as slot
 use Rattle.syn_grammar.specs.Slot.{piece_form}
-use Rattle.syn_grammar.specs.Stands.{frame_stands, lead_stands}
+use Rattle.syn_grammar.specs.Stands.{frame_stands, frame_ends, lead_stands}
 use Rattle.syn_grammar.specs.Read as read
 use Rattle.syn_grammar.specs.Read.{Reading, operands, bare_operands, content, framed_by, only_if, led, leaf_read, kept_from, become_word, expr}
 use Rattle.syn_grammar.proofs.Chains.{chosen}
@@ -117,7 +118,7 @@ module _ (rec : Place → Reading Tree) where
   -- its tokens are kept
   pub block_reads : (p : Place) (h : ClosureHead) (l : List Tok) → framed_by rec p (e.closure_block h) l
       ≡ and_then (group_at del.Brace l) (λ i n. only_if (not (is_default h.output)) (Some (frame (e.closure_block h) (kid e.output_block e.no_ending (plain_block i) none), n)))
-  unfolding content bare_operands operands piece_form frame_stands brace_at
+  unfolding content bare_operands operands piece_form frame_stands frame_ends brace_at
   block_reads p h l = by_group (group_at del.Brace l) refl
     where
       by_group : (o : Option (List Tok × List Tok)) → group_at del.Brace l ≡ o → framed_by rec p (e.closure_block h) l
@@ -152,8 +153,9 @@ become_there l h = ⊎_elim (λ i. absurd cc) (λ a.
     ⊎_elim (λ i. i.0) (λ f.
     ⊎_elim (λ i. absurd cc) (λ g.
     ⊎_elim (λ i. absurd cc) (λ j.
+    ⊎_elim (λ i. absurd cc) (λ k.
     ⊎_elim (λ i. absurd cc) (λ i. absurd cc)
-    (chosen (slot.match_word.at l) _ _ atom.Become j.1)) (chosen (read.loop_head_at l) _ _ atom.Become g.1)) (chosen (slot.if_word.at l) _ _ atom.Become f.1))
+    (chosen (invisible_at l) _ _ atom.Become k.1)) (chosen (slot.match_word.at l) _ _ atom.Become j.1)) (chosen (read.loop_head_at l) _ _ atom.Become g.1)) (chosen (slot.if_word.at l) _ _ atom.Become f.1))
     (chosen (become_word.at l) _ _ atom.Become d.1)) (chosen (bracket_at l) _ _ atom.Become c.1)) (chosen (round_at l) _ _ atom.Become b.1))
     (chosen (read.lead_at l) _ _ atom.Become a.1)) (chosen (read.leaf_at l) _ _ atom.Become h)
 

@@ -7,7 +7,12 @@ use Rattle.syn_grammar.specs.declared.kinds.Place.{Place}
 use Rattle.syn_grammar.specs.Tree as e
 use Rattle.syn_grammar.specs.Tree.{Tree, Lead, Leaf, ClosureHead, lead, none, plain_block}
 use Rattle.syn_grammar.specs.Stands.{lead_stands, lead_place}
-use Rattle.syn_grammar.specs.Read.{Reading, ◌<$>◌, expr, standing, framed_by}
+use Rattle.syn_grammar.specs.Read.{Reading, ◌>>=◌, ◌<$>◌, expr, standing, framed_by}
+use Rattle.syn_expr_heads.specs.Leaves.{leaf_form as closed_form}
+
+-- a leaf that no invisible group begins, where it stands
+unfoldable pub closed_leaf : Place → Reading Tree
+closed_leaf p = closed_form.reads >>= standing p
 
 -- its operand
 abbrev pub behind : Place → Lead → Reading Tree

@@ -80,6 +80,8 @@ where
     E::Pat: ReadPats + Drop,
 {
     /// Reads the operand of `*`, `!` or `-`.
+    // Not in the frame of its caller, which is on the stack once for each level of a tree.
+    #[inline(never)]
     #[tactic(auto, unfolding(syn_expr_kinds::specs::Attrs::attrs_of))]
     fn unary(&self, input: &mut ParseBuffer<'_>, place: Place, op: UnOp) -> Result<Box<E>>
         requires callable { Callable (weight input.old.rest + 1) (F.pre self.now.expr) }
@@ -94,6 +96,8 @@ where
     }
 
     /// Reads the operand of `&` or `&mut`.
+    // Not in the frame of its caller, which is on the stack once for each level of a tree.
+    #[inline(never)]
     #[tactic(auto, unfolding(syn_expr_kinds::specs::Attrs::attrs_of))]
     fn reference(
         &self,
@@ -120,6 +124,8 @@ where
     }
 
     /// Reads the operand of `&raw mut` or `&raw const`.
+    // Not in the frame of its caller, which is on the stack once for each level of a tree.
+    #[inline(never)]
     #[tactic(auto, unfolding(syn_expr_kinds::specs::Attrs::attrs_of))]
     fn raw_addr(
         &self,
@@ -178,6 +184,8 @@ where
     }
 
     /// Reads the end of a range without a start, or nothing where no end follows.
+    // Not in the frame of its caller, which is on the stack once for each level of a tree.
+    #[inline(never)]
     #[tactic(auto, unfolding(syn_grammar::specs::Stands::lead_stands))]
     fn range_to(
         &self,
@@ -275,6 +283,8 @@ where
     /// It is refused as `Leads::lead` refuses what stands first, as the expression inside is, as `ExpectedToken` of `{` where
     /// no block is behind an output, and as `ParenthesesRequired` where a label and `:` stand behind `break`, from the label to
     /// the end of the value.
+    // Not in the frame of its caller, which is on the stack once for each level of a tree.
+    #[inline(never)]
     #[tactic(auto, using(crate::proofs::Leads::leads, crate::proofs::Leads::less), unfolding(syn_grammar::specs::Read::lead_read, syn_grammar::specs::Stands::lead_stands))]
     pub fn lead(&self, input: &mut ParseBuffer<'_>, place: Place) -> Result<Box<E>>
         requires callable { Callable (weight input.old.rest) (F.pre self.now.expr) }
@@ -303,6 +313,8 @@ where
     }
 
     /// Reads `become` and an expression, whose tokens are kept with the word. It is refused as the expression is.
+    // Not in the frame of its caller, which is on the stack once for each level of a tree.
+    #[inline(never)]
     #[tactic(auto, using(crate::proofs::Leads::becomes))]
     pub fn tail_call(&self, input: &mut ParseBuffer<'_>) -> Result<Box<E>>
         requires callable { Callable (weight input.old.rest) (F.pre self.now.expr) }

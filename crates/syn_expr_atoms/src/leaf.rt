@@ -1,7 +1,8 @@
 //! The readers of leaves: what is closed at both ends and holds no expression (Rust Reference, "Expressions").
 
 ghost use Rattle.std.specs.Prelude.{◌≡◌, ◌≤◌, true};
-ghost use Rattle.syn_expr_atoms.specs.Inner.{has_inner};
+ghost use Rattle.syn_expr_atoms.specs.Led as led;
+ghost use Rattle.syn_expr_kinds.specs.Inner.{has_inner};
 ghost use Rattle.syn_expr_heads.specs.View.{leaf_of};
 ghost use Rattle.syn_grammar.specs.Read as read;
 ghost use Rattle.syn_lower_leaves.specs.Reads.{Reads};
@@ -34,6 +35,8 @@ fn not_standing(input: &ParseBuffer<'_>, leaf: &LeafHead) -> Error {
 /// Makes an expression of a leaf that was read, where it stands before what is left. The path `try` is refused as
 /// `ExpectedExpression` at its word. Any other leaf is refused as `UnexpectedToken` where the next token goes on it: a brace
 /// behind a path, `#` behind `builtin`, the value of a jump, the end of a range.
+// Not in the frame of its caller, which is on the stack once for each level of a tree.
+#[inline(never)]
 pub fn standing<E: IsExpr + Drop>(
     input: &ParseBuffer<'_>,
     place: Place,
@@ -52,9 +55,11 @@ pub fn standing<E: IsExpr + Drop>(
 /// Reads a leaf, by what stands first (Rust Reference, "Literal expressions", "Underscore expressions", "Block expressions",
 /// "Infinite loops", "`continue` expressions"). It is refused as `syn_expr_heads::leaf::leaf` refuses it, and as
 /// `UnexpectedToken` where the next token goes on it.
-#[tactic(auto, using(crate::proofs::Inner::leaf_inner), unfolding(syn_grammar::specs::Read::leaf_read))]
+// Not in the frame of its caller, which is on the stack once for each level of a tree.
+#[inline(never)]
+#[tactic(auto, using(syn_expr_kinds::proofs::Inner::leaf_inner), unfolding(crate::specs::Led::closed_leaf))]
 pub fn leaf<E: IsExpr + Drop>(input: &mut ParseBuffer<'_>, place: Place) -> Result<Box<E>>
-    ensures value { Reads (λ b. E.tree b.value) (read.leaf_read place input.old.rest) result input.new.rest }
+    ensures value { Reads (λ b. E.tree b.value) (led.closed_leaf place input.old.rest) result input.new.rest }
     ensures noted { input.new.noted ≡ input.old.noted }
     ensures shrinks { weight input.new.rest ≤ weight input.old.rest }
 {

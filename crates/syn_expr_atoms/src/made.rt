@@ -1,7 +1,7 @@
 //! The expressions that are made of what was read. None has attributes of its own but the inner ones of its block.
 
 ghost use Rattle.std.specs.Prelude.{◌≡◌, None, true, is_some};
-ghost use Rattle.syn_expr_atoms.specs.Inner.{has_inner};
+ghost use Rattle.syn_expr_kinds.specs.Inner.{has_inner};
 ghost use Rattle.syn_expr_heads.specs.View.{body_of, closure_guards, closure_of, jump_of, leaf_of};
 ghost use Rattle.syn_expr_kinds.specs.Pats as pats;
 ghost use Rattle.syn_expr_kinds.specs.View as of;

@@ -6,9 +6,9 @@ ghost use Rattle.syn_expr_kinds.specs.Attrs.{attrs_of};
 ghost use Rattle.syn_expr_kinds.specs.View.{expr_block_of, expr_const_of, expr_loop_of, expr_unsafe_of, expr_while_of};
 ghost use Rattle.syn_grammar.specs.Tree.{Tree};
 
-use crate::joined::joined;
 use std::alloc::AllocError;
 use syn_expr_kinds::block::{ExprBlock, ExprConst, ExprLoop, ExprUnsafe, ExprWhileOf};
+use syn_expr_kinds::joined::joined;
 use syn_lower::attr::Attribute;
 
 /// It behind more attributes.

@@ -17,7 +17,7 @@ use Rattle.syn_grammar.specs.Tree.{Tree, Kids, Piece, Ending, Frame, frame, none
 use Rattle.syn_grammar.specs.Slot as slot
 use Rattle.syn_grammar.specs.Head.{label}
 use Rattle.syn_grammar.specs.Slot.{piece_form, ending_at, behind_arm, if_word, else_word, while_word, for_head, fat_arrow, after}
-use Rattle.syn_grammar.specs.Stands.{frame_stands}
+use Rattle.syn_grammar.specs.Stands.{frame_stands, frame_ends}
 use Rattle.syn_grammar.specs.Read.{Reading, expr, all_of, before, ended_by, operand_of, operands_by, bare_operands, content, framed_by, looped, loop_read}
 use Rattle.syn_grammar.proofs.Chains.{some_is, then_some}
 use Rattle.syn_grammar.proofs.Needs.{heads}
@@ -56,7 +56,7 @@ abbrev chain : Tree → Reading Kids
 chain x n = Some (kid e.chained e.no_ending x none, n)
 
 chained_turn : (m : List Tok) → and_then (operand_of expr (bare_operands expr slot.conditions) e.chained m) last_by ≡ and_then (cond (if_word.at m) (branch (drop 1 m)) (kept_block m)) chain
-unfolding branch content frame_stands ending_at brace_at
+unfolding branch content frame_stands frame_ends ending_at brace_at
 chained_turn m = by_if (if_word.at m) refl
   where
     by_block : and_then (cond (is_some (group_at del.Brace m)) (and_then (group_at del.Brace m) (λ i n. Some ((e.no_ending, plain_block i), n))) None) last_by
@@ -92,7 +92,7 @@ first_then k q more f l =
 
 pub branch_turn : (l : List Tok) → branch l
     ≡ and_then (expr before_block l) (λ x m. and_then (ending_at e.condition x m) (λ c n. and_then (otherwise n) (λ ks o. Some (frame e.branch (kid e.condition c x ks), o))))
-unfolding branch content frame_stands piece_form
+unfolding branch content frame_stands frame_ends piece_form
 branch_turn l =
     ap (λ o. and_then o framed) (turn slot.conditions l)
     ∙ first_then e.condition before_block (bare_operands expr slot.otherwise) framed l
@@ -114,11 +114,11 @@ loop_then k l =
     framed ks n = Some (frame k ks, n)
 
 while_turn : (p : Place) (w : Option Text) (l : List Tok) → framed_by expr p (e.while_loop w) l ≡ headed (e.while_loop w) l
-unfolding content frame_stands
+unfolding content frame_stands frame_ends
 while_turn p w l = loop_then (e.while_loop w) l
 
 for_turn : (p : Place) (w : Option Text) (t : PatTree) (l : List Tok) → framed_by expr p (e.for_loop w t) l ≡ headed (e.for_loop w t) l
-unfolding content frame_stands
+unfolding content frame_stands frame_ends
 for_turn p w t l = loop_then (e.for_loop w t) l
 
 labelled_turn : (p : Place) (w : Option Text) (l : List Tok) → looped expr p w l ≡ labelled w l
@@ -139,7 +139,7 @@ before_then (Some x) f g n = refl
 pub choice_turn : (l : List Tok) → choice l
     ≡ and_then (expr before_block l) (λ x h. and_then (group_at del.Brace h) (λ i n. and_then (inner_attributes.reads i) (λ ats j.
     before (all_of (bare_operands expr slot.arms j)) (λ ks. frame e.choice (kid e.scrutinee (e.opened ats) x ks)) n)))
-unfolding choice content frame_stands
+unfolding choice content frame_stands frame_ends
 choice_turn l =
     ap (λ o. and_then o framed) (turn slot.scrutinees l)
     ∙ then_assoc (expr before_block l) _ framed

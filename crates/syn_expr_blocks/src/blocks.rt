@@ -77,6 +77,8 @@ where
     E::Arm: Drop,
 {
     /// Reads an `if` behind its word.
+    // Not in the frame of its caller, which is on the stack once for each level of a tree.
+    #[inline(never)]
     #[cycle(chain)]
     #[tactic(auto, using(crate::proofs::Parts::branches), unfolding(syn_expr_kinds::specs::Attrs::attrs_of))]
     fn chain(&self, input: &mut ParseBuffer<'_>, if_token: If) -> Result<Box<E>>
@@ -122,7 +124,7 @@ where
     /// Reads an `if` behind its word: a condition, a block, and `else` before another `if` or a block, or nothing (Rust
     /// Reference, "`if` expressions"). It is refused as the condition is, and as `ExpectedToken` of `{` where a block is
     /// missing.
-    #[tactic(auto, unfolding(crate::specs::Parts::branch, syn_grammar::specs::Stands::frame_stands))]
+    #[tactic(auto, unfolding(crate::specs::Parts::branch, syn_grammar::specs::Stands::frame_stands, syn_grammar::specs::Stands::frame_ends))]
     pub fn branch(&self, input: &mut ParseBuffer<'_>, place: Place, if_token: If) -> Result<Box<E>>
         requires callable { Callable (weight input.old.rest + 1) (F.pre self.now.expr) }
         requires reads { ReadsExpr E.tree (F.post self.now.expr) }
@@ -134,6 +136,8 @@ where
     }
 
     /// Reads a `while` loop behind its word.
+    // Not in the frame of its caller, which is on the stack once for each level of a tree.
+    #[inline(never)]
     #[tactic(auto, using(crate::proofs::Inner::inners), unfolding(crate::specs::Parts::headed))]
     fn while_loop(
         &self,
@@ -160,6 +164,8 @@ where
     }
 
     /// Reads a `for` loop behind its label.
+    // Not in the frame of its caller, which is on the stack once for each level of a tree.
+    #[inline(never)]
     #[tactic(auto, using(crate::proofs::Inner::inners, crate::proofs::Parts::for_loops), unfolding(crate::specs::Parts::headed))]
     fn for_loop(&self, input: &mut ParseBuffer<'_>, label: Option<Label>) -> Result<Box<E>>
         requires callable { Callable (weight input.old.rest) (F.pre self.now.expr) }
@@ -187,6 +193,8 @@ where
     /// Reads a `while` or a `for` loop, with a label or none (Rust Reference, "Predicate loops", "Iterator loops", "Loop
     /// labels"). It is refused as `ExpectedLoopOrBlock` where none of them stands behind the label, as `ExpectedToken` where
     /// another token is missing, and inside as a pattern or an expression is.
+    // Not in the frame of its caller, which is on the stack once for each level of a tree.
+    #[inline(never)]
     #[tactic(auto, using(crate::proofs::Parts::loops))]
     pub fn loop_head(&self, input: &mut ParseBuffer<'_>, place: Place) -> Result<Box<E>>
         requires callable { Callable (weight input.old.rest) (F.pre self.now.expr) }
@@ -203,6 +211,8 @@ where
     }
 
     /// Reads the body of an arm, and its comma.
+    // Not in the frame of its caller, which is on the stack once for each level of a tree.
+    #[inline(never)]
     #[tactic(auto, unfolding(crate::specs::Parts::arm_body))]
     fn arm_body(
         &self,
@@ -231,6 +241,8 @@ where
     /// Reads an arm: outer attributes, a pattern with alternatives, a guard or none, `=>`, its body, and a comma, which none
     /// has to be behind the last and behind a block (Rust Reference, "`match` expressions"). It is refused as `ExpectedToken`
     /// where a token is missing, and inside as an attribute, a pattern or an expression is.
+    // Not in the frame of its caller, which is on the stack once for each level of a tree.
+    #[inline(never)]
     #[tactic(auto, using(crate::proofs::Parts::one), unfolding(crate::specs::Parts::one_arm, syn_expr_kinds::specs::Attrs::attrs_of))]
     pub fn arm(&self, input: &mut ParseBuffer<'_>) -> Result<E::Arm>
         requires callable { Callable (weight input.old.rest + 1) (F.pre self.now.expr) }
@@ -276,6 +288,8 @@ where
     }
 
     /// Reads a `match` behind its word.
+    // Not in the frame of its caller, which is on the stack once for each level of a tree.
+    #[inline(never)]
     #[tactic(auto, using(crate::proofs::Parts::choices, crate::proofs::Inner::inners))]
     fn matched(&self, input: &mut ParseBuffer<'_>, match_token: Match) -> Result<Box<E>>
         requires callable { Callable (weight input.old.rest + 1) (F.pre self.now.expr) }
@@ -301,7 +315,7 @@ where
     /// Reads a `match` behind its word: what it looks at, and its arms in braces, each with its guard, its body and its
     /// comma (Rust Reference, "Match expressions"). It is refused as `ExpectedToken` where a token is missing, and inside
     /// as a pattern or an expression is.
-    #[tactic(auto, unfolding(crate::specs::Parts::choice, syn_grammar::specs::Stands::frame_stands))]
+    #[tactic(auto, unfolding(crate::specs::Parts::choice, syn_grammar::specs::Stands::frame_stands, syn_grammar::specs::Stands::frame_ends))]
     pub fn choice(
         &self,
         input: &mut ParseBuffer<'_>,

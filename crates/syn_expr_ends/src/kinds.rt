@@ -1,9 +1,11 @@
 //! What the readers of the kinds of expressions ask of the types of expressions and of patterns.
 
 ghost use Rattle.std.specs.Prelude.{◌≡◌, ◌≤◌, IfOk, [], MatchResult, true, false};
+ghost use Rattle.syn_expr_ends.specs.Paths.{is_path};
 ghost use Rattle.syn_expr_kinds.specs.Attrs.{attrs_of};
-ghost use Rattle.syn_grammar.specs.Stands.{is_adorned, is_verbatim};
+ghost use Rattle.syn_grammar.specs.Stands.{holds_block, is_adorned, is_verbatim};
 ghost use Rattle.syn_grammar.specs.Tree as e;
+ghost use Rattle.syn_lower.specs.View.{path_of, qself_or, type_of};
 ghost use Rattle.syn_lower_leaves.specs.Reads.{Reads};
 ghost use Rattle.syn_parts.specs.Pat as pat;
 ghost use Rattle.syn_parts.specs.PatFits.{attributes_outer};
@@ -12,6 +14,7 @@ ghost use Rattle.syn_tokens.specs.Tok.{weight};
 use std::alloc::AllocError;
 use syn_expr_kinds::kinds::IsExpr;
 use syn_expr_kinds::node::{HasKind, HasNode};
+use syn_lower::path::{Path, QSelf};
 use syn_lower_leaves::attr::Attribute;
 use syn_pat_kinds::kinds::HasPatTree;
 use syn_tokens::buffer::ParseBuffer;
@@ -35,12 +38,21 @@ pub trait ReadPats: HasPatTree {
         ensures shrinks { weight input.new.rest ≤ weight input.old.rest };
 }
 
-/// The type of expressions: one is made of each kind, and is asked for its kind and its tokens, and given
+/// The type of expressions: one is made of each kind, and is asked for its kind, its tokens and its path, and given
 /// attributes.
 pub trait ReadExprs: IsExpr + HasNode + HasKind {
+    /// Whether it is like a block, or what holds one in invisible groups is: where it is the whole of a statement or of an arm's
+    /// body, no operator goes on it (Rust Reference, "Expression statements").
+    fn holds_block(&self) -> bool
+        ensures { result ≡ holds_block (Self.tree self.now) };
+
     /// The tokens that are kept, where it is of these; else it is given back.
     fn into_verbatim(self) -> std::result::Result<TokenStream, Self>
         ensures { MatchResult result (λ ts. Self.tree self ≡ e.leaf (e.verbatim ts)) (λ x. (x ≡ self) × (is_verbatim (Self.tree self) ≡ false)) };
+
+    /// The path, and the type that it is qualified by, where it is one without attributes; else it is given back.
+    fn into_path(self) -> std::result::Result<(Option<QSelf>, Path), Self>
+        ensures { MatchResult result (λ p. Self.tree self ≡ e.leaf (e.path (qself_or type_of p.0) (path_of type_of p.1))) (λ x. (x ≡ self) × (is_path (Self.tree self) ≡ false)) };
 
     /// It with outer attributes before it, where none stand before it and it isn't of tokens that are kept.
     fn with_attrs(self, attrs: Vec<Attribute>) -> std::result::Result<Self, AllocError>

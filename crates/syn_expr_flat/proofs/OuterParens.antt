@@ -40,7 +40,7 @@ mutual
   node_outer (is_post d q r i t u o w) = node_outer d
   node_outer (is_tail {b = b} {is = is} d f t o q) = (subst HasOuterParens (sym q) (fields_outer is b (node_outer d)), content_outer o)
   node_outer (is_indexed {b = b} {i = i} {is = is} d f t q) = subst HasOuterParens (sym q) (fields_outer (i ∷ is) b (node_outer d))
-  node_outer (is_frame f o g) = content_outer o
+  node_outer (is_frame f o g e) = content_outer o
 
   content_outer : {h : Holder} {l n : List Tok} {ks : Kids} → Content h l ks n → HaveOuterParens ks
   content_outer holds_none = tt

@@ -9,8 +9,8 @@ ghost use Rattle.syn_lower_leaves.specs.View.{attribute_of};
 
 use crate::operands::Flattened;
 use std::mem::replace;
-use syn_expr_attrs::joined::joined;
 use syn_expr_kinds::attrs::{all_outer, from_inner, is_inner};
+use syn_expr_kinds::joined::joined;
 use syn_lower::attr::Attribute;
 
 /// The attributes of parentheses that stood round an expression; None where none stood there.

@@ -2,6 +2,7 @@
 use Rattle.std.proofs.Common.{◌≡◌, Bool, true, false, cond, drop, refl, Option, None}
 use Rattle.syn_parts.specs.Mark.{star, bang, and, underscore, round_at}
 use Rattle.syn_grammar.specs.Front.{bracket_at, question_at, dot_at}
+use Rattle.syn_grammar.specs.Path.{invisible_at}
 use Rattle.syn_grammar.specs.Head as h
 use Rattle.syn_grammar.specs.Head.{leaf_form, lead_form, dotted}
 use Rattle.syn_grammar.specs.Slot.{if_word, match_word}
@@ -44,7 +45,8 @@ atoms_are_chosen expr p l =
     (first f (r.become_word.at l) kind.Become _ _
     (first f (if_word.at l) kind.If _ _
     (first f (r.loop_head_at l) kind.Loop _ _
-    (first f (match_word.at l) kind.Match _ _ refl)))))))
+    (first f (match_word.at l) kind.Match _ _
+    (first f (invisible_at l) kind.Group _ _ refl))))))))
 
 pub leaves_are_chosen : LeavesAreChosen
 unfolding leaf_form

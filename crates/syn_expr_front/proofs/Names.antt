@@ -6,6 +6,8 @@ use Rattle.syn_tokens.specs.Tok.{Tok, ident}
 use Rattle.syn_parts.specs.Mark.{word_at}
 use Rattle.syn_parts.specs.Text.{Text, is_segment}
 use Rattle.syn_parts.proofs.PatsBack.{reserved_not}
+use Rattle.syn_tokens.specs.Front.{group_at}
+use Rattle.syn_grammar.specs.Path.{invisible_at}
 use Rattle.syn_grammar.specs.Head.{try_block_at, builtin_at}
 use Rattle.syn_grammar.proofs.NameFronts.{named_word}
 use Rattle.syn_expr_front.specs.Begins.{atom_of}
@@ -29,6 +31,7 @@ unfolding builtin_at word_at
 no_builtin w l h = rw h refl
 
 pub names_begin_paths : (w : Text) (l : List Tok) → is_reserved_word w ≡ false → bytes_eq w (codes "builtin") ≡ false → atom_of (ident w ∷ l) ≡ atom.Named
+unfolding invisible_at group_at
 names_begin_paths w l name plain =
     let n = named_word w l (name_segment w name) in
     rw (n.no_leaf (no_try w l name) (no_builtin w l plain), n.no_lead, n.no_round, n.no_bracket, n.no_become, n.no_if, n.no_loop, n.no_match) refl

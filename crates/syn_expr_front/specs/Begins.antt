@@ -10,6 +10,7 @@ use Rattle.syn_grammar.specs.declared.kinds.UnKind.TheVariants as un
 use Rattle.syn_grammar.specs.declared.kinds.Place.{Place}
 use Rattle.syn_grammar.specs.Place.{plain}
 use Rattle.syn_grammar.specs.Front.{bracket_at, question_at, dot_at}
+use Rattle.syn_grammar.specs.Path.{invisible_at}
 use Rattle.syn_grammar.specs.Tree as e
 use Rattle.syn_grammar.specs.Tree.{Tree, Leaf, Lead, Trailer}
 use Rattle.syn_grammar.specs.Head as h
@@ -36,7 +37,8 @@ worded l =
     if r.become_word.at l then atom.Become else
     (if if_word.at l then atom.If else
     (if r.loop_head_at l then atom.Loop else
-    (if match_word.at l then atom.Match else atom.Named)))
+    (if match_word.at l then atom.Match else
+    (if invisible_at l then atom.Group else atom.Named))))
 
 abbrev pub atom_of : List Tok → Atom
 atom_of l =
@@ -55,6 +57,7 @@ atom_by expr p atom.Become l = (expr plain >>= r.kept_from expr l) (drop 1 l)
 atom_by expr p atom.If l = r.framed_by expr p e.branch (drop 1 l)
 atom_by expr p atom.Loop l = r.loop_read expr p l
 atom_by expr p atom.Match l = r.framed_by expr p e.choice (drop 1 l)
+atom_by expr p atom.Group l = r.group_read expr p l
 atom_by expr p atom.Named l = r.named_read expr p l
 
 abbrev pub AtomsAreChosen : Type 0

@@ -2,6 +2,7 @@
 
 ghost use Rattle.std.specs.Prelude.{◌≡◌, ◌&&◌, ◌||◌, not, drop};
 ghost use Rattle.syn_grammar.specs.Head as head;
+ghost use Rattle.syn_grammar.specs.Path as path;
 ghost use Rattle.syn_grammar.specs.Read as read;
 ghost use Rattle.syn_grammar.specs.Slot as slot;
 ghost use Rattle.syn_parts.specs.Mark as mark;
@@ -14,9 +15,9 @@ use syn_lower_leaves::text::is_truth;
 use syn_lower_lists::front::lifetimes_at;
 use syn_tokens::buffer::{ParseBuffer, Token};
 use syn_tokens::token::{
-    And, Async, Become, Brace, Break, Const, Continue, DotDot, Else, For, If, In, Let, Loop, Match,
-    Minus, Move, Mut, Not, Or, Paren, PathSep, Pound, Raw, Return, Star, Static, Try, Underscore,
-    Unsafe, Use, While, Yield,
+    And, Async, Become, Brace, Break, Const, Continue, DotDot, Else, For, Group, If, In, Let, Loop,
+    Match, Minus, Move, Mut, Not, Or, Paren, PathSep, Pound, Raw, Return, Star, Static, Try,
+    Underscore, Unsafe, Use, While, Yield,
 };
 use syn_tokens::tree::TokenTree;
 
@@ -209,6 +210,14 @@ pub fn become_at(input: &ParseBuffer<'_>) -> bool
     ensures { result ≡ read.become_word.at input.now.rest }
 {
     input.peek::<Become>()
+}
+
+/// Whether an invisible group stands first.
+#[tactic(auto, unfolding(syn_grammar::specs::Path::invisible_at))]
+pub fn invisible_at(input: &ParseBuffer<'_>) -> bool
+    ensures { result ≡ path.invisible_at input.now.rest }
+{
+    input.peek::<Group>()
 }
 
 /// Whether `if` stands first (Rust Reference, "`if` expressions").

@@ -6,8 +6,8 @@ ghost use Rattle.syn_expr_front.specs.Begins as begins;
 ghost use Rattle.syn_expr_front.specs.Begins.{AtomsAreChosen, LeavesAreChosen, LeadsAreChosen, TrailersAreChosen, NamesAreChosen};
 
 use crate::atom::{
-    async_block_at, become_at, block_at, builtin_at, const_block_at, if_at, jump_at, lead_at,
-    leaf_at, literal_at, loop_at, loop_head_at, match_at, method_at, range_at, raw_behind,
+    async_block_at, become_at, block_at, builtin_at, const_block_at, if_at, invisible_at, jump_at,
+    lead_at, leaf_at, literal_at, loop_at, loop_head_at, match_at, method_at, range_at, raw_behind,
     try_block_at,
 };
 use crate::sign::{bracket_at, dot_at, question_at};
@@ -36,6 +36,8 @@ pub enum Atom {
     Loop,
     /// A `match`.
     Match,
+    /// An invisible group, or a path that begins in one.
+    Group,
     /// A path, a macro or a struct expression.
     Named,
 }
@@ -135,6 +137,9 @@ fn worded(input: &ParseBuffer<'_>) -> Atom
     }
     if match_at(input) {
         return Atom::Match;
+    }
+    if invisible_at(input) {
+        return Atom::Group;
     }
     Atom::Named
 }

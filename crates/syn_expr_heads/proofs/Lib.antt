@@ -1,3 +1,4 @@
+pub mod Closed
 pub mod Inner
 pub mod Loops
 pub mod Turns

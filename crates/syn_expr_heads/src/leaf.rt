@@ -171,12 +171,12 @@ pub fn path_or_macro(qself: Option<QSelf>, path: Path, end: Option<MacroEnd>) ->
     })
 }
 
-/// Reads a path, qualified by a type or not, or the call of a macro (Rust Reference, "Path expressions", "Macro
-/// Invocation"). It is refused as `ExpectedPart` of a path where none begins, as `ExpectedPart` of a macro where no group
-/// is behind the `!` of one, and inside as a type is.
-#[tactic(auto, unfolding(syn_grammar::specs::Head::named))]
+/// Reads a path, qualified by a type or not, or the call of a macro; none begins in an invisible group (Rust Reference,
+/// "Path expressions", "Macro Invocation"). It is refused as `ExpectedPart` of a path where none begins, as `ExpectedPart`
+/// of a macro where no group is behind the `!` of one, and inside as a type is.
+#[tactic(auto)]
 pub fn named(input: &mut ParseBuffer<'_>) -> Result<LeafHead>
-    ensures value { Reads leaf_of (head.named.reads input.old.rest) result input.new.rest }
+    ensures value { Reads leaf_of (leaves.named.reads input.old.rest) result input.new.rest }
     ensures noted { input.new.noted ≡ input.old.noted }
     ensures shrinks { weight input.new.rest ≤ weight input.old.rest }
 {
@@ -232,9 +232,9 @@ fn labelled_leaf(input: &mut ParseBuffer<'_>) -> Result<LeafHead>
 /// It is refused as `ExpectedPart` of a path where none of them begins, as `ExpectedPart` of a literal at a token that is
 /// no literal's, as `ExpectedPart` of a macro where no group is behind the `!` of one, and as `ExpectedToken` where another
 /// token is missing.
-#[tactic(auto, unfolding(syn_grammar::specs::Head::leaf_form))]
+#[tactic(auto, unfolding(crate::specs::Leaves::leaf_form))]
 pub fn leaf(input: &mut ParseBuffer<'_>) -> Result<LeafHead>
-    ensures value { Reads leaf_of (head.leaf_form.reads input.old.rest) result input.new.rest }
+    ensures value { Reads leaf_of (leaves.leaf_form.reads input.old.rest) result input.new.rest }
     ensures noted { input.new.noted ≡ input.old.noted }
     ensures shrinks { weight input.new.rest ≤ weight input.old.rest }
 {

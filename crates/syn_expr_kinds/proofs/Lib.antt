@@ -6,3 +6,7 @@ pub mod Outers
 pub mod Owns
 pub mod Leaves
 pub mod Sizes
+pub mod Adorned
+pub mod Inner
+pub mod Exactly
+pub mod LeafAlone

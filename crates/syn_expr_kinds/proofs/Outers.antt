@@ -9,6 +9,7 @@ use Rattle.syn_parts.specs.Part.{outer_attributes, outer_body, kept}
 use Rattle.syn_parts.specs.Tree.{AttributeTree}
 use Rattle.syn_parts.specs.PatFits.{attributes_outer}
 use Rattle.syn_grammar.proofs.Chains.{behind_some}
+use Rattle.syn_grammar.proofs.Needs.{heads}
 
 style_is : (b : Bool) (a : AttributeTree) (f : List Tok → Option (List Tok)) (m : List Tok) → a.inner ≡ b → then_behind (cond b None (Some a.tokens)) f ≡ Some m → not b ≡ true
 style_is true a f m e h = absurd cc
@@ -35,3 +36,8 @@ iterated (suc n) (a ∷ others) l m g = by_test (pound.at l) (λ i d. iterated n
 pub outer_behind : (ats : List AttributeTree) (l m : List Tok) → outer_attributes.behind ats l ≡ Some m → attributes_outer ats ≡ true
 unfolding outer_attributes more fix
 outer_behind ats l m h = iterated (suc (weight l)) ats l m h
+
+pub outers_are : (l m : List Tok) (ats : List AttributeTree) → outer_attributes.reads l ≡ Some (ats, m) → attributes_outer ats ≡ true
+outers_are l m ats h = outer_behind ats l m (heads.outers.sound l ats m h)
+
+pub ruleset outers = (outers_are)

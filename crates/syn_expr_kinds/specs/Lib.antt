@@ -7,3 +7,4 @@ pub mod Printed
 pub mod View
 pub mod FieldStands
 pub mod Exactly
+pub mod Inner

@@ -2,6 +2,8 @@
 #![tactic(auto, using(crate::proofs::Shapes::shapes))]
 
 ghost use Rattle.std.specs.Prelude.{◌≡◌, Some};
+ghost use Rattle.syn_grammar.specs.Alone.{Alone, LitAlone, MacroAlone, OfKind, PathAlone, behind_attributes, is_array, is_infer, is_paren, is_repeat, is_tuple};
+ghost use Rattle.syn_expr_kinds.specs.Exactly.{ReadsExactly, RefusesOthers};
 ghost use Rattle.syn_grammar.specs.Tree.{Tree};
 ghost use Rattle.syn_pat_kinds.specs.View.{PatView};
 ghost use Rattle.syn_expr_kinds.specs.Node.{frame_at, frame_seen, leaf_at, leaf_of, operands_at, operands_of};
@@ -9,8 +11,10 @@ ghost use Rattle.syn_expr_kinds.specs.Pats.{ArmView};
 ghost use Rattle.syn_expr_kinds.specs.View.{expr_array_of, expr_group_of, expr_infer_of, expr_lit_of, expr_macro_of, expr_paren_of, expr_path_of, expr_repeat_of, expr_tuple_of};
 ghost use Rattle.syn_expr_notes.specs.Kind.{kind_at};
 
+use crate::alone;
 use crate::leaf::put_whole_leaf;
 use crate::node::{Attributes, Frame, Leaf, Operands};
+use crate::parse::ParseKinds;
 use crate::shape::PutShape;
 use syn_expr_notes::kind::NodeKind;
 use syn_expr_notes::label::LeafKind;
@@ -19,8 +23,8 @@ use syn_lower::lit::Lit;
 use syn_lower::mac::{Macro, MacroDelimiter};
 use syn_lower::path::{Path, QSelf};
 use syn_lower::punctuated::Punctuated;
-use syn_tokens::buffer::ToTokens;
-use syn_tokens::error::Result;
+use syn_tokens::buffer::{Parse, ParseBuffer, ToTokens};
+use syn_tokens::error::{Result, WantedKind};
 use syn_tokens::token::{Bracket, Comma, Group, Paren, Semi, Underscore};
 use syn_tokens::tree::TokenStream;
 
@@ -387,5 +391,210 @@ impl<E: PutShape> ToTokens for ExprTupleOf<E> {
         let operands = Operands::Elements(&self.elems);
         E::put_frame(tokens, Attributes::Before(&self.attrs), frame, operands)?;
         Ok(())
+    }
+}
+
+#[tactic(auto, using(syn_grammar::proofs::AloneKinds::plains))]
+impl Parse for ExprInfer {
+    ghost use Rattle.syn_expr_kinds.specs.View.{expr_infer_of};
+    ghost use Rattle.syn_grammar.specs.Alone.{Alone, behind_attributes, is_infer};
+    ghost use Rattle.syn_grammar.specs.Tree.{Tree};
+
+    ghost Seen = { Tree };
+
+    ghost seen = { expr_infer_of };
+
+    /// `_` stands before the rest, behind attributes or none.
+    ghost spells = { Alone (behind_attributes is_infer) };
+
+    ghost least = { 1 };
+
+    /// Reads `_` behind outer attributes or none (Rust Reference, "Underscore expressions").
+    ///
+    /// It is refused, memory aside, only where none stands, and the input then stays where it was: as its attributes
+    /// are, and as `ExpectedToken` of `_`.
+    fn parse(input: &mut ParseBuffer<'_>) -> Result<Self>
+        ensures { ReadsExactly expr_infer_of (Alone (behind_attributes is_infer)) input.old result input.new }
+    {
+        alone::adorned_leaf(input)
+    }
+}
+
+impl Parse for ExprLit {
+    ghost use Rattle.syn_expr_kinds.specs.View.{expr_lit_of};
+    ghost use Rattle.syn_grammar.specs.Alone.{LitAlone};
+    ghost use Rattle.syn_grammar.specs.Tree.{Tree};
+
+    ghost Seen = { Tree };
+
+    ghost seen = { expr_lit_of };
+
+    /// A literal, or `-` and a number, stands before the rest.
+    ghost spells = { LitAlone };
+
+    ghost least = { 1 };
+
+    /// Reads a literal, a number with its sign too, without attributes before it (Rust Reference, "Literal
+    /// expressions").
+    ///
+    /// It is refused, memory aside, only where none stands, and the input then stays where it was: as `ExpectedPart` of
+    /// a literal.
+    fn parse(input: &mut ParseBuffer<'_>) -> Result<Self>
+        ensures { ReadsExactly expr_lit_of LitAlone input.old result input.new }
+    {
+        alone::lit(input)
+    }
+}
+
+impl Parse for ExprMacro {
+    ghost use Rattle.syn_expr_kinds.specs.View.{expr_macro_of};
+    ghost use Rattle.syn_grammar.specs.Alone.{MacroAlone};
+    ghost use Rattle.syn_grammar.specs.Tree.{Tree};
+
+    ghost Seen = { Tree };
+
+    ghost seen = { expr_macro_of };
+
+    /// A path without arguments, `!` and a group stand before the rest.
+    ghost spells = { MacroAlone };
+
+    ghost least = { 1 };
+
+    /// Reads the call of a macro, without attributes before it (Rust Reference, "Macro Invocation").
+    ///
+    /// It is refused, memory aside, only where none stands, and the input then stays where it was: as a `Macro` is.
+    fn parse(input: &mut ParseBuffer<'_>) -> Result<Self>
+        ensures { ReadsExactly expr_macro_of MacroAlone input.old result input.new }
+    {
+        alone::mac(input)
+    }
+}
+
+impl Parse for ExprPath {
+    ghost use Rattle.syn_expr_kinds.specs.View.{expr_path_of};
+    ghost use Rattle.syn_grammar.specs.Alone.{PathAlone};
+    ghost use Rattle.syn_grammar.specs.Tree.{Tree};
+
+    ghost Seen = { Tree };
+
+    ghost seen = { expr_path_of };
+
+    /// A path, as in an expression, stands before the rest, behind attributes or none.
+    ghost spells = { PathAlone };
+
+    ghost least = { 1 };
+
+    /// Reads a path, qualified by a type or not, behind outer attributes or none (Rust Reference, "Paths in
+    /// expressions", "Qualified paths"). Whatever follows is left, a brace and the `!` of a macro too.
+    ///
+    /// It is refused, memory aside, only where none stands, and the input then stays where it was: as its attributes
+    /// are, and as a path is.
+    fn parse(input: &mut ParseBuffer<'_>) -> Result<Self>
+        ensures { ReadsExactly expr_path_of PathAlone input.old result input.new }
+    {
+        alone::path(input)
+    }
+}
+
+impl<E: ParseKinds> Parse for ExprArrayOf<E> {
+    ghost use Rattle.syn_expr_kinds.specs.View.{expr_array_of};
+    ghost use Rattle.syn_grammar.specs.Alone.{Alone, is_array};
+    ghost use Rattle.syn_grammar.specs.Tree.{Tree};
+
+    ghost Seen = { Tree };
+
+    ghost seen = { expr_array_of E.tree };
+
+    /// An array of its elements stands before the rest.
+    ghost spells = { Alone is_array };
+
+    ghost least = { 1 };
+
+    /// Reads an array of its elements, without attributes before it (Rust Reference, "Array expressions").
+    ///
+    /// It is refused, memory aside, only where none stands, and the input then stays where it was: as `ExpectedToken`
+    /// of `[`, of a comma behind an element, and as its elements are.
+    fn parse(input: &mut ParseBuffer<'_>) -> Result<Self>
+        ensures { ReadsExactly (expr_array_of E.tree) (Alone is_array) input.old result input.new }
+    {
+        E::parse_expr_array(input)
+    }
+}
+
+impl<E: ParseKinds> Parse for ExprParenOf<E> {
+    ghost use Rattle.syn_expr_kinds.specs.View.{expr_paren_of};
+    ghost use Rattle.syn_grammar.specs.Alone.{Alone, is_paren};
+    ghost use Rattle.syn_grammar.specs.Tree.{Tree};
+
+    ghost Seen = { Tree };
+
+    ghost seen = { expr_paren_of E.tree };
+
+    /// An expression in parentheses stands before the rest.
+    ghost spells = { Alone is_paren };
+
+    ghost least = { 1 };
+
+    /// Reads an expression in parentheses, without attributes before them (Rust Reference, "Grouped expressions").
+    ///
+    /// It is refused, memory aside, only where none stands, and the input then stays where it was: as `ExpectedToken`
+    /// of `(`, as `UnexpectedToken` where a comma or more stands behind the expression, and as this is.
+    fn parse(input: &mut ParseBuffer<'_>) -> Result<Self>
+        ensures { ReadsExactly (expr_paren_of E.tree) (Alone is_paren) input.old result input.new }
+    {
+        E::parse_expr_paren(input)
+    }
+}
+
+impl<E: ParseKinds> Parse for ExprRepeatOf<E> {
+    ghost use Rattle.syn_expr_kinds.specs.View.{expr_repeat_of};
+    ghost use Rattle.syn_grammar.specs.Alone.{Alone, is_repeat};
+    ghost use Rattle.syn_grammar.specs.Tree.{Tree};
+
+    ghost Seen = { Tree };
+
+    ghost seen = { expr_repeat_of E.tree };
+
+    /// An array of an element that is repeated stands before the rest.
+    ghost spells = { Alone is_repeat };
+
+    ghost least = { 1 };
+
+    /// Reads an array of an element that is repeated, without attributes before it (Rust Reference, "Array
+    /// expressions").
+    ///
+    /// It is refused, memory aside, only where none stands, and the input then stays where it was: as `ExpectedToken`
+    /// of `[`, of `;` behind the element, as `UnexpectedToken` where more stands behind the length, and as both are.
+    fn parse(input: &mut ParseBuffer<'_>) -> Result<Self>
+        ensures { ReadsExactly (expr_repeat_of E.tree) (Alone is_repeat) input.old result input.new }
+    {
+        E::parse_expr_repeat(input)
+    }
+}
+
+impl<E: ParseKinds> Parse for ExprTupleOf<E> {
+    ghost use Rattle.syn_expr_kinds.specs.View.{expr_tuple_of};
+    ghost use Rattle.syn_grammar.specs.Alone.{OfKind, is_tuple};
+    ghost use Rattle.syn_grammar.specs.Tree.{Tree};
+
+    ghost Seen = { Tree };
+
+    ghost seen = { expr_tuple_of E.tree };
+
+    /// An expression stands before the rest, by the binding rules, that is a tuple.
+    ghost spells = { OfKind is_tuple };
+
+    ghost least = { 1 };
+
+    /// Reads an expression that is a tuple, with attributes before it or without (Rust Reference, "Tuple expressions").
+    /// Invisible groups that it stands in are looked through, and left out with the attributes before them.
+    ///
+    /// It is refused, memory aside, only where none stands, and the input then stays where it was: as an expression is,
+    /// and where another kind stands, as `ExpectedExprKind`, from the first token of this to its last.
+    fn parse(input: &mut ParseBuffer<'_>) -> Result<Self>
+        ensures exact { ReadsExactly (expr_tuple_of E.tree) (OfKind is_tuple) input.old result input.new }
+        ensures others { RefusesOthers is_tuple WantedKind.Tuple input.old result }
+    {
+        E::parse_expr_tuple(input)
     }
 }

@@ -2,6 +2,9 @@
 #![tactic(auto, using(crate::proofs::Shapes::shapes))]
 
 ghost use Rattle.std.specs.Prelude.{◌≡◌, Some};
+ghost use Rattle.syn_grammar.specs.Alone.{Alone, behind_attributes, is_async, is_block, is_const, is_loop, is_try_block, is_unsafe, is_while};
+ghost use Rattle.syn_expr_kinds.specs.Exactly.{ReadsExactly};
+ghost use Rattle.syn_grammar.specs.Stands.{is_branch};
 ghost use Rattle.syn_grammar.specs.Tree.{Tree};
 ghost use Rattle.syn_pat_kinds.specs.View.{PatView};
 ghost use Rattle.syn_expr_kinds.specs.Attrs.{inner_of};
@@ -10,8 +13,10 @@ ghost use Rattle.syn_expr_kinds.specs.Pats.{ArmView};
 ghost use Rattle.syn_expr_kinds.specs.View.{body_of, expr_async_of, expr_block_of, expr_const_of, expr_if_of, expr_loop_of, expr_try_block_of, expr_unsafe_of, expr_while_of};
 ghost use Rattle.syn_expr_notes.specs.Kind.{kind_at};
 
+use crate::alone;
 use crate::leaf::put_whole_leaf;
 use crate::node::{Attributes, Braces, Frame, Leaf, Operands};
+use crate::parse::ParseKinds;
 use crate::shape::PutShape;
 use syn_expr_notes::kind::NodeKind;
 use syn_expr_notes::label::{FrameKind, LeafKind};
@@ -19,7 +24,7 @@ use syn_expr_parts::label::Label;
 use syn_expr_parts::modifiers::BlockModifiers;
 use syn_lower::attr::Attribute;
 use syn_lower::stmt::Block;
-use syn_tokens::buffer::ToTokens;
+use syn_tokens::buffer::{Parse, ParseBuffer, ToTokens};
 use syn_tokens::error::Result;
 use syn_tokens::token::{Async, Const, Else, If, Loop, Move, Try, Unsafe, While};
 use syn_tokens::tree::TokenStream;
@@ -398,5 +403,219 @@ impl<E: PutShape> ToTokens for ExprWhileOf<E> {
         let operands = Operands::Loop(&self.cond, braces);
         E::put_frame(tokens, Attributes::Around(&self.attrs), frame, operands)?;
         Ok(())
+    }
+}
+
+#[tactic(auto, using(syn_grammar::proofs::AloneKinds::plains))]
+impl Parse for ExprAsync {
+    ghost use Rattle.syn_expr_kinds.specs.View.{expr_async_of};
+    ghost use Rattle.syn_grammar.specs.Alone.{Alone, is_async};
+    ghost use Rattle.syn_grammar.specs.Tree.{Tree};
+
+    ghost Seen = { Tree };
+
+    ghost seen = { expr_async_of };
+
+    /// An `async` block stands before the rest.
+    ghost spells = { Alone is_async };
+
+    ghost least = { 1 };
+
+    /// Reads `async`, with `move` or without, and a block, without attributes before it (Rust Reference, "`async`
+    /// blocks").
+    ///
+    /// It is refused, memory aside, only where none stands, and the input then stays where it was: as `ExpectedToken`
+    /// of `async` or of `{`.
+    fn parse(input: &mut ParseBuffer<'_>) -> Result<Self>
+        ensures { ReadsExactly expr_async_of (Alone is_async) input.old result input.new }
+    {
+        alone::leaf(input)
+    }
+}
+
+#[tactic(auto, using(syn_grammar::proofs::AloneKinds::plains))]
+impl Parse for ExprBlock {
+    ghost use Rattle.syn_expr_kinds.specs.View.{expr_block_of};
+    ghost use Rattle.syn_grammar.specs.Alone.{Alone, behind_attributes, is_block};
+    ghost use Rattle.syn_grammar.specs.Tree.{Tree};
+
+    ghost Seen = { Tree };
+
+    ghost seen = { expr_block_of };
+
+    /// A block stands before the rest, behind attributes and a label or none.
+    ghost spells = { Alone (behind_attributes is_block) };
+
+    ghost least = { 1 };
+
+    /// Reads a block behind outer attributes and a label, or none (Rust Reference, "Block expressions", "Labelled block
+    /// expressions"). Inner attributes stand first in its braces.
+    ///
+    /// It is refused, memory aside, only where none stands, and the input then stays where it was: as its attributes
+    /// and its label are, and as `ExpectedToken` of `{`.
+    fn parse(input: &mut ParseBuffer<'_>) -> Result<Self>
+        ensures { ReadsExactly expr_block_of (Alone (behind_attributes is_block)) input.old result input.new }
+    {
+        alone::adorned_leaf(input)
+    }
+}
+
+#[tactic(auto, using(syn_grammar::proofs::AloneKinds::plains))]
+impl Parse for ExprConst {
+    ghost use Rattle.syn_expr_kinds.specs.View.{expr_const_of};
+    ghost use Rattle.syn_grammar.specs.Alone.{Alone, is_const};
+    ghost use Rattle.syn_grammar.specs.Tree.{Tree};
+
+    ghost Seen = { Tree };
+
+    ghost seen = { expr_const_of };
+
+    /// A `const` block stands before the rest.
+    ghost spells = { Alone is_const };
+
+    ghost least = { 1 };
+
+    /// Reads `const` and a block, without attributes before it (Rust Reference, "`const` blocks"). Inner attributes
+    /// stand first in its braces.
+    ///
+    /// It is refused, memory aside, only where none stands, and the input then stays where it was: as `ExpectedToken`
+    /// of `const` or of `{`, and as its attributes are.
+    fn parse(input: &mut ParseBuffer<'_>) -> Result<Self>
+        ensures { ReadsExactly expr_const_of (Alone is_const) input.old result input.new }
+    {
+        alone::leaf(input)
+    }
+}
+
+#[tactic(auto, using(syn_grammar::proofs::AloneKinds::plains))]
+impl Parse for ExprLoop {
+    ghost use Rattle.syn_expr_kinds.specs.View.{expr_loop_of};
+    ghost use Rattle.syn_grammar.specs.Alone.{Alone, behind_attributes, is_loop};
+    ghost use Rattle.syn_grammar.specs.Tree.{Tree};
+
+    ghost Seen = { Tree };
+
+    ghost seen = { expr_loop_of };
+
+    /// A `loop` stands before the rest, behind attributes and a label or none.
+    ghost spells = { Alone (behind_attributes is_loop) };
+
+    ghost least = { 1 };
+
+    /// Reads a `loop` behind outer attributes and a label, or none (Rust Reference, "Infinite loops"). Inner attributes
+    /// stand first in its braces.
+    ///
+    /// It is refused, memory aside, only where none stands, and the input then stays where it was: as its attributes
+    /// and its label are, and as `ExpectedToken` of `loop` or of `{`.
+    fn parse(input: &mut ParseBuffer<'_>) -> Result<Self>
+        ensures { ReadsExactly expr_loop_of (Alone (behind_attributes is_loop)) input.old result input.new }
+    {
+        alone::adorned_leaf(input)
+    }
+}
+
+#[tactic(auto, using(syn_grammar::proofs::AloneKinds::plains))]
+impl Parse for ExprTryBlock {
+    ghost use Rattle.syn_expr_kinds.specs.View.{expr_try_block_of};
+    ghost use Rattle.syn_grammar.specs.Alone.{Alone, is_try_block};
+    ghost use Rattle.syn_grammar.specs.Tree.{Tree};
+
+    ghost Seen = { Tree };
+
+    ghost seen = { expr_try_block_of };
+
+    /// A `try` block stands before the rest.
+    ghost spells = { Alone is_try_block };
+
+    ghost least = { 1 };
+
+    /// Reads `try` and a block, without attributes before it.
+    ///
+    /// It is refused, memory aside, only where none stands, and the input then stays where it was: as `ExpectedToken`
+    /// of `try` or of `{`.
+    fn parse(input: &mut ParseBuffer<'_>) -> Result<Self>
+        ensures { ReadsExactly expr_try_block_of (Alone is_try_block) input.old result input.new }
+    {
+        alone::leaf(input)
+    }
+}
+
+#[tactic(auto, using(syn_grammar::proofs::AloneKinds::plains))]
+impl Parse for ExprUnsafe {
+    ghost use Rattle.syn_expr_kinds.specs.View.{expr_unsafe_of};
+    ghost use Rattle.syn_grammar.specs.Alone.{Alone, is_unsafe};
+    ghost use Rattle.syn_grammar.specs.Tree.{Tree};
+
+    ghost Seen = { Tree };
+
+    ghost seen = { expr_unsafe_of };
+
+    /// An `unsafe` block stands before the rest.
+    ghost spells = { Alone is_unsafe };
+
+    ghost least = { 1 };
+
+    /// Reads `unsafe` and a block, without attributes before it (Rust Reference, "`unsafe` blocks"). Inner attributes
+    /// stand first in its braces.
+    ///
+    /// It is refused, memory aside, only where none stands, and the input then stays where it was: as `ExpectedToken`
+    /// of `unsafe` or of `{`, and as its attributes are.
+    fn parse(input: &mut ParseBuffer<'_>) -> Result<Self>
+        ensures { ReadsExactly expr_unsafe_of (Alone is_unsafe) input.old result input.new }
+    {
+        alone::leaf(input)
+    }
+}
+
+impl<E: ParseKinds> Parse for ExprIfOf<E> {
+    ghost use Rattle.syn_expr_kinds.specs.View.{expr_if_of};
+    ghost use Rattle.syn_grammar.specs.Alone.{Alone, behind_attributes};
+    ghost use Rattle.syn_grammar.specs.Stands.{is_branch};
+    ghost use Rattle.syn_grammar.specs.Tree.{Tree};
+
+    ghost Seen = { Tree };
+
+    ghost seen = { expr_if_of E.tree };
+
+    /// An `if` with all that belongs to it stands before the rest, behind attributes or none.
+    ghost spells = { Alone (behind_attributes is_branch) };
+
+    ghost least = { 1 };
+
+    /// Reads an `if` behind outer attributes or none, with each `else` that follows (Rust Reference, "`if`
+    /// expressions").
+    ///
+    /// It is refused, memory aside, only where none stands, and the input then stays where it was: as its attributes
+    /// are, as `ExpectedToken` of `if` or of a brace, and as its conditions are.
+    fn parse(input: &mut ParseBuffer<'_>) -> Result<Self>
+        ensures { ReadsExactly (expr_if_of E.tree) (Alone (behind_attributes is_branch)) input.old result input.new }
+    {
+        E::parse_expr_if(input)
+    }
+}
+
+impl<E: ParseKinds> Parse for ExprWhileOf<E> {
+    ghost use Rattle.syn_expr_kinds.specs.View.{expr_while_of};
+    ghost use Rattle.syn_grammar.specs.Alone.{Alone, behind_attributes, is_while};
+    ghost use Rattle.syn_grammar.specs.Tree.{Tree};
+
+    ghost Seen = { Tree };
+
+    ghost seen = { expr_while_of E.tree };
+
+    /// A `while` stands before the rest, behind attributes and a label or none.
+    ghost spells = { Alone (behind_attributes is_while) };
+
+    ghost least = { 1 };
+
+    /// Reads a `while` behind outer attributes and a label, or none (Rust Reference, "Predicate loops"). Inner
+    /// attributes stand first in its braces.
+    ///
+    /// It is refused, memory aside, only where none stands, and the input then stays where it was: as its attributes
+    /// and its label are, as `ExpectedToken` of `while` or of `{`, and as its condition is.
+    fn parse(input: &mut ParseBuffer<'_>) -> Result<Self>
+        ensures { ReadsExactly (expr_while_of E.tree) (Alone (behind_attributes is_while)) input.old result input.new }
+    {
+        E::parse_expr_while(input)
     }
 }

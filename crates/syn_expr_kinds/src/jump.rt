@@ -2,6 +2,8 @@
 #![tactic(auto, using(crate::proofs::Shapes::shapes))]
 
 ghost use Rattle.std.specs.Prelude.{◌≡◌, Some};
+ghost use Rattle.syn_grammar.specs.Alone.{Alone, is_break, is_continue, is_return, is_yield};
+ghost use Rattle.syn_expr_kinds.specs.Exactly.{ReadsExactly};
 ghost use Rattle.syn_grammar.specs.Tree.{Tree};
 ghost use Rattle.syn_grammar.specs.Tree as e;
 ghost use Rattle.syn_lower.specs.View.{mapped};
@@ -11,14 +13,16 @@ ghost use Rattle.syn_expr_kinds.specs.Pats.{ArmView};
 ghost use Rattle.syn_expr_kinds.specs.View.{boxed, expr_break_of, expr_continue_of, expr_return_of, expr_yield_of, jump_with};
 ghost use Rattle.syn_expr_notes.specs.Kind.{kind_at};
 
+use crate::alone;
 use crate::leaf::put_whole_leaf;
 use crate::node::{Attributes, Jump, Lead, Leaf, Operands};
+use crate::parse::ParseKinds;
 use crate::shape::PutShape;
 use syn_expr_notes::kind::NodeKind;
 use syn_expr_notes::label::{LeadKind, LeafKind};
 use syn_lower::attr::Attribute;
 use syn_lower::lifetime::Lifetime;
-use syn_tokens::buffer::ToTokens;
+use syn_tokens::buffer::{Parse, ParseBuffer, ToTokens};
 use syn_tokens::error::Result;
 use syn_tokens::token::{Break, Continue, Return, Yield};
 use syn_tokens::tree::TokenStream;
@@ -281,5 +285,108 @@ impl<E: PutShape> ToTokens for ExprYieldOf<E> {
             None => put_whole_leaf(tokens, attributes, Leaf::Jump(jump))?,
         }
         Ok(())
+    }
+}
+
+#[tactic(auto, using(syn_grammar::proofs::AloneKinds::plains))]
+impl Parse for ExprContinue {
+    ghost use Rattle.syn_expr_kinds.specs.View.{expr_continue_of};
+    ghost use Rattle.syn_grammar.specs.Alone.{Alone, is_continue};
+    ghost use Rattle.syn_grammar.specs.Tree.{Tree};
+
+    ghost Seen = { Tree };
+
+    ghost seen = { expr_continue_of };
+
+    /// `continue`, with a label or without, stands before the rest.
+    ghost spells = { Alone is_continue };
+
+    ghost least = { 1 };
+
+    /// Reads `continue` and a label or none, without attributes before it (Rust Reference, "`continue` expressions").
+    ///
+    /// It is refused, memory aside, only where none stands, and the input then stays where it was: as `ExpectedToken`
+    /// of `continue`.
+    fn parse(input: &mut ParseBuffer<'_>) -> Result<Self>
+        ensures { ReadsExactly expr_continue_of (Alone is_continue) input.old result input.new }
+    {
+        alone::leaf(input)
+    }
+}
+
+impl<E: ParseKinds> Parse for ExprBreakOf<E> {
+    ghost use Rattle.syn_expr_kinds.specs.View.{expr_break_of};
+    ghost use Rattle.syn_grammar.specs.Alone.{Alone, is_break};
+    ghost use Rattle.syn_grammar.specs.Tree.{Tree};
+
+    ghost Seen = { Tree };
+
+    ghost seen = { expr_break_of E.tree };
+
+    /// `break` stands before the rest, with a label and a value or without.
+    ghost spells = { Alone is_break };
+
+    ghost least = { 1 };
+
+    /// Reads `break`, a label or none, and a value where one follows, without attributes before it (Rust Reference,
+    /// "`break` expressions").
+    ///
+    /// It is refused, memory aside, only where none stands, and the input then stays where it was: as `ExpectedToken`
+    /// of `break`, and as its value is.
+    fn parse(input: &mut ParseBuffer<'_>) -> Result<Self>
+        ensures { ReadsExactly (expr_break_of E.tree) (Alone is_break) input.old result input.new }
+    {
+        E::parse_expr_break(input)
+    }
+}
+
+impl<E: ParseKinds> Parse for ExprReturnOf<E> {
+    ghost use Rattle.syn_expr_kinds.specs.View.{expr_return_of};
+    ghost use Rattle.syn_grammar.specs.Alone.{Alone, is_return};
+    ghost use Rattle.syn_grammar.specs.Tree.{Tree};
+
+    ghost Seen = { Tree };
+
+    ghost seen = { expr_return_of E.tree };
+
+    /// `return` stands before the rest, with a value or without.
+    ghost spells = { Alone is_return };
+
+    ghost least = { 1 };
+
+    /// Reads `return`, and a value where one follows, without attributes before it (Rust Reference, "`return`
+    /// expressions").
+    ///
+    /// It is refused, memory aside, only where none stands, and the input then stays where it was: as `ExpectedToken`
+    /// of `return`, and as its value is.
+    fn parse(input: &mut ParseBuffer<'_>) -> Result<Self>
+        ensures { ReadsExactly (expr_return_of E.tree) (Alone is_return) input.old result input.new }
+    {
+        E::parse_expr_return(input)
+    }
+}
+
+impl<E: ParseKinds> Parse for ExprYieldOf<E> {
+    ghost use Rattle.syn_expr_kinds.specs.View.{expr_yield_of};
+    ghost use Rattle.syn_grammar.specs.Alone.{Alone, is_yield};
+    ghost use Rattle.syn_grammar.specs.Tree.{Tree};
+
+    ghost Seen = { Tree };
+
+    ghost seen = { expr_yield_of E.tree };
+
+    /// `yield` stands before the rest, with a value or without.
+    ghost spells = { Alone is_yield };
+
+    ghost least = { 1 };
+
+    /// Reads `yield`, and a value where one follows, without attributes before it.
+    ///
+    /// It is refused, memory aside, only where none stands, and the input then stays where it was: as `ExpectedToken`
+    /// of `yield`, and as its value is.
+    fn parse(input: &mut ParseBuffer<'_>) -> Result<Self>
+        ensures { ReadsExactly (expr_yield_of E.tree) (Alone is_yield) input.old result input.new }
+    {
+        E::parse_expr_yield(input)
     }
 }

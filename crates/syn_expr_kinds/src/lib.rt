@@ -4,10 +4,13 @@
 //! syn's `ExprCall`. The kinds that hold patterns stand beside that type.
 #![tactic(auto)]
 
+mod alone;
 pub mod atom;
 pub mod attrs;
+pub mod begins;
 pub mod block;
 pub mod body;
+pub mod joined;
 pub mod jump;
 pub mod kinds;
 pub mod leaf;

@@ -2,6 +2,9 @@
 #![tactic(auto, using(crate::proofs::Shapes::shapes))]
 
 ghost use Rattle.std.specs.Prelude.{◌≡◌, Some};
+ghost use Rattle.syn_grammar.specs.Alone.{Alone, OfKind, ReferenceAlone, is_assign, is_binary, is_raw_addr, is_unary};
+ghost use Rattle.syn_expr_kinds.specs.Exactly.{ReadsExactly, RefusesOthers};
+ghost use Rattle.syn_grammar.specs.Stands.{is_cast, is_range};
 ghost use Rattle.syn_grammar.specs.Tree.{Tree};
 ghost use Rattle.syn_lower.specs.View.{mapped};
 ghost use Rattle.syn_pat_kinds.specs.View.{PatView};
@@ -11,6 +14,7 @@ ghost use Rattle.syn_expr_kinds.specs.View.{expr_assign_of, expr_binary_of, expr
 ghost use Rattle.syn_expr_notes.specs.Kind.{kind_at};
 
 use crate::node::{Attributes, Lead, Leaf, Operands, Operator, Post};
+use crate::parse::ParseKinds;
 use crate::shape::PutShape;
 use syn_expr_notes::kind::NodeKind;
 use syn_expr_notes::label::{LeadKind, LeafKind, PostKind};
@@ -20,8 +24,8 @@ use syn_lower::ends_open;
 use syn_lower::ty::{PointerMutability, Type};
 use syn_op::limits::RangeLimits;
 use syn_op::op::{BinOp, UnOp};
-use syn_tokens::buffer::ToTokens;
-use syn_tokens::error::Result;
+use syn_tokens::buffer::{Parse, ParseBuffer, ToTokens};
+use syn_tokens::error::{Result, WantedKind};
 use syn_tokens::token::{And, As, Eq, Mut, Raw};
 use syn_tokens::tree::TokenStream;
 
@@ -403,5 +407,197 @@ impl<E: PutShape> ToTokens for ExprUnaryOf<E> {
         let lead = Lead::Unary(&self.op);
         E::put_lead(tokens, Attributes::Before(&self.attrs), lead, &self.expr)?;
         Ok(())
+    }
+}
+
+impl<E: ParseKinds> Parse for ExprRawAddrOf<E> {
+    ghost use Rattle.syn_expr_kinds.specs.View.{expr_raw_addr_of};
+    ghost use Rattle.syn_grammar.specs.Alone.{Alone, is_raw_addr};
+    ghost use Rattle.syn_grammar.specs.Tree.{Tree};
+
+    ghost Seen = { Tree };
+
+    ghost seen = { expr_raw_addr_of E.tree };
+
+    /// `&raw const` or `&raw mut` and an operand stand before the rest.
+    ghost spells = { Alone is_raw_addr };
+
+    ghost least = { 1 };
+
+    /// Reads `&raw const` or `&raw mut` and the operand, which takes no operator, without attributes before them (Rust
+    /// Reference, "Raw borrow operators").
+    ///
+    /// It is refused, memory aside, only where none stands, and the input then stays where it was: as `ExpectedToken`
+    /// of `&`, `raw`, or `mut` and `const`, and as the operand is.
+    fn parse(input: &mut ParseBuffer<'_>) -> Result<Self>
+        ensures { ReadsExactly (expr_raw_addr_of E.tree) (Alone is_raw_addr) input.old result input.new }
+    {
+        E::parse_expr_raw_addr(input)
+    }
+}
+
+impl<E: ParseKinds> Parse for ExprReferenceOf<E> {
+    ghost use Rattle.syn_expr_kinds.specs.View.{expr_reference_of};
+    ghost use Rattle.syn_grammar.specs.Alone.{ReferenceAlone};
+    ghost use Rattle.syn_grammar.specs.Tree.{Tree};
+
+    ghost Seen = { Tree };
+
+    ghost seen = { expr_reference_of E.tree };
+
+    /// `&`, `mut` or not, and an operand stand before the rest.
+    ghost spells = { ReferenceAlone };
+
+    ghost least = { 1 };
+
+    /// Reads `&`, `mut` or not, and the operand, which takes no operator, without attributes before them (Rust
+    /// Reference, "Borrow operators"). The word `raw` behind `&` is a path here: what stands behind it is left.
+    ///
+    /// It is refused, memory aside, only where none stands, and the input then stays where it was: as `ExpectedToken`
+    /// of `&`, and as the operand is.
+    fn parse(input: &mut ParseBuffer<'_>) -> Result<Self>
+        ensures { ReadsExactly (expr_reference_of E.tree) ReferenceAlone input.old result input.new }
+    {
+        E::parse_expr_reference(input)
+    }
+}
+
+impl<E: ParseKinds> Parse for ExprUnaryOf<E> {
+    ghost use Rattle.syn_expr_kinds.specs.View.{expr_unary_of};
+    ghost use Rattle.syn_grammar.specs.Alone.{Alone, is_unary};
+    ghost use Rattle.syn_grammar.specs.Tree.{Tree};
+
+    ghost Seen = { Tree };
+
+    ghost seen = { expr_unary_of E.tree };
+
+    /// `*`, `!` or `-` and an operand stand before the rest.
+    ghost spells = { Alone is_unary };
+
+    ghost least = { 1 };
+
+    /// Reads `*`, `!` or `-` and the operand, which takes no operator, without attributes before them (Rust Reference,
+    /// "Dereference operator", "Negation operators").
+    ///
+    /// It is refused, memory aside, only where none stands, and the input then stays where it was: as `ExpectedToken`
+    /// of one of the three signs, and as the operand is.
+    fn parse(input: &mut ParseBuffer<'_>) -> Result<Self>
+        ensures { ReadsExactly (expr_unary_of E.tree) (Alone is_unary) input.old result input.new }
+    {
+        E::parse_expr_unary(input)
+    }
+}
+
+impl<E: ParseKinds> Parse for ExprAssignOf<E> {
+    ghost use Rattle.syn_expr_kinds.specs.View.{expr_assign_of};
+    ghost use Rattle.syn_grammar.specs.Alone.{OfKind, is_assign};
+    ghost use Rattle.syn_grammar.specs.Tree.{Tree};
+
+    ghost Seen = { Tree };
+
+    ghost seen = { expr_assign_of E.tree };
+
+    /// An expression stands before the rest, by the binding rules, that is an assignment.
+    ghost spells = { OfKind is_assign };
+
+    ghost least = { 1 };
+
+    /// Reads an expression that is an assignment, with attributes before it or without (Rust Reference, "Assignment
+    /// expressions"). Invisible groups that it stands in are looked through, and left out with the attributes before
+    /// them.
+    ///
+    /// It is refused, memory aside, only where none stands, and the input then stays where it was: as an expression is,
+    /// and where another kind stands, as `ExpectedExprKind`, from the first token of this to its last.
+    fn parse(input: &mut ParseBuffer<'_>) -> Result<Self>
+        ensures exact { ReadsExactly (expr_assign_of E.tree) (OfKind is_assign) input.old result input.new }
+        ensures others { RefusesOthers is_assign WantedKind.Assign input.old result }
+    {
+        E::parse_expr_assign(input)
+    }
+}
+
+impl<E: ParseKinds> Parse for ExprBinaryOf<E> {
+    ghost use Rattle.syn_expr_kinds.specs.View.{expr_binary_of};
+    ghost use Rattle.syn_grammar.specs.Alone.{OfKind, is_binary};
+    ghost use Rattle.syn_grammar.specs.Tree.{Tree};
+
+    ghost Seen = { Tree };
+
+    ghost seen = { expr_binary_of E.tree };
+
+    /// An expression stands before the rest, by the binding rules, that is an operation with a binary operator.
+    ghost spells = { OfKind is_binary };
+
+    ghost least = { 1 };
+
+    /// Reads an expression that is an operation with a binary operator, with attributes before it or without (Rust
+    /// Reference, "Arithmetic and Logical Binary Operators", "Comparison Operators", "Lazy boolean operators",
+    /// "Compound assignment expressions"). Invisible groups that it stands in are looked through, and left out with the
+    /// attributes before them.
+    ///
+    /// It is refused, memory aside, only where none stands, and the input then stays where it was: as an expression is,
+    /// and where another kind stands, as `ExpectedExprKind`, from the first token of this to its last.
+    fn parse(input: &mut ParseBuffer<'_>) -> Result<Self>
+        ensures exact { ReadsExactly (expr_binary_of E.tree) (OfKind is_binary) input.old result input.new }
+        ensures others { RefusesOthers is_binary WantedKind.Binary input.old result }
+    {
+        E::parse_expr_binary(input)
+    }
+}
+
+impl<E: ParseKinds> Parse for ExprCastOf<E> {
+    ghost use Rattle.syn_expr_kinds.specs.View.{expr_cast_of};
+    ghost use Rattle.syn_grammar.specs.Alone.{OfKind};
+    ghost use Rattle.syn_grammar.specs.Stands.{is_cast};
+    ghost use Rattle.syn_grammar.specs.Tree.{Tree};
+
+    ghost Seen = { Tree };
+
+    ghost seen = { expr_cast_of E.tree };
+
+    /// An expression stands before the rest, by the binding rules, that is a cast.
+    ghost spells = { OfKind is_cast };
+
+    ghost least = { 1 };
+
+    /// Reads an expression that is a cast, with attributes before it or without (Rust Reference, "Type cast
+    /// expressions"). Invisible groups that it stands in are looked through, and left out with the attributes before
+    /// them.
+    ///
+    /// It is refused, memory aside, only where none stands, and the input then stays where it was: as an expression is,
+    /// and where another kind stands, as `ExpectedExprKind`, from the first token of this to its last.
+    fn parse(input: &mut ParseBuffer<'_>) -> Result<Self>
+        ensures exact { ReadsExactly (expr_cast_of E.tree) (OfKind is_cast) input.old result input.new }
+        ensures others { RefusesOthers is_cast WantedKind.Cast input.old result }
+    {
+        E::parse_expr_cast(input)
+    }
+}
+
+impl<E: ParseKinds> Parse for ExprRangeOf<E> {
+    ghost use Rattle.syn_expr_kinds.specs.View.{expr_range_of};
+    ghost use Rattle.syn_grammar.specs.Alone.{OfKind};
+    ghost use Rattle.syn_grammar.specs.Stands.{is_range};
+    ghost use Rattle.syn_grammar.specs.Tree.{Tree};
+
+    ghost Seen = { Tree };
+
+    ghost seen = { expr_range_of E.tree };
+
+    /// An expression stands before the rest, by the binding rules, that is a range.
+    ghost spells = { OfKind is_range };
+
+    ghost least = { 1 };
+
+    /// Reads an expression that is a range, with attributes before it or without (Rust Reference, "Range expressions").
+    /// Invisible groups that it stands in are looked through, and left out with the attributes before them.
+    ///
+    /// It is refused, memory aside, only where none stands, and the input then stays where it was: as an expression is,
+    /// and where another kind stands, as `ExpectedExprKind`, from the first token of this to its last.
+    fn parse(input: &mut ParseBuffer<'_>) -> Result<Self>
+        ensures exact { ReadsExactly (expr_range_of E.tree) (OfKind is_range) input.old result input.new }
+        ensures others { RefusesOthers is_range WantedKind.Range input.old result }
+    {
+        E::parse_expr_range(input)
     }
 }

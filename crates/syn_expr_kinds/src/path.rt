@@ -2,7 +2,7 @@
 
 ghost use Rattle.std.specs.Prelude.{◌≡◌, ◌&&◌, map};
 ghost use Rattle.std.specs.Str.{bytes_eq};
-ghost use Rattle.syn_grammar.specs.Stands as stands;
+ghost use Rattle.syn_grammar.specs.Path as paths;
 ghost use Rattle.syn_lower.specs.View.{arguments_of, path_of, qself_or, segment_of, type_of, values};
 ghost use Rattle.syn_parts.specs.Part as part;
 
@@ -21,7 +21,7 @@ fn is_plain(segment: &PathSegment, word: &str) -> bool
 /// Whether this word is the only segment.
 #[tactic(auto, unfolding(syn_lower_lists::specs::View::values))]
 fn is_sole(segments: &Punctuated<PathSegment, PathSep>, word: &str) -> bool
-    ensures { result ≡ stands.is_sole word.now (map (segment_of type_of) (values segments.now)) }
+    ensures { result ≡ paths.is_sole word.now (map (segment_of type_of) (values segments.now)) }
 {
     match (segments.inner.as_slice(), &segments.last) {
         ([], Some(segment)) => is_plain(segment, word),
@@ -32,7 +32,7 @@ fn is_sole(segments: &Punctuated<PathSegment, PathSep>, word: &str) -> bool
 
 /// Whether a path is this word alone.
 pub fn is_word_alone(qself: &Option<QSelf>, path: &Path, word: &str) -> bool
-    ensures { result ≡ stands.is_word_alone word.now (qself_or type_of qself.now) (path_of type_of path.now) }
+    ensures { result ≡ paths.is_word_alone word.now (qself_or type_of qself.now) (path_of type_of path.now) }
 {
     qself.is_none() && path.leading_colon.is_none() && is_sole(&path.segments, word)
 }

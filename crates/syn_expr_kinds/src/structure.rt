@@ -2,6 +2,8 @@
 #![tactic(auto, using(crate::proofs::Shapes::shapes))]
 
 ghost use Rattle.std.specs.Prelude.{◌≡◌, Some};
+ghost use Rattle.syn_grammar.specs.Alone.{StructAlone};
+ghost use Rattle.syn_expr_kinds.specs.Exactly.{ReadsExactly};
 ghost use Rattle.syn_grammar.specs.Tree.{Tree};
 ghost use Rattle.syn_pat_kinds.specs.View.{PatView};
 ghost use Rattle.syn_expr_kinds.specs.Node.{frame_at, frame_seen, operands_at, operands_of};
@@ -9,12 +11,13 @@ ghost use Rattle.syn_expr_kinds.specs.Pats.{ArmView};
 ghost use Rattle.syn_expr_kinds.specs.View.{expr_struct_of};
 
 use crate::node::{Attributes, Frame, Operands};
+use crate::parse::ParseKinds;
 use crate::shape::PutShape;
 use syn_expr_parts::member::Member;
 use syn_lower::attr::Attribute;
 use syn_lower::path::{Path, QSelf};
 use syn_lower::punctuated::Punctuated;
-use syn_tokens::buffer::ToTokens;
+use syn_tokens::buffer::{Parse, ParseBuffer, ToTokens};
 use syn_tokens::error::Result;
 use syn_tokens::token::{Brace, Colon, Comma, DotDot};
 use syn_tokens::tree::TokenStream;
@@ -101,5 +104,31 @@ impl<E: PutShape> ToTokens for FieldValueOf<E> {
     fn to_tokens(&self, tokens: &mut TokenStream) -> Result<()> {
         E::put_field(tokens, self)?;
         Ok(())
+    }
+}
+
+impl<E: ParseKinds> Parse for ExprStructOf<E> {
+    ghost use Rattle.syn_expr_kinds.specs.View.{expr_struct_of};
+    ghost use Rattle.syn_grammar.specs.Alone.{StructAlone};
+    ghost use Rattle.syn_grammar.specs.Tree.{Tree};
+
+    ghost Seen = { Tree };
+
+    ghost seen = { expr_struct_of E.tree };
+
+    /// A struct expression stands before the rest; its path may be `try`.
+    ghost spells = { StructAlone };
+
+    ghost least = { 1 };
+
+    /// Reads a struct expression, without attributes before it (Rust Reference, "Struct expressions"). Its path may be
+    /// `try`.
+    ///
+    /// It is refused, memory aside, only where none stands, and the input then stays where it was: as a path is, as
+    /// `ExpectedToken` of `{` or of a comma, and as its fields are.
+    fn parse(input: &mut ParseBuffer<'_>) -> Result<Self>
+        ensures { ReadsExactly (expr_struct_of E.tree) StructAlone input.old result input.new }
+    {
+        E::parse_expr_struct(input)
     }
 }

@@ -2,6 +2,8 @@
 #![tactic(auto, using(crate::proofs::Shapes::shapes))]
 
 ghost use Rattle.std.specs.Prelude.{◌≡◌, Some};
+ghost use Rattle.syn_grammar.specs.Alone.{OfKind, is_await, is_call, is_field, is_index, is_method_call, is_try};
+ghost use Rattle.syn_expr_kinds.specs.Exactly.{ReadsExactly, RefusesOthers};
 ghost use Rattle.syn_grammar.specs.Tree.{Tree};
 ghost use Rattle.syn_expr_kinds.specs.Node.{operands_at, operands_of, trailer_at, trailer_of};
 ghost use Rattle.syn_expr_kinds.specs.Pats.{ArmView};
@@ -9,6 +11,7 @@ ghost use Rattle.syn_expr_kinds.specs.View.{expr_await_of, expr_call_of, expr_fi
 ghost use Rattle.syn_expr_notes.specs.Kind.{kind_at};
 
 use crate::node::{Attributes, Operands, Trailer};
+use crate::parse::ParseKinds;
 use crate::shape::PutShape;
 use syn_expr_notes::kind::NodeKind;
 use syn_expr_notes::label::TrailerKind;
@@ -16,8 +19,8 @@ use syn_expr_parts::member::Member;
 use syn_lower::attr::Attribute;
 use syn_lower::path::AngleBracketedGenericArguments;
 use syn_lower::punctuated::Punctuated;
-use syn_tokens::buffer::ToTokens;
-use syn_tokens::error::Result;
+use syn_tokens::buffer::{Parse, ParseBuffer, ToTokens};
+use syn_tokens::error::{Result, WantedKind};
 use syn_tokens::token::{Await, Bracket, Comma, Dot, Paren, Question};
 use syn_tokens::tree::{Ident, TokenStream};
 
@@ -328,5 +331,172 @@ impl<E: PutShape> ToTokens for ExprTryOf<E> {
         let trailer = Trailer::Try(&self.question_token);
         E::put_trailed(tokens, Attributes::Before(&self.attrs), &self.expr, trailer)?;
         Ok(())
+    }
+}
+
+impl<E: ParseKinds> Parse for ExprAwaitOf<E> {
+    ghost use Rattle.syn_expr_kinds.specs.View.{expr_await_of};
+    ghost use Rattle.syn_grammar.specs.Alone.{OfKind, is_await};
+    ghost use Rattle.syn_grammar.specs.Tree.{Tree};
+
+    ghost Seen = { Tree };
+
+    ghost seen = { expr_await_of E.tree };
+
+    /// An expression stands before the rest, by the binding rules, that is `.await` behind an operand.
+    ghost spells = { OfKind is_await };
+
+    ghost least = { 1 };
+
+    /// Reads an expression that is `.await` behind an operand, with attributes before it or without (Rust Reference,
+    /// "Await expressions"). Invisible groups that it stands in are looked through, and left out with the attributes
+    /// before them.
+    ///
+    /// It is refused, memory aside, only where none stands, and the input then stays where it was: as an expression is,
+    /// and where another kind stands, as `ExpectedExprKind`, from the first token of this to its last.
+    fn parse(input: &mut ParseBuffer<'_>) -> Result<Self>
+        ensures exact { ReadsExactly (expr_await_of E.tree) (OfKind is_await) input.old result input.new }
+        ensures others { RefusesOthers is_await WantedKind.Await input.old result }
+    {
+        E::parse_expr_await(input)
+    }
+}
+
+impl<E: ParseKinds> Parse for ExprCallOf<E> {
+    ghost use Rattle.syn_expr_kinds.specs.View.{expr_call_of};
+    ghost use Rattle.syn_grammar.specs.Alone.{OfKind, is_call};
+    ghost use Rattle.syn_grammar.specs.Tree.{Tree};
+
+    ghost Seen = { Tree };
+
+    ghost seen = { expr_call_of E.tree };
+
+    /// An expression stands before the rest, by the binding rules, that is a call.
+    ghost spells = { OfKind is_call };
+
+    ghost least = { 1 };
+
+    /// Reads an expression that is a call, with attributes before it or without (Rust Reference, "Call expressions").
+    /// Invisible groups that it stands in are looked through, and left out with the attributes before them.
+    ///
+    /// It is refused, memory aside, only where none stands, and the input then stays where it was: as an expression is,
+    /// and where another kind stands, as `ExpectedExprKind`, from the first token of this to its last.
+    fn parse(input: &mut ParseBuffer<'_>) -> Result<Self>
+        ensures exact { ReadsExactly (expr_call_of E.tree) (OfKind is_call) input.old result input.new }
+        ensures others { RefusesOthers is_call WantedKind.Call input.old result }
+    {
+        E::parse_expr_call(input)
+    }
+}
+
+impl<E: ParseKinds> Parse for ExprFieldOf<E> {
+    ghost use Rattle.syn_expr_kinds.specs.View.{expr_field_of};
+    ghost use Rattle.syn_grammar.specs.Alone.{OfKind, is_field};
+    ghost use Rattle.syn_grammar.specs.Tree.{Tree};
+
+    ghost Seen = { Tree };
+
+    ghost seen = { expr_field_of E.tree };
+
+    /// An expression stands before the rest, by the binding rules, that is a field behind an operand.
+    ghost spells = { OfKind is_field };
+
+    ghost least = { 1 };
+
+    /// Reads an expression that is a field behind an operand, with attributes before it or without (Rust Reference,
+    /// "Field access expressions", "Tuple indexing expressions"). Invisible groups that it stands in are looked
+    /// through, and left out with the attributes before them.
+    ///
+    /// It is refused, memory aside, only where none stands, and the input then stays where it was: as an expression is,
+    /// and where another kind stands, as `ExpectedExprKind`, from the first token of this to its last.
+    fn parse(input: &mut ParseBuffer<'_>) -> Result<Self>
+        ensures exact { ReadsExactly (expr_field_of E.tree) (OfKind is_field) input.old result input.new }
+        ensures others { RefusesOthers is_field WantedKind.Field input.old result }
+    {
+        E::parse_expr_field(input)
+    }
+}
+
+impl<E: ParseKinds> Parse for ExprIndexOf<E> {
+    ghost use Rattle.syn_expr_kinds.specs.View.{expr_index_of};
+    ghost use Rattle.syn_grammar.specs.Alone.{OfKind, is_index};
+    ghost use Rattle.syn_grammar.specs.Tree.{Tree};
+
+    ghost Seen = { Tree };
+
+    ghost seen = { expr_index_of E.tree };
+
+    /// An expression stands before the rest, by the binding rules, that is an index behind an operand.
+    ghost spells = { OfKind is_index };
+
+    ghost least = { 1 };
+
+    /// Reads an expression that is an index behind an operand, with attributes before it or without (Rust Reference,
+    /// "Array and slice indexing expressions"). Invisible groups that it stands in are looked through, and left out
+    /// with the attributes before them.
+    ///
+    /// It is refused, memory aside, only where none stands, and the input then stays where it was: as an expression is,
+    /// and where another kind stands, as `ExpectedExprKind`, from the first token of this to its last.
+    fn parse(input: &mut ParseBuffer<'_>) -> Result<Self>
+        ensures exact { ReadsExactly (expr_index_of E.tree) (OfKind is_index) input.old result input.new }
+        ensures others { RefusesOthers is_index WantedKind.Index input.old result }
+    {
+        E::parse_expr_index(input)
+    }
+}
+
+impl<E: ParseKinds> Parse for ExprMethodCallOf<E> {
+    ghost use Rattle.syn_expr_kinds.specs.View.{expr_method_call_of};
+    ghost use Rattle.syn_grammar.specs.Alone.{OfKind, is_method_call};
+    ghost use Rattle.syn_grammar.specs.Tree.{Tree};
+
+    ghost Seen = { Tree };
+
+    ghost seen = { expr_method_call_of E.tree };
+
+    /// An expression stands before the rest, by the binding rules, that is the call of a method.
+    ghost spells = { OfKind is_method_call };
+
+    ghost least = { 1 };
+
+    /// Reads an expression that is the call of a method, with attributes before it or without (Rust Reference,
+    /// "Method-call expressions"). Invisible groups that it stands in are looked through, and left out with the
+    /// attributes before them.
+    ///
+    /// It is refused, memory aside, only where none stands, and the input then stays where it was: as an expression is,
+    /// and where another kind stands, as `ExpectedExprKind`, from the first token of this to its last.
+    fn parse(input: &mut ParseBuffer<'_>) -> Result<Self>
+        ensures exact { ReadsExactly (expr_method_call_of E.tree) (OfKind is_method_call) input.old result input.new }
+        ensures others { RefusesOthers is_method_call WantedKind.MethodCall input.old result }
+    {
+        E::parse_expr_method_call(input)
+    }
+}
+
+impl<E: ParseKinds> Parse for ExprTryOf<E> {
+    ghost use Rattle.syn_expr_kinds.specs.View.{expr_try_of};
+    ghost use Rattle.syn_grammar.specs.Alone.{OfKind, is_try};
+    ghost use Rattle.syn_grammar.specs.Tree.{Tree};
+
+    ghost Seen = { Tree };
+
+    ghost seen = { expr_try_of E.tree };
+
+    /// An expression stands before the rest, by the binding rules, that is `?` behind an operand.
+    ghost spells = { OfKind is_try };
+
+    ghost least = { 1 };
+
+    /// Reads an expression that is `?` behind an operand, with attributes before it or without (Rust Reference, "The
+    /// try propagation expression"). Invisible groups that it stands in are looked through, and left out with the
+    /// attributes before them.
+    ///
+    /// It is refused, memory aside, only where none stands, and the input then stays where it was: as an expression is,
+    /// and where another kind stands, as `ExpectedExprKind`, from the first token of this to its last.
+    fn parse(input: &mut ParseBuffer<'_>) -> Result<Self>
+        ensures exact { ReadsExactly (expr_try_of E.tree) (OfKind is_try) input.old result input.new }
+        ensures others { RefusesOthers is_try WantedKind.Try input.old result }
+    {
+        E::parse_expr_try(input)
     }
 }

@@ -14,16 +14,89 @@ ghost use Rattle.syn_lower_lists.specs.View.{values, trails};
 ghost use Rattle.syn_tokens.specs.Front.{is_empty};
 ghost use Rattle.syn_tokens.specs.Tok.{weight};
 
+use std::alloc::{AllocError, Global};
 use syn_expr_ends::kinds::ReadExprs;
 use syn_expr_ends::place::PLAIN;
 use syn_expr_heads::ending::comma_or_end;
 use syn_expr_kinds::atom::{ExprArrayOf, ExprParenOf, ExprRepeatOf, ExprTupleOf};
+use syn_expr_kinds::kinds::IsExpr;
 use syn_grammar::kinds::Place;
 use syn_lower_leaves::front::{comma, semi};
 use syn_lower_lists::punctuated::Punctuated;
 use syn_tokens::buffer::ParseBuffer;
 use syn_tokens::error::{ErrorKind, Result};
-use syn_tokens::token::{Bracket, Comma, Paren};
+use syn_tokens::token::{Bracket, Comma, Paren, Semi};
+
+/// An array of these elements.
+// Not in the frame of its caller, which is on the stack once for each level of a tree.
+#[inline(never)]
+#[tactic(auto, unfolding(syn_expr_kinds::specs::Attrs::attrs_of))]
+fn array<E: IsExpr + Drop>(
+    alloc: Global,
+    bracket_token: Bracket,
+    elems: Punctuated<E, Comma>,
+) -> std::result::Result<Box<E>, AllocError>
+    ensures { IfOk result (λ b. E.tree b.value ≡ e.frame e.array (elements (map E.tree (values elems)) (trails elems))) }
+{
+    let attrs = Vec::new(alloc);
+    let x = E::array(ExprArrayOf {
+        attrs,
+        bracket_token,
+        elems,
+    });
+    Ok(Box::new(alloc, x)?)
+}
+
+/// An array of one element that is repeated.
+// Not in the frame of its caller, which is on the stack once for each level of a tree.
+#[inline(never)]
+#[tactic(auto, unfolding(syn_expr_kinds::specs::Attrs::attrs_of))]
+fn repeat<E: IsExpr + Drop>(
+    alloc: Global,
+    bracket_token: Bracket,
+    expr: Box<E>,
+    semi_token: Semi,
+    len: Box<E>,
+) -> std::result::Result<Box<E>, AllocError>
+    ensures { IfOk result (λ b. E.tree b.value ≡ e.frame e.repeat (e.kid e.repeated e.no_ending (E.tree expr.value) (e.kid e.value e.no_ending (E.tree len.value) e.none))) }
+{
+    let attrs = Vec::new(alloc);
+    let x = E::repeat(ExprRepeatOf {
+        attrs,
+        bracket_token,
+        expr,
+        semi_token,
+        len,
+    });
+    Ok(Box::new(alloc, x)?)
+}
+
+/// An expression in parentheses, where it is one and no comma is behind it; else a tuple.
+// Not in the frame of its caller, which is on the stack once for each level of a tree.
+#[inline(never)]
+#[tactic(auto, using(crate::proofs::Elements::rounds), unfolding(syn_expr_kinds::specs::Attrs::attrs_of))]
+fn rounded<E: IsExpr + Drop>(
+    alloc: Global,
+    paren_token: Paren,
+    elems: Punctuated<E, Comma>,
+) -> std::result::Result<Box<E>, AllocError>
+    ensures { IfOk result (λ b. E.tree b.value ≡ read.rounded read.expr (elements (map E.tree (values elems)) (trails elems))) }
+{
+    let attrs = Vec::new(alloc);
+    let x = match elems.into_one() {
+        Ok(expr) => E::paren(ExprParenOf {
+            attrs,
+            paren_token,
+            expr,
+        }),
+        Err(elems) => E::tuple(ExprTupleOf {
+            attrs,
+            paren_token,
+            elems,
+        }),
+    };
+    Ok(Box::new(alloc, x)?)
+}
 
 /// The readers over that of the expressions inside.
 #[derive(Clone, Copy)]
@@ -104,7 +177,7 @@ impl<E: ReadExprs + Drop, F: Fn(&mut ParseBuffer<'_>, Place) -> Result<Box<E>>> 
 
     /// Reads a tuple, or an expression in parentheses: one without a comma (Rust Reference, "Tuple expressions", "Grouped
     /// expressions"). Another token is refused as `ExpectedToken` of `(`, a missing comma as `ExpectedToken` of it.
-    #[tactic(auto, using(crate::proofs::Elements::rounds), unfolding(syn_grammar::specs::Read::content, syn_grammar::specs::Read::round_read, syn_expr_kinds::specs::Attrs::attrs_of))]
+    #[tactic(auto, unfolding(syn_grammar::specs::Read::content, syn_grammar::specs::Read::round_read))]
     pub fn round(&self, input: &mut ParseBuffer<'_>) -> Result<Box<E>>
         requires callable { Callable (weight input.old.rest) (F.pre self.now.expr) }
         requires reads { ReadsExpr E.tree (F.post self.now.expr) }
@@ -112,25 +185,14 @@ impl<E: ReadExprs + Drop, F: Fn(&mut ParseBuffer<'_>, Place) -> Result<Box<E>>> 
         ensures noted { input.new.noted ≡ input.old.noted }
         ensures shrinks { weight input.new.rest ≤ weight input.old.rest }
     {
-        let attrs = Vec::new(input.alloc());
         let (paren_token, elems) = self.arguments(input)?;
-        let x = match elems.into_one() {
-            Ok(expr) => E::paren(ExprParenOf {
-                attrs,
-                paren_token,
-                expr,
-            }),
-            Err(elems) => E::tuple(ExprTupleOf {
-                attrs,
-                paren_token,
-                elems,
-            }),
-        };
-        Ok(Box::new(input.alloc(), x)?)
+        Ok(rounded(input.alloc(), paren_token, elems)?)
     }
 
     /// Reads an index in its brackets (Rust Reference, "Array and slice indexing expressions"). Another token is refused as
     /// `ExpectedToken` of `[`, what is left behind the index as `UnexpectedToken`.
+    // Not in the frame of its caller, which is on the stack once for each level of a tree.
+    #[inline(never)]
     #[tactic(auto, using(crate::proofs::Elements::singles), unfolding(crate::specs::Elements::single, syn_grammar::specs::Read::content))]
     pub fn index(&self, input: &mut ParseBuffer<'_>) -> Result<(Bracket, Box<E>)>
         requires callable { Callable (weight input.old.rest) (F.pre self.now.expr) }
@@ -149,6 +211,8 @@ impl<E: ReadExprs + Drop, F: Fn(&mut ParseBuffer<'_>, Place) -> Result<Box<E>>> 
 
     /// Reads the elements of an array behind the first expression in its brackets. A missing comma is refused as
     /// `ExpectedCommaOrSemi`.
+    // Not in the frame of its caller, which is on the stack once for each level of a tree.
+    #[inline(never)]
     #[tactic(auto, using(crate::proofs::Elements::firsts))]
     fn behind_first(
         &self,
@@ -174,45 +238,34 @@ impl<E: ReadExprs + Drop, F: Fn(&mut ParseBuffer<'_>, Place) -> Result<Box<E>>> 
     }
 
     /// Reads what stands in brackets.
-    #[tactic(auto, unfolding(crate::specs::Elements::bracketed, crate::specs::Elements::single, syn_expr_kinds::specs::Attrs::attrs_of))]
-    fn bracketed(&self, input: &mut ParseBuffer<'_>, bracket_token: Bracket) -> Result<E>
+    // Not in the frame of its caller, which is on the stack once for each level of a tree.
+    #[inline(never)]
+    #[tactic(auto, unfolding(crate::specs::Elements::bracketed, crate::specs::Elements::single))]
+    fn bracketed(&self, input: &mut ParseBuffer<'_>, bracket_token: Bracket) -> Result<Box<E>>
         requires callable { Callable (weight input.old.rest + 1) (F.pre self.now.expr) }
         requires reads { ReadsExpr E.tree (F.post self.now.expr) }
-        ensures value { Reads E.tree (bracketed input.old.rest) result input.new.rest }
+        ensures value { Reads (λ b. E.tree b.value) (bracketed input.old.rest) result input.new.rest }
         ensures noted { input.new.noted ≡ input.old.noted }
         ensures shrinks { weight input.new.rest ≤ weight input.old.rest }
     {
-        let attrs = Vec::new(input.alloc());
         if input.is_empty() {
             let elems = Punctuated::new(input.alloc());
-            return Ok(E::array(ExprArrayOf {
-                attrs,
-                bracket_token,
-                elems,
-            }));
+            return Ok(array(input.alloc(), bracket_token, elems)?);
         }
         let expr = (self.expr)(input, PLAIN)?;
         if let Some(semi_token) = semi(input) {
             let len = (self.expr)(input, PLAIN)?;
-            return Ok(E::repeat(ExprRepeatOf {
-                attrs,
-                bracket_token,
-                expr,
-                semi_token,
-                len,
-            }));
+            return Ok(repeat(input.alloc(), bracket_token, expr, semi_token, len)?);
         }
         let elems = self.behind_first(input, expr)?;
-        Ok(E::array(ExprArrayOf {
-            attrs,
-            bracket_token,
-            elems,
-        }))
+        Ok(array(input.alloc(), bracket_token, elems)?)
     }
 
     /// Reads an array of its elements, or of one that is repeated (Rust Reference, "Array expressions"). Another token is
     /// refused as `ExpectedToken` of `[`, a missing sign behind the first element as `ExpectedCommaOrSemi`, a missing comma
     /// behind another as `ExpectedToken` of it, and what is left behind the length as `UnexpectedToken`.
+    // Not in the frame of its caller, which is on the stack once for each level of a tree.
+    #[inline(never)]
     #[tactic(auto, using(crate::proofs::Elements::brackets))]
     pub fn bracket(&self, input: &mut ParseBuffer<'_>) -> Result<Box<E>>
         requires callable { Callable (weight input.old.rest) (F.pre self.now.expr) }
@@ -226,6 +279,6 @@ impl<E: ReadExprs + Drop, F: Fn(&mut ParseBuffer<'_>, Place) -> Result<Box<E>>> 
         if !content.is_empty() {
             return Err(content.error(ErrorKind::UnexpectedToken));
         }
-        Ok(Box::new(input.alloc(), x)?)
+        Ok(x)
     }
 }

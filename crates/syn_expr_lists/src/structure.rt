@@ -2,10 +2,11 @@
 
 ghost use Rattle.std.specs.Prelude.{◌≡◌, ◌≤◌, ◌+◌, None};
 ghost use Rattle.syn_expr_ends.specs.Reads.{Callable, ReadsExpr};
-ghost use Rattle.syn_expr_kinds.specs.View.{boxed, field_value_of};
+ghost use Rattle.syn_expr_kinds.specs.View.{boxed, expr_struct_of, field_value_of};
 ghost use Rattle.syn_expr_lists.specs.Fields.{base, braced, entry, one_field, value_at};
 ghost use Rattle.syn_expr_lists.specs.View.{entry_of, fields_of};
 ghost use Rattle.syn_expr_parts.specs.View.{member_of};
+ghost use Rattle.syn_grammar.specs.AloneRead as alone;
 ghost use Rattle.syn_grammar.specs.Read as read;
 ghost use Rattle.syn_lower.specs.View.{path_of, qself_or, type_of};
 ghost use Rattle.syn_lower_leaves.specs.Reads.{Reads};
@@ -61,6 +62,8 @@ fn without_rest<E>(fields: Punctuated<FieldValueOf<E>, Comma>) -> Fields<E>
 
 impl<E: ReadExprs + Drop, F: Fn(&mut ParseBuffer<'_>, Place) -> Result<Box<E>>> Lists<F> {
     /// Reads the value of a field behind its colon; without one a name says it.
+    // Not in the frame of its caller, which is on the stack once for each level of a tree.
+    #[inline(never)]
     fn value(&self, input: &mut ParseBuffer<'_>, member: &Member, has_colon: bool) -> Result<E>
         requires callable { Callable (weight input.old.rest + 1) (F.pre self.now.expr) }
         requires reads { ReadsExpr E.tree (F.post self.now.expr) }
@@ -107,6 +110,8 @@ impl<E: ReadExprs + Drop, F: Fn(&mut ParseBuffer<'_>, Place) -> Result<Box<E>>> 
     }
 
     /// Reads the expression behind `..`, to the end of the input, or nothing there.
+    // Not in the frame of its caller, which is on the stack once for each level of a tree.
+    #[inline(never)]
     #[tactic(auto)]
     fn base(&self, input: &mut ParseBuffer<'_>) -> Result<Option<Box<E>>>
         requires callable { Callable (weight input.old.rest + 1) (F.pre self.now.expr) }
@@ -126,6 +131,8 @@ impl<E: ReadExprs + Drop, F: Fn(&mut ParseBuffer<'_>, Place) -> Result<Box<E>>> 
     }
 
     /// Reads a field with its comma, or `..` and what is behind it.
+    // Not in the frame of its caller, which is on the stack once for each level of a tree.
+    #[inline(never)]
     #[tactic(auto, unfolding(crate::specs::Fields::entry, syn_expr_kinds::specs::Attrs::attrs_of))]
     fn entry(&self, input: &mut ParseBuffer<'_>) -> Result<Entry<E>>
         requires callable { Callable (weight input.old.rest + 1) (F.pre self.now.expr) }
@@ -154,6 +161,8 @@ impl<E: ReadExprs + Drop, F: Fn(&mut ParseBuffer<'_>, Place) -> Result<Box<E>>> 
     }
 
     /// Reads what stands in the braces, to the end of the input.
+    // Not in the frame of its caller, which is on the stack once for each level of a tree.
+    #[inline(never)]
     #[tactic(auto, using(crate::proofs::Fields::turns))]
     fn fields(&self, input: &mut ParseBuffer<'_>) -> Result<Fields<E>>
         requires callable { Callable (weight input.old.rest + 1) (F.pre self.now.expr) }
@@ -184,12 +193,46 @@ impl<E: ReadExprs + Drop, F: Fn(&mut ParseBuffer<'_>, Place) -> Result<Box<E>>> 
         Ok(without_rest(fields))
     }
 
-    /// Reads a struct expression behind its path: the braces, in them fields with commas between, and perhaps `..` behind
-    /// them, with an expression or without (Rust Reference, "Struct expressions"). None stands before the block of a
-    /// condition, nor behind the path `try`: there it is refused as `UnexpectedToken`. Another token is refused as `ExpectedToken`
-    /// of `{`, a missing comma as `ExpectedToken` of it, what stands behind the expression of `..` as `UnexpectedToken`, and a
-    /// field as `field` refuses it.
-    #[tactic(auto, using(crate::proofs::Structures::structures), unfolding(syn_expr_kinds::specs::Attrs::attrs_of))]
+    /// Reads a struct expression behind its path, whatever path that is: the braces, in them fields with commas between, and
+    /// perhaps `..` behind them, with an expression or without (Rust Reference, "Struct expressions"). Another token is refused
+    /// as `ExpectedToken` of `{`, a missing comma as `ExpectedToken` of it, what stands behind the expression of `..` as
+    /// `UnexpectedToken`, and a field as `field` refuses it.
+    #[tactic(auto, using(crate::proofs::Structures::behind), unfolding(syn_expr_kinds::specs::Attrs::attrs_of))]
+    pub fn structure_behind(
+        &self,
+        input: &mut ParseBuffer<'_>,
+        qself: Option<QSelf>,
+        path: Path,
+    ) -> Result<ExprStructOf<E>>
+        requires callable { Callable (weight input.old.rest) (F.pre self.now.expr) }
+        requires reads { ReadsExpr E.tree (F.post self.now.expr) }
+        ensures value { Reads (expr_struct_of E.tree) (alone.structure_behind (qself_or type_of qself, path_of type_of path) input.old.rest) result input.new.rest }
+        ensures noted { input.new.noted ≡ input.old.noted }
+        ensures shrinks { weight input.new.rest ≤ weight input.old.rest }
+    {
+        let (brace_token, mut content) = input.parse_braces()?;
+        let Fields {
+            fields,
+            dot2_token,
+            rest,
+        } = self.fields(&mut content)?;
+        let attrs = Vec::new(input.alloc());
+        Ok(ExprStructOf {
+            attrs,
+            qself,
+            path,
+            brace_token,
+            fields,
+            dot2_token,
+            rest,
+        })
+    }
+
+    /// Reads a struct expression behind its path, where one may stand: none does before the block of a condition, nor behind
+    /// the path `try`. There it is refused as `UnexpectedToken`, else as `structure_behind` refuses it.
+    // Not in the frame of its caller, which is on the stack once for each level of a tree.
+    #[inline(never)]
+    #[tactic(auto, using(crate::proofs::Structures::structures))]
     pub fn structure(
         &self,
         input: &mut ParseBuffer<'_>,
@@ -206,22 +249,7 @@ impl<E: ReadExprs + Drop, F: Fn(&mut ParseBuffer<'_>, Place) -> Result<Box<E>>> 
         if place.condition || is_word_alone(&qself, &path, "try") {
             return Err(input.error(ErrorKind::UnexpectedToken));
         }
-        let (brace_token, mut content) = input.parse_braces()?;
-        let Fields {
-            fields,
-            dot2_token,
-            rest,
-        } = self.fields(&mut content)?;
-        let attrs = Vec::new(input.alloc());
-        let x = E::struct_expr(ExprStructOf {
-            attrs,
-            qself,
-            path,
-            brace_token,
-            fields,
-            dot2_token,
-            rest,
-        });
-        Ok(Box::new(input.alloc(), x)?)
+        let x = self.structure_behind(input, qself, path)?;
+        Ok(Box::new(input.alloc(), E::struct_expr(x))?)
     }
 }

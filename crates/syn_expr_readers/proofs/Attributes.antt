@@ -7,7 +7,6 @@ use Rattle.syn_parts.specs.Tree.{AttributeTree}
 use Rattle.syn_parts.specs.Mark.{pound}
 use Rattle.syn_parts.specs.Part.{outer_attributes}
 use Rattle.syn_parts.proofs.Same.{same_toks-refl}
-use Rattle.syn_parts.specs.PatFits.{attributes_outer}
 use Rattle.syn_grammar.specs.declared.kinds.Place.{Place}
 use Rattle.syn_grammar.specs.Tree as tr
 use Rattle.syn_grammar.specs.Tree.{Tree, adorn, adorned, leaf}
@@ -17,13 +16,10 @@ use Rattle.syn_expr_readers.specs.Loops.{outer_operand, with_outer}
 use Rattle.syn_grammar.proofs.Needs.{heads}
 use Rattle.syn_grammar.proofs.HeadMoves.{left, taken_is}
 use Rattle.syn_grammar.proofs.Lesses.{here}
-use Rattle.syn_expr_kinds.proofs.Outers.{outer_behind}
+use Rattle.syn_expr_kinds.proofs.Outers.{outers_are}
 
 pub outers_left : (l m : List Tok) (ats : List AttributeTree) → outer_attributes.reads l ≡ Some (ats, m) → IsTail m l
 outers_left l m ats h = left here.outer ats l m (heads.outers.sound l ats m h)
-
-pub outers_are : (l m : List Tok) (ats : List AttributeTree) → outer_attributes.reads l ≡ Some (ats, m) → attributes_outer ats ≡ true
-outers_are l m ats h = outer_behind ats l m (heads.outers.sound l ats m h)
 
 -- ---- where `#` stands there is one
 

@@ -6,6 +6,7 @@ use Rattle.syn_parts.specs.Form.{and_then}
 use Rattle.syn_grammar.specs.declared.kinds.Place.{Place}
 use Rattle.syn_grammar.specs.Place.{plain}
 use Rattle.syn_grammar.specs.Front.{bracket_at}
+use Rattle.syn_grammar.specs.Path.{invisible_at}
 use Rattle.syn_grammar.specs.Slot.{if_word, match_word}
 use Rattle.syn_grammar.specs.Tree as e
 use Rattle.syn_grammar.specs.Read as r
@@ -13,9 +14,92 @@ use Rattle.syn_grammar.specs.Read.{atom as atom_read, expr}
 use Rattle.syn_expr_front.specs.Begins.{atom_of}
 use Rattle.syn_expr_front.specs.declared.start.Atom.TheVariants as atom
 use Rattle.syn_expr_front.proofs.Choices.{atoms_are_chosen}
+use Rattle.syn_expr_atoms.specs.Led.{closed_leaf}
+use Rattle.syn_expr_atoms.proofs.Closed.{closed_leaf_is}
+use Rattle.syn_expr_readers.specs.Groups.{named, group}
+use Rattle.syn_expr_readers.proofs.Groups.{named_read_is, group_is}
 
-pub first-leaf : (p : Place) (l : List Tok) → atom_of l ≡ atom.Leaf → atom_read expr p l ≡ r.leaf_read p l
-first-leaf p l h = atoms_are_chosen expr p l ∙ rw h refl
+-- ---- the tests that the choice tells
+
+first : (a b c d e f g h i : Bool) → cond a atom.Leaf (cond b atom.Lead (cond c atom.Parenthesis (cond d atom.Bracket (cond e atom.Become (cond f atom.If (cond g atom.Loop (cond h atom.Match (cond i atom.Group atom.Named)))))))) ≡ atom.Leaf → a ≡ true
+first true b c d e f g h i j = refl
+first false true c d e f g h i j = absurd cc
+first false false true d e f g h i j = absurd cc
+first false false false true e f g h i j = absurd cc
+first false false false false true f g h i j = absurd cc
+first false false false false false true g h i j = absurd cc
+first false false false false false false true h i j = absurd cc
+first false false false false false false false true i j = absurd cc
+first false false false false false false false false true j = absurd cc
+first false false false false false false false false false j = absurd cc
+
+leaf-first : (l : List Tok) → atom_of l ≡ atom.Leaf → r.leaf_at l ≡ true
+leaf-first l h = first (r.leaf_at l) (r.lead_at l) (round_at l) (bracket_at l) (r.become_word.at l) (if_word.at l) (r.loop_head_at l) (match_word.at l) (invisible_at l) h
+
+last : (a b c d e f g h i : Bool) → cond a atom.Leaf (cond b atom.Lead (cond c atom.Parenthesis (cond d atom.Bracket (cond e atom.Become (cond f atom.If (cond g atom.Loop (cond h atom.Match (cond i atom.Group atom.Named)))))))) ≡ atom.Named → i ≡ false
+last true b c d e f g h i j = absurd cc
+last false true c d e f g h i j = absurd cc
+last false false true d e f g h i j = absurd cc
+last false false false true e f g h i j = absurd cc
+last false false false false true f g h i j = absurd cc
+last false false false false false true g h i j = absurd cc
+last false false false false false false true h i j = absurd cc
+last false false false false false false false true i j = absurd cc
+last false false false false false false false false true j = absurd cc
+last false false false false false false false false false j = refl
+
+named-first : (l : List Tok) → atom_of l ≡ atom.Named → invisible_at l ≡ false
+named-first l h = last (r.leaf_at l) (r.lead_at l) (round_at l) (bracket_at l) (r.become_word.at l) (if_word.at l) (r.loop_head_at l) (match_word.at l) (invisible_at l) h
+
+sixth : (a b c d e f g h i : Bool) → cond a atom.Leaf (cond b atom.Lead (cond c atom.Parenthesis (cond d atom.Bracket (cond e atom.Become (cond f atom.If (cond g atom.Loop (cond h atom.Match (cond i atom.Group atom.Named)))))))) ≡ atom.If → f ≡ true
+sixth true b c d e f g h i j = absurd cc
+sixth false true c d e f g h i j = absurd cc
+sixth false false true d e f g h i j = absurd cc
+sixth false false false true e f g h i j = absurd cc
+sixth false false false false true f g h i j = absurd cc
+sixth false false false false false true g h i j = refl
+sixth false false false false false false true h i j = absurd cc
+sixth false false false false false false false true i j = absurd cc
+sixth false false false false false false false false true j = absurd cc
+sixth false false false false false false false false false j = absurd cc
+
+pub if-first : (l : List Tok) → atom_of l ≡ atom.If → if_word.at l ≡ true
+if-first l h = sixth (r.leaf_at l) (r.lead_at l) (round_at l) (bracket_at l) (r.become_word.at l) (if_word.at l) (r.loop_head_at l) (match_word.at l) (invisible_at l) h
+
+eighth : (a b c d e f g h i : Bool) → cond a atom.Leaf (cond b atom.Lead (cond c atom.Parenthesis (cond d atom.Bracket (cond e atom.Become (cond f atom.If (cond g atom.Loop (cond h atom.Match (cond i atom.Group atom.Named)))))))) ≡ atom.Match → h ≡ true
+eighth true b c d e f g h i j = absurd cc
+eighth false true c d e f g h i j = absurd cc
+eighth false false true d e f g h i j = absurd cc
+eighth false false false true e f g h i j = absurd cc
+eighth false false false false true f g h i j = absurd cc
+eighth false false false false false true g h i j = absurd cc
+eighth false false false false false false true h i j = absurd cc
+eighth false false false false false false false true i j = refl
+eighth false false false false false false false false true j = absurd cc
+eighth false false false false false false false false false j = absurd cc
+
+pub match-first : (l : List Tok) → atom_of l ≡ atom.Match → match_word.at l ≡ true
+match-first l h = eighth (r.leaf_at l) (r.lead_at l) (round_at l) (bracket_at l) (r.become_word.at l) (if_word.at l) (r.loop_head_at l) (match_word.at l) (invisible_at l) h
+
+ninth : (a b c d e f g h i : Bool) → cond a atom.Leaf (cond b atom.Lead (cond c atom.Parenthesis (cond d atom.Bracket (cond e atom.Become (cond f atom.If (cond g atom.Loop (cond h atom.Match (cond i atom.Group atom.Named)))))))) ≡ atom.Group → i ≡ true
+ninth true b c d e f g h i j = absurd cc
+ninth false true c d e f g h i j = absurd cc
+ninth false false true d e f g h i j = absurd cc
+ninth false false false true e f g h i j = absurd cc
+ninth false false false false true f g h i j = absurd cc
+ninth false false false false false true g h i j = absurd cc
+ninth false false false false false false true h i j = absurd cc
+ninth false false false false false false false true i j = absurd cc
+ninth false false false false false false false false true j = refl
+ninth false false false false false false false false false j = absurd cc
+
+pub group-first : (l : List Tok) → atom_of l ≡ atom.Group → invisible_at l ≡ true
+group-first l h = ninth (r.leaf_at l) (r.lead_at l) (round_at l) (bracket_at l) (r.become_word.at l) (if_word.at l) (r.loop_head_at l) (match_word.at l) (invisible_at l) h
+
+-- ---- what is read
+
+pub first-leaf : (p : Place) (l : List Tok) → atom_of l ≡ atom.Leaf → atom_read expr p l ≡ closed_leaf p l
+first-leaf p l h = atoms_are_chosen expr p l ∙ (rw h refl ∙ closed_leaf_is p l (leaf-first l h))
 
 pub first-lead : (p : Place) (l : List Tok) → atom_of l ≡ atom.Lead → atom_read expr p l ≡ r.lead_read expr p l
 first-lead p l h = atoms_are_chosen expr p l ∙ rw h refl
@@ -38,37 +122,10 @@ first-loop p l h = atoms_are_chosen expr p l ∙ rw h refl
 pub first-choice : (p : Place) (l : List Tok) → atom_of l ≡ atom.Match → atom_read expr p l ≡ r.framed_by expr p e.choice (drop 1 l)
 first-choice p l h = atoms_are_chosen expr p l ∙ rw h refl
 
-pub first-named : (p : Place) (l : List Tok) → atom_of l ≡ atom.Named → atom_read expr p l ≡ r.named_read expr p l
-first-named p l h = atoms_are_chosen expr p l ∙ rw h refl
+pub first-group : (p : Place) (l : List Tok) → atom_of l ≡ atom.Group → atom_read expr p l ≡ group p l
+first-group p l h = atoms_are_chosen expr p l ∙ (rw h refl ∙ group_is p l (group-first l h))
 
--- ---- the words
+pub first-named : (p : Place) (l : List Tok) → atom_of l ≡ atom.Named → atom_read expr p l ≡ named p l
+first-named p l h = atoms_are_chosen expr p l ∙ (rw h refl ∙ named_read_is p l (named-first l h))
 
-sixth : (a b c d e f g h : Bool) → cond a atom.Leaf (cond b atom.Lead (cond c atom.Parenthesis (cond d atom.Bracket (cond e atom.Become (cond f atom.If (cond g atom.Loop (cond h atom.Match atom.Named))))))) ≡ atom.If → f ≡ true
-sixth true b c d e f g h i = absurd cc
-sixth false true c d e f g h i = absurd cc
-sixth false false true d e f g h i = absurd cc
-sixth false false false true e f g h i = absurd cc
-sixth false false false false true f g h i = absurd cc
-sixth false false false false false true g h i = refl
-sixth false false false false false false true h i = absurd cc
-sixth false false false false false false false true i = absurd cc
-sixth false false false false false false false false i = absurd cc
-
-pub if-first : (l : List Tok) → atom_of l ≡ atom.If → if_word.at l ≡ true
-if-first l h = sixth (r.leaf_at l) (r.lead_at l) (round_at l) (bracket_at l) (r.become_word.at l) (if_word.at l) (r.loop_head_at l) (match_word.at l) h
-
-eighth : (a b c d e f g h : Bool) → cond a atom.Leaf (cond b atom.Lead (cond c atom.Parenthesis (cond d atom.Bracket (cond e atom.Become (cond f atom.If (cond g atom.Loop (cond h atom.Match atom.Named))))))) ≡ atom.Match → h ≡ true
-eighth true b c d e f g h i = absurd cc
-eighth false true c d e f g h i = absurd cc
-eighth false false true d e f g h i = absurd cc
-eighth false false false true e f g h i = absurd cc
-eighth false false false false true f g h i = absurd cc
-eighth false false false false false true g h i = absurd cc
-eighth false false false false false false true h i = absurd cc
-eighth false false false false false false false true i = refl
-eighth false false false false false false false false i = absurd cc
-
-pub match-first : (l : List Tok) → atom_of l ≡ atom.Match → match_word.at l ≡ true
-match-first l h = eighth (r.leaf_at l) (r.lead_at l) (round_at l) (bracket_at l) (r.become_word.at l) (if_word.at l) (r.loop_head_at l) (match_word.at l) h
-
-pub ruleset firsts = (first-leaf, first-lead, first-round, first-bracket, first-become, first-branch, first-loop, first-choice, first-named, if-first, match-first)
+pub ruleset firsts = (first-leaf, first-lead, first-round, first-bracket, first-become, first-branch, first-loop, first-choice, first-group, first-named, if-first, match-first, group-first)

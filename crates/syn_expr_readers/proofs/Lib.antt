@@ -3,8 +3,10 @@ pub mod Attributes
 pub mod Bases
 pub mod ByKind
 pub mod Firsts
+pub mod Groups
 pub mod Knots
 pub mod Loops
 pub mod Names
+pub mod Operators
 pub mod Stops
 pub mod Turns

@@ -16,11 +16,13 @@ use Rattle.syn_parts.specs.Tree as t
 use Rattle.syn_parts.specs.Part.{qpath, path, pieces, segment, segment_name, arguments, turbofish_at, no_arguments, macro_end, type}
 use Rattle.syn_parts.proofs.PatsBack.{reserved_not}
 use Rattle.syn_grammar.specs.declared.kinds.Place.{Place}
+use Rattle.syn_grammar.specs.Path.{invisible_at}
 use Rattle.syn_grammar.specs.Tree as e
 use Rattle.syn_grammar.specs.Head.{builtin_at}
 use Rattle.syn_grammar.specs.Stands.{leaf_stands, path_of}
 use Rattle.syn_grammar.specs.Read.{atom, named_read, expr}
 use Rattle.syn_grammar.proofs.Chains.{both_true, neither, not_true}
+use Rattle.syn_grammar.proofs.GroupForms.{plain_read}
 use Rattle.syn_grammar.proofs.NameFronts.{named_word, one_word, word_read}
 use Rattle.syn_expr_front.proofs.Names.{name_segment, try_reserved, no_try}
 use Rattle.syn_expr_readers.specs.Names.{may_go_on, is_alone}
@@ -51,7 +53,7 @@ unfolding builtin_at
 no_builtin w l h = rw h (and-false _)
 
 named_first : (w : Text) (l : List Tok) (p : Place) → is_reserved_word w ≡ false → Ended l → atom expr p (ident w ∷ l) ≡ named_read expr p (ident w ∷ l)
-unfolding atom
+unfolding atom invisible_at group_at
 named_first w l p h g =
     let n = named_word w l (name_segment w h) in
     rw (n.no_leaf (no_try w l h) (no_builtin w l g.no_pound), n.no_lead, n.no_round, n.no_bracket, n.no_become, n.no_if, n.no_loop, n.no_match) refl
@@ -76,9 +78,13 @@ name_stands : (w : Text) (l : List Tok) (p : Place) → is_reserved_word w ≡ f
 unfolding leaf_stands
 name_stands w l p h g = rw (g.no_brace, g.no_pound, reserved_not w (codes "try") h try_reserved) (by_tests p.condition (bytes_eq w (codes "builtin")))
 
+word_visible : (w : Text) (l : List Tok) → invisible_at (ident w ∷ l) ≡ false
+unfolding invisible_at group_at
+word_visible w l = refl
+
 named_alone : (w : Text) (l : List Tok) (p : Place) → is_reserved_word w ≡ false → Ended l → named_read expr p (ident w ∷ l) ≡ Some (path_of w, l)
 unfolding named_read macro_end one_word
-named_alone w l p h g = rw (word_path w l (name_segment w h) g.no_colons, g.no_bang, g.no_brace, name_stands w l p h g) refl
+named_alone w l p h g = rw (plain_read (not p.condition) (ident w ∷ l) (word_visible w l), word_path w l (name_segment w h) g.no_colons, g.no_bang, g.no_brace, name_stands w l p h g) refl
 
 word_alone : (w : Text) (l : List Tok) (p : Place) → is_alone (ident w ∷ l) ≡ true → atom expr p (ident w ∷ l) ≡ Some (path_of w, l)
 word_alone w l p h =

@@ -19,7 +19,6 @@ use Rattle.syn_grammar.specs.Front.{ends_open_range, dot_at, question_at, bracke
 use Rattle.syn_grammar.specs.Head.{dotted}
 use Rattle.syn_grammar.specs.Tree as tr
 use Rattle.syn_grammar.specs.Tree.{Tree, Kids, Post, Trailer, mid, post, tail, post_op}
-use Rattle.syn_grammar.specs.Slot as s
 use Rattle.syn_grammar.specs.Slot.{trailer_holder}
 use Rattle.syn_grammar.specs.Stands.{Content, closes, ends_operation, fits_left, fits_base, mid_stands, post_stands, rests, is_range, fields_of, name_at, indices_at, fields_head, trailer_head}
 use Rattle.syn_grammar.specs.Read.{Reading, content, trailed, trailed_by, indexed_by, dotted_by, trail, operation, post_made, mid_read, longer, closing, turn, climb, taken_by, taken_at, next_operator, expr}

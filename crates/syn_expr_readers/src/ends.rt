@@ -5,9 +5,9 @@ ghost use Rattle.syn_grammar.specs.Read as read;
 ghost use Rattle.syn_grammar.specs.Stands as stands;
 
 use crate::told::{carries, is_cast, is_range, rests};
+use syn_expr_ends::kinds::ReadExprs;
 use syn_expr_front::operator::{refuses_arrow, refuses_dots};
 use syn_expr_front::sign::{dot_at, question_at, trailer_at};
-use syn_expr_kinds::node::{HasKind, HasNode};
 use syn_grammar::kinds::{Infix, Level, Place};
 use syn_op::infix::infix_at;
 use syn_op::level::{level as level_of, takes};
@@ -27,7 +27,7 @@ fn goes_behind(input: &ParseBuffer<'_>, rests: bool) -> bool
 /// Whether no trailer is left behind what could carry it, nor behind a cast.
 #[inline(always)]
 #[tactic(auto, using(crate::proofs::Stops::closed), unfolding(syn_grammar::specs::Stands::closes))]
-pub fn closes<E: HasNode + HasKind>(input: &ParseBuffer<'_>, place: Place, x: &E) -> bool
+pub fn closes<E: ReadExprs>(input: &ParseBuffer<'_>, place: Place, x: &E) -> bool
     ensures { result ≡ stands.closes place (E.tree x.now) input.now.rest }
 {
     // Mostly none stands there at all, so that nothing is asked of the expression.
@@ -49,7 +49,7 @@ fn taken_at(input: &ParseBuffer<'_>, level: Level) -> Option<(Infix, usize)>
 }
 
 /// The operator that goes on a left operand: none goes on a range, nor on what is the whole.
-pub fn next_operator<E: HasKind>(
+pub fn next_operator<E: ReadExprs>(
     input: &ParseBuffer<'_>,
     place: Place,
     left: &E,
@@ -66,7 +66,7 @@ pub fn next_operator<E: HasKind>(
 /// Whether it may end here, where no operator goes on it: it is a range or the whole, or none of the tokens stands first that
 /// are refused there.
 #[tactic(auto, using(crate::proofs::Stops::stops))]
-pub fn stops<E: HasKind>(input: &ParseBuffer<'_>, place: Place, x: &E) -> bool
+pub fn stops<E: ReadExprs>(input: &ParseBuffer<'_>, place: Place, x: &E) -> bool
     requires { read.next_operator place (E.tree x.now) input.now.rest ≡ None }
     ensures { result ≡ stands.ends place (E.tree x.now) input.now.rest }
 {

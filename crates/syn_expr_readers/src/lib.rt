@@ -11,6 +11,7 @@ pub mod make;
 mod name;
 pub mod operands;
 pub mod operations;
+mod prefix;
 mod refusal;
 pub mod told;
 pub mod trailers;

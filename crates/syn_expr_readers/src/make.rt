@@ -3,28 +3,31 @@
 ghost use Rattle.std.specs.Prelude.{◌≡◌, IfOk, map};
 ghost use Rattle.syn_expr_kinds.specs.View as of;
 ghost use Rattle.syn_expr_parts.specs.View.{member_of};
+ghost use Rattle.syn_expr_readers.specs.Groups.{in_group};
 ghost use Rattle.syn_grammar.specs.Stands as stands;
 ghost use Rattle.syn_grammar.specs.Tree as e;
 ghost use Rattle.syn_grammar.specs.declared.kinds.Infix.TheVariants as inf;
-ghost use Rattle.syn_lower.specs.View.{type_of, values, trails};
-ghost use Rattle.syn_op.specs.View.{limits_kind};
+ghost use Rattle.syn_lower.specs.View.{path_of, qself_or, type_of, values, trails};
+ghost use Rattle.syn_op.specs.View.{limits_kind, un_kind};
 
 use std::alloc::{AllocError, Global};
-use syn_expr_kinds::atom::ExprPath;
+use syn_expr_kinds::atom::{ExprGroupOf, ExprPath};
 use syn_expr_kinds::kinds::IsExpr;
-use syn_expr_kinds::operation::{ExprAssignOf, ExprBinaryOf, ExprCastOf, ExprRangeOf};
+use syn_expr_kinds::operation::{ExprAssignOf, ExprBinaryOf, ExprCastOf, ExprRangeOf, ExprUnaryOf};
 use syn_expr_kinds::trailer::{
     ExprAwaitOf, ExprCallOf, ExprFieldOf, ExprIndexOf, ExprMethodCallOf, ExprTryOf,
 };
 use syn_expr_parts::member::Member;
 use syn_grammar::kinds::{BinKind, Limits};
-use syn_lower::path::{AngleBracketedGenericArguments, Path, PathArguments, PathSegment};
+use syn_lower::path::{AngleBracketedGenericArguments, Path, PathArguments, PathSegment, QSelf};
 use syn_lower::punctuated::Punctuated;
 use syn_lower::ty::Type;
 use syn_op::limits::RangeLimits;
-use syn_op::op::BinOp;
+use syn_op::op::{BinOp, UnOp};
 use syn_tokens::span::Span;
-use syn_tokens::token::{As, Await, Bracket, Comma, Dot, DotDot, DotDotEq, Eq, Paren, Question};
+use syn_tokens::token::{
+    As, Await, Bracket, Comma, Dot, DotDot, DotDotEq, Eq, Group, Paren, Question,
+};
 use syn_tokens::tree::Ident;
 
 /// An expression in a box.
@@ -63,6 +66,39 @@ pub(crate) fn name<E: IsExpr + Drop>(
     boxed(alloc, E::path(path))
 }
 
+/// A path, and the type that it is qualified by.
+#[tactic(auto, unfolding(syn_expr_kinds::specs::Attrs::attrs_of))]
+pub(crate) fn path<E: IsExpr + Drop>(
+    alloc: Global,
+    qself: Option<QSelf>,
+    path: Path,
+) -> std::result::Result<Box<E>, AllocError>
+    ensures { IfOk result (λ b. E.tree b.value ≡ e.leaf (e.path (qself_or type_of qself) (path_of type_of path))) }
+{
+    let attrs = Vec::new(alloc);
+    boxed(alloc, E::path(ExprPath { attrs, qself, path }))
+}
+
+/// An operand in an invisible group.
+#[tactic(auto, unfolding(syn_expr_kinds::specs::Attrs::attrs_of))]
+pub(crate) fn group<E: IsExpr + Drop>(
+    alloc: Global,
+    group_token: Group,
+    expr: Box<E>,
+) -> std::result::Result<Box<E>, AllocError>
+    ensures { IfOk result (λ b. E.tree b.value ≡ in_group (E.tree expr.value)) }
+{
+    let attrs = Vec::new(alloc);
+    boxed(
+        alloc,
+        E::group(ExprGroupOf {
+            attrs,
+            group_token,
+            expr,
+        }),
+    )
+}
+
 /// The operator of a range of this kind, at these places.
 pub(crate) fn limits(kind: Limits, spans: [Span; 3]) -> RangeLimits
     ensures { limits_kind result ≡ kind }
@@ -74,6 +110,19 @@ pub(crate) fn limits(kind: Limits, spans: [Span; 3]) -> RangeLimits
         }),
         Limits::Closed => RangeLimits::Closed(DotDotEq { spans }),
     }
+}
+
+/// An operand behind its prefix operator.
+#[tactic(auto, unfolding(syn_expr_kinds::specs::Attrs::attrs_of))]
+pub(crate) fn unary<E: IsExpr + Drop>(
+    alloc: Global,
+    op: UnOp,
+    expr: Box<E>,
+) -> std::result::Result<Box<E>, AllocError>
+    ensures { IfOk result (λ b. E.tree b.value ≡ e.lead (e.unary (un_kind op)) e.none (E.tree expr.value)) }
+{
+    let attrs = Vec::new(alloc);
+    boxed(alloc, E::unary(ExprUnaryOf { attrs, op, expr }))
 }
 
 /// A binary operator between its operands.

@@ -1,45 +1,62 @@
 //! The readers of operands: by what stands first, with their trailers and attributes (Rust Reference, "Expressions",
 //! "Expression attributes").
 
-ghost use Rattle.std.specs.Prelude.{◌≡◌, ◌≤◌, true, drop};
+ghost use Rattle.std.specs.Prelude.{◌≡◌, ◌≤◌, ◌∷◌, false, true, drop, not, Some};
 ghost use Rattle.syn_parts.specs.PatFits.{attributes_outer};
 ghost use Rattle.syn_expr_ends.specs.Reads.{Callable, ReadsExpr};
 ghost use Rattle.syn_expr_kinds.specs.Attrs.{attrs_of};
+ghost use Rattle.syn_expr_readers.specs.Groups as groups;
+ghost use Rattle.syn_expr_readers.specs.Groups.{closed_path};
 ghost use Rattle.syn_expr_readers.specs.Loops.{outer_operand};
 ghost use Rattle.syn_grammar.specs.Read as read;
 ghost use Rattle.syn_grammar.specs.Slot as slot;
 ghost use Rattle.syn_grammar.specs.Tree as e;
+ghost use Rattle.syn_grammar.specs.Path as paths;
+ghost use Rattle.syn_lower.specs.View.{path_of, qself_or, trails, type_of};
 ghost use Rattle.syn_lower_leaves.specs.Reads.{Reads};
-ghost use Rattle.syn_tokens.specs.Tok.{weight};
+ghost use Rattle.syn_grammar.specs.Stands as stands;
+ghost use Rattle.syn_parts.specs.Mark as mark;
+ghost use Rattle.syn_tokens.specs.Tok.{ident, weight};
 ghost use Rattle.syn_tokens.specs.View.{toks_of};
 
 use crate::grammar::Grammar;
 use crate::name::name_alone;
+use crate::prefix::first_operator;
 use crate::told::may_adorn;
 use crate::{make, refusal};
 use syn_expr_atoms::atoms::Atoms;
 use syn_expr_atoms::leaf::{leaf, standing};
 use syn_expr_blocks::blocks::Blocks;
 use syn_expr_ends::kinds::{ReadExprs, ReadPats};
+use syn_expr_ends::place::PLAIN;
 use syn_expr_front::sign::brace_at;
 use syn_expr_front::start::{Atom, atom_at};
 use syn_expr_heads::leaf::path_or_macro;
 use syn_expr_heads::word::{if_word, match_word};
+use syn_expr_kinds::begins::told;
 use syn_expr_kinds::kinds::IsExpr;
+use syn_expr_kinds::path::is_word_alone;
 use syn_expr_lists::lists::Lists;
 use syn_grammar::kinds::Place;
+use syn_lower::path::{Path, QSelf};
+use syn_lower::readers::ty;
 use syn_lower_leaves::attr::Attribute;
 use syn_lower_leaves::kept::outer_attributes;
-use syn_lower_readers::qualified::macro_end;
+use syn_lower_leaves::leaf::lifetime_at;
+use syn_lower_readers::grammar::Grammar as TypeGrammar;
+use syn_lower_readers::qualified::{is_bare, macro_end};
+use syn_parts::label::PathStyle;
 use syn_tokens::buffer::ParseBuffer;
 use syn_tokens::copy::{copy_ident, copy_trees};
 use syn_tokens::error::{Error, ErrorKind, Expected, Result};
 use syn_tokens::span::Span;
-use syn_tokens::token::{If, Match, Pound};
-use syn_tokens::tree::TokenTree;
+use syn_tokens::token::{Group, If, Match, Ne, Not, PathSep, Pound};
+use syn_tokens::tree::{Ident, TokenTree};
 
 /// An operand with the attributes that stand before it, given the tokens of these: they are the first of an operand's tokens
 /// that are kept. Before a range without a start they are refused, at its operator, which stands at the span.
+// Not in the frame of its caller, which is on the stack once for each level of a tree.
+#[inline(never)]
 #[tactic(auto, using(crate::proofs::Attributes::outers))]
 fn with_outer<E: ReadExprs + Drop>(
     input: &ParseBuffer<'_>,
@@ -67,29 +84,161 @@ fn with_outer<E: ReadExprs + Drop>(
     }
 }
 
+/// Whether what stands first goes on the path that an invisible group before it holds: `::`, the `!` of a macro, or the
+/// brace of a struct expression where one may stand.
+#[tactic(auto, unfolding(syn_tokens::specs::Sign::sign_text, syn_parts::specs::Mark::sign_at))]
+fn goes_on(input: &ParseBuffer<'_>, place: Place, qself: &Option<QSelf>, path: &Path) -> bool
+    ensures { result ≡ paths.goes_on_path (not place.condition) (qself_or type_of qself.now, path_of type_of path.now) input.now.rest }
+{
+    !is_word_alone(qself, path, "try")
+        && (input.peek::<PathSep>()
+            || is_bare(qself, path) && input.peek::<Not>() && !input.peek::<Ne>()
+            || !place.condition && brace_at(input))
+}
+
+/// Reads a name that is alone.
+// Not in the frame of its caller, which is on the stack once for each level of a tree.
+#[inline(never)]
+fn named_alone<E: IsExpr + Drop>(input: &mut ParseBuffer<'_>, name: &Ident) -> Result<Box<E>>
+    requires first { input.old.rest ≡ ident name.now ∷ drop 1 input.old.rest }
+    ensures value { Reads (λ b. E.tree b.value) (Some (stands.path_of name.now, drop 1 input.old.rest)) result input.new.rest }
+    ensures noted { input.new.noted ≡ input.old.noted }
+    ensures shrinks { weight input.new.rest ≤ weight input.old.rest }
+{
+    let name = copy_ident(input.alloc(), name)?;
+    input.skip(1);
+    Ok(make::name(input.alloc(), name)?)
+}
+
 impl<E: ReadExprs + Drop, F: Fn(&mut ParseBuffer<'_>, Place) -> Result<Box<E>> + Copy> Grammar<F>
 where
     E::Pat: ReadPats + Drop,
     <E as IsExpr>::Arm: Drop,
 {
-    /// Reads a path, the call of a macro, or a struct expression.
-    // As `branch` and `choice`, it has a frame of its own: that of `core` is on the stack once for each level of a tree.
-    #[inline(never)]
-    #[tactic(auto, using(syn_expr_atoms::proofs::Inner::named_inner), unfolding(syn_grammar::specs::Read::named_read))]
-    fn named(&self, input: &mut ParseBuffer<'_>, place: Place) -> Result<Box<E>>
+    /// Reads what stands behind a path: the `!` and the group of a macro, the braces of a struct expression, or nothing.
+    // It is a part of its callers, so that a struct expression has no frame more for it.
+    #[inline(always)]
+    #[tactic(auto, using(syn_expr_kinds::proofs::Inner::named_inner), unfolding(crate::specs::Groups::behind_path))]
+    fn behind_path(
+        &self,
+        input: &mut ParseBuffer<'_>,
+        place: Place,
+        qself: Option<QSelf>,
+        path: Path,
+    ) -> Result<Box<E>>
         requires callable { Callable (weight input.old.rest) (F.pre self.now.expr) }
         requires reads { ReadsExpr E.tree (F.post self.now.expr) }
-        ensures value { Reads (λ b. E.tree b.value) (read.named_read read.expr place input.old.rest) result input.new.rest }
+        ensures value { Reads (λ b. E.tree b.value) (groups.behind_path place (qself_or type_of qself, path_of type_of path) input.old.rest) result input.new.rest }
         ensures noted { input.new.noted ≡ input.old.noted }
         ensures shrinks { weight input.new.rest ≤ weight input.old.rest }
     {
-        let (qself, path) = refusal::qpath(input)?;
         let end = macro_end(input, &qself, &path)?;
         if end.is_none() && brace_at(input) && !place.condition {
             let lists = Lists { expr: self.expr };
             return lists.structure(input, place, qself, path);
         }
         standing(input, place, path_or_macro(qself, path, end))
+    }
+
+    /// Reads a path, the call of a macro, or a struct expression.
+    // As `group`, `branch` and `choice`, it has a frame of its own: that of `core` is on the stack once for each level of a
+    // tree.
+    #[inline(never)]
+    #[tactic(auto, unfolding(crate::specs::Groups::named))]
+    fn named(&self, input: &mut ParseBuffer<'_>, place: Place) -> Result<Box<E>>
+        requires callable { Callable (weight input.old.rest) (F.pre self.now.expr) }
+        requires reads { ReadsExpr E.tree (F.post self.now.expr) }
+        ensures value { Reads (λ b. E.tree b.value) (groups.named place input.old.rest) result input.new.rest }
+        ensures noted { input.new.noted ≡ input.old.noted }
+        ensures shrinks { weight input.new.rest ≤ weight input.old.rest }
+    {
+        let (qself, path) = refusal::qpath(input)?;
+        self.behind_path(input, place, qself, path)
+    }
+
+    /// Reads the segments that go on a path, and what stands behind them.
+    #[tactic(auto, using(crate::proofs::Groups::segments), unfolding(crate::specs::Groups::extended))]
+    fn extended(
+        &self,
+        input: &mut ParseBuffer<'_>,
+        place: Place,
+        qself: Option<QSelf>,
+        path: Path,
+    ) -> Result<Box<E>>
+        requires callable { Callable (weight input.old.rest) (F.pre self.now.expr) }
+        requires reads { ReadsExpr E.tree (F.post self.now.expr) }
+        requires closed { trails path.segments ≡ false }
+        ensures value { Reads (λ b. E.tree b.value) (groups.extended place (qself_or type_of qself, path_of type_of path) input.old.rest) result input.new.rest }
+        ensures noted { input.new.noted ≡ input.old.noted }
+        ensures shrinks { weight input.new.rest ≤ weight input.old.rest }
+    {
+        let types = TypeGrammar { ty };
+        let segments = types.more_segments(input, PathStyle::Expr, path.segments)?;
+        let path = Path {
+            leading_colon: path.leading_colon,
+            segments,
+        };
+        self.behind_path(input, place, qself, path)
+    }
+
+    /// Reads what goes on the path that an invisible group holds; else the operand in it is one by itself.
+    #[tactic(auto, using(crate::proofs::Groups::closed))]
+    fn behind_group(
+        &self,
+        input: &mut ParseBuffer<'_>,
+        place: Place,
+        group_token: Group,
+        x: Box<E>,
+    ) -> Result<Box<E>>
+        requires callable { Callable (weight input.old.rest) (F.pre self.now.expr) }
+        requires reads { ReadsExpr E.tree (F.post self.now.expr) }
+        requires closed { closed_path (E.tree x.value) ≡ true }
+        ensures value { Reads (λ b. E.tree b.value) (groups.behind_group place (E.tree x.value) input.old.rest) result input.new.rest }
+        ensures noted { input.new.noted ≡ input.old.noted }
+        ensures shrinks { weight input.new.rest ≤ weight input.old.rest }
+    {
+        let alloc = input.alloc();
+        match Box::into_inner(x).into_path() {
+            Ok((qself, path)) => {
+                if goes_on(input, place, &qself, &path) {
+                    return self.extended(input, place, qself, path);
+                }
+                let path = make::path(alloc, qself, path)?;
+                Ok(make::group(alloc, group_token, path)?)
+            }
+            Err(x) => {
+                let x = make::boxed(alloc, x)?;
+                Ok(make::group(alloc, group_token, x)?)
+            }
+        }
+    }
+
+    /// Reads an invisible group: an operand, or the front of a path that goes on behind it. One that holds a lifetime alone is
+    /// refused as `ExpectedExpression`, where it stands.
+    #[inline(never)]
+    #[tactic(auto, using(crate::proofs::Groups::groups), unfolding(crate::specs::Groups::group))]
+    fn group(&self, input: &mut ParseBuffer<'_>, place: Place) -> Result<Box<E>>
+        requires callable { Callable (weight input.old.rest) (F.pre self.now.expr) }
+        requires reads { ReadsExpr E.tree (F.post self.now.expr) }
+        ensures value { Reads (λ b. E.tree b.value) (groups.group place input.old.rest) result input.new.rest }
+        ensures noted { input.new.noted ≡ input.old.noted }
+        ensures shrinks { weight input.new.rest ≤ weight input.old.rest }
+    {
+        let none = input.error(ErrorKind::ExpectedExpression);
+        let (group_token, mut content) = input.parse_group()?;
+        let begins = if lifetime_at(&content) && content.len() == 2 {
+            Err(none)
+        } else {
+            Ok(())
+        };
+        let x = match (self.expr)(&mut content, PLAIN) {
+            Ok(x) => x,
+            Err(e) => return Err(told(e, begins)),
+        };
+        if !content.is_empty() {
+            return Err(content.error(ErrorKind::UnexpectedToken));
+        }
+        self.behind_group(input, place, group_token, x)
     }
 
     /// Reads an `if`.
@@ -126,9 +275,10 @@ where
         blocks.choice(input, place, match_token)
     }
 
-    /// Reads an operand without trailers, by what stands first.
-    #[tactic(auto, using(crate::proofs::Firsts::firsts, crate::proofs::Names::name_alone))]
-    fn atom(&self, input: &mut ParseBuffer<'_>, place: Place) -> Result<Box<E>>
+    /// Reads an operand without trailers, by what stands first. It is refused as its parts are, as `ExpectedExpression` where none
+    /// begins, and as `ExpectedLoopOrBlock` where neither a loop nor a block is behind a label.
+    #[tactic(auto, using(crate::proofs::Firsts::firsts, crate::proofs::Names::name_alone, crate::proofs::Operators::prefix_first))]
+    pub fn atom(&self, input: &mut ParseBuffer<'_>, place: Place) -> Result<Box<E>>
         requires callable { Callable (weight input.old.rest) (F.pre self.now.expr) }
         requires reads { ReadsExpr E.tree (F.post self.now.expr) }
         ensures value { Reads (λ b. E.tree b.value) (read.atom read.expr place input.old.rest) result input.new.rest }
@@ -137,9 +287,11 @@ where
     {
         // Most operands are a name alone, which is read at once.
         if let Some(name) = name_alone(input) {
-            let name = copy_ident(input.alloc(), name)?;
+            return named_alone(input, name);
+        }
+        if let Some(op) = first_operator(input) {
             input.skip(1);
-            return Ok(make::name(input.alloc(), name)?);
+            return self.prefixed(input, place, op);
         }
         let lists = Lists { expr: self.expr };
         let blocks = Blocks { expr: self.expr };
@@ -153,6 +305,7 @@ where
             Atom::If => self.branch(input, place),
             Atom::Loop => blocks.loop_head(input, place),
             Atom::Match => self.choice(input, place),
+            Atom::Group => self.group(input, place),
             Atom::Named => self.named(input, place),
         }
     }
@@ -172,7 +325,7 @@ where
 
     /// Reads an operand behind its attributes. Before a range without a start they are refused as `RangeAttributes`, but at a
     /// head.
-    #[tactic(auto, using(crate::proofs::Attributes::attributes), unfolding(syn_grammar::specs::Read::operand, syn_expr_kinds::specs::Attrs::attrs_of, syn_tokens::specs::Sign::sign_text, syn_parts::specs::Mark::sign_at))]
+    #[tactic(auto, unfolding(syn_grammar::specs::Read::operand, syn_tokens::specs::Sign::sign_text, syn_parts::specs::Mark::sign_at))]
     fn operand(&self, input: &mut ParseBuffer<'_>, place: Place) -> Result<Box<E>>
         requires callable { Callable (weight input.old.rest) (F.pre self.now.expr) }
         requires reads { ReadsExpr E.tree (F.post self.now.expr) }
@@ -183,6 +336,21 @@ where
         if !input.peek::<Pound>() {
             return self.core(input, place);
         }
+        self.attributed(input, place)
+    }
+
+    /// Reads attributes, and the operand behind them.
+    // Not in the frame of its caller, which is on the stack once for each level of a tree.
+    #[inline(never)]
+    #[tactic(auto, using(crate::proofs::Attributes::attributes), unfolding(syn_grammar::specs::Read::operand, syn_expr_kinds::specs::Attrs::attrs_of))]
+    fn attributed(&self, input: &mut ParseBuffer<'_>, place: Place) -> Result<Box<E>>
+        requires callable { Callable (weight input.old.rest) (F.pre self.now.expr) }
+        requires reads { ReadsExpr E.tree (F.post self.now.expr) }
+        requires first { mark.pound.at input.old.rest ≡ true }
+        ensures value { Reads (λ b. E.tree b.value) (read.operand read.expr place input.old.rest) result input.new.rest }
+        ensures noted { input.new.noted ≡ input.old.noted }
+        ensures shrinks { weight input.new.rest ≤ weight input.old.rest }
+    {
         let start = input.fork()?;
         let attrs = outer_attributes(input)?;
         let tokens = start.until(input);

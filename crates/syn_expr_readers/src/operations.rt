@@ -75,6 +75,8 @@ impl<E: ReadExprs + Drop, F: Fn(&mut ParseBuffer<'_>, Place) -> Result<Box<E>>> 
     }
 
     /// Reads what stands behind the operator of a range: its end, or nothing.
+    // Not in the frame of its caller, which is on the stack once for each level of a tree.
+    #[inline(never)]
     #[tactic(auto, unfolding(syn_grammar::specs::Read::longer, syn_grammar::specs::Stands::ends_operation, syn_grammar::specs::Stands::mid_stands, syn_grammar::specs::Stands::post_stands))]
     fn range(
         &self,
@@ -99,6 +101,8 @@ impl<E: ReadExprs + Drop, F: Fn(&mut ParseBuffer<'_>, Place) -> Result<Box<E>>> 
     }
 
     /// Reads what stands behind an operator, which was taken, and its left operand: the operation that they are.
+    // Not in the frame of its caller, which is on the stack once for each level of a tree.
+    #[inline(never)]
     #[tactic(auto, unfolding(syn_grammar::specs::Read::longer, syn_grammar::specs::Stands::ends_operation, syn_grammar::specs::Stands::mid_stands, syn_grammar::specs::Stands::post_stands))]
     fn longer(
         &self,

@@ -5,7 +5,7 @@ ghost use Rattle.syn_expr_readers.specs.Kind as spec;
 ghost use Rattle.syn_grammar.specs.Op as op_spec;
 ghost use Rattle.syn_grammar.specs.Stands as stands;
 
-use syn_expr_kinds::like::is_block_like;
+use syn_expr_ends::kinds::ReadExprs;
 use syn_expr_kinds::node::{HasKind, HasNode};
 use syn_expr_notes::kind::NodeKind;
 use syn_expr_notes::label::{LeafKind, TrailerKind};
@@ -123,11 +123,12 @@ pub fn is_named_field<E: HasNode + HasKind>(x: &E) -> bool
     }
 }
 
-/// Whether it is the whole where it stands at a head: it is like a block (Rust Reference, "Expression statements").
-pub fn rests<E: HasKind>(place: Place, x: &E) -> bool
+/// Whether it is the whole where it stands at a head: it is like a block, or holds one in invisible groups (Rust Reference,
+/// "Expression statements").
+pub fn rests<E: ReadExprs>(place: Place, x: &E) -> bool
     ensures { result ≡ stands.rests place (E.tree x.now) }
 {
-    place.head && is_block_like(x)
+    place.head && x.holds_block()
 }
 
 /// Whether attributes may stand before it: none do, it is neither an operation nor tokens that are kept, and a range only at
@@ -155,7 +156,7 @@ fn is_base<E: HasNode + HasKind>(x: &E) -> bool
 /// Whether a trailer of this kind may stand behind it: it carries one, and attributes don't stand before it; arguments stand
 /// behind no field with a name, and neither they nor an index behind what is the whole (Rust Reference, "Call expressions",
 /// "Array and slice indexing expressions").
-pub fn fits_base<E: HasNode + HasKind>(place: Place, kind: TrailerKind, x: &E) -> bool
+pub fn fits_base<E: ReadExprs>(place: Place, kind: TrailerKind, x: &E) -> bool
     ensures { result ≡ spec.fits_base place kind (E.tree x.now) }
 {
     is_base(x)

@@ -90,6 +90,8 @@ fn indexed<E: ReadExprs + Drop>(
 
 impl<E: ReadExprs + Drop, F: Fn(&mut ParseBuffer<'_>, Place) -> Result<Box<E>> + Copy> Grammar<F> {
     /// Reads the arguments of a call.
+    // Not in the frame of its caller, which is on the stack once for each level of a tree.
+    #[inline(never)]
     #[tactic(auto, using(crate::proofs::Bases::bases))]
     fn call(&self, input: &mut ParseBuffer<'_>, place: Place, base: Box<E>) -> Result<Box<E>>
         requires callable { Callable (weight input.old.rest) (F.pre self.now.expr) }
@@ -107,6 +109,8 @@ impl<E: ReadExprs + Drop, F: Fn(&mut ParseBuffer<'_>, Place) -> Result<Box<E>> +
     }
 
     /// Reads an index in brackets.
+    // Not in the frame of its caller, which is on the stack once for each level of a tree.
+    #[inline(never)]
     #[tactic(auto, using(crate::proofs::Bases::bases))]
     fn index(&self, input: &mut ParseBuffer<'_>, place: Place, base: Box<E>) -> Result<Box<E>>
         requires callable { Callable (weight input.old.rest) (F.pre self.now.expr) }
@@ -145,6 +149,8 @@ impl<E: ReadExprs + Drop, F: Fn(&mut ParseBuffer<'_>, Place) -> Result<Box<E>> +
     }
 
     /// Reads `await`, a field or a method with its arguments, behind the indices of a float that stand before it.
+    // Not in the frame of its caller, which is on the stack once for each level of a tree.
+    #[inline(never)]
     #[tactic(auto, using(crate::proofs::Bases::bases))]
     fn named_trailer(
         &self,
@@ -182,6 +188,8 @@ impl<E: ReadExprs + Drop, F: Fn(&mut ParseBuffer<'_>, Place) -> Result<Box<E>> +
     }
 
     /// Reads what stands behind a dot: indices, or a name with what belongs to it.
+    // Not in the frame of its caller, which is on the stack once for each level of a tree.
+    #[inline(never)]
     #[tactic(auto, using(crate::proofs::Bases::bases))]
     fn behind_dot(
         &self,
@@ -206,6 +214,8 @@ impl<E: ReadExprs + Drop, F: Fn(&mut ParseBuffer<'_>, Place) -> Result<Box<E>> +
     }
 
     /// Reads a trailer behind its base.
+    // Not in the frame of its caller, which is on the stack once for each level of a tree.
+    #[inline(never)]
     #[tactic(auto, unfolding(syn_grammar::specs::Read::trailed, syn_grammar::specs::Front::question_at))]
     fn trailed(&self, input: &mut ParseBuffer<'_>, place: Place, base: Box<E>) -> Result<Box<E>>
         requires callable { Callable (weight input.old.rest) (F.pre self.now.expr) }

@@ -2,11 +2,17 @@
 #![tactic(auto)]
 
 #[cfg(test)]
+mod alone;
+#[cfg(test)]
 mod attrs;
+#[cfg(test)]
+mod groups;
 #[cfg(test)]
 mod guards;
 #[cfg(test)]
 mod kinds;
+#[cfg(test)]
+mod made;
 #[cfg(test)]
 mod parts;
 #[cfg(test)]

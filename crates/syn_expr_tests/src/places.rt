@@ -124,8 +124,8 @@ fn bases_are_left_bare(rt: HostRuntime) -> Result<(), Fail> {
     Ok(())
 }
 
-/// What is told of an operand behind an operator of a level, by each of two ways to ask it; none where they differ.
-fn told_right(fixup: FixupContext, expr: &Expr, level: Level) -> Option<bool> {
+/// Whether an operand is left bare behind an operator of a level. It is asked in two ways; there is no answer where these differ.
+fn is_bare_right(fixup: FixupContext, expr: &Expr, level: Level) -> Option<bool> {
     let (told, _) = fixup.rightmost_subexpression(expr, level);
     let place = fixup.rightmost_subexpression_fixup(false, false, level);
     let again = place.rightmost_subexpression_precedence(expr);
@@ -145,7 +145,11 @@ fn right_operands_are_left_bare(rt: HostRuntime) -> Result<(), Fail> {
     for (text, level, is_before, bare) in RIGHT {
         let held = read(rt.alloc(), text)?;
         let place = if is_before { before } else { end };
-        assert_eq!(rt; told_right(place, &held.expr, level), Some(bare), "{text}");
+        assert_eq!(rt;
+            is_bare_right(place, &held.expr, level),
+            Some(bare),
+            "{text}"
+        );
     }
     Ok(())
 }

@@ -5,7 +5,7 @@ use std::alloc::Global;
 use std::test::Fail;
 use syn_expr::{Error, Expr, FixupContext, print_counted, to_text};
 
-/// A text, another as often as is told, and a third.
+/// A text, another `count` times behind it, and a third.
 fn repeated(
     alloc: Global,
     first: &str,

@@ -76,6 +76,7 @@ not_element slot.scrutinees c t h = refl
 not_element slot.arms c t h = refl
 not_element slot.bodies c t h = refl
 not_element slot.outputs c t h = refl
+not_element slot.groups c t h = refl
 not_element slot.done c t h = refl
 
 elements_out : (s : Slot) (ts : List Tree) (b : Bool) → is_elements s ≡ false → kids_well s (elements ts b) ≡ (is_nil ts && may_stop s)
@@ -98,6 +99,7 @@ elements-in f slot.scrutinees xs b h = absurd cc
 elements-in f slot.arms xs b h = absurd cc
 elements-in f slot.bodies xs b h = absurd cc
 elements-in f slot.outputs xs b h = absurd cc
+elements-in f slot.groups xs b h = absurd cc
 elements-in f slot.done xs b h = absurd cc
 
 pub elements-out : {E : Type 0} (f : E → Tree) (s : Slot) (xs : List E) (b : Bool) → is_elements s ≡ false → kids_well s (elements (map f xs) b) ≡ (is_nil xs && may_stop s)
@@ -156,6 +158,7 @@ not_field slot.scrutinees x c h = refl
 not_field slot.arms x c h = refl
 not_field slot.bodies x c h = refl
 not_field slot.outputs x c h = refl
+not_field slot.groups x c h = refl
 not_field slot.done x c h = refl
 
 not_rest : (s : Slot) (d : Bool) (c : Ending) (t : Tree) → is_fields s ≡ false → piece_fits s (e.rest d) c t ≡ false
@@ -170,6 +173,7 @@ not_rest slot.scrutinees d c t h = refl
 not_rest slot.arms d c t h = refl
 not_rest slot.bodies d c t h = refl
 not_rest slot.outputs d c t h = refl
+not_rest slot.groups d c t h = refl
 not_rest slot.done d c t h = refl
 
 fields_out : (s : Slot) (xs : List FieldView) (b d : Bool) (o : Option Tree) → is_fields s ≡ false → kids_well s (fields xs b (option_kid (e.rest d) o)) ≡ (is_nil xs && (not (is_some o) && may_stop s))
@@ -199,6 +203,7 @@ fields-in f g slot.scrutinees dots xs b d o h = absurd cc
 fields-in f g slot.arms dots xs b d o h = absurd cc
 fields-in f g slot.bodies dots xs b d o h = absurd cc
 fields-in f g slot.outputs dots xs b d o h = absurd cc
+fields-in f g slot.groups dots xs b d o h = absurd cc
 fields-in f g slot.done dots xs b d o h = absurd cc
 
 out_of : (dots n m : Bool) (o : Bool) → (not (dots && o) && (n && (not o && m))) ≡ (n && (not o && m))
@@ -228,6 +233,7 @@ value_in slot.scrutinees c t = refl
 value_in slot.arms c t = refl
 value_in slot.bodies c t = refl
 value_in slot.outputs c t = refl
+value_in slot.groups c t = refl
 value_in slot.done c t = refl
 
 repeated_in : (s : Slot) (c : Ending) (t : Tree) → piece_fits s e.repeated c t ≡ is_counted s
@@ -242,6 +248,7 @@ repeated_in slot.scrutinees c t = refl
 repeated_in slot.arms c t = refl
 repeated_in slot.bodies c t = refl
 repeated_in slot.outputs c t = refl
+repeated_in slot.groups c t = refl
 repeated_in slot.done c t = refl
 
 condition_in : (s : Slot) (c : Ending) (t : Tree) → piece_fits s e.condition c t ≡ is_conditions s
@@ -256,6 +263,7 @@ condition_in slot.scrutinees c t = refl
 condition_in slot.arms c t = refl
 condition_in slot.bodies c t = refl
 condition_in slot.outputs c t = refl
+condition_in slot.groups c t = refl
 condition_in slot.done c t = refl
 
 loop_head_in : (s : Slot) (c : Ending) (t : Tree) → piece_fits s e.loop_head c t ≡ is_loops s
@@ -270,6 +278,7 @@ loop_head_in slot.scrutinees c t = refl
 loop_head_in slot.arms c t = refl
 loop_head_in slot.bodies c t = refl
 loop_head_in slot.outputs c t = refl
+loop_head_in slot.groups c t = refl
 loop_head_in slot.done c t = refl
 
 scrutinee_in : (s : Slot) (c : Ending) (t : Tree) → piece_fits s e.scrutinee c t ≡ is_scrutinees s
@@ -284,6 +293,7 @@ scrutinee_in slot.scrutinees c t = refl
 scrutinee_in slot.arms c t = refl
 scrutinee_in slot.bodies c t = refl
 scrutinee_in slot.outputs c t = refl
+scrutinee_in slot.groups c t = refl
 scrutinee_in slot.done c t = refl
 
 output_in : (s : Slot) (c : Ending) (t : Tree) → piece_fits s e.output_block c t ≡ (is_outputs s && is_kept_block t)
@@ -298,6 +308,7 @@ output_in slot.scrutinees c t = refl
 output_in slot.arms c t = refl
 output_in slot.bodies c t = refl
 output_in slot.outputs c t = refl
+output_in slot.groups c t = refl
 output_in slot.done c t = refl
 
 grouped_in : (s : Slot) (c : Ending) (t : Tree) → piece_fits s e.grouped c t ≡ false
@@ -312,6 +323,7 @@ grouped_in slot.scrutinees c t = refl
 grouped_in slot.arms c t = refl
 grouped_in slot.bodies c t = refl
 grouped_in slot.outputs c t = refl
+grouped_in slot.groups c t = refl
 grouped_in slot.done c t = refl
 
 not_both : (b : Bool) → not (b && false) ≡ true

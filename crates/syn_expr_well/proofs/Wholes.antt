@@ -55,6 +55,7 @@ stray_out s.scrutinees c t = refl
 stray_out s.arms c t = refl
 stray_out s.bodies c t = refl
 stray_out s.outputs c t = refl
+stray_out s.groups c t = refl
 stray_out s.done c t = refl
 
 dots_last : (q t d r : Bool) → (q && (t && not (d && r))) ≡ ((q && (t && not (d && false))) && not (d && r))

@@ -5,7 +5,8 @@ use Rattle.syn_parts.specs.Text.{Text}
 use Rattle.syn_parts.specs.Pat.{PatTree, guarded}
 use Rattle.syn_parts.specs.PatFits.{attributes_outer, member_fits, pat_fits}
 use Rattle.syn_grammar.specs.Slot.{Slot}
-use Rattle.syn_grammar.specs.Stands.{is_branch, is_word_alone}
+use Rattle.syn_grammar.specs.Path.{is_word_alone}
+use Rattle.syn_grammar.specs.Stands.{is_branch}
 use Rattle.syn_grammar.specs.Tree as e
 use Rattle.syn_grammar.specs.Tree.{Tree, Leaf, is_none}
 use Rattle.syn_grammar.specs.WellFormed.{well, kids_well, has_rest, may_stop, is_kept_block, is_kept_leaf, is_name_path}

@@ -79,7 +79,7 @@ mutual
       (both _ _ (tail_base f h b u is (fields_fit p k b m i is g t) (at_nodes f h _ _ _ _ d) q) (in_content f h _ _ _ _ c))
   at_nodes f h p l n x (is_indexed {b = b} {i = i} {is = is} d g t q) =
       tail_base f h b x (i ∷ is) (inr (λ j. based p (e.field (an_index i)) b g)) (at_nodes f h _ _ _ _ d) q
-  at_nodes f h p l n x (is_frame g c s) = both _ _ (h.at_node p l n _ (is_frame g c s)) (in_content f h _ _ _ _ c)
+  at_nodes f h p l n x (is_frame g c s e) = both _ _ (h.at_node p l n _ (is_frame g c s e)) (in_content f h _ _ _ _ c)
 
   in_content : (f : Tree → Bool) → AtNodes f → (o : Holder) (l n : List Tok) (ks : Kids) → Content o l ks n → kids_everywhere f ks ≡ true
   in_content f h o l n ks holds_none = refl
@@ -116,7 +116,7 @@ above left k p (is_mid d c g i t j r s q o) = t
 above left k p (is_post d c g i t j s o) = t
 above left k p (is_tail d g t c q) = refl
 above left k p (is_indexed {b = b} {x = x} {i = i} {is = is} d g t q) = indexed_holds (λ u. binds_right (mid left k u)) (λ c j w. refl) (at p (level k)) b x i is g q
-above left k p (is_frame g c s) = refl
+above left k p (is_frame g c s e) = refl
 
 behind : (k : Lead) (gs : Kids) (p : Place) {l n : List Tok} {x : Tree} → p.level ≡ lead_level k → Node p l x n → binds_right (lead k gs x) ≡ true
 behind k gs p v (is_leaf g s) = refl
@@ -129,7 +129,7 @@ behind k gs p v (is_mid {op = op} d c g i t j r s q o) = ap (λ w. takes w (leve
 behind k gs p v (is_post {k = op} d c g i t j s o) = ap (λ w. takes w (level (post_op op))) (sym v) ∙ t
 behind k gs p v (is_tail d g t c q) = refl
 behind k gs p v (is_indexed {b = b} {x = x} {i = i} {is = is} d g t q) = indexed_holds (λ u. binds_right (lead k gs u)) (λ c j w. refl) p b x i is g q
-behind k gs p v (is_frame g c s) = refl
+behind k gs p v (is_frame g c s e) = refl
 
 level_behind : (p : Place) (k : Lead) → (lead_place p k).level ≡ lead_level k
 level_behind p (e.range_to op) = refl
@@ -149,7 +149,7 @@ right_node p l n x (is_mid {x = left} {op = op} d c g i t j r s q o) = above lef
 right_node p l n x (is_post d c g i t j s o) = refl
 right_node p l n x (is_tail d g t c q) = refl
 right_node p l n x (is_indexed {b = b} {i = i} {is = is} d g t q) = indexed_holds binds_right (λ c j w. refl) p b x i is g q
-right_node p l n x (is_frame g c s) = refl
+right_node p l n x (is_frame g c s e) = refl
 
 pub right_operand_binds_tighter : RightOperandBindsTighter
 right_operand_binds_tighter p l n x s =
@@ -201,7 +201,7 @@ below k count p i f (is_post {k = e.cast ty} d c g o t j s w) = at_most_cast k
 below k count p i f (is_post {x = x} {k = e.range_from op} d c g o t j s w) = no_range_left p k x op f
 below k count p i f (is_tail d g t c q) = refl
 below k count p i f (is_indexed {b = b} {x = x} {i = j} {is = is} d g t q) = indexed_holds (as_tight k) (λ c m w. refl) p b x j is g q
-below k count p i f (is_frame g c s) = refl
+below k count p i f (is_frame g c s e) = refl
 
 left_node : (p : Place) (l n : List Tok) (x : Tree) → Node p l x n → binds_left x ≡ true
 left_node p l n x (is_leaf g s) = refl
@@ -214,7 +214,7 @@ left_node p l n x (is_mid {op = op} {count = count} d c g i t j r s q o) = below
 left_node p l n x (is_post {k = k} {count = count} d c g i t j s o) = below (post_op k) count p i g d
 left_node p l n x (is_tail d g t c q) = refl
 left_node p l n x (is_indexed {b = b} {i = i} {is = is} d g t q) = indexed_holds binds_left (λ c j w. refl) p b x i is g q
-left_node p l n x (is_frame g c s) = refl
+left_node p l n x (is_frame g c s e) = refl
 
 pub left_operand_binds_as_tight : LeftOperandBindsAsTight
 left_operand_binds_as_tight p l n x s =
@@ -241,7 +241,7 @@ compares_node p l n x (is_mid {x = left} {op = op} d c g i t j r s q o) = let f 
 compares_node p l n x (is_post d c g i t j s o) = refl
 compares_node p l n x (is_tail d g t c q) = refl
 compares_node p l n x (is_indexed {b = b} {i = i} {is = is} d g t q) = indexed_holds compares_once (λ c j w. refl) p b x i is g q
-compares_node p l n x (is_frame g c s) = refl
+compares_node p l n x (is_frame g c s e) = refl
 
 pub comparisons_dont_chain : ComparisonsDontChain
 comparisons_dont_chain p l n x s =
@@ -287,7 +287,7 @@ ranges_node p l n x (is_post {x = left} {k = k} d c g i t j s o) = let f = fits 
 ranges_node p l n x (is_tail {b = b} {x = u} {k = k} {is = is} d g t c q) =
     subst (λ v. not (is_range v || is_infix v) ≡ true) (sym q) (closed_fields b is (left_of (carries b) _ (based p k b g)))
 ranges_node p l n x (is_indexed {b = b} {i = i} {is = is} d g t q) = indexed_holds ranges_stay (λ c j w. closed c (left_of (carries c) _ w)) p b x i is g q
-ranges_node p l n x (is_frame g c s) = refl
+ranges_node p l n x (is_frame g c s e) = refl
 
 pub range_is_no_left_operand : RangeIsNoLeftOperand
 range_is_no_left_operand p l n x s =

@@ -27,7 +27,8 @@ use Rattle.syn_grammar.specs.Rule.{is_operation}
 use Rattle.syn_grammar.specs.Slot as slot
 use Rattle.syn_grammar.specs.Slot.{Slot, nothing, within, piece_place, frame_holder, trailer_holder}
 use Rattle.syn_grammar.specs.Stands as st
-use Rattle.syn_grammar.specs.Stands.{Node, Content, Operands, is_adorned, is_branch, is_try_alone, rests, ends_list, is_base, is_parenthesis_or_bracket, has_no_comma, frame_stands, leaf_stands, mid_stands, lead_place}
+use Rattle.syn_grammar.specs.Path.{is_try_alone}
+use Rattle.syn_grammar.specs.Stands.{Node, Content, Operands, is_adorned, is_branch, rests, ends_list, is_base, is_parenthesis_or_bracket, has_no_comma, frame_stands, frame_ends, leaf_stands, mid_stands, lead_place}
 use Rattle.syn_grammar.specs.Tree as e
 use Rattle.syn_grammar.specs.Tree.{Tree, Kids, Leaf, Frame, Trailer, leaf, paren, adorned, lead, mid, post, tail, frame, none, kid, outers, post_op, is_one, is_block_like, is_block_leaf, infix_own, post_own, trailer_own, own, kids_own, enclosure, behind_operands, clear, clear_kids}
 use Rattle.syn_grammar.specs.WellFormed.{trailer_fits, frame_fits, piece_fits, is_kept_block}
@@ -106,13 +107,13 @@ shows_lead (e.closure h) c r s = s
 
 -- ---- bases
 
-base_free : (p : Place) (k : Trailer) (c : Context) (b : Tree) → Meets p c → Obeys p.level (base_context k c) b → is_parenthesis_or_bracket k && rests p (clear b) ≡ false
-base_free p e.call c b m h = goes_free p p.level c (base_context e.call c) b m refl h
-base_free p e.index c b m h = goes_free p p.level c (base_context e.index c) b m refl h
-base_free p (e.method w a) c b m h = refl
-base_free p (e.field x) c b m h = refl
-base_free p e.await c b m h = refl
-base_free p e.question c b m h = refl
+base_free : (p : Place) (k : Trailer) (c : Context) (b : Tree) → Meets p c → Formed b → Obeys p.level (base_context k c) b → is_parenthesis_or_bracket k && rests p (clear b) ≡ false
+base_free p e.call c b m f h = goes_free p p.level c (base_context e.call c) b m refl f h
+base_free p e.index c b m f h = goes_free p p.level c (base_context e.index c) b m refl f h
+base_free p (e.method w a) c b m f h = refl
+base_free p (e.field x) c b m f h = refl
+base_free p e.await c b m f h = refl
+base_free p e.question c b m f h = refl
 
 field_stops : (w : _) (b : Tree) (n : Next) (r : List Tok) → Shows n r → Calls (tail b (e.field (a_name w)) none) n → trailer_stops (e.field (a_name w)) r ≡ true
 field_stops w b n r s g =
@@ -207,7 +208,7 @@ mid_made : (p : Place) (c : Context) (x : Tree) (k : Infix) (y : Tree) (r : List
 mid_made p c x k y r f m s h d g =
     let o = shows_operator k (own y r) in
     let back = sym (own_drop k (own y r)) in
-    st.is_mid d (left_closes p (clear x) k _ o) (left_fits p k x h.2 (goes_free p p.level c (left_context k c) x m refl h.1)) (own_infix k (own y r)) h.0
+    st.is_mid d (left_closes p (clear x) k _ o) (left_fits p k x h.2 (goes_free p p.level c (left_context k c) x m refl f.1 h.1)) (own_infix k (own y r)) h.0
     (subst (λ (l : List Tok). mid_stands p k l ≡ true) back (mid_there p c k y (own y r) _ _ f.0 m h.3 (front y c.next r f.2 s)))
     (subst (λ (l : List Tok). Node (at p (level k)) l (clear y) r) back g)
     (fits_ends (at p (level k)) y c.next r s h.4) (fits_closes (at p (level k)) (level k) y c.next r s h.4) (operation_ends k c.next r s)
@@ -216,7 +217,7 @@ post_made : (p : Place) (c : Context) (x : Tree) (k : e.Post) (r : List Tok) →
     → Node p (own x (post_own k r)) (clear x) (post_own k r) → Node p (own (post x k) r) (clear (post x k)) r
 post_made p c x k r f m s h g d =
     let o = post_class k r in
-    st.is_post d (left_closes p (clear x) (post_op k) _ o) (left_fits p (post_op k) x h.2 (goes_free p p.level c (left_context (post_op k) c) x m refl h.1))
+    st.is_post d (left_closes p (clear x) (post_op k) _ o) (left_fits p (post_op k) x h.2 (goes_free p p.level c (left_context (post_op k) c) x m refl f.1 h.1))
     (post_infix k r) h.0 (post_back c x k r f.0 s h.3 g) (post_there p c k r f.0 m s h.3) (operation_ends (post_op k) c.next r s)
 
 lead_made : (p : Place) (c : Context) (k : e.Lead) (t : Tree) (r : List Tok) → Formed (lead k none t) → Meets p c → Shows c.next r → Obeys p.level c (lead k none t)
@@ -228,26 +229,32 @@ lead_made p c k t r f m s h d =
     st.is_lead (heads_back.leads k (own t r) f.0 (lead_stopped k (own t r) _ _ _ f.0 w h.3)) (lead_there p c k t (own t r) _ _ f.0 m h.1 w) d
     (fits_ends (lead_place p k) t (lead_context k c).next r z y) (fits_closes (lead_place p k) (lead_place p k).level t (lead_context k c).next r z y)
 
-tail_made : (p : Place) (c : Context) (b : Tree) (k : Trailer) (ks : Kids) (r : List Tok) → trailer_fits k ≡ true → is_indexed k ≡ false → trailer_stops k r ≡ true → Meets p c
+tail_made : (p : Place) (c : Context) (b : Tree) (k : Trailer) (ks : Kids) (r : List Tok) → trailer_fits k ≡ true → is_indexed k ≡ false → trailer_stops k r ≡ true → Formed b → Meets p c
     → is_base k b ≡ true → Obeys p.level (base_context k c) b → Node p (own b (trailer_own k (kids_own ks []) r)) (clear b) (trailer_own k (kids_own ks []) r)
     → Content (trailer_holder k) (trailer_rest k (kids_own ks []) r) (clear_kids ks) r → Node p (own (tail b k ks) r) (clear (tail b k ks)) r
-tail_made p c b k ks r f i z m h o d g =
-    st.is_tail d (base_fits p k b h (base_free p k c b m o)) (heads_back.trailers k (kids_own ks []) r f i z) g refl
+tail_made p c b k ks r f i z w m h o d g =
+    st.is_tail d (base_fits p k b h (base_free p k c b m w o)) (heads_back.trailers k (kids_own ks []) r f i z) g refl
 
 list_held : (d : _) (x : Slot) (ks : Kids) (r : List Tok) → Operands x (kids_own ks []) (clear_kids ks) [] → Content (within d x false) (o.enclosed d (kids_own ks []) r) (clear_kids ks) r
 list_held d x ks r q = st.holds_within (heads_back.groups d (kids_own ks []) r) q refl
 
-indexed_made : (p : Place) (c : Context) (b : Tree) (n : ℕ) (r : List Tok) → trailer_fits (e.field (an_index n)) ≡ true → Meets p c
+indexed_made : (p : Place) (c : Context) (b : Tree) (n : ℕ) (r : List Tok) → trailer_fits (e.field (an_index n)) ≡ true → Formed b → Meets p c
     → is_base (e.field (an_index n)) b ≡ true → Obeys p.level (base_context (e.field (an_index n)) c) b
     → Node p (own b (trailer_own (e.field (an_index n)) [] r)) (clear b) (trailer_own (e.field (an_index n)) [] r)
     → Node p (own (tail b (e.field (an_index n)) none) r) (clear (tail b (e.field (an_index n)) none)) r
-indexed_made p c b n r f m h o d =
-    st.is_indexed d (base_fits p (e.field (an_index n)) b h (base_free p (e.field (an_index n)) c b m o)) (heads_back.indices n [] r f) refl
+indexed_made p c b n r f w m h o d =
+    st.is_indexed d (base_fits p (e.field (an_index n)) b h (base_free p (e.field (an_index n)) c b m w o)) (heads_back.indices n [] r f) refl
+
+-- a frame but a group ends anywhere
+frame_ended : (p : Place) (k : Frame) (ks us : Kids) (n : List Tok) → frame_fits k ks ≡ true → frame_ends p k us n ≡ true
+unfolding frame_ends
+frame_ended p e.invisible ks us n f = absurd cc
+frame_ended p k ks us n f = refl
 
 frame_made : (p : Place) (k : Frame) (ks : Kids) (r : List Tok) → frame_fits k ks ≡ true → frame_stops k (kids_own ks (behind_operands (enclosure k) r)) ≡ true
     → Content (frame_holder k) (frame_rest (enclosure k) (kids_own ks (behind_operands (enclosure k) r)) r) (clear_kids ks) r → frame_stands p k (clear_kids ks) ≡ true
     → Node p (own (frame k ks) r) (clear (frame k ks)) r
-frame_made p k ks r f g q z = st.is_frame (heads_back.frames k ks (kids_own ks (behind_operands (enclosure k) r)) r f g) q z
+frame_made p k ks r f g q z = st.is_frame (heads_back.frames k ks (kids_own ks (behind_operands (enclosure k) r)) r f g) q z (frame_ended p k ks (clear_kids ks) r f)
 
 nothing_held : (ks : Kids) (r : List Tok) → FormedKids slot.done false ks → Content nothing r (clear_kids ks) r
 nothing_held none r f = st.holds_none
@@ -270,6 +277,7 @@ not_grouped slot.scrutinees c t h = absurd cc
 not_grouped slot.arms c t h = absurd cc
 not_grouped slot.bodies c t h = absurd cc
 not_grouped slot.outputs c t h = absurd cc
+not_grouped slot.groups c t h = absurd cc
 not_grouped slot.done c t h = absurd cc
 
 not_stray : (x : Slot) (c : e.Ending) (t : Tree) → piece_fits x e.stray c t ≡ true → ⊥
@@ -284,6 +292,7 @@ not_stray slot.scrutinees c t h = absurd cc
 not_stray slot.arms c t h = absurd cc
 not_stray slot.bodies c t h = absurd cc
 not_stray slot.outputs c t h = absurd cc
+not_stray slot.groups c t h = absurd cc
 not_stray slot.done c t h = absurd cc
 
 mutual
@@ -307,19 +316,19 @@ mutual
   bridge (post x k) p c r f m s h g =
       post_made p c x k r f m s h g (bridge x p (left_context (post_op k) c) (post_own k r) f.1 (meets_left p (post_op k) c m) (post_class k r) h.1 (left_calls x (post_op k)))
   bridge (tail b e.call ks) p c r f m s h g =
-      tail_made p c b e.call ks r f.0 refl refl m h.0 h.1 (bridge b p (base_context e.call c) (trailer_own e.call (kids_own ks []) r) f.1 (meets_base p e.call c m) (shows_trailer e.call (kids_own ks []) r) h.1 (base_calls b e.call h.0)) (list_held del.Parenthesis slot.elements ks r (operands ks slot.elements false [] f.2 h.2 refl))
+      tail_made p c b e.call ks r f.0 refl refl f.1 m h.0 h.1 (bridge b p (base_context e.call c) (trailer_own e.call (kids_own ks []) r) f.1 (meets_base p e.call c m) (shows_trailer e.call (kids_own ks []) r) h.1 (base_calls b e.call h.0)) (list_held del.Parenthesis slot.elements ks r (operands ks slot.elements false [] f.2 h.2 refl))
   bridge (tail b e.index ks) p c r f m s h g =
-      tail_made p c b e.index ks r f.0 refl refl m h.0 h.1 (bridge b p (base_context e.index c) (trailer_own e.index (kids_own ks []) r) f.1 (meets_base p e.index c m) (shows_trailer e.index (kids_own ks []) r) h.1 (base_calls b e.index h.0)) (list_held del.Bracket slot.single ks r (operands ks slot.single false [] f.2 h.2 refl))
+      tail_made p c b e.index ks r f.0 refl refl f.1 m h.0 h.1 (bridge b p (base_context e.index c) (trailer_own e.index (kids_own ks []) r) f.1 (meets_base p e.index c m) (shows_trailer e.index (kids_own ks []) r) h.1 (base_calls b e.index h.0)) (list_held del.Bracket slot.single ks r (operands ks slot.single false [] f.2 h.2 refl))
   bridge (tail b (e.method w a) ks) p c r f m s h g =
-      tail_made p c b (e.method w a) ks r f.0 refl refl m h.0 h.1 (bridge b p (base_context (e.method w a) c) (trailer_own (e.method w a) (kids_own ks []) r) f.1 (meets_base p (e.method w a) c m) (shows_trailer (e.method w a) (kids_own ks []) r) h.1 (base_calls b (e.method w a) h.0)) (list_held del.Parenthesis slot.elements ks r (operands ks slot.elements false [] f.2 h.2 refl))
+      tail_made p c b (e.method w a) ks r f.0 refl refl f.1 m h.0 h.1 (bridge b p (base_context (e.method w a) c) (trailer_own (e.method w a) (kids_own ks []) r) f.1 (meets_base p (e.method w a) c m) (shows_trailer (e.method w a) (kids_own ks []) r) h.1 (base_calls b (e.method w a) h.0)) (list_held del.Parenthesis slot.elements ks r (operands ks slot.elements false [] f.2 h.2 refl))
   bridge (tail b e.await ks) p c r f m s h g =
-      tail_made p c b e.await ks r f.0 refl refl m h.0 h.1 (bridge b p (base_context e.await c) (trailer_own e.await (kids_own ks []) r) f.1 (meets_base p e.await c m) (shows_trailer e.await (kids_own ks []) r) h.1 (base_calls b e.await h.0)) (nothing_held ks r f.2)
+      tail_made p c b e.await ks r f.0 refl refl f.1 m h.0 h.1 (bridge b p (base_context e.await c) (trailer_own e.await (kids_own ks []) r) f.1 (meets_base p e.await c m) (shows_trailer e.await (kids_own ks []) r) h.1 (base_calls b e.await h.0)) (nothing_held ks r f.2)
   bridge (tail b e.question ks) p c r f m s h g =
-      tail_made p c b e.question ks r f.0 refl refl m h.0 h.1 (bridge b p (base_context e.question c) (trailer_own e.question (kids_own ks []) r) f.1 (meets_base p e.question c m) (shows_trailer e.question (kids_own ks []) r) h.1 (base_calls b e.question h.0)) (nothing_held ks r f.2)
+      tail_made p c b e.question ks r f.0 refl refl f.1 m h.0 h.1 (bridge b p (base_context e.question c) (trailer_own e.question (kids_own ks []) r) f.1 (meets_base p e.question c m) (shows_trailer e.question (kids_own ks []) r) h.1 (base_calls b e.question h.0)) (nothing_held ks r f.2)
   bridge (tail b (e.field (a_name w)) ks) p c r f m s h g =
-      tail_made p c b (e.field (a_name w)) ks r f.0 refl (field_stops w b c.next r s (record { none = g.none })) m h.0 h.1 (bridge b p (base_context (e.field (a_name w)) c) (trailer_own (e.field (a_name w)) (kids_own ks []) r) f.1 (meets_base p (e.field (a_name w)) c m) (shows_trailer (e.field (a_name w)) (kids_own ks []) r) h.1 (base_calls b (e.field (a_name w)) h.0)) (nothing_held ks r f.2)
+      tail_made p c b (e.field (a_name w)) ks r f.0 refl (field_stops w b c.next r s (record { none = g.none })) f.1 m h.0 h.1 (bridge b p (base_context (e.field (a_name w)) c) (trailer_own (e.field (a_name w)) (kids_own ks []) r) f.1 (meets_base p (e.field (a_name w)) c m) (shows_trailer (e.field (a_name w)) (kids_own ks []) r) h.1 (base_calls b (e.field (a_name w)) h.0)) (nothing_held ks r f.2)
   bridge (tail b (e.field (an_index n)) none) p c r f m s h g =
-      indexed_made p c b n r f.0 m h.0 h.1 (bridge b p (base_context (e.field (an_index n)) c) (trailer_own (e.field (an_index n)) [] r) f.1 (meets_base p (e.field (an_index n)) c m) (shows_trailer (e.field (an_index n)) [] r) h.1 (base_calls b (e.field (an_index n)) h.0))
+      indexed_made p c b n r f.0 f.1 m h.0 h.1 (bridge b p (base_context (e.field (an_index n)) c) (trailer_own (e.field (an_index n)) [] r) f.1 (meets_base p (e.field (an_index n)) c m) (shows_trailer (e.field (an_index n)) [] r) h.1 (base_calls b (e.field (an_index n)) h.0))
   bridge (tail b (e.field (an_index n)) (kid j d t ks)) p c r f m s h g = absurd (let q = f.2.0.piece in cc)
   bridge (frame e.array ks) p c r f m s h g = frame_made p e.array ks r f.0 refl (list_held del.Bracket slot.elements ks r (operands ks slot.elements false [] f.1 h.1 refl)) refl
   bridge (frame e.tuple ks) p c r f m s h g = frame_made p e.tuple ks r f.0 refl (list_held del.Parenthesis slot.elements ks r (operands ks slot.elements (is_one ks) [] f.1 h.1 refl)) (tuple_comma ks f.1)

@@ -200,7 +200,7 @@ module _ (rec : Place → Reading Tree) where
         let o = index_next rec p v m n i is f a in
         let z = fields_less m (i ∷ is) n a in
         subst (λ u. Trails p l u n) (sym j) (on r.turns p l m n v (fields_of v (i ∷ is)) r.few r.came r.started o.opened o.reading z.less)
-    core_comes (is_frame {p = p} {l = l} {h = h} {n = n} {k = f} {ks = ks} a c g) b y = from_atom p l n (frame f ks) (frame_atom rec k complete p f l h n ks a c b g)
+    core_comes (is_frame {p = p} {l = l} {h = h} {n = n} {k = f} {ks = ks} a c g e) b y = from_atom p l n (frame f ks) (frame_atom rec k complete p f l h n ks a c b g e)
 
     plain_operand : {p : Place} {l n : List Tok} {x : Tree} (d : Node p l x n) → weight l ≤ k → is_plain d ≡ true → closes p x n ≡ true → operand rec p l ≡ Some (x, n)
     plain_operand {p} {l} {n} {x} d b y c = let t = core_comes d b y in bare_operand p l (Some (x, n)) t.started (core_read p l n x t c)
@@ -222,7 +222,7 @@ module _ (rec : Place → Reading Tree) where
     operand_comes (is_lead h g d e v) b y c = plain_operand (is_lead h g d e v) b refl c
     operand_comes (is_tail d f a v i) b y c = plain_operand (is_tail d f a v i) b refl c
     operand_comes (is_indexed d f a j) b y c = plain_operand (is_indexed d f a j) b refl c
-    operand_comes (is_frame a v g) b y c = plain_operand (is_frame a v g) b refl c
+    operand_comes (is_frame a v g e) b y c = plain_operand (is_frame a v g e) b refl c
 
   -- ---- operations
 
@@ -295,7 +295,7 @@ module _ (rec : Place → Reading Tree) where
     comes (is_lead {p = p} {l = l} {n = n} {k = f} {x = x} h g d e v) b c = from_operand p l n (lead f none x) (operand_comes k complete (is_lead h g d e v) b refl c)
     comes (is_tail {p = p} {l = l} {n = n} {x = x} {k = t} {ks = ks} d f a v i) b c = from_operand p l n (tail x t ks) (operand_comes k complete (is_tail d f a v i) b refl c)
     comes (is_indexed {p = p} {l = l} {n = n} {x = x} d f a j) b c = from_operand p l n x (operand_comes k complete (is_indexed d f a j) b refl c)
-    comes (is_frame {p = p} {l = l} {n = n} {k = f} {ks = ks} a v g) b c = from_operand p l n (frame f ks) (operand_comes k complete (is_frame a v g) b refl c)
+    comes (is_frame {p = p} {l = l} {n = n} {k = f} {ks = ks} a v g e) b c = from_operand p l n (frame f ks) (operand_comes k complete (is_frame a v g e) b refl c)
 
     climb_ends : (p : Place) (turns : ℕ) (x : Tree) (n : List Tok) → weight n < turns → ends p x n ≡ true → climb rec p turns x n ≡ Some (x, n)
     unfolding climb stop

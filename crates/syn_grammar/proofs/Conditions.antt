@@ -41,7 +41,7 @@ bare_of c (is_mid {p = p} d t g i j k r s q o) = both _ _ (bare_of c d) (bare_of
 bare_of c (is_post d t g i j k s o) = bare_of c d
 bare_of c (is_tail {b = b} {x = u} {is = is} d g t o q) = of_fields b u is q (bare_of c d)
 bare_of c (is_indexed {b = b} {x = x} {i = i} {is = is} d g t q) = of_fields b x (i ∷ is) q (bare_of c d)
-bare_of c (is_frame {p = p} {k = k} {ks = ks} g o s) = no_frame p k ks c s
+bare_of c (is_frame {p = p} {k = k} {ks = ks} g o s e) = no_frame p k ks c s
 
 or_true : (b : Bool) → (b || true) ≡ true
 or_true true = refl
@@ -82,7 +82,7 @@ condition_node p l n x (is_mid d c g i t j r s q o) = refl
 condition_node p l n x (is_post d c g i t j s o) = refl
 condition_node p l n x (is_tail d g t c q) = refl
 condition_node p l n x (is_indexed {b = b} {i = i} {is = is} d g t q) = indexed_holds keeps_conditions (λ c j w. refl) p b x i is g q
-condition_node p l n x (is_frame g c s) = in_content c
+condition_node p l n x (is_frame g c s e) = in_content c
 
 pub conditions_have_no_structures : ConditionsHaveNoStructures
 conditions_have_no_structures = record {

@@ -11,23 +11,25 @@ use Rattle.syn_parts.specs.Tree as t
 use Rattle.syn_parts.specs.Tree.{LitTree, AttributeTree, LifetimesTree, QSelfTree, PathTree, ArgumentsTree, ReturnTree}
 use Rattle.syn_parts.specs.Form.{then_by}
 use Rattle.syn_parts.specs.Mark.{sign, sign_at}
-use Rattle.syn_parts.specs.Part.{QPathTree, MacroEnd, qpath, macro_end, arguments, output, type}
+use Rattle.syn_parts.specs.Part.{QPathTree, MacroEnd, macro_end, arguments, output, type}
 use Rattle.syn_parts.specs.Pat.{MemberTree, PatTree, a_name, an_index, dots}
 use Rattle.syn_parts.proofs.Weights.{some_is}
 use Rattle.syn_parts.proofs.Same.{compares_toks}
 use Rattle.syn_parts.proofs.Marks.{marks, begins_in_front, sign_present, word_present, colon_present, comma_present}
 use Rattle.syn_parts.proofs.Forms.{Alike, Finds, leaf_alike, Present, Sees, Only, behind_some, weaker, when_alike, mark_at_alike, then_by_alike, both_alike, shown_alike, shown_where_alike, pure_alike, never_alike, only_true, flag_at_alike, listed_alike, closed_by_alike}
-use Rattle.syn_parts.proofs.Parts.{forms, falls_by, block_alike, inside_at_alike, outer_attributes_alike, inner_attributes_alike, lifetimes_alike, mutability_alike, macro_end_alike, arguments_alike, output_alike, qpath_alike, types_alike}
+use Rattle.syn_parts.proofs.Parts.{forms, falls_by, block_alike, inside_at_alike, outer_attributes_alike, inner_attributes_alike, lifetimes_alike, mutability_alike, macro_end_alike, arguments_alike, output_alike, types_alike}
 use Rattle.syn_parts.proofs.Pats.{member_alike, pattern_alike, closure_arg_alike}
 use Rattle.syn_grammar.specs.declared.kinds.UnKind.TheVariants as un
 use Rattle.syn_grammar.specs.declared.kinds.Limits.{Limits}
 use Rattle.syn_grammar.specs.declared.kinds.Limits.TheVariants as limits
 use Rattle.syn_grammar.specs.Tree as e
 use Rattle.syn_grammar.specs.Tree.{Body, Jump, Leaf, ClosureHead, Lead, Trailer, Piece}
+use Rattle.syn_grammar.specs.Path.{expr_path}
 use Rattle.syn_grammar.specs.Head as h
 use Rattle.syn_grammar.specs.Slot as s
 use Rattle.syn_parts.specs.Mark.{word_at}
 use Rattle.syn_grammar.specs.Slot.{Slot}
+use Rattle.syn_grammar.proofs.GroupForms.{expr_path_alike}
 
 -- ---- marks
 
@@ -336,6 +338,13 @@ only_output_block = record { itself = refl; only = only }
     only e.output_block g = refl
     only _ g = absurd cc
 
+pub only_grouped : Only e.grouped s.is_grouped
+only_grouped = record { itself = refl; only = only }
+  where
+    only : (y : Piece) → s.is_grouped y ≡ true → e.grouped ≡ y
+    only e.grouped g = refl
+    only _ g = absurd cc
+
 pub only_rest : Only (e.rest true) s.is_rest
 only_rest = record { itself = refl; only = only }
   where
@@ -362,12 +371,9 @@ sees_arm = record { there = there; back = back }
     back (e.arm ats p) x g = ap s.to_arm (sym (some_is g))
     back _ x g = absurd cc
 
-pub ruleset head_views = (only_returning, only_yielding, sees_breaking, only_half_open, only_closed, sees_body, sees_lit, only_infer, sees_full_range, sees_bare_jump, sees_continuing, sees_block, sees_loop, sees_unsafe, sees_const, sees_async, sees_try, sees_verbatim, sees_head, only_deref, only_not, only_neg, sees_reference, sees_raw_addr, sees_range_to, sees_binding, sees_jump, sees_closure, only_await, sees_method, sees_field, only_element, only_value, only_repeated, only_condition, only_loop_head, only_scrutinee, only_chained, only_guarded, only_output_block, only_rest, sees_field_value, sees_arm)
+pub ruleset head_views = (only_returning, only_yielding, sees_breaking, only_half_open, only_closed, sees_body, sees_lit, only_infer, sees_full_range, sees_bare_jump, sees_continuing, sees_block, sees_loop, sees_unsafe, sees_const, sees_async, sees_try, sees_verbatim, sees_head, only_deref, only_not, only_neg, sees_reference, sees_raw_addr, sees_range_to, sees_binding, sees_jump, sees_closure, only_await, sees_method, sees_field, only_element, only_value, only_repeated, only_condition, only_loop_head, only_scrutinee, only_chained, only_guarded, only_output_block, only_grouped, only_rest, sees_field_value, sees_arm)
 
 -- ---- jumps, ranges, blocks
-
-pub qpath_whole : {k : ℕ} → Alike k (qpath type style.Expr) (qpath type style.Expr)
-qpath_whole {k} = weaker (qpath_alike {k = k} types_alike style.Expr)
 
 pub output_whole : {k : ℕ} → Alike k (output type true) (output type true)
 output_whole {k} = weaker (output_alike {k = k} types_alike true)
@@ -434,12 +440,12 @@ macro_there (t.qself u i a) p g m n b = let d : None ≡ Some n = b in absurd cc
 
 pub named_alike : {k : ℕ} → Alike k h.named h.named
 unfolding h.named
-named_alike = shown_where_alike there named_back (then_by_alike qpath_whole (λ q. macro_end_alike q))
+named_alike = shown_where_alike there named_back (then_by_alike (expr_path_alike false) (λ q. macro_end_alike q))
   where
-    there : (l : List Tok) (x : QPathTree × MacroEnd) (n : List Tok) → (then_by (qpath type style.Expr) macro_end).behind x l ≡ Some n → h.from_named (h.to_named x) ≡ Some x
+    there : (l : List Tok) (x : QPathTree × MacroEnd) (n : List Tok) → (then_by (expr_path false) macro_end).behind x l ≡ Some n → h.from_named (h.to_named x) ≡ Some x
     there l ((q, p), None) n g = refl
     there l ((q, p), Some d) n g =
-        let (m, i, j) = behind_some ((qpath type style.Expr).behind (q, p) l) ((macro_end (q, p)).behind (Some d)) n g in
+        let (m, i, j) = behind_some ((expr_path false).behind (q, p) l) ((macro_end (q, p)).behind (Some d)) n g in
         macro_there q p d m n j
 
 -- ---- leaves, what stands before an operand, and behind a dot
@@ -490,4 +496,5 @@ piece_form_alike s.scrutinees = pure_alike only_scrutinee
 piece_form_alike s.arms = search (outer_attributes_alike, pattern_alike, forms, head_marks, head_views) depth 16
 piece_form_alike s.bodies = mark_at_alike fat_arrow_present (pure_alike only_guarded)
 piece_form_alike s.outputs = pure_alike only_output_block
+piece_form_alike s.groups = pure_alike only_grouped
 piece_form_alike {k} s.done = never_alike k

@@ -10,7 +10,6 @@ use Rattle.syn_parts.specs.Tree as t
 use Rattle.syn_parts.specs.Tree.{QSelfTree, PathTree}
 use Rattle.syn_parts.specs.Mark.{sign_at, word_at, round_at, brace_at, colon2, lifetime_at}
 use Rattle.syn_parts.specs.Own.{enclosed, type_own, qualified_own}
-use Rattle.syn_parts.specs.Part.{type, qpath}
 use Rattle.syn_parts.specs.Fits.{type_stops, output_stops, qpath_fits}
 use Rattle.syn_parts.specs.Ends.{ends_patterns, ends_types}
 use Rattle.syn_parts.specs.Pat.{PatTree, SpellsPat, bound_at, vert}
@@ -26,12 +25,14 @@ use Rattle.syn_grammar.specs.declared.kinds.Limits.TheVariants as limits
 use Rattle.syn_grammar.specs.declared.kinds.BinKind.TheVariants as bin
 use Rattle.syn_grammar.specs.declared.kinds.Infix.{Infix}
 use Rattle.syn_grammar.specs.declared.kinds.Infix.TheVariants as inf
+use Rattle.syn_grammar.specs.Path.{expr_path}
 use Rattle.syn_grammar.specs.Op.{infix_at}
 use Rattle.syn_grammar.specs.Slot.{frame_head, for_head}
 use Rattle.syn_grammar.specs.Stands.{post_behind}
 use Rattle.syn_grammar.specs.Tree as e
 use Rattle.syn_grammar.specs.Tree.{Frame, Post, Enclosure, Kids, framed, enclosure, post_own, post_op, infix_own, label_own}
 use Rattle.syn_grammar.specs.WellFormed.{post_fits, frame_fits, head_fits}
+use Rattle.syn_grammar.proofs.GroupForms.{path_stands}
 use Rattle.syn_grammar.proofs.HeadBack.{label_stops, label_back, head_back}
 
 -- ---- frames
@@ -51,11 +52,11 @@ unfolding sign_at
 no_colon2 operands r = refl
 
 structure_back : (q : QSelfTree) (p : PathTree) (r operands : List Tok) → qpath_fits style.Expr (q, p) ≡ true
-    → (qpath type style.Expr).behind (q, p) (qualified_own (q, p) [] ++ enclosed del.Brace operands r) ≡ Some (enclosed del.Brace operands r)
+    → (expr_path true).behind (q, p) (qualified_own (q, p) [] ++ enclosed del.Brace operands r) ≡ Some (enclosed del.Brace operands r)
 structure_back q p r operands f =
     let l = enclosed del.Brace operands r in
     let a = parts_end.paths_in_expressions (q, p) l f (no_colon2 operands r) in
-    rw (sym (type_append (t.path q p.leading (t.segments_of p.segments) p.trailing) l)) (parts_read_back.qualified_paths style.Expr (q, p) l f a)
+    rw (sym (type_append (t.path q p.leading (t.segments_of p.segments) p.trailing) l)) (path_stands true (q, p) (qualified_own (q, p) l) l (parts_read_back.qualified_paths style.Expr (q, p) l f a))
 
 no_lifetime : (w : Option Text) (v : Text) (l : List Tok) → label_stops w (ident v ∷ l) ≡ true
 unfolding lifetime_at

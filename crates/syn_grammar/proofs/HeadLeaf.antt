@@ -26,8 +26,9 @@ use Rattle.syn_grammar.specs.declared.kinds.Limits.TheVariants as limits
 use Rattle.syn_grammar.specs.Head as h
 use Rattle.syn_grammar.specs.Tree as e
 use Rattle.syn_grammar.specs.Tree.{Body, Jump, Leaf, leaf_own, body_own}
-use Rattle.syn_grammar.specs.Stands.{is_word_alone, is_try_alone}
+use Rattle.syn_grammar.specs.Path.{is_word_alone, is_try_alone, invisible_at}
 use Rattle.syn_grammar.specs.WellFormed.{leaf_fits, body_fits}
+use Rattle.syn_grammar.proofs.GroupForms.{path_stands}
 use Rattle.syn_grammar.proofs.HeadBack.{body_back, label_back, lifetime_or_none, jump_back, range_back, jump_stops, label_stops}
 
 -- Behind a path no `::` stands, behind one without arguments no `!` but that of `!=`, and behind the name `builtin` no `#`;
@@ -183,9 +184,19 @@ path_seen k t.no_qself false false (s ∷ z ∷ zs) r f u v =
     let (n, o) = both_true (arguments_fit style.Expr s.arguments) _ m in
     first_seen k s.ident s.arguments _ g n
 
+-- the own tokens of a path begin with no group
+pub own_visible : (q : QSelfTree) (l e : Bool) (xs : List SegmentTree) (r : List Tok) → qpath_fits style.Expr (q, record { leading = l; segments = xs; trailing = e }) ≡ true
+    → invisible_at (qualified_own (q, record { leading = l; segments = xs; trailing = e }) r) ≡ false
+unfolding invisible_at group_at
+own_visible q l true xs r f = absurd cc
+own_visible (t.qself x n a) l false xs r f = refl
+own_visible t.no_qself true false xs r f = refl
+own_visible t.no_qself false false [] r f = absurd cc
+own_visible t.no_qself false false (s ∷ xs) r f = refl
+
 named_back : (q : QSelfTree) (p : PathTree) (l r : List Tok) → (qpath type style.Expr).behind (q, p) l ≡ Some r → (is_bare (q, p) && not_ne.at r) ≡ false → h.named.behind (e.path q p) l ≡ Some r
 unfolding h.named macro_end
-named_back q p l r g i = rw (g, i) refl
+named_back q p l r g i = rw (path_stands false (q, p) l r g, i) refl
 
 path_back : (q : QSelfTree) (p : PathTree) (r : List Tok) → qpath_fits style.Expr (q, p) ≡ true → is_try_alone q p ≡ false → leaf_stops (e.path q p) r ≡ true → h.leaf_form.behind (e.path q p) (qualified_own (q, p) r) ≡ Some r
 path_back q p r f g s =
@@ -251,7 +262,7 @@ mac_back m r f =
     no_colon2 r = refl
 
     whole_back : (l : List Tok) → (qpath type style.Expr).behind (t.no_qself, m.path) l ≡ Some (behind_path r) → segments_bare m.path.segments ≡ true → is_macro_delimiter m.delimiter ≡ true → h.named.behind (e.mac m) l ≡ Some r
-    whole_back l b c d = rw (b, c) (group_back m.delimiter m.tokens r d)
+    whole_back l b c d = rw (path_stands false (t.no_qself, m.path) l (behind_path r) b, c) (group_back m.delimiter m.tokens r d)
 
 -- ---- all together
 

@@ -182,13 +182,14 @@ abbrev pub is_enclosed : Frame → Bool
 is_enclosed e.array = true
 is_enclosed e.tuple = true
 is_enclosed e.repeat = true
+is_enclosed e.invisible = true
 is_enclosed _ = false
 
 pub frame_less : (k : Frame) (l n : List Tok) → is_enclosed k ≡ false → frame_head k l ≡ Some n → IsLess n l
 frame_less e.array l n c h = absurd cc
 frame_less e.tuple l n c h = absurd cc
 frame_less e.repeat l n c h = absurd cc
-frame_less (e.structure q p d) l n c h = left_less here.paths (q, p) l n h
+frame_less (e.structure q p d) l n c h = left_less (here.expr_paths true) (q, p) l n h
 frame_less (e.closure_block f) l n c h = left_less here.closure_heads f l n h
 frame_less e.branch l n c h = if_less (word_present _) l n h
 frame_less (e.while_loop w) l n c h =
@@ -210,7 +211,7 @@ frame_left e.branch l n h = let a = frame_less e.branch l n refl h in a.tail
 frame_left (e.while_loop w) l n h = let a = frame_less (e.while_loop w) l n refl h in a.tail
 frame_left (e.for_loop w p) l n h = let a = frame_less (e.for_loop w p) l n refl h in a.tail
 frame_left e.choice l n h = let a = frame_less e.choice l n refl h in a.tail
-frame_left e.invisible l n h = absurd cc
+frame_left e.invisible l n h = subst (λ z. IsTail z l) (some_is h) (nothing_taken l)
 
 -- ---- behind an operand
 

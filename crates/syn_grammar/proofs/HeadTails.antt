@@ -10,12 +10,13 @@ use Rattle.syn_parts.specs.Text.{Text}
 use Rattle.syn_parts.specs.Same.{same_toks}
 use Rattle.syn_parts.specs.Form.{Form, then_by, flag, maybe}
 use Rattle.syn_parts.specs.Mark.{and, constant, underscore, colon}
-use Rattle.syn_parts.specs.Part.{lifetimes_at, lifetimes, QPathTree, no_arguments, macro_end, arguments, mutability, qpath, type}
+use Rattle.syn_parts.specs.Part.{lifetimes_at, lifetimes, QPathTree, no_arguments, macro_end, arguments, mutability, type}
 use Rattle.syn_parts.specs.Pat as p
 use Rattle.syn_parts.specs.Pat.{MemberTree, PatTree, a_name, an_index}
 use Rattle.syn_parts.proofs.Weights.{some_is}
 use Rattle.syn_parts.proofs.Tails.{Leaves, Found, nothing_taken, tail_then, one_taken, never_leaves, when_leaves, mark_leaves, then_by_leaves, both_leaves, shown_leaves, pure_leaves, fix_leaves, leaf_leaves, maybe_leaves, flag_leaves, case_leaves, group_case_leaves}
-use Rattle.syn_parts.proofs.TailParts.{leaving, signed_leaves, outer_attributes_leaves, inner_attributes_leaves, block_leaves, lifetimes_leaves, output_leaves, angle_bracketed_leaves, qpath_leaves, type_leaves}
+use Rattle.syn_parts.proofs.TailParts.{leaving, signed_leaves, outer_attributes_leaves, inner_attributes_leaves, block_leaves, lifetimes_leaves, output_leaves, angle_bracketed_leaves, type_leaves}
+use Rattle.syn_grammar.proofs.GroupForms.{qpath_whole_leaves, expr_path_leaves}
 use Rattle.syn_grammar.proofs.HeadForms.{kept_some}
 use Rattle.syn_grammar.specs.Head as h
 use Rattle.syn_grammar.specs.Slot as s
@@ -60,9 +61,6 @@ arguments_leaves = when_leaves _ (angle_bracketed_leaves type_leaves) no_argumen
 
 mutability_leaves : Leaves mutability
 mutability_leaves = search (case_leaves, leaving) depth 12
-
-pub qpath_whole_leaves : Leaves (qpath type style.Expr)
-qpath_whole_leaves = qpath_leaves type_leaves style.Expr
 
 -- ---- patterns
 
@@ -172,7 +170,7 @@ builtin_leaves = leaf_leaves same_toks found_builtin
 
 pub named_leaves : Leaves h.named
 unfolding h.named
-named_leaves = shown_leaves _ _ (then_by_leaves qpath_whole_leaves (λ q. macro_end_leaves q))
+named_leaves = shown_leaves _ _ (then_by_leaves (expr_path_leaves false) (λ q. macro_end_leaves q))
 
 pub leaf_form_leaves : Leaves h.leaf_form
 unfolding h.leaf_form
@@ -229,4 +227,5 @@ piece_form_leaves s.scrutinees = pure_leaves _ _
 piece_form_leaves s.arms = search (outer_attributes_leaves, pattern_leaves, case_leaves, leaving) depth 16
 piece_form_leaves s.bodies = mark_leaves s.fat_arrow (pure_leaves _ _)
 piece_form_leaves s.outputs = pure_leaves _ _
+piece_form_leaves s.groups = pure_leaves _ _
 piece_form_leaves s.done = never_leaves

@@ -1,10 +1,9 @@
 -- The heads that take a token.
-use Rattle.std.proofs.Common.{◌≡◌, ◌<◌, not, ◌&&◌, ◌==◌, List, [], ◌∷◌, Some, subst, arith, codes}
+use Rattle.std.proofs.Common.{◌≡◌, ◌<◌, false, not, ◌&&◌, ◌==◌, List, [], ◌∷◌, Some, subst, arith, codes}
 use Rattle.std.specs.Str.{bytes_eq}
 use Rattle.syn_lexer.specs.Keywords.{is_reserved_word}
 use Rattle.syn_lexer.specs.declared.lexeme.Delimiter.TheVariants as del
 use Rattle.syn_tokens.specs.Tok.{Tok, ident, punct, literal, group, weight}
-use Rattle.syn_parts.specs.declared.label.PathStyle.TheVariants as style
 use Rattle.syn_parts.specs.Form.{Form, Mark, mark, then_by, both}
 use Rattle.syn_parts.specs.Part.{unsigned}
 use Rattle.syn_parts.specs.Pat as p
@@ -13,9 +12,10 @@ use Rattle.syn_parts.proofs.Weights.{one_at_least}
 use Rattle.syn_parts.proofs.Forms.{Alike, Present}
 use Rattle.syn_parts.proofs.Parts.{forms, lifetimes_alike, block_alike, mutability_alike, outer_attributes_alike, macro_end_alike}
 use Rattle.syn_parts.proofs.Pats.{pattern_alike, closure_arg_alike}
-use Rattle.syn_parts.proofs.Takes.{Takes, mark_takes, when_takes, first_takes, second_takes, shown_takes, inside_takes, name_takes, lit_takes, qpath_takes}
+use Rattle.syn_parts.proofs.Takes.{Takes, mark_takes, when_takes, first_takes, second_takes, shown_takes, inside_takes, name_takes, lit_takes}
 use Rattle.syn_grammar.specs.Head as h
 use Rattle.syn_grammar.specs.Slot as s
+use Rattle.syn_grammar.proofs.GroupForms.{expr_path_takes}
 use Rattle.syn_grammar.proofs.HeadForms.{head_marks, head_views, kept_some, use_alike, output_whole, arguments_whole, label_alike, body_alike, field_colon_alike}
 use Rattle.syn_grammar.proofs.HeadTails.{name_some, index_some}
 
@@ -80,7 +80,7 @@ body_takes = inside_takes del.Brace h.body_inside
 
 pub named_takes : Takes h.named
 unfolding h.named
-named_takes = shown_takes h.to_named h.from_named (first (qpath_takes style.Expr) (λ q. macro_end_alike q))
+named_takes = shown_takes h.to_named h.from_named (first (expr_path_takes false) (λ q. macro_end_alike q))
 
 pub leaf_form_takes : Takes h.leaf_form
 unfolding h.leaf_form

@@ -10,7 +10,7 @@ use Rattle.syn_parts.specs.Tree as t
 use Rattle.syn_parts.specs.Tree.{AttributeTree, QSelfTree, PathTree, SegmentTree, ArgumentsTree}
 use Rattle.syn_parts.specs.Mark.{sign_at, word_at, lifetime_at, brace_at, round_at, colon, colon2, comma, not_ne, mutable}
 use Rattle.syn_parts.specs.Own.{qualified_own}
-use Rattle.syn_parts.specs.Part.{has_none, is_bare, macro_end, qpath, type}
+use Rattle.syn_parts.specs.Part.{has_none, is_bare, macro_end}
 use Rattle.syn_parts.specs.Fits.{qpath_fits, output_stops, path_stops}
 use Rattle.syn_parts.specs.Pat.{a_name, an_index, dots, member}
 use Rattle.syn_parts.specs.PatFits.{attributes_outer, member_fits}
@@ -28,10 +28,12 @@ use Rattle.syn_grammar.specs.Slot as s
 use Rattle.syn_grammar.specs.Slot.{Slot, piece_form, ending_at, frame_head}
 use Rattle.syn_grammar.specs.Tree.{Tree, Piece, Ending, Trailer, Frame, Post, Kids, Jump, Leaf, Lead, ClosureHead, piece_own, ending_own, trailer_own, framed, enclosure, is_block_like, leaf_own, lead_own, label_own, jump_own, closure_own}
 use Rattle.syn_grammar.specs.Tree as e
-use Rattle.syn_grammar.specs.Stands.{is_word_alone, is_try_alone, trailer_head, name_at, post_behind, with_steps}
+use Rattle.syn_grammar.specs.Path.{is_word_alone, is_try_alone, expr_path}
+use Rattle.syn_grammar.specs.Stands.{trailer_head, name_at, post_behind, with_steps}
 use Rattle.syn_grammar.specs.WellFormed.{leaf_fits, lead_fits, head_fits, piece_fits, trailer_fits, frame_fits}
+use Rattle.syn_grammar.proofs.GroupForms.{plain_path}
 use Rattle.syn_grammar.proofs.HeadBack.{label_stops, jump_stops, lead_stops, head_opens, closure_seen}
-use Rattle.syn_grammar.proofs.HeadLeaf.{leaf_stops, path_seen}
+use Rattle.syn_grammar.proofs.HeadLeaf.{leaf_stops, path_seen, own_visible}
 use Rattle.syn_grammar.proofs.HeadPlaces.{piece_stops, is_written, ending_stops, field_opens}
 use Rattle.syn_grammar.proofs.HeadTrailers.{r_await, trailer_stops, trailer_rest, is_indexed}
 use Rattle.syn_grammar.proofs.HeadFrames.{frame_stops, frame_rest, post_rest, post_ends}
@@ -135,11 +137,12 @@ no_special q p t.no_qself false false (s ∷ []) r f g = by_arguments s.ident s.
     by_arguments w (t.angle c gs e) g = and_none (bytes_eq w (codes "builtin")) (sign_at (codes "#") r)
     by_arguments w (t.round xs e o) g = and_none (bytes_eq w (codes "builtin")) (sign_at (codes "#") r)
 
-named_told : (q : QSelfTree) (p : PathTree) (r : List Tok) → h.named.behind (e.path q p) (qualified_own (q, p) r) ≡ Some r → (path_stops style.Expr p r ≡ true) × ((is_bare (q, p) && not_ne.at r) ≡ false)
+named_told : (q : QSelfTree) (p : PathTree) (r : List Tok) → qpath_fits style.Expr (q, p) ≡ true → h.named.behind (e.path q p) (qualified_own (q, p) r) ≡ Some r → (path_stops style.Expr p r ≡ true) × ((is_bare (q, p) && not_ne.at r) ≡ false)
 unfolding h.named macro_end
-named_told q p r g =
-    let (m, i, j) = behind_some ((qpath type style.Expr).behind (q, p) (qualified_own (q, p) r)) ((macro_end (q, p)).behind None) r g in
-    let w = parts_told.qualified_paths style.Expr (q, p) r m i in
+named_told q p r f g =
+    let (m, i, j) = behind_some ((expr_path false).behind (q, p) (qualified_own (q, p) r)) ((macro_end (q, p)).behind None) r g in
+    let v = own_visible q p.leading p.trailing p.segments r f in
+    let w = parts_told.qualified_paths style.Expr (q, p) r m (plain_path false (q, p) (qualified_own (q, p) r) m v i) in
     (w.ends, by_bang (is_bare (q, p) && not_ne.at r) (subst (λ z. (macro_end (q, p)).behind None z ≡ Some r) w.same j))
   where
     by_bang : (b : Bool) → cond {A = Option (List Tok)} b None (Some r) ≡ Some r → b ≡ false
@@ -149,7 +152,7 @@ named_told q p r g =
 path_told : (q : QSelfTree) (p : PathTree) (r : List Tok) → qpath_fits style.Expr (q, p) ≡ true → is_try_alone q p ≡ false → h.leaf_form.behind (e.path q p) (qualified_own (q, p) r) ≡ Some r → leaf_stops (e.path q p) r ≡ true
 path_told q p r f g i =
     let s = no_special q p q p.leading p.trailing p.segments r f i in
-    let (j, k) = named_told q p r (sym (path_seen (e.path q p) q p.leading p.trailing p.segments r f (rw g refl) s) ∙ i) in
+    let (j, k) = named_told q p r f (sym (path_seen (e.path q p) q p.leading p.trailing p.segments r f (rw g refl) s) ∙ i) in
     let (u, v) = both_true _ (not (colon2.at r)) j in
     rw (v, k, s) refl
 

@@ -13,9 +13,11 @@ use Rattle.syn_parts.proofs.Readable.{qpath_readable, type_readable}
 use Rattle.syn_parts.proofs.Tails.{Leaves}
 use Rattle.syn_parts.proofs.TailParts.{outer_attributes_leaves, inner_attributes_leaves}
 use Rattle.syn_parts.proofs.Takes.{Takes}
+use Rattle.syn_grammar.specs.Path.{expr_path}
 use Rattle.syn_grammar.specs.Head.{label, jump_head, range_op, body_inside, body, builtin, named, leaf_form, closure_head, lead_form, dotted}
 use Rattle.syn_grammar.specs.Slot as s
 use Rattle.syn_grammar.specs.Slot.{Slot, piece_form, for_head}
+use Rattle.syn_grammar.proofs.GroupForms.{expr_path_alike, expr_path_leaves, expr_path_takes}
 use Rattle.syn_grammar.proofs.HeadForms.{label_alike, jump_head_alike, range_op_alike, body_inside_alike, body_alike, builtin_alike, named_alike, leaf_form_alike, closure_head_alike, lead_form_alike, dotted_alike, for_head_alike, piece_form_alike}
 use Rattle.syn_grammar.proofs.HeadTails.{macro_end_leaves, pattern_leaves, label_leaves, jump_head_leaves, range_op_leaves, body_inside_leaves, body_leaves, builtin_leaves, named_leaves, leaf_form_leaves, closure_head_leaves, lead_form_leaves, dotted_leaves, for_head_leaves, piece_form_leaves}
 use Rattle.syn_grammar.proofs.HeadTakes.{jump_head_takes, range_op_takes, body_takes, builtin_takes, named_takes, leaf_form_takes, closure_head_takes, lead_form_takes, dotted_takes, for_head_takes, fields_take, otherwise_takes, arms_take, bodies_take}
@@ -60,6 +62,7 @@ pub record HeadsAreReadable : Type 0 where
   pub outer : IsReadable 0 outer_attributes
   pub inner : IsReadable 0 inner_attributes
   pub paths : IsReadable 1 (qpath type style.Expr)
+  pub expr_paths : (braces : Bool) → IsReadable 1 (expr_path braces)
   pub macro_ends : (q : QPathTree) → IsReadable 0 (macro_end q)
   pub types : (several : Bool) → IsReadable 1 (type several)
   pub patterns : (several : Bool) → IsReadable 0 (pattern several)
@@ -86,6 +89,7 @@ heads_readable = record {
   outer = readable_or_none outer_attributes_alike outer_attributes_leaves;
   inner = readable_or_none inner_attributes_alike inner_attributes_leaves;
   paths = qpath_readable style.Expr;
+  expr_paths = λ b. readable (expr_path_alike b) (expr_path_leaves b) (expr_path_takes b);
   macro_ends = λ q. readable_or_none (macro_end_alike q) (macro_end_leaves q);
   types = type_readable;
   patterns = λ b. readable_or_none (pattern_alike b) (pattern_leaves b);

@@ -28,6 +28,7 @@ use Rattle.syn_grammar.specs.Place.{plain, before_block, at_head}
 use Rattle.syn_grammar.specs.Next.{piece_context}
 use Rattle.syn_grammar.specs.Slot as s
 use Rattle.syn_grammar.specs.Slot.{Slot, after, may_end, piece_place}
+use Rattle.syn_grammar.specs.Path.{is_sole}
 use Rattle.syn_grammar.specs.Stands as st
 use Rattle.syn_grammar.specs.Stands.{Node, Operands, is_branch, ends, closes, ends_piece, ends_list, path_of, short_value, takes_block}
 use Rattle.syn_grammar.specs.Tree as e
@@ -128,6 +129,7 @@ operands_end s.loops last r f w = absurd cc
 operands_end s.scrutinees last r f w = absurd cc
 operands_end s.bodies last r f w = absurd cc
 operands_end s.outputs last r f w = absurd cc
+operands_end s.groups last r f w = absurd cc
 
 -- ---- one operand, by what is behind it
 
@@ -466,7 +468,7 @@ same_path : (w v : Text) (a : t.ArgumentsTree) → v ≡ w → a ≡ t.no_argume
     → leaf (e.path t.no_qself (record { leading = false; segments = record { ident = v; arguments = a } ∷ []; trailing = false })) ≡ path_of w
 same_path w v a p q = rw (p, q) refl
 
-path_is : (w : Text) (b : Bool) (ss : List SegmentTree) (e0 : Bool) → not b && st.is_sole w ss ≡ true → e0 ≡ false → leaf (e.path t.no_qself (record { leading = b; segments = ss; trailing = e0 })) ≡ path_of w
+path_is : (w : Text) (b : Bool) (ss : List SegmentTree) (e0 : Bool) → not b && is_sole w ss ≡ true → e0 ≡ false → leaf (e.path t.no_qself (record { leading = b; segments = ss; trailing = e0 })) ≡ path_of w
 path_is w true ss e0 h z = absurd cc
 path_is w false [] e0 h z = absurd cc
 path_is w false (x ∷ y ∷ ss) e0 h z = absurd cc

@@ -77,7 +77,7 @@ frame_node tr.branch l h n ks a c t = less_then (frame_less tr.branch l h refl a
 frame_node (tr.while_loop w) l h n ks a c t = less_then (frame_less (tr.while_loop w) l h refl a) t
 frame_node (tr.for_loop w p) l h n ks a c t = less_then (frame_less (tr.for_loop w p) l h refl a) t
 frame_node tr.choice l h n ks a c t = less_then (frame_less tr.choice l h refl a) t
-frame_node tr.invisible l h n ks a c t = absurd cc
+frame_node tr.invisible l h n ks a c t = subst (λ z. IsLess n z) (sym (some_is a)) (within_less c)
 
 tail_of : {n l : List Tok} → IsLess n l → IsTail n l
 tail_of h = h.tail
@@ -94,7 +94,7 @@ mutual
   node_less (is_post {m = m} {n = n} {k = k} {count = count} d c f i t b g a) = less_then (node_less d) (tail_then (dropped count m) (post_left k (drop count m) n b))
   node_less (is_tail {m = m} {h = h} {k = k} {is = is} d f t c i) = less_then (node_less d) (tail_then (trailer_left k m is h t) (content_left c))
   node_less (is_indexed {m = m} {n = n} {i = i} {is = is} d f t j) = less_then (node_less d) (tail_of (fields_less m (i ∷ is) n t))
-  node_less (is_frame {l = l} {h = h} {n = n} {k = k} {ks = ks} a c g) = frame_node k l h n ks a c (content_left c)
+  node_less (is_frame {l = l} {h = h} {n = n} {k = k} {ks = ks} a c g e) = frame_node k l h n ks a c (content_left c)
 
   pub content_left : {v : Holder} {l n : List Tok} {ks : Kids} → Content v l ks n → IsTail n l
   content_left (holds_none {n = n}) = nothing_taken n

@@ -2,6 +2,7 @@ pub mod Bools
 pub mod Attributes
 pub mod Obeys
 pub mod Formed
+pub mod Holds
 pub mod Edges
 pub mod Good
 pub mod Bare
@@ -9,6 +10,7 @@ pub mod Shows
 pub mod OwnFronts
 pub mod Places
 pub mod Stood
+pub mod GroupForms
 pub mod HeadForms
 pub mod PatFront
 pub mod Kids
@@ -52,6 +54,8 @@ pub mod ReadFrames
 pub mod ReadTrailers
 pub mod Complete
 pub mod Exact
+pub mod Alone
+pub mod AloneKinds
 pub mod ShownFronts
 pub mod ShownParts
 pub mod ShownFirst

@@ -20,11 +20,13 @@ use Rattle.syn_parts.specs.Part.{QPathTree, qpath, path, pieces, segment, segmen
 use Rattle.syn_parts.proofs.Ends.{sign_first}
 use Rattle.syn_parts.proofs.Fronts.{NoSegment, word_not, no_truth, not_for, not_underscore, not_unsafe}
 use Rattle.syn_grammar.specs.Front.{bracket_at}
+use Rattle.syn_grammar.specs.Path.{invisible_at, expr_path}
 use Rattle.syn_grammar.specs.Head.{closure_at, range_at, jump_at, literal_at, loop_at, loop_word, block_at, const_block_at, async_block_at, try_block_at, builtin_at, label, past_label}
 use Rattle.syn_grammar.specs.Slot.{if_word, match_word, while_word, for_word}
 use Rattle.syn_grammar.specs.Read.{leaf_at, lead_at, loop_head_at, become_word}
 use Rattle.syn_grammar.proofs.Chains.{some_is, behind_some, only_some, chosen, both_true, not_true}
 use Rattle.syn_grammar.proofs.Fronts.{word_is, no_lifetime, sign_no_leaf, flag_is}
+use Rattle.syn_grammar.proofs.GroupForms.{invisible_is, plain_path}
 use Rattle.syn_grammar.proofs.HeadLeaf.{not_leaf_words}
 
 -- words that no path and no leaf begins with
@@ -123,6 +125,22 @@ unfolding qpath
 qpath_front q l n g = ⊎_elim (λ a. sign_first 60 [] (λ z. Named z) named_less l a.0)
     (λ a. let (p, b, c) = behind_some (from_bare q) (λ p. (path type style.Expr).behind p l) n a.1 in path_front p l n c)
     (chosen (less.at l) _ _ (Some n) g)
+
+-- an invisible group, which a path may begin with
+pub group_named : (i : Inside) (m : List Tok) → Named (group del.None i ∷ m)
+unfolding lead_at range_at jump_at closure_at sign_at word_at lifetimes_at loop_head_at lifetime_at round_at bracket_at group_at leaf_at literal_at loop_at block_at const_block_at async_block_at try_block_at builtin_at brace_at
+group_named i m = record { no_lead = refl; no_round = refl; no_bracket = refl; no_become = refl; no_if = refl; no_loop = refl; no_match = refl; no_leaf = λ a b. refl }
+
+pub group_words : (l : List Tok) → invisible_at l ≡ true → (try_block_at l ≡ false) × (builtin_at l ≡ false)
+unfolding try_block_at builtin_at word_at
+group_words l v = let (i, m, e) = invisible_is l v in subst (λ z. (try_block_at z ≡ false) × (builtin_at z ≡ false)) (sym e) (refl, refl)
+
+pub expr_path_front : (braces : Bool) (q : QPathTree) (l n : List Tok) → (expr_path braces).behind q l ≡ Some n → Named l
+expr_path_front braces q l n g = by_group (invisible_at l) refl
+  where
+    by_group : (b : Bool) → invisible_at l ≡ b → Named l
+    by_group true v = let (i, m, e) = invisible_is l v in subst (λ z. Named z) (sym e) (group_named i m)
+    by_group false v = qpath_front q l n (plain_path braces q l n v g)
 
 -- ---- the path that is a word alone
 

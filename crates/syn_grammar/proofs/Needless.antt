@@ -68,7 +68,7 @@ mutual
   proper (is_post d q r i t u o w) = proper d
   proper (is_tail {b = b} {is = is} d f t o q) = (subst Proper (sym q) (proper_fields is b (proper d)), proper_content o)
   proper (is_indexed {b = b} {i = i} {is = is} d f t q) = subst Proper (sym q) (proper_fields (i ∷ is) b (proper d))
-  proper (is_frame f o g) = proper_content o
+  proper (is_frame f o g e) = proper_content o
 
   proper_content : {h : Holder} {l n : List Tok} {ks : Kids} → Content h l ks n → ProperKids ks
   proper_content holds_none = tt

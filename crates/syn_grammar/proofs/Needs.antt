@@ -1,7 +1,8 @@
 -- The forms that the reading of expressions follows.
-use Rattle.std.proofs.Common.{ℕ, false, arith}
+use Rattle.std.proofs.Common.{ℕ, Bool, false, arith}
 use Rattle.syn_parts.specs.declared.label.PathStyle.TheVariants as style
 use Rattle.syn_parts.specs.Part.{outer_attributes, inner_attributes, qpath, macro_end, type, QPathTree}
+use Rattle.syn_grammar.specs.Path.{expr_path}
 use Rattle.syn_grammar.specs.Head.{leaf_form, lead_form, closure_head, dotted, label}
 use Rattle.syn_grammar.specs.Slot.{Slot, piece_form, for_head}
 use Rattle.syn_parts.specs.Form.{Form}
@@ -15,6 +16,7 @@ pub record Heads : Type 0 where
   pub outers : Reads outer_attributes
   pub inners : Reads inner_attributes
   pub qpaths : Reads (qpath type style.Expr)
+  pub paths : (braces : Bool) → Reads (expr_path braces)
   pub macro_ends : (q : QPathTree) → Reads (macro_end q)
   pub types : Reads (type false)
   pub closures : Reads closure_head
@@ -37,6 +39,7 @@ heads = let h = heads_readable in record {
   outers = reads h.outer;
   inners = reads h.inner;
   qpaths = reads h.paths;
+  paths = λ b. reads (h.expr_paths b);
   macro_ends = λ q. reads (h.macro_ends q);
   types = reads (h.types false);
   closures = reads h.closure_heads;

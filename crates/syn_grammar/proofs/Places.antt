@@ -24,8 +24,8 @@ use Rattle.syn_grammar.specs.Stands.{is_infix, is_range, is_cast, carries, compa
 use Rattle.syn_grammar.specs.Tree as e
 use Rattle.syn_grammar.specs.Tree.{Tree, Kids, Leaf, Lead, Frame, Trailer, leaf, paren, adorned, lead, mid, post, tail, frame, none, is_block_like, is_block_leaf, is_block_frame, infix_own, clear, clear_kids}
 use Rattle.syn_grammar.proofs.Bools.{or_false, neither, not_it, or_true, or_none}
-use Rattle.syn_grammar.proofs.FillIns.{block_clear}
 use Rattle.syn_grammar.proofs.Formed.{Formed}
+use Rattle.syn_grammar.proofs.Holds.{block_held, formed_holds}
 use Rattle.syn_grammar.proofs.Obeys.{Fits, FitsLeft, Obeys}
 use Rattle.syn_grammar.proofs.Shows.{Shows, is_round_next, shows_op}
 
@@ -472,11 +472,11 @@ no_block v c (tail t k ks) b h = refl
 no_block v c (frame k ks) b h = below_frame c k b h.0
 
 -- left of an operator, a call or an index
-pub goes_free : (p : Place) (v : Level) (c d : Context) (t : Tree) → Meets p c → d.edge ≡ left_edge c.edge → Obeys v d t → rests p (clear t) ≡ false
-goes_free p v c d t m s h = go c.edge refl
+pub goes_free : (p : Place) (v : Level) (c d : Context) (t : Tree) → Meets p c → d.edge ≡ left_edge c.edge → Formed t → Obeys v d t → rests p (clear t) ≡ false
+goes_free p v c d t m s f h = go c.edge refl
   where
     below : is_below d.edge ≡ true → rests p (clear t) ≡ false
-    below b = rw (block_clear t, no_block v d t b h) (and-false p.head)
+    below b = rw (formed_holds t f, no_block v d t b h) (and-false p.head)
 
     go : (x : Edge) → c.edge ≡ x → rests p (clear t) ≡ false
     go edge.Free i = rw (m.head, i) refl
@@ -670,11 +670,11 @@ block_fits t = record { no_operator = refl; no_trailer = refl }
 -- a block-like whole at a head stands before all but `.` and `?`
 pub rests_ends : (x : Tree) (l : List Tok) → is_block_like x ≡ true → ends at_head x l ≡ true
 unfolding ends
-rests_ends x l h = rw h (or_true (is_range x))
+rests_ends x l h = rw (block_held x h) (or_true (is_range x))
 
 pub rests_closes : (x : Tree) (l : List Tok) → is_block_like x ≡ true → dot_at l ≡ false → question_at l ≡ false → closes at_head x l ≡ true
 unfolding closes
-rests_closes x l h d q = rw (h, d, q) (flat (carries x || is_cast x))
+rests_closes x l h d q = rw (block_held x h, d, q) (flat (carries x || is_cast x))
   where
     flat : (b : Bool) → not (b && false) ≡ true
     flat true = refl

@@ -1,6 +1,6 @@
 -- Leaves, paths and lists of operands: what stands is read.
 use Rattle.std.specs.Prelude.{not, ◌||◌, ◌&&◌}
-use Rattle.std.proofs.Common.{◌≡◌, Bool, true, false, ⊎_elim, List, [], ◌∷◌, drop, Option, Some, None, refl, ap, sym, ◌∙◌, subst}
+use Rattle.std.proofs.Common.{◌≡◌, Bool, true, false, cond, ⊎_elim, List, [], ◌∷◌, drop, Option, Some, None, refl, ap, sym, ◌∙◌, subst}
 use Rattle.std.proofs.Math.Bool.{and-false}
 use Rattle.syn_lexer.specs.declared.lexeme.Delimiter.TheVariants as del
 use Rattle.syn_lexer.specs.declared.lexeme.Spacing.{Spacing}
@@ -17,19 +17,21 @@ use Rattle.syn_grammar.specs.declared.kinds.Limits.{Limits}
 use Rattle.syn_grammar.specs.declared.kinds.Limits.TheVariants as limits
 use Rattle.syn_grammar.specs.Place.{plain}
 use Rattle.syn_grammar.specs.Front.{bracket_at}
+use Rattle.syn_grammar.specs.Path.{invisible_at, expr_path}
 use Rattle.syn_grammar.specs.Tree as tr
 use Rattle.syn_grammar.specs.Tree.{Tree, Kids, Leaf, Lead, Piece, Ending, Jump, leaf, none, kid}
 use Rattle.syn_grammar.specs.Head as h
 use Rattle.syn_grammar.specs.Head.{leaf_form, lead_form, named, to_named, range_at, jump_at, range_op, jump_head, from_full_range, from_bare_jump, closure_at}
 use Rattle.syn_grammar.specs.Slot.{Slot, may_end, elements, single, counted, after, piece_form, piece_place, ending_at, comma_or_end}
 use Rattle.syn_grammar.specs.Stands.{Node, Operands, no_more, one_more, short, block, ends, closes, ends_piece, ends_list, short_value, takes_block, leaf_stands, lead_stands}
-use Rattle.syn_grammar.specs.Read.{Reading, leaf_read, leaf_at, lead_at, loop_head_at, lead_read, unled, named_read, named_by, atom}
+use Rattle.syn_grammar.specs.Read.{Reading, leaf_read, leaf_at, lead_at, loop_head_at, lead_read, unled, named_read, named_by, group_read, framed_by, atom}
 use Rattle.syn_grammar.proofs.Chains.{some_is, then_some, behind_some, only_some, chosen, both_true}
 use Rattle.syn_grammar.proofs.Needs.{heads}
 use Rattle.syn_grammar.proofs.Sound.{empty_is}
 use Rattle.syn_grammar.proofs.SoundAtoms.{NoLeaf, no_leaf, named_reads}
 use Rattle.syn_grammar.proofs.Fronts.{no_lifetime, sign_no_leaf, range_lead, range_leads, jump_lead, jump_leads}
-use Rattle.syn_grammar.proofs.NameFronts.{Named, qpath_front}
+use Rattle.syn_grammar.proofs.GroupForms.{plain_read, in_place}
+use Rattle.syn_grammar.proofs.NameFronts.{Named, expr_path_front}
 
 -- ---- leaves
 
@@ -171,6 +173,10 @@ element_kind {l} {k = k} (block {m = m} a v g more) = element_only k l m a
 
 -- ---- atoms
 
+either : {A : Type 0} (b : Bool) (x y q : A) → x ≡ q → y ≡ q → cond b x y ≡ q
+either true x y q g h = g
+either false x y q g h = h
+
 module _ (rec : Place → Reading Tree) where
   pub leads : (p : Place) (l : List Tok) (q : Option (Tree × List Tok)) → leaf_at l ≡ false → lead_at l ≡ true → lead_read rec p l ≡ q → atom rec p l ≡ q
   unfolding atom
@@ -180,11 +186,22 @@ module _ (rec : Place → Reading Tree) where
   named_end p q (Some g) n a = rw a refl
   named_end p q None n a = rw (path_alone p q n a, a) refl
 
-  pub unnamed : (p : Place) (l : List Tok) (q : Option (Tree × List Tok)) → leaf_at l ≡ false → Named l → named_read rec p l ≡ q → atom rec p l ≡ q
+  by_front : (p : Place) (l : List Tok) → leaf_at l ≡ false → Named l → atom rec p l ≡ cond (invisible_at l) (group_read rec p l) (named_read rec p l)
   unfolding atom
-  unnamed p l q a n g = rw (a, n.no_lead, n.no_round, n.no_bracket, n.no_become, n.no_if, n.no_loop, n.no_match) g
+  by_front p l a n = rw (a, n.no_lead, n.no_round, n.no_bracket, n.no_become, n.no_if, n.no_loop, n.no_match) refl
 
-  name_read : (p : Place) (l m n : List Tok) (q : QPathTree) (g : MacroEnd) → (qpath type style.Expr).reads l ≡ Some (q, m) → (macro_end q).reads m ≡ Some (g, n)
+  pub unnamed : (p : Place) (l m : List Tok) (x : QPathTree) (q : Option (Tree × List Tok)) → leaf_at l ≡ false → Named l → (expr_path (not p.condition)).reads l ≡ Some (x, m) → named_read rec p l ≡ q
+      → atom rec p l ≡ q
+  unfolding group_read
+  unnamed p l m x q a n r g = by_front p l a n ∙ either (invisible_at l) _ _ q (rw r g) g
+
+  -- an operand in an invisible group that no path begins with
+  pub grouped : (p : Place) (l : List Tok) (q : Option (Tree × List Tok)) → leaf_at l ≡ false → Named l → invisible_at l ≡ true → (expr_path (not p.condition)).reads l ≡ None
+      → framed_by rec p tr.invisible l ≡ q → atom rec p l ≡ q
+  unfolding group_read
+  grouped p l q a n v r g = by_front p l a n ∙ rw (v, r) g
+
+  name_read : (p : Place) (l m n : List Tok) (q : QPathTree) (g : MacroEnd) → (expr_path (not p.condition)).reads l ≡ Some (q, m) → (macro_end q).reads m ≡ Some (g, n)
       → leaf_stands p (to_named (q, g)) n ≡ true → named_read rec p l ≡ Some (leaf (to_named (q, g)), n)
   unfolding named_read
   name_read p l m n q g a b c = rw (a, b) (named_end p q g n c)
@@ -213,15 +230,16 @@ module _ (rec : Place → Reading Tree) where
 
       by_name : NoLeaf l → leaf_at l ≡ false → range_at l ≡ false → jump_at l ≡ false → atom rec p l ≡ Some (leaf k, n)
       by_name a b v w =
-          let r : named.reads l ≡ Some (k, n) = sym (named_reads l a (record { no_range = v; no_jump = w })) ∙ heads.leaves.found l k n g in
-          let (z, c, d) = then_some ((then_by (qpath type style.Expr) macro_end).reads l) (λ x n. Some (to_named x, n)) (k, n) r in
-          let (q, i, j) = then_some ((qpath type style.Expr).reads l) (λ x m. and_then ((macro_end x).reads m) (λ y n. Some ((x, y), n))) z c in
+          let w : named.reads l ≡ Some (k, n) = sym (named_reads l a (record { no_range = v; no_jump = w })) ∙ heads.leaves.found l k n g in
+          let (z, c, d) = then_some ((then_by (expr_path false) macro_end).reads l) (λ x n. Some (to_named x, n)) (k, n) w in
+          let (q, i, j) = then_some ((expr_path false).reads l) (λ x m. and_then ((macro_end x).reads m) (λ y n. Some ((x, y), n))) z c in
           let (m, t, u) = then_some ((macro_end q.0).reads q.1) (λ y n. Some ((q.0, y), n)) z j in
           let x : ((q.0, m.0), m.1) ≡ z = some_is u in
           let y : (to_named (q.0, m.0), m.1) ≡ (k, n) = ap (λ (r : (QPathTree × MacroEnd) × List Tok). (to_named r.0, r.1)) x ∙ some_is d in
           let o : leaf_stands p (to_named (q.0, m.0)) m.1 ≡ true = subst (λ (r : Leaf × List Tok). leaf_stands p r.0 r.1 ≡ true) (sym y) s in
-          unnamed p l (Some (leaf k, n)) b (qpath_front q.0 l q.1 (heads.qpaths.sound l q.0 q.1 i))
-          (name_read p l q.1 m.1 q.0 m.0 i t o ∙ ap (λ (r : Leaf × List Tok). Some (leaf r.0, r.1)) y)
+          let r = in_place p.condition l q.0 q.1 i in
+          unnamed p l q.1 q.0 (Some (leaf k, n)) b (expr_path_front false q.0 l q.1 ((heads.paths false).sound l q.0 q.1 i)) r
+          (name_read p l q.1 m.1 q.0 m.0 r t o ∙ ap (λ (r : Leaf × List Tok). Some (leaf r.0, r.1)) y)
 
       by_jump_test : NoLeaf l → leaf_at l ≡ false → range_at l ≡ false → (b : Bool) → jump_at l ≡ b → atom rec p l ≡ Some (leaf k, n)
       by_jump_test a b v true w = by_jump a b v w
@@ -236,8 +254,8 @@ module _ (rec : Place → Reading Tree) where
       by_leaf false v = by_range_test (no_leaf l v) v (range_at l) refl
 
   pound_none : (p : Place) (s : Spacing) (m : List Tok) → atom rec p (punct 35 s ∷ m) ≡ None
-  unfolding atom named_read round_at bracket_at group_at word_at loop_head_at
-  pound_none p s m = rw (sign_no_leaf 35 s m refl, no_pound_lead s m, no_lifetime 35 s m refl, pound_path s m) refl
+  unfolding atom named_read invisible_at round_at bracket_at group_at word_at loop_head_at
+  pound_none p s m = rw (sign_no_leaf 35 s m refl, no_pound_lead s m, no_lifetime 35 s m refl, plain_read (not p.condition) (punct 35 s ∷ m) refl, pound_path s m) refl
 
   -- no operand begins with `#`
   pub no_pound : (p : Place) (l : List Tok) (q : Tree × List Tok) → atom rec p l ≡ Some q → pound.at l ≡ false

@@ -1,5 +1,6 @@
 -- Frames, parentheses and what stands before an operand: what stands is read.
 use Rattle.std.specs.Prelude.{not, ◌&&◌, if◌then◌else◌}
+use Rattle.std.proofs.Math.Bool.{and-false}
 use Rattle.std.proofs.Common.{◌≡◌, ℕ, ◌<◌, ◌≤◌, Bool, true, false, List, [], ◌∷◌, ◌++◌, drop, codes, Option, Some, None, refl, ap, sym, ◌∙◌, subst, arith}
 use Rattle.syn_lexer.specs.declared.lexeme.Delimiter.TheVariants as del
 use Rattle.syn_lexer.specs.declared.lexeme.Delimiter.{Delimiter}
@@ -12,19 +13,22 @@ use Rattle.syn_lexer.specs.Keywords.{is_reserved_word}
 use Rattle.syn_parts.specs.declared.label.PathStyle.TheVariants as style
 use Rattle.syn_parts.specs.Form.{Outcome, and_then}
 use Rattle.syn_parts.specs.Mark.{colon2, sign_at, word_at, brace_at, round_at, pound}
-use Rattle.syn_parts.specs.Part.{QPathTree, qpath, type, macro_end}
+use Rattle.syn_parts.specs.Tree.{QSelfTree, PathTree}
+use Rattle.syn_parts.specs.Part.{QPathTree, qpath, type, is_bare, macro_end}
 use Rattle.syn_parts.specs.Pat.{PatTree}
 use Rattle.syn_parts.proofs.Ends.{sign_first}
 use Rattle.syn_parts.proofs.Same.{same_toks-refl}
 use Rattle.syn_grammar.specs.declared.kinds.Place.{Place}
 use Rattle.syn_grammar.specs.Place.{plain}
-use Rattle.syn_grammar.specs.Front.{bracket_at}
+use Rattle.syn_grammar.specs.Front.{trailer_at, bracket_at, question_at, dot_at, three_dots_at, left_arrow_at}
+use Rattle.syn_grammar.specs.Op.{goes_on, infix_at}
 use Rattle.syn_grammar.specs.Tree as tr
 use Rattle.syn_grammar.specs.Tree.{Tree, Kids, Lead, Frame, Piece, Ending, ClosureHead, leaf, paren, lead, frame, none, kid}
-use Rattle.syn_grammar.specs.Head.{lead_form, closure_head, to_named, label, try_block_at, builtin_at}
+use Rattle.syn_grammar.specs.Head.{lead_form, closure_head, named, to_named, label, try_block_at, builtin_at}
 use Rattle.syn_grammar.specs.Slot as s
-use Rattle.syn_grammar.specs.Slot.{elements, single, counted, piece_form, ending_at, comma_or_end, frame_head, frame_holder, if_at, for_head, if_word, match_word, while_word, for_word}
-use Rattle.syn_grammar.specs.Stands.{Node, Content, holds_within, Operands, no_more, one_more, Stands, ends, closes, ends_list, lead_stands, lead_place, frame_stands, is_try_alone}
+use Rattle.syn_grammar.specs.Slot.{elements, single, counted, after, piece_form, piece_place, ending_at, comma_or_end, frame_head, frame_holder, if_at, for_head, if_word, match_word, while_word, for_word}
+use Rattle.syn_grammar.specs.Path.{is_word_alone, is_try_alone, goes_on_path, invisible_at, expr_path}
+use Rattle.syn_grammar.specs.Stands.{Node, is_leaf, Content, holds_within, Operands, no_more, one_more, short, block, Stands, ends, closes, ends_piece, ends_list, short_value, takes_block, leaf_stands, lead_stands, lead_place, frame_stands, frame_ends}
 use Rattle.syn_grammar.specs.Read.{Reading, become_word, lead_read, named_read, structure_read, structured, standing, framed_by, bare_operands, round_read, rounded, bracket_read, bracket_inside, elements_by, loop_read, kept_from, atom, all_of}
 use Rattle.syn_grammar.proofs.HeadMoves.{taken_is, tail_falls}
 use Rattle.syn_grammar.proofs.Chains.{neither, some_is, behind_some, only_some, both_true, not_true}
@@ -32,9 +36,11 @@ use Rattle.syn_grammar.proofs.Needs.{heads}
 use Rattle.syn_grammar.proofs.Lesses.{node_less}
 use Rattle.syn_grammar.proofs.Sound.{Element, element_is, empty_is, group_is, ends_a_piece}
 use Rattle.syn_grammar.proofs.Fronts.{word_is, lead_front, closure_front}
-use Rattle.syn_grammar.proofs.NameFronts.{one_word, word_read, qpath_front, LoopFront, while_loop_front, for_loop_front, become_front, if_front, match_front, round_front, bracket_front}
+use Rattle.syn_grammar.proofs.GroupForms.{plain_path, group_seen, no_front}
+use Rattle.syn_grammar.proofs.SoundAtoms.{no_leaf, no_lead, named_reads, named_read_is}
+use Rattle.syn_grammar.proofs.NameFronts.{Named, group_named, group_words, expr_path_front, one_word, word_read, LoopFront, while_loop_front, for_loop_front, become_front, if_front, match_front, round_front, bracket_front}
 use Rattle.syn_grammar.proofs.HeadMoves.{ending_left, dropped, group_inside, frame_less}
-use Rattle.syn_grammar.proofs.ReadAtoms.{Counted, leads, unnamed, unled_read, brace_no_macro, ends_is, none_is, comma_no_semi, counted_is, element_kind}
+use Rattle.syn_grammar.proofs.ReadAtoms.{Counted, leads, unnamed, grouped, unled_read, brace_no_macro, ends_is, none_is, comma_no_semi, counted_is, element_kind}
 use Rattle.syn_grammar.proofs.ReadOperands.{there, full, bare_read, within_read, content_read}
 
 all_read : {A : Type 0} (o : Outcome A) (x : A) → o ≡ Some (x, []) → all_of o ≡ Some x
@@ -43,16 +49,15 @@ all_read o x g = rw g refl
 group_there : (d : Delimiter) (l : List Tok) (i n : List Tok) → group_at d l ≡ Some (i, n) → (j : Inside) × (l ≡ group d j ∷ n) × (toks j ≡ i)
 group_there d l i n g = group_is d l i n g
 
-no_try : (p : Place) (q : QPathTree) (d : Bool) (ks : Kids) → frame_stands p (tr.structure q.0 q.1 d) ks ≡ true → (p.condition ≡ false) × (is_try_alone q.0 q.1 ≡ false)
+structure_free : (p : Place) (q : QPathTree) (d : Bool) (ks : Kids) → frame_stands p (tr.structure q.0 q.1 d) ks ≡ true → (p.condition ≡ false) × (is_try_alone q.0 q.1 ≡ false)
 unfolding frame_stands
-no_try p q d ks g = neither p.condition (is_try_alone q.0 q.1) (not_true _ g)
+structure_free p q d ks g = neither p.condition (is_try_alone q.0 q.1) (not_true _ g)
 
 by_word : (q : QPathTree) (w : Text) (x : Tok) (m n : List Tok) → is_segment w ≡ true → colon2.at (x ∷ m) ≡ false → (qpath type style.Expr).behind q (ident w ∷ x ∷ m) ≡ Some n → (one_word w ≡ q) × (x ∷ m ≡ n)
 by_word q w x m n a b g =
     let i : Some (one_word w, x ∷ m) ≡ Some (q, n) = sym (word_read w x m a b) ∙ heads.qpaths.found (ident w ∷ x ∷ m) q n g in
     let j = some_is i in (ap (λ (r : QPathTree × List Tok). r.0) j, ap (λ (r : QPathTree × List Tok). r.1) j)
 
--- no struct expression begins with the block of a `try`, nor as special syntax does
 brace_is : (l : List Tok) → brace_at l ≡ true → (i : Inside) × (n : List Tok) × (l ≡ group del.Brace i ∷ n)
 unfolding brace_at group_at
 brace_is (group del.Brace i ∷ l) g = (i, l, refl)
@@ -82,10 +87,9 @@ try_alone : is_try_alone (one_word (codes "try")).0 (one_word (codes "try")).1 �
 unfolding one_word
 try_alone = refl
 
--- no struct expression begins with the block of a `try`, nor as special syntax does
-structure_no_try : (q : QPathTree) (l m : List Tok) → (qpath type style.Expr).behind q l ≡ Some m → is_try_alone q.0 q.1 ≡ false → try_block_at l ≡ false
+path_no_try : (q : QPathTree) (l m : List Tok) → (qpath type style.Expr).behind q l ≡ Some m → is_try_alone q.0 q.1 ≡ false → try_block_at l ≡ false
 unfolding try_block_at
-structure_no_try q l m g t = by_test (try_block_at l) refl
+path_no_try q l m g t = by_test (try_block_at l) refl
   where
     by_test : (b : Bool) → try_block_at l ≡ b → b ≡ false
     by_test false v = refl
@@ -96,13 +100,9 @@ structure_no_try q l m g t = by_test (try_block_at l) refl
         let (f, j) = by_word q (codes "try") (group del.Brace i) n m try_segment (brace_no_colons i n) (subst (λ z. (qpath type style.Expr).behind q z ≡ Some m) d g) in
         let o : is_try_alone q.0 q.1 ≡ true = subst (λ (r : QPathTree). is_try_alone r.0 r.1 ≡ true) f try_alone in absurd (cc (o, t))
 
-no_brace_pound : (s : Spacing) (n : List Tok) (y : List Tok × List Tok) → group_at del.Brace (punct 35 s ∷ n) ≡ Some y → ⊥
-unfolding group_at
-no_brace_pound s n y g = absurd cc
-
-structure_no_builtin : (q : QPathTree) (l m i n : List Tok) → (qpath type style.Expr).behind q l ≡ Some m → group_at del.Brace m ≡ Some (i, n) → builtin_at l ≡ false
+path_no_builtin : (q : QPathTree) (l m : List Tok) → (qpath type style.Expr).behind q l ≡ Some m → pound.at m ≡ false → builtin_at l ≡ false
 unfolding builtin_at
-structure_no_builtin q l m i n g t = by_test (builtin_at l) refl
+path_no_builtin q l m g t = by_test (builtin_at l) refl
   where
     by_test : (b : Bool) → builtin_at l ≡ b → b ≡ false
     by_test false v = refl
@@ -111,7 +111,20 @@ structure_no_builtin q l m i n g t = by_test (builtin_at l) refl
         let (w, y, c) = pound_is (drop 1 l) b in
         let d : l ≡ ident (codes "builtin") ∷ punct 35 w ∷ y = word_is (codes "builtin") l a ∙ ap (λ z. ident (codes "builtin") ∷ z) c in
         let (f, j) = by_word q (codes "builtin") (punct 35 w) y m builtin_segment (pound_no_colons w y) (subst (λ z. (qpath type style.Expr).behind q z ≡ Some m) d g) in
-        absurd (no_brace_pound w y (i, n) (subst (λ z. group_at del.Brace z ≡ Some (i, n)) (sym j) t))
+        absurd (cc (b, subst (λ z. pound.at z ≡ false) (sym (c ∙ j)) t))
+
+pound_no_brace : (m i n : List Tok) → group_at del.Brace m ≡ Some (i, n) → pound.at m ≡ false
+unfolding group_at sign_at
+pound_no_brace (group d j ∷ m) i n g = refl
+pound_no_brace _ i n g = absurd cc
+
+-- no such path begins with the block of a `try`, nor as special syntax does
+path_no_words : (braces : Bool) (q : QPathTree) (l m : List Tok) → (expr_path braces).behind q l ≡ Some m → is_try_alone q.0 q.1 ≡ false → pound.at m ≡ false → (try_block_at l ≡ false) × (builtin_at l ≡ false)
+path_no_words braces q l m g t b = by_group (invisible_at l) refl
+  where
+    by_group : (c : Bool) → invisible_at l ≡ c → (try_block_at l ≡ false) × (builtin_at l ≡ false)
+    by_group true v = group_words l v
+    by_group false v = let a = plain_path braces q l m v g in (path_no_try q l m a t, path_no_builtin q l m a b)
 
 for_first_no_while : (m : List Tok) → while_word.at (ident (codes "for") ∷ m) ≡ false
 unfolding word_at
@@ -127,9 +140,73 @@ pick b c x y g i = rw (g, i) refl
 group_of_content : {l n : List Tok} {ks : Kids} → Content (s.within del.Parenthesis elements false) l ks n → (j : Inside) × (l ≡ group del.Parenthesis j ∷ n)
 group_of_content {l} {n} (holds_within {i = i} g d f) = let (j, v, w) = group_is del.Parenthesis l i n g in (j, v)
 
+-- ---- the operand in an invisible group
+
+done_is : {l o : List Tok} {ks : Kids} → Operands s.done l ks o → l ≡ o
+unfolding piece_form
+done_is (no_more h) = refl
+done_is (one_more a u d f g more) = absurd cc
+done_is (short a u g more) = absurd cc
+done_is (block a v g more) = absurd cc
+
+pub record Grouped (l : List Tok) (x : Tree) (n : List Tok) : Type 0 where
+  pub node : Node plain l x n
+  pub ending : ends plain x n ≡ true
+  pub closing : closes plain x n ≡ true
+
+grouped_at : (q : Piece) (l m : List Tok) → (piece_form s.groups).behind q l ≡ Some m → (q ≡ tr.grouped) × (l ≡ m)
+unfolding piece_form
+grouped_at tr.grouped l m h = (refl, some_is h)
+grouped_at _ l m h = absurd cc
+
+grouped_by : (q : Piece) (l m h n o : List Tok) (c : Ending) (x : Tree) (ks : Kids) → (q ≡ tr.grouped) × (l ≡ m) → Node (piece_place q) m x h → ends_piece q x h ≡ true → ending_at q x h ≡ Some (c, n)
+    → Operands (after q) n ks o → Grouped l x o
+unfolding ending_at
+grouped_by tr.grouped l m h n o c x ks (v, w) d f g more =
+    let (a, b) = both_true (ends plain x h) (closes plain x h) f in
+    let e : h ≡ o = ap (λ (r : Ending × List Tok). r.1) (some_is g) ∙ done_is more in
+    record {
+      node = subst (λ z. Node plain l x z) e (subst (λ z. Node plain z x h) (sym w) d);
+      ending = subst (λ z. ends plain x z ≡ true) e a;
+      closing = subst (λ z. closes plain x z ≡ true) e b;
+    }
+grouped_by _ l m h n o c x ks (v, w) d f g more = absurd cc
+
+pub grouped_is : {l o : List Tok} {q : Piece} {c : Ending} {x : Tree} {ks : Kids} → Operands s.groups l (kid q c x ks) o → Grouped l x o
+grouped_is {l} {o} {q} {c} {x} {ks} (one_more {m = m} {h = h} {n = n} a u d f g more) = grouped_by q l m h n o c x ks (grouped_at q l m a) d f g more
+grouped_is {l} {o} {q} (short {m = m} {x = v} a u g more) = let (w, y) = grouped_at q l m a in let i : short_value tr.grouped ≡ Some v = subst (λ z. short_value z ≡ Some v) w u in absurd cc
+grouped_is {l} {o} {q} (block {m = m} a v g more) = let (w, y) = grouped_at q l m a in let i : takes_block tr.grouped ≡ true = subst (λ z. takes_block z ≡ true) w v in absurd cc
+
+-- a path that is the whole of a list stands there
+no_macro_left : (q : QPathTree) → (macro_end q).reads [] ≡ Some (None, [])
+unfolding macro_end sign_at
+no_macro_left q = rw (and-false (is_bare q)) refl
+
+no_pound_left : pound.at [] ≡ false
+unfolding sign_at
+no_pound_left = refl
+
+path_ends : (q : QSelfTree) (w : PathTree) → is_try_alone q w ≡ false → (leaf_stands plain (tr.path q w) [] ≡ true) × (ends plain (leaf (tr.path q w)) [] ≡ true) × (closes plain (leaf (tr.path q w)) [] ≡ true)
+unfolding leaf_stands ends closes goes_on infix_at three_dots_at left_arrow_at trailer_at round_at bracket_at question_at dot_at brace_at group_at sign_at word_at
+path_ends q w t = (rw (t, and-false (is_word_alone (codes "builtin") q w)) refl, refl, refl)
+
+pub path_alone_stands : (q : QSelfTree) (w : PathTree) (i : List Tok) → (expr_path false).behind (q, w) i ≡ Some [] → is_try_alone q w ≡ false → Stands plain i (leaf (tr.path q w)) []
+path_alone_stands q w i g t =
+    let front = expr_path_front false (q, w) i [] g in
+    let (no_try, no_builtin) = path_no_words false (q, w) i [] g t no_pound_left in
+    let a = front.no_leaf no_try no_builtin in
+    let path = (heads.paths false).found i (q, w) [] g in
+    let name : named.reads i ≡ Some (tr.path q w, []) = named_read_is i [] [] (q, w) None path (no_macro_left (q, w)) in
+    let (standing, ending, closing) = path_ends q w t in
+    record {
+      node = is_leaf (heads.leaves.sound i (tr.path q w) [] (named_reads i (no_leaf i a) (no_lead i front.no_lead) ∙ name)) standing;
+      ending = ending;
+      closing = closing;
+    }
+
 module _ (rec : Place → Reading Tree) (k : ℕ) (complete : (p : Place) (l n : List Tok) (x : Tree) → weight l < k → Stands p l x n → rec p l ≡ Some (x, n)) where
-  framed_read : (p : Place) (f : Frame) (h n : List Tok) (ks : Kids) → Content (frame_holder f) h ks n → weight h < k → frame_stands p f ks ≡ true → framed_by rec p f h ≡ Some (frame f ks, n)
-  framed_read p f h n ks c b g = rw (content_read rec k complete (frame_holder f) h n ks c b, g) refl
+  framed_read : (p : Place) (f : Frame) (h n : List Tok) (ks : Kids) → Content (frame_holder f) h ks n → weight h < k → frame_stands p f ks ≡ true → frame_ends p f ks n ≡ true → framed_by rec p f h ≡ Some (frame f ks, n)
+  framed_read p f h n ks c b g e = rw (content_read rec k complete (frame_holder f) h n ks c b, e, g) refl
 
   -- ---- before an operand
 
@@ -231,17 +308,48 @@ module _ (rec : Place → Reading Tree) (k : ℕ) (complete : (p : Place) (l n :
       let v : d ≡ not (is_empty o) = ends_is d o e in
       rw (a, b) (subst (λ z. structured rec p q z o ks n ≡ Some (frame (tr.structure q.0 q.1 d) ks, n)) v (rw (e, g) refl))
 
-  structure_atom : (p : Place) (q : QPathTree) (d : Bool) (l m n : List Tok) (ks : Kids) → (qpath type style.Expr).behind q l ≡ Some m → Content (s.within del.Brace s.fields d) m ks n → weight m < k
+  structure_atom : (p : Place) (q : QPathTree) (d : Bool) (l m n : List Tok) (ks : Kids) → (expr_path true).behind q l ≡ Some m → Content (s.within del.Brace s.fields d) m ks n → weight m < k
       → frame_stands p (tr.structure q.0 q.1 d) ks ≡ true → atom rec p l ≡ Some (frame (tr.structure q.0 q.1 d) ks, n)
   unfolding named_read
   structure_atom p q d l m n ks a (holds_within {i = i} {o = o} g c f) b t =
-      let (u, v) = no_try p q d ks t in
-      let front = qpath_front q l m a in
+      let (u, v) = structure_free p q d ks t in
+      let front = expr_path_front true q l m a in
+      let (no_try, no_builtin) = path_no_words true q l m a v (pound_no_brace m i n g) in
+      let reading : (expr_path (not p.condition)).reads l ≡ Some (q, m) = rw u ((heads.paths true).found l q m a) in
       let (j, w, y) = group_is del.Brace m i n g in
       let r = structure_inside p q d m i n o ks g (bare_read rec k complete s.fields i o ks c (omega (arith, group_inside del.Brace m i n g))) f t in
       let e : (macro_end q).reads m ≡ Some (None, m) = subst (λ z. (macro_end q).reads z ≡ Some (None, z)) (sym w) (brace_no_macro q j n) in
-      unnamed rec p l (Some (frame (tr.structure q.0 q.1 d) ks, n)) (front.no_leaf (structure_no_try q l m a v) (structure_no_builtin q l m i n a g)) front
-      (rw (heads.qpaths.found l q m a, e) (pick (brace_at m) p.condition (structure_read rec p q m) (standing p (to_named (q, None)) m) (brace_there m i n g) u ∙ r))
+      unnamed rec p l m q (Some (frame (tr.structure q.0 q.1 d) ks, n)) (front.no_leaf no_try no_builtin) front reading
+      (rw (reading, e) (pick (brace_at m) p.condition (structure_read rec p q m) (standing p (to_named (q, None)) m) (brace_there m i n g) u ∙ r))
+
+  -- ---- invisible groups
+
+  -- no path begins with a group whose operand stands alone there
+  no_path : (p : Place) (q : QPathTree) (i n : List Tok) (ks : Kids) → (expr_path false).behind q i ≡ Some [] → goes_on_path (not p.condition) q n ≡ true → Operands s.groups i ks []
+      → frame_ends p tr.invisible ks n ≡ true → weight i < k → ⊥
+  unfolding frame_ends
+  no_path p q i n none a u d e b = let (g, v) = none_is d in absurd cc
+  no_path p (q, w) i n (kid c f x ks) a u d e b =
+      let g = grouped_is d in
+      let t = not_true (is_try_alone q w) (both_true (not (is_try_alone q w)) _ u).0 in
+      let s = path_alone_stands q w i a t in
+      let same : x ≡ leaf (tr.path q w) = ap (λ (z : Tree × List Tok). z.0) (some_is (sym (full rec k complete plain i [] x b g.node g.ending g.closing) ∙ complete plain i [] (leaf (tr.path q w)) b s)) in
+      let o : frame_ends p tr.invisible (kid c f (leaf (tr.path q w)) ks) n ≡ true = subst (λ z. frame_ends p tr.invisible (kid c f z ks) n ≡ true) same e in
+      absurd (cc (o, u))
+
+  group_atom : (p : Place) (l n : List Tok) (ks : Kids) → Content (s.within del.None s.groups false) l ks n → weight l ≤ k → frame_ends p tr.invisible ks n ≡ true
+      → atom rec p l ≡ Some (frame tr.invisible ks, n)
+  unfolding frame_stands
+  group_atom p l n ks (holds_within {i = i} {o = o} g d f) b e =
+      let (j, v, w) = group_is del.None l i n g in
+      let t = group_inside del.None l i n g in
+      let front : Named l = subst (λ z. Named z) (sym v) (group_named j n) in
+      let seen = group_seen l i n g in
+      let (no_try, no_builtin) = group_words l seen in
+      let all : Operands s.groups i ks [] = subst (λ z. Operands s.groups i ks z) (empty_is o f) d in
+      grouped rec p l (Some (frame tr.invisible ks, n)) (front.no_leaf no_try no_builtin) front seen
+      (no_front (not p.condition) l i n g (λ q a u. no_path p q i n ks a u all e (omega (arith, t))))
+      (rw (within_read rec k complete del.None s.groups false l n ks (holds_within g d f) b, e) refl)
 
   -- ---- frames without a delimiter
 
@@ -280,35 +388,35 @@ module _ (rec : Place → Reading Tree) (k : ℕ) (complete : (p : Place) (l n :
   unfolding frame_stands lead_stands
   no_lead_stands p f m ks g = not_true _ g
 
-  pub frame_atom : (p : Place) (f : Frame) (l h n : List Tok) (ks : Kids) → frame_head f l ≡ Some h → Content (frame_holder f) h ks n → weight l ≤ k → frame_stands p f ks ≡ true → atom rec p l ≡ Some (frame f ks, n)
-  frame_atom p tr.array l h n ks a c b g = array_atom p l n ks (subst (λ z. Content (s.within del.Bracket elements false) z ks n) (sym (some_is a)) c) b
-  frame_atom p tr.tuple l h n ks a c b g = round_atom p l n ks (subst (λ z. Content (s.within del.Parenthesis elements false) z ks n) (sym (some_is a)) c) b g
-  frame_atom p tr.repeat l h n ks a c b g = repeat_atom p l n ks (subst (λ z. Content (s.within del.Bracket counted false) z ks n) (sym (some_is a)) c) b
-  frame_atom p (tr.structure q w d) l h n ks a c b g = let u = frame_less (tr.structure q w d) l h refl a in structure_atom p (q, w) d l h n ks a c (omega (arith, u.less)) g
-  frame_atom p (tr.closure_block f) l h n ks a c b g =
+  pub frame_atom : (p : Place) (f : Frame) (l h n : List Tok) (ks : Kids) → frame_head f l ≡ Some h → Content (frame_holder f) h ks n → weight l ≤ k → frame_stands p f ks ≡ true → frame_ends p f ks n ≡ true → atom rec p l ≡ Some (frame f ks, n)
+  frame_atom p tr.array l h n ks a c b g e = array_atom p l n ks (subst (λ z. Content (s.within del.Bracket elements false) z ks n) (sym (some_is a)) c) b
+  frame_atom p tr.tuple l h n ks a c b g e = round_atom p l n ks (subst (λ z. Content (s.within del.Parenthesis elements false) z ks n) (sym (some_is a)) c) b g
+  frame_atom p tr.repeat l h n ks a c b g e = repeat_atom p l n ks (subst (λ z. Content (s.within del.Bracket counted false) z ks n) (sym (some_is a)) c) b
+  frame_atom p (tr.structure q w d) l h n ks a c b g e = let u = frame_less (tr.structure q w d) l h refl a in structure_atom p (q, w) d l h n ks a c (omega (arith, u.less)) g
+  frame_atom p (tr.closure_block f) l h n ks a c b g e =
       let u = frame_less (tr.closure_block f) l h refl a in
-      closure_atom p f l h (Some (frame (tr.closure_block f) ks, n)) a (no_lead_stands p f h ks g) (framed_read p (tr.closure_block f) h n ks c (omega (arith, u.less)) g)
-  frame_atom p tr.branch l h n ks a c b g =
+      closure_atom p f l h (Some (frame (tr.closure_block f) ks, n)) a (no_lead_stands p f h ks g) (framed_read p (tr.closure_block f) h n ks c (omega (arith, u.less)) g e)
+  frame_atom p tr.branch l h n ks a c b g e =
       let u = frame_less tr.branch l h refl a in
       let (v, w) = only_some (if_word.at l) (Some (drop 1 l)) h a in
-      ifs p l (Some (frame tr.branch ks, n)) v (subst (λ z. framed_by rec p tr.branch z ≡ Some (frame tr.branch ks, n)) (sym (some_is w)) (framed_read p tr.branch h n ks c (omega (arith, u.less)) g))
-  frame_atom p tr.choice l h n ks a c b g =
+      ifs p l (Some (frame tr.branch ks, n)) v (subst (λ z. framed_by rec p tr.branch z ≡ Some (frame tr.branch ks, n)) (sym (some_is w)) (framed_read p tr.branch h n ks c (omega (arith, u.less)) g e))
+  frame_atom p tr.choice l h n ks a c b g e =
       let u = frame_less tr.choice l h refl a in
       let (v, w) = only_some (match_word.at l) (Some (drop 1 l)) h a in
-      matches p l (Some (frame tr.choice ks, n)) v (subst (λ z. framed_by rec p tr.choice z ≡ Some (frame tr.choice ks, n)) (sym (some_is w)) (framed_read p tr.choice h n ks c (omega (arith, u.less)) g))
-  frame_atom p (tr.while_loop x) l h n ks a c b g =
+      matches p l (Some (frame tr.choice ks, n)) v (subst (λ z. framed_by rec p tr.choice z ≡ Some (frame tr.choice ks, n)) (sym (some_is w)) (framed_read p tr.choice h n ks c (omega (arith, u.less)) g e))
+  frame_atom p (tr.while_loop x) l h n ks a c b g e =
       let u = frame_less (tr.while_loop x) l h refl a in
       let (m, i, j) = behind_some (label.behind x l) (if_at while_word) h a in
       let (v, w) = only_some (while_word.at m) (Some (drop 1 m)) h j in
       loop_reads p l (Some (frame (tr.while_loop x) ks, n)) (while_loop_front x l m i v) (while_read p x l m (Some (frame (tr.while_loop x) ks, n)) i v
-      (subst (λ z. framed_by rec p (tr.while_loop x) z ≡ Some (frame (tr.while_loop x) ks, n)) (sym (some_is w)) (framed_read p (tr.while_loop x) h n ks c (omega (arith, u.less)) g)))
-  frame_atom p (tr.for_loop x y) l h n ks a c b g =
+      (subst (λ z. framed_by rec p (tr.while_loop x) z ≡ Some (frame (tr.while_loop x) ks, n)) (sym (some_is w)) (framed_read p (tr.while_loop x) h n ks c (omega (arith, u.less)) g e)))
+  frame_atom p (tr.for_loop x y) l h n ks a c b g e =
       let u = frame_less (tr.for_loop x y) l h refl a in
       let (m, i, j) = behind_some (label.behind x l) (for_head.behind y) h a in
       let (v, w) = only_some (for_word.at m) _ h j in
       loop_reads p l (Some (frame (tr.for_loop x y) ks, n)) (for_loop_front x l m i v) (for_read p x y l m h (Some (frame (tr.for_loop x y) ks, n)) i (for_no_while m v) j
-      (framed_read p (tr.for_loop x y) h n ks c (omega (arith, u.less)) g))
-  frame_atom p tr.invisible l h n ks a c b g = absurd cc
+      (framed_read p (tr.for_loop x y) h n ks c (omega (arith, u.less)) g e))
+  frame_atom p tr.invisible l h n ks a c b g e = group_atom p l n ks (subst (λ z. Content (s.within del.None s.groups false) z ks n) (sym (some_is a)) c) b e
 
   -- ---- `become`
 

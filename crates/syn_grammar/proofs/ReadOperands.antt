@@ -177,7 +177,7 @@ module _ (rec : Place → Reading Tree) where
           (enough n arms j (Some (ks, [])) (omega (arith, u.less, w, y)) (λ z t. operands_read more z t (omega (arith, u.less, w, y))))
 
       branch_read : {p : Place} {l n : List Tok} {x : Tree} → Node p l x n → is_branch x ≡ true → (j : ℕ) → weight l ≤ j → weight l < k → Branch (operands rec j conditions) l x n
-      branch_read (is_frame {l = l} {h = h} {k = tr.branch} {ks = ks} a (holds_bare {n = n} more) g) i j b f =
+      branch_read (is_frame {l = l} {h = h} {k = tr.branch} {ks = ks} a (holds_bare {n = n} more) g e) i j b f =
           let (w, y) = only_some (if_word.at l) (Some (drop 1 l)) h a in
           let u = frame_less tr.branch l h refl a in
           let r : operands rec j conditions (drop 1 l) ≡ Some (ks, n) = subst (λ z. operands rec j conditions z ≡ Some (ks, n)) (sym (some_is y))

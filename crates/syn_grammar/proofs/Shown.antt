@@ -20,7 +20,7 @@ use Rattle.syn_grammar.specs.Place.{at}
 use Rattle.syn_grammar.specs.Op.{level, is_comparison}
 use Rattle.syn_grammar.specs.Front.{dot_at, question_at}
 use Rattle.syn_grammar.specs.Head.{leaf_form, lead_form}
-use Rattle.syn_grammar.specs.Next.{enclosed, in_condition, next_of, takes_next, trails, left_context, base_context, right_context, adorned_context, lead_context, lead_level, piece_context}
+use Rattle.syn_grammar.specs.Next.{enclosed, in_condition, next_of, takes_next, trails, left_context, base_context, right_context, adorned_context, lead_context, lead_level, piece_context, left_edge}
 use Rattle.syn_grammar.specs.Slot.{Slot, Holder, within, ending_at, behind_loop, behind_condition, piece_place, trailer_holder}
 use Rattle.syn_grammar.specs.Stands.{Node, is_leaf, is_become, is_attributed, is_paren, is_adorned_by, is_lead, is_mid, is_post, is_tail, is_indexed, is_frame, Content, holds_none, holds_within, holds_bare, Operands, no_more, one_more, short, block, arms_inside, fits_base, fields_of, fields_head, trailer_head, is_base, is_call, carries, is_cast, is_range, is_infix, is_adorned, is_verbatim, is_pounded, may_adorn, post_behind, post_stands, lead_place, short_value, takes_block}
 use Rattle.syn_grammar.specs.Tree as e
@@ -28,6 +28,7 @@ use Rattle.syn_grammar.specs.Tree.{Tree, Kids, Leaf, Lead, Post, Trailer, Piece,
 use Rattle.syn_grammar.specs.Rule.{is_below, is_braceless, is_operation, put, post_refuses, is_less_next, is_bare_break}
 use Rattle.syn_grammar.specs.Printed.{parenthesize_attributed, parenthesize_attributed_kids}
 use Rattle.syn_grammar.proofs.Bools.{both_true, both, not_it, or_false, or_none}
+use Rattle.syn_grammar.proofs.Holds.{no_block_held}
 use Rattle.syn_grammar.proofs.Obeys.{Fits, FitsLeft, begins_label, Obeys, ObeysKids}
 use Rattle.syn_grammar.proofs.ShownFronts.{Front, front_end, front_operator, front_call, front_index, front_block, front_dot, front_question}
 use Rattle.syn_grammar.proofs.ShownParts.{Agrees, agrees_plain, agrees_condition, agrees_arm, agrees_left, agrees_base, agrees_adorned, agrees_right, agrees_lead, front_lead, lead_above, right_above, lead_brace, right_brace, leaf_shown, lead_placed, frame_shown, fits_shown, left_shown, lead_head, base_below, base_braceless, below_left, left_braceless, adorned_below, adorned_braceless, dot_twice, dot_above, dot_braceless, post_shown}
@@ -302,7 +303,7 @@ same_kind (is_mid d q r i t o d2 u v w) h = record { range = refl; carrier = ref
 same_kind (is_post d q r i t u o w) h = record { range = refl; carrier = refl }
 same_kind (is_tail d f t o q) h = record { range = refl; carrier = refl }
 same_kind (is_indexed {b = b} {i = i} {is = is} d f t q) h = subst SameKind (sym q) (same_fields (i ∷ is) b (same_kind d h))
-same_kind (is_frame f o g) h = record { range = refl; carrier = refl }
+same_kind (is_frame f o g e) h = record { range = refl; carrier = refl }
 
 fits_kind : (v : Level) (x : Tree) (n : Next) → SameKind x → Fits v x n → Fits v (parenthesize_attributed x) n
 fits_kind v x n s f =
@@ -355,7 +356,7 @@ module _ (closed : TypesClose) where
         let f = left_shown p op x r in (
           t,
           shown d a (left_context op c) (agrees_left p op c m) (front_operator y op count i)
-              (below_left c.edge p.head _ m.head m.no_statement f.1, ap (λ k. k && brace_at l) (left_braceless c.edge) ∙ b.1),
+              (no_block_held (is_below (left_edge c.edge)) x (below_left c.edge p.head _ m.head m.no_statement f.1), ap (λ k. k && brace_at l) (left_braceless c.edge) ∙ b.1),
           fits_left_kind op x f.0,
           shown d2 refl (right_context op c) (agrees_right p op c m) s (right_above op c (is_block_like z), right_brace p op c (drop count y) m o),
           fits_kind (level op) z c.next (same_kind d2 refl) (fits_shown (at p (level op)) c.next n z refl s u v),
@@ -364,7 +365,7 @@ module _ (closed : TypesClose) where
         let f = left_shown p (post_op k) x r in (
           t,
           shown d a (left_context (post_op k) c) (agrees_left p (post_op k) c m) (front_operator y (post_op k) count i)
-              (below_left c.edge p.head _ m.head m.no_statement f.1, ap (λ k. k && brace_at l) (left_braceless c.edge) ∙ b.1),
+              (no_block_held (is_below (left_edge c.edge)) x (below_left c.edge p.head _ m.head m.no_statement f.1), ap (λ k. k && brace_at l) (left_braceless c.edge) ∙ b.1),
           fits_left_kind (post_op k) x f.0,
           post_refused p c k (drop count y) n m s u o,
         )
@@ -375,7 +376,7 @@ module _ (closed : TypesClose) where
         subst (λ w. Obeys p.level c w) (sym (ap parenthesize_attributed q ∙ fields_stay (i ∷ is) z))
         (obeys_fields is i p.level c (parenthesize_attributed z) (base_stays (e.field (an_index i)) z ∙ base_is p (e.field (an_index i)) z f)
         (index_shown p c l y z i m b.1 (front_fields y (i ∷ is, n) t) (shown d a)))
-    shown (is_frame {p = p} {k = k} {ks = ks} f o g) a c m s b = (frame_shown p c k ks m g b.0, shown_content o)
+    shown (is_frame {p = p} {k = k} {ks = ks} f o g e) a c m s b = (frame_shown p c k ks m g b.0, shown_content o)
 
     shown_content : {h : Holder} {l n : List Tok} {ks : Kids} → Content h l ks n → ObeysKids (parenthesize_attributed_kids ks)
     shown_content holds_none = tt

@@ -5,6 +5,7 @@ use Rattle.syn_lexer.specs.declared.lexeme.Delimiter.TheVariants as del
 use Rattle.syn_tokens.specs.Tok.{Tok}
 use Rattle.syn_tokens.specs.Front.{group_at}
 use Rattle.syn_parts.specs.Text.{Text}
+use Rattle.syn_parts.specs.Tree.{QSelfTree, PathTree}
 use Rattle.syn_parts.specs.Form.{then_behind}
 use Rattle.syn_parts.specs.Pat.{an_index}
 use Rattle.syn_parts.specs.Mark.{lifetime_at, brace_at, underscore, constant, star, bang, and}
@@ -76,6 +77,15 @@ loop_label w b l n h =
     let (m, p, q) = behind_some (label.behind (Some w) l) (λ m. if loop_word.at m then body.behind b (drop 1 m) else None) n j in
     labelled_label w l m p
 
+-- a path is read as one, whatever begins it
+pub path_named : (q : QSelfTree) (w : PathTree) (l n : List Tok) → leaf_form.behind (e.path q w) l ≡ Some n → named.behind (e.path q w) l ≡ Some n
+unfolding leaf_form
+path_named q w l n h =
+    let a = skip (range_at l) _ n (skip_two (underscore.at l) (underscore.at l) _ n (skip (literal_at l) _ n h)) in
+    let b = skip (block_at l) _ n (skip (loop_at l) _ n (skip_two (continue_word.at l) (continue_word.at l) _ n (skip (jump_at l) _ n a))) in
+    let c = skip_two (const_block_at l) (constant.at l) _ n (skip_two (unsafe_word.at l) (unsafe_word.at l) _ n b) in
+    skip (builtin_at l) _ n (skip_two (try_block_at l) (try_word.at l) _ n (skip_two (async_block_at l) (async_word.at l) _ n c))
+
 leaf_label : (k : Leaf) (l n : List Tok) → leaf_form.behind k l ≡ Some n → leaf_labelled k ≡ true → lifetime_at l ≡ true
 leaf_label (e.block (Some w) b) l n h t = block_label w b l n h
 leaf_label (e.looping (Some w) b) l n h t = loop_label w b l n h
@@ -101,7 +111,7 @@ label_first (is_mid d q r i t o d2 u v z) h = label_first d h
 label_first (is_post d q r i t b o z) h = label_first d h
 label_first (is_tail {b = b} {x = x} {is = is} d f t k q) h = label_first d (sym (fields_label is b) ∙ ap begins_label (sym q) ∙ h)
 label_first (is_indexed {b = b} {x = x} {i = i} {is = is} d f t q) h = label_first d (sym (fields_label (i ∷ is) b) ∙ ap begins_label (sym q) ∙ h)
-label_first (is_frame {l = l} {h = h} {k = k} f c g) t = frame_label k l h f t
+label_first (is_frame {l = l} {h = h} {k = k} f c g e) t = frame_label k l h f t
 
 -- the value of a `break` without a label
 skip_by : (b : Bool) (x o : Option (List Tok)) (n : List Tok) → (x ≡ Some n → ⊥) → (if b then x else o) ≡ Some n → o ≡ Some n

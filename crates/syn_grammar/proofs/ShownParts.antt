@@ -19,11 +19,12 @@ use Rattle.syn_grammar.specs.Place.{plain, before_block, at_head, at}
 use Rattle.syn_grammar.specs.Op.{level, is_comparison, goes_on}
 use Rattle.syn_grammar.specs.Front.{begins_expr, ends_open_range, trailer_at, dot_at}
 use Rattle.syn_grammar.specs.Next.{class_of, next_of, takes_next, trails, begins_next, is_block_next, is_brace_next, without_block, enclosed, in_condition, in_arm, left_edge, dot_edge, base_edge, adorned_edge, braceless, left_context, base_context, right_context, adorned_context, lead_context}
-use Rattle.syn_grammar.specs.Stands.{is_range, is_cast, carries, compares, rests, goes_behind, refuses_dots, refuses_arrow, ends, closes, fits_left, fits_base, leaf_stands, lead_stands, lead_place, mid_stands, post_stands, ends_jump, frame_stands}
+use Rattle.syn_grammar.specs.Stands.{is_range, is_cast, carries, compares, rests, goes_behind, refuses_dots, refuses_arrow, ends, closes, fits_left, fits_base, leaf_stands, lead_stands, lead_place, mid_stands, post_stands, ends_jump, frame_stands, holds_block}
 use Rattle.syn_grammar.specs.Tree as e
 use Rattle.syn_grammar.specs.Tree.{Tree, Leaf, Lead, Trailer, Frame, Jump, is_block_leaf, is_block_frame, is_block_like}
 use Rattle.syn_grammar.specs.Rule.{ends_range_next, jump_refuses, leaf_refuses, leaf_misplaced, lead_misplaced, frame_misplaced, is_below, is_below_statement, is_statement, is_braceless, is_brace_delimiter}
 use Rattle.syn_grammar.proofs.Bools.{or_false, both_true, neither, not_it}
+use Rattle.syn_grammar.proofs.Holds.{no_block_held}
 use Rattle.syn_grammar.proofs.Obeys.{Fits, FitsLeft}
 use Rattle.syn_grammar.proofs.Tight.{is_calm}
 use Rattle.syn_grammar.proofs.ShownFronts.{Front, front_jump}
@@ -510,12 +511,12 @@ pub fits_shown : (p : Place) (c : Next) (n : List Tok) (x : Tree) → p.head ≡
 unfolding ends closes
 fits_shown p c n x h f i j = record {
   no_operator =
-      let a : is_range x || ((false && is_block_like x) || not (goes_on p.level n || (refuses_dots p.level n || refuses_arrow p.level n))) ≡ true =
-      ap (λ b. is_range x || ((b && is_block_like x) || not (goes_on p.level n || (refuses_dots p.level n || refuses_arrow p.level n)))) (sym h) ∙ i in
+      let a : is_range x || ((false && holds_block x) || not (goes_on p.level n || (refuses_dots p.level n || refuses_arrow p.level n))) ≡ true =
+      ap (λ b. is_range x || ((b && holds_block x) || not (goes_on p.level n || (refuses_dots p.level n || refuses_arrow p.level n)))) (sym h) ∙ i in
       takes_not (takes_next p.level c) (goes_on p.level n) (is_range x) _ (f.op p.level) a;
   no_trailer =
-      let a : not ((carries x || is_cast x) && goes_behind (false && is_block_like x) n) ≡ true =
-      ap (λ b. not ((carries x || is_cast x) && goes_behind (b && is_block_like x) n)) (sym h) ∙ j in
+      let a : not ((carries x || is_cast x) && goes_behind (false && holds_block x) n) ≡ true =
+      ap (λ b. not ((carries x || is_cast x) && goes_behind (b && holds_block x) n)) (sym h) ∙ j in
       trails_not (trails c) (trailer_at n) (carries x || is_cast x) f.trailer a;
 }
 
@@ -543,8 +544,8 @@ lead_head p (e.closure h) = refl
 
 pub base_below : (p : Place) (c : Context) (k : Trailer) (b : Tree) → Agrees p c → fits_base p k b ≡ true → is_below (base_context k c).edge && is_block_like b ≡ false
 unfolding fits_base
-base_below p c e.call b m h = below_left c.edge p.head _ m.head m.no_statement (not_it _ (both_true _ _ h).1)
-base_below p c e.index b m h = below_left c.edge p.head _ m.head m.no_statement (not_it _ (both_true _ _ h).1)
+base_below p c e.call b m h = no_block_held (is_below (base_context e.call c).edge) b (below_left c.edge p.head _ m.head m.no_statement (not_it _ (both_true _ _ h).1))
+base_below p c e.index b m h = no_block_held (is_below (base_context e.index c).edge) b (below_left c.edge p.head _ m.head m.no_statement (not_it _ (both_true _ _ h).1))
 base_below p c (e.method w a) b m h = ap (λ z. z && is_block_like b) (dot_above c.edge)
 base_below p c (e.field f) b m h = ap (λ z. z && is_block_like b) (dot_above c.edge)
 base_below p c e.await b m h = ap (λ z. z && is_block_like b) (dot_above c.edge)

@@ -1,5 +1,5 @@
 -- What is read stands for the tokens.
-use Rattle.std.specs.Prelude.{not, if◌then◌else◌}
+use Rattle.std.specs.Prelude.{not, ◌&&◌, if◌then◌else◌}
 use Rattle.std.proofs.Common.{◌≡◌, ℕ, zero, suc, true, false, ⊎_elim, List, [], ◌∷◌, drop, Option, Some, None, refl, ap, sym, subst}
 use Rattle.syn_lexer.specs.declared.lexeme.Delimiter.TheVariants as del
 use Rattle.syn_lexer.specs.declared.lexeme.Delimiter.{Delimiter}
@@ -14,7 +14,7 @@ use Rattle.syn_grammar.specs.Tree as tr
 use Rattle.syn_grammar.specs.Tree.{Tree, Kids, Frame, Piece, Ending, leaf, frame, none, kid, plain_block, is_silent}
 use Rattle.syn_grammar.specs.Head.{leaf_form}
 use Rattle.syn_grammar.specs.Slot.{Slot, Holder, elements, conditions, scrutinees, arms, after, may_end, piece_form, piece_place, ending_at, frame_head, frame_holder, nothing, within, bare, is_chained, if_word, comma_or_end}
-use Rattle.syn_grammar.specs.Stands.{Node, is_leaf, is_frame, Content, holds_none, holds_within, holds_bare, Operands, no_more, one_more, short, block, arms_inside, Stands, ends, closes, ends_piece, ends_list, short_value, takes_block, leaf_stands, frame_stands, is_branch}
+use Rattle.syn_grammar.specs.Stands.{Node, is_leaf, is_frame, Content, holds_none, holds_within, holds_bare, Operands, no_more, one_more, short, block, arms_inside, Stands, ends, closes, ends_piece, ends_list, short_value, takes_block, leaf_stands, frame_stands, frame_ends, is_branch}
 use Rattle.syn_grammar.specs.Read.{Reading, standing, leaf_read, is_scrutinees, ended_by, branch_by, block_by, value_by, operand_of, armed, operands_by, operands, bare_operands, ended_list, content, framed_by, all_of, before}
 use Rattle.syn_grammar.proofs.Chains.{some_is, then_some, all_some, before_some, only_some, chosen, both_true, not_true}
 use Rattle.syn_grammar.proofs.Needs.{Heads}
@@ -57,12 +57,12 @@ module _ (H : Heads) where
 
     branch_sound : (inner : Reading Kids) → ((l : List Tok) (q : Kids × List Tok) → inner l ≡ Some q → Operands conditions l q.0 q.1)
         → (p : Place) (l : List Tok) (q : Tree × List Tok) → branch_by rec inner l ≡ Some q → (Node p l q.0 q.1) × ((ks : Kids) × (q.0 ≡ frame tr.branch ks))
-    unfolding frame_stands
+    unfolding frame_stands frame_ends
     branch_sound inner again p l q h =
         let (w, f) = only_some (if_word.at l) (and_then (inner (drop 1 l)) (λ ks n. Some (frame tr.branch ks, n))) q h in
         let (z, i, g) = then_some (inner (drop 1 l)) (λ ks n. Some (frame tr.branch ks, n)) q f in
         let y : (frame tr.branch z.0, z.1) ≡ q = some_is g in
-        (moved (frame tr.branch z.0, z.1) q y (is_frame (rw w refl) (holds_bare (again (drop 1 l) z i)) refl), (z.0, ap (λ (r : Tree × List Tok). r.0) (sym y)))
+        (moved (frame tr.branch z.0, z.1) q y (is_frame (rw w refl) (holds_bare (again (drop 1 l) z i)) refl refl), (z.0, ap (λ (r : Tree × List Tok). r.0) (sym y)))
 
     chain_sound : (inner : Reading Kids) → ((l : List Tok) (q : Kids × List Tok) → inner l ≡ Some q → Operands conditions l q.0 q.1)
         → (s : Slot) (l m : List Tok) (c : (Ending × Tree) × List Tok) → (piece_form s).behind tr.chained l ≡ Some m
@@ -158,8 +158,9 @@ module _ (H : Heads) where
     pub framed_sound : (p : Place) (k : Frame) (l m : List Tok) (q : Tree × List Tok) → frame_head k l ≡ Some m → framed_by rec p k m ≡ Some q → Node p l q.0 q.1
     framed_sound p k l m q e h =
         let (z, i, f) = then_some (content rec (frame_holder k) m) _ q h in
-        let (s, g) = only_some (frame_stands p k z.0) (Some (frame k z.0, z.1)) q f in
-        moved (frame k z.0, z.1) q (some_is g) (is_frame e (content_sound (frame_holder k) m z i) s)
+        let (s, g) = only_some (frame_ends p k z.0 z.1 && frame_stands p k z.0) (Some (frame k z.0, z.1)) q f in
+        let (b, a) = both_true (frame_ends p k z.0 z.1) (frame_stands p k z.0) s in
+        moved (frame k z.0, z.1) q (some_is g) (is_frame e (content_sound (frame_holder k) m z i) a b)
 
 -- ---- operands of a list, taken apart
 

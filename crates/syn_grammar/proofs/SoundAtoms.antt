@@ -1,23 +1,25 @@
 -- What stands first, and trailers behind it: what is read stands.
-use Rattle.std.specs.Prelude.{not, ◌&&◌, if◌then◌else◌}
-use Rattle.std.proofs.Common.{◌≡◌, Bool, true, false, ⊎_elim, List, [], ◌++◌, drop, Option, Some, None, refl, ap, sym, ◌∙◌, subst}
+use Rattle.std.specs.Prelude.{not, ◌&&◌, if◌then◌else◌, is_some}
+use Rattle.std.proofs.Common.{◌≡◌, Bool, true, false, cond, ⊎_elim, List, [], ◌∷◌, ◌++◌, drop, Option, Some, None, refl, ap, sym, ◌∙◌, subst}
 use Rattle.syn_lexer.specs.declared.lexeme.Delimiter.TheVariants as del
-use Rattle.syn_tokens.specs.Tok.{Tok, toks}
+use Rattle.syn_lexer.specs.declared.lexeme.Delimiter.{Delimiter}
+use Rattle.syn_tokens.specs.Tok.{Tok, group, toks}
 use Rattle.syn_tokens.specs.Front.{group_at, is_empty}
-use Rattle.syn_parts.specs.declared.label.PathStyle.TheVariants as style
-use Rattle.syn_parts.specs.Form.{and_then}
-use Rattle.syn_parts.specs.Mark.{star, bang, and, brace_at, round_at, semi, underscore}
-use Rattle.syn_parts.specs.Part.{qpath, macro_end, type, QPathTree, MacroEnd}
+use Rattle.syn_parts.specs.Form.{Outcome, and_then}
+use Rattle.syn_parts.specs.Mark.{star, bang, and, sign_at, brace_at, round_at, semi, underscore}
+use Rattle.syn_parts.specs.Part.{is_bare, macro_end, QPathTree, MacroEnd}
 use Rattle.syn_parts.proofs.Same.{same_toks-true}
 use Rattle.syn_grammar.specs.declared.kinds.Place.{Place}
 use Rattle.syn_grammar.specs.Place.{plain}
+use Rattle.syn_grammar.specs.Path.{invisible_at, expr_path}
 use Rattle.syn_grammar.specs.Tree as tr
 use Rattle.syn_grammar.specs.Tree.{Tree, Kids, ClosureHead, Lead, Piece, Ending, leaf, paren, lead, frame, none, kid, is_one}
 use Rattle.syn_grammar.specs.Head.{minus, let_word, raw_at, raw_word, leaf_form, lead_form, closure_head, to_named, from_closure, label, named, literal_at, range_at, jump_at, continue_word, loop_at, block_at, unsafe_word, const_block_at, async_block_at, try_block_at, builtin_at}
 use Rattle.syn_grammar.specs.Slot.{elements, single, fields, piece_form, ending_at, within, if_word, while_word, for_head, match_word, comma_or_end}
-use Rattle.syn_grammar.specs.Stands.{Node, is_leaf, is_become, is_paren, is_lead, is_frame, Content, holds_within, no_more, one_more, Stands, ends, closes, ends_list, leaf_stands, lead_stands, lead_place, frame_stands, has_no_comma}
-use Rattle.syn_grammar.specs.Read.{Reading, standing, ended_by, bare_operands, content, framed_by, all_of, before, rounded, round_read, repeated_by, elements_by, bracketed, bracket_inside, bracket_read, structured, structure_read, named_by, named_read, unled, led, lead_read, looped, loop_read, kept_from, become_word, is_taken, taken, leaf_at, lead_at, loop_head_at, atom}
+use Rattle.syn_grammar.specs.Stands.{Node, is_leaf, is_become, is_paren, is_lead, is_frame, Content, holds_within, no_more, one_more, Stands, ends, closes, ends_list, leaf_stands, lead_stands, lead_place, frame_stands, frame_ends, has_no_comma}
+use Rattle.syn_grammar.specs.Read.{Reading, standing, ended_by, bare_operands, content, framed_by, all_of, before, rounded, round_read, repeated_by, elements_by, bracketed, bracket_inside, bracket_read, structured, structure_read, named_by, named_read, unled, led, lead_read, looped, loop_read, kept_from, become_word, is_taken, taken, leaf_at, lead_at, loop_head_at, group_read, atom}
 use Rattle.syn_grammar.proofs.Chains.{some_is, then_some, all_some, before_some, only_some, chosen, both_true, neither}
+use Rattle.syn_grammar.proofs.GroupForms.{unbraced, braced}
 use Rattle.syn_grammar.proofs.Needs.{Heads}
 use Rattle.syn_grammar.specs.Front.{bracket_at}
 use Rattle.syn_grammar.proofs.Sound.{moved, leaf_read_sound, bare_sound, content_sound, framed_sound, element_is, group_is, no_comma_is, ends_a_piece}
@@ -58,7 +60,7 @@ pub named_reads : (l : List Tok) → NoLeaf l → NoLead l → leaf_form.reads l
 unfolding leaf_form
 named_reads l a b = rw (a.no_literal, a.no_underscore, b.no_range, b.no_jump, a.no_continue, a.no_loop, a.no_block, a.no_unsafe, a.no_const, a.no_async, a.no_try, a.no_builtin) refl
 
-named_read_is : (l m n : List Tok) (q : QPathTree) (g : MacroEnd) → (qpath type style.Expr).reads l ≡ Some (q, m) → (macro_end q).reads m ≡ Some (g, n)
+pub named_read_is : (l m n : List Tok) (q : QPathTree) (g : MacroEnd) → (expr_path false).reads l ≡ Some (q, m) → (macro_end q).reads m ≡ Some (g, n)
     → named.reads l ≡ Some (to_named (q, g), n)
 unfolding named
 named_read_is l m n q g a b = rw (a, b) refl
@@ -70,6 +72,16 @@ no_macro H q m n h = by_test _ (((H.macro_ends q).sound m None n h))
     by_test : (b : Bool) → (if b then None else Some m) ≡ Some n → m ≡ n
     by_test true i = absurd cc
     by_test false i = some_is i
+
+-- where a macro's `!` stands no brace does
+macro_no_brace : (q : QPathTree) (l : List Tok) (g : Delimiter × List Tok) (n : List Tok) → (macro_end q).reads l ≡ Some (Some g, n) → brace_at l ≡ false
+unfolding macro_end brace_at group_at sign_at
+macro_no_brace q (group del.Brace i ∷ l) g n h = absurd (by_test (is_bare q && false) h)
+  where
+    by_test : (b : Bool) → cond {A = Outcome MacroEnd} b None (Some (None, group del.Brace i ∷ l)) ≡ Some (Some g, n) → ⊥
+    by_test true h = absurd cc
+    by_test false h = let z : ◌≡◌ {A = MacroEnd} None (Some g) = ap (λ (r : MacroEnd × List Tok). r.0) (some_is h) in absurd cc
+macro_no_brace q _ g n h = refl
 
 -- ---- a closure by its lead
 
@@ -119,13 +131,13 @@ module _ (H : Heads) (rec : Place → Reading Tree) (sound : (p : Place) (l : Li
       no_comma k _ x ks h = absurd cc
 
   rounded_sound : (p : Place) (l n : List Tok) (ks : Kids) → Content (within del.Parenthesis elements false) l ks n → Node p l (rounded rec ks) n
-  unfolding frame_stands
-  rounded_sound p l n none d = is_frame refl d refl
+  unfolding frame_stands frame_ends
+  rounded_sound p l n none d = is_frame refl d refl refl
   rounded_sound p l n (kid k c x ks) d = by_test _ refl
     where
       by_test : (b : Bool) → (is_one (kid k c x ks) && has_no_comma (kid k c x ks)) ≡ b → Node p l (if b then paren false x else frame tr.tuple (kid k c x ks)) n
       by_test true h = let (a, b) = both_true (is_one (kid k c x ks)) _ h in paren_sound p l n x k c ks a b d
-      by_test false h = is_frame refl d (rw h refl)
+      by_test false h = is_frame refl d (rw h refl) refl
 
   round_sound : (p : Place) (l : List Tok) (q : Tree × List Tok) → round_read rec l ≡ Some q → Node p l q.0 q.1
   unfolding round_read
@@ -135,7 +147,7 @@ module _ (H : Heads) (rec : Place → Reading Tree) (sound : (p : Place) (l : Li
 
   bracketed_sound : (p : Place) (l i m n : List Tok) (x : Tree) (q : Tree × List Tok) → group_at del.Bracket l ≡ Some (i, n) → Stands plain i x m
       → bracketed rec x m ≡ Some q → q.1 ≡ [] → Node p l q.0 n
-  unfolding ending_at piece_form frame_stands
+  unfolding ending_at piece_form frame_stands frame_ends
   bracketed_sound p l i m n x q g s h v =
       ⊎_elim (λ j.
       let (z, a, b) = then_some (bare_operands rec single (drop 1 m)) (λ ks n. Some (frame tr.repeat (kid tr.repeated tr.no_ending x ks), n)) q j.1 in
@@ -143,7 +155,7 @@ module _ (H : Heads) (rec : Place → Reading Tree) (sound : (p : Place) (l : Li
       let more = bare_sound H rec sound single (drop 1 m) z a in
       let o : z.1 ≡ [] = ap (λ (r : Tree × List Tok). r.1) w ∙ v in
       subst (λ (r : Tree × List Tok). Node p l r.0 n) w
-      (is_frame {k = tr.repeat} refl (holds_within {o = z.1} g (one_more {k = tr.repeated} refl refl s.node (ends_a_piece tr.repeated x m refl s.ending s.closing) (rw j.0 refl) more) (rw o refl)) refl)) (λ j.
+      (is_frame {k = tr.repeat} refl (holds_within {o = z.1} g (one_more {k = tr.repeated} refl refl s.node (ends_a_piece tr.repeated x m refl s.ending s.closing) (rw j.0 refl) more) (rw o refl)) refl refl)) (λ j.
       let (c, a, b) = then_some (ended_by rec tr.element x m) (λ c n. and_then (bare_operands rec elements n) (λ ks o. Some (frame tr.array (kid tr.element c.0 x ks), o))) q j.1 in
       let (y, d, f) = then_some (comma_or_end m) (λ c n. Some ((c, x), n)) c a in
       let (z, k, r) = then_some (bare_operands rec elements c.1) (λ ks o. Some (frame tr.array (kid tr.element c.0.0 x ks), o)) q b in
@@ -153,15 +165,15 @@ module _ (H : Heads) (rec : Place → Reading Tree) (sound : (p : Place) (l : Li
       let ended : comma_or_end m ≡ Some (c.0.0, c.1) = d ∙ ap (λ (r : (Ending × Tree) × List Tok). Some (r.0.0, r.1)) u in
       let more = bare_sound H rec sound elements c.1 z k in
       subst (λ (r : Tree × List Tok). Node p l r.0 n) w
-      (is_frame {k = tr.array} refl (holds_within {o = z.1} g (one_more {k = tr.element} refl refl s.node (ends_a_piece tr.element x m refl s.ending s.closing) ended more) (rw o refl)) refl))
+      (is_frame {k = tr.array} refl (holds_within {o = z.1} g (one_more {k = tr.element} refl refl s.node (ends_a_piece tr.element x m refl s.ending s.closing) ended more) (rw o refl)) refl refl))
       (chosen (semi.at m) (repeated_by rec x (drop 1 m)) (elements_by rec x m) (Some q) h)
 
   bracket_sound : (p : Place) (l : List Tok) (q : Tree × List Tok) → bracket_read rec l ≡ Some q → Node p l q.0 q.1
-  unfolding bracket_read frame_stands
+  unfolding bracket_read frame_stands frame_ends
   bracket_sound p l q h =
       let (g, i, f) = then_some (group_at del.Bracket l) (λ i n. before (bracket_inside rec i) (λ x. x) n) q h in
       let (x, a, b) = before_some (bracket_inside rec g.0) (λ x. x) g.1 q f in
-      moved (x, g.1) q b (⊎_elim (λ j. subst (λ y. Node p l y g.1) (some_is j.1) (is_frame {k = tr.array} refl (holds_within i (no_more j.0) j.0) refl))
+      moved (x, g.1) q b (⊎_elim (λ j. subst (λ y. Node p l y g.1) (some_is j.1) (is_frame {k = tr.array} refl (holds_within i (no_more j.0) j.0) refl refl))
       (λ j.
       let c = all_some (and_then (rec plain g.0) (bracketed rec)) x j.1 in
       let (z, k, d) = then_some (rec plain g.0) (bracketed rec) (x, []) c in
@@ -170,35 +182,39 @@ module _ (H : Heads) (rec : Place → Reading Tree) (sound : (p : Place) (l : Li
 
   -- ---- paths, macros and struct expressions
 
-  structured_sound : (p : Place) (l m : List Tok) (q : QPathTree) (r : Tree × List Tok) → (qpath type style.Expr).behind q l ≡ Some m → structure_read rec p q m ≡ Some r → Node p l r.0 r.1
+  structured_sound : (p : Place) (l m : List Tok) (q : QPathTree) (r : Tree × List Tok) → (expr_path true).behind q l ≡ Some m → structure_read rec p q m ≡ Some r → Node p l r.0 r.1
+  unfolding frame_ends
   structured_sound p l m q r a h =
       let (g, i, f) = then_some (group_at del.Brace m) (λ i n. and_then (bare_operands rec fields i) (λ ks o. structured rec p q (not (is_empty o)) o ks n)) r h in
       let (z, j, k) = then_some (bare_operands rec fields g.0) (λ ks o. structured rec p q (not (is_empty o)) o ks g.1) r f in
       let d = not (is_empty z.1) in
       let (b, c) = only_some (ends_list d z.1 && frame_stands p (tr.structure q.0 q.1 d) z.0) (Some (frame (tr.structure q.0 q.1 d) z.0, g.1)) r k in
       let (u, v) = both_true (ends_list d z.1) _ b in
-      moved (frame (tr.structure q.0 q.1 d) z.0, g.1) r (some_is c) (is_frame a (holds_within i (bare_sound H rec sound fields g.0 z j) u) v)
+      moved (frame (tr.structure q.0 q.1 d) z.0, g.1) r (some_is c) (is_frame a (holds_within i (bare_sound H rec sound fields g.0 z j) u) v refl)
 
   named_sound : (p : Place) (l : List Tok) (r : Tree × List Tok) → leaf_at l ≡ false → lead_at l ≡ false → named_read rec p l ≡ Some r → Node p l r.0 r.1
   unfolding named_read
   named_sound p l r a b h =
-      let (q, i, f) = then_some ((qpath type style.Expr).reads l) (λ q m. and_then ((macro_end q).reads m) (named_by rec p q)) r h in
+      let (q, i, f) = then_some ((expr_path (not p.condition)).reads l) (λ q m. and_then ((macro_end q).reads m) (named_by rec p q)) r h in
       let (g, j, k) = then_some ((macro_end q.0).reads q.1) (named_by rec p q.0) r f in
       by_end q g.0 g.1 i j k
     where
-      standing_sound : (q : QPathTree × List Tok) (g : MacroEnd) (n : List Tok) → (qpath type style.Expr).reads l ≡ Some q → (macro_end q.0).reads q.1 ≡ Some (g, n)
+      standing_sound : (q : QPathTree × List Tok) (g : MacroEnd) (n : List Tok) → (expr_path false).reads l ≡ Some q → (macro_end q.0).reads q.1 ≡ Some (g, n)
           → standing p (to_named (q.0, g)) n ≡ Some r → Node p l r.0 r.1
       standing_sound q g n i j k =
           let (s, t) = only_some (leaf_stands p (to_named (q.0, g)) n) (Some (leaf (to_named (q.0, g)), n)) r k in
           moved (leaf (to_named (q.0, g)), n) r (some_is t)
           (is_leaf (H.leaves.sound l (to_named (q.0, g)) n (named_reads l (no_leaf l a) (no_lead l b) ∙ named_read_is l q.1 n q.0 g i j)) s)
 
-      by_end : (q : QPathTree × List Tok) (g : MacroEnd) (n : List Tok) → (qpath type style.Expr).reads l ≡ Some q → (macro_end q.0).reads q.1 ≡ Some (g, n)
+      by_end : (q : QPathTree × List Tok) (g : MacroEnd) (n : List Tok) → (expr_path (not p.condition)).reads l ≡ Some q → (macro_end q.0).reads q.1 ≡ Some (g, n)
           → named_by rec p q.0 g n ≡ Some r → Node p l r.0 r.1
-      by_end q (Some g) n i j k = standing_sound q (Some g) n i j k
+      by_end q (Some g) n i j k = standing_sound q (Some g) n (unbraced p.condition l q.0 q.1 i (rw (macro_no_brace q.0 q.1 g n j) refl)) j k
       by_end q None n i j k =
-          ⊎_elim (λ c. structured_sound p l n q.0 r (subst (λ z. (qpath type style.Expr).behind q.0 l ≡ Some z) (no_macro H q.0 q.1 n j) (H.qpaths.sound l q.0 q.1 i)) c.1)
-          (λ c. standing_sound q None n i j c.1)
+          let e = no_macro H q.0 q.1 n j in
+          ⊎_elim (λ c.
+          let t = braced p.condition l q.0 q.1 i (rw e c.0) in
+          structured_sound p l n q.0 r (subst (λ z. (expr_path true).behind q.0 l ≡ Some z) e ((H.paths true).sound l q.0 q.1 t)) c.1)
+          (λ c. standing_sound q None n (unbraced p.condition l q.0 q.1 i (rw e c.0)) j c.1)
           (chosen (brace_at n && not p.condition) (structure_read rec p q.0 n) (standing p (to_named (q.0, None)) n) (Some r) k)
 
   -- ---- what stands before an operand
@@ -232,6 +248,14 @@ module _ (H : Heads) (rec : Place → Reading Tree) (sound : (p : Place) (l : Li
       framed_sound H rec sound p (tr.for_loop w.0 x.0) l x.1 q (rw b (H.fors.sound w.1 x.0 x.1 k)) g)
       (chosen (while_word.at w.1) (framed_by rec p (tr.while_loop w.0) (drop 1 w.1)) (and_then (for_head.reads w.1) (λ x. framed_by rec p (tr.for_loop w.0 x))) (Some q) f)
 
+  -- ---- invisible groups
+
+  group_sound : (p : Place) (l : List Tok) (q : Tree × List Tok) → leaf_at l ≡ false → lead_at l ≡ false → group_read rec p l ≡ Some q → Node p l q.0 q.1
+  unfolding group_read
+  group_sound p l q a b h =
+      ⊎_elim (λ j. named_sound p l q a b j.1) (λ j. framed_sound H rec sound p tr.invisible l l q refl j.1)
+      (chosen (is_some ((expr_path (not p.condition)).reads l)) (named_read rec p l) (framed_by rec p tr.invisible l) (Some q) h)
+
   -- ---- by what stands first
 
   become_sound : (p : Place) (l : List Tok) (q : Tree × List Tok) → become_word.at l ≡ true → and_then (rec plain (drop 1 l)) (kept_from rec l) ≡ Some q → Node p l q.0 q.1
@@ -250,7 +274,8 @@ module _ (H : Heads) (rec : Place → Reading Tree) (sound : (p : Place) (l : Li
       ⊎_elim (λ j. become_sound p l q j.0 j.1) (λ f.
       ⊎_elim (λ j. framed_sound H rec sound p tr.branch l (drop 1 l) q (rw j.0 refl) j.1) (λ g.
       ⊎_elim (λ j. loop_sound p l q j.1) (λ i.
-      ⊎_elim (λ j. framed_sound H rec sound p tr.choice l (drop 1 l) q (rw j.0 refl) j.1) (λ k. named_sound p l q a.0 b.0 k.1)
-      (chosen (match_word.at l) _ _ (Some q) i.1)) (chosen (loop_head_at l) _ _ (Some q) g.1)) (chosen (if_word.at l) _ _ (Some q) f.1))
+      ⊎_elim (λ j. framed_sound H rec sound p tr.choice l (drop 1 l) q (rw j.0 refl) j.1) (λ k.
+      ⊎_elim (λ j. group_sound p l q a.0 b.0 j.1) (λ j. named_sound p l q a.0 b.0 j.1)
+      (chosen (invisible_at l) _ _ (Some q) k.1)) (chosen (match_word.at l) _ _ (Some q) i.1)) (chosen (loop_head_at l) _ _ (Some q) g.1)) (chosen (if_word.at l) _ _ (Some q) f.1))
       (chosen (become_word.at l) _ _ (Some q) d.1)) (chosen (bracket_at l) _ _ (Some q) c.1)) (chosen (round_at l) _ _ (Some q) b.1))
       (chosen (lead_at l) _ _ (Some q) a.1)) (chosen (leaf_at l) _ _ (Some q) h)

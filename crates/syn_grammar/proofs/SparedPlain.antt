@@ -159,6 +159,7 @@ no_stray s.scrutinees c t = refl
 no_stray s.arms c t = refl
 no_stray s.bodies c t = refl
 no_stray s.outputs c t = refl
+no_stray s.groups c t = refl
 no_stray s.done c t = refl
 
 piece_good : (v : Slot) (k : Piece) (c : Ending) (t st : Tree) (asks : Bool) → piece_fits v k c t ≡ true → ((c : Context) → Good (bare c t))

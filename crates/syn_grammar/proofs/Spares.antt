@@ -13,7 +13,7 @@ use Rattle.syn_grammar.specs.Next.{class_of, next_of, enclosed, in_statement, le
 use Rattle.syn_grammar.specs.Stands.{is_range, is_base, is_branch, compares}
 use Rattle.syn_grammar.specs.Tree as e
 use Rattle.syn_grammar.specs.Tree.{Tree, Kids, Leaf, Lead, Piece, Ending, Trailer, leaf, paren, adorned, lead, mid, post, tail, frame, none, kid, post_op, is_silent, needs_last_comma}
-use Rattle.syn_grammar.specs.Slot.{Slot, elements, single, counted, fields, conditions, otherwise, loops, scrutinees, arms, bodies, outputs, done, after}
+use Rattle.syn_grammar.specs.Slot.{Slot, elements, single, counted, fields, conditions, otherwise, loops, scrutinees, arms, bodies, outputs, groups, done, after}
 use Rattle.syn_grammar.specs.Rule.{is_operation, prints_range, is_bare_break, bad, place_asks, left_asks, base_asks, lead_asks, put, is_chainable, is_plain_block, piece_put, bare, bare_kids}
 use Rattle.syn_grammar.specs.Sparing.{OneLess, OneLessKid}
 use Rattle.syn_grammar.specs.WellFormed.{piece_fits, is_kept_block, is_name_path, trailer_slot, frame_slot, keeps_block}
@@ -46,6 +46,7 @@ chained_there scrutinees c t h = absurd cc
 chained_there arms c t h = absurd cc
 chained_there bodies c t h = absurd cc
 chained_there outputs c t h = absurd cc
+chained_there groups c t h = absurd cc
 chained_there done c t h = absurd cc
 
 output_there : (s : Slot) (c : Ending) (t : Tree) → piece_fits s e.output_block c t ≡ true → kid_there e.output_block t ≡ true
@@ -60,6 +61,7 @@ output_there loops c t h = absurd cc
 output_there scrutinees c t h = absurd cc
 output_there arms c t h = absurd cc
 output_there bodies c t h = absurd cc
+output_there groups c t h = absurd cc
 output_there done c t h = absurd cc
 
 field_there : (s : Slot) (ats : List AttributeTree) (m : MemberTree) (b : Bool) (c : Ending) (t : Tree) → piece_fits s (e.field_value ats m b) c t ≡ true → b || is_name_path m t ≡ true
@@ -74,6 +76,7 @@ field_there scrutinees ats m b c t h = absurd cc
 field_there arms ats m b c t h = absurd cc
 field_there bodies ats m b c t h = absurd cc
 field_there outputs ats m b c t h = absurd cc
+field_there groups ats m b c t h = absurd cc
 field_there done ats m b c t h = absurd cc
 
 stray_there : (s : Slot) (c : Ending) (t : Tree) → piece_fits s e.stray c t ≡ true → false ≡ true
@@ -88,6 +91,7 @@ stray_there scrutinees c t h = h
 stray_there arms c t h = h
 stray_there bodies c t h = h
 stray_there outputs c t h = h
+stray_there groups c t h = h
 stray_there done c t h = h
 
 pub fits_there : (s : Slot) (k : Piece) (c : Ending) (t : Tree) → piece_fits s k c t ≡ true → kid_there k t ≡ true

@@ -24,7 +24,8 @@ use Rattle.syn_grammar.specs.Op.{level, infix_at}
 use Rattle.syn_grammar.specs.Front.{some_sign, begins_expr, ends_open_range, dot_at}
 use Rattle.syn_grammar.specs.Next.{begins_next, is_block_next, is_brace_next, left_edge, base_edge, braceless, left_context, base_context, right_context, lead_context, lead_level}
 use Rattle.syn_grammar.specs.Rule.{ends_range_next, jump_refuses, leaf_refuses, is_less_next, post_refuses, is_braceless, is_below, is_bare_break}
-use Rattle.syn_grammar.specs.Stands.{is_try_alone, is_word_alone, ends_jump, leaf_stands, lead_stands, mid_stands, post_stands, post_behind}
+use Rattle.syn_grammar.specs.Path.{is_try_alone, is_word_alone}
+use Rattle.syn_grammar.specs.Stands.{ends_jump, leaf_stands, lead_stands, mid_stands, post_stands, post_behind}
 use Rattle.syn_grammar.specs.Tree as e
 use Rattle.syn_grammar.specs.Tree.{Tree, Leaf, Lead, Post, Jump, Trailer, leaf, paren, adorned, lead, mid, post, tail, frame, post_op, post_own}
 use Rattle.syn_grammar.specs.WellFormed.{leaf_fits, lead_fits, infix_fits, post_fits}

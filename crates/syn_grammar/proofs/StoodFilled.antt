@@ -196,7 +196,7 @@ mutual
   node_filled (is_tail {b = b} {k = k} {is = is} d f t c i) =
       both _ _ (subst (λ z. filled z ≡ true) (sym i) (fields_filled b is (node_filled d))) (content_filled c false never (and-false (holds_scrutinee (s.trailer_holder k))))
   node_filled (is_indexed {b = b} {i = i} {is = is} d f t j) = subst (λ z. filled z ≡ true) (sym j) (fields_filled b (i ∷ is) (node_filled d))
-  node_filled (is_frame {p = p} {k = k} {ks = ks} a c g) = by_frame p k ks g (content_filled c)
+  node_filled (is_frame {p = p} {k = k} {ks = ks} a c g e) = by_frame p k ks g (content_filled c)
 
   content_filled : {v : Holder} {l n : List Tok} {ks : Kids} → Content v l ks n → (last : Bool) → (last ≡ true → dotted v ≡ true) → (holds_scrutinee v && last) ≡ false → kids_filled last ks ≡ true
   content_filled holds_none last f w = refl

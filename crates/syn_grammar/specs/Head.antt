@@ -11,12 +11,13 @@ use Rattle.syn_parts.specs.Tree as t
 use Rattle.syn_parts.specs.Tree.{LitTree, AttributeTree, LifetimesTree, ArgumentsTree, ReturnTree}
 use Rattle.syn_parts.specs.Form.{Form, Outcome, Test, Mark, leaf, when, mark, then_by, both, shown, pure, inside, case, flag, maybe, listed, closed_by}
 use Rattle.syn_parts.specs.Mark.{sign, sign_at, word, lifetime_at, brace_at, round_at, and, star, bang, comma, colon, colon2, eq, mutable, constant, underscore}
-use Rattle.syn_parts.specs.Part.{name, is_name_there, lifetime, unsigned, block, inner_attributes, lifetimes, lifetimes_at, QPathTree, MacroEnd, qpath, macro_end, mutability, arguments, output, type}
+use Rattle.syn_parts.specs.Part.{name, is_name_there, lifetime, unsigned, block, inner_attributes, lifetimes, lifetimes_at, QPathTree, MacroEnd, macro_end, mutability, arguments, output, type}
 use Rattle.syn_parts.specs.Pat.{MemberTree, PatTree, member, pattern, closure_arg}
 use Rattle.syn_grammar.specs.declared.kinds.UnKind.TheVariants as un
 use Rattle.syn_grammar.specs.declared.kinds.Limits.{Limits}
 use Rattle.syn_grammar.specs.declared.kinds.Limits.TheVariants as limits
 use Rattle.syn_grammar.specs.Front.{sign_but}
+use Rattle.syn_grammar.specs.Path.{expr_path}
 use Rattle.syn_grammar.specs.Tree as e
 use Rattle.syn_grammar.specs.Tree.{Body, Jump, Leaf, ClosureHead, Lead, Trailer}
 
@@ -224,7 +225,7 @@ builtin = leaf same_toks find_builtin
 
 -- a path in an expression, or a call of a macro (Rust Reference, "Path expressions", "Macro Invocation")
 unfoldable pub named : Form Leaf
-named = shown to_named from_named (then_by (qpath type style.Expr) macro_end)
+named = shown to_named from_named (then_by (expr_path false) macro_end)
 
 -- by what stands first (Rust Reference, "Literal expressions", "Underscore expressions", "Range expressions", "Return
 -- expressions", "Break expressions", "Continue expressions", "Loop expressions", "Block expressions", "Unsafe blocks",

@@ -2,10 +2,13 @@ pub mod Place
 pub mod Op
 pub mod Front
 pub mod Tree
+pub mod Path
 pub mod Head
 pub mod Slot
 pub mod Stands
+pub mod Alone
 pub mod Read
+pub mod AloneRead
 pub mod Next
 pub mod Rule
 pub mod Notes

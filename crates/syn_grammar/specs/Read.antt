@@ -1,16 +1,15 @@
 -- How a list of tokens is read, step by step. No contract of a reader names this: `Stands` says what is read, and
 -- `ReadingIsExact` that this is it.
-use Rattle.std.specs.Prelude.{ℕ, zero, suc, ◌-◌, Bool, true, false, not, ◌||◌, ◌&&◌, if◌then◌else◌, List, [], ◌∷◌, ◌++◌, drop, take, length, codes, Option, Some, None}
+use Rattle.std.specs.Prelude.{ℕ, zero, suc, ◌-◌, Bool, true, false, not, ◌||◌, ◌&&◌, if◌then◌else◌, is_some, List, [], ◌∷◌, ◌++◌, drop, take, length, codes, Option, Some, None}
 use Rattle.syn_lexer.specs.declared.lexeme.Delimiter.TheVariants as del
 use Rattle.syn_tokens.specs.Tok.{Tok, weight}
 use Rattle.syn_tokens.specs.Front.{group_at, is_empty}
-use Rattle.syn_parts.specs.declared.label.PathStyle.TheVariants as style
 use Rattle.syn_parts.specs.Text.{Text}
 use Rattle.syn_parts.specs.Same.{same_toks}
 use Rattle.syn_parts.specs.Tree.{AttributeTree}
 use Rattle.syn_parts.specs.Form.{Outcome, Test, Mark, and_then}
 use Rattle.syn_parts.specs.Mark.{word, brace_at, round_at, semi, star, bang, and, pound, underscore, lifetime_at}
-use Rattle.syn_parts.specs.Part.{outer_attributes, inner_attributes, qpath, type, QPathTree, MacroEnd, macro_end}
+use Rattle.syn_parts.specs.Part.{outer_attributes, inner_attributes, type, QPathTree, MacroEnd, macro_end}
 use Rattle.syn_parts.specs.Pat.{an_index}
 use Rattle.syn_grammar.specs.declared.kinds.Infix.{Infix}
 use Rattle.syn_grammar.specs.declared.kinds.Infix.TheVariants as inf
@@ -18,13 +17,14 @@ use Rattle.syn_grammar.specs.declared.kinds.Limits.TheVariants as limits
 use Rattle.syn_grammar.specs.declared.kinds.Level.{Level}
 use Rattle.syn_grammar.specs.declared.kinds.Place.{Place}
 use Rattle.syn_grammar.specs.Place.{plain, before_block, at, takes}
+use Rattle.syn_grammar.specs.Path.{expr_path, invisible_at}
 use Rattle.syn_grammar.specs.Op.{infix_at, level}
 use Rattle.syn_grammar.specs.Front.{ends_open_range, dot_at, question_at, bracket_at}
 use Rattle.syn_grammar.specs.Tree as e
 use Rattle.syn_grammar.specs.Tree.{Tree, Kids, ClosureHead, Leaf, Lead, Post, Trailer, Frame, Piece, Ending, leaf, paren, adorned, lead, mid, post, tail, frame, none, kid, plain_block, post_op, is_one, is_silent}
 use Rattle.syn_grammar.specs.Head.{leaf_form, lead_form, dotted, to_named, from_closure, label, closure_at, jump_at, range_at, literal_at, let_word, minus, continue_word, loop_at, block_at, unsafe_word, const_block_at, async_block_at, try_block_at, builtin_at}
 use Rattle.syn_grammar.specs.Slot.{Slot, Holder, elements, single, fields, conditions, scrutinees, arms, after, may_end, piece_form, piece_place, ending_at, frame_holder, trailer_holder, nothing, within, bare, is_chained, for_head, while_word, for_word, if_word, match_word}
-use Rattle.syn_grammar.specs.Stands.{closes, ends, ends_operation, fits_left, fits_base, leaf_stands, lead_stands, lead_place, mid_stands, post_stands, frame_stands, ends_list, short_value, takes_block, may_adorn, rests, is_range, fields_of, name_at, indices_at, has_no_comma}
+use Rattle.syn_grammar.specs.Stands.{closes, ends, ends_operation, fits_left, fits_base, leaf_stands, lead_stands, lead_place, mid_stands, post_stands, frame_stands, frame_ends, ends_list, short_value, takes_block, may_adorn, rests, is_range, fields_of, name_at, indices_at, has_no_comma}
 
 abbrev pub Reading : Type 0 → Type 0
 Reading A = List Tok → Outcome A
@@ -193,7 +193,7 @@ module _ (expr : Place → Reading Tree) where
   content (bare s) = bare_operands s
 
   abbrev pub framed_by : Place → Frame → Reading Tree
-  framed_by p k l = and_then (content (frame_holder k) l) (λ ks n. only_if (frame_stands p k ks) (Some (frame k ks, n)))
+  framed_by p k l = and_then (content (frame_holder k) l) (λ ks n. only_if (frame_ends p k ks n && frame_stands p k ks) (Some (frame k ks, n)))
 
   -- ---- in parentheses and brackets
 
@@ -235,7 +235,7 @@ module _ (expr : Place → Reading Tree) where
   named_by p q (Some g) l = standing p (to_named (q, Some g)) l
 
   unfoldable pub named_read : Place → Reading Tree
-  named_read p = (qpath type style.Expr).reads >>= (λ q. (macro_end q).reads >>= named_by p q)
+  named_read p = (expr_path (not p.condition)).reads >>= (λ q. (macro_end q).reads >>= named_by p q)
 
   -- ---- what stands before an operand
 
@@ -265,6 +265,10 @@ module _ (expr : Place → Reading Tree) where
   abbrev pub kept_from : List Tok → Tree → Reading Tree
   kept_from l x n = only_if (is_taken l n) (Some (leaf (e.verbatim (taken l n)), n))
 
+  -- an invisible group: the front of a path, or an operand by itself
+  unfoldable pub group_read : Place → Reading Tree
+  group_read p l = if is_some ((expr_path (not p.condition)).reads l) then named_read p l else framed_by p e.invisible l
+
   -- by what stands first
   unfoldable pub atom : Place → Reading Tree
   atom p l =
@@ -276,7 +280,8 @@ module _ (expr : Place → Reading Tree) where
       else (if if_word.at l then framed_by p e.branch (drop 1 l)
       else (if loop_head_at l then loop_read p l
       else (if match_word.at l then framed_by p e.choice (drop 1 l)
-      else named_read p l)))))))
+      else (if invisible_at l then group_read p l
+      else named_read p l))))))))
 
   -- ---- trailers
 

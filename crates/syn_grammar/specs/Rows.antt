@@ -497,6 +497,67 @@ pub record CondBareRows1 : Type 0 where
   -- `x .. ({ #![k] y })`
   pub row3 : CondBare (ident (codes "x") ∷ joint 46 ∷ alone 46 ∷ group del.Parenthesis (inside (group del.Brace (inside (joint 35 ∷ alone 33 ∷ group del.Bracket (inside (ident (codes "k") ∷ [])) ∷ ident (codes "y") ∷ [])) ∷ [])) ∷ []) (Some (ident (codes "x") ∷ joint 46 ∷ alone 46 ∷ group del.Parenthesis (inside (group del.Brace (inside (alone 35 ∷ alone 33 ∷ group del.Bracket (inside (ident (codes "k") ∷ [])) ∷ ident (codes "y") ∷ [])) ∷ [])) ∷ []))
 
+-- `«` and `»` stand for an invisible group.
+pub record GroupRows : Type 0 where
+  -- `1i32 + «2i32 + 3i32» * 4i32`
+  pub row1 : Plain (literal (codes "1i32") ∷ alone 43 ∷ group del.None (inside (literal (codes "2i32") ∷ alone 43 ∷ literal (codes "3i32") ∷ [])) ∷ alone 42 ∷ literal (codes "4i32") ∷ []) (Some (literal (codes "1i32") ∷ alone 43 ∷ group del.None (inside (literal (codes "2i32") ∷ alone 43 ∷ literal (codes "3i32") ∷ [])) ∷ alone 42 ∷ literal (codes "4i32") ∷ []))
+  -- `«first» :: rest`
+  pub row2 : Plain (group del.None (inside (ident (codes "first") ∷ [])) ∷ joint 58 ∷ alone 58 ∷ ident (codes "rest") ∷ []) (Some (ident (codes "first") ∷ joint 58 ∷ alone 58 ∷ ident (codes "rest") ∷ []))
+  -- `«a» ! (b)`
+  pub row3 : Plain (group del.None (inside (ident (codes "a") ∷ [])) ∷ alone 33 ∷ group del.Parenthesis (inside (ident (codes "b") ∷ [])) ∷ []) (Some (ident (codes "a") ∷ alone 33 ∷ group del.Parenthesis (inside (ident (codes "b") ∷ [])) ∷ []))
+  -- `if «S» { a }`
+  pub row4 : Plain (ident (codes "if") ∷ group del.None (inside (ident (codes "S") ∷ [])) ∷ group del.Brace (inside (ident (codes "a") ∷ [])) ∷ []) (Some (ident (codes "if") ∷ group del.None (inside (ident (codes "S") ∷ [])) ∷ group del.Brace (inside (ident (codes "a") ∷ [])) ∷ []))
+  -- `match «x» { _ => 1 }`
+  pub row5 : Plain (ident (codes "match") ∷ group del.None (inside (ident (codes "x") ∷ [])) ∷ group del.Brace (inside (ident (codes "_") ∷ joint 61 ∷ alone 62 ∷ literal (codes "1") ∷ [])) ∷ []) (Some (ident (codes "match") ∷ group del.None (inside (ident (codes "x") ∷ [])) ∷ group del.Brace (inside (ident (codes "_") ∷ joint 61 ∷ alone 62 ∷ literal (codes "1") ∷ [])) ∷ []))
+  -- `«'a»`
+  pub row6 : Plain (group del.None (inside (joint 39 ∷ ident (codes "a") ∷ [])) ∷ []) None
+  -- `«a + b» . c`
+  pub row7 : Plain (group del.None (inside (ident (codes "a") ∷ alone 43 ∷ ident (codes "b") ∷ [])) ∷ alone 46 ∷ ident (codes "c") ∷ []) (Some (group del.None (inside (ident (codes "a") ∷ alone 43 ∷ ident (codes "b") ∷ [])) ∷ alone 46 ∷ ident (codes "c") ∷ []))
+  -- `match x { _ => «{ }» (1) }`
+  pub row8 : Plain (ident (codes "match") ∷ ident (codes "x") ∷ group del.Brace (inside (ident (codes "_") ∷ joint 61 ∷ alone 62 ∷ group del.None (inside (group del.Brace (inside ([])) ∷ [])) ∷ group del.Parenthesis (inside (literal (codes "1") ∷ [])) ∷ [])) ∷ []) None
+  -- `match x { _ => «{ }» , _ => 1 }`
+  pub row9 : Plain (ident (codes "match") ∷ ident (codes "x") ∷ group del.Brace (inside (ident (codes "_") ∷ joint 61 ∷ alone 62 ∷ group del.None (inside (group del.Brace (inside ([])) ∷ [])) ∷ alone 44 ∷ ident (codes "_") ∷ joint 61 ∷ alone 62 ∷ literal (codes "1") ∷ [])) ∷ []) (Some (ident (codes "match") ∷ ident (codes "x") ∷ group del.Brace (inside (ident (codes "_") ∷ joint 61 ∷ alone 62 ∷ group del.None (inside (group del.Brace (inside ([])) ∷ [])) ∷ alone 44 ∷ ident (codes "_") ∷ joint 61 ∷ alone 62 ∷ literal (codes "1") ∷ [])) ∷ []))
+  -- `match x { _ => «{ }» + 1 , }`
+  pub row10 : Plain (ident (codes "match") ∷ ident (codes "x") ∷ group del.Brace (inside (ident (codes "_") ∷ joint 61 ∷ alone 62 ∷ group del.None (inside (group del.Brace (inside ([])) ∷ [])) ∷ alone 43 ∷ literal (codes "1") ∷ alone 44 ∷ [])) ∷ []) None
+  -- `match x { _ => «a» + 1 , }`
+  pub row11 : Plain (ident (codes "match") ∷ ident (codes "x") ∷ group del.Brace (inside (ident (codes "_") ∷ joint 61 ∷ alone 62 ∷ group del.None (inside (ident (codes "a") ∷ [])) ∷ alone 43 ∷ literal (codes "1") ∷ alone 44 ∷ [])) ∷ []) (Some (ident (codes "match") ∷ ident (codes "x") ∷ group del.Brace (inside (ident (codes "_") ∷ joint 61 ∷ alone 62 ∷ group del.None (inside (ident (codes "a") ∷ [])) ∷ alone 43 ∷ literal (codes "1") ∷ alone 44 ∷ [])) ∷ []))
+  -- `- «a» :: b`
+  pub row12 : Plain (alone 45 ∷ group del.None (inside (ident (codes "a") ∷ [])) ∷ joint 58 ∷ alone 58 ∷ ident (codes "b") ∷ []) (Some (alone 45 ∷ ident (codes "a") ∷ joint 58 ∷ alone 58 ∷ ident (codes "b") ∷ []))
+  -- `«a» (b)`
+  pub row13 : Plain (group del.None (inside (ident (codes "a") ∷ [])) ∷ group del.Parenthesis (inside (ident (codes "b") ∷ [])) ∷ []) (Some (group del.None (inside (ident (codes "a") ∷ [])) ∷ group del.Parenthesis (inside (ident (codes "b") ∷ [])) ∷ []))
+  -- `«a b»`
+  pub row14 : Plain (group del.None (inside (ident (codes "a") ∷ ident (codes "b") ∷ [])) ∷ []) None
+  -- `«»`
+  pub row15 : Plain (group del.None (inside ([])) ∷ []) None
+  -- `# [k] «a»`
+  pub row16 : Plain (alone 35 ∷ group del.Bracket (inside (ident (codes "k") ∷ [])) ∷ group del.None (inside (ident (codes "a") ∷ [])) ∷ []) (Some (alone 35 ∷ group del.Bracket (inside (ident (codes "k") ∷ [])) ∷ group del.None (inside (ident (codes "a") ∷ [])) ∷ []))
+  -- `# [k] «a» :: b`
+  pub row17 : Plain (alone 35 ∷ group del.Bracket (inside (ident (codes "k") ∷ [])) ∷ group del.None (inside (ident (codes "a") ∷ [])) ∷ joint 58 ∷ alone 58 ∷ ident (codes "b") ∷ []) (Some (alone 35 ∷ group del.Bracket (inside (ident (codes "k") ∷ [])) ∷ ident (codes "a") ∷ joint 58 ∷ alone 58 ∷ ident (codes "b") ∷ []))
+  -- `««a»» :: b`
+  pub row18 : Plain (group del.None (inside (group del.None (inside (ident (codes "a") ∷ [])) ∷ [])) ∷ joint 58 ∷ alone 58 ∷ ident (codes "b") ∷ []) None
+  -- `«a» :: < T > :: b`
+  pub row19 : Plain (group del.None (inside (ident (codes "a") ∷ [])) ∷ joint 58 ∷ alone 58 ∷ alone 60 ∷ ident (codes "T") ∷ alone 62 ∷ joint 58 ∷ alone 58 ∷ ident (codes "b") ∷ []) None
+  -- `«Vec :: < T >» :: new ()`
+  pub row20 : Plain (group del.None (inside (ident (codes "Vec") ∷ joint 58 ∷ alone 58 ∷ alone 60 ∷ ident (codes "T") ∷ alone 62 ∷ [])) ∷ joint 58 ∷ alone 58 ∷ ident (codes "new") ∷ group del.Parenthesis (inside ([])) ∷ []) (Some (ident (codes "Vec") ∷ joint 58 ∷ alone 58 ∷ alone 60 ∷ ident (codes "T") ∷ alone 62 ∷ joint 58 ∷ alone 58 ∷ ident (codes "new") ∷ group del.Parenthesis (inside ([])) ∷ []))
+  -- `«a» != b`
+  pub row21 : Plain (group del.None (inside (ident (codes "a") ∷ [])) ∷ joint 33 ∷ alone 61 ∷ ident (codes "b") ∷ []) (Some (group del.None (inside (ident (codes "a") ∷ [])) ∷ joint 33 ∷ alone 61 ∷ ident (codes "b") ∷ []))
+  -- `return «a»`
+  pub row22 : Plain (ident (codes "return") ∷ group del.None (inside (ident (codes "a") ∷ [])) ∷ []) (Some (ident (codes "return") ∷ group del.None (inside (ident (codes "a") ∷ [])) ∷ []))
+  -- `(«a + b») * c`
+  pub row23 : PlainBare (group del.Parenthesis (inside (group del.None (inside (ident (codes "a") ∷ alone 43 ∷ ident (codes "b") ∷ [])) ∷ [])) ∷ alone 42 ∷ ident (codes "c") ∷ []) (Some (group del.None (inside (ident (codes "a") ∷ alone 43 ∷ ident (codes "b") ∷ [])) ∷ alone 42 ∷ ident (codes "c") ∷ []))
+  -- `break «'a : loop { }»`
+  pub row24 : Plain (ident (codes "break") ∷ group del.None (inside (joint 39 ∷ ident (codes "a") ∷ alone 58 ∷ ident (codes "loop") ∷ group del.Brace (inside ([])) ∷ [])) ∷ []) (Some (ident (codes "break") ∷ group del.None (inside (joint 39 ∷ ident (codes "a") ∷ alone 58 ∷ ident (codes "loop") ∷ group del.Brace (inside ([])) ∷ [])) ∷ []))
+  -- `«a» [«b»] ?`
+  pub row25 : Plain (group del.None (inside (ident (codes "a") ∷ [])) ∷ group del.Bracket (inside (group del.None (inside (ident (codes "b") ∷ [])) ∷ [])) ∷ alone 63 ∷ []) (Some (group del.None (inside (ident (codes "a") ∷ [])) ∷ group del.Bracket (inside (group del.None (inside (ident (codes "b") ∷ [])) ∷ [])) ∷ alone 63 ∷ []))
+  -- `««a» :: b» :: c`
+  pub row26 : Plain (group del.None (inside (group del.None (inside (ident (codes "a") ∷ [])) ∷ joint 58 ∷ alone 58 ∷ ident (codes "b") ∷ [])) ∷ joint 58 ∷ alone 58 ∷ ident (codes "c") ∷ []) (Some (ident (codes "a") ∷ joint 58 ∷ alone 58 ∷ ident (codes "b") ∷ joint 58 ∷ alone 58 ∷ ident (codes "c") ∷ []))
+  -- `«try» :: b`
+  pub row27 : Plain (group del.None (inside (ident (codes "try") ∷ [])) ∷ joint 58 ∷ alone 58 ∷ ident (codes "b") ∷ []) None
+  -- `if «S» :: T { a }`
+  pub row28 : Plain (ident (codes "if") ∷ group del.None (inside (ident (codes "S") ∷ [])) ∷ joint 58 ∷ alone 58 ∷ ident (codes "T") ∷ group del.Brace (inside (ident (codes "a") ∷ [])) ∷ []) (Some (ident (codes "if") ∷ ident (codes "S") ∷ joint 58 ∷ alone 58 ∷ ident (codes "T") ∷ group del.Brace (inside (ident (codes "a") ∷ [])) ∷ []))
+  -- `«S» { a }`
+  pub row29 : Plain (group del.None (inside (ident (codes "S") ∷ [])) ∷ group del.Brace (inside (ident (codes "a") ∷ [])) ∷ []) (Some (ident (codes "S") ∷ group del.Brace (inside (ident (codes "a") ∷ [])) ∷ []))
+
 pub record WorkedRows : Type 0 where
   pub plain_rows1 : PlainRows1
   pub plain_rows2 : PlainRows2
@@ -507,3 +568,4 @@ pub record WorkedRows : Type 0 where
   pub stmt_rows1 : StmtRows1
   pub arm_rows1 : ArmRows1
   pub cond_bare_rows1 : CondBareRows1
+  pub group_rows : GroupRows

@@ -6,13 +6,13 @@ use Rattle.syn_lexer.specs.declared.lexeme.Delimiter.TheVariants as del
 use Rattle.syn_tokens.specs.Tok.{Tok}
 use Rattle.syn_tokens.specs.Front.{group_at, is_empty}
 use Rattle.syn_parts.specs.Tree.{AttributeTree}
-use Rattle.syn_parts.specs.declared.label.PathStyle.TheVariants as style
 use Rattle.syn_parts.specs.Form.{Form, Outcome, Test, Mark, then_behind, mark, then_by, both, shown, pure, case, flag, is_true, closed_by}
 use Rattle.syn_parts.specs.Mark.{sign, word, comma, semi, colon, word_at}
-use Rattle.syn_parts.specs.Part.{lifetimes_at, outer_attributes, qpath, type}
+use Rattle.syn_parts.specs.Part.{lifetimes_at, outer_attributes}
 use Rattle.syn_parts.specs.Pat.{MemberTree, PatTree, a_name, an_index, member, pattern, dots}
 use Rattle.syn_grammar.specs.declared.kinds.Place.{Place}
 use Rattle.syn_grammar.specs.Place.{plain, before_block, at_head}
+use Rattle.syn_grammar.specs.Path.{expr_path}
 use Rattle.syn_grammar.specs.Head.{label, closure_head, body_inside}
 use Rattle.syn_grammar.specs.Tree as e
 use Rattle.syn_grammar.specs.Tree.{Body, Tree, Piece, Ending, Frame, Trailer, is_block_like}
@@ -38,6 +38,8 @@ pub data Slot : Type 0 where
   bodies : Slot
   -- the block of a closure with an output
   outputs : Slot
+  -- in an invisible group
+  groups : Slot
   -- no more
   done : Slot
 
@@ -107,6 +109,10 @@ abbrev pub is_output_block : Piece → Bool
 is_output_block e.output_block = true
 is_output_block _ = false
 
+abbrev pub is_grouped : Piece → Bool
+is_grouped e.grouped = true
+is_grouped _ = false
+
 abbrev pub is_rest : Piece → Bool
 is_rest (e.rest d) = d
 is_rest _ = false
@@ -155,6 +161,7 @@ piece_form arms = shown to_arm from_arm
     (both outer_attributes (both (pattern true) (case if_word (pure true is_true) (mark fat_arrow (pure false not)))))
 piece_form bodies = mark fat_arrow (pure e.guarded is_guarded)
 piece_form outputs = pure e.output_block is_output_block
+piece_form groups = pure e.grouped is_grouped
 piece_form done = record { reads = λ l. None; behind = λ k l. None }
 
 -- the place of an operand
@@ -225,7 +232,7 @@ frame_holder e.branch = bare conditions
 frame_holder (e.while_loop l) = bare loops
 frame_holder (e.for_loop l p) = bare loops
 frame_holder e.choice = bare scrutinees
-frame_holder e.invisible = nothing
+frame_holder e.invisible = within del.None groups false
 
 abbrev pub trailer_holder : Trailer → Holder
 trailer_holder e.call = within del.Parenthesis elements false
@@ -258,10 +265,10 @@ abbrev pub frame_head : Frame → List Tok → Option (List Tok)
 frame_head e.array l = Some l
 frame_head e.tuple l = Some l
 frame_head e.repeat l = Some l
-frame_head (e.structure q p d) l = (qpath type style.Expr).behind (q, p) l
+frame_head (e.structure q p d) l = (expr_path true).behind (q, p) l
 frame_head (e.closure_block h) l = closure_head.behind h l
 frame_head e.branch l = if_at if_word l
 frame_head (e.while_loop w) l = then_behind (label.behind w l) (if_at while_word)
 frame_head (e.for_loop w p) l = then_behind (label.behind w l) (for_head.behind p)
 frame_head e.choice l = if_at match_word l
-frame_head e.invisible l = None
+frame_head e.invisible l = Some l

@@ -1,7 +1,6 @@
 -- Which tree stands for which tokens: what it is spelled by, and the binding rules (Rust Reference, "Expressions",
 -- "Expression precedence").
 use Rattle.std.specs.Prelude.{◌≡◌, ℕ, Bool, true, false, not, ◌||◌, ◌&&◌, if◌then◌else◌, List, [], ◌∷◌, ◌++◌, drop, codes, Option, Some, None}
-use Rattle.std.specs.Str.{bytes_eq}
 use Rattle.syn_lexer.specs.declared.lexeme.Delimiter.TheVariants as del
 use Rattle.syn_lexer.specs.declared.lexeme.Delimiter.{Delimiter}
 use Rattle.syn_tokens.specs.Tok.{Tok, Inside, literal, group, toks}
@@ -9,9 +8,9 @@ use Rattle.syn_tokens.specs.Front.{group_at, is_empty}
 use Rattle.syn_tokens.specs.Floats.{float_parts}
 use Rattle.syn_parts.specs.Text.{Text}
 use Rattle.syn_parts.specs.Tree as t
-use Rattle.syn_parts.specs.Tree.{AttributeTree, QSelfTree, PathTree, SegmentTree}
+use Rattle.syn_parts.specs.Tree.{AttributeTree}
 use Rattle.syn_parts.specs.Mark.{sign_at, word_at, brace_at, colon}
-use Rattle.syn_parts.specs.Part.{has_none, is_default, outer_attributes, inner_attributes, type}
+use Rattle.syn_parts.specs.Part.{is_default, outer_attributes, inner_attributes, type}
 use Rattle.syn_parts.specs.Pat.{MemberTree, a_name, an_index, index_of, dots}
 use Rattle.syn_grammar.specs.declared.kinds.Limits.TheVariants as limits
 use Rattle.syn_grammar.specs.declared.kinds.Infix.{Infix}
@@ -20,6 +19,7 @@ use Rattle.syn_grammar.specs.declared.kinds.Level.{Level}
 use Rattle.syn_grammar.specs.declared.kinds.Level.TheVariants as lev
 use Rattle.syn_grammar.specs.declared.kinds.Place.{Place}
 use Rattle.syn_grammar.specs.Place.{plain, before_block, at, above, takes}
+use Rattle.syn_grammar.specs.Path.{is_word_alone, is_try_alone, goes_on_path}
 use Rattle.syn_grammar.specs.Op.{infix_at, level, is_comparison, is_range_op, goes_on}
 use Rattle.syn_grammar.specs.Front.{begins_expr, ends_open_range, trailer_at, dot_at, question_at, left_arrow_at, three_dots_at}
 use Rattle.syn_grammar.specs.Tree as e
@@ -99,9 +99,15 @@ is_branch _ = false
 
 -- ---- what may stand behind a node
 
--- a block-like expression is the whole at a head
+-- a block-like expression, or what holds one in an invisible group
+abbrev pub holds_block : Tree → Bool
+holds_block (frame e.invisible (kid k c x ks)) = holds_block x
+holds_block (adorned a more x) = holds_block x
+holds_block x = is_block_like x
+
+-- it is the whole at a head
 abbrev pub rests : Place → Tree → Bool
-rests p x = p.head && is_block_like x
+rests p x = p.head && holds_block x
 
 abbrev pub goes_behind : Bool → List Tok → Bool
 goes_behind true n = dot_at n || question_at n
@@ -139,18 +145,6 @@ unfoldable pub fits_left : Place → Infix → Tree → Bool
 fits_left p op x = not (is_range x || ((is_comparison op && compares x) || rests p x))
 
 -- ---- leaves
-
-abbrev pub is_sole : Text → List SegmentTree → Bool
-is_sole w (s ∷ []) = bytes_eq s.ident w && has_none s.arguments
-is_sole w _ = false
-
--- the path that is this word alone
-abbrev pub is_word_alone : Text → QSelfTree → PathTree → Bool
-is_word_alone w t.no_qself p = not p.leading && is_sole w p.segments
-is_word_alone w (t.qself x n as_there) p = false
-
-abbrev pub is_try_alone : QSelfTree → PathTree → Bool
-is_try_alone q p = is_word_alone (codes "try") q p
 
 -- a brace behind it is that of a block
 abbrev pub is_block_next : Place → List Tok → Bool
@@ -310,6 +304,11 @@ frame_stands p (e.structure q w d) ks = not (p.condition || is_try_alone q w)
 frame_stands p (e.closure_block h) ks = not (is_default h.output)
 frame_stands p k ks = true
 
+-- a path alone in an invisible group: nothing behind that goes on it
+unfoldable pub frame_ends : Place → Frame → Kids → List Tok → Bool
+frame_ends p e.invisible (kid k c (leaf (e.path q w)) ks) n = not (goes_on_path (not p.condition) (q, w) n)
+frame_ends p k ks n = true
+
 abbrev pub ends_list : Bool → List Tok → Bool
 ends_list true l = dots.at l && is_empty (drop 2 l)
 ends_list false l = is_empty l
@@ -379,7 +378,8 @@ mutual
         → Node p l b m → fits_base p (e.field (an_index i)) b ≡ true → fields_head m ≡ Some (i ∷ is, n)
         → x ≡ fields_of b (i ∷ is) → Node p l x n
     is_frame : {p : Place} {l h n : List Tok} {k : Frame} {ks : Kids}
-        → frame_head k l ≡ Some h → Content (frame_holder k) h ks n → frame_stands p k ks ≡ true → Node p l (frame k ks) n
+        → frame_head k l ≡ Some h → Content (frame_holder k) h ks n → frame_stands p k ks ≡ true → frame_ends p k ks n ≡ true
+        → Node p l (frame k ks) n
 
   -- what a trailer or a frame holds
   pub data Content : Holder → List Tok → Kids → List Tok → Type 0 where

@@ -15,7 +15,8 @@ use Rattle.syn_grammar.specs.declared.kinds.Infix.TheVariants as inf
 use Rattle.syn_grammar.specs.Tree as e
 use Rattle.syn_grammar.specs.Tree.{Tree, Kids, Body, Leaf, Lead, Post, Trailer, Frame, Piece, Ending, ClosureHead, leaf, paren, adorned, lead, mid, post, tail, frame, none, kid, is_none}
 use Rattle.syn_grammar.specs.Slot.{Slot, elements, single, counted, fields, conditions, otherwise, loops, scrutinees, arms, bodies, outputs, done, after}
-use Rattle.syn_grammar.specs.Stands.{is_try_alone, is_word_alone, is_adorned, is_branch}
+use Rattle.syn_grammar.specs.Path.{is_try_alone, is_word_alone}
+use Rattle.syn_grammar.specs.Stands.{is_adorned, is_branch}
 
 abbrev pub attributes_inner : List AttributeTree → Bool
 attributes_inner [] = true

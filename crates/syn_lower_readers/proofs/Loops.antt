@@ -62,6 +62,13 @@ segments_start s found l = ap (extend_more found) (loops.joined_start colon2 (se
 
 pub ruleset segments = (map-one, segments_turn, segments_start)
 
+-- none, or one behind `::` and more
+pub segments_further : (s : PathStyle) (found : List SegmentTree) (l : List Tok) → gathered_more colon2 (segment type s) found l
+    ≡ cond (colon2.at l) (extend_more found ((joined colon2 (segment type s)).reads (drop colon2.count l))) (Some (found, l))
+segments_further s found l = segments_turn s found l ∙ ap (λ o. cond (colon2.at l) o (Some (found, l))) (sym (segments_start s found (drop colon2.count l)))
+
+pub ruleset further = (map-one, segments_further)
+
 pub extend_more-nothing : (o : Outcome (List SegmentTree)) → extend_more [] o ≡ o
 extend_more-nothing None = refl
 extend_more-nothing (Some q) = refl

@@ -62,7 +62,7 @@ fn bare_segments<T: HasTree>(segments: &Punctuated<PathSegmentOf<T>, PathSep>) -
 }
 
 /// Whether a path has neither arguments nor a type that it is qualified by.
-fn is_bare<T: HasTree>(qself: &Option<QSelfOf<T>>, path: &PathOf<T>) -> bool
+pub fn is_bare<T: HasTree>(qself: &Option<QSelfOf<T>>, path: &PathOf<T>) -> bool
     ensures { result ≡ part.is_bare (view.qself_or T.tree qself.now, view.path_of T.tree path.now) }
 {
     match qself {

@@ -63,7 +63,7 @@ pub enum ErrorKind {
     ExpectedUnsuffixedInteger,
     /// An index above 4294967295; the place is the whole literal.
     IndexOutOfRange,
-    /// Another kind of expression was read; the place goes from its first to its last token. No reader here answers it yet.
+    /// Another kind of expression was read; the place goes from its first to its last token.
     ExpectedExprKind(WantedKind),
     /// None of these tokens stands here.
     ExpectedToken(Expected),
@@ -95,7 +95,7 @@ pub enum AfterCast {
     FunctionCall,
 }
 
-/// The kinds of expressions that a reader may want alone. No reader here answers them yet.
+/// The kinds of expressions that are wanted where an expression is read: those with an operand in front, ranges and tuples.
 #[derive(Clone, Copy, Debug, PartialEq, Eq)]
 pub enum WantedKind {
     /// `a = b`

@@ -224,6 +224,33 @@ impl<T: IsType + Drop, F: Fn(&mut ParseBuffer<'_>, bool) -> Result<Box<T>>> Gram
         }
     }
 
+    /// Reads the segments that go on a path, each behind `::`, and puts them behind those that were found. Where no `::`
+    /// stands there are none. It is refused as a segment is (Rust Reference, "Paths in expressions").
+    #[tactic(auto, using(crate::proofs::Loops::further))]
+    pub fn more_segments(
+        &self,
+        input: &mut ParseBuffer<'_>,
+        style: PathStyle,
+        mut found: Punctuated<PathSegmentOf<T>, PathSep>,
+    ) -> Result<Punctuated<PathSegmentOf<T>, PathSep>>
+        requires callable { Callable (weight input.old.rest) (F.pre self.now.ty) }
+        requires reads { ReadsType T.tree (F.post self.now.ty) }
+        requires closed { view.trails found ≡ false }
+        ensures value { Reads (λ p. map (view.segment_of T.tree) (view.values p)) (form.gathered_more mark.colon2 (part.segment part.type style) (map (view.segment_of T.tree) (view.values found)) input.old.rest) result input.new.rest }
+        ensures trails { IfOk result (λ p. view.trails p ≡ false) }
+        ensures noted { input.new.noted ≡ input.old.noted }
+        ensures shrinks { weight input.new.rest ≤ weight input.old.rest }
+    {
+        let Some(colons) = front::colon2(input) else {
+            return Ok(found);
+        };
+        if found.empty_or_trailing() {
+            return self.segments(input, style, found);
+        }
+        found.push_punct(colons)?;
+        self.segments(input, style, found)
+    }
+
     /// Reads a path.
     #[tactic(auto, using(crate::proofs::Loops::nothing), unfolding(syn_parts::specs::Part::path, syn_parts::specs::Part::pieces))]
     pub fn path(&self, input: &mut ParseBuffer<'_>, style: PathStyle) -> Result<PathOf<T>>

@@ -1,9 +1,10 @@
 use Rattle.std.proofs.Common.{rules}
-use Rattle.syn_expr_all.proofs.Exactly.{expr_exact, reads_ahead, refuses_ahead}
+use Rattle.syn_grammar.proofs.Alone.{expr_exact}
+use Rattle.syn_expr_kinds.proofs.Exactly.{reads_ahead, refuses_ahead}
 use Rattle.syn_expr_all.proofs.parse.ahead.Goals as goal
 
 pub returns-clause-exact : goal.returns-clause-exact
 returns-clause-exact c = reads_ahead (expr_exact _) _ _ _ _ c.in_ok-ahead.ensures.value (rw (c.into_inner.ensures, c.advance_to.ensures.rest) c.in-Ok.ensures.value) (search rules)
 
 pub returns-in-Err-clause-exact : goal.returns-in-Err-clause-exact
-returns-in-Err-clause-exact c = refuses_ahead (expr_exact _) _ _ _ c.in_ok-ahead.ensures.value (λ ne. c.in-Err.ensures.value (λ m. ne (c.answered.ensures.memory (c.told.ensures.memory m))))
+returns-in-Err-clause-exact c = refuses_ahead (expr_exact _) _ _ _ c.in_ok-ahead.ensures.value (λ ne. c.in-Err.ensures.value (λ m. ne (c.refusal.ensures.memory m)))

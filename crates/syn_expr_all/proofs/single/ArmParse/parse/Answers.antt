@@ -1,5 +1,5 @@
 use Rattle.std.proofs.Common.{rules}
-use Rattle.syn_expr_all.proofs.Exactly.{reads_ahead, refuses_ahead}
+use Rattle.syn_expr_kinds.proofs.Exactly.{reads_ahead, refuses_ahead}
 use Rattle.syn_expr_all.proofs.Parts.{arm_exact}
 use Rattle.syn_expr_all.proofs.single.ArmParse.parse.Goals as goal
 

@@ -1,5 +1,5 @@
 use Rattle.std.proofs.Common.{rules}
-use Rattle.syn_expr_all.proofs.Exactly.{reads_ahead, refuses_ahead}
+use Rattle.syn_expr_kinds.proofs.Exactly.{reads_ahead, refuses_ahead}
 use Rattle.syn_expr_all.proofs.Parts.{field_exact}
 use Rattle.syn_expr_all.proofs.single.ExprParseField.parse_field.Goals as goal
 
