@@ -17,3 +17,6 @@ pub mod Rounds
 pub mod Lending
 pub mod Counts
 pub mod Adorned
+pub mod Spines
+pub mod Behinds
+pub mod Leading
