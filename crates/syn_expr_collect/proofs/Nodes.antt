@@ -17,7 +17,6 @@ use Rattle.syn_expr_notes.specs.declared.label.PostKind.{PostKind}
 use Rattle.syn_expr_notes.specs.declared.label.TrailerKind.{TrailerKind}
 use Rattle.syn_expr_notes.specs.declared.label.FrameKind.{FrameKind}
 use Rattle.syn_parts.specs.Form.{is_nil}
-use Rattle.syn_parts.specs.Tree.{AttributeTree}
 use Rattle.syn_expr_kinds.specs.Node.{attributes_at, without_strays, no_trees, operands_at, based_by}
 use Rattle.syn_expr_collect.specs.Below.{plain_note, noted_behind, AreFirst, operands_below, operands_visited}
 use Rattle.syn_expr_collect.specs.Visited.{visited, kids_visited}
@@ -50,10 +49,6 @@ behind_is (mid x k y) = refl
 behind_is (post x k) = refl
 behind_is (tail b k ks) = refl
 behind_is (frame k ks) = refl
-
--- by what is lent of the node
-pub noted_is : (t : Tree) (ats : List AttributeTree) (n : Note) → ats ≡ attributes_at t → n ≡ plain_note t → noted_behind ats n ≡ note_of t
-noted_is t ats n a e = ap (λ x. noted_behind x n) a ∙ ap (λ x. noted_behind (attributes_at t) x) e ∙ behind_is t
 
 -- ---- kinds
 

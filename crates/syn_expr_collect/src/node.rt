@@ -24,8 +24,6 @@ pub(crate) fn closed() -> Note
 }
 
 /// The note of a node without attributes, by the notes of its first two operands.
-// A note is made at each node of a tree, and is not handed through memory for it.
-#[inline(always)]
 pub(crate) fn plain_note(kind: NodeKind, first: Note, second: Note) -> Note
     ensures { (t : Tree) → kind_at t ≡ kind → AreFirst (operands_at t) first second → result ≡ plain_note t }
 {
@@ -52,8 +50,6 @@ pub(crate) fn behind(attributes: Attributes<'_>, note: Note) -> Note
 }
 
 /// Keeps the note of a node behind its attributes.
-// As `plain_note`.
-#[inline(always)]
 pub(crate) fn keep(
     notes: &mut Vec<Note>,
     attributes: Attributes<'_>,

@@ -51,7 +51,7 @@ range-lead (e.jump e.yielding) = refl
 range-lead (e.closure h) = refl
 
 -- what is made of what is lent has no attributes
-pub plain-node : (s : ShapeTree) (o : OperandTrees) → is_adorned (node_of s o) ≡ false
+plain-node : (s : ShapeTree) (o : OperandTrees) → is_adorned (node_of s o) ≡ false
 plain-node (leaf_shape k) o = elim o as (λ o. is_adorned (node_of (leaf_shape k) o) ≡ false) [ no_trees ↦ refl | _ ↦ refl ]
 plain-node paren_shape o = elim o as (λ o. is_adorned (node_of paren_shape o) ≡ false) [ one_tree t ↦ refl | _ ↦ refl ]
 plain-node (lead_shape k gs) o = elim o as (λ o. is_adorned (node_of (lead_shape k gs) o) ≡ false) [ one_tree t ↦ refl | _ ↦ refl ]

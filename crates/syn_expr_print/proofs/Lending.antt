@@ -1,15 +1,18 @@
 -- What is lent of a node is there where its kind says so, and its operands are smaller.
 use Rattle.std.specs.Prelude.{Option, Some, None, is_some, Result, Ok, Err}
-use Rattle.std.proofs.Common.{◌≡◌, ℕ, ◌+◌, ◌<◌, true, List, [], ◌++◌, OnOk, subst, refl, sym, ap, ◌∙◌, append_assoc, arith}
+use Rattle.std.proofs.Common.{◌≡◌, ℕ, ◌+◌, ◌<◌, true, false, List, [], ◌++◌, OnOk, subst, refl, sym, ap, ◌∙◌, append_assoc, arith}
 use Rattle.syn_lexer.specs.declared.lexeme.Delimiter.TheVariants as del
 use Rattle.syn_tokens.specs.Tok.{Tok}
 use Rattle.syn_parts.specs.Own as own_parts
 use Rattle.syn_grammar.specs.declared.kinds.Infix.{Infix}
 use Rattle.syn_grammar.specs.declared.next.Context.{Context}
-use Rattle.syn_grammar.specs.Next.{enclosed}
-use Rattle.syn_grammar.specs.Notes.{stack, below}
+use Rattle.syn_grammar.specs.Op.{level}
+use Rattle.syn_grammar.specs.Next.{enclosed, left_context, right_context, base_context, lead_context}
+use Rattle.syn_grammar.specs.Notes.{note_of, stack, below, place_by, left_by, base_by, lead_by}
 use Rattle.syn_grammar.specs.Tree as e
-use Rattle.syn_grammar.specs.Tree.{Tree, leaf_own, size, kids_size}
+use Rattle.syn_grammar.specs.Tree.{Tree, leaf_own, lead_own, infix_own, post_own, post_op, trailer_own, size, kids_size}
+use Rattle.syn_expr_notes.specs.Label as label
+use Rattle.syn_expr_notes.specs.Label.{lead_kind, trailer_kind}
 use Rattle.syn_expr_notes.specs.Kind.{kind_at}
 use Rattle.syn_expr_notes.specs.declared.kind.NodeKind.TheVariants as kind
 use Rattle.syn_expr_notes.specs.declared.label.LeafKind.{LeafKind}
@@ -20,10 +23,10 @@ use Rattle.syn_expr_notes.specs.declared.label.FrameKind.{FrameKind}
 use Rattle.syn_expr_kinds.specs.Node.{operands_at, leaf_at, is_paren, lead_at, operator_at, post_at, trailer_at, frame_at, operand_kids, first_of, second_of}
 use Rattle.syn_lower_leaves.specs.View.{mapped}
 use Rattle.syn_expr_print.specs.declared.notes.Notes.{Notes}
-use Rattle.syn_expr_print.specs.Printing.{spelled, core, IsLent}
+use Rattle.syn_expr_print.specs.Printing.{spelled, spelled_in, kids_spelled, core, IsLent}
 use Rattle.syn_expr_print.specs.Taken.{Taken}
 use Rattle.syn_expr_kinds.proofs.Sizes.{first-smaller, second-smaller, kids-smaller}
-use Rattle.syn_expr_print.proofs.Lents.{leaf-there, leaf-text, leaf-below, is-paren, paren-first, paren-text, paren-below, lead-there, lead-first, lead-below, mid-operator, mid-second, post-there, tail-there, frame-there}
+use Rattle.syn_expr_print.proofs.Lents.{leaf-there, leaf-text, leaf-below, is-paren, paren-first, paren-text, paren-below, lead-there, lead-first, lead-text, lead-below, lead-kind, mid-operator, mid-first, mid-second, mid-text, mid-below, post-there, post-first, post-text, post-below, post-operator, tail-there, tail-first, tail-text, tail-kind, tail-told, frame-there}
 use Rattle.syn_expr_print.proofs.Stacks.{taken-none}
 
 there : {A : Type 0} (o : Option A) → (o ≡ None → ⊥) → is_some o ≡ true
@@ -68,8 +71,17 @@ paren-operand t h = there (first_of (operands_at t)) (paren-first t h)
 pub lead-operand : (t : Tree) (q : LeadKind) → kind_at t ≡ kind.Lead q → is_some (first_of (operands_at t)) ≡ true
 lead-operand t q h = there (first_of (operands_at t)) (lead-first t q h)
 
+pub left-operand : (t : Tree) (q : Infix) → kind_at t ≡ kind.Mid q → is_some (first_of (operands_at t)) ≡ true
+left-operand t q h = there (first_of (operands_at t)) (mid-first t q h)
+
 pub right-operand : (t : Tree) (q : Infix) → kind_at t ≡ kind.Mid q → is_some (second_of (operands_at t)) ≡ true
 right-operand t q h = there (second_of (operands_at t)) (mid-second t q h)
+
+pub post-operand : (t : Tree) (q : PostKind) → kind_at t ≡ kind.Post q → is_some (first_of (operands_at t)) ≡ true
+post-operand t q h = there (first_of (operands_at t)) (post-first t q h)
+
+pub base-operand : (t : Tree) (q : TrailerKind) → kind_at t ≡ kind.Tail q → is_some (first_of (operands_at t)) ≡ true
+base-operand t q h = there (first_of (operands_at t)) (tail-first t q h)
 
 -- ---- sizes
 
@@ -89,7 +101,7 @@ on-map (Err x) h f = h
 
 -- ---- tokens, one part behind the other, by what is lent
 
-pub lent-at : {A B : Type 0} (f : A → B) (o : Option A) (l : A) (x : Option B) → mapped f o ≡ x → o ≡ Some l → x ≡ Some (f l)
+lent-at : {A B : Type 0} (f : A → B) (o : Option A) (l : A) (x : Option B) → mapped f o ≡ x → o ≡ Some l → x ≡ Some (f l)
 lent-at f o l x m e = sym m ∙ ap (mapped f) e
 
 pub leaf-written : {A : Type 0} (f : A → e.Leaf) (o : Option A) (l : A) (c : Context) (t : Tree) (t0 t1 : List Tok)
@@ -106,6 +118,66 @@ pub paren-written : (c : Context) (t u : Tree) (t0 t1 : List Tok) → IsLent t �
     → t1 ≡ t0 ++ own_parts.enclosed del.Parenthesis (spelled enclosed u) [] → t1 ≡ t0 ++ spelled c (core t)
 paren-written c t u t0 t1 n h o p = p ∙ ap (λ z. t0 ++ z) (sym (paren-text c t u n h o))
 
+pub lead-written : {A U X : Type 0} (r : Result U X) (f : A → e.Lead × List Tree) (o : Option A) (l : A) (q : LeadKind) (c : Context) (t u : Tree) (t0 t1 t2 : List Tok)
+    → IsLent t → kind_at t ≡ kind.Lead q → mapped f o ≡ lead_at t → o ≡ Some l → first_of (operands_at t) ≡ Some u → t1 ≡ t0 ++ lead_own (f l).0 []
+    → ((k : e.Lead) → lead_kind k ≡ q → OnOk r (t2 ≡ t1 ++ spelled_in (lead_by k (lead_context k c) (note_of u)) (lead_context k c) u))
+    → OnOk r (t2 ≡ t0 ++ spelled c (core t))
+lead-written r f o l q c t u t0 t1 t2 n h m s v p g = by r (g (f l).0 (lead-kind t (f l) q h a))
+  where
+    a : lead_at t ≡ Some (f l)
+    a = lent-at f o l (lead_at t) m s
+
+    z : List Tok
+    z = spelled_in (lead_by (f l).0 (lead_context (f l).0 c) (note_of u)) (lead_context (f l).0 c) u
+
+    by : {U X : Type 0} (r : Result U X) → OnOk r (t2 ≡ t1 ++ z) → OnOk r (t2 ≡ t0 ++ spelled c (core t))
+    by (Ok x) y = y ∙ ap (λ w. w ++ z) p ∙ append_assoc t0 (lead_own (f l).0 []) z ∙ ap (λ w. t0 ++ w) (sym (lead-text c t (f l) u n a v))
+    by (Err x) y = y
+
+pub post-written : {A : Type 0} (f : A → e.Post) (o : Option A) (l : A) (q : PostKind) (c : Context) (t u : Tree) (t0 t1 t2 : List Tok)
+    → IsLent t → kind_at t ≡ kind.Post q → mapped f o ≡ post_at t → o ≡ Some l → first_of (operands_at t) ≡ Some u
+    → t1 ≡ t0 ++ spelled_in (left_by (label.post_op q) (left_context (label.post_op q) c) (note_of u)) (left_context (label.post_op q) c) u
+    → t2 ≡ t1 ++ post_own (f l) [] → t2 ≡ t0 ++ spelled c (core t)
+post-written f o l q c t u t0 t1 t2 n h m s v p g =
+    let a = lent-at f o l (post_at t) m s in
+    let k = post-operator t (f l) q h a in
+    let y = post_own (f l) [] in
+    let z = λ (op : Infix). spelled_in (left_by op (left_context op c) (note_of u)) (left_context op c) u in
+    g ∙ ap (λ w. w ++ y) (p ∙ ap (λ op. t0 ++ z op) k) ∙ append_assoc t0 (z (post_op (f l))) y ∙ ap (λ w. t0 ++ w) (sym (post-text c t (f l) u n a v))
+
+pub mid-parts : {A U X : Type 0} (r : Result U X) (f : A → Infix) (o : Option A) (l : A) (q : Infix) (c : Context) (t u v : Tree) (t0 t1 t2 t3 : List Tok)
+    → IsLent t → kind_at t ≡ kind.Mid q → mapped f o ≡ operator_at t → o ≡ Some l → first_of (operands_at t) ≡ Some u → second_of (operands_at t) ≡ Some v
+    → t1 ≡ t0 ++ spelled_in (left_by q (left_context q c) (note_of u)) (left_context q c) u
+    → t2 ≡ t1 ++ infix_own (f l) []
+    → OnOk r (t3 ≡ t2 ++ spelled_in (place_by (level q) (right_context q c) (note_of v)) (right_context q c) v)
+    → OnOk r (t3 ≡ t0 ++ spelled c (core t))
+mid-parts r f o l q c t u v t0 t1 t2 t3 n h m s d w p g k = by r k
+  where
+    y : List Tok
+    y = spelled_in (left_by q (left_context q c) (note_of u)) (left_context q c) u
+
+    z : List Tok
+    z = spelled_in (place_by (level q) (right_context q c) (note_of v)) (right_context q c) v
+
+    same : f l ≡ q
+    same = let a = sym (lent-at f o l (operator_at t) m s) ∙ mid-operator t q h in cc
+
+    by : {U X : Type 0} (r : Result U X) → OnOk r (t3 ≡ t2 ++ z) → OnOk r (t3 ≡ t0 ++ spelled c (core t))
+    by (Ok x) j =
+        j ∙ ap (λ i. i ++ z) (g ∙ ap (λ i. i ++ infix_own (f l) []) p ∙ ap (λ i. (t0 ++ y) ++ infix_own i []) same)
+        ∙ append_assoc (t0 ++ y) (infix_own q []) z ∙ append_assoc t0 y (infix_own q [] ++ z) ∙ ap (λ i. t0 ++ i) (sym (mid-text c t q u v n h d w))
+    by (Err x) j = j
+
+pub tail-written : {A : Type 0} (f : A → e.Trailer) (o : Option A) (l : A) (q : TrailerKind) (c : Context) (t u : Tree) (t0 t1 t2 : List Tok)
+    → IsLent t → kind_at t ≡ kind.Tail q → mapped f o ≡ trailer_at t → o ≡ Some l → first_of (operands_at t) ≡ Some u
+    → ((k : e.Trailer) → trailer_kind k ≡ q → t1 ≡ t0 ++ spelled_in (base_by k (base_context k c) (note_of u)) (base_context k c) u)
+    → t2 ≡ t1 ++ trailer_own (f l) (kids_spelled false (operand_kids (operands_at t))) [] → t2 ≡ t0 ++ spelled c (core t)
+tail-written f o l q c t u t0 t1 t2 n h m s v p g =
+    let a = lent-at f o l (trailer_at t) m s in
+    let y = trailer_own (f l) (kids_spelled false (operand_kids (operands_at t))) [] in
+    let z = spelled_in (base_by (f l) (base_context (f l) c) (note_of u)) (base_context (f l) c) u in
+    g ∙ ap (λ w. w ++ y) (p (f l) (tail-kind t (f l) q h a)) ∙ append_assoc t0 z y ∙ ap (λ w. t0 ++ w) (sym (tail-text c t (f l) u n a v))
+
 -- ---- what is below, by the kind
 
 pub lead-stack : (t u : Tree) (q : LeadKind) → IsLent t → kind_at t ≡ kind.Lead q → first_of (operands_at t) ≡ Some u → below t ≡ stack u
@@ -115,16 +187,23 @@ lead-stack t u q n h o = by (lead_at t) refl
     by (Some p) a = lead-below t p u n a o
     by None a = absurd (lead-there t q h a)
 
+pub post-stack : (t u : Tree) (q : PostKind) → IsLent t → kind_at t ≡ kind.Post q → first_of (operands_at t) ≡ Some u → below t ≡ stack u
+post-stack t u q n h o = by (post_at t) refl
+  where
+    by : (x : Option e.Post) → post_at t ≡ x → below t ≡ stack u
+    by (Some p) a = post-below t p u n a o
+    by None a = absurd (post-there t q h a)
+
 pub ruleset leaf_ends = (leaf-some, leaf-written, leaf-none)
 
 pub ruleset paren_ends = (paren-some, paren-operand, less-first, paren-written, paren-below)
 
-pub ruleset lead_ends = (lead-some, lead-operand, less-first, lead-stack)
+pub ruleset lead_ends = (lead-some, lead-operand, less-first, lead-written, lead-stack)
 
-pub ruleset mid_ends = (operator-some, right-operand, less-second)
+pub ruleset mid_ends = (operator-some, left-operand, right-operand, less-first, less-second, mid-parts, mid-below)
 
-pub ruleset post_ends = (post-some)
+pub ruleset post_ends = (post-some, post-operand, less-first, post-written, post-stack)
 
-pub ruleset tail_ends = (trailer-some, less-kids)
+pub ruleset tail_ends = (trailer-some, base-operand, less-first, less-kids, tail-written, tail-told)
 
 pub ruleset shapes = (frame-some, leaf-taken)

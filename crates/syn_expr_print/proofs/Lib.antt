@@ -17,6 +17,3 @@ pub mod Rounds
 pub mod Lending
 pub mod Counts
 pub mod Adorned
-pub mod Spines
-pub mod Behinds
-pub mod Leading

@@ -1,7 +1,7 @@
-//! Leaves, parentheses, and nodes that end with their operand, without the attributes before them (Rust Reference, "Operator
+//! Nodes with their operands at their ends, and leaves, without the attributes before them (Rust Reference, "Operator
 //! expressions", "Grouped expressions", "Range expressions", "`return` expressions", "Closure expressions").
 
-ghost use Rattle.std.specs.Prelude.{◌≡◌, ◌++◌, [], ⊤, Some, is_some, true, MatchOption, OnOk};
+ghost use Rattle.std.specs.Prelude.{◌≡◌, ◌++◌, [], Some, is_some, true, OnOk};
 ghost use Rattle.syn_expr_kinds.specs.Node.{first_of, operands_at, second_of};
 ghost use Rattle.syn_expr_notes.specs.Kind.{kind_at};
 ghost use Rattle.syn_expr_notes.specs.declared.kind.NodeKind.TheVariants as node;
@@ -14,16 +14,16 @@ ghost use Rattle.syn_tokens.specs.Input.{IsFront};
 
 use crate::node::HasPrint;
 use crate::notes::{Notes, take_note};
-use crate::operand::inside;
+use crate::operand::{behind_lead, inside, left_of, right_of};
 use syn_expr_kinds::body::put_paren;
 use syn_expr_kinds::leaf::put_leaf;
 use syn_expr_kinds::node::HasNode;
 use syn_expr_kinds::put::Grown;
-use syn_expr_notes::context::{enclosed, lead_context};
-use syn_expr_notes::decide::lead_by;
-use syn_expr_notes::kind::NodeKind;
-use syn_expr_notes::label::{LeadKind, LeafKind};
+use syn_expr_notes::context::enclosed;
+use syn_expr_notes::label::{LeadKind, LeafKind, PostKind};
 use syn_expr_put::lead::{PutPat, put_lead};
+use syn_expr_put::small::{put_operator, put_post};
+use syn_grammar::kinds::Infix;
 use syn_grammar::next::Context;
 use syn_tokens::tree::TokenStream;
 
@@ -36,7 +36,7 @@ pub(crate) fn first_operand<E: HasNode>(x: &E) -> &E
 }
 
 /// The second of two operands.
-pub(crate) fn second_operand<E: HasNode>(x: &E) -> &E
+fn second_operand<E: HasNode>(x: &E) -> &E
     requires { is_some (second_of (operands_at (E.tree x.now))) ≡ true }
     ensures { second_of (operands_at (E.tree x.now)) ≡ Some (E.tree result.now) }
 {
@@ -83,27 +83,15 @@ pub(crate) fn paren<E: HasPrint, F: Fn(&mut TokenStream, &mut Notes, &E, Context
     put_paren(tokens, x.paren().unwrap(), content)
 }
 
-/// The kind of a node that ends with its operand, before which no attributes stand; of another none.
-#[tactic(auto, using(crate::proofs::Spines::bare_core))]
-fn lead_kind<E: HasPrint>(x: &E) -> Option<LeadKind>
-    ensures { MatchOption result ⊤ (λ k. (core (E.tree x.now) ≡ E.tree x.now) × (kind_at (E.tree x.now) ≡ node.Lead k)) }
-{
-    match x.kind() {
-        NodeKind::Lead(kind) if x.attributes().has_none_before() => Some(kind),
-        _ => None,
-    }
-}
-
-/// Prints a node that ends with its operand, behind what stands before it. Down such operands it goes by a loop, so that
-/// prefix operators take no stack.
-#[tactic(auto, using(syn_tokens::proofs::Fronts::fronts, crate::proofs::Stacks::takes, crate::proofs::Lending::lead_ends))]
+/// Prints a node that ends with its operand, behind what stands before it.
+#[tactic(auto, using(syn_tokens::proofs::Fronts::fronts, crate::proofs::Stacks::takes, crate::proofs::Lents::leads, crate::proofs::Lending::lead_ends))]
 pub(crate) fn lead<E: HasPrint, F: Fn(&mut TokenStream, &mut Notes, &E, Context) -> Grown>(
     bare: &F,
     tokens: &mut TokenStream,
     notes: &mut Notes,
-    mut x: &E,
-    mut kind: LeadKind,
-    mut context: Context,
+    x: &E,
+    kind: LeadKind,
+    context: Context,
 ) -> Grown
 where
     E::Pat: PutPat,
@@ -111,23 +99,57 @@ where
     requires callable { Callable E.tree (size (E.tree x.now)) (F.pre bare.now) }
     requires prints { Prints E.tree (F.post bare.now) }
     requires stacked { EndsWith notes.old.left.items (below (E.tree x.now)) }
-    ensures text { OnOk result (tokens.new ≡ tokens.old ++ spelled context (core (E.tree x.entry.now))) }
+    ensures text { OnOk result (tokens.new ≡ tokens.old ++ spelled context (core (E.tree x.now))) }
     ensures front { IsFront tokens.old tokens.new }
-    ensures taken { OnOk result (Taken notes.old notes.new (below (E.tree x.entry.now))) }
+    ensures taken { OnOk result (Taken notes.old notes.new (below (E.tree x.now))) }
 {
-    'down: loop {
-        put_lead(tokens, x.lead().unwrap())?;
-        let operand = first_operand(x);
-        let place = lead_context(kind, context);
-        let note = take_note(notes, operand);
-        let wrapped = lead_by(kind, place, note);
-        match lead_kind(operand) {
-            Some(next) if !wrapped => {
-                x = operand;
-                kind = next;
-                context = place;
-            }
-            _ => return inside(bare, tokens, notes, operand, wrapped, place),
-        }
-    }
+    put_lead(tokens, x.lead().unwrap())?;
+    behind_lead(bare, tokens, notes, first_operand(x), kind, context)
+}
+
+/// Prints an operation of two operands.
+#[tactic(auto, using(syn_tokens::proofs::Fronts::fronts, crate::proofs::Stacks::takes, crate::proofs::Lents::mids, crate::proofs::Lending::mid_ends))]
+pub(crate) fn mid<E: HasPrint, F: Fn(&mut TokenStream, &mut Notes, &E, Context) -> Grown>(
+    bare: &F,
+    tokens: &mut TokenStream,
+    notes: &mut Notes,
+    x: &E,
+    op: Infix,
+    context: Context,
+) -> Grown
+    requires kind { kind_at (E.tree x.now) ≡ node.Mid op }
+    requires callable { Callable E.tree (size (E.tree x.now)) (F.pre bare.now) }
+    requires prints { Prints E.tree (F.post bare.now) }
+    requires stacked { EndsWith notes.old.left.items (below (E.tree x.now)) }
+    ensures text { OnOk result (tokens.new ≡ tokens.old ++ spelled context (core (E.tree x.now))) }
+    ensures front { IsFront tokens.old tokens.new }
+    ensures taken { OnOk result (Taken notes.old notes.new (below (E.tree x.now))) }
+{
+    let left = first_operand(x);
+    let right = second_operand(x);
+    left_of(bare, tokens, notes, left, op, context)?;
+    put_operator(tokens, x.operator().unwrap())?;
+    right_of(bare, tokens, notes, right, op, context)
+}
+
+/// Prints a node that begins with its operand, before what stands behind it.
+#[tactic(auto, using(syn_tokens::proofs::Fronts::fronts, crate::proofs::Stacks::takes, crate::proofs::Lents::posts, crate::proofs::Lending::post_ends))]
+pub(crate) fn post<E: HasPrint, F: Fn(&mut TokenStream, &mut Notes, &E, Context) -> Grown>(
+    bare: &F,
+    tokens: &mut TokenStream,
+    notes: &mut Notes,
+    x: &E,
+    kind: PostKind,
+    context: Context,
+) -> Grown
+    requires kind { kind_at (E.tree x.now) ≡ node.Post kind }
+    requires callable { Callable E.tree (size (E.tree x.now)) (F.pre bare.now) }
+    requires prints { Prints E.tree (F.post bare.now) }
+    requires stacked { EndsWith notes.old.left.items (below (E.tree x.now)) }
+    ensures text { OnOk result (tokens.new ≡ tokens.old ++ spelled context (core (E.tree x.now))) }
+    ensures front { IsFront tokens.old tokens.new }
+    ensures taken { OnOk result (Taken notes.old notes.new (below (E.tree x.now))) }
+{
+    left_of(bare, tokens, notes, first_operand(x), kind.op(), context)?;
+    put_post(tokens, x.post().unwrap())
 }

@@ -11,5 +11,5 @@ pub mod operand;
 pub mod places;
 pub mod print;
 pub mod printed;
-mod spine;
 pub mod structure;
+mod tail;

@@ -11,11 +11,11 @@ ghost use Rattle.syn_grammar.specs.Notes.{below};
 ghost use Rattle.syn_grammar.specs.Tree.{size};
 ghost use Rattle.syn_tokens.specs.Input.{IsFront};
 
-use crate::ends::{lead, leaf, paren};
+use crate::ends::{lead, leaf, mid, paren, post};
 use crate::frames::frame;
 use crate::node::HasPrint;
 use crate::notes::Notes;
-use crate::spine::spine;
+use crate::tail::tail;
 use syn_expr_collect::HasArms;
 use syn_expr_kinds::attrs::put_attributes;
 use syn_expr_kinds::body::put_parens;
@@ -62,9 +62,9 @@ where
         NodeKind::Leaf(kind) => leaf(tokens, x, kind, context),
         NodeKind::Paren => paren(bare, tokens, notes, x, context),
         NodeKind::Lead(kind) => lead(bare, tokens, notes, x, kind, context),
-        NodeKind::Mid(_) | NodeKind::Post(_) | NodeKind::Tail(_) => {
-            spine(bare, tokens, notes, x, context)
-        }
+        NodeKind::Mid(op) => mid(bare, tokens, notes, x, op, context),
+        NodeKind::Post(kind) => post(bare, tokens, notes, x, kind, context),
+        NodeKind::Tail(kind) => tail(bare, tokens, notes, x, kind, context),
         NodeKind::Frame(_) => frame(bare, tokens, notes, x),
     }
 }
