@@ -1,4 +1,3 @@
 pub mod View
 pub mod Printed
 pub mod ReadBack
-pub mod Word

@@ -12,4 +12,3 @@ pub mod read_back;
 mod readers;
 pub mod ty;
 pub mod types;
-mod word;
