@@ -1,9 +1,0 @@
-use Rattle.std.proofs.Common.{sym, Contains, arith, subst}
-use Rattle.std.proofs.lemmas.List.Elements.{Contains-get_or}
-use Rattle.syn_visit.proofs.members.arms.Goals as goal
-
-pub arm-requires : goal.arm-requires
-arm-requires g c =
-    let got = Contains-get_or c.args.xs.now c.loop-x.x-index c.x-item.result (omega (arith, c.loop-x-test.true)) in
-    let has : Contains c.args.xs.now c.x-item.result = subst (λ x. Contains c.args.xs.now x) (sym c.x-item.is) got in
-    c.requires c.x-item.result has

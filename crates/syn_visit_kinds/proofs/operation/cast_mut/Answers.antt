@@ -1,8 +1,0 @@
-use Rattle.std.proofs.Common.{ap}
-use Rattle.syn_grammar.specs.Tree.{post}
-use Rattle.syn_visit_kinds.proofs.Calls.{left}
-use Rattle.syn_visit_kinds.proofs.Made.{adorn_made}
-use Rattle.syn_visit_kinds.proofs.operation.cast_mut.Goals as goal
-
-pub returns-clause-tree : goal.returns-clause-tree
-returns-clause-tree g c = λ f leaves. let tree = g.E.HasExprTree.tree in adorn_made f _ _ _ (ap (λ t. post t _) (left tree f _ leaves _ _ c.in_ok-boxed_mut.ensures.left))

@@ -1,8 +1,0 @@
-use Rattle.std.proofs.Common.{refl}
-use Rattle.syn_parts.specs.Pat as t
-use Rattle.syn_lower.specs.View.{type_of}
-use Rattle.syn_visit_kinds.proofs.Pats.{one_made}
-use Rattle.syn_visit_kinds.proofs.pat.typed_mut.Goals as goal
-
-pub returns-clause-view : goal.returns-clause-view
-returns-clause-view g c = λ f leaves. one_made f (λ p. t.typed p (type_of c.args.x.now.ty.value)) c.args.x.now.attrs _ _ (leaves _ _ _ _ refl c.in_ok-call.ensures)
