@@ -5,9 +5,9 @@ use std::alloc::Global;
 use syn_expr::op::{BinOp, UnOp};
 use syn_expr::{
     Abi, AngleBracketedGenericArguments, AssocType, Attribute, BareFnArg, Block, BoundLifetimes,
-    GenericArgument, Index, Label, Lifetime, Lit, LitBool, LitByte, LitByteStr, LitCStr, LitChar,
+    GenericArgument, Ident, Index, Label, Lifetime, Lit, LitBool, LitByte, LitByteStr, LitCStr, LitChar,
     LitFloat, LitInt, LitStr, Macro, Member, ParenthesizedGenericArguments, ParseBuffer, Path,
-    PathSegment, PointerMutability, RangeLimits, Result, ReturnType, ToTokens, TokenStream,
+    PathSegment, PointerMutability, RangeLimits, Result, ReturnType, Span, ToTokens, TokenStream,
     TraitBound, Type, TypeArray, TypeFnPtr, TypeImplTrait, TypeInfer, TypeMacro, TypeNever,
     TypeParamBound, TypeParen, TypePath, TypePtr, TypeReference, TypeSlice, TypeTraitObject,
     TypeTuple, lex, parse_str, print_qpath, qpath,
@@ -49,6 +49,40 @@ fn label(alloc: Global, text: &str) -> Result<String> {
         Ok(None) => words(alloc, "no label"),
         Err(e) => refused(&tokens, &input, e),
     }
+}
+
+/// The value of a literal, or its digits.
+fn value_of(alloc: Global, text: &str) -> Result<String> {
+    match parse_str::<Lit>(alloc, text)? {
+        Lit::Str(x) => x.value(alloc),
+        Lit::ByteStr(x) => {
+            let bytes = x.value(alloc)?;
+            Ok(format!(in alloc; "{bytes:?}")?)
+        }
+        Lit::Byte(x) => {
+            let byte = x.value(alloc)?;
+            Ok(format!(in alloc; "{byte}")?)
+        }
+        Lit::Char(x) => {
+            let character = x.value(alloc)?;
+            Ok(format!(in alloc; "{character}")?)
+        }
+        Lit::Int(x) => x.base10_digits(alloc),
+        Lit::Float(x) => x.base10_digits(alloc),
+        Lit::CStr(_) | Lit::Bool(_) => words(alloc, "not asked for here"),
+    }
+}
+
+/// An integer, parsed as a byte.
+fn byte_of(alloc: Global, text: &str) -> Result<String> {
+    let byte = parse_str::<LitInt>(alloc, text)?.base10_parse::<u8>()?;
+    Ok(format!(in alloc; "{byte}")?)
+}
+
+/// A path of one word.
+fn path_of_word(alloc: Global) -> Result<String> {
+    let ident = Ident::new(alloc, "a", Span::call_site())?;
+    printed(alloc, &Path::from_ident(alloc, ident)?)
 }
 
 /// A closed range of old.
@@ -147,6 +181,14 @@ pub fn leaves(rt: &HostRuntime) {
         "LitBool::parse LitBool::to_tokens",
         both::<LitBool>(alloc, "true"),
     );
+    tell(rt, "LitStr::value", value_of(alloc, "\"a\\x20b\""));
+    tell(rt, "LitByteStr::value", value_of(alloc, "b\"a\\0\""));
+    tell(rt, "LitByte::value", value_of(alloc, "b'a'"));
+    tell(rt, "LitChar::value", value_of(alloc, "'\\u{e9}'"));
+    tell(rt, "LitInt::base10_digits", value_of(alloc, "0x1_Fu8"));
+    tell(rt, "LitInt::base10_parse", byte_of(alloc, "0x1_F"));
+    tell(rt, "LitInt::base10_parse", byte_of(alloc, "256"));
+    tell(rt, "LitFloat::base10_digits", value_of(alloc, "-1_0.5f32"));
     tell(
         rt,
         "Block::parse Block::to_tokens",
@@ -216,6 +258,7 @@ pub fn paths(rt: &HostRuntime) {
         both::<Path>(alloc, "::a::B<'c, D, 1>"),
     );
     tell(rt, "Path::parse_mod_style", mod_style(alloc, "a::crate::b"));
+    tell(rt, "Path::from_ident", path_of_word(alloc));
     tell(
         rt,
         "qpath print_qpath",

@@ -1,3 +1,4 @@
 pub mod View
 pub mod Printed
 pub mod ReadBack
+pub mod Word

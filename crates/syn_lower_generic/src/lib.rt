@@ -12,3 +12,4 @@ pub mod read_back;
 mod readers;
 pub mod ty;
 pub mod types;
+mod word;

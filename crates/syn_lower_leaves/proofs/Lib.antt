@@ -7,3 +7,7 @@ pub mod ReadingAttributes
 pub mod Backs
 pub mod Ties
 pub mod LeafTies
+pub mod Digits
+pub mod DecimalValues
+pub mod Quotes
+pub mod ValueRows

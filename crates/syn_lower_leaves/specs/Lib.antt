@@ -4,3 +4,6 @@ pub mod Printed
 pub mod Reads
 pub mod ReadBack
 pub mod Kept
+pub mod Value
+pub mod ValueRows
+pub mod Parsed

@@ -1,7 +1,8 @@
-//! What follows of the printers, the readers and the tests together, as a contract of a function that does nothing.
+//! What follows of the printers, the readers and the tests together, and rows, as contracts of functions that do nothing.
 
 ghost use Rattle.std.specs.Prelude.{map, not, true};
 ghost use Rattle.syn_lower_leaves.specs.ReadBack.{IsReadBack, IsRead, all_outer, all_inner, all_printed};
+ghost use Rattle.syn_lower_leaves.specs.ValueRows as rows;
 ghost use Rattle.syn_lower_leaves.specs.View as view;
 ghost use Rattle.syn_parts.specs.Fits as fits;
 ghost use Rattle.syn_parts.specs.Fits.{closed};
@@ -34,4 +35,14 @@ pub fn leaves_are_read_back()
     // a number by itself is read without a sign
     ensures integers { IsReadBack (λ x. fits.of_kind_fits kind.Int (⟦<LitInt as Parse>⟧.seen x)) closed ⟦<LitInt as ToTokens>⟧.printed ⟦<LitInt as Parse>⟧.seen ⟦<LitInt as Parse>⟧.spells }
     ensures floats { IsReadBack (λ x. fits.of_kind_fits kind.Float (⟦<LitFloat as Parse>⟧.seen x)) closed ⟦<LitFloat as ToTokens>⟧.printed ⟦<LitFloat as Parse>⟧.seen ⟦<LitFloat as Parse>⟧.spells }
+{}
+
+/// Values of literals from outside.
+pub fn literal_values()
+    ensures integers { rows.IntRows }
+    ensures floats { rows.FloatRows }
+    ensures chars { rows.CharRows }
+    ensures bytes { rows.ByteRows }
+    ensures strings { rows.StrRows }
+    ensures byte_strings { rows.ByteStrRows }
 {}

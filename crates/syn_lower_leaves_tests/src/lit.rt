@@ -197,6 +197,92 @@ fn literals_of_one_kind(rt: HostRuntime) -> Result<(), Fail> {
     check(rt.alloc(), OWN_KINDS, own_kinds)
 }
 
+/// The characters of a value, or its digits with the suffix behind a blank.
+fn value(alloc: Global, text: &str) -> Result<String, Error> {
+    match parse_str::<Lit>(alloc, text)? {
+        Lit::Str(x) => {
+            let value = x.value(alloc)?;
+            Ok(format!(in alloc; "{value:?}")?)
+        }
+        Lit::ByteStr(x) => {
+            let value = x.value(alloc)?;
+            Ok(format!(in alloc; "{value:?}")?)
+        }
+        Lit::Byte(x) => {
+            let value = x.value(alloc)?;
+            Ok(format!(in alloc; "{value}")?)
+        }
+        Lit::Char(x) => {
+            let value = x.value(alloc)?;
+            Ok(format!(in alloc; "{value:?}")?)
+        }
+        Lit::Int(x) => {
+            let (digits, suffix) = (x.base10_digits(alloc)?, x.suffix());
+            Ok(format!(in alloc; "{digits} {suffix}")?)
+        }
+        Lit::Float(x) => {
+            let (digits, suffix) = (x.base10_digits(alloc)?, x.suffix());
+            Ok(format!(in alloc; "{digits} {suffix}")?)
+        }
+        Lit::Bool(x) => words(alloc, if x.value() { "yes" } else { "no" }),
+        Lit::CStr(_) => words(alloc, "not asked for here"),
+    }
+}
+
+const VALUES: &str = r##"
+"a\"\\\x41\u{1F600}" | "a\"\\A😀"
+r#"a\"b"#            | "a\\\"b"
+"\q"                | 0..4 malformed literal
+"\u{110000}"        | 0..12 malformed literal
+b"\xFF\0a"          | [255, 0, 97]
+br"\n"              | [92, 110]
+b"\u{41}"           | 0..9 malformed literal
+b'\''               | 39
+b'\xff'             | 255
+'\u{e9}'            | 'é'
+'😀'                | '😀'
+'\x80'              | 0..6 malformed literal
+0x1_F               | 31
+1_000u16            | 1000 u16
+0b1e1               | 1 e1
+-7                  | -7
+340282366920938463463374607431768211455 | 340282366920938463463374607431768211455
+340282366920938463463374607431768211456 | 0..39 literal out of range
+1_0.5_0E+1_0f64     | 10.50E+10 f64
+-2.                 | -2.
+true                | yes
+false               | no
+"##;
+
+#[test]
+fn values(rt: HostRuntime) -> Result<(), Fail> {
+    check(rt.alloc(), VALUES, value)
+}
+
+/// An integer, parsed as an `i8` and as a `u128`.
+fn parsed(alloc: Global, text: &str) -> Result<String, Error> {
+    let Lit::Int(number) = parse_str::<Lit>(alloc, text)? else {
+        return words(alloc, "no integer");
+    };
+    let (small, large) = (number.base10_parse::<i8>(), number.base10_parse::<u128>());
+    Ok(format!(in alloc; "{:?} {:?}", small.ok(), large.ok())?)
+}
+
+const PARSED: &str = "
+127                                     | Some(127) Some(127)
+128                                     | None Some(128)
+-128                                    | Some(-128) None
+-129                                    | None None
+0xffffffffffffffffffffffffffffffffu8    | None Some(340282366920938463463374607431768211455)
+0x1_00000000000000000000000000000000    | None None
+-0x80000000000000000000000000000000     | None None
+";
+
+#[test]
+fn integers_are_parsed(rt: HostRuntime) -> Result<(), Fail> {
+    check(rt.alloc(), PARSED, parsed)
+}
+
 const COMPARED: &str = r#"
 -1   ~  - 1    | equal
 -1   ~   -  1  | equal

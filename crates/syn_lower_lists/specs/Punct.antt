@@ -1,7 +1,9 @@
 -- Lists with puncts: the puncts, and whether a value may follow.
-use Rattle.std.specs.Prelude.{Bool, true, false, not, List, [], ◌∷◌, ◌++◌, map, is_some, ◌≡◌}
+use Rattle.std.specs.Prelude.{Bool, true, false, not, List, [], ◌∷◌, ◌++◌, map, Option, Some, None, is_some, option_to_list, ◌≡◌}
 use Rattle.syn_lower_lists.specs.View.{values}
 use Rattle.syn_lower_lists.specs.declared.punctuated.Punctuated.{Punctuated}
+use Rattle.syn_lower_lists.specs.declared.punctuated.Pair.{Pair}
+use Rattle.syn_lower_lists.specs.declared.punctuated.Pair.TheVariants as pair
 
 -- the puncts, in their order
 unfoldable pub puncts : {A P : Type 0} → Punctuated A P → List P
@@ -27,3 +29,18 @@ abbrev pub is_one : {A : Type 0} → List A → Bool → Bool
 is_one [] e = false
 is_one (x ∷ []) e = not e
 is_one (x ∷ y ∷ xs) e = false
+
+-- ---- a value and the punct that follows it
+
+abbrev pub pair_value : {A P : Type 0} → Pair A P → A
+pair_value (pair.Punctuated v p) = v
+pair_value (pair.End v) = v
+
+abbrev pub pair_punct : {A P : Type 0} → Pair A P → Option P
+pair_punct (pair.Punctuated v p) = Some p
+pair_punct (pair.End v) = None
+
+-- the puncts that go where a value may be taken away
+abbrev pub popped_puncts : {A P : Type 0} → Option (Pair A P) → List P
+popped_puncts None = []
+popped_puncts (Some x) = option_to_list (pair_punct x)

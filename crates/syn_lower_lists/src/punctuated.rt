@@ -1,10 +1,48 @@
 //! Values with puncts between.
 
-ghost use Rattle.std.specs.Iterator.{YieldsFirstRef, item_count};
-ghost use Rattle.std.specs.Prelude.{◌-◌, drop, take, ◌≡◌, ◌++◌, [], ◌∷◌, length, true, false, OnOk, OnErr, IfErr, IsTrue, ◌↔◌, MatchOption, MatchResult};
+ghost use Rattle.std.specs.Iterator.{YieldsFirstRef, YieldsFirstBy, item_count};
+ghost use Rattle.std.specs.Option.{option_copied};
+ghost use Rattle.std.specs.Prelude.{◌-◌, drop, take, ◌≡◌, ◌++◌, [], ◌∷◌, length, true, false, OnOk, OnErr, IfErr, IsTrue, ◌↔◌, MatchOption, MatchResult, slice_get};
 
 use std::alloc::Global;
 use syn_tokens::error::{ErrorKind, Result};
+
+/// A value of a list with puncts, and the punct that follows it.
+#[derive(Debug, Drop, PartialEq)]
+pub enum Pair<T, P> {
+    /// A value that a punct follows.
+    Punctuated(T, P),
+    /// A value that none follows.
+    End(T),
+}
+
+impl<T, P> Pair<T, P> {
+    ghost use Rattle.syn_lower_lists.specs.Punct.{pair_value, pair_punct};
+
+    /// The value, and the punct where there is one.
+    pub fn into_tuple(self) -> (T, Option<P>)
+        ensures { result ≡ (pair_value self, pair_punct self) }
+    {
+        match self {
+            Pair::Punctuated(value, punct) => (value, Some(punct)),
+            Pair::End(value) => (value, None),
+        }
+    }
+}
+
+impl<T, P: Drop> Pair<T, P> {
+    ghost use Rattle.syn_lower_lists.specs.Punct.{pair_value};
+
+    /// The value.
+    pub fn into_value(self) -> T
+        ensures { result ≡ pair_value self }
+    {
+        match self {
+            Pair::Punctuated(value, _punct) => value,
+            Pair::End(value) => value,
+        }
+    }
+}
 
 /// Values with puncts between, and perhaps one at the end.
 #[derive(PartialEq)]
@@ -24,7 +62,8 @@ impl<T: Drop, P: Drop> Drop for Punctuated<T, P> {
 
 impl<T: Drop, P: Drop> Punctuated<T, P> {
     ghost use Rattle.syn_lower_lists.specs.View.{values, trails};
-    ghost use Rattle.syn_lower_lists.specs.Punct.{puncts, takes_value, is_one, IsSameList};
+    ghost use Rattle.std.specs.Prelude.{IfSome, is_some};
+    ghost use Rattle.syn_lower_lists.specs.Punct.{puncts, takes_value, is_one, IsSameList, pair_value, pair_punct, popped_puncts};
 
     /// An empty list.
     #[tactic(auto, unfolding(crate::specs::View::values, crate::specs::View::trails, crate::specs::Punct::puncts, crate::specs::Punct::takes_value))]
@@ -88,6 +127,23 @@ impl<T: Drop, P: Drop> Punctuated<T, P> {
         Ok(())
     }
 
+    /// Takes the last value away, with the punct that follows it.
+    #[tactic(auto, unfolding(crate::specs::View::values, crate::specs::View::trails, crate::specs::Punct::puncts, crate::specs::Punct::takes_value))]
+    pub fn pop(&mut self) -> Option<Pair<T, P>>
+        ensures values { MatchOption result ((values self.old ≡ []) × (values self.new ≡ [])) (λ p. values self.old ≡ values self.new ++ pair_value p ∷ []) }
+        ensures puncts { puncts self.old ≡ puncts self.new ++ popped_puncts result }
+        ensures punct { IfSome result (λ p. is_some (pair_punct p) ≡ trails self.old) }
+        ensures open { takes_value self.new ≡ true }
+    {
+        match self.last.take() {
+            Some(value) => Some(Pair::End(Box::into_inner(value))),
+            None => match self.inner.pop() {
+                Some((value, punct)) => Some(Pair::Punctuated(value, punct)),
+                None => None,
+            },
+        }
+    }
+
     /// The one value, where there is one alone and no punct; else the list.
     #[tactic(auto, unfolding(crate::specs::View::values, crate::specs::View::trails))]
     pub fn into_one(self) -> std::result::Result<Box<T>, Punctuated<T, P>>
@@ -103,7 +159,7 @@ impl<T: Drop, P: Drop> Punctuated<T, P> {
 
 impl<T, P> Punctuated<T, P> {
     ghost use Rattle.syn_lower_lists.specs.View.{values, trails};
-    ghost use Rattle.syn_lower_lists.specs.PunctIter.{left};
+    ghost use Rattle.syn_lower_lists.specs.PunctIter.{left, pairs_left, pairs_of};
 
     /// How many values there are.
     #[tactic(auto, unfolding(crate::specs::View::values))]
@@ -151,6 +207,29 @@ impl<T, P> Punctuated<T, P> {
                 [.., (value, _)] => Some(value),
                 [] => None,
             },
+        }
+    }
+
+    /// The value at an index, counted from zero.
+    #[tactic(auto, using(crate::proofs::Puncts::places), unfolding(crate::specs::View::values))]
+    pub fn get(&self, index: usize) -> Option<&T>
+        ensures { option_copied result ≡ slice_get (values self.now) index }
+    {
+        match self.inner.get(index) {
+            Some((value, _)) => Some(value),
+            None if index == self.inner.len() => self.last.as_deref(),
+            None => None,
+        }
+    }
+
+    /// The values with the puncts that follow them, in their order.
+    #[tactic(auto, unfolding(crate::specs::PunctIter::pairs_of))]
+    pub fn pairs(&self) -> Pairs<'_, T, P>
+        ensures { pairs_left result ≡ pairs_of self.now }
+    {
+        Pairs {
+            inner: &self.inner,
+            last: self.last.as_deref(),
         }
     }
 
@@ -214,6 +293,51 @@ impl<'a, T, P> Iterator for Iter<'a, T, P> {
                 Some(value)
             }
             None => self.last.take(),
+        }
+    }
+}
+
+impl<'a, T, P> IntoIterator for &'a Punctuated<T, P> {
+    ghost use Rattle.syn_lower_lists.specs.PunctIter.{left};
+    ghost use Rattle.syn_lower_lists.specs.View.{values};
+
+    type Item = &'a T;
+
+    type IntoIter = Iter<'a, T, P>;
+
+    ghost into_iter_gives = { λ list it. left it ≡ values list.now };
+
+    fn into_iter(self) -> Iter<'a, T, P> {
+        self.iter()
+    }
+}
+
+/// The values of a list with puncts, each with the punct that follows it, in their order.
+#[derive(Drop)]
+pub struct Pairs<'a, T, P> {
+    inner: &'a [(T, P)],
+    last: Option<&'a T>,
+}
+
+impl<'a, T, P> Iterator for Pairs<'a, T, P> {
+    ghost use Rattle.syn_lower_lists.specs.PunctIter.{pair_seen, pairs_left};
+
+    type Item = Pair<&'a T, &'a P>;
+
+    ghost next_gives = { YieldsFirstBy pair_seen pairs_left };
+
+    ghost remaining = { item_count pairs_left };
+
+    fn next(&mut self) -> Option<Pair<&'a T, &'a P>> {
+        match self.inner.split_first() {
+            Some(((value, punct), rest)) => {
+                self.inner = rest;
+                Some(Pair::Punctuated(value, punct))
+            }
+            None => match self.last.take() {
+                Some(value) => Some(Pair::End(value)),
+                None => None,
+            },
         }
     }
 }

@@ -1,13 +1,15 @@
 //! What no clause says: the texts that parts print, which parts are equal, and that calls succeed.
 
-use rows::{check, compared, printed};
+use rows::{check, compared, printed, words};
+use std::alloc::Global;
 use std::test::Fail;
 use syn_lower::{
-    BoundLifetimes, GenericArgument, Macro, Path, PathSegment, Punctuated, Type, TypeParamBound,
-    print_qpath, qpath,
+    BoundLifetimes, GenericArgument, Macro, Path, PathSegment, Punctuated, Type,
+    TypeParamBound, print_qpath, qpath,
 };
+use syn_lower::punctuated::Pair;
 use syn_tokens::token::Comma;
-use syn_tokens::{ParseBuffer, ToTokens, TokenStream, lex, to_text};
+use syn_tokens::{Error, Ident, ParseBuffer, Span, ToTokens, TokenStream, lex, parse_str, to_text};
 
 /// Whole texts, and what is printed of them or their refusals.
 const TYPES: &str = r#"
@@ -111,6 +113,87 @@ fn values_and_puncts_by_turns(rt: HostRuntime) -> Result<(), Fail> {
     assert_eq!(rt; values.next(), Some(&1));
     assert_eq!(rt; values.next(), Some(&2));
     assert_eq!(rt; values.next(), None);
+    Ok(())
+}
+
+#[test]
+fn values_are_found_by_their_index(rt: HostRuntime) -> Result<(), Fail> {
+    let mut list = Punctuated::<u8, Comma>::new(rt.alloc());
+    list.push(1)?;
+    list.push(2)?;
+    assert_eq!(rt; list.get(0), Some(&1));
+    assert_eq!(rt; list.get(1), Some(&2));
+    assert_eq!(rt; list.get(2), None);
+    list.push_punct(Comma::default())?;
+    assert_eq!(rt; list.get(1), Some(&2));
+    assert_eq!(rt; list.get(2), None);
+    Ok(())
+}
+
+#[test]
+fn values_are_taken_away(rt: HostRuntime) -> Result<(), Fail> {
+    let mut list = Punctuated::<u8, Comma>::new(rt.alloc());
+    list.push(1)?;
+    list.push(2)?;
+    assert_eq!(rt; list.pop(), Some(Pair::End(2)));
+    assert!(rt; list.trailing_punct());
+    assert_eq!(rt; list.pop(), Some(Pair::Punctuated(1, Comma::default())));
+    assert!(rt; list.pop().is_none());
+    Ok(())
+}
+
+#[test]
+fn values_are_gone_through(rt: HostRuntime) -> Result<(), Fail> {
+    let mut list = Punctuated::<u8, Comma>::new(rt.alloc());
+    list.push(1)?;
+    list.push(2)?;
+    let mut seen = Vec::new(rt.alloc());
+    for value in &list {
+        seen.push(*value)?;
+    }
+    assert_eq!(rt; seen.as_slice(), [1, 2].as_slice());
+    let mut pairs = list.pairs();
+    let first = pairs.next().ok_or("no pair")?.into_tuple();
+    assert_eq!(rt; first.0, &1);
+    assert!(rt; first.1.is_some());
+    let second = pairs.next().ok_or("no second pair")?;
+    assert_eq!(rt; second.into_value(), &2);
+    assert!(rt; pairs.next().is_none());
+    Ok(())
+}
+
+/// The word that a path is.
+fn word_of(alloc: Global, text: &str) -> Result<String, Error> {
+    let path = parse_str::<Path>(alloc, text)?;
+    match path.get_ident() {
+        Some(ident) if path.is_ident(ident.as_str()) => words(alloc, ident.as_str()),
+        Some(_) => words(alloc, "another word"),
+        None => words(alloc, "no word"),
+    }
+}
+
+const WORDS: &str = "
+a      | a
+self   | self
+r#try  | r#try
+::a    | no word
+a::b   | no word
+a<b>   | no word
+a()    | no word
+";
+
+#[test]
+fn paths_are_words(rt: HostRuntime) -> Result<(), Fail> {
+    check(rt.alloc(), WORDS, word_of)
+}
+
+#[test]
+fn words_are_paths(rt: HostRuntime) -> Result<(), Fail> {
+    let alloc = rt.alloc();
+    let path = Path::from_ident(alloc, Ident::new(alloc, "a", Span::call_site())?)?;
+    assert!(rt; path.is_ident("a"));
+    assert!(rt; !path.is_ident("b"));
+    assert_eq!(rt; to_text(&path.to_token_stream(alloc)?)?.as_str(), "a");
     Ok(())
 }
 

@@ -100,7 +100,7 @@ pub trait Parse {
 /// What is written as tokens.
 pub trait ToTokens {
     ghost use Rattle.syn_tokens.specs.Tok.{Tok};
-    ghost use Rattle.std.specs.Prelude.{◌≡◌, ◌++◌, OnOk, OnErr, IfErr, List};
+    ghost use Rattle.std.specs.Prelude.{◌≡◌, ◌++◌, OnOk, OnErr, IfOk, IfErr, List};
     ghost use Rattle.syn_tokens.specs.Input.{IsFront};
     ghost use Rattle.syn_tokens.specs.declared.error.ErrorKind.TheVariants.{OutOfMemory};
 
@@ -112,6 +112,16 @@ pub trait ToTokens {
         ensures ok { OnOk result (tokens.new ≡ tokens.old ++ printed self.now) }
         ensures err { OnErr result (IsFront tokens.old tokens.new) }
         ensures memory { IfErr result (λ e. e.kind ≡ OutOfMemory) };
+
+    /// The tokens as a list of their own. It is refused only where memory runs out.
+    final fn to_token_stream(&self, alloc: Global) -> Result<TokenStream>
+        ensures value { IfOk result (λ s. s ≡ printed self.now) }
+        ensures memory { IfErr result (λ e. e.kind ≡ OutOfMemory) }
+    {
+        let mut tokens = TokenStream::new(alloc);
+        self.to_tokens(&mut tokens)?;
+        Ok(tokens)
+    }
 }
 
 #[tactic(auto, using(crate::proofs::Views::views, crate::proofs::Inputs::tails))]

@@ -14,7 +14,7 @@ pub use syn_lexer::error::LexError;
 /// What a reader, a printer or the lexer answers.
 pub type Result<T> = std::result::Result<T, Error>;
 
-/// A refusal: what was refused, and where. It holds no reference and takes no memory.
+/// A refusal: what was refused, and where. It takes no memory.
 #[derive(Clone, Copy, Debug, PartialEq, Eq)]
 pub struct Error {
     /// Where: the token tree at which it was found (of a token of several puncts the first), unless the kind
@@ -31,6 +31,16 @@ impl Error {
         ensures { result ≡ record { span = span; kind = kind } }
     {
         Error { span, kind }
+    }
+
+    /// A refusal of a parser of one's own, with this message.
+    pub fn custom(span: Span, message: &'static str) -> Error
+        ensures { result ≡ record { span = span; kind = ErrorKind.Custom message.entry } }
+    {
+        Error {
+            span,
+            kind: ErrorKind::Custom(message),
+        }
     }
 }
 
@@ -72,10 +82,14 @@ pub enum ErrorKind {
     /// A part of the grammar was expected here.
     ExpectedPart(Part),
     /// The lexer's refusal of a text, where `lex` says; or of one that is not the single token to be made, at the place
-    /// given for it.
+    /// given for it; or of a literal's token that has no value (`MalformedLiteral`).
     Lex(LexError),
+    /// The value of a literal is none of the type that was asked for; the place is the whole literal.
+    LiteralOutOfRange,
     /// Modifiers that are not empty. No reader here answers it yet.
     ModifierNotEmpty,
+    /// What a parser of one's own refuses, with this message. No reader here answers it.
+    Custom(&'static str),
 }
 
 /// The trailers that may not follow a cast (Rust Reference, "Type cast expressions").
@@ -314,7 +328,9 @@ impl fmt::Display for ErrorKind {
             ErrorKind::UnexpectedToken => f.write_str("unexpected token"),
             ErrorKind::ExpectedPart(part) => write!(f, "expected {}", part.text()),
             ErrorKind::Lex(error) => f.write_str(error.text()),
+            ErrorKind::LiteralOutOfRange => f.write_str("literal out of range"),
             ErrorKind::ModifierNotEmpty => f.write_str("modifier not empty"),
+            ErrorKind::Custom(message) => f.write_str(message),
         }
     }
 }

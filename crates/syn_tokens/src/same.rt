@@ -23,6 +23,19 @@ impl PartialEq for Ident {
     }
 }
 
+impl Ident {
+    ghost use Rattle.std.specs.Prelude.{IsTrue, ◌↔◌};
+    ghost use Rattle.std.specs.Str.{bytes_eq};
+
+    /// Whether its text is this. A raw identifier's begins with `r#`.
+    pub fn is(&self, text: &str) -> bool
+        ensures value { result ≡ bytes_eq self.now text.now }
+        ensures same { IsTrue result ↔ (self.now ≡ text.now) }
+    {
+        self.as_str() == text
+    }
+}
+
 impl Eq for Ident {
     ghost laws = { Prim.search (comparing, rules) };
 }

@@ -1,6 +1,6 @@
 //! Places in a text.
 
-ghost use Rattle.std.specs.Prelude.{◌≡◌};
+ghost use Rattle.std.specs.Prelude.{◌≡◌, min, max};
 
 /// A place in a text: byte offsets, from `lo` to before `hi`.
 #[derive(Clone, Copy, Debug, Default, PartialEq, Eq, Hash)]
@@ -17,5 +17,14 @@ impl Span {
         ensures { result ≡ record { lo = 0; hi = 0 } }
     {
         Span { lo: 0, hi: 0 }
+    }
+    /// From where the first of two places begins to where the last of them ends.
+    pub fn join(self, other: Span) -> Span
+        ensures { result ≡ record { lo = min self.lo other.lo; hi = max self.hi other.hi } }
+    {
+        Span {
+            lo: self.lo.min(other.lo),
+            hi: self.hi.max(other.hi),
+        }
     }
 }

@@ -52,6 +52,27 @@ a ~ a | equal
 a ~ b | different
 ";
 
+/// Whether the word of a text is that behind `~`.
+fn named(alloc: Global, texts: &str) -> Result<String, Error> {
+    let Some((ident, name)) = texts.split_once('~') else {
+        return words(alloc, "no `~` in the row");
+    };
+    let ident = parse_str::<Ident>(alloc, ident)?;
+    words(alloc, if ident.is(name.trim()) { "so" } else { "other" })
+}
+
+const NAMED: &str = "
+a   ~ a   | so
+a   ~ ab  | other
+r#a ~ a   | other
+r#a ~ r#a | so
+";
+
+#[test]
+fn words_are_compared_with_texts(rt: HostRuntime) -> Result<(), Fail> {
+    check(rt.alloc(), NAMED, named)
+}
+
 const LITERALS: &str = "
 1.0 ~ 1.0 | equal
 1.0 ~ 1.  | different

@@ -17,7 +17,7 @@ fn shown(alloc: Global, kind: ErrorKind) -> Result<String, Error> {
 }
 
 /// The refusals, those of the lexer by one of them, without those of an expected token.
-const KINDS: [ErrorKind; 38] = [
+const KINDS: [ErrorKind; 40] = [
     ErrorKind::OutOfMemory,
     ErrorKind::ExpectedExpression,
     ErrorKind::ExpectedBinaryOperator,
@@ -32,6 +32,8 @@ const KINDS: [ErrorKind; 38] = [
     ErrorKind::IndexOutOfRange,
     ErrorKind::UnexpectedToken,
     ErrorKind::ModifierNotEmpty,
+    ErrorKind::LiteralOutOfRange,
+    ErrorKind::Custom("no such color"),
     ErrorKind::Lex(LexError::MalformedLifetime),
     ErrorKind::AfterCast(AfterCast::Await),
     ErrorKind::AfterCast(AfterCast::MethodCall),
@@ -69,7 +71,7 @@ fn shown_by_name(alloc: Global, name: &str) -> Result<String, Error> {
     words(alloc, "not in the list")
 }
 
-const TEXTS: &str = "
+const TEXTS: &str = r#"
 OutOfMemory                  | out of memory
 ExpectedExpression           | expected an expression
 ExpectedBinaryOperator       | expected binary operator
@@ -84,6 +86,8 @@ ExpectedUnsuffixedInteger    | expected unsuffixed integer
 IndexOutOfRange              | index out of range
 UnexpectedToken              | unexpected token
 ModifierNotEmpty             | modifier not empty
+LiteralOutOfRange            | literal out of range
+Custom("no such color")      | no such color
 Lex(MalformedLifetime)       | malformed lifetime
 AfterCast(Await)             | casts cannot be followed by `.await`
 AfterCast(MethodCall)        | casts cannot be followed by a method call
@@ -108,11 +112,20 @@ ExpectedExprKind(MethodCall) | expected method call expression
 ExpectedExprKind(Range)      | expected range expression
 ExpectedExprKind(Try)        | expected try expression
 ExpectedExprKind(Tuple)      | expected tuple expression
-";
+"#;
 
 #[test]
 fn texts_of_refusals(rt: HostRuntime) -> Result<(), Fail> {
     check(rt.alloc(), TEXTS, shown_by_name)
+}
+
+#[test]
+fn a_refusal_of_ones_own_shows_its_message(rt: HostRuntime) -> Result<(), Fail> {
+    let error = Error::custom(Span { lo: 3, hi: 7 }, "no such color");
+    assert_eq!(rt; error.span, Span { lo: 3, hi: 7 });
+    let shown = format!(in rt.alloc(); "{error}")?;
+    assert_eq!(rt; shown.as_str(), "no such color");
+    Ok(())
 }
 
 /// What is wanted, by a word for it.

@@ -4,7 +4,7 @@ use crate::told::{at, places_of};
 use rows::{check, words};
 use std::alloc::Global;
 use std::test::Fail;
-use syn_tokens::buffer::ParseBuffer;
+use syn_tokens::buffer::{ParseBuffer, ToTokens};
 use syn_tokens::copy::{copy_ident, copy_literal, copy_tree, copy_trees};
 use syn_tokens::error::Error;
 use syn_tokens::lexer::lex;
@@ -51,6 +51,28 @@ fn lengths(alloc: Global) -> Result<(usize, usize, bool), Error> {
 #[test]
 fn streams_have_lengths(rt: HostRuntime) -> Result<(), Fail> {
     assert_eq!(rt; lengths(rt.alloc())?, (3, 3, false));
+    Ok(())
+}
+
+/// The tokens of the first tree of a text by themselves.
+fn first_alone(alloc: Global, text: &str) -> Result<String, Error> {
+    match lex(alloc, text)?.trees().first() {
+        Some(tree) => to_text(&tree.to_token_stream(alloc)?),
+        None => words(alloc, "no tree"),
+    }
+}
+
+#[test]
+fn trees_are_printed_into_lists_of_their_own(rt: HostRuntime) -> Result<(), Fail> {
+    check(rt.alloc(), "(b c) d | (b c)", first_alone)
+}
+
+#[test]
+fn places_are_joined(rt: HostRuntime) -> Result<(), Fail> {
+    let (first, last) = (Span { lo: 1, hi: 4 }, Span { lo: 3, hi: 9 });
+    assert_eq!(rt; last.join(first), Span { lo: 1, hi: 9 });
+    let within = Span { lo: 2, hi: 3 };
+    assert_eq!(rt; first.join(within), first);
     Ok(())
 }
 
