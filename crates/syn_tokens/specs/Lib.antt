@@ -4,6 +4,7 @@ pub mod View
 pub mod TokSize
 pub mod Front
 pub mod Sign
+pub mod Shared
 pub mod Input
 pub mod ErrorText
 pub mod Same

@@ -140,9 +140,9 @@ pub enum WantedKind {
 #[derive(Clone, Copy, Debug, PartialEq, Eq)]
 pub enum Wanted {
     /// The sign at this place of `SIGNS`, an empty text past it.
-    Sign(usize),
+    Sign(u8),
     /// The word at this place of `WORDS`, an empty text past it.
-    Word(usize),
+    Word(u8),
     /// `_`
     Underscore,
     /// An identifier; most readers want one that is no reserved word.
@@ -264,8 +264,8 @@ impl fmt::Display for Wanted {
 
     fn fmt<W: fmt::Write>(&self, f: &mut fmt::Formatter<W>) -> fmt::Result {
         match self {
-            Wanted::Sign(k) => write!(f, "`{}`", sign_text(*k)),
-            Wanted::Word(k) => write!(f, "`{}`", word_text(*k)),
+            Wanted::Sign(k) => write!(f, "`{}`", sign_text(usize::from(*k))),
+            Wanted::Word(k) => write!(f, "`{}`", word_text(usize::from(*k))),
             Wanted::Underscore => f.write_str("`_`"),
             Wanted::Identifier => f.write_str("identifier"),
             Wanted::Lifetime => f.write_str("lifetime"),

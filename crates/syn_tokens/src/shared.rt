@@ -3,31 +3,43 @@
 ghost use Rattle.std.specs.Prelude.{◌≡◌, ◌≤◌, ◌-◌, take, drop, IfOk};
 ghost use Rattle.std.specs.Rc.{rc_str_bytes};
 ghost use Rattle.std.specs.Str.{IsCharBoundary};
+ghost use Rattle.syn_tokens.specs.Sign.{word_text};
 
 use crate::span::Span;
+use crate::table::word_text;
 use std::alloc::{AllocError, Global};
 use std::fmt::{Debug, Formatter, Write};
 use std::marker::Model;
 use std::rc::RcStr;
 
-/// A part of a text, which keeps the whole text as long as it is kept. Contracts see the bytes of the part.
+/// What a text is kept as.
+#[derive(Drop)]
+enum Kept {
+    /// The word at this place of `WORDS`. It takes no memory.
+    Word(usize),
+    /// A part of a text, which keeps the whole text as long as it is kept.
+    Part {
+        whole: RcStr<Global>,
+        lo: usize,
+        hi: usize,
+    },
+}
+
+/// A word of the table, or a part of a text, which keeps the whole text as long as it is kept. Contracts see its bytes.
 #[derive(Drop)]
 pub struct SharedText {
-    whole: RcStr<Global>,
-    lo: usize,
-    hi: usize,
+    kept: Kept,
 }
 
 impl Model for SharedText {
-    ghost use Rattle.std.specs.Prelude.{List, ℕ, ◌≤◌, ◌-◌, take, drop};
-    ghost use Rattle.std.specs.Rc.{rc_str_bytes};
-    ghost use Rattle.std.specs.Str.{IsCharBoundary};
+    ghost use Rattle.std.specs.Prelude.{List, ℕ};
+    ghost use Rattle.syn_tokens.specs.Shared.{kept_bytes, IsKept};
 
     ghost Value = { List ℕ };
 
-    ghost view = { λ t. take (t.hi - t.lo) (drop t.lo (rc_str_bytes t.whole)) };
+    ghost view = { λ t. kept_bytes t.kept };
 
-    ghost invariant = { λ t. (t.lo ≤ t.hi) × IsCharBoundary (rc_str_bytes t.whole) t.lo × IsCharBoundary (rc_str_bytes t.whole) t.hi };
+    ghost invariant = { λ t. IsKept t.kept };
 }
 
 impl SharedText {
@@ -37,10 +49,21 @@ impl SharedText {
     {
         let whole = RcStr::from_str(alloc, text)?;
         Ok(SharedText {
-            whole,
-            lo: 0,
-            hi: text.len(),
+            kept: Kept::Part {
+                whole,
+                lo: 0,
+                hi: text.len(),
+            },
         })
+    }
+
+    /// The word at place `k` of `WORDS`; an empty text past the list. It takes no memory.
+    pub(crate) fn word(k: usize) -> SharedText
+        ensures { result ≡ word_text k }
+    {
+        SharedText {
+            kept: Kept::Word(k),
+        }
     }
 
     /// The part of a text from one place to another.
@@ -52,9 +75,11 @@ impl SharedText {
     {
         let whole = whole.clone()?;
         Ok(SharedText {
-            whole,
-            lo: span.lo,
-            hi: span.hi,
+            kept: Kept::Part {
+                whole,
+                lo: span.lo,
+                hi: span.hi,
+            },
         })
     }
 
@@ -62,18 +87,25 @@ impl SharedText {
     pub(crate) fn copy(&self) -> Result<SharedText, AllocError>
         ensures { IfOk result (λ t. t ≡ self.now) }
     {
-        Ok(SharedText {
-            whole: self.whole.clone()?,
-            lo: self.lo,
-            hi: self.hi,
-        })
+        let kept = match &self.kept {
+            Kept::Word(k) => Kept::Word(*k),
+            Kept::Part { whole, lo, hi } => Kept::Part {
+                whole: whole.clone()?,
+                lo: *lo,
+                hi: *hi,
+            },
+        };
+        Ok(SharedText { kept })
     }
 
-    /// The part.
+    /// The text.
     pub(crate) fn as_str(&self) -> &str
         ensures { result.now ≡ self.now }
     {
-        &self.whole.as_str()[self.lo..self.hi]
+        match &self.kept {
+            Kept::Word(k) => word_text(*k),
+            Kept::Part { whole, lo, hi } => &whole.as_str()[*lo..*hi],
+        }
     }
 }
 

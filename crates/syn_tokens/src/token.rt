@@ -32,7 +32,7 @@ use crate::{Delimiter, Spacing};
 /// puncts, or K is past the list, it is never seen or read and prints nothing. Equality ignores places.
 #[derive(Clone, Copy, Debug)]
 #[derive_where(PartialEq, Eq, Hash)]
-pub struct Sign<const N: usize, const K: usize> {
+pub struct Sign<const N: usize, const K: u8> {
     /// Where its puncts are.
     #[derive_where(skip(EqHashOrd))]
     pub spans: [Span; N],
@@ -42,7 +42,7 @@ pub struct Sign<const N: usize, const K: usize> {
 /// nothing. Equality ignores places.
 #[derive(Clone, Copy, Debug)]
 #[derive_where(PartialEq, Eq, Hash)]
-pub struct Word<const K: usize> {
+pub struct Word<const K: u8> {
     /// Where it is.
     #[derive_where(skip(EqHashOrd))]
     pub span: Span,
@@ -93,7 +93,7 @@ pub struct Group {
     pub span: Span,
 }
 
-impl<const N: usize, const K: usize> Default for Sign<N, K> {
+impl<const N: usize, const K: u8> Default for Sign<N, K> {
     ghost is_default = { λ s. s.spans ≡ replicate N (record { lo = 0; hi = 0 }) };
 
     fn default() -> Sign<N, K> {
@@ -103,7 +103,7 @@ impl<const N: usize, const K: usize> Default for Sign<N, K> {
     }
 }
 
-impl<const K: usize> Default for Word<K> {
+impl<const K: u8> Default for Word<K> {
     ghost is_default = { λ w. w.span ≡ record { lo = 0; hi = 0 } };
 
     fn default() -> Word<K> {
@@ -182,22 +182,21 @@ fn push_puncts(mut text: &[u8], mut spans: &[Span], tokens: &mut TokenStream) ->
     Ok(())
 }
 
-/// Puts a text at the end as an identifier, nothing where it is empty.
+/// Puts the word at place `k` of `WORDS` at the end, nothing past the list.
 #[tactic(auto, using(crate::proofs::Signs::word_toks_is))]
-fn push_word(text: &str, span: Span, tokens: &mut TokenStream) -> Result<()>
-    ensures ok { OnOk result (tokens.new ≡ tokens.old ++ spec.word_toks text.now) }
+fn push_word(k: usize, span: Span, tokens: &mut TokenStream) -> Result<()>
+    ensures ok { OnOk result (tokens.new ≡ tokens.old ++ spec.word_toks (spec.word_text k)) }
     ensures err { OnErr result (IsFront tokens.old tokens.new) }
     ensures memory { IfErr result (λ e. e.kind ≡ ErrorKind.OutOfMemory) }
 {
-    if text.is_empty() {
+    if word_text(k).is_empty() {
         return Ok(());
     }
-    let text = SharedText::new(tokens.alloc(), text)?;
-    tokens.push(TokenTree::Ident(Ident::read(text, span)))?;
+    tokens.push(TokenTree::Ident(Ident::read(SharedText::word(k), span)))?;
     Ok(())
 }
 
-impl<const N: usize, const K: usize> Sign<N, K> {
+impl<const N: usize, const K: u8> Sign<N, K> {
     /// How a refusal names it.
     pub fn wanted() -> Wanted
         ensures { result ≡ Wanted.Sign K }
@@ -206,17 +205,17 @@ impl<const N: usize, const K: usize> Sign<N, K> {
     }
 }
 
-impl<const N: usize, const K: usize> Token for Sign<N, K> {
+impl<const N: usize, const K: u8> Token for Sign<N, K> {
     ghost sees = { spec.sees N K };
 
     fn peek(rest: &[TokenTree]) -> bool {
-        let text = sign_text(K);
+        let text = sign_text(usize::from(K));
         text.len() == N && begins(text.as_bytes(), rest)
     }
 }
 
 #[tactic(auto, using(crate::proofs::Inputs::tails, crate::proofs::Signs::fronts))]
-impl<const N: usize, const K: usize> Parse for Sign<N, K> {
+impl<const N: usize, const K: u8> Parse for Sign<N, K> {
     ghost Seen = { Unit {0} };
 
     ghost seen = { λ s. tt };
@@ -239,11 +238,11 @@ impl<const N: usize, const K: usize> Parse for Sign<N, K> {
     }
 }
 
-impl<const N: usize, const K: usize> ToTokens for Sign<N, K> {
+impl<const N: usize, const K: u8> ToTokens for Sign<N, K> {
     ghost printed = { λ s. spec.printed_sign N K };
 
     fn to_tokens(&self, tokens: &mut TokenStream) -> Result<()> {
-        let text = sign_text(K);
+        let text = sign_text(usize::from(K));
         if text.len() != N {
             return Ok(());
         }
@@ -251,7 +250,7 @@ impl<const N: usize, const K: usize> ToTokens for Sign<N, K> {
     }
 }
 
-impl<const K: usize> Word<K> {
+impl<const K: u8> Word<K> {
     /// How a refusal names it.
     pub fn wanted() -> Wanted
         ensures { result ≡ Wanted.Word K }
@@ -260,16 +259,16 @@ impl<const K: usize> Word<K> {
     }
 }
 
-impl<const K: usize> Token for Word<K> {
+impl<const K: u8> Token for Word<K> {
     ghost sees = { spec.sees_word K };
 
     fn peek(rest: &[TokenTree]) -> bool {
-        begins_word(word_text(K), rest)
+        begins_word(word_text(usize::from(K)), rest)
     }
 }
 
 #[tactic(auto, using(crate::proofs::Inputs::tails, crate::proofs::Signs::fronts))]
-impl<const K: usize> Parse for Word<K> {
+impl<const K: u8> Parse for Word<K> {
     ghost Seen = { Unit {0} };
 
     ghost seen = { λ w. tt };
@@ -291,11 +290,11 @@ impl<const K: usize> Parse for Word<K> {
     }
 }
 
-impl<const K: usize> ToTokens for Word<K> {
+impl<const K: u8> ToTokens for Word<K> {
     ghost printed = { λ w. spec.printed_word K };
 
     fn to_tokens(&self, tokens: &mut TokenStream) -> Result<()> {
-        push_word(word_text(K), self.span, tokens)
+        push_word(usize::from(K), self.span, tokens)
     }
 }
 
@@ -344,7 +343,9 @@ impl ToTokens for Underscore {
 
     fn to_tokens(&self, tokens: &mut TokenStream) -> Result<()> {
         let [span] = self.spans;
-        push_word("_", span, tokens)
+        let text = SharedText::new(tokens.alloc(), "_")?;
+        tokens.push(TokenTree::Ident(Ident::read(text, span)))?;
+        Ok(())
     }
 }
 
