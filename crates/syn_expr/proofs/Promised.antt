@@ -8,6 +8,7 @@ use Rattle.syn_grammar.specs.Rule.{printed}
 use Rattle.syn_grammar.specs.Stands.{Stands}
 use Rattle.syn_grammar.specs.Tree.{Tree, own, own_tokens, clear, fill}
 use Rattle.syn_grammar.specs.WellFormed.{is_well_formed}
+use Rattle.syn_grammar.proofs.Added.{pairs_are_added}
 use Rattle.syn_grammar.proofs.FillIns.{plainly_fill}
 use Rattle.syn_grammar.proofs.Flat.{flatten_clear}
 use Rattle.syn_grammar.proofs.Needless.{bare_there}
@@ -17,13 +18,20 @@ use Rattle.syn_grammar.proofs.SparedPlain.{no_pair_spared, plain_clear}
 use Rattle.syn_grammar.proofs.StoodFilled.{own_spelling}
 use Rattle.syn_expr_kinds.specs.Printed.{whole}
 use Rattle.syn_expr_print.proofs.Appends.{own_append}
-use Rattle.syn_expr.specs.Promises.{Puts, StandsBack, IsOwn, IsSparing, PrintedAs}
+use Rattle.syn_expr.specs.Promises.{Puts, StandsBack, StandsWithPairs, IsOwn, IsSparing, PrintedAs}
 use Rattle.syn_expr.proofs.Marks.{own_clear, clear_twice, put_clear}
 
 pub stands_back : (s : Position) (t : Tree) → StandsBack s t (own_tokens (printed_in s t))
 stands_back s t w = (
   clear (printed_in s t),
   flatten_clear (printed_in s t) ∙ printed_is_same (context_of s) t w,
+  λ rest h. subst (λ (l : List Tok). Stands (place_of s) l (clear (printed_in s t)) rest) (own_append (printed_in s t) rest) (printed_stands s t rest w h).1,
+)
+
+pub stands_with_pairs : (s : Position) (t : Tree) → StandsWithPairs s t (own_tokens (printed_in s t))
+stands_with_pairs s t w = (
+  printed_in s t,
+  pairs_are_added s t w,
   λ rest h. subst (λ (l : List Tok). Stands (place_of s) l (clear (printed_in s t)) rest) (own_append (printed_in s t) rest) (printed_stands s t rest w h).1,
 )
 
@@ -43,9 +51,10 @@ needless s t r w a v h =
 
 pub is_sparing_there : (s : Position) (t : Tree) → IsSparing s t (own_tokens (printed_in s t))
 is_sparing_there s t w a v = (
+  printed_in s t,
   refl,
   record {
-    same = printed_is_same (context_of s) t w;
+    added = pairs_are_added s t w;
     none_needlessly = λ rest h. needless s t rest w a v h;
     no_pair_spared = λ q l rest h o d. no_pair_spared s t q l rest w a v h o d;
   },
@@ -58,7 +67,7 @@ own_there as_condition t e = absurd cc
 own_there as_arm t e = absurd cc
 
 prints : (s : Position) (t : Tree) → PrintedAs s t (own_tokens (printed_in s t))
-prints s t = record { tokens = refl; back = stands_back s t; own = own_there s t; sparing = is_sparing_there s t }
+prints s t = record { tokens = refl; back = stands_back s t; added = stands_with_pairs s t; own = own_there s t; sparing = is_sparing_there s t }
 
 -- ---- of what a printer wrote in the context of a position
 
@@ -71,6 +80,9 @@ text_of t c d old new h e n = text_at t c d old new h e ∙ ap (λ (l : List Tok
 
 pub back_at : (s : Position) (t : Tree) (c : Context) (old new : List Tok) → new ≡ old ++ own_tokens (printed c t) → c ≡ context_of s → Puts old new (StandsBack s t)
 back_at s t c old new h e = (own_tokens (printed c t), h, subst (λ (d : Context). StandsBack s t (own_tokens (printed d t))) (sym e) (stands_back s t))
+
+pub added_at : (s : Position) (t : Tree) (c : Context) (old new : List Tok) → new ≡ old ++ own_tokens (printed c t) → c ≡ context_of s → Puts old new (StandsWithPairs s t)
+added_at s t c old new h e = (own_tokens (printed c t), h, subst (λ (d : Context). StandsWithPairs s t (own_tokens (printed d t))) (sym e) (stands_with_pairs s t))
 
 pub own_at : (t : Tree) (c : Context) (old new : List Tok) → new ≡ old ++ own_tokens (printed c t) → c ≡ enclosed → Puts old new (IsOwn t)
 own_at t c old new h e = (own_tokens (printed c t), h, subst (λ (d : Context). IsOwn t (own_tokens (printed d t))) (sym e) (is_own t))

@@ -3,7 +3,7 @@ use Rattle.std.specs.Prelude.{◌≡◌, ◌↔◌, ◌++◌, true, List, []}
 use Rattle.syn_tokens.specs.Tok.{Tok}
 use Rattle.syn_grammar.specs.Place.{plain}
 use Rattle.syn_grammar.specs.Printed.{Position, in_plain, place_of, allows, is_sparing, plainly_adorned, parenthesize_attributed, printed_in}
-use Rattle.syn_grammar.specs.Sparing.{OneLess}
+use Rattle.syn_grammar.specs.Sparing.{OneLess, without_added}
 use Rattle.syn_grammar.specs.Stands.{Stands}
 use Rattle.syn_grammar.specs.Tree.{Tree, own, own_tokens, clear, fill, IsSameTree}
 use Rattle.syn_grammar.specs.WellFormed.{is_well_formed}
@@ -18,29 +18,36 @@ abbrev pub StandsBack : Position → Tree → List Tok → Type 0
 StandsBack s t ts =
     is_well_formed t ≡ true → (x : Tree) × IsSameTree t x × ((rest : List Tok) → allows s rest ≡ true → Stands (place_of s) (ts ++ rest) x rest)
 
+-- They stand there for the tree with its fill-ins and with pairs of parentheses that were added: p is this tree, in which these
+-- pairs are marked. (What stands has no marks.) So it is the same tree up to parentheses and fill-ins.
+abbrev pub StandsWithPairs : Position → Tree → List Tok → Type 0
+StandsWithPairs s t ts =
+    is_well_formed t ≡ true → (p : Tree) × (without_added p ≡ clear (fill t)) × ((rest : List Tok) → allows s rest ≡ true → Stands (place_of s) (ts ++ rest) (clear p) rest)
+
 -- Of a tree that stands for some list, they are its own spelling, but for a pair of parentheses round each operation that has
 -- attributes.
 abbrev pub IsOwn : Tree → List Tok → Type 0
 IsOwn t ts = (l : List Tok) → Stands plain l t [] → ts ≡ own_tokens (parenthesize_attributed t)
 
--- p is t as it is printed; the pairs that were added are marked.
+-- p is t as it is printed: the pairs that were added are marked, and without them it is t with its fill-ins.
 pub record Spares (s : Position) (t p : Tree) : Type 0 where
-  pub same : IsSameTree t p
+  pub added : without_added p ≡ clear (fill t)
   -- No pair is added exactly where the tree's own spelling, with its fill-ins, stands there for it.
   pub none_needlessly : (rest : List Tok) → allows s rest ≡ true
       → (clear p ≡ clear (fill t)) ↔ Stands (place_of s) (own (fill t) rest) (clear (fill t)) rest
   -- With one of the added pairs left out, it stands for no list.
   pub no_pair_spared : (q : Tree) (l rest : List Tok) → allows s rest ≡ true → OneLess p q → Stands (place_of s) l (clear q) rest → ⊥
 
--- They are those of the tree that is printed, in which the added pairs are marked; and these pairs are needed, but in a
--- statement, and where operations have attributes.
+-- They are those of a tree in which the added pairs are marked; and these pairs are needed, but in a statement, and where
+-- operations have attributes.
 abbrev pub IsSparing : Position → Tree → List Tok → Type 0
 IsSparing s t ts =
-    is_well_formed t ≡ true → plainly_adorned t ≡ true → is_sparing s ≡ true → (ts ≡ own_tokens (printed_in s t)) × Spares s t (printed_in s t)
+    is_well_formed t ≡ true → plainly_adorned t ≡ true → is_sparing s ≡ true → (p : Tree) × (ts ≡ own_tokens p) × Spares s t p
 
 -- all of this of the tokens of a tree that is printed in a position
 pub record PrintedAs (s : Position) (t : Tree) (ts : List Tok) : Type 0 where
   pub tokens : ts ≡ own_tokens (printed_in s t)
   pub back : StandsBack s t ts
+  pub added : StandsWithPairs s t ts
   pub own : s ≡ in_plain → IsOwn t ts
   pub sparing : IsSparing s t ts

@@ -3,7 +3,7 @@
 ghost use Rattle.std.specs.Prelude.{◌≡◌, ◌++◌, ◌*◌, ◌-◌, ◌^◌, ◌≤◌, true, min, IfErr, IfOk, OnOk};
 ghost use Rattle.syn_expr_all.specs.View.{tree_of};
 ghost use Rattle.syn_expr_collect.specs.Visited.{visited};
-ghost use Rattle.syn_expr.specs.Promises.{Puts, StandsBack, IsOwn, IsSparing, PrintedAs};
+ghost use Rattle.syn_expr.specs.Promises.{Puts, StandsBack, StandsWithPairs, IsOwn, IsSparing, PrintedAs};
 ghost use Rattle.syn_grammar.specs.Next.{enclosed};
 ghost use Rattle.syn_grammar.specs.Printed.{Position, context_of};
 ghost use Rattle.syn_grammar.specs.Rule.{printed};
@@ -30,6 +30,8 @@ pub fn print_expr(expr: &Expr, tokens: &mut TokenStream, fixup: FixupContext) ->
 
     // In the position that this is, they stand for the same tree.
     ensures back { OnOk result ((s : Position) → fixup.context ≡ context_of s → Puts tokens.old tokens.new (StandsBack s (tree_of expr.now))) }
+    // It is the tree with its fill-ins and with pairs of parentheses that were added.
+    ensures added { OnOk result ((s : Position) → fixup.context ≡ context_of s → Puts tokens.old tokens.new (StandsWithPairs s (tree_of expr.now))) }
     // What stands for some list is written as its own spelling, but for a pair round each operation that has attributes.
     ensures own { OnOk result (fixup.context ≡ enclosed → Puts tokens.old tokens.new (IsOwn (tree_of expr.now))) }
     // No parentheses are added needlessly, and none of them can be left out.

@@ -275,38 +275,38 @@ sees_field = record { there = λ x. refl; back = back }
     back (e.field m) x g = ap e.field (sym (some_is g))
     back _ x g = absurd cc
 
-pub only_element : Only e.element s.is_element
+pub only_element : Only e.element (s.is_of s.elements)
 only_element = record { itself = refl; only = only }
   where
-    only : (y : Piece) → s.is_element y ≡ true → e.element ≡ y
+    only : (y : Piece) → s.is_of s.elements y ≡ true → e.element ≡ y
     only e.element g = refl
     only _ g = absurd cc
 
-pub only_value : Only e.value s.is_value
+pub only_value : Only e.value (s.is_of s.single)
 only_value = record { itself = refl; only = only }
   where
-    only : (y : Piece) → s.is_value y ≡ true → e.value ≡ y
+    only : (y : Piece) → s.is_of s.single y ≡ true → e.value ≡ y
     only e.value g = refl
     only _ g = absurd cc
 
-pub only_repeated : Only e.repeated s.is_repeated
+pub only_repeated : Only e.repeated (s.is_of s.counted)
 only_repeated = record { itself = refl; only = only }
   where
-    only : (y : Piece) → s.is_repeated y ≡ true → e.repeated ≡ y
+    only : (y : Piece) → s.is_of s.counted y ≡ true → e.repeated ≡ y
     only e.repeated g = refl
     only _ g = absurd cc
 
-pub only_condition : Only e.condition s.is_condition
+pub only_condition : Only e.condition (s.is_of s.conditions)
 only_condition = record { itself = refl; only = only }
   where
-    only : (y : Piece) → s.is_condition y ≡ true → e.condition ≡ y
+    only : (y : Piece) → s.is_of s.conditions y ≡ true → e.condition ≡ y
     only e.condition g = refl
     only _ g = absurd cc
 
-pub only_loop_head : Only e.loop_head s.is_loop_head
+pub only_loop_head : Only e.loop_head (s.is_of s.loops)
 only_loop_head = record { itself = refl; only = only }
   where
-    only : (y : Piece) → s.is_loop_head y ≡ true → e.loop_head ≡ y
+    only : (y : Piece) → s.is_of s.loops y ≡ true → e.loop_head ≡ y
     only e.loop_head g = refl
     only _ g = absurd cc
 
@@ -324,24 +324,24 @@ only_chained = record { itself = refl; only = only }
     only e.chained g = refl
     only _ g = absurd cc
 
-pub only_guarded : Only e.guarded s.is_guarded
+pub only_guarded : Only e.guarded (s.is_of s.bodies)
 only_guarded = record { itself = refl; only = only }
   where
-    only : (y : Piece) → s.is_guarded y ≡ true → e.guarded ≡ y
+    only : (y : Piece) → s.is_of s.bodies y ≡ true → e.guarded ≡ y
     only e.guarded g = refl
     only _ g = absurd cc
 
-pub only_output_block : Only e.output_block s.is_output_block
+pub only_output_block : Only e.output_block (s.is_of s.outputs)
 only_output_block = record { itself = refl; only = only }
   where
-    only : (y : Piece) → s.is_output_block y ≡ true → e.output_block ≡ y
+    only : (y : Piece) → s.is_of s.outputs y ≡ true → e.output_block ≡ y
     only e.output_block g = refl
     only _ g = absurd cc
 
-pub only_grouped : Only e.grouped s.is_grouped
+pub only_grouped : Only e.grouped (s.is_of s.groups)
 only_grouped = record { itself = refl; only = only }
   where
-    only : (y : Piece) → s.is_grouped y ≡ true → e.grouped ≡ y
+    only : (y : Piece) → s.is_of s.groups y ≡ true → e.grouped ≡ y
     only e.grouped g = refl
     only _ g = absurd cc
 

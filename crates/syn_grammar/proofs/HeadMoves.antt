@@ -19,11 +19,11 @@ use Rattle.syn_parts.proofs.Weights.{some_is, taken}
 use Rattle.syn_grammar.specs.Front.{dot_at, question_at}
 use Rattle.syn_grammar.specs.Head.{label, body_inside, dotted}
 use Rattle.syn_grammar.specs.Slot as s
-use Rattle.syn_grammar.specs.Slot.{if_at, for_head, frame_head, ending_at, is_repeated}
+use Rattle.syn_grammar.specs.Slot.{if_at, for_head, frame_head, ending_at}
 use Rattle.syn_grammar.specs.Stands.{trailer_head, fields_head, name_at, indices_at, post_behind, closed_steps, open_steps, steps_of, named_behind, with_steps, is_parenthesis_or_bracket}
 use Rattle.syn_grammar.specs.Read as r
 use Rattle.syn_grammar.specs.Tree as e
-use Rattle.syn_grammar.specs.Tree.{Tree, Trailer, Post, Frame, Piece, Ending, Body}
+use Rattle.syn_grammar.specs.Tree.{Tree, Trailer, Post, Frame, Piece, Ending, Body, is_repeated}
 use Rattle.syn_grammar.proofs.Heads.{HeadsAreReadable, heads_readable}
 
 -- ---- tails

@@ -36,6 +36,8 @@ pub mod WorkedRows
 pub mod Flat
 pub mod FillIns
 pub mod Same
+pub mod Added
+pub mod TestIsExact
 pub mod NoteLemmas
 pub mod Bindings
 pub mod Conditions

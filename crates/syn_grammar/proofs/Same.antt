@@ -42,7 +42,7 @@ chained_stays c (mid x k y) h = cc
 chained_stays c (post x k) h = cc
 chained_stays c (tail b k ks) h = cc
 
-kept_stays : (c : Context) (t : Tree) → is_kept_block t ≡ true → (is_plain_block t ≡ true) × (bare c t ≡ t)
+pub kept_stays : (c : Context) (t : Tree) → is_kept_block t ≡ true → (is_plain_block t ≡ true) × (bare c t ≡ t)
 kept_stays c (leaf (e.block label b)) h = (h, refl)
 kept_stays c (leaf _) h = cc
 kept_stays c (frame k ks) h = cc

@@ -15,6 +15,7 @@ pub mod Notes
 pub mod Binding
 pub mod Exact
 pub mod WellFormed
+pub mod IsWellFormed
 pub mod Same
 pub mod Sparing
 pub mod Printed

@@ -1,7 +1,6 @@
 -- What a printer has to know of the place of a node: what stands behind it, and what is round it.
 use Rattle.std.specs.Prelude.{Bool, true, false, ◌&&◌, Option, Some, None}
 use Rattle.syn_grammar.specs.declared.kinds.BinKind.{BinKind}
-use Rattle.syn_grammar.specs.declared.kinds.BinKind.TheVariants as bin
 use Rattle.syn_grammar.specs.declared.kinds.Limits.TheVariants as limits
 use Rattle.syn_grammar.specs.declared.kinds.Infix.{Infix}
 use Rattle.syn_grammar.specs.declared.kinds.Infix.TheVariants as inf
@@ -13,40 +12,14 @@ use Rattle.syn_grammar.specs.declared.next.Edge.{Edge}
 use Rattle.syn_grammar.specs.declared.next.Edge.TheVariants as edge
 use Rattle.syn_grammar.specs.declared.next.Context.{Context}
 use Rattle.syn_grammar.specs.Place.{takes}
+use Rattle.syn_grammar.specs.Op.{operator}
 use Rattle.syn_grammar.specs.Tree as e
 use Rattle.syn_grammar.specs.Tree.{Jump, Lead, Trailer, Piece}
 
 -- ---- classes of tokens
 
 abbrev pub class_of_binary : BinKind → Next
-class_of_binary bin.Add = next.Plus
-class_of_binary bin.Sub = next.Minus
-class_of_binary bin.Mul = next.Star
-class_of_binary bin.Div = next.Divide
-class_of_binary bin.Rem = next.Divide
-class_of_binary bin.And = next.AndAnd
-class_of_binary bin.Or = next.OrOr
-class_of_binary bin.BitXor = next.Caret
-class_of_binary bin.BitAnd = next.And
-class_of_binary bin.BitOr = next.Or
-class_of_binary bin.Shl = next.ShiftLeft
-class_of_binary bin.Shr = next.ShiftRight
-class_of_binary bin.Eq = next.Compare
-class_of_binary bin.Lt = next.Less
-class_of_binary bin.Le = next.Compare
-class_of_binary bin.Ne = next.Compare
-class_of_binary bin.Ge = next.Compare
-class_of_binary bin.Gt = next.Compare
-class_of_binary bin.ShlAssign = next.ShiftLeftAssign
-class_of_binary bin.AddAssign = next.Assign
-class_of_binary bin.SubAssign = next.Assign
-class_of_binary bin.MulAssign = next.Assign
-class_of_binary bin.DivAssign = next.Assign
-class_of_binary bin.RemAssign = next.Assign
-class_of_binary bin.BitXorAssign = next.Assign
-class_of_binary bin.BitAndAssign = next.Assign
-class_of_binary bin.BitOrAssign = next.Assign
-class_of_binary bin.ShrAssign = next.Assign
+class_of_binary op = (operator op).2
 
 -- the class of an infix operator
 abbrev pub class_of : Infix → Next
@@ -64,7 +37,6 @@ next_of _ = next.Dot
 
 -- the level of an operator of the class, none where it is no operator
 abbrev pub level_of : Next → Option Level
-level_of next.End = None
 level_of next.Assign = Some lev.Assign
 level_of next.ShiftLeftAssign = Some lev.Assign
 level_of next.Range = Some lev.Range
@@ -82,12 +54,7 @@ level_of next.Minus = Some lev.Sum
 level_of next.Star = Some lev.Product
 level_of next.Divide = Some lev.Product
 level_of next.As = Some lev.Cast
-level_of next.Dot = None
-level_of next.Question = None
-level_of next.Parenthesis = None
-level_of next.Bracket = None
-level_of next.Block = None
-level_of next.Brace = None
+level_of _ = None
 
 abbrev takes_some : Level → Option Level → Bool
 takes_some v None = false

@@ -14,37 +14,46 @@ use Rattle.syn_grammar.specs.declared.kinds.Infix.{Infix}
 use Rattle.syn_grammar.specs.declared.kinds.Infix.TheVariants as inf
 use Rattle.syn_grammar.specs.declared.kinds.Level.{Level}
 use Rattle.syn_grammar.specs.declared.kinds.Level.TheVariants as lev
+use Rattle.syn_grammar.specs.declared.next.Next.{Next}
+use Rattle.syn_grammar.specs.declared.next.Next.TheVariants as next
 use Rattle.syn_grammar.specs.Place.{takes}
 
+-- the binary operators: the text of each, its level, and its class of tokens
+abbrev pub operator : BinKind → Text × Level × Next
+operator bin.Add = (codes "+", lev.Sum, next.Plus)
+operator bin.Sub = (codes "-", lev.Sum, next.Minus)
+operator bin.Mul = (codes "*", lev.Product, next.Star)
+operator bin.Div = (codes "/", lev.Product, next.Divide)
+operator bin.Rem = (codes "%", lev.Product, next.Divide)
+operator bin.And = (codes "&&", lev.And, next.AndAnd)
+operator bin.Or = (codes "||", lev.Or, next.OrOr)
+operator bin.BitXor = (codes "^", lev.BitXor, next.Caret)
+operator bin.BitAnd = (codes "&", lev.BitAnd, next.And)
+operator bin.BitOr = (codes "|", lev.BitOr, next.Or)
+operator bin.Shl = (codes "<<", lev.Shift, next.ShiftLeft)
+operator bin.Shr = (codes ">>", lev.Shift, next.ShiftRight)
+operator bin.Eq = (codes "==", lev.Compare, next.Compare)
+operator bin.Lt = (codes "<", lev.Compare, next.Less)
+operator bin.Le = (codes "<=", lev.Compare, next.Compare)
+operator bin.Ne = (codes "!=", lev.Compare, next.Compare)
+operator bin.Ge = (codes ">=", lev.Compare, next.Compare)
+operator bin.Gt = (codes ">", lev.Compare, next.Compare)
+operator bin.AddAssign = (codes "+=", lev.Assign, next.Assign)
+operator bin.SubAssign = (codes "-=", lev.Assign, next.Assign)
+operator bin.MulAssign = (codes "*=", lev.Assign, next.Assign)
+operator bin.DivAssign = (codes "/=", lev.Assign, next.Assign)
+operator bin.RemAssign = (codes "%=", lev.Assign, next.Assign)
+operator bin.BitXorAssign = (codes "^=", lev.Assign, next.Assign)
+operator bin.BitAndAssign = (codes "&=", lev.Assign, next.Assign)
+operator bin.BitOrAssign = (codes "|=", lev.Assign, next.Assign)
+operator bin.ShlAssign = (codes "<<=", lev.Assign, next.ShiftLeftAssign)
+operator bin.ShrAssign = (codes ">>=", lev.Assign, next.Assign)
+
 abbrev pub binary_text : BinKind → Text
-binary_text bin.Add = codes "+"
-binary_text bin.Sub = codes "-"
-binary_text bin.Mul = codes "*"
-binary_text bin.Div = codes "/"
-binary_text bin.Rem = codes "%"
-binary_text bin.And = codes "&&"
-binary_text bin.Or = codes "||"
-binary_text bin.BitXor = codes "^"
-binary_text bin.BitAnd = codes "&"
-binary_text bin.BitOr = codes "|"
-binary_text bin.Shl = codes "<<"
-binary_text bin.Shr = codes ">>"
-binary_text bin.Eq = codes "=="
-binary_text bin.Lt = codes "<"
-binary_text bin.Le = codes "<="
-binary_text bin.Ne = codes "!="
-binary_text bin.Ge = codes ">="
-binary_text bin.Gt = codes ">"
-binary_text bin.AddAssign = codes "+="
-binary_text bin.SubAssign = codes "-="
-binary_text bin.MulAssign = codes "*="
-binary_text bin.DivAssign = codes "/="
-binary_text bin.RemAssign = codes "%="
-binary_text bin.BitXorAssign = codes "^="
-binary_text bin.BitAndAssign = codes "&="
-binary_text bin.BitOrAssign = codes "|="
-binary_text bin.ShlAssign = codes "<<="
-binary_text bin.ShrAssign = codes ">>="
+binary_text op = (operator op).0
+
+abbrev pub binary_level : BinKind → Level
+binary_level op = (operator op).1
 
 abbrev pub limits_text : Limits → Text
 limits_text limits.HalfOpen = codes ".."
@@ -55,36 +64,6 @@ unary_text un.Deref = codes "*"
 unary_text un.Not = codes "!"
 unary_text un.Neg = codes "-"
 
-abbrev pub binary_level : BinKind → Level
-binary_level bin.Add = lev.Sum
-binary_level bin.Sub = lev.Sum
-binary_level bin.Mul = lev.Product
-binary_level bin.Div = lev.Product
-binary_level bin.Rem = lev.Product
-binary_level bin.And = lev.And
-binary_level bin.Or = lev.Or
-binary_level bin.BitXor = lev.BitXor
-binary_level bin.BitAnd = lev.BitAnd
-binary_level bin.BitOr = lev.BitOr
-binary_level bin.Shl = lev.Shift
-binary_level bin.Shr = lev.Shift
-binary_level bin.Eq = lev.Compare
-binary_level bin.Lt = lev.Compare
-binary_level bin.Le = lev.Compare
-binary_level bin.Ne = lev.Compare
-binary_level bin.Ge = lev.Compare
-binary_level bin.Gt = lev.Compare
-binary_level bin.AddAssign = lev.Assign
-binary_level bin.SubAssign = lev.Assign
-binary_level bin.MulAssign = lev.Assign
-binary_level bin.DivAssign = lev.Assign
-binary_level bin.RemAssign = lev.Assign
-binary_level bin.BitXorAssign = lev.Assign
-binary_level bin.BitAndAssign = lev.Assign
-binary_level bin.BitOrAssign = lev.Assign
-binary_level bin.ShlAssign = lev.Assign
-binary_level bin.ShrAssign = lev.Assign
-
 -- the level of an infix operator, which is that of its right operand's place too
 abbrev pub level : Infix → Level
 level (inf.Binary op) = binary_level op
@@ -92,17 +71,12 @@ level inf.Assign = lev.Assign
 level (inf.Range op) = lev.Range
 level inf.Cast = lev.Cast
 
-abbrev pub is_comparison_kind : BinKind → Bool
-is_comparison_kind bin.Eq = true
-is_comparison_kind bin.Lt = true
-is_comparison_kind bin.Le = true
-is_comparison_kind bin.Ne = true
-is_comparison_kind bin.Ge = true
-is_comparison_kind bin.Gt = true
-is_comparison_kind _ = false
+abbrev pub is_compare : Level → Bool
+is_compare lev.Compare = true
+is_compare _ = false
 
 abbrev pub is_comparison : Infix → Bool
-is_comparison (inf.Binary op) = is_comparison_kind op
+is_comparison (inf.Binary op) = is_compare (binary_level op)
 is_comparison _ = false
 
 abbrev pub is_range_op : Infix → Bool

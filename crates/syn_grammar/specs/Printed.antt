@@ -11,7 +11,7 @@ use Rattle.syn_grammar.specs.Tree.{Tree, Kids, leaf, paren, adorned, lead, mid, 
 use Rattle.syn_grammar.specs.Stands.{Stands}
 use Rattle.syn_grammar.specs.Rule.{printed, put, is_operation}
 use Rattle.syn_grammar.specs.WellFormed.{is_well_formed}
-use Rattle.syn_grammar.specs.Sparing.{OneLess}
+use Rattle.syn_grammar.specs.Sparing.{OneLess, without_added}
 
 -- ---- where a tree is printed (Rust Reference, "Expression statements", "`if` expressions", "Match expressions")
 
@@ -89,6 +89,10 @@ StandsPrinted s t rest = Stands (place_of s) (own (printed_in s t) rest) (clear 
 abbrev pub PrintedStands : Type 0
 PrintedStands = (s : Position) (t : Tree) (rest : List Tok) → is_well_formed t ≡ true → allows s rest ≡ true
     → IsSameTree t (printed_in s t) × StandsPrinted s t rest
+
+-- The pairs that are added have marks: without these pairs it is the tree with its fill-ins.
+abbrev pub PairsAreAdded : Type 0
+PairsAreAdded = (s : Position) (t : Tree) → is_well_formed t ≡ true → without_added (printed_in s t) ≡ clear (fill t)
 
 -- A well-formed tree without marks gets no parentheses exactly where its own spelling stands for it.
 abbrev pub NoneNeedlessly : Type 0

@@ -201,8 +201,8 @@ lead_asks k c t = place_asks (lead_level k) c t || (is_bare_break k && labelled 
 
 -- in a pair of parentheses that the printer adds, or bare
 abbrev pub put : Bool → Tree → Tree → Tree
-put true alone bare = paren true alone
-put false alone bare = bare
+put true inside t = paren true inside
+put false inside t = t
 
 abbrev pub is_plain_leaf : Leaf → Bool
 is_plain_leaf (e.block None b) = is_nil b.inner

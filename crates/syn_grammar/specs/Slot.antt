@@ -73,25 +73,17 @@ may_end _ l = false
 
 -- ---- the tokens before an operand
 
-abbrev pub is_element : Piece → Bool
-is_element e.element = true
-is_element _ = false
-
-abbrev pub is_value : Piece → Bool
-is_value e.value = true
-is_value _ = false
-
-abbrev pub is_repeated : Piece → Bool
-is_repeated e.repeated = true
-is_repeated _ = false
-
-abbrev pub is_condition : Piece → Bool
-is_condition e.condition = true
-is_condition _ = false
-
-abbrev pub is_loop_head : Piece → Bool
-is_loop_head e.loop_head = true
-is_loop_head _ = false
+-- the operand that this slot takes, where it takes but one kind
+abbrev pub is_of : Slot → Piece → Bool
+is_of elements e.element = true
+is_of single e.value = true
+is_of counted e.repeated = true
+is_of conditions e.condition = true
+is_of loops e.loop_head = true
+is_of bodies e.guarded = true
+is_of outputs e.output_block = true
+is_of groups e.grouped = true
+is_of _ k = false
 
 abbrev pub is_scrutinee : Piece → Bool
 is_scrutinee e.scrutinee = true
@@ -100,18 +92,6 @@ is_scrutinee _ = false
 abbrev pub is_chained : Piece → Bool
 is_chained e.chained = true
 is_chained _ = false
-
-abbrev pub is_guarded : Piece → Bool
-is_guarded e.guarded = true
-is_guarded _ = false
-
-abbrev pub is_output_block : Piece → Bool
-is_output_block e.output_block = true
-is_output_block _ = false
-
-abbrev pub is_grouped : Piece → Bool
-is_grouped e.grouped = true
-is_grouped _ = false
 
 abbrev pub is_rest : Piece → Bool
 is_rest (e.rest d) = d
@@ -149,19 +129,19 @@ else_word = word (codes "else")
 
 -- Rust Reference, "Struct expressions", "`if` expressions", "Match expressions"
 unfoldable pub piece_form : Slot → Form Piece
-piece_form elements = pure e.element is_element
-piece_form single = pure e.value is_value
-piece_form counted = pure e.repeated is_repeated
+piece_form elements = pure e.element (is_of elements)
+piece_form single = pure e.value (is_of single)
+piece_form counted = pure e.repeated (is_of counted)
 piece_form fields = case dots (pure (e.rest true) is_rest) (shown to_field from_field (both outer_attributes (then_by member field_colon)))
-piece_form conditions = pure e.condition is_condition
+piece_form conditions = pure e.condition (is_of conditions)
 piece_form otherwise = mark else_word (pure e.chained is_chained)
-piece_form loops = pure e.loop_head is_loop_head
+piece_form loops = pure e.loop_head (is_of loops)
 piece_form scrutinees = pure e.scrutinee is_scrutinee
 piece_form arms = shown to_arm from_arm
     (both outer_attributes (both (pattern true) (case if_word (pure true is_true) (mark fat_arrow (pure false not)))))
-piece_form bodies = mark fat_arrow (pure e.guarded is_guarded)
-piece_form outputs = pure e.output_block is_output_block
-piece_form groups = pure e.grouped is_grouped
+piece_form bodies = mark fat_arrow (pure e.guarded (is_of bodies))
+piece_form outputs = pure e.output_block (is_of outputs)
+piece_form groups = pure e.grouped (is_of groups)
 piece_form done = record { reads = λ l. None; behind = λ k l. None }
 
 -- the place of an operand

@@ -1,4 +1,4 @@
--- One pair of parentheses less.
+-- One of the added pairs of parentheses less, and none of them.
 use Rattle.std.specs.Prelude.{◌≡◌, ◌⊎◌, true, false}
 use Rattle.syn_grammar.specs.Tree.{Tree, Kids, leaf, paren, adorned, lead, mid, post, tail, frame, none, kid}
 
@@ -18,3 +18,20 @@ abbrev mutual
   pub OneLessKid : Kids → Kids → Type 0
   OneLessKid none q = ⊥
   OneLessKid (kid k c t ks) q = ((u : Tree) × OneLess t u × (q ≡ kid k c u ks)) ⊎ ((us : Kids) × OneLessKid ks us × (q ≡ kid k c t us))
+
+-- the tree without the pairs that were added
+abbrev mutual
+  pub without_added : Tree → Tree
+  without_added (leaf k) = leaf k
+  without_added (paren true t) = without_added t
+  without_added (paren false t) = paren false (without_added t)
+  without_added (adorned a more t) = adorned a more (without_added t)
+  without_added (lead k gs t) = lead k gs (without_added t)
+  without_added (mid x k y) = mid (without_added x) k (without_added y)
+  without_added (post x k) = post (without_added x) k
+  without_added (tail b k ks) = tail (without_added b) k (kids_without_added ks)
+  without_added (frame k ks) = frame k (kids_without_added ks)
+
+  pub kids_without_added : Kids → Kids
+  kids_without_added none = none
+  kids_without_added (kid k c t ks) = kid k c (without_added t) (kids_without_added ks)

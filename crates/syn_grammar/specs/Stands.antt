@@ -362,14 +362,14 @@ mutual
         → Node p l (lead k none x) n
     -- the place takes the operator; the right operand takes what is above the operator
     is_mid : {p : Place} {l m n : List Tok} {x y : Tree} {op : Infix} {count : ℕ}
-        → Node p l x m → closes p x m ≡ true → fits_left p op x ≡ true
-        → infix_at m ≡ Some (op, count) → takes p.level (level op) ≡ true → mid_stands p op (drop count m) ≡ true
-        → Node (at p (level op)) (drop count m) y n → ends (at p (level op)) y n ≡ true → closes (at p (level op)) y n ≡ true
-        → ends_operation op n ≡ true → Node p l (mid x op y) n
+        (left : Node p l x m) (left_closes : closes p x m ≡ true) (left_fits : fits_left p op x ≡ true)
+        (operator : infix_at m ≡ Some (op, count)) (is_taken : takes p.level (level op) ≡ true) (right_begins : mid_stands p op (drop count m) ≡ true)
+        (right : Node (at p (level op)) (drop count m) y n) (right_ends : ends (at p (level op)) y n ≡ true) (right_closes : closes (at p (level op)) y n ≡ true)
+        (whole_ends : ends_operation op n ≡ true) → Node p l (mid x op y) n
     is_post : {p : Place} {l m n : List Tok} {x : Tree} {k : Post} {count : ℕ}
-        → Node p l x m → closes p x m ≡ true → fits_left p (post_op k) x ≡ true
-        → infix_at m ≡ Some (post_op k, count) → takes p.level (level (post_op k)) ≡ true
-        → post_behind k (drop count m) ≡ Some n → post_stands p k n ≡ true → ends_operation (post_op k) n ≡ true
+        (left : Node p l x m) (left_closes : closes p x m ≡ true) (left_fits : fits_left p (post_op k) x ≡ true)
+        (operator : infix_at m ≡ Some (post_op k, count)) (is_taken : takes p.level (level (post_op k)) ≡ true)
+        (behind : post_behind k (drop count m) ≡ Some n) (may_stand : post_stands p k n ≡ true) (whole_ends : ends_operation (post_op k) n ≡ true)
         → Node p l (post x k) n
     is_tail : {p : Place} {l m h n : List Tok} {b x : Tree} {k : Trailer} {is : List ℕ} {ks : Kids}
         → Node p l b m → fits_base p k b ≡ true → trailer_head k m ≡ Some (is, h) → Content (trailer_holder k) h ks n

@@ -1,6 +1,11 @@
 //! Laws of sparing parentheses, each the contract of a call.
 
-ghost use Rattle.syn_grammar.specs.Printed.{NoneNeedlessly, NoPairSpared, OwnSpelling};
+ghost use Rattle.syn_grammar.specs.Printed.{NoneNeedlessly, NoPairSpared, OwnSpelling, PairsAreAdded};
+
+/// Without the pairs that are added, what is printed of a well-formed tree is the tree with its fill-ins.
+pub fn pairs_are_added()
+    ensures { PairsAreAdded }
+{}
 
 /// No parentheses are added to a well-formed tree in plain position, in a condition or in an arm exactly where the tree's own
 /// spelling stands there for it. (In operations with attributes they always are.)

@@ -1,12 +1,19 @@
 //! Laws of trees, of what is noted of them, and of how operands bind, each the contract of a call.
 
 ghost use Rattle.syn_grammar.specs.Binding.{ComparisonsDontChain, RightOperandBindsTighter, LeftOperandBindsAsTight, RangeIsNoLeftOperand, ConditionsHaveNoStructures, CommaTestsDiffer};
+ghost use Rattle.syn_grammar.specs.IsWellFormed.{TestIsExact};
 ghost use Rattle.syn_grammar.specs.Notes.{NotesAreRight};
 ghost use Rattle.syn_grammar.specs.Same.{FlattenIsIdempotent, PrintedIsSame};
 
 /// A tree whose parentheses are removed has none to remove.
 pub fn flatten_is_idempotent()
     ensures { FlattenIsIdempotent }
+{}
+
+/// The test of well-formed trees tells just those whose parts are each read back from their own tokens, and stand where they
+/// may.
+pub fn test_is_exact()
+    ensures { TestIsExact }
 {}
 
 /// Whatever is behind and round it, a well-formed tree is printed as the same tree, up to parentheses and to commas and

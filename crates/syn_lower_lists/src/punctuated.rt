@@ -108,6 +108,18 @@ impl<T: Drop, P: Drop> Punctuated<T, P> {
         Ok(())
     }
 
+    /// Puts a value at the end that is in a box already, where the list is empty or a punct is last. It takes no memory.
+    #[tactic(auto, unfolding(crate::specs::View::values, crate::specs::View::trails, crate::specs::Punct::puncts, crate::specs::Punct::takes_value))]
+    pub fn push_boxed(&mut self, value: Box<T>)
+        requires { takes_value self.old ≡ true }
+        ensures values { values self.new ≡ values self.old ++ value.value ∷ [] }
+        ensures puncts { puncts self.new ≡ puncts self.old }
+        ensures trails { trails self.new ≡ false }
+        ensures open { takes_value self.new ≡ false }
+    {
+        self.last = Some(value);
+    }
+
     /// Puts a punct at the end, behind a value. Where memory runs out the list stays as it was, and the punct is
     /// given up.
     #[tactic(auto, unfolding(crate::specs::View::values, crate::specs::View::trails, crate::specs::Punct::puncts, crate::specs::Punct::takes_value))]

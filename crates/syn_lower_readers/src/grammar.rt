@@ -84,7 +84,7 @@ impl<T: IsType + Drop, F: Fn(&mut ParseBuffer<'_>, bool) -> Result<Box<T>>> Gram
     {
         let mut found = Punctuated::new(input.alloc());
         'items: while !input.is_empty() {
-            found.push_value(self.whole(input)?)?;
+            found.push_boxed((self.ty)(input, true)?);
             let Some(comma) = front::comma(input) else {
                 return Ok(found);
             };

@@ -304,7 +304,7 @@ impl<P: ReadPat + Drop, F: Fn(&mut ParseBuffer<'_>, bool) -> Result<P>> Grammar<
             })),
             Ok(pat) => {
                 let mut elems = Punctuated::new(input.alloc());
-                elems.push_value(Box::into_inner(pat))?;
+                elems.push_boxed(pat);
                 Ok(P::tuple(PatTupleOf {
                     attrs,
                     paren_token,

@@ -1,0 +1,118 @@
+-- The trees that are promised to be read back: each part is read back from its own tokens, and stands where it may. No kept
+-- tokens and no invisible group are among them. A law says that the test `is_well_formed` tells just these.
+use Rattle.std.specs.Prelude.{◌≡◌, ◌⊎◌, ◌↔◌, Bool, true, false, not, ◌||◌, ◌&&◌, List, [], ◌∷◌, Option, Some, None}
+use Rattle.syn_tokens.specs.Tok.{Tok}
+use Rattle.syn_parts.specs.declared.label.PathStyle.TheVariants as style
+use Rattle.syn_parts.specs.Form.{Form, is_nil}
+use Rattle.syn_parts.specs.Part.{is_default, unsigned, macro, lifetimes, qpath, arguments, output, type}
+use Rattle.syn_parts.specs.Own.{lit_own, lifetimes_own, type_own, return_own, arguments_own, qualified_own, macro_own}
+use Rattle.syn_parts.specs.Fits.{ends_well}
+use Rattle.syn_parts.specs.Pat.{member, pattern, closure_arg}
+use Rattle.syn_parts.specs.PatOwn.{member_own, pat_own}
+use Rattle.syn_parts.specs.PatFits.{attributes_outer}
+use Rattle.syn_lexer.specs.Keywords.{is_reserved_word}
+use Rattle.syn_grammar.specs.Tree as e
+use Rattle.syn_grammar.specs.Tree.{Tree, Kids, Leaf, Lead, Post, Trailer, Frame, Piece, ClosureHead, leaf, paren, adorned, lead, mid, post, tail, frame, none, kid, is_none}
+use Rattle.syn_grammar.specs.Slot as s
+use Rattle.syn_grammar.specs.Slot.{Slot, Holder, nothing, within, bare, done, after, may_end, frame_holder, trailer_holder}
+use Rattle.syn_grammar.specs.Path.{is_try_alone}
+use Rattle.syn_grammar.specs.Head.{is_half_open}
+use Rattle.syn_grammar.specs.Stands.{is_adorned, is_branch}
+use Rattle.syn_grammar.specs.WellFormed.{body_fits, infix_fits, has_rest, is_name_path, is_kept_block, ending_fits, keeps_block, is_well_formed}
+
+-- from its own tokens, with nothing behind them
+abbrev pub IsReadBack : {A : Type 0} → Form A → (A → List Tok → List Tok) → A → Type 0
+IsReadBack {A} form own x = form.behind x (own x []) ≡ Some []
+
+abbrev pub SomeReadBack : {A : Type 0} → Form A → (A → List Tok → List Tok) → Option A → Type 0
+SomeReadBack {A} form own None = Unit {0}
+SomeReadBack {A} form own (Some x) = IsReadBack form own x
+
+abbrev pub AllReadBack : {A : Type 0} → Form A → (A → List Tok → List Tok) → List A → Type 0
+AllReadBack {A} form own [] = Unit {0}
+AllReadBack {A} form own (x ∷ xs) = IsReadBack form own x × AllReadBack form own xs
+
+-- ---- what a node holds beside its operands
+
+abbrev pub LeafReadBack : Leaf → Type 0
+LeafReadBack (e.lit x) = IsReadBack unsigned lit_own x
+LeafReadBack (e.path q p) = IsReadBack (qpath type style.Expr) qualified_own (q, p) × (is_try_alone q p ≡ false)
+LeafReadBack (e.mac m) = IsReadBack macro macro_own m
+LeafReadBack (e.full_range op) = is_half_open op ≡ true
+LeafReadBack (e.block w b) = body_fits b ≡ true
+LeafReadBack (e.looping w b) = body_fits b ≡ true
+LeafReadBack (e.unsafe_block b) = body_fits b ≡ true
+LeafReadBack (e.const_block b) = body_fits b ≡ true
+LeafReadBack (e.verbatim ts) = ⊥
+LeafReadBack _ = Unit {0}
+
+abbrev pub HeadReadBack : ClosureHead → Type 0
+HeadReadBack h =
+    (h.capture && h.usage ≡ false) × SomeReadBack lifetimes lifetimes_own h.lifetimes × AllReadBack closure_arg pat_own h.inputs
+    × (ends_well (is_nil h.inputs) h.trailing ≡ true) × IsReadBack (output type true) return_own h.output
+
+abbrev pub LeadReadBack : Lead → Type 0
+LeadReadBack (e.binding p) = IsReadBack (pattern true) pat_own p
+LeadReadBack (e.closure h) = HeadReadBack h × (is_default h.output ≡ true)
+LeadReadBack _ = Unit {0}
+
+abbrev pub PostReadBack : Post → Type 0
+PostReadBack (e.cast x) = IsReadBack (type false) type_own x
+PostReadBack (e.range_from op) = is_half_open op ≡ true
+
+abbrev pub TrailerReadBack : Trailer → Type 0
+TrailerReadBack (e.method w a) = (is_reserved_word w ≡ false) × IsReadBack (arguments type style.Expr) arguments_own a
+TrailerReadBack (e.field m) = IsReadBack member member_own m
+TrailerReadBack _ = Unit {0}
+
+abbrev pub FrameReadBack : Frame → Kids → Type 0
+FrameReadBack (e.structure q p d) ks =
+    IsReadBack (qpath type style.Expr) qualified_own (q, p) × (is_try_alone q p ≡ false) × (d && has_rest ks ≡ false)
+FrameReadBack (e.closure_block h) ks = HeadReadBack h × (is_default h.output ≡ false)
+FrameReadBack (e.for_loop w p) ks = IsReadBack (pattern true) pat_own p
+FrameReadBack e.invisible ks = ⊥
+FrameReadBack _ ks = Unit {0}
+
+-- the tokens before the operand t, which stand in this slot
+abbrev pub PieceReadBack : Slot → Piece → Tree → Type 0
+PieceReadBack s.elements e.element t = Unit {0}
+PieceReadBack s.single e.value t = Unit {0}
+PieceReadBack s.counted e.repeated t = Unit {0}
+PieceReadBack s.fields (e.field_value ats m b) t = (attributes_outer ats ≡ true) × IsReadBack member member_own m × (b || is_name_path m t ≡ true)
+PieceReadBack s.fields (e.rest d) t = Unit {0}
+PieceReadBack s.conditions e.condition t = Unit {0}
+PieceReadBack s.otherwise e.chained t = is_branch t || is_kept_block t ≡ true
+PieceReadBack s.loops e.loop_head t = Unit {0}
+PieceReadBack s.scrutinees e.scrutinee t = Unit {0}
+PieceReadBack s.arms (e.guard ats p) t = (attributes_outer ats ≡ true) × IsReadBack (pattern true) pat_own p
+PieceReadBack s.arms (e.arm ats p) t = (attributes_outer ats ≡ true) × IsReadBack (pattern true) pat_own p
+PieceReadBack s.bodies e.guarded t = Unit {0}
+PieceReadBack s.outputs e.output_block t = is_kept_block t ≡ true
+PieceReadBack _ k t = ⊥
+
+-- ---- the whole
+
+-- the slot that the first operand stands in
+abbrev pub first_slot : Holder → Slot
+first_slot nothing = done
+first_slot (within d x b) = x
+first_slot (bare x) = x
+
+abbrev mutual
+  pub IsWellFormed : Tree → Type 0
+  IsWellFormed (leaf k) = LeafReadBack k
+  IsWellFormed (paren m t) = IsWellFormed t
+  IsWellFormed (adorned a more t) = (attributes_outer (a ∷ more) ≡ true) × (is_adorned t ≡ false) × IsWellFormed t
+  IsWellFormed (lead k gs t) = LeadReadBack k × (is_none gs ≡ true) × IsWellFormed t
+  IsWellFormed (mid x k y) = (infix_fits k ≡ true) × IsWellFormed x × IsWellFormed y
+  IsWellFormed (post x k) = PostReadBack k × IsWellFormed x
+  IsWellFormed (tail b k ks) = TrailerReadBack k × IsWellFormed b × AreWellFormed (first_slot (trailer_holder k)) ks
+  IsWellFormed (frame k ks) = FrameReadBack k ks × AreWellFormed (first_slot (frame_holder k)) ks
+
+  pub AreWellFormed : Slot → Kids → Type 0
+  AreWellFormed x none = may_end x [] ≡ true
+  AreWellFormed x (kid k c t ks) =
+      PieceReadBack x k t × (ending_fits k c ≡ true) × ((keeps_block k t ≡ true) ⊎ IsWellFormed t) × AreWellFormed (after k) ks
+
+abbrev pub TestIsExact : Type 0
+TestIsExact = (t : Tree) → IsWellFormed t ↔ (is_well_formed t ≡ true)
