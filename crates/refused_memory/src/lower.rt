@@ -5,12 +5,12 @@ use std::alloc::Global;
 use syn_expr::op::{BinOp, UnOp};
 use syn_expr::{
     Abi, AngleBracketedGenericArguments, AssocType, Attribute, BareFnArg, Block, BoundLifetimes,
-    GenericArgument, Ident, Index, Label, Lifetime, Lit, LitBool, LitByte, LitByteStr, LitCStr, LitChar,
-    LitFloat, LitInt, LitStr, Macro, Member, ParenthesizedGenericArguments, ParseBuffer, Path,
-    PathSegment, PointerMutability, RangeLimits, Result, ReturnType, Span, ToTokens, TokenStream,
-    TraitBound, Type, TypeArray, TypeFnPtr, TypeImplTrait, TypeInfer, TypeMacro, TypeNever,
-    TypeParamBound, TypeParen, TypePath, TypePtr, TypeReference, TypeSlice, TypeTraitObject,
-    TypeTuple, lex, parse_str, print_qpath, qpath,
+    GenericArgument, Ident, Index, Label, Lifetime, Lit, LitBool, LitByte, LitByteStr, LitCStr,
+    LitChar, LitFloat, LitInt, LitStr, Macro, Member, ParenthesizedGenericArguments, ParseBuffer,
+    Path, PathSegment, PointerMutability, RangeLimits, Result, ReturnType, Span, ToTokens,
+    TokenStream, TraitBound, Type, TypeArray, TypeFnPtr, TypeImplTrait, TypeInfer, TypeMacro,
+    TypeNever, TypeParamBound, TypeParen, TypePath, TypePtr, TypeReference, TypeSlice,
+    TypeTraitObject, TypeTuple, lex, parse_str, print_qpath, qpath,
 };
 
 /// Attributes, inner ones or outer ones, printed one behind the other.

@@ -50,7 +50,9 @@ fn with_digit(found: u128, base: u32, digit: u32) -> Option<u128>
     ensures some { IfSome result (λ v. v ≡ found * base + digit) }
     ensures fits { IfSome result (λ v. v < 2 ^ 128) }
 {
-    found.checked_mul(u128::from(base))?.checked_add(u128::from(digit))
+    found
+        .checked_mul(u128::from(base))?
+        .checked_add(u128::from(digit))
 }
 
 /// The value of the digits that stand first, if a `u128` holds it.

@@ -3,11 +3,11 @@
 use rows::{check, compared, printed, words};
 use std::alloc::Global;
 use std::test::Fail;
-use syn_lower::{
-    BoundLifetimes, GenericArgument, Macro, Path, PathSegment, Punctuated, Type,
-    TypeParamBound, print_qpath, qpath,
-};
 use syn_lower::punctuated::Pair;
+use syn_lower::{
+    BoundLifetimes, GenericArgument, Macro, Path, PathSegment, Punctuated, Type, TypeParamBound,
+    print_qpath, qpath,
+};
 use syn_tokens::token::Comma;
 use syn_tokens::{Error, Ident, ParseBuffer, Span, ToTokens, TokenStream, lex, parse_str, to_text};
 
