@@ -12,7 +12,7 @@ use Rattle.syn_grammar.specs.declared.next.Context.{Context}
 use Rattle.syn_grammar.specs.Next.{enclosed}
 use Rattle.syn_grammar.specs.Printed.{in_plain}
 use Rattle.syn_grammar.specs.Rule as rule
-use Rattle.syn_grammar.specs.Tree.{Tree, adorn, adorned, mid, own_tokens}
+use Rattle.syn_grammar.specs.Tree.{Tree, attributed_with, attributed, infixed, own_tokens}
 use Rattle.syn_op.specs.View.{bin_kind}
 use Rattle.syn_expr_kinds.specs.declared.operation.ExprBinaryOf.{ExprBinaryOf}
 use Rattle.syn_expr_kinds.specs.Attrs.{attrs_of}
@@ -28,20 +28,20 @@ use Rattle.syn_expr.specs.Texts.{StandsFor}
 
 -- ---- an operation
 
-behind : (ats : List AttributeTree) (t : Tree) → swapped_tree (adorn ats t) ≡ adorn ats (swapped_tree t)
+behind : (ats : List AttributeTree) (t : Tree) → swapped_tree (attributed_with ats t) ≡ attributed_with ats (swapped_tree t)
 behind [] t = refl
 behind (a ∷ more) t = refl
 
 pub exchanged : (o : ExprBinaryOf Expr) → tree_of (ex.Binary (record o { left = o.right; right = o.left })) ≡ swapped_tree (tree_of (ex.Binary o))
 exchanged o =
     tree-Binary (record o { left = o.right; right = o.left })
-    ∙ sym (ap swapped_tree (tree-Binary o) ∙ behind (attrs_of o.attrs) (mid (tree_of o.left.value) (inf.Binary (bin_kind o.op)) (tree_of o.right.value)))
+    ∙ sym (ap swapped_tree (tree-Binary o) ∙ behind (attrs_of o.attrs) (infixed (tree_of o.left.value) (inf.Binary (bin_kind o.op)) (tree_of o.right.value)))
 
 -- ---- anything else
 
 stays : (t : Tree) → is_binary t ≡ false → swapped_tree t ≡ t
-stays (adorned a more t) h = ap (adorned a more) (stays t h)
-stays (mid x (inf.Binary k) y) h = absurd cc
+stays (attributed a more t) h = ap (attributed a more) (stays t h)
+stays (infixed x (inf.Binary k) y) h = absurd cc
 stays _ h = refl
 
 pub left_alone : (x : Expr) → ((o : ExprBinaryOf Expr) → x ≡ ex.Binary o → ⊥) → tree_of x ≡ swapped_tree (tree_of x)

@@ -4,14 +4,14 @@ use Rattle.syn_tokens.specs.Tok.{Tok}
 use Rattle.syn_tokens.specs.Text.{text}
 use Rattle.syn_grammar.specs.declared.kinds.Infix.TheVariants as inf
 use Rattle.syn_grammar.specs.Printed.{in_plain}
-use Rattle.syn_grammar.specs.Tree.{Tree, adorned, mid}
+use Rattle.syn_grammar.specs.Tree.{Tree, attributed, infixed}
 use Rattle.syn_expr.specs.Promises.{PrintedAs}
 use Rattle.syn_expr.specs.Texts.{StandsFor}
 
 -- An operation, behind its attributes, has its operands swapped; anything else stays.
 abbrev pub swapped_tree : Tree → Tree
-swapped_tree (adorned a more t) = adorned a more (swapped_tree t)
-swapped_tree (mid x (inf.Binary k) y) = mid y (inf.Binary k) x
+swapped_tree (attributed a more t) = attributed a more (swapped_tree t)
+swapped_tree (infixed x (inf.Binary k) y) = infixed y (inf.Binary k) x
 swapped_tree t = t
 
 -- Some tree stands for the text, and `bytes` is the text of tokens that keep all that is promised of this tree with the

@@ -48,9 +48,9 @@ written_kept a b c text rest (done, split, p) q = (done, split, appends_kept a b
 
 by_calls : {n : ℕ} (s : InlineText n) (parts : List (List ℕ)) (t : InlineText n) → FoldsTo AppendsIfIntact s parts t → IsIntact s → inline_text t ≡ inline_text s ++ concat parts
 by_calls s [] t calls intact = ap inline_text (sym calls) ∙ sym (append-nil (inline_text s))
-by_calls s (x ∷ parts) t (mid, first, rest) intact =
+by_calls s (x ∷ parts) t (infixed, first, rest) intact =
     let one = first intact in
-    by_calls mid parts t rest one.0 ∙ ap (λ l. l ++ concat parts) one.1 ∙ append_assoc (inline_text s) x (concat parts)
+    by_calls infixed parts t rest one.0 ∙ ap (λ l. l ++ concat parts) one.1 ∙ append_assoc (inline_text s) x (concat parts)
 
 pub formatted : {n : ℕ} (s : InlineText n) (bs : List ℕ) (t : InlineText n) → IsIntact s → inline_text s ≡ [] → WritesInCalls AppendsIfIntact s bs t → inline_text t ≡ bs
 formatted s bs t intact empty wrote = by_calls s wrote.parts t wrote.calls intact ∙ ap (λ l. l ++ concat wrote.parts) empty ∙ wrote.whole

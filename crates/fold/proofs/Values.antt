@@ -4,7 +4,7 @@ use Rattle.std.specs.Prelude.{option_and_then}
 use Rattle.syn_parts.specs.Tree.{AttributeTree, ReturnTree, default, given}
 use Rattle.syn_grammar.specs.declared.kinds.Infix.TheVariants as inf
 use Rattle.syn_grammar.specs.declared.kinds.Limits.{Limits}
-use Rattle.syn_grammar.specs.Tree.{Tree, Jump, ClosureHead, adorn, leaf, lit, paren, lead, unary, mid, none}
+use Rattle.syn_grammar.specs.Tree.{Tree, Jump, ClosureHead, attributed_with, leaf, lit, paren, prefixed, unary, infixed, none}
 use Rattle.syn_lower_leaves.specs.View.{lit_of}
 use Rattle.syn_op.specs.View.{bin_kind, un_kind}
 use Rattle.syn_expr_kinds.specs.declared.atom.ExprLit.{ExprLit}
@@ -25,12 +25,12 @@ use Rattle.syn_expr_all.specs.declared.control.ExprForLoop.{ExprForLoop}
 use Rattle.syn_expr_all.specs.declared.control.ExprLet.{ExprLet}
 use Rattle.syn_expr_all.specs.declared.control.ExprMatch.{ExprMatch}
 use Rattle.syn_expr_all.specs.View.{tree_layer, tree_of, views}
-use Rattle.syn_expr_all.proofs.TreeOf.{tree_out, tree-Lit, tree-Paren, tree-Unary, tree-Binary, closure-is, for_loop-is, binding-is, choice-is}
+use Rattle.syn_expr_all.proofs.TreeOf.{tree_out, tree-Lit, tree-Paren, tree-Unary, tree-Binary, closure-is, for_loop-is, let_expr-is, match_expr-is}
 use Rattle.fold.specs.Fold.{literal_value, prefix_value, binary_value, combined, value_of}
 
 -- ---- those that may have a value
 
-behind : (ats : List AttributeTree) (t : Tree) → value_of (adorn ats t) ≡ value_of t
+behind : (ats : List AttributeTree) (t : Tree) → value_of (attributed_with ats t) ≡ value_of t
 behind [] t = refl
 behind (a ∷ more) t = refl
 
@@ -41,17 +41,17 @@ pub value-Paren : (x : ExprParenOf Expr) → value_of (tree_of (ex.Paren x)) ≡
 value-Paren x = ap value_of (tree-Paren x) ∙ behind (attrs_of x.attrs) (paren false (tree_of x.expr.value))
 
 pub value-Unary : (x : ExprUnaryOf Expr) → value_of (tree_of (ex.Unary x)) ≡ option_and_then (prefix_value (un_kind x.op)) (value_of (tree_of x.expr.value))
-value-Unary x = ap value_of (tree-Unary x) ∙ behind (attrs_of x.attrs) (lead (unary (un_kind x.op)) none (tree_of x.expr.value))
+value-Unary x = ap value_of (tree-Unary x) ∙ behind (attrs_of x.attrs) (prefixed (unary (un_kind x.op)) none (tree_of x.expr.value))
 
 pub value-Binary : (x : ExprBinaryOf Expr) → value_of (tree_of (ex.Binary x)) ≡ combined (binary_value (bin_kind x.op)) (value_of (tree_of x.left.value)) (value_of (tree_of x.right.value))
-value-Binary x = ap value_of (tree-Binary x) ∙ behind (attrs_of x.attrs) (mid (tree_of x.left.value) (inf.Binary (bin_kind x.op)) (tree_of x.right.value))
+value-Binary x = ap value_of (tree-Binary x) ∙ behind (attrs_of x.attrs) (infixed (tree_of x.left.value) (inf.Binary (bin_kind x.op)) (tree_of x.right.value))
 
 pub ruleset kinds = (value-Lit, value-Paren, value-Unary, value-Binary)
 
 -- ---- the others
 
-adorn_none : (ats : List AttributeTree) (t : Tree) → value_of t ≡ None → value_of (adorn ats t) ≡ None
-adorn_none ats t h = behind ats t ∙ h
+attributed_with_none : (ats : List AttributeTree) (t : Tree) → value_of t ≡ None → value_of (attributed_with ats t) ≡ None
+attributed_with_none ats t h = behind ats t ∙ h
 
 jump_none : (j : Jump) (x : Option Tree) → value_of (jump_with j x) ≡ None
 jump_none j None = refl
@@ -67,7 +67,7 @@ closure_none : (r : ReturnTree) (h : ClosureHead) (gs : List Tree) (t : Tree) �
 closure_none default h gs t = refl
 closure_none (given ty) h gs t = refl
 
-ruleset others = (adorn_none, jump_none, range_none, closure_none, closure-is, for_loop-is, binding-is, choice-is)
+ruleset others = (attributed_with_none, jump_none, range_none, closure_none, closure-is, for_loop-is, let_expr-is, match_expr-is)
 
 layer_none : (l : Expr-F Expr Pat ExprClosure Arm ExprForLoop ExprLet ExprMatch PatGuard) → ((x : ExprLit) → l ≡ Expr-F.Expr::Lit x → ⊥) → ((x : ExprParenOf Expr) → l ≡ Expr-F.Expr::Paren x → ⊥)
     → ((x : ExprUnaryOf Expr) → l ≡ Expr-F.Unary x → ⊥) → ((x : ExprBinaryOf Expr) → l ≡ Expr-F.Binary x → ⊥) → value_of (tree_layer views l) ≡ None

@@ -12,7 +12,7 @@ use Rattle.syn_grammar.specs.declared.kinds.BinKind.TheVariants as bin
 use Rattle.syn_grammar.specs.declared.kinds.Infix.TheVariants as inf
 use Rattle.syn_grammar.specs.declared.kinds.UnKind.{UnKind}
 use Rattle.syn_grammar.specs.declared.kinds.UnKind.TheVariants as un
-use Rattle.syn_grammar.specs.Tree.{Tree, leaf, lit, paren, adorned, lead, unary, mid}
+use Rattle.syn_grammar.specs.Tree.{Tree, leaf, lit, paren, attributed, prefixed, unary, infixed}
 use Rattle.syn_expr.specs.Texts.{StandsFor}
 
 -- ---- literals
@@ -72,9 +72,9 @@ combined f _ _ = None
 abbrev pub value_of : Tree → Option ℤ
 value_of (leaf (lit x)) = literal_value x
 value_of (paren m t) = value_of t
-value_of (adorned a more t) = value_of t
-value_of (lead (unary k) gs t) = option_and_then (prefix_value k) (value_of t)
-value_of (mid x (inf.Binary k) y) = combined (binary_value k) (value_of x) (value_of y)
+value_of (attributed a more t) = value_of t
+value_of (prefixed (unary k) gs t) = option_and_then (prefix_value k) (value_of t)
+value_of (infixed x (inf.Binary k) y) = combined (binary_value k) (value_of x) (value_of y)
 value_of _ = None
 
 -- Some tree stands for the text, and this is its value.

@@ -4,7 +4,7 @@ use Rattle.syn_parts.specs.Tree.{AttributeTree}
 use Rattle.syn_grammar.specs.declared.kinds.Infix.TheVariants as inf
 use Rattle.syn_grammar.specs.declared.kinds.Level.TheVariants as lev
 use Rattle.syn_grammar.specs.Op.{binary_level}
-use Rattle.syn_grammar.specs.Tree.{Tree, adorn, adorned, mid}
+use Rattle.syn_grammar.specs.Tree.{Tree, attributed_with, attributed, infixed}
 use Rattle.syn_op.specs.View.{bin_kind}
 use Rattle.syn_expr_kinds.specs.declared.operation.ExprBinaryOf.{ExprBinaryOf}
 use Rattle.syn_expr_kinds.specs.Attrs.{attrs_of}
@@ -21,16 +21,16 @@ use Rattle.lint.specs.Lint.{ComparesWithItself}
 
 -- ---- an operation
 
-behind : (ats : List AttributeTree) (t : Tree) → ComparesWithItself t → ComparesWithItself (adorn ats t)
+behind : (ats : List AttributeTree) (t : Tree) → ComparesWithItself t → ComparesWithItself (attributed_with ats t)
 behind [] t c = c
 behind (a ∷ more) t c = c
 
-without : (ats : List AttributeTree) (t : Tree) → ComparesWithItself (adorn ats t) → ComparesWithItself t
+without : (ats : List AttributeTree) (t : Tree) → ComparesWithItself (attributed_with ats t) → ComparesWithItself t
 without [] t c = c
 without (a ∷ more) t c = c
 
 abbrev sides : ExprBinaryOf Expr → Tree
-sides x = mid (tree_of x.left.value) (inf.Binary (bin_kind x.op)) (tree_of x.right.value)
+sides x = infixed (tree_of x.left.value) (inf.Binary (bin_kind x.op)) (tree_of x.right.value)
 
 compared : (x : ExprBinaryOf Expr) → binary_level (bin_kind x.op) ≡ lev.Compare → tree_of x.left.value ≡ tree_of x.right.value → ComparesWithItself (tree_of (ex.Binary x))
 compared x l e = subst ComparesWithItself (sym (tree-Binary x)) (behind (attrs_of x.attrs) (sides x) (l, e))
@@ -38,9 +38,9 @@ compared x l e = subst ComparesWithItself (sym (tree-Binary x)) (behind (attrs_o
 found : (x : ExprBinaryOf Expr) → ComparesWithItself (tree_of (ex.Binary x)) → (binary_level (bin_kind x.op) ≡ lev.Compare) × (tree_of x.left.value ≡ tree_of x.right.value)
 found x c = without (attrs_of x.attrs) (sides x) (subst ComparesWithItself (tree-Binary x) c)
 
-pub told : (x : Expr) (o : ExprBinaryOf Expr) (test : Expr → Expr → Bool) → IsEqualityOf tree_of test → x ≡ ex.Binary o → lev.Compare ≡ binary_level (bin_kind o.op)
+pub known : (x : Expr) (o : ExprBinaryOf Expr) (test : Expr → Expr → Bool) → IsEqualityOf tree_of test → x ≡ ex.Binary o → lev.Compare ≡ binary_level (bin_kind o.op)
     → (a b : Expr) → a ≡ o.left.value → b ≡ o.right.value → (r : Bool) → r ≡ test a b → r ≡ true → ComparesWithItself (tree_of x)
-told x o test law is l a b ea eb r e h =
+known x o test law is l a b ea eb r e h =
     subst (λ y. ComparesWithItself (tree_of y)) (sym is) (compared o (sym l) (ap tree_of (sym ea) ∙ (law.same a b).0 (sym e ∙ h) ∙ ap tree_of eb))
 
 pub noticed : (x : Expr) (o : ExprBinaryOf Expr) (test : Expr → Expr → Bool) → IsEqualityOf tree_of test → x ≡ ex.Binary o
@@ -61,8 +61,8 @@ another x o p is l none c = none (one_level p (l ∙ (found o (subst (λ y. Comp
 -- ---- no operation
 
 silent : (t : Tree) → is_binary t ≡ false → ComparesWithItself t → ⊥
-silent (adorned a more t) h c = silent t h c
-silent (mid x (inf.Binary k) y) h c = absurd cc
+silent (attributed a more t) h c = silent t h c
+silent (infixed x (inf.Binary k) y) h c = absurd cc
 silent _ h c = c
 
 pub no_comparison : (x : Expr) → ((b : ExprBinaryOf Expr) → x ≡ ex.Binary b → ⊥) → ComparesWithItself (tree_of x) → ⊥

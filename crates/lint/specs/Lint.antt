@@ -3,13 +3,13 @@ use Rattle.std.specs.Prelude.{◌≡◌, ◌↔◌, ℕ, Bool, true, List}
 use Rattle.syn_grammar.specs.declared.kinds.Infix.TheVariants as inf
 use Rattle.syn_grammar.specs.declared.kinds.Level.TheVariants as lev
 use Rattle.syn_grammar.specs.Op.{binary_level}
-use Rattle.syn_grammar.specs.Tree.{Tree, adorned, mid}
+use Rattle.syn_grammar.specs.Tree.{Tree, attributed, infixed}
 use Rattle.syn_expr.specs.Texts.{StandsFor}
 
 -- Behind its attributes it is a comparison, and the same stands on both sides.
 abbrev pub ComparesWithItself : Tree → Type 0
-ComparesWithItself (adorned a more t) = ComparesWithItself t
-ComparesWithItself (mid x (inf.Binary k) y) = (binary_level k ≡ lev.Compare) × (x ≡ y)
+ComparesWithItself (attributed a more t) = ComparesWithItself t
+ComparesWithItself (infixed x (inf.Binary k) y) = (binary_level k ≡ lev.Compare) × (x ≡ y)
 ComparesWithItself _ = ⊥
 
 -- Some tree stands for the text, and this is whether it compares a value with itself.

@@ -45,7 +45,7 @@ fn put_kind(expr: &Expr, tokens: &mut TokenStream) -> Result<()> {
         Expr::Tuple(x) => x.to_tokens(tokens),
         Expr::Unary(x) => x.to_tokens(tokens),
         Expr::Unsafe(x) => x.to_tokens(tokens),
-        Expr::Verbatim(kept) => kept.to_tokens(tokens),
+        Expr::Verbatim(verbatim) => verbatim.to_tokens(tokens),
         Expr::While(x) => x.to_tokens(tokens),
         Expr::Yield(x) => x.to_tokens(tokens),
     }

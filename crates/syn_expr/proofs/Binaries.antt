@@ -3,7 +3,7 @@ use Rattle.std.proofs.Common.{◌≡◌, Bool, true, false, List, [], ◌∷◌,
 use Rattle.syn_parts.specs.Tree.{AttributeTree, ReturnTree, default, given}
 use Rattle.syn_grammar.specs.declared.kinds.Infix.TheVariants as inf
 use Rattle.syn_grammar.specs.declared.kinds.Limits.{Limits}
-use Rattle.syn_grammar.specs.Tree.{Tree, Jump, ClosureHead, adorn, adorned, mid}
+use Rattle.syn_grammar.specs.Tree.{Tree, Jump, ClosureHead, attributed_with, attributed, infixed}
 use Rattle.syn_expr_kinds.specs.declared.operation.ExprBinaryOf.{ExprBinaryOf}
 use Rattle.syn_expr_kinds.specs.Pats.{closure_by}
 use Rattle.syn_expr_kinds.specs.View.{jump_with, range_between}
@@ -18,17 +18,17 @@ use Rattle.syn_expr_all.specs.declared.control.ExprForLoop.{ExprForLoop}
 use Rattle.syn_expr_all.specs.declared.control.ExprLet.{ExprLet}
 use Rattle.syn_expr_all.specs.declared.control.ExprMatch.{ExprMatch}
 use Rattle.syn_expr_all.specs.View.{tree_layer, tree_of, views}
-use Rattle.syn_expr_all.proofs.TreeOf.{tree_out, closure-is, for_loop-is, binding-is, choice-is}
+use Rattle.syn_expr_all.proofs.TreeOf.{tree_out, closure-is, for_loop-is, let_expr-is, match_expr-is}
 
 -- It is a binary operation, behind its attributes.
 abbrev pub is_binary : Tree → Bool
-is_binary (adorned a more t) = is_binary t
-is_binary (mid x (inf.Binary k) y) = true
+is_binary (attributed a more t) = is_binary t
+is_binary (infixed x (inf.Binary k) y) = true
 is_binary _ = false
 
-adorn_other : (ats : List AttributeTree) (t : Tree) → is_binary t ≡ false → is_binary (adorn ats t) ≡ false
-adorn_other [] t h = h
-adorn_other (a ∷ more) t h = h
+attributed_with_other : (ats : List AttributeTree) (t : Tree) → is_binary t ≡ false → is_binary (attributed_with ats t) ≡ false
+attributed_with_other [] t h = h
+attributed_with_other (a ∷ more) t h = h
 
 jump_other : (j : Jump) (x : Option Tree) → is_binary (jump_with j x) ≡ false
 jump_other j None = refl
@@ -44,7 +44,7 @@ closure_other : (r : ReturnTree) (h : ClosureHead) (gs : List Tree) (t : Tree) �
 closure_other default h gs t = refl
 closure_other (given ty) h gs t = refl
 
-ruleset other = (adorn_other, jump_other, range_other, closure_other, closure-is, for_loop-is, binding-is, choice-is)
+ruleset other = (attributed_with_other, jump_other, range_other, closure_other, closure-is, for_loop-is, let_expr-is, match_expr-is)
 
 layer_other : (l : Expr-F Expr Pat ExprClosure Arm ExprForLoop ExprLet ExprMatch PatGuard) → ((x : ExprBinaryOf Expr) → l ≡ Expr-F.Binary x → ⊥) → is_binary (tree_layer views l) ≡ false
 layer_other (Expr-F.Binary x) none = absurd (none x refl)

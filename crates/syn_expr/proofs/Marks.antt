@@ -9,30 +9,30 @@ use Rattle.syn_grammar.specs.declared.kinds.Infix.{Infix}
 use Rattle.syn_grammar.specs.declared.kinds.Level.{Level}
 use Rattle.syn_grammar.specs.declared.kinds.Level.TheVariants as lev
 use Rattle.syn_grammar.specs.declared.next.Context.{Context}
-use Rattle.syn_grammar.specs.declared.note.Note.{Note}
-use Rattle.syn_grammar.specs.declared.note.Sort.TheVariants as sort
-use Rattle.syn_grammar.specs.Next.{enclosed, in_statement, left_context, base_context, right_context, adorned_context, lead_context, piece_context}
-use Rattle.syn_grammar.specs.Notes.{note_of, adorned_note, lead_note, mid_note, post_note, closed_note, base_wrapped_by, is_named_trailer, place_by, left_by, base_by, lead_by}
+use Rattle.syn_grammar.specs.declared.summary.Summary.{Summary}
+use Rattle.syn_grammar.specs.declared.summary.Sort.TheVariants as sort
+use Rattle.syn_grammar.specs.Next.{enclosed, in_statement, left_context, base_context, right_context, attributed_context, prefix_context, piece_context}
+use Rattle.syn_grammar.specs.Summaries.{summary_of, attributed_summary, prefix_summary, infix_summary, postfix_summary, closed_summary, base_wrapped_by, is_named_trailer, place_by, left_by, base_by, prefix_by}
 use Rattle.syn_grammar.specs.Op.{level}
-use Rattle.syn_grammar.specs.Rule.{is_operation, put, piece_put, bare, bare_kids, place_asks, left_asks, base_asks, lead_asks, is_chainable, is_plain_block, chained_bare}
+use Rattle.syn_grammar.specs.Rule.{is_operation, put, piece_put, bare, bare_children, place_asks, left_asks, base_asks, prefix_asks, is_chainable, is_plain_block, chained_bare}
 use Rattle.syn_grammar.specs.Tree as e
-use Rattle.syn_grammar.specs.Tree.{Tree, Kids, Lead, Trailer, Piece, Ending, leaf, paren, adorned, lead, mid, post, tail, frame, none, kid, outers, own, kids_own, own_tokens, clear, clear_kids, plain_block, post_op, is_silent, lead_own, infix_own, post_own, trailer_own, framed, enclosure, behind_operands, inside_of, ending_own, piece_own}
-use Rattle.syn_grammar.proofs.NoteLemmas.{notes_are_right}
+use Rattle.syn_grammar.specs.Tree.{Tree, Children, Prefix, Trailer, Piece, Ending, leaf, paren, attributed, prefixed, infixed, postfixed, tail, frame, none, child, outers, own, children_own, own_tokens, clear, clear_children, plain_block, postfix_op, is_silent, prefix_own, infix_own, postfix_own, trailer_own, framed, enclosure, behind_operands, inside_of, ending_own, piece_own}
+use Rattle.syn_grammar.proofs.SummaryLemmas.{summaries_are_right}
 use Rattle.syn_grammar.proofs.Unclear.{operation_clear}
 
 -- ---- nodes of equal parts
 
-same_lead : (k : Lead) (gs gs' : Kids) (t t' : Tree) → gs ≡ gs' → t ≡ t' → lead k gs t ≡ lead k gs' t'
-same_lead k gs gs' t t' p q = cc
+same_prefix : (k : Prefix) (gs gs' : Children) (t t' : Tree) → gs ≡ gs' → t ≡ t' → prefixed k gs t ≡ prefixed k gs' t'
+same_prefix k gs gs' t t' p q = cc
 
-same_mid : (x x' y y' : Tree) (k : Infix) → x ≡ x' → y ≡ y' → mid x k y ≡ mid x' k y'
-same_mid x x' y y' k p q = cc
+same_infix : (x x' y y' : Tree) (k : Infix) → x ≡ x' → y ≡ y' → infixed x k y ≡ infixed x' k y'
+same_infix x x' y y' k p q = cc
 
-same_tail : (b b' : Tree) (ks ks' : Kids) (k : Trailer) → b ≡ b' → ks ≡ ks' → tail b k ks ≡ tail b' k ks'
+same_tail : (b b' : Tree) (ks ks' : Children) (k : Trailer) → b ≡ b' → ks ≡ ks' → tail b k ks ≡ tail b' k ks'
 same_tail b b' ks ks' k p q = cc
 
-same_kid : (t t' : Tree) (ks ks' : Kids) (k : Piece) (c : Ending) → t ≡ t' → ks ≡ ks' → kid k c t ks ≡ kid k c t' ks'
-same_kid t t' ks ks' k c p q = cc
+same_child : (t t' : Tree) (ks ks' : Children) (k : Piece) (c : Ending) → t ≡ t' → ks ≡ ks' → child k c t ks ≡ child k c t' ks'
+same_child t t' ks ks' k c p q = cc
 
 -- ---- own tokens
 
@@ -40,18 +40,18 @@ mutual
   pub own_clear : (t : Tree) (r : List Tok) → own (clear t) r ≡ own t r
   own_clear (leaf k) r = refl
   own_clear (paren m t) r = ap (λ (l : List Tok). o.enclosed del.Parenthesis l r) (own_clear t [])
-  own_clear (adorned a more t) r = ap (attributes_own (outers (a ∷ more))) (own_clear t r)
-  own_clear (lead k gs t) r = ap (lead_own k) (own_clear t r)
-  own_clear (mid x k y) r = own_clear x (infix_own k (own (clear y) r)) ∙ ap (λ (l : List Tok). own x (infix_own k l)) (own_clear y r)
-  own_clear (post x k) r = own_clear x (post_own k r)
-  own_clear (tail b k ks) r = own_clear b (trailer_own k (kids_own (clear_kids ks) []) r) ∙ ap (λ (l : List Tok). own b (trailer_own k l r)) (own_clear_kids ks [])
-  own_clear (frame k ks) r = ap (λ (l : List Tok). framed k (enclosure k) l r) (own_clear_kids ks (behind_operands (enclosure k) r))
+  own_clear (attributed a more t) r = ap (attributes_own (outers (a ∷ more))) (own_clear t r)
+  own_clear (prefixed k gs t) r = ap (prefix_own k) (own_clear t r)
+  own_clear (infixed x k y) r = own_clear x (infix_own k (own (clear y) r)) ∙ ap (λ (l : List Tok). own x (infix_own k l)) (own_clear y r)
+  own_clear (postfixed x k) r = own_clear x (postfix_own k r)
+  own_clear (tail b k ks) r = own_clear b (trailer_own k (children_own (clear_children ks) []) r) ∙ ap (λ (l : List Tok). own b (trailer_own k l r)) (own_clear_children ks [])
+  own_clear (frame k ks) r = ap (λ (l : List Tok). framed k (enclosure k) l r) (own_clear_children ks (behind_operands (enclosure k) r))
 
-  own_clear_kids : (ks : Kids) (r : List Tok) → kids_own (clear_kids ks) r ≡ kids_own ks r
-  own_clear_kids none r = refl
-  own_clear_kids (kid k c t ks) r =
-      ap (λ (l : List Tok). piece_own k (if is_silent k then ending_own k c l r else own (clear t) (ending_own k c l r))) (own_clear_kids ks (inside_of c r))
-      ∙ ap (λ (l : List Tok). piece_own k (if is_silent k then ending_own k c (kids_own ks (inside_of c r)) r else l)) (own_clear t (ending_own k c (kids_own ks (inside_of c r)) r))
+  own_clear_children : (ks : Children) (r : List Tok) → children_own (clear_children ks) r ≡ children_own ks r
+  own_clear_children none r = refl
+  own_clear_children (child k c t ks) r =
+      ap (λ (l : List Tok). piece_own k (if is_silent k then ending_own k c l r else own (clear t) (ending_own k c l r))) (own_clear_children ks (inside_of c r))
+      ∙ ap (λ (l : List Tok). piece_own k (if is_silent k then ending_own k c (children_own ks (inside_of c r)) r else l)) (own_clear t (ending_own k c (children_own ks (inside_of c r)) r))
 
 -- ---- trees
 
@@ -59,58 +59,58 @@ mutual
   pub clear_twice : (t : Tree) → clear (clear t) ≡ clear t
   clear_twice (leaf k) = refl
   clear_twice (paren m t) = ap (paren false) (clear_twice t)
-  clear_twice (adorned a more t) = ap (adorned a more) (clear_twice t)
-  clear_twice (lead k gs t) = same_lead k _ _ _ _ (clear_twice_kids gs) (clear_twice t)
-  clear_twice (mid x k y) = same_mid _ _ _ _ k (clear_twice x) (clear_twice y)
-  clear_twice (post x k) = ap (λ (z : Tree). post z k) (clear_twice x)
-  clear_twice (tail b k ks) = same_tail _ _ _ _ k (clear_twice b) (clear_twice_kids ks)
-  clear_twice (frame k ks) = ap (frame k) (clear_twice_kids ks)
+  clear_twice (attributed a more t) = ap (attributed a more) (clear_twice t)
+  clear_twice (prefixed k gs t) = same_prefix k _ _ _ _ (clear_twice_children gs) (clear_twice t)
+  clear_twice (infixed x k y) = same_infix _ _ _ _ k (clear_twice x) (clear_twice y)
+  clear_twice (postfixed x k) = ap (λ (z : Tree). postfixed z k) (clear_twice x)
+  clear_twice (tail b k ks) = same_tail _ _ _ _ k (clear_twice b) (clear_twice_children ks)
+  clear_twice (frame k ks) = ap (frame k) (clear_twice_children ks)
 
-  clear_twice_kids : (ks : Kids) → clear_kids (clear_kids ks) ≡ clear_kids ks
-  clear_twice_kids none = refl
-  clear_twice_kids (kid k c t ks) = same_kid _ _ _ _ k c (clear_twice t) (clear_twice_kids ks)
+  clear_twice_children : (ks : Children) → clear_children (clear_children ks) ≡ clear_children ks
+  clear_twice_children none = refl
+  clear_twice_children (child k c t ks) = same_child _ _ _ _ k c (clear_twice t) (clear_twice_children ks)
 
--- ---- what is noted, and what is decided by it
+-- ---- what is summarized, and what is decided by it
 
-note_clear : (t : Tree) → note_of (clear t) ≡ note_of t
-note_clear (leaf k) = refl
-note_clear (paren m t) = refl
-note_clear (adorned a more t) = ap adorned_note (note_clear t)
-note_clear (lead k gs t) = ap (lead_note k) (note_clear t)
-note_clear (mid x k y) = ap (λ (n : Note). mid_note k n (note_of (clear y))) (note_clear x) ∙ ap (mid_note k (note_of x)) (note_clear y)
-note_clear (post x k) = ap (post_note k) (note_clear x)
-note_clear (tail b k ks) = ap (λ (n : Note). closed_note (is_named_trailer k) (not (base_wrapped_by k n) && n.labelled) sort.Other) (note_clear b)
-note_clear (frame k ks) = refl
+summary_clear : (t : Tree) → summary_of (clear t) ≡ summary_of t
+summary_clear (leaf k) = refl
+summary_clear (paren m t) = refl
+summary_clear (attributed a more t) = ap attributed_summary (summary_clear t)
+summary_clear (prefixed k gs t) = ap (prefix_summary k) (summary_clear t)
+summary_clear (infixed x k y) = ap (λ (n : Summary). infix_summary k n (summary_of (clear y))) (summary_clear x) ∙ ap (infix_summary k (summary_of x)) (summary_clear y)
+summary_clear (postfixed x k) = ap (postfix_summary k) (summary_clear x)
+summary_clear (tail b k ks) = ap (λ (n : Summary). closed_summary (is_named_trailer k) (not (base_wrapped_by k n) && n.labelled) sort.Other) (summary_clear b)
+summary_clear (frame k ks) = refl
 
 place_clear : (v : Level) (c : Context) (t : Tree) → place_asks v c (clear t) ≡ place_asks v c t
-place_clear v c t = sym (notes_are_right.at_place v c (clear t)) ∙ ap (place_by v c) (note_clear t) ∙ notes_are_right.at_place v c t
+place_clear v c t = sym (summaries_are_right.at_place v c (clear t)) ∙ ap (place_by v c) (summary_clear t) ∙ summaries_are_right.at_place v c t
 
 left_clear : (k : Infix) (c : Context) (t : Tree) → left_asks k (left_context k c) (clear t) ≡ left_asks k (left_context k c) t
-left_clear k c t = sym (notes_are_right.at_left k c (clear t)) ∙ ap (left_by k (left_context k c)) (note_clear t) ∙ notes_are_right.at_left k c t
+left_clear k c t = sym (summaries_are_right.at_left k c (clear t)) ∙ ap (left_by k (left_context k c)) (summary_clear t) ∙ summaries_are_right.at_left k c t
 
 base_clear : (k : Trailer) (c : Context) (t : Tree) → base_asks k (base_context k c) (clear t) ≡ base_asks k (base_context k c) t
-base_clear k c t = sym (notes_are_right.at_base k c (clear t)) ∙ ap (base_by k (base_context k c)) (note_clear t) ∙ notes_are_right.at_base k c t
+base_clear k c t = sym (summaries_are_right.at_base k c (clear t)) ∙ ap (base_by k (base_context k c)) (summary_clear t) ∙ summaries_are_right.at_base k c t
 
-lead_clear : (k : Lead) (c : Context) (t : Tree) → lead_asks k c (clear t) ≡ lead_asks k c t
-lead_clear k c t = sym (notes_are_right.at_lead k c (clear t)) ∙ ap (lead_by k c) (note_clear t) ∙ notes_are_right.at_lead k c t
+prefix_clear : (k : Prefix) (c : Context) (t : Tree) → prefix_asks k c (clear t) ≡ prefix_asks k c t
+prefix_clear k c t = sym (summaries_are_right.at_prefix k c (clear t)) ∙ ap (prefix_by k c) (summary_clear t) ∙ summaries_are_right.at_prefix k c t
 
 chainable_clear : (t : Tree) → is_chainable (clear t) ≡ is_chainable t
 chainable_clear (leaf k) = refl
 chainable_clear (paren m t) = refl
-chainable_clear (adorned a more t) = chainable_clear t
-chainable_clear (lead k gs t) = refl
-chainable_clear (mid x k y) = refl
-chainable_clear (post x k) = refl
+chainable_clear (attributed a more t) = chainable_clear t
+chainable_clear (prefixed k gs t) = refl
+chainable_clear (infixed x k y) = refl
+chainable_clear (postfixed x k) = refl
 chainable_clear (tail b k ks) = refl
 chainable_clear (frame k ks) = refl
 
 block_clear : (t : Tree) → is_plain_block (clear t) ≡ is_plain_block t
 block_clear (leaf k) = refl
 block_clear (paren m t) = refl
-block_clear (adorned a more t) = refl
-block_clear (lead k gs t) = refl
-block_clear (mid x k y) = refl
-block_clear (post x k) = refl
+block_clear (attributed a more t) = refl
+block_clear (prefixed k gs t) = refl
+block_clear (infixed x k y) = refl
+block_clear (postfixed x k) = refl
 block_clear (tail b k ks) = refl
 block_clear (frame k ks) = refl
 
@@ -119,17 +119,17 @@ block_clear (frame k ks) = refl
 chained_clear : (t : Tree) → clear (chained_bare t) ≡ chained_bare (clear t)
 chained_clear (leaf k) = refl
 chained_clear (paren m t) = refl
-chained_clear (adorned a more (leaf k)) = refl
-chained_clear (adorned a more (paren m t)) = refl
-chained_clear (adorned a more (adorned b others t)) = refl
-chained_clear (adorned a more (lead k gs t)) = refl
-chained_clear (adorned a more (mid x k y)) = refl
-chained_clear (adorned a more (post x k)) = refl
-chained_clear (adorned a more (tail b k ks)) = refl
-chained_clear (adorned a more (frame k ks)) = refl
-chained_clear (lead k gs t) = refl
-chained_clear (mid x k y) = refl
-chained_clear (post x k) = refl
+chained_clear (attributed a more (leaf k)) = refl
+chained_clear (attributed a more (paren m t)) = refl
+chained_clear (attributed a more (attributed b others t)) = refl
+chained_clear (attributed a more (prefixed k gs t)) = refl
+chained_clear (attributed a more (infixed x k y)) = refl
+chained_clear (attributed a more (postfixed x k)) = refl
+chained_clear (attributed a more (tail b k ks)) = refl
+chained_clear (attributed a more (frame k ks)) = refl
+chained_clear (prefixed k gs t) = refl
+chained_clear (infixed x k y) = refl
+chained_clear (postfixed x k) = refl
 chained_clear (tail b k ks) = refl
 chained_clear (frame k ks) = refl
 
@@ -188,29 +188,29 @@ mutual
   bare_clear : (t : Tree) (c : Context) → Alike (bare c (clear t)) (bare c t)
   bare_clear (leaf k) c = refl
   bare_clear (paren m t) c = ap (paren false) (bare_clear t enclosed)
-  bare_clear (adorned a more t) c =
-      ap (adorned a more) (put_alike (is_operation (clear t)) (is_operation t) _ _ _ _ (operation_clear t) (bare_clear t enclosed) (bare_clear t (adorned_context c)))
-  bare_clear (lead k gs t) c =
-      let d = lead_context k c in
-      same_lead k _ _ _ _ (clear_twice_kids gs) (put_alike (lead_asks k d (clear t)) (lead_asks k d t) _ _ _ _ (lead_clear k d t) (bare_clear t enclosed) (bare_clear t d))
-  bare_clear (mid x k y) c =
+  bare_clear (attributed a more t) c =
+      ap (attributed a more) (put_alike (is_operation (clear t)) (is_operation t) _ _ _ _ (operation_clear t) (bare_clear t enclosed) (bare_clear t (attributed_context c)))
+  bare_clear (prefixed k gs t) c =
+      let d = prefix_context k c in
+      same_prefix k _ _ _ _ (clear_twice_children gs) (put_alike (prefix_asks k d (clear t)) (prefix_asks k d t) _ _ _ _ (prefix_clear k d t) (bare_clear t enclosed) (bare_clear t d))
+  bare_clear (infixed x k y) c =
       let d = left_context k c in
       let f = right_context k c in
-      same_mid _ _ _ _ k (put_alike (left_asks k d (clear x)) (left_asks k d x) _ _ _ _ (left_clear k c x) (bare_clear x enclosed) (bare_clear x d))
+      same_infix _ _ _ _ k (put_alike (left_asks k d (clear x)) (left_asks k d x) _ _ _ _ (left_clear k c x) (bare_clear x enclosed) (bare_clear x d))
       (put_alike (place_asks (level k) f (clear y)) (place_asks (level k) f y) _ _ _ _ (place_clear (level k) f y) (bare_clear y enclosed) (bare_clear y f))
-  bare_clear (post x k) c =
-      let d = left_context (post_op k) c in
-      ap (λ (z : Tree). post z k)
-      (put_alike (left_asks (post_op k) d (clear x)) (left_asks (post_op k) d x) _ _ _ _ (left_clear (post_op k) c x) (bare_clear x enclosed) (bare_clear x d))
+  bare_clear (postfixed x k) c =
+      let d = left_context (postfix_op k) c in
+      ap (λ (z : Tree). postfixed z k)
+      (put_alike (left_asks (postfix_op k) d (clear x)) (left_asks (postfix_op k) d x) _ _ _ _ (left_clear (postfix_op k) c x) (bare_clear x enclosed) (bare_clear x d))
   bare_clear (tail b k ks) c =
       let d = base_context k c in
-      same_tail _ _ _ _ k (put_alike (base_asks k d (clear b)) (base_asks k d b) _ _ _ _ (base_clear k c b) (bare_clear b enclosed) (bare_clear b d)) (kids_clear ks)
-  bare_clear (frame k ks) c = ap (frame k) (kids_clear ks)
+      same_tail _ _ _ _ k (put_alike (base_asks k d (clear b)) (base_asks k d b) _ _ _ _ (base_clear k c b) (bare_clear b enclosed) (bare_clear b d)) (children_clear ks)
+  bare_clear (frame k ks) c = ap (frame k) (children_clear ks)
 
-  kids_clear : (ks : Kids) → clear_kids (bare_kids (clear_kids ks)) ≡ clear_kids (bare_kids ks)
-  kids_clear none = refl
-  kids_clear (kid k c t ks) =
-      same_kid _ _ _ _ k c
+  children_clear : (ks : Children) → clear_children (bare_children (clear_children ks)) ≡ clear_children (bare_children ks)
+  children_clear none = refl
+  children_clear (child k c t ks) =
+      same_child _ _ _ _ k c
       (piece_alike k t (bare enclosed (clear t)) (bare enclosed t) (bare (piece_context k) (clear t)) (bare (piece_context k) t)
       (put (place_asks lev.Jump in_statement (clear t)) (bare enclosed (clear t)) (bare in_statement (clear t)))
       (put (place_asks lev.Jump in_statement t) (bare enclosed t) (bare in_statement t))
@@ -218,7 +218,7 @@ mutual
       (bare_clear t enclosed) (bare_clear t (piece_context k))
       (put_alike (place_asks lev.Jump in_statement (clear t)) (place_asks lev.Jump in_statement t) _ _ _ _ (place_clear lev.Jump in_statement t) (bare_clear t enclosed) (bare_clear t in_statement))
       (place_clear lev.Jump (piece_context k) t))
-      (kids_clear ks)
+      (children_clear ks)
 
 -- the whole, where it is printed in a context
 pub put_clear : (c : Context) (t : Tree)

@@ -3,7 +3,7 @@ use Rattle.std.proofs.Common.{◌≡◌, ◌↔◌, true, List, [], ◌++◌, re
 use Rattle.syn_tokens.specs.Tok.{Tok}
 use Rattle.syn_grammar.specs.declared.next.Context.{Context}
 use Rattle.syn_grammar.specs.Next.{enclosed}
-use Rattle.syn_grammar.specs.Printed.{Position, in_plain, as_statement, as_condition, as_arm, context_of, place_of, allows, is_sparing, plainly_adorned, printed_in}
+use Rattle.syn_grammar.specs.Printed.{Position, in_plain, as_statement, as_condition, as_arm, context_of, place_of, allows, is_minimal, plainly_attributed, printed_in}
 use Rattle.syn_grammar.specs.Rule.{printed}
 use Rattle.syn_grammar.specs.Stands.{Stands}
 use Rattle.syn_grammar.specs.Tree.{Tree, own, own_tokens, clear, fill}
@@ -11,14 +11,14 @@ use Rattle.syn_grammar.specs.WellFormed.{is_well_formed}
 use Rattle.syn_grammar.proofs.Added.{pairs_are_added}
 use Rattle.syn_grammar.proofs.FillIns.{plainly_fill}
 use Rattle.syn_grammar.proofs.Flat.{flatten_clear}
-use Rattle.syn_grammar.proofs.Needless.{bare_there}
+use Rattle.syn_grammar.proofs.NoneRedundant.{bare_there}
 use Rattle.syn_grammar.proofs.Promise.{printed_stands}
 use Rattle.syn_grammar.proofs.Same.{printed_is_same}
-use Rattle.syn_grammar.proofs.SparedPlain.{no_pair_spared, plain_clear}
+use Rattle.syn_grammar.proofs.RedundantPlain.{no_pair_redundant, plain_clear}
 use Rattle.syn_grammar.proofs.StoodFilled.{own_spelling}
 use Rattle.syn_expr_kinds.specs.Printed.{whole}
 use Rattle.syn_expr_print.proofs.Appends.{own_append}
-use Rattle.syn_expr.specs.Promises.{Puts, StandsBack, StandsWithPairs, IsOwn, IsSparing, PrintedAs}
+use Rattle.syn_expr.specs.Promises.{Puts, StandsBack, StandsWithPairs, IsOwn, IsMinimal, PrintedAs}
 use Rattle.syn_expr.proofs.Marks.{own_clear, clear_twice, put_clear}
 
 pub stands_back : (s : Position) (t : Tree) → StandsBack s t (own_tokens (printed_in s t))
@@ -38,9 +38,9 @@ stands_with_pairs s t w = (
 pub is_own : (t : Tree) → IsOwn t (own_tokens (printed enclosed t))
 is_own t l d = ap own_tokens (own_spelling.pairs_alone t l d)
 
-needless : (s : Position) (t : Tree) (r : List Tok) → is_well_formed t ≡ true → plainly_adorned t ≡ true → is_sparing s ≡ true → allows s r ≡ true
+none_redundant_in : (s : Position) (t : Tree) (r : List Tok) → is_well_formed t ≡ true → plainly_attributed t ≡ true → is_minimal s ≡ true → allows s r ≡ true
     → (clear (printed_in s t) ≡ clear (fill t)) ↔ Stands (place_of s) (own (fill t) r) (clear (fill t)) r
-needless s t r w a v h =
+none_redundant_in s t r w a v h =
     let p = printed_in s t in (
       λ q. subst (λ (l : List Tok). Stands (place_of s) l (clear (fill t)) r) (sym (own_clear p r) ∙ ap (λ (x : Tree). own x r) q ∙ own_clear (fill t) r)
           (subst (λ (x : Tree). Stands (place_of s) (own p r) x r) q (printed_stands s t r w h).1),
@@ -49,14 +49,14 @@ needless s t r w a v h =
           ∙ clear_twice (fill t),
     )
 
-pub is_sparing_there : (s : Position) (t : Tree) → IsSparing s t (own_tokens (printed_in s t))
-is_sparing_there s t w a v = (
+pub is_minimal_there : (s : Position) (t : Tree) → IsMinimal s t (own_tokens (printed_in s t))
+is_minimal_there s t w a v = (
   printed_in s t,
   refl,
   record {
     added = pairs_are_added s t w;
-    none_needlessly = λ rest h. needless s t rest w a v h;
-    no_pair_spared = λ q l rest h o d. no_pair_spared s t q l rest w a v h o d;
+    none_redundant = λ rest h. none_redundant_in s t rest w a v h;
+    no_pair_redundant = λ q l rest h o d. no_pair_redundant s t q l rest w a v h o d;
   },
 )
 
@@ -67,7 +67,7 @@ own_there as_condition t e = absurd cc
 own_there as_arm t e = absurd cc
 
 prints : (s : Position) (t : Tree) → PrintedAs s t (own_tokens (printed_in s t))
-prints s t = record { tokens = refl; back = stands_back s t; added = stands_with_pairs s t; own = own_there s t; sparing = is_sparing_there s t }
+prints s t = record { tokens = refl; back = stands_back s t; added = stands_with_pairs s t; own = own_there s t; minimal = is_minimal_there s t }
 
 -- ---- of what a printer wrote in the context of a position
 
@@ -87,8 +87,8 @@ added_at s t c old new h e = (own_tokens (printed c t), h, subst (λ (d : Contex
 pub own_at : (t : Tree) (c : Context) (old new : List Tok) → new ≡ old ++ own_tokens (printed c t) → c ≡ enclosed → Puts old new (IsOwn t)
 own_at t c old new h e = (own_tokens (printed c t), h, subst (λ (d : Context). IsOwn t (own_tokens (printed d t))) (sym e) (is_own t))
 
-pub sparing_at : (s : Position) (t : Tree) (c : Context) (old new : List Tok) → new ≡ old ++ own_tokens (printed c t) → c ≡ context_of s → Puts old new (IsSparing s t)
-sparing_at s t c old new h e = (own_tokens (printed c t), h, subst (λ (d : Context). IsSparing s t (own_tokens (printed d t))) (sym e) (is_sparing_there s t))
+pub minimal_at : (s : Position) (t : Tree) (c : Context) (old new : List Tok) → new ≡ old ++ own_tokens (printed c t) → c ≡ context_of s → Puts old new (IsMinimal s t)
+minimal_at s t c old new h e = (own_tokens (printed c t), h, subst (λ (d : Context). IsMinimal s t (own_tokens (printed d t))) (sym e) (is_minimal_there s t))
 
 pub prints_at : (s : Position) (t : Tree) (c : Context) (ts : List Tok) → ts ≡ own_tokens (printed c t) → c ≡ context_of s → PrintedAs s t ts
 prints_at s t c ts h e =

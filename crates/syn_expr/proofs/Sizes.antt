@@ -3,12 +3,12 @@ use Rattle.std.proofs.Common.{◌≡◌, Bool, true, false, ◌+◌, ◌*◌, �
 use Rattle.std.specs.Prelude.{ℕ, min}
 use Rattle.syn_grammar.specs.Slot.{Slot, elements, single, counted, fields, conditions, otherwise, loops, scrutinees, arms, bodies, outputs, groups, done, after}
 use Rattle.syn_grammar.specs.Tree as e
-use Rattle.syn_grammar.specs.Tree.{Tree, Kids, Piece, Ending, leaf, paren, adorned, lead, mid, post, tail, frame, none, kid, size, kids_size, is_none}
-use Rattle.syn_grammar.specs.WellFormed.{well, kids_well, is_well_formed, lead_fits, infix_fits, post_fits, trailer_fits, frame_fits, trailer_slot, frame_slot, piece_fits, ending_fits, keeps_block, is_kept_block}
+use Rattle.syn_grammar.specs.Tree.{Tree, Children, Piece, Ending, leaf, paren, attributed, prefixed, infixed, postfixed, tail, frame, none, child, size, children_size, is_none}
+use Rattle.syn_grammar.specs.WellFormed.{well, children_well, is_well_formed, prefix_fits, infix_fits, postfix_fits, trailer_fits, frame_fits, trailer_slot, frame_slot, piece_fits, ending_fits, keeps_block, is_verbatim_block}
 use Rattle.syn_parts.specs.PatFits.{attributes_outer}
 use Rattle.syn_grammar.proofs.Flat.{left_of, right_of}
-use Rattle.syn_grammar.proofs.Same.{kept_or}
-use Rattle.syn_expr_collect.specs.Visited.{visited, kids_visited}
+use Rattle.syn_grammar.proofs.Same.{verbatim_or}
+use Rattle.syn_expr_collect.specs.Visited.{visited, children_visited}
 
 -- ---- no more often than there are nodes
 
@@ -16,17 +16,17 @@ mutual
   visited_small : (t : Tree) → visited t ≤ size t
   visited_small (leaf k) = omega arith
   visited_small (paren m t) = let h = visited_small t in omega arith
-  visited_small (adorned a more t) = visited_small t
-  visited_small (lead k gs t) = let h = visited_small t in omega arith
-  visited_small (mid x k y) = let h = visited_small x in let i = visited_small y in omega arith
-  visited_small (post x k) = let h = visited_small x in omega arith
-  visited_small (tail b k ks) = let h = visited_small b in let i = kids_small ks in omega arith
-  visited_small (frame k ks) = let h = kids_small ks in omega arith
+  visited_small (attributed a more t) = visited_small t
+  visited_small (prefixed k gs t) = let h = visited_small t in omega arith
+  visited_small (infixed x k y) = let h = visited_small x in let i = visited_small y in omega arith
+  visited_small (postfixed x k) = let h = visited_small x in omega arith
+  visited_small (tail b k ks) = let h = visited_small b in let i = children_small ks in omega arith
+  visited_small (frame k ks) = let h = children_small ks in omega arith
 
-  kids_small : (ks : Kids) → kids_visited ks ≤ kids_size ks
-  kids_small none = omega arith
-  kids_small (kid e.stray c t ks) = let i = kids_small ks in omega arith
-  kids_small (kid _ c t ks) = let h = visited_small t in let i = kids_small ks in omega arith
+  children_small : (ks : Children) → children_visited ks ≤ children_size ks
+  children_small none = omega arith
+  children_small (child e.stray c t ks) = let i = children_small ks in omega arith
+  children_small (child _ c t ks) = let h = visited_small t in let i = children_small ks in omega arith
 
 most : (v s a : ℕ) → v ≤ s → a ≤ min (2 * v) (2 ^ 64 - 1) → a ≤ min (2 * s) (2 ^ 64 - 1)
 most v s a h m = omega arith
@@ -59,23 +59,23 @@ not_stray : (k : Piece) (s : Slot) (c : Ending) (t : Tree) → piece_fits s k c 
 not_stray e.stray s c t h = let n = never_stray s c t in absurd cc
 not_stray _ s c t h = refl
 
-kid_visited : (k : Piece) (c : Ending) (t : Tree) (ks : Kids) → is_stray k ≡ false → kids_visited (kid k c t ks) ≡ visited t + kids_visited ks
-kid_visited e.stray c t ks h = absurd cc
-kid_visited _ c t ks h = refl
+child_visited : (k : Piece) (c : Ending) (t : Tree) (ks : Children) → is_stray k ≡ false → children_visited (child k c t ks) ≡ visited t + children_visited ks
+child_visited e.stray c t ks h = absurd cc
+child_visited _ c t ks h = refl
 
-nothing : (ks : Kids) → is_none ks ≡ true → kids_size ks ≡ 0
+nothing : (ks : Children) → is_none ks ≡ true → children_size ks ≡ 0
 nothing none h = refl
-nothing (kid k c t ks) h = absurd cc
+nothing (child k c t ks) h = absurd cc
 
-kept_count : (t : Tree) → is_kept_block t ≡ true → visited t ≡ size t
-kept_count (leaf k) h = refl
-kept_count (paren m t) h = absurd cc
-kept_count (adorned a more t) h = absurd cc
-kept_count (lead k gs t) h = absurd cc
-kept_count (mid x k y) h = absurd cc
-kept_count (post x k) h = absurd cc
-kept_count (tail b k ks) h = absurd cc
-kept_count (frame k ks) h = absurd cc
+verbatim_count : (t : Tree) → is_verbatim_block t ≡ true → visited t ≡ size t
+verbatim_count (leaf k) h = refl
+verbatim_count (paren m t) h = absurd cc
+verbatim_count (attributed a more t) h = absurd cc
+verbatim_count (prefixed k gs t) h = absurd cc
+verbatim_count (infixed x k y) h = absurd cc
+verbatim_count (postfixed x k) h = absurd cc
+verbatim_count (tail b k ks) h = absurd cc
+verbatim_count (frame k ks) h = absurd cc
 
 two : (a b v w : ℕ) → a ≡ v → b ≡ w → 1 + (a + b) ≡ 1 + (v + w)
 two a b v w p q = omega arith
@@ -84,29 +84,29 @@ mutual
   visited_all : (t : Tree) → well t ≡ true → visited t ≡ size t
   visited_all (leaf k) h = refl
   visited_all (paren m t) h = ap (λ (n : ℕ). 1 + n) (visited_all t h)
-  visited_all (adorned a more t) h = visited_all t (right_of _ _ (right_of (attributes_outer (a ∷ more)) _ h))
-  visited_all (lead k gs t) h =
-      let w = right_of (lead_fits k) _ h in
+  visited_all (attributed a more t) h = visited_all t (right_of _ _ (right_of (attributes_outer (a ∷ more)) _ h))
+  visited_all (prefixed k gs t) h =
+      let w = right_of (prefix_fits k) _ h in
       let n = nothing gs (left_of (is_none gs) _ w) in
       let i = visited_all t (right_of (is_none gs) _ w) in
       omega arith
-  visited_all (mid x k y) h =
+  visited_all (infixed x k y) h =
       let w = right_of (infix_fits k) _ h in
       two _ _ _ _ (visited_all x (left_of (well x) _ w)) (visited_all y (right_of (well x) _ w))
-  visited_all (post x k) h = ap (λ (n : ℕ). 1 + n) (visited_all x (right_of (post_fits k) _ h))
+  visited_all (postfixed x k) h = ap (λ (n : ℕ). 1 + n) (visited_all x (right_of (postfix_fits k) _ h))
   visited_all (tail b k ks) h =
       let w = right_of (trailer_fits k) _ h in
-      two _ _ _ _ (visited_all b (left_of (well b) _ w)) (kids_all ks (trailer_slot k) (right_of (well b) _ w))
-  visited_all (frame k ks) h = ap (λ (n : ℕ). 1 + n) (kids_all ks (frame_slot k) (right_of (frame_fits k ks) _ h))
+      two _ _ _ _ (visited_all b (left_of (well b) _ w)) (children_all ks (trailer_slot k) (right_of (well b) _ w))
+  visited_all (frame k ks) h = ap (λ (n : ℕ). 1 + n) (children_all ks (frame_slot k) (right_of (frame_fits k ks) _ h))
 
-  kids_all : (ks : Kids) (s : Slot) → kids_well s ks ≡ true → kids_visited ks ≡ kids_size ks
-  kids_all none s h = refl
-  kids_all (kid k c t ks) s h =
+  children_all : (ks : Children) (s : Slot) → children_well s ks ≡ true → children_visited ks ≡ children_size ks
+  children_all none s h = refl
+  children_all (child k c t ks) s h =
       let fits = left_of (piece_fits s k c t) _ (left_of (piece_fits s k c t && ending_fits k c) _ h) in
       let w = right_of (piece_fits s k c t && ending_fits k c) _ h in
-      let i = kept_or k t (left_of (keeps_block k t || well t) _ w) (kept_count t) (visited_all t) in
-      let j = kids_all ks (after k) (right_of (keeps_block k t || well t) _ w) in
-      let v = kid_visited k c t ks (not_stray k s c t fits) in
+      let i = verbatim_or k t (left_of (keeps_block k t || well t) _ w) (verbatim_count t) (visited_all t) in
+      let j = children_all ks (after k) (right_of (keeps_block k t || well t) _ w) in
+      let v = child_visited k c t ks (not_stray k s c t fits) in
       omega arith
 
 at_least : (v s a : ℕ) → v ≡ s → min v (2 ^ 64 - 1) ≤ a → min s (2 ^ 64 - 1) ≤ a

@@ -5,11 +5,11 @@ use Rattle.syn_grammar.specs.declared.kinds.Level.{Level}
 use Rattle.syn_grammar.specs.declared.kinds.Level.TheVariants as lev
 use Rattle.syn_grammar.specs.Op.{level}
 use Rattle.syn_grammar.specs.Tree.{Tree}
-use Rattle.syn_expr_notes.specs.declared.kind.NodeKind.{NodeKind}
-use Rattle.syn_expr_notes.specs.declared.kind.NodeKind.TheVariants as node
-use Rattle.syn_expr_notes.specs.declared.label.LeafKind.TheVariants as leafs
-use Rattle.syn_expr_notes.specs.Kind.{kind_at}
-use Rattle.syn_expr_notes.specs.Label.{lead_level, post_op}
+use Rattle.syn_expr_summaries.specs.declared.kind.NodeKind.{NodeKind}
+use Rattle.syn_expr_summaries.specs.declared.kind.NodeKind.TheVariants as node
+use Rattle.syn_expr_summaries.specs.declared.label.LeafKind.TheVariants as leafs
+use Rattle.syn_expr_summaries.specs.Kind.{kind_at}
+use Rattle.syn_expr_summaries.specs.Label.{prefix_level, postfix_op}
 use Rattle.syn_expr_kinds.specs.Node.{attributes_at}
 use Rattle.syn_expr.specs.declared.precedence.Precedence.{Precedence}
 use Rattle.syn_expr.specs.declared.precedence.Precedence.TheVariants as prec
@@ -36,9 +36,9 @@ level_of prec.Unambiguous = lev.Unambiguous
 -- of a node by itself: its operator's, where it has one
 abbrev pub kind_level : NodeKind → Level
 kind_level (node.Leaf leafs.FullRange) = lev.Range
-kind_level (node.Lead k) = lead_level k
-kind_level (node.Mid op) = level op
-kind_level (node.Post k) = level (post_op k)
+kind_level (node.Prefix k) = prefix_level k
+kind_level (node.Infix op) = level op
+kind_level (node.Postfix k) = level (postfix_op k)
 kind_level _ = lev.Unambiguous
 
 -- behind an outer attribute

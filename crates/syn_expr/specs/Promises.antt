@@ -2,8 +2,8 @@
 use Rattle.std.specs.Prelude.{◌≡◌, ◌↔◌, ◌++◌, true, List, []}
 use Rattle.syn_tokens.specs.Tok.{Tok}
 use Rattle.syn_grammar.specs.Place.{plain}
-use Rattle.syn_grammar.specs.Printed.{Position, in_plain, place_of, allows, is_sparing, plainly_adorned, parenthesize_attributed, printed_in}
-use Rattle.syn_grammar.specs.Sparing.{OneLess, without_added}
+use Rattle.syn_grammar.specs.Printed.{Position, in_plain, place_of, allows, is_minimal, plainly_attributed, parenthesize_attributed, printed_in}
+use Rattle.syn_grammar.specs.Minimal.{OneLess, without_added}
 use Rattle.syn_grammar.specs.Stands.{Stands}
 use Rattle.syn_grammar.specs.Tree.{Tree, own, own_tokens, clear, fill, IsSameTree}
 use Rattle.syn_grammar.specs.WellFormed.{is_well_formed}
@@ -30,19 +30,19 @@ abbrev pub IsOwn : Tree → List Tok → Type 0
 IsOwn t ts = (l : List Tok) → Stands plain l t [] → ts ≡ own_tokens (parenthesize_attributed t)
 
 -- p is t as it is printed: the pairs that were added are marked, and without them it is t with its fill-ins.
-pub record Spares (s : Position) (t p : Tree) : Type 0 where
+pub record HasMinimalPairs (s : Position) (t p : Tree) : Type 0 where
   pub added : without_added p ≡ clear (fill t)
   -- No pair is added exactly where the tree's own spelling, with its fill-ins, stands there for it.
-  pub none_needlessly : (rest : List Tok) → allows s rest ≡ true
+  pub none_redundant : (rest : List Tok) → allows s rest ≡ true
       → (clear p ≡ clear (fill t)) ↔ Stands (place_of s) (own (fill t) rest) (clear (fill t)) rest
   -- With one of the added pairs left out, it stands for no list.
-  pub no_pair_spared : (q : Tree) (l rest : List Tok) → allows s rest ≡ true → OneLess p q → Stands (place_of s) l (clear q) rest → ⊥
+  pub no_pair_redundant : (q : Tree) (l rest : List Tok) → allows s rest ≡ true → OneLess p q → Stands (place_of s) l (clear q) rest → ⊥
 
 -- They are those of a tree in which the added pairs are marked; and these pairs are needed, but in a statement, and where
 -- operations have attributes.
-abbrev pub IsSparing : Position → Tree → List Tok → Type 0
-IsSparing s t ts =
-    is_well_formed t ≡ true → plainly_adorned t ≡ true → is_sparing s ≡ true → (p : Tree) × (ts ≡ own_tokens p) × Spares s t p
+abbrev pub IsMinimal : Position → Tree → List Tok → Type 0
+IsMinimal s t ts =
+    is_well_formed t ≡ true → plainly_attributed t ≡ true → is_minimal s ≡ true → (p : Tree) × (ts ≡ own_tokens p) × HasMinimalPairs s t p
 
 -- all of this of the tokens of a tree that is printed in a position
 pub record PrintedAs (s : Position) (t : Tree) (ts : List Tok) : Type 0 where
@@ -50,4 +50,4 @@ pub record PrintedAs (s : Position) (t : Tree) (ts : List Tok) : Type 0 where
   pub back : StandsBack s t ts
   pub added : StandsWithPairs s t ts
   pub own : s ≡ in_plain → IsOwn t ts
-  pub sparing : IsSparing s t ts
+  pub minimal : IsMinimal s t ts

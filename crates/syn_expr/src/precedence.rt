@@ -11,8 +11,8 @@ ghost use Rattle.syn_op.specs.View.{bin_kind};
 
 use syn_expr_all::Expr;
 use syn_expr_kinds::node::{Attributes, HasKind, HasNode};
-use syn_expr_notes::kind::NodeKind;
-use syn_expr_notes::label::LeafKind;
+use syn_expr_summaries::kind::NodeKind;
+use syn_expr_summaries::label::LeafKind;
 use syn_grammar::kinds::Level;
 use syn_lower::attr::{AttrStyle, Attribute};
 use syn_op::level::{binary_level, level};
@@ -129,9 +129,9 @@ fn node_level(kind: NodeKind) -> Level
 {
     match kind {
         NodeKind::Leaf(LeafKind::FullRange) => Level::Range,
-        NodeKind::Lead(lead) => lead.level(),
-        NodeKind::Mid(op) => level(op),
-        NodeKind::Post(post) => level(post.op()),
+        NodeKind::Prefix(prefix) => prefix.level(),
+        NodeKind::Infix(op) => level(op),
+        NodeKind::Postfix(postfix) => level(postfix.op()),
         _ => Level::Unambiguous,
     }
 }

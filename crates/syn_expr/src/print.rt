@@ -3,7 +3,7 @@
 ghost use Rattle.std.specs.Prelude.{◌≡◌, ◌++◌, ◌*◌, ◌-◌, ◌^◌, ◌≤◌, true, min, IfErr, IfOk, OnOk};
 ghost use Rattle.syn_expr_all.specs.View.{tree_of};
 ghost use Rattle.syn_expr_collect.specs.Visited.{visited};
-ghost use Rattle.syn_expr.specs.Promises.{Puts, StandsBack, StandsWithPairs, IsOwn, IsSparing, PrintedAs};
+ghost use Rattle.syn_expr.specs.Promises.{Puts, StandsBack, StandsWithPairs, IsOwn, IsMinimal, PrintedAs};
 ghost use Rattle.syn_grammar.specs.Next.{enclosed};
 ghost use Rattle.syn_grammar.specs.Printed.{Position, context_of};
 ghost use Rattle.syn_grammar.specs.Rule.{printed};
@@ -19,7 +19,7 @@ use syn_tokens::tree::TokenStream;
 
 /// Puts the tokens of an expression at the end, with the parentheses that it needs where it is printed: those without which
 /// the tokens would be read as another tree, or not at all (Rust Reference, "Expression precedence"). In a statement a `let`
-/// and a macro with braces get some that could be spared, and so may an operation behind attributes.
+/// and a macro with braces get some that are redundant, and so may an operation behind attributes.
 ///
 /// How tightly an operand has to bind there plays no part: who prints an operand asks that before. Memory may run out
 /// (`OutOfMemory`); a part of the tokens may then follow what was there.
@@ -35,13 +35,13 @@ pub fn print_expr(expr: &Expr, tokens: &mut TokenStream, fixup: FixupContext) ->
     // What stands for some list is written as its own spelling, but for a pair round each operation that has attributes.
     ensures own { OnOk result (fixup.context ≡ enclosed → Puts tokens.old tokens.new (IsOwn (tree_of expr.now))) }
     // No parentheses are added needlessly, and none of them can be left out.
-    ensures sparing { OnOk result ((s : Position) → fixup.context ≡ context_of s → Puts tokens.old tokens.new (IsSparing s (tree_of expr.now))) }
+    ensures minimal { OnOk result ((s : Position) → fixup.context ≡ context_of s → Puts tokens.old tokens.new (IsMinimal s (tree_of expr.now))) }
 {
     syn_expr_all::print_counted(expr, tokens, fixup.context())?;
     Ok(())
 }
 
-/// The tokens that `print_expr` puts at the end, and how often a node was visited: by the pass that notes the ends of each
+/// The tokens that `print_expr` puts at the end, and how often a node was visited: by the pass that summarizes the ends of each
 /// node, and by the printing; each at least once, and at most twice. Guards in patterns where none may stand aren't visited. A
 /// count that reaches the greatest `u64` stays there.
 ///

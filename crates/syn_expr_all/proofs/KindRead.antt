@@ -48,9 +48,9 @@ others_none A is wanted old fork e f h x m s b =
     inl (refused_by e.kind (λ ne. subst (λ (i : Input). expr plain i.rest ≡ None) f (h ne)) (expr_complete plain old.rest x m s))
 
 -- another is told
-pub others_told : (A : Type 0) (is : Tree → Bool) (wanted : WantedKind) (old : Input) (e : Error) → e.kind ≡ ExpectedExprKind wanted → RefusesOthers {A = A} is wanted old (Err e)
-others_told A is wanted old e h x m s b = inr h
+pub others_known : (A : Type 0) (is : Tree → Bool) (wanted : WantedKind) (old : Input) (e : Error) → e.kind ≡ ExpectedExprKind wanted → RefusesOthers {A = A} is wanted old (Err e)
+others_known A is wanted old e h x m s b = inr h
 
-pub ruleset others = (others_read, others_none, others_told)
+pub ruleset others = (others_read, others_none, others_known)
 
 pub ruleset kinds = (kind_found, kind_other, kind_none)

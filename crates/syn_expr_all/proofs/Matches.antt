@@ -6,8 +6,8 @@ use Rattle.syn_parts.specs.Tree.{AttributeTree}
 use Rattle.syn_lower.specs.View.{mapped}
 use Rattle.syn_lower_leaves.specs.declared.attr.Attribute.{Attribute}
 use Rattle.syn_grammar.specs.Tree as e
-use Rattle.syn_grammar.specs.Tree.{Tree, adorn, frame, kid, none}
-use Rattle.syn_grammar.specs.Stands.{is_adorned}
+use Rattle.syn_grammar.specs.Tree.{Tree, attributed_with, frame, child, none}
+use Rattle.syn_grammar.specs.Stands.{is_attributed}
 use Rattle.syn_expr_parts.specs.View.{label_of}
 use Rattle.syn_pat_kinds.specs.View.{PatView}
 use Rattle.syn_expr_kinds.specs.Attrs.{attrs_of, outer_of, inner_of}
@@ -18,50 +18,50 @@ use Rattle.syn_expr_kinds.specs.declared.pattern.ExprClosureOf.{ExprClosureOf}
 use Rattle.syn_expr_kinds.specs.declared.pattern.ExprForLoopOf.{ExprForLoopOf}
 use Rattle.syn_expr_kinds.specs.declared.pattern.ExprLetOf.{ExprLetOf}
 use Rattle.syn_expr_kinds.specs.declared.pattern.ExprMatchOf.{ExprMatchOf}
-use Rattle.syn_expr_kinds.proofs.Adorned.{adorn_more}
+use Rattle.syn_expr_kinds.proofs.Attributed.{attributed_with_more}
 use Rattle.syn_expr_all.specs.declared.control.ExprMatch.{ExprMatch, out-ExprMatch, roll-ExprMatch, out-roll-ExprMatch}
-use Rattle.syn_expr_all.specs.View.{choice_layer, choice_of, choice_parts, views}
-use Rattle.syn_expr_all.proofs.TreeOf.{choice-is}
+use Rattle.syn_expr_all.specs.View.{match_layer, match_of, match_parts, views}
+use Rattle.syn_expr_all.proofs.TreeOf.{match_expr-is}
 
 -- a tree, and one that has the same behind its attributes and more before these
-behind_by : (ats old new : List AttributeTree) (x y t u : Tree) → t ≡ adorn old x → u ≡ adorn new y → new ≡ ats ++ old → y ≡ x → is_adorned t ≡ false → u ≡ adorn ats t
+behind_by : (ats old new : List AttributeTree) (x y t u : Tree) → t ≡ attributed_with old x → u ≡ attributed_with new y → new ≡ ats ++ old → y ≡ x → is_attributed t ≡ false → u ≡ attributed_with ats t
 behind_by ats old new x y t u is_old is_new joined same bare =
-    is_new ∙ ap (λ l. adorn l y) joined ∙ ap (adorn (ats ++ old)) same
-    ∙ adorn_more ats old x (ap is_adorned (sym is_old) ∙ bare) ∙ ap (adorn ats) (sym is_old)
+    is_new ∙ ap (λ l. attributed_with l y) joined ∙ ap (attributed_with (ats ++ old)) same
+    ∙ attributed_with_more ats old x (ap is_attributed (sym is_old) ∙ bare) ∙ ap (attributed_with ats) (sym is_old)
 
 pub closure_behind : {E P : Type 0} (f : E → Tree) (g : P → PatView) (x : ExprClosureOf E P) (v : Vec Attribute Global) (ats : List AttributeTree) (t : Tree)
-    → t ≡ expr_closure_of f g x → attrs_of v ≡ ats ++ attrs_of x.attrs → is_adorned t ≡ false
-    → expr_closure_of f g (record x { attrs = v }) ≡ adorn ats t
+    → t ≡ expr_closure_of f g x → attrs_of v ≡ ats ++ attrs_of x.attrs → is_attributed t ≡ false
+    → expr_closure_of f g (record x { attrs = v }) ≡ attributed_with ats t
 closure_behind f g x v ats t is_old joined = behind_by ats _ _ _ _ t _ is_old refl joined refl
 
 pub let_behind : {E P : Type 0} (f : E → Tree) (g : P → PatView) (x : ExprLetOf E P) (v : Vec Attribute Global) (ats : List AttributeTree) (t : Tree)
-    → t ≡ expr_let_of f g x → attrs_of v ≡ ats ++ attrs_of x.attrs → is_adorned t ≡ false
-    → expr_let_of f g (record x { attrs = v }) ≡ adorn ats t
+    → t ≡ expr_let_of f g x → attrs_of v ≡ ats ++ attrs_of x.attrs → is_attributed t ≡ false
+    → expr_let_of f g (record x { attrs = v }) ≡ attributed_with ats t
 let_behind f g x v ats t is_old joined = behind_by ats _ _ _ _ t _ is_old refl joined refl
 
 -- Of those with braces the inner attributes stay there.
 
 pub for_loop_behind : {E P : Type 0} (f : E → Tree) (g : P → PatView) (x : ExprForLoopOf E P) (v : Vec Attribute Global) (ats : List AttributeTree) (t : Tree)
-    → t ≡ expr_for_loop_of f g x → outer_of v ≡ ats ++ outer_of x.attrs → inner_of v ≡ inner_of x.attrs → is_adorned t ≡ false
-    → expr_for_loop_of f g (record x { attrs = v }) ≡ adorn ats t
+    → t ≡ expr_for_loop_of f g x → outer_of v ≡ ats ++ outer_of x.attrs → inner_of v ≡ inner_of x.attrs → is_attributed t ≡ false
+    → expr_for_loop_of f g (record x { attrs = v }) ≡ attributed_with ats t
 for_loop_behind f g x v ats t is_old outer inner =
     let p = g x.pat.value in
     let inside : List AttributeTree → Tree = λ l. frame (e.for_loop (mapped label_of x.label) p.tree)
-    (strays p.guards (kid e.loop_head (e.braced (body_of l x.body.stmts)) (f x.expr.value) none)) in
+    (strays p.guards (child e.loop_head (e.braced (body_of l x.body.stmts)) (f x.expr.value) none)) in
     behind_by ats _ _ _ _ t _ is_old refl outer (ap inside inner)
 
 pub match_behind : {E A : Type 0} (f : E → Tree) (g : A → ArmView) (x : ExprMatchOf E A) (v : Vec Attribute Global) (ats : List AttributeTree) (t : Tree)
-    → t ≡ expr_match_of f g x → outer_of v ≡ ats ++ outer_of x.attrs → inner_of v ≡ inner_of x.attrs → is_adorned t ≡ false
-    → expr_match_of f g (record x { attrs = v }) ≡ adorn ats t
+    → t ≡ expr_match_of f g x → outer_of v ≡ ats ++ outer_of x.attrs → inner_of v ≡ inner_of x.attrs → is_attributed t ≡ false
+    → expr_match_of f g (record x { attrs = v }) ≡ attributed_with ats t
 match_behind f g x v ats t is_old outer inner =
-    let inside : List AttributeTree → Tree = λ l. frame e.choice (kid e.scrutinee (e.opened l) (f x.expr.value) (arms (map g x.arms.items))) in
+    let inside : List AttributeTree → Tree = λ l. frame e.match_expr (child e.scrutinee (e.opened l) (f x.expr.value) (arms (map g x.arms.items))) in
     behind_by ats _ _ _ _ t _ is_old refl outer (ap inside inner)
 
 -- What code makes of a `match` is taken apart by a path alone; it takes the old one apart, and then the fields that it keeps.
-pub choice_behind : (x : ExprMatch) (v : Vec Attribute Global) (ats : List AttributeTree)
-    → outer_of v ≡ ats ++ outer_of (out-ExprMatch x).attrs → inner_of v ≡ inner_of (out-ExprMatch x).attrs → is_adorned (choice_of x) ≡ false
-    → choice_of (roll-ExprMatch (record (out-ExprMatch (roll-ExprMatch (out-ExprMatch x))) { attrs = v })) ≡ adorn ats (choice_of x)
-choice_behind x v ats outer inner bare =
-    choice-is _ ∙ ap (choice_layer views) (out-roll-ExprMatch _)
-    ∙ ap (λ m. choice_layer views (record m { attrs = v })) (out-roll-ExprMatch (out-ExprMatch x))
-    ∙ match_behind views.tree views.arm (choice_parts (out-ExprMatch x)) v ats (choice_of x) (choice-is x) outer inner bare
+pub match_expr_behind : (x : ExprMatch) (v : Vec Attribute Global) (ats : List AttributeTree)
+    → outer_of v ≡ ats ++ outer_of (out-ExprMatch x).attrs → inner_of v ≡ inner_of (out-ExprMatch x).attrs → is_attributed (match_of x) ≡ false
+    → match_of (roll-ExprMatch (record (out-ExprMatch (roll-ExprMatch (out-ExprMatch x))) { attrs = v })) ≡ attributed_with ats (match_of x)
+match_expr_behind x v ats outer inner bare =
+    match_expr-is _ ∙ ap (match_layer views) (out-roll-ExprMatch _)
+    ∙ ap (λ m. match_layer views (record m { attrs = v })) (out-roll-ExprMatch (out-ExprMatch x))
+    ∙ match_behind views.tree views.arm (match_parts (out-ExprMatch x)) v ats (match_of x) (match_expr-is x) outer inner bare

@@ -6,8 +6,8 @@ use Rattle.syn_grammar.specs.declared.kinds.Infix.{Infix}
 use Rattle.syn_grammar.specs.declared.kinds.Infix.TheVariants as inf
 use Rattle.syn_grammar.specs.declared.kinds.Limits.{Limits}
 use Rattle.syn_grammar.specs.Tree as tr
-use Rattle.syn_grammar.specs.Tree.{Tree, Leaf, Lead, Post, Trailer, Frame, Jump, ClosureHead, leaf, paren, adorned, lead, mid, post, tail, frame, none, kid, adorn, is_block_like}
-use Rattle.syn_grammar.specs.Stands.{is_adorned, is_branch, is_cast, is_range, holds_block}
+use Rattle.syn_grammar.specs.Tree.{Tree, Leaf, Prefix, Postfix, Trailer, Frame, Jump, ClosureHead, leaf, paren, attributed, prefixed, infixed, postfixed, tail, frame, none, child, attributed_with, is_block_like}
+use Rattle.syn_grammar.specs.Stands.{is_attributed, is_if_expr, is_cast, is_range, holds_block}
 use Rattle.syn_grammar.specs.Alone.{unadorned, ungrouped, is_array, is_assign, is_await, is_binary, is_break, is_call, is_closure, is_field, is_for_loop, is_index, is_let, is_match, is_method_call, is_paren, is_raw_addr, is_repeat, is_return, is_try, is_tuple, is_unary, is_while, is_yield}
 use Rattle.syn_expr_kinds.specs.Attrs.{attrs_of}
 use Rattle.syn_expr_kinds.specs.Pats.{closure_by}
@@ -44,8 +44,8 @@ use Rattle.syn_expr_all.specs.declared.control.Arm.{Arm}
 use Rattle.syn_expr_all.specs.declared.control.ExprForLoop.{ExprForLoop}
 use Rattle.syn_expr_all.specs.declared.control.ExprLet.{ExprLet}
 use Rattle.syn_expr_all.specs.declared.control.ExprMatch.{ExprMatch}
-use Rattle.syn_expr_all.specs.View.{tree_layer, tree_of, views, closure_of, for_loop_of, binding_of, choice_of}
-use Rattle.syn_expr_all.proofs.TreeOf.{tree_out, tree-Group, tree-Array, tree-Assign, tree-Await, tree-Binary, tree-Break, tree-Call, tree-Cast, tree-Closure, tree-Field, tree-ForLoop, tree-If, tree-Index, tree-Let, tree-Match, tree-MethodCall, tree-Paren, tree-Range, tree-RawAddr, tree-Repeat, tree-Return, tree-Try, tree-Tuple, tree-Unary, tree-While, tree-Yield, closure-is, for_loop-is, binding-is, choice-is}
+use Rattle.syn_expr_all.specs.View.{tree_layer, tree_of, views, closure_of, for_loop_of, let_of, match_of}
+use Rattle.syn_expr_all.proofs.TreeOf.{tree_out, tree-Group, tree-Array, tree-Assign, tree-Await, tree-Binary, tree-Break, tree-Call, tree-Cast, tree-Closure, tree-Field, tree-ForLoop, tree-If, tree-Index, tree-Let, tree-Match, tree-MethodCall, tree-Paren, tree-Range, tree-RawAddr, tree-Repeat, tree-Return, tree-Try, tree-Tuple, tree-Unary, tree-While, tree-Yield, closure-is, for_loop-is, let_expr-is, match_expr-is}
 
 -- ---- a name of each kind that is taken out
 
@@ -88,14 +88,14 @@ leaf_kind (tr.full_range op) = k_range
 leaf_kind (tr.bare_jump j) = jump_kind j
 leaf_kind _ = another
 
-abbrev lead_kind : Lead → Kind
-lead_kind (tr.unary op) = k_unary
-lead_kind (tr.reference m) = another
-lead_kind (tr.raw_addr m) = k_raw_addr
-lead_kind (tr.range_to op) = k_range
-lead_kind (tr.binding p) = k_let
-lead_kind (tr.jump j) = jump_kind j
-lead_kind (tr.closure h) = k_closure
+abbrev prefix_kind : Prefix → Kind
+prefix_kind (tr.unary op) = k_unary
+prefix_kind (tr.reference m) = another
+prefix_kind (tr.raw_addr m) = k_raw_addr
+prefix_kind (tr.range_to op) = k_range
+prefix_kind (tr.let_expr p) = k_let
+prefix_kind (tr.jump j) = jump_kind j
+prefix_kind (tr.closure h) = k_closure
 
 abbrev infix_kind : Infix → Kind
 infix_kind (inf.Binary op) = k_binary
@@ -103,9 +103,9 @@ infix_kind inf.Assign = k_assign
 infix_kind (inf.Range op) = k_range
 infix_kind inf.Cast = another
 
-abbrev post_kind : Post → Kind
-post_kind (tr.cast ty) = k_cast
-post_kind (tr.range_from op) = k_range
+abbrev postfix_kind : Postfix → Kind
+postfix_kind (tr.cast ty) = k_cast
+postfix_kind (tr.range_from op) = k_range
 
 abbrev trailer_kind : Trailer → Kind
 trailer_kind tr.call = k_call
@@ -113,7 +113,7 @@ trailer_kind tr.index = k_index
 trailer_kind (tr.method w a) = k_method_call
 trailer_kind (tr.field m) = k_field
 trailer_kind tr.await = k_await
-trailer_kind tr.question = k_try
+trailer_kind tr.try_expr = k_try
 
 abbrev frame_kind : Frame → Kind
 frame_kind tr.array = k_array
@@ -121,20 +121,20 @@ frame_kind tr.tuple = k_tuple
 frame_kind tr.repeat = k_repeat
 frame_kind (tr.structure q w d) = another
 frame_kind (tr.closure_block h) = k_closure
-frame_kind tr.branch = k_if
+frame_kind tr.if_expr = k_if
 frame_kind (tr.while_loop w) = k_while
 frame_kind (tr.for_loop w p) = k_for_loop
-frame_kind tr.choice = k_match
-frame_kind tr.invisible = k_group
+frame_kind tr.match_expr = k_match
+frame_kind tr.group_expr = k_group
 
 -- of a tree, behind attributes too
 abbrev kind : Tree → Kind
 kind (leaf k) = leaf_kind k
 kind (paren m x) = k_paren
-kind (adorned a more x) = kind x
-kind (lead k gs x) = lead_kind k
-kind (mid x op y) = infix_kind op
-kind (post x k) = post_kind k
+kind (attributed a more x) = kind x
+kind (prefixed k gs x) = prefix_kind k
+kind (infixed x op y) = infix_kind op
+kind (postfixed x k) = postfix_kind k
 kind (tail b k ks) = trailer_kind k
 kind (frame k ks) = frame_kind k
 
@@ -168,9 +168,9 @@ layer_kind (Expr-F.While x) = k_while
 layer_kind (Expr-F.Yield x) = k_yield
 layer_kind _ = another
 
-adorn_kind : (ats : List AttributeTree) (t : Tree) (k : Kind) → kind t ≡ k → kind (adorn ats t) ≡ k
-adorn_kind [] t k h = h
-adorn_kind (a ∷ more) t k h = h
+attributed_with_kind : (ats : List AttributeTree) (t : Tree) (k : Kind) → kind t ≡ k → kind (attributed_with ats t) ≡ k
+attributed_with_kind [] t k h = h
+attributed_with_kind (a ∷ more) t k h = h
 
 jump_with_kind : (j : Jump) (x : Option Tree) → kind (jump_with j x) ≡ jump_kind j
 jump_with_kind j None = refl
@@ -186,7 +186,7 @@ closure_by_kind : (r : ReturnTree) (h : ClosureHead) (gs : List Tree) (t : Tree)
 closure_by_kind default h gs t = refl
 closure_by_kind (given ty) h gs t = refl
 
-ruleset spelled = (adorn_kind, jump_with_kind, range_between_kind, closure_by_kind, closure-is, for_loop-is, binding-is, choice-is)
+ruleset spelled = (attributed_with_kind, jump_with_kind, range_between_kind, closure_by_kind, closure-is, for_loop-is, let_expr-is, match_expr-is)
 
 kind_is : (l : Expr-F Expr Pat ExprClosure Arm ExprForLoop ExprLet ExprMatch PatGuard) → kind (tree_layer views l) ≡ layer_kind l
 kind_is (Expr-F.Verbatim x) = refl
@@ -195,12 +195,12 @@ kind_is _ = search (rules, spelled)
 -- ---- what is no value of a kind's variant is not of the kind
 
 behind : (is : Tree → Bool) (k : Kind) → ((t : Tree) → is t ≡ true → kind t ≡ k) → (t : Tree) → is (unadorned t) ≡ true → kind t ≡ k
-behind is k f (adorned a more x) h = f x h
+behind is k f (attributed a more x) h = f x h
 behind is k f (leaf j) h = f (leaf j) h
 behind is k f (paren m x) h = f (paren m x) h
-behind is k f (lead j gs x) h = f (lead j gs x) h
-behind is k f (mid x op y) h = f (mid x op y) h
-behind is k f (post x j) h = f (post x j) h
+behind is k f (prefixed j gs x) h = f (prefixed j gs x) h
+behind is k f (infixed x op y) h = f (infixed x op y) h
+behind is k f (postfixed x j) h = f (postfixed x j) h
 behind is k f (tail b j ks) h = f (tail b j ks) h
 behind is k f (frame j ks) h = f (frame j ks) h
 
@@ -223,7 +223,7 @@ pub not_array : (v : Expr) → ((x : ExprArrayOf Expr) → v ≡ ex.Array x → 
 not_array = not_kind ex.Array is_array k_array array_kind (elim [ Expr-F.Array x ↦ inl (x, ex.rolls-Array x) | _ ↦ inr (λ h. cc) ])
 
 assign_kind : (t : Tree) → is_assign t ≡ true → kind t ≡ k_assign
-assign_kind (mid x inf.Assign y) h = refl
+assign_kind (infixed x inf.Assign y) h = refl
 assign_kind _ h = absurd cc
 
 pub not_assign : (v : Expr) → ((x : ExprAssignOf Expr) → v ≡ ex.Assign x → ⊥) → is_assign (unadorned (tree_of v)) ≡ false
@@ -237,7 +237,7 @@ pub not_await : (v : Expr) → ((x : ExprAwaitOf Expr) → v ≡ ex.Await x → 
 not_await = not_kind ex.Await is_await k_await await_kind (elim [ Expr-F.Await x ↦ inl (x, ex.rolls-Await x) | _ ↦ inr (λ h. cc) ])
 
 binary_kind : (t : Tree) → is_binary t ≡ true → kind t ≡ k_binary
-binary_kind (mid x (inf.Binary op) y) h = refl
+binary_kind (infixed x (inf.Binary op) y) h = refl
 binary_kind _ h = absurd cc
 
 pub not_binary : (v : Expr) → ((x : ExprBinaryOf Expr) → v ≡ ex.Binary x → ⊥) → is_binary (unadorned (tree_of v)) ≡ false
@@ -245,7 +245,7 @@ not_binary = not_kind ex.Binary is_binary k_binary binary_kind (elim [ Expr-F.Bi
 
 break_kind : (t : Tree) → is_break t ≡ true → kind t ≡ k_break
 break_kind (leaf (tr.bare_jump (tr.breaking w))) h = refl
-break_kind (lead (tr.jump (tr.breaking w)) gs x) h = refl
+break_kind (prefixed (tr.jump (tr.breaking w)) gs x) h = refl
 break_kind _ h = absurd cc
 
 pub not_break : (v : Expr) → ((x : ExprBreakOf Expr) → v ≡ ex.Break x → ⊥) → is_break (unadorned (tree_of v)) ≡ false
@@ -259,14 +259,14 @@ pub not_call : (v : Expr) → ((x : ExprCallOf Expr) → v ≡ ex.Call x → ⊥
 not_call = not_kind ex.Call is_call k_call call_kind (elim [ Expr-F.Call x ↦ inl (x, ex.rolls-Call x) | _ ↦ inr (λ h. cc) ])
 
 cast_kind : (t : Tree) → is_cast t ≡ true → kind t ≡ k_cast
-cast_kind (post x (tr.cast ty)) h = refl
+cast_kind (postfixed x (tr.cast ty)) h = refl
 cast_kind _ h = absurd cc
 
 pub not_cast : (v : Expr) → ((x : ExprCastOf Expr) → v ≡ ex.Cast x → ⊥) → is_cast (unadorned (tree_of v)) ≡ false
 not_cast = not_kind ex.Cast is_cast k_cast cast_kind (elim [ Expr-F.Cast x ↦ inl (x, ex.rolls-Cast x) | _ ↦ inr (λ h. cc) ])
 
 closure_kind : (t : Tree) → is_closure t ≡ true → kind t ≡ k_closure
-closure_kind (lead (tr.closure c) gs x) h = refl
+closure_kind (prefixed (tr.closure c) gs x) h = refl
 closure_kind (frame (tr.closure_block c) ks) h = refl
 closure_kind _ h = absurd cc
 
@@ -287,12 +287,12 @@ for_loop_kind _ h = absurd cc
 pub not_for_loop : (v : Expr) → ((x : ExprForLoop) → v ≡ ex.ForLoop x → ⊥) → is_for_loop (unadorned (tree_of v)) ≡ false
 not_for_loop = not_kind ex.ForLoop is_for_loop k_for_loop for_loop_kind (elim [ Expr-F.ForLoop x ↦ inl (x, ex.rolls-ForLoop x) | _ ↦ inr (λ h. cc) ])
 
-if_kind : (t : Tree) → is_branch t ≡ true → kind t ≡ k_if
-if_kind (frame tr.branch ks) h = refl
+if_kind : (t : Tree) → is_if_expr t ≡ true → kind t ≡ k_if
+if_kind (frame tr.if_expr ks) h = refl
 if_kind _ h = absurd cc
 
-pub not_if : (v : Expr) → ((x : ExprIfOf Expr) → v ≡ ex.If x → ⊥) → is_branch (unadorned (tree_of v)) ≡ false
-not_if = not_kind ex.If is_branch k_if if_kind (elim [ Expr-F.If x ↦ inl (x, ex.rolls-If x) | _ ↦ inr (λ h. cc) ])
+pub not_if : (v : Expr) → ((x : ExprIfOf Expr) → v ≡ ex.If x → ⊥) → is_if_expr (unadorned (tree_of v)) ≡ false
+not_if = not_kind ex.If is_if_expr k_if if_kind (elim [ Expr-F.If x ↦ inl (x, ex.rolls-If x) | _ ↦ inr (λ h. cc) ])
 
 index_kind : (t : Tree) → is_index t ≡ true → kind t ≡ k_index
 index_kind (tail b tr.index ks) h = refl
@@ -302,14 +302,14 @@ pub not_index : (v : Expr) → ((x : ExprIndexOf Expr) → v ≡ ex.Index x → 
 not_index = not_kind ex.Index is_index k_index index_kind (elim [ Expr-F.Index x ↦ inl (x, ex.rolls-Index x) | _ ↦ inr (λ h. cc) ])
 
 let_kind : (t : Tree) → is_let t ≡ true → kind t ≡ k_let
-let_kind (lead (tr.binding p) gs x) h = refl
+let_kind (prefixed (tr.let_expr p) gs x) h = refl
 let_kind _ h = absurd cc
 
 pub not_let : (v : Expr) → ((x : ExprLet) → v ≡ ex.Let x → ⊥) → is_let (unadorned (tree_of v)) ≡ false
 not_let = not_kind ex.Let is_let k_let let_kind (elim [ Expr-F.Let x ↦ inl (x, ex.rolls-Let x) | _ ↦ inr (λ h. cc) ])
 
 match_kind : (t : Tree) → is_match t ≡ true → kind t ≡ k_match
-match_kind (frame tr.choice ks) h = refl
+match_kind (frame tr.match_expr ks) h = refl
 match_kind _ h = absurd cc
 
 pub not_match : (v : Expr) → ((x : ExprMatch) → v ≡ ex.Match x → ⊥) → is_match (unadorned (tree_of v)) ≡ false
@@ -330,18 +330,18 @@ pub not_paren : (v : Expr) → ((x : ExprParenOf Expr) → v ≡ ex.Paren x → 
 not_paren = not_kind ex.Paren is_paren k_paren paren_kind (elim [ Expr-F.Expr::Paren x ↦ inl (x, ex.rolls-Paren x) | _ ↦ inr (λ h. cc) ])
 
 range_kind : (t : Tree) → is_range t ≡ true → kind t ≡ k_range
-range_kind (adorned a more x) h = range_kind x h
+range_kind (attributed a more x) h = range_kind x h
 range_kind (leaf (tr.full_range op)) h = refl
-range_kind (lead (tr.range_to op) gs x) h = refl
-range_kind (mid x (inf.Range op) y) h = refl
-range_kind (post x (tr.range_from op)) h = refl
+range_kind (prefixed (tr.range_to op) gs x) h = refl
+range_kind (infixed x (inf.Range op) y) h = refl
+range_kind (postfixed x (tr.range_from op)) h = refl
 range_kind _ h = absurd cc
 
 pub not_range : (v : Expr) → ((x : ExprRangeOf Expr) → v ≡ ex.Range x → ⊥) → is_range (unadorned (tree_of v)) ≡ false
 not_range = not_kind ex.Range is_range k_range range_kind (elim [ Expr-F.Expr::Range x ↦ inl (x, ex.rolls-Range x) | _ ↦ inr (λ h. cc) ])
 
 raw_addr_kind : (t : Tree) → is_raw_addr t ≡ true → kind t ≡ k_raw_addr
-raw_addr_kind (lead (tr.raw_addr m) gs x) h = refl
+raw_addr_kind (prefixed (tr.raw_addr m) gs x) h = refl
 raw_addr_kind _ h = absurd cc
 
 pub not_raw_addr : (v : Expr) → ((x : ExprRawAddrOf Expr) → v ≡ ex.RawAddr x → ⊥) → is_raw_addr (unadorned (tree_of v)) ≡ false
@@ -356,14 +356,14 @@ not_repeat = not_kind ex.Repeat is_repeat k_repeat repeat_kind (elim [ Expr-F.Re
 
 return_kind : (t : Tree) → is_return t ≡ true → kind t ≡ k_return
 return_kind (leaf (tr.bare_jump tr.returning)) h = refl
-return_kind (lead (tr.jump tr.returning) gs x) h = refl
+return_kind (prefixed (tr.jump tr.returning) gs x) h = refl
 return_kind _ h = absurd cc
 
 pub not_return : (v : Expr) → ((x : ExprReturnOf Expr) → v ≡ ex.Return x → ⊥) → is_return (unadorned (tree_of v)) ≡ false
 not_return = not_kind ex.Return is_return k_return return_kind (elim [ Expr-F.Return x ↦ inl (x, ex.rolls-Return x) | _ ↦ inr (λ h. cc) ])
 
 try_kind : (t : Tree) → is_try t ≡ true → kind t ≡ k_try
-try_kind (tail b tr.question ks) h = refl
+try_kind (tail b tr.try_expr ks) h = refl
 try_kind _ h = absurd cc
 
 pub not_try : (v : Expr) → ((x : ExprTryOf Expr) → v ≡ ex.Try x → ⊥) → is_try (unadorned (tree_of v)) ≡ false
@@ -377,7 +377,7 @@ pub not_tuple : (v : Expr) → ((x : ExprTupleOf Expr) → v ≡ ex.Tuple x → 
 not_tuple = not_kind ex.Tuple is_tuple k_tuple tuple_kind (elim [ Expr-F.Expr::Tuple x ↦ inl (x, ex.rolls-Tuple x) | _ ↦ inr (λ h. cc) ])
 
 unary_kind : (t : Tree) → is_unary t ≡ true → kind t ≡ k_unary
-unary_kind (lead (tr.unary op) gs x) h = refl
+unary_kind (prefixed (tr.unary op) gs x) h = refl
 unary_kind _ h = absurd cc
 
 pub not_unary : (v : Expr) → ((x : ExprUnaryOf Expr) → v ≡ ex.Unary x → ⊥) → is_unary (unadorned (tree_of v)) ≡ false
@@ -392,7 +392,7 @@ not_while = not_kind ex.While is_while k_while while_kind (elim [ Expr-F.While x
 
 yield_kind : (t : Tree) → is_yield t ≡ true → kind t ≡ k_yield
 yield_kind (leaf (tr.bare_jump tr.yielding)) h = refl
-yield_kind (lead (tr.jump tr.yielding) gs x) h = refl
+yield_kind (prefixed (tr.jump tr.yielding) gs x) h = refl
 yield_kind _ h = absurd cc
 
 pub not_yield : (v : Expr) → ((x : ExprYieldOf Expr) → v ≡ ex.Yield x → ⊥) → is_yield (unadorned (tree_of v)) ≡ false
@@ -400,18 +400,18 @@ not_yield = not_kind ex.Yield is_yield k_yield yield_kind (elim [ Expr-F.Yield x
 
 -- ---- and a value of it is
 
-of_kind : (is : Tree → Bool) (ats : List AttributeTree) (t : Tree) → is_adorned t ≡ false → is t ≡ true → is (unadorned (adorn ats t)) ≡ true
-of_kind is [] (adorned a more t) b h = absurd cc
+of_kind : (is : Tree → Bool) (ats : List AttributeTree) (t : Tree) → is_attributed t ≡ false → is t ≡ true → is (unadorned (attributed_with ats t)) ≡ true
+of_kind is [] (attributed a more t) b h = absurd cc
 of_kind is [] (leaf k) b h = h
 of_kind is [] (paren m x) b h = h
-of_kind is [] (lead k gs x) b h = h
-of_kind is [] (mid x op y) b h = h
-of_kind is [] (post x k) b h = h
+of_kind is [] (prefixed k gs x) b h = h
+of_kind is [] (infixed x op y) b h = h
+of_kind is [] (postfixed x k) b h = h
 of_kind is [] (tail x k ks) b h = h
 of_kind is [] (frame k ks) b h = h
 of_kind is (a ∷ more) t b h = h
 
-jump_bare : (j : Jump) (x : Option Tree) → is_adorned (jump_with j x) ≡ false
+jump_bare : (j : Jump) (x : Option Tree) → is_attributed (jump_with j x) ≡ false
 jump_bare j None = refl
 jump_bare j (Some x) = refl
 
@@ -427,7 +427,7 @@ yield_with : (x : Option Tree) → is_yield (jump_with tr.yielding x) ≡ true
 yield_with None = refl
 yield_with (Some x) = refl
 
-range_bare : (op : Limits) (x y : Option Tree) → is_adorned (range_between op x y) ≡ false
+range_bare : (op : Limits) (x y : Option Tree) → is_attributed (range_between op x y) ≡ false
 range_bare op None None = refl
 range_bare op None (Some y) = refl
 range_bare op (Some x) None = refl
@@ -439,7 +439,7 @@ range_with op None (Some y) = refl
 range_with op (Some x) None = refl
 range_with op (Some x) (Some y) = refl
 
-closure_bare : (r : ReturnTree) (h : ClosureHead) (gs : List Tree) (t : Tree) → is_adorned (closure_by r h gs t) ≡ false
+closure_bare : (r : ReturnTree) (h : ClosureHead) (gs : List Tree) (t : Tree) → is_attributed (closure_by r h gs t) ≡ false
 closure_bare default h gs t = refl
 closure_bare (given ty) h gs t = refl
 
@@ -477,17 +477,17 @@ field_is x = search (rules, of_kind is_field)
 for_loop_is : (x : ExprForLoop) → is_for_loop (unadorned (for_loop_of x)) ≡ true
 for_loop_is x = search (rules, of_kind is_for_loop, for_loop-is)
 
-if_is : (x : ExprIfOf Expr) → is_branch (unadorned (expr_if_of tree_of x)) ≡ true
-if_is x = search (rules, of_kind is_branch)
+if_is : (x : ExprIfOf Expr) → is_if_expr (unadorned (expr_if_of tree_of x)) ≡ true
+if_is x = search (rules, of_kind is_if_expr)
 
 index_is : (x : ExprIndexOf Expr) → is_index (unadorned (expr_index_of tree_of x)) ≡ true
 index_is x = search (rules, of_kind is_index)
 
-let_is : (x : ExprLet) → is_let (unadorned (binding_of x)) ≡ true
-let_is x = search (rules, of_kind is_let, binding-is)
+let_is : (x : ExprLet) → is_let (unadorned (let_of x)) ≡ true
+let_is x = search (rules, of_kind is_let, let_expr-is)
 
-match_is : (x : ExprMatch) → is_match (unadorned (choice_of x)) ≡ true
-match_is x = search (rules, of_kind is_match, choice-is)
+match_is : (x : ExprMatch) → is_match (unadorned (match_of x)) ≡ true
+match_is x = search (rules, of_kind is_match, match_expr-is)
 
 method_call_is : (x : ExprMethodCallOf Expr) → is_method_call (unadorned (expr_method_call_of tree_of x)) ≡ true
 method_call_is x = search (rules, of_kind is_method_call)
@@ -559,17 +559,17 @@ found_field = found ex.Field (expr_field_of tree_of) is_field tree-Field field_i
 pub found_for_loop : (v : Expr) (x : ExprForLoop) → v ≡ ex.ForLoop x → (for_loop_of x ≡ tree_of v) × (is_for_loop (unadorned (tree_of v)) ≡ true)
 found_for_loop = found ex.ForLoop for_loop_of is_for_loop tree-ForLoop for_loop_is
 
-pub found_if : (v : Expr) (x : ExprIfOf Expr) → v ≡ ex.If x → (expr_if_of tree_of x ≡ tree_of v) × (is_branch (unadorned (tree_of v)) ≡ true)
-found_if = found ex.If (expr_if_of tree_of) is_branch tree-If if_is
+pub found_if : (v : Expr) (x : ExprIfOf Expr) → v ≡ ex.If x → (expr_if_of tree_of x ≡ tree_of v) × (is_if_expr (unadorned (tree_of v)) ≡ true)
+found_if = found ex.If (expr_if_of tree_of) is_if_expr tree-If if_is
 
 pub found_index : (v : Expr) (x : ExprIndexOf Expr) → v ≡ ex.Index x → (expr_index_of tree_of x ≡ tree_of v) × (is_index (unadorned (tree_of v)) ≡ true)
 found_index = found ex.Index (expr_index_of tree_of) is_index tree-Index index_is
 
-pub found_let : (v : Expr) (x : ExprLet) → v ≡ ex.Let x → (binding_of x ≡ tree_of v) × (is_let (unadorned (tree_of v)) ≡ true)
-found_let = found ex.Let binding_of is_let tree-Let let_is
+pub found_let : (v : Expr) (x : ExprLet) → v ≡ ex.Let x → (let_of x ≡ tree_of v) × (is_let (unadorned (tree_of v)) ≡ true)
+found_let = found ex.Let let_of is_let tree-Let let_is
 
-pub found_match : (v : Expr) (x : ExprMatch) → v ≡ ex.Match x → (choice_of x ≡ tree_of v) × (is_match (unadorned (tree_of v)) ≡ true)
-found_match = found ex.Match choice_of is_match tree-Match match_is
+pub found_match : (v : Expr) (x : ExprMatch) → v ≡ ex.Match x → (match_of x ≡ tree_of v) × (is_match (unadorned (tree_of v)) ≡ true)
+found_match = found ex.Match match_of is_match tree-Match match_is
 
 pub found_method_call : (v : Expr) (x : ExprMethodCallOf Expr) → v ≡ ex.MethodCall x → (expr_method_call_of tree_of x ≡ tree_of v) × (is_method_call (unadorned (tree_of v)) ≡ true)
 found_method_call = found ex.MethodCall (expr_method_call_of tree_of) is_method_call tree-MethodCall method_call_is
@@ -608,22 +608,22 @@ found_yield = found ex.Yield (expr_yield_of tree_of) is_yield tree-Yield yield_i
 
 -- a group, behind attributes too
 abbrev is_group : Tree → Bool
-is_group (frame tr.invisible ks) = true
-is_group (adorned a more x) = is_group x
+is_group (frame tr.group_expr ks) = true
+is_group (attributed a more x) = is_group x
 is_group _ = false
 
 group_kind : (t : Tree) → is_group t ≡ true → kind t ≡ k_group
-group_kind (adorned a more x) h = group_kind x h
-group_kind (frame tr.invisible ks) h = refl
+group_kind (attributed a more x) h = group_kind x h
+group_kind (frame tr.group_expr ks) h = refl
 group_kind _ h = absurd cc
 
 bare_group : (t : Tree) → is_group (unadorned t) ≡ false → is_group t ≡ false
-bare_group (adorned a more x) h = h
+bare_group (attributed a more x) h = h
 bare_group (leaf k) h = refl
 bare_group (paren m x) h = refl
-bare_group (lead k gs x) h = refl
-bare_group (mid x op y) h = refl
-bare_group (post x k) h = refl
+bare_group (prefixed k gs x) h = refl
+bare_group (infixed x op y) h = refl
+bare_group (postfixed x k) h = refl
 bare_group (tail b k ks) h = refl
 bare_group (frame k ks) h = h
 
@@ -631,13 +631,13 @@ not_group : (v : Expr) → ((x : ExprGroupOf Expr) → v ≡ ex.Group x → ⊥)
 not_group v other = bare_group (tree_of v) (not_kind ex.Group is_group k_group group_kind (elim [ Expr-F.Group x ↦ inl (x, ex.rolls-Group x) | _ ↦ inr (λ h. cc) ]) v other)
 
 ungrouped_bare : (t : Tree) → is_group t ≡ false → ungrouped t ≡ t
-ungrouped_bare (frame tr.invisible (kid k c x ks)) h = absurd cc
-ungrouped_bare (adorned a more (frame tr.invisible (kid k c x ks))) h = absurd cc
+ungrouped_bare (frame tr.group_expr (child k c x ks)) h = absurd cc
+ungrouped_bare (attributed a more (frame tr.group_expr (child k c x ks))) h = absurd cc
 ungrouped_bare _ h = refl
 
 holds_bare : (t : Tree) → is_group t ≡ false → holds_block t ≡ is_block_like t
-holds_bare (frame tr.invisible (kid k c x ks)) h = absurd cc
-holds_bare (adorned a more x) h = holds_bare x h
+holds_bare (frame tr.group_expr (child k c x ks)) h = absurd cc
+holds_bare (attributed a more x) h = holds_bare x h
 holds_bare _ h = refl
 
 -- another is what it is in no group
@@ -648,7 +648,7 @@ pub holds_other : (v : Expr) → ((x : ExprGroupOf Expr) → v ≡ ex.Group x �
 holds_other v other = holds_bare (tree_of v) (not_group v other)
 
 -- attributes before a group go with it
-ungrouped_in : (ats : List AttributeTree) (t : Tree) → ungrouped (adorn ats (frame tr.invisible (kid tr.grouped tr.no_ending t none))) ≡ ungrouped t
+ungrouped_in : (ats : List AttributeTree) (t : Tree) → ungrouped (attributed_with ats (frame tr.group_expr (child tr.grouped tr.no_ending t none))) ≡ ungrouped t
 ungrouped_in [] t = refl
 ungrouped_in (a ∷ more) t = refl
 

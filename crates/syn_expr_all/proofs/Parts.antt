@@ -4,7 +4,7 @@ use Rattle.syn_tokens.specs.Tok.{Tok}
 use Rattle.syn_tokens.specs.Input.{IsTail}
 use Rattle.syn_tokens.specs.declared.error.ErrorKind.{ErrorKind}
 use Rattle.syn_tokens.specs.declared.error.ErrorKind.TheVariants.{OutOfMemory}
-use Rattle.syn_grammar.specs.Tree.{Kids}
+use Rattle.syn_grammar.specs.Tree.{Children}
 use Rattle.syn_grammar.specs.Slot as slot
 use Rattle.syn_grammar.specs.Stands.{Operands}
 use Rattle.syn_grammar.specs.Read.{expr, bare_operands}
@@ -34,14 +34,14 @@ pub ends_left : (l n : List Tok) → n ≡ [] → IsTail n l
 ends_left l [] e = record { front = l; is = sym (append-nil l) }
 ends_left l n e = absurd cc
 
-pub arms_stand : (l n : List Tok) (t : Kids) → bare_operands expr slot.arms l ≡ Some (t, n) → n ≡ [] → Operands slot.arms l t []
+pub arms_stand : (l n : List Tok) (t : Children) → bare_operands expr slot.arms l ≡ Some (t, n) → n ≡ [] → Operands slot.arms l t []
 arms_stand l [] t h e = arms_sound l t [] h
 arms_stand l n t h e = absurd cc
 
-pub arms_same : (l m : List Tok) (t u : Kids) → bare_operands expr slot.arms l ≡ Some (t, m) → Operands slot.arms l u [] → t ≡ u
+pub arms_same : (l m : List Tok) (t u : Children) → bare_operands expr slot.arms l ≡ Some (t, m) → Operands slot.arms l u [] → t ≡ u
 arms_same l m t u h s = let e = same_read h (arms_complete l u [] s) in e.0
 
-pub arms_refused : (l : List Tok) (u : Kids) (k : ErrorKind) → (k ≢ OutOfMemory → bare_operands expr slot.arms l ≡ None) → Operands slot.arms l u [] → k ≡ OutOfMemory
+pub arms_refused : (l : List Tok) (u : Children) (k : ErrorKind) → (k ≢ OutOfMemory → bare_operands expr slot.arms l ≡ None) → Operands slot.arms l u [] → k ≡ OutOfMemory
 arms_refused l u k h s = refused_by k h (arms_complete l u [] s)
 
 pub ruleset all_arms = (arms_stand, arms_same, arms_refused)

@@ -10,7 +10,7 @@ use Rattle.syn_lower_leaves.specs.View.{attribute_of}
 use Rattle.syn_lower_leaves.specs.declared.attr.Attribute.{Attribute}
 use Rattle.syn_grammar.specs.declared.kinds.Limits.{Limits}
 use Rattle.syn_grammar.specs.Tree as e
-use Rattle.syn_grammar.specs.Tree.{Tree, Kids, Jump, ClosureHead, frame, kid, none, adorn, attributes_in, body_of, but_last, from_inner, kids_inner, kids_with, outers, with_attributes}
+use Rattle.syn_grammar.specs.Tree.{Tree, Children, Jump, ClosureHead, frame, child, none, attributed_with, attributes_in, body_of, but_last, from_inner, children_inner, children_with, outers, with_attributes}
 use Rattle.syn_expr_kinds.specs.Attrs.{attrs_of, outer_of, inner_of}
 use Rattle.syn_parts.specs.Text.{Text}
 use Rattle.syn_parts.specs.Pat.{PatTree}
@@ -20,21 +20,21 @@ use Rattle.syn_expr_kinds.specs.View.{range_between, jump_with}
 use Rattle.syn_expr_all.specs.declared.expr.Expr.{Expr}
 use Rattle.syn_expr_all.specs.declared.expr.Expr.TheVariants as ex
 use Rattle.syn_expr_all.specs.declared.control.ExprMatch.{ExprMatch, out-ExprMatch, roll-ExprMatch, out-roll-ExprMatch}
-use Rattle.syn_expr_all.specs.View.{tree_of, arm_of, choice_layer, views}
-use Rattle.syn_expr_all.proofs.TreeOf.{tree-Match, choice-is}
+use Rattle.syn_expr_all.specs.View.{tree_of, arm_of, match_layer, views}
+use Rattle.syn_expr_all.proofs.TreeOf.{tree-Match, match_expr-is}
 
 -- ---- attributes before a tree
 
-with_adorned : (ats old : List AttributeTree) (t : Tree) → with_attributes ats (adorn old t) ≡ with_attributes ats t
-with_adorned ats [] t = refl
-with_adorned ats (a ∷ more) t = refl
+with_attributed : (ats old : List AttributeTree) (t : Tree) → with_attributes ats (attributed_with old t) ≡ with_attributes ats t
+with_attributed ats [] t = refl
+with_attributed ats (a ∷ more) t = refl
 
 no_last : (others : List AttributeTree) → but_last others [] ≡ []
 no_last others = take_all (0 - length others) [] (omega arith)
 
-in_adorned : (old : List AttributeTree) (t : Tree) → attributes_in (adorn old t) ≡ but_last (outers (attributes_in t)) old ++ attributes_in t
-in_adorned [] t = sym (ap (λ l. l ++ attributes_in t) (no_last (outers (attributes_in t))))
-in_adorned (a ∷ more) t = refl
+in_attributed : (old : List AttributeTree) (t : Tree) → attributes_in (attributed_with old t) ≡ but_last (outers (attributes_in t)) old ++ attributes_in t
+in_attributed [] t = sym (ap (λ l. l ++ attributes_in t) (no_last (outers (attributes_in t))))
+in_attributed (a ∷ more) t = refl
 
 none_last : (ats : List AttributeTree) → but_last [] ats ≡ ats
 none_last ats =
@@ -48,16 +48,16 @@ Replaced was new t u = (u ≡ with_attributes new t) × (was ≡ attributes_in t
 -- ---- a node that has all its attributes before it
 
 pub record IsPlain (t : Tree) : Type 0 where
-  pub put : (ats : List AttributeTree) → with_attributes ats t ≡ adorn ats t
+  pub put : (ats : List AttributeTree) → with_attributes ats t ≡ attributed_with ats t
   pub bare : attributes_in t ≡ []
 
-pub before : (was new : List AttributeTree) {x t u : Tree} → t ≡ adorn was x → u ≡ adorn new x → IsPlain x → Replaced was new t u
+pub before : (was new : List AttributeTree) {x t u : Tree} → t ≡ attributed_with was x → u ≡ attributed_with new x → IsPlain x → Replaced was new t u
 before was new {x = x} old now h = (
-  now ∙ sym (ap (with_attributes new) old ∙ with_adorned new was x ∙ h.put new),
-  sym (ap attributes_in old ∙ in_adorned was x ∙ ap (λ l. but_last (outers l) was ++ l) h.bare ∙ append-nil (but_last [] was) ∙ none_last was),
+  now ∙ sym (ap (with_attributes new) old ∙ with_attributed new was x ∙ h.put new),
+  sym (ap attributes_in old ∙ in_attributed was x ∙ ap (λ l. but_last (outers l) was ++ l) h.bare ∙ append-nil (but_last [] was) ∙ none_last was),
 )
 
-pub plain : {x : Tree} → ((ats : List AttributeTree) → with_attributes ats x ≡ adorn ats x) → attributes_in x ≡ [] → IsPlain x
+pub plain : {x : Tree} → ((ats : List AttributeTree) → with_attributes ats x ≡ attributed_with ats x) → attributes_in x ≡ [] → IsPlain x
 plain put bare = record { put = put; bare = bare }
 
 pub range_plain : (op : Limits) (x y : Option Tree) → IsPlain (range_between op x y)
@@ -77,35 +77,35 @@ closure_plain (given ty) h gs t = record { put = λ ats. refl; bare = refl }
 -- ---- a node with attributes first in its braces too
 
 pub record IsBraced (x : List AttributeTree → Tree) : Type 0 where
-  pub put : (ats old : List AttributeTree) → with_attributes ats (x old) ≡ adorn (outers ats) (x (from_inner ats))
+  pub put : (ats old : List AttributeTree) → with_attributes ats (x old) ≡ attributed_with (outers ats) (x (from_inner ats))
   pub inner : (old : List AttributeTree) → attributes_in (x old) ≡ old
 
 pub around : (x : List AttributeTree → Tree) (was new : Vec Attribute Global) {t u : Tree}
-    → t ≡ adorn (outer_of was) (x (inner_of was)) → u ≡ adorn (outer_of new) (x (inner_of new)) → IsBraced x → Replaced (attrs_of was) (attrs_of new) t u
+    → t ≡ attributed_with (outer_of was) (x (inner_of was)) → u ≡ attributed_with (outer_of new) (x (inner_of new)) → IsBraced x → Replaced (attrs_of was) (attrs_of new) t u
 unfolding attrs_of outer_of inner_of
 around x was new old now h =
     let all = map attribute_of was.items in let outer = outers all in let inner = from_inner all in (
-      now ∙ sym (ap (with_attributes (map attribute_of new.items)) old ∙ with_adorned (map attribute_of new.items) outer (x inner) ∙ h.put (map attribute_of new.items) inner),
-      sym (ap attributes_in old ∙ in_adorned outer (x inner) ∙ ap (λ l. but_last (outers l) outer ++ l) (h.inner inner) ∙ all_parts all),
+      now ∙ sym (ap (with_attributes (map attribute_of new.items)) old ∙ with_attributed (map attribute_of new.items) outer (x inner) ∙ h.put (map attribute_of new.items) inner),
+      sym (ap attributes_in old ∙ in_attributed outer (x inner) ∙ ap (λ l. but_last (outers l) outer ++ l) (h.inner inner) ∙ all_parts all),
     )
 
-pub braced : {x : List AttributeTree → Tree} → ((ats old : List AttributeTree) → with_attributes ats (x old) ≡ adorn (outers ats) (x (from_inner ats)))
+pub braced : {x : List AttributeTree → Tree} → ((ats old : List AttributeTree) → with_attributes ats (x old) ≡ attributed_with (outers ats) (x (from_inner ats)))
     → ((old : List AttributeTree) → attributes_in (x old) ≡ old) → IsBraced x
 braced put inner = record { put = put; inner = inner }
 
-stray_inner : (gs : List Tree) (ks : Kids) → kids_inner (strays gs ks) ≡ kids_inner ks
+stray_inner : (gs : List Tree) (ks : Children) → children_inner (strays gs ks) ≡ children_inner ks
 stray_inner [] ks = refl
 stray_inner (g ∷ gs) ks = stray_inner gs ks
 
-stray_with : (ats : List AttributeTree) (gs : List Tree) (ks : Kids) → kids_with ats (strays gs ks) ≡ strays gs (kids_with ats ks)
+stray_with : (ats : List AttributeTree) (gs : List Tree) (ks : Children) → children_with ats (strays gs ks) ≡ strays gs (children_with ats ks)
 stray_with ats [] ks = refl
-stray_with ats (g ∷ gs) ks = ap (kid e.stray e.no_ending g) (stray_with ats gs ks)
+stray_with ats (g ∷ gs) ks = ap (child e.stray e.no_ending g) (stray_with ats gs ks)
 
 pub for_loop_braced : (label : Option Text) (p : PatTree) (gs : List Tree) (ts : List Tok) (t : Tree)
-    → IsBraced (λ ats. frame (e.for_loop label p) (strays gs (kid e.loop_head (e.braced (body_of ats ts)) t none)))
+    → IsBraced (λ ats. frame (e.for_loop label p) (strays gs (child e.loop_head (e.braced (body_of ats ts)) t none)))
 for_loop_braced label p gs ts t = record {
-  put = λ ats old. ap (λ ks. adorn (outers ats) (frame (e.for_loop label p) ks)) (stray_with (from_inner ats) gs (kid e.loop_head (e.braced (body_of old ts)) t none));
-  inner = λ old. stray_inner gs (kid e.loop_head (e.braced (body_of old ts)) t none);
+  put = λ ats old. ap (λ ks. attributed_with (outers ats) (frame (e.for_loop label p) ks)) (stray_with (from_inner ats) gs (child e.loop_head (e.braced (body_of old ts)) t none));
+  inner = λ old. stray_inner gs (child e.loop_head (e.braced (body_of old ts)) t none);
 }
 
 -- What code makes of a `match` is taken apart by a path alone.
@@ -113,8 +113,8 @@ pub match_replaced : (x : ExprMatch) (new : Vec Attribute Global)
     → Replaced (attrs_of (out-ExprMatch x).attrs) (attrs_of new) (tree_of (ex.Match x)) (tree_of (ex.Match (roll-ExprMatch (record (out-ExprMatch x) { attrs = new }))))
 match_replaced x new =
     let m = out-ExprMatch x in
-    around (λ ats. frame e.choice (kid e.scrutinee (e.opened ats) (tree_of m.expr.value) (arms (map arm_of m.arms.items)))) m.attrs new
-    (tree-Match x ∙ choice-is x) (tree-Match _ ∙ choice-is _ ∙ ap (choice_layer views) (out-roll-ExprMatch _)) (braced (λ ats old. refl) (λ old. refl))
+    around (λ ats. frame e.match_expr (child e.scrutinee (e.opened ats) (tree_of m.expr.value) (arms (map arm_of m.arms.items)))) m.attrs new
+    (tree-Match x ∙ match_expr-is x) (tree-Match _ ∙ match_expr-is _ ∙ ap (match_layer views) (out-roll-ExprMatch _)) (braced (λ ats old. refl) (λ old. refl))
 
 -- ---- what the code gives
 

@@ -4,10 +4,10 @@ use Rattle.syn_tokens.specs.Tok.{Tok}
 use Rattle.syn_parts.specs.Tree.{ReturnTree, default, given}
 use Rattle.syn_grammar.specs.declared.kinds.Limits.{Limits}
 use Rattle.syn_grammar.specs.Tree.{Tree, Jump, ClosureHead}
-use Rattle.syn_expr_kinds.specs.Node.{leaf_at, is_paren, lead_at, operator_at, post_at, trailer_at, frame_at}
+use Rattle.syn_expr_kinds.specs.Node.{leaf_at, is_paren, prefix_at, operator_at, postfix_at, trailer_at, frame_at}
 use Rattle.syn_expr_kinds.specs.Pats.{closure_by}
 use Rattle.syn_expr_kinds.specs.View.{range_between, jump_with}
-use Rattle.syn_expr_kinds.proofs.Shapes.{leaf-adorn, paren-adorn, lead-adorn, operator-adorn, post-adorn, trailer-adorn, frame-adorn}
+use Rattle.syn_expr_kinds.proofs.Shapes.{leaf-attributed_with, paren-attributed_with, prefixed-attributed_with, operator-attributed_with, postfixed-attributed_with, trailer-attributed_with, frame-attributed_with}
 use Rattle.syn_expr_kinds.specs.declared.atom.ExprArrayOf.{ExprArrayOf}
 use Rattle.syn_expr_kinds.specs.declared.operation.ExprAssignOf.{ExprAssignOf}
 use Rattle.syn_expr_kinds.specs.declared.block.ExprAsync.{ExprAsync}
@@ -51,7 +51,7 @@ use Rattle.syn_expr_all.specs.declared.control.ExprForLoop.{ExprForLoop}
 use Rattle.syn_expr_all.specs.declared.control.ExprLet.{ExprLet}
 use Rattle.syn_expr_all.specs.declared.control.ExprMatch.{ExprMatch}
 use Rattle.syn_expr_all.specs.View.{tree_layer, tree_of, views}
-use Rattle.syn_expr_all.proofs.TreeOf.{tree_out, closure-is, for_loop-is, binding-is, choice-is}
+use Rattle.syn_expr_all.proofs.TreeOf.{tree_out, closure-is, for_loop-is, let_expr-is, match_expr-is}
 
 -- ---- kinds whose shape depends on what they hold
 
@@ -81,13 +81,13 @@ jump_no_operator : (j : Jump) (x : Option Tree) → operator_at (jump_with j x) 
 jump_no_operator j None = refl
 jump_no_operator j (Some x) = refl
 
-closure_no_post : (r : ReturnTree) (h : ClosureHead) (gs : List Tree) (t : Tree) → post_at (closure_by r h gs t) ≡ None
-closure_no_post default h gs t = refl
-closure_no_post (given ty) h gs t = refl
+closure_no_postfix : (r : ReturnTree) (h : ClosureHead) (gs : List Tree) (t : Tree) → postfix_at (closure_by r h gs t) ≡ None
+closure_no_postfix default h gs t = refl
+closure_no_postfix (given ty) h gs t = refl
 
-jump_no_post : (j : Jump) (x : Option Tree) → post_at (jump_with j x) ≡ None
-jump_no_post j None = refl
-jump_no_post j (Some x) = refl
+jump_no_postfix : (j : Jump) (x : Option Tree) → postfix_at (jump_with j x) ≡ None
+jump_no_postfix j None = refl
+jump_no_postfix j (Some x) = refl
 
 closure_no_trailer : (r : ReturnTree) (h : ClosureHead) (gs : List Tree) (t : Tree) → trailer_at (closure_by r h gs t) ≡ None
 closure_no_trailer default h gs t = refl
@@ -151,11 +151,11 @@ no-leaf x not_async not_block not_break not_const not_continue not_infer not_lit
       | Expr-F.Unsafe y ↦ λ r. absurd (not_unsafe y (sym r ∙ ex.rolls-Unsafe y))
       | Expr-F.Verbatim y ↦ λ r. absurd (not_verbatim y (sym r ∙ ex.rolls-Verbatim y))
       | Expr-F.Yield y ↦ λ r. absurd (not_yield y (sym r ∙ ex.rolls-Yield y))
-      | Expr-F.Closure y ↦ λ r. ap leaf_at (closure-is y) ∙ search (rules, leaf-adorn, closure_no_leaf)
-      | Expr-F.ForLoop y ↦ λ r. ap leaf_at (for_loop-is y) ∙ search (rules, leaf-adorn)
-      | Expr-F.Let y ↦ λ r. ap leaf_at (binding-is y) ∙ search (rules, leaf-adorn)
-      | Expr-F.Match y ↦ λ r. ap leaf_at (choice-is y) ∙ search (rules, leaf-adorn)
-      | _ ↦ λ r. search (rules, leaf-adorn)
+      | Expr-F.Closure y ↦ λ r. ap leaf_at (closure-is y) ∙ search (rules, leaf-attributed_with, closure_no_leaf)
+      | Expr-F.ForLoop y ↦ λ r. ap leaf_at (for_loop-is y) ∙ search (rules, leaf-attributed_with)
+      | Expr-F.Let y ↦ λ r. ap leaf_at (let_expr-is y) ∙ search (rules, leaf-attributed_with)
+      | Expr-F.Match y ↦ λ r. ap leaf_at (match_expr-is y) ∙ search (rules, leaf-attributed_with)
+      | _ ↦ λ r. search (rules, leaf-attributed_with)
     ] (roll-out-Expr x)
 
 pub no-paren : (x : Expr)
@@ -164,19 +164,19 @@ pub no-paren : (x : Expr)
 no-paren x not_paren =
     ap is_paren (tree_out x) ∙ elim (out-Expr x) as (λ l. roll-Expr l ≡ x → is_paren (tree_layer views l) ≡ false) [
       | Expr-F.Expr::Paren y ↦ λ r. absurd (not_paren y (sym r ∙ ex.rolls-Paren y))
-      | Expr-F.Closure y ↦ λ r. ap is_paren (closure-is y) ∙ search (rules, paren-adorn, closure_no_paren)
-      | Expr-F.ForLoop y ↦ λ r. ap is_paren (for_loop-is y) ∙ search (rules, paren-adorn)
-      | Expr-F.Let y ↦ λ r. ap is_paren (binding-is y) ∙ search (rules, paren-adorn)
-      | Expr-F.Match y ↦ λ r. ap is_paren (choice-is y) ∙ search (rules, paren-adorn)
-      | Expr-F.Expr::Range y ↦ λ r. search (rules, paren-adorn, range_no_paren)
-      | Expr-F.Break y ↦ λ r. search (rules, paren-adorn, jump_no_paren)
-      | Expr-F.Return y ↦ λ r. search (rules, paren-adorn, jump_no_paren)
-      | Expr-F.Yield y ↦ λ r. search (rules, paren-adorn, jump_no_paren)
+      | Expr-F.Closure y ↦ λ r. ap is_paren (closure-is y) ∙ search (rules, paren-attributed_with, closure_no_paren)
+      | Expr-F.ForLoop y ↦ λ r. ap is_paren (for_loop-is y) ∙ search (rules, paren-attributed_with)
+      | Expr-F.Let y ↦ λ r. ap is_paren (let_expr-is y) ∙ search (rules, paren-attributed_with)
+      | Expr-F.Match y ↦ λ r. ap is_paren (match_expr-is y) ∙ search (rules, paren-attributed_with)
+      | Expr-F.Expr::Range y ↦ λ r. search (rules, paren-attributed_with, range_no_paren)
+      | Expr-F.Break y ↦ λ r. search (rules, paren-attributed_with, jump_no_paren)
+      | Expr-F.Return y ↦ λ r. search (rules, paren-attributed_with, jump_no_paren)
+      | Expr-F.Yield y ↦ λ r. search (rules, paren-attributed_with, jump_no_paren)
       | Expr-F.Verbatim y ↦ λ r. refl
-      | _ ↦ λ r. search (rules, paren-adorn)
+      | _ ↦ λ r. search (rules, paren-attributed_with)
     ] (roll-out-Expr x)
 
-pub no-lead : (x : Expr)
+pub no-prefixed : (x : Expr)
     → ((y : ExprBreakOf Expr) → x ≡ ex.Break y → ⊥)
     → ((y : ExprClosure) → x ≡ ex.Closure y → ⊥)
     → ((y : ExprLet) → x ≡ ex.Let y → ⊥)
@@ -186,9 +186,9 @@ pub no-lead : (x : Expr)
     → ((y : ExprReturnOf Expr) → x ≡ ex.Return y → ⊥)
     → ((y : ExprUnaryOf Expr) → x ≡ ex.Unary y → ⊥)
     → ((y : ExprYieldOf Expr) → x ≡ ex.Yield y → ⊥)
-    → lead_at (tree_of x) ≡ None
-no-lead x not_break not_closure not_let not_range not_raw_addr not_reference not_return not_unary not_yield =
-    ap lead_at (tree_out x) ∙ elim (out-Expr x) as (λ l. roll-Expr l ≡ x → lead_at (tree_layer views l) ≡ None) [
+    → prefix_at (tree_of x) ≡ None
+no-prefixed x not_break not_closure not_let not_range not_raw_addr not_reference not_return not_unary not_yield =
+    ap prefix_at (tree_out x) ∙ elim (out-Expr x) as (λ l. roll-Expr l ≡ x → prefix_at (tree_layer views l) ≡ None) [
       | Expr-F.Break y ↦ λ r. absurd (not_break y (sym r ∙ ex.rolls-Break y))
       | Expr-F.Closure y ↦ λ r. absurd (not_closure y (sym r ∙ ex.rolls-Closure y))
       | Expr-F.Let y ↦ λ r. absurd (not_let y (sym r ∙ ex.rolls-Let y))
@@ -198,10 +198,10 @@ no-lead x not_break not_closure not_let not_range not_raw_addr not_reference not
       | Expr-F.Return y ↦ λ r. absurd (not_return y (sym r ∙ ex.rolls-Return y))
       | Expr-F.Unary y ↦ λ r. absurd (not_unary y (sym r ∙ ex.rolls-Unary y))
       | Expr-F.Yield y ↦ λ r. absurd (not_yield y (sym r ∙ ex.rolls-Yield y))
-      | Expr-F.ForLoop y ↦ λ r. ap lead_at (for_loop-is y) ∙ search (rules, lead-adorn)
-      | Expr-F.Match y ↦ λ r. ap lead_at (choice-is y) ∙ search (rules, lead-adorn)
+      | Expr-F.ForLoop y ↦ λ r. ap prefix_at (for_loop-is y) ∙ search (rules, prefixed-attributed_with)
+      | Expr-F.Match y ↦ λ r. ap prefix_at (match_expr-is y) ∙ search (rules, prefixed-attributed_with)
       | Expr-F.Verbatim y ↦ λ r. refl
-      | _ ↦ λ r. search (rules, lead-adorn)
+      | _ ↦ λ r. search (rules, prefixed-attributed_with)
     ] (roll-out-Expr x)
 
 pub no-operator : (x : Expr)
@@ -214,34 +214,34 @@ no-operator x not_assign not_binary not_range =
       | Expr-F.Assign y ↦ λ r. absurd (not_assign y (sym r ∙ ex.rolls-Assign y))
       | Expr-F.Binary y ↦ λ r. absurd (not_binary y (sym r ∙ ex.rolls-Binary y))
       | Expr-F.Expr::Range y ↦ λ r. absurd (not_range y (sym r ∙ ex.rolls-Range y))
-      | Expr-F.Closure y ↦ λ r. ap operator_at (closure-is y) ∙ search (rules, operator-adorn, closure_no_operator)
-      | Expr-F.ForLoop y ↦ λ r. ap operator_at (for_loop-is y) ∙ search (rules, operator-adorn)
-      | Expr-F.Let y ↦ λ r. ap operator_at (binding-is y) ∙ search (rules, operator-adorn)
-      | Expr-F.Match y ↦ λ r. ap operator_at (choice-is y) ∙ search (rules, operator-adorn)
-      | Expr-F.Break y ↦ λ r. search (rules, operator-adorn, jump_no_operator)
-      | Expr-F.Return y ↦ λ r. search (rules, operator-adorn, jump_no_operator)
-      | Expr-F.Yield y ↦ λ r. search (rules, operator-adorn, jump_no_operator)
+      | Expr-F.Closure y ↦ λ r. ap operator_at (closure-is y) ∙ search (rules, operator-attributed_with, closure_no_operator)
+      | Expr-F.ForLoop y ↦ λ r. ap operator_at (for_loop-is y) ∙ search (rules, operator-attributed_with)
+      | Expr-F.Let y ↦ λ r. ap operator_at (let_expr-is y) ∙ search (rules, operator-attributed_with)
+      | Expr-F.Match y ↦ λ r. ap operator_at (match_expr-is y) ∙ search (rules, operator-attributed_with)
+      | Expr-F.Break y ↦ λ r. search (rules, operator-attributed_with, jump_no_operator)
+      | Expr-F.Return y ↦ λ r. search (rules, operator-attributed_with, jump_no_operator)
+      | Expr-F.Yield y ↦ λ r. search (rules, operator-attributed_with, jump_no_operator)
       | Expr-F.Verbatim y ↦ λ r. refl
-      | _ ↦ λ r. search (rules, operator-adorn)
+      | _ ↦ λ r. search (rules, operator-attributed_with)
     ] (roll-out-Expr x)
 
-pub no-post : (x : Expr)
+pub no-postfixed : (x : Expr)
     → ((y : ExprCastOf Expr) → x ≡ ex.Cast y → ⊥)
     → ((y : ExprRangeOf Expr) → x ≡ ex.Range y → ⊥)
-    → post_at (tree_of x) ≡ None
-no-post x not_cast not_range =
-    ap post_at (tree_out x) ∙ elim (out-Expr x) as (λ l. roll-Expr l ≡ x → post_at (tree_layer views l) ≡ None) [
+    → postfix_at (tree_of x) ≡ None
+no-postfixed x not_cast not_range =
+    ap postfix_at (tree_out x) ∙ elim (out-Expr x) as (λ l. roll-Expr l ≡ x → postfix_at (tree_layer views l) ≡ None) [
       | Expr-F.Cast y ↦ λ r. absurd (not_cast y (sym r ∙ ex.rolls-Cast y))
       | Expr-F.Expr::Range y ↦ λ r. absurd (not_range y (sym r ∙ ex.rolls-Range y))
-      | Expr-F.Closure y ↦ λ r. ap post_at (closure-is y) ∙ search (rules, post-adorn, closure_no_post)
-      | Expr-F.ForLoop y ↦ λ r. ap post_at (for_loop-is y) ∙ search (rules, post-adorn)
-      | Expr-F.Let y ↦ λ r. ap post_at (binding-is y) ∙ search (rules, post-adorn)
-      | Expr-F.Match y ↦ λ r. ap post_at (choice-is y) ∙ search (rules, post-adorn)
-      | Expr-F.Break y ↦ λ r. search (rules, post-adorn, jump_no_post)
-      | Expr-F.Return y ↦ λ r. search (rules, post-adorn, jump_no_post)
-      | Expr-F.Yield y ↦ λ r. search (rules, post-adorn, jump_no_post)
+      | Expr-F.Closure y ↦ λ r. ap postfix_at (closure-is y) ∙ search (rules, postfixed-attributed_with, closure_no_postfix)
+      | Expr-F.ForLoop y ↦ λ r. ap postfix_at (for_loop-is y) ∙ search (rules, postfixed-attributed_with)
+      | Expr-F.Let y ↦ λ r. ap postfix_at (let_expr-is y) ∙ search (rules, postfixed-attributed_with)
+      | Expr-F.Match y ↦ λ r. ap postfix_at (match_expr-is y) ∙ search (rules, postfixed-attributed_with)
+      | Expr-F.Break y ↦ λ r. search (rules, postfixed-attributed_with, jump_no_postfix)
+      | Expr-F.Return y ↦ λ r. search (rules, postfixed-attributed_with, jump_no_postfix)
+      | Expr-F.Yield y ↦ λ r. search (rules, postfixed-attributed_with, jump_no_postfix)
       | Expr-F.Verbatim y ↦ λ r. refl
-      | _ ↦ λ r. search (rules, post-adorn)
+      | _ ↦ λ r. search (rules, postfixed-attributed_with)
     ] (roll-out-Expr x)
 
 pub no-trailer : (x : Expr)
@@ -260,16 +260,16 @@ no-trailer x not_await not_call not_field not_index not_method_call not_try =
       | Expr-F.Index y ↦ λ r. absurd (not_index y (sym r ∙ ex.rolls-Index y))
       | Expr-F.MethodCall y ↦ λ r. absurd (not_method_call y (sym r ∙ ex.rolls-MethodCall y))
       | Expr-F.Try y ↦ λ r. absurd (not_try y (sym r ∙ ex.rolls-Try y))
-      | Expr-F.Closure y ↦ λ r. ap trailer_at (closure-is y) ∙ search (rules, trailer-adorn, closure_no_trailer)
-      | Expr-F.ForLoop y ↦ λ r. ap trailer_at (for_loop-is y) ∙ search (rules, trailer-adorn)
-      | Expr-F.Let y ↦ λ r. ap trailer_at (binding-is y) ∙ search (rules, trailer-adorn)
-      | Expr-F.Match y ↦ λ r. ap trailer_at (choice-is y) ∙ search (rules, trailer-adorn)
-      | Expr-F.Expr::Range y ↦ λ r. search (rules, trailer-adorn, range_no_trailer)
-      | Expr-F.Break y ↦ λ r. search (rules, trailer-adorn, jump_no_trailer)
-      | Expr-F.Return y ↦ λ r. search (rules, trailer-adorn, jump_no_trailer)
-      | Expr-F.Yield y ↦ λ r. search (rules, trailer-adorn, jump_no_trailer)
+      | Expr-F.Closure y ↦ λ r. ap trailer_at (closure-is y) ∙ search (rules, trailer-attributed_with, closure_no_trailer)
+      | Expr-F.ForLoop y ↦ λ r. ap trailer_at (for_loop-is y) ∙ search (rules, trailer-attributed_with)
+      | Expr-F.Let y ↦ λ r. ap trailer_at (let_expr-is y) ∙ search (rules, trailer-attributed_with)
+      | Expr-F.Match y ↦ λ r. ap trailer_at (match_expr-is y) ∙ search (rules, trailer-attributed_with)
+      | Expr-F.Expr::Range y ↦ λ r. search (rules, trailer-attributed_with, range_no_trailer)
+      | Expr-F.Break y ↦ λ r. search (rules, trailer-attributed_with, jump_no_trailer)
+      | Expr-F.Return y ↦ λ r. search (rules, trailer-attributed_with, jump_no_trailer)
+      | Expr-F.Yield y ↦ λ r. search (rules, trailer-attributed_with, jump_no_trailer)
       | Expr-F.Verbatim y ↦ λ r. refl
-      | _ ↦ λ r. search (rules, trailer-adorn)
+      | _ ↦ λ r. search (rules, trailer-attributed_with)
     ] (roll-out-Expr x)
 
 pub no-frame : (x : Expr)
@@ -296,13 +296,13 @@ no-frame x not_array not_closure not_for_loop not_group not_if not_match not_rep
       | Expr-F.Expr::Struct y ↦ λ r. absurd (not_struct y (sym r ∙ ex.rolls-Struct y))
       | Expr-F.Expr::Tuple y ↦ λ r. absurd (not_tuple y (sym r ∙ ex.rolls-Tuple y))
       | Expr-F.While y ↦ λ r. absurd (not_while y (sym r ∙ ex.rolls-While y))
-      | Expr-F.Let y ↦ λ r. ap frame_at (binding-is y) ∙ search (rules, frame-adorn)
-      | Expr-F.Expr::Range y ↦ λ r. search (rules, frame-adorn, range_no_frame)
-      | Expr-F.Break y ↦ λ r. search (rules, frame-adorn, jump_no_frame)
-      | Expr-F.Return y ↦ λ r. search (rules, frame-adorn, jump_no_frame)
-      | Expr-F.Yield y ↦ λ r. search (rules, frame-adorn, jump_no_frame)
+      | Expr-F.Let y ↦ λ r. ap frame_at (let_expr-is y) ∙ search (rules, frame-attributed_with)
+      | Expr-F.Expr::Range y ↦ λ r. search (rules, frame-attributed_with, range_no_frame)
+      | Expr-F.Break y ↦ λ r. search (rules, frame-attributed_with, jump_no_frame)
+      | Expr-F.Return y ↦ λ r. search (rules, frame-attributed_with, jump_no_frame)
+      | Expr-F.Yield y ↦ λ r. search (rules, frame-attributed_with, jump_no_frame)
       | Expr-F.Verbatim y ↦ λ r. refl
-      | _ ↦ λ r. search (rules, frame-adorn)
+      | _ ↦ λ r. search (rules, frame-attributed_with)
     ] (roll-out-Expr x)
 
-pub ruleset rest = (no-leaf, no-paren, no-lead, no-operator, no-post, no-trailer, no-frame)
+pub ruleset rest = (no-leaf, no-paren, no-prefixed, no-operator, no-postfixed, no-trailer, no-frame)

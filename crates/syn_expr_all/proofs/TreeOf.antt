@@ -78,9 +78,9 @@ use Rattle.std.specs.Prelude.{is_some}
 use Rattle.std.specs.declared.boxed.Box.{Box}
 use Rattle.std.specs.declared.alloc.Global.{Global}
 use Rattle.syn_expr_all.specs.declared.expr.Expr.TheShapes as shapes
-use Rattle.syn_expr_all.specs.View.{values, trails, ArmView, PatView, arm_layer, arm_of, arm_step, binding_layer, binding_of, binding_step, choice_layer, choice_of, choice_step, closure_layer, closure_of, closure_step, expr_array_of, expr_assign_of, expr_async_of, expr_await_of, expr_binary_of, expr_block_of, expr_break_of, expr_call_of, expr_cast_of, expr_const_of, expr_continue_of, expr_field_of, expr_group_of, expr_if_of, expr_index_of, expr_infer_of, expr_lit_of, expr_loop_of, expr_macro_of, expr_method_call_of, expr_paren_of, expr_path_of, expr_range_of, expr_raw_addr_of, expr_reference_of, expr_repeat_of, expr_return_of, expr_struct_of, expr_try_block_of, expr_try_of, expr_tuple_of, expr_unary_of, expr_unsafe_of, expr_while_of, expr_yield_of, for_loop_layer, for_loop_of, for_loop_step, guard_layer, guard_of, guard_step, pat_const_of, pat_ident_of, pat_layer, pat_lit_of, pat_macro_of, pat_of, pat_or_of, pat_paren_of, pat_path_of, pat_range_of, pat_reference_of, pat_rest_of, pat_slice_of, pat_step, pat_struct_of, pat_tuple_of, pat_tuple_struct_of, pat_type_of, pat_wild_of, tree_layer, tree_of, tree_step, views}
+use Rattle.syn_expr_all.specs.View.{values, trails, ArmView, PatView, arm_layer, arm_of, arm_step, let_layer, let_of, let_step, match_layer, match_of, match_step, closure_layer, closure_of, closure_step, expr_array_of, expr_assign_of, expr_async_of, expr_await_of, expr_binary_of, expr_block_of, expr_break_of, expr_call_of, expr_cast_of, expr_const_of, expr_continue_of, expr_field_of, expr_group_of, expr_if_of, expr_index_of, expr_infer_of, expr_lit_of, expr_loop_of, expr_macro_of, expr_method_call_of, expr_paren_of, expr_path_of, expr_range_of, expr_raw_addr_of, expr_reference_of, expr_repeat_of, expr_return_of, expr_struct_of, expr_try_block_of, expr_try_of, expr_tuple_of, expr_unary_of, expr_unsafe_of, expr_while_of, expr_yield_of, for_loop_layer, for_loop_of, for_loop_step, guard_layer, guard_of, guard_step, pat_const_of, pat_ident_of, pat_layer, pat_lit_of, pat_macro_of, pat_of, pat_or_of, pat_paren_of, pat_path_of, pat_range_of, pat_reference_of, pat_rest_of, pat_slice_of, pat_step, pat_struct_of, pat_tuple_of, pat_tuple_struct_of, pat_type_of, pat_wild_of, tree_layer, tree_of, tree_step, views}
 
-tree_map : (l : Expr-F Expr Pat ExprClosure Arm ExprForLoop ExprLet ExprMatch PatGuard) → tree_step (map-Expr Expr Pat ExprClosure Arm ExprForLoop ExprLet ExprMatch PatGuard Tree PatView Tree ArmView Tree Tree Tree PatView tree_of pat_of closure_of arm_of for_loop_of binding_of choice_of guard_of l) ≡ tree_layer views l
+tree_map : (l : Expr-F Expr Pat ExprClosure Arm ExprForLoop ExprLet ExprMatch PatGuard) → tree_step (map-Expr Expr Pat ExprClosure Arm ExprForLoop ExprLet ExprMatch PatGuard Tree PatView Tree ArmView Tree Tree Tree PatView tree_of pat_of closure_of arm_of for_loop_of let_of match_of guard_of l) ≡ tree_layer views l
 unfolding values trails
 tree_map (Expr-F.Array x) = search (rules, map-map, map-append)
 tree_map (Expr-F.Assign x) = refl
@@ -124,8 +124,8 @@ tree_map (Expr-F.Yield x) = search (rules, map-map, map-append)
 tree_map (Expr-F.Verbatim x) = refl
 
 pub tree_out : (x : Expr) → tree_of x ≡ tree_layer views (out-Expr x)
-unfolding tree_of pat_of closure_of arm_of for_loop_of binding_of choice_of guard_of
-tree_out x = fold_out-Expr Tree PatView Tree ArmView Tree Tree Tree PatView tree_step pat_step closure_step arm_step for_loop_step binding_step choice_step guard_step x ∙ tree_map (out-Expr x)
+unfolding tree_of pat_of closure_of arm_of for_loop_of let_of match_of guard_of
+tree_out x = fold_out-Expr Tree PatView Tree ArmView Tree Tree Tree PatView tree_step pat_step closure_step arm_step for_loop_step let_step match_step guard_step x ∙ tree_map (out-Expr x)
 
 -- ---- the fields of a struct pattern
 --
@@ -180,7 +180,7 @@ fields_same f g h k m show sees_values sees_guards xs o o' s =
     let s0 = s.0 in let s1 = s.1 in let s2 = s.2 in
     cc
 
-pat_map : (l : Pat-F Expr Pat ExprClosure Arm ExprForLoop ExprLet ExprMatch PatGuard) → pat_step (map-Pat Expr Pat ExprClosure Arm ExprForLoop ExprLet ExprMatch PatGuard Tree PatView Tree ArmView Tree Tree Tree PatView tree_of pat_of closure_of arm_of for_loop_of binding_of choice_of guard_of l) ≡ pat_layer views l
+pat_map : (l : Pat-F Expr Pat ExprClosure Arm ExprForLoop ExprLet ExprMatch PatGuard) → pat_step (map-Pat Expr Pat ExprClosure Arm ExprForLoop ExprLet ExprMatch PatGuard Tree PatView Tree ArmView Tree Tree Tree PatView tree_of pat_of closure_of arm_of for_loop_of let_of match_of guard_of l) ≡ pat_layer views l
 unfolding values trails
 pat_map (Pat-F.Pat::Const x) = refl
 pat_map (Pat-F.Ident x) = search (rules, map-map, map-append, flat_map-map, flat_map-append)
@@ -205,56 +205,56 @@ pat_map (Pat-F.Wild x) = refl
 pat_map (Pat-F.Guard x) = refl
 
 pub pat_out : (x : Pat) → pat_of x ≡ pat_layer views (out-Pat x)
-unfolding tree_of pat_of closure_of arm_of for_loop_of binding_of choice_of guard_of
-pat_out x = fold_out-Pat Tree PatView Tree ArmView Tree Tree Tree PatView tree_step pat_step closure_step arm_step for_loop_step binding_step choice_step guard_step x ∙ pat_map (out-Pat x)
+unfolding tree_of pat_of closure_of arm_of for_loop_of let_of match_of guard_of
+pat_out x = fold_out-Pat Tree PatView Tree ArmView Tree Tree Tree PatView tree_step pat_step closure_step arm_step for_loop_step let_step match_step guard_step x ∙ pat_map (out-Pat x)
 
-closure_map : (l : ExprClosure-F Expr Pat ExprClosure Arm ExprForLoop ExprLet ExprMatch PatGuard) → closure_step (map-ExprClosure Expr Pat ExprClosure Arm ExprForLoop ExprLet ExprMatch PatGuard Tree PatView Tree ArmView Tree Tree Tree PatView tree_of pat_of closure_of arm_of for_loop_of binding_of choice_of guard_of l) ≡ closure_layer views l
+closure_map : (l : ExprClosure-F Expr Pat ExprClosure Arm ExprForLoop ExprLet ExprMatch PatGuard) → closure_step (map-ExprClosure Expr Pat ExprClosure Arm ExprForLoop ExprLet ExprMatch PatGuard Tree PatView Tree ArmView Tree Tree Tree PatView tree_of pat_of closure_of arm_of for_loop_of let_of match_of guard_of l) ≡ closure_layer views l
 unfolding values trails
 closure_map x = search (rules, map-map, map-append, flat_map-map, flat_map-append)
 
 pub closure-is : (x : ExprClosure) → closure_of x ≡ closure_layer views (out-ExprClosure x)
-unfolding tree_of pat_of closure_of arm_of for_loop_of binding_of choice_of guard_of
-closure-is x = fold_out-ExprClosure Tree PatView Tree ArmView Tree Tree Tree PatView tree_step pat_step closure_step arm_step for_loop_step binding_step choice_step guard_step x ∙ closure_map (out-ExprClosure x)
+unfolding tree_of pat_of closure_of arm_of for_loop_of let_of match_of guard_of
+closure-is x = fold_out-ExprClosure Tree PatView Tree ArmView Tree Tree Tree PatView tree_step pat_step closure_step arm_step for_loop_step let_step match_step guard_step x ∙ closure_map (out-ExprClosure x)
 
-arm_map : (l : Arm-F Expr Pat ExprClosure Arm ExprForLoop ExprLet ExprMatch PatGuard) → arm_step (map-Arm Expr Pat ExprClosure Arm ExprForLoop ExprLet ExprMatch PatGuard Tree PatView Tree ArmView Tree Tree Tree PatView tree_of pat_of closure_of arm_of for_loop_of binding_of choice_of guard_of l) ≡ arm_layer views l
+arm_map : (l : Arm-F Expr Pat ExprClosure Arm ExprForLoop ExprLet ExprMatch PatGuard) → arm_step (map-Arm Expr Pat ExprClosure Arm ExprForLoop ExprLet ExprMatch PatGuard Tree PatView Tree ArmView Tree Tree Tree PatView tree_of pat_of closure_of arm_of for_loop_of let_of match_of guard_of l) ≡ arm_layer views l
 unfolding values trails
 arm_map x = refl
 
 pub arm-is : (x : Arm) → arm_of x ≡ arm_layer views (out-Arm x)
-unfolding tree_of pat_of closure_of arm_of for_loop_of binding_of choice_of guard_of
-arm-is x = fold_out-Arm Tree PatView Tree ArmView Tree Tree Tree PatView tree_step pat_step closure_step arm_step for_loop_step binding_step choice_step guard_step x ∙ arm_map (out-Arm x)
+unfolding tree_of pat_of closure_of arm_of for_loop_of let_of match_of guard_of
+arm-is x = fold_out-Arm Tree PatView Tree ArmView Tree Tree Tree PatView tree_step pat_step closure_step arm_step for_loop_step let_step match_step guard_step x ∙ arm_map (out-Arm x)
 
-for_loop_map : (l : ExprForLoop-F Expr Pat ExprClosure Arm ExprForLoop ExprLet ExprMatch PatGuard) → for_loop_step (map-ExprForLoop Expr Pat ExprClosure Arm ExprForLoop ExprLet ExprMatch PatGuard Tree PatView Tree ArmView Tree Tree Tree PatView tree_of pat_of closure_of arm_of for_loop_of binding_of choice_of guard_of l) ≡ for_loop_layer views l
+for_loop_map : (l : ExprForLoop-F Expr Pat ExprClosure Arm ExprForLoop ExprLet ExprMatch PatGuard) → for_loop_step (map-ExprForLoop Expr Pat ExprClosure Arm ExprForLoop ExprLet ExprMatch PatGuard Tree PatView Tree ArmView Tree Tree Tree PatView tree_of pat_of closure_of arm_of for_loop_of let_of match_of guard_of l) ≡ for_loop_layer views l
 unfolding values trails
 for_loop_map x = refl
 
 pub for_loop-is : (x : ExprForLoop) → for_loop_of x ≡ for_loop_layer views (out-ExprForLoop x)
-unfolding tree_of pat_of closure_of arm_of for_loop_of binding_of choice_of guard_of
-for_loop-is x = fold_out-ExprForLoop Tree PatView Tree ArmView Tree Tree Tree PatView tree_step pat_step closure_step arm_step for_loop_step binding_step choice_step guard_step x ∙ for_loop_map (out-ExprForLoop x)
+unfolding tree_of pat_of closure_of arm_of for_loop_of let_of match_of guard_of
+for_loop-is x = fold_out-ExprForLoop Tree PatView Tree ArmView Tree Tree Tree PatView tree_step pat_step closure_step arm_step for_loop_step let_step match_step guard_step x ∙ for_loop_map (out-ExprForLoop x)
 
-binding_map : (l : ExprLet-F Expr Pat ExprClosure Arm ExprForLoop ExprLet ExprMatch PatGuard) → binding_step (map-ExprLet Expr Pat ExprClosure Arm ExprForLoop ExprLet ExprMatch PatGuard Tree PatView Tree ArmView Tree Tree Tree PatView tree_of pat_of closure_of arm_of for_loop_of binding_of choice_of guard_of l) ≡ binding_layer views l
+let_map : (l : ExprLet-F Expr Pat ExprClosure Arm ExprForLoop ExprLet ExprMatch PatGuard) → let_step (map-ExprLet Expr Pat ExprClosure Arm ExprForLoop ExprLet ExprMatch PatGuard Tree PatView Tree ArmView Tree Tree Tree PatView tree_of pat_of closure_of arm_of for_loop_of let_of match_of guard_of l) ≡ let_layer views l
 unfolding values trails
-binding_map x = refl
+let_map x = refl
 
-pub binding-is : (x : ExprLet) → binding_of x ≡ binding_layer views (out-ExprLet x)
-unfolding tree_of pat_of closure_of arm_of for_loop_of binding_of choice_of guard_of
-binding-is x = fold_out-ExprLet Tree PatView Tree ArmView Tree Tree Tree PatView tree_step pat_step closure_step arm_step for_loop_step binding_step choice_step guard_step x ∙ binding_map (out-ExprLet x)
+pub let_expr-is : (x : ExprLet) → let_of x ≡ let_layer views (out-ExprLet x)
+unfolding tree_of pat_of closure_of arm_of for_loop_of let_of match_of guard_of
+let_expr-is x = fold_out-ExprLet Tree PatView Tree ArmView Tree Tree Tree PatView tree_step pat_step closure_step arm_step for_loop_step let_step match_step guard_step x ∙ let_map (out-ExprLet x)
 
-choice_map : (l : ExprMatch-F Expr Pat ExprClosure Arm ExprForLoop ExprLet ExprMatch PatGuard) → choice_step (map-ExprMatch Expr Pat ExprClosure Arm ExprForLoop ExprLet ExprMatch PatGuard Tree PatView Tree ArmView Tree Tree Tree PatView tree_of pat_of closure_of arm_of for_loop_of binding_of choice_of guard_of l) ≡ choice_layer views l
+match_map : (l : ExprMatch-F Expr Pat ExprClosure Arm ExprForLoop ExprLet ExprMatch PatGuard) → match_step (map-ExprMatch Expr Pat ExprClosure Arm ExprForLoop ExprLet ExprMatch PatGuard Tree PatView Tree ArmView Tree Tree Tree PatView tree_of pat_of closure_of arm_of for_loop_of let_of match_of guard_of l) ≡ match_layer views l
 unfolding values trails
-choice_map x = search (rules, map-map)
+match_map x = search (rules, map-map)
 
-pub choice-is : (x : ExprMatch) → choice_of x ≡ choice_layer views (out-ExprMatch x)
-unfolding tree_of pat_of closure_of arm_of for_loop_of binding_of choice_of guard_of
-choice-is x = fold_out-ExprMatch Tree PatView Tree ArmView Tree Tree Tree PatView tree_step pat_step closure_step arm_step for_loop_step binding_step choice_step guard_step x ∙ choice_map (out-ExprMatch x)
+pub match_expr-is : (x : ExprMatch) → match_of x ≡ match_layer views (out-ExprMatch x)
+unfolding tree_of pat_of closure_of arm_of for_loop_of let_of match_of guard_of
+match_expr-is x = fold_out-ExprMatch Tree PatView Tree ArmView Tree Tree Tree PatView tree_step pat_step closure_step arm_step for_loop_step let_step match_step guard_step x ∙ match_map (out-ExprMatch x)
 
-guard_map : (l : PatGuard-F Expr Pat ExprClosure Arm ExprForLoop ExprLet ExprMatch PatGuard) → guard_step (map-PatGuard Expr Pat ExprClosure Arm ExprForLoop ExprLet ExprMatch PatGuard Tree PatView Tree ArmView Tree Tree Tree PatView tree_of pat_of closure_of arm_of for_loop_of binding_of choice_of guard_of l) ≡ guard_layer views l
+guard_map : (l : PatGuard-F Expr Pat ExprClosure Arm ExprForLoop ExprLet ExprMatch PatGuard) → guard_step (map-PatGuard Expr Pat ExprClosure Arm ExprForLoop ExprLet ExprMatch PatGuard Tree PatView Tree ArmView Tree Tree Tree PatView tree_of pat_of closure_of arm_of for_loop_of let_of match_of guard_of l) ≡ guard_layer views l
 unfolding values trails
 guard_map x = refl
 
 pub guard-is : (x : PatGuard) → guard_of x ≡ guard_layer views (out-PatGuard x)
-unfolding tree_of pat_of closure_of arm_of for_loop_of binding_of choice_of guard_of
-guard-is x = fold_out-PatGuard Tree PatView Tree ArmView Tree Tree Tree PatView tree_step pat_step closure_step arm_step for_loop_step binding_step choice_step guard_step x ∙ guard_map (out-PatGuard x)
+unfolding tree_of pat_of closure_of arm_of for_loop_of let_of match_of guard_of
+guard-is x = fold_out-PatGuard Tree PatView Tree ArmView Tree Tree Tree PatView tree_step pat_step closure_step arm_step for_loop_step let_step match_step guard_step x ∙ guard_map (out-PatGuard x)
 
 -- ---- each kind of expression
 
@@ -312,7 +312,7 @@ tree-Index x = tree_out (ex.Index x) ∙ ap (tree_layer views) (ex.outs-Index x)
 pub tree-Infer : (x : ExprInfer) → tree_of (ex.Infer x) ≡ expr_infer_of x
 tree-Infer x = tree_out (ex.Infer x) ∙ ap (tree_layer views) (ex.outs-Infer x)
 
-pub tree-Let : (x : ExprLet) → tree_of (ex.Let x) ≡ binding_of x
+pub tree-Let : (x : ExprLet) → tree_of (ex.Let x) ≡ let_of x
 tree-Let x = tree_out (ex.Let x) ∙ ap (tree_layer views) (ex.outs-Let x)
 
 pub tree-Lit : (x : ExprLit) → tree_of (ex.Lit x) ≡ expr_lit_of x
@@ -324,7 +324,7 @@ tree-Loop x = tree_out (ex.Loop x) ∙ ap (tree_layer views) (ex.outs-Loop x)
 pub tree-Macro : (x : ExprMacro) → tree_of (ex.Macro x) ≡ expr_macro_of x
 tree-Macro x = tree_out (ex.Macro x) ∙ ap (tree_layer views) (ex.outs-Macro x)
 
-pub tree-Match : (x : ExprMatch) → tree_of (ex.Match x) ≡ choice_of x
+pub tree-Match : (x : ExprMatch) → tree_of (ex.Match x) ≡ match_of x
 tree-Match x = tree_out (ex.Match x) ∙ ap (tree_layer views) (ex.outs-Match x)
 
 pub tree-MethodCall : (x : ExprMethodCallOf Expr) → tree_of (ex.MethodCall x) ≡ expr_method_call_of tree_of x
@@ -437,4 +437,4 @@ pub ruleset pats = (pat-Const, pat-Ident, pat-Lit, pat-Macro, pat-Or, pat-Paren,
 
 -- ---- those that hold both expressions and patterns
 
-pub ruleset members = (closure-is, arm-is, for_loop-is, binding-is, choice-is, guard-is)
+pub ruleset members = (closure-is, arm-is, for_loop-is, let_expr-is, match_expr-is, guard-is)

@@ -30,8 +30,8 @@ pub record Views (E P C A F L M G : Type 0) : Type 0 where
   pub closure : C → Tree
   pub arm : A → ArmView
   pub for_loop : F → Tree
-  pub binding : L → Tree
-  pub choice : M → Tree
+  pub let_expr : L → Tree
+  pub match_expr : M → Tree
   pub guard : G → PatView
 
 -- ---- one level of each, by what is shown of the next
@@ -55,11 +55,11 @@ tree_layer v (Expr-F.Group x) = expr_group_of v.tree x
 tree_layer v (Expr-F.If x) = expr_if_of v.tree x
 tree_layer v (Expr-F.Index x) = expr_index_of v.tree x
 tree_layer v (Expr-F.Infer x) = expr_infer_of x
-tree_layer v (Expr-F.Let x) = v.binding x
+tree_layer v (Expr-F.Let x) = v.let_expr x
 tree_layer v (Expr-F.Expr::Lit x) = expr_lit_of x
 tree_layer v (Expr-F.Loop x) = expr_loop_of x
 tree_layer v (Expr-F.Expr::Macro x) = expr_macro_of x
-tree_layer v (Expr-F.Match x) = v.choice x
+tree_layer v (Expr-F.Match x) = v.match_expr x
 tree_layer v (Expr-F.MethodCall x) = expr_method_call_of v.tree x
 tree_layer v (Expr-F.Expr::Paren x) = expr_paren_of v.tree x
 tree_layer v (Expr-F.Expr::Path x) = expr_path_of x
@@ -115,17 +115,17 @@ for_loop_parts x = record { attrs = x.attrs; label = x.label; for_token = x.for_
 abbrev pub for_loop_layer : {E P C A F L M G : Type 0} → Views E P C A F L M G → ExprForLoop-F E P C A F L M G → Tree
 for_loop_layer v x = expr_for_loop_of v.tree v.pat (for_loop_parts x)
 
-abbrev pub binding_parts : {E P C A F L M G : Type 0} → ExprLet-F E P C A F L M G → ExprLetOf E P
-binding_parts x = record { attrs = x.attrs; let_token = x.let_token; pat = x.pat; eq_token = x.eq_token; expr = x.expr }
+abbrev pub let_parts : {E P C A F L M G : Type 0} → ExprLet-F E P C A F L M G → ExprLetOf E P
+let_parts x = record { attrs = x.attrs; let_token = x.let_token; pat = x.pat; eq_token = x.eq_token; expr = x.expr }
 
-abbrev pub binding_layer : {E P C A F L M G : Type 0} → Views E P C A F L M G → ExprLet-F E P C A F L M G → Tree
-binding_layer v x = expr_let_of v.tree v.pat (binding_parts x)
+abbrev pub let_layer : {E P C A F L M G : Type 0} → Views E P C A F L M G → ExprLet-F E P C A F L M G → Tree
+let_layer v x = expr_let_of v.tree v.pat (let_parts x)
 
-abbrev pub choice_parts : {E P C A F L M G : Type 0} → ExprMatch-F E P C A F L M G → ExprMatchOf E A
-choice_parts x = record { attrs = x.attrs; match_token = x.match_token; expr = x.expr; brace_token = x.brace_token; arms = x.arms }
+abbrev pub match_parts : {E P C A F L M G : Type 0} → ExprMatch-F E P C A F L M G → ExprMatchOf E A
+match_parts x = record { attrs = x.attrs; match_token = x.match_token; expr = x.expr; brace_token = x.brace_token; arms = x.arms }
 
-abbrev pub choice_layer : {E P C A F L M G : Type 0} → Views E P C A F L M G → ExprMatch-F E P C A F L M G → Tree
-choice_layer v x = expr_match_of v.tree v.arm (choice_parts x)
+abbrev pub match_layer : {E P C A F L M G : Type 0} → Views E P C A F L M G → ExprMatch-F E P C A F L M G → Tree
+match_layer v x = expr_match_of v.tree v.arm (match_parts x)
 
 abbrev pub guard_parts : {E P C A F L M G : Type 0} → PatGuard-F E P C A F L M G → PatGuardOf E P
 guard_parts x = record { attrs = x.attrs; pat = x.pat; if_token = x.if_token; guard = x.guard }
@@ -136,7 +136,7 @@ guard_layer v x = guarded_of v.tree v.pat (guard_parts x)
 -- ---- what is shown of a whole, level by level
 
 abbrev pub shown : Views Tree PatView Tree ArmView Tree Tree Tree PatView
-shown = record { tree = λ x. x; pat = λ x. x; closure = λ x. x; arm = λ x. x; for_loop = λ x. x; binding = λ x. x; choice = λ x. x; guard = λ x. x }
+shown = record { tree = λ x. x; pat = λ x. x; closure = λ x. x; arm = λ x. x; for_loop = λ x. x; let_expr = λ x. x; match_expr = λ x. x; guard = λ x. x }
 
 abbrev pub tree_step : Expr-F Tree PatView Tree ArmView Tree Tree Tree PatView → Tree
 tree_step = tree_layer shown
@@ -153,38 +153,38 @@ arm_step = arm_layer shown
 abbrev pub for_loop_step : ExprForLoop-F Tree PatView Tree ArmView Tree Tree Tree PatView → Tree
 for_loop_step = for_loop_layer shown
 
-abbrev pub binding_step : ExprLet-F Tree PatView Tree ArmView Tree Tree Tree PatView → Tree
-binding_step = binding_layer shown
+abbrev pub let_step : ExprLet-F Tree PatView Tree ArmView Tree Tree Tree PatView → Tree
+let_step = let_layer shown
 
-abbrev pub choice_step : ExprMatch-F Tree PatView Tree ArmView Tree Tree Tree PatView → Tree
-choice_step = choice_layer shown
+abbrev pub match_step : ExprMatch-F Tree PatView Tree ArmView Tree Tree Tree PatView → Tree
+match_step = match_layer shown
 
 abbrev pub guard_step : PatGuard-F Tree PatView Tree ArmView Tree Tree Tree PatView → PatView
 guard_step = guard_layer shown
 
 unfoldable pub tree_of : Expr → Tree
-tree_of x = fold-Expr Tree PatView Tree ArmView Tree Tree Tree PatView tree_step pat_step closure_step arm_step for_loop_step binding_step choice_step guard_step x
+tree_of x = fold-Expr Tree PatView Tree ArmView Tree Tree Tree PatView tree_step pat_step closure_step arm_step for_loop_step let_step match_step guard_step x
 
 unfoldable pub pat_of : Pat → PatView
-pat_of x = fold-Pat Tree PatView Tree ArmView Tree Tree Tree PatView tree_step pat_step closure_step arm_step for_loop_step binding_step choice_step guard_step x
+pat_of x = fold-Pat Tree PatView Tree ArmView Tree Tree Tree PatView tree_step pat_step closure_step arm_step for_loop_step let_step match_step guard_step x
 
 unfoldable pub closure_of : ExprClosure → Tree
-closure_of x = fold-ExprClosure Tree PatView Tree ArmView Tree Tree Tree PatView tree_step pat_step closure_step arm_step for_loop_step binding_step choice_step guard_step x
+closure_of x = fold-ExprClosure Tree PatView Tree ArmView Tree Tree Tree PatView tree_step pat_step closure_step arm_step for_loop_step let_step match_step guard_step x
 
 unfoldable pub arm_of : Arm → ArmView
-arm_of x = fold-Arm Tree PatView Tree ArmView Tree Tree Tree PatView tree_step pat_step closure_step arm_step for_loop_step binding_step choice_step guard_step x
+arm_of x = fold-Arm Tree PatView Tree ArmView Tree Tree Tree PatView tree_step pat_step closure_step arm_step for_loop_step let_step match_step guard_step x
 
 unfoldable pub for_loop_of : ExprForLoop → Tree
-for_loop_of x = fold-ExprForLoop Tree PatView Tree ArmView Tree Tree Tree PatView tree_step pat_step closure_step arm_step for_loop_step binding_step choice_step guard_step x
+for_loop_of x = fold-ExprForLoop Tree PatView Tree ArmView Tree Tree Tree PatView tree_step pat_step closure_step arm_step for_loop_step let_step match_step guard_step x
 
-unfoldable pub binding_of : ExprLet → Tree
-binding_of x = fold-ExprLet Tree PatView Tree ArmView Tree Tree Tree PatView tree_step pat_step closure_step arm_step for_loop_step binding_step choice_step guard_step x
+unfoldable pub let_of : ExprLet → Tree
+let_of x = fold-ExprLet Tree PatView Tree ArmView Tree Tree Tree PatView tree_step pat_step closure_step arm_step for_loop_step let_step match_step guard_step x
 
-unfoldable pub choice_of : ExprMatch → Tree
-choice_of x = fold-ExprMatch Tree PatView Tree ArmView Tree Tree Tree PatView tree_step pat_step closure_step arm_step for_loop_step binding_step choice_step guard_step x
+unfoldable pub match_of : ExprMatch → Tree
+match_of x = fold-ExprMatch Tree PatView Tree ArmView Tree Tree Tree PatView tree_step pat_step closure_step arm_step for_loop_step let_step match_step guard_step x
 
 unfoldable pub guard_of : PatGuard → PatView
-guard_of x = fold-PatGuard Tree PatView Tree ArmView Tree Tree Tree PatView tree_step pat_step closure_step arm_step for_loop_step binding_step choice_step guard_step x
+guard_of x = fold-PatGuard Tree PatView Tree ArmView Tree Tree Tree PatView tree_step pat_step closure_step arm_step for_loop_step let_step match_step guard_step x
 
 abbrev pub views : Views Expr Pat ExprClosure Arm ExprForLoop ExprLet ExprMatch PatGuard
-views = record { tree = tree_of; pat = pat_of; closure = closure_of; arm = arm_of; for_loop = for_loop_of; binding = binding_of; choice = choice_of; guard = guard_of }
+views = record { tree = tree_of; pat = pat_of; closure = closure_of; arm = arm_of; for_loop = for_loop_of; let_expr = let_of; match_expr = match_of; guard = guard_of }

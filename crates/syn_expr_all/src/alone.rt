@@ -5,13 +5,13 @@
 //! none of its kind stands. What has an operand in front is read as an expression.
 
 ghost use Rattle.std.specs.Prelude.{◌≡◌, Some, IfOk};
-ghost use Rattle.syn_expr_all.specs.View.{binding_of, choice_of, closure_of, for_loop_of, tree_of};
+ghost use Rattle.syn_expr_all.specs.View.{let_of, match_of, closure_of, for_loop_of, tree_of};
 ghost use Rattle.syn_expr_attrs.specs.Behind.{Behind};
 ghost use Rattle.syn_expr_kinds.specs.Attrs.{attrs_of};
 ghost use Rattle.syn_expr_kinds.specs.Exactly.{ReadsExactly, RefusesOthers};
 ghost use Rattle.syn_expr_kinds.specs.View.{expr_reference_of, expr_struct_of};
 ghost use Rattle.syn_grammar.specs.Alone.{Alone, OfKind, ReferenceAlone, StructAlone, behind_attributes, is_closure, is_for_loop, is_let, is_match};
-ghost use Rattle.syn_grammar.specs.AloneRead.{AreAdorned, AreAtoms, adorned_alone, operand_alone, reference_alone, struct_alone};
+ghost use Rattle.syn_grammar.specs.AloneRead.{AreAttributed, AreAtoms, attributed_alone, operand_alone, reference_alone, struct_alone};
 ghost use Rattle.syn_lower_leaves.specs.Reads.{Reads};
 
 use crate::expr::{
@@ -30,7 +30,7 @@ use syn_expr_ends::place::{PLAIN, at};
 use syn_expr_heads::ending::comma_or_end;
 use syn_expr_heads::label::maybe_label;
 use syn_expr_heads::word::{async_word, move_word};
-use syn_expr_kinds::begins::told;
+use syn_expr_kinds::begins::named_refusal;
 use syn_expr_kinds::parse::ParseKinds;
 use syn_expr_lists::lists::Lists;
 use syn_expr_readers::grammar::Grammar;
@@ -39,7 +39,7 @@ use syn_lower::attr::Attribute;
 use syn_lower::ty::{BoundLifetimes, PointerMutability, Type};
 use syn_lower_generic::types::ReadTypes;
 use syn_lower_leaves::front::{and, constant, mutable, word};
-use syn_lower_leaves::kept::outer_attributes;
+use syn_lower_leaves::verbatim::outer_attributes;
 use syn_op::op::UnOp;
 use syn_parts::label::PathStyle;
 use syn_tokens::buffer::{Parse, ParseBuffer};
@@ -56,7 +56,7 @@ pub(crate) trait Operand: Kind {
 }
 
 /// A struct of a kind before which attributes are read.
-pub(crate) trait Adorned: Operand {
+pub(crate) trait Attributed: Operand {
     /// It behind these attributes.
     fn behind(self, attrs: Vec<Attribute>) -> std::result::Result<Self, AllocError>
         ensures { IfOk result (λ y. Behind (attrs_of attrs) (Self.tree self) (Self.tree y)) };
@@ -72,22 +72,22 @@ fn operand_of<S: Operand>(input: &mut ParseBuffer<'_>) -> Result<S>
     let mut first = input.fork()?;
     let x = match (Grammar { expr: expr_at }).atom(input, PLAIN) {
         Ok(x) => x,
-        Err(e) => return Err(told(e, S::begins(&mut first))),
+        Err(e) => return Err(named_refusal(e, S::begins(&mut first))),
     };
     match S::of(Box::into_inner(x)) {
         Ok(x) => Ok(x),
         Err(expr) => {
             // The drop of an expression is proved once, for `HeldExpr`.
             let _held = HeldExpr { expr };
-            Err(told(other, S::begins(&mut first)))
+            Err(named_refusal(other, S::begins(&mut first)))
         }
     }
 }
 
 /// Reads attributes, and an operand of a kind.
-#[tactic(auto, using(syn_expr_kinds::proofs::Outers::outers, syn_grammar::proofs::Alone::bares), unfolding(syn_grammar::specs::AloneRead::adorned_alone, syn_expr_kinds::specs::Attrs::attrs_of))]
-fn adorned_of<S: Adorned>(input: &mut ParseBuffer<'_>) -> Result<S>
-    ensures value { Reads S.tree (adorned_alone (operand_alone S.is) input.old.rest) result input.new.rest }
+#[tactic(auto, using(syn_expr_kinds::proofs::Outers::outers, syn_grammar::proofs::Alone::bares), unfolding(syn_grammar::specs::AloneRead::attributed_alone, syn_expr_kinds::specs::Attrs::attrs_of))]
+fn attributed_of<S: Attributed>(input: &mut ParseBuffer<'_>) -> Result<S>
+    ensures value { Reads S.tree (attributed_alone (operand_alone S.is) input.old.rest) result input.new.rest }
     ensures noted { input.new.noted ≡ input.old.noted }
 {
     let attrs = outer_attributes(input)?;
@@ -112,13 +112,13 @@ pub(crate) fn bare_operand<S: Operand>(input: &mut ParseBuffer<'_>) -> Result<S>
 
 /// Reads an operand of a kind, behind attributes or none, and without trailers.
 #[tactic(auto, using(syn_grammar::proofs::Alone::tails))]
-pub(crate) fn adorned_operand<S: Adorned>(input: &mut ParseBuffer<'_>) -> Result<S>
+pub(crate) fn attributed_operand<S: Attributed>(input: &mut ParseBuffer<'_>) -> Result<S>
     requires atoms { AreAtoms S.is }
-    requires adorned { AreAdorned S.is }
+    requires attributed { AreAttributed S.is }
     ensures { ReadsExactly S.tree (Alone (behind_attributes S.is)) input.old result input.new }
 {
     let mut ahead = input.fork()?;
-    let x = match adorned_of(&mut ahead) {
+    let x = match attributed_of(&mut ahead) {
         Ok(x) => x,
         Err(e) => return Err(e),
     };
@@ -305,31 +305,31 @@ impl Operand for ExprYield {
     }
 }
 
-impl Adorned for ExprForLoop {
+impl Attributed for ExprForLoop {
     fn behind(self, attrs: Vec<Attribute>) -> std::result::Result<Self, AllocError> {
         ExprForLoop::behind_more(self, attrs)
     }
 }
 
-impl Adorned for ExprIf {
+impl Attributed for ExprIf {
     fn behind(self, attrs: Vec<Attribute>) -> std::result::Result<Self, AllocError> {
         before::if_expr(self, attrs)
     }
 }
 
-impl Adorned for ExprMatch {
+impl Attributed for ExprMatch {
     fn behind(self, attrs: Vec<Attribute>) -> std::result::Result<Self, AllocError> {
         ExprMatch::behind_more(self, attrs)
     }
 }
 
-impl Adorned for ExprWhile {
+impl Attributed for ExprWhile {
     fn behind(self, attrs: Vec<Attribute>) -> std::result::Result<Self, AllocError> {
         around::while_expr(self, attrs)
     }
 }
 
-#[tactic(auto, using(syn_grammar::proofs::AloneKinds::atoms, syn_grammar::proofs::AloneKinds::adorned, syn_grammar::proofs::Alone::tails))]
+#[tactic(auto, using(syn_grammar::proofs::AloneKinds::atoms, syn_grammar::proofs::AloneKinds::attributed, syn_grammar::proofs::Alone::tails))]
 impl ParseKinds for Expr {
     fn parse_expr_array(input: &mut ParseBuffer<'_>) -> Result<ExprArray> {
         bare_operand(input)
@@ -344,11 +344,11 @@ impl ParseKinds for Expr {
     }
 
     fn parse_expr_if(input: &mut ParseBuffer<'_>) -> Result<ExprIf> {
-        adorned_operand(input)
+        attributed_operand(input)
     }
 
     fn parse_expr_while(input: &mut ParseBuffer<'_>) -> Result<ExprWhile> {
-        adorned_operand(input)
+        attributed_operand(input)
     }
 
     fn parse_expr_break(input: &mut ParseBuffer<'_>) -> Result<ExprBreak> {
@@ -436,7 +436,7 @@ impl ParseKinds for Expr {
     }
 }
 
-#[tactic(auto, using(syn_grammar::proofs::AloneKinds::atoms, syn_grammar::proofs::AloneKinds::adorned))]
+#[tactic(auto, using(syn_grammar::proofs::AloneKinds::atoms, syn_grammar::proofs::AloneKinds::attributed))]
 impl Parse for ExprClosure {
     ghost use Rattle.syn_expr_all.specs.View.{closure_of};
     ghost use Rattle.syn_grammar.specs.Alone.{Alone, is_closure};
@@ -462,7 +462,7 @@ impl Parse for ExprClosure {
     }
 }
 
-#[tactic(auto, using(syn_grammar::proofs::AloneKinds::atoms, syn_grammar::proofs::AloneKinds::adorned))]
+#[tactic(auto, using(syn_grammar::proofs::AloneKinds::atoms, syn_grammar::proofs::AloneKinds::attributed))]
 impl Parse for ExprForLoop {
     ghost use Rattle.syn_expr_all.specs.View.{for_loop_of};
     ghost use Rattle.syn_grammar.specs.Alone.{Alone, behind_attributes, is_for_loop};
@@ -485,19 +485,19 @@ impl Parse for ExprForLoop {
     fn parse(input: &mut ParseBuffer<'_>) -> Result<Self>
         ensures { ReadsExactly for_loop_of (Alone (behind_attributes is_for_loop)) input.old result input.new }
     {
-        adorned_operand(input)
+        attributed_operand(input)
     }
 }
 
-#[tactic(auto, using(syn_grammar::proofs::AloneKinds::atoms, syn_grammar::proofs::AloneKinds::adorned))]
+#[tactic(auto, using(syn_grammar::proofs::AloneKinds::atoms, syn_grammar::proofs::AloneKinds::attributed))]
 impl Parse for ExprLet {
-    ghost use Rattle.syn_expr_all.specs.View.{binding_of};
+    ghost use Rattle.syn_expr_all.specs.View.{let_of};
     ghost use Rattle.syn_grammar.specs.Alone.{Alone, is_let};
     ghost use Rattle.syn_grammar.specs.Tree.{Tree};
 
     ghost Seen = { Tree };
 
-    ghost seen = { binding_of };
+    ghost seen = { let_of };
 
     /// `let`, a pattern, `=` and an operand stand before the rest.
     ghost spells = { Alone is_let };
@@ -510,21 +510,21 @@ impl Parse for ExprLet {
     /// It is refused, memory aside, only where none stands, and the input then stays where it was: as `ExpectedToken`
     /// of `let` or of `=`, and as the pattern and the operand are.
     fn parse(input: &mut ParseBuffer<'_>) -> Result<Self>
-        ensures { ReadsExactly binding_of (Alone is_let) input.old result input.new }
+        ensures { ReadsExactly let_of (Alone is_let) input.old result input.new }
     {
         bare_operand(input)
     }
 }
 
-#[tactic(auto, using(syn_grammar::proofs::AloneKinds::atoms, syn_grammar::proofs::AloneKinds::adorned))]
+#[tactic(auto, using(syn_grammar::proofs::AloneKinds::atoms, syn_grammar::proofs::AloneKinds::attributed))]
 impl Parse for ExprMatch {
-    ghost use Rattle.syn_expr_all.specs.View.{choice_of};
+    ghost use Rattle.syn_expr_all.specs.View.{match_of};
     ghost use Rattle.syn_grammar.specs.Alone.{Alone, behind_attributes, is_match};
     ghost use Rattle.syn_grammar.specs.Tree.{Tree};
 
     ghost Seen = { Tree };
 
-    ghost seen = { choice_of };
+    ghost seen = { match_of };
 
     /// A `match` stands before the rest, behind attributes or none.
     ghost spells = { Alone (behind_attributes is_match) };
@@ -537,8 +537,8 @@ impl Parse for ExprMatch {
     /// It is refused, memory aside, only where none stands, and the input then stays where it was: as its attributes
     /// are, as `ExpectedToken` of `match` or of `{`, and as what it looks at and its arms are.
     fn parse(input: &mut ParseBuffer<'_>) -> Result<Self>
-        ensures { ReadsExactly choice_of (Alone (behind_attributes is_match)) input.old result input.new }
+        ensures { ReadsExactly match_of (Alone (behind_attributes is_match)) input.old result input.new }
     {
-        adorned_operand(input)
+        attributed_operand(input)
     }
 }

@@ -12,7 +12,7 @@ use syn_lower::attr::Attribute;
 impl Expr {
     /// Puts attributes in place of all that the expression has, and gives the old ones. The outer ones are printed before it,
     /// the inner ones first in the braces of a block, a loop or a `match`; of all other kinds an inner one is kept and not
-    /// printed. Kept tokens have no attributes: they stay as they are, and an empty list is given.
+    /// printed. Verbatim tokens have no attributes: they stay as they are, and an empty list is given.
     pub fn replace_attrs(&mut self, new: Vec<Attribute>) -> Vec<Attribute>
         ensures put { tree_of self.new ≡ with_attributes (attrs_of new) (tree_of self.old) }
         ensures given { attrs_of result ≡ attributes_in (tree_of self.old) }

@@ -1,7 +1,7 @@
 //! An expression behind attributes (Rust Reference, "Expression attributes").
 
 ghost use Rattle.std.specs.Prelude.{IfOk};
-ghost use Rattle.syn_expr_all.specs.View.{closure_of, for_loop_of, binding_of, choice_of};
+ghost use Rattle.syn_expr_all.specs.View.{closure_of, for_loop_of, let_of, match_of};
 ghost use Rattle.syn_expr_attrs.specs.Behind.{Behind};
 ghost use Rattle.syn_expr_kinds.specs.Attrs.{attrs_of};
 
@@ -47,7 +47,7 @@ impl ExprForLoop {
 impl ExprLet {
     /// It behind more attributes.
     pub(crate) fn behind_more(self, attrs: Vec<Attribute>) -> Result<ExprLet, AllocError>
-        ensures { IfOk result (λ y. Behind (attrs_of attrs) (binding_of self) (binding_of y)) }
+        ensures { IfOk result (λ y. Behind (attrs_of attrs) (let_of self) (let_of y)) }
     {
         Ok(ExprLet {
             attrs: joined(attrs, self.attrs)?,
@@ -60,7 +60,7 @@ impl ExprLet {
 impl ExprMatch {
     /// It behind more attributes.
     pub(crate) fn behind_more(self, attrs: Vec<Attribute>) -> Result<ExprMatch, AllocError>
-        ensures { IfOk result (λ y. Behind (attrs_of attrs) (choice_of self) (choice_of y)) }
+        ensures { IfOk result (λ y. Behind (attrs_of attrs) (match_of self) (match_of y)) }
     {
         Ok(ExprMatch {
             attrs: joined(attrs, self.attrs)?,

@@ -2,18 +2,18 @@
 
 ghost use Rattle.std.specs.Prelude.{◌≡◌};
 ghost use Rattle.syn_grammar.specs.Tree as e;
-ghost use Rattle.syn_expr_notes.specs.Kind.{kind_at};
+ghost use Rattle.syn_expr_summaries.specs.Kind.{kind_at};
 
 use crate::expr::Expr;
 use syn_expr_kinds::node::HasKind;
-use syn_expr_notes::kind::NodeKind;
-use syn_expr_notes::label::{FrameKind, LeadKind, LeafKind, TrailerKind};
+use syn_expr_summaries::kind::NodeKind;
+use syn_expr_summaries::label::{FrameKind, LeafKind, PrefixKind, TrailerKind};
 use syn_grammar::kinds::Infix;
 use syn_tokens::buffer::Token;
 use syn_tokens::token::Pound;
 use syn_tokens::tree::TokenStream;
 
-/// The kind of tokens that are kept.
+/// The kind of verbatim tokens.
 #[tactic(auto, unfolding(syn_tokens::specs::Sign::sign_text, syn_parts::specs::Mark::sign_at))]
 fn verbatim_kind(tokens: &TokenStream) -> NodeKind
     ensures { result ≡ kind_at (e.leaf (e.verbatim tokens.now)) }
@@ -42,15 +42,15 @@ impl HasKind for Expr {
             Expr::Verbatim(tokens) => verbatim_kind(tokens),
             Expr::Paren(_) => NodeKind::Paren,
             Expr::Unary(_) | Expr::Reference(_) | Expr::RawAddr(_) => {
-                NodeKind::Lead(LeadKind::Prefix)
+                NodeKind::Prefix(PrefixKind::Operator)
             }
-            Expr::Let(_) => NodeKind::Lead(LeadKind::Let),
+            Expr::Let(_) => NodeKind::Prefix(PrefixKind::Let),
             Expr::Closure(x) => x.kind(),
             Expr::Return(x) => x.kind(),
             Expr::Yield(x) => x.kind(),
             Expr::Break(x) => x.kind(),
             Expr::Range(x) => x.kind(),
-            Expr::Assign(_) => NodeKind::Mid(Infix::Assign),
+            Expr::Assign(_) => NodeKind::Infix(Infix::Assign),
             Expr::Binary(x) => x.kind(),
             Expr::Cast(x) => x.kind(),
             Expr::Call(_) => NodeKind::Tail(TrailerKind::Call),

@@ -62,7 +62,7 @@ fn read_without(input: &ParseBuffer<'_>, place: Place, first: Span) -> Result<()
 
 /// The refusal to report where an expression at a place of the input is refused. It is the given one, unless that is at a
 /// leftover of an index and what comes after the leftover is refused too: then it is the later one.
-pub(crate) fn told(input: &ParseBuffer<'_>, place: Place, refusal: Error) -> Error
+pub(crate) fn first_refusal(input: &ParseBuffer<'_>, place: Place, refusal: Error) -> Error
     ensures memory { refusal.kind ≡ OutOfMemory → result.kind ≡ OutOfMemory }
 {
     match refusal.kind {

@@ -208,11 +208,11 @@ impl Kind for ExprForLoop {
 impl Kind for ExprIf {
     ghost use Rattle.syn_expr_all.specs.View.{tree_of};
     ghost use Rattle.syn_expr_kinds.specs.View.{expr_if_of};
-    ghost use Rattle.syn_grammar.specs.Stands.{is_branch};
+    ghost use Rattle.syn_grammar.specs.Stands.{is_if_expr};
 
     ghost tree = { expr_if_of tree_of };
 
-    ghost is = { is_branch };
+    ghost is = { is_if_expr };
 
     fn of(x: Expr) -> std::result::Result<Self, Expr> {
         match x {
@@ -240,10 +240,10 @@ impl Kind for ExprIndex {
 }
 
 impl Kind for ExprLet {
-    ghost use Rattle.syn_expr_all.specs.View.{binding_of};
+    ghost use Rattle.syn_expr_all.specs.View.{let_of};
     ghost use Rattle.syn_grammar.specs.Alone.{is_let};
 
-    ghost tree = { binding_of };
+    ghost tree = { let_of };
 
     ghost is = { is_let };
 
@@ -256,10 +256,10 @@ impl Kind for ExprLet {
 }
 
 impl Kind for ExprMatch {
-    ghost use Rattle.syn_expr_all.specs.View.{choice_of};
+    ghost use Rattle.syn_expr_all.specs.View.{match_of};
     ghost use Rattle.syn_grammar.specs.Alone.{is_match};
 
-    ghost tree = { choice_of };
+    ghost tree = { match_of };
 
     ghost is = { is_match };
 

@@ -10,7 +10,7 @@ ghost use Rattle.syn_grammar.specs.Stands.{Stands};
 ghost use Rattle.syn_tokens.specs.declared.error.ErrorKind.TheVariants.{OutOfMemory};
 
 use crate::expr::Expr;
-use crate::leftover::told;
+use crate::leftover::first_refusal;
 use crate::read_expr::expr_at;
 use syn_expr_ends::place::{AT_HEAD, BEFORE_BLOCK, PLAIN};
 use syn_expr_front::sign;
@@ -51,7 +51,7 @@ pub(crate) fn refusal(input: &ParseBuffer<'_>, place: Place, e: Error) -> Error
     ensures may { MayRefuse result.kind }
     ensures memory { e.kind ≡ OutOfMemory → result.kind ≡ OutOfMemory }
 {
-    answered(told(input, place, e))
+    answered(first_refusal(input, place, e))
 }
 
 /// Reads the expression at a place. The input stays where it was where it is refused.

@@ -2,17 +2,17 @@
 
 ghost use Rattle.std.specs.Prelude.{◌≡◌, Some};
 ghost use Rattle.syn_expr_kinds.specs.Node as spec;
-ghost use Rattle.syn_expr_notes.specs.Kind.{kind_at};
+ghost use Rattle.syn_expr_summaries.specs.Kind.{kind_at};
 ghost use Rattle.syn_lower.specs.View.{mapped};
-ghost use Rattle.syn_expr_all.specs.View.{tree_of, pat_of, arm_of, closure_of, for_loop_of, binding_of, choice_of};
+ghost use Rattle.syn_expr_all.specs.View.{tree_of, pat_of, arm_of, closure_of, for_loop_of, let_of, match_of};
 
 use crate::closure::ExprClosure;
 use crate::control::{Arm, ExprForLoop, ExprLet, ExprMatch};
 use crate::expr::Expr;
 use crate::pat::Pat;
-use syn_expr_kinds::node::{Braces, Closure, Frame, Lead, Operands};
-use syn_expr_notes::kind::NodeKind;
-use syn_expr_notes::label::{FrameKind, LeadKind};
+use syn_expr_kinds::node::{Braces, Closure, Frame, Operands, Prefix};
+use syn_expr_summaries::kind::NodeKind;
+use syn_expr_summaries::label::{FrameKind, PrefixKind};
 use syn_lower::ty::ReturnType;
 
 #[tactic(auto, using(crate::proofs::TreeOf::members, syn_expr_kinds::proofs::Shapes::shapes))]
@@ -22,17 +22,17 @@ impl ExprClosure {
         ensures { result ≡ kind_at (closure_of self.now) }
     {
         match &self.output {
-            ReturnType::Default => NodeKind::Lead(LeadKind::Closure),
+            ReturnType::Default => NodeKind::Prefix(PrefixKind::Closure),
             ReturnType::Given(_, _) => NodeKind::Frame(FrameKind::Other),
         }
     }
 
     /// What stands before its body, where it has no output.
-    pub fn lead(&self) -> Option<Lead<'_, Pat>>
-        ensures { mapped (spec.lead_seen pat_of) result ≡ spec.lead_at (closure_of self.now) }
+    pub fn prefix(&self) -> Option<Prefix<'_, Pat>>
+        ensures { mapped (spec.prefix_seen pat_of) result ≡ spec.prefix_at (closure_of self.now) }
     {
         match &self.output {
-            ReturnType::Default => Some(Lead::Closure(Closure {
+            ReturnType::Default => Some(Prefix::Closure(Closure {
                 lifetimes: &self.lifetimes,
                 modifiers: &self.modifiers,
                 constness: &self.constness,
@@ -110,15 +110,15 @@ impl ExprForLoop {
 #[tactic(auto, using(crate::proofs::TreeOf::members, syn_expr_kinds::proofs::Shapes::shapes))]
 impl ExprLet {
     /// What stands before its operand.
-    pub fn lead(&self) -> Lead<'_, Pat>
-        ensures { Some (spec.lead_seen pat_of result) ≡ spec.lead_at (binding_of self.now) }
+    pub fn prefix(&self) -> Prefix<'_, Pat>
+        ensures { Some (spec.prefix_seen pat_of result) ≡ spec.prefix_at (let_of self.now) }
     {
-        Lead::Let(&self.let_token, &self.pat, &self.eq_token)
+        Prefix::Let(&self.let_token, &self.pat, &self.eq_token)
     }
 
     /// What is to match its pattern.
     pub fn operands(&self) -> Operands<'_, Expr, Arm>
-        ensures { spec.operands_of tree_of arm_of result ≡ spec.operands_at (binding_of self.now) }
+        ensures { spec.operands_of tree_of arm_of result ≡ spec.operands_at (let_of self.now) }
     {
         Operands::One(&self.expr)
     }
@@ -128,14 +128,14 @@ impl ExprLet {
 impl ExprMatch {
     /// What it is, but for what it looks at and its arms.
     pub fn frame(&self) -> Frame<'_, Pat>
-        ensures { Some (spec.frame_seen pat_of result) ≡ spec.frame_at (choice_of self.now) }
+        ensures { Some (spec.frame_seen pat_of result) ≡ spec.frame_at (match_of self.now) }
     {
         Frame::Match(&self.match_token, &self.brace_token)
     }
 
     /// What it looks at, and its arms.
     pub fn operands(&self) -> Operands<'_, Expr, Arm>
-        ensures { spec.operands_of tree_of arm_of result ≡ spec.operands_at (choice_of self.now) }
+        ensures { spec.operands_of tree_of arm_of result ≡ spec.operands_at (match_of self.now) }
     {
         Operands::Arms(&self.expr, &self.attrs, &self.arms)
     }

@@ -7,8 +7,8 @@ ghost use Rattle.syn_expr_kinds.specs.Printed.{whole};
 ghost use Rattle.syn_tokens.specs.Input.{IsFront};
 
 use crate::expr::Expr;
-use syn_expr_notes::context::enclosed;
 use syn_expr_print::print::{HasPrinter, print_in};
+use syn_expr_summaries::context::enclosed;
 use syn_grammar::next::Context;
 use syn_tokens::buffer::ToTokens;
 use syn_tokens::error::{ErrorKind, Result};
@@ -21,7 +21,7 @@ impl HasPrinter for Expr {}
 /// spared, and so may an operation behind attributes. It answers how often a node was visited, at most twice each; a count
 /// that reaches the greatest `u64` stays there.
 ///
-/// It is refused for want of memory alone; a part of the tokens may then stand behind the old ones.
+/// It is refused only because memory ran out; a part of the tokens may then stand behind the old ones.
 pub fn print_counted(expr: &Expr, tokens: &mut TokenStream, context: Context) -> Result<u64>
     ensures text { OnOk result (tokens.new ≡ tokens.old ++ whole context (tree_of expr.now)) }
     ensures front { IsFront tokens.old tokens.new }

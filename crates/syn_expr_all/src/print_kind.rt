@@ -6,8 +6,8 @@ use crate::closure::ExprClosure;
 use crate::control::{Arm, ExprForLoop, ExprLet, ExprMatch};
 use crate::expr::Expr;
 use crate::pat::Pat;
-use syn_expr_kinds::node::{Attributes, Braces, Closure, Frame, Lead, Operands};
-use syn_expr_single::ends::lead;
+use syn_expr_kinds::node::{Attributes, Braces, Closure, Frame, Operands, Prefix};
+use syn_expr_single::ends::prefixed;
 use syn_expr_single::frames::frame;
 use syn_expr_single::part::arm;
 use syn_lower::ty::ReturnType;
@@ -38,7 +38,7 @@ impl ToTokens for ExprClosure {
         };
         match &self.output {
             ReturnType::Default => {
-                lead::<Expr, Pat>(tokens, attributes, Lead::Closure(closure), &self.body)?
+                prefixed::<Expr, Pat>(tokens, attributes, Prefix::Closure(closure), &self.body)?
             }
             ReturnType::Given(_, _) => {
                 let body = Operands::Body(&self.body);
@@ -71,27 +71,27 @@ impl ToTokens for ExprForLoop {
 }
 
 impl ToTokens for ExprLet {
-    ghost use Rattle.syn_expr_all.specs.View.{binding_of};
+    ghost use Rattle.syn_expr_all.specs.View.{let_of};
     ghost use Rattle.syn_expr_kinds.specs.Printed.{whole};
     ghost use Rattle.syn_grammar.specs.Next.{enclosed};
 
-    ghost printed = { λ x. whole enclosed (binding_of x) };
+    ghost printed = { λ x. whole enclosed (let_of x) };
 
     /// Puts `let`, the pattern, `=` and the scrutinee.
     fn to_tokens(&self, tokens: &mut TokenStream) -> Result<()> {
         let attributes = Attributes::Before(&self.attrs);
-        let binding = Lead::Let(&self.let_token, &self.pat, &self.eq_token);
-        lead::<Expr, Pat>(tokens, attributes, binding, &self.expr)?;
+        let let_expr = Prefix::Let(&self.let_token, &self.pat, &self.eq_token);
+        prefixed::<Expr, Pat>(tokens, attributes, let_expr, &self.expr)?;
         Ok(())
     }
 }
 
 impl ToTokens for ExprMatch {
-    ghost use Rattle.syn_expr_all.specs.View.{choice_of};
+    ghost use Rattle.syn_expr_all.specs.View.{match_of};
     ghost use Rattle.syn_expr_kinds.specs.Printed.{whole};
     ghost use Rattle.syn_grammar.specs.Next.{enclosed};
 
-    ghost printed = { λ x. whole enclosed (choice_of x) };
+    ghost printed = { λ x. whole enclosed (match_of x) };
 
     /// Puts `match`, what it looks at, and the arms in braces; the inner attributes stand first in these.
     fn to_tokens(&self, tokens: &mut TokenStream) -> Result<()> {

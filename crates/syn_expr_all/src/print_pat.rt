@@ -6,8 +6,8 @@ ghost use Rattle.syn_tokens.specs.Input.{IsFront};
 ghost use Rattle.syn_tokens.specs.Tok.{ident};
 
 use crate::pat::{Pat, PatGuard};
-use syn_expr_kinds::put::{Grown, grown};
-use syn_expr_put::lead::PutPat;
+use syn_expr_kinds::put::{PutResult, put_result};
+use syn_expr_put::prefix::PutPat;
 use syn_lower::attr::Attribute;
 use syn_pat_kinds::print::{PrintPat, print_attributes};
 use syn_tokens::buffer::ToTokens;
@@ -83,8 +83,8 @@ impl PrintPat for Pat {
 }
 
 impl PutPat for Pat {
-    fn put_pat(&self, tokens: &mut TokenStream) -> Grown {
-        grown(self.print_pat(tokens))
+    fn put_pat(&self, tokens: &mut TokenStream) -> PutResult {
+        put_result(self.print_pat(tokens))
     }
 }
 

@@ -2,20 +2,20 @@
 
 ghost use Rattle.std.specs.Prelude.{◌≡◌, ◌++◌, false, OnOk};
 ghost use Rattle.syn_expr_all.specs.View.{tree_of, pat_of, arm_of};
-ghost use Rattle.syn_expr_kinds.specs.Node.{before_of, framed, frame_guards, frame_of, lead_guards, lead_of, operand_kids, operands_of};
+ghost use Rattle.syn_expr_kinds.specs.Node.{before_of, framed, frame_guards, frame_of, prefix_guards, prefix_of, operand_children, operands_of};
 ghost use Rattle.syn_expr_kinds.specs.Pats.{strays};
 ghost use Rattle.syn_expr_kinds.specs.Printed.{whole};
 ghost use Rattle.syn_grammar.specs.Next.{enclosed};
-ghost use Rattle.syn_grammar.specs.Stands.{is_range_lead};
+ghost use Rattle.syn_grammar.specs.Stands.{is_range_prefix};
 ghost use Rattle.syn_grammar.specs.Tree as e;
-ghost use Rattle.syn_grammar.specs.Tree.{adorn};
+ghost use Rattle.syn_grammar.specs.Tree.{attributed_with};
 ghost use Rattle.syn_tokens.specs.Input.{IsFront};
 
 use crate::control::Arm;
 use crate::expr::Expr;
 use crate::pat::Pat;
-use syn_expr_kinds::node::{Attributes, Frame, Lead, Operands, Operator, Post, Trailer};
-use syn_expr_kinds::put::Grown;
+use syn_expr_kinds::node::{Attributes, Frame, Operands, Operator, Postfix, Prefix, Trailer};
+use syn_expr_kinds::put::PutResult;
 use syn_expr_kinds::shape::PutShape;
 use syn_expr_kinds::structure::FieldValueOf;
 use syn_expr_single::{ends, frames, part, trails};
@@ -31,40 +31,40 @@ impl PutShape for Expr {
         attributes: Attributes<'_>,
         paren: &Paren,
         x: &Expr,
-    ) -> Grown {
+    ) -> PutResult {
         ends::paren(tokens, attributes, paren, x)
     }
 
-    fn put_lead(
+    fn put_prefix(
         tokens: &mut TokenStream,
         attributes: Attributes<'_>,
-        lead: Lead<'_, Pat>,
+        prefix: Prefix<'_, Pat>,
         x: &Expr,
-    ) -> Grown
-        requires { is_range_lead (lead_of pat_of lead) ≡ false }
-        ensures text { OnOk result (tokens.new ≡ tokens.old ++ whole enclosed (adorn (before_of attributes.entry) (e.lead (lead_of pat_of lead.entry) (strays (lead_guards pat_of lead.entry) e.none) (tree_of x.now)))) }
+    ) -> PutResult
+        requires { is_range_prefix (prefix_of pat_of prefix) ≡ false }
+        ensures text { OnOk result (tokens.new ≡ tokens.old ++ whole enclosed (attributed_with (before_of attributes.entry) (e.prefixed (prefix_of pat_of prefix.entry) (strays (prefix_guards pat_of prefix.entry) e.none) (tree_of x.now)))) }
         ensures front { IsFront tokens.old tokens.new }
     {
-        ends::lead(tokens, attributes, lead, x)
+        ends::prefixed(tokens, attributes, prefix, x)
     }
 
-    fn put_mid(
+    fn put_infix(
         tokens: &mut TokenStream,
         attrs: &Vec<Attribute>,
         x: &Expr,
         operator: Operator<'_>,
         y: &Expr,
-    ) -> Grown {
-        ends::mid(tokens, attrs, x, operator, y)
+    ) -> PutResult {
+        ends::infixed(tokens, attrs, x, operator, y)
     }
 
-    fn put_post(
+    fn put_postfix(
         tokens: &mut TokenStream,
         attrs: &Vec<Attribute>,
         x: &Expr,
-        post: Post<'_>,
-    ) -> Grown {
-        ends::post(tokens, attrs, x, post)
+        postfix: Postfix<'_>,
+    ) -> PutResult {
+        ends::postfixed(tokens, attrs, x, postfix)
     }
 
     fn put_range(
@@ -73,7 +73,7 @@ impl PutShape for Expr {
         start: &Option<Box<Expr>>,
         limits: &RangeLimits,
         end: &Option<Box<Expr>>,
-    ) -> Grown {
+    ) -> PutResult {
         ends::range(tokens, attrs, start, limits, end)
     }
 
@@ -82,7 +82,7 @@ impl PutShape for Expr {
         attributes: Attributes<'_>,
         base: &Expr,
         trailer: Trailer<'_>,
-    ) -> Grown {
+    ) -> PutResult {
         trails::trailed(tokens, attributes, base, trailer)
     }
 
@@ -92,7 +92,7 @@ impl PutShape for Expr {
         base: &Box<Expr>,
         trailer: Trailer<'_>,
         args: &Punctuated<Expr, Comma>,
-    ) -> Grown {
+    ) -> PutResult {
         trails::call(tokens, attributes, base, trailer, args)
     }
 
@@ -102,7 +102,7 @@ impl PutShape for Expr {
         base: &Expr,
         bracket: &Bracket,
         index: &Expr,
-    ) -> Grown {
+    ) -> PutResult {
         trails::indexed(tokens, attributes, base, bracket, index)
     }
 
@@ -111,15 +111,15 @@ impl PutShape for Expr {
         attributes: Attributes<'_>,
         frame: Frame<'_, Pat>,
         operands: Operands<'_, Expr, Arm>,
-    ) -> Grown
-        requires { operands_of tree_of arm_of operands ≡ framed (operand_kids (operands_of tree_of arm_of operands)) }
-        ensures text { OnOk result (tokens.new ≡ tokens.old ++ whole enclosed (adorn (before_of attributes.entry) (e.frame (frame_of pat_of frame.entry) (strays (frame_guards pat_of frame.entry) (operand_kids (operands_of tree_of arm_of operands.entry)))))) }
+    ) -> PutResult
+        requires { operands_of tree_of arm_of operands ≡ framed (operand_children (operands_of tree_of arm_of operands)) }
+        ensures text { OnOk result (tokens.new ≡ tokens.old ++ whole enclosed (attributed_with (before_of attributes.entry) (e.frame (frame_of pat_of frame.entry) (strays (frame_guards pat_of frame.entry) (operand_children (operands_of tree_of arm_of operands.entry)))))) }
         ensures front { IsFront tokens.old tokens.new }
     {
         frames::frame::<Expr, Pat>(tokens, attributes, frame, operands)
     }
 
-    fn put_field(tokens: &mut TokenStream, field: &FieldValueOf<Expr>) -> Grown {
+    fn put_field(tokens: &mut TokenStream, field: &FieldValueOf<Expr>) -> PutResult {
         part::field(tokens, field)
     }
 }

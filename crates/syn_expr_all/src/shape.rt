@@ -1,10 +1,10 @@
 //! What is lent of an expression of each kind but for its operands, by the shape that it has.
 
-ghost use Rattle.syn_expr_all.specs.Lents as lents;
+ghost use Rattle.syn_expr_all.specs.Borrowed as borrowed_parts;
 
 use crate::expr::Expr;
 use crate::pat::Pat;
-use syn_expr_kinds::node::{Frame, HasShape, Lead, Leaf, Operator, Post, Trailer};
+use syn_expr_kinds::node::{Frame, HasShape, Leaf, Operator, Postfix, Prefix, Trailer};
 use syn_expr_print::node::HasPrint;
 use syn_tokens::token::Paren;
 
@@ -43,17 +43,17 @@ impl HasShape for Expr {
         }
     }
 
-    fn lead(&self) -> Option<Lead<'_, Pat>> {
+    fn prefix(&self) -> Option<Prefix<'_, Pat>> {
         match self {
-            Expr::Break(x) => x.lead(),
-            Expr::Closure(x) => x.lead(),
-            Expr::Let(x) => Some(x.lead()),
-            Expr::Range(x) => x.lead(),
-            Expr::RawAddr(x) => Some(x.lead()),
-            Expr::Reference(x) => Some(x.lead()),
-            Expr::Return(x) => x.lead(),
-            Expr::Unary(x) => Some(x.lead()),
-            Expr::Yield(x) => x.lead(),
+            Expr::Break(x) => x.prefix(),
+            Expr::Closure(x) => x.prefix(),
+            Expr::Let(x) => Some(x.prefix()),
+            Expr::Range(x) => x.prefix(),
+            Expr::RawAddr(x) => Some(x.prefix()),
+            Expr::Reference(x) => Some(x.prefix()),
+            Expr::Return(x) => x.prefix(),
+            Expr::Unary(x) => Some(x.prefix()),
+            Expr::Yield(x) => x.prefix(),
             _ => None,
         }
     }
@@ -67,10 +67,10 @@ impl HasShape for Expr {
         }
     }
 
-    fn post(&self) -> Option<Post<'_>> {
+    fn postfix(&self) -> Option<Postfix<'_>> {
         match self {
-            Expr::Cast(x) => Some(x.post()),
-            Expr::Range(x) => x.post(),
+            Expr::Cast(x) => Some(x.postfix()),
+            Expr::Range(x) => x.postfix(),
             _ => None,
         }
     }
@@ -105,5 +105,5 @@ impl HasShape for Expr {
 }
 
 impl HasPrint for Expr {
-    ghost lent = { lents.tree_lent };
+    ghost borrowed = { borrowed_parts.tree_borrowed };
 }

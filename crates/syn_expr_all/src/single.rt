@@ -7,7 +7,7 @@ ghost use Rattle.syn_expr_kinds.specs.Exactly.{ReadsExactly};
 ghost use Rattle.syn_expr_kinds.specs.Pats.{arms};
 ghost use Rattle.syn_grammar.specs.Slot as slot;
 ghost use Rattle.syn_grammar.specs.Stands.{Operands};
-ghost use Rattle.syn_grammar.specs.Tree.{Kids};
+ghost use Rattle.syn_grammar.specs.Tree.{Children};
 
 use crate::expr::{Arm, Expr, FieldValue};
 use crate::read_expr::expr_at;
@@ -57,7 +57,7 @@ impl Arm {
     #[tactic(auto, using(crate::proofs::Parts::all_arms))]
     pub fn parse_multiple(input: &mut ParseBuffer<'_>) -> Result<Vec<Arm>>
         ensures read { IfOk result (λ v. Operands slot.arms input.old.rest (arms (map arm_of v.items)) []) }
-        ensures found { (ks : Kids) → Operands slot.arms input.old.rest ks [] → MatchResult result (λ v. arms (map arm_of v.items) ≡ ks) (λ e. e.kind ≡ ErrorKind.OutOfMemory) }
+        ensures found { (ks : Children) → Operands slot.arms input.old.rest ks [] → MatchResult result (λ v. arms (map arm_of v.items) ≡ ks) (λ e. e.kind ≡ ErrorKind.OutOfMemory) }
         ensures end { IfOk result (λ _. input.new.rest ≡ []) }
         ensures noted { input.new.noted ≡ input.old.noted }
         ensures stays { IfErr result (λ _. input.new ≡ input.old) }

@@ -1,2 +1,2 @@
 pub mod Closed
-pub mod Leads
+pub mod Prefixes

@@ -5,8 +5,8 @@ use Rattle.syn_lexer.specs.declared.lexeme.Delimiter.TheVariants as del
 use Rattle.syn_tokens.specs.Front.{group_at}
 use Rattle.syn_grammar.specs.declared.kinds.Place.{Place}
 use Rattle.syn_grammar.specs.Tree as e
-use Rattle.syn_grammar.specs.Tree.{Tree, Lead, Leaf, ClosureHead, lead, none, plain_block}
-use Rattle.syn_grammar.specs.Stands.{lead_stands, lead_place}
+use Rattle.syn_grammar.specs.Tree.{Tree, Prefix, Leaf, ClosureHead, prefixed, none, plain_block}
+use Rattle.syn_grammar.specs.Stands.{prefix_stands, prefix_place}
 use Rattle.syn_grammar.specs.Read.{Reading, ◌>>=◌, ◌<$>◌, expr, standing, framed_by}
 use Rattle.syn_expr_heads.specs.Leaves.{leaf_form as closed_form}
 
@@ -15,16 +15,16 @@ unfoldable pub closed_leaf : Place → Reading Tree
 closed_leaf p = closed_form.reads >>= standing p
 
 -- its operand
-abbrev pub behind : Place → Lead → Reading Tree
-behind p k = lead k none <$> expr (lead_place p k)
+abbrev pub behind : Place → Prefix → Reading Tree
+behind p k = prefixed k none <$> expr (prefix_place p k)
 
 -- its operand, or nothing, where it is a leaf without one
-abbrev pub behind_or : Place → Lead → Leaf → Reading Tree
-behind_or p k x m = if lead_stands p k m then behind p k m else standing p x m
+abbrev pub behind_or : Place → Prefix → Leaf → Reading Tree
+behind_or p k x m = if prefix_stands p k m then behind p k m else standing p x m
 
 -- the body of a closure: an operand, or behind an output a block
 abbrev pub body_of : Place → ClosureHead → Reading Tree
-body_of p h m = if lead_stands p (e.closure h) m then behind p (e.closure h) m else framed_by expr p (e.closure_block h) m
+body_of p h m = if prefix_stands p (e.closure h) m then behind p (e.closure h) m else framed_by expr p (e.closure_block h) m
 
 -- a block that keeps its tokens
 abbrev pub block : Reading Tree

@@ -7,7 +7,7 @@ ghost use Rattle.std.specs.Prelude.{◌≡◌, ◌≢◌, ◌≤◌, ◌+◌, Li
 ghost use Rattle.syn_expr_atoms.specs.Led as led;
 ghost use Rattle.syn_expr_ends.specs.Reads.{Callable, ReadsExpr};
 ghost use Rattle.syn_expr_front.specs.Begins as begins;
-ghost use Rattle.syn_expr_heads.specs.View.{closure_guards, closure_of, jump_of, lead_guards, lead_of};
+ghost use Rattle.syn_expr_heads.specs.View.{closure_guards, closure_of, jump_of, prefix_guards, prefix_of};
 ghost use Rattle.syn_grammar.specs.Head as head;
 ghost use Rattle.syn_grammar.specs.Place as places;
 ghost use Rattle.syn_grammar.specs.Read as read;
@@ -24,14 +24,14 @@ use syn_expr_ends::kinds::{ReadExprs, ReadPats};
 use syn_expr_ends::place::{PLAIN, at};
 use syn_expr_front::sign::{begins_expr, ends_open_range};
 use syn_expr_front::start::Atom;
-use syn_expr_heads::lead::Leads;
-use syn_expr_heads::types::{ClosureHead, JumpHead, LeadHead, LeafHead};
+use syn_expr_heads::prefix::Prefixes;
+use syn_expr_heads::types::{ClosureHead, JumpHead, LeafHead, PrefixHead};
 use syn_expr_kinds::kinds::IsExpr;
 use syn_expr_kinds::operation::{ExprRawAddrOf, ExprReferenceOf, ExprUnaryOf};
 use syn_expr_kinds::pattern::ExprLetOf;
 use syn_grammar::kinds::{Level, Place};
 use syn_lower::ty::{PointerMutability, ReturnType};
-use syn_lower_leaves::kept::block;
+use syn_lower_leaves::verbatim::block;
 use syn_op::limits::RangeLimits;
 use syn_op::op::UnOp;
 use syn_tokens::buffer::ParseBuffer;
@@ -48,23 +48,23 @@ pub struct Atoms<F> {
 
 /// Reads what stands before an operand, over the readers of the patterns in it.
 // Once for each level of a tree the frame of what reads an operand is on the stack. What is large in it has one of its own, as
-// `binding`, `jump` and `closure` do: so trees nest three times as deep in the same stack.
+// `let_expr`, `jump` and `closure` do: so trees nest three times as deep in the same stack.
 #[inline(never)]
-fn lead_head<P: ReadPats + Drop>(input: &mut ParseBuffer<'_>) -> Result<LeadHead<P>>
-    ensures value { Reads (lead_of P.view) (head.lead_form.reads input.old.rest) result input.new.rest }
-    ensures bare { IfOk result (λ h. lead_guards P.view h ≡ []) }
+fn prefix_head<P: ReadPats + Drop>(input: &mut ParseBuffer<'_>) -> Result<PrefixHead<P>>
+    ensures value { Reads (prefix_of P.view) (head.prefix_form.reads input.old.rest) result input.new.rest }
+    ensures bare { IfOk result (λ h. prefix_guards P.view h ≡ []) }
     ensures noted { input.new.noted ≡ input.old.noted }
     ensures shrinks { weight input.new.rest ≤ weight input.old.rest }
 {
-    let leads = Leads {
+    let prefixes = Prefixes {
         pat: |input: &mut ParseBuffer<'_>, multi: bool| P::read_pattern(input, multi),
         arg: |input: &mut ParseBuffer<'_>| P::read_closure_arg(input),
     };
-    leads.lead(input)
+    prefixes.prefix(input)
 }
 
-/// Reads the block behind a closure's output, whose tokens are kept.
-#[tactic(auto, unfolding(syn_parts::specs::Part::block, syn_parts::specs::Part::kept))]
+/// Reads the block behind a closure's output, whose tokens are verbatim.
+#[tactic(auto, unfolding(syn_parts::specs::Part::block, syn_parts::specs::Part::verbatim))]
 fn output_block<E: IsExpr + Drop>(input: &mut ParseBuffer<'_>) -> Result<Box<E>>
     ensures value { Reads (λ b. E.tree b.value) (led.block input.old.rest) result input.new.rest }
     ensures noted { input.new.noted ≡ input.old.noted }
@@ -156,7 +156,7 @@ where
     /// Reads what a pattern is bound to, behind `let` and `=`.
     #[inline(never)]
     #[tactic(auto, unfolding(syn_expr_kinds::specs::Attrs::attrs_of))]
-    fn binding(
+    fn let_expr(
         &self,
         input: &mut ParseBuffer<'_>,
         place: Place,
@@ -167,7 +167,7 @@ where
         requires callable { Callable (weight input.old.rest + 1) (F.pre self.now.expr) }
         requires reads { ReadsExpr E.tree (F.post self.now.expr) }
         requires bare { (E.Pat.view pat).guards ≡ [] }
-        ensures value { Reads (λ b. E.tree b.value) (led.behind place (e.binding (E.Pat.view pat).tree) input.old.rest) result input.new.rest }
+        ensures value { Reads (λ b. E.tree b.value) (led.behind place (e.let_expr (E.Pat.view pat).tree) input.old.rest) result input.new.rest }
         ensures noted { input.new.noted ≡ input.old.noted }
         ensures shrinks { weight input.new.rest ≤ weight input.old.rest }
     {
@@ -186,7 +186,7 @@ where
     /// Reads the end of a range without a start, or nothing where no end follows.
     // Not in the frame of its caller, which is on the stack once for each level of a tree.
     #[inline(never)]
-    #[tactic(auto, unfolding(syn_grammar::specs::Stands::lead_stands))]
+    #[tactic(auto, unfolding(syn_grammar::specs::Stands::prefix_stands))]
     fn range_to(
         &self,
         input: &mut ParseBuffer<'_>,
@@ -226,7 +226,7 @@ where
 
     /// Reads the value of a jump, or nothing where none follows. `value` stands behind the jump's word.
     #[inline(never)]
-    #[tactic(auto, unfolding(syn_grammar::specs::Stands::lead_stands, syn_grammar::specs::Stands::leaf_stands))]
+    #[tactic(auto, unfolding(syn_grammar::specs::Stands::prefix_stands, syn_grammar::specs::Stands::leaf_stands))]
     fn jump(
         &self,
         input: &mut ParseBuffer<'_>,
@@ -254,7 +254,7 @@ where
 
     /// Reads the body of a closure: an expression, or a block behind an output.
     #[inline(never)]
-    #[tactic(auto, using(crate::proofs::Leads::block_reads), unfolding(syn_grammar::specs::Stands::lead_stands))]
+    #[tactic(auto, using(crate::proofs::Prefixes::block_reads), unfolding(syn_grammar::specs::Stands::prefix_stands))]
     fn closure(
         &self,
         input: &mut ParseBuffer<'_>,
@@ -280,42 +280,42 @@ where
     /// has a block (Rust Reference, "Operator expressions", "Borrow operators", "Range expressions", "`let` expressions",
     /// "`return` expressions", "`break` expressions", "Closure expressions").
     ///
-    /// It is refused as `Leads::lead` refuses what stands first, as the expression inside is, as `ExpectedToken` of `{` where
+    /// It is refused as `Prefixes::prefix` refuses what stands first, as the expression inside is, as `ExpectedToken` of `{` where
     /// no block is behind an output, and as `ParenthesesRequired` where a label and `:` stand behind `break`, from the label to
     /// the end of the value.
     // Not in the frame of its caller, which is on the stack once for each level of a tree.
     #[inline(never)]
-    #[tactic(auto, using(crate::proofs::Leads::leads, crate::proofs::Leads::less), unfolding(syn_grammar::specs::Read::lead_read, syn_grammar::specs::Stands::lead_stands))]
-    pub fn lead(&self, input: &mut ParseBuffer<'_>, place: Place) -> Result<Box<E>>
+    #[tactic(auto, using(crate::proofs::Prefixes::prefixes, crate::proofs::Prefixes::less), unfolding(syn_grammar::specs::Read::prefix_read, syn_grammar::specs::Stands::prefix_stands))]
+    pub fn prefix(&self, input: &mut ParseBuffer<'_>, place: Place) -> Result<Box<E>>
         requires callable { Callable (weight input.old.rest) (F.pre self.now.expr) }
         requires reads { ReadsExpr E.tree (F.post self.now.expr) }
-        ensures value { Reads (λ b. E.tree b.value) (read.lead_read read.expr place input.old.rest) result input.new.rest }
+        ensures value { Reads (λ b. E.tree b.value) (read.prefix_read read.expr place input.old.rest) result input.new.rest }
         ensures noted { input.new.noted ≡ input.old.noted }
         ensures shrinks { weight input.new.rest ≤ weight input.old.rest }
     {
         let mut value = input.fork()?;
         value.skip(1);
-        match lead_head(input)? {
-            LeadHead::Unary(op) => self.unary(input, place, op),
-            LeadHead::Reference(and_token, mutability) => {
+        match prefix_head(input)? {
+            PrefixHead::Unary(op) => self.unary(input, place, op),
+            PrefixHead::Reference(and_token, mutability) => {
                 self.reference(input, place, and_token, mutability)
             }
-            LeadHead::RawAddr(and_token, raw, mutability) => {
+            PrefixHead::RawAddr(and_token, raw, mutability) => {
                 self.raw_addr(input, place, and_token, raw, mutability)
             }
-            LeadHead::RangeTo(limits) => self.range_to(input, place, limits),
-            LeadHead::Let(let_token, pat, eq_token) => {
-                self.binding(input, place, let_token, pat, eq_token)
+            PrefixHead::RangeTo(limits) => self.range_to(input, place, limits),
+            PrefixHead::Let(let_token, pat, eq_token) => {
+                self.let_expr(input, place, let_token, pat, eq_token)
             }
-            LeadHead::Jump(jump) => self.jump(input, place, jump, &value),
-            LeadHead::Closure(head) => self.closure(input, place, head),
+            PrefixHead::Jump(jump) => self.jump(input, place, jump, &value),
+            PrefixHead::Closure(head) => self.closure(input, place, head),
         }
     }
 
     /// Reads `become` and an expression, whose tokens are kept with the word. It is refused as the expression is.
     // Not in the frame of its caller, which is on the stack once for each level of a tree.
     #[inline(never)]
-    #[tactic(auto, using(crate::proofs::Leads::becomes))]
+    #[tactic(auto, using(crate::proofs::Prefixes::becomes))]
     pub fn tail_call(&self, input: &mut ParseBuffer<'_>) -> Result<Box<E>>
         requires callable { Callable (weight input.old.rest) (F.pre self.now.expr) }
         requires reads { ReadsExpr E.tree (F.post self.now.expr) }

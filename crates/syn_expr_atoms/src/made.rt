@@ -69,7 +69,7 @@ pub fn range_expr<E: IsExpr>(alloc: Global, limits: RangeLimits, end: Option<Box
 #[tactic(auto, using(syn_expr_kinds::proofs::Attributes::insides), unfolding(syn_expr_kinds::specs::Attrs::outer_of, syn_expr_kinds::specs::Attrs::inner_of))]
 fn loop_expr<E: IsExpr>(label: Option<Label>, loop_token: Loop, body: Body) -> E
     requires inner { attributes_inner (body_of body).inner ≡ true }
-    ensures { E.tree result ≡ e.leaf (e.looping (mapped label_of label) (body_of body)) }
+    ensures { E.tree result ≡ e.leaf (e.loop_expr (mapped label_of label) (body_of body)) }
 {
     E::loop_expr(ExprLoop {
         attrs: body.attrs,

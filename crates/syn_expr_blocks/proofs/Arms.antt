@@ -5,7 +5,7 @@ use Rattle.syn_parts.specs.Tree.{AttributeTree}
 use Rattle.syn_parts.specs.Pat.{PatTree, guarded}
 use Rattle.syn_grammar.specs.Place.{plain, at_head}
 use Rattle.syn_grammar.specs.Tree as e
-use Rattle.syn_grammar.specs.Tree.{Tree, Kids, Ending, Piece}
+use Rattle.syn_grammar.specs.Tree.{Tree, Children, Ending, Piece}
 use Rattle.syn_grammar.specs.Slot as slot
 use Rattle.syn_grammar.specs.Slot.{behind_arm, fat_arrow, piece_form}
 use Rattle.syn_grammar.specs.Stands.{Stands, Operands}
@@ -67,8 +67,8 @@ arm_complete l _ n (with_guard {m = m} {i = i} {h = h} {ats = ats} {p = p} {g = 
 
 -- ---- arms to the end
 
-pub arms_sound : (l : List Tok) (ks : Kids) (n : List Tok) → bare_operands expr slot.arms l ≡ Some (ks, n) → Operands slot.arms l ks n
+pub arms_sound : (l : List Tok) (ks : Children) (n : List Tok) → bare_operands expr slot.arms l ≡ Some (ks, n) → Operands slot.arms l ks n
 arms_sound l ks n h = bare_sound heads expr expr_sound slot.arms l (ks, n) h
 
-pub arms_complete : (l : List Tok) (ks : Kids) (n : List Tok) → Operands slot.arms l ks n → bare_operands expr slot.arms l ≡ Some (ks, n)
+pub arms_complete : (l : List Tok) (ks : Children) (n : List Tok) → Operands slot.arms l ks n → bare_operands expr slot.arms l ≡ Some (ks, n)
 arms_complete l ks n d = bare_read expr (suc (weight l)) (λ p m o x f s. expr_complete p m x o s) slot.arms l n ks d (omega arith)

@@ -13,7 +13,7 @@ use Rattle.syn_parts.specs.Pat.{PatTree, guarded}
 use Rattle.syn_grammar.specs.declared.kinds.Place.{Place}
 use Rattle.syn_grammar.specs.Place.{before_block, plain, at_head}
 use Rattle.syn_grammar.specs.Tree as e
-use Rattle.syn_grammar.specs.Tree.{Tree, Kids, Piece, Ending, Frame, frame, none, kid, plain_block}
+use Rattle.syn_grammar.specs.Tree.{Tree, Children, Piece, Ending, Frame, frame, none, child, plain_block}
 use Rattle.syn_grammar.specs.Slot as slot
 use Rattle.syn_grammar.specs.Head.{label}
 use Rattle.syn_grammar.specs.Slot.{piece_form, ending_at, behind_arm, if_word, else_word, while_word, for_head, fat_arrow, after}
@@ -25,9 +25,9 @@ use Rattle.syn_grammar.proofs.HeadMoves.{IsLess, less_then, then_less, left, end
 use Rattle.syn_grammar.proofs.Lesses.{here}
 use Rattle.syn_grammar.proofs.Fronts.{word_no_brace}
 use Rattle.syn_lower_leaves.proofs.Loops.{map-one}
-use Rattle.syn_expr_kinds.specs.Pats.{ArmView, arm_kids, arms, arm_ending}
+use Rattle.syn_expr_kinds.specs.Pats.{ArmView, arm_children, arms, arm_ending}
 use Rattle.syn_expr_heads.proofs.Turns.{turn, then_same, cond_same, then_assoc, expr_less}
-use Rattle.syn_expr_blocks.specs.Parts.{branch, kept_block, otherwise, headed, labelled, choice, is_comma, arm_body, arm_behind, one_arm, arms_before, arms_behind}
+use Rattle.syn_expr_blocks.specs.Parts.{if_expr, verbatim_block, otherwise, headed, labelled, match_expr, is_comma, arm_body, arm_behind, one_arm, arms_before, arms_behind}
 
 -- ---- what stands behind an operand
 
@@ -46,17 +46,17 @@ group_or_none None f = refl
 group_or_none (Some p) f = refl
 
 -- an operand behind `else`, and what is behind it
-abbrev last_by : Ending × Tree → Reading Kids
-last_by c n = and_then (bare_operands expr slot.done n) (λ ks o. Some (kid e.chained c.0 c.1 ks, o))
+abbrev last_by : Ending × Tree → Reading Children
+last_by c n = and_then (bare_operands expr slot.done n) (λ ks o. Some (child e.chained c.0 c.1 ks, o))
 
-last_is : (c : Ending × Tree) (n : List Tok) → last_by c n ≡ Some (kid e.chained c.0 c.1 none, n)
+last_is : (c : Ending × Tree) (n : List Tok) → last_by c n ≡ Some (child e.chained c.0 c.1 none, n)
 last_is c n = rw (nothing_more n) refl
 
-abbrev chain : Tree → Reading Kids
-chain x n = Some (kid e.chained e.no_ending x none, n)
+abbrev chain : Tree → Reading Children
+chain x n = Some (child e.chained e.no_ending x none, n)
 
-chained_turn : (m : List Tok) → and_then (operand_of expr (bare_operands expr slot.conditions) e.chained m) last_by ≡ and_then (cond (if_word.at m) (branch (drop 1 m)) (kept_block m)) chain
-unfolding branch content frame_stands frame_ends ending_at brace_at
+chained_turn : (m : List Tok) → and_then (operand_of expr (bare_operands expr slot.conditions) e.chained m) last_by ≡ and_then (cond (if_word.at m) (if_expr (drop 1 m)) (verbatim_block m)) chain
+unfolding if_expr content frame_stands frame_ends ending_at brace_at
 chained_turn m = by_if (if_word.at m) refl
   where
     by_block : and_then (cond (is_some (group_at del.Brace m)) (and_then (group_at del.Brace m) (λ i n. Some ((e.no_ending, plain_block i), n))) None) last_by
@@ -67,10 +67,10 @@ chained_turn m = by_if (if_word.at m) refl
         ∙ then_same (group_at del.Brace m) _ _ (λ i n a. last_is (e.no_ending, plain_block i) n)
         ∙ sym (then_assoc (group_at del.Brace m) (λ i n. Some (plain_block i, n)) chain)
 
-    by_if : (w : Bool) → if_word.at m ≡ w → and_then (operand_of expr (bare_operands expr slot.conditions) e.chained m) last_by ≡ and_then (cond (if_word.at m) (branch (drop 1 m)) (kept_block m)) chain
+    by_if : (w : Bool) → if_word.at m ≡ w → and_then (operand_of expr (bare_operands expr slot.conditions) e.chained m) last_by ≡ and_then (cond (if_word.at m) (if_expr (drop 1 m)) (verbatim_block m)) chain
     by_if true h =
-        rw (word_no_brace _ m h, h) (ended_then e.chained (framed_by expr plain e.branch (drop 1 m)) last_by
-        ∙ then_same (framed_by expr plain e.branch (drop 1 m)) _ _ (λ x n a. last_is (e.no_ending, x) n))
+        rw (word_no_brace _ m h, h) (ended_then e.chained (framed_by expr plain e.if_expr (drop 1 m)) last_by
+        ∙ then_same (framed_by expr plain e.if_expr (drop 1 m)) _ _ (λ x n a. last_is (e.no_ending, x) n))
     by_if false h = rw h by_block
 
 otherwise_turn : (l : List Tok) → bare_operands expr slot.otherwise l ≡ otherwise l
@@ -82,24 +82,24 @@ otherwise_turn l = turn slot.otherwise l ∙ by_else (else_word.at l) refl
     by_else false h = rw h refl
 
 -- a condition or an iterator, the block behind it, and what follows
-first_then : {B : Type 0} (k : Piece) (q : Place) (more : Reading Kids) (f : Kids → Reading B) (l : List Tok)
-    → and_then (and_then (and_then (expr q l) (ended_by expr k)) (λ c n. and_then (more n) (λ ks o. Some (kid k c.0 c.1 ks, o)))) f
-    ≡ and_then (expr q l) (λ x m. and_then (ending_at k x m) (λ c n. and_then (more n) (λ ks o. f (kid k c x ks) o)))
+first_then : {B : Type 0} (k : Piece) (q : Place) (more : Reading Children) (f : Children → Reading B) (l : List Tok)
+    → and_then (and_then (and_then (expr q l) (ended_by expr k)) (λ c n. and_then (more n) (λ ks o. Some (child k c.0 c.1 ks, o)))) f
+    ≡ and_then (expr q l) (λ x m. and_then (ending_at k x m) (λ c n. and_then (more n) (λ ks o. f (child k c x ks) o)))
 first_then k q more f l =
-    ap (λ o. and_then o f) (ended_then k (expr q l) (λ c n. and_then (more n) (λ ks o. Some (kid k c.0 c.1 ks, o))))
+    ap (λ o. and_then o f) (ended_then k (expr q l) (λ c n. and_then (more n) (λ ks o. Some (child k c.0 c.1 ks, o))))
     ∙ then_assoc (expr q l) _ f
     ∙ then_same (expr q l) _ _ (λ x m a. then_assoc (ending_at k x m) _ f ∙ then_same (ending_at k x m) _ _ (λ c n b. then_assoc (more n) _ f))
 
-pub branch_turn : (l : List Tok) → branch l
-    ≡ and_then (expr before_block l) (λ x m. and_then (ending_at e.condition x m) (λ c n. and_then (otherwise n) (λ ks o. Some (frame e.branch (kid e.condition c x ks), o))))
-unfolding branch content frame_stands frame_ends piece_form
-branch_turn l =
+pub if_expr_turn : (l : List Tok) → if_expr l
+    ≡ and_then (expr before_block l) (λ x m. and_then (ending_at e.condition x m) (λ c n. and_then (otherwise n) (λ ks o. Some (frame e.if_expr (child e.condition c x ks), o))))
+unfolding if_expr content frame_stands frame_ends piece_form
+if_expr_turn l =
     ap (λ o. and_then o framed) (turn slot.conditions l)
     ∙ first_then e.condition before_block (bare_operands expr slot.otherwise) framed l
-    ∙ then_same (expr before_block l) _ _ (λ x m a. then_same (ending_at e.condition x m) _ _ (λ c n b. ap (λ o. and_then o (λ ks r. framed (kid e.condition c x ks) r)) (otherwise_turn n)))
+    ∙ then_same (expr before_block l) _ _ (λ x m a. then_same (ending_at e.condition x m) _ _ (λ c n b. ap (λ o. and_then o (λ ks r. framed (child e.condition c x ks) r)) (otherwise_turn n)))
   where
-    framed : Kids → Reading Tree
-    framed ks n = Some (frame e.branch ks, n)
+    framed : Children → Reading Tree
+    framed ks n = Some (frame e.if_expr ks, n)
 
 -- ---- loops
 
@@ -108,9 +108,9 @@ unfolding headed piece_form
 loop_then k l =
     ap (λ o. and_then o framed) (turn slot.loops l)
     ∙ first_then e.loop_head before_block (bare_operands expr slot.done) framed l
-    ∙ then_same (expr before_block l) _ _ (λ x m a. then_same (ending_at e.loop_head x m) _ _ (λ c n b. ap (λ o. and_then o (λ ks r. framed (kid e.loop_head c x ks) r)) (nothing_more n)))
+    ∙ then_same (expr before_block l) _ _ (λ x m a. then_same (ending_at e.loop_head x m) _ _ (λ c n b. ap (λ o. and_then o (λ ks r. framed (child e.loop_head c x ks) r)) (nothing_more n)))
   where
-    framed : Kids → Reading Tree
+    framed : Children → Reading Tree
     framed ks n = Some (frame k ks, n)
 
 while_turn : (p : Place) (w : Option Text) (l : List Tok) → framed_by expr p (e.while_loop w) l ≡ headed (e.while_loop w) l
@@ -132,23 +132,23 @@ loop_turn p l = then_same (label.reads l) _ _ (λ w n a. labelled_turn p w n)
 
 -- ---- `match`
 
-before_then : {A B : Type 0} (o : Option A) (f : A → Kids) (g : Kids → B) (n : List Tok) → and_then (before o f n) (λ ks m. Some (g ks, m)) ≡ before o (λ x. g (f x)) n
+before_then : {A B : Type 0} (o : Option A) (f : A → Children) (g : Children → B) (n : List Tok) → and_then (before o f n) (λ ks m. Some (g ks, m)) ≡ before o (λ x. g (f x)) n
 before_then None f g n = refl
 before_then (Some x) f g n = refl
 
-pub choice_turn : (l : List Tok) → choice l
+pub match_turn : (l : List Tok) → match_expr l
     ≡ and_then (expr before_block l) (λ x h. and_then (group_at del.Brace h) (λ i n. and_then (inner_attributes.reads i) (λ ats j.
-    before (all_of (bare_operands expr slot.arms j)) (λ ks. frame e.choice (kid e.scrutinee (e.opened ats) x ks)) n)))
-unfolding choice content frame_stands frame_ends
-choice_turn l =
+    before (all_of (bare_operands expr slot.arms j)) (λ ks. frame e.match_expr (child e.scrutinee (e.opened ats) x ks)) n)))
+unfolding match_expr content frame_stands frame_ends
+match_turn l =
     ap (λ o. and_then o framed) (turn slot.scrutinees l)
     ∙ then_assoc (expr before_block l) _ framed
     ∙ then_same (expr before_block l) _ _ (λ x h a. then_assoc (group_at del.Brace h) _ framed
     ∙ then_same (group_at del.Brace h) _ _ (λ i n b. then_assoc (inner_attributes.reads i) _ framed
-    ∙ then_same (inner_attributes.reads i) _ _ (λ ats j c. before_then (all_of (bare_operands expr slot.arms j)) (λ ks. kid e.scrutinee (e.opened ats) x ks) (frame e.choice) n)))
+    ∙ then_same (inner_attributes.reads i) _ _ (λ ats j c. before_then (all_of (bare_operands expr slot.arms j)) (λ ks. child e.scrutinee (e.opened ats) x ks) (frame e.match_expr) n)))
   where
-    framed : Kids → Reading Tree
-    framed ks n = Some (frame e.choice ks, n)
+    framed : Children → Reading Tree
+    framed ks n = Some (frame e.match_expr ks, n)
 
 -- ---- arms
 
@@ -163,41 +163,41 @@ arm_ends x l c n h = by_comma _ _ h
     by_comma false true g = is (e.no_ending, l) g refl
     by_comma false false g = absurd cc
 
-bare_arm : (x : ArmView) (p : PatTree) (more : Kids) → arm_kids x p [] more ≡ kid (e.arm x.attrs p) (arm_ending x.comma) x.body more
+bare_arm : (x : ArmView) (p : PatTree) (more : Children) → arm_children x p [] more ≡ child (e.arm x.attrs p) (arm_ending x.comma) x.body more
 bare_arm x (guarded p) more = refl
 bare_arm x _ more = refl
 
--- the kids of an arm, before those of the arms that follow
-abbrev arm_then : ArmView → Reading Kids
-arm_then v n = and_then (bare_operands expr slot.arms n) (λ ks o. Some (arm_kids v v.pat.tree v.pat.guards ks, o))
+-- the children of an arm, before those of the arms that follow
+abbrev arm_then : ArmView → Reading Children
+arm_then v n = and_then (bare_operands expr slot.arms n) (λ ks o. Some (arm_children v v.pat.tree v.pat.guards ks, o))
 
--- the body of an arm, with the kid that it is
-body_then : (k : Piece) (f : Kids → Kids) (ats : List AttributeTree) (p : PatTree) (gs : List Tree) (m : List Tok)
-    → ((x : Tree) (c : Ending) (ks : Kids) → arm_ending (is_comma c) ≡ c → f (kid k c x ks) ≡ arm_kids (record { attrs = ats; pat = record { tree = p; guards = gs }; body = x; comma = is_comma c }) p gs ks)
+-- the body of an arm, with the child that it is
+body_then : (k : Piece) (f : Children → Children) (ats : List AttributeTree) (p : PatTree) (gs : List Tree) (m : List Tok)
+    → ((x : Tree) (c : Ending) (ks : Children) → arm_ending (is_comma c) ≡ c → f (child k c x ks) ≡ arm_children (record { attrs = ats; pat = record { tree = p; guards = gs }; body = x; comma = is_comma c }) p gs ks)
     → ((x : Tree) (n : List Tok) → ending_at k x n ≡ behind_arm x n)
-    → and_then (and_then (expr at_head m) (ended_by expr k)) (λ c n. and_then (bare_operands expr slot.arms n) (λ ks o. Some (f (kid k c.0 c.1 ks), o))) ≡ and_then (arm_body ats p gs m) arm_then
+    → and_then (and_then (expr at_head m) (ended_by expr k)) (λ c n. and_then (bare_operands expr slot.arms n) (λ ks o. Some (f (child k c.0 c.1 ks), o))) ≡ and_then (arm_body ats p gs m) arm_then
 unfolding arm_body
 body_then k f ats p gs m same ends =
     ended_then k (expr at_head m) _
     ∙ then_same (expr at_head m) _ _ (λ x n a.
-    ap (λ o. and_then o (λ c r. and_then (bare_operands expr slot.arms r) (λ ks o. Some (f (kid k c x ks), o)))) (ends x n)
+    ap (λ o. and_then o (λ c r. and_then (bare_operands expr slot.arms r) (λ ks o. Some (f (child k c x ks), o)))) (ends x n)
     ∙ then_same (behind_arm x n) _ _ (λ c r b. then_same (bare_operands expr slot.arms r) _ _ (λ ks o d. ap (λ z. Some (z, o)) (same x c ks (arm_ends x n c r b))))
     ∙ sym (then_assoc (behind_arm x n) _ arm_then))
     ∙ sym (then_assoc (expr at_head m) _ arm_then)
 
 -- behind a guard
 bodies_turn : (ats : List AttributeTree) (p : PatTree) (g : Tree) (n : List Tok)
-    → and_then (bare_operands expr slot.bodies n) (λ ks o. Some (kid (e.guard ats p) e.no_ending g ks, o))
+    → and_then (bare_operands expr slot.bodies n) (λ ks o. Some (child (e.guard ats p) e.no_ending g ks, o))
     ≡ and_then (and_then ((piece_form slot.bodies).reads n) (λ k o. arm_body ats (guarded p) (g ∷ []) o)) arm_then
 unfolding piece_form ending_at
-bodies_turn ats p g n = ap (λ o. and_then o (λ ks o. Some (kid (e.guard ats p) e.no_ending g ks, o))) (turn slot.bodies n) ∙ by_arrow (fat_arrow.at n) refl
+bodies_turn ats p g n = ap (λ o. and_then o (λ ks o. Some (child (e.guard ats p) e.no_ending g ks, o))) (turn slot.bodies n) ∙ by_arrow (fat_arrow.at n) refl
   where
-    by_arrow : (b : Bool) → fat_arrow.at n ≡ b → and_then (operands_by expr (bare_operands expr) slot.bodies n) (λ ks o. Some (kid (e.guard ats p) e.no_ending g ks, o))
+    by_arrow : (b : Bool) → fat_arrow.at n ≡ b → and_then (operands_by expr (bare_operands expr) slot.bodies n) (λ ks o. Some (child (e.guard ats p) e.no_ending g ks, o))
         ≡ and_then (and_then ((piece_form slot.bodies).reads n) (λ k o. arm_body ats (guarded p) (g ∷ []) o)) arm_then
     by_arrow true h = rw h
-        (then_assoc (and_then (expr at_head (drop 2 n)) (ended_by expr e.guarded)) _ (λ ks o. Some (kid (e.guard ats p) e.no_ending g ks, o))
-        ∙ then_same (and_then (expr at_head (drop 2 n)) (ended_by expr e.guarded)) _ _ (λ c r a. then_assoc (bare_operands expr slot.arms r) _ (λ ks o. Some (kid (e.guard ats p) e.no_ending g ks, o)))
-        ∙ body_then e.guarded (λ ks. kid (e.guard ats p) e.no_ending g ks) ats (guarded p) (g ∷ []) (drop 2 n) (λ x c ks a. rw a refl) (λ x r. refl))
+        (then_assoc (and_then (expr at_head (drop 2 n)) (ended_by expr e.guarded)) _ (λ ks o. Some (child (e.guard ats p) e.no_ending g ks, o))
+        ∙ then_same (and_then (expr at_head (drop 2 n)) (ended_by expr e.guarded)) _ _ (λ c r a. then_assoc (bare_operands expr slot.arms r) _ (λ ks o. Some (child (e.guard ats p) e.no_ending g ks, o)))
+        ∙ body_then e.guarded (λ ks. child (e.guard ats p) e.no_ending g ks) ats (guarded p) (g ∷ []) (drop 2 n) (λ x c ks a. rw a refl) (λ x r. refl))
     by_arrow false h = rw h refl
 
 abbrev is_arm : Piece → Bool
@@ -212,14 +212,14 @@ arm_form (e.arm ats p) l m h = refl
 arm_form _ l m h = absurd cc
 
 piece_turn : (k : Piece) (m : List Tok) → is_arm k ≡ true
-    → and_then (operand_of expr (bare_operands expr slot.conditions) k m) (λ c n. and_then (bare_operands expr (after k) n) (λ ks o. Some (kid k c.0 c.1 ks, o))) ≡ and_then (arm_behind k m) arm_then
+    → and_then (operand_of expr (bare_operands expr slot.conditions) k m) (λ c n. and_then (bare_operands expr (after k) n) (λ ks o. Some (child k c.0 c.1 ks, o))) ≡ and_then (arm_behind k m) arm_then
 unfolding ending_at
 piece_turn (e.guard ats p) m h =
     ended_then (e.guard ats p) (expr plain m) _
     ∙ then_same (expr plain m) _ _ (λ g n a. bodies_turn ats p g n)
     ∙ sym (then_assoc (expr plain m) _ arm_then)
 piece_turn (e.arm ats p) m h =
-    body_then (e.arm ats p) (λ ks. ks) ats p [] m (λ x c ks a. ap (λ d. kid (e.arm ats p) d x ks) (sym a) ∙ sym (bare_arm (record { attrs = ats; pat = record { tree = p; guards = [] }; body = x; comma = is_comma c }) p ks)) (λ x n. refl)
+    body_then (e.arm ats p) (λ ks. ks) ats p [] m (λ x c ks a. ap (λ d. child (e.arm ats p) d x ks) (sym a) ∙ sym (bare_arm (record { attrs = ats; pat = record { tree = p; guards = [] }; body = x; comma = is_comma c }) p ks)) (λ x n. refl)
 piece_turn _ m h = absurd cc
 
 arms_turn : (l : List Tok) → bare_operands expr slot.arms l ≡ cond (is_empty l) (Some (none, l)) (and_then (one_arm l) arm_then)
@@ -233,22 +233,22 @@ arms_turn l =
 -- arms before no others, and before one more
 arms_are : (xs : List ArmView) → arms_before xs none ≡ arms xs
 arms_are [] = refl
-arms_are (x ∷ xs) = ap (λ ks. arm_kids x x.pat.tree x.pat.guards ks) (arms_are xs)
+arms_are (x ∷ xs) = ap (λ ks. arm_children x x.pat.tree x.pat.guards ks) (arms_are xs)
 
-arms_one : (xs : List ArmView) (x : ArmView) (ks : Kids) → arms_before (xs ++ x ∷ []) ks ≡ arms_before xs (arm_kids x x.pat.tree x.pat.guards ks)
+arms_one : (xs : List ArmView) (x : ArmView) (ks : Children) → arms_before (xs ++ x ∷ []) ks ≡ arms_before xs (arm_children x x.pat.tree x.pat.guards ks)
 arms_one [] x ks = refl
-arms_one (y ∷ ys) x ks = ap (λ z. arm_kids y y.pat.tree y.pat.guards z) (arms_one ys x ks)
+arms_one (y ∷ ys) x ks = ap (λ z. arm_children y y.pat.tree y.pat.guards z) (arms_one ys x ks)
 
 pub arms_more : (found : List ArmView) (l : List Tok) → arms_behind found l
     ≡ cond (is_empty l) (Some (arms found, l)) (and_then (one_arm l) (λ x n. arms_behind (found ++ x ∷ []) n))
 unfolding arms_behind
 arms_more found l = ap (λ o. and_then o past) (arms_turn l) ∙ by_end (is_empty l)
   where
-    past : Kids → Reading Kids
+    past : Children → Reading Children
     past ks n = Some (arms_before found ks, n)
 
-    by_end : (b : Bool) → and_then (cond {A = Outcome Kids} b (Some (none, l)) (and_then (one_arm l) arm_then)) past
-        ≡ cond {A = Outcome Kids} b (Some (arms found, l)) (and_then (one_arm l) (λ x n. and_then (bare_operands expr slot.arms n) (λ ks o. Some (arms_before (found ++ x ∷ []) ks, o))))
+    by_end : (b : Bool) → and_then (cond {A = Outcome Children} b (Some (none, l)) (and_then (one_arm l) arm_then)) past
+        ≡ cond {A = Outcome Children} b (Some (arms found, l)) (and_then (one_arm l) (λ x n. and_then (bare_operands expr slot.arms n) (λ ks o. Some (arms_before (found ++ x ∷ []) ks, o))))
     by_end true = ap (λ ks. Some (ks, l)) (arms_are found)
     by_end false =
         then_assoc (one_arm l) arm_then past
@@ -259,7 +259,7 @@ pub arms_start : (l : List Tok) → bare_operands expr slot.arms l ≡ arms_behi
 unfolding arms_behind
 arms_start l = by_outcome (bare_operands expr slot.arms l)
   where
-    by_outcome : (o : Outcome Kids) → o ≡ and_then o (λ ks n. Some (ks, n))
+    by_outcome : (o : Outcome Children) → o ≡ and_then o (λ ks n. Some (ks, n))
     by_outcome None = refl
     by_outcome (Some q) = refl
 
@@ -299,13 +299,13 @@ arm_less l x n h = let d = arm_is_less l x n h in d.less
 pub for_less : (l : List Tok) (t : PatTree) (n : List Tok) → for_head.reads l ≡ Some (t, n) → weight n < weight l
 for_less l t n h = let f = here.for_heads in omega (arith, f.moves l n t h)
 
-pub ruleset branches = (branch_turn)
+pub ruleset if_exprs = (if_expr_turn)
 
 pub ruleset for_loops = (for_less)
 
 pub ruleset loops = (loop_turn)
 
-pub ruleset choices = (choice_turn)
+pub ruleset match_exprs = (match_turn)
 
 pub ruleset one = (arm_less)
 

@@ -8,33 +8,33 @@ use Rattle.syn_parts.specs.Tree.{AttributeTree}
 use Rattle.syn_parts.specs.Pat.{PatTree, guarded}
 use Rattle.syn_grammar.specs.Place.{plain, before_block, at_head}
 use Rattle.syn_grammar.specs.Tree as e
-use Rattle.syn_grammar.specs.Tree.{Tree, Kids, Ending, Piece, Frame, frame, none, kid, plain_block}
+use Rattle.syn_grammar.specs.Tree.{Tree, Children, Ending, Piece, Frame, frame, none, child, plain_block}
 use Rattle.syn_grammar.specs.Slot as slot
 use Rattle.syn_grammar.specs.Slot.{if_word, else_word, while_word, for_head, behind_arm, ending_at, piece_form}
 use Rattle.syn_grammar.specs.Read.{Reading, expr, framed_by, bare_operands}
-use Rattle.syn_expr_kinds.specs.Pats.{ArmView, arm_kids}
+use Rattle.syn_expr_kinds.specs.Pats.{ArmView, arm_children}
 
 -- ---- `if`
 
 -- an `if` behind its word, wherever it stands
-unfoldable pub branch : Reading Tree
-branch l = framed_by expr plain e.branch l
+unfoldable pub if_expr : Reading Tree
+if_expr l = framed_by expr plain e.if_expr l
 
--- a block, whose tokens are kept
-abbrev pub kept_block : Reading Tree
-kept_block l = and_then (group_at del.Brace l) (λ i n. Some (plain_block i, n))
+-- a block, whose tokens are verbatim
+abbrev pub verbatim_block : Reading Tree
+verbatim_block l = and_then (group_at del.Brace l) (λ i n. Some (plain_block i, n))
 
 -- behind the block of an `if`: `else` before an `if` or a block, or nothing
-abbrev pub otherwise : Reading Kids
+abbrev pub otherwise : Reading Children
 otherwise l =
-    if else_word.at l then and_then (if if_word.at (drop 1 l) then branch (drop 1 (drop 1 l)) else kept_block (drop 1 l)) (λ x n. Some (kid e.chained e.no_ending x none, n))
+    if else_word.at l then and_then (if if_word.at (drop 1 l) then if_expr (drop 1 (drop 1 l)) else verbatim_block (drop 1 l)) (λ x n. Some (child e.chained e.no_ending x none, n))
     else Some (none, l)
 
 -- ---- loops
 
 -- a loop behind its word, or behind `in`
 unfoldable pub headed : Frame → Reading Tree
-headed k l = and_then (expr before_block l) (λ x m. and_then (ending_at e.loop_head x m) (λ c n. Some (frame k (kid e.loop_head c x none), n)))
+headed k l = and_then (expr before_block l) (λ x m. and_then (ending_at e.loop_head x m) (λ c n. Some (frame k (child e.loop_head c x none), n)))
 
 -- a loop behind its label
 abbrev pub labelled : Option Text → Reading Tree
@@ -45,8 +45,8 @@ labelled w l =
 -- ---- `match`
 
 -- a `match` behind its word, wherever it stands
-unfoldable pub choice : Reading Tree
-choice l = framed_by expr plain e.choice l
+unfoldable pub match_expr : Reading Tree
+match_expr l = framed_by expr plain e.match_expr l
 
 abbrev pub is_comma : Ending → Bool
 is_comma e.comma = true
@@ -69,10 +69,10 @@ unfoldable pub one_arm : Reading ArmView
 one_arm l = and_then ((piece_form slot.arms).reads l) arm_behind
 
 -- these arms, before others
-abbrev pub arms_before : List ArmView → Kids → Kids
+abbrev pub arms_before : List ArmView → Children → Children
 arms_before [] ks = ks
-arms_before (x ∷ xs) ks = arm_kids x x.pat.tree x.pat.guards (arms_before xs ks)
+arms_before (x ∷ xs) ks = arm_children x x.pat.tree x.pat.guards (arms_before xs ks)
 
 -- the arms behind these, and they
-unfoldable pub arms_behind : List ArmView → Reading Kids
+unfoldable pub arms_behind : List ArmView → Reading Children
 arms_behind found l = and_then (bare_operands expr slot.arms l) (λ ks n. Some (arms_before found ks, n))

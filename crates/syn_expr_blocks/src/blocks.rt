@@ -35,7 +35,7 @@ use syn_expr_kinds::pattern::{ArmOf, ExprForLoopOf, ExprMatchOf, PatGuardOf};
 use syn_expr_parts::label::Label;
 use syn_grammar::kinds::Place;
 use syn_lower_leaves::attr::Attribute;
-use syn_lower_leaves::kept::{block, inner_attributes};
+use syn_lower_leaves::verbatim::{block, inner_attributes};
 use syn_tokens::buffer::ParseBuffer;
 use syn_tokens::error::Result;
 use syn_tokens::token::{Else, FatArrow, If, Match, While};
@@ -55,9 +55,9 @@ fn boxed<T: Drop>(alloc: Global, x: T) -> std::result::Result<Box<T>, AllocError
 }
 
 /// Reads a block, as an expression.
-#[tactic(auto, unfolding(syn_parts::specs::Part::block, syn_parts::specs::Part::kept, syn_expr_kinds::specs::Attrs::outer_of, syn_expr_kinds::specs::Attrs::inner_of))]
-fn kept_block<E: IsExpr + Drop>(input: &mut ParseBuffer<'_>) -> Result<Box<E>>
-    ensures value { Reads (λ x. E.tree x.value) (parts.kept_block input.old.rest) result input.new.rest }
+#[tactic(auto, unfolding(syn_parts::specs::Part::block, syn_parts::specs::Part::verbatim, syn_expr_kinds::specs::Attrs::outer_of, syn_expr_kinds::specs::Attrs::inner_of))]
+fn verbatim_block<E: IsExpr + Drop>(input: &mut ParseBuffer<'_>) -> Result<Box<E>>
+    ensures value { Reads (λ x. E.tree x.value) (parts.verbatim_block input.old.rest) result input.new.rest }
     ensures noted { input.new.noted ≡ input.old.noted }
     ensures shrinks { weight input.new.rest ≤ weight input.old.rest }
 {
@@ -80,11 +80,11 @@ where
     // Not in the frame of its caller, which is on the stack once for each level of a tree.
     #[inline(never)]
     #[cycle(chain)]
-    #[tactic(auto, using(crate::proofs::Parts::branches), unfolding(syn_expr_kinds::specs::Attrs::attrs_of))]
+    #[tactic(auto, using(crate::proofs::Parts::if_exprs), unfolding(syn_expr_kinds::specs::Attrs::attrs_of))]
     fn chain(&self, input: &mut ParseBuffer<'_>, if_token: If) -> Result<Box<E>>
         requires callable { Callable (weight input.old.rest + 1) (F.pre self.now.expr) }
         requires reads { ReadsExpr E.tree (F.post self.now.expr) }
-        ensures value { Reads (λ x. E.tree x.value) (parts.branch input.old.rest) result input.new.rest }
+        ensures value { Reads (λ x. E.tree x.value) (parts.if_expr input.old.rest) result input.new.rest }
         ensures noted { input.new.noted ≡ input.old.noted }
         ensures shrinks { weight input.new.rest ≤ weight input.old.rest }
     {
@@ -116,7 +116,7 @@ where
         };
         let x = match if_word(input) {
             Some(if_token) => self.chain(input, if_token)?,
-            None => kept_block(input)?,
+            None => verbatim_block(input)?,
         };
         Ok(Some((else_token, x)))
     }
@@ -124,11 +124,11 @@ where
     /// Reads an `if` behind its word: a condition, a block, and `else` before another `if` or a block, or nothing (Rust
     /// Reference, "`if` expressions"). It is refused as the condition is, and as `ExpectedToken` of `{` where a block is
     /// missing.
-    #[tactic(auto, unfolding(crate::specs::Parts::branch, syn_grammar::specs::Stands::frame_stands, syn_grammar::specs::Stands::frame_ends))]
-    pub fn branch(&self, input: &mut ParseBuffer<'_>, place: Place, if_token: If) -> Result<Box<E>>
+    #[tactic(auto, unfolding(crate::specs::Parts::if_expr, syn_grammar::specs::Stands::frame_stands, syn_grammar::specs::Stands::frame_ends))]
+    pub fn if_expr(&self, input: &mut ParseBuffer<'_>, place: Place, if_token: If) -> Result<Box<E>>
         requires callable { Callable (weight input.old.rest + 1) (F.pre self.now.expr) }
         requires reads { ReadsExpr E.tree (F.post self.now.expr) }
-        ensures value { Reads (λ x. E.tree x.value) (read.framed_by read.expr place e.branch input.old.rest) result input.new.rest }
+        ensures value { Reads (λ x. E.tree x.value) (read.framed_by read.expr place e.if_expr input.old.rest) result input.new.rest }
         ensures noted { input.new.noted ≡ input.old.noted }
         ensures shrinks { weight input.new.rest ≤ weight input.old.rest }
     {
@@ -290,11 +290,11 @@ where
     /// Reads a `match` behind its word.
     // Not in the frame of its caller, which is on the stack once for each level of a tree.
     #[inline(never)]
-    #[tactic(auto, using(crate::proofs::Parts::choices, crate::proofs::Inner::inners))]
+    #[tactic(auto, using(crate::proofs::Parts::match_exprs, crate::proofs::Inner::inners))]
     fn matched(&self, input: &mut ParseBuffer<'_>, match_token: Match) -> Result<Box<E>>
         requires callable { Callable (weight input.old.rest + 1) (F.pre self.now.expr) }
         requires reads { ReadsExpr E.tree (F.post self.now.expr) }
-        ensures value { Reads (λ x. E.tree x.value) (parts.choice input.old.rest) result input.new.rest }
+        ensures value { Reads (λ x. E.tree x.value) (parts.match_expr input.old.rest) result input.new.rest }
         ensures noted { input.new.noted ≡ input.old.noted }
         ensures shrinks { weight input.new.rest ≤ weight input.old.rest }
     {
@@ -315,8 +315,8 @@ where
     /// Reads a `match` behind its word: what it looks at, and its arms in braces, each with its guard, its body and its
     /// comma (Rust Reference, "Match expressions"). It is refused as `ExpectedToken` where a token is missing, and inside
     /// as a pattern or an expression is.
-    #[tactic(auto, unfolding(crate::specs::Parts::choice, syn_grammar::specs::Stands::frame_stands, syn_grammar::specs::Stands::frame_ends))]
-    pub fn choice(
+    #[tactic(auto, unfolding(crate::specs::Parts::match_expr, syn_grammar::specs::Stands::frame_stands, syn_grammar::specs::Stands::frame_ends))]
+    pub fn match_expr(
         &self,
         input: &mut ParseBuffer<'_>,
         place: Place,
@@ -324,7 +324,7 @@ where
     ) -> Result<Box<E>>
         requires callable { Callable (weight input.old.rest + 1) (F.pre self.now.expr) }
         requires reads { ReadsExpr E.tree (F.post self.now.expr) }
-        ensures value { Reads (λ x. E.tree x.value) (read.framed_by read.expr place e.choice input.old.rest) result input.new.rest }
+        ensures value { Reads (λ x. E.tree x.value) (read.framed_by read.expr place e.match_expr input.old.rest) result input.new.rest }
         ensures noted { input.new.noted ≡ input.old.noted }
         ensures shrinks { weight input.new.rest ≤ weight input.old.rest }
     {

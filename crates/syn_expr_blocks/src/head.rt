@@ -7,7 +7,7 @@ ghost use Rattle.syn_lower_leaves.specs.Reads.{Reads};
 ghost use Rattle.syn_tokens.specs.Tok.{weight};
 
 use syn_expr_ends::kinds::ReadPats;
-use syn_expr_heads::lead::Leads;
+use syn_expr_heads::prefix::Prefixes;
 use syn_expr_heads::types::{ArmHead, ForHead};
 use syn_tokens::buffer::ParseBuffer;
 use syn_tokens::error::Result;
@@ -19,11 +19,11 @@ pub(crate) fn for_head<P: ReadPats + Drop>(input: &mut ParseBuffer<'_>) -> Resul
     ensures noted { input.new.noted ≡ input.old.noted }
     ensures shrinks { weight input.new.rest ≤ weight input.old.rest }
 {
-    let leads = Leads {
+    let prefixes = Prefixes {
         pat: |input: &mut ParseBuffer<'_>, multi: bool| P::read_pattern(input, multi),
         arg: |input: &mut ParseBuffer<'_>| P::read_closure_arg(input),
     };
-    leads.for_head(input)
+    prefixes.for_head(input)
 }
 
 /// Reads an arm up to its guard or its body.
@@ -33,9 +33,9 @@ pub(crate) fn arm_head<P: ReadPats + Drop>(input: &mut ParseBuffer<'_>) -> Resul
     ensures noted { input.new.noted ≡ input.old.noted }
     ensures shrinks { weight input.new.rest ≤ weight input.old.rest }
 {
-    let leads = Leads {
+    let prefixes = Prefixes {
         pat: |input: &mut ParseBuffer<'_>, multi: bool| P::read_pattern(input, multi),
         arg: |input: &mut ParseBuffer<'_>| P::read_closure_arg(input),
     };
-    leads.arm(input)
+    prefixes.arm(input)
 }

@@ -3,7 +3,7 @@
 ghost use Rattle.std.specs.Prelude.{◌≡◌, ◌≤◌, IfOk, [], MatchResult, true, false};
 ghost use Rattle.syn_expr_ends.specs.Paths.{is_path};
 ghost use Rattle.syn_expr_kinds.specs.Attrs.{attrs_of};
-ghost use Rattle.syn_grammar.specs.Stands.{holds_block, is_adorned, is_verbatim};
+ghost use Rattle.syn_grammar.specs.Stands.{holds_block, is_attributed, is_verbatim};
 ghost use Rattle.syn_grammar.specs.Tree as e;
 ghost use Rattle.syn_lower.specs.View.{path_of, qself_or, type_of};
 ghost use Rattle.syn_lower_leaves.specs.Reads.{Reads};
@@ -46,7 +46,7 @@ pub trait ReadExprs: IsExpr + HasNode + HasKind {
     fn holds_block(&self) -> bool
         ensures { result ≡ holds_block (Self.tree self.now) };
 
-    /// The tokens that are kept, where it is of these; else it is given back.
+    /// The verbatim tokens, where it is of these; else it is given back.
     fn into_verbatim(self) -> std::result::Result<TokenStream, Self>
         ensures { MatchResult result (λ ts. Self.tree self ≡ e.leaf (e.verbatim ts)) (λ x. (x ≡ self) × (is_verbatim (Self.tree self) ≡ false)) };
 
@@ -54,10 +54,10 @@ pub trait ReadExprs: IsExpr + HasNode + HasKind {
     fn into_path(self) -> std::result::Result<(Option<QSelf>, Path), Self>
         ensures { MatchResult result (λ p. Self.tree self ≡ e.leaf (e.path (qself_or type_of p.0) (path_of type_of p.1))) (λ x. (x ≡ self) × (is_path (Self.tree self) ≡ false)) };
 
-    /// It with outer attributes before it, where none stand before it and it isn't of tokens that are kept.
+    /// It with outer attributes before it, where none stand before it and it isn't of verbatim tokens.
     fn with_attrs(self, attrs: Vec<Attribute>) -> std::result::Result<Self, AllocError>
         requires outer { attributes_outer (attrs_of attrs) ≡ true }
-        requires bare { is_adorned (Self.tree self) ≡ false }
-        requires not_kept { is_verbatim (Self.tree self) ≡ false }
-        ensures { IfOk result (λ x. Self.tree x ≡ e.adorn (attrs_of attrs) (Self.tree self)) };
+        requires bare { is_attributed (Self.tree self) ≡ false }
+        requires not_verbatim { is_verbatim (Self.tree self) ≡ false }
+        ensures { IfOk result (λ x. Self.tree x ≡ e.attributed_with (attrs_of attrs) (Self.tree self)) };
 }

@@ -11,11 +11,11 @@ use Rattle.syn_grammar.specs.declared.next.Next.{Next}
 use Rattle.syn_grammar.specs.declared.next.Next.TheVariants as next
 use Rattle.syn_grammar.specs.Op.{level, is_comparison}
 use Rattle.syn_grammar.specs.Next.{class_of, next_of, begins_next, is_block_next, is_brace_next, left_context, base_context}
-use Rattle.syn_grammar.specs.Notes.{note_of, has, misplaced_by, wrapped_by, left_wrapped_by, base_wrapped_by}
+use Rattle.syn_grammar.specs.Summaries.{summary_of, has, misplaced_by, wrapped_by, left_wrapped_by, base_wrapped_by}
 use Rattle.syn_grammar.specs.Rule.{is_less_next, is_operation, bad, low, refuses, place_wrapped, left_wrapped, base_wrapped}
 use Rattle.syn_grammar.specs.Tree as e
-use Rattle.syn_grammar.specs.Tree.{Tree, Kids, Lead, Trailer, leaf, paren, adorned, lead, mid, post, tail, frame}
-use Rattle.syn_grammar.proofs.NoteLemmas.{noted, wrapped_same, left_same, base_same}
+use Rattle.syn_grammar.specs.Tree.{Tree, Children, Prefix, Trailer, leaf, paren, attributed, prefixed, infixed, postfixed, tail, frame}
+use Rattle.syn_grammar.proofs.SummaryLemmas.{summarized, wrapped_same, left_same, base_same}
 use Rattle.syn_expr_fixup.specs.Fixup.{Fits, parenthesized}
 use Rattle.syn_expr_fixup.specs.Operator.{operator_at}
 
@@ -73,14 +73,14 @@ none_fits k v b g f h = subst (λ r. IsLike r k) h (fits_like k v b g f)
 -- ---- operands
 
 pub left_level : (k o : Infix) (v : Level) (b g : Bool) (t : Tree) → Fits k v b g → operator_at v b g ≡ Some o
-    → left_wrapped_by o (note_of t) ≡ left_wrapped k t (bad t (class_of k))
-left_level k o v b g t f h = let a = same_class k o v b g f h in let c = same_comparison k o v b g f h in rw (sym a, sym c) (left_same o (note_of t) t (noted t))
+    → left_wrapped_by o (summary_of t) ≡ left_wrapped k t (bad t (class_of k))
+left_level k o v b g t f h = let a = same_class k o v b g f h in let c = same_comparison k o v b g f h in rw (sym a, sym c) (left_same o (summary_of t) t (summarized t))
 
 pub left_place : (k o : Infix) (v : Level) (b g : Bool) (c : Context) → Fits k v b g → operator_at v b g ≡ Some o → left_context o c ≡ left_context k c
 left_place k o v b g c f h = let a = same_class k o v b g f h in rw a refl
 
-pub base_level : (k : Trailer) (t : Tree) → base_wrapped_by k (note_of t) ≡ base_wrapped k t (bad t (next_of k))
-base_level k t = base_same k (note_of t) t (noted t)
+pub base_level : (k : Trailer) (t : Tree) → base_wrapped_by k (summary_of t) ≡ base_wrapped k t (bad t (next_of k))
+base_level k t = base_same k (summary_of t) t (summarized t)
 
 pub dot_level : (k : Trailer) (t : Tree) → next_of k ≡ next.Dot → base_wrapped e.await t (bad t next.Dot) ≡ base_wrapped k t (bad t next.Dot)
 dot_level e.call t h = absurd cc
@@ -88,7 +88,7 @@ dot_level e.index t h = absurd cc
 dot_level (e.method w a) t h = refl
 dot_level (e.field m) t h = refl
 dot_level e.await t h = refl
-dot_level e.question t h = absurd cc
+dot_level e.try_expr t h = absurd cc
 
 pub dot_place : (k : Trailer) (c : Context) → next_of k ≡ next.Dot → base_context e.await c ≡ base_context k c
 dot_place e.call c h = absurd cc
@@ -96,48 +96,48 @@ dot_place e.index c h = absurd cc
 dot_place (e.method w a) c h = refl
 dot_place (e.field m) c h = refl
 dot_place e.await c h = refl
-dot_place e.question c h = absurd cc
+dot_place e.try_expr c h = absurd cc
 
-pub place_level : (v : Level) (n : Next) (t : Tree) → wrapped_by v (note_of t) n ≡ place_wrapped v t n (low t) (bad t n)
-place_level v n t = wrapped_same v (note_of t) t n (noted t)
+pub place_level : (v : Level) (n : Next) (t : Tree) → wrapped_by v (summary_of t) n ≡ place_wrapped v t n (low t) (bad t n)
+place_level v n t = wrapped_same v (summary_of t) t n (summarized t)
 
 -- ---- a brace behind a node is no operator and no trailer: what must not have it behind it refuses it itself
 
-no_block_behind : (k : Lead) (gs : Kids) (t : Tree) → bad (lead k gs t) next.Block ≡ false
+no_block_behind : (k : Prefix) (gs : Children) (t : Tree) → bad (prefixed k gs t) next.Block ≡ false
 no_block_behind (e.unary o) gs t = refl
 no_block_behind (e.reference m) gs t = refl
 no_block_behind (e.raw_addr m) gs t = refl
 no_block_behind (e.range_to o) gs t = refl
-no_block_behind (e.binding p) gs t = refl
+no_block_behind (e.let_expr p) gs t = refl
 no_block_behind (e.jump j) gs t = refl
 no_block_behind (e.closure h) gs t = refl
 
 no_block : (t : Tree) → bad t next.Block ≡ false
 no_block (leaf k) = refl
 no_block (paren m t) = refl
-no_block (adorned a more t) = ap (λ b. not (is_operation t) && b) (no_block t) ∙ and-false (not (is_operation t))
-no_block (lead k gs t) = no_block_behind k gs t
-no_block (mid x k y) = refl
-no_block (post x k) = refl
+no_block (attributed a more t) = ap (λ b. not (is_operation t) && b) (no_block t) ∙ and-false (not (is_operation t))
+no_block (prefixed k gs t) = no_block_behind k gs t
+no_block (infixed x k y) = refl
+no_block (postfixed x k) = refl
 no_block (tail b k ks) = refl
 no_block (frame k ks) = refl
 
-no_brace_behind : (k : Lead) (gs : Kids) (t : Tree) → bad (lead k gs t) next.Brace ≡ false
+no_brace_behind : (k : Prefix) (gs : Children) (t : Tree) → bad (prefixed k gs t) next.Brace ≡ false
 no_brace_behind (e.unary o) gs t = refl
 no_brace_behind (e.reference m) gs t = refl
 no_brace_behind (e.raw_addr m) gs t = refl
 no_brace_behind (e.range_to o) gs t = refl
-no_brace_behind (e.binding p) gs t = refl
+no_brace_behind (e.let_expr p) gs t = refl
 no_brace_behind (e.jump j) gs t = refl
 no_brace_behind (e.closure h) gs t = refl
 
 no_brace : (t : Tree) → bad t next.Brace ≡ false
 no_brace (leaf k) = refl
 no_brace (paren m t) = refl
-no_brace (adorned a more t) = ap (λ b. not (is_operation t) && b) (no_brace t) ∙ and-false (not (is_operation t))
-no_brace (lead k gs t) = no_brace_behind k gs t
-no_brace (mid x k y) = refl
-no_brace (post x k) = refl
+no_brace (attributed a more t) = ap (λ b. not (is_operation t) && b) (no_brace t) ∙ and-false (not (is_operation t))
+no_brace (prefixed k gs t) = no_brace_behind k gs t
+no_brace (infixed x k y) = refl
+no_brace (postfixed x k) = refl
 no_brace (tail b k ks) = refl
 no_brace (frame k ks) = refl
 
@@ -152,7 +152,7 @@ unended next.Brace t h = no_brace t
 unended _ t h = absurd cc
 
 pub parenthesized_by : (c : Context) (t : Tree)
-    → (misplaced_by c (note_of t).sort || ((is_block_next c.next || is_brace_next c.next) && has (note_of t).ends c.next)) ≡ parenthesized c t
-parenthesized_by c t = let h = noted t in rw (h.misplaced_is c, ended c.next (has (note_of t).ends c.next) (refuses t c.next) (bad t c.next) (h.ends_is c.next) (unended c.next t)) refl
+    → (misplaced_by c (summary_of t).sort || ((is_block_next c.next || is_brace_next c.next) && has (summary_of t).ends c.next)) ≡ parenthesized c t
+parenthesized_by c t = let h = summarized t in rw (h.misplaced_is c, ended c.next (has (summary_of t).ends c.next) (refuses t c.next) (bad t c.next) (h.ends_is c.next) (unended c.next t)) refl
 
 pub ruleset operands = (left_level, left_place, none_fits, base_level, place_level, parenthesized_by)

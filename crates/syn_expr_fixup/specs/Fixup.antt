@@ -9,7 +9,7 @@ use Rattle.syn_grammar.specs.Op.{level}
 use Rattle.syn_grammar.specs.Next.{class_of, begins_next, is_block_next, is_brace_next, is_half_open, is_break}
 use Rattle.syn_grammar.specs.Rule.{is_less_next, misplaced, refuses}
 use Rattle.syn_grammar.specs.Tree as e
-use Rattle.syn_grammar.specs.Tree.{Tree, Lead}
+use Rattle.syn_grammar.specs.Tree.{Tree, Prefix}
 
 -- what is round the place and behind it, and how tightly an operand has to bind there
 pub record Fixup : Type 0 where
@@ -28,12 +28,12 @@ level_if wrapped = if wrapped then lev.Jump else lev.Unambiguous
 abbrev pub Fits : Infix → Level → Bool → Bool → Type 0
 Fits k v begins generics = (level k ≡ v) × (begins_next (class_of k) ≡ begins) × (is_less_next (class_of k) ≡ generics)
 
-abbrev pub is_jump : Lead → Bool
+abbrev pub is_jump : Prefix → Bool
 is_jump (e.jump j) = true
 is_jump _ = false
 
--- a lead that may go without its operand where a brace is next
-abbrev pub is_optional : Lead → Bool
+-- a prefix that may go without its operand where a brace is next
+abbrev pub is_optional : Prefix → Bool
 is_optional (e.jump j) = is_break j
 is_optional (e.range_to op) = is_half_open (inf.Range op)
 is_optional _ = false

@@ -2,10 +2,10 @@
 
 ghost use Rattle.std.specs.Prelude.{◌≡◌, false, if◌then◌else◌};
 ghost use Rattle.syn_grammar.specs.Next as spec;
-ghost use Rattle.syn_grammar.specs.Next.{base_context, class_of, is_half_open, lead_context, left_context, right_context};
+ghost use Rattle.syn_grammar.specs.Next.{base_context, class_of, is_half_open, prefix_context, left_context, right_context};
 ghost use Rattle.syn_grammar.specs.Rule.{bad, base_wrapped, left_wrapped, low, place_wrapped};
 ghost use Rattle.syn_grammar.specs.Tree as e;
-ghost use Rattle.syn_grammar.specs.Tree.{Lead, Trailer};
+ghost use Rattle.syn_grammar.specs.Tree.{Prefix, Trailer};
 ghost use Rattle.syn_grammar.specs.declared.kinds.Infix.{Infix};
 ghost use Rattle.syn_grammar.specs.declared.kinds.Level.TheVariants as lev;
 ghost use Rattle.syn_grammar.specs.declared.next.Next.TheVariants as next;
@@ -13,13 +13,13 @@ ghost use Rattle.syn_expr_fixup.specs.Fixup.{Fits, is_jump, is_optional, level_i
 ghost use Rattle.syn_expr_fixup.specs.Operator.{operator_at};
 
 use std::marker::Model;
-use syn_expr_collect::note_of;
+use syn_expr_collect::summary_of;
 use syn_expr_kinds::node::{HasKind, HasNode};
-use syn_expr_notes::class::{is_block_next, is_brace_next, without_block};
-use syn_expr_notes::context::{base_context, in_arm, in_condition, in_statement, left_context};
-use syn_expr_notes::decide::{base_wrapped_by, left_wrapped_by, misplaced_by, wrapped_by};
-use syn_expr_notes::label::TrailerKind;
-use syn_expr_notes::set::has;
+use syn_expr_summaries::class::{is_block_next, is_brace_next, without_block};
+use syn_expr_summaries::context::{base_context, in_arm, in_condition, in_statement, left_context};
+use syn_expr_summaries::decide::{base_wrapped_by, left_wrapped_by, misplaced_by, wrapped_by};
+use syn_expr_summaries::label::TrailerKind;
+use syn_expr_summaries::set::has;
 use syn_grammar::kinds::{BinKind, Infix, Level, Limits};
 use syn_grammar::next::{Context, Edge, Next};
 
@@ -194,7 +194,7 @@ impl FixupContext {
         ensures base { precedence ≡ lev.Unambiguous → result.0 ≡ level_if (base_wrapped e.index (E.tree expr.now) (bad (E.tree expr.now) next.Bracket)) }
         ensures based { precedence ≡ lev.Unambiguous → result.1.context ≡ base_context e.index self.context }
     {
-        let note = note_of(expr);
+        let summary = summary_of(expr);
         match operator_by(
             precedence,
             next_operator_can_begin_expr,
@@ -205,14 +205,17 @@ impl FixupContext {
                     context: left_context(op, self.context),
                     level: precedence,
                 };
-                (level_if(left_wrapped_by(op, note)), place)
+                (level_if(left_wrapped_by(op, summary)), place)
             }
             None => {
                 let place = FixupContext {
                     context: base_context(TrailerKind::Index, self.context),
                     level: precedence,
                 };
-                (level_if(base_wrapped_by(TrailerKind::Index, note)), place)
+                (
+                    level_if(base_wrapped_by(TrailerKind::Index, summary)),
+                    place,
+                )
             }
         }
     }
@@ -235,7 +238,7 @@ impl FixupContext {
             level: Level::Unambiguous,
         };
         (
-            level_if(base_wrapped_by(TrailerKind::Await, note_of(expr))),
+            level_if(base_wrapped_by(TrailerKind::Await, summary_of(expr))),
             place,
         )
     }
@@ -271,7 +274,7 @@ impl FixupContext {
         precedence: Level,
     ) -> FixupContext
         ensures right { (k : Infix) → reset_allow_struct ≡ false → optional_operand ≡ is_half_open k → result.context ≡ right_context k self.context }
-        ensures lead { (k : Lead) → reset_allow_struct ≡ is_jump k → optional_operand ≡ is_optional k → result.context ≡ lead_context k self.context }
+        ensures prefix { (k : Prefix) → reset_allow_struct ≡ is_jump k → optional_operand ≡ is_optional k → result.context ≡ prefix_context k self.context }
         ensures level { result.level ≡ precedence }
     {
         let context = Context {
@@ -296,7 +299,7 @@ impl FixupContext {
     pub fn rightmost_subexpression_precedence<E: HasNode + HasKind>(self, expr: &E) -> Level
         ensures { result ≡ level_if (place_wrapped self.level (E.tree expr.now) self.context.next (low (E.tree expr.now)) (bad (E.tree expr.now) self.context.next)) }
     {
-        level_if(wrapped_by(self.level, note_of(expr), self.context.next))
+        level_if(wrapped_by(self.level, summary_of(expr), self.context.next))
     }
 
     /// Whether this place refuses an expression for what it is itself, or for the brace behind the place, which it would take.
@@ -311,9 +314,9 @@ impl FixupContext {
     pub fn parenthesize<E: HasNode + HasKind>(self, expr: &E) -> bool
         ensures { result ≡ parenthesized self.context (E.tree expr.now) }
     {
-        let note = note_of(expr);
+        let summary = summary_of(expr);
         let next = self.context.next;
-        misplaced_by(self.context, note.sort)
-            || (is_block_next(next) || is_brace_next(next)) && has(note.ends, next)
+        misplaced_by(self.context, summary.sort)
+            || (is_block_next(next) || is_brace_next(next)) && has(summary.ends, next)
     }
 }

@@ -11,7 +11,7 @@ use Rattle.syn_parts.specs.PatFits.{attributes_outer}
 use Rattle.syn_lower_leaves.specs.View.{attribute_of}
 use Rattle.syn_lower_leaves.specs.declared.attr.Attribute.{Attribute}
 use Rattle.syn_grammar.specs.Tree as e
-use Rattle.syn_grammar.specs.Tree.{Tree, Kids, leaf, frame, none, kid, adorn, prepend, flatten, flatten_kids, body_of, inners, kids_inner, kids_with, outers}
+use Rattle.syn_grammar.specs.Tree.{Tree, Children, leaf, frame, none, child, attributed_with, prepend, flatten, flatten_children, body_of, inners, children_inner, children_with, outers}
 use Rattle.syn_grammar.proofs.Attributes.{inners_none, outers_are, outers_outer}
 use Rattle.syn_expr_kinds.specs.Attrs.{attrs_of, inner_of, outer_of}
 use Rattle.syn_expr_kinds.specs.Pats.{strays}
@@ -19,22 +19,22 @@ use Rattle.syn_expr_flat.specs.Flat.{IsFlat, IsFlatBehind, before, behind}
 
 -- what stands before such a node is put there, and first in its braces
 pub record IsBraced (x : List AttributeTree → Tree) : Type 0 where
-  pub bare : (more l : List AttributeTree) → prepend more (x l) ≡ adorn (outers more) (x (inners more ++ l))
-  pub attributed : (more : List AttributeTree) (b : AttributeTree) (bs l : List AttributeTree) → prepend more (e.adorned b bs (x l)) ≡ adorn (outers more ++ b ∷ bs) (x (inners more ++ l))
+  pub bare : (more l : List AttributeTree) → prepend more (x l) ≡ attributed_with (outers more) (x (inners more ++ l))
+  pub attributed : (more : List AttributeTree) (b : AttributeTree) (bs l : List AttributeTree) → prepend more (e.attributed b bs (x l)) ≡ attributed_with (outers more ++ b ∷ bs) (x (inners more ++ l))
 
 module _ (x : List AttributeTree → Tree) (h : IsBraced (λ l. flatten (x l))) where
-  own_braced : (os l : List AttributeTree) → attributes_outer os ≡ true → flatten (adorn os (x l)) ≡ adorn os (flatten (x l))
+  own_braced : (os l : List AttributeTree) → attributes_outer os ≡ true → flatten (attributed_with os (x l)) ≡ attributed_with os (flatten (x l))
   own_braced [] l o = refl
   own_braced (a ∷ more) l o =
-      h.bare (a ∷ more) l ∙ ap (λ z. adorn z (flatten (x (inners (a ∷ more) ++ l)))) (outers_are (a ∷ more) o)
-      ∙ ap (λ z. adorn (a ∷ more) (flatten (x (z ++ l)))) (inners_none (a ∷ more) o)
+      h.bare (a ∷ more) l ∙ ap (λ z. attributed_with z (flatten (x (inners (a ∷ more) ++ l)))) (outers_are (a ∷ more) o)
+      ∙ ap (λ z. attributed_with (a ∷ more) (flatten (x (z ++ l)))) (inners_none (a ∷ more) o)
 
-  more_braced : (more os l : List AttributeTree) → prepend more (adorn os (flatten (x l))) ≡ adorn (outers more ++ os) (flatten (x (inners more ++ l)))
-  more_braced more [] l = h.bare more l ∙ ap (λ z. adorn z (flatten (x (inners more ++ l)))) (sym (append-nil (outers more)))
+  more_braced : (more os l : List AttributeTree) → prepend more (attributed_with os (flatten (x l))) ≡ attributed_with (outers more ++ os) (flatten (x (inners more ++ l)))
+  more_braced more [] l = h.bare more l ∙ ap (λ z. attributed_with z (flatten (x (inners more ++ l)))) (sym (append-nil (outers more)))
   more_braced more (b ∷ bs) l = h.attributed more b bs l
 
   behind_braced : (ats : Option (Vec Attribute Global)) (os l : List AttributeTree) → attributes_outer os ≡ true
-      → behind ats (flatten (adorn os (x l))) ≡ adorn (outers (before ats) ++ os) (flatten (x (inners (before ats) ++ l)))
+      → behind ats (flatten (attributed_with os (x l))) ≡ attributed_with (outers (before ats) ++ os) (flatten (x (inners (before ats) ++ l)))
   behind_braced None os l o = own_braced os l o
   behind_braced (Some v) os l o = ap (prepend (attrs_of v)) (own_braced os l o) ∙ more_braced (attrs_of v) os l
 
@@ -45,11 +45,11 @@ outer_all v = outers_outer (map attribute_of v.items)
 -- such a node behind its own attributes, made anew behind all
 pub at_braces : (ats : Option (Vec Attribute Global)) (was now : Vec Attribute Global) (x : List AttributeTree → Tree) (u : Tree) → IsBraced (λ l. flatten (x l))
     → outer_of now ≡ outers (before ats) ++ outer_of was → inner_of now ≡ inners (before ats) ++ inner_of was → IsFlat (x (inner_of now)) u
-    → IsFlatBehind ats (adorn (outer_of was) (x (inner_of was))) (adorn (outer_of now) u)
+    → IsFlatBehind ats (attributed_with (outer_of was) (x (inner_of was))) (attributed_with (outer_of now) u)
 unfolding IsFlat IsFlatBehind
 at_braces ats was now x u h outer inner flat =
-    ap (adorn (outer_of now)) flat ∙ ap (λ l. adorn (outer_of now) (flatten (x l))) inner
-    ∙ ap (λ l. adorn l (flatten (x (inners (before ats) ++ inner_of was)))) outer
+    ap (attributed_with (outer_of now)) flat ∙ ap (λ l. attributed_with (outer_of now) (flatten (x l))) inner
+    ∙ ap (λ l. attributed_with l (flatten (x (inners (before ats) ++ inner_of was)))) outer
     ∙ sym (behind_braced x h ats (outer_of was) (inner_of was) (outer_all was))
 
 -- ---- each kind
@@ -57,7 +57,7 @@ at_braces ats was now x u h outer inner flat =
 pub block_braced : (w : Option Text) (ts : List Tok) → IsBraced (λ l. leaf (e.block w (body_of l ts)))
 block_braced w ts = record { bare = λ more l. refl; attributed = λ more b bs l. refl }
 
-pub loop_braced : (w : Option Text) (ts : List Tok) → IsBraced (λ l. leaf (e.looping w (body_of l ts)))
+pub loop_braced : (w : Option Text) (ts : List Tok) → IsBraced (λ l. leaf (e.loop_expr w (body_of l ts)))
 loop_braced w ts = record { bare = λ more l. refl; attributed = λ more b bs l. refl }
 
 pub unsafe_braced : (ts : List Tok) → IsBraced (λ l. leaf (e.unsafe_block (body_of l ts)))
@@ -66,21 +66,21 @@ unsafe_braced ts = record { bare = λ more l. refl; attributed = λ more b bs l.
 pub const_braced : (ts : List Tok) → IsBraced (λ l. leaf (e.const_block (body_of l ts)))
 const_braced ts = record { bare = λ more l. refl; attributed = λ more b bs l. refl }
 
-pub while_braced : (w : Option Text) (ts : List Tok) (t : Tree) → IsBraced (λ l. flatten (frame (e.while_loop w) (kid e.loop_head (e.braced (body_of l ts)) t none)))
+pub while_braced : (w : Option Text) (ts : List Tok) (t : Tree) → IsBraced (λ l. flatten (frame (e.while_loop w) (child e.loop_head (e.braced (body_of l ts)) t none)))
 while_braced w ts t = record { bare = λ more l. refl; attributed = λ more b bs l. refl }
 
-pub match_braced : (t : Tree) (ks : Kids) → IsBraced (λ l. flatten (frame e.choice (kid e.scrutinee (e.opened l) t ks)))
+pub match_braced : (t : Tree) (ks : Children) → IsBraced (λ l. flatten (frame e.match_expr (child e.scrutinee (e.opened l) t ks)))
 match_braced t ks = record { bare = λ more l. refl; attributed = λ more b bs l. refl }
 
 stray_body : (gs : List Tree) (ts : List Tok) (t : Tree) (more l : List AttributeTree) →
-    let body : List AttributeTree → Kids = λ l. flatten_kids (strays gs (kid e.loop_head (e.braced (body_of l ts)) t none)) in
-    kids_with (more ++ kids_inner (body l)) (body l) ≡ body (more ++ l)
+    let body : List AttributeTree → Children = λ l. flatten_children (strays gs (child e.loop_head (e.braced (body_of l ts)) t none)) in
+    children_with (more ++ children_inner (body l)) (body l) ≡ body (more ++ l)
 stray_body [] ts t more l = refl
-stray_body (g ∷ gs) ts t more l = ap (kid e.stray e.no_ending (flatten g)) (stray_body gs ts t more l)
+stray_body (g ∷ gs) ts t more l = ap (child e.stray e.no_ending (flatten g)) (stray_body gs ts t more l)
 
 pub for_loop_braced : (w : Option Text) (p : PatTree) (gs : List Tree) (ts : List Tok) (t : Tree)
-    → IsBraced (λ l. flatten (frame (e.for_loop w p) (strays gs (kid e.loop_head (e.braced (body_of l ts)) t none))))
+    → IsBraced (λ l. flatten (frame (e.for_loop w p) (strays gs (child e.loop_head (e.braced (body_of l ts)) t none))))
 for_loop_braced w p gs ts t = record {
-  bare = λ more l. ap (λ ks. adorn (outers more) (frame (e.for_loop w p) ks)) (stray_body gs ts t (inners more) l);
-  attributed = λ more b bs l. ap (λ ks. adorn (outers more ++ b ∷ bs) (frame (e.for_loop w p) ks)) (stray_body gs ts t (inners more) l);
+  bare = λ more l. ap (λ ks. attributed_with (outers more) (frame (e.for_loop w p) ks)) (stray_body gs ts t (inners more) l);
+  attributed = λ more b bs l. ap (λ ks. attributed_with (outers more ++ b ∷ bs) (frame (e.for_loop w p) ks)) (stray_body gs ts t (inners more) l);
 }

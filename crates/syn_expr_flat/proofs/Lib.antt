@@ -5,8 +5,8 @@ pub mod Each
 pub mod FlatFill
 pub mod FlatWell
 pub mod FormedParens
-pub mod Kept
-pub mod Kids
+pub mod Verbatim
+pub mod Children
 pub mod Nodes
 pub mod OuterParens
 pub mod Pats

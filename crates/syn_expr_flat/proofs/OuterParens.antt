@@ -6,9 +6,9 @@ use Rattle.syn_parts.specs.Tree.{AttributeTree}
 use Rattle.syn_parts.specs.PatFits.{attributes_outer}
 use Rattle.syn_grammar.specs.declared.kinds.Place.{Place}
 use Rattle.syn_grammar.specs.Slot.{Slot, Holder}
-use Rattle.syn_grammar.specs.Stands.{Node, is_leaf, is_become, is_attributed, is_paren, is_adorned_by, is_lead, is_mid, is_post, is_tail, is_indexed, is_frame, Content, holds_none, holds_within, holds_bare, Operands, no_more, one_more, short, block, arms_inside, fields_of, short_value, path_of, Stands}
+use Rattle.syn_grammar.specs.Stands.{Node, is_leaf, is_become, is_attributed_verbatim, is_paren, is_attributed_by, is_prefixed, is_infixed, is_postfixed, is_tail, is_indexed, is_frame, Content, holds_none, holds_within, holds_bare, Operands, no_more, one_more, short, block, arms_inside, fields_of, short_value, path_of, Stands}
 use Rattle.syn_grammar.specs.Tree as e
-use Rattle.syn_grammar.specs.Tree.{Tree, Kids, Piece, paren, tail, none}
+use Rattle.syn_grammar.specs.Tree.{Tree, Children, Piece, paren, tail, none}
 use Rattle.syn_expr_kinds.proofs.Outers.{outer_behind}
 use Rattle.syn_expr_flat.specs.Outer.{AreOuter, HasOuterParens, HaveOuterParens}
 
@@ -32,22 +32,22 @@ mutual
   node_outer : {p : Place} {l n : List Tok} {x : Tree} → Node p l x n → HasOuterParens x
   node_outer (is_leaf f g) = tt
   node_outer (is_become w d q r o) = tt
-  node_outer (is_attributed z others fs f d q r) = tt
+  node_outer (is_attributed_verbatim z others fs f d q r) = tt
   node_outer (is_paren d q r) = node_outer d
-  node_outer (is_adorned_by {l = l} {m = m} {a = a} {more = others} {x = x} f g d) = (before_any (a ∷ others) x (outer_behind (a ∷ others) l m f), node_outer d)
-  node_outer (is_lead f g d q r) = (tt, node_outer d)
-  node_outer (is_mid d q r i t o d2 u v w) = (node_outer d, node_outer d2)
-  node_outer (is_post d q r i t u o w) = node_outer d
+  node_outer (is_attributed_by {l = l} {m = m} {a = a} {more = others} {x = x} f g d) = (before_any (a ∷ others) x (outer_behind (a ∷ others) l m f), node_outer d)
+  node_outer (is_prefixed f g d q r) = (tt, node_outer d)
+  node_outer (is_infixed d q r i t o d2 u v w) = (node_outer d, node_outer d2)
+  node_outer (is_postfixed d q r i t u o w) = node_outer d
   node_outer (is_tail {b = b} {is = is} d f t o q) = (subst HasOuterParens (sym q) (fields_outer is b (node_outer d)), content_outer o)
   node_outer (is_indexed {b = b} {i = i} {is = is} d f t q) = subst HasOuterParens (sym q) (fields_outer (i ∷ is) b (node_outer d))
   node_outer (is_frame f o g e) = content_outer o
 
-  content_outer : {h : Holder} {l n : List Tok} {ks : Kids} → Content h l ks n → HaveOuterParens ks
+  content_outer : {h : Holder} {l n : List Tok} {ks : Children} → Content h l ks n → HaveOuterParens ks
   content_outer holds_none = tt
   content_outer (holds_within g o q) = operands_outer o
   content_outer (holds_bare o) = operands_outer o
 
-  pub operands_outer : {s : Slot} {l o : List Tok} {ks : Kids} → Operands s l ks o → HaveOuterParens ks
+  pub operands_outer : {s : Slot} {l o : List Tok} {ks : Children} → Operands s l ks o → HaveOuterParens ks
   operands_outer (no_more q) = tt
   operands_outer (one_more f g d q t others) = (node_outer d, operands_outer others)
   operands_outer (short {k = k} {x = x} f g t others) = (short_outer k x g, operands_outer others)

@@ -6,7 +6,7 @@ use Rattle.syn_expr_flat.specs.Calls.{Leaves}
 
 module _ {E : Type 0} where
   abbrev pub anew : MutBor E → ℕ → E → MutBor E
-  anew lent n x = record { ref_ptr = lent.ref_ptr; ghost_name = n; now = x }
+  anew borrowed n x = record { ref_ptr = borrowed.ref_ptr; ghost_name = n; now = x }
 
   pub by_ref : (post : MutBor E → Result (Unit {0}) AllocError → MutBor E → Type 0) (x y : E)
       → Leaves (λ old r new. (n : ℕ) × post (anew old n old.now) r (anew old n new.now)) x y → Leaves post x y

@@ -5,7 +5,7 @@ use denote.Ref.{MutBor}
 
 -- a call that may be lent x
 abbrev pub Takes : {E : Type 0} → (MutBor E → Type 0) → E → Type 0
-Takes pre x = (lent : MutBor _) → lent.now ≡ x → pre lent
+Takes pre x = (borrowed : MutBor _) → borrowed.now ≡ x → pre borrowed
 
 -- a call that was lent x may have answered `Ok`, and left y there
 pub record Leaves {E : Type 0} (post : MutBor E → Result (Unit {0}) AllocError → MutBor E → Type 0) (x y : E) : Type 0 where

@@ -6,7 +6,7 @@ use Rattle.std.specs.declared.alloc.AllocError.{AllocError}
 use denote.Ref.{MutBor}
 use Rattle.syn_parts.specs.Tree.{AttributeTree}
 use Rattle.syn_lower_leaves.specs.declared.attr.Attribute.{Attribute}
-use Rattle.syn_grammar.specs.Tree.{Tree, Kids, prepend, flatten, flatten_kids}
+use Rattle.syn_grammar.specs.Tree.{Tree, Children, prepend, flatten, flatten_children}
 use Rattle.syn_expr_kinds.specs.Attrs.{attrs_of}
 use Rattle.syn_expr_kinds.specs.View.{FieldView}
 
@@ -15,8 +15,8 @@ unfoldable pub IsFlat : Tree → Tree → Type 0
 IsFlat t u = u ≡ flatten t
 
 -- us are the operands ts without their parentheses
-unfoldable pub AreFlat : Kids → Kids → Type 0
-AreFlat ts us = us ≡ flatten_kids ts
+unfoldable pub AreFlat : Children → Children → Type 0
+AreFlat ts us = us ≡ flatten_children ts
 
 abbrev pub IsFlatField : FieldView → FieldView → Type 0
 IsFlatField u v = (v.attrs ≡ u.attrs) × (v.member ≡ u.member) × (v.colon ≡ u.colon) × IsFlat u.value v.value

@@ -3,7 +3,7 @@
 use Rattle.std.specs.Prelude.{◌≡◌, ⊤, true, List, ◌∷◌}
 use Rattle.syn_parts.specs.Tree.{AttributeTree}
 use Rattle.syn_parts.specs.PatFits.{attributes_outer}
-use Rattle.syn_grammar.specs.Tree.{Tree, Kids, leaf, paren, adorned, lead, mid, post, tail, frame, none, kid}
+use Rattle.syn_grammar.specs.Tree.{Tree, Children, leaf, paren, attributed, prefixed, infixed, postfixed, tail, frame, none, child}
 
 -- attributes before a tree
 abbrev pub AreOuter : List AttributeTree → Tree → Type 0
@@ -14,13 +14,13 @@ abbrev mutual
   pub HasOuterParens : Tree → Type 0
   HasOuterParens (leaf k) = ⊤
   HasOuterParens (paren m t) = HasOuterParens t
-  HasOuterParens (adorned a more t) = AreOuter (a ∷ more) t × HasOuterParens t
-  HasOuterParens (lead k gs t) = HaveOuterParens gs × HasOuterParens t
-  HasOuterParens (mid x k y) = HasOuterParens x × HasOuterParens y
-  HasOuterParens (post x k) = HasOuterParens x
+  HasOuterParens (attributed a more t) = AreOuter (a ∷ more) t × HasOuterParens t
+  HasOuterParens (prefixed k gs t) = HaveOuterParens gs × HasOuterParens t
+  HasOuterParens (infixed x k y) = HasOuterParens x × HasOuterParens y
+  HasOuterParens (postfixed x k) = HasOuterParens x
   HasOuterParens (tail b k ks) = HasOuterParens b × HaveOuterParens ks
   HasOuterParens (frame k ks) = HaveOuterParens ks
 
-  pub HaveOuterParens : Kids → Type 0
+  pub HaveOuterParens : Children → Type 0
   HaveOuterParens none = ⊤
-  HaveOuterParens (kid k c t ks) = HasOuterParens t × HaveOuterParens ks
+  HaveOuterParens (child k c t ks) = HasOuterParens t × HaveOuterParens ks

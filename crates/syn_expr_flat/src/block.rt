@@ -13,7 +13,7 @@ use syn_expr_kinds::kinds::HasExprTree;
 use syn_tokens::token::Else;
 
 /// What stands behind `else`, without the parentheses in it.
-#[tactic(auto, using(crate::proofs::Kids::kids, crate::proofs::Calls::flat_by))]
+#[tactic(auto, using(crate::proofs::Children::children, crate::proofs::Calls::flat_by))]
 fn else_branch<E: HasExprTree, F: Fn(&mut E) -> Flattened<()>>(
     x: &mut Option<(Else, Box<E>)>,
     flatten: F,

@@ -19,7 +19,7 @@ pub fn unwrapped<E: HasExprTree, F: Fn(&mut E, Before) -> Flattened<()>>(
     attrs: Before,
     flatten: F,
 ) -> Flattened<()>
-    requires held { (all : _) → Takes (λ lent. F.pre flatten lent all) x.old.expr.value }
+    requires held { (all : _) → Takes (λ borrowed. F.pre flatten borrowed all) x.old.expr.value }
     requires gives { FlattensBehind E.tree (F.post flatten) }
     ensures { IfOk result (λ _. IsFlatBehind attrs (expr_paren_of E.tree x.old) (E.tree x.new.expr.value)) }
 {

@@ -10,7 +10,7 @@ use Rattle.syn_lower.specs.View.{mapped, lifetimes_of, return_of, values, trails
 use Rattle.syn_lower_leaves.specs.declared.attr.Attribute.{Attribute}
 use Rattle.syn_lower_lists.specs.declared.punctuated.Punctuated.{Punctuated}
 use Rattle.syn_grammar.specs.Tree as e
-use Rattle.syn_grammar.specs.Tree.{Tree, ClosureHead, lead, frame, kid, none, body_of, inners, outers}
+use Rattle.syn_grammar.specs.Tree.{Tree, ClosureHead, prefixed, frame, child, none, body_of, inners, outers}
 use Rattle.syn_expr_parts.specs.View.{label_of}
 use Rattle.syn_pat_kinds.specs.View.{PatView}
 use Rattle.syn_expr_kinds.specs.Attrs.{attrs_of, outer_of, inner_of}
@@ -28,7 +28,7 @@ use Rattle.syn_expr_flat.specs.Pats.{IsFlatArm, IsFlatPat}
 use Rattle.syn_expr_flat.proofs.Arms.{arms_flat, closure_flat, closure_plain}
 use Rattle.syn_expr_flat.proofs.Braced.{at_braces, for_loop_braced, match_braced}
 use Rattle.syn_expr_flat.proofs.Each.{each_both, each_one}
-use Rattle.syn_expr_flat.proofs.Kids.{frame_flat, kid_flat, leads_flat, none_flat, strays_flat}
+use Rattle.syn_expr_flat.proofs.Children.{frame_flat, child_flat, prefixes_flat, none_flat, strays_flat}
 use Rattle.syn_expr_flat.proofs.Nodes.{at_node, same_flat}
 use Rattle.syn_expr_flat.proofs.Pats.{attributed}
 
@@ -80,18 +80,18 @@ module _ {E P : Type 0} (f : E → Tree) (g : P → PatView) where
       → IsFlatBehind ats (expr_for_loop_of f g x) (expr_for_loop_of f g (record x { attrs = v; pat = p; expr = b }))
   for_loop_behind ats x v p b joined pat expr =
       let label = mapped label_of x.label in
-      let was : List AttributeTree → Tree = λ l. frame (e.for_loop label (g x.pat.value).tree) (strays (g x.pat.value).guards (kid e.loop_head (e.braced (body_of l x.body.stmts)) (f x.expr.value) none)) in
-      let now : PatTree → Tree = λ q. frame (e.for_loop label q) (strays (g p.value).guards (kid e.loop_head (e.braced (body_of (inner_of v) x.body.stmts)) (f b.value) none)) in
+      let was : List AttributeTree → Tree = λ l. frame (e.for_loop label (g x.pat.value).tree) (strays (g x.pat.value).guards (child e.loop_head (e.braced (body_of l x.body.stmts)) (f x.expr.value) none)) in
+      let now : PatTree → Tree = λ q. frame (e.for_loop label q) (strays (g p.value).guards (child e.loop_head (e.braced (body_of (inner_of v) x.body.stmts)) (f b.value) none)) in
       at_braces ats x.attrs v was _ (for_loop_braced label (g x.pat.value).tree (g x.pat.value).guards x.body.stmts (f x.expr.value)) joined.0 joined.1 (same_flat _ _ _ (ap now pat.0)
-      (frame_flat _ _ _ (strays_flat _ _ _ _ pat.1 (kid_flat _ _ _ _ _ _ expr none_flat))))
+      (frame_flat _ _ _ (strays_flat _ _ _ _ pat.1 (child_flat _ _ _ _ _ _ expr none_flat))))
 
   pub let_behind : (ats : Option (Vec Attribute Global)) (x : ExprLetOf E P) (v : Vec Attribute Global) (p : Box P Global) (b : Box E Global)
       → attrs_of v ≡ before ats ++ attrs_of x.attrs → IsFlatPat (g x.pat.value) (g p.value) → IsFlat (f x.expr.value) (f b.value)
       → IsFlatBehind ats (expr_let_of f g x) (expr_let_of f g (record x { attrs = v; pat = p; expr = b }))
   let_behind ats x v p b joined pat expr =
       at_node ats _ _ _ _ refl joined (same_flat _ _ _
-      (ap (λ q. lead (e.binding q) (strays (g p.value).guards none) (f b.value)) pat.0)
-      (leads_flat _ _ _ _ _ (strays_flat _ _ _ _ pat.1 none_flat) expr))
+      (ap (λ q. prefixed (e.let_expr q) (strays (g p.value).guards none) (f b.value)) pat.0)
+      (prefixes_flat _ _ _ _ _ (strays_flat _ _ _ _ pat.1 none_flat) expr))
 
   pub arm_flat : (x : ArmOf E P) (p : P) (b : Box E Global) → IsFlatPat (g x.pat) (g p) → IsFlat (f x.body.value) (f b.value)
       → IsFlatArm (arm_of f g x) (arm_of f g (record x { pat = p; body = b }))
@@ -106,5 +106,5 @@ module _ {E A : Type 0} (f : E → Tree) (a : A → ArmView) where
       → Joined ats x.attrs v → IsFlat (f x.expr.value) (f b.value) → Each (λ p q. IsFlatArm (a p) (a q)) x.arms.items more.items
       → IsFlatBehind ats (expr_match_of f a x) (expr_match_of f a (record x { attrs = v; expr = b; arms = more }))
   match_behind ats x v b more joined expr all =
-      at_braces ats x.attrs v (λ l. frame e.choice (kid e.scrutinee (e.opened l) (f x.expr.value) (arms (map a x.arms.items)))) _
-      (match_braced (f x.expr.value) (arms (map a x.arms.items))) joined.0 joined.1 (frame_flat _ _ _ (kid_flat _ _ _ _ _ _ expr (arms_flat a _ _ all)))
+      at_braces ats x.attrs v (λ l. frame e.match_expr (child e.scrutinee (e.opened l) (f x.expr.value) (arms (map a x.arms.items)))) _
+      (match_braced (f x.expr.value) (arms (map a x.arms.items))) joined.0 joined.1 (frame_flat _ _ _ (child_flat _ _ _ _ _ _ expr (arms_flat a _ _ all)))

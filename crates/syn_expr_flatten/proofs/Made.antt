@@ -18,8 +18,8 @@ use Rattle.syn_expr_all.specs.declared.control.ExprForLoop.{ExprForLoop, out-Exp
 use Rattle.syn_expr_all.specs.declared.control.ExprLet.{ExprLet, out-ExprLet, roll-ExprLet, out-roll-ExprLet}
 use Rattle.syn_expr_all.specs.declared.control.ExprMatch.{ExprMatch, out-ExprMatch, roll-ExprMatch, out-roll-ExprMatch}
 use Rattle.syn_expr_all.specs.declared.pat.PatGuard.{PatGuard, out-PatGuard, roll-PatGuard, out-roll-PatGuard}
-use Rattle.syn_expr_all.specs.View.{arm_layer, arm_of, arm_parts, binding_layer, binding_of, binding_parts, choice_layer, choice_of, choice_parts, closure_layer, closure_of, closure_parts, for_loop_layer, for_loop_of, for_loop_parts, guard_layer, guard_of, guard_parts, pat_of, tree_of, views}
-use Rattle.syn_expr_all.proofs.TreeOf.{arm-is, binding-is, choice-is, closure-is, for_loop-is, guard-is}
+use Rattle.syn_expr_all.specs.View.{arm_layer, arm_of, arm_parts, let_layer, let_of, let_parts, match_layer, match_of, match_parts, closure_layer, closure_of, closure_parts, for_loop_layer, for_loop_of, for_loop_parts, guard_layer, guard_of, guard_parts, pat_of, tree_of, views}
+use Rattle.syn_expr_all.proofs.TreeOf.{arm-is, let_expr-is, match_expr-is, closure-is, for_loop-is, guard-is}
 use Rattle.syn_expr_flat.specs.Each.{Each}
 use Rattle.syn_expr_flat.specs.Flat.{IsFlat, IsFlatBehind, before}
 use Rattle.syn_expr_flat.specs.Pats.{IsFlatArm, IsFlatPat}
@@ -57,17 +57,17 @@ for_loop_made ats x v p b joined pat expr =
 
 pub let_made : (ats : Option (Vec Attribute Global)) (x : ExprLet) (v : Vec Attribute Global) (p : Box Pat Global) (b : Box Expr Global)
     → attrs_of v ≡ before ats ++ attrs_of (out-ExprLet x).attrs → IsFlatPat (pat_of (out-ExprLet x).pat.value) (pat_of p.value) → IsFlat (tree_of (out-ExprLet x).expr.value) (tree_of b.value)
-    → IsFlatBehind ats (binding_of x) (binding_of (roll-ExprLet (record (out-ExprLet x) { attrs = v; pat = p; expr = b })))
+    → IsFlatBehind ats (let_of x) (let_of (roll-ExprLet (record (out-ExprLet x) { attrs = v; pat = p; expr = b })))
 let_made ats x v p b joined pat expr =
-    related (IsFlatBehind ats) (binding-is x) (binding-is _ ∙ ap (binding_layer views) (out-roll-ExprLet (record (out-ExprLet x) { attrs = v; pat = p; expr = b })))
-    (let_behind tree_of pat_of ats (binding_parts (out-ExprLet x)) v p b joined pat expr)
+    related (IsFlatBehind ats) (let_expr-is x) (let_expr-is _ ∙ ap (let_layer views) (out-roll-ExprLet (record (out-ExprLet x) { attrs = v; pat = p; expr = b })))
+    (let_behind tree_of pat_of ats (let_parts (out-ExprLet x)) v p b joined pat expr)
 
 pub match_made : (ats : Option (Vec Attribute Global)) (x : ExprMatch) (v : Vec Attribute Global) (b : Box Expr Global) (more : Vec Arm Global)
     → Joined ats (out-ExprMatch x).attrs v → IsFlat (tree_of (out-ExprMatch x).expr.value) (tree_of b.value) → Each (λ p q. IsFlatArm (arm_of p) (arm_of q)) (out-ExprMatch x).arms.items more.items
-    → IsFlatBehind ats (choice_of x) (choice_of (roll-ExprMatch (record (out-ExprMatch x) { attrs = v; expr = b; arms = more })))
+    → IsFlatBehind ats (match_of x) (match_of (roll-ExprMatch (record (out-ExprMatch x) { attrs = v; expr = b; arms = more })))
 match_made ats x v b more joined expr all =
-    related (IsFlatBehind ats) (choice-is x) (choice-is _ ∙ ap (choice_layer views) (out-roll-ExprMatch (record (out-ExprMatch x) { attrs = v; expr = b; arms = more })))
-    (match_behind tree_of arm_of ats (choice_parts (out-ExprMatch x)) v b more joined expr all)
+    related (IsFlatBehind ats) (match_expr-is x) (match_expr-is _ ∙ ap (match_layer views) (out-roll-ExprMatch (record (out-ExprMatch x) { attrs = v; expr = b; arms = more })))
+    (match_behind tree_of arm_of ats (match_parts (out-ExprMatch x)) v b more joined expr all)
 
 -- ---- what an arm of the knot answers: x was matched, and y is left
 

@@ -7,7 +7,7 @@ use Rattle.syn_lower_leaves.specs.declared.attr.Attribute.{Attribute}
 use Rattle.syn_expr_all.specs.declared.expr.Expr.{Expr}
 use Rattle.syn_expr_all.specs.declared.control.Arm.{Arm}
 use Rattle.syn_expr_all.specs.declared.control.ExprMatch.{ExprMatch, out-ExprMatch, roll-ExprMatch, out-roll-ExprMatch}
-use Rattle.syn_expr_all.specs.View.{arm_of, choice_of, tree_of}
+use Rattle.syn_expr_all.specs.View.{arm_of, match_of, tree_of}
 use Rattle.syn_expr_flat.specs.Each.{Each}
 use Rattle.syn_expr_flat.specs.Flat.{IsFlat, IsFlatBehind}
 use Rattle.syn_expr_flat.specs.Pats.{IsFlatArm}
@@ -29,12 +29,12 @@ arms_same x v b =
 pub match_left : (ats : Option (Vec Attribute Global)) (x : ExprMatch) (v : Vec Attribute Global) (b : Box Expr Global) (more : Vec Arm Global)
     → Joined ats (out-ExprMatch x).attrs v → IsFlat (tree_of (out-ExprMatch (attributed x v)).expr.value) (tree_of b.value)
     → Each (λ p q. IsFlatArm (arm_of p) (arm_of q)) (out-ExprMatch (looking x v b)).arms.items more.items
-    → IsFlatBehind ats (choice_of x) (choice_of (roll-ExprMatch (record (out-ExprMatch (looking x v b)) { arms = more })))
+    → IsFlatBehind ats (match_of x) (match_of (roll-ExprMatch (record (out-ExprMatch (looking x v b)) { arms = more })))
 match_left ats x v b more joined expr all =
     let first = out-roll-ExprMatch (record (out-ExprMatch x) { attrs = v }) in
     let second = out-roll-ExprMatch (record (out-ExprMatch (attributed x v)) { expr = b }) in
     let flat = subst (λ m. IsFlat (tree_of m.expr.value) (tree_of b.value)) first expr in
     let each = subst (λ l. Each (λ p q. IsFlatArm (arm_of p) (arm_of q)) l more.items) (arms_same x v b) all in
     let whole = match_made ats x v b more joined flat each in
-    subst (λ m. IsFlatBehind ats (choice_of x) (choice_of (roll-ExprMatch (record m { arms = more })))) (sym second)
-    (subst (λ m. IsFlatBehind ats (choice_of x) (choice_of (roll-ExprMatch (record m { expr = b; arms = more })))) (sym first) whole)
+    subst (λ m. IsFlatBehind ats (match_of x) (match_of (roll-ExprMatch (record m { arms = more })))) (sym second)
+    (subst (λ m. IsFlatBehind ats (match_of x) (match_of (roll-ExprMatch (record m { expr = b; arms = more })))) (sym first) whole)

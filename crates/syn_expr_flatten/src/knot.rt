@@ -6,7 +6,7 @@ ghost use Rattle.syn_expr_flat.specs.Flat.{IsFlat, IsFlatBehind};
 ghost use Rattle.syn_expr_flat.specs.Pats.{IsFlatArm, IsFlatPat};
 
 use crate::paren::lift;
-use crate::{kept, members};
+use crate::{members, verbatim};
 use syn_expr_all::control::Arm;
 use syn_expr_all::expr::Expr;
 use syn_expr_all::pat::Pat;
@@ -98,7 +98,7 @@ fn flattened(x: &mut Expr, attrs: Before) -> Flattened<()>
         Expr::Unsafe(x) => leaf::unsafe_block(x, attrs),
         Expr::While(x) => block::while_expr(x, attrs, operand),
         Expr::Yield(x) => jump::yield_expr(x, attrs, operand),
-        Expr::Verbatim(tokens) => kept::behind(tokens, attrs),
+        Expr::Verbatim(tokens) => verbatim::behind(tokens, attrs),
     }
 }
 

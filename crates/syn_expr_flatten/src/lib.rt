@@ -2,10 +2,10 @@
 #![tactic(auto)]
 
 mod each;
-mod kept;
 mod knot;
 mod members;
 mod paren;
+mod verbatim;
 mod whole;
 
 pub use whole::{flatten, flatten_in_place};

@@ -2,7 +2,7 @@
 
 ghost use Rattle.std.specs.Prelude.{Contains, IfOk};
 ghost use Rattle.std.specs.Option.{ForSome};
-ghost use Rattle.syn_expr_all.specs.View.{arm_of, binding_of, choice_of, closure_of, for_loop_of, guard_of, pat_of, tree_of};
+ghost use Rattle.syn_expr_all.specs.View.{arm_of, let_of, match_of, closure_of, for_loop_of, guard_of, pat_of, tree_of};
 ghost use Rattle.syn_expr_all.specs.declared.closure.ExprClosure.{out-ExprClosure};
 ghost use Rattle.syn_expr_all.specs.declared.control.Arm.{Arm, out-Arm};
 ghost use Rattle.syn_expr_all.specs.declared.control.ExprForLoop.{out-ExprForLoop};
@@ -88,7 +88,7 @@ pub(crate) fn let_expr<F: Fn(&mut Expr) -> Flattened<()>, G: Fn(&mut Pat) -> Fla
     requires expr { Takes (F.pre flatten) (out-ExprLet x.old).expr.value }
     requires pats { FlattensPat pat_of (G.post pattern) }
     requires gives { Flattens tree_of (F.post flatten) }
-    ensures { IfOk result (λ _. IsFlatBehind attrs (binding_of x.old) (binding_of x.new)) }
+    ensures { IfOk result (λ _. IsFlatBehind attrs (let_of x.old) (let_of x.new)) }
 {
     put_before(attrs, &mut x.attrs)?;
     boxed(&mut x.pat, pattern)?;
@@ -124,7 +124,7 @@ pub(crate) fn match_expr<F: Fn(&mut Expr) -> Flattened<()>, A: Fn(&mut Arm) -> F
     requires arms { (one : Arm) → Contains (out-ExprMatch x.old).arms.items one → Takes (A.pre arm) one }
     requires gives { Flattens tree_of (F.post flatten) }
     requires each { FlattensArm arm_of (A.post arm) }
-    ensures { IfOk result (λ _. IsFlatBehind attrs (choice_of x.old) (choice_of x.new)) }
+    ensures { IfOk result (λ _. IsFlatBehind attrs (match_of x.old) (match_of x.new)) }
 {
     put_around(attrs, &mut x.attrs)?;
     boxed(&mut x.expr, flatten)?;

@@ -1,10 +1,10 @@
--- What is read of an operand, a leaf, a lead or a trailer is what its kind says.
+-- What is read of an operand, a leaf, a prefix or a trailer is what its kind says.
 use Rattle.std.proofs.Common.{◌≡◌, Bool, true, false, cond, drop, refl, Option, None}
 use Rattle.syn_parts.specs.Mark.{star, bang, and, underscore, round_at}
 use Rattle.syn_grammar.specs.Front.{bracket_at, question_at, dot_at}
 use Rattle.syn_grammar.specs.Path.{invisible_at}
 use Rattle.syn_grammar.specs.Head as h
-use Rattle.syn_grammar.specs.Head.{leaf_form, lead_form, dotted}
+use Rattle.syn_grammar.specs.Head.{leaf_form, prefix_form, dotted}
 use Rattle.syn_grammar.specs.Slot.{if_word, match_word}
 use Rattle.syn_grammar.specs.Read as r
 use Rattle.syn_grammar.specs.Read.{atom, trailed}
@@ -12,13 +12,13 @@ use Rattle.syn_expr_front.specs.declared.start.Atom.{Atom}
 use Rattle.syn_expr_front.specs.declared.start.Atom.TheVariants as kind
 use Rattle.syn_expr_front.specs.declared.start.LeafStart.{LeafStart}
 use Rattle.syn_expr_front.specs.declared.start.LeafStart.TheVariants as leaf
-use Rattle.syn_expr_front.specs.declared.start.LeadStart.{LeadStart}
-use Rattle.syn_expr_front.specs.declared.start.LeadStart.TheVariants as lead
+use Rattle.syn_expr_front.specs.declared.start.PrefixStart.{PrefixStart}
+use Rattle.syn_expr_front.specs.declared.start.PrefixStart.TheVariants as prefix
 use Rattle.syn_expr_front.specs.declared.start.TrailerStart.{TrailerStart}
 use Rattle.syn_expr_front.specs.declared.start.TrailerStart.TheVariants as trailer
 use Rattle.syn_expr_front.specs.declared.start.NameStart.{NameStart}
 use Rattle.syn_expr_front.specs.declared.start.NameStart.TheVariants as named
-use Rattle.syn_expr_front.specs.Begins.{AtomsAreChosen, LeavesAreChosen, LeadsAreChosen, TrailersAreChosen, NamesAreChosen, atom_by, leaf_by, lead_by, trailer_by, name_by}
+use Rattle.syn_expr_front.specs.Begins.{AtomsAreChosen, LeavesAreChosen, PrefixesAreChosen, TrailersAreChosen, NamesAreChosen, atom_by, leaf_by, prefix_by, trailer_by, name_by}
 
 -- what a choice makes is the choice of what is made
 pick : {A B : Type 0} (f : A → B) (b : Bool) (x y : A) (u v : B) → u ≡ f x → v ≡ f y → cond b u v ≡ f (cond b x y)
@@ -39,7 +39,7 @@ unfolding atom
 atoms_are_chosen expr p l =
     let f = λ (k : Atom). atom_by expr p k l in
     first f (r.leaf_at l) kind.Leaf _ _
-    (first f (r.lead_at l) kind.Lead _ _
+    (first f (r.prefix_at l) kind.Prefix _ _
     (first f (round_at l) kind.Parenthesis _ _
     (first f (bracket_at l) kind.Bracket _ _
     (first f (r.become_word.at l) kind.Become _ _
@@ -65,17 +65,17 @@ leaves_are_chosen l =
     (first f (h.try_block_at l) leaf.Try _ _
     (first f (h.builtin_at l) leaf.Builtin _ _ refl)))))))))))
 
-pub leads_are_chosen : LeadsAreChosen
-unfolding lead_form
-leads_are_chosen l =
-    let f = λ (k : LeadStart). (lead_by k).reads l in
-    first f (star.at l) lead.Deref _ _
-    (first f (bang.at l) lead.Not _ _
-    (first f (h.minus.at l) lead.Neg _ _
-    (pick f (and.at l) _ _ _ _ (inner f (and.at l) (h.raw_at (drop 1 l)) lead.RawAddr lead.Reference _ _ refl refl)
-    (first f (h.range_at l) lead.Range _ _
-    (first f (h.let_word.at l) lead.Let _ _
-    (first f (h.jump_at l) lead.Jump _ _ refl))))))
+pub prefixes_are_chosen : PrefixesAreChosen
+unfolding prefix_form
+prefixes_are_chosen l =
+    let f = λ (k : PrefixStart). (prefix_by k).reads l in
+    first f (star.at l) prefix.Deref _ _
+    (first f (bang.at l) prefix.Not _ _
+    (first f (h.minus.at l) prefix.Neg _ _
+    (pick f (and.at l) _ _ _ _ (inner f (and.at l) (h.raw_at (drop 1 l)) prefix.RawAddr prefix.Reference _ _ refl refl)
+    (first f (h.range_at l) prefix.Range _ _
+    (first f (h.let_word.at l) prefix.Let _ _
+    (first f (h.jump_at l) prefix.Jump _ _ refl))))))
 
 pub trailers_are_chosen : TrailersAreChosen
 unfolding trailed

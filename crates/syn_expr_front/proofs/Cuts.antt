@@ -89,13 +89,13 @@ stepped None q is p g e = absurd (none_is q e)
 stepped (Some n) None is p g e = absurd cc
 stepped (Some n) (Some r) is p g e = let k : is ≡ r.0 = g r refl in cc
 
-front_told : (ts : List Tok) (p : List ℕ × Bool) → steps_of ts ≡ Some p → front_indices ts ≡ p.0
-front_told [] p e = cc
-front_told (literal s ∷ []) p e = stepped (index_of s) (Some ([], false)) [] p (λ r f. cc) e
-front_told (literal s ∷ d ∷ more) p e = stepped (index_of s) (steps_of more) (front_indices more) p (λ r f. front_told more r f) e
-front_told (ident s ∷ more) p e = absurd cc
-front_told (punct c s ∷ more) p e = absurd cc
-front_told (group d i ∷ more) p e = absurd cc
+front_known : (ts : List Tok) (p : List ℕ × Bool) → steps_of ts ≡ Some p → front_indices ts ≡ p.0
+front_known [] p e = cc
+front_known (literal s ∷ []) p e = stepped (index_of s) (Some ([], false)) [] p (λ r f. cc) e
+front_known (literal s ∷ d ∷ more) p e = stepped (index_of s) (steps_of more) (front_indices more) p (λ r f. front_known more r f) e
+front_known (ident s ∷ more) p e = absurd cc
+front_known (punct c s ∷ more) p e = absurd cc
+front_known (group d i ∷ more) p e = absurd cc
 
 begins_is : (s : Text) → begins_number s ≡ is_number s
 unfolding is_number
@@ -124,7 +124,7 @@ ended (Some (js, b)) is d g e =
     rw (k, m) refl
 
 pub some_steps : (s : Text) (d : Bool) → is_number s ≡ true → Some d ≡ end_of (steps_of (cut s)) → steps_of (float_parts s) ≡ Some (front_indices (cut s), d)
-some_steps s d n e = rw (number s n) (ended (steps_of (cut s)) (front_indices (cut s)) d (front_told (cut s)) e)
+some_steps s d n e = rw (number s n) (ended (steps_of (cut s)) (front_indices (cut s)) d (front_known (cut s)) e)
 
 unended : (o : Option (List ℕ × Bool)) → None ≡ end_of o → o ≡ None
 unended None e = refl

@@ -34,4 +34,4 @@ pub names_begin_paths : (w : Text) (l : List Tok) → is_reserved_word w ≡ fal
 unfolding invisible_at group_at
 names_begin_paths w l name plain =
     let n = named_word w l (name_segment w name) in
-    rw (n.no_leaf (no_try w l name) (no_builtin w l plain), n.no_lead, n.no_round, n.no_bracket, n.no_become, n.no_if, n.no_loop, n.no_match) refl
+    rw (n.no_leaf (no_try w l name) (no_builtin w l plain), n.no_prefix, n.no_round, n.no_bracket, n.no_become, n.no_if, n.no_loop, n.no_match) refl

@@ -1,4 +1,4 @@
--- By what stands first which operand, which leaf, which lead and which trailer is read, and what is read of each.
+-- By what stands first which operand, which leaf, which prefix and which trailer is read, and what is read of each.
 use Rattle.std.specs.Prelude.{◌≡◌, true, if◌then◌else◌, List, [], drop, None}
 use Rattle.syn_tokens.specs.Tok.{Tok}
 use Rattle.syn_parts.specs.Form.{Form, mark, both, shown, pure, flag, maybe, closed_by}
@@ -12,9 +12,9 @@ use Rattle.syn_grammar.specs.Place.{plain}
 use Rattle.syn_grammar.specs.Front.{bracket_at, question_at, dot_at}
 use Rattle.syn_grammar.specs.Path.{invisible_at}
 use Rattle.syn_grammar.specs.Tree as e
-use Rattle.syn_grammar.specs.Tree.{Tree, Leaf, Lead, Trailer}
+use Rattle.syn_grammar.specs.Tree.{Tree, Leaf, Prefix, Trailer}
 use Rattle.syn_grammar.specs.Head as h
-use Rattle.syn_grammar.specs.Head.{leaf_form, lead_form, dotted}
+use Rattle.syn_grammar.specs.Head.{leaf_form, prefix_form, dotted}
 use Rattle.syn_grammar.specs.Slot.{if_word, match_word}
 use Rattle.syn_grammar.specs.Stands.{indices_at}
 use Rattle.syn_grammar.specs.Read as r
@@ -23,8 +23,8 @@ use Rattle.syn_expr_front.specs.declared.start.Atom.{Atom}
 use Rattle.syn_expr_front.specs.declared.start.Atom.TheVariants as atom
 use Rattle.syn_expr_front.specs.declared.start.LeafStart.{LeafStart}
 use Rattle.syn_expr_front.specs.declared.start.LeafStart.TheVariants as leaf
-use Rattle.syn_expr_front.specs.declared.start.LeadStart.{LeadStart}
-use Rattle.syn_expr_front.specs.declared.start.LeadStart.TheVariants as lead
+use Rattle.syn_expr_front.specs.declared.start.PrefixStart.{PrefixStart}
+use Rattle.syn_expr_front.specs.declared.start.PrefixStart.TheVariants as prefix
 use Rattle.syn_expr_front.specs.declared.start.TrailerStart.{TrailerStart}
 use Rattle.syn_expr_front.specs.declared.start.TrailerStart.TheVariants as trailer
 use Rattle.syn_expr_front.specs.declared.start.NameStart.{NameStart}
@@ -43,20 +43,20 @@ worded l =
 abbrev pub atom_of : List Tok → Atom
 atom_of l =
     if r.leaf_at l then atom.Leaf else
-    (if r.lead_at l then atom.Lead else
+    (if r.prefix_at l then atom.Prefix else
     (if round_at l then atom.Parenthesis else
     (if bracket_at l then atom.Bracket else worded l)))
 
 -- what is read of each, by a reading of the expressions inside
 abbrev pub atom_by : (Place → Reading Tree) → Place → Atom → Reading Tree
 atom_by expr p atom.Leaf l = r.leaf_read p l
-atom_by expr p atom.Lead l = r.lead_read expr p l
+atom_by expr p atom.Prefix l = r.prefix_read expr p l
 atom_by expr p atom.Parenthesis l = r.round_read expr l
 atom_by expr p atom.Bracket l = r.bracket_read expr l
-atom_by expr p atom.Become l = (expr plain >>= r.kept_from expr l) (drop 1 l)
-atom_by expr p atom.If l = r.framed_by expr p e.branch (drop 1 l)
+atom_by expr p atom.Become l = (expr plain >>= r.verbatim_from expr l) (drop 1 l)
+atom_by expr p atom.If l = r.framed_by expr p e.if_expr (drop 1 l)
 atom_by expr p atom.Loop l = r.loop_read expr p l
-atom_by expr p atom.Match l = r.framed_by expr p e.choice (drop 1 l)
+atom_by expr p atom.Match l = r.framed_by expr p e.match_expr (drop 1 l)
 atom_by expr p atom.Group l = r.group_read expr p l
 atom_by expr p atom.Named l = r.named_read expr p l
 
@@ -101,35 +101,35 @@ leaf_by leaf.Named = h.named
 abbrev pub LeavesAreChosen : Type 0
 LeavesAreChosen = (l : List Tok) → leaf_form.reads l ≡ (leaf_by (leaf_of l)).reads l
 
--- ---- leads
+-- ---- prefixes
 
 -- behind `&`
-abbrev pub borrow_of : List Tok → LeadStart
-borrow_of l = if h.raw_at (drop 1 l) then lead.RawAddr else lead.Reference
+abbrev pub borrow_of : List Tok → PrefixStart
+borrow_of l = if h.raw_at (drop 1 l) then prefix.RawAddr else prefix.Reference
 
-abbrev pub lead_of : List Tok → LeadStart
-lead_of l =
-    if star.at l then lead.Deref else
-    (if bang.at l then lead.Not else
-    (if h.minus.at l then lead.Neg else
+abbrev pub prefix_of : List Tok → PrefixStart
+prefix_of l =
+    if star.at l then prefix.Deref else
+    (if bang.at l then prefix.Not else
+    (if h.minus.at l then prefix.Neg else
     (if and.at l then borrow_of l else
-    (if h.range_at l then lead.Range else
-    (if h.let_word.at l then lead.Let else
-    (if h.jump_at l then lead.Jump else lead.Closure))))))
+    (if h.range_at l then prefix.Range else
+    (if h.let_word.at l then prefix.Let else
+    (if h.jump_at l then prefix.Jump else prefix.Closure))))))
 
-abbrev pub lead_by : LeadStart → Form Lead
-lead_by lead.Deref = mark star (pure (e.unary un.Deref) h.is_deref)
-lead_by lead.Not = mark bang (pure (e.unary un.Not) h.is_not)
-lead_by lead.Neg = mark h.minus (pure (e.unary un.Neg) h.is_neg)
-lead_by lead.RawAddr = mark and (mark h.raw_word (shown e.raw_addr h.from_raw_addr mutability))
-lead_by lead.Reference = mark and (shown e.reference h.from_reference (flag mutable))
-lead_by lead.Range = shown e.range_to h.from_range_to h.range_op
-lead_by lead.Let = mark h.let_word (shown e.binding h.from_binding (closed_by eq (pattern true)))
-lead_by lead.Jump = shown e.jump h.from_jump h.jump_head
-lead_by lead.Closure = shown e.closure h.from_closure h.closure_head
+abbrev pub prefix_by : PrefixStart → Form Prefix
+prefix_by prefix.Deref = mark star (pure (e.unary un.Deref) h.is_deref)
+prefix_by prefix.Not = mark bang (pure (e.unary un.Not) h.is_not)
+prefix_by prefix.Neg = mark h.minus (pure (e.unary un.Neg) h.is_neg)
+prefix_by prefix.RawAddr = mark and (mark h.raw_word (shown e.raw_addr h.from_raw_addr mutability))
+prefix_by prefix.Reference = mark and (shown e.reference h.from_reference (flag mutable))
+prefix_by prefix.Range = shown e.range_to h.from_range_to h.range_op
+prefix_by prefix.Let = mark h.let_word (shown e.let_expr h.from_let (closed_by eq (pattern true)))
+prefix_by prefix.Jump = shown e.jump h.from_jump h.jump_head
+prefix_by prefix.Closure = shown e.closure h.from_closure h.closure_head
 
-abbrev pub LeadsAreChosen : Type 0
-LeadsAreChosen = (l : List Tok) → lead_form.reads l ≡ (lead_by (lead_of l)).reads l
+abbrev pub PrefixesAreChosen : Type 0
+PrefixesAreChosen = (l : List Tok) → prefix_form.reads l ≡ (prefix_by (prefix_of l)).reads l
 
 -- ---- trailers
 
@@ -144,7 +144,7 @@ trailer_of l =
 abbrev pub trailer_by : (Place → Reading Tree) → Place → Tree → TrailerStart → Reading Tree
 trailer_by expr p b trailer.Call l = r.trailed_by expr p b [] e.call l
 trailer_by expr p b trailer.Index l = r.trailed_by expr p b [] e.index l
-trailer_by expr p b trailer.Question l = r.trailed_by expr p b [] e.question (drop 1 l)
+trailer_by expr p b trailer.Question l = r.trailed_by expr p b [] e.try_expr (drop 1 l)
 trailer_by expr p b trailer.Dot l = r.dotted_by expr p b (indices_at (drop 1 l)) (drop 1 l)
 trailer_by expr p b trailer.Absent l = None
 

@@ -277,7 +277,7 @@ pub fn loop_head_at(input: &ParseBuffer<'_>) -> bool
 }
 
 /// Whether a block stands first, by its word or its brace.
-fn kept_block_at(input: &ParseBuffer<'_>) -> bool
+fn verbatim_block_at(input: &ParseBuffer<'_>) -> bool
     ensures { result ≡ (head.const_block_at input.now.rest || (head.async_block_at input.now.rest || (head.try_block_at input.now.rest || head.builtin_at input.now.rest))) }
 {
     const_block_at(input) || async_block_at(input) || try_block_at(input) || builtin_at(input)
@@ -294,13 +294,13 @@ pub fn leaf_at(input: &ParseBuffer<'_>) -> bool
         || loop_at(input)
         || block_at(input)
         || input.peek::<Unsafe>()
-        || kept_block_at(input)
+        || verbatim_block_at(input)
 }
 
 /// Whether the operator of one operand stands first, `..`, `let`, a jump or the head of a closure.
-#[tactic(auto, unfolding(syn_grammar::specs::Read::lead_at, syn_tokens::specs::Sign::word_text, syn_tokens::specs::Sign::sign_text, syn_parts::specs::Mark::word_at, syn_parts::specs::Mark::sign_at))]
-pub fn lead_at(input: &ParseBuffer<'_>) -> bool
-    ensures { result ≡ read.lead_at input.now.rest }
+#[tactic(auto, unfolding(syn_grammar::specs::Read::prefix_at, syn_tokens::specs::Sign::word_text, syn_tokens::specs::Sign::sign_text, syn_parts::specs::Mark::word_at, syn_parts::specs::Mark::sign_at))]
+pub fn prefix_at(input: &ParseBuffer<'_>) -> bool
+    ensures { result ≡ read.prefix_at input.now.rest }
 {
     input.peek::<Star>()
         || input.peek::<Not>()

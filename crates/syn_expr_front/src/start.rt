@@ -1,14 +1,14 @@
-//! Which of the operands, of the leaves, of the leads and of the trailers is read, by what stands first. No other part of the
+//! Which of the operands, of the leaves, of the prefixes and of the trailers is read, by what stands first. No other part of the
 //! input decides it.
 
 ghost use Rattle.std.specs.Prelude.{◌≡◌, true};
 ghost use Rattle.syn_expr_front.specs.Begins as begins;
-ghost use Rattle.syn_expr_front.specs.Begins.{AtomsAreChosen, LeavesAreChosen, LeadsAreChosen, TrailersAreChosen, NamesAreChosen};
+ghost use Rattle.syn_expr_front.specs.Begins.{AtomsAreChosen, LeavesAreChosen, PrefixesAreChosen, TrailersAreChosen, NamesAreChosen};
 
 use crate::atom::{
     async_block_at, become_at, block_at, builtin_at, const_block_at, if_at, invisible_at, jump_at,
-    lead_at, leaf_at, literal_at, loop_at, loop_head_at, match_at, method_at, range_at, raw_behind,
-    try_block_at,
+    leaf_at, literal_at, loop_at, loop_head_at, match_at, method_at, prefix_at, range_at,
+    raw_behind, try_block_at,
 };
 use crate::sign::{bracket_at, dot_at, question_at};
 use syn_lexer::reserved::is_reserved_word;
@@ -23,7 +23,7 @@ pub enum Atom {
     /// A leaf that is no path, macro, jump or range.
     Leaf,
     /// What stands before an operand, or a jump or a range without one.
-    Lead,
+    Prefix,
     /// What is in parentheses.
     Parenthesis,
     /// What is in brackets.
@@ -73,9 +73,9 @@ pub enum LeafStart {
     Named,
 }
 
-/// Which lead is read: what stands before an operand.
+/// Which prefix is read: what stands before an operand.
 #[derive(Clone, Copy, Debug, PartialEq, Eq)]
-pub enum LeadStart {
+pub enum PrefixStart {
     /// `*`
     Deref,
     /// `!`
@@ -168,8 +168,8 @@ pub fn atom_at(input: &ParseBuffer<'_>) -> Atom
     if leaf_at(input) {
         return Atom::Leaf;
     }
-    if lead_at(input) {
-        return Atom::Lead;
+    if prefix_at(input) {
+        return Atom::Prefix;
     }
     if round_at(input) {
         return Atom::Parenthesis;
@@ -233,45 +233,45 @@ pub fn leaf_start(input: &ParseBuffer<'_>) -> LeafStart
     block_or_name(input)
 }
 
-/// Which lead is read behind `&`.
-fn borrow(input: &ParseBuffer<'_>) -> LeadStart
+/// Which prefix is read behind `&`.
+fn borrow(input: &ParseBuffer<'_>) -> PrefixStart
     ensures { result ≡ begins.borrow_of input.now.rest }
 {
     if raw_behind(input) {
-        LeadStart::RawAddr
+        PrefixStart::RawAddr
     } else {
-        LeadStart::Reference
+        PrefixStart::Reference
     }
 }
 
-/// Which lead is read (Rust Reference, "Operator expressions", "Range expressions", "`let` expressions", "Closure
+/// Which prefix is read (Rust Reference, "Operator expressions", "Range expressions", "`let` expressions", "Closure
 /// expressions").
 #[tactic(auto, unfolding(syn_tokens::specs::Sign::word_text, syn_tokens::specs::Sign::sign_text, syn_parts::specs::Mark::word_at, syn_parts::specs::Mark::sign_at))]
-pub fn lead_start(input: &ParseBuffer<'_>) -> LeadStart
-    ensures { result ≡ begins.lead_of input.now.rest }
+pub fn prefix_start(input: &ParseBuffer<'_>) -> PrefixStart
+    ensures { result ≡ begins.prefix_of input.now.rest }
 {
     if input.peek::<Star>() {
-        return LeadStart::Deref;
+        return PrefixStart::Deref;
     }
     if input.peek::<Not>() {
-        return LeadStart::Not;
+        return PrefixStart::Not;
     }
     if input.peek::<Minus>() {
-        return LeadStart::Neg;
+        return PrefixStart::Neg;
     }
     if input.peek::<And>() {
         return borrow(input);
     }
     if range_at(input) {
-        return LeadStart::Range;
+        return PrefixStart::Range;
     }
     if input.peek::<Let>() {
-        return LeadStart::Let;
+        return PrefixStart::Let;
     }
     if jump_at(input) {
-        return LeadStart::Jump;
+        return PrefixStart::Jump;
     }
-    LeadStart::Closure
+    PrefixStart::Closure
 }
 
 /// Which trailer is read (Rust Reference, "Call expressions", "Array and array index expressions", "The question mark
@@ -309,12 +309,12 @@ pub fn name_start(input: &ParseBuffer<'_>) -> NameStart
     NameStart::Field
 }
 
-/// What is read of an operand, a leaf, a lead or a trailer is what its kind says that `atom_at`, `leaf_start`, `lead_start`,
+/// What is read of an operand, a leaf, a prefix or a trailer is what its kind says that `atom_at`, `leaf_start`, `prefix_start`,
 /// `trailer_start` or `name_start` answers (a law about definitions; it does nothing).
 pub fn kinds_decide()
     ensures atoms { AtomsAreChosen }
     ensures leaves { LeavesAreChosen }
-    ensures leads { LeadsAreChosen }
+    ensures prefixes { PrefixesAreChosen }
     ensures trailers { TrailersAreChosen }
     ensures names { NamesAreChosen }
 {}

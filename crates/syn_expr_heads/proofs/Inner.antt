@@ -3,7 +3,7 @@ use Rattle.std.proofs.Common.{◌≡◌, Bool, true, false, cond, List, [], ◌�
 use Rattle.syn_tokens.specs.Tok.{Tok}
 use Rattle.syn_parts.specs.Tree.{AttributeTree}
 use Rattle.syn_parts.specs.Form.{Outcome, and_then, more, prepend}
-use Rattle.syn_parts.specs.Part.{inner_attributes, inner_body, kept, pound_bang, to_inner}
+use Rattle.syn_parts.specs.Part.{inner_attributes, inner_body, verbatim, pound_bang, to_inner}
 use Rattle.syn_lexer.specs.declared.lexeme.Delimiter.TheVariants as del
 use Rattle.syn_parts.proofs.Forms.{more_is}
 use Rattle.syn_parts.proofs.Marks.{pound_bang_present}
@@ -23,7 +23,7 @@ inner_attributes_inner (a ∷ ats) l n h = by_mark (λ m o g. inner_attributes_i
         let (p, i, f) = then_some (and_then (inner_body.reads (drop 2 l)) (λ x m. and_then ((more pound_bang inner_body).reads m) (λ xs o. Some ((x, xs), o)))) (λ p o. Some (prepend p, o)) (a ∷ ats, n) g in
         let (x, j, d) = then_some (inner_body.reads (drop 2 l)) (λ x m. and_then ((more pound_bang inner_body).reads m) (λ xs o. Some ((x, xs), o))) p i in
         let (xs, k, c) = then_some ((more pound_bang inner_body).reads x.1) (λ xs o. Some ((x.0, xs), o)) p d in
-        let (ts, u, w) = then_some ((kept del.Bracket).reads (drop 2 l)) (λ t m. Some (to_inner t, m)) x j in
+        let (ts, u, w) = then_some ((verbatim del.Bracket).reads (drop 2 l)) (λ t m. Some (to_inner t, m)) x j in
         let is_one : to_inner ts.0 ≡ x.0 = ap (λ (r : AttributeTree × List Tok). r.0) (some_is w) in
         let all : prepend p.0 ≡ a ∷ ats = ap (λ (r : List AttributeTree × List Tok). r.0) (some_is f) in
         let pair : (x.0, xs.0) ≡ p.0 = ap (λ (r : (AttributeTree × List AttributeTree) × List Tok). r.0) (some_is c) in

@@ -11,10 +11,10 @@ use Rattle.syn_parts.proofs.Marks.{word_present}
 use Rattle.syn_grammar.specs.declared.kinds.Place.{Place}
 use Rattle.syn_grammar.specs.Place.{before_block}
 use Rattle.syn_grammar.specs.Tree as e
-use Rattle.syn_grammar.specs.Tree.{Tree, Kids, Piece, Ending, frame, kid, plain_block, is_silent}
+use Rattle.syn_grammar.specs.Tree.{Tree, Children, Piece, Ending, frame, child, plain_block, is_silent}
 use Rattle.syn_grammar.specs.Slot.{Slot, conditions, arms, after, may_end, piece_form, piece_place, ending_at, is_chained, if_word}
 use Rattle.syn_grammar.specs.Stands.{short_value, takes_block}
-use Rattle.syn_grammar.specs.Read.{Reading, expr, all_of, before, only_if, is_scrutinees, ended_by, branch_by, block_by, value_by, operand_of, armed, operands_by, operands, bare_operands}
+use Rattle.syn_grammar.specs.Read.{Reading, expr, all_of, before, only_if, is_scrutinees, ended_by, if_expr_by, block_by, value_by, operand_of, armed, operands_by, operands, bare_operands}
 use Rattle.syn_grammar.proofs.Chains.{some_is, then_some, only_some, chosen}
 use Rattle.syn_grammar.proofs.Needs.{heads}
 use Rattle.syn_grammar.proofs.HeadMoves.{IsLess, less_then, then_less, grouped, group_inside, left, ending_left, marked}
@@ -41,15 +41,15 @@ block_less k m c h =
     let (g, i, f) = then_some (group_at del.Brace m) (λ i n. Some ((e.no_ending, plain_block i), n)) c j.1 in
     subst (λ (q : (Ending × Tree) × List Tok). IsLess q.1 m) (some_is f) (grouped del.Brace m g.0 g.1 i))
     (λ j.
-    let (d, f) = only_some (is_chained k) (and_then (branch_by expr (bare_operands expr conditions) m) (ended_by expr k)) c j.1 in
-    let (z, i, g) = then_some (branch_by expr (bare_operands expr conditions) m) (ended_by expr k) c f in
-    ended_less k z.0 m z.1 c (branch_less z i) g)
+    let (d, f) = only_some (is_chained k) (and_then (if_expr_by expr (bare_operands expr conditions) m) (ended_by expr k)) c j.1 in
+    let (z, i, g) = then_some (if_expr_by expr (bare_operands expr conditions) m) (ended_by expr k) c f in
+    ended_less k z.0 m z.1 c (if_expr_less z i) g)
     (chosen (brace_at m) (and_then (group_at del.Brace m) (λ i n. Some ((e.no_ending, plain_block i), n))) _ (Some c) h)
   where
-    branch_less : (z : Tree × List Tok) → branch_by expr (bare_operands expr conditions) m ≡ Some z → IsLess z.1 m
-    branch_less z h =
-        let (w, f) = only_some (if_word.at m) (and_then (bare_operands expr conditions (drop 1 m)) (λ ks n. Some (frame e.branch ks, n))) z h in
-        let (y, i, g) = then_some (bare_operands expr conditions (drop 1 m)) (λ ks n. Some (frame e.branch ks, n)) z f in
+    if_expr_less : (z : Tree × List Tok) → if_expr_by expr (bare_operands expr conditions) m ≡ Some z → IsLess z.1 m
+    if_expr_less z h =
+        let (w, f) = only_some (if_word.at m) (and_then (bare_operands expr conditions (drop 1 m)) (λ ks n. Some (frame e.if_expr ks, n))) z h in
+        let (y, i, g) = then_some (bare_operands expr conditions (drop 1 m)) (λ ks n. Some (frame e.if_expr ks, n)) z f in
         subst (λ (q : Tree × List Tok). IsLess q.1 m) (some_is g)
         (less_then (if_less m w) (operands_left (bare_sound heads expr expr_sound conditions (drop 1 m) y i)))
 
@@ -86,23 +86,23 @@ pub then_assoc : {A B C : Type 0} (o : Outcome A) (f : A → Reading B) (g : B �
 then_assoc None f g = refl
 then_assoc (Some p) f g = refl
 
-module _ (f g : Slot → Reading Kids) (l : List Tok) (same : (v : Slot) (n : List Tok) → weight n < weight l → f v n ≡ g v n) where
+module _ (f g : Slot → Reading Children) (l : List Tok) (same : (v : Slot) (n : List Tok) → weight n < weight l → f v n ≡ g v n) where
   armed_same : (x : Tree) (h : List Tok) → weight h < weight l → armed expr (f arms) x h ≡ armed expr (g arms) x h
   armed_same x h b =
       then_same (group_at del.Brace h) _ _ (λ i n a. then_same (inner_attributes.reads i) _ _ (λ ats j c.
       let u = group_inside del.Brace h i n a in
       let w = heads.inners.falls i ats j (heads.inners.sound i ats j c) in
-      ap (λ o. before (all_of o) (λ ks. kid e.scrutinee (e.opened ats) x ks) n) (same arms j (omega (arith, b, u, w)))))
+      ap (λ o. before (all_of o) (λ ks. child e.scrutinee (e.opened ats) x ks) n) (same arms j (omega (arith, b, u, w)))))
 
-  branch_same : (m : List Tok) → weight m ≤ weight l → branch_by expr (f conditions) m ≡ branch_by expr (g conditions) m
-  branch_same m b =
+  if_expr_same : (m : List Tok) → weight m ≤ weight l → if_expr_by expr (f conditions) m ≡ if_expr_by expr (g conditions) m
+  if_expr_same m b =
       cond_same (if_word.at m) _ _ _ _ (λ w. let u = if_less m w in
-      ap (λ o. and_then o (λ ks n. Some (frame e.branch ks, n))) (same conditions (drop 1 m) (omega (arith, b, u.less)))) (λ w. refl)
+      ap (λ o. and_then o (λ ks n. Some (frame e.if_expr ks, n))) (same conditions (drop 1 m) (omega (arith, b, u.less)))) (λ w. refl)
 
   operand_same : (k : Piece) (m : List Tok) → weight m ≤ weight l → operand_of expr (f conditions) k m ≡ operand_of expr (g conditions) k m
   operand_same k m b =
       cond_same (takes_block k) _ _ _ _
-      (λ t. cond_same (brace_at m) _ _ _ _ (λ u. refl) (λ u. ap (λ o. only_if (is_chained k) (and_then o (ended_by expr k))) (branch_same m b)))
+      (λ t. cond_same (brace_at m) _ _ _ _ (λ u. refl) (λ u. ap (λ o. only_if (is_chained k) (and_then o (ended_by expr k))) (if_expr_same m b)))
       (λ t. refl)
 
   turn_same : ((v : Slot) → g v ≡ bare_operands expr v) → (v : Slot) → operands_by expr f v l ≡ operands_by expr g v l
@@ -112,9 +112,9 @@ module _ (f g : Slot → Reading Kids) (l : List Tok) (same : (v : Slot) (n : Li
       (λ t. cond_same (may_end v l) _ _ _ _ (λ u. refl) (λ u. then_same ((piece_form v).reads l) _ _ (λ k m a.
       let b = heads.pieces v in
       let w = b.falls l k m (b.sound l k m a) in
-      ap (λ o. and_then o (λ c n. and_then (f (after k) n) (λ ks o. Some (kid k c.0 c.1 ks, o)))) (operand_same k m w)
+      ap (λ o. and_then o (λ c n. and_then (f (after k) n) (λ ks o. Some (child k c.0 c.1 ks, o)))) (operand_same k m w)
       ∙ then_same (operand_of expr (g conditions) k m) _ _ (λ c n d.
-      ap (λ o. and_then o (λ ks o. Some (kid k c.0 c.1 ks, o))) (same (after k) n (operand_less v l m k (c, n) a (subst (λ (r : Reading Kids). operand_of expr r k m ≡ Some (c, n)) (q conditions) d)))))))
+      ap (λ o. and_then o (λ ks o. Some (child k c.0 c.1 ks, o))) (same (after k) n (operand_less v l m k (c, n) a (subst (λ (r : Reading Children). operand_of expr r k m ≡ Some (c, n)) (q conditions) d)))))))
 
 -- ---- the count
 

@@ -1,4 +1,4 @@
-pub mod Leads
+pub mod Prefixes
 pub mod Leaves
 pub mod Reads
 pub mod View

@@ -25,8 +25,8 @@ use Rattle.syn_expr_heads.specs.declared.types.FieldHead.TheVariants as field
 use Rattle.syn_expr_heads.specs.declared.types.ArmHead.{ArmHead}
 use Rattle.syn_expr_heads.specs.declared.types.ArmHead.TheVariants as arm
 use Rattle.syn_expr_heads.specs.declared.types.ClosureHead.{ClosureHead}
-use Rattle.syn_expr_heads.specs.declared.types.LeadHead.{LeadHead}
-use Rattle.syn_expr_heads.specs.declared.types.LeadHead.TheVariants as lead
+use Rattle.syn_expr_heads.specs.declared.types.PrefixHead.{PrefixHead}
+use Rattle.syn_expr_heads.specs.declared.types.PrefixHead.TheVariants as prefix
 
 abbrev pub body_of : Body → e.Body
 body_of b = record { inner = map attribute_of b.attrs.items; tokens = b.block.stmts }
@@ -42,7 +42,7 @@ leaf_of (leaf.Infer w) = e.infer
 leaf_of (leaf.FullRange op) = e.full_range (limits_kind op)
 leaf_of (leaf.Jump j) = e.bare_jump (jump_of j)
 leaf_of (leaf.Continue w l) = e.continuing (mapped lifetime_of l)
-leaf_of (leaf.Loop l w b) = e.looping (mapped label_of l) (body_of b)
+leaf_of (leaf.Loop l w b) = e.loop_expr (mapped label_of l) (body_of b)
 leaf_of (leaf.Block l b) = e.block (mapped label_of l) (body_of b)
 leaf_of (leaf.Unsafe w b) = e.unsafe_block (body_of b)
 leaf_of (leaf.Const w b) = e.const_block (body_of b)
@@ -98,16 +98,16 @@ closure_of f x = record {
 abbrev pub closure_guards : {P : Type 0} → (P → PatView) → ClosureHead P → List Tree
 closure_guards f x = flat_map (λ v. v.guards) (map f (values x.inputs))
 
-abbrev pub lead_of : {P : Type 0} → (P → PatView) → LeadHead P → e.Lead
-lead_of f (lead.Unary op) = e.unary (un_kind op)
-lead_of f (lead.Reference w m) = e.reference (is_some m)
-lead_of f (lead.RawAddr w r m) = e.raw_addr (is_mut m)
-lead_of f (lead.RangeTo op) = e.range_to (limits_kind op)
-lead_of f (lead.Let w p q) = e.binding (f p).tree
-lead_of f (lead.Jump j) = e.jump (jump_of j)
-lead_of f (lead.Closure h) = e.closure (closure_of f h)
+abbrev pub prefix_of : {P : Type 0} → (P → PatView) → PrefixHead P → e.Prefix
+prefix_of f (prefix.Unary op) = e.unary (un_kind op)
+prefix_of f (prefix.Reference w m) = e.reference (is_some m)
+prefix_of f (prefix.RawAddr w r m) = e.raw_addr (is_mut m)
+prefix_of f (prefix.RangeTo op) = e.range_to (limits_kind op)
+prefix_of f (prefix.Let w p q) = e.let_expr (f p).tree
+prefix_of f (prefix.Jump j) = e.jump (jump_of j)
+prefix_of f (prefix.Closure h) = e.closure (closure_of f h)
 
-abbrev pub lead_guards : {P : Type 0} → (P → PatView) → LeadHead P → List Tree
-lead_guards f (lead.Let w p q) = (f p).guards
-lead_guards f (lead.Closure h) = closure_guards f h
-lead_guards f _ = []
+abbrev pub prefix_guards : {P : Type 0} → (P → PatView) → PrefixHead P → List Tree
+prefix_guards f (prefix.Let w p q) = (f p).guards
+prefix_guards f (prefix.Closure h) = closure_guards f h
+prefix_guards f _ = []

@@ -9,7 +9,7 @@ ghost use Rattle.syn_tokens.specs.Tok.{weight};
 
 use crate::types::Body;
 use syn_lower_leaves::block::Block;
-use syn_lower_leaves::kept::inner_attributes;
+use syn_lower_leaves::verbatim::inner_attributes;
 use syn_tokens::buffer::ParseBuffer;
 use syn_tokens::copy::copy_trees;
 use syn_tokens::error::Result;

@@ -13,7 +13,7 @@ use crate::types::Body;
 use crate::word::{else_word, fat_arrow};
 use syn_lower_leaves::block::Block;
 use syn_lower_leaves::front::{comma, semi};
-use syn_lower_leaves::kept::block;
+use syn_lower_leaves::verbatim::block;
 use syn_tokens::buffer::{ParseBuffer, Token};
 use syn_tokens::error::{ErrorKind, Expected, Result};
 use syn_tokens::token::{Comma, Else, FatArrow, Semi};
@@ -65,7 +65,7 @@ pub fn behind_repeated(input: &mut ParseBuffer<'_>) -> Result<Semi>
 
 /// Reads the block behind the condition of an `if` (Rust Reference, "`if` expressions"). It is refused as `ExpectedToken` of
 /// `{`.
-#[tactic(auto, unfolding(syn_grammar::specs::Slot::ending_at, syn_parts::specs::Part::block, syn_parts::specs::Part::kept))]
+#[tactic(auto, unfolding(syn_grammar::specs::Slot::ending_at, syn_parts::specs::Part::block, syn_parts::specs::Part::verbatim))]
 pub fn behind_condition(input: &mut ParseBuffer<'_>) -> Result<Block>
     ensures value { (x : e.Tree) → Reads (λ b. e.braced (slot.plain_body b.stmts)) (slot.ending_at e.condition x input.old.rest) result input.new.rest }
     ensures noted { input.new.noted ≡ input.old.noted }

@@ -11,7 +11,7 @@ use crate::types::FieldHead;
 use syn_expr_parts::member::Member;
 use syn_expr_parts::reader::member;
 use syn_lower_leaves::front::{colon, dots};
-use syn_lower_leaves::kept::outer_attributes;
+use syn_lower_leaves::verbatim::outer_attributes;
 use syn_tokens::buffer::{ParseBuffer, Token};
 use syn_tokens::error::{ErrorKind, Expected, Result};
 use syn_tokens::token::Colon;

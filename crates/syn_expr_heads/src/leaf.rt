@@ -25,8 +25,8 @@ use syn_lower::mac::Macro;
 use syn_lower::path::{Path, QSelf};
 use syn_lower::readers::ty;
 use syn_lower_leaves::front::{constant, underscore, unsafe_word};
-use syn_lower_leaves::kept::block;
 use syn_lower_leaves::leaf::{name, unsigned};
+use syn_lower_leaves::verbatim::block;
 use syn_lower_lists::readers::maybe_lifetime;
 use syn_lower_readers::grammar::Grammar;
 use syn_lower_readers::qualified::{MacroEnd, macro_end};
@@ -74,7 +74,7 @@ fn incomplete_builtin(input: &mut ParseBuffer<'_>) -> Error
     }
 }
 
-/// Reads `builtin`, `#`, a name and parentheses, whose tokens are kept. It is refused as `ExpectedToken` where the name or the
+/// Reads `builtin`, `#`, a name and parentheses, whose tokens are verbatim. It is refused as `ExpectedToken` where the name or the
 /// parentheses are missing.
 #[tactic(auto, using(syn_tokens::proofs::Views::views), unfolding(syn_grammar::specs::Head::builtin))]
 fn builtin(input: &mut ParseBuffer<'_>) -> Result<TokenStream>

@@ -65,7 +65,7 @@ pub enum LeafHead {
     Async(Async, Option<Move>, Block),
     /// `try { .. }`
     TryBlock(Try, Block),
-    /// Tokens that are kept.
+    /// Verbatim tokens.
     Verbatim(TokenStream),
     /// A path, and the type that it is qualified by.
     Path(Option<QSelf>, Path),
@@ -138,7 +138,7 @@ pub struct ClosureHead<P> {
 
 /// What stands before an operand.
 #[derive(Drop, PartialEq)]
-pub enum LeadHead<P> {
+pub enum PrefixHead<P> {
     /// `*`, `!` or `-`
     Unary(UnOp),
     /// `&`, and `mut` or not.

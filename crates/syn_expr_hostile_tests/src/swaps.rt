@@ -240,7 +240,7 @@ fn grouped(alloc: Global, text: &str) -> Result<HeldExpr, Error> {
 }
 
 #[test]
-fn groups_and_kept_tokens_are_not_well_formed(rt: HostRuntime) -> Result<(), Fail> {
+fn groups_and_verbatim_tokens_are_not_well_formed(rt: HostRuntime) -> Result<(), Fail> {
     let group = grouped(rt.alloc(), "(b + c)")?;
     let (printed, is_well) = told(rt.alloc(), &group)?;
     assert_eq!(rt; printed.as_str(), "b + c");

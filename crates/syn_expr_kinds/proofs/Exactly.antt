@@ -22,7 +22,7 @@ memory_alone : (k : ErrorKind) → (k ≢ OutOfMemory → ⊥) → k ≡ OutOfMe
 memory_alone OutOfMemory h = refl
 memory_alone k h = absurd (h (λ e. cc))
 
--- what stands is refused for want of memory alone
+-- what stands is refused only because memory ran out
 pub refused_by : {B : Type 0} {o : Outcome B} {x : B} {n : List Tok} (k : ErrorKind) → (k ≢ OutOfMemory → o ≡ None) → o ≡ Some (x, n) → k ≡ OutOfMemory
 refused_by {x = x} {n = n} k h g = memory_alone k (λ ne. none-some (x, n) (sym (h ne) ∙ g))
 

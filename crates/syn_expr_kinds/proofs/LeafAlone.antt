@@ -11,12 +11,12 @@ use Rattle.syn_grammar.specs.WellFormed.{attributes_inner}
 use Rattle.syn_grammar.proofs.Attributes.{outers_are}
 use Rattle.syn_parts.specs.Tree.{AttributeTree}
 use Rattle.syn_parts.specs.Form.{Outcome, and_then}
-use Rattle.syn_grammar.specs.Tree.{Tree, Leaf, leaf, adorn, outers}
+use Rattle.syn_grammar.specs.Tree.{Tree, Leaf, leaf, attributed_with, outers}
 use Rattle.syn_grammar.specs.Path.{invisible_at}
 use Rattle.syn_grammar.specs.Alone.{Alone, behind_attributes}
-use Rattle.syn_grammar.specs.AloneRead.{ArePlain, kind_of, adorning, adorned_alone, leaf_alone}
+use Rattle.syn_grammar.specs.AloneRead.{ArePlain, kind_of, attributing, attributed_alone, leaf_alone}
 use Rattle.syn_grammar.specs.Exact.{IsExact}
-use Rattle.syn_grammar.proofs.Alone.{adorned_exact, leaf_exact, none_in_group, plain_adorns, plain_atom}
+use Rattle.syn_grammar.proofs.Alone.{attributed_exact, leaf_exact, none_in_group, plain_takes_attributes, plain_atom}
 use Rattle.syn_expr_heads.specs.Leaves as closed
 use Rattle.syn_expr_heads.proofs.Closed.{form_is, none_closed}
 use Rattle.syn_expr_kinds.specs.Attrs.{attrs_of, outer_of, inner_of}
@@ -24,41 +24,41 @@ use Rattle.syn_expr_kinds.proofs.Attributes.{no_outer, all_inside}
 
 module _ (is : Tree → Bool) (ats : List AttributeTree) (l : List Tok) (plains : ArePlain is) where
   -- what is read as no invisible group begins it, and none where one does, is what is read of the kind
-  by_form : (o : Outcome Leaf) → closed.leaf_form.reads l ≡ o → adorning ats (leaf_alone is) l ≡ adorning ats (λ m. and_then o (λ k. kind_of is (leaf k))) l
+  by_form : (o : Outcome Leaf) → closed.leaf_form.reads l ≡ o → attributing ats (leaf_alone is) l ≡ attributing ats (λ m. and_then o (λ k. kind_of is (leaf k))) l
   unfolding leaf_alone
   by_form o h = by_group (invisible_at l) refl
     where
-      by_group : (b : Bool) → invisible_at l ≡ b → adorning ats (leaf_alone is) l ≡ adorning ats (λ m. and_then o (λ k. kind_of is (leaf k))) l
+      by_group : (b : Bool) → invisible_at l ≡ b → attributing ats (leaf_alone is) l ≡ attributing ats (λ m. and_then o (λ k. kind_of is (leaf k))) l
       by_group false v = rw (form_is l v ∙ h) refl
       by_group true v = rw (none_in_group is plains l v, sym h ∙ none_closed l v) refl
 
   -- one of the kind
-  pub leaf_found : (k : Leaf) (n : List Tok) → closed.leaf_form.reads l ≡ Some (k, n) → is (leaf k) ≡ true → adorning ats (leaf_alone is) l ≡ Some (adorn ats (leaf k), n)
+  pub leaf_found : (k : Leaf) (n : List Tok) → closed.leaf_form.reads l ≡ Some (k, n) → is (leaf k) ≡ true → attributing ats (leaf_alone is) l ≡ Some (attributed_with ats (leaf k), n)
   leaf_found k n h a = by_form (Some (k, n)) h ∙ rw a refl
 
   -- of another
-  pub leaf_other : (k : Leaf) (n : List Tok) → closed.leaf_form.reads l ≡ Some (k, n) → is (leaf k) ≡ false → adorning ats (leaf_alone is) l ≡ None
+  pub leaf_other : (k : Leaf) (n : List Tok) → closed.leaf_form.reads l ≡ Some (k, n) → is (leaf k) ≡ false → attributing ats (leaf_alone is) l ≡ None
   leaf_other k n h a = by_form (Some (k, n)) h ∙ rw a refl
 
   -- none
-  pub leaf_none : closed.leaf_form.reads l ≡ None → adorning ats (leaf_alone is) l ≡ None
+  pub leaf_none : closed.leaf_form.reads l ≡ None → attributing ats (leaf_alone is) l ≡ None
   leaf_none h = by_form None h
 
 pub ruleset leaves = (leaf_found, leaf_other, leaf_none)
 
 -- none stand before it
-pub bare_leaf_is : (is : Tree → Bool) (l : List Tok) → adorning [] (leaf_alone is) l ≡ leaf_alone is l
+pub bare_leaf_is : (is : Tree → Bool) (l : List Tok) → attributing [] (leaf_alone is) l ≡ leaf_alone is l
 bare_leaf_is is l = by (leaf_alone is l)
   where
-    by : (o : Outcome Tree) → and_then o (λ x n. Some (adorn [] x, n)) ≡ o
+    by : (o : Outcome Tree) → and_then o (λ x n. Some (attributed_with [] x, n)) ≡ o
     by None = refl
     by (Some q) = refl
 
 pub ruleset bare = (bare_leaf_is)
 
 -- one behind attributes or none
-pub adorned_leaf_exact : (is : Tree → Bool) → ArePlain is → IsExact (adorned_alone (leaf_alone is)) (Alone (behind_attributes is))
-adorned_leaf_exact is p = adorned_exact is (leaf_alone is) (leaf_exact is p) (λ x h. plain_atom x (p x h)) (λ x h. plain_adorns x (p x h))
+pub attributed_leaf_exact : (is : Tree → Bool) → ArePlain is → IsExact (attributed_alone (leaf_alone is)) (Alone (behind_attributes is))
+attributed_leaf_exact is p = attributed_exact is (leaf_alone is) (leaf_exact is p) (λ x h. plain_atom x (p x h)) (λ x h. plain_takes_attributes x (p x h))
 
 -- ---- outer attributes before inner ones, as a node with braces has them
 

@@ -1,12 +1,12 @@
 pub mod Shapes
-pub mod Lents
+pub mod Borrowed
 pub mod Likes
 pub mod Attributes
 pub mod Outers
 pub mod Owns
 pub mod Leaves
 pub mod Sizes
-pub mod Adorned
+pub mod Attributed
 pub mod Inner
 pub mod Exactly
 pub mod LeafAlone

@@ -5,7 +5,7 @@ use Rattle.syn_lexer.specs.declared.lexeme.Delimiter.TheVariants as del
 use Rattle.syn_tokens.specs.Tok.{Tok, weight}
 use Rattle.syn_parts.specs.Form.{then_behind, more, more_step, fix, iterate}
 use Rattle.syn_parts.specs.Mark.{pound}
-use Rattle.syn_parts.specs.Part.{outer_attributes, outer_body, kept}
+use Rattle.syn_parts.specs.Part.{outer_attributes, outer_body, verbatim}
 use Rattle.syn_parts.specs.Tree.{AttributeTree}
 use Rattle.syn_parts.specs.PatFits.{attributes_outer}
 use Rattle.syn_grammar.proofs.Chains.{behind_some}
@@ -17,7 +17,7 @@ style_is false a f m e h = refl
 
 body_outer : (a : AttributeTree) (l m : List Tok) → outer_body.behind a l ≡ Some m → not a.inner ≡ true
 unfolding outer_body
-body_outer a l m h = style_is a.inner a (λ ts. (kept del.Bracket).behind ts l) m refl h
+body_outer a l m h = style_is a.inner a (λ ts. (verbatim del.Bracket).behind ts l) m refl h
 
 iterated : (n : ℕ) (ats : List AttributeTree) (l m : List Tok) → (iterate (more_step pound outer_body) n tt).behind ats l ≡ Some m → attributes_outer ats ≡ true
 unfolding iterate

@@ -3,53 +3,53 @@ use Rattle.std.proofs.Common.{◌≡◌, Bool, List, [], ◌∷◌, ◌++◌, Op
 use Rattle.std.proofs.lemmas.List.{append-nil}
 use Rattle.syn_parts.specs.Tree.{AttributeTree}
 use Rattle.syn_grammar.specs.Tree as e
-use Rattle.syn_grammar.specs.Tree.{Tree, Kids, adorn}
-use Rattle.syn_expr_kinds.specs.Node.{attributes_at, stray_trees, without_strays, operands_at, leaf_at, is_paren, lead_at, operator_at, post_at, trailer_at, frame_at}
-use Rattle.syn_expr_notes.specs.Kind.{kind_at}
+use Rattle.syn_grammar.specs.Tree.{Tree, Children, attributed_with}
+use Rattle.syn_expr_kinds.specs.Node.{attributes_at, stray_trees, without_strays, operands_at, leaf_at, is_paren, prefix_at, operator_at, postfix_at, trailer_at, frame_at}
+use Rattle.syn_expr_summaries.specs.Kind.{kind_at}
 use Rattle.syn_expr_kinds.specs.Pats.{strays}
-use Rattle.syn_expr_kinds.specs.View.{FieldView, elements, fields, option_kid}
+use Rattle.syn_expr_kinds.specs.View.{FieldView, elements, fields, option_child}
 
 -- attributes before it change nothing else
 
-pub kind-adorn : (ats : List AttributeTree) (t : Tree) → kind_at (adorn ats t) ≡ kind_at t
-kind-adorn [] t = refl
-kind-adorn (a ∷ more) t = refl
+pub kind-attributed_with : (ats : List AttributeTree) (t : Tree) → kind_at (attributed_with ats t) ≡ kind_at t
+kind-attributed_with [] t = refl
+kind-attributed_with (a ∷ more) t = refl
 
-pub leaf-adorn : (ats : List AttributeTree) (t : Tree) → leaf_at (adorn ats t) ≡ leaf_at t
-leaf-adorn [] t = refl
-leaf-adorn (a ∷ more) t = refl
+pub leaf-attributed_with : (ats : List AttributeTree) (t : Tree) → leaf_at (attributed_with ats t) ≡ leaf_at t
+leaf-attributed_with [] t = refl
+leaf-attributed_with (a ∷ more) t = refl
 
-pub paren-adorn : (ats : List AttributeTree) (t : Tree) → is_paren (adorn ats t) ≡ is_paren t
-paren-adorn [] t = refl
-paren-adorn (a ∷ more) t = refl
+pub paren-attributed_with : (ats : List AttributeTree) (t : Tree) → is_paren (attributed_with ats t) ≡ is_paren t
+paren-attributed_with [] t = refl
+paren-attributed_with (a ∷ more) t = refl
 
-pub lead-adorn : (ats : List AttributeTree) (t : Tree) → lead_at (adorn ats t) ≡ lead_at t
-lead-adorn [] t = refl
-lead-adorn (a ∷ more) t = refl
+pub prefixed-attributed_with : (ats : List AttributeTree) (t : Tree) → prefix_at (attributed_with ats t) ≡ prefix_at t
+prefixed-attributed_with [] t = refl
+prefixed-attributed_with (a ∷ more) t = refl
 
-pub operator-adorn : (ats : List AttributeTree) (t : Tree) → operator_at (adorn ats t) ≡ operator_at t
-operator-adorn [] t = refl
-operator-adorn (a ∷ more) t = refl
+pub operator-attributed_with : (ats : List AttributeTree) (t : Tree) → operator_at (attributed_with ats t) ≡ operator_at t
+operator-attributed_with [] t = refl
+operator-attributed_with (a ∷ more) t = refl
 
-pub post-adorn : (ats : List AttributeTree) (t : Tree) → post_at (adorn ats t) ≡ post_at t
-post-adorn [] t = refl
-post-adorn (a ∷ more) t = refl
+pub postfixed-attributed_with : (ats : List AttributeTree) (t : Tree) → postfix_at (attributed_with ats t) ≡ postfix_at t
+postfixed-attributed_with [] t = refl
+postfixed-attributed_with (a ∷ more) t = refl
 
-pub trailer-adorn : (ats : List AttributeTree) (t : Tree) → trailer_at (adorn ats t) ≡ trailer_at t
-trailer-adorn [] t = refl
-trailer-adorn (a ∷ more) t = refl
+pub trailer-attributed_with : (ats : List AttributeTree) (t : Tree) → trailer_at (attributed_with ats t) ≡ trailer_at t
+trailer-attributed_with [] t = refl
+trailer-attributed_with (a ∷ more) t = refl
 
-pub frame-adorn : (ats : List AttributeTree) (t : Tree) → frame_at (adorn ats t) ≡ frame_at t
-frame-adorn [] t = refl
-frame-adorn (a ∷ more) t = refl
+pub frame-attributed_with : (ats : List AttributeTree) (t : Tree) → frame_at (attributed_with ats t) ≡ frame_at t
+frame-attributed_with [] t = refl
+frame-attributed_with (a ∷ more) t = refl
 
-pub operands-adorn : (ats : List AttributeTree) (t : Tree) → operands_at (adorn ats t) ≡ operands_at t
-operands-adorn [] t = refl
-operands-adorn (a ∷ more) t = refl
+pub operands-attributed_with : (ats : List AttributeTree) (t : Tree) → operands_at (attributed_with ats t) ≡ operands_at t
+operands-attributed_with [] t = refl
+operands-attributed_with (a ∷ more) t = refl
 
-pub attributes-adorn : (ats : List AttributeTree) (t : Tree) → attributes_at t ≡ [] → attributes_at (adorn ats t) ≡ ats
-attributes-adorn [] t h = h
-attributes-adorn (a ∷ more) t h = refl
+pub attributes-attributed_with : (ats : List AttributeTree) (t : Tree) → attributes_at t ≡ [] → attributes_at (attributed_with ats t) ≡ ats
+attributes-attributed_with [] t h = h
+attributes-attributed_with (a ∷ more) t h = refl
 
 -- lists of operands have no strays
 
@@ -61,22 +61,22 @@ pub elements-all : (ts : List Tree) (b : Bool) → without_strays (elements ts b
 elements-all [] b = refl
 elements-all (t ∷ ts) b = refl
 
-pub fields-strays : (xs : List FieldView) (b d : Bool) (o : Option Tree) → stray_trees (fields xs b (option_kid (e.rest d) o)) ≡ []
+pub fields-strays : (xs : List FieldView) (b d : Bool) (o : Option Tree) → stray_trees (fields xs b (option_child (e.rest d) o)) ≡ []
 fields-strays [] b d None = refl
 fields-strays [] b d (Some x) = refl
 fields-strays (x ∷ xs) b d o = refl
 
-pub fields-all : (xs : List FieldView) (b d : Bool) (o : Option Tree) → without_strays (fields xs b (option_kid (e.rest d) o)) ≡ fields xs b (option_kid (e.rest d) o)
+pub fields-all : (xs : List FieldView) (b d : Bool) (o : Option Tree) → without_strays (fields xs b (option_child (e.rest d) o)) ≡ fields xs b (option_child (e.rest d) o)
 fields-all [] b d None = refl
 fields-all [] b d (Some x) = refl
 fields-all (x ∷ xs) b d o = refl
 
-pub strays-first : (gs : List Tree) (ks : Kids) → stray_trees (strays gs ks) ≡ gs ++ stray_trees ks
+pub strays-first : (gs : List Tree) (ks : Children) → stray_trees (strays gs ks) ≡ gs ++ stray_trees ks
 strays-first [] ks = refl
 strays-first (g ∷ gs) ks = ap (λ l. g ∷ l) (strays-first gs ks)
 
-pub strays-gone : (gs : List Tree) (ks : Kids) → without_strays (strays gs ks) ≡ without_strays ks
+pub strays-gone : (gs : List Tree) (ks : Children) → without_strays (strays gs ks) ≡ without_strays ks
 strays-gone [] ks = refl
 strays-gone (g ∷ gs) ks = strays-gone gs ks
 
-pub ruleset shapes = (kind-adorn, leaf-adorn, paren-adorn, lead-adorn, operator-adorn, post-adorn, trailer-adorn, frame-adorn, operands-adorn, attributes-adorn, elements-strays, elements-all, fields-strays, fields-all, strays-first, strays-gone, append-nil)
+pub ruleset shapes = (kind-attributed_with, leaf-attributed_with, paren-attributed_with, prefixed-attributed_with, operator-attributed_with, postfixed-attributed_with, trailer-attributed_with, frame-attributed_with, operands-attributed_with, attributes-attributed_with, elements-strays, elements-all, fields-strays, fields-all, strays-first, strays-gone, append-nil)

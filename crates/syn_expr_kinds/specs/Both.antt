@@ -2,7 +2,7 @@
 -- the patterns in it.
 use Rattle.std.specs.Prelude.{map, is_some}
 use Rattle.syn_grammar.specs.Tree as e
-use Rattle.syn_grammar.specs.Tree.{Tree, lead, frame, none, kid, adorn}
+use Rattle.syn_grammar.specs.Tree.{Tree, prefixed, frame, none, child, attributed_with}
 use Rattle.syn_lower.specs.View.{mapped, lifetimes_of, return_of}
 unfoldable use Rattle.syn_lower.specs.View.{values, trails}
 use Rattle.syn_pat_kinds.specs.View.{PatView, pat_guard_of}
@@ -32,19 +32,19 @@ closure_head_of g x = record {
 
 abbrev pub expr_closure_of : {E P : Type 0} → (E → Tree) → (P → PatView) → ExprClosureOf E P → Tree
 expr_closure_of f g x =
-    adorn (attrs_of x.attrs) (closure_by (return_of x.output) (closure_head_of g x) (guards (map g (values x.inputs))) (f x.body.value))
+    attributed_with (attrs_of x.attrs) (closure_by (return_of x.output) (closure_head_of g x) (guards (map g (values x.inputs))) (f x.body.value))
 
 abbrev pub expr_for_loop_of : {E P : Type 0} → (E → Tree) → (P → PatView) → ExprForLoopOf E P → Tree
 expr_for_loop_of f g x =
     let p = g x.pat.value in
-    adorn (outer_of x.attrs) (frame (e.for_loop (mapped label_of x.label) p.tree)
-    (strays p.guards (kid e.loop_head (e.braced (body_of (inner_of x.attrs) x.body.stmts)) (f x.expr.value) none)))
+    attributed_with (outer_of x.attrs) (frame (e.for_loop (mapped label_of x.label) p.tree)
+    (strays p.guards (child e.loop_head (e.braced (body_of (inner_of x.attrs) x.body.stmts)) (f x.expr.value) none)))
 
 abbrev pub expr_let_of : {E P : Type 0} → (E → Tree) → (P → PatView) → ExprLetOf E P → Tree
-expr_let_of f g x = let p = g x.pat.value in adorn (attrs_of x.attrs) (lead (e.binding p.tree) (strays p.guards none) (f x.expr.value))
+expr_let_of f g x = let p = g x.pat.value in attributed_with (attrs_of x.attrs) (prefixed (e.let_expr p.tree) (strays p.guards none) (f x.expr.value))
 
 abbrev pub expr_match_of : {E A : Type 0} → (E → Tree) → (A → ArmView) → ExprMatchOf E A → Tree
-expr_match_of f a x = adorn (outer_of x.attrs) (frame e.choice (kid e.scrutinee (e.opened (inner_of x.attrs)) (f x.expr.value) (arms (map a x.arms.items))))
+expr_match_of f a x = attributed_with (outer_of x.attrs) (frame e.match_expr (child e.scrutinee (e.opened (inner_of x.attrs)) (f x.expr.value) (arms (map a x.arms.items))))
 
 abbrev pub arm_of : {E P : Type 0} → (E → Tree) → (P → PatView) → ArmOf E P → ArmView
 arm_of f g x = record { attrs = attrs_of x.attrs; pat = g x.pat; body = f x.body.value; comma = is_some x.comma }

@@ -6,7 +6,7 @@ use Rattle.syn_grammar.specs.WellFormed.{attributes_inner}
 
 abbrev pub has_inner : Leaf → Bool
 has_inner (e.block w b) = attributes_inner b.inner
-has_inner (e.looping w b) = attributes_inner b.inner
+has_inner (e.loop_expr w b) = attributes_inner b.inner
 has_inner (e.unsafe_block b) = attributes_inner b.inner
 has_inner (e.const_block b) = attributes_inner b.inner
 has_inner _ = true

@@ -4,12 +4,12 @@ use Rattle.syn_parts.specs.Tree.{AttributeTree, ReturnTree, default, given}
 use Rattle.syn_parts.specs.Pat.{PatTree, guarded}
 use Rattle.syn_pat_kinds.specs.View.{PatView}
 use Rattle.syn_grammar.specs.Tree as e
-use Rattle.syn_grammar.specs.Tree.{Tree, Kids, Ending, Piece, ClosureHead, lead, frame, none, kid}
+use Rattle.syn_grammar.specs.Tree.{Tree, Children, Ending, Piece, ClosureHead, prefixed, frame, none, child}
 
 -- guards in patterns where none may stand, before the other operands
-abbrev pub strays : List Tree → Kids → Kids
+abbrev pub strays : List Tree → Children → Children
 strays [] ks = ks
-strays (g ∷ gs) ks = kid e.stray e.no_ending g (strays gs ks)
+strays (g ∷ gs) ks = child e.stray e.no_ending g (strays gs ks)
 
 abbrev pub trees : List PatView → List PatTree
 trees vs = map (λ v. v.tree) vs
@@ -21,8 +21,8 @@ guards vs = flat_map (λ v. v.guards) vs
 
 -- With an output its body is a block of its own.
 abbrev pub closure_by : ReturnTree → ClosureHead → List Tree → Tree → Tree
-closure_by default h gs body = lead (e.closure h) (strays gs none) body
-closure_by (given ty) h gs body = frame (e.closure_block h) (strays gs (kid e.output_block e.no_ending body none))
+closure_by default h gs body = prefixed (e.closure h) (strays gs none) body
+closure_by (given ty) h gs body = frame (e.closure_block h) (strays gs (child e.output_block e.no_ending body none))
 
 -- ---- arms
 
@@ -33,17 +33,17 @@ pub record ArmView : Type 0 where
   pub comma : Bool
 
 -- The last of these guards is the arm's own.
-abbrev pub guard_kids : Piece → Tree → List Tree → Kids → Kids
-guard_kids k g [] ks = kid k e.no_ending g ks
-guard_kids k g (h ∷ gs) ks = kid e.stray e.no_ending g (guard_kids k h gs ks)
+abbrev pub guard_children : Piece → Tree → List Tree → Children → Children
+guard_children k g [] ks = child k e.no_ending g ks
+guard_children k g (h ∷ gs) ks = child e.stray e.no_ending g (guard_children k h gs ks)
 
 abbrev pub arm_ending : Bool → Ending
 arm_ending b = if b then e.comma else e.no_ending
 
-abbrev pub arm_kids : ArmView → PatTree → List Tree → Kids → Kids
-arm_kids x (guarded p) (g ∷ gs) more = guard_kids (e.guard x.attrs p) g gs (kid e.guarded (arm_ending x.comma) x.body more)
-arm_kids x p gs more = strays gs (kid (e.arm x.attrs p) (arm_ending x.comma) x.body more)
+abbrev pub arm_children : ArmView → PatTree → List Tree → Children → Children
+arm_children x (guarded p) (g ∷ gs) more = guard_children (e.guard x.attrs p) g gs (child e.guarded (arm_ending x.comma) x.body more)
+arm_children x p gs more = strays gs (child (e.arm x.attrs p) (arm_ending x.comma) x.body more)
 
-abbrev pub arms : List ArmView → Kids
+abbrev pub arms : List ArmView → Children
 arms [] = none
-arms (x ∷ xs) = arm_kids x x.pat.tree x.pat.guards (arms xs)
+arms (x ∷ xs) = arm_children x x.pat.tree x.pat.guards (arms xs)

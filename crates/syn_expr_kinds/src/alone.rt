@@ -10,13 +10,13 @@ ghost use Rattle.syn_expr_kinds.specs.Exactly.{ReadsExactly};
 ghost use Rattle.syn_expr_kinds.specs.Inner.{has_inner};
 ghost use Rattle.syn_expr_kinds.specs.View.{expr_lit_of, expr_macro_of, expr_path_of};
 ghost use Rattle.syn_grammar.specs.Alone.{Alone, LitAlone, MacroAlone, PathAlone, behind_attributes};
-ghost use Rattle.syn_grammar.specs.AloneRead.{ArePlain, adorned_alone, adorning, leaf_alone, lit_alone, macro_alone, path_alone};
+ghost use Rattle.syn_grammar.specs.AloneRead.{ArePlain, attributed_alone, attributing, leaf_alone, lit_alone, macro_alone, path_alone};
 ghost use Rattle.syn_grammar.specs.Tree as e;
 ghost use Rattle.syn_lower_leaves.specs.Reads.{Reads};
 ghost use Rattle.syn_parts.specs.PatFits.{attributes_outer};
 
 use crate::atom::{ExprInfer, ExprLit, ExprMacro, ExprPath};
-use crate::begins::told;
+use crate::begins::named_refusal;
 use crate::block::{ExprAsync, ExprBlock, ExprConst, ExprLoop, ExprTryBlock, ExprUnsafe};
 use crate::joined::joined;
 use crate::jump::ExprContinue;
@@ -32,7 +32,7 @@ use syn_lower::mac::Macro;
 use syn_lower::ty::Type;
 use syn_lower_generic::types::ReadTypes;
 use syn_lower_leaves::ahead::ReadByForm;
-use syn_lower_leaves::kept::outer_attributes;
+use syn_lower_leaves::verbatim::outer_attributes;
 use syn_parts::label::PathStyle;
 use syn_tokens::buffer::ParseBuffer;
 use syn_tokens::error::{ErrorKind, Result};
@@ -53,7 +53,7 @@ pub(crate) trait LeafKind {
     fn of(attrs: Vec<Attribute>, head: LeafHead) -> std::result::Result<Option<Self>, AllocError>
         requires outer { attributes_outer (attrs_of attrs) ≡ true }
         requires inner { has_inner (leaf_of head) ≡ true }
-        ensures { IfOk result (λ o. MatchOption o (is (e.leaf (leaf_of head)) ≡ false) (λ x. (is (e.leaf (leaf_of head)) ≡ true) × (tree x ≡ e.adorn (attrs_of attrs) (e.leaf (leaf_of head))))) };
+        ensures { IfOk result (λ o. MatchOption o (is (e.leaf (leaf_of head)) ≡ false) (λ x. (is (e.leaf (leaf_of head)) ≡ true) × (tree x ≡ e.attributed_with (attrs_of attrs) (e.leaf (leaf_of head))))) };
 
     /// Reads the tokens that all of the kind begin with, and is refused where they don't stand.
     fn begins(input: &mut ParseBuffer<'_>) -> Result<()>;
@@ -64,26 +64,26 @@ pub(crate) trait LeafKind {
 fn behind<S: LeafKind>(input: &mut ParseBuffer<'_>, attrs: Vec<Attribute>) -> Result<S>
     requires plain { ArePlain S.is }
     requires outer { attributes_outer (attrs_of attrs) ≡ true }
-    ensures value { Reads S.tree (adorning (attrs_of attrs) (leaf_alone S.is) input.old.rest) result input.new.rest }
+    ensures value { Reads S.tree (attributing (attrs_of attrs) (leaf_alone S.is) input.old.rest) result input.new.rest }
     ensures noted { input.new.noted ≡ input.old.noted }
 {
     let other = input.error(ErrorKind::UnexpectedToken);
     let mut first = input.fork()?;
     let head = match leaf_head(input) {
         Ok(head) => head,
-        Err(e) => return Err(told(e, S::begins(&mut first))),
+        Err(e) => return Err(named_refusal(e, S::begins(&mut first))),
     };
     match S::of(attrs, head)? {
         Some(x) => Ok(x),
-        None => Err(told(other, S::begins(&mut first))),
+        None => Err(named_refusal(other, S::begins(&mut first))),
     }
 }
 
 /// Reads attributes, and a leaf of a kind.
-#[tactic(auto, using(crate::proofs::Outers::outers), unfolding(syn_grammar::specs::AloneRead::adorned_alone, crate::specs::Attrs::attrs_of))]
-fn adorned<S: LeafKind>(input: &mut ParseBuffer<'_>) -> Result<S>
+#[tactic(auto, using(crate::proofs::Outers::outers), unfolding(syn_grammar::specs::AloneRead::attributed_alone, crate::specs::Attrs::attrs_of))]
+fn attributed<S: LeafKind>(input: &mut ParseBuffer<'_>) -> Result<S>
     requires plain { ArePlain S.is }
-    ensures value { Reads S.tree (adorned_alone (leaf_alone S.is) input.old.rest) result input.new.rest }
+    ensures value { Reads S.tree (attributed_alone (leaf_alone S.is) input.old.rest) result input.new.rest }
     ensures noted { input.new.noted ≡ input.old.noted }
 {
     let attrs = outer_attributes(input)?;
@@ -118,12 +118,12 @@ pub(crate) fn leaf<S: LeafKind>(input: &mut ParseBuffer<'_>) -> Result<S>
 
 /// Reads a leaf of a kind, behind attributes or none.
 #[tactic(auto, using(syn_grammar::proofs::Alone::tails))]
-pub(crate) fn adorned_leaf<S: LeafKind>(input: &mut ParseBuffer<'_>) -> Result<S>
+pub(crate) fn attributed_leaf<S: LeafKind>(input: &mut ParseBuffer<'_>) -> Result<S>
     requires plain { ArePlain S.is }
     ensures { ReadsExactly S.tree (Alone (behind_attributes S.is)) input.old result input.new }
 {
     let mut ahead = input.fork()?;
-    let x = match adorned(&mut ahead) {
+    let x = match attributed(&mut ahead) {
         Ok(x) => x,
         Err(e) => return Err(e),
     };
@@ -346,7 +346,7 @@ impl LeafKind for ExprContinue {
 }
 
 /// Reads attributes, and a path behind them.
-#[tactic(auto, unfolding(syn_grammar::specs::AloneRead::path_alone, syn_grammar::specs::AloneRead::adorned_alone, crate::specs::Attrs::attrs_of))]
+#[tactic(auto, unfolding(syn_grammar::specs::AloneRead::path_alone, syn_grammar::specs::AloneRead::attributed_alone, crate::specs::Attrs::attrs_of))]
 fn path_behind(input: &mut ParseBuffer<'_>) -> Result<ExprPath>
     ensures value { Reads expr_path_of (path_alone input.old.rest) result input.new.rest }
     ensures noted { input.new.noted ≡ input.old.noted }

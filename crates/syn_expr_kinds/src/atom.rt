@@ -9,15 +9,15 @@ ghost use Rattle.syn_pat_kinds.specs.View.{PatView};
 ghost use Rattle.syn_expr_kinds.specs.Node.{frame_at, frame_seen, leaf_at, leaf_of, operands_at, operands_of};
 ghost use Rattle.syn_expr_kinds.specs.Pats.{ArmView};
 ghost use Rattle.syn_expr_kinds.specs.View.{expr_array_of, expr_group_of, expr_infer_of, expr_lit_of, expr_macro_of, expr_paren_of, expr_path_of, expr_repeat_of, expr_tuple_of};
-ghost use Rattle.syn_expr_notes.specs.Kind.{kind_at};
+ghost use Rattle.syn_expr_summaries.specs.Kind.{kind_at};
 
 use crate::alone;
 use crate::leaf::put_whole_leaf;
 use crate::node::{Attributes, Frame, Leaf, Operands};
 use crate::parse::ParseKinds;
 use crate::shape::PutShape;
-use syn_expr_notes::kind::NodeKind;
-use syn_expr_notes::label::LeafKind;
+use syn_expr_summaries::kind::NodeKind;
+use syn_expr_summaries::label::LeafKind;
 use syn_lower::attr::Attribute;
 use syn_lower::lit::Lit;
 use syn_lower::mac::{Macro, MacroDelimiter};
@@ -416,7 +416,7 @@ impl Parse for ExprInfer {
     fn parse(input: &mut ParseBuffer<'_>) -> Result<Self>
         ensures { ReadsExactly expr_infer_of (Alone (behind_attributes is_infer)) input.old result input.new }
     {
-        alone::adorned_leaf(input)
+        alone::attributed_leaf(input)
     }
 }
 

@@ -15,7 +15,7 @@ ghost use Rattle.syn_parts.specs.PatOwn.{attributes_own};
 ghost use Rattle.syn_tokens.specs.Input.{IsFront};
 
 use crate::node::{Attributes, Braces};
-use crate::put::{Grown, put};
+use crate::put::{PutResult, put};
 use syn_lower::attr::{AttrStyle, Attribute};
 use syn_tokens::buffer::ToTokens;
 use syn_tokens::tree::TokenStream;
@@ -112,7 +112,7 @@ impl Braces<'_> {
 
 /// Puts parts, one behind another.
 #[tactic(auto, using(syn_tokens::proofs::Fronts::fronts))]
-fn put_parts<T: ToTokens>(tokens: &mut TokenStream, mut parts: &[T]) -> Grown
+fn put_parts<T: ToTokens>(tokens: &mut TokenStream, mut parts: &[T]) -> PutResult
     ensures ok { OnOk result (tokens.new ≡ tokens.old ++ all_printed T.printed parts.entry.now) }
     ensures front { IsFront tokens.old tokens.new }
 {
@@ -125,7 +125,7 @@ fn put_parts<T: ToTokens>(tokens: &mut TokenStream, mut parts: &[T]) -> Grown
 
 /// Puts attributes, one behind another.
 #[tactic(auto, using(crate::proofs::Attributes::attrs))]
-pub fn put_all(tokens: &mut TokenStream, attrs: &[Attribute]) -> Grown
+pub fn put_all(tokens: &mut TokenStream, attrs: &[Attribute]) -> PutResult
     ensures ok { OnOk result (tokens.new ≡ tokens.old ++ attributes_own (map attribute_of attrs.now) []) }
     ensures front { IsFront tokens.old tokens.new }
 {
@@ -134,7 +134,7 @@ pub fn put_all(tokens: &mut TokenStream, attrs: &[Attribute]) -> Grown
 
 /// Puts the outer ones, one behind another.
 #[tactic(auto, using(syn_tokens::proofs::Fronts::fronts))]
-fn put_outer_ones(tokens: &mut TokenStream, mut attrs: &[Attribute]) -> Grown
+fn put_outer_ones(tokens: &mut TokenStream, mut attrs: &[Attribute]) -> PutResult
     ensures ok { OnOk result (tokens.new ≡ tokens.old ++ outer_printed attrs.entry.now) }
     ensures front { IsFront tokens.old tokens.new }
 {
@@ -149,7 +149,7 @@ fn put_outer_ones(tokens: &mut TokenStream, mut attrs: &[Attribute]) -> Grown
 
 /// Puts the inner ones, one behind another.
 #[tactic(auto, using(syn_tokens::proofs::Fronts::fronts))]
-fn put_inner_ones(tokens: &mut TokenStream, mut attrs: &[Attribute]) -> Grown
+fn put_inner_ones(tokens: &mut TokenStream, mut attrs: &[Attribute]) -> PutResult
     ensures ok { OnOk result (tokens.new ≡ tokens.old ++ inner_printed attrs.entry.now) }
     ensures front { IsFront tokens.old tokens.new }
 {
@@ -164,7 +164,7 @@ fn put_inner_ones(tokens: &mut TokenStream, mut attrs: &[Attribute]) -> Grown
 
 /// Puts those of a node or of a field that stand before it: the outer ones.
 #[tactic(auto, using(crate::proofs::Attributes::styles), unfolding(crate::specs::Attrs::outer_of))]
-pub fn put_outer(tokens: &mut TokenStream, attrs: &Vec<Attribute>) -> Grown
+pub fn put_outer(tokens: &mut TokenStream, attrs: &Vec<Attribute>) -> PutResult
     ensures ok { OnOk result (tokens.new ≡ tokens.old ++ attributes_own (outer_of attrs.now) []) }
     ensures front { IsFront tokens.old tokens.new }
 {
@@ -173,7 +173,7 @@ pub fn put_outer(tokens: &mut TokenStream, attrs: &Vec<Attribute>) -> Grown
 
 /// Puts those of a node with braces that stand first in them: the inner ones.
 #[tactic(auto, using(crate::proofs::Attributes::styles), unfolding(crate::specs::Attrs::inner_of))]
-pub fn put_inner(tokens: &mut TokenStream, attrs: &Vec<Attribute>) -> Grown
+pub fn put_inner(tokens: &mut TokenStream, attrs: &Vec<Attribute>) -> PutResult
     ensures ok { OnOk result (tokens.new ≡ tokens.old ++ attributes_own (inners (inner_of attrs.now)) []) }
     ensures front { IsFront tokens.old tokens.new }
 {
@@ -182,7 +182,7 @@ pub fn put_inner(tokens: &mut TokenStream, attrs: &Vec<Attribute>) -> Grown
 
 /// Puts the attributes that stand before a node. An inner one stands in braces, so none is put.
 #[tactic(auto, using(crate::proofs::Attributes::once), unfolding(crate::specs::Attrs::attrs_of, crate::specs::Attrs::outer_of))]
-pub fn put_attributes(tokens: &mut TokenStream, attributes: Attributes<'_>) -> Grown
+pub fn put_attributes(tokens: &mut TokenStream, attributes: Attributes<'_>) -> PutResult
     ensures ok { OnOk result (tokens.new ≡ tokens.old ++ attributes_own (outers (before_of attributes.entry)) []) }
     ensures front { IsFront tokens.old tokens.new }
 {

@@ -7,7 +7,7 @@ use syn_tokens::error::{Error, ErrorKind, Result};
 
 /// Why none of a kind is read: that its first tokens don't stand, where `begins` is the refusal of these, else what the
 /// reader of all kinds told.
-pub fn told(refusal: Error, begins: Result<()>) -> Error
+pub fn named_refusal(refusal: Error, begins: Result<()>) -> Error
     ensures memory { refusal.kind ≡ OutOfMemory → result.kind ≡ OutOfMemory }
 {
     match refusal.kind {

@@ -4,24 +4,24 @@
 ghost use Rattle.std.specs.Prelude.{◌≡◌, Some};
 ghost use Rattle.syn_grammar.specs.Alone.{Alone, behind_attributes, is_async, is_block, is_const, is_loop, is_try_block, is_unsafe, is_while};
 ghost use Rattle.syn_expr_kinds.specs.Exactly.{ReadsExactly};
-ghost use Rattle.syn_grammar.specs.Stands.{is_branch};
+ghost use Rattle.syn_grammar.specs.Stands.{is_if_expr};
 ghost use Rattle.syn_grammar.specs.Tree.{Tree};
 ghost use Rattle.syn_pat_kinds.specs.View.{PatView};
 ghost use Rattle.syn_expr_kinds.specs.Attrs.{inner_of};
 ghost use Rattle.syn_expr_kinds.specs.Node.{braces_of, frame_at, frame_seen, leaf_at, leaf_of, operands_at, operands_of};
 ghost use Rattle.syn_expr_kinds.specs.Pats.{ArmView};
 ghost use Rattle.syn_expr_kinds.specs.View.{body_of, expr_async_of, expr_block_of, expr_const_of, expr_if_of, expr_loop_of, expr_try_block_of, expr_unsafe_of, expr_while_of};
-ghost use Rattle.syn_expr_notes.specs.Kind.{kind_at};
+ghost use Rattle.syn_expr_summaries.specs.Kind.{kind_at};
 
 use crate::alone;
 use crate::leaf::put_whole_leaf;
 use crate::node::{Attributes, Braces, Frame, Leaf, Operands};
 use crate::parse::ParseKinds;
 use crate::shape::PutShape;
-use syn_expr_notes::kind::NodeKind;
-use syn_expr_notes::label::{FrameKind, LeafKind};
 use syn_expr_parts::label::Label;
 use syn_expr_parts::modifiers::BlockModifiers;
+use syn_expr_summaries::kind::NodeKind;
+use syn_expr_summaries::label::{FrameKind, LeafKind};
 use syn_lower::attr::Attribute;
 use syn_lower::stmt::Block;
 use syn_tokens::buffer::{Parse, ParseBuffer, ToTokens};
@@ -456,7 +456,7 @@ impl Parse for ExprBlock {
     fn parse(input: &mut ParseBuffer<'_>) -> Result<Self>
         ensures { ReadsExactly expr_block_of (Alone (behind_attributes is_block)) input.old result input.new }
     {
-        alone::adorned_leaf(input)
+        alone::attributed_leaf(input)
     }
 }
 
@@ -510,7 +510,7 @@ impl Parse for ExprLoop {
     fn parse(input: &mut ParseBuffer<'_>) -> Result<Self>
         ensures { ReadsExactly expr_loop_of (Alone (behind_attributes is_loop)) input.old result input.new }
     {
-        alone::adorned_leaf(input)
+        alone::attributed_leaf(input)
     }
 }
 
@@ -570,7 +570,7 @@ impl Parse for ExprUnsafe {
 impl<E: ParseKinds> Parse for ExprIfOf<E> {
     ghost use Rattle.syn_expr_kinds.specs.View.{expr_if_of};
     ghost use Rattle.syn_grammar.specs.Alone.{Alone, behind_attributes};
-    ghost use Rattle.syn_grammar.specs.Stands.{is_branch};
+    ghost use Rattle.syn_grammar.specs.Stands.{is_if_expr};
     ghost use Rattle.syn_grammar.specs.Tree.{Tree};
 
     ghost Seen = { Tree };
@@ -578,7 +578,7 @@ impl<E: ParseKinds> Parse for ExprIfOf<E> {
     ghost seen = { expr_if_of E.tree };
 
     /// An `if` with all that belongs to it stands before the rest, behind attributes or none.
-    ghost spells = { Alone (behind_attributes is_branch) };
+    ghost spells = { Alone (behind_attributes is_if_expr) };
 
     ghost least = { 1 };
 
@@ -588,7 +588,7 @@ impl<E: ParseKinds> Parse for ExprIfOf<E> {
     /// It is refused, memory aside, only where none stands, and the input then stays where it was: as its attributes
     /// are, as `ExpectedToken` of `if` or of a brace, and as its conditions are.
     fn parse(input: &mut ParseBuffer<'_>) -> Result<Self>
-        ensures { ReadsExactly (expr_if_of E.tree) (Alone (behind_attributes is_branch)) input.old result input.new }
+        ensures { ReadsExactly (expr_if_of E.tree) (Alone (behind_attributes is_if_expr)) input.old result input.new }
     {
         E::parse_expr_if(input)
     }

@@ -11,7 +11,7 @@ ghost use Rattle.syn_tokens.specs.Input.{IsFront};
 
 use crate::attrs::put_inner;
 use crate::node::Braces;
-use crate::put::{Grown, put, put_tree};
+use crate::put::{PutResult, put, put_tree};
 use syn_lower::attr::Attribute;
 use syn_lower::stmt::Block;
 use syn_tokens::token::{Brace, Paren};
@@ -19,7 +19,7 @@ use syn_tokens::tree::TokenStream;
 
 /// Puts the braces of a block, behind the inner attributes of the node that has it.
 #[tactic(auto, using(syn_tokens::proofs::Fronts::fronts, crate::proofs::Attributes::attrs))]
-pub fn put_block(tokens: &mut TokenStream, attrs: &Vec<Attribute>, block: &Block) -> Grown
+pub fn put_block(tokens: &mut TokenStream, attrs: &Vec<Attribute>, block: &Block) -> PutResult
     ensures ok { OnOk result (tokens.new ≡ tokens.old ++ body_own (body_of (inner_of attrs.now) block.now.stmts) []) }
     ensures front { IsFront tokens.old tokens.new }
 {
@@ -30,7 +30,7 @@ pub fn put_block(tokens: &mut TokenStream, attrs: &Vec<Attribute>, block: &Block
 }
 
 /// Puts the braces of a node.
-pub fn put_body(tokens: &mut TokenStream, braces: Braces<'_>) -> Grown
+pub fn put_body(tokens: &mut TokenStream, braces: Braces<'_>) -> PutResult
     ensures ok { OnOk result (tokens.new ≡ tokens.old ++ body_own (braces_of braces.entry) []) }
     ensures front { IsFront tokens.old tokens.new }
 {
@@ -39,7 +39,7 @@ pub fn put_body(tokens: &mut TokenStream, braces: Braces<'_>) -> Grown
 }
 
 /// Puts tokens in braces.
-pub fn put_braces(tokens: &mut TokenStream, brace: &Brace, inside: TokenStream) -> Grown
+pub fn put_braces(tokens: &mut TokenStream, brace: &Brace, inside: TokenStream) -> PutResult
     ensures ok { OnOk result (tokens.new ≡ tokens.old ++ enclosed del.Brace inside []) }
     ensures front { IsFront tokens.old tokens.new }
 {
@@ -47,7 +47,7 @@ pub fn put_braces(tokens: &mut TokenStream, brace: &Brace, inside: TokenStream) 
 }
 
 /// Puts tokens in parentheses.
-pub fn put_paren(tokens: &mut TokenStream, paren: &Paren, inside: TokenStream) -> Grown
+pub fn put_paren(tokens: &mut TokenStream, paren: &Paren, inside: TokenStream) -> PutResult
     ensures ok { OnOk result (tokens.new ≡ tokens.old ++ enclosed del.Parenthesis inside []) }
     ensures front { IsFront tokens.old tokens.new }
 {
@@ -55,7 +55,7 @@ pub fn put_paren(tokens: &mut TokenStream, paren: &Paren, inside: TokenStream) -
 }
 
 /// Puts tokens in parentheses that no value has, and that have no place.
-pub fn put_parens(tokens: &mut TokenStream, inside: TokenStream) -> Grown
+pub fn put_parens(tokens: &mut TokenStream, inside: TokenStream) -> PutResult
     ensures ok { OnOk result (tokens.new ≡ tokens.old ++ enclosed del.Parenthesis inside []) }
     ensures front { IsFront tokens.old tokens.new }
 {

@@ -8,18 +8,18 @@ ghost use Rattle.syn_grammar.specs.Tree.{Tree};
 ghost use Rattle.syn_grammar.specs.Tree as e;
 ghost use Rattle.syn_lower.specs.View.{mapped};
 ghost use Rattle.syn_pat_kinds.specs.View.{PatView};
-ghost use Rattle.syn_expr_kinds.specs.Node.{lead_at, lead_seen, leaf_at, leaf_of, operands_at, operands_of};
+ghost use Rattle.syn_expr_kinds.specs.Node.{prefix_at, prefix_seen, leaf_at, leaf_of, operands_at, operands_of};
 ghost use Rattle.syn_expr_kinds.specs.Pats.{ArmView};
 ghost use Rattle.syn_expr_kinds.specs.View.{boxed, expr_break_of, expr_continue_of, expr_return_of, expr_yield_of, jump_with};
-ghost use Rattle.syn_expr_notes.specs.Kind.{kind_at};
+ghost use Rattle.syn_expr_summaries.specs.Kind.{kind_at};
 
 use crate::alone;
 use crate::leaf::put_whole_leaf;
-use crate::node::{Attributes, Jump, Lead, Leaf, Operands};
+use crate::node::{Attributes, Jump, Leaf, Operands, Prefix};
 use crate::parse::ParseKinds;
 use crate::shape::PutShape;
-use syn_expr_notes::kind::NodeKind;
-use syn_expr_notes::label::{LeadKind, LeafKind};
+use syn_expr_summaries::kind::NodeKind;
+use syn_expr_summaries::label::{LeafKind, PrefixKind};
 use syn_lower::attr::Attribute;
 use syn_lower::lifetime::Lifetime;
 use syn_tokens::buffer::{Parse, ParseBuffer, ToTokens};
@@ -92,7 +92,7 @@ impl<E> ExprBreakOf<E> {
             None => NodeKind::Leaf(LeafKind::Break),
             Some(_) => {
                 let labelled = self.label.is_some();
-                NodeKind::Lead(LeadKind::Break { labelled })
+                NodeKind::Prefix(PrefixKind::Break { labelled })
             }
         }
     }
@@ -108,12 +108,12 @@ impl<E> ExprBreakOf<E> {
     }
 
     /// What stands before its operand, where it ends with one.
-    pub fn lead<P>(&self) -> Option<Lead<'_, P>>
-        ensures { (tree : E → Tree) (pat : P → PatView) → mapped (lead_seen pat) result ≡ lead_at (expr_break_of tree self.now) }
+    pub fn prefix<P>(&self) -> Option<Prefix<'_, P>>
+        ensures { (tree : E → Tree) (pat : P → PatView) → mapped (prefix_seen pat) result ≡ prefix_at (expr_break_of tree self.now) }
     {
         match &self.expr {
             None => None,
-            Some(_) => Some(Lead::Jump(Jump::Break(&self.break_token, &self.label))),
+            Some(_) => Some(Prefix::Jump(Jump::Break(&self.break_token, &self.label))),
         }
     }
 
@@ -141,7 +141,7 @@ impl<E> ExprReturnOf<E> {
     {
         match &self.expr {
             None => NodeKind::Leaf(LeafKind::Jump),
-            Some(_) => NodeKind::Lead(LeadKind::Jump),
+            Some(_) => NodeKind::Prefix(PrefixKind::Jump),
         }
     }
 
@@ -156,12 +156,12 @@ impl<E> ExprReturnOf<E> {
     }
 
     /// What stands before its operand, where it ends with one.
-    pub fn lead<P>(&self) -> Option<Lead<'_, P>>
-        ensures { (tree : E → Tree) (pat : P → PatView) → mapped (lead_seen pat) result ≡ lead_at (expr_return_of tree self.now) }
+    pub fn prefix<P>(&self) -> Option<Prefix<'_, P>>
+        ensures { (tree : E → Tree) (pat : P → PatView) → mapped (prefix_seen pat) result ≡ prefix_at (expr_return_of tree self.now) }
     {
         match &self.expr {
             None => None,
-            Some(_) => Some(Lead::Jump(Jump::Return(&self.return_token))),
+            Some(_) => Some(Prefix::Jump(Jump::Return(&self.return_token))),
         }
     }
 
@@ -180,7 +180,7 @@ impl<E> ExprYieldOf<E> {
     {
         match &self.expr {
             None => NodeKind::Leaf(LeafKind::Jump),
-            Some(_) => NodeKind::Lead(LeadKind::Jump),
+            Some(_) => NodeKind::Prefix(PrefixKind::Jump),
         }
     }
 
@@ -195,12 +195,12 @@ impl<E> ExprYieldOf<E> {
     }
 
     /// What stands before its operand, where it ends with one.
-    pub fn lead<P>(&self) -> Option<Lead<'_, P>>
-        ensures { (tree : E → Tree) (pat : P → PatView) → mapped (lead_seen pat) result ≡ lead_at (expr_yield_of tree self.now) }
+    pub fn prefix<P>(&self) -> Option<Prefix<'_, P>>
+        ensures { (tree : E → Tree) (pat : P → PatView) → mapped (prefix_seen pat) result ≡ prefix_at (expr_yield_of tree self.now) }
     {
         match &self.expr {
             None => None,
-            Some(_) => Some(Lead::Jump(Jump::Yield(&self.yield_token))),
+            Some(_) => Some(Prefix::Jump(Jump::Yield(&self.yield_token))),
         }
     }
 
@@ -225,7 +225,7 @@ impl<E: PutShape> ToTokens for ExprBreakOf<E> {
         let jump = Jump::Break(&self.break_token, &self.label);
         let attributes = Attributes::Before(&self.attrs);
         match &self.expr {
-            Some(x) => E::put_lead(tokens, attributes, Lead::Jump(jump), x)?,
+            Some(x) => E::put_prefix(tokens, attributes, Prefix::Jump(jump), x)?,
             None => put_whole_leaf(tokens, attributes, Leaf::Jump(jump))?,
         }
         Ok(())
@@ -261,7 +261,7 @@ impl<E: PutShape> ToTokens for ExprReturnOf<E> {
         let jump = Jump::Return(&self.return_token);
         let attributes = Attributes::Before(&self.attrs);
         match &self.expr {
-            Some(x) => E::put_lead(tokens, attributes, Lead::Jump(jump), x)?,
+            Some(x) => E::put_prefix(tokens, attributes, Prefix::Jump(jump), x)?,
             None => put_whole_leaf(tokens, attributes, Leaf::Jump(jump))?,
         }
         Ok(())
@@ -281,7 +281,7 @@ impl<E: PutShape> ToTokens for ExprYieldOf<E> {
         let jump = Jump::Yield(&self.yield_token);
         let attributes = Attributes::Before(&self.attrs);
         match &self.expr {
-            Some(x) => E::put_lead(tokens, attributes, Lead::Jump(jump), x)?,
+            Some(x) => E::put_prefix(tokens, attributes, Prefix::Jump(jump), x)?,
             None => put_whole_leaf(tokens, attributes, Leaf::Jump(jump))?,
         }
         Ok(())

@@ -9,7 +9,7 @@ ghost use Rattle.syn_expr_parts.specs.View.{label_of};
 ghost use Rattle.syn_grammar.specs.Next.{enclosed};
 ghost use Rattle.syn_grammar.specs.Stands.{is_range_leaf};
 ghost use Rattle.syn_grammar.specs.Tree as e;
-ghost use Rattle.syn_grammar.specs.Tree.{adorn, body_own, jump_own, label_own, leaf_own};
+ghost use Rattle.syn_grammar.specs.Tree.{attributed_with, body_own, jump_own, label_own, leaf_own};
 ghost use Rattle.syn_lower.specs.View.{mapped, qself_or, path_of, type_of};
 ghost use Rattle.syn_parts.specs.Own.{qualified_own};
 ghost use Rattle.syn_tokens.specs.Input.{IsFront};
@@ -18,7 +18,7 @@ ghost use Rattle.syn_tokens.specs.Tok.{ident};
 use crate::attrs::put_attributes;
 use crate::body::put_block;
 use crate::node::{Attributes, Braces, Jump, Leaf};
-use crate::put::{Grown, grown, put, put_some};
+use crate::put::{PutResult, put, put_result, put_some};
 use syn_expr_parts::label::Label;
 use syn_lower::attr::Attribute;
 use syn_lower::path::{Path, QSelf};
@@ -29,16 +29,16 @@ use syn_tokens::tree::TokenStream;
 
 /// Puts a path, and the type that it is qualified by.
 #[tactic(auto, using(syn_tokens::proofs::Fronts::fronts))]
-pub fn put_path(tokens: &mut TokenStream, qself: &Option<QSelf>, path: &Path) -> Grown
+pub fn put_path(tokens: &mut TokenStream, qself: &Option<QSelf>, path: &Path) -> PutResult
     ensures ok { OnOk result (tokens.new ≡ tokens.old ++ qualified_own (qself_or type_of qself.now, path_of type_of path.now) []) }
     ensures front { IsFront tokens.old tokens.new }
 {
-    grown(print_qpath(qself, path, tokens))
+    put_result(print_qpath(qself, path, tokens))
 }
 
 /// Puts a jump up to its value.
 #[tactic(auto, using(syn_tokens::proofs::Fronts::fronts, crate::proofs::Owns::owns), unfolding(syn_tokens::specs::Sign::word_text))]
-pub fn put_jump(tokens: &mut TokenStream, jump: Jump<'_>) -> Grown
+pub fn put_jump(tokens: &mut TokenStream, jump: Jump<'_>) -> PutResult
     ensures ok { OnOk result (tokens.new ≡ tokens.old ++ jump_own (jump_of jump.entry) []) }
     ensures front { IsFront tokens.old tokens.new }
 {
@@ -59,7 +59,7 @@ fn put_labeled(
     label: &Option<Label>,
     attrs: &Vec<Attribute>,
     block: &Block,
-) -> Grown
+) -> PutResult
     ensures ok { OnOk result (tokens.new ≡ tokens.old ++ label_own (mapped label_of label.now) (body_own (body_of (inner_of attrs.now) block.now.stmts) [])) }
     ensures front { IsFront tokens.old tokens.new }
 {
@@ -75,7 +75,7 @@ fn put_loop(
     word: &Loop,
     attrs: &Vec<Attribute>,
     block: &Block,
-) -> Grown
+) -> PutResult
     ensures ok { OnOk result (tokens.new ≡ tokens.old ++ label_own (mapped label_of label.now) (ident (codes "loop") ∷ body_own (body_of (inner_of attrs.now) block.now.stmts) [])) }
     ensures front { IsFront tokens.old tokens.new }
 {
@@ -86,7 +86,7 @@ fn put_loop(
 
 /// Puts what holds no expression.
 #[tactic(auto, using(syn_tokens::proofs::Fronts::fronts, crate::proofs::Owns::owns), unfolding(syn_tokens::specs::Sign::word_text))]
-pub fn put_leaf(tokens: &mut TokenStream, leaf: Leaf<'_>) -> Grown
+pub fn put_leaf(tokens: &mut TokenStream, leaf: Leaf<'_>) -> PutResult
     ensures ok { OnOk result (tokens.new ≡ tokens.old ++ leaf_own (leaf_of leaf.entry) []) }
     ensures front { IsFront tokens.old tokens.new }
 {
@@ -128,9 +128,13 @@ pub fn put_leaf(tokens: &mut TokenStream, leaf: Leaf<'_>) -> Grown
 
 /// Puts what holds no expression, behind its attributes.
 #[tactic(auto, using(syn_tokens::proofs::Fronts::fronts))]
-pub fn put_whole_leaf(tokens: &mut TokenStream, attributes: Attributes<'_>, leaf: Leaf<'_>) -> Grown
+pub fn put_whole_leaf(
+    tokens: &mut TokenStream,
+    attributes: Attributes<'_>,
+    leaf: Leaf<'_>,
+) -> PutResult
     requires { is_range_leaf (leaf_of leaf) ≡ false }
-    ensures text { OnOk result (tokens.new ≡ tokens.old ++ whole enclosed (adorn (before_of attributes.entry) (e.leaf (leaf_of leaf.entry)))) }
+    ensures text { OnOk result (tokens.new ≡ tokens.old ++ whole enclosed (attributed_with (before_of attributes.entry) (e.leaf (leaf_of leaf.entry)))) }
     ensures front { IsFront tokens.old tokens.new }
 {
     put_attributes(tokens, attributes)?;

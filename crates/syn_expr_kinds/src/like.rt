@@ -4,8 +4,8 @@ ghost use Rattle.std.specs.Prelude.{◌≡◌};
 ghost use Rattle.syn_grammar.specs.Tree as e;
 
 use crate::node::HasKind;
-use syn_expr_notes::kind::NodeKind;
-use syn_expr_notes::label::{FrameKind, LeafKind};
+use syn_expr_summaries::kind::NodeKind;
+use syn_expr_summaries::label::{FrameKind, LeafKind};
 
 /// Whether it is a block, a loop, an `if` or a `match`, behind attributes too: where it is the whole of a statement or of an
 /// arm's body, no operator goes on it (Rust Reference, "Expression statements").

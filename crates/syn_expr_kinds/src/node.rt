@@ -4,16 +4,16 @@
 
 ghost use Rattle.std.specs.Prelude.{◌≡◌, is_some};
 ghost use Rattle.syn_expr_kinds.specs.Node as spec;
-ghost use Rattle.syn_expr_notes.specs.Kind.{kind_at};
+ghost use Rattle.syn_expr_summaries.specs.Kind.{kind_at};
 ghost use Rattle.syn_lower.specs.View.{mapped};
 
 use crate::kinds::{HasArmView, HasExprTree};
 use crate::structure::FieldValueOf;
 use std::alloc::AllocError;
-use syn_expr_notes::kind::NodeKind;
 use syn_expr_parts::label::Label;
 use syn_expr_parts::member::Member;
 use syn_expr_parts::modifiers::ClosureModifiers;
+use syn_expr_summaries::kind::NodeKind;
 use syn_lower::attr::Attribute;
 use syn_lower::lifetime::Lifetime;
 use syn_lower::lit::Lit;
@@ -92,20 +92,20 @@ pub enum Leaf<'a> {
     Async(&'a Async, &'a Option<Move>, &'a Block),
     /// `try`
     TryBlock(&'a Try, &'a Block),
-    /// Tokens that are kept.
+    /// Verbatim tokens.
     Verbatim(&'a TokenStream),
 }
 
 impl Leaf<'_> {
     ghost use Rattle.syn_expr_kinds.specs.Node.{leaf_of};
     ghost use Rattle.syn_grammar.specs.Rule.{is_plain_leaf};
-    ghost use Rattle.syn_grammar.specs.WellFormed.{is_kept_leaf};
+    ghost use Rattle.syn_grammar.specs.WellFormed.{is_verbatim_leaf};
 
     /// Whether it is a block without a label, and without attributes in its braces: the block of its tokens alone.
-    #[tactic(auto, using(crate::proofs::Lents::blocks))]
+    #[tactic(auto, using(crate::proofs::Borrowed::blocks))]
     pub fn is_plain_block(self) -> bool
         ensures plain { result ≡ is_plain_leaf (leaf_of self.entry) }
-        ensures kept { result ≡ is_kept_leaf (leaf_of self.entry) }
+        ensures verbatim { result ≡ is_verbatim_leaf (leaf_of self.entry) }
     {
         match self {
             Leaf::Block(label, braces) => label.is_none() && braces.is_bare(),
@@ -149,7 +149,7 @@ impl<'a, P> Clone for Closure<'a, P> {
 }
 
 /// The tokens before an operand with which a node ends.
-pub enum Lead<'a, P> {
+pub enum Prefix<'a, P> {
     /// `!`, `-` or `*`
     Unary(&'a UnOp),
     /// `&`, and perhaps `mut`.
@@ -166,9 +166,9 @@ pub enum Lead<'a, P> {
     Closure(Closure<'a, P>),
 }
 
-impl<'a, P> Copy for Lead<'a, P> {}
+impl<'a, P> Copy for Prefix<'a, P> {}
 
-impl<'a, P> Clone for Lead<'a, P> {
+impl<'a, P> Clone for Prefix<'a, P> {
     ghost is_clone = { λ x y. y ≡ x };
 
     ghost is_infallible = { λ _. Unit {0} };
@@ -191,7 +191,7 @@ pub enum Operator<'a> {
 
 /// The tokens behind an operand with which a node begins.
 #[derive(Clone, Copy)]
-pub enum Post<'a> {
+pub enum Postfix<'a> {
     /// `as` and a type.
     Cast(&'a As, &'a Box<Type>),
     /// A range without an end.
@@ -299,7 +299,7 @@ impl<'a, E, A> Operands<'a, E, A> {
     ghost use Rattle.syn_grammar.specs.Tree.{Tree};
 
     /// The operand with which a node begins: its first one, and the base of a trailer.
-    #[tactic(auto, using(crate::proofs::Lents::based))]
+    #[tactic(auto, using(crate::proofs::Borrowed::based))]
     pub fn first(self) -> Option<&'a E>
         ensures { (tree : E → Tree) (arm : A → ArmView) → mapped (λ x. tree x.now) result ≡ first_of (operands_of tree arm self.entry) }
     {
@@ -311,7 +311,7 @@ impl<'a, E, A> Operands<'a, E, A> {
     }
 
     /// The second of two operands.
-    #[tactic(auto, using(crate::proofs::Lents::based))]
+    #[tactic(auto, using(crate::proofs::Borrowed::based))]
     pub fn second(self) -> Option<&'a E>
         ensures { (tree : E → Tree) (arm : A → ArmView) → mapped (λ x. tree x.now) result ≡ second_of (operands_of tree arm self.entry) }
     {
@@ -322,7 +322,7 @@ impl<'a, E, A> Operands<'a, E, A> {
     }
 
     /// The operand with which a node ends, or behind which its trailer stands.
-    #[tactic(auto, using(crate::proofs::Lents::based))]
+    #[tactic(auto, using(crate::proofs::Borrowed::based))]
     pub fn last(self) -> Option<&'a E>
         ensures { (tree : E → Tree) (arm : A → ArmView) → mapped (λ x. tree x.now) result ≡ last_of (operands_of tree arm self.entry) }
     {
@@ -386,16 +386,16 @@ pub trait HasShape: HasNode + HasKind {
         ensures { is_some result ≡ spec.is_paren (Self.tree self.now) };
 
     /// What stands before an operand, with the guards in its patterns.
-    fn lead(&self) -> Option<Lead<'_, Self::Pat>>
-        ensures { mapped (spec.lead_seen Self.Pat.view) result ≡ spec.lead_at (Self.tree self.now) };
+    fn prefix(&self) -> Option<Prefix<'_, Self::Pat>>
+        ensures { mapped (spec.prefix_seen Self.Pat.view) result ≡ spec.prefix_at (Self.tree self.now) };
 
     /// The operator between two operands.
     fn operator(&self) -> Option<Operator<'_>>
         ensures { mapped spec.operator_of result ≡ spec.operator_at (Self.tree self.now) };
 
     /// What stands behind an operand.
-    fn post(&self) -> Option<Post<'_>>
-        ensures { mapped spec.post_of result ≡ spec.post_at (Self.tree self.now) };
+    fn postfix(&self) -> Option<Postfix<'_>>
+        ensures { mapped spec.postfix_of result ≡ spec.postfix_at (Self.tree self.now) };
 
     /// The trailer behind its base.
     fn trailer(&self) -> Option<Trailer<'_>>

@@ -8,16 +8,16 @@ ghost use Rattle.syn_grammar.specs.Stands.{is_cast, is_range};
 ghost use Rattle.syn_grammar.specs.Tree.{Tree};
 ghost use Rattle.syn_lower.specs.View.{mapped};
 ghost use Rattle.syn_pat_kinds.specs.View.{PatView};
-ghost use Rattle.syn_expr_kinds.specs.Node.{lead_at, lead_seen, leaf_at, leaf_of, operands_at, operands_of, operator_at, operator_of, post_at, post_of};
+ghost use Rattle.syn_expr_kinds.specs.Node.{prefix_at, prefix_seen, leaf_at, leaf_of, operands_at, operands_of, operator_at, operator_of, postfix_at, postfix_of};
 ghost use Rattle.syn_expr_kinds.specs.Pats.{ArmView};
 ghost use Rattle.syn_expr_kinds.specs.View.{expr_assign_of, expr_binary_of, expr_cast_of, expr_range_of, expr_raw_addr_of, expr_reference_of, expr_unary_of};
-ghost use Rattle.syn_expr_notes.specs.Kind.{kind_at};
+ghost use Rattle.syn_expr_summaries.specs.Kind.{kind_at};
 
-use crate::node::{Attributes, Lead, Leaf, Operands, Operator, Post};
+use crate::node::{Attributes, Leaf, Operands, Operator, Postfix, Prefix};
 use crate::parse::ParseKinds;
 use crate::shape::PutShape;
-use syn_expr_notes::kind::NodeKind;
-use syn_expr_notes::label::{LeadKind, LeafKind, PostKind};
+use syn_expr_summaries::kind::NodeKind;
+use syn_expr_summaries::label::{LeafKind, PostfixKind, PrefixKind};
 use syn_grammar::kinds::Infix;
 use syn_lower::attr::Attribute;
 use syn_lower::ends_open;
@@ -142,7 +142,7 @@ impl<E> ExprBinaryOf<E> {
     pub fn kind(&self) -> NodeKind
         ensures { (tree : E → Tree) → result ≡ kind_at (expr_binary_of tree self.now) }
     {
-        NodeKind::Mid(Infix::Binary(self.op.kind()))
+        NodeKind::Infix(Infix::Binary(self.op.kind()))
     }
 
     /// Its operator.
@@ -166,14 +166,14 @@ impl<E> ExprCastOf<E> {
         ensures { (tree : E → Tree) → result ≡ kind_at (expr_cast_of tree self.now) }
     {
         let ends_open = ends_open(&self.ty);
-        NodeKind::Post(PostKind::Cast { ends_open })
+        NodeKind::Postfix(PostfixKind::Cast { ends_open })
     }
 
     /// What stands behind its operand.
-    pub fn post(&self) -> Post<'_>
-        ensures { (tree : E → Tree) → Some (post_of result) ≡ post_at (expr_cast_of tree self.now) }
+    pub fn postfix(&self) -> Postfix<'_>
+        ensures { (tree : E → Tree) → Some (postfix_of result) ≡ postfix_at (expr_cast_of tree self.now) }
     {
-        Post::Cast(&self.as_token, &self.ty)
+        Postfix::Cast(&self.as_token, &self.ty)
     }
 
     /// Its operands.
@@ -192,9 +192,9 @@ impl<E> ExprRangeOf<E> {
         let limits = self.limits.kind();
         match (&self.start, &self.end) {
             (None, None) => NodeKind::Leaf(LeafKind::FullRange),
-            (None, Some(_)) => NodeKind::Lead(LeadKind::RangeTo(limits)),
-            (Some(_), None) => NodeKind::Post(PostKind::RangeFrom(limits)),
-            (Some(_), Some(_)) => NodeKind::Mid(Infix::Range(limits)),
+            (None, Some(_)) => NodeKind::Prefix(PrefixKind::RangeTo(limits)),
+            (Some(_), None) => NodeKind::Postfix(PostfixKind::RangeFrom(limits)),
+            (Some(_), Some(_)) => NodeKind::Infix(Infix::Range(limits)),
         }
     }
 
@@ -209,21 +209,21 @@ impl<E> ExprRangeOf<E> {
     }
 
     /// What stands before its operand, where it ends with one.
-    pub fn lead<P>(&self) -> Option<Lead<'_, P>>
-        ensures { (tree : E → Tree) (pat : P → PatView) → mapped (lead_seen pat) result ≡ lead_at (expr_range_of tree self.now) }
+    pub fn prefix<P>(&self) -> Option<Prefix<'_, P>>
+        ensures { (tree : E → Tree) (pat : P → PatView) → mapped (prefix_seen pat) result ≡ prefix_at (expr_range_of tree self.now) }
     {
         match (&self.start, &self.end) {
-            (None, Some(_)) => Some(Lead::Range(&self.limits)),
+            (None, Some(_)) => Some(Prefix::Range(&self.limits)),
             _ => None,
         }
     }
 
     /// What stands behind its operand, where it begins with one.
-    pub fn post(&self) -> Option<Post<'_>>
-        ensures { (tree : E → Tree) → mapped post_of result ≡ post_at (expr_range_of tree self.now) }
+    pub fn postfix(&self) -> Option<Postfix<'_>>
+        ensures { (tree : E → Tree) → mapped postfix_of result ≡ postfix_at (expr_range_of tree self.now) }
     {
         match (&self.start, &self.end) {
-            (Some(_), None) => Some(Post::Range(&self.limits)),
+            (Some(_), None) => Some(Postfix::Range(&self.limits)),
             _ => None,
         }
     }
@@ -253,10 +253,10 @@ impl<E> ExprRangeOf<E> {
 
 impl<E> ExprRawAddrOf<E> {
     /// What stands before its operand.
-    pub fn lead<P>(&self) -> Lead<'_, P>
-        ensures { (tree : E → Tree) (pat : P → PatView) → Some (lead_seen pat result) ≡ lead_at (expr_raw_addr_of tree self.now) }
+    pub fn prefix<P>(&self) -> Prefix<'_, P>
+        ensures { (tree : E → Tree) (pat : P → PatView) → Some (prefix_seen pat result) ≡ prefix_at (expr_raw_addr_of tree self.now) }
     {
-        Lead::RawAddr(&self.and_token, &self.raw, &self.mutability)
+        Prefix::RawAddr(&self.and_token, &self.raw, &self.mutability)
     }
 
     /// Its operands.
@@ -269,10 +269,10 @@ impl<E> ExprRawAddrOf<E> {
 
 impl<E> ExprReferenceOf<E> {
     /// What stands before its operand.
-    pub fn lead<P>(&self) -> Lead<'_, P>
-        ensures { (tree : E → Tree) (pat : P → PatView) → Some (lead_seen pat result) ≡ lead_at (expr_reference_of tree self.now) }
+    pub fn prefix<P>(&self) -> Prefix<'_, P>
+        ensures { (tree : E → Tree) (pat : P → PatView) → Some (prefix_seen pat result) ≡ prefix_at (expr_reference_of tree self.now) }
     {
-        Lead::Reference(&self.and_token, &self.mutability)
+        Prefix::Reference(&self.and_token, &self.mutability)
     }
 
     /// Its operands.
@@ -285,10 +285,10 @@ impl<E> ExprReferenceOf<E> {
 
 impl<E> ExprUnaryOf<E> {
     /// What stands before its operand.
-    pub fn lead<P>(&self) -> Lead<'_, P>
-        ensures { (tree : E → Tree) (pat : P → PatView) → Some (lead_seen pat result) ≡ lead_at (expr_unary_of tree self.now) }
+    pub fn prefix<P>(&self) -> Prefix<'_, P>
+        ensures { (tree : E → Tree) (pat : P → PatView) → Some (prefix_seen pat result) ≡ prefix_at (expr_unary_of tree self.now) }
     {
-        Lead::Unary(&self.op)
+        Prefix::Unary(&self.op)
     }
 
     /// Its operands.
@@ -310,7 +310,7 @@ impl<E: PutShape> ToTokens for ExprAssignOf<E> {
     /// Puts both operands round `=`.
     fn to_tokens(&self, tokens: &mut TokenStream) -> Result<()> {
         let operator = Operator::Assign(&self.eq_token);
-        E::put_mid(tokens, &self.attrs, &self.left, operator, &self.right)?;
+        E::put_infix(tokens, &self.attrs, &self.left, operator, &self.right)?;
         Ok(())
     }
 }
@@ -326,7 +326,7 @@ impl<E: PutShape> ToTokens for ExprBinaryOf<E> {
     /// Puts both operands round the operator.
     fn to_tokens(&self, tokens: &mut TokenStream) -> Result<()> {
         let operator = Operator::Binary(&self.op);
-        E::put_mid(tokens, &self.attrs, &self.left, operator, &self.right)?;
+        E::put_infix(tokens, &self.attrs, &self.left, operator, &self.right)?;
         Ok(())
     }
 }
@@ -341,8 +341,8 @@ impl<E: PutShape> ToTokens for ExprCastOf<E> {
 
     /// Puts the operand, `as` and the type.
     fn to_tokens(&self, tokens: &mut TokenStream) -> Result<()> {
-        let cast = Post::Cast(&self.as_token, &self.ty);
-        E::put_post(tokens, &self.attrs, &self.expr, cast)?;
+        let cast = Postfix::Cast(&self.as_token, &self.ty);
+        E::put_postfix(tokens, &self.attrs, &self.expr, cast)?;
         Ok(())
     }
 }
@@ -372,8 +372,8 @@ impl<E: PutShape> ToTokens for ExprRawAddrOf<E> {
 
     /// Puts `&raw const` or `&raw mut`, and the place.
     fn to_tokens(&self, tokens: &mut TokenStream) -> Result<()> {
-        let lead = Lead::RawAddr(&self.and_token, &self.raw, &self.mutability);
-        E::put_lead(tokens, Attributes::Before(&self.attrs), lead, &self.expr)?;
+        let prefix = Prefix::RawAddr(&self.and_token, &self.raw, &self.mutability);
+        E::put_prefix(tokens, Attributes::Before(&self.attrs), prefix, &self.expr)?;
         Ok(())
     }
 }
@@ -388,8 +388,8 @@ impl<E: PutShape> ToTokens for ExprReferenceOf<E> {
 
     /// Puts `&` or `&mut`, and the operand.
     fn to_tokens(&self, tokens: &mut TokenStream) -> Result<()> {
-        let lead = Lead::Reference(&self.and_token, &self.mutability);
-        E::put_lead(tokens, Attributes::Before(&self.attrs), lead, &self.expr)?;
+        let prefix = Prefix::Reference(&self.and_token, &self.mutability);
+        E::put_prefix(tokens, Attributes::Before(&self.attrs), prefix, &self.expr)?;
         Ok(())
     }
 }
@@ -404,8 +404,8 @@ impl<E: PutShape> ToTokens for ExprUnaryOf<E> {
 
     /// Puts the operator, and its operand.
     fn to_tokens(&self, tokens: &mut TokenStream) -> Result<()> {
-        let lead = Lead::Unary(&self.op);
-        E::put_lead(tokens, Attributes::Before(&self.attrs), lead, &self.expr)?;
+        let prefix = Prefix::Unary(&self.op);
+        E::put_prefix(tokens, Attributes::Before(&self.attrs), prefix, &self.expr)?;
         Ok(())
     }
 }

@@ -5,7 +5,7 @@ ghost use Rattle.syn_expr_kinds.specs.Exactly.{ReadsExactly, RefusesOthers};
 ghost use Rattle.syn_expr_kinds.specs.FieldStands.{FieldStands};
 ghost use Rattle.syn_expr_kinds.specs.View.{expr_array_of, expr_assign_of, expr_await_of, expr_binary_of, expr_break_of, expr_call_of, expr_cast_of, expr_field_of, expr_if_of, expr_index_of, expr_method_call_of, expr_paren_of, expr_range_of, expr_raw_addr_of, expr_reference_of, expr_repeat_of, expr_return_of, expr_struct_of, expr_try_of, expr_tuple_of, expr_unary_of, expr_while_of, expr_yield_of, field_value_of};
 ghost use Rattle.syn_grammar.specs.Alone.{Alone, OfKind, ReferenceAlone, StructAlone, behind_attributes, is_array, is_assign, is_await, is_binary, is_break, is_call, is_field, is_index, is_method_call, is_paren, is_raw_addr, is_repeat, is_return, is_try, is_tuple, is_unary, is_while, is_yield};
-ghost use Rattle.syn_grammar.specs.Stands.{is_branch, is_cast, is_range};
+ghost use Rattle.syn_grammar.specs.Stands.{is_if_expr, is_cast, is_range};
 
 use crate::atom::{ExprArrayOf, ExprParenOf, ExprRepeatOf, ExprTupleOf};
 use crate::block::{ExprIfOf, ExprWhileOf};
@@ -46,7 +46,7 @@ pub trait ParseKinds: HasExprTree {
 
     /// Reads an `if` behind outer attributes or none, with each `else` that follows.
     fn parse_expr_if(input: &mut ParseBuffer<'_>) -> Result<ExprIfOf<Self>>
-        ensures { ReadsExactly (expr_if_of Self.tree) (Alone (behind_attributes is_branch)) input.old result input.new };
+        ensures { ReadsExactly (expr_if_of Self.tree) (Alone (behind_attributes is_if_expr)) input.old result input.new };
 
     /// Reads a `while` behind outer attributes and a label, or none.
     fn parse_expr_while(input: &mut ParseBuffer<'_>) -> Result<ExprWhileOf<Self>>

@@ -12,10 +12,10 @@ use syn_tokens::tree::{TokenStream, TokenTree};
 
 /// What a printer answers inside. That memory ran out is all that printing is refused for, and needs no place: an `Error`
 /// would double what the recursion takes of the machine's stack.
-pub type Grown = std::result::Result<(), AllocError>;
+pub type PutResult = std::result::Result<(), AllocError>;
 
 /// What was answered, without the place of a refusal.
-pub fn grown<T>(answer: Result<T>) -> std::result::Result<T, AllocError>
+pub fn put_result<T>(answer: Result<T>) -> std::result::Result<T, AllocError>
     ensures { MatchResult result (λ x. answer ≡ Ok x) (λ _. is_ok answer ≡ false) }
 {
     match answer {
@@ -26,16 +26,16 @@ pub fn grown<T>(answer: Result<T>) -> std::result::Result<T, AllocError>
 
 /// Puts a part at the end.
 #[tactic(auto, using(syn_tokens::proofs::Fronts::fronts))]
-pub fn put<T: ToTokens>(tokens: &mut TokenStream, part: &T) -> Grown
+pub fn put<T: ToTokens>(tokens: &mut TokenStream, part: &T) -> PutResult
     ensures ok { OnOk result (tokens.new ≡ tokens.old ++ T.printed part.now) }
     ensures front { IsFront tokens.old tokens.new }
 {
-    grown(part.to_tokens(tokens))
+    put_result(part.to_tokens(tokens))
 }
 
 /// Puts a part at the end, if there is one.
 #[tactic(auto, using(syn_tokens::proofs::Fronts::fronts), unfolding(syn_lower_lists::specs::Printed::option_printed))]
-pub fn put_some<T: ToTokens>(tokens: &mut TokenStream, part: &Option<T>) -> Grown
+pub fn put_some<T: ToTokens>(tokens: &mut TokenStream, part: &Option<T>) -> PutResult
     ensures ok { OnOk result (tokens.new ≡ tokens.old ++ option_printed T.printed part.now) }
     ensures front { IsFront tokens.old tokens.new }
 {
@@ -47,9 +47,9 @@ pub fn put_some<T: ToTokens>(tokens: &mut TokenStream, part: &Option<T>) -> Grow
 
 /// Puts a token tree at the end.
 #[tactic(auto, using(syn_tokens::proofs::Fronts::fronts))]
-pub fn put_tree(tokens: &mut TokenStream, tree: TokenTree) -> Grown
+pub fn put_tree(tokens: &mut TokenStream, tree: TokenTree) -> PutResult
     ensures ok { OnOk result (tokens.new ≡ tokens.old ++ tok_of tree ∷ []) }
     ensures front { IsFront tokens.old tokens.new }
 {
-    grown(tokens.push(tree))
+    put_result(tokens.push(tree))
 }

@@ -2,20 +2,20 @@
 
 ghost use Rattle.std.specs.Prelude.{◌≡◌, ◌++◌, false, map, OnOk};
 ghost use Rattle.syn_expr_kinds.specs.Attrs.{attrs_of};
-ghost use Rattle.syn_expr_kinds.specs.Node.{before_of, framed, frame_guards, frame_of, lead_guards, lead_of, operand_kids, operands_of, operator_of, post_of, trailer_of};
+ghost use Rattle.syn_expr_kinds.specs.Node.{before_of, framed, frame_guards, frame_of, prefix_guards, prefix_of, operand_children, operands_of, operator_of, postfix_of, trailer_of};
 ghost use Rattle.syn_expr_kinds.specs.Pats.{strays};
 ghost use Rattle.syn_expr_kinds.specs.Printed.{field_spelled, whole};
 ghost use Rattle.syn_expr_kinds.specs.View.{boxed, elements, field_value_of, range_between};
 ghost use Rattle.syn_grammar.specs.Next.{enclosed};
-ghost use Rattle.syn_grammar.specs.Stands.{is_range_lead};
+ghost use Rattle.syn_grammar.specs.Stands.{is_range_prefix};
 ghost use Rattle.syn_grammar.specs.Tree as e;
-ghost use Rattle.syn_grammar.specs.Tree.{adorn};
+ghost use Rattle.syn_grammar.specs.Tree.{attributed_with};
 ghost use Rattle.syn_lower.specs.View.{values, trails};
 ghost use Rattle.syn_op.specs.View.{limits_kind};
 ghost use Rattle.syn_tokens.specs.Input.{IsFront};
 
-use crate::node::{Attributes, Frame, HasShape, Lead, Operands, Operator, Post, Trailer};
-use crate::put::Grown;
+use crate::node::{Attributes, Frame, HasShape, Operands, Operator, Postfix, Prefix, Trailer};
+use crate::put::PutResult;
 use crate::structure::FieldValueOf;
 use syn_lower::attr::Attribute;
 use syn_lower::punctuated::Punctuated;
@@ -35,35 +35,40 @@ pub trait PutShape: HasShape {
         attributes: Attributes<'_>,
         paren: &Paren,
         x: &Self,
-    ) -> Grown
-        ensures text { OnOk result (tokens.new ≡ tokens.old ++ whole enclosed (adorn (before_of attributes.entry) (e.paren false (Self.tree x.now)))) }
+    ) -> PutResult
+        ensures text { OnOk result (tokens.new ≡ tokens.old ++ whole enclosed (attributed_with (before_of attributes.entry) (e.paren false (Self.tree x.now)))) }
         ensures front { IsFront tokens.old tokens.new };
 
     /// Puts what stands before an operand, and the operand.
-    fn put_lead(
+    fn put_prefix(
         tokens: &mut TokenStream,
         attributes: Attributes<'_>,
-        lead: Lead<'_, Self::Pat>,
+        prefix: Prefix<'_, Self::Pat>,
         x: &Self,
-    ) -> Grown
-        requires { is_range_lead (lead_of Self.Pat.view lead) ≡ false }
-        ensures text { OnOk result (tokens.new ≡ tokens.old ++ whole enclosed (adorn (before_of attributes.entry) (e.lead (lead_of Self.Pat.view lead.entry) (strays (lead_guards Self.Pat.view lead.entry) e.none) (Self.tree x.now)))) }
+    ) -> PutResult
+        requires { is_range_prefix (prefix_of Self.Pat.view prefix) ≡ false }
+        ensures text { OnOk result (tokens.new ≡ tokens.old ++ whole enclosed (attributed_with (before_of attributes.entry) (e.prefixed (prefix_of Self.Pat.view prefix.entry) (strays (prefix_guards Self.Pat.view prefix.entry) e.none) (Self.tree x.now)))) }
         ensures front { IsFront tokens.old tokens.new };
 
     /// Puts two operands with their operator.
-    fn put_mid(
+    fn put_infix(
         tokens: &mut TokenStream,
         attrs: &Vec<Attribute>,
         x: &Self,
         operator: Operator<'_>,
         y: &Self,
-    ) -> Grown
-        ensures text { OnOk result (tokens.new ≡ tokens.old ++ whole enclosed (adorn (attrs_of attrs.now) (e.mid (Self.tree x.now) (operator_of operator.entry) (Self.tree y.now)))) }
+    ) -> PutResult
+        ensures text { OnOk result (tokens.new ≡ tokens.old ++ whole enclosed (attributed_with (attrs_of attrs.now) (e.infixed (Self.tree x.now) (operator_of operator.entry) (Self.tree y.now)))) }
         ensures front { IsFront tokens.old tokens.new };
 
     /// Puts an operand, and what stands behind it.
-    fn put_post(tokens: &mut TokenStream, attrs: &Vec<Attribute>, x: &Self, post: Post<'_>) -> Grown
-        ensures text { OnOk result (tokens.new ≡ tokens.old ++ whole enclosed (adorn (attrs_of attrs.now) (e.post (Self.tree x.now) (post_of post.entry)))) }
+    fn put_postfix(
+        tokens: &mut TokenStream,
+        attrs: &Vec<Attribute>,
+        x: &Self,
+        postfix: Postfix<'_>,
+    ) -> PutResult
+        ensures text { OnOk result (tokens.new ≡ tokens.old ++ whole enclosed (attributed_with (attrs_of attrs.now) (e.postfixed (Self.tree x.now) (postfix_of postfix.entry)))) }
         ensures front { IsFront tokens.old tokens.new };
 
     /// Puts a range, between the ends that are there.
@@ -73,8 +78,8 @@ pub trait PutShape: HasShape {
         start: &Option<Box<Self>>,
         limits: &RangeLimits,
         end: &Option<Box<Self>>,
-    ) -> Grown
-        ensures text { OnOk result (tokens.new ≡ tokens.old ++ whole enclosed (adorn (attrs_of attrs.now) (range_between (limits_kind limits.now) (boxed Self.tree start.now) (boxed Self.tree end.now)))) }
+    ) -> PutResult
+        ensures text { OnOk result (tokens.new ≡ tokens.old ++ whole enclosed (attributed_with (attrs_of attrs.now) (range_between (limits_kind limits.now) (boxed Self.tree start.now) (boxed Self.tree end.now)))) }
         ensures front { IsFront tokens.old tokens.new };
 
     /// Puts a base, and a trailer that holds no operand.
@@ -83,8 +88,8 @@ pub trait PutShape: HasShape {
         attributes: Attributes<'_>,
         base: &Self,
         trailer: Trailer<'_>,
-    ) -> Grown
-        ensures text { OnOk result (tokens.new ≡ tokens.old ++ whole enclosed (adorn (before_of attributes.entry) (e.tail (Self.tree base.now) (trailer_of trailer.entry) e.none))) }
+    ) -> PutResult
+        ensures text { OnOk result (tokens.new ≡ tokens.old ++ whole enclosed (attributed_with (before_of attributes.entry) (e.tail (Self.tree base.now) (trailer_of trailer.entry) e.none))) }
         ensures front { IsFront tokens.old tokens.new };
 
     /// Puts a base, and a trailer that holds arguments.
@@ -94,8 +99,8 @@ pub trait PutShape: HasShape {
         base: &Box<Self>,
         trailer: Trailer<'_>,
         args: &Punctuated<Self, Comma>,
-    ) -> Grown
-        ensures text { OnOk result (tokens.new ≡ tokens.old ++ whole enclosed (adorn (before_of attributes.entry) (e.tail (Self.tree base.now.value) (trailer_of trailer.entry) (elements (map Self.tree (values args.now)) (trails args.now))))) }
+    ) -> PutResult
+        ensures text { OnOk result (tokens.new ≡ tokens.old ++ whole enclosed (attributed_with (before_of attributes.entry) (e.tail (Self.tree base.now.value) (trailer_of trailer.entry) (elements (map Self.tree (values args.now)) (trails args.now))))) }
         ensures front { IsFront tokens.old tokens.new };
 
     /// Puts what is indexed, and its index in brackets.
@@ -105,8 +110,8 @@ pub trait PutShape: HasShape {
         base: &Self,
         bracket: &Bracket,
         index: &Self,
-    ) -> Grown
-        ensures text { OnOk result (tokens.new ≡ tokens.old ++ whole enclosed (adorn (before_of attributes.entry) (e.tail (Self.tree base.now) e.index (e.kid e.value e.no_ending (Self.tree index.now) e.none)))) }
+    ) -> PutResult
+        ensures text { OnOk result (tokens.new ≡ tokens.old ++ whole enclosed (attributed_with (before_of attributes.entry) (e.tail (Self.tree base.now) e.index (e.child e.value e.no_ending (Self.tree index.now) e.none)))) }
         ensures front { IsFront tokens.old tokens.new };
 
     /// Puts what has its operands in places of their own.
@@ -115,13 +120,13 @@ pub trait PutShape: HasShape {
         attributes: Attributes<'_>,
         frame: Frame<'_, Self::Pat>,
         operands: Operands<'_, Self, Self::Arm>,
-    ) -> Grown
-        requires { operands_of Self.tree Self.Arm.view operands ≡ framed (operand_kids (operands_of Self.tree Self.Arm.view operands)) }
-        ensures text { OnOk result (tokens.new ≡ tokens.old ++ whole enclosed (adorn (before_of attributes.entry) (e.frame (frame_of Self.Pat.view frame.entry) (strays (frame_guards Self.Pat.view frame.entry) (operand_kids (operands_of Self.tree Self.Arm.view operands.entry)))))) }
+    ) -> PutResult
+        requires { operands_of Self.tree Self.Arm.view operands ≡ framed (operand_children (operands_of Self.tree Self.Arm.view operands)) }
+        ensures text { OnOk result (tokens.new ≡ tokens.old ++ whole enclosed (attributed_with (before_of attributes.entry) (e.frame (frame_of Self.Pat.view frame.entry) (strays (frame_guards Self.Pat.view frame.entry) (operand_children (operands_of Self.tree Self.Arm.view operands.entry)))))) }
         ensures front { IsFront tokens.old tokens.new };
 
     /// Puts a field of a struct expression, without a comma behind it.
-    fn put_field(tokens: &mut TokenStream, field: &FieldValueOf<Self>) -> Grown
+    fn put_field(tokens: &mut TokenStream, field: &FieldValueOf<Self>) -> PutResult
         ensures text { OnOk result (tokens.new ≡ tokens.old ++ field_spelled (field_value_of Self.tree field.now)) }
         ensures front { IsFront tokens.old tokens.new };
 }

@@ -8,14 +8,14 @@ ghost use Rattle.syn_grammar.specs.Tree.{Tree};
 ghost use Rattle.syn_expr_kinds.specs.Node.{operands_at, operands_of, trailer_at, trailer_of};
 ghost use Rattle.syn_expr_kinds.specs.Pats.{ArmView};
 ghost use Rattle.syn_expr_kinds.specs.View.{expr_await_of, expr_call_of, expr_field_of, expr_index_of, expr_method_call_of, expr_try_of};
-ghost use Rattle.syn_expr_notes.specs.Kind.{kind_at};
+ghost use Rattle.syn_expr_summaries.specs.Kind.{kind_at};
 
 use crate::node::{Attributes, Operands, Trailer};
 use crate::parse::ParseKinds;
 use crate::shape::PutShape;
-use syn_expr_notes::kind::NodeKind;
-use syn_expr_notes::label::TrailerKind;
 use syn_expr_parts::member::Member;
+use syn_expr_summaries::kind::NodeKind;
+use syn_expr_summaries::label::TrailerKind;
 use syn_lower::attr::Attribute;
 use syn_lower::path::AngleBracketedGenericArguments;
 use syn_lower::punctuated::Punctuated;

@@ -10,7 +10,7 @@ use Rattle.syn_parts.specs.Text.{Text}
 use Rattle.syn_parts.specs.Tree.{AttributeTree, TypeTree, QSelfTree, PathTree, ArgumentsTree}
 use Rattle.syn_parts.specs.Pat.{MemberTree}
 use Rattle.syn_grammar.specs.Tree as e
-use Rattle.syn_grammar.specs.Tree.{Tree, Kids, Body, Jump, leaf, paren, lead, mid, post, tail, frame, none, kid}
+use Rattle.syn_grammar.specs.Tree.{Tree, Children, Body, Jump, leaf, paren, prefixed, infixed, postfixed, tail, frame, none, child}
 use Rattle.syn_grammar.specs.declared.kinds.BinKind.{BinKind}
 use Rattle.syn_grammar.specs.declared.kinds.UnKind.{UnKind}
 use Rattle.syn_grammar.specs.declared.kinds.Limits.{Limits}
@@ -213,7 +213,7 @@ const_kind_tie =
 
 pub loop_kind_tie : IsEqualityOf expr_loop_of loop_test.ghosts.eq
 loop_kind_tie =
-    let it = around_tie {B = Option Text × List Tok} (λ x. x.attrs) (λ a p. leaf (e.looping p.0 (body_of a p.1))) (λ a p. refl) (λ a b p q h. let k : body_of a p.1 ≡ body_of b q.1 = cc in (ap (λ (x : Body). x.inner) k, pair_path (cc) (ap (λ (x : Body). x.tokens) k))) (both_tie (on_tie {C = ExprLoop} (λ x. x.label) (option_tie label_tie)) (on_tie {C = ExprLoop} (λ x. x.body) block_tie)) in it
+    let it = around_tie {B = Option Text × List Tok} (λ x. x.attrs) (λ a p. leaf (e.loop_expr p.0 (body_of a p.1))) (λ a p. refl) (λ a b p q h. let k : body_of a p.1 ≡ body_of b q.1 = cc in (ap (λ (x : Body). x.inner) k, pair_path (cc) (ap (λ (x : Body). x.tokens) k))) (both_tie (on_tie {C = ExprLoop} (λ x. x.label) (option_tie label_tie)) (on_tie {C = ExprLoop} (λ x. x.body) block_tie)) in it
 
 pub try_block_kind_tie : IsEqualityOf expr_try_block_of try_block_test.ghosts.eq
 try_block_kind_tie =
@@ -246,7 +246,7 @@ module _ (T : RattleType) {f : T.Denot → Tree} {E : T.Denot → T.Denot → Bo
 
   pub group_kind_tie : IsEqualityOf (expr_group_of f) (group_test.ghosts T (record { eq = E }) no_dict).eq
   group_kind_tie =
-      let it = behind_tie (λ x. x.attrs) (λ x. refl) (made_tie (λ t. frame e.invisible (kid e.grouped e.no_ending t none)) (λ p q h. cc) (on_tie {C = ExprGroupOf T.Denot} (λ x. x.expr) box)) in it
+      let it = behind_tie (λ x. x.attrs) (λ x. refl) (made_tie (λ t. frame e.group_expr (child e.grouped e.no_ending t none)) (λ p q h. cc) (on_tie {C = ExprGroupOf T.Denot} (λ x. x.expr) box)) in it
 
   pub paren_kind_tie : IsEqualityOf (expr_paren_of f) (paren_test.ghosts T (record { eq = E }) no_dict).eq
   paren_kind_tie =
@@ -254,7 +254,7 @@ module _ (T : RattleType) {f : T.Denot → Tree} {E : T.Denot → T.Denot → Bo
 
   pub repeat_kind_tie : IsEqualityOf (expr_repeat_of f) (repeat_test.ghosts T (record { eq = E }) no_dict).eq
   repeat_kind_tie =
-      let it = behind_tie (λ x. x.attrs) (λ x. refl) (made_tie {B = Tree × Tree} (λ p. frame e.repeat (kid e.repeated e.no_ending p.0 (kid e.value e.no_ending p.1 none))) (λ p q h. pair_path (cc) (cc)) (both_tie (on_tie {C = ExprRepeatOf T.Denot} (λ x. x.expr) box) (on_tie {C = ExprRepeatOf T.Denot} (λ x. x.len) box))) in it
+      let it = behind_tie (λ x. x.attrs) (λ x. refl) (made_tie {B = Tree × Tree} (λ p. frame e.repeat (child e.repeated e.no_ending p.0 (child e.value e.no_ending p.1 none))) (λ p q h. pair_path (cc) (cc)) (both_tie (on_tie {C = ExprRepeatOf T.Denot} (λ x. x.expr) box) (on_tie {C = ExprRepeatOf T.Denot} (λ x. x.len) box))) in it
 
   pub tuple_kind_tie : IsEqualityOf (expr_tuple_of f) (tuple_test.ghosts T (record { eq = E }) no_dict).eq
   tuple_kind_tie =
@@ -262,15 +262,15 @@ module _ (T : RattleType) {f : T.Denot → Tree} {E : T.Denot → T.Denot → Bo
 
   pub assign_kind_tie : IsEqualityOf (expr_assign_of f) (assign_test.ghosts T (record { eq = E }) no_dict).eq
   assign_kind_tie =
-      let it = behind_tie (λ x. x.attrs) (λ x. refl) (made_tie {B = Tree × Tree} (λ p. mid p.0 inf.Assign p.1) (λ p q h. pair_path (cc) (cc)) (both_tie (on_tie {C = ExprAssignOf T.Denot} (λ x. x.left) box) (on_tie {C = ExprAssignOf T.Denot} (λ x. x.right) box))) in it
+      let it = behind_tie (λ x. x.attrs) (λ x. refl) (made_tie {B = Tree × Tree} (λ p. infixed p.0 inf.Assign p.1) (λ p q h. pair_path (cc) (cc)) (both_tie (on_tie {C = ExprAssignOf T.Denot} (λ x. x.left) box) (on_tie {C = ExprAssignOf T.Denot} (λ x. x.right) box))) in it
 
   pub binary_kind_tie : IsEqualityOf (expr_binary_of f) (binary_kind_test.ghosts T (record { eq = E }) no_dict).eq
   binary_kind_tie =
-      let it = behind_tie (λ x. x.attrs) (λ x. refl) (made_tie {B = Tree × (BinKind × Tree)} (λ p. mid p.0 (inf.Binary p.1.0) p.1.1) (λ p q h. pair_path (cc) (pair_path (cc) (cc))) (both_tie (on_tie {C = ExprBinaryOf T.Denot} (λ x. x.left) box) (both_tie (on_tie {C = ExprBinaryOf T.Denot} (λ x. x.op) bin_tie) (on_tie {C = ExprBinaryOf T.Denot} (λ x. x.right) box)))) in it
+      let it = behind_tie (λ x. x.attrs) (λ x. refl) (made_tie {B = Tree × (BinKind × Tree)} (λ p. infixed p.0 (inf.Binary p.1.0) p.1.1) (λ p q h. pair_path (cc) (pair_path (cc) (cc))) (both_tie (on_tie {C = ExprBinaryOf T.Denot} (λ x. x.left) box) (both_tie (on_tie {C = ExprBinaryOf T.Denot} (λ x. x.op) bin_tie) (on_tie {C = ExprBinaryOf T.Denot} (λ x. x.right) box)))) in it
 
   pub cast_kind_tie : IsEqualityOf (expr_cast_of f) (cast_test.ghosts T (record { eq = E }) no_dict).eq
   cast_kind_tie =
-      let it = behind_tie (λ x. x.attrs) (λ x. refl) (made_tie {B = Tree × TypeTree} (λ p. post p.0 (e.cast p.1)) (λ p q h. pair_path (cc) (cc)) (both_tie (on_tie {C = ExprCastOf T.Denot} (λ x. x.expr) box) (on_tie {C = ExprCastOf T.Denot} (λ x. x.ty.value) type_tie))) in it
+      let it = behind_tie (λ x. x.attrs) (λ x. refl) (made_tie {B = Tree × TypeTree} (λ p. postfixed p.0 (e.cast p.1)) (λ p q h. pair_path (cc) (cc)) (both_tie (on_tie {C = ExprCastOf T.Denot} (λ x. x.expr) box) (on_tie {C = ExprCastOf T.Denot} (λ x. x.ty.value) type_tie))) in it
 
   pub range_kind_tie : IsEqualityOf (expr_range_of f) (range_test.ghosts T (record { eq = E }) no_dict).eq
   range_kind_tie =
@@ -278,15 +278,15 @@ module _ (T : RattleType) {f : T.Denot → Tree} {E : T.Denot → T.Denot → Bo
 
   pub raw_addr_kind_tie : IsEqualityOf (expr_raw_addr_of f) (raw_addr_test.ghosts T (record { eq = E }) no_dict).eq
   raw_addr_kind_tie =
-      let it = behind_tie (λ x. x.attrs) (λ x. refl) (made_tie {B = Bool × Tree} (λ p. lead (e.raw_addr p.0) none p.1) (λ p q h. pair_path (cc) (cc)) (both_tie (on_tie {C = ExprRawAddrOf T.Denot} (λ x. x.mutability) pointer_tie) (on_tie {C = ExprRawAddrOf T.Denot} (λ x. x.expr) box))) in it
+      let it = behind_tie (λ x. x.attrs) (λ x. refl) (made_tie {B = Bool × Tree} (λ p. prefixed (e.raw_addr p.0) none p.1) (λ p q h. pair_path (cc) (cc)) (both_tie (on_tie {C = ExprRawAddrOf T.Denot} (λ x. x.mutability) pointer_tie) (on_tie {C = ExprRawAddrOf T.Denot} (λ x. x.expr) box))) in it
 
   pub reference_kind_tie : IsEqualityOf (expr_reference_of f) (reference_test.ghosts T (record { eq = E }) no_dict).eq
   reference_kind_tie =
-      let it = behind_tie (λ x. x.attrs) (λ x. refl) (made_tie {B = Bool × Tree} (λ p. lead (e.reference p.0) none p.1) (λ p q h. pair_path (cc) (cc)) (both_tie (on_tie {C = ExprReferenceOf T.Denot} (λ x. x.mutability) some_tie) (on_tie {C = ExprReferenceOf T.Denot} (λ x. x.expr) box))) in it
+      let it = behind_tie (λ x. x.attrs) (λ x. refl) (made_tie {B = Bool × Tree} (λ p. prefixed (e.reference p.0) none p.1) (λ p q h. pair_path (cc) (cc)) (both_tie (on_tie {C = ExprReferenceOf T.Denot} (λ x. x.mutability) some_tie) (on_tie {C = ExprReferenceOf T.Denot} (λ x. x.expr) box))) in it
 
   pub unary_kind_tie : IsEqualityOf (expr_unary_of f) (unary_test.ghosts T (record { eq = E }) no_dict).eq
   unary_kind_tie =
-      let it = behind_tie (λ x. x.attrs) (λ x. refl) (made_tie {B = UnKind × Tree} (λ p. lead (e.unary p.0) none p.1) (λ p q h. pair_path (cc) (cc)) (both_tie (on_tie {C = ExprUnaryOf T.Denot} (λ x. x.op) un_tie) (on_tie {C = ExprUnaryOf T.Denot} (λ x. x.expr) box))) in it
+      let it = behind_tie (λ x. x.attrs) (λ x. refl) (made_tie {B = UnKind × Tree} (λ p. prefixed (e.unary p.0) none p.1) (λ p q h. pair_path (cc) (cc)) (both_tie (on_tie {C = ExprUnaryOf T.Denot} (λ x. x.op) un_tie) (on_tie {C = ExprUnaryOf T.Denot} (λ x. x.expr) box))) in it
 
   pub await_kind_tie : IsEqualityOf (expr_await_of f) (await_test.ghosts T (record { eq = E }) no_dict).eq
   await_kind_tie =
@@ -294,7 +294,7 @@ module _ (T : RattleType) {f : T.Denot → Tree} {E : T.Denot → T.Denot → Bo
 
   pub call_kind_tie : IsEqualityOf (expr_call_of f) (call_test.ghosts T (record { eq = E }) no_dict).eq
   call_kind_tie =
-      let it = behind_tie (λ x. x.attrs) (λ x. refl) (made_tie {B = Tree × Kids} (λ p. tail p.0 e.call p.1) (λ p q h. pair_path (cc) (cc)) (both_tie (on_tie {C = ExprCallOf T.Denot} (λ x. x.func) box) (on_tie {C = ExprCallOf T.Denot} (λ x. x.args) (elements_tie tie)))) in it
+      let it = behind_tie (λ x. x.attrs) (λ x. refl) (made_tie {B = Tree × Children} (λ p. tail p.0 e.call p.1) (λ p q h. pair_path (cc) (cc)) (both_tie (on_tie {C = ExprCallOf T.Denot} (λ x. x.func) box) (on_tie {C = ExprCallOf T.Denot} (λ x. x.args) (elements_tie tie)))) in it
 
   pub field_kind_tie : IsEqualityOf (expr_field_of f) (field_kind_test.ghosts T (record { eq = E }) no_dict).eq
   field_kind_tie =
@@ -302,23 +302,23 @@ module _ (T : RattleType) {f : T.Denot → Tree} {E : T.Denot → T.Denot → Bo
 
   pub index_kind_tie : IsEqualityOf (expr_index_of f) (index_test.ghosts T (record { eq = E }) no_dict).eq
   index_kind_tie =
-      let it = behind_tie (λ x. x.attrs) (λ x. refl) (made_tie {B = Tree × Tree} (λ p. tail p.0 e.index (kid e.value e.no_ending p.1 none)) (λ p q h. pair_path (cc) (cc)) (both_tie (on_tie {C = ExprIndexOf T.Denot} (λ x. x.expr) box) (on_tie {C = ExprIndexOf T.Denot} (λ x. x.index) box))) in it
+      let it = behind_tie (λ x. x.attrs) (λ x. refl) (made_tie {B = Tree × Tree} (λ p. tail p.0 e.index (child e.value e.no_ending p.1 none)) (λ p q h. pair_path (cc) (cc)) (both_tie (on_tie {C = ExprIndexOf T.Denot} (λ x. x.expr) box) (on_tie {C = ExprIndexOf T.Denot} (λ x. x.index) box))) in it
 
   pub method_kind_tie : IsEqualityOf (expr_method_call_of f) (method_test.ghosts T (record { eq = E }) no_dict).eq
   method_kind_tie =
-      let it = behind_tie (λ x. x.attrs) (λ x. refl) (made_tie {B = Tree × (Text × (ArgumentsTree × Kids))} (λ p. tail p.0 (e.method p.1.0 p.1.1.0) p.1.1.1) (λ p q h. pair_path (cc) (pair_path (cc) (pair_path (cc) (cc)))) (both_tie (on_tie {C = ExprMethodCallOf T.Denot} (λ x. x.receiver) box) (both_tie (on_tie {C = ExprMethodCallOf T.Denot} (λ x. x.method) text_tie) (both_tie (on_tie {C = ExprMethodCallOf T.Denot} (λ x. x.turbofish) turbofish_tie) (on_tie {C = ExprMethodCallOf T.Denot} (λ x. x.args) (elements_tie tie)))))) in it
+      let it = behind_tie (λ x. x.attrs) (λ x. refl) (made_tie {B = Tree × (Text × (ArgumentsTree × Children))} (λ p. tail p.0 (e.method p.1.0 p.1.1.0) p.1.1.1) (λ p q h. pair_path (cc) (pair_path (cc) (pair_path (cc) (cc)))) (both_tie (on_tie {C = ExprMethodCallOf T.Denot} (λ x. x.receiver) box) (both_tie (on_tie {C = ExprMethodCallOf T.Denot} (λ x. x.method) text_tie) (both_tie (on_tie {C = ExprMethodCallOf T.Denot} (λ x. x.turbofish) turbofish_tie) (on_tie {C = ExprMethodCallOf T.Denot} (λ x. x.args) (elements_tie tie)))))) in it
 
   pub try_kind_tie : IsEqualityOf (expr_try_of f) (try_test.ghosts T (record { eq = E }) no_dict).eq
   try_kind_tie =
-      let it = behind_tie (λ x. x.attrs) (λ x. refl) (made_tie (λ t. tail t e.question none) (λ p q h. cc) (and_true_tie (on_tie {C = ExprTryOf T.Denot} (λ x. x.expr) box))) in it
+      let it = behind_tie (λ x. x.attrs) (λ x. refl) (made_tie (λ t. tail t e.try_expr none) (λ p q h. cc) (and_true_tie (on_tie {C = ExprTryOf T.Denot} (λ x. x.expr) box))) in it
 
   pub if_kind_tie : IsEqualityOf (expr_if_of f) (if_test.ghosts T (record { eq = E }) no_dict).eq
   if_kind_tie =
-      let it = behind_tie (λ x. x.attrs) (λ x. refl) (made_tie {B = Tree × (List Tok × Kids)} (λ p. frame e.branch (kid e.condition (e.braced (body_of [] p.1.0)) p.0 p.1.1)) (λ p q h. let k : body_of [] p.1.0 ≡ body_of [] q.1.0 = cc in pair_path (cc) (pair_path (ap (λ (b : Body). b.tokens) k) (cc))) (both_tie (on_tie {C = ExprIfOf T.Denot} (λ x. x.cond) box) (both_tie (on_tie {C = ExprIfOf T.Denot} (λ x. x.then_branch) block_tie) (on_tie {C = ExprIfOf T.Denot} (λ x. x.else_branch) else_tie)))) in it
+      let it = behind_tie (λ x. x.attrs) (λ x. refl) (made_tie {B = Tree × (List Tok × Children)} (λ p. frame e.if_expr (child e.condition (e.braced (body_of [] p.1.0)) p.0 p.1.1)) (λ p q h. let k : body_of [] p.1.0 ≡ body_of [] q.1.0 = cc in pair_path (cc) (pair_path (ap (λ (b : Body). b.tokens) k) (cc))) (both_tie (on_tie {C = ExprIfOf T.Denot} (λ x. x.cond) box) (both_tie (on_tie {C = ExprIfOf T.Denot} (λ x. x.then_branch) block_tie) (on_tie {C = ExprIfOf T.Denot} (λ x. x.else_branch) else_tie)))) in it
 
   pub while_kind_tie : IsEqualityOf (expr_while_of f) (while_test.ghosts T (record { eq = E }) no_dict).eq
   while_kind_tie =
-      let it = around_tie {B = Option Text × (Tree × List Tok)} (λ x. x.attrs) (λ a p. frame (e.while_loop p.0) (kid e.loop_head (e.braced (body_of a p.1.1)) p.1.0 none)) (λ a p. refl) (λ a b p q h. let k : body_of a p.1.1 ≡ body_of b q.1.1 = cc in (ap (λ (x : Body). x.inner) k, pair_path (cc) (pair_path (cc) (ap (λ (x : Body). x.tokens) k)))) (both_tie (on_tie {C = ExprWhileOf T.Denot} (λ x. x.label) (option_tie label_tie)) (both_tie (on_tie {C = ExprWhileOf T.Denot} (λ x. x.cond) box) (on_tie {C = ExprWhileOf T.Denot} (λ x. x.body) block_tie))) in it
+      let it = around_tie {B = Option Text × (Tree × List Tok)} (λ x. x.attrs) (λ a p. frame (e.while_loop p.0) (child e.loop_head (e.braced (body_of a p.1.1)) p.1.0 none)) (λ a p. refl) (λ a b p q h. let k : body_of a p.1.1 ≡ body_of b q.1.1 = cc in (ap (λ (x : Body). x.inner) k, pair_path (cc) (pair_path (cc) (ap (λ (x : Body). x.tokens) k)))) (both_tie (on_tie {C = ExprWhileOf T.Denot} (λ x. x.label) (option_tie label_tie)) (both_tie (on_tie {C = ExprWhileOf T.Denot} (λ x. x.cond) box) (on_tie {C = ExprWhileOf T.Denot} (λ x. x.body) block_tie))) in it
 
   pub break_kind_tie : IsEqualityOf (expr_break_of f) (break_test.ghosts T (record { eq = E }) no_dict).eq
   break_kind_tie =

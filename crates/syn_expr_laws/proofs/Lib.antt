@@ -4,7 +4,7 @@ pub mod KindTies
 pub mod StructTies
 pub mod Guards
 pub mod PatTies
-pub mod Kids
+pub mod Children
 pub mod Members
 pub mod Filled
 pub mod Sames

@@ -5,12 +5,12 @@ use Rattle.syn_parts.specs.Text.{Text}
 use Rattle.syn_parts.specs.Tree.{AttributeTree, LifetimesTree, ReturnTree, default, given}
 use Rattle.syn_parts.specs.Pat.{PatTree}
 use Rattle.syn_grammar.specs.Tree as e
-use Rattle.syn_grammar.specs.Tree.{Tree, Body, ClosureHead, lead, frame, none, kid}
+use Rattle.syn_grammar.specs.Tree.{Tree, Body, ClosureHead, prefixed, frame, none, child}
 use Rattle.syn_expr_kinds.specs.Pats.{ArmView, strays, closure_by, arms}
 use Rattle.syn_expr_kinds.specs.View.{body_of}
 use Rattle.syn_lower_leaves.proofs.Ties.{pair_path}
 use Rattle.syn_expr_laws.proofs.Shapes.{is_core}
-use Rattle.syn_expr_laws.proofs.Kids.{strays_once, closure_once, arms_once}
+use Rattle.syn_expr_laws.proofs.Children.{strays_once, closure_once, arms_once}
 
 -- ---- the parts of each, and what a tree is made of them
 
@@ -52,28 +52,28 @@ abbrev pub LoopParts : Type 0
 LoopParts = Option Text × ((PatTree × List Tree) × (Tree × List Tok))
 
 abbrev pub loop_with : List AttributeTree → LoopParts → Tree
-loop_with a p = frame (e.for_loop p.0 p.1.0.0) (strays p.1.0.1 (kid e.loop_head (e.braced (body_of a p.1.1.1)) p.1.1.0 none))
+loop_with a p = frame (e.for_loop p.0 p.1.0.0) (strays p.1.0.1 (child e.loop_head (e.braced (body_of a p.1.1.1)) p.1.1.0 none))
 
 pub loop_once : (a b : List AttributeTree) (p q : LoopParts) → loop_with a p ≡ loop_with b q → (a ≡ b) × (p ≡ q)
 loop_once a b p q h =
-    let k : strays p.1.0.1 (kid e.loop_head (e.braced (body_of a p.1.1.1)) p.1.1.0 none) ≡ strays q.1.0.1 (kid e.loop_head (e.braced (body_of b q.1.1.1)) q.1.1.0 none) = cc in
-    let r = strays_once p.1.0.1 q.1.0.1 (kid e.loop_head (e.braced (body_of a p.1.1.1)) p.1.1.0 none) (kid e.loop_head (e.braced (body_of b q.1.1.1)) q.1.1.0 none) refl refl k in
+    let k : strays p.1.0.1 (child e.loop_head (e.braced (body_of a p.1.1.1)) p.1.1.0 none) ≡ strays q.1.0.1 (child e.loop_head (e.braced (body_of b q.1.1.1)) q.1.1.0 none) = cc in
+    let r = strays_once p.1.0.1 q.1.0.1 (child e.loop_head (e.braced (body_of a p.1.1.1)) p.1.1.0 none) (child e.loop_head (e.braced (body_of b q.1.1.1)) q.1.1.0 none) refl refl k in
     let m = r.1 in let n : body_of a p.1.1.1 ≡ body_of b q.1.1.1 = cc in (ap (λ (x : Body). x.inner) n, pair_path (cc) (pair_path (pair_path (cc) r.0) (pair_path (cc) (ap (λ (x : Body). x.tokens) n))))
 
-abbrev pub BindingParts : Type 0
-BindingParts = (PatTree × List Tree) × Tree
+abbrev pub LetParts : Type 0
+LetParts = (PatTree × List Tree) × Tree
 
-abbrev pub binding_with : BindingParts → Tree
-binding_with p = lead (e.binding p.0.0) (strays p.0.1 none) p.1
+abbrev pub let_with : LetParts → Tree
+let_with p = prefixed (e.let_expr p.0.0) (strays p.0.1 none) p.1
 
-pub binding_once : (p q : BindingParts) → binding_with p ≡ binding_with q → p ≡ q
-binding_once p q h = let k : strays p.0.1 none ≡ strays q.0.1 none = cc in pair_path (pair_path (cc) ((strays_once p.0.1 q.0.1 none none refl refl k).0)) (cc)
+pub let_once : (p q : LetParts) → let_with p ≡ let_with q → p ≡ q
+let_once p q h = let k : strays p.0.1 none ≡ strays q.0.1 none = cc in pair_path (pair_path (cc) ((strays_once p.0.1 q.0.1 none none refl refl k).0)) (cc)
 
-abbrev pub choice_with : List AttributeTree → Tree × List ArmView → Tree
-choice_with a p = frame e.choice (kid e.scrutinee (e.opened a) p.0 (arms p.1))
+abbrev pub match_with : List AttributeTree → Tree × List ArmView → Tree
+match_with a p = frame e.match_expr (child e.scrutinee (e.opened a) p.0 (arms p.1))
 
-pub choice_once : (a b : List AttributeTree) (p q : Tree × List ArmView) → choice_with a p ≡ choice_with b q → (a ≡ b) × (p ≡ q)
-choice_once a b p q h = let k : arms p.1 ≡ arms q.1 = cc in (cc, pair_path (cc) (arms_once p.1 q.1 k))
+pub match_once : (a b : List AttributeTree) (p q : Tree × List ArmView) → match_with a p ≡ match_with b q → (a ≡ b) × (p ≡ q)
+match_once a b p q h = let k : arms p.1 ≡ arms q.1 = cc in (cc, pair_path (cc) (arms_once p.1 q.1 k))
 
 -- the guards of a pattern and one behind them
 pub last_once : (gs hs : List Tree) (g h : Tree) → gs ++ g ∷ [] ≡ hs ++ h ∷ [] → (gs ≡ hs) × (g ≡ h)

@@ -198,8 +198,8 @@ module _ (T : RattleType) {g : T.Denot → PatView} {E : T.Denot → T.Denot →
   abbrev listed : {A : Type 0} → Punctuated T.Denot A → Listed
   listed p = (pats_in g (values p), (guards_in g (values p), trails p))
 
-  trees_told : (l m : List PatTree) → t.pats_of l ≡ t.pats_of m → l ≡ m
-  trees_told l m h = sym (pats-pats_of l) ∙ (ap t.pats h ∙ pats-pats_of m)
+  trees_known : (l m : List PatTree) → t.pats_of l ≡ t.pats_of m → l ≡ m
+  trees_known l m h = sym (pats-pats_of l) ∙ (ap t.pats h ∙ pats-pats_of m)
 
   of_views : (l : List T.Denot) → ◌≡◌ {A = Pats × List Tree} (pats_in g l, guards_in g l) (t.pats_of (map (λ v. v.tree) (map g l)), flat_map (λ v. v.guards) (map g l))
   of_views [] = refl
@@ -214,20 +214,20 @@ module _ (T : RattleType) {g : T.Denot → PatView} {E : T.Denot → T.Denot →
           pair_path (ap (λ p. p.0) k) (pair_path (ap (λ p. p.1) k) (ap (λ p. p.1) h))
 
       back : (x y : Punctuated T.Denot A) → listed x ≡ listed y → ◌≡◌ {A = List PatView × Bool} (map g (values x), trails x) (map g (values y), trails y)
-      back x y h = pair_path (views_once g filled (values x) (values y) (trees_told (map (λ p. (g p).tree) (values x)) (map (λ p. (g p).tree) (values y)) (ap (λ p. p.0) h)) (ap (λ p. p.1.0) h)) (ap (λ p. p.1.1) h)
+      back x y h = pair_path (views_once g filled (values x) (values y) (trees_known (map (λ p. (g p).tree) (values x)) (map (λ p. (g p).tree) (values y)) (ap (λ p. p.0) h)) (ap (λ p. p.1.0) h)) (ap (λ p. p.1.1) h)
 
   -- those of a closure's arguments, as lists
-  abbrev told : {A : Type 0} → Punctuated T.Denot A → List PatTree × (List Tree × Bool)
-  told p = (map (λ v. v.tree) (map g (values p)), (flat_map (λ v. v.guards) (map g (values p)), trails p))
+  abbrev known : {A : Type 0} → Punctuated T.Denot A → List PatTree × (List Tree × Bool)
+  known p = (map (λ v. v.tree) (map g (values p)), (flat_map (λ v. v.guards) (map g (values p)), trails p))
 
   of_lists : (l : List T.Denot) → ◌≡◌ {A = List PatTree × List Tree} (map (λ v. v.tree) (map g l), flat_map (λ v. v.guards) (map g l)) (map (λ p. (g p).tree) l, flat_map (λ p. (g p).guards) l)
   of_lists [] = refl
   of_lists (x ∷ xs) = let h = of_lists xs in pair_path (ap (λ p. (g x).tree ∷ p.0) h) (ap (λ p. (g x).guards ++ p.1) h)
 
-  pub told_tie : {A : Type 0} → IsEqualityOf {A = Punctuated T.Denot A} told (PunctTest E)
-  told_tie {A} = into_tie {f = λ (p : Punctuated T.Denot A). (map g (values p), trails p)} told (λ x y h. ap (λ p. (map (λ v. v.tree) p.0, (flat_map (λ v. v.guards) p.0, p.1))) h) back (punctuated_tie tie)
+  pub known_tie : {A : Type 0} → IsEqualityOf {A = Punctuated T.Denot A} known (PunctTest E)
+  known_tie {A} = into_tie {f = λ (p : Punctuated T.Denot A). (map g (values p), trails p)} known (λ x y h. ap (λ p. (map (λ v. v.tree) p.0, (flat_map (λ v. v.guards) p.0, p.1))) h) back (punctuated_tie tie)
     where
-      back : (x y : Punctuated T.Denot A) → told x ≡ told y → ◌≡◌ {A = List PatView × Bool} (map g (values x), trails x) (map g (values y), trails y)
+      back : (x y : Punctuated T.Denot A) → known x ≡ known y → ◌≡◌ {A = List PatView × Bool} (map g (values x), trails x) (map g (values y), trails y)
       back x y h =
           let k = sym (of_lists (values x)) ∙ (ap (λ p. (p.0, p.1.0)) h ∙ of_lists (values y)) in
           pair_path (views_once g filled (values x) (values y) (ap (λ p. p.0) k) (ap (λ p. p.1) k)) (ap (λ p. p.1.1) h)
@@ -281,8 +281,8 @@ module _ (T : RattleType) {g : T.Denot → PatView} {E : T.Denot → T.Denot →
   abbrev fielded : {A : Type 0} → Punctuated (FieldPatOf T.Denot) A → Fielded
   fielded p = (t.fields_of (map (field_pat_of g) (values p)), (flat_map (λ y. field_guards g y.kind) (values p), trails p))
 
-  fields_told : (l m : List FieldPatTree) → t.fields_of l ≡ t.fields_of m → l ≡ m
-  fields_told l m h = sym (fields-fields_of l) ∙ (ap t.fields h ∙ fields-fields_of m)
+  fields_known : (l m : List FieldPatTree) → t.fields_of l ≡ t.fields_of m → l ≡ m
+  fields_known l m h = sym (fields-fields_of l) ∙ (ap t.fields h ∙ fields-fields_of m)
 
   filled_field : (k : FieldPatKindOf T.Denot) → length (field_guards g k) ≡ field_places (field_of g k)
   unfolding field_places
@@ -314,7 +314,7 @@ module _ (T : RattleType) {g : T.Denot → PatView} {E : T.Denot → T.Denot →
           pair_path (ap (λ p. t.fields_of p.0) k) (pair_path (ap (λ p. p.1) k) (ap (λ p. p.1) h))
 
       back : (x y : Punctuated (FieldPatOf T.Denot) A) → fielded x ≡ fielded y → ◌≡◌ {A = List (List AttributeTree × FieldView) × Bool} (map field_view (values x), trails x) (map field_view (values y), trails y)
-      back x y h = pair_path (fields_once (values x) (values y) (fields_told (map (field_pat_of g) (values x)) (map (field_pat_of g) (values y)) (ap (λ p. p.0) h)) (ap (λ p. p.1.0) h)) (ap (λ p. p.1.1) h)
+      back x y h = pair_path (fields_once (values x) (values y) (fields_known (map (field_pat_of g) (values x)) (map (field_pat_of g) (values y)) (ap (λ p. p.0) h)) (ap (λ p. p.1.0) h)) (ap (λ p. p.1.1) h)
 
   pub struct_tie : IsEqualityOf (pat_struct_of g) (struct_test.ghosts T (record { eq = E }) no_dict).eq
   struct_tie = let it = pat_tie {A = PatStructOf T.Denot} {B = PathTree × (Fielded × Bool)} (λ x. x.attrs) (λ b. t.a_struct b.0 b.1.0.0 b.1.0.1.1 b.1.1) (λ b. b.1.0.1.0) (λ b. refl) (λ x y h k. pair_path (cc) (pair_path (pair_path (cc) (pair_path k (cc))) (cc)))

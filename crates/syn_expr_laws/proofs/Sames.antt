@@ -12,7 +12,7 @@ use Rattle.syn_parts.specs.Tree.{AttributeTree, ReturnTree, default, given}
 use Rattle.syn_parts.specs.Pat as t
 use Rattle.syn_parts.specs.Pat.{PatTree}
 use Rattle.syn_grammar.specs.Tree as e
-use Rattle.syn_grammar.specs.Tree.{Tree, Leaf, Lead, Jump, Frame, Trailer, leaf, paren, lead, mid, post, tail, frame, none, kid, adorn, adorned}
+use Rattle.syn_grammar.specs.Tree.{Tree, Leaf, Prefix, Jump, Frame, Trailer, leaf, paren, prefixed, infixed, postfixed, tail, frame, none, child, attributed_with, attributed}
 use Rattle.syn_grammar.specs.declared.kinds.Limits.{Limits}
 use Rattle.syn_grammar.specs.declared.kinds.Infix.{Infix}
 use Rattle.syn_grammar.specs.declared.kinds.Infix.TheVariants as inf
@@ -29,7 +29,7 @@ use Rattle.syn_expr_parts.proofs.Ties.{label_tie, modifiers_tie}
 use Rattle.syn_pat_kinds.specs.View.{PatView, attributed_by, attributes_of, pats_in, sub_of, field_pat_of, is_closed, bound_of}
 use Rattle.syn_expr_kinds.specs.Pats.{ArmView, closure_by}
 use Rattle.syn_expr_kinds.specs.Attrs.{attrs_of, outer_of, inner_of}
-use Rattle.syn_expr_kinds.specs.View.{range_between, jump_with, field_value_of, elements, boxed, fields, option_kid, body_of, else_of, turbofish_of}
+use Rattle.syn_expr_kinds.specs.View.{range_between, jump_with, field_value_of, elements, boxed, fields, option_child, body_of, else_of, turbofish_of}
 use Rattle.syn_expr_kinds.specs.contracts.structure.FieldValueOfPartialEq.TheImpl as field_value_test
 use Rattle.syn_expr_all.specs.declared.expr.Expr.{Expr}
 use Rattle.syn_expr_all.specs.declared.expr.Expr.TheBlock as block
@@ -49,17 +49,17 @@ use Rattle.syn_expr_all.specs.contracts.pat.PatGuardPartialEq.TheImpl as guard_t
 use Rattle.syn_expr_all.specs.contracts.closure.ExprClosurePartialEq.TheImpl as closure_test
 use Rattle.syn_expr_all.specs.contracts.control.ArmPartialEq.TheImpl as arm_test
 use Rattle.syn_expr_all.specs.contracts.control.ExprForLoopPartialEq.TheImpl as for_loop_test
-use Rattle.syn_expr_all.specs.contracts.control.ExprLetPartialEq.TheImpl as binding_test
-use Rattle.syn_expr_all.specs.contracts.control.ExprMatchPartialEq.TheImpl as choice_test
-use Rattle.syn_expr_all.specs.View.{tree_of, pat_of, closure_of, arm_of, for_loop_of, binding_of, choice_of, guard_of}
-use Rattle.syn_expr_all.proofs.TreeOf.{tree-Array, tree-Assign, tree-Async, tree-Await, tree-Binary, tree-Block, tree-Break, tree-Call, tree-Cast, tree-Closure, tree-Const, tree-Continue, tree-Field, tree-ForLoop, tree-Group, tree-If, tree-Index, tree-Infer, tree-Let, tree-Lit, tree-Loop, tree-Macro, tree-Match, tree-MethodCall, tree-Paren, tree-Path, tree-Range, tree-RawAddr, tree-Reference, tree-Repeat, tree-Return, tree-Struct, tree-Try, tree-TryBlock, tree-Tuple, tree-Unary, tree-Unsafe, tree-While, tree-Yield, tree-Verbatim, pat-Const, pat-Guard, pat-Ident, pat-Lit, pat-Macro, pat-Or, pat-Paren, pat-Path, pat-Range, pat-Reference, pat-Rest, pat-Slice, pat-Struct, pat-Tuple, pat-TupleStruct, pat-Typed, pat-Wild, closure-is, arm-is, for_loop-is, binding-is, choice-is, guard-is}
+use Rattle.syn_expr_all.specs.contracts.control.ExprLetPartialEq.TheImpl as let_test
+use Rattle.syn_expr_all.specs.contracts.control.ExprMatchPartialEq.TheImpl as match_test
+use Rattle.syn_expr_all.specs.View.{tree_of, pat_of, closure_of, arm_of, for_loop_of, let_of, match_of, guard_of}
+use Rattle.syn_expr_all.proofs.TreeOf.{tree-Array, tree-Assign, tree-Async, tree-Await, tree-Binary, tree-Block, tree-Break, tree-Call, tree-Cast, tree-Closure, tree-Const, tree-Continue, tree-Field, tree-ForLoop, tree-Group, tree-If, tree-Index, tree-Infer, tree-Let, tree-Lit, tree-Loop, tree-Macro, tree-Match, tree-MethodCall, tree-Paren, tree-Path, tree-Range, tree-RawAddr, tree-Reference, tree-Repeat, tree-Return, tree-Struct, tree-Try, tree-TryBlock, tree-Tuple, tree-Unary, tree-Unsafe, tree-While, tree-Yield, tree-Verbatim, pat-Const, pat-Guard, pat-Ident, pat-Lit, pat-Macro, pat-Or, pat-Paren, pat-Path, pat-Range, pat-Reference, pat-Rest, pat-Slice, pat-Struct, pat-Tuple, pat-TupleStruct, pat-Typed, pat-Wild, closure-is, arm-is, for_loop-is, let_expr-is, match_expr-is, guard-is}
 use Rattle.syn_expr_laws.proofs.TreeEq.{tree_eq, pat_eq, attributes_eq}
 use Rattle.syn_expr_laws.proofs.Shapes.{attrs_tie, behind_tie, around_tie}
 use Rattle.syn_expr_laws.proofs.KindTies as kinds
 use Rattle.syn_expr_laws.proofs.StructTies as structs
 use Rattle.syn_expr_laws.proofs.PatTies as pats
-use Rattle.syn_expr_laws.proofs.PatTies.{pat_tie, told_tie}
-use Rattle.syn_expr_laws.proofs.Members.{ClosureParts, closure_head, closure_with, closure_core, closure_parts_once, LoopParts, loop_with, loop_once, BindingParts, binding_with, binding_once, choice_with, choice_once, last_once}
+use Rattle.syn_expr_laws.proofs.PatTies.{pat_tie, known_tie}
+use Rattle.syn_expr_laws.proofs.Members.{ClosureParts, closure_head, closure_with, closure_core, closure_parts_once, LoopParts, loop_with, loop_once, LetParts, let_with, let_once, match_with, match_once, last_once}
 use Rattle.syn_expr_laws.proofs.Guards.{view_path}
 use Rattle.syn_expr_laws.proofs.Filled.{filled}
 
@@ -83,8 +83,8 @@ test block.member-Pat x y = decides (view_eq (pat_of x) (pat_of y))
 test block.member-ExprClosure x y = decides (tree_eq (closure_of x) (closure_of y))
 test block.member-Arm x y = decides (arm_eq (arm_of x) (arm_of y))
 test block.member-ExprForLoop x y = decides (tree_eq (for_loop_of x) (for_loop_of y))
-test block.member-ExprLet x y = decides (tree_eq (binding_of x) (binding_of y))
-test block.member-ExprMatch x y = decides (tree_eq (choice_of x) (choice_of y))
+test block.member-ExprLet x y = decides (tree_eq (let_of x) (let_of y))
+test block.member-ExprMatch x y = decides (tree_eq (match_of x) (match_of y))
 test block.member-PatGuard x y = decides (view_eq (guard_of x) (guard_of y))
 
 expr_tests : IsEqualityOf tree_of (λ (x y : Expr). test block.member-Expr x y)
@@ -107,13 +107,13 @@ for_loop_tests : IsEqualityOf for_loop_of (λ (x y : ExprForLoop). test block.me
 unfolding test
 for_loop_tests = decided_tie for_loop_of tree_eq
 
-binding_tests : IsEqualityOf binding_of (λ (x y : ExprLet). test block.member-ExprLet x y)
+let_tests : IsEqualityOf let_of (λ (x y : ExprLet). test block.member-ExprLet x y)
 unfolding test
-binding_tests = decided_tie binding_of tree_eq
+let_tests = decided_tie let_of tree_eq
 
-choice_tests : IsEqualityOf choice_of (λ (x y : ExprMatch). test block.member-ExprMatch x y)
+match_tests : IsEqualityOf match_of (λ (x y : ExprMatch). test block.member-ExprMatch x y)
 unfolding test
-choice_tests = decided_tie choice_of tree_eq
+match_tests = decided_tie match_of tree_eq
 
 guard_tests : IsEqualityOf guard_of (λ (x y : PatGuard). test block.member-PatGuard x y)
 unfolding test
@@ -130,7 +130,7 @@ closure_parts x = let c = out-ExprClosure x in (mapped lifetimes_of c.lifetimes,
 closure_steps : IsEqualityOf closure_of (λ (x y : ExprClosure). step block.member-ExprClosure x y)
 closure_steps = along closure-is (behind_tie {A = ExprClosure} (λ x. (out-ExprClosure x).attrs) (λ x. closure_core (closure_parts x)) (made_tie {B = ClosureParts} closure_with closure_parts_once
     (both_tie (on_tie {C = ExprClosure} (λ x. (out-ExprClosure x).lifetimes) (option_tie lifetimes_tie)) (both_tie (on_tie {C = ExprClosure} (λ x. (out-ExprClosure x).modifiers) modifiers_tie) (both_tie (on_tie {C = ExprClosure} (λ x. (out-ExprClosure x).constness) some_tie) (both_tie (on_tie {C = ExprClosure} (λ x. (out-ExprClosure x).asyncness) some_tie)
-    (both_tie (on_tie {C = ExprClosure} (λ x. (out-ExprClosure x).capture) some_tie) (both_tie (on_tie {C = ExprClosure} (λ x. (out-ExprClosure x).inputs) (told_tie pat_row.the_row pat_tests filled)) (both_tie (on_tie {C = ExprClosure} (λ x. (out-ExprClosure x).output) return_tie)
+    (both_tie (on_tie {C = ExprClosure} (λ x. (out-ExprClosure x).capture) some_tie) (both_tie (on_tie {C = ExprClosure} (λ x. (out-ExprClosure x).inputs) (known_tie pat_row.the_row pat_tests filled)) (both_tie (on_tie {C = ExprClosure} (λ x. (out-ExprClosure x).output) return_tie)
     (on_tie {C = ExprClosure} (λ x. (out-ExprClosure x).body.value) expr_tests))))))))))
 
 arm_steps : IsEqualityOf arm_of (λ (x y : Arm). step block.member-Arm x y)
@@ -146,12 +146,12 @@ for_loop_steps : IsEqualityOf for_loop_of (λ (x y : ExprForLoop). step block.me
 for_loop_steps = along for_loop-is (around_tie {A = ExprForLoop} {B = LoopParts} (λ x. (out-ExprForLoop x).attrs) loop_with (λ a p. refl) loop_once
     (both_tie (on_tie {C = ExprForLoop} (λ x. (out-ExprForLoop x).label) (option_tie label_tie)) (both_tie (parts_tests (λ x. (out-ExprForLoop x).pat.value)) (both_tie (on_tie {C = ExprForLoop} (λ x. (out-ExprForLoop x).expr.value) expr_tests) (on_tie {C = ExprForLoop} (λ x. (out-ExprForLoop x).body) block_tie)))))
 
-binding_steps : IsEqualityOf binding_of (λ (x y : ExprLet). step block.member-ExprLet x y)
-binding_steps = along binding-is (behind_tie {A = ExprLet} (λ x. (out-ExprLet x).attrs) (λ x. refl) (made_tie {B = BindingParts} binding_with binding_once
+let_steps : IsEqualityOf let_of (λ (x y : ExprLet). step block.member-ExprLet x y)
+let_steps = along let_expr-is (behind_tie {A = ExprLet} (λ x. (out-ExprLet x).attrs) (λ x. refl) (made_tie {B = LetParts} let_with let_once
     (both_tie (parts_tests (λ x. (out-ExprLet x).pat.value)) (on_tie {C = ExprLet} (λ x. (out-ExprLet x).expr.value) expr_tests))))
 
-choice_steps : IsEqualityOf choice_of (λ (x y : ExprMatch). step block.member-ExprMatch x y)
-choice_steps = along choice-is (around_tie {A = ExprMatch} {B = Tree × List ArmView} (λ x. (out-ExprMatch x).attrs) choice_with (λ a p. refl) choice_once
+match_steps : IsEqualityOf match_of (λ (x y : ExprMatch). step block.member-ExprMatch x y)
+match_steps = along match_expr-is (around_tie {A = ExprMatch} {B = Tree × List ArmView} (λ x. (out-ExprMatch x).attrs) match_with (λ a p. refl) match_once
     (both_tie (on_tie {C = ExprMatch} (λ x. (out-ExprMatch x).expr.value) expr_tests) (on_tie {C = ExprMatch} (λ x. (out-ExprMatch x).arms.items) (list_tie arm_tests))))
 
 guard_steps : IsEqualityOf guard_of (λ (x y : PatGuard). step block.member-PatGuard x y)
@@ -175,21 +175,21 @@ leaf_kind (e.full_range l) = 26
 leaf_kind (e.bare_jump j) = jump_kind j
 leaf_kind (e.continuing l) = 11
 leaf_kind (e.block l b) = 5
-leaf_kind (e.looping l b) = 20
+leaf_kind (e.loop_expr l b) = 20
 leaf_kind (e.unsafe_block b) = 36
 leaf_kind (e.const_block b) = 10
 leaf_kind (e.async_block m ts) = 2
 leaf_kind (e.try_block ts) = 33
 leaf_kind (e.verbatim ts) = 39
 
-abbrev lead_kind : Lead → ℕ
-lead_kind (e.unary op) = 35
-lead_kind (e.reference m) = 28
-lead_kind (e.raw_addr m) = 27
-lead_kind (e.range_to l) = 26
-lead_kind (e.binding p) = 18
-lead_kind (e.jump j) = jump_kind j
-lead_kind (e.closure h) = 9
+abbrev prefix_kind : Prefix → ℕ
+prefix_kind (e.unary op) = 35
+prefix_kind (e.reference m) = 28
+prefix_kind (e.raw_addr m) = 27
+prefix_kind (e.range_to l) = 26
+prefix_kind (e.let_expr p) = 18
+prefix_kind (e.jump j) = jump_kind j
+prefix_kind (e.closure h) = 9
 
 abbrev infix_kind : Infix → ℕ
 infix_kind (inf.Binary op) = 4
@@ -203,7 +203,7 @@ trailer_kind e.index = 16
 trailer_kind (e.method w a) = 23
 trailer_kind (e.field m) = 12
 trailer_kind e.await = 3
-trailer_kind e.question = 32
+trailer_kind e.try_expr = 32
 
 abbrev frame_kind : Frame → ℕ
 frame_kind e.array = 0
@@ -211,24 +211,24 @@ frame_kind e.tuple = 34
 frame_kind e.repeat = 29
 frame_kind (e.structure q p d) = 31
 frame_kind (e.closure_block h) = 9
-frame_kind e.branch = 15
+frame_kind e.if_expr = 15
 frame_kind (e.while_loop l) = 37
 frame_kind (e.for_loop l p) = 13
-frame_kind e.choice = 22
-frame_kind e.invisible = 14
+frame_kind e.match_expr = 22
+frame_kind e.group_expr = 14
 
 abbrev tree_kind : Tree → ℕ
 tree_kind (leaf k) = leaf_kind k
 tree_kind (paren m x) = 24
-tree_kind (adorned a more x) = tree_kind x
-tree_kind (lead k gs x) = lead_kind k
-tree_kind (mid x k y) = infix_kind k
-tree_kind (post x (e.cast ty)) = 8
-tree_kind (post x (e.range_from l)) = 26
+tree_kind (attributed a more x) = tree_kind x
+tree_kind (prefixed k gs x) = prefix_kind k
+tree_kind (infixed x k y) = infix_kind k
+tree_kind (postfixed x (e.cast ty)) = 8
+tree_kind (postfixed x (e.range_from l)) = 26
 tree_kind (tail b k ks) = trailer_kind k
 tree_kind (frame k ks) = frame_kind k
 
-kind_behind : (ats : List AttributeTree) (x : Tree) → tree_kind (adorn ats x) ≡ tree_kind x
+kind_behind : (ats : List AttributeTree) (x : Tree) → tree_kind (attributed_with ats x) ≡ tree_kind x
 kind_behind [] x = refl
 kind_behind (a ∷ more) x = refl
 
@@ -253,52 +253,52 @@ kind_closure p = by p.1.1.1.1.1.1.0
 abbrev loop_core : ExprForLoop → Tree
 loop_core x = let c = out-ExprForLoop x in loop_with (inner_of c.attrs) (mapped label_of c.label, (((pat_of c.pat.value).tree, (pat_of c.pat.value).guards), (tree_of c.expr.value, c.body.stmts)))
 
-abbrev binding_core : ExprLet → Tree
-binding_core x = let c = out-ExprLet x in binding_with (((pat_of c.pat.value).tree, (pat_of c.pat.value).guards), tree_of c.expr.value)
+abbrev let_core : ExprLet → Tree
+let_core x = let c = out-ExprLet x in let_with (((pat_of c.pat.value).tree, (pat_of c.pat.value).guards), tree_of c.expr.value)
 
-abbrev choice_core : ExprMatch → Tree
-choice_core x = let c = out-ExprMatch x in choice_with (inner_of c.attrs) (tree_of c.expr.value, map arm_of c.arms.items)
+abbrev match_core : ExprMatch → Tree
+match_core x = let c = out-ExprMatch x in match_with (inner_of c.attrs) (tree_of c.expr.value, map arm_of c.arms.items)
 
 expr_steps : IsEqualityOf tree_of (λ (x y : Expr). step block.member-Expr x y)
 expr_steps =
     let it = (rank_more tree_kind {k = 0} {view = λ (c : Choice expr_row.the_parts). tree_of (expr_row.the_make c)} (along (λ v. tree-Array v.0) (on_tie (λ v. v.0) (kinds.array_kind_tie expr_row.the_row expr_tests))) (λ v. ap tree_kind (tree-Array v.0) ∙ kind_behind (attrs_of v.0.attrs) (frame e.array (elements (map tree_of (values v.0.elems)) (trails v.0.elems))))
-    (rank_more tree_kind (along (λ v. tree-Assign v.0) (on_tie (λ v. v.0) (kinds.assign_kind_tie expr_row.the_row expr_tests))) (λ v. ap tree_kind (tree-Assign v.0) ∙ kind_behind (attrs_of v.0.attrs) (mid (tree_of v.0.left.value) inf.Assign (tree_of v.0.right.value)))
+    (rank_more tree_kind (along (λ v. tree-Assign v.0) (on_tie (λ v. v.0) (kinds.assign_kind_tie expr_row.the_row expr_tests))) (λ v. ap tree_kind (tree-Assign v.0) ∙ kind_behind (attrs_of v.0.attrs) (infixed (tree_of v.0.left.value) inf.Assign (tree_of v.0.right.value)))
     (rank_more tree_kind (along (λ v. tree-Async v.0) (on_tie (λ v. v.0) kinds.async_kind_tie)) (λ v. ap tree_kind (tree-Async v.0) ∙ kind_behind (attrs_of v.0.attrs) (leaf (e.async_block (is_some v.0.capture) v.0.block.stmts)))
     (rank_more tree_kind (along (λ v. tree-Await v.0) (on_tie (λ v. v.0) (kinds.await_kind_tie expr_row.the_row expr_tests))) (λ v. ap tree_kind (tree-Await v.0) ∙ kind_behind (attrs_of v.0.attrs) (tail (tree_of v.0.base.value) e.await none))
-    (rank_more tree_kind (along (λ v. tree-Binary v.0) (on_tie (λ v. v.0) (kinds.binary_kind_tie expr_row.the_row expr_tests))) (λ v. ap tree_kind (tree-Binary v.0) ∙ kind_behind (attrs_of v.0.attrs) (mid (tree_of v.0.left.value) (inf.Binary (bin_kind v.0.op)) (tree_of v.0.right.value)))
+    (rank_more tree_kind (along (λ v. tree-Binary v.0) (on_tie (λ v. v.0) (kinds.binary_kind_tie expr_row.the_row expr_tests))) (λ v. ap tree_kind (tree-Binary v.0) ∙ kind_behind (attrs_of v.0.attrs) (infixed (tree_of v.0.left.value) (inf.Binary (bin_kind v.0.op)) (tree_of v.0.right.value)))
     (rank_more tree_kind (along (λ v. tree-Block v.0) (on_tie (λ v. v.0) kinds.block_kind_tie)) (λ v. ap tree_kind (tree-Block v.0) ∙ kind_behind (outer_of v.0.attrs) (leaf (e.block (mapped label_of v.0.label) (body_of (inner_of v.0.attrs) v.0.block.stmts))))
     (rank_more tree_kind (along (λ v. tree-Break v.0) (on_tie (λ v. v.0) (kinds.break_kind_tie expr_row.the_row expr_tests))) (λ v. ap tree_kind (tree-Break v.0) ∙ (kind_behind (attrs_of v.0.attrs) (jump_with (e.breaking (mapped lifetime_of v.0.label)) (boxed tree_of v.0.expr)) ∙ kind_jump (e.breaking (mapped lifetime_of v.0.label)) (boxed tree_of v.0.expr)))
     (rank_more tree_kind (along (λ v. tree-Call v.0) (on_tie (λ v. v.0) (kinds.call_kind_tie expr_row.the_row expr_tests))) (λ v. ap tree_kind (tree-Call v.0) ∙ kind_behind (attrs_of v.0.attrs) (tail (tree_of v.0.func.value) e.call (elements (map tree_of (values v.0.args)) (trails v.0.args))))
-    (rank_more tree_kind (along (λ v. tree-Cast v.0) (on_tie (λ v. v.0) (kinds.cast_kind_tie expr_row.the_row expr_tests))) (λ v. ap tree_kind (tree-Cast v.0) ∙ kind_behind (attrs_of v.0.attrs) (post (tree_of v.0.expr.value) (e.cast (type_of v.0.ty.value))))
+    (rank_more tree_kind (along (λ v. tree-Cast v.0) (on_tie (λ v. v.0) (kinds.cast_kind_tie expr_row.the_row expr_tests))) (λ v. ap tree_kind (tree-Cast v.0) ∙ kind_behind (attrs_of v.0.attrs) (postfixed (tree_of v.0.expr.value) (e.cast (type_of v.0.ty.value))))
     (rank_more tree_kind (along (λ v. tree-Closure v.0) (on_tie (λ v. v.0) closure_tests)) (λ v. ap tree_kind (tree-Closure v.0) ∙ (ap tree_kind (closure-is v.0) ∙ (kind_behind (attrs_of (out-ExprClosure v.0).attrs) (closure_with (closure_parts v.0)) ∙ kind_closure (closure_parts v.0))))
     (rank_more tree_kind (along (λ v. tree-Const v.0) (on_tie (λ v. v.0) kinds.const_kind_tie)) (λ v. ap tree_kind (tree-Const v.0) ∙ kind_behind (outer_of v.0.attrs) (leaf (e.const_block (body_of (inner_of v.0.attrs) v.0.block.stmts))))
     (rank_more tree_kind (along (λ v. tree-Continue v.0) (on_tie (λ v. v.0) kinds.continue_kind_tie)) (λ v. ap tree_kind (tree-Continue v.0) ∙ kind_behind (attrs_of v.0.attrs) (leaf (e.continuing (mapped lifetime_of v.0.label))))
     (rank_more tree_kind (along (λ v. tree-Field v.0) (on_tie (λ v. v.0) (kinds.field_kind_tie expr_row.the_row expr_tests))) (λ v. ap tree_kind (tree-Field v.0) ∙ kind_behind (attrs_of v.0.attrs) (tail (tree_of v.0.base.value) (e.field (member_of v.0.member)) none))
     (rank_more tree_kind (along (λ v. tree-ForLoop v.0) (on_tie (λ v. v.0) for_loop_tests)) (λ v. ap tree_kind (tree-ForLoop v.0) ∙ (ap tree_kind (for_loop-is v.0) ∙ kind_behind (outer_of (out-ExprForLoop v.0).attrs) (loop_core v.0)))
-    (rank_more tree_kind (along (λ v. tree-Group v.0) (on_tie (λ v. v.0) (kinds.group_kind_tie expr_row.the_row expr_tests))) (λ v. ap tree_kind (tree-Group v.0) ∙ kind_behind (attrs_of v.0.attrs) (frame e.invisible (kid e.grouped e.no_ending (tree_of v.0.expr.value) none)))
-    (rank_more tree_kind (along (λ v. tree-If v.0) (on_tie (λ v. v.0) (kinds.if_kind_tie expr_row.the_row expr_tests))) (λ v. ap tree_kind (tree-If v.0) ∙ kind_behind (attrs_of v.0.attrs) (frame e.branch (kid e.condition (e.braced (body_of [] v.0.then_branch.stmts)) (tree_of v.0.cond.value) (else_of tree_of v.0.else_branch))))
-    (rank_more tree_kind (along (λ v. tree-Index v.0) (on_tie (λ v. v.0) (kinds.index_kind_tie expr_row.the_row expr_tests))) (λ v. ap tree_kind (tree-Index v.0) ∙ kind_behind (attrs_of v.0.attrs) (tail (tree_of v.0.expr.value) e.index (kid e.value e.no_ending (tree_of v.0.index.value) none)))
+    (rank_more tree_kind (along (λ v. tree-Group v.0) (on_tie (λ v. v.0) (kinds.group_kind_tie expr_row.the_row expr_tests))) (λ v. ap tree_kind (tree-Group v.0) ∙ kind_behind (attrs_of v.0.attrs) (frame e.group_expr (child e.grouped e.no_ending (tree_of v.0.expr.value) none)))
+    (rank_more tree_kind (along (λ v. tree-If v.0) (on_tie (λ v. v.0) (kinds.if_kind_tie expr_row.the_row expr_tests))) (λ v. ap tree_kind (tree-If v.0) ∙ kind_behind (attrs_of v.0.attrs) (frame e.if_expr (child e.condition (e.braced (body_of [] v.0.then_branch.stmts)) (tree_of v.0.cond.value) (else_of tree_of v.0.else_branch))))
+    (rank_more tree_kind (along (λ v. tree-Index v.0) (on_tie (λ v. v.0) (kinds.index_kind_tie expr_row.the_row expr_tests))) (λ v. ap tree_kind (tree-Index v.0) ∙ kind_behind (attrs_of v.0.attrs) (tail (tree_of v.0.expr.value) e.index (child e.value e.no_ending (tree_of v.0.index.value) none)))
     (rank_more tree_kind (along (λ v. tree-Infer v.0) (on_tie (λ v. v.0) kinds.infer_kind_tie)) (λ v. ap tree_kind (tree-Infer v.0) ∙ kind_behind (attrs_of v.0.attrs) (leaf e.infer))
-    (rank_more tree_kind (along (λ v. tree-Let v.0) (on_tie (λ v. v.0) binding_tests)) (λ v. ap tree_kind (tree-Let v.0) ∙ (ap tree_kind (binding-is v.0) ∙ kind_behind (attrs_of (out-ExprLet v.0).attrs) (binding_core v.0)))
+    (rank_more tree_kind (along (λ v. tree-Let v.0) (on_tie (λ v. v.0) let_tests)) (λ v. ap tree_kind (tree-Let v.0) ∙ (ap tree_kind (let_expr-is v.0) ∙ kind_behind (attrs_of (out-ExprLet v.0).attrs) (let_core v.0)))
     (rank_more tree_kind (along (λ v. tree-Lit v.0) (on_tie (λ v. v.0) kinds.lit_kind_tie)) (λ v. ap tree_kind (tree-Lit v.0) ∙ kind_behind (attrs_of v.0.attrs) (leaf (e.lit (lit_of v.0.lit))))
-    (rank_more tree_kind (along (λ v. tree-Loop v.0) (on_tie (λ v. v.0) kinds.loop_kind_tie)) (λ v. ap tree_kind (tree-Loop v.0) ∙ kind_behind (outer_of v.0.attrs) (leaf (e.looping (mapped label_of v.0.label) (body_of (inner_of v.0.attrs) v.0.body.stmts))))
+    (rank_more tree_kind (along (λ v. tree-Loop v.0) (on_tie (λ v. v.0) kinds.loop_kind_tie)) (λ v. ap tree_kind (tree-Loop v.0) ∙ kind_behind (outer_of v.0.attrs) (leaf (e.loop_expr (mapped label_of v.0.label) (body_of (inner_of v.0.attrs) v.0.body.stmts))))
     (rank_more tree_kind (along (λ v. tree-Macro v.0) (on_tie (λ v. v.0) kinds.mac_kind_tie)) (λ v. ap tree_kind (tree-Macro v.0) ∙ kind_behind (attrs_of v.0.attrs) (leaf (e.mac (macro_of type_of v.0.mac))))
-    (rank_more tree_kind (along (λ v. tree-Match v.0) (on_tie (λ v. v.0) choice_tests)) (λ v. ap tree_kind (tree-Match v.0) ∙ (ap tree_kind (choice-is v.0) ∙ kind_behind (outer_of (out-ExprMatch v.0).attrs) (choice_core v.0)))
+    (rank_more tree_kind (along (λ v. tree-Match v.0) (on_tie (λ v. v.0) match_tests)) (λ v. ap tree_kind (tree-Match v.0) ∙ (ap tree_kind (match_expr-is v.0) ∙ kind_behind (outer_of (out-ExprMatch v.0).attrs) (match_core v.0)))
     (rank_more tree_kind (along (λ v. tree-MethodCall v.0) (on_tie (λ v. v.0) (kinds.method_kind_tie expr_row.the_row expr_tests))) (λ v. ap tree_kind (tree-MethodCall v.0) ∙ kind_behind (attrs_of v.0.attrs) (tail (tree_of v.0.receiver.value) (e.method v.0.method (turbofish_of v.0.turbofish)) (elements (map tree_of (values v.0.args)) (trails v.0.args))))
     (rank_more tree_kind (along (λ v. tree-Paren v.0) (on_tie (λ v. v.0) (kinds.paren_kind_tie expr_row.the_row expr_tests))) (λ v. ap tree_kind (tree-Paren v.0) ∙ kind_behind (attrs_of v.0.attrs) (paren false (tree_of v.0.expr.value)))
     (rank_more tree_kind (along (λ v. tree-Path v.0) (on_tie (λ v. v.0) kinds.path_kind_tie)) (λ v. ap tree_kind (tree-Path v.0) ∙ kind_behind (attrs_of v.0.attrs) (leaf (e.path (qself_or type_of v.0.qself) (path_of type_of v.0.path))))
     (rank_more tree_kind (along (λ v. tree-Range v.0) (on_tie (λ v. v.0) (kinds.range_kind_tie expr_row.the_row expr_tests))) (λ v. ap tree_kind (tree-Range v.0) ∙ (kind_behind (attrs_of v.0.attrs) (range_between (limits_kind v.0.limits) (boxed tree_of v.0.start) (boxed tree_of v.0.end)) ∙ kind_range (limits_kind v.0.limits) (boxed tree_of v.0.start) (boxed tree_of v.0.end)))
-    (rank_more tree_kind (along (λ v. tree-RawAddr v.0) (on_tie (λ v. v.0) (kinds.raw_addr_kind_tie expr_row.the_row expr_tests))) (λ v. ap tree_kind (tree-RawAddr v.0) ∙ kind_behind (attrs_of v.0.attrs) (lead (e.raw_addr (is_mut v.0.mutability)) none (tree_of v.0.expr.value)))
-    (rank_more tree_kind (along (λ v. tree-Reference v.0) (on_tie (λ v. v.0) (kinds.reference_kind_tie expr_row.the_row expr_tests))) (λ v. ap tree_kind (tree-Reference v.0) ∙ kind_behind (attrs_of v.0.attrs) (lead (e.reference (is_some v.0.mutability)) none (tree_of v.0.expr.value)))
-    (rank_more tree_kind (along (λ v. tree-Repeat v.0) (on_tie (λ v. v.0) (kinds.repeat_kind_tie expr_row.the_row expr_tests))) (λ v. ap tree_kind (tree-Repeat v.0) ∙ kind_behind (attrs_of v.0.attrs) (frame e.repeat (kid e.repeated e.no_ending (tree_of v.0.expr.value) (kid e.value e.no_ending (tree_of v.0.len.value) none))))
+    (rank_more tree_kind (along (λ v. tree-RawAddr v.0) (on_tie (λ v. v.0) (kinds.raw_addr_kind_tie expr_row.the_row expr_tests))) (λ v. ap tree_kind (tree-RawAddr v.0) ∙ kind_behind (attrs_of v.0.attrs) (prefixed (e.raw_addr (is_mut v.0.mutability)) none (tree_of v.0.expr.value)))
+    (rank_more tree_kind (along (λ v. tree-Reference v.0) (on_tie (λ v. v.0) (kinds.reference_kind_tie expr_row.the_row expr_tests))) (λ v. ap tree_kind (tree-Reference v.0) ∙ kind_behind (attrs_of v.0.attrs) (prefixed (e.reference (is_some v.0.mutability)) none (tree_of v.0.expr.value)))
+    (rank_more tree_kind (along (λ v. tree-Repeat v.0) (on_tie (λ v. v.0) (kinds.repeat_kind_tie expr_row.the_row expr_tests))) (λ v. ap tree_kind (tree-Repeat v.0) ∙ kind_behind (attrs_of v.0.attrs) (frame e.repeat (child e.repeated e.no_ending (tree_of v.0.expr.value) (child e.value e.no_ending (tree_of v.0.len.value) none))))
     (rank_more tree_kind (along (λ v. tree-Return v.0) (on_tie (λ v. v.0) (kinds.return_kind_tie expr_row.the_row expr_tests))) (λ v. ap tree_kind (tree-Return v.0) ∙ (kind_behind (attrs_of v.0.attrs) (jump_with e.returning (boxed tree_of v.0.expr)) ∙ kind_jump e.returning (boxed tree_of v.0.expr)))
-    (rank_more tree_kind (along (λ v. tree-Struct v.0) (on_tie (λ v. v.0) (structs.struct_kind_tie expr_row.the_row expr_tests))) (λ v. ap tree_kind (tree-Struct v.0) ∙ kind_behind (attrs_of v.0.attrs) (let dots = is_some v.0.dot2_token in let rest = boxed tree_of v.0.rest in frame (e.structure (qself_or type_of v.0.qself) (path_of type_of v.0.path) (dots && not (is_some rest))) (fields (map (field_value_of tree_of) (values v.0.fields)) (trails v.0.fields) (option_kid (e.rest dots) rest))))
-    (rank_more tree_kind (along (λ v. tree-Try v.0) (on_tie (λ v. v.0) (kinds.try_kind_tie expr_row.the_row expr_tests))) (λ v. ap tree_kind (tree-Try v.0) ∙ kind_behind (attrs_of v.0.attrs) (tail (tree_of v.0.expr.value) e.question none))
+    (rank_more tree_kind (along (λ v. tree-Struct v.0) (on_tie (λ v. v.0) (structs.struct_kind_tie expr_row.the_row expr_tests))) (λ v. ap tree_kind (tree-Struct v.0) ∙ kind_behind (attrs_of v.0.attrs) (let dots = is_some v.0.dot2_token in let rest = boxed tree_of v.0.rest in frame (e.structure (qself_or type_of v.0.qself) (path_of type_of v.0.path) (dots && not (is_some rest))) (fields (map (field_value_of tree_of) (values v.0.fields)) (trails v.0.fields) (option_child (e.rest dots) rest))))
+    (rank_more tree_kind (along (λ v. tree-Try v.0) (on_tie (λ v. v.0) (kinds.try_kind_tie expr_row.the_row expr_tests))) (λ v. ap tree_kind (tree-Try v.0) ∙ kind_behind (attrs_of v.0.attrs) (tail (tree_of v.0.expr.value) e.try_expr none))
     (rank_more tree_kind (along (λ v. tree-TryBlock v.0) (on_tie (λ v. v.0) kinds.try_block_kind_tie)) (λ v. ap tree_kind (tree-TryBlock v.0) ∙ kind_behind (attrs_of v.0.attrs) (leaf (e.try_block v.0.block.stmts)))
     (rank_more tree_kind (along (λ v. tree-Tuple v.0) (on_tie (λ v. v.0) (kinds.tuple_kind_tie expr_row.the_row expr_tests))) (λ v. ap tree_kind (tree-Tuple v.0) ∙ kind_behind (attrs_of v.0.attrs) (frame e.tuple (elements (map tree_of (values v.0.elems)) (trails v.0.elems))))
-    (rank_more tree_kind (along (λ v. tree-Unary v.0) (on_tie (λ v. v.0) (kinds.unary_kind_tie expr_row.the_row expr_tests))) (λ v. ap tree_kind (tree-Unary v.0) ∙ kind_behind (attrs_of v.0.attrs) (lead (e.unary (un_kind v.0.op)) none (tree_of v.0.expr.value)))
+    (rank_more tree_kind (along (λ v. tree-Unary v.0) (on_tie (λ v. v.0) (kinds.unary_kind_tie expr_row.the_row expr_tests))) (λ v. ap tree_kind (tree-Unary v.0) ∙ kind_behind (attrs_of v.0.attrs) (prefixed (e.unary (un_kind v.0.op)) none (tree_of v.0.expr.value)))
     (rank_more tree_kind (along (λ v. tree-Unsafe v.0) (on_tie (λ v. v.0) kinds.unsafe_kind_tie)) (λ v. ap tree_kind (tree-Unsafe v.0) ∙ kind_behind (outer_of v.0.attrs) (leaf (e.unsafe_block (body_of (inner_of v.0.attrs) v.0.block.stmts))))
-    (rank_more tree_kind (along (λ v. tree-While v.0) (on_tie (λ v. v.0) (kinds.while_kind_tie expr_row.the_row expr_tests))) (λ v. ap tree_kind (tree-While v.0) ∙ kind_behind (outer_of v.0.attrs) (frame (e.while_loop (mapped label_of v.0.label)) (kid e.loop_head (e.braced (body_of (inner_of v.0.attrs) v.0.body.stmts)) (tree_of v.0.cond.value) none)))
+    (rank_more tree_kind (along (λ v. tree-While v.0) (on_tie (λ v. v.0) (kinds.while_kind_tie expr_row.the_row expr_tests))) (λ v. ap tree_kind (tree-While v.0) ∙ kind_behind (outer_of v.0.attrs) (frame (e.while_loop (mapped label_of v.0.label)) (child e.loop_head (e.braced (body_of (inner_of v.0.attrs) v.0.body.stmts)) (tree_of v.0.cond.value) none)))
     (rank_more tree_kind (along (λ v. tree-Yield v.0) (on_tie (λ v. v.0) (kinds.yield_kind_tie expr_row.the_row expr_tests))) (λ v. ap tree_kind (tree-Yield v.0) ∙ (kind_behind (attrs_of v.0.attrs) (jump_with e.yielding (boxed tree_of v.0.expr)) ∙ kind_jump e.yielding (boxed tree_of v.0.expr)))
     (rank_more tree_kind (along (λ v. tree-Verbatim v.0) (on_tie (λ v. v.0) (made_tie (λ ts. leaf (e.verbatim ts)) (λ p q h. cc) toks_tie))) (λ v. ap tree_kind (tree-Verbatim v.0)) (rank_end tree_kind))))))))))))))))))))))))))))))))))))))))) in
     along (λ x. ap tree_of (sym (expr_row.the_eta x))) (on_tie {C = Expr} expr_row.as_values it.tie)
@@ -359,8 +359,8 @@ fixed block.member-Pat x y = one_test pat_tests pat_steps x y
 fixed block.member-ExprClosure x y = one_test closure_tests closure_steps x y
 fixed block.member-Arm x y = one_test arm_tests arm_steps x y
 fixed block.member-ExprForLoop x y = one_test for_loop_tests for_loop_steps x y
-fixed block.member-ExprLet x y = one_test binding_tests binding_steps x y
-fixed block.member-ExprMatch x y = one_test choice_tests choice_steps x y
+fixed block.member-ExprLet x y = one_test let_tests let_steps x y
+fixed block.member-ExprMatch x y = one_test match_tests match_steps x y
 fixed block.member-PatGuard x y = one_test guard_tests guard_steps x y
 
 derived : (j : block.the_members) (x y : Value j) → compared block.the_members Value block.the_depth Bool true expr_test.the_step j x y ≡ test j x y
@@ -381,11 +381,11 @@ arm_tie = by_test (derived block.member-Arm) arm_tests
 pub for_loop_tie : IsEqualityOf for_loop_of for_loop_test.ghosts.eq
 for_loop_tie = by_test (derived block.member-ExprForLoop) for_loop_tests
 
-pub binding_tie : IsEqualityOf binding_of binding_test.ghosts.eq
-binding_tie = by_test (derived block.member-ExprLet) binding_tests
+pub let_tie : IsEqualityOf let_of let_test.ghosts.eq
+let_tie = by_test (derived block.member-ExprLet) let_tests
 
-pub choice_tie : IsEqualityOf choice_of choice_test.ghosts.eq
-choice_tie = by_test (derived block.member-ExprMatch) choice_tests
+pub match_tie : IsEqualityOf match_of match_test.ghosts.eq
+match_tie = by_test (derived block.member-ExprMatch) match_tests
 
 pub guard_tie : IsEqualityOf guard_of guard_test.ghosts.eq
 guard_tie = by_test (derived block.member-PatGuard) guard_tests
@@ -393,4 +393,4 @@ guard_tie = by_test (derived block.member-PatGuard) guard_tests
 pub field_value_tie : IsEqualityOf (field_value_of tree_of) (field_value_test.ghosts expr_row.the_row expr_test.ghosts expr_test.dict).eq
 field_value_tie = kinds.field_value_kind_tie expr_row.the_row expr_tie
 
-pub ruleset sames = (expr_tie, pattern_tie, arm_tie, field_value_tie, closure_tie, for_loop_tie, binding_tie, choice_tie, guard_tie)
+pub ruleset sames = (expr_tie, pattern_tie, arm_tie, field_value_tie, closure_tie, for_loop_tie, let_tie, match_tie, guard_tie)

@@ -7,7 +7,7 @@ use Rattle.std.specs.declared.boxed.Box.{Box}
 use Rattle.std.specs.declared.alloc.Global.{Global}
 use Rattle.syn_parts.specs.Tree.{AttributeTree}
 use Rattle.syn_grammar.specs.Tree as e
-use Rattle.syn_grammar.specs.Tree.{Tree, Kids, Ending, adorn, adorned, from_inner, none, kid, outers}
+use Rattle.syn_grammar.specs.Tree.{Tree, Children, Ending, attributed_with, attributed, from_inner, none, child, outers}
 use Rattle.syn_lower_leaves.specs.Equal.{IsEqualityOf}
 use Rattle.syn_lower_leaves.specs.declared.attr.Attribute.{Attribute}
 use Rattle.syn_lower_leaves.specs.contracts.attr.AttributePartialEq.TheImpl as attribute_test
@@ -34,31 +34,31 @@ attrs_tie = on_tie {C = Attrs} (λ v. v.items) (list_tie attribute_tie)
 
 -- no attributes stand before it
 abbrev pub is_core : Tree → Bool
-is_core (adorned a more t) = false
+is_core (attributed a more t) = false
 is_core _ = true
 
-adorn_once : (a b : List AttributeTree) (t u : Tree) → is_core t ≡ true → is_core u ≡ true → adorn a t ≡ adorn b u → (a ≡ b) × (t ≡ u)
-adorn_once [] [] t u p q h = (refl, h)
-adorn_once [] (b ∷ bs) t u p q h = absurd (let k : true ≡ false = sym p ∙ ap is_core h in cc)
-adorn_once (a ∷ ms) [] t u p q h = absurd (let k : false ≡ true = ap is_core h ∙ q in cc)
-adorn_once (a ∷ ms) (b ∷ bs) t u p q h = (cc, cc)
+attributed_with_once : (a b : List AttributeTree) (t u : Tree) → is_core t ≡ true → is_core u ≡ true → attributed_with a t ≡ attributed_with b u → (a ≡ b) × (t ≡ u)
+attributed_with_once [] [] t u p q h = (refl, h)
+attributed_with_once [] (b ∷ bs) t u p q h = absurd (let k : true ≡ false = sym p ∙ ap is_core h in cc)
+attributed_with_once (a ∷ ms) [] t u p q h = absurd (let k : false ≡ true = ap is_core h ∙ q in cc)
+attributed_with_once (a ∷ ms) (b ∷ bs) t u p q h = (cc, cc)
 
 -- a node behind its attributes
 pub behind_tie : {A : Type 0} (attrs : A → Attrs) {core : A → Tree} {F : A → A → Bool} → ((x : A) → is_core (core x) ≡ true) → IsEqualityOf core F
-    → IsEqualityOf (λ x. adorn (attrs_of (attrs x)) (core x)) (λ x y. attrs_test (attrs x) (attrs y) && F x y)
+    → IsEqualityOf (λ x. attributed_with (attrs_of (attrs x)) (core x)) (λ x y. attrs_test (attrs x) (attrs y) && F x y)
 behind_tie {A} attrs {core} plain t =
-    into_tie {f = λ x. (attrs_of (attrs x), core x)} (λ x. adorn (attrs_of (attrs x)) (core x)) (λ x y h i. adorn (h i).0 (h i).1)
-    (λ x y h. let r = adorn_once (attrs_of (attrs x)) (attrs_of (attrs y)) (core x) (core y) (plain x) (plain y) h in pair_path r.0 r.1) (both_tie (on_tie attrs attrs_tie) t)
+    into_tie {f = λ x. (attrs_of (attrs x), core x)} (λ x. attributed_with (attrs_of (attrs x)) (core x)) (λ x y h i. attributed_with (h i).0 (h i).1)
+    (λ x y h. let r = attributed_with_once (attrs_of (attrs x)) (attrs_of (attrs y)) (core x) (core y) (plain x) (plain y) h in pair_path r.0 r.1) (both_tie (on_tie attrs attrs_tie) t)
 
 -- a node behind its outer attributes, with the inner ones in its braces
 pub around_tie : {A B : Type 0} (attrs : A → Attrs) {g : A → B} {F : A → A → Bool} (make : List AttributeTree → B → Tree) → ((a : List AttributeTree) (p : B) → is_core (make a p) ≡ true)
     → ((a b : List AttributeTree) (p q : B) → make a p ≡ make b q → (a ≡ b) × (p ≡ q)) → IsEqualityOf g F
-    → IsEqualityOf (λ x. adorn (outer_of (attrs x)) (make (inner_of (attrs x)) (g x))) (λ x y. attrs_test (attrs x) (attrs y) && F x y)
+    → IsEqualityOf (λ x. attributed_with (outer_of (attrs x)) (make (inner_of (attrs x)) (g x))) (λ x y. attrs_test (attrs x) (attrs y) && F x y)
 unfolding attrs_of outer_of inner_of
 around_tie {A} {B} attrs {g} make plain once t =
-    into_tie {f = λ x. (attrs_of (attrs x), g x)} (λ x. adorn (outer_of (attrs x)) (make (inner_of (attrs x)) (g x))) (λ x y h i. adorn (outers (h i).0) (make (from_inner (h i).0) (h i).1))
+    into_tie {f = λ x. (attrs_of (attrs x), g x)} (λ x. attributed_with (outer_of (attrs x)) (make (inner_of (attrs x)) (g x))) (λ x y h i. attributed_with (outers (h i).0) (make (from_inner (h i).0) (h i).1))
     (λ x y h.
-    let r = adorn_once (outer_of (attrs x)) (outer_of (attrs y)) (make (inner_of (attrs x)) (g x)) (make (inner_of (attrs y)) (g y)) (plain (inner_of (attrs x)) (g x)) (plain (inner_of (attrs y)) (g y)) h in
+    let r = attributed_with_once (outer_of (attrs x)) (outer_of (attrs y)) (make (inner_of (attrs x)) (g x)) (make (inner_of (attrs y)) (g y)) (plain (inner_of (attrs x)) (g x)) (plain (inner_of (attrs y)) (g y)) h in
     let s = once (inner_of (attrs x)) (inner_of (attrs y)) (g x) (g y) r.1 in
     pair_path (parts_tell (attrs_of (attrs x)) (attrs_of (attrs y)) r.0 s.0) s.1)
     (both_tie (on_tie attrs attrs_tie) t)
@@ -69,14 +69,14 @@ unfoldable pub is_comma : Ending → Bool
 is_comma e.comma = true
 is_comma _ = false
 
-trees_in : Kids → List Tree
+trees_in : Children → List Tree
 trees_in none = []
-trees_in (kid k d t ks) = t ∷ trees_in ks
+trees_in (child k d t ks) = t ∷ trees_in ks
 
-comma_in : Kids → Bool
+comma_in : Children → Bool
 comma_in none = false
-comma_in (kid k d t none) = is_comma d
-comma_in (kid k d t (kid a b c f)) = comma_in (kid a b c f)
+comma_in (child k d t none) = is_comma d
+comma_in (child k d t (child a b c f)) = comma_in (child a b c f)
 
 trees_elements : (xs : List Tree) (b : Bool) → trees_in (elements xs b) ≡ xs
 unfolding trees_in

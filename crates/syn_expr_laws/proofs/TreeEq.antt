@@ -19,7 +19,7 @@ use Rattle.syn_parts.proofs.Same.{compares_lits}
 use Rattle.syn_parts.proofs.TreeEq.{type_eq, arguments_eq, return_eq}
 use Rattle.syn_parts.proofs.Trees.{segments-segments_of}
 use Rattle.syn_grammar.specs.Tree as e
-use Rattle.syn_grammar.specs.Tree.{Body, Jump, Leaf, ClosureHead, Lead, Post, Trailer, Frame, Piece, Ending, Tree, Kids}
+use Rattle.syn_grammar.specs.Tree.{Body, Jump, Leaf, ClosureHead, Prefix, Postfix, Trailer, Frame, Piece, Ending, Tree, Children}
 use Rattle.syn_grammar.specs.declared.kinds.BinKind.{BinKind}
 use Rattle.syn_grammar.specs.declared.kinds.UnKind.{UnKind}
 use Rattle.syn_grammar.specs.declared.kinds.Limits.{Limits}
@@ -204,7 +204,7 @@ leaf_eq (e.full_range a0) (e.full_range a1) = map_dec (λ h. cc) (λ h. cc) (lim
 leaf_eq (e.bare_jump a0) (e.bare_jump a1) = map_dec (λ h. cc) (λ h. cc) (jump_eq a0 a1)
 leaf_eq (e.continuing a0) (e.continuing a1) = map_dec (λ h. cc) (λ h. cc) (label_eq a0 a1)
 leaf_eq (e.block a0 b0) (e.block a1 b1) = map_dec (λ h. let p0 = h.0 in let p1 = h.1 in cc) (λ h. (cc, cc)) (both (label_eq a0 a1) (body_eq b0 b1))
-leaf_eq (e.looping a0 b0) (e.looping a1 b1) = map_dec (λ h. let p0 = h.0 in let p1 = h.1 in cc) (λ h. (cc, cc)) (both (label_eq a0 a1) (body_eq b0 b1))
+leaf_eq (e.loop_expr a0 b0) (e.loop_expr a1 b1) = map_dec (λ h. let p0 = h.0 in let p1 = h.1 in cc) (λ h. (cc, cc)) (both (label_eq a0 a1) (body_eq b0 b1))
 leaf_eq (e.unsafe_block a0) (e.unsafe_block a1) = map_dec (λ h. cc) (λ h. cc) (body_eq a0 a1)
 leaf_eq (e.const_block a0) (e.const_block a1) = map_dec (λ h. cc) (λ h. cc) (body_eq a0 a1)
 leaf_eq (e.async_block a0 b0) (e.async_block a1 b1) = map_dec (λ h. let p0 = h.0 in let p1 = h.1 in cc) (λ h. (cc, cc)) (both (Bool-discrete a0 a1) (toks_eq b0 b1))
@@ -212,20 +212,20 @@ leaf_eq (e.try_block a0) (e.try_block a1) = map_dec (λ h. cc) (λ h. cc) (toks_
 leaf_eq (e.verbatim a0) (e.verbatim a1) = map_dec (λ h. cc) (λ h. cc) (toks_eq a0 a1)
 leaf_eq _ _ = no (λ e. absurd cc)
 
-lead_eq : (x y : Lead) → Dec (x ≡ y)
-lead_eq (e.unary a0) (e.unary a1) = map_dec (λ h. cc) (λ h. cc) (un_eq a0 a1)
-lead_eq (e.reference a0) (e.reference a1) = map_dec (λ h. cc) (λ h. cc) (Bool-discrete a0 a1)
-lead_eq (e.raw_addr a0) (e.raw_addr a1) = map_dec (λ h. cc) (λ h. cc) (Bool-discrete a0 a1)
-lead_eq (e.range_to a0) (e.range_to a1) = map_dec (λ h. cc) (λ h. cc) (limits_eq a0 a1)
-lead_eq (e.binding a0) (e.binding a1) = map_dec (λ h. cc) (λ h. cc) (pat_eq a0 a1)
-lead_eq (e.jump a0) (e.jump a1) = map_dec (λ h. cc) (λ h. cc) (jump_eq a0 a1)
-lead_eq (e.closure a0) (e.closure a1) = map_dec (λ h. cc) (λ h. cc) (closure_head_eq a0 a1)
-lead_eq _ _ = no (λ e. absurd cc)
+prefix_eq : (x y : Prefix) → Dec (x ≡ y)
+prefix_eq (e.unary a0) (e.unary a1) = map_dec (λ h. cc) (λ h. cc) (un_eq a0 a1)
+prefix_eq (e.reference a0) (e.reference a1) = map_dec (λ h. cc) (λ h. cc) (Bool-discrete a0 a1)
+prefix_eq (e.raw_addr a0) (e.raw_addr a1) = map_dec (λ h. cc) (λ h. cc) (Bool-discrete a0 a1)
+prefix_eq (e.range_to a0) (e.range_to a1) = map_dec (λ h. cc) (λ h. cc) (limits_eq a0 a1)
+prefix_eq (e.let_expr a0) (e.let_expr a1) = map_dec (λ h. cc) (λ h. cc) (pat_eq a0 a1)
+prefix_eq (e.jump a0) (e.jump a1) = map_dec (λ h. cc) (λ h. cc) (jump_eq a0 a1)
+prefix_eq (e.closure a0) (e.closure a1) = map_dec (λ h. cc) (λ h. cc) (closure_head_eq a0 a1)
+prefix_eq _ _ = no (λ e. absurd cc)
 
-post_eq : (x y : Post) → Dec (x ≡ y)
-post_eq (e.cast a0) (e.cast a1) = map_dec (λ h. cc) (λ h. cc) (type_eq a0 a1)
-post_eq (e.range_from a0) (e.range_from a1) = map_dec (λ h. cc) (λ h. cc) (limits_eq a0 a1)
-post_eq _ _ = no (λ e. absurd cc)
+postfix_eq : (x y : Postfix) → Dec (x ≡ y)
+postfix_eq (e.cast a0) (e.cast a1) = map_dec (λ h. cc) (λ h. cc) (type_eq a0 a1)
+postfix_eq (e.range_from a0) (e.range_from a1) = map_dec (λ h. cc) (λ h. cc) (limits_eq a0 a1)
+postfix_eq _ _ = no (λ e. absurd cc)
 
 trailer_eq : (x y : Trailer) → Dec (x ≡ y)
 trailer_eq e.call e.call = yes refl
@@ -233,7 +233,7 @@ trailer_eq e.index e.index = yes refl
 trailer_eq (e.method a0 b0) (e.method a1 b1) = map_dec (λ h. let p0 = h.0 in let p1 = h.1 in cc) (λ h. (cc, cc)) (both (text_eq a0 a1) (arguments_eq b0 b1))
 trailer_eq (e.field a0) (e.field a1) = map_dec (λ h. cc) (λ h. cc) (member_eq a0 a1)
 trailer_eq e.await e.await = yes refl
-trailer_eq e.question e.question = yes refl
+trailer_eq e.try_expr e.try_expr = yes refl
 trailer_eq _ _ = no (λ e. absurd cc)
 
 frame_eq : (x y : Frame) → Dec (x ≡ y)
@@ -242,11 +242,11 @@ frame_eq e.tuple e.tuple = yes refl
 frame_eq e.repeat e.repeat = yes refl
 frame_eq (e.structure a0 b0 c0) (e.structure a1 b1 c1) = map_dec (λ h. let p0 = h.0 in let p1 = h.1.0 in let p2 = h.1.1 in cc) (λ h. (cc, (cc, cc))) (both (qself_eq a0 a1) (both (path_eq b0 b1) (Bool-discrete c0 c1)))
 frame_eq (e.closure_block a0) (e.closure_block a1) = map_dec (λ h. cc) (λ h. cc) (closure_head_eq a0 a1)
-frame_eq e.branch e.branch = yes refl
+frame_eq e.if_expr e.if_expr = yes refl
 frame_eq (e.while_loop a0) (e.while_loop a1) = map_dec (λ h. cc) (λ h. cc) (label_eq a0 a1)
 frame_eq (e.for_loop a0 b0) (e.for_loop a1 b1) = map_dec (λ h. let p0 = h.0 in let p1 = h.1 in cc) (λ h. (cc, cc)) (both (label_eq a0 a1) (pat_eq b0 b1))
-frame_eq e.choice e.choice = yes refl
-frame_eq e.invisible e.invisible = yes refl
+frame_eq e.match_expr e.match_expr = yes refl
+frame_eq e.group_expr e.group_expr = yes refl
 frame_eq _ _ = no (λ e. absurd cc)
 
 piece_eq : (x y : Piece) → Dec (x ≡ y)
@@ -280,15 +280,15 @@ mutual
   pub tree_eq : (x y : Tree) → Dec (x ≡ y)
   tree_eq (e.leaf a0) (e.leaf a1) = map_dec (λ h. cc) (λ h. cc) (leaf_eq a0 a1)
   tree_eq (e.paren a0 b0) (e.paren a1 b1) = map_dec (λ h. let p0 = h.0 in let p1 = h.1 in cc) (λ h. (cc, cc)) (both (Bool-discrete a0 a1) (tree_eq b0 b1))
-  tree_eq (e.adorned a0 b0 c0) (e.adorned a1 b1 c1) = map_dec (λ h. let p0 = h.0 in let p1 = h.1.0 in let p2 = h.1.1 in cc) (λ h. (cc, (cc, cc))) (both (attribute_eq a0 a1) (both (attributes_eq b0 b1) (tree_eq c0 c1)))
-  tree_eq (e.lead a0 b0 c0) (e.lead a1 b1 c1) = map_dec (λ h. let p0 = h.0 in let p1 = h.1.0 in let p2 = h.1.1 in cc) (λ h. (cc, (cc, cc))) (both (lead_eq a0 a1) (both (kids_eq b0 b1) (tree_eq c0 c1)))
-  tree_eq (e.mid a0 b0 c0) (e.mid a1 b1 c1) = map_dec (λ h. let p0 = h.0 in let p1 = h.1.0 in let p2 = h.1.1 in cc) (λ h. (cc, (cc, cc))) (both (tree_eq a0 a1) (both (infix_eq b0 b1) (tree_eq c0 c1)))
-  tree_eq (e.post a0 b0) (e.post a1 b1) = map_dec (λ h. let p0 = h.0 in let p1 = h.1 in cc) (λ h. (cc, cc)) (both (tree_eq a0 a1) (post_eq b0 b1))
-  tree_eq (e.tail a0 b0 c0) (e.tail a1 b1 c1) = map_dec (λ h. let p0 = h.0 in let p1 = h.1.0 in let p2 = h.1.1 in cc) (λ h. (cc, (cc, cc))) (both (tree_eq a0 a1) (both (trailer_eq b0 b1) (kids_eq c0 c1)))
-  tree_eq (e.frame a0 b0) (e.frame a1 b1) = map_dec (λ h. let p0 = h.0 in let p1 = h.1 in cc) (λ h. (cc, cc)) (both (frame_eq a0 a1) (kids_eq b0 b1))
+  tree_eq (e.attributed a0 b0 c0) (e.attributed a1 b1 c1) = map_dec (λ h. let p0 = h.0 in let p1 = h.1.0 in let p2 = h.1.1 in cc) (λ h. (cc, (cc, cc))) (both (attribute_eq a0 a1) (both (attributes_eq b0 b1) (tree_eq c0 c1)))
+  tree_eq (e.prefixed a0 b0 c0) (e.prefixed a1 b1 c1) = map_dec (λ h. let p0 = h.0 in let p1 = h.1.0 in let p2 = h.1.1 in cc) (λ h. (cc, (cc, cc))) (both (prefix_eq a0 a1) (both (children_eq b0 b1) (tree_eq c0 c1)))
+  tree_eq (e.infixed a0 b0 c0) (e.infixed a1 b1 c1) = map_dec (λ h. let p0 = h.0 in let p1 = h.1.0 in let p2 = h.1.1 in cc) (λ h. (cc, (cc, cc))) (both (tree_eq a0 a1) (both (infix_eq b0 b1) (tree_eq c0 c1)))
+  tree_eq (e.postfixed a0 b0) (e.postfixed a1 b1) = map_dec (λ h. let p0 = h.0 in let p1 = h.1 in cc) (λ h. (cc, cc)) (both (tree_eq a0 a1) (postfix_eq b0 b1))
+  tree_eq (e.tail a0 b0 c0) (e.tail a1 b1 c1) = map_dec (λ h. let p0 = h.0 in let p1 = h.1.0 in let p2 = h.1.1 in cc) (λ h. (cc, (cc, cc))) (both (tree_eq a0 a1) (both (trailer_eq b0 b1) (children_eq c0 c1)))
+  tree_eq (e.frame a0 b0) (e.frame a1 b1) = map_dec (λ h. let p0 = h.0 in let p1 = h.1 in cc) (λ h. (cc, cc)) (both (frame_eq a0 a1) (children_eq b0 b1))
   tree_eq _ _ = no (λ e. absurd cc)
 
-  kids_eq : (x y : Kids) → Dec (x ≡ y)
-  kids_eq e.none e.none = yes refl
-  kids_eq (e.kid a0 b0 c0 d0) (e.kid a1 b1 c1 d1) = map_dec (λ h. let p0 = h.0 in let p1 = h.1.0 in let p2 = h.1.1.0 in let p3 = h.1.1.1 in cc) (λ h. (cc, (cc, (cc, cc)))) (both (piece_eq a0 a1) (both (ending_eq b0 b1) (both (tree_eq c0 c1) (kids_eq d0 d1))))
-  kids_eq _ _ = no (λ e. absurd cc)
+  children_eq : (x y : Children) → Dec (x ≡ y)
+  children_eq e.none e.none = yes refl
+  children_eq (e.child a0 b0 c0 d0) (e.child a1 b1 c1 d1) = map_dec (λ h. let p0 = h.0 in let p1 = h.1.0 in let p2 = h.1.1.0 in let p3 = h.1.1.1 in cc) (λ h. (cc, (cc, (cc, cc)))) (both (piece_eq a0 a1) (both (ending_eq b0 b1) (both (tree_eq c0 c1) (children_eq d0 d1))))
+  children_eq _ _ = no (λ e. absurd cc)

@@ -2,7 +2,7 @@
 //! nothing. Attributes before a node and in its braces count in their order, and a guard with the pattern that it stands
 //! behind: the tree shows both.
 
-ghost use Rattle.syn_expr_all.specs.View.{arm_of, binding_of, choice_of, closure_of, for_loop_of, guard_of, pat_of, tree_of};
+ghost use Rattle.syn_expr_all.specs.View.{arm_of, let_of, match_of, closure_of, for_loop_of, guard_of, pat_of, tree_of};
 ghost use Rattle.syn_expr_kinds.specs.View.{field_value_of};
 ghost use Rattle.syn_lower_leaves.specs.Equal.{IsEqualityOf};
 
@@ -24,7 +24,7 @@ pub fn equal_expressions()
 pub fn equal_kinds_with_patterns()
     ensures closure { IsEqualityOf closure_of ⟦<ExprClosure as PartialEq>⟧.eq }
     ensures for_loop { IsEqualityOf for_loop_of ⟦<ExprForLoop as PartialEq>⟧.eq }
-    ensures binding { IsEqualityOf binding_of ⟦<ExprLet as PartialEq>⟧.eq }
-    ensures choice { IsEqualityOf choice_of ⟦<ExprMatch as PartialEq>⟧.eq }
+    ensures let_expr { IsEqualityOf let_of ⟦<ExprLet as PartialEq>⟧.eq }
+    ensures match_expr { IsEqualityOf match_of ⟦<ExprMatch as PartialEq>⟧.eq }
     ensures guard { IsEqualityOf guard_of ⟦<PatGuard as PartialEq>⟧.eq }
 {}

@@ -9,7 +9,7 @@ use Rattle.syn_parts.specs.Form.{Outcome, and_then}
 use Rattle.syn_parts.specs.Mark.{comma, semi}
 use Rattle.syn_grammar.specs.Place.{plain}
 use Rattle.syn_grammar.specs.Tree as tr
-use Rattle.syn_grammar.specs.Tree.{Tree, Kids, Ending, none, kid}
+use Rattle.syn_grammar.specs.Tree.{Tree, Children, Ending, none, child}
 use Rattle.syn_grammar.specs.Slot as s
 use Rattle.syn_grammar.specs.Slot.{piece_form, ending_at, comma_or_end}
 use Rattle.syn_lexer.specs.declared.lexeme.Delimiter.TheVariants as del
@@ -26,21 +26,21 @@ use Rattle.syn_expr_kinds.specs.View.{elements}
 use Rattle.syn_expr_lists.specs.Elements.{before, gathered, element, behind_first, single, bracketed}
 use Rattle.syn_expr_heads.proofs.Turns.{turn as operands_turn, expr_less}
 
--- ---- the kids of a list
+-- ---- the children of a list
 
 all_before : (xs : List Tree) → elements xs true ≡ before xs none
 all_before [] = refl
 all_before (x ∷ []) = refl
-all_before (x ∷ y ∷ xs) = ap (λ ks. kid tr.element tr.comma x ks) (all_before (y ∷ xs))
+all_before (x ∷ y ∷ xs) = ap (λ ks. child tr.element tr.comma x ks) (all_before (y ∷ xs))
 
-last_before : (xs : List Tree) (x : Tree) → before xs (kid tr.element tr.no_ending x none) ≡ elements (xs ++ x ∷ []) false
+last_before : (xs : List Tree) (x : Tree) → before xs (child tr.element tr.no_ending x none) ≡ elements (xs ++ x ∷ []) false
 last_before [] x = refl
 last_before (y ∷ []) x = refl
-last_before (y ∷ z ∷ xs) x = ap (λ ks. kid tr.element tr.comma y ks) (last_before (z ∷ xs) x)
+last_before (y ∷ z ∷ xs) x = ap (λ ks. child tr.element tr.comma y ks) (last_before (z ∷ xs) x)
 
-one_before : (xs : List Tree) (x : Tree) (ks : Kids) → before xs (kid tr.element tr.comma x ks) ≡ before (xs ++ x ∷ []) ks
+one_before : (xs : List Tree) (x : Tree) (ks : Children) → before xs (child tr.element tr.comma x ks) ≡ before (xs ++ x ∷ []) ks
 one_before [] x ks = refl
-one_before (y ∷ xs) x ks = ap (λ k. kid tr.element tr.comma y k) (one_before xs x ks)
+one_before (y ∷ xs) x ks = ap (λ k. child tr.element tr.comma y k) (one_before xs x ks)
 
 -- ---- where a list may end
 
@@ -58,7 +58,7 @@ comma_falls l n c h = tail_falls (ending_left tr.element (tr.leaf tr.infer) l c 
 -- ---- a turn
 
 turn : (l : List Tok) → bare_operands expr s.elements l ≡ cond (is_empty l) (Some (none, l))
-    (and_then (element l) (λ c n. and_then (bare_operands expr s.elements n) (λ ks o. Some (kid tr.element c.0 c.1 ks, o))))
+    (and_then (element l) (λ c n. and_then (bare_operands expr s.elements n) (λ ks o. Some (child tr.element c.0 c.1 ks, o))))
 unfolding piece_form ending_at element
 turn l = operands_turn s.elements l
 
@@ -66,7 +66,7 @@ pub elements_start : (l : List Tok) → bare_operands expr s.elements l ≡ gath
 unfolding gathered
 elements_start l = by_all (bare_operands expr s.elements l)
   where
-    by_all : (o : Outcome Kids) → o ≡ and_then o (λ ks o. Some (ks, o))
+    by_all : (o : Outcome Children) → o ≡ and_then o (λ ks o. Some (ks, o))
     by_all None = refl
     by_all (Some q) = refl
 
@@ -85,7 +85,7 @@ pub element_more : (xs : List Tree) (l n : List Tok) (x : Tree) → is_empty l �
 unfolding gathered
 element_more xs l n x h e = rw (turn l, h, e) (by_rest (bare_operands expr s.elements n))
   where
-    by_rest : (o : Outcome Kids) → and_then (and_then o (λ ks o. Some (kid tr.element tr.comma x ks, o))) (λ ks o. Some (before xs ks, o)) ≡ and_then o (λ ks o. Some (before (xs ++ x ∷ []) ks, o))
+    by_rest : (o : Outcome Children) → and_then (and_then o (λ ks o. Some (child tr.element tr.comma x ks, o))) (λ ks o. Some (before xs ks, o)) ≡ and_then o (λ ks o. Some (before (xs ++ x ∷ []) ks, o))
     by_rest None = refl
     by_rest (Some q) = ap (λ ks. Some (ks, q.1)) (one_before xs x q.0)
 
@@ -149,8 +149,8 @@ pub single_is : (l : List Tok) → bare_operands expr s.single l ≡ single l
 unfolding single piece_form ending_at
 single_is l = operands_turn s.single l ∙ by_expr (expr plain l)
   where
-    by_expr : (o : Outcome Tree) → and_then (and_then {B = Ending × Tree} o (λ x n. Some ((tr.no_ending, x), n))) (λ c n. and_then (bare_operands expr s.done n) (λ ks o. Some (kid tr.value c.0 c.1 ks, o)))
-        ≡ and_then o (λ x n. Some (kid tr.value tr.no_ending x none, n))
+    by_expr : (o : Outcome Tree) → and_then (and_then {B = Ending × Tree} o (λ x n. Some ((tr.no_ending, x), n))) (λ c n. and_then (bare_operands expr s.done n) (λ ks o. Some (child tr.value c.0 c.1 ks, o)))
+        ≡ and_then o (λ x n. Some (child tr.value tr.no_ending x none, n))
     by_expr None = refl
     by_expr (Some q) = rw (operands_turn s.done q.1) refl
 
@@ -174,21 +174,21 @@ inside_is : (l : List Tok) → bracket_inside expr l ≡ all_of (bracketed l)
 unfolding bracketed behind_first ending_at
 inside_is l = by_empty (is_empty l) refl
   where
-    by_kids : (x : Tree) (c : Ending) (o : Outcome Kids) → and_then o (λ ks n. Some (tr.frame tr.array (kid tr.element c x ks), n)) ≡ and_then {A = Kids} (and_then o (λ ks n. Some (kid tr.element c x ks, n))) (λ ks n. Some (tr.frame tr.array ks, n))
-    by_kids x c None = refl
-    by_kids x c (Some q) = refl
+    by_children : (x : Tree) (c : Ending) (o : Outcome Children) → and_then o (λ ks n. Some (tr.frame tr.array (child tr.element c x ks), n)) ≡ and_then {A = Children} (and_then o (λ ks n. Some (child tr.element c x ks, n))) (λ ks n. Some (tr.frame tr.array ks, n))
+    by_children x c None = refl
+    by_children x c (Some q) = refl
 
-    by_ending : (x : Tree) (o : Outcome Ending) → and_then {A = Ending × Tree} (and_then o (λ c n. Some ((c, x), n))) (λ c m. and_then (bare_operands expr s.elements m) (λ ks n. Some (tr.frame tr.array (kid tr.element c.0 x ks), n)))
-        ≡ and_then {A = Kids} (and_then o (λ c m. and_then (bare_operands expr s.elements m) (λ ks n. Some (kid tr.element c x ks, n)))) (λ ks n. Some (tr.frame tr.array ks, n))
+    by_ending : (x : Tree) (o : Outcome Ending) → and_then {A = Ending × Tree} (and_then o (λ c n. Some ((c, x), n))) (λ c m. and_then (bare_operands expr s.elements m) (λ ks n. Some (tr.frame tr.array (child tr.element c.0 x ks), n)))
+        ≡ and_then {A = Children} (and_then o (λ c m. and_then (bare_operands expr s.elements m) (λ ks n. Some (child tr.element c x ks, n)))) (λ ks n. Some (tr.frame tr.array ks, n))
     by_ending x None = refl
-    by_ending x (Some q) = by_kids x q.0 (bare_operands expr s.elements q.1)
+    by_ending x (Some q) = by_children x q.0 (bare_operands expr s.elements q.1)
 
     by_semi : (x : Tree) (m : List Tok) (b : Bool) → cond b (repeated_by expr x (drop 1 m)) (elements_by expr x m)
-        ≡ cond b (and_then (single (drop 1 m)) (λ ks n. Some (tr.frame tr.repeat (kid tr.repeated tr.no_ending x ks), n))) (and_then (behind_first x m) (λ ks n. Some (tr.frame tr.array ks, n)))
-    by_semi x m true = ap (λ (o : Outcome Kids). and_then o (λ ks n. Some (tr.frame tr.repeat (kid tr.repeated tr.no_ending x ks), n))) (single_is (drop 1 m))
+        ≡ cond b (and_then (single (drop 1 m)) (λ ks n. Some (tr.frame tr.repeat (child tr.repeated tr.no_ending x ks), n))) (and_then (behind_first x m) (λ ks n. Some (tr.frame tr.array ks, n)))
+    by_semi x m true = ap (λ (o : Outcome Children). and_then o (λ ks n. Some (tr.frame tr.repeat (child tr.repeated tr.no_ending x ks), n))) (single_is (drop 1 m))
     by_semi x m false = by_ending x (comma_or_end m)
 
-    by_expr : (o : Outcome Tree) → and_then o (Read.bracketed expr) ≡ and_then o (λ x m. cond (semi.at m) (and_then (single (drop 1 m)) (λ ks n. Some (tr.frame tr.repeat (kid tr.repeated tr.no_ending x ks), n))) (and_then (behind_first x m) (λ ks n. Some (tr.frame tr.array ks, n))))
+    by_expr : (o : Outcome Tree) → and_then o (Read.bracketed expr) ≡ and_then o (λ x m. cond (semi.at m) (and_then (single (drop 1 m)) (λ ks n. Some (tr.frame tr.repeat (child tr.repeated tr.no_ending x ks), n))) (and_then (behind_first x m) (λ ks n. Some (tr.frame tr.array ks, n))))
     by_expr None = refl
     by_expr (Some q) = by_semi q.0 q.1 (semi.at q.1)
 

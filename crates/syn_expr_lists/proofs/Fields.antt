@@ -11,7 +11,7 @@ use Rattle.syn_parts.specs.Mark.{comma}
 use Rattle.syn_parts.specs.Pat.{MemberTree, a_name, an_index, dots}
 use Rattle.syn_grammar.specs.Place.{plain}
 use Rattle.syn_grammar.specs.Tree as tr
-use Rattle.syn_grammar.specs.Tree.{Tree, Kids, Piece, Ending, none, kid}
+use Rattle.syn_grammar.specs.Tree.{Tree, Children, Piece, Ending, none, child}
 use Rattle.syn_grammar.specs.Slot as s
 use Rattle.syn_grammar.specs.Slot.{after, piece_form, ending_at, comma_or_end, to_field, may_end}
 use Rattle.syn_grammar.specs.Stands.{short_value, path_of}
@@ -29,20 +29,20 @@ use Rattle.syn_expr_lists.specs.Fields.{value_at, ended, braced, gathered, Entry
 use Rattle.syn_expr_heads.proofs.Turns.{turn as operands_turn, expr_less}
 use Rattle.syn_expr_lists.proofs.Elements.{no_comma_ends, comma_falls}
 
--- ---- the kids of the fields
+-- ---- the children of the fields
 
-abbrev field_kid : FieldView → Ending → Kids → Kids
-field_kid v c ks = kid (tr.field_value v.attrs v.member v.colon) c v.value ks
+abbrev field_child : FieldView → Ending → Children → Children
+field_child v c ks = child (tr.field_value v.attrs v.member v.colon) c v.value ks
 
-last_field : (xs : List FieldView) (v : FieldView) → fields xs true (field_kid v tr.no_ending none) ≡ fields (xs ++ v ∷ []) false none
+last_field : (xs : List FieldView) (v : FieldView) → fields xs true (field_child v tr.no_ending none) ≡ fields (xs ++ v ∷ []) false none
 last_field [] v = refl
 last_field (y ∷ []) v = refl
-last_field (y ∷ z ∷ xs) v = ap (λ ks. field_kid y tr.comma ks) (last_field (z ∷ xs) v)
+last_field (y ∷ z ∷ xs) v = ap (λ ks. field_child y tr.comma ks) (last_field (z ∷ xs) v)
 
-one_field : (xs : List FieldView) (v : FieldView) (ks : Kids) → fields xs true (field_kid v tr.comma ks) ≡ fields (xs ++ v ∷ []) true ks
+one_field : (xs : List FieldView) (v : FieldView) (ks : Children) → fields xs true (field_child v tr.comma ks) ≡ fields (xs ++ v ∷ []) true ks
 one_field [] v ks = refl
 one_field (y ∷ []) v ks = refl
-one_field (y ∷ z ∷ xs) v ks = ap (λ k. field_kid y tr.comma k) (one_field (z ∷ xs) v ks)
+one_field (y ∷ z ∷ xs) v ks = ap (λ k. field_child y tr.comma k) (one_field (z ∷ xs) v ks)
 
 -- ---- what is at the front
 
@@ -83,10 +83,10 @@ field_no_dots l n ats m c h =
 
 -- ---- a turn
 
-abbrev one_of : Piece → Reading Kids
-one_of k m = and_then (operand_of expr (bare_operands expr s.conditions) k m) (λ c n. and_then (bare_operands expr (after k) n) (λ ks o. Some (kid k c.0 c.1 ks, o)))
+abbrev one_of : Piece → Reading Children
+one_of k m = and_then (operand_of expr (bare_operands expr s.conditions) k m) (λ c n. and_then (bare_operands expr (after k) n) (λ ks o. Some (child k c.0 c.1 ks, o)))
 
-abbrev turned : List FieldView → Reading (Kids × Bool)
+abbrev turned : List FieldView → Reading (Children × Bool)
 turned xs l = and_then (and_then ((piece_form s.fields).reads l) one_of) (λ ks o. ended (fields xs true ks) o)
 
 goes : (xs : List FieldView) (l : List Tok) → is_empty l ≡ false → (dots.at l && is_empty (drop 2 l)) ≡ false → gathered xs l ≡ turned xs l
@@ -121,27 +121,27 @@ bare_done : (n : List Tok) → bare_operands expr s.done n ≡ Some (none, n)
 bare_done n = operands_turn s.done n
 
 rest_goes : (xs : List FieldView) (l m : List Tok) → is_empty l ≡ false → (piece_form s.fields).reads l ≡ Some (tr.rest true, m) → is_empty m ≡ false
-    → gathered xs l ≡ and_then (expr plain m) (λ x n. cond (is_empty n) (ended (fields xs true (kid (tr.rest true) tr.no_ending x none)) n) None)
+    → gathered xs l ≡ and_then (expr plain m) (λ x n. cond (is_empty n) (ended (fields xs true (child (tr.rest true) tr.no_ending x none)) n) None)
 unfolding ending_at
 rest_goes xs l m h e f =
     let d = rest_is l m e in
     let g : is_empty (drop 2 l) ≡ false = subst (λ z. is_empty z ≡ false) (sym d.behind) f in
     goes xs l h (rw (d.there, g) refl) ∙ rw e (by_expr (expr plain m))
   where
-    last : (x : Tree) (n : List Tok) → Outcome (Kids × Bool)
-    last x n = ended (fields xs true (kid (tr.rest true) tr.no_ending x none)) n
+    last : (x : Tree) (n : List Tok) → Outcome (Children × Bool)
+    last x n = ended (fields xs true (child (tr.rest true) tr.no_ending x none)) n
 
     by_end : (x : Tree) (n : List Tok) (b : Bool)
-        → and_then (and_then {A = Ending × Tree} (and_then (cond {A = Outcome Ending} b (Some (tr.no_ending, n)) None) (λ c n. Some ((c, x), n))) (λ c n. and_then (bare_operands expr s.done n) (λ ks o. Some (kid (tr.rest true) c.0 c.1 ks, o))))
+        → and_then (and_then {A = Ending × Tree} (and_then (cond {A = Outcome Ending} b (Some (tr.no_ending, n)) None) (λ c n. Some ((c, x), n))) (λ c n. and_then (bare_operands expr s.done n) (λ ks o. Some (child (tr.rest true) c.0 c.1 ks, o))))
         (λ ks o. ended (fields xs true ks) o)
-        ≡ cond b (ended (fields xs true (kid (tr.rest true) tr.no_ending x none)) n) None
+        ≡ cond b (ended (fields xs true (child (tr.rest true) tr.no_ending x none)) n) None
     by_end x n true = rw (bare_done n) refl
     by_end x n false = refl
 
     by_expr : (o : Outcome Tree)
-        → and_then (and_then {A = Ending × Tree} (and_then o (λ x m. and_then (ending_at (tr.rest true) x m) (λ c n. Some ((c, x), n)))) (λ c n. and_then (bare_operands expr s.done n) (λ ks o. Some (kid (tr.rest true) c.0 c.1 ks, o))))
+        → and_then (and_then {A = Ending × Tree} (and_then o (λ x m. and_then (ending_at (tr.rest true) x m) (λ c n. Some ((c, x), n)))) (λ c n. and_then (bare_operands expr s.done n) (λ ks o. Some (child (tr.rest true) c.0 c.1 ks, o))))
         (λ ks o. ended (fields xs true ks) o)
-        ≡ and_then o (λ x n. cond (is_empty n) (ended (fields xs true (kid (tr.rest true) tr.no_ending x none)) n) None)
+        ≡ and_then o (λ x n. cond (is_empty n) (ended (fields xs true (child (tr.rest true) tr.no_ending x none)) n) None)
     by_expr None = refl
     by_expr (Some q) = by_end q.0 q.1 (is_empty q.1)
 
@@ -153,18 +153,18 @@ rest_unended : (xs : List FieldView) (l m n : List Tok) (x : Tree) → is_empty 
     → expr plain m ≡ Some (x, n) → is_empty n ≡ false → gathered xs l ≡ None
 rest_unended xs l m n x h e f g i = rest_goes xs l m h e f ∙ rw (g, i) refl
 
-ends_here : (ks : Kids) (n : List Tok) → is_empty n ≡ true → ended ks n ≡ Some ((ks, false), n)
+ends_here : (ks : Children) (n : List Tok) → is_empty n ≡ true → ended ks n ≡ Some ((ks, false), n)
 ends_here ks [] h = refl
 ends_here ks (t ∷ n) h = absurd cc
 
 rest_last : (xs : List FieldView) (l m n : List Tok) (x : Tree) → is_empty l ≡ false → (piece_form s.fields).reads l ≡ Some (tr.rest true, m) → is_empty m ≡ false
-    → expr plain m ≡ Some (x, n) → is_empty n ≡ true → gathered xs l ≡ Some ((fields xs true (kid (tr.rest true) tr.no_ending x none), false), n)
+    → expr plain m ≡ Some (x, n) → is_empty n ≡ true → gathered xs l ≡ Some ((fields xs true (child (tr.rest true) tr.no_ending x none), false), n)
 rest_last xs l m n x h e f g i = rest_goes xs l m h e f ∙ rw g (taken (is_empty n) (ended ks n) i ∙ ends_here ks n i)
   where
-    ks : Kids
-    ks = fields xs true (kid (tr.rest true) tr.no_ending x none)
+    ks : Children
+    ks = fields xs true (child (tr.rest true) tr.no_ending x none)
 
-    taken : (b : Bool) (o : Outcome (Kids × Bool)) → b ≡ true → cond b o None ≡ o
+    taken : (b : Bool) (o : Outcome (Children × Bool)) → b ≡ true → cond b o None ≡ o
     taken b o h = rw h refl
 
 -- ---- a field
@@ -180,7 +180,7 @@ value_ended ats (an_index n) false l = refl
 
 field_goes : (xs : List FieldView) (l i : List Tok) (ats : List AttributeTree) (m : MemberTree) (c : Bool) → is_empty l ≡ false → (piece_form s.fields).reads l ≡ Some (tr.field_value ats m c, i)
     → gathered xs l ≡ and_then (and_then {A = Ending × Tree} (and_then (value_at m c i) (λ x n. and_then (comma_or_end n) (λ d o. Some ((d, x), o))))
-    (λ d n. and_then (bare_operands expr s.fields n) (λ ks o. Some (kid (tr.field_value ats m c) d.0 d.1 ks, o)))) (λ ks o. ended (fields xs true ks) o)
+    (λ d n. and_then (bare_operands expr s.fields n) (λ ks o. Some (child (tr.field_value ats m c) d.0 d.1 ks, o)))) (λ ks o. ended (fields xs true ks) o)
 field_goes xs l i ats m c h e =
     let a = field_no_dots l i ats m c e in
     goes xs l h (rw a refl) ∙ rw (e, value_ended ats m c i) refl
@@ -199,7 +199,7 @@ field_more : (xs : List FieldView) (l i j n : List Tok) (v : FieldView) → is_e
 unfolding gathered
 field_more xs l i j n v h e f g = field_goes xs l i v.attrs v.member v.colon h e ∙ rw (f, g) (by_rest (bare_operands expr s.fields n))
   where
-    by_rest : (o : Outcome Kids) → and_then (and_then o (λ ks o. Some (field_kid v tr.comma ks, o))) (λ ks o. ended (fields xs true ks) o) ≡ and_then o (λ ks o. ended (fields (xs ++ v ∷ []) true ks) o)
+    by_rest : (o : Outcome Children) → and_then (and_then o (λ ks o. Some (field_child v tr.comma ks, o))) (λ ks o. ended (fields xs true ks) o) ≡ and_then o (λ ks o. ended (fields (xs ++ v ∷ []) true ks) o)
     by_rest None = refl
     by_rest (Some q) = ap (λ ks. ended ks q.1) (one_field xs v q.0)
 
@@ -216,11 +216,11 @@ field_last xs l i j n v h e f g =
 -- ---- an entry
 
 -- what a turn comes to
-abbrev entered : List FieldView → Entry → Reading (Kids × Bool)
+abbrev entered : List FieldView → Entry → Reading (Children × Bool)
 entered xs (a_field tr.comma v) n = gathered (xs ++ v ∷ []) n
 entered xs (a_field c v) n = Some ((fields (xs ++ v ∷ []) false none, false), n)
 entered xs (the_rest None) n = Some ((fields xs true none, true), n)
-entered xs (the_rest (Some x)) n = Some ((fields xs true (kid (tr.rest true) tr.no_ending x none), false), n)
+entered xs (the_rest (Some x)) n = Some ((fields xs true (child (tr.rest true) tr.no_ending x none), false), n)
 
 IsFieldPiece : Piece → Type 0
 IsFieldPiece k = (k ≡ tr.rest true) ⊎ ((x : List AttributeTree × (MemberTree × Bool)) × (k ≡ to_field x))
@@ -300,7 +300,7 @@ pub entry_alone : (xs : List FieldView) (l n : List Tok) → is_empty l ≡ fals
 entry_alone xs l n h e = turn xs l h ∙ rw e refl
 
 pub entry_rest : (xs : List FieldView) (l n : List Tok) (x : Tree) → is_empty l ≡ false → entry l ≡ Some (the_rest (Some x), n)
-    → gathered xs l ≡ Some ((fields xs true (kid (tr.rest true) tr.no_ending x none), false), n)
+    → gathered xs l ≡ Some ((fields xs true (child (tr.rest true) tr.no_ending x none), false), n)
 entry_rest xs l n x h e = turn xs l h ∙ rw e refl
 
 -- ---- an entry takes tokens
@@ -339,7 +339,7 @@ entry_less l n x h =
     omega (arith, a.less, entry_falls z.0 z.1 (x, n) f)
 
 -- where a value may follow, each field has its comma
-pub all_closed : {A P : Type 0} (f : A → FieldView) (p : Punctuated A P) (r : Kids) → takes_value p ≡ true → fields (map f (values p)) (trails p) r ≡ fields (map f (values p)) true r
+pub all_closed : {A P : Type 0} (f : A → FieldView) (p : Punctuated A P) (r : Children) → takes_value p ≡ true → fields (map f (values p)) (trails p) r ≡ fields (map f (values p)) true r
 unfolding values trails takes_value
 all_closed {A = A} {P = P} f p r h = by_items p.inner.items p.last h
   where

@@ -8,7 +8,7 @@ use Rattle.syn_parts.specs.Form.{Outcome, and_then}
 use Rattle.syn_parts.specs.Part.{QPathTree}
 use Rattle.syn_grammar.specs.declared.kinds.Place.{Place}
 use Rattle.syn_grammar.specs.Tree as tr
-use Rattle.syn_grammar.specs.Tree.{Tree, Kids}
+use Rattle.syn_grammar.specs.Tree.{Tree, Children}
 use Rattle.syn_grammar.specs.Slot as s
 use Rattle.syn_grammar.specs.Path.{is_try_alone}
 use Rattle.syn_grammar.specs.Stands.{ends_list, frame_stands}
@@ -23,11 +23,11 @@ structure_refused p q l h = by_group (group_at del.Brace l)
   where
     by_group : (o : Option (List Tok × List Tok)) → and_then o (λ i n. and_then (bare_operands expr s.fields i) (λ ks o. structured expr p q (not (is_empty o)) o ks n)) ≡ None
     by_group None = refl
-    by_group (Some g) = by_kids (bare_operands expr s.fields g.0)
+    by_group (Some g) = by_children (bare_operands expr s.fields g.0)
       where
-        by_kids : (k : Outcome Kids) → and_then k (λ ks o. structured expr p q (not (is_empty o)) o ks g.1) ≡ None
-        by_kids None = refl
-        by_kids (Some k) = by_ends (ends_list (not (is_empty k.1)) k.1)
+        by_children : (k : Outcome Children) → and_then k (λ ks o. structured expr p q (not (is_empty o)) o ks g.1) ≡ None
+        by_children None = refl
+        by_children (Some k) = by_ends (ends_list (not (is_empty k.1)) k.1)
           where
             by_ends : (b : Bool) → only_if {A = Tree × List Tok} (b && not (p.condition || is_try_alone q.0 q.1)) (Some (tr.frame (tr.structure q.0 q.1 (not (is_empty k.1))) k.0, g.1)) ≡ None
             by_ends true = rw h refl
@@ -38,20 +38,20 @@ pub structure_is : (p : Place) (q : QPathTree) (l : List Tok) → (p.condition |
 unfolding frame_stands structure_behind
 structure_is p q l h = by_group (group_at del.Brace l)
   where
-    by_ends : (ks : Kids) (n : List Tok) (d b : Bool) → only_if {A = Tree × List Tok} (b && not (p.condition || is_try_alone q.0 q.1)) (Some (tr.frame (tr.structure q.0 q.1 d) ks, n))
+    by_ends : (ks : Children) (n : List Tok) (d b : Bool) → only_if {A = Tree × List Tok} (b && not (p.condition || is_try_alone q.0 q.1)) (Some (tr.frame (tr.structure q.0 q.1 d) ks, n))
         ≡ only_if b (Some (tr.frame (tr.structure q.0 q.1 d) ks, n))
     by_ends ks n d true = rw h refl
     by_ends ks n d false = refl
 
-    by_kids : (n : List Tok) (k : Outcome Kids) → and_then k (λ ks o. structured expr p q (not (is_empty o)) o ks n)
+    by_children : (n : List Tok) (k : Outcome Children) → and_then k (λ ks o. structured expr p q (not (is_empty o)) o ks n)
         ≡ and_then k (λ ks o. only_if {A = Tree × List Tok} (ends_list (not (is_empty o)) o) (Some (tr.frame (tr.structure q.0 q.1 (not (is_empty o))) ks, n)))
-    by_kids n None = refl
-    by_kids n (Some k) = by_ends k.0 n (not (is_empty k.1)) (ends_list (not (is_empty k.1)) k.1)
+    by_children n None = refl
+    by_children n (Some k) = by_ends k.0 n (not (is_empty k.1)) (ends_list (not (is_empty k.1)) k.1)
 
     by_group : (o : Option (List Tok × List Tok)) → and_then o (λ i n. and_then (bare_operands expr s.fields i) (λ ks o. structured expr p q (not (is_empty o)) o ks n))
         ≡ and_then o (λ i n. and_then (bare_operands expr s.fields i) (λ ks o. only_if {A = Tree × List Tok} (ends_list (not (is_empty o)) o) (Some (tr.frame (tr.structure q.0 q.1 (not (is_empty o))) ks, n))))
     by_group None = refl
-    by_group (Some g) = by_kids g.1 (bare_operands expr s.fields g.0)
+    by_group (Some g) = by_children g.1 (bare_operands expr s.fields g.0)
 
 pub ruleset structures = (structure_refused, structure_is)
 
@@ -60,19 +60,19 @@ pub behind_is : (q : QPathTree) (l : List Tok) → structure_behind q l ≡ and_
 unfolding structure_behind braced
 behind_is q l = by_group (group_at del.Brace l)
   where
-    by_ends : (ks : Kids) (o n : List Tok) (d b : Bool) → only_if {A = Tree × List Tok} b (Some (tr.frame (tr.structure q.0 q.1 d) ks, n))
-        ≡ and_then {A = Kids × Bool} (only_if b (Some ((ks, d), drop 2 o))) (λ k m. Some (tr.frame (tr.structure q.0 q.1 k.1) k.0, n))
+    by_ends : (ks : Children) (o n : List Tok) (d b : Bool) → only_if {A = Tree × List Tok} b (Some (tr.frame (tr.structure q.0 q.1 d) ks, n))
+        ≡ and_then {A = Children × Bool} (only_if b (Some ((ks, d), drop 2 o))) (λ k m. Some (tr.frame (tr.structure q.0 q.1 k.1) k.0, n))
     by_ends ks o n d true = refl
     by_ends ks o n d false = refl
 
-    by_kids : (n : List Tok) (k : Outcome Kids) → and_then k (λ ks o. only_if {A = Tree × List Tok} (ends_list (not (is_empty o)) o) (Some (tr.frame (tr.structure q.0 q.1 (not (is_empty o))) ks, n)))
-        ≡ and_then {A = Kids × Bool} (and_then k ended) (λ k m. Some (tr.frame (tr.structure q.0 q.1 k.1) k.0, n))
-    by_kids n None = refl
-    by_kids n (Some k) = by_ends k.0 k.1 n (not (is_empty k.1)) (ends_list (not (is_empty k.1)) k.1)
+    by_children : (n : List Tok) (k : Outcome Children) → and_then k (λ ks o. only_if {A = Tree × List Tok} (ends_list (not (is_empty o)) o) (Some (tr.frame (tr.structure q.0 q.1 (not (is_empty o))) ks, n)))
+        ≡ and_then {A = Children × Bool} (and_then k ended) (λ k m. Some (tr.frame (tr.structure q.0 q.1 k.1) k.0, n))
+    by_children n None = refl
+    by_children n (Some k) = by_ends k.0 k.1 n (not (is_empty k.1)) (ends_list (not (is_empty k.1)) k.1)
 
     by_group : (o : Option (List Tok × List Tok)) → and_then o (λ i n. and_then (bare_operands expr s.fields i) (λ ks o. only_if {A = Tree × List Tok} (ends_list (not (is_empty o)) o) (Some (tr.frame (tr.structure q.0 q.1 (not (is_empty o))) ks, n))))
         ≡ and_then o (λ i n. and_then (braced i) (λ k m. Some (tr.frame (tr.structure q.0 q.1 k.1) k.0, n)))
     by_group None = refl
-    by_group (Some g) = by_kids g.1 (bare_operands expr s.fields g.0)
+    by_group (Some g) = by_children g.1 (bare_operands expr s.fields g.0)
 
 pub ruleset behind = (behind_is)

@@ -4,19 +4,19 @@ use Rattle.syn_tokens.specs.Front.{is_empty}
 use Rattle.syn_parts.specs.Form.{and_then}
 use Rattle.syn_parts.specs.Mark.{semi}
 use Rattle.syn_grammar.specs.Tree as e
-use Rattle.syn_grammar.specs.Tree.{Tree, Kids, Ending, frame, none, kid}
+use Rattle.syn_grammar.specs.Tree.{Tree, Children, Ending, frame, none, child}
 use Rattle.syn_grammar.specs.Place.{plain}
 use Rattle.syn_grammar.specs.Slot as s
 use Rattle.syn_grammar.specs.Slot.{comma_or_end}
 use Rattle.syn_grammar.specs.Read.{Reading, expr, bare_operands}
 
 -- elements, each before a comma, before others
-abbrev pub before : List Tree → Kids → Kids
+abbrev pub before : List Tree → Children → Children
 before [] ks = ks
-before (x ∷ xs) ks = kid e.element e.comma x (before xs ks)
+before (x ∷ xs) ks = child e.element e.comma x (before xs ks)
 
 -- behind elements that were read, each with its comma
-unfoldable pub gathered : List Tree → Reading Kids
+unfoldable pub gathered : List Tree → Reading Children
 gathered xs l = and_then (bare_operands expr s.elements l) (λ ks o. Some (before xs ks, o))
 
 -- an element, and the comma behind it or none
@@ -24,16 +24,16 @@ unfoldable pub element : Reading (Ending × Tree)
 element l = and_then (expr plain l) (λ x m. and_then (comma_or_end m) (λ c n. Some ((c, x), n)))
 
 -- the elements of an array behind the first expression in its brackets
-unfoldable pub behind_first : Tree → Reading Kids
-behind_first x l = and_then (comma_or_end l) (λ c n. and_then (bare_operands expr s.elements n) (λ ks o. Some (kid e.element c x ks, o)))
+unfoldable pub behind_first : Tree → Reading Children
+behind_first x l = and_then (comma_or_end l) (λ c n. and_then (bare_operands expr s.elements n) (λ ks o. Some (child e.element c x ks, o)))
 
 -- an expression alone, in its delimiters
-unfoldable pub single : Reading Kids
-single l = and_then (expr plain l) (λ x n. Some (kid e.value e.no_ending x none, n))
+unfoldable pub single : Reading Children
+single l = and_then (expr plain l) (λ x n. Some (child e.value e.no_ending x none, n))
 
 -- what stands in brackets: nothing, one expression for each element and how many there are, or the elements
 unfoldable pub bracketed : Reading Tree
 bracketed l =
     if is_empty l then Some (frame e.array none, l) else and_then (expr plain l) (λ x m.
-    if semi.at m then and_then (single (drop 1 m)) (λ ks n. Some (frame e.repeat (kid e.repeated e.no_ending x ks), n))
+    if semi.at m then and_then (single (drop 1 m)) (λ ks n. Some (frame e.repeat (child e.repeated e.no_ending x ks), n))
     else and_then (behind_first x m) (λ ks n. Some (frame e.array ks, n)))

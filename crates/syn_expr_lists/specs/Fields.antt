@@ -5,7 +5,7 @@ use Rattle.syn_parts.specs.Form.{and_then}
 use Rattle.syn_parts.specs.Pat.{MemberTree, a_name, an_index}
 use Rattle.syn_grammar.specs.Place.{plain}
 use Rattle.syn_grammar.specs.Tree as e
-use Rattle.syn_grammar.specs.Tree.{Tree, Kids, Piece, Ending}
+use Rattle.syn_grammar.specs.Tree.{Tree, Children, Piece, Ending}
 use Rattle.syn_grammar.specs.Slot as s
 use Rattle.syn_grammar.specs.Slot.{piece_form, comma_or_end}
 use Rattle.syn_grammar.specs.Stands.{ends_list, path_of}
@@ -44,13 +44,13 @@ unfoldable pub entry : Reading Entry
 entry l = and_then ((piece_form s.fields).reads l) entry_by
 
 -- the operands, and whether `..` ends them
-abbrev pub ended : Kids → Reading (Kids × Bool)
+abbrev pub ended : Children → Reading (Children × Bool)
 ended ks o = only_if (ends_list (not (is_empty o)) o) (Some ((ks, not (is_empty o)), drop 2 o))
 
 -- fields, and what may stand behind them
-unfoldable pub braced : Reading (Kids × Bool)
+unfoldable pub braced : Reading (Children × Bool)
 braced l = and_then (bare_operands expr s.fields l) ended
 
 -- the same behind fields that were read, each with its comma
-unfoldable pub gathered : List FieldView → Reading (Kids × Bool)
+unfoldable pub gathered : List FieldView → Reading (Children × Bool)
 gathered xs l = and_then (bare_operands expr s.fields l) (λ ks o. ended (fields xs true ks) o)

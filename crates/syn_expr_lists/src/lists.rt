@@ -58,7 +58,7 @@ fn repeat<E: IsExpr + Drop>(
     semi_token: Semi,
     len: Box<E>,
 ) -> std::result::Result<Box<E>, AllocError>
-    ensures { IfOk result (λ b. E.tree b.value ≡ e.frame e.repeat (e.kid e.repeated e.no_ending (E.tree expr.value) (e.kid e.value e.no_ending (E.tree len.value) e.none))) }
+    ensures { IfOk result (λ b. E.tree b.value ≡ e.frame e.repeat (e.child e.repeated e.no_ending (E.tree expr.value) (e.child e.value e.no_ending (E.tree len.value) e.none))) }
 {
     let attrs = Vec::new(alloc);
     let x = E::repeat(ExprRepeatOf {
@@ -197,7 +197,7 @@ impl<E: ReadExprs + Drop, F: Fn(&mut ParseBuffer<'_>, Place) -> Result<Box<E>>> 
     pub fn index(&self, input: &mut ParseBuffer<'_>) -> Result<(Bracket, Box<E>)>
         requires callable { Callable (weight input.old.rest) (F.pre self.now.expr) }
         requires reads { ReadsExpr E.tree (F.post self.now.expr) }
-        ensures value { Reads (λ i. e.kid e.value e.no_ending (E.tree i.1.value) e.none) (read.content read.expr (slot.trailer_holder e.index) input.old.rest) result input.new.rest }
+        ensures value { Reads (λ i. e.child e.value e.no_ending (E.tree i.1.value) e.none) (read.content read.expr (slot.trailer_holder e.index) input.old.rest) result input.new.rest }
         ensures noted { input.new.noted ≡ input.old.noted }
         ensures shrinks { weight input.new.rest ≤ weight input.old.rest }
     {

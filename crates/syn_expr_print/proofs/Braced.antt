@@ -8,28 +8,28 @@ use Rattle.syn_grammar.specs.declared.kinds.Level.TheVariants as lev
 use Rattle.syn_grammar.specs.Next.{enclosed, in_statement}
 use Rattle.syn_grammar.specs.Rule.{put, place_asks, bare, chained_bare, is_chainable, is_plain_block}
 use Rattle.syn_grammar.specs.Tree as e
-use Rattle.syn_grammar.specs.Tree.{Tree, Kids, Leaf, Frame, leaf, paren, adorned, lead, mid, post, tail, frame, own_tokens, plain_block, fill}
+use Rattle.syn_grammar.specs.Tree.{Tree, Children, Leaf, Frame, leaf, paren, attributed, prefixed, infixed, postfixed, tail, frame, own_tokens, plain_block, fill}
 use Rattle.syn_expr_kinds.specs.Printed.{whole}
 use Rattle.syn_expr_print.specs.Printing.{spelled, piece_spelled}
 
 chainable-fill : (t : Tree) → is_chainable (fill t) ≡ is_chainable t
 chainable-fill (leaf k) = refl
-chainable-fill (adorned a more t) = chainable-fill t
+chainable-fill (attributed a more t) = chainable-fill t
 chainable-fill (frame k ks) = refl
 chainable-fill (paren m t) = refl
-chainable-fill (lead k gs t) = refl
-chainable-fill (mid x k y) = refl
-chainable-fill (post x k) = refl
+chainable-fill (prefixed k gs t) = refl
+chainable-fill (infixed x k y) = refl
+chainable-fill (postfixed x k) = refl
 chainable-fill (tail b k ks) = refl
 
 plain-fill : (t : Tree) → is_plain_block (fill t) ≡ is_plain_block t
 plain-fill (leaf k) = refl
-plain-fill (adorned a more t) = refl
+plain-fill (attributed a more t) = refl
 plain-fill (frame k ks) = refl
 plain-fill (paren m t) = refl
-plain-fill (lead k gs t) = refl
-plain-fill (mid x k y) = refl
-plain-fill (post x k) = refl
+plain-fill (prefixed k gs t) = refl
+plain-fill (infixed x k y) = refl
+plain-fill (postfixed x k) = refl
 plain-fill (tail b k ks) = refl
 
 -- a block of these tokens
@@ -48,26 +48,26 @@ chained-by t b h =
 pub chained-braced : (t : Tree) → is_chainable t ≡ false → piece_spelled e.chained t ≡ group del.Brace (inside (whole in_statement t)) ∷ []
 chained-braced t h = chained-by t false h ∙ braces-of t
 
-pub chained-frame : (k : Frame) (ks : Kids) → is_chainable (frame k ks) ≡ true → piece_spelled e.chained (frame k ks) ≡ spelled enclosed (frame k ks)
+pub chained-frame : (k : Frame) (ks : Children) → is_chainable (frame k ks) ≡ true → piece_spelled e.chained (frame k ks) ≡ spelled enclosed (frame k ks)
 unfolding spelled
 chained-frame k ks h = chained-by (frame k ks) true h
 
 -- an `if` without its attributes
-pub chained-adorned : (a : AttributeTree) (more : List AttributeTree) (k : Frame) (ks : Kids) → is_chainable (frame k ks) ≡ true
-    → piece_spelled e.chained (adorned a more (frame k ks)) ≡ spelled enclosed (frame k ks)
+pub chained-attributed : (a : AttributeTree) (more : List AttributeTree) (k : Frame) (ks : Children) → is_chainable (frame k ks) ≡ true
+    → piece_spelled e.chained (attributed a more (frame k ks)) ≡ spelled enclosed (frame k ks)
 unfolding spelled
-chained-adorned a more k ks h = chained-by (adorned a more (frame k ks)) true h
+chained-attributed a more k ks h = chained-by (attributed a more (frame k ks)) true h
 
 pub chained-leaf : (k : Leaf) → is_chainable (leaf k) ≡ true → piece_spelled e.chained (leaf k) ≡ spelled enclosed (leaf k)
 unfolding spelled
 chained-leaf k h = chained-by (leaf k) true h
 
-pub chained-adorned-leaf : (a : AttributeTree) (more : List AttributeTree) (k : Leaf) → is_chainable (leaf k) ≡ true
-    → piece_spelled e.chained (adorned a more (leaf k)) ≡ spelled enclosed (adorned a more (leaf k))
+pub chained-attributed-leaf : (a : AttributeTree) (more : List AttributeTree) (k : Leaf) → is_chainable (leaf k) ≡ true
+    → piece_spelled e.chained (attributed a more (leaf k)) ≡ spelled enclosed (attributed a more (leaf k))
 unfolding spelled
-chained-adorned-leaf a more k h = chained-by (adorned a more (leaf k)) true h ∙ ap own_tokens (by k)
+chained-attributed-leaf a more k h = chained-by (attributed a more (leaf k)) true h ∙ ap own_tokens (by k)
   where
-    by : (k : Leaf) → chained_bare (bare enclosed (fill (adorned a more (leaf k)))) ≡ bare enclosed (fill (adorned a more (leaf k)))
+    by : (k : Leaf) → chained_bare (bare enclosed (fill (attributed a more (leaf k)))) ≡ bare enclosed (fill (attributed a more (leaf k)))
     by (e.full_range op) = refl
     by _ = refl
 

@@ -2,13 +2,13 @@
 use Rattle.std.specs.Prelude.{◌&&◌, if◌then◌else◌, Some, None}
 use Rattle.std.proofs.Common.{◌≡◌, Bool, true, false, refl, sym, ap, ◌∙◌}
 use Rattle.std.proofs.Math.Bool.{and-false}
-use Rattle.syn_grammar.specs.declared.note.Sort.{Sort}
-use Rattle.syn_grammar.specs.declared.note.Sort.TheVariants as sort
-use Rattle.syn_grammar.specs.Notes.{note_of, leaf_sort, adorned_sort}
+use Rattle.syn_grammar.specs.declared.summary.Sort.{Sort}
+use Rattle.syn_grammar.specs.declared.summary.Sort.TheVariants as sort
+use Rattle.syn_grammar.specs.Summaries.{summary_of, leaf_sort, attributed_sort}
 use Rattle.syn_grammar.specs.Rule.{is_plain_leaf, is_plain_block}
 use Rattle.syn_grammar.specs.Tree as e
 use Rattle.syn_grammar.proofs.Bools.{and_true}
-use Rattle.syn_grammar.specs.Tree.{Tree, Leaf, leaf, paren, adorned, lead, mid, post, tail, frame}
+use Rattle.syn_grammar.specs.Tree.{Tree, Leaf, leaf, paren, attributed, prefixed, infixed, postfixed, tail, frame}
 use Rattle.syn_expr_kinds.specs.Node.{leaf_at}
 use Rattle.syn_expr_print.specs.Placed.{is_block_sort}
 use Rattle.syn_expr_print.proofs.Braced.{output-plain, output-braced}
@@ -23,15 +23,15 @@ plain-sort e.infer = refl
 plain-sort (e.full_range op) = refl
 plain-sort (e.bare_jump j) = refl
 plain-sort (e.continuing w) = refl
-plain-sort (e.looping w b) = refl
+plain-sort (e.loop_expr w b) = refl
 plain-sort (e.unsafe_block b) = refl
 plain-sort (e.const_block b) = refl
 plain-sort (e.async_block m ts) = refl
 plain-sort (e.try_block ts) = refl
 plain-sort (e.verbatim ts) = refl
 
--- behind attributes a node's note says of no block
-behind-sort : (b : Bool) (s : Sort) → is_block_sort (if b then sort.Other else adorned_sort s) ≡ false
+-- behind attributes a node's summary says of no block
+behind-sort : (b : Bool) (s : Sort) → is_block_sort (if b then sort.Other else attributed_sort s) ≡ false
 behind-sort true s = refl
 behind-sort false sort.Block = refl
 behind-sort false sort.BlockLike = refl
@@ -40,23 +40,23 @@ behind-sort false sort.Let = refl
 behind-sort false sort.Struct = refl
 behind-sort false sort.Other = refl
 
-pub plain-is : (t : Tree) (k : Leaf) → leaf_at t ≡ Some k → is_plain_block t ≡ is_plain_leaf k && is_block_sort (note_of t).sort
+pub plain-is : (t : Tree) (k : Leaf) → leaf_at t ≡ Some k → is_plain_block t ≡ is_plain_leaf k && is_block_sort (summary_of t).sort
 plain-is (leaf j) k h = let i : j ≡ k = cc in ap (λ z. is_plain_leaf z) i ∙ plain-sort k ∙ ap (λ z. is_plain_leaf k && is_block_sort (leaf_sort z)) (sym i)
-plain-is (adorned a more t) k h = sym (and-false (is_plain_leaf k)) ∙ ap (λ b. is_plain_leaf k && b) (sym (behind-sort (note_of t).operation (note_of t).sort))
+plain-is (attributed a more t) k h = sym (and-false (is_plain_leaf k)) ∙ ap (λ b. is_plain_leaf k && b) (sym (behind-sort (summary_of t).operation (summary_of t).sort))
 plain-is (paren m t) k h = absurd cc
-plain-is (lead j gs t) k h = absurd cc
-plain-is (mid x j y) k h = absurd cc
-plain-is (post x j) k h = absurd cc
+plain-is (prefixed j gs t) k h = absurd cc
+plain-is (infixed x j y) k h = absurd cc
+plain-is (postfixed x j) k h = absurd cc
 plain-is (tail b j ks) k h = absurd cc
 plain-is (frame j ks) k h = absurd cc
 
 pub never-plain : (t : Tree) → leaf_at t ≡ None → is_plain_block t ≡ false
 never-plain (leaf k) h = absurd cc
-never-plain (adorned a more t) h = refl
+never-plain (attributed a more t) h = refl
 never-plain (paren m t) h = refl
-never-plain (lead k gs t) h = refl
-never-plain (mid x k y) h = refl
-never-plain (post x k) h = refl
+never-plain (prefixed k gs t) h = refl
+never-plain (infixed x k y) h = refl
+never-plain (postfixed x k) h = refl
 never-plain (tail b k ks) h = refl
 never-plain (frame k ks) h = refl
 

@@ -7,16 +7,16 @@ use Rattle.syn_parts.specs.Form.{is_nil}
 use Rattle.syn_parts.specs.Own.{alone, joint, before_if}
 use Rattle.syn_parts.specs.PatOwn.{attributes_own, pat_own}
 use Rattle.syn_lower_leaves.specs.View.{mapped}
-use Rattle.syn_grammar.specs.declared.note.Note.{Note}
-use Rattle.syn_grammar.specs.declared.note.Sort.{Sort}
-use Rattle.syn_grammar.specs.declared.note.Sort.TheVariants as sort
+use Rattle.syn_grammar.specs.declared.summary.Summary.{Summary}
+use Rattle.syn_grammar.specs.declared.summary.Sort.{Sort}
+use Rattle.syn_grammar.specs.declared.summary.Sort.TheVariants as sort
 use Rattle.syn_grammar.specs.Next.{enclosed, in_arm}
 use Rattle.syn_grammar.specs.Rule.{is_block_expr_leaf, is_if}
 use Rattle.syn_grammar.specs.Tree as e
-use Rattle.syn_grammar.specs.Tree.{Tree, Kids, Frame, enclosure, is_block_like, size}
-use Rattle.syn_expr_notes.specs.declared.kind.NodeKind.{NodeKind}
-use Rattle.syn_expr_notes.specs.declared.kind.NodeKind.TheVariants as node
-use Rattle.syn_expr_notes.specs.declared.label.LeafKind.TheVariants as leaf
+use Rattle.syn_grammar.specs.Tree.{Tree, Children, Frame, enclosure, is_block_like, size}
+use Rattle.syn_expr_summaries.specs.declared.kind.NodeKind.{NodeKind}
+use Rattle.syn_expr_summaries.specs.declared.kind.NodeKind.TheVariants as node
+use Rattle.syn_expr_summaries.specs.declared.label.LeafKind.TheVariants as leaf
 use Rattle.syn_expr_kinds.specs.Pats.{ArmView}
 use Rattle.syn_expr_kinds.specs.View.{FieldView}
 use Rattle.syn_expr_collect.specs.Arm.{guard_at}
@@ -43,7 +43,7 @@ abbrev pub last_field_spelled : Option FieldView → Bool → List Tok
 last_field_spelled None b = []
 last_field_spelled (Some x) b = field_spelled x ++ comma_if b
 
-abbrev pub last_field_below : Option FieldView → List Note
+abbrev pub last_field_below : Option FieldView → List Summary
 last_field_below None = []
 last_field_below (Some x) = field_below x
 
@@ -90,15 +90,15 @@ else_spelled (Some t) = ident (codes "else") ∷ piece_spelled e.chained t
 -- whether it is a block, behind attributes too
 abbrev pub is_block : Tree → Bool
 is_block (e.leaf k) = is_block_expr_leaf k
-is_block (e.adorned a more t) = is_block t
+is_block (e.attributed a more t) = is_block t
 is_block _ = false
 
 -- ---- frames
 
 -- with its guards
-abbrev pub is_branch : Option (Frame × List Tree) → Bool
-is_branch None = false
-is_branch (Some p) = is_if p.0
+abbrev pub is_if_expr : Option (Frame × List Tree) → Bool
+is_if_expr None = false
+is_if_expr (Some p) = is_if p.0
 
 abbrev pub is_single : {A : Type 0} → List A → Bool
 is_single (x ∷ []) = true
@@ -120,11 +120,11 @@ abbrev pub is_enclosed : Option (Frame × List Tree) → Bool
 is_enclosed None = false
 is_enclosed (Some p) = is_some (enclosure p.0)
 
-abbrev pub needs_comma : Option (Frame × List Tree) → Kids → Bool
+abbrev pub needs_comma : Option (Frame × List Tree) → Children → Bool
 needs_comma None ks = false
 needs_comma (Some p) ks = needs_last p.0 (e.is_one ks)
 
--- ---- kinds, and what a note says
+-- ---- kinds, and what a summary says
 
 abbrev pub is_block_sort : Sort → Bool
 is_block_sort sort.Block = true

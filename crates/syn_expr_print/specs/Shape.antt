@@ -9,18 +9,18 @@ use Rattle.syn_expr_kinds.specs.Node.{stray_trees}
 pub data ShapeTree : Type 0 where
   leaf_shape : e.Leaf → ShapeTree
   paren_shape : ShapeTree
-  lead_shape : e.Lead → List Tree → ShapeTree
-  mid_shape : Infix → ShapeTree
-  post_shape : e.Post → ShapeTree
+  prefix_shape : e.Prefix → List Tree → ShapeTree
+  infix_shape : Infix → ShapeTree
+  postfix_shape : e.Postfix → ShapeTree
   tail_shape : e.Trailer → ShapeTree
   frame_shape : e.Frame → List Tree → ShapeTree
 
 abbrev pub shape_at : Tree → ShapeTree
 shape_at (e.leaf k) = leaf_shape k
 shape_at (e.paren m t) = paren_shape
-shape_at (e.adorned a more t) = shape_at t
-shape_at (e.lead k gs t) = lead_shape k (stray_trees gs)
-shape_at (e.mid x op y) = mid_shape op
-shape_at (e.post x k) = post_shape k
+shape_at (e.attributed a more t) = shape_at t
+shape_at (e.prefixed k gs t) = prefix_shape k (stray_trees gs)
+shape_at (e.infixed x op y) = infix_shape op
+shape_at (e.postfixed x k) = postfix_shape k
 shape_at (e.tail b k ks) = tail_shape k
 shape_at (e.frame k ks) = frame_shape k (stray_trees ks)

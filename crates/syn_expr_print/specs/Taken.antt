@@ -1,14 +1,14 @@
--- Notes that were taken, one visit each.
+-- Summaries that were taken, one visit each.
 use Rattle.std.specs.Prelude.{◌≡◌, ◌+◌, ◌-◌, ◌^◌, min, length, List, ◌++◌}
-use Rattle.syn_grammar.specs.declared.note.Note.{Note}
-use Rattle.syn_expr_print.specs.declared.notes.Notes.{Notes}
+use Rattle.syn_grammar.specs.declared.summary.Summary.{Summary}
+use Rattle.syn_expr_print.specs.declared.summaries.Summaries.{Summaries}
 
-pub record Taken (old new : Notes) (xs : List Note) : Type 0 where
+pub record Taken (old new : Summaries) (xs : List Summary) : Type 0 where
   pub items : old.left.items ≡ new.left.items ++ xs
   pub visits : min new.visits (2 ^ 64 - 1) ≡ min (old.visits + length xs) (2 ^ 64 - 1)
 
--- of these notes those are left that come next
-pub record Going (old new : Notes) (all next : List Note) : Type 0 where
-  pub front : List Note
+-- of these summaries those are left that come next
+pub record Going (old new : Summaries) (all next : List Summary) : Type 0 where
+  pub front : List Summary
   pub is : all ≡ next ++ front
   pub taken : Taken old new front

@@ -8,7 +8,7 @@ ghost use Rattle.syn_expr_print.specs.Printing.{EndsWith, piece_spelled};
 ghost use Rattle.syn_expr_print.specs.Prints.{Callable, Prints};
 ghost use Rattle.syn_expr_print.specs.Taken.{Taken};
 ghost use Rattle.syn_grammar.specs.Next as next;
-ghost use Rattle.syn_grammar.specs.Notes.{below, note_of, stack};
+ghost use Rattle.syn_grammar.specs.Summaries.{below, summary_of, stack};
 ghost use Rattle.syn_grammar.specs.Rule as rule;
 ghost use Rattle.syn_grammar.specs.Tree as e;
 ghost use Rattle.syn_grammar.specs.Tree.{size};
@@ -17,81 +17,82 @@ ghost use Rattle.syn_tokens.specs.Input.{IsFront};
 ghost use Rattle.syn_tokens.specs.Tok as tok;
 
 use crate::node::HasPrint;
-use crate::notes::{Notes, take_note};
 use crate::operand::inside;
+use crate::summaries::{Summaries, take_summary};
 use syn_expr_kinds::body::put_braces;
 use syn_expr_kinds::node::HasShape;
-use syn_expr_kinds::put::Grown;
-use syn_expr_notes::context::{enclosed, in_statement};
-use syn_expr_notes::decide::place_by;
+use syn_expr_kinds::put::PutResult;
+use syn_expr_summaries::context::{enclosed, in_statement};
+use syn_expr_summaries::decide::place_by;
 use syn_grammar::kinds::Level;
 use syn_grammar::next::Context;
-use syn_grammar::note::{Note, Sort};
+use syn_grammar::summary::{Sort, Summary};
 use syn_tokens::token::Brace;
 use syn_tokens::tree::TokenStream;
 
-/// Whether a note is that of a block without a label, before which no attributes stand.
+/// Whether a summary is that of a block without a label, before which no attributes stand.
 fn is_block_sort(sort: Sort) -> bool
     ensures { result ≡ placed.is_block_sort sort }
 {
     matches!(sort, Sort::Block)
 }
 
-/// Whether a node is a block without a label and attributes; `note` is its note.
+/// Whether a node is a block without a label and attributes; `summary` is its summary.
 #[tactic(auto, using(crate::proofs::Plain::plains))]
-fn is_plain_block<E: HasShape>(x: &E, note: Note) -> bool
-    requires { note ≡ note_of (E.tree x.now) }
+fn is_plain_block<E: HasShape>(x: &E, summary: Summary) -> bool
+    requires { summary ≡ summary_of (E.tree x.now) }
     ensures { result ≡ rule.is_plain_block (E.tree x.now) }
 {
     match x.leaf() {
-        Some(leaf) => leaf.is_plain_block() && is_block_sort(note.sort),
+        Some(leaf) => leaf.is_plain_block() && is_block_sort(summary.sort),
         None => false,
     }
 }
 
-/// Prints what is put in braces, where it stands as a statement; its note was taken.
+/// Prints what is put in braces, where it stands as a statement; its summary was taken.
 #[tactic(auto, using(syn_tokens::proofs::Fronts::fronts, crate::proofs::Spellings::roles))]
-pub(crate) fn braced<E: HasPrint, F: Fn(&mut TokenStream, &mut Notes, &E, Context) -> Grown>(
+pub(crate) fn braced<
+    E: HasPrint,
+    F: Fn(&mut TokenStream, &mut Summaries, &E, Context) -> PutResult,
+>(
     bare: &F,
     tokens: &mut TokenStream,
-    notes: &mut Notes,
+    summaries: &mut Summaries,
     x: &E,
-    note: Note,
-) -> Grown
-    requires note { note ≡ note_of (E.tree x.now) }
+    summary: Summary,
+) -> PutResult
+    requires summary { summary ≡ summary_of (E.tree x.now) }
     requires callable { Callable E.tree (size (E.tree x.now) + 1) (F.pre bare.now) }
     requires prints { Prints E.tree (F.post bare.now) }
-    requires stacked { EndsWith notes.old.left.items (below (E.tree x.now)) }
+    requires stacked { EndsWith summaries.old.left.items (below (E.tree x.now)) }
     ensures text { OnOk result (tokens.new ≡ tokens.old ++ tok.group del.Brace (tok.inside (printed.whole next.in_statement (E.tree x.now))) ∷ []) }
     ensures front { IsFront tokens.old tokens.new }
-    ensures taken { OnOk result (Taken notes.old notes.new (below (E.tree x.now))) }
+    ensures taken { OnOk result (Taken summaries.old summaries.new (below (E.tree x.now))) }
 {
     let mut statement = TokenStream::new(tokens.alloc());
     let context = in_statement();
-    let wrapped = place_by(Level::Jump, context, note);
-    inside(bare, &mut statement, notes, x, wrapped, context)?;
+    let wrapped = place_by(Level::Jump, context, summary);
+    inside(bare, &mut statement, summaries, x, wrapped, context)?;
     put_braces(tokens, &Brace::default(), statement)
 }
 
 /// Prints the body of a closure with an output: a block, or anything else in braces.
 #[tactic(auto, using(syn_tokens::proofs::Fronts::fronts, crate::proofs::Spellings::roles, crate::proofs::Plain::outputs, crate::proofs::Stacks::takes))]
-pub(crate) fn output<E: HasPrint, F: Fn(&mut TokenStream, &mut Notes, &E, Context) -> Grown>(
-    bare: &F,
-    tokens: &mut TokenStream,
-    notes: &mut Notes,
-    x: &E,
-) -> Grown
+pub(crate) fn output<
+    E: HasPrint,
+    F: Fn(&mut TokenStream, &mut Summaries, &E, Context) -> PutResult,
+>(bare: &F, tokens: &mut TokenStream, summaries: &mut Summaries, x: &E) -> PutResult
     requires callable { Callable E.tree (size (E.tree x.now) + 1) (F.pre bare.now) }
     requires prints { Prints E.tree (F.post bare.now) }
-    requires stacked { EndsWith notes.old.left.items (stack (E.tree x.now)) }
+    requires stacked { EndsWith summaries.old.left.items (stack (E.tree x.now)) }
     ensures text { OnOk result (tokens.new ≡ tokens.old ++ piece_spelled e.output_block (E.tree x.now)) }
     ensures front { IsFront tokens.old tokens.new }
-    ensures taken { OnOk result (Taken notes.old notes.new (stack (E.tree x.now))) }
+    ensures taken { OnOk result (Taken summaries.old summaries.new (stack (E.tree x.now))) }
 {
-    let note = take_note(notes, x);
-    if is_plain_block(x, note) {
-        inside(bare, tokens, notes, x, false, enclosed())
+    let summary = take_summary(summaries, x);
+    if is_plain_block(x, summary) {
+        inside(bare, tokens, summaries, x, false, enclosed())
     } else {
-        braced(bare, tokens, notes, x, note)
+        braced(bare, tokens, summaries, x, summary)
     }
 }

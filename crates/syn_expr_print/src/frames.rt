@@ -4,19 +4,19 @@
 ghost use Rattle.std.specs.Prelude.{◌≡◌, ◌+◌, ◌++◌, [], map, true, is_some, OnOk};
 ghost use Rattle.syn_expr_collect.specs.Below.{arm_below, backwards, option_below, total};
 ghost use Rattle.syn_expr_kinds.specs.Attrs.{inner_of};
-ghost use Rattle.syn_expr_kinds.specs.Node.{braces_of, frame_at, frame_of, operand_kids, operands_at, operands_of};
+ghost use Rattle.syn_expr_kinds.specs.Node.{braces_of, frame_at, frame_of, operand_children, operands_at, operands_of};
 ghost use Rattle.syn_expr_kinds.specs.Pats.{ArmView};
 ghost use Rattle.syn_expr_kinds.specs.View.{body_of};
 ghost use Rattle.syn_expr_print.specs.Placed as placed;
 ghost use Rattle.syn_expr_print.specs.Placed.{arm_size, arms_spelled, else_spelled, else_tree, option_size};
 ghost use Rattle.syn_expr_kinds.specs.Printed as printed;
-ghost use Rattle.syn_expr_print.specs.Printing.{EndsWith, core, kids_spelled, piece_spelled, spelled};
+ghost use Rattle.syn_expr_print.specs.Printing.{EndsWith, core, children_spelled, piece_spelled, spelled};
 ghost use Rattle.syn_expr_print.specs.Prints.{Callable, Prints};
 ghost use Rattle.syn_expr_print.specs.Taken.{Taken};
 ghost use Rattle.syn_grammar.specs.Next as next;
-ghost use Rattle.syn_grammar.specs.Notes.{below, kids_below, stack};
+ghost use Rattle.syn_grammar.specs.Summaries.{below, children_below, stack};
 ghost use Rattle.syn_grammar.specs.Tree as e;
-ghost use Rattle.syn_grammar.specs.Tree.{Tree, body_own, enclosure, inners, kids_size, size};
+ghost use Rattle.syn_grammar.specs.Tree.{Tree, body_own, enclosure, inners, children_size, size};
 ghost use Rattle.syn_grammar.specs.declared.next.Context as contexts;
 ghost use Rattle.syn_lower_lists.specs.View.{values};
 ghost use Rattle.syn_lexer.specs.declared.lexeme.Delimiter.TheVariants as del;
@@ -25,25 +25,25 @@ ghost use Rattle.syn_parts.specs.PatOwn.{attributes_own};
 ghost use Rattle.syn_tokens.specs.Input.{IsFront};
 
 use crate::blocks::{braced, output};
-use crate::choice;
+use crate::match_expr;
 use crate::node::HasPrint;
-use crate::notes::{Notes, take_note};
 use crate::operand::{inside, whole};
 use crate::places::{elements, repeated};
 use crate::structure::fields;
+use crate::summaries::{Summaries, take_summary};
 use syn_expr_collect::HasArms;
 use syn_expr_kinds::attrs::put_inner;
 use syn_expr_kinds::body::{put_body, put_braces};
 use syn_expr_kinds::node::{Braces, Frame, HasKind, HasShape, Operands};
-use syn_expr_kinds::put::{Grown, put};
+use syn_expr_kinds::put::{PutResult, put};
 use syn_expr_kinds::structure::FieldValueOf;
-use syn_expr_notes::context::{enclosed, in_condition};
-use syn_expr_notes::kind::NodeKind;
-use syn_expr_notes::label::LeafKind;
 use syn_expr_put::arm::HasArmHead;
 use syn_expr_put::frame::{put_frame_head, put_framed};
-use syn_expr_put::lead::PutPat;
 use syn_expr_put::mark::put_else;
+use syn_expr_put::prefix::PutPat;
+use syn_expr_summaries::context::{enclosed, in_condition};
+use syn_expr_summaries::kind::NodeKind;
+use syn_expr_summaries::label::LeafKind;
 use syn_grammar::next::Context;
 use syn_lower::attr::Attribute;
 use syn_lower::punctuated::Punctuated;
@@ -63,8 +63,8 @@ fn is_block<E: HasKind>(x: &E) -> bool
 }
 
 /// Whether it is an `if`, behind attributes too.
-fn is_branch<E: HasShape>(x: &E) -> bool
-    ensures { result ≡ placed.is_branch (frame_at (E.tree x.now)) }
+fn is_if_expr<E: HasShape>(x: &E) -> bool
+    ensures { result ≡ placed.is_if_expr (frame_at (E.tree x.now)) }
 {
     match x.frame() {
         Some(frame) => frame.is_if(),
@@ -137,7 +137,7 @@ fn is_one_field<E>(fields: &Punctuated<FieldValueOf<E>, Comma>, rest: &Option<Bo
 /// Whether there is one operand.
 #[tactic(auto, using(crate::proofs::Rounds::ones))]
 pub fn is_one<E, A>(operands: Operands<'_, E, A>) -> bool
-    ensures { (tree : E → Tree) (arm : A → ArmView) → result ≡ e.is_one (operand_kids (operands_of tree arm operands.entry)) }
+    ensures { (tree : E → Tree) (arm : A → ArmView) → result ≡ e.is_one (operand_children (operands_of tree arm operands.entry)) }
 {
     match operands {
         Operands::None => false,
@@ -160,7 +160,7 @@ pub fn is_one<E, A>(operands: Operands<'_, E, A>) -> bool
 fn around<E: HasShape>(x: &E) -> Asked
     requires { is_some (frame_at (E.tree x.now)) ≡ true }
     ensures enclosed { result.is_enclosed ≡ placed.is_enclosed (frame_at (E.tree x.now)) }
-    ensures comma { result.needs_comma ≡ placed.needs_comma (frame_at (E.tree x.now)) (operand_kids (operands_at (E.tree x.now))) }
+    ensures comma { result.needs_comma ≡ placed.needs_comma (frame_at (E.tree x.now)) (operand_children (operands_at (E.tree x.now))) }
 {
     let is_one = is_one(x.operands());
     round(x.frame().unwrap(), is_one)
@@ -170,123 +170,124 @@ fn around<E: HasShape>(x: &E) -> Asked
 
 /// Prints what a loop looks at, and its block.
 #[tactic(auto, using(syn_tokens::proofs::Fronts::fronts))]
-fn looped<E: HasPrint, F: Fn(&mut TokenStream, &mut Notes, &E, Context) -> Grown>(
+fn looped<E: HasPrint, F: Fn(&mut TokenStream, &mut Summaries, &E, Context) -> PutResult>(
     bare: &F,
     tokens: &mut TokenStream,
-    notes: &mut Notes,
+    summaries: &mut Summaries,
     head: &E,
     braces: Braces<'_>,
-) -> Grown
+) -> PutResult
     requires callable { Callable E.tree (size (E.tree head.now) + 1) (F.pre bare.now) }
     requires prints { Prints E.tree (F.post bare.now) }
-    requires stacked { EndsWith notes.old.left.items (stack (E.tree head.now)) }
+    requires stacked { EndsWith summaries.old.left.items (stack (E.tree head.now)) }
     ensures text { OnOk result (tokens.new ≡ tokens.old ++ (printed.whole next.in_condition (E.tree head.now) ++ body_own (braces_of braces.entry) [])) }
     ensures front { IsFront tokens.old tokens.new }
-    ensures taken { OnOk result (Taken notes.old notes.new (stack (E.tree head.now))) }
+    ensures taken { OnOk result (Taken summaries.old summaries.new (stack (E.tree head.now))) }
 {
-    whole(bare, tokens, notes, head, in_condition())?;
+    whole(bare, tokens, summaries, head, in_condition())?;
     put_body(tokens, braces)
 }
 
 /// Prints what a `match` looks at, and its arms in their braces, behind the inner attributes.
 #[tactic(auto, using(syn_tokens::proofs::Fronts::fronts, crate::proofs::Stacks::takes))]
-fn chosen<E: HasPrint + HasArms, F: Fn(&mut TokenStream, &mut Notes, &E, Context) -> Grown>(
+fn chosen<E: HasPrint + HasArms, F: Fn(&mut TokenStream, &mut Summaries, &E, Context) -> PutResult>(
     bare: &F,
     tokens: &mut TokenStream,
-    notes: &mut Notes,
+    summaries: &mut Summaries,
     scrutinee: &E,
     attrs: &Vec<Attribute>,
     brace: Brace,
     arms: &Vec<E::Arm>,
-) -> Grown
+) -> PutResult
 where
     E::Arm: HasArmHead,
     requires callable { Callable E.tree (size (E.tree scrutinee.now) + (total (λ x. arm_size (E.Arm.view x)) arms.now.items + 1)) (F.pre bare.now) }
     requires prints { Prints E.tree (F.post bare.now) }
-    requires stacked { EndsWith notes.old.left.items (backwards (λ x. arm_below (E.Arm.view x)) arms.now.items ++ stack (E.tree scrutinee.now)) }
+    requires stacked { EndsWith summaries.old.left.items (backwards (λ x. arm_below (E.Arm.view x)) arms.now.items ++ stack (E.tree scrutinee.now)) }
     ensures text { OnOk result (tokens.new ≡ tokens.old ++ (printed.whole next.in_condition (E.tree scrutinee.now) ++ own_parts.enclosed del.Brace (attributes_own (inners (inner_of attrs.now)) [] ++ arms_spelled (map E.Arm.view arms.now.items)) [])) }
     ensures front { IsFront tokens.old tokens.new }
-    ensures taken { OnOk result (Taken notes.old notes.new (backwards (λ x. arm_below (E.Arm.view x)) arms.now.items ++ stack (E.tree scrutinee.now))) }
+    ensures taken { OnOk result (Taken summaries.old summaries.new (backwards (λ x. arm_below (E.Arm.view x)) arms.now.items ++ stack (E.tree scrutinee.now))) }
 {
-    whole(bare, tokens, notes, scrutinee, in_condition())?;
+    whole(bare, tokens, summaries, scrutinee, in_condition())?;
     let mut inside = TokenStream::new(tokens.alloc());
     put_inner(&mut inside, attrs)?;
-    choice::arms(bare, &mut inside, notes, arms)?;
+    match_expr::arms(bare, &mut inside, summaries, arms)?;
     put_braces(tokens, &brace, inside)
 }
 
 /// Prints what stands behind `else`: an `if` without its attributes, a block, or anything else in braces.
 #[cycle(frame)]
 #[tactic(auto, using(syn_tokens::proofs::Fronts::fronts))]
-fn chained<E: HasPrint + HasArms, F: Fn(&mut TokenStream, &mut Notes, &E, Context) -> Grown>(
-    bare: &F,
-    tokens: &mut TokenStream,
-    notes: &mut Notes,
-    x: &E,
-) -> Grown
+fn chained<
+    E: HasPrint + HasArms,
+    F: Fn(&mut TokenStream, &mut Summaries, &E, Context) -> PutResult,
+>(bare: &F, tokens: &mut TokenStream, summaries: &mut Summaries, x: &E) -> PutResult
 where
     E::Arm: HasArmHead,
     E::Pat: PutPat,
     requires callable { Callable E.tree (size (E.tree x.now) + 1) (F.pre bare.now) }
     requires prints { Prints E.tree (F.post bare.now) }
-    requires stacked { EndsWith notes.old.left.items (stack (E.tree x.now)) }
+    requires stacked { EndsWith summaries.old.left.items (stack (E.tree x.now)) }
     ensures text { OnOk result (tokens.new ≡ tokens.old ++ piece_spelled e.chained (E.tree x.now)) }
     ensures front { IsFront tokens.old tokens.new }
-    ensures taken { OnOk result (Taken notes.old notes.new (stack (E.tree x.now))) }
+    ensures taken { OnOk result (Taken summaries.old summaries.new (stack (E.tree x.now))) }
 {
-    let note = take_note(notes, x);
-    if is_branch(x) {
-        frame(bare, tokens, notes, x)
+    let summary = take_summary(summaries, x);
+    if is_if_expr(x) {
+        frame(bare, tokens, summaries, x)
     } else if is_block(x) {
-        inside(bare, tokens, notes, x, false, enclosed())
+        inside(bare, tokens, summaries, x, false, enclosed())
     } else {
-        braced(bare, tokens, notes, x, note)
+        braced(bare, tokens, summaries, x, summary)
     }
 }
 
 /// Prints the condition of an `if`, and its block.
 #[tactic(auto, using(syn_tokens::proofs::Fronts::fronts), unfolding(syn_parts::specs::Own::block_own))]
-fn guarded<E: HasPrint, F: Fn(&mut TokenStream, &mut Notes, &E, Context) -> Grown>(
+fn guarded<E: HasPrint, F: Fn(&mut TokenStream, &mut Summaries, &E, Context) -> PutResult>(
     bare: &F,
     tokens: &mut TokenStream,
-    notes: &mut Notes,
+    summaries: &mut Summaries,
     condition: &E,
     block: &Block,
-) -> Grown
+) -> PutResult
     requires callable { Callable E.tree (size (E.tree condition.now) + 1) (F.pre bare.now) }
     requires prints { Prints E.tree (F.post bare.now) }
-    requires stacked { EndsWith notes.old.left.items (stack (E.tree condition.now)) }
+    requires stacked { EndsWith summaries.old.left.items (stack (E.tree condition.now)) }
     ensures text { OnOk result (tokens.new ≡ tokens.old ++ (printed.whole next.in_condition (E.tree condition.now) ++ body_own (body_of [] block.now.stmts) [])) }
     ensures front { IsFront tokens.old tokens.new }
-    ensures taken { OnOk result (Taken notes.old notes.new (stack (E.tree condition.now))) }
+    ensures taken { OnOk result (Taken summaries.old summaries.new (stack (E.tree condition.now))) }
 {
-    whole(bare, tokens, notes, condition, in_condition())?;
+    whole(bare, tokens, summaries, condition, in_condition())?;
     put(tokens, block)
 }
 
 /// Prints `else` and what stands behind it, if there is such.
 #[cycle(frame)]
 #[tactic(auto, using(syn_tokens::proofs::Fronts::fronts, crate::proofs::Turns::turns))]
-fn alternative<E: HasPrint + HasArms, F: Fn(&mut TokenStream, &mut Notes, &E, Context) -> Grown>(
+fn alternative<
+    E: HasPrint + HasArms,
+    F: Fn(&mut TokenStream, &mut Summaries, &E, Context) -> PutResult,
+>(
     bare: &F,
     tokens: &mut TokenStream,
-    notes: &mut Notes,
+    summaries: &mut Summaries,
     otherwise: &Option<(Else, Box<E>)>,
-) -> Grown
+) -> PutResult
 where
     E::Arm: HasArmHead,
     E::Pat: PutPat,
     requires callable { Callable E.tree (option_size (else_tree E.tree otherwise.now) + 1) (F.pre bare.now) }
     requires prints { Prints E.tree (F.post bare.now) }
-    requires stacked { EndsWith notes.old.left.items (option_below (else_tree E.tree otherwise.now)) }
+    requires stacked { EndsWith summaries.old.left.items (option_below (else_tree E.tree otherwise.now)) }
     ensures text { OnOk result (tokens.new ≡ tokens.old ++ else_spelled (else_tree E.tree otherwise.now)) }
     ensures front { IsFront tokens.old tokens.new }
-    ensures taken { OnOk result (Taken notes.old notes.new (option_below (else_tree E.tree otherwise.now))) }
+    ensures taken { OnOk result (Taken summaries.old summaries.new (option_below (else_tree E.tree otherwise.now))) }
 {
     match otherwise {
         Some((word, x)) => {
             put_else(tokens, word)?;
-            chained::<E, F>(bare, tokens, notes, x)
+            chained::<E, F>(bare, tokens, summaries, x)
         }
         None => Ok(()),
     }
@@ -295,133 +296,138 @@ where
 /// Prints the condition of an `if`, its block, and what stands behind `else`.
 #[cycle(frame)]
 #[tactic(auto, using(syn_tokens::proofs::Fronts::fronts, crate::proofs::Stacks::takes))]
-fn branches<E: HasPrint + HasArms, F: Fn(&mut TokenStream, &mut Notes, &E, Context) -> Grown>(
+fn if_exprs<
+    E: HasPrint + HasArms,
+    F: Fn(&mut TokenStream, &mut Summaries, &E, Context) -> PutResult,
+>(
     bare: &F,
     tokens: &mut TokenStream,
-    notes: &mut Notes,
+    summaries: &mut Summaries,
     condition: &E,
     block: &Block,
     otherwise: &Option<(Else, Box<E>)>,
-) -> Grown
+) -> PutResult
 where
     E::Arm: HasArmHead,
     E::Pat: PutPat,
     requires callable { Callable E.tree (size (E.tree condition.now) + (option_size (else_tree E.tree otherwise.now) + 1)) (F.pre bare.now) }
     requires prints { Prints E.tree (F.post bare.now) }
-    requires stacked { EndsWith notes.old.left.items (option_below (else_tree E.tree otherwise.now) ++ stack (E.tree condition.now)) }
+    requires stacked { EndsWith summaries.old.left.items (option_below (else_tree E.tree otherwise.now) ++ stack (E.tree condition.now)) }
     ensures text { OnOk result (tokens.new ≡ tokens.old ++ (printed.whole next.in_condition (E.tree condition.now) ++ (body_own (body_of [] block.now.stmts) [] ++ else_spelled (else_tree E.tree otherwise.now)))) }
     ensures front { IsFront tokens.old tokens.new }
-    ensures taken { OnOk result (Taken notes.old notes.new (option_below (else_tree E.tree otherwise.now) ++ stack (E.tree condition.now))) }
+    ensures taken { OnOk result (Taken summaries.old summaries.new (option_below (else_tree E.tree otherwise.now) ++ stack (E.tree condition.now))) }
 {
-    guarded(bare, tokens, notes, condition, block)?;
-    alternative(bare, tokens, notes, otherwise)
+    guarded(bare, tokens, summaries, condition, block)?;
+    alternative(bare, tokens, summaries, otherwise)
 }
 
 /// Prints the operands of a node that are in places of their own, with what stands between them: those of a frame, or what
 /// a trailer holds. `needs_comma`: one is needed behind the last; `brace`: those round the arms of a `match`.
 #[cycle(frame)]
-#[tactic(auto, using(syn_tokens::proofs::Fronts::fronts, crate::proofs::Stacks::takes, crate::proofs::Kids::kids, syn_expr_kinds::proofs::Lents::based, crate::proofs::Choices::choices, crate::proofs::Turns::nils))]
-pub fn kids<E: HasPrint + HasArms, F: Fn(&mut TokenStream, &mut Notes, &E, Context) -> Grown>(
+#[tactic(auto, using(syn_tokens::proofs::Fronts::fronts, crate::proofs::Stacks::takes, crate::proofs::Children::children, syn_expr_kinds::proofs::Borrowed::based, crate::proofs::Matches::match_exprs, crate::proofs::Turns::nils))]
+pub fn children<
+    E: HasPrint + HasArms,
+    F: Fn(&mut TokenStream, &mut Summaries, &E, Context) -> PutResult,
+>(
     bare: &F,
     tokens: &mut TokenStream,
-    notes: &mut Notes,
+    summaries: &mut Summaries,
     operands: Operands<'_, E, E::Arm>,
     needs_comma: bool,
     brace: Brace,
-) -> Grown
+) -> PutResult
 where
     E::Arm: HasArmHead,
     E::Pat: PutPat,
-    requires callable { Callable E.tree (kids_size (operand_kids (operands_of E.tree E.Arm.view operands)) + 1) (F.pre bare.now) }
+    requires callable { Callable E.tree (children_size (operand_children (operands_of E.tree E.Arm.view operands)) + 1) (F.pre bare.now) }
     requires prints { Prints E.tree (F.post bare.now) }
-    requires stacked { EndsWith notes.old.left.items (kids_below (operand_kids (operands_of E.tree E.Arm.view operands))) }
-    ensures text { OnOk result (tokens.new ≡ tokens.old ++ kids_spelled needs_comma (operand_kids (operands_of E.tree E.Arm.view operands.entry))) }
+    requires stacked { EndsWith summaries.old.left.items (children_below (operand_children (operands_of E.tree E.Arm.view operands))) }
+    ensures text { OnOk result (tokens.new ≡ tokens.old ++ children_spelled needs_comma (operand_children (operands_of E.tree E.Arm.view operands.entry))) }
     ensures front { IsFront tokens.old tokens.new }
-    ensures taken { OnOk result (Taken notes.old notes.new (kids_below (operand_kids (operands_of E.tree E.Arm.view operands.entry)))) }
+    ensures taken { OnOk result (Taken summaries.old summaries.new (children_below (operand_children (operands_of E.tree E.Arm.view operands.entry)))) }
 {
     match operands {
         Operands::Call(_, xs) | Operands::Elements(xs) => {
-            elements(bare, tokens, notes, xs, needs_comma)
+            elements(bare, tokens, summaries, xs, needs_comma)
         }
         Operands::Index(_, x) | Operands::Grouped(x) => {
-            whole::<E, F>(bare, tokens, notes, x, enclosed())
+            whole::<E, F>(bare, tokens, summaries, x, enclosed())
         }
-        Operands::Repeated(x, semi, len) => { repeated::<E, F>(bare, tokens, notes, x, semi, len) }
+        Operands::Repeated(x, semi, len) => {
+            repeated::<E, F>(bare, tokens, summaries, x, semi, len)
+        }
         Operands::Fields(xs, dots, rest) => {
-            fields(bare, tokens, notes, xs, dots, rest, needs_comma)
+            fields(bare, tokens, summaries, xs, dots, rest, needs_comma)
         }
         Operands::If(condition, block, otherwise) => {
-            branches::<E, F>(bare, tokens, notes, condition, block, otherwise)
+            if_exprs::<E, F>(bare, tokens, summaries, condition, block, otherwise)
         }
-        Operands::Loop(head, braces) => looped::<E, F>(bare, tokens, notes, head, braces),
+        Operands::Loop(head, braces) => looped::<E, F>(bare, tokens, summaries, head, braces),
         Operands::Arms(scrutinee, attrs, arms) => {
-            chosen::<E, F>(bare, tokens, notes, scrutinee, attrs, brace, arms)
+            chosen::<E, F>(bare, tokens, summaries, scrutinee, attrs, brace, arms)
         }
-        Operands::Body(x) => output::<E, F>(bare, tokens, notes, x),
+        Operands::Body(x) => output::<E, F>(bare, tokens, summaries, x),
         Operands::None => Ok(()),
         Operands::One(_) => Ok(()),
         Operands::Two(_, _) => Ok(()),
     }
 }
 
-/// Prints the operands of a node that has them in places of their own; its note was taken.
+/// Prints the operands of a node that has them in places of their own; its summary was taken.
 #[cycle(frame)]
 #[tactic(auto, using(syn_tokens::proofs::Fronts::fronts))]
-fn content<E: HasPrint + HasArms, F: Fn(&mut TokenStream, &mut Notes, &E, Context) -> Grown>(
-    bare: &F,
-    tokens: &mut TokenStream,
-    notes: &mut Notes,
-    x: &E,
-    asked: Asked,
-) -> Grown
+fn content<
+    E: HasPrint + HasArms,
+    F: Fn(&mut TokenStream, &mut Summaries, &E, Context) -> PutResult,
+>(bare: &F, tokens: &mut TokenStream, summaries: &mut Summaries, x: &E, asked: Asked) -> PutResult
 where
     E::Arm: HasArmHead,
     E::Pat: PutPat,
     requires framed { is_some (frame_at (E.tree x.now)) ≡ true }
     requires callable { Callable E.tree (size (E.tree x.now)) (F.pre bare.now) }
     requires prints { Prints E.tree (F.post bare.now) }
-    requires stacked { EndsWith notes.old.left.items (below (E.tree x.now)) }
-    ensures text { OnOk result (tokens.new ≡ tokens.old ++ kids_spelled asked.needs_comma (operand_kids (operands_at (E.tree x.now)))) }
+    requires stacked { EndsWith summaries.old.left.items (below (E.tree x.now)) }
+    ensures text { OnOk result (tokens.new ≡ tokens.old ++ children_spelled asked.needs_comma (operand_children (operands_at (E.tree x.now)))) }
     ensures front { IsFront tokens.old tokens.new }
-    ensures taken { OnOk result (Taken notes.old notes.new (below (E.tree x.now))) }
+    ensures taken { OnOk result (Taken summaries.old summaries.new (below (E.tree x.now))) }
 {
-    kids(
+    children(
         bare,
         tokens,
-        notes,
+        summaries,
         x.operands(),
         asked.needs_comma,
         asked.brace,
     )
 }
 
-/// Prints a node that has its operands in places of their own, without the attributes before it; its note was taken.
+/// Prints a node that has its operands in places of their own, without the attributes before it; its summary was taken.
 /// What is printed doesn't depend on where it stands.
 #[cycle(frame)]
-#[tactic(auto, using(syn_tokens::proofs::Fronts::fronts, crate::proofs::Lents::frames))]
+#[tactic(auto, using(syn_tokens::proofs::Fronts::fronts, crate::proofs::Borrowed::frames))]
 pub(crate) fn frame<
     E: HasPrint + HasArms,
-    F: Fn(&mut TokenStream, &mut Notes, &E, Context) -> Grown,
->(bare: &F, tokens: &mut TokenStream, notes: &mut Notes, x: &E) -> Grown
+    F: Fn(&mut TokenStream, &mut Summaries, &E, Context) -> PutResult,
+>(bare: &F, tokens: &mut TokenStream, summaries: &mut Summaries, x: &E) -> PutResult
 where
     E::Arm: HasArmHead,
     E::Pat: PutPat,
     requires framed { is_some (frame_at (E.tree x.now)) ≡ true }
     requires callable { Callable E.tree (size (E.tree x.now)) (F.pre bare.now) }
     requires prints { Prints E.tree (F.post bare.now) }
-    requires stacked { EndsWith notes.old.left.items (below (E.tree x.now)) }
+    requires stacked { EndsWith summaries.old.left.items (below (E.tree x.now)) }
     ensures text { (c : contexts.Context) → OnOk result (tokens.new ≡ tokens.old ++ spelled c (core (E.tree x.now))) }
     ensures front { IsFront tokens.old tokens.new }
-    ensures taken { OnOk result (Taken notes.old notes.new (below (E.tree x.now))) }
+    ensures taken { OnOk result (Taken summaries.old summaries.new (below (E.tree x.now))) }
 {
     let asked = around(x);
     let is_enclosed = asked.is_enclosed;
     if is_enclosed {
         let mut inside = TokenStream::new(tokens.alloc());
-        content(bare, &mut inside, notes, x, asked)?;
+        content(bare, &mut inside, summaries, x, asked)?;
         put_framed(tokens, x.frame().unwrap(), inside)
     } else {
         put_frame_head(tokens, x.frame().unwrap())?;
-        content(bare, tokens, notes, x, asked)
+        content(bare, tokens, summaries, x, asked)
     }
 }

@@ -2,14 +2,14 @@
 #![tactic(auto)]
 
 mod blocks;
-pub mod choice;
 mod ends;
 pub mod frames;
+pub mod match_expr;
 pub mod node;
-pub mod notes;
 pub mod operand;
 pub mod places;
 pub mod print;
 pub mod printed;
 pub mod structure;
+pub mod summaries;
 mod tail;

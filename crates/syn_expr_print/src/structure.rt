@@ -3,51 +3,51 @@
 ghost use Rattle.std.specs.Prelude.{◌≡◌, ◌+◌, ◌++◌, ◌∷◌, [], ◌||◌, map, is_some, OnOk};
 ghost use Rattle.syn_expr_collect.specs.Below.{backwards, field_below, option_below, total};
 ghost use Rattle.syn_expr_kinds.specs.View as view;
-ghost use Rattle.syn_expr_kinds.specs.View.{boxed, field_value_of, option_kid};
+ghost use Rattle.syn_expr_kinds.specs.View.{boxed, field_value_of, option_child};
 ghost use Rattle.syn_expr_print.specs.Placed.{last_field_below, last_field_size, last_field_spelled, option_size, rest_spelled};
 ghost use Rattle.syn_expr_kinds.specs.Printed.{field_spelled};
-ghost use Rattle.syn_expr_print.specs.Printing.{EndsWith, kids_spelled};
+ghost use Rattle.syn_expr_print.specs.Printing.{EndsWith, children_spelled};
 ghost use Rattle.syn_expr_print.specs.Prints.{Callable, Prints};
 ghost use Rattle.syn_expr_print.specs.Taken.{Taken};
-ghost use Rattle.syn_grammar.specs.Notes.{kids_below};
+ghost use Rattle.syn_grammar.specs.Summaries.{children_below};
 ghost use Rattle.syn_grammar.specs.Tree as e;
-ghost use Rattle.syn_grammar.specs.Tree.{Tree, size, kids_size};
+ghost use Rattle.syn_grammar.specs.Tree.{Tree, size, children_size};
 ghost use Rattle.syn_lower_lists.specs.Printed.{comma, pairs_printed};
 ghost use Rattle.syn_lower_lists.specs.View.{values, trails};
 ghost use Rattle.syn_parts.specs.Own.{alone, joint};
 ghost use Rattle.syn_tokens.specs.Input.{IsFront};
 
 use crate::node::HasPrint;
-use crate::notes::Notes;
 use crate::operand::whole;
-use syn_expr_kinds::put::{Grown, put};
+use crate::summaries::Summaries;
+use syn_expr_kinds::put::{PutResult, put};
 use syn_expr_kinds::structure::FieldValueOf;
-use syn_expr_notes::context::enclosed;
 use syn_expr_put::frame::put_field_head;
 use syn_expr_put::mark::{put_comma, put_dots};
+use syn_expr_summaries::context::enclosed;
 use syn_grammar::next::Context;
 use syn_lower::punctuated::Punctuated;
 use syn_tokens::token::{Comma, DotDot};
 use syn_tokens::tree::TokenStream;
 
-/// Prints a field. Without a colon its value isn't spelled, and has no notes.
+/// Prints a field. Without a colon its value isn't spelled, and has no summaries.
 #[tactic(auto, using(syn_tokens::proofs::Fronts::fronts, crate::proofs::Turns::turns), unfolding(syn_expr_kinds::specs::Printed::field_spelled))]
-pub fn field<E: HasPrint, F: Fn(&mut TokenStream, &mut Notes, &E, Context) -> Grown>(
+pub fn field<E: HasPrint, F: Fn(&mut TokenStream, &mut Summaries, &E, Context) -> PutResult>(
     bare: &F,
     tokens: &mut TokenStream,
-    notes: &mut Notes,
+    summaries: &mut Summaries,
     field: &FieldValueOf<E>,
-) -> Grown
+) -> PutResult
     requires callable { Callable E.tree (size (field_value_of E.tree field.now).value + 1) (F.pre bare.now) }
     requires prints { Prints E.tree (F.post bare.now) }
-    requires stacked { EndsWith notes.old.left.items (field_below (field_value_of E.tree field.now)) }
+    requires stacked { EndsWith summaries.old.left.items (field_below (field_value_of E.tree field.now)) }
     ensures text { OnOk result (tokens.new ≡ tokens.old ++ field_spelled (field_value_of E.tree field.now)) }
     ensures front { IsFront tokens.old tokens.new }
-    ensures taken { OnOk result (Taken notes.old notes.new (field_below (field_value_of E.tree field.now))) }
+    ensures taken { OnOk result (Taken summaries.old summaries.new (field_below (field_value_of E.tree field.now))) }
 {
     put_field_head(tokens, field)?;
     if field.colon_token.is_some() {
-        whole(bare, tokens, notes, &field.expr, enclosed())
+        whole(bare, tokens, summaries, &field.expr, enclosed())
     } else {
         Ok(())
     }
@@ -55,21 +55,21 @@ pub fn field<E: HasPrint, F: Fn(&mut TokenStream, &mut Notes, &E, Context) -> Gr
 
 /// Prints fields with the commas behind them.
 #[tactic(auto, using(syn_tokens::proofs::Fronts::fronts, crate::proofs::Turns::turns), unfolding(syn_tokens::specs::Sign::sign_text))]
-fn pairs<E: HasPrint, F: Fn(&mut TokenStream, &mut Notes, &E, Context) -> Grown>(
+fn pairs<E: HasPrint, F: Fn(&mut TokenStream, &mut Summaries, &E, Context) -> PutResult>(
     bare: &F,
     tokens: &mut TokenStream,
-    notes: &mut Notes,
+    summaries: &mut Summaries,
     mut pairs: &[(FieldValueOf<E>, Comma)],
-) -> Grown
+) -> PutResult
     requires callable { Callable E.tree (total (λ q. size (field_value_of E.tree q.0).value) pairs.now + 1) (F.pre bare.now) }
     requires prints { Prints E.tree (F.post bare.now) }
-    requires stacked { EndsWith notes.old.left.items (backwards (λ q. field_below (field_value_of E.tree q.0)) pairs.now) }
+    requires stacked { EndsWith summaries.old.left.items (backwards (λ q. field_below (field_value_of E.tree q.0)) pairs.now) }
     ensures text { OnOk result (tokens.new ≡ tokens.old ++ pairs_printed (λ x. field_spelled (field_value_of E.tree x)) comma pairs.entry.now) }
     ensures front { IsFront tokens.old tokens.new }
-    ensures taken { OnOk result (Taken notes.old notes.new (backwards (λ q. field_below (field_value_of E.tree q.0)) pairs.entry.now)) }
+    ensures taken { OnOk result (Taken summaries.old summaries.new (backwards (λ q. field_below (field_value_of E.tree q.0)) pairs.entry.now)) }
 {
     'pairs: while let [(field, comma), more @ ..] = pairs {
-        self::field(bare, tokens, notes, field)?;
+        self::field(bare, tokens, summaries, field)?;
         put(tokens, comma)?;
         pairs = more;
     }
@@ -78,22 +78,22 @@ fn pairs<E: HasPrint, F: Fn(&mut TokenStream, &mut Notes, &E, Context) -> Grown>
 
 /// Prints the last field, behind which no comma stands, with one where it is needed.
 #[tactic(auto, using(syn_tokens::proofs::Fronts::fronts, crate::proofs::Turns::turns))]
-fn last_field<E: HasPrint, F: Fn(&mut TokenStream, &mut Notes, &E, Context) -> Grown>(
+fn last_field<E: HasPrint, F: Fn(&mut TokenStream, &mut Summaries, &E, Context) -> PutResult>(
     bare: &F,
     tokens: &mut TokenStream,
-    notes: &mut Notes,
+    summaries: &mut Summaries,
     field: &Option<Box<FieldValueOf<E>>>,
     needs_comma: bool,
-) -> Grown
+) -> PutResult
     requires callable { Callable E.tree (last_field_size (boxed (field_value_of E.tree) field.now) + 1) (F.pre bare.now) }
     requires prints { Prints E.tree (F.post bare.now) }
-    requires stacked { EndsWith notes.old.left.items (last_field_below (boxed (field_value_of E.tree) field.now)) }
+    requires stacked { EndsWith summaries.old.left.items (last_field_below (boxed (field_value_of E.tree) field.now)) }
     ensures text { OnOk result (tokens.new ≡ tokens.old ++ last_field_spelled (boxed (field_value_of E.tree) field.now) needs_comma) }
     ensures front { IsFront tokens.old tokens.new }
-    ensures taken { OnOk result (Taken notes.old notes.new (last_field_below (boxed (field_value_of E.tree) field.now))) }
+    ensures taken { OnOk result (Taken summaries.old summaries.new (last_field_below (boxed (field_value_of E.tree) field.now))) }
 {
     if let Some(x) = field {
-        self::field::<E, F>(bare, tokens, notes, x)?;
+        self::field::<E, F>(bare, tokens, summaries, x)?;
         if needs_comma {
             put_comma(tokens)?;
         }
@@ -111,7 +111,7 @@ fn is_before_rest<E>(needs_comma: bool, rest: &Option<Box<E>>) -> bool
 
 /// Puts the `..` before the rest, which stands there whether the value has it or not.
 #[tactic(auto, using(syn_tokens::proofs::Fronts::fronts), unfolding(syn_tokens::specs::Sign::sign_text))]
-fn put_rest_dots(tokens: &mut TokenStream, dots: &Option<DotDot>) -> Grown
+fn put_rest_dots(tokens: &mut TokenStream, dots: &Option<DotDot>) -> PutResult
     ensures text { OnOk result (tokens.new ≡ tokens.old ++ joint 46 ∷ alone 46 ∷ []) }
     ensures front { IsFront tokens.old tokens.new }
 {
@@ -123,24 +123,24 @@ fn put_rest_dots(tokens: &mut TokenStream, dots: &Option<DotDot>) -> Grown
 
 /// Prints what the other fields are taken of, if there is such, behind `..`.
 #[tactic(auto, using(syn_tokens::proofs::Fronts::fronts, crate::proofs::Turns::turns))]
-fn rest<E: HasPrint, F: Fn(&mut TokenStream, &mut Notes, &E, Context) -> Grown>(
+fn rest<E: HasPrint, F: Fn(&mut TokenStream, &mut Summaries, &E, Context) -> PutResult>(
     bare: &F,
     tokens: &mut TokenStream,
-    notes: &mut Notes,
+    summaries: &mut Summaries,
     dots: &Option<DotDot>,
     rest: &Option<Box<E>>,
-) -> Grown
+) -> PutResult
     requires callable { Callable E.tree (option_size (boxed E.tree rest.now) + 1) (F.pre bare.now) }
     requires prints { Prints E.tree (F.post bare.now) }
-    requires stacked { EndsWith notes.old.left.items (option_below (boxed E.tree rest.now)) }
+    requires stacked { EndsWith summaries.old.left.items (option_below (boxed E.tree rest.now)) }
     ensures text { OnOk result (tokens.new ≡ tokens.old ++ rest_spelled (boxed E.tree rest.now)) }
     ensures front { IsFront tokens.old tokens.new }
-    ensures taken { OnOk result (Taken notes.old notes.new (option_below (boxed E.tree rest.now))) }
+    ensures taken { OnOk result (Taken summaries.old summaries.new (option_below (boxed E.tree rest.now))) }
 {
     match rest {
         Some(x) => {
             put_rest_dots(tokens, dots)?;
-            whole::<E, F>(bare, tokens, notes, x, enclosed())
+            whole::<E, F>(bare, tokens, summaries, x, enclosed())
         }
         None => Ok(()),
     }
@@ -149,24 +149,27 @@ fn rest<E: HasPrint, F: Fn(&mut TokenStream, &mut Notes, &E, Context) -> Grown>(
 /// Prints the fields of a struct expression with their commas, and what the other fields are taken of. Behind the last
 /// field a comma stands where there is one, where more follows, or where `needs_comma` is set.
 #[tactic(auto, using(syn_tokens::proofs::Fronts::fronts))]
-pub(crate) fn fields<E: HasPrint, F: Fn(&mut TokenStream, &mut Notes, &E, Context) -> Grown>(
+pub(crate) fn fields<
+    E: HasPrint,
+    F: Fn(&mut TokenStream, &mut Summaries, &E, Context) -> PutResult,
+>(
     bare: &F,
     tokens: &mut TokenStream,
-    notes: &mut Notes,
+    summaries: &mut Summaries,
     fields: &Punctuated<FieldValueOf<E>, Comma>,
     dots: &Option<DotDot>,
     rest: &Option<Box<E>>,
     needs_comma: bool,
-) -> Grown
-    requires callable { Callable E.tree (kids_size (view.fields (map (field_value_of E.tree) (values fields.now)) (trails fields.now) (option_kid (e.rest (is_some dots.now)) (boxed E.tree rest.now))) + 1) (F.pre bare.now) }
+) -> PutResult
+    requires callable { Callable E.tree (children_size (view.fields (map (field_value_of E.tree) (values fields.now)) (trails fields.now) (option_child (e.rest (is_some dots.now)) (boxed E.tree rest.now))) + 1) (F.pre bare.now) }
     requires prints { Prints E.tree (F.post bare.now) }
-    requires stacked { EndsWith notes.old.left.items (kids_below (view.fields (map (field_value_of E.tree) (values fields.now)) (trails fields.now) (option_kid (e.rest (is_some dots.now)) (boxed E.tree rest.now)))) }
-    ensures text { OnOk result (tokens.new ≡ tokens.old ++ kids_spelled needs_comma (view.fields (map (field_value_of E.tree) (values fields.now)) (trails fields.now) (option_kid (e.rest (is_some dots.now)) (boxed E.tree rest.now)))) }
+    requires stacked { EndsWith summaries.old.left.items (children_below (view.fields (map (field_value_of E.tree) (values fields.now)) (trails fields.now) (option_child (e.rest (is_some dots.now)) (boxed E.tree rest.now)))) }
+    ensures text { OnOk result (tokens.new ≡ tokens.old ++ children_spelled needs_comma (view.fields (map (field_value_of E.tree) (values fields.now)) (trails fields.now) (option_child (e.rest (is_some dots.now)) (boxed E.tree rest.now)))) }
     ensures front { IsFront tokens.old tokens.new }
-    ensures taken { OnOk result (Taken notes.old notes.new (kids_below (view.fields (map (field_value_of E.tree) (values fields.now)) (trails fields.now) (option_kid (e.rest (is_some dots.now)) (boxed E.tree rest.now))))) }
+    ensures taken { OnOk result (Taken summaries.old summaries.new (children_below (view.fields (map (field_value_of E.tree) (values fields.now)) (trails fields.now) (option_child (e.rest (is_some dots.now)) (boxed E.tree rest.now))))) }
 {
-    pairs(bare, tokens, notes, &fields.inner)?;
+    pairs(bare, tokens, summaries, &fields.inner)?;
     let is_needed = is_before_rest(needs_comma, rest);
-    last_field(bare, tokens, notes, &fields.last, is_needed)?;
-    self::rest(bare, tokens, notes, dots, rest)
+    last_field(bare, tokens, summaries, &fields.last, is_needed)?;
+    self::rest(bare, tokens, summaries, dots, rest)
 }

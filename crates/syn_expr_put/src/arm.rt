@@ -4,10 +4,10 @@ ghost use Rattle.std.specs.Prelude.{◌≡◌, ◌++◌, [], OnOk};
 ghost use Rattle.syn_parts.specs.PatOwn.{attributes_own, pat_own};
 ghost use Rattle.syn_tokens.specs.Input.{IsFront};
 
-use crate::lead::PutPat;
+use crate::prefix::PutPat;
 use syn_expr_kinds::attrs::put_all;
 use syn_expr_kinds::kinds::HasArmView;
-use syn_expr_kinds::put::Grown;
+use syn_expr_kinds::put::PutResult;
 use syn_lower::attr::Attribute;
 use syn_tokens::token::{Comma, FatArrow, If};
 use syn_tokens::tree::TokenStream;
@@ -45,7 +45,7 @@ pub trait HasArmHead: HasArmView {
 
 /// Puts an arm up to its `if` or `=>`: its attributes and its pattern, without the guard.
 #[tactic(auto, using(syn_tokens::proofs::Fronts::fronts, syn_expr_kinds::proofs::Attributes::heads), unfolding(syn_expr_kinds::specs::Attrs::attrs_of))]
-pub fn put_arm_head<A: HasArmHead>(tokens: &mut TokenStream, arm: &A) -> Grown
+pub fn put_arm_head<A: HasArmHead>(tokens: &mut TokenStream, arm: &A) -> PutResult
     ensures ok { OnOk result (tokens.new ≡ tokens.old ++ attributes_own (A.view arm.now).attrs (pat_own (A.view arm.now).pat.tree [])) }
     ensures front { IsFront tokens.old tokens.new }
 {

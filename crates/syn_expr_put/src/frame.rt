@@ -7,19 +7,19 @@ ghost use Rattle.syn_expr_put.specs.Framed.{framed_own, field_own};
 ghost use Rattle.syn_grammar.specs.Tree.{frame_own};
 ghost use Rattle.syn_tokens.specs.Input.{IsFront};
 
-use crate::lead::{PutPat, put_closure};
 use crate::mark::put_dots;
+use crate::prefix::{PutPat, put_closure};
 use syn_expr_kinds::attrs::put_outer;
 use syn_expr_kinds::kinds::HasExprTree;
 use syn_expr_kinds::leaf::put_path;
 use syn_expr_kinds::node::Frame;
-use syn_expr_kinds::put::{Grown, put, put_some, put_tree};
+use syn_expr_kinds::put::{PutResult, put, put_some, put_tree};
 use syn_expr_kinds::structure::FieldValueOf;
 use syn_tokens::tree::TokenStream;
 
 /// Puts what stands before the operands of a node whose operands no delimiter encloses; before others nothing.
 #[tactic(auto, using(syn_tokens::proofs::Fronts::fronts, syn_expr_kinds::proofs::Owns::owns), unfolding(syn_tokens::specs::Sign::word_text))]
-pub fn put_frame_head<P: PutPat>(tokens: &mut TokenStream, frame: Frame<'_, P>) -> Grown
+pub fn put_frame_head<P: PutPat>(tokens: &mut TokenStream, frame: Frame<'_, P>) -> PutResult
     ensures ok { OnOk result (tokens.new ≡ tokens.old ++ frame_own (frame_of P.view frame.entry) []) }
     ensures front { IsFront tokens.old tokens.new }
 {
@@ -52,7 +52,7 @@ pub fn put_framed<P: PutPat>(
     tokens: &mut TokenStream,
     frame: Frame<'_, P>,
     mut inside: TokenStream,
-) -> Grown
+) -> PutResult
     ensures ok { OnOk result (tokens.new ≡ tokens.old ++ framed_own (frame_of P.view frame.entry) inside) }
     ensures front { IsFront tokens.old tokens.new }
 {
@@ -78,7 +78,10 @@ pub fn put_framed<P: PutPat>(
 
 /// Puts a field up to its value: its outer attributes, its name or index, and a colon if there is one.
 #[tactic(auto, using(syn_tokens::proofs::Fronts::fronts, syn_expr_kinds::proofs::Owns::fields), unfolding(syn_tokens::specs::Sign::sign_text, syn_expr_kinds::specs::Attrs::attrs_of, syn_expr_kinds::specs::Attrs::outer_of))]
-pub fn put_field_head<E: HasExprTree>(tokens: &mut TokenStream, field: &FieldValueOf<E>) -> Grown
+pub fn put_field_head<E: HasExprTree>(
+    tokens: &mut TokenStream,
+    field: &FieldValueOf<E>,
+) -> PutResult
     ensures ok { OnOk result (tokens.new ≡ tokens.old ++ field_own (field_value_of E.tree field.now) []) }
     ensures front { IsFront tokens.old tokens.new }
 {

@@ -5,6 +5,6 @@
 
 pub mod arm;
 pub mod frame;
-pub mod lead;
 pub mod mark;
+pub mod prefix;
 pub mod small;

@@ -5,13 +5,13 @@ ghost use Rattle.syn_parts.specs.Own.{alone, joint};
 ghost use Rattle.syn_tokens.specs.Input.{IsFront};
 ghost use Rattle.syn_tokens.specs.Tok.{ident};
 
-use syn_expr_kinds::put::{Grown, put};
+use syn_expr_kinds::put::{PutResult, put};
 use syn_tokens::token::{Comma, DotDot, Else, FatArrow, If, Semi};
 use syn_tokens::tree::TokenStream;
 
 /// Puts a comma that has no place.
 #[tactic(auto, using(syn_tokens::proofs::Fronts::fronts), unfolding(syn_tokens::specs::Sign::sign_text))]
-pub fn put_comma(tokens: &mut TokenStream) -> Grown
+pub fn put_comma(tokens: &mut TokenStream) -> PutResult
     ensures ok { OnOk result (tokens.new ≡ tokens.old ++ alone 44 ∷ []) }
     ensures front { IsFront tokens.old tokens.new }
 {
@@ -20,7 +20,7 @@ pub fn put_comma(tokens: &mut TokenStream) -> Grown
 
 /// Puts `..` that has no place.
 #[tactic(auto, using(syn_tokens::proofs::Fronts::fronts), unfolding(syn_tokens::specs::Sign::sign_text))]
-pub fn put_dots(tokens: &mut TokenStream) -> Grown
+pub fn put_dots(tokens: &mut TokenStream) -> PutResult
     ensures ok { OnOk result (tokens.new ≡ tokens.old ++ joint 46 ∷ alone 46 ∷ []) }
     ensures front { IsFront tokens.old tokens.new }
 {
@@ -29,7 +29,7 @@ pub fn put_dots(tokens: &mut TokenStream) -> Grown
 
 /// Puts `;`.
 #[tactic(auto, using(syn_tokens::proofs::Fronts::fronts), unfolding(syn_tokens::specs::Sign::sign_text))]
-pub fn put_semi(tokens: &mut TokenStream, semi: &Semi) -> Grown
+pub fn put_semi(tokens: &mut TokenStream, semi: &Semi) -> PutResult
     ensures ok { OnOk result (tokens.new ≡ tokens.old ++ alone 59 ∷ []) }
     ensures front { IsFront tokens.old tokens.new }
 {
@@ -38,7 +38,7 @@ pub fn put_semi(tokens: &mut TokenStream, semi: &Semi) -> Grown
 
 /// Puts `else`.
 #[tactic(auto, using(syn_tokens::proofs::Fronts::fronts), unfolding(syn_tokens::specs::Sign::word_text))]
-pub fn put_else(tokens: &mut TokenStream, word: &Else) -> Grown
+pub fn put_else(tokens: &mut TokenStream, word: &Else) -> PutResult
     ensures ok { OnOk result (tokens.new ≡ tokens.old ++ ident (codes "else") ∷ []) }
     ensures front { IsFront tokens.old tokens.new }
 {
@@ -47,7 +47,7 @@ pub fn put_else(tokens: &mut TokenStream, word: &Else) -> Grown
 
 /// Puts `if`, as it stands before a guard.
 #[tactic(auto, using(syn_tokens::proofs::Fronts::fronts), unfolding(syn_tokens::specs::Sign::word_text))]
-pub fn put_if(tokens: &mut TokenStream, word: &If) -> Grown
+pub fn put_if(tokens: &mut TokenStream, word: &If) -> PutResult
     ensures ok { OnOk result (tokens.new ≡ tokens.old ++ ident (codes "if") ∷ []) }
     ensures front { IsFront tokens.old tokens.new }
 {
@@ -56,7 +56,7 @@ pub fn put_if(tokens: &mut TokenStream, word: &If) -> Grown
 
 /// Puts `=>`.
 #[tactic(auto, using(syn_tokens::proofs::Fronts::fronts), unfolding(syn_tokens::specs::Sign::sign_text))]
-pub fn put_arrow(tokens: &mut TokenStream, arrow: &FatArrow) -> Grown
+pub fn put_arrow(tokens: &mut TokenStream, arrow: &FatArrow) -> PutResult
     ensures ok { OnOk result (tokens.new ≡ tokens.old ++ joint 61 ∷ alone 62 ∷ []) }
     ensures front { IsFront tokens.old tokens.new }
 {

@@ -1,18 +1,18 @@
 //! What stands between and behind operands.
 
 ghost use Rattle.std.specs.Prelude.{◌≡◌, ◌++◌, [], OnOk};
-ghost use Rattle.syn_expr_kinds.specs.Node.{operator_of, post_of, trailer_of};
-ghost use Rattle.syn_grammar.specs.Tree.{infix_own, post_own, trailer_own};
+ghost use Rattle.syn_expr_kinds.specs.Node.{operator_of, postfix_of, trailer_of};
+ghost use Rattle.syn_grammar.specs.Tree.{infix_own, postfix_own, trailer_own};
 ghost use Rattle.syn_tokens.specs.Input.{IsFront};
 
-use syn_expr_kinds::node::{Operator, Post, Trailer};
-use syn_expr_kinds::put::{Grown, put, put_some, put_tree};
+use syn_expr_kinds::node::{Operator, Postfix, Trailer};
+use syn_expr_kinds::put::{PutResult, put, put_some, put_tree};
 use syn_lower::ty::Type;
 use syn_tokens::tree::TokenStream;
 
 /// Puts the operator between two operands.
 #[tactic(auto, using(syn_tokens::proofs::Fronts::fronts, syn_expr_kinds::proofs::Owns::owns), unfolding(syn_tokens::specs::Sign::sign_text))]
-pub fn put_operator(tokens: &mut TokenStream, operator: Operator<'_>) -> Grown
+pub fn put_operator(tokens: &mut TokenStream, operator: Operator<'_>) -> PutResult
     ensures ok { OnOk result (tokens.new ≡ tokens.old ++ infix_own (operator_of operator.entry) []) }
     ensures front { IsFront tokens.old tokens.new }
 {
@@ -25,22 +25,22 @@ pub fn put_operator(tokens: &mut TokenStream, operator: Operator<'_>) -> Grown
 
 /// Puts what stands behind an operand with which a node begins.
 #[tactic(auto, using(syn_tokens::proofs::Fronts::fronts, syn_expr_kinds::proofs::Owns::owns), unfolding(syn_tokens::specs::Sign::word_text))]
-pub fn put_post(tokens: &mut TokenStream, post: Post<'_>) -> Grown
-    ensures ok { OnOk result (tokens.new ≡ tokens.old ++ post_own (post_of post.entry) []) }
+pub fn put_postfix(tokens: &mut TokenStream, postfix: Postfix<'_>) -> PutResult
+    ensures ok { OnOk result (tokens.new ≡ tokens.old ++ postfix_own (postfix_of postfix.entry) []) }
     ensures front { IsFront tokens.old tokens.new }
 {
-    match post {
-        Post::Cast(word, ty) => {
+    match postfix {
+        Postfix::Cast(word, ty) => {
             put(tokens, word)?;
             put::<Type>(tokens, ty)
         }
-        Post::Range(limits) => put(tokens, limits),
+        Postfix::Range(limits) => put(tokens, limits),
     }
 }
 
 /// Puts a trailer; `inside` is what its delimiter encloses, if it has one.
 #[tactic(auto, using(syn_tokens::proofs::Fronts::fronts, syn_expr_kinds::proofs::Owns::owns), unfolding(syn_tokens::specs::Sign::sign_text, syn_tokens::specs::Sign::word_text))]
-pub fn put_trailer(tokens: &mut TokenStream, trailer: Trailer<'_>, inside: TokenStream) -> Grown
+pub fn put_trailer(tokens: &mut TokenStream, trailer: Trailer<'_>, inside: TokenStream) -> PutResult
     ensures ok { OnOk result (tokens.new ≡ tokens.old ++ trailer_own (trailer_of trailer.entry) inside []) }
     ensures front { IsFront tokens.old tokens.new }
 {

@@ -1,4 +1,4 @@
-pub mod Kept
+pub mod Verbatim
 pub mod Lasts
 pub mod Likes
 pub mod Labels

@@ -3,7 +3,7 @@ use Rattle.std.proofs.Common.{◌≡◌, refl}
 use Rattle.syn_grammar.specs.Binding.{is_braced_macro}
 use Rattle.syn_grammar.specs.Tree as e
 use Rattle.syn_grammar.specs.Tree.{Tree}
-use Rattle.syn_expr_notes.specs.Kind.{kind_at}
+use Rattle.syn_expr_summaries.specs.Kind.{kind_at}
 use Rattle.syn_expr_queries.specs.Node.{is_braced_call}
 
 pub braced-kind : (t : Tree) → is_braced_macro t ≡ is_braced_call (kind_at t)
@@ -17,17 +17,17 @@ braced-kind (e.leaf (e.bare_jump e.yielding)) = refl
 braced-kind (e.leaf (e.bare_jump (e.breaking l))) = refl
 braced-kind (e.leaf (e.continuing l)) = refl
 braced-kind (e.leaf (e.block l b)) = refl
-braced-kind (e.leaf (e.looping l b)) = refl
+braced-kind (e.leaf (e.loop_expr l b)) = refl
 braced-kind (e.leaf (e.unsafe_block b)) = refl
 braced-kind (e.leaf (e.const_block b)) = refl
 braced-kind (e.leaf (e.async_block m ts)) = refl
 braced-kind (e.leaf (e.try_block ts)) = refl
 braced-kind (e.leaf (e.verbatim ts)) = refl
 braced-kind (e.paren m t) = refl
-braced-kind (e.adorned a more t) = braced-kind t
-braced-kind (e.lead k gs t) = refl
-braced-kind (e.mid x op y) = refl
-braced-kind (e.post x k) = refl
+braced-kind (e.attributed a more t) = braced-kind t
+braced-kind (e.prefixed k gs t) = refl
+braced-kind (e.infixed x op y) = refl
+braced-kind (e.postfixed x k) = refl
 braced-kind (e.tail b k ks) = refl
 braced-kind (e.frame k ks) = refl
 

@@ -7,7 +7,7 @@ use Rattle.std.specs.declared.alloc.Global.{Global}
 use Rattle.syn_parts.specs.Tree.{AttributeTree, ReturnTree, default, given}
 use Rattle.syn_grammar.specs.declared.kinds.Limits.{Limits}
 use Rattle.syn_grammar.specs.Tree as e
-use Rattle.syn_grammar.specs.Tree.{Tree, Body, Jump, ClosureHead, lead, frame, none, kid, adorn}
+use Rattle.syn_grammar.specs.Tree.{Tree, Body, Jump, ClosureHead, prefixed, frame, none, child, attributed_with}
 use Rattle.syn_lower.specs.View.{mapped, return_of, values}
 use Rattle.syn_expr_parts.specs.View.{label_of}
 use Rattle.syn_pat_kinds.specs.View.{PatView}
@@ -29,8 +29,8 @@ use Rattle.syn_expr_all.specs.declared.control.Arm.{Arm}
 use Rattle.syn_expr_all.specs.declared.control.ExprForLoop.{ExprForLoop, out-ExprForLoop}
 use Rattle.syn_expr_all.specs.declared.control.ExprLet.{ExprLet, out-ExprLet}
 use Rattle.syn_expr_all.specs.declared.control.ExprMatch.{ExprMatch, out-ExprMatch}
-use Rattle.syn_expr_all.specs.View.{closure_parts, for_loop_parts, binding_parts, choice_parts, tree_layer, tree_of, pat_of, closure_of, arm_of, for_loop_of, binding_of, choice_of, views}
-use Rattle.syn_expr_all.proofs.TreeOf.{tree_out, closure-is, for_loop-is, binding-is, choice-is}
+use Rattle.syn_expr_all.specs.View.{closure_parts, for_loop_parts, let_parts, match_parts, tree_layer, tree_of, pat_of, closure_of, arm_of, for_loop_of, let_of, match_of, views}
+use Rattle.syn_expr_all.proofs.TreeOf.{tree_out, closure-is, for_loop-is, let_expr-is, match_expr-is}
 
 record IsFramed (t : Tree) : Type 0 where
   holds : frames_hold t ≡ true
@@ -41,20 +41,20 @@ record IsBare (t : Tree) : Type 0 where
   holds : bare_holds t ≡ true
 
 bare_framed : (t : Tree) → bare_holds t ≡ true → frames_hold t ≡ true
-bare_framed (e.adorned a more t) h = absurd cc
+bare_framed (e.attributed a more t) h = absurd cc
 bare_framed (e.leaf k) h = h
 bare_framed (e.paren m t) h = h
-bare_framed (lead k gs t) h = h
-bare_framed (e.mid x k y) h = h
-bare_framed (e.post x k) h = h
+bare_framed (prefixed k gs t) h = h
+bare_framed (e.infixed x k y) h = h
+bare_framed (e.postfixed x k) h = h
 bare_framed (e.tail b k ks) h = h
 bare_framed (frame k ks) h = h
 
-behind : (ats : List AttributeTree) (t : Tree) → IsBare t → IsFramed (adorn ats t)
+behind : (ats : List AttributeTree) (t : Tree) → IsBare t → IsFramed (attributed_with ats t)
 behind [] t h = record { holds = bare_framed t h.holds }
 behind (a ∷ more) t h = record { holds = h.holds }
 
-body_last : (gs : List Tree) (t : Tree) → is_body (strays gs (kid e.output_block e.no_ending t none)) ≡ true
+body_last : (gs : List Tree) (t : Tree) → is_body (strays gs (child e.output_block e.no_ending t none)) ≡ true
 body_last [] t = refl
 body_last (g ∷ gs) t = body_last gs t
 
@@ -62,11 +62,11 @@ closure_by_bare : (r : ReturnTree) (h : ClosureHead) (gs : List Tree) (t : Tree)
 closure_by_bare default h gs t = record { holds = refl }
 closure_by_bare (given ty) h gs t = record { holds = body_last gs t }
 
-loop_last : (gs : List Tree) (b : Body) (t : Tree) → is_loop (strays gs (kid e.loop_head (e.braced b) t none)) ≡ true
+loop_last : (gs : List Tree) (b : Body) (t : Tree) → is_loop (strays gs (child e.loop_head (e.braced b) t none)) ≡ true
 loop_last [] b t = refl
 loop_last (g ∷ gs) b t = loop_last gs b t
 
-if_bare : {E S : Type 0} (f : E → Tree) (b : Body) (t : Tree) (o : Option (S × Box E Global)) → IsBare (frame e.branch (kid e.condition (e.braced b) t (else_of f o)))
+if_bare : {E S : Type 0} (f : E → Tree) (b : Body) (t : Tree) (o : Option (S × Box E Global)) → IsBare (frame e.if_expr (child e.condition (e.braced b) t (else_of f o)))
 if_bare f b t None = record { holds = refl }
 if_bare f b t (Some q) = record { holds = refl }
 
@@ -92,13 +92,13 @@ for_loop_kind : {E P : Type 0} (f : E → Tree) (g : P → PatView) (x : ExprFor
 for_loop_kind f g x =
     let p = g x.pat.value in
     let b = body_of (inner_of x.attrs) x.body.stmts in
-    behind (outer_of x.attrs) (frame (e.for_loop (mapped label_of x.label) p.tree) (strays p.guards (kid e.loop_head (e.braced b) (f x.expr.value) none))) (record { holds = loop_last p.guards b (f x.expr.value) })
+    behind (outer_of x.attrs) (frame (e.for_loop (mapped label_of x.label) p.tree) (strays p.guards (child e.loop_head (e.braced b) (f x.expr.value) none))) (record { holds = loop_last p.guards b (f x.expr.value) })
 
-binding_kind : {E P : Type 0} (f : E → Tree) (g : P → PatView) (x : ExprLetOf E P) → IsFramed (expr_let_of f g x)
-binding_kind f g x = let p = g x.pat.value in behind (attrs_of x.attrs) (lead (e.binding p.tree) (strays p.guards none) (f x.expr.value)) (record { holds = refl })
+let_kind : {E P : Type 0} (f : E → Tree) (g : P → PatView) (x : ExprLetOf E P) → IsFramed (expr_let_of f g x)
+let_kind f g x = let p = g x.pat.value in behind (attrs_of x.attrs) (prefixed (e.let_expr p.tree) (strays p.guards none) (f x.expr.value)) (record { holds = refl })
 
-choice_kind : {E A : Type 0} (f : E → Tree) (a : A → ArmView) (x : ExprMatchOf E A) → IsFramed (expr_match_of f a x)
-choice_kind f a x = behind (outer_of x.attrs) (frame e.choice (kid e.scrutinee (e.opened (inner_of x.attrs)) (f x.expr.value) (arms (map a x.arms.items)))) (record { holds = refl })
+match_kind : {E A : Type 0} (f : E → Tree) (a : A → ArmView) (x : ExprMatchOf E A) → IsFramed (expr_match_of f a x)
+match_kind f a x = behind (outer_of x.attrs) (frame e.match_expr (child e.scrutinee (e.opened (inner_of x.attrs)) (f x.expr.value) (arms (map a x.arms.items)))) (record { holds = refl })
 
 closure_framed : (x : ExprClosure) → IsFramed (closure_of x)
 closure_framed x = subst (λ t. IsFramed t) (sym (closure-is x)) (closure_kind tree_of pat_of (closure_parts (out-ExprClosure x)))
@@ -106,11 +106,11 @@ closure_framed x = subst (λ t. IsFramed t) (sym (closure-is x)) (closure_kind t
 for_loop_framed : (x : ExprForLoop) → IsFramed (for_loop_of x)
 for_loop_framed x = subst (λ t. IsFramed t) (sym (for_loop-is x)) (for_loop_kind tree_of pat_of (for_loop_parts (out-ExprForLoop x)))
 
-binding_framed : (x : ExprLet) → IsFramed (binding_of x)
-binding_framed x = subst (λ t. IsFramed t) (sym (binding-is x)) (binding_kind tree_of pat_of (binding_parts (out-ExprLet x)))
+let_framed : (x : ExprLet) → IsFramed (let_of x)
+let_framed x = subst (λ t. IsFramed t) (sym (let_expr-is x)) (let_kind tree_of pat_of (let_parts (out-ExprLet x)))
 
-choice_framed : (x : ExprMatch) → IsFramed (choice_of x)
-choice_framed x = subst (λ t. IsFramed t) (sym (choice-is x)) (choice_kind tree_of arm_of (choice_parts (out-ExprMatch x)))
+match_framed : (x : ExprMatch) → IsFramed (match_of x)
+match_framed x = subst (λ t. IsFramed t) (sym (match_expr-is x)) (match_kind tree_of arm_of (match_parts (out-ExprMatch x)))
 
 -- ---- each kind
 
@@ -133,11 +133,11 @@ layer_framed (Expr-F.Group x) = behind (attrs_of x.attrs) _ (record { holds = re
 layer_framed (Expr-F.If x) = behind (attrs_of x.attrs) _ (if_bare tree_of _ _ x.else_branch)
 layer_framed (Expr-F.Index x) = behind (attrs_of x.attrs) _ (record { holds = refl })
 layer_framed (Expr-F.Infer x) = behind (attrs_of x.attrs) _ (record { holds = refl })
-layer_framed (Expr-F.Let x) = binding_framed x
+layer_framed (Expr-F.Let x) = let_framed x
 layer_framed (Expr-F.Expr::Lit x) = behind (attrs_of x.attrs) _ (record { holds = refl })
 layer_framed (Expr-F.Loop x) = behind (outer_of x.attrs) _ (record { holds = refl })
 layer_framed (Expr-F.Expr::Macro x) = behind (attrs_of x.attrs) _ (record { holds = refl })
-layer_framed (Expr-F.Match x) = choice_framed x
+layer_framed (Expr-F.Match x) = match_framed x
 layer_framed (Expr-F.MethodCall x) = behind (attrs_of x.attrs) _ (record { holds = refl })
 layer_framed (Expr-F.Expr::Paren x) = behind (attrs_of x.attrs) _ (record { holds = refl })
 layer_framed (Expr-F.Expr::Path x) = behind (attrs_of x.attrs) _ (record { holds = refl })

@@ -1,13 +1,13 @@
--- What is told of a node by what is lent of it.
+-- What is told of a node by its parts.
 use Rattle.std.specs.Prelude.{Bool, true, false, List, Option, Some, None}
 use Rattle.syn_tokens.specs.Tok.{Tok}
 use Rattle.syn_grammar.specs.Head.{from_verbatim}
 use Rattle.syn_grammar.specs.Query.{is_cast_op}
 use Rattle.syn_grammar.specs.Tree.{Tree, Leaf}
-use Rattle.syn_expr_notes.specs.Label.{leaf_labelled, frame_labelled, is_cast_post}
-use Rattle.syn_expr_notes.specs.declared.kind.NodeKind.{NodeKind}
-use Rattle.syn_expr_notes.specs.declared.kind.NodeKind.TheVariants as node
-use Rattle.syn_expr_notes.specs.declared.label.LeafKind.TheVariants as leafs
+use Rattle.syn_expr_summaries.specs.Label.{leaf_labelled, frame_labelled, is_cast_postfix}
+use Rattle.syn_expr_summaries.specs.declared.kind.NodeKind.{NodeKind}
+use Rattle.syn_expr_summaries.specs.declared.kind.NodeKind.TheVariants as node
+use Rattle.syn_expr_summaries.specs.declared.label.LeafKind.TheVariants as leafs
 use Rattle.syn_expr_kinds.specs.Node.{leaf_at}
 
 -- ---- kinds
@@ -24,14 +24,14 @@ is_labelled _ = false
 
 -- whether a word stands behind the operand with which a node begins, if it does
 abbrev pub word_behind : NodeKind → Option Bool
-word_behind (node.Mid op) = Some (is_cast_op op)
-word_behind (node.Post k) = Some (is_cast_post k)
+word_behind (node.Infix op) = Some (is_cast_op op)
+word_behind (node.Postfix k) = Some (is_cast_postfix k)
 word_behind (node.Tail k) = Some false
 word_behind _ = None
 
-abbrev pub is_mid : NodeKind → Bool
-is_mid (node.Mid op) = true
-is_mid _ = false
+abbrev pub is_infixed : NodeKind → Bool
+is_infixed (node.Infix op) = true
+is_infixed _ = false
 
 -- ---- operands
 
@@ -40,11 +40,11 @@ abbrev pub asked : (Tree → Bool) → Option Tree → Bool
 asked f None = false
 asked f (Some t) = f t
 
--- ---- kept tokens
+-- ---- verbatim tokens
 
-abbrev pub kept_in : Option Leaf → Option (List Tok)
-kept_in None = None
-kept_in (Some k) = from_verbatim k
+abbrev pub verbatim_in : Option Leaf → Option (List Tok)
+verbatim_in None = None
+verbatim_in (Some k) = from_verbatim k
 
-abbrev pub kept_at : Tree → Option (List Tok)
-kept_at t = kept_in (leaf_at t)
+abbrev pub verbatim_at : Tree → Option (List Tok)
+verbatim_at t = verbatim_in (leaf_at t)

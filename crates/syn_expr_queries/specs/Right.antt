@@ -9,14 +9,14 @@ use Rattle.syn_expr_queries.specs.declared.right.Right.{Right}
 use Rattle.syn_expr_queries.specs.declared.right.Right.TheVariants as right
 
 abbrev pub frame_right : Frame → Right
-frame_right e.array = right.Told false
-frame_right e.tuple = right.Told false
-frame_right e.repeat = right.Told false
-frame_right e.invisible = right.Told false
+frame_right e.array = right.Known false
+frame_right e.tuple = right.Known false
+frame_right e.repeat = right.Known false
+frame_right e.group_expr = right.Known false
 frame_right (e.closure_block h) = right.Operand (return_brace h.output)
-frame_right _ = right.Told true
+frame_right _ = right.Known true
 
 -- this is what a node answers behind braces, or behind none
 abbrev pub NodeTells : Right → Bool → Tree → Type 0
-NodeTells (right.Told b) before t = b ≡ tree_brace before t
+NodeTells (right.Known b) before t = b ≡ tree_brace before t
 NodeTells (right.Operand b) before t = asked (tree_brace b) (last_of (operands_at t)) ≡ tree_brace before t

@@ -22,7 +22,7 @@ fn segment_end(segment: &PathSegment) -> End<'_>
     ensures { let s = segment_of type_of segment.now in Tells (query.type_brace false) result (query.arguments_brace s.arguments) (arguments_depth s.arguments) }
 {
     match &segment.arguments {
-        PathArguments::None | PathArguments::AngleBracketed(_) => End::Told(false),
+        PathArguments::None | PathArguments::AngleBracketed(_) => End::Known(false),
         PathArguments::Parenthesized(x) => output_end(&x.output),
     }
 }
@@ -35,12 +35,12 @@ fn segments_end(path: &Path, before: bool) -> End<'_>
     match path.segments.last() {
         Some(segment) => {
             if path.segments.trailing_punct() {
-                End::Told(false)
+                End::Known(false)
             } else {
                 segment_end(segment)
             }
         }
-        None => End::Told(before),
+        None => End::Known(before),
     }
 }
 
@@ -50,7 +50,7 @@ fn path_end<'a>(qself: &Option<QSelf>, path: &'a Path, before: bool) -> End<'a>
         Tells (query.type_brace false) result (query.type_brace before (t.path (qself_or type_of qself.now) p.leading ss p.trailing)) (segments_depth ss) }
 {
     match qself {
-        Some(qself) if path.segments.len() <= qself.position => End::Told(false),
+        Some(qself) if path.segments.len() <= qself.position => End::Known(false),
         Some(_) => segments_end(path, false),
         None => segments_end(path, before && path.leading_colon.is_none()),
     }
@@ -64,12 +64,12 @@ fn bounds_end(bounds: &Punctuated<TypeParamBound, Plus>) -> End<'_>
     match bounds.last() {
         Some(TypeParamBound::Trait(x)) => {
             if bounds.trailing_punct() {
-                End::Told(false)
+                End::Known(false)
             } else {
                 segments_end(&x.path, false)
             }
         }
-        Some(TypeParamBound::Lifetime(_)) | None => End::Told(false),
+        Some(TypeParamBound::Lifetime(_)) | None => End::Known(false),
     }
 }
 
@@ -87,7 +87,7 @@ fn type_end(ty: &Type, before: bool) -> End<'_>
 {
     match ty {
         Type::Path(x) => path_end(&x.qself, &x.path, before),
-        Type::Macro(x) => End::Told(is_brace(&x.mac.delimiter)),
+        Type::Macro(x) => End::Known(is_brace(&x.mac.delimiter)),
         Type::Reference(x) => End::Inside(&x.elem),
         Type::Ptr(x) => End::Inside(&x.elem),
         Type::FnPtr(x) => output_end(&x.output),
@@ -98,7 +98,7 @@ fn type_end(ty: &Type, before: bool) -> End<'_>
         | Type::Tuple(_)
         | Type::Paren(_)
         | Type::Never(_)
-        | Type::Infer(_) => End::Told(false),
+        | Type::Infer(_) => End::Known(false),
     }
 }
 
@@ -107,7 +107,7 @@ pub(crate) fn type_brace(ty: &Type, before: bool) -> bool
     ensures { result ≡ query.type_brace before (type_of ty.now) }
 {
     match type_end(ty, before) {
-        End::Told(is_brace) => is_brace,
+        End::Known(is_brace) => is_brace,
         End::Inside(inner) => type_brace(inner, false),
     }
 }
@@ -117,7 +117,7 @@ pub(crate) fn path_brace(qself: &Option<QSelf>, path: &Path, before: bool) -> bo
     ensures { let p = path_of type_of path.now in result ≡ query.type_brace before (t.path (qself_or type_of qself.now) p.leading (t.segments_of p.segments) p.trailing) }
 {
     match path_end(qself, path, before) {
-        End::Told(is_brace) => is_brace,
+        End::Known(is_brace) => is_brace,
         End::Inside(inner) => type_brace(inner, false),
     }
 }

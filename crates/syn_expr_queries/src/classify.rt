@@ -11,8 +11,8 @@ use crate::name::ends_in_name;
 use crate::right::node_brace;
 use syn_expr_kinds::like::is_block_like;
 use syn_expr_kinds::node::{HasKind, HasShape};
-use syn_expr_notes::kind::NodeKind;
-use syn_expr_notes::label::LeafKind;
+use syn_expr_summaries::kind::NodeKind;
+use syn_expr_summaries::label::LeafKind;
 use syn_lower::ty::Type;
 
 /// Whether a match arm with this body needs a comma behind it (Rust Reference, "Match expressions"): any does but an `if`, a

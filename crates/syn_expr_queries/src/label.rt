@@ -2,7 +2,7 @@
 
 ghost use Rattle.std.specs.Prelude.{◌≡◌};
 ghost use Rattle.syn_expr_kinds.specs.Node.{leaf_of};
-ghost use Rattle.syn_expr_queries.specs.Node.{kept_at, is_labelled, word_behind};
+ghost use Rattle.syn_expr_queries.specs.Node.{verbatim_at, is_labelled, word_behind};
 ghost use Rattle.syn_grammar.specs.Head.{from_verbatim};
 ghost use Rattle.syn_grammar.specs.Query as query;
 ghost use Rattle.syn_lower_leaves.specs.View.{mapped};
@@ -10,12 +10,12 @@ ghost use Rattle.syn_lower_leaves.specs.View.{mapped};
 use crate::frames::HasFrames;
 use crate::tokens::begins_with_lifetime;
 use syn_expr_kinds::node::{HasShape, Leaf};
-use syn_expr_notes::kind::NodeKind;
+use syn_expr_summaries::kind::NodeKind;
 use syn_grammar::kinds::Infix;
 use syn_tokens::tree::TokenStream;
 
-/// The tokens that are kept.
-fn kept(leaf: Leaf<'_>) -> Option<&'_ TokenStream>
+/// The verbatim tokens.
+fn verbatim(leaf: Leaf<'_>) -> Option<&'_ TokenStream>
     ensures { mapped (λ ts. ts.now) result ≡ from_verbatim (leaf_of leaf.entry) }
 {
     match leaf {
@@ -42,10 +42,10 @@ fn word_behind(kind: NodeKind) -> Option<bool>
     ensures { result ≡ word_behind kind }
 {
     match kind {
-        NodeKind::Mid(op) => Some(op == Infix::Cast),
-        NodeKind::Post(kind) => Some(kind.is_cast()),
+        NodeKind::Infix(op) => Some(op == Infix::Cast),
+        NodeKind::Postfix(kind) => Some(kind.is_cast()),
         NodeKind::Tail(_) => Some(false),
-        NodeKind::Leaf(_) | NodeKind::Paren | NodeKind::Lead(_) | NodeKind::Frame(_) => None,
+        NodeKind::Leaf(_) | NodeKind::Paren | NodeKind::Prefix(_) | NodeKind::Frame(_) => None,
     }
 }
 
@@ -57,19 +57,19 @@ fn is_labelled(kind: NodeKind) -> bool
         NodeKind::Leaf(kind) => kind.is_labelled(),
         NodeKind::Frame(kind) => kind.is_labelled(),
         NodeKind::Paren
-        | NodeKind::Lead(_)
-        | NodeKind::Mid(_)
-        | NodeKind::Post(_)
+        | NodeKind::Prefix(_)
+        | NodeKind::Infix(_)
+        | NodeKind::Postfix(_)
         | NodeKind::Tail(_) => false,
     }
 }
 
 /// The tokens that a node keeps, if it is such.
-fn kept_tokens<E: HasShape>(expr: &E) -> Option<&TokenStream>
-    ensures { mapped (λ ts. ts.now) result ≡ kept_at (E.tree expr.now) }
+fn verbatim_tokens<E: HasShape>(expr: &E) -> Option<&TokenStream>
+    ensures { mapped (λ ts. ts.now) result ≡ verbatim_at (E.tree expr.now) }
 {
     match expr.leaf() {
-        Some(leaf) => kept(leaf),
+        Some(leaf) => verbatim(leaf),
         None => None,
     }
 }
@@ -89,7 +89,7 @@ pub(crate) fn begins_with_label<E: HasFrames>(expr: &E, word: bool) -> bool
             None => false,
         };
     }
-    match kept_tokens(expr) {
+    match verbatim_tokens(expr) {
         Some(tokens) => begins_with_lifetime(tokens, word),
         None => is_labelled(kind),
     }

@@ -19,8 +19,8 @@ fn segment_end(segment: &PathSegment) -> End<'_>
     ensures { let s = segment_of type_of segment.now in Tells trailing_unparameterized_path result (query.arguments_unparameterized s.arguments) (arguments_depth s.arguments) }
 {
     match &segment.arguments {
-        PathArguments::None => End::Told(true),
-        PathArguments::AngleBracketed(_) => End::Told(false),
+        PathArguments::None => End::Known(true),
+        PathArguments::AngleBracketed(_) => End::Known(false),
         PathArguments::Parenthesized(x) => output_end(&x.output),
     }
 }
@@ -32,7 +32,7 @@ fn path_end(path: &Path) -> End<'_>
 {
     match path.segments.last() {
         Some(segment) => segment_end(segment),
-        None => End::Told(false),
+        None => End::Known(false),
     }
 }
 
@@ -43,7 +43,7 @@ fn bounds_end(bounds: &Punctuated<TypeParamBound, Plus>) -> End<'_>
 {
     match bounds.last() {
         Some(TypeParamBound::Trait(x)) => path_end(&x.path),
-        Some(TypeParamBound::Lifetime(_)) | None => End::Told(false),
+        Some(TypeParamBound::Lifetime(_)) | None => End::Known(false),
     }
 }
 
@@ -65,7 +65,7 @@ fn type_end(ty: &Type) -> End<'_>
         | Type::Tuple(_)
         | Type::Paren(_)
         | Type::Never(_)
-        | Type::Infer(_) => End::Told(false),
+        | Type::Infer(_) => End::Known(false),
     }
 }
 
@@ -74,7 +74,7 @@ pub(crate) fn ends_in_name(ty: &Type) -> bool
     ensures { result ≡ trailing_unparameterized_path (type_of ty.now) }
 {
     match type_end(ty) {
-        End::Told(is_name) => is_name,
+        End::Known(is_name) => is_name,
         End::Inside(inner) => ends_in_name(inner),
     }
 }

@@ -1,8 +1,8 @@
 //! Whether an expression ends with a group in braces.
 
 ghost use Rattle.std.specs.Prelude.{◌≡◌, ◌&&◌};
-ghost use Rattle.syn_expr_kinds.specs.Node.{before_of, leaf_of, lead_of, post_of, frame_of};
-ghost use Rattle.syn_expr_queries.specs.Node.{is_mid};
+ghost use Rattle.syn_expr_kinds.specs.Node.{before_of, leaf_of, prefix_of, postfix_of, frame_of};
+ghost use Rattle.syn_expr_queries.specs.Node.{is_infixed};
 ghost use Rattle.syn_expr_queries.specs.Right.{NodeTells, frame_right};
 ghost use Rattle.syn_grammar.specs.Query as query;
 ghost use Rattle.syn_grammar.specs.Tree.{outers};
@@ -13,13 +13,13 @@ ghost use Rattle.syn_pat_kinds.specs.View.{PatView};
 use crate::brace::{is_brace, output_brace, path_brace, type_brace};
 use crate::frames::HasFrames;
 use crate::tokens::ends_with_braces;
-use syn_expr_kinds::node::{Attributes, Closure, Frame, Lead, Leaf, Post};
-use syn_expr_notes::kind::NodeKind;
+use syn_expr_kinds::node::{Attributes, Closure, Frame, Leaf, Postfix, Prefix};
+use syn_expr_summaries::kind::NodeKind;
 
 /// What is last in a node.
 enum Right {
     /// No operand: whether braces are.
-    Told(bool),
+    Known(bool),
     /// An operand; whether braces stand before it.
     Operand(bool),
 }
@@ -52,27 +52,27 @@ fn closure_brace<P>(closure: Closure<'_, P>) -> bool
 }
 
 /// Whether braces stand before the operand that this has behind it: only an output ends with such.
-fn lead_brace<P>(lead: Lead<'_, P>) -> bool
-    ensures { (pat : P → PatView) → result ≡ query.lead_brace (lead_of pat lead.entry) }
+fn prefix_brace<P>(prefix: Prefix<'_, P>) -> bool
+    ensures { (pat : P → PatView) → result ≡ query.prefix_brace (prefix_of pat prefix.entry) }
 {
-    match lead {
-        Lead::Closure(closure) => closure_brace(closure),
-        Lead::Unary(_)
-        | Lead::Reference(_, _)
-        | Lead::RawAddr(_, _, _)
-        | Lead::Range(_)
-        | Lead::Let(_, _, _) => false,
-        Lead::Jump(_) => false,
+    match prefix {
+        Prefix::Closure(closure) => closure_brace(closure),
+        Prefix::Unary(_)
+        | Prefix::Reference(_, _)
+        | Prefix::RawAddr(_, _, _)
+        | Prefix::Range(_)
+        | Prefix::Let(_, _, _) => false,
+        Prefix::Jump(_) => false,
     }
 }
 
 /// Whether what stands behind an operand ends with braces.
-fn post_brace(post: Post<'_>) -> bool
-    ensures { result ≡ query.post_brace (post_of post.entry) }
+fn postfix_brace(postfix: Postfix<'_>) -> bool
+    ensures { result ≡ query.postfix_brace (postfix_of postfix.entry) }
 {
-    match post {
-        Post::Cast(_, ty) => type_brace(ty, false),
-        Post::Range(_) => false,
+    match postfix {
+        Postfix::Cast(_, ty) => type_brace(ty, false),
+        Postfix::Range(_) => false,
     }
 }
 
@@ -82,22 +82,22 @@ fn frame_right<P>(frame: Frame<'_, P>) -> Right
 {
     match frame {
         Frame::Array(_) | Frame::Tuple(_) | Frame::Repeat(_) | Frame::Group(_) => {
-            Right::Told(false)
+            Right::Known(false)
         }
         Frame::Struct(_, _, _, _)
         | Frame::If(_)
         | Frame::While(_, _)
         | Frame::ForLoop(_, _, _, _)
-        | Frame::Match(_, _) => Right::Told(true),
+        | Frame::Match(_, _) => Right::Known(true),
         Frame::Closure(closure) => Right::Operand(closure_brace(closure)),
     }
 }
 
 /// Whether a node of this kind is an operator between two operands.
-fn is_mid(kind: NodeKind) -> bool
-    ensures { result ≡ is_mid kind }
+fn is_infixed(kind: NodeKind) -> bool
+    ensures { result ≡ is_infixed kind }
 {
-    matches!(kind, NodeKind::Mid(_))
+    matches!(kind, NodeKind::Infix(_))
 }
 
 /// Whether braces stand before a node, behind its attributes: not where any are printed before it.
@@ -114,21 +114,21 @@ fn node_right<E: HasFrames>(expr: &E, before: bool) -> Right
 {
     if let Some(leaf) = expr.leaf() {
         let before = behind(before, expr.attributes());
-        return Right::Told(leaf_brace(leaf, before));
+        return Right::Known(leaf_brace(leaf, before));
     }
-    if let Some(lead) = expr.lead() {
-        return Right::Operand(lead_brace(lead));
+    if let Some(prefix) = expr.prefix() {
+        return Right::Operand(prefix_brace(prefix));
     }
-    if let Some(post) = expr.post() {
-        return Right::Told(post_brace(post));
+    if let Some(postfix) = expr.postfix() {
+        return Right::Known(postfix_brace(postfix));
     }
     if let Some(frame) = expr.frame() {
         return frame_right(frame);
     }
-    if is_mid(expr.kind()) {
+    if is_infixed(expr.kind()) {
         Right::Operand(false)
     } else {
-        Right::Told(false)
+        Right::Known(false)
     }
 }
 
@@ -138,7 +138,7 @@ pub(crate) fn node_brace<E: HasFrames>(expr: &E, before: bool) -> bool
     ensures { result ≡ query.tree_brace before (E.tree expr.now) }
 {
     match node_right(expr, before) {
-        Right::Told(is_brace) => is_brace,
+        Right::Known(is_brace) => is_brace,
         Right::Operand(before) => match expr.operands().last() {
             Some(x) => node_brace(x, before),
             None => false,

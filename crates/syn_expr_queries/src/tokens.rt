@@ -1,4 +1,4 @@
-//! The first and the last of tokens that are kept.
+//! The first and the last of verbatim tokens.
 
 ghost use Rattle.std.specs.Prelude.{◌≡◌};
 ghost use Rattle.syn_grammar.specs.Query as spec;
@@ -10,7 +10,7 @@ use syn_tokens::tree::{TokenStream, TokenTree};
 use syn_tokens::{Delimiter, Spacing};
 
 /// Whether the apostrophe of a lifetime is all there is.
-#[tactic(auto, using(crate::proofs::Kept::quotes))]
+#[tactic(auto, using(crate::proofs::Verbatim::quotes))]
 fn is_sole_quote(trees: &[TokenTree]) -> bool
     ensures { result ≡ spec.is_sole_quote (toks_of trees.now) }
 {
@@ -20,16 +20,16 @@ fn is_sole_quote(trees: &[TokenTree]) -> bool
     }
 }
 
-/// Whether kept tokens begin with a lifetime, or are its apostrophe before a word.
+/// Whether verbatim tokens begin with a lifetime, or are its apostrophe before a word.
 pub(crate) fn begins_with_lifetime(tokens: &TokenStream, word: bool) -> bool
-    ensures { result ≡ spec.kept_leads word tokens.now }
+    ensures { result ≡ spec.verbatim_leads word tokens.now }
 {
     let trees = tokens.trees();
     Lifetime::peek(trees) || word && is_sole_quote(trees)
 }
 
-/// Whether a group in braces ends kept tokens; `before`: whether it ends what stands before them.
-#[tactic(auto, using(crate::proofs::Kept::lasts))]
+/// Whether a group in braces ends verbatim tokens; `before`: whether it ends what stands before them.
+#[tactic(auto, using(crate::proofs::Verbatim::lasts))]
 pub(crate) fn ends_with_braces(tokens: &TokenStream, before: bool) -> bool
     ensures { result ≡ spec.last_braces before tokens.now }
 {

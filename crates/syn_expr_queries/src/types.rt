@@ -11,7 +11,7 @@ use syn_lower::ty::{ReturnType, Type};
 /// What stands at the right end.
 pub(crate) enum End<'a> {
     /// No type: this is the answer.
-    Told(bool),
+    Known(bool),
     /// A type, which answers.
     Inside(&'a Type),
 }
@@ -22,7 +22,7 @@ pub(crate) fn output_end(output: &ReturnType) -> End<'_>
     ensures brace { Tells (query.type_brace false) result (query.return_brace (return_of output.now)) (return_depth (return_of output.now)) }
 {
     match output {
-        ReturnType::Default => End::Told(false),
+        ReturnType::Default => End::Known(false),
         ReturnType::Given(_, ty) => End::Inside(ty),
     }
 }

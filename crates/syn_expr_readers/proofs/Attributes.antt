@@ -9,9 +9,9 @@ use Rattle.syn_parts.specs.Part.{outer_attributes}
 use Rattle.syn_parts.proofs.Same.{same_toks-refl}
 use Rattle.syn_grammar.specs.declared.kinds.Place.{Place}
 use Rattle.syn_grammar.specs.Tree as tr
-use Rattle.syn_grammar.specs.Tree.{Tree, adorn, adorned, leaf}
-use Rattle.syn_grammar.specs.Stands.{is_adorned, is_verbatim, may_adorn}
-use Rattle.syn_grammar.specs.Read.{adorned_by, attributed, before, verbatim_of}
+use Rattle.syn_grammar.specs.Tree.{Tree, attributed_with, attributed, leaf}
+use Rattle.syn_grammar.specs.Stands.{is_attributed, is_verbatim, takes_attributes}
+use Rattle.syn_grammar.specs.Read.{attributed_by, read_attributed, before, verbatim_of}
 use Rattle.syn_expr_readers.specs.Loops.{outer_operand, with_outer}
 use Rattle.syn_grammar.proofs.Needs.{heads}
 use Rattle.syn_grammar.proofs.HeadMoves.{left, taken_is}
@@ -31,37 +31,37 @@ none_there l m g h = by_test (pound.at l) g h
     by_test true g h = absurd cc
     by_test false g h = absurd cc
 
-told_adorned : (p : Place) (l m n fs : List Tok) (a : AttributeTree) (more : List AttributeTree) (x : Tree) (o : Option (List Tok)) → l ≡ fs ++ m
-    → adorned_by p l m a more x o n ≡ before (with_outer p fs (a ∷ more) x o) (λ y. y) n
-told_adorned p l m n fs a more x None i = by_test (may_adorn p x)
+known_attributed : (p : Place) (l m n fs : List Tok) (a : AttributeTree) (more : List AttributeTree) (x : Tree) (o : Option (List Tok)) → l ≡ fs ++ m
+    → attributed_by p l m a more x o n ≡ before (with_outer p fs (a ∷ more) x o) (λ y. y) n
+known_attributed p l m n fs a more x None i = by_test (takes_attributes p x)
   where
-    by_test : (b : Bool) → cond b (Some (adorned a more x, n)) None ≡ before (cond b (Some (adorned a more x)) None) (λ y. y) n
+    by_test : (b : Bool) → cond b (Some (attributed a more x, n)) None ≡ before (cond b (Some (attributed a more x)) None) (λ y. y) n
     by_test true = refl
     by_test false = refl
-told_adorned p l m n fs a more x (Some ts) i =
-    subst (λ z. adorned_by p z m a more x (Some ts) n ≡ Some (leaf (tr.verbatim (fs ++ ts)), n)) (sym i) (rw (taken_is fs m, same_toks-refl (fs ++ m)) refl)
+known_attributed p l m n fs a more x (Some ts) i =
+    subst (λ z. attributed_by p z m a more x (Some ts) n ≡ Some (leaf (tr.verbatim (fs ++ ts)), n)) (sym i) (rw (taken_is fs m, same_toks-refl (fs ++ m)) refl)
 
 -- an operand with the attributes that were read before it
 pub outer_is : (p : Place) (l m n fs : List Tok) (ats : List AttributeTree) (x : Tree) → pound.at l ≡ true → outer_attributes.reads l ≡ Some (ats, m) → l ≡ fs ++ m
-    → attributed p l m ats x n ≡ outer_operand p fs ats x n
+    → read_attributed p l m ats x n ≡ outer_operand p fs ats x n
 outer_is p l m n fs [] x g h i = absurd (none_there l m g (heads.outers.sound l [] m h))
-outer_is p l m n fs (a ∷ more) x g h i = told_adorned p l m n fs a more x (verbatim_of x) i
+outer_is p l m n fs (a ∷ more) x g h i = known_attributed p l m n fs a more x (verbatim_of x) i
 
 no_verbatim : (x : Tree) → is_verbatim x ≡ false → verbatim_of x ≡ None
 no_verbatim (leaf (tr.verbatim ts)) h = absurd cc
 no_verbatim (leaf _) h = refl
 no_verbatim _ h = refl
 
-pub outer_tree : (p : Place) (fs n : List Tok) (ats : List AttributeTree) (x : Tree) → is_verbatim x ≡ false → may_adorn p x ≡ true → outer_operand p fs ats x n ≡ Some (adorn ats x, n)
+pub outer_tree : (p : Place) (fs n : List Tok) (ats : List AttributeTree) (x : Tree) → is_verbatim x ≡ false → takes_attributes p x ≡ true → outer_operand p fs ats x n ≡ Some (attributed_with ats x, n)
 outer_tree p fs n ats x v h = rw (no_verbatim x v, h) refl
 
-pub outer_refused : (p : Place) (fs n : List Tok) (ats : List AttributeTree) (x : Tree) → is_verbatim x ≡ false → may_adorn p x ≡ false → outer_operand p fs ats x n ≡ None
+pub outer_refused : (p : Place) (fs n : List Tok) (ats : List AttributeTree) (x : Tree) → is_verbatim x ≡ false → takes_attributes p x ≡ false → outer_operand p fs ats x n ≡ None
 outer_refused p fs n ats x v h = rw (no_verbatim x v, h) refl
 
-pub adorned-not : (p : Place) (x : Tree) → may_adorn p x ≡ true → is_adorned x ≡ false
-adorned-not p (tr.adorned a more x) h = absurd cc
-adorned-not p _ h = refl
+pub attributed-not : (p : Place) (x : Tree) → takes_attributes p x ≡ true → is_attributed x ≡ false
+attributed-not p (tr.attributed a more x) h = absurd cc
+attributed-not p _ h = refl
 
 pub ruleset attributes = (outers_left, outers_are, outer_is)
 
-pub ruleset outers = (outer_tree, outer_refused, adorned-not)
+pub ruleset outers = (outer_tree, outer_refused, attributed-not)

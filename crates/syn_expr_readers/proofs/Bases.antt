@@ -16,9 +16,9 @@ use Rattle.syn_grammar.specs.Stands.{fields_of, fits_base, indices_at, step, ste
 use Rattle.syn_grammar.specs.Slot.{nothing, trailer_holder}
 use Rattle.syn_grammar.specs.Read.{content, indexed_by, expr}
 use Rattle.syn_grammar.proofs.Chains.{some_is}
-use Rattle.syn_expr_notes.specs.Label.{trailer_kind}
-use Rattle.syn_expr_notes.specs.declared.label.TrailerKind.TheVariants as trailers
-use Rattle.syn_expr_readers.specs.Kind as told
+use Rattle.syn_expr_summaries.specs.Label.{trailer_kind}
+use Rattle.syn_expr_summaries.specs.declared.label.TrailerKind.TheVariants as trailers
+use Rattle.syn_expr_readers.specs.Kind as known
 
 -- what the test of a base asks beside what it asks of all
 split : (a b c d : Bool) → ((a && (b && not c)) && not d) ≡ ((a && b) && (not c && not d))
@@ -31,14 +31,14 @@ whole true true d = refl
 whole true false d = refl
 whole false b d = refl
 
-other : (t : Tree) → ((stands.carries t && (not (stands.is_adorned t || stands.is_pounded t) && true)) && true) ≡ (told.is_base t && true)
-other t = whole (stands.carries t) (not (stands.is_adorned t || stands.is_pounded t)) false
+other : (t : Tree) → ((stands.carries t && (not (stands.is_attributed t || stands.is_pounded t) && true)) && true) ≡ (known.is_base t && true)
+other t = whole (stands.carries t) (not (stands.is_attributed t || stands.is_pounded t)) false
 
-pub fits-kind : (p : Place) (k : e.Trailer) (t : Tree) → fits_base p k t ≡ told.fits_base p (trailer_kind k) t
+pub fits-kind : (p : Place) (k : e.Trailer) (t : Tree) → fits_base p k t ≡ known.fits_base p (trailer_kind k) t
 unfolding fits_base
-fits-kind p e.call t = split (stands.carries t) (not (stands.is_adorned t || stands.is_pounded t)) (stands.is_named_field t) (stands.rests p t)
-fits-kind p e.index t = whole (stands.carries t) (not (stands.is_adorned t || stands.is_pounded t)) (stands.rests p t)
-fits-kind p e.question t = other t
+fits-kind p e.call t = split (stands.carries t) (not (stands.is_attributed t || stands.is_pounded t)) (stands.is_named_field t) (stands.rests p t)
+fits-kind p e.index t = whole (stands.carries t) (not (stands.is_attributed t || stands.is_pounded t)) (stands.rests p t)
+fits-kind p e.try_expr t = other t
 fits-kind p (e.method w a) t = other t
 fits-kind p (e.field m) t = other t
 fits-kind p e.await t = other t
@@ -72,7 +72,7 @@ some_index _ n h = absurd cc
 
 -- the test is that of a field with an index
 pub indexed : (p : Place) (t : Tree) (l n : List Tok) (is : List ℕ) → indices_at l ≡ Some (is, n)
-    → indexed_by expr p t is n ≡ cond (told.fits_base p (trailers.Field false) t) (Some (fields_of t is, n)) None
+    → indexed_by expr p t is n ≡ cond (known.fits_base p (trailers.Field false) t) (Some (fields_of t is, n)) None
 indexed p t l n [] h = absurd (some_index l n h)
 indexed p t l n (i ∷ is) h = rw (fits-kind p (e.field (an_index i)) t) refl
 

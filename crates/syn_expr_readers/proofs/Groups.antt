@@ -17,7 +17,7 @@ use Rattle.syn_grammar.specs.Head.{leaf_form, named as named_form}
 use Rattle.syn_grammar.specs.Slot as s
 use Rattle.syn_grammar.specs.Slot.{piece_form, ending_at}
 use Rattle.syn_grammar.specs.Tree as e
-use Rattle.syn_grammar.specs.Tree.{Tree, Kids, Leaf, leaf, paren, adorned, lead, mid, post, tail, frame, none, kid}
+use Rattle.syn_grammar.specs.Tree.{Tree, Children, Leaf, leaf, paren, attributed, prefixed, infixed, postfixed, tail, frame, none, child}
 use Rattle.syn_grammar.specs.Stands.{Node, Content, Operands, holds_within, one_more, no_more, is_leaf, is_indexed, fields_of, frame_stands, frame_ends}
 use Rattle.syn_grammar.specs.Read.{content, named_read, framed_by, group_read, expr}
 use Rattle.syn_grammar.proofs.Chains.{some_is, behind_some, both_true, not_true}
@@ -63,17 +63,17 @@ no_path p (leaf (e.full_range k)) n h = refl
 no_path p (leaf (e.bare_jump k)) n h = refl
 no_path p (leaf (e.continuing k)) n h = refl
 no_path p (leaf (e.block w k)) n h = refl
-no_path p (leaf (e.looping w k)) n h = refl
+no_path p (leaf (e.loop_expr w k)) n h = refl
 no_path p (leaf (e.unsafe_block k)) n h = refl
 no_path p (leaf (e.const_block k)) n h = refl
 no_path p (leaf (e.async_block m k)) n h = refl
 no_path p (leaf (e.try_block k)) n h = refl
 no_path p (leaf (e.verbatim k)) n h = refl
 no_path p (paren m x) n h = refl
-no_path p (adorned a others x) n h = refl
-no_path p (lead k gs x) n h = refl
-no_path p (mid x k y) n h = refl
-no_path p (post x k) n h = refl
+no_path p (attributed a others x) n h = refl
+no_path p (prefixed k gs x) n h = refl
+no_path p (infixed x k y) n h = refl
+no_path p (postfixed x k) n h = refl
 no_path p (tail b k ks) n h = refl
 no_path p (frame k ks) n h = refl
 
@@ -89,7 +89,7 @@ fields_no_leaf b i [] k h = absurd cc
 fields_no_leaf b i (j ∷ is) k h = fields_no_leaf (tail b (e.field (an_index i)) none) j is k h
 
 -- what is no path ends anywhere
-ends_by : (p : Place) (x : Tree) (n : List Tok) → is_path x ≡ false → frame_ends p e.invisible (kid e.grouped e.no_ending x none) n ≡ true
+ends_by : (p : Place) (x : Tree) (n : List Tok) → is_path x ≡ false → frame_ends p e.group_expr (child e.grouped e.no_ending x none) n ≡ true
 unfolding frame_ends
 ends_by p (leaf (e.path q w)) n h = absurd cc
 ends_by p (leaf (e.lit k)) n h = refl
@@ -99,21 +99,21 @@ ends_by p (leaf (e.full_range k)) n h = refl
 ends_by p (leaf (e.bare_jump k)) n h = refl
 ends_by p (leaf (e.continuing k)) n h = refl
 ends_by p (leaf (e.block w k)) n h = refl
-ends_by p (leaf (e.looping w k)) n h = refl
+ends_by p (leaf (e.loop_expr w k)) n h = refl
 ends_by p (leaf (e.unsafe_block k)) n h = refl
 ends_by p (leaf (e.const_block k)) n h = refl
 ends_by p (leaf (e.async_block m k)) n h = refl
 ends_by p (leaf (e.try_block k)) n h = refl
 ends_by p (leaf (e.verbatim k)) n h = refl
 ends_by p (paren m x) n h = refl
-ends_by p (adorned a others x) n h = refl
-ends_by p (lead k gs x) n h = refl
-ends_by p (mid x k y) n h = refl
-ends_by p (post x k) n h = refl
+ends_by p (attributed a others x) n h = refl
+ends_by p (prefixed k gs x) n h = refl
+ends_by p (infixed x k y) n h = refl
+ends_by p (postfixed x k) n h = refl
 ends_by p (tail b k ks) n h = refl
 ends_by p (frame k ks) n h = refl
 
-path_ends : (p : Place) (q : QSelfTree) (w : PathTree) (n : List Tok) → frame_ends p e.invisible (kid e.grouped e.no_ending (leaf (e.path q w)) none) n ≡ not (goes_on_path (not p.condition) (q, w) n)
+path_ends : (p : Place) (q : QSelfTree) (w : PathTree) (n : List Tok) → frame_ends p e.group_expr (child e.grouped e.no_ending (leaf (e.path q w)) none) n ≡ not (goes_on_path (not p.condition) (q, w) n)
 unfolding frame_ends
 path_ends p q w n = refl
 
@@ -141,26 +141,26 @@ tail_no_end : {t : Tok} {r : List Tok} → t ∷ r ≡ [] → ⊥
 tail_no_end h = absurd cc
 
 module _ (l i n : List Tok) (g : group_at del.None l ≡ Some (i, n)) where
-  holding : (x : Tree) → expr plain i ≡ Some (x, []) → Content (s.within del.None s.groups false) l (kid e.grouped e.no_ending x none) n
+  holding : (x : Tree) → expr plain i ≡ Some (x, []) → Content (s.within del.None s.groups false) l (child e.grouped e.no_ending x none) n
   unfolding piece_form ending_at
   holding x h =
       let a = expr_sound plain i x [] h in
       holds_within {o = []} g (one_more {k = e.grouped} refl refl a.node (ends_a_piece e.grouped x [] refl a.ending a.closing) refl (no_more refl)) refl
 
-  held : (x : Tree) → expr plain i ≡ Some (x, []) → content expr (s.within del.None s.groups false) l ≡ Some (kid e.grouped e.no_ending x none, n)
-  held x h = within_read expr (suc (weight l)) (λ p m o y b t. expr_complete p m y o t) del.None s.groups false l n (kid e.grouped e.no_ending x none) (holding x h) (omega arith)
+  held : (x : Tree) → expr plain i ≡ Some (x, []) → content expr (s.within del.None s.groups false) l ≡ Some (child e.grouped e.no_ending x none, n)
+  held x h = within_read expr (suc (weight l)) (λ p m o y b t. expr_complete p m y o t) del.None s.groups false l n (child e.grouped e.no_ending x none) (holding x h) (omega arith)
 
-  alone : (ks : Kids) (m : List Tok) → content expr (s.within del.None s.groups false) l ≡ Some (ks, m) → (x : Tree) × (expr plain i ≡ Some (x, []))
+  alone : (ks : Children) (m : List Tok) → content expr (s.within del.None s.groups false) l ≡ Some (ks, m) → (x : Tree) × (expr plain i ≡ Some (x, []))
   alone ks m h = by_content (content_sound heads expr expr_sound (s.within del.None s.groups false) l (ks, m) h)
     where
-      by_kids : (ks : Kids) → Operands s.groups i ks [] → (x : Tree) × (expr plain i ≡ Some (x, []))
-      by_kids none d = let (a, b) = none_is d in absurd cc
-      by_kids (kid q c x ks) d = let a = grouped_is d in (x, expr_complete plain i x [] (record { node = a.node; ending = a.ending; closing = a.closing }))
+      by_children : (ks : Children) → Operands s.groups i ks [] → (x : Tree) × (expr plain i ≡ Some (x, []))
+      by_children none d = let (a, b) = none_is d in absurd cc
+      by_children (child q c x ks) d = let a = grouped_is d in (x, expr_complete plain i x [] (record { node = a.node; ending = a.ending; closing = a.closing }))
 
       by_content : Content (s.within del.None s.groups false) l ks m → (x : Tree) × (expr plain i ≡ Some (x, []))
       by_content (holds_within {i = j} {o = o} f d b) =
           let same : j ≡ i = ap (λ (z : List Tok × List Tok). z.0) (some_is (sym f ∙ g)) in
-          by_kids ks (subst (λ z. Operands s.groups z ks []) same (subst (λ z. Operands s.groups j ks z) (empty_is o b) d))
+          by_children ks (subst (λ z. Operands s.groups z ks []) same (subst (λ z. Operands s.groups j ks z) (empty_is o b) d))
 
   -- where nothing is read inside, no path is
   no_held : (braces : Bool) → ((x : Tree) → expr plain i ≡ Some (x, []) → ⊥) → (expr_path braces).reads l ≡ None
@@ -169,20 +169,20 @@ module _ (l i n : List Tok) (g : group_at del.None l ≡ Some (i, n)) where
       let u = both_true (not (is_try_alone q.0 q.1)) _ h in
       f (leaf (e.path q.0 q.1)) (expr_complete plain i (leaf (e.path q.0 q.1)) [] (path_alone_stands q.0 q.1 i a (not_true (is_try_alone q.0 q.1) u.0))))
 
-  framed_is : (p : Place) (x : Tree) (b : Bool) → expr plain i ≡ Some (x, []) → frame_ends p e.invisible (kid e.grouped e.no_ending x none) n ≡ b
-      → framed_by expr p e.invisible l ≡ cond b (Some (in_group x, n)) None
+  framed_is : (p : Place) (x : Tree) (b : Bool) → expr plain i ≡ Some (x, []) → frame_ends p e.group_expr (child e.grouped e.no_ending x none) n ≡ b
+      → framed_by expr p e.group_expr l ≡ cond b (Some (in_group x, n)) None
   unfolding frame_stands
   framed_is p x true h k = rw (held x h, k) refl
   framed_is p x false h k = rw (held x h, k) refl
 
-  framed_none : (p : Place) → ((x : Tree) → expr plain i ≡ Some (x, []) → ⊥) → framed_by expr p e.invisible l ≡ None
+  framed_none : (p : Place) → ((x : Tree) → expr plain i ≡ Some (x, []) → ⊥) → framed_by expr p e.group_expr l ≡ None
   framed_none p f = by_content (content expr (s.within del.None s.groups false) l) refl
     where
-      by_content : (o : Outcome Kids) → content expr (s.within del.None s.groups false) l ≡ o → framed_by expr p e.invisible l ≡ None
+      by_content : (o : Outcome Children) → content expr (s.within del.None s.groups false) l ≡ o → framed_by expr p e.group_expr l ≡ None
       by_content None h = rw h refl
       by_content (Some z) h = let (x, j) = alone z.0 z.1 h in absurd (f x j)
 
-  by_frame : (p : Place) (o : Option (Tree × List Tok)) → (expr_path (not p.condition)).reads l ≡ None → framed_by expr p e.invisible l ≡ o → group_read expr p l ≡ o
+  by_frame : (p : Place) (o : Option (Tree × List Tok)) → (expr_path (not p.condition)).reads l ≡ None → framed_by expr p e.group_expr l ≡ o → group_read expr p l ≡ o
   unfolding group_read
   by_frame p o h k = rw h k
 
@@ -209,7 +209,7 @@ module _ (l i n : List Tok) (g : group_at del.None l ≡ Some (i, n)) where
       by_more None k = by_frame p None (front ∙ rw k refl) (framed_is p (leaf (e.path q w)) false h (path_ends p q w n ∙ rw u refl)) ∙ rw k refl
       by_more (Some z) k = by_path p (to_path ((q, w), z.0)) z.1 (front ∙ rw k refl) ∙ rw k refl
 
-  ending_there : (p : Place) (x : Tree) → expr plain i ≡ Some (x, []) → frame_ends p e.invisible (kid e.grouped e.no_ending x none) n ≡ true
+  ending_there : (p : Place) (x : Tree) → expr plain i ≡ Some (x, []) → frame_ends p e.group_expr (child e.grouped e.no_ending x none) n ≡ true
       → ((q : QPathTree) → (expr_path false).behind q i ≡ Some [] → goes_on_path (not p.condition) q n ≡ true → ⊥) → group_read expr p l ≡ Some (in_group x, n)
   ending_there p x h k f = by_frame p (Some (in_group x, n)) (no_front (not p.condition) l i n g f) (framed_is p x true h k)
 
@@ -236,17 +236,17 @@ module _ (l i n : List Tok) (g : group_at del.None l ≡ Some (i, n)) where
   by_test p (leaf (e.bare_jump k)) h = by_other p (leaf (e.bare_jump k)) h refl
   by_test p (leaf (e.continuing k)) h = by_other p (leaf (e.continuing k)) h refl
   by_test p (leaf (e.block w k)) h = by_other p (leaf (e.block w k)) h refl
-  by_test p (leaf (e.looping w k)) h = by_other p (leaf (e.looping w k)) h refl
+  by_test p (leaf (e.loop_expr w k)) h = by_other p (leaf (e.loop_expr w k)) h refl
   by_test p (leaf (e.unsafe_block k)) h = by_other p (leaf (e.unsafe_block k)) h refl
   by_test p (leaf (e.const_block k)) h = by_other p (leaf (e.const_block k)) h refl
   by_test p (leaf (e.async_block m k)) h = by_other p (leaf (e.async_block m k)) h refl
   by_test p (leaf (e.try_block k)) h = by_other p (leaf (e.try_block k)) h refl
   by_test p (leaf (e.verbatim k)) h = by_other p (leaf (e.verbatim k)) h refl
   by_test p (paren m x) h = by_other p (paren m x) h refl
-  by_test p (adorned a others x) h = by_other p (adorned a others x) h refl
-  by_test p (lead k gs x) h = by_other p (lead k gs x) h refl
-  by_test p (mid x k y) h = by_other p (mid x k y) h refl
-  by_test p (post x k) h = by_other p (post x k) h refl
+  by_test p (attributed a others x) h = by_other p (attributed a others x) h refl
+  by_test p (prefixed k gs x) h = by_other p (prefixed k gs x) h refl
+  by_test p (infixed x k y) h = by_other p (infixed x k y) h refl
+  by_test p (postfixed x k) h = by_other p (postfixed x k) h refl
   by_test p (tail b k ks) h = by_other p (tail b k ks) h refl
   by_test p (frame k ks) h = by_other p (frame k ks) h refl
 
@@ -280,17 +280,17 @@ read_closed i (leaf (e.full_range k)) h = refl
 read_closed i (leaf (e.bare_jump k)) h = refl
 read_closed i (leaf (e.continuing k)) h = refl
 read_closed i (leaf (e.block w k)) h = refl
-read_closed i (leaf (e.looping w k)) h = refl
+read_closed i (leaf (e.loop_expr w k)) h = refl
 read_closed i (leaf (e.unsafe_block k)) h = refl
 read_closed i (leaf (e.const_block k)) h = refl
 read_closed i (leaf (e.async_block m k)) h = refl
 read_closed i (leaf (e.try_block k)) h = refl
 read_closed i (leaf (e.verbatim k)) h = refl
 read_closed i (paren m x) h = refl
-read_closed i (adorned a others x) h = refl
-read_closed i (lead k gs x) h = refl
-read_closed i (mid x k y) h = refl
-read_closed i (post x k) h = refl
+read_closed i (attributed a others x) h = refl
+read_closed i (prefixed k gs x) h = refl
+read_closed i (infixed x k y) h = refl
+read_closed i (postfixed x k) h = refl
 read_closed i (tail b k ks) h = refl
 read_closed i (frame k ks) h = refl
 

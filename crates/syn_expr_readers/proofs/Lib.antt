@@ -1,4 +1,4 @@
-pub mod Adorned
+pub mod Attributed
 pub mod Attributes
 pub mod Bases
 pub mod ByKind

@@ -56,7 +56,7 @@ named_first : (w : Text) (l : List Tok) (p : Place) → is_reserved_word w ≡ f
 unfolding atom invisible_at group_at
 named_first w l p h g =
     let n = named_word w l (name_segment w h) in
-    rw (n.no_leaf (no_try w l h) (no_builtin w l g.no_pound), n.no_lead, n.no_round, n.no_bracket, n.no_become, n.no_if, n.no_loop, n.no_match) refl
+    rw (n.no_leaf (no_try w l h) (no_builtin w l g.no_pound), n.no_prefix, n.no_round, n.no_bracket, n.no_become, n.no_if, n.no_loop, n.no_match) refl
 
 word_path : (w : Text) (l : List Tok) → is_segment w ≡ true → colon2.at l ≡ false → (qpath type style.Expr).reads (ident w ∷ l) ≡ Some (one_word w, l)
 unfolding qpath path pieces segment segment_name arguments turbofish_at no_arguments more fix iterate one_word sign_at

@@ -23,10 +23,10 @@ use Rattle.syn_grammar.specs.declared.kinds.UnKind.{UnKind}
 use Rattle.syn_grammar.specs.declared.kinds.UnKind.TheVariants as un
 use Rattle.syn_grammar.specs.Place.{at, takes}
 use Rattle.syn_grammar.specs.Op.{level, infix_at, goes_on, takes_by}
-use Rattle.syn_grammar.specs.Head.{lead_form, literal_at, loop_at, block_at, const_block_at, async_block_at, try_block_at, builtin_at}
-use Rattle.syn_grammar.specs.Tree.{Tree, lead, unary, none}
-use Rattle.syn_grammar.specs.Stands.{ends, is_range, rests, lead_stands}
-use Rattle.syn_grammar.specs.Read.{Reading, ◌<$>◌, ◌>>=◌, atom, attributed, leaf_at, lead_at, lead_read, core, operand, at_place, climb, stop, taken_at, taken_by, next_operator, expr}
+use Rattle.syn_grammar.specs.Head.{prefix_form, literal_at, loop_at, block_at, const_block_at, async_block_at, try_block_at, builtin_at}
+use Rattle.syn_grammar.specs.Tree.{Tree, prefixed, unary, none}
+use Rattle.syn_grammar.specs.Stands.{ends, is_range, rests, prefix_stands}
+use Rattle.syn_grammar.specs.Read.{Reading, ◌<$>◌, ◌>>=◌, atom, read_attributed, leaf_at, prefix_at, prefix_read, core, operand, at_place, climb, stop, taken_at, taken_by, next_operator, expr}
 use Rattle.syn_grammar.proofs.Chains.{both_true}
 use Rattle.syn_expr_atoms.specs.Led.{behind}
 use Rattle.syn_expr_readers.specs.Loops.{operations, trailers}
@@ -42,38 +42,38 @@ no_quote c Joint [] h = refl
 no_quote c Joint (ident w ∷ l) h = rw h refl
 no_quote c Joint (_ ∷ l) h = refl
 
-star_first : (p : Place) (s : Spacing) (l : List Tok) → atom expr p (punct 42 s ∷ l) ≡ (lead (unary un.Deref) none <$> expr (at p lev.Prefix)) l
-unfolding atom leaf_at lead_at lead_read lead_form lead_stands literal_at loop_at block_at const_block_at async_block_at try_block_at builtin_at brace_at group_at sign_at word_at
+star_first : (p : Place) (s : Spacing) (l : List Tok) → atom expr p (punct 42 s ∷ l) ≡ (prefixed (unary un.Deref) none <$> expr (at p lev.Prefix)) l
+unfolding atom leaf_at prefix_at prefix_read prefix_form prefix_stands literal_at loop_at block_at const_block_at async_block_at try_block_at builtin_at brace_at group_at sign_at word_at
 star_first p Alone l = rw (no_quote 42 Alone l refl) refl
 star_first p Joint l = rw (no_quote 42 Joint l refl) refl
 
-bang_first : (p : Place) (s : Spacing) (l : List Tok) → atom expr p (punct 33 s ∷ l) ≡ (lead (unary un.Not) none <$> expr (at p lev.Prefix)) l
-unfolding atom leaf_at lead_at lead_read lead_form lead_stands literal_at loop_at block_at const_block_at async_block_at try_block_at builtin_at brace_at group_at sign_at word_at
+bang_first : (p : Place) (s : Spacing) (l : List Tok) → atom expr p (punct 33 s ∷ l) ≡ (prefixed (unary un.Not) none <$> expr (at p lev.Prefix)) l
+unfolding atom leaf_at prefix_at prefix_read prefix_form prefix_stands literal_at loop_at block_at const_block_at async_block_at try_block_at builtin_at brace_at group_at sign_at word_at
 bang_first p Alone l = rw (no_quote 33 Alone l refl) refl
 bang_first p Joint l = rw (no_quote 33 Joint l refl) refl
 
-minus_first : (p : Place) (s : Spacing) (l : List Tok) → atom expr p (punct 45 s ∷ l) ≡ (lead (unary un.Neg) none <$> expr (at p lev.Prefix)) l
-unfolding atom leaf_at lead_at lead_read lead_form lead_stands literal_at loop_at block_at const_block_at async_block_at try_block_at builtin_at brace_at group_at sign_at word_at
+minus_first : (p : Place) (s : Spacing) (l : List Tok) → atom expr p (punct 45 s ∷ l) ≡ (prefixed (unary un.Neg) none <$> expr (at p lev.Prefix)) l
+unfolding atom leaf_at prefix_at prefix_read prefix_form prefix_stands literal_at loop_at block_at const_block_at async_block_at try_block_at builtin_at brace_at group_at sign_at word_at
 minus_first p Alone l = rw (no_quote 45 Alone l refl) refl
 minus_first p Joint l = rw (no_quote 45 Joint l refl) refl
 
-punct_first : (p : Place) (c : ℕ) (s : Spacing) (l : List Tok) (k : UnKind) → operator_of (punct c s) ≡ Some k → atom expr p (punct c s ∷ l) ≡ (lead (unary k) none <$> expr (at p lev.Prefix)) l
+punct_first : (p : Place) (c : ℕ) (s : Spacing) (l : List Tok) (k : UnKind) → operator_of (punct c s) ≡ Some k → atom expr p (punct c s ∷ l) ≡ (prefixed (unary k) none <$> expr (at p lev.Prefix)) l
 unfolding operator_of
 punct_first p c s l k h = by_star (c == 42) refl h
   where
-    by_minus : (a : Bool) → (c == 45) ≡ a → cond a (Some un.Neg) None ≡ Some k → atom expr p (punct c s ∷ l) ≡ (lead (unary k) none <$> expr (at p lev.Prefix)) l
-    by_minus true e h = let f : un.Neg ≡ k = cc in subst (λ (k : UnKind). atom expr p (punct c s ∷ l) ≡ (lead (unary k) none <$> expr (at p lev.Prefix)) l) f (subst (λ (c : ℕ). atom expr p (punct c s ∷ l) ≡ (lead (unary un.Neg) none <$> expr (at p lev.Prefix)) l) (sym (eqb-true c 45 e)) (minus_first p s l))
+    by_minus : (a : Bool) → (c == 45) ≡ a → cond a (Some un.Neg) None ≡ Some k → atom expr p (punct c s ∷ l) ≡ (prefixed (unary k) none <$> expr (at p lev.Prefix)) l
+    by_minus true e h = let f : un.Neg ≡ k = cc in subst (λ (k : UnKind). atom expr p (punct c s ∷ l) ≡ (prefixed (unary k) none <$> expr (at p lev.Prefix)) l) f (subst (λ (c : ℕ). atom expr p (punct c s ∷ l) ≡ (prefixed (unary un.Neg) none <$> expr (at p lev.Prefix)) l) (sym (eqb-true c 45 e)) (minus_first p s l))
     by_minus false e h = absurd cc
 
-    by_bang : (a : Bool) → (c == 33) ≡ a → cond a (Some un.Not) (cond (c == 45) (Some un.Neg) None) ≡ Some k → atom expr p (punct c s ∷ l) ≡ (lead (unary k) none <$> expr (at p lev.Prefix)) l
-    by_bang true e h = let f : un.Not ≡ k = cc in subst (λ (k : UnKind). atom expr p (punct c s ∷ l) ≡ (lead (unary k) none <$> expr (at p lev.Prefix)) l) f (subst (λ (c : ℕ). atom expr p (punct c s ∷ l) ≡ (lead (unary un.Not) none <$> expr (at p lev.Prefix)) l) (sym (eqb-true c 33 e)) (bang_first p s l))
+    by_bang : (a : Bool) → (c == 33) ≡ a → cond a (Some un.Not) (cond (c == 45) (Some un.Neg) None) ≡ Some k → atom expr p (punct c s ∷ l) ≡ (prefixed (unary k) none <$> expr (at p lev.Prefix)) l
+    by_bang true e h = let f : un.Not ≡ k = cc in subst (λ (k : UnKind). atom expr p (punct c s ∷ l) ≡ (prefixed (unary k) none <$> expr (at p lev.Prefix)) l) f (subst (λ (c : ℕ). atom expr p (punct c s ∷ l) ≡ (prefixed (unary un.Not) none <$> expr (at p lev.Prefix)) l) (sym (eqb-true c 33 e)) (bang_first p s l))
     by_bang false e h = by_minus (c == 45) refl h
 
-    by_star : (a : Bool) → (c == 42) ≡ a → cond a (Some un.Deref) (cond (c == 33) (Some un.Not) (cond (c == 45) (Some un.Neg) None)) ≡ Some k → atom expr p (punct c s ∷ l) ≡ (lead (unary k) none <$> expr (at p lev.Prefix)) l
-    by_star true e h = let f : un.Deref ≡ k = cc in subst (λ (k : UnKind). atom expr p (punct c s ∷ l) ≡ (lead (unary k) none <$> expr (at p lev.Prefix)) l) f (subst (λ (c : ℕ). atom expr p (punct c s ∷ l) ≡ (lead (unary un.Deref) none <$> expr (at p lev.Prefix)) l) (sym (eqb-true c 42 e)) (star_first p s l))
+    by_star : (a : Bool) → (c == 42) ≡ a → cond a (Some un.Deref) (cond (c == 33) (Some un.Not) (cond (c == 45) (Some un.Neg) None)) ≡ Some k → atom expr p (punct c s ∷ l) ≡ (prefixed (unary k) none <$> expr (at p lev.Prefix)) l
+    by_star true e h = let f : un.Deref ≡ k = cc in subst (λ (k : UnKind). atom expr p (punct c s ∷ l) ≡ (prefixed (unary k) none <$> expr (at p lev.Prefix)) l) f (subst (λ (c : ℕ). atom expr p (punct c s ∷ l) ≡ (prefixed (unary un.Deref) none <$> expr (at p lev.Prefix)) l) (sym (eqb-true c 42 e)) (star_first p s l))
     by_star false e h = by_bang (c == 33) refl h
 
-first_is : (p : Place) (t : Tok) (l : List Tok) (k : UnKind) → operator_of t ≡ Some k → atom expr p (t ∷ l) ≡ (lead (unary k) none <$> expr (at p lev.Prefix)) l
+first_is : (p : Place) (t : Tok) (l : List Tok) (k : UnKind) → operator_of t ≡ Some k → atom expr p (t ∷ l) ≡ (prefixed (unary k) none <$> expr (at p lev.Prefix)) l
 unfolding operator_of
 first_is p (punct c s) l k h = punct_first p c s l k h
 first_is p (ident w) l k h = absurd cc
@@ -96,7 +96,7 @@ no_pound (literal w) l k h = absurd cc
 no_pound (group d i) l k h = absurd cc
 
 -- what is read where an operator stands first
-pub prefix_first : (p : Place) (l : List Tok) (k : UnKind) → operator_at l ≡ Some k → atom expr p l ≡ (lead (unary k) none <$> expr (at p lev.Prefix)) (drop 1 l)
+pub prefix_first : (p : Place) (l : List Tok) (k : UnKind) → operator_at l ≡ Some k → atom expr p l ≡ (prefixed (unary k) none <$> expr (at p lev.Prefix)) (drop 1 l)
 prefix_first p [] k h = absurd cc
 prefix_first p (t ∷ l) k h = first_is p t l k h
 
@@ -202,7 +202,7 @@ step p t l e h = by_operator (operator_of t) refl h
     by_end None = refl
     by_end (Some q) = none_goes p q.0 q.1 e.level
 
-    by_operand : (k : UnKind) (o : Outcome Tree) → and_then (and_then o (λ x n. Some (lead (unary k) none x, n))) (trailers p) ≡ and_then o (wrap p (Some k))
+    by_operand : (k : UnKind) (o : Outcome Tree) → and_then (and_then o (λ x n. Some (prefixed (unary k) none x, n))) (trailers p) ≡ and_then o (wrap p (Some k))
     by_operand k None = refl
     by_operand k (Some q) = refl
 
@@ -210,10 +210,10 @@ step p t l e h = by_operator (operator_of t) refl h
     by_operator None i h = absurd cc
     by_operator (Some k) i h =
         expr_is p (t ∷ l)
-        ∙ ap (λ b. and_then (cond b (and_then (outer_attributes.reads (t ∷ l)) (λ ats m. (core expr p >>= attributed p (t ∷ l) m ats) m)) (core expr p (t ∷ l))) (operations p)) (no_pound t l k i)
+        ∙ ap (λ b. and_then (cond b (and_then (outer_attributes.reads (t ∷ l)) (λ ats m. (core expr p >>= read_attributed p (t ∷ l) m ats) m)) (core expr p (t ∷ l))) (operations p)) (no_pound t l k i)
         ∙ by_end (and_then (atom expr p (t ∷ l)) (trailers p))
         ∙ ap (λ (o : Outcome Tree). and_then o (trailers p)) (first_is p t l k i)
-        ∙ ap (λ (q : Place). and_then (and_then (expr q l) (λ x n. Some (lead (unary k) none x, n))) (trailers p)) e.is
+        ∙ ap (λ (q : Place). and_then (and_then (expr q l) (λ x n. Some (prefixed (unary k) none x, n))) (trailers p)) e.is
         ∙ by_operand k (expr p l)
 
 -- as many as there are
@@ -231,14 +231,14 @@ operators_read p n l h = chain (at p lev.Prefix) n l (inner_is p) h
 
 -- an operator before them
 first_behind : (p : Place) (k : UnKind) (n : ℕ) (l : List Tok) → are_operators (take n l) ≡ true
-    → behind p (unary k) l ≡ and_then (and_then (expr (at p lev.Prefix) (drop n l)) (wrapped (at p lev.Prefix) (take n l))) (λ x m. Some (lead (unary k) none x, m))
-first_behind p k n l h = ap (λ (o : Outcome Tree). and_then o (λ x m. Some (lead (unary k) none x, m))) (operators_read p n l h)
+    → behind p (unary k) l ≡ and_then (and_then (expr (at p lev.Prefix) (drop n l)) (wrapped (at p lev.Prefix) (take n l))) (λ x m. Some (prefixed (unary k) none x, m))
+first_behind p k n l h = ap (λ (o : Outcome Tree). and_then o (λ x m. Some (prefixed (unary k) none x, m))) (operators_read p n l h)
 
 pub operand_refused : (p : Place) (k : UnKind) (n : ℕ) (l : List Tok) → are_operators (take n l) ≡ true → expr (at p lev.Prefix) (drop n l) ≡ None → behind p (unary k) l ≡ None
 operand_refused p k n l h i = first_behind p k n l h ∙ rw i refl
 
 pub operand_wrapped : (p : Place) (k : UnKind) (n : ℕ) (l m o : List Tok) (xs : List TokenTree) (x y : Tree) → are_operators (take n l) ≡ true → toks_of xs ≡ l
-    → expr (at p lev.Prefix) (drop n l) ≡ Some (x, m) → wrapped (at p lev.Prefix) (toks_of (take n xs)) x m ≡ Some (y, o) → behind p (unary k) l ≡ Some (lead (unary k) none y, o)
+    → expr (at p lev.Prefix) (drop n l) ≡ Some (x, m) → wrapped (at p lev.Prefix) (toks_of (take n xs)) x m ≡ Some (y, o) → behind p (unary k) l ≡ Some (prefixed (unary k) none y, o)
 operand_wrapped p k n l m o xs x y h e i j =
     let f : wrapped (at p lev.Prefix) (take n l) x m ≡ Some (y, o) = subst (λ ts. wrapped (at p lev.Prefix) ts x m ≡ Some (y, o)) (toks_of-take n xs ∙ ap (take n) e) j in
     first_behind p k n l h ∙ rw (i, f) refl
@@ -279,11 +279,11 @@ pub wraps_none : (p : Place) (xs : List TokenTree) (d : TokenTree) (x : Tree) (l
 wraps_none p xs d x l h e n = wraps_end p xs d x l h e ∙ rw n refl
 
 pub wraps_read : (p : Place) (xs : List TokenTree) (d : TokenTree) (x y : Tree) (l m : List Tok) (k : UnKind) → 1 ≤ length xs → d ≡ get_or xs (length xs - 1) d → operator_of (tok_of d) ≡ Some k
-    → trailers p (lead (unary k) none x) l ≡ Some (y, m) → wrapped p (toks_of xs) x l ≡ wrapped p (toks_of (take (length xs - 1) xs)) y m
+    → trailers p (prefixed (unary k) none x) l ≡ Some (y, m) → wrapped p (toks_of xs) x l ≡ wrapped p (toks_of (take (length xs - 1) xs)) y m
 wraps_read p xs d x y l m k h e n i = wraps_end p xs d x l h e ∙ rw (n, i) refl
 
 pub wraps_refused : (p : Place) (xs : List TokenTree) (d : TokenTree) (x : Tree) (l : List Tok) (k : UnKind) → 1 ≤ length xs → d ≡ get_or xs (length xs - 1) d → operator_of (tok_of d) ≡ Some k
-    → trailers p (lead (unary k) none x) l ≡ None → wrapped p (toks_of xs) x l ≡ None
+    → trailers p (prefixed (unary k) none x) l ≡ None → wrapped p (toks_of xs) x l ≡ None
 wraps_refused p xs d x l k h e n i = wraps_end p xs d x l h e ∙ rw (n, i) refl
 
 pub ruleset wraps = (wraps_none, wraps_read, wraps_refused)

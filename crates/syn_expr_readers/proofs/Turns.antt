@@ -18,10 +18,10 @@ use Rattle.syn_grammar.specs.Op.{infix_at, level}
 use Rattle.syn_grammar.specs.Front.{ends_open_range, dot_at, question_at, bracket_at}
 use Rattle.syn_grammar.specs.Head.{dotted}
 use Rattle.syn_grammar.specs.Tree as tr
-use Rattle.syn_grammar.specs.Tree.{Tree, Kids, Post, Trailer, mid, post, tail, post_op}
+use Rattle.syn_grammar.specs.Tree.{Tree, Children, Postfix, Trailer, infixed, postfixed, tail, postfix_op}
 use Rattle.syn_grammar.specs.Slot.{trailer_holder}
-use Rattle.syn_grammar.specs.Stands.{Content, closes, ends_operation, fits_left, fits_base, mid_stands, post_stands, rests, is_range, fields_of, name_at, indices_at, fields_head, trailer_head}
-use Rattle.syn_grammar.specs.Read.{Reading, content, trailed, trailed_by, indexed_by, dotted_by, trail, operation, post_made, mid_read, longer, closing, turn, climb, taken_by, taken_at, next_operator, expr}
+use Rattle.syn_grammar.specs.Stands.{Content, closes, ends_operation, fits_left, fits_base, infix_stands, postfix_stands, rests, is_range, fields_of, name_at, indices_at, fields_head, trailer_head}
+use Rattle.syn_grammar.specs.Read.{Reading, content, trailed, trailed_by, indexed_by, dotted_by, trail, operation, postfix_made, infix_read, longer, closing, turn, climb, taken_by, taken_at, next_operator, expr}
 use Rattle.syn_grammar.proofs.Chains.{some_is, then_some, only_some, chosen}
 use Rattle.syn_grammar.proofs.Needs.{heads}
 use Rattle.syn_grammar.proofs.HeadMoves.{IsLess, less_then, then_less, dropped, left, left_less, fields_less, trailer_less, name_left}
@@ -42,32 +42,32 @@ tail_is {l} h a = subst (λ (z : Tree × List Tok). IsTail z.1 l) h a
 
 -- ---- operations
 
-post_tail : (p : Place) (x : Tree) (k : Post) (n : List Tok) (q : Tree × List Tok) → post_made expr p x k n ≡ Some q → IsTail q.1 n
-post_tail p x k n q h =
-    let (f, g) = only_some (post_stands p k n) (operation (post_op k) (post x k) n) q h in
-    let (i, j) = only_some (ends_operation (post_op k) n) (Some (post x k, n)) q g in
+postfix_tail : (p : Place) (x : Tree) (k : Postfix) (n : List Tok) (q : Tree × List Tok) → postfix_made expr p x k n ≡ Some q → IsTail q.1 n
+postfix_tail p x k n q h =
+    let (f, g) = only_some (postfix_stands p k n) (operation (postfix_op k) (postfixed x k) n) q h in
+    let (i, j) = only_some (ends_operation (postfix_op k) n) (Some (postfixed x k, n)) q g in
     tail_is (some_is j) (nothing_taken n)
 
-mid_tail : (p : Place) (x : Tree) (op : Infix) (m : List Tok) (q : Tree × List Tok) → mid_read expr p x op m ≡ Some q → IsTail q.1 m
-mid_tail p x op m q h =
-    let (f, g) = only_some (mid_stands p op m) (and_then (expr (at p (level op)) m) (λ y. operation op (mid x op y))) q h in
-    let (z, i, j) = then_some (expr (at p (level op)) m) (λ y. operation op (mid x op y)) q g in
-    let (a, b) = only_some (ends_operation op z.1) (Some (mid x op z.0, z.1)) q j in
+infix_tail : (p : Place) (x : Tree) (op : Infix) (m : List Tok) (q : Tree × List Tok) → infix_read expr p x op m ≡ Some q → IsTail q.1 m
+infix_tail p x op m q h =
+    let (f, g) = only_some (infix_stands p op m) (and_then (expr (at p (level op)) m) (λ y. operation op (infixed x op y))) q h in
+    let (z, i, j) = then_some (expr (at p (level op)) m) (λ y. operation op (infixed x op y)) q g in
+    let (a, b) = only_some (ends_operation op z.1) (Some (infixed x op z.0, z.1)) q j in
     let s = expr_sound (at p (level op)) m z.0 z.1 i in
     let t = node_less s.node in
     tail_is (some_is b) t.tail
 
 pub longer_tail : (p : Place) (x : Tree) (op : Infix) (m : List Tok) (q : Tree × List Tok) → longer expr p x op m ≡ Some q → IsTail q.1 m
 unfolding longer
-longer_tail p x (inf.Binary op) m q h = mid_tail p x (inf.Binary op) m q h
-longer_tail p x inf.Assign m q h = mid_tail p x inf.Assign m q h
-longer_tail p x (inf.Range limits.Closed) m q h = mid_tail p x (inf.Range limits.Closed) m q h
+longer_tail p x (inf.Binary op) m q h = infix_tail p x (inf.Binary op) m q h
+longer_tail p x inf.Assign m q h = infix_tail p x inf.Assign m q h
+longer_tail p x (inf.Range limits.Closed) m q h = infix_tail p x (inf.Range limits.Closed) m q h
 longer_tail p x (inf.Range limits.HalfOpen) m q h =
-    ⊎_elim (λ j. post_tail p x (tr.range_from limits.HalfOpen) m q j.1) (λ j. mid_tail p x (inf.Range limits.HalfOpen) m q j.1)
+    ⊎_elim (λ j. postfix_tail p x (tr.range_from limits.HalfOpen) m q j.1) (λ j. infix_tail p x (inf.Range limits.HalfOpen) m q j.1)
     (chosen (ends_open_range p.condition m) _ _ (Some q) h)
 longer_tail p x inf.Cast m q h =
-    let (ty, i, f) = then_some ((type false).reads m) (λ ty. post_made expr p x (tr.cast ty)) q h in
-    tail_then (left (here.types false) ty.0 m ty.1 (heads.types.sound m ty.0 ty.1 i)) (post_tail p x (tr.cast ty.0) ty.1 q f)
+    let (ty, i, f) = then_some ((type false).reads m) (λ ty. postfix_made expr p x (tr.cast ty)) q h in
+    tail_then (left (here.types false) ty.0 m ty.1 (heads.types.sound m ty.0 ty.1 i)) (postfix_tail p x (tr.cast ty.0) ty.1 q f)
 
 taken_some : (v : Level) (o : Option (Infix × ℕ)) (k : Infix × ℕ) → taken_by v o ≡ Some k → o ≡ Some k
 taken_some v None k h = absurd cc
@@ -128,7 +128,7 @@ climb_turn p x l = by_next (next_operator p x l) refl
 -- ---- trailers
 
 trailer_holds : (p : Place) (b : Tree) (is : List ℕ) (k : Trailer) (l : List Tok) (q : Tree × List Tok) → trailed_by expr p b is k l ≡ Some q
-    → (ks : Kids × List Tok) × Content (trailer_holder k) l ks.0 ks.1 × ((tail (fields_of b is) k ks.0, ks.1) ≡ q)
+    → (ks : Children × List Tok) × Content (trailer_holder k) l ks.0 ks.1 × ((tail (fields_of b is) k ks.0, ks.1) ≡ q)
 trailer_holds p b is k l q h =
     let (f, g) = only_some (fits_base p k b) (and_then (content expr (trailer_holder k) l) (λ ks n. Some (tail (fields_of b is) k ks, n))) q h in
     let (z, j, c) = then_some (content expr (trailer_holder k) l) (λ ks n. Some (tail (fields_of b is) k ks, n)) q g in
@@ -164,7 +164,7 @@ unfolding trailed trailer_head
 trailed_less p b l q h =
     ⊎_elim (λ j. call_less p b l q j.1) (λ f.
     ⊎_elim (λ j. index_less p b l q j.1) (λ g.
-    ⊎_elim (λ j. less_then (trailer_less tr.question l [] (drop 1 l) refl (rw j.0 refl)) (trailer_tail p b [] tr.question (drop 1 l) q j.1))
+    ⊎_elim (λ j. less_then (trailer_less tr.try_expr l [] (drop 1 l) refl (rw j.0 refl)) (trailer_tail p b [] tr.try_expr (drop 1 l) q j.1))
     (λ i. let (a, c) = only_some (dot_at l) (dotted_by expr p b (indices_at (drop 1 l)) (drop 1 l)) q i.1 in dotted_less p b l (indices_at (drop 1 l)) q a refl c)
     (chosen (question_at l) _ _ (Some q) g.1)) (chosen (bracket_at l) _ _ (Some q) f.1)) (chosen (round_at l) _ _ (Some q) h)
 

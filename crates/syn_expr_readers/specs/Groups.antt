@@ -10,7 +10,7 @@ use Rattle.syn_grammar.specs.declared.kinds.Place.{Place}
 use Rattle.syn_grammar.specs.Place.{plain}
 use Rattle.syn_grammar.specs.Path.{goes_on_path, to_path}
 use Rattle.syn_grammar.specs.Tree as e
-use Rattle.syn_grammar.specs.Tree.{Tree, leaf, frame, none, kid}
+use Rattle.syn_grammar.specs.Tree.{Tree, leaf, frame, none, child}
 use Rattle.syn_grammar.specs.Read.{Reading, ◌>>=◌, named_by, expr}
 
 -- what stands behind a path: the end of a macro, the braces of a struct expression, or nothing
@@ -27,7 +27,7 @@ extended p q = (more colon2 (segment type style.Expr)).reads >>= (λ ss. behind_
 
 -- an operand in a group
 abbrev pub in_group : Tree → Tree
-in_group x = frame e.invisible (kid e.grouped e.no_ending x none)
+in_group x = frame e.group_expr (child e.grouped e.no_ending x none)
 
 -- Behind a group: what goes on the path that it holds, or nothing.
 abbrev pub behind_group : Place → Tree → Reading Tree

@@ -3,48 +3,48 @@ use Rattle.std.specs.Prelude.{Bool, true, false, not, ◌||◌, ◌&&◌, if◌t
 use Rattle.syn_grammar.specs.Op.{is_comparison, is_range_op}
 use Rattle.syn_grammar.specs.Tree.{Tree}
 use Rattle.syn_grammar.specs.Stands as stands
-use Rattle.syn_expr_notes.specs.Kind.{kind_at}
-use Rattle.syn_expr_notes.specs.Label.{is_range_leaf, is_pounded_leaf, is_prefix, is_range_lead, post_op, is_cast_post, is_named_trailer}
-use Rattle.syn_expr_notes.specs.declared.kind.NodeKind.{NodeKind}
-use Rattle.syn_expr_notes.specs.declared.kind.NodeKind.TheVariants as node
-use Rattle.syn_expr_notes.specs.declared.label.LeafKind.TheVariants as leafs
-use Rattle.syn_expr_notes.specs.declared.label.TrailerKind.{TrailerKind}
-use Rattle.syn_expr_notes.specs.declared.label.TrailerKind.TheVariants as trailers
+use Rattle.syn_expr_summaries.specs.Kind.{kind_at}
+use Rattle.syn_expr_summaries.specs.Label.{is_range_leaf, is_pounded_leaf, is_prefix, is_range_prefix, postfix_op, is_cast_postfix, is_named_trailer}
+use Rattle.syn_expr_summaries.specs.declared.kind.NodeKind.{NodeKind}
+use Rattle.syn_expr_summaries.specs.declared.kind.NodeKind.TheVariants as node
+use Rattle.syn_expr_summaries.specs.declared.label.LeafKind.TheVariants as leafs
+use Rattle.syn_expr_summaries.specs.declared.label.TrailerKind.{TrailerKind}
+use Rattle.syn_expr_summaries.specs.declared.label.TrailerKind.TheVariants as trailers
 use Rattle.syn_grammar.specs.declared.kinds.Place.{Place}
 
 -- ---- of a node behind attributes too
 
 abbrev pub carries : NodeKind → Bool
 carries (node.Leaf k) = not (is_range_leaf k)
-carries (node.Lead k) = not (is_prefix k || is_range_lead k)
-carries (node.Mid op) = false
-carries (node.Post k) = false
+carries (node.Prefix k) = not (is_prefix k || is_range_prefix k)
+carries (node.Infix op) = false
+carries (node.Postfix k) = false
 carries _ = true
 
 abbrev pub is_range : NodeKind → Bool
 is_range (node.Leaf k) = is_range_leaf k
-is_range (node.Lead k) = is_range_lead k
-is_range (node.Mid op) = is_range_op op
-is_range (node.Post k) = is_range_op (post_op k)
+is_range (node.Prefix k) = is_range_prefix k
+is_range (node.Infix op) = is_range_op op
+is_range (node.Postfix k) = is_range_op (postfix_op k)
 is_range _ = false
 
 -- ---- of a node without attributes
 
 -- the kind of a node before which none stand
 unfoldable pub bare_kind : Tree → Option NodeKind
-bare_kind t = if stands.is_adorned t then None else Some (kind_at t)
+bare_kind t = if stands.is_attributed t then None else Some (kind_at t)
 
 abbrev pub compares : Option NodeKind → Bool
-compares (Some (node.Mid op)) = is_comparison op
+compares (Some (node.Infix op)) = is_comparison op
 compares _ = false
 
 abbrev pub is_infix : Option NodeKind → Bool
-is_infix (Some (node.Mid op)) = true
-is_infix (Some (node.Post k)) = true
+is_infix (Some (node.Infix op)) = true
+is_infix (Some (node.Postfix k)) = true
 is_infix _ = false
 
 abbrev pub is_cast : Option NodeKind → Bool
-is_cast (Some (node.Post k)) = is_cast_post k
+is_cast (Some (node.Postfix k)) = is_cast_postfix k
 is_cast _ = false
 
 abbrev pub is_verbatim : Option NodeKind → Bool
@@ -61,7 +61,7 @@ is_named_field _ = false
 
 -- `?` and a trailer behind a dot may stand behind it
 abbrev pub is_base : Tree → Bool
-is_base t = stands.carries t && not (stands.is_adorned t || stands.is_pounded t)
+is_base t = stands.carries t && not (stands.is_attributed t || stands.is_pounded t)
 
 abbrev pub takes_kind : Place → TrailerKind → Tree → Bool
 takes_kind p trailers.Call t = not (stands.is_named_field t) && not (stands.rests p t)

@@ -6,8 +6,8 @@ use Rattle.syn_grammar.specs.declared.kinds.Infix.{Infix}
 use Rattle.syn_grammar.specs.declared.kinds.Place.{Place}
 use Rattle.syn_grammar.specs.Place.{at}
 use Rattle.syn_grammar.specs.Op.{level}
-use Rattle.syn_grammar.specs.Tree.{Tree, leaf, verbatim, adorn}
-use Rattle.syn_grammar.specs.Stands.{may_adorn}
+use Rattle.syn_grammar.specs.Tree.{Tree, leaf, verbatim, attributed_with}
+use Rattle.syn_grammar.specs.Stands.{takes_attributes}
 use Rattle.syn_grammar.specs.Read.{Reading, ◌>>=◌, operation, only_if, before, verbatim_of, climb, trail, expr}
 
 -- the right operand of an operator
@@ -24,7 +24,7 @@ trailers p b l = trail expr p (suc (weight l)) b l
 
 -- an operand with the attributes before it, of which these are the tokens
 abbrev pub with_outer : Place → List Tok → List AttributeTree → Tree → Option (List Tok) → Option Tree
-with_outer p fs ats x None = only_if (may_adorn p x) (Some (adorn ats x))
+with_outer p fs ats x None = only_if (takes_attributes p x) (Some (attributed_with ats x))
 with_outer p fs ats x (Some ts) = Some (leaf (verbatim (fs ++ ts)))
 
 -- it, as it is read before a list

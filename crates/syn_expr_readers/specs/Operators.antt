@@ -5,7 +5,7 @@ use Rattle.syn_parts.specs.Form.{and_then}
 use Rattle.syn_grammar.specs.declared.kinds.Place.{Place}
 use Rattle.syn_grammar.specs.declared.kinds.UnKind.{UnKind}
 use Rattle.syn_grammar.specs.declared.kinds.UnKind.TheVariants as un
-use Rattle.syn_grammar.specs.Tree.{Tree, lead, unary, none}
+use Rattle.syn_grammar.specs.Tree.{Tree, prefixed, unary, none}
 use Rattle.syn_grammar.specs.Read.{Reading}
 use Rattle.syn_expr_readers.specs.Loops.{trailers}
 
@@ -27,7 +27,7 @@ are_operators (t ∷ l) = is_some (operator_of t) && are_operators l
 -- an operand behind an operator, with the trailers behind it
 abbrev pub wrap : Place → Option UnKind → Tree → Reading Tree
 wrap p None x l = Some (x, l)
-wrap p (Some k) x l = trailers p (lead (unary k) none x) l
+wrap p (Some k) x l = trailers p (prefixed (unary k) none x) l
 
 -- an operand behind these operators, each with the trailers behind it, the last one first
 abbrev pub wrapped : Place → List Tok → Tree → Reading Tree

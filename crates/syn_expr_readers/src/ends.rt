@@ -4,7 +4,7 @@ ghost use Rattle.std.specs.Prelude.{◌≡◌, None};
 ghost use Rattle.syn_grammar.specs.Read as read;
 ghost use Rattle.syn_grammar.specs.Stands as stands;
 
-use crate::told::{carries, is_cast, is_range, rests};
+use crate::known::{carries, is_cast, is_range, rests};
 use syn_expr_ends::kinds::ReadExprs;
 use syn_expr_front::operator::{refuses_arrow, refuses_dots};
 use syn_expr_front::sign::{dot_at, question_at, trailer_at};

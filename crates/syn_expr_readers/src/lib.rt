@@ -6,6 +6,7 @@
 pub mod ends;
 pub mod fields;
 pub mod grammar;
+pub mod known;
 pub mod leftover;
 pub mod make;
 mod name;
@@ -13,5 +14,4 @@ pub mod operands;
 pub mod operations;
 mod prefix;
 mod refusal;
-pub mod told;
 pub mod trailers;

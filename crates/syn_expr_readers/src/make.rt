@@ -119,7 +119,7 @@ pub(crate) fn unary<E: IsExpr + Drop>(
     op: UnOp,
     expr: Box<E>,
 ) -> std::result::Result<Box<E>, AllocError>
-    ensures { IfOk result (λ b. E.tree b.value ≡ e.lead (e.unary (un_kind op)) e.none (E.tree expr.value)) }
+    ensures { IfOk result (λ b. E.tree b.value ≡ e.prefixed (e.unary (un_kind op)) e.none (E.tree expr.value)) }
 {
     let attrs = Vec::new(alloc);
     boxed(alloc, E::unary(ExprUnaryOf { attrs, op, expr }))
@@ -134,7 +134,7 @@ pub(crate) fn binary<E: IsExpr + Drop>(
     spans: [Span; 3],
     right: Box<E>,
 ) -> std::result::Result<Box<E>, AllocError>
-    ensures { IfOk result (λ b. E.tree b.value ≡ e.mid (E.tree left.value) (inf.Binary kind) (E.tree right.value)) }
+    ensures { IfOk result (λ b. E.tree b.value ≡ e.infixed (E.tree left.value) (inf.Binary kind) (E.tree right.value)) }
 {
     let attrs = Vec::new(alloc);
     let op = BinOp::of_kind(kind, spans);
@@ -155,7 +155,7 @@ pub(crate) fn assign<E: IsExpr + Drop>(
     eq_token: Eq,
     right: Box<E>,
 ) -> std::result::Result<Box<E>, AllocError>
-    ensures { IfOk result (λ b. E.tree b.value ≡ e.mid (E.tree left.value) inf.Assign (E.tree right.value)) }
+    ensures { IfOk result (λ b. E.tree b.value ≡ e.infixed (E.tree left.value) inf.Assign (E.tree right.value)) }
 {
     let attrs = Vec::new(alloc);
     let assign = ExprAssignOf {
@@ -175,7 +175,7 @@ pub(crate) fn cast<E: IsExpr + Drop>(
     as_token: As,
     ty: Box<Type>,
 ) -> std::result::Result<Box<E>, AllocError>
-    ensures { IfOk result (λ b. E.tree b.value ≡ e.post (E.tree expr.value) (e.cast (type_of ty.value))) }
+    ensures { IfOk result (λ b. E.tree b.value ≡ e.postfixed (E.tree expr.value) (e.cast (type_of ty.value))) }
 {
     let attrs = Vec::new(alloc);
     let cast = ExprCastOf {
@@ -194,7 +194,7 @@ pub(crate) fn range_from<E: IsExpr + Drop>(
     start: Box<E>,
     limits: RangeLimits,
 ) -> std::result::Result<Box<E>, AllocError>
-    ensures { IfOk result (λ b. E.tree b.value ≡ e.post (E.tree start.value) (e.range_from (limits_kind limits))) }
+    ensures { IfOk result (λ b. E.tree b.value ≡ e.postfixed (E.tree start.value) (e.range_from (limits_kind limits))) }
 {
     let attrs = Vec::new(alloc);
     let range = ExprRangeOf {
@@ -214,7 +214,7 @@ pub(crate) fn range_between<E: IsExpr + Drop>(
     limits: RangeLimits,
     end: Box<E>,
 ) -> std::result::Result<Box<E>, AllocError>
-    ensures { IfOk result (λ b. E.tree b.value ≡ e.mid (E.tree start.value) (inf.Range (limits_kind limits)) (E.tree end.value)) }
+    ensures { IfOk result (λ b. E.tree b.value ≡ e.infixed (E.tree start.value) (inf.Range (limits_kind limits)) (E.tree end.value)) }
 {
     let attrs = Vec::new(alloc);
     let range = ExprRangeOf {
@@ -254,7 +254,7 @@ pub(crate) fn index<E: IsExpr + Drop>(
     bracket_token: Bracket,
     index: Box<E>,
 ) -> std::result::Result<Box<E>, AllocError>
-    ensures { IfOk result (λ b. E.tree b.value ≡ e.tail (E.tree expr.value) e.index (e.kid e.value e.no_ending (E.tree index.value) e.none)) }
+    ensures { IfOk result (λ b. E.tree b.value ≡ e.tail (E.tree expr.value) e.index (e.child e.value e.no_ending (E.tree index.value) e.none)) }
 {
     let attrs = Vec::new(alloc);
     let index = ExprIndexOf {
@@ -268,12 +268,12 @@ pub(crate) fn index<E: IsExpr + Drop>(
 
 /// `?` behind what is tried.
 #[tactic(auto, unfolding(syn_expr_kinds::specs::Attrs::attrs_of))]
-pub(crate) fn question<E: IsExpr + Drop>(
+pub(crate) fn try_expr<E: IsExpr + Drop>(
     alloc: Global,
     expr: Box<E>,
     question_token: Question,
 ) -> std::result::Result<Box<E>, AllocError>
-    ensures { IfOk result (λ b. E.tree b.value ≡ e.tail (E.tree expr.value) e.question e.none) }
+    ensures { IfOk result (λ b. E.tree b.value ≡ e.tail (E.tree expr.value) e.try_expr e.none) }
 {
     let attrs = Vec::new(alloc);
     let question = ExprTryOf {

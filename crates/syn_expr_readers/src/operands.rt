@@ -20,9 +20,9 @@ ghost use Rattle.syn_tokens.specs.Tok.{ident, weight};
 ghost use Rattle.syn_tokens.specs.View.{toks_of};
 
 use crate::grammar::Grammar;
+use crate::known::takes_attributes;
 use crate::name::name_alone;
 use crate::prefix::first_operator;
-use crate::told::may_adorn;
 use crate::{make, refusal};
 use syn_expr_atoms::atoms::Atoms;
 use syn_expr_atoms::leaf::{leaf, standing};
@@ -33,7 +33,7 @@ use syn_expr_front::sign::brace_at;
 use syn_expr_front::start::{Atom, atom_at};
 use syn_expr_heads::leaf::path_or_macro;
 use syn_expr_heads::word::{if_word, match_word};
-use syn_expr_kinds::begins::told;
+use syn_expr_kinds::begins::named_refusal;
 use syn_expr_kinds::kinds::IsExpr;
 use syn_expr_kinds::path::is_word_alone;
 use syn_expr_lists::lists::Lists;
@@ -41,8 +41,8 @@ use syn_grammar::kinds::Place;
 use syn_lower::path::{Path, QSelf};
 use syn_lower::readers::ty;
 use syn_lower_leaves::attr::Attribute;
-use syn_lower_leaves::kept::outer_attributes;
 use syn_lower_leaves::leaf::lifetime_at;
+use syn_lower_leaves::verbatim::outer_attributes;
 use syn_lower_readers::grammar::Grammar as TypeGrammar;
 use syn_lower_readers::qualified::{is_bare, macro_end};
 use syn_parts::label::PathStyle;
@@ -76,7 +76,7 @@ fn with_outer<E: ReadExprs + Drop>(
             Ok(make::boxed(input.alloc(), E::verbatim(kept))?)
         }
         Err(x) => {
-            if !may_adorn(place, &x) {
+            if !takes_attributes(place, &x) {
                 return Err(Error::new(span, ErrorKind::RangeAttributes));
             }
             Ok(make::boxed(input.alloc(), x.with_attrs(attrs)?)?)
@@ -141,7 +141,7 @@ where
     }
 
     /// Reads a path, the call of a macro, or a struct expression.
-    // As `group`, `branch` and `choice`, it has a frame of its own: that of `core` is on the stack once for each level of a
+    // As `group`, `if_expr` and `match_expr`, it has a frame of its own: that of `core` is on the stack once for each level of a
     // tree.
     #[inline(never)]
     #[tactic(auto, unfolding(crate::specs::Groups::named))]
@@ -233,7 +233,7 @@ where
         };
         let x = match (self.expr)(&mut content, PLAIN) {
             Ok(x) => x,
-            Err(e) => return Err(told(e, begins)),
+            Err(e) => return Err(named_refusal(e, begins)),
         };
         if !content.is_empty() {
             return Err(content.error(ErrorKind::UnexpectedToken));
@@ -243,11 +243,11 @@ where
 
     /// Reads an `if`.
     #[inline(never)]
-    fn branch(&self, input: &mut ParseBuffer<'_>, place: Place) -> Result<Box<E>>
+    fn if_expr(&self, input: &mut ParseBuffer<'_>, place: Place) -> Result<Box<E>>
         requires callable { Callable (weight input.old.rest) (F.pre self.now.expr) }
         requires reads { ReadsExpr E.tree (F.post self.now.expr) }
         requires first { slot.if_word.at input.old.rest ≡ true }
-        ensures value { Reads (λ b. E.tree b.value) (read.framed_by read.expr place e.branch (drop 1 input.old.rest)) result input.new.rest }
+        ensures value { Reads (λ b. E.tree b.value) (read.framed_by read.expr place e.if_expr (drop 1 input.old.rest)) result input.new.rest }
         ensures noted { input.new.noted ≡ input.old.noted }
         ensures shrinks { weight input.new.rest ≤ weight input.old.rest }
     {
@@ -255,16 +255,16 @@ where
             return Err(input.error(ErrorKind::ExpectedToken(Expected::One(If::wanted()))));
         };
         let blocks = Blocks { expr: self.expr };
-        blocks.branch(input, place, if_token)
+        blocks.if_expr(input, place, if_token)
     }
 
     /// Reads a `match`.
     #[inline(never)]
-    fn choice(&self, input: &mut ParseBuffer<'_>, place: Place) -> Result<Box<E>>
+    fn match_expr(&self, input: &mut ParseBuffer<'_>, place: Place) -> Result<Box<E>>
         requires callable { Callable (weight input.old.rest) (F.pre self.now.expr) }
         requires reads { ReadsExpr E.tree (F.post self.now.expr) }
         requires first { slot.match_word.at input.old.rest ≡ true }
-        ensures value { Reads (λ b. E.tree b.value) (read.framed_by read.expr place e.choice (drop 1 input.old.rest)) result input.new.rest }
+        ensures value { Reads (λ b. E.tree b.value) (read.framed_by read.expr place e.match_expr (drop 1 input.old.rest)) result input.new.rest }
         ensures noted { input.new.noted ≡ input.old.noted }
         ensures shrinks { weight input.new.rest ≤ weight input.old.rest }
     {
@@ -272,7 +272,7 @@ where
             return Err(input.error(ErrorKind::ExpectedToken(Expected::One(Match::wanted()))));
         };
         let blocks = Blocks { expr: self.expr };
-        blocks.choice(input, place, match_token)
+        blocks.match_expr(input, place, match_token)
     }
 
     /// Reads an operand without trailers, by what stands first. It is refused as its parts are, as `ExpectedExpression` where none
@@ -298,13 +298,13 @@ where
         let atoms = Atoms { expr: self.expr };
         match atom_at(input) {
             Atom::Leaf => leaf(input, place),
-            Atom::Lead => atoms.lead(input, place),
+            Atom::Prefix => atoms.prefix(input, place),
             Atom::Parenthesis => lists.round(input),
             Atom::Bracket => lists.bracket(input),
             Atom::Become => atoms.tail_call(input),
-            Atom::If => self.branch(input, place),
+            Atom::If => self.if_expr(input, place),
             Atom::Loop => blocks.loop_head(input, place),
-            Atom::Match => self.choice(input, place),
+            Atom::Match => self.match_expr(input, place),
             Atom::Group => self.group(input, place),
             Atom::Named => self.named(input, place),
         }
@@ -336,14 +336,14 @@ where
         if !input.peek::<Pound>() {
             return self.core(input, place);
         }
-        self.attributed(input, place)
+        self.read_attributed(input, place)
     }
 
     /// Reads attributes, and the operand behind them.
     // Not in the frame of its caller, which is on the stack once for each level of a tree.
     #[inline(never)]
     #[tactic(auto, using(crate::proofs::Attributes::attributes), unfolding(syn_grammar::specs::Read::operand, syn_expr_kinds::specs::Attrs::attrs_of))]
-    fn attributed(&self, input: &mut ParseBuffer<'_>, place: Place) -> Result<Box<E>>
+    fn read_attributed(&self, input: &mut ParseBuffer<'_>, place: Place) -> Result<Box<E>>
         requires callable { Callable (weight input.old.rest) (F.pre self.now.expr) }
         requires reads { ReadsExpr E.tree (F.post self.now.expr) }
         requires first { mark.pound.at input.old.rest ≡ true }

@@ -12,8 +12,8 @@ ghost use Rattle.syn_tokens.specs.Tok.{weight};
 
 use crate::ends::{closes, next_operator, stops};
 use crate::grammar::Grammar;
+use crate::known::chains;
 use crate::make;
-use crate::told::chains;
 use syn_expr_ends::kinds::ReadExprs;
 use syn_expr_ends::place::at;
 use syn_expr_front::sign::{ends_open_range, left_arrow_at};
@@ -77,7 +77,7 @@ impl<E: ReadExprs + Drop, F: Fn(&mut ParseBuffer<'_>, Place) -> Result<Box<E>>> 
     /// Reads what stands behind the operator of a range: its end, or nothing.
     // Not in the frame of its caller, which is on the stack once for each level of a tree.
     #[inline(never)]
-    #[tactic(auto, unfolding(syn_grammar::specs::Read::longer, syn_grammar::specs::Stands::ends_operation, syn_grammar::specs::Stands::mid_stands, syn_grammar::specs::Stands::post_stands))]
+    #[tactic(auto, unfolding(syn_grammar::specs::Read::longer, syn_grammar::specs::Stands::ends_operation, syn_grammar::specs::Stands::infix_stands, syn_grammar::specs::Stands::postfix_stands))]
     fn range(
         &self,
         input: &mut ParseBuffer<'_>,
@@ -103,7 +103,7 @@ impl<E: ReadExprs + Drop, F: Fn(&mut ParseBuffer<'_>, Place) -> Result<Box<E>>> 
     /// Reads what stands behind an operator, which was taken, and its left operand: the operation that they are.
     // Not in the frame of its caller, which is on the stack once for each level of a tree.
     #[inline(never)]
-    #[tactic(auto, unfolding(syn_grammar::specs::Read::longer, syn_grammar::specs::Stands::ends_operation, syn_grammar::specs::Stands::mid_stands, syn_grammar::specs::Stands::post_stands))]
+    #[tactic(auto, unfolding(syn_grammar::specs::Read::longer, syn_grammar::specs::Stands::ends_operation, syn_grammar::specs::Stands::infix_stands, syn_grammar::specs::Stands::postfix_stands))]
     fn longer(
         &self,
         input: &mut ParseBuffer<'_>,

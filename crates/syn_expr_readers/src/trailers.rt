@@ -5,9 +5,9 @@ ghost use Rattle.std.specs.Prelude.{◌≡◌, ◌≤◌, ◌+◌, [], if◌then
 ghost use Rattle.syn_expr_ends.specs.Reads.{Callable, ReadsExpr};
 ghost use Rattle.syn_expr_heads.specs.View.{trailer_of};
 ghost use Rattle.syn_expr_kinds.specs.View.{elements};
-ghost use Rattle.syn_expr_notes.specs.Label.{trailer_kind};
-ghost use Rattle.syn_expr_notes.specs.declared.label.TrailerKind.TheVariants as kinds;
-ghost use Rattle.syn_expr_readers.specs.Kind as told;
+ghost use Rattle.syn_expr_summaries.specs.Label.{trailer_kind};
+ghost use Rattle.syn_expr_summaries.specs.declared.label.TrailerKind.TheVariants as kinds;
+ghost use Rattle.syn_expr_readers.specs.Kind as known;
 ghost use Rattle.syn_expr_readers.specs.Loops.{trailers};
 ghost use Rattle.syn_grammar.specs.Head as head;
 ghost use Rattle.syn_grammar.specs.Read as read;
@@ -22,8 +22,8 @@ ghost use Rattle.syn_tokens.specs.Tok.{weight};
 use crate::ends::closes;
 use crate::fields::fields;
 use crate::grammar::Grammar;
+use crate::known::fits_base;
 use crate::make;
-use crate::told::fits_base;
 use syn_expr_ends::kinds::ReadExprs;
 use syn_expr_front::float::{FloatIndices, indices, indices_before_name, refusal};
 use syn_expr_front::sign::bracket_at;
@@ -31,7 +31,7 @@ use syn_expr_heads::trailer::dotted;
 use syn_expr_heads::types::TrailerHead;
 use syn_expr_heads::word::dot;
 use syn_expr_lists::lists::Lists;
-use syn_expr_notes::label::TrailerKind;
+use syn_expr_summaries::label::TrailerKind;
 use syn_grammar::kinds::Place;
 use syn_lower_leaves::front;
 use syn_lower_lists::front::round_at;
@@ -55,19 +55,19 @@ fn head_kind(head: &TrailerHead) -> TrailerKind
 
 /// Makes `?`, which was taken, part of its base.
 #[tactic(auto, using(crate::proofs::Bases::bases))]
-fn question<E: ReadExprs + Drop>(
+fn try_expr<E: ReadExprs + Drop>(
     input: &mut ParseBuffer<'_>,
     place: Place,
     base: Box<E>,
     question_token: Question,
 ) -> Result<Box<E>>
-    ensures value { Reads (λ b. E.tree b.value) (read.trailed_by read.expr place (E.tree base.value) [] e.question input.old.rest) result input.new.rest }
+    ensures value { Reads (λ b. E.tree b.value) (read.trailed_by read.expr place (E.tree base.value) [] e.try_expr input.old.rest) result input.new.rest }
     ensures same { input.new ≡ input.old }
 {
     if !fits_base(place, TrailerKind::Try, &*base) {
         return Err(input.error(ErrorKind::UnexpectedToken));
     }
-    Ok(make::question(input.alloc(), base, question_token)?)
+    Ok(make::try_expr(input.alloc(), base, question_token)?)
 }
 
 /// Makes indices, which were taken behind a dot, part of their base.
@@ -79,7 +79,7 @@ fn indexed<E: ReadExprs + Drop>(
     dot_token: Dot,
     indices: FloatIndices<'_>,
 ) -> Result<Box<E>>
-    ensures value { Reads (λ b. E.tree b.value) (if told.fits_base place (kinds.Field false) (E.tree base.value) then Some (stands.fields_of (E.tree base.value) indices.entry, input.now.rest) else None) result input.now.rest }
+    ensures value { Reads (λ b. E.tree b.value) (if known.fits_base place (kinds.Field false) (E.tree base.value) then Some (stands.fields_of (E.tree base.value) indices.entry, input.now.rest) else None) result input.now.rest }
 {
     if !fits_base(place, TrailerKind::Field { named: false }, &*base) {
         return Err(input.error(ErrorKind::UnexpectedToken));
@@ -231,7 +231,7 @@ impl<E: ReadExprs + Drop, F: Fn(&mut ParseBuffer<'_>, Place) -> Result<Box<E>> +
             return self.index(input, place, base);
         }
         if let Some(question_token) = front::question(input) {
-            return question(input, place, base, question_token);
+            return try_expr(input, place, base, question_token);
         }
         let Some(dot_token) = dot(input) else {
             return Err(input.error(ErrorKind::UnexpectedToken));

@@ -1,4 +1,4 @@
 pub mod Enclosed
-pub mod Adorning
+pub mod Attributing
 pub mod Shapes
 pub mod Parts

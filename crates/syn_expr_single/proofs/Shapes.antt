@@ -9,30 +9,30 @@ use Rattle.syn_parts.specs.PatOwn.{attributes_own}
 use Rattle.syn_grammar.specs.declared.kinds.Infix.{Infix}
 use Rattle.syn_grammar.specs.declared.kinds.Limits.{Limits}
 use Rattle.syn_grammar.specs.declared.next.Context.{Context}
-use Rattle.syn_grammar.specs.Next.{enclosed, base_context, lead_context, left_context, right_context}
-use Rattle.syn_grammar.specs.Notes.{note_of, kids_below, base_by, lead_by, left_by, place_by}
+use Rattle.syn_grammar.specs.Next.{enclosed, base_context, prefix_context, left_context, right_context}
+use Rattle.syn_grammar.specs.Summaries.{summary_of, children_below, base_by, prefix_by, left_by, place_by}
 use Rattle.syn_grammar.specs.Op.{level}
 use Rattle.syn_grammar.specs.Tree as e
-use Rattle.syn_grammar.specs.Tree.{Tree, Kids, Enclosure, adorn, outers, leaf_own, lead_own, infix_own, post_own, post_op, trailer_own, frame_own, enclosure}
-use Rattle.syn_expr_notes.specs.Label.{lead_kind, trailer_kind}
-use Rattle.syn_expr_notes.specs.declared.label.LeadKind.{LeadKind}
-use Rattle.syn_expr_notes.specs.declared.label.TrailerKind.{TrailerKind}
+use Rattle.syn_grammar.specs.Tree.{Tree, Children, Enclosure, attributed_with, outers, leaf_own, prefix_own, infix_own, postfix_own, postfix_op, trailer_own, frame_own, enclosure}
+use Rattle.syn_expr_summaries.specs.Label.{prefix_kind, trailer_kind}
+use Rattle.syn_expr_summaries.specs.declared.label.PrefixKind.{PrefixKind}
+use Rattle.syn_expr_summaries.specs.declared.label.TrailerKind.{TrailerKind}
 use Rattle.syn_expr_collect.specs.Below.{operands_below}
 use Rattle.syn_expr_collect.proofs.Nodes.{based_below}
 use Rattle.syn_pat_kinds.specs.View.{PatView}
-use Rattle.syn_expr_kinds.specs.Node.{OperandTrees, framed, frame_of, frame_guards, operand_kids}
+use Rattle.syn_expr_kinds.specs.Node.{OperandTrees, framed, frame_of, frame_guards, operand_children}
 use Rattle.syn_expr_kinds.specs.Pats.{strays}
 use Rattle.syn_expr_kinds.specs.declared.node.Frame.{Frame}
 use Rattle.syn_expr_kinds.specs.declared.node.Frame.TheVariants as frame
 use Rattle.syn_expr_put.specs.Framed.{framed_own, in_enclosure}
 use Rattle.syn_expr_print.specs.Placed.{needs_last}
 use Rattle.syn_expr_kinds.specs.Printed.{whole}
-use Rattle.syn_expr_print.specs.Printing.{spelled, spelled_in, kids_spelled}
-use Rattle.syn_expr_print.proofs.Kids.{none-spelled, value-spelled}
+use Rattle.syn_expr_print.specs.Printing.{spelled, spelled_in, children_spelled}
+use Rattle.syn_expr_print.proofs.Children.{none-spelled, value-spelled}
 use Rattle.syn_expr_print.proofs.Rounds.{last-seen}
-use Rattle.syn_expr_print.proofs.Spellings.{leaf-spelled, paren-spelled, lead-spelled, mid-spelled, post-spelled, tail-spelled, open-spelled, closed-spelled, strays-spelled}
+use Rattle.syn_expr_print.proofs.Spellings.{leaf-spelled, paren-spelled, prefixed-spelled, infixed-spelled, postfixed-spelled, tail-spelled, open-spelled, closed-spelled, strays-spelled}
 use Rattle.syn_expr_single.proofs.Enclosed.{whole-bare}
-use Rattle.syn_expr_single.proofs.Adorning.{behind-plain}
+use Rattle.syn_expr_single.proofs.Attributing.{behind-plain}
 
 -- ---- leaves, and operands at the ends
 
@@ -42,96 +42,96 @@ paren-text t = paren-spelled enclosed false t ∙ ap (λ z. own_parts.enclosed d
 pub range-text : (op : Limits) → spelled enclosed (e.leaf (e.full_range op)) ≡ leaf_own (e.full_range op) []
 range-text op = leaf-spelled enclosed (e.full_range op)
 
-pub lead-written : {U X : Type 0} (r : Result U X) (q : LeadKind) (k : e.Lead) (gs : Kids) (u : Tree) (t0 t1 t2 : List Tok) → lead_kind k ≡ q → t1 ≡ t0 ++ lead_own k []
-    → ((k : e.Lead) → lead_kind k ≡ q → OnOk r (t2 ≡ t1 ++ spelled_in (lead_by k (lead_context k enclosed) (note_of u)) (lead_context k enclosed) u))
-    → OnOk r (t2 ≡ t0 ++ spelled enclosed (e.lead k gs u))
-lead-written r q k gs u t0 t1 t2 h p g = by r (g k h)
+pub prefixed-written : {U X : Type 0} (r : Result U X) (q : PrefixKind) (k : e.Prefix) (gs : Children) (u : Tree) (t0 t1 t2 : List Tok) → prefix_kind k ≡ q → t1 ≡ t0 ++ prefix_own k []
+    → ((k : e.Prefix) → prefix_kind k ≡ q → OnOk r (t2 ≡ t1 ++ spelled_in (prefix_by k (prefix_context k enclosed) (summary_of u)) (prefix_context k enclosed) u))
+    → OnOk r (t2 ≡ t0 ++ spelled enclosed (e.prefixed k gs u))
+prefixed-written r q k gs u t0 t1 t2 h p g = by r (g k h)
   where
     z : List Tok
-    z = spelled_in (lead_by k (lead_context k enclosed) (note_of u)) (lead_context k enclosed) u
+    z = spelled_in (prefix_by k (prefix_context k enclosed) (summary_of u)) (prefix_context k enclosed) u
 
-    by : {U X : Type 0} (r : Result U X) → OnOk r (t2 ≡ t1 ++ z) → OnOk r (t2 ≡ t0 ++ spelled enclosed (e.lead k gs u))
-    by (Ok x) y = y ∙ ap (λ w. w ++ z) p ∙ append_assoc t0 (lead_own k []) z ∙ ap (λ w. t0 ++ w) (sym (lead-spelled enclosed k gs u))
+    by : {U X : Type 0} (r : Result U X) → OnOk r (t2 ≡ t1 ++ z) → OnOk r (t2 ≡ t0 ++ spelled enclosed (e.prefixed k gs u))
+    by (Ok x) y = y ∙ ap (λ w. w ++ z) p ∙ append_assoc t0 (prefix_own k []) z ∙ ap (λ w. t0 ++ w) (sym (prefixed-spelled enclosed k gs u))
     by (Err x) y = y
 
-pub mid-written : {U X : Type 0} (r : Result U X) (q k : Infix) (x y : Tree) (t0 t1 t2 t3 sign : List Tok) → q ≡ k
-    → t1 ≡ t0 ++ spelled_in (left_by q (left_context q enclosed) (note_of x)) (left_context q enclosed) x → sign ≡ infix_own k [] → t2 ≡ t1 ++ sign
-    → OnOk r (t3 ≡ t2 ++ spelled_in (place_by (level q) (right_context q enclosed) (note_of y)) (right_context q enclosed) y)
-    → OnOk r (t3 ≡ t0 ++ spelled enclosed (e.mid x k y))
-mid-written r q k x y t0 t1 t2 t3 sign h p i g j = by r j
+pub infixed-written : {U X : Type 0} (r : Result U X) (q k : Infix) (x y : Tree) (t0 t1 t2 t3 sign : List Tok) → q ≡ k
+    → t1 ≡ t0 ++ spelled_in (left_by q (left_context q enclosed) (summary_of x)) (left_context q enclosed) x → sign ≡ infix_own k [] → t2 ≡ t1 ++ sign
+    → OnOk r (t3 ≡ t2 ++ spelled_in (place_by (level q) (right_context q enclosed) (summary_of y)) (right_context q enclosed) y)
+    → OnOk r (t3 ≡ t0 ++ spelled enclosed (e.infixed x k y))
+infixed-written r q k x y t0 t1 t2 t3 sign h p i g j = by r j
   where
     a : Infix → List Tok
-    a z = spelled_in (left_by z (left_context z enclosed) (note_of x)) (left_context z enclosed) x
+    a z = spelled_in (left_by z (left_context z enclosed) (summary_of x)) (left_context z enclosed) x
 
     b : Infix → List Tok
-    b z = spelled_in (place_by (level z) (right_context z enclosed) (note_of y)) (right_context z enclosed) y
+    b z = spelled_in (place_by (level z) (right_context z enclosed) (summary_of y)) (right_context z enclosed) y
 
-    by : {U X : Type 0} (r : Result U X) → OnOk r (t3 ≡ t2 ++ b q) → OnOk r (t3 ≡ t0 ++ spelled enclosed (e.mid x k y))
+    by : {U X : Type 0} (r : Result U X) → OnOk r (t3 ≡ t2 ++ b q) → OnOk r (t3 ≡ t0 ++ spelled enclosed (e.infixed x k y))
     by (Ok v) w =
         w ∙ ap (λ z. t2 ++ b z) h ∙ ap (λ l. l ++ b k) (g ∙ ap (λ l. t1 ++ l) i ∙ ap (λ l. l ++ infix_own k []) (p ∙ ap (λ z. t0 ++ a z) h))
-        ∙ append_assoc (t0 ++ a k) (infix_own k []) (b k) ∙ append_assoc t0 (a k) (infix_own k [] ++ b k) ∙ ap (λ l. t0 ++ l) (sym (mid-spelled enclosed x k y))
+        ∙ append_assoc (t0 ++ a k) (infix_own k []) (b k) ∙ append_assoc t0 (a k) (infix_own k [] ++ b k) ∙ ap (λ l. t0 ++ l) (sym (infixed-spelled enclosed x k y))
     by (Err v) w = w
 
-pub post-written : (q : Infix) (k : e.Post) (x : Tree) (t0 t1 t2 end : List Tok) → post_op k ≡ q
-    → t1 ≡ t0 ++ spelled_in (left_by q (left_context q enclosed) (note_of x)) (left_context q enclosed) x → end ≡ post_own k [] → t2 ≡ t1 ++ end
-    → t2 ≡ t0 ++ spelled enclosed (e.post x k)
-post-written q k x t0 t1 t2 end h p i g =
-    let a = λ (z : Infix). spelled_in (left_by z (left_context z enclosed) (note_of x)) (left_context z enclosed) x in
-    g ∙ ap (λ l. t1 ++ l) i ∙ ap (λ l. l ++ post_own k []) (p ∙ ap (λ z. t0 ++ a z) (sym h))
-    ∙ append_assoc t0 (a (post_op k)) (post_own k []) ∙ ap (λ l. t0 ++ l) (sym (post-spelled enclosed x k))
+pub postfixed-written : (q : Infix) (k : e.Postfix) (x : Tree) (t0 t1 t2 end : List Tok) → postfix_op k ≡ q
+    → t1 ≡ t0 ++ spelled_in (left_by q (left_context q enclosed) (summary_of x)) (left_context q enclosed) x → end ≡ postfix_own k [] → t2 ≡ t1 ++ end
+    → t2 ≡ t0 ++ spelled enclosed (e.postfixed x k)
+postfixed-written q k x t0 t1 t2 end h p i g =
+    let a = λ (z : Infix). spelled_in (left_by z (left_context z enclosed) (summary_of x)) (left_context z enclosed) x in
+    g ∙ ap (λ l. t1 ++ l) i ∙ ap (λ l. l ++ postfix_own k []) (p ∙ ap (λ z. t0 ++ a z) (sym h))
+    ∙ append_assoc t0 (a (postfix_op k)) (postfix_own k []) ∙ ap (λ l. t0 ++ l) (sym (postfixed-spelled enclosed x k))
 
 pub ruleset parens = (paren-text)
 
 pub ruleset ranges = (range-text)
 
-pub ruleset leads = (lead-written)
+pub ruleset prefixes = (prefixed-written)
 
-pub ruleset mids = (mid-written)
+pub ruleset infixes = (infixed-written)
 
-pub ruleset posts = (post-written)
+pub ruleset postfixes = (postfixed-written)
 
 -- ---- trailers
 
-pub tail-written : (q : TrailerKind) (k : e.Trailer) (b : Tree) (ks : Kids) (t0 t1 t2 : List Tok) → trailer_kind k ≡ q
-    → ((k : e.Trailer) → trailer_kind k ≡ q → t1 ≡ t0 ++ spelled_in (base_by k (base_context k enclosed) (note_of b)) (base_context k enclosed) b)
-    → t2 ≡ t1 ++ trailer_own k (kids_spelled false ks) [] → t2 ≡ t0 ++ spelled enclosed (e.tail b k ks)
+pub tail-written : (q : TrailerKind) (k : e.Trailer) (b : Tree) (ks : Children) (t0 t1 t2 : List Tok) → trailer_kind k ≡ q
+    → ((k : e.Trailer) → trailer_kind k ≡ q → t1 ≡ t0 ++ spelled_in (base_by k (base_context k enclosed) (summary_of b)) (base_context k enclosed) b)
+    → t2 ≡ t1 ++ trailer_own k (children_spelled false ks) [] → t2 ≡ t0 ++ spelled enclosed (e.tail b k ks)
 tail-written q k b ks t0 t1 t2 h p g =
-    let y = trailer_own k (kids_spelled false ks) [] in
-    let z = spelled_in (base_by k (base_context k enclosed) (note_of b)) (base_context k enclosed) b in
+    let y = trailer_own k (children_spelled false ks) [] in
+    let z = spelled_in (base_by k (base_context k enclosed) (summary_of b)) (base_context k enclosed) b in
     g ∙ ap (λ w. w ++ y) (p k h) ∙ append_assoc t0 z y ∙ ap (λ w. t0 ++ w) (sym (tail-spelled enclosed b k ks))
 
 -- with what the trailer holds
-pub held-written : (q : TrailerKind) (k : e.Trailer) (b : Tree) (ks : Kids) (t0 t1 t2 end held : List Tok) → trailer_kind k ≡ q
-    → ((k : e.Trailer) → trailer_kind k ≡ q → t1 ≡ t0 ++ spelled_in (base_by k (base_context k enclosed) (note_of b)) (base_context k enclosed) b)
-    → held ≡ kids_spelled false ks → end ≡ trailer_own k held [] → t2 ≡ t1 ++ end → t2 ≡ t0 ++ spelled enclosed (e.tail b k ks)
+pub held-written : (q : TrailerKind) (k : e.Trailer) (b : Tree) (ks : Children) (t0 t1 t2 end held : List Tok) → trailer_kind k ≡ q
+    → ((k : e.Trailer) → trailer_kind k ≡ q → t1 ≡ t0 ++ spelled_in (base_by k (base_context k enclosed) (summary_of b)) (base_context k enclosed) b)
+    → held ≡ children_spelled false ks → end ≡ trailer_own k held [] → t2 ≡ t1 ++ end → t2 ≡ t0 ++ spelled enclosed (e.tail b k ks)
 held-written q k b ks t0 t1 t2 end held h p i d g =
     tail-written q k b ks t0 t1 t2 h p (g ∙ ap (λ l. t1 ++ l) (d ∙ ap (λ l. trailer_own k l []) i))
 
 -- where the context is known to be that of plain position
-pub held-at : (d : Context) (q : TrailerKind) (k : e.Trailer) (b : Tree) (ks : Kids) (t0 t1 t2 end held : List Tok) → d ≡ enclosed → trailer_kind k ≡ q
-    → ((k : e.Trailer) → trailer_kind k ≡ q → t1 ≡ t0 ++ spelled_in (base_by k (base_context k d) (note_of b)) (base_context k d) b)
-    → held ≡ kids_spelled false ks → end ≡ trailer_own k held [] → t2 ≡ t1 ++ end → t2 ≡ t0 ++ spelled enclosed (e.tail b k ks)
+pub held-at : (d : Context) (q : TrailerKind) (k : e.Trailer) (b : Tree) (ks : Children) (t0 t1 t2 end held : List Tok) → d ≡ enclosed → trailer_kind k ≡ q
+    → ((k : e.Trailer) → trailer_kind k ≡ q → t1 ≡ t0 ++ spelled_in (base_by k (base_context k d) (summary_of b)) (base_context k d) b)
+    → held ≡ children_spelled false ks → end ≡ trailer_own k held [] → t2 ≡ t1 ++ end → t2 ≡ t0 ++ spelled enclosed (e.tail b k ks)
 held-at d q k b ks t0 t1 t2 end held s h p i w g =
-    held-written q k b ks t0 t1 t2 end held h (λ j l. p j l ∙ ap (λ z. t0 ++ spelled_in (base_by j (base_context j z) (note_of b)) (base_context j z) b) s) i w g
+    held-written q k b ks t0 t1 t2 end held h (λ j l. p j l ∙ ap (λ z. t0 ++ spelled_in (base_by j (base_context j z) (summary_of b)) (base_context j z) b) s) i w g
 
-pub nothing-held : (l : List Tok) → l ≡ [] → l ≡ kids_spelled false e.none
+pub nothing-held : (l : List Tok) → l ≡ [] → l ≡ children_spelled false e.none
 nothing-held l h = h ∙ sym (none-spelled false)
 
-pub index-held : (d : Context) (t : Tree) (h0 h1 : List Tok) → d ≡ enclosed → h0 ≡ [] → h1 ≡ h0 ++ whole d t → h1 ≡ kids_spelled false (e.kid e.value e.no_ending t e.none)
+pub index-held : (d : Context) (t : Tree) (h0 h1 : List Tok) → d ≡ enclosed → h0 ≡ [] → h1 ≡ h0 ++ whole d t → h1 ≡ children_spelled false (e.child e.value e.no_ending t e.none)
 index-held d t h0 h1 s n g = g ∙ ap (λ l. l ++ whole d t) n ∙ ap (λ z. whole z t) s ∙ sym (value-spelled false t)
 
 pub ruleset calls = (based_below)
 
 -- ---- operands in places of their own
 
-pub below-framed : (o : OperandTrees) → o ≡ framed (operand_kids o) → operands_below o ≡ kids_below (operand_kids o)
+pub below-framed : (o : OperandTrees) → o ≡ framed (operand_children o) → operands_below o ≡ children_below (operand_children o)
 below-framed o h = ap operands_below h
 
 pub ruleset placed = (below-framed)
 
 module _ {P : Type 0} (pat : P → PatView) where
   -- without a delimiter no comma is needed behind the last
-  last-open : (k : Frame P) (ks : Kids) → is_some (enclosure (frame_of pat k)) ≡ false → needs_last (frame_of pat k) (e.is_one ks) ≡ false
+  last-open : (k : Frame P) (ks : Children) → is_some (enclosure (frame_of pat k)) ≡ false → needs_last (frame_of pat k) (e.is_one ks) ≡ false
   last-open (frame.Array t) ks h = refl
   last-open (frame.Tuple t) ks h = absurd cc
   last-open (frame.Repeat t) ks h = refl
@@ -143,51 +143,51 @@ module _ {P : Type 0} (pat : P → PatView) where
   last-open (frame.Match t u) ks h = refl
   last-open (frame.Group t) ks h = refl
 
-  pub closed-text : (ats : List AttributeTree) (k : Frame P) (ks : Kids) (b : Bool) → is_some (enclosure (frame_of pat k)) ≡ true → b ≡ needs_last (frame_of pat k) (e.is_one ks)
-      → whole enclosed (adorn ats (e.frame (frame_of pat k) (strays (frame_guards pat k) ks))) ≡ attributes_own (outers ats) [] ++ framed_own (frame_of pat k) (kids_spelled b ks)
+  pub closed-text : (ats : List AttributeTree) (k : Frame P) (ks : Children) (b : Bool) → is_some (enclosure (frame_of pat k)) ≡ true → b ≡ needs_last (frame_of pat k) (e.is_one ks)
+      → whole enclosed (attributed_with ats (e.frame (frame_of pat k) (strays (frame_guards pat k) ks))) ≡ attributes_own (outers ats) [] ++ framed_own (frame_of pat k) (children_spelled b ks)
   closed-text ats k ks b h m =
       behind-plain ats (e.frame (frame_of pat k) all) refl ∙ ap (λ l. attributes_own (outers ats) [] ++ l) (by (enclosure (frame_of pat k)) refl h)
     where
-      all : Kids
+      all : Children
       all = strays (frame_guards pat k) ks
 
-      by : (o : Option Enclosure) → enclosure (frame_of pat k) ≡ o → is_some o ≡ true → spelled enclosed (e.frame (frame_of pat k) all) ≡ framed_own (frame_of pat k) (kids_spelled b ks)
+      by : (o : Option Enclosure) → enclosure (frame_of pat k) ≡ o → is_some o ≡ true → spelled enclosed (e.frame (frame_of pat k) all) ≡ framed_own (frame_of pat k) (children_spelled b ks)
       by None i h = absurd cc
       by (Some x) i h =
           closed-spelled enclosed (frame_of pat k) all x i
-          ∙ ap (λ w. in_enclosure (Some x) (kids_spelled w all)) (last-seen pat k ks ∙ sym m)
+          ∙ ap (λ w. in_enclosure (Some x) (children_spelled w all)) (last-seen pat k ks ∙ sym m)
           ∙ ap (λ l. in_enclosure (Some x) l) (strays-spelled b (frame_guards pat k) ks)
-          ∙ ap (λ o. in_enclosure o (kids_spelled b ks)) (sym i)
+          ∙ ap (λ o. in_enclosure o (children_spelled b ks)) (sym i)
 
-  pub open-text : (ats : List AttributeTree) (k : Frame P) (ks : Kids) → is_some (enclosure (frame_of pat k)) ≡ false
-      → whole enclosed (adorn ats (e.frame (frame_of pat k) (strays (frame_guards pat k) ks))) ≡ attributes_own (outers ats) [] ++ (frame_own (frame_of pat k) [] ++ kids_spelled false ks)
+  pub open-text : (ats : List AttributeTree) (k : Frame P) (ks : Children) → is_some (enclosure (frame_of pat k)) ≡ false
+      → whole enclosed (attributed_with ats (e.frame (frame_of pat k) (strays (frame_guards pat k) ks))) ≡ attributes_own (outers ats) [] ++ (frame_own (frame_of pat k) [] ++ children_spelled false ks)
   open-text ats k ks h =
       behind-plain ats (e.frame (frame_of pat k) all) refl ∙ ap (λ l. attributes_own (outers ats) [] ++ l) (by (enclosure (frame_of pat k)) refl h)
     where
-      all : Kids
+      all : Children
       all = strays (frame_guards pat k) ks
 
-      by : (o : Option Enclosure) → enclosure (frame_of pat k) ≡ o → is_some o ≡ false → spelled enclosed (e.frame (frame_of pat k) all) ≡ frame_own (frame_of pat k) [] ++ kids_spelled false ks
+      by : (o : Option Enclosure) → enclosure (frame_of pat k) ≡ o → is_some o ≡ false → spelled enclosed (e.frame (frame_of pat k) all) ≡ frame_own (frame_of pat k) [] ++ children_spelled false ks
       by (Some x) i g = absurd cc
       by None i g =
           open-spelled enclosed (frame_of pat k) all i
-          ∙ ap (λ w. frame_own (frame_of pat k) [] ++ kids_spelled w all) (last-seen pat k ks ∙ last-open k ks h)
+          ∙ ap (λ w. frame_own (frame_of pat k) [] ++ children_spelled w all) (last-seen pat k ks ∙ last-open k ks h)
           ∙ ap (λ l. frame_own (frame_of pat k) [] ++ l) (strays-spelled false (frame_guards pat k) ks)
 
-  pub closed-written : (ats : List AttributeTree) (k : Frame P) (ks : Kids) (b : Bool) (i0 i1 t0 t1 t2 : List Tok) → is_some (enclosure (frame_of pat k)) ≡ true
-      → b ≡ needs_last (frame_of pat k) (e.is_one ks) → i0 ≡ [] → i1 ≡ i0 ++ kids_spelled b ks → t1 ≡ t0 ++ attributes_own (outers ats) [] → t2 ≡ t1 ++ framed_own (frame_of pat k) i1
-      → t2 ≡ t0 ++ whole enclosed (adorn ats (e.frame (frame_of pat k) (strays (frame_guards pat k) ks)))
+  pub closed-written : (ats : List AttributeTree) (k : Frame P) (ks : Children) (b : Bool) (i0 i1 t0 t1 t2 : List Tok) → is_some (enclosure (frame_of pat k)) ≡ true
+      → b ≡ needs_last (frame_of pat k) (e.is_one ks) → i0 ≡ [] → i1 ≡ i0 ++ children_spelled b ks → t1 ≡ t0 ++ attributes_own (outers ats) [] → t2 ≡ t1 ++ framed_own (frame_of pat k) i1
+      → t2 ≡ t0 ++ whole enclosed (attributed_with ats (e.frame (frame_of pat k) (strays (frame_guards pat k) ks)))
   closed-written ats k ks b i0 i1 t0 t1 t2 h m n i p g =
       let x = λ (l : List Tok). framed_own (frame_of pat k) l in
-      let j = i ∙ ap (λ l. l ++ kids_spelled b ks) n in
-      g ∙ ap (λ l. t1 ++ x l) j ∙ ap (λ l. l ++ x (kids_spelled b ks)) p ∙ append_assoc t0 (attributes_own (outers ats) []) (x (kids_spelled b ks))
+      let j = i ∙ ap (λ l. l ++ children_spelled b ks) n in
+      g ∙ ap (λ l. t1 ++ x l) j ∙ ap (λ l. l ++ x (children_spelled b ks)) p ∙ append_assoc t0 (attributes_own (outers ats) []) (x (children_spelled b ks))
       ∙ ap (λ l. t0 ++ l) (sym (closed-text ats k ks b h m))
 
-  pub open-written : (ats : List AttributeTree) (k : Frame P) (ks : Kids) (t0 t1 t2 t3 : List Tok) → is_some (enclosure (frame_of pat k)) ≡ false
-      → t1 ≡ t0 ++ attributes_own (outers ats) [] → t2 ≡ t1 ++ frame_own (frame_of pat k) [] → t3 ≡ t2 ++ kids_spelled false ks
-      → t3 ≡ t0 ++ whole enclosed (adorn ats (e.frame (frame_of pat k) (strays (frame_guards pat k) ks)))
+  pub open-written : (ats : List AttributeTree) (k : Frame P) (ks : Children) (t0 t1 t2 t3 : List Tok) → is_some (enclosure (frame_of pat k)) ≡ false
+      → t1 ≡ t0 ++ attributes_own (outers ats) [] → t2 ≡ t1 ++ frame_own (frame_of pat k) [] → t3 ≡ t2 ++ children_spelled false ks
+      → t3 ≡ t0 ++ whole enclosed (attributed_with ats (e.frame (frame_of pat k) (strays (frame_guards pat k) ks)))
   open-written ats k ks t0 t1 t2 t3 h p i g =
       let a = attributes_own (outers ats) [] in
       let x = frame_own (frame_of pat k) [] in
-      let y = kids_spelled false ks in
+      let y = children_spelled false ks in
       g ∙ ap (λ l. l ++ y) (i ∙ ap (λ l. l ++ x) p) ∙ append_assoc (t0 ++ a) x y ∙ append_assoc t0 a (x ++ y) ∙ ap (λ l. t0 ++ l) (sym (open-text ats k ks h))

@@ -6,13 +6,13 @@ ghost use Rattle.syn_expr_kinds.specs.Printed.{whole};
 ghost use Rattle.syn_expr_print.specs.Printing.{spelled};
 ghost use Rattle.syn_grammar.specs.Next as next;
 ghost use Rattle.syn_grammar.specs.Rule.{is_operation};
-ghost use Rattle.syn_grammar.specs.Tree.{Tree, adorn};
+ghost use Rattle.syn_grammar.specs.Tree.{Tree, attributed_with};
 ghost use Rattle.syn_tokens.specs.Input.{IsFront};
 
 use syn_expr_kinds::attrs::put_attributes;
 use syn_expr_kinds::body::put_parens;
 use syn_expr_kinds::node::Attributes;
-use syn_expr_kinds::put::{Grown, grown};
+use syn_expr_kinds::put::{PutResult, put_result};
 use syn_lower::attr::Attribute;
 use syn_tokens::tree::TokenStream;
 
@@ -20,14 +20,18 @@ use syn_tokens::tree::TokenStream;
 /// these the attributes would be those of its first operand (Rust Reference, "Expression attributes").
 ///
 /// Memory may run out; a part of the tokens may then follow what was there.
-#[tactic(auto, using(syn_tokens::proofs::Fronts::fronts, crate::proofs::Adorning::operations))]
-pub fn operation(tokens: &mut TokenStream, attrs: &Vec<Attribute>, printed: TokenStream) -> Grown
-    ensures text { (t : Tree) → is_operation t ≡ true → printed ≡ spelled next.enclosed t → OnOk result (tokens.new ≡ tokens.old ++ whole next.enclosed (adorn (attrs_of attrs.now) t)) }
+#[tactic(auto, using(syn_tokens::proofs::Fronts::fronts, crate::proofs::Attributing::operations))]
+pub fn operation(
+    tokens: &mut TokenStream,
+    attrs: &Vec<Attribute>,
+    printed: TokenStream,
+) -> PutResult
+    ensures text { (t : Tree) → is_operation t ≡ true → printed ≡ spelled next.enclosed t → OnOk result (tokens.new ≡ tokens.old ++ whole next.enclosed (attributed_with (attrs_of attrs.now) t)) }
     ensures front { IsFront tokens.old tokens.new }
 {
     let attributes = Attributes::Before(attrs);
     if attributes.has_none_before() {
-        grown(tokens.append(printed))
+        put_result(tokens.append(printed))
     } else {
         put_attributes(tokens, attributes)?;
         put_parens(tokens, printed)

@@ -1,34 +1,34 @@
 //! Nodes with their operands at their ends, and ranges without any (Rust Reference, "Operator expressions", "Grouped expressions", "Range
-//! expressions", "`return` expressions", "Closure expressions"), by what is lent of them.
+//! expressions", "`return` expressions", "Closure expressions"), by their parts.
 
 ghost use Rattle.std.specs.Prelude.{◌≡◌, ◌++◌, false, OnOk};
 ghost use Rattle.syn_expr_kinds.specs.Attrs.{attrs_of};
-ghost use Rattle.syn_expr_kinds.specs.Node.{before_of, lead_guards, lead_of, operator_of, post_of};
+ghost use Rattle.syn_expr_kinds.specs.Node.{before_of, prefix_guards, prefix_of, operator_of, postfix_of};
 ghost use Rattle.syn_expr_kinds.specs.Pats.{strays};
 ghost use Rattle.syn_expr_kinds.specs.View.{boxed, range_between};
-ghost use Rattle.syn_expr_notes.specs.Label.{lead_kind};
+ghost use Rattle.syn_expr_summaries.specs.Label.{prefix_kind};
 ghost use Rattle.syn_expr_kinds.specs.Printed.{whole};
 ghost use Rattle.syn_expr_print.specs.Printing.{spelled};
 ghost use Rattle.syn_grammar.specs.Next as next;
-ghost use Rattle.syn_grammar.specs.Stands.{is_range_lead};
+ghost use Rattle.syn_grammar.specs.Stands.{is_range_prefix};
 ghost use Rattle.syn_grammar.specs.Tree as e;
-ghost use Rattle.syn_grammar.specs.Tree.{adorn, post_op};
+ghost use Rattle.syn_grammar.specs.Tree.{attributed_with, postfix_op};
 ghost use Rattle.syn_op.specs.View.{limits_kind};
 ghost use Rattle.syn_tokens.specs.Input.{IsFront};
 
 use crate::behind::operation;
-use crate::noted::{note_one, note_two};
+use crate::summarized::{summarize_one, summarize_two};
 use syn_expr_kinds::attrs::put_attributes;
 use syn_expr_kinds::body::put_paren;
 use syn_expr_kinds::leaf::put_leaf;
-use syn_expr_kinds::node::{Attributes, Jump, Lead, Leaf, Operator, Post};
-use syn_expr_kinds::put::{Grown, grown};
-use syn_expr_notes::context::enclosed;
-use syn_expr_notes::label::LeadKind;
-use syn_expr_print::operand::{behind_lead, left_of, right_of};
+use syn_expr_kinds::node::{Attributes, Jump, Leaf, Operator, Postfix, Prefix};
+use syn_expr_kinds::put::{PutResult, put_result};
+use syn_expr_print::operand::{behind_prefix, left_of, right_of};
 use syn_expr_print::print::{HasPrinter, node, print_in};
-use syn_expr_put::lead::{PutPat, put_lead};
-use syn_expr_put::small::{put_operator, put_post};
+use syn_expr_put::prefix::{PutPat, put_prefix};
+use syn_expr_put::small::{put_operator, put_postfix};
+use syn_expr_summaries::context::enclosed;
+use syn_expr_summaries::label::PrefixKind;
 use syn_grammar::kinds::Infix;
 use syn_lower::attr::Attribute;
 use syn_op::limits::RangeLimits;
@@ -40,7 +40,7 @@ use syn_tokens::tree::TokenStream;
 
 /// Prints parentheses with what stands in them.
 #[tactic(auto, using(syn_tokens::proofs::Fronts::fronts, crate::proofs::Shapes::parens))]
-fn bare_paren<E: HasPrinter>(tokens: &mut TokenStream, paren: &Paren, x: &E) -> Grown
+fn bare_paren<E: HasPrinter>(tokens: &mut TokenStream, paren: &Paren, x: &E) -> PutResult
     ensures text { OnOk result (tokens.new ≡ tokens.old ++ spelled next.enclosed (e.paren false (E.tree x.now))) }
     ensures front { IsFront tokens.old tokens.new }
 {
@@ -58,8 +58,8 @@ pub fn paren<E: HasPrinter>(
     attributes: Attributes<'_>,
     paren: &Paren,
     x: &E,
-) -> Grown
-    ensures text { OnOk result (tokens.new ≡ tokens.old ++ whole next.enclosed (adorn (before_of attributes.entry) (e.paren false (E.tree x.now)))) }
+) -> PutResult
+    ensures text { OnOk result (tokens.new ≡ tokens.old ++ whole next.enclosed (attributed_with (before_of attributes.entry) (e.paren false (E.tree x.now)))) }
     ensures front { IsFront tokens.old tokens.new }
 {
     put_attributes(tokens, attributes)?;
@@ -68,48 +68,53 @@ pub fn paren<E: HasPrinter>(
 }
 
 /// The kind of what stands before an operand.
-fn lead_kind<P: HasPatTree>(lead: Lead<'_, P>) -> LeadKind
-    ensures { result ≡ lead_kind (lead_of P.view lead.entry) }
+fn prefix_kind<P: HasPatTree>(prefix: Prefix<'_, P>) -> PrefixKind
+    ensures { result ≡ prefix_kind (prefix_of P.view prefix.entry) }
 {
-    match lead {
-        Lead::Unary(_) | Lead::Reference(_, _) | Lead::RawAddr(_, _, _) => LeadKind::Prefix,
-        Lead::Range(limits) => LeadKind::RangeTo(limits.kind()),
-        Lead::Let(_, _, _) => LeadKind::Let,
-        Lead::Jump(Jump::Return(_)) => LeadKind::Jump,
-        Lead::Jump(Jump::Yield(_)) => LeadKind::Jump,
-        Lead::Jump(Jump::Break(_, label)) => LeadKind::Break {
+    match prefix {
+        Prefix::Unary(_) | Prefix::Reference(_, _) | Prefix::RawAddr(_, _, _) =>
+            PrefixKind::Operator,
+        Prefix::Range(limits) => PrefixKind::RangeTo(limits.kind()),
+        Prefix::Let(_, _, _) => PrefixKind::Let,
+        Prefix::Jump(Jump::Return(_)) => PrefixKind::Jump,
+        Prefix::Jump(Jump::Yield(_)) => PrefixKind::Jump,
+        Prefix::Jump(Jump::Break(_, label)) => PrefixKind::Break {
             labelled: label.is_some(),
         },
-        Lead::Closure(_) => LeadKind::Closure,
+        Prefix::Closure(_) => PrefixKind::Closure,
     }
 }
 
-/// Prints a lead and the operand behind it.
-#[tactic(auto, using(syn_tokens::proofs::Fronts::fronts, crate::proofs::Shapes::leads))]
-fn led<E: HasPrinter, P: PutPat>(tokens: &mut TokenStream, lead: Lead<'_, P>, x: &E) -> Grown
-    ensures text { OnOk result (tokens.new ≡ tokens.old ++ spelled next.enclosed (e.lead (lead_of P.view lead.entry) (strays (lead_guards P.view lead.entry) e.none) (E.tree x.now))) }
+/// Prints a prefix and the operand behind it.
+#[tactic(auto, using(syn_tokens::proofs::Fronts::fronts, crate::proofs::Shapes::prefixes))]
+fn prefixed_parts<E: HasPrinter, P: PutPat>(
+    tokens: &mut TokenStream,
+    prefix: Prefix<'_, P>,
+    x: &E,
+) -> PutResult
+    ensures text { OnOk result (tokens.new ≡ tokens.old ++ spelled next.enclosed (e.prefixed (prefix_of P.view prefix.entry) (strays (prefix_guards P.view prefix.entry) e.none) (E.tree x.now))) }
     ensures front { IsFront tokens.old tokens.new }
 {
-    let kind = lead_kind(lead);
-    put_lead(tokens, lead)?;
-    let mut notes = note_one(tokens, x)?;
-    behind_lead(&node::<E>, tokens, &mut notes, x, kind, enclosed())
+    let kind = prefix_kind(prefix);
+    put_prefix(tokens, prefix)?;
+    let mut summaries = summarize_one(tokens, x)?;
+    behind_prefix(&node::<E>, tokens, &mut summaries, x, kind, enclosed())
 }
 
 /// Prints a node that ends with its operand, behind its attributes and what stands before the operand.
 #[tactic(auto, using(syn_tokens::proofs::Fronts::fronts))]
-pub fn lead<E: HasPrinter, P: PutPat>(
+pub fn prefixed<E: HasPrinter, P: PutPat>(
     tokens: &mut TokenStream,
     attributes: Attributes<'_>,
-    lead: Lead<'_, P>,
+    prefix: Prefix<'_, P>,
     x: &E,
-) -> Grown
-    requires { is_range_lead (lead_of P.view lead) ≡ false }
-    ensures text { OnOk result (tokens.new ≡ tokens.old ++ whole next.enclosed (adorn (before_of attributes.entry) (e.lead (lead_of P.view lead.entry) (strays (lead_guards P.view lead.entry) e.none) (E.tree x.now)))) }
+) -> PutResult
+    requires { is_range_prefix (prefix_of P.view prefix) ≡ false }
+    ensures text { OnOk result (tokens.new ≡ tokens.old ++ whole next.enclosed (attributed_with (before_of attributes.entry) (e.prefixed (prefix_of P.view prefix.entry) (strays (prefix_guards P.view prefix.entry) e.none) (E.tree x.now)))) }
     ensures front { IsFront tokens.old tokens.new }
 {
     put_attributes(tokens, attributes)?;
-    led(tokens, lead, x)?;
+    prefixed_parts(tokens, prefix, x)?;
     Ok(())
 }
 
@@ -127,30 +132,35 @@ fn infix(operator: Operator<'_>) -> Infix
 }
 
 /// Prints two operands with their operator.
-#[tactic(auto, using(syn_tokens::proofs::Fronts::fronts, syn_expr_print::proofs::Stacks::takes, crate::proofs::Shapes::mids))]
-fn between<E: HasPrinter>(tokens: &mut TokenStream, x: &E, operator: Operator<'_>, y: &E) -> Grown
-    ensures text { OnOk result (tokens.new ≡ tokens.old ++ spelled next.enclosed (e.mid (E.tree x.now) (operator_of operator.entry) (E.tree y.now))) }
+#[tactic(auto, using(syn_tokens::proofs::Fronts::fronts, syn_expr_print::proofs::Stacks::takes, crate::proofs::Shapes::infixes))]
+fn between<E: HasPrinter>(
+    tokens: &mut TokenStream,
+    x: &E,
+    operator: Operator<'_>,
+    y: &E,
+) -> PutResult
+    ensures text { OnOk result (tokens.new ≡ tokens.old ++ spelled next.enclosed (e.infixed (E.tree x.now) (operator_of operator.entry) (E.tree y.now))) }
     ensures front { IsFront tokens.old tokens.new }
 {
     let op = infix(operator);
     let mut sign = TokenStream::new(tokens.alloc());
     put_operator(&mut sign, operator)?;
-    let mut notes = note_two(tokens, x, y)?;
-    left_of(&node::<E>, tokens, &mut notes, x, op, enclosed())?;
-    grown(tokens.append(sign))?;
-    right_of(&node::<E>, tokens, &mut notes, y, op, enclosed())
+    let mut summaries = summarize_two(tokens, x, y)?;
+    left_of(&node::<E>, tokens, &mut summaries, x, op, enclosed())?;
+    put_result(tokens.append(sign))?;
+    right_of(&node::<E>, tokens, &mut summaries, y, op, enclosed())
 }
 
 /// Prints an operation of two operands, behind its attributes in parentheses.
 #[tactic(auto, using(syn_tokens::proofs::Fronts::fronts))]
-pub fn mid<E: HasPrinter>(
+pub fn infixed<E: HasPrinter>(
     tokens: &mut TokenStream,
     attrs: &Vec<Attribute>,
     x: &E,
     operator: Operator<'_>,
     y: &E,
-) -> Grown
-    ensures text { OnOk result (tokens.new ≡ tokens.old ++ whole next.enclosed (adorn (attrs_of attrs.now) (e.mid (E.tree x.now) (operator_of operator.entry) (E.tree y.now)))) }
+) -> PutResult
+    ensures text { OnOk result (tokens.new ≡ tokens.old ++ whole next.enclosed (attributed_with (attrs_of attrs.now) (e.infixed (E.tree x.now) (operator_of operator.entry) (E.tree y.now)))) }
     ensures front { IsFront tokens.old tokens.new }
 {
     let mut printed = TokenStream::new(tokens.alloc());
@@ -159,43 +169,43 @@ pub fn mid<E: HasPrinter>(
 }
 
 /// The operator that stands behind an operand.
-fn post_op(post: Post<'_>) -> Infix
-    ensures { result ≡ post_op (post_of post.entry) }
+fn postfix_op(postfix: Postfix<'_>) -> Infix
+    ensures { result ≡ postfix_op (postfix_of postfix.entry) }
 {
-    match post {
-        Post::Cast(_, _) => Infix::Cast,
-        Post::Range(limits) => Infix::Range(limits.kind()),
+    match postfix {
+        Postfix::Cast(_, _) => Infix::Cast,
+        Postfix::Range(limits) => Infix::Range(limits.kind()),
     }
 }
 
 /// Prints an operand, and what stands behind it.
-#[tactic(auto, using(syn_tokens::proofs::Fronts::fronts, crate::proofs::Shapes::posts))]
-fn posted<E: HasPrinter>(tokens: &mut TokenStream, x: &E, post: Post<'_>) -> Grown
-    ensures text { OnOk result (tokens.new ≡ tokens.old ++ spelled next.enclosed (e.post (E.tree x.now) (post_of post.entry))) }
+#[tactic(auto, using(syn_tokens::proofs::Fronts::fronts, crate::proofs::Shapes::postfixes))]
+fn posted<E: HasPrinter>(tokens: &mut TokenStream, x: &E, postfix: Postfix<'_>) -> PutResult
+    ensures text { OnOk result (tokens.new ≡ tokens.old ++ spelled next.enclosed (e.postfixed (E.tree x.now) (postfix_of postfix.entry))) }
     ensures front { IsFront tokens.old tokens.new }
 {
-    let op = post_op(post);
+    let op = postfix_op(postfix);
     let mut end = TokenStream::new(tokens.alloc());
-    put_post(&mut end, post)?;
-    let mut notes = note_one(tokens, x)?;
-    left_of(&node::<E>, tokens, &mut notes, x, op, enclosed())?;
-    grown(tokens.append(end))?;
+    put_postfix(&mut end, postfix)?;
+    let mut summaries = summarize_one(tokens, x)?;
+    left_of(&node::<E>, tokens, &mut summaries, x, op, enclosed())?;
+    put_result(tokens.append(end))?;
     Ok(())
 }
 
 /// Prints a node that begins with its operand, behind its attributes in parentheses.
 #[tactic(auto, using(syn_tokens::proofs::Fronts::fronts))]
-pub fn post<E: HasPrinter>(
+pub fn postfixed<E: HasPrinter>(
     tokens: &mut TokenStream,
     attrs: &Vec<Attribute>,
     x: &E,
-    post: Post<'_>,
-) -> Grown
-    ensures text { OnOk result (tokens.new ≡ tokens.old ++ whole next.enclosed (adorn (attrs_of attrs.now) (e.post (E.tree x.now) (post_of post.entry)))) }
+    postfix: Postfix<'_>,
+) -> PutResult
+    ensures text { OnOk result (tokens.new ≡ tokens.old ++ whole next.enclosed (attributed_with (attrs_of attrs.now) (e.postfixed (E.tree x.now) (postfix_of postfix.entry)))) }
     ensures front { IsFront tokens.old tokens.new }
 {
     let mut printed = TokenStream::new(tokens.alloc());
-    posted(&mut printed, x, post)?;
+    posted(&mut printed, x, postfix)?;
     operation(tokens, attrs, printed)
 }
 
@@ -206,19 +216,19 @@ fn range_to<E: HasPrinter>(
     attrs: &Vec<Attribute>,
     limits: &RangeLimits,
     y: &E,
-) -> Grown
-    ensures text { OnOk result (tokens.new ≡ tokens.old ++ whole next.enclosed (adorn (attrs_of attrs.now) (e.lead (e.range_to (limits_kind limits.now)) e.none (E.tree y.now)))) }
+) -> PutResult
+    ensures text { OnOk result (tokens.new ≡ tokens.old ++ whole next.enclosed (attributed_with (attrs_of attrs.now) (e.prefixed (e.range_to (limits_kind limits.now)) e.none (E.tree y.now)))) }
     ensures front { IsFront tokens.old tokens.new }
 {
     let mut printed = TokenStream::new(tokens.alloc());
-    led::<E, E::Pat>(&mut printed, Lead::Range(limits), y)?;
+    prefixed_parts::<E, E::Pat>(&mut printed, Prefix::Range(limits), y)?;
     operation(tokens, attrs, printed)
 }
 
 /// Prints a range without a start and an end, behind its attributes in parentheses.
 #[tactic(auto, using(syn_tokens::proofs::Fronts::fronts, crate::proofs::Shapes::ranges))]
-fn full_range(tokens: &mut TokenStream, attrs: &Vec<Attribute>, limits: &RangeLimits) -> Grown
-    ensures text { OnOk result (tokens.new ≡ tokens.old ++ whole next.enclosed (adorn (attrs_of attrs.now) (e.leaf (e.full_range (limits_kind limits.now))))) }
+fn full_range(tokens: &mut TokenStream, attrs: &Vec<Attribute>, limits: &RangeLimits) -> PutResult
+    ensures text { OnOk result (tokens.new ≡ tokens.old ++ whole next.enclosed (attributed_with (attrs_of attrs.now) (e.leaf (e.full_range (limits_kind limits.now))))) }
     ensures front { IsFront tokens.old tokens.new }
 {
     let mut printed = TokenStream::new(tokens.alloc());
@@ -234,14 +244,14 @@ pub fn range<E: HasPrinter>(
     start: &Option<Box<E>>,
     limits: &RangeLimits,
     end: &Option<Box<E>>,
-) -> Grown
-    ensures text { OnOk result (tokens.new ≡ tokens.old ++ whole next.enclosed (adorn (attrs_of attrs.now) (range_between (limits_kind limits.now) (boxed E.tree start.now) (boxed E.tree end.now)))) }
+) -> PutResult
+    ensures text { OnOk result (tokens.new ≡ tokens.old ++ whole next.enclosed (attributed_with (attrs_of attrs.now) (range_between (limits_kind limits.now) (boxed E.tree start.now) (boxed E.tree end.now)))) }
     ensures front { IsFront tokens.old tokens.new }
 {
     match (start, end) {
         (None, None) => full_range(tokens, attrs, limits),
         (None, Some(y)) => range_to::<E>(tokens, attrs, limits, y),
-        (Some(x), None) => post::<E>(tokens, attrs, x, Post::Range(limits)),
-        (Some(x), Some(y)) => mid::<E>(tokens, attrs, x, Operator::Range(limits), y),
+        (Some(x), None) => postfixed::<E>(tokens, attrs, x, Postfix::Range(limits)),
+        (Some(x), Some(y)) => infixed::<E>(tokens, attrs, x, Operator::Range(limits), y),
     }
 }

@@ -1,25 +1,25 @@
 //! What has its operands in places of their own (Rust Reference, "Array expressions", "Tuple expressions", "Struct
-//! expressions", "`if` expressions", "Loop expressions", "`match` expressions", "Closure expressions"), by what is lent of it.
+//! expressions", "`if` expressions", "Loop expressions", "`match` expressions", "Closure expressions"), by its parts.
 
 ghost use Rattle.std.specs.Prelude.{◌≡◌, ◌++◌, false, is_some, true, OnOk};
-ghost use Rattle.syn_expr_kinds.specs.Node.{before_of, frame_guards, frame_of, framed, operand_kids, operands_of};
+ghost use Rattle.syn_expr_kinds.specs.Node.{before_of, frame_guards, frame_of, framed, operand_children, operands_of};
 ghost use Rattle.syn_expr_kinds.specs.Pats.{strays};
 ghost use Rattle.syn_expr_print.specs.Placed.{needs_last};
 ghost use Rattle.syn_expr_kinds.specs.Printed.{whole};
-ghost use Rattle.syn_expr_print.specs.Printing.{kids_spelled};
+ghost use Rattle.syn_expr_print.specs.Printing.{children_spelled};
 ghost use Rattle.syn_grammar.specs.Next as next;
 ghost use Rattle.syn_grammar.specs.Tree as e;
-ghost use Rattle.syn_grammar.specs.Tree.{adorn, enclosure};
+ghost use Rattle.syn_grammar.specs.Tree.{attributed_with, enclosure};
 ghost use Rattle.syn_tokens.specs.Input.{IsFront};
 
-use crate::noted::note_operands;
+use crate::summarized::summarize_operands;
 use syn_expr_kinds::attrs::put_attributes;
 use syn_expr_kinds::node::{Attributes, Frame, Operands};
-use syn_expr_kinds::put::Grown;
-use syn_expr_print::frames::{is_one, kids, round};
+use syn_expr_kinds::put::PutResult;
+use syn_expr_print::frames::{children, is_one, round};
 use syn_expr_print::print::{HasPrinter, node};
 use syn_expr_put::frame::{put_frame_head, put_framed};
-use syn_expr_put::lead::PutPat;
+use syn_expr_put::prefix::PutPat;
 use syn_tokens::token::Brace;
 use syn_tokens::tree::TokenStream;
 
@@ -32,13 +32,20 @@ fn placed<E: HasPrinter>(
     operands: Operands<'_, E, E::Arm>,
     needs_comma: bool,
     brace: Brace,
-) -> Grown
-    requires framed { operands_of E.tree E.Arm.view operands ≡ framed (operand_kids (operands_of E.tree E.Arm.view operands)) }
-    ensures text { OnOk result (tokens.new ≡ tokens.old ++ kids_spelled needs_comma (operand_kids (operands_of E.tree E.Arm.view operands.entry))) }
+) -> PutResult
+    requires framed { operands_of E.tree E.Arm.view operands ≡ framed (operand_children (operands_of E.tree E.Arm.view operands)) }
+    ensures text { OnOk result (tokens.new ≡ tokens.old ++ children_spelled needs_comma (operand_children (operands_of E.tree E.Arm.view operands.entry))) }
     ensures front { IsFront tokens.old tokens.new }
 {
-    let mut notes = note_operands::<E>(tokens, operands)?;
-    kids(&node::<E>, tokens, &mut notes, operands, needs_comma, brace)
+    let mut summaries = summarize_operands::<E>(tokens, operands)?;
+    children(
+        &node::<E>,
+        tokens,
+        &mut summaries,
+        operands,
+        needs_comma,
+        brace,
+    )
 }
 
 /// Prints a node with a delimiter round its operands, behind its attributes. `needs_comma`: a comma is needed behind the last.
@@ -49,11 +56,11 @@ fn closed<E: HasPrinter, P: PutPat>(
     frame: Frame<'_, P>,
     operands: Operands<'_, E, E::Arm>,
     needs_comma: bool,
-) -> Grown
+) -> PutResult
     requires closed { is_some (enclosure (frame_of P.view frame)) ≡ true }
-    requires framed { operands_of E.tree E.Arm.view operands ≡ framed (operand_kids (operands_of E.tree E.Arm.view operands)) }
-    requires comma { needs_comma ≡ needs_last (frame_of P.view frame) (e.is_one (operand_kids (operands_of E.tree E.Arm.view operands))) }
-    ensures text { OnOk result (tokens.new ≡ tokens.old ++ whole next.enclosed (adorn (before_of attributes.entry) (e.frame (frame_of P.view frame.entry) (strays (frame_guards P.view frame.entry) (operand_kids (operands_of E.tree E.Arm.view operands.entry)))))) }
+    requires framed { operands_of E.tree E.Arm.view operands ≡ framed (operand_children (operands_of E.tree E.Arm.view operands)) }
+    requires comma { needs_comma ≡ needs_last (frame_of P.view frame) (e.is_one (operand_children (operands_of E.tree E.Arm.view operands))) }
+    ensures text { OnOk result (tokens.new ≡ tokens.old ++ whole next.enclosed (attributed_with (before_of attributes.entry) (e.frame (frame_of P.view frame.entry) (strays (frame_guards P.view frame.entry) (operand_children (operands_of E.tree E.Arm.view operands.entry)))))) }
     ensures front { IsFront tokens.old tokens.new }
 {
     let mut inside = TokenStream::new(tokens.alloc());
@@ -72,10 +79,10 @@ fn opened<E: HasPrinter, P: PutPat>(
     frame: Frame<'_, P>,
     operands: Operands<'_, E, E::Arm>,
     brace: Brace,
-) -> Grown
+) -> PutResult
     requires open { is_some (enclosure (frame_of P.view frame)) ≡ false }
-    requires framed { operands_of E.tree E.Arm.view operands ≡ framed (operand_kids (operands_of E.tree E.Arm.view operands)) }
-    ensures text { OnOk result (tokens.new ≡ tokens.old ++ whole next.enclosed (adorn (before_of attributes.entry) (e.frame (frame_of P.view frame.entry) (strays (frame_guards P.view frame.entry) (operand_kids (operands_of E.tree E.Arm.view operands.entry)))))) }
+    requires framed { operands_of E.tree E.Arm.view operands ≡ framed (operand_children (operands_of E.tree E.Arm.view operands)) }
+    ensures text { OnOk result (tokens.new ≡ tokens.old ++ whole next.enclosed (attributed_with (before_of attributes.entry) (e.frame (frame_of P.view frame.entry) (strays (frame_guards P.view frame.entry) (operand_children (operands_of E.tree E.Arm.view operands.entry)))))) }
     ensures front { IsFront tokens.old tokens.new }
 {
     put_attributes(tokens, attributes)?;
@@ -91,9 +98,9 @@ pub fn frame<E: HasPrinter, P: PutPat>(
     attributes: Attributes<'_>,
     frame: Frame<'_, P>,
     operands: Operands<'_, E, E::Arm>,
-) -> Grown
-    requires { operands_of E.tree E.Arm.view operands ≡ framed (operand_kids (operands_of E.tree E.Arm.view operands)) }
-    ensures text { OnOk result (tokens.new ≡ tokens.old ++ whole next.enclosed (adorn (before_of attributes.entry) (e.frame (frame_of P.view frame.entry) (strays (frame_guards P.view frame.entry) (operand_kids (operands_of E.tree E.Arm.view operands.entry)))))) }
+) -> PutResult
+    requires { operands_of E.tree E.Arm.view operands ≡ framed (operand_children (operands_of E.tree E.Arm.view operands)) }
+    ensures text { OnOk result (tokens.new ≡ tokens.old ++ whole next.enclosed (attributed_with (before_of attributes.entry) (e.frame (frame_of P.view frame.entry) (strays (frame_guards P.view frame.entry) (operand_children (operands_of E.tree E.Arm.view operands.entry)))))) }
     ensures front { IsFront tokens.old tokens.new }
 {
     let asked = round(frame, is_one::<E, E::Arm>(operands));

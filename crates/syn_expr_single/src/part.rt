@@ -11,54 +11,54 @@ ghost use Rattle.syn_tokens.specs.Input.{IsFront};
 
 use std::alloc::AllocError;
 use syn_expr_collect::{collect_arm, collect_field};
-use syn_expr_kinds::put::Grown;
+use syn_expr_kinds::put::PutResult;
 use syn_expr_kinds::structure::FieldValueOf;
-use syn_expr_print::notes::Notes;
 use syn_expr_print::print::{HasPrinter, node};
-use syn_expr_print::{choice, structure};
+use syn_expr_print::summaries::Summaries;
+use syn_expr_print::{match_expr, structure};
 use syn_tokens::tree::TokenStream;
 
-/// The notes of the value of a field.
+/// The summaries of the value of a field.
 #[tactic(auto, using(syn_expr_print::proofs::Stacks::ends_all))]
-fn note_field<E: HasPrinter>(
+fn summarize_field<E: HasPrinter>(
     tokens: &TokenStream,
     field: &FieldValueOf<E>,
-) -> Result<Notes, AllocError>
+) -> Result<Summaries, AllocError>
     ensures { IfOk result (λ n. EndsWith n.left.items (field_below (field_value_of E.tree field.now))) }
 {
     let mut visits = 0;
     let mut left = Vec::new(tokens.alloc());
     collect_field(&mut left, &mut visits, field)?;
-    Ok(Notes { left, visits })
+    Ok(Summaries { left, visits })
 }
 
-/// The notes of the value of an arm, and of its guard.
+/// The summaries of the value of an arm, and of its guard.
 #[tactic(auto, using(syn_expr_print::proofs::Stacks::ends_all))]
-fn note_arm<E: HasPrinter>(tokens: &TokenStream, arm: &E::Arm) -> Result<Notes, AllocError>
+fn summarize_arm<E: HasPrinter>(tokens: &TokenStream, arm: &E::Arm) -> Result<Summaries, AllocError>
     ensures { IfOk result (λ n. EndsWith n.left.items (arm_below (E.Arm.view arm.now))) }
 {
     let mut visits = 0;
     let mut left = Vec::new(tokens.alloc());
     collect_arm::<E>(&mut left, &mut visits, arm)?;
-    Ok(Notes { left, visits })
+    Ok(Summaries { left, visits })
 }
 
 /// Prints a field: its attributes and its name or index, and behind a colon its value. No comma stands behind it.
 #[tactic(auto, using(syn_tokens::proofs::Fronts::fronts))]
-pub fn field<E: HasPrinter>(tokens: &mut TokenStream, field: &FieldValueOf<E>) -> Grown
+pub fn field<E: HasPrinter>(tokens: &mut TokenStream, field: &FieldValueOf<E>) -> PutResult
     ensures text { OnOk result (tokens.new ≡ tokens.old ++ field_spelled (field_value_of E.tree field.now)) }
     ensures front { IsFront tokens.old tokens.new }
 {
-    let mut notes = note_field(tokens, field)?;
-    structure::field(&node::<E>, tokens, &mut notes, field)
+    let mut summaries = summarize_field(tokens, field)?;
+    structure::field(&node::<E>, tokens, &mut summaries, field)
 }
 
 /// Prints an arm: its attributes, its pattern, its guard, `=>`, its value, and its comma where it has one.
 #[tactic(auto, using(syn_tokens::proofs::Fronts::fronts, crate::proofs::Parts::arms))]
-pub fn arm<E: HasPrinter>(tokens: &mut TokenStream, arm: &E::Arm) -> Grown
+pub fn arm<E: HasPrinter>(tokens: &mut TokenStream, arm: &E::Arm) -> PutResult
     ensures text { OnOk result (tokens.new ≡ tokens.old ++ (arm_spelled (E.Arm.view arm.now) ++ comma_if (E.Arm.view arm.now).comma)) }
     ensures front { IsFront tokens.old tokens.new }
 {
-    let mut notes = note_arm::<E>(tokens, arm)?;
-    choice::arm(&node::<E>, tokens, &mut notes, arm, false)
+    let mut summaries = summarize_arm::<E>(tokens, arm)?;
+    match_expr::arm(&node::<E>, tokens, &mut summaries, arm, false)
 }

@@ -1,31 +1,31 @@
 //! Trailers behind their bases (Rust Reference, "Call expressions", "Method-call expressions", "Field access expressions",
-//! "Array and array index expressions", "Await expressions", "The question mark operator"), by what is lent of them.
+//! "Array and array index expressions", "Await expressions", "The question mark operator"), by their parts.
 
 ghost use Rattle.std.specs.Prelude.{◌≡◌, ◌++◌, false, map, IfOk, OnOk};
 ghost use Rattle.syn_expr_kinds.specs.Node.{before_of, trailer_of};
 ghost use Rattle.syn_expr_kinds.specs.View as view;
-ghost use Rattle.syn_expr_notes.specs.Label.{trailer_kind};
+ghost use Rattle.syn_expr_summaries.specs.Label.{trailer_kind};
 ghost use Rattle.syn_expr_kinds.specs.Printed.{whole};
-ghost use Rattle.syn_expr_print.specs.Printing.{kids_spelled, spelled, spelled_in};
+ghost use Rattle.syn_expr_print.specs.Printing.{children_spelled, spelled, spelled_in};
 ghost use Rattle.syn_grammar.specs.Next as next;
-ghost use Rattle.syn_grammar.specs.Notes.{base_by, note_of};
+ghost use Rattle.syn_grammar.specs.Summaries.{base_by, summary_of};
 ghost use Rattle.syn_grammar.specs.Tree as e;
-ghost use Rattle.syn_grammar.specs.Tree.{adorn};
+ghost use Rattle.syn_grammar.specs.Tree.{attributed_with};
 ghost use Rattle.syn_lower_lists.specs.View.{values, trails};
 ghost use Rattle.syn_tokens.specs.Input.{IsFront};
 
-use crate::noted::{note_one, note_operands, note_two};
+use crate::summarized::{summarize_one, summarize_operands, summarize_two};
 use std::alloc::AllocError;
 use syn_expr_kinds::attrs::put_attributes;
 use syn_expr_kinds::node::{Attributes, Operands, Trailer};
-use syn_expr_kinds::put::{Grown, grown};
-use syn_expr_notes::context::enclosed;
-use syn_expr_notes::label::TrailerKind;
+use syn_expr_kinds::put::{PutResult, put_result};
 use syn_expr_parts::member::Member;
 use syn_expr_print::operand::{base_of, whole};
 use syn_expr_print::places::elements;
 use syn_expr_print::print::{HasPrinter, node};
 use syn_expr_put::small::put_trailer;
+use syn_expr_summaries::context::enclosed;
+use syn_expr_summaries::label::TrailerKind;
 use syn_lower::punctuated::Punctuated;
 use syn_tokens::token::{Bracket, Comma};
 use syn_tokens::tree::TokenStream;
@@ -48,7 +48,7 @@ fn trailer_kind(trailer: Trailer<'_>) -> TrailerKind
 
 /// Prints a base, and behind it a trailer that holds no operand.
 #[tactic(auto, using(syn_tokens::proofs::Fronts::fronts))]
-fn behind_base<E: HasPrinter>(tokens: &mut TokenStream, base: &E, trailer: Trailer<'_>) -> Grown
+fn behind_base<E: HasPrinter>(tokens: &mut TokenStream, base: &E, trailer: Trailer<'_>) -> PutResult
     ensures text { OnOk result (tokens.new ≡ tokens.old ++ spelled next.enclosed (e.tail (E.tree base.now) (trailer_of trailer.entry) e.none)) }
     ensures front { IsFront tokens.old tokens.new }
 {
@@ -56,9 +56,9 @@ fn behind_base<E: HasPrinter>(tokens: &mut TokenStream, base: &E, trailer: Trail
     let mut end = TokenStream::new(tokens.alloc());
     let held = TokenStream::new(tokens.alloc());
     put_trailer(&mut end, trailer, held)?;
-    let mut notes = note_one(tokens, base)?;
-    base_of(&node::<E>, tokens, &mut notes, base, kind, enclosed())?;
-    grown(tokens.append(end))?;
+    let mut summaries = summarize_one(tokens, base)?;
+    base_of(&node::<E>, tokens, &mut summaries, base, kind, enclosed())?;
+    put_result(tokens.append(end))?;
     Ok(())
 }
 
@@ -69,8 +69,8 @@ pub fn trailed<E: HasPrinter>(
     attributes: Attributes<'_>,
     base: &E,
     trailer: Trailer<'_>,
-) -> Grown
-    ensures text { OnOk result (tokens.new ≡ tokens.old ++ whole next.enclosed (adorn (before_of attributes.entry) (e.tail (E.tree base.now) (trailer_of trailer.entry) e.none))) }
+) -> PutResult
+    ensures text { OnOk result (tokens.new ≡ tokens.old ++ whole next.enclosed (attributed_with (before_of attributes.entry) (e.tail (E.tree base.now) (trailer_of trailer.entry) e.none))) }
     ensures front { IsFront tokens.old tokens.new }
 {
     put_attributes(tokens, attributes)?;
@@ -87,14 +87,14 @@ fn called<E: HasPrinter>(
     kind: TrailerKind,
     args: &Punctuated<E, Comma>,
 ) -> Result<TokenStream, AllocError>
-    ensures text { (k : e.Trailer) → trailer_kind k ≡ kind → OnOk result (tokens.new ≡ tokens.old ++ spelled_in (base_by k (next.base_context k next.enclosed) (note_of (E.tree base.now.value))) (next.base_context k next.enclosed) (E.tree base.now.value)) }
-    ensures held { IfOk result (λ held. held ≡ kids_spelled false (view.elements (map E.tree (values args.now)) (trails args.now))) }
+    ensures text { (k : e.Trailer) → trailer_kind k ≡ kind → OnOk result (tokens.new ≡ tokens.old ++ spelled_in (base_by k (next.base_context k next.enclosed) (summary_of (E.tree base.now.value))) (next.base_context k next.enclosed) (E.tree base.now.value)) }
+    ensures held { IfOk result (λ held. held ≡ children_spelled false (view.elements (map E.tree (values args.now)) (trails args.now))) }
     ensures front { IsFront tokens.old tokens.new }
 {
-    let mut notes = note_operands::<E>(tokens, Operands::Call(base, args))?;
-    base_of::<E, _>(&node::<E>, tokens, &mut notes, base, kind, enclosed())?;
+    let mut summaries = summarize_operands::<E>(tokens, Operands::Call(base, args))?;
+    base_of::<E, _>(&node::<E>, tokens, &mut summaries, base, kind, enclosed())?;
     let mut held = TokenStream::new(tokens.alloc());
-    elements(&node::<E>, &mut held, &mut notes, args, false)?;
+    elements(&node::<E>, &mut held, &mut summaries, args, false)?;
     Ok(held)
 }
 
@@ -105,7 +105,7 @@ fn applied<E: HasPrinter>(
     base: &Box<E>,
     trailer: Trailer<'_>,
     args: &Punctuated<E, Comma>,
-) -> Grown
+) -> PutResult
     ensures text { OnOk result (tokens.new ≡ tokens.old ++ spelled next.enclosed (e.tail (E.tree base.now.value) (trailer_of trailer.entry) (view.elements (map E.tree (values args.now)) (trails args.now)))) }
     ensures front { IsFront tokens.old tokens.new }
 {
@@ -122,8 +122,8 @@ pub fn call<E: HasPrinter>(
     base: &Box<E>,
     trailer: Trailer<'_>,
     args: &Punctuated<E, Comma>,
-) -> Grown
-    ensures text { OnOk result (tokens.new ≡ tokens.old ++ whole next.enclosed (adorn (before_of attributes.entry) (e.tail (E.tree base.now.value) (trailer_of trailer.entry) (view.elements (map E.tree (values args.now)) (trails args.now))))) }
+) -> PutResult
+    ensures text { OnOk result (tokens.new ≡ tokens.old ++ whole next.enclosed (attributed_with (before_of attributes.entry) (e.tail (E.tree base.now.value) (trailer_of trailer.entry) (view.elements (map E.tree (values args.now)) (trails args.now))))) }
     ensures front { IsFront tokens.old tokens.new }
 {
     put_attributes(tokens, attributes)?;
@@ -138,15 +138,15 @@ fn bare_index<E: HasPrinter>(
     base: &E,
     bracket: &Bracket,
     index: &E,
-) -> Grown
-    ensures text { OnOk result (tokens.new ≡ tokens.old ++ spelled next.enclosed (e.tail (E.tree base.now) e.index (e.kid e.value e.no_ending (E.tree index.now) e.none))) }
+) -> PutResult
+    ensures text { OnOk result (tokens.new ≡ tokens.old ++ spelled next.enclosed (e.tail (E.tree base.now) e.index (e.child e.value e.no_ending (E.tree index.now) e.none))) }
     ensures front { IsFront tokens.old tokens.new }
 {
     let kind = TrailerKind::Index;
-    let mut notes = note_two(tokens, base, index)?;
-    base_of(&node::<E>, tokens, &mut notes, base, kind, enclosed())?;
+    let mut summaries = summarize_two(tokens, base, index)?;
+    base_of(&node::<E>, tokens, &mut summaries, base, kind, enclosed())?;
     let mut held = TokenStream::new(tokens.alloc());
-    whole(&node::<E>, &mut held, &mut notes, index, enclosed())?;
+    whole(&node::<E>, &mut held, &mut summaries, index, enclosed())?;
     put_trailer(tokens, Trailer::Index(bracket), held)?;
     Ok(())
 }
@@ -159,8 +159,8 @@ pub fn indexed<E: HasPrinter>(
     base: &E,
     bracket: &Bracket,
     index: &E,
-) -> Grown
-    ensures text { OnOk result (tokens.new ≡ tokens.old ++ whole next.enclosed (adorn (before_of attributes.entry) (e.tail (E.tree base.now) e.index (e.kid e.value e.no_ending (E.tree index.now) e.none)))) }
+) -> PutResult
+    ensures text { OnOk result (tokens.new ≡ tokens.old ++ whole next.enclosed (attributed_with (before_of attributes.entry) (e.tail (E.tree base.now) e.index (e.child e.value e.no_ending (E.tree index.now) e.none)))) }
     ensures front { IsFront tokens.old tokens.new }
 {
     put_attributes(tokens, attributes)?;

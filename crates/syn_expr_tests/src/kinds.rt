@@ -4,7 +4,7 @@ use std::alloc::Global;
 use std::test::Fail;
 use syn_expr::{Error, Expr, HeldExpr, Result, ToTokens, TokenStream, parse_str, to_text};
 
-/// A text of each kind but kept tokens and invisible groups, and of some behind attributes.
+/// A text of each kind but verbatim tokens and invisible groups, and of some behind attributes.
 const KINDS: [&str; 49] = [
     "[a, b]",
     "a = b",

@@ -3,7 +3,7 @@ pub mod Closures
 pub mod PatKinds
 pub mod Orders
 pub mod Owns
-pub mod KeptLeaves
+pub mod VerbatimLeaves
 pub mod Operands
 pub mod Wholes
 pub mod Pats

@@ -339,17 +339,17 @@ rest_behind {P} {S} f d p = by d p.inner.items p.last
     by true [] (Some x) = refl
     by true (q ∷ xs) o = refl
 
-mid_swap : (a b c d : Bool) → ((a && (b && (true && c))) && d) ≡ (a && ((b && d) && c))
-mid_swap true true c true = and_true c
-mid_swap true true c false = and-false c
-mid_swap true false c d = refl
-mid_swap false b c d = refl
+infix_swap : (a b c d : Bool) → ((a && (b && (true && c))) && d) ≡ (a && ((b && d) && c))
+infix_swap true true c true = and_true c
+infix_swap true true c false = and-false c
+infix_swap true false c d = refl
+infix_swap false b c d = refl
 
 pub fits-Struct : {P : Type 0} (f : P → PatView) (b : Bool) (x : PatStructOf P) → fits_behind b (of.pat_struct_of f x) ≡ (path_fits style.Expr (path_of type_of x.path) && (list_all (field_alone f) (values x.fields) && (not (is_some x.rest) || not (is_some x.fields.last))))
 fits-Struct f b x =
     shown b (attributes_of x.attrs) (t.a_struct (path_of type_of x.path) (t.fields_of (map (field_pat_of f) (values x.fields))) (trails x.fields) (is_some x.rest)) (flat_map (λ y. field_guards f y.kind) (values x.fields)) refl
     ∙ rw (fields_end f x.fields, rest_behind f (is_some x.rest) x.fields, fields_alone f (values x.fields))
-    (mid_swap (path_fits style.Expr (path_of type_of x.path)) (fields_fit (t.fields_of (map (field_pat_of f) (values x.fields)))) (not (is_some x.rest) || not (is_some x.fields.last)) (is_nil (flat_map (λ y. field_guards f y.kind) (values x.fields))))
+    (infix_swap (path_fits style.Expr (path_of type_of x.path)) (fields_fit (t.fields_of (map (field_pat_of f) (values x.fields)))) (not (is_some x.rest) || not (is_some x.fields.last)) (is_nil (flat_map (λ y. field_guards f y.kind) (values x.fields))))
 
 pub ruleset structs = (fits-Struct, and_true)
 

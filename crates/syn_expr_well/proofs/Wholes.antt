@@ -4,10 +4,10 @@ use Rattle.syn_parts.specs.Form.{is_nil}
 use Rattle.syn_parts.specs.PatFits.{attributes_outer}
 use Rattle.syn_grammar.specs.Slot as s
 use Rattle.syn_grammar.specs.Slot.{Slot}
-use Rattle.syn_grammar.specs.Stands.{is_adorned}
+use Rattle.syn_grammar.specs.Stands.{is_attributed}
 use Rattle.syn_grammar.specs.Tree as e
-use Rattle.syn_grammar.specs.Tree.{Tree, Kids, Ending, Piece, Trailer, Frame, leaf, paren, adorned, lead, mid, post, tail, frame, none, kid, is_none}
-use Rattle.syn_grammar.specs.WellFormed.{well, kids_well, has_rest, trailer_fits, trailer_slot, frame_fits, frame_slot, lead_fits, piece_fits}
+use Rattle.syn_grammar.specs.Tree.{Tree, Children, Ending, Piece, Trailer, Frame, leaf, paren, attributed, prefixed, infixed, postfixed, tail, frame, none, child, is_none}
+use Rattle.syn_grammar.specs.WellFormed.{well, children_well, has_rest, trailer_fits, trailer_slot, frame_fits, frame_slot, prefix_fits, piece_fits}
 use Rattle.syn_grammar.proofs.Bools.{and_true}
 use Rattle.syn_expr_kinds.specs.Node.{attributes_at, operands_at, stray_trees, without_strays, based_by}
 use Rattle.syn_expr_well.specs.Well.{own_fits, slot_at, dots_at, frame_dots}
@@ -20,7 +20,7 @@ core_well t = own_fits t && operands_well (slot_at t) (dots_at t) (operands_at t
 
 -- ---- before an operand no guards stand, where none may
 
-strays_first : (k : Piece) (c : Ending) (t : Tree) (ks : Kids) → is_none (without_strays (kid k c t ks)) ≡ true → is_nil (stray_trees (kid k c t ks)) ≡ false
+strays_first : (k : Piece) (c : Ending) (t : Tree) (ks : Children) → is_none (without_strays (child k c t ks)) ≡ true → is_nil (stray_trees (child k c t ks)) ≡ false
 strays_first e.stray c t ks h = refl
 strays_first e.element c t ks h = absurd cc
 strays_first e.value c t ks h = absurd cc
@@ -37,9 +37,9 @@ strays_first (e.arm ats p) c t ks h = absurd cc
 strays_first e.output_block c t ks h = absurd cc
 strays_first e.grouped c t ks h = absurd cc
 
-strays_none : (gs : Kids) → is_none (without_strays gs) ≡ true → is_nil (stray_trees gs) ≡ is_none gs
+strays_none : (gs : Children) → is_none (without_strays gs) ≡ true → is_nil (stray_trees gs) ≡ is_none gs
 strays_none none h = refl
-strays_none (kid k c t ks) h = strays_first k c t ks h
+strays_none (child k c t ks) h = strays_first k c t ks h
 
 -- ---- frames
 
@@ -66,96 +66,96 @@ dots_last true false d r = refl
 dots_last false t d r = refl
 
 -- `..` ends the fields where no expression is behind
-frame_split : (k : Frame) (ks : Kids) → frame_fits k ks ≡ (frame_fits k none && not (frame_dots k && has_rest ks))
+frame_split : (k : Frame) (ks : Children) → frame_fits k ks ≡ (frame_fits k none && not (frame_dots k && has_rest ks))
 frame_split e.array ks = refl
 frame_split e.tuple ks = refl
 frame_split e.repeat ks = refl
 frame_split (e.structure q p d) ks = dots_last _ _ d (has_rest ks)
 frame_split (e.closure_block h) ks = sym (and_true _)
-frame_split e.branch ks = refl
+frame_split e.if_expr ks = refl
 frame_split (e.while_loop w) ks = refl
 frame_split (e.for_loop w p) ks = sym (and_true _)
-frame_split e.choice ks = refl
-frame_split e.invisible ks = refl
+frame_split e.match_expr ks = refl
+frame_split e.group_expr ks = refl
 
-abbrev FrameWell : Frame → Kids → Type 0
+abbrev FrameWell : Frame → Children → Type 0
 FrameWell k ks =
-    ((frame_fits k none && is_nil (stray_trees ks)) && (not (frame_dots k && has_rest (without_strays ks)) && kids_well (frame_slot k) (without_strays ks))) ≡ (frame_fits k ks && kids_well (frame_slot k) ks)
+    ((frame_fits k none && is_nil (stray_trees ks)) && (not (frame_dots k && has_rest (without_strays ks)) && children_well (frame_slot k) (without_strays ks))) ≡ (frame_fits k ks && children_well (frame_slot k) ks)
 
-frame_kids : (k : Frame) (ks : Kids) → stray_trees ks ≡ [] → without_strays ks ≡ ks → FrameWell k ks
-frame_kids k ks h i = rw (h, i, frame_split k ks) (by (frame_fits k none) (not (frame_dots k && has_rest ks)) (kids_well (frame_slot k) ks))
+frame_children : (k : Frame) (ks : Children) → stray_trees ks ≡ [] → without_strays ks ≡ ks → FrameWell k ks
+frame_children k ks h i = rw (h, i, frame_split k ks) (by (frame_fits k none) (not (frame_dots k && has_rest ks)) (children_well (frame_slot k) ks))
   where
     by : (a b c : Bool) → ((a && true) && (b && c)) ≡ ((a && b) && c)
     by true b c = refl
     by false b c = refl
 
-frame_stray : (k : Frame) (c : Ending) (t : Tree) (ks : Kids) → FrameWell k (kid e.stray c t ks)
-frame_stray k c t ks = rw (stray_out (frame_slot k) c t) (by (frame_fits k none) (frame_fits k (kid e.stray c t ks)))
+frame_stray : (k : Frame) (c : Ending) (t : Tree) (ks : Children) → FrameWell k (child e.stray c t ks)
+frame_stray k c t ks = rw (stray_out (frame_slot k) c t) (by (frame_fits k none) (frame_fits k (child e.stray c t ks)))
   where
-    by : (a b : Bool) → ((a && false) && (not (frame_dots k && has_rest (without_strays ks)) && kids_well (frame_slot k) (without_strays ks))) ≡ (b && false)
+    by : (a b : Bool) → ((a && false) && (not (frame_dots k && has_rest (without_strays ks)) && children_well (frame_slot k) (without_strays ks))) ≡ (b && false)
     by true true = refl
     by true false = refl
     by false true = refl
     by false false = refl
 
-frame_first : (f : Frame) (k : Piece) (c : Ending) (t : Tree) (ks : Kids) → FrameWell f (kid k c t ks)
+frame_first : (f : Frame) (k : Piece) (c : Ending) (t : Tree) (ks : Children) → FrameWell f (child k c t ks)
 frame_first f e.stray c t ks = frame_stray f c t ks
-frame_first f e.element c t ks = frame_kids f (kid e.element c t ks) refl refl
-frame_first f e.value c t ks = frame_kids f (kid e.value c t ks) refl refl
-frame_first f e.repeated c t ks = frame_kids f (kid e.repeated c t ks) refl refl
-frame_first f (e.field_value ats m b) c t ks = frame_kids f (kid (e.field_value ats m b) c t ks) refl refl
-frame_first f (e.rest d) c t ks = frame_kids f (kid (e.rest d) c t ks) refl refl
-frame_first f e.condition c t ks = frame_kids f (kid e.condition c t ks) refl refl
-frame_first f e.loop_head c t ks = frame_kids f (kid e.loop_head c t ks) refl refl
-frame_first f e.scrutinee c t ks = frame_kids f (kid e.scrutinee c t ks) refl refl
-frame_first f e.chained c t ks = frame_kids f (kid e.chained c t ks) refl refl
-frame_first f (e.guard ats p) c t ks = frame_kids f (kid (e.guard ats p) c t ks) refl refl
-frame_first f e.guarded c t ks = frame_kids f (kid e.guarded c t ks) refl refl
-frame_first f (e.arm ats p) c t ks = frame_kids f (kid (e.arm ats p) c t ks) refl refl
-frame_first f e.output_block c t ks = frame_kids f (kid e.output_block c t ks) refl refl
-frame_first f e.grouped c t ks = frame_kids f (kid e.grouped c t ks) refl refl
+frame_first f e.element c t ks = frame_children f (child e.element c t ks) refl refl
+frame_first f e.value c t ks = frame_children f (child e.value c t ks) refl refl
+frame_first f e.repeated c t ks = frame_children f (child e.repeated c t ks) refl refl
+frame_first f (e.field_value ats m b) c t ks = frame_children f (child (e.field_value ats m b) c t ks) refl refl
+frame_first f (e.rest d) c t ks = frame_children f (child (e.rest d) c t ks) refl refl
+frame_first f e.condition c t ks = frame_children f (child e.condition c t ks) refl refl
+frame_first f e.loop_head c t ks = frame_children f (child e.loop_head c t ks) refl refl
+frame_first f e.scrutinee c t ks = frame_children f (child e.scrutinee c t ks) refl refl
+frame_first f e.chained c t ks = frame_children f (child e.chained c t ks) refl refl
+frame_first f (e.guard ats p) c t ks = frame_children f (child (e.guard ats p) c t ks) refl refl
+frame_first f e.guarded c t ks = frame_children f (child e.guarded c t ks) refl refl
+frame_first f (e.arm ats p) c t ks = frame_children f (child (e.arm ats p) c t ks) refl refl
+frame_first f e.output_block c t ks = frame_children f (child e.output_block c t ks) refl refl
+frame_first f e.grouped c t ks = frame_children f (child e.grouped c t ks) refl refl
 
-frame_is : (k : Frame) (ks : Kids) → FrameWell k ks
-frame_is k none = frame_kids k none refl refl
-frame_is k (kid p c t ks) = frame_first k p c t ks
+frame_is : (k : Frame) (ks : Children) → FrameWell k ks
+frame_is k none = frame_children k none refl refl
+frame_is k (child p c t ks) = frame_first k p c t ks
 
 -- ---- nodes
 
-tail_is : (b : Tree) (k : Trailer) (ks : Kids) → operands_well (trailer_slot k) false (based_by b ks) ≡ (well b && kids_well (trailer_slot k) ks)
+tail_is : (b : Tree) (k : Trailer) (ks : Children) → operands_well (trailer_slot k) false (based_by b ks) ≡ (well b && children_well (trailer_slot k) ks)
 tail_is b k none = refl
-tail_is b k (kid p c t ks) = refl
+tail_is b k (child p c t ks) = refl
 
 core_is : (t : Tree) → is_plain t ≡ true → core_well t ≡ well t
 core_is (leaf k) h = and_true _
 core_is (paren m t) h = and_true (well t)
-core_is (adorned a more t) h = absurd cc
-core_is (lead k gs t) h = rw (strays_none gs h, and_true (well t)) (by (lead_fits k) (is_none gs))
+core_is (attributed a more t) h = absurd cc
+core_is (prefixed k gs t) h = rw (strays_none gs h, and_true (well t)) (by (prefix_fits k) (is_none gs))
   where
     by : (a b : Bool) → ((a && b) && well t) ≡ (a && (b && well t))
     by true b = refl
     by false b = refl
-core_is (mid x k y) h = refl
-core_is (post x k) h = rw (and_true (well x)) refl
+core_is (infixed x k y) h = refl
+core_is (postfixed x k) h = rw (and_true (well x)) refl
 core_is (tail b k ks) h = ap (λ c. trailer_fits k && c) (tail_is b k ks)
 core_is (frame k ks) h = frame_is k ks
 
-plain_bare : (t : Tree) → is_plain t ≡ true → is_adorned t ≡ false
+plain_bare : (t : Tree) → is_plain t ≡ true → is_attributed t ≡ false
 plain_bare (leaf k) h = refl
 plain_bare (paren m t) h = refl
-plain_bare (adorned a more t) h = absurd cc
-plain_bare (lead k gs t) h = refl
-plain_bare (mid x k y) h = refl
-plain_bare (post x k) h = refl
+plain_bare (attributed a more t) h = absurd cc
+plain_bare (prefixed k gs t) h = refl
+plain_bare (infixed x k y) h = refl
+plain_bare (postfixed x k) h = refl
 plain_bare (tail b k ks) h = refl
 plain_bare (frame k ks) h = refl
 
 pub whole-is : (t : Tree) → is_whole t ≡ true → (attributes_outer (attributes_at t) && core_well t) ≡ well t
 whole-is (leaf k) h = core_is (leaf k) h
 whole-is (paren m t) h = core_is (paren m t) h
-whole-is (adorned a more t) h = rw (plain_bare t h, core_is t h) refl
-whole-is (lead k gs t) h = core_is (lead k gs t) h
-whole-is (mid x k y) h = core_is (mid x k y) h
-whole-is (post x k) h = core_is (post x k) h
+whole-is (attributed a more t) h = rw (plain_bare t h, core_is t h) refl
+whole-is (prefixed k gs t) h = core_is (prefixed k gs t) h
+whole-is (infixed x k y) h = core_is (infixed x k y) h
+whole-is (postfixed x k) h = core_is (postfixed x k) h
 whole-is (tail b k ks) h = core_is (tail b k ks) h
 whole-is (frame k ks) h = core_is (frame k ks) h
 

@@ -9,8 +9,8 @@ use Rattle.syn_parts.specs.Part.{has_none}
 use Rattle.syn_parts.specs.Pat as t
 use Rattle.syn_parts.specs.Pat.{PatTree}
 use Rattle.syn_parts.specs.PatFits.{attributes_outer, member_fits, pat_fits, typed_fits, closure_arg_fits}
-use Rattle.syn_grammar.specs.Tree.{Tree, Lead, Frame, none}
-use Rattle.syn_grammar.specs.WellFormed.{lead_fits, frame_fits}
+use Rattle.syn_grammar.specs.Tree.{Tree, Prefix, Frame, none}
+use Rattle.syn_grammar.specs.WellFormed.{prefix_fits, frame_fits}
 use Rattle.syn_pat_kinds.specs.View.{PatView, attributes_of, member_of}
 use Rattle.syn_pat_kinds.specs.declared.pat.FieldPatOf.{FieldPatOf}
 use Rattle.syn_pat_kinds.specs.declared.pat.FieldPatKindOf.{FieldPatKindOf}
@@ -89,8 +89,8 @@ is_name s = not (is_reserved_word s.ident) && has_none s.arguments
 -- ---- what holds patterns
 
 -- what stands before an operand, and a frame without its operands, with the guards in their patterns
-abbrev pub lead_alone : Lead × List Tree → Bool
-lead_alone k = lead_fits k.0 && is_nil k.1
+abbrev pub prefix_alone : Prefix × List Tree → Bool
+prefix_alone k = prefix_fits k.0 && is_nil k.1
 
 abbrev pub frame_alone : Frame × List Tree → Bool
 frame_alone k = frame_fits k.0 none && is_nil k.1

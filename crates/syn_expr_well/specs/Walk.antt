@@ -6,10 +6,10 @@ use Rattle.syn_parts.specs.Pat.{PatTree, guarded}
 use Rattle.syn_parts.specs.PatFits.{attributes_outer, member_fits, pat_fits}
 use Rattle.syn_grammar.specs.Slot.{Slot}
 use Rattle.syn_grammar.specs.Path.{is_word_alone}
-use Rattle.syn_grammar.specs.Stands.{is_branch}
+use Rattle.syn_grammar.specs.Stands.{is_if_expr}
 use Rattle.syn_grammar.specs.Tree as e
 use Rattle.syn_grammar.specs.Tree.{Tree, Leaf, is_none}
-use Rattle.syn_grammar.specs.WellFormed.{well, kids_well, has_rest, may_stop, is_kept_block, is_kept_leaf, is_name_path}
+use Rattle.syn_grammar.specs.WellFormed.{well, children_well, has_rest, may_stop, is_verbatim_block, is_verbatim_leaf, is_name_path}
 use Rattle.syn_expr_kinds.specs.Node.{attributes_at, without_strays, OperandTrees, no_trees, one_tree, two_trees, based, framed}
 use Rattle.syn_expr_kinds.specs.Pats.{ArmView}
 use Rattle.syn_expr_kinds.specs.View.{FieldView}
@@ -23,8 +23,8 @@ abbrev pub operands_well : Slot → Bool → OperandTrees → Bool
 operands_well s dots no_trees = true
 operands_well s dots (one_tree t) = well t && may_stop s
 operands_well s dots (two_trees x y) = well x && well y
-operands_well s dots (based b ks) = well b && kids_well s ks
-operands_well s dots (framed ks) = not (dots && has_rest ks) && kids_well s ks
+operands_well s dots (based b ks) = well b && children_well s ks
+operands_well s dots (framed ks) = not (dots && has_rest ks) && children_well s ks
 
 abbrev pub option_well : Option Tree → Bool
 option_well None = true
@@ -36,7 +36,7 @@ field_well x = attributes_outer x.attrs && (member_fits x.member && ((x.colon ||
 
 -- what stands behind `else`
 abbrev pub chain_well : Tree → Bool
-chain_well t = is_kept_block t || (is_branch t && well t)
+chain_well t = is_verbatim_block t || (is_if_expr t && well t)
 
 abbrev pub else_well : Option Tree → Bool
 else_well None = true
@@ -58,9 +58,9 @@ arm_well x = arm_head x && (option_well (guard_at x) && well x.body)
 -- ---- leaves without attributes
 
 -- the block of its tokens alone
-abbrev pub kept_by : Option Leaf → Bool
-kept_by None = false
-kept_by (Some k) = is_kept_leaf k
+abbrev pub verbatim_by : Option Leaf → Bool
+verbatim_by None = false
+verbatim_by (Some k) = is_verbatim_leaf k
 
 -- a path that is this word
 abbrev pub is_word_leaf : Text → Leaf → Bool
@@ -79,10 +79,10 @@ node_fits t = attributes_outer (attributes_at t) && own_fits t
 
 -- of no node more is told than is lent: attributes stand once before it, and before an operand only guards stand where none may
 abbrev pub is_plain : Tree → Bool
-is_plain (e.adorned a more t) = false
-is_plain (e.lead k gs t) = is_none (without_strays gs)
+is_plain (e.attributed a more t) = false
+is_plain (e.prefixed k gs t) = is_none (without_strays gs)
 is_plain _ = true
 
 abbrev pub is_whole : Tree → Bool
-is_whole (e.adorned a more t) = is_plain t
+is_whole (e.attributed a more t) = is_plain t
 is_whole t = is_plain t

@@ -1,7 +1,7 @@
 //! Whether what a node is but for its operands is read back in its place.
 
 ghost use Rattle.std.specs.Prelude.{◌≡◌};
-ghost use Rattle.syn_expr_kinds.specs.Node.{braces_of, leaf_of, post_of, trailer_of};
+ghost use Rattle.syn_expr_kinds.specs.Node.{braces_of, leaf_of, postfix_of, trailer_of};
 ghost use Rattle.syn_expr_kinds.specs.View.{turbofish_of};
 ghost use Rattle.syn_expr_parts.specs.View.{member_of};
 ghost use Rattle.syn_grammar.specs.Tree as e;
@@ -14,7 +14,7 @@ ghost use Rattle.syn_parts.specs.declared.label.PathStyle.TheVariants as style;
 ghost use Rattle.syn_parts.specs.Part as part;
 
 use syn_expr_kinds::attrs::is_in_order;
-use syn_expr_kinds::node::{Braces, Leaf, Post, Trailer};
+use syn_expr_kinds::node::{Braces, Leaf, Postfix, Trailer};
 use syn_expr_kinds::path::is_word_alone;
 use syn_expr_parts::member::Member;
 use syn_grammar::kinds::Infix;
@@ -99,12 +99,12 @@ pub fn infix_fits(op: Infix) -> bool
 }
 
 /// Whether what stands behind an operand is read back.
-pub fn post_fits(post: Post<'_>) -> bool
-    ensures { result ≡ spec.post_fits (post_of post.entry) }
+pub fn postfix_fits(postfix: Postfix<'_>) -> bool
+    ensures { result ≡ spec.postfix_fits (postfix_of postfix.entry) }
 {
-    match post {
-        Post::Cast(_, ty) => ty.is_read_back(false),
-        Post::Range(limits) => matches!(limits, RangeLimits::HalfOpen(_)),
+    match postfix {
+        Postfix::Cast(_, ty) => ty.is_read_back(false),
+        Postfix::Range(limits) => matches!(limits, RangeLimits::HalfOpen(_)),
     }
 }
 

@@ -2,7 +2,7 @@
 
 ghost use Rattle.std.specs.List.{list_all};
 ghost use Rattle.std.specs.Prelude.{◌≡◌, ◌&&◌, true, not, map, is_some};
-ghost use Rattle.syn_expr_kinds.specs.Node.{closure_of, frame_seen, inputs_of, lead_seen};
+ghost use Rattle.syn_expr_kinds.specs.Node.{closure_of, frame_seen, inputs_of, prefix_seen};
 ghost use Rattle.syn_expr_kinds.specs.Pats.{guards};
 ghost use Rattle.syn_expr_well.specs.Alone as spec;
 ghost use Rattle.syn_grammar.specs.WellFormed.{head_fits};
@@ -11,7 +11,7 @@ ghost use Rattle.syn_parts.specs.Form.{is_nil};
 ghost use Rattle.syn_parts.specs.Part.{is_default};
 
 use crate::fits::path_fits;
-use syn_expr_kinds::node::{Closure, Frame, HasShape, Lead};
+use syn_expr_kinds::node::{Closure, Frame, HasShape, Prefix};
 use syn_expr_parts::modifiers::ClosureModifiers;
 use syn_lower::punctuated::Punctuated;
 use syn_lower::ty::ReturnType;
@@ -81,17 +81,18 @@ fn closure_fits<E: HasPatFits>(closure: Closure<'_, E::Pat>) -> bool
 
 /// Whether what stands before an operand is read back, and no guard stands in its patterns.
 #[tactic(auto, using(crate::proofs::Closures::ends))]
-pub fn lead_fits<E: HasPatFits>(lead: Lead<'_, E::Pat>) -> bool
-    ensures { result ≡ spec.lead_alone (lead_seen E.Pat.view lead.entry) }
+pub fn prefix_fits<E: HasPatFits>(prefix: Prefix<'_, E::Pat>) -> bool
+    ensures { result ≡ spec.prefix_alone (prefix_seen E.Pat.view prefix.entry) }
 {
-    match lead {
-        Lead::Let(_, pat, _) => E::pat_fits(pat),
-        Lead::Closure(closure) => {
+    match prefix {
+        Prefix::Let(_, pat, _) => E::pat_fits(pat),
+        Prefix::Closure(closure) => {
             let has_output = has_output(closure.output);
             closure_fits::<E>(closure) && !has_output
         }
-        Lead::Unary(_) | Lead::Reference(_, _) | Lead::RawAddr(_, _, _) | Lead::Range(_) => true,
-        Lead::Jump(_) => true,
+        Prefix::Unary(_) | Prefix::Reference(_, _) | Prefix::RawAddr(_, _, _) | Prefix::Range(_) =>
+            true,
+        Prefix::Jump(_) => true,
     }
 }
 

@@ -5,11 +5,11 @@ mod attributes;
 mod expr;
 pub mod fits;
 pub mod heads;
-mod kept;
 pub mod own;
 mod pat;
 pub mod patterns;
 pub mod slot;
+mod verbatim;
 pub mod walk;
 
 pub use walk::is_well;

@@ -3,24 +3,24 @@
 ghost use Rattle.std.specs.Prelude.{◌≡◌};
 ghost use Rattle.syn_expr_kinds.specs.Node.{leaf_of};
 ghost use Rattle.syn_expr_well.specs.Well as spec;
-ghost use Rattle.syn_grammar.specs.Stands.{is_branch};
+ghost use Rattle.syn_grammar.specs.Stands.{is_if_expr};
 ghost use Rattle.syn_lower_leaves.specs.View.{mapped};
 
-use crate::fits::{infix_fits, leaf_fits, post_fits, trailer_fits};
-use crate::heads::{HasPatFits, frame_fits, lead_fits};
+use crate::fits::{infix_fits, leaf_fits, postfix_fits, trailer_fits};
+use crate::heads::{HasPatFits, frame_fits, prefix_fits};
 use syn_expr_kinds::node::{HasShape, Leaf};
-use syn_expr_notes::kind::NodeKind;
+use syn_expr_summaries::kind::NodeKind;
 
 /// Whether an operator of this kind of node is read back; where it is none, nothing is asked.
 fn kind_fits(kind: NodeKind) -> bool
     ensures { result ≡ spec.kind_fits kind }
 {
     match kind {
-        NodeKind::Mid(op) => infix_fits(op),
+        NodeKind::Infix(op) => infix_fits(op),
         NodeKind::Leaf(_)
         | NodeKind::Paren
-        | NodeKind::Lead(_)
-        | NodeKind::Post(_)
+        | NodeKind::Prefix(_)
+        | NodeKind::Postfix(_)
         | NodeKind::Tail(_)
         | NodeKind::Frame(_) => true,
     }
@@ -34,11 +34,11 @@ pub fn own_fits<E: HasPatFits>(expr: &E) -> bool
     if let Some(leaf) = expr.leaf() {
         return leaf_fits(leaf);
     }
-    if let Some(lead) = expr.lead() {
-        return lead_fits::<E>(lead);
+    if let Some(prefix) = expr.prefix() {
+        return prefix_fits::<E>(prefix);
     }
-    if let Some(post) = expr.post() {
-        return post_fits(post);
+    if let Some(postfix) = expr.postfix() {
+        return postfix_fits(postfix);
     }
     if let Some(trailer) = expr.trailer() {
         return trailer_fits(trailer);
@@ -62,8 +62,8 @@ pub fn bare_leaf<E: HasShape>(expr: &E) -> Option<Leaf<'_>>
 
 /// Whether it is an `if` without attributes.
 #[tactic(auto, using(crate::proofs::Owns::bares))]
-pub fn is_branch<E: HasShape>(expr: &E) -> bool
-    ensures { result ≡ is_branch (E.tree expr.now) }
+pub fn is_if_expr<E: HasShape>(expr: &E) -> bool
+    ensures { result ≡ is_if_expr (E.tree expr.now) }
 {
     if !expr.attributes().has_none_before() {
         return false;

@@ -5,19 +5,19 @@ ghost use Rattle.std.specs.Prelude.{◌≡◌, is_some, map};
 ghost use Rattle.syn_expr_collect.specs.Arm.{guard_at};
 ghost use Rattle.syn_expr_kinds.specs.Node.{framed, operands_of};
 ghost use Rattle.syn_expr_kinds.specs.View as of;
-ghost use Rattle.syn_expr_kinds.specs.View.{boxed, field_value_of, option_kid};
+ghost use Rattle.syn_expr_kinds.specs.View.{boxed, field_value_of, option_child};
 ghost use Rattle.syn_expr_well.specs.Slots.{dots_of, slot_of};
 ghost use Rattle.syn_expr_well.specs.Walk as spec;
 ghost use Rattle.syn_grammar.specs.Tree as e;
-ghost use Rattle.syn_grammar.specs.WellFormed.{kids_well, well};
+ghost use Rattle.syn_grammar.specs.WellFormed.{children_well, well};
 ghost use Rattle.syn_lower_lists.specs.View.{mapped, trails, values};
 
 use crate::attributes::before_fit;
 use crate::fits::{braces_fit, member_fits};
 use crate::heads::HasPatFits;
-use crate::kept::{is_kept_block, is_name_path};
-use crate::own::{is_branch, own_fits};
+use crate::own::{is_if_expr, own_fits};
 use crate::slot::{Slot, operand_slot};
+use crate::verbatim::{is_name_path, is_verbatim_block};
 use syn_expr_collect::arm::HasArms;
 use syn_expr_kinds::attrs::{all_outer, is_in_order};
 use syn_expr_kinds::node::Operands;
@@ -78,7 +78,7 @@ fn list_well<E: HasWell>(elements: &Punctuated<E, Comma>) -> bool
 #[cycle(is_well)]
 #[tactic(auto, using(crate::proofs::Operands::element_lists))]
 fn elements_well<E: HasWell>(slot: Slot, elements: &Punctuated<E, Comma>) -> bool
-    ensures { result ≡ kids_well (slot_of slot) (of.elements (map E.tree (values elements.now)) (trails elements.now)) }
+    ensures { result ≡ children_well (slot_of slot) (of.elements (map E.tree (values elements.now)) (trails elements.now)) }
 {
     if slot.is_elements() {
         list_well(elements)
@@ -147,7 +147,7 @@ fn fields_well<E: HasWell>(
     dots: &Option<DotDot>,
     rest: &Option<Box<E>>,
 ) -> bool
-    ensures { result ≡ spec.operands_well (slot_of slot) (dots_of slot) (framed (of.fields (map (field_value_of E.tree) (values fields.now)) (trails fields.now) (option_kid (e.rest (is_some dots.now)) (boxed E.tree rest.now)))) }
+    ensures { result ≡ spec.operands_well (slot_of slot) (dots_of slot) (framed (of.fields (map (field_value_of E.tree) (values fields.now)) (trails fields.now) (option_child (e.rest (is_some dots.now)) (boxed E.tree rest.now)))) }
 {
     if slot.is_fields() {
         !(slot.has_dots() && rest.is_some()) && field_list_well(fields) && rest_well(rest)
@@ -161,7 +161,7 @@ fn fields_well<E: HasWell>(
 fn chain_well<E: HasWell>(expr: &E) -> bool
     ensures { result ≡ spec.chain_well (E.tree expr.now) }
 {
-    is_kept_block(expr) || is_branch(expr) && is_well(expr)
+    is_verbatim_block(expr) || is_if_expr(expr) && is_well(expr)
 }
 
 /// Whether what stands behind `else` is read back, if there is such.
@@ -236,7 +236,7 @@ fn operands_well<E: HasWell>(slot: Slot, operands: Operands<'_, E, E::Arm>) -> b
         Operands::Arms(x, attrs, arms) => {
             slot.is_scrutinees() && is_in_order(attrs) && is_well::<E>(x) && arms_well::<E>(arms)
         }
-        Operands::Body(x) => slot.is_outputs() && is_kept_block::<E>(x),
+        Operands::Body(x) => slot.is_outputs() && is_verbatim_block::<E>(x),
     }
 }
 

@@ -20,15 +20,15 @@ use Rattle.syn_grammar.specs.declared.kinds.Place.{Place}
 use Rattle.syn_grammar.specs.declared.kinds.Level.TheVariants as lev
 use Rattle.syn_grammar.specs.Place.{plain, at}
 use Rattle.syn_grammar.specs.Tree as tr
-use Rattle.syn_grammar.specs.Tree.{Tree, Kids, Leaf, leaf, paren, adorned, lead, mid, post, tail, frame, none, adorn}
+use Rattle.syn_grammar.specs.Tree.{Tree, Children, Leaf, leaf, paren, attributed, prefixed, infixed, postfixed, tail, frame, none, attributed_with}
 use Rattle.syn_grammar.specs.Path.{invisible_at, expr_path}
 use Rattle.syn_grammar.specs.Head.{leaf_form, named, to_named, literal_at, range_at, jump_at, loop_at, block_at, const_block_at, async_block_at, try_block_at, builtin_at}
 use Rattle.syn_grammar.specs.Slot as s
-use Rattle.syn_grammar.specs.Stands.{Node, is_leaf, is_become, is_attributed, is_paren, is_adorned_by, is_lead, is_mid, is_post, is_tail, is_indexed, is_frame, Content, holds_within, Stands, leaf_stands, lead_place, may_adorn, is_adorned, is_verbatim_leaf, ends_list, fields_of}
+use Rattle.syn_grammar.specs.Stands.{Node, is_leaf, is_become, is_attributed_verbatim, is_paren, is_attributed_by, is_prefixed, is_infixed, is_postfixed, is_tail, is_indexed, is_frame, Content, holds_within, Stands, leaf_stands, prefix_place, takes_attributes, is_attributed, is_verbatim_leaf, ends_list, fields_of}
 use Rattle.syn_grammar.specs.Read.{Reading, only_if, bare_operands, atom, expr}
 use Rattle.syn_grammar.specs.Alone.{Alone, behind_attributes, unadorned, is_inside, PathAlone, is_path, LitAlone, is_lit, MacroAlone, is_macro, ReferenceAlone, is_reference, StructAlone, is_struct, OfKind, of_kind, ungrouped}
 use Rattle.syn_grammar.specs.Exact.{IsExact}
-use Rattle.syn_grammar.specs.AloneRead.{is_atom, is_plain_leaf, is_plain, AreAtoms, AreAdorned, ArePlain, kind_of, leaf_alone, operand_alone, adorned_alone, path_alone, lit_alone, macro_alone, reference_alone, structure_behind, struct_alone, expr_of_kind}
+use Rattle.syn_grammar.specs.AloneRead.{is_atom, is_plain_leaf, is_plain, AreAtoms, AreAttributed, ArePlain, kind_of, leaf_alone, operand_alone, attributed_alone, path_alone, lit_alone, macro_alone, reference_alone, structure_behind, struct_alone, expr_of_kind}
 use Rattle.syn_grammar.proofs.Chains.{some_is, then_some, only_some, chosen}
 use Rattle.syn_grammar.proofs.GroupForms.{invisible_is}
 use Rattle.syn_grammar.proofs.Needs.{heads}
@@ -39,7 +39,7 @@ use Rattle.syn_grammar.proofs.SoundAtoms.{atom_sound}
 use Rattle.syn_grammar.proofs.ReadAtoms.{leaf_atom, no_pound, ends_is}
 use Rattle.syn_grammar.proofs.ReadOperands.{bare_read}
 use Rattle.syn_grammar.proofs.ReadTrailers.{pound_there}
-use Rattle.syn_grammar.proofs.ReadFrames.{lead_atom, paren_atom, frame_atom}
+use Rattle.syn_grammar.proofs.ReadFrames.{prefix_atom, paren_atom, frame_atom}
 use Rattle.syn_grammar.proofs.Exact.{expr_sound, expr_complete}
 
 -- a reading that gives what stands, and all that does
@@ -63,15 +63,15 @@ fields_no_atom b (i ∷ is) h = fields_no_atom _ is refl
 atom_is : {l n : List Tok} {x : Tree} → Node plain l x n → is_atom x ≡ true → atom expr plain l ≡ Some (x, n)
 atom_is (is_leaf {l = l} {n = n} {k = k} h g) a = leaf_atom expr plain k l n h g
 atom_is (is_become w d e c i) a = absurd cc
-atom_is (is_attributed b bs fs v d i j) a = absurd cc
+atom_is (is_attributed_verbatim b bs fs v d i j) a = absurd cc
 atom_is (is_paren {i = i} {n = n} {x = x} d e c) a =
     paren_atom expr (weight (group del.Parenthesis i ∷ n)) (λ p l m y b s. expr_complete p l y m s) plain i n x (omega arith) d e c
-atom_is (is_adorned_by v f d) a = absurd cc
-atom_is (is_lead {l = l} {m = m} {n = n} {k = k} {x = x} h g d e c) a =
-    lead_atom expr (weight l) (λ p i j y b s. expr_complete p i y j s) plain k l m n x h g
-    (expr_complete (lead_place plain k) m x n (record { node = d; ending = e; closing = c }))
-atom_is (is_mid d c f i t g r e q b) a = absurd cc
-atom_is (is_post d c f i t v g b) a = absurd cc
+atom_is (is_attributed_by v f d) a = absurd cc
+atom_is (is_prefixed {l = l} {m = m} {n = n} {k = k} {x = x} h g d e c) a =
+    prefix_atom expr (weight l) (λ p i j y b s. expr_complete p i y j s) plain k l m n x h g
+    (expr_complete (prefix_place plain k) m x n (record { node = d; ending = e; closing = c }))
+atom_is (is_infixed d c f i t g r e q b) a = absurd cc
+atom_is (is_postfixed d c f i t v g b) a = absurd cc
 atom_is (is_tail d f h c i) a = absurd cc
 atom_is (is_indexed {b = b} {i = i} {is = is} d f h j) a =
     absurd (cc (j, a, fields_no_atom (tail b (tr.field (an_index i)) none) is refl))
@@ -96,35 +96,35 @@ module _ (is : Tree → Bool) (atoms : AreAtoms is) where
 
 -- ---- what a reader of a kind asks of an operand that was read
 
-bare_is : (x : Tree) → is_adorned x ≡ false → unadorned x ≡ x
-bare_is (adorned a bs x) h = absurd cc
+bare_is : (x : Tree) → is_attributed x ≡ false → unadorned x ≡ x
+bare_is (attributed a bs x) h = absurd cc
 bare_is _ h = refl
 
-fields_bare : (b : Tree) (is : List ℕ) → is_adorned b ≡ false → is_adorned (fields_of b is) ≡ false
+fields_bare : (b : Tree) (is : List ℕ) → is_attributed b ≡ false → is_attributed (fields_of b is) ≡ false
 fields_bare b [] h = h
 fields_bare b (i ∷ is) h = fields_bare _ is refl
 
-adorned_pound : {l n : List Tok} {x : Tree} → Node plain l x n → is_adorned x ≡ true → pound.at l ≡ true
-adorned_pound (is_adorned_by {l = l} {m = m} {a = a} {more = bs} v f d) b = pound_there a bs l m v
-adorned_pound (is_leaf h g) b = absurd cc
-adorned_pound (is_become w d e c i) b = absurd cc
-adorned_pound (is_attributed v vs fs w d i j) b = absurd cc
-adorned_pound (is_paren d e c) b = absurd cc
-adorned_pound (is_lead h g d e c) b = absurd cc
-adorned_pound (is_mid d c f i t g r e q v) b = absurd cc
-adorned_pound (is_post d c f i t v g w) b = absurd cc
-adorned_pound (is_tail d f h c i) b = absurd cc
-adorned_pound (is_indexed {b = v} {i = i} {is = more} d f h j) b =
+attributed_pound : {l n : List Tok} {x : Tree} → Node plain l x n → is_attributed x ≡ true → pound.at l ≡ true
+attributed_pound (is_attributed_by {l = l} {m = m} {a = a} {more = bs} v f d) b = pound_there a bs l m v
+attributed_pound (is_leaf h g) b = absurd cc
+attributed_pound (is_become w d e c i) b = absurd cc
+attributed_pound (is_attributed_verbatim v vs fs w d i j) b = absurd cc
+attributed_pound (is_paren d e c) b = absurd cc
+attributed_pound (is_prefixed h g d e c) b = absurd cc
+attributed_pound (is_infixed d c f i t g r e q v) b = absurd cc
+attributed_pound (is_postfixed d c f i t v g w) b = absurd cc
+attributed_pound (is_tail d f h c i) b = absurd cc
+attributed_pound (is_indexed {b = v} {i = i} {is = more} d f h j) b =
     absurd (cc (j, b, fields_bare (tail v (tr.field (an_index i)) none) more refl))
-adorned_pound (is_frame v c g e) b = absurd cc
+attributed_pound (is_frame v c g e) b = absurd cc
 
 -- no attributes stand before it
-atom_bare : (l : List Tok) (x : Tree) (n : List Tok) → atom expr plain l ≡ Some (x, n) → is_adorned x ≡ false
-atom_bare l x n h = go (is_adorned x) refl
+atom_bare : (l : List Tok) (x : Tree) (n : List Tok) → atom expr plain l ≡ Some (x, n) → is_attributed x ≡ false
+atom_bare l x n h = go (is_attributed x) refl
   where
-    go : (b : Bool) → is_adorned x ≡ b → b ≡ false
+    go : (b : Bool) → is_attributed x ≡ b → b ≡ false
     go false e = refl
-    go true e = absurd (cc (no_pound expr plain l (x, n) h, adorned_pound (atom_sound heads expr expr_sound plain l (x, n) h) e))
+    go true e = absurd (cc (no_pound expr plain l (x, n) h, attributed_pound (atom_sound heads expr expr_sound plain l (x, n) h) e))
 
 module _ (is : Tree → Bool) (l : List Tok) where
   pub operand_found : (x : Tree) (n : List Tok) → atom expr plain l ≡ Some (x, n) → is (unadorned x) ≡ true → operand_alone is l ≡ Some (x, n)
@@ -140,12 +140,12 @@ module _ (is : Tree → Bool) (l : List Tok) where
   operand_none h = rw h refl
 
 -- no attributes stand before what was read
-pub operand_bare : (is : Tree → Bool) (l n : List Tok) (x : Tree) → operand_alone is l ≡ Some (x, n) → is_adorned x ≡ false
+pub operand_bare : (is : Tree → Bool) (l n : List Tok) (x : Tree) → operand_alone is l ≡ Some (x, n) → is_attributed x ≡ false
 unfolding operand_alone
 operand_bare is l n x h =
     let (z, i, f) = then_some (atom expr plain l) (kind_of is) (x, n) h in
     let (a, b) = only_some (is z.0) (Some (z.0, z.1)) (x, n) f in
-    subst (λ (q : Tree × List Tok). is_adorned q.0 ≡ false) (some_is b) (atom_bare l z.0 z.1 i)
+    subst (λ (q : Tree × List Tok). is_attributed q.0 ≡ false) (some_is b) (atom_bare l z.0 z.1 i)
 
 pub ruleset bares = (operand_bare)
 
@@ -169,14 +169,14 @@ plain_atom (leaf k) h = atom_leaf k h
     atom_leaf _ h = refl
 plain_atom _ h = absurd cc
 
-pub plain_adorns : (x : Tree) → is_plain x ≡ true → may_adorn plain x ≡ true
-plain_adorns (leaf k) h = adorns_leaf k h
+pub plain_takes_attributes : (x : Tree) → is_plain x ≡ true → takes_attributes plain x ≡ true
+plain_takes_attributes (leaf k) h = takes_attributes_leaf k h
   where
-    adorns_leaf : (k : Leaf) → is_plain_leaf k ≡ true → may_adorn plain (leaf k) ≡ true
-    adorns_leaf (tr.verbatim ts) h = absurd cc
-    adorns_leaf (tr.full_range op) h = absurd cc
-    adorns_leaf _ h = refl
-plain_adorns _ h = absurd cc
+    takes_attributes_leaf : (k : Leaf) → is_plain_leaf k ≡ true → takes_attributes plain (leaf k) ≡ true
+    takes_attributes_leaf (tr.verbatim ts) h = absurd cc
+    takes_attributes_leaf (tr.full_range op) h = absurd cc
+    takes_attributes_leaf _ h = refl
+plain_takes_attributes _ h = absurd cc
 
 fields_no_leaf : (b : Tree) (is : List ℕ) → is_plain b ≡ false → is_plain (fields_of b is) ≡ false
 fields_no_leaf b [] h = h
@@ -203,12 +203,12 @@ module _ (is : Tree → Bool) (plains : ArePlain is) where
   unfolding leaf_alone
   leaf_read_is (is_leaf {l = l} {n = n} {k = k} h g) a b = rw (heads.leaves.found l k n h, a) refl
   leaf_read_is (is_become w d e c i) a b = absurd cc
-  leaf_read_is (is_attributed v vs fs w d i j) a b = absurd cc
+  leaf_read_is (is_attributed_verbatim v vs fs w d i j) a b = absurd cc
   leaf_read_is (is_paren d e c) a b = absurd cc
-  leaf_read_is (is_adorned_by v f d) a b = absurd cc
-  leaf_read_is (is_lead h g d e c) a b = absurd cc
-  leaf_read_is (is_mid d c f i t g r e q v) a b = absurd cc
-  leaf_read_is (is_post d c f i t v g w) a b = absurd cc
+  leaf_read_is (is_attributed_by v f d) a b = absurd cc
+  leaf_read_is (is_prefixed h g d e c) a b = absurd cc
+  leaf_read_is (is_infixed d c f i t g r e q v) a b = absurd cc
+  leaf_read_is (is_postfixed d c f i t v g w) a b = absurd cc
   leaf_read_is (is_tail d f h c i) a b = absurd cc
   leaf_read_is (is_indexed {b = v} {i = i} {is = more} d f h j) a b =
       absurd (cc (j, b, fields_no_leaf (tail v (tr.field (an_index i)) none) more refl))
@@ -244,51 +244,51 @@ none_behind : (l m : List Tok) → outer_attributes.behind [] l ≡ Some m → l
 unfolding outer_attributes more fix iterate
 none_behind l m g = ⊎_elim (λ j. absurd cc) (λ j. some_is j.1) (chosen (pound.at l) _ (Some l) (Some m) g)
 
-adorns_bare : (x : Tree) → may_adorn plain x ≡ true → is_adorned x ≡ false
-adorns_bare (adorned a more x) h = absurd cc
-adorns_bare _ h = refl
+takes_attributes_bare : (x : Tree) → takes_attributes plain x ≡ true → is_attributed x ≡ false
+takes_attributes_bare (attributed a more x) h = absurd cc
+takes_attributes_bare _ h = refl
 
 module _ (is : Tree → Bool) (inner : Reading Tree) (exact : IsExact inner (Alone is))
-    (atoms : AreAtoms is) (adorns : AreAdorned is) where
-  behind_them : (ats : List AttributeTree) (l m n : List Tok) (x : Tree) → outer_attributes.behind ats l ≡ Some m → Alone is m x n → Alone (behind_attributes is) l (adorn ats x) n
+    (atoms : AreAtoms is) (takes_attributes_there : AreAttributed is) where
+  behind_them : (ats : List AttributeTree) (l m n : List Tok) (x : Tree) → outer_attributes.behind ats l ≡ Some m → Alone is m x n → Alone (behind_attributes is) l (attributed_with ats x) n
   behind_them [] l m n x g (d, a) =
-      (subst (λ z. Node plain z x n) (sym (none_behind l m g)) d, ap is (bare_is x (adorns_bare x (adorns x a))) ∙ a)
-  behind_them (b ∷ bs) l m n x g (d, a) = (is_adorned_by g (adorns x a) d, a)
+      (subst (λ z. Node plain z x n) (sym (none_behind l m g)) d, ap is (bare_is x (takes_attributes_bare x (takes_attributes_there x a))) ∙ a)
+  behind_them (b ∷ bs) l m n x g (d, a) = (is_attributed_by g (takes_attributes_there x a) d, a)
 
-  adorned_sound : (l : List Tok) (x : Tree) (n : List Tok) → adorned_alone inner l ≡ Some (x, n) → Alone (behind_attributes is) l x n
-  unfolding adorned_alone
-  adorned_sound l x n h =
-      let (z, i, f) = then_some (outer_attributes.reads l) (λ ats m. and_then (inner m) (λ y o. Some (adorn ats y, o))) (x, n) h in
-      let (y, j, g) = then_some (inner z.1) (λ y o. Some (adorn z.0 y, o)) (x, n) f in
+  attributed_sound : (l : List Tok) (x : Tree) (n : List Tok) → attributed_alone inner l ≡ Some (x, n) → Alone (behind_attributes is) l x n
+  unfolding attributed_alone
+  attributed_sound l x n h =
+      let (z, i, f) = then_some (outer_attributes.reads l) (λ ats m. and_then (inner m) (λ y o. Some (attributed_with ats y, o))) (x, n) h in
+      let (y, j, g) = then_some (inner z.1) (λ y o. Some (attributed_with z.0 y, o)) (x, n) f in
       subst (λ (q : Tree × List Tok). Alone (behind_attributes is) l q.0 q.1) (some_is g)
       (behind_them z.0 l z.1 y.1 y.0 (heads.outers.sound l z.0 z.1 i) (exact.sound z.1 y.0 y.1 j))
 
-  bare_read_is : (l : List Tok) (x : Tree) (n : List Tok) → Node plain l x n → is_adorned x ≡ false → is (unadorned x) ≡ true → adorned_alone inner l ≡ Some (x, n)
-  unfolding adorned_alone
+  bare_read_is : (l : List Tok) (x : Tree) (n : List Tok) → Node plain l x n → is_attributed x ≡ false → is (unadorned x) ≡ true → attributed_alone inner l ≡ Some (x, n)
+  unfolding attributed_alone
   bare_read_is l x n d b a =
       let c : is x ≡ true = ap is (sym (bare_is x b)) ∙ a in
       let p = no_pound expr plain l (x, n) (atom_is d (atoms x c)) in
       rw (heads.outers.found l [] l (attributes_back [] l refl p), exact.complete l x n (d, c)) refl
 
-  adorned_read_is : {l n : List Tok} {x : Tree} → Node plain l x n → is (unadorned x) ≡ true → adorned_alone inner l ≡ Some (x, n)
-  unfolding adorned_alone
-  adorned_read_is (is_adorned_by {l = l} {m = m} {n = n} {a = b} {more = more} {x = x} v f d) a =
+  attributed_read_is : {l n : List Tok} {x : Tree} → Node plain l x n → is (unadorned x) ≡ true → attributed_alone inner l ≡ Some (x, n)
+  unfolding attributed_alone
+  attributed_read_is (is_attributed_by {l = l} {m = m} {n = n} {a = b} {more = more} {x = x} v f d) a =
       rw (heads.outers.found l (b ∷ more) m v, exact.complete m x n (d, a)) refl
-  adorned_read_is {l} {n} {x} (is_leaf h g) a = bare_read_is l x n (is_leaf h g) refl a
-  adorned_read_is {l} {n} {x} (is_become w d e c i) a = bare_read_is l x n (is_become w d e c i) refl a
-  adorned_read_is {l} {n} {x} (is_attributed v vs fs w d i j) a = bare_read_is l x n (is_attributed v vs fs w d i j) refl a
-  adorned_read_is {l} {n} {x} (is_paren d e c) a = bare_read_is l x n (is_paren d e c) refl a
-  adorned_read_is {l} {n} {x} (is_lead h g d e c) a = bare_read_is l x n (is_lead h g d e c) refl a
-  adorned_read_is {l} {n} {x} (is_mid d c f i t g r e q v) a = bare_read_is l x n (is_mid d c f i t g r e q v) refl a
-  adorned_read_is {l} {n} {x} (is_post d c f i t v g w) a = bare_read_is l x n (is_post d c f i t v g w) refl a
-  adorned_read_is {l} {n} {x} (is_tail d f h c i) a = bare_read_is l x n (is_tail d f h c i) refl a
-  adorned_read_is {l} {n} {x} (is_indexed {b = v} {i = i} {is = more} d f h j) a =
-      bare_read_is l x n (is_indexed d f h j) (ap is_adorned j ∙ fields_bare (tail v (tr.field (an_index i)) none) more refl) a
-  adorned_read_is {l} {n} {x} (is_frame v c g e) a = bare_read_is l x n (is_frame v c g e) refl a
+  attributed_read_is {l} {n} {x} (is_leaf h g) a = bare_read_is l x n (is_leaf h g) refl a
+  attributed_read_is {l} {n} {x} (is_become w d e c i) a = bare_read_is l x n (is_become w d e c i) refl a
+  attributed_read_is {l} {n} {x} (is_attributed_verbatim v vs fs w d i j) a = bare_read_is l x n (is_attributed_verbatim v vs fs w d i j) refl a
+  attributed_read_is {l} {n} {x} (is_paren d e c) a = bare_read_is l x n (is_paren d e c) refl a
+  attributed_read_is {l} {n} {x} (is_prefixed h g d e c) a = bare_read_is l x n (is_prefixed h g d e c) refl a
+  attributed_read_is {l} {n} {x} (is_infixed d c f i t g r e q v) a = bare_read_is l x n (is_infixed d c f i t g r e q v) refl a
+  attributed_read_is {l} {n} {x} (is_postfixed d c f i t v g w) a = bare_read_is l x n (is_postfixed d c f i t v g w) refl a
+  attributed_read_is {l} {n} {x} (is_tail d f h c i) a = bare_read_is l x n (is_tail d f h c i) refl a
+  attributed_read_is {l} {n} {x} (is_indexed {b = v} {i = i} {is = more} d f h j) a =
+      bare_read_is l x n (is_indexed d f h j) (ap is_attributed j ∙ fields_bare (tail v (tr.field (an_index i)) none) more refl) a
+  attributed_read_is {l} {n} {x} (is_frame v c g e) a = bare_read_is l x n (is_frame v c g e) refl a
 
   -- behind attributes or none
-  pub adorned_exact : IsExact (adorned_alone inner) (Alone (behind_attributes is))
-  adorned_exact = exactly adorned_sound (λ l x n s. adorned_read_is s.0 s.1) (λ l x n s. node_less s.0)
+  pub attributed_exact : IsExact (attributed_alone inner) (Alone (behind_attributes is))
+  attributed_exact = exactly attributed_sound (λ l x n s. attributed_read_is s.0 s.1) (λ l x n s. node_less s.0)
 
 -- ---- by the forms of their parts
 
@@ -328,17 +328,17 @@ pub macro_exact : IsExact macro_alone MacroAlone
 macro_exact = exactly macro_sound macro_complete macro_less
 
 path_sound : (l : List Tok) (x : Tree) (n : List Tok) → path_alone l ≡ Some (x, n) → PathAlone l x n
-unfolding path_alone adorned_alone
+unfolding path_alone attributed_alone
 path_sound l x n h =
     let (z, i, f) = then_some (outer_attributes.reads l)
-    (λ ats m. and_then (and_then ((qpath type style.Expr).reads m) (λ q o. Some (leaf (tr.path q.0 q.1), o))) (λ y o. Some (adorn ats y, o))) (x, n) h in
-    let (y, j, g) = then_some (and_then ((qpath type style.Expr).reads z.1) (λ q o. Some (leaf (tr.path q.0 q.1), o))) (λ y o. Some (adorn z.0 y, o)) (x, n) f in
+    (λ ats m. and_then (and_then ((qpath type style.Expr).reads m) (λ q o. Some (leaf (tr.path q.0 q.1), o))) (λ y o. Some (attributed_with ats y, o))) (x, n) h in
+    let (y, j, g) = then_some (and_then ((qpath type style.Expr).reads z.1) (λ q o. Some (leaf (tr.path q.0 q.1), o))) (λ y o. Some (attributed_with z.0 y, o)) (x, n) f in
     let (q, k, e) = shown (qpath type style.Expr) (λ q. leaf (tr.path q.0 q.1)) z.1 y.0 y.1 j in
     subst (λ (r : Tree × List Tok). PathAlone l r.0 r.1) (some_is g)
-    (subst (λ w. PathAlone l (adorn z.0 w) y.1) e (is_path z.0 q.0 q.1 (heads.outers.sound l z.0 z.1 i) (heads.qpaths.sound z.1 q y.1 k)))
+    (subst (λ w. PathAlone l (attributed_with z.0 w) y.1) e (is_path z.0 q.0 q.1 (heads.outers.sound l z.0 z.1 i) (heads.qpaths.sound z.1 q y.1 k)))
 
 path_complete : (l : List Tok) (x : Tree) (n : List Tok) → PathAlone l x n → path_alone l ≡ Some (x, n)
-unfolding path_alone adorned_alone
+unfolding path_alone attributed_alone
 path_complete l x n (is_path {m = m} ats q w a b) = rw (heads.outers.found l ats m a, heads.qpaths.found m (q, w) n b) refl
 
 path_less : (l : List Tok) (x : Tree) (n : List Tok) → PathAlone l x n → IsLess n l
@@ -356,8 +356,8 @@ reference_sound : (l : List Tok) (x : Tree) (n : List Tok) → reference_alone l
 unfolding reference_alone
 reference_sound l x n h =
     let (a, b) = only_some (and.at l) _ (x, n) h in
-    let (z, i, f) = then_some ((flag mutable).reads (drop and.count l)) (λ b. (λ m. and_then (expr (at plain lev.Prefix) m) (λ y o. Some (lead (tr.reference b) none y, o)))) (x, n) b in
-    let (y, j, g) = then_some (expr (at plain lev.Prefix) z.1) (λ y o. Some (lead (tr.reference z.0) none y, o)) (x, n) f in
+    let (z, i, f) = then_some ((flag mutable).reads (drop and.count l)) (λ b. (λ m. and_then (expr (at plain lev.Prefix) m) (λ y o. Some (prefixed (tr.reference b) none y, o)))) (x, n) b in
+    let (y, j, g) = then_some (expr (at plain lev.Prefix) z.1) (λ y o. Some (prefixed (tr.reference z.0) none y, o)) (x, n) f in
     subst (λ (r : Tree × List Tok). ReferenceAlone l r.0 r.1) (some_is g)
     (is_reference a (mutability.sound (drop and.count l) z.0 z.1 i) (expr_sound (at plain lev.Prefix) z.1 y.0 y.1 j))
 
@@ -385,7 +385,7 @@ braces_sound q l m x n a h =
     subst (λ (r : Tree × List Tok). StructAlone l r.0 r.1) (some_is c)
     (is_struct a (holds_within i (bare_sound heads expr expr_sound s.fields z.0 k j) b))
 
-braces_complete : (q : QPathTree) (d : Bool) (l n : List Tok) (ks : Kids) → Content (s.within del.Brace s.fields d) l ks n → structure_behind q l ≡ Some (frame (tr.structure q.0 q.1 d) ks, n)
+braces_complete : (q : QPathTree) (d : Bool) (l n : List Tok) (ks : Children) → Content (s.within del.Brace s.fields d) l ks n → structure_behind q l ≡ Some (frame (tr.structure q.0 q.1 d) ks, n)
 unfolding structure_behind
 braces_complete q d l n ks (holds_within {i = i} {o = o} g c e) =
     let v : d ≡ not (is_empty o) = ends_is d o e in
@@ -444,18 +444,18 @@ leaf_left is l n x h =
     let (a, b) = only_some (is (leaf z.0)) (Some (leaf z.0, z.1)) (x, n) f in
     subst (λ (q : Tree × List Tok). IsTail q.1 l) (some_is b) (left here.leaves z.0 l z.1 (heads.leaves.sound l z.0 z.1 i))
 
-adorned_tail : (inner : Reading Tree) → ((l n : List Tok) (x : Tree) → inner l ≡ Some (x, n) → IsTail n l) → (l n : List Tok) (x : Tree) → adorned_alone inner l ≡ Some (x, n) → IsTail n l
-unfolding adorned_alone
-adorned_tail inner tails l n x h =
-    let (z, i, f) = then_some (outer_attributes.reads l) (λ ats m. and_then (inner m) (λ y o. Some (adorn ats y, o))) (x, n) h in
-    let (y, j, g) = then_some (inner z.1) (λ y o. Some (adorn z.0 y, o)) (x, n) f in
+attributed_tail : (inner : Reading Tree) → ((l n : List Tok) (x : Tree) → inner l ≡ Some (x, n) → IsTail n l) → (l n : List Tok) (x : Tree) → attributed_alone inner l ≡ Some (x, n) → IsTail n l
+unfolding attributed_alone
+attributed_tail inner tails l n x h =
+    let (z, i, f) = then_some (outer_attributes.reads l) (λ ats m. and_then (inner m) (λ y o. Some (attributed_with ats y, o))) (x, n) h in
+    let (y, j, g) = then_some (inner z.1) (λ y o. Some (attributed_with z.0 y, o)) (x, n) f in
     subst (λ (q : Tree × List Tok). IsTail q.1 l) (some_is g) (tail_then (left here.outer z.0 l z.1 (heads.outers.sound l z.0 z.1 i)) (tails z.1 y.1 y.0 j))
 
-pub adorned_operand_left : (is : Tree → Bool) (l n : List Tok) (x : Tree) → adorned_alone (operand_alone is) l ≡ Some (x, n) → IsTail n l
-adorned_operand_left is = adorned_tail (operand_alone is) (operand_left is)
+pub attributed_operand_left : (is : Tree → Bool) (l n : List Tok) (x : Tree) → attributed_alone (operand_alone is) l ≡ Some (x, n) → IsTail n l
+attributed_operand_left is = attributed_tail (operand_alone is) (operand_left is)
 
-pub adorned_leaf_left : (is : Tree → Bool) (l n : List Tok) (x : Tree) → adorned_alone (leaf_alone is) l ≡ Some (x, n) → IsTail n l
-adorned_leaf_left is = adorned_tail (leaf_alone is) (leaf_left is)
+pub attributed_leaf_left : (is : Tree → Bool) (l n : List Tok) (x : Tree) → attributed_alone (leaf_alone is) l ≡ Some (x, n) → IsTail n l
+attributed_leaf_left is = attributed_tail (leaf_alone is) (leaf_left is)
 
 pub path_left : (l n : List Tok) (x : Tree) → path_alone l ≡ Some (x, n) → IsTail n l
 path_left l n x h = path_exact.tail l x n h
@@ -472,4 +472,4 @@ reference_left l n x h = reference_exact.tail l x n h
 pub struct_left : (l n : List Tok) (x : Tree) → struct_alone l ≡ Some (x, n) → IsTail n l
 struct_left l n x h = struct_exact.tail l x n h
 
-pub ruleset tails = (operand_left, leaf_left, adorned_operand_left, adorned_leaf_left, path_left, lit_left, macro_left, reference_left, struct_left)
+pub ruleset tails = (operand_left, leaf_left, attributed_operand_left, attributed_leaf_left, path_left, lit_left, macro_left, reference_left, struct_left)

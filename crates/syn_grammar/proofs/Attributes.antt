@@ -8,7 +8,7 @@ use Rattle.syn_parts.specs.Own.{attribute_own}
 use Rattle.syn_parts.specs.PatOwn.{attributes_own}
 use Rattle.syn_parts.specs.PatFits.{attributes_outer}
 use Rattle.syn_grammar.specs.Tree as e
-use Rattle.syn_grammar.specs.Tree.{Tree, Kids, Leaf, Frame, leaf, paren, adorned, lead, mid, post, tail, frame, none, kid, adorn, outers, inners, from_inner, has_braces, frame_has_braces, kids_inner, kids_with, frame_with, frame_inner, inner_in, with_inner, outside, with_attributes, prepend}
+use Rattle.syn_grammar.specs.Tree.{Tree, Children, Leaf, Frame, leaf, paren, attributed, prefixed, infixed, postfixed, tail, frame, none, child, attributed_with, outers, inners, from_inner, has_braces, frame_has_braces, children_inner, children_with, frame_with, frame_inner, inner_in, with_inner, outside, with_attributes, prepend}
 use Rattle.syn_grammar.specs.Stands.{is_verbatim_leaf}
 use Rattle.syn_grammar.specs.WellFormed.{attributes_inner}
 use Rattle.syn_grammar.proofs.Bools.{both_true, both}
@@ -72,20 +72,20 @@ outer_both (a ∷ more) ys h k =
 
 -- ---- in braces
 
-kids_same : (ks : Kids) → kids_with (kids_inner ks) ks ≡ ks
-kids_same none = refl
-kids_same (kid k (e.braced b) t ks) = refl
-kids_same (kid k (e.opened ats) t ks) = refl
-kids_same (kid k e.no_ending t ks) = ap (kid k e.no_ending t) (kids_same ks)
-kids_same (kid k e.comma t ks) = ap (kid k e.comma t) (kids_same ks)
+children_same : (ks : Children) → children_with (children_inner ks) ks ≡ ks
+children_same none = refl
+children_same (child k (e.braced b) t ks) = refl
+children_same (child k (e.opened ats) t ks) = refl
+children_same (child k e.no_ending t ks) = ap (child k e.no_ending t) (children_same ks)
+children_same (child k e.comma t ks) = ap (child k e.comma t) (children_same ks)
 
-frame_same : (b : Bool) (ks : Kids) → (if b then kids_with (if b then kids_inner ks else []) ks else ks) ≡ ks
-frame_same true ks = kids_same ks
+frame_same : (b : Bool) (ks : Children) → (if b then children_with (if b then children_inner ks else []) ks else ks) ≡ ks
+frame_same true ks = children_same ks
 frame_same false ks = refl
 
 leaf_same : (k : Leaf) → with_inner (inner_in (leaf k)) (leaf k) ≡ leaf k
 leaf_same (e.block label b) = refl
-leaf_same (e.looping label b) = refl
+leaf_same (e.loop_expr label b) = refl
 leaf_same (e.unsafe_block b) = refl
 leaf_same (e.const_block b) = refl
 leaf_same _ = refl
@@ -97,21 +97,21 @@ with_inner_same (frame k ks) = ap (frame k) (frame_same (frame_has_braces k) ks)
 with_inner_same _ = refl
 
 -- without braces there are none to put there
-kids_twice : (xs ys : List AttributeTree) (ks : Kids) → kids_with xs (kids_with ys ks) ≡ kids_with xs ks
-kids_twice xs ys none = refl
-kids_twice xs ys (kid k (e.braced b) t ks) = refl
-kids_twice xs ys (kid k (e.opened ats) t ks) = refl
-kids_twice xs ys (kid k e.no_ending t ks) = ap (kid k e.no_ending t) (kids_twice xs ys ks)
-kids_twice xs ys (kid k e.comma t ks) = ap (kid k e.comma t) (kids_twice xs ys ks)
+children_twice : (xs ys : List AttributeTree) (ks : Children) → children_with xs (children_with ys ks) ≡ children_with xs ks
+children_twice xs ys none = refl
+children_twice xs ys (child k (e.braced b) t ks) = refl
+children_twice xs ys (child k (e.opened ats) t ks) = refl
+children_twice xs ys (child k e.no_ending t ks) = ap (child k e.no_ending t) (children_twice xs ys ks)
+children_twice xs ys (child k e.comma t ks) = ap (child k e.comma t) (children_twice xs ys ks)
 
-frame_twice : (b : Bool) (xs ys : List AttributeTree) (ks : Kids)
-    → (if b then kids_with xs (if b then kids_with ys ks else ks) else (if b then kids_with ys ks else ks)) ≡ (if b then kids_with xs ks else ks)
-frame_twice true xs ys ks = kids_twice xs ys ks
+frame_twice : (b : Bool) (xs ys : List AttributeTree) (ks : Children)
+    → (if b then children_with xs (if b then children_with ys ks else ks) else (if b then children_with ys ks else ks)) ≡ (if b then children_with xs ks else ks)
+frame_twice true xs ys ks = children_twice xs ys ks
 frame_twice false xs ys ks = refl
 
 leaf_twice : (xs ys : List AttributeTree) (k : Leaf) → with_inner xs (with_inner ys (leaf k)) ≡ with_inner xs (leaf k)
 leaf_twice xs ys (e.block label b) = refl
-leaf_twice xs ys (e.looping label b) = refl
+leaf_twice xs ys (e.loop_expr label b) = refl
 leaf_twice xs ys (e.unsafe_block b) = refl
 leaf_twice xs ys (e.const_block b) = refl
 leaf_twice xs ys _ = refl
@@ -122,21 +122,21 @@ with_inner_twice xs ys (leaf k) = leaf_twice xs ys k
 with_inner_twice xs ys (frame k ks) = ap (frame k) (frame_twice (frame_has_braces k) xs ys ks)
 with_inner_twice xs ys _ = refl
 
-kids_grown : (xs ys : List AttributeTree) (ks : Kids) → kids_with (xs ++ kids_inner (kids_with ys ks)) ks ≡ kids_with (xs ++ ys) ks
-kids_grown xs ys none = refl
-kids_grown xs ys (kid k (e.braced b) t ks) = refl
-kids_grown xs ys (kid k (e.opened ats) t ks) = refl
-kids_grown xs ys (kid k e.no_ending t ks) = ap (kid k e.no_ending t) (kids_grown xs ys ks)
-kids_grown xs ys (kid k e.comma t ks) = ap (kid k e.comma t) (kids_grown xs ys ks)
+children_grown : (xs ys : List AttributeTree) (ks : Children) → children_with (xs ++ children_inner (children_with ys ks)) ks ≡ children_with (xs ++ ys) ks
+children_grown xs ys none = refl
+children_grown xs ys (child k (e.braced b) t ks) = refl
+children_grown xs ys (child k (e.opened ats) t ks) = refl
+children_grown xs ys (child k e.no_ending t ks) = ap (child k e.no_ending t) (children_grown xs ys ks)
+children_grown xs ys (child k e.comma t ks) = ap (child k e.comma t) (children_grown xs ys ks)
 
-frame_grown : (b : Bool) (xs ys : List AttributeTree) (ks : Kids)
-    → (if b then kids_with (xs ++ (if b then kids_inner (if b then kids_with ys ks else ks) else [])) ks else ks) ≡ (if b then kids_with (xs ++ ys) ks else ks)
-frame_grown true xs ys ks = kids_grown xs ys ks
+frame_grown : (b : Bool) (xs ys : List AttributeTree) (ks : Children)
+    → (if b then children_with (xs ++ (if b then children_inner (if b then children_with ys ks else ks) else [])) ks else ks) ≡ (if b then children_with (xs ++ ys) ks else ks)
+frame_grown true xs ys ks = children_grown xs ys ks
 frame_grown false xs ys ks = refl
 
 leaf_grown : (xs ys : List AttributeTree) (k : Leaf) → with_inner (xs ++ inner_in (with_inner ys (leaf k))) (leaf k) ≡ with_inner (xs ++ ys) (leaf k)
 leaf_grown xs ys (e.block label b) = refl
-leaf_grown xs ys (e.looping label b) = refl
+leaf_grown xs ys (e.loop_expr label b) = refl
 leaf_grown xs ys (e.unsafe_block b) = refl
 leaf_grown xs ys (e.const_block b) = refl
 leaf_grown xs ys _ = refl
@@ -149,7 +149,7 @@ with_inner_grown xs ys _ = refl
 
 leaf_braces : (ats : List AttributeTree) (k : Leaf) → has_braces (with_inner ats (leaf k)) ≡ has_braces (leaf k)
 leaf_braces ats (e.block label b) = refl
-leaf_braces ats (e.looping label b) = refl
+leaf_braces ats (e.loop_expr label b) = refl
 leaf_braces ats (e.unsafe_block b) = refl
 leaf_braces ats (e.const_block b) = refl
 leaf_braces ats _ = refl
@@ -161,7 +161,7 @@ with_inner_braces ats _ = refl
 
 leaf_plain : (ats : List AttributeTree) (k : Leaf) → has_braces (leaf k) ≡ false → with_inner ats (leaf k) ≡ leaf k
 leaf_plain ats (e.block label b) h = cc
-leaf_plain ats (e.looping label b) h = cc
+leaf_plain ats (e.loop_expr label b) h = cc
 leaf_plain ats (e.unsafe_block b) h = cc
 leaf_plain ats (e.const_block b) h = cc
 leaf_plain ats _ h = refl
@@ -193,15 +193,15 @@ outside_with t ys xs = ap (λ (b : Bool). if b then outers xs else xs) (with_inn
 
 -- ---- before others
 
--- neither behind attributes nor kept tokens
+-- neither behind attributes nor verbatim tokens
 abbrev pub is_free : Tree → Bool
 is_free (leaf k) = not (is_verbatim_leaf k)
-is_free (adorned a more t) = false
+is_free (attributed a more t) = false
 is_free _ = true
 
 leaf_free : (ats : List AttributeTree) (k : Leaf) → is_free (with_inner ats (leaf k)) ≡ is_free (leaf k)
 leaf_free ats (e.block label b) = refl
-leaf_free ats (e.looping label b) = refl
+leaf_free ats (e.loop_expr label b) = refl
 leaf_free ats (e.unsafe_block b) = refl
 leaf_free ats (e.const_block b) = refl
 leaf_free ats _ = refl
@@ -212,28 +212,28 @@ with_inner_free ats _ = refl
 
 -- these attributes before those of the node t, where `own` stands before it already
 abbrev pub put_before : (more own : List AttributeTree) → Tree → Tree
-put_before more own t = adorn (outside t more ++ own) (with_inner (inners more ++ inner_in t) t)
+put_before more own t = attributed_with (outside t more ++ own) (with_inner (inners more ++ inner_in t) t)
 
-leaf_prepend : (more : List AttributeTree) (k : Leaf) → is_free (leaf k) ≡ true → prepend more (leaf k) ≡ adorn (outside (leaf k) more) (with_inner (inners more ++ inner_in (leaf k)) (leaf k))
+leaf_prepend : (more : List AttributeTree) (k : Leaf) → is_free (leaf k) ≡ true → prepend more (leaf k) ≡ attributed_with (outside (leaf k) more) (with_inner (inners more ++ inner_in (leaf k)) (leaf k))
 leaf_prepend more (e.verbatim ts) h = cc
 leaf_prepend more _ h = refl
 
-pub prepend_free : (more : List AttributeTree) (t : Tree) → is_free t ≡ true → prepend more t ≡ adorn (outside t more) (with_inner (inners more ++ inner_in t) t)
+pub prepend_free : (more : List AttributeTree) (t : Tree) → is_free t ≡ true → prepend more t ≡ attributed_with (outside t more) (with_inner (inners more ++ inner_in t) t)
 prepend_free more (leaf k) h = leaf_prepend more k h
-prepend_free more (adorned a ats t) h = cc
+prepend_free more (attributed a ats t) h = cc
 prepend_free more (paren m t) h = refl
-prepend_free more (lead k gs t) h = refl
-prepend_free more (mid x k y) h = refl
-prepend_free more (post x k) h = refl
+prepend_free more (prefixed k gs t) h = refl
+prepend_free more (infixed x k y) h = refl
+prepend_free more (postfixed x k) h = refl
 prepend_free more (tail b k ks) h = refl
 prepend_free more (frame k ks) h = refl
 
-pub prepend_adorn : (more own : List AttributeTree) (t : Tree) → is_free t ≡ true → prepend more (adorn own t) ≡ put_before more own t
-prepend_adorn more [] t h = prepend_free more t h ∙ ap (λ l. adorn l (with_inner (inners more ++ inner_in t) t)) (sym (append-nil (outside t more)))
-prepend_adorn more (a ∷ own) t h = refl
+pub prepend_attributed_with : (more own : List AttributeTree) (t : Tree) → is_free t ≡ true → prepend more (attributed_with own t) ≡ put_before more own t
+prepend_attributed_with more [] t h = prepend_free more t h ∙ ap (λ l. attributed_with l (with_inner (inners more ++ inner_in t) t)) (sym (append-nil (outside t more)))
+prepend_attributed_with more (a ∷ own) t h = refl
 
 prepend_behind : (more own : List AttributeTree) (a : AttributeTree) (ats : List AttributeTree) (t : Tree)
-    → prepend more (adorn (own ++ a ∷ ats) t) ≡ put_before more (own ++ a ∷ ats) t
+    → prepend more (attributed_with (own ++ a ∷ ats) t) ≡ put_before more (own ++ a ∷ ats) t
 prepend_behind more [] a ats t = refl
 prepend_behind more (b ∷ own) a ats t = refl
 
@@ -248,25 +248,25 @@ put_twice xs ys own t =
     let inside : with_inner (inners xs ++ inner_in u) u ≡ with_inner (inners (xs ++ ys) ++ inner_in t) t =
     with_inner_twice (inners xs ++ inner_in u) (inners ys ++ inner_in t) t ∙ with_inner_grown (inners xs) (inners ys ++ inner_in t) t
     ∙ ap (λ l. with_inner l t) (sym (append_assoc (inners xs) (inners ys) (inner_in t))) ∙ ap (λ l. with_inner (l ++ inner_in t) t) (sym (inners_append xs ys)) in
-    ap (λ l. adorn l (with_inner (inners xs ++ inner_in u) u)) before ∙ ap (adorn (outside t (xs ++ ys) ++ own)) inside
+    ap (λ l. attributed_with l (with_inner (inners xs ++ inner_in u) u)) before ∙ ap (attributed_with (outside t (xs ++ ys) ++ own)) inside
 
 own_more : (xs ys : List AttributeTree) (ts : List Tok) → attributes_own (xs ++ ys) ts ≡ attributes_own xs (attributes_own ys ts)
 own_more [] ys ts = refl
 own_more (a ∷ more) ys ts = ap (attribute_own a) (own_more more ys ts)
 
--- What can have attributes in front is free, behind attributes, or kept tokens.
+-- What can have attributes in front is free, behind attributes, or verbatim tokens.
 leaf_or : {A : Leaf → Type 0} → ((k : Leaf) → is_free (leaf k) ≡ true → A k) → ((ts : List Tok) → A (e.verbatim ts)) → (k : Leaf) → A k
 leaf_or f g (e.verbatim ts) = g ts
 leaf_or f g _ = f _ refl
 
-pub free_or : {A : Tree → Type 0} → ((t : Tree) → is_free t ≡ true → A t) → ((a : AttributeTree) (more : List AttributeTree) (t : Tree) → A (adorned a more t))
+pub free_or : {A : Tree → Type 0} → ((t : Tree) → is_free t ≡ true → A t) → ((a : AttributeTree) (more : List AttributeTree) (t : Tree) → A (attributed a more t))
     → ((ts : List Tok) → A (leaf (e.verbatim ts))) → (t : Tree) → A t
 free_or {A = A} f g h (leaf k) = leaf_or {A = λ k. A (leaf k)} (λ k. f (leaf k)) h k
-free_or f g h (adorned a more t) = g a more t
+free_or f g h (attributed a more t) = g a more t
 free_or f g h (paren m t) = f _ refl
-free_or f g h (lead k gs t) = f _ refl
-free_or f g h (mid x k y) = f _ refl
-free_or f g h (post x k) = f _ refl
+free_or f g h (prefixed k gs t) = f _ refl
+free_or f g h (infixed x k y) = f _ refl
+free_or f g h (postfixed x k) = f _ refl
 free_or f g h (tail b k ks) = f _ refl
 free_or f g h (frame k ks) = f _ refl
 
@@ -278,11 +278,11 @@ more_before xs ys t = free_or {A = λ t. prepend (xs ++ ys) t ≡ prepend xs (pr
     free t h =
         let u = with_inner (inners ys ++ inner_in t) t in
         let at : prepend xs (prepend ys t) ≡ put_before xs (outside t ys) u =
-        ap (prepend xs) (prepend_free ys t h) ∙ prepend_adorn xs (outside t ys) u (with_inner_free (inners ys ++ inner_in t) t ∙ h) in
+        ap (prepend xs) (prepend_free ys t h) ∙ prepend_attributed_with xs (outside t ys) u (with_inner_free (inners ys ++ inner_in t) t ∙ h) in
         let all : put_before xs (outside t ys ++ []) u ≡ put_before (xs ++ ys) [] t = put_twice xs ys [] t in
-        prepend_adorn (xs ++ ys) [] t h ∙ sym all ∙ ap (λ l. put_before xs l u) (append-nil (outside t ys)) ∙ sym at
+        prepend_attributed_with (xs ++ ys) [] t h ∙ sym all ∙ ap (λ l. put_before xs l u) (append-nil (outside t ys)) ∙ sym at
 
-    behind : (a : AttributeTree) (more : List AttributeTree) (t : Tree) → prepend (xs ++ ys) (adorned a more t) ≡ prepend xs (prepend ys (adorned a more t))
+    behind : (a : AttributeTree) (more : List AttributeTree) (t : Tree) → prepend (xs ++ ys) (attributed a more t) ≡ prepend xs (prepend ys (attributed a more t))
     behind a more t = sym (put_twice xs ys (a ∷ more) t) ∙ sym (prepend_behind xs (outside t ys) a more (with_inner (inners ys ++ inner_in t) t))
 
     kept : (ts : List Tok) → prepend (xs ++ ys) (leaf (e.verbatim ts)) ≡ prepend xs (prepend ys (leaf (e.verbatim ts)))
@@ -293,26 +293,26 @@ more_before xs ys t = free_or {A = λ t. prepend (xs ++ ys) t ≡ prepend xs (pr
 pub inner_stays : (more : List AttributeTree) (t : Tree) → attributes_outer more ≡ true → with_inner (inners more ++ inner_in t) t ≡ t
 inner_stays more t h = ap (λ l. with_inner (l ++ inner_in t) t) (inners_none more h) ∙ with_inner_same t
 
-outer_put : (more own : List AttributeTree) (t : Tree) → attributes_outer more ≡ true → put_before more own t ≡ adorn (more ++ own) t
-outer_put more own t h = ap (λ l. adorn (l ++ own) (with_inner (inners more ++ inner_in t) t)) (outside_outer t more h) ∙ ap (adorn (more ++ own)) (inner_stays more t h)
+outer_put : (more own : List AttributeTree) (t : Tree) → attributes_outer more ≡ true → put_before more own t ≡ attributed_with (more ++ own) t
+outer_put more own t h = ap (λ l. attributed_with (l ++ own) (with_inner (inners more ++ inner_in t) t)) (outside_outer t more h) ∙ ap (attributed_with (more ++ own)) (inner_stays more t h)
 
 -- these attributes before all that t has, none in its braces
 abbrev pub put_outer : List AttributeTree → Tree → Tree
-put_outer more (adorned b bs t) = adorn (more ++ b ∷ bs) t
+put_outer more (attributed b bs t) = attributed_with (more ++ b ∷ bs) t
 put_outer more (leaf (e.verbatim ts)) = leaf (e.verbatim (attributes_own more ts))
-put_outer more t = adorn more t
+put_outer more t = attributed_with more t
 
-leaf_outer : (more : List AttributeTree) (k : Leaf) → is_free (leaf k) ≡ true → put_outer more (leaf k) ≡ adorn more (leaf k)
+leaf_outer : (more : List AttributeTree) (k : Leaf) → is_free (leaf k) ≡ true → put_outer more (leaf k) ≡ attributed_with more (leaf k)
 leaf_outer more (e.verbatim ts) h = cc
 leaf_outer more _ h = refl
 
-free_outer : (more : List AttributeTree) (t : Tree) → is_free t ≡ true → put_outer more t ≡ adorn more t
+free_outer : (more : List AttributeTree) (t : Tree) → is_free t ≡ true → put_outer more t ≡ attributed_with more t
 free_outer more (leaf k) h = leaf_outer more k h
-free_outer more (adorned a ats t) h = cc
+free_outer more (attributed a ats t) h = cc
 free_outer more (paren m t) h = refl
-free_outer more (lead k gs t) h = refl
-free_outer more (mid x k y) h = refl
-free_outer more (post x k) h = refl
+free_outer more (prefixed k gs t) h = refl
+free_outer more (infixed x k y) h = refl
+free_outer more (postfixed x k) h = refl
 free_outer more (tail b k ks) h = refl
 free_outer more (frame k ks) h = refl
 
@@ -320,7 +320,7 @@ pub prepend_outer : (more : List AttributeTree) (t : Tree) → attributes_outer 
 prepend_outer more t o = free_or {A = λ t. prepend more t ≡ put_outer more t} free (λ b bs u. outer_put more (b ∷ bs) u o) kept t
   where
     free : (t : Tree) → is_free t ≡ true → prepend more t ≡ put_outer more t
-    free t h = prepend_adorn more [] t h ∙ outer_put more [] t o ∙ ap (λ l. adorn l t) (append-nil more) ∙ sym (free_outer more t h)
+    free t h = prepend_attributed_with more [] t h ∙ outer_put more [] t o ∙ ap (λ l. attributed_with l t) (append-nil more) ∙ sym (free_outer more t h)
 
     kept : (ts : List Tok) → prepend more (leaf (e.verbatim ts)) ≡ put_outer more (leaf (e.verbatim ts))
     kept ts = ap (λ l. leaf (e.verbatim (attributes_own l ts))) (outers_are more o)
@@ -330,16 +330,16 @@ prepend_none t = prepend_outer [] t refl ∙ free_or {A = λ t. put_outer [] t �
 
 -- ---- in place of others
 
-leaf_put : (ats : List AttributeTree) (k : Leaf) → is_free (leaf k) ≡ true → with_attributes ats (leaf k) ≡ adorn (outside (leaf k) ats) (with_inner (from_inner ats) (leaf k))
+leaf_put : (ats : List AttributeTree) (k : Leaf) → is_free (leaf k) ≡ true → with_attributes ats (leaf k) ≡ attributed_with (outside (leaf k) ats) (with_inner (from_inner ats) (leaf k))
 leaf_put ats (e.verbatim ts) h = cc
 leaf_put ats _ h = refl
 
-pub with_attributes_free : (ats : List AttributeTree) (t : Tree) → is_free t ≡ true → with_attributes ats t ≡ adorn (outside t ats) (with_inner (from_inner ats) t)
+pub with_attributes_free : (ats : List AttributeTree) (t : Tree) → is_free t ≡ true → with_attributes ats t ≡ attributed_with (outside t ats) (with_inner (from_inner ats) t)
 with_attributes_free ats (leaf k) h = leaf_put ats k h
-with_attributes_free ats (adorned a more t) h = cc
+with_attributes_free ats (attributed a more t) h = cc
 with_attributes_free ats (paren m t) h = refl
-with_attributes_free ats (lead k gs t) h = refl
-with_attributes_free ats (mid x k y) h = refl
-with_attributes_free ats (post x k) h = refl
+with_attributes_free ats (prefixed k gs t) h = refl
+with_attributes_free ats (infixed x k y) h = refl
+with_attributes_free ats (postfixed x k) h = refl
 with_attributes_free ats (tail b k ks) h = refl
 with_attributes_free ats (frame k ks) h = refl

@@ -13,11 +13,11 @@ use Rattle.syn_grammar.specs.declared.next.Next.TheVariants as next
 use Rattle.syn_grammar.specs.declared.next.Context.{Context}
 use Rattle.syn_grammar.specs.Place.{takes}
 use Rattle.syn_grammar.specs.Op.{level}
-use Rattle.syn_grammar.specs.Next.{class_of, enclosed, left_context, base_context, adorned_context, lead_context, lead_next, lead_level}
+use Rattle.syn_grammar.specs.Next.{class_of, enclosed, left_context, base_context, attributed_context, prefix_context, prefix_next, prefix_level}
 use Rattle.syn_grammar.specs.Stands.{is_range, is_range_leaf, is_infix, is_cast, carries, compares, is_call, is_base}
 use Rattle.syn_grammar.specs.Tree as e
-use Rattle.syn_grammar.specs.Tree.{Tree, Leaf, Lead, Post, Trailer, Frame, leaf, paren, adorned, lead, mid, post, tail, frame, post_op}
-use Rattle.syn_grammar.specs.Rule.{is_operation, prints_range, prints_carrier, leaf_refuses, leaf_misplaced, lead_misplaced, frame_misplaced, post_refuses, misplaced, self_wrapped, lower, ends_badly, left_wrapped, low, bad, labelled, left_asks, base_asks, put, bare}
+use Rattle.syn_grammar.specs.Tree.{Tree, Leaf, Prefix, Postfix, Trailer, Frame, leaf, paren, attributed, prefixed, infixed, postfixed, tail, frame, postfix_op}
+use Rattle.syn_grammar.specs.Rule.{is_operation, prints_range, prints_carrier, leaf_refuses, leaf_misplaced, prefix_misplaced, frame_misplaced, postfix_refuses, misplaced, self_wrapped, lower, ends_badly, left_wrapped, low, bad, labelled, left_asks, base_asks, put, bare}
 use Rattle.syn_grammar.proofs.Bools.{or_false, neither, or_true, or_none, both_true, lower_takes}
 use Rattle.syn_grammar.proofs.Obeys.{begins_label}
 
@@ -26,30 +26,30 @@ use Rattle.syn_grammar.proofs.Obeys.{begins_label}
 pub infix_bare : (c : Context) (t : Tree) → is_infix (bare c t) ≡ is_infix t
 infix_bare c (leaf k) = refl
 infix_bare c (paren m t) = refl
-infix_bare c (adorned a more t) = refl
-infix_bare c (lead k gs t) = refl
-infix_bare c (mid x k y) = refl
-infix_bare c (post x k) = refl
+infix_bare c (attributed a more t) = refl
+infix_bare c (prefixed k gs t) = refl
+infix_bare c (infixed x k y) = refl
+infix_bare c (postfixed x k) = refl
 infix_bare c (tail b k ks) = refl
 infix_bare c (frame k ks) = refl
 
 pub compares_bare : (c : Context) (t : Tree) → compares (bare c t) ≡ compares t
 compares_bare c (leaf k) = refl
 compares_bare c (paren m t) = refl
-compares_bare c (adorned a more t) = refl
-compares_bare c (lead k gs t) = refl
-compares_bare c (mid x k y) = refl
-compares_bare c (post x k) = refl
+compares_bare c (attributed a more t) = refl
+compares_bare c (prefixed k gs t) = refl
+compares_bare c (infixed x k y) = refl
+compares_bare c (postfixed x k) = refl
 compares_bare c (tail b k ks) = refl
 compares_bare c (frame k ks) = refl
 
 prints_is : (t : Tree) → is_range t ≡ false → prints_range t ≡ false
 prints_is (leaf k) h = h
 prints_is (paren m t) h = refl
-prints_is (adorned a more t) h = refl
-prints_is (lead k gs t) h = h
-prints_is (mid x k y) h = h
-prints_is (post x k) h = h
+prints_is (attributed a more t) h = refl
+prints_is (prefixed k gs t) h = h
+prints_is (infixed x k y) h = h
+prints_is (postfixed x k) h = h
 prints_is (tail b k ks) h = refl
 prints_is (frame k ks) h = refl
 
@@ -60,10 +60,10 @@ put_range c t false h e = e ∙ (or_false _ _ h).1
 pub range_bare : (c : Context) (t : Tree) → is_range (bare c t) ≡ prints_range t
 range_bare c (leaf k) = refl
 range_bare c (paren m t) = refl
-range_bare c (adorned a more t) = put_range (adorned_context c) t _ refl (range_bare (adorned_context c) t)
-range_bare c (lead k gs t) = refl
-range_bare c (mid x k y) = refl
-range_bare c (post x k) = refl
+range_bare c (attributed a more t) = put_range (attributed_context c) t _ refl (range_bare (attributed_context c) t)
+range_bare c (prefixed k gs t) = refl
+range_bare c (infixed x k y) = refl
+range_bare c (postfixed x k) = refl
 range_bare c (tail b k ks) = refl
 range_bare c (frame k ks) = refl
 
@@ -73,21 +73,21 @@ operation_bare c t h = let p = or_false _ _ h in neither _ _ (infix_bare c t ∙
 pub cast_bare : (c : Context) (t : Tree) → is_cast (bare c t) ≡ is_cast t
 cast_bare c (leaf k) = refl
 cast_bare c (paren m t) = refl
-cast_bare c (adorned a more t) = refl
-cast_bare c (lead k gs t) = refl
-cast_bare c (mid x k y) = refl
-cast_bare c (post x (e.cast ty)) = refl
-cast_bare c (post x (e.range_from op)) = refl
+cast_bare c (attributed a more t) = refl
+cast_bare c (prefixed k gs t) = refl
+cast_bare c (infixed x k y) = refl
+cast_bare c (postfixed x (e.cast ty)) = refl
+cast_bare c (postfixed x (e.range_from op)) = refl
 cast_bare c (tail b k ks) = refl
 cast_bare c (frame k ks) = refl
 
 pub not_cast : (t : Tree) → is_operation t ≡ false → is_cast t ≡ false
 not_cast (leaf k) h = refl
 not_cast (paren m t) h = refl
-not_cast (adorned a more t) h = refl
-not_cast (lead k gs t) h = refl
-not_cast (mid x k y) h = refl
-not_cast (post x k) h = absurd cc
+not_cast (attributed a more t) h = refl
+not_cast (prefixed k gs t) h = refl
+not_cast (infixed x k y) h = refl
+not_cast (postfixed x k) h = absurd cc
 not_cast (tail b k ks) h = refl
 not_cast (frame k ks) h = refl
 
@@ -106,27 +106,27 @@ put_carrier c t false h e = or_none _ ∙ sym (carries_unless (bare c t) (cast_b
 pub carrier_bare : (c : Context) (t : Tree) → takes_trailers (bare c t) ≡ prints_carrier t
 carrier_bare c (leaf k) = refl
 carrier_bare c (paren m t) = refl
-carrier_bare c (adorned a more t) = put_carrier (adorned_context c) t (is_operation t) refl (carrier_bare (adorned_context c) t)
-carrier_bare c (lead k gs t) = refl
-carrier_bare c (mid x k y) = refl
-carrier_bare c (post x (e.cast ty)) = refl
-carrier_bare c (post x (e.range_from op)) = refl
+carrier_bare c (attributed a more t) = put_carrier (attributed_context c) t (is_operation t) refl (carrier_bare (attributed_context c) t)
+carrier_bare c (prefixed k gs t) = refl
+carrier_bare c (infixed x k y) = refl
+carrier_bare c (postfixed x (e.cast ty)) = refl
+carrier_bare c (postfixed x (e.range_from op)) = refl
 carrier_bare c (tail b k ks) = refl
 carrier_bare c (frame k ks) = refl
 
 pub base_bare : (k : Trailer) (c : Context) (b : Tree) → is_base k (bare c b) ≡ is_base k b
 base_bare k c (leaf j) = refl
 base_bare k c (paren m t) = refl
-base_bare k c (adorned a more t) = and-false _ ∙ sym (and-false _)
-base_bare k c (lead j gs t) = refl
-base_bare k c (mid x j y) = refl
-base_bare k c (post x j) = refl
+base_bare k c (attributed a more t) = and-false _ ∙ sym (and-false _)
+base_bare k c (prefixed j gs t) = refl
+base_bare k c (infixed x j y) = refl
+base_bare k c (postfixed x j) = refl
 base_bare k c (tail b (e.field m) ks) = refl
 base_bare k c (tail b e.call ks) = refl
 base_bare k c (tail b e.index ks) = refl
 base_bare k c (tail b (e.method w a) ks) = refl
 base_bare k c (tail b e.await ks) = refl
-base_bare k c (tail b e.question ks) = refl
+base_bare k c (tail b e.try_expr ks) = refl
 base_bare k c (frame j ks) = refl
 
 pub base_paren : (k : Trailer) (m : Bool) (t : Tree) → is_base k (paren m t) ≡ true
@@ -145,14 +145,14 @@ and_later false b h e = h
 pub label_bare : (c : Context) (t : Tree) → labelled t ≡ false → begins_label (bare c t) ≡ false
 label_bare c (leaf k) h = h
 label_bare c (paren m t) h = refl
-label_bare c (adorned a more t) h = refl
-label_bare c (lead k gs t) h = refl
-label_bare c (mid x k y) h =
+label_bare c (attributed a more t) h = refl
+label_bare c (prefixed k gs t) h = refl
+label_bare c (infixed x k y) h =
     label_put (left_asks k (left_context k c) x) (bare enclosed x) (bare (left_context k c) x)
     (λ w. label_bare (left_context k c) x (and_later _ _ h (or_false _ _ w).0))
-label_bare c (post x k) h =
-    label_put (left_asks (post_op k) (left_context (post_op k) c) x) (bare enclosed x) (bare (left_context (post_op k) c) x)
-    (λ w. label_bare (left_context (post_op k) c) x (and_later _ _ h (or_false _ _ w).0))
+label_bare c (postfixed x k) h =
+    label_put (left_asks (postfix_op k) (left_context (postfix_op k) c) x) (bare enclosed x) (bare (left_context (postfix_op k) c) x)
+    (λ w. label_bare (left_context (postfix_op k) c) x (and_later _ _ h (or_false _ _ w).0))
 label_bare c (tail b k ks) h =
     label_put (base_asks k (base_context k c) b) (bare enclosed b) (bare (base_context k c) b)
     (λ w. label_bare (base_context k c) b (and_later _ _ h (or_false _ _ w).0))
@@ -160,23 +160,23 @@ label_bare c (frame k ks) h = h
 
 -- ---- nothing behind
 
-pub lead_next_is : (k : Lead) (c : Context) → (lead_context k c).next ≡ lead_next k c.next
-lead_next_is (e.unary op) c = refl
-lead_next_is (e.reference m) c = refl
-lead_next_is (e.raw_addr m) c = refl
-lead_next_is (e.range_to op) c = refl
-lead_next_is (e.binding p) c = refl
-lead_next_is (e.jump j) c = refl
-lead_next_is (e.closure h) c = refl
+pub prefix_next_is : (k : Prefix) (c : Context) → (prefix_context k c).next ≡ prefix_next k c.next
+prefix_next_is (e.unary op) c = refl
+prefix_next_is (e.reference m) c = refl
+prefix_next_is (e.raw_addr m) c = refl
+prefix_next_is (e.range_to op) c = refl
+prefix_next_is (e.let_expr p) c = refl
+prefix_next_is (e.jump j) c = refl
+prefix_next_is (e.closure h) c = refl
 
-lead_end : (k : Lead) → lead_next k next.End ≡ next.End
-lead_end (e.unary op) = refl
-lead_end (e.reference m) = refl
-lead_end (e.raw_addr m) = refl
-lead_end (e.range_to op) = refl
-lead_end (e.binding p) = refl
-lead_end (e.jump j) = refl
-lead_end (e.closure h) = refl
+prefix_end : (k : Prefix) → prefix_next k next.End ≡ next.End
+prefix_end (e.unary op) = refl
+prefix_end (e.reference m) = refl
+prefix_end (e.raw_addr m) = refl
+prefix_end (e.range_to op) = refl
+prefix_end (e.let_expr p) = refl
+prefix_end (e.jump j) = refl
+prefix_end (e.closure h) = refl
 
 ends_end : (v : Level) (t : Tree) (n : Next) (w : Bool) → n ≡ next.End → ends_badly v t n w ≡ false
 ends_end v t n w h = rw h refl
@@ -184,10 +184,10 @@ ends_end v t n w h = rw h refl
 pub bad_end : (t : Tree) → bad t next.End ≡ false
 bad_end (leaf k) = refl
 bad_end (paren m t) = refl
-bad_end (adorned a more t) = rw (bad_end t) (and-false (not (is_operation t)))
-bad_end (lead k gs t) = ends_end (lead_level k) t _ _ (lead_end k)
-bad_end (mid x k y) = refl
-bad_end (post x k) = refl
+bad_end (attributed a more t) = rw (bad_end t) (and-false (not (is_operation t)))
+bad_end (prefixed k gs t) = ends_end (prefix_level k) t _ _ (prefix_end k)
+bad_end (infixed x k y) = refl
+bad_end (postfixed x k) = refl
 bad_end (tail b k ks) = refl
 bad_end (frame k ks) = refl
 
@@ -235,10 +235,10 @@ low_left false a b p q = lower_takes lev.Jump a b p q
 pub low_some : (t : Tree) → takes lev.Jump (low t) ≡ true
 low_some (leaf k) = refl
 low_some (paren m t) = refl
-low_some (adorned a more t) = refl
-low_some (lead k gs t) = refl
-low_some (mid x k y) = low_left (left_wrapped k x (bad x (class_of k))) (level k) (low x) (takes_each k) (low_some x)
-low_some (post x k) = low_left (left_wrapped (post_op k) x (bad x (class_of (post_op k)))) (level (post_op k)) (low x) (takes_each (post_op k)) (low_some x)
+low_some (attributed a more t) = refl
+low_some (prefixed k gs t) = refl
+low_some (infixed x k y) = low_left (left_wrapped k x (bad x (class_of k))) (level k) (low x) (takes_each k) (low_some x)
+low_some (postfixed x k) = low_left (left_wrapped (postfix_op k) x (bad x (class_of (postfix_op k)))) (level (postfix_op k)) (low x) (takes_each (postfix_op k)) (low_some x)
 low_some (tail b k ks) = refl
 low_some (frame k ks) = refl
 
@@ -246,20 +246,20 @@ low_some (frame k ks) = refl
 pub low_closed : (t : Tree) → is_infix t ≡ false → low t ≡ lev.Unambiguous
 low_closed (leaf k) h = refl
 low_closed (paren m t) h = refl
-low_closed (adorned a more t) h = refl
-low_closed (lead k gs t) h = refl
-low_closed (mid x k y) h = absurd cc
-low_closed (post x k) h = absurd cc
+low_closed (attributed a more t) h = refl
+low_closed (prefixed k gs t) h = refl
+low_closed (infixed x k y) h = absurd cc
+low_closed (postfixed x k) h = absurd cc
 low_closed (tail b k ks) h = refl
 low_closed (frame k ks) h = refl
 
 pub carrier_closed : (t : Tree) → carries t ≡ true → is_infix t ≡ false
 carrier_closed (leaf k) h = refl
 carrier_closed (paren m t) h = refl
-carrier_closed (adorned a more t) h = refl
-carrier_closed (lead k gs t) h = refl
-carrier_closed (mid x k y) h = absurd cc
-carrier_closed (post x k) h = absurd cc
+carrier_closed (attributed a more t) h = refl
+carrier_closed (prefixed k gs t) h = refl
+carrier_closed (infixed x k y) h = absurd cc
+carrier_closed (postfixed x k) h = absurd cc
 carrier_closed (tail b k ks) h = refl
 carrier_closed (frame k ks) h = refl
 
@@ -277,7 +277,7 @@ leaf_enclosed (e.bare_jump (e.breaking w)) = refl
 leaf_enclosed (e.continuing w) = refl
 leaf_enclosed (e.block None b) = refl
 leaf_enclosed (e.block (Some w) b) = refl
-leaf_enclosed (e.looping w b) = refl
+leaf_enclosed (e.loop_expr w b) = refl
 leaf_enclosed (e.unsafe_block b) = refl
 leaf_enclosed (e.const_block b) = refl
 leaf_enclosed (e.async_block m ts) = refl
@@ -290,22 +290,22 @@ frame_enclosed e.tuple = refl
 frame_enclosed e.repeat = refl
 frame_enclosed (e.structure q p d) = refl
 frame_enclosed (e.closure_block h) = refl
-frame_enclosed e.branch = refl
+frame_enclosed e.if_expr = refl
 frame_enclosed (e.while_loop w) = refl
 frame_enclosed (e.for_loop w p) = refl
-frame_enclosed e.choice = refl
-frame_enclosed e.invisible = refl
+frame_enclosed e.match_expr = refl
+frame_enclosed e.group_expr = refl
 
-lead_enclosed : (k : Lead) → lead_misplaced enclosed k ≡ false
-lead_enclosed (e.unary op) = refl
-lead_enclosed (e.reference m) = refl
-lead_enclosed (e.raw_addr m) = refl
-lead_enclosed (e.range_to op) = refl
-lead_enclosed (e.binding p) = refl
-lead_enclosed (e.jump j) = refl
-lead_enclosed (e.closure h) = refl
+prefix_enclosed : (k : Prefix) → prefix_misplaced enclosed k ≡ false
+prefix_enclosed (e.unary op) = refl
+prefix_enclosed (e.reference m) = refl
+prefix_enclosed (e.raw_addr m) = refl
+prefix_enclosed (e.range_to op) = refl
+prefix_enclosed (e.let_expr p) = refl
+prefix_enclosed (e.jump j) = refl
+prefix_enclosed (e.closure h) = refl
 
-refuses_end : (k : Post) → post_refuses k next.End ≡ false
+refuses_end : (k : Postfix) → postfix_refuses k next.End ≡ false
 refuses_end (e.cast x) = refl
 refuses_end (e.range_from op) = refl
 
@@ -316,10 +316,10 @@ either false a b h = h
 pub self_enclosed : (t : Tree) → self_wrapped enclosed t ≡ false
 self_enclosed (leaf k) = leaf_enclosed k
 self_enclosed (paren m t) = refl
-self_enclosed (adorned a more t) = either (is_operation t) _ _ (self_enclosed t)
-self_enclosed (lead k gs t) = lead_enclosed k
-self_enclosed (mid x k y) = refl
-self_enclosed (post x k) = or_none _ ∙ refuses_end k
+self_enclosed (attributed a more t) = either (is_operation t) _ _ (self_enclosed t)
+self_enclosed (prefixed k gs t) = prefix_enclosed k
+self_enclosed (infixed x k y) = refl
+self_enclosed (postfixed x k) = or_none _ ∙ refuses_end k
 self_enclosed (tail b k ks) = refl
 self_enclosed (frame k ks) = frame_enclosed k
 
@@ -337,7 +337,7 @@ misplaced_leaf c (e.full_range op) h = absurd (let g : true ≡ false = sym h �
 misplaced_leaf c (e.bare_jump j) h = refl
 misplaced_leaf c (e.continuing w) h = refl
 misplaced_leaf c (e.block w b) h = refl
-misplaced_leaf c (e.looping w b) h = refl
+misplaced_leaf c (e.loop_expr w b) h = refl
 misplaced_leaf c (e.unsafe_block b) h = refl
 misplaced_leaf c (e.const_block b) h = refl
 misplaced_leaf c (e.async_block m ts) h = refl
@@ -347,18 +347,18 @@ misplaced_leaf c (e.verbatim ts) h = refl
 pub misplaced_kind : (c : Context) (t : Tree) → misplaced c t ≡ true → IsMisplaced t
 misplaced_kind c (leaf k) h = let r = misplaced_leaf c k h in record { no_range = r; carrier = rw r refl }
 misplaced_kind c (paren m t) h = absurd cc
-misplaced_kind c (adorned a more t) h =
+misplaced_kind c (attributed a more t) h =
     let p = both_true _ _ h in
-    let q = misplaced_kind (adorned_context c) t p.1 in
+    let q = misplaced_kind (attributed_context c) t p.1 in
     record { no_range = refl; carrier = rw q.carrier (or_true (is_operation t)) }
-misplaced_kind c (lead (e.binding p) gs t) h = record { no_range = refl; carrier = refl }
-misplaced_kind c (lead (e.unary op) gs t) h = absurd cc
-misplaced_kind c (lead (e.reference m) gs t) h = absurd cc
-misplaced_kind c (lead (e.raw_addr m) gs t) h = absurd cc
-misplaced_kind c (lead (e.range_to op) gs t) h = absurd cc
-misplaced_kind c (lead (e.jump j) gs t) h = absurd cc
-misplaced_kind c (lead (e.closure k) gs t) h = absurd cc
-misplaced_kind c (mid x k y) h = absurd cc
-misplaced_kind c (post x k) h = absurd cc
+misplaced_kind c (prefixed (e.let_expr p) gs t) h = record { no_range = refl; carrier = refl }
+misplaced_kind c (prefixed (e.unary op) gs t) h = absurd cc
+misplaced_kind c (prefixed (e.reference m) gs t) h = absurd cc
+misplaced_kind c (prefixed (e.raw_addr m) gs t) h = absurd cc
+misplaced_kind c (prefixed (e.range_to op) gs t) h = absurd cc
+misplaced_kind c (prefixed (e.jump j) gs t) h = absurd cc
+misplaced_kind c (prefixed (e.closure k) gs t) h = absurd cc
+misplaced_kind c (infixed x k y) h = absurd cc
+misplaced_kind c (postfixed x k) h = absurd cc
 misplaced_kind c (tail b k ks) h = absurd cc
 misplaced_kind c (frame k ks) h = record { no_range = refl; carrier = refl }

@@ -3,12 +3,12 @@ use Rattle.std.specs.Prelude.{not, ◌&&◌}
 use Rattle.std.proofs.Common.{◌≡◌, Bool, true, false, refl, sym, ◌∙◌, ap}
 use Rattle.syn_parts.specs.Pat.{MemberTree, a_name, an_index}
 use Rattle.syn_grammar.specs.Tree as e
-use Rattle.syn_grammar.specs.Tree.{Tree, Kids, Frame, Piece, Ending, leaf, paren, adorned, lead, mid, post, tail, frame, none, kid, is_none, is_one, is_block_like, needs_comma, needs_last_comma, with_comma, fill_piece, fill, fill_kids, clear, clear_kids}
+use Rattle.syn_grammar.specs.Tree.{Tree, Children, Frame, Piece, Ending, leaf, paren, attributed, prefixed, infixed, postfixed, tail, frame, none, child, is_none, is_one, is_block_like, needs_comma, needs_last_comma, with_comma, fill_piece, fill, fill_children, clear, clear_children}
 use Rattle.syn_grammar.specs.Slot.{Slot, fields, otherwise, outputs, after}
-use Rattle.syn_grammar.specs.Stands.{is_adorned, is_branch, is_infix}
+use Rattle.syn_grammar.specs.Stands.{is_attributed, is_if_expr, is_infix}
 use Rattle.syn_grammar.specs.Rule.{is_operation, prints_range}
-use Rattle.syn_grammar.specs.WellFormed.{is_name_path, is_kept_block, has_rest, frame_fits, trailer_slot, frame_slot, piece_fits, ending_fits, keeps_block, well, kids_well}
-use Rattle.syn_grammar.specs.Printed.{plainly_adorned, kids_plainly}
+use Rattle.syn_grammar.specs.WellFormed.{is_name_path, is_verbatim_block, has_rest, frame_fits, trailer_slot, frame_slot, piece_fits, ending_fits, keeps_block, well, children_well}
+use Rattle.syn_grammar.specs.Printed.{plainly_attributed, children_plainly}
 use Rattle.syn_grammar.proofs.Flat.{both, left_of, right_of}
 
 -- ---- kinds of nodes
@@ -16,51 +16,51 @@ use Rattle.syn_grammar.proofs.Flat.{both, left_of, right_of}
 pub block_fill : (t : Tree) → is_block_like (fill t) ≡ is_block_like t
 block_fill (leaf k) = refl
 block_fill (paren m t) = refl
-block_fill (adorned a more t) = block_fill t
-block_fill (lead k gs t) = refl
-block_fill (mid x k y) = refl
-block_fill (post x k) = refl
+block_fill (attributed a more t) = block_fill t
+block_fill (prefixed k gs t) = refl
+block_fill (infixed x k y) = refl
+block_fill (postfixed x k) = refl
 block_fill (tail b k ks) = refl
 block_fill (frame k ks) = refl
 
-pub adorned_fill : (t : Tree) → is_adorned (fill t) ≡ is_adorned t
-adorned_fill (leaf k) = refl
-adorned_fill (paren m t) = refl
-adorned_fill (adorned a more t) = refl
-adorned_fill (lead k gs t) = refl
-adorned_fill (mid x k y) = refl
-adorned_fill (post x k) = refl
-adorned_fill (tail b k ks) = refl
-adorned_fill (frame k ks) = refl
+pub attributed_fill : (t : Tree) → is_attributed (fill t) ≡ is_attributed t
+attributed_fill (leaf k) = refl
+attributed_fill (paren m t) = refl
+attributed_fill (attributed a more t) = refl
+attributed_fill (prefixed k gs t) = refl
+attributed_fill (infixed x k y) = refl
+attributed_fill (postfixed x k) = refl
+attributed_fill (tail b k ks) = refl
+attributed_fill (frame k ks) = refl
 
-pub branch_fill : (t : Tree) → is_branch (fill t) ≡ is_branch t
-branch_fill (leaf k) = refl
-branch_fill (paren m t) = refl
-branch_fill (adorned a more t) = refl
-branch_fill (lead k gs t) = refl
-branch_fill (mid x k y) = refl
-branch_fill (post x k) = refl
-branch_fill (tail b k ks) = refl
-branch_fill (frame e.branch ks) = refl
-branch_fill (frame _ ks) = refl
+pub if_expr_fill : (t : Tree) → is_if_expr (fill t) ≡ is_if_expr t
+if_expr_fill (leaf k) = refl
+if_expr_fill (paren m t) = refl
+if_expr_fill (attributed a more t) = refl
+if_expr_fill (prefixed k gs t) = refl
+if_expr_fill (infixed x k y) = refl
+if_expr_fill (postfixed x k) = refl
+if_expr_fill (tail b k ks) = refl
+if_expr_fill (frame e.if_expr ks) = refl
+if_expr_fill (frame _ ks) = refl
 
-pub kept_fill : (t : Tree) → is_kept_block (fill t) ≡ is_kept_block t
-kept_fill (leaf k) = refl
-kept_fill (paren m t) = refl
-kept_fill (adorned a more t) = refl
-kept_fill (lead k gs t) = refl
-kept_fill (mid x k y) = refl
-kept_fill (post x k) = refl
-kept_fill (tail b k ks) = refl
-kept_fill (frame k ks) = refl
+pub verbatim_fill : (t : Tree) → is_verbatim_block (fill t) ≡ is_verbatim_block t
+verbatim_fill (leaf k) = refl
+verbatim_fill (paren m t) = refl
+verbatim_fill (attributed a more t) = refl
+verbatim_fill (prefixed k gs t) = refl
+verbatim_fill (infixed x k y) = refl
+verbatim_fill (postfixed x k) = refl
+verbatim_fill (tail b k ks) = refl
+verbatim_fill (frame k ks) = refl
 
 name_fill : (m : MemberTree) (t : Tree) → is_name_path m (fill t) ≡ is_name_path m t
 name_fill (a_name w) (leaf k) = refl
 name_fill (a_name w) (paren m t) = refl
-name_fill (a_name w) (adorned a more t) = refl
-name_fill (a_name w) (lead k gs t) = refl
-name_fill (a_name w) (mid x k y) = refl
-name_fill (a_name w) (post x k) = refl
+name_fill (a_name w) (attributed a more t) = refl
+name_fill (a_name w) (prefixed k gs t) = refl
+name_fill (a_name w) (infixed x k y) = refl
+name_fill (a_name w) (postfixed x k) = refl
 name_fill (a_name w) (tail b k ks) = refl
 name_fill (a_name w) (frame k ks) = refl
 name_fill (an_index n) t = refl
@@ -68,43 +68,43 @@ name_fill (an_index n) t = refl
 infix_fill : (t : Tree) → is_infix (fill t) ≡ is_infix t
 infix_fill (leaf k) = refl
 infix_fill (paren m t) = refl
-infix_fill (adorned a more t) = refl
-infix_fill (lead k gs t) = refl
-infix_fill (mid x k y) = refl
-infix_fill (post x k) = refl
+infix_fill (attributed a more t) = refl
+infix_fill (prefixed k gs t) = refl
+infix_fill (infixed x k y) = refl
+infix_fill (postfixed x k) = refl
 infix_fill (tail b k ks) = refl
 infix_fill (frame k ks) = refl
 
 range_fill : (t : Tree) → prints_range (fill t) ≡ prints_range t
 range_fill (leaf k) = refl
 range_fill (paren m t) = refl
-range_fill (adorned a more t) = refl
-range_fill (lead k gs t) = refl
-range_fill (mid x k y) = refl
-range_fill (post x k) = refl
+range_fill (attributed a more t) = refl
+range_fill (prefixed k gs t) = refl
+range_fill (infixed x k y) = refl
+range_fill (postfixed x k) = refl
 range_fill (tail b k ks) = refl
 range_fill (frame k ks) = refl
 
 pub operation_fill : (t : Tree) → is_operation (fill t) ≡ is_operation t
 operation_fill t = let a = infix_fill t in let b = range_fill t in cc
 
-pub none_fill : (b : Bool) (ks : Kids) → is_none (fill_kids b ks) ≡ is_none ks
+pub none_fill : (b : Bool) (ks : Children) → is_none (fill_children b ks) ≡ is_none ks
 none_fill b none = refl
-none_fill b (kid k c t ks) = refl
+none_fill b (child k c t ks) = refl
 
-pub one_fill : (b : Bool) (ks : Kids) → is_one (fill_kids b ks) ≡ is_one ks
+pub one_fill : (b : Bool) (ks : Children) → is_one (fill_children b ks) ≡ is_one ks
 one_fill b none = refl
-one_fill b (kid k c t ks) = none_fill b ks
+one_fill b (child k c t ks) = none_fill b ks
 
-pub last_fill : (b : Bool) (k : Frame) (ks : Kids) → needs_last_comma k (fill_kids b ks) ≡ needs_last_comma k ks
+pub last_fill : (b : Bool) (k : Frame) (ks : Children) → needs_last_comma k (fill_children b ks) ≡ needs_last_comma k ks
 last_fill b e.tuple ks = one_fill b ks
 last_fill b (e.structure q p d) ks = refl
 last_fill b _ ks = refl
 
-rest_fill : (b : Bool) (ks : Kids) → has_rest (fill_kids b ks) ≡ has_rest ks
+rest_fill : (b : Bool) (ks : Children) → has_rest (fill_children b ks) ≡ has_rest ks
 rest_fill b none = refl
-rest_fill b (kid (e.rest d) c t ks) = refl
-rest_fill b (kid _ c t ks) = rest_fill b ks
+rest_fill b (child (e.rest d) c t ks) = refl
+rest_fill b (child _ c t ks) = rest_fill b ks
 
 -- ---- what is there behind them
 
@@ -122,16 +122,16 @@ abbrev mutual
   pub filled : Tree → Bool
   filled (leaf k) = true
   filled (paren m t) = filled t
-  filled (adorned a more t) = filled t
-  filled (lead k gs t) = kids_filled false gs && filled t
-  filled (mid x k y) = filled x && filled y
-  filled (post x k) = filled x
-  filled (tail b k ks) = filled b && kids_filled false ks
-  filled (frame k ks) = kids_filled (needs_last_comma k ks) ks
+  filled (attributed a more t) = filled t
+  filled (prefixed k gs t) = children_filled false gs && filled t
+  filled (infixed x k y) = filled x && filled y
+  filled (postfixed x k) = filled x
+  filled (tail b k ks) = filled b && children_filled false ks
+  filled (frame k ks) = children_filled (needs_last_comma k ks) ks
 
-  pub kids_filled : Bool → Kids → Bool
-  kids_filled last none = true
-  kids_filled last (kid k c t ks) = (dots_there k && comma_there k c t (not (is_none ks)) last) && (filled t && kids_filled last ks)
+  pub children_filled : Bool → Children → Bool
+  children_filled last none = true
+  children_filled last (child k c t ks) = (dots_there k && comma_there k c t (not (is_none ks)) last) && (filled t && children_filled last ks)
 
 needs_fill : (k : Piece) (t : Tree) (more last : Bool) → needs_comma (fill_piece k) (fill t) more last ≡ needs_comma k t more last
 needs_fill e.element t more last = refl
@@ -160,23 +160,23 @@ mutual
   pub fill_filled : (t : Tree) → filled (fill t) ≡ true
   fill_filled (leaf k) = refl
   fill_filled (paren m t) = fill_filled t
-  fill_filled (adorned a more t) = fill_filled t
-  fill_filled (lead k gs t) = both _ _ (fill_kids_filled false gs) (fill_filled t)
-  fill_filled (mid x k y) = both _ _ (fill_filled x) (fill_filled y)
-  fill_filled (post x k) = fill_filled x
-  fill_filled (tail b k ks) = both _ _ (fill_filled b) (fill_kids_filled false ks)
+  fill_filled (attributed a more t) = fill_filled t
+  fill_filled (prefixed k gs t) = both _ _ (fill_children_filled false gs) (fill_filled t)
+  fill_filled (infixed x k y) = both _ _ (fill_filled x) (fill_filled y)
+  fill_filled (postfixed x k) = fill_filled x
+  fill_filled (tail b k ks) = both _ _ (fill_filled b) (fill_children_filled false ks)
   fill_filled (frame k ks) =
       let b = needs_last_comma k ks in
-      ap (λ x. kids_filled x (fill_kids b ks)) (last_fill b k ks) ∙ fill_kids_filled b ks
+      ap (λ x. children_filled x (fill_children b ks)) (last_fill b k ks) ∙ fill_children_filled b ks
 
-  pub fill_kids_filled : (last : Bool) (ks : Kids) → kids_filled last (fill_kids last ks) ≡ true
-  fill_kids_filled last none = refl
-  fill_kids_filled last (kid k c t ks) =
+  pub fill_children_filled : (last : Bool) (ks : Children) → children_filled last (fill_children last ks) ≡ true
+  fill_children_filled last none = refl
+  fill_children_filled last (child k c t ks) =
       let more = not (is_none ks) in
-      let n : needs_comma (fill_piece k) (fill t) (not (is_none (fill_kids last ks))) last ≡ needs_comma k t more last =
+      let n : needs_comma (fill_piece k) (fill t) (not (is_none (fill_children last ks))) last ≡ needs_comma k t more last =
       ap (λ x. needs_comma (fill_piece k) (fill t) (not x) last) (none_fill last ks) ∙ needs_fill k t more last in
-      both _ _ (both _ _ (dots_fill k) (there (fill_piece k) c (fill t) (not (is_none (fill_kids last ks))) last (needs_comma k t more last) n))
-      (both _ _ (fill_filled t) (fill_kids_filled last ks))
+      both _ _ (both _ _ (dots_fill k) (there (fill_piece k) c (fill t) (not (is_none (fill_children last ks))) last (needs_comma k t more last) n))
+      (both _ _ (fill_filled t) (fill_children_filled last ks))
 
 piece_stays : (k : Piece) → dots_there k ≡ true → fill_piece k ≡ k
 piece_stays (e.rest d) h = ap e.rest (sym h)
@@ -208,23 +208,23 @@ mutual
   pub filled_stays : (t : Tree) → filled t ≡ true → fill t ≡ t
   filled_stays (leaf k) h = refl
   filled_stays (paren m t) h = ap (paren m) (filled_stays t h)
-  filled_stays (adorned a more t) h = ap (adorned a more) (filled_stays t h)
-  filled_stays (lead k gs t) h = let g = filled_kids_stay false gs (left_of _ _ h) in let x = filled_stays t (right_of (kids_filled false gs) _ h) in cc
-  filled_stays (mid x k y) h = let u = filled_stays x (left_of _ _ h) in let v = filled_stays y (right_of (filled x) _ h) in cc
-  filled_stays (post x k) h = ap (λ u. post u k) (filled_stays x h)
-  filled_stays (tail b k ks) h = let u = filled_stays b (left_of _ _ h) in let v = filled_kids_stay false ks (right_of (filled b) _ h) in cc
-  filled_stays (frame k ks) h = ap (frame k) (filled_kids_stay (needs_last_comma k ks) ks h)
+  filled_stays (attributed a more t) h = ap (attributed a more) (filled_stays t h)
+  filled_stays (prefixed k gs t) h = let g = filled_children_stay false gs (left_of _ _ h) in let x = filled_stays t (right_of (children_filled false gs) _ h) in cc
+  filled_stays (infixed x k y) h = let u = filled_stays x (left_of _ _ h) in let v = filled_stays y (right_of (filled x) _ h) in cc
+  filled_stays (postfixed x k) h = ap (λ u. postfixed u k) (filled_stays x h)
+  filled_stays (tail b k ks) h = let u = filled_stays b (left_of _ _ h) in let v = filled_children_stay false ks (right_of (filled b) _ h) in cc
+  filled_stays (frame k ks) h = ap (frame k) (filled_children_stay (needs_last_comma k ks) ks h)
 
-  pub filled_kids_stay : (last : Bool) (ks : Kids) → kids_filled last ks ≡ true → fill_kids last ks ≡ ks
-  filled_kids_stay last none h = refl
-  filled_kids_stay last (kid k c t ks) h =
+  pub filled_children_stay : (last : Bool) (ks : Children) → children_filled last ks ≡ true → fill_children last ks ≡ ks
+  filled_children_stay last none h = refl
+  filled_children_stay last (child k c t ks) h =
       let more = not (is_none ks) in
       let a = left_of (dots_there k && comma_there k c t more last) _ h in
       let b = right_of (dots_there k && comma_there k c t more last) _ h in
       let p = piece_stays k (left_of _ _ a) in
       let q = ending_stays k c t more last (right_of (dots_there k) _ a) in
       let u = filled_stays t (left_of _ _ b) in
-      let v = filled_kids_stay last ks (right_of (filled t) _ b) in
+      let v = filled_children_stay last ks (right_of (filled t) _ b) in
       cc
 
 pub fill_again : (t : Tree) → fill (fill t) ≡ fill t
@@ -238,8 +238,8 @@ leads_to _ = refl
 
 piece_fill : (s : Slot) (k : Piece) (c d : Ending) (t : Tree) → piece_fits s (fill_piece k) d (fill t) ≡ piece_fits s k c t
 piece_fill fields (e.field_value ats m b) c d t = let n = name_fill m t in cc
-piece_fill otherwise e.chained c d t = let x = branch_fill t in let y = kept_fill t in cc
-piece_fill outputs e.output_block c d t = kept_fill t
+piece_fill otherwise e.chained c d t = let x = if_expr_fill t in let y = verbatim_fill t in cc
+piece_fill outputs e.output_block c d t = verbatim_fill t
 piece_fill _ (e.rest x) c d t = refl
 piece_fill _ _ c d t = refl
 
@@ -266,12 +266,12 @@ ending_fill (e.rest d) c t more last = rest_ending d c
 ending_fill _ c t more last = refl
 
 keeps_fill : (k : Piece) (t : Tree) → keeps_block (fill_piece k) (fill t) ≡ keeps_block k t
-keeps_fill e.chained t = kept_fill t
-keeps_fill e.output_block t = kept_fill t
+keeps_fill e.chained t = verbatim_fill t
+keeps_fill e.output_block t = verbatim_fill t
 keeps_fill (e.rest d) t = refl
 keeps_fill _ t = refl
 
-fits_fill : (b : Bool) (k : Frame) (ks : Kids) → frame_fits k (fill_kids b ks) ≡ frame_fits k ks
+fits_fill : (b : Bool) (k : Frame) (ks : Children) → frame_fits k (fill_children b ks) ≡ frame_fits k ks
 fits_fill b (e.structure q p d) ks = rw (rest_fill b ks) refl
 fits_fill b (e.closure_block h) ks = refl
 fits_fill b _ ks = refl
@@ -280,61 +280,61 @@ mutual
   pub well_fill : (t : Tree) → well (fill t) ≡ well t
   well_fill (leaf k) = refl
   well_fill (paren m t) = well_fill t
-  well_fill (adorned a more t) = let x = adorned_fill t in let y = well_fill t in cc
-  well_fill (lead k gs t) = let x = none_fill false gs in let y = well_fill t in cc
-  well_fill (mid x k y) = let u = well_fill x in let v = well_fill y in cc
-  well_fill (post x k) = let u = well_fill x in cc
-  well_fill (tail b k ks) = let u = well_fill b in let v = kids_well_fill false (trailer_slot k) ks in cc
-  well_fill (frame k ks) = let u = fits_fill (needs_last_comma k ks) k ks in let v = kids_well_fill (needs_last_comma k ks) (frame_slot k) ks in cc
+  well_fill (attributed a more t) = let x = attributed_fill t in let y = well_fill t in cc
+  well_fill (prefixed k gs t) = let x = none_fill false gs in let y = well_fill t in cc
+  well_fill (infixed x k y) = let u = well_fill x in let v = well_fill y in cc
+  well_fill (postfixed x k) = let u = well_fill x in cc
+  well_fill (tail b k ks) = let u = well_fill b in let v = children_well_fill false (trailer_slot k) ks in cc
+  well_fill (frame k ks) = let u = fits_fill (needs_last_comma k ks) k ks in let v = children_well_fill (needs_last_comma k ks) (frame_slot k) ks in cc
 
-  pub kids_well_fill : (last : Bool) (s : Slot) (ks : Kids) → kids_well s (fill_kids last ks) ≡ kids_well s ks
-  kids_well_fill last s none = refl
-  kids_well_fill last s (kid k c t ks) =
+  pub children_well_fill : (last : Bool) (s : Slot) (ks : Children) → children_well s (fill_children last ks) ≡ children_well s ks
+  children_well_fill last s none = refl
+  children_well_fill last s (child k c t ks) =
       let d = with_comma (needs_comma k t (not (is_none ks)) last) c in
       let p = piece_fill s k c d t in
       let q = ending_fill k c t (not (is_none ks)) last in
       let i = keeps_fill k t in
       let u = well_fill t in
-      let v : kids_well (after (fill_piece k)) (fill_kids last ks) ≡ kids_well (after k) ks =
-      ap (λ x. kids_well x (fill_kids last ks)) (leads_to k) ∙ kids_well_fill last (after k) ks in
+      let v : children_well (after (fill_piece k)) (fill_children last ks) ≡ children_well (after k) ks =
+      ap (λ x. children_well x (fill_children last ks)) (leads_to k) ∙ children_well_fill last (after k) ks in
       cc
 
 mutual
-  pub plainly_fill : (t : Tree) → plainly_adorned (fill t) ≡ plainly_adorned t
+  pub plainly_fill : (t : Tree) → plainly_attributed (fill t) ≡ plainly_attributed t
   plainly_fill (leaf k) = refl
   plainly_fill (paren m t) = plainly_fill t
-  plainly_fill (adorned a more t) = let x = operation_fill t in let y = plainly_fill t in cc
-  plainly_fill (lead k gs t) = let x = plainly_fill_kids false gs in let y = plainly_fill t in cc
-  plainly_fill (mid x k y) = let u = plainly_fill x in let v = plainly_fill y in cc
-  plainly_fill (post x k) = plainly_fill x
-  plainly_fill (tail b k ks) = let u = plainly_fill b in let v = plainly_fill_kids false ks in cc
-  plainly_fill (frame k ks) = plainly_fill_kids (needs_last_comma k ks) ks
+  plainly_fill (attributed a more t) = let x = operation_fill t in let y = plainly_fill t in cc
+  plainly_fill (prefixed k gs t) = let x = plainly_fill_children false gs in let y = plainly_fill t in cc
+  plainly_fill (infixed x k y) = let u = plainly_fill x in let v = plainly_fill y in cc
+  plainly_fill (postfixed x k) = plainly_fill x
+  plainly_fill (tail b k ks) = let u = plainly_fill b in let v = plainly_fill_children false ks in cc
+  plainly_fill (frame k ks) = plainly_fill_children (needs_last_comma k ks) ks
 
-  pub plainly_fill_kids : (last : Bool) (ks : Kids) → kids_plainly (fill_kids last ks) ≡ kids_plainly ks
-  plainly_fill_kids last none = refl
-  plainly_fill_kids last (kid k c t ks) = let u = plainly_fill t in let v = plainly_fill_kids last ks in cc
+  pub plainly_fill_children : (last : Bool) (ks : Children) → children_plainly (fill_children last ks) ≡ children_plainly ks
+  plainly_fill_children last none = refl
+  plainly_fill_children last (child k c t ks) = let u = plainly_fill t in let v = plainly_fill_children last ks in cc
 
 -- ---- the marks
 
 pub block_clear : (t : Tree) → is_block_like (clear t) ≡ is_block_like t
 block_clear (leaf k) = refl
 block_clear (paren m t) = refl
-block_clear (adorned a more t) = block_clear t
-block_clear (lead k gs t) = refl
-block_clear (mid x k y) = refl
-block_clear (post x k) = refl
+block_clear (attributed a more t) = block_clear t
+block_clear (prefixed k gs t) = refl
+block_clear (infixed x k y) = refl
+block_clear (postfixed x k) = refl
 block_clear (tail b k ks) = refl
 block_clear (frame k ks) = refl
 
-none_clear : (ks : Kids) → is_none (clear_kids ks) ≡ is_none ks
+none_clear : (ks : Children) → is_none (clear_children ks) ≡ is_none ks
 none_clear none = refl
-none_clear (kid k c t ks) = refl
+none_clear (child k c t ks) = refl
 
-one_clear : (ks : Kids) → is_one (clear_kids ks) ≡ is_one ks
+one_clear : (ks : Children) → is_one (clear_children ks) ≡ is_one ks
 one_clear none = refl
-one_clear (kid k c t ks) = none_clear ks
+one_clear (child k c t ks) = none_clear ks
 
-last_clear : (k : Frame) (ks : Kids) → needs_last_comma k (clear_kids ks) ≡ needs_last_comma k ks
+last_clear : (k : Frame) (ks : Children) → needs_last_comma k (clear_children ks) ≡ needs_last_comma k ks
 last_clear e.tuple ks = one_clear ks
 last_clear (e.structure q p d) ks = refl
 last_clear _ ks = refl
@@ -350,19 +350,19 @@ mutual
   pub fill_clear : (t : Tree) → fill (clear t) ≡ clear (fill t)
   fill_clear (leaf k) = refl
   fill_clear (paren m t) = ap (paren false) (fill_clear t)
-  fill_clear (adorned a more t) = ap (adorned a more) (fill_clear t)
-  fill_clear (lead k gs t) = let x = fill_clear_kids false gs in let y = fill_clear t in cc
-  fill_clear (mid x k y) = let u = fill_clear x in let v = fill_clear y in cc
-  fill_clear (post x k) = ap (λ u. post u k) (fill_clear x)
-  fill_clear (tail b k ks) = let u = fill_clear b in let v = fill_clear_kids false ks in cc
+  fill_clear (attributed a more t) = ap (attributed a more) (fill_clear t)
+  fill_clear (prefixed k gs t) = let x = fill_clear_children false gs in let y = fill_clear t in cc
+  fill_clear (infixed x k y) = let u = fill_clear x in let v = fill_clear y in cc
+  fill_clear (postfixed x k) = ap (λ u. postfixed u k) (fill_clear x)
+  fill_clear (tail b k ks) = let u = fill_clear b in let v = fill_clear_children false ks in cc
   fill_clear (frame k ks) =
-      ap (λ b. frame k (fill_kids b (clear_kids ks))) (last_clear k ks) ∙ ap (frame k) (fill_clear_kids (needs_last_comma k ks) ks)
+      ap (λ b. frame k (fill_children b (clear_children ks))) (last_clear k ks) ∙ ap (frame k) (fill_clear_children (needs_last_comma k ks) ks)
 
-  pub fill_clear_kids : (last : Bool) (ks : Kids) → fill_kids last (clear_kids ks) ≡ clear_kids (fill_kids last ks)
-  fill_clear_kids last none = refl
-  fill_clear_kids last (kid k c t ks) =
-      let n : needs_comma k (clear t) (not (is_none (clear_kids ks))) last ≡ needs_comma k t (not (is_none ks)) last =
+  pub fill_clear_children : (last : Bool) (ks : Children) → fill_children last (clear_children ks) ≡ clear_children (fill_children last ks)
+  fill_clear_children last none = refl
+  fill_clear_children last (child k c t ks) =
+      let n : needs_comma k (clear t) (not (is_none (clear_children ks))) last ≡ needs_comma k t (not (is_none ks)) last =
       ap (λ b. needs_comma k (clear t) (not b) last) (none_clear ks) ∙ needs_clear k t (not (is_none ks)) last in
       let u = fill_clear t in
-      let v = fill_clear_kids last ks in
+      let v = fill_clear_children last ks in
       cc

@@ -19,9 +19,9 @@ use Rattle.syn_grammar.specs.declared.kinds.Limits.TheVariants as limits
 use Rattle.syn_grammar.specs.declared.kinds.Infix.{Infix}
 use Rattle.syn_grammar.specs.declared.kinds.Infix.TheVariants as inf
 use Rattle.syn_grammar.specs.Tree as e
-use Rattle.syn_grammar.specs.Tree.{Tree, Leaf, Lead, Post, Trailer, Frame, leaf, paren, adorned, lead, mid, post, tail, frame, outers, word_if, vert_before, own, leaf_own, lead_own, infix_own, post_op, post_own, trailer_own, framed, enclosure}
+use Rattle.syn_grammar.specs.Tree.{Tree, Leaf, Prefix, Postfix, Trailer, Frame, leaf, paren, attributed, prefixed, infixed, postfixed, tail, frame, outers, word_if, vert_before, own, leaf_own, prefix_own, infix_own, postfix_op, postfix_own, trailer_own, framed, enclosure}
 use Rattle.syn_grammar.specs.Rule.{frame_labelled}
-use Rattle.syn_grammar.specs.Query.{is_cast_op, kept_leads, leaf_leads, tree_leads, LeadingLabelIsFirst}
+use Rattle.syn_grammar.specs.Query.{is_cast_op, verbatim_leads, leaf_leads, tree_leads, LeadingLabelIsFirst}
 
 abbrev is_word : List Tok → Bool
 is_word (ident w ∷ l) = true
@@ -32,22 +32,22 @@ or_neither true b = refl
 or_neither false true = refl
 or_neither false false = refl
 
-kept_first : (ts r : List Tok) → lifetime_at r ≡ false → lifetime_at (ts ++ r) ≡ kept_leads (is_word r) ts
+verbatim_first : (ts r : List Tok) → lifetime_at r ≡ false → lifetime_at (ts ++ r) ≡ verbatim_leads (is_word r) ts
 unfolding lifetime_at
-kept_first [] r h = h ∙ sym (or_neither false (is_word r))
-kept_first (ident w ∷ ts) r h = sym (or_neither false (is_word r))
-kept_first (literal w ∷ ts) r h = sym (or_neither false (is_word r))
-kept_first (group d i ∷ ts) r h = sym (or_neither false (is_word r))
-kept_first (punct c spacing.Alone ∷ ts) r h = sym (or_neither false (is_word r))
-kept_first (punct c spacing.Joint ∷ []) [] h = refl
-kept_first (punct c spacing.Joint ∷ []) (ident w ∷ r) h = refl
-kept_first (punct c spacing.Joint ∷ []) (literal w ∷ r) h = refl
-kept_first (punct c spacing.Joint ∷ []) (group d i ∷ r) h = refl
-kept_first (punct c spacing.Joint ∷ []) (punct b s ∷ r) h = refl
-kept_first (punct c spacing.Joint ∷ ident w ∷ ts) r h = sym (or_neither (c == 39) (is_word r))
-kept_first (punct c spacing.Joint ∷ literal w ∷ ts) r h = sym (or_neither false (is_word r))
-kept_first (punct c spacing.Joint ∷ group d i ∷ ts) r h = sym (or_neither false (is_word r))
-kept_first (punct c spacing.Joint ∷ punct b s ∷ ts) r h = sym (or_neither false (is_word r))
+verbatim_first [] r h = h ∙ sym (or_neither false (is_word r))
+verbatim_first (ident w ∷ ts) r h = sym (or_neither false (is_word r))
+verbatim_first (literal w ∷ ts) r h = sym (or_neither false (is_word r))
+verbatim_first (group d i ∷ ts) r h = sym (or_neither false (is_word r))
+verbatim_first (punct c spacing.Alone ∷ ts) r h = sym (or_neither false (is_word r))
+verbatim_first (punct c spacing.Joint ∷ []) [] h = refl
+verbatim_first (punct c spacing.Joint ∷ []) (ident w ∷ r) h = refl
+verbatim_first (punct c spacing.Joint ∷ []) (literal w ∷ r) h = refl
+verbatim_first (punct c spacing.Joint ∷ []) (group d i ∷ r) h = refl
+verbatim_first (punct c spacing.Joint ∷ []) (punct b s ∷ r) h = refl
+verbatim_first (punct c spacing.Joint ∷ ident w ∷ ts) r h = sym (or_neither (c == 39) (is_word r))
+verbatim_first (punct c spacing.Joint ∷ literal w ∷ ts) r h = sym (or_neither false (is_word r))
+verbatim_first (punct c spacing.Joint ∷ group d i ∷ ts) r h = sym (or_neither false (is_word r))
+verbatim_first (punct c spacing.Joint ∷ punct b s ∷ ts) r h = sym (or_neither false (is_word r))
 
 segments_first : (ss : Segments) (n : ℕ) (c : Bool) (r : List Tok) → lifetime_at r ≡ false → lifetime_at (segments_own n ss c r) ≡ false
 unfolding lifetime_at
@@ -99,13 +99,13 @@ leaf_first (e.bare_jump (e.breaking w)) r h = refl
 leaf_first (e.continuing w) r h = refl
 leaf_first (e.block None b) r h = refl
 leaf_first (e.block (Some w) b) r h = refl
-leaf_first (e.looping None b) r h = refl
-leaf_first (e.looping (Some w) b) r h = refl
+leaf_first (e.loop_expr None b) r h = refl
+leaf_first (e.loop_expr (Some w) b) r h = refl
 leaf_first (e.unsafe_block b) r h = refl
 leaf_first (e.const_block b) r h = refl
 leaf_first (e.async_block m ts) r h = refl
 leaf_first (e.try_block ts) r h = refl
-leaf_first (e.verbatim ts) r h = kept_first ts r h
+leaf_first (e.verbatim ts) r h = verbatim_first ts r h
 
 closure_first : (f : Option LifetimesTree) (c s a m u : Bool) (r : List Tok)
     → lifetime_at (before_some f lifetimes_own (word_if c (codes "const") (word_if s (codes "static") (word_if a (codes "async") (word_if m (codes "move") (word_if u (codes "use") (vert_before r))))))) ≡ false
@@ -118,20 +118,20 @@ closure_first None false false false true u r = refl
 closure_first None false false false false true r = refl
 closure_first None false false false false false r = refl
 
-lead_first : (k : Lead) (r : List Tok) → lifetime_at (lead_own k r) ≡ false
+prefix_first : (k : Prefix) (r : List Tok) → lifetime_at (prefix_own k r) ≡ false
 unfolding lifetime_at
-lead_first (e.unary un.Deref) r = refl
-lead_first (e.unary un.Not) r = refl
-lead_first (e.unary un.Neg) r = refl
-lead_first (e.reference m) r = refl
-lead_first (e.raw_addr m) r = refl
-lead_first (e.range_to limits.HalfOpen) r = refl
-lead_first (e.range_to limits.Closed) r = refl
-lead_first (e.binding p) r = refl
-lead_first (e.jump e.returning) r = refl
-lead_first (e.jump e.yielding) r = refl
-lead_first (e.jump (e.breaking w)) r = refl
-lead_first (e.closure h) r = closure_first h.lifetimes h.constness h.movability h.asyncness h.capture h.usage _
+prefix_first (e.unary un.Deref) r = refl
+prefix_first (e.unary un.Not) r = refl
+prefix_first (e.unary un.Neg) r = refl
+prefix_first (e.reference m) r = refl
+prefix_first (e.raw_addr m) r = refl
+prefix_first (e.range_to limits.HalfOpen) r = refl
+prefix_first (e.range_to limits.Closed) r = refl
+prefix_first (e.let_expr p) r = refl
+prefix_first (e.jump e.returning) r = refl
+prefix_first (e.jump e.yielding) r = refl
+prefix_first (e.jump (e.breaking w)) r = refl
+prefix_first (e.closure h) r = closure_first h.lifetimes h.constness h.movability h.asyncness h.capture h.usage _
 
 frame_first : (k : Frame) (o r : List Tok) → lifetime_at (framed k (enclosure k) o r) ≡ frame_labelled k
 unfolding lifetime_at
@@ -142,13 +142,13 @@ frame_first (e.structure q p d) o r =
     subst (λ l. lifetime_at l ≡ false) (type_append (t.path q p.leading (t.segments_of p.segments) p.trailing) (enclosed del.Brace o r))
     (path_first q p.leading (t.segments_of p.segments) p.trailing (enclosed del.Brace o r) refl)
 frame_first (e.closure_block h) o r = closure_first h.lifetimes h.constness h.movability h.asyncness h.capture h.usage _
-frame_first e.branch o r = refl
+frame_first e.if_expr o r = refl
 frame_first (e.while_loop None) o r = refl
 frame_first (e.while_loop (Some w)) o r = refl
 frame_first (e.for_loop None p) o r = refl
 frame_first (e.for_loop (Some w) p) o r = refl
-frame_first e.choice o r = refl
-frame_first e.invisible o r = refl
+frame_first e.match_expr o r = refl
+frame_first e.group_expr o r = refl
 
 -- what stands behind a left end is no label, and a word only where it is `as`
 record Behind (r : List Tok) (word : Bool) : Type 0 where
@@ -190,9 +190,9 @@ infix_behind (inf.Range limits.HalfOpen) l = record { no_label = refl; word_ther
 infix_behind (inf.Range limits.Closed) l = record { no_label = refl; word_there = refl }
 infix_behind inf.Cast l = record { no_label = refl; word_there = refl }
 
-post_behind : (k : Post) (l : List Tok) → Behind (post_own k l) (is_cast_op (post_op k))
-post_behind (e.cast x) l = infix_behind inf.Cast (type_own x l)
-post_behind (e.range_from op) l = infix_behind (inf.Range op) l
+postfix_behind : (k : Postfix) (l : List Tok) → Behind (postfix_own k l) (is_cast_op (postfix_op k))
+postfix_behind (e.cast x) l = infix_behind inf.Cast (type_own x l)
+postfix_behind (e.range_from op) l = infix_behind (inf.Range op) l
 
 trailer_behind : (k : Trailer) (i l : List Tok) → Behind (trailer_own k i l) false
 unfolding lifetime_at
@@ -201,7 +201,7 @@ trailer_behind e.index i l = record { no_label = refl; word_there = refl }
 trailer_behind (e.method w a) i l = record { no_label = refl; word_there = refl }
 trailer_behind (e.field m) i l = record { no_label = refl; word_there = refl }
 trailer_behind e.await i l = record { no_label = refl; word_there = refl }
-trailer_behind e.question i l = record { no_label = refl; word_there = refl }
+trailer_behind e.try_expr i l = record { no_label = refl; word_there = refl }
 
 attributes_first : (ats : List AttributeTree) (l : List Tok) (b : Bool) → lifetime_at l ≡ b → lifetime_at (attributes_own ats l) ≡ (is_nil ats && b)
 unfolding lifetime_at attribute_own
@@ -212,10 +212,10 @@ tree_first : (x : Tree) (r : List Tok) (word : Bool) → Behind r word → lifet
 unfolding lifetime_at
 tree_first (leaf k) r word b = leaf_first k r b.no_label ∙ ap (λ w. leaf_leads w k) b.word_there
 tree_first (paren m x) r word b = refl
-tree_first (adorned a more x) r word b = attributes_first (outers (a ∷ more)) (own x r) (tree_leads word x) (tree_first x r word b)
-tree_first (lead k gs x) r word b = lead_first k _
-tree_first (mid x k y) r word b = tree_first x _ (is_cast_op k) (infix_behind k _)
-tree_first (post x k) r word b = tree_first x _ (is_cast_op (post_op k)) (post_behind k r)
+tree_first (attributed a more x) r word b = attributes_first (outers (a ∷ more)) (own x r) (tree_leads word x) (tree_first x r word b)
+tree_first (prefixed k gs x) r word b = prefix_first k _
+tree_first (infixed x k y) r word b = tree_first x _ (is_cast_op k) (infix_behind k _)
+tree_first (postfixed x k) r word b = tree_first x _ (is_cast_op (postfix_op k)) (postfix_behind k r)
 tree_first (tail x k ks) r word b = tree_first x _ false (trailer_behind k _ r)
 tree_first (frame k ks) r word b = frame_first k _ r
 

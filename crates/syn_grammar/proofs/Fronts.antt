@@ -14,10 +14,10 @@ use Rattle.syn_parts.specs.Part.{type, lifetimes_at, lifetimes, output}
 use Rattle.syn_parts.proofs.Ends.{sign_first}
 use Rattle.syn_grammar.specs.declared.kinds.Limits.{Limits}
 use Rattle.syn_grammar.specs.Tree as tr
-use Rattle.syn_grammar.specs.Tree.{Lead, ClosureHead, Jump}
+use Rattle.syn_grammar.specs.Tree.{Prefix, ClosureHead, Jump}
 use Rattle.syn_grammar.specs.Head as h
-use Rattle.syn_grammar.specs.Head.{lead_form, closure_head, closure_inputs, closure_at, bar, move_word, use_word, static_word, use_behind, async_word, minus, let_word, range_at, jump_at, jump_head, literal_at, loop_at, block_at, const_block_at, async_block_at, try_block_at, builtin_at, range_op}
-use Rattle.syn_grammar.specs.Read.{leaf_at, lead_at}
+use Rattle.syn_grammar.specs.Head.{prefix_form, closure_head, closure_inputs, closure_at, bar, move_word, use_word, static_word, use_behind, async_word, minus, let_word, range_at, jump_at, jump_head, literal_at, loop_at, block_at, const_block_at, async_block_at, try_block_at, builtin_at, range_op}
+use Rattle.syn_grammar.specs.Read.{leaf_at, prefix_at}
 use Rattle.syn_grammar.proofs.Chains.{some_is, behind_some, only_some, chosen, both_true, one_true}
 
 pub word_is : (w : Text) (l : List Tok) → word_at w l ≡ true → l ≡ ident w ∷ drop 1 l
@@ -66,14 +66,14 @@ flag_is m b l n g = by_test b (m.at l) refl g
 -- ---- closures
 
 pub record Fronted (l : List Tok) : Type 0 where
-  pub leads : lead_at l ≡ true
+  pub prefixes : prefix_at l ≡ true
   pub no_leaf : leaf_at l ≡ false
 
 -- a closure's first tokens
 pub record Closed (l : List Tok) : Type 0 where
   pub at : closure_at l ≡ true
   pub no_leaf : leaf_at l ≡ false
-  pub closures : (f : ClosureHead) → lead_form.behind (tr.closure f) l ≡ closure_head.behind f l
+  pub closures : (f : ClosureHead) → prefix_form.behind (tr.closure f) l ≡ closure_head.behind f l
 
 pub second_true : (a : Bool) {b : Bool} → b ≡ true → (a || b) ≡ true
 second_true true g = refl
@@ -91,35 +91,35 @@ record Begun (l : List Tok) : Type 0 where
   no_brace : brace_at l ≡ false
 
 begun_move : (l : List Tok) → Begun (ident (codes "move") ∷ l)
-unfolding closure_at leaf_at literal_at word_at loop_at block_at lifetime_at brace_at group_at const_block_at async_block_at try_block_at builtin_at sign_at lifetimes_at is_truth lead_form range_at jump_at
+unfolding closure_at leaf_at literal_at word_at loop_at block_at lifetime_at brace_at group_at const_block_at async_block_at try_block_at builtin_at sign_at lifetimes_at is_truth prefix_form range_at jump_at
 begun_move l = record { closed = record { at = refl; no_leaf = refl; closures = λ f. refl }; no_brace = refl }
 
 begun_use : (l : List Tok) → Begun (ident (codes "use") ∷ l)
-unfolding closure_at leaf_at literal_at word_at loop_at block_at lifetime_at brace_at group_at const_block_at async_block_at try_block_at builtin_at sign_at lifetimes_at is_truth lead_form range_at jump_at
+unfolding closure_at leaf_at literal_at word_at loop_at block_at lifetime_at brace_at group_at const_block_at async_block_at try_block_at builtin_at sign_at lifetimes_at is_truth prefix_form range_at jump_at
 begun_use l = record { closed = record { at = refl; no_leaf = refl; closures = λ f. refl }; no_brace = refl }
 
 begun_static : (l : List Tok) → Begun (ident (codes "static") ∷ l)
-unfolding closure_at leaf_at literal_at word_at loop_at block_at lifetime_at brace_at group_at const_block_at async_block_at try_block_at builtin_at sign_at lifetimes_at is_truth lead_form range_at jump_at
+unfolding closure_at leaf_at literal_at word_at loop_at block_at lifetime_at brace_at group_at const_block_at async_block_at try_block_at builtin_at sign_at lifetimes_at is_truth prefix_form range_at jump_at
 begun_static l = record { closed = record { at = refl; no_leaf = refl; closures = λ f. refl }; no_brace = refl }
 
 begun_bar : (s : Spacing) (l : List Tok) → Begun (punct 124 s ∷ l)
-unfolding closure_at leaf_at literal_at word_at loop_at block_at lifetime_at brace_at group_at const_block_at async_block_at try_block_at builtin_at sign_at lifetimes_at is_truth lead_form range_at jump_at
+unfolding closure_at leaf_at literal_at word_at loop_at block_at lifetime_at brace_at group_at const_block_at async_block_at try_block_at builtin_at sign_at lifetimes_at is_truth prefix_form range_at jump_at
 begun_bar spacing.Alone l = record { closed = record { at = refl; no_leaf = sign_no_leaf 124 spacing.Alone l refl; closures = λ f. refl }; no_brace = refl }
 begun_bar spacing.Joint l = record { closed = record { at = refl; no_leaf = sign_no_leaf 124 spacing.Joint l refl; closures = λ f. refl }; no_brace = refl }
 
 -- behind `async`
 async_move : (l : List Tok) → bar.at l ≡ true → Begun (ident (codes "async") ∷ ident (codes "move") ∷ l)
-unfolding closure_at leaf_at literal_at word_at loop_at block_at lifetime_at brace_at group_at const_block_at async_block_at try_block_at builtin_at sign_at lifetimes_at is_truth lead_form range_at jump_at
+unfolding closure_at leaf_at literal_at word_at loop_at block_at lifetime_at brace_at group_at const_block_at async_block_at try_block_at builtin_at sign_at lifetimes_at is_truth prefix_form range_at jump_at
 async_move l g =
     let n = sign_no_brace 124 l g in
     record { closed = record { at = rw n refl; no_leaf = rw n refl; closures = λ f. refl }; no_brace = refl }
 
 async_use : (l : List Tok) → Begun (ident (codes "async") ∷ ident (codes "use") ∷ l)
-unfolding closure_at leaf_at literal_at word_at loop_at block_at lifetime_at brace_at group_at const_block_at async_block_at try_block_at builtin_at sign_at lifetimes_at is_truth lead_form range_at jump_at
+unfolding closure_at leaf_at literal_at word_at loop_at block_at lifetime_at brace_at group_at const_block_at async_block_at try_block_at builtin_at sign_at lifetimes_at is_truth prefix_form range_at jump_at
 async_use l = record { closed = record { at = refl; no_leaf = refl; closures = λ f. refl }; no_brace = refl }
 
 async_bar : (s : Spacing) (l : List Tok) → Begun (ident (codes "async") ∷ punct 124 s ∷ l)
-unfolding closure_at leaf_at literal_at word_at loop_at block_at lifetime_at brace_at group_at const_block_at async_block_at try_block_at builtin_at sign_at lifetimes_at is_truth lead_form range_at jump_at
+unfolding closure_at leaf_at literal_at word_at loop_at block_at lifetime_at brace_at group_at const_block_at async_block_at try_block_at builtin_at sign_at lifetimes_at is_truth prefix_form range_at jump_at
 async_bar spacing.Alone l = record { closed = record { at = refl; no_leaf = refl; closures = λ f. refl }; no_brace = refl }
 async_bar spacing.Joint l = record { closed = record { at = refl; no_leaf = refl; closures = λ f. refl }; no_brace = refl }
 
@@ -134,11 +134,11 @@ async_captures l (by_use g) = subst (λ z. Begun (ident (codes "async") ∷ z)) 
 async_captures l (by_bar g) = sign_first 124 [] (λ z. Begun (ident (codes "async") ∷ z)) async_bar l g
 
 closed_const : (l : List Tok) → brace_at l ≡ false → Closed (ident (codes "const") ∷ l)
-unfolding closure_at leaf_at literal_at word_at loop_at block_at lifetime_at brace_at group_at const_block_at async_block_at try_block_at builtin_at sign_at lifetimes_at is_truth lead_form range_at jump_at
+unfolding closure_at leaf_at literal_at word_at loop_at block_at lifetime_at brace_at group_at const_block_at async_block_at try_block_at builtin_at sign_at lifetimes_at is_truth prefix_form range_at jump_at
 closed_const l g = record { at = rw g refl; no_leaf = rw g refl; closures = λ f. refl }
 
 closed_for : (l : List Tok) → lifetimes_at (ident (codes "for") ∷ l) ≡ true → Closed (ident (codes "for") ∷ l)
-unfolding closure_at leaf_at literal_at word_at loop_at block_at lifetime_at brace_at group_at const_block_at async_block_at try_block_at builtin_at sign_at is_truth lead_form range_at jump_at
+unfolding closure_at leaf_at literal_at word_at loop_at block_at lifetime_at brace_at group_at const_block_at async_block_at try_block_at builtin_at sign_at is_truth prefix_form range_at jump_at
 closed_for l g = record { at = rw g refl; no_leaf = refl; closures = λ f. refl }
 
 -- behind `async` or not, behind `static` or not, behind `const` or not
@@ -206,8 +206,8 @@ closure_front f l n g =
 
 -- ---- what stands before an operand
 
-sign_fronted : (c : ℕ) (l : List Tok) → (c == 39) ≡ false → sign_at (c ∷ []) l ≡ true → lead_at l ≡ true → Fronted l
-sign_fronted c l g v w = record { leads = w; no_leaf = sign_first c [] (λ z. leaf_at z ≡ false) (λ s z. sign_no_leaf c s z g) l v }
+sign_fronted : (c : ℕ) (l : List Tok) → (c == 39) ≡ false → sign_at (c ∷ []) l ≡ true → prefix_at l ≡ true → Fronted l
+sign_fronted c l g v w = record { prefixes = w; no_leaf = sign_first c [] (λ z. leaf_at z ≡ false) (λ s z. sign_no_leaf c s z g) l v }
 
 let_no_leaf : (l : List Tok) → leaf_at (ident (codes "let") ∷ l) ≡ false
 unfolding leaf_at literal_at word_at loop_at block_at lifetime_at brace_at group_at const_block_at async_block_at try_block_at builtin_at sign_at is_truth
@@ -236,22 +236,22 @@ pub range_no_leaf : (l : List Tok) → range_at l ≡ true → leaf_at l ≡ fal
 unfolding range_at
 range_no_leaf l g = sign_first 46 (46 ∷ []) (λ z. leaf_at z ≡ false) (λ s z. sign_no_leaf 46 s z refl) l g
 
-pub lead_front : (k : Lead) (l n : List Tok) → lead_form.behind k l ≡ Some n → Fronted l
-unfolding lead_form lead_at
-lead_front k l n g = ⊎_elim (λ i. sign_fronted 42 l refl i.0 (rw i.0 refl)) (λ a.
+pub prefix_front : (k : Prefix) (l n : List Tok) → prefix_form.behind k l ≡ Some n → Fronted l
+unfolding prefix_form prefix_at
+prefix_front k l n g = ⊎_elim (λ i. sign_fronted 42 l refl i.0 (rw i.0 refl)) (λ a.
     ⊎_elim (λ i. sign_fronted 33 l refl i.0 (rw (a.0, i.0) refl)) (λ b.
     ⊎_elim (λ i. sign_fronted 45 l refl i.0 (rw (a.0, b.0, i.0) refl)) (λ c.
     ⊎_elim (λ i. sign_fronted 38 l refl i.0 (rw (a.0, b.0, c.0, i.0) refl)) (λ d.
-    ⊎_elim (λ i. record { leads = rw (a.0, b.0, c.0, d.0, i.0) refl; no_leaf = range_no_leaf l i.0 }) (λ f.
-    ⊎_elim (λ i. record { leads = rw (a.0, b.0, c.0, d.0, f.0, i.0) refl; no_leaf = subst (λ z. leaf_at z ≡ false) (sym (word_is _ l i.0)) (let_no_leaf (drop 1 l)) }) (λ j.
-    ⊎_elim (λ i. record { leads = rw (a.0, b.0, c.0, d.0, f.0, j.0, i.0) refl; no_leaf = jump_no_leaf l i.0 }) (λ u.
+    ⊎_elim (λ i. record { prefixes = rw (a.0, b.0, c.0, d.0, i.0) refl; no_leaf = range_no_leaf l i.0 }) (λ f.
+    ⊎_elim (λ i. record { prefixes = rw (a.0, b.0, c.0, d.0, f.0, i.0) refl; no_leaf = subst (λ z. leaf_at z ≡ false) (sym (word_is _ l i.0)) (let_no_leaf (drop 1 l)) }) (λ j.
+    ⊎_elim (λ i. record { prefixes = rw (a.0, b.0, c.0, d.0, f.0, j.0, i.0) refl; no_leaf = jump_no_leaf l i.0 }) (λ u.
     let (x, y, z) = behind_some (h.from_closure k) (λ f. closure_head.behind f l) n u.1 in
     let w = closure_front x l n z in
-    record { leads = rw (a.0, b.0, c.0, d.0, f.0, j.0, u.0, w.at) refl; no_leaf = w.no_leaf })
+    record { prefixes = rw (a.0, b.0, c.0, d.0, f.0, j.0, u.0, w.at) refl; no_leaf = w.no_leaf })
     (chosen (jump_at l) _ _ (Some n) j.1)) (chosen (let_word.at l) _ _ (Some n) f.1)) (chosen (range_at l) _ _ (Some n) d.1)) (chosen (and.at l) _ _ (Some n) c.1))
     (chosen (minus.at l) _ _ (Some n) b.1)) (chosen (bang.at l) _ _ (Some n) a.1)) (chosen (star.at l) _ _ (Some n) g)
 
--- ---- where a jump or a range stands, no other lead does
+-- ---- where a jump or a range stands, no other prefix does
 
 pub record NoOther (l : List Tok) : Type 0 where
   pub no_star : star.at l ≡ false
@@ -271,28 +271,28 @@ word_other w l = record { no_star = refl; no_bang = refl; no_minus = refl; no_an
 pub first_true : {a : Bool} (b : Bool) → a ≡ true → (a || b) ≡ true
 first_true b v = rw v refl
 
-pub range_leads : (l : List Tok) → range_at l ≡ true → lead_at l ≡ true
-unfolding lead_at
-range_leads l g = second_true (star.at l) (second_true (bang.at l) (second_true (minus.at l) (second_true (and.at l) (first_true _ g))))
+pub range_is_prefix : (l : List Tok) → range_at l ≡ true → prefix_at l ≡ true
+unfolding prefix_at
+range_is_prefix l g = second_true (star.at l) (second_true (bang.at l) (second_true (minus.at l) (second_true (and.at l) (first_true _ g))))
 
-pub jump_leads : (l : List Tok) → jump_at l ≡ true → lead_at l ≡ true
-unfolding lead_at
-jump_leads l g = second_true (star.at l) (second_true (bang.at l) (second_true (minus.at l) (second_true (and.at l) (second_true (range_at l) (second_true (let_word.at l) (first_true _ g))))))
+pub jump_is_prefix : (l : List Tok) → jump_at l ≡ true → prefix_at l ≡ true
+unfolding prefix_at
+jump_is_prefix l g = second_true (star.at l) (second_true (bang.at l) (second_true (minus.at l) (second_true (and.at l) (second_true (range_at l) (second_true (let_word.at l) (first_true _ g))))))
 
-pub range_lead : (op : Limits) (l : List Tok) → range_at l ≡ true → lead_form.behind (tr.range_to op) l ≡ range_op.behind op l
-unfolding lead_form range_at
-range_lead op l g =
+pub range_prefix : (op : Limits) (l : List Tok) → range_at l ≡ true → prefix_form.behind (tr.range_to op) l ≡ range_op.behind op l
+unfolding prefix_form range_at
+range_prefix op l g =
     let a = sign_first 46 (46 ∷ []) (λ z. NoOther z) range_other l g in
     rw (a.no_star, a.no_bang, a.no_minus, a.no_and, g) refl
 
-jump_word_lead : (w : Text) (j : Jump) (l : List Tok) → jump_at (ident w ∷ l) ≡ true → let_word.at (ident w ∷ l) ≡ false → lead_form.behind (tr.jump j) (ident w ∷ l) ≡ jump_head.behind j (ident w ∷ l)
-unfolding lead_form range_at sign_at
-jump_word_lead w j l g i = rw (i, g) refl
+jump_word_prefix : (w : Text) (j : Jump) (l : List Tok) → jump_at (ident w ∷ l) ≡ true → let_word.at (ident w ∷ l) ≡ false → prefix_form.behind (tr.jump j) (ident w ∷ l) ≡ jump_head.behind j (ident w ∷ l)
+unfolding prefix_form range_at sign_at
+jump_word_prefix w j l g i = rw (i, g) refl
 
-pub jump_lead : (j : Jump) (l : List Tok) → jump_at l ≡ true → lead_form.behind (tr.jump j) l ≡ jump_head.behind j l
+pub jump_prefix : (j : Jump) (l : List Tok) → jump_at l ≡ true → prefix_form.behind (tr.jump j) l ≡ jump_head.behind j l
 unfolding jump_at word_at
-jump_lead j l g =
-    ⊎_elim (λ a. subst (λ z. lead_form.behind (tr.jump j) z ≡ jump_head.behind j z) (sym (word_is _ l a)) (jump_word_lead (codes "return") j (drop 1 l) refl refl))
-    (λ a. ⊎_elim (λ b. subst (λ z. lead_form.behind (tr.jump j) z ≡ jump_head.behind j z) (sym (word_is _ l b)) (jump_word_lead (codes "yield") j (drop 1 l) refl refl))
-    (λ b. subst (λ z. lead_form.behind (tr.jump j) z ≡ jump_head.behind j z) (sym (word_is _ l b.1)) (jump_word_lead (codes "break") j (drop 1 l) refl refl))
+jump_prefix j l g =
+    ⊎_elim (λ a. subst (λ z. prefix_form.behind (tr.jump j) z ≡ jump_head.behind j z) (sym (word_is _ l a)) (jump_word_prefix (codes "return") j (drop 1 l) refl refl))
+    (λ a. ⊎_elim (λ b. subst (λ z. prefix_form.behind (tr.jump j) z ≡ jump_head.behind j z) (sym (word_is _ l b)) (jump_word_prefix (codes "yield") j (drop 1 l) refl refl))
+    (λ b. subst (λ z. prefix_form.behind (tr.jump j) z ≡ jump_head.behind j z) (sym (word_is _ l b.1)) (jump_word_prefix (codes "break") j (drop 1 l) refl refl))
     (one_true (h.yield_word.at l) _ a.1)) (one_true (h.return_word.at l) _ g)

@@ -9,17 +9,17 @@ use Rattle.syn_grammar.specs.declared.next.Next.TheVariants as next
 use Rattle.syn_grammar.specs.declared.next.Context.{Context}
 use Rattle.syn_grammar.specs.Place.{takes}
 use Rattle.syn_grammar.specs.Op.{level, is_comparison}
-use Rattle.syn_grammar.specs.Next.{class_of, takes_next, trails, enclosed, in_statement, left_context, base_context, right_context, adorned_context, lead_context, lead_level, piece_context}
+use Rattle.syn_grammar.specs.Next.{class_of, takes_next, trails, enclosed, in_statement, left_context, base_context, right_context, attributed_context, prefix_context, prefix_level, piece_context}
 use Rattle.syn_grammar.specs.Stands.{is_base}
 use Rattle.syn_grammar.specs.Tree as e
-use Rattle.syn_grammar.specs.Tree.{Tree, Kids, Lead, Piece, Trailer, leaf, paren, adorned, lead, mid, post, tail, frame, none, kid, post_op, is_silent, needs_last_comma, plain_block, own_tokens}
-use Rattle.syn_grammar.specs.Rule.{is_operation, refuses, misplaced, self_wrapped, ends_badly, is_bare_break, left_wrapped, place_wrapped, low, bad, labelled, place_asks, left_asks, base_asks, put, is_chainable, chained_bare, is_plain_block, piece_put, bare, bare_kids}
+use Rattle.syn_grammar.specs.Tree.{Tree, Children, Prefix, Piece, Trailer, leaf, paren, attributed, prefixed, infixed, postfixed, tail, frame, none, child, postfix_op, is_silent, needs_last_comma, plain_block, own_tokens}
+use Rattle.syn_grammar.specs.Rule.{is_operation, refuses, misplaced, self_wrapped, ends_badly, is_bare_break, left_wrapped, place_wrapped, low, bad, labelled, place_asks, left_asks, base_asks, put, is_chainable, chained_bare, is_plain_block, piece_put, bare, bare_children}
 use Rattle.syn_grammar.specs.Slot.{Slot, after}
-use Rattle.syn_grammar.specs.WellFormed.{trailer_slot, frame_slot, keeps_block, is_kept_block}
+use Rattle.syn_grammar.specs.WellFormed.{trailer_slot, frame_slot, keeps_block, is_verbatim_block}
 use Rattle.syn_grammar.proofs.Bools.{or_false, or_none, both_true, neither, not_true, takes_lower}
-use Rattle.syn_grammar.proofs.Formed.{Formed, FormedKids}
-use Rattle.syn_grammar.proofs.Obeys.{Fits, FitsLeft, begins_label, Obeys, ObeysKids}
-use Rattle.syn_grammar.proofs.Edges.{compares_bare, range_bare, operation_bare, carrier_bare, base_bare, base_paren, label_bare, lead_next_is, bad_end, low_some, low_closed, carrier_closed, self_enclosed, misplaced_kind}
+use Rattle.syn_grammar.proofs.Formed.{Formed, FormedChildren}
+use Rattle.syn_grammar.proofs.Obeys.{Fits, FitsLeft, begins_label, Obeys, ObeysChildren}
+use Rattle.syn_grammar.proofs.Edges.{compares_bare, range_bare, operation_bare, carrier_bare, base_bare, base_paren, label_bare, prefix_next_is, bad_end, low_some, low_closed, carrier_closed, self_enclosed, misplaced_kind}
 
 -- Wherever its edges allow it, the tree obeys the rules as printed, left bare.
 abbrev pub Good : Tree → Type 0
@@ -61,7 +61,7 @@ at_place v t c x false f g h e =
       },
     )
 
-no_label : (k : Lead) (c : Context) (t : Tree) (w a : Bool) → a || (is_bare_break k && labelled t) ≡ w
+no_label : (k : Prefix) (c : Context) (t : Tree) (w a : Bool) → a || (is_bare_break k && labelled t) ≡ w
     → is_bare_break k && begins_label (put w (bare enclosed t) (bare c t)) ≡ false
 no_label k c t true a h = and-false (is_bare_break k)
 no_label k c t false a h = go (is_bare_break k) (or_false _ _ h).1
@@ -96,36 +96,36 @@ at_base v k b c false g h e =
     (base_bare k (base_context k c) b ∙ i, g v (base_context k c) (rw (low_closed b (carrier_closed b (both_true _ _ i).0)) e) r.0 (neither _ _ r.1 p.1))
 
 behind_attributes : (v : Level) (t : Tree) (c : Context) (w : Bool) → Good t → is_operation t ≡ w → takes v lev.Unambiguous ≡ true
-    → not w && bad t c.next ≡ false → (not w && refuses t c.next) || (not w && misplaced (adorned_context c) t) ≡ false
-    → (is_operation (put w (bare enclosed t) (bare (adorned_context c) t)) ≡ false) × Obeys v (adorned_context c) (put w (bare enclosed t) (bare (adorned_context c) t))
+    → not w && bad t c.next ≡ false → (not w && refuses t c.next) || (not w && misplaced (attributed_context c) t) ≡ false
+    → (is_operation (put w (bare enclosed t) (bare (attributed_context c) t)) ≡ false) × Obeys v (attributed_context c) (put w (bare enclosed t) (bare (attributed_context c) t))
 behind_attributes v t c true g i h e f = (refl, obeys_paren t g)
 behind_attributes v t c false g i h e f =
-    (operation_bare (adorned_context c) t i, g v (adorned_context c) (rw (low_closed t (or_false _ _ i).0) h) e f)
+    (operation_bare (attributed_context c) t i, g v (attributed_context c) (rw (low_closed t (or_false _ _ i).0) h) e f)
 
 -- ---- operands of frames and trailers
 
-at_kid : (t : Tree) (c : Context) (w : Bool) → Good t → place_asks lev.Jump c t ≡ w → Obeys lev.Jump c (put w (bare enclosed t) (bare c t))
-at_kid t c true g h = obeys_paren t g
-at_kid t c false g h =
+at_child : (t : Tree) (c : Context) (w : Bool) → Good t → place_asks lev.Jump c t ≡ w → Obeys lev.Jump c (put w (bare enclosed t) (bare c t))
+at_child t c true g h = obeys_paren t g
+at_child t c false g h =
     let p = or_false _ _ h in
     let q = or_false _ _ p.0 in
     let s = or_false _ _ q.1 in
     g lev.Jump c (not_true _ q.0) s.0 (neither _ _ s.1 p.1)
 
 chained_obeys : (x : Tree) → Obeys lev.Jump enclosed x → Obeys lev.Jump enclosed (chained_bare x)
-chained_obeys (adorned a more (frame k ks)) h = h.1
-chained_obeys (adorned a more (leaf k)) h = h
-chained_obeys (adorned a more (paren m t)) h = h
-chained_obeys (adorned a more (adorned b bs t)) h = h
-chained_obeys (adorned a more (lead k gs t)) h = h
-chained_obeys (adorned a more (mid x k y)) h = h
-chained_obeys (adorned a more (post x k)) h = h
-chained_obeys (adorned a more (tail b k ks)) h = h
+chained_obeys (attributed a more (frame k ks)) h = h.1
+chained_obeys (attributed a more (leaf k)) h = h
+chained_obeys (attributed a more (paren m t)) h = h
+chained_obeys (attributed a more (attributed b bs t)) h = h
+chained_obeys (attributed a more (prefixed k gs t)) h = h
+chained_obeys (attributed a more (infixed x k y)) h = h
+chained_obeys (attributed a more (postfixed x k)) h = h
+chained_obeys (attributed a more (tail b k ks)) h = h
 chained_obeys (leaf k) h = h
 chained_obeys (paren m t) h = h
-chained_obeys (lead k gs t) h = h
-chained_obeys (mid x k y) h = h
-chained_obeys (post x k) h = h
+chained_obeys (prefixed k gs t) h = h
+chained_obeys (infixed x k y) h = h
+chained_obeys (postfixed x k) h = h
 chained_obeys (tail b k ks) h = h
 chained_obeys (frame k ks) h = h
 
@@ -133,85 +133,85 @@ or_block : (w : Bool) (x s : Tree) → Obeys lev.Jump enclosed x → Obeys lev.J
 or_block true x s h = h
 or_block false x s h = refl
 
-kid_obeys : (k : Piece) (t : Tree) → Good t → is_silent k ≡ false
+child_obeys : (k : Piece) (t : Tree) → Good t → is_silent k ≡ false
     → Obeys lev.Jump (piece_context k) (piece_put k t (bare enclosed t) (bare (piece_context k) t)
     (put (place_asks lev.Jump in_statement t) (bare enclosed t) (bare in_statement t)) (place_asks lev.Jump (piece_context k) t))
-kid_obeys e.element t g s = at_kid t enclosed _ g refl
-kid_obeys e.value t g s = at_kid t enclosed _ g refl
-kid_obeys e.repeated t g s = at_kid t enclosed _ g refl
-kid_obeys (e.field_value ats m c) t g s = rw s (at_kid t enclosed _ g refl)
-kid_obeys (e.rest d) t g s = at_kid t enclosed _ g refl
-kid_obeys e.condition t g s = at_kid t (piece_context e.condition) _ g refl
-kid_obeys e.loop_head t g s = at_kid t (piece_context e.loop_head) _ g refl
-kid_obeys e.scrutinee t g s = at_kid t (piece_context e.scrutinee) _ g refl
-kid_obeys e.chained t g s =
+child_obeys e.element t g s = at_child t enclosed _ g refl
+child_obeys e.value t g s = at_child t enclosed _ g refl
+child_obeys e.repeated t g s = at_child t enclosed _ g refl
+child_obeys (e.field_value ats m c) t g s = rw s (at_child t enclosed _ g refl)
+child_obeys (e.rest d) t g s = at_child t enclosed _ g refl
+child_obeys e.condition t g s = at_child t (piece_context e.condition) _ g refl
+child_obeys e.loop_head t g s = at_child t (piece_context e.loop_head) _ g refl
+child_obeys e.scrutinee t g s = at_child t (piece_context e.scrutinee) _ g refl
+child_obeys e.chained t g s =
     or_block (is_chainable t) (chained_bare (bare enclosed t)) (put (place_asks lev.Jump in_statement t) (bare enclosed t) (bare in_statement t))
     (chained_obeys (bare enclosed t) (obeys_enclosed t g))
-kid_obeys (e.guard ats p) t g s = at_kid t enclosed _ g refl
-kid_obeys e.guarded t g s = at_kid t (piece_context e.guarded) _ g refl
-kid_obeys (e.arm ats p) t g s = at_kid t (piece_context (e.arm ats p)) _ g refl
-kid_obeys e.output_block t g s =
+child_obeys (e.guard ats p) t g s = at_child t enclosed _ g refl
+child_obeys e.guarded t g s = at_child t (piece_context e.guarded) _ g refl
+child_obeys (e.arm ats p) t g s = at_child t (piece_context (e.arm ats p)) _ g refl
+child_obeys e.output_block t g s =
     or_block (is_plain_block t) (bare enclosed t) (put (place_asks lev.Jump in_statement t) (bare enclosed t) (bare in_statement t)) (obeys_enclosed t g)
-kid_obeys e.grouped t g s = at_kid t enclosed _ g refl
-kid_obeys e.stray t g s = absurd cc
+child_obeys e.grouped t g s = at_child t enclosed _ g refl
+child_obeys e.stray t g s = absurd cc
 
-pub not_kept : (k : Piece) (t : Tree) → is_kept_block t ≡ false → keeps_block k t ≡ false
-not_kept e.element t h = refl
-not_kept e.value t h = refl
-not_kept e.repeated t h = refl
-not_kept (e.field_value ats m c) t h = refl
-not_kept (e.rest d) t h = refl
-not_kept e.condition t h = refl
-not_kept e.loop_head t h = refl
-not_kept e.scrutinee t h = refl
-not_kept e.chained t h = h
-not_kept (e.guard ats p) t h = refl
-not_kept e.guarded t h = refl
-not_kept (e.arm ats p) t h = refl
-not_kept e.output_block t h = h
-not_kept e.grouped t h = refl
-not_kept e.stray t h = refl
+pub not_verbatim : (k : Piece) (t : Tree) → is_verbatim_block t ≡ false → keeps_block k t ≡ false
+not_verbatim e.element t h = refl
+not_verbatim e.value t h = refl
+not_verbatim e.repeated t h = refl
+not_verbatim (e.field_value ats m c) t h = refl
+not_verbatim (e.rest d) t h = refl
+not_verbatim e.condition t h = refl
+not_verbatim e.loop_head t h = refl
+not_verbatim e.scrutinee t h = refl
+not_verbatim e.chained t h = h
+not_verbatim (e.guard ats p) t h = refl
+not_verbatim e.guarded t h = refl
+not_verbatim (e.arm ats p) t h = refl
+not_verbatim e.output_block t h = h
+not_verbatim e.grouped t h = refl
+not_verbatim e.stray t h = refl
 
-kid_good : (k : Piece) (t : Tree) → (keeps_block k t ≡ false → Good t) → Good t
-kid_good k (leaf j) g = λ v c h e s. s
-kid_good k (paren m t) g = g (not_kept k (paren m t) refl)
-kid_good k (adorned a more t) g = g (not_kept k (adorned a more t) refl)
-kid_good k (lead j gs t) g = g (not_kept k (lead j gs t) refl)
-kid_good k (mid x j y) g = g (not_kept k (mid x j y) refl)
-kid_good k (post x j) g = g (not_kept k (post x j) refl)
-kid_good k (tail b j ks) g = g (not_kept k (tail b j ks) refl)
-kid_good k (frame j ks) g = g (not_kept k (frame j ks) refl)
+child_good : (k : Piece) (t : Tree) → (keeps_block k t ≡ false → Good t) → Good t
+child_good k (leaf j) g = λ v c h e s. s
+child_good k (paren m t) g = g (not_verbatim k (paren m t) refl)
+child_good k (attributed a more t) g = g (not_verbatim k (attributed a more t) refl)
+child_good k (prefixed j gs t) g = g (not_verbatim k (prefixed j gs t) refl)
+child_good k (infixed x j y) g = g (not_verbatim k (infixed x j y) refl)
+child_good k (postfixed x j) g = g (not_verbatim k (postfixed x j) refl)
+child_good k (tail b j ks) g = g (not_verbatim k (tail b j ks) refl)
+child_good k (frame j ks) g = g (not_verbatim k (frame j ks) refl)
 
-lead_ends : (k : Lead) (t : Tree) (c : Context) → bad (lead k e.none t) c.next ≡ false
-    → ends_badly (lead_level k) t (lead_context k c).next
-    (place_wrapped (lead_level k) t (lead_context k c).next (low t) (bad t (lead_context k c).next) || (is_bare_break k && labelled t)) ≡ false
-lead_ends k t c h = rw (lead_next_is k c) h
+prefix_ends : (k : Prefix) (t : Tree) (c : Context) → bad (prefixed k e.none t) c.next ≡ false
+    → ends_badly (prefix_level k) t (prefix_context k c).next
+    (place_wrapped (prefix_level k) t (prefix_context k c).next (low t) (bad t (prefix_context k c).next) || (is_bare_break k && labelled t)) ≡ false
+prefix_ends k t c h = rw (prefix_next_is k c) h
 
 mutual
   pub good : (t : Tree) → Formed t → Good t
   good (leaf k) f v c h e s = s
   good (paren m t) f v c h e s = obeys_paren t (good t f)
-  good (adorned a more t) f v c h e s =
+  good (attributed a more t) f v c h e s =
       let p = behind_attributes v t c _ (good t f.2) refl h e s in (p.0, p.1)
-  good (lead k gs t) f v c h e s =
-      let p = at_place (lead_level k) t (lead_context k c) (is_bare_break k && labelled t) _ f.2 (good t f.2) refl (lead_ends k t c e) in
-      (s, p.0, p.1, no_label k (lead_context k c) t _ _ refl)
-  good (mid x k y) f v c h e s =
+  good (prefixed k gs t) f v c h e s =
+      let p = at_place (prefix_level k) t (prefix_context k c) (is_bare_break k && labelled t) _ f.2 (good t f.2) refl (prefix_ends k t c e) in
+      (s, p.0, p.1, no_label k (prefix_context k c) t _ _ refl)
+  good (infixed x k y) f v c h e s =
       let l = takes_lower v (level k) _ h in
       let p = at_left v k x (left_context k c) _ (good x f.1) refl refl l.1 in
       let q = at_place (level k) y (right_context k c) false _ f.2 (good y f.2) (or_none _) (rw (or_none (place_wrapped (level k) y c.next (low y) (bad y c.next))) e) in
       (l.0, p.0, p.1, q.0, q.1)
-  good (post x k) f v c h e s =
-      let l = takes_lower v (level (post_op k)) _ h in
-      let p = at_left v (post_op k) x (left_context (post_op k) c) _ (good x f.1) refl refl l.1 in
+  good (postfixed x k) f v c h e s =
+      let l = takes_lower v (level (postfix_op k)) _ h in
+      let p = at_left v (postfix_op k) x (left_context (postfix_op k) c) _ (good x f.1) refl refl l.1 in
       (l.0, p.0, p.1, (or_false _ _ s).0)
-  good (tail b k ks) f v c h e s = let p = at_base v k b c _ (good b f.1) refl h in (p.0, p.1, good_kids ks (trailer_slot k) false f.2)
-  good (frame k ks) f v c h e s = (s, good_kids ks (frame_slot k) (needs_last_comma k ks) f.1)
+  good (tail b k ks) f v c h e s = let p = at_base v k b c _ (good b f.1) refl h in (p.0, p.1, good_children ks (trailer_slot k) false f.2)
+  good (frame k ks) f v c h e s = (s, good_children ks (frame_slot k) (needs_last_comma k ks) f.1)
 
-  pub good_kids : (ks : Kids) (s : Slot) (last : Bool) → FormedKids s last ks → ObeysKids (bare_kids ks)
-  good_kids none s last f = tt
-  good_kids (kid k c t ks) s last f = (λ e. kid_obeys k t (kid_good k t (λ b. good t (f.1 b))) e, good_kids ks (after k) last f.2)
+  pub good_children : (ks : Children) (s : Slot) (last : Bool) → FormedChildren s last ks → ObeysChildren (bare_children ks)
+  good_children none s last f = tt
+  good_children (child k c t ks) s last f = (λ e. child_obeys k t (child_good k t (λ b. good t (f.1 b))) e, good_children ks (after k) last f.2)
 
 -- in each position
 pub printed_good : (t : Tree) (c : Context) → Formed t → Obeys lev.Jump c (put (place_asks lev.Jump c t) (bare enclosed t) (bare c t))
-printed_good t c f = at_kid t c _ (good t f) refl
+printed_good t c f = at_child t c _ (good t f) refl

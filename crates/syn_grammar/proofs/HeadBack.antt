@@ -17,10 +17,10 @@ use Rattle.syn_parts.proofs.Same.{both_true, not_true, same_toks-refl}
 use Rattle.syn_parts.proofs.Forms.{more_stands}
 use Rattle.syn_parts.proofs.Marks.{pound_bang_present}
 use Rattle.syn_parts.proofs.Parts.{inner_body_alike}
-use Rattle.syn_parts.proofs.ReadBack.{kept_bracket_back, text_same, Commas, no_element, element, next_own, listed_back}
+use Rattle.syn_parts.proofs.ReadBack.{verbatim_bracket_back, text_same, Commas, no_element, element, next_own, listed_back}
 use Rattle.syn_parts.proofs.Whole.{parts_read_back}
 use Rattle.syn_parts.proofs.PatsBack.{closure_arg_back}
-use Rattle.syn_parts.proofs.PatWholeTold.{patterns_read_back}
+use Rattle.syn_parts.proofs.PatWholeComplete.{patterns_read_back}
 use Rattle.syn_parts.proofs.Ends.{parts_end}
 use Rattle.syn_parts.proofs.Pats.{closure_arg_alike}
 use Rattle.syn_parts.proofs.TypesBack.{lifetimes_back}
@@ -32,9 +32,9 @@ use Rattle.syn_grammar.specs.declared.kinds.Limits.TheVariants as limits
 use Rattle.syn_grammar.specs.Op.{limits_text}
 use Rattle.syn_grammar.specs.Head as h
 use Rattle.syn_grammar.specs.Tree as e
-use Rattle.syn_grammar.specs.Tree.{Body, Jump, Lead, ClosureHead, inners, lead_own, label_own, body_own, jump_own, closure_own, word_if, vert_before, sign_before}
+use Rattle.syn_grammar.specs.Tree.{Body, Jump, Prefix, ClosureHead, inners, prefix_own, label_own, body_own, jump_own, closure_own, word_if, vert_before, sign_before}
 use Rattle.syn_grammar.proofs.Attributes.{inners_are}
-use Rattle.syn_grammar.specs.WellFormed.{attributes_inner, body_fits, inputs_fit, head_fits, lead_fits}
+use Rattle.syn_grammar.specs.WellFormed.{attributes_inner, body_fits, inputs_fit, head_fits, prefix_fits}
 
 -- ---- inner attributes and bodies
 
@@ -44,7 +44,7 @@ inner_step a xs l m g i = by_style a.inner a.tokens g
   where
     by_style : (b : Bool) (ts : List Tok) → b ≡ true → (more pound_bang inner_body).behind (record { inner = b; tokens = ts } ∷ xs) (attribute_own (record { inner = b; tokens = ts }) l) ≡ Some m
     by_style false ts d = absurd cc
-    by_style true ts d = more_stands pound_bang inner_body pound_bang_present (λ k. inner_body_alike) (record { inner = true; tokens = ts } ∷ xs) _ m (rw (kept_bracket_back ts l) i)
+    by_style true ts d = more_stands pound_bang inner_body pound_bang_present (λ k. inner_body_alike) (record { inner = true; tokens = ts } ∷ xs) _ m (rw (verbatim_bracket_back ts l) i)
 
 all_back : (xs : List AttributeTree) (l : List Tok) → attributes_inner xs ≡ true → pound_bang.at l ≡ false → inner_attributes.behind xs (attributes_own xs l) ≡ Some l
 unfolding inner_attributes
@@ -220,15 +220,15 @@ head_back c r f w =
 -- ---- what stands before an operand
 
 -- behind `&` alone a `mut` would be its own, and so would `raw` before `mut` or `const`
-abbrev pub lead_stops : Lead → List Tok → Bool
-lead_stops (e.reference false) r = not (mutable.at r) && not (h.raw_at r)
-lead_stops (e.jump j) r = jump_stops j r
-lead_stops (e.closure c) r = output_stops true c.output r
-lead_stops _ r = true
+abbrev pub prefix_stops : Prefix → List Tok → Bool
+prefix_stops (e.reference false) r = not (mutable.at r) && not (h.raw_at r)
+prefix_stops (e.jump j) r = jump_stops j r
+prefix_stops (e.closure c) r = output_stops true c.output r
+prefix_stops _ r = true
 
 pub closure_seen : (x : ClosureHead) (p : Option LifetimesTree) (a b c d u : Bool) (l : List Tok)
-    → h.lead_form.behind (e.closure x) (before_some p lifetimes_own (from_words a b c d u l)) ≡ h.closure_head.behind x (before_some p lifetimes_own (from_words a b c d u l))
-unfolding h.lead_form h.range_at h.jump_at sign_at word_at lifetimes_own
+    → h.prefix_form.behind (e.closure x) (before_some p lifetimes_own (from_words a b c d u l)) ≡ h.closure_head.behind x (before_some p lifetimes_own (from_words a b c d u l))
+unfolding h.prefix_form h.range_at h.jump_at sign_at word_at lifetimes_own
 closure_seen x (Some p) a b c d u l = refl
 closure_seen x None true b c d u l = refl
 closure_seen x None false true c d u l = refl
@@ -241,52 +241,52 @@ equal_ends : (l : List Tok) → ends_patterns (alone 61 ∷ l) ≡ true
 unfolding ends_patterns ends_types bound_at sign_at round_at brace_at group_at
 equal_ends l = refl
 
-binding_back : (p : PatTree) (r : List Tok) → pat_fits true p ≡ true → h.lead_form.behind (e.binding p) (lead_own (e.binding p) r) ≡ Some r
-unfolding h.lead_form h.range_at h.jump_at sign_at word_at
-binding_back p r f =
+let_back : (p : PatTree) (r : List Tok) → pat_fits true p ≡ true → h.prefix_form.behind (e.let_expr p) (prefix_own (e.let_expr p) r) ≡ Some r
+unfolding h.prefix_form h.range_at h.jump_at sign_at word_at
+let_back p r f =
     let s : pat_stops true p (alone 61 ∷ r) ≡ true = parts_end.patterns true p (alone 61 ∷ r) (equal_ends r) refl in
     rw (patterns_read_back.patterns true p (alone 61 ∷ r) f s) refl
 
-reference_back : (r : List Tok) → mutable.at r ≡ false → h.raw_at r ≡ false → h.lead_form.behind (e.reference false) (lead_own (e.reference false) r) ≡ Some r
-unfolding h.lead_form sign_at
+reference_back : (r : List Tok) → mutable.at r ≡ false → h.raw_at r ≡ false → h.prefix_form.behind (e.reference false) (prefix_own (e.reference false) r) ≡ Some r
+unfolding h.prefix_form sign_at
 reference_back r f g = rw (g, f) refl
 
-mut_back : (r : List Tok) → h.lead_form.behind (e.reference true) (lead_own (e.reference true) r) ≡ Some r
-unfolding h.lead_form h.raw_at sign_at word_at
+mut_back : (r : List Tok) → h.prefix_form.behind (e.reference true) (prefix_own (e.reference true) r) ≡ Some r
+unfolding h.prefix_form h.raw_at sign_at word_at
 mut_back r = refl
 
-raw_back : (m : Bool) (r : List Tok) → h.lead_form.behind (e.raw_addr m) (lead_own (e.raw_addr m) r) ≡ Some r
-unfolding h.lead_form h.raw_at sign_at word_at
+raw_back : (m : Bool) (r : List Tok) → h.prefix_form.behind (e.raw_addr m) (prefix_own (e.raw_addr m) r) ≡ Some r
+unfolding h.prefix_form h.raw_at sign_at word_at
 raw_back true r = refl
 raw_back false r = refl
 
-unary_back : (op : UnKind) (r : List Tok) → h.lead_form.behind (e.unary op) (lead_own (e.unary op) r) ≡ Some r
-unfolding h.lead_form sign_at
+unary_back : (op : UnKind) (r : List Tok) → h.prefix_form.behind (e.unary op) (prefix_own (e.unary op) r) ≡ Some r
+unfolding h.prefix_form sign_at
 unary_back un.Deref r = refl
 unary_back un.Not r = refl
 unary_back un.Neg r = refl
 
-range_to_back : (op : Limits) (r : List Tok) → h.lead_form.behind (e.range_to op) (lead_own (e.range_to op) r) ≡ Some r
-unfolding h.lead_form h.range_at sign_at
+range_to_back : (op : Limits) (r : List Tok) → h.prefix_form.behind (e.range_to op) (prefix_own (e.range_to op) r) ≡ Some r
+unfolding h.prefix_form h.range_at sign_at
 range_to_back limits.HalfOpen r = range_back limits.HalfOpen r
 range_to_back limits.Closed r = range_back limits.Closed r
 
-value_back : (j : Jump) (r : List Tok) → jump_stops j r ≡ true → h.lead_form.behind (e.jump j) (lead_own (e.jump j) r) ≡ Some r
-unfolding h.lead_form h.range_at h.jump_at sign_at word_at
+value_back : (j : Jump) (r : List Tok) → jump_stops j r ≡ true → h.prefix_form.behind (e.jump j) (prefix_own (e.jump j) r) ≡ Some r
+unfolding h.prefix_form h.range_at h.jump_at sign_at word_at
 value_back e.returning r s = jump_back e.returning r s
 value_back e.yielding r s = jump_back e.yielding r s
 value_back (e.breaking w) r s = jump_back (e.breaking w) r s
 
-pub lead_back : (k : Lead) (r : List Tok) → lead_fits k ≡ true → lead_stops k r ≡ true → h.lead_form.behind k (lead_own k r) ≡ Some r
-lead_back (e.unary op) r f s = unary_back op r
-lead_back (e.reference true) r f s = mut_back r
-lead_back (e.reference false) r f s =
+pub prefix_back : (k : Prefix) (r : List Tok) → prefix_fits k ≡ true → prefix_stops k r ≡ true → h.prefix_form.behind k (prefix_own k r) ≡ Some r
+prefix_back (e.unary op) r f s = unary_back op r
+prefix_back (e.reference true) r f s = mut_back r
+prefix_back (e.reference false) r f s =
     let (i, j) = both_true (not (mutable.at r)) (not (h.raw_at r)) s in
     reference_back r (not_true (mutable.at r) i) (not_true (h.raw_at r) j)
-lead_back (e.raw_addr m) r f s = raw_back m r
-lead_back (e.range_to op) r f s = range_to_back op r
-lead_back (e.binding p) r f s = binding_back p r f
-lead_back (e.jump j) r f s = value_back j r s
-lead_back (e.closure c) r f s =
+prefix_back (e.raw_addr m) r f s = raw_back m r
+prefix_back (e.range_to op) r f s = range_to_back op r
+prefix_back (e.let_expr p) r f s = let_back p r f
+prefix_back (e.jump j) r f s = value_back j r s
+prefix_back (e.closure c) r f s =
     let (i, j) = both_true (head_fits c) (is_default c.output) f in
     closure_seen c c.lifetimes c.constness c.movability c.asyncness c.capture c.usage _ ∙ head_back c r i s

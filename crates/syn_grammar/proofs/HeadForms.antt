@@ -23,7 +23,7 @@ use Rattle.syn_grammar.specs.declared.kinds.UnKind.TheVariants as un
 use Rattle.syn_grammar.specs.declared.kinds.Limits.{Limits}
 use Rattle.syn_grammar.specs.declared.kinds.Limits.TheVariants as limits
 use Rattle.syn_grammar.specs.Tree as e
-use Rattle.syn_grammar.specs.Tree.{Body, Jump, Leaf, ClosureHead, Lead, Trailer, Piece}
+use Rattle.syn_grammar.specs.Tree.{Body, Jump, Leaf, ClosureHead, Prefix, Trailer, Piece}
 use Rattle.syn_grammar.specs.Path.{expr_path}
 use Rattle.syn_grammar.specs.Head as h
 use Rattle.syn_grammar.specs.Slot as s
@@ -147,7 +147,7 @@ pub sees_loop : Sees h.to_loop h.from_loop
 sees_loop = record { there = λ x. refl; back = back }
   where
     back : (y : Leaf) (x : Option Text × Body) → h.from_loop y ≡ Some x → h.to_loop x ≡ y
-    back (e.looping label b) x g = ap h.to_loop (sym (some_is g))
+    back (e.loop_expr label b) x g = ap h.to_loop (sym (some_is g))
     back _ x g = absurd cc
 
 pub sees_unsafe : Sees e.unsafe_block h.from_unsafe
@@ -194,63 +194,63 @@ sees_head = record { there = λ x. refl; back = back }
 pub only_deref : Only (e.unary un.Deref) h.is_deref
 only_deref = record { itself = refl; only = only }
   where
-    only : (y : Lead) → h.is_deref y ≡ true → (e.unary un.Deref) ≡ y
+    only : (y : Prefix) → h.is_deref y ≡ true → (e.unary un.Deref) ≡ y
     only (e.unary un.Deref) g = refl
     only _ g = absurd cc
 
 pub only_not : Only (e.unary un.Not) h.is_not
 only_not = record { itself = refl; only = only }
   where
-    only : (y : Lead) → h.is_not y ≡ true → (e.unary un.Not) ≡ y
+    only : (y : Prefix) → h.is_not y ≡ true → (e.unary un.Not) ≡ y
     only (e.unary un.Not) g = refl
     only _ g = absurd cc
 
 pub only_neg : Only (e.unary un.Neg) h.is_neg
 only_neg = record { itself = refl; only = only }
   where
-    only : (y : Lead) → h.is_neg y ≡ true → (e.unary un.Neg) ≡ y
+    only : (y : Prefix) → h.is_neg y ≡ true → (e.unary un.Neg) ≡ y
     only (e.unary un.Neg) g = refl
     only _ g = absurd cc
 
 pub sees_reference : Sees e.reference h.from_reference
 sees_reference = record { there = λ x. refl; back = back }
   where
-    back : (y : Lead) (x : Bool) → h.from_reference y ≡ Some x → e.reference x ≡ y
+    back : (y : Prefix) (x : Bool) → h.from_reference y ≡ Some x → e.reference x ≡ y
     back (e.reference m) x g = ap e.reference (sym (some_is g))
     back _ x g = absurd cc
 
 pub sees_raw_addr : Sees e.raw_addr h.from_raw_addr
 sees_raw_addr = record { there = λ x. refl; back = back }
   where
-    back : (y : Lead) (x : Bool) → h.from_raw_addr y ≡ Some x → e.raw_addr x ≡ y
+    back : (y : Prefix) (x : Bool) → h.from_raw_addr y ≡ Some x → e.raw_addr x ≡ y
     back (e.raw_addr m) x g = ap e.raw_addr (sym (some_is g))
     back _ x g = absurd cc
 
 pub sees_range_to : Sees e.range_to h.from_range_to
 sees_range_to = record { there = λ x. refl; back = back }
   where
-    back : (y : Lead) (x : Limits) → h.from_range_to y ≡ Some x → e.range_to x ≡ y
+    back : (y : Prefix) (x : Limits) → h.from_range_to y ≡ Some x → e.range_to x ≡ y
     back (e.range_to op) x g = ap e.range_to (sym (some_is g))
     back _ x g = absurd cc
 
-pub sees_binding : Sees e.binding h.from_binding
-sees_binding = record { there = λ x. refl; back = back }
+pub sees_let : Sees e.let_expr h.from_let
+sees_let = record { there = λ x. refl; back = back }
   where
-    back : (y : Lead) (x : PatTree) → h.from_binding y ≡ Some x → e.binding x ≡ y
-    back (e.binding p) x g = ap e.binding (sym (some_is g))
+    back : (y : Prefix) (x : PatTree) → h.from_let y ≡ Some x → e.let_expr x ≡ y
+    back (e.let_expr p) x g = ap e.let_expr (sym (some_is g))
     back _ x g = absurd cc
 
 pub sees_jump : Sees e.jump h.from_jump
 sees_jump = record { there = λ x. refl; back = back }
   where
-    back : (y : Lead) (x : Jump) → h.from_jump y ≡ Some x → e.jump x ≡ y
+    back : (y : Prefix) (x : Jump) → h.from_jump y ≡ Some x → e.jump x ≡ y
     back (e.jump j) x g = ap e.jump (sym (some_is g))
     back _ x g = absurd cc
 
 pub sees_closure : Sees e.closure h.from_closure
 sees_closure = record { there = λ x. refl; back = back }
   where
-    back : (y : Lead) (x : ClosureHead) → h.from_closure y ≡ Some x → e.closure x ≡ y
+    back : (y : Prefix) (x : ClosureHead) → h.from_closure y ≡ Some x → e.closure x ≡ y
     back (e.closure c) x g = ap e.closure (sym (some_is g))
     back _ x g = absurd cc
 
@@ -371,7 +371,7 @@ sees_arm = record { there = there; back = back }
     back (e.arm ats p) x g = ap s.to_arm (sym (some_is g))
     back _ x g = absurd cc
 
-pub ruleset head_views = (only_returning, only_yielding, sees_breaking, only_half_open, only_closed, sees_body, sees_lit, only_infer, sees_full_range, sees_bare_jump, sees_continuing, sees_block, sees_loop, sees_unsafe, sees_const, sees_async, sees_try, sees_verbatim, sees_head, only_deref, only_not, only_neg, sees_reference, sees_raw_addr, sees_range_to, sees_binding, sees_jump, sees_closure, only_await, sees_method, sees_field, only_element, only_value, only_repeated, only_condition, only_loop_head, only_scrutinee, only_chained, only_guarded, only_output_block, only_grouped, only_rest, sees_field_value, sees_arm)
+pub ruleset head_views = (only_returning, only_yielding, sees_breaking, only_half_open, only_closed, sees_body, sees_lit, only_infer, sees_full_range, sees_bare_jump, sees_continuing, sees_block, sees_loop, sees_unsafe, sees_const, sees_async, sees_try, sees_verbatim, sees_head, only_deref, only_not, only_neg, sees_reference, sees_raw_addr, sees_range_to, sees_let, sees_jump, sees_closure, only_await, sees_method, sees_field, only_element, only_value, only_repeated, only_condition, only_loop_head, only_scrutinee, only_chained, only_guarded, only_output_block, only_grouped, only_rest, sees_field_value, sees_arm)
 
 -- ---- jumps, ranges, blocks
 
@@ -406,9 +406,9 @@ body_alike = inside_at_alike del.Brace body_inside_alike
 
 -- ---- special syntax, paths and macros
 
-pub kept_some : (b : Bool) (ts l x n : List Tok) → h.kept_if b ts l ≡ Some (x, n) → l ≡ n
-kept_some true ts l x n g = ap (λ z. z.1) (some_is g)
-kept_some false ts l x n g = absurd cc
+pub verbatim_some : (b : Bool) (ts l x n : List Tok) → h.verbatim_if b ts l ≡ Some (x, n) → l ≡ n
+verbatim_some true ts l x n g = ap (λ z. z.1) (some_is g)
+verbatim_some false ts l x n g = absurd cc
 
 four_less : (a b c d : Tok) (l : List Tok) → weight l ≤ weight (a ∷ b ∷ c ∷ d ∷ l)
 unfolding weight
@@ -419,7 +419,7 @@ finds_builtin = record { falls = falls }
   where
     falls : (l x n : List Tok) → h.find_builtin l ≡ Some (x, n) → weight n ≤ weight l
     falls (ident b ∷ punct c q ∷ ident w ∷ group del.Parenthesis i ∷ l) x n g =
-        falls_by l n (ident b ∷ punct c q ∷ ident w ∷ group del.Parenthesis i ∷ l) (kept_some (bytes_eq b (codes "builtin") && (c == 35 && not (is_reserved_word w))) (ident b ∷ punct c q ∷ ident w ∷ group del.Parenthesis i ∷ []) l x n g) (four_less (ident b) (punct c q) (ident w) (group del.Parenthesis i) l)
+        falls_by l n (ident b ∷ punct c q ∷ ident w ∷ group del.Parenthesis i ∷ l) (verbatim_some (bytes_eq b (codes "builtin") && (c == 35 && not (is_reserved_word w))) (ident b ∷ punct c q ∷ ident w ∷ group del.Parenthesis i ∷ []) l x n g) (four_less (ident b) (punct c q) (ident w) (group del.Parenthesis i) l)
     falls _ x n g = absurd cc
 
 pub builtin_alike : {k : ℕ} → Alike k h.builtin h.builtin
@@ -466,9 +466,9 @@ pub closure_head_alike : {k : ℕ} → Alike k h.closure_head h.closure_head
 unfolding h.closure_head
 closure_head_alike = search (closure_inputs_alike, use_alike, lifetimes_alike, output_whole, forms, head_marks, head_views) depth 16
 
-pub lead_form_alike : {k : ℕ} → Alike k h.lead_form h.lead_form
-unfolding h.lead_form
-lead_form_alike {k} = search (jump_head_alike, range_op_alike, mutability_alike, pattern_alike, closure_head_alike, forms, head_marks, head_views) depth 40
+pub prefix_form_alike : {k : ℕ} → Alike k h.prefix_form h.prefix_form
+unfolding h.prefix_form
+prefix_form_alike {k} = search (jump_head_alike, range_op_alike, mutability_alike, pattern_alike, closure_head_alike, forms, head_marks, head_views) depth 40
 
 pub dotted_alike : {k : ℕ} → Alike k h.dotted h.dotted
 unfolding h.dotted

@@ -19,7 +19,7 @@ use Rattle.syn_parts.specs.PatFits.{pat_fits, pat_stops}
 use Rattle.syn_parts.proofs.Appends.{type_append}
 use Rattle.syn_parts.proofs.Same.{both_true}
 use Rattle.syn_parts.proofs.Ends.{parts_end}
-use Rattle.syn_parts.proofs.PatWholeTold.{patterns_read_back}
+use Rattle.syn_parts.proofs.PatWholeComplete.{patterns_read_back}
 use Rattle.syn_parts.proofs.Whole.{parts_read_back}
 use Rattle.syn_grammar.specs.declared.kinds.Limits.TheVariants as limits
 use Rattle.syn_grammar.specs.declared.kinds.BinKind.TheVariants as bin
@@ -28,10 +28,10 @@ use Rattle.syn_grammar.specs.declared.kinds.Infix.TheVariants as inf
 use Rattle.syn_grammar.specs.Path.{expr_path}
 use Rattle.syn_grammar.specs.Op.{infix_at}
 use Rattle.syn_grammar.specs.Slot.{frame_head, for_head}
-use Rattle.syn_grammar.specs.Stands.{post_behind}
+use Rattle.syn_grammar.specs.Stands.{postfix_behind}
 use Rattle.syn_grammar.specs.Tree as e
-use Rattle.syn_grammar.specs.Tree.{Frame, Post, Enclosure, Kids, framed, enclosure, post_own, post_op, infix_own, label_own}
-use Rattle.syn_grammar.specs.WellFormed.{post_fits, frame_fits, head_fits}
+use Rattle.syn_grammar.specs.Tree.{Frame, Postfix, Enclosure, Children, framed, enclosure, postfix_own, postfix_op, infix_own, label_own}
+use Rattle.syn_grammar.specs.WellFormed.{postfix_fits, frame_fits, head_fits}
 use Rattle.syn_grammar.proofs.GroupForms.{path_stands}
 use Rattle.syn_grammar.proofs.HeadBack.{label_stops, label_back, head_back}
 
@@ -85,40 +85,40 @@ for_head_back p l f =
 for_back : (w : Option Text) (p : PatTree) (l : List Tok) → pat_fits true p ≡ true → frame_head (e.for_loop w p) (label_own w (ident (codes "for") ∷ pat_own p (ident (codes "in") ∷ l))) ≡ Some l
 for_back w p l f = rw (label_back w (ident (codes "for") ∷ pat_own p (ident (codes "in") ∷ l)) (no_lifetime w (codes "for") (pat_own p (ident (codes "in") ∷ l)))) (for_head_back p l f)
 
-word_back : (l : List Tok) → (frame_head e.branch (ident (codes "if") ∷ l) ≡ Some l) × (frame_head e.choice (ident (codes "match") ∷ l) ≡ Some l)
+word_back : (l : List Tok) → (frame_head e.if_expr (ident (codes "if") ∷ l) ≡ Some l) × (frame_head e.match_expr (ident (codes "match") ∷ l) ≡ Some l)
 unfolding word_at
 word_back l = (refl, refl)
 
-pub frame_back : (k : Frame) (ks : Kids) (operands r : List Tok) → frame_fits k ks ≡ true → frame_stops k operands ≡ true → frame_head k (framed k (enclosure k) operands r) ≡ Some (frame_rest (enclosure k) operands r)
+pub frame_back : (k : Frame) (ks : Children) (operands r : List Tok) → frame_fits k ks ≡ true → frame_stops k operands ≡ true → frame_head k (framed k (enclosure k) operands r) ≡ Some (frame_rest (enclosure k) operands r)
 frame_back e.array ks o r f g = refl
 frame_back e.tuple ks o r f g = refl
 frame_back e.repeat ks o r f g = refl
 frame_back (e.structure q p d) ks o r f g = let (i, j) = both_true (qpath_fits style.Expr (q, p)) _ f in structure_back q p r o i
 frame_back (e.closure_block c) ks o r f g = let (i, j) = both_true (head_fits c) _ f in head_back c o i g
-frame_back e.branch ks o r f g = let (i, j) = word_back o in i
+frame_back e.if_expr ks o r f g = let (i, j) = word_back o in i
 frame_back (e.while_loop w) ks o r f g = while_back w o
 frame_back (e.for_loop w p) ks o r f g = for_back w p o f
-frame_back e.choice ks o r f g = let (i, j) = word_back o in j
-frame_back e.invisible ks o r f g = absurd cc
+frame_back e.match_expr ks o r f g = let (i, j) = word_back o in j
+frame_back e.group_expr ks o r f g = absurd cc
 
 -- ---- behind a left operand
 
 -- behind an operator's own tokens
-abbrev pub post_rest : Post → List Tok → List Tok
-post_rest (e.cast x) r = type_own x r
-post_rest (e.range_from op) r = r
+abbrev pub postfix_rest : Postfix → List Tok → List Tok
+postfix_rest (e.cast x) r = type_own x r
+postfix_rest (e.range_from op) r = r
 
-abbrev pub post_ends : Post → List Tok → Bool
-post_ends (e.cast x) r = type_stops false x r
-post_ends (e.range_from op) r = true
+abbrev pub postfix_ends : Postfix → List Tok → Bool
+postfix_ends (e.cast x) r = type_stops false x r
+postfix_ends (e.range_from op) r = true
 
-pub post_own_is : (k : Post) (r : List Tok) → post_own k r ≡ infix_own (post_op k) (post_rest k r)
-post_own_is (e.cast x) r = refl
-post_own_is (e.range_from op) r = refl
+pub postfix_own_is : (k : Postfix) (r : List Tok) → postfix_own k r ≡ infix_own (postfix_op k) (postfix_rest k r)
+postfix_own_is (e.cast x) r = refl
+postfix_own_is (e.range_from op) r = refl
 
-pub post_back : (k : Post) (r : List Tok) → post_fits k ≡ true → post_ends k r ≡ true → post_behind k (post_rest k r) ≡ Some r
-post_back (e.cast x) r f g = parts_read_back.types false x r f g
-post_back (e.range_from op) r f g = refl
+pub postfix_back : (k : Postfix) (r : List Tok) → postfix_fits k ≡ true → postfix_ends k r ≡ true → postfix_behind k (postfix_rest k r) ≡ Some r
+postfix_back (e.cast x) r f g = parts_read_back.types false x r f g
+postfix_back (e.range_from op) r f g = refl
 
 -- how many tokens an infix operator is
 abbrev pub infix_count : Infix → ℕ

@@ -81,10 +81,10 @@ continuing_back : (w : Option Text) (r : List Tok) → label_stops w r ≡ true 
 unfolding h.leaf_form h.literal_at h.range_at h.jump_at is_truth sign_at word_at
 continuing_back w r s = lifetime_or_none w r s
 
-looping_back : (w : Option Text) (b : Body) (r : List Tok) → body_fits b ≡ true → h.leaf_form.behind (e.looping w b) (leaf_own (e.looping w b) r) ≡ Some r
+loop_expr_back : (w : Option Text) (b : Body) (r : List Tok) → body_fits b ≡ true → h.leaf_form.behind (e.loop_expr w b) (leaf_own (e.loop_expr w b) r) ≡ Some r
 unfolding h.leaf_form h.literal_at h.range_at h.jump_at h.loop_at is_truth sign_at word_at lifetime_at
-looping_back None b r f = body_back b r f
-looping_back (Some w) b r f = rw (label_back (Some w) (ident (codes "loop") ∷ body_own b r) refl) (body_back b r f)
+loop_expr_back None b r f = body_back b r f
+loop_expr_back (Some w) b r f = rw (label_back (Some w) (ident (codes "loop") ∷ body_own b r) refl) (body_back b r f)
 
 labelled_back : (w : Option Text) (b : Body) (r : List Tok) → body_fits b ≡ true → h.leaf_form.behind (e.block w b) (leaf_own (e.block w b) r) ≡ Some r
 unfolding h.leaf_form h.literal_at h.range_at h.jump_at h.loop_at h.block_at is_truth sign_at word_at lifetime_at brace_at group_at
@@ -278,7 +278,7 @@ leaf_back (e.full_range limits.Closed) r f s = absurd cc
 leaf_back (e.bare_jump j) r f s = bare_jump_back j r s
 leaf_back (e.continuing w) r f s = continuing_back w r s
 leaf_back (e.block w b) r f s = labelled_back w b r f
-leaf_back (e.looping w b) r f s = looping_back w b r f
+leaf_back (e.loop_expr w b) r f s = loop_expr_back w b r f
 leaf_back (e.unsafe_block b) r f s = unsafe_back b r f
 leaf_back (e.const_block b) r f s = const_back b r f
 leaf_back (e.async_block m ts) r f s = async_back m ts r

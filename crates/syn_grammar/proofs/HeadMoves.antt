@@ -20,10 +20,10 @@ use Rattle.syn_grammar.specs.Front.{dot_at, question_at}
 use Rattle.syn_grammar.specs.Head.{label, body_inside, dotted}
 use Rattle.syn_grammar.specs.Slot as s
 use Rattle.syn_grammar.specs.Slot.{if_at, for_head, frame_head, ending_at}
-use Rattle.syn_grammar.specs.Stands.{trailer_head, fields_head, name_at, indices_at, post_behind, closed_steps, open_steps, steps_of, named_behind, with_steps, is_parenthesis_or_bracket}
+use Rattle.syn_grammar.specs.Stands.{trailer_head, fields_head, name_at, indices_at, postfix_behind, closed_steps, open_steps, steps_of, named_behind, with_steps, is_parenthesis_or_bracket}
 use Rattle.syn_grammar.specs.Read as r
 use Rattle.syn_grammar.specs.Tree as e
-use Rattle.syn_grammar.specs.Tree.{Tree, Trailer, Post, Frame, Piece, Ending, Body, is_repeated}
+use Rattle.syn_grammar.specs.Tree.{Tree, Trailer, Postfix, Frame, Piece, Ending, Body, is_repeated}
 use Rattle.syn_grammar.proofs.Heads.{HeadsAreReadable, heads_readable}
 
 -- ---- tails
@@ -153,7 +153,7 @@ pub trailer_less : (k : Trailer) (m : List Tok) (is : List ℕ) (n : List Tok) �
 unfolding trailer_head
 trailer_less e.call m is n c h = absurd cc
 trailer_less e.index m is n c h = absurd cc
-trailer_less e.question m is n c h = question_less m is n h
+trailer_less e.try_expr m is n c h = question_less m is n h
 trailer_less (e.method w a) m is n c h = dotted_less (e.method w a) m is n h
 trailer_less (e.field f) m is n c h = dotted_less (e.field f) m is n h
 trailer_less e.await m is n c h = dotted_less e.await m is n h
@@ -163,7 +163,7 @@ pub trailer_left : (k : Trailer) (m : List Tok) (is : List ℕ) (n : List Tok) �
 unfolding trailer_head
 trailer_left e.call m is n h = subst (λ z. IsTail z m) (ap (λ z. z.1) (some_is h)) (nothing_taken m)
 trailer_left e.index m is n h = subst (λ z. IsTail z m) (ap (λ z. z.1) (some_is h)) (nothing_taken m)
-trailer_left e.question m is n h = let a = question_less m is n h in a.tail
+trailer_left e.try_expr m is n h = let a = question_less m is n h in a.tail
 trailer_left (e.method w a) m is n h = let a = dotted_less (e.method w a) m is n h in a.tail
 trailer_left (e.field f) m is n h = let a = dotted_less (e.field f) m is n h in a.tail
 trailer_left e.await m is n h = let a = dotted_less e.await m is n h in a.tail
@@ -182,7 +182,7 @@ abbrev pub is_enclosed : Frame → Bool
 is_enclosed e.array = true
 is_enclosed e.tuple = true
 is_enclosed e.repeat = true
-is_enclosed e.invisible = true
+is_enclosed e.group_expr = true
 is_enclosed _ = false
 
 pub frame_less : (k : Frame) (l n : List Tok) → is_enclosed k ≡ false → frame_head k l ≡ Some n → IsLess n l
@@ -191,15 +191,15 @@ frame_less e.tuple l n c h = absurd cc
 frame_less e.repeat l n c h = absurd cc
 frame_less (e.structure q p d) l n c h = left_less (here.expr_paths true) (q, p) l n h
 frame_less (e.closure_block f) l n c h = left_less here.closure_heads f l n h
-frame_less e.branch l n c h = if_less (word_present _) l n h
+frame_less e.if_expr l n c h = if_less (word_present _) l n h
 frame_less (e.while_loop w) l n c h =
     let (m, i, j) = behind_some (label.behind w l) (if_at s.while_word) n h in
     then_less (left here.labels w l m i) (if_less (word_present _) m n j)
 frame_less (e.for_loop w p) l n c h =
     let (m, i, j) = behind_some (label.behind w l) (for_head.behind p) n h in
     then_less (left here.labels w l m i) (left_less here.for_heads p m n j)
-frame_less e.choice l n c h = if_less (word_present _) l n h
-frame_less e.invisible l n c h = absurd cc
+frame_less e.match_expr l n c h = if_less (word_present _) l n h
+frame_less e.group_expr l n c h = absurd cc
 
 pub frame_left : (k : Frame) (l n : List Tok) → frame_head k l ≡ Some n → IsTail n l
 frame_left e.array l n h = subst (λ z. IsTail z l) (some_is h) (nothing_taken l)
@@ -207,17 +207,17 @@ frame_left e.tuple l n h = subst (λ z. IsTail z l) (some_is h) (nothing_taken l
 frame_left e.repeat l n h = subst (λ z. IsTail z l) (some_is h) (nothing_taken l)
 frame_left (e.structure q p d) l n h = let a = frame_less (e.structure q p d) l n refl h in a.tail
 frame_left (e.closure_block f) l n h = let a = frame_less (e.closure_block f) l n refl h in a.tail
-frame_left e.branch l n h = let a = frame_less e.branch l n refl h in a.tail
+frame_left e.if_expr l n h = let a = frame_less e.if_expr l n refl h in a.tail
 frame_left (e.while_loop w) l n h = let a = frame_less (e.while_loop w) l n refl h in a.tail
 frame_left (e.for_loop w p) l n h = let a = frame_less (e.for_loop w p) l n refl h in a.tail
-frame_left e.choice l n h = let a = frame_less e.choice l n refl h in a.tail
-frame_left e.invisible l n h = subst (λ z. IsTail z l) (some_is h) (nothing_taken l)
+frame_left e.match_expr l n h = let a = frame_less e.match_expr l n refl h in a.tail
+frame_left e.group_expr l n h = subst (λ z. IsTail z l) (some_is h) (nothing_taken l)
 
 -- ---- behind an operand
 
-pub post_left : (k : Post) (l n : List Tok) → post_behind k l ≡ Some n → IsTail n l
-post_left (e.cast x) l n h = left (here.types false) x l n h
-post_left (e.range_from op) l n h = subst (λ z. IsTail z l) (some_is h) (nothing_taken l)
+pub postfix_left : (k : Postfix) (l n : List Tok) → postfix_behind k l ≡ Some n → IsTail n l
+postfix_left (e.cast x) l n h = left (here.types false) x l n h
+postfix_left (e.range_from op) l n h = subst (λ z. IsTail z l) (some_is h) (nothing_taken l)
 
 same_left : {A : Type 0} (c d : A) (l m n : List Tok) → IsTail m l → ◌≡◌ {A = Outcome A} (Some (c, m)) (Some (d, n)) → IsTail n l
 same_left c d l m n t h = subst (λ z. IsTail z l) (ap (λ z. z.1) (some_is h)) t

@@ -18,7 +18,7 @@ use Rattle.syn_parts.proofs.Same.{both_true, not_true, same_delimiter-refl}
 use Rattle.syn_parts.proofs.Forms.{Alike}
 use Rattle.syn_parts.proofs.Ends.{parts_end}
 use Rattle.syn_parts.proofs.PatsBack.{attributes_back, member_back}
-use Rattle.syn_parts.proofs.PatWholeTold.{patterns_read_back}
+use Rattle.syn_parts.proofs.PatWholeComplete.{patterns_read_back}
 use Rattle.syn_grammar.specs.Head as h
 use Rattle.syn_grammar.specs.Slot as s
 use Rattle.syn_grammar.specs.Slot.{Slot, piece_form, ending_at}

@@ -17,7 +17,7 @@ use Rattle.syn_parts.proofs.Weights.{some_is}
 use Rattle.syn_parts.proofs.Tails.{Leaves, Found, nothing_taken, tail_then, one_taken, never_leaves, when_leaves, mark_leaves, then_by_leaves, both_leaves, shown_leaves, pure_leaves, fix_leaves, leaf_leaves, maybe_leaves, flag_leaves, case_leaves, group_case_leaves}
 use Rattle.syn_parts.proofs.TailParts.{leaving, signed_leaves, outer_attributes_leaves, inner_attributes_leaves, block_leaves, lifetimes_leaves, output_leaves, angle_bracketed_leaves, type_leaves}
 use Rattle.syn_grammar.proofs.GroupForms.{qpath_whole_leaves, expr_path_leaves}
-use Rattle.syn_grammar.proofs.HeadForms.{kept_some}
+use Rattle.syn_grammar.proofs.HeadForms.{verbatim_some}
 use Rattle.syn_grammar.specs.Head as h
 use Rattle.syn_grammar.specs.Slot as s
 use Rattle.syn_grammar.specs.Slot.{Slot}
@@ -161,7 +161,7 @@ found_builtin = record { leaves = leaves }
 
     leaves : (l x n : List Tok) → h.find_builtin l ≡ Some (x, n) → IsTail n l
     leaves (ident b ∷ punct c q ∷ ident w ∷ group del.Parenthesis i ∷ l) x n g =
-        by l n (ident b ∷ punct c q ∷ ident w ∷ group del.Parenthesis i ∷ l) (kept_some (bytes_eq b (codes "builtin") && (c == 35 && not (is_reserved_word w))) (ident b ∷ punct c q ∷ ident w ∷ group del.Parenthesis i ∷ []) l x n g) (four_taken (ident b) (punct c q) (ident w) (group del.Parenthesis i) l)
+        by l n (ident b ∷ punct c q ∷ ident w ∷ group del.Parenthesis i ∷ l) (verbatim_some (bytes_eq b (codes "builtin") && (c == 35 && not (is_reserved_word w))) (ident b ∷ punct c q ∷ ident w ∷ group del.Parenthesis i ∷ []) l x n g) (four_taken (ident b) (punct c q) (ident w) (group del.Parenthesis i) l)
     leaves _ x n g = absurd cc
 
 pub builtin_leaves : Leaves h.builtin
@@ -197,9 +197,9 @@ closure_head_leaves =
     (both_leaves (flag_leaves h.static_word) (both_leaves (flag_leaves h.async_word) (both_leaves capture_leaves (both_leaves closure_inputs_leaves
     (output_leaves type_leaves true)))))))
 
-pub lead_form_leaves : Leaves h.lead_form
-unfolding h.lead_form
-lead_form_leaves = search (jump_head_leaves, range_op_leaves, mutability_leaves, pattern_leaves, closure_head_leaves, case_leaves, leaving) depth 40
+pub prefix_form_leaves : Leaves h.prefix_form
+unfolding h.prefix_form
+prefix_form_leaves = search (jump_head_leaves, range_op_leaves, mutability_leaves, pattern_leaves, closure_head_leaves, case_leaves, leaving) depth 40
 
 pub dotted_leaves : Leaves h.dotted
 unfolding h.dotted

@@ -16,7 +16,7 @@ use Rattle.syn_parts.proofs.Takes.{Takes, mark_takes, when_takes, first_takes, s
 use Rattle.syn_grammar.specs.Head as h
 use Rattle.syn_grammar.specs.Slot as s
 use Rattle.syn_grammar.proofs.GroupForms.{expr_path_takes}
-use Rattle.syn_grammar.proofs.HeadForms.{head_marks, head_views, kept_some, use_alike, output_whole, arguments_whole, label_alike, body_alike, field_colon_alike}
+use Rattle.syn_grammar.proofs.HeadForms.{head_marks, head_views, verbatim_some, use_alike, output_whole, arguments_whole, label_alike, body_alike, field_colon_alike}
 use Rattle.syn_grammar.proofs.HeadTails.{name_some, index_some}
 
 by : (l n m : List Tok) → l ≡ n → weight l < weight m → weight n < weight m
@@ -49,7 +49,7 @@ builtin_takes = record { takes = takes }
   where
     takes : (l x n : List Tok) → h.find_builtin l ≡ Some (x, n) → weight n < weight l
     takes (ident b ∷ punct c q ∷ ident w ∷ group del.Parenthesis i ∷ l) x n g =
-        by l n (ident b ∷ punct c q ∷ ident w ∷ group del.Parenthesis i ∷ l) (kept_some (bytes_eq b (codes "builtin") && (c == 35 && not (is_reserved_word w))) (ident b ∷ punct c q ∷ ident w ∷ group del.Parenthesis i ∷ []) l x n g) (four (ident b) (punct c q) (ident w) (group del.Parenthesis i) l)
+        by l n (ident b ∷ punct c q ∷ ident w ∷ group del.Parenthesis i ∷ l) (verbatim_some (bytes_eq b (codes "builtin") && (c == 35 && not (is_reserved_word w))) (ident b ∷ punct c q ∷ ident w ∷ group del.Parenthesis i ∷ []) l x n g) (four (ident b) (punct c q) (ident w) (group del.Parenthesis i) l)
     takes _ x n g = absurd cc
 
 -- a mark, whatever is read behind it
@@ -96,9 +96,9 @@ pub closure_head_takes : Takes h.closure_head
 unfolding h.closure_head
 closure_head_takes = search (closure_inputs_takes, use_alike, lifetimes_alike, output_whole, taking, forms, head_marks) depth 24
 
-pub lead_form_takes : Takes h.lead_form
-unfolding h.lead_form
-lead_form_takes = search (range_op_takes, jump_head_takes, closure_head_takes, pattern_alike, mutability_alike, taking, forms, head_marks, head_views) depth 40
+pub prefix_form_takes : Takes h.prefix_form
+unfolding h.prefix_form
+prefix_form_takes = search (range_op_takes, jump_head_takes, closure_head_takes, pattern_alike, mutability_alike, taking, forms, head_marks, head_views) depth 40
 
 pub dotted_takes : Takes h.dotted
 unfolding h.dotted

@@ -93,7 +93,7 @@ trailer_back (e.field (a_name w)) i r f g u =
     rw (field_back w r (not_true (is_reserved_word w) f) j k) refl
 trailer_back (e.field (an_index n)) i r f g u = absurd cc
 trailer_back e.await i r f g u = rw (await_back r) refl
-trailer_back e.question i r f g u = refl
+trailer_back e.try_expr i r f g u = refl
 
 -- ---- indices
 

@@ -14,13 +14,13 @@ use Rattle.syn_parts.proofs.Tails.{Leaves}
 use Rattle.syn_parts.proofs.TailParts.{outer_attributes_leaves, inner_attributes_leaves}
 use Rattle.syn_parts.proofs.Takes.{Takes}
 use Rattle.syn_grammar.specs.Path.{expr_path}
-use Rattle.syn_grammar.specs.Head.{label, jump_head, range_op, body_inside, body, builtin, named, leaf_form, closure_head, lead_form, dotted}
+use Rattle.syn_grammar.specs.Head.{label, jump_head, range_op, body_inside, body, builtin, named, leaf_form, closure_head, prefix_form, dotted}
 use Rattle.syn_grammar.specs.Slot as s
 use Rattle.syn_grammar.specs.Slot.{Slot, piece_form, for_head}
 use Rattle.syn_grammar.proofs.GroupForms.{expr_path_alike, expr_path_leaves, expr_path_takes}
-use Rattle.syn_grammar.proofs.HeadForms.{label_alike, jump_head_alike, range_op_alike, body_inside_alike, body_alike, builtin_alike, named_alike, leaf_form_alike, closure_head_alike, lead_form_alike, dotted_alike, for_head_alike, piece_form_alike}
-use Rattle.syn_grammar.proofs.HeadTails.{macro_end_leaves, pattern_leaves, label_leaves, jump_head_leaves, range_op_leaves, body_inside_leaves, body_leaves, builtin_leaves, named_leaves, leaf_form_leaves, closure_head_leaves, lead_form_leaves, dotted_leaves, for_head_leaves, piece_form_leaves}
-use Rattle.syn_grammar.proofs.HeadTakes.{jump_head_takes, range_op_takes, body_takes, builtin_takes, named_takes, leaf_form_takes, closure_head_takes, lead_form_takes, dotted_takes, for_head_takes, fields_take, otherwise_takes, arms_take, bodies_take}
+use Rattle.syn_grammar.proofs.HeadForms.{label_alike, jump_head_alike, range_op_alike, body_inside_alike, body_alike, builtin_alike, named_alike, leaf_form_alike, closure_head_alike, prefix_form_alike, dotted_alike, for_head_alike, piece_form_alike}
+use Rattle.syn_grammar.proofs.HeadTails.{macro_end_leaves, pattern_leaves, label_leaves, jump_head_leaves, range_op_leaves, body_inside_leaves, body_leaves, builtin_leaves, named_leaves, leaf_form_leaves, closure_head_leaves, prefix_form_leaves, dotted_leaves, for_head_leaves, piece_form_leaves}
+use Rattle.syn_grammar.proofs.HeadTakes.{jump_head_takes, range_op_takes, body_takes, builtin_takes, named_takes, leaf_form_takes, closure_head_takes, prefix_form_takes, dotted_takes, for_head_takes, fields_take, otherwise_takes, arms_take, bodies_take}
 
 -- ---- forms
 
@@ -43,7 +43,7 @@ readable_or_none a t = record {
 -- What each form reads stands there, and what stands it reads; what is left is a tail, of less weight where 1 is asked.
 pub record HeadsAreReadable : Type 0 where
   pub leaves : IsReadable 1 leaf_form
-  pub leads : IsReadable 1 lead_form
+  pub prefixes : IsReadable 1 prefix_form
   pub jumps : IsReadable 1 jump_head
   pub ranges : IsReadable 1 range_op
   pub labels : IsReadable 0 label
@@ -70,7 +70,7 @@ pub record HeadsAreReadable : Type 0 where
 pub heads_readable : HeadsAreReadable
 heads_readable = record {
   leaves = readable leaf_form_alike leaf_form_leaves leaf_form_takes;
-  leads = readable lead_form_alike lead_form_leaves lead_form_takes;
+  prefixes = readable prefix_form_alike prefix_form_leaves prefix_form_takes;
   jumps = readable jump_head_alike jump_head_leaves jump_head_takes;
   ranges = readable range_op_alike range_op_leaves range_op_takes;
   labels = readable_or_none label_alike label_leaves;

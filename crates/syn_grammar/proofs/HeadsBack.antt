@@ -14,17 +14,17 @@ use Rattle.syn_parts.specs.PatOwn.{attributes_own}
 use Rattle.syn_grammar.specs.declared.kinds.Limits.{Limits}
 use Rattle.syn_grammar.specs.declared.kinds.Infix.{Infix}
 use Rattle.syn_grammar.specs.Op.{limits_text, infix_at}
-use Rattle.syn_grammar.specs.Head.{label, jump_head, range_op, body_inside, body, closure_head, leaf_form, lead_form}
+use Rattle.syn_grammar.specs.Head.{label, jump_head, range_op, body_inside, body, closure_head, leaf_form, prefix_form}
 use Rattle.syn_grammar.specs.Slot.{Slot, piece_form, ending_at, frame_head}
-use Rattle.syn_grammar.specs.Stands.{trailer_head, fields_head, post_behind}
+use Rattle.syn_grammar.specs.Stands.{trailer_head, fields_head, postfix_behind}
 use Rattle.syn_grammar.specs.Tree as e
-use Rattle.syn_grammar.specs.Tree.{Body, Jump, Leaf, Lead, ClosureHead, Trailer, Tree, Kids, Frame, Post, Piece, Ending, inners, sign_before, label_own, body_own, jump_own, leaf_own, lead_own, closure_own, piece_own, ending_own, trailer_own, framed, enclosure, infix_own}
-use Rattle.syn_grammar.specs.WellFormed.{attributes_inner, body_fits, head_fits, leaf_fits, lead_fits, piece_fits, ending_fits, trailer_fits, frame_fits, post_fits}
-use Rattle.syn_grammar.proofs.HeadBack.{label_stops, jump_stops, lead_stops, inner_attributes_back, body_inside_back, body_back, label_back, jump_back, range_back, head_back, lead_back}
+use Rattle.syn_grammar.specs.Tree.{Body, Jump, Leaf, Prefix, ClosureHead, Trailer, Tree, Children, Frame, Postfix, Piece, Ending, inners, sign_before, label_own, body_own, jump_own, leaf_own, prefix_own, closure_own, piece_own, ending_own, trailer_own, framed, enclosure, infix_own}
+use Rattle.syn_grammar.specs.WellFormed.{attributes_inner, body_fits, head_fits, leaf_fits, prefix_fits, piece_fits, ending_fits, trailer_fits, frame_fits, postfix_fits}
+use Rattle.syn_grammar.proofs.HeadBack.{label_stops, jump_stops, prefix_stops, inner_attributes_back, body_inside_back, body_back, label_back, jump_back, range_back, head_back, prefix_back}
 use Rattle.syn_grammar.proofs.HeadLeaf.{leaf_stops, leaf_back}
 use Rattle.syn_grammar.proofs.HeadPlaces.{piece_stops, is_written, ending_stops, is_scrutinee, piece_back, ending_back, opened_back, group_back}
 use Rattle.syn_grammar.proofs.HeadTrailers.{trailer_stops, trailer_rest, is_indexed, trailer_back, indexed_back}
-use Rattle.syn_grammar.proofs.HeadFrames.{frame_stops, frame_rest, post_rest, post_ends, infix_count, frame_back, post_back, infix_back}
+use Rattle.syn_grammar.proofs.HeadFrames.{frame_stops, frame_rest, postfix_rest, postfix_ends, infix_count, frame_back, postfix_back, infix_back}
 
 pub record HeadsAreReadBack : Type 0 where
   pub inner : (xs : List AttributeTree) (r : List Tok) → attributes_inner xs ≡ true → pound_bang.at r ≡ false → inner_attributes.behind xs (attributes_own (inners xs) r) ≡ Some r
@@ -35,7 +35,7 @@ pub record HeadsAreReadBack : Type 0 where
   pub bodies : (b : Body) (r : List Tok) → body_fits b ≡ true → body.behind b (body_own b r) ≡ Some r
   pub closure_heads : (c : ClosureHead) (r : List Tok) → head_fits c ≡ true → output_stops true c.output r ≡ true → closure_head.behind c (closure_own c r) ≡ Some r
   pub leaves : (k : Leaf) (r : List Tok) → leaf_fits k ≡ true → leaf_stops k r ≡ true → leaf_form.behind k (leaf_own k r) ≡ Some r
-  pub leads : (k : Lead) (r : List Tok) → lead_fits k ≡ true → lead_stops k r ≡ true → lead_form.behind k (lead_own k r) ≡ Some r
+  pub prefixes : (k : Prefix) (r : List Tok) → prefix_fits k ≡ true → prefix_stops k r ≡ true → prefix_form.behind k (prefix_own k r) ≡ Some r
   -- `..` behind the fields is written where the piece says so
   pub pieces : (s : Slot) (k : Piece) (c : Ending) (x : Tree) (r : List Tok) → piece_fits s k c x ≡ true → is_written k ≡ true → piece_stops k r ≡ true → (piece_form s).behind k (piece_own k r) ≡ Some r
   -- l is what is behind the ending, or inside of its brace; r is behind that brace
@@ -46,8 +46,8 @@ pub record HeadsAreReadBack : Type 0 where
   pub trailers : (k : Trailer) (i r : List Tok) → trailer_fits k ≡ true → is_indexed k ≡ false → trailer_stops k r ≡ true → trailer_head k (trailer_own k i r) ≡ Some ([], trailer_rest k i r)
   pub indices : (n : ℕ) (i r : List Tok) → trailer_fits (e.field (an_index n)) ≡ true → fields_head (trailer_own (e.field (an_index n)) i r) ≡ Some (n ∷ [], r)
   -- l are the operands
-  pub frames : (k : Frame) (ks : Kids) (l r : List Tok) → frame_fits k ks ≡ true → frame_stops k l ≡ true → frame_head k (framed k (enclosure k) l r) ≡ Some (frame_rest (enclosure k) l r)
-  pub posts : (k : Post) (r : List Tok) → post_fits k ≡ true → post_ends k r ≡ true → post_behind k (post_rest k r) ≡ Some r
+  pub frames : (k : Frame) (ks : Children) (l r : List Tok) → frame_fits k ks ≡ true → frame_stops k l ≡ true → frame_head k (framed k (enclosure k) l r) ≡ Some (frame_rest (enclosure k) l r)
+  pub postfixes : (k : Postfix) (r : List Tok) → postfix_fits k ≡ true → postfix_ends k r ≡ true → postfix_behind k (postfix_rest k r) ≡ Some r
   pub operators : (op : Infix) (r : List Tok) → (infix_at (infix_own op r) ≡ Some (op, infix_count op)) × (drop (infix_count op) (infix_own op r) ≡ r)
 
 pub heads_back : HeadsAreReadBack
@@ -60,7 +60,7 @@ heads_back = record {
   bodies = body_back;
   closure_heads = head_back;
   leaves = leaf_back;
-  leads = lead_back;
+  prefixes = prefix_back;
   pieces = piece_back;
   endings = ending_back;
   opened = opened_back;
@@ -68,6 +68,6 @@ heads_back = record {
   trailers = trailer_back;
   indices = indexed_back;
   frames = frame_back;
-  posts = post_back;
+  postfixes = postfix_back;
   operators = infix_back;
 }

@@ -13,40 +13,40 @@ use Rattle.syn_grammar.specs.declared.next.Next.{Next}
 use Rattle.syn_grammar.specs.declared.next.Context.{Context}
 use Rattle.syn_grammar.specs.Place.{takes}
 use Rattle.syn_grammar.specs.Op.{level, is_comparison}
-use Rattle.syn_grammar.specs.Next.{class_of, next_of, takes_next, trails, enclosed, in_statement, left_context, base_context, right_context, adorned_context, lead_context, lead_level, piece_context}
-use Rattle.syn_grammar.specs.Stands.{is_range, is_cast, is_infix, carries, compares, is_base, is_branch}
+use Rattle.syn_grammar.specs.Next.{class_of, next_of, takes_next, trails, enclosed, in_statement, left_context, base_context, right_context, attributed_context, prefix_context, prefix_level, piece_context}
+use Rattle.syn_grammar.specs.Stands.{is_range, is_cast, is_infix, carries, compares, is_base, is_if_expr}
 use Rattle.syn_grammar.specs.Tree as e
-use Rattle.syn_grammar.specs.Tree.{Tree, Kids, Leaf, Lead, Piece, Ending, Trailer, leaf, paren, adorned, lead, mid, post, tail, frame, none, kid, post_op, is_silent}
-use Rattle.syn_grammar.specs.Rule.{is_operation, prints_range, prints_carrier, refuses, misplaced, lower, ends_badly, is_bare_break, left_wrapped, base_wrapped, place_wrapped, low, bad, labelled, place_asks, left_asks, lead_asks, put, is_chainable, is_plain_block, piece_put, bare, bare_kids}
-use Rattle.syn_grammar.specs.WellFormed.{is_kept_block}
-use Rattle.syn_grammar.specs.Printed.{parenthesize_attributed, parenthesize_attributed_kids}
+use Rattle.syn_grammar.specs.Tree.{Tree, Children, Leaf, Prefix, Piece, Ending, Trailer, leaf, paren, attributed, prefixed, infixed, postfixed, tail, frame, none, child, postfix_op, is_silent}
+use Rattle.syn_grammar.specs.Rule.{is_operation, prints_range, prints_carrier, refuses, misplaced, lower, ends_badly, is_bare_break, left_wrapped, base_wrapped, place_wrapped, low, bad, labelled, place_asks, left_asks, prefix_asks, put, is_chainable, is_plain_block, piece_put, bare, bare_children}
+use Rattle.syn_grammar.specs.WellFormed.{is_verbatim_block}
+use Rattle.syn_grammar.specs.Printed.{parenthesize_attributed, parenthesize_attributed_children}
 use Rattle.syn_grammar.proofs.Bools.{or_false, neither, lower_takes}
-use Rattle.syn_grammar.proofs.Obeys.{Fits, FitsLeft, begins_label, Obeys, ObeysKids}
-use Rattle.syn_grammar.proofs.Edges.{lead_next_is, not_cast}
-use Rattle.syn_grammar.proofs.Parenthesized.{compares_stays, label_stays, base_stays, same_mid, same_tail, same_kid}
+use Rattle.syn_grammar.proofs.Obeys.{Fits, FitsLeft, begins_label, Obeys, ObeysChildren}
+use Rattle.syn_grammar.proofs.Edges.{prefix_next_is, not_cast}
+use Rattle.syn_grammar.proofs.Parenthesized.{compares_stays, label_stays, base_stays, same_infix, same_tail, same_child}
 
 -- ---- trees that have no marks, and whose blocks stand where they must be bare
 
 abbrev pub block_there : Piece → Tree → Bool
-block_there e.chained t = is_branch t || is_kept_block t
-block_there e.output_block t = is_kept_block t
+block_there e.chained t = is_if_expr t || is_verbatim_block t
+block_there e.output_block t = is_verbatim_block t
 block_there k t = true
 
 abbrev mutual
   pub Proper : Tree → Type 0
   Proper (leaf k) = Unit {0}
   Proper (paren m t) = (m ≡ false) × Proper t
-  Proper (adorned a more t) = Proper t
-  Proper (lead k gs t) = Proper t
-  Proper (mid x k y) = Proper x × Proper y
-  Proper (post x k) = Proper x
-  Proper (tail b k ks) = Proper b × ProperKids ks
-  Proper (frame k ks) = ProperKids ks
+  Proper (attributed a more t) = Proper t
+  Proper (prefixed k gs t) = Proper t
+  Proper (infixed x k y) = Proper x × Proper y
+  Proper (postfixed x k) = Proper x
+  Proper (tail b k ks) = Proper b × ProperChildren ks
+  Proper (frame k ks) = ProperChildren ks
 
-  pub ProperKids : Kids → Type 0
-  ProperKids none = Unit {0}
-  ProperKids (kid k c t ks) =
-      (block_there k t ≡ true) × (is_silent k ≡ false → Proper t) × (is_silent k ≡ true → parenthesize_attributed t ≡ t) × ProperKids ks
+  pub ProperChildren : Children → Type 0
+  ProperChildren none = Unit {0}
+  ProperChildren (child k c t ks) =
+      (block_there k t ≡ true) × (is_silent k ≡ false → Proper t) × (is_silent k ≡ true → parenthesize_attributed t ≡ t) × ProperChildren ks
 
 -- ---- places take what binds tightest
 
@@ -86,14 +86,14 @@ level_small inf.Assign = refl
 level_small (inf.Range op) = refl
 level_small inf.Cast = refl
 
-pub lead_small : (k : Lead) → takes (lead_level k) lev.Unambiguous ≡ true
-lead_small (e.unary op) = refl
-lead_small (e.reference m) = refl
-lead_small (e.raw_addr m) = refl
-lead_small (e.range_to op) = refl
-lead_small (e.binding p) = refl
-lead_small (e.jump j) = refl
-lead_small (e.closure h) = refl
+pub prefix_small : (k : Prefix) → takes (prefix_level k) lev.Unambiguous ≡ true
+prefix_small (e.unary op) = refl
+prefix_small (e.reference m) = refl
+prefix_small (e.raw_addr m) = refl
+prefix_small (e.range_to op) = refl
+prefix_small (e.let_expr p) = refl
+prefix_small (e.jump j) = refl
+prefix_small (e.closure h) = refl
 
 -- ---- what obeys is of the kind that is printed
 
@@ -101,20 +101,20 @@ lead_small (e.closure h) = refl
 abbrev ObeysBehind : Level → Context → Tree → Bool → Type 0
 ObeysBehind v c t b =
     let u = put b (parenthesize_attributed t) (parenthesize_attributed t) in
-    (is_operation u ≡ false) × Obeys v (adorned_context c) u
+    (is_operation u ≡ false) × Obeys v (attributed_context c) u
 
 pub range_obeys : (t : Tree) (v : Level) (c : Context) → Obeys v c (parenthesize_attributed t) → prints_range t ≡ is_range (parenthesize_attributed t)
 range_obeys (leaf k) v c i = refl
 range_obeys (paren m t) v c i = refl
-range_obeys (adorned a more t) v c i = go (λ h. range_obeys t v (adorned_context c) h) (is_operation t) refl i
+range_obeys (attributed a more t) v c i = go (λ h. range_obeys t v (attributed_context c) h) (is_operation t) refl i
   where
-    go : (Obeys v (adorned_context c) (parenthesize_attributed t) → prints_range t ≡ is_range (parenthesize_attributed t)) → (b : Bool) → is_operation t ≡ b
+    go : (Obeys v (attributed_context c) (parenthesize_attributed t) → prints_range t ≡ is_range (parenthesize_attributed t)) → (b : Bool) → is_operation t ≡ b
         → ObeysBehind v c t b → false ≡ is_range (put b (parenthesize_attributed t) (parenthesize_attributed t))
     go again true o j = refl
     go again false o j = sym (or_false (is_infix t) (prints_range t) o).1 ∙ again j.1
-range_obeys (lead k gs t) v c i = refl
-range_obeys (mid x k y) v c i = refl
-range_obeys (post x k) v c i = refl
+range_obeys (prefixed k gs t) v c i = refl
+range_obeys (infixed x k y) v c i = refl
+range_obeys (postfixed x k) v c i = refl
 range_obeys (tail b k ks) v c i = refl
 range_obeys (frame k ks) v c i = refl
 
@@ -122,29 +122,29 @@ pub carrier_obeys : (t : Tree) (v : Level) (c : Context) → Obeys v c (parenthe
     → prints_carrier t ≡ carries (parenthesize_attributed t) || is_cast (parenthesize_attributed t)
 carrier_obeys (leaf k) v c i = refl
 carrier_obeys (paren m t) v c i = refl
-carrier_obeys (adorned a more t) v c i = go (λ h. carrier_obeys t v (adorned_context c) h) (is_operation t) i
+carrier_obeys (attributed a more t) v c i = go (λ h. carrier_obeys t v (attributed_context c) h) (is_operation t) i
   where
-    go : (Obeys v (adorned_context c) (parenthesize_attributed t) → prints_carrier t ≡ carries (parenthesize_attributed t) || is_cast (parenthesize_attributed t))
+    go : (Obeys v (attributed_context c) (parenthesize_attributed t) → prints_carrier t ≡ carries (parenthesize_attributed t) || is_cast (parenthesize_attributed t))
         → (b : Bool) → ObeysBehind v c t b → b || prints_carrier t ≡ carries (put b (parenthesize_attributed t) (parenthesize_attributed t)) || false
     go again true j = refl
     go again false j = again j.1 ∙ ap (λ b. carries (parenthesize_attributed t) || b) (not_cast (parenthesize_attributed t) j.0)
-carrier_obeys (lead k gs t) v c i = refl
-carrier_obeys (mid x k y) v c i = refl
-carrier_obeys (post x k) v c i = refl
+carrier_obeys (prefixed k gs t) v c i = refl
+carrier_obeys (infixed x k y) v c i = refl
+carrier_obeys (postfixed x k) v c i = refl
 carrier_obeys (tail b k ks) v c i = refl
 carrier_obeys (frame k ks) v c i = refl
 
 no_label : (t : Tree) → begins_label t ≡ false → labelled t ≡ false
 no_label (leaf k) h = h
 no_label (paren m t) h = refl
-no_label (adorned a more t) h = refl
-no_label (lead k gs t) h = refl
-no_label (mid x k y) h = rw (no_label x h) (and-false _)
-no_label (post x k) h = rw (no_label x h) (and-false _)
+no_label (attributed a more t) h = refl
+no_label (prefixed k gs t) h = refl
+no_label (infixed x k y) h = rw (no_label x h) (and-false _)
+no_label (postfixed x k) h = rw (no_label x h) (and-false _)
 no_label (tail b k ks) h = rw (no_label b h) (and-false _)
 no_label (frame k ks) h = h
 
-bare_break : (k : Lead) (t : Tree) → is_bare_break k && begins_label (parenthesize_attributed t) ≡ false → is_bare_break k && labelled t ≡ false
+bare_break : (k : Prefix) (t : Tree) → is_bare_break k && begins_label (parenthesize_attributed t) ≡ false → is_bare_break k && labelled t ≡ false
 bare_break k t h = go (is_bare_break k) h
   where
     go : (b : Bool) → b && begins_label (parenthesize_attributed t) ≡ false → b && labelled t ≡ false
@@ -193,18 +193,18 @@ place_ends v c t k i f = (
   ap (λ b. trails c.next && b) (carrier_obeys t v c i) ∙ f.no_trailer,
 )
 
-kept_lead : (k : Lead) (gs : Kids) (c : Context) (t : Tree) → Kept (lead_level k) (lead_context k c) t
-    → Obeys (lead_level k) (lead_context k c) (parenthesize_attributed t) → Fits (lead_level k) (parenthesize_attributed t) (lead_context k c).next
+kept_prefix : (k : Prefix) (gs : Children) (c : Context) (t : Tree) → Kept (prefix_level k) (prefix_context k c) t
+    → Obeys (prefix_level k) (prefix_context k c) (parenthesize_attributed t) → Fits (prefix_level k) (parenthesize_attributed t) (prefix_context k c).next
     → is_bare_break k && begins_label (parenthesize_attributed t) ≡ false
-    → (bad (lead k gs t) c.next ≡ false)
-    × (put (lead_asks k (lead_context k c) t) (bare enclosed t) (bare (lead_context k c) t) ≡ parenthesize_attributed t)
-kept_lead k gs c t h i f l =
-    let w = not_wrapped (lead_level k) (lead_context k c) t h.tight in
+    → (bad (prefixed k gs t) c.next ≡ false)
+    × (put (prefix_asks k (prefix_context k c) t) (bare enclosed t) (bare (prefix_context k c) t) ≡ parenthesize_attributed t)
+kept_prefix k gs c t h i f l =
+    let w = not_wrapped (prefix_level k) (prefix_context k c) t h.tight in
     let b = bare_break k t l in
-    let p = place_ends (lead_level k) (lead_context k c) t h.tight i f in (
-      subst (λ (n : Next). ends_badly (lead_level k) t n (place_wrapped (lead_level k) t n (low t) (bad t n) || (is_bare_break k && labelled t)) ≡ false)
-          (lead_next_is k c) (ends_well (lead_level k) t (lead_context k c).next _ (neither _ _ w b) p.0 p.1),
-      put_bare _ (bare enclosed t) (bare (lead_context k c) t) (parenthesize_attributed t) (neither _ _ (neither _ _ w h.tight.placed) b) h.same,
+    let p = place_ends (prefix_level k) (prefix_context k c) t h.tight i f in (
+      subst (λ (n : Next). ends_badly (prefix_level k) t n (place_wrapped (prefix_level k) t n (low t) (bad t n) || (is_bare_break k && labelled t)) ≡ false)
+          (prefix_next_is k c) (ends_well (prefix_level k) t (prefix_context k c).next _ (neither _ _ w b) p.0 p.1),
+      put_bare _ (bare enclosed t) (bare (prefix_context k c) t) (parenthesize_attributed t) (neither _ _ (neither _ _ w h.tight.placed) b) h.same,
     )
 
 kept_place : (v : Level) (c : Context) (t : Tree) → Kept v c t → Obeys v c (parenthesize_attributed t) → Fits v (parenthesize_attributed t) c.next
@@ -237,34 +237,34 @@ abbrev Same : Piece → Tree → Type 0
 Same k t = piece_put k t (bare enclosed t) (bare (piece_context k) t) (put (place_asks lev.Jump in_statement t) (bare enclosed t) (bare in_statement t))
     (place_asks lev.Jump (piece_context k) t) ≡ parenthesize_attributed t
 
-kept_block : (t : Tree) → is_kept_block t ≡ true → (bare enclosed t ≡ parenthesize_attributed t) × (is_plain_block t ≡ true)
-kept_block (leaf (e.block None b)) h = (refl, h)
-kept_block (leaf (e.block (Some w) b)) h = absurd cc
-kept_block (leaf (e.lit x)) h = absurd cc
-kept_block (leaf (e.path q p)) h = absurd cc
-kept_block (leaf (e.mac m)) h = absurd cc
-kept_block (leaf e.infer) h = absurd cc
-kept_block (leaf (e.full_range op)) h = absurd cc
-kept_block (leaf (e.bare_jump j)) h = absurd cc
-kept_block (leaf (e.continuing w)) h = absurd cc
-kept_block (leaf (e.looping w b)) h = absurd cc
-kept_block (leaf (e.unsafe_block b)) h = absurd cc
-kept_block (leaf (e.const_block b)) h = absurd cc
-kept_block (leaf (e.async_block m ts)) h = absurd cc
-kept_block (leaf (e.try_block ts)) h = absurd cc
-kept_block (leaf (e.verbatim ts)) h = absurd cc
-kept_block (paren m t) h = absurd cc
-kept_block (adorned a more t) h = absurd cc
-kept_block (lead k gs t) h = absurd cc
-kept_block (mid x k y) h = absurd cc
-kept_block (post x k) h = absurd cc
-kept_block (tail b k ks) h = absurd cc
-kept_block (frame k ks) h = absurd cc
+verbatim_block : (t : Tree) → is_verbatim_block t ≡ true → (bare enclosed t ≡ parenthesize_attributed t) × (is_plain_block t ≡ true)
+verbatim_block (leaf (e.block None b)) h = (refl, h)
+verbatim_block (leaf (e.block (Some w) b)) h = absurd cc
+verbatim_block (leaf (e.lit x)) h = absurd cc
+verbatim_block (leaf (e.path q p)) h = absurd cc
+verbatim_block (leaf (e.mac m)) h = absurd cc
+verbatim_block (leaf e.infer) h = absurd cc
+verbatim_block (leaf (e.full_range op)) h = absurd cc
+verbatim_block (leaf (e.bare_jump j)) h = absurd cc
+verbatim_block (leaf (e.continuing w)) h = absurd cc
+verbatim_block (leaf (e.loop_expr w b)) h = absurd cc
+verbatim_block (leaf (e.unsafe_block b)) h = absurd cc
+verbatim_block (leaf (e.const_block b)) h = absurd cc
+verbatim_block (leaf (e.async_block m ts)) h = absurd cc
+verbatim_block (leaf (e.try_block ts)) h = absurd cc
+verbatim_block (leaf (e.verbatim ts)) h = absurd cc
+verbatim_block (paren m t) h = absurd cc
+verbatim_block (attributed a more t) h = absurd cc
+verbatim_block (prefixed k gs t) h = absurd cc
+verbatim_block (infixed x k y) h = absurd cc
+verbatim_block (postfixed x k) h = absurd cc
+verbatim_block (tail b k ks) h = absurd cc
+verbatim_block (frame k ks) h = absurd cc
 
-kept_chained : (t : Tree) → is_branch t || is_kept_block t ≡ true → bare enclosed t ≡ parenthesize_attributed t → Same e.chained t
+kept_chained : (t : Tree) → is_if_expr t || is_verbatim_block t ≡ true → bare enclosed t ≡ parenthesize_attributed t → Same e.chained t
 kept_chained (leaf k) h s = rw (chainable_leaf k h) refl
   where
-    chainable_leaf : (k : Leaf) → is_kept_block (leaf k) ≡ true → is_chainable (leaf k) ≡ true
+    chainable_leaf : (k : Leaf) → is_verbatim_block (leaf k) ≡ true → is_chainable (leaf k) ≡ true
     chainable_leaf (e.block w b) h = refl
     chainable_leaf (e.lit x) h = absurd cc
     chainable_leaf (e.path q p) h = absurd cc
@@ -273,13 +273,13 @@ kept_chained (leaf k) h s = rw (chainable_leaf k h) refl
     chainable_leaf (e.full_range op) h = absurd cc
     chainable_leaf (e.bare_jump j) h = absurd cc
     chainable_leaf (e.continuing w) h = absurd cc
-    chainable_leaf (e.looping w b) h = absurd cc
+    chainable_leaf (e.loop_expr w b) h = absurd cc
     chainable_leaf (e.unsafe_block b) h = absurd cc
     chainable_leaf (e.const_block b) h = absurd cc
     chainable_leaf (e.async_block m ts) h = absurd cc
     chainable_leaf (e.try_block ts) h = absurd cc
     chainable_leaf (e.verbatim ts) h = absurd cc
-kept_chained (frame e.branch ks) h s = s
+kept_chained (frame e.if_expr ks) h s = s
 kept_chained (frame e.array ks) h s = absurd cc
 kept_chained (frame e.tuple ks) h s = absurd cc
 kept_chained (frame e.repeat ks) h s = absurd cc
@@ -287,50 +287,50 @@ kept_chained (frame (e.structure q p d) ks) h s = absurd cc
 kept_chained (frame (e.closure_block j) ks) h s = absurd cc
 kept_chained (frame (e.while_loop w) ks) h s = absurd cc
 kept_chained (frame (e.for_loop w p) ks) h s = absurd cc
-kept_chained (frame e.choice ks) h s = absurd cc
-kept_chained (frame e.invisible ks) h s = absurd cc
+kept_chained (frame e.match_expr ks) h s = absurd cc
+kept_chained (frame e.group_expr ks) h s = absurd cc
 kept_chained (paren m t) h s = absurd cc
-kept_chained (adorned a more t) h s = absurd cc
-kept_chained (lead k gs t) h s = absurd cc
-kept_chained (mid x k y) h s = absurd cc
-kept_chained (post x k) h s = absurd cc
+kept_chained (attributed a more t) h s = absurd cc
+kept_chained (prefixed k gs t) h s = absurd cc
+kept_chained (infixed x k y) h s = absurd cc
+kept_chained (postfixed x k) h s = absurd cc
 kept_chained (tail b k ks) h s = absurd cc
 
 kept_at : (t : Tree) (c : Context) → Kept lev.Jump c t → put (place_asks lev.Jump c t) (bare enclosed t) (bare c t) ≡ parenthesize_attributed t
 kept_at t c k = put_bare _ (bare enclosed t) (bare c t) (parenthesize_attributed t) (not_asked lev.Jump c t k.tight) k.same
 
-kept_kid : (k : Piece) (t : Tree) → block_there k t ≡ true → (is_silent k ≡ false → Kept lev.Jump (piece_context k) t)
+kept_child : (k : Piece) (t : Tree) → block_there k t ≡ true → (is_silent k ≡ false → Kept lev.Jump (piece_context k) t)
     → (is_silent k ≡ true → parenthesize_attributed t ≡ t) → Same k t
-kept_kid e.element t b h z = kept_at t enclosed (h refl)
-kept_kid e.value t b h z = kept_at t enclosed (h refl)
-kept_kid e.repeated t b h z = kept_at t enclosed (h refl)
-kept_kid (e.field_value ats m true) t b h z = kept_at t enclosed (h refl)
-kept_kid (e.field_value ats m false) t b h z = sym (z refl)
-kept_kid (e.rest d) t b h z = kept_at t enclosed (h refl)
-kept_kid e.condition t b h z = kept_at t (piece_context e.condition) (h refl)
-kept_kid e.loop_head t b h z = kept_at t (piece_context e.loop_head) (h refl)
-kept_kid e.scrutinee t b h z = kept_at t (piece_context e.scrutinee) (h refl)
-kept_kid e.chained t b h z = kept_chained t b (h refl).same
-kept_kid (e.guard ats p) t b h z = kept_at t enclosed (h refl)
-kept_kid e.guarded t b h z = kept_at t (piece_context e.guarded) (h refl)
-kept_kid (e.arm ats p) t b h z = kept_at t (piece_context (e.arm ats p)) (h refl)
-kept_kid e.output_block t b h z = let p = kept_block t b in rw p.1 p.0
-kept_kid e.grouped t b h z = kept_at t enclosed (h refl)
-kept_kid e.stray t b h z = sym (z refl)
+kept_child e.element t b h z = kept_at t enclosed (h refl)
+kept_child e.value t b h z = kept_at t enclosed (h refl)
+kept_child e.repeated t b h z = kept_at t enclosed (h refl)
+kept_child (e.field_value ats m true) t b h z = kept_at t enclosed (h refl)
+kept_child (e.field_value ats m false) t b h z = sym (z refl)
+kept_child (e.rest d) t b h z = kept_at t enclosed (h refl)
+kept_child e.condition t b h z = kept_at t (piece_context e.condition) (h refl)
+kept_child e.loop_head t b h z = kept_at t (piece_context e.loop_head) (h refl)
+kept_child e.scrutinee t b h z = kept_at t (piece_context e.scrutinee) (h refl)
+kept_child e.chained t b h z = kept_chained t b (h refl).same
+kept_child (e.guard ats p) t b h z = kept_at t enclosed (h refl)
+kept_child e.guarded t b h z = kept_at t (piece_context e.guarded) (h refl)
+kept_child (e.arm ats p) t b h z = kept_at t (piece_context (e.arm ats p)) (h refl)
+kept_child e.output_block t b h z = let p = verbatim_block t b in rw p.1 p.0
+kept_child e.grouped t b h z = kept_at t enclosed (h refl)
+kept_child e.stray t b h z = sym (z refl)
 
 kept_attributes : (v : Level) (c : Context) (a : AttributeTree) (more : List AttributeTree) (t : Tree) → takes v lev.Unambiguous ≡ true
-    → (b : Bool) → is_operation t ≡ b → (b ≡ true → bare enclosed t ≡ parenthesize_attributed t) → (b ≡ false → Kept v (adorned_context c) t)
-    → Kept v c (adorned a more t)
+    → (b : Bool) → is_operation t ≡ b → (b ≡ true → bare enclosed t ≡ parenthesize_attributed t) → (b ≡ false → Kept v (attributed_context c) t)
+    → Kept v c (attributed a more t)
 kept_attributes v c a more t s true o f h =
     record {
       tight = record { edge = s; end = rw o refl; refused = rw o refl; placed = rw o refl };
-      same = rw o (ap (λ u. adorned a more (paren true u)) (f refl));
+      same = rw o (ap (λ u. attributed a more (paren true u)) (f refl));
     }
 kept_attributes v c a more t s false o f h =
     let k = h refl in
     record {
       tight = record { edge = s; end = rw (o, k.tight.end) refl; refused = rw (o, k.tight.refused) refl; placed = rw (o, k.tight.placed) refl };
-      same = rw o (ap (adorned a more) k.same);
+      same = rw o (ap (attributed a more) k.same);
     }
 
 -- what is known of an operand behind attributes, in the pair or without one
@@ -338,7 +338,7 @@ inside_pair : (v : Level) (c : Context) (t : Tree) (b : Bool) → ObeysBehind v 
 inside_pair v c t true i h = i.1.0
 inside_pair v c t false i h = absurd cc
 
-without_pair : (v : Level) (c : Context) (t : Tree) (b : Bool) → ObeysBehind v c t b → b ≡ false → Obeys v (adorned_context c) (parenthesize_attributed t)
+without_pair : (v : Level) (c : Context) (t : Tree) (b : Bool) → ObeysBehind v c t b → b ≡ false → Obeys v (attributed_context c) (parenthesize_attributed t)
 without_pair v c t true i h = absurd cc
 without_pair v c t false i h = i.1
 
@@ -351,27 +351,27 @@ mutual
         tight = record { edge = s; end = refl; refused = refl; placed = refl };
         same = same_paren m (bare enclosed t) (parenthesize_attributed t) u.0 (kept t lev.Jump enclosed refl u.1 i.0).same;
       }
-  kept (adorned a more t) v c s u i =
+  kept (attributed a more t) v c s u i =
       kept_attributes v c a more t s (is_operation t) refl
       (λ h. (kept t lev.Jump enclosed refl u (inside_pair v c t (is_operation t) i h)).same)
-      (λ h. kept t v (adorned_context c) s u (without_pair v c t (is_operation t) i h))
-  kept (lead k gs t) v c s u i =
-      let p = kept_lead k gs c t (kept t (lead_level k) (lead_context k c) (lead_small k) u i.1) i.1 i.2 i.3 in
-      record { tight = record { edge = s; end = p.0; refused = refl; placed = i.0 }; same = ap (lead k gs) p.1 }
-  kept (mid x k y) v c s u i =
+      (λ h. kept t v (attributed_context c) s u (without_pair v c t (is_operation t) i h))
+  kept (prefixed k gs t) v c s u i =
+      let p = kept_prefix k gs c t (kept t (prefix_level k) (prefix_context k c) (prefix_small k) u i.1) i.1 i.2 i.3 in
+      record { tight = record { edge = s; end = p.0; refused = refl; placed = i.0 }; same = ap (prefixed k gs) p.1 }
+  kept (infixed x k y) v c s u i =
       let h = kept x v (left_context k c) s u.0 i.1 in
       let p = kept_left v k c x h i.1 i.2 in
       let q = kept_place (level k) (right_context k c) y (kept y (level k) (right_context k c) (level_small k) u.1 i.3) i.3 i.4 in
       record {
         tight = record { edge = low_kept v k x _ p.0 i.0 h.tight.edge; end = q.0; refused = refl; placed = refl };
-        same = same_mid _ _ _ _ k p.1 q.1;
+        same = same_infix _ _ _ _ k p.1 q.1;
       }
-  kept (post x k) v c s u i =
-      let h = kept x v (left_context (post_op k) c) s u i.1 in
-      let p = kept_left v (post_op k) c x h i.1 i.2 in
+  kept (postfixed x k) v c s u i =
+      let h = kept x v (left_context (postfix_op k) c) s u i.1 in
+      let p = kept_left v (postfix_op k) c x h i.1 i.2 in
       record {
-        tight = record { edge = low_kept v (post_op k) x _ p.0 i.0 h.tight.edge; end = refl; refused = i.3; placed = refl };
-        same = ap (λ z. post z k) p.1;
+        tight = record { edge = low_kept v (postfix_op k) x _ p.0 i.0 h.tight.edge; end = refl; refused = i.3; placed = refl };
+        same = ap (λ z. postfixed z k) p.1;
       }
   kept (tail b k ks) v c s u i =
       let h = kept b v (base_context k c) s u.0 i.1 in
@@ -379,15 +379,15 @@ mutual
       record {
         tight = record { edge = s; end = refl; refused = refl; placed = refl };
         same = same_tail _ _ _ _ k
-            (put_bare _ (bare enclosed b) (bare (base_context k c) b) (parenthesize_attributed b) (neither _ _ w h.tight.placed) h.same) (kept_kids ks u.1 i.2);
+            (put_bare _ (bare enclosed b) (bare (base_context k c) b) (parenthesize_attributed b) (neither _ _ w h.tight.placed) h.same) (kept_children ks u.1 i.2);
       }
   kept (frame k ks) v c s u i =
-      record { tight = record { edge = s; end = refl; refused = refl; placed = i.0 }; same = ap (frame k) (kept_kids ks u i.1) }
+      record { tight = record { edge = s; end = refl; refused = refl; placed = i.0 }; same = ap (frame k) (kept_children ks u i.1) }
 
-  pub kept_kids : (ks : Kids) → ProperKids ks → ObeysKids (parenthesize_attributed_kids ks) → bare_kids ks ≡ parenthesize_attributed_kids ks
-  kept_kids none u i = refl
-  kept_kids (kid k c t ks) u i =
-      same_kid _ _ _ _ k c (kept_kid k t u.0 (λ e. kept t lev.Jump (piece_context k) refl (u.1 e) (i.0 e)) u.2) (kept_kids ks u.3 i.1)
+  pub kept_children : (ks : Children) → ProperChildren ks → ObeysChildren (parenthesize_attributed_children ks) → bare_children ks ≡ parenthesize_attributed_children ks
+  kept_children none u i = refl
+  kept_children (child k c t ks) u i =
+      same_child _ _ _ _ k c (kept_child k t u.0 (λ e. kept t lev.Jump (piece_context k) refl (u.1 e) (i.0 e)) u.2) (kept_children ks u.3 i.1)
 
 -- in a position
 pub kept_in : (t : Tree) (c : Context) → Proper t → Obeys lev.Jump c (parenthesize_attributed t)

@@ -21,8 +21,8 @@ use Rattle.syn_grammar.specs.declared.kinds.Limits.TheVariants as limits
 use Rattle.syn_grammar.specs.declared.kinds.Infix.{Infix}
 use Rattle.syn_grammar.specs.declared.kinds.Infix.TheVariants as inf
 use Rattle.syn_grammar.specs.Tree as e
-use Rattle.syn_grammar.specs.Tree.{Tree, Kids, Jump, Leaf, Lead, Post, Trailer, Piece, Ending, ClosureHead, leaf, paren, adorned, lead, mid, post, tail, frame, none, kid, outers, word_if, label_own, jump_own, own, kids_own, leaf_own, lead_own, closure_own, infix_own, post_own, trailer_own, piece_own, is_silent, is_repeated}
-use Rattle.syn_grammar.specs.Query.{last_braces, is_braces, blocked, kids_blocked, return_brace, leaf_brace, lead_brace, post_brace, piece_brace, operand_brace, frame_brace, frame_head_brace, tree_brace, kids_brace}
+use Rattle.syn_grammar.specs.Tree.{Tree, Children, Jump, Leaf, Prefix, Postfix, Trailer, Piece, Ending, ClosureHead, leaf, paren, attributed, prefixed, infixed, postfixed, tail, frame, none, child, outers, word_if, label_own, jump_own, own, children_own, leaf_own, prefix_own, closure_own, infix_own, postfix_own, trailer_own, piece_own, is_silent, is_repeated}
+use Rattle.syn_grammar.specs.Query.{last_braces, is_braces, blocked, children_blocked, return_brace, leaf_brace, prefix_brace, postfix_brace, piece_brace, operand_brace, frame_brace, frame_head_brace, tree_brace, children_brace}
 use Rattle.syn_grammar.proofs.LastTypes.{Fixed, over, through, if_there, if_some, one, first, colons, for_lifetimes, elements, type_last, return_last}
 
 -- ---- what stands before others: attributes, literals, paths and patterns
@@ -93,60 +93,60 @@ mutual
 
 -- ---- the tree as it is: what stands behind `else` ends with what it ends with
 
-abbrev pub kid_spelled : Bool → Piece → Bool → Bool
-kid_spelled before e.chained bare = bare
-kid_spelled before k bare = operand_brace before k bare
+abbrev pub child_spelled : Bool → Piece → Bool → Bool
+child_spelled before e.chained bare = bare
+child_spelled before k bare = operand_brace before k bare
 
 abbrev mutual
   pub as_spelled : Bool → Tree → Bool
   as_spelled before (leaf k) = leaf_brace before k
   as_spelled before (paren m x) = false
-  as_spelled before (adorned a more x) = as_spelled (is_nil (outers (a ∷ more)) && before) x
-  as_spelled before (lead k gs x) = as_spelled (lead_brace k) x
-  as_spelled before (mid x k y) = as_spelled false y
-  as_spelled before (post x k) = post_brace k
+  as_spelled before (attributed a more x) = as_spelled (is_nil (outers (a ∷ more)) && before) x
+  as_spelled before (prefixed k gs x) = as_spelled (prefix_brace k) x
+  as_spelled before (infixed x k y) = as_spelled false y
+  as_spelled before (postfixed x k) = postfix_brace k
   as_spelled before (tail x k ks) = false
-  as_spelled before (frame k ks) = frame_brace k (kids_spelled (frame_head_brace k) ks)
+  as_spelled before (frame k ks) = frame_brace k (children_spelled (frame_head_brace k) ks)
 
-  pub kids_spelled : Bool → Kids → Bool
-  kids_spelled before none = before
-  kids_spelled before (kid k e.no_ending x ks) = kids_spelled (kid_spelled before k (as_spelled (piece_brace before k) x)) ks
-  kids_spelled before (kid k e.comma x ks) = kids_spelled false ks
-  kids_spelled before (kid k (e.braced b) x ks) = kids_spelled true ks
-  kids_spelled before (kid k (e.opened ats) x ks) = true
+  pub children_spelled : Bool → Children → Bool
+  children_spelled before none = before
+  children_spelled before (child k e.no_ending x ks) = children_spelled (child_spelled before k (as_spelled (piece_brace before k) x)) ks
+  children_spelled before (child k e.comma x ks) = children_spelled false ks
+  children_spelled before (child k (e.braced b) x ks) = children_spelled true ks
+  children_spelled before (child k (e.opened ats) x ks) = true
 
 -- ---- the blocked tree, as it is, ends so
 
-pub kept : (before : Bool) (k : Piece) (c : Ending) (x y : Tree) (ks ms : Kids)
-    → kid_spelled before k (as_spelled (piece_brace before k) y) ≡ operand_brace before k (tree_brace (piece_brace before k) x)
-    → ((b : Bool) → kids_spelled b ms ≡ kids_brace b ks) → kids_spelled before (kid k c y ms) ≡ kids_brace before (kid k c x ks)
-kept before k e.no_ending x y ks ms same h = h _ ∙ ap (λ b. kids_brace b ks) same
-kept before k e.comma x y ks ms same h = h false
-kept before k (e.braced b) x y ks ms same h = h true
-kept before k (e.opened ats) x y ks ms same h = refl
+pub verbatim : (before : Bool) (k : Piece) (c : Ending) (x y : Tree) (ks ms : Children)
+    → child_spelled before k (as_spelled (piece_brace before k) y) ≡ operand_brace before k (tree_brace (piece_brace before k) x)
+    → ((b : Bool) → children_spelled b ms ≡ children_brace b ks) → children_spelled before (child k c y ms) ≡ children_brace before (child k c x ks)
+verbatim before k e.no_ending x y ks ms same h = h _ ∙ ap (λ b. children_brace b ks) same
+verbatim before k e.comma x y ks ms same h = h false
+verbatim before k (e.braced b) x y ks ms same h = h true
+verbatim before k (e.opened ats) x y ks ms same h = refl
 
 mutual
   pub blocked_ends : (before : Bool) (x : Tree) → as_spelled before (blocked x) ≡ tree_brace before x
   blocked_ends before (leaf k) = refl
   blocked_ends before (paren m x) = refl
-  blocked_ends before (adorned a more x) = blocked_ends _ x
-  blocked_ends before (lead k gs x) = blocked_ends (lead_brace k) x
-  blocked_ends before (mid x k y) = blocked_ends false y
-  blocked_ends before (post x k) = refl
+  blocked_ends before (attributed a more x) = blocked_ends _ x
+  blocked_ends before (prefixed k gs x) = blocked_ends (prefix_brace k) x
+  blocked_ends before (infixed x k y) = blocked_ends false y
+  blocked_ends before (postfixed x k) = refl
   blocked_ends before (tail x k ks) = refl
-  blocked_ends before (frame k ks) = ap (frame_brace k) (blocked_kids (frame_head_brace k) ks)
+  blocked_ends before (frame k ks) = ap (frame_brace k) (blocked_children (frame_head_brace k) ks)
 
-  blocked_kids : (before : Bool) (ks : Kids) → kids_spelled before (kids_blocked ks) ≡ kids_brace before ks
-  blocked_kids before none = refl
-  blocked_kids before (kid e.chained c x ks) = kept before e.chained c x _ ks (kids_blocked ks) refl (λ b. blocked_kids b ks)
-  blocked_kids before (kid k c x ks) =
-      kept before k c x (blocked x) ks (kids_blocked ks) (ap (operand_brace before k) (blocked_ends (piece_brace before k) x)) (λ b. blocked_kids b ks)
+  blocked_children : (before : Bool) (ks : Children) → children_spelled before (children_blocked ks) ≡ children_brace before ks
+  blocked_children before none = refl
+  blocked_children before (child e.chained c x ks) = verbatim before e.chained c x _ ks (children_blocked ks) refl (λ b. blocked_children b ks)
+  blocked_children before (child k c x ks) =
+      verbatim before k c x (blocked x) ks (children_blocked ks) (ap (operand_brace before k) (blocked_ends (piece_brace before k) x)) (λ b. blocked_children b ks)
 
 -- ---- the tree ends so as it is spelled
 
-kept_last : (before : Bool) (ts r : List Tok) → last_braces before (ts ++ r) ≡ last_braces (last_braces before ts) r
-kept_last before [] r = refl
-kept_last before (u ∷ ts) r = kept_last (is_braces u) ts r
+verbatim_last : (before : Bool) (ts r : List Tok) → last_braces before (ts ++ r) ≡ last_braces (last_braces before ts) r
+verbatim_last before [] r = refl
+verbatim_last before (u ∷ ts) r = verbatim_last (is_braces u) ts r
 
 number_last : (before : Bool) (text : Text) (r : List Tok) → last_braces before (number_own text r) ≡ last_braces false r
 number_last before [] r = refl
@@ -185,14 +185,14 @@ leaf_last before (e.continuing None) r = refl
 leaf_last before (e.continuing (Some w)) r = refl
 leaf_last before (e.block None b) r = refl
 leaf_last before (e.block (Some w) b) r = refl
-leaf_last before (e.looping None b) r = refl
-leaf_last before (e.looping (Some w) b) r = refl
+leaf_last before (e.loop_expr None b) r = refl
+leaf_last before (e.loop_expr (Some w) b) r = refl
 leaf_last before (e.unsafe_block b) r = refl
 leaf_last before (e.const_block b) r = refl
 leaf_last before (e.async_block true ts) r = refl
 leaf_last before (e.async_block false ts) r = refl
 leaf_last before (e.try_block ts) r = refl
-leaf_last before (e.verbatim ts) r = kept_last before ts r
+leaf_last before (e.verbatim ts) r = verbatim_last before ts r
 
 closure_last : (h : ClosureHead) (before : Bool) (r : List Tok) → last_braces before (closure_own h r) ≡ last_braces (return_brace h.output) r
 closure_last h before r =
@@ -200,18 +200,18 @@ closure_last h before r =
     (words h.asyncness (codes "async") _ _ (words h.capture (codes "move") _ _ (words h.usage (codes "use") _ _
     (one (alone 124) _ _ (elements pat_own patterns h.inputs h.trailing _ _ (first (alone 124) _ _ (return_last h.output r)))))))))).behind before
 
-lead_last : (before : Bool) (k : Lead) (r : List Tok) → last_braces before (lead_own k r) ≡ last_braces (lead_brace k) r
-lead_last before (e.unary un.Deref) r = refl
-lead_last before (e.unary un.Not) r = refl
-lead_last before (e.unary un.Neg) r = refl
-lead_last before (e.reference true) r = refl
-lead_last before (e.reference false) r = refl
-lead_last before (e.raw_addr m) r = refl
-lead_last before (e.range_to limits.HalfOpen) r = refl
-lead_last before (e.range_to limits.Closed) r = refl
-lead_last before (e.binding x) r = (patterns x _ _ (first (alone 61) r _ refl)).behind false
-lead_last before (e.jump j) r = jump_last before j r
-lead_last before (e.closure h) r = closure_last h before r
+prefix_last : (before : Bool) (k : Prefix) (r : List Tok) → last_braces before (prefix_own k r) ≡ last_braces (prefix_brace k) r
+prefix_last before (e.unary un.Deref) r = refl
+prefix_last before (e.unary un.Not) r = refl
+prefix_last before (e.unary un.Neg) r = refl
+prefix_last before (e.reference true) r = refl
+prefix_last before (e.reference false) r = refl
+prefix_last before (e.raw_addr m) r = refl
+prefix_last before (e.range_to limits.HalfOpen) r = refl
+prefix_last before (e.range_to limits.Closed) r = refl
+prefix_last before (e.let_expr x) r = (patterns x _ _ (first (alone 61) r _ refl)).behind false
+prefix_last before (e.jump j) r = jump_last before j r
+prefix_last before (e.closure h) r = closure_last h before r
 
 infix_last : (before : Bool) (k : Infix) (r : List Tok) → last_braces before (infix_own k r) ≡ last_braces false r
 infix_last before (inf.Binary bin.Add) r = refl
@@ -247,9 +247,9 @@ infix_last before (inf.Range limits.HalfOpen) r = refl
 infix_last before (inf.Range limits.Closed) r = refl
 infix_last before inf.Cast r = refl
 
-post_last : (before : Bool) (k : Post) (r : List Tok) → last_braces before (post_own k r) ≡ last_braces (post_brace k) r
-post_last before (e.cast x) r = type_last false x r
-post_last before (e.range_from op) r = infix_last before (inf.Range op) r
+postfix_last : (before : Bool) (k : Postfix) (r : List Tok) → last_braces before (postfix_own k r) ≡ last_braces (postfix_brace k) r
+postfix_last before (e.cast x) r = type_last false x r
+postfix_last before (e.range_from op) r = infix_last before (inf.Range op) r
 
 trailer_last : (before : Bool) (k : Trailer) (i r : List Tok) → last_braces before (trailer_own k i r) ≡ last_braces false r
 trailer_last before e.call i r = refl
@@ -259,22 +259,22 @@ trailer_last before (e.method w a) i r =
 trailer_last before (e.field (p.a_name w)) i r = refl
 trailer_last before (e.field (p.an_index n)) i r = refl
 trailer_last before e.await i r = refl
-trailer_last before e.question i r = refl
+trailer_last before e.try_expr i r = refl
 
 label_last : (before : Bool) (w : Option Text) (l : List Tok) (b : Bool) → Fixed l b → last_braces before (label_own w l) ≡ b
 label_last before None l b f = f.behind before
 label_last before (Some w) l b f = f.behind false
 
 -- behind attributes, the last of which ends with brackets
-adorned_last : (before : Bool) (a : AttributeTree) (more : List AttributeTree) (l : List Tok) → last_braces before (attributes_own (a ∷ more) l) ≡ last_braces false l
+attributed_last : (before : Bool) (a : AttributeTree) (more : List AttributeTree) (l : List Tok) → last_braces before (attributes_own (a ∷ more) l) ≡ last_braces false l
 unfolding attribute_own
-adorned_last before a [] l = (if_there a.inner (λ m. alone 33 ∷ m) (one (alone 33)) _ _ (first (group del.Bracket (inside a.tokens)) l _ refl)).behind false
-adorned_last before a (b ∷ more) l =
-    (if_there a.inner (λ m. alone 33 ∷ m) (one (alone 33)) _ _ (first (group del.Bracket (inside a.tokens)) _ _ (adorned_last false b more l))).behind false
+attributed_last before a [] l = (if_there a.inner (λ m. alone 33 ∷ m) (one (alone 33)) _ _ (first (group del.Bracket (inside a.tokens)) l _ refl)).behind false
+attributed_last before a (b ∷ more) l =
+    (if_there a.inner (λ m. alone 33 ∷ m) (one (alone 33)) _ _ (first (group del.Bracket (inside a.tokens)) _ _ (attributed_last false b more l))).behind false
 
 attributes_last : (before : Bool) (ats : List AttributeTree) (l : List Tok) → last_braces before (attributes_own ats l) ≡ last_braces (is_nil ats && before) l
 attributes_last before [] l = refl
-attributes_last before (a ∷ more) l = adorned_last before a more l
+attributes_last before (a ∷ more) l = attributed_last before a more l
 
 members_last : (m : MemberTree) (l : List Tok) (b : Bool) → last_braces false l ≡ b → Fixed (member_own m l) b
 members_last (p.a_name w) l b h = first _ l b h
@@ -302,41 +302,41 @@ repeated_last : (before repeated : Bool) (l : List Tok) → last_braces before (
 repeated_last before true l = refl
 repeated_last before false l = refl
 
-kid_is : (before : Bool) (k : Piece) (bare : Bool) → (if is_repeated k then false else (if is_silent k then piece_brace before k else bare)) ≡ kid_spelled before k bare
-kid_is before e.chained bare = refl
-kid_is before k bare = refl
+child_is : (before : Bool) (k : Piece) (bare : Bool) → (if is_repeated k then false else (if is_silent k then piece_brace before k else bare)) ≡ child_spelled before k bare
+child_is before e.chained bare = refl
+child_is before k bare = refl
 
 mutual
   pub tree_last : (before : Bool) (x : Tree) (r : List Tok) → last_braces before (own x r) ≡ last_braces (as_spelled before x) r
   tree_last before (leaf k) r = leaf_last before k r
   tree_last before (paren m x) r = refl
-  tree_last before (adorned a more x) r = attributes_last before (outers (a ∷ more)) (own x r) ∙ tree_last _ x r
-  tree_last before (lead k gs x) r = lead_last before k _ ∙ tree_last (lead_brace k) x r
-  tree_last before (mid x k y) r = tree_last before x _ ∙ infix_last _ k _ ∙ tree_last false y r
-  tree_last before (post x k) r = tree_last before x _ ∙ post_last _ k r
+  tree_last before (attributed a more x) r = attributes_last before (outers (a ∷ more)) (own x r) ∙ tree_last _ x r
+  tree_last before (prefixed k gs x) r = prefix_last before k _ ∙ tree_last (prefix_brace k) x r
+  tree_last before (infixed x k y) r = tree_last before x _ ∙ infix_last _ k _ ∙ tree_last false y r
+  tree_last before (postfixed x k) r = tree_last before x _ ∙ postfix_last _ k r
   tree_last before (tail x k ks) r = tree_last before x _ ∙ trailer_last _ k _ r
   tree_last before (frame e.array ks) r = refl
   tree_last before (frame e.tuple ks) r = refl
   tree_last before (frame e.repeat ks) r = refl
-  tree_last before (frame e.invisible ks) r = refl
+  tree_last before (frame e.group_expr ks) r = refl
   tree_last before (frame (e.structure q w d) ks) r =
       (over (qualified_own (q, w) []) _ _ (first (group del.Brace _) r _ refl)).behind before
-  tree_last before (frame (e.closure_block h) ks) r = closure_last h before _ ∙ kids_last (return_brace h.output) ks r
-  tree_last before (frame e.branch ks) r = kids_last false ks r
-  tree_last before (frame (e.while_loop w) ks) r = label_last before w _ _ (first (ident (codes "while")) _ _ (kids_last false ks r))
+  tree_last before (frame (e.closure_block h) ks) r = closure_last h before _ ∙ children_last (return_brace h.output) ks r
+  tree_last before (frame e.if_expr ks) r = children_last false ks r
+  tree_last before (frame (e.while_loop w) ks) r = label_last before w _ _ (first (ident (codes "while")) _ _ (children_last false ks r))
   tree_last before (frame (e.for_loop w x) ks) r =
-      label_last before w _ _ (one (ident (codes "for")) _ _ (patterns x _ _ (first (ident (codes "in")) _ _ (kids_last false ks r))))
-  tree_last before (frame e.choice ks) r = kids_last false ks r
+      label_last before w _ _ (one (ident (codes "for")) _ _ (patterns x _ _ (first (ident (codes "in")) _ _ (children_last false ks r))))
+  tree_last before (frame e.match_expr ks) r = children_last false ks r
 
-  kids_last : (before : Bool) (ks : Kids) (r : List Tok) → last_braces before (kids_own ks r) ≡ last_braces (kids_spelled before ks) r
-  kids_last before none r = refl
-  kids_last before (kid k e.no_ending x ks) r =
+  children_last : (before : Bool) (ks : Children) (r : List Tok) → last_braces before (children_own ks r) ≡ last_braces (children_spelled before ks) r
+  children_last before none r = refl
+  children_last before (child k e.no_ending x ks) r =
       piece_last before k _ ∙ operand_last (piece_brace before k) (is_silent k) x _ (tree_last (piece_brace before k) x _)
-      ∙ repeated_last _ (is_repeated k) _ ∙ kids_last _ ks r
-      ∙ ap (λ b. last_braces (kids_spelled b ks) r) (kid_is before k (as_spelled (piece_brace before k) x))
-  kids_last before (kid k e.comma x ks) r =
-      piece_last before k _ ∙ operand_last (piece_brace before k) (is_silent k) x _ (tree_last (piece_brace before k) x _) ∙ kids_last false ks r
-  kids_last before (kid k (e.braced b) x ks) r =
-      piece_last before k _ ∙ operand_last (piece_brace before k) (is_silent k) x _ (tree_last (piece_brace before k) x _) ∙ kids_last true ks r
-  kids_last before (kid k (e.opened ats) x ks) r =
+      ∙ repeated_last _ (is_repeated k) _ ∙ children_last _ ks r
+      ∙ ap (λ b. last_braces (children_spelled b ks) r) (child_is before k (as_spelled (piece_brace before k) x))
+  children_last before (child k e.comma x ks) r =
+      piece_last before k _ ∙ operand_last (piece_brace before k) (is_silent k) x _ (tree_last (piece_brace before k) x _) ∙ children_last false ks r
+  children_last before (child k (e.braced b) x ks) r =
+      piece_last before k _ ∙ operand_last (piece_brace before k) (is_silent k) x _ (tree_last (piece_brace before k) x _) ∙ children_last true ks r
+  children_last before (child k (e.opened ats) x ks) r =
       piece_last before k _ ∙ operand_last (piece_brace before k) (is_silent k) x _ (tree_last (piece_brace before k) x _)

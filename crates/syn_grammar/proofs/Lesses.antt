@@ -14,12 +14,12 @@ use Rattle.syn_grammar.specs.declared.kinds.Infix.{Infix}
 use Rattle.syn_grammar.specs.declared.kinds.Infix.TheVariants as inf
 use Rattle.syn_grammar.specs.Op.{infix_at, longest, counted, entries, Entry}
 use Rattle.syn_grammar.specs.Tree as tr
-use Rattle.syn_grammar.specs.Tree.{Tree, Kids, Frame, Piece}
+use Rattle.syn_grammar.specs.Tree.{Tree, Children, Frame, Piece}
 use Rattle.syn_grammar.specs.Slot as s
 use Rattle.syn_grammar.specs.Slot.{Slot, Holder, frame_head, frame_holder, piece_form}
-use Rattle.syn_grammar.specs.Stands.{Node, is_leaf, is_become, is_attributed, is_paren, is_adorned_by, is_lead, is_mid, is_post, is_tail, is_indexed, is_frame, Content, holds_none, holds_within, holds_bare, Operands, no_more, one_more, short, block, arms_inside, short_value}
+use Rattle.syn_grammar.specs.Stands.{Node, is_leaf, is_become, is_attributed_verbatim, is_paren, is_attributed_by, is_prefixed, is_infixed, is_postfixed, is_tail, is_indexed, is_frame, Content, holds_none, holds_within, holds_bare, Operands, no_more, one_more, short, block, arms_inside, short_value}
 use Rattle.syn_grammar.proofs.Heads.{HeadsAreReadable, heads_readable}
-use Rattle.syn_grammar.proofs.HeadMoves.{IsLess, less_then, then_less, dropped, grouped, left, left_less, fields_less, trailer_left, frame_less, post_left, ending_left}
+use Rattle.syn_grammar.proofs.HeadMoves.{IsLess, less_then, then_less, dropped, grouped, left, left_less, fields_less, trailer_left, frame_less, postfix_left, ending_left}
 use Rattle.syn_grammar.proofs.SoundAtoms.{no_some}
 
 pub here : HeadsAreReadable
@@ -64,20 +64,20 @@ operator_less (x ∷ l) op count h = record { tail = dropped count (x ∷ l); le
 
 -- ---- nodes
 
-pub within_less : {d : Delimiter} {v : Slot} {b : Bool} {l n : List Tok} {ks : Kids} → Content (s.within d v b) l ks n → IsLess n l
+pub within_less : {d : Delimiter} {v : Slot} {b : Bool} {l n : List Tok} {ks : Children} → Content (s.within d v b) l ks n → IsLess n l
 within_less (holds_within {d = d} {l = l} {i = i} {n = n} g o e) = grouped d l i n g
 
-frame_node : (k : Frame) (l h n : List Tok) (ks : Kids) → frame_head k l ≡ Some h → Content (frame_holder k) h ks n → IsTail n h → IsLess n l
+frame_node : (k : Frame) (l h n : List Tok) (ks : Children) → frame_head k l ≡ Some h → Content (frame_holder k) h ks n → IsTail n h → IsLess n l
 frame_node tr.array l h n ks a c t = subst (λ z. IsLess n z) (sym (some_is a)) (within_less c)
 frame_node tr.tuple l h n ks a c t = subst (λ z. IsLess n z) (sym (some_is a)) (within_less c)
 frame_node tr.repeat l h n ks a c t = subst (λ z. IsLess n z) (sym (some_is a)) (within_less c)
 frame_node (tr.structure q p d) l h n ks a c t = less_then (frame_less (tr.structure q p d) l h refl a) t
 frame_node (tr.closure_block f) l h n ks a c t = less_then (frame_less (tr.closure_block f) l h refl a) t
-frame_node tr.branch l h n ks a c t = less_then (frame_less tr.branch l h refl a) t
+frame_node tr.if_expr l h n ks a c t = less_then (frame_less tr.if_expr l h refl a) t
 frame_node (tr.while_loop w) l h n ks a c t = less_then (frame_less (tr.while_loop w) l h refl a) t
 frame_node (tr.for_loop w p) l h n ks a c t = less_then (frame_less (tr.for_loop w p) l h refl a) t
-frame_node tr.choice l h n ks a c t = less_then (frame_less tr.choice l h refl a) t
-frame_node tr.invisible l h n ks a c t = subst (λ z. IsLess n z) (sym (some_is a)) (within_less c)
+frame_node tr.match_expr l h n ks a c t = less_then (frame_less tr.match_expr l h refl a) t
+frame_node tr.group_expr l h n ks a c t = subst (λ z. IsLess n z) (sym (some_is a)) (within_less c)
 
 tail_of : {n l : List Tok} → IsLess n l → IsTail n l
 tail_of h = h.tail
@@ -86,22 +86,22 @@ mutual
   pub node_less : {p : Place} {l n : List Tok} {x : Tree} → Node p l x n → IsLess n l
   node_less (is_leaf {l = l} {n = n} {k = k} h g) = left_less here.leaves k l n h
   node_less (is_become {l = l} w d e c i) = then_less (dropped 1 l) (node_less d)
-  node_less (is_attributed {l = l} {m = m} a more fs b d i j) = then_less (left here.outer (a ∷ more) l m b) (node_less d)
+  node_less (is_attributed_verbatim {l = l} {m = m} a more fs b d i j) = then_less (left here.outer (a ∷ more) l m b) (node_less d)
   node_less (is_paren {i = i} {n = n} d e c) = one_less (group del.Parenthesis i) n
-  node_less (is_adorned_by {l = l} {m = m} {a = a} {more = more} b f d) = then_less (left here.outer (a ∷ more) l m b) (node_less d)
-  node_less (is_lead {l = l} {m = m} {k = k} h g d e c) = less_then (left_less here.leads k l m h) (tail_of (node_less d))
-  node_less (is_mid {m = m} {count = count} d c f i t g r e q a) = less_then (node_less d) (tail_then (dropped count m) (tail_of (node_less r)))
-  node_less (is_post {m = m} {n = n} {k = k} {count = count} d c f i t b g a) = less_then (node_less d) (tail_then (dropped count m) (post_left k (drop count m) n b))
+  node_less (is_attributed_by {l = l} {m = m} {a = a} {more = more} b f d) = then_less (left here.outer (a ∷ more) l m b) (node_less d)
+  node_less (is_prefixed {l = l} {m = m} {k = k} h g d e c) = less_then (left_less here.prefixes k l m h) (tail_of (node_less d))
+  node_less (is_infixed {m = m} {count = count} d c f i t g r e q a) = less_then (node_less d) (tail_then (dropped count m) (tail_of (node_less r)))
+  node_less (is_postfixed {m = m} {n = n} {k = k} {count = count} d c f i t b g a) = less_then (node_less d) (tail_then (dropped count m) (postfix_left k (drop count m) n b))
   node_less (is_tail {m = m} {h = h} {k = k} {is = is} d f t c i) = less_then (node_less d) (tail_then (trailer_left k m is h t) (content_left c))
   node_less (is_indexed {m = m} {n = n} {i = i} {is = is} d f t j) = less_then (node_less d) (tail_of (fields_less m (i ∷ is) n t))
   node_less (is_frame {l = l} {h = h} {n = n} {k = k} {ks = ks} a c g e) = frame_node k l h n ks a c (content_left c)
 
-  pub content_left : {v : Holder} {l n : List Tok} {ks : Kids} → Content v l ks n → IsTail n l
+  pub content_left : {v : Holder} {l n : List Tok} {ks : Children} → Content v l ks n → IsTail n l
   content_left (holds_none {n = n}) = nothing_taken n
   content_left (holds_within {d = d} {l = l} {i = i} {n = n} g o e) = tail_of (grouped d l i n g)
   content_left (holds_bare d) = operands_left d
 
-  pub operands_left : {v : Slot} {l o : List Tok} {ks : Kids} → Operands v l ks o → IsTail o l
+  pub operands_left : {v : Slot} {l o : List Tok} {ks : Children} → Operands v l ks o → IsTail o l
   operands_left (no_more {n = n} h) = nothing_taken n
   operands_left (one_more {s = v} {l = l} {m = m} {h = h} {n = n} {k = k} {c = c} {x = x} p q d e g more) =
       tail_then (left (here.pieces v) k l m p) (tail_then (tail_of (node_less d)) (tail_then (ending_left k x h c n g) (operands_left more)))

@@ -23,7 +23,7 @@ use Rattle.syn_grammar.specs.Front.{bracket_at}
 use Rattle.syn_grammar.specs.Path.{invisible_at, expr_path}
 use Rattle.syn_grammar.specs.Head.{closure_at, range_at, jump_at, literal_at, loop_at, loop_word, block_at, const_block_at, async_block_at, try_block_at, builtin_at, label, past_label}
 use Rattle.syn_grammar.specs.Slot.{if_word, match_word, while_word, for_word}
-use Rattle.syn_grammar.specs.Read.{leaf_at, lead_at, loop_head_at, become_word}
+use Rattle.syn_grammar.specs.Read.{leaf_at, prefix_at, loop_head_at, become_word}
 use Rattle.syn_grammar.proofs.Chains.{some_is, behind_some, only_some, chosen, both_true, not_true}
 use Rattle.syn_grammar.proofs.Fronts.{word_is, no_lifetime, sign_no_leaf, flag_is}
 use Rattle.syn_grammar.proofs.GroupForms.{invisible_is, plain_path}
@@ -36,7 +36,7 @@ not_other_words = (refl, refl, refl, refl, refl, refl, refl, refl)
 
 -- a path stands first, and nothing else
 pub record Named (l : List Tok) : Type 0 where
-  pub no_lead : lead_at l ≡ false
+  pub no_prefix : prefix_at l ≡ false
   pub no_round : round_at l ≡ false
   pub no_bracket : bracket_at l ≡ false
   pub no_become : become_word.at l ≡ false
@@ -47,12 +47,12 @@ pub record Named (l : List Tok) : Type 0 where
   pub no_leaf : try_block_at l ≡ false → builtin_at l ≡ false → leaf_at l ≡ false
 
 pub named_word : (w : Text) (m : List Tok) → is_segment w ≡ true → Named (ident w ∷ m)
-unfolding lead_at range_at jump_at closure_at sign_at word_at lifetimes_at loop_head_at lifetime_at round_at bracket_at group_at leaf_at literal_at loop_at block_at const_block_at async_block_at brace_at
+unfolding prefix_at range_at jump_at closure_at sign_at word_at lifetimes_at loop_head_at lifetime_at round_at bracket_at group_at leaf_at literal_at loop_at block_at const_block_at async_block_at brace_at
 named_word w m g =
     let (not_return, not_yield, not_break, not_continue, not_loop, not_const, not_async) = not_leaf_words in
     let (not_let, not_move, not_use, not_static, not_become, not_if, not_while, not_match) = not_other_words in
     record {
-      no_lead = rw (
+      no_prefix = rw (
         word_not w (codes "let") g not_let,
         word_not w (codes "return") g not_return,
         word_not w (codes "yield") g not_yield,
@@ -84,14 +84,14 @@ named_word w m g =
     }
 
 named_colons : (s : Spacing) (m : List Tok) → Named (punct 58 s ∷ m)
-unfolding lead_at range_at jump_at closure_at sign_at word_at lifetimes_at loop_head_at round_at bracket_at group_at
-named_colons spacing.Alone m = record { no_lead = refl; no_round = refl; no_bracket = refl; no_become = refl; no_if = refl; no_loop = rw (no_lifetime 58 spacing.Alone m refl) refl; no_match = refl; no_leaf = λ a b. sign_no_leaf 58 _ m refl }
-named_colons spacing.Joint m = record { no_lead = refl; no_round = refl; no_bracket = refl; no_become = refl; no_if = refl; no_loop = rw (no_lifetime 58 spacing.Joint m refl) refl; no_match = refl; no_leaf = λ a b. sign_no_leaf 58 _ m refl }
+unfolding prefix_at range_at jump_at closure_at sign_at word_at lifetimes_at loop_head_at round_at bracket_at group_at
+named_colons spacing.Alone m = record { no_prefix = refl; no_round = refl; no_bracket = refl; no_become = refl; no_if = refl; no_loop = rw (no_lifetime 58 spacing.Alone m refl) refl; no_match = refl; no_leaf = λ a b. sign_no_leaf 58 _ m refl }
+named_colons spacing.Joint m = record { no_prefix = refl; no_round = refl; no_bracket = refl; no_become = refl; no_if = refl; no_loop = rw (no_lifetime 58 spacing.Joint m refl) refl; no_match = refl; no_leaf = λ a b. sign_no_leaf 58 _ m refl }
 
 named_less : (s : Spacing) (m : List Tok) → Named (punct 60 s ∷ m)
-unfolding lead_at range_at jump_at closure_at sign_at word_at lifetimes_at loop_head_at round_at bracket_at group_at
-named_less spacing.Alone m = record { no_lead = refl; no_round = refl; no_bracket = refl; no_become = refl; no_if = refl; no_loop = rw (no_lifetime 60 spacing.Alone m refl) refl; no_match = refl; no_leaf = λ a b. sign_no_leaf 60 _ m refl }
-named_less spacing.Joint m = record { no_lead = refl; no_round = refl; no_bracket = refl; no_become = refl; no_if = refl; no_loop = rw (no_lifetime 60 spacing.Joint m refl) refl; no_match = refl; no_leaf = λ a b. sign_no_leaf 60 _ m refl }
+unfolding prefix_at range_at jump_at closure_at sign_at word_at lifetimes_at loop_head_at round_at bracket_at group_at
+named_less spacing.Alone m = record { no_prefix = refl; no_round = refl; no_bracket = refl; no_become = refl; no_if = refl; no_loop = rw (no_lifetime 60 spacing.Alone m refl) refl; no_match = refl; no_leaf = λ a b. sign_no_leaf 60 _ m refl }
+named_less spacing.Joint m = record { no_prefix = refl; no_round = refl; no_bracket = refl; no_become = refl; no_if = refl; no_loop = rw (no_lifetime 60 spacing.Joint m refl) refl; no_match = refl; no_leaf = λ a b. sign_no_leaf 60 _ m refl }
 
 segment_front : (s : SegmentTree) (l n : List Tok) → (segment type style.Expr).behind s l ≡ Some n → Named l
 unfolding segment segment_name
@@ -128,8 +128,8 @@ qpath_front q l n g = ⊎_elim (λ a. sign_first 60 [] (λ z. Named z) named_les
 
 -- an invisible group, which a path may begin with
 pub group_named : (i : Inside) (m : List Tok) → Named (group del.None i ∷ m)
-unfolding lead_at range_at jump_at closure_at sign_at word_at lifetimes_at loop_head_at lifetime_at round_at bracket_at group_at leaf_at literal_at loop_at block_at const_block_at async_block_at try_block_at builtin_at brace_at
-group_named i m = record { no_lead = refl; no_round = refl; no_bracket = refl; no_become = refl; no_if = refl; no_loop = refl; no_match = refl; no_leaf = λ a b. refl }
+unfolding prefix_at range_at jump_at closure_at sign_at word_at lifetimes_at loop_head_at lifetime_at round_at bracket_at group_at leaf_at literal_at loop_at block_at const_block_at async_block_at try_block_at builtin_at brace_at
+group_named i m = record { no_prefix = refl; no_round = refl; no_bracket = refl; no_become = refl; no_if = refl; no_loop = refl; no_match = refl; no_leaf = λ a b. refl }
 
 pub group_words : (l : List Tok) → invisible_at l ≡ true → (try_block_at l ≡ false) × (builtin_at l ≡ false)
 unfolding try_block_at builtin_at word_at
@@ -174,7 +174,7 @@ label_past w l m g = let (a, b) = only_some (is_none w) (Some l) m g in some_is 
 
 pub record LoopFront (l : List Tok) : Type 0 where
   pub no_leaf : leaf_at l ≡ false
-  pub no_lead : lead_at l ≡ false
+  pub no_prefix : prefix_at l ≡ false
   pub no_round : round_at l ≡ false
   pub no_bracket : bracket_at l ≡ false
   pub no_become : become_word.at l ≡ false
@@ -182,23 +182,23 @@ pub record LoopFront (l : List Tok) : Type 0 where
   pub loops : loop_head_at l ≡ true
 
 while_front : (l : List Tok) → LoopFront (ident (codes "while") ∷ l)
-unfolding lead_at range_at jump_at closure_at sign_at word_at lifetimes_at loop_head_at lifetime_at round_at bracket_at group_at leaf_at literal_at is_truth loop_at block_at const_block_at async_block_at try_block_at builtin_at brace_at
-while_front l = record { no_leaf = refl; no_lead = refl; no_round = refl; no_bracket = refl; no_become = refl; no_if = refl; loops = refl }
+unfolding prefix_at range_at jump_at closure_at sign_at word_at lifetimes_at loop_head_at lifetime_at round_at bracket_at group_at leaf_at literal_at is_truth loop_at block_at const_block_at async_block_at try_block_at builtin_at brace_at
+while_front l = record { no_leaf = refl; no_prefix = refl; no_round = refl; no_bracket = refl; no_become = refl; no_if = refl; loops = refl }
 
 for_front : (l : List Tok) → lifetimes_at (ident (codes "for") ∷ l) ≡ false → LoopFront (ident (codes "for") ∷ l)
-unfolding lead_at range_at jump_at closure_at sign_at word_at loop_head_at lifetime_at round_at bracket_at group_at leaf_at literal_at is_truth loop_at block_at const_block_at async_block_at try_block_at builtin_at brace_at
-for_front l g = record { no_leaf = refl; no_lead = rw g refl; no_round = refl; no_bracket = refl; no_become = refl; no_if = refl; loops = rw g refl }
+unfolding prefix_at range_at jump_at closure_at sign_at word_at loop_head_at lifetime_at round_at bracket_at group_at leaf_at literal_at is_truth loop_at block_at const_block_at async_block_at try_block_at builtin_at brace_at
+for_front l g = record { no_leaf = refl; no_prefix = rw g refl; no_round = refl; no_bracket = refl; no_become = refl; no_if = refl; loops = rw g refl }
 
 -- a loop's word behind a label or none
 labelled_front : (l m : List Tok) → past_label l ≡ m → loop_word.at m ≡ false → brace_at m ≡ false → (lifetime_at l ≡ false → LoopFront l) → LoopFront l
-unfolding lead_at range_at jump_at closure_at sign_at word_at lifetimes_at loop_head_at lifetime_at round_at bracket_at group_at leaf_at literal_at is_truth loop_at block_at const_block_at async_block_at try_block_at builtin_at
+unfolding prefix_at range_at jump_at closure_at sign_at word_at lifetimes_at loop_head_at lifetime_at round_at bracket_at group_at leaf_at literal_at is_truth loop_at block_at const_block_at async_block_at try_block_at builtin_at
 labelled_front (punct c spacing.Joint ∷ ident s ∷ l) m g a b f =
     ⊎_elim (λ k. let i : 39 ≡ c = grind (arith, nat_tests, k.0) in quoted i g)
     (λ k. f k.0) (chosen (c == 39) true false _ refl)
   where
     quoted : 39 ≡ c → past_label (punct c spacing.Joint ∷ ident s ∷ l) ≡ m → LoopFront (punct c spacing.Joint ∷ ident s ∷ l)
     quoted i = subst (λ z. past_label (punct z spacing.Joint ∷ ident s ∷ l) ≡ m → LoopFront (punct z spacing.Joint ∷ ident s ∷ l)) i
-        (λ g. record { no_leaf = rw (g, a, b) refl; no_lead = refl; no_round = refl; no_bracket = refl; no_become = refl; no_if = refl; loops = refl })
+        (λ g. record { no_leaf = rw (g, a, b) refl; no_prefix = refl; no_round = refl; no_bracket = refl; no_become = refl; no_if = refl; loops = refl })
 labelled_front l m g a b f = f refl
 
 past_none : (l : List Tok) → lifetime_at l ≡ false → past_label l ≡ l
@@ -224,13 +224,13 @@ for_loop_front w l m g v =
 
 pub record WordFront (l : List Tok) : Type 0 where
   pub no_leaf : leaf_at l ≡ false
-  pub no_lead : lead_at l ≡ false
+  pub no_prefix : prefix_at l ≡ false
   pub no_round : round_at l ≡ false
   pub no_bracket : bracket_at l ≡ false
 
 become_first : (l : List Tok) → WordFront (ident (codes "become") ∷ l)
-unfolding lead_at range_at jump_at closure_at sign_at word_at lifetimes_at loop_head_at lifetime_at round_at bracket_at group_at leaf_at literal_at is_truth loop_at block_at const_block_at async_block_at try_block_at builtin_at brace_at
-become_first l = record { no_leaf = refl; no_lead = refl; no_round = refl; no_bracket = refl }
+unfolding prefix_at range_at jump_at closure_at sign_at word_at lifetimes_at loop_head_at lifetime_at round_at bracket_at group_at leaf_at literal_at is_truth loop_at block_at const_block_at async_block_at try_block_at builtin_at brace_at
+become_first l = record { no_leaf = refl; no_prefix = refl; no_round = refl; no_bracket = refl }
 
 pub become_front : (l : List Tok) → become_word.at l ≡ true → WordFront l
 become_front l g = subst (λ z. WordFront z) (sym (word_is _ l g)) (become_first (drop 1 l))
@@ -240,8 +240,8 @@ pub record IfFront (l : List Tok) : Type 0 where
   pub no_become : become_word.at l ≡ false
 
 if_first : (l : List Tok) → IfFront (ident (codes "if") ∷ l)
-unfolding lead_at range_at jump_at closure_at sign_at word_at lifetimes_at loop_head_at lifetime_at round_at bracket_at group_at leaf_at literal_at is_truth loop_at block_at const_block_at async_block_at try_block_at builtin_at brace_at
-if_first l = record { front = record { no_leaf = refl; no_lead = refl; no_round = refl; no_bracket = refl }; no_become = refl }
+unfolding prefix_at range_at jump_at closure_at sign_at word_at lifetimes_at loop_head_at lifetime_at round_at bracket_at group_at leaf_at literal_at is_truth loop_at block_at const_block_at async_block_at try_block_at builtin_at brace_at
+if_first l = record { front = record { no_leaf = refl; no_prefix = refl; no_round = refl; no_bracket = refl }; no_become = refl }
 
 pub if_front : (l : List Tok) → if_word.at l ≡ true → IfFront l
 if_front l g = subst (λ z. IfFront z) (sym (word_is _ l g)) (if_first (drop 1 l))
@@ -253,8 +253,8 @@ pub record MatchFront (l : List Tok) : Type 0 where
   pub no_loop : loop_head_at l ≡ false
 
 match_first : (l : List Tok) → MatchFront (ident (codes "match") ∷ l)
-unfolding lead_at range_at jump_at closure_at sign_at word_at lifetimes_at loop_head_at lifetime_at round_at bracket_at group_at leaf_at literal_at is_truth loop_at block_at const_block_at async_block_at try_block_at builtin_at brace_at
-match_first l = record { front = record { no_leaf = refl; no_lead = refl; no_round = refl; no_bracket = refl }; no_become = refl; no_if = refl; no_loop = refl }
+unfolding prefix_at range_at jump_at closure_at sign_at word_at lifetimes_at loop_head_at lifetime_at round_at bracket_at group_at leaf_at literal_at is_truth loop_at block_at const_block_at async_block_at try_block_at builtin_at brace_at
+match_first l = record { front = record { no_leaf = refl; no_prefix = refl; no_round = refl; no_bracket = refl }; no_become = refl; no_if = refl; no_loop = refl }
 
 pub match_front : (l : List Tok) → match_word.at l ≡ true → MatchFront l
 match_front l g = subst (λ z. MatchFront z) (sym (word_is _ l g)) (match_first (drop 1 l))
@@ -263,12 +263,12 @@ match_front l g = subst (λ z. MatchFront z) (sym (word_is _ l g)) (match_first 
 
 pub record GroupFront (l : List Tok) : Type 0 where
   pub no_leaf : leaf_at l ≡ false
-  pub no_lead : lead_at l ≡ false
+  pub no_prefix : prefix_at l ≡ false
 
 pub round_front : (i : Inside) (l : List Tok) → GroupFront (group del.Parenthesis i ∷ l)
-unfolding lead_at range_at jump_at closure_at sign_at word_at lifetimes_at lifetime_at group_at leaf_at literal_at loop_at block_at const_block_at async_block_at try_block_at builtin_at brace_at
-round_front i l = record { no_leaf = refl; no_lead = refl }
+unfolding prefix_at range_at jump_at closure_at sign_at word_at lifetimes_at lifetime_at group_at leaf_at literal_at loop_at block_at const_block_at async_block_at try_block_at builtin_at brace_at
+round_front i l = record { no_leaf = refl; no_prefix = refl }
 
 pub bracket_front : (i : Inside) (l : List Tok) → GroupFront (group del.Bracket i ∷ l)
-unfolding lead_at range_at jump_at closure_at sign_at word_at lifetimes_at lifetime_at group_at leaf_at literal_at loop_at block_at const_block_at async_block_at try_block_at builtin_at brace_at
-bracket_front i l = record { no_leaf = refl; no_lead = refl }
+unfolding prefix_at range_at jump_at closure_at sign_at word_at lifetimes_at lifetime_at group_at leaf_at literal_at loop_at block_at const_block_at async_block_at try_block_at builtin_at brace_at
+bracket_front i l = record { no_leaf = refl; no_prefix = refl }

@@ -3,7 +3,7 @@ use Rattle.std.proofs.Common.{ℕ, Bool, false, arith}
 use Rattle.syn_parts.specs.declared.label.PathStyle.TheVariants as style
 use Rattle.syn_parts.specs.Part.{outer_attributes, inner_attributes, qpath, macro_end, type, QPathTree}
 use Rattle.syn_grammar.specs.Path.{expr_path}
-use Rattle.syn_grammar.specs.Head.{leaf_form, lead_form, closure_head, dotted, label}
+use Rattle.syn_grammar.specs.Head.{leaf_form, prefix_form, closure_head, dotted, label}
 use Rattle.syn_grammar.specs.Slot.{Slot, piece_form, for_head}
 use Rattle.syn_parts.specs.Form.{Form}
 use Rattle.syn_parts.specs.Laws.{IsReadable}
@@ -12,7 +12,7 @@ use Rattle.syn_grammar.proofs.Chains.{Reads}
 
 pub record Heads : Type 0 where
   pub leaves : Reads leaf_form
-  pub leads : Reads lead_form
+  pub prefixes : Reads prefix_form
   pub outers : Reads outer_attributes
   pub inners : Reads inner_attributes
   pub qpaths : Reads (qpath type style.Expr)
@@ -35,7 +35,7 @@ reads r = record {
 pub heads : Heads
 heads = let h = heads_readable in record {
   leaves = reads h.leaves;
-  leads = reads h.leads;
+  prefixes = reads h.prefixes;
   outers = reads h.outer;
   inners = reads h.inner;
   qpaths = reads h.paths;

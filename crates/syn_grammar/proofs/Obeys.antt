@@ -8,10 +8,10 @@ use Rattle.syn_grammar.specs.declared.next.Next.TheVariants as next
 use Rattle.syn_grammar.specs.declared.next.Context.{Context}
 use Rattle.syn_grammar.specs.Place.{takes}
 use Rattle.syn_grammar.specs.Op.{level, is_comparison}
-use Rattle.syn_grammar.specs.Next.{takes_next, trails, enclosed, left_context, base_context, right_context, adorned_context, lead_context, lead_level, piece_context}
+use Rattle.syn_grammar.specs.Next.{takes_next, trails, enclosed, left_context, base_context, right_context, attributed_context, prefix_context, prefix_level, piece_context}
 use Rattle.syn_grammar.specs.Stands.{is_range, is_cast, carries, compares, is_base}
-use Rattle.syn_grammar.specs.Tree.{Tree, Kids, leaf, paren, adorned, lead, mid, post, tail, frame, none, kid, post_op, is_silent}
-use Rattle.syn_grammar.specs.Rule.{is_operation, leaf_refuses, post_refuses, leaf_misplaced, lead_misplaced, frame_misplaced, is_bare_break, leaf_labelled, frame_labelled}
+use Rattle.syn_grammar.specs.Tree.{Tree, Children, leaf, paren, attributed, prefixed, infixed, postfixed, tail, frame, none, child, postfix_op, is_silent}
+use Rattle.syn_grammar.specs.Rule.{is_operation, leaf_refuses, postfix_refuses, leaf_misplaced, prefix_misplaced, frame_misplaced, is_bare_break, leaf_labelled, frame_labelled}
 
 -- what a place asks of its occupant, with a token of this class behind it
 pub record Fits (v : Level) (t : Tree) (n : Next) : Type 0 where
@@ -26,8 +26,8 @@ pub record FitsLeft (k : Infix) (t : Tree) : Type 0 where
 -- the first token is that of a label
 abbrev pub begins_label : Tree → Bool
 begins_label (leaf k) = leaf_labelled k
-begins_label (mid x k y) = begins_label x
-begins_label (post x k) = begins_label x
+begins_label (infixed x k y) = begins_label x
+begins_label (postfixed x k) = begins_label x
 begins_label (tail b k ks) = begins_label b
 begins_label (frame k ks) = frame_labelled k
 begins_label _ = false
@@ -37,18 +37,18 @@ abbrev mutual
   pub Obeys : Level → Context → Tree → Type 0
   Obeys v c (leaf k) = leaf_refuses k c.next || leaf_misplaced c k ≡ false
   Obeys v c (paren m t) = Obeys lev.Jump enclosed t × Fits lev.Jump t next.End
-  Obeys v c (adorned a more t) = (is_operation t ≡ false) × Obeys v (adorned_context c) t
-  Obeys v c (lead k gs t) =
-      (lead_misplaced c k ≡ false) × Obeys (lead_level k) (lead_context k c) t × Fits (lead_level k) t (lead_context k c).next
+  Obeys v c (attributed a more t) = (is_operation t ≡ false) × Obeys v (attributed_context c) t
+  Obeys v c (prefixed k gs t) =
+      (prefix_misplaced c k ≡ false) × Obeys (prefix_level k) (prefix_context k c) t × Fits (prefix_level k) t (prefix_context k c).next
       × (is_bare_break k && begins_label t ≡ false)
-  Obeys v c (mid x k y) =
+  Obeys v c (infixed x k y) =
       (takes v (level k) ≡ true) × Obeys v (left_context k c) x × FitsLeft k x
       × Obeys (level k) (right_context k c) y × Fits (level k) y c.next
-  Obeys v c (post x k) =
-      (takes v (level (post_op k)) ≡ true) × Obeys v (left_context (post_op k) c) x × FitsLeft (post_op k) x × (post_refuses k c.next ≡ false)
-  Obeys v c (tail b k ks) = (is_base k b ≡ true) × Obeys v (base_context k c) b × ObeysKids ks
-  Obeys v c (frame k ks) = (frame_misplaced c k ≡ false) × ObeysKids ks
+  Obeys v c (postfixed x k) =
+      (takes v (level (postfix_op k)) ≡ true) × Obeys v (left_context (postfix_op k) c) x × FitsLeft (postfix_op k) x × (postfix_refuses k c.next ≡ false)
+  Obeys v c (tail b k ks) = (is_base k b ≡ true) × Obeys v (base_context k c) b × ObeysChildren ks
+  Obeys v c (frame k ks) = (frame_misplaced c k ≡ false) × ObeysChildren ks
 
-  pub ObeysKids : Kids → Type 0
-  ObeysKids none = Unit {0}
-  ObeysKids (kid k c t ks) = (is_silent k ≡ false → Obeys lev.Jump (piece_context k) t) × ObeysKids ks
+  pub ObeysChildren : Children → Type 0
+  ObeysChildren none = Unit {0}
+  ObeysChildren (child k c t ks) = (is_silent k ≡ false → Obeys lev.Jump (piece_context k) t) × ObeysChildren ks

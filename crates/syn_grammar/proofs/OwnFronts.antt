@@ -31,7 +31,7 @@ use Rattle.syn_grammar.specs.Head.{raw_at}
 use Rattle.syn_grammar.specs.Next.{class_of, next_of}
 use Rattle.syn_grammar.specs.Rule.{leaf_labelled, frame_labelled}
 use Rattle.syn_grammar.specs.Tree as e
-use Rattle.syn_grammar.specs.Tree.{Tree, Kids, Leaf, Lead, Frame, Post, word_if, vert_before, leaf, paren, adorned, lead, mid, post, tail, frame, outers, post_op, own, leaf_own, lead_own, framed, enclosure, post_own}
+use Rattle.syn_grammar.specs.Tree.{Tree, Children, Leaf, Prefix, Frame, Postfix, word_if, vert_before, leaf, paren, attributed, prefixed, infixed, postfixed, tail, frame, outers, postfix_op, own, leaf_own, prefix_own, framed, enclosure, postfix_own}
 use Rattle.syn_grammar.specs.WellFormed.{leaf_fits, frame_fits}
 use Rattle.syn_grammar.proofs.Bools.{both_true, not_it, or_none}
 use Rattle.syn_grammar.proofs.Attributes.{outers_are}
@@ -46,16 +46,16 @@ leaf_braced k = false
 
 abbrev pub begins_brace : Tree → Bool
 begins_brace (leaf k) = leaf_braced k
-begins_brace (mid x k y) = begins_brace x
-begins_brace (post x k) = begins_brace x
+begins_brace (infixed x k y) = begins_brace x
+begins_brace (postfixed x k) = begins_brace x
 begins_brace (tail b k ks) = begins_brace b
 begins_brace _ = false
 
 -- the first token is that of an attribute
 abbrev pub begins_pound : Tree → Bool
-begins_pound (adorned a more t) = true
-begins_pound (mid x k y) = begins_pound x
-begins_pound (post x k) = begins_pound x
+begins_pound (attributed a more t) = true
+begins_pound (infixed x k y) = begins_pound x
+begins_pound (postfixed x k) = begins_pound x
 begins_pound (tail b k ks) = begins_pound b
 begins_pound _ = false
 
@@ -207,8 +207,8 @@ leaf_front (e.bare_jump (e.breaking w)) r f q = record { begins = refl; stops = 
 leaf_front (e.continuing w) r f q = record { begins = refl; stops = refl; brace = refl; label = refl; pound = refl; no_mut = refl; no_raw = refl; no_arrow = refl }
 leaf_front (e.block None b) r f q = record { begins = refl; stops = refl; brace = refl; label = refl; pound = refl; no_mut = refl; no_raw = refl; no_arrow = refl }
 leaf_front (e.block (Some w) b) r f q = record { begins = refl; stops = refl; brace = refl; label = refl; pound = refl; no_mut = refl; no_raw = refl; no_arrow = refl }
-leaf_front (e.looping None b) r f q = record { begins = refl; stops = refl; brace = refl; label = refl; pound = refl; no_mut = refl; no_raw = refl; no_arrow = refl }
-leaf_front (e.looping (Some w) b) r f q = record { begins = refl; stops = refl; brace = refl; label = refl; pound = refl; no_mut = refl; no_raw = refl; no_arrow = refl }
+leaf_front (e.loop_expr None b) r f q = record { begins = refl; stops = refl; brace = refl; label = refl; pound = refl; no_mut = refl; no_raw = refl; no_arrow = refl }
+leaf_front (e.loop_expr (Some w) b) r f q = record { begins = refl; stops = refl; brace = refl; label = refl; pound = refl; no_mut = refl; no_raw = refl; no_arrow = refl }
 leaf_front (e.unsafe_block b) r f q = record { begins = refl; stops = refl; brace = refl; label = refl; pound = refl; no_mut = refl; no_raw = refl; no_arrow = refl }
 leaf_front (e.const_block b) r f q = record { begins = refl; stops = refl; brace = refl; label = refl; pound = refl; no_mut = refl; no_raw = refl; no_arrow = refl }
 leaf_front (e.async_block m ts) r f q = record { begins = refl; stops = refl; brace = refl; label = refl; pound = refl; no_mut = refl; no_raw = refl; no_arrow = refl }
@@ -225,37 +225,37 @@ closure_front None false false false true u l = record { begins = refl; stops = 
 closure_front None false false false false true l = record { begins = refl; stops = refl; brace = refl; label = refl; pound = refl; no_mut = refl; no_raw = refl; no_arrow = refl }
 closure_front None false false false false false l = record { begins = refl; stops = refl; brace = refl; label = refl; pound = refl; no_mut = refl; no_raw = refl; no_arrow = refl }
 
-lead_front : (k : Lead) (r : List Tok) → Front false false false (lead_own k r)
+prefix_front : (k : Prefix) (r : List Tok) → Front false false false (prefix_own k r)
 unfolding begins_expr sign_begins ends_open_range dot_at sign_at word_at lifetime_at brace_at group_at raw_at
-lead_front (e.closure h) r = closure_front h.lifetimes h.constness h.movability h.asyncness h.capture h.usage _
-lead_front (e.unary un.Deref) r = record { begins = refl; stops = refl; brace = refl; label = refl; pound = refl; no_mut = refl; no_raw = refl; no_arrow = refl }
-lead_front (e.unary un.Not) r = record { begins = refl; stops = refl; brace = refl; label = refl; pound = refl; no_mut = refl; no_raw = refl; no_arrow = refl }
-lead_front (e.unary un.Neg) r = record { begins = refl; stops = refl; brace = refl; label = refl; pound = refl; no_mut = refl; no_raw = refl; no_arrow = refl }
-lead_front (e.reference m) r = record { begins = refl; stops = refl; brace = refl; label = refl; pound = refl; no_mut = refl; no_raw = refl; no_arrow = refl }
-lead_front (e.raw_addr m) r = record { begins = refl; stops = refl; brace = refl; label = refl; pound = refl; no_mut = refl; no_raw = refl; no_arrow = refl }
-lead_front (e.range_to limits.HalfOpen) r = record { begins = refl; stops = refl; brace = refl; label = refl; pound = refl; no_mut = refl; no_raw = refl; no_arrow = refl }
-lead_front (e.range_to limits.Closed) r = record { begins = refl; stops = refl; brace = refl; label = refl; pound = refl; no_mut = refl; no_raw = refl; no_arrow = refl }
-lead_front (e.binding p) r = record { begins = refl; stops = refl; brace = refl; label = refl; pound = refl; no_mut = refl; no_raw = refl; no_arrow = refl }
-lead_front (e.jump e.returning) r = record { begins = refl; stops = refl; brace = refl; label = refl; pound = refl; no_mut = refl; no_raw = refl; no_arrow = refl }
-lead_front (e.jump e.yielding) r = record { begins = refl; stops = refl; brace = refl; label = refl; pound = refl; no_mut = refl; no_raw = refl; no_arrow = refl }
-lead_front (e.jump (e.breaking w)) r = record { begins = refl; stops = refl; brace = refl; label = refl; pound = refl; no_mut = refl; no_raw = refl; no_arrow = refl }
+prefix_front (e.closure h) r = closure_front h.lifetimes h.constness h.movability h.asyncness h.capture h.usage _
+prefix_front (e.unary un.Deref) r = record { begins = refl; stops = refl; brace = refl; label = refl; pound = refl; no_mut = refl; no_raw = refl; no_arrow = refl }
+prefix_front (e.unary un.Not) r = record { begins = refl; stops = refl; brace = refl; label = refl; pound = refl; no_mut = refl; no_raw = refl; no_arrow = refl }
+prefix_front (e.unary un.Neg) r = record { begins = refl; stops = refl; brace = refl; label = refl; pound = refl; no_mut = refl; no_raw = refl; no_arrow = refl }
+prefix_front (e.reference m) r = record { begins = refl; stops = refl; brace = refl; label = refl; pound = refl; no_mut = refl; no_raw = refl; no_arrow = refl }
+prefix_front (e.raw_addr m) r = record { begins = refl; stops = refl; brace = refl; label = refl; pound = refl; no_mut = refl; no_raw = refl; no_arrow = refl }
+prefix_front (e.range_to limits.HalfOpen) r = record { begins = refl; stops = refl; brace = refl; label = refl; pound = refl; no_mut = refl; no_raw = refl; no_arrow = refl }
+prefix_front (e.range_to limits.Closed) r = record { begins = refl; stops = refl; brace = refl; label = refl; pound = refl; no_mut = refl; no_raw = refl; no_arrow = refl }
+prefix_front (e.let_expr p) r = record { begins = refl; stops = refl; brace = refl; label = refl; pound = refl; no_mut = refl; no_raw = refl; no_arrow = refl }
+prefix_front (e.jump e.returning) r = record { begins = refl; stops = refl; brace = refl; label = refl; pound = refl; no_mut = refl; no_raw = refl; no_arrow = refl }
+prefix_front (e.jump e.yielding) r = record { begins = refl; stops = refl; brace = refl; label = refl; pound = refl; no_mut = refl; no_raw = refl; no_arrow = refl }
+prefix_front (e.jump (e.breaking w)) r = record { begins = refl; stops = refl; brace = refl; label = refl; pound = refl; no_mut = refl; no_raw = refl; no_arrow = refl }
 
-frame_front : (k : Frame) (ks : Kids) (o r : List Tok) → frame_fits k ks ≡ true → Front false (frame_labelled k) false (framed k (enclosure k) o r)
+frame_front : (k : Frame) (ks : Children) (o r : List Tok) → frame_fits k ks ≡ true → Front false (frame_labelled k) false (framed k (enclosure k) o r)
 unfolding begins_expr sign_begins ends_open_range dot_at sign_at word_at lifetime_at brace_at group_at raw_at
 frame_front (e.structure q p d) ks o r f =
     subst (λ l. Front false false false l) (type_append (t.path q p.leading (t.segments_of p.segments) p.trailing) (enclosed del.Brace o r))
     (named_front q p.leading p.segments p.trailing (enclosed del.Brace o r) (both_true (qpath_fits style.Expr (q, p)) _ f).0 (record { no_mut = refl; no_const = refl }))
 frame_front (e.closure_block h) ks o r f = closure_front h.lifetimes h.constness h.movability h.asyncness h.capture h.usage _
-frame_front e.invisible ks o r f = absurd cc
+frame_front e.group_expr ks o r f = absurd cc
 frame_front e.array ks o r f = record { begins = refl; stops = refl; brace = refl; label = refl; pound = refl; no_mut = refl; no_raw = refl; no_arrow = refl }
 frame_front e.tuple ks o r f = record { begins = refl; stops = refl; brace = refl; label = refl; pound = refl; no_mut = refl; no_raw = refl; no_arrow = refl }
 frame_front e.repeat ks o r f = record { begins = refl; stops = refl; brace = refl; label = refl; pound = refl; no_mut = refl; no_raw = refl; no_arrow = refl }
-frame_front e.branch ks o r f = record { begins = refl; stops = refl; brace = refl; label = refl; pound = refl; no_mut = refl; no_raw = refl; no_arrow = refl }
+frame_front e.if_expr ks o r f = record { begins = refl; stops = refl; brace = refl; label = refl; pound = refl; no_mut = refl; no_raw = refl; no_arrow = refl }
 frame_front (e.while_loop None) ks o r f = record { begins = refl; stops = refl; brace = refl; label = refl; pound = refl; no_mut = refl; no_raw = refl; no_arrow = refl }
 frame_front (e.while_loop (Some w)) ks o r f = record { begins = refl; stops = refl; brace = refl; label = refl; pound = refl; no_mut = refl; no_raw = refl; no_arrow = refl }
 frame_front (e.for_loop None p) ks o r f = record { begins = refl; stops = refl; brace = refl; label = refl; pound = refl; no_mut = refl; no_raw = refl; no_arrow = refl }
 frame_front (e.for_loop (Some w) p) ks o r f = record { begins = refl; stops = refl; brace = refl; label = refl; pound = refl; no_mut = refl; no_raw = refl; no_arrow = refl }
-frame_front e.choice ks o r f = record { begins = refl; stops = refl; brace = refl; label = refl; pound = refl; no_mut = refl; no_raw = refl; no_arrow = refl }
+frame_front e.match_expr ks o r f = record { begins = refl; stops = refl; brace = refl; label = refl; pound = refl; no_mut = refl; no_raw = refl; no_arrow = refl }
 
 paren_front : (i : Inside) (r : List Tok) → Front false false false (group del.Parenthesis i ∷ r)
 unfolding begins_expr sign_begins ends_open_range dot_at sign_at word_at lifetime_at brace_at group_at raw_at
@@ -265,20 +265,20 @@ pound_front : (l : List Tok) → Front false false true (alone 35 ∷ l)
 unfolding begins_expr sign_begins ends_open_range dot_at sign_at word_at lifetime_at brace_at group_at raw_at
 pound_front l = record { begins = refl; stops = refl; brace = refl; label = refl; pound = refl; no_mut = refl; no_raw = refl; no_arrow = refl }
 
-adorned_front : (a : AttributeTree) (r : List Tok) → Front false false true (attribute_own a r)
+attributed_front : (a : AttributeTree) (r : List Tok) → Front false false true (attribute_own a r)
 unfolding attribute_own
-adorned_front a r = pound_front _
+attributed_front a r = pound_front _
 
-pub post_class : (k : Post) (r : List Tok) → Shows (class_of (post_op k)) (post_own k r)
-post_class (e.cast x) r = shows_operator inf.Cast (type_own x r)
-post_class (e.range_from op) r = shows_operator (inf.Range op) r
+pub postfix_class : (k : Postfix) (r : List Tok) → Shows (class_of (postfix_op k)) (postfix_own k r)
+postfix_class (e.cast x) r = shows_operator inf.Cast (type_own x r)
+postfix_class (e.range_from op) r = shows_operator (inf.Range op) r
 
 pub front : (t : Tree) (n : Next) (r : List Tok) → Formed t → Shows n r → Front (begins_brace t) (begins_label t) (begins_pound t) (own t r)
 front (leaf k) n r f s = leaf_front k r f (shows_quiet n r s)
 front (paren m t) n r f s = paren_front _ r
-front (adorned a more t) n r f s = subst (λ l. Front false false true (attributes_own l (own t r))) (sym (outers_are (a ∷ more) f.0)) (adorned_front a _)
-front (lead k gs t) n r f s = lead_front k _
-front (mid x k y) n r f s = front x (class_of k) _ f.1 (shows_operator k (own y r))
-front (post x k) n r f s = front x (class_of (post_op k)) _ f.1 (post_class k r)
+front (attributed a more t) n r f s = subst (λ l. Front false false true (attributes_own l (own t r))) (sym (outers_are (a ∷ more) f.0)) (attributed_front a _)
+front (prefixed k gs t) n r f s = prefix_front k _
+front (infixed x k y) n r f s = front x (class_of k) _ f.1 (shows_operator k (own y r))
+front (postfixed x k) n r f s = front x (class_of (postfix_op k)) _ f.1 (postfix_class k r)
 front (tail b k ks) n r f s = front b (next_of k) _ f.1 (shows_trailer k _ r)
 front (frame k ks) n r f s = frame_front k ks _ r f.0

@@ -5,109 +5,109 @@ use Rattle.syn_parts.specs.Pat.{an_index}
 use Rattle.syn_grammar.specs.declared.kinds.Infix.{Infix}
 use Rattle.syn_grammar.specs.Stands.{is_range, is_cast, compares, carries, is_base, fields_of}
 use Rattle.syn_grammar.specs.Tree as e
-use Rattle.syn_grammar.specs.Tree.{Tree, Kids, Trailer, Piece, Ending, leaf, paren, adorned, lead, mid, post, tail, frame, none, kid}
+use Rattle.syn_grammar.specs.Tree.{Tree, Children, Trailer, Piece, Ending, leaf, paren, attributed, prefixed, infixed, postfixed, tail, frame, none, child}
 use Rattle.syn_grammar.specs.Rule.{is_operation, put}
-use Rattle.syn_grammar.specs.Printed.{plainly_adorned, kids_plainly, parenthesize_attributed, parenthesize_attributed_kids}
+use Rattle.syn_grammar.specs.Printed.{plainly_attributed, children_plainly, parenthesize_attributed, parenthesize_attributed_children}
 use Rattle.syn_grammar.proofs.Bools.{both_true, not_it}
 use Rattle.syn_grammar.proofs.Obeys.{begins_label}
 
 -- ---- where no operation has attributes
 
-pub same_mid : (x x' y y' : Tree) (k : Infix) → x ≡ x' → y ≡ y' → mid x k y ≡ mid x' k y'
-same_mid x x' y y' k p q = cc
+pub same_infix : (x x' y y' : Tree) (k : Infix) → x ≡ x' → y ≡ y' → infixed x k y ≡ infixed x' k y'
+same_infix x x' y y' k p q = cc
 
-pub same_tail : (b b' : Tree) (ks ks' : Kids) (k : Trailer) → b ≡ b' → ks ≡ ks' → tail b k ks ≡ tail b' k ks'
+pub same_tail : (b b' : Tree) (ks ks' : Children) (k : Trailer) → b ≡ b' → ks ≡ ks' → tail b k ks ≡ tail b' k ks'
 same_tail b b' ks ks' k p q = cc
 
-pub same_kid : (t t' : Tree) (ks ks' : Kids) (k : Piece) (c : Ending) → t ≡ t' → ks ≡ ks' → kid k c t ks ≡ kid k c t' ks'
-same_kid t t' ks ks' k c p q = cc
+pub same_child : (t t' : Tree) (ks ks' : Children) (k : Piece) (c : Ending) → t ≡ t' → ks ≡ ks' → child k c t ks ≡ child k c t' ks'
+same_child t t' ks ks' k c p q = cc
 
 mutual
-  pub plain_stays : (t : Tree) → plainly_adorned t ≡ true → parenthesize_attributed t ≡ t
+  pub plain_stays : (t : Tree) → plainly_attributed t ≡ true → parenthesize_attributed t ≡ t
   plain_stays (leaf k) h = refl
   plain_stays (paren m t) h = ap (paren m) (plain_stays t h)
-  plain_stays (adorned a more t) h =
+  plain_stays (attributed a more t) h =
       let (i, j) = both_true (not (is_operation t)) _ h in
-      ap (λ b. adorned a more (put b (parenthesize_attributed t) (parenthesize_attributed t))) (not_it _ i) ∙ ap (adorned a more) (plain_stays t j)
-  plain_stays (lead k gs t) h = ap (lead k gs) (plain_stays t (both_true (kids_plainly gs) _ h).1)
-  plain_stays (mid x k y) h = let (i, j) = both_true (plainly_adorned x) _ h in same_mid _ _ _ _ k (plain_stays x i) (plain_stays y j)
-  plain_stays (post x k) h = ap (λ z. post z k) (plain_stays x h)
-  plain_stays (tail b k ks) h = let (i, j) = both_true (plainly_adorned b) _ h in same_tail _ _ _ _ k (plain_stays b i) (plain_stays_kids ks j)
-  plain_stays (frame k ks) h = ap (frame k) (plain_stays_kids ks h)
+      ap (λ b. attributed a more (put b (parenthesize_attributed t) (parenthesize_attributed t))) (not_it _ i) ∙ ap (attributed a more) (plain_stays t j)
+  plain_stays (prefixed k gs t) h = ap (prefixed k gs) (plain_stays t (both_true (children_plainly gs) _ h).1)
+  plain_stays (infixed x k y) h = let (i, j) = both_true (plainly_attributed x) _ h in same_infix _ _ _ _ k (plain_stays x i) (plain_stays y j)
+  plain_stays (postfixed x k) h = ap (λ z. postfixed z k) (plain_stays x h)
+  plain_stays (tail b k ks) h = let (i, j) = both_true (plainly_attributed b) _ h in same_tail _ _ _ _ k (plain_stays b i) (plain_stays_children ks j)
+  plain_stays (frame k ks) h = ap (frame k) (plain_stays_children ks h)
 
-  plain_stays_kids : (ks : Kids) → kids_plainly ks ≡ true → parenthesize_attributed_kids ks ≡ ks
-  plain_stays_kids none h = refl
-  plain_stays_kids (kid k c t ks) h = let (i, j) = both_true (plainly_adorned t) _ h in same_kid _ _ _ _ k c (plain_stays t i) (plain_stays_kids ks j)
+  plain_stays_children : (ks : Children) → children_plainly ks ≡ true → parenthesize_attributed_children ks ≡ ks
+  plain_stays_children none h = refl
+  plain_stays_children (child k c t ks) h = let (i, j) = both_true (plainly_attributed t) _ h in same_child _ _ _ _ k c (plain_stays t i) (plain_stays_children ks j)
 
 -- ---- kinds of nodes
 
 pub operation_stays : (t : Tree) → is_operation (parenthesize_attributed t) ≡ is_operation t
 operation_stays (leaf k) = refl
 operation_stays (paren m t) = refl
-operation_stays (adorned a more t) = refl
-operation_stays (lead k gs t) = refl
-operation_stays (mid x k y) = refl
-operation_stays (post x k) = refl
+operation_stays (attributed a more t) = refl
+operation_stays (prefixed k gs t) = refl
+operation_stays (infixed x k y) = refl
+operation_stays (postfixed x k) = refl
 operation_stays (tail b k ks) = refl
 operation_stays (frame k ks) = refl
 
 pub compares_stays : (t : Tree) → compares (parenthesize_attributed t) ≡ compares t
 compares_stays (leaf k) = refl
 compares_stays (paren m t) = refl
-compares_stays (adorned a more t) = refl
-compares_stays (lead k gs t) = refl
-compares_stays (mid x k y) = refl
-compares_stays (post x k) = refl
+compares_stays (attributed a more t) = refl
+compares_stays (prefixed k gs t) = refl
+compares_stays (infixed x k y) = refl
+compares_stays (postfixed x k) = refl
 compares_stays (tail b k ks) = refl
 compares_stays (frame k ks) = refl
 
 pub cast_stays : (t : Tree) → is_cast (parenthesize_attributed t) ≡ is_cast t
 cast_stays (leaf k) = refl
 cast_stays (paren m t) = refl
-cast_stays (adorned a more t) = refl
-cast_stays (lead k gs t) = refl
-cast_stays (mid x k y) = refl
-cast_stays (post x (e.cast y)) = refl
-cast_stays (post x (e.range_from op)) = refl
+cast_stays (attributed a more t) = refl
+cast_stays (prefixed k gs t) = refl
+cast_stays (infixed x k y) = refl
+cast_stays (postfixed x (e.cast y)) = refl
+cast_stays (postfixed x (e.range_from op)) = refl
 cast_stays (tail b k ks) = refl
 cast_stays (frame k ks) = refl
 
 pub label_stays : (t : Tree) → begins_label (parenthesize_attributed t) ≡ begins_label t
 label_stays (leaf k) = refl
 label_stays (paren m t) = refl
-label_stays (adorned a more t) = refl
-label_stays (lead k gs t) = refl
-label_stays (mid x k y) = label_stays x
-label_stays (post x k) = label_stays x
+label_stays (attributed a more t) = refl
+label_stays (prefixed k gs t) = refl
+label_stays (infixed x k y) = label_stays x
+label_stays (postfixed x k) = label_stays x
 label_stays (tail b k ks) = label_stays b
 label_stays (frame k ks) = refl
 
 pub base_stays : (k : Trailer) (b : Tree) → is_base k (parenthesize_attributed b) ≡ is_base k b
 base_stays k (leaf l) = refl
 base_stays k (paren m t) = refl
-base_stays k (adorned a more t) = and-false (carries (put (is_operation t) (parenthesize_attributed t) (parenthesize_attributed t))) ∙ sym (and-false (carries t))
-base_stays k (lead l gs t) = refl
-base_stays k (mid x l y) = refl
-base_stays k (post x l) = refl
+base_stays k (attributed a more t) = and-false (carries (put (is_operation t) (parenthesize_attributed t) (parenthesize_attributed t))) ∙ sym (and-false (carries t))
+base_stays k (prefixed l gs t) = refl
+base_stays k (infixed x l y) = refl
+base_stays k (postfixed x l) = refl
 base_stays k (tail b e.call ks) = refl
 base_stays k (tail b e.index ks) = refl
 base_stays k (tail b (e.method w a) ks) = refl
 base_stays k (tail b (e.field m) ks) = refl
 base_stays k (tail b e.await ks) = refl
-base_stays k (tail b e.question ks) = refl
+base_stays k (tail b e.try_expr ks) = refl
 base_stays k (frame l ks) = refl
 
 pub no_range : (t : Tree) → is_range t ≡ false → is_range (parenthesize_attributed t) ≡ false
 no_range (leaf k) h = h
 no_range (paren m t) h = refl
-no_range (adorned a more t) h = go (is_operation t) (no_range t h)
+no_range (attributed a more t) h = go (is_operation t) (no_range t h)
   where
     go : (b : Bool) → is_range (parenthesize_attributed t) ≡ false → is_range (put b (parenthesize_attributed t) (parenthesize_attributed t)) ≡ false
     go true i = refl
     go false i = i
-no_range (lead k gs t) h = h
-no_range (mid x k y) h = h
-no_range (post x k) h = h
+no_range (prefixed k gs t) h = h
+no_range (infixed x k y) h = h
+no_range (postfixed x k) h = h
 no_range (tail b k ks) h = refl
 no_range (frame k ks) h = refl
 

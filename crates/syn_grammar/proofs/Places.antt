@@ -18,11 +18,11 @@ use Rattle.syn_grammar.specs.declared.next.Context.{Context}
 use Rattle.syn_grammar.specs.Place.{plain, before_block, at_head, at, above}
 use Rattle.syn_grammar.specs.Op.{infix_at, level, is_comparison, is_range_op}
 use Rattle.syn_grammar.specs.Front.{trailer_at, bracket_at, dot_at, question_at}
-use Rattle.syn_grammar.specs.Next.{class_of, next_of, takes_next, trails, is_block_next, left_edge, dot_edge, base_edge, adorned_edge, braceless, enclosed, in_statement, in_condition, in_arm, is_half_open, is_break, left_context, base_context, right_context, adorned_context, lead_context, without_block, lead_level}
+use Rattle.syn_grammar.specs.Next.{class_of, next_of, takes_next, trails, is_block_next, left_edge, dot_edge, base_edge, attributed_edge, braceless, enclosed, in_statement, in_condition, in_arm, is_half_open, is_break, left_context, base_context, right_context, attributed_context, prefix_context, without_block, prefix_level}
 use Rattle.syn_grammar.specs.Rule.{is_operation, prints_range, is_below, leaf_misplaced, frame_misplaced}
-use Rattle.syn_grammar.specs.Stands.{is_infix, is_range, is_cast, carries, compares, is_verbatim, is_adorned, is_branch, may_adorn, rests, goes_behind, closes, is_jump_or_let, ends, ends_operation, fits_left, is_named, is_parenthesis_or_bracket, is_base, fits_base, lead_place}
+use Rattle.syn_grammar.specs.Stands.{is_infix, is_range, is_cast, carries, compares, is_verbatim, is_attributed, is_if_expr, takes_attributes, rests, goes_behind, closes, is_jump_or_let, ends, ends_operation, fits_left, is_named, is_parenthesis_or_bracket, is_base, fits_base, prefix_place}
 use Rattle.syn_grammar.specs.Tree as e
-use Rattle.syn_grammar.specs.Tree.{Tree, Kids, Leaf, Lead, Frame, Trailer, leaf, paren, adorned, lead, mid, post, tail, frame, none, is_block_like, is_block_leaf, is_block_frame, infix_own, clear, clear_kids}
+use Rattle.syn_grammar.specs.Tree.{Tree, Children, Leaf, Prefix, Frame, Trailer, leaf, paren, attributed, prefixed, infixed, postfixed, tail, frame, none, is_block_like, is_block_leaf, is_block_frame, infix_own, clear, clear_children}
 use Rattle.syn_grammar.proofs.Bools.{or_false, neither, not_it, or_true, or_none}
 use Rattle.syn_grammar.proofs.Formed.{Formed}
 use Rattle.syn_grammar.proofs.Holds.{block_held, formed_holds}
@@ -34,61 +34,61 @@ use Rattle.syn_grammar.proofs.Shows.{Shows, is_round_next, shows_op}
 pub range_clear : (t : Tree) → is_range (clear t) ≡ is_range t
 range_clear (leaf k) = refl
 range_clear (paren m t) = refl
-range_clear (adorned a more t) = range_clear t
-range_clear (lead k gs t) = refl
-range_clear (mid x k y) = refl
-range_clear (post x k) = refl
+range_clear (attributed a more t) = range_clear t
+range_clear (prefixed k gs t) = refl
+range_clear (infixed x k y) = refl
+range_clear (postfixed x k) = refl
 range_clear (tail b k ks) = refl
 range_clear (frame k ks) = refl
 
 pub infix_clear : (t : Tree) → is_infix (clear t) ≡ is_infix t
 infix_clear (leaf k) = refl
 infix_clear (paren m t) = refl
-infix_clear (adorned a more t) = refl
-infix_clear (lead k gs t) = refl
-infix_clear (mid x k y) = refl
-infix_clear (post x k) = refl
+infix_clear (attributed a more t) = refl
+infix_clear (prefixed k gs t) = refl
+infix_clear (infixed x k y) = refl
+infix_clear (postfixed x k) = refl
 infix_clear (tail b k ks) = refl
 infix_clear (frame k ks) = refl
 
 pub compares_clear : (t : Tree) → compares (clear t) ≡ compares t
 compares_clear (leaf k) = refl
 compares_clear (paren m t) = refl
-compares_clear (adorned a more t) = refl
-compares_clear (lead k gs t) = refl
-compares_clear (mid x k y) = refl
-compares_clear (post x k) = refl
+compares_clear (attributed a more t) = refl
+compares_clear (prefixed k gs t) = refl
+compares_clear (infixed x k y) = refl
+compares_clear (postfixed x k) = refl
 compares_clear (tail b k ks) = refl
 compares_clear (frame k ks) = refl
 
-pub adorned_clear : (t : Tree) → is_adorned (clear t) ≡ is_adorned t
-adorned_clear (leaf k) = refl
-adorned_clear (paren m t) = refl
-adorned_clear (adorned a more t) = refl
-adorned_clear (lead k gs t) = refl
-adorned_clear (mid x k y) = refl
-adorned_clear (post x k) = refl
-adorned_clear (tail b k ks) = refl
-adorned_clear (frame k ks) = refl
+pub attributed_clear : (t : Tree) → is_attributed (clear t) ≡ is_attributed t
+attributed_clear (leaf k) = refl
+attributed_clear (paren m t) = refl
+attributed_clear (attributed a more t) = refl
+attributed_clear (prefixed k gs t) = refl
+attributed_clear (infixed x k y) = refl
+attributed_clear (postfixed x k) = refl
+attributed_clear (tail b k ks) = refl
+attributed_clear (frame k ks) = refl
 
 pub carries_clear : (t : Tree) → carries (clear t) ≡ carries t
 carries_clear (leaf k) = refl
 carries_clear (paren m t) = refl
-carries_clear (adorned a more t) = carries_clear t
-carries_clear (lead k gs t) = refl
-carries_clear (mid x k y) = refl
-carries_clear (post x k) = refl
+carries_clear (attributed a more t) = carries_clear t
+carries_clear (prefixed k gs t) = refl
+carries_clear (infixed x k y) = refl
+carries_clear (postfixed x k) = refl
 carries_clear (tail b k ks) = refl
 carries_clear (frame k ks) = refl
 
 pub cast_clear : (t : Tree) → is_cast (clear t) ≡ is_cast t
 cast_clear (leaf k) = refl
 cast_clear (paren m t) = refl
-cast_clear (adorned a more t) = refl
-cast_clear (lead k gs t) = refl
-cast_clear (mid x k y) = refl
-cast_clear (post x (e.cast ty)) = refl
-cast_clear (post x (e.range_from op)) = refl
+cast_clear (attributed a more t) = refl
+cast_clear (prefixed k gs t) = refl
+cast_clear (infixed x k y) = refl
+cast_clear (postfixed x (e.cast ty)) = refl
+cast_clear (postfixed x (e.range_from op)) = refl
 cast_clear (tail b k ks) = refl
 cast_clear (frame k ks) = refl
 
@@ -101,56 +101,56 @@ verbatim_clear (leaf (e.full_range op)) f = refl
 verbatim_clear (leaf (e.bare_jump j)) f = refl
 verbatim_clear (leaf (e.continuing w)) f = refl
 verbatim_clear (leaf (e.block w b)) f = refl
-verbatim_clear (leaf (e.looping w b)) f = refl
+verbatim_clear (leaf (e.loop_expr w b)) f = refl
 verbatim_clear (leaf (e.unsafe_block b)) f = refl
 verbatim_clear (leaf (e.const_block b)) f = refl
 verbatim_clear (leaf (e.async_block m ts)) f = refl
 verbatim_clear (leaf (e.try_block ts)) f = refl
 verbatim_clear (leaf (e.verbatim ts)) f = absurd cc
 verbatim_clear (paren m t) f = refl
-verbatim_clear (adorned a more t) f = refl
-verbatim_clear (lead k gs t) f = refl
-verbatim_clear (mid x k y) f = refl
-verbatim_clear (post x k) f = refl
+verbatim_clear (attributed a more t) f = refl
+verbatim_clear (prefixed k gs t) f = refl
+verbatim_clear (infixed x k y) f = refl
+verbatim_clear (postfixed x k) f = refl
 verbatim_clear (tail b k ks) f = refl
 verbatim_clear (frame k ks) f = refl
 
 pub base_clear : (k : Trailer) (t : Tree) → is_base k (clear t) ≡ is_base k t
 base_clear k (leaf j) = refl
 base_clear k (paren m t) = refl
-base_clear k (adorned a more t) = and-false _ ∙ sym (and-false _)
-base_clear k (lead j gs t) = refl
-base_clear k (mid x j y) = refl
-base_clear k (post x j) = refl
+base_clear k (attributed a more t) = and-false _ ∙ sym (and-false _)
+base_clear k (prefixed j gs t) = refl
+base_clear k (infixed x j y) = refl
+base_clear k (postfixed x j) = refl
 base_clear k (tail b (e.field m) ks) = refl
 base_clear k (tail b e.call ks) = refl
 base_clear k (tail b e.index ks) = refl
 base_clear k (tail b (e.method w a) ks) = refl
 base_clear k (tail b e.await ks) = refl
-base_clear k (tail b e.question ks) = refl
+base_clear k (tail b e.try_expr ks) = refl
 base_clear k (frame j ks) = refl
 
-branch_frame : (k : Frame) (ks us : Kids) → is_branch (frame k ks) ≡ is_branch (frame k us)
-branch_frame e.array ks us = refl
-branch_frame e.tuple ks us = refl
-branch_frame e.repeat ks us = refl
-branch_frame (e.structure q p d) ks us = refl
-branch_frame (e.closure_block h) ks us = refl
-branch_frame e.branch ks us = refl
-branch_frame (e.while_loop w) ks us = refl
-branch_frame (e.for_loop w p) ks us = refl
-branch_frame e.choice ks us = refl
-branch_frame e.invisible ks us = refl
+if_expr_frame : (k : Frame) (ks us : Children) → is_if_expr (frame k ks) ≡ is_if_expr (frame k us)
+if_expr_frame e.array ks us = refl
+if_expr_frame e.tuple ks us = refl
+if_expr_frame e.repeat ks us = refl
+if_expr_frame (e.structure q p d) ks us = refl
+if_expr_frame (e.closure_block h) ks us = refl
+if_expr_frame e.if_expr ks us = refl
+if_expr_frame (e.while_loop w) ks us = refl
+if_expr_frame (e.for_loop w p) ks us = refl
+if_expr_frame e.match_expr ks us = refl
+if_expr_frame e.group_expr ks us = refl
 
-pub branch_clear : (t : Tree) → is_branch (clear t) ≡ is_branch t
-branch_clear (leaf k) = refl
-branch_clear (paren m t) = refl
-branch_clear (adorned a more t) = refl
-branch_clear (lead k gs t) = refl
-branch_clear (mid x k y) = refl
-branch_clear (post x k) = refl
-branch_clear (tail b k ks) = refl
-branch_clear (frame k ks) = branch_frame k (clear_kids ks) ks
+pub if_expr_clear : (t : Tree) → is_if_expr (clear t) ≡ is_if_expr t
+if_expr_clear (leaf k) = refl
+if_expr_clear (paren m t) = refl
+if_expr_clear (attributed a more t) = refl
+if_expr_clear (prefixed k gs t) = refl
+if_expr_clear (infixed x k y) = refl
+if_expr_clear (postfixed x k) = refl
+if_expr_clear (tail b k ks) = refl
+if_expr_clear (frame k ks) = if_expr_frame k (clear_children ks) ks
 
 -- ---- places and contexts
 
@@ -199,15 +199,15 @@ heads_base e.index x = heads_left x
 heads_base (e.method w a) x = heads_dot x
 heads_base (e.field m) x = heads_dot x
 heads_base e.await x = heads_dot x
-heads_base e.question x = heads_dot x
+heads_base e.try_expr x = heads_dot x
 
-heads_adorned : (x : Edge) → heads x ≡ heads (adorned_edge x)
-heads_adorned edge.Free = refl
-heads_adorned edge.NoBrace = refl
-heads_adorned edge.Arm = refl
-heads_adorned edge.BelowArm = refl
-heads_adorned edge.Statement = refl
-heads_adorned edge.BelowStatement = refl
+heads_attributed : (x : Edge) → heads x ≡ heads (attributed_edge x)
+heads_attributed edge.Free = refl
+heads_attributed edge.NoBrace = refl
+heads_attributed edge.Arm = refl
+heads_attributed edge.BelowArm = refl
+heads_attributed edge.Statement = refl
+heads_attributed edge.BelowStatement = refl
 
 not_heads : (b : Bool) → false ≡ heads (braceless b)
 not_heads true = refl
@@ -219,7 +219,7 @@ trailer_no_block e.index = refl
 trailer_no_block (e.method w a) = refl
 trailer_no_block (e.field m) = refl
 trailer_no_block e.await = refl
-trailer_no_block e.question = refl
+trailer_no_block e.try_expr = refl
 
 -- no operator is a trailer, nor a brace
 pub record IsOperator (n : Next) : Type 0 where
@@ -371,8 +371,8 @@ meets_left p k c m = record { mode = m.mode; head = m.head ∙ heads_left c.edge
 pub meets_base : (p : Place) (k : Trailer) (c : Context) → Meets p c → Meets p (base_context k c)
 meets_base p k c m = record { mode = m.mode; head = m.head ∙ heads_base k c.edge; block = rw (trailer_no_block k) refl }
 
-pub meets_adorned : (p : Place) (c : Context) → Meets p c → Meets p (adorned_context c)
-meets_adorned p c m = record { mode = m.mode; head = m.head ∙ heads_adorned c.edge; block = m.block }
+pub meets_attributed : (p : Place) (c : Context) → Meets p c → Meets p (attributed_context c)
+meets_attributed p c m = record { mode = m.mode; head = m.head ∙ heads_attributed c.edge; block = m.block }
 
 pub meets_right : (p : Place) (k : Infix) (c : Context) → Meets p c → Meets (at p (level k)) (right_context k c)
 meets_right p k c m = record { mode = m.mode; head = not_heads (is_half_open k && c.condition); block = m.block }
@@ -403,33 +403,33 @@ jump_no_block next.Bracket = refl
 jump_no_block next.Block = refl
 jump_no_block next.Brace = refl
 
-pub meets_lead : (p : Place) (k : Lead) (c : Context) → Meets p c → Meets (lead_place p k) (lead_context k c)
-meets_lead p (e.unary op) c m = record { mode = m.mode; head = refl; block = m.block }
-meets_lead p (e.reference b) c m = record { mode = m.mode; head = refl; block = m.block }
-meets_lead p (e.raw_addr b) c m = record { mode = m.mode; head = refl; block = m.block }
-meets_lead p (e.range_to op) c m = record { mode = m.mode; head = not_heads (is_half_open (inf.Range op) && c.condition); block = m.block }
-meets_lead p (e.binding w) c m = record { mode = m.mode; head = refl; block = m.block }
-meets_lead p (e.jump j) c m = record { mode = refl; head = not_heads (is_break j && c.condition); block = jump_no_block c.next }
-meets_lead p (e.closure h) c m = record { mode = m.mode; head = refl; block = m.block }
+pub meets_prefix : (p : Place) (k : Prefix) (c : Context) → Meets p c → Meets (prefix_place p k) (prefix_context k c)
+meets_prefix p (e.unary op) c m = record { mode = m.mode; head = refl; block = m.block }
+meets_prefix p (e.reference b) c m = record { mode = m.mode; head = refl; block = m.block }
+meets_prefix p (e.raw_addr b) c m = record { mode = m.mode; head = refl; block = m.block }
+meets_prefix p (e.range_to op) c m = record { mode = m.mode; head = not_heads (is_half_open (inf.Range op) && c.condition); block = m.block }
+meets_prefix p (e.let_expr w) c m = record { mode = m.mode; head = refl; block = m.block }
+meets_prefix p (e.jump j) c m = record { mode = refl; head = not_heads (is_break j && c.condition); block = jump_no_block c.next }
+meets_prefix p (e.closure h) c m = record { mode = m.mode; head = refl; block = m.block }
 
-pub lead_level_is : (p : Place) (k : Lead) → lead_level k ≡ (lead_place p k).level
-lead_level_is p (e.unary op) = refl
-lead_level_is p (e.reference b) = refl
-lead_level_is p (e.raw_addr b) = refl
-lead_level_is p (e.range_to op) = refl
-lead_level_is p (e.binding w) = refl
-lead_level_is p (e.jump j) = refl
-lead_level_is p (e.closure h) = refl
+pub prefix_level_is : (p : Place) (k : Prefix) → prefix_level k ≡ (prefix_place p k).level
+prefix_level_is p (e.unary op) = refl
+prefix_level_is p (e.reference b) = refl
+prefix_level_is p (e.raw_addr b) = refl
+prefix_level_is p (e.range_to op) = refl
+prefix_level_is p (e.let_expr w) = refl
+prefix_level_is p (e.jump j) = refl
+prefix_level_is p (e.closure h) = refl
 
 -- ---- at a head
 
-below_adorned : (x : Edge) → is_below (adorned_edge x) ≡ is_below x
-below_adorned edge.Free = refl
-below_adorned edge.NoBrace = refl
-below_adorned edge.Arm = refl
-below_adorned edge.BelowArm = refl
-below_adorned edge.Statement = refl
-below_adorned edge.BelowStatement = refl
+below_attributed : (x : Edge) → is_below (attributed_edge x) ≡ is_below x
+below_attributed edge.Free = refl
+below_attributed edge.NoBrace = refl
+below_attributed edge.Arm = refl
+below_attributed edge.BelowArm = refl
+below_attributed edge.Statement = refl
+below_attributed edge.BelowStatement = refl
 
 below_leaf : (c : Context) (k : Leaf) → is_below c.edge ≡ true → leaf_misplaced c k ≡ false → is_block_leaf k ≡ false
 below_leaf c (e.lit x) e h = refl
@@ -441,7 +441,7 @@ below_leaf c (e.bare_jump j) e h = refl
 below_leaf c (e.continuing w) e h = refl
 below_leaf c (e.block None b) e h = absurd (let f : true ≡ false = sym e ∙ (or_false _ _ h).0 in cc)
 below_leaf c (e.block (Some w) b) e h = absurd (let f : true ≡ false = sym (rw e refl) ∙ h in cc)
-below_leaf c (e.looping w b) e h = absurd (let f : true ≡ false = sym (rw e refl) ∙ h in cc)
+below_leaf c (e.loop_expr w b) e h = absurd (let f : true ≡ false = sym (rw e refl) ∙ h in cc)
 below_leaf c (e.unsafe_block b) e h = absurd (let f : true ≡ false = sym (rw e refl) ∙ h in cc)
 below_leaf c (e.const_block b) e h = absurd (let f : true ≡ false = sym (rw e refl) ∙ h in cc)
 below_leaf c (e.async_block m ts) e h = refl
@@ -454,20 +454,20 @@ below_frame c e.tuple b h = refl
 below_frame c e.repeat b h = refl
 below_frame c (e.structure q p d) b h = refl
 below_frame c (e.closure_block k) b h = refl
-below_frame c e.branch b h = absurd (let f : true ≡ false = sym (rw b refl) ∙ h in cc)
+below_frame c e.if_expr b h = absurd (let f : true ≡ false = sym (rw b refl) ∙ h in cc)
 below_frame c (e.while_loop w) b h = absurd (let f : true ≡ false = sym (rw b refl) ∙ h in cc)
 below_frame c (e.for_loop w p) b h = absurd (let f : true ≡ false = sym (rw b refl) ∙ h in cc)
-below_frame c e.choice b h = absurd (let f : true ≡ false = sym (rw b refl) ∙ h in cc)
-below_frame c e.invisible b h = refl
+below_frame c e.match_expr b h = absurd (let f : true ≡ false = sym (rw b refl) ∙ h in cc)
+below_frame c e.group_expr b h = refl
 
 -- on the left at a head no block-like expression stands
 no_block : (v : Level) (c : Context) (t : Tree) → is_below c.edge ≡ true → Obeys v c t → is_block_like t ≡ false
 no_block v c (leaf k) b h = below_leaf c k b (or_false _ _ h).1
 no_block v c (paren m t) b h = refl
-no_block v c (adorned a more t) b h = no_block v (adorned_context c) t (below_adorned c.edge ∙ b) h.1
-no_block v c (lead k gs t) b h = refl
-no_block v c (mid x k y) b h = refl
-no_block v c (post x k) b h = refl
+no_block v c (attributed a more t) b h = no_block v (attributed_context c) t (below_attributed c.edge ∙ b) h.1
+no_block v c (prefixed k gs t) b h = refl
+no_block v c (infixed x k y) b h = refl
+no_block v c (postfixed x k) b h = refl
 no_block v c (tail t k ks) b h = refl
 no_block v c (frame k ks) b h = below_frame c k b h.0
 
@@ -549,26 +549,26 @@ pub operation_ends : (k : Infix) (n : Next) (l : List Tok) → Shows n l → end
 unfolding ends_operation
 operation_ends k n l s = rw (ap (λ x. x.arrow) s.same) (or_true (is_range_op k))
 
-unadorned_range : (t : Tree) → is_adorned t ≡ false → prints_range t ≡ false → is_range t ≡ false
+unadorned_range : (t : Tree) → is_attributed t ≡ false → prints_range t ≡ false → is_range t ≡ false
 unadorned_range (leaf k) a h = h
 unadorned_range (paren m t) a h = refl
-unadorned_range (adorned b more t) a h = absurd cc
-unadorned_range (lead k gs t) a h = h
-unadorned_range (mid x k y) a h = h
-unadorned_range (post x k) a h = h
+unadorned_range (attributed b more t) a h = absurd cc
+unadorned_range (prefixed k gs t) a h = h
+unadorned_range (infixed x k y) a h = h
+unadorned_range (postfixed x k) a h = h
 unadorned_range (tail b k ks) a h = refl
 unadorned_range (frame k ks) a h = refl
 
-pub adorns : (p : Place) (t : Tree) → Formed t → is_adorned t ≡ false → is_operation t ≡ false → may_adorn p (clear t) ≡ true
-adorns p t f a o =
+pub takes_attributes_there : (p : Place) (t : Tree) → Formed t → is_attributed t ≡ false → is_operation t ≡ false → takes_attributes p (clear t) ≡ true
+takes_attributes_there p t f a o =
     let q = or_false (is_infix t) (prints_range t) o in
-    rw (infix_clear t, q.0, adorned_clear t, a, verbatim_clear t f, range_clear t, unadorned_range t a q.1) (or_true p.head)
+    rw (infix_clear t, q.0, attributed_clear t, a, verbatim_clear t f, range_clear t, unadorned_range t a q.1) (or_true p.head)
 
 -- ---- a named field or a cast before `(`
 
 abbrev pub ends_named : Tree → Bool
 ends_named (tail b (e.field m) ks) = is_named m
-ends_named (adorned a more t) = ends_named t
+ends_named (attributed a more t) = ends_named t
 ends_named _ = false
 
 pub record Calls (t : Tree) (n : Next) : Type 0 where
@@ -577,10 +577,10 @@ pub record Calls (t : Tree) (n : Next) : Type 0 where
 named_carries : (t : Tree) → carries t ≡ false → ends_named t ≡ false
 named_carries (leaf k) h = refl
 named_carries (paren m t) h = refl
-named_carries (adorned a more t) h = named_carries t h
-named_carries (lead k gs t) h = refl
-named_carries (mid x k y) h = refl
-named_carries (post x k) h = refl
+named_carries (attributed a more t) h = named_carries t h
+named_carries (prefixed k gs t) h = refl
+named_carries (infixed x k y) h = refl
+named_carries (postfixed x k) h = refl
 named_carries (tail b k ks) h = absurd cc
 named_carries (frame k ks) h = refl
 
@@ -619,16 +619,16 @@ left_calls t k = record { none = rw (operator_class k).no_round refl }
 base_call : (t : Tree) → is_base e.call t ≡ true → ends_named t || is_cast t ≡ false
 base_call (leaf k) h = refl
 base_call (paren m t) h = refl
-base_call (adorned a more t) h = absurd (let f : true ≡ false = sym h ∙ and-false _ in cc)
-base_call (lead k gs t) h = refl
-base_call (mid x k y) h = refl
-base_call (post x k) h = absurd cc
+base_call (attributed a more t) h = absurd (let f : true ≡ false = sym h ∙ and-false _ in cc)
+base_call (prefixed k gs t) h = refl
+base_call (infixed x k y) h = refl
+base_call (postfixed x k) h = absurd cc
 base_call (tail b (e.field m) ks) h = or_none _ ∙ not_it _ h
 base_call (tail b e.call ks) h = refl
 base_call (tail b e.index ks) h = refl
 base_call (tail b (e.method w a) ks) h = refl
 base_call (tail b e.await ks) h = refl
-base_call (tail b e.question ks) h = refl
+base_call (tail b e.try_expr ks) h = refl
 base_call (frame k ks) h = refl
 
 pub base_calls : (t : Tree) (k : Trailer) → is_base k t ≡ true → Calls t (next_of k)
@@ -637,18 +637,18 @@ base_calls t e.index h = record { none = refl }
 base_calls t (e.method w a) h = record { none = refl }
 base_calls t (e.field m) h = record { none = refl }
 base_calls t e.await h = record { none = refl }
-base_calls t e.question h = record { none = refl }
+base_calls t e.try_expr h = record { none = refl }
 
-pub adorned_calls : (a : _) (more : _) (t : Tree) (n : Next) → is_operation t ≡ false → Calls (adorned a more t) n → Calls t n
-adorned_calls a more t n o h = record { none = ap (λ x. is_round_next n && (ends_named t || x)) (no_cast t o) ∙ h.none }
+pub attributed_calls : (a : _) (more : _) (t : Tree) (n : Next) → is_operation t ≡ false → Calls (attributed a more t) n → Calls t n
+attributed_calls a more t n o h = record { none = ap (λ x. is_round_next n && (ends_named t || x)) (no_cast t o) ∙ h.none }
   where
     no_cast : (t : Tree) → is_operation t ≡ false → is_cast t ≡ false
     no_cast (leaf k) h = refl
     no_cast (paren m t) h = refl
-    no_cast (adorned a more t) h = refl
-    no_cast (lead k gs t) h = refl
-    no_cast (mid x k y) h = refl
-    no_cast (post x k) h = absurd cc
+    no_cast (attributed a more t) h = refl
+    no_cast (prefixed k gs t) h = refl
+    no_cast (infixed x k y) h = refl
+    no_cast (postfixed x k) h = absurd cc
     no_cast (tail b k ks) h = refl
     no_cast (frame k ks) h = refl
 

@@ -19,17 +19,17 @@ use Rattle.syn_grammar.specs.Place.{plain}
 use Rattle.syn_grammar.specs.Front.{bracket_at}
 use Rattle.syn_grammar.specs.Path.{invisible_at, expr_path}
 use Rattle.syn_grammar.specs.Tree as tr
-use Rattle.syn_grammar.specs.Tree.{Tree, Kids, Leaf, Lead, Piece, Ending, Jump, leaf, none, kid}
+use Rattle.syn_grammar.specs.Tree.{Tree, Children, Leaf, Prefix, Piece, Ending, Jump, leaf, none, child}
 use Rattle.syn_grammar.specs.Head as h
-use Rattle.syn_grammar.specs.Head.{leaf_form, lead_form, named, to_named, range_at, jump_at, range_op, jump_head, from_full_range, from_bare_jump, closure_at}
+use Rattle.syn_grammar.specs.Head.{leaf_form, prefix_form, named, to_named, range_at, jump_at, range_op, jump_head, from_full_range, from_bare_jump, closure_at}
 use Rattle.syn_grammar.specs.Slot.{Slot, may_end, elements, single, counted, after, piece_form, piece_place, ending_at, comma_or_end}
-use Rattle.syn_grammar.specs.Stands.{Node, Operands, no_more, one_more, short, block, ends, closes, ends_piece, ends_list, short_value, takes_block, leaf_stands, lead_stands}
-use Rattle.syn_grammar.specs.Read.{Reading, leaf_read, leaf_at, lead_at, loop_head_at, lead_read, unled, named_read, named_by, group_read, framed_by, atom}
+use Rattle.syn_grammar.specs.Stands.{Node, Operands, no_more, one_more, short, block, ends, closes, ends_piece, ends_list, short_value, takes_block, leaf_stands, prefix_stands}
+use Rattle.syn_grammar.specs.Read.{Reading, leaf_read, leaf_at, prefix_at, loop_head_at, prefix_read, unled, named_read, named_by, group_read, framed_by, atom}
 use Rattle.syn_grammar.proofs.Chains.{some_is, then_some, behind_some, only_some, chosen, both_true}
 use Rattle.syn_grammar.proofs.Needs.{heads}
 use Rattle.syn_grammar.proofs.Sound.{empty_is}
 use Rattle.syn_grammar.proofs.SoundAtoms.{NoLeaf, no_leaf, named_reads}
-use Rattle.syn_grammar.proofs.Fronts.{no_lifetime, sign_no_leaf, range_lead, range_leads, jump_lead, jump_leads}
+use Rattle.syn_grammar.proofs.Fronts.{no_lifetime, sign_no_leaf, range_prefix, range_is_prefix, jump_prefix, jump_is_prefix}
 use Rattle.syn_grammar.proofs.GroupForms.{plain_read, in_place}
 use Rattle.syn_grammar.proofs.NameFronts.{Named, expr_path_front}
 
@@ -55,13 +55,13 @@ jump_is : (k : Leaf) (j : Jump) → from_bare_jump k ≡ Some j → k ≡ tr.bar
 jump_is (tr.bare_jump i) j v = ap tr.bare_jump (some_is v)
 jump_is _ j v = absurd cc
 
-open_range : (p : Place) (op : Limits) (n : List Tok) → leaf_stands p (tr.full_range op) n ≡ true → lead_stands p (tr.range_to op) n ≡ false
-unfolding leaf_stands lead_stands
+open_range : (p : Place) (op : Limits) (n : List Tok) → leaf_stands p (tr.full_range op) n ≡ true → prefix_stands p (tr.range_to op) n ≡ false
+unfolding leaf_stands prefix_stands
 open_range p limits.HalfOpen n g = rw g refl
 open_range p limits.Closed n g = absurd cc
 
-open_jump : (p : Place) (j : Jump) (n : List Tok) → leaf_stands p (tr.bare_jump j) n ≡ true → lead_stands p (tr.jump j) n ≡ false
-unfolding leaf_stands lead_stands
+open_jump : (p : Place) (j : Jump) (n : List Tok) → leaf_stands p (tr.bare_jump j) n ≡ true → prefix_stands p (tr.jump j) n ≡ false
+unfolding leaf_stands prefix_stands
 open_jump p j n g = rw g refl
 
 no_structure : (c b : Bool) → (c || not b) ≡ true → (b && not c) ≡ false
@@ -91,10 +91,10 @@ unfolding qpath path pieces segment segment_name sign_at
 pound_path spacing.Alone m = refl
 pound_path spacing.Joint m = refl
 
-no_pound_lead : (s : Spacing) (m : List Tok) → lead_at (punct 35 s ∷ m) ≡ false
-unfolding lead_at range_at jump_at closure_at lifetimes_at sign_at word_at
-no_pound_lead spacing.Alone m = refl
-no_pound_lead spacing.Joint m = refl
+no_pound_prefix : (s : Spacing) (m : List Tok) → prefix_at (punct 35 s ∷ m) ≡ false
+unfolding prefix_at range_at jump_at closure_at lifetimes_at sign_at word_at
+no_pound_prefix spacing.Alone m = refl
+no_pound_prefix spacing.Joint m = refl
 
 no_semi_end : semi.at [] ≡ false
 unfolding sign_at
@@ -126,7 +126,7 @@ comma_no_semi l n c g =
     at_comma : (s : Spacing) (m : List Tok) → semi.at (punct 44 s ∷ m) ≡ false
     at_comma s m = no_semi_comma s m
 
-pub record Counted (l : List Tok) (k : Piece) (c : Ending) (x : Tree) (ks : Kids) (o : List Tok) : Type 0 where
+pub record Counted (l : List Tok) (k : Piece) (c : Ending) (x : Tree) (ks : Children) (o : List Tok) : Type 0 where
   pub kind : k ≡ tr.repeated
   pub none_behind : c ≡ tr.no_ending
   pub middle : List Tok
@@ -141,7 +141,7 @@ unfolding piece_form
 counted_at tr.repeated l m h = (refl, some_is h)
 counted_at _ l m h = absurd cc
 
-counted_by : (k : Piece) (l m h n o : List Tok) (c : Ending) (x : Tree) (ks : Kids) → (k ≡ tr.repeated) × (l ≡ m) → Node (piece_place k) m x h → ends_piece k x h ≡ true → ending_at k x h ≡ Some (c, n)
+counted_by : (k : Piece) (l m h n o : List Tok) (c : Ending) (x : Tree) (ks : Children) → (k ≡ tr.repeated) × (l ≡ m) → Node (piece_place k) m x h → ends_piece k x h ≡ true → ending_at k x h ≡ Some (c, n)
     → Operands (after k) n ks o → Counted l k c x ks o
 unfolding ending_at
 counted_by tr.repeated l m h n o c x ks (v, w) d f g more =
@@ -160,12 +160,12 @@ counted_by tr.repeated l m h n o c x ks (v, w) d f g more =
     }
 counted_by _ l m h n o c x ks (v, w) d f g more = absurd cc
 
-pub counted_is : {l o : List Tok} {k : Piece} {c : Ending} {x : Tree} {ks : Kids} → Operands counted l (kid k c x ks) o → Counted l k c x ks o
+pub counted_is : {l o : List Tok} {k : Piece} {c : Ending} {x : Tree} {ks : Children} → Operands counted l (child k c x ks) o → Counted l k c x ks o
 counted_is {l} {o} {k} {c} {x} {ks} (one_more {m = m} {h = h} {n = n} a u d f g more) = counted_by k l m h n o c x ks (counted_at k l m a) d f g more
 counted_is {l} {o} {k} (short {m = m} {x = v} a u g more) = let (w, y) = counted_at k l m a in let i : short_value tr.repeated ≡ Some v = subst (λ z. short_value z ≡ Some v) w u in absurd cc
 counted_is {l} {o} {k} (block {m = m} a v g more) = let (w, y) = counted_at k l m a in let i : takes_block tr.repeated ≡ true = subst (λ z. takes_block z ≡ true) w v in absurd cc
 
-pub element_kind : {l o : List Tok} {k : Piece} {c : Ending} {x : Tree} {ks : Kids} → Operands elements l (kid k c x ks) o → k ≡ tr.element
+pub element_kind : {l o : List Tok} {k : Piece} {c : Ending} {x : Tree} {ks : Children} → Operands elements l (child k c x ks) o → k ≡ tr.element
 unfolding piece_form
 element_kind {l} {k = k} (one_more {m = m} a u d f g more) = element_only k l m a
 element_kind {l} {k = k} (short {m = m} a u g more) = element_only k l m a
@@ -178,9 +178,9 @@ either true x y q g h = g
 either false x y q g h = h
 
 module _ (rec : Place → Reading Tree) where
-  pub leads : (p : Place) (l : List Tok) (q : Option (Tree × List Tok)) → leaf_at l ≡ false → lead_at l ≡ true → lead_read rec p l ≡ q → atom rec p l ≡ q
+  pub prefixes : (p : Place) (l : List Tok) (q : Option (Tree × List Tok)) → leaf_at l ≡ false → prefix_at l ≡ true → prefix_read rec p l ≡ q → atom rec p l ≡ q
   unfolding atom
-  leads p l q a b g = rw (a, b) g
+  prefixes p l q a b g = rw (a, b) g
 
   named_end : (p : Place) (q : QPathTree) (g : MacroEnd) (n : List Tok) → leaf_stands p (to_named (q, g)) n ≡ true → named_by rec p q g n ≡ Some (leaf (to_named (q, g)), n)
   named_end p q (Some g) n a = rw a refl
@@ -188,7 +188,7 @@ module _ (rec : Place → Reading Tree) where
 
   by_front : (p : Place) (l : List Tok) → leaf_at l ≡ false → Named l → atom rec p l ≡ cond (invisible_at l) (group_read rec p l) (named_read rec p l)
   unfolding atom
-  by_front p l a n = rw (a, n.no_lead, n.no_round, n.no_bracket, n.no_become, n.no_if, n.no_loop, n.no_match) refl
+  by_front p l a n = rw (a, n.no_prefix, n.no_round, n.no_bracket, n.no_become, n.no_if, n.no_loop, n.no_match) refl
 
   pub unnamed : (p : Place) (l m : List Tok) (x : QPathTree) (q : Option (Tree × List Tok)) → leaf_at l ≡ false → Named l → (expr_path (not p.condition)).reads l ≡ Some (x, m) → named_read rec p l ≡ q
       → atom rec p l ≡ q
@@ -197,7 +197,7 @@ module _ (rec : Place → Reading Tree) where
 
   -- an operand in an invisible group that no path begins with
   pub grouped : (p : Place) (l : List Tok) (q : Option (Tree × List Tok)) → leaf_at l ≡ false → Named l → invisible_at l ≡ true → (expr_path (not p.condition)).reads l ≡ None
-      → framed_by rec p tr.invisible l ≡ q → atom rec p l ≡ q
+      → framed_by rec p tr.group_expr l ≡ q → atom rec p l ≡ q
   unfolding group_read
   grouped p l q a n v r g = by_front p l a n ∙ rw (v, r) g
 
@@ -206,9 +206,9 @@ module _ (rec : Place → Reading Tree) where
   unfolding named_read
   name_read p l m n q g a b c = rw (a, b) (named_end p q g n c)
 
-  pub unled_read : (p : Place) (k : Lead) (l m : List Tok) (q : Option (Tree × List Tok)) → lead_form.behind k l ≡ Some m → lead_stands p k m ≡ false → unled rec p l (h.from_closure k) m ≡ q → lead_read rec p l ≡ q
-  unfolding lead_read
-  unled_read p k l m q a b g = rw (heads.leads.found l k m a, b) g
+  pub unled_read : (p : Place) (k : Prefix) (l m : List Tok) (q : Option (Tree × List Tok)) → prefix_form.behind k l ≡ Some m → prefix_stands p k m ≡ false → unled rec p l (h.from_closure k) m ≡ q → prefix_read rec p l ≡ q
+  unfolding prefix_read
+  unled_read p k l m q a b g = rw (heads.prefixes.found l k m a, b) g
 
   pub leaf_atom : (p : Place) (k : Leaf) (l n : List Tok) → leaf_form.behind k l ≡ Some n → leaf_stands p k n ≡ true → atom rec p l ≡ Some (leaf k, n)
   unfolding atom named
@@ -218,14 +218,14 @@ module _ (rec : Place → Reading Tree) where
       by_range a b v =
           let (op, c, d) = behind_some (from_full_range k) (λ op. range_op.behind op l) n (sym (rest_range k l a v) ∙ g) in
           let i = range_is k op c in
-          leads p l (Some (leaf k, n)) b (range_leads l v) (unled_read p (tr.range_to op) l n (Some (leaf k, n)) (range_lead op l v ∙ d)
+          prefixes p l (Some (leaf k, n)) b (range_is_prefix l v) (unled_read p (tr.range_to op) l n (Some (leaf k, n)) (range_prefix op l v ∙ d)
           (open_range p op n (subst (λ z. leaf_stands p z n ≡ true) i s)) (leaf_reads p k l n g s))
 
       by_jump : NoLeaf l → leaf_at l ≡ false → range_at l ≡ false → jump_at l ≡ true → atom rec p l ≡ Some (leaf k, n)
       by_jump a b v w =
           let (j, c, d) = behind_some (from_bare_jump k) (λ j. jump_head.behind j l) n (sym (rest_jump k l a v w) ∙ g) in
           let i = jump_is k j c in
-          leads p l (Some (leaf k, n)) b (jump_leads l w) (unled_read p (tr.jump j) l n (Some (leaf k, n)) (jump_lead j l w ∙ d)
+          prefixes p l (Some (leaf k, n)) b (jump_is_prefix l w) (unled_read p (tr.jump j) l n (Some (leaf k, n)) (jump_prefix j l w ∙ d)
           (open_jump p j n (subst (λ z. leaf_stands p z n ≡ true) i s)) (leaf_reads p k l n g s))
 
       by_name : NoLeaf l → leaf_at l ≡ false → range_at l ≡ false → jump_at l ≡ false → atom rec p l ≡ Some (leaf k, n)
@@ -255,7 +255,7 @@ module _ (rec : Place → Reading Tree) where
 
   pound_none : (p : Place) (s : Spacing) (m : List Tok) → atom rec p (punct 35 s ∷ m) ≡ None
   unfolding atom named_read invisible_at round_at bracket_at group_at word_at loop_head_at
-  pound_none p s m = rw (sign_no_leaf 35 s m refl, no_pound_lead s m, no_lifetime 35 s m refl, plain_read (not p.condition) (punct 35 s ∷ m) refl, pound_path s m) refl
+  pound_none p s m = rw (sign_no_leaf 35 s m refl, no_pound_prefix s m, no_lifetime 35 s m refl, plain_read (not p.condition) (punct 35 s ∷ m) refl, pound_path s m) refl
 
   -- no operand begins with `#`
   pub no_pound : (p : Place) (l : List Tok) (q : Tree × List Tok) → atom rec p l ≡ Some q → pound.at l ≡ false

@@ -12,11 +12,11 @@ use Rattle.syn_parts.specs.Pat.{a_name, an_index, dots}
 use Rattle.syn_grammar.specs.declared.kinds.Place.{Place}
 use Rattle.syn_grammar.specs.Place.{before_block}
 use Rattle.syn_grammar.specs.Tree as tr
-use Rattle.syn_grammar.specs.Tree.{Tree, Kids, Piece, Ending, none, kid, plain_block, is_silent}
+use Rattle.syn_grammar.specs.Tree.{Tree, Children, Piece, Ending, none, child, plain_block, is_silent}
 use Rattle.syn_grammar.specs.Slot as s
 use Rattle.syn_grammar.specs.Slot.{Slot, Holder, conditions, scrutinees, arms, after, may_end, piece_form, piece_place, ending_at, is_scrutinee, is_rest, if_word, else_word}
-use Rattle.syn_grammar.specs.Stands.{Node, is_indexed, is_frame, Content, holds_none, holds_within, holds_bare, Operands, no_more, one_more, short, block, arms_inside, Stands, ends, closes, ends_piece, short_value, takes_block, is_branch, fields_of}
-use Rattle.syn_grammar.specs.Read.{Reading, is_scrutinees, branch_by, operand_of, operands_by, operands, bare_operands, content}
+use Rattle.syn_grammar.specs.Stands.{Node, is_indexed, is_frame, Content, holds_none, holds_within, holds_bare, Operands, no_more, one_more, short, block, arms_inside, Stands, ends, closes, ends_piece, short_value, takes_block, is_if_expr, fields_of}
+use Rattle.syn_grammar.specs.Read.{Reading, is_scrutinees, if_expr_by, operand_of, operands_by, operands, bare_operands, content}
 use Rattle.syn_grammar.proofs.HeadMoves.{IsLess, less_then, then_less, grouped, group_inside, left, frame_less, ending_left, tail_falls}
 use Rattle.syn_grammar.proofs.Chains.{some_is, only_some, chosen, both_true}
 use Rattle.syn_grammar.proofs.Needs.{heads}
@@ -86,56 +86,56 @@ ends_both tr.output_block x n t h = absurd cc
 ends_both _ x n t h = both_true _ _ h
 
 module _ (rec : Place → Reading Tree) where
-  step_read : (more : Slot → Reading Kids) (v : Slot) (l m n o : List Tok) (q : Piece) (c : Ending) (x : Tree) (ks : Kids) → is_scrutinees v ≡ false → may_end v l ≡ false
-      → (piece_form v).reads l ≡ Some (q, m) → operand_of rec (more conditions) q m ≡ Some ((c, x), n) → more (after q) n ≡ Some (ks, o) → operands_by rec more v l ≡ Some (kid q c x ks, o)
+  step_read : (more : Slot → Reading Children) (v : Slot) (l m n o : List Tok) (q : Piece) (c : Ending) (x : Tree) (ks : Children) → is_scrutinees v ≡ false → may_end v l ≡ false
+      → (piece_form v).reads l ≡ Some (q, m) → operand_of rec (more conditions) q m ≡ Some ((c, x), n) → more (after q) n ≡ Some (ks, o) → operands_by rec more v l ≡ Some (child q c x ks, o)
   step_read more v l m n o q c x ks a b d f g = rw (a, b, d, f, g) refl
 
-  end_read : (more : Slot → Reading Kids) (v : Slot) (l : List Tok) → is_scrutinees v ≡ false → may_end v l ≡ true → operands_by rec more v l ≡ Some (none, l)
+  end_read : (more : Slot → Reading Children) (v : Slot) (l : List Tok) → is_scrutinees v ≡ false → may_end v l ≡ true → operands_by rec more v l ≡ Some (none, l)
   end_read more v l a b = rw (a, b) refl
 
-  arms_read : (more : Slot → Reading Kids) (l h i j n : List Tok) (ats : List AttributeTree) (x : Tree) (ks : Kids) → rec before_block l ≡ Some (x, h) → group_at del.Brace h ≡ Some (i, n)
-      → inner_attributes.reads i ≡ Some (ats, j) → more arms j ≡ Some (ks, []) → operands_by rec more scrutinees l ≡ Some (kid tr.scrutinee (tr.opened ats) x ks, n)
+  arms_read : (more : Slot → Reading Children) (l h i j n : List Tok) (ats : List AttributeTree) (x : Tree) (ks : Children) → rec before_block l ≡ Some (x, h) → group_at del.Brace h ≡ Some (i, n)
+      → inner_attributes.reads i ≡ Some (ats, j) → more arms j ≡ Some (ks, []) → operands_by rec more scrutinees l ≡ Some (child tr.scrutinee (tr.opened ats) x ks, n)
   arms_read more l h i j n ats x ks a b d f = rw (a, b, d, f) refl
 
-  value_read : (inner : Reading Kids) (q : Piece) (m h n : List Tok) (c : Ending) (x : Tree) → takes_block q ≡ false → short_value q ≡ None → is_silent q ≡ false
+  value_read : (inner : Reading Children) (q : Piece) (m h n : List Tok) (c : Ending) (x : Tree) → takes_block q ≡ false → short_value q ≡ None → is_silent q ≡ false
       → rec (piece_place q) m ≡ Some (x, h) → ending_at q x h ≡ Some (c, n) → operand_of rec inner q m ≡ Some ((c, x), n)
   value_read inner q m h n c x a b d f g = rw (a, b, d, f, g) refl
 
-  short_read : (inner : Reading Kids) (q : Piece) (m n : List Tok) (c : Ending) (x : Tree) → takes_block q ≡ false → short_value q ≡ Some x → ending_at q x m ≡ Some (c, n)
+  short_read : (inner : Reading Children) (q : Piece) (m n : List Tok) (c : Ending) (x : Tree) → takes_block q ≡ false → short_value q ≡ Some x → ending_at q x m ≡ Some (c, n)
       → operand_of rec inner q m ≡ Some ((c, x), n)
   short_read inner q m n c x a b d = rw (a, b, d) refl
 
-  block_read : (inner : Reading Kids) (q : Piece) (m i n : List Tok) → takes_block q ≡ true → group_at del.Brace m ≡ Some (i, n) → operand_of rec inner q m ≡ Some ((tr.no_ending, plain_block i), n)
+  block_read : (inner : Reading Children) (q : Piece) (m i n : List Tok) → takes_block q ≡ true → group_at del.Brace m ≡ Some (i, n) → operand_of rec inner q m ≡ Some ((tr.no_ending, plain_block i), n)
   unfolding brace_at
   block_read inner q m i n a b = rw (a, b) refl
 
   -- an `if` that was read
-  record Branch (inner : Reading Kids) (l : List Tok) (x : Tree) (n : List Tok) : Type 0 where
+  record IfExpr (inner : Reading Children) (l : List Tok) (x : Tree) (n : List Tok) : Type 0 where
     word : if_word.at l ≡ true
-    reading : branch_by rec inner l ≡ Some (x, n)
+    reading : if_expr_by rec inner l ≡ Some (x, n)
 
-  chain_read : (inner : Reading Kids) (q : Piece) (m h n : List Tok) (c : Ending) (x : Tree) → takes_block q ≡ true → ends_piece q x h ≡ true → ending_at q x h ≡ Some (c, n)
-      → (is_branch x ≡ true → Branch inner m x h) → operand_of rec inner q m ≡ Some ((c, x), n)
+  chain_read : (inner : Reading Children) (q : Piece) (m h n : List Tok) (c : Ending) (x : Tree) → takes_block q ≡ true → ends_piece q x h ≡ true → ending_at q x h ≡ Some (c, n)
+      → (is_if_expr x ≡ true → IfExpr inner m x h) → operand_of rec inner q m ≡ Some ((c, x), n)
   unfolding ending_at
   chain_read inner tr.chained m h n c x a b d f = let g = f b in rw (word_no_brace _ m g.word, g.reading) (ap (λ (r : Ending × List Tok). Some ((r.0, x), r.1)) (some_is d))
   chain_read inner _ m h n c x a b d f = absurd cc
 
-  one_read : (n : ℕ) (v : Slot) (l m h r o : List Tok) (q : Piece) (c : Ending) (x : Tree) (ks : Kids) → (piece_form v).behind q l ≡ Some m → is_silent q ≡ false → IsLess h m → IsLess r l
-      → (takes_block q ≡ false → rec (piece_place q) m ≡ Some (x, h)) → ends_piece q x h ≡ true → ending_at q x h ≡ Some (c, r) → (is_branch x ≡ true → Branch (operands rec n conditions) m x h)
-      → operands rec n (after q) r ≡ Some (ks, o) → operands_by rec (operands rec n) v l ≡ Some (kid q c x ks, o)
+  one_read : (n : ℕ) (v : Slot) (l m h r o : List Tok) (q : Piece) (c : Ending) (x : Tree) (ks : Children) → (piece_form v).behind q l ≡ Some m → is_silent q ≡ false → IsLess h m → IsLess r l
+      → (takes_block q ≡ false → rec (piece_place q) m ≡ Some (x, h)) → ends_piece q x h ≡ true → ending_at q x h ≡ Some (c, r) → (is_if_expr x ≡ true → IfExpr (operands rec n conditions) m x h)
+      → operands rec n (after q) r ≡ Some (ks, o) → operands_by rec (operands rec n) v l ≡ Some (child q c x ks, o)
   one_read n v l m h r o q c x ks p u f g w i j b k =
       step_read (operands rec n) v l m r o q c x ks (not_scrutinees v q l m p (ending_no_scrutinee q x h (c, r) j)) (not_ended v q l m p (there g) (λ z. there f)) ((heads.pieces v).found l q m p)
       (⊎_elim (λ z. chain_read (operands rec n conditions) q m h r c x z.0 i j b) (λ z. value_read (operands rec n conditions) q m h r c x z.0 (not_silent q u) u (w z.0) j)
       (chosen (takes_block q) true false _ refl)) k
 
   -- with a bound above the weight
-  enough : (n : ℕ) (v : Slot) (l : List Tok) (z : Option (Kids × List Tok)) → weight l < n → ((j : ℕ) → weight l ≤ j → operands rec (suc j) v l ≡ z) → operands rec n v l ≡ z
+  enough : (n : ℕ) (v : Slot) (l : List Tok) (z : Option (Children × List Tok)) → weight l < n → ((j : ℕ) → weight l ≤ j → operands rec (suc j) v l ≡ z) → operands rec n v l ≡ z
   enough zero v l z b f = absurd (omega arith)
   enough (suc j) v l z b f = f j (omega arith)
 
-  fields_no_branch : (b : Tree) (i : ℕ) (is : List ℕ) → is_branch (fields_of b (i ∷ is)) ≡ false
-  fields_no_branch b i [] = refl
-  fields_no_branch b i (j ∷ is) = fields_no_branch _ j is
+  fields_no_if_expr : (b : Tree) (i : ℕ) (is : List ℕ) → is_if_expr (fields_of b (i ∷ is)) ≡ false
+  fields_no_if_expr b i [] = refl
+  fields_no_if_expr b i (j ∷ is) = fields_no_if_expr _ j is
 
   module _ (k : ℕ) (complete : (p : Place) (l n : List Tok) (x : Tree) → weight l < k → Stands p l x n → rec p l ≡ Some (x, n)) where
     pub full : (p : Place) (l n : List Tok) (x : Tree) → weight l < k → Node p l x n → ends p x n ≡ true → closes p x n ≡ true → rec p l ≡ Some (x, n)
@@ -150,13 +150,13 @@ module _ (rec : Place → Reading Tree) where
     mutual
       unfolding operands
 
-      operands_read : {v : Slot} {l o : List Tok} {ks : Kids} → Operands v l ks o → (n : ℕ) → weight l ≤ n → weight l < k → operands rec (suc n) v l ≡ Some (ks, o)
+      operands_read : {v : Slot} {l o : List Tok} {ks : Children} → Operands v l ks o → (n : ℕ) → weight l ≤ n → weight l < k → operands rec (suc n) v l ≡ Some (ks, o)
       operands_read (no_more {s = v} {n = l} h) n b f = end_read (operands rec n) v l (end_no_scrutinees v l h) h
       operands_read (one_more {s = v} {l = l} {m = m} {h = h} {n = r} {o = o} {k = q} {c = c} {x = x} {ks = ks} p u d e g more) n b f =
           let a = left (here.pieces v) q l m p in
           let i = node_less d in
           let j = then_less a (less_then i (ending_left q x h c r g)) in
-          one_read n v l m h r o q c x ks p u i j (λ t. full_piece q m h x (omega (arith, weight_left a)) d e t) e g (λ z. branch_read d z n (omega (arith, weight_left a)) (omega (arith, weight_left a)))
+          one_read n v l m h r o q c x ks p u i j (λ t. full_piece q m h x (omega (arith, weight_left a)) d e t) e g (λ z. if_expr_read d z n (omega (arith, weight_left a)) (omega (arith, weight_left a)))
           (enough n (after q) r (Some (ks, o)) (omega (arith, j.less)) (λ y z. operands_read more y z (omega (arith, j.less))))
       operands_read (short {s = v} {l = l} {m = m} {n = r} {o = o} {k = q} {c = c} {x = x} {ks = ks} p u g more) n b f =
           let j = less_then (short_less v q l m x p u) (ending_left q x m c r g) in
@@ -176,27 +176,27 @@ module _ (rec : Place → Reading Tree) where
           arms_read (operands rec n) l h i j r ats x ks (full before_block l h x f d e c) g (heads.inners.found i ats j a)
           (enough n arms j (Some (ks, [])) (omega (arith, u.less, w, y)) (λ z t. operands_read more z t (omega (arith, u.less, w, y))))
 
-      branch_read : {p : Place} {l n : List Tok} {x : Tree} → Node p l x n → is_branch x ≡ true → (j : ℕ) → weight l ≤ j → weight l < k → Branch (operands rec j conditions) l x n
-      branch_read (is_frame {l = l} {h = h} {k = tr.branch} {ks = ks} a (holds_bare {n = n} more) g e) i j b f =
+      if_expr_read : {p : Place} {l n : List Tok} {x : Tree} → Node p l x n → is_if_expr x ≡ true → (j : ℕ) → weight l ≤ j → weight l < k → IfExpr (operands rec j conditions) l x n
+      if_expr_read (is_frame {l = l} {h = h} {k = tr.if_expr} {ks = ks} a (holds_bare {n = n} more) g e) i j b f =
           let (w, y) = only_some (if_word.at l) (Some (drop 1 l)) h a in
-          let u = frame_less tr.branch l h refl a in
+          let u = frame_less tr.if_expr l h refl a in
           let r : operands rec j conditions (drop 1 l) ≡ Some (ks, n) = subst (λ z. operands rec j conditions z ≡ Some (ks, n)) (sym (some_is y))
           (enough j conditions h (Some (ks, n)) (omega (arith, u.less)) (λ z t. operands_read more z t (omega (arith, u.less)))) in
           record { word = w; reading = rw (w, r) refl }
-      branch_read (is_indexed {b = c} {i = y} {is = is} d f t v) i j b g = absurd (cc (i, v, fields_no_branch c y is))
-      branch_read _ i j b f = absurd cc
+      if_expr_read (is_indexed {b = c} {i = y} {is = is} d f t v) i j b g = absurd (cc (i, v, fields_no_if_expr c y is))
+      if_expr_read _ i j b f = absurd cc
 
-    pub bare_read : (v : Slot) (l o : List Tok) (ks : Kids) → Operands v l ks o → weight l < k → bare_operands rec v l ≡ Some (ks, o)
+    pub bare_read : (v : Slot) (l o : List Tok) (ks : Children) → Operands v l ks o → weight l < k → bare_operands rec v l ≡ Some (ks, o)
     unfolding bare_operands
     bare_read v l o ks d b = operands_read d (weight l) (omega arith) b
 
-    pub within_read : (d : Delimiter) (v : Slot) (b : Bool) (l n : List Tok) (ks : Kids) → Content (s.within d v b) l ks n → weight l ≤ k → content rec (s.within d v b) l ≡ Some (ks, n)
+    pub within_read : (d : Delimiter) (v : Slot) (b : Bool) (l n : List Tok) (ks : Children) → Content (s.within d v b) l ks n → weight l ≤ k → content rec (s.within d v b) l ≡ Some (ks, n)
     unfolding content
     within_read d v b l n ks (holds_within {i = i} {o = o} g more f) t =
         let a = group_inside d l i n g in
         rw (g, bare_read v i o ks more (omega arith), f) refl
 
-    pub content_read : (v : Holder) (l n : List Tok) (ks : Kids) → Content v l ks n → weight l < k → content rec v l ≡ Some (ks, n)
+    pub content_read : (v : Holder) (l n : List Tok) (ks : Children) → Content v l ks n → weight l < k → content rec v l ≡ Some (ks, n)
     unfolding content
     content_read (s.within d v b) l n ks c t = within_read d v b l n ks c (omega arith)
     content_read (s.bare v) l n ks (holds_bare more) t = bare_read v l n ks more t

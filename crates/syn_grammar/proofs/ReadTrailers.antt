@@ -17,11 +17,11 @@ use Rattle.syn_parts.proofs.Ends.{sign_first}
 use Rattle.syn_grammar.specs.declared.kinds.Place.{Place}
 use Rattle.syn_grammar.specs.Front.{bracket_at, question_at, dot_at, trailer_at}
 use Rattle.syn_grammar.specs.Tree as tr
-use Rattle.syn_grammar.specs.Tree.{Tree, Kids, Trailer, tail}
+use Rattle.syn_grammar.specs.Tree.{Tree, Children, Trailer, tail}
 use Rattle.syn_grammar.specs.Head.{dotted}
 use Rattle.syn_grammar.specs.Slot as s
 use Rattle.syn_grammar.specs.Slot.{Slot, trailer_holder}
-use Rattle.syn_grammar.specs.Stands.{Content, holds_within, closes, goes_behind, carries, rests, is_adorned, is_pounded, fits_base, is_base, is_call, is_named_field, is_parenthesis_or_bracket, trailer_head, fields_head, name_at, indices_at, steps_of, open_steps, closed_steps, named_behind, with_steps, fields_of}
+use Rattle.syn_grammar.specs.Stands.{Content, holds_within, closes, goes_behind, carries, rests, is_attributed, is_pounded, fits_base, is_base, is_call, is_named_field, is_parenthesis_or_bracket, trailer_head, fields_head, name_at, indices_at, steps_of, open_steps, closed_steps, named_behind, with_steps, fields_of}
 use Rattle.syn_grammar.specs.Read.{Reading, content, trailed}
 use Rattle.syn_grammar.proofs.Chains.{some_is, only_some, behind_some, chosen, both_true, neither, not_true}
 use Rattle.syn_grammar.proofs.Needs.{heads}
@@ -81,7 +81,7 @@ round_group : (m i n : List Tok) → group_at del.Parenthesis m ≡ Some (i, n) 
 unfolding round_at
 round_group m i n g = rw g refl
 
-content_group : {d : Delimiter} {v : Slot} {b : Bool} {l n : List Tok} {ks : Kids} → Content (s.within d v b) l ks n → (i : List Tok) × (group_at d l ≡ Some (i, n))
+content_group : {d : Delimiter} {v : Slot} {b : Bool} {l n : List Tok} {ks : Children} → Content (s.within d v b) l ks n → (i : List Tok) × (group_at d l ≡ Some (i, n))
 content_group (holds_within {i = i} g o f) = (i, g)
 
 name_no_index : (l : List Tok) (q : List ℕ × List Tok) → name_at l ≡ Some q → indices_at l ≡ None
@@ -96,16 +96,16 @@ name_no_index _ q g = refl
 
 pub record Base (b : Tree) : Type 0 where
   pub carrying : carries b ≡ true
-  pub bare : is_adorned b ≡ false
+  pub bare : is_attributed b ≡ false
   pub no_pound : is_pounded b ≡ false
 
 pub base_is : (p : Place) (t : Trailer) (b : Tree) → fits_base p t b ≡ true → Base b
 unfolding fits_base
 base_is p t b g =
     let (a, c) = both_true (is_base t b) _ g in
-    let (d, f) = both_true (carries b) (not (is_adorned b || is_pounded b) && not (is_call t && is_named_field b)) a in
-    let (h, i) = both_true (not (is_adorned b || is_pounded b)) _ f in
-    let (j, k) = neither (is_adorned b) (is_pounded b) (not_true _ h) in
+    let (d, f) = both_true (carries b) (not (is_attributed b || is_pounded b) && not (is_call t && is_named_field b)) a in
+    let (h, i) = both_true (not (is_attributed b || is_pounded b)) _ f in
+    let (j, k) = neither (is_attributed b) (is_pounded b) (not_true _ h) in
     record { carrying = d; bare = j; no_pound = k }
 
 base_no_rest : (p : Place) (t : Trailer) (b : Tree) → fits_base p t b ≡ true → is_parenthesis_or_bracket t ≡ true → rests p b ≡ false
@@ -144,26 +144,26 @@ module _ (rec : Place → Reading Tree) where
     pub opened : closes p b m ≡ false
     pub reading : trailed rec p b m ≡ Some (x, n)
 
-  round_next : (p : Place) (b : Tree) (m n : List Tok) (ks : Kids) → fits_base p tr.call b ≡ true → round_at m ≡ true → content rec (trailer_holder tr.call) m ≡ Some (ks, n) → Next p b m (tail b tr.call ks) n
+  round_next : (p : Place) (b : Tree) (m n : List Tok) (ks : Children) → fits_base p tr.call b ≡ true → round_at m ≡ true → content rec (trailer_holder tr.call) m ≡ Some (ks, n) → Next p b m (tail b tr.call ks) n
   unfolding trailed
   round_next p b m n ks f r c =
       let a = base_is p tr.call b f in
       record { opened = opens p b m a.carrying (round_goes (rests p b) m (base_no_rest p tr.call b f refl) r); reading = rw (r, f, c) refl }
 
-  bracket_next : (p : Place) (b : Tree) (m n : List Tok) (ks : Kids) → fits_base p tr.index b ≡ true → round_at m ≡ false → bracket_at m ≡ true → content rec (trailer_holder tr.index) m ≡ Some (ks, n) → Next p b m (tail b tr.index ks) n
+  bracket_next : (p : Place) (b : Tree) (m n : List Tok) (ks : Children) → fits_base p tr.index b ≡ true → round_at m ≡ false → bracket_at m ≡ true → content rec (trailer_holder tr.index) m ≡ Some (ks, n) → Next p b m (tail b tr.index ks) n
   unfolding trailed
   bracket_next p b m n ks f q r c =
       let a = base_is p tr.index b f in
       record { opened = opens p b m a.carrying (bracket_goes (rests p b) m (base_no_rest p tr.index b f refl) r); reading = rw (q, r, f, c) refl }
 
-  question_next : (p : Place) (b : Tree) (m n : List Tok) (ks : Kids) → fits_base p tr.question b ≡ true → question_at m ≡ true → content rec (trailer_holder tr.question) (drop 1 m) ≡ Some (ks, n) → Next p b m (tail b tr.question ks) n
+  question_next : (p : Place) (b : Tree) (m n : List Tok) (ks : Children) → fits_base p tr.try_expr b ≡ true → question_at m ≡ true → content rec (trailer_holder tr.try_expr) (drop 1 m) ≡ Some (ks, n) → Next p b m (tail b tr.try_expr ks) n
   unfolding trailed
   question_next p b m n ks f q c =
-      let a = base_is p tr.question b f in
+      let a = base_is p tr.try_expr b f in
       let (u, v) = question_front m q in
       record { opened = opens p b m a.carrying (question_goes (rests p b) m q); reading = rw (u, v, q, f, c) refl }
 
-  dot_next : (p : Place) (t : Trailer) (b : Tree) (m h g n : List Tok) (is : List ℕ) (ks : Kids) → fits_base p t b ≡ true → dot_at m ≡ true → name_at (drop 1 m) ≡ Some (is, h) → dotted.behind t h ≡ Some g
+  dot_next : (p : Place) (t : Trailer) (b : Tree) (m h g n : List Tok) (is : List ℕ) (ks : Children) → fits_base p t b ≡ true → dot_at m ≡ true → name_at (drop 1 m) ≡ Some (is, h) → dotted.behind t h ≡ Some g
       → content rec (trailer_holder t) g ≡ Some (ks, n) → Next p b m (tail (fields_of b is) t ks) n
   unfolding trailed
   dot_next p t b m h g n is ks f d i j c =
@@ -179,7 +179,7 @@ module _ (rec : Place → Reading Tree) where
       let u = dot_front m d in
       record { opened = opens p b m a.carrying (dot_goes (rests p b) m d); reading = rw (u.no_round, u.no_bracket, u.no_question, d, c, f) refl }
 
-  dotted_next : (p : Place) (t : Trailer) (b : Tree) (m g n : List Tok) (is : List ℕ) (ks : Kids) → fits_base p t b ≡ true → cond (dot_at m) (named_behind t (name_at (drop 1 m))) None ≡ Some (is, g)
+  dotted_next : (p : Place) (t : Trailer) (b : Tree) (m g n : List Tok) (is : List ℕ) (ks : Children) → fits_base p t b ≡ true → cond (dot_at m) (named_behind t (name_at (drop 1 m))) None ≡ Some (is, g)
       → content rec (trailer_holder t) g ≡ Some (ks, n) → Next p b m (tail (fields_of b is) t ks) n
   dotted_next p t b m g n is ks f h c =
       let (d, i) = only_some (dot_at m) (named_behind t (name_at (drop 1 m))) (is, g) h in by_name d (name_at (drop 1 m)) refl i
@@ -196,7 +196,7 @@ module _ (rec : Place → Reading Tree) where
       by_name d None v i = absurd cc
       by_name d (Some q) v i = by_behind d q.0 q.1 v (dotted.behind t q.1) refl i
 
-  pub tail_next : (p : Place) (t : Trailer) (b : Tree) (m g n : List Tok) (is : List ℕ) (ks : Kids) → fits_base p t b ≡ true → trailer_head t m ≡ Some (is, g) → Content (trailer_holder t) g ks n
+  pub tail_next : (p : Place) (t : Trailer) (b : Tree) (m g n : List Tok) (is : List ℕ) (ks : Children) → fits_base p t b ≡ true → trailer_head t m ≡ Some (is, g) → Content (trailer_holder t) g ks n
       → content rec (trailer_holder t) g ≡ Some (ks, n) → Next p b m (tail (fields_of b is) t ks) n
   unfolding trailer_head
   tail_next p tr.call b m g n is ks f h d c =
@@ -207,10 +207,10 @@ module _ (rec : Place → Reading Tree) where
       let u : ([], m) ≡ (is, g) = some_is h in
       subst (λ (r : List ℕ × List Tok). content rec (trailer_holder tr.index) r.1 ≡ Some (ks, n) → Content (trailer_holder tr.index) r.1 ks n → Next p b m (tail (fields_of b r.0) tr.index ks) n) u
       (λ c d. let (i, w) = content_group d in let (v, y) = bracket_group m i n w in bracket_next p b m n ks f v y c) c d
-  tail_next p tr.question b m g n is ks f h d c =
+  tail_next p tr.try_expr b m g n is ks f h d c =
       let (q, i) = only_some (question_at m) (Some ([], drop 1 m)) (is, g) h in
       let u : ([], drop 1 m) ≡ (is, g) = some_is i in
-      subst (λ (r : List ℕ × List Tok). content rec (trailer_holder tr.question) r.1 ≡ Some (ks, n) → Next p b m (tail (fields_of b r.0) tr.question ks) n) u
+      subst (λ (r : List ℕ × List Tok). content rec (trailer_holder tr.try_expr) r.1 ≡ Some (ks, n) → Next p b m (tail (fields_of b r.0) tr.try_expr ks) n) u
       (λ c. question_next p b m n ks f q c) c
   tail_next p (tr.method w a) b m g n is ks f h d c = dotted_next p (tr.method w a) b m g n is ks f h c
   tail_next p (tr.field y) b m g n is ks f h d c = dotted_next p (tr.field y) b m g n is ks f h c

@@ -19,19 +19,19 @@ use Rattle.syn_grammar.specs.declared.next.Context.{Context}
 use Rattle.syn_grammar.specs.Place.{at}
 use Rattle.syn_grammar.specs.Op.{level, is_comparison}
 use Rattle.syn_grammar.specs.Front.{dot_at, question_at}
-use Rattle.syn_grammar.specs.Head.{leaf_form, lead_form}
-use Rattle.syn_grammar.specs.Next.{enclosed, in_condition, next_of, takes_next, trails, left_context, base_context, right_context, adorned_context, lead_context, lead_level, piece_context, left_edge}
+use Rattle.syn_grammar.specs.Head.{leaf_form, prefix_form}
+use Rattle.syn_grammar.specs.Next.{enclosed, in_condition, next_of, takes_next, trails, left_context, base_context, right_context, attributed_context, prefix_context, prefix_level, piece_context, left_edge}
 use Rattle.syn_grammar.specs.Slot.{Slot, Holder, within, ending_at, behind_loop, behind_condition, piece_place, trailer_holder}
-use Rattle.syn_grammar.specs.Stands.{Node, is_leaf, is_become, is_attributed, is_paren, is_adorned_by, is_lead, is_mid, is_post, is_tail, is_indexed, is_frame, Content, holds_none, holds_within, holds_bare, Operands, no_more, one_more, short, block, arms_inside, fits_base, fields_of, fields_head, trailer_head, is_base, is_call, carries, is_cast, is_range, is_infix, is_adorned, is_verbatim, is_pounded, may_adorn, post_behind, post_stands, lead_place, short_value, takes_block}
+use Rattle.syn_grammar.specs.Stands.{Node, is_leaf, is_become, is_attributed_verbatim, is_paren, is_attributed_by, is_prefixed, is_infixed, is_postfixed, is_tail, is_indexed, is_frame, Content, holds_none, holds_within, holds_bare, Operands, no_more, one_more, short, block, arms_inside, fits_base, fields_of, fields_head, trailer_head, is_base, is_call, carries, is_cast, is_range, is_infix, is_attributed, is_verbatim, is_pounded, takes_attributes, postfix_behind, postfix_stands, prefix_place, short_value, takes_block}
 use Rattle.syn_grammar.specs.Tree as e
-use Rattle.syn_grammar.specs.Tree.{Tree, Kids, Leaf, Lead, Post, Trailer, Piece, Ending, leaf, paren, adorned, lead, mid, post, tail, frame, none, post_op, plain_block, is_silent, is_block_like}
-use Rattle.syn_grammar.specs.Rule.{is_below, is_braceless, is_operation, put, post_refuses, is_less_next, is_bare_break}
-use Rattle.syn_grammar.specs.Printed.{parenthesize_attributed, parenthesize_attributed_kids}
+use Rattle.syn_grammar.specs.Tree.{Tree, Children, Leaf, Prefix, Postfix, Trailer, Piece, Ending, leaf, paren, attributed, prefixed, infixed, postfixed, tail, frame, none, postfix_op, plain_block, is_silent, is_block_like}
+use Rattle.syn_grammar.specs.Rule.{is_below, is_braceless, is_operation, put, postfix_refuses, is_less_next, is_bare_break}
+use Rattle.syn_grammar.specs.Printed.{parenthesize_attributed, parenthesize_attributed_children}
 use Rattle.syn_grammar.proofs.Bools.{both_true, both, not_it, or_false, or_none}
 use Rattle.syn_grammar.proofs.Holds.{no_block_held}
-use Rattle.syn_grammar.proofs.Obeys.{Fits, FitsLeft, begins_label, Obeys, ObeysKids}
+use Rattle.syn_grammar.proofs.Obeys.{Fits, FitsLeft, begins_label, Obeys, ObeysChildren}
 use Rattle.syn_grammar.proofs.ShownFronts.{Front, front_end, front_operator, front_call, front_index, front_block, front_dot, front_question}
-use Rattle.syn_grammar.proofs.ShownParts.{Agrees, agrees_plain, agrees_condition, agrees_arm, agrees_left, agrees_base, agrees_adorned, agrees_right, agrees_lead, front_lead, lead_above, right_above, lead_brace, right_brace, leaf_shown, lead_placed, frame_shown, fits_shown, left_shown, lead_head, base_below, base_braceless, below_left, left_braceless, adorned_below, adorned_braceless, dot_twice, dot_above, dot_braceless, post_shown}
+use Rattle.syn_grammar.proofs.ShownParts.{Agrees, agrees_plain, agrees_condition, agrees_arm, agrees_left, agrees_base, agrees_attributed, agrees_right, agrees_prefix, front_prefix, prefix_above, right_above, prefix_brace, right_brace, leaf_shown, prefix_placed, frame_shown, fits_shown, left_shown, prefix_head, base_below, base_braceless, below_left, left_braceless, attributed_below, attributed_braceless, dot_twice, dot_above, dot_braceless, postfix_shown}
 use Rattle.syn_grammar.proofs.Parenthesized.{operation_stays, compares_stays, cast_stays, label_stays, base_stays, no_range, fields_stay}
 use Rattle.syn_grammar.proofs.ShownFirst.{block_first, label_first, bare_break}
 use Rattle.syn_grammar.proofs.Chains.{some_is}
@@ -70,7 +70,7 @@ fields_dot : (k : Trailer) (m h : List Tok) (i : ℕ) (is : List ℕ) → traile
 unfolding trailer_head
 fields_dot e.call m h i is t = absurd (no_steps ([], m) (i ∷ is, h) i is t refl refl)
 fields_dot e.index m h i is t = absurd (no_steps ([], m) (i ∷ is, h) i is t refl refl)
-fields_dot e.question m h i is t = absurd (no_tested (question_at m) ([], drop 1 m) (i ∷ is, h) i is t refl refl)
+fields_dot e.try_expr m h i is t = absurd (no_tested (question_at m) ([], drop 1 m) (i ∷ is, h) i is t refl refl)
 fields_dot (e.method w a) m h i is t = (refl, refl)
 fields_dot (e.field f) m h i is t = (refl, refl)
 fields_dot e.await m h i is t = (refl, refl)
@@ -82,16 +82,16 @@ test_of false o y h = absurd cc
 call_inside : (x y : List ℕ × List Tok) → Some x ≡ Some y → x.1 ≡ y.1
 call_inside x y t = ap (λ (p : List ℕ × List Tok). p.1) (some_is t)
 
-holder_group : (d : _) (s : Slot) (z : Bool) (l n : List Tok) (ks : Kids) → Content (within d s z) l ks n → (g : List Tok × List Tok) × (group_at d l ≡ Some g)
+holder_group : (d : _) (s : Slot) (z : Bool) (l n : List Tok) (ks : Children) → Content (within d s z) l ks n → (g : List Tok × List Tok) × (group_at d l ≡ Some g)
 holder_group d s z l n ks (holds_within {i = i} g o e) = ((i, n), g)
 
-front_trailer : (k : Trailer) (m h n : List Tok) (is : List ℕ) (ks : Kids) → trailer_head k m ≡ Some (is, h) → Content (trailer_holder k) h ks n → Front (next_of k) m
+front_trailer : (k : Trailer) (m h n : List Tok) (is : List ℕ) (ks : Children) → trailer_head k m ≡ Some (is, h) → Content (trailer_holder k) h ks n → Front (next_of k) m
 unfolding trailer_head
 front_trailer e.call m h n is ks t c =
     let g = holder_group _ _ _ h n ks c in front_call m g.0 (ap (group_at del.Parenthesis) (call_inside ([], m) (is, h) t) ∙ g.1)
 front_trailer e.index m h n is ks t c =
     let g = holder_group _ _ _ h n ks c in front_index m g.0 (ap (group_at del.Bracket) (call_inside ([], m) (is, h) t) ∙ g.1)
-front_trailer e.question m h n is ks t c = front_question m (test_of (question_at m) _ _ t)
+front_trailer e.try_expr m h n is ks t c = front_question m (test_of (question_at m) _ _ t)
 front_trailer (e.method w a) m h n is ks t c = front_dot m (test_of (dot_at m) _ _ t)
 front_trailer (e.field f) m h n is ks t c = front_dot m (test_of (dot_at m) _ _ t)
 front_trailer e.await m h n is ks t c = front_dot m (test_of (dot_at m) _ _ t)
@@ -143,7 +143,7 @@ short_silent (e.field_value ats (a_name w) true) x h s = absurd cc
 short_silent (e.field_value ats (an_index i) b) x h s = absurd cc
 short_silent _ x h s = absurd cc
 
-no_bare_label : (k : Lead) (l m n : List Tok) (p : Place) (x : Tree) → lead_form.behind k l ≡ Some m → Node p m x n → is_bare_break k && begins_label x ≡ false
+no_bare_label : (k : Prefix) (l m n : List Tok) (p : Place) (x : Tree) → prefix_form.behind k l ≡ Some m → Node p m x n → is_bare_break k && begins_label x ≡ false
 no_bare_label (e.jump (e.breaking None)) l m n p x h d = go (begins_label x) refl
   where
     go : (b : Bool) → begins_label x ≡ b → b ≡ false
@@ -151,14 +151,14 @@ no_bare_label (e.jump (e.breaking None)) l m n p x h d = go (begins_label x) ref
     go false q = refl
 no_bare_label _ l m n p x h d = refl
 
-lead_level_is : (p : Place) (k : Lead) → (lead_place p k).level ≡ lead_level k
-lead_level_is p (e.unary op) = refl
-lead_level_is p (e.reference m) = refl
-lead_level_is p (e.raw_addr m) = refl
-lead_level_is p (e.range_to op) = refl
-lead_level_is p (e.binding x) = refl
-lead_level_is p (e.jump j) = refl
-lead_level_is p (e.closure h) = refl
+prefix_level_is : (p : Place) (k : Prefix) → (prefix_place p k).level ≡ prefix_level k
+prefix_level_is p (e.unary op) = refl
+prefix_level_is p (e.reference m) = refl
+prefix_level_is p (e.raw_addr m) = refl
+prefix_level_is p (e.range_to op) = refl
+prefix_level_is p (e.let_expr x) = refl
+prefix_level_is p (e.jump j) = refl
+prefix_level_is p (e.closure h) = refl
 
 -- A type that would take arguments at `<` has none behind it.
 abbrev pub TypesClose : Type 0
@@ -167,8 +167,8 @@ TypesClose = (x : TypeTree) (l n : List Tok) → (type false).behind x l ≡ Som
 base_field : (k : Trailer) (i : ℕ) (b : Tree) → is_base k b ≡ true → is_base (e.field (an_index i)) b ≡ true
 base_field k i b h =
     let p = both_true (carries b) _ h in
-    let q = both_true (not (is_adorned b || is_pounded b)) _ p.1 in
-    both (carries b) _ p.0 (both (not (is_adorned b || is_pounded b)) true q.0 refl)
+    let q = both_true (not (is_attributed b || is_pounded b)) _ p.1 in
+    both (carries b) _ p.0 (both (not (is_attributed b || is_pounded b)) true q.0 refl)
 
 base_is : (p : Place) (k : Trailer) (b : Tree) → fits_base p k b ≡ true → is_base k b ≡ true
 unfolding fits_base
@@ -222,27 +222,27 @@ piece_possible e.output_block = refl
 piece_possible e.grouped = refl
 piece_possible e.stray = refl
 
-lead_possible : (p : Place) (k : Lead) → is_possible (lead_place p k) ≡ true
-lead_possible p k = ap (λ b. not (b && (lead_place p k).condition)) (lead_head p k)
+prefix_possible : (p : Place) (k : Prefix) → is_possible (prefix_place p k) ≡ true
+prefix_possible p k = ap (λ b. not (b && (prefix_place p k).condition)) (prefix_head p k)
 
 -- An operation behind attributes is a range without a start.
 operation_range : (x : Tree) → is_operation x ≡ true → is_infix x ≡ false → is_range x ≡ true
 operation_range (leaf k) o i = o
 operation_range (paren m t) o i = absurd cc
-operation_range (adorned a more t) o i = absurd cc
-operation_range (lead k gs t) o i = o
-operation_range (mid x k y) o i = absurd cc
-operation_range (post x k) o i = absurd cc
+operation_range (attributed a more t) o i = absurd cc
+operation_range (prefixed k gs t) o i = o
+operation_range (infixed x k y) o i = absurd cc
+operation_range (postfixed x k) o i = absurd cc
 operation_range (tail b k ks) o i = absurd cc
 operation_range (frame k ks) o i = absurd cc
 
 any_level : (x : Tree) (v w : Level) (c : Context) → is_operation x ≡ true → is_infix x ≡ false → Obeys v c (parenthesize_attributed x) → Obeys w c (parenthesize_attributed x)
 any_level (leaf k) v w c o i h = h
 any_level (paren m t) v w c o i h = h
-any_level (adorned a more t) v w c o i h = absurd cc
-any_level (lead k gs t) v w c o i h = h
-any_level (mid x k y) v w c o i h = absurd cc
-any_level (post x k) v w c o i h = absurd cc
+any_level (attributed a more t) v w c o i h = absurd cc
+any_level (prefixed k gs t) v w c o i h = h
+any_level (infixed x k y) v w c o i h = absurd cc
+any_level (postfixed x k) v w c o i h = absurd cc
 any_level (tail b k ks) v w c o i h = absurd cc
 any_level (frame k ks) v w c o i h = absurd cc
 
@@ -251,9 +251,9 @@ record Behind (p : Place) (x : Tree) : Type 0 where
   no_infix : is_infix x ≡ false
   at_head : is_range x ≡ true → p.head ≡ true
 
-behind_attributes : (p : Place) (x : Tree) → may_adorn p x ≡ true → Behind p x
+behind_attributes : (p : Place) (x : Tree) → takes_attributes p x ≡ true → Behind p x
 behind_attributes p x h =
-    let (f, g) = both_true (not (is_infix x || (is_adorned x || is_verbatim x))) _ h in
+    let (f, g) = both_true (not (is_infix x || (is_attributed x || is_verbatim x))) _ h in
     record { no_infix = (or_false _ _ (not_it _ f)).0; at_head = λ r. sym (or_none p.head) ∙ ap (λ b. p.head || not b) (sym r) ∙ g }
 
 clash : (b : Bool) → b ≡ true → b ≡ false → ⊥
@@ -274,14 +274,14 @@ record SameKind (x : Tree) : Type 0 where
   range : is_range (parenthesize_attributed x) ≡ is_range x
   carrier : carries (parenthesize_attributed x) ≡ carries x
 
-no_operation_there : (p : Place) (x : Tree) → may_adorn p x ≡ true → p.head ≡ false → is_operation x ≡ false
+no_operation_there : (p : Place) (x : Tree) → takes_attributes p x ≡ true → p.head ≡ false → is_operation x ≡ false
 no_operation_there p x g h = go (is_operation x) refl
   where
     go : (b : Bool) → is_operation x ≡ b → b ≡ false
     go true o = let f = behind_attributes p x g in absurd (clash p.head (f.at_head (operation_range x o f.no_infix)) h)
     go false o = refl
 
-same_behind : (x : Tree) (a : _) (more : _) → is_operation x ≡ false → SameKind x → SameKind (adorned a more x)
+same_behind : (x : Tree) (a : _) (more : _) → is_operation x ≡ false → SameKind x → SameKind (attributed a more x)
 same_behind x a more o s =
     record {
       range = ap (λ b. is_range (put b (parenthesize_attributed x) (parenthesize_attributed x))) o ∙ s.range;
@@ -295,12 +295,12 @@ same_fields (i ∷ is) b s = same_fields is (tail b (e.field (an_index i)) none)
 same_kind : {p : Place} {l n : List Tok} {x : Tree} → Node p l x n → p.head ≡ false → SameKind x
 same_kind (is_leaf f g) h = record { range = refl; carrier = refl }
 same_kind (is_become w d q r o) h = record { range = refl; carrier = refl }
-same_kind (is_attributed z more fs f d q r) h = record { range = refl; carrier = refl }
+same_kind (is_attributed_verbatim z more fs f d q r) h = record { range = refl; carrier = refl }
 same_kind (is_paren d q r) h = record { range = refl; carrier = refl }
-same_kind (is_adorned_by {p = p} {x = x} f g d) h = same_behind x _ _ (no_operation_there p x g h) (same_kind d h)
-same_kind (is_lead f g d q r) h = record { range = refl; carrier = refl }
-same_kind (is_mid d q r i t o d2 u v w) h = record { range = refl; carrier = refl }
-same_kind (is_post d q r i t u o w) h = record { range = refl; carrier = refl }
+same_kind (is_attributed_by {p = p} {x = x} f g d) h = same_behind x _ _ (no_operation_there p x g h) (same_kind d h)
+same_kind (is_prefixed f g d q r) h = record { range = refl; carrier = refl }
+same_kind (is_infixed d q r i t o d2 u v w) h = record { range = refl; carrier = refl }
+same_kind (is_postfixed d q r i t u o w) h = record { range = refl; carrier = refl }
 same_kind (is_tail d f t o q) h = record { range = refl; carrier = refl }
 same_kind (is_indexed {b = b} {i = i} {is = is} d f t q) h = subst SameKind (sym q) (same_fields (i ∷ is) b (same_kind d h))
 same_kind (is_frame f o g e) h = record { range = refl; carrier = refl }
@@ -315,10 +315,10 @@ fits_kind v x n s f =
 fits_left_kind : (k : Infix) (x : Tree) → FitsLeft k x → FitsLeft k (parenthesize_attributed x)
 fits_left_kind k x f = record { no_range = no_range x f.no_range; no_chain = ap (λ b. b && is_comparison k) (compares_stays x) ∙ f.no_chain }
 
-attributes_shown : (p : Place) (x : Tree) (c : Context) → is_possible p ≡ true → may_adorn p x ≡ true → (b : Bool) → is_operation x ≡ b
-    → (Agrees p enclosed → Obeys p.level enclosed (parenthesize_attributed x)) → Obeys p.level (adorned_context c) (parenthesize_attributed x)
+attributes_shown : (p : Place) (x : Tree) (c : Context) → is_possible p ≡ true → takes_attributes p x ≡ true → (b : Bool) → is_operation x ≡ b
+    → (Agrees p enclosed → Obeys p.level enclosed (parenthesize_attributed x)) → Obeys p.level (attributed_context c) (parenthesize_attributed x)
     → (is_operation (put b (parenthesize_attributed x) (parenthesize_attributed x)) ≡ false)
-    × Obeys p.level (adorned_context c) (put b (parenthesize_attributed x) (parenthesize_attributed x))
+    × Obeys p.level (attributed_context c) (put b (parenthesize_attributed x) (parenthesize_attributed x))
 attributes_shown p x c a g true o inside h =
     let f = behind_attributes p x g in
     let i = inside (alone_at_head p a (f.at_head (operation_range x o f.no_infix))) in
@@ -326,33 +326,33 @@ attributes_shown p x c a g true o inside h =
 attributes_shown p x c a g false o inside h = (operation_stays x ∙ o, h)
 
 module _ (closed : TypesClose) where
-  post_refused : (p : Place) (c : Context) (k : Post) (l n : List Tok) → Agrees p c → Front c.next n → post_behind k l ≡ Some n → post_stands p k n ≡ true → post_refuses k c.next ≡ false
-  post_refused p c (e.cast x) l n m f h t = go (is_less_next c.next) refl
+  postfix_refused : (p : Place) (c : Context) (k : Postfix) (l n : List Tok) → Agrees p c → Front c.next n → postfix_behind k l ≡ Some n → postfix_stands p k n ≡ true → postfix_refuses k c.next ≡ false
+  postfix_refused p c (e.cast x) l n m f h t = go (is_less_next c.next) refl
     where
       go : (b : Bool) → is_less_next c.next ≡ b → b && ends_open x ≡ false
       go true q = closed x l n h (f.less q)
       go false q = refl
-  post_refused p c (e.range_from op) l n m f h t = post_shown p c op n m f t
+  postfix_refused p c (e.range_from op) l n m f h t = postfix_shown p c op n m f t
 
   mutual
     pub shown : {p : Place} {l n : List Tok} {x : Tree} → Node p l x n → is_possible p ≡ true → ShownAt p l x n
     shown (is_leaf {p = p} {l = l} {n = n} {k = k} f g) a c m s b = leaf_shown p c k l n m s g b.0 b.1 (λ y q. block_first y l n (ap (λ (z : Leaf). leaf_form.behind z l) (sym q) ∙ f))
     shown (is_become w d q r o) a c m s b = b.0
-    shown (is_attributed z more fs f d q r) a c m s b = b.0
+    shown (is_attributed_verbatim z more fs f d q r) a c m s b = b.0
     shown (is_paren {n = n} {x = x} d q r) a c m s b =
         (shown d refl enclosed agrees_plain (front_end []) (refl, refl), record { no_operator = refl; no_trailer = refl })
-    shown (is_adorned_by {p = p} {n = n} {x = x} f g d) a c m s b =
+    shown (is_attributed_by {p = p} {n = n} {x = x} f g d) a c m s b =
         attributes_shown p x c a g (is_operation x) refl (λ i. shown d a enclosed i (front_end n) (refl, refl))
-        (shown d a (adorned_context c) (agrees_adorned _ c m) s (adorned_below c.edge (is_block_like x) b.0, adorned_braceless c.edge _))
-    shown (is_lead {p = p} {l = l} {m = y} {n = n} {k = k} {x = x} f g d q r) a c m s b = (
-      lead_placed c k m.no_statement,
-      subst (λ v. Obeys v (lead_context k c) (parenthesize_attributed x)) (lead_level_is p k)
-          (shown d (lead_possible p k) (lead_context k c) (agrees_lead p k c m) (front_lead k c n s) (lead_above k c (is_block_like x), lead_brace p k c y m g)),
-      fits_kind _ x _ (same_kind d (lead_head p k))
-          (subst (λ v. Fits v x (lead_context k c).next) (lead_level_is p k) (fits_shown (lead_place p k) (lead_context k c).next n x (lead_head p k) (front_lead k c n s) q r)),
-      ap (λ b. is_bare_break k && b) (label_stays x) ∙ no_bare_label k l y n (lead_place p k) x f d,
+        (shown d a (attributed_context c) (agrees_attributed _ c m) s (attributed_below c.edge (is_block_like x) b.0, attributed_braceless c.edge _))
+    shown (is_prefixed {p = p} {l = l} {m = y} {n = n} {k = k} {x = x} f g d q r) a c m s b = (
+      prefix_placed c k m.no_statement,
+      subst (λ v. Obeys v (prefix_context k c) (parenthesize_attributed x)) (prefix_level_is p k)
+          (shown d (prefix_possible p k) (prefix_context k c) (agrees_prefix p k c m) (front_prefix k c n s) (prefix_above k c (is_block_like x), prefix_brace p k c y m g)),
+      fits_kind _ x _ (same_kind d (prefix_head p k))
+          (subst (λ v. Fits v x (prefix_context k c).next) (prefix_level_is p k) (fits_shown (prefix_place p k) (prefix_context k c).next n x (prefix_head p k) (front_prefix k c n s) q r)),
+      ap (λ b. is_bare_break k && b) (label_stays x) ∙ no_bare_label k l y n (prefix_place p k) x f d,
     )
-    shown (is_mid {p = p} {l = l} {m = y} {n = n} {x = x} {y = z} {op = op} {count = count} d q r i t o d2 u v w) a c m s b =
+    shown (is_infixed {p = p} {l = l} {m = y} {n = n} {x = x} {y = z} {op = op} {count = count} d q r i t o d2 u v w) a c m s b =
         let f = left_shown p op x r in (
           t,
           shown d a (left_context op c) (agrees_left p op c m) (front_operator y op count i)
@@ -361,13 +361,13 @@ module _ (closed : TypesClose) where
           shown d2 refl (right_context op c) (agrees_right p op c m) s (right_above op c (is_block_like z), right_brace p op c (drop count y) m o),
           fits_kind (level op) z c.next (same_kind d2 refl) (fits_shown (at p (level op)) c.next n z refl s u v),
         )
-    shown (is_post {p = p} {l = l} {m = y} {n = n} {x = x} {k = k} {count = count} d q r i t u o w) a c m s b =
-        let f = left_shown p (post_op k) x r in (
+    shown (is_postfixed {p = p} {l = l} {m = y} {n = n} {x = x} {k = k} {count = count} d q r i t u o w) a c m s b =
+        let f = left_shown p (postfix_op k) x r in (
           t,
-          shown d a (left_context (post_op k) c) (agrees_left p (post_op k) c m) (front_operator y (post_op k) count i)
+          shown d a (left_context (postfix_op k) c) (agrees_left p (postfix_op k) c m) (front_operator y (postfix_op k) count i)
               (no_block_held (is_below (left_edge c.edge)) x (below_left c.edge p.head _ m.head m.no_statement f.1), ap (λ k. k && brace_at l) (left_braceless c.edge) ∙ b.1),
-          fits_left_kind (post_op k) x f.0,
-          post_refused p c k (drop count y) n m s u o,
+          fits_left_kind (postfix_op k) x f.0,
+          postfix_refused p c k (drop count y) n m s u o,
         )
     shown (is_tail {p = p} {l = l} {m = y} {h = h} {n = n} {b = z} {x = x} {k = k} {is = is} {ks = ks} d f t o q) a c m s b =
         let r = tail_shown p c k l y h z x is m b.1 f t (front_trailer k y h n is ks t o) q (shown d a) in
@@ -378,12 +378,12 @@ module _ (closed : TypesClose) where
         (index_shown p c l y z i m b.1 (front_fields y (i ∷ is, n) t) (shown d a)))
     shown (is_frame {p = p} {k = k} {ks = ks} f o g e) a c m s b = (frame_shown p c k ks m g b.0, shown_content o)
 
-    shown_content : {h : Holder} {l n : List Tok} {ks : Kids} → Content h l ks n → ObeysKids (parenthesize_attributed_kids ks)
+    shown_content : {h : Holder} {l n : List Tok} {ks : Children} → Content h l ks n → ObeysChildren (parenthesize_attributed_children ks)
     shown_content holds_none = tt
     shown_content (holds_within g o q) = shown_operands o
     shown_content (holds_bare o) = shown_operands o
 
-    shown_operands : {s : Slot} {l o : List Tok} {ks : Kids} → Operands s l ks o → ObeysKids (parenthesize_attributed_kids ks)
+    shown_operands : {s : Slot} {l o : List Tok} {ks : Children} → Operands s l ks o → ObeysChildren (parenthesize_attributed_children ks)
     shown_operands (no_more q) = tt
     shown_operands (one_more {m = m} {h = h} {n = n} {k = k} {c = c} {x = x} f g d q t more) =
         (λ e. piece_shown k m h n x c t (shown d (piece_possible k)), shown_operands more)

@@ -10,9 +10,9 @@ use Rattle.syn_parts.specs.Form.{then_behind}
 use Rattle.syn_parts.specs.Pat.{an_index}
 use Rattle.syn_parts.specs.Mark.{lifetime_at, brace_at, underscore, constant, star, bang, and}
 use Rattle.syn_grammar.specs.declared.kinds.Place.{Place}
-use Rattle.syn_grammar.specs.Head.{leaf_form, named, label, body, literal_at, range_at, jump_at, loop_at, block_at, continue_word, loop_word, unsafe_word, const_block_at, async_block_at, try_block_at, builtin_at, async_word, try_word, lead_form, minus, let_word, raw_at, raw_word, jump_head, return_word, yield_word, break_word}
+use Rattle.syn_grammar.specs.Head.{leaf_form, named, label, body, literal_at, range_at, jump_at, loop_at, block_at, continue_word, loop_word, unsafe_word, const_block_at, async_block_at, try_block_at, builtin_at, async_word, try_word, prefix_form, minus, let_word, raw_at, raw_word, jump_head, return_word, yield_word, break_word}
 use Rattle.syn_grammar.specs.Slot.{frame_head}
-use Rattle.syn_grammar.specs.Stands.{Node, is_leaf, is_become, is_attributed, is_paren, is_adorned_by, is_lead, is_mid, is_post, is_tail, is_indexed, is_frame, fields_of}
+use Rattle.syn_grammar.specs.Stands.{Node, is_leaf, is_become, is_attributed_verbatim, is_paren, is_attributed_by, is_prefixed, is_infixed, is_postfixed, is_tail, is_indexed, is_frame, fields_of}
 use Rattle.syn_grammar.specs.Tree as e
 use Rattle.syn_grammar.specs.Tree.{Tree, Leaf, Frame, Body, tail, none}
 use Rattle.syn_grammar.specs.Rule.{leaf_labelled, frame_labelled}
@@ -69,7 +69,7 @@ block_label w b l n h =
     let (m, p, q) = behind_some (label.behind (Some w) l) (body.behind b) n j in
     labelled_label w l m p
 
-loop_label : (w : Text) (b : Body) (l n : List Tok) → leaf_form.behind (e.looping (Some w) b) l ≡ Some n → lifetime_at l ≡ true
+loop_label : (w : Text) (b : Body) (l n : List Tok) → leaf_form.behind (e.loop_expr (Some w) b) l ≡ Some n → lifetime_at l ≡ true
 unfolding leaf_form named
 loop_label w b l n h =
     let k = skip_two (continue_word.at l) (continue_word.at l) _ n (skip (jump_at l) _ n (skip (range_at l) _ n (skip_two (underscore.at l) (underscore.at l) _ n (skip (literal_at l) _ n h)))) in
@@ -88,7 +88,7 @@ path_named q w l n h =
 
 leaf_label : (k : Leaf) (l n : List Tok) → leaf_form.behind k l ≡ Some n → leaf_labelled k ≡ true → lifetime_at l ≡ true
 leaf_label (e.block (Some w) b) l n h t = block_label w b l n h
-leaf_label (e.looping (Some w) b) l n h t = loop_label w b l n h
+leaf_label (e.loop_expr (Some w) b) l n h t = loop_label w b l n h
 leaf_label _ l n h t = absurd cc
 
 frame_label : (k : Frame) (l n : List Tok) → frame_head k l ≡ Some n → frame_labelled k ≡ true → lifetime_at l ≡ true
@@ -103,12 +103,12 @@ fields_label (i ∷ is) b = fields_label is (tail b (e.field (an_index i)) none)
 pub label_first : {p : Place} {l n : List Tok} {x : Tree} → Node p l x n → begins_label x ≡ true → lifetime_at l ≡ true
 label_first (is_leaf {l = l} {n = n} {k = k} f g) t = leaf_label k l n f t
 label_first (is_become w d q r s) t = absurd cc
-label_first (is_attributed a more fs f d q r) t = absurd cc
+label_first (is_attributed_verbatim a more fs f d q r) t = absurd cc
 label_first (is_paren d q r) t = absurd cc
-label_first (is_adorned_by f g d) t = absurd cc
-label_first (is_lead f g d q r) t = absurd cc
-label_first (is_mid d q r i t o d2 u v z) h = label_first d h
-label_first (is_post d q r i t b o z) h = label_first d h
+label_first (is_attributed_by f g d) t = absurd cc
+label_first (is_prefixed f g d q r) t = absurd cc
+label_first (is_infixed d q r i t o d2 u v z) h = label_first d h
+label_first (is_postfixed d q r i t b o z) h = label_first d h
 label_first (is_tail {b = b} {x = x} {is = is} d f t k q) h = label_first d (sym (fields_label is b) ∙ ap begins_label (sym q) ∙ h)
 label_first (is_indexed {b = b} {x = x} {i = i} {is = is} d f t q) h = label_first d (sym (fields_label (i ∷ is) b) ∙ ap begins_label (sym q) ∙ h)
 label_first (is_frame {l = l} {h = h} {k = k} f c g e) t = frame_label k l h f t
@@ -129,8 +129,8 @@ break_label true true m n h = absurd cc
 break_label true false m n h = (refl, let r : Some m ≡ Some n = h in cc)
 break_label false c m n h = absurd cc
 
-pub bare_break : (l n : List Tok) → lead_form.behind (e.jump (e.breaking None)) l ≡ Some n → lifetime_at n ≡ false
-unfolding lead_form jump_head
+pub bare_break : (l n : List Tok) → prefix_form.behind (e.jump (e.breaking None)) l ≡ Some n → lifetime_at n ≡ false
+unfolding prefix_form jump_head
 bare_break l n h =
     let k = skip_two (let_word.at l) (let_word.at l) _ n (skip (range_at l) _ n (skip_by (and.at l) _ _ n (no_and (and.at l) (raw_at (drop 1 l)) (raw_word.at (drop 1 l)) n)
     (skip_two (minus.at l) (minus.at l) _ n (skip_two (bang.at l) (bang.at l) _ n (skip_two (star.at l) (star.at l) _ n h))))) in

@@ -18,11 +18,11 @@ use Rattle.syn_grammar.specs.declared.next.Context.{Context}
 use Rattle.syn_grammar.specs.Place.{plain, before_block, at_head, at}
 use Rattle.syn_grammar.specs.Op.{level, is_comparison, goes_on}
 use Rattle.syn_grammar.specs.Front.{begins_expr, ends_open_range, trailer_at, dot_at}
-use Rattle.syn_grammar.specs.Next.{class_of, next_of, takes_next, trails, begins_next, is_block_next, is_brace_next, without_block, enclosed, in_condition, in_arm, left_edge, dot_edge, base_edge, adorned_edge, braceless, left_context, base_context, right_context, adorned_context, lead_context}
-use Rattle.syn_grammar.specs.Stands.{is_range, is_cast, carries, compares, rests, goes_behind, refuses_dots, refuses_arrow, ends, closes, fits_left, fits_base, leaf_stands, lead_stands, lead_place, mid_stands, post_stands, ends_jump, frame_stands, holds_block}
+use Rattle.syn_grammar.specs.Next.{class_of, next_of, takes_next, trails, begins_next, is_block_next, is_brace_next, without_block, enclosed, in_condition, in_arm, left_edge, dot_edge, base_edge, attributed_edge, braceless, left_context, base_context, right_context, attributed_context, prefix_context}
+use Rattle.syn_grammar.specs.Stands.{is_range, is_cast, carries, compares, rests, goes_behind, refuses_dots, refuses_arrow, ends, closes, fits_left, fits_base, leaf_stands, prefix_stands, prefix_place, infix_stands, postfix_stands, ends_jump, frame_stands, holds_block}
 use Rattle.syn_grammar.specs.Tree as e
-use Rattle.syn_grammar.specs.Tree.{Tree, Leaf, Lead, Trailer, Frame, Jump, is_block_leaf, is_block_frame, is_block_like}
-use Rattle.syn_grammar.specs.Rule.{ends_range_next, jump_refuses, leaf_refuses, leaf_misplaced, lead_misplaced, frame_misplaced, is_below, is_below_statement, is_statement, is_braceless, is_brace_delimiter}
+use Rattle.syn_grammar.specs.Tree.{Tree, Leaf, Prefix, Trailer, Frame, Jump, is_block_leaf, is_block_frame, is_block_like}
+use Rattle.syn_grammar.specs.Rule.{ends_range_next, jump_refuses, leaf_refuses, leaf_misplaced, prefix_misplaced, frame_misplaced, is_below, is_below_statement, is_statement, is_braceless, is_brace_delimiter}
 use Rattle.syn_grammar.proofs.Bools.{or_false, both_true, neither, not_it}
 use Rattle.syn_grammar.proofs.Holds.{no_block_held}
 use Rattle.syn_grammar.proofs.Obeys.{Fits, FitsLeft}
@@ -200,26 +200,26 @@ agrees_base p e.index c m =
 agrees_base p (e.method w a) c m = agrees_dot p c (e.method w a) m refl refl
 agrees_base p (e.field f) c m = agrees_dot p c (e.field f) m refl refl
 agrees_base p e.await c m = agrees_dot p c e.await m refl refl
-agrees_base p e.question c m = agrees_dot p c e.question m refl refl
+agrees_base p e.try_expr c m = agrees_dot p c e.try_expr m refl refl
 
-adorned_armed : (x : Edge) → (is_armed (adorned_edge x) ≡ is_armed x) × (is_statement (adorned_edge x) ≡ is_statement x) × (is_below (adorned_edge x) ≡ is_below x) × (is_braceless (adorned_edge x) ≡ false)
-adorned_armed edge.Free = (refl, refl, refl, refl)
-adorned_armed edge.NoBrace = (refl, refl, refl, refl)
-adorned_armed edge.Arm = (refl, refl, refl, refl)
-adorned_armed edge.BelowArm = (refl, refl, refl, refl)
-adorned_armed edge.Statement = (refl, refl, refl, refl)
-adorned_armed edge.BelowStatement = (refl, refl, refl, refl)
+attributed_armed : (x : Edge) → (is_armed (attributed_edge x) ≡ is_armed x) × (is_statement (attributed_edge x) ≡ is_statement x) × (is_below (attributed_edge x) ≡ is_below x) × (is_braceless (attributed_edge x) ≡ false)
+attributed_armed edge.Free = (refl, refl, refl, refl)
+attributed_armed edge.NoBrace = (refl, refl, refl, refl)
+attributed_armed edge.Arm = (refl, refl, refl, refl)
+attributed_armed edge.BelowArm = (refl, refl, refl, refl)
+attributed_armed edge.Statement = (refl, refl, refl, refl)
+attributed_armed edge.BelowStatement = (refl, refl, refl, refl)
 
-pub agrees_adorned : (p : Place) (c : Context) → Agrees p c → Agrees p (adorned_context c)
-agrees_adorned p c m =
-    let q = adorned_armed c.edge in
+pub agrees_attributed : (p : Place) (c : Context) → Agrees p c → Agrees p (attributed_context c)
+agrees_attributed p c m =
+    let q = attributed_armed c.edge in
     record { mode = m.mode; head = λ h. m.head (sym q.0 ∙ h); no_statement = q.1 ∙ m.no_statement; brace = m.brace }
 
-pub adorned_below : (x : Edge) (b : Bool) → is_below x && b ≡ false → is_below (adorned_edge x) && b ≡ false
-adorned_below x b h = ap (λ z. z && b) (adorned_armed x).2 ∙ h
+pub attributed_below : (x : Edge) (b : Bool) → is_below x && b ≡ false → is_below (attributed_edge x) && b ≡ false
+attributed_below x b h = ap (λ z. z && b) (attributed_armed x).2 ∙ h
 
-pub adorned_braceless : (x : Edge) (b : Bool) → is_braceless (adorned_edge x) && b ≡ false
-adorned_braceless x b = ap (λ z. z && b) (adorned_armed x).3
+pub attributed_braceless : (x : Edge) (b : Bool) → is_braceless (attributed_edge x) && b ≡ false
+attributed_braceless x b = ap (λ z. z && b) (attributed_armed x).3
 
 braceless_calm : (b : Bool) → is_calm (braceless b) ≡ true
 braceless_calm true = refl
@@ -236,14 +236,14 @@ braceless_above false = refl
 pub agrees_right : (p : Place) (k : Infix) (c : Context) → Agrees p c → Agrees (at p (level k)) (right_context k c)
 agrees_right p k c m = agrees_calm (at p (level k)) (right_context k c) m.mode (braceless_calm _) m.brace
 
-pub agrees_lead : (p : Place) (k : Lead) (c : Context) → Agrees p c → Agrees (lead_place p k) (lead_context k c)
-agrees_lead p (e.unary op) c m = agrees_calm _ (lead_context (e.unary op) c) m.mode refl m.brace
-agrees_lead p (e.reference b) c m = agrees_calm _ (lead_context (e.reference b) c) m.mode refl m.brace
-agrees_lead p (e.raw_addr b) c m = agrees_calm _ (lead_context (e.raw_addr b) c) m.mode refl m.brace
-agrees_lead p (e.range_to op) c m = agrees_calm _ (lead_context (e.range_to op) c) m.mode (braceless_calm _) m.brace
-agrees_lead p (e.binding x) c m = agrees_calm _ (lead_context (e.binding x) c) m.mode refl m.brace
-agrees_lead p (e.jump j) c m = agrees_calm _ (lead_context (e.jump j) c) refl (braceless_calm _) (and-false _)
-agrees_lead p (e.closure h) c m = agrees_calm _ (lead_context (e.closure h) c) m.mode refl m.brace
+pub agrees_prefix : (p : Place) (k : Prefix) (c : Context) → Agrees p c → Agrees (prefix_place p k) (prefix_context k c)
+agrees_prefix p (e.unary op) c m = agrees_calm _ (prefix_context (e.unary op) c) m.mode refl m.brace
+agrees_prefix p (e.reference b) c m = agrees_calm _ (prefix_context (e.reference b) c) m.mode refl m.brace
+agrees_prefix p (e.raw_addr b) c m = agrees_calm _ (prefix_context (e.raw_addr b) c) m.mode refl m.brace
+agrees_prefix p (e.range_to op) c m = agrees_calm _ (prefix_context (e.range_to op) c) m.mode (braceless_calm _) m.brace
+agrees_prefix p (e.let_expr x) c m = agrees_calm _ (prefix_context (e.let_expr x) c) m.mode refl m.brace
+agrees_prefix p (e.jump j) c m = agrees_calm _ (prefix_context (e.jump j) c) refl (braceless_calm _) (and-false _)
+agrees_prefix p (e.closure h) c m = agrees_calm _ (prefix_context (e.closure h) c) m.mode refl m.brace
 
 front_without : (n : Next) (l : List Tok) → Front n l → Front (without_block n) l
 front_without next.Block l f = front_jump next.Block l f
@@ -271,23 +271,23 @@ front_without next.Dot l f = f
 front_without next.Question l f = f
 front_without next.Brace l f = f
 
-pub front_lead : (k : Lead) (c : Context) (l : List Tok) → Front c.next l → Front (lead_context k c).next l
-front_lead (e.unary op) c l f = f
-front_lead (e.reference b) c l f = f
-front_lead (e.raw_addr b) c l f = f
-front_lead (e.range_to op) c l f = f
-front_lead (e.binding x) c l f = f
-front_lead (e.jump j) c l f = front_without c.next l f
-front_lead (e.closure h) c l f = f
+pub front_prefix : (k : Prefix) (c : Context) (l : List Tok) → Front c.next l → Front (prefix_context k c).next l
+front_prefix (e.unary op) c l f = f
+front_prefix (e.reference b) c l f = f
+front_prefix (e.raw_addr b) c l f = f
+front_prefix (e.range_to op) c l f = f
+front_prefix (e.let_expr x) c l f = f
+front_prefix (e.jump j) c l f = front_without c.next l f
+front_prefix (e.closure h) c l f = f
 
-pub lead_above : (k : Lead) (c : Context) (b : Bool) → is_below (lead_context k c).edge && b ≡ false
-lead_above (e.unary op) c b = refl
-lead_above (e.reference m) c b = refl
-lead_above (e.raw_addr m) c b = refl
-lead_above (e.range_to op) c b = ap (λ z. z && b) (braceless_above _)
-lead_above (e.binding x) c b = refl
-lead_above (e.jump j) c b = ap (λ z. z && b) (braceless_above _)
-lead_above (e.closure h) c b = refl
+pub prefix_above : (k : Prefix) (c : Context) (b : Bool) → is_below (prefix_context k c).edge && b ≡ false
+prefix_above (e.unary op) c b = refl
+prefix_above (e.reference m) c b = refl
+prefix_above (e.raw_addr m) c b = refl
+prefix_above (e.range_to op) c b = ap (λ z. z && b) (braceless_above _)
+prefix_above (e.let_expr x) c b = refl
+prefix_above (e.jump j) c b = ap (λ z. z && b) (braceless_above _)
+prefix_above (e.closure h) c b = refl
 
 pub right_above : (k : Infix) (c : Context) (b : Bool) → is_below (right_context k c).edge && b ≡ false
 right_above k c b = ap (λ z. z && b) (braceless_above _)
@@ -322,21 +322,21 @@ jump_brace p (Some w) m h = go p.condition (brace_at m) refl (begins_expr m) (no
 edge_brace : (b x : Bool) → b && x ≡ false → is_braceless (braceless b) && x ≡ false
 edge_brace b x h = ap (λ z. z && x) (braceless_is b) ∙ h
 
-pub lead_brace : (p : Place) (k : Lead) (c : Context) (m : List Tok) → Agrees p c → lead_stands p k m ≡ true → is_braceless (lead_context k c).edge && brace_at m ≡ false
-unfolding lead_stands
-lead_brace p (e.unary op) c m a h = refl
-lead_brace p (e.reference b) c m a h = refl
-lead_brace p (e.raw_addr b) c m a h = refl
-lead_brace p (e.range_to limits.HalfOpen) c m a h = edge_brace c.condition _ (ap (λ b. b && brace_at m) a.mode ∙ open_brace p.condition m (not_it _ h))
-lead_brace p (e.range_to limits.Closed) c m a h = refl
-lead_brace p (e.binding x) c m a h = refl
-lead_brace p (e.jump e.returning) c m a h = refl
-lead_brace p (e.jump e.yielding) c m a h = refl
-lead_brace p (e.jump (e.breaking w)) c m a h = edge_brace c.condition _ (ap (λ b. b && brace_at m) a.mode ∙ jump_brace p w m h)
-lead_brace p (e.closure j) c m a h = refl
+pub prefix_brace : (p : Place) (k : Prefix) (c : Context) (m : List Tok) → Agrees p c → prefix_stands p k m ≡ true → is_braceless (prefix_context k c).edge && brace_at m ≡ false
+unfolding prefix_stands
+prefix_brace p (e.unary op) c m a h = refl
+prefix_brace p (e.reference b) c m a h = refl
+prefix_brace p (e.raw_addr b) c m a h = refl
+prefix_brace p (e.range_to limits.HalfOpen) c m a h = edge_brace c.condition _ (ap (λ b. b && brace_at m) a.mode ∙ open_brace p.condition m (not_it _ h))
+prefix_brace p (e.range_to limits.Closed) c m a h = refl
+prefix_brace p (e.let_expr x) c m a h = refl
+prefix_brace p (e.jump e.returning) c m a h = refl
+prefix_brace p (e.jump e.yielding) c m a h = refl
+prefix_brace p (e.jump (e.breaking w)) c m a h = edge_brace c.condition _ (ap (λ b. b && brace_at m) a.mode ∙ jump_brace p w m h)
+prefix_brace p (e.closure j) c m a h = refl
 
-pub right_brace : (p : Place) (k : Infix) (c : Context) (m : List Tok) → Agrees p c → mid_stands p k m ≡ true → is_braceless (right_context k c).edge && brace_at m ≡ false
-unfolding mid_stands
+pub right_brace : (p : Place) (k : Infix) (c : Context) (m : List Tok) → Agrees p c → infix_stands p k m ≡ true → is_braceless (right_context k c).edge && brace_at m ≡ false
+unfolding infix_stands
 right_brace p (inf.Binary op) c m a h = refl
 right_brace p inf.Assign c m a h = refl
 right_brace p (inf.Range limits.HalfOpen) c m a h = edge_brace c.condition _ (ap (λ b. b && brace_at m) a.mode ∙ open_brace p.condition m (not_it _ h))
@@ -464,21 +464,21 @@ leaf_shown p c (e.block (Some w) x) l n m f g b z i = b
 leaf_shown p c (e.lit x) l n m f g b z i = b
 leaf_shown p c e.infer l n m f g b z i = b
 leaf_shown p c (e.continuing w) l n m f g b z i = b
-leaf_shown p c (e.looping w x) l n m f g b z i = b
+leaf_shown p c (e.loop_expr w x) l n m f g b z i = b
 leaf_shown p c (e.unsafe_block x) l n m f g b z i = b
 leaf_shown p c (e.const_block x) l n m f g b z i = b
 leaf_shown p c (e.async_block x ts) l n m f g b z i = b
 leaf_shown p c (e.try_block ts) l n m f g b z i = b
 leaf_shown p c (e.verbatim ts) l n m f g b z i = b
 
-pub lead_placed : (c : Context) (k : Lead) → is_statement c.edge ≡ false → lead_misplaced c k ≡ false
-lead_placed c (e.binding x) h = h
-lead_placed c (e.unary op) h = refl
-lead_placed c (e.reference m) h = refl
-lead_placed c (e.raw_addr m) h = refl
-lead_placed c (e.range_to op) h = refl
-lead_placed c (e.jump j) h = refl
-lead_placed c (e.closure k) h = refl
+pub prefix_placed : (c : Context) (k : Prefix) → is_statement c.edge ≡ false → prefix_misplaced c k ≡ false
+prefix_placed c (e.let_expr x) h = h
+prefix_placed c (e.unary op) h = refl
+prefix_placed c (e.reference m) h = refl
+prefix_placed c (e.raw_addr m) h = refl
+prefix_placed c (e.range_to op) h = refl
+prefix_placed c (e.jump j) h = refl
+prefix_placed c (e.closure k) h = refl
 
 pub frame_shown : (p : Place) (c : Context) (k : Frame) (ks : _) → Agrees p c → frame_stands p k ks ≡ true → is_below c.edge && is_block_frame k ≡ false → frame_misplaced c k ≡ false
 unfolding frame_stands
@@ -487,11 +487,11 @@ frame_shown p c e.array ks m g b = b
 frame_shown p c e.tuple ks m g b = b
 frame_shown p c e.repeat ks m g b = b
 frame_shown p c (e.closure_block h) ks m g b = b
-frame_shown p c e.branch ks m g b = b
+frame_shown p c e.if_expr ks m g b = b
 frame_shown p c (e.while_loop w) ks m g b = b
 frame_shown p c (e.for_loop w x) ks m g b = b
-frame_shown p c e.choice ks m g b = b
-frame_shown p c e.invisible ks m g b = b
+frame_shown p c e.match_expr ks m g b = b
+frame_shown p c e.group_expr ks m g b = b
 
 -- ---- what a place asks
 
@@ -533,14 +533,14 @@ left_shown p op x h =
     let b = or_false _ _ a.1 in
     (record { no_range = a.0; no_chain = swap (compares x) (is_comparison op) ∙ b.0 }, b.1)
 
-pub lead_head : (p : Place) (k : Lead) → (lead_place p k).head ≡ false
-lead_head p (e.unary op) = refl
-lead_head p (e.reference m) = refl
-lead_head p (e.raw_addr m) = refl
-lead_head p (e.range_to op) = refl
-lead_head p (e.binding x) = refl
-lead_head p (e.jump j) = refl
-lead_head p (e.closure h) = refl
+pub prefix_head : (p : Place) (k : Prefix) → (prefix_place p k).head ≡ false
+prefix_head p (e.unary op) = refl
+prefix_head p (e.reference m) = refl
+prefix_head p (e.raw_addr m) = refl
+prefix_head p (e.range_to op) = refl
+prefix_head p (e.let_expr x) = refl
+prefix_head p (e.jump j) = refl
+prefix_head p (e.closure h) = refl
 
 pub base_below : (p : Place) (c : Context) (k : Trailer) (b : Tree) → Agrees p c → fits_base p k b ≡ true → is_below (base_context k c).edge && is_block_like b ≡ false
 unfolding fits_base
@@ -549,7 +549,7 @@ base_below p c e.index b m h = no_block_held (is_below (base_context e.index c).
 base_below p c (e.method w a) b m h = ap (λ z. z && is_block_like b) (dot_above c.edge)
 base_below p c (e.field f) b m h = ap (λ z. z && is_block_like b) (dot_above c.edge)
 base_below p c e.await b m h = ap (λ z. z && is_block_like b) (dot_above c.edge)
-base_below p c e.question b m h = ap (λ z. z && is_block_like b) (dot_above c.edge)
+base_below p c e.try_expr b m h = ap (λ z. z && is_block_like b) (dot_above c.edge)
 
 pub base_braceless : (k : Trailer) (x : Edge) → is_braceless (base_edge k x) ≡ is_braceless x
 base_braceless e.call x = left_braceless x
@@ -557,9 +557,9 @@ base_braceless e.index x = left_braceless x
 base_braceless (e.method w a) x = dot_braceless x
 base_braceless (e.field f) x = dot_braceless x
 base_braceless e.await x = dot_braceless x
-base_braceless e.question x = dot_braceless x
+base_braceless e.try_expr x = dot_braceless x
 
-pub post_shown : (p : Place) (c : Context) (k : _) (n : List Tok) → Agrees p c → Front c.next n → post_stands p (e.range_from k) n ≡ true → not (ends_range_next c.next) ≡ false
-unfolding post_stands
-post_shown p c limits.HalfOpen n m f h = range_ends c.next p.condition n f (place_brace p c m) h
-post_shown p c limits.Closed n m f h = absurd cc
+pub postfix_shown : (p : Place) (c : Context) (k : _) (n : List Tok) → Agrees p c → Front c.next n → postfix_stands p (e.range_from k) n ≡ true → not (ends_range_next c.next) ≡ false
+unfolding postfix_stands
+postfix_shown p c limits.HalfOpen n m f h = range_ends c.next p.condition n f (place_brace p c m) h
+postfix_shown p c limits.Closed n m f h = absurd cc

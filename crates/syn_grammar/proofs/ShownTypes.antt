@@ -18,8 +18,8 @@ use Rattle.syn_parts.proofs.Marks.{colon2_present, plus_present}
 use Rattle.syn_parts.proofs.Forms.{Alike, Present, behind_some, more_opens, when_refuses, mark_refuses, inside_refuses, shown_refuses, pure_refuses}
 use Rattle.syn_parts.proofs.Parts.{whole_segment_alike}
 use Rattle.syn_parts.proofs.TypesBack.{bound_whole}
-use Rattle.syn_parts.proofs.TypesTold.{type_opens, from_bang, from_star, by_words, past_fn, path_named}
-use Rattle.syn_parts.proofs.Told.{first_only, second_only, mark_tells}
+use Rattle.syn_parts.proofs.TypesComplete.{type_opens, from_bang, from_star, by_words, past_fn, path_named}
+use Rattle.syn_parts.proofs.Complete.{first_only, second_only, mark_tells}
 use Rattle.syn_grammar.proofs.Chains.{only_some}
 use Rattle.syn_grammar.proofs.Shown.{TypesClose}
 

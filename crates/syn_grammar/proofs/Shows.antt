@@ -144,7 +144,7 @@ shows_trailer e.index i l = record { same = refl }
 shows_trailer (e.method w a) i l = record { same = refl }
 shows_trailer (e.field m) i l = record { same = refl }
 shows_trailer e.await i l = record { same = refl }
-shows_trailer e.question i l = record { same = refl }
+shows_trailer e.try_expr i l = record { same = refl }
 
 pub shows_operator : (k : Infix) (l : List Tok) → Shows (class_of k) (infix_own k l)
 unfolding infix_at trailer_at bracket_at dot_at question_at begins_expr sign_begins ends_open_range left_arrow_at three_dots_at sign_at word_at lifetime_at brace_at round_at group_at ends_types

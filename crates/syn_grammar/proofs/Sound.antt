@@ -11,19 +11,19 @@ use Rattle.syn_parts.specs.Part.{inner_attributes}
 use Rattle.syn_grammar.specs.declared.kinds.Place.{Place}
 use Rattle.syn_grammar.specs.Place.{plain, before_block}
 use Rattle.syn_grammar.specs.Tree as tr
-use Rattle.syn_grammar.specs.Tree.{Tree, Kids, Frame, Piece, Ending, leaf, frame, none, kid, plain_block, is_silent}
+use Rattle.syn_grammar.specs.Tree.{Tree, Children, Frame, Piece, Ending, leaf, frame, none, child, plain_block, is_silent}
 use Rattle.syn_grammar.specs.Head.{leaf_form}
 use Rattle.syn_grammar.specs.Slot.{Slot, Holder, elements, conditions, scrutinees, arms, after, may_end, piece_form, piece_place, ending_at, frame_head, frame_holder, nothing, within, bare, is_chained, if_word, comma_or_end}
-use Rattle.syn_grammar.specs.Stands.{Node, is_leaf, is_frame, Content, holds_none, holds_within, holds_bare, Operands, no_more, one_more, short, block, arms_inside, Stands, ends, closes, ends_piece, ends_list, short_value, takes_block, leaf_stands, frame_stands, frame_ends, is_branch}
-use Rattle.syn_grammar.specs.Read.{Reading, standing, leaf_read, is_scrutinees, ended_by, branch_by, block_by, value_by, operand_of, armed, operands_by, operands, bare_operands, ended_list, content, framed_by, all_of, before}
+use Rattle.syn_grammar.specs.Stands.{Node, is_leaf, is_frame, Content, holds_none, holds_within, holds_bare, Operands, no_more, one_more, short, block, arms_inside, Stands, ends, closes, ends_piece, ends_list, short_value, takes_block, leaf_stands, frame_stands, frame_ends, is_if_expr}
+use Rattle.syn_grammar.specs.Read.{Reading, standing, leaf_read, is_scrutinees, ended_by, if_expr_by, block_by, value_by, operand_of, armed, operands_by, operands, bare_operands, ended_list, content, framed_by, all_of, before}
 use Rattle.syn_grammar.proofs.Chains.{some_is, then_some, all_some, before_some, only_some, chosen, both_true, not_true}
 use Rattle.syn_grammar.proofs.Needs.{Heads}
 
 pub moved : {p : Place} {l : List Tok} (q r : Tree × List Tok) → q ≡ r → Node p l q.0 q.1 → Node p l r.0 r.1
 moved {p} {l} q r h d = subst (λ (s : Tree × List Tok). Node p l s.0 s.1) h d
 
-kids_moved : {s : Slot} {l : List Tok} (q r : Kids × List Tok) → q ≡ r → Operands s l q.0 q.1 → Operands s l r.0 r.1
-kids_moved {s} {l} q r h d = subst (λ (t : Kids × List Tok). Operands s l t.0 t.1) h d
+children_moved : {s : Slot} {l : List Tok} (q r : Children × List Tok) → q ≡ r → Operands s l q.0 q.1 → Operands s l r.0 r.1
+children_moved {s} {l} q r h d = subst (λ (t : Children × List Tok). Operands s l t.0 t.1) h d
 
 is_scrutinee_slot : (s : Slot) → is_scrutinees s ≡ true → s ≡ scrutinees
 is_scrutinee_slot scrutinees h = refl
@@ -50,38 +50,38 @@ module _ (H : Heads) where
     -- ---- operands in places of their own
 
     abbrev Follows : Slot → List Tok → Piece → (Ending × Tree) × List Tok → Type 0
-    Follows s l k c = (ks : Kids) (o : List Tok) → Operands (after k) c.1 ks o → Operands s l (kid k c.0.0 c.0.1 ks) o
+    Follows s l k c = (ks : Children) (o : List Tok) → Operands (after k) c.1 ks o → Operands s l (child k c.0.0 c.0.1 ks) o
 
-    abbrev Chained_by : Reading Kids → Slot → List Tok → List Tok → (Ending × Tree) × List Tok → Piece → Type 0
-    Chained_by inner s l m c k = (piece_form s).behind k l ≡ Some m → and_then (branch_by rec inner m) (ended_by rec k) ≡ Some c → Follows s l k c
+    abbrev Chained_by : Reading Children → Slot → List Tok → List Tok → (Ending × Tree) × List Tok → Piece → Type 0
+    Chained_by inner s l m c k = (piece_form s).behind k l ≡ Some m → and_then (if_expr_by rec inner m) (ended_by rec k) ≡ Some c → Follows s l k c
 
-    branch_sound : (inner : Reading Kids) → ((l : List Tok) (q : Kids × List Tok) → inner l ≡ Some q → Operands conditions l q.0 q.1)
-        → (p : Place) (l : List Tok) (q : Tree × List Tok) → branch_by rec inner l ≡ Some q → (Node p l q.0 q.1) × ((ks : Kids) × (q.0 ≡ frame tr.branch ks))
+    if_expr_sound : (inner : Reading Children) → ((l : List Tok) (q : Children × List Tok) → inner l ≡ Some q → Operands conditions l q.0 q.1)
+        → (p : Place) (l : List Tok) (q : Tree × List Tok) → if_expr_by rec inner l ≡ Some q → (Node p l q.0 q.1) × ((ks : Children) × (q.0 ≡ frame tr.if_expr ks))
     unfolding frame_stands frame_ends
-    branch_sound inner again p l q h =
-        let (w, f) = only_some (if_word.at l) (and_then (inner (drop 1 l)) (λ ks n. Some (frame tr.branch ks, n))) q h in
-        let (z, i, g) = then_some (inner (drop 1 l)) (λ ks n. Some (frame tr.branch ks, n)) q f in
-        let y : (frame tr.branch z.0, z.1) ≡ q = some_is g in
-        (moved (frame tr.branch z.0, z.1) q y (is_frame (rw w refl) (holds_bare (again (drop 1 l) z i)) refl refl), (z.0, ap (λ (r : Tree × List Tok). r.0) (sym y)))
+    if_expr_sound inner again p l q h =
+        let (w, f) = only_some (if_word.at l) (and_then (inner (drop 1 l)) (λ ks n. Some (frame tr.if_expr ks, n))) q h in
+        let (z, i, g) = then_some (inner (drop 1 l)) (λ ks n. Some (frame tr.if_expr ks, n)) q f in
+        let y : (frame tr.if_expr z.0, z.1) ≡ q = some_is g in
+        (moved (frame tr.if_expr z.0, z.1) q y (is_frame (rw w refl) (holds_bare (again (drop 1 l) z i)) refl refl), (z.0, ap (λ (r : Tree × List Tok). r.0) (sym y)))
 
-    chain_sound : (inner : Reading Kids) → ((l : List Tok) (q : Kids × List Tok) → inner l ≡ Some q → Operands conditions l q.0 q.1)
+    chain_sound : (inner : Reading Children) → ((l : List Tok) (q : Children × List Tok) → inner l ≡ Some q → Operands conditions l q.0 q.1)
         → (s : Slot) (l m : List Tok) (c : (Ending × Tree) × List Tok) → (piece_form s).behind tr.chained l ≡ Some m
-        → and_then (branch_by rec inner m) (ended_by rec tr.chained) ≡ Some c → Follows s l tr.chained c
+        → and_then (if_expr_by rec inner m) (ended_by rec tr.chained) ≡ Some c → Follows s l tr.chained c
     unfolding ending_at
     chain_sound inner again s l m c e f =
-        let (z, i, g) = then_some (branch_by rec inner m) (ended_by rec tr.chained) c f in
-        let (node, kind) = branch_sound inner again plain m z i in
-        let v : is_branch z.0 ≡ true = rw kind.1 refl in
+        let (z, i, g) = then_some (if_expr_by rec inner m) (ended_by rec tr.chained) c f in
+        let (node, kind) = if_expr_sound inner again plain m z i in
+        let v : is_if_expr z.0 ≡ true = rw kind.1 refl in
         subst (λ (d : (Ending × Tree) × List Tok). Follows s l tr.chained d) (some_is g) (λ ks o r. one_more e refl node v refl r)
 
-    block_sound : (inner : Reading Kids) → ((l : List Tok) (q : Kids × List Tok) → inner l ≡ Some q → Operands conditions l q.0 q.1)
+    block_sound : (inner : Reading Children) → ((l : List Tok) (q : Children × List Tok) → inner l ≡ Some q → Operands conditions l q.0 q.1)
         → (s : Slot) (l m : List Tok) (k : Piece) (c : (Ending × Tree) × List Tok) → (piece_form s).behind k l ≡ Some m → takes_block k ≡ true
         → block_by rec inner k m ≡ Some c → Follows s l k c
     block_sound inner again s l m k c e t h =
         ⊎_elim (λ j.
         let (g, i, f) = then_some (group_at del.Brace m) (λ i n. Some ((tr.no_ending, plain_block i), n)) c j.1 in
         subst (λ (d : (Ending × Tree) × List Tok). Follows s l k d) (some_is f) (λ ks o d. block e t i d)) (λ j.
-        let (d, f) = only_some (is_chained k) (and_then (branch_by rec inner m) (ended_by rec k)) c j.1 in
+        let (d, f) = only_some (is_chained k) (and_then (if_expr_by rec inner m) (ended_by rec k)) c j.1 in
         let v = is_chained_piece k d in
         subst (λ (r : Piece). Chained_by inner s l m c r) (sym v) (λ i g. chain_sound inner again s l m c i g) e f)
         (chosen (brace_at m) (and_then (group_at del.Brace m) (λ i n. Some ((tr.no_ending, plain_block i), n))) _ (Some c) h)
@@ -99,61 +99,61 @@ module _ (H : Heads) where
         subst (λ (d : (Ending × Tree) × List Tok). Follows s l k d) (some_is b)
         (λ ks o r. one_more e (not_true (is_silent k) d) s'.node (ends_a_piece k z.0 z.1 t s'.ending s'.closing) y r)
 
-    operand_sound : (inner : Reading Kids) → ((l : List Tok) (q : Kids × List Tok) → inner l ≡ Some q → Operands conditions l q.0 q.1)
+    operand_sound : (inner : Reading Children) → ((l : List Tok) (q : Children × List Tok) → inner l ≡ Some q → Operands conditions l q.0 q.1)
         → (s : Slot) (l m : List Tok) (k : Piece) (c : (Ending × Tree) × List Tok) → (piece_form s).behind k l ≡ Some m
         → operand_of rec inner k m ≡ Some c → Follows s l k c
     operand_sound inner again s l m k c e h =
         ⊎_elim (λ j. block_sound inner again s l m k c e j.0 j.1) (λ j. value_sound s l m k c (short_value k) refl e j.0 j.1)
         (chosen (takes_block k) (block_by rec inner k m) (value_by rec k (short_value k) m) (Some c) h)
 
-    armed_sound : (inner : Reading Kids) → ((l : List Tok) (q : Kids × List Tok) → inner l ≡ Some q → Operands arms l q.0 q.1)
-        → (l : List Tok) (q : Kids × List Tok) → and_then (rec before_block l) (armed rec inner) ≡ Some q → Operands scrutinees l q.0 q.1
+    armed_sound : (inner : Reading Children) → ((l : List Tok) (q : Children × List Tok) → inner l ≡ Some q → Operands arms l q.0 q.1)
+        → (l : List Tok) (q : Children × List Tok) → and_then (rec before_block l) (armed rec inner) ≡ Some q → Operands scrutinees l q.0 q.1
     armed_sound inner again l q h =
         let (z, i, f) = then_some (rec before_block l) (armed rec inner) q h in
         let (g, j, k) = then_some (group_at del.Brace z.1) _ q f in
-        let (a, u, v) = then_some (inner_attributes.reads g.0) (λ ats j. before (all_of (inner j)) (λ ks. kid tr.scrutinee (tr.opened ats) z.0 ks) g.1) q k in
-        let (ks, w, y) = before_some (all_of (inner a.1)) (λ ks. kid tr.scrutinee (tr.opened a.0) z.0 ks) g.1 q v in
+        let (a, u, v) = then_some (inner_attributes.reads g.0) (λ ats j. before (all_of (inner j)) (λ ks. child tr.scrutinee (tr.opened ats) z.0 ks) g.1) q k in
+        let (ks, w, y) = before_some (all_of (inner a.1)) (λ ks. child tr.scrutinee (tr.opened a.0) z.0 ks) g.1 q v in
         let s = sound before_block l z.0 z.1 i in
-        kids_moved (kid tr.scrutinee (tr.opened a.0) z.0 ks, g.1) q y
+        children_moved (child tr.scrutinee (tr.opened a.0) z.0 ks, g.1) q y
         (arms_inside s.node s.ending s.closing j (H.inners.sound g.0 a.0 a.1 u) (again a.1 (ks, []) (all_some (inner a.1) ks w)))
 
-    abbrev next_by : (Slot → Reading Kids) → Piece → Reading Kids
-    next_by more k m = and_then (operand_of rec (more conditions) k m) (λ c n. and_then (more (after k) n) (λ ks o. Some (kid k c.0 c.1 ks, o)))
+    abbrev next_by : (Slot → Reading Children) → Piece → Reading Children
+    next_by more k m = and_then (operand_of rec (more conditions) k m) (λ c n. and_then (more (after k) n) (λ ks o. Some (child k c.0 c.1 ks, o)))
 
-    by_sound : (more : Slot → Reading Kids) → ((s : Slot) (l : List Tok) (q : Kids × List Tok) → more s l ≡ Some q → Operands s l q.0 q.1)
-        → (s : Slot) (l : List Tok) (q : Kids × List Tok) → operands_by rec more s l ≡ Some q → Operands s l q.0 q.1
+    by_sound : (more : Slot → Reading Children) → ((s : Slot) (l : List Tok) (q : Children × List Tok) → more s l ≡ Some q → Operands s l q.0 q.1)
+        → (s : Slot) (l : List Tok) (q : Children × List Tok) → operands_by rec more s l ≡ Some q → Operands s l q.0 q.1
     by_sound more again s l q h =
         ⊎_elim (λ j. subst (λ (v : Slot). Operands v l q.0 q.1) (sym (is_scrutinee_slot s j.0)) (armed_sound (more arms) (again arms) l q j.1))
-        (λ j. ⊎_elim (λ k. kids_moved (none, l) q (some_is k.1) (no_more k.0)) (λ k. pieces k.1)
+        (λ j. ⊎_elim (λ k. children_moved (none, l) q (some_is k.1) (no_more k.0)) (λ k. pieces k.1)
         (chosen (may_end s l) (Some (none, l)) (and_then ((piece_form s).reads l) (next_by more)) (Some q) j.1))
         (chosen (is_scrutinees s) (and_then (rec before_block l) (armed rec (more arms))) _ (Some q) h)
       where
         pieces : and_then ((piece_form s).reads l) (next_by more) ≡ Some q → Operands s l q.0 q.1
         pieces h =
             let (k, i, f) = then_some ((piece_form s).reads l) (next_by more) q h in
-            let (c, j, g) = then_some (operand_of rec (more conditions) k.0 k.1) (λ c n. and_then (more (after k.0) n) (λ ks o. Some (kid k.0 c.0 c.1 ks, o))) q f in
-            let (z, u, v) = then_some (more (after k.0) c.1) (λ ks o. Some (kid k.0 c.0.0 c.0.1 ks, o)) q g in
-            kids_moved (kid k.0 c.0.0 c.0.1 z.0, z.1) q (some_is v)
+            let (c, j, g) = then_some (operand_of rec (more conditions) k.0 k.1) (λ c n. and_then (more (after k.0) n) (λ ks o. Some (child k.0 c.0 c.1 ks, o))) q f in
+            let (z, u, v) = then_some (more (after k.0) c.1) (λ ks o. Some (child k.0 c.0.0 c.0.1 ks, o)) q g in
+            children_moved (child k.0 c.0.0 c.0.1 z.0, z.1) q (some_is v)
             (operand_sound (more conditions) (again conditions) s l k.1 k.0 c ((H.pieces s).sound l k.0 k.1 i) j z.0 z.1 (again (after k.0) c.1 z u))
 
-    operands_sound : (n : ℕ) (s : Slot) (l : List Tok) (q : Kids × List Tok) → operands rec n s l ≡ Some q → Operands s l q.0 q.1
+    operands_sound : (n : ℕ) (s : Slot) (l : List Tok) (q : Children × List Tok) → operands rec n s l ≡ Some q → Operands s l q.0 q.1
     unfolding operands
     operands_sound zero s l q h = absurd cc
     operands_sound (suc n) s l q h = by_sound (operands rec n) (λ v m r g. operands_sound n v m r g) s l q h
 
-    pub bare_sound : (s : Slot) (l : List Tok) (q : Kids × List Tok) → bare_operands rec s l ≡ Some q → Operands s l q.0 q.1
+    pub bare_sound : (s : Slot) (l : List Tok) (q : Children × List Tok) → bare_operands rec s l ≡ Some q → Operands s l q.0 q.1
     unfolding bare_operands
     bare_sound s l q h = operands_sound (suc (weight l)) s l q h
 
-    pub content_sound : (k : Holder) (l : List Tok) (q : Kids × List Tok) → content rec k l ≡ Some q → Content k l q.0 q.1
+    pub content_sound : (k : Holder) (l : List Tok) (q : Children × List Tok) → content rec k l ≡ Some q → Content k l q.0 q.1
     unfolding content
-    content_sound nothing l q h = subst (λ (r : Kids × List Tok). Content nothing l r.0 r.1) (some_is h) holds_none
+    content_sound nothing l q h = subst (λ (r : Children × List Tok). Content nothing l r.0 r.1) (some_is h) holds_none
     content_sound (bare s) l q h = holds_bare (bare_sound s l q h)
     content_sound (within d s b) l q h =
         let (g, i, f) = then_some (group_at d l) (λ i n. and_then (bare_operands rec s i) (λ ks o. ended_list rec b ks o n)) q h in
         let (z, j, k) = then_some (bare_operands rec s g.0) (λ ks o. ended_list rec b ks o g.1) q f in
         let (u, v) = only_some (ends_list b z.1) (Some (z.0, g.1)) q k in
-        subst (λ (r : Kids × List Tok). Content (within d s b) l r.0 r.1) (some_is v) (holds_within i (bare_sound s g.0 z j) u)
+        subst (λ (r : Children × List Tok). Content (within d s b) l r.0 r.1) (some_is v) (holds_within i (bare_sound s g.0 z j) u)
 
     pub framed_sound : (p : Place) (k : Frame) (l m : List Tok) (q : Tree × List Tok) → frame_head k l ≡ Some m → framed_by rec p k m ≡ Some q → Node p l q.0 q.1
     framed_sound p k l m q e h =
@@ -164,7 +164,7 @@ module _ (H : Heads) where
 
 -- ---- operands of a list, taken apart
 
-pub record Element (l : List Tok) (c : Ending) (x : Tree) (ks : Kids) (o : List Tok) : Type 0 where
+pub record Element (l : List Tok) (c : Ending) (x : Tree) (ks : Children) (o : List Tok) : Type 0 where
   pub middle : List Tok
   pub rest : List Tok
   pub node : Node plain l x middle
@@ -178,7 +178,7 @@ unfolding piece_form
 element_at tr.element l m h = (refl, some_is h)
 element_at _ l m h = absurd cc
 
-element_by : (k : Piece) (l m h n o : List Tok) (c : Ending) (x : Tree) (ks : Kids) → (k ≡ tr.element) × (l ≡ m) → Node (piece_place k) m x h → ends_piece k x h ≡ true → ending_at k x h ≡ Some (c, n)
+element_by : (k : Piece) (l m h n o : List Tok) (c : Ending) (x : Tree) (ks : Children) → (k ≡ tr.element) × (l ≡ m) → Node (piece_place k) m x h → ends_piece k x h ≡ true → ending_at k x h ≡ Some (c, n)
     → Operands (after k) n ks o → Element l c x ks o
 unfolding ending_at
 element_by tr.element l m h n o c x ks (v, w) d f g more =
@@ -186,7 +186,7 @@ element_by tr.element l m h n o c x ks (v, w) d f g more =
     record { middle = h; rest = n; node = subst (λ z. Node plain z x h) (sym w) d; ending = a; closing = b; behind = g; more = more }
 element_by _ l m h n o c x ks (v, w) d f g more = absurd cc
 
-pub element_is : {l o : List Tok} {k : Piece} {c : Ending} {x : Tree} {ks : Kids} → Operands elements l (kid k c x ks) o → Element l c x ks o
+pub element_is : {l o : List Tok} {k : Piece} {c : Ending} {x : Tree} {ks : Children} → Operands elements l (child k c x ks) o → Element l c x ks o
 element_is {l} {o} {k} {c} {x} {ks} (one_more {m = m} {h = h} {n = n} e s d f g more) = element_by k l m h n o c x ks (element_at k l m e) d f g more
 element_is {l} {o} {k} (short {m = m} {x = v} e u g more) = let (w, y) = element_at k l m e in let i : short_value tr.element ≡ Some v = subst (λ z. short_value z ≡ Some v) w u in absurd cc
 element_is {l} {o} {k} (block {m = m} e v g more) = let (w, y) = element_at k l m e in let i : takes_block tr.element ≡ true = subst (λ z. takes_block z ≡ true) w v in absurd cc

@@ -12,8 +12,8 @@ use Rattle.syn_grammar.specs.declared.kinds.Infix.{Infix}
 use Rattle.syn_grammar.specs.Place.{at, takes}
 use Rattle.syn_grammar.specs.Op.{infix_at, level}
 use Rattle.syn_grammar.specs.Tree as tr
-use Rattle.syn_grammar.specs.Tree.{Tree, Post, Trailer, leaf, adorned, mid, post, tail, post_op}
-use Rattle.syn_grammar.specs.Read.{Reading, content, is_taken, taken, atom, trailed_by, indexed_by, dotted_by, trailed, trail, core, adorned_by, attributed, verbatim_of, operand, post_made, mid_read, longer, closing, turn, climb, at_place, stop, taken_by, taken_at, next_operator, operation}
+use Rattle.syn_grammar.specs.Tree.{Tree, Postfix, Trailer, leaf, attributed, infixed, postfixed, tail, postfix_op}
+use Rattle.syn_grammar.specs.Read.{Reading, content, is_taken, taken, atom, trailed_by, indexed_by, dotted_by, trailed, trail, core, attributed_by, read_attributed, verbatim_of, operand, postfix_made, infix_read, longer, closing, turn, climb, at_place, stop, taken_by, taken_at, next_operator, operation}
 use Rattle.syn_grammar.proofs.Chains.{some_is, then_some, only_some, chosen}
 use Rattle.syn_grammar.proofs.Needs.{Heads}
 use Rattle.syn_parts.specs.Mark.{pound, round_at}
@@ -23,14 +23,14 @@ use Rattle.syn_grammar.specs.declared.kinds.Level.{Level}
 use Rattle.syn_grammar.specs.Front.{ends_open_range, dot_at, question_at, bracket_at}
 use Rattle.syn_grammar.specs.Head.{dotted, await_word, method_at}
 use Rattle.syn_grammar.specs.Slot.{trailer_holder}
-use Rattle.syn_grammar.specs.Stands.{Node, is_attributed, is_adorned_by, is_mid, is_post, is_tail, is_indexed, Stands, ends, closes, ends_operation, fits_left, fits_base, mid_stands, post_stands, post_behind, may_adorn, rests, is_range, fields_of, name_at, indices_at, trailer_head, fields_head, goes_behind, carries, is_cast}
+use Rattle.syn_grammar.specs.Stands.{Node, is_attributed_verbatim, is_attributed_by, is_infixed, is_postfixed, is_tail, is_indexed, Stands, ends, closes, ends_operation, fits_left, fits_base, infix_stands, postfix_stands, postfix_behind, takes_attributes, rests, is_range, fields_of, name_at, indices_at, trailer_head, fields_head, goes_behind, carries, is_cast}
 use Rattle.syn_grammar.proofs.Sound.{moved, content_sound}
 use Rattle.syn_grammar.proofs.SoundAtoms.{atom_sound, skip, no_some}
 
 abbrev is_bare : Trailer → Bool
 is_bare tr.call = true
 is_bare tr.index = true
-is_bare tr.question = true
+is_bare tr.try_expr = true
 is_bare _ = false
 
 verbatim_is : (x : Tree) (ts : List Tok) → verbatim_of x ≡ Some ts → x ≡ leaf (tr.verbatim ts)
@@ -41,23 +41,23 @@ not_dotted : (k : Trailer) (l n : List Tok) → is_bare k ≡ true → dotted.be
 unfolding dotted
 not_dotted tr.call l n b h = no_some (method_at l) n (skip (await_word.at l) _ _ n (λ i. no_some (await_word.at l) n i) h)
 not_dotted tr.index l n b h = no_some (method_at l) n (skip (await_word.at l) _ _ n (λ i. no_some (await_word.at l) n i) h)
-not_dotted tr.question l n b h = no_some (method_at l) n (skip (await_word.at l) _ _ n (λ i. no_some (await_word.at l) n i) h)
+not_dotted tr.try_expr l n b h = no_some (method_at l) n (skip (await_word.at l) _ _ n (λ i. no_some (await_word.at l) n i) h)
 not_dotted _ l n b h = absurd cc
 
 dotted_head : (k : Trailer) (m h n : List Tok) (is : List ℕ) → dot_at m ≡ true → name_at (drop 1 m) ≡ Some (is, h) → dotted.behind k h ≡ Some n → trailer_head k m ≡ Some (is, n)
 unfolding trailer_head
 dotted_head tr.call m h n is d a b = absurd (not_dotted tr.call h n refl b)
 dotted_head tr.index m h n is d a b = absurd (not_dotted tr.index h n refl b)
-dotted_head tr.question m h n is d a b = absurd (not_dotted tr.question h n refl b)
+dotted_head tr.try_expr m h n is d a b = absurd (not_dotted tr.try_expr h n refl b)
 dotted_head _ m h n is d a b = rw (d, a, b) refl
 
 less_closes : (a c g : Bool) → not ((a || c) && g) ≡ true → not ((a || false) && g) ≡ true
 less_closes true c g h = h
 less_closes false c g h = refl
 
-adorned_closes : (p : Place) (a : AttributeTree) (more : List AttributeTree) (x : Tree) (n : List Tok) → closes p x n ≡ true → closes p (adorned a more x) n ≡ true
+attributed_closes : (p : Place) (a : AttributeTree) (more : List AttributeTree) (x : Tree) (n : List Tok) → closes p x n ≡ true → closes p (attributed a more x) n ≡ true
 unfolding closes
-adorned_closes p a more x n h = less_closes (carries x) (is_cast x) (goes_behind (rests p x) n) h
+attributed_closes p a more x n h = less_closes (carries x) (is_cast x) (goes_behind (rests p x) n) h
 
 -- a left operand: nothing is asked of it but what stands behind
 record Open (p : Place) (l : List Tok) (q : Tree × List Tok) : Type 0 where
@@ -115,7 +115,7 @@ module _ (H : Heads) (rec : Place → Reading Tree) (sound : (p : Place) (l : Li
   trailed_sound p l m b q d h =
       ⊎_elim (λ j. trailer_sound p l m m b tr.call [] q d refl j.1) (λ f.
       ⊎_elim (λ j. trailer_sound p l m m b tr.index [] q d refl j.1) (λ g.
-      ⊎_elim (λ j. trailer_sound p l m (drop 1 m) b tr.question [] q d (rw j.0 refl) j.1)
+      ⊎_elim (λ j. trailer_sound p l m (drop 1 m) b tr.try_expr [] q d (rw j.0 refl) j.1)
       (λ i. let (a, c) = only_some (dot_at m) (dotted_by rec p b (indices_at (drop 1 m)) (drop 1 m)) q i.1 in dotted_sound p l m b (indices_at (drop 1 m)) q d a refl c)
       (chosen (question_at m) _ _ (Some q) g.1)) (chosen (bracket_at m) _ _ (Some q) f.1)) (chosen (round_at m) _ _ (Some q) h)
 
@@ -135,30 +135,30 @@ module _ (H : Heads) (rec : Place → Reading Tree) (sound : (p : Place) (l : Li
 
   -- ---- attributes
 
-  adorned_sound : (p : Place) (l m n : List Tok) (a : AttributeTree) (more : List AttributeTree) (x : Tree) (o : Option (List Tok)) (q : Tree × List Tok)
-      → outer_attributes.behind (a ∷ more) l ≡ Some m → Open p m (x, n) → verbatim_of x ≡ o → adorned_by p l m a more x o n ≡ Some q → Open p l q
+  attributed_sound : (p : Place) (l m n : List Tok) (a : AttributeTree) (more : List AttributeTree) (x : Tree) (o : Option (List Tok)) (q : Tree × List Tok)
+      → outer_attributes.behind (a ∷ more) l ≡ Some m → Open p m (x, n) → verbatim_of x ≡ o → attributed_by p l m a more x o n ≡ Some q → Open p l q
   unfolding closes
-  adorned_sound p l m n a more x None q b d v h =
-      let (f, g) = only_some (may_adorn p x) (Some (adorned a more x, n)) q h in
-      opened (adorned a more x, n) q (some_is g) (record { node = is_adorned_by b f d.node; closing = adorned_closes p a more x n d.closing })
-  adorned_sound p l m n a more x (Some ts) q b d v h =
+  attributed_sound p l m n a more x None q b d v h =
+      let (f, g) = only_some (takes_attributes p x) (Some (attributed a more x, n)) q h in
+      opened (attributed a more x, n) q (some_is g) (record { node = is_attributed_by b f d.node; closing = attributed_closes p a more x n d.closing })
+  attributed_sound p l m n a more x (Some ts) q b d v h =
       let (f, g) = only_some (is_taken l m) (Some (leaf (tr.verbatim (taken l m ++ ts)), n)) q h in
       let w = subst (λ z. Open p m (z, n)) (verbatim_is x ts v) d in
       opened (leaf (tr.verbatim (taken l m ++ ts)), n) q (some_is g)
-      (record { node = is_attributed a more (taken l m) b w.node (sym (same_toks-true (taken l m ++ m) l f)) refl; closing = w.closing })
+      (record { node = is_attributed_verbatim a more (taken l m) b w.node (sym (same_toks-true (taken l m ++ m) l f)) refl; closing = w.closing })
 
-  attributed_sound : (p : Place) (l m : List Tok) (ats : List AttributeTree) (z q : Tree × List Tok) → outer_attributes.behind ats l ≡ Some m → Open p m z → attributed p l m ats z.0 z.1 ≡ Some q → Open p l q
-  attributed_sound p l m [] z q b d h = absurd cc
-  attributed_sound p l m (a ∷ more) z q b d h = adorned_sound p l m z.1 a more z.0 (verbatim_of z.0) q b d refl h
+  read_attributed_sound : (p : Place) (l m : List Tok) (ats : List AttributeTree) (z q : Tree × List Tok) → outer_attributes.behind ats l ≡ Some m → Open p m z → read_attributed p l m ats z.0 z.1 ≡ Some q → Open p l q
+  read_attributed_sound p l m [] z q b d h = absurd cc
+  read_attributed_sound p l m (a ∷ more) z q b d h = attributed_sound p l m z.1 a more z.0 (verbatim_of z.0) q b d refl h
 
   operand_sound : (p : Place) (l : List Tok) (q : Tree × List Tok) → operand rec p l ≡ Some q → Open p l q
   unfolding operand
   operand_sound p l q h =
       ⊎_elim (λ j.
-      let (ats, i, f) = then_some (outer_attributes.reads l) (λ ats m. and_then (core rec p m) (attributed p l m ats)) q j.1 in
-      let (z, k, g) = then_some (core rec p ats.1) (attributed p l ats.1 ats.0) q f in
-      attributed_sound p l ats.1 ats.0 z q (H.outers.sound l ats.0 ats.1 i) (core_sound p ats.1 z k) g) (λ j. core_sound p l q j.1)
-      (chosen (pound.at l) (and_then (outer_attributes.reads l) (λ ats m. and_then (core rec p m) (attributed p l m ats))) (core rec p l) (Some q) h)
+      let (ats, i, f) = then_some (outer_attributes.reads l) (λ ats m. and_then (core rec p m) (read_attributed p l m ats)) q j.1 in
+      let (z, k, g) = then_some (core rec p ats.1) (read_attributed p l ats.1 ats.0) q f in
+      read_attributed_sound p l ats.1 ats.0 z q (H.outers.sound l ats.0 ats.1 i) (core_sound p ats.1 z k) g) (λ j. core_sound p l q j.1)
+      (chosen (pound.at l) (and_then (outer_attributes.reads l) (λ ats m. and_then (core rec p m) (read_attributed p l m ats))) (core rec p l) (Some q) h)
 
   -- ---- operations
 
@@ -169,32 +169,32 @@ module _ (H : Heads) (rec : Place → Reading Tree) (sound : (p : Place) (l : Li
     found : infix_at m ≡ Some (op, count)
     takes_it : takes p.level (level op) ≡ true
 
-  post_sound : (p : Place) (l m n : List Tok) (x : Tree) (k : Post) (count : ℕ) (q : Tree × List Tok) → Left p l m x (post_op k) count → post_behind k (drop count m) ≡ Some n
-      → post_made rec p x k n ≡ Some q → Node p l q.0 q.1
-  post_sound p l m n x k count q d b h =
-      let (f, g) = only_some (post_stands p k n) (operation (post_op k) (post x k) n) q h in
-      let (i, j) = only_some (ends_operation (post_op k) n) (Some (post x k, n)) q g in
-      moved (post x k, n) q (some_is j) (is_post d.node d.closing d.fits d.found d.takes_it b f i)
+  postfix_sound : (p : Place) (l m n : List Tok) (x : Tree) (k : Postfix) (count : ℕ) (q : Tree × List Tok) → Left p l m x (postfix_op k) count → postfix_behind k (drop count m) ≡ Some n
+      → postfix_made rec p x k n ≡ Some q → Node p l q.0 q.1
+  postfix_sound p l m n x k count q d b h =
+      let (f, g) = only_some (postfix_stands p k n) (operation (postfix_op k) (postfixed x k) n) q h in
+      let (i, j) = only_some (ends_operation (postfix_op k) n) (Some (postfixed x k, n)) q g in
+      moved (postfixed x k, n) q (some_is j) (is_postfixed d.node d.closing d.fits d.found d.takes_it b f i)
 
-  mid_sound : (p : Place) (l m : List Tok) (x : Tree) (op : Infix) (count : ℕ) (q : Tree × List Tok) → Left p l m x op count → mid_read rec p x op (drop count m) ≡ Some q → Node p l q.0 q.1
-  mid_sound p l m x op count q d h =
-      let (f, g) = only_some (mid_stands p op (drop count m)) (and_then (rec (at p (level op)) (drop count m)) (λ y. operation op (mid x op y))) q h in
-      let (z, i, j) = then_some (rec (at p (level op)) (drop count m)) (λ y. operation op (mid x op y)) q g in
-      let (a, b) = only_some (ends_operation op z.1) (Some (mid x op z.0, z.1)) q j in
+  infix_sound : (p : Place) (l m : List Tok) (x : Tree) (op : Infix) (count : ℕ) (q : Tree × List Tok) → Left p l m x op count → infix_read rec p x op (drop count m) ≡ Some q → Node p l q.0 q.1
+  infix_sound p l m x op count q d h =
+      let (f, g) = only_some (infix_stands p op (drop count m)) (and_then (rec (at p (level op)) (drop count m)) (λ y. operation op (infixed x op y))) q h in
+      let (z, i, j) = then_some (rec (at p (level op)) (drop count m)) (λ y. operation op (infixed x op y)) q g in
+      let (a, b) = only_some (ends_operation op z.1) (Some (infixed x op z.0, z.1)) q j in
       let s = sound (at p (level op)) (drop count m) z.0 z.1 i in
-      moved (mid x op z.0, z.1) q (some_is b) (is_mid d.node d.closing d.fits d.found d.takes_it f s.node s.ending s.closing a)
+      moved (infixed x op z.0, z.1) q (some_is b) (is_infixed d.node d.closing d.fits d.found d.takes_it f s.node s.ending s.closing a)
 
   longer_sound : (p : Place) (l m : List Tok) (x : Tree) (op : Infix) (count : ℕ) (q : Tree × List Tok) → Left p l m x op count → longer rec p x op (drop count m) ≡ Some q → Node p l q.0 q.1
   unfolding longer
-  longer_sound p l m x (inf.Binary op) count q d h = mid_sound p l m x (inf.Binary op) count q d h
-  longer_sound p l m x inf.Assign count q d h = mid_sound p l m x inf.Assign count q d h
-  longer_sound p l m x (inf.Range limits.Closed) count q d h = mid_sound p l m x (inf.Range limits.Closed) count q d h
+  longer_sound p l m x (inf.Binary op) count q d h = infix_sound p l m x (inf.Binary op) count q d h
+  longer_sound p l m x inf.Assign count q d h = infix_sound p l m x inf.Assign count q d h
+  longer_sound p l m x (inf.Range limits.Closed) count q d h = infix_sound p l m x (inf.Range limits.Closed) count q d h
   longer_sound p l m x (inf.Range limits.HalfOpen) count q d h =
-      ⊎_elim (λ j. post_sound p l m (drop count m) x (tr.range_from limits.HalfOpen) count q d refl j.1) (λ j. mid_sound p l m x (inf.Range limits.HalfOpen) count q d j.1)
+      ⊎_elim (λ j. postfix_sound p l m (drop count m) x (tr.range_from limits.HalfOpen) count q d refl j.1) (λ j. infix_sound p l m x (inf.Range limits.HalfOpen) count q d j.1)
       (chosen (ends_open_range p.condition (drop count m)) _ _ (Some q) h)
   longer_sound p l m x inf.Cast count q d h =
-      let (ty, i, f) = then_some ((type false).reads (drop count m)) (λ ty. post_made rec p x (tr.cast ty)) q h in
-      post_sound p l m ty.1 x (tr.cast ty.0) count q d (H.types.sound (drop count m) ty.0 ty.1 i) f
+      let (ty, i, f) = then_some ((type false).reads (drop count m)) (λ ty. postfix_made rec p x (tr.cast ty)) q h in
+      postfix_sound p l m ty.1 x (tr.cast ty.0) count q d (H.types.sound (drop count m) ty.0 ty.1 i) f
 
   climb_sound : (n : ℕ) (p : Place) (l m : List Tok) (x : Tree) (q : Tree × List Tok) → Node p l x m → closes p x m ≡ true → climb rec p n x m ≡ Some q → Stands p l q.0 q.1
   unfolding climb

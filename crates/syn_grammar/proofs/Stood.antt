@@ -22,15 +22,15 @@ use Rattle.syn_grammar.specs.declared.next.Edge.TheVariants as edge
 use Rattle.syn_grammar.specs.declared.next.Context.{Context}
 use Rattle.syn_grammar.specs.Op.{level, infix_at}
 use Rattle.syn_grammar.specs.Front.{some_sign, begins_expr, ends_open_range, dot_at}
-use Rattle.syn_grammar.specs.Next.{begins_next, is_block_next, is_brace_next, left_edge, base_edge, braceless, left_context, base_context, right_context, lead_context, lead_level}
-use Rattle.syn_grammar.specs.Rule.{ends_range_next, jump_refuses, leaf_refuses, is_less_next, post_refuses, is_braceless, is_below, is_bare_break}
+use Rattle.syn_grammar.specs.Next.{begins_next, is_block_next, is_brace_next, left_edge, base_edge, braceless, left_context, base_context, right_context, prefix_context, prefix_level}
+use Rattle.syn_grammar.specs.Rule.{ends_range_next, jump_refuses, leaf_refuses, is_less_next, postfix_refuses, is_braceless, is_below, is_bare_break}
 use Rattle.syn_grammar.specs.Path.{is_try_alone, is_word_alone}
-use Rattle.syn_grammar.specs.Stands.{ends_jump, leaf_stands, lead_stands, mid_stands, post_stands, post_behind}
+use Rattle.syn_grammar.specs.Stands.{ends_jump, leaf_stands, prefix_stands, infix_stands, postfix_stands, postfix_behind}
 use Rattle.syn_grammar.specs.Tree as e
-use Rattle.syn_grammar.specs.Tree.{Tree, Leaf, Lead, Post, Jump, Trailer, leaf, paren, adorned, lead, mid, post, tail, frame, post_op, post_own}
-use Rattle.syn_grammar.specs.WellFormed.{leaf_fits, lead_fits, infix_fits, post_fits}
+use Rattle.syn_grammar.specs.Tree.{Tree, Leaf, Prefix, Postfix, Jump, Trailer, leaf, paren, attributed, prefixed, infixed, postfixed, tail, frame, postfix_op, postfix_own}
+use Rattle.syn_grammar.specs.WellFormed.{leaf_fits, prefix_fits, infix_fits, postfix_fits}
 use Rattle.syn_grammar.proofs.Bools.{or_false, both_true, not_true, or_true, and_true}
-use Rattle.syn_grammar.proofs.HeadBack.{lead_stops, label_stops}
+use Rattle.syn_grammar.proofs.HeadBack.{prefix_stops, label_stops}
 use Rattle.syn_grammar.proofs.HeadLeaf.{leaf_stops}
 use Rattle.syn_grammar.proofs.Obeys.{Obeys}
 use Rattle.syn_grammar.proofs.Shows.{Shows, is_round_next}
@@ -134,7 +134,7 @@ leaf_there p c (e.mac x) l f m s h = refl
 leaf_there p c e.infer l f m s h = refl
 leaf_there p c (e.continuing w) l f m s h = refl
 leaf_there p c (e.block w b) l f m s h = refl
-leaf_there p c (e.looping w b) l f m s h = refl
+leaf_there p c (e.loop_expr w b) l f m s h = refl
 leaf_there p c (e.unsafe_block b) l f m s h = refl
 leaf_there p c (e.const_block b) l f m s h = refl
 leaf_there p c (e.async_block b ts) l f m s h = refl
@@ -156,7 +156,7 @@ leaf_stopped n (e.lit x) l s = refl
 leaf_stopped n (e.mac x) l s = refl
 leaf_stopped n e.infer l s = refl
 leaf_stopped n (e.block w b) l s = refl
-leaf_stopped n (e.looping w b) l s = refl
+leaf_stopped n (e.loop_expr w b) l s = refl
 leaf_stopped n (e.unsafe_block b) l s = refl
 leaf_stopped n (e.const_block b) l s = refl
 leaf_stopped n (e.async_block b ts) l s = refl
@@ -175,7 +175,7 @@ braceless_base e.index edge.NoBrace h = refl
 braceless_base (e.method w a) edge.NoBrace h = refl
 braceless_base (e.field m) edge.NoBrace h = refl
 braceless_base e.await edge.NoBrace h = refl
-braceless_base e.question edge.NoBrace h = refl
+braceless_base e.try_expr edge.NoBrace h = refl
 braceless_base k x h = absurd cc
 
 pub no_brace : (v : Level) (c : Context) (t : Tree) → is_braceless c.edge ≡ true → Obeys v c t → begins_brace t ≡ false
@@ -188,17 +188,17 @@ no_brace v c (leaf e.infer) i h = refl
 no_brace v c (leaf (e.full_range op)) i h = refl
 no_brace v c (leaf (e.bare_jump j)) i h = refl
 no_brace v c (leaf (e.continuing w)) i h = refl
-no_brace v c (leaf (e.looping w b)) i h = refl
+no_brace v c (leaf (e.loop_expr w b)) i h = refl
 no_brace v c (leaf (e.unsafe_block b)) i h = refl
 no_brace v c (leaf (e.const_block b)) i h = refl
 no_brace v c (leaf (e.async_block b ts)) i h = refl
 no_brace v c (leaf (e.try_block ts)) i h = refl
 no_brace v c (leaf (e.verbatim ts)) i h = refl
 no_brace v c (paren m t) i h = refl
-no_brace v c (adorned a more t) i h = refl
-no_brace v c (lead k gs t) i h = refl
-no_brace v c (mid x k y) i h = no_brace v (left_context k c) x (braceless_left c.edge i) h.1
-no_brace v c (post x k) i h = no_brace v (left_context (post_op k) c) x (braceless_left c.edge i) h.1
+no_brace v c (attributed a more t) i h = refl
+no_brace v c (prefixed k gs t) i h = refl
+no_brace v c (infixed x k y) i h = no_brace v (left_context k c) x (braceless_left c.edge i) h.1
+no_brace v c (postfixed x k) i h = no_brace v (left_context (postfix_op k) c) x (braceless_left c.edge i) h.1
 no_brace v c (tail b k ks) i h = no_brace v (base_context k c) b (braceless_base k c.edge i) h.1
 no_brace v c (frame k ks) i h = refl
 
@@ -220,59 +220,59 @@ free_of_brace p c d v w b t l m g h e i = go c.condition refl
 begun_jump : (a b : Bool) → a ≡ true → b ≡ false → not (not a || b) && a ≡ true
 begun_jump a b h k = rw (h, k) refl
 
-pub lead_there : (p : Place) (c : Context) (k : Lead) (t : Tree) (l : List Tok) (b d : Bool) → lead_fits k ≡ true → Meets p c
-    → Obeys (lead_level k) (lead_context k c) t → Front (begins_brace t) b d l → lead_stands p k l ≡ true
-unfolding lead_stands
-lead_there p c (e.unary op) t l b d f m h r = refl
-lead_there p c (e.reference x) t l b d f m h r = refl
-lead_there p c (e.raw_addr x) t l b d f m h r = refl
-lead_there p c (e.range_to limits.HalfOpen) t l b d f m h r =
-    rw (ends_not p.condition l r.stops (free_of_brace p c (lead_context (e.range_to limits.HalfOpen) c) _ true b t l m refl h r.brace refl)) refl
-lead_there p c (e.range_to limits.Closed) t l b d f m h r = refl
-lead_there p c (e.binding x) t l b d f m h r = refl
-lead_there p c (e.jump e.returning) t l b d f m h r = rw r.begins refl
-lead_there p c (e.jump e.yielding) t l b d f m h r = rw r.begins refl
-lead_there p c (e.jump (e.breaking None)) t l b d f m h r =
-    begun_jump (begins_expr l) (p.condition && brace_at l) r.begins (free_of_brace p c (lead_context (e.jump (e.breaking None)) c) _ true b t l m refl h r.brace refl)
-lead_there p c (e.jump (e.breaking (Some w))) t l b d f m h r =
-    let i = free_of_brace p c (lead_context (e.jump (e.breaking (Some w))) c) _ true b t l m refl h r.brace refl in
+pub prefix_there : (p : Place) (c : Context) (k : Prefix) (t : Tree) (l : List Tok) (b d : Bool) → prefix_fits k ≡ true → Meets p c
+    → Obeys (prefix_level k) (prefix_context k c) t → Front (begins_brace t) b d l → prefix_stands p k l ≡ true
+unfolding prefix_stands
+prefix_there p c (e.unary op) t l b d f m h r = refl
+prefix_there p c (e.reference x) t l b d f m h r = refl
+prefix_there p c (e.raw_addr x) t l b d f m h r = refl
+prefix_there p c (e.range_to limits.HalfOpen) t l b d f m h r =
+    rw (ends_not p.condition l r.stops (free_of_brace p c (prefix_context (e.range_to limits.HalfOpen) c) _ true b t l m refl h r.brace refl)) refl
+prefix_there p c (e.range_to limits.Closed) t l b d f m h r = refl
+prefix_there p c (e.let_expr x) t l b d f m h r = refl
+prefix_there p c (e.jump e.returning) t l b d f m h r = rw r.begins refl
+prefix_there p c (e.jump e.yielding) t l b d f m h r = rw r.begins refl
+prefix_there p c (e.jump (e.breaking None)) t l b d f m h r =
+    begun_jump (begins_expr l) (p.condition && brace_at l) r.begins (free_of_brace p c (prefix_context (e.jump (e.breaking None)) c) _ true b t l m refl h r.brace refl)
+prefix_there p c (e.jump (e.breaking (Some w))) t l b d f m h r =
+    let i = free_of_brace p c (prefix_context (e.jump (e.breaking (Some w))) c) _ true b t l m refl h r.brace refl in
     rw (i, r.begins) refl
-lead_there p c (e.closure x) t l b d f m h r = (both_true _ (is_default x.output) f).1
+prefix_there p c (e.closure x) t l b d f m h r = (both_true _ (is_default x.output) f).1
 
 output_stopped : (o : ReturnTree) (l : List Tok) → is_default o ≡ true → sign_at (codes "->") l ≡ false → output_stops true o l ≡ true
 output_stopped t.default l h e = rw e refl
 output_stopped (t.given x) l h e = absurd cc
 
-pub lead_stopped : (k : Lead) (l : List Tok) (a b d : Bool) → lead_fits k ≡ true → Front a b d l → is_bare_break k && b ≡ false → lead_stops k l ≡ true
-lead_stopped (e.unary op) l a b d f r h = refl
-lead_stopped (e.reference true) l a b d f r h = refl
-lead_stopped (e.reference false) l a b d f r h = rw (r.no_mut, r.no_raw) refl
-lead_stopped (e.raw_addr x) l a b d f r h = refl
-lead_stopped (e.range_to op) l a b d f r h = refl
-lead_stopped (e.binding x) l a b d f r h = refl
-lead_stopped (e.jump e.returning) l a b d f r h = refl
-lead_stopped (e.jump e.yielding) l a b d f r h = refl
-lead_stopped (e.jump (e.breaking None)) l a b d f r h = rw (r.label, h) refl
-lead_stopped (e.jump (e.breaking (Some w))) l a b d f r h = refl
-lead_stopped (e.closure x) l a b d f r h = output_stopped x.output l (both_true _ (is_default x.output) f).1 r.no_arrow
+pub prefix_stopped : (k : Prefix) (l : List Tok) (a b d : Bool) → prefix_fits k ≡ true → Front a b d l → is_bare_break k && b ≡ false → prefix_stops k l ≡ true
+prefix_stopped (e.unary op) l a b d f r h = refl
+prefix_stopped (e.reference true) l a b d f r h = refl
+prefix_stopped (e.reference false) l a b d f r h = rw (r.no_mut, r.no_raw) refl
+prefix_stopped (e.raw_addr x) l a b d f r h = refl
+prefix_stopped (e.range_to op) l a b d f r h = refl
+prefix_stopped (e.let_expr x) l a b d f r h = refl
+prefix_stopped (e.jump e.returning) l a b d f r h = refl
+prefix_stopped (e.jump e.yielding) l a b d f r h = refl
+prefix_stopped (e.jump (e.breaking None)) l a b d f r h = rw (r.label, h) refl
+prefix_stopped (e.jump (e.breaking (Some w))) l a b d f r h = refl
+prefix_stopped (e.closure x) l a b d f r h = output_stopped x.output l (both_true _ (is_default x.output) f).1 r.no_arrow
 
 -- ---- behind an operand
 
-pub mid_there : (p : Place) (c : Context) (k : Infix) (t : Tree) (l : List Tok) (b d : Bool) → infix_fits k ≡ true → Meets p c
-    → Obeys (level k) (right_context k c) t → Front (begins_brace t) b d l → mid_stands p k l ≡ true
-unfolding mid_stands
-mid_there p c (inf.Binary op) t l b d f m h r = refl
-mid_there p c inf.Assign t l b d f m h r = refl
-mid_there p c (inf.Range limits.HalfOpen) t l b d f m h r =
+pub infix_there : (p : Place) (c : Context) (k : Infix) (t : Tree) (l : List Tok) (b d : Bool) → infix_fits k ≡ true → Meets p c
+    → Obeys (level k) (right_context k c) t → Front (begins_brace t) b d l → infix_stands p k l ≡ true
+unfolding infix_stands
+infix_there p c (inf.Binary op) t l b d f m h r = refl
+infix_there p c inf.Assign t l b d f m h r = refl
+infix_there p c (inf.Range limits.HalfOpen) t l b d f m h r =
     rw (ends_not p.condition l r.stops (free_of_brace p c (right_context (inf.Range limits.HalfOpen) c) _ true b t l m refl h r.brace refl)) refl
-mid_there p c (inf.Range limits.Closed) t l b d f m h r = refl
-mid_there p c inf.Cast t l b d f m h r = absurd cc
+infix_there p c (inf.Range limits.Closed) t l b d f m h r = refl
+infix_there p c inf.Cast t l b d f m h r = absurd cc
 
-pub post_there : (p : Place) (c : Context) (k : Post) (l : List Tok) → post_fits k ≡ true → Meets p c → Shows c.next l → post_refuses k c.next ≡ false → post_stands p k l ≡ true
-unfolding post_stands
-post_there p c (e.cast x) l f m s h = refl
-post_there p c (e.range_from limits.HalfOpen) l f m s h = open_ends p c l m s (not_true _ h)
-post_there p c (e.range_from limits.Closed) l f m s h = absurd cc
+pub postfix_there : (p : Place) (c : Context) (k : Postfix) (l : List Tok) → postfix_fits k ≡ true → Meets p c → Shows c.next l → postfix_refuses k c.next ≡ false → postfix_stands p k l ≡ true
+unfolding postfix_stands
+postfix_there p c (e.cast x) l f m s h = refl
+postfix_there p c (e.range_from limits.HalfOpen) l f m s h = open_ends p c l m s (not_true _ h)
+postfix_there p c (e.range_from limits.Closed) l f m s h = absurd cc
 
 type_ends : (n : Next) (x : TypeTree) (l : List Tok) → Shows n l → is_less_next n && ends_open x ≡ false → is_round_next n ≡ false → type_stops false x l ≡ true
 type_ends n x l s h r = go (is_less_next n) refl
@@ -281,17 +281,17 @@ type_ends n x l s h r = go (is_less_next n) refl
     go true e = parts_end.types_at_less false x l (ap (λ y. y.less) s.same ∙ e) ∙ ap not (sym (ap (λ y. y && ends_open x) e) ∙ h)
     go false e = parts_end.types false x l (ap (λ y. y.types) s.same ∙ rw (e, r) refl) refl
 
-pub post_back : (c : Context) (b : Tree) (k : Post) (l : List Tok) → post_fits k ≡ true → Shows c.next l → post_refuses k c.next ≡ false → Calls (post b k) c.next
-    → post_behind k (drop (count_of (post_op k)) (post_own k l)) ≡ Some l
-post_back c b (e.cast x) l f s h g = parts_read_back.types false x l f (type_ends c.next x l s h (round g.none))
+pub postfix_back : (c : Context) (b : Tree) (k : Postfix) (l : List Tok) → postfix_fits k ≡ true → Shows c.next l → postfix_refuses k c.next ≡ false → Calls (postfixed b k) c.next
+    → postfix_behind k (drop (count_of (postfix_op k)) (postfix_own k l)) ≡ Some l
+postfix_back c b (e.cast x) l f s h g = parts_read_back.types false x l f (type_ends c.next x l s h (round g.none))
   where
     round : is_round_next c.next && true ≡ false → is_round_next c.next ≡ false
     round h = sym (and_true (is_round_next c.next)) ∙ h
-post_back c b (e.range_from limits.HalfOpen) l f s h g = refl
-post_back c b (e.range_from limits.Closed) l f s h g = refl
+postfix_back c b (e.range_from limits.HalfOpen) l f s h g = refl
+postfix_back c b (e.range_from limits.Closed) l f s h g = refl
 
-pub post_infix : (k : Post) (l : List Tok) → infix_at (post_own k l) ≡ Some (post_op k, count_of (post_op k))
+pub postfix_infix : (k : Postfix) (l : List Tok) → infix_at (postfix_own k l) ≡ Some (postfix_op k, count_of (postfix_op k))
 unfolding infix_at sign_at word_at
-post_infix (e.cast x) l = refl
-post_infix (e.range_from limits.HalfOpen) l = refl
-post_infix (e.range_from limits.Closed) l = refl
+postfix_infix (e.cast x) l = refl
+postfix_infix (e.range_from limits.HalfOpen) l = refl
+postfix_infix (e.range_from limits.Closed) l = refl

@@ -13,19 +13,19 @@ use Rattle.syn_grammar.specs.declared.kinds.Level.TheVariants as lev
 use Rattle.syn_grammar.specs.declared.kinds.Place.{Place}
 use Rattle.syn_grammar.specs.Next.{enclosed}
 use Rattle.syn_grammar.specs.Tree as e
-use Rattle.syn_grammar.specs.Tree.{Tree, Kids, Piece, Ending, Frame, tail, none, kid, fill, is_none, is_one, is_block_like, needs_last_comma}
+use Rattle.syn_grammar.specs.Tree.{Tree, Children, Piece, Ending, Frame, tail, none, child, fill, is_none, is_one, is_block_like, needs_last_comma}
 use Rattle.syn_grammar.specs.Slot as s
 use Rattle.syn_grammar.specs.Slot.{Slot, Holder, after, piece_form, ending_at, comma_or_end, behind_arm}
-use Rattle.syn_grammar.specs.Stands.{Node, is_leaf, is_become, is_attributed, is_paren, is_adorned_by, is_lead, is_mid, is_post, is_tail, is_indexed, is_frame, Content, holds_none, holds_within, holds_bare, Operands, no_more, one_more, short, block, arms_inside, fields_of, short_value, takes_block, ends_list, frame_stands, has_no_comma}
+use Rattle.syn_grammar.specs.Stands.{Node, is_leaf, is_become, is_attributed_verbatim, is_paren, is_attributed_by, is_prefixed, is_infixed, is_postfixed, is_tail, is_indexed, is_frame, Content, holds_none, holds_within, holds_bare, Operands, no_more, one_more, short, block, arms_inside, fields_of, short_value, takes_block, ends_list, frame_stands, has_no_comma}
 use Rattle.syn_grammar.specs.Rule.{place_asks, put, bare}
 use Rattle.syn_grammar.specs.Printed.{OwnSpelling, in_plain, parenthesize_attributed}
 use Rattle.syn_grammar.proofs.Bools.{both}
-use Rattle.syn_grammar.proofs.FillIns.{filled, kids_filled, filled_stays, comma_there, dots_there}
+use Rattle.syn_grammar.proofs.FillIns.{filled, children_filled, filled_stays, comma_there, dots_there}
 use Rattle.syn_grammar.proofs.HeadMoves.{IsLess, left, grouped}
-use Rattle.syn_grammar.proofs.HeadTold.{unwritten_told}
+use Rattle.syn_grammar.proofs.HeadComplete.{unwritten_complete}
 use Rattle.syn_grammar.proofs.Lesses.{here, node_less, operands_left, short_less}
 use Rattle.syn_grammar.proofs.SoundAtoms.{no_some}
-use Rattle.syn_grammar.proofs.Needless.{pairs_there}
+use Rattle.syn_grammar.proofs.NoneRedundant.{pairs_there}
 use Rattle.syn_grammar.proofs.Parenthesized.{plain_stays}
 
 -- ---- nothing stands where nothing is left
@@ -44,12 +44,12 @@ unfolding weight
 less_nil [] n h t = omega (arith, t.less)
 less_nil (x ∷ l) n h t = absurd cc
 
-kid_none : {v : Slot} {l o : List Tok} {ks : Kids} → Operands v l ks o → is_empty l ≡ true → is_none ks ≡ true
-kid_none (no_more g) h = refl
-kid_none (one_more {s = v} {l = l} {m = m} {h = i} {k = k} p q d e g more) h = absurd (less_nil m i (nil_tail l m h (left (here.pieces v) k l m p)) (node_less d))
-kid_none (short {s = v} {l = l} {m = m} {k = k} {x = x} p q g more) h = absurd (less_nil l m h (short_less v k l m x p q))
-kid_none (block {s = v} {l = l} {m = m} {i = i} {n = n} {k = k} p q g more) h = absurd (less_nil m n (nil_tail l m h (left (here.pieces v) k l m p)) (grouped del.Brace m i n g))
-kid_none (arms_inside {l = l} {h = i} d e c g a more) h = absurd (less_nil l i h (node_less d))
+child_none : {v : Slot} {l o : List Tok} {ks : Children} → Operands v l ks o → is_empty l ≡ true → is_none ks ≡ true
+child_none (no_more g) h = refl
+child_none (one_more {s = v} {l = l} {m = m} {h = i} {k = k} p q d e g more) h = absurd (less_nil m i (nil_tail l m h (left (here.pieces v) k l m p)) (node_less d))
+child_none (short {s = v} {l = l} {m = m} {k = k} {x = x} p q g more) h = absurd (less_nil l m h (short_less v k l m x p q))
+child_none (block {s = v} {l = l} {m = m} {i = i} {n = n} {k = k} p q g more) h = absurd (less_nil m n (nil_tail l m h (left (here.pieces v) k l m p)) (grouped del.Brace m i n g))
+child_none (arms_inside {l = l} {h = i} d e c g a more) h = absurd (less_nil l i h (node_less d))
 
 -- ---- commas and dots
 
@@ -79,8 +79,8 @@ last_none : (last : Bool) (n o : List Tok) → is_empty n ≡ true → IsTail o 
 last_none true n o h t f = let a = nil_tail n o h t in let b = f refl in absurd cc
 last_none false n o h t f = refl
 
-more_none : (v : Slot) (n o : List Tok) (ks : Kids) (last : Bool) → is_empty n ≡ true → Operands v n ks o → (last ≡ true → is_empty o ≡ false) → (not (is_none ks) || last) ≡ false
-more_none v n o ks last h d f = rw (kid_none d h) (last_none last n o h (operands_left d) f)
+more_none : (v : Slot) (n o : List Tok) (ks : Children) (last : Bool) → is_empty n ≡ true → Operands v n ks o → (last ≡ true → is_empty o ≡ false) → (not (is_none ks) || last) ≡ false
+more_none v n o ks last h d f = rw (child_none d h) (last_none last n o h (operands_left d) f)
 
 ended_empty : (h n : List Tok) → comma_or_end h ≡ Some (e.no_ending, n) → is_empty n ≡ true
 ended_empty h n g = by_tests (comma.at h) (is_empty h) refl g
@@ -98,15 +98,15 @@ arm_ended x h n g = by_tests (comma.at h) (is_empty h || is_block_like x) refl g
     by_tests false true f g = let o : h ≡ n = ap (λ z. z.1) (some_is g) in subst (λ z. (is_empty z || is_block_like x) ≡ true) o f
     by_tests false false f g = absurd cc
 
-arm_comma : (v : Slot) (x : Tree) (n o : List Tok) (ks : Kids) → Operands v n ks o → (b : Bool) → is_empty n ≡ b → (b || is_block_like x) ≡ true → not (not (is_none ks) && not (is_block_like x)) ≡ true
-arm_comma v x n o ks d true h g = rw (kid_none d h) refl
+arm_comma : (v : Slot) (x : Tree) (n o : List Tok) (ks : Children) → Operands v n ks o → (b : Bool) → is_empty n ≡ b → (b || is_block_like x) ≡ true → not (not (is_none ks) && not (is_block_like x)) ≡ true
+arm_comma v x n o ks d true h g = rw (child_none d h) refl
 arm_comma v x n o ks d false h g = rw g (by_more (is_none ks))
   where
     by_more : (b : Bool) → not (not b && false) ≡ true
     by_more true = refl
     by_more false = refl
 
-comma_ok : (k : Piece) (c : Ending) (x : Tree) (h n o : List Tok) (ks : Kids) (last : Bool) → ending_at k x h ≡ Some (c, n) → Operands (after k) n ks o → (last ≡ true → is_empty o ≡ false)
+comma_ok : (k : Piece) (c : Ending) (x : Tree) (h n o : List Tok) (ks : Children) (last : Bool) → ending_at k x h ≡ Some (c, n) → Operands (after k) n ks o → (last ≡ true → is_empty o ≡ false)
     → comma_there k c x (not (is_none ks)) last ≡ true
 unfolding ending_at
 comma_ok k e.comma x h n o ks last g d f = refl
@@ -120,7 +120,7 @@ comma_ok _ e.no_ending x h n o ks last g d f = refl
 
 no_rest : (v : Slot) (l m : List Tok) → (piece_form v).behind (e.rest false) l ≡ Some m → ⊥
 unfolding piece_form
-no_rest s.fields l m h = unwritten_told l m h
+no_rest s.fields l m h = unwritten_complete l m h
 no_rest s.otherwise l m h = no_some _ m h
 no_rest s.bodies l m h = no_some _ m h
 no_rest _ l m h = absurd cc
@@ -151,13 +151,13 @@ ends_dots true [] h g = absurd cc
 ends_dots true (x ∷ o) h g = refl
 ends_dots false o h g = absurd cc
 
-tuple_filled : (ks : Kids) → kids_filled false ks ≡ true → not (is_one ks && has_no_comma ks) ≡ true → kids_filled (is_one ks) ks ≡ true
+tuple_filled : (ks : Children) → children_filled false ks ≡ true → not (is_one ks && has_no_comma ks) ≡ true → children_filled (is_one ks) ks ≡ true
 tuple_filled none h g = h
-tuple_filled (kid k c x (kid i d y ks)) h g = h
-tuple_filled (kid k e.no_ending x none) h g = absurd cc
-tuple_filled (kid k e.comma x none) h g = h
-tuple_filled (kid k (e.braced b) x none) h g = h
-tuple_filled (kid k (e.opened ats) x none) h g = h
+tuple_filled (child k c x (child i d y ks)) h g = h
+tuple_filled (child k e.no_ending x none) h g = absurd cc
+tuple_filled (child k e.comma x none) h g = h
+tuple_filled (child k (e.braced b) x none) h g = h
+tuple_filled (child k (e.opened ats) x none) h g = h
 
 abbrev dotted : Holder → Bool
 dotted (s.within d v b) = b
@@ -174,36 +174,36 @@ never h = absurd cc
 later : (k : Piece) (last : Bool) → (is_scrutinees (after k) && last) ≡ false
 later k last = rw (after_other k) refl
 
-by_frame : (p : Place) (k : Frame) (ks : Kids) → frame_stands p k ks ≡ true
-    → ((last : Bool) → (last ≡ true → dotted (s.frame_holder k) ≡ true) → (holds_scrutinee (s.frame_holder k) && last) ≡ false → kids_filled last ks ≡ true)
-    → kids_filled (needs_last_comma k ks) ks ≡ true
+by_frame : (p : Place) (k : Frame) (ks : Children) → frame_stands p k ks ≡ true
+    → ((last : Bool) → (last ≡ true → dotted (s.frame_holder k) ≡ true) → (holds_scrutinee (s.frame_holder k) && last) ≡ false → children_filled last ks ≡ true)
+    → children_filled (needs_last_comma k ks) ks ≡ true
 unfolding frame_stands
 by_frame p e.tuple ks g f = tuple_filled ks (f false never refl) g
 by_frame p (e.structure q w d) ks g f = f d (λ h. h) refl
-by_frame p e.choice ks g f = f false never refl
+by_frame p e.match_expr ks g f = f false never refl
 by_frame p _ ks g f = f false never refl
 
 mutual
   node_filled : {p : Place} {l n : List Tok} {x : Tree} → Node p l x n → filled x ≡ true
   node_filled (is_leaf h g) = refl
   node_filled (is_become w d a c i) = refl
-  node_filled (is_attributed a more fs b d i j) = refl
+  node_filled (is_attributed_verbatim a more fs b d i j) = refl
   node_filled (is_paren d a c) = node_filled d
-  node_filled (is_adorned_by b f d) = node_filled d
-  node_filled (is_lead h g d a c) = node_filled d
-  node_filled (is_mid d c f i t g r a b q) = both _ _ (node_filled d) (node_filled r)
-  node_filled (is_post d c f i t b g a) = node_filled d
+  node_filled (is_attributed_by b f d) = node_filled d
+  node_filled (is_prefixed h g d a c) = node_filled d
+  node_filled (is_infixed d c f i t g r a b q) = both _ _ (node_filled d) (node_filled r)
+  node_filled (is_postfixed d c f i t b g a) = node_filled d
   node_filled (is_tail {b = b} {k = k} {is = is} d f t c i) =
       both _ _ (subst (λ z. filled z ≡ true) (sym i) (fields_filled b is (node_filled d))) (content_filled c false never (and-false (holds_scrutinee (s.trailer_holder k))))
   node_filled (is_indexed {b = b} {i = i} {is = is} d f t j) = subst (λ z. filled z ≡ true) (sym j) (fields_filled b (i ∷ is) (node_filled d))
   node_filled (is_frame {p = p} {k = k} {ks = ks} a c g e) = by_frame p k ks g (content_filled c)
 
-  content_filled : {v : Holder} {l n : List Tok} {ks : Kids} → Content v l ks n → (last : Bool) → (last ≡ true → dotted v ≡ true) → (holds_scrutinee v && last) ≡ false → kids_filled last ks ≡ true
+  content_filled : {v : Holder} {l n : List Tok} {ks : Children} → Content v l ks n → (last : Bool) → (last ≡ true → dotted v ≡ true) → (holds_scrutinee v && last) ≡ false → children_filled last ks ≡ true
   content_filled holds_none last f w = refl
   content_filled (holds_within {s = v} {dotted_end = b} {o = o} g d h) last f w = operands_filled d last (λ i. ends_dots b o (f i) h) w
   content_filled (holds_bare d) last f w = operands_filled d last (λ i. let a = f i in absurd cc) w
 
-  operands_filled : {v : Slot} {l o : List Tok} {ks : Kids} → Operands v l ks o → (last : Bool) → (last ≡ true → is_empty o ≡ false) → (is_scrutinees v && last) ≡ false → kids_filled last ks ≡ true
+  operands_filled : {v : Slot} {l o : List Tok} {ks : Children} → Operands v l ks o → (last : Bool) → (last ≡ true → is_empty o ≡ false) → (is_scrutinees v && last) ≡ false → children_filled last ks ≡ true
   operands_filled (no_more h) last f w = refl
   operands_filled (one_more {s = v} {l = l} {m = m} {h = h} {n = n} {o = o} {k = k} {c = c} {x = x} {ks = ks} p q d a g more) last f w =
       both _ _ (both _ _ (dots_ok v k l m p) (comma_ok k c x h n o ks last g more f)) (both _ _ (node_filled d) (operands_filled more last f (later k last)))

@@ -9,14 +9,14 @@ use Rattle.syn_parts.specs.Fits.{fits_if, lifetimes_fit}
 use Rattle.syn_parts.specs.Pat.{PatTree, closure_arg}
 use Rattle.syn_parts.specs.PatOwn.{pat_own}
 use Rattle.syn_parts.proofs.Exact.{tests_exact}
-use Rattle.syn_parts.proofs.PatWholeTold.{pattern_tests_exact}
+use Rattle.syn_parts.proofs.PatWholeComplete.{pattern_tests_exact}
 use Rattle.syn_grammar.specs.declared.kinds.Limits.TheVariants as limits
 use Rattle.syn_grammar.specs.Tree as e
-use Rattle.syn_grammar.specs.Tree.{Tree, Kids, Leaf, Lead, Post, Trailer, Frame, Piece, Ending, ClosureHead, leaf, paren, adorned, lead, mid, post, tail, frame, none, kid}
+use Rattle.syn_grammar.specs.Tree.{Tree, Children, Leaf, Prefix, Postfix, Trailer, Frame, Piece, Ending, ClosureHead, leaf, paren, attributed, prefixed, infixed, postfixed, tail, frame, none, child}
 use Rattle.syn_grammar.specs.Slot as s
 use Rattle.syn_grammar.specs.Slot.{Slot, after, may_end, frame_holder, trailer_holder}
-use Rattle.syn_grammar.specs.WellFormed.{leaf_fits, inputs_fit, head_fits, lead_fits, post_fits, trailer_fits, trailer_slot, frame_slot, frame_fits, piece_fits, may_stop, keeps_block, well, kids_well, is_well_formed}
-use Rattle.syn_grammar.specs.IsWellFormed.{SomeReadBack, AllReadBack, LeafReadBack, HeadReadBack, LeadReadBack, PostReadBack, TrailerReadBack, FrameReadBack, PieceReadBack, first_slot, IsWellFormed, AreWellFormed, TestIsExact}
+use Rattle.syn_grammar.specs.WellFormed.{leaf_fits, inputs_fit, head_fits, prefix_fits, postfix_fits, trailer_fits, trailer_slot, frame_slot, frame_fits, piece_fits, may_stop, keeps_block, well, children_well, is_well_formed}
+use Rattle.syn_grammar.specs.IsWellFormed.{SomeReadBack, AllReadBack, LeafReadBack, HeadReadBack, PrefixReadBack, PostfixReadBack, TrailerReadBack, FrameReadBack, PieceReadBack, first_slot, IsWellFormed, AreWellFormed, TestIsExact}
 use Rattle.syn_grammar.proofs.Bools.{both, both_true, not_it}
 
 is_not : (a : Bool) → a ≡ false → not a ≡ true
@@ -57,19 +57,19 @@ trailer_slot_is e.index = refl
 trailer_slot_is (e.method w a) = refl
 trailer_slot_is (e.field m) = refl
 trailer_slot_is e.await = refl
-trailer_slot_is e.question = refl
+trailer_slot_is e.try_expr = refl
 
-frame_slot_is : (k : Frame) (ks : Kids) → FrameReadBack k ks → first_slot (frame_holder k) ≡ frame_slot k
+frame_slot_is : (k : Frame) (ks : Children) → FrameReadBack k ks → first_slot (frame_holder k) ≡ frame_slot k
 frame_slot_is e.array ks h = refl
 frame_slot_is e.tuple ks h = refl
 frame_slot_is e.repeat ks h = refl
 frame_slot_is (e.structure q p d) ks h = refl
 frame_slot_is (e.closure_block c) ks h = refl
-frame_slot_is e.branch ks h = refl
+frame_slot_is e.if_expr ks h = refl
 frame_slot_is (e.while_loop w) ks h = refl
 frame_slot_is (e.for_loop w p) ks h = refl
-frame_slot_is e.choice ks h = refl
-frame_slot_is e.invisible ks h = absurd h
+frame_slot_is e.match_expr ks h = refl
+frame_slot_is e.group_expr ks h = absurd h
 
 -- ---- what is read back passes
 
@@ -92,32 +92,32 @@ leaf_passes (e.mac m) h = (tests_exact.macros m).0 h
 leaf_passes (e.full_range limits.HalfOpen) h = refl
 leaf_passes (e.full_range limits.Closed) h = absurd cc
 leaf_passes (e.block w b) h = h
-leaf_passes (e.looping w b) h = h
+leaf_passes (e.loop_expr w b) h = h
 leaf_passes (e.unsafe_block b) h = h
 leaf_passes (e.const_block b) h = h
 leaf_passes (e.verbatim ts) h = absurd h
 leaf_passes _ h = refl
 
-lead_passes : (k : Lead) → LeadReadBack k → lead_fits k ≡ true
-lead_passes (e.binding p) h = (pattern_tests_exact.patterns true p).0 h
-lead_passes (e.closure c) h = both _ _ (head_passes c h.0) h.1
-lead_passes _ h = refl
+prefix_passes : (k : Prefix) → PrefixReadBack k → prefix_fits k ≡ true
+prefix_passes (e.let_expr p) h = (pattern_tests_exact.patterns true p).0 h
+prefix_passes (e.closure c) h = both _ _ (head_passes c h.0) h.1
+prefix_passes _ h = refl
 
-post_passes : (k : Post) → PostReadBack k → post_fits k ≡ true
-post_passes (e.cast x) h = (tests_exact.types false x).0 h
-post_passes (e.range_from limits.HalfOpen) h = refl
-post_passes (e.range_from limits.Closed) h = absurd cc
+postfix_passes : (k : Postfix) → PostfixReadBack k → postfix_fits k ≡ true
+postfix_passes (e.cast x) h = (tests_exact.types false x).0 h
+postfix_passes (e.range_from limits.HalfOpen) h = refl
+postfix_passes (e.range_from limits.Closed) h = absurd cc
 
 trailer_passes : (k : Trailer) → TrailerReadBack k → trailer_fits k ≡ true
 trailer_passes (e.method w a) h = both _ _ (is_not _ h.0) ((tests_exact.segment_arguments style.Expr a).0 h.1)
 trailer_passes (e.field m) h = (pattern_tests_exact.members m).0 h
 trailer_passes _ h = refl
 
-frame_passes : (k : Frame) (ks : Kids) → FrameReadBack k ks → frame_fits k ks ≡ true
+frame_passes : (k : Frame) (ks : Children) → FrameReadBack k ks → frame_fits k ks ≡ true
 frame_passes (e.structure q p d) ks (f, g, h) = both _ _ ((tests_exact.qualified_paths style.Expr (q, p)).0 f) (both _ _ (is_not _ g) (is_not _ h))
 frame_passes (e.closure_block c) ks h = both _ _ (head_passes c h.0) (is_not _ h.1)
 frame_passes (e.for_loop w p) ks h = (pattern_tests_exact.patterns true p).0 h
-frame_passes e.invisible ks h = absurd h
+frame_passes e.group_expr ks h = absurd h
 frame_passes _ ks h = refl
 
 piece_passes : (x : Slot) (k : Piece) (c : Ending) (t : Tree) → PieceReadBack x k t → piece_fits x k c t ≡ true
@@ -140,128 +140,128 @@ mutual
   passes : (t : Tree) → IsWellFormed t → well t ≡ true
   passes (leaf k) h = leaf_passes k h
   passes (paren m t) h = passes t h
-  passes (adorned a more t) (f, g, h) = both _ _ f (both _ _ (is_not _ g) (passes t h))
-  passes (lead k gs t) (f, g, h) = both _ _ (lead_passes k f) (both _ _ g (passes t h))
-  passes (mid x k y) (f, g, h) = both _ _ f (both _ _ (passes x g) (passes y h))
-  passes (post x k) (f, g) = both _ _ (post_passes k f) (passes x g)
-  passes (tail b k ks) (f, g, h) = both _ _ (trailer_passes k f) (both _ _ (passes b g) (kids_pass ks (trailer_slot k) (subst (λ x. AreWellFormed x ks) (trailer_slot_is k) h)))
-  passes (frame k ks) (f, g) = both _ _ (frame_passes k ks f) (kids_pass ks (frame_slot k) (subst (λ x. AreWellFormed x ks) (frame_slot_is k ks f) g))
+  passes (attributed a more t) (f, g, h) = both _ _ f (both _ _ (is_not _ g) (passes t h))
+  passes (prefixed k gs t) (f, g, h) = both _ _ (prefix_passes k f) (both _ _ g (passes t h))
+  passes (infixed x k y) (f, g, h) = both _ _ f (both _ _ (passes x g) (passes y h))
+  passes (postfixed x k) (f, g) = both _ _ (postfix_passes k f) (passes x g)
+  passes (tail b k ks) (f, g, h) = both _ _ (trailer_passes k f) (both _ _ (passes b g) (children_pass ks (trailer_slot k) (subst (λ x. AreWellFormed x ks) (trailer_slot_is k) h)))
+  passes (frame k ks) (f, g) = both _ _ (frame_passes k ks f) (children_pass ks (frame_slot k) (subst (λ x. AreWellFormed x ks) (frame_slot_is k ks f) g))
 
-  kids_pass : (ks : Kids) (x : Slot) → AreWellFormed x ks → kids_well x ks ≡ true
-  kids_pass none x h = sym (end_is x) ∙ h
-  kids_pass (kid k c t ks) x (f, g, h, i) =
+  children_pass : (ks : Children) (x : Slot) → AreWellFormed x ks → children_well x ks ≡ true
+  children_pass none x h = sym (end_is x) ∙ h
+  children_pass (child k c t ks) x (f, g, h, i) =
       let w : keeps_block k t || well t ≡ true = elim h [ inl z ↦ or_left _ _ z | inr z ↦ or_right _ _ (passes t z) ] in
-      both _ _ (both _ _ (piece_passes x k c t f) g) (both _ _ w (kids_pass ks (after k) i))
+      both _ _ (both _ _ (piece_passes x k c t f) g) (both _ _ w (children_pass ks (after k) i))
 
 -- ---- what passes is read back
 
-some_told : (o : Option LifetimesTree) → fits_if lifetimes_fit o ≡ true → SomeReadBack lifetimes lifetimes_own o
-some_told None h = tt
-some_told (Some x) h = (tests_exact.bound_lifetimes x).1 h
+some_complete : (o : Option LifetimesTree) → fits_if lifetimes_fit o ≡ true → SomeReadBack lifetimes lifetimes_own o
+some_complete None h = tt
+some_complete (Some x) h = (tests_exact.bound_lifetimes x).1 h
 
-inputs_told : (ps : List PatTree) → inputs_fit ps ≡ true → AllReadBack closure_arg pat_own ps
-inputs_told [] h = tt
-inputs_told (p ∷ ps) h = let (i, j) = both_true _ _ h in ((pattern_tests_exact.closure_args p).1 i, inputs_told ps j)
+inputs_complete : (ps : List PatTree) → inputs_fit ps ≡ true → AllReadBack closure_arg pat_own ps
+inputs_complete [] h = tt
+inputs_complete (p ∷ ps) h = let (i, j) = both_true _ _ h in ((pattern_tests_exact.closure_args p).1 i, inputs_complete ps j)
 
-head_told : (c : ClosureHead) → head_fits c ≡ true → HeadReadBack c
-head_told c h =
+head_complete : (c : ClosureHead) → head_fits c ≡ true → HeadReadBack c
+head_complete c h =
     let (f, g) = both_true _ _ h in
     let (i, j) = both_true _ _ g in
     let (l, m) = both_true _ _ j in
     let (n, o) = both_true _ _ m in
-    (not_it _ f, some_told c.lifetimes i, inputs_told c.inputs l, n, (tests_exact.outputs true c.output).1 o)
+    (not_it _ f, some_complete c.lifetimes i, inputs_complete c.inputs l, n, (tests_exact.outputs true c.output).1 o)
 
-leaf_told : (k : Leaf) → leaf_fits k ≡ true → LeafReadBack k
-leaf_told (e.lit x) h = (tests_exact.unsigned_literals x).1 h
-leaf_told (e.path q p) h = let (i, j) = both_true _ _ h in ((tests_exact.qualified_paths style.Expr (q, p)).1 i, not_it _ j)
-leaf_told (e.mac m) h = (tests_exact.macros m).1 h
-leaf_told (e.full_range limits.HalfOpen) h = refl
-leaf_told (e.full_range limits.Closed) h = absurd cc
-leaf_told (e.block w b) h = h
-leaf_told (e.looping w b) h = h
-leaf_told (e.unsafe_block b) h = h
-leaf_told (e.const_block b) h = h
-leaf_told (e.verbatim ts) h = absurd cc
-leaf_told _ h = tt
+leaf_complete : (k : Leaf) → leaf_fits k ≡ true → LeafReadBack k
+leaf_complete (e.lit x) h = (tests_exact.unsigned_literals x).1 h
+leaf_complete (e.path q p) h = let (i, j) = both_true _ _ h in ((tests_exact.qualified_paths style.Expr (q, p)).1 i, not_it _ j)
+leaf_complete (e.mac m) h = (tests_exact.macros m).1 h
+leaf_complete (e.full_range limits.HalfOpen) h = refl
+leaf_complete (e.full_range limits.Closed) h = absurd cc
+leaf_complete (e.block w b) h = h
+leaf_complete (e.loop_expr w b) h = h
+leaf_complete (e.unsafe_block b) h = h
+leaf_complete (e.const_block b) h = h
+leaf_complete (e.verbatim ts) h = absurd cc
+leaf_complete _ h = tt
 
-lead_told : (k : Lead) → lead_fits k ≡ true → LeadReadBack k
-lead_told (e.binding p) h = (pattern_tests_exact.patterns true p).1 h
-lead_told (e.closure c) h = let (i, j) = both_true _ _ h in (head_told c i, j)
-lead_told _ h = tt
+prefix_complete : (k : Prefix) → prefix_fits k ≡ true → PrefixReadBack k
+prefix_complete (e.let_expr p) h = (pattern_tests_exact.patterns true p).1 h
+prefix_complete (e.closure c) h = let (i, j) = both_true _ _ h in (head_complete c i, j)
+prefix_complete _ h = tt
 
-post_told : (k : Post) → post_fits k ≡ true → PostReadBack k
-post_told (e.cast x) h = (tests_exact.types false x).1 h
-post_told (e.range_from limits.HalfOpen) h = refl
-post_told (e.range_from limits.Closed) h = absurd cc
+postfix_complete : (k : Postfix) → postfix_fits k ≡ true → PostfixReadBack k
+postfix_complete (e.cast x) h = (tests_exact.types false x).1 h
+postfix_complete (e.range_from limits.HalfOpen) h = refl
+postfix_complete (e.range_from limits.Closed) h = absurd cc
 
-trailer_told : (k : Trailer) → trailer_fits k ≡ true → TrailerReadBack k
-trailer_told (e.method w a) h = let (i, j) = both_true _ _ h in (not_it _ i, (tests_exact.segment_arguments style.Expr a).1 j)
-trailer_told (e.field m) h = (pattern_tests_exact.members m).1 h
-trailer_told _ h = tt
+trailer_complete : (k : Trailer) → trailer_fits k ≡ true → TrailerReadBack k
+trailer_complete (e.method w a) h = let (i, j) = both_true _ _ h in (not_it _ i, (tests_exact.segment_arguments style.Expr a).1 j)
+trailer_complete (e.field m) h = (pattern_tests_exact.members m).1 h
+trailer_complete _ h = tt
 
-frame_told : (k : Frame) (ks : Kids) → frame_fits k ks ≡ true → FrameReadBack k ks
-frame_told (e.structure q p d) ks h =
+frame_complete : (k : Frame) (ks : Children) → frame_fits k ks ≡ true → FrameReadBack k ks
+frame_complete (e.structure q p d) ks h =
     let (f, g) = both_true _ _ h in
     let (i, j) = both_true _ _ g in
     ((tests_exact.qualified_paths style.Expr (q, p)).1 f, not_it _ i, not_it _ j)
-frame_told (e.closure_block c) ks h = let (i, j) = both_true _ _ h in (head_told c i, not_it _ j)
-frame_told (e.for_loop w p) ks h = (pattern_tests_exact.patterns true p).1 h
-frame_told e.invisible ks h = absurd cc
-frame_told _ ks h = tt
+frame_complete (e.closure_block c) ks h = let (i, j) = both_true _ _ h in (head_complete c i, not_it _ j)
+frame_complete (e.for_loop w p) ks h = (pattern_tests_exact.patterns true p).1 h
+frame_complete e.group_expr ks h = absurd cc
+frame_complete _ ks h = tt
 
-piece_told : (x : Slot) (k : Piece) (c : Ending) (t : Tree) → piece_fits x k c t ≡ true → PieceReadBack x k t
-piece_told s.elements e.element c t h = tt
-piece_told s.single e.value c t h = tt
-piece_told s.counted e.repeated c t h = tt
-piece_told s.fields (e.field_value ats m b) c t h =
+piece_complete : (x : Slot) (k : Piece) (c : Ending) (t : Tree) → piece_fits x k c t ≡ true → PieceReadBack x k t
+piece_complete s.elements e.element c t h = tt
+piece_complete s.single e.value c t h = tt
+piece_complete s.counted e.repeated c t h = tt
+piece_complete s.fields (e.field_value ats m b) c t h =
     let (f, g) = both_true _ _ h in
     let (i, j) = both_true _ _ g in
     (f, (pattern_tests_exact.members m).1 i, j)
-piece_told s.fields (e.rest d) c t h = tt
-piece_told s.conditions e.condition c t h = tt
-piece_told s.otherwise e.chained c t h = h
-piece_told s.loops e.loop_head c t h = tt
-piece_told s.scrutinees e.scrutinee c t h = tt
-piece_told s.arms (e.guard ats p) c t h = let (i, j) = both_true _ _ h in (i, (pattern_tests_exact.patterns true p).1 j)
-piece_told s.arms (e.arm ats p) c t h = let (i, j) = both_true _ _ h in (i, (pattern_tests_exact.patterns true p).1 j)
-piece_told s.bodies e.guarded c t h = tt
-piece_told s.outputs e.output_block c t h = h
-piece_told x k c t h = absurd cc
+piece_complete s.fields (e.rest d) c t h = tt
+piece_complete s.conditions e.condition c t h = tt
+piece_complete s.otherwise e.chained c t h = h
+piece_complete s.loops e.loop_head c t h = tt
+piece_complete s.scrutinees e.scrutinee c t h = tt
+piece_complete s.arms (e.guard ats p) c t h = let (i, j) = both_true _ _ h in (i, (pattern_tests_exact.patterns true p).1 j)
+piece_complete s.arms (e.arm ats p) c t h = let (i, j) = both_true _ _ h in (i, (pattern_tests_exact.patterns true p).1 j)
+piece_complete s.bodies e.guarded c t h = tt
+piece_complete s.outputs e.output_block c t h = h
+piece_complete x k c t h = absurd cc
 
 mutual
-  told : (t : Tree) → well t ≡ true → IsWellFormed t
-  told (leaf k) h = leaf_told k h
-  told (paren m t) h = told t h
-  told (adorned a more t) h =
+  complete : (t : Tree) → well t ≡ true → IsWellFormed t
+  complete (leaf k) h = leaf_complete k h
+  complete (paren m t) h = complete t h
+  complete (attributed a more t) h =
       let (f, g) = both_true _ _ h in
       let (i, j) = both_true _ _ g in
-      (f, not_it _ i, told t j)
-  told (lead k gs t) h =
+      (f, not_it _ i, complete t j)
+  complete (prefixed k gs t) h =
       let (f, g) = both_true _ _ h in
       let (i, j) = both_true _ _ g in
-      (lead_told k f, i, told t j)
-  told (mid x k y) h =
+      (prefix_complete k f, i, complete t j)
+  complete (infixed x k y) h =
       let (f, g) = both_true _ _ h in
       let (i, j) = both_true _ _ g in
-      (f, told x i, told y j)
-  told (post x k) h = let (f, g) = both_true _ _ h in (post_told k f, told x g)
-  told (tail b k ks) h =
+      (f, complete x i, complete y j)
+  complete (postfixed x k) h = let (f, g) = both_true _ _ h in (postfix_complete k f, complete x g)
+  complete (tail b k ks) h =
       let (f, g) = both_true _ _ h in
       let (i, j) = both_true _ _ g in
-      (trailer_told k f, told b i, subst (λ x. AreWellFormed x ks) (sym (trailer_slot_is k)) (kids_told ks (trailer_slot k) j))
-  told (frame k ks) h =
+      (trailer_complete k f, complete b i, subst (λ x. AreWellFormed x ks) (sym (trailer_slot_is k)) (children_complete ks (trailer_slot k) j))
+  complete (frame k ks) h =
       let (f, g) = both_true _ _ h in
-      let back = frame_told k ks f in
-      (back, subst (λ x. AreWellFormed x ks) (sym (frame_slot_is k ks back)) (kids_told ks (frame_slot k) g))
+      let back = frame_complete k ks f in
+      (back, subst (λ x. AreWellFormed x ks) (sym (frame_slot_is k ks back)) (children_complete ks (frame_slot k) g))
 
-  kids_told : (ks : Kids) (x : Slot) → kids_well x ks ≡ true → AreWellFormed x ks
-  kids_told none x h = end_is x ∙ h
-  kids_told (kid k c t ks) x h =
+  children_complete : (ks : Children) (x : Slot) → children_well x ks ≡ true → AreWellFormed x ks
+  children_complete none x h = end_is x ∙ h
+  children_complete (child k c t ks) x h =
       let (f, g) = both_true _ _ h in
       let (i, j) = both_true _ _ f in
       let (l, m) = both_true _ _ g in
-      (piece_told x k c t i, j, one_of (keeps_block k t) (well t) l (λ z. z) (λ z. told t z), kids_told ks (after k) m)
+      (piece_complete x k c t i, j, one_of (keeps_block k t) (well t) l (λ z. z) (λ z. complete t z), children_complete ks (after k) m)
 
 pub test_is_exact : TestIsExact
 unfolding is_well_formed
-test_is_exact t = (passes t, told t)
+test_is_exact t = (passes t, complete t)

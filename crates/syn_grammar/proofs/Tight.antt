@@ -9,14 +9,14 @@ use Rattle.syn_grammar.specs.declared.next.Edge.TheVariants as edge
 use Rattle.syn_grammar.specs.declared.next.Context.{Context}
 use Rattle.syn_grammar.specs.Place.{takes}
 use Rattle.syn_grammar.specs.Op.{level}
-use Rattle.syn_grammar.specs.Next.{class_of, next_of, takes_next, trails, enclosed, left_edge, base_edge, braceless, left_context, base_context, right_context, adorned_context, lead_context, lead_level}
+use Rattle.syn_grammar.specs.Next.{class_of, next_of, takes_next, trails, enclosed, left_edge, base_edge, braceless, left_context, base_context, right_context, attributed_context, prefix_context, prefix_level}
 use Rattle.syn_grammar.specs.Tree as e
-use Rattle.syn_grammar.specs.Tree.{Tree, Leaf, Lead, Trailer, Frame, leaf, paren, adorned, lead, mid, post, tail, frame, post_op}
-use Rattle.syn_grammar.specs.Rule.{is_operation, refuses, misplaced, leaf_misplaced, frame_misplaced, is_below, lower, ends_badly, is_bare_break, left_wrapped, base_wrapped, place_wrapped, low, bad, labelled, leaf_labelled, frame_labelled, place_asks, lead_asks, put, bare}
+use Rattle.syn_grammar.specs.Tree.{Tree, Leaf, Prefix, Trailer, Frame, leaf, paren, attributed, prefixed, infixed, postfixed, tail, frame, postfix_op}
+use Rattle.syn_grammar.specs.Rule.{is_operation, refuses, misplaced, leaf_misplaced, frame_misplaced, is_below, lower, ends_badly, is_bare_break, left_wrapped, base_wrapped, place_wrapped, low, bad, labelled, leaf_labelled, frame_labelled, place_asks, prefix_asks, put, bare}
 use Rattle.syn_grammar.proofs.Bools.{or_false, neither, or_none, lower_takes}
 use Rattle.syn_grammar.proofs.Obeys.{Fits, begins_label, Obeys}
-use Rattle.syn_grammar.proofs.Edges.{range_bare, carrier_bare, lead_next_is}
-use Rattle.syn_grammar.proofs.Kept.{Tight, level_small, lead_small, not_wrapped, ends_well}
+use Rattle.syn_grammar.proofs.Edges.{range_bare, carrier_bare, prefix_next_is}
+use Rattle.syn_grammar.proofs.Kept.{Tight, level_small, prefix_small, not_wrapped, ends_well}
 
 -- ---- labels
 
@@ -63,25 +63,25 @@ calm_base e.await edge.Arm h = absurd cc
 calm_base e.await edge.BelowArm h = absurd cc
 calm_base e.await edge.Statement h = absurd cc
 calm_base e.await edge.BelowStatement h = absurd cc
-calm_base e.question edge.Free h = refl
-calm_base e.question edge.NoBrace h = refl
-calm_base e.question edge.Arm h = absurd cc
-calm_base e.question edge.BelowArm h = absurd cc
-calm_base e.question edge.Statement h = absurd cc
-calm_base e.question edge.BelowStatement h = absurd cc
+calm_base e.try_expr edge.Free h = refl
+calm_base e.try_expr edge.NoBrace h = refl
+calm_base e.try_expr edge.Arm h = absurd cc
+calm_base e.try_expr edge.BelowArm h = absurd cc
+calm_base e.try_expr edge.Statement h = absurd cc
+calm_base e.try_expr edge.BelowStatement h = absurd cc
 
 calm_braceless : (b : Bool) → is_calm (braceless b) ≡ true
 calm_braceless true = refl
 calm_braceless false = refl
 
-calm_lead : (k : Lead) (c : Context) → is_calm (lead_context k c).edge ≡ true
-calm_lead (e.unary op) c = refl
-calm_lead (e.reference m) c = refl
-calm_lead (e.raw_addr m) c = refl
-calm_lead (e.range_to op) c = calm_braceless _
-calm_lead (e.binding p) c = refl
-calm_lead (e.jump j) c = calm_braceless _
-calm_lead (e.closure h) c = refl
+calm_prefix : (k : Prefix) (c : Context) → is_calm (prefix_context k c).edge ≡ true
+calm_prefix (e.unary op) c = refl
+calm_prefix (e.reference m) c = refl
+calm_prefix (e.raw_addr m) c = refl
+calm_prefix (e.range_to op) c = calm_braceless _
+calm_prefix (e.let_expr p) c = refl
+calm_prefix (e.jump j) c = calm_braceless _
+calm_prefix (e.closure h) c = refl
 
 below_and : (a b : Bool) → a ≡ false → a && b ≡ true → ⊥
 below_and a b p q = absurd (let r : false ≡ true = ap (λ x. x && b) (sym p) ∙ q in cc)
@@ -89,8 +89,8 @@ below_and a b p q = absurd (let r : false ≡ true = ap (λ x. x && b) (sym p) �
 label_leaf : (c : Context) (k : Leaf) → is_below c.edge ≡ false → leaf_misplaced c k ≡ true → leaf_labelled k ≡ false
 label_leaf c (e.block None b) n h = refl
 label_leaf c (e.block (Some w) b) n h = absurd (below_and _ _ n h)
-label_leaf c (e.looping None b) n h = refl
-label_leaf c (e.looping (Some w) b) n h = absurd (below_and _ _ n h)
+label_leaf c (e.loop_expr None b) n h = refl
+label_leaf c (e.loop_expr (Some w) b) n h = absurd (below_and _ _ n h)
 label_leaf c (e.lit x) n h = refl
 label_leaf c (e.path q p) n h = refl
 label_leaf c (e.mac m) n h = refl
@@ -110,21 +110,21 @@ label_frame c e.tuple n h = refl
 label_frame c e.repeat n h = refl
 label_frame c (e.structure q p d) n h = refl
 label_frame c (e.closure_block j) n h = refl
-label_frame c e.branch n h = refl
+label_frame c e.if_expr n h = refl
 label_frame c (e.while_loop None) n h = refl
 label_frame c (e.while_loop (Some w)) n h = absurd (below_and _ _ n h)
 label_frame c (e.for_loop None p) n h = refl
 label_frame c (e.for_loop (Some w) p) n h = absurd (below_and _ _ n h)
-label_frame c e.choice n h = refl
-label_frame c e.invisible n h = refl
+label_frame c e.match_expr n h = refl
+label_frame c e.group_expr n h = refl
 
 label_misplaced : (c : Context) (t : Tree) → is_calm c.edge ≡ true → misplaced c t ≡ true → labelled t ≡ false
 label_misplaced c (leaf k) n h = label_leaf c k (calm_above _ n) h
 label_misplaced c (paren m t) n h = absurd cc
-label_misplaced c (adorned a more t) n h = refl
-label_misplaced c (lead k gs t) n h = refl
-label_misplaced c (mid x k y) n h = absurd cc
-label_misplaced c (post x k) n h = absurd cc
+label_misplaced c (attributed a more t) n h = refl
+label_misplaced c (prefixed k gs t) n h = refl
+label_misplaced c (infixed x k y) n h = absurd cc
+label_misplaced c (postfixed x k) n h = absurd cc
 label_misplaced c (tail b k ks) n h = absurd cc
 label_misplaced c (frame k ks) n h = label_frame c k (calm_above _ n) h
 
@@ -137,23 +137,23 @@ label_unput false false x a b f g h = g h
 pub label_back : (c : Context) (t : Tree) → is_calm c.edge ≡ true → begins_label (bare c t) ≡ false → labelled t ≡ false
 label_back c (leaf k) n h = h
 label_back c (paren m t) n h = refl
-label_back c (adorned a more t) n h = refl
-label_back c (lead k gs t) n h = refl
-label_back c (mid x k y) n h =
+label_back c (attributed a more t) n h = refl
+label_back c (prefixed k gs t) n h = refl
+label_back c (infixed x k y) n h =
     let j = calm_left c.edge n in
     label_unput (left_wrapped k x (bad x (class_of k))) (misplaced (left_context k c) x) x (bare enclosed x) (bare (left_context k c) x)
     (λ p. label_misplaced (left_context k c) x j p) (λ p. label_back (left_context k c) x j p) h
-label_back c (post x k) n h =
+label_back c (postfixed x k) n h =
     let j = calm_left c.edge n in
-    label_unput (left_wrapped (post_op k) x (bad x (class_of (post_op k)))) (misplaced (left_context (post_op k) c) x) x (bare enclosed x) (bare (left_context (post_op k) c) x)
-    (λ p. label_misplaced (left_context (post_op k) c) x j p) (λ p. label_back (left_context (post_op k) c) x j p) h
+    label_unput (left_wrapped (postfix_op k) x (bad x (class_of (postfix_op k)))) (misplaced (left_context (postfix_op k) c) x) x (bare enclosed x) (bare (left_context (postfix_op k) c) x)
+    (λ p. label_misplaced (left_context (postfix_op k) c) x j p) (λ p. label_back (left_context (postfix_op k) c) x j p) h
 label_back c (tail b k ks) n h =
     let j = calm_base k c.edge n in
     label_unput (base_wrapped k b (bad b (next_of k))) (misplaced (base_context k c) b) b (bare enclosed b) (bare (base_context k c) b)
     (λ p. label_misplaced (base_context k c) b j p) (λ p. label_back (base_context k c) b j p) h
 label_back c (frame k ks) n h = h
 
-pub no_bare_label : (k : Lead) (c : Context) (t : Tree) → is_calm c.edge ≡ true → is_bare_break k && begins_label (bare c t) ≡ false → is_bare_break k && labelled t ≡ false
+pub no_bare_label : (k : Prefix) (c : Context) (t : Tree) → is_calm c.edge ≡ true → is_bare_break k && begins_label (bare c t) ≡ false → is_bare_break k && labelled t ≡ false
 no_bare_label k c t n h = go (is_bare_break k) h
   where
     go : (b : Bool) → b && begins_label (bare c t) ≡ false → b && labelled t ≡ false
@@ -179,10 +179,10 @@ tight_end v c c0 t false x g y i p =
 misplaced_low : (c : Context) (t : Tree) → misplaced c t ≡ true → low t ≡ lev.Unambiguous
 misplaced_low c (leaf k) h = refl
 misplaced_low c (paren m t) h = refl
-misplaced_low c (adorned a more t) h = refl
-misplaced_low c (lead k gs t) h = refl
-misplaced_low c (mid x k y) h = absurd cc
-misplaced_low c (post x k) h = absurd cc
+misplaced_low c (attributed a more t) h = refl
+misplaced_low c (prefixed k gs t) h = refl
+misplaced_low c (infixed x k y) h = absurd cc
+misplaced_low c (postfixed x k) h = absurd cc
 misplaced_low c (tail b k ks) h = refl
 misplaced_low c (frame k ks) h = refl
 
@@ -193,28 +193,28 @@ tight_left v a c x p q true m s h f g i = lower_takes v a lev.Unambiguous h s
 tight_left v a c x p q false true s h f g i = lower_takes v a (low x) h (ap (takes v) (f refl) ∙ s)
 tight_left v a c x p q false false s h f g i = lower_takes v a (low x) h (g i).edge
 
-tight_adorned : (v : Level) (c c0 : Context) (t : Tree) (w : Bool) → is_operation t ≡ w → (Obeys v c (bare c0 t) → Tight v c t)
+tight_attributed : (v : Level) (c c0 : Context) (t : Tree) (w : Bool) → is_operation t ≡ w → (Obeys v c (bare c0 t) → Tight v c t)
     → Obeys v c (put w (bare enclosed t) (bare c0 t)) → (not w && bad t c.next ≡ false) × (not w && refuses t c.next ≡ false) × (not w && misplaced c t ≡ false)
-tight_adorned v c c0 t true h g i = (refl, refl, refl)
-tight_adorned v c c0 t false h g i = let k = g i in (k.end, k.refused, k.placed)
+tight_attributed v c c0 t true h g i = (refl, refl, refl)
+tight_attributed v c c0 t false h g i = let k = g i in (k.end, k.refused, k.placed)
 
 pub tight : (t : Tree) → (v : Level) (c c0 : Context) → takes v lev.Unambiguous ≡ true → Obeys v c (bare c0 t) → Tight v c t
 tight (leaf k) v c c0 s i = let p = or_false _ _ i in record { edge = s; end = refl; refused = p.0; placed = p.1 }
 tight (paren m t) v c c0 s i = record { edge = s; end = refl; refused = refl; placed = refl }
-tight (adorned a more t) v c c0 s i =
-    let p = tight_adorned v (adorned_context c) (adorned_context c0) t _ refl (tight t v (adorned_context c) (adorned_context c0) s) i.1 in
+tight (attributed a more t) v c c0 s i =
+    let p = tight_attributed v (attributed_context c) (attributed_context c0) t _ refl (tight t v (attributed_context c) (attributed_context c0) s) i.1 in
     record { edge = s; end = p.0; refused = p.1; placed = p.2 }
-tight (lead k gs t) v c c0 s i =
-    let p = tight_end (lead_level k) (lead_context k c) (lead_context k c0) t (lead_asks k (lead_context k c0) t) (is_bare_break k && labelled t)
-    (tight t (lead_level k) (lead_context k c) (lead_context k c0) (lead_small k))
+tight (prefixed k gs t) v c c0 s i =
+    let p = tight_end (prefix_level k) (prefix_context k c) (prefix_context k c0) t (prefix_asks k (prefix_context k c0) t) (is_bare_break k && labelled t)
+    (tight t (prefix_level k) (prefix_context k c) (prefix_context k c0) (prefix_small k))
     (λ w. (or_false _ _ w).1) i.1 i.2 in
     record {
       edge = s;
-      end = subst (λ (n : Next). ends_badly (lead_level k) t n (place_wrapped (lead_level k) t n (low t) (bad t n) || (is_bare_break k && labelled t)) ≡ false) (lead_next_is k c) p;
+      end = subst (λ (n : Next). ends_badly (prefix_level k) t n (place_wrapped (prefix_level k) t n (low t) (bad t n) || (is_bare_break k && labelled t)) ≡ false) (prefix_next_is k c) p;
       refused = refl;
       placed = i.0;
     }
-tight (mid x k y) v c c0 s i =
+tight (infixed x k y) v c c0 s i =
     let p = tight_end (level k) (right_context k c) (right_context k c0) y (place_asks (level k) (right_context k c0) y) false
     (tight y (level k) (right_context k c) (right_context k c0) (level_small k)) (λ w. refl) i.3 i.4 in
     record {
@@ -224,11 +224,11 @@ tight (mid x k y) v c c0 s i =
       refused = refl;
       placed = refl;
     }
-tight (post x k) v c c0 s i =
+tight (postfixed x k) v c c0 s i =
     record {
-      edge = tight_left v (level (post_op k)) (left_context (post_op k) c) x (bare enclosed x) (bare (left_context (post_op k) c0) x)
-          (left_wrapped (post_op k) x (bad x (class_of (post_op k)))) (misplaced (left_context (post_op k) c0) x)
-          s i.0 (misplaced_low (left_context (post_op k) c0) x) (tight x v (left_context (post_op k) c) (left_context (post_op k) c0) s) i.1;
+      edge = tight_left v (level (postfix_op k)) (left_context (postfix_op k) c) x (bare enclosed x) (bare (left_context (postfix_op k) c0) x)
+          (left_wrapped (postfix_op k) x (bad x (class_of (postfix_op k)))) (misplaced (left_context (postfix_op k) c0) x)
+          s i.0 (misplaced_low (left_context (postfix_op k) c0) x) (tight x v (left_context (postfix_op k) c) (left_context (postfix_op k) c0) s) i.1;
       end = refl;
       refused = i.3;
       placed = refl;

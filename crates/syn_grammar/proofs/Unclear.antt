@@ -7,20 +7,20 @@ use Rattle.syn_grammar.specs.declared.next.Next.{Next}
 use Rattle.syn_grammar.specs.declared.next.Next.TheVariants as next
 use Rattle.syn_grammar.specs.declared.next.Context.{Context}
 use Rattle.syn_grammar.specs.Op.{level, is_comparison}
-use Rattle.syn_grammar.specs.Next.{takes_next, enclosed, left_context, base_context, right_context, adorned_context, lead_context, lead_level, piece_context}
+use Rattle.syn_grammar.specs.Next.{takes_next, enclosed, left_context, base_context, right_context, attributed_context, prefix_context, prefix_level, piece_context}
 use Rattle.syn_grammar.specs.Stands.{is_infix}
-use Rattle.syn_grammar.specs.Tree.{Tree, Kids, leaf, paren, adorned, lead, mid, post, tail, frame, none, kid, post_op, clear, clear_kids}
+use Rattle.syn_grammar.specs.Tree.{Tree, Children, leaf, paren, attributed, prefixed, infixed, postfixed, tail, frame, none, child, postfix_op, clear, clear_children}
 use Rattle.syn_grammar.specs.Rule.{is_operation, prints_range, is_bare_break}
-use Rattle.syn_grammar.proofs.Obeys.{Fits, FitsLeft, begins_label, Obeys, ObeysKids}
+use Rattle.syn_grammar.proofs.Obeys.{Fits, FitsLeft, begins_label, Obeys, ObeysChildren}
 use Rattle.syn_grammar.proofs.Places.{range_clear, infix_clear, compares_clear, carries_clear, cast_clear, base_clear}
 
 prints_clear : (t : Tree) → prints_range (clear t) ≡ prints_range t
 prints_clear (leaf k) = refl
 prints_clear (paren m t) = refl
-prints_clear (adorned a more t) = refl
-prints_clear (lead k gs t) = refl
-prints_clear (mid x k y) = refl
-prints_clear (post x k) = refl
+prints_clear (attributed a more t) = refl
+prints_clear (prefixed k gs t) = refl
+prints_clear (infixed x k y) = refl
+prints_clear (postfixed x k) = refl
 prints_clear (tail b k ks) = refl
 prints_clear (frame k ks) = refl
 
@@ -30,10 +30,10 @@ operation_clear t = ap (λ b. b || prints_range (clear t)) (infix_clear t) ∙ a
 label_clear : (t : Tree) → begins_label (clear t) ≡ begins_label t
 label_clear (leaf k) = refl
 label_clear (paren m t) = refl
-label_clear (adorned a more t) = refl
-label_clear (lead k gs t) = refl
-label_clear (mid x k y) = label_clear x
-label_clear (post x k) = label_clear x
+label_clear (attributed a more t) = refl
+label_clear (prefixed k gs t) = refl
+label_clear (infixed x k y) = label_clear x
+label_clear (postfixed x k) = label_clear x
 label_clear (tail b k ks) = label_clear b
 label_clear (frame k ks) = refl
 
@@ -53,24 +53,24 @@ mutual
   pub unclear : (t : Tree) (v : Level) (c : Context) → Obeys v c (clear t) → Obeys v c t
   unclear (leaf k) v c i = i
   unclear (paren m t) v c i = (unclear t lev.Jump enclosed i.0, fits_unclear lev.Jump t next.End i.1)
-  unclear (adorned a more t) v c i = (sym (operation_clear t) ∙ i.0, unclear t v (adorned_context c) i.1)
-  unclear (lead k gs t) v c i = (
+  unclear (attributed a more t) v c i = (sym (operation_clear t) ∙ i.0, unclear t v (attributed_context c) i.1)
+  unclear (prefixed k gs t) v c i = (
     i.0,
-    unclear t (lead_level k) (lead_context k c) i.1,
-    fits_unclear (lead_level k) t (lead_context k c).next i.2,
+    unclear t (prefix_level k) (prefix_context k c) i.1,
+    fits_unclear (prefix_level k) t (prefix_context k c).next i.2,
     ap (λ b. is_bare_break k && b) (sym (label_clear t)) ∙ i.3,
   )
-  unclear (mid x k y) v c i = (
+  unclear (infixed x k y) v c i = (
     i.0,
     unclear x v (left_context k c) i.1,
     left_unclear k x i.2,
     unclear y (level k) (right_context k c) i.3,
     fits_unclear (level k) y c.next i.4,
   )
-  unclear (post x k) v c i = (i.0, unclear x v (left_context (post_op k) c) i.1, left_unclear (post_op k) x i.2, i.3)
-  unclear (tail b k ks) v c i = (sym (base_clear k b) ∙ i.0, unclear b v (base_context k c) i.1, unclear_kids ks i.2)
-  unclear (frame k ks) v c i = (i.0, unclear_kids ks i.1)
+  unclear (postfixed x k) v c i = (i.0, unclear x v (left_context (postfix_op k) c) i.1, left_unclear (postfix_op k) x i.2, i.3)
+  unclear (tail b k ks) v c i = (sym (base_clear k b) ∙ i.0, unclear b v (base_context k c) i.1, unclear_children ks i.2)
+  unclear (frame k ks) v c i = (i.0, unclear_children ks i.1)
 
-  pub unclear_kids : (ks : Kids) → ObeysKids (clear_kids ks) → ObeysKids ks
-  unclear_kids none i = tt
-  unclear_kids (kid k c t ks) i = (λ e. unclear t lev.Jump (piece_context k) (i.0 e), unclear_kids ks i.1)
+  pub unclear_children : (ks : Children) → ObeysChildren (clear_children ks) → ObeysChildren ks
+  unclear_children none i = tt
+  unclear_children (child k c t ks) i = (λ e. unclear t lev.Jump (piece_context k) (i.0 e), unclear_children ks i.1)

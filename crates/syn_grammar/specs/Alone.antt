@@ -10,11 +10,11 @@ use Rattle.syn_grammar.specs.declared.kinds.Infix.TheVariants as inf
 use Rattle.syn_grammar.specs.declared.kinds.Level.TheVariants as lev
 use Rattle.syn_grammar.specs.Place.{plain, at}
 use Rattle.syn_grammar.specs.Tree as e
-use Rattle.syn_grammar.specs.Tree.{Tree, Kids, leaf, paren, adorned, lead, mid, tail, frame, none, kid, adorn}
+use Rattle.syn_grammar.specs.Tree.{Tree, Children, leaf, paren, attributed, prefixed, infixed, tail, frame, none, child, attributed_with}
 use Rattle.syn_grammar.specs.Slot.{frame_holder}
 use Rattle.syn_grammar.specs.Stands.{Node, Content, Stands}
 
--- ---- kinds, of expressions before which no attributes stand. `is_branch`, `is_cast` and `is_range` are in `Stands`.
+-- ---- kinds, of expressions before which no attributes stand. `is_if_expr`, `is_cast` and `is_range` are in `Stands`.
 
 -- `_`
 abbrev pub is_infer : Tree → Bool
@@ -28,7 +28,7 @@ is_block _ = false
 
 -- `loop { .. }`
 abbrev pub is_loop : Tree → Bool
-is_loop (leaf (e.looping w b)) = true
+is_loop (leaf (e.loop_expr w b)) = true
 is_loop _ = false
 
 -- `unsafe { .. }`
@@ -59,19 +59,19 @@ is_continue _ = false
 -- `return`, with a value or without
 abbrev pub is_return : Tree → Bool
 is_return (leaf (e.bare_jump e.returning)) = true
-is_return (lead (e.jump e.returning) gs x) = true
+is_return (prefixed (e.jump e.returning) gs x) = true
 is_return _ = false
 
 -- `yield`, with a value or without
 abbrev pub is_yield : Tree → Bool
 is_yield (leaf (e.bare_jump e.yielding)) = true
-is_yield (lead (e.jump e.yielding) gs x) = true
+is_yield (prefixed (e.jump e.yielding) gs x) = true
 is_yield _ = false
 
 -- `break`, with a label and a value or without
 abbrev pub is_break : Tree → Bool
 is_break (leaf (e.bare_jump (e.breaking w))) = true
-is_break (lead (e.jump (e.breaking w)) gs x) = true
+is_break (prefixed (e.jump (e.breaking w)) gs x) = true
 is_break _ = false
 
 -- `(a)`
@@ -81,22 +81,22 @@ is_paren _ = false
 
 -- `*a`, `!a`, `-a`
 abbrev pub is_unary : Tree → Bool
-is_unary (lead (e.unary op) gs x) = true
+is_unary (prefixed (e.unary op) gs x) = true
 is_unary _ = false
 
 -- `&raw const a`
 abbrev pub is_raw_addr : Tree → Bool
-is_raw_addr (lead (e.raw_addr m) gs x) = true
+is_raw_addr (prefixed (e.raw_addr m) gs x) = true
 is_raw_addr _ = false
 
 -- `let p = a`
 abbrev pub is_let : Tree → Bool
-is_let (lead (e.binding p) gs x) = true
+is_let (prefixed (e.let_expr p) gs x) = true
 is_let _ = false
 
 -- a closure, with an output or without
 abbrev pub is_closure : Tree → Bool
-is_closure (lead (e.closure h) gs x) = true
+is_closure (prefixed (e.closure h) gs x) = true
 is_closure (frame (e.closure_block h) ks) = true
 is_closure _ = false
 
@@ -127,17 +127,17 @@ is_for_loop _ = false
 
 -- `match a { .. }`
 abbrev pub is_match : Tree → Bool
-is_match (frame e.choice ks) = true
+is_match (frame e.match_expr ks) = true
 is_match _ = false
 
 -- `a = b`
 abbrev pub is_assign : Tree → Bool
-is_assign (mid x inf.Assign y) = true
+is_assign (infixed x inf.Assign y) = true
 is_assign _ = false
 
 -- `a + b`, `a += b`
 abbrev pub is_binary : Tree → Bool
-is_binary (mid x (inf.Binary op) y) = true
+is_binary (infixed x (inf.Binary op) y) = true
 is_binary _ = false
 
 -- `f(a)`
@@ -167,12 +167,12 @@ is_await _ = false
 
 -- `a?`
 abbrev pub is_try : Tree → Bool
-is_try (tail b e.question ks) = true
+is_try (tail b e.try_expr ks) = true
 is_try _ = false
 
 -- without the attributes before it
 abbrev pub unadorned : Tree → Tree
-unadorned (adorned a more x) = x
+unadorned (attributed a more x) = x
 unadorned x = x
 
 -- of a kind, behind attributes or none
@@ -189,7 +189,7 @@ Alone is l x n = Node plain l x n × (is x ≡ true)
 pub data PathAlone : List Tok → Tree → List Tok → Type 0 where
   is_path : {l m n : List Tok} (ats : List AttributeTree) (q : QSelfTree) (w : PathTree)
       → outer_attributes.behind ats l ≡ Some m → (qpath type style.Expr).behind (q, w) m ≡ Some n
-      → PathAlone l (adorn ats (leaf (e.path q w))) n
+      → PathAlone l (attributed_with ats (leaf (e.path q w))) n
 
 -- a literal, a number with its sign too
 pub data LitAlone : List Tok → Tree → List Tok → Type 0 where
@@ -203,18 +203,18 @@ pub data MacroAlone : List Tok → Tree → List Tok → Type 0 where
 pub data ReferenceAlone : List Tok → Tree → List Tok → Type 0 where
   is_reference : {l m n : List Tok} {b : Bool} {x : Tree}
       → and.at l ≡ true → (flag mutable).behind b (drop and.count l) ≡ Some m → Stands (at plain lev.Prefix) m x n
-      → ReferenceAlone l (lead (e.reference b) none x) n
+      → ReferenceAlone l (prefixed (e.reference b) none x) n
 
 -- a struct expression, of the path `try` too
 pub data StructAlone : List Tok → Tree → List Tok → Type 0 where
-  is_struct : {l h n : List Tok} {q : QSelfTree} {w : PathTree} {d : Bool} {ks : Kids}
+  is_struct : {l h n : List Tok} {q : QSelfTree} {w : PathTree} {d : Bool} {ks : Children}
       → (qpath type style.Expr).behind (q, w) l ≡ Some h → Content (frame_holder (e.structure q w d)) h ks n
       → StructAlone l (frame (e.structure q w d) ks) n
 
 -- what is in invisible groups; attributes before a group are left out with it
 abbrev pub ungrouped : Tree → Tree
-ungrouped (frame e.invisible (kid k c x ks)) = ungrouped x
-ungrouped (adorned a more (frame e.invisible (kid k c x ks))) = ungrouped x
+ungrouped (frame e.group_expr (child k c x ks)) = ungrouped x
+ungrouped (attributed a more (frame e.group_expr (child k c x ks))) = ungrouped x
 ungrouped x = x
 
 -- of a kind, looked at through invisible groups, behind attributes or none

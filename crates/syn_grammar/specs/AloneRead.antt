@@ -10,20 +10,20 @@ use Rattle.syn_parts.specs.Part.{lit, macro, outer_attributes, qpath, type}
 use Rattle.syn_grammar.specs.declared.kinds.Level.TheVariants as lev
 use Rattle.syn_grammar.specs.Place.{plain, at}
 use Rattle.syn_grammar.specs.Tree as e
-use Rattle.syn_grammar.specs.Tree.{Tree, Leaf, leaf, paren, lead, frame, none, adorn}
+use Rattle.syn_grammar.specs.Tree.{Tree, Leaf, leaf, paren, prefixed, frame, none, attributed_with}
 use Rattle.syn_grammar.specs.Head.{leaf_form}
 use Rattle.syn_grammar.specs.Slot.{fields}
-use Rattle.syn_grammar.specs.Stands.{ends_list, is_verbatim_leaf, may_adorn}
+use Rattle.syn_grammar.specs.Stands.{ends_list, is_verbatim_leaf, takes_attributes}
 use Rattle.syn_grammar.specs.Read.{Reading, ◌>>=◌, ◌<$>◌, only_if, bare_operands, atom, expr}
 use Rattle.syn_grammar.specs.Alone.{is_inside, ungrouped}
 
 -- ---- kinds
 
--- an operand without trailers, but no kept tokens
+-- an operand without trailers, but no verbatim tokens
 abbrev pub is_atom : Tree → Bool
 is_atom (leaf k) = not (is_verbatim_leaf k)
 is_atom (paren m x) = true
-is_atom (lead k gs x) = true
+is_atom (prefixed k gs x) = true
 is_atom (frame k ks) = true
 is_atom _ = false
 
@@ -44,8 +44,8 @@ is_plain _ = false
 abbrev pub AreAtoms : (Tree → Bool) → Type 0
 AreAtoms is = (x : Tree) → is x ≡ true → is_atom x ≡ true
 
-abbrev pub AreAdorned : (Tree → Bool) → Type 0
-AreAdorned is = (x : Tree) → is x ≡ true → may_adorn plain x ≡ true
+abbrev pub AreAttributed : (Tree → Bool) → Type 0
+AreAttributed is = (x : Tree) → is x ≡ true → takes_attributes plain x ≡ true
 
 abbrev pub ArePlain : (Tree → Bool) → Type 0
 ArePlain is = (x : Tree) → is x ≡ true → is_plain x ≡ true
@@ -65,15 +65,15 @@ unfoldable pub operand_alone : (Tree → Bool) → Reading Tree
 operand_alone is = atom expr plain >>= kind_of is
 
 -- behind these attributes
-abbrev pub adorning : List AttributeTree → Reading Tree → Reading Tree
-adorning ats inner = adorn ats <$> inner
+abbrev pub attributing : List AttributeTree → Reading Tree → Reading Tree
+attributing ats inner = attributed_with ats <$> inner
 
 -- behind attributes or none
-unfoldable pub adorned_alone : Reading Tree → Reading Tree
-adorned_alone inner = outer_attributes.reads >>= (λ ats. adorning ats inner)
+unfoldable pub attributed_alone : Reading Tree → Reading Tree
+attributed_alone inner = outer_attributes.reads >>= (λ ats. attributing ats inner)
 
 unfoldable pub path_alone : Reading Tree
-path_alone = adorned_alone ((λ q. leaf (e.path q.0 q.1)) <$> (qpath type style.Expr).reads)
+path_alone = attributed_alone ((λ q. leaf (e.path q.0 q.1)) <$> (qpath type style.Expr).reads)
 
 unfoldable pub lit_alone : Reading Tree
 lit_alone = (λ x. leaf (e.lit x)) <$> lit.reads
@@ -83,7 +83,7 @@ macro_alone = (λ x. leaf (e.mac x)) <$> macro.reads
 
 unfoldable pub reference_alone : Reading Tree
 reference_alone l =
-    only_if (and.at l) (((flag mutable).reads >>= (λ b. lead (e.reference b) none <$> expr (at plain lev.Prefix))) (drop and.count l))
+    only_if (and.at l) (((flag mutable).reads >>= (λ b. prefixed (e.reference b) none <$> expr (at plain lev.Prefix))) (drop and.count l))
 
 -- a struct expression, behind its path
 unfoldable pub structure_behind : QSelfTree × PathTree → Reading Tree

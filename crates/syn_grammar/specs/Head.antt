@@ -19,7 +19,7 @@ use Rattle.syn_grammar.specs.declared.kinds.Limits.TheVariants as limits
 use Rattle.syn_grammar.specs.Front.{sign_but}
 use Rattle.syn_grammar.specs.Path.{expr_path}
 use Rattle.syn_grammar.specs.Tree as e
-use Rattle.syn_grammar.specs.Tree.{Body, Jump, Leaf, ClosureHead, Lead, Trailer}
+use Rattle.syn_grammar.specs.Tree.{Body, Jump, Leaf, ClosureHead, Prefix, Trailer}
 
 -- ---- labels and jumps (Rust Reference, "Loop labels", "Break expressions", "Return expressions")
 
@@ -128,10 +128,10 @@ from_block (e.block label b) = Some (label, b)
 from_block _ = None
 
 abbrev pub to_loop : Option Text × Body → Leaf
-to_loop p = e.looping p.0 p.1
+to_loop p = e.loop_expr p.0 p.1
 
 abbrev pub from_loop : Leaf → Option (Option Text × Body)
-from_loop (e.looping label b) = Some (label, b)
+from_loop (e.loop_expr label b) = Some (label, b)
 from_loop _ = None
 
 abbrev pub from_unsafe : Leaf → Option Body
@@ -204,20 +204,20 @@ async_block_at l = async_word.at l && (brace_at (drop 1 l) || (move_word.at (dro
 unfoldable pub try_block_at : Test
 try_block_at l = try_word.at l && brace_at (drop 1 l)
 
--- `builtin` and `#`: special syntax, whose tokens are kept
+-- `builtin` and `#`: special syntax, whose tokens are verbatim
 abbrev pub builtin_word : Mark
 builtin_word = word (codes "builtin")
 
 unfoldable pub builtin_at : Test
 builtin_at l = builtin_word.at l && sign_at (codes "#") (drop 1 l)
 
-abbrev pub kept_if : Bool → List Tok → List Tok → Outcome (List Tok)
-kept_if b ts l = if b then Some (ts, l) else None
+abbrev pub verbatim_if : Bool → List Tok → List Tok → Outcome (List Tok)
+verbatim_if b ts l = if b then Some (ts, l) else None
 
 -- behind these comes a name and a group in parentheses
 abbrev pub find_builtin : List Tok → Outcome (List Tok)
 find_builtin (ident b ∷ punct c s ∷ ident w ∷ group del.Parenthesis i ∷ l) =
-    kept_if (bytes_eq b (codes "builtin") && (c == 35 && not (is_reserved_word w))) (ident b ∷ punct c s ∷ ident w ∷ group del.Parenthesis i ∷ []) l
+    verbatim_if (bytes_eq b (codes "builtin") && (c == 35 && not (is_reserved_word w))) (ident b ∷ punct c s ∷ ident w ∷ group del.Parenthesis i ∷ []) l
 find_builtin _ = None
 
 unfoldable pub builtin : Form (List Tok)
@@ -305,39 +305,39 @@ closure_at l =
 
 -- ---- what stands before an operand
 
-abbrev pub is_deref : Lead → Bool
+abbrev pub is_deref : Prefix → Bool
 is_deref (e.unary un.Deref) = true
 is_deref _ = false
 
-abbrev pub is_not : Lead → Bool
+abbrev pub is_not : Prefix → Bool
 is_not (e.unary un.Not) = true
 is_not _ = false
 
-abbrev pub is_neg : Lead → Bool
+abbrev pub is_neg : Prefix → Bool
 is_neg (e.unary un.Neg) = true
 is_neg _ = false
 
-abbrev pub from_reference : Lead → Option Bool
+abbrev pub from_reference : Prefix → Option Bool
 from_reference (e.reference m) = Some m
 from_reference _ = None
 
-abbrev pub from_raw_addr : Lead → Option Bool
+abbrev pub from_raw_addr : Prefix → Option Bool
 from_raw_addr (e.raw_addr m) = Some m
 from_raw_addr _ = None
 
-abbrev pub from_range_to : Lead → Option Limits
+abbrev pub from_range_to : Prefix → Option Limits
 from_range_to (e.range_to op) = Some op
 from_range_to _ = None
 
-abbrev pub from_binding : Lead → Option PatTree
-from_binding (e.binding p) = Some p
-from_binding _ = None
+abbrev pub from_let : Prefix → Option PatTree
+from_let (e.let_expr p) = Some p
+from_let _ = None
 
-abbrev pub from_jump : Lead → Option Jump
+abbrev pub from_jump : Prefix → Option Jump
 from_jump (e.jump j) = Some j
 from_jump _ = None
 
-abbrev pub from_closure : Lead → Option ClosureHead
+abbrev pub from_closure : Prefix → Option ClosureHead
 from_closure (e.closure h) = Some h
 from_closure _ = None
 
@@ -356,14 +356,14 @@ raw_at l = raw_word.at l && (mutable.at (drop 1 l) || constant.at (drop 1 l))
 
 -- by what stands first (Rust Reference, "Operator expressions", "Borrow operators", "Range expressions", "`let`
 -- expressions", "Closure expressions")
-unfoldable pub lead_form : Form Lead
-lead_form =
+unfoldable pub prefix_form : Form Prefix
+prefix_form =
     case star (pure (e.unary un.Deref) is_deref)
     (case bang (pure (e.unary un.Not) is_not)
     (case minus (pure (e.unary un.Neg) is_neg)
     (case and (when raw_at (mark raw_word (shown e.raw_addr from_raw_addr mutability)) (shown e.reference from_reference (flag mutable)))
     (when range_at (shown e.range_to from_range_to range_op)
-    (case let_word (shown e.binding from_binding (closed_by eq (pattern true)))
+    (case let_word (shown e.let_expr from_let (closed_by eq (pattern true)))
     (when jump_at (shown e.jump from_jump jump_head)
     (shown e.closure from_closure closure_head)))))))
 

@@ -12,13 +12,13 @@ use Rattle.syn_parts.specs.PatOwn.{member_own, pat_own}
 use Rattle.syn_parts.specs.PatFits.{attributes_outer}
 use Rattle.syn_lexer.specs.Keywords.{is_reserved_word}
 use Rattle.syn_grammar.specs.Tree as e
-use Rattle.syn_grammar.specs.Tree.{Tree, Kids, Leaf, Lead, Post, Trailer, Frame, Piece, ClosureHead, leaf, paren, adorned, lead, mid, post, tail, frame, none, kid, is_none}
+use Rattle.syn_grammar.specs.Tree.{Tree, Children, Leaf, Prefix, Postfix, Trailer, Frame, Piece, ClosureHead, leaf, paren, attributed, prefixed, infixed, postfixed, tail, frame, none, child, is_none}
 use Rattle.syn_grammar.specs.Slot as s
 use Rattle.syn_grammar.specs.Slot.{Slot, Holder, nothing, within, bare, done, after, may_end, frame_holder, trailer_holder}
 use Rattle.syn_grammar.specs.Path.{is_try_alone}
 use Rattle.syn_grammar.specs.Head.{is_half_open}
-use Rattle.syn_grammar.specs.Stands.{is_adorned, is_branch}
-use Rattle.syn_grammar.specs.WellFormed.{body_fits, infix_fits, has_rest, is_name_path, is_kept_block, ending_fits, keeps_block, is_well_formed}
+use Rattle.syn_grammar.specs.Stands.{is_attributed, is_if_expr}
+use Rattle.syn_grammar.specs.WellFormed.{body_fits, infix_fits, has_rest, is_name_path, is_verbatim_block, ending_fits, keeps_block, is_well_formed}
 
 -- from its own tokens, with nothing behind them
 abbrev pub IsReadBack : {A : Type 0} → Form A → (A → List Tok → List Tok) → A → Type 0
@@ -40,7 +40,7 @@ LeafReadBack (e.path q p) = IsReadBack (qpath type style.Expr) qualified_own (q,
 LeafReadBack (e.mac m) = IsReadBack macro macro_own m
 LeafReadBack (e.full_range op) = is_half_open op ≡ true
 LeafReadBack (e.block w b) = body_fits b ≡ true
-LeafReadBack (e.looping w b) = body_fits b ≡ true
+LeafReadBack (e.loop_expr w b) = body_fits b ≡ true
 LeafReadBack (e.unsafe_block b) = body_fits b ≡ true
 LeafReadBack (e.const_block b) = body_fits b ≡ true
 LeafReadBack (e.verbatim ts) = ⊥
@@ -51,26 +51,26 @@ HeadReadBack h =
     (h.capture && h.usage ≡ false) × SomeReadBack lifetimes lifetimes_own h.lifetimes × AllReadBack closure_arg pat_own h.inputs
     × (ends_well (is_nil h.inputs) h.trailing ≡ true) × IsReadBack (output type true) return_own h.output
 
-abbrev pub LeadReadBack : Lead → Type 0
-LeadReadBack (e.binding p) = IsReadBack (pattern true) pat_own p
-LeadReadBack (e.closure h) = HeadReadBack h × (is_default h.output ≡ true)
-LeadReadBack _ = Unit {0}
+abbrev pub PrefixReadBack : Prefix → Type 0
+PrefixReadBack (e.let_expr p) = IsReadBack (pattern true) pat_own p
+PrefixReadBack (e.closure h) = HeadReadBack h × (is_default h.output ≡ true)
+PrefixReadBack _ = Unit {0}
 
-abbrev pub PostReadBack : Post → Type 0
-PostReadBack (e.cast x) = IsReadBack (type false) type_own x
-PostReadBack (e.range_from op) = is_half_open op ≡ true
+abbrev pub PostfixReadBack : Postfix → Type 0
+PostfixReadBack (e.cast x) = IsReadBack (type false) type_own x
+PostfixReadBack (e.range_from op) = is_half_open op ≡ true
 
 abbrev pub TrailerReadBack : Trailer → Type 0
 TrailerReadBack (e.method w a) = (is_reserved_word w ≡ false) × IsReadBack (arguments type style.Expr) arguments_own a
 TrailerReadBack (e.field m) = IsReadBack member member_own m
 TrailerReadBack _ = Unit {0}
 
-abbrev pub FrameReadBack : Frame → Kids → Type 0
+abbrev pub FrameReadBack : Frame → Children → Type 0
 FrameReadBack (e.structure q p d) ks =
     IsReadBack (qpath type style.Expr) qualified_own (q, p) × (is_try_alone q p ≡ false) × (d && has_rest ks ≡ false)
 FrameReadBack (e.closure_block h) ks = HeadReadBack h × (is_default h.output ≡ false)
 FrameReadBack (e.for_loop w p) ks = IsReadBack (pattern true) pat_own p
-FrameReadBack e.invisible ks = ⊥
+FrameReadBack e.group_expr ks = ⊥
 FrameReadBack _ ks = Unit {0}
 
 -- the tokens before the operand t, which stand in this slot
@@ -81,13 +81,13 @@ PieceReadBack s.counted e.repeated t = Unit {0}
 PieceReadBack s.fields (e.field_value ats m b) t = (attributes_outer ats ≡ true) × IsReadBack member member_own m × (b || is_name_path m t ≡ true)
 PieceReadBack s.fields (e.rest d) t = Unit {0}
 PieceReadBack s.conditions e.condition t = Unit {0}
-PieceReadBack s.otherwise e.chained t = is_branch t || is_kept_block t ≡ true
+PieceReadBack s.otherwise e.chained t = is_if_expr t || is_verbatim_block t ≡ true
 PieceReadBack s.loops e.loop_head t = Unit {0}
 PieceReadBack s.scrutinees e.scrutinee t = Unit {0}
 PieceReadBack s.arms (e.guard ats p) t = (attributes_outer ats ≡ true) × IsReadBack (pattern true) pat_own p
 PieceReadBack s.arms (e.arm ats p) t = (attributes_outer ats ≡ true) × IsReadBack (pattern true) pat_own p
 PieceReadBack s.bodies e.guarded t = Unit {0}
-PieceReadBack s.outputs e.output_block t = is_kept_block t ≡ true
+PieceReadBack s.outputs e.output_block t = is_verbatim_block t ≡ true
 PieceReadBack _ k t = ⊥
 
 -- ---- the whole
@@ -102,16 +102,16 @@ abbrev mutual
   pub IsWellFormed : Tree → Type 0
   IsWellFormed (leaf k) = LeafReadBack k
   IsWellFormed (paren m t) = IsWellFormed t
-  IsWellFormed (adorned a more t) = (attributes_outer (a ∷ more) ≡ true) × (is_adorned t ≡ false) × IsWellFormed t
-  IsWellFormed (lead k gs t) = LeadReadBack k × (is_none gs ≡ true) × IsWellFormed t
-  IsWellFormed (mid x k y) = (infix_fits k ≡ true) × IsWellFormed x × IsWellFormed y
-  IsWellFormed (post x k) = PostReadBack k × IsWellFormed x
+  IsWellFormed (attributed a more t) = (attributes_outer (a ∷ more) ≡ true) × (is_attributed t ≡ false) × IsWellFormed t
+  IsWellFormed (prefixed k gs t) = PrefixReadBack k × (is_none gs ≡ true) × IsWellFormed t
+  IsWellFormed (infixed x k y) = (infix_fits k ≡ true) × IsWellFormed x × IsWellFormed y
+  IsWellFormed (postfixed x k) = PostfixReadBack k × IsWellFormed x
   IsWellFormed (tail b k ks) = TrailerReadBack k × IsWellFormed b × AreWellFormed (first_slot (trailer_holder k)) ks
   IsWellFormed (frame k ks) = FrameReadBack k ks × AreWellFormed (first_slot (frame_holder k)) ks
 
-  pub AreWellFormed : Slot → Kids → Type 0
+  pub AreWellFormed : Slot → Children → Type 0
   AreWellFormed x none = may_end x [] ≡ true
-  AreWellFormed x (kid k c t ks) =
+  AreWellFormed x (child k c t ks) =
       PieceReadBack x k t × (ending_fits k c ≡ true) × ((keeps_block k t ≡ true) ⊎ IsWellFormed t) × AreWellFormed (after k) ks
 
 abbrev pub TestIsExact : Type 0

@@ -11,13 +11,13 @@ pub mod Read
 pub mod AloneRead
 pub mod Next
 pub mod Rule
-pub mod Notes
+pub mod Summaries
 pub mod Binding
 pub mod Exact
 pub mod WellFormed
 pub mod IsWellFormed
 pub mod Same
-pub mod Sparing
+pub mod Minimal
 pub mod Printed
 pub mod Rows
 pub mod Query

@@ -14,7 +14,7 @@ use Rattle.syn_grammar.specs.declared.next.Context.{Context}
 use Rattle.syn_grammar.specs.Place.{takes}
 use Rattle.syn_grammar.specs.Op.{operator}
 use Rattle.syn_grammar.specs.Tree as e
-use Rattle.syn_grammar.specs.Tree.{Jump, Lead, Trailer, Piece}
+use Rattle.syn_grammar.specs.Tree.{Jump, Prefix, Trailer, Piece}
 
 -- ---- classes of tokens
 
@@ -32,7 +32,7 @@ class_of inf.Cast = next.As
 abbrev pub next_of : Trailer → Next
 next_of e.call = next.Parenthesis
 next_of e.index = next.Bracket
-next_of e.question = next.Question
+next_of e.try_expr = next.Question
 next_of _ = next.Dot
 
 -- the level of an operator of the class, none where it is no operator
@@ -136,9 +136,9 @@ base_edge e.index x = left_edge x
 base_edge _ x = dot_edge x
 
 -- behind attributes no brace is first
-abbrev pub adorned_edge : Edge → Edge
-adorned_edge edge.NoBrace = edge.Free
-adorned_edge x = x
+abbrev pub attributed_edge : Edge → Edge
+attributed_edge edge.NoBrace = edge.Free
+attributed_edge x = x
 
 -- in a condition a brace would be that of the block
 abbrev pub braceless : Bool → Edge
@@ -162,26 +162,26 @@ base_context k c = record { condition = c.condition; edge = base_edge k c.edge; 
 abbrev pub right_context : Infix → Context → Context
 right_context k c = record { condition = c.condition; edge = braceless (is_half_open k && c.condition); next = c.next }
 
-abbrev pub adorned_context : Context → Context
-adorned_context c = record { condition = c.condition; edge = adorned_edge c.edge; next = c.next }
+abbrev pub attributed_context : Context → Context
+attributed_context c = record { condition = c.condition; edge = attributed_edge c.edge; next = c.next }
 
-abbrev pub lead_context : Lead → Context → Context
-lead_context (e.jump j) c = record { condition = false; edge = braceless (is_break j && c.condition); next = without_block c.next }
-lead_context (e.range_to op) c = record { condition = c.condition; edge = braceless (is_half_open (inf.Range op) && c.condition); next = c.next }
-lead_context k c = record { condition = c.condition; edge = edge.Free; next = c.next }
+abbrev pub prefix_context : Prefix → Context → Context
+prefix_context (e.jump j) c = record { condition = false; edge = braceless (is_break j && c.condition); next = without_block c.next }
+prefix_context (e.range_to op) c = record { condition = c.condition; edge = braceless (is_half_open (inf.Range op) && c.condition); next = c.next }
+prefix_context k c = record { condition = c.condition; edge = edge.Free; next = c.next }
 
--- what is behind an operand, by what is behind its lead
-abbrev pub lead_next : Lead → Next → Next
-lead_next (e.jump j) n = without_block n
-lead_next k n = n
+-- what is behind an operand, by what is behind its prefix
+abbrev pub prefix_next : Prefix → Next → Next
+prefix_next (e.jump j) n = without_block n
+prefix_next k n = n
 
--- the level of the place of an operand behind its lead
-abbrev pub lead_level : Lead → Level
-lead_level (e.range_to op) = lev.Range
-lead_level (e.binding p) = lev.Let
-lead_level (e.jump j) = lev.Jump
-lead_level (e.closure h) = lev.Jump
-lead_level _ = lev.Prefix
+-- the level of the place of an operand behind its prefix
+abbrev pub prefix_level : Prefix → Level
+prefix_level (e.range_to op) = lev.Range
+prefix_level (e.let_expr p) = lev.Let
+prefix_level (e.jump j) = lev.Jump
+prefix_level (e.closure h) = lev.Jump
+prefix_level _ = lev.Prefix
 
 abbrev pub piece_context : Piece → Context
 piece_context e.condition = in_condition

@@ -7,11 +7,11 @@ use Rattle.syn_grammar.specs.declared.kinds.Place.{Place}
 use Rattle.syn_grammar.specs.declared.next.Context.{Context}
 use Rattle.syn_grammar.specs.Place.{plain, before_block, at_head}
 use Rattle.syn_grammar.specs.Next.{enclosed, in_statement, in_condition, in_arm}
-use Rattle.syn_grammar.specs.Tree.{Tree, Kids, leaf, paren, adorned, lead, mid, post, tail, frame, none, kid, own, clear, fill, IsSameTree}
+use Rattle.syn_grammar.specs.Tree.{Tree, Children, leaf, paren, attributed, prefixed, infixed, postfixed, tail, frame, none, child, own, clear, fill, IsSameTree}
 use Rattle.syn_grammar.specs.Stands.{Stands}
 use Rattle.syn_grammar.specs.Rule.{printed, put, is_operation}
 use Rattle.syn_grammar.specs.WellFormed.{is_well_formed}
-use Rattle.syn_grammar.specs.Sparing.{OneLess, without_added}
+use Rattle.syn_grammar.specs.Minimal.{OneLess, without_added}
 
 -- ---- where a tree is printed (Rust Reference, "Expression statements", "`if` expressions", "Match expressions")
 
@@ -40,45 +40,45 @@ allows as_statement rest = is_empty rest || semi.at rest
 allows as_condition rest = brace_at rest
 allows as_arm rest = is_empty rest || comma.at rest
 
--- In a statement a `let` and a macro with braces get parentheses that could be spared.
-abbrev pub is_sparing : Position → Bool
-is_sparing as_statement = false
-is_sparing s = true
+-- In a statement a `let` and a macro with braces get parentheses that are redundant.
+abbrev pub is_minimal : Position → Bool
+is_minimal as_statement = false
+is_minimal s = true
 
 abbrev pub printed_in : Position → Tree → Tree
 printed_in s t = printed (context_of s) t
 
 -- no assignment, binary operation, cast or range has attributes: those are printed in parentheses always
 abbrev mutual
-  pub plainly_adorned : Tree → Bool
-  plainly_adorned (leaf k) = true
-  plainly_adorned (paren m t) = plainly_adorned t
-  plainly_adorned (adorned a more t) = not (is_operation t) && plainly_adorned t
-  plainly_adorned (lead k gs t) = kids_plainly gs && plainly_adorned t
-  plainly_adorned (mid x k y) = plainly_adorned x && plainly_adorned y
-  plainly_adorned (post x k) = plainly_adorned x
-  plainly_adorned (tail b k ks) = plainly_adorned b && kids_plainly ks
-  plainly_adorned (frame k ks) = kids_plainly ks
+  pub plainly_attributed : Tree → Bool
+  plainly_attributed (leaf k) = true
+  plainly_attributed (paren m t) = plainly_attributed t
+  plainly_attributed (attributed a more t) = not (is_operation t) && plainly_attributed t
+  plainly_attributed (prefixed k gs t) = children_plainly gs && plainly_attributed t
+  plainly_attributed (infixed x k y) = plainly_attributed x && plainly_attributed y
+  plainly_attributed (postfixed x k) = plainly_attributed x
+  plainly_attributed (tail b k ks) = plainly_attributed b && children_plainly ks
+  plainly_attributed (frame k ks) = children_plainly ks
 
-  pub kids_plainly : Kids → Bool
-  kids_plainly none = true
-  kids_plainly (kid k c t ks) = plainly_adorned t && kids_plainly ks
+  pub children_plainly : Children → Bool
+  children_plainly none = true
+  children_plainly (child k c t ks) = plainly_attributed t && children_plainly ks
 
 -- the tree with each operation that has attributes in a pair of parentheses, behind these
 abbrev mutual
   pub parenthesize_attributed : Tree → Tree
   parenthesize_attributed (leaf k) = leaf k
   parenthesize_attributed (paren m t) = paren m (parenthesize_attributed t)
-  parenthesize_attributed (adorned a more t) = adorned a more (put (is_operation t) (parenthesize_attributed t) (parenthesize_attributed t))
-  parenthesize_attributed (lead k gs t) = lead k gs (parenthesize_attributed t)
-  parenthesize_attributed (mid x k y) = mid (parenthesize_attributed x) k (parenthesize_attributed y)
-  parenthesize_attributed (post x k) = post (parenthesize_attributed x) k
-  parenthesize_attributed (tail b k ks) = tail (parenthesize_attributed b) k (parenthesize_attributed_kids ks)
-  parenthesize_attributed (frame k ks) = frame k (parenthesize_attributed_kids ks)
+  parenthesize_attributed (attributed a more t) = attributed a more (put (is_operation t) (parenthesize_attributed t) (parenthesize_attributed t))
+  parenthesize_attributed (prefixed k gs t) = prefixed k gs (parenthesize_attributed t)
+  parenthesize_attributed (infixed x k y) = infixed (parenthesize_attributed x) k (parenthesize_attributed y)
+  parenthesize_attributed (postfixed x k) = postfixed (parenthesize_attributed x) k
+  parenthesize_attributed (tail b k ks) = tail (parenthesize_attributed b) k (parenthesize_attributed_children ks)
+  parenthesize_attributed (frame k ks) = frame k (parenthesize_attributed_children ks)
 
-  pub parenthesize_attributed_kids : Kids → Kids
-  parenthesize_attributed_kids none = none
-  parenthesize_attributed_kids (kid k c t ks) = kid k c (parenthesize_attributed t) (parenthesize_attributed_kids ks)
+  pub parenthesize_attributed_children : Children → Children
+  parenthesize_attributed_children none = none
+  parenthesize_attributed_children (child k c t ks) = child k c (parenthesize_attributed t) (parenthesize_attributed_children ks)
 
 -- the tree, printed in the position, stands there before this rest
 abbrev pub StandsPrinted : Position → Tree → List Tok → Type 0
@@ -95,19 +95,19 @@ abbrev pub PairsAreAdded : Type 0
 PairsAreAdded = (s : Position) (t : Tree) → is_well_formed t ≡ true → without_added (printed_in s t) ≡ clear (fill t)
 
 -- A well-formed tree without marks gets no parentheses exactly where its own spelling stands for it.
-abbrev pub NoneNeedlessly : Type 0
-NoneNeedlessly = (s : Position) (t : Tree) (rest : List Tok) → is_well_formed t ≡ true → clear t ≡ t → plainly_adorned t ≡ true
-    → is_sparing s ≡ true → allows s rest ≡ true
+abbrev pub NoneRedundant : Type 0
+NoneRedundant = (s : Position) (t : Tree) (rest : List Tok) → is_well_formed t ≡ true → clear t ≡ t → plainly_attributed t ≡ true
+    → is_minimal s ≡ true → allows s rest ≡ true
     → (printed_in s t ≡ fill t) ↔ Stands (place_of s) (own (fill t) rest) (fill t) rest
 
 -- Whatever list a tree stands for, it is printed as it is, but for a pair round each operation that has attributes.
 pub record OwnSpelling : Type 0 where
   pub pairs_alone : (t : Tree) (l : List Tok) → Stands plain l t [] → printed enclosed t ≡ parenthesize_attributed t
   -- Where no operation has attributes, these pairs are none.
-  pub no_pairs : (t : Tree) → plainly_adorned t ≡ true → parenthesize_attributed t ≡ t
+  pub no_pairs : (t : Tree) → plainly_attributed t ≡ true → parenthesize_attributed t ≡ t
 
 -- With one of the added pairs left out, the tree stands for no list.
-abbrev pub NoPairSpared : Type 0
-NoPairSpared = (s : Position) (t q : Tree) (l rest : List Tok) → is_well_formed t ≡ true → plainly_adorned t ≡ true
-    → is_sparing s ≡ true → allows s rest ≡ true
+abbrev pub NoPairRedundant : Type 0
+NoPairRedundant = (s : Position) (t q : Tree) (l rest : List Tok) → is_well_formed t ≡ true → plainly_attributed t ≡ true
+    → is_minimal s ≡ true → allows s rest ≡ true
     → OneLess (printed_in s t) q → Stands (place_of s) l (clear q) rest → ⊥

@@ -15,7 +15,7 @@ use Rattle.syn_parts.specs.Fits.{type_fits}
 use Rattle.syn_grammar.specs.declared.kinds.Infix.{Infix}
 use Rattle.syn_grammar.specs.declared.kinds.Infix.TheVariants as inf
 use Rattle.syn_grammar.specs.Tree as e
-use Rattle.syn_grammar.specs.Tree.{Body, Tree, Kids, Leaf, Lead, Post, Frame, Piece, leaf, paren, adorned, lead, mid, post, tail, frame, none, kid, outers, own_tokens, plain_block, post_op, is_silent}
+use Rattle.syn_grammar.specs.Tree.{Body, Tree, Children, Leaf, Prefix, Postfix, Frame, Piece, leaf, paren, attributed, prefixed, infixed, postfixed, tail, frame, none, child, outers, own_tokens, plain_block, postfix_op, is_silent}
 use Rattle.syn_grammar.specs.Rule.{is_brace_delimiter, leaf_labelled, frame_labelled}
 use Rattle.syn_grammar.specs.WellFormed.{is_well_formed}
 
@@ -32,21 +32,21 @@ abbrev pub is_sole_quote : List Tok → Bool
 is_sole_quote (punct c spacing.Joint ∷ []) = c == 39
 is_sole_quote _ = false
 
--- kept tokens that begin with a lifetime, or are its quote before a word
-abbrev pub kept_leads : Bool → List Tok → Bool
-kept_leads word ts = lifetime_at ts || (word && is_sole_quote ts)
+-- verbatim tokens that begin with a lifetime, or are its quote before a word
+abbrev pub verbatim_leads : Bool → List Tok → Bool
+verbatim_leads word ts = lifetime_at ts || (word && is_sole_quote ts)
 
 abbrev pub leaf_leads : Bool → Leaf → Bool
-leaf_leads word (e.verbatim ts) = kept_leads word ts
+leaf_leads word (e.verbatim ts) = verbatim_leads word ts
 leaf_leads word k = leaf_labelled k
 
 -- `word`: a word stands behind the tree. The one word that stands behind a left end is `as`. Inner attributes before a
 -- node aren't spelled.
 abbrev pub tree_leads : Bool → Tree → Bool
 tree_leads word (leaf k) = leaf_leads word k
-tree_leads word (adorned a more t) = is_nil (outers (a ∷ more)) && tree_leads word t
-tree_leads word (mid x k y) = tree_leads (is_cast_op k) x
-tree_leads word (post x k) = tree_leads (is_cast_op (post_op k)) x
+tree_leads word (attributed a more t) = is_nil (outers (a ∷ more)) && tree_leads word t
+tree_leads word (infixed x k y) = tree_leads (is_cast_op k) x
+tree_leads word (postfixed x k) = tree_leads (is_cast_op (postfix_op k)) x
 tree_leads word (tail b k ks) = tree_leads false b
 tree_leads word (frame k ks) = frame_labelled k
 tree_leads word _ = false
@@ -72,21 +72,21 @@ last_braces before (t ∷ ts) = last_braces (is_braces t) ts
 -- with braces.
 abbrev mutual
   pub blocked : Tree → Tree
-  blocked (adorned a more t) = adorned a more (blocked t)
-  blocked (lead k gs t) = lead k gs (blocked t)
-  blocked (mid x k y) = mid x k (blocked y)
-  blocked (frame k ks) = frame k (kids_blocked ks)
+  blocked (attributed a more t) = attributed a more (blocked t)
+  blocked (prefixed k gs t) = prefixed k gs (blocked t)
+  blocked (infixed x k y) = infixed x k (blocked y)
+  blocked (frame k ks) = frame k (children_blocked ks)
   blocked t = t
 
-  pub kids_blocked : Kids → Kids
-  kids_blocked none = none
-  kids_blocked (kid e.chained c t ks) = kid e.chained c (plain_block (own_tokens t)) (kids_blocked ks)
-  kids_blocked (kid k c t ks) = kid k c (blocked t) (kids_blocked ks)
+  pub children_blocked : Children → Children
+  children_blocked none = none
+  children_blocked (child e.chained c t ks) = child e.chained c (plain_block (own_tokens t)) (children_blocked ks)
+  children_blocked (child k c t ks) = child k c (blocked t) (children_blocked ks)
 
 abbrev pub ends_with_brace : Tree → Bool
 ends_with_brace t = last_braces false (own_tokens (blocked t))
 
--- ---- the same of a type, and of a tree. What is spelled by no tokens (a path without segments, kept tokens that are none)
+-- ---- the same of a type, and of a tree. What is spelled by no tokens (a path without segments, verbatim tokens that are none)
 -- answers what stands `before` it.
 
 abbrev pub is_unqualified : QSelfTree → Bool
@@ -137,7 +137,7 @@ abbrev pub leaf_brace : Bool → Leaf → Bool
 leaf_brace before (e.path q p) = type_brace before (t.path q p.leading (t.segments_of p.segments) p.trailing)
 leaf_brace before (e.mac m) = is_brace_delimiter m.delimiter
 leaf_brace before (e.block w b) = true
-leaf_brace before (e.looping w b) = true
+leaf_brace before (e.loop_expr w b) = true
 leaf_brace before (e.unsafe_block b) = true
 leaf_brace before (e.const_block b) = true
 leaf_brace before (e.async_block m ts) = true
@@ -146,13 +146,13 @@ leaf_brace before (e.verbatim ts) = last_braces before ts
 leaf_brace before _ = false
 
 -- of the tokens before an operand
-abbrev pub lead_brace : Lead → Bool
-lead_brace (e.closure h) = return_brace h.output
-lead_brace _ = false
+abbrev pub prefix_brace : Prefix → Bool
+prefix_brace (e.closure h) = return_brace h.output
+prefix_brace _ = false
 
-abbrev pub post_brace : Post → Bool
-post_brace (e.cast x) = type_brace false x
-post_brace (e.range_from op) = false
+abbrev pub postfix_brace : Postfix → Bool
+postfix_brace (e.cast x) = type_brace false x
+postfix_brace (e.range_from op) = false
 
 abbrev pub piece_brace : Bool → Piece → Bool
 piece_brace before (e.field_value ats m c) = false
@@ -174,7 +174,7 @@ abbrev pub frame_brace : Frame → Bool → Bool
 frame_brace e.array operands = false
 frame_brace e.tuple operands = false
 frame_brace e.repeat operands = false
-frame_brace e.invisible operands = false
+frame_brace e.group_expr operands = false
 frame_brace (e.structure q p d) operands = true
 frame_brace k operands = operands
 
@@ -186,19 +186,19 @@ abbrev mutual
   pub tree_brace : Bool → Tree → Bool
   tree_brace before (leaf k) = leaf_brace before k
   tree_brace before (paren m t) = false
-  tree_brace before (adorned a more t) = tree_brace (is_nil (outers (a ∷ more)) && before) t
-  tree_brace before (lead k gs t) = tree_brace (lead_brace k) t
-  tree_brace before (mid x k y) = tree_brace false y
-  tree_brace before (post x k) = post_brace k
+  tree_brace before (attributed a more t) = tree_brace (is_nil (outers (a ∷ more)) && before) t
+  tree_brace before (prefixed k gs t) = tree_brace (prefix_brace k) t
+  tree_brace before (infixed x k y) = tree_brace false y
+  tree_brace before (postfixed x k) = postfix_brace k
   tree_brace before (tail b k ks) = false
-  tree_brace before (frame k ks) = frame_brace k (kids_brace (frame_head_brace k) ks)
+  tree_brace before (frame k ks) = frame_brace k (children_brace (frame_head_brace k) ks)
 
-  pub kids_brace : Bool → Kids → Bool
-  kids_brace before none = before
-  kids_brace before (kid k e.no_ending t ks) = kids_brace (operand_brace before k (tree_brace (piece_brace before k) t)) ks
-  kids_brace before (kid k e.comma t ks) = kids_brace false ks
-  kids_brace before (kid k (e.braced b) t ks) = kids_brace true ks
-  kids_brace before (kid k (e.opened ats) t ks) = true
+  pub children_brace : Bool → Children → Bool
+  children_brace before none = before
+  children_brace before (child k e.no_ending t ks) = children_brace (operand_brace before k (tree_brace (piece_brace before k) t)) ks
+  children_brace before (child k e.comma t ks) = children_brace false ks
+  children_brace before (child k (e.braced b) t ks) = children_brace true ks
+  children_brace before (child k (e.opened ats) t ks) = true
 
 abbrev pub trailing_brace : Tree → Bool
 trailing_brace t = tree_brace false t
@@ -206,8 +206,8 @@ trailing_brace t = tree_brace false t
 pub record TrailingBraceIsLast : Type 0 where
   pub everywhere : (t : Tree) → trailing_brace t ≡ ends_with_brace t
   -- An `if` always does, with an `else` and without one, whatever stands behind that.
-  pub branches : (b : Body) (c x : Tree) → (ends_with_brace (frame e.branch (kid e.condition (e.braced b) c none)) ≡ true)
-      × (ends_with_brace (frame e.branch (kid e.condition (e.braced b) c (kid e.chained e.no_ending x none))) ≡ true)
+  pub if_exprs : (b : Body) (c x : Tree) → (ends_with_brace (frame e.if_expr (child e.condition (e.braced b) c none)) ≡ true)
+      × (ends_with_brace (frame e.if_expr (child e.condition (e.braced b) c (child e.chained e.no_ending x none))) ≡ true)
   -- A well-formed tree has an `if` or a block behind each `else`.
   pub well_formed : (t : Tree) → is_well_formed t ≡ true → trailing_brace t ≡ last_braces false (own_tokens t)
 

@@ -9,7 +9,7 @@ use Rattle.syn_parts.specs.Part.{type}
 use Rattle.syn_parts.specs.Own.{alone, joint}
 use Rattle.syn_grammar.specs.Place.{plain}
 use Rattle.syn_grammar.specs.Tree as e
-use Rattle.syn_grammar.specs.Tree.{Tree, leaf, post, frame, kid, none}
+use Rattle.syn_grammar.specs.Tree.{Tree, leaf, postfixed, frame, child, none}
 use Rattle.syn_grammar.specs.Read.{all_of, expr}
 use Rattle.syn_grammar.specs.Binding.{requires_comma_to_be_match_arm, requires_semi_to_be_stmt}
 use Rattle.syn_grammar.specs.Query.{leads_with_label, ends_with_brace, trailing_unparameterized_path}
@@ -66,10 +66,10 @@ pub record QueryRows : Type 0 where
   -- `x {}.y`
   pub field : Answers ends_with_brace (ident (codes "x") ∷ braces ∷ alone 46 ∷ ident (codes "y") ∷ []) false
   -- An `if` ends with braces whatever stands behind its `else`, as here a path that is none; so does a `return` of it.
-  pub otherwise : ends_with_brace (frame e.branch (kid e.condition (e.braced (record { inner = []; tokens = [] })) empty_path (kid e.chained e.no_ending empty_path none))) ≡ true
+  pub otherwise : ends_with_brace (frame e.if_expr (child e.condition (e.braced (record { inner = []; tokens = [] })) empty_path (child e.chained e.no_ending empty_path none))) ≡ true
   -- a path without segments, and a cast to one
   pub empty : ends_with_brace empty_path ≡ false
-  pub empty_cast : ends_with_brace (post empty_path (e.cast (t.path t.no_qself false t.no_segments false))) ≡ false
+  pub empty_cast : ends_with_brace (postfixed empty_path (e.cast (t.path t.no_qself false t.no_segments false))) ≡ false
   -- `a::B`
   pub path : EndsInPath (ident (codes "a") ∷ joint 58 ∷ alone 58 ∷ ident (codes "B") ∷ []) true
   -- `a<B>`

@@ -21,10 +21,10 @@ use Rattle.syn_grammar.specs.Path.{expr_path, invisible_at}
 use Rattle.syn_grammar.specs.Op.{infix_at, level}
 use Rattle.syn_grammar.specs.Front.{ends_open_range, dot_at, question_at, bracket_at}
 use Rattle.syn_grammar.specs.Tree as e
-use Rattle.syn_grammar.specs.Tree.{Tree, Kids, ClosureHead, Leaf, Lead, Post, Trailer, Frame, Piece, Ending, leaf, paren, adorned, lead, mid, post, tail, frame, none, kid, plain_block, post_op, is_one, is_silent}
-use Rattle.syn_grammar.specs.Head.{leaf_form, lead_form, dotted, to_named, from_closure, label, closure_at, jump_at, range_at, literal_at, let_word, minus, continue_word, loop_at, block_at, unsafe_word, const_block_at, async_block_at, try_block_at, builtin_at}
+use Rattle.syn_grammar.specs.Tree.{Tree, Children, ClosureHead, Leaf, Prefix, Postfix, Trailer, Frame, Piece, Ending, leaf, paren, attributed, prefixed, infixed, postfixed, tail, frame, none, child, plain_block, postfix_op, is_one, is_silent}
+use Rattle.syn_grammar.specs.Head.{leaf_form, prefix_form, dotted, to_named, from_closure, label, closure_at, jump_at, range_at, literal_at, let_word, minus, continue_word, loop_at, block_at, unsafe_word, const_block_at, async_block_at, try_block_at, builtin_at}
 use Rattle.syn_grammar.specs.Slot.{Slot, Holder, elements, single, fields, conditions, scrutinees, arms, after, may_end, piece_form, piece_place, ending_at, frame_holder, trailer_holder, nothing, within, bare, is_chained, for_head, while_word, for_word, if_word, match_word}
-use Rattle.syn_grammar.specs.Stands.{closes, ends, ends_operation, fits_left, fits_base, leaf_stands, lead_stands, lead_place, mid_stands, post_stands, frame_stands, frame_ends, ends_list, short_value, takes_block, may_adorn, rests, is_range, fields_of, name_at, indices_at, has_no_comma}
+use Rattle.syn_grammar.specs.Stands.{closes, ends, ends_operation, fits_left, fits_base, leaf_stands, prefix_stands, prefix_place, infix_stands, postfix_stands, frame_stands, frame_ends, ends_list, short_value, takes_block, takes_attributes, rests, is_range, fields_of, name_at, indices_at, has_no_comma}
 
 abbrev pub Reading : Type 0 → Type 0
 Reading A = List Tok → Outcome A
@@ -106,14 +106,14 @@ abbrev pub verbatim_of : Tree → Option (List Tok)
 verbatim_of (leaf k) = verbatim_leaf_of k
 verbatim_of _ = None
 
-abbrev pub adorned_by : Place → List Tok → List Tok → AttributeTree → List AttributeTree → Tree → Option (List Tok) → Reading Tree
-adorned_by p l m a more x None n = only_if (may_adorn p x) (Some (adorned a more x, n))
-adorned_by p l m a more x (Some ts) n = only_if (is_taken l m) (Some (leaf (e.verbatim (taken l m ++ ts)), n))
+abbrev pub attributed_by : Place → List Tok → List Tok → AttributeTree → List AttributeTree → Tree → Option (List Tok) → Reading Tree
+attributed_by p l m a more x None n = only_if (takes_attributes p x) (Some (attributed a more x, n))
+attributed_by p l m a more x (Some ts) n = only_if (is_taken l m) (Some (leaf (e.verbatim (taken l m ++ ts)), n))
 
 -- with these attributes, which were read from l before the tokens m of x
-abbrev pub attributed : Place → List Tok → List Tok → List AttributeTree → Tree → Reading Tree
-attributed p l m [] x n = None
-attributed p l m (a ∷ more) x n = adorned_by p l m a more x (verbatim_of x) n
+abbrev pub read_attributed : Place → List Tok → List Tok → List AttributeTree → Tree → Reading Tree
+read_attributed p l m [] x n = None
+read_attributed p l m (a ∷ more) x n = attributed_by p l m a more x (verbatim_of x) n
 
 -- ---- first tokens
 
@@ -126,8 +126,8 @@ leaf_at l =
     literal_at l || (underscore.at l || (continue_word.at l || (loop_at l || (block_at l || (unsafe_word.at l
     || (const_block_at l || (async_block_at l || (try_block_at l || builtin_at l))))))))
 
-unfoldable pub lead_at : Test
-lead_at l =
+unfoldable pub prefix_at : Test
+prefix_at l =
     star.at l || (bang.at l || (minus.at l || (and.at l || (range_at l || (let_word.at l || (jump_at l || closure_at l))))))
 
 -- where no block stands behind a label
@@ -146,48 +146,48 @@ module _ (expr : Place → Reading Tree) where
   abbrev pub ended_by : Piece → Tree → Reading (Ending × Tree)
   ended_by k x l = and_then (ending_at k x l) (λ c n. Some ((c, x), n))
 
-  abbrev pub branch_by : Reading Kids → Reading Tree
-  branch_by inner l = only_if (if_word.at l) ((frame e.branch <$> inner) (drop 1 l))
+  abbrev pub if_expr_by : Reading Children → Reading Tree
+  if_expr_by inner l = only_if (if_word.at l) ((frame e.if_expr <$> inner) (drop 1 l))
 
   -- a block that keeps its tokens, or an `if` behind `else`
-  abbrev pub block_by : Reading Kids → Piece → Reading (Ending × Tree)
+  abbrev pub block_by : Reading Children → Piece → Reading (Ending × Tree)
   block_by inner k l =
       if brace_at l then and_then (group_at del.Brace l) (λ i n. Some ((e.no_ending, plain_block i), n))
-      else only_if (is_chained k) ((branch_by inner >>= ended_by k) l)
+      else only_if (is_chained k) ((if_expr_by inner >>= ended_by k) l)
 
   -- a value that a name says, or an expression
   abbrev pub value_by : Piece → Option Tree → Reading (Ending × Tree)
   value_by k (Some x) l = ended_by k x l
   value_by k None l = only_if (not (is_silent k)) ((expr (piece_place k) >>= ended_by k) l)
 
-  abbrev pub operand_of : Reading Kids → Piece → Reading (Ending × Tree)
+  abbrev pub operand_of : Reading Children → Piece → Reading (Ending × Tree)
   operand_of inner k l = if takes_block k then block_by inner k l else value_by k (short_value k) l
 
   -- what a `match` looks at, and its arms
-  abbrev pub armed : Reading Kids → Tree → Reading Kids
+  abbrev pub armed : Reading Children → Tree → Reading Children
   armed arms_of x l =
       and_then (group_at del.Brace l) (λ i n. and_then (inner_attributes.reads i) (λ ats j.
-      before (all_of (arms_of j)) (λ ks. kid e.scrutinee (e.opened ats) x ks) n))
+      before (all_of (arms_of j)) (λ ks. child e.scrutinee (e.opened ats) x ks) n))
 
   -- one of the operands, and more
-  abbrev pub operands_by : (Slot → Reading Kids) → Slot → Reading Kids
+  abbrev pub operands_by : (Slot → Reading Children) → Slot → Reading Children
   operands_by more s l =
       if is_scrutinees s then (expr before_block >>= armed (more arms)) l
       else (if may_end s l then Some (none, l)
-      else ((piece_form s).reads >>= (λ k. operand_of (more conditions) k >>= (λ c. (λ ks. kid k c.0 c.1 ks) <$> more (after k)))) l)
+      else ((piece_form s).reads >>= (λ k. operand_of (more conditions) k >>= (λ c. (λ ks. child k c.0 c.1 ks) <$> more (after k)))) l)
 
   -- the operands from a slot on, fewer than so many
-  unfoldable pub operands : ℕ → Slot → Reading Kids
+  unfoldable pub operands : ℕ → Slot → Reading Children
   operands zero s l = None
   operands (suc n) s l = operands_by (operands n) s l
 
-  unfoldable pub bare_operands : Slot → Reading Kids
+  unfoldable pub bare_operands : Slot → Reading Children
   bare_operands s l = operands (suc (weight l)) s l
 
-  abbrev pub ended_list : Bool → Kids → List Tok → Reading Kids
+  abbrev pub ended_list : Bool → Children → List Tok → Reading Children
   ended_list d ks o n = only_if (ends_list d o) (Some (ks, n))
 
-  unfoldable pub content : Holder → Reading Kids
+  unfoldable pub content : Holder → Reading Children
   content nothing = give none
   content (within d s b) = λ l. and_then (group_at d l) (λ i n. and_then (bare_operands s i) (λ ks o. ended_list b ks o n))
   content (bare s) = bare_operands s
@@ -198,18 +198,18 @@ module _ (expr : Place → Reading Tree) where
   -- ---- in parentheses and brackets
 
   -- one without a comma is in parentheses, all else a tuple
-  abbrev pub rounded : Kids → Tree
+  abbrev pub rounded : Children → Tree
   rounded none = frame e.tuple none
-  rounded (kid k c x ks) = if is_one (kid k c x ks) && has_no_comma (kid k c x ks) then paren false x else frame e.tuple (kid k c x ks)
+  rounded (child k c x ks) = if is_one (child k c x ks) && has_no_comma (child k c x ks) then paren false x else frame e.tuple (child k c x ks)
 
   unfoldable pub round_read : Reading Tree
   round_read = rounded <$> content (within del.Parenthesis elements false)
 
   abbrev pub repeated_by : Tree → Reading Tree
-  repeated_by x = (λ ks. frame e.repeat (kid e.repeated e.no_ending x ks)) <$> bare_operands single
+  repeated_by x = (λ ks. frame e.repeat (child e.repeated e.no_ending x ks)) <$> bare_operands single
 
   abbrev pub elements_by : Tree → Reading Tree
-  elements_by x = ended_by e.element x >>= (λ c. (λ ks. frame e.array (kid e.element c.0 x ks)) <$> bare_operands elements)
+  elements_by x = ended_by e.element x >>= (λ c. (λ ks. frame e.array (child e.element c.0 x ks)) <$> bare_operands elements)
 
   abbrev pub bracketed : Tree → Reading Tree
   bracketed x m = if semi.at m then repeated_by x (drop 1 m) else elements_by x m
@@ -222,7 +222,7 @@ module _ (expr : Place → Reading Tree) where
 
   -- ---- paths, macros and struct expressions
 
-  abbrev pub structured : Place → QPathTree → Bool → List Tok → Kids → Reading Tree
+  abbrev pub structured : Place → QPathTree → Bool → List Tok → Children → Reading Tree
   structured p q d o ks n = only_if (ends_list d o && frame_stands p (e.structure q.0 q.1 d) ks) (Some (frame (e.structure q.0 q.1 d) ks, n))
 
   -- `..` may end it
@@ -244,11 +244,11 @@ module _ (expr : Place → Reading Tree) where
   unled p l None m = leaf_read p l
   unled p l (Some h) m = framed_by p (e.closure_block h) m
 
-  abbrev pub led : Place → List Tok → Lead → Reading Tree
-  led p l k m = if lead_stands p k m then (lead k none <$> expr (lead_place p k)) m else unled p l (from_closure k) m
+  abbrev pub led : Place → List Tok → Prefix → Reading Tree
+  led p l k m = if prefix_stands p k m then (prefixed k none <$> expr (prefix_place p k)) m else unled p l (from_closure k) m
 
-  unfoldable pub lead_read : Place → Reading Tree
-  lead_read p l = and_then (lead_form.reads l) (led p l)
+  unfoldable pub prefix_read : Place → Reading Tree
+  prefix_read p l = and_then (prefix_form.reads l) (led p l)
 
   -- ---- loops
 
@@ -262,24 +262,24 @@ module _ (expr : Place → Reading Tree) where
 
   -- ---- operands
 
-  abbrev pub kept_from : List Tok → Tree → Reading Tree
-  kept_from l x n = only_if (is_taken l n) (Some (leaf (e.verbatim (taken l n)), n))
+  abbrev pub verbatim_from : List Tok → Tree → Reading Tree
+  verbatim_from l x n = only_if (is_taken l n) (Some (leaf (e.verbatim (taken l n)), n))
 
   -- an invisible group: the front of a path, or an operand by itself
   unfoldable pub group_read : Place → Reading Tree
-  group_read p l = if is_some ((expr_path (not p.condition)).reads l) then named_read p l else framed_by p e.invisible l
+  group_read p l = if is_some ((expr_path (not p.condition)).reads l) then named_read p l else framed_by p e.group_expr l
 
   -- by what stands first
   unfoldable pub atom : Place → Reading Tree
   atom p l =
       if leaf_at l then leaf_read p l
-      else (if lead_at l then lead_read p l
+      else (if prefix_at l then prefix_read p l
       else (if round_at l then round_read l
       else (if bracket_at l then bracket_read l
-      else (if become_word.at l then (expr plain >>= kept_from l) (drop 1 l)
-      else (if if_word.at l then framed_by p e.branch (drop 1 l)
+      else (if become_word.at l then (expr plain >>= verbatim_from l) (drop 1 l)
+      else (if if_word.at l then framed_by p e.if_expr (drop 1 l)
       else (if loop_head_at l then loop_read p l
-      else (if match_word.at l then framed_by p e.choice (drop 1 l)
+      else (if match_word.at l then framed_by p e.match_expr (drop 1 l)
       else (if invisible_at l then group_read p l
       else named_read p l))))))))
 
@@ -301,7 +301,7 @@ module _ (expr : Place → Reading Tree) where
   trailed p b l =
       if round_at l then trailed_by p b [] e.call l
       else (if bracket_at l then trailed_by p b [] e.index l
-      else (if question_at l then trailed_by p b [] e.question (drop 1 l)
+      else (if question_at l then trailed_by p b [] e.try_expr (drop 1 l)
       else only_if (dot_at l) (dotted_by p b (indices_at (drop 1 l)) (drop 1 l))))
 
   -- trailers, one behind the other
@@ -314,24 +314,24 @@ module _ (expr : Place → Reading Tree) where
 
   -- an operand behind its attributes
   unfoldable pub operand : Place → Reading Tree
-  operand p l = if pound.at l then and_then (outer_attributes.reads l) (λ ats m. (core p >>= attributed p l m ats) m) else core p l
+  operand p l = if pound.at l then and_then (outer_attributes.reads l) (λ ats m. (core p >>= read_attributed p l m ats) m) else core p l
 
   -- ---- operations
 
-  abbrev pub post_made : Place → Tree → Post → Reading Tree
-  post_made p x k n = only_if (post_stands p k n) (operation (post_op k) (post x k) n)
+  abbrev pub postfix_made : Place → Tree → Postfix → Reading Tree
+  postfix_made p x k n = only_if (postfix_stands p k n) (operation (postfix_op k) (postfixed x k) n)
 
-  abbrev pub mid_read : Place → Tree → Infix → Reading Tree
-  mid_read p x op m = only_if (mid_stands p op m) ((expr (at p (level op)) >>= (λ y. operation op (mid x op y))) m)
+  abbrev pub infix_read : Place → Tree → Infix → Reading Tree
+  infix_read p x op m = only_if (infix_stands p op m) ((expr (at p (level op)) >>= (λ y. operation op (infixed x op y))) m)
 
   -- an operation, behind its left operand and its operator
   unfoldable pub longer : Place → Tree → Infix → Reading Tree
-  longer p x inf.Cast m = ((type false).reads >>= (λ ty. post_made p x (e.cast ty))) m
+  longer p x inf.Cast m = ((type false).reads >>= (λ ty. postfix_made p x (e.cast ty))) m
   longer p x (inf.Range limits.HalfOpen) m =
-      if ends_open_range p.condition m then post_made p x (e.range_from limits.HalfOpen) m else mid_read p x (inf.Range limits.HalfOpen) m
-  longer p x (inf.Range limits.Closed) m = mid_read p x (inf.Range limits.Closed) m
-  longer p x inf.Assign m = mid_read p x inf.Assign m
-  longer p x (inf.Binary op) m = mid_read p x (inf.Binary op) m
+      if ends_open_range p.condition m then postfix_made p x (e.range_from limits.HalfOpen) m else infix_read p x (inf.Range limits.HalfOpen) m
+  longer p x (inf.Range limits.Closed) m = infix_read p x (inf.Range limits.Closed) m
+  longer p x inf.Assign m = infix_read p x inf.Assign m
+  longer p x (inf.Binary op) m = infix_read p x (inf.Binary op) m
 
   -- no trailer is left behind a cast
   abbrev pub closing : Place → Tree → Reading Tree

@@ -15,15 +15,15 @@ use Rattle.syn_grammar.specs.declared.next.Edge.TheVariants as edge
 use Rattle.syn_grammar.specs.declared.next.Context.{Context}
 use Rattle.syn_grammar.specs.Place.{above, takes}
 use Rattle.syn_grammar.specs.Op.{level, is_comparison}
-use Rattle.syn_grammar.specs.Next.{class_of, next_of, takes_next, trails, begins_next, is_block_next, is_brace_next, enclosed, in_statement, left_context, base_context, right_context, adorned_context, lead_context, lead_next, lead_level, piece_context}
+use Rattle.syn_grammar.specs.Next.{class_of, next_of, takes_next, trails, begins_next, is_block_next, is_brace_next, enclosed, in_statement, left_context, base_context, right_context, attributed_context, prefix_context, prefix_next, prefix_level, piece_context}
 use Rattle.syn_grammar.specs.Stands.{is_infix, is_range, is_cast, carries, compares, is_base}
 use Rattle.syn_grammar.specs.Tree as e
-use Rattle.syn_grammar.specs.Tree.{Tree, Kids, Leaf, Lead, Post, Jump, Frame, Piece, Trailer, leaf, paren, adorned, lead, mid, post, tail, frame, none, kid, own_tokens, fill, plain_block, post_op, is_block_leaf, is_block_frame, is_silent}
+use Rattle.syn_grammar.specs.Tree.{Tree, Children, Leaf, Prefix, Postfix, Jump, Frame, Piece, Trailer, leaf, paren, attributed, prefixed, infixed, postfixed, tail, frame, none, child, own_tokens, fill, plain_block, postfix_op, is_block_leaf, is_block_frame, is_silent}
 
 -- ---- what a node is as printed: an operation behind attributes is in parentheses
 
 abbrev pub prints_range : Tree → Bool
-prints_range (adorned a more t) = false
+prints_range (attributed a more t) = false
 prints_range t = is_range t
 
 -- without attributes: behind these it is in parentheses, since they would belong to its first operand
@@ -32,7 +32,7 @@ is_operation t = is_infix t || prints_range t
 
 -- a trailer behind it would belong to it, or is refused there
 abbrev pub prints_carrier : Tree → Bool
-prints_carrier (adorned a more t) = is_operation t || prints_carrier t
+prints_carrier (attributed a more t) = is_operation t || prints_carrier t
 prints_carrier t = carries t || is_cast t
 
 -- ---- what a node must not have behind it, for what it is itself
@@ -59,14 +59,14 @@ is_less_next next.ShiftLeftAssign = true
 is_less_next _ = false
 
 -- and a type before a `<` that would begin its arguments
-abbrev pub post_refuses : Post → Next → Bool
-post_refuses (e.cast x) n = is_less_next n && ends_open x
-post_refuses (e.range_from op) n = not (ends_range_next n)
+abbrev pub postfix_refuses : Postfix → Next → Bool
+postfix_refuses (e.cast x) n = is_less_next n && ends_open x
+postfix_refuses (e.range_from op) n = not (ends_range_next n)
 
 abbrev pub refuses : Tree → Next → Bool
 refuses (leaf k) n = leaf_refuses k n
-refuses (adorned a more t) n = not (is_operation t) && refuses t n
-refuses (post t k) n = post_refuses k n
+refuses (attributed a more t) n = not (is_operation t) && refuses t n
+refuses (postfixed t k) n = postfix_refuses k n
 refuses _ n = false
 
 -- ---- where a node must not stand, for what it is itself
@@ -99,9 +99,9 @@ leaf_misplaced c (e.block None b) = is_below c.edge || is_braceless c.edge
 leaf_misplaced c (e.mac m) = is_below_statement c.edge && is_brace_delimiter m.delimiter
 leaf_misplaced c k = is_below c.edge && is_block_leaf k
 
-abbrev pub lead_misplaced : Context → Lead → Bool
-lead_misplaced c (e.binding p) = is_statement c.edge
-lead_misplaced c k = false
+abbrev pub prefix_misplaced : Context → Prefix → Bool
+prefix_misplaced c (e.let_expr p) = is_statement c.edge
+prefix_misplaced c k = false
 
 -- a struct expression in a condition
 abbrev pub frame_misplaced : Context → Frame → Bool
@@ -110,8 +110,8 @@ frame_misplaced c k = is_below c.edge && is_block_frame k
 
 abbrev pub misplaced : Context → Tree → Bool
 misplaced c (leaf k) = leaf_misplaced c k
-misplaced c (adorned a more t) = not (is_operation t) && misplaced (adorned_context c) t
-misplaced c (lead k gs t) = lead_misplaced c k
+misplaced c (attributed a more t) = not (is_operation t) && misplaced (attributed_context c) t
+misplaced c (prefixed k gs t) = prefix_misplaced c k
 misplaced c (frame k ks) = frame_misplaced c k
 misplaced c t = false
 
@@ -130,13 +130,13 @@ abbrev pub ends_badly : Level → Tree → Next → Bool → Bool
 ends_badly v t n wrapped = (takes_next v n && not (not wrapped && prints_range t)) || (trails n && (wrapped || prints_carrier t))
 
 -- the value of a `break` without a label begins with a lifetime
-abbrev pub is_bare_break : Lead → Bool
+abbrev pub is_bare_break : Prefix → Bool
 is_bare_break (e.jump (e.breaking None)) = true
 is_bare_break _ = false
 
 abbrev pub leaf_labelled : Leaf → Bool
 leaf_labelled (e.block (Some w) b) = true
-leaf_labelled (e.looping (Some w) b) = true
+leaf_labelled (e.loop_expr (Some w) b) = true
 leaf_labelled _ = false
 
 abbrev pub frame_labelled : Frame → Bool
@@ -160,24 +160,24 @@ place_wrapped v t n lowest takes_it = not (takes v lowest) || (takes_it || refus
 abbrev mutual
   -- the lowest operator on the bare left edge, Unambiguous where none is there
   pub low : Tree → Level
-  low (mid x k y) = lower (level k) (if left_wrapped k x (bad x (class_of k)) then lev.Unambiguous else low x)
-  low (post x k) = lower (level (post_op k)) (if left_wrapped (post_op k) x (bad x (class_of (post_op k))) then lev.Unambiguous else low x)
+  low (infixed x k y) = lower (level k) (if left_wrapped k x (bad x (class_of k)) then lev.Unambiguous else low x)
+  low (postfixed x k) = lower (level (postfix_op k)) (if left_wrapped (postfix_op k) x (bad x (class_of (postfix_op k))) then lev.Unambiguous else low x)
   low _ = lev.Unambiguous
 
   -- the bare right end must not have a token of this class behind it
   pub bad : Tree → Next → Bool
-  bad (lead k gs t) n =
-      ends_badly (lead_level k) t (lead_next k n)
-      (place_wrapped (lead_level k) t (lead_next k n) (low t) (bad t (lead_next k n)) || (is_bare_break k && labelled t))
-  bad (mid x k y) n = ends_badly (level k) y n (place_wrapped (level k) y n (low y) (bad y n))
-  bad (adorned a more t) n = not (is_operation t) && bad t n
+  bad (prefixed k gs t) n =
+      ends_badly (prefix_level k) t (prefix_next k n)
+      (place_wrapped (prefix_level k) t (prefix_next k n) (low t) (bad t (prefix_next k n)) || (is_bare_break k && labelled t))
+  bad (infixed x k y) n = ends_badly (level k) y n (place_wrapped (level k) y n (low y) (bad y n))
+  bad (attributed a more t) n = not (is_operation t) && bad t n
   bad _ n = false
 
   -- the first token is that of a label
   pub labelled : Tree → Bool
   labelled (leaf k) = leaf_labelled k
-  labelled (mid x k y) = not (left_wrapped k x (bad x (class_of k))) && labelled x
-  labelled (post x k) = not (left_wrapped (post_op k) x (bad x (class_of (post_op k)))) && labelled x
+  labelled (infixed x k y) = not (left_wrapped k x (bad x (class_of k))) && labelled x
+  labelled (postfixed x k) = not (left_wrapped (postfix_op k) x (bad x (class_of (postfix_op k)))) && labelled x
   labelled (tail b k ks) = not (base_wrapped k b (bad b (next_of k))) && labelled b
   labelled (frame k ks) = frame_labelled k
   labelled _ = false
@@ -193,9 +193,9 @@ left_asks k c t = left_wrapped k t (bad t c.next) || misplaced c t
 abbrev pub base_asks : Trailer → Context → Tree → Bool
 base_asks k c t = base_wrapped k t (bad t c.next) || misplaced c t
 
--- behind a lead: the value of a `break` too where it begins with a label
-abbrev pub lead_asks : Lead → Context → Tree → Bool
-lead_asks k c t = place_asks (lead_level k) c t || (is_bare_break k && labelled t)
+-- behind a prefix: the value of a `break` too where it begins with a label
+abbrev pub prefix_asks : Prefix → Context → Tree → Bool
+prefix_asks k c t = place_asks (prefix_level k) c t || (is_bare_break k && labelled t)
 
 -- ---- the printed tree
 
@@ -218,19 +218,19 @@ is_plain_block (leaf k) = is_plain_leaf k
 is_plain_block _ = false
 
 abbrev pub is_if : Frame → Bool
-is_if e.branch = true
+is_if e.if_expr = true
 is_if _ = false
 
 -- an `if` or a block, which may have attributes
 abbrev pub is_chainable : Tree → Bool
 is_chainable (leaf k) = is_block_expr_leaf k
-is_chainable (adorned a more t) = is_chainable t
+is_chainable (attributed a more t) = is_chainable t
 is_chainable (frame k ks) = is_if k
 is_chainable _ = false
 
 -- an `if` is printed without its attributes there
 abbrev pub chained_bare : Tree → Tree
-chained_bare (adorned a more (frame k ks)) = frame k ks
+chained_bare (attributed a more (frame k ks)) = frame k ks
 chained_bare t = t
 
 -- Behind `else` anything else than an `if` or a block, and behind a closure's output than a block, is put in braces, and
@@ -245,22 +245,22 @@ abbrev mutual
   pub bare : Context → Tree → Tree
   bare c (leaf k) = leaf k
   bare c (paren m t) = paren false (bare enclosed t)
-  bare c (adorned a more t) = adorned a more (put (is_operation t) (bare enclosed t) (bare (adorned_context c) t))
-  bare c (lead k gs t) = lead k gs (put (lead_asks k (lead_context k c) t) (bare enclosed t) (bare (lead_context k c) t))
-  bare c (mid x k y) =
-      mid (put (left_asks k (left_context k c) x) (bare enclosed x) (bare (left_context k c) x)) k
+  bare c (attributed a more t) = attributed a more (put (is_operation t) (bare enclosed t) (bare (attributed_context c) t))
+  bare c (prefixed k gs t) = prefixed k gs (put (prefix_asks k (prefix_context k c) t) (bare enclosed t) (bare (prefix_context k c) t))
+  bare c (infixed x k y) =
+      infixed (put (left_asks k (left_context k c) x) (bare enclosed x) (bare (left_context k c) x)) k
       (put (place_asks (level k) (right_context k c) y) (bare enclosed y) (bare (right_context k c) y))
-  bare c (post x k) =
-      post (put (left_asks (post_op k) (left_context (post_op k) c) x) (bare enclosed x) (bare (left_context (post_op k) c) x)) k
-  bare c (tail b k ks) = tail (put (base_asks k (base_context k c) b) (bare enclosed b) (bare (base_context k c) b)) k (bare_kids ks)
-  bare c (frame k ks) = frame k (bare_kids ks)
+  bare c (postfixed x k) =
+      postfixed (put (left_asks (postfix_op k) (left_context (postfix_op k) c) x) (bare enclosed x) (bare (left_context (postfix_op k) c) x)) k
+  bare c (tail b k ks) = tail (put (base_asks k (base_context k c) b) (bare enclosed b) (bare (base_context k c) b)) k (bare_children ks)
+  bare c (frame k ks) = frame k (bare_children ks)
 
-  pub bare_kids : Kids → Kids
-  bare_kids none = none
-  bare_kids (kid k c t ks) =
-      kid k c (piece_put k t (bare enclosed t) (bare (piece_context k) t)
+  pub bare_children : Children → Children
+  bare_children none = none
+  bare_children (child k c t ks) =
+      child k c (piece_put k t (bare enclosed t) (bare (piece_context k) t)
       (put (place_asks lev.Jump in_statement t) (bare enclosed t) (bare in_statement t))
-      (place_asks lev.Jump (piece_context k) t)) (bare_kids ks)
+      (place_asks lev.Jump (piece_context k) t)) (bare_children ks)
 
 -- the tree as printed for itself
 abbrev pub printed : Context → Tree → Tree

@@ -208,11 +208,11 @@ frame_holder e.tuple = within del.Parenthesis elements false
 frame_holder e.repeat = within del.Bracket counted false
 frame_holder (e.structure q p d) = within del.Brace fields d
 frame_holder (e.closure_block h) = bare outputs
-frame_holder e.branch = bare conditions
+frame_holder e.if_expr = bare conditions
 frame_holder (e.while_loop l) = bare loops
 frame_holder (e.for_loop l p) = bare loops
-frame_holder e.choice = bare scrutinees
-frame_holder e.invisible = within del.None groups false
+frame_holder e.match_expr = bare scrutinees
+frame_holder e.group_expr = within del.None groups false
 
 abbrev pub trailer_holder : Trailer → Holder
 trailer_holder e.call = within del.Parenthesis elements false
@@ -247,8 +247,8 @@ frame_head e.tuple l = Some l
 frame_head e.repeat l = Some l
 frame_head (e.structure q p d) l = (expr_path true).behind (q, p) l
 frame_head (e.closure_block h) l = closure_head.behind h l
-frame_head e.branch l = if_at if_word l
+frame_head e.if_expr l = if_at if_word l
 frame_head (e.while_loop w) l = then_behind (label.behind w l) (if_at while_word)
 frame_head (e.for_loop w p) l = then_behind (label.behind w l) (for_head.behind p)
-frame_head e.choice l = if_at match_word l
-frame_head e.invisible l = Some l
+frame_head e.match_expr l = if_at match_word l
+frame_head e.group_expr l = Some l

@@ -23,45 +23,45 @@ use Rattle.syn_grammar.specs.Path.{is_word_alone, is_try_alone, goes_on_path}
 use Rattle.syn_grammar.specs.Op.{infix_at, level, is_comparison, is_range_op, goes_on}
 use Rattle.syn_grammar.specs.Front.{begins_expr, ends_open_range, trailer_at, dot_at, question_at, left_arrow_at, three_dots_at}
 use Rattle.syn_grammar.specs.Tree as e
-use Rattle.syn_grammar.specs.Tree.{Tree, Kids, Leaf, Lead, Post, Trailer, Frame, Piece, Ending, Jump, leaf, paren, adorned, lead, mid, post, tail, frame, none, kid, plain_block, post_op, is_block_like, is_silent, is_one}
-use Rattle.syn_grammar.specs.Head.{leaf_form, lead_form, dotted}
+use Rattle.syn_grammar.specs.Tree.{Tree, Children, Leaf, Prefix, Postfix, Trailer, Frame, Piece, Ending, Jump, leaf, paren, attributed, prefixed, infixed, postfixed, tail, frame, none, child, plain_block, postfix_op, is_block_like, is_silent, is_one}
+use Rattle.syn_grammar.specs.Head.{leaf_form, prefix_form, dotted}
 use Rattle.syn_grammar.specs.Slot.{Slot, Holder, nothing, within, bare, scrutinees, arms, may_end, after, piece_form, piece_place, ending_at, frame_head, frame_holder, trailer_holder}
 
 -- ---- kinds of nodes
 
 -- an infix node that compares
 abbrev pub compares : Tree → Bool
-compares (mid x op y) = is_comparison op
+compares (infixed x op y) = is_comparison op
 compares _ = false
 
 -- an infix node
 abbrev pub is_infix : Tree → Bool
-is_infix (mid x op y) = true
-is_infix (post x k) = true
+is_infix (infixed x op y) = true
+is_infix (postfixed x k) = true
 is_infix _ = false
 
 abbrev pub is_range_leaf : Leaf → Bool
 is_range_leaf (e.full_range op) = true
 is_range_leaf _ = false
 
-abbrev pub is_range_lead : Lead → Bool
-is_range_lead (e.range_to op) = true
-is_range_lead _ = false
+abbrev pub is_range_prefix : Prefix → Bool
+is_range_prefix (e.range_to op) = true
+is_range_prefix _ = false
 
 abbrev pub is_range : Tree → Bool
 is_range (leaf k) = is_range_leaf k
-is_range (adorned a more x) = is_range x
-is_range (lead k gs x) = is_range_lead k
-is_range (mid x op y) = is_range_op op
-is_range (post x k) = is_range_op (post_op k)
+is_range (attributed a more x) = is_range x
+is_range (prefixed k gs x) = is_range_prefix k
+is_range (infixed x op y) = is_range_op op
+is_range (postfixed x k) = is_range_op (postfix_op k)
 is_range _ = false
 
 abbrev pub is_cast : Tree → Bool
-is_cast (post x (e.cast ty)) = true
+is_cast (postfixed x (e.cast ty)) = true
 is_cast _ = false
 
 -- an operator with one operand
-abbrev pub is_prefix : Lead → Bool
+abbrev pub is_prefix : Prefix → Bool
 is_prefix (e.unary op) = true
 is_prefix (e.reference m) = true
 is_prefix (e.raw_addr m) = true
@@ -70,10 +70,10 @@ is_prefix _ = false
 -- a call, a field or another trailer may stand behind it
 abbrev pub carries : Tree → Bool
 carries (leaf k) = not (is_range_leaf k)
-carries (adorned a more x) = carries x
-carries (lead k gs x) = not (is_prefix k || is_range_lead k)
-carries (mid x op y) = false
-carries (post x k) = false
+carries (attributed a more x) = carries x
+carries (prefixed k gs x) = not (is_prefix k || is_range_prefix k)
+carries (infixed x op y) = false
+carries (postfixed x k) = false
 carries _ = true
 
 abbrev pub is_verbatim_leaf : Leaf → Bool
@@ -84,25 +84,25 @@ abbrev pub is_verbatim : Tree → Bool
 is_verbatim (leaf k) = is_verbatim_leaf k
 is_verbatim _ = false
 
-abbrev pub is_adorned : Tree → Bool
-is_adorned (adorned a more x) = true
-is_adorned _ = false
+abbrev pub is_attributed : Tree → Bool
+is_attributed (attributed a more x) = true
+is_attributed _ = false
 
 -- Attributes may stand before it, and none do. Before a range without a start they may at a head alone; those before a
 -- `Verbatim` are of its tokens.
-abbrev pub may_adorn : Place → Tree → Bool
-may_adorn p x = not (is_infix x || (is_adorned x || is_verbatim x)) && (p.head || not (is_range x))
+abbrev pub takes_attributes : Place → Tree → Bool
+takes_attributes p x = not (is_infix x || (is_attributed x || is_verbatim x)) && (p.head || not (is_range x))
 
-abbrev pub is_branch : Tree → Bool
-is_branch (frame e.branch ks) = true
-is_branch _ = false
+abbrev pub is_if_expr : Tree → Bool
+is_if_expr (frame e.if_expr ks) = true
+is_if_expr _ = false
 
 -- ---- what may stand behind a node
 
 -- a block-like expression, or what holds one in an invisible group
 abbrev pub holds_block : Tree → Bool
-holds_block (frame e.invisible (kid k c x ks)) = holds_block x
-holds_block (adorned a more x) = holds_block x
+holds_block (frame e.group_expr (child k c x ks)) = holds_block x
+holds_block (attributed a more x) = holds_block x
 holds_block x = is_block_like x
 
 -- it is the whole at a head
@@ -168,38 +168,38 @@ leaf_stands p (e.full_range limits.Closed) n = false
 leaf_stands p (e.bare_jump j) n = ends_jump p j n
 leaf_stands p k n = true
 
--- ---- before an operand: m are the tokens behind the lead
+-- ---- before an operand: m are the tokens behind the prefix
 
-unfoldable pub lead_stands : Place → Lead → List Tok → Bool
-lead_stands p (e.jump j) m = not (ends_jump p j m) && begins_expr m
-lead_stands p (e.range_to limits.HalfOpen) m = not (ends_open_range p.condition m)
-lead_stands p (e.closure h) m = is_default h.output
-lead_stands p k m = true
+unfoldable pub prefix_stands : Place → Prefix → List Tok → Bool
+prefix_stands p (e.jump j) m = not (ends_jump p j m) && begins_expr m
+prefix_stands p (e.range_to limits.HalfOpen) m = not (ends_open_range p.condition m)
+prefix_stands p (e.closure h) m = is_default h.output
+prefix_stands p k m = true
 
-abbrev pub lead_place : Place → Lead → Place
-lead_place p (e.range_to op) = at p lev.Range
-lead_place p (e.binding x) = at p lev.Let
-lead_place p (e.jump j) = plain
-lead_place p (e.closure h) = at p lev.Jump
-lead_place p k = at p lev.Prefix
+abbrev pub prefix_place : Place → Prefix → Place
+prefix_place p (e.range_to op) = at p lev.Range
+prefix_place p (e.let_expr x) = at p lev.Let
+prefix_place p (e.jump j) = plain
+prefix_place p (e.closure h) = at p lev.Jump
+prefix_place p k = at p lev.Prefix
 
 -- ---- behind a left operand
 
 -- an operation with a right operand: m are the tokens behind its operator
-unfoldable pub mid_stands : Place → Infix → List Tok → Bool
-mid_stands p (inf.Range limits.HalfOpen) m = not (ends_open_range p.condition m)
-mid_stands p inf.Cast m = false
-mid_stands p op m = true
+unfoldable pub infix_stands : Place → Infix → List Tok → Bool
+infix_stands p (inf.Range limits.HalfOpen) m = not (ends_open_range p.condition m)
+infix_stands p inf.Cast m = false
+infix_stands p op m = true
 
 -- an operation without one: n are the tokens behind it
-unfoldable pub post_stands : Place → Post → List Tok → Bool
-post_stands p (e.cast x) n = true
-post_stands p (e.range_from limits.HalfOpen) n = ends_open_range p.condition n
-post_stands p (e.range_from limits.Closed) n = false
+unfoldable pub postfix_stands : Place → Postfix → List Tok → Bool
+postfix_stands p (e.cast x) n = true
+postfix_stands p (e.range_from limits.HalfOpen) n = ends_open_range p.condition n
+postfix_stands p (e.range_from limits.Closed) n = false
 
-abbrev pub post_behind : Post → List Tok → Option (List Tok)
-post_behind (e.cast x) l = (type false).behind x l
-post_behind (e.range_from op) l = Some l
+abbrev pub postfix_behind : Postfix → List Tok → Option (List Tok)
+postfix_behind (e.cast x) l = (type false).behind x l
+postfix_behind (e.range_from op) l = Some l
 
 -- ---- trailers
 
@@ -232,7 +232,7 @@ is_parenthesis_or_bracket _ = false
 
 -- it can carry this trailer, and has no attributes; a named field is no callee
 abbrev pub is_base : Trailer → Tree → Bool
-is_base k x = carries x && (not (is_adorned x || is_pounded x) && not (is_call k && is_named_field x))
+is_base k x = carries x && (not (is_attributed x || is_pounded x) && not (is_call k && is_named_field x))
 
 unfoldable pub fits_base : Place → Trailer → Tree → Bool
 fits_base p k x = is_base k x && not (is_parenthesis_or_bracket k && rests p x)
@@ -280,7 +280,7 @@ named_behind k (Some p) = with_steps p.0 (dotted.behind k p.1)
 unfoldable pub trailer_head : Trailer → List Tok → Option (List ℕ × List Tok)
 trailer_head e.call m = Some ([], m)
 trailer_head e.index m = Some ([], m)
-trailer_head e.question m = if question_at m then Some ([], drop 1 m) else None
+trailer_head e.try_expr m = if question_at m then Some ([], drop 1 m) else None
 trailer_head k m = if dot_at m then named_behind k (name_at (drop 1 m)) else None
 
 unfoldable pub fields_head : List Tok → Option (List ℕ × List Tok)
@@ -293,20 +293,20 @@ fields_of b (i ∷ more) = fields_of (tail b (e.field (an_index i)) none) more
 
 -- ---- frames
 
-abbrev pub has_no_comma : Kids → Bool
-has_no_comma (kid k e.no_ending x ks) = true
+abbrev pub has_no_comma : Children → Bool
+has_no_comma (child k e.no_ending x ks) = true
 has_no_comma _ = false
 
 -- a tuple of one needs its comma; no struct expression stands in a condition, nor one of the path `try`
-unfoldable pub frame_stands : Place → Frame → Kids → Bool
+unfoldable pub frame_stands : Place → Frame → Children → Bool
 frame_stands p e.tuple ks = not (is_one ks && has_no_comma ks)
 frame_stands p (e.structure q w d) ks = not (p.condition || is_try_alone q w)
 frame_stands p (e.closure_block h) ks = not (is_default h.output)
 frame_stands p k ks = true
 
 -- a path alone in an invisible group: nothing behind that goes on it
-unfoldable pub frame_ends : Place → Frame → Kids → List Tok → Bool
-frame_ends p e.invisible (kid k c (leaf (e.path q w)) ks) n = not (goes_on_path (not p.condition) (q, w) n)
+unfoldable pub frame_ends : Place → Frame → Children → List Tok → Bool
+frame_ends p e.group_expr (child k c (leaf (e.path q w)) ks) n = not (goes_on_path (not p.condition) (q, w) n)
 frame_ends p k ks n = true
 
 abbrev pub ends_list : Bool → List Tok → Bool
@@ -317,7 +317,7 @@ ends_list false l = is_empty l
 
 -- Behind `else` stands an `if` that is no place; and only a block behind a closure's output.
 abbrev pub ends_piece : Piece → Tree → List Tok → Bool
-ends_piece e.chained x n = is_branch x
+ends_piece e.chained x n = is_if_expr x
 ends_piece e.output_block x n = false
 ends_piece k x n = ends (piece_place k) x n && closes (piece_place k) x n
 
@@ -347,67 +347,67 @@ mutual
     is_become : {p : Place} {l n ts : List Tok} {x : Tree}
         → word_at (codes "become") l ≡ true → Node plain (drop 1 l) x n → ends plain x n ≡ true → closes plain x n ≡ true
         → l ≡ ts ++ n → Node p l (leaf (e.verbatim ts)) n
-    -- attributes before kept tokens are the first of these
-    is_attributed : {p : Place} {l m n ts us : List Tok} (a : AttributeTree) (more : List AttributeTree) (fs : List Tok)
+    -- attributes before verbatim tokens are the first of these
+    is_attributed_verbatim : {p : Place} {l m n ts us : List Tok} (a : AttributeTree) (more : List AttributeTree) (fs : List Tok)
         → outer_attributes.behind (a ∷ more) l ≡ Some m → Node p m (leaf (e.verbatim ts)) n → l ≡ fs ++ m → us ≡ fs ++ ts
         → Node p l (leaf (e.verbatim us)) n
     is_paren : {p : Place} {i : Inside} {n : List Tok} {x : Tree}
         → Node plain (toks i) x [] → ends plain x [] ≡ true → closes plain x [] ≡ true
         → Node p (group del.Parenthesis i ∷ n) (paren false x) n
-    is_adorned_by : {p : Place} {l m n : List Tok} {a : AttributeTree} {more : List AttributeTree} {x : Tree}
-        → outer_attributes.behind (a ∷ more) l ≡ Some m → may_adorn p x ≡ true → Node p m x n → Node p l (adorned a more x) n
-    is_lead : {p : Place} {l m n : List Tok} {k : Lead} {x : Tree}
-        → lead_form.behind k l ≡ Some m → lead_stands p k m ≡ true
-        → Node (lead_place p k) m x n → ends (lead_place p k) x n ≡ true → closes (lead_place p k) x n ≡ true
-        → Node p l (lead k none x) n
+    is_attributed_by : {p : Place} {l m n : List Tok} {a : AttributeTree} {more : List AttributeTree} {x : Tree}
+        → outer_attributes.behind (a ∷ more) l ≡ Some m → takes_attributes p x ≡ true → Node p m x n → Node p l (attributed a more x) n
+    is_prefixed : {p : Place} {l m n : List Tok} {k : Prefix} {x : Tree}
+        → prefix_form.behind k l ≡ Some m → prefix_stands p k m ≡ true
+        → Node (prefix_place p k) m x n → ends (prefix_place p k) x n ≡ true → closes (prefix_place p k) x n ≡ true
+        → Node p l (prefixed k none x) n
     -- the place takes the operator; the right operand takes what is above the operator
-    is_mid : {p : Place} {l m n : List Tok} {x y : Tree} {op : Infix} {count : ℕ}
+    is_infixed : {p : Place} {l m n : List Tok} {x y : Tree} {op : Infix} {count : ℕ}
         (left : Node p l x m) (left_closes : closes p x m ≡ true) (left_fits : fits_left p op x ≡ true)
-        (operator : infix_at m ≡ Some (op, count)) (is_taken : takes p.level (level op) ≡ true) (right_begins : mid_stands p op (drop count m) ≡ true)
+        (operator : infix_at m ≡ Some (op, count)) (is_taken : takes p.level (level op) ≡ true) (right_begins : infix_stands p op (drop count m) ≡ true)
         (right : Node (at p (level op)) (drop count m) y n) (right_ends : ends (at p (level op)) y n ≡ true) (right_closes : closes (at p (level op)) y n ≡ true)
-        (whole_ends : ends_operation op n ≡ true) → Node p l (mid x op y) n
-    is_post : {p : Place} {l m n : List Tok} {x : Tree} {k : Post} {count : ℕ}
-        (left : Node p l x m) (left_closes : closes p x m ≡ true) (left_fits : fits_left p (post_op k) x ≡ true)
-        (operator : infix_at m ≡ Some (post_op k, count)) (is_taken : takes p.level (level (post_op k)) ≡ true)
-        (behind : post_behind k (drop count m) ≡ Some n) (may_stand : post_stands p k n ≡ true) (whole_ends : ends_operation (post_op k) n ≡ true)
-        → Node p l (post x k) n
-    is_tail : {p : Place} {l m h n : List Tok} {b x : Tree} {k : Trailer} {is : List ℕ} {ks : Kids}
+        (whole_ends : ends_operation op n ≡ true) → Node p l (infixed x op y) n
+    is_postfixed : {p : Place} {l m n : List Tok} {x : Tree} {k : Postfix} {count : ℕ}
+        (left : Node p l x m) (left_closes : closes p x m ≡ true) (left_fits : fits_left p (postfix_op k) x ≡ true)
+        (operator : infix_at m ≡ Some (postfix_op k, count)) (is_taken : takes p.level (level (postfix_op k)) ≡ true)
+        (behind : postfix_behind k (drop count m) ≡ Some n) (may_stand : postfix_stands p k n ≡ true) (whole_ends : ends_operation (postfix_op k) n ≡ true)
+        → Node p l (postfixed x k) n
+    is_tail : {p : Place} {l m h n : List Tok} {b x : Tree} {k : Trailer} {is : List ℕ} {ks : Children}
         → Node p l b m → fits_base p k b ≡ true → trailer_head k m ≡ Some (is, h) → Content (trailer_holder k) h ks n
         → x ≡ fields_of b is → Node p l (tail x k ks) n
     is_indexed : {p : Place} {l m n : List Tok} {b x : Tree} {i : ℕ} {is : List ℕ}
         → Node p l b m → fits_base p (e.field (an_index i)) b ≡ true → fields_head m ≡ Some (i ∷ is, n)
         → x ≡ fields_of b (i ∷ is) → Node p l x n
-    is_frame : {p : Place} {l h n : List Tok} {k : Frame} {ks : Kids}
+    is_frame : {p : Place} {l h n : List Tok} {k : Frame} {ks : Children}
         → frame_head k l ≡ Some h → Content (frame_holder k) h ks n → frame_stands p k ks ≡ true → frame_ends p k ks n ≡ true
         → Node p l (frame k ks) n
 
   -- what a trailer or a frame holds
-  pub data Content : Holder → List Tok → Kids → List Tok → Type 0 where
+  pub data Content : Holder → List Tok → Children → List Tok → Type 0 where
     holds_none : {n : List Tok} → Content nothing n none n
-    holds_within : {d : Delimiter} {s : Slot} {dotted_end : Bool} {l i o n : List Tok} {ks : Kids}
+    holds_within : {d : Delimiter} {s : Slot} {dotted_end : Bool} {l i o n : List Tok} {ks : Children}
         → group_at d l ≡ Some (i, n) → Operands s i ks o → ends_list dotted_end o ≡ true → Content (within d s dotted_end) l ks n
-    holds_bare : {s : Slot} {l n : List Tok} {ks : Kids} → Operands s l ks n → Content (bare s) l ks n
+    holds_bare : {s : Slot} {l n : List Tok} {ks : Children} → Operands s l ks n → Content (bare s) l ks n
 
   -- the operands from a slot on
-  pub data Operands : Slot → List Tok → Kids → List Tok → Type 0 where
+  pub data Operands : Slot → List Tok → Children → List Tok → Type 0 where
     no_more : {s : Slot} {n : List Tok} → may_end s n ≡ true → Operands s n none n
-    one_more : {s : Slot} {l m h n o : List Tok} {k : Piece} {c : Ending} {x : Tree} {ks : Kids}
+    one_more : {s : Slot} {l m h n o : List Tok} {k : Piece} {c : Ending} {x : Tree} {ks : Children}
         → (piece_form s).behind k l ≡ Some m → is_silent k ≡ false
         → Node (piece_place k) m x h → ends_piece k x h ≡ true → ending_at k x h ≡ Some (c, n)
-        → Operands (after k) n ks o → Operands s l (kid k c x ks) o
+        → Operands (after k) n ks o → Operands s l (child k c x ks) o
     -- a field whose value its name says
-    short : {s : Slot} {l m n o : List Tok} {k : Piece} {c : Ending} {x : Tree} {ks : Kids}
+    short : {s : Slot} {l m n o : List Tok} {k : Piece} {c : Ending} {x : Tree} {ks : Children}
         → (piece_form s).behind k l ≡ Some m → short_value k ≡ Some x → ending_at k x m ≡ Some (c, n)
-        → Operands (after k) n ks o → Operands s l (kid k c x ks) o
+        → Operands (after k) n ks o → Operands s l (child k c x ks) o
     -- a block that keeps all its tokens
-    block : {s : Slot} {l m i n o : List Tok} {k : Piece} {ks : Kids}
+    block : {s : Slot} {l m i n o : List Tok} {k : Piece} {ks : Children}
         → (piece_form s).behind k l ≡ Some m → takes_block k ≡ true → group_at del.Brace m ≡ Some (i, n)
-        → Operands (after k) n ks o → Operands s l (kid k e.no_ending (plain_block i) ks) o
+        → Operands (after k) n ks o → Operands s l (child k e.no_ending (plain_block i) ks) o
     -- what a `match` looks at, then its arms in a brace
-    arms_inside : {l i h j n : List Tok} {ats : List AttributeTree} {x : Tree} {ks : Kids}
+    arms_inside : {l i h j n : List Tok} {ats : List AttributeTree} {x : Tree} {ks : Children}
         → Node before_block l x h → ends before_block x h ≡ true → closes before_block x h ≡ true
         → group_at del.Brace h ≡ Some (i, n) → inner_attributes.behind ats i ≡ Some j → Operands arms j ks []
-        → Operands scrutinees l (kid e.scrutinee (e.opened ats) x ks) n
+        → Operands scrutinees l (child e.scrutinee (e.opened ats) x ks) n
 
 -- The tree stands at the place for the tokens of l before n: it is spelled by them, obeys the binding rules, and ends
 -- there.

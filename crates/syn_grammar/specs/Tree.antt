@@ -1,6 +1,6 @@
 -- Expressions as trees, without places in a text (Rust Reference, "Expressions"). A kind is a label of one of a few shapes:
--- closed at both ends (`leaf`), in parentheses, tokens before an operand (`lead`), tokens between two operands (`mid`),
--- tokens behind an operand (`post`), a trailer with what it encloses (`tail`), operands in places of their own (`frame`);
+-- closed at both ends (`leaf`), in parentheses, tokens before an operand (`prefixed`), tokens between two operands (`infixed`),
+-- tokens behind an operand (`postfixed`), a trailer with what it encloses (`tail`), operands in places of their own (`frame`);
 -- and a shape for attributes.
 use Rattle.std.specs.Prelude.{◌≡◌, ℕ, ◌+◌, ◌-◌, Bool, true, false, not, ◌||◌, ◌&&◌, if◌then◌else◌, List, [], ◌∷◌, ◌++◌, length, take, codes, Option, Some, None}
 use Rattle.syn_lexer.specs.declared.lexeme.Delimiter.{Delimiter}
@@ -42,13 +42,13 @@ pub data Leaf : Type 0 where
   continuing : Option Text → Leaf
   -- with a label or none
   block : Option Text → Body → Leaf
-  looping : Option Text → Body → Leaf
+  loop_expr : Option Text → Body → Leaf
   unsafe_block : Body → Leaf
   const_block : Body → Leaf
   -- whether `move` stands there; the block's tokens
   async_block : Bool → List Tok → Leaf
   try_block : List Tok → Leaf
-  -- tokens that are kept
+  -- verbatim tokens
   verbatim : List Tok → Leaf
 
 -- a closure up to its body: lifetimes, `const`, `static`, `async`, `move`, `use`, its arguments and whether a comma ends
@@ -64,25 +64,25 @@ pub record ClosureHead : Type 0 where
   pub trailing : Bool
   pub output : ReturnTree
 
-pub data Lead : Type 0 where
-  unary : UnKind → Lead
+pub data Prefix : Type 0 where
+  unary : UnKind → Prefix
   -- `&`, and whether `mut` stands there
-  reference : Bool → Lead
+  reference : Bool → Prefix
   -- `&raw`, and whether `mut` or `const`
-  raw_addr : Bool → Lead
+  raw_addr : Bool → Prefix
   -- a range without a start
-  range_to : Limits → Lead
+  range_to : Limits → Prefix
   -- a `let` with its pattern
-  binding : PatTree → Lead
+  let_expr : PatTree → Prefix
   -- a jump before its value
-  jump : Jump → Lead
+  jump : Jump → Prefix
   -- a closure before its body
-  closure : ClosureHead → Lead
+  closure : ClosureHead → Prefix
 
-pub data Post : Type 0 where
-  cast : TypeTree → Post
+pub data Postfix : Type 0 where
+  cast : TypeTree → Postfix
   -- a range without an end
-  range_from : Limits → Post
+  range_from : Limits → Postfix
 
 pub data Trailer : Type 0 where
   call : Trailer
@@ -91,7 +91,7 @@ pub data Trailer : Type 0 where
   method : Text → ArgumentsTree → Trailer
   field : MemberTree → Trailer
   await : Trailer
-  question : Trailer
+  try_expr : Trailer
 
 pub data Frame : Type 0 where
   array : Frame
@@ -101,12 +101,12 @@ pub data Frame : Type 0 where
   structure : QSelfTree → PathTree → Bool → Frame
   -- a closure with an output, before its block
   closure_block : ClosureHead → Frame
-  branch : Frame
+  if_expr : Frame
   while_loop : Option Text → Frame
   for_loop : Option Text → PatTree → Frame
-  choice : Frame
+  match_expr : Frame
   -- an invisible group
-  invisible : Frame
+  group_expr : Frame
 
 -- what an operand in a place of its own is, with the tokens before it
 pub data Piece : Type 0 where
@@ -151,21 +151,21 @@ mutual
     -- The mark says that a printer added the pair. What is read, or stands in a program's value, has none.
     paren : Bool → Tree → Tree
     -- behind one attribute or more
-    adorned : AttributeTree → List AttributeTree → Tree → Tree
+    attributed : AttributeTree → List AttributeTree → Tree → Tree
     -- with stray guards of its patterns
-    lead : Lead → Kids → Tree → Tree
-    mid : Tree → Infix → Tree → Tree
-    post : Tree → Post → Tree
-    tail : Tree → Trailer → Kids → Tree
-    frame : Frame → Kids → Tree
+    prefixed : Prefix → Children → Tree → Tree
+    infixed : Tree → Infix → Tree → Tree
+    postfixed : Tree → Postfix → Tree
+    tail : Tree → Trailer → Children → Tree
+    frame : Frame → Children → Tree
 
-  pub data Kids : Type 0 where
-    none : Kids
-    kid : Piece → Ending → Tree → Kids → Kids
+  pub data Children : Type 0 where
+    none : Children
+    child : Piece → Ending → Tree → Children → Children
 
-abbrev pub adorn : List AttributeTree → Tree → Tree
-adorn [] t = t
-adorn (a ∷ more) t = adorned a more t
+abbrev pub attributed_with : List AttributeTree → Tree → Tree
+attributed_with [] t = t
+attributed_with (a ∷ more) t = attributed a more t
 
 -- ---- attributes (Rust Reference, "Expression attributes"): the outer ones stand before an expression. In blocks, loops and
 -- a `match` the inner ones stand first in the braces. Other kinds print no inner one.
@@ -187,7 +187,7 @@ from_inner (a ∷ more) = if a.inner then a ∷ more else from_inner more
 -- whether inner attributes stand in the braces of the node
 abbrev pub leaf_has_braces : Leaf → Bool
 leaf_has_braces (block label b) = true
-leaf_has_braces (looping label b) = true
+leaf_has_braces (loop_expr label b) = true
 leaf_has_braces (unsafe_block b) = true
 leaf_has_braces (const_block b) = true
 leaf_has_braces _ = false
@@ -195,7 +195,7 @@ leaf_has_braces _ = false
 abbrev pub frame_has_braces : Frame → Bool
 frame_has_braces (while_loop label) = true
 frame_has_braces (for_loop label p) = true
-frame_has_braces choice = true
+frame_has_braces match_expr = true
 frame_has_braces _ = false
 
 abbrev pub has_braces : Tree → Bool
@@ -207,19 +207,19 @@ has_braces _ = false
 -- there. The outer ones among them stand before the node too: so the tree keeps the order of the list.
 abbrev pub leaf_inner : Leaf → List AttributeTree
 leaf_inner (block label b) = b.inner
-leaf_inner (looping label b) = b.inner
+leaf_inner (loop_expr label b) = b.inner
 leaf_inner (unsafe_block b) = b.inner
 leaf_inner (const_block b) = b.inner
 leaf_inner _ = []
 
-abbrev pub kids_inner : Kids → List AttributeTree
-kids_inner none = []
-kids_inner (kid k (braced b) t ks) = b.inner
-kids_inner (kid k (opened ats) t ks) = ats
-kids_inner (kid k c t ks) = kids_inner ks
+abbrev pub children_inner : Children → List AttributeTree
+children_inner none = []
+children_inner (child k (braced b) t ks) = b.inner
+children_inner (child k (opened ats) t ks) = ats
+children_inner (child k c t ks) = children_inner ks
 
-abbrev pub frame_inner : Frame → Kids → List AttributeTree
-frame_inner k ks = if frame_has_braces k then kids_inner ks else []
+abbrev pub frame_inner : Frame → Children → List AttributeTree
+frame_inner k ks = if frame_has_braces k then children_inner ks else []
 
 abbrev pub inner_in : Tree → List AttributeTree
 inner_in (leaf k) = leaf_inner k
@@ -232,19 +232,19 @@ body_of ats ts = record { inner = ats; tokens = ts }
 
 abbrev pub leaf_with : List AttributeTree → Leaf → Leaf
 leaf_with ats (block label b) = block label (body_of ats b.tokens)
-leaf_with ats (looping label b) = looping label (body_of ats b.tokens)
+leaf_with ats (loop_expr label b) = loop_expr label (body_of ats b.tokens)
 leaf_with ats (unsafe_block b) = unsafe_block (body_of ats b.tokens)
 leaf_with ats (const_block b) = const_block (body_of ats b.tokens)
 leaf_with ats k = k
 
-abbrev pub kids_with : List AttributeTree → Kids → Kids
-kids_with ats none = none
-kids_with ats (kid k (braced b) t ks) = kid k (braced (body_of ats b.tokens)) t ks
-kids_with ats (kid k (opened old) t ks) = kid k (opened ats) t ks
-kids_with ats (kid k c t ks) = kid k c t (kids_with ats ks)
+abbrev pub children_with : List AttributeTree → Children → Children
+children_with ats none = none
+children_with ats (child k (braced b) t ks) = child k (braced (body_of ats b.tokens)) t ks
+children_with ats (child k (opened old) t ks) = child k (opened ats) t ks
+children_with ats (child k c t ks) = child k c t (children_with ats ks)
 
-abbrev pub frame_with : List AttributeTree → Frame → Kids → Kids
-frame_with ats k ks = if frame_has_braces k then kids_with ats ks else ks
+abbrev pub frame_with : List AttributeTree → Frame → Children → Children
+frame_with ats k ks = if frame_has_braces k then children_with ats ks else ks
 
 abbrev pub with_inner : List AttributeTree → Tree → Tree
 with_inner ats (leaf k) = leaf (leaf_with ats k)
@@ -261,21 +261,21 @@ but_last others ats = take (length ats - length others) ats
 
 -- all attributes of t in the order of its list: those before the first inner one, then those from it on
 abbrev pub attributes_in : Tree → List AttributeTree
-attributes_in (adorned a more t) = but_last (outers (attributes_in t)) (a ∷ more) ++ attributes_in t
+attributes_in (attributed a more t) = but_last (outers (attributes_in t)) (a ∷ more) ++ attributes_in t
 attributes_in t = inner_in t
 
--- t with these attributes in place of its own; kept tokens have none and take none
+-- t with these attributes in place of its own; verbatim tokens have none and take none
 abbrev pub with_attributes : List AttributeTree → Tree → Tree
-with_attributes ats (adorned a more t) = with_attributes ats t
+with_attributes ats (attributed a more t) = with_attributes ats t
 with_attributes ats (leaf (verbatim ts)) = leaf (verbatim ts)
-with_attributes ats t = adorn (outside t ats) (with_inner (from_inner ats) t)
+with_attributes ats t = attributed_with (outside t ats) (with_inner (from_inner ats) t)
 
--- Attributes before those that t has, the inner ones in its braces too; kept tokens have the outer ones as their first
+-- Attributes before those that t has, the inner ones in its braces too; verbatim tokens have the outer ones as their first
 -- tokens.
 abbrev pub prepend : List AttributeTree → Tree → Tree
-prepend more (adorned b bs t) = adorn (outside t more ++ b ∷ bs) (with_inner (inners more ++ inner_in t) t)
+prepend more (attributed b bs t) = attributed_with (outside t more ++ b ∷ bs) (with_inner (inners more ++ inner_in t) t)
 prepend more (leaf (verbatim ts)) = leaf (verbatim (attributes_own (outers more) ts))
-prepend more t = adorn (outside t more) (with_inner (inners more ++ inner_in t) t)
+prepend more t = attributed_with (outside t more) (with_inner (inners more ++ inner_in t) t)
 
 -- the block of these tokens, as it stands behind `else` and behind a closure's output
 abbrev pub plain_block : List Tok → Tree
@@ -310,7 +310,7 @@ leaf_own (full_range op) r = sign_before (limits_text op) r
 leaf_own (bare_jump j) r = jump_own j r
 leaf_own (continuing label) r = ident (codes "continue") ∷ before_some label lifetime_own r
 leaf_own (block label b) r = label_own label (body_own b r)
-leaf_own (looping label b) r = label_own label (ident (codes "loop") ∷ body_own b r)
+leaf_own (loop_expr label b) r = label_own label (ident (codes "loop") ∷ body_own b r)
 leaf_own (unsafe_block b) r = ident (codes "unsafe") ∷ body_own b r
 leaf_own (const_block b) r = ident (codes "const") ∷ body_own b r
 leaf_own (async_block m ts) r = ident (codes "async") ∷ word_if m (codes "move") (block_own ts r)
@@ -326,14 +326,14 @@ closure_own h r =
     (word_if h.asyncness (codes "async") (word_if h.capture (codes "move") (word_if h.usage (codes "use")
     (vert_before (elements_own pat_own comma_before h.inputs h.trailing (vert_before (return_own h.output r)))))))))
 
-abbrev pub lead_own : Lead → List Tok → List Tok
-lead_own (unary op) r = sign_before (unary_text op) r
-lead_own (reference m) r = alone 38 ∷ word_if m (codes "mut") r
-lead_own (raw_addr m) r = alone 38 ∷ ident (codes "raw") ∷ ident (if m then codes "mut" else codes "const") ∷ r
-lead_own (range_to op) r = sign_before (limits_text op) r
-lead_own (binding p) r = ident (codes "let") ∷ pat_own p (alone 61 ∷ r)
-lead_own (jump j) r = jump_own j r
-lead_own (closure h) r = closure_own h r
+abbrev pub prefix_own : Prefix → List Tok → List Tok
+prefix_own (unary op) r = sign_before (unary_text op) r
+prefix_own (reference m) r = alone 38 ∷ word_if m (codes "mut") r
+prefix_own (raw_addr m) r = alone 38 ∷ ident (codes "raw") ∷ ident (if m then codes "mut" else codes "const") ∷ r
+prefix_own (range_to op) r = sign_before (limits_text op) r
+prefix_own (let_expr p) r = ident (codes "let") ∷ pat_own p (alone 61 ∷ r)
+prefix_own (jump j) r = jump_own j r
+prefix_own (closure h) r = closure_own h r
 
 abbrev pub infix_own : Infix → List Tok → List Tok
 infix_own (inf.Binary op) r = sign_before (binary_text op) r
@@ -342,13 +342,13 @@ infix_own (inf.Range op) r = sign_before (limits_text op) r
 infix_own inf.Cast r = ident (codes "as") ∷ r
 
 -- the operator of what stands behind an operand
-abbrev pub post_op : Post → Infix
-post_op (cast x) = inf.Cast
-post_op (range_from op) = inf.Range op
+abbrev pub postfix_op : Postfix → Infix
+postfix_op (cast x) = inf.Cast
+postfix_op (range_from op) = inf.Range op
 
-abbrev pub post_own : Post → List Tok → List Tok
-post_own (cast x) r = ident (codes "as") ∷ type_own x r
-post_own (range_from op) r = sign_before (limits_text op) r
+abbrev pub postfix_own : Postfix → List Tok → List Tok
+postfix_own (cast x) r = ident (codes "as") ∷ type_own x r
+postfix_own (range_from op) r = sign_before (limits_text op) r
 
 -- `inner` is what it encloses
 abbrev pub trailer_own : Trailer → List Tok → List Tok → List Tok
@@ -357,15 +357,15 @@ trailer_own index inner r = enclosed del.Bracket inner r
 trailer_own (method w a) inner r = alone 46 ∷ ident w ∷ arguments_own a (enclosed del.Parenthesis inner r)
 trailer_own (field m) inner r = alone 46 ∷ member_own m r
 trailer_own await inner r = alone 46 ∷ ident (codes "await") ∷ r
-trailer_own question inner r = alone 63 ∷ r
+trailer_own try_expr inner r = alone 63 ∷ r
 
 -- the tokens before the operands of a frame, where no delimiter encloses them
 abbrev pub frame_own : Frame → List Tok → List Tok
 frame_own (closure_block h) r = closure_own h r
-frame_own branch r = ident (codes "if") ∷ r
+frame_own if_expr r = ident (codes "if") ∷ r
 frame_own (while_loop label) r = label_own label (ident (codes "while") ∷ r)
 frame_own (for_loop label p) r = label_own label (ident (codes "for") ∷ pat_own p (ident (codes "in") ∷ r))
-frame_own choice r = ident (codes "match") ∷ r
+frame_own match_expr r = ident (codes "match") ∷ r
 frame_own _ r = r
 
 -- the delimiter round the operands of a frame, the tokens before it, and those behind the operands in it
@@ -379,7 +379,7 @@ enclosure array = Some (record { delimiter = del.Bracket; head = []; ending = []
 enclosure tuple = Some (record { delimiter = del.Parenthesis; head = []; ending = [] })
 enclosure repeat = Some (record { delimiter = del.Bracket; head = []; ending = [] })
 enclosure (structure q p dots) = Some (record { delimiter = del.Brace; head = qualified_own (q, p) []; ending = before_if dots (λ l. joint 46 ∷ alone 46 ∷ l) [] })
-enclosure invisible = Some (record { delimiter = del.None; head = []; ending = [] })
+enclosure group_expr = Some (record { delimiter = del.None; head = []; ending = [] })
 enclosure _ = None
 
 abbrev pub piece_own : Piece → List Tok → List Tok
@@ -426,18 +426,18 @@ abbrev mutual
   pub own : Tree → List Tok → List Tok
   own (leaf k) r = leaf_own k r
   own (paren m t) r = enclosed del.Parenthesis (own t []) r
-  own (adorned a more t) r = attributes_own (outers (a ∷ more)) (own t r)
-  own (lead k gs t) r = lead_own k (own t r)
-  own (mid x k y) r = own x (infix_own k (own y r))
-  own (post x k) r = own x (post_own k r)
-  own (tail b k ks) r = own b (trailer_own k (kids_own ks []) r)
-  own (frame k ks) r = framed k (enclosure k) (kids_own ks (behind_operands (enclosure k) r)) r
+  own (attributed a more t) r = attributes_own (outers (a ∷ more)) (own t r)
+  own (prefixed k gs t) r = prefix_own k (own t r)
+  own (infixed x k y) r = own x (infix_own k (own y r))
+  own (postfixed x k) r = own x (postfix_own k r)
+  own (tail b k ks) r = own b (trailer_own k (children_own ks []) r)
+  own (frame k ks) r = framed k (enclosure k) (children_own ks (behind_operands (enclosure k) r)) r
 
-  pub kids_own : Kids → List Tok → List Tok
-  kids_own none r = r
-  kids_own (kid k e t ks) r =
-      piece_own k (if is_silent k then ending_own k e (kids_own ks (inside_of e r)) r
-      else own t (ending_own k e (kids_own ks (inside_of e r)) r))
+  pub children_own : Children → List Tok → List Tok
+  children_own none r = r
+  children_own (child k e t ks) r =
+      piece_own k (if is_silent k then ending_own k e (children_own ks (inside_of e r)) r
+      else own t (ending_own k e (children_own ks (inside_of e r)) r))
 
 abbrev pub own_tokens : Tree → List Tok
 own_tokens t = own t []
@@ -449,16 +449,16 @@ abbrev mutual
   pub clear : Tree → Tree
   clear (leaf k) = leaf k
   clear (paren m t) = paren false (clear t)
-  clear (adorned a more t) = adorned a more (clear t)
-  clear (lead k gs t) = lead k (clear_kids gs) (clear t)
-  clear (mid x k y) = mid (clear x) k (clear y)
-  clear (post x k) = post (clear x) k
-  clear (tail b k ks) = tail (clear b) k (clear_kids ks)
-  clear (frame k ks) = frame k (clear_kids ks)
+  clear (attributed a more t) = attributed a more (clear t)
+  clear (prefixed k gs t) = prefixed k (clear_children gs) (clear t)
+  clear (infixed x k y) = infixed (clear x) k (clear y)
+  clear (postfixed x k) = postfixed (clear x) k
+  clear (tail b k ks) = tail (clear b) k (clear_children ks)
+  clear (frame k ks) = frame k (clear_children ks)
 
-  pub clear_kids : Kids → Kids
-  clear_kids none = none
-  clear_kids (kid k e t ks) = kid k e (clear t) (clear_kids ks)
+  pub clear_children : Children → Children
+  clear_children none = none
+  clear_children (child k e t ks) = child k e (clear t) (clear_children ks)
 
 -- Parentheses are removed everywhere; their attributes come before those of what they held, inner ones in the braces that
 -- this has.
@@ -466,16 +466,16 @@ abbrev mutual
   pub flatten : Tree → Tree
   flatten (leaf k) = leaf k
   flatten (paren m t) = flatten t
-  flatten (adorned a more t) = prepend (a ∷ more) (flatten t)
-  flatten (lead k gs t) = lead k (flatten_kids gs) (flatten t)
-  flatten (mid x k y) = mid (flatten x) k (flatten y)
-  flatten (post x k) = post (flatten x) k
-  flatten (tail b k ks) = tail (flatten b) k (flatten_kids ks)
-  flatten (frame k ks) = frame k (flatten_kids ks)
+  flatten (attributed a more t) = prepend (a ∷ more) (flatten t)
+  flatten (prefixed k gs t) = prefixed k (flatten_children gs) (flatten t)
+  flatten (infixed x k y) = infixed (flatten x) k (flatten y)
+  flatten (postfixed x k) = postfixed (flatten x) k
+  flatten (tail b k ks) = tail (flatten b) k (flatten_children ks)
+  flatten (frame k ks) = frame k (flatten_children ks)
 
-  pub flatten_kids : Kids → Kids
-  flatten_kids none = none
-  flatten_kids (kid k e t ks) = kid k e (flatten t) (flatten_kids ks)
+  pub flatten_children : Children → Children
+  flatten_children none = none
+  flatten_children (child k e t ks) = child k e (flatten t) (flatten_children ks)
 
 -- ---- the fill-ins: the comma of a tuple of one, those between arms, the one before `..`, and `..` before a rest
 
@@ -483,35 +483,35 @@ abbrev mutual
 -- statements", "Match expressions")
 abbrev pub is_block_leaf : Leaf → Bool
 is_block_leaf (block label b) = true
-is_block_leaf (looping label b) = true
+is_block_leaf (loop_expr label b) = true
 is_block_leaf (unsafe_block b) = true
 is_block_leaf (const_block b) = true
 is_block_leaf (try_block ts) = true
 is_block_leaf _ = false
 
 abbrev pub is_block_frame : Frame → Bool
-is_block_frame branch = true
+is_block_frame if_expr = true
 is_block_frame (while_loop label) = true
 is_block_frame (for_loop label p) = true
-is_block_frame choice = true
+is_block_frame match_expr = true
 is_block_frame _ = false
 
 abbrev pub is_block_like : Tree → Bool
 is_block_like (leaf k) = is_block_leaf k
-is_block_like (adorned a more t) = is_block_like t
+is_block_like (attributed a more t) = is_block_like t
 is_block_like (frame k ks) = is_block_frame k
 is_block_like _ = false
 
-abbrev pub is_none : Kids → Bool
+abbrev pub is_none : Children → Bool
 is_none none = true
-is_none (kid k e t ks) = false
+is_none (child k e t ks) = false
 
-abbrev pub is_one : Kids → Bool
+abbrev pub is_one : Children → Bool
 is_one none = false
-is_one (kid k e t ks) = is_none ks
+is_one (child k e t ks) = is_none ks
 
 -- the last of the operands needs a comma too
-abbrev pub needs_last_comma : Frame → Kids → Bool
+abbrev pub needs_last_comma : Frame → Children → Bool
 needs_last_comma tuple ks = is_one ks
 needs_last_comma (structure q p dots) ks = dots
 needs_last_comma _ ks = false
@@ -536,17 +536,17 @@ abbrev mutual
   pub fill : Tree → Tree
   fill (leaf k) = leaf k
   fill (paren m t) = paren m (fill t)
-  fill (adorned a more t) = adorned a more (fill t)
-  fill (lead k gs t) = lead k (fill_kids false gs) (fill t)
-  fill (mid x k y) = mid (fill x) k (fill y)
-  fill (post x k) = post (fill x) k
-  fill (tail b k ks) = tail (fill b) k (fill_kids false ks)
-  fill (frame k ks) = frame k (fill_kids (needs_last_comma k ks) ks)
+  fill (attributed a more t) = attributed a more (fill t)
+  fill (prefixed k gs t) = prefixed k (fill_children false gs) (fill t)
+  fill (infixed x k y) = infixed (fill x) k (fill y)
+  fill (postfixed x k) = postfixed (fill x) k
+  fill (tail b k ks) = tail (fill b) k (fill_children false ks)
+  fill (frame k ks) = frame k (fill_children (needs_last_comma k ks) ks)
 
-  pub fill_kids : Bool → Kids → Kids
-  fill_kids last none = none
-  fill_kids last (kid k e t ks) =
-      kid (fill_piece k) (with_comma (needs_comma k t (not (is_none ks)) last) e) (fill t) (fill_kids last ks)
+  pub fill_children : Bool → Children → Children
+  fill_children last none = none
+  fill_children last (child k e t ks) =
+      child (fill_piece k) (with_comma (needs_comma k t (not (is_none ks)) last) e) (fill t) (fill_children last ks)
 
 -- the same up to parentheses and fill-ins: t is printed, r read back
 abbrev pub IsSameTree : Tree → Tree → Type 0
@@ -557,13 +557,13 @@ abbrev mutual
   pub size : Tree → ℕ
   size (leaf k) = 1
   size (paren m t) = 1 + size t
-  size (adorned a more t) = size t
-  size (lead k gs t) = 1 + (kids_size gs + size t)
-  size (mid x k y) = 1 + (size x + size y)
-  size (post x k) = 1 + size x
-  size (tail b k ks) = 1 + (size b + kids_size ks)
-  size (frame k ks) = 1 + kids_size ks
+  size (attributed a more t) = size t
+  size (prefixed k gs t) = 1 + (children_size gs + size t)
+  size (infixed x k y) = 1 + (size x + size y)
+  size (postfixed x k) = 1 + size x
+  size (tail b k ks) = 1 + (size b + children_size ks)
+  size (frame k ks) = 1 + children_size ks
 
-  pub kids_size : Kids → ℕ
-  kids_size none = 0
-  kids_size (kid k e t ks) = size t + kids_size ks
+  pub children_size : Children → ℕ
+  children_size none = 0
+  children_size (child k e t ks) = size t + children_size ks

@@ -1,4 +1,4 @@
--- The trees that a reader can give back: no kept tokens, no invisible group, and each part is read back in its place
+-- The trees that a reader can give back: no verbatim tokens, no invisible group, and each part is read back in its place
 -- (`Fits` and `PatOwn` of the lower parts say which are).
 use Rattle.std.specs.Prelude.{Bool, true, false, not, ◌||◌, ◌&&◌, List, [], ◌∷◌, None}
 use Rattle.syn_lexer.specs.Keywords.{is_reserved_word}
@@ -13,10 +13,10 @@ use Rattle.syn_grammar.specs.declared.kinds.Limits.TheVariants as limits
 use Rattle.syn_grammar.specs.declared.kinds.Infix.{Infix}
 use Rattle.syn_grammar.specs.declared.kinds.Infix.TheVariants as inf
 use Rattle.syn_grammar.specs.Tree as e
-use Rattle.syn_grammar.specs.Tree.{Tree, Kids, Body, Leaf, Lead, Post, Trailer, Frame, Piece, Ending, ClosureHead, leaf, paren, adorned, lead, mid, post, tail, frame, none, kid, is_none}
+use Rattle.syn_grammar.specs.Tree.{Tree, Children, Body, Leaf, Prefix, Postfix, Trailer, Frame, Piece, Ending, ClosureHead, leaf, paren, attributed, prefixed, infixed, postfixed, tail, frame, none, child, is_none}
 use Rattle.syn_grammar.specs.Slot.{Slot, elements, single, counted, fields, conditions, otherwise, loops, scrutinees, arms, bodies, outputs, done, after}
 use Rattle.syn_grammar.specs.Path.{is_try_alone, is_word_alone}
-use Rattle.syn_grammar.specs.Stands.{is_adorned, is_branch}
+use Rattle.syn_grammar.specs.Stands.{is_attributed, is_if_expr}
 
 abbrev pub attributes_inner : List AttributeTree → Bool
 attributes_inner [] = true
@@ -36,7 +36,7 @@ leaf_fits (e.full_range limits.Closed) = false
 leaf_fits (e.bare_jump j) = true
 leaf_fits (e.continuing w) = true
 leaf_fits (e.block w b) = body_fits b
-leaf_fits (e.looping w b) = body_fits b
+leaf_fits (e.loop_expr w b) = body_fits b
 leaf_fits (e.unsafe_block b) = body_fits b
 leaf_fits (e.const_block b) = body_fits b
 leaf_fits (e.async_block m ts) = true
@@ -52,20 +52,20 @@ head_fits h =
     not (h.capture && h.usage)
     && (fits_if lifetimes_fit h.lifetimes && (inputs_fit h.inputs && (ends_well (is_nil h.inputs) h.trailing && output_fits true h.output)))
 
-abbrev pub lead_fits : Lead → Bool
-lead_fits (e.binding p) = pat_fits true p
-lead_fits (e.closure h) = head_fits h && is_default h.output
-lead_fits _ = true
+abbrev pub prefix_fits : Prefix → Bool
+prefix_fits (e.let_expr p) = pat_fits true p
+prefix_fits (e.closure h) = head_fits h && is_default h.output
+prefix_fits _ = true
 
 -- a cast is no operator with a right operand
 abbrev pub infix_fits : Infix → Bool
 infix_fits inf.Cast = false
 infix_fits _ = true
 
-abbrev pub post_fits : Post → Bool
-post_fits (e.cast x) = type_fits false x
-post_fits (e.range_from limits.HalfOpen) = true
-post_fits (e.range_from limits.Closed) = false
+abbrev pub postfix_fits : Postfix → Bool
+postfix_fits (e.cast x) = type_fits false x
+postfix_fits (e.range_from limits.HalfOpen) = true
+postfix_fits (e.range_from limits.Closed) = false
 
 abbrev pub trailer_fits : Trailer → Bool
 trailer_fits (e.method w a) = not (is_reserved_word w) && arguments_fit style.Expr a
@@ -85,22 +85,22 @@ frame_slot e.tuple = elements
 frame_slot e.repeat = counted
 frame_slot (e.structure q p d) = fields
 frame_slot (e.closure_block h) = outputs
-frame_slot e.branch = conditions
+frame_slot e.if_expr = conditions
 frame_slot (e.while_loop w) = loops
 frame_slot (e.for_loop w p) = loops
-frame_slot e.choice = scrutinees
-frame_slot e.invisible = done
+frame_slot e.match_expr = scrutinees
+frame_slot e.group_expr = done
 
-abbrev pub has_rest : Kids → Bool
+abbrev pub has_rest : Children → Bool
 has_rest none = false
-has_rest (kid (e.rest d) c t ks) = true
-has_rest (kid k c t ks) = has_rest ks
+has_rest (child (e.rest d) c t ks) = true
+has_rest (child k c t ks) = has_rest ks
 
-abbrev pub frame_fits : Frame → Kids → Bool
+abbrev pub frame_fits : Frame → Children → Bool
 frame_fits (e.structure q p d) ks = qpath_fits style.Expr (q, p) && (not (is_try_alone q p) && not (d && has_rest ks))
 frame_fits (e.closure_block h) ks = head_fits h && not (is_default h.output)
 frame_fits (e.for_loop w p) ks = pat_fits true p
-frame_fits e.invisible ks = false
+frame_fits e.group_expr ks = false
 frame_fits k ks = true
 
 -- the path that is this name, without attributes
@@ -109,13 +109,13 @@ is_name_path (a_name w) (leaf (e.path q p)) = is_word_alone w q p
 is_name_path _ t = false
 
 -- the block of these tokens alone
-abbrev pub is_kept_leaf : Leaf → Bool
-is_kept_leaf (e.block None b) = is_nil b.inner
-is_kept_leaf _ = false
+abbrev pub is_verbatim_leaf : Leaf → Bool
+is_verbatim_leaf (e.block None b) = is_nil b.inner
+is_verbatim_leaf _ = false
 
-abbrev pub is_kept_block : Tree → Bool
-is_kept_block (leaf k) = is_kept_leaf k
-is_kept_block _ = false
+abbrev pub is_verbatim_block : Tree → Bool
+is_verbatim_block (leaf k) = is_verbatim_leaf k
+is_verbatim_block _ = false
 
 -- an operand of this kind belongs into the slot, with its tokens before and behind
 abbrev pub piece_fits : Slot → Piece → Ending → Tree → Bool
@@ -125,13 +125,13 @@ piece_fits counted e.repeated c t = true
 piece_fits fields (e.field_value ats m b) c t = attributes_outer ats && (member_fits m && (b || is_name_path m t))
 piece_fits fields (e.rest d) c t = true
 piece_fits conditions e.condition c t = true
-piece_fits otherwise e.chained c t = is_branch t || is_kept_block t
+piece_fits otherwise e.chained c t = is_if_expr t || is_verbatim_block t
 piece_fits loops e.loop_head c t = true
 piece_fits scrutinees e.scrutinee c t = true
 piece_fits arms (e.guard ats p) c t = attributes_outer ats && pat_fits true p
 piece_fits arms (e.arm ats p) c t = attributes_outer ats && pat_fits true p
 piece_fits bodies e.guarded c t = true
-piece_fits outputs e.output_block c t = is_kept_block t
+piece_fits outputs e.output_block c t = is_verbatim_block t
 piece_fits _ k c t = false
 
 -- the tokens behind an operand are of its kind
@@ -166,24 +166,24 @@ may_stop _ = false
 
 -- a block of a whole `if` behind `else`, or behind a closure's output, keeps all its tokens
 abbrev pub keeps_block : Piece → Tree → Bool
-keeps_block e.chained t = is_kept_block t
-keeps_block e.output_block t = is_kept_block t
+keeps_block e.chained t = is_verbatim_block t
+keeps_block e.output_block t = is_verbatim_block t
 keeps_block k t = false
 
 abbrev mutual
   pub well : Tree → Bool
   well (leaf k) = leaf_fits k
   well (paren m t) = well t
-  well (adorned a more t) = attributes_outer (a ∷ more) && (not (is_adorned t) && well t)
-  well (lead k gs t) = lead_fits k && (is_none gs && well t)
-  well (mid x k y) = infix_fits k && (well x && well y)
-  well (post x k) = post_fits k && well x
-  well (tail b k ks) = trailer_fits k && (well b && kids_well (trailer_slot k) ks)
-  well (frame k ks) = frame_fits k ks && kids_well (frame_slot k) ks
+  well (attributed a more t) = attributes_outer (a ∷ more) && (not (is_attributed t) && well t)
+  well (prefixed k gs t) = prefix_fits k && (is_none gs && well t)
+  well (infixed x k y) = infix_fits k && (well x && well y)
+  well (postfixed x k) = postfix_fits k && well x
+  well (tail b k ks) = trailer_fits k && (well b && children_well (trailer_slot k) ks)
+  well (frame k ks) = frame_fits k ks && children_well (frame_slot k) ks
 
-  pub kids_well : Slot → Kids → Bool
-  kids_well s none = may_stop s
-  kids_well s (kid k c t ks) = (piece_fits s k c t && ending_fits k c) && ((keeps_block k t || well t) && kids_well (after k) ks)
+  pub children_well : Slot → Children → Bool
+  children_well s none = may_stop s
+  children_well s (child k c t ks) = (piece_fits s k c t && ending_fits k c) && ((keeps_block k t || well t) && children_well (after k) ks)
 
 unfoldable pub is_well_formed : Tree → Bool
 is_well_formed t = well t

@@ -3,10 +3,10 @@
 
 pub mod kinds;
 pub mod laws;
+pub mod minimal;
 pub mod next;
-pub mod note;
 pub mod printing;
 pub mod queries;
 pub mod rows;
-pub mod sparing;
+pub mod summary;
 pub mod trees;

@@ -1,8 +1,8 @@
-//! Laws of trees, of what is noted of them, and of how operands bind, each the contract of a call.
+//! Laws of trees, of what is known of them, and of how operands bind, each the contract of a call.
 
 ghost use Rattle.syn_grammar.specs.Binding.{ComparisonsDontChain, RightOperandBindsTighter, LeftOperandBindsAsTight, RangeIsNoLeftOperand, ConditionsHaveNoStructures, CommaTestsDiffer};
 ghost use Rattle.syn_grammar.specs.IsWellFormed.{TestIsExact};
-ghost use Rattle.syn_grammar.specs.Notes.{NotesAreRight};
+ghost use Rattle.syn_grammar.specs.Summaries.{SummariesAreRight};
 ghost use Rattle.syn_grammar.specs.Same.{FlattenIsIdempotent, PrintedIsSame};
 
 /// A tree whose parentheses are removed has none to remove.
@@ -22,10 +22,10 @@ pub fn printed_is_same()
     ensures { PrintedIsSame }
 {}
 
-/// What is noted of a node decides as the rule does whether the node is put in parentheses, and a tree has no more notes
+/// What is known of a node decides as the rule does whether the node is put in parentheses, and a tree has no more summaries
 /// than nodes.
-pub fn notes_are_right()
-    ensures { NotesAreRight }
+pub fn summaries_are_right()
+    ensures { SummariesAreRight }
 {}
 
 /// In a tree that stands, no comparison has a bare comparison as its left operand (Rust Reference, "Comparison

@@ -16,7 +16,7 @@ use crate::ty::TypeParamBoundOf;
 use crate::types::ReadTypes;
 use syn_lower_leaves::ahead::{ReadByForm, ahead};
 use syn_lower_leaves::front;
-use syn_lower_leaves::kept::any_group;
+use syn_lower_leaves::verbatim::any_group;
 use syn_parts::label::PathStyle;
 use syn_tokens::buffer::{Parse, ParseBuffer};
 use syn_tokens::error::{ErrorKind, Part, Result};

@@ -13,7 +13,7 @@ use Rattle.syn_parts.specs.Laws.{IsExact}
 use Rattle.syn_parts.proofs.Forms.{more_stands}
 use Rattle.syn_parts.proofs.Marks.{pound_present, pound_bang_present}
 use Rattle.syn_parts.proofs.Parts.{outer_body_alike, inner_body_alike}
-use Rattle.syn_parts.proofs.ReadBack.{kept_bracket_back}
+use Rattle.syn_parts.proofs.ReadBack.{verbatim_bracket_back}
 use Rattle.syn_parts.proofs.Same.{both_true, not_true}
 use Rattle.syn_lower_leaves.specs.ReadBack.{all_outer, all_inner, all_printed}
 use Rattle.syn_lower_leaves.specs.View.{is_inner, attribute_of}
@@ -71,12 +71,12 @@ outer_step : (b : Bool) (ts : List Tok) (xs : List AttributeTree) (l n : List To
     → outer_attributes.behind (record { inner = b; tokens = ts } ∷ xs) (attribute_own (record { inner = b; tokens = ts }) l) ≡ Some n
 unfolding outer_attributes outer_body attribute_own sign_at
 outer_step true ts xs l n e h = absurd cc
-outer_step false ts xs l n e h = more_stands pound outer_body pound_present (λ k. outer_body_alike) (record { inner = false; tokens = ts } ∷ xs) _ n (rw (kept_bracket_back ts l) h)
+outer_step false ts xs l n e h = more_stands pound outer_body pound_present (λ k. outer_body_alike) (record { inner = false; tokens = ts } ∷ xs) _ n (rw (verbatim_bracket_back ts l) h)
 
 inner_step : (b : Bool) (ts : List Tok) (xs : List AttributeTree) (l n : List Tok) → b ≡ true → inner_attributes.behind xs l ≡ Some n
     → inner_attributes.behind (record { inner = b; tokens = ts } ∷ xs) (attribute_own (record { inner = b; tokens = ts }) l) ≡ Some n
 unfolding inner_attributes inner_body attribute_own sign_at
-inner_step true ts xs l n e h = more_stands pound_bang inner_body pound_bang_present (λ k. inner_body_alike) (record { inner = true; tokens = ts } ∷ xs) _ n (rw (kept_bracket_back ts l) h)
+inner_step true ts xs l n e h = more_stands pound_bang inner_body pound_bang_present (λ k. inner_body_alike) (record { inner = true; tokens = ts } ∷ xs) _ n (rw (verbatim_bracket_back ts l) h)
 inner_step false ts xs l n e h = absurd cc
 
 no_outer : (l : List Tok) → pound.at l ≡ false → outer_attributes.behind [] l ≡ Some l

@@ -57,16 +57,16 @@ pub ruleset narrows = (is_narrow)
 
 -- ---- characters that are kept
 
-is_kept : (c : ℕ) (b : Bool) (out whole : List ℕ) (rest : Text) → is_no_underscore c ≡ b → whole ≡ out ++ encode_utf8_all (filter is_no_underscore (c ∷ rest))
+is_put : (c : ℕ) (b : Bool) (out whole : List ℕ) (rest : Text) → is_no_underscore c ≡ b → whole ≡ out ++ encode_utf8_all (filter is_no_underscore (c ∷ rest))
     → whole ≡ out ++ encode_utf8_all (if b then c ∷ filter is_no_underscore rest else filter is_no_underscore rest)
-is_kept c b out whole rest h e = rw (← h) e
+is_put c b out whole rest h e = rw (← h) e
 
 pub kept : (c : ℕ) (out whole : List ℕ) (rest : Text) → is_no_underscore c ≡ true → whole ≡ out ++ encode_utf8_all (filter is_no_underscore (c ∷ rest))
     → whole ≡ (out ++ encode_utf8 c) ++ encode_utf8_all (filter is_no_underscore rest)
-kept c out whole rest h e = is_kept c true out whole rest h e ∙ sym (append_assoc out (encode_utf8 c) (encode_utf8_all (filter is_no_underscore rest)))
+kept c out whole rest h e = is_put c true out whole rest h e ∙ sym (append_assoc out (encode_utf8 c) (encode_utf8_all (filter is_no_underscore rest)))
 
 pub left_out : (c : ℕ) (out whole : List ℕ) (rest : Text) → is_no_underscore c ≡ false → whole ≡ out ++ encode_utf8_all (filter is_no_underscore (c ∷ rest))
     → whole ≡ out ++ encode_utf8_all (filter is_no_underscore rest)
-left_out c out whole rest h e = is_kept c false out whole rest h e
+left_out c out whole rest h e = is_put c false out whole rest h e
 
 pub ruleset keeps = (kept, left_out)

@@ -3,7 +3,7 @@ pub mod Equal
 pub mod Printed
 pub mod Reads
 pub mod ReadBack
-pub mod Kept
+pub mod Verbatim
 pub mod Value
 pub mod ValueRows
 pub mod Parsed

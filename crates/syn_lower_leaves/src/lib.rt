@@ -1,12 +1,11 @@
 //! The lower parts that hold no others: literals, lifetimes, attributes, blocks and the delimiters of macros, as in syn; and
-//! what the readers of all lower parts share: the tokens at the front of the input, the groups whose tokens are kept.
+//! what the readers of all lower parts share: the tokens at the front of the input, the groups whose tokens are verbatim.
 #![tactic(auto)]
 
 pub mod ahead;
 pub mod attr;
 pub mod block;
 pub mod front;
-pub mod kept;
 pub mod laws;
 pub mod leaf;
 pub mod lifetime;
@@ -20,3 +19,4 @@ pub mod read_back;
 pub mod same;
 pub mod text;
 mod value;
+pub mod verbatim;

@@ -15,10 +15,10 @@ ghost use Rattle.syn_tokens.specs.declared.error.ErrorKind.TheVariants.{OutOfMem
 use crate::ahead::{ReadByForm, ahead};
 use crate::attr::Attribute;
 use crate::block::Block;
-use crate::kept::{block, inner_attributes, outer_attributes};
 use crate::leaf::{lifetime, lit, unsigned};
 use crate::lifetime::Lifetime;
 use crate::lit::{Lit, LitBool, LitByte, LitByteStr, LitCStr, LitChar, LitFloat, LitInt, LitStr};
+use crate::verbatim::{block, inner_attributes, outer_attributes};
 use syn_tokens::buffer::{Parse, ParseBuffer};
 use syn_tokens::error::{ErrorKind, Part, Result};
 

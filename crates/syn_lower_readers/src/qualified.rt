@@ -19,7 +19,7 @@ use syn_lower_generic::path::{PathOf, PathSegmentOf, QSelfOf};
 use syn_lower_generic::ty::{TypeMacroOf, TypePathOf};
 use syn_lower_generic::types::{HasTree, IsType};
 use syn_lower_leaves::front;
-use syn_lower_leaves::kept::any_group;
+use syn_lower_leaves::verbatim::any_group;
 use syn_lower_lists::front::{fn_at, path_at};
 use syn_lower_lists::punctuated::Punctuated;
 use syn_parts::label::PathStyle;

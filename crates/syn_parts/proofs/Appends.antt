@@ -91,8 +91,8 @@ lifetime_append w r = refl
 pub group_first : (d : Delimiter) (ts r : List Tok) → enclosed d ts r ≡ enclosed d ts [] ++ r
 group_first d ts r = refl
 
-pub kept_append : (ts r : List Tok) → ts ++ r ≡ (ts ++ []) ++ r
-kept_append ts r = ap (λ m. m ++ r) (sym (append-nil ts))
+pub verbatim_append : (ts r : List Tok) → ts ++ r ≡ (ts ++ []) ++ r
+verbatim_append ts r = ap (λ m. m ++ r) (sym (append-nil ts))
 
 mutual
   pub type_append : (x : TypeTree) (r : List Tok) → type_own x r ≡ type_own x [] ++ r
@@ -132,7 +132,7 @@ mutual
 
   pub generic_append : (g : GenericTree) (r : List Tok) → generic_own g r ≡ generic_own g [] ++ r
   generic_append (t.a_lifetime w) r = refl
-  generic_append (t.a_const ts) r = kept_append ts r
+  generic_append (t.a_const ts) r = verbatim_append ts r
   generic_append (t.an_assoc w x) r = both (word_first w) (both (one (alone 61)) (type_append x)) r
   generic_append (t.a_type x) r = type_append x r
 

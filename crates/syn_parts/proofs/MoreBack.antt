@@ -14,7 +14,7 @@ use Rattle.syn_parts.specs.Fits.{fits_if, is_string, abi_stops, type_fits, type_
 use Rattle.syn_parts.proofs.Same.{both_true, not_true}
 use Rattle.syn_parts.proofs.Fronts.{Front, type_begins}
 use Rattle.syn_parts.proofs.TypesBack.{string_back, string_seen, segment_step, arguments_back, type_back, bound_back, const_step, a_lifetime_step, assoc_step, named_arg_step}
-use Rattle.syn_parts.proofs.TypesTold.{after_name, angle_only, round_only, assoc_only, trait_only, impl_tells, type_opens}
+use Rattle.syn_parts.proofs.TypesComplete.{after_name, angle_only, round_only, assoc_only, trait_only, impl_tells, type_opens}
 use Rattle.syn_parts.proofs.Trees.{bounds-bounds_of, generics-generics_of}
 
 pub abi_back : (o : Option LitTree) (r : List Tok) → fits_if is_string o ≡ true → abi_stops o r ≡ true → abi.behind o (extern_own o r) ≡ Some r

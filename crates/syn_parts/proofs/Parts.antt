@@ -14,7 +14,7 @@ use Rattle.syn_parts.specs.Tree as t
 use Rattle.syn_parts.specs.Tree.{LitTree, TypeTree, PathTree}
 use Rattle.syn_tokens.specs.Front.{group_at}
 use Rattle.syn_parts.specs.Form.{Form, then_by, inside}
-use Rattle.syn_parts.specs.Part.{word_if, find_ident, find_segment, find_word, lit_if, truth_if, find_lit, negative_if, find_signed, string_if, find_string, find_group, find_all, find_const, const_if, find_arg_name, is_arg_name, name, segment_name, lifetime, unsigned, lit, string, kept, any_group, rest_of, constant_tokens, arg_name, outer_body, inner_body, attribute, outer_attributes, inner_attributes, block, no_arguments, lifetimes, abi, mutability, output, generic, assoc, angle, angle_bracketed, parenthesized, arguments, segment, pieces, path, qualified, qpath, bound, trait_bound, bounds, reference, pointer, slice_or_array, tuple_or_paren, fn_arg, fn_head, fn_pointer, implements, object, macro_end, named, at_place, type, SpellsType, macro, MacroEnd, QPathTree, to_named, from_named}
+use Rattle.syn_parts.specs.Part.{word_if, find_ident, find_segment, find_word, lit_if, truth_if, find_lit, negative_if, find_signed, string_if, find_string, find_group, find_all, find_const, const_if, find_arg_name, is_arg_name, name, segment_name, lifetime, unsigned, lit, string, verbatim, any_group, rest_of, constant_tokens, arg_name, outer_body, inner_body, attribute, outer_attributes, inner_attributes, block, no_arguments, lifetimes, abi, mutability, output, generic, assoc, angle, angle_bracketed, parenthesized, arguments, segment, pieces, path, qualified, qpath, bound, trait_bound, bounds, reference, pointer, slice_or_array, tuple_or_paren, fn_arg, fn_head, fn_pointer, implements, object, macro_end, named, at_place, type, SpellsType, macro, MacroEnd, QPathTree, to_named, from_named}
 use Rattle.syn_parts.proofs.Weights.{some_is, taken}
 use Rattle.syn_parts.proofs.Same.{compares_texts, compares_toks, compares_lits, compares_groups}
 use Rattle.syn_parts.proofs.Marks.{marks, quote_present, and_present, star_present, bang_present, underscore_present, implementing_present, dynamic_present, less_present, pound_present, pound_bang_present}
@@ -118,8 +118,8 @@ finds_string = record { falls = falls }
     falls (literal w ∷ l) x n h = falls_by l n (literal w ∷ l) (string_some w l (kind_of w) x n h) (one_less (literal w) l)
     falls _ x n h = absurd cc
 
-finds_kept : (d : Delimiter) → Finds (λ l. group_at d l)
-finds_kept d = record { falls = λ l x n h. omega (arith, taken d l x n h) }
+finds_verbatim : (d : Delimiter) → Finds (λ l. group_at d l)
+finds_verbatim d = record { falls = λ l x n h. omega (arith, taken d l x n h) }
 
 finds_group : Finds find_group
 finds_group = record { falls = falls }
@@ -179,9 +179,9 @@ pub string_alike : {k : ℕ} → Alike k string string
 unfolding string
 string_alike = leaf_alike compares_lits finds_string
 
-pub kept_alike : {k : ℕ} (d : Delimiter) → Alike k (kept d) (kept d)
-unfolding kept
-kept_alike d = leaf_alike compares_toks (finds_kept d)
+pub verbatim_alike : {k : ℕ} (d : Delimiter) → Alike k (verbatim d) (verbatim d)
+unfolding verbatim
+verbatim_alike d = leaf_alike compares_toks (finds_verbatim d)
 
 pub any_group_alike : {k : ℕ} → Alike k any_group any_group
 unfolding any_group
@@ -202,7 +202,7 @@ arg_name_alike = leaf_alike compares_texts finds_arg_name
 pub inside_at_alike : {A : Type 0} {k : ℕ} {f f' : Form A} (d : Delimiter) → Alike k f f' → Alike k (inside d f) (inside d f')
 inside_at_alike d a = weaker (inside_alike d a)
 
-pub ruleset forms = (when_alike, shown_alike, both_alike, then_by_alike, mark_alike, mark_at_alike, inside_alike, inside_at_alike, closed_by_alike, listed_alike, joined_alike, pure_alike, maybe_alike, flag_at_alike, only_true, only_false, name_alike, segment_name_alike, lifetime_alike, unsigned_alike, lit_alike, string_alike, kept_alike, any_group_alike, rest_of_alike, constant_tokens_alike, arg_name_alike)
+pub ruleset forms = (when_alike, shown_alike, both_alike, then_by_alike, mark_alike, mark_at_alike, inside_alike, inside_at_alike, closed_by_alike, listed_alike, joined_alike, pure_alike, maybe_alike, flag_at_alike, only_true, only_false, name_alike, segment_name_alike, lifetime_alike, unsigned_alike, lit_alike, string_alike, verbatim_alike, any_group_alike, rest_of_alike, constant_tokens_alike, arg_name_alike)
 
 -- ---- attributes
 
@@ -228,7 +228,7 @@ inner_attributes_alike = more_alike pound_bang_present inner_body_alike
 
 pub block_alike : {k : ℕ} → Alike k block block
 unfolding block
-block_alike = kept_alike del.Brace
+block_alike = verbatim_alike del.Brace
 
 pub no_arguments_alike : {k : ℕ} → Alike k no_arguments no_arguments
 unfolding no_arguments

@@ -29,7 +29,7 @@ use Rattle.syn_parts.specs.Pat.{MemberTree, PatBound, PatTree, SubPat, Pats, Fie
 use Rattle.syn_parts.specs.PatOwn as o
 use Rattle.syn_parts.specs.PatFits as test
 use Rattle.syn_parts.proofs.Same.{both_true, not_true}
-use Rattle.syn_parts.proofs.ReadBack.{Commas, no_element, element, Joins, no_join, join, next_own, listed_back, joined_back, kept_bracket_back, text_same, name_back, lit_back, block_back}
+use Rattle.syn_parts.proofs.ReadBack.{Commas, no_element, element, Joins, no_join, join, next_own, listed_back, joined_back, verbatim_bracket_back, text_same, name_back, lit_back, block_back}
 use Rattle.syn_parts.proofs.Behind.{Calm, nil_calm, comma_calm, or_true, segments_calm}
 use Rattle.syn_parts.proofs.Fronts.{word_not, no_truth, not_mut, not_underscore}
 use Rattle.syn_parts.proofs.TypesBack.{group_back, type_back, nil_comma}
@@ -627,7 +627,7 @@ attribute_step a more' l m h i = by_style a.inner a.tokens h
   where
     by_style : (b : Bool) (ts : List Tok) → b ≡ false → (more pound outer_body).behind (record { inner = b; tokens = ts } ∷ more') (attribute_own (record { inner = b; tokens = ts }) l) ≡ Some m
     by_style true ts e = absurd cc
-    by_style false ts e = more_stands pound outer_body pound_present (λ k. outer_body_alike) (record { inner = false; tokens = ts } ∷ more') _ m (rw (kept_bracket_back ts l) i)
+    by_style false ts e = more_stands pound outer_body pound_present (λ k. outer_body_alike) (record { inner = false; tokens = ts } ∷ more') _ m (rw (verbatim_bracket_back ts l) i)
 
 pub attributes_back : (xs : List AttributeTree) (l : List Tok) → test.attributes_outer xs ≡ true → pound.at l ≡ false → outer_attributes.behind xs (o.attributes_own xs l) ≡ Some l
 unfolding outer_attributes

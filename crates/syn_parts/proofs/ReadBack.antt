@@ -14,7 +14,7 @@ use Rattle.syn_parts.specs.Same.{same_kind}
 use Rattle.syn_parts.specs.Tree.{LitTree, AttributeTree}
 use Rattle.syn_parts.specs.Form.{Form, Mark, Test, tail, more, listed, joined, is_nil}
 use Rattle.syn_parts.specs.Mark.{sign_at, lifetime_at, comma}
-use Rattle.syn_parts.specs.Part.{name, segment_name, lifetime, lit, attribute, outer_body, inner_body, kept, block}
+use Rattle.syn_parts.specs.Part.{name, segment_name, lifetime, lit, attribute, outer_body, inner_body, verbatim, block}
 use Rattle.syn_parts.specs.Own.{alone, lifetime_own, lit_own, number_own, attribute_own, block_own, elements_own, separated, comma_before}
 use Rattle.syn_parts.specs.Fits.{lit_fits, number_fits, has_kind, ends_well, is_none}
 use Rattle.syn_parts.proofs.Same.{both_true, same_toks-refl, same_lit-refl, same_kind-true}
@@ -76,22 +76,22 @@ lit_back x r h = by_kind x.kind x.text h
     by_kind kind.Byte text h = plain_back kind.Byte text r h
     by_kind kind.Char text h = plain_back kind.Char text r h
 
--- ---- groups of kept tokens
+-- ---- groups of verbatim tokens
 
-pub kept_bracket_back : (ts r : List Tok) → (kept del.Bracket).behind ts (group del.Bracket (inside ts) ∷ r) ≡ Some r
-unfolding kept group_at
-kept_bracket_back ts r = rw (toks-inside ts, same_toks-refl ts) refl
+pub verbatim_bracket_back : (ts r : List Tok) → (verbatim del.Bracket).behind ts (group del.Bracket (inside ts) ∷ r) ≡ Some r
+unfolding verbatim group_at
+verbatim_bracket_back ts r = rw (toks-inside ts, same_toks-refl ts) refl
 
 pub attribute_back : (a : AttributeTree) (r : List Tok) → attribute.behind a (attribute_own a r) ≡ Some r
 unfolding attribute attribute_own outer_body inner_body sign_at
 attribute_back a r = by_style a.inner a.tokens
   where
     by_style : (b : Bool) (ts : List Tok) → attribute.behind (record { inner = b; tokens = ts }) (attribute_own (record { inner = b; tokens = ts }) r) ≡ Some r
-    by_style true ts = kept_bracket_back ts r
-    by_style false ts = kept_bracket_back ts r
+    by_style true ts = verbatim_bracket_back ts r
+    by_style false ts = verbatim_bracket_back ts r
 
 pub block_back : (ts r : List Tok) → block.behind ts (block_own ts r) ≡ Some r
-unfolding block block_own kept group_at
+unfolding block block_own verbatim group_at
 block_back ts r = rw (toks-inside ts, same_toks-refl ts) refl
 
 -- ---- lists

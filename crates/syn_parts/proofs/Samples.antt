@@ -11,7 +11,7 @@ use Rattle.syn_parts.specs.Pat as q
 use Rattle.syn_parts.specs.Samples.{TypeSamples, PatternSamples, PatternKinds, PatternRests, ClosureArgs, GenericSamples, IndexSamples}
 
 pub type_samples : TypeSamples
-unfolding is_reserved_word weight group_at iterate fix tail listed more sign_at word_at lifetime_at round_at brace_at stands_alone is_segment is_truth is_float_text is_number kind_of p.name p.segment_name p.lifetime p.unsigned p.lit p.string p.string_at p.kept p.any_group p.rest_of p.outer_body p.inner_body p.attribute p.outer_attributes p.inner_attributes p.block p.no_arguments p.constant_tokens p.const_at p.assoc_at p.angle_at p.turbofish_at p.lifetimes p.lifetimes_at p.arg_name p.arg_name_at p.fn_at p.fn_head p.macro_end p.output p.generic p.angle p.angle_bracketed p.parenthesized p.arguments p.segment p.pieces p.path p.qualified p.qpath p.bound p.bounds p.reference p.pointer p.slice_or_array p.tuple_or_paren p.fn_arg p.fn_pointer p.implements p.object p.named p.at_place p.type p.macro
+unfolding is_reserved_word weight group_at iterate fix tail listed more sign_at word_at lifetime_at round_at brace_at stands_alone is_segment is_truth is_float_text is_number kind_of p.name p.segment_name p.lifetime p.unsigned p.lit p.string p.string_at p.verbatim p.any_group p.rest_of p.outer_body p.inner_body p.attribute p.outer_attributes p.inner_attributes p.block p.no_arguments p.constant_tokens p.const_at p.assoc_at p.angle_at p.turbofish_at p.lifetimes p.lifetimes_at p.arg_name p.arg_name_at p.fn_at p.fn_head p.macro_end p.output p.generic p.angle p.angle_bracketed p.parenthesized p.arguments p.segment p.pieces p.path p.qualified p.qpath p.bound p.bounds p.reference p.pointer p.slice_or_array p.tuple_or_paren p.fn_arg p.fn_pointer p.implements p.object p.named p.at_place p.type p.macro
 type_samples = record {
   less = refl;
   less_eq = refl;
@@ -41,7 +41,7 @@ type_samples = record {
 }
 
 pub pattern_samples : PatternSamples
-unfolding is_reserved_word weight group_at iterate fix tail listed more sign_at word_at lifetime_at round_at brace_at stands_alone is_segment is_truth is_float_text is_number kind_of p.name p.segment_name p.lifetime p.unsigned p.lit p.string p.string_at p.kept p.any_group p.rest_of p.outer_body p.inner_body p.attribute p.outer_attributes p.inner_attributes p.block p.no_arguments p.constant_tokens p.const_at p.assoc_at p.angle_at p.turbofish_at p.lifetimes p.lifetimes_at p.arg_name p.arg_name_at p.fn_at p.fn_head p.macro_end p.output p.generic p.angle p.angle_bracketed p.parenthesized p.arguments p.segment p.pieces p.path p.qualified p.qpath p.bound p.bounds p.reference p.pointer p.slice_or_array p.tuple_or_paren p.fn_arg p.fn_pointer p.implements p.object p.named p.at_place p.type p.macro q.index_of q.member q.bound_at q.range_bound q.limits q.range_end q.binding_at q.full_at q.reference_pat q.round_pat q.slice_pat q.binding q.field q.struct_inside q.path_end q.path_pat q.single q.multi q.at_width q.pattern q.closure_arg
+unfolding is_reserved_word weight group_at iterate fix tail listed more sign_at word_at lifetime_at round_at brace_at stands_alone is_segment is_truth is_float_text is_number kind_of p.name p.segment_name p.lifetime p.unsigned p.lit p.string p.string_at p.verbatim p.any_group p.rest_of p.outer_body p.inner_body p.attribute p.outer_attributes p.inner_attributes p.block p.no_arguments p.constant_tokens p.const_at p.assoc_at p.angle_at p.turbofish_at p.lifetimes p.lifetimes_at p.arg_name p.arg_name_at p.fn_at p.fn_head p.macro_end p.output p.generic p.angle p.angle_bracketed p.parenthesized p.arguments p.segment p.pieces p.path p.qualified p.qpath p.bound p.bounds p.reference p.pointer p.slice_or_array p.tuple_or_paren p.fn_arg p.fn_pointer p.implements p.object p.named p.at_place p.type p.macro q.index_of q.member q.bound_at q.range_bound q.limits q.range_end q.binding_at q.full_at q.reference_pat q.round_pat q.slice_pat q.binding q.field q.struct_inside q.path_end q.path_pat q.single q.multi q.at_width q.pattern q.closure_arg
 pattern_samples = record {
   name = refl;
   path = refl;
@@ -63,7 +63,7 @@ pattern_samples = record {
 }
 
 pub pattern_kinds : PatternKinds
-unfolding is_reserved_word weight group_at iterate fix tail listed more sign_at word_at lifetime_at round_at brace_at stands_alone is_segment is_truth is_float_text is_number kind_of p.name p.segment_name p.lifetime p.unsigned p.lit p.string p.string_at p.kept p.any_group p.rest_of p.outer_body p.inner_body p.attribute p.outer_attributes p.inner_attributes p.block p.no_arguments p.constant_tokens p.const_at p.assoc_at p.angle_at p.turbofish_at p.lifetimes p.lifetimes_at p.arg_name p.arg_name_at p.fn_at p.fn_head p.macro_end p.output p.generic p.angle p.angle_bracketed p.parenthesized p.arguments p.segment p.pieces p.path p.qualified p.qpath p.bound p.bounds p.reference p.pointer p.slice_or_array p.tuple_or_paren p.fn_arg p.fn_pointer p.implements p.object p.named p.at_place p.type p.macro q.index_of q.member q.bound_at q.range_bound q.limits q.range_end q.binding_at q.full_at q.reference_pat q.round_pat q.slice_pat q.binding q.field q.struct_inside q.path_end q.path_pat q.single q.multi q.at_width q.pattern q.closure_arg
+unfolding is_reserved_word weight group_at iterate fix tail listed more sign_at word_at lifetime_at round_at brace_at stands_alone is_segment is_truth is_float_text is_number kind_of p.name p.segment_name p.lifetime p.unsigned p.lit p.string p.string_at p.verbatim p.any_group p.rest_of p.outer_body p.inner_body p.attribute p.outer_attributes p.inner_attributes p.block p.no_arguments p.constant_tokens p.const_at p.assoc_at p.angle_at p.turbofish_at p.lifetimes p.lifetimes_at p.arg_name p.arg_name_at p.fn_at p.fn_head p.macro_end p.output p.generic p.angle p.angle_bracketed p.parenthesized p.arguments p.segment p.pieces p.path p.qualified p.qpath p.bound p.bounds p.reference p.pointer p.slice_or_array p.tuple_or_paren p.fn_arg p.fn_pointer p.implements p.object p.named p.at_place p.type p.macro q.index_of q.member q.bound_at q.range_bound q.limits q.range_end q.binding_at q.full_at q.reference_pat q.round_pat q.slice_pat q.binding q.field q.struct_inside q.path_end q.path_pat q.single q.multi q.at_width q.pattern q.closure_arg
 pattern_kinds = record {
   wild = refl;
   rest = refl;
@@ -95,7 +95,7 @@ pattern_kinds = record {
 }
 
 pub pattern_rests : PatternRests
-unfolding is_reserved_word weight group_at iterate fix tail listed more sign_at word_at lifetime_at round_at brace_at stands_alone is_segment is_truth is_float_text is_number kind_of p.name p.segment_name p.lifetime p.unsigned p.lit p.string p.string_at p.kept p.any_group p.rest_of p.outer_body p.inner_body p.attribute p.outer_attributes p.inner_attributes p.block p.no_arguments p.constant_tokens p.const_at p.assoc_at p.angle_at p.turbofish_at p.lifetimes p.lifetimes_at p.arg_name p.arg_name_at p.fn_at p.fn_head p.macro_end p.output p.generic p.angle p.angle_bracketed p.parenthesized p.arguments p.segment p.pieces p.path p.qualified p.qpath p.bound p.bounds p.reference p.pointer p.slice_or_array p.tuple_or_paren p.fn_arg p.fn_pointer p.implements p.object p.named p.at_place p.type p.macro q.index_of q.member q.bound_at q.range_bound q.limits q.range_end q.binding_at q.full_at q.reference_pat q.round_pat q.slice_pat q.binding q.field q.struct_inside q.path_end q.path_pat q.single q.multi q.at_width q.pattern q.closure_arg
+unfolding is_reserved_word weight group_at iterate fix tail listed more sign_at word_at lifetime_at round_at brace_at stands_alone is_segment is_truth is_float_text is_number kind_of p.name p.segment_name p.lifetime p.unsigned p.lit p.string p.string_at p.verbatim p.any_group p.rest_of p.outer_body p.inner_body p.attribute p.outer_attributes p.inner_attributes p.block p.no_arguments p.constant_tokens p.const_at p.assoc_at p.angle_at p.turbofish_at p.lifetimes p.lifetimes_at p.arg_name p.arg_name_at p.fn_at p.fn_head p.macro_end p.output p.generic p.angle p.angle_bracketed p.parenthesized p.arguments p.segment p.pieces p.path p.qualified p.qpath p.bound p.bounds p.reference p.pointer p.slice_or_array p.tuple_or_paren p.fn_arg p.fn_pointer p.implements p.object p.named p.at_place p.type p.macro q.index_of q.member q.bound_at q.range_bound q.limits q.range_end q.binding_at q.full_at q.reference_pat q.round_pat q.slice_pat q.binding q.field q.struct_inside q.path_end q.path_pat q.single q.multi q.at_width q.pattern q.closure_arg
 pattern_rests = record {
   not_equal = refl;
   by_ref = refl;
@@ -116,7 +116,7 @@ pattern_rests = record {
 }
 
 pub closure_args : ClosureArgs
-unfolding is_reserved_word weight group_at iterate fix tail listed more sign_at word_at lifetime_at round_at brace_at stands_alone is_segment is_truth is_float_text is_number kind_of p.name p.segment_name p.lifetime p.unsigned p.lit p.string p.string_at p.kept p.any_group p.rest_of p.outer_body p.inner_body p.attribute p.outer_attributes p.inner_attributes p.block p.no_arguments p.constant_tokens p.const_at p.assoc_at p.angle_at p.turbofish_at p.lifetimes p.lifetimes_at p.arg_name p.arg_name_at p.fn_at p.fn_head p.macro_end p.output p.generic p.angle p.angle_bracketed p.parenthesized p.arguments p.segment p.pieces p.path p.qualified p.qpath p.bound p.bounds p.reference p.pointer p.slice_or_array p.tuple_or_paren p.fn_arg p.fn_pointer p.implements p.object p.named p.at_place p.type p.macro q.index_of q.member q.bound_at q.range_bound q.limits q.range_end q.binding_at q.full_at q.reference_pat q.round_pat q.slice_pat q.binding q.field q.struct_inside q.path_end q.path_pat q.single q.multi q.at_width q.pattern q.closure_arg
+unfolding is_reserved_word weight group_at iterate fix tail listed more sign_at word_at lifetime_at round_at brace_at stands_alone is_segment is_truth is_float_text is_number kind_of p.name p.segment_name p.lifetime p.unsigned p.lit p.string p.string_at p.verbatim p.any_group p.rest_of p.outer_body p.inner_body p.attribute p.outer_attributes p.inner_attributes p.block p.no_arguments p.constant_tokens p.const_at p.assoc_at p.angle_at p.turbofish_at p.lifetimes p.lifetimes_at p.arg_name p.arg_name_at p.fn_at p.fn_head p.macro_end p.output p.generic p.angle p.angle_bracketed p.parenthesized p.arguments p.segment p.pieces p.path p.qualified p.qpath p.bound p.bounds p.reference p.pointer p.slice_or_array p.tuple_or_paren p.fn_arg p.fn_pointer p.implements p.object p.named p.at_place p.type p.macro q.index_of q.member q.bound_at q.range_bound q.limits q.range_end q.binding_at q.full_at q.reference_pat q.round_pat q.slice_pat q.binding q.field q.struct_inside q.path_end q.path_pat q.single q.multi q.at_width q.pattern q.closure_arg
 closure_args = record {
   typed = refl;
   typed_alone = refl;
@@ -127,7 +127,7 @@ closure_args = record {
 }
 
 pub generic_samples : GenericSamples
-unfolding is_reserved_word weight group_at iterate fix tail listed more sign_at word_at lifetime_at round_at brace_at stands_alone is_segment is_truth is_float_text is_number kind_of p.name p.segment_name p.lifetime p.unsigned p.lit p.string p.string_at p.kept p.any_group p.rest_of p.outer_body p.inner_body p.attribute p.outer_attributes p.inner_attributes p.block p.no_arguments p.constant_tokens p.const_at p.assoc_at p.angle_at p.turbofish_at p.lifetimes p.lifetimes_at p.arg_name p.arg_name_at p.fn_at p.fn_head p.macro_end p.output p.generic p.angle p.angle_bracketed p.parenthesized p.arguments p.segment p.pieces p.path p.qualified p.qpath p.bound p.bounds p.reference p.pointer p.slice_or_array p.tuple_or_paren p.fn_arg p.fn_pointer p.implements p.object p.named p.at_place p.type p.macro q.index_of q.member q.bound_at q.range_bound q.limits q.range_end q.binding_at q.full_at q.reference_pat q.round_pat q.slice_pat q.binding q.field q.struct_inside q.path_end q.path_pat q.single q.multi q.at_width q.pattern q.closure_arg
+unfolding is_reserved_word weight group_at iterate fix tail listed more sign_at word_at lifetime_at round_at brace_at stands_alone is_segment is_truth is_float_text is_number kind_of p.name p.segment_name p.lifetime p.unsigned p.lit p.string p.string_at p.verbatim p.any_group p.rest_of p.outer_body p.inner_body p.attribute p.outer_attributes p.inner_attributes p.block p.no_arguments p.constant_tokens p.const_at p.assoc_at p.angle_at p.turbofish_at p.lifetimes p.lifetimes_at p.arg_name p.arg_name_at p.fn_at p.fn_head p.macro_end p.output p.generic p.angle p.angle_bracketed p.parenthesized p.arguments p.segment p.pieces p.path p.qualified p.qpath p.bound p.bounds p.reference p.pointer p.slice_or_array p.tuple_or_paren p.fn_arg p.fn_pointer p.implements p.object p.named p.at_place p.type p.macro q.index_of q.member q.bound_at q.range_bound q.limits q.range_end q.binding_at q.full_at q.reference_pat q.round_pat q.slice_pat q.binding q.field q.struct_inside q.path_end q.path_pat q.single q.multi q.at_width q.pattern q.closure_arg
 generic_samples = record {
   assoc = refl;
   equal = refl;
@@ -137,7 +137,7 @@ generic_samples = record {
 }
 
 pub index_samples : IndexSamples
-unfolding is_reserved_word weight group_at iterate fix tail listed more sign_at word_at lifetime_at round_at brace_at stands_alone is_segment is_truth is_float_text is_number kind_of p.name p.segment_name p.lifetime p.unsigned p.lit p.string p.string_at p.kept p.any_group p.rest_of p.outer_body p.inner_body p.attribute p.outer_attributes p.inner_attributes p.block p.no_arguments p.constant_tokens p.const_at p.assoc_at p.angle_at p.turbofish_at p.lifetimes p.lifetimes_at p.arg_name p.arg_name_at p.fn_at p.fn_head p.macro_end p.output p.generic p.angle p.angle_bracketed p.parenthesized p.arguments p.segment p.pieces p.path p.qualified p.qpath p.bound p.bounds p.reference p.pointer p.slice_or_array p.tuple_or_paren p.fn_arg p.fn_pointer p.implements p.object p.named p.at_place p.type p.macro q.index_of q.member q.bound_at q.range_bound q.limits q.range_end q.binding_at q.full_at q.reference_pat q.round_pat q.slice_pat q.binding q.field q.struct_inside q.path_end q.path_pat q.single q.multi q.at_width q.pattern q.closure_arg
+unfolding is_reserved_word weight group_at iterate fix tail listed more sign_at word_at lifetime_at round_at brace_at stands_alone is_segment is_truth is_float_text is_number kind_of p.name p.segment_name p.lifetime p.unsigned p.lit p.string p.string_at p.verbatim p.any_group p.rest_of p.outer_body p.inner_body p.attribute p.outer_attributes p.inner_attributes p.block p.no_arguments p.constant_tokens p.const_at p.assoc_at p.angle_at p.turbofish_at p.lifetimes p.lifetimes_at p.arg_name p.arg_name_at p.fn_at p.fn_head p.macro_end p.output p.generic p.angle p.angle_bracketed p.parenthesized p.arguments p.segment p.pieces p.path p.qualified p.qpath p.bound p.bounds p.reference p.pointer p.slice_or_array p.tuple_or_paren p.fn_arg p.fn_pointer p.implements p.object p.named p.at_place p.type p.macro q.index_of q.member q.bound_at q.range_bound q.limits q.range_end q.binding_at q.full_at q.reference_pat q.round_pat q.slice_pat q.binding q.field q.struct_inside q.path_end q.path_pat q.single q.multi q.at_width q.pattern q.closure_arg
 index_samples = record {
   decimal = refl;
   hexadecimal = refl;

@@ -14,7 +14,7 @@ use Rattle.syn_parts.specs.Same.{same_lit, same_toks, same_group}
 use Rattle.syn_parts.specs.Tree.{LitTree, TypeTree}
 use Rattle.syn_parts.specs.Form.{Form}
 use Rattle.syn_parts.specs.Mark.{quote, pound, less, and, star, bang, underscore, implementing, dynamic}
-use Rattle.syn_parts.specs.Part.{pound_bang, find_ident, find_segment, find_word, find_lit, find_signed, find_string, find_group, find_all, find_const, find_arg_name, is_arg_name, name, segment_name, lifetime, unsigned, lit, string, kept, any_group, rest_of, constant_tokens, arg_name, outer_body, inner_body, outer_attributes, inner_attributes, block, no_arguments, lifetimes, output, generic, angle, angle_bracketed, parenthesized, arguments, segment, pieces, path, qualified, qpath, bound, bounds, reference, pointer, fn_head, fn_pointer, implements, object, macro_end, named, at_place, type, macro, QPathTree}
+use Rattle.syn_parts.specs.Part.{pound_bang, find_ident, find_segment, find_word, find_lit, find_signed, find_string, find_group, find_all, find_const, find_arg_name, is_arg_name, name, segment_name, lifetime, unsigned, lit, string, verbatim, any_group, rest_of, constant_tokens, arg_name, outer_body, inner_body, outer_attributes, inner_attributes, block, no_arguments, lifetimes, output, generic, angle, angle_bracketed, parenthesized, arguments, segment, pieces, path, qualified, qpath, bound, bounds, reference, pointer, fn_head, fn_pointer, implements, object, macro_end, named, at_place, type, macro, QPathTree}
 use Rattle.syn_parts.proofs.Weights.{some_is}
 use Rattle.syn_parts.proofs.Parts.{word_some, lit_some, truth_some, negative_some, const_some, string_some}
 use Rattle.syn_parts.proofs.Tails.{Leaves, Found, nothing_taken, tail_then, one_taken, when_leaves, mark_leaves, then_by_leaves, both_leaves, shown_leaves, pure_leaves, inside_leaves, fix_leaves, listed_leaves, more_leaves, joined_leaves, closed_by_leaves, leaf_leaves, maybe_leaves, flag_leaves, case_leaves, group_case_leaves, found_group}
@@ -139,9 +139,9 @@ pub string_leaves : Leaves string
 unfolding string
 string_leaves = leaf_leaves same_lit found_string
 
-pub kept_leaves : (d : Delimiter) → Leaves (kept d)
-unfolding kept
-kept_leaves d = leaf_leaves same_toks (found_group d)
+pub verbatim_leaves : (d : Delimiter) → Leaves (verbatim d)
+unfolding verbatim
+verbatim_leaves d = leaf_leaves same_toks (found_group d)
 
 pub any_group_leaves : Leaves any_group
 unfolding any_group
@@ -159,7 +159,7 @@ pub arg_name_leaves : Leaves arg_name
 unfolding arg_name
 arg_name_leaves = leaf_leaves bytes_eq found_arg_name
 
-pub ruleset leaving = (when_leaves, shown_leaves, both_leaves, then_by_leaves, mark_leaves, inside_leaves, closed_by_leaves, listed_leaves, joined_leaves, pure_leaves, maybe_leaves, flag_leaves, name_leaves, segment_name_leaves, lifetime_leaves, unsigned_leaves, signed_leaves, string_leaves, kept_leaves, any_group_leaves, rest_of_leaves, constant_leaves, arg_name_leaves)
+pub ruleset leaving = (when_leaves, shown_leaves, both_leaves, then_by_leaves, mark_leaves, inside_leaves, closed_by_leaves, listed_leaves, joined_leaves, pure_leaves, maybe_leaves, flag_leaves, name_leaves, segment_name_leaves, lifetime_leaves, unsigned_leaves, signed_leaves, string_leaves, verbatim_leaves, any_group_leaves, rest_of_leaves, constant_leaves, arg_name_leaves)
 
 outer_body_leaves : Leaves outer_body
 unfolding outer_body
@@ -179,7 +179,7 @@ inner_attributes_leaves = more_leaves pound_bang inner_body_leaves
 
 pub block_leaves : Leaves block
 unfolding block
-block_leaves = kept_leaves del.Brace
+block_leaves = verbatim_leaves del.Brace
 
 no_arguments_leaves : Leaves no_arguments
 unfolding no_arguments

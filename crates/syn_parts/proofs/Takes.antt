@@ -13,7 +13,7 @@ use Rattle.syn_parts.specs.Text.{Text, is_segment, is_truth, is_number, kind_of}
 use Rattle.syn_parts.specs.Tree.{LitTree}
 use Rattle.syn_parts.specs.Form.{Form, Outcome, Test, Mark, and_then, when, mark, then_by, both, shown, inside_reads, inside, joined}
 use Rattle.syn_parts.specs.Mark.{gt, implementing, dynamic}
-use Rattle.syn_parts.specs.Part.{find_ident, find_segment, find_lit, find_signed, find_const, name, segment_name, lifetime, lit, kept, constant_tokens, block, lifetimes, generic, segment, pieces, path, qpath, bound, fn_pointer, named, at_place, type, macro}
+use Rattle.syn_parts.specs.Part.{find_ident, find_segment, find_lit, find_signed, find_const, name, segment_name, lifetime, lit, verbatim, constant_tokens, block, lifetimes, generic, segment, pieces, path, qpath, bound, fn_pointer, named, at_place, type, macro}
 use Rattle.syn_parts.specs.Part as p
 use Rattle.syn_parts.proofs.Weights.{some_is, taken, one_at_least}
 use Rattle.syn_parts.proofs.Same.{compares_texts}
@@ -124,9 +124,9 @@ signed_takes = record { takes = takes }
     takes (ident w ∷ l) x n h = lit_takes (ident w ∷ l) x n h
     takes (group d i ∷ l) x n h = absurd cc
 
-pub kept_takes : (d : Delimiter) → Takes (kept d)
-unfolding kept
-kept_takes d = record { takes = λ l x n h. omega (arith, taken d l x n h) }
+pub verbatim_takes : (d : Delimiter) → Takes (verbatim d)
+unfolding verbatim
+verbatim_takes d = record { takes = λ l x n h. omega (arith, taken d l x n h) }
 
 const_takes : Takes constant_tokens
 unfolding constant_tokens
@@ -142,7 +142,7 @@ const_takes = record { takes = takes }
 
 pub block_takes : Takes block
 unfolding block
-block_takes = kept_takes del.Brace
+block_takes = verbatim_takes del.Brace
 
 -- ---- parts
 

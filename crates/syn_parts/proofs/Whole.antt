@@ -16,7 +16,7 @@ use Rattle.syn_parts.proofs.Same.{both_true, not_true}
 use Rattle.syn_parts.proofs.Forms.{Alike, weaker}
 use Rattle.syn_parts.proofs.Parts.{name_alike, lifetime_alike, lit_alike, unsigned_alike, attribute_alike, outer_attributes_alike, inner_attributes_alike, block_alike, lifetimes_alike, macro_alike, whole_path_alike, whole_segment_alike, qpath_alike, arguments_alike, generic_alike, assoc_alike, angle_alike, angle_bracketed_alike, parenthesized_alike, fn_arg_alike, abi_alike, mutability_alike, trait_bound_alike, bounds_alike, bound_alike, output_alike, type_alike, types_alike}
 use Rattle.syn_parts.proofs.ReadBack.{name_back, lifetime_back, lit_back, attribute_back, block_back}
-use Rattle.syn_parts.proofs.SimpleTold.{unsigned_back, of_kind_back}
+use Rattle.syn_parts.proofs.SimpleComplete.{unsigned_back, of_kind_back}
 use Rattle.syn_parts.proofs.MoreBack.{abi_back, mutability_back, arguments_again, in_angle_back, in_round_back, angle_back, segment_back, generic_again, assoc_back, arg_back, trait_back, bounds_back}
 use Rattle.syn_parts.proofs.LitKinds.{of_kind_alike}
 use Rattle.syn_parts.proofs.TypesBack.{lifetimes_back, path_back, qpath_back, type_back, bound_back, group_back}

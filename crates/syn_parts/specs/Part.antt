@@ -114,11 +114,11 @@ is_string_there _ = false
 unfoldable pub string_at : Test
 string_at l = is_string_there l
 
--- ---- tokens that are kept
+-- ---- verbatim tokens
 
 -- a group's inside, as it is
-unfoldable pub kept : Delimiter → Form (List Tok)
-kept d = leaf same_toks (λ l. group_at d l)
+unfoldable pub verbatim : Delimiter → Form (List Tok)
+verbatim d = leaf same_toks (λ l. group_at d l)
 
 abbrev pub find_group : List Tok → Outcome (Delimiter × List Tok)
 find_group (group del.None i ∷ l) = None
@@ -152,10 +152,10 @@ abbrev pub from_inner : AttributeTree → Option (List Tok)
 from_inner a = if a.inner then Some a.tokens else None
 
 unfoldable pub outer_body : Form AttributeTree
-outer_body = shown to_outer from_outer (kept del.Bracket)
+outer_body = shown to_outer from_outer (verbatim del.Bracket)
 
 unfoldable pub inner_body : Form AttributeTree
-inner_body = shown to_inner from_inner (kept del.Bracket)
+inner_body = shown to_inner from_inner (verbatim del.Bracket)
 
 abbrev pub pound_bang : Mark
 pound_bang = record { at = λ l. pound.at l && bang.at (drop 1 l); count = 2 }
@@ -171,9 +171,9 @@ outer_attributes = more pound outer_body
 unfoldable pub inner_attributes : Form (List AttributeTree)
 inner_attributes = more pound_bang inner_body
 
--- a brace group of kept tokens (Rust Reference, "Block expressions")
+-- a brace group of verbatim tokens (Rust Reference, "Block expressions")
 unfoldable pub block : Form (List Tok)
-block = kept del.Brace
+block = verbatim del.Brace
 
 -- ---- lists as the trees hold them
 

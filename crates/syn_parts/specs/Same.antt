@@ -1,4 +1,4 @@
--- Tests of whether kept tokens and literals are equal.
+-- Tests of whether verbatim tokens and literals are equal.
 use Rattle.std.specs.Prelude.{Bool, true, false, ◌&&◌, List}
 use Rattle.std.specs.Str.{bytes_eq}
 use Rattle.syn_lexer.specs.declared.lexeme.Delimiter.{Delimiter}

@@ -16,7 +16,7 @@ use crate::kinds::ReadPat;
 use std::alloc::Global;
 use syn_lower::readers::ty;
 use syn_lower_leaves::front;
-use syn_lower_leaves::kept::outer_attributes;
+use syn_lower_leaves::verbatim::outer_attributes;
 use syn_lower_lists::front::path_at;
 use syn_lower_lists::punctuated::Punctuated;
 use syn_pat_kinds::kinds::IsPat;

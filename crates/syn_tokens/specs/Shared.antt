@@ -6,10 +6,10 @@ use Rattle.syn_tokens.specs.Sign.{word_text}
 use Rattle.syn_tokens.specs.declared.shared.Kept.{Kept}
 use Rattle.syn_tokens.specs.declared.shared.Kept.TheVariants.{Part, Word}
 
-abbrev pub kept_bytes : Kept → List ℕ
-kept_bytes (Word k) = word_text k
-kept_bytes (Part whole lo hi) = take (hi - lo) (drop lo (rc_str_bytes whole))
+abbrev pub source_bytes : Kept → List ℕ
+source_bytes (Word k) = word_text k
+source_bytes (Part whole lo hi) = take (hi - lo) (drop lo (rc_str_bytes whole))
 
-abbrev pub IsKept : Kept → Type 0
-IsKept (Word k) = Unit {0}
-IsKept (Part whole lo hi) = (lo ≤ hi) × IsCharBoundary (rc_str_bytes whole) lo × IsCharBoundary (rc_str_bytes whole) hi
+abbrev pub IsTextSource : Kept → Type 0
+IsTextSource (Word k) = Unit {0}
+IsTextSource (Part whole lo hi) = (lo ≤ hi) × IsCharBoundary (rc_str_bytes whole) lo × IsCharBoundary (rc_str_bytes whole) hi

@@ -33,13 +33,13 @@ pub struct SharedText {
 
 impl Model for SharedText {
     ghost use Rattle.std.specs.Prelude.{List, ℕ};
-    ghost use Rattle.syn_tokens.specs.Shared.{kept_bytes, IsKept};
+    ghost use Rattle.syn_tokens.specs.Shared.{source_bytes, IsTextSource};
 
     ghost Value = { List ℕ };
 
-    ghost view = { λ t. kept_bytes t.kept };
+    ghost view = { λ t. source_bytes t.kept };
 
-    ghost invariant = { λ t. IsKept t.kept };
+    ghost invariant = { λ t. IsTextSource t.kept };
 }
 
 impl SharedText {

@@ -1,8 +1,8 @@
-use Rattle.lint.proofs.Lint.{told, noticed, another, no_comparison}
+use Rattle.lint.proofs.Lint.{known, noticed, another, no_comparison}
 use Rattle.lint.proofs.compares_with_itself.Goals as goal
 
 pub returns-in-Compare-clause-sound : goal.returns-in-Compare-clause-sound
-returns-in-Compare-clause-sound c = told _ c.in-Binary.operation _ c.equal_expressions.ensures.expr c.in-Binary.is c.in-Compare.ensures _ _ c.deref.ensures c.deref-in-Compare.ensures _ c.eq.ensures
+returns-in-Compare-clause-sound c = known _ c.in-Binary.operation _ c.equal_expressions.ensures.expr c.in-Binary.is c.in-Compare.ensures _ _ c.deref.ensures c.deref-in-Compare.ensures _ c.eq.ensures
 
 pub returns-in-Compare-clause-complete : goal.returns-in-Compare-clause-complete
 returns-in-Compare-clause-complete c = noticed _ c.in-Binary.operation _ c.equal_expressions.ensures.expr c.in-Binary.is _ _ c.deref.ensures c.deref-in-Compare.ensures _ c.eq.ensures

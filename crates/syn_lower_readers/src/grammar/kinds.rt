@@ -14,7 +14,7 @@ use syn_lower_generic::ty::{
 };
 use syn_lower_generic::types::IsType;
 use syn_lower_leaves::front;
-use syn_lower_leaves::kept::rest_of;
+use syn_lower_leaves::verbatim::rest_of;
 use syn_lower_lists::readers::{maybe_lifetime, pointer_mutability};
 use syn_tokens::buffer::ParseBuffer;
 use syn_tokens::error::{ErrorKind, Result};

@@ -19,9 +19,9 @@ use syn_lower_generic::path::{
 };
 use syn_lower_generic::types::IsType;
 use syn_lower_leaves::front;
-use syn_lower_leaves::kept::{const_at, constant_tokens};
 use syn_lower_leaves::leaf::{lifetime, lifetime_at, name, segment_name};
 use syn_lower_leaves::text::stands_alone;
+use syn_lower_leaves::verbatim::{const_at, constant_tokens};
 use syn_lower_lists::front::{angle_at, assoc_at, gt_at, round_at, turbofish_at};
 use syn_lower_lists::punctuated::Punctuated;
 use syn_parts::label::PathStyle;

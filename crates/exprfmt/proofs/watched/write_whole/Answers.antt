@@ -7,11 +7,11 @@ pub writes-preserved : goal.writes-preserved
 writes-preserved g c =
     let held = g.W.Write.contents in
     let old = held c.args.writer.now in
-    let mid = held c.writes.writer in
+    let infixed = held c.writes.writer in
     let new = held c.write.new.self in
     let rest = c.writes.rest.now in
     let text = c.args.text.now in
     elim c.match-write.branch [
-      | in-Ok w ↦ rw (w.rest-is, take_rest rest w.in-Ok.n) (more_written old mid new text rest w.in-Ok.n c.writes.invariant w.in-Ok.ensures.bytes)
-      | in-Err+else-ne w ↦ rw w.rest-is (written_kept old mid new text rest c.writes.invariant w.in-Err.ensures.bytes)
+      | in-Ok w ↦ rw (w.rest-is, take_rest rest w.in-Ok.n) (more_written old infixed new text rest w.in-Ok.n c.writes.invariant w.in-Ok.ensures.bytes)
+      | in-Err+else-ne w ↦ rw w.rest-is (written_kept old infixed new text rest c.writes.invariant w.in-Err.ensures.bytes)
     ]

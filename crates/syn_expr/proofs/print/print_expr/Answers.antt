@@ -1,5 +1,5 @@
 use Rattle.syn_expr_all.specs.View.{tree_of}
-use Rattle.syn_expr.proofs.Promised.{text_at, back_at, added_at, own_at, sparing_at}
+use Rattle.syn_expr.proofs.Promised.{text_at, back_at, added_at, own_at, minimal_at}
 use Rattle.syn_expr.proofs.print.print_expr.Goals as goal
 
 pub returns-clause-ok : goal.returns-clause-ok
@@ -23,8 +23,8 @@ returns-clause-own c =
     let text = text_at t c.args.fixup.context c.context.result _ _ c.in_ok-print_counted.ensures.text c.context.ensures in
     λ e. own_at t c.args.fixup.context _ _ text e
 
-pub returns-clause-sparing : goal.returns-clause-sparing
-returns-clause-sparing c =
+pub returns-clause-minimal : goal.returns-clause-minimal
+returns-clause-minimal c =
     let t = tree_of c.args.expr.now in
     let text = text_at t c.args.fixup.context c.context.result _ _ c.in_ok-print_counted.ensures.text c.context.ensures in
-    λ s e. sparing_at s t c.args.fixup.context _ _ text e
+    λ s e. minimal_at s t c.args.fixup.context _ _ text e

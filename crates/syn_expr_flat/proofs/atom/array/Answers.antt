@@ -1,7 +1,7 @@
 use Rattle.std.proofs.Common.{refl}
 use Rattle.syn_expr_flat.proofs.Calls.{flat_by}
 use Rattle.syn_expr_flat.proofs.Each.{each_by}
-use Rattle.syn_expr_flat.proofs.Kids.{frame_flat, list_flat}
+use Rattle.syn_expr_flat.proofs.Children.{frame_flat, list_flat}
 use Rattle.syn_expr_flat.proofs.Nodes.{at_node}
 use Rattle.syn_expr_flat.proofs.atom.array.Goals as goal
 

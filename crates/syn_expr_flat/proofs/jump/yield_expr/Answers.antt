@@ -1,6 +1,6 @@
 use Rattle.syn_expr_flat.proofs.Calls.{flat_by}
 use Rattle.syn_expr_flat.proofs.Each.{each_by}
-use Rattle.syn_expr_flat.proofs.Kids.{jump_plain, jump_flat}
+use Rattle.syn_expr_flat.proofs.Children.{jump_plain, jump_flat}
 use Rattle.syn_expr_flat.proofs.Nodes.{at_node}
 use Rattle.syn_expr_flat.proofs.jump.yield_expr.Goals as goal
 

@@ -7,4 +7,4 @@ use Rattle.syn_expr_flat.proofs.Nodes.{leaf_flat}
 use Rattle.syn_expr_flat.proofs.leaf.loop_expr.Goals as goal
 
 pub returns : goal.returns
-returns c = at_braces _ _ _ (λ l. leaf (e.looping (mapped label_of c.args.x.now.label) (body_of l c.args.x.now.body.stmts))) _ (loop_braced _ _) c.in_ok-put_around.ensures.outer c.in_ok-put_around.ensures.inner (leaf_flat _)
+returns c = at_braces _ _ _ (λ l. leaf (e.loop_expr (mapped label_of c.args.x.now.label) (body_of l c.args.x.now.body.stmts))) _ (loop_braced _ _) c.in_ok-put_around.ensures.outer c.in_ok-put_around.ensures.inner (leaf_flat _)

@@ -1,6 +1,6 @@
 use Rattle.syn_expr_flat.proofs.Calls.{flat_by}
 use Rattle.syn_expr_flat.proofs.Each.{each_by}
-use Rattle.syn_expr_flat.proofs.Kids.{range_plain, range_flat}
+use Rattle.syn_expr_flat.proofs.Children.{range_plain, range_flat}
 use Rattle.syn_expr_flat.proofs.Nodes.{at_node}
 use Rattle.syn_expr_flat.proofs.Refs.{by_ref}
 use Rattle.syn_expr_flat.proofs.operation.range.Goals as goal

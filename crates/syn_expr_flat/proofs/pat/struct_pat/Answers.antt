@@ -6,7 +6,7 @@ use Rattle.syn_expr_flat.proofs.Pats.{struct_flat}
 use Rattle.syn_expr_flat.proofs.pat.struct_pat.Goals as goal
 
 pub punctuated-requires-clause-inner : goal.punctuated-requires-clause-inner
-punctuated-requires-clause-inner g c = λ q has lent is. ((λ p full inside e. c.requires.inner q p has (sym (ap (λ f. f.kind) is) ∙ full) inside e), c.requires.gives)
+punctuated-requires-clause-inner g c = λ q has borrowed is. ((λ p full inside e. c.requires.inner q p has (sym (ap (λ f. f.kind) is) ∙ full) inside e), c.requires.gives)
 
 pub returns : goal.returns
 returns g c =

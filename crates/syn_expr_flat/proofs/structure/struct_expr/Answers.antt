@@ -3,12 +3,12 @@ use Rattle.syn_expr_kinds.specs.View.{field_value_of}
 use Rattle.syn_expr_flat.specs.Flat.{IsFlatField}
 use Rattle.syn_expr_flat.proofs.Calls.{flat_by, left_by}
 use Rattle.syn_expr_flat.proofs.Each.{each_by}
-use Rattle.syn_expr_flat.proofs.Kids.{option_flat, same_rest, struct_flat}
+use Rattle.syn_expr_flat.proofs.Children.{option_flat, same_rest, struct_flat}
 use Rattle.syn_expr_flat.proofs.Nodes.{at_node}
 use Rattle.syn_expr_flat.proofs.structure.struct_expr.Goals as goal
 
 pub punctuated-requires-clause-inner : goal.punctuated-requires-clause-inner
-punctuated-requires-clause-inner g c = λ q has lent is. ((λ inside e. c.requires.fields q has inside (e ∙ ap (λ f. f.expr) is)), c.requires.gives)
+punctuated-requires-clause-inner g c = λ q has borrowed is. ((λ inside e. c.requires.fields q has inside (e ∙ ap (λ f. f.expr) is)), c.requires.gives)
 
 pub returns : goal.returns
 returns g c =

@@ -1,6 +1,6 @@
 use Rattle.std.proofs.Common.{refl}
 use Rattle.syn_expr_flat.proofs.Calls.{flat_by}
-use Rattle.syn_expr_flat.proofs.Kids.{tail_flat, none_flat}
+use Rattle.syn_expr_flat.proofs.Children.{tail_flat, none_flat}
 use Rattle.syn_expr_flat.proofs.Nodes.{at_node}
 use Rattle.syn_expr_flat.proofs.trailer.await_expr.Goals as goal
 

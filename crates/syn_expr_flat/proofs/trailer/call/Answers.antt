@@ -1,7 +1,7 @@
 use Rattle.std.proofs.Common.{refl}
 use Rattle.syn_expr_flat.proofs.Calls.{flat_by}
 use Rattle.syn_expr_flat.proofs.Each.{each_by}
-use Rattle.syn_expr_flat.proofs.Kids.{tail_flat, list_flat}
+use Rattle.syn_expr_flat.proofs.Children.{tail_flat, list_flat}
 use Rattle.syn_expr_flat.proofs.Nodes.{at_node}
 use Rattle.syn_expr_flat.proofs.Refs.{by_ref}
 use Rattle.syn_expr_flat.proofs.trailer.call.Goals as goal

@@ -1,6 +1,6 @@
 -- In each arm what the arm's own function leaves is put back into its kind.
 use Rattle.std.proofs.Common.{refl, sym, ap, ◌∙◌}
-use Rattle.syn_expr_all.specs.View.{binding_of, choice_of, closure_of, expr_array_of, expr_assign_of, expr_async_of, expr_await_of, expr_binary_of, expr_block_of, expr_break_of, expr_call_of, expr_cast_of, expr_const_of, expr_continue_of, expr_field_of, expr_group_of, expr_if_of, expr_index_of, expr_infer_of, expr_lit_of, expr_loop_of, expr_macro_of, expr_method_call_of, expr_paren_of, expr_path_of, expr_range_of, expr_raw_addr_of, expr_reference_of, expr_repeat_of, expr_return_of, expr_struct_of, expr_try_block_of, expr_try_of, expr_tuple_of, expr_unary_of, expr_unsafe_of, expr_while_of, expr_yield_of, for_loop_of, guard_of, pat_ident_of, pat_of, pat_or_of, pat_paren_of, pat_reference_of, pat_slice_of, pat_struct_of, pat_tuple_of, pat_tuple_struct_of, pat_type_of, tree_of}
+use Rattle.syn_expr_all.specs.View.{let_of, match_of, closure_of, expr_array_of, expr_assign_of, expr_async_of, expr_await_of, expr_binary_of, expr_block_of, expr_break_of, expr_call_of, expr_cast_of, expr_const_of, expr_continue_of, expr_field_of, expr_group_of, expr_if_of, expr_index_of, expr_infer_of, expr_lit_of, expr_loop_of, expr_macro_of, expr_method_call_of, expr_paren_of, expr_path_of, expr_range_of, expr_raw_addr_of, expr_reference_of, expr_repeat_of, expr_return_of, expr_struct_of, expr_try_block_of, expr_try_of, expr_tuple_of, expr_unary_of, expr_unsafe_of, expr_while_of, expr_yield_of, for_loop_of, guard_of, pat_ident_of, pat_of, pat_or_of, pat_paren_of, pat_reference_of, pat_slice_of, pat_struct_of, pat_tuple_of, pat_tuple_struct_of, pat_type_of, tree_of}
 use Rattle.syn_grammar.specs.Tree.{leaf, verbatim}
 use Rattle.syn_expr_all.specs.declared.expr.Expr.TheVariants as ex
 use Rattle.syn_expr_all.specs.declared.pat.Pat.TheVariants as pt
@@ -65,7 +65,7 @@ pub flattened-returns-in-Infer : goal.flattened-returns-in-Infer
 flattened-returns-in-Infer t c = rw (c.in-Infer.is, ex.outs-Infer c.in-Infer.x) (arm _ _ _ _ (of.tree-Infer c.in-Infer.x ∙ sym (ap expr_infer_of c.in-Infer.x-is)) (of.tree-Infer c.infer.new.x) c.infer.ensures)
 
 pub flattened-returns-in-Let : goal.flattened-returns-in-Let
-flattened-returns-in-Let t c = rw (c.in-Let.is, ex.outs-Let c.in-Let.x) (arm _ _ _ _ (of.tree-Let c.in-Let.x ∙ sym (ap binding_of c.in-Let.x-is)) (of.tree-Let c.let_expr.new.x) c.let_expr.ensures)
+flattened-returns-in-Let t c = rw (c.in-Let.is, ex.outs-Let c.in-Let.x) (arm _ _ _ _ (of.tree-Let c.in-Let.x ∙ sym (ap let_of c.in-Let.x-is)) (of.tree-Let c.let_expr.new.x) c.let_expr.ensures)
 
 pub flattened-returns-in-Lit : goal.flattened-returns-in-Lit
 flattened-returns-in-Lit t c = rw (c.in-Lit.is, ex.outs-Lit c.in-Lit.x) (arm _ _ _ _ (of.tree-Lit c.in-Lit.x ∙ sym (ap expr_lit_of c.in-Lit.x-is)) (of.tree-Lit c.lit.new.x) c.lit.ensures)
@@ -77,7 +77,7 @@ pub flattened-returns-in-Macro : goal.flattened-returns-in-Macro
 flattened-returns-in-Macro t c = rw (c.in-Macro.is, ex.outs-Macro c.in-Macro.x) (arm _ _ _ _ (of.tree-Macro c.in-Macro.x ∙ sym (ap expr_macro_of c.in-Macro.x-is)) (of.tree-Macro c.mac.new.x) c.mac.ensures)
 
 pub flattened-returns-in-Match : goal.flattened-returns-in-Match
-flattened-returns-in-Match t c = rw (c.in-Match.is, ex.outs-Match c.in-Match.x) (arm _ _ _ _ (of.tree-Match c.in-Match.x ∙ sym (ap choice_of c.in-Match.x-is)) (of.tree-Match c.match_expr.new.x) c.match_expr.ensures)
+flattened-returns-in-Match t c = rw (c.in-Match.is, ex.outs-Match c.in-Match.x) (arm _ _ _ _ (of.tree-Match c.in-Match.x ∙ sym (ap match_of c.in-Match.x-is)) (of.tree-Match c.match_expr.new.x) c.match_expr.ensures)
 
 pub flattened-returns-in-MethodCall : goal.flattened-returns-in-MethodCall
 flattened-returns-in-MethodCall t c = rw (c.in-MethodCall.is, ex.outs-MethodCall c.in-MethodCall.x) (arm _ _ _ _ (of.tree-MethodCall c.in-MethodCall.x ∙ sym (ap (expr_method_call_of tree_of) c.in-MethodCall.x-is)) (of.tree-MethodCall c.method_call.new.x) c.method_call.ensures)

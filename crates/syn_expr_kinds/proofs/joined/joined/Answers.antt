@@ -1,4 +1,4 @@
-use Rattle.syn_expr_kinds.proofs.Adorned.{joined_all, joined_outer, joined_inner}
+use Rattle.syn_expr_kinds.proofs.Attributed.{joined_all, joined_outer, joined_inner}
 use Rattle.syn_expr_kinds.proofs.joined.joined.Goals as goal
 
 pub returns-clause-all : goal.returns-clause-all

@@ -5,8 +5,8 @@ use Rattle.syn_parts.specs.Own as own_parts
 use Rattle.syn_grammar.specs.Next.{enclosed}
 use Rattle.syn_expr_print.specs.Printing.{spelled_in}
 use Rattle.syn_expr_print.specs.Taken.{Taken}
-use Rattle.syn_expr_print.proofs.Lending.{on-map}
-use Rattle.syn_expr_print.proofs.Lents.{paren-text, paren-below}
+use Rattle.syn_expr_print.proofs.Borrowing.{on-map}
+use Rattle.syn_expr_print.proofs.Borrowed.{paren-text, paren-below}
 use Rattle.syn_expr_print.proofs.Spellings.{spelled-bare}
 use Rattle.syn_expr_print.proofs.Stacks.{taken-both}
 use Rattle.syn_expr_print.proofs.ends.paren.Goals as goal
@@ -21,13 +21,13 @@ returns-clause-text g c =
     ∙ ap (λ k. spelled_in false k u) c.enclosed.ensures
     ∙ spelled-bare enclosed u in
     let e = ap (λ l. old ++ own_parts.enclosed del.Parenthesis l []) content
-    ∙ ap (λ l. old ++ l) (sym (paren-text c.args.context t u (g.met.E.HasPrint.lent c.args.x.now) c.requires.kind c.first_operand-operand.ensures)) in
+    ∙ ap (λ l. old ++ l) (sym (paren-text c.args.context t u (g.met.E.HasPrint.borrowed c.args.x.now) c.requires.kind c.first_operand-operand.ensures)) in
     subst (λ z. OnOk c.put_paren.result (c.put_paren.new.tokens ≡ z)) e c.put_paren.ensures.ok
 
 pub returns-clause-taken : goal.returns-clause-taken
 returns-clause-taken g c =
     let t = g.E.HasExprTree.tree c.args.x.now in
     let u = g.E.HasExprTree.tree c.first_operand-operand.result.now in
-    let b = paren-below t u (g.met.E.HasPrint.lent c.args.x.now) c.requires.kind c.first_operand-operand.ensures in
-    let both = taken-both _ _ _ _ _ c.take_note.ensures.taken c.in_ok-inside.ensures.taken in
-    on-map c.put_paren.result c.put_paren.ensures.ok (λ _. subst (λ l. Taken c.args.notes.now c.inside.new.notes l) (sym b) both)
+    let b = paren-below t u (g.met.E.HasPrint.borrowed c.args.x.now) c.requires.kind c.first_operand-operand.ensures in
+    let both = taken-both _ _ _ _ _ c.take_summary.ensures.taken c.in_ok-inside.ensures.taken in
+    on-map c.put_paren.result c.put_paren.ensures.ok (λ _. subst (λ l. Taken c.args.summaries.now c.inside.new.summaries l) (sym b) both)

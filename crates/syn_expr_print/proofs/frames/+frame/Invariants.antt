@@ -1,7 +1,7 @@
 -- What stands behind `else` is smaller than its `if`.
 use Rattle.std.proofs.Common.{◌+◌, ◌*◌}
-use Rattle.syn_grammar.specs.Tree.{size, kids_size}
-use Rattle.syn_expr_kinds.specs.Node.{operands_of, operand_kids}
+use Rattle.syn_grammar.specs.Tree.{size, children_size}
+use Rattle.syn_expr_kinds.specs.Node.{operands_of, operand_children}
 use Rattle.syn_expr_print.specs.Placed.{else_tree, option_size}
 use Rattle.syn_expr_print.proofs.frames.+frame.Given as goal
 
@@ -17,8 +17,8 @@ decreases-chained g l = 6 * size (g.E.HasExprTree.tree l.x.now) + 2
 abbrev pub decreases-alternative : goal.decreases-alternative
 decreases-alternative g l = 6 * option_size (else_tree g.E.HasExprTree.tree l.otherwise.now) + 3
 
-abbrev pub decreases-branches : goal.decreases-branches
-decreases-branches g l = 6 * option_size (else_tree g.E.HasExprTree.tree l.otherwise.now) + 4
+abbrev pub decreases-if_exprs : goal.decreases-if_exprs
+decreases-if_exprs g l = 6 * option_size (else_tree g.E.HasExprTree.tree l.otherwise.now) + 4
 
-abbrev pub decreases-kids : goal.decreases-kids
-decreases-kids g l = 6 * kids_size (operand_kids (operands_of g.E.HasExprTree.tree g.E.Arm.HasArmView.view l.operands)) + 5
+abbrev pub decreases-children : goal.decreases-children
+decreases-children g l = 6 * children_size (operand_children (operands_of g.E.HasExprTree.tree g.E.Arm.HasArmView.view l.operands)) + 5

@@ -2,7 +2,7 @@
 use Rattle.std.proofs.Common.{◌≡◌, ◌++◌, OnOk, subst, sym, ap, ◌∙◌, arith}
 use Rattle.syn_lower_lists.specs.Printed.{comma, pairs_printed}
 use Rattle.syn_grammar.specs.Next.{enclosed}
-use Rattle.syn_grammar.specs.Notes.{stack}
+use Rattle.syn_grammar.specs.Summaries.{stack}
 use Rattle.syn_grammar.specs.Tree.{size}
 use Rattle.syn_expr_kinds.specs.View.{boxed}
 use Rattle.syn_expr_kinds.proofs.Owns.{then}
@@ -18,26 +18,26 @@ pub pairs-requires-clause-callable : goal.pairs-requires-clause-callable
 pairs-requires-clause-callable g c =
     let s = elements-size g.E.HasExprTree.tree c.args.elements.now in
     let v = ap (total (λ q. size (g.E.HasExprTree.tree q.0))) c.deref.ensures.value in
-    λ out notes x d l e. c.requires.callable out notes x d (omega arith) e
+    λ out summaries x d l e. c.requires.callable out summaries x d (omega arith) e
 
 pub last_element-requires-clause-callable : goal.last_element-requires-clause-callable
 last_element-requires-clause-callable g c =
     let s = elements-size g.E.HasExprTree.tree c.args.elements.now in
-    λ out notes x d l e. c.requires.callable out notes x d (omega arith) e
+    λ out summaries x d l e. c.requires.callable out summaries x d (omega arith) e
 
 pub pairs-requires-clause-stacked : goal.pairs-requires-clause-stacked
 pairs-requires-clause-stacked g c =
     let tree = g.E.HasExprTree.tree in
     let last = option_below (boxed tree c.args.elements.now.last) in
     let b = elements-below tree c.args.elements.now ∙ ap (λ l. last ++ backwards (λ q. stack (tree q.0)) l) (sym c.deref.ensures.value) in
-    ends_back _ last _ (subst (λ l. EndsWith c.args.notes.now.left.items l) b c.requires.stacked)
+    ends_back _ last _ (subst (λ l. EndsWith c.args.summaries.now.left.items l) b c.requires.stacked)
 
 pub last_element-requires-clause-stacked : goal.last_element-requires-clause-stacked
 last_element-requires-clause-stacked g c =
     let tree = g.E.HasExprTree.tree in
     let last = option_below (boxed tree c.args.elements.now.last) in
     let b = elements-below tree c.args.elements.now ∙ ap (λ l. last ++ backwards (λ q. stack (tree q.0)) l) (sym c.deref.ensures.value) in
-    taken-left _ _ _ last (subst (λ l. EndsWith c.args.notes.now.left.items l) b c.requires.stacked) c.in_ok-pairs.ensures.taken
+    taken-left _ _ _ last (subst (λ l. EndsWith c.args.summaries.now.left.items l) b c.requires.stacked) c.in_ok-pairs.ensures.taken
 
 pub returns-clause-text : goal.returns-clause-text
 returns-clause-text g c =

@@ -5,7 +5,7 @@ use Rattle.syn_tokens.proofs.Fronts.{front_through}
 use Rattle.syn_parts.specs.Own.{alone}
 use Rattle.syn_lower_lists.specs.Printed.{comma, pairs_printed}
 use Rattle.syn_grammar.specs.Next.{enclosed}
-use Rattle.syn_grammar.specs.Notes.{stack}
+use Rattle.syn_grammar.specs.Summaries.{stack}
 use Rattle.syn_grammar.specs.Tree.{size}
 use Rattle.syn_expr_collect.specs.Below.{backwards, total}
 use Rattle.syn_expr_kinds.specs.Printed.{whole}
@@ -16,7 +16,7 @@ use Rattle.syn_expr_print.proofs.places.pairs.Goals as goal
 pub whole-requires-clause-stacked : goal.whole-requires-clause-stacked
 whole-requires-clause-stacked g c =
     let h = cut c.pairs.pairs.now c.index-pairs-0.result c.in-len1-up.len_at_least in
-    let going = subst (λ l. Going c.args.notes.now c.pairs.notes (backwards (λ q. stack (g.E.HasExprTree.tree q.0)) c.args.pairs.now) (backwards (λ q. stack (g.E.HasExprTree.tree q.0)) l)) h c.pairs.invariant.going in
+    let going = subst (λ l. Going c.args.summaries.now c.pairs.summaries (backwards (λ q. stack (g.E.HasExprTree.tree q.0)) c.args.pairs.now) (backwards (λ q. stack (g.E.HasExprTree.tree q.0)) l)) h c.pairs.invariant.going in
     going-next _ _ _ _ _ c.requires.stacked going
 
 pub pairs-preserved : goal.pairs-preserved
@@ -28,7 +28,7 @@ pairs-preserved g c =
     let h = cut c.pairs.pairs.now c.index-pairs-0.result c.in-len1-up.len_at_least in
     let text = ap (λ l. now ++ pairs_printed (λ x. whole enclosed (tree x)) comma l) (sym h) ∙ c.pairs.invariant.text in
     let put = c.in_ok-whole.ensures.text ∙ ap (λ k. now ++ whole k x) c.enclosed.ensures in
-    let going = subst (λ l. Going c.args.notes.now c.pairs.notes (backwards (λ q. stack (tree q.0)) c.args.pairs.now) (backwards (λ q. stack (tree q.0)) l)) h c.pairs.invariant.going in
+    let going = subst (λ l. Going c.args.summaries.now c.pairs.summaries (backwards (λ q. stack (tree q.0)) c.args.pairs.now) (backwards (λ q. stack (tree q.0)) l)) h c.pairs.invariant.going in
     let s = ap (total (λ q. size (tree q.0))) h in
     let fewer = c.pairs.invariant.fewer in
     record {

@@ -1,7 +1,7 @@
 use Rattle.std.proofs.Common.{◌≡◌, ◌≤◌, ◌++◌, length}
 use Rattle.syn_tokens.specs.Input.{IsFront}
 use Rattle.syn_grammar.specs.Next.{enclosed}
-use Rattle.syn_grammar.specs.Notes.{stack}
+use Rattle.syn_grammar.specs.Summaries.{stack}
 use Rattle.syn_grammar.specs.Tree.{size}
 use Rattle.syn_lower_lists.specs.Printed.{comma, pairs_printed}
 use Rattle.syn_expr_collect.specs.Below.{backwards, total}
@@ -13,7 +13,7 @@ abbrev pub invariant-pairs : goal.invariant-pairs
 invariant-pairs g l = record {
   text : l.tokens ++ pairs_printed (λ x. whole enclosed (g.E.HasExprTree.tree x)) comma l.pairs ≡ l.fn.tokens ++ pairs_printed (λ x. whole enclosed (g.E.HasExprTree.tree x)) comma l.fn.pairs;
   front : IsFront l.fn.tokens l.tokens;
-  going : Going l.fn.notes l.notes (backwards (λ q. stack (g.E.HasExprTree.tree q.0)) l.fn.pairs) (backwards (λ q. stack (g.E.HasExprTree.tree q.0)) l.pairs);
+  going : Going l.fn.summaries l.summaries (backwards (λ q. stack (g.E.HasExprTree.tree q.0)) l.fn.pairs) (backwards (λ q. stack (g.E.HasExprTree.tree q.0)) l.pairs);
   fewer : total (λ q. size (g.E.HasExprTree.tree q.0)) l.pairs ≤ total (λ q. size (g.E.HasExprTree.tree q.0)) l.fn.pairs;
 }
 

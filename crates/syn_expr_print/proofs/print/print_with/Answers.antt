@@ -1,4 +1,4 @@
--- Each node is noted, and printed at most once.
+-- Each node is summarized, and printed at most once.
 use Rattle.std.proofs.Common.{◌≤◌, ◌-◌, ◌*◌, subst, sym}
 use Rattle.std.specs.Prelude.{◌^◌, min}
 use Rattle.syn_expr_collect.specs.Visited.{visited}
@@ -10,5 +10,5 @@ returns-clause-most g c =
     let t = g.E.HasExprTree.tree c.args.x.now in
     let same = c.visits_of.ensures.same in
     let fits = subst (λ n. n ≤ 2 ^ 64 - 1) same c.visits_of.ensures.fits in
-    let most = twice-visited t _ c.whole.new.notes c.in_ok-collect.ensures.counted fits c.in_ok-whole.ensures.taken in
+    let most = twice-visited t _ c.whole.new.summaries c.in_ok-collect.ensures.counted fits c.in_ok-whole.ensures.taken in
     subst (λ n. n ≤ min (2 * visited t) (2 ^ 64 - 1)) (sym same) most

@@ -18,19 +18,19 @@ pairs-requires-clause-callable g c =
     let tree = g.E.HasExprTree.tree in
     let s = fields-size (field_value_of tree) c.args.fields.now (is_some c.args.dots.now) (boxed tree c.args.rest.now) in
     let v = ap (total (λ q. size (field_value_of tree q.0).value)) c.deref.ensures.value in
-    λ out notes x d l e. c.requires.callable out notes x d (omega arith) e
+    λ out summaries x d l e. c.requires.callable out summaries x d (omega arith) e
 
 pub last_field-requires-clause-callable : goal.last_field-requires-clause-callable
 last_field-requires-clause-callable g c =
     let tree = g.E.HasExprTree.tree in
     let s = fields-size (field_value_of tree) c.args.fields.now (is_some c.args.dots.now) (boxed tree c.args.rest.now) in
-    λ out notes x d l e. c.requires.callable out notes x d (omega arith) e
+    λ out summaries x d l e. c.requires.callable out summaries x d (omega arith) e
 
 pub rest-requires-clause-callable : goal.rest-requires-clause-callable
 rest-requires-clause-callable g c =
     let tree = g.E.HasExprTree.tree in
     let s = fields-size (field_value_of tree) c.args.fields.now (is_some c.args.dots.now) (boxed tree c.args.rest.now) in
-    λ out notes x d l e. c.requires.callable out notes x d (omega arith) e
+    λ out summaries x d l e. c.requires.callable out summaries x d (omega arith) e
 
 pub pairs-requires-clause-stacked : goal.pairs-requires-clause-stacked
 pairs-requires-clause-stacked g c =
@@ -40,7 +40,7 @@ pairs-requires-clause-stacked g c =
     let last = last_field_below (boxed view c.args.fields.now.last) in
     let b = fields-below view c.args.fields.now (is_some c.args.dots.now) (boxed tree c.args.rest.now)
     ∙ ap (λ l. rest ++ (last ++ backwards (λ q. field_below (view q.0)) l)) (sym c.deref.ensures.value) in
-    ends_back _ last _ (ends_back _ rest _ (subst (λ l. EndsWith c.args.notes.now.left.items l) b c.requires.stacked))
+    ends_back _ last _ (ends_back _ rest _ (subst (λ l. EndsWith c.args.summaries.now.left.items l) b c.requires.stacked))
 
 pub last_field-requires-clause-stacked : goal.last_field-requires-clause-stacked
 last_field-requires-clause-stacked g c =
@@ -51,7 +51,7 @@ last_field-requires-clause-stacked g c =
     let b = fields-below view c.args.fields.now (is_some c.args.dots.now) (boxed tree c.args.rest.now)
     ∙ ap (λ l. rest ++ (last ++ backwards (λ q. field_below (view q.0)) l)) (sym c.deref.ensures.value)
     ∙ sym (append_assoc rest last (backwards (λ q. field_below (view q.0)) c.deref.result.now)) in
-    ends_back _ rest last (taken-left _ _ _ (rest ++ last) (subst (λ l. EndsWith c.args.notes.now.left.items l) b c.requires.stacked) c.in_ok-pairs.ensures.taken)
+    ends_back _ rest last (taken-left _ _ _ (rest ++ last) (subst (λ l. EndsWith c.args.summaries.now.left.items l) b c.requires.stacked) c.in_ok-pairs.ensures.taken)
 
 pub rest-requires-clause-stacked : goal.rest-requires-clause-stacked
 rest-requires-clause-stacked g c =
@@ -62,7 +62,7 @@ rest-requires-clause-stacked g c =
     let b = fields-below view c.args.fields.now (is_some c.args.dots.now) (boxed tree c.args.rest.now)
     ∙ ap (λ l. rest ++ (last ++ backwards (λ q. field_below (view q.0)) l)) (sym c.deref.ensures.value) in
     let taken = taken-both _ _ _ _ last c.in_ok-pairs.ensures.taken c.in_ok-last_field.ensures.taken in
-    taken-left _ _ _ rest (subst (λ l. EndsWith c.args.notes.now.left.items l) b c.requires.stacked) taken
+    taken-left _ _ _ rest (subst (λ l. EndsWith c.args.summaries.now.left.items l) b c.requires.stacked) taken
 
 pub returns-clause-text : goal.returns-clause-text
 returns-clause-text g c =

@@ -15,7 +15,7 @@ use Rattle.syn_expr_print.proofs.structure.pairs.Goals as goal
 pub field-requires-clause-stacked : goal.field-requires-clause-stacked
 field-requires-clause-stacked g c =
     let h = cut c.pairs.pairs.now c.index-pairs-0.result c.in-len1-up.len_at_least in
-    let going = subst (λ l. Going c.args.notes.now c.pairs.notes (backwards (λ q. field_below (field_value_of g.E.HasExprTree.tree q.0)) c.args.pairs.now) (backwards (λ q. field_below (field_value_of g.E.HasExprTree.tree q.0)) l)) h c.pairs.invariant.going in
+    let going = subst (λ l. Going c.args.summaries.now c.pairs.summaries (backwards (λ q. field_below (field_value_of g.E.HasExprTree.tree q.0)) c.args.pairs.now) (backwards (λ q. field_below (field_value_of g.E.HasExprTree.tree q.0)) l)) h c.pairs.invariant.going in
     going-next _ _ _ _ _ c.requires.stacked going
 
 pub pairs-preserved : goal.pairs-preserved
@@ -26,7 +26,7 @@ pairs-preserved g c =
     let x = view (get_or c.pairs.pairs.now 0 c.index-pairs-0.result).0 in
     let h = cut c.pairs.pairs.now c.index-pairs-0.result c.in-len1-up.len_at_least in
     let text = ap (λ l. now ++ pairs_printed (λ x. field_spelled (view x)) comma l) (sym h) ∙ c.pairs.invariant.text in
-    let going = subst (λ l. Going c.args.notes.now c.pairs.notes (backwards (λ q. field_below (view q.0)) c.args.pairs.now) (backwards (λ q. field_below (view q.0)) l)) h c.pairs.invariant.going in
+    let going = subst (λ l. Going c.args.summaries.now c.pairs.summaries (backwards (λ q. field_below (view q.0)) c.args.pairs.now) (backwards (λ q. field_below (view q.0)) l)) h c.pairs.invariant.going in
     let s = ap (total (λ q. size (view q.0).value)) h in
     let fewer = c.pairs.invariant.fewer in
     record {

@@ -12,7 +12,7 @@ abbrev pub invariant-pairs : goal.invariant-pairs
 invariant-pairs g l = record {
   text : l.tokens ++ pairs_printed (λ x. field_spelled (field_value_of g.E.HasExprTree.tree x)) comma l.pairs ≡ l.fn.tokens ++ pairs_printed (λ x. field_spelled (field_value_of g.E.HasExprTree.tree x)) comma l.fn.pairs;
   front : IsFront l.fn.tokens l.tokens;
-  going : Going l.fn.notes l.notes (backwards (λ q. field_below (field_value_of g.E.HasExprTree.tree q.0)) l.fn.pairs) (backwards (λ q. field_below (field_value_of g.E.HasExprTree.tree q.0)) l.pairs);
+  going : Going l.fn.summaries l.summaries (backwards (λ q. field_below (field_value_of g.E.HasExprTree.tree q.0)) l.fn.pairs) (backwards (λ q. field_below (field_value_of g.E.HasExprTree.tree q.0)) l.pairs);
   fewer : total (λ q. size (field_value_of g.E.HasExprTree.tree q.0).value) l.pairs ≤ total (λ q. size (field_value_of g.E.HasExprTree.tree q.0).value) l.fn.pairs;
 }
 

@@ -4,10 +4,10 @@ use Rattle.syn_grammar.specs.Query as query
 use Rattle.syn_grammar.specs.Tree.{outers}
 use Rattle.syn_lower_leaves.specs.View.{mapped}
 use Rattle.syn_parts.specs.Form.{is_nil}
-use Rattle.syn_expr_notes.specs.Kind.{kind_at}
+use Rattle.syn_expr_summaries.specs.Kind.{kind_at}
 use Rattle.syn_expr_kinds.specs.Node.{attributes_at, first_of, operands_at}
-use Rattle.syn_expr_queries.specs.Node.{asked, kept_at, word_behind}
-use Rattle.syn_expr_queries.proofs.Labels.{leads-first, leads-kept}
+use Rattle.syn_expr_queries.specs.Node.{asked, verbatim_at, word_behind}
+use Rattle.syn_expr_queries.proofs.Labels.{leads-first, leads-verbatim}
 use Rattle.syn_expr_queries.proofs.label.+begins_with_label.Goals as goal
 
 pub returns-in-Some-first : goal.returns-in-Some-first
@@ -22,10 +22,10 @@ returns-in-Some-first g t c =
     c.begins_with_label.ensures ∙ ap (asked (query.tree_leads c.in-Some.word)) first
     ∙ leads-first c.args.word c.in-Some.word x none (g.met.E.HasFrames.framed c.args.expr.now) word
 
-pub returns-in-Some-kept_tokens : goal.returns-in-Some-kept_tokens
-returns-in-Some-kept_tokens g t c =
+pub returns-in-Some-verbatim_tokens : goal.returns-in-Some-verbatim_tokens
+returns-in-Some-verbatim_tokens g t c =
     let x = g.E.HasExprTree.tree c.args.expr.now in
     let none : is_nil (outers (attributes_at x)) ≡ true =
     ap (λ ats. is_nil (outers ats)) (sym c.attributes.ensures) ∙ sym c.prints_none_before.ensures ∙ c.if-not-prints_none_before.false in
-    let kept : kept_at x ≡ Some c.in-Some-kept_tokens.tokens.now = sym c.kept_tokens.ensures ∙ ap (mapped (λ ts. ts.now)) c.in-Some-kept_tokens.is in
-    c.begins_with_lifetime.ensures ∙ leads-kept c.args.word c.in-Some-kept_tokens.tokens.now x none (g.met.E.HasFrames.framed c.args.expr.now) kept
+    let verbatim : verbatim_at x ≡ Some c.in-Some-verbatim_tokens.tokens.now = sym c.verbatim_tokens.ensures ∙ ap (mapped (λ ts. ts.now)) c.in-Some-verbatim_tokens.is in
+    c.begins_with_lifetime.ensures ∙ leads-verbatim c.args.word c.in-Some-verbatim_tokens.tokens.now x none (g.met.E.HasFrames.framed c.args.expr.now) verbatim

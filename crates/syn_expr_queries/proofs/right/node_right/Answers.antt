@@ -4,10 +4,10 @@ use Rattle.syn_grammar.specs.Query as query
 use Rattle.syn_grammar.specs.Tree.{outers}
 use Rattle.syn_lower_leaves.specs.View.{mapped}
 use Rattle.syn_parts.specs.Form.{is_nil}
-use Rattle.syn_expr_kinds.specs.Node.{leaf_of, lead_seen, frame_seen, operands_at, leaf_at, lead_at, frame_at, last_of}
+use Rattle.syn_expr_kinds.specs.Node.{leaf_of, prefix_seen, frame_seen, operands_at, leaf_at, prefix_at, frame_at, last_of}
 use Rattle.syn_expr_queries.specs.Node.{asked}
 use Rattle.syn_expr_queries.specs.Right.{NodeTells}
-use Rattle.syn_expr_queries.proofs.Rights.{right-leaf, right-lead, right-frame}
+use Rattle.syn_expr_queries.proofs.Rights.{right-leaf, right-prefixed, right-frame}
 use Rattle.syn_expr_queries.proofs.right.node_right.Goals as goal
 
 pub returns-in-Some : goal.returns-in-Some
@@ -17,13 +17,13 @@ returns-in-Some g c =
     let b = c.behind-before.ensures ∙ ap (λ ats. is_nil (outers ats) && c.args.before) c.attributes.ensures in
     c.leaf_brace.ensures ∙ (ap (λ x. query.leaf_brace x (leaf_of c.in-Some.leaf)) b ∙ right-leaf c.args.before (leaf_of c.in-Some.leaf) t l (g.met.E.HasFrames.framed c.args.expr.now))
 
-pub returns-in-Some-lead : goal.returns-in-Some-lead
-returns-in-Some-lead g c =
+pub returns-in-Some-prefixed : goal.returns-in-Some-prefix
+returns-in-Some-prefixed g c =
     let t = g.E.HasExprTree.tree c.args.expr.now in
     let pat = g.E.Pat.HasPatTree.view in
-    let k = lead_seen pat c.in-Some-lead.lead in
-    let l : lead_at t ≡ Some k = sym c.lead.ensures ∙ ap (mapped (lead_seen pat)) c.in-Some-lead.is in
-    ap (λ b. asked (query.tree_brace b) (last_of (operands_at t))) (c.lead_brace.ensures pat) ∙ right-lead c.args.before k t l
+    let k = prefix_seen pat c.in-Some-prefix.prefix in
+    let l : prefix_at t ≡ Some k = sym c.prefix.ensures ∙ ap (mapped (prefix_seen pat)) c.in-Some-prefix.is in
+    ap (λ b. asked (query.tree_brace b) (last_of (operands_at t))) (c.prefix_brace.ensures pat) ∙ right-prefixed c.args.before k t l
 
 pub returns-in-Some-frame : goal.returns-in-Some-frame
 returns-in-Some-frame g c =

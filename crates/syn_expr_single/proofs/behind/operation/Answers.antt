@@ -1,6 +1,6 @@
 use Rattle.std.proofs.Common.{sym, ◌∙◌}
-use Rattle.syn_expr_print.proofs.Lending.{on-map}
-use Rattle.syn_expr_single.proofs.Adorning.{wrapped-written}
+use Rattle.syn_expr_print.proofs.Borrowing.{on-map}
+use Rattle.syn_expr_single.proofs.Attributing.{wrapped-written}
 use Rattle.syn_expr_single.proofs.behind.operation.Goals as goal
 
 pub returns-in_ok-put_attributes-clause-text : goal.returns-in_ok-put_attributes-clause-text

@@ -1,5 +1,5 @@
 use Rattle.std.proofs.Common.{refl}
-use Rattle.syn_expr_single.proofs.Adorning.{plain-written}
+use Rattle.syn_expr_single.proofs.Attributing.{plain-written}
 use Rattle.syn_expr_single.proofs.trails.indexed.Goals as goal
 
 pub returns-clause-text : goal.returns-clause-text

@@ -1,17 +1,17 @@
 -- What holds patterns is read back, by the shape that is lent.
 use Rattle.std.proofs.Common.{◌≡◌, Some, ap, sym, ◌∙◌}
 use Rattle.syn_lower_leaves.specs.View.{mapped}
-use Rattle.syn_expr_kinds.specs.Node.{lead_seen, frame_seen, lead_at, frame_at}
-use Rattle.syn_expr_well.proofs.Owns.{own-lead, own-frame}
+use Rattle.syn_expr_kinds.specs.Node.{prefix_seen, frame_seen, prefix_at, frame_at}
+use Rattle.syn_expr_well.proofs.Owns.{own-prefixed, own-frame}
 use Rattle.syn_expr_well.proofs.own.own_fits.Goals as goal
 
-pub returns-in-Some-lead : goal.returns-in-Some-lead
-returns-in-Some-lead g c =
+pub returns-in-Some-prefixed : goal.returns-in-Some-prefix
+returns-in-Some-prefixed g c =
     let t = g.E.HasExprTree.tree c.args.expr.now in
     let pat = g.E.Pat.HasPatTree.view in
-    let k = lead_seen pat c.in-Some-lead.lead in
-    let l : lead_at t ≡ Some k = sym c.lead.ensures ∙ ap (mapped (lead_seen pat)) c.in-Some-lead.is in
-    c.lead_fits.ensures ∙ own-lead k t l
+    let k = prefix_seen pat c.in-Some-prefix.prefix in
+    let l : prefix_at t ≡ Some k = sym c.prefix.ensures ∙ ap (mapped (prefix_seen pat)) c.in-Some-prefix.is in
+    c.prefix_fits.ensures ∙ own-prefixed k t l
 
 pub returns-in-Some-frame : goal.returns-in-Some-frame
 returns-in-Some-frame g c =

@@ -1,6 +1,6 @@
 use Rattle.std.proofs.Common.{◌++◌, ap, ◌∙◌}
 use Rattle.syn_expr_kinds.specs.Attrs.{outer_of}
-use Rattle.syn_expr_kinds.proofs.Adorned.{outer_all}
+use Rattle.syn_expr_kinds.proofs.Attributed.{outer_all}
 use Rattle.syn_expr_all.specs.View.{for_loop_parts, views}
 use Rattle.syn_expr_all.specs.declared.control.ExprForLoop.{out-ExprForLoop}
 use Rattle.syn_expr_all.proofs.Matches.{for_loop_behind}

@@ -1,7 +1,7 @@
 -- In each arm the list is exchanged, and nothing else of the node.
 use Rattle.std.proofs.Common.{refl, sym, ap, ◌∙◌}
 use Rattle.syn_grammar.specs.Tree as e
-use Rattle.syn_grammar.specs.Tree.{leaf, frame, kid, none, attributes_in, body_of, with_attributes}
+use Rattle.syn_grammar.specs.Tree.{leaf, frame, child, none, attributes_in, body_of, with_attributes}
 use Rattle.syn_lower.specs.View.{mapped}
 use Rattle.syn_expr_parts.specs.View.{label_of}
 use Rattle.syn_expr_kinds.specs.Attrs.{attrs_of}
@@ -67,13 +67,13 @@ pub returns-in-Infer : goal.returns-in-Infer
 returns-in-Infer c = let r = before _ _ (of.tree-Infer c.in-Infer.x) (of.tree-Infer (record c.in-Infer.x { attrs = c.args.new })) (plain (λ ats. refl) refl) in record { put = rw (c.in-Infer.is, ex.outs-Infer c.in-Infer.x, c.replace-in-Infer.ensures.after) r.0; given = kept c.in-Infer.is (c.replace-in-Infer.ensures.value ∙ ap (λ y. y.attrs) c.in-Infer.x-is) r.1 }
 
 pub returns-in-Let : goal.returns-in-Let
-returns-in-Let c = let r = before _ _ (of.tree-Let c.in-Let.x ∙ of.binding-is c.in-Let.x) (of.tree-Let (record c.in-Let.x { attrs = c.args.new }) ∙ of.binding-is (record c.in-Let.x { attrs = c.args.new })) (plain (λ ats. refl) refl) in record { put = rw (c.in-Let.is, ex.outs-Let c.in-Let.x, c.replace-in-Let.ensures.after) r.0; given = kept c.in-Let.is (c.replace-in-Let.ensures.value ∙ ap (λ y. y.attrs) c.in-Let.x-is) r.1 }
+returns-in-Let c = let r = before _ _ (of.tree-Let c.in-Let.x ∙ of.let_expr-is c.in-Let.x) (of.tree-Let (record c.in-Let.x { attrs = c.args.new }) ∙ of.let_expr-is (record c.in-Let.x { attrs = c.args.new })) (plain (λ ats. refl) refl) in record { put = rw (c.in-Let.is, ex.outs-Let c.in-Let.x, c.replace-in-Let.ensures.after) r.0; given = kept c.in-Let.is (c.replace-in-Let.ensures.value ∙ ap (λ y. y.attrs) c.in-Let.x-is) r.1 }
 
 pub returns-in-Lit : goal.returns-in-Lit
 returns-in-Lit c = let r = before _ _ (of.tree-Lit c.in-Lit.x) (of.tree-Lit (record c.in-Lit.x { attrs = c.args.new })) (plain (λ ats. refl) refl) in record { put = rw (c.in-Lit.is, ex.outs-Lit c.in-Lit.x, c.replace-in-Lit.ensures.after) r.0; given = kept c.in-Lit.is (c.replace-in-Lit.ensures.value ∙ ap (λ y. y.attrs) c.in-Lit.x-is) r.1 }
 
 pub returns-in-Loop : goal.returns-in-Loop
-returns-in-Loop c = let r = let x = c.in-Loop.x in around (λ ats. leaf (e.looping (mapped label_of x.label) (body_of ats x.body.stmts))) x.attrs c.args.new (of.tree-Loop c.in-Loop.x) (of.tree-Loop (record c.in-Loop.x { attrs = c.args.new })) (braced (λ ats old. refl) (λ old. refl)) in record { put = rw (c.in-Loop.is, ex.outs-Loop c.in-Loop.x, c.replace-in-Loop.ensures.after) r.0; given = kept c.in-Loop.is (c.replace-in-Loop.ensures.value ∙ ap (λ y. y.attrs) c.in-Loop.x-is) r.1 }
+returns-in-Loop c = let r = let x = c.in-Loop.x in around (λ ats. leaf (e.loop_expr (mapped label_of x.label) (body_of ats x.body.stmts))) x.attrs c.args.new (of.tree-Loop c.in-Loop.x) (of.tree-Loop (record c.in-Loop.x { attrs = c.args.new })) (braced (λ ats old. refl) (λ old. refl)) in record { put = rw (c.in-Loop.is, ex.outs-Loop c.in-Loop.x, c.replace-in-Loop.ensures.after) r.0; given = kept c.in-Loop.is (c.replace-in-Loop.ensures.value ∙ ap (λ y. y.attrs) c.in-Loop.x-is) r.1 }
 
 pub returns-in-Macro : goal.returns-in-Macro
 returns-in-Macro c = let r = before _ _ (of.tree-Macro c.in-Macro.x) (of.tree-Macro (record c.in-Macro.x { attrs = c.args.new })) (plain (λ ats. refl) refl) in record { put = rw (c.in-Macro.is, ex.outs-Macro c.in-Macro.x, c.replace-in-Macro.ensures.after) r.0; given = kept c.in-Macro.is (c.replace-in-Macro.ensures.value ∙ ap (λ y. y.attrs) c.in-Macro.x-is) r.1 }
@@ -124,7 +124,7 @@ pub returns-in-Unsafe : goal.returns-in-Unsafe
 returns-in-Unsafe c = let r = let x = c.in-Unsafe.x in around (λ ats. leaf (e.unsafe_block (body_of ats x.block.stmts))) x.attrs c.args.new (of.tree-Unsafe c.in-Unsafe.x) (of.tree-Unsafe (record c.in-Unsafe.x { attrs = c.args.new })) (braced (λ ats old. refl) (λ old. refl)) in record { put = rw (c.in-Unsafe.is, ex.outs-Unsafe c.in-Unsafe.x, c.replace-in-Unsafe.ensures.after) r.0; given = kept c.in-Unsafe.is (c.replace-in-Unsafe.ensures.value ∙ ap (λ y. y.attrs) c.in-Unsafe.x-is) r.1 }
 
 pub returns-in-While : goal.returns-in-While
-returns-in-While c = let r = let x = c.in-While.x in around (λ ats. frame (e.while_loop (mapped label_of x.label)) (kid e.loop_head (e.braced (body_of ats x.body.stmts)) (tree_of x.cond.value) none)) x.attrs c.args.new (of.tree-While c.in-While.x) (of.tree-While (record c.in-While.x { attrs = c.args.new })) (braced (λ ats old. refl) (λ old. refl)) in record { put = rw (c.in-While.is, ex.outs-While c.in-While.x, c.replace-in-While.ensures.after) r.0; given = kept c.in-While.is (c.replace-in-While.ensures.value ∙ ap (λ y. y.attrs) c.in-While.x-is) r.1 }
+returns-in-While c = let r = let x = c.in-While.x in around (λ ats. frame (e.while_loop (mapped label_of x.label)) (child e.loop_head (e.braced (body_of ats x.body.stmts)) (tree_of x.cond.value) none)) x.attrs c.args.new (of.tree-While c.in-While.x) (of.tree-While (record c.in-While.x { attrs = c.args.new })) (braced (λ ats old. refl) (λ old. refl)) in record { put = rw (c.in-While.is, ex.outs-While c.in-While.x, c.replace-in-While.ensures.after) r.0; given = kept c.in-While.is (c.replace-in-While.ensures.value ∙ ap (λ y. y.attrs) c.in-While.x-is) r.1 }
 
 pub returns-in-Yield : goal.returns-in-Yield
 returns-in-Yield c = let r = before _ _ (of.tree-Yield c.in-Yield.x) (of.tree-Yield (record c.in-Yield.x { attrs = c.args.new })) (jump_plain _ _) in record { put = rw (c.in-Yield.is, ex.outs-Yield c.in-Yield.x, c.replace-in-Yield.ensures.after) r.0; given = kept c.in-Yield.is (c.replace-in-Yield.ensures.value ∙ ap (λ y. y.attrs) c.in-Yield.x-is) r.1 }

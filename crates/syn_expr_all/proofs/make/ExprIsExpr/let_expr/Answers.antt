@@ -1,6 +1,6 @@
 use Rattle.std.proofs.Common.{◌∙◌}
-use Rattle.syn_expr_all.proofs.TreeOf.{tree-Let, binding-is}
+use Rattle.syn_expr_all.proofs.TreeOf.{tree-Let, let_expr-is}
 use Rattle.syn_expr_all.proofs.make.ExprIsExpr.let_expr.Goals as goal
 
 pub returns : goal.returns
-returns c = tree-Let _ ∙ binding-is _
+returns c = tree-Let _ ∙ let_expr-is _

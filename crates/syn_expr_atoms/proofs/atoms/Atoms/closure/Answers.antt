@@ -3,7 +3,7 @@ use Rattle.std.proofs.Common.{◌≡◌, false, rules, ap, arith}
 use Rattle.syn_parts.specs.Part.{is_default}
 use Rattle.syn_lower.specs.View.{return_of}
 use Rattle.syn_expr_heads.specs.View.{closure_of}
-use Rattle.syn_expr_atoms.proofs.Leads.{output_refused}
+use Rattle.syn_expr_atoms.proofs.Prefixes.{output_refused}
 use Rattle.syn_expr_atoms.proofs.atoms.Atoms.closure.Goals as goal
 
 pub returns-in_err-body-in-Given-clause-value : goal.returns-in_err-body-in-Given-clause-value

@@ -1,5 +1,5 @@
 use Rattle.std.proofs.Common.{rules, refl, ap, ◌∙◌}
-use Rattle.syn_grammar.specs.Notes.{base_wrapped_by}
+use Rattle.syn_grammar.specs.Summaries.{base_wrapped_by}
 use Rattle.syn_grammar.specs.Tree as e
 use Rattle.syn_expr_fixup.specs.Fixup.{level_if}
 use Rattle.syn_expr_fixup.proofs.Classes.{base_level, dot_level, dot_place}
@@ -7,7 +7,7 @@ use Rattle.syn_expr_fixup.proofs.fixup.FixupContext.leftmost_subexpression_with_
 
 pub returns-clause-level : goal.returns-clause-level
 returns-clause-level g c = λ k h.
-    c.level_if.ensures ∙ ap level_if (c.base_wrapped_by.ensures e.await refl ∙ ap (base_wrapped_by e.await) c.note_of.ensures
+    c.level_if.ensures ∙ ap level_if (c.base_wrapped_by.ensures e.await refl ∙ ap (base_wrapped_by e.await) c.summary_of.ensures
     ∙ base_level e.await (g.E.HasExprTree.tree c.args.expr.now) ∙ dot_level k (g.E.HasExprTree.tree c.args.expr.now) h)
 
 pub returns-clause-place : goal.returns-clause-place

@@ -1,5 +1,5 @@
 use Rattle.std.proofs.Common.{rules, refl, sym, ap, ◌∙◌}
-use Rattle.syn_grammar.specs.Notes.{base_wrapped_by, left_wrapped_by}
+use Rattle.syn_grammar.specs.Summaries.{base_wrapped_by, left_wrapped_by}
 use Rattle.syn_grammar.specs.Tree as e
 use Rattle.syn_expr_fixup.specs.Fixup.{level_if}
 use Rattle.syn_expr_fixup.proofs.Classes.{base_level, left_level}
@@ -7,13 +7,13 @@ use Rattle.syn_expr_fixup.proofs.fixup.FixupContext.leftmost_subexpression_with_
 
 pub returns-in-Some-clause-level : goal.returns-in-Some-clause-level
 returns-in-Some-clause-level g c = λ k f.
-    c.level_if.ensures ∙ ap level_if (c.left_wrapped_by.ensures ∙ ap (left_wrapped_by c.in-Some.op) c.note_of-note.ensures
+    c.level_if.ensures ∙ ap level_if (c.left_wrapped_by.ensures ∙ ap (left_wrapped_by c.in-Some.op) c.summary_of-summary.ensures
     ∙ left_level k c.in-Some.op c.args.precedence c.args.next_operator_can_begin_expr c.args.next_operator_can_begin_generics
     (g.E.HasExprTree.tree c.args.expr.now) f (sym c.operator_by.ensures ∙ c.in-Some.is))
 
 pub returns-in-None-clause-base : goal.returns-in-None-clause-base
 returns-in-None-clause-base g c = λ h.
-    c.level_if-in-None.ensures ∙ ap level_if (c.base_wrapped_by.ensures e.index refl ∙ ap (base_wrapped_by e.index) c.note_of-note.ensures
+    c.level_if-in-None.ensures ∙ ap level_if (c.base_wrapped_by.ensures e.index refl ∙ ap (base_wrapped_by e.index) c.summary_of-summary.ensures
     ∙ base_level e.index (g.E.HasExprTree.tree c.args.expr.now))
 
 pub returns-in-None-clause-based : goal.returns-in-None-clause-based

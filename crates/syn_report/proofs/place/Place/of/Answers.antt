@@ -10,12 +10,12 @@ loop-c-init c = (reached_start c.args.text.now c.args.offset c.utf8.text, sym c.
 pub loop-c-preserved : goal.loop-c-preserved
 loop-c-preserved c =
     let (reached, same) = c.loop-c.invariant in
-    let lent : c.after-place.result.behind.now ≡ chars_rest c.next.new.self = c.after-place.ensures.behind ∙ c.as_str.ensures in
-    let e = same ∙ c.in-Some.ensures.steps.0 ∙ ap (λ l. encode_utf8 c.in-Some.c ++ l) (sym lent) in (
+    let borrowed : c.after-place.result.behind.now ≡ chars_rest c.next.new.self = c.after-place.ensures.behind ∙ c.as_str.ensures in
+    let e = same ∙ c.in-Some.ensures.steps.0 ∙ ap (λ l. encode_utf8 c.in-Some.c ++ l) (sym borrowed) in (
       reached_more c.in-Some.c c.len_utf8-width.result c.args.text.now c.args.offset c.loop-c.place.at c.loop-c.left c.loop-c.place.line.now c.loop-c.place.behind.now c.loop-c.place.count
           c.after-place.result.at c.after-place.result.line.now c.after-place.result.behind.now c.after-place.result.count reached e c.len_utf8-width.ensures.value c.if-width-left.false
           (record { line_number = c.after-place.ensures.line_number; column = c.after-place.ensures.column; line = c.after-place.ensures.line; count_is = c.after-place.ensures.count }),
-      lent,
+      borrowed,
     )
 
 pub returns-then-width-left : goal.returns-then-width-left
