@@ -1,10 +1,10 @@
 -- As what an expression may be refused.
 use Rattle.std.specs.Prelude.{◌≡◌, Bool, true, false}
 use Rattle.syn_tokens.specs.declared.error.ErrorKind.{ErrorKind}
-use Rattle.syn_tokens.specs.declared.error.ErrorKind.TheVariants.{ExpectedBinaryOperator, ExpectedExprKind, ExpectedPart, Lex, LiteralOutOfRange, ModifierNotEmpty, Custom}
+use Rattle.syn_tokens.specs.declared.error.ErrorKind.TheVariants.{ExpectedBinaryOperator, ExpectedExprKind, ExpectedPart, Lex, LiteralOutOfRange, ModifierNotEmpty}
 use Rattle.syn_tokens.specs.declared.error.Part.TheVariants.{Attribute}
 
--- not as what other readers, the lexer or parsers of one's own alone answer
+-- not as what other readers or the lexer alone answer
 abbrev pub is_refusal : ErrorKind → Bool
 is_refusal ExpectedBinaryOperator = false
 is_refusal (ExpectedExprKind _) = false
@@ -12,7 +12,6 @@ is_refusal (ExpectedPart Attribute) = false
 is_refusal (Lex _) = false
 is_refusal LiteralOutOfRange = false
 is_refusal ModifierNotEmpty = false
-is_refusal (Custom _) = false
 is_refusal _ = true
 
 abbrev pub MayRefuse : ErrorKind → Type 0

@@ -84,5 +84,3 @@ kind_text (kind.ExpectedPart part) = codes "expected " ++ part_text part
 kind_text (kind.Lex error) = lex_error_text error
 kind_text kind.LiteralOutOfRange = codes "literal out of range"
 kind_text kind.ModifierNotEmpty = codes "modifier not empty"
--- a message of a parser of one's own
-kind_text (kind.Custom message) = message.now

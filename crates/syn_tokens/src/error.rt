@@ -32,16 +32,6 @@ impl Error {
     {
         Error { span, kind }
     }
-
-    /// A refusal of a parser of one's own, with this message.
-    pub fn custom(span: Span, message: &'static str) -> Error
-        ensures { result ≡ record { span = span; kind = ErrorKind.Custom message.entry } }
-    {
-        Error {
-            span,
-            kind: ErrorKind::Custom(message),
-        }
-    }
 }
 
 /// What is refused.
@@ -88,8 +78,6 @@ pub enum ErrorKind {
     LiteralOutOfRange,
     /// Modifiers that are not empty. No reader here answers it yet.
     ModifierNotEmpty,
-    /// What a parser of one's own refuses, with this message. No reader here answers it.
-    Custom(&'static str),
 }
 
 /// The trailers that may not follow a cast (Rust Reference, "Type cast expressions").
@@ -330,7 +318,6 @@ impl fmt::Display for ErrorKind {
             ErrorKind::Lex(error) => f.write_str(error.text()),
             ErrorKind::LiteralOutOfRange => f.write_str("literal out of range"),
             ErrorKind::ModifierNotEmpty => f.write_str("modifier not empty"),
-            ErrorKind::Custom(message) => f.write_str(message),
         }
     }
 }

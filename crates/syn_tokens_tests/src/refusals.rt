@@ -33,7 +33,6 @@ const KINDS: [ErrorKind; 40] = [
     ErrorKind::UnexpectedToken,
     ErrorKind::ModifierNotEmpty,
     ErrorKind::LiteralOutOfRange,
-    ErrorKind::Custom("no such color"),
     ErrorKind::Lex(LexError::MalformedLifetime),
     ErrorKind::AfterCast(AfterCast::Await),
     ErrorKind::AfterCast(AfterCast::MethodCall),
@@ -87,7 +86,6 @@ IndexOutOfRange              | index out of range
 UnexpectedToken              | unexpected token
 ModifierNotEmpty             | modifier not empty
 LiteralOutOfRange            | literal out of range
-Custom("no such color")      | no such color
 Lex(MalformedLifetime)       | malformed lifetime
 AfterCast(Await)             | casts cannot be followed by `.await`
 AfterCast(MethodCall)        | casts cannot be followed by a method call
@@ -117,15 +115,6 @@ ExpectedExprKind(Tuple)      | expected tuple expression
 #[test]
 fn texts_of_refusals(rt: HostRuntime) -> Result<(), Fail> {
     check(rt.alloc(), TEXTS, shown_by_name)
-}
-
-#[test]
-fn a_refusal_of_ones_own_shows_its_message(rt: HostRuntime) -> Result<(), Fail> {
-    let error = Error::custom(Span { lo: 3, hi: 7 }, "no such color");
-    assert_eq!(rt; error.span, Span { lo: 3, hi: 7 });
-    let shown = format!(in rt.alloc(); "{error}")?;
-    assert_eq!(rt; shown.as_str(), "no such color");
-    Ok(())
 }
 
 /// What is wanted, by a word for it.
