@@ -1,6 +1,6 @@
 //! What stands behind an operand in a place of its own, and the words and signs before one.
 
-ghost use Rattle.std.specs.Prelude.{◌≡◌, ◌≤◌, true, IfOk};
+ghost use Rattle.std.specs.Prelude.{◌≡◌, ◌≤◌, true, [], IfOk};
 ghost use Rattle.syn_expr_heads.specs.View.{body_of, ending_of};
 ghost use Rattle.syn_grammar.specs.Slot as slot;
 ghost use Rattle.syn_grammar.specs.Tree as e;
@@ -67,7 +67,7 @@ pub fn behind_repeated(input: &mut ParseBuffer<'_>) -> Result<Semi>
 /// `{`.
 #[tactic(auto, unfolding(syn_grammar::specs::Slot::ending_at, syn_parts::specs::Part::block, syn_parts::specs::Part::verbatim))]
 pub fn behind_condition(input: &mut ParseBuffer<'_>) -> Result<Block>
-    ensures value { (x : e.Tree) → Reads (λ b. e.braced (slot.plain_body b.stmts)) (slot.ending_at e.condition x input.old.rest) result input.new.rest }
+    ensures value { (x : e.Tree) → Reads (λ b. e.braced (e.body_of [] b.stmts)) (slot.ending_at e.condition x input.old.rest) result input.new.rest }
     ensures noted { input.new.noted ≡ input.old.noted }
     ensures shrinks { weight input.new.rest ≤ weight input.old.rest }
 {

@@ -11,11 +11,11 @@ ghost use Rattle.syn_grammar.specs.Summaries.{below};
 ghost use Rattle.syn_grammar.specs.Tree.{size};
 ghost use Rattle.syn_tokens.specs.Input.{IsFront};
 
-use crate::ends::{infixed, leaf, paren, postfixed, prefixed};
+use crate::ends::{leaf, paren, prefixed};
 use crate::frames::frame;
 use crate::node::HasPrint;
+use crate::spine::spine;
 use crate::summaries::Summaries;
-use crate::tail::tail;
 use syn_expr_collect::HasArms;
 use syn_expr_kinds::attrs::put_attributes;
 use syn_expr_kinds::body::put_parens;
@@ -62,9 +62,9 @@ where
         NodeKind::Leaf(kind) => leaf(tokens, x, kind, context),
         NodeKind::Paren => paren(bare, tokens, summaries, x, context),
         NodeKind::Prefix(kind) => prefixed(bare, tokens, summaries, x, kind, context),
-        NodeKind::Infix(op) => infixed(bare, tokens, summaries, x, op, context),
-        NodeKind::Postfix(kind) => postfixed(bare, tokens, summaries, x, kind, context),
-        NodeKind::Tail(kind) => tail(bare, tokens, summaries, x, kind, context),
+        NodeKind::Infix(_) | NodeKind::Postfix(_) | NodeKind::Tail(_) => {
+            spine(bare, tokens, summaries, x, context)
+        }
         NodeKind::Frame(_) => frame(bare, tokens, summaries, x),
     }
 }

@@ -295,9 +295,7 @@ qualified_closed x k false p f n h = by_tests (k == 0) p.leading p.trailing h
   where
     by_tests : (a b c : Bool) → then_behind (cond (a && (b && not c)) (Some ((x, None), p.segments)) None) f ≡ Some n → c ≡ false
     by_tests true true false h = refl
-    by_tests true true true h = absurd cc
-    by_tests true false c h = absurd cc
-    by_tests false b c h = absurd cc
+    by_tests _ _ _ h = absurd cc
 
 none_or : (a b : Bool) (o : Option (List Tok)) (n : List Tok) → cond a (cond b None None) o ≡ Some n → o ≡ Some n
 none_or true true o n h = absurd cc

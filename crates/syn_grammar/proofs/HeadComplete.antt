@@ -58,10 +58,8 @@ after_word r g = by_lifetime (lifetime_at r) g
 
 pub jump_complete : (j : Jump) (r : List Tok) → h.jump_head.behind j (jump_own j r) ≡ Some r → jump_stops j r ≡ true
 unfolding h.jump_head word_at
-jump_complete e.returning r g = refl
-jump_complete e.yielding r g = refl
-jump_complete (e.breaking (Some w)) r g = refl
 jump_complete (e.breaking None) r g = after_word r g
+jump_complete _ r g = refl
 
 -- ---- what stands before an operand
 
@@ -112,10 +110,6 @@ special q p r g = rw g refl
 
 no_special : (q : QSelfTree) (p : PathTree) (w : QSelfTree) (l x : Bool) (ss : List SegmentTree) (r : List Tok) → qpath_fits style.Expr (w, record { leading = l; segments = ss; trailing = x }) ≡ true → h.leaf_form.behind (e.path q p) (qualified_own (w, record { leading = l; segments = ss; trailing = x }) r) ≡ Some r
     → (is_word_alone (codes "builtin") w (record { leading = l; segments = ss; trailing = x }) && sign_at (codes "#") r) ≡ false
-no_special q p (t.qself y n a) l x ss r f g = refl
-no_special q p t.no_qself true x ss r f g = refl
-no_special q p t.no_qself false x [] r f g = refl
-no_special q p t.no_qself false x (s ∷ z ∷ zs) r f g = refl
 no_special q p t.no_qself false true (s ∷ []) r f g = absurd cc
 no_special q p t.no_qself false false (s ∷ []) r f g = by_arguments s.ident s.arguments g
   where
@@ -136,6 +130,7 @@ no_special q p t.no_qself false false (s ∷ []) r f g = by_arguments s.ident s.
     by_arguments w t.no_arguments g = by_word w (bytes_eq w (codes "builtin")) (sign_at (codes "#") r) refl refl g
     by_arguments w (t.angle c gs e) g = and_none (bytes_eq w (codes "builtin")) (sign_at (codes "#") r)
     by_arguments w (t.round xs e o) g = and_none (bytes_eq w (codes "builtin")) (sign_at (codes "#") r)
+no_special q p _ _ x _ r f g = refl
 
 named_complete : (q : QSelfTree) (p : PathTree) (r : List Tok) → qpath_fits style.Expr (q, p) ≡ true → h.named.behind (e.path q p) (qualified_own (q, p) r) ≡ Some r → (path_stops style.Expr p r ≡ true) × ((is_bare (q, p) && not_ne.at r) ≡ false)
 unfolding h.named macro_end

@@ -90,9 +90,6 @@ unfolding word_at
 word_back l = (refl, refl)
 
 pub frame_back : (k : Frame) (ks : Children) (operands r : List Tok) → frame_fits k ks ≡ true → frame_stops k operands ≡ true → frame_head k (framed k (enclosure k) operands r) ≡ Some (frame_rest (enclosure k) operands r)
-frame_back e.array ks o r f g = refl
-frame_back e.tuple ks o r f g = refl
-frame_back e.repeat ks o r f g = refl
 frame_back (e.structure q p d) ks o r f g = let (i, j) = both_true (qpath_fits style.Expr (q, p)) _ f in structure_back q p r o i
 frame_back (e.closure_block c) ks o r f g = let (i, j) = both_true (head_fits c) _ f in head_back c o i g
 frame_back e.if_expr ks o r f g = let (i, j) = word_back o in i
@@ -100,6 +97,7 @@ frame_back (e.while_loop w) ks o r f g = while_back w o
 frame_back (e.for_loop w p) ks o r f g = for_back w p o f
 frame_back e.match_expr ks o r f g = let (i, j) = word_back o in j
 frame_back e.group_expr ks o r f g = absurd cc
+frame_back _ ks o r f g = refl
 
 -- ---- behind a left operand
 
@@ -126,35 +124,6 @@ infix_count op = length (infix_own op [])
 
 pub infix_back : (op : Infix) (r : List Tok) → (infix_at (infix_own op r) ≡ Some (op, infix_count op)) × (drop (infix_count op) (infix_own op r) ≡ r)
 unfolding infix_at sign_at word_at
-infix_back inf.Assign r = (refl, refl)
-infix_back inf.Cast r = (refl, refl)
 infix_back (inf.Range limits.HalfOpen) r = (refl, refl)
-infix_back (inf.Range limits.Closed) r = (refl, refl)
 infix_back (inf.Binary bin.Add) r = (refl, refl)
-infix_back (inf.Binary bin.Sub) r = (refl, refl)
-infix_back (inf.Binary bin.Mul) r = (refl, refl)
-infix_back (inf.Binary bin.Div) r = (refl, refl)
-infix_back (inf.Binary bin.Rem) r = (refl, refl)
-infix_back (inf.Binary bin.And) r = (refl, refl)
-infix_back (inf.Binary bin.Or) r = (refl, refl)
-infix_back (inf.Binary bin.BitXor) r = (refl, refl)
-infix_back (inf.Binary bin.BitAnd) r = (refl, refl)
-infix_back (inf.Binary bin.BitOr) r = (refl, refl)
-infix_back (inf.Binary bin.Shl) r = (refl, refl)
-infix_back (inf.Binary bin.Shr) r = (refl, refl)
-infix_back (inf.Binary bin.Eq) r = (refl, refl)
-infix_back (inf.Binary bin.Lt) r = (refl, refl)
-infix_back (inf.Binary bin.Le) r = (refl, refl)
-infix_back (inf.Binary bin.Ne) r = (refl, refl)
-infix_back (inf.Binary bin.Ge) r = (refl, refl)
-infix_back (inf.Binary bin.Gt) r = (refl, refl)
-infix_back (inf.Binary bin.AddAssign) r = (refl, refl)
-infix_back (inf.Binary bin.SubAssign) r = (refl, refl)
-infix_back (inf.Binary bin.MulAssign) r = (refl, refl)
-infix_back (inf.Binary bin.DivAssign) r = (refl, refl)
-infix_back (inf.Binary bin.RemAssign) r = (refl, refl)
-infix_back (inf.Binary bin.BitXorAssign) r = (refl, refl)
-infix_back (inf.Binary bin.BitAndAssign) r = (refl, refl)
-infix_back (inf.Binary bin.BitOrAssign) r = (refl, refl)
-infix_back (inf.Binary bin.ShlAssign) r = (refl, refl)
-infix_back (inf.Binary bin.ShrAssign) r = (refl, refl)
+infix_back _ r = (refl, refl)

@@ -189,10 +189,8 @@ pub own_visible : (q : QSelfTree) (l e : Bool) (xs : List SegmentTree) (r : List
     → invisible_at (qualified_own (q, record { leading = l; segments = xs; trailing = e }) r) ≡ false
 unfolding invisible_at group_at
 own_visible q l true xs r f = absurd cc
-own_visible (t.qself x n a) l false xs r f = refl
-own_visible t.no_qself true false xs r f = refl
 own_visible t.no_qself false false [] r f = absurd cc
-own_visible t.no_qself false false (s ∷ xs) r f = refl
+own_visible _ _ false _ r f = refl
 
 named_back : (q : QSelfTree) (p : PathTree) (l r : List Tok) → (qpath type style.Expr).behind (q, p) l ≡ Some r → (is_bare (q, p) && not_ne.at r) ≡ false → h.named.behind (e.path q p) l ≡ Some r
 unfolding h.named macro_end

@@ -216,16 +216,9 @@ field_colon_leaves (an_index n) = mark_leaves colon (pure_leaves _ _)
 
 pub piece_form_leaves : (q : Slot) → Leaves (s.piece_form q)
 unfolding s.piece_form
-piece_form_leaves s.elements = pure_leaves _ _
-piece_form_leaves s.single = pure_leaves _ _
-piece_form_leaves s.counted = pure_leaves _ _
 piece_form_leaves s.fields = case_leaves p.dots (pure_leaves _ _) (shown_leaves _ _ (both_leaves outer_attributes_leaves (then_by_leaves member_leaves field_colon_leaves)))
-piece_form_leaves s.conditions = pure_leaves _ _
 piece_form_leaves s.otherwise = mark_leaves s.else_word (pure_leaves _ _)
-piece_form_leaves s.loops = pure_leaves _ _
-piece_form_leaves s.scrutinees = pure_leaves _ _
 piece_form_leaves s.arms = search (outer_attributes_leaves, pattern_leaves, case_leaves, leaving) depth 16
 piece_form_leaves s.bodies = mark_leaves s.fat_arrow (pure_leaves _ _)
-piece_form_leaves s.outputs = pure_leaves _ _
-piece_form_leaves s.groups = pure_leaves _ _
 piece_form_leaves s.done = never_leaves
+piece_form_leaves _ = pure_leaves _ _

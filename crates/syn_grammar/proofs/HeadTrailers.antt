@@ -83,8 +83,6 @@ await_back r = refl
 
 pub trailer_back : (k : Trailer) (i r : List Tok) → trailer_fits k ≡ true → is_indexed k ≡ false → trailer_stops k r ≡ true → trailer_head k (trailer_own k i r) ≡ Some ([], trailer_rest k i r)
 unfolding trailer_head dot_at question_at sign_at name_at
-trailer_back e.call i r f g u = refl
-trailer_back e.index i r f g u = refl
 trailer_back (e.method w a) i r f g u =
     let (j, k) = both_true (not (is_reserved_word w)) (arguments_fit style.Expr a) f in
     rw (method_back w a i r (not_true (is_reserved_word w) j) k) refl
@@ -93,7 +91,7 @@ trailer_back (e.field (a_name w)) i r f g u =
     rw (field_back w r (not_true (is_reserved_word w) f) j k) refl
 trailer_back (e.field (an_index n)) i r f g u = absurd cc
 trailer_back e.await i r f g u = rw (await_back r) refl
-trailer_back e.try_expr i r f g u = refl
+trailer_back _ i r f g u = refl
 
 -- ---- indices
 

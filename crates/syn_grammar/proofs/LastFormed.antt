@@ -65,14 +65,11 @@ put_ends z k c x before h w q = ap (operand_brace before k) q
 
 mutual
   well_ends : (x : Tree) → well x ≡ true → (before : Bool) → as_spelled before x ≡ tree_brace before x
-  well_ends (leaf k) w before = refl
-  well_ends (paren m x) w before = refl
   well_ends (attributed a more x) w before = well_ends x (both_true (not (is_attributed x)) _ (both_true (attributes_outer (a ∷ more)) _ w).1).1 _
   well_ends (prefixed k gs x) w before = well_ends x (both_true (is_none gs) _ (both_true (prefix_fits k) _ w).1).1 (prefix_brace k)
   well_ends (infixed x k y) w before = well_ends y (both_true (well x) _ (both_true (infix_fits k) _ w).1).1 false
-  well_ends (postfixed x k) w before = refl
-  well_ends (tail x k ks) w before = refl
   well_ends (frame k ks) w before = ap (frame_brace k) (children_end (frame_slot k) ks (both_true (frame_fits k ks) _ w).1 (frame_head_brace k))
+  well_ends _ w before = refl
 
   children_end : (z : Slot) (ks : Children) → children_well z ks ≡ true → (before : Bool) → children_spelled before ks ≡ children_brace before ks
   children_end z none w before = refl

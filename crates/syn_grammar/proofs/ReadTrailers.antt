@@ -212,6 +212,4 @@ module _ (rec : Place → Reading Tree) where
       let u : ([], drop 1 m) ≡ (is, g) = some_is i in
       subst (λ (r : List ℕ × List Tok). content rec (trailer_holder tr.try_expr) r.1 ≡ Some (ks, n) → Next p b m (tail (fields_of b r.0) tr.try_expr ks) n) u
       (λ c. question_next p b m n ks f q c) c
-  tail_next p (tr.method w a) b m g n is ks f h d c = dotted_next p (tr.method w a) b m g n is ks f h c
-  tail_next p (tr.field y) b m g n is ks f h d c = dotted_next p (tr.field y) b m g n is ks f h c
-  tail_next p tr.await b m g n is ks f h d c = dotted_next p tr.await b m g n is ks f h c
+  tail_next p t b m g n is ks f h d c = dotted_next p t b m g n is ks f h c

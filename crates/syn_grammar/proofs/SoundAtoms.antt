@@ -99,9 +99,7 @@ skip false o r y f h = h
 
 none_two : {A : Type 0} (b c d : Bool) (y : A) → (if b then (if c then (if d then None else None) else None) else None) ≡ Some y → ⊥
 none_two true true true y h = absurd cc
-none_two true true false y h = absurd cc
-none_two true false d y h = absurd cc
-none_two false c d y h = absurd cc
+none_two _ _ _ y h = absurd cc
 
 closure_of : (l m : List Tok) (h : ClosureHead) → prefix_form.behind (tr.closure h) l ≡ Some m → closure_head.behind h l ≡ Some m
 unfolding prefix_form

@@ -1,12 +1,30 @@
 -- What is promised of reading.
-use Rattle.std.specs.Prelude.{◌≡◌, ◌<◌, List, Some}
+use Rattle.std.specs.Prelude.{◌≡◌, ◌<◌, Bool, List, Some}
 use Rattle.syn_tokens.specs.Input.{IsTail}
 use Rattle.syn_tokens.specs.Tok.{Tok, weight}
 use Rattle.syn_parts.specs.Form.{Outcome}
+use Rattle.syn_parts.specs.Laws as parts
 use Rattle.syn_grammar.specs.declared.kinds.Place.{Place}
 use Rattle.syn_grammar.specs.Tree.{Tree}
+use Rattle.syn_grammar.specs.Path.{expr_path}
+use Rattle.syn_grammar.specs.Head.{label, jump_head, range_op, body, leaf_form, closure_head, prefix_form, dotted}
+use Rattle.syn_grammar.specs.Slot.{Slot, piece_form, for_head}
 use Rattle.syn_grammar.specs.Stands.{Stands}
 use Rattle.syn_grammar.specs.Read.{expr}
+
+-- Each form of what stands before, between and behind operands is read exactly where its tokens stand.
+pub record HeadsAreExact : Type 0 where
+  pub leaves : parts.IsExact leaf_form
+  pub prefixes : parts.IsExact prefix_form
+  pub trailers : parts.IsExact dotted
+  pub pieces : (s : Slot) → parts.IsExact (piece_form s)
+  pub paths : (braces : Bool) → parts.IsExact (expr_path braces)
+  pub closure_heads : parts.IsExact closure_head
+  pub for_heads : parts.IsExact for_head
+  pub labels : parts.IsExact label
+  pub jumps : parts.IsExact jump_head
+  pub ranges : parts.IsExact range_op
+  pub bodies : parts.IsExact body
 
 -- What the reading answers stands, and what stands is its answer.
 pub record ReadingIsExact : Type 0 where

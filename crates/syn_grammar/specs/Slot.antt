@@ -6,16 +6,16 @@ use Rattle.syn_lexer.specs.declared.lexeme.Delimiter.TheVariants as del
 use Rattle.syn_tokens.specs.Tok.{Tok}
 use Rattle.syn_tokens.specs.Front.{group_at, is_empty}
 use Rattle.syn_parts.specs.Tree.{AttributeTree}
-use Rattle.syn_parts.specs.Form.{Form, Outcome, Test, Mark, then_behind, mark, then_by, both, shown, pure, case, flag, is_true, closed_by}
+use Rattle.syn_parts.specs.Form.{Form, Outcome, Test, Mark, and_then, then_behind, mark, then_by, both, shown, pure, case, flag, is_true, closed_by}
 use Rattle.syn_parts.specs.Mark.{sign, word, comma, semi, colon, word_at}
 use Rattle.syn_parts.specs.Part.{lifetimes_at, outer_attributes}
 use Rattle.syn_parts.specs.Pat.{MemberTree, PatTree, a_name, an_index, member, pattern, dots}
 use Rattle.syn_grammar.specs.declared.kinds.Place.{Place}
 use Rattle.syn_grammar.specs.Place.{plain, before_block, at_head}
 use Rattle.syn_grammar.specs.Path.{expr_path}
-use Rattle.syn_grammar.specs.Head.{label, closure_head, body_inside}
+use Rattle.syn_grammar.specs.Head.{label, closure_head, body}
 use Rattle.syn_grammar.specs.Tree as e
-use Rattle.syn_grammar.specs.Tree.{Body, Tree, Piece, Ending, Frame, Trailer, is_block_like}
+use Rattle.syn_grammar.specs.Tree.{Tree, Piece, Ending, Frame, Trailer, body_of, is_block_like}
 
 -- What may come next among operands.
 pub data Slot : Type 0 where
@@ -164,29 +164,14 @@ abbrev pub behind_arm : Tree → List Tok → Outcome Ending
 behind_arm x l =
     if comma.at l then Some (e.comma, drop 1 l) else (if is_empty l || is_block_like x then Some (e.no_ending, l) else None)
 
-abbrev pub plain_body : List Tok → Body
-plain_body ts = record { inner = []; tokens = ts }
-
-abbrev pub whole_body : Outcome Body → List Tok → Outcome Ending
-whole_body (Some (b, [])) n = Some (e.braced b, n)
-whole_body _ n = None
-
-abbrev pub behind_loop : Option (List Tok × List Tok) → Outcome Ending
-behind_loop None = None
-behind_loop (Some g) = whole_body (body_inside.reads g.0) g.1
-
-abbrev pub behind_condition : Option (List Tok × List Tok) → Outcome Ending
-behind_condition None = None
-behind_condition (Some g) = Some (e.braced (plain_body g.0), g.1)
-
--- what stands behind the operand x, and the tokens behind that
+-- what stands behind the operand x, and the tokens behind that; the attributes in the block of an `if` are its tokens
 unfoldable pub ending_at : Piece → Tree → List Tok → Outcome Ending
 ending_at e.element x l = comma_or_end l
 ending_at (e.field_value ats m c) x l = comma_or_end l
 ending_at (e.rest d) x l = if is_empty l then Some (e.no_ending, l) else None
 ending_at e.repeated x l = if semi.at l then Some (e.no_ending, drop 1 l) else None
-ending_at e.condition x l = behind_condition (group_at del.Brace l)
-ending_at e.loop_head x l = behind_loop (group_at del.Brace l)
+ending_at e.condition x l = and_then (group_at del.Brace l) (λ ts n. Some (e.braced (body_of [] ts), n))
+ending_at e.loop_head x l = and_then (body.reads l) (λ b n. Some (e.braced b, n))
 ending_at e.guarded x l = behind_arm x l
 ending_at (e.arm ats p) x l = behind_arm x l
 ending_at e.scrutinee x l = None

@@ -230,7 +230,12 @@ is_parenthesis_or_bracket e.call = true
 is_parenthesis_or_bracket e.index = true
 is_parenthesis_or_bracket _ = false
 
--- it can carry this trailer, and has no attributes; a named field is no callee
+-- it can carry this trailer, and has no attributes
+unfoldable pub carries_trailer : Place → Trailer → Tree → Bool
+carries_trailer p k x = carries x && (not (is_attributed x || is_pounded x) && not (is_parenthesis_or_bracket k && rests p x))
+
+-- The same, by which trees are read and printed: a named field is no callee. (None stands before a group in parentheses,
+-- where its name would be that of a method.)
 abbrev pub is_base : Trailer → Tree → Bool
 is_base k x = carries x && (not (is_attributed x || is_pounded x) && not (is_call k && is_named_field x))
 
@@ -372,10 +377,10 @@ mutual
         (behind : postfix_behind k (drop count m) ≡ Some n) (may_stand : postfix_stands p k n ≡ true) (whole_ends : ends_operation (postfix_op k) n ≡ true)
         → Node p l (postfixed x k) n
     is_tail : {p : Place} {l m h n : List Tok} {b x : Tree} {k : Trailer} {is : List ℕ} {ks : Children}
-        → Node p l b m → fits_base p k b ≡ true → trailer_head k m ≡ Some (is, h) → Content (trailer_holder k) h ks n
+        → Node p l b m → carries_trailer p k b ≡ true → trailer_head k m ≡ Some (is, h) → Content (trailer_holder k) h ks n
         → x ≡ fields_of b is → Node p l (tail x k ks) n
     is_indexed : {p : Place} {l m n : List Tok} {b x : Tree} {i : ℕ} {is : List ℕ}
-        → Node p l b m → fits_base p (e.field (an_index i)) b ≡ true → fields_head m ≡ Some (i ∷ is, n)
+        → Node p l b m → carries_trailer p (e.field (an_index i)) b ≡ true → fields_head m ≡ Some (i ∷ is, n)
         → x ≡ fields_of b (i ∷ is) → Node p l x n
     is_frame : {p : Place} {l h n : List Tok} {k : Frame} {ks : Children}
         → frame_head k l ≡ Some h → Content (frame_holder k) h ks n → frame_stands p k ks ≡ true → frame_ends p k ks n ≡ true

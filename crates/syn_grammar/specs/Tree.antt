@@ -13,6 +13,7 @@ use Rattle.syn_parts.specs.Part.{MacroTree}
 use Rattle.syn_parts.specs.Pat.{MemberTree, PatTree}
 use Rattle.syn_parts.specs.Own.{alone, joint, before_if, before_some, comma_before, enclosed, elements_own, lit_own, lifetime_own, lifetimes_own, block_own, type_own, return_own, arguments_own, qualified_own, macro_own}
 use Rattle.syn_parts.specs.PatOwn.{attributes_own, member_own, pat_own}
+pub use Rattle.syn_parts.specs.PatOwn.{word_if, vert_before}
 use Rattle.syn_grammar.specs.declared.kinds.UnKind.{UnKind}
 use Rattle.syn_grammar.specs.declared.kinds.Limits.{Limits}
 use Rattle.syn_grammar.specs.declared.kinds.Infix.{Infix}
@@ -287,9 +288,6 @@ plain_block ts = leaf (block None (record { inner = []; tokens = ts }))
 abbrev pub sign_before : Text → List Tok → List Tok
 sign_before text r = sign_toks text ++ r
 
-abbrev pub word_if : Bool → Text → List Tok → List Tok
-word_if b w r = before_if b (λ l. ident w ∷ l) r
-
 abbrev pub label_own : Option Text → List Tok → List Tok
 label_own label r = before_some label (λ w l. lifetime_own w (alone 58 ∷ l)) r
 
@@ -316,9 +314,6 @@ leaf_own (const_block b) r = ident (codes "const") ∷ body_own b r
 leaf_own (async_block m ts) r = ident (codes "async") ∷ word_if m (codes "move") (block_own ts r)
 leaf_own (try_block ts) r = ident (codes "try") ∷ block_own ts r
 leaf_own (verbatim ts) r = ts ++ r
-
-abbrev pub vert_before : List Tok → List Tok
-vert_before r = alone 124 ∷ r
 
 abbrev pub closure_own : ClosureHead → List Tok → List Tok
 closure_own h r =

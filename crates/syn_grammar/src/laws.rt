@@ -1,6 +1,11 @@
 //! What is true of the definitions, as contracts of functions that do nothing: reading.
 
-ghost use Rattle.syn_grammar.specs.Exact.{ReadingIsExact, OneTree};
+ghost use Rattle.syn_grammar.specs.Exact.{HeadsAreExact, ReadingIsExact, OneTree};
+
+/// Each form of what stands before, between and behind operands is read exactly where its tokens stand.
+pub fn heads_are_exact()
+    ensures { HeadsAreExact }
+{}
 
 /// What the reading answers stands for the tokens, and what stands is its answer.
 pub fn reading_is_exact()

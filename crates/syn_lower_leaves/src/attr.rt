@@ -13,7 +13,7 @@ pub enum AttrStyle {
 }
 
 /// An attribute. What is in the brackets is kept as tokens.
-#[derive(Drop, PartialEq)]
+#[derive(Debug, Drop, PartialEq)]
 pub struct Attribute {
     /// `#`
     pub pound_token: Pound,

@@ -45,7 +45,7 @@ impl<T, P: Drop> Pair<T, P> {
 }
 
 /// Values with puncts between, and perhaps one at the end.
-#[derive(PartialEq)]
+#[derive(Debug, PartialEq)]
 pub struct Punctuated<T, P> {
     /// The values that puncts follow, each with its own.
     pub inner: Vec<(T, P)>,

@@ -70,11 +70,7 @@ lit_back x r h = by_kind x.kind x.text h
     by_kind kind.Bool text h = rw (h, same_lit-refl (record { kind = kind.Bool; text = text })) refl
     by_kind kind.Int text h = number_back kind.Int text r h
     by_kind kind.Float text h = number_back kind.Float text r h
-    by_kind kind.Str text h = plain_back kind.Str text r h
-    by_kind kind.ByteStr text h = plain_back kind.ByteStr text r h
-    by_kind kind.CStr text h = plain_back kind.CStr text r h
-    by_kind kind.Byte text h = plain_back kind.Byte text r h
-    by_kind kind.Char text h = plain_back kind.Char text r h
+    by_kind d text h = plain_back d text r h
 
 -- ---- groups of verbatim tokens
 

@@ -9,9 +9,7 @@ some_is h = cc
 
 pub one_at_least : (t : Tok) → 1 ≤ token_weight t
 one_at_least (ident s) = omega arith
-one_at_least (punct c s) = omega arith
-one_at_least (literal s) = omega arith
-one_at_least (group d i) = omega arith
+one_at_least _ = omega arith
 
 pub drop_weight : (n : ℕ) (l : List Tok) → weight (drop n l) ≤ weight l
 unfolding weight
