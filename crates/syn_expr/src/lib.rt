@@ -1,6 +1,6 @@
-//! Expressions: the tree, its reader and its printer, as in syn. What a user names stands here at the root too, with the lower
+//! Expressions: the tree, its reader and its printer, as in syn. What a user names is here at the root too, with the lower
 //! parts and with what `syn_tokens` has there: a program that reads, changes and prints needs no other crate of these; what
-//! `==` says stands in `syn_expr_laws`.
+//! `==` says is in `syn_expr_laws`.
 #![tactic(auto)]
 
 pub mod laws;

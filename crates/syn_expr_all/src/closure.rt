@@ -28,7 +28,7 @@ pub struct ExprClosure {
     pub inputs_begin: Or,
     /// The arguments.
     pub inputs: Punctuated<Pat, Comma>,
-    /// The `|` behind the arguments.
+    /// The `|` after the arguments.
     pub inputs_end: Or,
     /// The type of its value; where one is given the body is a block.
     pub output: ReturnType,

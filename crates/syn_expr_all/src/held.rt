@@ -49,7 +49,7 @@ impl Parse for HeldExpr {
 
     ghost seen = { λ x. tree_of x.expr };
 
-    /// The tree stands before the rest, by the binding rules.
+    /// The tree comes before the rest, by the binding rules.
     ghost spells = { Stands plain };
 
     ghost least = { 1 };

@@ -36,7 +36,7 @@ fn beside(x: Box<Expr>, left: Box<Expr>) -> Box<Expr>
     left
 }
 
-/// Lets the elements of a list go but for the last, if no comma is behind it, and answers that.
+/// Lets the elements of a list go but for the last, if no comma is after it, and answers that.
 // Not in the frame of `let_go`, which is on the stack once for each level of a tree that no loop goes down.
 #[inline(never)]
 #[cycle(let_go)]

@@ -1,6 +1,6 @@
 //! Patterns (Rust Reference, "Patterns").
 //!
-//! The kinds that hold no expressions stand in `syn_pat_kinds`, generic in the pattern; here they have syn's names, over `Pat`.
+//! The kinds that hold no expressions are in `syn_pat_kinds`, generic in the pattern; here they have syn's names, over `Pat`.
 
 use crate::expr::Expr;
 use syn_lower::attr::Attribute;

@@ -80,7 +80,7 @@ where
     E::Pat: ReadPats + Drop,
     E::Arm: LetGo + Drop,
 {
-    /// Reads an `if` behind its word.
+    /// Reads an `if` after its word.
     // Not in the frame of its caller, which is on the stack once for each level of a tree.
     #[inline(never)]
     #[cycle(chain)]
@@ -127,7 +127,7 @@ where
         Ok(Some((else_token, x)))
     }
 
-    /// Reads an `if` behind its word: a condition, a block, and `else` before another `if` or a block, or nothing (Rust
+    /// Reads an `if` after its word: a condition, a block, and `else` before another `if` or a block, or nothing (Rust
     /// Reference, "`if` expressions"). It is refused as the condition is, and as `ExpectedToken` of `{` where a block is
     /// missing.
     #[tactic(auto, unfolding(crate::specs::Parts::if_expr, syn_grammar::specs::Stands::frame_stands, syn_grammar::specs::Stands::frame_ends))]
@@ -141,7 +141,7 @@ where
         self.chain(input, if_token)
     }
 
-    /// Reads a `while` loop behind its word.
+    /// Reads a `while` loop after its word.
     // Not in the frame of its caller, which is on the stack once for each level of a tree.
     #[inline(never)]
     #[tactic(auto, using(crate::proofs::Inner::inners), unfolding(crate::specs::Parts::headed))]
@@ -171,7 +171,7 @@ where
         Ok(boxed(input.alloc(), x)?)
     }
 
-    /// Reads a `for` loop behind its label.
+    /// Reads a `for` loop after its label.
     // Not in the frame of its caller, which is on the stack once for each level of a tree.
     #[inline(never)]
     #[tactic(auto, using(crate::proofs::Inner::inners, crate::proofs::Parts::for_loops), unfolding(crate::specs::Parts::headed))]
@@ -201,7 +201,7 @@ where
     }
 
     /// Reads a `while` or a `for` loop, with a label or none (Rust Reference, "Predicate loops", "Iterator loops", "Loop
-    /// labels"). It is refused as `ExpectedLoopOrBlock` where none of them stands behind the label, as `ExpectedToken` where
+    /// labels"). It is refused as `ExpectedLoopOrBlock` where none of them comes after the label, as `ExpectedToken` where
     /// another token is missing, and inside as a pattern or an expression is.
     // Not in the frame of its caller, which is on the stack once for each level of a tree.
     #[inline(never)]
@@ -252,7 +252,7 @@ where
     }
 
     /// Reads an arm: outer attributes, a pattern with alternatives, a guard or none, `=>`, its body, and a comma, which none
-    /// has to be behind the last and behind a block (Rust Reference, "`match` expressions"). It is refused as `ExpectedToken`
+    /// has to be after the last and after a block (Rust Reference, "`match` expressions"). It is refused as `ExpectedToken`
     /// where a token is missing, and inside as an attribute, a pattern or an expression is.
     // Not in the frame of its caller, which is on the stack once for each level of a tree.
     #[inline(never)]
@@ -304,7 +304,7 @@ where
         Ok(held.into_inner())
     }
 
-    /// Reads a `match` behind its word.
+    /// Reads a `match` after its word.
     // Not in the frame of its caller, which is on the stack once for each level of a tree.
     #[inline(never)]
     #[tactic(auto, using(crate::proofs::Parts::match_exprs, crate::proofs::Inner::inners))]
@@ -331,7 +331,7 @@ where
         Ok(boxed(input.alloc(), x)?)
     }
 
-    /// Reads a `match` behind its word: what it looks at, and its arms in braces, each with its guard, its body and its
+    /// Reads a `match` after its word: what it looks at, and its arms in braces, each with its guard, its body and its
     /// comma (Rust Reference, "Match expressions"). It is refused as `ExpectedToken` where a token is missing, and inside
     /// as a pattern or an expression is.
     #[tactic(auto, unfolding(crate::specs::Parts::match_expr, syn_grammar::specs::Stands::frame_stands, syn_grammar::specs::Stands::frame_ends))]

@@ -126,7 +126,7 @@ module _ {E : Type 0} (see : E → Tree) where
   pub closing_rests : (top : Tree) (all now : List Summary) (spine : List (Bor E × Summary)) (n : Summary) → spine ≡ [] → Closing top all now spine n → now ≡ all
   closing_rests top all now spine n e h = sym (append-nil now) ∙ ap (λ l. now ++ above see l) (sym e) ∙ h.kept
 
-  -- ---- the innermost is summarized behind its operands, and then those over it
+  -- ---- the innermost is summarized after its operands, and then those over it
   pub whole_rests : (now new all : List Summary) (t : Tree) (qs : List (Bor E × Summary)) → new ≡ now ++ below t → now ++ (stack t ++ above see qs) ≡ all → new ++ (summary_of t ∷ above see qs) ≡ all
   whole_rests now new all t qs a h =
       ap (λ l. l ++ (summary_of t ∷ above see qs)) a

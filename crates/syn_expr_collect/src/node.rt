@@ -41,7 +41,7 @@ pub(crate) fn plain_summary(kind: NodeKind, first: Summary, second: Summary) -> 
     }
 }
 
-/// The summary of a node behind its attributes.
+/// The summary of a node after its attributes.
 pub(crate) fn behind(attributes: Attributes<'_>, summary: Summary) -> Summary
     ensures { result ≡ summarized_behind (before_of attributes.entry) summary }
 {
@@ -52,7 +52,7 @@ pub(crate) fn behind(attributes: Attributes<'_>, summary: Summary) -> Summary
     }
 }
 
-/// Keeps the summary of a node behind its attributes.
+/// Keeps the summary of a node after its attributes.
 // As `plain_summary`.
 #[inline(always)]
 pub(crate) fn keep(

@@ -282,7 +282,7 @@ fn close<E: HasArms + HasKind>(
     Ok(summary)
 }
 
-/// Summarizes a node behind its operands, by the summaries of the first two, and then the nodes over it. It answers the summary of the
+/// Summarizes a node after its operands, by the summaries of the first two, and then the nodes over it. It answers the summary of the
 /// outermost.
 fn finish<E: HasArms + HasKind>(
     summaries: &mut Vec<Summary>,
@@ -357,7 +357,7 @@ fn collect_spine<E: HasArms + HasKind>(
     }
 }
 
-/// Summarizes a node and all below it, an operand on the right before one on the left, and the node behind its operands; so a
+/// Summarizes a node and all below it, an operand on the right before one on the left, and the node after its operands; so a
 /// printer takes the summaries from the end, in the order in which it comes to the nodes. Operands that aren't spelled are
 /// visited, and have no summaries. It answers the summary of the node, and is refused only because memory ran out. Down first operands
 /// it goes by a loop: a sum of many terms, a chain of trailers and prefix operators take no stack.

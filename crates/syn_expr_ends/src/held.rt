@@ -1,6 +1,6 @@
 //! What was read, held while more is read.
 //!
-//! A reader takes no stack for operands that it reads one behind the other. So neither may it where it gives them up: these
+//! A reader takes no stack for operands that it reads one after the other. So neither may it where it gives them up: these
 //! are let go by a loop, where the drop of an expression goes down each operand by a call.
 
 ghost use Rattle.std.specs.Prelude.{◌≡◌};
@@ -17,7 +17,7 @@ pub trait LetGo {
 }
 
 impl<T: LetGo> LetGo for Box<T> {
-    // Not in the frames of readers, which are on the stack once for each level of a tree: the value would stand in each of
+    // Not in the frames of readers, which are on the stack once for each level of a tree: the value would are in each of
     // them.
     #[inline(never)]
     fn let_go(self) {

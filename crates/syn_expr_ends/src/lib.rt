@@ -1,4 +1,4 @@
-//! What the readers of all kinds ask of the types of expressions and of patterns, and what may stand behind an expression.
+//! What the readers of all kinds ask of the types of expressions and of patterns, and what may come after an expression.
 #![tactic(auto)]
 
 pub mod held;

@@ -1,5 +1,5 @@
 //! The parts of what holds both expressions and patterns. The type of expressions makes its own structs of them: a struct
-//! that is generic in both could not stand in that type.
+//! that is generic in both could not are in that type.
 
 use syn_expr_parts::label::Label;
 use syn_expr_parts::modifiers::ClosureModifiers;
@@ -30,7 +30,7 @@ pub struct ExprClosureOf<E, P> {
     pub inputs_begin: Or,
     /// The arguments.
     pub inputs: Punctuated<P, Comma>,
-    /// The `|` behind the arguments.
+    /// The `|` after the arguments.
     pub inputs_end: Or,
     /// The type of its value; where one is given the body is a block.
     pub output: ReturnType,

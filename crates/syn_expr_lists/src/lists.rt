@@ -1,4 +1,4 @@
-//! The readers of what stands in parentheses and in brackets: tuples, arrays, arguments and indices.
+//! The readers of what is in parentheses and in brackets: tuples, arrays, arguments and indices.
 
 ghost use Rattle.std.specs.Prelude.{◌≡◌, ◌≤◌, ◌+◌, map, true, IfOk};
 ghost use Rattle.syn_expr_ends.specs.Reads.{Callable, ReadsExpr};
@@ -72,7 +72,7 @@ fn repeat<E: IsExpr + Drop>(
     Ok(Box::new(alloc, x)?)
 }
 
-/// An expression in parentheses, where it is one and no comma is behind it; else a tuple.
+/// An expression in parentheses, where it is one and no comma is after it; else a tuple.
 // Not in the frame of its caller, which is on the stack once for each level of a tree.
 #[inline(never)]
 #[tactic(auto, using(crate::proofs::Elements::rounds), unfolding(syn_expr_kinds::specs::Attrs::attrs_of))]
@@ -107,7 +107,7 @@ pub struct Lists<F> {
 }
 
 impl<E: ReadExprs + Drop, F: Fn(&mut ParseBuffer<'_>, Place) -> Result<Box<E>>> Lists<F> {
-    /// Reads an element, and the comma behind it; none at the end.
+    /// Reads an element, and the comma after it; none at the end.
     #[tactic(auto, unfolding(crate::specs::Elements::element))]
     fn element(&self, input: &mut ParseBuffer<'_>) -> Result<(Box<E>, Option<Comma>)>
         requires callable { Callable (weight input.old.rest + 1) (F.pre self.now.expr) }
@@ -123,7 +123,7 @@ impl<E: ReadExprs + Drop, F: Fn(&mut ParseBuffer<'_>, Place) -> Result<Box<E>>> 
         Ok((x.into_inner(), comma))
     }
 
-    /// Reads the elements behind those that were read, each with its comma, to the end of the input.
+    /// Reads the elements after those that were read, each with its comma, to the end of the input.
     #[tactic(auto, using(crate::proofs::Elements::turns))]
     fn more_elements(
         &self,
@@ -194,7 +194,7 @@ impl<E: ReadExprs + Drop, F: Fn(&mut ParseBuffer<'_>, Place) -> Result<Box<E>>> 
     }
 
     /// Reads an index in its brackets (Rust Reference, "Array and slice indexing expressions"). Another token is refused as
-    /// `ExpectedToken` of `[`, what is left behind the index as `UnexpectedToken`.
+    /// `ExpectedToken` of `[`, what is left after the index as `UnexpectedToken`.
     // Not in the frame of its caller, which is on the stack once for each level of a tree.
     #[inline(never)]
     #[tactic(auto, using(crate::proofs::Elements::singles), unfolding(crate::specs::Elements::single, syn_grammar::specs::Read::content))]
@@ -213,7 +213,7 @@ impl<E: ReadExprs + Drop, F: Fn(&mut ParseBuffer<'_>, Place) -> Result<Box<E>>> 
         Ok((bracket_token, index))
     }
 
-    /// Reads the elements of an array behind the first expression in its brackets. A missing comma is refused as
+    /// Reads the elements of an array after the first expression in its brackets. A missing comma is refused as
     /// `ExpectedCommaOrSemi`.
     // Not in the frame of its caller, which is on the stack once for each level of a tree.
     #[inline(never)]
@@ -243,7 +243,7 @@ impl<E: ReadExprs + Drop, F: Fn(&mut ParseBuffer<'_>, Place) -> Result<Box<E>>> 
         Ok(held.into_inner())
     }
 
-    /// Reads what stands in brackets.
+    /// Reads what is in brackets.
     // Not in the frame of its caller, which is on the stack once for each level of a tree.
     #[inline(never)]
     #[tactic(auto, unfolding(crate::specs::Elements::bracketed, crate::specs::Elements::single))]
@@ -270,8 +270,8 @@ impl<E: ReadExprs + Drop, F: Fn(&mut ParseBuffer<'_>, Place) -> Result<Box<E>>> 
     }
 
     /// Reads an array of its elements, or of one that is repeated (Rust Reference, "Array expressions"). Another token is
-    /// refused as `ExpectedToken` of `[`, a missing sign behind the first element as `ExpectedCommaOrSemi`, a missing comma
-    /// behind another as `ExpectedToken` of it, and what is left behind the length as `UnexpectedToken`.
+    /// refused as `ExpectedToken` of `[`, a missing sign after the first element as `ExpectedCommaOrSemi`, a missing comma
+    /// after another as `ExpectedToken` of it, and what is left after the length as `UnexpectedToken`.
     // Not in the frame of its caller, which is on the stack once for each level of a tree.
     #[inline(never)]
     #[tactic(auto, using(crate::proofs::Elements::brackets))]

@@ -1,4 +1,4 @@
--- What stands before and behind the first operand of a node, by its kind.
+-- What comes before and after the first operand of a node, by its kind.
 use Rattle.std.specs.Prelude.{Option, Some, is_some, Result}
 use Rattle.std.proofs.Common.{◌≡◌, Bool, true, false, List, [], ◌++◌, OnOk, refl, sym, ap, ◌∙◌, subst, append_assoc}
 use Rattle.syn_tokens.specs.Tok.{Tok}
@@ -26,7 +26,7 @@ use Rattle.syn_expr_print.specs.Spine.{begins, first_place, first_wrapped, behin
 use Rattle.syn_expr_print.proofs.Borrowed.{infixed-operator, postfixed-operator}
 use Rattle.syn_expr_print.proofs.Borrowing.{borrowed-at, on-map}
 
--- ---- what holds of the nodes of a kind, and behind attributes of them
+-- ---- what holds of the nodes of a kind, and after attributes of them
 
 by_infix : (P : Tree → Type 0) (q : Infix) → ((x y : Tree) → P (infixed x q y)) → ((a : AttributeTree) (more : List AttributeTree) (t : Tree) → P t → P (attributed a more t)) → (t : Tree) → kind_at t ≡ kind.Infix q → P t
 by_infix P q f g (infixed x k y) h = let e : q ≡ k = cc in subst (λ k. P (infixed x k y)) e (f x y)
@@ -79,7 +79,7 @@ begins_first (paren m t) h = absurd cc
 begins_first (prefixed k gs t) h = absurd cc
 begins_first (frame k ks) h = absurd cc
 
--- where it stands
+-- where it is
 
 pub place_infix : (t : Tree) (q : Infix) (c : Context) → kind_at t ≡ kind.Infix q → left_context q c ≡ first_place t c
 place_infix t q c h = by_infix (λ t. left_context q c ≡ first_place t c) q (λ x y. refl) (λ a more t p. p) t h
@@ -124,7 +124,7 @@ wrapped_other (infixed x k y) p n h = absurd cc
 wrapped_other (postfixed x k) p n h = absurd cc
 wrapped_other (tail b k ks) p n h = absurd cc
 
--- ---- what stands behind it
+-- ---- what comes after it
 
 pub below_infix : (t v : Tree) (q : Infix) → kind_at t ≡ kind.Infix q → second_of (operands_at t) ≡ Some v → behind_below (operands_at t) ≡ stack v
 below_infix t v q h = by_infix (λ t. second_of (operands_at t) ≡ Some v → behind_below (operands_at t) ≡ stack v) q (λ x y s. let i : y ≡ v = cc in ap stack i) (λ a more t p. p) t h

@@ -87,7 +87,7 @@ pub on-map : {U X : Type 0} {A B : Type 0} (r : Result U X) → OnOk r A → (A 
 on-map (Ok x) h f = f h
 on-map (Err x) h f = h
 
--- ---- tokens, one part behind the other, by what is lent
+-- ---- tokens, one part after the other, by what is lent
 
 pub borrowed-at : {A B : Type 0} (f : A → B) (o : Option A) (l : A) (x : Option B) → mapped f o ≡ x → o ≡ Some l → x ≡ Some (f l)
 borrowed-at f o l x m e = sym m ∙ ap (mapped f) e

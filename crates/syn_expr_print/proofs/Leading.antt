@@ -1,4 +1,4 @@
--- Down nodes that end with an operand, which stands behind a prefix.
+-- Down nodes that end with an operand, which comes after a prefix.
 use Rattle.std.specs.Prelude.{Option, Some, Result}
 use Rattle.std.proofs.Common.{◌≡◌, Bool, false, List, [], ◌∷◌, ◌++◌, OnOk, sym, ap, ◌∙◌, subst, append_assoc}
 use Rattle.syn_tokens.specs.Tok.{Tok}
@@ -22,7 +22,7 @@ use Rattle.syn_expr_print.proofs.Borrowed.{prefixed-text, prefixed-kind}
 use Rattle.syn_expr_print.proofs.Spellings.{spelled-bare}
 use Rattle.syn_expr_print.proofs.Turns.{going-on}
 
--- what stands before the operand, and the operand in its place, by its summary
+-- what comes before the operand, and the operand in its place, by its summary
 pub prefix_parts : {A : Type 0} (f : A → e.Prefix × List Tree) (o : Option A) (l : A) (q : PrefixKind) (c p : Context) (w : Bool) (n : Summary) (t u : Tree)
     → IsBorrowed t → kind_at t ≡ kind.Prefix q → mapped f o ≡ prefix_at t → o ≡ Some l → first_of (operands_at t) ≡ Some u
     → ((k : e.Prefix) → prefix_kind k ≡ q → p ≡ prefix_context k c) → n ≡ summary_of u → ((k : e.Prefix) → prefix_kind k ≡ q → w ≡ prefix_by k p n)
@@ -42,7 +42,7 @@ pub prefix_last : {U X : Type 0} (r : Result U X) (now own text within new all :
 prefix_last r now own text within new all w p u a m i g =
     on-map r g (λ j. j ∙ ap (λ z. z ++ spelled_in w p u) m ∙ append_assoc now own (spelled_in w p u) ∙ ap (λ z. now ++ z) (sym a) ∙ i)
 
--- or it is next itself, where it is left bare and no attributes stand before it
+-- or it is next itself, where it is left bare and no attributes come before it
 pub prefix_down : (now own text within all : List Tok) (w : Bool) (p : Context) (u : Tree)
     → text ≡ own ++ spelled_in w p u → within ≡ now ++ own → w ≡ false → core u ≡ u → now ++ text ≡ all → within ++ spelled p (core u) ≡ all
 prefix_down now own text within all w p u a m b c i =

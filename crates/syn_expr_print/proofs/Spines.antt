@@ -42,7 +42,7 @@ bare_text c (prefixed k gs t) u n b h = absurd cc
 bare_text c (frame k ks) u n b h = absurd cc
 bare_text c (attributed a more t) u n b h = absurd cc
 
--- its first operand, and what stands behind it
+-- its first operand, and what comes after it
 pub spine_text : (c : Context) (t u : Tree) → IsBorrowed t → begins (kind_at t) ≡ true → first_of (operands_at t) ≡ Some u
     → spelled c (core t) ≡ spelled_in (first_wrapped t (first_place t c) (summary_of u)) (first_place t c) u ++ behind_spelled c t
 spine_text c (attributed a more t) u l b h = bare_text c t u (ap is_attributed l ∙ plain-node (shape_at t) (operands_at t)) b h
@@ -57,7 +57,7 @@ spine_text c (frame k ks) u l b h = absurd cc
 pub spine_below : (t u : Tree) → first_of (operands_at t) ≡ Some u → below t ≡ behind_below (operands_at t) ++ stack u
 spine_below t u h = sym (below_is t) ∙ first_below (operands_at t) u h
 
--- no attributes stand before it
+-- no attributes come before it
 pub bare_core : (t : Tree) → is_nil (attributes_at t) ≡ true → core t ≡ t
 bare_core (leaf k) h = refl
 bare_core (paren m t) h = refl
@@ -81,7 +81,7 @@ pub next_begins : (w : Bool) (t : Tree) → is_next w t ≡ true → begins (kin
 next_begins true t h = absurd cc
 next_begins false t h = let (a, b) = both_true (is_nil (attributes_at t)) (begins (kind_at t)) h in b
 
--- the summaries of its first operand come first, and then those of what stands behind it; `next` follows
+-- the summaries of its first operand come first, and then those of what comes after it; `next` follows
 pub first_left : (now : Summaries) (next : List Summary) (t u : Tree) → first_of (operands_at t) ≡ Some u → EndsWith now.left.items (next ++ below t) → EndsWith now.left.items (stack u)
 first_left now next t u h e =
     let b = behind_below (operands_at t) in
@@ -122,7 +122,7 @@ module _ {E : Type 0} (see : E → Tree) where
   over_last n [] q (b, s, o) = record { over = o; begins_too = b; small = s }
   over_last n (p ∷ qs) q (a, l, o) = let r = over_last n qs q o in record { over = (a, l, r.over); begins_too = r.begins_too; small = r.small }
 
-  -- a step down: what stands behind the first operand is printed later
+  -- a step down: what comes after the first operand is printed later
   pub down_text : (c p : Context) (t u : Tree) (qs : List (Bor E × Context)) (q : Bor E × Context) (all : List Tok) → IsBorrowed t → begins (kind_at t) ≡ true → first_of (operands_at t) ≡ Some u
       → first_wrapped t p (summary_of u) ≡ false → p ≡ first_place t c → core u ≡ u → see q.0.now ≡ t → q.1 ≡ c
       → spelled c (core t) ++ behinds see qs ≡ all → spelled p (core u) ++ behinds see (qs ++ q ∷ []) ≡ all
@@ -139,7 +139,7 @@ module _ {E : Type 0} (see : E → Tree) where
   up_text now new all qs q a h =
       ap (λ z. z ++ behinds see qs) a ∙ append_assoc now (behind_spelled q.1 (see q.0.now)) (behinds see qs) ∙ sym (ap (λ z. now ++ z) (behinds_more qs q)) ∙ h
 
-  -- the summaries: down, that of the first operand is taken; up, those of what stands behind it
+  -- the summaries: down, that of the first operand is taken; up, those of what comes after it
   pub down_summaries : (old now new : Summaries) (all : List Summary) (t u : Tree) (qs : List (Bor E × Context)) (q : Bor E × Context) → first_of (operands_at t) ≡ Some u → see q.0.now ≡ t
       → Going old now all (lefts see qs ++ below t) → Taken now new (summary_of u ∷ []) → Going old new all (lefts see (qs ++ q ∷ []) ++ below u)
   down_summaries old now new all t u qs q h e g k =
@@ -149,7 +149,7 @@ module _ {E : Type 0} (see : E → Tree) where
   pub up_summaries : (old now new : Summaries) (all : List Summary) (qs : List (Bor E × Context)) (q : Bor E × Context) → Going old now all (lefts see (qs ++ q ∷ [])) → Taken now new (behind_below (operands_at (see q.0.now))) → Going old new all (lefts see qs)
   up_summaries old now new all qs q g k = going-on old now new all (lefts see qs) (behind_below (operands_at (see q.0.now))) (subst (λ z. Going old now all z) (lefts_more qs q) g) k
 
-  -- the innermost node: its first operand, and what stands behind that
+  -- the innermost node: its first operand, and what comes after that
   pub last_text : (c p : Context) (w : Bool) (t u : Tree) (qs : List (Bor E × Context)) (now within new all : List Tok) → IsBorrowed t → begins (kind_at t) ≡ true → first_of (operands_at t) ≡ Some u
       → p ≡ first_place t c → w ≡ first_wrapped t p (summary_of u) → within ≡ now ++ spelled_in w p u → new ≡ within ++ behind_spelled c t
       → now ++ (spelled c (core t) ++ behinds see qs) ≡ all → new ++ behinds see qs ≡ all

@@ -1,4 +1,4 @@
--- Nodes that begin with an operand, each the first operand of the one before it: what is printed of them behind that.
+-- Nodes that begin with an operand, each the first operand of the one before it: what is printed of them after that.
 use Rattle.std.specs.Prelude.{◌≡◌, ℕ, ◌≤◌, Bool, true, false, not, ◌&&◌, ⊤, List, [], ◌∷◌, ◌++◌}
 use denote.Ref.{Bor}
 use Rattle.syn_tokens.specs.Tok.{Tok}
@@ -23,13 +23,13 @@ begins (node.Postfix k) = true
 begins (node.Tail k) = true
 begins _ = false
 
--- a first operand, wrapped or not, is the next such node: neither a parenthesis nor attributes stand before it
+-- a first operand, wrapped or not, is the next such node: neither a parenthesis nor attributes come before it
 abbrev pub is_next : Bool → Tree → Bool
 is_next wrapped t = (not wrapped && is_nil (attributes_at t)) && begins (kind_at t)
 
 -- ---- a node
 
--- where its first operand stands
+-- where its first operand is
 abbrev pub first_place : Tree → Context → Context
 first_place (attributed a more t) c = first_place t c
 first_place (infixed x op y) c = left_context op c
@@ -45,7 +45,7 @@ first_wrapped (postfixed x k) p n = left_by (postfix_op k) p n
 first_wrapped (tail b k ks) p n = base_by k p n
 first_wrapped _ p n = false
 
--- what stands behind it
+-- what comes after it
 abbrev pub behind_spelled : Context → Tree → List Tok
 behind_spelled c (attributed a more t) = behind_spelled c t
 behind_spelled c (infixed x op y) = infix_own op [] ++ spelled_in (place_by (level op) (right_context op c) (summary_of y)) (right_context op c) y
@@ -53,10 +53,10 @@ behind_spelled c (postfixed x k) = postfix_own k []
 behind_spelled c (tail b k ks) = trailer_own k (children_spelled false ks) []
 behind_spelled c _ = []
 
--- ---- the nodes, the outermost first, each with where it stands
+-- ---- the nodes, the outermost first, each with where it is
 
 module _ {E : Type 0} (see : E → Tree) where
-  -- what stands behind their first operands, the innermost first
+  -- what comes after their first operands, the innermost first
   abbrev pub behinds : List (Bor E × Context) → List Tok
   behinds [] = []
   behinds (q ∷ qs) = behinds qs ++ behind_spelled q.1 (see q.0.now)

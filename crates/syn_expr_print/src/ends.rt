@@ -59,7 +59,7 @@ pub(crate) fn leaf<E: HasPrint>(
     put_leaf(tokens, x.leaf().unwrap())
 }
 
-/// Prints what stands in parentheses, for itself.
+/// Prints what is in parentheses, for itself.
 #[tactic(auto, using(syn_tokens::proofs::Fronts::fronts, crate::proofs::Stacks::takes, crate::proofs::Borrowing::paren_ends))]
 pub(crate) fn paren<E: HasPrint, F: Fn(&mut TokenStream, &mut Summaries, &E, Context) -> PutResult>(
     bare: &F,
@@ -83,7 +83,7 @@ pub(crate) fn paren<E: HasPrint, F: Fn(&mut TokenStream, &mut Summaries, &E, Con
     put_paren(tokens, x.paren().unwrap(), content)
 }
 
-/// The kind of a node that ends with its operand, before which no attributes stand; of another none.
+/// The kind of a node that ends with its operand, before which no attributes are; of another none.
 #[tactic(auto, using(crate::proofs::Spines::bare_core))]
 fn prefix_kind<E: HasPrint>(x: &E) -> Option<PrefixKind>
     ensures { MatchOption result ⊤ (λ k. (core (E.tree x.now) ≡ E.tree x.now) × (kind_at (E.tree x.now) ≡ node.Prefix k)) }
@@ -94,7 +94,7 @@ fn prefix_kind<E: HasPrint>(x: &E) -> Option<PrefixKind>
     }
 }
 
-/// Prints a node that ends with its operand, behind what stands before it. Down such operands it goes by a loop, so that
+/// Prints a node that ends with its operand, after what comes before it. Down such operands it goes by a loop, so that
 /// prefix operators take no stack.
 #[tactic(auto, using(syn_tokens::proofs::Fronts::fronts, crate::proofs::Stacks::takes, crate::proofs::Borrowing::prefix_ends))]
 pub(crate) fn prefixed<

@@ -1,4 +1,4 @@
-//! A whole node, in a place where it is left bare: its attributes, and behind them what it is by its shape.
+//! A whole node, in a place where it is left bare: its attributes, and after them what it is by its shape.
 
 ghost use Rattle.std.specs.Prelude.{◌≡◌, ◌++◌, false, OnOk};
 ghost use Rattle.syn_parts.specs.Form.{is_nil};
@@ -69,7 +69,7 @@ where
     }
 }
 
-/// Prints a node behind its attributes, in parentheses where it is `wrapped`.
+/// Prints a node after its attributes, in parentheses where it is `wrapped`.
 #[tactic(auto, using(syn_tokens::proofs::Fronts::fronts, crate::proofs::Spellings::roles))]
 fn behind<E: HasPrint + HasArms, F: Fn(&mut TokenStream, &mut Summaries, &E, Context) -> PutResult>(
     bare: &F,
@@ -98,7 +98,7 @@ where
     }
 }
 
-/// Prints the attributes before a node, and the node behind them; an operation stands in parentheses there, without which
+/// Prints the attributes before a node, and the node after them; an operation is in parentheses there, without which
 /// they would be those of its first operand.
 #[tactic(auto, using(syn_tokens::proofs::Fronts::fronts))]
 fn attributed<

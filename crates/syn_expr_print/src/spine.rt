@@ -1,4 +1,4 @@
-//! Nodes that begin with an operand: operations, and trailers behind their bases (Rust Reference, "Operator expressions",
+//! Nodes that begin with an operand: operations, and trailers after their bases (Rust Reference, "Operator expressions",
 //! "Call expressions", "Method-call expressions", "Field access expressions", "Array and array index expressions", "Await
 //! expressions", "The question mark operator").
 
@@ -67,14 +67,14 @@ fn begins(kind: NodeKind) -> bool
 }
 
 /// Whether a first operand is the next node of a spine: it begins with an operand itself, before which neither a parenthesis
-/// nor attributes stand.
+/// nor attributes are.
 fn is_next<E: HasPrint>(x: &E, wrapped: bool) -> bool
     ensures { result ≡ is_next wrapped (E.tree x.now) }
 {
     !wrapped && x.attributes().has_none_before() && begins(x.kind())
 }
 
-/// Prints what stands behind the first operand of a node that begins with one.
+/// Prints what comes after the first operand of a node that begins with one.
 #[tactic(auto, using(syn_tokens::proofs::Fronts::fronts, crate::proofs::Stacks::takes, crate::proofs::Borrowing::infix_ends, crate::proofs::Borrowing::postfix_ends, crate::proofs::Borrowing::tail_ends))]
 fn behind_first<
     E: HasPrint + HasArms,
@@ -120,7 +120,7 @@ where
     }
 }
 
-/// Prints a node that begins with an operand, and what stands behind that. Down first operands it goes by a loop, so that a
+/// Prints a node that begins with an operand, and what comes after that. Down first operands it goes by a loop, so that a
 /// sum of many terms and a chain of trailers take no stack; only for those is memory taken.
 #[tactic(auto, using(syn_tokens::proofs::Fronts::fronts, crate::proofs::Stacks::takes, crate::proofs::Behinds::begins_first))]
 pub(crate) fn spine<

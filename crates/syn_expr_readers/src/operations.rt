@@ -1,4 +1,4 @@
-//! The readers of operations: an operator behind its left operand, and what goes on it (Rust Reference, "Operator
+//! The readers of operations: an operator after its left operand, and what goes on it (Rust Reference, "Operator
 //! expressions", "Expression precedence").
 
 ghost use Rattle.std.specs.Prelude.{◌≡◌, ◌≤◌, ◌+◌, false};
@@ -28,7 +28,7 @@ use syn_tokens::span::Span;
 use syn_tokens::token::{As, Await, Eq, Paren, PathSep};
 use syn_tokens::tree::TokenTree;
 
-/// Which trailer with a dot stands first.
+/// Which trailer with a dot comes first.
 fn dotted_trailer(trees: &[TokenTree]) -> AfterCast {
     match trees {
         [_, name @ ..] if Await::peek(name) => AfterCast::Await,
@@ -37,7 +37,7 @@ fn dotted_trailer(trees: &[TokenTree]) -> AfterCast {
     }
 }
 
-/// The refusal of the trailer that stands first behind a cast.
+/// The refusal of the trailer that comes first after a cast.
 fn after_cast(input: &ParseBuffer<'_>) -> Error {
     let trailer = match trailer_start(input) {
         TrailerStart::Call => AfterCast::FunctionCall,
@@ -48,7 +48,7 @@ fn after_cast(input: &ParseBuffer<'_>) -> Error {
     input.error(ErrorKind::AfterCast(trailer))
 }
 
-/// The refusal of what stands behind a whole expression.
+/// The refusal of what comes after a whole expression.
 fn refusal(input: &ParseBuffer<'_>) -> Error {
     if left_arrow_at(input) {
         input.error(ErrorKind::LeftArrow)
@@ -75,7 +75,7 @@ impl<E: ReadExprs + Drop, F: Fn(&mut ParseBuffer<'_>, Place) -> Result<Box<E>>> 
         Ok(right)
     }
 
-    /// Reads what stands behind the operator of a range: its end, or nothing.
+    /// Reads what comes after the operator of a range: its end, or nothing.
     // Not in the frame of its caller, which is on the stack once for each level of a tree.
     #[inline(never)]
     #[tactic(auto, unfolding(syn_grammar::specs::Read::longer, syn_grammar::specs::Stands::ends_operation, syn_grammar::specs::Stands::infix_stands, syn_grammar::specs::Stands::postfix_stands))]
@@ -102,7 +102,7 @@ impl<E: ReadExprs + Drop, F: Fn(&mut ParseBuffer<'_>, Place) -> Result<Box<E>>> 
         Ok(make::range_between(input.alloc(), start.into_inner(), limits, end)?)
     }
 
-    /// Reads what stands behind an operator, which was taken, and its left operand: the operation that they are.
+    /// Reads what comes after an operator, which was taken, and its left operand: the operation that they are.
     // Not in the frame of its caller, which is on the stack once for each level of a tree.
     #[inline(never)]
     #[tactic(auto, unfolding(syn_grammar::specs::Read::longer, syn_grammar::specs::Stands::ends_operation, syn_grammar::specs::Stands::infix_stands, syn_grammar::specs::Stands::postfix_stands))]
@@ -143,10 +143,10 @@ impl<E: ReadExprs + Drop, F: Fn(&mut ParseBuffer<'_>, Place) -> Result<Box<E>>> 
         }
     }
 
-    /// Reads the operations behind a left operand, as many as the place takes.
+    /// Reads the operations after a left operand, as many as the place takes.
     ///
     /// It is refused as `ChainedComparison` at the second of two comparisons without parentheses, as `AfterCast` at a trailer
-    /// behind a cast, as `LeftArrow` at `<-`, as `UnexpectedToken` at `...`, and inside as an operand or a type is.
+    /// after a cast, as `LeftArrow` at `<-`, as `UnexpectedToken` at `...`, and inside as an operand or a type is.
     #[tactic(auto, using(crate::proofs::Loops::operators))]
     pub(crate) fn climb(
         &self,

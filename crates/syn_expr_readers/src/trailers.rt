@@ -1,4 +1,4 @@
-//! The readers of trailers: calls, indices, `?`, and what stands behind a dot (Rust Reference, "Call expressions", "Array and
+//! The readers of trailers: calls, indices, `?`, and what comes after a dot (Rust Reference, "Call expressions", "Array and
 //! slice indexing expressions", "Field access expressions", "Method-call expressions", "Await expressions").
 
 ghost use Rattle.std.specs.Prelude.{◌≡◌, ◌≤◌, ◌+◌, [], if◌then◌else◌, false, map, Some, None};
@@ -71,7 +71,7 @@ fn try_expr<E: ReadExprs + Drop>(
     Ok(make::try_expr(input.alloc(), base, question_token)?)
 }
 
-/// Makes indices, which were taken behind a dot, part of their base.
+/// Makes indices, which were taken after a dot, part of their base.
 #[tactic(auto, using(crate::proofs::Bases::bases))]
 fn indexed<E: ReadExprs + Drop>(
     input: &ParseBuffer<'_>,
@@ -130,8 +130,8 @@ impl<E: ReadExprs + Drop, F: Fn(&mut ParseBuffer<'_>, Place) -> Result<Box<E>> +
         Ok(make::index(input.alloc(), base.into_inner(), bracket_token, index)?)
     }
 
-    /// Reads the arguments of a method behind its name and its turbofish, if it has one. A `::` that begins no turbofish is
-    /// refused as `ExpectedToken` of the `<` that is missing behind it.
+    /// Reads the arguments of a method after its name and its turbofish, if it has one. A `::` that begins no turbofish is
+    /// refused as `ExpectedToken` of the `<` that is missing after it.
     #[tactic(auto, using(crate::proofs::Bases::no_arguments))]
     fn method_arguments(
         &self,
@@ -151,7 +151,7 @@ impl<E: ReadExprs + Drop, F: Fn(&mut ParseBuffer<'_>, Place) -> Result<Box<E>> +
         lists.arguments(input)
     }
 
-    /// Reads `await`, a field or a method with its arguments, behind the indices of a float that stand before it.
+    /// Reads `await`, a field or a method with its arguments, after the indices of a float that come before it.
     // Not in the frame of its caller, which is on the stack once for each level of a tree.
     #[inline(never)]
     #[tactic(auto, using(crate::proofs::Bases::bases))]
@@ -193,7 +193,7 @@ impl<E: ReadExprs + Drop, F: Fn(&mut ParseBuffer<'_>, Place) -> Result<Box<E>> +
         }
     }
 
-    /// Reads what stands behind a dot: indices, or a name with what belongs to it.
+    /// Reads what comes after a dot: indices, or a name with what belongs to it.
     // Not in the frame of its caller, which is on the stack once for each level of a tree.
     #[inline(never)]
     #[tactic(auto, using(crate::proofs::Bases::bases))]
@@ -219,7 +219,7 @@ impl<E: ReadExprs + Drop, F: Fn(&mut ParseBuffer<'_>, Place) -> Result<Box<E>> +
         self.named_trailer(input, place, base, dot_token, indices)
     }
 
-    /// Reads a trailer behind its base.
+    /// Reads a trailer after its base.
     // Not in the frame of its caller, which is on the stack once for each level of a tree.
     #[inline(never)]
     #[tactic(auto, unfolding(syn_grammar::specs::Read::trailed, syn_grammar::specs::Front::question_at))]
@@ -245,10 +245,10 @@ impl<E: ReadExprs + Drop, F: Fn(&mut ParseBuffer<'_>, Place) -> Result<Box<E>> +
         self.behind_dot(input, place, base, dot_token)
     }
 
-    /// Reads the trailers behind a base, as many as there are.
+    /// Reads the trailers after a base, as many as there are.
     ///
     /// It is refused as `UnexpectedToken` at a trailer that its base doesn't take, as `ExpectedMember`,
-    /// `ExpectedUnsuffixedInteger` or `IndexOutOfRange` where no name, method or index is behind a dot, as `ExpectedToken` where
+    /// `ExpectedUnsuffixedInteger` or `IndexOutOfRange` where no name, method or index is after a dot, as `ExpectedToken` where
     /// a method lacks its arguments or the `<` of its turbofish, and inside as arguments, an index or a type are.
     // Mostly there is none, which is told without a call.
     #[inline(always)]

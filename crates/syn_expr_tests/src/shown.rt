@@ -1,4 +1,4 @@
-//! What `{:?}` shows of trees, and where they stand. The texts are as Rust's derived `Debug` writes them; places are in bytes.
+//! What `{:?}` shows of trees, and where they are. The texts are as Rust's derived `Debug` writes them; places are in bytes.
 
 use rows::check;
 use std::alloc::Global;
@@ -12,7 +12,7 @@ _   | Infer(ExprInfer { attrs: [], underscore_token: Underscore { spans: [Span {
 -a  | Unary(ExprUnaryOf { attrs: [], op: Neg(Sign { spans: [Span { lo: 0, hi: 1 }] }), expr: Path(ExprPath { attrs: [], qself: None, path: PathOf { leading_colon: None, segments: Punctuated { inner: [], last: Some(PathSegmentOf { ident: Ident { text: \"a\", span: Span { lo: 1, hi: 2 } }, arguments: None }) } } }) })
 ";
 
-/// A text, and where its tree stands.
+/// A text, and where its tree is.
 const PLACES: &str = "
 a + b           | 0..5
 -x.f(y)?        | 0..8

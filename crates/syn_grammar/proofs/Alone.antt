@@ -42,7 +42,7 @@ use Rattle.syn_grammar.proofs.ReadTrailers.{pound_there}
 use Rattle.syn_grammar.proofs.ReadFrames.{prefix_atom, paren_atom, frame_atom}
 use Rattle.syn_grammar.proofs.Exact.{expr_sound, expr_complete}
 
--- a reading that gives what stands, and all that does
+-- a reading that gives what is, and all that does
 exactly : {B : Type 0} {reads : List Tok → Outcome B} {stands : List Tok → B → List Tok → Type 0}
     → ((l : List Tok) (x : B) (n : List Tok) → reads l ≡ Some (x, n) → stands l x n) → ((l : List Tok) (x : B) (n : List Tok) → stands l x n → reads l ≡ Some (x, n))
     → ((l : List Tok) (x : B) (n : List Tok) → stands l x n → IsLess n l) → IsExact reads stands
@@ -59,7 +59,7 @@ fields_no_atom : (b : Tree) (is : List ℕ) → is_atom b ≡ false → is_atom 
 fields_no_atom b [] h = h
 fields_no_atom b (i ∷ is) h = fields_no_atom _ is refl
 
--- what stands as one is read as one
+-- what is as one is read as one
 atom_is : {l n : List Tok} {x : Tree} → Node plain l x n → is_atom x ≡ true → atom expr plain l ≡ Some (x, n)
 atom_is (is_leaf {l = l} {n = n} {k = k} h g) a = leaf_atom expr plain k l n h g
 atom_is (is_paren {i = i} {n = n} {x = x} d e c) a =
@@ -105,7 +105,7 @@ attributed_pound (is_indexed {b = v} {i = i} {is = more} d f h j) b =
     absurd (cc (j, b, fields_bare (tail v (tr.field (an_index i)) none) more refl))
 attributed_pound _ b = absurd cc
 
--- no attributes stand before it
+-- no attributes come before it
 atom_bare : (l : List Tok) (x : Tree) (n : List Tok) → atom expr plain l ≡ Some (x, n) → is_attributed x ≡ false
 atom_bare l x n h = go (is_attributed x) refl
   where
@@ -126,7 +126,7 @@ module _ (is : Tree → Bool) (l : List Tok) where
   unfolding operand_alone
   operand_none h = rw h refl
 
--- no attributes stand before what was read
+-- no attributes come before what was read
 pub operand_bare : (is : Tree → Bool) (l n : List Tok) (x : Tree) → operand_alone is l ≡ Some (x, n) → is_attributed x ≡ false
 unfolding operand_alone
 operand_bare is l n x h =
@@ -216,7 +216,7 @@ module _ (is : Tree → Bool) (plains : ArePlain is) where
   pub leaf_exact : IsExact (leaf_alone is) (Alone is)
   leaf_exact = exactly leaf_sound (λ l x n s. leaf_read_is s.0 s.1 (plains x s.1)) (λ l x n s. node_less s.0)
 
--- ---- behind attributes
+-- ---- after attributes
 
 -- where none stand, nothing is taken
 none_behind : (l m : List Tok) → outer_attributes.behind [] l ≡ Some m → l ≡ m
@@ -257,7 +257,7 @@ module _ (is : Tree → Bool) (inner : Reading Tree) (exact : IsExact inner (Alo
       bare_read_is l x n (is_indexed d f h j) (ap is_attributed j ∙ fields_bare (tail v (tr.field (an_index i)) none) more refl) a
   attributed_read_is {l} {n} {x} u a = bare_read_is l x n u refl a
 
-  -- behind attributes or none
+  -- after attributes or none
   pub attributed_exact : IsExact (attributed_alone inner) (Alone (behind_attributes is))
   attributed_exact = exactly attributed_sound (λ l x n s. attributed_read_is s.0 s.1) (λ l x n s. node_less s.0)
 

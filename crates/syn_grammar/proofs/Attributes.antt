@@ -175,7 +175,7 @@ outside_with t ys xs = ap (λ (b : Bool). if b then outers xs else xs) (with_inn
 
 -- ---- before others
 
--- neither behind attributes nor verbatim tokens
+-- neither after attributes nor verbatim tokens
 abbrev pub is_free : Tree → Bool
 is_free (leaf k) = not (is_verbatim_leaf k)
 is_free (attributed a more t) = false
@@ -189,7 +189,7 @@ pub with_inner_free : (ats : List AttributeTree) (t : Tree) → is_free (with_in
 with_inner_free ats (leaf k) = leaf_free ats k
 with_inner_free ats _ = refl
 
--- these attributes before those of the node t, where `own` stands before it already
+-- these attributes before those of the node t, where `own` comes before it already
 abbrev pub put_before : (more own : List AttributeTree) → Tree → Tree
 put_before more own t = attributed_with (outside t more ++ own) (with_inner (inners more ++ inner_in t) t)
 
@@ -211,7 +211,7 @@ prepend_behind : (more own : List AttributeTree) (a : AttributeTree) (ats : List
 prepend_behind more [] a ats t = refl
 prepend_behind more (b ∷ own) a ats t = refl
 
--- those that were put before it stay behind these
+-- those that were put before it stay after these
 put_twice : (xs ys own : List AttributeTree) (t : Tree)
     → put_before xs (outside t ys ++ own) (with_inner (inners ys ++ inner_in t) t) ≡ put_before (xs ++ ys) own t
 put_twice xs ys own t =
@@ -228,7 +228,7 @@ own_more : (xs ys : List AttributeTree) (ts : List Tok) → attributes_own (xs +
 own_more [] ys ts = refl
 own_more (a ∷ more) ys ts = ap (attribute_own a) (own_more more ys ts)
 
--- What can have attributes in front is free, behind attributes, or verbatim tokens.
+-- What can have attributes in front is free, after attributes, or verbatim tokens.
 leaf_or : {A : Leaf → Type 0} → ((k : Leaf) → is_free (leaf k) ≡ true → A k) → ((ts : List Tok) → A (e.verbatim ts)) → (k : Leaf) → A k
 leaf_or f g (e.verbatim ts) = g ts
 leaf_or f g _ = f _ refl

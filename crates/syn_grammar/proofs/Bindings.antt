@@ -98,7 +98,7 @@ pub indexed_holds : (f : Tree → Bool) → ((b : Tree) (i : ℕ) → is_base (e
     → (p : Place) (b x : Tree) (i : ℕ) (is : List ℕ) → carries_trailer p (e.field (an_index i)) b ≡ true → x ≡ fields_of b (i ∷ is) → f x ≡ true
 indexed_holds f h p b x i is g q = subst (λ u. f u ≡ true) (sym q) (last_field f h b i is (based p (e.field (an_index i)) b (fits_index p i b g)))
 
--- ---- an operand on the right, or behind a prefix
+-- ---- an operand on the right, or after a prefix
 
 above : (left : Tree) (k : Infix) (p : Place) {l n : List Tok} {x : Tree} → Node (at p (level k)) l x n → binds_right (infixed left k x) ≡ true
 above left k p (is_leaf g s) = refl

@@ -64,7 +64,7 @@ no_pound v c (postfixed x k) h a o = absurd cc
 no_pound v c (tail b k ks) h a o = let p = base_plain k b h.0 in no_pound v (base_context k c) b h.1 p.0 p.1
 no_pound v c _ h a o = refl
 
--- ---- what is behind the operand of a prefix
+-- ---- what is after the operand of a prefix
 
 seen_jump : (n : Next) → seen n ≡ seen (without_block n)
 seen_jump next.End = refl
@@ -116,7 +116,7 @@ struct_rests q w d ks f =
     let y = both_true (not (is_try_alone q w)) _ x.1 in
     rw (dots_end d) y.1
 
--- ---- blocks, which stand before any tokens
+-- ---- blocks, which come before any tokens
 
 block_leaf : (p : Place) (k : Leaf) (r : List Tok) → is_block_leaf k ≡ true → (leaf_stops k r ≡ true) × (leaf_stands p k r ≡ true)
 unfolding leaf_stands
@@ -284,7 +284,7 @@ mutual
   bridge (frame e.match_expr ks) p c r f m s h g = frame_made p e.match_expr ks r f.0 refl (st.holds_bare (operands ks slot.scrutinees false r f.1 h.1 refl)) refl
   bridge (frame e.group_expr ks) p c r f m s h g = absurd (let q = f.0 in cc)
 
-  -- a block-like expression stands before any tokens but `else`
+  -- a block-like expression comes before any tokens but `else`
   pub block_bridge : (t : Tree) (p : Place) (c : Context) (r : List Tok) → is_block_like t ≡ true → Formed t → Obeys p.level c t → word_at (codes "else") r ≡ false → Node p (own t r) (clear t) r
   block_bridge (leaf k) p c r b f h w = let q = block_leaf p k r b in st.is_leaf (heads_back.leaves k r f q.0) q.1
   block_bridge (attributed a more t) p c r b f h w = attributed_made p a more t r f h.0 (block_pound t r b f.1) (block_bridge t p (attributed_context c) r b f.2 h.1 w)

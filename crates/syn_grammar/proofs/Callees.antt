@@ -1,5 +1,5 @@
 -- A named field is no callee: before a group in parentheses its name is that of a method. So a base that carries a trailer,
--- and stands before it, fits it.
+-- and comes before it, fits it.
 use Rattle.std.specs.Prelude.{not, ◌||◌, ◌&&◌}
 use Rattle.std.proofs.Common.{◌≡◌, ℕ, Bool, true, false, cond, List, [], ◌∷◌, drop, Option, Some, None, refl, ap, subst}
 use Rattle.syn_lexer.specs.Keywords.{is_reserved_word}
@@ -19,7 +19,7 @@ use Rattle.syn_grammar.specs.Front.{dot_at}
 use Rattle.syn_grammar.specs.Stands.{Node, Content, is_tail, is_indexed, holds_none, holds_within, is_base, fits_base, carries_trailer, carries, is_attributed, is_pounded, is_call, is_named_field, trailer_head, name_at, named_behind, with_steps, fields_of}
 use Rattle.syn_grammar.proofs.Chains.{some_is, both_true, neither}
 
--- ---- behind a name that is no method's
+-- ---- after a name that is no method's
 
 named_opens : (w : Text) (l n : List Tok) → dotted.behind (e.field (a_name w)) l ≡ Some n → (method_at l ≡ false) × (member.behind (a_name w) l ≡ Some n)
 unfolding dotted

@@ -85,7 +85,7 @@ inside_same e.scrutinee (e.opened ats) r s f = absurd cc
 inside_same k (e.opened ats) r s f = absurd cc
 inside_same k _ r s f = refl
 
--- ---- what may stand behind the operands
+-- ---- what may come after the operands
 
 abbrev pub rests_well : Slot → Bool → Children → List Tok → Bool
 rests_well s.elements last ks r = is_empty r
@@ -111,14 +111,14 @@ operands_end s.done last r f w = refl
 operands_end s.single last r f w = absurd cc
 operands_end _ last r f w = absurd cc
 
--- ---- one operand, by what is behind it
+-- ---- one operand, by what is after it
 
 record Behind (x : Slot) (last : Bool) (k : Piece) (c : Ending) (u : Tree) (ks : Children) (r : List Tok) : Type 0 where
   shows : Shows (piece_context k).next (ending_own k c (children_own ks r) r)
   stops : ending_stops k u c (children_own ks r) ≡ true
   rest : rests_well (after k) last ks r ≡ true
 
--- those that stand before a token of their class
+-- those that come before a token of their class
 abbrev pub is_regular : Piece → Bool
 is_regular e.element = true
 is_regular e.value = true
@@ -288,7 +288,7 @@ regular x last k c t ks r g f fs w d q =
 
 -- ---- the bodies of arms
 
--- what is behind a body that ends with a block
+-- what is after a body that ends with a block
 abbrev pub Blocked : Tree → Type 0
 Blocked t = (l : List Tok) → is_block_like t ≡ true → word_at (codes "else") l ≡ false → Node at_head (own t l) (clear t) l
 
@@ -321,7 +321,7 @@ unfolding sign_at
 empty_is [] h = refl
 empty_is (a ∷ r) h = absurd cc
 
--- a body that ends with a block stands before the next arm
+-- a body that ends with a block comes before the next arm
 block_placed : (t : Tree) (n : List Tok) → is_block_like t ≡ true → NoBody n → Blocked t
     → Node at_head (own t n) (clear t) n × ends_piece e.guarded (clear t) n ≡ true × (not (comma.at n) && (is_empty n || is_block_like (clear t)) ≡ true)
 block_placed t n b f g =
@@ -374,7 +374,7 @@ arm_made x last ats p c t ks r f fs w d g q =
     let z = body_slot_arm ats p x c t f.piece last (child (e.arm ats p) c t ks) r w in
     child_made x last (e.arm ats p) c t ks r r f refl refl (arm_placed x last ats p c t ks r f fs z d g) (q z)
 
--- ---- blocks behind `else` and behind outputs
+-- ---- blocks after `else` and after outputs
 
 verbatim_body : (b : Body) → is_nil b.inner ≡ true → b ≡ e.body_of [] b.tokens
 verbatim_body b h = go b.inner b.tokens h

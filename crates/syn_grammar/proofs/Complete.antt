@@ -1,4 +1,4 @@
--- Trailers, attributes and operations, one behind the other: what stands for the tokens is read.
+-- Trailers, attributes and operations, one after the other: what stands for the tokens is read.
 use Rattle.std.specs.Prelude.{not, ◌||◌, ◌&&◌}
 use Rattle.std.proofs.Common.{◌≡◌, ℕ, zero, suc, ◌<◌, ◌≤◌, Bool, true, false, List, [], ◌∷◌, ◌++◌, drop, codes, Option, Some, None, refl, ap, sym, ◌∙◌, subst, arith}
 use Rattle.syn_lexer.specs.declared.lexeme.Delimiter.TheVariants as del

@@ -1,4 +1,4 @@
--- No struct expression stands in a condition; and which expressions need a comma or a semicolon behind them.
+-- No struct expression is in a condition; and which expressions need a comma or a semicolon after them.
 use Rattle.std.specs.Prelude.{not, ◌||◌, ◌&&◌}
 use Rattle.std.proofs.Common.{◌≡◌, ℕ, Bool, true, false, List, [], ◌∷◌, Some, refl, ◌∙◌, ap, subst}
 use Rattle.syn_tokens.specs.Tok.{Tok}

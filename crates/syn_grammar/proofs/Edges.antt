@@ -59,7 +59,7 @@ not_cast (leaf k) h = refl
 not_cast (postfixed x k) h = absurd cc
 not_cast _ h = refl
 
--- a trailer behind it would belong to it, or is refused there
+-- a trailer after it would belong to it, or is refused there
 abbrev pub takes_trailers : Tree → Bool
 takes_trailers t = carries t || is_cast t
 
@@ -108,7 +108,7 @@ label_bare c (tail b k ks) h =
 label_bare c (frame k ks) h = h
 label_bare c _ h = refl
 
--- ---- nothing behind
+-- ---- nothing after
 
 pub prefix_next_is : (k : Prefix) (c : Context) → (prefix_context k c).next ≡ prefix_next k c.next
 prefix_next_is (e.unary op) c = refl

@@ -1,4 +1,4 @@
--- The fill-ins: what they leave as it is, and what is there behind them.
+-- The fill-ins: what they leave as it is, and what is there after them.
 use Rattle.std.specs.Prelude.{not, ◌&&◌}
 use Rattle.std.proofs.Common.{◌≡◌, Bool, true, false, refl, sym, ◌∙◌, ap}
 use Rattle.syn_parts.specs.Pat.{MemberTree, a_name}
@@ -63,7 +63,7 @@ rest_fill b none = refl
 rest_fill b (child (e.rest d) c t ks) = refl
 rest_fill b (child _ c t ks) = rest_fill b ks
 
--- ---- what is there behind them
+-- ---- what is there after them
 
 -- a needed comma is there
 abbrev pub comma_there : Piece → Ending → Tree → Bool → Bool → Bool

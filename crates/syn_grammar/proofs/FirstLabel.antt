@@ -117,7 +117,7 @@ frame_first (e.while_loop None) o r = refl
 frame_first (e.for_loop None p) o r = refl
 frame_first _ o r = refl
 
--- what stands behind a left end is no label, and a word only where it is `as`
+-- what comes after a left end is no label, and a word only where it is `as`
 record Behind (r : List Tok) (word : Bool) : Type 0 where
   no_label : lifetime_at r ≡ false
   word_there : is_word r ≡ word

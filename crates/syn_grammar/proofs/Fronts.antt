@@ -114,7 +114,7 @@ unfolding asked
 begun_bar spacing.Alone l = record { closed = record { at = refl; no_leaf = sign_no_leaf 124 spacing.Alone l refl; closures = λ f. refl }; no_brace = refl }
 begun_bar spacing.Joint l = record { closed = record { at = refl; no_leaf = sign_no_leaf 124 spacing.Joint l refl; closures = λ f. refl }; no_brace = refl }
 
--- behind `async`
+-- after `async`
 async_move : (l : List Tok) → bar.at l ≡ true → Begun (ident (codes "async") ∷ ident (codes "move") ∷ l)
 unfolding asked
 async_move l g =
@@ -148,7 +148,7 @@ closed_for : (l : List Tok) → lifetimes_at (ident (codes "for") ∷ l) ≡ tru
 unfolding closure_at leaf_at literal_at word_at loop_at block_at lifetime_at brace_at group_at const_block_at async_block_at try_block_at builtin_at sign_at is_truth prefix_form range_at jump_at
 closed_for l g = record { at = rw g refl; no_leaf = refl; closures = λ f. refl }
 
--- behind `async` or not, behind `static` or not, behind `const` or not
+-- after `async` or not, after `static` or not, after `const` or not
 begun_async : (l m : List Tok) (a : Bool) → async_word.at l ≡ a → m ≡ (if a then drop 1 l else l) → Captures m → Begun l
 begun_async l m true g d c = subst (λ z. Begun z) (sym (word_is _ l g)) (subst (λ z. Begun (ident (codes "async") ∷ z)) d (async_captures m c))
 begun_async l m false g d c = subst (λ z. Begun z) d (begun_captures m c)
@@ -211,7 +211,7 @@ closure_front f l n g =
     subst (λ y. Closed y) (sym (some_is b)) (closed_from_flags f z n j))
     (chosen (lifetimes_at l) _ _ (Some z) i)
 
--- ---- what stands before an operand
+-- ---- what comes before an operand
 
 sign_fronted : (c : ℕ) (l : List Tok) → (c == 39) ≡ false → sign_at (c ∷ []) l ≡ true → prefix_at l ≡ true → Fronted l
 sign_fronted c l g v w = record { prefixes = w; no_leaf = sign_first c [] (λ z. leaf_at z ≡ false) (λ s z. sign_no_leaf c s z g) l v }

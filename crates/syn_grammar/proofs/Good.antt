@@ -32,7 +32,7 @@ obeys_enclosed t g = g lev.Jump enclosed (low_some t) (bad_end t) (self_enclosed
 pub obeys_paren : (t : Tree) → Good t → Obeys lev.Jump enclosed (bare enclosed t) × Fits lev.Jump (bare enclosed t) next.End
 obeys_paren t g = (obeys_enclosed t g, record { no_operator = refl; no_trailer = refl })
 
--- the pair that is added round a node for what it is stands before what the node could stand before
+-- the pair that is added round a node for what it is comes before what the node could come before
 wrapped_fits : (v : Level) (t : Tree) (c : Context) (a m x : Bool) → Formed t → misplaced c t ≡ m → (a || m) || x ≡ true
     → ends_badly v t c.next (a || x) ≡ false → Fits v (paren true (bare enclosed t)) c.next
 wrapped_fits v t c true m x f q h e = let p = or_false _ _ e in record { no_operator = p.0; no_trailer = p.1 }

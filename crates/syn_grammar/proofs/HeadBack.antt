@@ -83,7 +83,7 @@ unfolding lifetime lifetime_at
 lifetime_or_none None r s = rw (not_true (lifetime_at r) s) refl
 lifetime_or_none (Some w) r s = rw (text_same w) refl
 
--- behind `break` alone a lifetime would be its label
+-- after `break` alone a lifetime would be its label
 abbrev pub jump_stops : Jump → List Tok → Bool
 jump_stops e.returning r = true
 jump_stops e.yielding r = true
@@ -102,7 +102,7 @@ range_back limits.Closed r = refl
 
 -- ---- closures
 
--- what is behind an argument: the comma, or the `|` that ends the arguments
+-- what is after an argument: the comma, or the `|` that ends the arguments
 record ArgEnds (l : List Tok) : Type 0 where
   ends : ends_patterns l ≡ true
   no_plus : plus.at l ≡ false
@@ -178,7 +178,7 @@ lifetimes_piece : (p : Option LifetimesTree) (a b c d u : Bool) (l : List Tok) �
 lifetimes_piece None a b c d u l f = rw (no_lifetimes a b c d u l) refl
 lifetimes_piece (Some p) a b c d u l f = rw (lifetimes_seen p (from_words a b c d u l) f) (lifetimes_back p (from_words a b c d u l) f)
 
--- behind all of it but its output
+-- after all of it but its output
 pub head_opens : (c : ClosureHead) (r : List Tok) → head_fits c ≡ true → h.closure_head.behind c (closure_own c r) ≡ (output type true).behind c.output (return_own c.output r)
 unfolding h.closure_head
 head_opens c r f =
@@ -204,9 +204,9 @@ head_back c r f w =
     let (u, v) = both_true (ends_well (is_nil c.inputs) c.trailing) (output_fits true c.output) m in
     head_opens c r f ∙ parts_read_back.outputs true c.output r v w
 
--- ---- what stands before an operand
+-- ---- what comes before an operand
 
--- behind `&` alone a `mut` would be its own, and so would `raw` before `mut` or `const`
+-- after `&` alone a `mut` would be its own, and so would `raw` before `mut` or `const`
 abbrev pub prefix_stops : Prefix → List Tok → Bool
 prefix_stops (e.reference false) r = not (mutable.at r) && not (h.raw_at r)
 prefix_stops (e.jump j) r = jump_stops j r

@@ -1,4 +1,4 @@
--- What is asked of the tokens behind a head leaves nothing out: where its own tokens are read back, it holds.
+-- What is asked of the tokens after a head leaves nothing out: where its own tokens are read back, it holds.
 use Rattle.std.proofs.Common.{◌≡◌, Bool, true, false, not, ◌||◌, ◌&&◌, cond, List, [], ◌∷◌, drop, Option, Some, None, refl, ap, sym, ◌∙◌, subst, codes}
 use Rattle.std.proofs.lemmas.Slice.Eq.{bytes_eq-Decides}
 use Rattle.std.specs.Str.{bytes_eq}
@@ -48,7 +48,7 @@ label_complete None r g = by_lifetime (lifetime_at r) g
     by_lifetime true g = absurd cc
     by_lifetime false g = refl
 
--- a value behind a jump's word
+-- a value after a jump's word
 after_word : (r : List Tok) → cond {A = Option (List Tok)} (lifetime_at r) None (Some r) ≡ Some r → not (lifetime_at r) ≡ true
 after_word r g = by_lifetime (lifetime_at r) g
   where
@@ -61,7 +61,7 @@ unfolding h.jump_head word_at
 jump_complete (e.breaking None) r g = after_word r g
 jump_complete _ r g = refl
 
--- ---- what stands before an operand
+-- ---- what comes before an operand
 
 reference_complete : (r : List Tok) → h.prefix_form.behind (e.reference false) (prefix_own (e.reference false) r) ≡ Some r → (not (mutable.at r) && not (h.raw_at r)) ≡ true
 unfolding h.prefix_form sign_at
@@ -232,7 +232,7 @@ ending_complete (e.arm ats p) e.no_ending x l r g = arm_complete x l g
 ending_complete (e.rest d) e.no_ending x l r g = rest_complete l g
 ending_complete _ c x l r g = refl
 
--- ---- trailers, frames, behind a left operand
+-- ---- trailers, frames, after a left operand
 
 field_opens_by : (w : Text) (r : List Tok) → is_reserved_word w ≡ false
     → dotted.behind (e.field (a_name w)) (ident w ∷ r) ≡ cond (round_at r || colon2.at r) None (member.behind (a_name w) (ident w ∷ r))

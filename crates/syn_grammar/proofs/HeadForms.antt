@@ -1,4 +1,4 @@
--- The heads of expressions are read exactly where their tokens stand.
+-- The heads of expressions are read exactly where their tokens are.
 use Rattle.std.proofs.Common.{◌≡◌, ℕ, ◌≤◌, Bool, true, false, not, ◌&&◌, ◌==◌, List, [], ◌∷◌, Some, None, refl, ap, sym, arith, codes}
 use Rattle.std.specs.Str.{bytes_eq}
 use Rattle.syn_lexer.specs.Keywords.{is_reserved_word}
@@ -259,7 +259,7 @@ named_back (e.path q p) x g = ap h.to_named (sym (some_is g))
 named_back (e.mac m) x g = ap h.to_named (sym (some_is g))
 named_back _ x g = absurd cc
 
--- no macro stands behind a qualified path
+-- no macro comes after a qualified path
 macro_there : (q : QSelfTree) (p : PathTree) (g : Delimiter × List Tok) (m n : List Tok) → (macro_end (q, p)).behind (Some g) m ≡ Some n
     → h.from_named (h.to_named ((q, p), Some g)) ≡ Some ((q, p), Some g)
 unfolding macro_end
@@ -276,7 +276,7 @@ named_alike = shown_where_alike there named_back (then_by_alike (expr_path_alike
         let (m, i, j) = behind_some ((expr_path false).behind (q, p) l) ((macro_end (q, p)).behind (Some d)) n g in
         macro_there q p d m n j
 
--- ---- leaves, what stands before an operand, and behind a dot
+-- ---- leaves, what comes before an operand, and after a dot
 
 pub leaf_form_alike : {k : ℕ} → Alike k h.leaf_form h.leaf_form
 unfolding h.leaf_form
@@ -305,7 +305,7 @@ dotted_alike = search (member_alike, arguments_whole, forms, head_marks, head_vi
 pub for_head_alike : {k : ℕ} → Alike k s.for_head s.for_head
 for_head_alike = search (pattern_alike, forms, head_marks) depth 12
 
--- ---- what stands before an operand in a place of its own
+-- ---- what comes before an operand in a place of its own
 
 pub field_colon_alike : {k : ℕ} (m : MemberTree) → Alike k (s.field_colon m) (s.field_colon m)
 field_colon_alike (a_name w) = flag_at_alike colon_present

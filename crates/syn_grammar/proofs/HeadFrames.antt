@@ -1,4 +1,4 @@
--- The tokens of frames and those behind a left operand are read back from their own tokens.
+-- The tokens of frames and those after a left operand are read back from their own tokens.
 use Rattle.std.proofs.Common.{◌≡◌, ℕ, Bool, true, false, List, [], ◌∷◌, ◌++◌, drop, length, Option, Some, None, refl, sym, codes}
 use Rattle.syn_lexer.specs.Keywords.{is_reserved_word}
 use Rattle.syn_lexer.specs.declared.lexeme.Delimiter.TheVariants as del
@@ -37,12 +37,12 @@ use Rattle.syn_grammar.proofs.HeadBack.{label_stops, label_back, head_back}
 
 -- ---- frames
 
--- behind a closure's output nothing goes on with its type
+-- after a closure's output nothing goes on with its type
 abbrev pub frame_stops : Frame → List Tok → Bool
 frame_stops (e.closure_block c) operands = output_stops true c.output operands
 frame_stops k operands = true
 
--- behind the tokens of a frame: its group, or its operands
+-- after the tokens of a frame: its group, or its operands
 abbrev pub frame_rest : Option Enclosure → List Tok → List Tok → List Tok
 frame_rest None operands r = operands
 frame_rest (Some i) operands r = enclosed i.delimiter operands r
@@ -99,9 +99,9 @@ frame_back e.match_expr ks o r f g = let (i, j) = word_back o in j
 frame_back e.group_expr ks o r f g = absurd cc
 frame_back _ ks o r f g = refl
 
--- ---- behind a left operand
+-- ---- after a left operand
 
--- behind an operator's own tokens
+-- after an operator's own tokens
 abbrev pub postfix_rest : Postfix → List Tok → List Tok
 postfix_rest (e.cast x) r = type_own x r
 postfix_rest (e.range_from op) r = r

@@ -1,4 +1,4 @@
--- What is left behind trailers, the tokens of frames and the ends of operands is a tail of the list, and weighs less where
+-- What is left after trailers, the tokens of frames and the ends of operands is a tail of the list, and weighs less where
 -- a token was taken.
 use Rattle.std.proofs.Common.{◌≡◌, ℕ, ◌≤◌, ◌<◌, Bool, true, false, ◌||◌, cond, List, [], ◌∷◌, ◌++◌, take, drop, length, ◌-◌, length-append, Option, Some, None, refl, ap, sym, subst, arith}
 use Rattle.std.proofs.lemmas.List.{take-append-drop}
@@ -54,7 +54,7 @@ then_less g h = record { tail = tail_then g h.tail; less = omega (arith, h.less,
 pub marked : {m : Mark} → Present m → (l : List Tok) → m.at l ≡ true → IsLess (drop m.count l) l
 marked {m} p l h = record { tail = dropped m.count l; less = p.present l h }
 
--- behind a group, and in it
+-- after a group, and in it
 pub grouped : (d : Delimiter) (l i n : List Tok) → group_at d l ≡ Some (i, n) → IsLess n l
 unfolding group_at
 grouped d l i n h = record { tail = behind d l i n h; less = omega (arith, taken d l i n h) }
@@ -73,7 +73,7 @@ grouped d l i n h = record { tail = behind d l i n h; less = omega (arith, taken
 pub group_inside : (d : Delimiter) (l i n : List Tok) → group_at d l ≡ Some (i, n) → weight i < weight l
 group_inside d l i n h = omega (arith, taken d l i n h)
 
--- of a form that reads what stands
+-- of a form that reads what is
 pub left : {A : Type 0} {k : ℕ} {f : Form A} → IsReadable k f → (x : A) (l n : List Tok) → f.behind x l ≡ Some n → IsTail n l
 left r x l n h = r.tail l n x (r.found l n x h)
 
@@ -173,7 +173,7 @@ if_less {m} p l n h = by_bool (m.at l) refl h
     by_bool true e h = subst (λ z. IsLess z l) (some_is h) (marked p l e)
     by_bool false e h = absurd cc
 
--- the frames in a delimiter whose tokens stand in it alone
+-- the frames in a delimiter whose tokens are in it alone
 abbrev pub is_enclosed : Frame → Bool
 is_enclosed e.array = true
 is_enclosed e.tuple = true
@@ -203,7 +203,7 @@ frame_left (e.for_loop w p) l n h = let a = frame_less (e.for_loop w p) l n refl
 frame_left e.match_expr l n h = let a = frame_less e.match_expr l n refl h in a.tail
 frame_left _ l n h = subst (λ z. IsTail z l) (some_is h) (nothing_taken l)
 
--- ---- behind an operand
+-- ---- after an operand
 
 pub postfix_left : (k : Postfix) (l n : List Tok) → postfix_behind k l ≡ Some n → IsTail n l
 postfix_left (e.cast x) l n h = left (here.types false) x l n h
@@ -250,7 +250,7 @@ ending_left (e.rest d) x l c n h = by_bool (is_empty l) h
     by_bool false h = absurd cc
 ending_left _ x l c n h = same_left e.no_ending c l l n (nothing_taken l) h
 
--- A token is taken behind these, and by a comma.
+-- A token is taken after these, and by a comma.
 abbrev pub takes_end : Piece → Ending → Bool
 takes_end e.repeated c = true
 takes_end k e.no_ending = false

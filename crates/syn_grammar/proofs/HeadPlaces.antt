@@ -1,4 +1,4 @@
--- What stands before and behind the operands, trailers, and the tokens of frames are read back from their own tokens.
+-- What comes before and after the operands, trailers, and the tokens of frames are read back from their own tokens.
 use Rattle.std.proofs.Common.{◌≡◌, Bool, true, false, not, ◌||◌, ◌&&◌, List, [], ◌∷◌, Some, refl, ◌∙◌, codes}
 use Rattle.syn_lexer.specs.Keywords.{is_reserved_word}
 use Rattle.syn_lexer.specs.declared.lexeme.Delimiter.{Delimiter}
@@ -59,7 +59,7 @@ abbrev pub piece_stops : Piece → List Tok → Bool
 piece_stops (e.field_value ats m false) r = not (colon.at r)
 piece_stops _ r = true
 
--- `..` is written before what is behind the fields
+-- `..` is written before what is after the fields
 abbrev pub is_written : Piece → Bool
 is_written (e.rest d) = d
 is_written _ = true
@@ -82,7 +82,7 @@ colon_back (a_name w) false x r f g = rw (not_true (sign_at (codes ":") r) g) re
 colon_back (an_index n) true x r f g = refl
 colon_back (an_index n) false x r f g = absurd cc
 
--- behind all of it but its colon
+-- after all of it but its colon
 pub field_opens : (ats : List AttributeTree) (m : MemberTree) (b : Bool) (r : List Tok) → attributes_outer ats ≡ true → member_fits m ≡ true
     → (piece_form s.fields).behind (e.field_value ats m b) (piece_own (e.field_value ats m b) r) ≡ (s.field_colon m).behind b (before_if b (λ l. alone 58 ∷ l) r)
 unfolding piece_form
@@ -127,9 +127,9 @@ piece_back s.bodies e.guarded c x r f w g = guarded_back r
 piece_back s.outputs e.output_block c x r f w g = refl
 piece_back _ k c x r f w g = absurd cc
 
--- ---- behind an operand
+-- ---- after an operand
 
--- Nothing is behind a last element without a comma, nor behind a rest; behind an arm's body no comma, and nothing or what ends with a block
+-- Nothing is after a last element without a comma, nor after a rest; after an arm's body no comma, and nothing or what ends with a block
 -- before it.
 abbrev pub ending_stops : Piece → Tree → Ending → List Tok → Bool
 ending_stops e.element x e.no_ending l = is_empty l

@@ -1,4 +1,4 @@
--- What is left behind patterns and behind the heads of expressions is a tail of the list.
+-- What is left after patterns and after the heads of expressions is a tail of the list.
 use Rattle.std.proofs.Common.{◌≡◌, Bool, true, false, not, ◌&&◌, ◌==◌, ℕ, List, [], ◌∷◌, Option, Some, None, ap, subst, codes}
 use Rattle.std.specs.Str.{bytes_eq}
 use Rattle.syn_lexer.specs.Keywords.{is_reserved_word}
@@ -151,7 +151,7 @@ pub body_leaves : Leaves h.body
 unfolding h.body
 body_leaves = search leaving depth 12
 
--- ---- leaves, what stands before an operand, and behind a dot
+-- ---- leaves, what comes before an operand, and after a dot
 
 found_builtin : Found h.find_builtin
 found_builtin = record { leaves = leaves }
@@ -208,7 +208,7 @@ dotted_leaves = search (member_leaves, arguments_leaves, case_leaves, leaving) d
 pub for_head_leaves : Leaves s.for_head
 for_head_leaves = search (pattern_leaves, leaving) depth 12
 
--- ---- what stands before an operand in a place of its own
+-- ---- what comes before an operand in a place of its own
 
 field_colon_leaves : (m : MemberTree) → Leaves (s.field_colon m)
 field_colon_leaves (a_name w) = flag_leaves colon

@@ -25,7 +25,7 @@ use Rattle.syn_grammar.proofs.Obeys.{Fits, FitsLeft, begins_label, Obeys, ObeysC
 use Rattle.syn_grammar.proofs.Edges.{prefix_next_is, not_cast}
 use Rattle.syn_grammar.proofs.Parenthesized.{compares_stays, label_stays, base_stays, same_infix, same_tail, same_child}
 
--- ---- trees that have no marks, and whose blocks stand where they must be bare
+-- ---- trees that have no marks, and whose blocks are where they must be bare
 
 abbrev pub block_there : Piece → Tree → Bool
 block_there e.chained t = is_if_expr t || is_verbatim_block t
@@ -64,7 +64,7 @@ prefix_small _ = refl
 
 -- ---- what obeys is of the kind that is printed
 
--- by whether a pair stands behind the attributes
+-- by whether a pair comes after the attributes
 abbrev ObeysBehind : Level → Context → Tree → Bool → Type 0
 ObeysBehind v c t b =
     let u = put b (parenthesize_attributed t) (parenthesize_attributed t) in
@@ -237,7 +237,7 @@ kept_attributes v c a more t s false o f h =
       same = rw o (ap (attributed a more) k.same);
     }
 
--- what is known of an operand behind attributes, in the pair or without one
+-- what is known of an operand after attributes, in the pair or without one
 inside_pair : (v : Level) (c : Context) (t : Tree) (b : Bool) → ObeysBehind v c t b → b ≡ true → Obeys lev.Jump enclosed (parenthesize_attributed t)
 inside_pair v c t true i h = i.1.0
 inside_pair v c t false i h = absurd cc

@@ -25,7 +25,7 @@ use Rattle.syn_grammar.specs.Tree.{Tree, Children, Jump, Leaf, Prefix, Postfix, 
 use Rattle.syn_grammar.specs.Query.{last_braces, is_braces, blocked, children_blocked, return_brace, leaf_brace, prefix_brace, postfix_brace, piece_brace, operand_brace, frame_brace, frame_head_brace, tree_brace, children_brace}
 use Rattle.syn_grammar.proofs.LastTypes.{Fixed, over, through, if_there, if_some, one, first, colons, for_lifetimes, elements, type_last, return_last}
 
--- ---- what stands before others: attributes, literals, paths and patterns
+-- ---- what comes before others: attributes, literals, paths and patterns
 
 attributes : (ats : List AttributeTree) (l : List Tok) (b : Bool) → Fixed l b → Fixed (attributes_own ats l) b
 unfolding attribute_own
@@ -91,7 +91,7 @@ mutual
   or_patterns p.no_pats c l b f = f
   or_patterns (p.more_pats x ps) c l b f = patterns x _ b (if_there (not (no_more_pats ps) || c) vert_before (one (alone 124)) _ b (or_patterns ps c l b f))
 
--- ---- the tree as it is: what stands behind `else` ends with what it ends with
+-- ---- the tree as it is: what comes after `else` ends with what it ends with
 
 abbrev pub child_spelled : Bool → Piece → Bool → Bool
 child_spelled before e.chained bare = bare
@@ -211,7 +211,7 @@ label_last : (before : Bool) (w : Option Text) (l : List Tok) (b : Bool) → Fix
 label_last before None l b f = f.behind before
 label_last before (Some w) l b f = f.behind false
 
--- behind attributes, the last of which ends with brackets
+-- after attributes, the last of which ends with brackets
 attributed_last : (before : Bool) (a : AttributeTree) (more : List AttributeTree) (l : List Tok) → last_braces before (attributes_own (a ∷ more) l) ≡ last_braces false l
 unfolding attribute_own
 attributed_last before a [] l = (if_there a.inner (λ m. alone 33 ∷ m) (one (alone 33)) _ _ (first (group del.Bracket (inside a.tokens)) l _ refl)).behind false

@@ -1,4 +1,4 @@
--- A well-formed tree ends with braces exactly where its own tokens do: behind `else` stands an `if` or a block.
+-- A well-formed tree ends with braces exactly where its own tokens do: after `else` stands an `if` or a block.
 use Rattle.std.proofs.Common.{◌≡◌, ◌||◌, ◌&&◌, Bool, true, false, not, [], ◌∷◌, None, refl, sym, ap, subst, ◌∙◌}
 use Rattle.syn_parts.specs.PatFits.{attributes_outer}
 use Rattle.syn_grammar.specs.Tree as e
@@ -20,7 +20,7 @@ wrong_ending : (a b : Bool) → (a && false) && b ≡ true → ⊥
 wrong_ending true b h = cc
 wrong_ending false b h = cc
 
--- behind the block of an `if`
+-- after the block of an `if`
 chain_ends : (ks : Children) → children_well s.otherwise ks ≡ true → children_brace true ks ≡ true
 chain_ends none h = refl
 chain_ends (child e.chained e.no_ending x ks) h = stops ks (both_true _ _ (both_true _ _ h).1).1

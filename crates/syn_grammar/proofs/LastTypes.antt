@@ -11,14 +11,14 @@ use Rattle.syn_parts.specs.Own.{alone, joint, before_if, before_some, comma_befo
 use Rattle.syn_parts.proofs.Appends.{type_append, segments_append, generics_append, bound_append, lifetimes_own-append, extern_append}
 use Rattle.syn_grammar.specs.Query.{last_braces, is_braces, is_unqualified, is_all_inside, type_brace, segments_brace, arguments_brace, return_brace, bounds_brace, bound_brace}
 
--- Whatever stands before, the last token answers b.
+-- Whatever comes before, the last token answers b.
 pub record Fixed (l : List Tok) (b : Bool) : Type 0 where
   pub behind : (before : Bool) → last_braces before l ≡ b
 
 pub one : (u : Tok) (l : List Tok) (b : Bool) → Fixed l b → Fixed (u ∷ l) b
 one u l b f = record { behind = λ d. f.behind (is_braces u) }
 
--- from what stands behind a first token
+-- from what comes after a first token
 pub first : (u : Tok) (l : List Tok) (b : Bool) → last_braces (is_braces u) l ≡ b → Fixed (u ∷ l) b
 first u l b h = record { behind = λ d. h }
 

@@ -39,7 +39,7 @@ not_other_words : NoSegment (codes "let") × NoSegment (codes "move") × NoSegme
 unfolding is_segment stands_alone is_reserved_word
 not_other_words = (refl, refl, refl, refl, refl, refl, refl, refl)
 
--- a path stands first, and nothing else
+-- a path comes first, and nothing else
 pub record Named (l : List Tok) : Type 0 where
   pub no_prefix : prefix_at l ≡ false
   pub no_round : round_at l ≡ false
@@ -194,7 +194,7 @@ for_front : (l : List Tok) → lifetimes_at (ident (codes "for") ∷ l) ≡ fals
 unfolding prefix_at range_at jump_at closure_at sign_at word_at loop_head_at lifetime_at round_at bracket_at group_at leaf_at literal_at is_truth loop_at block_at const_block_at async_block_at try_block_at builtin_at brace_at
 for_front l g = record { no_leaf = refl; no_prefix = rw g refl; no_round = refl; no_bracket = refl; no_become = refl; no_if = refl; loops = rw g refl }
 
--- a loop's word behind a label or none
+-- a loop's word after a label or none
 labelled_front : (l m : List Tok) → past_label l ≡ m → loop_word.at m ≡ false → brace_at m ≡ false → (lifetime_at l ≡ false → LoopFront l) → LoopFront l
 unfolding prefix_at range_at jump_at closure_at sign_at word_at lifetimes_at loop_head_at lifetime_at round_at bracket_at group_at leaf_at literal_at is_truth loop_at block_at const_block_at async_block_at try_block_at builtin_at
 labelled_front (punct c spacing.Joint ∷ ident s ∷ l) m g a b f =

@@ -26,7 +26,7 @@ use Rattle.syn_grammar.proofs.Kept as kept
 use Rattle.syn_grammar.proofs.Kept.{not_asked, left_bare, level_small, prefix_small}
 use Rattle.syn_grammar.proofs.Tight.{tight, no_bare_label}
 
--- what belongs behind `else` and a closure's output, and what is not spelled
+-- what belongs after `else` and a closure's output, and what is not spelled
 abbrev pub child_there : Piece → Tree → Bool
 child_there e.chained t = is_if_expr t || is_verbatim_block t
 child_there e.output_block t = is_verbatim_block t

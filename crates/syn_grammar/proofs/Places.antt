@@ -1,4 +1,4 @@
--- Places and contexts; what a place asks of its occupant, from the class of what is behind.
+-- Places and contexts; what a place asks of its occupant, from the class of what is after.
 use Rattle.std.proofs.Common.{◌≡◌, ℕ, Bool, true, false, not, ◌&&◌, ◌||◌, List, drop, Some, None, refl, sym, ◌∙◌, ap, subst}
 use Rattle.std.proofs.Math.Bool.{and-false}
 use Rattle.syn_tokens.specs.Tok.{Tok}
@@ -86,7 +86,7 @@ heads x = true
 pub record Meets (p : Place) (c : Context) : Type 0 where
   pub mode : p.condition ≡ c.condition
   pub head : p.head ≡ heads c.edge
-  -- a brace that opens a block is behind a condition
+  -- a brace that opens a block is after a condition
   pub block : is_block_next c.next && not c.condition ≡ false
 
 pub meets_plain : Meets plain enclosed
@@ -216,7 +216,7 @@ below_frame c (e.for_loop w p) b h = absurd (let f : true ≡ false = sym (rw b 
 below_frame c e.match_expr b h = absurd (let f : true ≡ false = sym (rw b refl) ∙ h in cc)
 below_frame c _ b h = refl
 
--- on the left at a head no block-like expression stands
+-- on the left at a head no block-like expression is
 no_block : (v : Level) (c : Context) (t : Tree) → is_below c.edge ≡ true → Obeys v c t → is_block_like t ≡ false
 no_block v c (leaf k) b h = below_leaf c k b (or_false _ _ h).1
 no_block v c (paren m t) b h = refl
@@ -236,7 +236,7 @@ goes_free p v c d t m s f h = go c.edge refl
     go edge.NoBrace i = rw (m.head, i) refl
     go _ i = below (rw (s, i) refl)
 
--- ---- what may stand behind
+-- ---- what may come after
 
 no_trailer_behind : (r b q d : Bool) → r || (b || (q || d)) ≡ false → d || q ≡ false
 no_trailer_behind r b q d h =
@@ -371,7 +371,7 @@ end_fits t = record { no_operator = refl; no_trailer = refl }
 pub block_fits : (t : Tree) → Fits lev.Jump t next.Block
 block_fits t = record { no_operator = refl; no_trailer = refl }
 
--- a block-like whole at a head stands before all but `.` and `?`
+-- a block-like whole at a head comes before all but `.` and `?`
 pub rests_ends : (x : Tree) (l : List Tok) → is_block_like x ≡ true → ends at_head x l ≡ true
 unfolding ends
 rests_ends x l h = rw (block_held x h) (or_true (is_range x))

@@ -25,7 +25,7 @@ abbrev is_marked : Tree → Bool
 is_marked (paren m t) = m
 is_marked _ = false
 
--- no pair that was added stands behind attributes
+-- no pair that was added comes after attributes
 abbrev mutual
   kept_apart : Tree → Bool
   kept_apart (leaf k) = true
@@ -101,7 +101,7 @@ mutual
         | inr z ↦ subst (λ y. children_plainly y ≡ true) (sym z.2) (both _ _ i (less_children ks z.0 z.1 j n))
       ]
 
--- ---- what is printed has no added pair behind attributes
+-- ---- what is printed has no added pair after attributes
 
 record Good (u : Tree) : Type 0 where
   plain : plainly_attributed u ≡ true

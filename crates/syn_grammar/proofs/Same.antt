@@ -17,7 +17,7 @@ use Rattle.syn_grammar.specs.Same.{PrintedIsSame}
 use Rattle.syn_grammar.proofs.Flat.{left_of, right_of}
 use Rattle.syn_grammar.proofs.FillIns.{well_fill}
 
--- behind `else` stands an `if` or a block, and behind a closure's output a block
+-- after `else` stands an `if` or a block, and after a closure's output a block
 abbrev pub put_fits : Piece → Tree → Bool
 put_fits e.chained t = is_if_expr t || is_verbatim_block t
 put_fits e.output_block t = is_verbatim_block t

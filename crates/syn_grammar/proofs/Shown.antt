@@ -147,7 +147,7 @@ prefix_level_is : (p : Place) (k : Prefix) → (prefix_place p k).level ≡ pref
 prefix_level_is p (e.unary op) = refl
 prefix_level_is p _ = refl
 
--- A type that would take arguments at `<` has none behind it.
+-- A type that would take arguments at `<` has none after it.
 abbrev pub TypesClose : Type 0
 TypesClose = (x : TypeTree) (l n : List Tok) → (type false).behind x l ≡ Some n → lt.at n ≡ true → ends_open x ≡ false
 
@@ -199,7 +199,7 @@ piece_possible _ = refl
 prefix_possible : (p : Place) (k : Prefix) → is_possible (prefix_place p k) ≡ true
 prefix_possible p k = ap (λ b. not (b && (prefix_place p k).condition)) (prefix_head p k)
 
--- An operation behind attributes is a range without a start.
+-- An operation after attributes is a range without a start.
 operation_range : (x : Tree) → is_operation x ≡ true → is_infix x ≡ false → is_range x ≡ true
 operation_range (leaf k) o i = o
 operation_range (prefixed k gs t) o i = o
@@ -211,7 +211,7 @@ any_level (paren m t) v w c o i h = h
 any_level (prefixed k gs t) v w c o i h = h
 any_level _ v w c o i h = absurd cc
 
--- what may stand behind attributes there
+-- what may come after attributes there
 record Behind (p : Place) (x : Tree) : Type 0 where
   no_infix : is_infix x ≡ false
   at_head : is_range x ≡ true → p.head ≡ true

@@ -1,4 +1,4 @@
--- Of what class a list is: what must stand in front where a class of tokens matters, however the puncts are joined.
+-- Of what class a list is: what must are in front where a class of tokens matters, however the puncts are joined.
 use Rattle.std.proofs.Common.{◌≡◌, ℕ, Bool, true, false, not, ◌&&◌, ◌||◌, ◌==◌, ◌⊎◌, inl, inr, List, [], ◌∷◌, Option, Some, None, refl, sym, ◌∙◌, ap, subst, codes, arith}
 use Rattle.std.specs.Prelude.{if◌then◌else◌}
 use Rattle.std.proofs.lemmas.Bool.Decides.{nat_tests}
@@ -331,7 +331,7 @@ op_front l k c h v t = rw h (rw (level_class k) at t)
 no_trailer : (k : Infix) (P : Type 0) → trails (class_of k) ≡ true → P
 no_trailer k P h = absurd (let r : true ≡ false = sym h ∙ quiet_class k in cc)
 
--- a list that an operator stands in front of is of the operator's class
+-- a list that an operator comes before is of the operator's class
 pub front_operator : (l : List Tok) (k : Infix) (c : ℕ) → infix_at l ≡ Some (k, c) → Front (class_of k) l
 front_operator l (inf.Binary bin.Sub) c h = let z = found_at (inf.Binary bin.Sub) c l refl h in let s = starts_sub l c z in record { op = op_front l (inf.Binary bin.Sub) c h; trailer = λ t. absurd cc; begin = λ t. s.begin; stops = λ t. s.stops; brace = λ t. s.brace; less = λ t. absurd cc }
 front_operator l (inf.Binary bin.Mul) c h = let z = found_at (inf.Binary bin.Mul) c l refl h in let s = starts_mul l c z in record { op = op_front l (inf.Binary bin.Mul) c h; trailer = λ t. absurd cc; begin = λ t. s.begin; stops = λ t. s.stops; brace = λ t. s.brace; less = λ t. absurd cc }
@@ -399,6 +399,6 @@ pub front_question : (l : List Tok) → question_at l ≡ true → Front next.Qu
 unfolding trailer_at
 front_question l h = record { op = λ v t. absurd cc; trailer = λ t. third_true (round_at l) (bracket_at l) (question_at l) (dot_at l) h; begin = λ t. absurd cc; stops = λ t. absurd cc; brace = λ t. absurd cc; less = λ t. absurd cc }
 
--- behind the value of a jump
+-- after the value of a jump
 pub front_jump : (n : Next) (l : List Tok) → Front next.Block l → Front next.Brace l
 front_jump n l f = record { op = λ v t. absurd cc; trailer = λ t. absurd cc; begin = λ t. f.begin refl; stops = λ t. f.stops refl; brace = λ t. f.brace refl; less = λ t. absurd cc }

@@ -1,4 +1,4 @@
--- What stands obeys: the tests of a node, by the class of what stands behind it.
+-- What stands obeys: the tests of a node, by the class of what comes after it.
 use Rattle.std.proofs.Common.{◌≡◌, Bool, true, false, not, ◌&&◌, ◌||◌, List, [], ◌∷◌, Option, Some, None, refl, sym, ◌∙◌, ap, codes}
 use Rattle.std.proofs.Math.Bool.{and-false}
 use Rattle.syn_tokens.specs.Tok.{Tok, ident, punct, literal, group}
@@ -247,7 +247,7 @@ open_end b n h k = open_rest (is_empty n) _ (dot_at n) (word_at (codes "as") n) 
 no_block : (b x : Bool) → x ≡ false → b && x ≡ true → ⊥
 no_block b x h k = clash (b && x) k (ap (λ z. b && z) h ∙ and-false b)
 
--- a brace behind, where none is in this class
+-- a brace after, where none is in this class
 pub range_ends : (x : Next) (b : Bool) (n : List Tok) → Front x n → is_brace_next x && b ≡ false → ends_open_range b n ≡ true → not (ends_range_next x) ≡ false
 range_ends next.Range b n f q h = absurd (no_block b _ (f.brace refl) (open_end b n h (f.stops refl)))
 range_ends next.OrOr b n f q h = absurd (no_block b _ (f.brace refl) (open_end b n h (f.stops refl)))

@@ -83,7 +83,7 @@ fn_end b f u a xs e o l n h =
 
 -- ---- lists with a mark between
 
--- an element that is open stands before no `<`
+-- an element that is open comes before no `<`
 record Shuts {A : Type 0} (f : Form A) (goes : A → Bool) (x : A) : Type 0 where
   shuts : (l n : List Tok) → f.behind x l ≡ Some n → lt.at n ≡ true → goes x ≡ false
 
@@ -311,6 +311,6 @@ mutual
   bound_shut (t.outlives w) l n h i = refl
   bound_shut (t.a_trait q f d ss e) l n h i = let (k, j) = trait_path q f d ss e l n h in sym (segments_last ss) ∙ path_shut d e (t.segments ss) (all_segments ss) k n j i
 
--- a type that could go on with a `<` stands before none
+-- a type that could go on with a `<` comes before none
 pub open_types : TypesClose
 open_types x l n h i = type_shut false x l n h i

@@ -60,7 +60,7 @@ attributed_closes : (p : Place) (a : AttributeTree) (more : List AttributeTree) 
 unfolding closes
 attributed_closes p a more x n h = less_closes (carries x) (is_cast x) (goes_behind (rests p x) n) h
 
--- a left operand: nothing is asked of it but what stands behind
+-- a left operand: nothing is asked of it but what comes after
 record Open (p : Place) (l : List Tok) (q : Tree × List Tok) : Type 0 where
   node : Node p l q.0 q.1
   closing : closes p q.0 q.1 ≡ true

@@ -1,4 +1,4 @@
--- The tests of a node hold for its own tokens, from the class of what is behind.
+-- The tests of a node hold for its own tokens, from the class of what is after.
 use Rattle.std.proofs.Common.{◌≡◌, Bool, true, false, not, ◌&&◌, ◌||◌, List, [], ◌∷◌, drop, Some, None, refl, sym, ◌∙◌, ap, codes}
 use Rattle.std.proofs.Math.Bool.{and-false}
 use Rattle.syn_tokens.specs.Tok.{Tok}
@@ -37,9 +37,9 @@ use Rattle.syn_grammar.proofs.Shows.{Shows, is_round_next}
 use Rattle.syn_grammar.proofs.OwnFronts.{Front, begins_brace}
 use Rattle.syn_grammar.proofs.Places.{Meets, Calls, count_of}
 
--- ---- a brace behind
+-- ---- a brace after
 
--- behind what stands in a condition a brace opens a block
+-- after what is in a condition a brace opens a block
 block_mode : (p : Place) (c : Context) → Meets p c → is_block_next c.next ≡ true → p.condition ≡ true
 block_mode p c m b = m.mode ∙ go (is_block_next c.next) c.condition b m.block
   where
@@ -82,7 +82,7 @@ ends_block w l h = last_true (is_empty l) (stop_signs l) (dot_at l) (word_at (co
 not_last : (a b c d w : Bool) → a || (b || (c || (d || false))) ≡ false → w ≡ false → a || (b || (c || (d || w))) ≡ false
 not_last a b c d w h e = rw e h
 
--- no end of a range stands where an expression begins, but for a brace in a condition
+-- no end of a range is where an expression begins, but for a brace in a condition
 ends_not : (w : Bool) (l : List Tok) → ends_open_range false l ≡ false → w && brace_at l ≡ false → ends_open_range w l ≡ false
 unfolding ends_open_range stop_signs
 ends_not w l h b = not_last (is_empty l) (stop_signs l) (dot_at l) (word_at (codes "as") l) (w && brace_at l) h b
@@ -207,7 +207,7 @@ prefix_stopped (e.jump (e.breaking None)) l a b d f r h = rw (r.label, h) refl
 prefix_stopped (e.closure x) l a b d f r h = output_stopped x.output l (both_true _ (is_default x.output) f).1 r.no_arrow
 prefix_stopped _ l a b d f r h = refl
 
--- ---- behind an operand
+-- ---- after an operand
 
 pub infix_there : (p : Place) (c : Context) (k : Infix) (t : Tree) (l : List Tok) (b d : Bool) → infix_fits k ≡ true → Meets p c
     → Obeys (level k) (right_context k c) t → Front (begins_brace t) b d l → infix_stands p k l ≡ true

@@ -28,7 +28,7 @@ use Rattle.syn_grammar.proofs.SoundAtoms.{no_some}
 use Rattle.syn_grammar.proofs.NoneRedundant.{pairs_there}
 use Rattle.syn_grammar.proofs.Parenthesized.{plain_stays}
 
--- ---- nothing stands where nothing is left
+-- ---- nothing is where nothing is left
 
 nil_tail : (l m : List Tok) → is_empty l ≡ true → IsTail m l → is_empty m ≡ true
 nil_tail [] [] h t = refl

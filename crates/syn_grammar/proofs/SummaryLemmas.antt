@@ -145,7 +145,7 @@ attributed_sorted sort.Let c = statement_attributed c.edge
 attributed_sorted sort.Struct c = refl
 attributed_sorted sort.Other c = refl
 
--- behind attributes, where an operation is in parentheses
+-- after attributes, where an operation is in parentheses
 attributed_ends : (o : Bool) (s : ℕ) (n : Next) (a b : Bool) → has s n ≡ a || b → has (if o then 0 else s) n ≡ (not o && a) || (not o && b)
 attributed_ends true s n a b h = none_has n
 attributed_ends false s n a b h = h

@@ -41,7 +41,7 @@ one_of : {A B : Type 0} (a b : Bool) → a || b ≡ true → (a ≡ true → A) 
 one_of true b h f g = inl (f refl)
 one_of false b h f g = inr (g h)
 
--- ---- where operands stand
+-- ---- where operands are
 
 end_is : (x : Slot) → may_end x [] ≡ may_stop x
 unfolding word_at

@@ -12,7 +12,7 @@ use Rattle.syn_grammar.specs.Slot.{Slot, piece_form, for_head}
 use Rattle.syn_grammar.specs.Stands.{Stands}
 use Rattle.syn_grammar.specs.Read.{expr}
 
--- Each form of what stands before, between and behind operands is read exactly where its tokens stand.
+-- Each form of what comes before, between and after operands is read exactly where its tokens are.
 pub record HeadsAreExact : Type 0 where
   pub leaves : parts.IsExact leaf_form
   pub prefixes : parts.IsExact prefix_form
@@ -31,11 +31,11 @@ pub record ReadingIsExact : Type 0 where
   pub sound : (p : Place) (l : List Tok) (x : Tree) (n : List Tok) → expr p l ≡ Some (x, n) → Stands p l x n
   pub complete : (p : Place) (l : List Tok) (x : Tree) (n : List Tok) → Stands p l x n → expr p l ≡ Some (x, n)
 
--- For a list and a place at most one tree stands, before at most one rest.
+-- For a list and a place at most one tree is, before at most one rest.
 abbrev pub OneTree : Type 0
 OneTree = (p : Place) (l : List Tok) (x y : Tree) (m n : List Tok) → Stands p l x m → Stands p l y n → (x ≡ y) × (m ≡ n)
 
--- A reading is exact: it gives what stands, all that does, and takes tokens at the front.
+-- A reading is exact: it gives what is, all that does, and takes tokens at the front.
 pub record IsExact {B : Type 0} (reads : List Tok → Outcome B) (stands : List Tok → B → List Tok → Type 0) : Type 0 where
   pub sound : (l : List Tok) (x : B) (n : List Tok) → reads l ≡ Some (x, n) → stands l x n
   pub complete : (l : List Tok) (x : B) (n : List Tok) → stands l x n → reads l ≡ Some (x, n)

@@ -1,4 +1,4 @@
--- The trees that are promised to be read back: each part is read back from its own tokens, and stands where it may. No kept
+-- The trees that are promised to be read back: each part is read back from its own tokens, and is where it may. No kept
 -- tokens and no invisible group are among them. A law says that the test `is_well_formed` tells just these.
 use Rattle.std.specs.Prelude.{◌≡◌, ◌⊎◌, ◌↔◌, true, false, ◌||◌, ◌&&◌, List, [], ◌∷◌, Option, Some, None}
 use Rattle.syn_tokens.specs.Tok.{Tok}
@@ -21,7 +21,7 @@ use Rattle.syn_grammar.specs.Head.{is_half_open}
 use Rattle.syn_grammar.specs.Stands.{is_attributed, is_if_expr}
 use Rattle.syn_grammar.specs.WellFormed.{attributes_inner, body_fits, has_rest, is_name_path, is_verbatim_block, keeps_block, is_well_formed}
 
--- from its own tokens, with nothing behind them
+-- from its own tokens, with nothing after them
 abbrev pub IsReadBack : {A : Type 0} → Form A → (A → List Tok → List Tok) → A → Type 0
 IsReadBack {A} form own x = form.behind x (own x []) ≡ Some []
 
@@ -74,7 +74,7 @@ FrameReadBack (e.for_loop w p) ks = IsReadBack (pattern true) pat_own p
 FrameReadBack e.group_expr ks = ⊥
 FrameReadBack _ ks = Unit {0}
 
--- the tokens before the operand t, which stand in this slot
+-- the tokens before the operand t, which are in this slot
 abbrev pub PieceReadBack : Slot → Piece → Tree → Type 0
 PieceReadBack s.fields (e.field_value ats m b) t = (attributes_outer ats ≡ true) × IsReadBack member member_own m × (b || is_name_path m t ≡ true)
 PieceReadBack s.fields (e.rest d) t = Unit {0}
@@ -85,7 +85,7 @@ PieceReadBack s.outputs e.output_block t = is_verbatim_block t ≡ true
 PieceReadBack s.groups k t = ⊥
 PieceReadBack x k t = IsReadBack (piece_form x) piece_own k
 
--- the tokens behind the operand t
+-- the tokens after the operand t
 abbrev pub EndingReadBack : Piece → Tree → Ending → Type 0
 EndingReadBack e.loop_head t (e.braced b) = body_fits b ≡ true
 EndingReadBack e.scrutinee t (e.opened ats) = attributes_inner ats ≡ true
@@ -93,7 +93,7 @@ EndingReadBack k t c = ending_at k t (ending_own k c [] []) ≡ Some (c, [])
 
 -- ---- the whole
 
--- the slot that the first operand stands in
+-- the slot that the first operand is in
 abbrev pub first_slot : Holder → Slot
 first_slot nothing = done
 first_slot (within d x b) = x

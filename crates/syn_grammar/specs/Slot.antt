@@ -1,5 +1,5 @@
--- The operands of a frame or a trailer, one behind the other: in which slot each stands, and what spells the tokens before
--- and behind it.
+-- The operands of a frame or a trailer, one after the other: in which slot each stands, and what spells the tokens before
+-- and after it.
 use Rattle.std.specs.Prelude.{Bool, true, false, not, ◌||◌, ◌&&◌, if◌then◌else◌, List, [], drop, codes, Option, Some, None}
 use Rattle.syn_lexer.specs.declared.lexeme.Delimiter.{Delimiter}
 use Rattle.syn_lexer.specs.declared.lexeme.Delimiter.TheVariants as del
@@ -32,7 +32,7 @@ pub data Slot : Type 0 where
   otherwise : Slot
   -- the condition or the iterator of a loop
   loops : Slot
-  -- what a `match` looks at, and its arms; behind a guard the arm's body
+  -- what a `match` looks at, and its arms; after a guard the arm's body
   scrutinees : Slot
   arms : Slot
   bodies : Slot
@@ -43,7 +43,7 @@ pub data Slot : Type 0 where
   -- no more
   done : Slot
 
--- the slot behind an operand
+-- the slot after an operand
 abbrev pub after : Piece → Slot
 after e.element = elements
 after e.value = done
@@ -61,10 +61,10 @@ after e.output_block = done
 after e.grouped = done
 after e.stray = done
 
--- Here the operands may end: what they stand in ends, or no `else` follows.
+-- Here the operands may end: what they are in ends, or no `else` follows.
 abbrev pub may_end : Slot → Test
 may_end elements l = is_empty l
--- `..` without an expression behind may end the fields
+-- `..` without an expression after may end the fields
 may_end fields l = is_empty l || (dots.at l && is_empty (drop 2 l))
 may_end arms l = is_empty l
 may_end otherwise l = not (word_at (codes "else") l)
@@ -153,18 +153,18 @@ piece_place e.guarded = at_head
 piece_place (e.arm ats p) = at_head
 piece_place _ = plain
 
--- ---- the tokens behind an operand
+-- ---- the tokens after an operand
 
 -- a comma, or the end
 abbrev pub comma_or_end : List Tok → Outcome Ending
 comma_or_end l = if comma.at l then Some (e.comma, drop 1 l) else (if is_empty l then Some (e.no_ending, l) else None)
 
--- a comma; or none behind the last arm, and behind a block
+-- a comma; or none after the last arm, and after a block
 abbrev pub behind_arm : Tree → List Tok → Outcome Ending
 behind_arm x l =
     if comma.at l then Some (e.comma, drop 1 l) else (if is_empty l || is_block_like x then Some (e.no_ending, l) else None)
 
--- what stands behind the operand x, and the tokens behind that; the attributes in the block of an `if` are its tokens
+-- what comes after the operand x, and the tokens after that; the attributes in the block of an `if` are its tokens
 unfoldable pub ending_at : Piece → Tree → List Tok → Outcome Ending
 ending_at e.element x l = comma_or_end l
 ending_at (e.field_value ats m c) x l = comma_or_end l

@@ -2,7 +2,7 @@
 
 ghost use Rattle.syn_grammar.specs.Exact.{HeadsAreExact, ReadingIsExact, OneTree};
 
-/// Each form of what stands before, between and behind operands is read exactly where its tokens stand.
+/// Each form of what comes before, between and after operands is read exactly where its tokens are.
 pub fn heads_are_exact()
     ensures { HeadsAreExact }
 {}
@@ -12,7 +12,7 @@ pub fn reading_is_exact()
     ensures { ReadingIsExact }
 {}
 
-/// For a list of tokens and a place at most one tree stands, before at most one rest.
+/// For a list of tokens and a place at most one tree is, before at most one rest.
 pub fn one_tree()
     ensures { OneTree }
 {}

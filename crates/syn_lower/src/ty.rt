@@ -1,4 +1,4 @@
-//! Types (Rust Reference, "Types"). The parts that hold types stand in `syn_lower_generic`, generic in them; here they have syn's
+//! Types (Rust Reference, "Types"). The parts that hold types are in `syn_lower_generic`, generic in them; here they have syn's
 //! names, over `Type`.
 
 ghost use Rattle.std.specs.Prelude.{◌≡◌};

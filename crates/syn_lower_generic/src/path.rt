@@ -107,7 +107,7 @@ pub struct QSelfOf<T> {
     pub lt_token: Lt,
     /// The type.
     pub ty: Box<T>,
-    /// How many segments of the path stand before `>`; 0 without `as`.
+    /// How many segments of the path come before `>`; 0 without `as`.
     pub position: usize,
     /// `as`
     pub as_token: Option<As>,

@@ -3,7 +3,7 @@
 use syn_tokens::token::{Bracket, Not, Pound};
 use syn_tokens::tree::TokenStream;
 
-/// Whether an attribute stands before what it belongs to, or inside of it.
+/// Whether an attribute comes before what it belongs to, or inside of it.
 #[derive(Clone, Copy, Debug, PartialEq)]
 pub enum AttrStyle {
     /// `#[..]`

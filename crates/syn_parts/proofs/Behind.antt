@@ -1,4 +1,4 @@
--- What is behind a part: tokens that go on with nothing, and what the tests of it look at.
+-- What is after a part: tokens that go on with nothing, and what the tests of it look at.
 use Rattle.std.proofs.Common.{◌≡◌, Bool, true, false, ◌&&◌, ◌||◌, List, [], ◌∷◌, refl, codes}
 use Rattle.std.proofs.Math.Bool.{and-false}
 use Rattle.syn_tokens.specs.Tok.{Tok, ident}

@@ -1,4 +1,4 @@
--- What stands behind a part: the tests of it fail only where a part goes on.
+-- What comes after a part: the tests of it fail only where a part goes on.
 use Rattle.std.proofs.Common.{◌≡◌, ℕ, zero, suc, ◌<◌, Bool, true, false, not, ◌&&◌, ◌||◌, ◌==◌, nat_lt, nat_le, List, [], ◌∷◌, refl, subst, codes, arith}
 use Rattle.std.proofs.lemmas.Bool.Decides.{nat_tests}
 use Rattle.std.proofs.Math.Bool.{and-false}
@@ -134,7 +134,7 @@ module _ (r : List Tok) (h : colon2.at r ≡ false) where
   last_ends w (t.angle d gs e) f = refl
   last_ends w (t.round xs e z) f = absurd cc
 
-  -- where not all segments stand inside
+  -- where not all segments are inside
   segments_end : (n : ℕ) (ss : Segments) → n < count_segments ss → segments_fit n style.Expr ss ≡ true → segments_stop style.Expr ss r ≡ true
   segments_end n t.no_segments k f = refl
   segments_end zero (t.more_segments w a t.no_segments) k f =

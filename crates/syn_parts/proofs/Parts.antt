@@ -1,4 +1,4 @@
--- Each part is read exactly where its tokens stand.
+-- Each part is read exactly where its tokens are.
 use Rattle.std.proofs.Common.{◌≡◌, ℕ, suc, ◌≤◌, Bool, true, false, not, ◌&&◌, ◌==◌, ◌↔◌, List, [], ◌∷◌, Option, Some, None, ap, sym, ◌∙◌, subst, arith}
 use Rattle.syn_lexer.specs.Keywords.{is_reserved_word}
 use Rattle.syn_lexer.specs.declared.lexeme.Delimiter.{Delimiter}

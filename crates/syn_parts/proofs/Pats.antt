@@ -1,4 +1,4 @@
--- Patterns are read exactly where their tokens stand.
+-- Patterns are read exactly where their tokens are.
 use Rattle.std.proofs.Common.{◌≡◌, ℕ, suc, ◌≤◌, Bool, true, false, not, cond, List, [], ◌∷◌, Option, Some, None, refl, ap, sym, ◌∙◌, arith}
 use Rattle.std.proofs.lemmas.Bool.Decides.{nat_tests}
 use Rattle.std.proofs.lemmas.Slice.Eq.{bytes_eq-Decides}
@@ -286,7 +286,7 @@ module _ {k : ℕ} {pattern pattern' : Bool → Form PatTree} (again : (b : Bool
   unfolding p.path_end
   path_end_alike q = search (again, struct_alike, range_end_alike, pat_forms, pat_marks, pat_views) depth 14
 
-  -- behind a qualified path stands neither a macro's end nor a struct's nor a tuple struct's
+  -- after a qualified path stands neither a macro's end nor a struct's nor a tuple struct's
   path_there : (q : QPathTree) (e : PathEnd) (l n : List Tok) → (p.path_end pattern q).behind e l ≡ Some n → p.from_path (p.to_path (q, e)) ≡ Some (q, e)
   unfolding p.path_end
   path_there (q, z) p.no_more l n h = refl
@@ -409,7 +409,7 @@ single_opens z l n h =
     let a = width_alike {k = 0} pattern_alike false in
     a.sound l z n (sym (pattern_is false l) ∙ f.complete l z n h)
 
--- neither a type nor attributes stand round the pattern of an argument
+-- neither a type nor attributes are round the pattern of an argument
 from_bare : (z : PatTree) (l n : List Tok) → (p.pattern false).behind z l ≡ Some n → p.from_closure_arg z ≡ Some ([], (z, None))
 from_bare (p.typed z x) l n h = let r = typed_refused {k = 0} pattern_alike z x in absurd (r.refuses l n (single_opens (p.typed z x) l n h))
 from_bare (p.attributed a xs z) l n h = let r = attributed_refused {k = 0} pattern_alike a xs z in absurd (r.refuses l n (single_opens (p.attributed a xs z) l n h))

@@ -40,7 +40,7 @@ use Rattle.syn_parts.proofs.Forms.{Alike, weaker, more_stands}
 use Rattle.syn_parts.proofs.Parts.{outer_body_alike}
 use Rattle.syn_parts.proofs.Pats.{pattern_alike, single_alike, field_alike, vert_present, arg_pieces}
 
--- ---- nothing behind goes on with a pattern
+-- ---- nothing after goes on with a pattern
 
 pub record PatCalm (l : List Tok) : Type 0 where
   pub calm : Calm l
@@ -363,7 +363,7 @@ not_ref : is_segment (codes "ref") ≡ false
 unfolding is_segment stands_alone is_reserved_word
 not_ref = refl
 
--- a word of a path is no binding, where a path goes on behind it or where it is no name
+-- a word of a path is no binding, where a path goes on after it or where it is no name
 word_no_binding : (w : Text) (m : List Tok) → is_segment w ≡ true → (not (is_reserved_word w) && not (p.goes_on m)) ≡ false → p.binding_at (ident w ∷ m) ≡ false
 unfolding p.binding_at word_at
 word_no_binding w m h k = rw (word_not w (codes "ref") h not_ref, word_not w (codes "mut") h not_mut) k
@@ -371,7 +371,7 @@ word_no_binding w m h k = rw (word_not w (codes "ref") h not_ref, word_not w (co
 goes_no_binding : (w : Text) (m : List Tok) → p.goes_on m ≡ true → (not (is_reserved_word w) && not (p.goes_on m)) ≡ false
 goes_no_binding w m h = rw h (and-false (not (is_reserved_word w)))
 
--- what stands behind a name that has arguments, or before another segment
+-- what comes after a name that has arguments, or before another segment
 arguments_go : (a : ArgumentsTree) (l : List Tok) → arguments_fit style.Expr a ≡ true → has_none a ≡ false → p.goes_on (arguments_own a l) ≡ true
 unfolding sign_at
 arguments_go (t.angle true gs e) l f h = refl
@@ -627,7 +627,7 @@ field_pound (p.short false false w) l = no_pound_word w l
 field_pound (p.full (p.a_name w) z) l = no_pound_word w _
 field_pound (p.full (p.an_index n) z) l = no_pound_literal (index_text n) _
 
--- behind a shorthand's name stands no single `:`
+-- after a shorthand's name stands no single `:`
 short_not_full : (b m : Bool) (w : Text) (l : List Tok) → colon.at l ≡ false → p.full_at (o.field_own (p.short b m w) l) ≡ false
 unfolding p.full_at is_reserved_word sign_at
 short_not_full true m w l h = refl
@@ -718,7 +718,7 @@ pats_listed ps e h c =
     subst (λ l. (listed comma is_empty (p.pattern true)).behind (p.pats ps, e) l ≡ Some []) (sym (pats_elements ps e []))
     (listed_back (p.pattern true) o.pat_own is_empty (λ k. pattern_alike true) [] refl nil_comma e (p.pats ps) (sym (pats_end ps e) ∙ h) c)
 
--- behind the fields stands nothing, or `..`
+-- after the fields stands nothing, or `..`
 abbrev pub fields_rest : Bool → List Tok
 fields_rest d = before_if d (o.limits_before false) []
 

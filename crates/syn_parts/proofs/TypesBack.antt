@@ -66,7 +66,7 @@ pub bare_is : (ss : Segments) → segments_bare (t.segments ss) ≡ bare_segment
 bare_is t.no_segments = refl
 bare_is (t.more_segments w a ss) = ap (λ b. has_none a && b) (bare_is ss)
 
--- ---- what is behind an element of a list
+-- ---- what is after an element of a list
 
 pub record Quiet (l : List Tok) : Type 0 where
   pub calm : Calm l
@@ -362,7 +362,7 @@ no_less true ss e r h = refl
 no_less false t.no_segments e r h = absurd cc
 no_less false (t.more_segments w a ss) e r h = refl
 
--- the segments that stand inside of `<` and `>`, and those behind
+-- the segments that are inside of `<` and `>`, and those after
 pub segments_split : (n : ℕ) (ss : Segments) (r : List Tok) → nat_lt (suc n) (count_segments ss) ≡ true
     → segments_own (suc n) ss false r ≡ elements_own segment_own colon2_before (take (suc n) (t.segments ss)) false (alone 62 ∷ colon2_before (elements_own segment_own colon2_before (drop (suc n) (t.segments ss)) false r))
 segments_split n t.no_segments r h = absurd (grind (arith, nat_tests, h))
@@ -673,7 +673,7 @@ as_no_plus : (l : List Tok) → plus.at (ident (codes "as") ∷ l) ≡ false
 unfolding sign_at
 as_no_plus l = refl
 
--- a path behind `<` `>`, by its type and its segments
+-- a path after `<` `>`, by its type and its segments
 qself_back : (s : PathStyle) (x : TypeTree) (n : ℕ) (a l : Bool) (ss : Segments) (r : List Tok) → position_fits a n l (count_segments ss) ≡ true → no_more_segments ss ≡ false
     → ((k : List Tok) → type_stops true x k ≡ true → (type true).behind x (type_own x k) ≡ Some k)
     → ((m : ℕ) (k : List Tok) → segments_fit (suc m) s ss ≡ true → Joins (segment type style.Type) segment_own colon2_before (alone 62 ∷ k) (take (suc m) (t.segments ss)))
@@ -811,7 +811,7 @@ mutual
   return_back t.default r f s = default_step r (not_true (arrow.at r) s)
   return_back (t.given x) r f s = given_step x (type_own x r) r (type_back false x r f s)
 
-  -- the segments behind the first n
+  -- the segments after the first n
   pub segments_joins : (n : ℕ) (s : PathStyle) (ss : Segments) (r : List Tok) → segments_fit n s ss ≡ true → segments_stop s ss r ≡ true → Joins (segment type s) segment_own colon2_before r (drop n (t.segments ss))
   segments_joins zero s t.no_segments r f c = no_join
   segments_joins zero s (t.more_segments w a t.no_segments) r f c =
@@ -834,7 +834,7 @@ mutual
       let (o, p) = both_true (goes_over (suc n) style.Type w a (t.more_segments v d ss)) _ m in
       segments_joins n s (t.more_segments v d ss) r p c
 
-  -- those that stand inside
+  -- those that are inside
   pub segments_within : (n : ℕ) (s : PathStyle) (ss : Segments) (r : List Tok) → segments_fit (suc n) s ss ≡ true → Joins (segment type style.Type) segment_own colon2_before (alone 62 ∷ r) (take (suc n) (t.segments ss))
   segments_within n s t.no_segments r f = no_join
   segments_within zero s (t.more_segments w a ss) r f =

@@ -45,7 +45,7 @@ pub struct PatRange {
     pub start: Option<RangeBound>,
     /// `..` or `..=`; `...` is read as `..=`.
     pub limits: RangeLimits,
-    /// The bound behind it.
+    /// The bound after it.
     pub end: Option<RangeBound>,
 }
 
@@ -118,7 +118,7 @@ pub struct PatStructOf<P> {
     pub brace_token: Brace,
     /// The fields in them.
     pub fields: Punctuated<FieldPatOf<P>, Comma>,
-    /// `..` behind the fields.
+    /// `..` after the fields.
     pub rest: Option<DotDot>,
 }
 
@@ -127,7 +127,7 @@ pub struct PatStructOf<P> {
 pub struct FieldPatOf<P> {
     /// The attributes before it.
     pub attrs: Vec<Attribute>,
-    /// What stands behind them.
+    /// What comes after them.
     pub kind: FieldPatKindOf<P>,
 }
 

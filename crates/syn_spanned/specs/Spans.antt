@@ -19,7 +19,7 @@ EndsAt (Ident i) n = Unit {0}
 EndsAt (Punct p) n = n ≡ p.span.hi
 EndsAt (Literal l) n = Unit {0}
 
--- the last of a tree and those behind it
+-- the last of a tree and those after it
 abbrev pub last_of : TokenTree → List TokenTree → TokenTree
 last_of t [] = t
 last_of t (u ∷ us) = last_of u us

@@ -1,4 +1,4 @@
-//! Where trees stand in the text that they were read from.
+//! Where trees are in the text that they were read from.
 #![tactic(auto, using(crate::proofs::Ends::ends))]
 
 ghost use Rattle.syn_spanned.specs.Spans.{IsPlaceOf};
@@ -30,7 +30,7 @@ pub trait Spanned: ToTokens {
     ghost use Rattle.syn_tokens.specs.declared.error.ErrorKind.TheVariants.{OutOfMemory};
 
     /// From where the first token that is printed of it begins to where the last one ends; `None` where nothing is printed
-    /// of it. A token that was not read from a text stands at `0..0`, and so do parentheses that printing adds.
+    /// of it. A token that was not read from a text is at `0..0`, and so do parentheses that printing adds.
     ///
     /// It prints the tree and looks at both ends, as syn's `span` does. It is refused only where memory runs out.
     final fn span(&self, alloc: Global) -> Result<Option<Span>>

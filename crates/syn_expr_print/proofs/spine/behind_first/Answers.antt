@@ -1,4 +1,4 @@
--- The operator and the operand behind it; what stands behind an operand; what a trailer holds.
+-- The operator and the operand after it; what comes after an operand; what a trailer holds.
 use Rattle.std.proofs.Common.{◌≡◌, true, ◌++◌, false, OnOk, subst, sym, ap, ◌∙◌, arith}
 use Rattle.syn_grammar.specs.Summaries.{children_below}
 use Rattle.syn_grammar.specs.Tree.{children_size}

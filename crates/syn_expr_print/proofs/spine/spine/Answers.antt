@@ -1,4 +1,4 @@
--- Down first operands, and up what stands behind them.
+-- Down first operands, and up what comes after them.
 use Rattle.std.proofs.Common.{◌≡◌, true, ◌∷◌, [], ◌++◌, refl, subst, sym, ap, ◌∙◌, arith, rules}
 use Rattle.std.proofs.lemmas.List.{append-nil}
 use Rattle.syn_tokens.proofs.Fronts.{front_same, front_through}

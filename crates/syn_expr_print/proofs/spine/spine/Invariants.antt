@@ -1,4 +1,4 @@
--- Down, the first operand that is next is printed, and then what stands behind those of the nodes over it; up, the latter.
+-- Down, the first operand that is next is printed, and then what comes after those of the nodes over it; up, the latter.
 use Rattle.std.proofs.Common.{◌≡◌, ◌≤◌, true, ◌++◌, vec_len}
 use Rattle.syn_tokens.specs.Input.{IsFront}
 use Rattle.syn_grammar.specs.Summaries.{below}
