@@ -1,4 +1,3 @@
 pub mod Arm
 pub mod Visited
 pub mod Below
-pub mod Spine

@@ -1,4 +1,4 @@
--- Verbatim tokens after attributes.
+-- Verbatim tokens behind attributes.
 use Rattle.std.proofs.Common.{◌≡◌, List, Some, None, ◌++◌, [], refl, sym, ap, ◌∙◌}
 use Rattle.std.specs.declared.vec.Vec.{Vec}
 use Rattle.std.specs.declared.alloc.Global.{Global}

@@ -17,6 +17,3 @@ pub mod Rounds
 pub mod Borrowing
 pub mod Counts
 pub mod Attributed
-pub mod Spines
-pub mod Behinds
-pub mod Leading

@@ -2,6 +2,5 @@ pub mod Placed
 pub mod Printing
 pub mod Prints
 pub mod Shape
-pub mod Spine
 pub mod Taken
 pub mod Operation
