@@ -1,0 +1,159 @@
+//! What a run writes, over any writers.
+
+ghost use Rattle.std.specs.Prelude.{◌≡◌, string_bytes, IfOk, MatchOption, OnOk};
+ghost use Rattle.std.specs.Io.KnownBytes.{Appends};
+ghost use Rattle.exprs.specs.Answers as spec;
+ghost use Rattle.exprs.specs.Kinds.{kind_names};
+ghost use Rattle.exprs.specs.View.{source_of};
+
+use crate::answer::line_of;
+use crate::args::Settings;
+use crate::kinds::{Counts, NAMES};
+use std::alloc::{AllocError, Global};
+use std::io;
+use std::io::Write;
+use syn_expr::{Error, Span};
+use syn_report::report;
+
+/// The text of a file, and its name.
+#[derive(Clone, Copy)]
+struct Source<'a> {
+    name: &'a str,
+    text: &'a str,
+}
+
+/// A refusal of a part of a text, at its place in the whole.
+fn moved(e: Error, offset: usize) -> Error
+    ensures { result ≡ spec.moved offset e }
+{
+    Error {
+        span: Span {
+            lo: e.span.lo.saturating_add(offset),
+            hi: e.span.hi.saturating_add(offset),
+        },
+        kind: e.kind,
+    }
+}
+
+/// The report of a refusal of the part of a file that begins at an offset, with the file's name before it and a newline.
+fn refusal(alloc: Global, source: Source<'_>, offset: usize, e: Error) -> Result<String, AllocError>
+    ensures { IfOk result (λ s. string_bytes s ≡ spec.refusal source.name.now source.text.now offset e) }
+{
+    let told = report(alloc, source.text, &moved(e, offset))?;
+    let name = source.name;
+    format!(in alloc; "{name}: {told}\n")
+}
+
+/// Writes the answer for the expression that begins at an offset of a file: its line, or why it was refused. A part that is
+/// blank has none. The result is whether nothing was refused.
+fn part_is_told<W: Write, E: Write>(
+    alloc: Global,
+    settings: Settings,
+    source: Source<'_>,
+    offset: usize,
+    part: &str,
+    counts: &mut Counts,
+    output: &mut W,
+    errors: &mut E,
+) -> io::Result<bool>
+    ensures { IfOk result (λ b. spec.Tells (source_of settings source.name.now source.text.now) offset part.now b (spec.writer (W.contents output.old) (W.contents output.new)) (spec.writer (E.contents errors.old) (E.contents errors.new))) }
+{
+    if part.trim().is_empty() {
+        return Ok(true);
+    }
+    match line_of(alloc, settings, part, counts) {
+        Ok(line) => {
+            if !settings.kinds {
+                output.write_all(line.as_bytes())?;
+            }
+            Ok(true)
+        }
+        Err(e) => {
+            let told = refusal(alloc, source, offset, e)?;
+            errors.write_all(told.as_bytes())?;
+            Ok(false)
+        }
+    }
+}
+
+/// What ends an expression.
+fn separator(blocks: bool) -> &'static str
+    ensures { result.now ≡ spec.separator blocks }
+{
+    if blocks { "\n\n" } else { "\n" }
+}
+
+/// The part before the first separator, and what is behind this separator, if there is one.
+fn first_part<'a>(text: &'a str, separator: &str) -> Option<(&'a str, &'a str)>
+    ensures { MatchOption result (spec.HasNone separator.now text.now) (λ p. spec.CutsFirst separator.now text.now p.0.now p.1.now) }
+{
+    text.split_once(separator)
+}
+
+/// Writes the answers for all expressions of a text, one behind the other. The result is whether none was refused.
+fn text_is_told<W: Write, E: Write>(
+    alloc: Global,
+    settings: Settings,
+    source: Source<'_>,
+    counts: &mut Counts,
+    output: &mut W,
+    errors: &mut E,
+) -> io::Result<bool>
+    ensures { IfOk result (λ b. spec.TellsAll (source_of settings source.name.now source.text.now) b (spec.writer (W.contents output.old) (W.contents output.new)) (spec.writer (E.contents errors.old) (E.contents errors.new))) }
+{
+    let separator = separator(settings.blocks);
+    let mut rest = source.text;
+    let mut offset = 0usize;
+    let mut all = true;
+    'parts: while let Some((part, behind)) = first_part(rest, separator) {
+        let told = part_is_told(
+            alloc, settings, source, offset, part, counts, output, errors,
+        )?;
+        all = all && told;
+        offset = offset.saturating_add(part.len().saturating_add(separator.len()));
+        rest = behind;
+    }
+    let told = part_is_told(
+        alloc, settings, source, offset, rest, counts, output, errors,
+    )?;
+    Ok(all && told)
+}
+
+/// Writes the answers for all expressions of a file of this name: lines to `output`, with `kinds` none, and refusals to
+/// `errors`; or that it is no UTF-8. The result is whether each expression was read.
+pub fn bytes_are_told<W: Write, E: Write>(
+    alloc: Global,
+    settings: Settings,
+    name: &str,
+    bytes: &[u8],
+    counts: &mut Counts,
+    output: &mut W,
+    errors: &mut E,
+) -> io::Result<bool>
+    ensures { IfOk result (λ b. spec.TellsFile (source_of settings name.now bytes.now) b (spec.writer (W.contents output.old) (W.contents output.new)) (spec.writer (E.contents errors.old) (E.contents errors.new))) }
+{
+    match str::from_utf8(bytes) {
+        Ok(text) => {
+            let source = Source { name, text };
+            text_is_told(alloc, settings, source, counts, output, errors)
+        }
+        Err(_) => {
+            let line = format!(in alloc; "{name}: input is not UTF-8\n")?;
+            errors.write_all(line.as_bytes())?;
+            Ok(false)
+        }
+    }
+}
+
+/// Writes a line for each kind that was counted: the count and the kind's name.
+pub fn count_lines<W: Write>(alloc: Global, counts: &Counts, output: &mut W) -> io::Result<()>
+    ensures { OnOk result (Appends (W.contents output.old) (W.contents output.new) (spec.count_lines counts.now.of kind_names)) }
+{
+    for (name, count) in NAMES.iter().zip(counts.of.iter()) {
+        if *count > 0 {
+            let line = format!(in alloc; "{count} {name}\n")?;
+            output.write_all(line.as_bytes())?;
+        }
+    }
+    Ok(())
+}

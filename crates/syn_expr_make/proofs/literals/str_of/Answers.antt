@@ -1,0 +1,16 @@
+use Rattle.std.proofs.Common.{◌∙◌, ap, ◌∷◌, []}
+use Rattle.syn_lower_leaves.specs.View.{lit_str_of}
+use Rattle.syn_parts.specs.declared.label.LitKind.TheVariants as kind
+use Rattle.syn_tokens.specs.Tok.{literal}
+use Rattle.syn_expr_make.specs.Quoted.{string_text}
+use Rattle.syn_expr_make.proofs.Quotes.{made_of, found_of, kind_of_quoted}
+use Rattle.syn_expr_make.proofs.literals.str_of.Goals as goal
+
+pub returns-in-Ok-clause-made : goal.returns-in-Ok-clause-made
+returns-in-Ok-clause-made c =
+    made_of kind.Str (string_text c.args.value.now) _ _ lit_str_of (c.in-Ok.ensures.made ∙ ap (λ w. literal w ∷ []) (c.as_str.ensures.value ∙ c.in_ok-text.ensures)) c.parse2.ensures.read
+
+pub returns-in-Ok-clause-found : goal.returns-in-Ok-clause-found
+returns-in-Ok-clause-found c =
+    λ is_text. found_of kind.Str (string_text c.args.value.now) _ _ lit_str_of (c.in-Ok.ensures.made ∙ ap (λ w. literal w ∷ []) (c.as_str.ensures.value ∙ c.in_ok-text.ensures)) c.parse2.ensures.found
+    (kind_of_quoted c.args.value.now)

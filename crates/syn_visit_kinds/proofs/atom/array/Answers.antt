@@ -1,4 +1,0 @@
-use Rattle.syn_visit_kinds.proofs.atom.array.Goals as goal
-
-pub returns : goal.returns
-returns g c = λ p tells. c.punctuated.ensures _ tells
