@@ -1,3 +1,4 @@
 pub mod Signs
 pub mod View
 pub mod Reads
+pub mod Fed
