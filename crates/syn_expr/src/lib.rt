@@ -163,8 +163,6 @@ pub use syn_lower::qpath_is_read_back;
 pub use syn_lower::stmt;
 pub use syn_lower::ty;
 pub use syn_op::op;
-pub use syn_spanned::Spanned;
-pub use syn_spanned::span_of;
 pub use syn_tokens::AfterCast;
 pub use syn_tokens::Delimiter;
 pub use syn_tokens::Error;

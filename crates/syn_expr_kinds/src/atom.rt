@@ -29,7 +29,7 @@ use syn_tokens::token::{Bracket, Comma, Group, Paren, Semi, Underscore};
 use syn_tokens::tree::TokenStream;
 
 /// `[a, b]` (Rust Reference, "Array expressions").
-#[derive(Debug, Drop, PartialEq, Eq, Hash)]
+#[derive(Drop, PartialEq)]
 pub struct ExprArrayOf<E> {
     /// The attributes.
     pub attrs: Vec<Attribute>,
@@ -40,7 +40,7 @@ pub struct ExprArrayOf<E> {
 }
 
 /// An expression in delimiters that are not seen, which a macro's expansion leaves.
-#[derive(Debug, Drop, PartialEq, Eq, Hash)]
+#[derive(Drop, PartialEq)]
 pub struct ExprGroupOf<E> {
     /// The attributes.
     pub attrs: Vec<Attribute>,
@@ -51,7 +51,7 @@ pub struct ExprGroupOf<E> {
 }
 
 /// `_`, to be inferred, or as a place that is assigned to and dropped (Rust Reference, "Underscore expressions").
-#[derive(Debug, Drop, PartialEq, Eq, Hash)]
+#[derive(Drop, PartialEq)]
 pub struct ExprInfer {
     /// The attributes.
     pub attrs: Vec<Attribute>,
@@ -60,7 +60,7 @@ pub struct ExprInfer {
 }
 
 /// A literal (Rust Reference, "Literal expressions").
-#[derive(Debug, Drop, PartialEq, Eq, Hash)]
+#[derive(Drop, PartialEq)]
 pub struct ExprLit {
     /// The attributes.
     pub attrs: Vec<Attribute>,
@@ -69,7 +69,7 @@ pub struct ExprLit {
 }
 
 /// The call of a macro (Rust Reference, "Macro Invocation").
-#[derive(Debug, Drop, PartialEq, Eq, Hash)]
+#[derive(Drop, PartialEq)]
 pub struct ExprMacro {
     /// The attributes.
     pub attrs: Vec<Attribute>,
@@ -78,7 +78,7 @@ pub struct ExprMacro {
 }
 
 /// `(a)` (Rust Reference, "Grouped expressions").
-#[derive(Debug, Drop, PartialEq, Eq, Hash)]
+#[derive(Drop, PartialEq)]
 pub struct ExprParenOf<E> {
     /// The attributes.
     pub attrs: Vec<Attribute>,
@@ -89,7 +89,7 @@ pub struct ExprParenOf<E> {
 }
 
 /// `a::b`, `<T as A>::b` (Rust Reference, "Path expressions").
-#[derive(Debug, Drop, PartialEq, Eq, Hash)]
+#[derive(Drop, PartialEq)]
 pub struct ExprPath {
     /// The attributes.
     pub attrs: Vec<Attribute>,
@@ -100,7 +100,7 @@ pub struct ExprPath {
 }
 
 /// `[a; n]` (Rust Reference, "Array expressions").
-#[derive(Debug, Drop, PartialEq, Eq, Hash)]
+#[derive(Drop, PartialEq)]
 pub struct ExprRepeatOf<E> {
     /// The attributes.
     pub attrs: Vec<Attribute>,
@@ -115,7 +115,7 @@ pub struct ExprRepeatOf<E> {
 }
 
 /// `()`, `(a,)`, `(a, b)` (Rust Reference, "Tuple expressions").
-#[derive(Debug, Drop, PartialEq, Eq, Hash)]
+#[derive(Drop, PartialEq)]
 pub struct ExprTupleOf<E> {
     /// The attributes.
     pub attrs: Vec<Attribute>,

@@ -30,7 +30,7 @@ use syn_tokens::token::{Async, Const, Else, If, Loop, Move, Try, Unsafe, While};
 use syn_tokens::tree::TokenStream;
 
 /// `async { .. }`, `async move { .. }` (Rust Reference, "`async` blocks").
-#[derive(Debug, Drop, PartialEq, Eq, Hash)]
+#[derive(Drop, PartialEq)]
 pub struct ExprAsync {
     /// The attributes.
     pub attrs: Vec<Attribute>,
@@ -45,7 +45,7 @@ pub struct ExprAsync {
 }
 
 /// `{ .. }`, `'a: { .. }` (Rust Reference, "Block expressions", "Labelled block expressions").
-#[derive(Debug, Drop, PartialEq, Eq, Hash)]
+#[derive(Drop, PartialEq)]
 pub struct ExprBlock {
     /// The attributes: those before it, and those first in its braces.
     pub attrs: Vec<Attribute>,
@@ -56,7 +56,7 @@ pub struct ExprBlock {
 }
 
 /// `const { .. }` (Rust Reference, "`const` blocks").
-#[derive(Debug, Drop, PartialEq, Eq, Hash)]
+#[derive(Drop, PartialEq)]
 pub struct ExprConst {
     /// The attributes: those before it, and those first in its braces.
     pub attrs: Vec<Attribute>,
@@ -69,7 +69,7 @@ pub struct ExprConst {
 }
 
 /// `if a { .. } else { .. }` (Rust Reference, "`if` expressions").
-#[derive(Debug, Drop, PartialEq, Eq, Hash)]
+#[derive(Drop, PartialEq)]
 pub struct ExprIfOf<E> {
     /// The attributes.
     pub attrs: Vec<Attribute>,
@@ -84,7 +84,7 @@ pub struct ExprIfOf<E> {
 }
 
 /// `loop { .. }` (Rust Reference, "Infinite loops").
-#[derive(Debug, Drop, PartialEq, Eq, Hash)]
+#[derive(Drop, PartialEq)]
 pub struct ExprLoop {
     /// The attributes: those before it, and those first in its braces.
     pub attrs: Vec<Attribute>,
@@ -97,7 +97,7 @@ pub struct ExprLoop {
 }
 
 /// `try { .. }`, which is not stable.
-#[derive(Debug, Drop, PartialEq, Eq, Hash)]
+#[derive(Drop, PartialEq)]
 pub struct ExprTryBlock {
     /// The attributes.
     pub attrs: Vec<Attribute>,
@@ -110,7 +110,7 @@ pub struct ExprTryBlock {
 }
 
 /// `unsafe { .. }` (Rust Reference, "`unsafe` blocks").
-#[derive(Debug, Drop, PartialEq, Eq, Hash)]
+#[derive(Drop, PartialEq)]
 pub struct ExprUnsafe {
     /// The attributes: those before it, and those first in its braces.
     pub attrs: Vec<Attribute>,
@@ -121,7 +121,7 @@ pub struct ExprUnsafe {
 }
 
 /// `while a { .. }` (Rust Reference, "Predicate loops").
-#[derive(Debug, Drop, PartialEq, Eq, Hash)]
+#[derive(Drop, PartialEq)]
 pub struct ExprWhileOf<E> {
     /// The attributes: those before it, and those first in its braces.
     pub attrs: Vec<Attribute>,

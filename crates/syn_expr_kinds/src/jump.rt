@@ -28,7 +28,7 @@ use syn_tokens::token::{Break, Continue, Return, Yield};
 use syn_tokens::tree::TokenStream;
 
 /// `break`, `break 'a b` (Rust Reference, "`break` expressions").
-#[derive(Debug, Drop, PartialEq, Eq, Hash)]
+#[derive(Drop, PartialEq)]
 pub struct ExprBreakOf<E> {
     /// The attributes.
     pub attrs: Vec<Attribute>,
@@ -41,7 +41,7 @@ pub struct ExprBreakOf<E> {
 }
 
 /// `continue`, `continue 'a` (Rust Reference, "`continue` expressions").
-#[derive(Debug, Drop, PartialEq, Eq, Hash)]
+#[derive(Drop, PartialEq)]
 pub struct ExprContinue {
     /// The attributes.
     pub attrs: Vec<Attribute>,
@@ -52,7 +52,7 @@ pub struct ExprContinue {
 }
 
 /// `return`, `return a` (Rust Reference, "`return` expressions").
-#[derive(Debug, Drop, PartialEq, Eq, Hash)]
+#[derive(Drop, PartialEq)]
 pub struct ExprReturnOf<E> {
     /// The attributes.
     pub attrs: Vec<Attribute>,
@@ -63,7 +63,7 @@ pub struct ExprReturnOf<E> {
 }
 
 /// `yield`, `yield a`, which is not stable.
-#[derive(Debug, Drop, PartialEq, Eq, Hash)]
+#[derive(Drop, PartialEq)]
 pub struct ExprYieldOf<E> {
     /// The attributes.
     pub attrs: Vec<Attribute>,

@@ -30,7 +30,7 @@ use syn_tokens::token::{And, As, Eq, Mut, Raw};
 use syn_tokens::tree::TokenStream;
 
 /// `a = b` (Rust Reference, "Assignment expressions").
-#[derive(Debug, Drop, PartialEq, Eq, Hash)]
+#[derive(Drop, PartialEq)]
 pub struct ExprAssignOf<E> {
     /// The attributes.
     pub attrs: Vec<Attribute>,
@@ -44,7 +44,7 @@ pub struct ExprAssignOf<E> {
 
 /// `a + b`, `a += b` (Rust Reference, "Arithmetic and Logical Binary Operators", "Comparison Operators", "Lazy boolean
 /// operators", "Compound assignment expressions").
-#[derive(Debug, Drop, PartialEq, Eq, Hash)]
+#[derive(Drop, PartialEq)]
 pub struct ExprBinaryOf<E> {
     /// The attributes.
     pub attrs: Vec<Attribute>,
@@ -57,7 +57,7 @@ pub struct ExprBinaryOf<E> {
 }
 
 /// `a as T` (Rust Reference, "Type cast expressions").
-#[derive(Debug, Drop, PartialEq, Eq, Hash)]
+#[derive(Drop, PartialEq)]
 pub struct ExprCastOf<E> {
     /// The attributes.
     pub attrs: Vec<Attribute>,
@@ -70,7 +70,7 @@ pub struct ExprCastOf<E> {
 }
 
 /// `a..b`, `a..`, `..=b`, `..` (Rust Reference, "Range expressions").
-#[derive(Debug, Drop, PartialEq, Eq, Hash)]
+#[derive(Drop, PartialEq)]
 pub struct ExprRangeOf<E> {
     /// The attributes.
     pub attrs: Vec<Attribute>,
@@ -83,7 +83,7 @@ pub struct ExprRangeOf<E> {
 }
 
 /// `&raw const a`, `&raw mut a` (Rust Reference, "Raw borrow operators").
-#[derive(Debug, Drop, PartialEq, Eq, Hash)]
+#[derive(Drop, PartialEq)]
 pub struct ExprRawAddrOf<E> {
     /// The attributes.
     pub attrs: Vec<Attribute>,
@@ -98,7 +98,7 @@ pub struct ExprRawAddrOf<E> {
 }
 
 /// `&a`, `&mut a` (Rust Reference, "Borrow operators").
-#[derive(Debug, Drop, PartialEq, Eq, Hash)]
+#[derive(Drop, PartialEq)]
 pub struct ExprReferenceOf<E> {
     /// The attributes.
     pub attrs: Vec<Attribute>,
@@ -111,7 +111,7 @@ pub struct ExprReferenceOf<E> {
 }
 
 /// `*a`, `!a`, `-a` (Rust Reference, "The dereference operator", "Negation operators").
-#[derive(Debug, Drop, PartialEq, Eq, Hash)]
+#[derive(Drop, PartialEq)]
 pub struct ExprUnaryOf<E> {
     /// The attributes.
     pub attrs: Vec<Attribute>,

@@ -12,7 +12,7 @@ use syn_tokens::token::{
 };
 
 /// `|a, b| a + b`, `move |a| -> T { .. }` (Rust Reference, "Closure expressions").
-#[derive(Debug, Drop, PartialEq, Eq, Hash)]
+#[derive(Drop, PartialEq)]
 pub struct ExprClosureOf<E, P> {
     /// The attributes.
     pub attrs: Vec<Attribute>,
@@ -39,7 +39,7 @@ pub struct ExprClosureOf<E, P> {
 }
 
 /// `for p in a { .. }` (Rust Reference, "Iterator loops").
-#[derive(Debug, Drop, PartialEq, Eq, Hash)]
+#[derive(Drop, PartialEq)]
 pub struct ExprForLoopOf<E, P> {
     /// The attributes: those before it, and those first in its braces.
     pub attrs: Vec<Attribute>,
@@ -58,7 +58,7 @@ pub struct ExprForLoopOf<E, P> {
 }
 
 /// `let p = a`, in a condition (Rust Reference, "`if let` patterns", "`while let` patterns").
-#[derive(Debug, Drop, PartialEq, Eq, Hash)]
+#[derive(Drop, PartialEq)]
 pub struct ExprLetOf<E, P> {
     /// The attributes.
     pub attrs: Vec<Attribute>,
@@ -73,7 +73,7 @@ pub struct ExprLetOf<E, P> {
 }
 
 /// `match a { p => b, .. }` (Rust Reference, "Match expressions"), over the type of arms.
-#[derive(Debug, Drop, PartialEq, Eq, Hash)]
+#[derive(Drop, PartialEq)]
 pub struct ExprMatchOf<E, A> {
     /// The attributes: those before it, and those first in its braces.
     pub attrs: Vec<Attribute>,
@@ -88,7 +88,7 @@ pub struct ExprMatchOf<E, A> {
 }
 
 /// `p if a => b,` (Rust Reference, "Match expressions").
-#[derive(Debug, Drop, PartialEq, Eq, Hash)]
+#[derive(Drop, PartialEq)]
 pub struct ArmOf<E, P> {
     /// The attributes.
     pub attrs: Vec<Attribute>,
@@ -103,7 +103,7 @@ pub struct ArmOf<E, P> {
 }
 
 /// `p if a`, a pattern with a guard (Rust Reference, "Match guards").
-#[derive(Debug, Drop, PartialEq, Eq, Hash)]
+#[derive(Drop, PartialEq)]
 pub struct PatGuardOf<E, P> {
     /// The attributes.
     pub attrs: Vec<Attribute>,

@@ -25,7 +25,7 @@ use syn_tokens::token::{Await, Bracket, Comma, Dot, Paren, Question};
 use syn_tokens::tree::{Ident, TokenStream};
 
 /// `a.await` (Rust Reference, "Await expressions").
-#[derive(Debug, Drop, PartialEq, Eq, Hash)]
+#[derive(Drop, PartialEq)]
 pub struct ExprAwaitOf<E> {
     /// The attributes.
     pub attrs: Vec<Attribute>,
@@ -38,7 +38,7 @@ pub struct ExprAwaitOf<E> {
 }
 
 /// `f(a, b)` (Rust Reference, "Call expressions").
-#[derive(Debug, Drop, PartialEq, Eq, Hash)]
+#[derive(Drop, PartialEq)]
 pub struct ExprCallOf<E> {
     /// The attributes.
     pub attrs: Vec<Attribute>,
@@ -51,7 +51,7 @@ pub struct ExprCallOf<E> {
 }
 
 /// `a.b`, `a.0` (Rust Reference, "Field access expressions", "Tuple indexing expressions").
-#[derive(Debug, Drop, PartialEq, Eq, Hash)]
+#[derive(Drop, PartialEq)]
 pub struct ExprFieldOf<E> {
     /// The attributes.
     pub attrs: Vec<Attribute>,
@@ -64,7 +64,7 @@ pub struct ExprFieldOf<E> {
 }
 
 /// `a[i]` (Rust Reference, "Array and slice indexing expressions").
-#[derive(Debug, Drop, PartialEq, Eq, Hash)]
+#[derive(Drop, PartialEq)]
 pub struct ExprIndexOf<E> {
     /// The attributes.
     pub attrs: Vec<Attribute>,
@@ -77,7 +77,7 @@ pub struct ExprIndexOf<E> {
 }
 
 /// `a.f(b)`, `a.f::<T>(b)` (Rust Reference, "Method-call expressions").
-#[derive(Debug, Drop, PartialEq, Eq, Hash)]
+#[derive(Drop, PartialEq)]
 pub struct ExprMethodCallOf<E> {
     /// The attributes.
     pub attrs: Vec<Attribute>,
@@ -96,7 +96,7 @@ pub struct ExprMethodCallOf<E> {
 }
 
 /// `a?` (Rust Reference, "The try propagation expression").
-#[derive(Debug, Drop, PartialEq, Eq, Hash)]
+#[derive(Drop, PartialEq)]
 pub struct ExprTryOf<E> {
     /// The attributes.
     pub attrs: Vec<Attribute>,

@@ -4,7 +4,7 @@ use syn_lower_leaves::lifetime::Lifetime;
 use syn_tokens::token::Colon;
 
 /// A label: a lifetime and `:`. Equality ignores places.
-#[derive(Debug, Drop, PartialEq, Eq, Hash)]
+#[derive(Debug, Drop, PartialEq)]
 pub struct Label {
     /// The name, an apostrophe and a word.
     pub name: Lifetime,

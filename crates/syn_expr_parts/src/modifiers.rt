@@ -8,7 +8,7 @@ use syn_tokens::token::{Static, Use};
 
 /// The modifiers of a closure: the words before its arguments but `const`, `async` and `move`, which `ExprClosure` has itself.
 /// Equality ignores places.
-#[derive(Clone, Copy, Debug, Default, PartialEq, Eq, Hash)]
+#[derive(Clone, Copy, Debug, Default, PartialEq, Eq)]
 pub struct ClosureModifiers {
     /// `static`
     pub static_token: Option<Static>,
@@ -32,7 +32,7 @@ impl ClosureModifiers {
 }
 
 /// The modifiers of a block: none.
-#[derive(Clone, Copy, Debug, Default, PartialEq, Eq, Hash)]
+#[derive(Clone, Copy, Debug, Default, PartialEq, Eq)]
 pub struct BlockModifiers {}
 
 impl BlockModifiers {

@@ -5,7 +5,7 @@ use syn_tokens::tree::Ident;
 
 /// A lifetime: an apostrophe and a word, which may be a reserved one.
 #[derive(Debug, Drop)]
-#[derive_where(PartialEq, Eq, Hash)]
+#[derive_where(PartialEq)]
 pub struct Lifetime {
     /// Where the apostrophe is.
     #[derive_where(skip(EqHashOrd))]

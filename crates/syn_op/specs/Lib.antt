@@ -1,4 +1,3 @@
 pub mod Signs
 pub mod View
 pub mod Reads
-pub mod Fed
