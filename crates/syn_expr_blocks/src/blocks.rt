@@ -21,6 +21,7 @@ ghost use Rattle.syn_tokens.specs.Tok.{weight};
 
 use crate::head::{arm_head, for_head};
 use std::alloc::{AllocError, Global};
+use syn_expr_ends::held::{Held, LetGo};
 use syn_expr_ends::kinds::ReadPats;
 use syn_expr_ends::place::{AT_HEAD, BEFORE_BLOCK, PLAIN};
 use syn_expr_heads::ending::{behind_arm, behind_condition, behind_loop_head, guarded};
@@ -71,10 +72,13 @@ fn verbatim_block<E: IsExpr + Drop>(input: &mut ParseBuffer<'_>) -> Result<Box<E
     Ok(boxed(alloc, x)?)
 }
 
-impl<E: IsExpr + HasKind + Drop, F: Fn(&mut ParseBuffer<'_>, Place) -> Result<Box<E>>> Blocks<F>
+impl<
+    E: IsExpr + HasKind + LetGo + Drop,
+    F: Fn(&mut ParseBuffer<'_>, Place) -> Result<Box<E>>,
+> Blocks<F>
 where
     E::Pat: ReadPats + Drop,
-    E::Arm: Drop,
+    E::Arm: LetGo + Drop,
 {
     /// Reads an `if` behind its word.
     // Not in the frame of its caller, which is on the stack once for each level of a tree.
@@ -88,14 +92,16 @@ where
         ensures noted { input.new.noted ≡ input.old.noted }
         ensures shrinks { weight input.new.rest ≤ weight input.old.rest }
     {
-        let cond = (self.expr)(input, BEFORE_BLOCK)?;
+        let cond = Held {
+            value: (self.expr)(input, BEFORE_BLOCK)?,
+        };
         let then_branch = behind_condition(input)?;
         let else_branch = self.otherwise(input)?;
         let alloc = input.alloc();
         let x = E::if_expr(ExprIfOf {
             attrs: Vec::new(alloc),
             if_token,
-            cond,
+            cond: cond.into_inner(),
             then_branch,
             else_branch,
         });
@@ -151,13 +157,15 @@ where
         ensures noted { input.new.noted ≡ input.old.noted }
         ensures shrinks { weight input.new.rest ≤ weight input.old.rest }
     {
-        let cond = (self.expr)(input, BEFORE_BLOCK)?;
+        let cond = Held {
+            value: (self.expr)(input, BEFORE_BLOCK)?,
+        };
         let body = behind_loop_head(input)?;
         let x = E::while_expr(ExprWhileOf {
             attrs: body.attrs,
             label,
             while_token,
-            cond,
+            cond: cond.into_inner(),
             body: body.block,
         });
         Ok(boxed(input.alloc(), x)?)
@@ -176,7 +184,9 @@ where
     {
         let head = for_head(input)?;
         let pat = boxed(input.alloc(), head.pat)?;
-        let expr = (self.expr)(input, BEFORE_BLOCK)?;
+        let expr = Held {
+            value: (self.expr)(input, BEFORE_BLOCK)?,
+        };
         let body = behind_loop_head(input)?;
         let x = E::for_loop(ExprForLoopOf {
             attrs: body.attrs,
@@ -184,7 +194,7 @@ where
             for_token: head.for_token,
             pat,
             in_token: head.in_token,
-            expr,
+            expr: expr.into_inner(),
             body: body.block,
         });
         Ok(boxed(input.alloc(), x)?)
@@ -227,13 +237,16 @@ where
         ensures noted { input.new.noted ≡ input.old.noted }
         ensures shrinks { weight input.new.rest ≤ weight input.old.rest }
     {
-        let body = (self.expr)(input, AT_HEAD)?;
-        let comma = behind_arm(input, is_block_like(&*body))?;
+        let pat = Held { value: pat };
+        let body = Held {
+            value: (self.expr)(input, AT_HEAD)?,
+        };
+        let comma = behind_arm(input, is_block_like(&*body.value))?;
         Ok(E::arm(ArmOf {
             attrs,
-            pat,
+            pat: pat.into_inner(),
             fat_arrow_token,
-            body,
+            body: body.into_inner(),
             comma,
         }))
     }
@@ -253,14 +266,16 @@ where
     {
         match arm_head(input)? {
             ArmHead::Guard(attrs, pat, if_token) => {
-                let guard = (self.expr)(input, PLAIN)?;
+                let guard = Held {
+                    value: (self.expr)(input, PLAIN)?,
+                };
                 let fat_arrow_token = guarded(input)?;
                 let alloc = input.alloc();
                 let pat = E::guarded(PatGuardOf {
                     attrs: Vec::new(alloc),
                     pat: boxed(alloc, pat)?,
                     if_token,
-                    guard,
+                    guard: guard.into_inner(),
                 });
                 self.arm_body(input, attrs, pat, fat_arrow_token)
             }
@@ -280,11 +295,13 @@ where
         ensures shrinks { weight input.new.rest ≤ weight input.old.rest }
         ensures all { IfOk result (λ _. input.new.rest ≡ []) }
     {
-        let mut found = Vec::new(input.alloc());
+        let mut held = Held {
+            value: Vec::new(input.alloc()),
+        };
         'arms: while !input.is_empty() {
-            found.push(self.arm(input)?)?;
+            held.value.push(self.arm(input)?)?;
         }
-        Ok(found)
+        Ok(held.into_inner())
     }
 
     /// Reads a `match` behind its word.
@@ -298,14 +315,16 @@ where
         ensures noted { input.new.noted ≡ input.old.noted }
         ensures shrinks { weight input.new.rest ≤ weight input.old.rest }
     {
-        let expr = (self.expr)(input, BEFORE_BLOCK)?;
+        let expr = Held {
+            value: (self.expr)(input, BEFORE_BLOCK)?,
+        };
         let (brace_token, mut content) = input.parse_braces()?;
         let attrs = inner_attributes(&mut content)?;
         let arms = self.arms(&mut content)?;
         let x = E::match_expr(ExprMatchOf {
             attrs,
             match_token,
-            expr,
+            expr: expr.into_inner(),
             brace_token,
             arms,
         });

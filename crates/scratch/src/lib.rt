@@ -1,0 +1,8 @@
+//! Scratch.
+#![tactic(auto)]
+
+pub mod closure;
+pub mod control;
+pub mod expr;
+mod let_go;
+pub mod pat;
