@@ -8,7 +8,6 @@ ghost use Rattle.syn_grammar.specs.Place.{plain};
 ghost use Rattle.syn_grammar.specs.Stands.{Stands};
 
 use crate::expr::Expr;
-use crate::let_go::let_go;
 use syn_tokens::buffer::{Parse, ParseBuffer, ToTokens};
 use syn_tokens::error::Result;
 use syn_tokens::tree::TokenStream;
@@ -23,8 +22,7 @@ pub struct HeldExpr {
 
 impl Drop for HeldExpr {
     fn drop(self) {
-        let HeldExpr { expr } = self;
-        let_go(expr);
+        let HeldExpr { expr: _ } = self;
     }
 }
 

@@ -13,7 +13,6 @@ mod from;
 pub mod held;
 mod kind;
 mod leftover;
-mod let_go;
 mod make;
 mod make_pat;
 mod node;

@@ -20,7 +20,6 @@ ghost use Rattle.syn_tokens.specs.Tok.{Tok, weight};
 use crate::leaf::standing;
 use crate::made::{closure_expr, jump_expr, plain_block, range_expr};
 use crate::stands::ends_jump;
-use syn_expr_ends::held::{Held, given_up};
 use syn_expr_ends::kinds::{ReadExprs, ReadPats};
 use syn_expr_ends::place::{PLAIN, at};
 use syn_expr_front::sign::{begins_expr, ends_open_range};
@@ -220,10 +219,7 @@ where
             Err(error) => return error,
         };
         match (self.expr)(&mut behind, PLAIN) {
-            Ok(x) => given_up(
-                x,
-                Error::new(value.span_until(&behind), ErrorKind::ParenthesesRequired),
-            ),
+            Ok(_) => Error::new(value.span_until(&behind), ErrorKind::ParenthesesRequired),
             Err(error) => error,
         }
     }
@@ -330,9 +326,7 @@ where
     {
         let word = input.fork()?;
         input.skip(1);
-        let _called = Held {
-            value: (self.expr)(input, PLAIN)?,
-        };
+        let _called = (self.expr)(input, PLAIN)?;
         let alloc = input.alloc();
         let tokens = copy_trees(alloc, word.until(input))?;
         Ok(Box::new(alloc, E::verbatim(tokens))?)

@@ -21,7 +21,6 @@ ghost use Rattle.syn_tokens.specs.Tok.{weight};
 
 use crate::head::{arm_head, for_head};
 use std::alloc::{AllocError, Global};
-use syn_expr_ends::held::{Held, LetGo};
 use syn_expr_ends::kinds::ReadPats;
 use syn_expr_ends::place::{AT_HEAD, BEFORE_BLOCK, PLAIN};
 use syn_expr_heads::ending::{behind_arm, behind_condition, behind_loop_head, guarded};
@@ -72,13 +71,10 @@ fn verbatim_block<E: IsExpr + Drop>(input: &mut ParseBuffer<'_>) -> Result<Box<E
     Ok(boxed(alloc, x)?)
 }
 
-impl<
-    E: IsExpr + HasKind + LetGo + Drop,
-    F: Fn(&mut ParseBuffer<'_>, Place) -> Result<Box<E>>,
-> Blocks<F>
+impl<E: IsExpr + HasKind + Drop, F: Fn(&mut ParseBuffer<'_>, Place) -> Result<Box<E>>> Blocks<F>
 where
     E::Pat: ReadPats + Drop,
-    E::Arm: LetGo + Drop,
+    E::Arm: Drop,
 {
     /// Reads an `if` behind its word.
     // Not in the frame of its caller, which is on the stack once for each level of a tree.
@@ -92,16 +88,14 @@ where
         ensures noted { input.new.noted ≡ input.old.noted }
         ensures shrinks { weight input.new.rest ≤ weight input.old.rest }
     {
-        let cond = Held {
-            value: (self.expr)(input, BEFORE_BLOCK)?,
-        };
+        let cond = (self.expr)(input, BEFORE_BLOCK)?;
         let then_branch = behind_condition(input)?;
         let else_branch = self.otherwise(input)?;
         let alloc = input.alloc();
         let x = E::if_expr(ExprIfOf {
             attrs: Vec::new(alloc),
             if_token,
-            cond: cond.into_inner(),
+            cond,
             then_branch,
             else_branch,
         });
@@ -157,15 +151,13 @@ where
         ensures noted { input.new.noted ≡ input.old.noted }
         ensures shrinks { weight input.new.rest ≤ weight input.old.rest }
     {
-        let cond = Held {
-            value: (self.expr)(input, BEFORE_BLOCK)?,
-        };
+        let cond = (self.expr)(input, BEFORE_BLOCK)?;
         let body = behind_loop_head(input)?;
         let x = E::while_expr(ExprWhileOf {
             attrs: body.attrs,
             label,
             while_token,
-            cond: cond.into_inner(),
+            cond,
             body: body.block,
         });
         Ok(boxed(input.alloc(), x)?)
@@ -184,9 +176,7 @@ where
     {
         let head = for_head(input)?;
         let pat = boxed(input.alloc(), head.pat)?;
-        let expr = Held {
-            value: (self.expr)(input, BEFORE_BLOCK)?,
-        };
+        let expr = (self.expr)(input, BEFORE_BLOCK)?;
         let body = behind_loop_head(input)?;
         let x = E::for_loop(ExprForLoopOf {
             attrs: body.attrs,
@@ -194,7 +184,7 @@ where
             for_token: head.for_token,
             pat,
             in_token: head.in_token,
-            expr: expr.into_inner(),
+            expr,
             body: body.block,
         });
         Ok(boxed(input.alloc(), x)?)
@@ -237,16 +227,13 @@ where
         ensures noted { input.new.noted ≡ input.old.noted }
         ensures shrinks { weight input.new.rest ≤ weight input.old.rest }
     {
-        let pat = Held { value: pat };
-        let body = Held {
-            value: (self.expr)(input, AT_HEAD)?,
-        };
-        let comma = behind_arm(input, is_block_like(&*body.value))?;
+        let body = (self.expr)(input, AT_HEAD)?;
+        let comma = behind_arm(input, is_block_like(&*body))?;
         Ok(E::arm(ArmOf {
             attrs,
-            pat: pat.into_inner(),
+            pat,
             fat_arrow_token,
-            body: body.into_inner(),
+            body,
             comma,
         }))
     }
@@ -266,16 +253,14 @@ where
     {
         match arm_head(input)? {
             ArmHead::Guard(attrs, pat, if_token) => {
-                let guard = Held {
-                    value: (self.expr)(input, PLAIN)?,
-                };
+                let guard = (self.expr)(input, PLAIN)?;
                 let fat_arrow_token = guarded(input)?;
                 let alloc = input.alloc();
                 let pat = E::guarded(PatGuardOf {
                     attrs: Vec::new(alloc),
                     pat: boxed(alloc, pat)?,
                     if_token,
-                    guard: guard.into_inner(),
+                    guard,
                 });
                 self.arm_body(input, attrs, pat, fat_arrow_token)
             }
@@ -295,13 +280,11 @@ where
         ensures shrinks { weight input.new.rest ≤ weight input.old.rest }
         ensures all { IfOk result (λ _. input.new.rest ≡ []) }
     {
-        let mut held = Held {
-            value: Vec::new(input.alloc()),
-        };
+        let mut found = Vec::new(input.alloc());
         'arms: while !input.is_empty() {
-            held.value.push(self.arm(input)?)?;
+            found.push(self.arm(input)?)?;
         }
-        Ok(held.into_inner())
+        Ok(found)
     }
 
     /// Reads a `match` behind its word.
@@ -315,16 +298,14 @@ where
         ensures noted { input.new.noted ≡ input.old.noted }
         ensures shrinks { weight input.new.rest ≤ weight input.old.rest }
     {
-        let expr = Held {
-            value: (self.expr)(input, BEFORE_BLOCK)?,
-        };
+        let expr = (self.expr)(input, BEFORE_BLOCK)?;
         let (brace_token, mut content) = input.parse_braces()?;
         let attrs = inner_attributes(&mut content)?;
         let arms = self.arms(&mut content)?;
         let x = E::match_expr(ExprMatchOf {
             attrs,
             match_token,
-            expr: expr.into_inner(),
+            expr,
             brace_token,
             arms,
         });

@@ -11,7 +11,6 @@ ghost use Rattle.syn_parts.specs.Pat as pat;
 ghost use Rattle.syn_parts.specs.PatFits.{attributes_outer};
 ghost use Rattle.syn_tokens.specs.Tok.{weight};
 
-use crate::held::LetGo;
 use std::alloc::AllocError;
 use syn_expr_kinds::kinds::IsExpr;
 use syn_expr_kinds::node::{HasKind, HasNode};
@@ -23,7 +22,7 @@ use syn_tokens::error::Result;
 use syn_tokens::tree::TokenStream;
 
 /// The type of patterns: it has readers. What they read holds no guard.
-pub trait ReadPats: HasPatTree + LetGo {
+pub trait ReadPats: HasPatTree {
     /// Reads a pattern; behind it `|` and more may stand, or one alone.
     fn read_pattern(input: &mut ParseBuffer<'_>, multi: bool) -> Result<Self>
         ensures value { Reads (λ x. (Self.view x).tree) ((pat.pattern multi).reads input.old.rest) result input.new.rest }
@@ -41,7 +40,7 @@ pub trait ReadPats: HasPatTree + LetGo {
 
 /// The type of expressions: one is made of each kind, and is asked for its kind, its tokens and its path, and given
 /// attributes.
-pub trait ReadExprs: IsExpr + HasNode + HasKind + LetGo {
+pub trait ReadExprs: IsExpr + HasNode + HasKind {
     /// Whether it is like a block, or what holds one in invisible groups is: where it is the whole of a statement or of an arm's
     /// body, no operator goes on it (Rust Reference, "Expression statements").
     fn holds_block(&self) -> bool

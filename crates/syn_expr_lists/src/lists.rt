@@ -15,7 +15,6 @@ ghost use Rattle.syn_tokens.specs.Front.{is_empty};
 ghost use Rattle.syn_tokens.specs.Tok.{weight};
 
 use std::alloc::{AllocError, Global};
-use syn_expr_ends::held::{Held, given_up};
 use syn_expr_ends::kinds::ReadExprs;
 use syn_expr_ends::place::PLAIN;
 use syn_expr_heads::ending::comma_or_end;
@@ -116,11 +115,9 @@ impl<E: ReadExprs + Drop, F: Fn(&mut ParseBuffer<'_>, Place) -> Result<Box<E>>> 
         ensures noted { input.new.noted ≡ input.old.noted }
         ensures shrinks { weight input.new.rest ≤ weight input.old.rest }
     {
-        let x = Held {
-            value: (self.expr)(input, PLAIN)?,
-        };
+        let x = (self.expr)(input, PLAIN)?;
         let comma = comma_or_end(input)?;
-        Ok((x.into_inner(), comma))
+        Ok((x, comma))
     }
 
     /// Reads the elements behind those that were read, each with its comma, to the end of the input.
@@ -128,7 +125,7 @@ impl<E: ReadExprs + Drop, F: Fn(&mut ParseBuffer<'_>, Place) -> Result<Box<E>>> 
     fn more_elements(
         &self,
         input: &mut ParseBuffer<'_>,
-        found: Punctuated<E, Comma>,
+        mut found: Punctuated<E, Comma>,
     ) -> Result<Punctuated<E, Comma>>
         requires callable { Callable (weight input.old.rest + 1) (F.pre self.now.expr) }
         requires reads { ReadsExpr E.tree (F.post self.now.expr) }
@@ -138,16 +135,15 @@ impl<E: ReadExprs + Drop, F: Fn(&mut ParseBuffer<'_>, Place) -> Result<Box<E>>> 
         ensures noted { input.new.noted ≡ input.old.noted }
         ensures shrinks { weight input.new.rest ≤ weight input.old.rest }
     {
-        let mut held = Held { value: found };
         'elements: while !input.is_empty() {
             let (x, comma) = self.element(input)?;
-            held.value.push_boxed(x);
+            found.push_value(Box::into_inner(x))?;
             let Some(comma) = comma else {
-                return Ok(held.into_inner());
+                return Ok(found);
             };
-            held.value.push_punct(comma)?;
+            found.push_punct(comma)?;
         }
-        Ok(held.into_inner())
+        Ok(found)
     }
 
     /// Reads elements with commas between, and perhaps one at the end, to the end of the input. A missing comma is refused as
@@ -208,7 +204,7 @@ impl<E: ReadExprs + Drop, F: Fn(&mut ParseBuffer<'_>, Place) -> Result<Box<E>>> 
         let (bracket_token, mut content) = input.parse_brackets()?;
         let index = (self.expr)(&mut content, PLAIN)?;
         if !content.is_empty() {
-            return Err(given_up(index, content.error(ErrorKind::UnexpectedToken)));
+            return Err(content.error(ErrorKind::UnexpectedToken));
         }
         Ok((bracket_token, index))
     }
@@ -229,18 +225,16 @@ impl<E: ReadExprs + Drop, F: Fn(&mut ParseBuffer<'_>, Place) -> Result<Box<E>>> 
         ensures noted { input.new.noted ≡ input.old.noted }
         ensures shrinks { weight input.new.rest ≤ weight input.old.rest }
     {
-        let mut held = Held {
-            value: Punctuated::new(input.alloc()),
-        };
-        held.value.push_boxed(first);
+        let mut elems = Punctuated::new(input.alloc());
+        elems.push_value(Box::into_inner(first))?;
         if let Some(comma) = comma(input) {
-            held.value.push_punct(comma)?;
-            return self.more_elements(input, held.into_inner());
+            elems.push_punct(comma)?;
+            return self.more_elements(input, elems);
         }
         if !input.is_empty() {
             return Err(input.error(ErrorKind::ExpectedCommaOrSemi));
         }
-        Ok(held.into_inner())
+        Ok(elems)
     }
 
     /// Reads what stands in brackets.
@@ -260,9 +254,7 @@ impl<E: ReadExprs + Drop, F: Fn(&mut ParseBuffer<'_>, Place) -> Result<Box<E>>> 
         }
         let expr = (self.expr)(input, PLAIN)?;
         if let Some(semi_token) = semi(input) {
-            let expr = Held { value: expr };
             let len = (self.expr)(input, PLAIN)?;
-            let expr = expr.into_inner();
             return Ok(repeat(input.alloc(), bracket_token, expr, semi_token, len)?);
         }
         let elems = self.behind_first(input, expr)?;
@@ -285,7 +277,7 @@ impl<E: ReadExprs + Drop, F: Fn(&mut ParseBuffer<'_>, Place) -> Result<Box<E>>> 
         let (bracket_token, mut content) = input.parse_brackets()?;
         let x = self.bracketed(&mut content, bracket_token)?;
         if !content.is_empty() {
-            return Err(given_up(x, content.error(ErrorKind::UnexpectedToken)));
+            return Err(content.error(ErrorKind::UnexpectedToken));
         }
         Ok(x)
     }

@@ -14,7 +14,6 @@ ghost use Rattle.syn_tokens.specs.Tok.{weight};
 
 use crate::lists::Lists;
 use crate::word::named;
-use syn_expr_ends::held::{Held, given_up};
 use syn_expr_ends::kinds::ReadExprs;
 use syn_expr_ends::place::PLAIN;
 use syn_expr_heads::ending::comma_or_end;
@@ -126,7 +125,7 @@ impl<E: ReadExprs + Drop, F: Fn(&mut ParseBuffer<'_>, Place) -> Result<Box<E>>> 
         }
         let x = (self.expr)(input, PLAIN)?;
         if !input.is_empty() {
-            return Err(given_up(x, input.error(ErrorKind::UnexpectedToken)));
+            return Err(input.error(ErrorKind::UnexpectedToken));
         }
         Ok(Some(x))
     }
@@ -148,15 +147,13 @@ impl<E: ReadExprs + Drop, F: Fn(&mut ParseBuffer<'_>, Place) -> Result<Box<E>>> 
                 Ok(Entry::Rest(dot2_token, rest))
             }
             FieldHead::Field(attrs, member, colon_token) => {
-                let expr = Held {
-                    value: self.value(input, &member, colon_token.is_some())?,
-                };
+                let expr = self.value(input, &member, colon_token.is_some())?;
                 let comma = comma_or_end(input)?;
                 let field = FieldValueOf {
                     attrs,
                     member,
                     colon_token,
-                    expr: expr.into_inner(),
+                    expr,
                 };
                 Ok(Entry::Field(field, comma))
             }
@@ -174,28 +171,26 @@ impl<E: ReadExprs + Drop, F: Fn(&mut ParseBuffer<'_>, Place) -> Result<Box<E>>> 
         ensures noted { input.new.noted ≡ input.old.noted }
         ensures shrinks { weight input.new.rest ≤ weight input.old.rest }
     {
-        let mut held = Held {
-            value: Punctuated::new(input.alloc()),
-        };
+        let mut fields = Punctuated::new(input.alloc());
         'fields: while !input.is_empty() {
             match self.entry(input)? {
                 Entry::Rest(dot2_token, rest) => {
                     return Ok(Fields {
-                        fields: held.into_inner(),
+                        fields,
                         dot2_token: Some(dot2_token),
                         rest,
                     });
                 }
                 Entry::Field(field, comma) => {
-                    held.value.push_value(field)?;
+                    fields.push_value(field)?;
                     let Some(comma) = comma else {
-                        return Ok(without_rest(held.into_inner()));
+                        return Ok(without_rest(fields));
                     };
-                    held.value.push_punct(comma)?;
+                    fields.push_punct(comma)?;
                 }
             }
         }
-        Ok(without_rest(held.into_inner()))
+        Ok(without_rest(fields))
     }
 
     /// Reads a struct expression behind its path, whatever path that is: the braces, in them fields with commas between, and

@@ -27,7 +27,6 @@ use crate::{make, refusal};
 use syn_expr_atoms::atoms::Atoms;
 use syn_expr_atoms::leaf::{leaf, standing};
 use syn_expr_blocks::blocks::Blocks;
-use syn_expr_ends::held::{LetGo, given_up};
 use syn_expr_ends::kinds::{ReadExprs, ReadPats};
 use syn_expr_ends::place::PLAIN;
 use syn_expr_front::sign::brace_at;
@@ -78,7 +77,6 @@ fn with_outer<E: ReadExprs + Drop>(
         }
         Err(x) => {
             if !takes_attributes(place, &x) {
-                x.let_go();
                 return Err(Error::new(span, ErrorKind::RangeAttributes));
             }
             Ok(make::boxed(input.alloc(), x.with_attrs(attrs)?)?)
@@ -115,7 +113,7 @@ fn named_alone<E: IsExpr + Drop>(input: &mut ParseBuffer<'_>, name: &Ident) -> R
 impl<E: ReadExprs + Drop, F: Fn(&mut ParseBuffer<'_>, Place) -> Result<Box<E>> + Copy> Grammar<F>
 where
     E::Pat: ReadPats + Drop,
-    <E as IsExpr>::Arm: LetGo + Drop,
+    <E as IsExpr>::Arm: Drop,
 {
     /// Reads what stands behind a path: the `!` and the group of a macro, the braces of a struct expression, or nothing.
     // It is a part of its callers, so that a struct expression has no frame more for it.
@@ -238,7 +236,7 @@ where
             Err(e) => return Err(named_refusal(e, begins)),
         };
         if !content.is_empty() {
-            return Err(given_up(x, content.error(ErrorKind::UnexpectedToken)));
+            return Err(content.error(ErrorKind::UnexpectedToken));
         }
         self.behind_group(input, place, group_token, x)
     }

@@ -14,7 +14,6 @@ use crate::ends::{closes, next_operator, stops};
 use crate::grammar::Grammar;
 use crate::known::chains;
 use crate::make;
-use syn_expr_ends::held::{Held, given_up};
 use syn_expr_ends::kinds::ReadExprs;
 use syn_expr_ends::place::at;
 use syn_expr_front::sign::{ends_open_range, left_arrow_at};
@@ -70,7 +69,7 @@ impl<E: ReadExprs + Drop, F: Fn(&mut ParseBuffer<'_>, Place) -> Result<Box<E>>> 
     {
         let right = (self.expr)(input, at(place, level_of(op)))?;
         if left_arrow_at(input) {
-            return Err(given_up(right, input.error(ErrorKind::LeftArrow)));
+            return Err(input.error(ErrorKind::LeftArrow));
         }
         Ok(right)
     }
@@ -97,9 +96,8 @@ impl<E: ReadExprs + Drop, F: Fn(&mut ParseBuffer<'_>, Place) -> Result<Box<E>>> 
         if matches!(kind, Limits::HalfOpen) && ends_open_range(input, place.condition) {
             return Ok(make::range_from(input.alloc(), start, limits)?);
         }
-        let start = Held { value: start };
         let end = (self.expr)(input, at(place, Level::Range))?;
-        Ok(make::range_between(input.alloc(), start.into_inner(), limits, end)?)
+        Ok(make::range_between(input.alloc(), start, limits, end)?)
     }
 
     /// Reads what stands behind an operator, which was taken, and its left operand: the operation that they are.
@@ -121,24 +119,23 @@ impl<E: ReadExprs + Drop, F: Fn(&mut ParseBuffer<'_>, Place) -> Result<Box<E>>> 
         ensures shrinks { weight input.new.rest ≤ weight input.old.rest }
     {
         let [first, _, _] = spans;
-        let left = Held { value: left };
         match op {
             Infix::Binary(kind) => {
                 let right = self.right(input, place, op)?;
-                Ok(make::binary(input.alloc(), left.into_inner(), kind, spans, right)?)
+                Ok(make::binary(input.alloc(), left, kind, spans, right)?)
             }
             Infix::Assign => {
                 let right = self.right(input, place, op)?;
                 let eq_token = Eq { spans: [first] };
-                Ok(make::assign(input.alloc(), left.into_inner(), eq_token, right)?)
+                Ok(make::assign(input.alloc(), left, eq_token, right)?)
             }
-            Infix::Range(kind) => self.range(input, place, left.into_inner(), kind, spans),
+            Infix::Range(kind) => self.range(input, place, left, kind, spans),
             Infix::Cast => {
                 let ty = ty(input, false)?;
                 if left_arrow_at(input) {
                     return Err(input.error(ErrorKind::LeftArrow));
                 }
-                Ok(make::cast(input.alloc(), left.into_inner(), As { span: first }, ty)?)
+                Ok(make::cast(input.alloc(), left, As { span: first }, ty)?)
             }
         }
     }
@@ -162,17 +159,17 @@ impl<E: ReadExprs + Drop, F: Fn(&mut ParseBuffer<'_>, Place) -> Result<Box<E>>> 
     {
         'operators: while let Some((op, count)) = next_operator(input, place, &*left) {
             if chains(op, &*left) {
-                return Err(given_up(left, input.error(ErrorKind::ChainedComparison)));
+                return Err(input.error(ErrorKind::ChainedComparison));
             }
             let spans = input.spans();
             input.skip(count);
             left = self.longer(input, place, left, op, spans)?;
             if !closes(input, place, &*left) {
-                return Err(given_up(left, after_cast(input)));
+                return Err(after_cast(input));
             }
         }
         if !stops(input, place, &*left) {
-            return Err(given_up(left, refusal(input)));
+            return Err(refusal(input));
         }
         Ok(left)
     }

@@ -24,7 +24,6 @@ use crate::fields::fields;
 use crate::grammar::Grammar;
 use crate::known::fits_base;
 use crate::make;
-use syn_expr_ends::held::{Held, given_up};
 use syn_expr_ends::kinds::ReadExprs;
 use syn_expr_front::float::{FloatIndices, indices, indices_before_name, refusal};
 use syn_expr_front::sign::bracket_at;
@@ -66,7 +65,7 @@ fn try_expr<E: ReadExprs + Drop>(
     ensures same { input.new ≡ input.old }
 {
     if !fits_base(place, TrailerKind::Try, &*base) {
-        return Err(given_up(base, input.error(ErrorKind::UnexpectedToken)));
+        return Err(input.error(ErrorKind::UnexpectedToken));
     }
     Ok(make::try_expr(input.alloc(), base, question_token)?)
 }
@@ -83,7 +82,7 @@ fn indexed<E: ReadExprs + Drop>(
     ensures value { Reads (λ b. E.tree b.value) (if known.fits_base place (kinds.Field false) (E.tree base.value) then Some (stands.fields_of (E.tree base.value) indices.entry, input.now.rest) else None) result input.now.rest }
 {
     if !fits_base(place, TrailerKind::Field { named: false }, &*base) {
-        return Err(given_up(base, input.error(ErrorKind::UnexpectedToken)));
+        return Err(input.error(ErrorKind::UnexpectedToken));
     }
     let (x, _) = fields(input.alloc(), base, dot_token, indices)?;
     Ok(x)
@@ -102,12 +101,11 @@ impl<E: ReadExprs + Drop, F: Fn(&mut ParseBuffer<'_>, Place) -> Result<Box<E>> +
         ensures shrinks { weight input.new.rest ≤ weight input.old.rest }
     {
         if !fits_base(place, TrailerKind::Call, &*base) {
-            return Err(given_up(base, input.error(ErrorKind::UnexpectedToken)));
+            return Err(input.error(ErrorKind::UnexpectedToken));
         }
-        let base = Held { value: base };
         let lists = Lists { expr: self.expr };
         let (paren_token, args) = lists.arguments(input)?;
-        Ok(make::call(input.alloc(), base.into_inner(), paren_token, args)?)
+        Ok(make::call(input.alloc(), base, paren_token, args)?)
     }
 
     /// Reads an index in brackets.
@@ -122,12 +120,11 @@ impl<E: ReadExprs + Drop, F: Fn(&mut ParseBuffer<'_>, Place) -> Result<Box<E>> +
         ensures shrinks { weight input.new.rest ≤ weight input.old.rest }
     {
         if !fits_base(place, TrailerKind::Index, &*base) {
-            return Err(given_up(base, input.error(ErrorKind::UnexpectedToken)));
+            return Err(input.error(ErrorKind::UnexpectedToken));
         }
-        let base = Held { value: base };
         let lists = Lists { expr: self.expr };
         let (bracket_token, index) = lists.index(input)?;
-        Ok(make::index(input.alloc(), base.into_inner(), bracket_token, index)?)
+        Ok(make::index(input.alloc(), base, bracket_token, index)?)
     }
 
     /// Reads the arguments of a method behind its name and its turbofish, if it has one. A `::` that begins no turbofish is
@@ -169,12 +166,11 @@ impl<E: ReadExprs + Drop, F: Fn(&mut ParseBuffer<'_>, Place) -> Result<Box<E>> +
         ensures noted { input.new.noted ≡ input.old.noted }
         ensures shrinks { weight input.new.rest ≤ weight input.old.rest }
     {
-        let base = Held { value: base };
         let head = dotted(input)?;
-        if !fits_base(place, head_kind(&head), &*base.value) {
+        if !fits_base(place, head_kind(&head), &*base) {
             return Err(input.error(ErrorKind::UnexpectedToken));
         }
-        let (base, dot_token) = fields(input.alloc(), base.into_inner(), dot_token, indices)?;
+        let (base, dot_token) = fields(input.alloc(), base, dot_token, indices)?;
         match head {
             TrailerHead::Await(await_token) => Ok(make::awaited(
                 input.alloc(),
@@ -184,10 +180,8 @@ impl<E: ReadExprs + Drop, F: Fn(&mut ParseBuffer<'_>, Place) -> Result<Box<E>> +
             )?),
             TrailerHead::Field(member) => Ok(make::field(input.alloc(), base, dot_token, member)?),
             TrailerHead::Method(name, turbofish) => {
-                let base = Held { value: base };
                 let arguments = self.method_arguments(input, turbofish.is_some())?;
                 let name = (name, turbofish);
-                let base = base.into_inner();
                 Ok(make::method(input.alloc(), base, dot_token, name, arguments)?)
             }
         }
@@ -214,7 +208,7 @@ impl<E: ReadExprs + Drop, F: Fn(&mut ParseBuffer<'_>, Place) -> Result<Box<E>> +
             return indexed(input, place, base, dot_token, indices);
         }
         let Some(indices) = indices_before_name(input) else {
-            return Err(given_up(base, refusal(input)));
+            return Err(refusal(input));
         };
         self.named_trailer(input, place, base, dot_token, indices)
     }
@@ -240,7 +234,7 @@ impl<E: ReadExprs + Drop, F: Fn(&mut ParseBuffer<'_>, Place) -> Result<Box<E>> +
             return try_expr(input, place, base, question_token);
         }
         let Some(dot_token) = dot(input) else {
-            return Err(given_up(base, input.error(ErrorKind::UnexpectedToken)));
+            return Err(input.error(ErrorKind::UnexpectedToken));
         };
         self.behind_dot(input, place, base, dot_token)
     }
@@ -250,8 +244,6 @@ impl<E: ReadExprs + Drop, F: Fn(&mut ParseBuffer<'_>, Place) -> Result<Box<E>> +
     /// It is refused as `UnexpectedToken` at a trailer that its base doesn't take, as `ExpectedMember`,
     /// `ExpectedUnsuffixedInteger` or `IndexOutOfRange` where no name, method or index is behind a dot, as `ExpectedToken` where
     /// a method lacks its arguments or the `<` of its turbofish, and inside as arguments, an index or a type are.
-    // Mostly there is none, which is told without a call.
-    #[inline(always)]
     #[tactic(auto, using(crate::proofs::Loops::trails))]
     pub(crate) fn trail(
         &self,

@@ -17,7 +17,7 @@ fn shown(alloc: Global, kind: ErrorKind) -> Result<String, Error> {
 }
 
 /// The refusals, those of the lexer by one of them, without those of an expected token.
-const KINDS: [ErrorKind; 40] = [
+const KINDS: [ErrorKind; 39] = [
     ErrorKind::OutOfMemory,
     ErrorKind::ExpectedExpression,
     ErrorKind::ExpectedBinaryOperator,

@@ -17,8 +17,8 @@ returns-in-Some g c =
     let b = c.behind-before.ensures ∙ ap (λ ats. is_nil (outers ats) && c.args.before) c.attributes.ensures in
     c.leaf_brace.ensures ∙ (ap (λ x. query.leaf_brace x (leaf_of c.in-Some.leaf)) b ∙ right-leaf c.args.before (leaf_of c.in-Some.leaf) t l (g.met.E.HasFrames.framed c.args.expr.now))
 
-pub returns-in-Some-prefixed : goal.returns-in-Some-prefix
-returns-in-Some-prefixed g c =
+pub returns-in-Some-prefix : goal.returns-in-Some-prefix
+returns-in-Some-prefix g c =
     let t = g.E.HasExprTree.tree c.args.expr.now in
     let pat = g.E.Pat.HasPatTree.view in
     let k = prefix_seen pat c.in-Some-prefix.prefix in

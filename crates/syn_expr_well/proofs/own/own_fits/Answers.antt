@@ -5,8 +5,8 @@ use Rattle.syn_expr_kinds.specs.Node.{prefix_seen, frame_seen, prefix_at, frame_
 use Rattle.syn_expr_well.proofs.Owns.{own-prefixed, own-frame}
 use Rattle.syn_expr_well.proofs.own.own_fits.Goals as goal
 
-pub returns-in-Some-prefixed : goal.returns-in-Some-prefix
-returns-in-Some-prefixed g c =
+pub returns-in-Some-prefix : goal.returns-in-Some-prefix
+returns-in-Some-prefix g c =
     let t = g.E.HasExprTree.tree c.args.expr.now in
     let pat = g.E.Pat.HasPatTree.view in
     let k = prefix_seen pat c.in-Some-prefix.prefix in
