@@ -1,4 +1,5 @@
--- All of an expression is lent: it has its attributes, its shape and its operands, and nothing beside.
+-- An expression is borrowed as its attributes, its shape and its operands, and these are all of it: `#[k] a + b` as `#[k]`, as
+-- an operation by `+`, and as `a` and `b`.
 use Rattle.std.proofs.Common.{◌≡◌, Bool, false, List, [], ◌∷◌, ◌++◌, Option, Some, None, refl, sym, ap, ◌∙◌, subst}
 use Rattle.std.proofs.lemmas.List.{append-nil}
 use Rattle.syn_parts.specs.Tree.{AttributeTree, ReturnTree, default, given}

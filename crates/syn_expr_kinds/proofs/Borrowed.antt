@@ -1,4 +1,4 @@
--- What is told of a node by its parts: the operands at its ends, and whether it is a block and nothing more.
+-- What the parts of a node say of it: which operands are at its ends (`a` and `b` of `a + b`), and whether it is a plain block.
 use Rattle.std.specs.Prelude.{is_some}
 use Rattle.std.proofs.Common.{◌≡◌, Bool, not, ◌&&◌, List, [], ◌∷◌, Option, Some, None, refl}
 use Rattle.syn_parts.specs.Form.{is_nil}

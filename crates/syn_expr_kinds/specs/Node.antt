@@ -239,7 +239,7 @@ operands_at (e.postfixed x k) = one_tree x
 operands_at (e.tail b k ks) = based_by b ks
 operands_at (e.frame k ks) = framed (without_strays ks)
 
--- ---- what is lent
+-- ---- borrowed parts
 
 abbrev pub operands_of : {E A : Type 0} → (E → Tree) → (A → ArmView) → Operands E A → OperandTrees
 operands_of tree arm operands.None = no_trees

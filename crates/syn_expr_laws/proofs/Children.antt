@@ -29,7 +29,7 @@ closure_once (given o) default a b gs hs x y h = absurd cc
 
 -- ---- arms
 
--- the arms that these operands are, the first of which has these guards so far
+-- The arms that the operands of a `match` make up. gs are the guards of the next arm that were passed already.
 arms_in : List Tree → Children → List ArmView
 arms_in gs none = []
 arms_in gs (child e.stray d g ks) = arms_in (gs ++ g ∷ []) ks

@@ -50,7 +50,7 @@ range-prefixed (e.jump e.returning) = refl
 range-prefixed (e.jump e.yielding) = refl
 range-prefixed (e.closure h) = refl
 
--- what is made of what is lent has no attributes
+-- a tree that is made of borrowed parts has no attributes
 plain-node : (s : ShapeTree) (o : OperandTrees) → is_attributed (node_of s o) ≡ false
 plain-node (leaf_shape k) o = elim o as (λ o. is_attributed (node_of (leaf_shape k) o) ≡ false) [ no_trees ↦ refl | _ ↦ refl ]
 plain-node paren_shape o = elim o as (λ o. is_attributed (node_of paren_shape o) ≡ false) [ one_tree t ↦ refl | _ ↦ refl ]

@@ -1,4 +1,4 @@
--- What is lent of a node is there where its kind says so, and its operands are smaller.
+-- A node has the parts that its kind says, as `a + b` has an operator between two operands; and its operands are smaller.
 use Rattle.std.specs.Prelude.{Option, Some, None, is_some, Result, Ok, Err}
 use Rattle.std.proofs.Common.{◌≡◌, ℕ, ◌+◌, ◌<◌, true, false, List, [], ◌++◌, OnOk, subst, refl, sym, ap, ◌∙◌, append_assoc, arith}
 use Rattle.syn_lexer.specs.declared.lexeme.Delimiter.TheVariants as del
@@ -37,7 +37,7 @@ borrowed : {A B : Type 0} (f : A → B) (o : Option A) (x : Option B) → mapped
 borrowed f (Some a) x e h = refl
 borrowed f None x e h = absurd (h (sym e))
 
--- ---- what is lent
+-- ---- borrowed parts
 
 pub leaf-some : {A : Type 0} (f : A → e.Leaf) (o : Option A) (t : Tree) (q : LeafKind) → kind_at t ≡ kind.Leaf q → mapped f o ≡ leaf_at t → is_some o ≡ true
 leaf-some f o t q h m = borrowed f o (leaf_at t) m (leaf-there t q h)
@@ -99,7 +99,7 @@ pub on-map : {U X : Type 0} {A B : Type 0} (r : Result U X) → OnOk r A → (A 
 on-map (Ok x) h f = f h
 on-map (Err x) h f = h
 
--- ---- tokens, one part behind the other, by what is lent
+-- ---- the tokens of the borrowed parts, one part after the other
 
 borrowed-at : {A B : Type 0} (f : A → B) (o : Option A) (l : A) (x : Option B) → mapped f o ≡ x → o ≡ Some l → x ≡ Some (f l)
 borrowed-at f o l x m e = sym m ∙ ap (mapped f) e

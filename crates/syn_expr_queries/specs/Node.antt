@@ -1,4 +1,4 @@
--- What is told of a node by its parts.
+-- What the parts of a node say of it.
 use Rattle.std.specs.Prelude.{Bool, true, false, List, Option, Some, None}
 use Rattle.syn_tokens.specs.Tok.{Tok}
 use Rattle.syn_grammar.specs.Head.{from_verbatim}
