@@ -8,7 +8,7 @@ use Rattle.syn_grammar.specs.Tree.{Tree, attributed, infixed}
 use Rattle.syn_expr.specs.Promises.{PrintedAs}
 use Rattle.syn_expr.specs.Texts.{StandsFor}
 
--- An operation, behind its attributes, has its operands swapped; anything else stays.
+-- An operation, after its attributes, has its operands swapped; anything else stays.
 abbrev pub swapped_tree : Tree → Tree
 swapped_tree (attributed a more t) = attributed a more (swapped_tree t)
 swapped_tree (infixed x (inf.Binary k) y) = infixed y (inf.Binary k) x

@@ -1,4 +1,4 @@
-//! Reads operations, swaps the operands of each, and prints it: parentheses stand where they are needed.
+//! Reads operations, swaps the operands of each, and prints it: parentheses are where they are needed.
 #![tactic(auto)]
 
 ghost use Rattle.std.specs.Prelude.{◌≡◌, ◌⊎◌, IfErr, IfOk, chars, string_bytes};

@@ -21,7 +21,7 @@ word named.Stmt = codes "stmt"
 word named.Cond = codes "cond"
 word named.Arm = codes "arm"
 
--- the word behind it by which the parentheses that the expression has are taken away
+-- the word after it by which the parentheses that the expression has are taken away
 abbrev pub bare_word : List ℕ
 bare_word = codes "bare"
 
@@ -77,7 +77,7 @@ abbrev pub Gains : Option (List ℕ) → List ℕ → Bool → Option (List ℕ)
 Gains old text false new = Appends old new text
 Gains old text true new = GainsFront old text new
 
--- a writer before and behind a run, and whether it failed
+-- a writer before and after a run, and whether it failed
 pub record Writer : Type 0 where
   pub before : Option (List ℕ)
   pub broke : Bool
@@ -89,7 +89,7 @@ writer held b holds = record { before = held; broke = b; after = holds }
 abbrev pub Takes : Writer → List ℕ → Type 0
 Takes w text = Gains w.before text w.broke w.after
 
--- what stands beside the printed line: where the output failed, the errors say so
+-- what is beside the printed line: where the output failed, the errors say so
 abbrev pub Prints : Bool → ℕ → Writer → Type 0
 Prints false status errors = (status ≡ 0) × (errors.after ≡ errors.before)
 Prints true status errors = (status ≡ 1) × Takes errors (line failed)

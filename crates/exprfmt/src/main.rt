@@ -5,7 +5,7 @@
 //!
 //! Status 0: the printed line is on standard output. Status 1: the input was refused, memory ran out, or reading or
 //! writing failed; one line on standard error says so. Status 2: the arguments are no words of the program; the usage
-//! stands on standard error.
+//! is on standard error.
 #![tactic(auto)]
 
 mod run;
@@ -40,7 +40,7 @@ fn main(rt: HostRuntime) -> ExitCode {
     ExitCode::from(status)
 }
 
-/// What the arguments ask for: the position, and whether `bare` stands behind it.
+/// What the arguments ask for: the position, and whether `bare` comes after it.
 fn asked(mut args: env::Args) -> Option<(Position, bool)> {
     let _ = args.next()?;
     let position = named(args.next()?.as_str())?;

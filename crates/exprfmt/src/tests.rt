@@ -55,7 +55,7 @@ fn is_answered(got: &Written, line: &str, status: u8) -> bool {
         }
 }
 
-/// What the words of a call ask for: the position, and whether `bare` stands behind it.
+/// What the words of a call ask for: the position, and whether `bare` comes after it.
 fn asked(words: &str) -> Option<(Position, bool)> {
     match words.split_once(' ') {
         Some((word, more)) if is_bare(more) => Some((named(word)?, true)),
@@ -94,7 +94,7 @@ fn prints_them_without_their_parentheses(rt: HostRuntime) -> Result<(), Fail> {
     check(rt.alloc(), BARE, 0)
 }
 
-/// A text, another `count` times behind it, and a third.
+/// A text, another `count` times after it, and a third.
 fn around(alloc: Global, first: &str, again: &str, count: u32, last: &str) -> Result<String, Fail> {
     let mut text = String::new(alloc);
     text.push_str(first)?;

@@ -13,7 +13,7 @@ no_number : (c : ℕ) (text : Text) → (c == 45) ≡ true → index_of (c ∷ t
 unfolding index_of is_number
 no_number c text h = grind (arith, common_steps)
 
--- Behind a sign there is none.
+-- After a sign there is none.
 by_sign : (c : ℕ) (text : Text) (b : Bool) → (c == 45) ≡ b
     → token_value (if b then alone 45 ∷ literal text ∷ [] else literal (c ∷ text) ∷ []) ≡ integer (c ∷ text)
 by_sign c text true h = rw (no_number c text h) refl

@@ -42,7 +42,7 @@ fn literal_value(alloc: Global, lit: &Lit) -> Result<Option<i64>>
     Ok(token_value(tokens.trees()))
 }
 
-/// The value of an operand behind a prefix operator, if it has one and does not overflow.
+/// The value of an operand after a prefix operator, if it has one and does not overflow.
 fn prefix_value(op: &UnOp, operand: Option<i64>) -> Option<i64>
     ensures { result ≡ option_and_then (spec.prefix_value (un_kind op.now)) operand }
 {

@@ -6,7 +6,7 @@ use Rattle.syn_grammar.specs.Op.{binary_level}
 use Rattle.syn_grammar.specs.Tree.{Tree, attributed, infixed}
 use Rattle.syn_expr.specs.Texts.{StandsFor}
 
--- Behind its attributes it is a comparison, and the same stands on both sides.
+-- After its attributes it is a comparison, and the same is on both sides.
 abbrev pub ComparesWithItself : Tree → Type 0
 ComparesWithItself (attributed a more t) = ComparesWithItself t
 ComparesWithItself (infixed x (inf.Binary k) y) = (binary_level k ≡ lev.Compare) × (x ≡ y)

@@ -11,7 +11,7 @@ use std::io;
 use syn_expr::{ErrorKind, Expr, HeldExpr, Precedence, Result, parse_str};
 use syn_expr_laws::same::equal_expressions;
 
-/// Whether the same expression stands on both sides of a comparison.
+/// Whether the same expression is on both sides of a comparison.
 fn compares_with_itself(expr: &Expr) -> bool
     ensures sound { result ≡ true → ComparesWithItself (tree_of expr.now) }
     ensures complete { ComparesWithItself (tree_of expr.now) → result ≡ true }

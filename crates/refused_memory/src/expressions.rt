@@ -177,7 +177,7 @@ fn again(alloc: Global, text: &str) -> Result<String> {
     printed(alloc, &held(read_back(alloc, &old.expr))?)
 }
 
-/// The same in a position before other tokens, with what is left behind it.
+/// The same in a position before other tokens, with what is left after it.
 fn again_before(alloc: Global, text: &str, position: Position, more: &str) -> Result<String> {
     let old = parse_str::<HeldExpr>(alloc, text)?;
     let more = lex(alloc, more)?;

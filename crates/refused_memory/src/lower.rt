@@ -13,7 +13,7 @@ use syn_expr::{
     TypeTraitObject, TypeTuple, lex, parse_str, print_qpath, qpath,
 };
 
-/// Attributes, inner ones or outer ones, printed one behind the other.
+/// Attributes, inner ones or outer ones, printed one after the other.
 fn attributes(alloc: Global, text: &str, are_inner: bool) -> Result<String> {
     let tokens = lex(alloc, text)?;
     let mut input = ParseBuffer::new(&tokens)?;

@@ -21,7 +21,7 @@ pub fn words(alloc: Global, text: &str) -> Result<String> {
     Ok(String::from_str(alloc, text)?)
 }
 
-/// A list with old tokens, behind which others are printed.
+/// A list with old tokens, after which others are printed.
 #[derive(Drop)]
 pub struct Behind {
     /// The old tokens.
@@ -31,14 +31,14 @@ pub struct Behind {
 }
 
 impl Behind {
-    /// A list with old tokens, as many as it has room for: the first one behind them asks for memory.
+    /// A list with old tokens, as many as it has room for: the first one after them asks for memory.
     pub fn start(alloc: Global) -> Result<Behind> {
         let old = lex(alloc, "old (a b) + c")?;
         let tokens = copy_trees(alloc, old.trees())?;
         Ok(Behind { old, tokens })
     }
 
-    /// The text of what was printed. Whatever that answered, the old tokens have to stand in front, and are the list again
+    /// The text of what was printed. Whatever that answered, the old tokens have to are in front, and are the list again
     /// once it is cut where they ended.
     pub fn end(self, put: Result<()>) -> Result<String> {
         let Behind { old, mut tokens } = self;
@@ -62,7 +62,7 @@ fn text_behind(tokens: &TokenStream, count: usize) -> Result<String> {
     to_text(&copy_trees(tokens.alloc(), input.trees())?)
 }
 
-/// A value printed behind old tokens.
+/// A value printed after old tokens.
 pub fn printed<T: ToTokens>(alloc: Global, value: &T) -> Result<String> {
     let mut list = Behind::start(alloc)?;
     let put = value.to_tokens(&mut list.tokens);

@@ -45,7 +45,7 @@ pub fn words(alloc: Global, text: &str) -> Result<String, Error> {
     Ok(String::from_str(alloc, text)?)
 }
 
-/// What is left of a text behind what is read at its front. A refusal has to leave all of it.
+/// What is left of a text after what is read at its front. A refusal has to leave all of it.
 pub fn left_by<F: FnOnce(&mut ParseBuffer<'_>) -> Option<Error>>(
     alloc: Global,
     text: &str,
@@ -64,7 +64,7 @@ pub fn left_by<F: FnOnce(&mut ParseBuffer<'_>) -> Option<Error>>(
     }
 }
 
-/// What is left of a text behind a `T`.
+/// What is left of a text after a `T`.
 pub fn left<T: Parse + Drop>(alloc: Global, text: &str) -> Result<String, Error> {
     left_by(alloc, text, |input| T::parse(input).err())
 }

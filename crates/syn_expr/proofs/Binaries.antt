@@ -20,7 +20,7 @@ use Rattle.syn_expr_all.specs.declared.control.ExprMatch.{ExprMatch}
 use Rattle.syn_expr_all.specs.View.{tree_layer, tree_of, views}
 use Rattle.syn_expr_all.proofs.TreeOf.{tree_out, closure-is, for_loop-is, let_expr-is, match_expr-is}
 
--- It is a binary operation, behind its attributes.
+-- It is a binary operation, after its attributes.
 abbrev pub is_binary : Tree → Bool
 is_binary (attributed a more t) = is_binary t
 is_binary (infixed x (inf.Binary k) y) = true

@@ -1,4 +1,4 @@
--- Of the attributes of a node with braces one is an outer one exactly where one stands before it.
+-- Of the attributes of a node with braces one is an outer one exactly where one comes before it.
 use Rattle.std.proofs.Common.{◌≡◌, Bool, true, false, not, ◌||◌, if◌then◌else◌, List, [], ◌∷◌, refl, ap, ◌∙◌}
 use Rattle.syn_parts.specs.Tree.{AttributeTree}
 use Rattle.syn_grammar.specs.Tree.{outers}

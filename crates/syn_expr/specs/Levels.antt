@@ -41,7 +41,7 @@ kind_level (node.Infix op) = level op
 kind_level (node.Postfix k) = level (postfix_op k)
 kind_level _ = lev.Unambiguous
 
--- behind an outer attribute
+-- after an outer attribute
 abbrev pub behind : Level → Level
 behind lev.Unambiguous = lev.Prefix
 behind v = v
@@ -51,6 +51,6 @@ abbrev pub has_outer : List AttributeTree → Bool
 has_outer [] = false
 has_outer (a ∷ more) = not a.inner || has_outer more
 
--- of a whole expression, behind its attributes
+-- of a whole expression, after its attributes
 abbrev pub tree_level : Tree → Level
 tree_level t = if has_outer (attributes_at t) then behind (kind_level (kind_at t)) else kind_level (kind_at t)

@@ -8,17 +8,17 @@ use Rattle.syn_grammar.specs.Stands.{Stands}
 use Rattle.syn_grammar.specs.Tree.{Tree, own, own_tokens, clear, fill, IsSameTree}
 use Rattle.syn_grammar.specs.WellFormed.{is_well_formed}
 
--- what was put behind the old tokens
+-- what was put after the old tokens
 abbrev pub Puts : List Tok → List Tok → (List Tok → Type 0) → Type 0
 Puts old new Promised = (ts : List Tok) × (new ≡ old ++ ts) × Promised ts
 
--- The tokens of a well-formed tree stand in the position, before whatever it allows, for the same tree up to parentheses and
+-- The tokens of a well-formed tree are in the position, before whatever it allows, for the same tree up to parentheses and
 -- fill-ins.
 abbrev pub StandsBack : Position → Tree → List Tok → Type 0
 StandsBack s t ts =
     is_well_formed t ≡ true → (x : Tree) × IsSameTree t x × ((rest : List Tok) → allows s rest ≡ true → Stands (place_of s) (ts ++ rest) x rest)
 
--- They stand there for the tree with its fill-ins and with pairs of parentheses that were added: p is this tree, in which these
+-- They are there for the tree with its fill-ins and with pairs of parentheses that were added: p is this tree, in which these
 -- pairs are marked. (What stands has no marks.) So it is the same tree up to parentheses and fill-ins.
 abbrev pub StandsWithPairs : Position → Tree → List Tok → Type 0
 StandsWithPairs s t ts =
@@ -32,7 +32,7 @@ IsOwn t ts = (l : List Tok) → Stands plain l t [] → ts ≡ own_tokens (paren
 -- p is t as it is printed: the pairs that were added are marked, and without them it is t with its fill-ins.
 pub record HasMinimalPairs (s : Position) (t p : Tree) : Type 0 where
   pub added : without_added p ≡ clear (fill t)
-  -- No pair is added exactly where the tree's own spelling, with its fill-ins, stands there for it.
+  -- No pair is added exactly where the tree's own spelling, with its fill-ins, is there for it.
   pub none_redundant : (rest : List Tok) → allows s rest ≡ true
       → (clear p ≡ clear (fill t)) ↔ Stands (place_of s) (own (fill t) rest) (clear (fill t)) rest
   -- With one of the added pairs left out, it stands for no list.

@@ -6,7 +6,7 @@ use Rattle.syn_grammar.specs.Place.{plain}
 use Rattle.syn_grammar.specs.Stands.{Stands}
 use Rattle.syn_grammar.specs.Tree.{Tree}
 
--- the text is cut into tokens for the whole of which the tree stands
+-- the text is cut into tokens for the whole of which the tree is
 abbrev pub StandsFor : List ℕ → Tree → Type 0
 StandsFor cs t = (l : List Tok) × Spells cs l × Stands plain l t []
 

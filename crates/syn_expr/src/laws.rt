@@ -41,8 +41,8 @@ pub fn read_back(alloc: Global, expr: &Expr) -> Result<Expr>
     read_whole(tokens)
 }
 
-/// Prints an expression in a position, puts other tokens behind it, and reads what stands there: before whatever the position
-/// allows a well-formed expression is read back as the same tree, up to parentheses and fill-ins, and all behind it is left,
+/// Prints an expression in a position, puts other tokens after it, and reads what is there: before whatever the position
+/// allows a well-formed expression is read back as the same tree, up to parentheses and fill-ins, and all after it is left,
 /// unless memory runs out (`OutOfMemory`). It answers what was read, and what is left.
 pub fn read_back_before(
     alloc: Global,

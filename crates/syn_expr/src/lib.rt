@@ -1,6 +1,6 @@
-//! Expressions: the tree, its reader and its printer, as in syn. What a user names stands here at the root too, with the lower
+//! Expressions: the tree, its reader and its printer, as in syn. What a user names is here at the root too, with the lower
 //! parts and with what `syn_tokens` has there: a program that reads, changes and prints needs no other crate of these; what
-//! `==` says stands in `syn_expr_laws`.
+//! `==` says is in `syn_expr_laws`.
 #![tactic(auto)]
 
 pub mod laws;
@@ -163,6 +163,8 @@ pub use syn_lower::qpath_is_read_back;
 pub use syn_lower::stmt;
 pub use syn_lower::ty;
 pub use syn_op::op;
+pub use syn_spanned::Spanned;
+pub use syn_spanned::span_of;
 pub use syn_tokens::AfterCast;
 pub use syn_tokens::Delimiter;
 pub use syn_tokens::Error;

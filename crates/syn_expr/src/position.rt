@@ -14,16 +14,16 @@ use syn_expr_fixup::FixupContext;
 use syn_tokens::buffer::{Parse, ParseBuffer};
 use syn_tokens::error::Result;
 
-/// Where an expression stands, and what may stand behind it there.
+/// Where an expression is, and what may come after it there.
 #[derive(Clone, Copy, Debug, PartialEq, Eq)]
 pub enum Position {
-    /// By itself, as in delimiters: nothing is behind it.
+    /// By itself, as in delimiters: nothing is after it.
     Plain,
-    /// A statement, with nothing or a `;` behind it (Rust Reference, "Expression statements").
+    /// A statement, with nothing or a `;` after it (Rust Reference, "Expression statements").
     Stmt,
     /// Before the block of an `if`, `while`, `match` or `for` (Rust Reference, "`if` expressions").
     Cond,
-    /// The body of a match arm, with nothing or a `,` behind it (Rust Reference, "`match` expressions").
+    /// The body of a match arm, with nothing or a `,` after it (Rust Reference, "`match` expressions").
     Arm,
 }
 
@@ -40,7 +40,7 @@ impl Position {
         }
     }
 
-    /// Reads the expression that stands in this position, as the reader of the position reads it: `parse`,
+    /// Reads the expression that is in this position, as the reader of the position reads it: `parse`,
     /// `parse_without_eager_brace` or `parse_with_earlier_boundary_rule`. It is refused as that reader refuses it, and the
     /// input then stays where it was.
     pub fn parse(self, input: &mut ParseBuffer<'_>) -> Result<Expr>

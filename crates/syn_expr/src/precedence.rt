@@ -49,7 +49,7 @@ pub enum Precedence {
     Product,
     /// `as`
     Cast,
-    /// Prefix `*`, `!`, `-`, `&`; and behind an outer attribute what is `Unambiguous` else.
+    /// Prefix `*`, `!`, `-`, `&`; and after an outer attribute what is `Unambiguous` else.
     Prefix,
     /// Everything else.
     Unambiguous,
@@ -136,7 +136,7 @@ fn node_level(kind: NodeKind) -> Level
     }
 }
 
-/// The level of a node behind attributes, of which `outer` says whether one is an outer one.
+/// The level of a node after attributes, of which `outer` says whether one is an outer one.
 fn behind_attributes(level: Level, outer: bool) -> Level
     ensures { result ≡ (if outer then behind level else level) }
 {
@@ -159,7 +159,7 @@ fn has_outer(attrs: &Vec<Attribute>) -> bool
     false
 }
 
-/// The level of a node behind its attributes.
+/// The level of a node after its attributes.
 #[tactic(auto, using(crate::proofs::Levels::levels), unfolding(syn_expr_kinds::specs::Attrs::attrs_of, syn_expr_kinds::specs::Attrs::outer_of))]
 fn level_in<E: HasNode + HasKind>(expr: &E) -> Level
     ensures { result ≡ tree_level (E.tree expr.now) }

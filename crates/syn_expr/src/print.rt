@@ -19,7 +19,7 @@ use syn_tokens::tree::TokenStream;
 
 /// Puts the tokens of an expression at the end, with the parentheses that it needs where it is printed: those without which
 /// the tokens would be read as another tree, or not at all (Rust Reference, "Expression precedence"). In a statement a `let`
-/// and a macro with braces get some that are redundant, and so may an operation behind attributes.
+/// and a macro with braces get some that are redundant, and so may an operation after attributes.
 ///
 /// How tightly an operand has to bind there plays no part: who prints an operand asks that before. Memory may run out
 /// (`OutOfMemory`); a part of the tokens may then follow what was there.

@@ -1,4 +1,4 @@
--- The guard of an arm: that of its pattern as a whole, where no attributes stand before it.
+-- The guard of an arm: that of its pattern as a whole, where no attributes come before it.
 use Rattle.std.proofs.Common.{◌≡◌, true, false, ◌==◌, List, [], ◌∷◌, ◌++◌, length, map, Some, None, refl, sym, ap, ◌∙◌, arith}
 use Rattle.std.proofs.lemmas.Bool.{eqb-true}
 use Rattle.syn_parts.specs.Tree.{AttributeTree}

@@ -1,4 +1,4 @@
--- What holds both expressions and patterns, behind more attributes.
+-- What holds both expressions and patterns, after more attributes.
 use Rattle.std.proofs.Common.{◌≡◌, false, List, ◌++◌, map, refl, ap, sym, ◌∙◌}
 use Rattle.std.specs.declared.vec.Vec.{Vec}
 use Rattle.std.specs.declared.alloc.Global.{Global}
@@ -23,7 +23,7 @@ use Rattle.syn_expr_all.specs.declared.control.ExprMatch.{ExprMatch, out-ExprMat
 use Rattle.syn_expr_all.specs.View.{match_layer, match_of, match_parts, views}
 use Rattle.syn_expr_all.proofs.TreeOf.{match_expr-is}
 
--- a tree, and one that has the same behind its attributes and more before these
+-- a tree, and one that has the same after its attributes and more before these
 behind_by : (ats old new : List AttributeTree) (x y t u : Tree) → t ≡ attributed_with old x → u ≡ attributed_with new y → new ≡ ats ++ old → y ≡ x → is_attributed t ≡ false → u ≡ attributed_with ats t
 behind_by ats old new x y t u is_old is_new joined same bare =
     is_new ∙ ap (λ l. attributed_with l y) joined ∙ ap (attributed_with (ats ++ old)) same

@@ -127,7 +127,7 @@ frame_kind (tr.for_loop w p) = k_for_loop
 frame_kind tr.match_expr = k_match
 frame_kind tr.group_expr = k_group
 
--- of a tree, behind attributes too
+-- of a tree, after attributes too
 abbrev kind : Tree → Kind
 kind (leaf k) = leaf_kind k
 kind (paren m x) = k_paren
@@ -606,7 +606,7 @@ found_yield = found ex.Yield (expr_yield_of tree_of) is_yield tree-Yield yield_i
 
 -- ---- invisible groups
 
--- a group, behind attributes too
+-- a group, after attributes too
 abbrev is_group : Tree → Bool
 is_group (frame tr.group_expr ks) = true
 is_group (attributed a more x) = is_group x

@@ -73,7 +73,7 @@ pub path_bare : (x : Expr) (p : ExprPath) → x ≡ ex.Path p → (length p.attr
 unfolding attrs_of
 path_bare x p same h = ap tree_of same ∙ tree-Path p ∙ bare_is p.attrs.items (leaf (e.path (qself_or type_of p.qself) (path_of type_of p.path))) h
 
--- behind attributes it is none
+-- after attributes it is none
 pub path_attributed : (x : Expr) (p : ExprPath) → x ≡ ex.Path p → (length p.attrs.items == 0) ≡ false → is_path (tree_of x) ≡ false
 unfolding attrs_of
 path_attributed x p same h = ap is_path (ap tree_of same ∙ tree-Path p) ∙ attributed_is_none p.attrs.items (leaf (e.path (qself_or type_of p.qself) (path_of type_of p.path))) h

@@ -35,7 +35,7 @@ pattern_tail multi l n x h = let r = heads_readable.patterns multi in r.tail l n
 
 -- ---- whether a pattern is `..` alone
 
--- behind attributes it is none
+-- after attributes it is none
 pub rest_is : (attrs : Vec Attribute Global) → (vec_len attrs == 0) ≡ is_rest (attributed_by (attributes_of attrs) t.rest)
 rest_is attrs = ap (λ n. n == 0) attrs.ok.0 ∙ by attrs.items
   where

@@ -1,4 +1,4 @@
--- What is printed of a pattern by itself: of one with a guard its attributes, what stands before the guard, `if` and the guard;
+-- What is printed of a pattern by itself: of one with a guard its attributes, what comes before the guard, `if` and the guard;
 -- of one of another kind its own tokens.
 use Rattle.std.proofs.Common.{◌≡◌, List, [], ◌∷◌, ◌++◌, map, Some, None, refl, sym, ap, ◌∙◌, append_assoc}
 use Rattle.std.proofs.lemmas.List.{append-nil}

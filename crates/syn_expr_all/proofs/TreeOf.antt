@@ -130,7 +130,7 @@ tree_out x = fold_out-Expr Tree PatView Tree ArmView Tree Tree Tree PatView tree
 -- ---- the fields of a struct pattern
 --
 -- A fold goes into them by maps that are written for each place where a list, an option or an enum stands. What is shown of
--- each is the same behind its map, from the inside out.
+-- each is the same after its map, from the inside out.
 
 abbrev SeesField : (FieldPatKindOf Pat → FieldPatKindOf PatView) → Type 0
 SeesField m = (x : FieldPatKindOf Pat) → (field_of (λ v. v) (m x) ≡ field_of pat_of x) × (field_guards (λ v. v) (m x) ≡ field_guards pat_of x)

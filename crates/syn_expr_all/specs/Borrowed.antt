@@ -53,7 +53,7 @@ tail_whole : (b : Tree) (k : Trailer) (ks : Children) → IsWhole (tail b k ks)
 tail_whole b k none = (refl, refl)
 tail_whole b k (child p c t ks) = (refl, refl)
 
--- where no further guards stand first
+-- where no further guards come first
 frame_whole : (k : Frame) (gs : List Tree) (ks : Children) → stray_trees ks ≡ [] → without_strays ks ≡ ks → IsWhole (frame k (strays gs ks))
 frame_whole k gs ks s w =
     let a : stray_trees (strays gs ks) ≡ gs = strays-first gs ks ∙ ap (λ l. gs ++ l) s ∙ append-nil gs in

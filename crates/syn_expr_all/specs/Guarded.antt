@@ -1,5 +1,5 @@
--- What is printed of a pattern by itself: its own tokens, and behind them its guard, where it has one as a whole (Rust
--- Reference, "`match` expressions", section "Match guards"). A guard of a pattern inside stands where none may; it isn't
+-- What is printed of a pattern by itself: its own tokens, and after them its guard, where it has one as a whole (Rust
+-- Reference, "`match` expressions", section "Match guards"). A guard of a pattern inside is where none may; it isn't
 -- printed.
 use Rattle.std.specs.Prelude.{List, [], ◌++◌, Option}
 use Rattle.syn_tokens.specs.Tok.{Tok}
@@ -10,7 +10,7 @@ use Rattle.syn_pat_kinds.specs.View.{PatView}
 use Rattle.syn_expr_collect.specs.Arm.{guard_by}
 use Rattle.syn_expr_print.specs.Placed.{guard_spelled}
 
--- the guard of a pattern as a whole, which attributes may stand before
+-- the guard of a pattern as a whole, which attributes may come before
 abbrev pub guard_behind : PatTree → List Tree → Option Tree
 guard_behind (attributed a more p) gs = guard_by p gs
 guard_behind p gs = guard_by p gs

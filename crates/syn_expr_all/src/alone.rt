@@ -57,7 +57,7 @@ pub(crate) trait Operand: Kind {
 
 /// A struct of a kind before which attributes are read.
 pub(crate) trait Attributed: Operand {
-    /// It behind these attributes.
+    /// It after these attributes.
     fn behind(self, attrs: Vec<Attribute>) -> std::result::Result<Self, AllocError>
         ensures { IfOk result (λ y. Behind (attrs_of attrs) (Self.tree self) (Self.tree y)) };
 }
@@ -110,7 +110,7 @@ pub(crate) fn bare_operand<S: Operand>(input: &mut ParseBuffer<'_>) -> Result<S>
     Ok(x)
 }
 
-/// Reads an operand of a kind, behind attributes or none, and without trailers.
+/// Reads an operand of a kind, after attributes or none, and without trailers.
 #[tactic(auto, using(syn_grammar::proofs::Alone::tails))]
 pub(crate) fn attributed_operand<S: Attributed>(input: &mut ParseBuffer<'_>) -> Result<S>
     requires atoms { AreAtoms S.is }
@@ -126,7 +126,7 @@ pub(crate) fn attributed_operand<S: Attributed>(input: &mut ParseBuffer<'_>) -> 
     Ok(x)
 }
 
-/// Reads an expression of a kind, out of the invisible groups that it stands in. Another is refused over all that was read.
+/// Reads an expression of a kind, out of the invisible groups that it is in. Another is refused over all that was read.
 #[tactic(auto, using(crate::proofs::KindRead::others, crate::proofs::KindRead::kinds, crate::proofs::Exactly::read_tail))]
 fn of_kind<S: Kind>(input: &mut ParseBuffer<'_>, wanted: WantedKind) -> Result<S>
     ensures exact { ReadsExactly S.tree (OfKind S.is) input.old result input.new }
@@ -170,7 +170,7 @@ fn reference(input: &mut ParseBuffer<'_>) -> Result<ExprReference>
     })
 }
 
-/// Reads a path and what stands in the braces of a struct expression.
+/// Reads a path and what is in the braces of a struct expression.
 #[tactic(auto, unfolding(syn_grammar::specs::AloneRead::struct_alone))]
 fn structure(input: &mut ParseBuffer<'_>) -> Result<ExprStruct>
     ensures value { Reads (expr_struct_of tree_of) (struct_alone input.old.rest) result input.new.rest }
@@ -446,7 +446,7 @@ impl Parse for ExprClosure {
 
     ghost seen = { closure_of };
 
-    /// A closure stands before the rest.
+    /// A closure comes before the rest.
     ghost spells = { Alone is_closure };
 
     ghost least = { 1 };
@@ -454,7 +454,7 @@ impl Parse for ExprClosure {
     /// Reads a closure, without attributes before it (Rust Reference, "Closure expressions").
     ///
     /// It is refused, memory aside, only where none stands, and the input then stays where it was: as `ExpectedToken`
-    /// of `|` or of a block behind an output, and as its parts are.
+    /// of `|` or of a block after an output, and as its parts are.
     fn parse(input: &mut ParseBuffer<'_>) -> Result<Self>
         ensures { ReadsExactly closure_of (Alone is_closure) input.old result input.new }
     {
@@ -472,13 +472,13 @@ impl Parse for ExprForLoop {
 
     ghost seen = { for_loop_of };
 
-    /// A `for` stands before the rest, behind attributes and a label or none.
+    /// A `for` comes before the rest, after attributes and a label or none.
     ghost spells = { Alone (behind_attributes is_for_loop) };
 
     ghost least = { 1 };
 
-    /// Reads a `for` behind outer attributes and a label, or none (Rust Reference, "Iterator loops"). Inner attributes
-    /// stand first in its braces.
+    /// Reads a `for` after outer attributes and a label, or none (Rust Reference, "Iterator loops"). Inner attributes
+    /// come first in its braces.
     ///
     /// It is refused, memory aside, only where none stands, and the input then stays where it was: as its attributes
     /// and its label are, as `ExpectedToken` of `for`, `in` or `{`, and as its pattern and what gives the values are.
@@ -499,7 +499,7 @@ impl Parse for ExprLet {
 
     ghost seen = { let_of };
 
-    /// `let`, a pattern, `=` and an operand stand before the rest.
+    /// `let`, a pattern, `=` and an operand come before the rest.
     ghost spells = { Alone is_let };
 
     ghost least = { 1 };
@@ -526,12 +526,12 @@ impl Parse for ExprMatch {
 
     ghost seen = { match_of };
 
-    /// A `match` stands before the rest, behind attributes or none.
+    /// A `match` comes before the rest, after attributes or none.
     ghost spells = { Alone (behind_attributes is_match) };
 
     ghost least = { 1 };
 
-    /// Reads a `match` behind outer attributes or none (Rust Reference, "`match` expressions"). Inner attributes stand
+    /// Reads a `match` after outer attributes or none (Rust Reference, "`match` expressions"). Inner attributes are
     /// first in its braces.
     ///
     /// It is refused, memory aside, only where none stands, and the input then stays where it was: as its attributes

@@ -15,7 +15,7 @@ use syn_tokens::token::If;
 
 #[tactic(auto, using(crate::proofs::Guards::guards))]
 impl PatGuard {
-    /// Its `if`, unless attributes stand before it: then its guard is none of an arm.
+    /// Its `if`, unless attributes come before it: then its guard is none of an arm.
     fn arm_if(&self) -> Option<&If>
         ensures { is_some result ≡ guarded_by (guard_of self.now).tree (guard_of self.now).guards }
     {
@@ -26,7 +26,7 @@ impl PatGuard {
         }
     }
 
-    /// Its guard, unless attributes stand before it.
+    /// Its guard, unless attributes come before it.
     fn arm_guard(&self) -> Option<&Expr>
         ensures { mapped (λ x. tree_of x.now) result ≡ guard_by (guard_of self.now).tree (guard_of self.now).guards }
     {

@@ -1,4 +1,4 @@
-//! An expression behind attributes (Rust Reference, "Expression attributes").
+//! An expression after attributes (Rust Reference, "Expression attributes").
 
 ghost use Rattle.std.specs.Prelude.{IfOk};
 ghost use Rattle.syn_expr_all.specs.View.{closure_of, for_loop_of, let_of, match_of};
@@ -19,7 +19,7 @@ use syn_tokens::tree::TokenStream;
 
 #[tactic(auto, using(crate::proofs::TreeOf::members))]
 impl ExprClosure {
-    /// It behind more attributes.
+    /// It after more attributes.
     pub(crate) fn behind_more(self, attrs: Vec<Attribute>) -> Result<ExprClosure, AllocError>
         ensures { IfOk result (λ y. Behind (attrs_of attrs) (closure_of self) (closure_of y)) }
     {
@@ -32,7 +32,7 @@ impl ExprClosure {
 
 #[tactic(auto, using(crate::proofs::TreeOf::members))]
 impl ExprForLoop {
-    /// It behind more attributes.
+    /// It after more attributes.
     pub(crate) fn behind_more(self, attrs: Vec<Attribute>) -> Result<ExprForLoop, AllocError>
         ensures { IfOk result (λ y. Behind (attrs_of attrs) (for_loop_of self) (for_loop_of y)) }
     {
@@ -45,7 +45,7 @@ impl ExprForLoop {
 
 #[tactic(auto, using(crate::proofs::TreeOf::members))]
 impl ExprLet {
-    /// It behind more attributes.
+    /// It after more attributes.
     pub(crate) fn behind_more(self, attrs: Vec<Attribute>) -> Result<ExprLet, AllocError>
         ensures { IfOk result (λ y. Behind (attrs_of attrs) (let_of self) (let_of y)) }
     {
@@ -58,7 +58,7 @@ impl ExprLet {
 
 #[tactic(auto, using(crate::proofs::TreeOf::members))]
 impl ExprMatch {
-    /// It behind more attributes.
+    /// It after more attributes.
     pub(crate) fn behind_more(self, attrs: Vec<Attribute>) -> Result<ExprMatch, AllocError>
         ensures { IfOk result (λ y. Behind (attrs_of attrs) (match_of self) (match_of y)) }
     {

@@ -10,7 +10,7 @@ use syn_tokens::token::{Async, Comma, Const, Move, Or};
 
 /// `|a, b| a + b`, `move |a| -> T { .. }` (Rust Reference, "Closure expressions").
 #[cycle(expr)]
-#[derive(Drop, PartialEq)]
+#[derive(Debug, Drop, PartialEq)]
 pub struct ExprClosure {
     /// The attributes.
     pub attrs: Vec<Attribute>,
@@ -28,7 +28,7 @@ pub struct ExprClosure {
     pub inputs_begin: Or,
     /// The arguments.
     pub inputs: Punctuated<Pat, Comma>,
-    /// The `|` behind the arguments.
+    /// The `|` after the arguments.
     pub inputs_end: Or,
     /// The type of its value; where one is given the body is a block.
     pub output: ReturnType,

@@ -1,6 +1,6 @@
 //! Expressions (Rust Reference, "Expressions").
 //!
-//! The kinds that hold no patterns stand in `syn_expr_kinds`, generic in the expression; here they have syn's names, over
+//! The kinds that hold no patterns are in `syn_expr_kinds`, generic in the expression; here they have syn's names, over
 //! `Expr`.
 
 pub use crate::closure::ExprClosure;
@@ -25,7 +25,7 @@ use syn_tokens::tree::TokenStream;
 
 /// An expression.
 #[cycle(expr)]
-#[derive(Drop, PartialEq)]
+#[derive(Debug, Drop, PartialEq)]
 pub enum Expr {
     /// `[a, b]`
     Array(ExprArrayOf<Expr>),

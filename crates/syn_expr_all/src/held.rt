@@ -8,6 +8,7 @@ ghost use Rattle.syn_grammar.specs.Place.{plain};
 ghost use Rattle.syn_grammar.specs.Stands.{Stands};
 
 use crate::expr::Expr;
+use crate::let_go::let_go;
 use syn_tokens::buffer::{Parse, ParseBuffer, ToTokens};
 use syn_tokens::error::Result;
 use syn_tokens::tree::TokenStream;
@@ -22,7 +23,8 @@ pub struct HeldExpr {
 
 impl Drop for HeldExpr {
     fn drop(self) {
-        let HeldExpr { expr: _ } = self;
+        let HeldExpr { expr } = self;
+        let_go(expr);
     }
 }
 
@@ -47,7 +49,7 @@ impl Parse for HeldExpr {
 
     ghost seen = { λ x. tree_of x.expr };
 
-    /// The tree stands before the rest, by the binding rules.
+    /// The tree comes before the rest, by the binding rules.
     ghost spells = { Stands plain };
 
     ghost least = { 1 };

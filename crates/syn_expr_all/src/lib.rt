@@ -1,5 +1,5 @@
-//! Expressions and the patterns in them, as in syn. Their names stand here at the root too. Types, paths, attributes, literals
-//! and the other lower parts stand at the root of `syn_lower`, tokens and their readers at that of `syn_tokens`.
+//! Expressions and the patterns in them, as in syn. Their names are here at the root too. Types, paths, attributes, literals
+//! and the other lower parts are at the root of `syn_lower`, tokens and their readers at that of `syn_tokens`.
 #![tactic(auto)]
 
 mod alone;
@@ -13,6 +13,7 @@ mod from;
 pub mod held;
 mod kind;
 mod leftover;
+mod let_go;
 mod make;
 mod make_pat;
 mod node;

@@ -79,7 +79,7 @@ impl Parse for Expr {
 
     ghost seen = { tree_of };
 
-    /// The tree stands before the rest, by the binding rules.
+    /// The tree comes before the rest, by the binding rules.
     ghost spells = { Stands plain };
 
     ghost least = { 1 };
@@ -87,7 +87,7 @@ impl Parse for Expr {
     /// Whatever the list is, it is refused as one of the kinds that are told below, and out of memory.
     ghost refuses = { λ _ kind. MayRefuse kind };
 
-    /// Reads an expression: the tree that stands at the front of the list (Rust Reference, "Expressions", "Expression
+    /// Reads an expression: the tree that is at the front of the list (Rust Reference, "Expressions", "Expression
     /// precedence").
     ///
     /// It is refused, memory aside, only where none does, and the input then stays where it was:
@@ -95,13 +95,13 @@ impl Parse for Expr {
     /// - as `ExpectedExpression` where an operand is missing, and as `ExpectedLoopOrBlock` where it has a label and is
     ///   neither;
     /// - as `ChainedComparison` at the second of two comparisons without parentheses, as `LeftArrow` at a `<-`, as
-    ///   `AfterCast` at a trailer behind a cast, as `RangeAttributes` at a range without a start behind attributes, and as
+    ///   `AfterCast` at a trailer after a cast, as `RangeAttributes` at a range without a start after attributes, and as
     ///   `ParenthesesRequired` at the labelled value of a `break`;
-    /// - as `ExpectedMember`, `ExpectedUnsuffixedInteger` or `IndexOutOfRange` behind a dot, and as `ExpectedCommaOrSemi`
-    ///   behind the first element of an array;
+    /// - as `ExpectedMember`, `ExpectedUnsuffixedInteger` or `IndexOutOfRange` after a dot, and as `ExpectedCommaOrSemi`
+    ///   after the first element of an array;
     /// - as its literals, paths, types, patterns, attributes and macros are;
     /// - as `ExpectedToken` where another token stands than the one that must, and as `UnexpectedToken` where nothing reads
-    ///   it. In the brackets of an index that is told last: where what stands behind can't be read, the refusal of that is
+    ///   it. In the brackets of an index that is told last: where what comes after can't be read, the refusal of that is
     ///   told.
     fn parse(input: &mut ParseBuffer<'_>) -> Result<Self>
         ensures exact { ReadsExactly tree_of (Stands plain) input.old result input.new }
@@ -126,7 +126,7 @@ impl Expr {
     /// Reads an expression at the head of a statement or of the body of a `match` arm (Rust Reference, "Expression
     /// statements", "`match` expressions"): where it begins with a block, a loop, an `if` or a `match`, it ends there, but
     /// before a `.` or `?`. It is read exactly where one stands so, unless memory runs out. It is refused as `parse` refuses
-    /// an expression, but at a range without a start behind attributes, and the input then stays where it was.
+    /// an expression, but at a range without a start after attributes, and the input then stays where it was.
     pub fn parse_with_earlier_boundary_rule(input: &mut ParseBuffer<'_>) -> Result<Expr>
         ensures exact { ReadsExactly tree_of (Stands at_head) input.old result input.new }
         ensures refused { IfErr result (λ e. MayRefuse e.kind) }

@@ -1,6 +1,6 @@
 //! Patterns (Rust Reference, "Patterns").
 //!
-//! The kinds that hold no expressions stand in `syn_pat_kinds`, generic in the pattern; here they have syn's names, over `Pat`.
+//! The kinds that hold no expressions are in `syn_pat_kinds`, generic in the pattern; here they have syn's names, over `Pat`.
 
 use crate::expr::Expr;
 use syn_lower::attr::Attribute;
@@ -15,7 +15,7 @@ use syn_tokens::token::If;
 
 /// A pattern.
 #[cycle(expr)]
-#[derive(Drop, PartialEq)]
+#[derive(Debug, Drop, PartialEq)]
 pub enum Pat {
     /// `const { .. }`
     Const(PatConst),
@@ -55,7 +55,7 @@ pub enum Pat {
 
 /// `p if a`, a pattern with a guard (Rust Reference, "Match guards").
 #[cycle(expr)]
-#[derive(Drop, PartialEq)]
+#[derive(Debug, Drop, PartialEq)]
 pub struct PatGuard {
     /// The attributes.
     pub attrs: Vec<Attribute>,

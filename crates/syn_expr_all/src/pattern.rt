@@ -27,7 +27,7 @@ impl ExprClosure {
         }
     }
 
-    /// What stands before its body, where it has no output.
+    /// What comes before its body, where it has no output.
     pub fn prefix(&self) -> Option<Prefix<'_, Pat>>
         ensures { mapped (spec.prefix_seen pat_of) result ≡ spec.prefix_at (closure_of self.now) }
     {
@@ -109,7 +109,7 @@ impl ExprForLoop {
 
 #[tactic(auto, using(crate::proofs::TreeOf::members, syn_expr_kinds::proofs::Shapes::shapes))]
 impl ExprLet {
-    /// What stands before its operand.
+    /// What comes before its operand.
     pub fn prefix(&self) -> Prefix<'_, Pat>
         ensures { Some (spec.prefix_seen pat_of result) ≡ spec.prefix_at (let_of self.now) }
     {

@@ -1,4 +1,4 @@
-//! The expression that stands in for another.
+//! The expression that is in for another.
 
 ghost use Rattle.std.specs.Prelude.{◌≡◌, false, []};
 ghost use Rattle.syn_expr_all.specs.View.{tree_of};
@@ -11,7 +11,7 @@ use syn_lower::path::Path;
 use syn_lower::punctuated::Punctuated;
 
 impl Expr {
-    /// An expression that stands in for another: a path without attributes, a type in front, `::` in front and segments. It
+    /// An expression that is in for another: a path without attributes, a type in front, `::` in front and segments. It
     /// takes no memory.
     #[tactic(auto, using(crate::proofs::TreeOf::kinds), unfolding(syn_expr_kinds::specs::Attrs::attrs_of))]
     pub fn placeholder(alloc: Global) -> Expr

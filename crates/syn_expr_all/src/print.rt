@@ -16,12 +16,12 @@ use syn_tokens::tree::TokenStream;
 
 impl HasPrinter for Expr {}
 
-/// Prints an expression where it stands, behind the tokens that are there: with the parentheses that it needs in this context
+/// Prints an expression where it is, after the tokens that are there: with the parentheses that it needs in this context
 /// and inside (Rust Reference, "Expression precedence"); in a statement a `let` and a macro with braces get some that could be
-/// spared, and so may an operation behind attributes. It answers how often a node was visited, at most twice each; a count
+/// spared, and so may an operation after attributes. It answers how often a node was visited, at most twice each; a count
 /// that reaches the greatest `u64` stays there.
 ///
-/// It is refused only because memory ran out; a part of the tokens may then stand behind the old ones.
+/// It is refused only because memory ran out; a part of the tokens may then come after the old ones.
 pub fn print_counted(expr: &Expr, tokens: &mut TokenStream, context: Context) -> Result<u64>
     ensures text { OnOk result (tokens.new ≡ tokens.old ++ whole context (tree_of expr.now)) }
     ensures front { IsFront tokens.old tokens.new }

@@ -22,7 +22,7 @@ impl ToTokens for ExprClosure {
 
     ghost printed = { λ x. whole enclosed (closure_of x) };
 
-    /// Puts the closure up to its body, and the body; behind an output that is a block, or in braces.
+    /// Puts the closure up to its body, and the body; after an output that is a block, or in braces.
     fn to_tokens(&self, tokens: &mut TokenStream) -> Result<()> {
         let attributes = Attributes::Before(&self.attrs);
         let closure = Closure {
@@ -56,7 +56,7 @@ impl ToTokens for ExprForLoop {
 
     ghost printed = { λ x. whole enclosed (for_loop_of x) };
 
-    /// Puts `for` behind its label, the pattern, what gives the values, and the block; the inner attributes stand first in its
+    /// Puts `for` after its label, the pattern, what gives the values, and the block; the inner attributes come first in its
     /// braces.
     fn to_tokens(&self, tokens: &mut TokenStream) -> Result<()> {
         let braces = Braces {
@@ -93,7 +93,7 @@ impl ToTokens for ExprMatch {
 
     ghost printed = { λ x. whole enclosed (match_of x) };
 
-    /// Puts `match`, what it looks at, and the arms in braces; the inner attributes stand first in these.
+    /// Puts `match`, what it looks at, and the arms in braces; the inner attributes come first in these.
     fn to_tokens(&self, tokens: &mut TokenStream) -> Result<()> {
         let head = Frame::Match(&self.match_token, &self.brace_token);
         let operands = Operands::Arms(&self.expr, &self.attrs, &self.arms);

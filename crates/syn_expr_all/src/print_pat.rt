@@ -50,7 +50,7 @@ fn print_guarded<P: PrintPat, E: ToTokens>(
 }
 
 /// A pattern's own spelling, without the guards in it: what prints an arm, or a pattern by itself, prints the guard of the
-/// whole behind it.
+/// whole after it.
 impl PrintPat for Pat {
     ghost use Rattle.syn_expr_all.specs.View.{pat_of};
     ghost use Rattle.syn_parts.specs.PatOwn.{pat_own};

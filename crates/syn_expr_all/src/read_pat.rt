@@ -1,4 +1,4 @@
-//! The reader of patterns, which ties the knot of `syn_pat_readers`, and those that stand on it.
+//! The reader of patterns, which ties the knot of `syn_pat_readers`, and those that are on it.
 
 ghost use Rattle.std.specs.Prelude.{◌≡◌, ◌≤◌, [], true, false, IfErr, IfOk};
 ghost use Rattle.syn_expr_all.specs.View.{guard_of, pat_of};
@@ -107,9 +107,9 @@ fn ahead(input: &mut ParseBuffer<'_>, multi: bool) -> Result<Pat>
 }
 
 impl Pat {
-    /// Reads a pattern without alternatives; a `|` behind it is left (Rust Reference, "Patterns", `PatternNoTopAlt`).
+    /// Reads a pattern without alternatives; a `|` after it is left (Rust Reference, "Patterns", `PatternNoTopAlt`).
     ///
-    /// It is read exactly where one stands, unless memory runs out, and has neither attributes nor a guard. It is refused as
+    /// It is read exactly where one is, unless memory runs out, and has neither attributes nor a guard. It is refused as
     /// `ExpectedPart` of a pattern where it or a pattern inside is missing, of a path where the end of a closed range or a
     /// segment is, of a literal where no number follows a `-`, and of a macro where no group follows the `!` of one; as
     /// `ExpectedToken` where another token stands than the one that must, as `UnexpectedToken` where one is left in a group,

@@ -26,13 +26,13 @@ impl Parse for Arm {
 
     ghost seen = { arm_of };
 
-    /// The arm stands before the rest: its pattern, its guard and its body.
+    /// The arm comes before the rest: its pattern, its guard and its body.
     ghost spells = { ArmStands };
 
     ghost least = { 1 };
 
     /// Reads an arm of a `match`: outer attributes, a pattern with alternatives, a guard or none, `=>`, its body, and a comma,
-    /// which none has to be at the end and behind a block (Rust Reference, "`match` expressions").
+    /// which none has to be at the end and after a block (Rust Reference, "`match` expressions").
     ///
     /// It is refused, memory aside, only where none stands, and the input then stays where it was: as `ExpectedToken` where a
     /// token is missing, and as its attributes, its pattern, its guard and its body are.
@@ -51,7 +51,7 @@ impl Parse for Arm {
 }
 
 impl Arm {
-    /// Reads the arms of a `match` to the end of the input, as they stand in its braces (Rust Reference, "`match`
+    /// Reads the arms of a `match` to the end of the input, as they are in its braces (Rust Reference, "`match`
     /// expressions"). They are read exactly where arms stand up to the end, unless memory runs out. It is refused as the
     /// reader of an arm refuses one, and the input then stays where it was.
     #[tactic(auto, using(crate::proofs::Parts::all_arms))]

@@ -1,4 +1,4 @@
--- What stands before an operand, what is read where no operand follows it, and the tokens that `become` keeps.
+-- What comes before an operand, what is read where no operand follows it, and the tokens that `become` keeps.
 use Rattle.std.specs.Prelude.{not, if◌then◌else◌}
 use Rattle.std.proofs.Common.{◌≡◌, ℕ, zero, suc, ◌<◌, Bool, true, false, ⊎_elim, List, [], ◌∷◌, ◌++◌, drop, codes, Option, Some, None, refl, sym, ap, ◌∙◌, subst, arith}
 use Rattle.syn_lexer.specs.declared.lexeme.Delimiter.TheVariants as del
@@ -41,7 +41,7 @@ use Rattle.syn_expr_atoms.specs.Led.{behind, behind_or, body_of, block}
 pub prefix_less : (l : List Tok) (k : Prefix) (m : List Tok) → prefix_form.reads l ≡ Some (k, m) → weight m < weight l
 prefix_less l k m h = omega (arith, heads_readable.prefixes.moves l m k h)
 
--- and so do the tokens behind the first
+-- and so do the tokens after the first
 pub behind_less : (l : List Tok) (k : Prefix) (m : List Tok) → prefix_form.reads l ≡ Some (k, m) → weight (drop 1 l) < weight l
 unfolding weight
 behind_less [] k m h = absurd (omega (arith, prefix_less [] k m h))
@@ -131,7 +131,7 @@ none_of : (h : ClosureHead) (o : Option (List Tok × List Tok)) → and_then o (
 none_of h None g = refl
 none_of h (Some q) g = absurd cc
 
--- where no block stands behind an output, no body does
+-- where no block comes after an output, no body does
 pub output_refused : {K : Type 0} (p : Place) (h : ClosureHead) (l : List Tok) → is_default h.output ≡ false → (K → block l ≡ None) → K → body_of p h l ≡ None
 unfolding prefix_stands
 output_refused p h l d b k =
@@ -169,7 +169,7 @@ verbatim_is l n ts x g = subst (λ z. verbatim_from expr z x n ≡ Some (leaf (e
 pub verbatim_reads : (l n ts : List Tok) (x : Tree) → expr plain (drop 1 l) ≡ Some (x, n) → l ≡ ts ++ n → atom_by expr plain atom.Become l ≡ Some (leaf (e.verbatim ts), n)
 verbatim_reads l n ts x h g = rw h (verbatim_is l n ts x g)
 
--- behind the word
+-- after the word
 pub word_tail : (l n : List Tok) (x : Tree) (p : Place) → expr p (drop 1 l) ≡ Some (x, n) → IsTail n l
 word_tail l n x p h = tail_then (dropped 1 l) (expr_tail p (drop 1 l) x n h)
 

@@ -1,4 +1,4 @@
--- What is read behind what stands before an operand, by what that is.
+-- What is read after what comes before an operand, by what that is.
 use Rattle.std.specs.Prelude.{if◌then◌else◌, Some}
 use Rattle.syn_parts.specs.Form.{and_then}
 use Rattle.syn_lexer.specs.declared.lexeme.Delimiter.TheVariants as del
@@ -10,7 +10,7 @@ use Rattle.syn_grammar.specs.Stands.{prefix_stands, prefix_place}
 use Rattle.syn_grammar.specs.Read.{Reading, ◌>>=◌, ◌<$>◌, expr, standing, framed_by}
 use Rattle.syn_expr_heads.specs.Leaves.{leaf_form as closed_form}
 
--- a leaf that no invisible group begins, where it stands
+-- a leaf that no invisible group begins, where it is
 unfoldable pub closed_leaf : Place → Reading Tree
 closed_leaf p = closed_form.reads >>= standing p
 
@@ -22,7 +22,7 @@ behind p k = prefixed k none <$> expr (prefix_place p k)
 abbrev pub behind_or : Place → Prefix → Leaf → Reading Tree
 behind_or p k x m = if prefix_stands p k m then behind p k m else standing p x m
 
--- the body of a closure: an operand, or behind an output a block
+-- the body of a closure: an operand, or after an output a block
 abbrev pub body_of : Place → ClosureHead → Reading Tree
 body_of p h m = if prefix_stands p (e.closure h) m then behind p (e.closure h) m else framed_by expr p (e.closure_block h) m
 

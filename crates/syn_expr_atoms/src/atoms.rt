@@ -1,4 +1,4 @@
-//! The readers of what stands before an operand, with the operand.
+//! The readers of what comes before an operand, with the operand.
 //!
 //! They are methods that take the reader of the expressions inside as a function, so that each is proved by itself; a crate
 //! above ties the knot.
@@ -20,6 +20,7 @@ ghost use Rattle.syn_tokens.specs.Tok.{Tok, weight};
 use crate::leaf::standing;
 use crate::made::{closure_expr, jump_expr, plain_block, range_expr};
 use crate::stands::ends_jump;
+use syn_expr_ends::held::{Held, given_up};
 use syn_expr_ends::kinds::{ReadExprs, ReadPats};
 use syn_expr_ends::place::{PLAIN, at};
 use syn_expr_front::sign::{begins_expr, ends_open_range};
@@ -46,7 +47,7 @@ pub struct Atoms<F> {
     pub expr: F,
 }
 
-/// Reads what stands before an operand, over the readers of the patterns in it.
+/// Reads what comes before an operand, over the readers of the patterns in it.
 // Once for each level of a tree the frame of what reads an operand is on the stack. What is large in it has one of its own, as
 // `let_expr`, `jump` and `closure` do: so trees nest three times as deep in the same stack.
 #[inline(never)]
@@ -63,7 +64,7 @@ fn prefix_head<P: ReadPats + Drop>(input: &mut ParseBuffer<'_>) -> Result<Prefix
     prefixes.prefix(input)
 }
 
-/// Reads the block behind a closure's output, whose tokens are verbatim.
+/// Reads the block after a closure's output, whose tokens are verbatim.
 #[tactic(auto, unfolding(syn_parts::specs::Part::block, syn_parts::specs::Part::verbatim))]
 fn output_block<E: IsExpr + Drop>(input: &mut ParseBuffer<'_>) -> Result<Box<E>>
     ensures value { Reads (λ b. E.tree b.value) (led.block input.old.rest) result input.new.rest }
@@ -153,7 +154,7 @@ where
         Ok(Box::new(input.alloc(), x)?)
     }
 
-    /// Reads what a pattern is bound to, behind `let` and `=`.
+    /// Reads what a pattern is bound to, after `let` and `=`.
     #[inline(never)]
     #[tactic(auto, unfolding(syn_expr_kinds::specs::Attrs::attrs_of))]
     fn let_expr(
@@ -207,8 +208,8 @@ where
         Ok(Box::new(alloc, range_expr(alloc, limits, Some(end)))?)
     }
 
-    /// The refusal of a label and `:` behind `break`: the loop or the block that the label is of wants parentheses. `value`
-    /// stands at the label.
+    /// The refusal of a label and `:` after `break`: the loop or the block that the label is of wants parentheses. `value`
+    /// is at the label.
     fn labelled_value(&self, value: &ParseBuffer<'_>) -> Error
         requires callable { Callable (weight value.now.rest + 1) (F.pre self.now.expr) }
         requires reads { ReadsExpr E.tree (F.post self.now.expr) }
@@ -219,12 +220,15 @@ where
             Err(error) => return error,
         };
         match (self.expr)(&mut behind, PLAIN) {
-            Ok(_) => Error::new(value.span_until(&behind), ErrorKind::ParenthesesRequired),
+            Ok(x) => given_up(
+                x,
+                Error::new(value.span_until(&behind), ErrorKind::ParenthesesRequired),
+            ),
             Err(error) => error,
         }
     }
 
-    /// Reads the value of a jump, or nothing where none follows. `value` stands behind the jump's word.
+    /// Reads the value of a jump, or nothing where none follows. `value` comes after the jump's word.
     #[inline(never)]
     #[tactic(auto, unfolding(syn_grammar::specs::Stands::prefix_stands, syn_grammar::specs::Stands::leaf_stands))]
     fn jump(
@@ -252,7 +256,7 @@ where
         Ok(Box::new(alloc, jump_expr(alloc, jump, Some(expr)))?)
     }
 
-    /// Reads the body of a closure: an expression, or a block behind an output.
+    /// Reads the body of a closure: an expression, or a block after an output.
     #[inline(never)]
     #[tactic(auto, using(crate::proofs::Prefixes::block_reads), unfolding(syn_grammar::specs::Stands::prefix_stands))]
     fn closure(
@@ -276,12 +280,12 @@ where
         Ok(Box::new(alloc, closure_expr(alloc, head, body))?)
     }
 
-    /// Reads what stands before an operand, and the operand; a range and a jump may have none, and a closure with an output
+    /// Reads what comes before an operand, and the operand; a range and a jump may have none, and a closure with an output
     /// has a block (Rust Reference, "Operator expressions", "Borrow operators", "Range expressions", "`let` expressions",
     /// "`return` expressions", "`break` expressions", "Closure expressions").
     ///
-    /// It is refused as `Prefixes::prefix` refuses what stands first, as the expression inside is, as `ExpectedToken` of `{` where
-    /// no block is behind an output, and as `ParenthesesRequired` where a label and `:` stand behind `break`, from the label to
+    /// It is refused as `Prefixes::prefix` refuses what comes first, as the expression inside is, as `ExpectedToken` of `{` where
+    /// no block is after an output, and as `ParenthesesRequired` where a label and `:` come after `break`, from the label to
     /// the end of the value.
     // Not in the frame of its caller, which is on the stack once for each level of a tree.
     #[inline(never)]
@@ -326,7 +330,9 @@ where
     {
         let word = input.fork()?;
         input.skip(1);
-        let _called = (self.expr)(input, PLAIN)?;
+        let _called = Held {
+            value: (self.expr)(input, PLAIN)?,
+        };
         let alloc = input.alloc();
         let tokens = copy_trees(alloc, word.until(input))?;
         Ok(Box::new(alloc, E::verbatim(tokens))?)

@@ -18,7 +18,7 @@ use syn_grammar::kinds::Place;
 use syn_tokens::buffer::ParseBuffer;
 use syn_tokens::error::{Error, ErrorKind, Result};
 
-/// The refusal of a leaf that doesn't stand before what is left. At the path `try` no expression begins; behind any other leaf
+/// The refusal of a leaf that doesn't stand before what is left. At the path `try` no expression begins; after any other leaf
 /// stands a token that goes on it.
 fn not_standing(input: &ParseBuffer<'_>, leaf: &LeafHead) -> Error {
     match leaf {
@@ -32,9 +32,9 @@ fn not_standing(input: &ParseBuffer<'_>, leaf: &LeafHead) -> Error {
     }
 }
 
-/// Makes an expression of a leaf that was read, where it stands before what is left. The path `try` is refused as
+/// Makes an expression of a leaf that was read, where it comes before what is left. The path `try` is refused as
 /// `ExpectedExpression` at its word. Any other leaf is refused as `UnexpectedToken` where the next token goes on it: a brace
-/// behind a path, `#` behind `builtin`, the value of a jump, the end of a range.
+/// after a path, `#` after `builtin`, the value of a jump, the end of a range.
 // Not in the frame of its caller, which is on the stack once for each level of a tree.
 #[inline(never)]
 pub fn standing<E: IsExpr + Drop>(
@@ -52,7 +52,7 @@ pub fn standing<E: IsExpr + Drop>(
     Ok(Box::new(alloc, leaf_expr(alloc, leaf))?)
 }
 
-/// Reads a leaf, by what stands first (Rust Reference, "Literal expressions", "Underscore expressions", "Block expressions",
+/// Reads a leaf, by what comes first (Rust Reference, "Literal expressions", "Underscore expressions", "Block expressions",
 /// "Infinite loops", "`continue` expressions"). It is refused as `syn_expr_heads::leaf::leaf` refuses it, and as
 /// `UnexpectedToken` where the next token goes on it.
 // Not in the frame of its caller, which is on the stack once for each level of a tree.

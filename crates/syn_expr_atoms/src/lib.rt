@@ -1,4 +1,4 @@
-//! The readers of leaves, and of what stands before an operand.
+//! The readers of leaves, and of what comes before an operand.
 #![tactic(auto)]
 
 pub mod atoms;

@@ -185,7 +185,7 @@ pub fn leaf_expr<E: IsExpr>(alloc: Global, leaf: LeafHead) -> E
     }
 }
 
-/// The block of these tokens, as it stands behind a closure's output.
+/// The block of these tokens, as it comes after a closure's output.
 #[tactic(auto, unfolding(syn_expr_kinds::specs::Attrs::outer_of, syn_expr_kinds::specs::Attrs::inner_of))]
 pub fn plain_block<E: IsExpr>(alloc: Global, block: Block) -> E
     ensures { E.tree result ≡ e.plain_block block.stmts }

@@ -1,4 +1,4 @@
-//! Whether a leaf, or what may be one before no operand, stands where it is, by what is behind it (Rust Reference, "Path
+//! Whether a leaf, or what may be one before no operand, is where it is, by what is after it (Rust Reference, "Path
 //! expressions", "Range expressions", "`return` expressions", "`break` expressions").
 
 ghost use Rattle.std.specs.Prelude.{◌≡◌};
@@ -16,7 +16,7 @@ use syn_op::limits::RangeLimits;
 use syn_tokens::buffer::ParseBuffer;
 use syn_tokens::token::{Colon, Ne, Pound};
 
-/// Whether a path stands alone: no brace behind it makes it a struct expression, and it begins no other expression.
+/// Whether a path stands alone: no brace after it makes it a struct expression, and it begins no other expression.
 #[tactic(auto, unfolding(syn_grammar::specs::Stands::leaf_stands, syn_tokens::specs::Sign::sign_text, syn_parts::specs::Mark::sign_at))]
 fn path_stands(input: &ParseBuffer<'_>, place: Place, qself: &Option<QSelf>, path: &Path) -> bool
     ensures { result ≡ stands.leaf_stands place (e.path (qself_or type_of qself.now) (path_of type_of path.now)) input.now.rest }
@@ -26,7 +26,7 @@ fn path_stands(input: &ParseBuffer<'_>, place: Place, qself: &Option<QSelf>, pat
         && !(is_word_alone(qself, path, "builtin") && input.peek::<Pound>())
 }
 
-/// Whether a brace that stands first is that of the block behind a condition.
+/// Whether a brace that comes first is that of the block after a condition.
 fn is_block_next(input: &ParseBuffer<'_>, place: Place) -> bool
     ensures { result ≡ stands.is_block_next place input.now.rest }
 {
@@ -48,7 +48,7 @@ pub fn ends_jump(input: &ParseBuffer<'_>, place: Place, jump: &JumpHead) -> bool
     }
 }
 
-/// Whether a leaf stands before what is left: a path that no brace makes a struct expression, a range that has no end, a jump
+/// Whether a leaf comes before what is left: a path that no brace makes a struct expression, a range that has no end, a jump
 /// without a value, and all other leaves.
 #[tactic(auto, unfolding(syn_grammar::specs::Stands::leaf_stands))]
 pub fn leaf_stands(input: &ParseBuffer<'_>, place: Place, leaf: &LeafHead) -> bool

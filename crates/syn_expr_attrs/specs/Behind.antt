@@ -1,10 +1,10 @@
--- An expression behind more attributes.
+-- An expression after more attributes.
 use Rattle.std.specs.Prelude.{◌≡◌, true, false, List}
 use Rattle.syn_parts.specs.Tree.{AttributeTree}
 use Rattle.syn_parts.specs.PatFits.{attributes_outer}
 use Rattle.syn_grammar.specs.Tree.{Tree, attributed_with}
 use Rattle.syn_grammar.specs.Stands.{is_attributed}
 
--- u is t behind these outer attributes, where none stand before t
+-- u is t after these outer attributes, where none come before t
 abbrev pub Behind : List AttributeTree → Tree → Tree → Type 0
 Behind ats t u = attributes_outer ats ≡ true → is_attributed t ≡ false → u ≡ attributed_with ats t

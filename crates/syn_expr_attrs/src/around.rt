@@ -1,4 +1,4 @@
-//! The kinds whose inner attributes stand first in their braces.
+//! The kinds whose inner attributes come first in their braces.
 
 ghost use Rattle.std.specs.Prelude.{IfOk};
 ghost use Rattle.syn_expr_attrs.specs.Behind.{Behind};
@@ -11,7 +11,7 @@ use syn_expr_kinds::block::{ExprBlock, ExprConst, ExprLoop, ExprUnsafe, ExprWhil
 use syn_expr_kinds::joined::joined;
 use syn_lower::attr::Attribute;
 
-/// It behind more attributes.
+/// It after more attributes.
 pub fn block(x: ExprBlock, attrs: Vec<Attribute>) -> Result<ExprBlock, AllocError>
     ensures { IfOk result (λ y. Behind (attrs_of attrs) (expr_block_of x) (expr_block_of y)) }
 {
@@ -21,7 +21,7 @@ pub fn block(x: ExprBlock, attrs: Vec<Attribute>) -> Result<ExprBlock, AllocErro
     })
 }
 
-/// It behind more attributes.
+/// It after more attributes.
 pub fn const_block(x: ExprConst, attrs: Vec<Attribute>) -> Result<ExprConst, AllocError>
     ensures { IfOk result (λ y. Behind (attrs_of attrs) (expr_const_of x) (expr_const_of y)) }
 {
@@ -31,7 +31,7 @@ pub fn const_block(x: ExprConst, attrs: Vec<Attribute>) -> Result<ExprConst, All
     })
 }
 
-/// It behind more attributes.
+/// It after more attributes.
 pub fn loop_expr(x: ExprLoop, attrs: Vec<Attribute>) -> Result<ExprLoop, AllocError>
     ensures { IfOk result (λ y. Behind (attrs_of attrs) (expr_loop_of x) (expr_loop_of y)) }
 {
@@ -41,7 +41,7 @@ pub fn loop_expr(x: ExprLoop, attrs: Vec<Attribute>) -> Result<ExprLoop, AllocEr
     })
 }
 
-/// It behind more attributes.
+/// It after more attributes.
 pub fn unsafe_block(x: ExprUnsafe, attrs: Vec<Attribute>) -> Result<ExprUnsafe, AllocError>
     ensures { IfOk result (λ y. Behind (attrs_of attrs) (expr_unsafe_of x) (expr_unsafe_of y)) }
 {
@@ -51,7 +51,7 @@ pub fn unsafe_block(x: ExprUnsafe, attrs: Vec<Attribute>) -> Result<ExprUnsafe, 
     })
 }
 
-/// It behind more attributes.
+/// It after more attributes.
 pub fn while_expr<E: Drop>(
     x: ExprWhileOf<E>,
     attrs: Vec<Attribute>,

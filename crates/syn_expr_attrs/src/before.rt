@@ -24,7 +24,7 @@ use syn_expr_kinds::trailer::{
 };
 use syn_lower::attr::Attribute;
 
-/// It behind more attributes.
+/// It after more attributes.
 pub fn array<E: Drop>(
     x: ExprArrayOf<E>,
     attrs: Vec<Attribute>,
@@ -37,7 +37,7 @@ pub fn array<E: Drop>(
     })
 }
 
-/// It behind more attributes.
+/// It after more attributes.
 pub fn group<E: Drop>(
     x: ExprGroupOf<E>,
     attrs: Vec<Attribute>,
@@ -50,7 +50,7 @@ pub fn group<E: Drop>(
     })
 }
 
-/// It behind more attributes.
+/// It after more attributes.
 pub fn infer(x: ExprInfer, attrs: Vec<Attribute>) -> Result<ExprInfer, AllocError>
     ensures { IfOk result (λ y. Behind (attrs_of attrs) (expr_infer_of x) (expr_infer_of y)) }
 {
@@ -60,7 +60,7 @@ pub fn infer(x: ExprInfer, attrs: Vec<Attribute>) -> Result<ExprInfer, AllocErro
     })
 }
 
-/// It behind more attributes.
+/// It after more attributes.
 pub fn lit(x: ExprLit, attrs: Vec<Attribute>) -> Result<ExprLit, AllocError>
     ensures { IfOk result (λ y. Behind (attrs_of attrs) (expr_lit_of x) (expr_lit_of y)) }
 {
@@ -70,7 +70,7 @@ pub fn lit(x: ExprLit, attrs: Vec<Attribute>) -> Result<ExprLit, AllocError>
     })
 }
 
-/// It behind more attributes.
+/// It after more attributes.
 pub fn mac(x: ExprMacro, attrs: Vec<Attribute>) -> Result<ExprMacro, AllocError>
     ensures { IfOk result (λ y. Behind (attrs_of attrs) (expr_macro_of x) (expr_macro_of y)) }
 {
@@ -80,7 +80,7 @@ pub fn mac(x: ExprMacro, attrs: Vec<Attribute>) -> Result<ExprMacro, AllocError>
     })
 }
 
-/// It behind more attributes.
+/// It after more attributes.
 pub fn paren<E: Drop>(
     x: ExprParenOf<E>,
     attrs: Vec<Attribute>,
@@ -93,7 +93,7 @@ pub fn paren<E: Drop>(
     })
 }
 
-/// It behind more attributes.
+/// It after more attributes.
 pub fn path(x: ExprPath, attrs: Vec<Attribute>) -> Result<ExprPath, AllocError>
     ensures { IfOk result (λ y. Behind (attrs_of attrs) (expr_path_of x) (expr_path_of y)) }
 {
@@ -103,7 +103,7 @@ pub fn path(x: ExprPath, attrs: Vec<Attribute>) -> Result<ExprPath, AllocError>
     })
 }
 
-/// It behind more attributes.
+/// It after more attributes.
 pub fn repeat<E: Drop>(
     x: ExprRepeatOf<E>,
     attrs: Vec<Attribute>,
@@ -116,7 +116,7 @@ pub fn repeat<E: Drop>(
     })
 }
 
-/// It behind more attributes.
+/// It after more attributes.
 pub fn tuple<E: Drop>(
     x: ExprTupleOf<E>,
     attrs: Vec<Attribute>,
@@ -129,7 +129,7 @@ pub fn tuple<E: Drop>(
     })
 }
 
-/// It behind more attributes.
+/// It after more attributes.
 pub fn async_block(x: ExprAsync, attrs: Vec<Attribute>) -> Result<ExprAsync, AllocError>
     ensures { IfOk result (λ y. Behind (attrs_of attrs) (expr_async_of x) (expr_async_of y)) }
 {
@@ -139,7 +139,7 @@ pub fn async_block(x: ExprAsync, attrs: Vec<Attribute>) -> Result<ExprAsync, All
     })
 }
 
-/// It behind more attributes.
+/// It after more attributes.
 pub fn if_expr<E: Drop>(x: ExprIfOf<E>, attrs: Vec<Attribute>) -> Result<ExprIfOf<E>, AllocError>
     ensures { (tree : E → Tree) → IfOk result (λ y. Behind (attrs_of attrs) (expr_if_of tree x) (expr_if_of tree y)) }
 {
@@ -149,7 +149,7 @@ pub fn if_expr<E: Drop>(x: ExprIfOf<E>, attrs: Vec<Attribute>) -> Result<ExprIfO
     })
 }
 
-/// It behind more attributes.
+/// It after more attributes.
 pub fn try_block(x: ExprTryBlock, attrs: Vec<Attribute>) -> Result<ExprTryBlock, AllocError>
     ensures { IfOk result (λ y. Behind (attrs_of attrs) (expr_try_block_of x) (expr_try_block_of y)) }
 {
@@ -159,7 +159,7 @@ pub fn try_block(x: ExprTryBlock, attrs: Vec<Attribute>) -> Result<ExprTryBlock,
     })
 }
 
-/// It behind more attributes.
+/// It after more attributes.
 pub fn break_expr<E: Drop>(
     x: ExprBreakOf<E>,
     attrs: Vec<Attribute>,
@@ -172,7 +172,7 @@ pub fn break_expr<E: Drop>(
     })
 }
 
-/// It behind more attributes.
+/// It after more attributes.
 pub fn continue_expr(x: ExprContinue, attrs: Vec<Attribute>) -> Result<ExprContinue, AllocError>
     ensures { IfOk result (λ y. Behind (attrs_of attrs) (expr_continue_of x) (expr_continue_of y)) }
 {
@@ -182,7 +182,7 @@ pub fn continue_expr(x: ExprContinue, attrs: Vec<Attribute>) -> Result<ExprConti
     })
 }
 
-/// It behind more attributes.
+/// It after more attributes.
 pub fn return_expr<E: Drop>(
     x: ExprReturnOf<E>,
     attrs: Vec<Attribute>,
@@ -195,7 +195,7 @@ pub fn return_expr<E: Drop>(
     })
 }
 
-/// It behind more attributes.
+/// It after more attributes.
 pub fn yield_expr<E: Drop>(
     x: ExprYieldOf<E>,
     attrs: Vec<Attribute>,
@@ -208,7 +208,7 @@ pub fn yield_expr<E: Drop>(
     })
 }
 
-/// It behind more attributes.
+/// It after more attributes.
 pub fn assign<E: Drop>(
     x: ExprAssignOf<E>,
     attrs: Vec<Attribute>,
@@ -221,7 +221,7 @@ pub fn assign<E: Drop>(
     })
 }
 
-/// It behind more attributes.
+/// It after more attributes.
 pub fn binary<E: Drop>(
     x: ExprBinaryOf<E>,
     attrs: Vec<Attribute>,
@@ -234,7 +234,7 @@ pub fn binary<E: Drop>(
     })
 }
 
-/// It behind more attributes.
+/// It after more attributes.
 pub fn cast<E: Drop>(x: ExprCastOf<E>, attrs: Vec<Attribute>) -> Result<ExprCastOf<E>, AllocError>
     ensures { (tree : E → Tree) → IfOk result (λ y. Behind (attrs_of attrs) (expr_cast_of tree x) (expr_cast_of tree y)) }
 {
@@ -244,7 +244,7 @@ pub fn cast<E: Drop>(x: ExprCastOf<E>, attrs: Vec<Attribute>) -> Result<ExprCast
     })
 }
 
-/// It behind more attributes.
+/// It after more attributes.
 pub fn range<E: Drop>(
     x: ExprRangeOf<E>,
     attrs: Vec<Attribute>,
@@ -257,7 +257,7 @@ pub fn range<E: Drop>(
     })
 }
 
-/// It behind more attributes.
+/// It after more attributes.
 pub fn raw_addr<E: Drop>(
     x: ExprRawAddrOf<E>,
     attrs: Vec<Attribute>,
@@ -270,7 +270,7 @@ pub fn raw_addr<E: Drop>(
     })
 }
 
-/// It behind more attributes.
+/// It after more attributes.
 pub fn reference<E: Drop>(
     x: ExprReferenceOf<E>,
     attrs: Vec<Attribute>,
@@ -283,7 +283,7 @@ pub fn reference<E: Drop>(
     })
 }
 
-/// It behind more attributes.
+/// It after more attributes.
 pub fn unary<E: Drop>(
     x: ExprUnaryOf<E>,
     attrs: Vec<Attribute>,
@@ -296,7 +296,7 @@ pub fn unary<E: Drop>(
     })
 }
 
-/// It behind more attributes.
+/// It after more attributes.
 pub fn struct_expr<E: Drop>(
     x: ExprStructOf<E>,
     attrs: Vec<Attribute>,
@@ -309,7 +309,7 @@ pub fn struct_expr<E: Drop>(
     })
 }
 
-/// It behind more attributes.
+/// It after more attributes.
 pub fn await_expr<E: Drop>(
     x: ExprAwaitOf<E>,
     attrs: Vec<Attribute>,
@@ -322,7 +322,7 @@ pub fn await_expr<E: Drop>(
     })
 }
 
-/// It behind more attributes.
+/// It after more attributes.
 pub fn call<E: Drop>(x: ExprCallOf<E>, attrs: Vec<Attribute>) -> Result<ExprCallOf<E>, AllocError>
     ensures { (tree : E → Tree) → IfOk result (λ y. Behind (attrs_of attrs) (expr_call_of tree x) (expr_call_of tree y)) }
 {
@@ -332,7 +332,7 @@ pub fn call<E: Drop>(x: ExprCallOf<E>, attrs: Vec<Attribute>) -> Result<ExprCall
     })
 }
 
-/// It behind more attributes.
+/// It after more attributes.
 pub fn field<E: Drop>(
     x: ExprFieldOf<E>,
     attrs: Vec<Attribute>,
@@ -345,7 +345,7 @@ pub fn field<E: Drop>(
     })
 }
 
-/// It behind more attributes.
+/// It after more attributes.
 pub fn index<E: Drop>(
     x: ExprIndexOf<E>,
     attrs: Vec<Attribute>,
@@ -358,7 +358,7 @@ pub fn index<E: Drop>(
     })
 }
 
-/// It behind more attributes.
+/// It after more attributes.
 pub fn method_call<E: Drop>(
     x: ExprMethodCallOf<E>,
     attrs: Vec<Attribute>,
@@ -371,7 +371,7 @@ pub fn method_call<E: Drop>(
     })
 }
 
-/// It behind more attributes.
+/// It after more attributes.
 pub fn try_expr<E: Drop>(x: ExprTryOf<E>, attrs: Vec<Attribute>) -> Result<ExprTryOf<E>, AllocError>
     ensures { (tree : E → Tree) → IfOk result (λ y. Behind (attrs_of attrs) (expr_try_of tree x) (expr_try_of tree y)) }
 {

@@ -1,4 +1,4 @@
--- An arm is read exactly where it stands.
+-- An arm is read exactly where it is.
 use Rattle.std.proofs.Common.{◌≡◌, suc, Bool, true, false, cond, List, [], ◌∷◌, drop, Some, None, refl, ap, subst, ◌∙◌, arith}
 use Rattle.syn_tokens.specs.Tok.{Tok, weight}
 use Rattle.syn_parts.specs.Tree.{AttributeTree}

@@ -1,4 +1,4 @@
--- Inner attributes stand in the braces of their node, and none before it.
+-- Inner attributes are in the braces of their node, and none before it.
 use Rattle.std.proofs.Common.{◌≡◌, true, [], map}
 use Rattle.std.specs.declared.vec.Vec.{Vec}
 use Rattle.std.specs.declared.alloc.Global.{Global}

@@ -1,4 +1,4 @@
--- `if`, loops with a head and `match` are read one part behind the other.
+-- `if`, loops with a head and `match` are read one part after the other.
 use Rattle.std.proofs.Common.{◌≡◌, ◌<◌, Bool, true, false, cond, List, [], ◌∷◌, ◌++◌, drop, is_some, Option, Some, None, refl, ap, sym, subst, ◌∙◌, arith}
 use Rattle.syn_lexer.specs.declared.lexeme.Delimiter.TheVariants as del
 use Rattle.syn_tokens.specs.Tok.{Tok, weight}
@@ -29,7 +29,7 @@ use Rattle.syn_expr_kinds.specs.Pats.{ArmView, arm_children, arms, arm_ending}
 use Rattle.syn_expr_heads.proofs.Turns.{turn, then_same, cond_same, then_assoc, expr_less}
 use Rattle.syn_expr_blocks.specs.Parts.{if_expr, verbatim_block, otherwise, headed, labelled, match_expr, is_comma, arm_body, arm_behind, one_arm, arms_before, arms_behind}
 
--- ---- what stands behind an operand
+-- ---- what comes after an operand
 
 ended_then : {B : Type 0} (k : Piece) (o : Outcome Tree) (f : Ending × Tree → Reading B)
     → and_then (and_then o (ended_by expr k)) f ≡ and_then o (λ x n. and_then (ending_at k x n) (λ c m. f (c, x) m))
@@ -45,7 +45,7 @@ group_or_none : {B : Type 0} (o : Option (List Tok × List Tok)) (f : List Tok �
 group_or_none None f = refl
 group_or_none (Some p) f = refl
 
--- an operand behind `else`, and what is behind it
+-- an operand after `else`, and what is after it
 abbrev last_by : Ending × Tree → Reading Children
 last_by c n = and_then (bare_operands expr slot.done n) (λ ks o. Some (child e.chained c.0 c.1 ks, o))
 
@@ -81,7 +81,7 @@ otherwise_turn l = turn slot.otherwise l ∙ by_else (else_word.at l) refl
     by_else true h = rw h (chained_turn (drop 1 l))
     by_else false h = rw h refl
 
--- a condition or an iterator, the block behind it, and what follows
+-- a condition or an iterator, the block after it, and what follows
 first_then : {B : Type 0} (k : Piece) (q : Place) (more : Reading Children) (f : Children → Reading B) (l : List Tok)
     → and_then (and_then (and_then (expr q l) (ended_by expr k)) (λ c n. and_then (more n) (λ ks o. Some (child k c.0 c.1 ks, o)))) f
     ≡ and_then (expr q l) (λ x m. and_then (ending_at k x m) (λ c n. and_then (more n) (λ ks o. f (child k c x ks) o)))
@@ -185,7 +185,7 @@ body_then k f ats p gs m same ends =
     ∙ sym (then_assoc (behind_arm x n) _ arm_then))
     ∙ sym (then_assoc (expr at_head m) _ arm_then)
 
--- behind a guard
+-- after a guard
 bodies_turn : (ats : List AttributeTree) (p : PatTree) (g : Tree) (n : List Tok)
     → and_then (bare_operands expr slot.bodies n) (λ ks o. Some (child (e.guard ats p) e.no_ending g ks, o))
     ≡ and_then (and_then ((piece_form slot.bodies).reads n) (λ k o. arm_body ats (guarded p) (g ∷ []) o)) arm_then

@@ -13,7 +13,7 @@ use Rattle.syn_expr_kinds.specs.Pats.{ArmView}
 use Rattle.syn_expr_blocks.specs.Parts.{is_comma}
 
 -- The arm stands for the tokens of l before n: attributes, a pattern and `=>`, or `if`, a guard and `=>`; then the body, and a
--- comma, which none has to be at the end and behind a block.
+-- comma, which none has to be at the end and after a block.
 pub data ArmStands : List Tok → ArmView → List Tok → Type 0 where
   without_guard : {l m h n : List Tok} {ats : List AttributeTree} {p : PatTree} {x : Tree} {c : Ending}
       → (piece_form slot.arms).behind (e.arm ats p) l ≡ Some m

@@ -1,4 +1,4 @@
--- What `if`, loops with a head and `match` are read of, one part behind the other.
+-- What `if`, loops with a head and `match` are read of, one part after the other.
 use Rattle.std.specs.Prelude.{Bool, true, false, if◌then◌else◌, List, [], ◌∷◌, drop, Option, Some, None}
 use Rattle.syn_lexer.specs.declared.lexeme.Delimiter.TheVariants as del
 use Rattle.syn_tokens.specs.Front.{group_at}
@@ -16,7 +16,7 @@ use Rattle.syn_expr_kinds.specs.Pats.{ArmView, arm_children}
 
 -- ---- `if`
 
--- an `if` behind its word, wherever it stands
+-- an `if` after its word, wherever it is
 unfoldable pub if_expr : Reading Tree
 if_expr l = framed_by expr plain e.if_expr l
 
@@ -24,7 +24,7 @@ if_expr l = framed_by expr plain e.if_expr l
 abbrev pub verbatim_block : Reading Tree
 verbatim_block l = and_then (group_at del.Brace l) (λ i n. Some (plain_block i, n))
 
--- behind the block of an `if`: `else` before an `if` or a block, or nothing
+-- after the block of an `if`: `else` before an `if` or a block, or nothing
 abbrev pub otherwise : Reading Children
 otherwise l =
     if else_word.at l then and_then (if if_word.at (drop 1 l) then if_expr (drop 1 (drop 1 l)) else verbatim_block (drop 1 l)) (λ x n. Some (child e.chained e.no_ending x none, n))
@@ -32,11 +32,11 @@ otherwise l =
 
 -- ---- loops
 
--- a loop behind its word, or behind `in`
+-- a loop after its word, or after `in`
 unfoldable pub headed : Frame → Reading Tree
 headed k l = and_then (expr before_block l) (λ x m. and_then (ending_at e.loop_head x m) (λ c n. Some (frame k (child e.loop_head c x none), n)))
 
--- a loop behind its label
+-- a loop after its label
 abbrev pub labelled : Option Text → Reading Tree
 labelled w l =
     if while_word.at l then headed (e.while_loop w) (drop 1 l)
@@ -44,7 +44,7 @@ labelled w l =
 
 -- ---- `match`
 
--- a `match` behind its word, wherever it stands
+-- a `match` after its word, wherever it is
 unfoldable pub match_expr : Reading Tree
 match_expr l = framed_by expr plain e.match_expr l
 
@@ -52,13 +52,13 @@ abbrev pub is_comma : Ending → Bool
 is_comma e.comma = true
 is_comma _ = false
 
--- the body of an arm, and its comma, behind a pattern with these guards
+-- the body of an arm, and its comma, after a pattern with these guards
 unfoldable pub arm_body : List AttributeTree → PatTree → List Tree → Reading ArmView
 arm_body ats p gs l =
     and_then (expr at_head l) (λ x n. and_then (behind_arm x n) (λ c o.
     Some (record { attrs = ats; pat = record { tree = p; guards = gs }; body = x; comma = is_comma c }, o)))
 
--- what is behind the head of an arm: its guard, and its body
+-- what is after the head of an arm: its guard, and its body
 abbrev pub arm_behind : Piece → Reading ArmView
 arm_behind (e.guard ats p) l =
     and_then (expr plain l) (λ g n. and_then ((piece_form slot.bodies).reads n) (λ k o. arm_body ats (guarded p) (g ∷ []) o))
@@ -73,6 +73,6 @@ abbrev pub arms_before : List ArmView → Children → Children
 arms_before [] ks = ks
 arms_before (x ∷ xs) ks = arm_children x x.pat.tree x.pat.guards (arms_before xs ks)
 
--- the arms behind these, and they
+-- the arms after these, and they
 unfoldable pub arms_behind : List ArmView → Reading Children
 arms_behind found l = and_then (bare_operands expr slot.arms l) (λ ks n. Some (arms_before found ks, n))

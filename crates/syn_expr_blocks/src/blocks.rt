@@ -21,6 +21,7 @@ ghost use Rattle.syn_tokens.specs.Tok.{weight};
 
 use crate::head::{arm_head, for_head};
 use std::alloc::{AllocError, Global};
+use syn_expr_ends::held::{Held, LetGo};
 use syn_expr_ends::kinds::ReadPats;
 use syn_expr_ends::place::{AT_HEAD, BEFORE_BLOCK, PLAIN};
 use syn_expr_heads::ending::{behind_arm, behind_condition, behind_loop_head, guarded};
@@ -71,12 +72,15 @@ fn verbatim_block<E: IsExpr + Drop>(input: &mut ParseBuffer<'_>) -> Result<Box<E
     Ok(boxed(alloc, x)?)
 }
 
-impl<E: IsExpr + HasKind + Drop, F: Fn(&mut ParseBuffer<'_>, Place) -> Result<Box<E>>> Blocks<F>
+impl<
+    E: IsExpr + HasKind + LetGo + Drop,
+    F: Fn(&mut ParseBuffer<'_>, Place) -> Result<Box<E>>,
+> Blocks<F>
 where
     E::Pat: ReadPats + Drop,
-    E::Arm: Drop,
+    E::Arm: LetGo + Drop,
 {
-    /// Reads an `if` behind its word.
+    /// Reads an `if` after its word.
     // Not in the frame of its caller, which is on the stack once for each level of a tree.
     #[inline(never)]
     #[cycle(chain)]
@@ -88,14 +92,16 @@ where
         ensures noted { input.new.noted ≡ input.old.noted }
         ensures shrinks { weight input.new.rest ≤ weight input.old.rest }
     {
-        let cond = (self.expr)(input, BEFORE_BLOCK)?;
+        let cond = Held {
+            value: (self.expr)(input, BEFORE_BLOCK)?,
+        };
         let then_branch = behind_condition(input)?;
         let else_branch = self.otherwise(input)?;
         let alloc = input.alloc();
         let x = E::if_expr(ExprIfOf {
             attrs: Vec::new(alloc),
             if_token,
-            cond,
+            cond: cond.into_inner(),
             then_branch,
             else_branch,
         });
@@ -121,7 +127,7 @@ where
         Ok(Some((else_token, x)))
     }
 
-    /// Reads an `if` behind its word: a condition, a block, and `else` before another `if` or a block, or nothing (Rust
+    /// Reads an `if` after its word: a condition, a block, and `else` before another `if` or a block, or nothing (Rust
     /// Reference, "`if` expressions"). It is refused as the condition is, and as `ExpectedToken` of `{` where a block is
     /// missing.
     #[tactic(auto, unfolding(crate::specs::Parts::if_expr, syn_grammar::specs::Stands::frame_stands, syn_grammar::specs::Stands::frame_ends))]
@@ -135,7 +141,7 @@ where
         self.chain(input, if_token)
     }
 
-    /// Reads a `while` loop behind its word.
+    /// Reads a `while` loop after its word.
     // Not in the frame of its caller, which is on the stack once for each level of a tree.
     #[inline(never)]
     #[tactic(auto, using(crate::proofs::Inner::inners), unfolding(crate::specs::Parts::headed))]
@@ -151,19 +157,21 @@ where
         ensures noted { input.new.noted ≡ input.old.noted }
         ensures shrinks { weight input.new.rest ≤ weight input.old.rest }
     {
-        let cond = (self.expr)(input, BEFORE_BLOCK)?;
+        let cond = Held {
+            value: (self.expr)(input, BEFORE_BLOCK)?,
+        };
         let body = behind_loop_head(input)?;
         let x = E::while_expr(ExprWhileOf {
             attrs: body.attrs,
             label,
             while_token,
-            cond,
+            cond: cond.into_inner(),
             body: body.block,
         });
         Ok(boxed(input.alloc(), x)?)
     }
 
-    /// Reads a `for` loop behind its label.
+    /// Reads a `for` loop after its label.
     // Not in the frame of its caller, which is on the stack once for each level of a tree.
     #[inline(never)]
     #[tactic(auto, using(crate::proofs::Inner::inners, crate::proofs::Parts::for_loops), unfolding(crate::specs::Parts::headed))]
@@ -176,7 +184,9 @@ where
     {
         let head = for_head(input)?;
         let pat = boxed(input.alloc(), head.pat)?;
-        let expr = (self.expr)(input, BEFORE_BLOCK)?;
+        let expr = Held {
+            value: (self.expr)(input, BEFORE_BLOCK)?,
+        };
         let body = behind_loop_head(input)?;
         let x = E::for_loop(ExprForLoopOf {
             attrs: body.attrs,
@@ -184,14 +194,14 @@ where
             for_token: head.for_token,
             pat,
             in_token: head.in_token,
-            expr,
+            expr: expr.into_inner(),
             body: body.block,
         });
         Ok(boxed(input.alloc(), x)?)
     }
 
     /// Reads a `while` or a `for` loop, with a label or none (Rust Reference, "Predicate loops", "Iterator loops", "Loop
-    /// labels"). It is refused as `ExpectedLoopOrBlock` where none of them stands behind the label, as `ExpectedToken` where
+    /// labels"). It is refused as `ExpectedLoopOrBlock` where none of them comes after the label, as `ExpectedToken` where
     /// another token is missing, and inside as a pattern or an expression is.
     // Not in the frame of its caller, which is on the stack once for each level of a tree.
     #[inline(never)]
@@ -227,19 +237,22 @@ where
         ensures noted { input.new.noted ≡ input.old.noted }
         ensures shrinks { weight input.new.rest ≤ weight input.old.rest }
     {
-        let body = (self.expr)(input, AT_HEAD)?;
-        let comma = behind_arm(input, is_block_like(&*body))?;
+        let pat = Held { value: pat };
+        let body = Held {
+            value: (self.expr)(input, AT_HEAD)?,
+        };
+        let comma = behind_arm(input, is_block_like(&*body.value))?;
         Ok(E::arm(ArmOf {
             attrs,
-            pat,
+            pat: pat.into_inner(),
             fat_arrow_token,
-            body,
+            body: body.into_inner(),
             comma,
         }))
     }
 
     /// Reads an arm: outer attributes, a pattern with alternatives, a guard or none, `=>`, its body, and a comma, which none
-    /// has to be behind the last and behind a block (Rust Reference, "`match` expressions"). It is refused as `ExpectedToken`
+    /// has to be after the last and after a block (Rust Reference, "`match` expressions"). It is refused as `ExpectedToken`
     /// where a token is missing, and inside as an attribute, a pattern or an expression is.
     // Not in the frame of its caller, which is on the stack once for each level of a tree.
     #[inline(never)]
@@ -253,14 +266,16 @@ where
     {
         match arm_head(input)? {
             ArmHead::Guard(attrs, pat, if_token) => {
-                let guard = (self.expr)(input, PLAIN)?;
+                let guard = Held {
+                    value: (self.expr)(input, PLAIN)?,
+                };
                 let fat_arrow_token = guarded(input)?;
                 let alloc = input.alloc();
                 let pat = E::guarded(PatGuardOf {
                     attrs: Vec::new(alloc),
                     pat: boxed(alloc, pat)?,
                     if_token,
-                    guard,
+                    guard: guard.into_inner(),
                 });
                 self.arm_body(input, attrs, pat, fat_arrow_token)
             }
@@ -280,14 +295,16 @@ where
         ensures shrinks { weight input.new.rest ≤ weight input.old.rest }
         ensures all { IfOk result (λ _. input.new.rest ≡ []) }
     {
-        let mut found = Vec::new(input.alloc());
+        let mut held = Held {
+            value: Vec::new(input.alloc()),
+        };
         'arms: while !input.is_empty() {
-            found.push(self.arm(input)?)?;
+            held.value.push(self.arm(input)?)?;
         }
-        Ok(found)
+        Ok(held.into_inner())
     }
 
-    /// Reads a `match` behind its word.
+    /// Reads a `match` after its word.
     // Not in the frame of its caller, which is on the stack once for each level of a tree.
     #[inline(never)]
     #[tactic(auto, using(crate::proofs::Parts::match_exprs, crate::proofs::Inner::inners))]
@@ -298,21 +315,23 @@ where
         ensures noted { input.new.noted ≡ input.old.noted }
         ensures shrinks { weight input.new.rest ≤ weight input.old.rest }
     {
-        let expr = (self.expr)(input, BEFORE_BLOCK)?;
+        let expr = Held {
+            value: (self.expr)(input, BEFORE_BLOCK)?,
+        };
         let (brace_token, mut content) = input.parse_braces()?;
         let attrs = inner_attributes(&mut content)?;
         let arms = self.arms(&mut content)?;
         let x = E::match_expr(ExprMatchOf {
             attrs,
             match_token,
-            expr,
+            expr: expr.into_inner(),
             brace_token,
             arms,
         });
         Ok(boxed(input.alloc(), x)?)
     }
 
-    /// Reads a `match` behind its word: what it looks at, and its arms in braces, each with its guard, its body and its
+    /// Reads a `match` after its word: what it looks at, and its arms in braces, each with its guard, its body and its
     /// comma (Rust Reference, "Match expressions"). It is refused as `ExpectedToken` where a token is missing, and inside
     /// as a pattern or an expression is.
     #[tactic(auto, unfolding(crate::specs::Parts::match_expr, syn_grammar::specs::Stands::frame_stands, syn_grammar::specs::Stands::frame_ends))]

@@ -17,6 +17,7 @@ use Rattle.syn_expr_summaries.specs.declared.label.PostfixKind.{PostfixKind}
 use Rattle.syn_expr_summaries.specs.declared.label.TrailerKind.{TrailerKind}
 use Rattle.syn_expr_summaries.specs.declared.label.FrameKind.{FrameKind}
 use Rattle.syn_parts.specs.Form.{is_nil}
+use Rattle.syn_parts.specs.Tree.{AttributeTree}
 use Rattle.syn_expr_kinds.specs.Node.{attributes_at, without_strays, no_trees, operands_at, based_by}
 use Rattle.syn_expr_collect.specs.Below.{plain_summary, summarized_behind, AreFirst, operands_below, operands_visited}
 use Rattle.syn_expr_collect.specs.Visited.{visited, children_visited}
@@ -49,6 +50,10 @@ behind_is (infixed x k y) = refl
 behind_is (postfixed x k) = refl
 behind_is (tail b k ks) = refl
 behind_is (frame k ks) = refl
+
+-- by what is lent of the node
+pub summary_is : (t : Tree) (ats : List AttributeTree) (n : Summary) → ats ≡ attributes_at t → n ≡ plain_summary t → summarized_behind ats n ≡ summary_of t
+summary_is t ats n a e = ap (λ x. summarized_behind x n) a ∙ ap (λ x. summarized_behind (attributes_at t) x) e ∙ behind_is t
 
 -- ---- kinds
 

@@ -13,6 +13,6 @@ abbrev pub guard_by : PatTree → List Tree → Option Tree
 guard_by (guarded p) (g ∷ gs) = Some (last_guard g gs)
 guard_by p gs = None
 
--- The guard of the arm itself; others stand where none may.
+-- The guard of the arm itself; others are where none may.
 abbrev pub guard_at : ArmView → Option Tree
 guard_at x = guard_by x.pat.tree x.pat.guards

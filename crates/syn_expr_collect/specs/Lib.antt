@@ -1,3 +1,4 @@
 pub mod Arm
 pub mod Visited
 pub mod Below
+pub mod Spine

@@ -8,7 +8,7 @@ use syn_expr_kinds::node::HasNode;
 
 /// The type of expressions, as one goes through the arms of a `match`: what each arm holds beside its pattern.
 pub trait HasArms: HasNode {
-    /// The guard of an arm, if it has one: that of its pattern as a whole, before which no attributes stand. Guards further
+    /// The guard of an arm, if it has one: that of its pattern as a whole, before which no attributes are. Guards further
     /// inside of the pattern, where none may stand, are no part of it.
     fn guard(arm: &Self::Arm) -> Option<&Self>
         ensures { mapped (λ x. Self.tree x.now) result ≡ guard_at (Self.Arm.view arm.now) };

@@ -25,6 +25,8 @@ pub(crate) fn closed() -> Summary
 }
 
 /// The summary of a node without attributes, by the summaries of its first two operands.
+// A summary is made at each node of a tree, and is not handed through memory for it.
+#[inline(always)]
 pub(crate) fn plain_summary(kind: NodeKind, first: Summary, second: Summary) -> Summary
     ensures { (t : Tree) → kind_at t ≡ kind → AreFirst (operands_at t) first second → result ≡ plain_summary t }
 {
@@ -39,7 +41,7 @@ pub(crate) fn plain_summary(kind: NodeKind, first: Summary, second: Summary) -> 
     }
 }
 
-/// The summary of a node behind its attributes.
+/// The summary of a node after its attributes.
 pub(crate) fn behind(attributes: Attributes<'_>, summary: Summary) -> Summary
     ensures { result ≡ summarized_behind (before_of attributes.entry) summary }
 {
@@ -50,7 +52,9 @@ pub(crate) fn behind(attributes: Attributes<'_>, summary: Summary) -> Summary
     }
 }
 
-/// Keeps the summary of a node behind its attributes.
+/// Keeps the summary of a node after its attributes.
+// As `plain_summary`.
+#[inline(always)]
 pub(crate) fn keep(
     summaries: &mut Vec<Summary>,
     attributes: Attributes<'_>,

@@ -1,12 +1,15 @@
 //! One pass over an expression, which summarizes each node.
 
-ghost use Rattle.std.specs.Prelude.{◌≡◌, ◌^◌, ◌+◌, ◌-◌, ◌++◌, min, IfOk, OnOk};
+ghost use Rattle.std.specs.Prelude.{◌≡◌, ◌^◌, ◌+◌, ◌-◌, ◌++◌, ◌∷◌, min, IfOk, OnOk};
 ghost use Rattle.syn_expr_collect.specs.Below.{AreFirst, operands_below, operands_visited, backwards, total, field_below, field_visited, option_below, option_visited, arm_below, arm_visited};
 ghost use Rattle.syn_expr_collect.specs.Visited.{visited};
+ghost use Rattle.syn_expr_collect.specs.Spine.{IsSecond, Prefixes, above, behind_below, behind_visited};
 ghost use Rattle.syn_expr_kinds.specs.Node.{operands_at, operands_of};
 ghost use Rattle.syn_expr_kinds.specs.View.{boxed, field_value_of};
 ghost use Rattle.syn_expr_summaries.specs.Kind.{kind_at};
+ghost use Rattle.syn_expr_summaries.specs.declared.kind.NodeKind.TheVariants as node;
 ghost use Rattle.syn_grammar.specs.Summaries.{summary_of, stack};
+ghost use Rattle.syn_grammar.specs.Tree.{Tree};
 ghost use Rattle.syn_lower_lists.specs.View.{values};
 
 use crate::arm::HasArms;
@@ -15,6 +18,7 @@ use std::alloc::AllocError;
 use syn_expr_kinds::node::{HasKind, Operands};
 use syn_expr_kinds::structure::FieldValueOf;
 use syn_expr_summaries::kind::NodeKind;
+use syn_expr_summaries::label::LeafKind;
 use syn_expr_summaries::summary::tick;
 use syn_grammar::summary::Summary;
 use syn_lower_lists::punctuated::Punctuated;
@@ -227,42 +231,137 @@ pub fn collect_operands<E: HasArms + HasKind>(
     }
 }
 
-/// Summarizes the operands of a node of this kind. A leaf has none, and isn't asked for them.
+/// Summarizes the operands of a node but its first one, from right to left, and answers the summary of the second, as far as that of
+/// the node asks for it.
 #[cycle(collect)]
-#[tactic(auto, using(crate::proofs::Lists::lists, crate::proofs::Nodes::based, crate::proofs::Nodes::leaves))]
-fn collect_below<E: HasArms + HasKind>(
+#[tactic(auto, using(crate::proofs::Lists::lists, crate::proofs::Spines::behind))]
+fn collect_behind<E: HasArms + HasKind>(
     summaries: &mut Vec<Summary>,
     visits: &mut u64,
-    expr: &E,
-    kind: NodeKind,
-) -> Result<(Summary, Summary), AllocError>
-    requires { kind_at (E.tree expr.now) ≡ kind }
-    ensures first { IfOk result (λ p. AreFirst (operands_at (E.tree expr.now)) p.0 p.1) }
-    ensures kept { OnOk result (summaries.new.items ≡ summaries.old.items ++ operands_below (operands_at (E.tree expr.now))) }
-    ensures counted { OnOk result (visits.new ≡ min (visits.old + operands_visited (operands_at (E.tree expr.now))) (2 ^ 64 - 1)) }
+    operands: Operands<'_, E, E::Arm>,
+) -> Result<Summary, AllocError>
+    ensures second { IfOk result (λ n. IsSecond (operands_of E.tree E.Arm.view operands.entry) n) }
+    ensures kept { OnOk result (summaries.new.items ≡ summaries.old.items ++ behind_below (operands_of E.tree E.Arm.view operands.entry)) }
+    ensures counted { OnOk result (visits.new ≡ min (visits.old + behind_visited (operands_of E.tree E.Arm.view operands.entry)) (2 ^ 64 - 1)) }
 {
-    match kind {
-        NodeKind::Leaf(_) => {
-            prove!(*visits <= u64::MAX);
-            Ok((closed(), closed()))
+    match operands {
+        Operands::Two(_, y) => collect::<E>(summaries, visits, y),
+        Operands::Call(_, arguments) => {
+            collect_elements(summaries, visits, arguments)?;
+            Ok(closed())
         }
-        _ => match expr.operands() {
-            // Those of an operator are the most, and go fastest apart from the others.
-            Operands::Two(x, y) => {
-                let second = collect::<E>(summaries, visits, y)?;
-                let first = collect::<E>(summaries, visits, x)?;
-                Ok((first, second))
-            }
-            operands => collect_operands(summaries, visits, operands),
-        },
+        Operands::Index(_, index) => {
+            collect::<E>(summaries, visits, index)?;
+            Ok(closed())
+        }
+        _ => {
+            prove!(*visits <= u64::MAX);
+            Ok(closed())
+        }
     }
 }
 
-/// Summarizes a node and all below it, an operand on the right before one on the left, and the node behind its operands; so a
-/// printer takes the summaries from the end, in the order in which it comes to the nodes. Operands that aren't spelled are
-/// visited, and have no summaries. It answers the summary of the node, and is refused only because memory ran out.
+/// Summarizes the nodes over a first operand with this summary, the innermost first, each by the summary of its second operand
+/// beside it, and answers the summary of the outermost.
+#[tactic(auto, using(crate::proofs::Nodes::nodes, crate::proofs::Spines::spines))]
+fn close<E: HasArms + HasKind>(
+    summaries: &mut Vec<Summary>,
+    mut spine: Vec<(&E, Summary)>,
+    mut summary: Summary,
+) -> Result<Summary, AllocError>
+    ensures same { (top t : Tree) → Prefixes E.tree top spine.entry.items t → summary ≡ summary_of t → IfOk result (λ n. n ≡ summary_of top) }
+    ensures kept { (top t : Tree) → Prefixes E.tree top spine.entry.items t → summary ≡ summary_of t → OnOk result (summaries.new.items ≡ summaries.old.items ++ above E.tree spine.entry.items) }
+{
+    while let Some((x, second)) = spine.pop() {
+        summary = keep(
+            summaries,
+            x.attributes(),
+            plain_summary(x.kind(), summary, second),
+        )?;
+    }
+    Ok(summary)
+}
+
+/// Summarizes a node after its operands, by the summaries of the first two, and then the nodes over it. It answers the summary of the
+/// outermost.
+fn finish<E: HasArms + HasKind>(
+    summaries: &mut Vec<Summary>,
+    spine: Vec<(&E, Summary)>,
+    x: &E,
+    first: Summary,
+    second: Summary,
+) -> Result<Summary, AllocError>
+    ensures same { (top : Tree) → Prefixes E.tree top spine.entry.items (E.tree x.now) → AreFirst (operands_at (E.tree x.now)) first second → IfOk result (λ n. n ≡ summary_of top) }
+    ensures kept { (top : Tree) → Prefixes E.tree top spine.entry.items (E.tree x.now) → AreFirst (operands_at (E.tree x.now)) first second → OnOk result (summaries.new.items ≡ summaries.old.items ++ (summary_of (E.tree x.now) ∷ above E.tree spine.entry.items)) }
+{
+    let summary = keep(
+        summaries,
+        x.attributes(),
+        plain_summary(x.kind(), first, second),
+    )?;
+    close(summaries, spine, summary)
+}
+
+/// Summarizes a leaf.
+// At each leaf of a tree, so without a call.
+#[inline(always)]
+#[tactic(auto, using(crate::proofs::Nodes::nodes, crate::proofs::Nodes::leaves))]
+fn collect_leaf<E: HasArms + HasKind>(
+    summaries: &mut Vec<Summary>,
+    visits: &mut u64,
+    x: &E,
+    kind: LeafKind,
+) -> Result<Summary, AllocError>
+    requires { kind_at (E.tree x.now) ≡ node.Leaf kind }
+    ensures same { IfOk result (λ n. n ≡ summary_of (E.tree x.now)) }
+    ensures kept { OnOk result (summaries.new.items ≡ summaries.old.items ++ stack (E.tree x.now)) }
+    ensures counted { OnOk result (visits.new ≡ min (visits.old + visited (E.tree x.now)) (2 ^ 64 - 1)) }
+{
+    tick(visits);
+    keep(
+        summaries,
+        x.attributes(),
+        plain_summary(NodeKind::Leaf(kind), closed(), closed()),
+    )
+}
+
+/// Summarizes a node that is no leaf, and all below it. Down first operands it goes by a loop, and takes memory for those that have
+/// operands themselves.
 #[cycle(collect)]
-#[tactic(auto, using(crate::proofs::Nodes::nodes))]
+#[tactic(auto, using(crate::proofs::Nodes::nodes, crate::proofs::Spines::spines))]
+fn collect_spine<E: HasArms + HasKind>(
+    summaries: &mut Vec<Summary>,
+    visits: &mut u64,
+    expr: &E,
+) -> Result<Summary, AllocError>
+    ensures same { IfOk result (λ n. n ≡ summary_of (E.tree expr.now)) }
+    ensures kept { OnOk result (summaries.new.items ≡ summaries.old.items ++ stack (E.tree expr.now)) }
+    ensures counted { OnOk result (visits.new ≡ min (visits.old + visited (E.tree expr.now)) (2 ^ 64 - 1)) }
+{
+    let mut spine = Vec::new(*summaries.allocator());
+    let mut x = expr;
+    'down: loop {
+        tick(visits);
+        let operands = x.operands();
+        let Some(first) = operands.first() else {
+            let (first, second) = collect_operands(summaries, visits, operands)?;
+            return finish(summaries, spine, x, first, second);
+        };
+        let second = collect_behind(summaries, visits, operands)?;
+        if let NodeKind::Leaf(kind) = first.kind() {
+            let first = collect_leaf(summaries, visits, first, kind)?;
+            return finish(summaries, spine, x, first, second);
+        }
+        spine.push((x, second))?;
+        x = first;
+    }
+}
+
+/// Summarizes a node and all below it, an operand on the right before one on the left, and the node after its operands; so a
+/// printer takes the summaries from the end, in the order in which it comes to the nodes. Operands that aren't spelled are
+/// visited, and have no summaries. It answers the summary of the node, and is refused only because memory ran out. Down first operands
+/// it goes by a loop: a sum of many terms, a chain of trailers and prefix operators take no stack.
+#[cycle(collect)]
 pub fn collect<E: HasArms + HasKind>(
     summaries: &mut Vec<Summary>,
     visits: &mut u64,
@@ -272,9 +371,8 @@ pub fn collect<E: HasArms + HasKind>(
     ensures kept { OnOk result (summaries.new.items ≡ summaries.old.items ++ stack (E.tree expr.now)) }
     ensures counted { OnOk result (visits.new ≡ min (visits.old + visited (E.tree expr.now)) (2 ^ 64 - 1)) }
 {
-    tick(visits);
-    let kind = expr.kind();
-    let (first, second) = collect_below(summaries, visits, expr, kind)?;
-    let summary = plain_summary(kind, first, second);
-    keep(summaries, expr.attributes(), summary)
+    match expr.kind() {
+        NodeKind::Leaf(kind) => collect_leaf(summaries, visits, expr, kind),
+        _ => collect_spine(summaries, visits, expr),
+    }
 }

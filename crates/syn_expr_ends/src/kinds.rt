@@ -11,6 +11,7 @@ ghost use Rattle.syn_parts.specs.Pat as pat;
 ghost use Rattle.syn_parts.specs.PatFits.{attributes_outer};
 ghost use Rattle.syn_tokens.specs.Tok.{weight};
 
+use crate::held::LetGo;
 use std::alloc::AllocError;
 use syn_expr_kinds::kinds::IsExpr;
 use syn_expr_kinds::node::{HasKind, HasNode};
@@ -22,8 +23,8 @@ use syn_tokens::error::Result;
 use syn_tokens::tree::TokenStream;
 
 /// The type of patterns: it has readers. What they read holds no guard.
-pub trait ReadPats: HasPatTree {
-    /// Reads a pattern; behind it `|` and more may stand, or one alone.
+pub trait ReadPats: HasPatTree + LetGo {
+    /// Reads a pattern; after it `|` and more may stand, or one alone.
     fn read_pattern(input: &mut ParseBuffer<'_>, multi: bool) -> Result<Self>
         ensures value { Reads (λ x. (Self.view x).tree) ((pat.pattern multi).reads input.old.rest) result input.new.rest }
         ensures unguarded { IfOk result (λ x. (Self.view x).guards ≡ []) }
@@ -40,7 +41,7 @@ pub trait ReadPats: HasPatTree {
 
 /// The type of expressions: one is made of each kind, and is asked for its kind, its tokens and its path, and given
 /// attributes.
-pub trait ReadExprs: IsExpr + HasNode + HasKind {
+pub trait ReadExprs: IsExpr + HasNode + HasKind + LetGo {
     /// Whether it is like a block, or what holds one in invisible groups is: where it is the whole of a statement or of an arm's
     /// body, no operator goes on it (Rust Reference, "Expression statements").
     fn holds_block(&self) -> bool
@@ -54,7 +55,7 @@ pub trait ReadExprs: IsExpr + HasNode + HasKind {
     fn into_path(self) -> std::result::Result<(Option<QSelf>, Path), Self>
         ensures { MatchResult result (λ p. Self.tree self ≡ e.leaf (e.path (qself_or type_of p.0) (path_of type_of p.1))) (λ x. (x ≡ self) × (is_path (Self.tree self) ≡ false)) };
 
-    /// It with outer attributes before it, where none stand before it and it isn't of verbatim tokens.
+    /// It with outer attributes before it, where none come before it and it isn't of verbatim tokens.
     fn with_attrs(self, attrs: Vec<Attribute>) -> std::result::Result<Self, AllocError>
         requires outer { attributes_outer (attrs_of attrs) ≡ true }
         requires bare { is_attributed (Self.tree self) ≡ false }

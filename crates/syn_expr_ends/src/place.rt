@@ -26,7 +26,7 @@ pub const AT_HEAD: Place = Place {
     head: true,
 };
 
-/// The place of a right operand, or of the operand behind what stands before it, at this level.
+/// The place of a right operand, or of the operand after what comes before it, at this level.
 pub fn at(place: Place, level: Level) -> Place
     ensures { result ≡ places.at place level }
 {

@@ -101,7 +101,7 @@ dot_place e.try_expr c h = absurd cc
 pub place_level : (v : Level) (n : Next) (t : Tree) → wrapped_by v (summary_of t) n ≡ place_wrapped v t n (low t) (bad t n)
 place_level v n t = wrapped_same v (summary_of t) t n (summarized t)
 
--- ---- a brace behind a node is no operator and no trailer: what must not have it behind it refuses it itself
+-- ---- a brace after a node is no operator and no trailer: what must not have it after it refuses it itself
 
 no_block_behind : (k : Prefix) (gs : Children) (t : Tree) → bad (prefixed k gs t) next.Block ≡ false
 no_block_behind (e.unary o) gs t = refl

@@ -11,7 +11,7 @@ use Rattle.syn_grammar.specs.Rule.{is_less_next, misplaced, refuses}
 use Rattle.syn_grammar.specs.Tree as e
 use Rattle.syn_grammar.specs.Tree.{Tree, Prefix}
 
--- what is round the place and behind it, and how tightly an operand has to bind there
+-- what is round the place and after it, and how tightly an operand has to bind there
 pub record Fixup : Type 0 where
   pub context : Context
   pub level : Level
@@ -38,6 +38,6 @@ is_optional (e.jump j) = is_break j
 is_optional (e.range_to op) = is_half_open (inf.Range op)
 is_optional _ = false
 
--- The place refuses the node for what it is itself, or the node would take the brace behind the place.
+-- The place refuses the node for what it is itself, or the node would take the brace after the place.
 abbrev pub parenthesized : Context → Tree → Bool
 parenthesized c t = misplaced c t || ((is_block_next c.next || is_brace_next c.next) && refuses t c.next)

@@ -23,7 +23,7 @@ use syn_expr_summaries::set::has;
 use syn_grammar::kinds::{BinKind, Infix, Level, Limits};
 use syn_grammar::next::{Context, Edge, Next};
 
-/// Where an expression is printed: what stands round it and behind it, and how tightly it has to bind there.
+/// Where an expression is printed: what is round it and after it, and how tightly it has to bind there.
 ///
 /// `if (S {}) {}` and `x = S {}`: a struct expression needs parentheses in a condition.
 /// `(match x {}) + 1;` and `x = match x {} + 1;`: a block-like expression needs them at the head of a statement where
@@ -108,7 +108,7 @@ fn operator_by(level: Level, can_begin_expr: bool, can_begin_generics: bool) -> 
     }
 }
 
-/// Without a block, where a jump's value is: a brace behind it would be that of a struct expression.
+/// Without a block, where a jump's value is: a brace after it would be that of a struct expression.
 fn reset_next(reset: bool, next: Next) -> Next
     ensures { result ≡ (if reset then spec.without_block next else next) }
 {
@@ -116,7 +116,7 @@ fn reset_next(reset: bool, next: Next) -> Next
 }
 
 impl FixupContext {
-    /// For itself, with nothing round it and nothing behind.
+    /// For itself, with nothing round it and nothing after.
     ///
     /// `(a + b) * c` needs its parentheses; `a * b + c` none.
     pub const NONE: FixupContext = FixupContext {
@@ -243,8 +243,8 @@ impl FixupContext {
         )
     }
 
-    /// What decides about an operand at the right end, behind an operator of this precedence: `Unambiguous` where it is left
-    /// bare for its level, else `Jump`, and the place of the operand. Behind `..`, where the operand might be left out, ask
+    /// What decides about an operand at the right end, after an operator of this precedence: `Unambiguous` where it is left
+    /// bare for its level, else `Jump`, and the place of the operand. After `..`, where the operand might be left out, ask
     /// `rightmost_subexpression_fixup` with `optional_operand`, and then `rightmost_subexpression_precedence`.
     ///
     /// `a - (b - c)` needs its parentheses; `a - b * c` none.
@@ -261,7 +261,7 @@ impl FixupContext {
         (place.rightmost_subexpression_precedence(expr), place)
     }
 
-    /// The place of an operand at the right end, behind an operator of this precedence. `reset_allow_struct`: behind a jump,
+    /// The place of an operand at the right end, after an operator of this precedence. `reset_allow_struct`: after a jump,
     /// where struct expressions may stand even in a condition. `optional_operand`: it might be left out, so that in a
     /// condition a brace there would be that of the block.
     ///
@@ -294,7 +294,7 @@ impl FixupContext {
 
     /// Whether an operand in this place is left bare for its level: `Unambiguous` where it is, else `Jump`.
     ///
-    /// Behind `-`, `(a - b)` needs its parentheses; `a * b` none.
+    /// After `-`, `(a - b)` needs its parentheses; `a * b` none.
     #[tactic(auto, using(crate::proofs::Classes::operands))]
     pub fn rightmost_subexpression_precedence<E: HasNode + HasKind>(self, expr: &E) -> Level
         ensures { result ≡ level_if (place_wrapped self.level (E.tree expr.now) self.context.next (low (E.tree expr.now)) (bad (E.tree expr.now) self.context.next)) }
@@ -302,10 +302,10 @@ impl FixupContext {
         level_if(wrapped_by(self.level, summary_of(expr), self.context.next))
     }
 
-    /// Whether this place refuses an expression for what it is itself, or for the brace behind the place, which it would take.
+    /// Whether this place refuses an expression for what it is itself, or for the brace after the place, which it would take.
     /// For itself: below the head of a statement or of an arm's body a block-like expression; at the head of a statement and
     /// below it a `let`, and below it a macro with braces; in a condition a struct expression that is in no jump's value, and
-    /// a block without a label and outer attributes, first behind a `..` or `break` that is in none. For the brace: before the
+    /// a block without a label and outer attributes, first after a `..` or `break` that is in none. For the brace: before the
     /// block of a condition a `return` or `yield` without a value; where that is in a jump's value, a `break` without a value
     /// too, a path, and a range without an end and outer attributes.
     ///

@@ -17,7 +17,7 @@ use Rattle.syn_expr_kinds.specs.Attrs.{attrs_of, inner_of, outer_of}
 use Rattle.syn_expr_kinds.specs.Pats.{strays}
 use Rattle.syn_expr_flat.specs.Flat.{IsFlat, IsFlatBehind, before, behind}
 
--- what stands before such a node is put there, and first in its braces
+-- what comes before such a node is put there, and first in its braces
 pub record IsBraced (x : List AttributeTree → Tree) : Type 0 where
   pub bare : (more l : List AttributeTree) → prepend more (x l) ≡ attributed_with (outers more) (x (inners more ++ l))
   pub attributed : (more : List AttributeTree) (b : AttributeTree) (bs l : List AttributeTree) → prepend more (e.attributed b bs (x l)) ≡ attributed_with (outers more ++ b ∷ bs) (x (inners more ++ l))
@@ -42,7 +42,7 @@ outer_all : (v : Vec Attribute Global) → attributes_outer (outer_of v) ≡ tru
 unfolding outer_of
 outer_all v = outers_outer (map attribute_of v.items)
 
--- such a node behind its own attributes, made anew behind all
+-- such a node after its own attributes, made anew after all
 pub at_braces : (ats : Option (Vec Attribute Global)) (was now : Vec Attribute Global) (x : List AttributeTree → Tree) (u : Tree) → IsBraced (λ l. flatten (x l))
     → outer_of now ≡ outers (before ats) ++ outer_of was → inner_of now ≡ inners (before ats) ++ inner_of was → IsFlat (x (inner_of now)) u
     → IsFlatBehind ats (attributed_with (outer_of was) (x (inner_of was))) (attributed_with (outer_of now) u)

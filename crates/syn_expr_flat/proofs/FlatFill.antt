@@ -22,7 +22,7 @@ last_flatten e.tuple ks = one_flatten ks
 last_flatten (e.structure q p d) ks = refl
 last_flatten _ ks = refl
 
--- ---- what ends with a block ends with one behind attributes and without parentheses
+-- ---- what ends with a block ends with one after attributes and without parentheses
 
 block_attributed_with : (own : List AttributeTree) (t : Tree) → is_block_like (attributed_with own t) ≡ is_block_like t
 block_attributed_with [] t = refl
@@ -110,7 +110,7 @@ with_filled l _ = refl
 put_filled : (own l : List AttributeTree) (t : Tree) → filled (attributed_with own (with_inner l t)) ≡ filled t
 put_filled own l t = filled_attributed_with own (with_inner l t) ∙ with_filled l t
 
--- behind attributes
+-- after attributes
 filled_free : (more : List AttributeTree) (t : Tree) → is_free t ≡ true → filled t ≡ true → filled (prepend more t) ≡ true
 filled_free more t f h = ap filled (prepend_free more t f) ∙ put_filled (outside t more) (inners more ++ inner_in t) t ∙ h
 

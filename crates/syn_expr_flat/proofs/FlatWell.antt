@@ -54,7 +54,7 @@ frame_flatten (e.structure q p d) ks = rw (rest_flatten ks) refl
 frame_flatten (e.closure_block h) ks = refl
 frame_flatten _ ks = refl
 
--- ---- behind attributes
+-- ---- after attributes
 
 leaf_behind : (a : AttributeTree) (more : List AttributeTree) (k : Leaf) → attributes_outer (a ∷ more) ≡ true → well (leaf k) ≡ true → well (put_outer (a ∷ more) (leaf k)) ≡ true
 leaf_behind a more (e.verbatim ts) o h = absurd cc

@@ -14,7 +14,7 @@ use Rattle.syn_grammar.proofs.Attributes.{more_before, prepend_none}
 use Rattle.syn_expr_kinds.specs.Attrs.{attrs_of}
 use Rattle.syn_expr_flat.specs.Flat.{IsFlat, IsFlatBehind, before, behind}
 
--- neither parentheses, nor behind attributes, nor verbatim tokens, and none of its attributes stand in its braces
+-- neither parentheses, nor after attributes, nor verbatim tokens, and none of its attributes are in its braces
 abbrev pub is_plain : Tree → Bool
 is_plain (leaf k) = not (is_verbatim_leaf k) && not (leaf_has_braces k)
 is_plain (paren m t) = false
@@ -67,7 +67,7 @@ behind_plain (Some v) [] t h = prepend_plain (attrs_of v) (flatten t) (plain_fla
 behind_plain (Some v) (a ∷ more) t h =
     ap (prepend (attrs_of v)) (prepend_plain (a ∷ more) (flatten t) (plain_flat t h)) ∙ more_plain (attrs_of v) a more (flatten t) (plain_flat t h)
 
--- a node behind its own attributes, made anew behind all
+-- a node after its own attributes, made anew after all
 pub at_node : (ats : Option (Vec Attribute Global)) (own now : List AttributeTree) (t u : Tree) → is_plain t ≡ true
     → now ≡ before ats ++ own → IsFlat t u → IsFlatBehind ats (attributed_with own t) (attributed_with now u)
 unfolding IsFlat IsFlatBehind
@@ -99,7 +99,7 @@ postfix_flat k t u flat = ap (λ z. postfixed z k) flat
 
 -- ---- parentheses
 
--- what parentheses held, behind their attributes too
+-- what parentheses held, after their attributes too
 pub at_paren : (ats : Option (Vec Attribute Global)) (own : List AttributeTree) (v : Vec Attribute Global) (t u : Tree)
     → attrs_of v ≡ before ats ++ own → IsFlatBehind (Some v) t u → IsFlatBehind ats (attributed_with own (paren false t)) u
 unfolding IsFlatBehind

@@ -16,7 +16,7 @@ pub before_any : (ats : List AttributeTree) (t : Tree) → attributes_outer ats 
 before_any ats (paren m t) h = h
 before_any ats _ h = tt
 
--- ---- what stands
+-- ---- what is
 
 fields_outer : (is : List ℕ) (b : Tree) → HasOuterParens b → HasOuterParens (fields_of b is)
 fields_outer [] b h = h

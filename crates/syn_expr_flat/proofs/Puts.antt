@@ -11,7 +11,7 @@ use Rattle.syn_expr_kinds.specs.Attrs.{before_inner}
 use Rattle.syn_expr_kinds.proofs.Attributes.{both_parts}
 use Rattle.syn_expr_flat.specs.Place.{place}
 
--- ---- where the first inner one stands
+-- ---- where the first inner one is
 
 take_before : (ats : List AttributeTree) → take (length (before_inner ats)) ats ≡ before_inner ats
 take_before [] = refl

@@ -1,4 +1,4 @@
--- Verbatim tokens behind attributes.
+-- Verbatim tokens after attributes.
 use Rattle.std.proofs.Common.{◌≡◌, List, Some, None, ◌++◌, [], refl, sym, ap, ◌∙◌}
 use Rattle.std.specs.declared.vec.Vec.{Vec}
 use Rattle.std.specs.declared.alloc.Global.{Global}

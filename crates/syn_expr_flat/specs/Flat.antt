@@ -25,7 +25,7 @@ IsFlatField u v = (v.attrs ≡ u.attrs) × (v.member ≡ u.member) × (v.colon �
 abbrev pub Flattens : {E : Type 0} → (E → Tree) → (MutBor E → Result (Unit {0}) AllocError → MutBor E → Type 0) → Type 0
 Flattens tree post = (old new : MutBor _) (r : _) → post old r new → IfOk r (λ _. IsFlat (tree old.now) (tree new.now))
 
--- ---- behind attributes of parentheses that stood round it
+-- ---- after attributes of parentheses that stood round it
 
 abbrev pub before : Option (Vec Attribute Global) → List AttributeTree
 before None = []
@@ -35,10 +35,10 @@ abbrev pub behind : Option (Vec Attribute Global) → Tree → Tree
 behind None t = t
 behind (Some v) t = prepend (attrs_of v) t
 
--- u is t without its parentheses, behind these attributes
+-- u is t without its parentheses, after these attributes
 unfoldable pub IsFlatBehind : Option (Vec Attribute Global) → Tree → Tree → Type 0
 IsFlatBehind ats t u = u ≡ behind ats (flatten t)
 
--- a call that flattens what it is lent, behind attributes that it is given
+-- a call that flattens what it is lent, after attributes that it is given
 abbrev pub FlattensBehind : {E : Type 0} → (E → Tree) → (MutBor E → Option (Vec Attribute Global) → Result (Unit {0}) AllocError → MutBor E → Type 0) → Type 0
 FlattensBehind tree post = (old new : MutBor _) (ats : _) (r : _) → post old ats r new → IfOk r (λ _. IsFlatBehind ats (tree old.now) (tree new.now))

@@ -11,7 +11,7 @@ use crate::operands::{Flattened, boxed, punctuated};
 use syn_expr_kinds::atom::{ExprArrayOf, ExprGroupOf, ExprRepeatOf, ExprTupleOf};
 use syn_expr_kinds::kinds::HasExprTree;
 
-/// An array without the parentheses in it, behind more attributes.
+/// An array without the parentheses in it, after more attributes.
 pub fn array<E: HasExprTree, F: Fn(&mut E) -> Flattened<()>>(
     x: &mut ExprArrayOf<E>,
     attrs: Before,
@@ -27,7 +27,7 @@ pub fn array<E: HasExprTree, F: Fn(&mut E) -> Flattened<()>>(
     Ok(())
 }
 
-/// An invisible group without the parentheses in it, behind more attributes.
+/// An invisible group without the parentheses in it, after more attributes.
 pub fn group<E: HasExprTree, F: Fn(&mut E) -> Flattened<()>>(
     x: &mut ExprGroupOf<E>,
     attrs: Before,
@@ -42,7 +42,7 @@ pub fn group<E: HasExprTree, F: Fn(&mut E) -> Flattened<()>>(
     Ok(())
 }
 
-/// `[a; n]` without the parentheses in it, behind more attributes.
+/// `[a; n]` without the parentheses in it, after more attributes.
 pub fn repeat<E: HasExprTree, F: Fn(&mut E) -> Flattened<()>>(
     x: &mut ExprRepeatOf<E>,
     attrs: Before,
@@ -59,7 +59,7 @@ pub fn repeat<E: HasExprTree, F: Fn(&mut E) -> Flattened<()>>(
     Ok(())
 }
 
-/// A tuple without the parentheses in it, behind more attributes.
+/// A tuple without the parentheses in it, after more attributes.
 pub fn tuple<E: HasExprTree, F: Fn(&mut E) -> Flattened<()>>(
     x: &mut ExprTupleOf<E>,
     attrs: Before,

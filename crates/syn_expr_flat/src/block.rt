@@ -12,7 +12,7 @@ use syn_expr_kinds::block::{ExprIfOf, ExprWhileOf};
 use syn_expr_kinds::kinds::HasExprTree;
 use syn_tokens::token::Else;
 
-/// What stands behind `else`, without the parentheses in it.
+/// What comes after `else`, without the parentheses in it.
 #[tactic(auto, using(crate::proofs::Children::children, crate::proofs::Calls::flat_by))]
 fn else_branch<E: HasExprTree, F: Fn(&mut E) -> Flattened<()>>(
     x: &mut Option<(Else, Box<E>)>,
@@ -31,7 +31,7 @@ fn else_branch<E: HasExprTree, F: Fn(&mut E) -> Flattened<()>>(
     }
 }
 
-/// An `if` without the parentheses in it, behind more attributes.
+/// An `if` without the parentheses in it, after more attributes.
 pub fn if_expr<E: HasExprTree, F: Fn(&mut E) -> Flattened<()>>(
     x: &mut ExprIfOf<E>,
     attrs: Before,
@@ -48,7 +48,7 @@ pub fn if_expr<E: HasExprTree, F: Fn(&mut E) -> Flattened<()>>(
     Ok(())
 }
 
-/// A `while` loop without the parentheses in it, behind more attributes.
+/// A `while` loop without the parentheses in it, after more attributes.
 pub fn while_expr<E: HasExprTree, F: Fn(&mut E) -> Flattened<()>>(
     x: &mut ExprWhileOf<E>,
     attrs: Before,

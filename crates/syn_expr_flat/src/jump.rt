@@ -11,7 +11,7 @@ use crate::operands::{Flattened, optional};
 use syn_expr_kinds::jump::{ExprBreakOf, ExprReturnOf, ExprYieldOf};
 use syn_expr_kinds::kinds::HasExprTree;
 
-/// A `break` without the parentheses in it, behind more attributes.
+/// A `break` without the parentheses in it, after more attributes.
 pub fn break_expr<E: HasExprTree, F: Fn(&mut E) -> Flattened<()>>(
     x: &mut ExprBreakOf<E>,
     attrs: Before,
@@ -26,7 +26,7 @@ pub fn break_expr<E: HasExprTree, F: Fn(&mut E) -> Flattened<()>>(
     Ok(())
 }
 
-/// A `return` without the parentheses in it, behind more attributes.
+/// A `return` without the parentheses in it, after more attributes.
 pub fn return_expr<E: HasExprTree, F: Fn(&mut E) -> Flattened<()>>(
     x: &mut ExprReturnOf<E>,
     attrs: Before,
@@ -41,7 +41,7 @@ pub fn return_expr<E: HasExprTree, F: Fn(&mut E) -> Flattened<()>>(
     Ok(())
 }
 
-/// A `yield` without the parentheses in it, behind more attributes.
+/// A `yield` without the parentheses in it, after more attributes.
 pub fn yield_expr<E: HasExprTree, F: Fn(&mut E) -> Flattened<()>>(
     x: &mut ExprYieldOf<E>,
     attrs: Before,

@@ -10,7 +10,7 @@ use syn_expr_kinds::atom::{ExprInfer, ExprLit, ExprMacro, ExprPath};
 use syn_expr_kinds::block::{ExprAsync, ExprBlock, ExprConst, ExprLoop, ExprTryBlock, ExprUnsafe};
 use syn_expr_kinds::jump::ExprContinue;
 
-/// `_` behind more attributes.
+/// `_` after more attributes.
 pub fn infer(x: &mut ExprInfer, attrs: Before) -> Flattened<()>
     ensures { IfOk result (λ _. IsFlatBehind attrs (expr_infer_of x.old) (expr_infer_of x.new)) }
 {
@@ -18,7 +18,7 @@ pub fn infer(x: &mut ExprInfer, attrs: Before) -> Flattened<()>
     Ok(())
 }
 
-/// A literal behind more attributes.
+/// A literal after more attributes.
 pub fn lit(x: &mut ExprLit, attrs: Before) -> Flattened<()>
     ensures { IfOk result (λ _. IsFlatBehind attrs (expr_lit_of x.old) (expr_lit_of x.new)) }
 {
@@ -26,7 +26,7 @@ pub fn lit(x: &mut ExprLit, attrs: Before) -> Flattened<()>
     Ok(())
 }
 
-/// A macro call behind more attributes.
+/// A macro call after more attributes.
 pub fn mac(x: &mut ExprMacro, attrs: Before) -> Flattened<()>
     ensures { IfOk result (λ _. IsFlatBehind attrs (expr_macro_of x.old) (expr_macro_of x.new)) }
 {
@@ -34,7 +34,7 @@ pub fn mac(x: &mut ExprMacro, attrs: Before) -> Flattened<()>
     Ok(())
 }
 
-/// A path behind more attributes.
+/// A path after more attributes.
 pub fn path(x: &mut ExprPath, attrs: Before) -> Flattened<()>
     ensures { IfOk result (λ _. IsFlatBehind attrs (expr_path_of x.old) (expr_path_of x.new)) }
 {
@@ -42,7 +42,7 @@ pub fn path(x: &mut ExprPath, attrs: Before) -> Flattened<()>
     Ok(())
 }
 
-/// An `async` block behind more attributes.
+/// An `async` block after more attributes.
 pub fn async_block(x: &mut ExprAsync, attrs: Before) -> Flattened<()>
     ensures { IfOk result (λ _. IsFlatBehind attrs (expr_async_of x.old) (expr_async_of x.new)) }
 {
@@ -50,7 +50,7 @@ pub fn async_block(x: &mut ExprAsync, attrs: Before) -> Flattened<()>
     Ok(())
 }
 
-/// A `try` block behind more attributes.
+/// A `try` block after more attributes.
 pub fn try_block(x: &mut ExprTryBlock, attrs: Before) -> Flattened<()>
     ensures { IfOk result (λ _. IsFlatBehind attrs (expr_try_block_of x.old) (expr_try_block_of x.new)) }
 {
@@ -58,7 +58,7 @@ pub fn try_block(x: &mut ExprTryBlock, attrs: Before) -> Flattened<()>
     Ok(())
 }
 
-/// A `continue` behind more attributes.
+/// A `continue` after more attributes.
 pub fn continue_expr(x: &mut ExprContinue, attrs: Before) -> Flattened<()>
     ensures { IfOk result (λ _. IsFlatBehind attrs (expr_continue_of x.old) (expr_continue_of x.new)) }
 {
@@ -66,7 +66,7 @@ pub fn continue_expr(x: &mut ExprContinue, attrs: Before) -> Flattened<()>
     Ok(())
 }
 
-/// A block behind more attributes.
+/// A block after more attributes.
 pub fn block(x: &mut ExprBlock, attrs: Before) -> Flattened<()>
     ensures { IfOk result (λ _. IsFlatBehind attrs (expr_block_of x.old) (expr_block_of x.new)) }
 {
@@ -74,7 +74,7 @@ pub fn block(x: &mut ExprBlock, attrs: Before) -> Flattened<()>
     Ok(())
 }
 
-/// A `const` block behind more attributes.
+/// A `const` block after more attributes.
 pub fn const_block(x: &mut ExprConst, attrs: Before) -> Flattened<()>
     ensures { IfOk result (λ _. IsFlatBehind attrs (expr_const_of x.old) (expr_const_of x.new)) }
 {
@@ -82,7 +82,7 @@ pub fn const_block(x: &mut ExprConst, attrs: Before) -> Flattened<()>
     Ok(())
 }
 
-/// A `loop` behind more attributes.
+/// A `loop` after more attributes.
 pub fn loop_expr(x: &mut ExprLoop, attrs: Before) -> Flattened<()>
     ensures { IfOk result (λ _. IsFlatBehind attrs (expr_loop_of x.old) (expr_loop_of x.new)) }
 {
@@ -90,7 +90,7 @@ pub fn loop_expr(x: &mut ExprLoop, attrs: Before) -> Flattened<()>
     Ok(())
 }
 
-/// An `unsafe` block behind more attributes.
+/// An `unsafe` block after more attributes.
 pub fn unsafe_block(x: &mut ExprUnsafe, attrs: Before) -> Flattened<()>
     ensures { IfOk result (λ _. IsFlatBehind attrs (expr_unsafe_of x.old) (expr_unsafe_of x.new)) }
 {

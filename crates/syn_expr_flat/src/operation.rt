@@ -14,7 +14,7 @@ use syn_expr_kinds::operation::{
     ExprUnaryOf,
 };
 
-/// An assignment without the parentheses in it, behind more attributes.
+/// An assignment without the parentheses in it, after more attributes.
 pub fn assign<E: HasExprTree, F: Fn(&mut E) -> Flattened<()>>(
     x: &mut ExprAssignOf<E>,
     attrs: Before,
@@ -31,7 +31,7 @@ pub fn assign<E: HasExprTree, F: Fn(&mut E) -> Flattened<()>>(
     Ok(())
 }
 
-/// A binary operation without the parentheses in it, behind more attributes.
+/// A binary operation without the parentheses in it, after more attributes.
 pub fn binary<E: HasExprTree, F: Fn(&mut E) -> Flattened<()>>(
     x: &mut ExprBinaryOf<E>,
     attrs: Before,
@@ -48,7 +48,7 @@ pub fn binary<E: HasExprTree, F: Fn(&mut E) -> Flattened<()>>(
     Ok(())
 }
 
-/// A cast without the parentheses in it, behind more attributes.
+/// A cast without the parentheses in it, after more attributes.
 pub fn cast<E: HasExprTree, F: Fn(&mut E) -> Flattened<()>>(
     x: &mut ExprCastOf<E>,
     attrs: Before,
@@ -63,7 +63,7 @@ pub fn cast<E: HasExprTree, F: Fn(&mut E) -> Flattened<()>>(
     Ok(())
 }
 
-/// A range without the parentheses in it, behind more attributes.
+/// A range without the parentheses in it, after more attributes.
 pub fn range<E: HasExprTree, F: Fn(&mut E) -> Flattened<()>>(
     x: &mut ExprRangeOf<E>,
     attrs: Before,
@@ -80,7 +80,7 @@ pub fn range<E: HasExprTree, F: Fn(&mut E) -> Flattened<()>>(
     Ok(())
 }
 
-/// A raw borrow (`&raw const`, `&raw mut`) without the parentheses in it, behind more attributes.
+/// A raw borrow (`&raw const`, `&raw mut`) without the parentheses in it, after more attributes.
 pub fn raw_addr<E: HasExprTree, F: Fn(&mut E) -> Flattened<()>>(
     x: &mut ExprRawAddrOf<E>,
     attrs: Before,
@@ -95,7 +95,7 @@ pub fn raw_addr<E: HasExprTree, F: Fn(&mut E) -> Flattened<()>>(
     Ok(())
 }
 
-/// A reference without the parentheses in it, behind more attributes.
+/// A reference without the parentheses in it, after more attributes.
 pub fn reference<E: HasExprTree, F: Fn(&mut E) -> Flattened<()>>(
     x: &mut ExprReferenceOf<E>,
     attrs: Before,
@@ -110,7 +110,7 @@ pub fn reference<E: HasExprTree, F: Fn(&mut E) -> Flattened<()>>(
     Ok(())
 }
 
-/// A unary operation without the parentheses in it, behind more attributes.
+/// A unary operation without the parentheses in it, after more attributes.
 pub fn unary<E: HasExprTree, F: Fn(&mut E) -> Flattened<()>>(
     x: &mut ExprUnaryOf<E>,
     attrs: Before,

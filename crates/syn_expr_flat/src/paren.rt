@@ -11,7 +11,7 @@ use std::mem::replace;
 use syn_expr_kinds::atom::ExprParenOf;
 use syn_expr_kinds::kinds::HasExprTree;
 
-/// What the parentheses hold, behind their attributes, and these behind more. It is left in its box, for the caller to put in the
+/// What the parentheses hold, after their attributes, and these after more. It is left in its box, for the caller to put in the
 /// place of the parentheses. Refused where the function refuses it, or memory runs out.
 #[tactic(auto, using(crate::proofs::Nodes::parens))]
 pub fn unwrapped<E: HasExprTree, F: Fn(&mut E, Before) -> Flattened<()>>(

@@ -18,7 +18,7 @@ use syn_pat_kinds::pat::{
 };
 use syn_tokens::token::At;
 
-/// What stands behind `@`, without the parentheses in its guards.
+/// What comes after `@`, without the parentheses in its guards.
 #[tactic(auto, using(crate::proofs::Each::each))]
 fn sub_pattern<P: HasPatTree, F: Fn(&mut P) -> Flattened<()>>(
     x: &mut Option<(At, Box<P>)>,
@@ -38,7 +38,7 @@ fn sub_pattern<P: HasPatTree, F: Fn(&mut P) -> Flattened<()>>(
     }
 }
 
-/// A name, with what stands behind `@`, without the parentheses in its guards.
+/// A name, with what comes after `@`, without the parentheses in its guards.
 pub fn ident<P: HasPatTree, F: Fn(&mut P) -> Flattened<()>>(
     x: &mut PatIdentOf<P>,
     flatten: F,

@@ -11,7 +11,7 @@ use crate::operands::{Flattened, optional, punctuated};
 use syn_expr_kinds::kinds::HasExprTree;
 use syn_expr_kinds::structure::{ExprStructOf, FieldValueOf};
 
-/// A struct expression without the parentheses in it, behind more attributes.
+/// A struct expression without the parentheses in it, after more attributes.
 pub fn struct_expr<E: HasExprTree, F: Fn(&mut E) -> Flattened<()>>(
     x: &mut ExprStructOf<E>,
     attrs: Before,

@@ -1,4 +1,4 @@
-//! What stands behind an operand, with it.
+//! What comes after an operand, with it.
 
 ghost use Rattle.std.specs.Prelude.{Contains, IfOk};
 ghost use Rattle.std.specs.Option.{ForSome};
@@ -13,7 +13,7 @@ use syn_expr_kinds::trailer::{
     ExprAwaitOf, ExprCallOf, ExprFieldOf, ExprIndexOf, ExprMethodCallOf, ExprTryOf,
 };
 
-/// An `.await` without the parentheses in it, behind more attributes.
+/// An `.await` without the parentheses in it, after more attributes.
 pub fn await_expr<E: HasExprTree, F: Fn(&mut E) -> Flattened<()>>(
     x: &mut ExprAwaitOf<E>,
     attrs: Before,
@@ -28,7 +28,7 @@ pub fn await_expr<E: HasExprTree, F: Fn(&mut E) -> Flattened<()>>(
     Ok(())
 }
 
-/// A call without the parentheses in it, behind more attributes.
+/// A call without the parentheses in it, after more attributes.
 pub fn call<E: HasExprTree, F: Fn(&mut E) -> Flattened<()>>(
     x: &mut ExprCallOf<E>,
     attrs: Before,
@@ -46,7 +46,7 @@ pub fn call<E: HasExprTree, F: Fn(&mut E) -> Flattened<()>>(
     Ok(())
 }
 
-/// An access to a field without the parentheses in it, behind more attributes.
+/// An access to a field without the parentheses in it, after more attributes.
 pub fn field<E: HasExprTree, F: Fn(&mut E) -> Flattened<()>>(
     x: &mut ExprFieldOf<E>,
     attrs: Before,
@@ -61,7 +61,7 @@ pub fn field<E: HasExprTree, F: Fn(&mut E) -> Flattened<()>>(
     Ok(())
 }
 
-/// An index expression without the parentheses in it, behind more attributes.
+/// An index expression without the parentheses in it, after more attributes.
 pub fn index<E: HasExprTree, F: Fn(&mut E) -> Flattened<()>>(
     x: &mut ExprIndexOf<E>,
     attrs: Before,
@@ -78,7 +78,7 @@ pub fn index<E: HasExprTree, F: Fn(&mut E) -> Flattened<()>>(
     Ok(())
 }
 
-/// A method call without the parentheses in it, behind more attributes.
+/// A method call without the parentheses in it, after more attributes.
 pub fn method_call<E: HasExprTree, F: Fn(&mut E) -> Flattened<()>>(
     x: &mut ExprMethodCallOf<E>,
     attrs: Before,
@@ -96,7 +96,7 @@ pub fn method_call<E: HasExprTree, F: Fn(&mut E) -> Flattened<()>>(
     Ok(())
 }
 
-/// `a?` without the parentheses in it, behind more attributes.
+/// `a?` without the parentheses in it, after more attributes.
 pub fn try_expr<E: HasExprTree, F: Fn(&mut E) -> Flattened<()>>(
     x: &mut ExprTryOf<E>,
     attrs: Before,

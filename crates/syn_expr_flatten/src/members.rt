@@ -38,7 +38,7 @@ pub(crate) fn guarded<F: Fn(&mut Expr) -> Flattened<()>, G: Fn(&mut Pat) -> Flat
     Ok(())
 }
 
-/// A closure without the parentheses in it, behind more attributes.
+/// A closure without the parentheses in it, after more attributes.
 pub(crate) fn closure<F: Fn(&mut Expr) -> Flattened<()>, G: Fn(&mut Pat) -> Flattened<()>>(
     x: &mut ExprClosure,
     attrs: Before,
@@ -58,7 +58,7 @@ pub(crate) fn closure<F: Fn(&mut Expr) -> Flattened<()>, G: Fn(&mut Pat) -> Flat
     Ok(())
 }
 
-/// A `for` loop without the parentheses in it, behind more attributes.
+/// A `for` loop without the parentheses in it, after more attributes.
 pub(crate) fn for_loop<F: Fn(&mut Expr) -> Flattened<()>, G: Fn(&mut Pat) -> Flattened<()>>(
     x: &mut ExprForLoop,
     attrs: Before,
@@ -77,7 +77,7 @@ pub(crate) fn for_loop<F: Fn(&mut Expr) -> Flattened<()>, G: Fn(&mut Pat) -> Fla
     Ok(())
 }
 
-/// A `let` without the parentheses in it, behind more attributes.
+/// A `let` without the parentheses in it, after more attributes.
 pub(crate) fn let_expr<F: Fn(&mut Expr) -> Flattened<()>, G: Fn(&mut Pat) -> Flattened<()>>(
     x: &mut ExprLet,
     attrs: Before,
@@ -113,7 +113,7 @@ pub(crate) fn arm<F: Fn(&mut Expr) -> Flattened<()>, G: Fn(&mut Pat) -> Flattene
     Ok(())
 }
 
-/// A `match` without the parentheses in it, behind more attributes.
+/// A `match` without the parentheses in it, after more attributes.
 pub(crate) fn match_expr<F: Fn(&mut Expr) -> Flattened<()>, A: Fn(&mut Arm) -> Flattened<()>>(
     x: &mut ExprMatch,
     attrs: Before,

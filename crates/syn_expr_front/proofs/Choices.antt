@@ -29,7 +29,7 @@ first : {A B : Type 0} (f : A → B) (b : Bool) (x y : A) (v : B) → v ≡ f y 
 first f true x y v k = refl
 first f false x y v k = k
 
--- the same behind one test more
+-- the same after one test more
 inner : {A B : Type 0} (f : A → Option B) (a b : Bool) (x y : A) (u v : Option B) → cond a u None ≡ f x → cond a v None ≡ f y → cond a (cond b u v) None ≡ f (cond b x y)
 inner f a true x y u v g k = g
 inner f a false x y u v g k = k

@@ -11,7 +11,7 @@ use Rattle.syn_grammar.specs.Stands.{step, steps_of}
 use Rattle.syn_expr_front.specs.Cut.{cut, last_part, Splits, with_index, front_indices, end_of, refusal_of}
 use Rattle.syn_expr_parts.specs.Refusal.{by_value}
 
--- no dot stands in it
+-- no dot is in it
 abbrev HasNoDot : Text → Type 0
 HasNoDot s = (i : ℕ) → i < length s → get_or s i 0 ≢ 46
 
@@ -46,7 +46,7 @@ some_ends : (n : ℕ) (o : Option (List ℕ × Bool)) → end_of (step (Some n) 
 some_ends n None = refl
 some_ends n (Some p) = refl
 
--- behind a part that is an index
+-- after a part that is an index
 pub ends_on : (s a b : Text) (n : ℕ) → Splits s a b → index_of a ≡ Some n → end_of (steps_of (cut s)) ≡ end_of (steps_of (cut b))
 ends_on s a b n e f = rw (e, f) (some_ends n (steps_of (cut b)))
 

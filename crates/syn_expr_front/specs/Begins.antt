@@ -1,4 +1,4 @@
--- By what stands first which operand, which leaf, which prefix and which trailer is read, and what is read of each.
+-- By what comes first which operand, which leaf, which prefix and which trailer is read, and what is read of each.
 use Rattle.std.specs.Prelude.{◌≡◌, true, if◌then◌else◌, List, [], drop, None}
 use Rattle.syn_tokens.specs.Tok.{Tok}
 use Rattle.syn_parts.specs.Form.{Form, mark, both, shown, pure, flag, maybe, closed_by}
@@ -103,7 +103,7 @@ LeavesAreChosen = (l : List Tok) → leaf_form.reads l ≡ (leaf_by (leaf_of l))
 
 -- ---- prefixes
 
--- behind `&`
+-- after `&`
 abbrev pub borrow_of : List Tok → PrefixStart
 borrow_of l = if h.raw_at (drop 1 l) then prefix.RawAddr else prefix.Reference
 
@@ -140,7 +140,7 @@ trailer_of l =
     (if question_at l then trailer.Question else
     (if dot_at l then trailer.Dot else trailer.Absent)))
 
--- what is read of each behind an operand, by a reading of the expressions inside
+-- what is read of each after an operand, by a reading of the expressions inside
 abbrev pub trailer_by : (Place → Reading Tree) → Place → Tree → TrailerStart → Reading Tree
 trailer_by expr p b trailer.Call l = r.trailed_by expr p b [] e.call l
 trailer_by expr p b trailer.Index l = r.trailed_by expr p b [] e.index l
@@ -151,7 +151,7 @@ trailer_by expr p b trailer.Absent l = None
 abbrev pub TrailersAreChosen : Type 0
 TrailersAreChosen = (expr : Place → Reading Tree) (p : Place) (b : Tree) (l : List Tok) → r.trailed expr p b l ≡ trailer_by expr p b (trailer_of l) l
 
--- behind a dot
+-- after a dot
 abbrev pub name_of : List Tok → NameStart
 name_of l = if h.await_word.at l then named.Await else (if h.method_at l then named.Method else named.Field)
 

@@ -1,4 +1,4 @@
--- The indices in a float behind a dot, from its text.
+-- The indices in a float after a dot, from its text.
 use Rattle.std.specs.Prelude.{◌≡◌, ℕ, Bool, if◌then◌else◌, is_some, List, [], ◌∷◌, Option, Some, None}
 use Rattle.syn_tokens.specs.Tok.{Tok, literal}
 use Rattle.syn_tokens.specs.Floats.{dot, part, parts_from}
@@ -40,7 +40,7 @@ refusal_of (literal s ∷ []) = by_value (integer_value s)
 refusal_of (literal s ∷ d ∷ more) = if is_some (index_of s) then refusal_of more else by_value (integer_value s)
 refusal_of _ = ExpectedUnsuffixedInteger
 
--- as what a token behind a dot is refused that begins no member
+-- as what a token after a dot is refused that begins no member
 abbrev pub refusal_at : List Tok → ErrorKind
 refusal_at (literal s ∷ l) = if is_number s then refusal_of (cut s) else ExpectedMember
 refusal_at _ = ExpectedMember

@@ -1,4 +1,4 @@
-//! Which operand stands first, by its first tokens.
+//! Which operand comes first, by its first tokens.
 
 ghost use Rattle.std.specs.Prelude.{◌≡◌, ◌&&◌, ◌||◌, not, drop};
 ghost use Rattle.syn_grammar.specs.Head as head;
@@ -21,7 +21,7 @@ use syn_tokens::token::{
 };
 use syn_tokens::tree::TokenTree;
 
-/// The trees behind so many, none where there are fewer.
+/// The trees after so many, none where there are fewer.
 #[tactic(auto, using(syn_tokens::proofs::Views::views))]
 fn behind(trees: &[TokenTree], count: usize) -> &[TokenTree]
     ensures { toks_of result.now ≡ drop count (toks_of trees.now) }
@@ -34,7 +34,7 @@ fn behind(trees: &[TokenTree], count: usize) -> &[TokenTree]
     }
 }
 
-/// The trees behind the label that stands first, all where none does.
+/// The trees after the label that comes first, all where none does.
 fn past_label(trees: &[TokenTree]) -> &[TokenTree]
     ensures { toks_of result.now ≡ head.past_label (toks_of trees.now) }
 {
@@ -45,7 +45,7 @@ fn past_label(trees: &[TokenTree]) -> &[TokenTree]
     }
 }
 
-/// Whether a literal stands first, `true` and `false` being two (Rust Reference, "Literal expressions").
+/// Whether a literal comes first, `true` and `false` being two (Rust Reference, "Literal expressions").
 #[tactic(auto, unfolding(syn_grammar::specs::Head::literal_at))]
 pub fn literal_at(input: &ParseBuffer<'_>) -> bool
     ensures { result ≡ head.literal_at input.now.rest }
@@ -59,7 +59,7 @@ pub fn literal_at(input: &ParseBuffer<'_>) -> bool
     }
 }
 
-/// Whether `loop` stands first, a label before it or not (Rust Reference, "Infinite loops").
+/// Whether `loop` comes first, a label before it or not (Rust Reference, "Infinite loops").
 #[tactic(auto, unfolding(syn_grammar::specs::Head::loop_at, syn_tokens::specs::Sign::word_text, syn_parts::specs::Mark::word_at))]
 pub fn loop_at(input: &ParseBuffer<'_>) -> bool
     ensures { result ≡ head.loop_at input.now.rest }
@@ -67,7 +67,7 @@ pub fn loop_at(input: &ParseBuffer<'_>) -> bool
     Loop::peek(past_label(input.trees()))
 }
 
-/// Whether a brace stands first, a label before it or not (Rust Reference, "Block expressions").
+/// Whether a brace comes first, a label before it or not (Rust Reference, "Block expressions").
 #[tactic(auto, unfolding(syn_grammar::specs::Head::block_at, syn_parts::specs::Mark::brace_at))]
 pub fn block_at(input: &ParseBuffer<'_>) -> bool
     ensures { result ≡ head.block_at input.now.rest }
@@ -75,7 +75,7 @@ pub fn block_at(input: &ParseBuffer<'_>) -> bool
     Brace::peek(past_label(input.trees()))
 }
 
-/// Whether `const` and a brace stand first (Rust Reference, "Const blocks").
+/// Whether `const` and a brace come first (Rust Reference, "Const blocks").
 #[tactic(auto, unfolding(syn_grammar::specs::Head::const_block_at, syn_tokens::specs::Sign::word_text, syn_parts::specs::Mark::word_at, syn_parts::specs::Mark::brace_at))]
 pub fn const_block_at(input: &ParseBuffer<'_>) -> bool
     ensures { result ≡ head.const_block_at input.now.rest }
@@ -83,7 +83,7 @@ pub fn const_block_at(input: &ParseBuffer<'_>) -> bool
     input.peek::<Const>() && Brace::peek(behind(input.trees(), 1))
 }
 
-/// Whether `async` and a brace stand first, `move` between them or not (Rust Reference, "`async` blocks").
+/// Whether `async` and a brace come first, `move` between them or not (Rust Reference, "`async` blocks").
 #[tactic(auto, unfolding(syn_grammar::specs::Head::async_block_at, syn_tokens::specs::Sign::word_text, syn_parts::specs::Mark::word_at, syn_parts::specs::Mark::brace_at))]
 pub fn async_block_at(input: &ParseBuffer<'_>) -> bool
     ensures { result ≡ head.async_block_at input.now.rest }
@@ -94,7 +94,7 @@ pub fn async_block_at(input: &ParseBuffer<'_>) -> bool
         && (Brace::peek(second) || Move::peek(second) && Brace::peek(behind(trees, 2)))
 }
 
-/// Whether `try` and a brace stand first.
+/// Whether `try` and a brace come first.
 #[tactic(auto, unfolding(syn_grammar::specs::Head::try_block_at, syn_tokens::specs::Sign::word_text, syn_parts::specs::Mark::word_at, syn_parts::specs::Mark::brace_at))]
 pub fn try_block_at(input: &ParseBuffer<'_>) -> bool
     ensures { result ≡ head.try_block_at input.now.rest }
@@ -102,7 +102,7 @@ pub fn try_block_at(input: &ParseBuffer<'_>) -> bool
     input.peek::<Try>() && Brace::peek(behind(input.trees(), 1))
 }
 
-/// Whether `builtin` and `#` stand first: special syntax.
+/// Whether `builtin` and `#` come first: special syntax.
 #[tactic(auto, unfolding(syn_grammar::specs::Head::builtin_at, syn_tokens::specs::Sign::sign_text, syn_parts::specs::Mark::word_at, syn_parts::specs::Mark::sign_at))]
 pub fn builtin_at(input: &ParseBuffer<'_>) -> bool
     ensures { result ≡ head.builtin_at input.now.rest }
@@ -113,7 +113,7 @@ pub fn builtin_at(input: &ParseBuffer<'_>) -> bool
     }
 }
 
-/// Whether `..` stands first, what is joined to it or not (Rust Reference, "Range expressions").
+/// Whether `..` comes first, what is joined to it or not (Rust Reference, "Range expressions").
 #[tactic(auto, unfolding(syn_grammar::specs::Head::range_at, syn_tokens::specs::Sign::sign_text, syn_parts::specs::Mark::sign_at))]
 pub fn range_at(input: &ParseBuffer<'_>) -> bool
     ensures { result ≡ head.range_at input.now.rest }
@@ -121,7 +121,7 @@ pub fn range_at(input: &ParseBuffer<'_>) -> bool
     input.peek::<DotDot>()
 }
 
-/// Whether `return`, `yield` or `break` stands first (Rust Reference, "`return` expressions", "`break` expressions").
+/// Whether `return`, `yield` or `break` comes first (Rust Reference, "`return` expressions", "`break` expressions").
 #[tactic(auto, unfolding(syn_grammar::specs::Head::jump_at, syn_tokens::specs::Sign::word_text, syn_parts::specs::Mark::word_at))]
 pub fn jump_at(input: &ParseBuffer<'_>) -> bool
     ensures { result ≡ head.jump_at input.now.rest }
@@ -129,7 +129,7 @@ pub fn jump_at(input: &ParseBuffer<'_>) -> bool
     input.peek::<Return>() || input.peek::<Yield>() || input.peek::<Break>()
 }
 
-/// Whether `const` stands first, and no brace behind it.
+/// Whether `const` comes first, and no brace after it.
 #[tactic(auto, unfolding(syn_tokens::specs::Sign::word_text, syn_parts::specs::Mark::word_at, syn_parts::specs::Mark::brace_at))]
 fn const_closure_at(input: &ParseBuffer<'_>) -> bool
     ensures { result ≡ (mark.constant.at input.now.rest && not (mark.brace_at (drop 1 input.now.rest))) }
@@ -137,7 +137,7 @@ fn const_closure_at(input: &ParseBuffer<'_>) -> bool
     input.peek::<Const>() && !Brace::peek(behind(input.trees(), 1))
 }
 
-/// Whether `|`, `use`, or `move` and no brace stands first: what may stand behind the `async` of a closure.
+/// Whether `|`, `use`, or `move` and no brace comes first: what may come after the `async` of a closure.
 #[tactic(auto, unfolding(syn_tokens::specs::Sign::word_text, syn_tokens::specs::Sign::sign_text, syn_parts::specs::Mark::word_at, syn_parts::specs::Mark::sign_at, syn_parts::specs::Mark::brace_at))]
 fn captures_first(trees: &[TokenTree]) -> bool
     ensures { result ≡ head.captures_at (toks_of trees.now) }
@@ -145,7 +145,7 @@ fn captures_first(trees: &[TokenTree]) -> bool
     Or::peek(trees) || Use::peek(trees) || Move::peek(trees) && !Brace::peek(behind(trees, 1))
 }
 
-/// Whether `async` stands first, and behind it what may stand there in a closure.
+/// Whether `async` comes first, and after it what may are there in a closure.
 #[tactic(auto, unfolding(syn_tokens::specs::Sign::word_text, syn_parts::specs::Mark::word_at))]
 fn async_closure_at(input: &ParseBuffer<'_>) -> bool
     ensures { result ≡ (head.async_word.at input.now.rest && head.captures_at (drop 1 input.now.rest)) }
@@ -153,7 +153,7 @@ fn async_closure_at(input: &ParseBuffer<'_>) -> bool
     input.peek::<Async>() && captures_first(behind(input.trees(), 1))
 }
 
-/// Whether the head of a closure stands first (Rust Reference, "Closure expressions").
+/// Whether the head of a closure comes first (Rust Reference, "Closure expressions").
 #[tactic(auto, unfolding(syn_grammar::specs::Head::closure_at, syn_tokens::specs::Sign::word_text, syn_tokens::specs::Sign::sign_text, syn_parts::specs::Mark::word_at, syn_parts::specs::Mark::sign_at))]
 pub fn closure_at(input: &ParseBuffer<'_>) -> bool
     ensures { result ≡ head.closure_at input.now.rest }
@@ -167,7 +167,7 @@ pub fn closure_at(input: &ParseBuffer<'_>) -> bool
         || async_closure_at(input)
 }
 
-/// Whether the word `raw` and one of a raw borrow stand first: `mut` or `const`.
+/// Whether the word `raw` and one of a raw borrow come first: `mut` or `const`.
 #[tactic(auto, unfolding(syn_grammar::specs::Head::raw_at, syn_tokens::specs::Sign::word_text, syn_parts::specs::Mark::word_at))]
 fn raw_first(trees: &[TokenTree]) -> bool
     ensures { result ≡ head.raw_at (toks_of trees.now) }
@@ -176,21 +176,21 @@ fn raw_first(trees: &[TokenTree]) -> bool
     Raw::peek(trees) && (Mut::peek(second) || Const::peek(second))
 }
 
-/// Whether `raw` stands first, and `mut` or `const` behind it (Rust Reference, "Raw borrow operators").
+/// Whether `raw` comes first, and `mut` or `const` after it (Rust Reference, "Raw borrow operators").
 pub fn raw_at(input: &ParseBuffer<'_>) -> bool
     ensures { result ≡ head.raw_at input.now.rest }
 {
     raw_first(input.trees())
 }
 
-/// Whether `raw` stands behind the first token, and `mut` or `const` behind it (Rust Reference, "Raw borrow operators").
+/// Whether `raw` comes after the first token, and `mut` or `const` after it (Rust Reference, "Raw borrow operators").
 pub(crate) fn raw_behind(input: &ParseBuffer<'_>) -> bool
     ensures { result ≡ head.raw_at (drop 1 input.now.rest) }
 {
     raw_first(behind(input.trees(), 1))
 }
 
-/// Whether a name stands first, and parentheses or `::` behind it: that of a method (Rust Reference, "Method-call
+/// Whether a name comes first, and parentheses or `::` after it: that of a method (Rust Reference, "Method-call
 /// expressions").
 #[tactic(auto, unfolding(syn_grammar::specs::Head::method_at, syn_tokens::specs::Sign::sign_text, syn_parts::specs::Mark::sign_at, syn_parts::specs::Mark::round_at))]
 pub fn method_at(input: &ParseBuffer<'_>) -> bool
@@ -204,7 +204,7 @@ pub fn method_at(input: &ParseBuffer<'_>) -> bool
     }
 }
 
-/// Whether `become` stands first.
+/// Whether `become` comes first.
 #[tactic(auto, unfolding(syn_tokens::specs::Sign::word_text, syn_parts::specs::Mark::word_at))]
 pub fn become_at(input: &ParseBuffer<'_>) -> bool
     ensures { result ≡ read.become_word.at input.now.rest }
@@ -212,7 +212,7 @@ pub fn become_at(input: &ParseBuffer<'_>) -> bool
     input.peek::<Become>()
 }
 
-/// Whether an invisible group stands first.
+/// Whether an invisible group comes first.
 #[tactic(auto, unfolding(syn_grammar::specs::Path::invisible_at))]
 pub fn invisible_at(input: &ParseBuffer<'_>) -> bool
     ensures { result ≡ path.invisible_at input.now.rest }
@@ -220,7 +220,7 @@ pub fn invisible_at(input: &ParseBuffer<'_>) -> bool
     input.peek::<Group>()
 }
 
-/// Whether `if` stands first (Rust Reference, "`if` expressions").
+/// Whether `if` comes first (Rust Reference, "`if` expressions").
 #[tactic(auto, unfolding(syn_tokens::specs::Sign::word_text, syn_parts::specs::Mark::word_at))]
 pub fn if_at(input: &ParseBuffer<'_>) -> bool
     ensures { result ≡ slot.if_word.at input.now.rest }
@@ -228,7 +228,7 @@ pub fn if_at(input: &ParseBuffer<'_>) -> bool
     input.peek::<If>()
 }
 
-/// Whether `else` stands first (Rust Reference, "`if` expressions").
+/// Whether `else` comes first (Rust Reference, "`if` expressions").
 #[tactic(auto, unfolding(syn_tokens::specs::Sign::word_text, syn_parts::specs::Mark::word_at))]
 pub fn else_at(input: &ParseBuffer<'_>) -> bool
     ensures { result ≡ slot.else_word.at input.now.rest }
@@ -236,7 +236,7 @@ pub fn else_at(input: &ParseBuffer<'_>) -> bool
     input.peek::<Else>()
 }
 
-/// Whether `match` stands first (Rust Reference, "`match` expressions").
+/// Whether `match` comes first (Rust Reference, "`match` expressions").
 #[tactic(auto, unfolding(syn_tokens::specs::Sign::word_text, syn_parts::specs::Mark::word_at))]
 pub fn match_at(input: &ParseBuffer<'_>) -> bool
     ensures { result ≡ slot.match_word.at input.now.rest }
@@ -244,7 +244,7 @@ pub fn match_at(input: &ParseBuffer<'_>) -> bool
     input.peek::<Match>()
 }
 
-/// Whether `while` stands first (Rust Reference, "Predicate loops").
+/// Whether `while` comes first (Rust Reference, "Predicate loops").
 #[tactic(auto, unfolding(syn_tokens::specs::Sign::word_text, syn_parts::specs::Mark::word_at))]
 pub fn while_at(input: &ParseBuffer<'_>) -> bool
     ensures { result ≡ slot.while_word.at input.now.rest }
@@ -252,7 +252,7 @@ pub fn while_at(input: &ParseBuffer<'_>) -> bool
     input.peek::<While>()
 }
 
-/// Whether `for` stands first that begins no lifetimes of a closure (Rust Reference, "Iterator loops").
+/// Whether `for` comes first that begins no lifetimes of a closure (Rust Reference, "Iterator loops").
 #[tactic(auto, unfolding(syn_tokens::specs::Sign::word_text, syn_parts::specs::Mark::word_at))]
 pub fn for_at(input: &ParseBuffer<'_>) -> bool
     ensures { result ≡ slot.for_word.at input.now.rest }
@@ -260,7 +260,7 @@ pub fn for_at(input: &ParseBuffer<'_>) -> bool
     input.peek::<For>() && !lifetimes_at(input)
 }
 
-/// Whether `in` stands first (Rust Reference, "Iterator loops").
+/// Whether `in` comes first (Rust Reference, "Iterator loops").
 #[tactic(auto, unfolding(syn_tokens::specs::Sign::word_text, syn_parts::specs::Mark::word_at))]
 pub fn in_at(input: &ParseBuffer<'_>) -> bool
     ensures { result ≡ slot.in_word.at input.now.rest }
@@ -268,7 +268,7 @@ pub fn in_at(input: &ParseBuffer<'_>) -> bool
     input.peek::<In>()
 }
 
-/// Whether a label, `while` or `for` stands first (Rust Reference, "Loop expressions").
+/// Whether a label, `while` or `for` comes first (Rust Reference, "Loop expressions").
 #[tactic(auto, unfolding(syn_grammar::specs::Read::loop_head_at))]
 pub fn loop_head_at(input: &ParseBuffer<'_>) -> bool
     ensures { result ≡ read.loop_head_at input.now.rest }
@@ -276,14 +276,14 @@ pub fn loop_head_at(input: &ParseBuffer<'_>) -> bool
     lifetime_at(input) || while_at(input) || for_at(input)
 }
 
-/// Whether a block stands first, by its word or its brace.
+/// Whether a block comes first, by its word or its brace.
 fn verbatim_block_at(input: &ParseBuffer<'_>) -> bool
     ensures { result ≡ (head.const_block_at input.now.rest || (head.async_block_at input.now.rest || (head.try_block_at input.now.rest || head.builtin_at input.now.rest))) }
 {
     const_block_at(input) || async_block_at(input) || try_block_at(input) || builtin_at(input)
 }
 
-/// Whether a leaf stands first that is no path, macro, jump or range.
+/// Whether a leaf comes first that is no path, macro, jump or range.
 #[tactic(auto, unfolding(syn_grammar::specs::Read::leaf_at, syn_tokens::specs::Sign::word_text, syn_parts::specs::Mark::word_at))]
 pub fn leaf_at(input: &ParseBuffer<'_>) -> bool
     ensures { result ≡ read.leaf_at input.now.rest }
@@ -297,7 +297,7 @@ pub fn leaf_at(input: &ParseBuffer<'_>) -> bool
         || verbatim_block_at(input)
 }
 
-/// Whether the operator of one operand stands first, `..`, `let`, a jump or the head of a closure.
+/// Whether the operator of one operand comes first, `..`, `let`, a jump or the head of a closure.
 #[tactic(auto, unfolding(syn_grammar::specs::Read::prefix_at, syn_tokens::specs::Sign::word_text, syn_tokens::specs::Sign::sign_text, syn_parts::specs::Mark::word_at, syn_parts::specs::Mark::sign_at))]
 pub fn prefix_at(input: &ParseBuffer<'_>) -> bool
     ensures { result ≡ read.prefix_at input.now.rest }

@@ -1,4 +1,4 @@
-//! Floats behind a dot: `pair.0.1` is cut into the tokens `pair`, `.` and `0.1`, and read as `pair . 0 . 1` (Rust Reference,
+//! Floats after a dot: `pair.0.1` is cut into the tokens `pair`, `.` and `0.1`, and read as `pair . 0 . 1` (Rust Reference,
 //! "Tuple indexing expressions").
 
 ghost use Rattle.std.specs.Prelude.{◌≡◌, ◌<◌, ◌≤◌, [], ◌∷◌, length, IfSome, MatchOption, None, Some};
@@ -37,7 +37,7 @@ impl<'a> Model for FloatIndices<'a> {
     ghost view = { λ i. front_indices (cut i.text.now) };
 }
 
-/// The text before the first dot and the text behind it, if there is a dot.
+/// The text before the first dot and the text after it, if there is a dot.
 fn split_part(text: &str) -> Option<(&str, &str)>
     ensures parts { MatchOption result (cut.cut text.now ≡ cut.last_part text.now) (λ p. Splits text.now p.0.now p.1.now) }
     ensures smaller { IfSome result (λ p. length p.1.now < length text.now) }
@@ -45,7 +45,7 @@ fn split_part(text: &str) -> Option<(&str, &str)>
     text.split_once('.')
 }
 
-/// The text before the first dot and the text behind it: the whole and none where there is no dot.
+/// The text before the first dot and the text after it: the whole and none where there is no dot.
 #[tactic(auto, using(crate::proofs::Cuts::fronts))]
 fn first_part(text: &str) -> (&str, &str)
     ensures { cut.front_indices (cut.cut text.now) ≡ cut.with_index (pat.index_of result.0.now) (cut.front_indices (cut.cut result.1.now)) }
@@ -122,7 +122,7 @@ fn float_steps(float: &Literal) -> Option<(FloatIndices<'_>, bool)>
     }
 }
 
-/// Takes the float that stands first behind a dot where it is indices alone: `pair.0`, `pair.0.1`. Where it isn't, it
+/// Takes the float that comes first after a dot where it is indices alone: `pair.0`, `pair.0.1`. Where it isn't, it
 /// stays (Rust Reference, "Tuple indexing expressions").
 #[tactic(auto, unfolding(syn_grammar::specs::Stands::indices_at), using(syn_tokens::proofs::Weights::drops))]
 pub fn indices<'a>(input: &mut ParseBuffer<'a>) -> Option<FloatIndices<'a>>
@@ -141,7 +141,7 @@ pub fn indices<'a>(input: &mut ParseBuffer<'a>) -> Option<FloatIndices<'a>>
     }
 }
 
-/// Takes what stands behind a dot before a name: nothing, or a float that is indices and a last dot, as in `pair.0.name`.
+/// Takes what comes after a dot before a name: nothing, or a float that is indices and a last dot, as in `pair.0.name`.
 /// Another literal is refused and stays.
 #[tactic(auto, unfolding(syn_grammar::specs::Stands::name_at), using(syn_tokens::proofs::Weights::drops))]
 pub fn indices_before_name<'a>(input: &mut ParseBuffer<'a>) -> Option<FloatIndices<'a>>
@@ -186,7 +186,7 @@ fn float_refusal(text: &str) -> ErrorKind
     part_refusal(rest)
 }
 
-/// The refusal where neither indices nor a name stand behind a dot, at the next token. Of a number it is `IndexOutOfRange`
+/// The refusal where neither indices nor a name come after a dot, at the next token. Of a number it is `IndexOutOfRange`
 /// where the first of its parts that is no index is an integer without a suffix, else `ExpectedUnsuffixedInteger`; of any
 /// other token it is `ExpectedMember`.
 pub fn refusal(input: &ParseBuffer<'_>) -> Error

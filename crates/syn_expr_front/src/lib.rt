@@ -1,4 +1,4 @@
-//! What stands first where an expression may begin, go on or end, which operand it is, and the indices that a float behind a
+//! What comes first where an expression may begin, go on or end, which operand it is, and the indices that a float after a
 //! dot is.
 #![tactic(auto)]
 

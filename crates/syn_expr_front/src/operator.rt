@@ -8,14 +8,14 @@ use syn_grammar::kinds::Level;
 use syn_op::level::above;
 use syn_tokens::buffer::ParseBuffer;
 
-/// Whether `...` stands first where a range could go on: it is no operator, and is refused there.
+/// Whether `...` comes first where a range could go on: it is no operator, and is refused there.
 pub fn refuses_dots(input: &ParseBuffer<'_>, level: Level) -> bool
     ensures { result ≡ spec.refuses_dots level input.now.rest }
 {
     above(Level::Range, level) && three_dots_at(input)
 }
 
-/// Whether `<-` stands first behind a whole expression or behind the value of `let`: it is no operator, and is refused
+/// Whether `<-` comes first after a whole expression or after the value of `let`: it is no operator, and is refused
 /// there.
 pub fn refuses_arrow(input: &ParseBuffer<'_>, level: Level) -> bool
     ensures { result ≡ spec.refuses_arrow level input.now.rest }

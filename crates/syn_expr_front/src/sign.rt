@@ -1,4 +1,4 @@
-//! What stands first, where a sign decides (Rust Reference, "Expressions", "Punctuation").
+//! What comes first, where a sign decides (Rust Reference, "Expressions", "Punctuation").
 
 ghost use Rattle.std.specs.Prelude.{◌≡◌, [], ◌∷◌, codes};
 ghost use Rattle.syn_grammar.specs.Front as spec;
@@ -14,7 +14,7 @@ use syn_tokens::token::{
 };
 use syn_tokens::tree::TokenTree;
 
-/// Whether brackets stand first.
+/// Whether brackets come first.
 #[tactic(auto, unfolding(syn_grammar::specs::Front::bracket_at))]
 pub fn bracket_at(input: &ParseBuffer<'_>) -> bool
     ensures { result ≡ spec.bracket_at input.now.rest }
@@ -22,7 +22,7 @@ pub fn bracket_at(input: &ParseBuffer<'_>) -> bool
     input.peek::<Bracket>()
 }
 
-/// Whether `.` stands first that doesn't begin `..`.
+/// Whether `.` comes first that doesn't begin `..`.
 #[tactic(auto, unfolding(syn_grammar::specs::Front::dot_at, syn_tokens::specs::Sign::sign_text, syn_parts::specs::Mark::sign_at))]
 pub fn dot_at(input: &ParseBuffer<'_>) -> bool
     ensures { result ≡ spec.dot_at input.now.rest }
@@ -30,7 +30,7 @@ pub fn dot_at(input: &ParseBuffer<'_>) -> bool
     input.peek::<Dot>() && !input.peek::<DotDot>()
 }
 
-/// Whether `?` stands first.
+/// Whether `?` comes first.
 #[tactic(auto, unfolding(syn_grammar::specs::Front::question_at, syn_tokens::specs::Sign::sign_text, syn_parts::specs::Mark::sign_at))]
 pub fn question_at(input: &ParseBuffer<'_>) -> bool
     ensures { result ≡ spec.question_at input.now.rest }
@@ -38,7 +38,7 @@ pub fn question_at(input: &ParseBuffer<'_>) -> bool
     input.peek::<Question>()
 }
 
-/// Whether `<-` stands first, a token that is no operator.
+/// Whether `<-` comes first, a token that is no operator.
 #[tactic(auto, unfolding(syn_grammar::specs::Front::left_arrow_at, syn_tokens::specs::Sign::sign_text, syn_parts::specs::Mark::sign_at))]
 pub fn left_arrow_at(input: &ParseBuffer<'_>) -> bool
     ensures { result ≡ spec.left_arrow_at input.now.rest }
@@ -46,7 +46,7 @@ pub fn left_arrow_at(input: &ParseBuffer<'_>) -> bool
     input.peek::<LArrow>()
 }
 
-/// Whether `...` stands first, a token that is no operator.
+/// Whether `...` comes first, a token that is no operator.
 #[tactic(auto, unfolding(syn_grammar::specs::Front::three_dots_at, syn_tokens::specs::Sign::sign_text, syn_parts::specs::Mark::sign_at))]
 pub fn three_dots_at(input: &ParseBuffer<'_>) -> bool
     ensures { result ≡ spec.three_dots_at input.now.rest }
@@ -54,7 +54,7 @@ pub fn three_dots_at(input: &ParseBuffer<'_>) -> bool
     input.peek::<DotDotDot>()
 }
 
-/// Whether braces stand first.
+/// Whether braces come first.
 #[tactic(auto, unfolding(syn_parts::specs::Mark::brace_at))]
 pub fn brace_at(input: &ParseBuffer<'_>) -> bool
     ensures { result ≡ mark.brace_at input.now.rest }
@@ -62,7 +62,7 @@ pub fn brace_at(input: &ParseBuffer<'_>) -> bool
     input.peek::<Brace>()
 }
 
-/// Whether `as` stands first.
+/// Whether `as` comes first.
 #[tactic(auto, unfolding(syn_tokens::specs::Sign::word_text, syn_parts::specs::Mark::word_at))]
 pub fn as_at(input: &ParseBuffer<'_>) -> bool
     ensures { result ≡ mark.word_at (codes "as") input.now.rest }
@@ -70,7 +70,7 @@ pub fn as_at(input: &ParseBuffer<'_>) -> bool
     input.peek::<As>()
 }
 
-/// Whether a trailer stands first, which goes on a path, a call or another base: parentheses, brackets, `?`, or `.` that
+/// Whether a trailer comes first, which goes on a path, a call or another base: parentheses, brackets, `?`, or `.` that
 /// doesn't begin `..`.
 #[tactic(auto, unfolding(syn_grammar::specs::Front::trailer_at))]
 pub fn trailer_at(input: &ParseBuffer<'_>) -> bool
@@ -79,7 +79,7 @@ pub fn trailer_at(input: &ParseBuffer<'_>) -> bool
     round_at(input) || bracket_at(input) || question_at(input) || dot_at(input)
 }
 
-/// Whether `!` stands first that doesn't begin `!=`.
+/// Whether `!` comes first that doesn't begin `!=`.
 #[tactic(auto, unfolding(syn_tokens::specs::Sign::sign_text, syn_parts::specs::Mark::sign_at))]
 fn not_begins(input: &ParseBuffer<'_>) -> bool
     ensures { result ≡ spec.sign_but (codes "!") (codes "!=" ∷ []) input.now.rest }
@@ -87,7 +87,7 @@ fn not_begins(input: &ParseBuffer<'_>) -> bool
     input.peek::<Not>() && !input.peek::<Ne>()
 }
 
-/// Whether `-` stands first that begins neither `-=` nor `->`.
+/// Whether `-` comes first that begins neither `-=` nor `->`.
 #[tactic(auto, unfolding(syn_tokens::specs::Sign::sign_text, syn_parts::specs::Mark::sign_at))]
 fn minus_begins(input: &ParseBuffer<'_>) -> bool
     ensures { result ≡ spec.sign_but (codes "-") (codes "-=" ∷ codes "->" ∷ []) input.now.rest }
@@ -95,7 +95,7 @@ fn minus_begins(input: &ParseBuffer<'_>) -> bool
     input.peek::<Minus>() && !input.peek::<MinusEq>() && !input.peek::<RArrow>()
 }
 
-/// Whether `*` stands first that doesn't begin `*=`.
+/// Whether `*` comes first that doesn't begin `*=`.
 #[tactic(auto, unfolding(syn_tokens::specs::Sign::sign_text, syn_parts::specs::Mark::sign_at))]
 fn star_begins(input: &ParseBuffer<'_>) -> bool
     ensures { result ≡ spec.sign_but (codes "*") (codes "*=" ∷ []) input.now.rest }
@@ -103,7 +103,7 @@ fn star_begins(input: &ParseBuffer<'_>) -> bool
     input.peek::<Star>() && !input.peek::<StarEq>()
 }
 
-/// Whether `|` stands first that doesn't begin `|=`: it opens the inputs of a closure.
+/// Whether `|` comes first that doesn't begin `|=`: it opens the inputs of a closure.
 #[tactic(auto, unfolding(syn_tokens::specs::Sign::sign_text, syn_parts::specs::Mark::sign_at))]
 fn or_begins(input: &ParseBuffer<'_>) -> bool
     ensures { result ≡ spec.sign_but (codes "|") (codes "|=" ∷ []) input.now.rest }
@@ -111,7 +111,7 @@ fn or_begins(input: &ParseBuffer<'_>) -> bool
     input.peek::<Or>() && !input.peek::<OrEq>()
 }
 
-/// Whether `&` stands first that doesn't begin `&=`.
+/// Whether `&` comes first that doesn't begin `&=`.
 #[tactic(auto, unfolding(syn_tokens::specs::Sign::sign_text, syn_parts::specs::Mark::sign_at))]
 fn and_begins(input: &ParseBuffer<'_>) -> bool
     ensures { result ≡ spec.sign_but (codes "&") (codes "&=" ∷ []) input.now.rest }
@@ -119,7 +119,7 @@ fn and_begins(input: &ParseBuffer<'_>) -> bool
     input.peek::<And>() && !input.peek::<AndEq>()
 }
 
-/// Whether `<` stands first that begins neither `<=` nor `<<=`: it opens a qualified path.
+/// Whether `<` comes first that begins neither `<=` nor `<<=`: it opens a qualified path.
 #[tactic(auto, unfolding(syn_tokens::specs::Sign::sign_text, syn_parts::specs::Mark::sign_at))]
 fn less_begins(input: &ParseBuffer<'_>) -> bool
     ensures { result ≡ spec.sign_but (codes "<") (codes "<=" ∷ codes "<<=" ∷ []) input.now.rest }
@@ -127,7 +127,7 @@ fn less_begins(input: &ParseBuffer<'_>) -> bool
     input.peek::<Lt>() && !input.peek::<Le>() && !input.peek::<ShlEq>()
 }
 
-/// Whether `..`, `::` or `#` stands first.
+/// Whether `..`, `::` or `#` comes first.
 #[tactic(auto, unfolding(syn_tokens::specs::Sign::sign_text, syn_parts::specs::Mark::sign_at))]
 fn range_path_or_attribute_begins(input: &ParseBuffer<'_>) -> bool
     ensures { result ≡ spec.some_sign (codes ".." ∷ codes "::" ∷ codes "#" ∷ []) input.now.rest }
@@ -135,7 +135,7 @@ fn range_path_or_attribute_begins(input: &ParseBuffer<'_>) -> bool
     input.peek::<DotDot>() || input.peek::<PathSep>() || input.peek::<Pound>()
 }
 
-/// Whether a sign stands first that begins an expression.
+/// Whether a sign comes first that begins an expression.
 #[tactic(auto, unfolding(syn_grammar::specs::Front::sign_begins))]
 fn sign_begins(input: &ParseBuffer<'_>) -> bool
     ensures { result ≡ spec.sign_begins input.now.rest }
@@ -164,7 +164,7 @@ pub fn begins_expr(input: &ParseBuffer<'_>) -> bool
     }
 }
 
-/// Whether a sign stands first that ends a range which has no end.
+/// Whether a sign comes first that ends a range which has no end.
 #[tactic(auto, unfolding(syn_tokens::specs::Sign::sign_text, syn_parts::specs::Mark::sign_at))]
 fn sign_ends_range(input: &ParseBuffer<'_>) -> bool
     ensures { result ≡ spec.some_sign (codes "," ∷ codes ";" ∷ codes "?" ∷ codes "=" ∷ codes "+" ∷ codes "/" ∷ codes "%" ∷ codes "^" ∷ codes ">" ∷ codes "<=" ∷ codes "!=" ∷ codes "-=" ∷ codes "*=" ∷ codes "&=" ∷ codes "|=" ∷ codes "<<=" ∷ []) input.now.rest }
@@ -187,7 +187,7 @@ fn sign_ends_range(input: &ParseBuffer<'_>) -> bool
         || input.peek::<ShlEq>()
 }
 
-/// Whether what stands first may follow `..` without an end: nothing, one of some signs, or `as`; and in a condition the
+/// Whether what comes first may follow `..` without an end: nothing, one of some signs, or `as`; and in a condition the
 /// brace of its block (Rust Reference, "Range expressions").
 #[tactic(auto, unfolding(syn_grammar::specs::Front::ends_open_range))]
 pub fn ends_open_range(input: &ParseBuffer<'_>, condition: bool) -> bool

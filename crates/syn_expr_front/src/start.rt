@@ -1,4 +1,4 @@
-//! Which of the operands, of the leaves, of the prefixes and of the trailers is read, by what stands first. No other part of the
+//! Which of the operands, of the leaves, of the prefixes and of the trailers is read, by what comes first. No other part of the
 //! input decides it.
 
 ghost use Rattle.std.specs.Prelude.{◌≡◌, true};
@@ -22,7 +22,7 @@ use syn_tokens::tree::TokenTree;
 pub enum Atom {
     /// A leaf that is no path, macro, jump or range.
     Leaf,
-    /// What stands before an operand, or a jump or a range without one.
+    /// What comes before an operand, or a jump or a range without one.
     Prefix,
     /// What is in parentheses.
     Parenthesis,
@@ -55,9 +55,9 @@ pub enum LeafStart {
     Jump,
     /// `continue`
     Continue,
-    /// A `loop`, behind its label.
+    /// A `loop`, after its label.
     Loop,
-    /// A block, behind its label.
+    /// A block, after its label.
     Block,
     /// `unsafe`
     Unsafe,
@@ -73,7 +73,7 @@ pub enum LeafStart {
     Named,
 }
 
-/// Which prefix is read: what stands before an operand.
+/// Which prefix is read: what comes before an operand.
 #[derive(Clone, Copy, Debug, PartialEq, Eq)]
 pub enum PrefixStart {
     /// `*`
@@ -96,7 +96,7 @@ pub enum PrefixStart {
     Closure,
 }
 
-/// Which trailer is read: what stands behind an operand and goes on it.
+/// Which trailer is read: what comes after an operand and goes on it.
 #[derive(Clone, Copy, Debug, PartialEq, Eq)]
 pub enum TrailerStart {
     /// Arguments in parentheses.
@@ -107,11 +107,11 @@ pub enum TrailerStart {
     Question,
     /// `.` that doesn't begin `..`
     Dot,
-    /// No trailer stands there.
+    /// No trailer is there.
     Absent,
 }
 
-/// Which trailer is read behind a dot, and behind the indices of a float.
+/// Which trailer is read after a dot, and after the indices of a float.
 #[derive(Clone, Copy, Debug, PartialEq, Eq)]
 pub enum NameStart {
     /// `await`
@@ -144,7 +144,7 @@ fn worded(input: &ParseBuffer<'_>) -> Atom
     Atom::Named
 }
 
-/// Whether a name stands first, which begins a path, a macro or a struct expression and nothing else.
+/// Whether a name comes first, which begins a path, a macro or a struct expression and nothing else.
 #[tactic(auto, using(crate::proofs::Names::names_begin_paths))]
 fn name_at(input: &ParseBuffer<'_>) -> bool
     ensures { result ≡ true → begins.atom_of input.now.rest ≡ Atom.Named }
@@ -233,7 +233,7 @@ pub fn leaf_start(input: &ParseBuffer<'_>) -> LeafStart
     block_or_name(input)
 }
 
-/// Which prefix is read behind `&`.
+/// Which prefix is read after `&`.
 fn borrow(input: &ParseBuffer<'_>) -> PrefixStart
     ensures { result ≡ begins.borrow_of input.now.rest }
 {
@@ -294,7 +294,7 @@ pub fn trailer_start(input: &ParseBuffer<'_>) -> TrailerStart
     TrailerStart::Absent
 }
 
-/// Which trailer is read behind a dot that no index follows, or behind the indices of a float (Rust Reference, "Await
+/// Which trailer is read after a dot that no index follows, or after the indices of a float (Rust Reference, "Await
 /// expressions", "Method-call expressions", "Field access expressions").
 #[tactic(auto, unfolding(syn_tokens::specs::Sign::word_text, syn_parts::specs::Mark::word_at))]
 pub fn name_start(input: &ParseBuffer<'_>) -> NameStart

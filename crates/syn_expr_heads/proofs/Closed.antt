@@ -1,4 +1,4 @@
--- Leaves that no invisible group begins: where none stands first, they are all leaves; where one does, there is none.
+-- Leaves that no invisible group begins: where none comes first, they are all leaves; where one does, there is none.
 use Rattle.std.proofs.Common.{◌≡◌, true, false, List, ◌∷◌, None, refl, sym, subst}
 use Rattle.syn_lexer.specs.declared.lexeme.Delimiter.TheVariants as del
 use Rattle.syn_tokens.specs.Tok.{Tok, Inside, group}

@@ -26,7 +26,7 @@ try_leaf = mark try_word (shown e.try_block from_try block)
 abbrev pub named : Form Leaf
 named = shown to_named from_named (then_by (qpath type style.Expr) macro_end)
 
--- a block behind `const`, `async` or `try`, special syntax, a path or a macro
+-- a block after `const`, `async` or `try`, special syntax, a path or a macro
 abbrev pub word_leaf : Form Leaf
 word_leaf =
     when const_block_at const_leaf

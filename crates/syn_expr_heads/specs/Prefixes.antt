@@ -1,4 +1,4 @@
--- The form of what stands before an operand in its parts.
+-- The form of what comes before an operand in its parts.
 use Rattle.std.specs.Prelude.{true}
 use Rattle.syn_parts.specs.Form.{Form, when, mark, shown, case, flag, closed_by}
 use Rattle.syn_parts.specs.Mark.{eq, mutable}
@@ -8,11 +8,11 @@ use Rattle.syn_grammar.specs.Tree as e
 use Rattle.syn_grammar.specs.Tree.{Prefix}
 use Rattle.syn_grammar.specs.Head.{raw_at, raw_word, from_raw_addr, from_reference, range_at, range_op, from_range_to, let_word, from_let, jump_at, jump_head, from_jump, closure_head, from_closure}
 
--- behind `&`
+-- after `&`
 abbrev pub borrow : Form Prefix
 borrow = when raw_at (mark raw_word (shown e.raw_addr from_raw_addr mutability)) (shown e.reference from_reference (flag mutable))
 
--- behind `let`
+-- after `let`
 abbrev pub let_expr : Form Prefix
 let_expr = shown e.let_expr from_let (closed_by eq (pattern true))
 

@@ -12,14 +12,14 @@ use Rattle.syn_pat_kinds.specs.View.{PatView}
 abbrev pub CallableArg : ℕ → (MutBor Input → Type 0) → Type 0
 CallableArg bound pre = (old : MutBor Input) → weight old.now.rest < bound → pre old
 
--- a reader of patterns, by their trees; no guard stands in what they read
+-- a reader of patterns, by their trees; no guard is in what they read
 pub record ReadsPat {P : Type 0} (see : P → PatView) (post : MutBor Input → Bool → Result P Error → MutBor Input → Type 0) : Type 0 where
   pub reads : (old new : MutBor Input) (b : Bool) (r : Result P Error) → post old b r new → Reads (λ x. (see x).tree) ((pattern b).reads old.now.rest) r new.now.rest
   pub bare : (old new : MutBor Input) (b : Bool) (r : Result P Error) → post old b r new → IfOk r (λ p. (see p).guards ≡ [])
   pub noted : (old new : MutBor Input) (b : Bool) (r : Result P Error) → post old b r new → new.now.noted ≡ old.now.noted
   pub shrinks : (old new : MutBor Input) (b : Bool) (r : Result P Error) → post old b r new → weight new.now.rest ≤ weight old.now.rest
 
--- a reader of the arguments of closures, by their trees; no guard stands in what they read
+-- a reader of the arguments of closures, by their trees; no guard is in what they read
 pub record ReadsArg {P : Type 0} (see : P → PatView) (post : MutBor Input → Result P Error → MutBor Input → Type 0) : Type 0 where
   pub reads : (old new : MutBor Input) (r : Result P Error) → post old r new → Reads (λ x. (see x).tree) (closure_arg.reads old.now.rest) r new.now.rest
   pub bare : (old new : MutBor Input) (r : Result P Error) → post old r new → IfOk r (λ p. (see p).guards ≡ [])

@@ -1,4 +1,4 @@
--- What stands before, between and behind operands as trees, without places.
+-- What comes before, between and after operands as trees, without places.
 use Rattle.std.specs.Prelude.{true, List, [], map, flat_map, Option, Some, None, is_some}
 use Rattle.syn_lower_leaves.specs.View.{mapped, lifetime_of, attribute_of, lit_of}
 use Rattle.syn_lower.specs.View.{type_of, path_of, qself_or, macro_of, return_of}

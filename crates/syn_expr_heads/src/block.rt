@@ -1,4 +1,4 @@
-//! What stands in the braces of a block (Rust Reference, "Block expressions").
+//! What is in the braces of a block (Rust Reference, "Block expressions").
 
 ghost use Rattle.std.specs.Prelude.{◌≡◌, ◌≤◌, [], true, IfOk};
 ghost use Rattle.syn_expr_heads.specs.View.{body_of};
@@ -15,7 +15,7 @@ use syn_tokens::copy::copy_trees;
 use syn_tokens::error::Result;
 use syn_tokens::token::Brace;
 
-/// Reads inner attributes, as many as there are, and keeps all that is behind them.
+/// Reads inner attributes, as many as there are, and keeps all that is after them.
 #[tactic(auto, using(crate::proofs::Inner::inner), unfolding(syn_grammar::specs::Head::body_inside, syn_grammar::specs::Head::all_left))]
 fn body_inside(content: &mut ParseBuffer<'_>, brace_token: Brace) -> Result<Body>
     ensures value { Reads body_of (head.body_inside.reads content.old.rest) result content.new.rest }

@@ -28,14 +28,14 @@ use syn_tokens::token::{Comma, Move, Or, Use};
 /// The readers of closures, over that of their arguments.
 #[derive(Clone, Copy)]
 pub struct Closures<G> {
-    /// Reads an argument: attributes, a pattern, and a type behind `:` or none.
+    /// Reads an argument: attributes, a pattern, and a type after `:` or none.
     pub arg: G,
 }
 
 /// The arguments of a closure between its bars.
 type Inputs<P> = (Or, Punctuated<P, Comma>, Or);
 
-/// Takes `move`, or `use` where that stands in its place.
+/// Takes `move`, or `use` where that is in its place.
 fn captures(input: &mut ParseBuffer<'_>) -> (Option<Move>, Option<Use>)
     ensures value { (form.then_by (form.flag head.move_word) head.use_behind).reads input.old.rest ≡ Some ((is_some result.0, is_some result.1), input.new.rest) }
     ensures noted { input.new.noted ≡ input.old.noted }
@@ -89,9 +89,9 @@ impl<P: HasPatTree + Drop, G: Fn(&mut ParseBuffer<'_>) -> Result<P>> Closures<G>
         Ok((inputs_begin, inputs, inputs_end))
     }
 
-    /// Reads a closure up to its body: lifetimes, `const`, `static`, `async`, and `move` or `use`, each if it stands there, the
+    /// Reads a closure up to its body: lifetimes, `const`, `static`, `async`, and `move` or `use`, each if it is there, the
     /// arguments between bars, and what it returns (Rust Reference, "Closure expressions"). A missing bar is refused as
-    /// `ExpectedToken` of it, an argument as its reader refuses it, and the type behind `->` as a type is.
+    /// `ExpectedToken` of it, an argument as its reader refuses it, and the type after `->` as a type is.
     #[tactic(auto, using(crate::proofs::Loops::inputs), unfolding(syn_grammar::specs::Head::closure_head))]
     pub fn closure_head(&self, input: &mut ParseBuffer<'_>) -> Result<ClosureHead<P>>
         requires callable { CallableArg (weight input.old.rest) (G.pre self.now.arg) }

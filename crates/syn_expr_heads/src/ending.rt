@@ -1,6 +1,6 @@
-//! What stands behind an operand in a place of its own, and the words and signs before one.
+//! What comes after an operand in a place of its own, and the words and signs before one.
 
-ghost use Rattle.std.specs.Prelude.{◌≡◌, ◌≤◌, true, IfOk};
+ghost use Rattle.std.specs.Prelude.{◌≡◌, ◌≤◌, true, [], IfOk};
 ghost use Rattle.syn_expr_heads.specs.View.{body_of, ending_of};
 ghost use Rattle.syn_grammar.specs.Slot as slot;
 ghost use Rattle.syn_grammar.specs.Tree as e;
@@ -18,7 +18,7 @@ use syn_tokens::buffer::{ParseBuffer, Token};
 use syn_tokens::error::{ErrorKind, Expected, Result};
 use syn_tokens::token::{Comma, Else, FatArrow, Semi};
 
-/// Takes the comma behind an element or a field, or none at the end. Another token is refused as `ExpectedToken` of `,`.
+/// Takes the comma after an element or a field, or none at the end. Another token is refused as `ExpectedToken` of `,`.
 pub fn comma_or_end(input: &mut ParseBuffer<'_>) -> Result<Option<Comma>>
     ensures value { Reads ending_of (slot.comma_or_end input.old.rest) result input.new.rest }
     ensures noted { input.new.noted ≡ input.old.noted }
@@ -33,7 +33,7 @@ pub fn comma_or_end(input: &mut ParseBuffer<'_>) -> Result<Option<Comma>>
     Err(input.error(ErrorKind::ExpectedToken(Expected::One(Comma::wanted()))))
 }
 
-/// Takes the comma behind the body of an arm; none at the end, and none where the body is like a block (Rust Reference,
+/// Takes the comma after the body of an arm; none at the end, and none where the body is like a block (Rust Reference,
 /// "Match expressions"). Another token is refused as `ExpectedToken` of `,`.
 pub fn behind_arm(input: &mut ParseBuffer<'_>, block_like: bool) -> Result<Option<Comma>>
     ensures value { (x : e.Tree) → e.is_block_like x ≡ block_like → Reads ending_of (slot.behind_arm x input.old.rest) result input.new.rest }
@@ -49,7 +49,7 @@ pub fn behind_arm(input: &mut ParseBuffer<'_>, block_like: bool) -> Result<Optio
     Err(input.error(ErrorKind::ExpectedToken(Expected::One(Comma::wanted()))))
 }
 
-/// Takes the `;` behind the element that an array repeats (Rust Reference, "Array expressions"). It is refused as
+/// Takes the `;` after the element that an array repeats (Rust Reference, "Array expressions"). It is refused as
 /// `ExpectedToken` of `;`.
 #[tactic(auto, unfolding(syn_grammar::specs::Slot::ending_at))]
 pub fn behind_repeated(input: &mut ParseBuffer<'_>) -> Result<Semi>
@@ -63,18 +63,18 @@ pub fn behind_repeated(input: &mut ParseBuffer<'_>) -> Result<Semi>
     Ok(semi_token)
 }
 
-/// Reads the block behind the condition of an `if` (Rust Reference, "`if` expressions"). It is refused as `ExpectedToken` of
+/// Reads the block after the condition of an `if` (Rust Reference, "`if` expressions"). It is refused as `ExpectedToken` of
 /// `{`.
 #[tactic(auto, unfolding(syn_grammar::specs::Slot::ending_at, syn_parts::specs::Part::block, syn_parts::specs::Part::verbatim))]
 pub fn behind_condition(input: &mut ParseBuffer<'_>) -> Result<Block>
-    ensures value { (x : e.Tree) → Reads (λ b. e.braced (slot.plain_body b.stmts)) (slot.ending_at e.condition x input.old.rest) result input.new.rest }
+    ensures value { (x : e.Tree) → Reads (λ b. e.braced (e.body_of [] b.stmts)) (slot.ending_at e.condition x input.old.rest) result input.new.rest }
     ensures noted { input.new.noted ≡ input.old.noted }
     ensures shrinks { weight input.new.rest ≤ weight input.old.rest }
 {
     block(input)
 }
 
-/// Reads the block behind the condition or the iterator of a loop (Rust Reference, "Loop expressions"). It is refused as
+/// Reads the block after the condition or the iterator of a loop (Rust Reference, "Loop expressions"). It is refused as
 /// `ExpectedToken` of `{`, and of `[` at an inner attribute without brackets.
 #[tactic(auto, unfolding(syn_grammar::specs::Slot::ending_at, syn_grammar::specs::Head::body))]
 pub fn behind_loop_head(input: &mut ParseBuffer<'_>) -> Result<Body>
@@ -99,7 +99,7 @@ pub fn chained(input: &mut ParseBuffer<'_>) -> Result<Else>
     Ok(else_token)
 }
 
-/// Takes `=>` behind the guard of an arm (Rust Reference, "Match guards"). It is refused as `ExpectedToken` of it.
+/// Takes `=>` after the guard of an arm (Rust Reference, "Match guards"). It is refused as `ExpectedToken` of it.
 #[tactic(auto, unfolding(syn_grammar::specs::Slot::piece_form))]
 pub fn guarded(input: &mut ParseBuffer<'_>) -> Result<FatArrow>
     ensures value { Reads (λ _. e.guarded) ((slot.piece_form slot.bodies).reads input.old.rest) result input.new.rest }

@@ -1,4 +1,4 @@
-//! What stands before a field's value in a struct expression (Rust Reference, "Struct expressions").
+//! What comes before a field's value in a struct expression (Rust Reference, "Struct expressions").
 
 ghost use Rattle.std.specs.Prelude.{◌≡◌, ◌≤◌, is_some};
 ghost use Rattle.syn_expr_heads.specs.View.{field_of};
@@ -16,7 +16,7 @@ use syn_tokens::buffer::{ParseBuffer, Token};
 use syn_tokens::error::{ErrorKind, Expected, Result};
 use syn_tokens::token::Colon;
 
-/// Takes the colon behind a member; an index needs it.
+/// Takes the colon after a member; an index needs it.
 fn field_colon(input: &mut ParseBuffer<'_>, member: &Member) -> Result<Option<Colon>>
     ensures value { Reads (λ c. is_some c) ((slot.field_colon (member_of member.now)).reads input.old.rest) result input.new.rest }
     ensures noted { input.new.noted ≡ input.old.noted }

@@ -13,7 +13,7 @@ use syn_lower_lists::readers::maybe_lifetime;
 use syn_tokens::buffer::ParseBuffer;
 use syn_tokens::error::{ErrorKind, Result};
 
-/// Reads a jump up to its value; a lifetime behind `break` is its label (Rust Reference, "Return expressions", "Break
+/// Reads a jump up to its value; a lifetime after `break` is its label (Rust Reference, "Return expressions", "Break
 /// expressions"). It is refused as `ExpectedExpression` where none of the three words stands.
 #[tactic(auto, unfolding(syn_grammar::specs::Head::jump_head))]
 pub fn jump_head(input: &mut ParseBuffer<'_>) -> Result<JumpHead>

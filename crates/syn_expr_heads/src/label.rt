@@ -13,7 +13,7 @@ use syn_lower_leaves::leaf::lifetime_at;
 use syn_tokens::buffer::ParseBuffer;
 use syn_tokens::error::Result;
 
-/// Reads a label, if a lifetime stands first (Rust Reference, "Loop labels"). A missing `:` is refused as `ExpectedToken`
+/// Reads a label, if a lifetime comes first (Rust Reference, "Loop labels"). A missing `:` is refused as `ExpectedToken`
 /// of it.
 pub fn maybe_label(input: &mut ParseBuffer<'_>) -> Result<Option<Label>>
     ensures value { Reads (mapped label_of) (head.label.reads input.old.rest) result input.new.rest }

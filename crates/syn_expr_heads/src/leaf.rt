@@ -39,7 +39,7 @@ use syn_tokens::error::{Error, ErrorKind, Expected, Result, Wanted};
 use syn_tokens::token::{Async, Const, Loop, Try};
 use syn_tokens::tree::{TokenStream, TokenTree};
 
-/// Whether the tokens of `builtin`'s special syntax stand first: `builtin`, `#`, a name and parentheses.
+/// Whether the tokens of `builtin`'s special syntax come first: `builtin`, `#`, a name and parentheses.
 fn is_builtin(trees: &[TokenTree]) -> bool
     ensures { head.find_builtin (toks_of trees.now) ≡ (if result then Some (take 4 (toks_of trees.now), drop 4 (toks_of trees.now)) else None) }
 {
@@ -59,7 +59,7 @@ fn is_builtin(trees: &[TokenTree]) -> bool
     }
 }
 
-/// The refusal of special syntax that lacks its name behind `builtin` and `#`, or the parentheses behind the name.
+/// The refusal of special syntax that lacks its name after `builtin` and `#`, or the parentheses after the name.
 fn incomplete_builtin(input: &mut ParseBuffer<'_>) -> Error
     ensures noted { input.new.noted ≡ input.old.noted }
     ensures shrinks { weight input.new.rest ≤ weight input.old.rest }
@@ -116,7 +116,7 @@ fn block_leaf(input: &mut ParseBuffer<'_>) -> Result<LeafHead>
     Ok(LeafHead::Block(label, body))
 }
 
-/// Reads a block behind `const`.
+/// Reads a block after `const`.
 fn const_leaf(input: &mut ParseBuffer<'_>) -> Result<LeafHead>
     ensures value { Reads leaf_of (leaves.const_leaf.reads input.old.rest) result input.new.rest }
     ensures noted { input.new.noted ≡ input.old.noted }
@@ -129,7 +129,7 @@ fn const_leaf(input: &mut ParseBuffer<'_>) -> Result<LeafHead>
     Ok(LeafHead::Const(const_token, body))
 }
 
-/// Reads a block behind `async`, `move` before it or not.
+/// Reads a block after `async`, `move` before it or not.
 fn async_leaf(input: &mut ParseBuffer<'_>) -> Result<LeafHead>
     ensures value { Reads leaf_of (leaves.async_leaf.reads input.old.rest) result input.new.rest }
     ensures noted { input.new.noted ≡ input.old.noted }
@@ -143,7 +143,7 @@ fn async_leaf(input: &mut ParseBuffer<'_>) -> Result<LeafHead>
     Ok(LeafHead::Async(async_token, capture, block))
 }
 
-/// Reads a block behind `try`.
+/// Reads a block after `try`.
 fn try_leaf(input: &mut ParseBuffer<'_>) -> Result<LeafHead>
     ensures value { Reads leaf_of (leaves.try_leaf.reads input.old.rest) result input.new.rest }
     ensures noted { input.new.noted ≡ input.old.noted }
@@ -156,7 +156,7 @@ fn try_leaf(input: &mut ParseBuffer<'_>) -> Result<LeafHead>
     Ok(LeafHead::TryBlock(try_token, block))
 }
 
-/// A path, or the macro that `!` and a group behind it make.
+/// A path, or the macro that `!` and a group after it make.
 pub fn path_or_macro(qself: Option<QSelf>, path: Path, end: Option<MacroEnd>) -> LeafHead
     ensures { leaf_of result ≡ head.to_named ((qself_or type_of qself, path_of type_of path), mapped (λ g. (delimiter_of g.1, g.2)) end) }
 {
@@ -173,7 +173,7 @@ pub fn path_or_macro(qself: Option<QSelf>, path: Path, end: Option<MacroEnd>) ->
 
 /// Reads a path, qualified by a type or not, or the call of a macro; none begins in an invisible group (Rust Reference,
 /// "Path expressions", "Macro Invocation"). It is refused as `ExpectedPart` of a path where none begins, as `ExpectedPart`
-/// of a macro where no group is behind the `!` of one, and inside as a type is.
+/// of a macro where no group is after the `!` of one, and inside as a type is.
 #[tactic(auto)]
 pub fn named(input: &mut ParseBuffer<'_>) -> Result<LeafHead>
     ensures value { Reads leaf_of (leaves.named.reads input.old.rest) result input.new.rest }
@@ -185,7 +185,7 @@ pub fn named(input: &mut ParseBuffer<'_>) -> Result<LeafHead>
     Ok(path_or_macro(qself, path, end))
 }
 
-/// Reads a block behind a word, special syntax, a path or a macro.
+/// Reads a block after a word, special syntax, a path or a macro.
 #[tactic(auto)]
 fn word_leaf(input: &mut ParseBuffer<'_>) -> Result<LeafHead>
     ensures value { Reads leaf_of (leaves.word_leaf.reads input.old.rest) result input.new.rest }
@@ -226,11 +226,11 @@ fn labelled_leaf(input: &mut ParseBuffer<'_>) -> Result<LeafHead>
     word_leaf(input)
 }
 
-/// Reads a leaf, by what stands first: a literal, `_`, a range without a start and an end, a jump without a value,
+/// Reads a leaf, by what comes first: a literal, `_`, a range without a start and an end, a jump without a value,
 /// `continue`, a loop, a block, special syntax, a path or a macro (Rust Reference, "Expressions").
 ///
 /// It is refused as `ExpectedPart` of a path where none of them begins, as `ExpectedPart` of a literal at a token that is
-/// no literal's, as `ExpectedPart` of a macro where no group is behind the `!` of one, and as `ExpectedToken` where another
+/// no literal's, as `ExpectedPart` of a macro where no group is after the `!` of one, and as `ExpectedToken` where another
 /// token is missing.
 #[tactic(auto, unfolding(crate::specs::Leaves::leaf_form))]
 pub fn leaf(input: &mut ParseBuffer<'_>) -> Result<LeafHead>

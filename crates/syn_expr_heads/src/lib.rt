@@ -1,4 +1,4 @@
-//! The readers of what stands before, between and behind the operands of expressions: leaves, the tokens before an operand,
+//! The readers of what comes before, between and after the operands of expressions: leaves, the tokens before an operand,
 //! those of a trailer, of a closure, of a field and of an arm.
 #![tactic(auto)]
 

@@ -1,4 +1,4 @@
-//! The readers of what stands before an operand, and of what holds a pattern before one (Rust Reference, "Operator
+//! The readers of what comes before an operand, and of what holds a pattern before one (Rust Reference, "Operator
 //! expressions", "`let` expressions", "Loop expressions", "Match expressions").
 
 ghost use Rattle.std.specs.Prelude.{◌≡◌, ◌≤◌, ◌+◌, IfOk, [], true};
@@ -31,13 +31,13 @@ use syn_tokens::token::{And, Eq, FatArrow, In, Let, Raw};
 /// The readers of what holds patterns, over those of the patterns.
 #[derive(Clone, Copy)]
 pub struct Prefixes<F, G> {
-    /// Reads a pattern; behind it `|` and more may stand, or one alone.
+    /// Reads a pattern; after it `|` and more may stand, or one alone.
     pub pat: F,
     /// Reads the argument of a closure.
     pub arg: G,
 }
 
-/// Reads what stands behind `&` before an operand: `raw` and `mut` or `const`, or `mut` or nothing.
+/// Reads what comes after `&` before an operand: `raw` and `mut` or `const`, or `mut` or nothing.
 fn borrow<P: HasPatTree + Drop>(
     input: &mut ParseBuffer<'_>,
     and_token: And,
@@ -62,7 +62,7 @@ impl<
     F: Fn(&mut ParseBuffer<'_>, bool) -> Result<P>,
     G: Fn(&mut ParseBuffer<'_>) -> Result<P> + Copy,
 > Prefixes<F, G> {
-    /// Reads a pattern and `=` behind `let`.
+    /// Reads a pattern and `=` after `let`.
     fn let_expr(&self, input: &mut ParseBuffer<'_>, let_token: Let) -> Result<PrefixHead<P>>
         requires pat { Callable (weight input.old.rest + 1) (F.pre self.now.pat) }
         requires reads { ReadsPat P.view (F.post self.now.pat) }
@@ -102,7 +102,7 @@ impl<
         Ok(PrefixHead::Closure(closures.closure_head(input)?))
     }
 
-    /// Reads what stands before an operand, by what is first: a prefix operator, `&`, the operator of a range, `let` with
+    /// Reads what comes before an operand, by what is first: a prefix operator, `&`, the operator of a range, `let` with
     /// its pattern, a jump, or a closure up to its body (Rust Reference, "Operator expressions", "Borrow operators", "Range
     /// expressions", "`let` expressions", "Closure expressions").
     ///
@@ -135,7 +135,7 @@ impl<
     }
 
     /// Reads `for` that begins no lifetimes, a pattern and `in` (Rust Reference, "Iterator loops"). Where no `for` stands, which
-    /// can only be behind a label, it is refused as `ExpectedLoopOrBlock`, else as `ExpectedToken` of `in`, and inside as a
+    /// can only be after a label, it is refused as `ExpectedLoopOrBlock`, else as `ExpectedToken` of `in`, and inside as a
     /// pattern is.
     pub fn for_head(&self, input: &mut ParseBuffer<'_>) -> Result<ForHead<P>>
         requires pat { Callable (weight input.old.rest + 1) (F.pre self.now.pat) }

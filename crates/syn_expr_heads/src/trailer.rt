@@ -1,4 +1,4 @@
-//! What stands behind the dot of a trailer (Rust Reference, "Await expressions", "Method-call expressions", "Field access
+//! What comes after the dot of a trailer (Rust Reference, "Await expressions", "Method-call expressions", "Field access
 //! expressions").
 
 ghost use Rattle.std.specs.Prelude.{◌≡◌, ◌≤◌};
@@ -21,7 +21,7 @@ use syn_parts::label::PathStyle;
 use syn_tokens::buffer::ParseBuffer;
 use syn_tokens::error::Result;
 
-/// Reads the arguments in angle brackets behind a method's name, if they stand there.
+/// Reads the arguments in angle brackets after a method's name, if they are there.
 #[tactic(auto, unfolding(syn_parts::specs::Part::arguments, syn_parts::specs::Part::no_arguments))]
 fn turbofish(input: &mut ParseBuffer<'_>) -> Result<Option<AngleBracketedGenericArguments>>
     ensures value { Reads turbofish_of ((part.arguments part.type PathStyle.Expr).reads input.old.rest) result input.new.rest }
@@ -35,7 +35,7 @@ fn turbofish(input: &mut ParseBuffer<'_>) -> Result<Option<AngleBracketedGeneric
     }
 }
 
-/// Reads what stands behind a dot: `await`, the name of a method and its arguments in angle brackets, or a member (Rust
+/// Reads what comes after a dot: `await`, the name of a method and its arguments in angle brackets, or a member (Rust
 /// Reference, "Await expressions", "Method-call expressions", "Field access expressions").
 ///
 /// Where none of them stands it is refused as a member is: as `ExpectedUnsuffixedInteger` at an integer with a suffix, as

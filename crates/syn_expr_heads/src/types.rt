@@ -1,4 +1,4 @@
-//! What stands before, between and behind operands. None of it holds an expression.
+//! What comes before, between and after operands. None of it holds an expression.
 
 use syn_expr_parts::label::Label;
 use syn_expr_parts::member::Member;
@@ -20,12 +20,12 @@ use syn_tokens::token::{
 };
 use syn_tokens::tree::{Ident, TokenStream};
 
-/// A block with the inner attributes that stand first in its braces.
+/// A block with the inner attributes that come first in its braces.
 #[derive(Drop, PartialEq)]
 pub struct Body {
     /// The inner attributes.
     pub attrs: Vec<Attribute>,
-    /// The braces, and the tokens behind the attributes.
+    /// The braces, and the tokens after the attributes.
     pub block: Block,
 }
 
@@ -73,7 +73,7 @@ pub enum LeafHead {
     Macro(Macro),
 }
 
-/// What stands behind the dot of a trailer, up to its arguments.
+/// What comes after the dot of a trailer, up to its arguments.
 #[derive(Drop, PartialEq)]
 pub enum TrailerHead {
     /// `await`
@@ -84,7 +84,7 @@ pub enum TrailerHead {
     Field(Member),
 }
 
-/// What stands before a field's value in a struct expression.
+/// What comes before a field's value in a struct expression.
 #[derive(Drop, PartialEq)]
 pub enum FieldHead {
     /// `..`
@@ -93,7 +93,7 @@ pub enum FieldHead {
     Field(Vec<Attribute>, Member, Option<Colon>),
 }
 
-/// What stands before the guard or the body of an arm.
+/// What comes before the guard or the body of an arm.
 #[derive(Drop, PartialEq)]
 pub enum ArmHead<P> {
     /// `#[a] pattern if`
@@ -102,7 +102,7 @@ pub enum ArmHead<P> {
     Arm(Vec<Attribute>, P, FatArrow),
 }
 
-/// What stands before the iterator of a `for` loop.
+/// What comes before the iterator of a `for` loop.
 #[derive(Drop, PartialEq)]
 pub struct ForHead<P> {
     /// `for`
@@ -130,13 +130,13 @@ pub struct ClosureHead<P> {
     pub inputs_begin: Or,
     /// The arguments.
     pub inputs: Punctuated<P, Comma>,
-    /// The bar behind the arguments.
+    /// The bar after the arguments.
     pub inputs_end: Or,
     /// `-> T`
     pub output: ReturnType,
 }
 
-/// What stands before an operand.
+/// What comes before an operand.
 #[derive(Drop, PartialEq)]
 pub enum PrefixHead<P> {
     /// `*`, `!` or `-`

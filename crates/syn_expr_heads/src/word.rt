@@ -1,4 +1,4 @@
-//! The words and signs of expressions, at the front of the input. Each is taken where it stands first; else nothing changes.
+//! The words and signs of expressions, at the front of the input. Each is taken where it comes first; else nothing changes.
 
 ghost use Rattle.std.specs.Prelude.{◌≡◌, ◌<◌, ◌≤◌, is_some, Some, IfSome};
 ghost use Rattle.syn_grammar.specs.Front as front;
@@ -220,7 +220,7 @@ pub fn bar(input: &mut ParseBuffer<'_>) -> Option<Or>
     sign(input)
 }
 
-/// Whether `|` stands first, whatever is joined to it.
+/// Whether `|` comes first, whatever is joined to it.
 #[tactic(auto, unfolding(syn_tokens::specs::Sign::sign_text, syn_parts::specs::Mark::sign_at))]
 pub fn bar_at(input: &ParseBuffer<'_>) -> bool
     ensures { result ≡ head.bar.at input.now.rest }

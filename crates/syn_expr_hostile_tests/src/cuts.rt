@@ -1,11 +1,11 @@
-//! Texts that are cut behind each of their top tokens: a front is refused, or printed as its own tokens.
+//! Texts that are cut after each of their top tokens: a front is refused, or printed as its own tokens.
 
 use crate::forks::is_left_alone;
 use std::alloc::Global;
 use std::test::Fail;
 use syn_expr::{Error, ErrorKind, HeldExpr, ToTokens, TokenStream, lex, parse2, to_text};
 
-/// Texts that are read whole. Behind `~` stands the text of their own tokens, where it is another.
+/// Texts that are read whole. After `~` stands the text of their own tokens, where it is another.
 const READ: &str = "
 a - b - c
 a = b = c

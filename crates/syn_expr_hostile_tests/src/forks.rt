@@ -21,7 +21,7 @@ pub(crate) fn is_left_alone(alloc: Global, text: &str) -> Result<bool, Error> {
     Ok(is_alone && has_moved)
 }
 
-/// Takes brackets, and an expression that they begin with. What is behind it in them is noted.
+/// Takes brackets, and an expression that they begin with. What is after it in them is noted.
 #[tactic(auto, using(syn_tokens::proofs::Inputs::tail_after))]
 fn pass(input: &mut ParseBuffer<'_>) -> Result<(), Error>
     ensures tail { IsTail input.new.rest input.old.rest }
@@ -32,7 +32,7 @@ fn pass(input: &mut ParseBuffer<'_>) -> Result<(), Error>
     Ok(())
 }
 
-/// What is left to a buffer behind brackets, to its fork behind further ones, to the buffer then, and once it moved there.
+/// What is left to a buffer after brackets, to its fork after further ones, to the buffer then, and once it moved there.
 fn left(alloc: Global, text: &str) -> Result<[Option<Span>; 4], Error> {
     let tokens = lex(alloc, text)?;
     let mut input = ParseBuffer::new(&tokens)?;

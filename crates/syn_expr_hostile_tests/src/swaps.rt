@@ -77,7 +77,7 @@ fn swap_elements(expr: &mut Expr, other: &mut Expr) {
     }
 }
 
-/// What stands behind the `..` of a struct.
+/// What comes after the `..` of a struct.
 fn swap_rest(expr: &mut Expr, other: &mut Expr) {
     if let Expr::Struct(x) = expr {
         if let Expr::Struct(y) = other {
@@ -95,7 +95,7 @@ fn swap_fields(expr: &mut Expr, other: &mut Expr) {
     }
 }
 
-/// The colon of the last field, behind which no comma stands.
+/// The colon of the last field, after which no comma stands.
 fn swap_colon(expr: &mut Expr, other: &mut Expr) {
     if let Expr::Struct(x) = expr {
         if let Expr::Struct(y) = other {
@@ -121,7 +121,7 @@ fn swap_comma(expr: &mut Expr, other: &mut Expr) {
     }
 }
 
-/// What stands behind `else`, and a whole expression.
+/// What comes after `else`, and a whole expression.
 fn swap_else(expr: &mut Expr, other: &mut Expr) {
     if let Expr::If(x) = expr {
         if let Some((_, branch)) = &mut x.else_branch {

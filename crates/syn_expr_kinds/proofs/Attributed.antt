@@ -14,7 +14,7 @@ use Rattle.syn_grammar.proofs.Chains.{both_true, not_true}
 use Rattle.syn_grammar.proofs.Attributes.{outers_append, outers_are}
 use Rattle.syn_expr_kinds.specs.Attrs.{attrs_of, outer_of, inner_of}
 
--- where none stand before it
+-- where none come before it
 pub attributed_with_more : (ats bs : List AttributeTree) (t : Tree) → is_attributed (attributed_with bs t) ≡ false → attributed_with (ats ++ bs) t ≡ attributed_with ats (attributed_with bs t)
 attributed_with_more ats [] t h = ap (λ l. attributed_with l t) (append-nil ats)
 attributed_with_more ats (b ∷ bs) t h = absurd cc
@@ -33,7 +33,7 @@ from_outer (a ∷ more) bs h =
 
 pub ruleset attributed = (attributed_with_more, outer_all)
 
--- ---- the same of what was put behind
+-- ---- the same of what was put after
 
 module _ (v a b : Vec Attribute Global) (h : v.items ≡ a.items ++ b.items) where
   pub joined_all : attrs_of v ≡ attrs_of a ++ attrs_of b

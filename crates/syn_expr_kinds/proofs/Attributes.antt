@@ -1,4 +1,4 @@
--- Attributes, one behind another.
+-- Attributes, one after another.
 use Rattle.std.specs.Prelude.{not, ◌&&◌, ◌-◌, take}
 use Rattle.std.proofs.Common.{◌≡◌, Bool, true, false, if◌then◌else◌, ◌==◌, List, [], ◌∷◌, ◌++◌, length, map, refl, sym, ap, ◌∙◌, arith, rules}
 use Rattle.std.proofs.lemmas.List.{append-nil, length-append, take-append-le, take_all}
@@ -70,7 +70,7 @@ pub ruleset heads = (attributes_append)
 
 -- ---- whether there are any in a place
 
--- those of a node with braces: none stands before it where all are inner ones
+-- those of a node with braces: none comes before it where all are inner ones
 pub outer_none : (ats : List AttributeTree) → is_nil (outers ats) ≡ attributes_inner ats
 outer_none [] = refl
 outer_none (a ∷ more) = by a.inner (outer_none more)
@@ -112,7 +112,7 @@ all_inside (a ∷ more) h =
 
 pub ruleset insides = (no_outer, all_inside)
 
--- ---- the list again, of those that stand before the node and those from the first inner one on
+-- ---- the list again, of those that come before the node and those from the first inner one on
 
 -- the outer ones of these parts
 pub outers_parts : (ats : List AttributeTree) → outers ats ≡ before_inner ats ++ outers (from_inner ats)

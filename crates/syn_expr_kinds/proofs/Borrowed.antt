@@ -13,7 +13,7 @@ use Rattle.syn_expr_kinds.specs.Node.{based_by, framed, operand_children, first_
 use Rattle.syn_expr_kinds.specs.View.{FieldView, elements, fields, option_child}
 
 -- ---- a base is the first operand and the last, whether its trailer holds others or not; what a frame holds is at no end but
--- for the block behind the output of a closure
+-- for the block after the output of a closure
 
 pub first-based : (b : Tree) (ks : Children) → first_of (based_by b ks) ≡ Some b
 first-based b none = refl

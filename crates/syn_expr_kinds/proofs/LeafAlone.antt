@@ -1,4 +1,4 @@
--- What is read of one kind by itself, as code reads it: a leaf behind attributes that were read; and that this is exact.
+-- What is read of one kind by itself, as code reads it: a leaf after attributes that were read; and that this is exact.
 use Rattle.std.proofs.Common.{◌≡◌, Bool, true, false, List, [], ◌++◌, map, Some, None, refl, sym, ap, ◌∙◌}
 use Rattle.std.proofs.lemmas.List.{append-nil}
 use Rattle.std.specs.declared.vec.Vec.{Vec}
@@ -46,7 +46,7 @@ module _ (is : Tree → Bool) (ats : List AttributeTree) (l : List Tok) (plains 
 
 pub ruleset leaves = (leaf_found, leaf_other, leaf_none)
 
--- none stand before it
+-- none come before it
 pub bare_leaf_is : (is : Tree → Bool) (l : List Tok) → attributing [] (leaf_alone is) l ≡ leaf_alone is l
 bare_leaf_is is l = by (leaf_alone is l)
   where
@@ -56,7 +56,7 @@ bare_leaf_is is l = by (leaf_alone is l)
 
 pub ruleset bare = (bare_leaf_is)
 
--- one behind attributes or none
+-- one after attributes or none
 pub attributed_leaf_exact : (is : Tree → Bool) → ArePlain is → IsExact (attributed_alone (leaf_alone is)) (Alone (behind_attributes is))
 attributed_leaf_exact is p = attributed_exact is (leaf_alone is) (leaf_exact is p) (λ x h. plain_atom x (p x h)) (λ x h. plain_takes_attributes x (p x h))
 

@@ -1,4 +1,4 @@
--- In plain position no pair stands round a node; and what is printed there of a leaf behind its attributes.
+-- In plain position no pair is round a node; and what is printed there of a leaf after its attributes.
 use Rattle.std.specs.Prelude.{Result, Ok, Err}
 use Rattle.std.proofs.Common.{◌≡◌, Bool, false, List, [], ◌∷◌, ◌++◌, OnOk, refl, sym, ap, ◌∙◌, append_assoc}
 use Rattle.syn_tokens.specs.Tok.{Tok}

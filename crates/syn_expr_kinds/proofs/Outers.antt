@@ -1,4 +1,4 @@
--- Attributes that stand before an operand are outer ones.
+-- Attributes that come before an operand are outer ones.
 use Rattle.std.specs.Prelude.{not, ◌&&◌}
 use Rattle.std.proofs.Common.{◌≡◌, ℕ, zero, suc, Bool, true, false, cond, List, [], ◌∷◌, drop, Option, Some, None, refl}
 use Rattle.syn_lexer.specs.declared.lexeme.Delimiter.TheVariants as del

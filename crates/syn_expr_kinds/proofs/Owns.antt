@@ -41,7 +41,7 @@ colon s = alone 58 ∷ []
 abbrev pub type_toks : «Type» → List Tok
 type_toks x = type_own (type_of x) []
 
--- ---- what is put behind what was put
+-- ---- what is put after what was put
 
 pub then : {now : List Tok} (before part more : List Tok) → now ≡ before ++ part → now ++ more ≡ before ++ (part ++ more)
 then before part more h = ap (λ l. l ++ more) h ∙ append_assoc before part more

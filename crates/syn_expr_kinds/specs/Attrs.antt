@@ -15,7 +15,7 @@ abbrev pub before_inner : List AttributeTree → List AttributeTree
 before_inner [] = []
 before_inner (a ∷ more) = if a.inner then [] else a ∷ before_inner more
 
--- of a node with braces: those that stand before it, then those from the first inner one on, whose inner ones stand first
+-- of a node with braces: those that come before it, then those from the first inner one on, whose inner ones come first
 -- in its braces
 unfoldable pub outer_of : Vec Attribute Global → List AttributeTree
 outer_of v = outers (map attribute_of v.items)

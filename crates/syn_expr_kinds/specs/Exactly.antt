@@ -1,4 +1,4 @@
--- What a reader ensures that reads what stands, and nothing else.
+-- What a reader ensures that reads what is, and nothing else.
 use Rattle.std.specs.Prelude.{◌≡◌, ◌≤◌, ◌+◌, ◌⊎◌, Bool, false, List, Result, IfErr, IfOk, MatchResult}
 use Rattle.syn_tokens.specs.Input.{Input, IsAfter}
 use Rattle.syn_tokens.specs.Tok.{Tok, weight}
@@ -10,7 +10,7 @@ use Rattle.syn_grammar.specs.Tree.{Tree}
 use Rattle.syn_grammar.specs.Stands.{Stands}
 use Rattle.syn_grammar.specs.Alone.{is_inside}
 
--- What stands at the front of the list is read, unless memory runs out, and nothing else is: `stands list value rest`. A read
+-- What is at the front of the list is read, unless memory runs out, and nothing else is: `stands list value rest`. A read
 -- takes tokens and makes no note, and the input stays where it was where it is refused.
 pub record ReadsExactly {A B : Type 0} (seen : A → B) (stands : List Tok → B → List Tok → Type 0) (old : Input) (result : Result A Error) (new : Input) : Type 0 where
   pub read : IfOk result (λ v. stands old.rest (seen v) new.rest)

@@ -12,7 +12,7 @@ use Rattle.syn_grammar.specs.Slot.{piece_form}
 use Rattle.syn_grammar.specs.Stands.{Stands, path_of}
 use Rattle.syn_expr_kinds.specs.View.{FieldView}
 
--- The field stands for the tokens of l before n: attributes, a member, and its value behind a colon. A name without a colon says
+-- The field stands for the tokens of l before n: attributes, a member, and its value after a colon. A name without a colon says
 -- the value: the path that is this name.
 pub data FieldStands : List Tok → FieldView → List Tok → Type 0 where
   with_colon : {l m n : List Tok} {ats : List AttributeTree} {w : MemberTree} {x : Tree}

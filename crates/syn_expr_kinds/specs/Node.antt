@@ -221,7 +221,7 @@ abbrev pub second_of : OperandTrees → Option Tree
 second_of (two_trees x y) = Some y
 second_of _ = None
 
--- the one with which a node ends, or behind which its trailer stands
+-- the one with which a node ends, or after which its trailer stands
 abbrev pub last_of : OperandTrees → Option Tree
 last_of (one_tree t) = Some t
 last_of (two_trees x y) = Some y

@@ -1,4 +1,4 @@
--- What stands beside patterns in a tree: their guards, and the arms of a `match` (Rust Reference, "Match expressions").
+-- What is beside patterns in a tree: their guards, and the arms of a `match` (Rust Reference, "Match expressions").
 use Rattle.std.specs.Prelude.{Bool, if◌then◌else◌, List, [], ◌∷◌, map, flat_map}
 use Rattle.syn_parts.specs.Tree.{AttributeTree, ReturnTree, default, given}
 use Rattle.syn_parts.specs.Pat.{PatTree, guarded}

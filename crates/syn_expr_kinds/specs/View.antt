@@ -62,7 +62,7 @@ abbrev pub boxed : {E T : Type 0} → (E → T) → Option (Box E Global) → Op
 boxed f None = None
 boxed f (Some b) = Some (f b.value)
 
--- a comma is behind each but the last, and behind that where a comma ends the list
+-- a comma is after each but the last, and after that where a comma ends the list
 abbrev pub ending_of : Bool → Bool → Ending
 ending_of last trailing = if not last || trailing then e.comma else e.no_ending
 

@@ -49,7 +49,7 @@ pub(crate) trait LeafKind {
     /// Whether a tree without attributes is of the kind.
     ghost is: { Tree → Bool };
 
-    /// A leaf of the kind behind outer attributes; none of another.
+    /// A leaf of the kind after outer attributes; none of another.
     fn of(attrs: Vec<Attribute>, head: LeafHead) -> std::result::Result<Option<Self>, AllocError>
         requires outer { attributes_outer (attrs_of attrs) ≡ true }
         requires inner { has_inner (leaf_of head) ≡ true }
@@ -59,7 +59,7 @@ pub(crate) trait LeafKind {
     fn begins(input: &mut ParseBuffer<'_>) -> Result<()>;
 }
 
-/// Reads a leaf of a kind, behind attributes that were read.
+/// Reads a leaf of a kind, after attributes that were read.
 #[tactic(auto, using(crate::proofs::Inner::leaf_inner, crate::proofs::LeafAlone::leaves))]
 fn behind<S: LeafKind>(input: &mut ParseBuffer<'_>, attrs: Vec<Attribute>) -> Result<S>
     requires plain { ArePlain S.is }
@@ -116,7 +116,7 @@ pub(crate) fn leaf<S: LeafKind>(input: &mut ParseBuffer<'_>) -> Result<S>
     Ok(x)
 }
 
-/// Reads a leaf of a kind, behind attributes or none.
+/// Reads a leaf of a kind, after attributes or none.
 #[tactic(auto, using(syn_grammar::proofs::Alone::tails))]
 pub(crate) fn attributed_leaf<S: LeafKind>(input: &mut ParseBuffer<'_>) -> Result<S>
     requires plain { ArePlain S.is }
@@ -345,7 +345,7 @@ impl LeafKind for ExprContinue {
     }
 }
 
-/// Reads attributes, and a path behind them.
+/// Reads attributes, and a path after them.
 #[tactic(auto, unfolding(syn_grammar::specs::AloneRead::path_alone, syn_grammar::specs::AloneRead::attributed_alone, crate::specs::Attrs::attrs_of))]
 fn path_behind(input: &mut ParseBuffer<'_>) -> Result<ExprPath>
     ensures value { Reads expr_path_of (path_alone input.old.rest) result input.new.rest }
@@ -356,7 +356,7 @@ fn path_behind(input: &mut ParseBuffer<'_>) -> Result<ExprPath>
     Ok(ExprPath { attrs, qself, path })
 }
 
-/// Reads a path behind attributes or none, whatever follows it.
+/// Reads a path after attributes or none, whatever follows it.
 #[tactic(auto, using(syn_grammar::proofs::Alone::tails))]
 pub(crate) fn path(input: &mut ParseBuffer<'_>) -> Result<ExprPath>
     ensures { ReadsExactly expr_path_of PathAlone input.old result input.new }

@@ -1,4 +1,4 @@
-//! Kinds that are closed at both ends: literals, paths, macros, and what stands in brackets or parentheses.
+//! Kinds that are closed at both ends: literals, paths, macros, and what is in brackets or parentheses.
 #![tactic(auto, using(crate::proofs::Shapes::shapes))]
 
 ghost use Rattle.std.specs.Prelude.{◌≡◌, Some};
@@ -29,7 +29,7 @@ use syn_tokens::token::{Bracket, Comma, Group, Paren, Semi, Underscore};
 use syn_tokens::tree::TokenStream;
 
 /// `[a, b]` (Rust Reference, "Array expressions").
-#[derive(Drop, PartialEq)]
+#[derive(Debug, Drop, PartialEq)]
 pub struct ExprArrayOf<E> {
     /// The attributes.
     pub attrs: Vec<Attribute>,
@@ -40,7 +40,7 @@ pub struct ExprArrayOf<E> {
 }
 
 /// An expression in delimiters that are not seen, which a macro's expansion leaves.
-#[derive(Drop, PartialEq)]
+#[derive(Debug, Drop, PartialEq)]
 pub struct ExprGroupOf<E> {
     /// The attributes.
     pub attrs: Vec<Attribute>,
@@ -51,7 +51,7 @@ pub struct ExprGroupOf<E> {
 }
 
 /// `_`, to be inferred, or as a place that is assigned to and dropped (Rust Reference, "Underscore expressions").
-#[derive(Drop, PartialEq)]
+#[derive(Debug, Drop, PartialEq)]
 pub struct ExprInfer {
     /// The attributes.
     pub attrs: Vec<Attribute>,
@@ -60,7 +60,7 @@ pub struct ExprInfer {
 }
 
 /// A literal (Rust Reference, "Literal expressions").
-#[derive(Drop, PartialEq)]
+#[derive(Debug, Drop, PartialEq)]
 pub struct ExprLit {
     /// The attributes.
     pub attrs: Vec<Attribute>,
@@ -69,7 +69,7 @@ pub struct ExprLit {
 }
 
 /// The call of a macro (Rust Reference, "Macro Invocation").
-#[derive(Drop, PartialEq)]
+#[derive(Debug, Drop, PartialEq)]
 pub struct ExprMacro {
     /// The attributes.
     pub attrs: Vec<Attribute>,
@@ -78,7 +78,7 @@ pub struct ExprMacro {
 }
 
 /// `(a)` (Rust Reference, "Grouped expressions").
-#[derive(Drop, PartialEq)]
+#[derive(Debug, Drop, PartialEq)]
 pub struct ExprParenOf<E> {
     /// The attributes.
     pub attrs: Vec<Attribute>,
@@ -89,7 +89,7 @@ pub struct ExprParenOf<E> {
 }
 
 /// `a::b`, `<T as A>::b` (Rust Reference, "Path expressions").
-#[derive(Drop, PartialEq)]
+#[derive(Debug, Drop, PartialEq)]
 pub struct ExprPath {
     /// The attributes.
     pub attrs: Vec<Attribute>,
@@ -100,7 +100,7 @@ pub struct ExprPath {
 }
 
 /// `[a; n]` (Rust Reference, "Array expressions").
-#[derive(Drop, PartialEq)]
+#[derive(Debug, Drop, PartialEq)]
 pub struct ExprRepeatOf<E> {
     /// The attributes.
     pub attrs: Vec<Attribute>,
@@ -115,7 +115,7 @@ pub struct ExprRepeatOf<E> {
 }
 
 /// `()`, `(a,)`, `(a, b)` (Rust Reference, "Tuple expressions").
-#[derive(Drop, PartialEq)]
+#[derive(Debug, Drop, PartialEq)]
 pub struct ExprTupleOf<E> {
     /// The attributes.
     pub attrs: Vec<Attribute>,
@@ -385,7 +385,7 @@ impl<E: PutShape> ToTokens for ExprTupleOf<E> {
 
     ghost printed = { λ x. whole enclosed (expr_tuple_of E.tree x) };
 
-    /// Puts the elements in parentheses, with their commas; behind one alone a comma always stands.
+    /// Puts the elements in parentheses, with their commas; after one alone a comma always stands.
     fn to_tokens(&self, tokens: &mut TokenStream) -> Result<()> {
         let frame = Frame::Tuple(&self.paren_token);
         let operands = Operands::Elements(&self.elems);
@@ -404,12 +404,12 @@ impl Parse for ExprInfer {
 
     ghost seen = { expr_infer_of };
 
-    /// `_` stands before the rest, behind attributes or none.
+    /// `_` comes before the rest, after attributes or none.
     ghost spells = { Alone (behind_attributes is_infer) };
 
     ghost least = { 1 };
 
-    /// Reads `_` behind outer attributes or none (Rust Reference, "Underscore expressions").
+    /// Reads `_` after outer attributes or none (Rust Reference, "Underscore expressions").
     ///
     /// It is refused, memory aside, only where none stands, and the input then stays where it was: as its attributes
     /// are, and as `ExpectedToken` of `_`.
@@ -429,7 +429,7 @@ impl Parse for ExprLit {
 
     ghost seen = { expr_lit_of };
 
-    /// A literal, or `-` and a number, stands before the rest.
+    /// A literal, or `-` and a number, comes before the rest.
     ghost spells = { LitAlone };
 
     ghost least = { 1 };
@@ -455,7 +455,7 @@ impl Parse for ExprMacro {
 
     ghost seen = { expr_macro_of };
 
-    /// A path without arguments, `!` and a group stand before the rest.
+    /// A path without arguments, `!` and a group come before the rest.
     ghost spells = { MacroAlone };
 
     ghost least = { 1 };
@@ -479,12 +479,12 @@ impl Parse for ExprPath {
 
     ghost seen = { expr_path_of };
 
-    /// A path, as in an expression, stands before the rest, behind attributes or none.
+    /// A path, as in an expression, comes before the rest, after attributes or none.
     ghost spells = { PathAlone };
 
     ghost least = { 1 };
 
-    /// Reads a path, qualified by a type or not, behind outer attributes or none (Rust Reference, "Paths in
+    /// Reads a path, qualified by a type or not, after outer attributes or none (Rust Reference, "Paths in
     /// expressions", "Qualified paths"). Whatever follows is left, a brace and the `!` of a macro too.
     ///
     /// It is refused, memory aside, only where none stands, and the input then stays where it was: as its attributes
@@ -505,7 +505,7 @@ impl<E: ParseKinds> Parse for ExprArrayOf<E> {
 
     ghost seen = { expr_array_of E.tree };
 
-    /// An array of its elements stands before the rest.
+    /// An array of its elements comes before the rest.
     ghost spells = { Alone is_array };
 
     ghost least = { 1 };
@@ -513,7 +513,7 @@ impl<E: ParseKinds> Parse for ExprArrayOf<E> {
     /// Reads an array of its elements, without attributes before it (Rust Reference, "Array expressions").
     ///
     /// It is refused, memory aside, only where none stands, and the input then stays where it was: as `ExpectedToken`
-    /// of `[`, of a comma behind an element, and as its elements are.
+    /// of `[`, of a comma after an element, and as its elements are.
     fn parse(input: &mut ParseBuffer<'_>) -> Result<Self>
         ensures { ReadsExactly (expr_array_of E.tree) (Alone is_array) input.old result input.new }
     {
@@ -530,7 +530,7 @@ impl<E: ParseKinds> Parse for ExprParenOf<E> {
 
     ghost seen = { expr_paren_of E.tree };
 
-    /// An expression in parentheses stands before the rest.
+    /// An expression in parentheses comes before the rest.
     ghost spells = { Alone is_paren };
 
     ghost least = { 1 };
@@ -538,7 +538,7 @@ impl<E: ParseKinds> Parse for ExprParenOf<E> {
     /// Reads an expression in parentheses, without attributes before them (Rust Reference, "Grouped expressions").
     ///
     /// It is refused, memory aside, only where none stands, and the input then stays where it was: as `ExpectedToken`
-    /// of `(`, as `UnexpectedToken` where a comma or more stands behind the expression, and as this is.
+    /// of `(`, as `UnexpectedToken` where a comma or more comes after the expression, and as this is.
     fn parse(input: &mut ParseBuffer<'_>) -> Result<Self>
         ensures { ReadsExactly (expr_paren_of E.tree) (Alone is_paren) input.old result input.new }
     {
@@ -555,7 +555,7 @@ impl<E: ParseKinds> Parse for ExprRepeatOf<E> {
 
     ghost seen = { expr_repeat_of E.tree };
 
-    /// An array of an element that is repeated stands before the rest.
+    /// An array of an element that is repeated comes before the rest.
     ghost spells = { Alone is_repeat };
 
     ghost least = { 1 };
@@ -564,7 +564,7 @@ impl<E: ParseKinds> Parse for ExprRepeatOf<E> {
     /// expressions").
     ///
     /// It is refused, memory aside, only where none stands, and the input then stays where it was: as `ExpectedToken`
-    /// of `[`, of `;` behind the element, as `UnexpectedToken` where more stands behind the length, and as both are.
+    /// of `[`, of `;` after the element, as `UnexpectedToken` where more comes after the length, and as both are.
     fn parse(input: &mut ParseBuffer<'_>) -> Result<Self>
         ensures { ReadsExactly (expr_repeat_of E.tree) (Alone is_repeat) input.old result input.new }
     {
@@ -581,13 +581,13 @@ impl<E: ParseKinds> Parse for ExprTupleOf<E> {
 
     ghost seen = { expr_tuple_of E.tree };
 
-    /// An expression stands before the rest, by the binding rules, that is a tuple.
+    /// An expression comes before the rest, by the binding rules, that is a tuple.
     ghost spells = { OfKind is_tuple };
 
     ghost least = { 1 };
 
     /// Reads an expression that is a tuple, with attributes before it or without (Rust Reference, "Tuple expressions").
-    /// Invisible groups that it stands in are looked through, and left out with the attributes before them.
+    /// Invisible groups that it is in are looked through, and left out with the attributes before them.
     ///
     /// It is refused, memory aside, only where none stands, and the input then stays where it was: as an expression is,
     /// and where another kind stands, as `ExpectedExprKind`, from the first token of this to its last.

@@ -1,4 +1,4 @@
-//! Attributes (Rust Reference, "Attributes"): those before a node, and the inner ones, which stand first in its braces.
+//! Attributes (Rust Reference, "Attributes"): those before a node, and the inner ones, which come first in its braces.
 
 ghost use Rattle.std.specs.Prelude.{◌≡◌, ◌++◌, [], map, OnOk};
 ghost use Rattle.syn_expr_kinds.specs.Attrs.{attrs_of, inner_of, outer_of};
@@ -54,7 +54,7 @@ fn all_inner(mut attrs: &[Attribute]) -> bool
     true
 }
 
-/// Whether no outer one stands behind an inner one.
+/// Whether no outer one comes after an inner one.
 #[tactic(auto, unfolding(crate::specs::Attrs::inner_of))]
 pub fn is_in_order(attrs: &Vec<Attribute>) -> bool
     ensures { result ≡ attributes_inner (inner_of attrs.now) }
@@ -76,7 +76,7 @@ pub fn all_outer(attrs: &Vec<Attribute>) -> bool
 }
 
 impl Attributes<'_> {
-    /// Whether none stand before the node.
+    /// Whether none come before the node.
     #[tactic(auto, using(crate::proofs::Attributes::bares), unfolding(crate::specs::Attrs::attrs_of, crate::specs::Attrs::outer_of))]
     pub fn has_none_before(self) -> bool
         ensures { result ≡ is_nil (before_of self.entry) }
@@ -88,7 +88,7 @@ impl Attributes<'_> {
         }
     }
 
-    /// Whether none are printed before the node: its inner ones stand in its braces, or nowhere.
+    /// Whether none are printed before the node: its inner ones are in its braces, or nowhere.
     #[tactic(auto, using(crate::proofs::Attributes::bares), unfolding(crate::specs::Attrs::attrs_of, crate::specs::Attrs::outer_of))]
     pub fn prints_none_before(self) -> bool
         ensures { result ≡ is_nil (outers (before_of self.entry)) }
@@ -101,7 +101,7 @@ impl Attributes<'_> {
 }
 
 impl Braces<'_> {
-    /// Whether none of the attributes of the node stand first in them.
+    /// Whether none of the attributes of the node come first in them.
     #[tactic(auto, using(crate::proofs::Attributes::inside), unfolding(crate::specs::Attrs::attrs_of, crate::specs::Attrs::inner_of))]
     pub fn is_bare(self) -> bool
         ensures { result ≡ is_nil (braces_of self.entry).inner }
@@ -110,7 +110,7 @@ impl Braces<'_> {
     }
 }
 
-/// Puts parts, one behind another.
+/// Puts parts, one after another.
 #[tactic(auto, using(syn_tokens::proofs::Fronts::fronts))]
 fn put_parts<T: ToTokens>(tokens: &mut TokenStream, mut parts: &[T]) -> PutResult
     ensures ok { OnOk result (tokens.new ≡ tokens.old ++ all_printed T.printed parts.entry.now) }
@@ -123,7 +123,7 @@ fn put_parts<T: ToTokens>(tokens: &mut TokenStream, mut parts: &[T]) -> PutResul
     Ok(())
 }
 
-/// Puts attributes, one behind another.
+/// Puts attributes, one after another.
 #[tactic(auto, using(crate::proofs::Attributes::attrs))]
 pub fn put_all(tokens: &mut TokenStream, attrs: &[Attribute]) -> PutResult
     ensures ok { OnOk result (tokens.new ≡ tokens.old ++ attributes_own (map attribute_of attrs.now) []) }
@@ -132,7 +132,7 @@ pub fn put_all(tokens: &mut TokenStream, attrs: &[Attribute]) -> PutResult
     put_parts(tokens, attrs)
 }
 
-/// Puts the outer ones, one behind another.
+/// Puts the outer ones, one after another.
 #[tactic(auto, using(syn_tokens::proofs::Fronts::fronts))]
 fn put_outer_ones(tokens: &mut TokenStream, mut attrs: &[Attribute]) -> PutResult
     ensures ok { OnOk result (tokens.new ≡ tokens.old ++ outer_printed attrs.entry.now) }
@@ -147,7 +147,7 @@ fn put_outer_ones(tokens: &mut TokenStream, mut attrs: &[Attribute]) -> PutResul
     Ok(())
 }
 
-/// Puts the inner ones, one behind another.
+/// Puts the inner ones, one after another.
 #[tactic(auto, using(syn_tokens::proofs::Fronts::fronts))]
 fn put_inner_ones(tokens: &mut TokenStream, mut attrs: &[Attribute]) -> PutResult
     ensures ok { OnOk result (tokens.new ≡ tokens.old ++ inner_printed attrs.entry.now) }
@@ -162,7 +162,7 @@ fn put_inner_ones(tokens: &mut TokenStream, mut attrs: &[Attribute]) -> PutResul
     Ok(())
 }
 
-/// Puts those of a node or of a field that stand before it: the outer ones.
+/// Puts those of a node or of a field that come before it: the outer ones.
 #[tactic(auto, using(crate::proofs::Attributes::styles), unfolding(crate::specs::Attrs::outer_of))]
 pub fn put_outer(tokens: &mut TokenStream, attrs: &Vec<Attribute>) -> PutResult
     ensures ok { OnOk result (tokens.new ≡ tokens.old ++ attributes_own (outer_of attrs.now) []) }
@@ -171,7 +171,7 @@ pub fn put_outer(tokens: &mut TokenStream, attrs: &Vec<Attribute>) -> PutResult
     put_outer_ones(tokens, attrs)
 }
 
-/// Puts those of a node with braces that stand first in them: the inner ones.
+/// Puts those of a node with braces that come first in them: the inner ones.
 #[tactic(auto, using(crate::proofs::Attributes::styles), unfolding(crate::specs::Attrs::inner_of))]
 pub fn put_inner(tokens: &mut TokenStream, attrs: &Vec<Attribute>) -> PutResult
     ensures ok { OnOk result (tokens.new ≡ tokens.old ++ attributes_own (inners (inner_of attrs.now)) []) }
@@ -180,7 +180,7 @@ pub fn put_inner(tokens: &mut TokenStream, attrs: &Vec<Attribute>) -> PutResult
     put_inner_ones(tokens, attrs)
 }
 
-/// Puts the attributes that stand before a node. An inner one stands in braces, so none is put.
+/// Puts the attributes that come before a node. An inner one is in braces, so none is put.
 #[tactic(auto, using(crate::proofs::Attributes::once), unfolding(crate::specs::Attrs::attrs_of, crate::specs::Attrs::outer_of))]
 pub fn put_attributes(tokens: &mut TokenStream, attributes: Attributes<'_>) -> PutResult
     ensures ok { OnOk result (tokens.new ≡ tokens.old ++ attributes_own (outers (before_of attributes.entry)) []) }

@@ -30,7 +30,7 @@ use syn_tokens::token::{Async, Const, Else, If, Loop, Move, Try, Unsafe, While};
 use syn_tokens::tree::TokenStream;
 
 /// `async { .. }`, `async move { .. }` (Rust Reference, "`async` blocks").
-#[derive(Drop, PartialEq)]
+#[derive(Debug, Drop, PartialEq)]
 pub struct ExprAsync {
     /// The attributes.
     pub attrs: Vec<Attribute>,
@@ -45,7 +45,7 @@ pub struct ExprAsync {
 }
 
 /// `{ .. }`, `'a: { .. }` (Rust Reference, "Block expressions", "Labelled block expressions").
-#[derive(Drop, PartialEq)]
+#[derive(Debug, Drop, PartialEq)]
 pub struct ExprBlock {
     /// The attributes: those before it, and those first in its braces.
     pub attrs: Vec<Attribute>,
@@ -56,7 +56,7 @@ pub struct ExprBlock {
 }
 
 /// `const { .. }` (Rust Reference, "`const` blocks").
-#[derive(Drop, PartialEq)]
+#[derive(Debug, Drop, PartialEq)]
 pub struct ExprConst {
     /// The attributes: those before it, and those first in its braces.
     pub attrs: Vec<Attribute>,
@@ -69,7 +69,7 @@ pub struct ExprConst {
 }
 
 /// `if a { .. } else { .. }` (Rust Reference, "`if` expressions").
-#[derive(Drop, PartialEq)]
+#[derive(Debug, Drop, PartialEq)]
 pub struct ExprIfOf<E> {
     /// The attributes.
     pub attrs: Vec<Attribute>,
@@ -79,12 +79,12 @@ pub struct ExprIfOf<E> {
     pub cond: Box<E>,
     /// The block that runs where it holds.
     pub then_branch: Block,
-    /// `else`, and the block or the `if` behind it.
+    /// `else`, and the block or the `if` after it.
     pub else_branch: Option<(Else, Box<E>)>,
 }
 
 /// `loop { .. }` (Rust Reference, "Infinite loops").
-#[derive(Drop, PartialEq)]
+#[derive(Debug, Drop, PartialEq)]
 pub struct ExprLoop {
     /// The attributes: those before it, and those first in its braces.
     pub attrs: Vec<Attribute>,
@@ -97,7 +97,7 @@ pub struct ExprLoop {
 }
 
 /// `try { .. }`, which is not stable.
-#[derive(Drop, PartialEq)]
+#[derive(Debug, Drop, PartialEq)]
 pub struct ExprTryBlock {
     /// The attributes.
     pub attrs: Vec<Attribute>,
@@ -110,7 +110,7 @@ pub struct ExprTryBlock {
 }
 
 /// `unsafe { .. }` (Rust Reference, "`unsafe` blocks").
-#[derive(Drop, PartialEq)]
+#[derive(Debug, Drop, PartialEq)]
 pub struct ExprUnsafe {
     /// The attributes: those before it, and those first in its braces.
     pub attrs: Vec<Attribute>,
@@ -121,7 +121,7 @@ pub struct ExprUnsafe {
 }
 
 /// `while a { .. }` (Rust Reference, "Predicate loops").
-#[derive(Drop, PartialEq)]
+#[derive(Debug, Drop, PartialEq)]
 pub struct ExprWhileOf<E> {
     /// The attributes: those before it, and those first in its braces.
     pub attrs: Vec<Attribute>,
@@ -280,7 +280,7 @@ impl ToTokens for ExprBlock {
 
     ghost printed = { λ x. whole enclosed (expr_block_of x) };
 
-    /// Puts a block behind its label; the inner attributes stand first in its braces.
+    /// Puts a block after its label; the inner attributes come first in its braces.
     fn to_tokens(&self, tokens: &mut TokenStream) -> Result<()> {
         let braces = Braces {
             attrs: &self.attrs,
@@ -300,7 +300,7 @@ impl ToTokens for ExprConst {
 
     ghost printed = { λ x. whole enclosed (expr_const_of x) };
 
-    /// Puts `const` and the block; the inner attributes stand first in its braces.
+    /// Puts `const` and the block; the inner attributes come first in its braces.
     fn to_tokens(&self, tokens: &mut TokenStream) -> Result<()> {
         let braces = Braces {
             attrs: &self.attrs,
@@ -320,7 +320,7 @@ impl<E: PutShape> ToTokens for ExprIfOf<E> {
 
     ghost printed = { λ x. whole enclosed (expr_if_of E.tree x) };
 
-    /// Puts `if`, the condition and the block, and behind `else` an `if`, a block, or anything else in braces.
+    /// Puts `if`, the condition and the block, and after `else` an `if`, a block, or anything else in braces.
     fn to_tokens(&self, tokens: &mut TokenStream) -> Result<()> {
         let frame = Frame::If(&self.if_token);
         let operands = Operands::If(&self.cond, &self.then_branch, &self.else_branch);
@@ -337,7 +337,7 @@ impl ToTokens for ExprLoop {
 
     ghost printed = { λ x. whole enclosed (expr_loop_of x) };
 
-    /// Puts `loop` behind its label, and the block; the inner attributes stand first in its braces.
+    /// Puts `loop` after its label, and the block; the inner attributes come first in its braces.
     fn to_tokens(&self, tokens: &mut TokenStream) -> Result<()> {
         let braces = Braces {
             attrs: &self.attrs,
@@ -373,7 +373,7 @@ impl ToTokens for ExprUnsafe {
 
     ghost printed = { λ x. whole enclosed (expr_unsafe_of x) };
 
-    /// Puts `unsafe` and the block; the inner attributes stand first in its braces.
+    /// Puts `unsafe` and the block; the inner attributes come first in its braces.
     fn to_tokens(&self, tokens: &mut TokenStream) -> Result<()> {
         let braces = Braces {
             attrs: &self.attrs,
@@ -393,7 +393,7 @@ impl<E: PutShape> ToTokens for ExprWhileOf<E> {
 
     ghost printed = { λ x. whole enclosed (expr_while_of E.tree x) };
 
-    /// Puts `while` behind its label, the condition and the block; the inner attributes stand first in its braces.
+    /// Puts `while` after its label, the condition and the block; the inner attributes come first in its braces.
     fn to_tokens(&self, tokens: &mut TokenStream) -> Result<()> {
         let braces = Braces {
             attrs: &self.attrs,
@@ -416,7 +416,7 @@ impl Parse for ExprAsync {
 
     ghost seen = { expr_async_of };
 
-    /// An `async` block stands before the rest.
+    /// An `async` block comes before the rest.
     ghost spells = { Alone is_async };
 
     ghost least = { 1 };
@@ -443,13 +443,13 @@ impl Parse for ExprBlock {
 
     ghost seen = { expr_block_of };
 
-    /// A block stands before the rest, behind attributes and a label or none.
+    /// A block comes before the rest, after attributes and a label or none.
     ghost spells = { Alone (behind_attributes is_block) };
 
     ghost least = { 1 };
 
-    /// Reads a block behind outer attributes and a label, or none (Rust Reference, "Block expressions", "Labelled block
-    /// expressions"). Inner attributes stand first in its braces.
+    /// Reads a block after outer attributes and a label, or none (Rust Reference, "Block expressions", "Labelled block
+    /// expressions"). Inner attributes come first in its braces.
     ///
     /// It is refused, memory aside, only where none stands, and the input then stays where it was: as its attributes
     /// and its label are, and as `ExpectedToken` of `{`.
@@ -470,13 +470,13 @@ impl Parse for ExprConst {
 
     ghost seen = { expr_const_of };
 
-    /// A `const` block stands before the rest.
+    /// A `const` block comes before the rest.
     ghost spells = { Alone is_const };
 
     ghost least = { 1 };
 
     /// Reads `const` and a block, without attributes before it (Rust Reference, "`const` blocks"). Inner attributes
-    /// stand first in its braces.
+    /// come first in its braces.
     ///
     /// It is refused, memory aside, only where none stands, and the input then stays where it was: as `ExpectedToken`
     /// of `const` or of `{`, and as its attributes are.
@@ -497,13 +497,13 @@ impl Parse for ExprLoop {
 
     ghost seen = { expr_loop_of };
 
-    /// A `loop` stands before the rest, behind attributes and a label or none.
+    /// A `loop` comes before the rest, after attributes and a label or none.
     ghost spells = { Alone (behind_attributes is_loop) };
 
     ghost least = { 1 };
 
-    /// Reads a `loop` behind outer attributes and a label, or none (Rust Reference, "Infinite loops"). Inner attributes
-    /// stand first in its braces.
+    /// Reads a `loop` after outer attributes and a label, or none (Rust Reference, "Infinite loops"). Inner attributes
+    /// come first in its braces.
     ///
     /// It is refused, memory aside, only where none stands, and the input then stays where it was: as its attributes
     /// and its label are, and as `ExpectedToken` of `loop` or of `{`.
@@ -524,7 +524,7 @@ impl Parse for ExprTryBlock {
 
     ghost seen = { expr_try_block_of };
 
-    /// A `try` block stands before the rest.
+    /// A `try` block comes before the rest.
     ghost spells = { Alone is_try_block };
 
     ghost least = { 1 };
@@ -550,13 +550,13 @@ impl Parse for ExprUnsafe {
 
     ghost seen = { expr_unsafe_of };
 
-    /// An `unsafe` block stands before the rest.
+    /// An `unsafe` block comes before the rest.
     ghost spells = { Alone is_unsafe };
 
     ghost least = { 1 };
 
     /// Reads `unsafe` and a block, without attributes before it (Rust Reference, "`unsafe` blocks"). Inner attributes
-    /// stand first in its braces.
+    /// come first in its braces.
     ///
     /// It is refused, memory aside, only where none stands, and the input then stays where it was: as `ExpectedToken`
     /// of `unsafe` or of `{`, and as its attributes are.
@@ -577,12 +577,12 @@ impl<E: ParseKinds> Parse for ExprIfOf<E> {
 
     ghost seen = { expr_if_of E.tree };
 
-    /// An `if` with all that belongs to it stands before the rest, behind attributes or none.
+    /// An `if` with all that belongs to it comes before the rest, after attributes or none.
     ghost spells = { Alone (behind_attributes is_if_expr) };
 
     ghost least = { 1 };
 
-    /// Reads an `if` behind outer attributes or none, with each `else` that follows (Rust Reference, "`if`
+    /// Reads an `if` after outer attributes or none, with each `else` that follows (Rust Reference, "`if`
     /// expressions").
     ///
     /// It is refused, memory aside, only where none stands, and the input then stays where it was: as its attributes
@@ -603,13 +603,13 @@ impl<E: ParseKinds> Parse for ExprWhileOf<E> {
 
     ghost seen = { expr_while_of E.tree };
 
-    /// A `while` stands before the rest, behind attributes and a label or none.
+    /// A `while` comes before the rest, after attributes and a label or none.
     ghost spells = { Alone (behind_attributes is_while) };
 
     ghost least = { 1 };
 
-    /// Reads a `while` behind outer attributes and a label, or none (Rust Reference, "Predicate loops"). Inner
-    /// attributes stand first in its braces.
+    /// Reads a `while` after outer attributes and a label, or none (Rust Reference, "Predicate loops"). Inner
+    /// attributes come first in its braces.
     ///
     /// It is refused, memory aside, only where none stands, and the input then stays where it was: as its attributes
     /// and its label are, as `ExpectedToken` of `while` or of `{`, and as its condition is.

@@ -17,7 +17,7 @@ use syn_lower::stmt::Block;
 use syn_tokens::token::{Brace, Paren};
 use syn_tokens::tree::TokenStream;
 
-/// Puts the braces of a block, behind the inner attributes of the node that has it.
+/// Puts the braces of a block, after the inner attributes of the node that has it.
 #[tactic(auto, using(syn_tokens::proofs::Fronts::fronts, crate::proofs::Attributes::attrs))]
 pub fn put_block(tokens: &mut TokenStream, attrs: &Vec<Attribute>, block: &Block) -> PutResult
     ensures ok { OnOk result (tokens.new ≡ tokens.old ++ body_own (body_of (inner_of attrs.now) block.now.stmts) []) }

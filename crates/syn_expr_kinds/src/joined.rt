@@ -1,4 +1,4 @@
-//! Attributes one behind the other.
+//! Attributes one after the other.
 
 ghost use Rattle.std.specs.Prelude.{◌≡◌, ◌++◌, true, IfOk};
 ghost use Rattle.syn_expr_kinds.specs.Attrs.{attrs_of, outer_of, inner_of};
@@ -7,7 +7,7 @@ ghost use Rattle.syn_parts.specs.PatFits.{attributes_outer};
 use std::alloc::AllocError;
 use syn_lower::attr::Attribute;
 
-/// The attributes, and more behind them.
+/// The attributes, and more after them.
 pub fn joined(
     mut attrs: Vec<Attribute>,
     mut more: Vec<Attribute>,

@@ -28,7 +28,7 @@ use syn_tokens::token::{Break, Continue, Return, Yield};
 use syn_tokens::tree::TokenStream;
 
 /// `break`, `break 'a b` (Rust Reference, "`break` expressions").
-#[derive(Drop, PartialEq)]
+#[derive(Debug, Drop, PartialEq)]
 pub struct ExprBreakOf<E> {
     /// The attributes.
     pub attrs: Vec<Attribute>,
@@ -41,7 +41,7 @@ pub struct ExprBreakOf<E> {
 }
 
 /// `continue`, `continue 'a` (Rust Reference, "`continue` expressions").
-#[derive(Drop, PartialEq)]
+#[derive(Debug, Drop, PartialEq)]
 pub struct ExprContinue {
     /// The attributes.
     pub attrs: Vec<Attribute>,
@@ -52,7 +52,7 @@ pub struct ExprContinue {
 }
 
 /// `return`, `return a` (Rust Reference, "`return` expressions").
-#[derive(Drop, PartialEq)]
+#[derive(Debug, Drop, PartialEq)]
 pub struct ExprReturnOf<E> {
     /// The attributes.
     pub attrs: Vec<Attribute>,
@@ -63,7 +63,7 @@ pub struct ExprReturnOf<E> {
 }
 
 /// `yield`, `yield a`, which is not stable.
-#[derive(Drop, PartialEq)]
+#[derive(Debug, Drop, PartialEq)]
 pub struct ExprYieldOf<E> {
     /// The attributes.
     pub attrs: Vec<Attribute>,
@@ -107,7 +107,7 @@ impl<E> ExprBreakOf<E> {
         }
     }
 
-    /// What stands before its operand, where it ends with one.
+    /// What comes before its operand, where it ends with one.
     pub fn prefix<P>(&self) -> Option<Prefix<'_, P>>
         ensures { (tree : E → Tree) (pat : P → PatView) → mapped (prefix_seen pat) result ≡ prefix_at (expr_break_of tree self.now) }
     {
@@ -155,7 +155,7 @@ impl<E> ExprReturnOf<E> {
         }
     }
 
-    /// What stands before its operand, where it ends with one.
+    /// What comes before its operand, where it ends with one.
     pub fn prefix<P>(&self) -> Option<Prefix<'_, P>>
         ensures { (tree : E → Tree) (pat : P → PatView) → mapped (prefix_seen pat) result ≡ prefix_at (expr_return_of tree self.now) }
     {
@@ -194,7 +194,7 @@ impl<E> ExprYieldOf<E> {
         }
     }
 
-    /// What stands before its operand, where it ends with one.
+    /// What comes before its operand, where it ends with one.
     pub fn prefix<P>(&self) -> Option<Prefix<'_, P>>
         ensures { (tree : E → Tree) (pat : P → PatView) → mapped (prefix_seen pat) result ≡ prefix_at (expr_yield_of tree self.now) }
     {
@@ -298,7 +298,7 @@ impl Parse for ExprContinue {
 
     ghost seen = { expr_continue_of };
 
-    /// `continue`, with a label or without, stands before the rest.
+    /// `continue`, with a label or without, comes before the rest.
     ghost spells = { Alone is_continue };
 
     ghost least = { 1 };
@@ -323,7 +323,7 @@ impl<E: ParseKinds> Parse for ExprBreakOf<E> {
 
     ghost seen = { expr_break_of E.tree };
 
-    /// `break` stands before the rest, with a label and a value or without.
+    /// `break` comes before the rest, with a label and a value or without.
     ghost spells = { Alone is_break };
 
     ghost least = { 1 };
@@ -349,7 +349,7 @@ impl<E: ParseKinds> Parse for ExprReturnOf<E> {
 
     ghost seen = { expr_return_of E.tree };
 
-    /// `return` stands before the rest, with a value or without.
+    /// `return` comes before the rest, with a value or without.
     ghost spells = { Alone is_return };
 
     ghost least = { 1 };
@@ -375,7 +375,7 @@ impl<E: ParseKinds> Parse for ExprYieldOf<E> {
 
     ghost seen = { expr_yield_of E.tree };
 
-    /// `yield` stands before the rest, with a value or without.
+    /// `yield` comes before the rest, with a value or without.
     ghost spells = { Alone is_yield };
 
     ghost least = { 1 };

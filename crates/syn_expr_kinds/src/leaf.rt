@@ -126,7 +126,7 @@ pub fn put_leaf(tokens: &mut TokenStream, leaf: Leaf<'_>) -> PutResult
     }
 }
 
-/// Puts what holds no expression, behind its attributes.
+/// Puts what holds no expression, after its attributes.
 #[tactic(auto, using(syn_tokens::proofs::Fronts::fronts))]
 pub fn put_whole_leaf(
     tokens: &mut TokenStream,

@@ -1,7 +1,7 @@
 //! The kinds of expressions (Rust Reference, "Expressions"), a struct each, as in syn.
 //!
 //! A struct that holds expressions is generic in them, so that it stands below the type of expressions: `ExprCallOf<Expr>` is
-//! syn's `ExprCall`. The kinds that hold patterns stand beside that type.
+//! syn's `ExprCall`. The kinds that hold patterns are beside that type.
 #![tactic(auto)]
 
 mod alone;

@@ -7,7 +7,7 @@ use crate::node::HasKind;
 use syn_expr_summaries::kind::NodeKind;
 use syn_expr_summaries::label::{FrameKind, LeafKind};
 
-/// Whether it is a block, a loop, an `if` or a `match`, behind attributes too: where it is the whole of a statement or of an
+/// Whether it is a block, a loop, an `if` or a `match`, after attributes too: where it is the whole of a statement or of an
 /// arm's body, no operator goes on it (Rust Reference, "Expression statements").
 #[tactic(auto, using(crate::proofs::Likes::likes))]
 pub fn is_block_like<E: HasKind>(x: &E) -> bool

@@ -37,13 +37,13 @@ use syn_tokens::tree::{Ident, TokenStream};
 pub enum Attributes<'a> {
     /// It has no place for any: its tokens are kept.
     None,
-    /// All stand before it.
+    /// All come before it.
     Before(&'a Vec<Attribute>),
-    /// The outer ones stand before it, the inner ones first in its braces.
+    /// The outer ones come before it, the inner ones first in its braces.
     Around(&'a Vec<Attribute>),
 }
 
-/// Braces with their block, and the attributes of the node that has them: the inner ones stand first in the braces.
+/// Braces with their block, and the attributes of the node that has them: the inner ones come first in the braces.
 #[derive(Clone, Copy)]
 pub struct Braces<'a> {
     /// The attributes of the node.
@@ -189,7 +189,7 @@ pub enum Operator<'a> {
     Range(&'a RangeLimits),
 }
 
-/// The tokens behind an operand with which a node begins.
+/// The tokens after an operand with which a node begins.
 #[derive(Clone, Copy)]
 pub enum Postfix<'a> {
     /// `as` and a type.
@@ -223,7 +223,7 @@ pub enum Frame<'a, P> {
     Tuple(&'a Paren),
     /// `[a; n]`
     Repeat(&'a Bracket),
-    /// `S { a: b, ..c }`; whether a `..` ends it with no expression behind.
+    /// `S { a: b, ..c }`; whether a `..` ends it with no expression after.
     Struct(&'a Option<QSelf>, &'a Path, &'a Brace, bool),
     /// A closure with an output.
     Closure(Closure<'a, P>),
@@ -255,7 +255,7 @@ impl<'a, P> Clone for Frame<'a, P> {
 pub enum Operands<'a, E, A> {
     /// None.
     None,
-    /// One: in parentheses, behind or before tokens, or the base of a trailer that holds none.
+    /// One: in parentheses, after or before tokens, or the base of a trailer that holds none.
     One(&'a Box<E>),
     /// The operands of an operator.
     Two(&'a Box<E>, &'a Box<E>),
@@ -271,7 +271,7 @@ pub enum Operands<'a, E, A> {
     Repeated(&'a Box<E>, &'a Semi, &'a Box<E>),
     /// The fields of a struct expression, `..` and what the other fields are taken of.
     Fields(&'a Punctuated<FieldValueOf<E>, Comma>, &'a Option<DotDot>, &'a Option<Box<E>>),
-    /// The condition of an `if`, its block, and what stands behind `else`.
+    /// The condition of an `if`, its block, and what comes after `else`.
     If(&'a Box<E>, &'a Block, &'a Option<(Else, Box<E>)>),
     /// The condition of a loop, or what gives its values, and its block.
     Loop(&'a Box<E>, Braces<'a>),
@@ -321,7 +321,7 @@ impl<'a, E, A> Operands<'a, E, A> {
         }
     }
 
-    /// The operand with which a node ends, or behind which its trailer stands.
+    /// The operand with which a node ends, or after which its trailer stands.
     #[tactic(auto, using(crate::proofs::Borrowed::based))]
     pub fn last(self) -> Option<&'a E>
         ensures { (tree : E → Tree) (arm : A → ArmView) → mapped (λ x. tree x.now) result ≡ last_of (operands_of tree arm self.entry) }
@@ -366,7 +366,7 @@ pub trait HasNode: HasExprTree {
 
 /// The type of expressions, as one asks for their kinds.
 pub trait HasKind: HasExprTree {
-    /// The kind of a node, whatever attributes stand before it.
+    /// The kind of a node, whatever attributes come before it.
     fn kind(&self) -> NodeKind
         ensures { result ≡ kind_at (Self.tree self.now) };
 }
@@ -385,7 +385,7 @@ pub trait HasShape: HasNode + HasKind {
     fn paren(&self) -> Option<&Paren>
         ensures { is_some result ≡ spec.is_paren (Self.tree self.now) };
 
-    /// What stands before an operand, with the guards in its patterns.
+    /// What comes before an operand, with the guards in its patterns.
     fn prefix(&self) -> Option<Prefix<'_, Self::Pat>>
         ensures { mapped (spec.prefix_seen Self.Pat.view) result ≡ spec.prefix_at (Self.tree self.now) };
 
@@ -393,11 +393,11 @@ pub trait HasShape: HasNode + HasKind {
     fn operator(&self) -> Option<Operator<'_>>
         ensures { mapped spec.operator_of result ≡ spec.operator_at (Self.tree self.now) };
 
-    /// What stands behind an operand.
+    /// What comes after an operand.
     fn postfix(&self) -> Option<Postfix<'_>>
         ensures { mapped spec.postfix_of result ≡ spec.postfix_at (Self.tree self.now) };
 
-    /// The trailer behind its base.
+    /// The trailer after its base.
     fn trailer(&self) -> Option<Trailer<'_>>
         ensures { mapped spec.trailer_of result ≡ spec.trailer_at (Self.tree self.now) };
 

@@ -30,7 +30,7 @@ use syn_tokens::token::{And, As, Eq, Mut, Raw};
 use syn_tokens::tree::TokenStream;
 
 /// `a = b` (Rust Reference, "Assignment expressions").
-#[derive(Drop, PartialEq)]
+#[derive(Debug, Drop, PartialEq)]
 pub struct ExprAssignOf<E> {
     /// The attributes.
     pub attrs: Vec<Attribute>,
@@ -44,7 +44,7 @@ pub struct ExprAssignOf<E> {
 
 /// `a + b`, `a += b` (Rust Reference, "Arithmetic and Logical Binary Operators", "Comparison Operators", "Lazy boolean
 /// operators", "Compound assignment expressions").
-#[derive(Drop, PartialEq)]
+#[derive(Debug, Drop, PartialEq)]
 pub struct ExprBinaryOf<E> {
     /// The attributes.
     pub attrs: Vec<Attribute>,
@@ -57,7 +57,7 @@ pub struct ExprBinaryOf<E> {
 }
 
 /// `a as T` (Rust Reference, "Type cast expressions").
-#[derive(Drop, PartialEq)]
+#[derive(Debug, Drop, PartialEq)]
 pub struct ExprCastOf<E> {
     /// The attributes.
     pub attrs: Vec<Attribute>,
@@ -70,7 +70,7 @@ pub struct ExprCastOf<E> {
 }
 
 /// `a..b`, `a..`, `..=b`, `..` (Rust Reference, "Range expressions").
-#[derive(Drop, PartialEq)]
+#[derive(Debug, Drop, PartialEq)]
 pub struct ExprRangeOf<E> {
     /// The attributes.
     pub attrs: Vec<Attribute>,
@@ -83,7 +83,7 @@ pub struct ExprRangeOf<E> {
 }
 
 /// `&raw const a`, `&raw mut a` (Rust Reference, "Raw borrow operators").
-#[derive(Drop, PartialEq)]
+#[derive(Debug, Drop, PartialEq)]
 pub struct ExprRawAddrOf<E> {
     /// The attributes.
     pub attrs: Vec<Attribute>,
@@ -98,7 +98,7 @@ pub struct ExprRawAddrOf<E> {
 }
 
 /// `&a`, `&mut a` (Rust Reference, "Borrow operators").
-#[derive(Drop, PartialEq)]
+#[derive(Debug, Drop, PartialEq)]
 pub struct ExprReferenceOf<E> {
     /// The attributes.
     pub attrs: Vec<Attribute>,
@@ -111,7 +111,7 @@ pub struct ExprReferenceOf<E> {
 }
 
 /// `*a`, `!a`, `-a` (Rust Reference, "The dereference operator", "Negation operators").
-#[derive(Drop, PartialEq)]
+#[derive(Debug, Drop, PartialEq)]
 pub struct ExprUnaryOf<E> {
     /// The attributes.
     pub attrs: Vec<Attribute>,
@@ -169,7 +169,7 @@ impl<E> ExprCastOf<E> {
         NodeKind::Postfix(PostfixKind::Cast { ends_open })
     }
 
-    /// What stands behind its operand.
+    /// What comes after its operand.
     pub fn postfix(&self) -> Postfix<'_>
         ensures { (tree : E → Tree) → Some (postfix_of result) ≡ postfix_at (expr_cast_of tree self.now) }
     {
@@ -208,7 +208,7 @@ impl<E> ExprRangeOf<E> {
         }
     }
 
-    /// What stands before its operand, where it ends with one.
+    /// What comes before its operand, where it ends with one.
     pub fn prefix<P>(&self) -> Option<Prefix<'_, P>>
         ensures { (tree : E → Tree) (pat : P → PatView) → mapped (prefix_seen pat) result ≡ prefix_at (expr_range_of tree self.now) }
     {
@@ -218,7 +218,7 @@ impl<E> ExprRangeOf<E> {
         }
     }
 
-    /// What stands behind its operand, where it begins with one.
+    /// What comes after its operand, where it begins with one.
     pub fn postfix(&self) -> Option<Postfix<'_>>
         ensures { (tree : E → Tree) → mapped postfix_of result ≡ postfix_at (expr_range_of tree self.now) }
     {
@@ -252,7 +252,7 @@ impl<E> ExprRangeOf<E> {
 }
 
 impl<E> ExprRawAddrOf<E> {
-    /// What stands before its operand.
+    /// What comes before its operand.
     pub fn prefix<P>(&self) -> Prefix<'_, P>
         ensures { (tree : E → Tree) (pat : P → PatView) → Some (prefix_seen pat result) ≡ prefix_at (expr_raw_addr_of tree self.now) }
     {
@@ -268,7 +268,7 @@ impl<E> ExprRawAddrOf<E> {
 }
 
 impl<E> ExprReferenceOf<E> {
-    /// What stands before its operand.
+    /// What comes before its operand.
     pub fn prefix<P>(&self) -> Prefix<'_, P>
         ensures { (tree : E → Tree) (pat : P → PatView) → Some (prefix_seen pat result) ≡ prefix_at (expr_reference_of tree self.now) }
     {
@@ -284,7 +284,7 @@ impl<E> ExprReferenceOf<E> {
 }
 
 impl<E> ExprUnaryOf<E> {
-    /// What stands before its operand.
+    /// What comes before its operand.
     pub fn prefix<P>(&self) -> Prefix<'_, P>
         ensures { (tree : E → Tree) (pat : P → PatView) → Some (prefix_seen pat result) ≡ prefix_at (expr_unary_of tree self.now) }
     {
@@ -419,7 +419,7 @@ impl<E: ParseKinds> Parse for ExprRawAddrOf<E> {
 
     ghost seen = { expr_raw_addr_of E.tree };
 
-    /// `&raw const` or `&raw mut` and an operand stand before the rest.
+    /// `&raw const` or `&raw mut` and an operand come before the rest.
     ghost spells = { Alone is_raw_addr };
 
     ghost least = { 1 };
@@ -445,13 +445,13 @@ impl<E: ParseKinds> Parse for ExprReferenceOf<E> {
 
     ghost seen = { expr_reference_of E.tree };
 
-    /// `&`, `mut` or not, and an operand stand before the rest.
+    /// `&`, `mut` or not, and an operand come before the rest.
     ghost spells = { ReferenceAlone };
 
     ghost least = { 1 };
 
     /// Reads `&`, `mut` or not, and the operand, which takes no operator, without attributes before them (Rust
-    /// Reference, "Borrow operators"). The word `raw` behind `&` is a path here: what stands behind it is left.
+    /// Reference, "Borrow operators"). The word `raw` after `&` is a path here: what comes after it is left.
     ///
     /// It is refused, memory aside, only where none stands, and the input then stays where it was: as `ExpectedToken`
     /// of `&`, and as the operand is.
@@ -471,7 +471,7 @@ impl<E: ParseKinds> Parse for ExprUnaryOf<E> {
 
     ghost seen = { expr_unary_of E.tree };
 
-    /// `*`, `!` or `-` and an operand stand before the rest.
+    /// `*`, `!` or `-` and an operand come before the rest.
     ghost spells = { Alone is_unary };
 
     ghost least = { 1 };
@@ -497,13 +497,13 @@ impl<E: ParseKinds> Parse for ExprAssignOf<E> {
 
     ghost seen = { expr_assign_of E.tree };
 
-    /// An expression stands before the rest, by the binding rules, that is an assignment.
+    /// An expression comes before the rest, by the binding rules, that is an assignment.
     ghost spells = { OfKind is_assign };
 
     ghost least = { 1 };
 
     /// Reads an expression that is an assignment, with attributes before it or without (Rust Reference, "Assignment
-    /// expressions"). Invisible groups that it stands in are looked through, and left out with the attributes before
+    /// expressions"). Invisible groups that it is in are looked through, and left out with the attributes before
     /// them.
     ///
     /// It is refused, memory aside, only where none stands, and the input then stays where it was: as an expression is,
@@ -525,14 +525,14 @@ impl<E: ParseKinds> Parse for ExprBinaryOf<E> {
 
     ghost seen = { expr_binary_of E.tree };
 
-    /// An expression stands before the rest, by the binding rules, that is an operation with a binary operator.
+    /// An expression comes before the rest, by the binding rules, that is an operation with a binary operator.
     ghost spells = { OfKind is_binary };
 
     ghost least = { 1 };
 
     /// Reads an expression that is an operation with a binary operator, with attributes before it or without (Rust
     /// Reference, "Arithmetic and Logical Binary Operators", "Comparison Operators", "Lazy boolean operators",
-    /// "Compound assignment expressions"). Invisible groups that it stands in are looked through, and left out with the
+    /// "Compound assignment expressions"). Invisible groups that it is in are looked through, and left out with the
     /// attributes before them.
     ///
     /// It is refused, memory aside, only where none stands, and the input then stays where it was: as an expression is,
@@ -555,13 +555,13 @@ impl<E: ParseKinds> Parse for ExprCastOf<E> {
 
     ghost seen = { expr_cast_of E.tree };
 
-    /// An expression stands before the rest, by the binding rules, that is a cast.
+    /// An expression comes before the rest, by the binding rules, that is a cast.
     ghost spells = { OfKind is_cast };
 
     ghost least = { 1 };
 
     /// Reads an expression that is a cast, with attributes before it or without (Rust Reference, "Type cast
-    /// expressions"). Invisible groups that it stands in are looked through, and left out with the attributes before
+    /// expressions"). Invisible groups that it is in are looked through, and left out with the attributes before
     /// them.
     ///
     /// It is refused, memory aside, only where none stands, and the input then stays where it was: as an expression is,
@@ -584,13 +584,13 @@ impl<E: ParseKinds> Parse for ExprRangeOf<E> {
 
     ghost seen = { expr_range_of E.tree };
 
-    /// An expression stands before the rest, by the binding rules, that is a range.
+    /// An expression comes before the rest, by the binding rules, that is a range.
     ghost spells = { OfKind is_range };
 
     ghost least = { 1 };
 
     /// Reads an expression that is a range, with attributes before it or without (Rust Reference, "Range expressions").
-    /// Invisible groups that it stands in are looked through, and left out with the attributes before them.
+    /// Invisible groups that it is in are looked through, and left out with the attributes before them.
     ///
     /// It is refused, memory aside, only where none stands, and the input then stays where it was: as an expression is,
     /// and where another kind stands, as `ExpectedExprKind`, from the first token of this to its last.

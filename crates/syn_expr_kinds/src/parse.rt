@@ -24,7 +24,7 @@ use syn_tokens::error::{Result, WantedKind};
 
 /// The type of expressions, as what reads a field of a struct expression by itself.
 pub trait ParseField: HasExprTree {
-    /// Reads a field, without the comma behind it. The input stays where it was where it is refused.
+    /// Reads a field, without the comma after it. The input stays where it was where it is refused.
     fn parse_field(input: &mut ParseBuffer<'_>) -> Result<FieldValueOf<Self>>
         ensures { ReadsExactly (field_value_of Self.tree) FieldStands input.old result input.new };
 }
@@ -44,11 +44,11 @@ pub trait ParseKinds: HasExprTree {
     fn parse_expr_repeat(input: &mut ParseBuffer<'_>) -> Result<ExprRepeatOf<Self>>
         ensures { ReadsExactly (expr_repeat_of Self.tree) (Alone is_repeat) input.old result input.new };
 
-    /// Reads an `if` behind outer attributes or none, with each `else` that follows.
+    /// Reads an `if` after outer attributes or none, with each `else` that follows.
     fn parse_expr_if(input: &mut ParseBuffer<'_>) -> Result<ExprIfOf<Self>>
         ensures { ReadsExactly (expr_if_of Self.tree) (Alone (behind_attributes is_if_expr)) input.old result input.new };
 
-    /// Reads a `while` behind outer attributes and a label, or none.
+    /// Reads a `while` after outer attributes and a label, or none.
     fn parse_expr_while(input: &mut ParseBuffer<'_>) -> Result<ExprWhileOf<Self>>
         ensures { ReadsExactly (expr_while_of Self.tree) (Alone (behind_attributes is_while)) input.old result input.new };
 
@@ -100,7 +100,7 @@ pub trait ParseKinds: HasExprTree {
         ensures exact { ReadsExactly (expr_range_of Self.tree) (OfKind is_range) input.old result input.new }
         ensures others { RefusesOthers is_range WantedKind.Range input.old result };
 
-    /// Reads an expression that is `.await` behind an operand, with attributes before it or without.
+    /// Reads an expression that is `.await` after an operand, with attributes before it or without.
     fn parse_expr_await(input: &mut ParseBuffer<'_>) -> Result<ExprAwaitOf<Self>>
         ensures exact { ReadsExactly (expr_await_of Self.tree) (OfKind is_await) input.old result input.new }
         ensures others { RefusesOthers is_await WantedKind.Await input.old result };
@@ -110,12 +110,12 @@ pub trait ParseKinds: HasExprTree {
         ensures exact { ReadsExactly (expr_call_of Self.tree) (OfKind is_call) input.old result input.new }
         ensures others { RefusesOthers is_call WantedKind.Call input.old result };
 
-    /// Reads an expression that is a field behind an operand, with attributes before it or without.
+    /// Reads an expression that is a field after an operand, with attributes before it or without.
     fn parse_expr_field(input: &mut ParseBuffer<'_>) -> Result<ExprFieldOf<Self>>
         ensures exact { ReadsExactly (expr_field_of Self.tree) (OfKind is_field) input.old result input.new }
         ensures others { RefusesOthers is_field WantedKind.Field input.old result };
 
-    /// Reads an expression that is an index behind an operand, with attributes before it or without.
+    /// Reads an expression that is an index after an operand, with attributes before it or without.
     fn parse_expr_index(input: &mut ParseBuffer<'_>) -> Result<ExprIndexOf<Self>>
         ensures exact { ReadsExactly (expr_index_of Self.tree) (OfKind is_index) input.old result input.new }
         ensures others { RefusesOthers is_index WantedKind.Index input.old result };
@@ -125,7 +125,7 @@ pub trait ParseKinds: HasExprTree {
         ensures exact { ReadsExactly (expr_method_call_of Self.tree) (OfKind is_method_call) input.old result input.new }
         ensures others { RefusesOthers is_method_call WantedKind.MethodCall input.old result };
 
-    /// Reads an expression that is `?` behind an operand, with attributes before it or without.
+    /// Reads an expression that is `?` after an operand, with attributes before it or without.
     fn parse_expr_try(input: &mut ParseBuffer<'_>) -> Result<ExprTryOf<Self>>
         ensures exact { ReadsExactly (expr_try_of Self.tree) (OfKind is_try) input.old result input.new }
         ensures others { RefusesOthers is_try WantedKind.Try input.old result };
@@ -144,12 +144,12 @@ impl<E: ParseField> Parse for FieldValueOf<E> {
 
     ghost seen = { field_value_of E.tree };
 
-    /// The field stands before the rest: its attributes, its member, and its value.
+    /// The field comes before the rest: its attributes, its member, and its value.
     ghost spells = { FieldStands };
 
     ghost least = { 1 };
 
-    /// Reads a field of a struct expression, without the comma behind it: outer attributes, a member, and its value behind a
+    /// Reads a field of a struct expression, without the comma after it: outer attributes, a member, and its value after a
     /// colon, which only a name may be without (Rust Reference, "Struct expressions").
     ///
     /// It is refused, memory aside, only where none stands, and the input then stays where it was: as `ExpectedMember` where

@@ -1,5 +1,5 @@
 //! The parts of what holds both expressions and patterns. The type of expressions makes its own structs of them: a struct
-//! that is generic in both could not stand in that type.
+//! that is generic in both could not are in that type.
 
 use syn_expr_parts::label::Label;
 use syn_expr_parts::modifiers::ClosureModifiers;
@@ -12,7 +12,7 @@ use syn_tokens::token::{
 };
 
 /// `|a, b| a + b`, `move |a| -> T { .. }` (Rust Reference, "Closure expressions").
-#[derive(Drop, PartialEq)]
+#[derive(Debug, Drop, PartialEq)]
 pub struct ExprClosureOf<E, P> {
     /// The attributes.
     pub attrs: Vec<Attribute>,
@@ -30,7 +30,7 @@ pub struct ExprClosureOf<E, P> {
     pub inputs_begin: Or,
     /// The arguments.
     pub inputs: Punctuated<P, Comma>,
-    /// The `|` behind the arguments.
+    /// The `|` after the arguments.
     pub inputs_end: Or,
     /// The type of its value; where one is given the body is a block.
     pub output: ReturnType,
@@ -39,7 +39,7 @@ pub struct ExprClosureOf<E, P> {
 }
 
 /// `for p in a { .. }` (Rust Reference, "Iterator loops").
-#[derive(Drop, PartialEq)]
+#[derive(Debug, Drop, PartialEq)]
 pub struct ExprForLoopOf<E, P> {
     /// The attributes: those before it, and those first in its braces.
     pub attrs: Vec<Attribute>,
@@ -58,7 +58,7 @@ pub struct ExprForLoopOf<E, P> {
 }
 
 /// `let p = a`, in a condition (Rust Reference, "`if let` patterns", "`while let` patterns").
-#[derive(Drop, PartialEq)]
+#[derive(Debug, Drop, PartialEq)]
 pub struct ExprLetOf<E, P> {
     /// The attributes.
     pub attrs: Vec<Attribute>,
@@ -73,7 +73,7 @@ pub struct ExprLetOf<E, P> {
 }
 
 /// `match a { p => b, .. }` (Rust Reference, "Match expressions"), over the type of arms.
-#[derive(Drop, PartialEq)]
+#[derive(Debug, Drop, PartialEq)]
 pub struct ExprMatchOf<E, A> {
     /// The attributes: those before it, and those first in its braces.
     pub attrs: Vec<Attribute>,
@@ -88,7 +88,7 @@ pub struct ExprMatchOf<E, A> {
 }
 
 /// `p if a => b,` (Rust Reference, "Match expressions").
-#[derive(Drop, PartialEq)]
+#[derive(Debug, Drop, PartialEq)]
 pub struct ArmOf<E, P> {
     /// The attributes.
     pub attrs: Vec<Attribute>,
@@ -103,7 +103,7 @@ pub struct ArmOf<E, P> {
 }
 
 /// `p if a`, a pattern with a guard (Rust Reference, "Match guards").
-#[derive(Drop, PartialEq)]
+#[derive(Debug, Drop, PartialEq)]
 pub struct PatGuardOf<E, P> {
     /// The attributes.
     pub attrs: Vec<Attribute>,

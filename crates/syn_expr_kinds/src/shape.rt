@@ -23,13 +23,13 @@ use syn_op::limits::RangeLimits;
 use syn_tokens::token::{Bracket, Comma, Paren};
 use syn_tokens::tree::TokenStream;
 
-/// The type of expressions, as what puts a node by itself: behind its attributes, with the parentheses that it needs inside and
+/// The type of expressions, as what puts a node by itself: after its attributes, with the parentheses that it needs inside and
 /// no others. Each shape has a call of its own, which is lent the parts of the node.
 ///
-/// An operation that has attributes stands in parentheses behind them, since they would be those of its first operand. That
+/// An operation that has attributes is in parentheses after them, since they would be those of its first operand. That
 /// memory ran out is all that a call is refused for; a part of the tokens may then follow what was there.
 pub trait PutShape: HasShape {
-    /// Puts parentheses with what stands in them.
+    /// Puts parentheses with what is in them.
     fn put_paren(
         tokens: &mut TokenStream,
         attributes: Attributes<'_>,
@@ -39,7 +39,7 @@ pub trait PutShape: HasShape {
         ensures text { OnOk result (tokens.new ≡ tokens.old ++ whole enclosed (attributed_with (before_of attributes.entry) (e.paren false (Self.tree x.now)))) }
         ensures front { IsFront tokens.old tokens.new };
 
-    /// Puts what stands before an operand, and the operand.
+    /// Puts what comes before an operand, and the operand.
     fn put_prefix(
         tokens: &mut TokenStream,
         attributes: Attributes<'_>,
@@ -61,7 +61,7 @@ pub trait PutShape: HasShape {
         ensures text { OnOk result (tokens.new ≡ tokens.old ++ whole enclosed (attributed_with (attrs_of attrs.now) (e.infixed (Self.tree x.now) (operator_of operator.entry) (Self.tree y.now)))) }
         ensures front { IsFront tokens.old tokens.new };
 
-    /// Puts an operand, and what stands behind it.
+    /// Puts an operand, and what comes after it.
     fn put_postfix(
         tokens: &mut TokenStream,
         attrs: &Vec<Attribute>,
@@ -125,7 +125,7 @@ pub trait PutShape: HasShape {
         ensures text { OnOk result (tokens.new ≡ tokens.old ++ whole enclosed (attributed_with (before_of attributes.entry) (e.frame (frame_of Self.Pat.view frame.entry) (strays (frame_guards Self.Pat.view frame.entry) (operand_children (operands_of Self.tree Self.Arm.view operands.entry)))))) }
         ensures front { IsFront tokens.old tokens.new };
 
-    /// Puts a field of a struct expression, without a comma behind it.
+    /// Puts a field of a struct expression, without a comma after it.
     fn put_field(tokens: &mut TokenStream, field: &FieldValueOf<Self>) -> PutResult
         ensures text { OnOk result (tokens.new ≡ tokens.old ++ field_spelled (field_value_of Self.tree field.now)) }
         ensures front { IsFront tokens.old tokens.new };

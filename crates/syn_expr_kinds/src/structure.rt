@@ -23,7 +23,7 @@ use syn_tokens::token::{Brace, Colon, Comma, DotDot};
 use syn_tokens::tree::TokenStream;
 
 /// `S { a: 1, b, ..rest }` (Rust Reference, "Struct expressions").
-#[derive(Drop, PartialEq)]
+#[derive(Debug, Drop, PartialEq)]
 pub struct ExprStructOf<E> {
     /// The attributes.
     pub attrs: Vec<Attribute>,
@@ -42,7 +42,7 @@ pub struct ExprStructOf<E> {
 }
 
 /// `a: 1`, `0: x`, `b` (Rust Reference, "Struct expressions").
-#[derive(Drop, PartialEq)]
+#[derive(Debug, Drop, PartialEq)]
 pub struct FieldValueOf<E> {
     /// The attributes.
     pub attrs: Vec<Attribute>,
@@ -100,7 +100,7 @@ impl<E: PutShape> ToTokens for FieldValueOf<E> {
 
     ghost printed = { λ x. field_spelled (field_value_of E.tree x) };
 
-    /// Puts the attributes and the name or index, and behind a colon the value. No comma stands behind it.
+    /// Puts the attributes and the name or index, and after a colon the value. No comma comes after it.
     fn to_tokens(&self, tokens: &mut TokenStream) -> Result<()> {
         E::put_field(tokens, self)?;
         Ok(())
@@ -116,7 +116,7 @@ impl<E: ParseKinds> Parse for ExprStructOf<E> {
 
     ghost seen = { expr_struct_of E.tree };
 
-    /// A struct expression stands before the rest; its path may be `try`.
+    /// A struct expression comes before the rest; its path may be `try`.
     ghost spells = { StructAlone };
 
     ghost least = { 1 };

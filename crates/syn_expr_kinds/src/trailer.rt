@@ -1,4 +1,4 @@
-//! What stands behind an operand: calls, indices, fields, `.await` and `?`.
+//! What comes after an operand: calls, indices, fields, `.await` and `?`.
 #![tactic(auto, using(crate::proofs::Shapes::shapes))]
 
 ghost use Rattle.std.specs.Prelude.{◌≡◌, Some};
@@ -25,7 +25,7 @@ use syn_tokens::token::{Await, Bracket, Comma, Dot, Paren, Question};
 use syn_tokens::tree::{Ident, TokenStream};
 
 /// `a.await` (Rust Reference, "Await expressions").
-#[derive(Drop, PartialEq)]
+#[derive(Debug, Drop, PartialEq)]
 pub struct ExprAwaitOf<E> {
     /// The attributes.
     pub attrs: Vec<Attribute>,
@@ -38,7 +38,7 @@ pub struct ExprAwaitOf<E> {
 }
 
 /// `f(a, b)` (Rust Reference, "Call expressions").
-#[derive(Drop, PartialEq)]
+#[derive(Debug, Drop, PartialEq)]
 pub struct ExprCallOf<E> {
     /// The attributes.
     pub attrs: Vec<Attribute>,
@@ -51,7 +51,7 @@ pub struct ExprCallOf<E> {
 }
 
 /// `a.b`, `a.0` (Rust Reference, "Field access expressions", "Tuple indexing expressions").
-#[derive(Drop, PartialEq)]
+#[derive(Debug, Drop, PartialEq)]
 pub struct ExprFieldOf<E> {
     /// The attributes.
     pub attrs: Vec<Attribute>,
@@ -64,7 +64,7 @@ pub struct ExprFieldOf<E> {
 }
 
 /// `a[i]` (Rust Reference, "Array and slice indexing expressions").
-#[derive(Drop, PartialEq)]
+#[derive(Debug, Drop, PartialEq)]
 pub struct ExprIndexOf<E> {
     /// The attributes.
     pub attrs: Vec<Attribute>,
@@ -77,7 +77,7 @@ pub struct ExprIndexOf<E> {
 }
 
 /// `a.f(b)`, `a.f::<T>(b)` (Rust Reference, "Method-call expressions").
-#[derive(Drop, PartialEq)]
+#[derive(Debug, Drop, PartialEq)]
 pub struct ExprMethodCallOf<E> {
     /// The attributes.
     pub attrs: Vec<Attribute>,
@@ -96,7 +96,7 @@ pub struct ExprMethodCallOf<E> {
 }
 
 /// `a?` (Rust Reference, "The try propagation expression").
-#[derive(Drop, PartialEq)]
+#[derive(Debug, Drop, PartialEq)]
 pub struct ExprTryOf<E> {
     /// The attributes.
     pub attrs: Vec<Attribute>,
@@ -343,13 +343,13 @@ impl<E: ParseKinds> Parse for ExprAwaitOf<E> {
 
     ghost seen = { expr_await_of E.tree };
 
-    /// An expression stands before the rest, by the binding rules, that is `.await` behind an operand.
+    /// An expression comes before the rest, by the binding rules, that is `.await` after an operand.
     ghost spells = { OfKind is_await };
 
     ghost least = { 1 };
 
-    /// Reads an expression that is `.await` behind an operand, with attributes before it or without (Rust Reference,
-    /// "Await expressions"). Invisible groups that it stands in are looked through, and left out with the attributes
+    /// Reads an expression that is `.await` after an operand, with attributes before it or without (Rust Reference,
+    /// "Await expressions"). Invisible groups that it is in are looked through, and left out with the attributes
     /// before them.
     ///
     /// It is refused, memory aside, only where none stands, and the input then stays where it was: as an expression is,
@@ -371,13 +371,13 @@ impl<E: ParseKinds> Parse for ExprCallOf<E> {
 
     ghost seen = { expr_call_of E.tree };
 
-    /// An expression stands before the rest, by the binding rules, that is a call.
+    /// An expression comes before the rest, by the binding rules, that is a call.
     ghost spells = { OfKind is_call };
 
     ghost least = { 1 };
 
     /// Reads an expression that is a call, with attributes before it or without (Rust Reference, "Call expressions").
-    /// Invisible groups that it stands in are looked through, and left out with the attributes before them.
+    /// Invisible groups that it is in are looked through, and left out with the attributes before them.
     ///
     /// It is refused, memory aside, only where none stands, and the input then stays where it was: as an expression is,
     /// and where another kind stands, as `ExpectedExprKind`, from the first token of this to its last.
@@ -398,13 +398,13 @@ impl<E: ParseKinds> Parse for ExprFieldOf<E> {
 
     ghost seen = { expr_field_of E.tree };
 
-    /// An expression stands before the rest, by the binding rules, that is a field behind an operand.
+    /// An expression comes before the rest, by the binding rules, that is a field after an operand.
     ghost spells = { OfKind is_field };
 
     ghost least = { 1 };
 
-    /// Reads an expression that is a field behind an operand, with attributes before it or without (Rust Reference,
-    /// "Field access expressions", "Tuple indexing expressions"). Invisible groups that it stands in are looked
+    /// Reads an expression that is a field after an operand, with attributes before it or without (Rust Reference,
+    /// "Field access expressions", "Tuple indexing expressions"). Invisible groups that it is in are looked
     /// through, and left out with the attributes before them.
     ///
     /// It is refused, memory aside, only where none stands, and the input then stays where it was: as an expression is,
@@ -426,13 +426,13 @@ impl<E: ParseKinds> Parse for ExprIndexOf<E> {
 
     ghost seen = { expr_index_of E.tree };
 
-    /// An expression stands before the rest, by the binding rules, that is an index behind an operand.
+    /// An expression comes before the rest, by the binding rules, that is an index after an operand.
     ghost spells = { OfKind is_index };
 
     ghost least = { 1 };
 
-    /// Reads an expression that is an index behind an operand, with attributes before it or without (Rust Reference,
-    /// "Array and slice indexing expressions"). Invisible groups that it stands in are looked through, and left out
+    /// Reads an expression that is an index after an operand, with attributes before it or without (Rust Reference,
+    /// "Array and slice indexing expressions"). Invisible groups that it is in are looked through, and left out
     /// with the attributes before them.
     ///
     /// It is refused, memory aside, only where none stands, and the input then stays where it was: as an expression is,
@@ -454,13 +454,13 @@ impl<E: ParseKinds> Parse for ExprMethodCallOf<E> {
 
     ghost seen = { expr_method_call_of E.tree };
 
-    /// An expression stands before the rest, by the binding rules, that is the call of a method.
+    /// An expression comes before the rest, by the binding rules, that is the call of a method.
     ghost spells = { OfKind is_method_call };
 
     ghost least = { 1 };
 
     /// Reads an expression that is the call of a method, with attributes before it or without (Rust Reference,
-    /// "Method-call expressions"). Invisible groups that it stands in are looked through, and left out with the
+    /// "Method-call expressions"). Invisible groups that it is in are looked through, and left out with the
     /// attributes before them.
     ///
     /// It is refused, memory aside, only where none stands, and the input then stays where it was: as an expression is,
@@ -482,13 +482,13 @@ impl<E: ParseKinds> Parse for ExprTryOf<E> {
 
     ghost seen = { expr_try_of E.tree };
 
-    /// An expression stands before the rest, by the binding rules, that is `?` behind an operand.
+    /// An expression comes before the rest, by the binding rules, that is `?` after an operand.
     ghost spells = { OfKind is_try };
 
     ghost least = { 1 };
 
-    /// Reads an expression that is `?` behind an operand, with attributes before it or without (Rust Reference, "The
-    /// try propagation expression"). Invisible groups that it stands in are looked through, and left out with the
+    /// Reads an expression that is `?` after an operand, with attributes before it or without (Rust Reference, "The
+    /// try propagation expression"). Invisible groups that it is in are looked through, and left out with the
     /// attributes before them.
     ///
     /// It is refused, memory aside, only where none stands, and the input then stays where it was: as an expression is,

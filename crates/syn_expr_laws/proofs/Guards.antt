@@ -1,4 +1,4 @@
--- Guards stand beside a pattern's tree, from left to right, as many as it has places for: so the tree of a list of patterns
+-- Guards are beside a pattern's tree, from left to right, as many as it has places for: so the tree of a list of patterns
 -- and the guards of all tell the guards of each.
 use Rattle.std.proofs.Common.{◌≡◌, ℕ, ◌+◌, Bool, true, false, List, [], ◌∷◌, ◌++◌, map, flat_map, length, refl, sym, ◌∙◌, ap}
 use Rattle.std.proofs.lemmas.List.{length-append}

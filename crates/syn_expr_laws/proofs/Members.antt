@@ -75,7 +75,7 @@ match_with a p = frame e.match_expr (child e.scrutinee (e.opened a) p.0 (arms p.
 pub match_once : (a b : List AttributeTree) (p q : Tree × List ArmView) → match_with a p ≡ match_with b q → (a ≡ b) × (p ≡ q)
 match_once a b p q h = let k : arms p.1 ≡ arms q.1 = cc in (cc, pair_path (cc) (arms_once p.1 q.1 k))
 
--- the guards of a pattern and one behind them
+-- the guards of a pattern and one after them
 pub last_once : (gs hs : List Tree) (g h : Tree) → gs ++ g ∷ [] ≡ hs ++ h ∷ [] → (gs ≡ hs) × (g ≡ h)
 last_once [] [] g h k = (refl, cc)
 last_once [] (b ∷ []) g h k = absurd cc

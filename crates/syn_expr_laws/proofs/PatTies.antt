@@ -81,7 +81,7 @@ use Rattle.syn_expr_laws.proofs.Shapes.{Attrs, attrs_test, attrs_tie, PunctTest}
 use Rattle.syn_expr_laws.proofs.Guards.{IsFilled, is_bare, attributed_once, views_once, view_path, split, field_places}
 use Rattle.syn_expr_laws.proofs.KindTies.{no_dict, limits_tie, qself_same, qself_or_tie}
 
--- ---- a pattern behind its attributes
+-- ---- a pattern after its attributes
 
 pub pat_tie : {A B : Type 0} (attrs : A → Attrs) {v : A → B} {F : A → A → Bool} (tree : B → PatTree) (gs : B → List Tree) → ((b : B) → is_bare (tree b) ≡ true)
     → ((x y : A) → tree (v x) ≡ tree (v y) → gs (v x) ≡ gs (v y) → v x ≡ v y) → IsEqualityOf v F

@@ -249,7 +249,7 @@ kind_closure p = by p.1.1.1.1.1.1.0
     by default = refl
     by (given x) = refl
 
--- what stands behind the attributes of each
+-- what comes after the attributes of each
 abbrev loop_core : ExprForLoop → Tree
 loop_core x = let c = out-ExprForLoop x in loop_with (inner_of c.attrs) (mapped label_of c.label, (((pat_of c.pat.value).tree, (pat_of c.pat.value).guards), (tree_of c.expr.value, c.body.stmts)))
 

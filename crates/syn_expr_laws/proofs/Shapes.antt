@@ -32,7 +32,7 @@ pub attrs_tie : IsEqualityOf attrs_of attrs_test
 unfolding attrs_of
 attrs_tie = on_tie {C = Attrs} (λ v. v.items) (list_tie attribute_tie)
 
--- no attributes stand before it
+-- no attributes come before it
 abbrev pub is_core : Tree → Bool
 is_core (attributed a more t) = false
 is_core _ = true
@@ -43,14 +43,14 @@ attributed_with_once [] (b ∷ bs) t u p q h = absurd (let k : true ≡ false = 
 attributed_with_once (a ∷ ms) [] t u p q h = absurd (let k : false ≡ true = ap is_core h ∙ q in cc)
 attributed_with_once (a ∷ ms) (b ∷ bs) t u p q h = (cc, cc)
 
--- a node behind its attributes
+-- a node after its attributes
 pub behind_tie : {A : Type 0} (attrs : A → Attrs) {core : A → Tree} {F : A → A → Bool} → ((x : A) → is_core (core x) ≡ true) → IsEqualityOf core F
     → IsEqualityOf (λ x. attributed_with (attrs_of (attrs x)) (core x)) (λ x y. attrs_test (attrs x) (attrs y) && F x y)
 behind_tie {A} attrs {core} plain t =
     into_tie {f = λ x. (attrs_of (attrs x), core x)} (λ x. attributed_with (attrs_of (attrs x)) (core x)) (λ x y h i. attributed_with (h i).0 (h i).1)
     (λ x y h. let r = attributed_with_once (attrs_of (attrs x)) (attrs_of (attrs y)) (core x) (core y) (plain x) (plain y) h in pair_path r.0 r.1) (both_tie (on_tie attrs attrs_tie) t)
 
--- a node behind its outer attributes, with the inner ones in its braces
+-- a node after its outer attributes, with the inner ones in its braces
 pub around_tie : {A B : Type 0} (attrs : A → Attrs) {g : A → B} {F : A → A → Bool} (make : List AttributeTree → B → Tree) → ((a : List AttributeTree) (p : B) → is_core (make a p) ≡ true)
     → ((a b : List AttributeTree) (p q : B) → make a p ≡ make b q → (a ≡ b) × (p ≡ q)) → IsEqualityOf g F
     → IsEqualityOf (λ x. attributed_with (outer_of (attrs x)) (make (inner_of (attrs x)) (g x))) (λ x y. attrs_test (attrs x) (attrs y) && F x y)

@@ -55,7 +55,7 @@ comma_known (f ∷ []) true d (Some x) = refl
 comma_known (f ∷ []) false d (Some x) = refl
 comma_known (f ∷ g ∷ fs) t d r = comma_known (g ∷ fs) t d r
 
--- with no rest the struct expression itself says whether `..` stands there
+-- with no rest the struct expression itself says whether `..` is there
 dots_known : (d c : Bool) (r s : Option Tree) → (d && not (is_some r)) ≡ (c && not (is_some s)) → mapped {B = Bool × Tree} (λ x. (d, x)) r ≡ mapped {B = Bool × Tree} (λ x. (c, x)) s → (d ≡ c) × (r ≡ s)
 dots_known true true None None h k = (refl, refl)
 dots_known true false None None h k = absurd cc

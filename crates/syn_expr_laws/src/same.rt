@@ -1,6 +1,6 @@
 //! Equality of expressions, which ignores their places: what their derived `==` answers, as contracts of functions that do
-//! nothing. Attributes before a node and in its braces count in their order, and a guard with the pattern that it stands
-//! behind: the tree shows both.
+//! nothing. Attributes before a node and in its braces count in their order, and a guard with the pattern that it is
+//! after: the tree shows both.
 
 ghost use Rattle.syn_expr_all.specs.View.{arm_of, let_of, match_of, closure_of, for_loop_of, guard_of, pat_of, tree_of};
 ghost use Rattle.syn_expr_kinds.specs.View.{field_value_of};

@@ -1,4 +1,4 @@
--- A field by itself is read exactly where it stands.
+-- A field by itself is read exactly where it is.
 use Rattle.std.proofs.Common.{◌≡◌, true, false, List, Some, refl, subst}
 use Rattle.syn_tokens.specs.Tok.{Tok}
 use Rattle.syn_parts.specs.Pat.{a_name, an_index}

@@ -238,7 +238,7 @@ comma_kind l q h =
     (λ j. let (a, b) = only_some (is_empty l) (Some (tr.no_ending, l)) q j.1 in inr (sym (ap (λ (r : Ending × List Tok). r.0) (some_is b))))
     (chosen (comma.at l) (Some (tr.comma, drop 1 l)) (cond (is_empty l) (Some (tr.no_ending, l)) None) (Some q) h)
 
--- the turn, by what stands at the front
+-- the turn, by what is at the front
 module _ (xs : List FieldView) (l : List Tok) (h : is_empty l ≡ false) where
   by_field : (i : List Tok) (x : List AttributeTree × (MemberTree × Bool)) → (piece_form s.fields).reads l ≡ Some (to_field x, i) → gathered xs l ≡ and_then (entry_by (to_field x) i) (entered xs)
   by_field i (ats, (m, c)) r = by_value (value_at m c i) refl

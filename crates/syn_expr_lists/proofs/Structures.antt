@@ -1,4 +1,4 @@
--- A struct expression, by what stands in its braces.
+-- A struct expression, by what is in its braces.
 use Rattle.std.specs.Prelude.{not, ◌||◌, ◌&&◌}
 use Rattle.std.proofs.Common.{◌≡◌, Bool, true, false, List, Option, Some, None, refl, drop}
 use Rattle.syn_lexer.specs.declared.lexeme.Delimiter.TheVariants as del
@@ -55,7 +55,7 @@ structure_is p q l h = by_group (group_at del.Brace l)
 
 pub ruleset structures = (structure_refused, structure_is)
 
--- behind its path, by what stands in its braces
+-- after its path, by what is in its braces
 pub behind_is : (q : QPathTree) (l : List Tok) → structure_behind q l ≡ and_then (group_at del.Brace l) (λ i n. and_then (braced i) (λ k o. Some (tr.frame (tr.structure q.0 q.1 k.1) k.0, n)))
 unfolding structure_behind braced
 behind_is q l = by_group (group_at del.Brace l)

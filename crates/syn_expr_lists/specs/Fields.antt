@@ -1,4 +1,4 @@
--- What stands in the braces of a struct expression, as its reader reads it.
+-- What is in the braces of a struct expression, as its reader reads it.
 use Rattle.std.specs.Prelude.{Bool, true, false, not, if◌then◌else◌, List, drop, Option, Some, None}
 use Rattle.syn_tokens.specs.Front.{is_empty}
 use Rattle.syn_parts.specs.Form.{and_then}
@@ -12,18 +12,18 @@ use Rattle.syn_grammar.specs.Stands.{ends_list, path_of}
 use Rattle.syn_grammar.specs.Read.{Reading, only_if, expr, bare_operands}
 use Rattle.syn_expr_kinds.specs.View.{FieldView, fields}
 
--- a field's value, behind its colon or where it has none
+-- a field's value, after its colon or where it has none
 abbrev pub value_at : MemberTree → Bool → Reading Tree
 value_at m true l = expr plain l
 value_at (a_name w) false l = Some (path_of w, l)
 value_at (an_index n) false l = None
 
--- one of what stands in the braces: a field with what ends it, or `..` with the expression behind it or none
+-- one of what is in the braces: a field with what ends it, or `..` with the expression after it or none
 pub data Entry : Type 0 where
   a_field : Ending → FieldView → Entry
   the_rest : Option Tree → Entry
 
--- the expression behind `..`, or none
+-- the expression after `..`, or none
 abbrev pub base : Reading (Option Tree)
 base l = if is_empty l then Some (None, l) else and_then (expr plain l) (λ x n. only_if (is_empty n) (Some (Some x, n)))
 
@@ -47,10 +47,10 @@ entry l = and_then ((piece_form s.fields).reads l) entry_by
 abbrev pub ended : Children → Reading (Children × Bool)
 ended ks o = only_if (ends_list (not (is_empty o)) o) (Some ((ks, not (is_empty o)), drop 2 o))
 
--- fields, and what may stand behind them
+-- fields, and what may come after them
 unfoldable pub braced : Reading (Children × Bool)
 braced l = and_then (bare_operands expr s.fields l) ended
 
--- the same behind fields that were read, each with its comma
+-- the same after fields that were read, each with its comma
 unfoldable pub gathered : List FieldView → Reading (Children × Bool)
 gathered xs l = and_then (bare_operands expr s.fields l) (λ ks o. ended (fields xs true ks) o)

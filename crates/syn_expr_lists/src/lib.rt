@@ -1,4 +1,4 @@
-//! The readers of what stands in parentheses, in brackets and in the braces of a struct expression.
+//! The readers of what is in parentheses, in brackets and in the braces of a struct expression.
 #![tactic(auto)]
 
 pub mod lists;

@@ -1,4 +1,4 @@
-//! The readers of what stands in parentheses and in brackets: tuples, arrays, arguments and indices.
+//! The readers of what is in parentheses and in brackets: tuples, arrays, arguments and indices.
 
 ghost use Rattle.std.specs.Prelude.{◌≡◌, ◌≤◌, ◌+◌, map, true, IfOk};
 ghost use Rattle.syn_expr_ends.specs.Reads.{Callable, ReadsExpr};
@@ -15,6 +15,7 @@ ghost use Rattle.syn_tokens.specs.Front.{is_empty};
 ghost use Rattle.syn_tokens.specs.Tok.{weight};
 
 use std::alloc::{AllocError, Global};
+use syn_expr_ends::held::{Held, given_up};
 use syn_expr_ends::kinds::ReadExprs;
 use syn_expr_ends::place::PLAIN;
 use syn_expr_heads::ending::comma_or_end;
@@ -71,7 +72,7 @@ fn repeat<E: IsExpr + Drop>(
     Ok(Box::new(alloc, x)?)
 }
 
-/// An expression in parentheses, where it is one and no comma is behind it; else a tuple.
+/// An expression in parentheses, where it is one and no comma is after it; else a tuple.
 // Not in the frame of its caller, which is on the stack once for each level of a tree.
 #[inline(never)]
 #[tactic(auto, using(crate::proofs::Elements::rounds), unfolding(syn_expr_kinds::specs::Attrs::attrs_of))]
@@ -106,7 +107,7 @@ pub struct Lists<F> {
 }
 
 impl<E: ReadExprs + Drop, F: Fn(&mut ParseBuffer<'_>, Place) -> Result<Box<E>>> Lists<F> {
-    /// Reads an element, and the comma behind it; none at the end.
+    /// Reads an element, and the comma after it; none at the end.
     #[tactic(auto, unfolding(crate::specs::Elements::element))]
     fn element(&self, input: &mut ParseBuffer<'_>) -> Result<(Box<E>, Option<Comma>)>
         requires callable { Callable (weight input.old.rest + 1) (F.pre self.now.expr) }
@@ -115,17 +116,19 @@ impl<E: ReadExprs + Drop, F: Fn(&mut ParseBuffer<'_>, Place) -> Result<Box<E>>> 
         ensures noted { input.new.noted ≡ input.old.noted }
         ensures shrinks { weight input.new.rest ≤ weight input.old.rest }
     {
-        let x = (self.expr)(input, PLAIN)?;
+        let x = Held {
+            value: (self.expr)(input, PLAIN)?,
+        };
         let comma = comma_or_end(input)?;
-        Ok((x, comma))
+        Ok((x.into_inner(), comma))
     }
 
-    /// Reads the elements behind those that were read, each with its comma, to the end of the input.
+    /// Reads the elements after those that were read, each with its comma, to the end of the input.
     #[tactic(auto, using(crate::proofs::Elements::turns))]
     fn more_elements(
         &self,
         input: &mut ParseBuffer<'_>,
-        mut found: Punctuated<E, Comma>,
+        found: Punctuated<E, Comma>,
     ) -> Result<Punctuated<E, Comma>>
         requires callable { Callable (weight input.old.rest + 1) (F.pre self.now.expr) }
         requires reads { ReadsExpr E.tree (F.post self.now.expr) }
@@ -135,15 +138,16 @@ impl<E: ReadExprs + Drop, F: Fn(&mut ParseBuffer<'_>, Place) -> Result<Box<E>>> 
         ensures noted { input.new.noted ≡ input.old.noted }
         ensures shrinks { weight input.new.rest ≤ weight input.old.rest }
     {
+        let mut held = Held { value: found };
         'elements: while !input.is_empty() {
             let (x, comma) = self.element(input)?;
-            found.push_value(Box::into_inner(x))?;
+            held.value.push_boxed(x);
             let Some(comma) = comma else {
-                return Ok(found);
+                return Ok(held.into_inner());
             };
-            found.push_punct(comma)?;
+            held.value.push_punct(comma)?;
         }
-        Ok(found)
+        Ok(held.into_inner())
     }
 
     /// Reads elements with commas between, and perhaps one at the end, to the end of the input. A missing comma is refused as
@@ -190,7 +194,7 @@ impl<E: ReadExprs + Drop, F: Fn(&mut ParseBuffer<'_>, Place) -> Result<Box<E>>> 
     }
 
     /// Reads an index in its brackets (Rust Reference, "Array and slice indexing expressions"). Another token is refused as
-    /// `ExpectedToken` of `[`, what is left behind the index as `UnexpectedToken`.
+    /// `ExpectedToken` of `[`, what is left after the index as `UnexpectedToken`.
     // Not in the frame of its caller, which is on the stack once for each level of a tree.
     #[inline(never)]
     #[tactic(auto, using(crate::proofs::Elements::singles), unfolding(crate::specs::Elements::single, syn_grammar::specs::Read::content))]
@@ -204,12 +208,12 @@ impl<E: ReadExprs + Drop, F: Fn(&mut ParseBuffer<'_>, Place) -> Result<Box<E>>> 
         let (bracket_token, mut content) = input.parse_brackets()?;
         let index = (self.expr)(&mut content, PLAIN)?;
         if !content.is_empty() {
-            return Err(content.error(ErrorKind::UnexpectedToken));
+            return Err(given_up(index, content.error(ErrorKind::UnexpectedToken)));
         }
         Ok((bracket_token, index))
     }
 
-    /// Reads the elements of an array behind the first expression in its brackets. A missing comma is refused as
+    /// Reads the elements of an array after the first expression in its brackets. A missing comma is refused as
     /// `ExpectedCommaOrSemi`.
     // Not in the frame of its caller, which is on the stack once for each level of a tree.
     #[inline(never)]
@@ -225,19 +229,21 @@ impl<E: ReadExprs + Drop, F: Fn(&mut ParseBuffer<'_>, Place) -> Result<Box<E>>> 
         ensures noted { input.new.noted ≡ input.old.noted }
         ensures shrinks { weight input.new.rest ≤ weight input.old.rest }
     {
-        let mut elems = Punctuated::new(input.alloc());
-        elems.push_value(Box::into_inner(first))?;
+        let mut held = Held {
+            value: Punctuated::new(input.alloc()),
+        };
+        held.value.push_boxed(first);
         if let Some(comma) = comma(input) {
-            elems.push_punct(comma)?;
-            return self.more_elements(input, elems);
+            held.value.push_punct(comma)?;
+            return self.more_elements(input, held.into_inner());
         }
         if !input.is_empty() {
             return Err(input.error(ErrorKind::ExpectedCommaOrSemi));
         }
-        Ok(elems)
+        Ok(held.into_inner())
     }
 
-    /// Reads what stands in brackets.
+    /// Reads what is in brackets.
     // Not in the frame of its caller, which is on the stack once for each level of a tree.
     #[inline(never)]
     #[tactic(auto, unfolding(crate::specs::Elements::bracketed, crate::specs::Elements::single))]
@@ -254,7 +260,9 @@ impl<E: ReadExprs + Drop, F: Fn(&mut ParseBuffer<'_>, Place) -> Result<Box<E>>> 
         }
         let expr = (self.expr)(input, PLAIN)?;
         if let Some(semi_token) = semi(input) {
+            let expr = Held { value: expr };
             let len = (self.expr)(input, PLAIN)?;
+            let expr = expr.into_inner();
             return Ok(repeat(input.alloc(), bracket_token, expr, semi_token, len)?);
         }
         let elems = self.behind_first(input, expr)?;
@@ -262,8 +270,8 @@ impl<E: ReadExprs + Drop, F: Fn(&mut ParseBuffer<'_>, Place) -> Result<Box<E>>> 
     }
 
     /// Reads an array of its elements, or of one that is repeated (Rust Reference, "Array expressions"). Another token is
-    /// refused as `ExpectedToken` of `[`, a missing sign behind the first element as `ExpectedCommaOrSemi`, a missing comma
-    /// behind another as `ExpectedToken` of it, and what is left behind the length as `UnexpectedToken`.
+    /// refused as `ExpectedToken` of `[`, a missing sign after the first element as `ExpectedCommaOrSemi`, a missing comma
+    /// after another as `ExpectedToken` of it, and what is left after the length as `UnexpectedToken`.
     // Not in the frame of its caller, which is on the stack once for each level of a tree.
     #[inline(never)]
     #[tactic(auto, using(crate::proofs::Elements::brackets))]
@@ -277,7 +285,7 @@ impl<E: ReadExprs + Drop, F: Fn(&mut ParseBuffer<'_>, Place) -> Result<Box<E>>> 
         let (bracket_token, mut content) = input.parse_brackets()?;
         let x = self.bracketed(&mut content, bracket_token)?;
         if !content.is_empty() {
-            return Err(content.error(ErrorKind::UnexpectedToken));
+            return Err(given_up(x, content.error(ErrorKind::UnexpectedToken)));
         }
         Ok(x)
     }

@@ -1,4 +1,4 @@
-//! The reader of what stands in the braces of a struct expression (Rust Reference, "Struct expressions").
+//! The reader of what is in the braces of a struct expression (Rust Reference, "Struct expressions").
 
 ghost use Rattle.std.specs.Prelude.{◌≡◌, ◌≤◌, ◌+◌, None};
 ghost use Rattle.syn_expr_ends.specs.Reads.{Callable, ReadsExpr};
@@ -14,6 +14,7 @@ ghost use Rattle.syn_tokens.specs.Tok.{weight};
 
 use crate::lists::Lists;
 use crate::word::named;
+use syn_expr_ends::held::{Held, given_up};
 use syn_expr_ends::kinds::ReadExprs;
 use syn_expr_ends::place::PLAIN;
 use syn_expr_heads::ending::comma_or_end;
@@ -29,16 +30,16 @@ use syn_tokens::buffer::{ParseBuffer, Token};
 use syn_tokens::error::{ErrorKind, Expected, Result};
 use syn_tokens::token::{Colon, Comma, DotDot};
 
-/// One of what stands in the braces.
+/// One of what is in the braces.
 #[derive(Drop)]
 pub enum Entry<E> {
-    /// A field, and the comma behind it.
+    /// A field, and the comma after it.
     Field(FieldValueOf<E>, Option<Comma>),
-    /// `..`, and the expression behind it.
+    /// `..`, and the expression after it.
     Rest(DotDot, Option<Box<E>>),
 }
 
-/// What stands in the braces.
+/// What is in the braces.
 #[derive(Drop)]
 pub struct Fields<E> {
     /// The fields.
@@ -49,7 +50,7 @@ pub struct Fields<E> {
     pub rest: Option<Box<E>>,
 }
 
-/// Fields behind which no `..` stands.
+/// Fields after which no `..` stands.
 fn without_rest<E>(fields: Punctuated<FieldValueOf<E>, Comma>) -> Fields<E>
     ensures { result ≡ record { fields = fields; dot2_token = None; rest = None } }
 {
@@ -61,7 +62,7 @@ fn without_rest<E>(fields: Punctuated<FieldValueOf<E>, Comma>) -> Fields<E>
 }
 
 impl<E: ReadExprs + Drop, F: Fn(&mut ParseBuffer<'_>, Place) -> Result<Box<E>>> Lists<F> {
-    /// Reads the value of a field behind its colon; without one a name says it.
+    /// Reads the value of a field after its colon; without one a name says it.
     // Not in the frame of its caller, which is on the stack once for each level of a tree.
     #[inline(never)]
     fn value(&self, input: &mut ParseBuffer<'_>, member: &Member, has_colon: bool) -> Result<E>
@@ -83,7 +84,7 @@ impl<E: ReadExprs + Drop, F: Fn(&mut ParseBuffer<'_>, Place) -> Result<Box<E>>> 
         }
     }
 
-    /// Reads a field by itself, without the comma behind it: outer attributes, a member, and its value behind a colon, which
+    /// Reads a field by itself, without the comma after it: outer attributes, a member, and its value after a colon, which
     /// only a name may be without (Rust Reference, "Struct expressions"). It is refused as `ExpectedMember` where no member
     /// stands, as `ExpectedToken` of the colon where an index has none, and as its attributes and its value are.
     #[tactic(auto, unfolding(crate::specs::Fields::one_field, syn_expr_kinds::specs::Attrs::attrs_of))]
@@ -109,7 +110,7 @@ impl<E: ReadExprs + Drop, F: Fn(&mut ParseBuffer<'_>, Place) -> Result<Box<E>>> 
         }
     }
 
-    /// Reads the expression behind `..`, to the end of the input, or nothing there.
+    /// Reads the expression after `..`, to the end of the input, or nothing there.
     // Not in the frame of its caller, which is on the stack once for each level of a tree.
     #[inline(never)]
     #[tactic(auto)]
@@ -125,12 +126,12 @@ impl<E: ReadExprs + Drop, F: Fn(&mut ParseBuffer<'_>, Place) -> Result<Box<E>>> 
         }
         let x = (self.expr)(input, PLAIN)?;
         if !input.is_empty() {
-            return Err(input.error(ErrorKind::UnexpectedToken));
+            return Err(given_up(x, input.error(ErrorKind::UnexpectedToken)));
         }
         Ok(Some(x))
     }
 
-    /// Reads a field with its comma, or `..` and what is behind it.
+    /// Reads a field with its comma, or `..` and what is after it.
     // Not in the frame of its caller, which is on the stack once for each level of a tree.
     #[inline(never)]
     #[tactic(auto, unfolding(crate::specs::Fields::entry, syn_expr_kinds::specs::Attrs::attrs_of))]
@@ -147,20 +148,22 @@ impl<E: ReadExprs + Drop, F: Fn(&mut ParseBuffer<'_>, Place) -> Result<Box<E>>> 
                 Ok(Entry::Rest(dot2_token, rest))
             }
             FieldHead::Field(attrs, member, colon_token) => {
-                let expr = self.value(input, &member, colon_token.is_some())?;
+                let expr = Held {
+                    value: self.value(input, &member, colon_token.is_some())?,
+                };
                 let comma = comma_or_end(input)?;
                 let field = FieldValueOf {
                     attrs,
                     member,
                     colon_token,
-                    expr,
+                    expr: expr.into_inner(),
                 };
                 Ok(Entry::Field(field, comma))
             }
         }
     }
 
-    /// Reads what stands in the braces, to the end of the input.
+    /// Reads what is in the braces, to the end of the input.
     // Not in the frame of its caller, which is on the stack once for each level of a tree.
     #[inline(never)]
     #[tactic(auto, using(crate::proofs::Fields::turns))]
@@ -171,31 +174,33 @@ impl<E: ReadExprs + Drop, F: Fn(&mut ParseBuffer<'_>, Place) -> Result<Box<E>>> 
         ensures noted { input.new.noted ≡ input.old.noted }
         ensures shrinks { weight input.new.rest ≤ weight input.old.rest }
     {
-        let mut fields = Punctuated::new(input.alloc());
+        let mut held = Held {
+            value: Punctuated::new(input.alloc()),
+        };
         'fields: while !input.is_empty() {
             match self.entry(input)? {
                 Entry::Rest(dot2_token, rest) => {
                     return Ok(Fields {
-                        fields,
+                        fields: held.into_inner(),
                         dot2_token: Some(dot2_token),
                         rest,
                     });
                 }
                 Entry::Field(field, comma) => {
-                    fields.push_value(field)?;
+                    held.value.push_value(field)?;
                     let Some(comma) = comma else {
-                        return Ok(without_rest(fields));
+                        return Ok(without_rest(held.into_inner()));
                     };
-                    fields.push_punct(comma)?;
+                    held.value.push_punct(comma)?;
                 }
             }
         }
-        Ok(without_rest(fields))
+        Ok(without_rest(held.into_inner()))
     }
 
-    /// Reads a struct expression behind its path, whatever path that is: the braces, in them fields with commas between, and
-    /// perhaps `..` behind them, with an expression or without (Rust Reference, "Struct expressions"). Another token is refused
-    /// as `ExpectedToken` of `{`, a missing comma as `ExpectedToken` of it, what stands behind the expression of `..` as
+    /// Reads a struct expression after its path, whatever path that is: the braces, in them fields with commas between, and
+    /// perhaps `..` after them, with an expression or without (Rust Reference, "Struct expressions"). Another token is refused
+    /// as `ExpectedToken` of `{`, a missing comma as `ExpectedToken` of it, what comes after the expression of `..` as
     /// `UnexpectedToken`, and a field as `field` refuses it.
     #[tactic(auto, using(crate::proofs::Structures::behind), unfolding(syn_expr_kinds::specs::Attrs::attrs_of))]
     pub fn structure_behind(
@@ -228,7 +233,7 @@ impl<E: ReadExprs + Drop, F: Fn(&mut ParseBuffer<'_>, Place) -> Result<Box<E>>> 
         })
     }
 
-    /// Reads a struct expression behind its path, where one may stand: none does before the block of a condition, nor behind
+    /// Reads a struct expression after its path, where one may stand: none does before the block of a condition, nor after
     /// the path `try`. There it is refused as `UnexpectedToken`, else as `structure_behind` refuses it.
     // Not in the frame of its caller, which is on the stack once for each level of a tree.
     #[inline(never)]

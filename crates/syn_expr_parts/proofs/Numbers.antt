@@ -57,7 +57,7 @@ ends true d c text o p e f g h k = seen c text (underscore c e) (g k)
 ends false true c text o p e f g h k = seen c text (rw (digit_of_ten c e f) refl) (h k)
 ends false false c text o p e f g h k = absurd cc
 
--- Behind digits that have a value nothing stands.
+-- After digits that have a value nothing stands.
 all_of_it : (v : ℕ) (text : Text) → is_some (digits_value 10 v text) ≡ true → byte_at text (prefix_len is_digit text) ≡ 0
 all_of_it v [] h = refl
 all_of_it v (c ∷ text) h =

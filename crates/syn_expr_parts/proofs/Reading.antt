@@ -1,4 +1,4 @@
--- What members, indices and labels leave, and that they are read exactly where they stand.
+-- What members, indices and labels leave, and that they are read exactly where they are.
 use Rattle.std.proofs.Common.{◌≡◌, ◌≤◌, ℕ, true, ◌==◌, List, ◌∷◌, ◌++◌, Option, Some, None, ap, sym, ◌∙◌, refl, arith}
 use Rattle.std.proofs.lemmas.Bool.Decides.{nat_tests}
 use Rattle.syn_tokens.specs.Tok.{Tok, literal, weight}

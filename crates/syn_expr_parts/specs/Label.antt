@@ -11,7 +11,7 @@ use Rattle.syn_parts.specs.Own.{alone, lifetime_own}
 abbrev pub labeled : Form Text
 labeled = closed_by colon lifetime
 
--- a label, if a lifetime stands first
+-- a label, if a lifetime comes first
 abbrev pub label : Form (Option Text)
 label = maybe lifetime_at labeled
 

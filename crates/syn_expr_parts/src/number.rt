@@ -63,7 +63,7 @@ fn digits_value(base: u64, digits: &[u8]) -> Option<u32>
     Some(found as u32)
 }
 
-/// Whether only digits of a base and underscores stand there.
+/// Whether only digits of a base and underscores are there.
 fn is_digits(base: u64, digits: &[u8]) -> bool
     ensures { result ≡ list_all (number.is_digit_of base) digits.now }
 {

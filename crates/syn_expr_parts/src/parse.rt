@@ -28,7 +28,7 @@ impl Parse for Index {
 
     ghost seen = { λ x. x.index };
 
-    /// An integer of this value without a suffix stands before the rest.
+    /// An integer of this value without a suffix comes before the rest.
     ghost spells = { λ l x rest. refusal.index.behind x l ≡ Some rest };
 
     ghost least = { 1 };
@@ -50,7 +50,7 @@ impl Parse for Member {
 
     ghost seen = { member_of };
 
-    /// A name, or an integer of this value without a suffix, stands before the rest.
+    /// A name, or an integer of this value without a suffix, comes before the rest.
     ghost spells = { λ l x rest. pat.member.behind x l ≡ Some rest };
 
     ghost least = { 1 };
@@ -89,7 +89,7 @@ impl Parse for Label {
 
     ghost seen = { label_of };
 
-    /// A lifetime and `:` stand before the rest.
+    /// A lifetime and `:` come before the rest.
     ghost spells = { λ l x rest. spec.labeled.behind x l ≡ Some rest };
 
     ghost least = { 1 };
@@ -103,7 +103,7 @@ impl Parse for Label {
 }
 
 impl Label {
-    /// Reads a label where a lifetime stands first (Rust Reference, "Loop labels"), and else nothing. Without `:` behind
+    /// Reads a label where a lifetime comes first (Rust Reference, "Loop labels"), and else nothing. Without `:` after
     /// the lifetime it is refused as `ExpectedToken` of `:`, and the input stays where it was.
     #[tactic(auto, using(crate::proofs::Reading::label_reading))]
     pub fn parse_optional(input: &mut ParseBuffer<'_>) -> Result<Option<Label>>

@@ -17,7 +17,7 @@ use Rattle.syn_expr_print.specs.Printing.{children_spelled, piece_spelled}
 use Rattle.syn_expr_print.specs.Placed.{comma_if}
 use Rattle.syn_expr_print.proofs.Children.{loud-spelled}
 
--- ---- the body, with a comma behind it where one is there or needed
+-- ---- the body, with a comma after it where one is there or needed
 
 abbrev pub body_spelled : Bool → Tree → List Tok → List Tok
 body_spelled b t r = whole in_arm t ++ (comma_if b ++ r)

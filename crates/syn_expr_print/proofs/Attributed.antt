@@ -1,4 +1,4 @@
--- A node behind its attributes, and without them.
+-- A node after its attributes, and without them.
 use Rattle.std.proofs.Common.{◌≡◌, Bool, true, false, List, [], ◌∷◌, ◌++◌, refl, sym, ap, ◌∙◌, append_assoc}
 use Rattle.syn_tokens.specs.Tok.{Tok}
 use Rattle.syn_parts.specs.Tree.{AttributeTree}
@@ -51,7 +51,7 @@ range-prefixed (e.jump e.yielding) = refl
 range-prefixed (e.closure h) = refl
 
 -- a tree that is made of borrowed parts has no attributes
-plain-node : (s : ShapeTree) (o : OperandTrees) → is_attributed (node_of s o) ≡ false
+pub plain-node : (s : ShapeTree) (o : OperandTrees) → is_attributed (node_of s o) ≡ false
 plain-node (leaf_shape k) o = elim o as (λ o. is_attributed (node_of (leaf_shape k) o) ≡ false) [ no_trees ↦ refl | _ ↦ refl ]
 plain-node paren_shape o = elim o as (λ o. is_attributed (node_of paren_shape o) ≡ false) [ one_tree t ↦ refl | _ ↦ refl ]
 plain-node (prefix_shape k gs) o = elim o as (λ o. is_attributed (node_of (prefix_shape k gs) o) ≡ false) [ one_tree t ↦ refl | _ ↦ refl ]

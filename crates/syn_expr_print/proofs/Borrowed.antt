@@ -1,31 +1,29 @@
 -- A node by its parts: what is printed of it, and the summaries and the size of what is below.
-use Rattle.std.specs.Prelude.{Option, Some, None}
-use Rattle.std.proofs.Common.{◌≡◌, ◌+◌, true, false, List, [], ◌∷◌, ◌++◌, refl, sym, ap, ◌∙◌}
+use Rattle.std.specs.Prelude.{Some, None}
+use Rattle.std.proofs.Common.{◌≡◌, true, false, List, [], ◌∷◌, ◌++◌, refl, sym, ap, ◌∙◌}
 use Rattle.syn_lexer.specs.declared.lexeme.Delimiter.TheVariants as del
 use Rattle.syn_tokens.specs.Tok.{group, inside}
 use Rattle.syn_parts.specs.Own as own_parts
 use Rattle.syn_grammar.specs.declared.kinds.Infix.{Infix}
 use Rattle.syn_grammar.specs.declared.next.Context.{Context}
-use Rattle.syn_grammar.specs.Op.{level}
-use Rattle.syn_grammar.specs.Next.{enclosed, left_context, right_context, base_context, prefix_context}
-use Rattle.syn_grammar.specs.Summaries.{summary_of, stack, below, children_below, place_by, left_by, base_by, prefix_by}
+use Rattle.syn_grammar.specs.Next.{enclosed, prefix_context}
+use Rattle.syn_grammar.specs.Summaries.{summary_of, stack, below, children_below, prefix_by}
 use Rattle.syn_grammar.specs.Tree as e
-use Rattle.syn_grammar.specs.Tree.{Tree, Children, Leaf, Postfix, Trailer, Frame, Enclosure, leaf, paren, attributed, prefixed, infixed, postfixed, tail, frame, none, child, leaf_own, prefix_own, infix_own, postfix_own, postfix_op, trailer_own, frame_own, enclosure, needs_last_comma}
+use Rattle.syn_grammar.specs.Tree.{Tree, Leaf, Postfix, Frame, Enclosure, leaf, paren, attributed, prefixed, infixed, postfixed, tail, frame, none, leaf_own, prefix_own, postfix_op, frame_own, enclosure, needs_last_comma}
 use Rattle.syn_expr_summaries.specs.Kind.{kind_at}
 use Rattle.syn_expr_summaries.specs.Label as label
-use Rattle.syn_expr_summaries.specs.Label.{prefix_kind, postfix_kind, trailer_kind}
+use Rattle.syn_expr_summaries.specs.Label.{prefix_kind, postfix_kind}
 use Rattle.syn_expr_summaries.specs.declared.kind.NodeKind.TheVariants as kind
 use Rattle.syn_expr_summaries.specs.declared.label.LeafKind.{LeafKind}
 use Rattle.syn_expr_summaries.specs.declared.label.PrefixKind.{PrefixKind}
 use Rattle.syn_expr_summaries.specs.declared.label.PostfixKind.{PostfixKind}
 use Rattle.syn_expr_summaries.specs.declared.label.TrailerKind.{TrailerKind}
 use Rattle.syn_expr_summaries.specs.declared.label.FrameKind.{FrameKind}
-use Rattle.syn_expr_print.specs.Shape.{leaf_shape, paren_shape, prefix_shape, infix_shape, postfix_shape, tail_shape, frame_shape, shape_at}
-use Rattle.syn_expr_kinds.specs.Node.{no_trees, one_tree, two_trees, based_by, framed, operands_at, leaf_at, is_paren, prefix_at, operator_at, postfix_at, trailer_at, frame_at, operand_children, first_of, second_of}
-use Rattle.syn_expr_kinds.proofs.Borrowed.{first-based}
+use Rattle.syn_expr_print.specs.Shape.{leaf_shape, paren_shape, prefix_shape, frame_shape, shape_at}
+use Rattle.syn_expr_kinds.specs.Node.{no_trees, one_tree, framed, operands_at, leaf_at, is_paren, prefix_at, operator_at, postfix_at, trailer_at, frame_at, operand_children, first_of, second_of}
 use Rattle.syn_expr_kinds.specs.Pats.{strays}
 use Rattle.syn_expr_print.specs.Printing.{spelled, spelled_in, children_spelled, core, node_of, IsBorrowed}
-use Rattle.syn_expr_print.proofs.Spellings.{leaf-spelled, paren-spelled, prefixed-spelled, infixed-spelled, postfixed-spelled, tail-spelled, open-spelled, closed-spelled, strays-spelled, strays-below, below-core}
+use Rattle.syn_expr_print.proofs.Spellings.{leaf-spelled, paren-spelled, prefixed-spelled, open-spelled, closed-spelled, strays-spelled, strays-below, below-core}
 
 -- ---- tokens, and an operand
 
@@ -88,8 +86,6 @@ prefixed-first (infixed x k y) q i h = absurd cc
 prefixed-first (postfixed x k) q i h = absurd cc
 prefixed-first (tail b k ks) q i h = absurd cc
 prefixed-first (frame k ks) q i h = absurd cc
-
-pub ruleset prefixes = (prefixed-text, prefixed-below, prefixed-kind)
 
 -- ---- leaves
 
@@ -198,36 +194,6 @@ infixed-operator (postfixed x k) q h = absurd cc
 infixed-operator (tail b k ks) q h = absurd cc
 infixed-operator (frame k ks) q h = absurd cc
 
-shape-infixed : (t : Tree) (q : Infix) → kind_at t ≡ kind.Infix q → shape_at t ≡ infix_shape q
-shape-infixed (leaf k) q h = absurd cc
-shape-infixed (paren m t) q h = absurd cc
-shape-infixed (attributed a more t) q h = shape-infixed t q h
-shape-infixed (prefixed k gs t) q h = absurd cc
-shape-infixed (infixed x k y) q h = cc
-shape-infixed (postfixed x k) q h = absurd cc
-shape-infixed (tail b k ks) q h = absurd cc
-shape-infixed (frame k ks) q h = absurd cc
-
-operands-infixed : (t : Tree) (q : Infix) (u v : Tree) → kind_at t ≡ kind.Infix q → first_of (operands_at t) ≡ Some u → second_of (operands_at t) ≡ Some v → operands_at t ≡ two_trees u v
-operands-infixed (leaf k) q u v h o n = absurd cc
-operands-infixed (paren m t) q u v h o n = absurd cc
-operands-infixed (attributed a more t) q u v h o n = operands-infixed t q u v h o n
-operands-infixed (prefixed k gs t) q u v h o n = absurd cc
-operands-infixed (infixed x k y) q u v h o n = cc
-operands-infixed (postfixed x k) q u v h o n = absurd cc
-operands-infixed (tail b k ks) q u v h o n = absurd cc
-operands-infixed (frame k ks) q u v h o n = absurd cc
-
-pub infixed-first : (t : Tree) (q : Infix) → kind_at t ≡ kind.Infix q → first_of (operands_at t) ≡ None → ⊥
-infixed-first (leaf k) q h o = absurd cc
-infixed-first (paren m t) q h o = absurd cc
-infixed-first (attributed a more t) q h o = infixed-first t q h o
-infixed-first (prefixed k gs t) q h o = absurd cc
-infixed-first (infixed x k y) q h o = absurd cc
-infixed-first (postfixed x k) q h o = absurd cc
-infixed-first (tail b k ks) q h o = absurd cc
-infixed-first (frame k ks) q h o = absurd cc
-
 pub infixed-second : (t : Tree) (q : Infix) → kind_at t ≡ kind.Infix q → second_of (operands_at t) ≡ None → ⊥
 infixed-second (leaf k) q h o = absurd cc
 infixed-second (paren m t) q h o = absurd cc
@@ -238,50 +204,7 @@ infixed-second (postfixed x k) q h o = absurd cc
 infixed-second (tail b k ks) q h o = absurd cc
 infixed-second (frame k ks) q h o = absurd cc
 
-infixed-core : (t : Tree) (q : Infix) (u v : Tree) → IsBorrowed t → kind_at t ≡ kind.Infix q → first_of (operands_at t) ≡ Some u → second_of (operands_at t) ≡ Some v → core t ≡ infixed u q v
-infixed-core t q u v l a o n = l ∙ ap (λ s. node_of s (operands_at t)) (shape-infixed t q a) ∙ ap (λ z. node_of (infix_shape q) z) (operands-infixed t q u v a o n)
-
-pub infixed-text : (c : Context) (t : Tree) (q : Infix) (u v : Tree) → IsBorrowed t → kind_at t ≡ kind.Infix q → first_of (operands_at t) ≡ Some u → second_of (operands_at t) ≡ Some v
-    → spelled c (core t) ≡ spelled_in (left_by q (left_context q c) (summary_of u)) (left_context q c) u
-    ++ (infix_own q [] ++ spelled_in (place_by (level q) (right_context q c) (summary_of v)) (right_context q c) v)
-infixed-text c t q u v l a o n = ap (λ z. spelled c z) (infixed-core t q u v l a o n) ∙ infixed-spelled c u q v
-
-pub infixed-below : (t : Tree) (q : Infix) (u v : Tree) → IsBorrowed t → kind_at t ≡ kind.Infix q → first_of (operands_at t) ≡ Some u → second_of (operands_at t) ≡ Some v → below t ≡ stack v ++ stack u
-infixed-below t q u v l a o n = below-core t ∙ ap below (infixed-core t q u v l a o n)
-
-pub ruleset infixes = (infixed-text, infixed-below, infixed-operator)
-
 -- ---- an operand, and tokens
-
-shape-postfixed : (t : Tree) (p : Postfix) → postfix_at t ≡ Some p → shape_at t ≡ postfix_shape p
-shape-postfixed (leaf k) p h = absurd cc
-shape-postfixed (paren m t) p h = absurd cc
-shape-postfixed (attributed a more t) p h = shape-postfixed t p h
-shape-postfixed (prefixed k gs t) p h = absurd cc
-shape-postfixed (infixed x k y) p h = absurd cc
-shape-postfixed (postfixed x k) p h = cc
-shape-postfixed (tail b k ks) p h = absurd cc
-shape-postfixed (frame k ks) p h = absurd cc
-
-operands-postfixed : (t : Tree) (p : Postfix) (u : Tree) → postfix_at t ≡ Some p → first_of (operands_at t) ≡ Some u → operands_at t ≡ one_tree u
-operands-postfixed (leaf k) p u h o = absurd cc
-operands-postfixed (paren m t) p u h o = absurd cc
-operands-postfixed (attributed a more t) p u h o = operands-postfixed t p u h o
-operands-postfixed (prefixed k gs t) p u h o = absurd cc
-operands-postfixed (infixed x k y) p u h o = absurd cc
-operands-postfixed (postfixed x k) p u h o = cc
-operands-postfixed (tail b k ks) p u h o = absurd cc
-operands-postfixed (frame k ks) p u h o = absurd cc
-
-pub postfixed-first : (t : Tree) (q : PostfixKind) → kind_at t ≡ kind.Postfix q → first_of (operands_at t) ≡ None → ⊥
-postfixed-first (leaf k) q h o = absurd cc
-postfixed-first (paren m t) q h o = absurd cc
-postfixed-first (attributed a more t) q h o = postfixed-first t q h o
-postfixed-first (prefixed k gs t) q h o = absurd cc
-postfixed-first (infixed x k y) q h o = absurd cc
-postfixed-first (postfixed x k) q h o = absurd cc
-postfixed-first (tail b k ks) q h o = absurd cc
-postfixed-first (frame k ks) q h o = absurd cc
 
 pub postfixed-there : (t : Tree) (q : PostfixKind) → kind_at t ≡ kind.Postfix q → postfix_at t ≡ None → ⊥
 postfixed-there (leaf k) q h o = absurd cc
@@ -310,53 +233,7 @@ op-kind (e.range_from op) = refl
 pub postfixed-operator : (t : Tree) (p : Postfix) (q : PostfixKind) → kind_at t ≡ kind.Postfix q → postfix_at t ≡ Some p → label.postfix_op q ≡ postfix_op p
 postfixed-operator t p q i h = ap (λ z. label.postfix_op z) (sym (postfixed-kind t p q i h)) ∙ op-kind p
 
-postfixed-core : (t : Tree) (p : Postfix) (u : Tree) → IsBorrowed t → postfix_at t ≡ Some p → first_of (operands_at t) ≡ Some u → core t ≡ postfixed u p
-postfixed-core t p u l a o = l ∙ ap (λ s. node_of s (operands_at t)) (shape-postfixed t p a) ∙ ap (λ z. node_of (postfix_shape p) z) (operands-postfixed t p u a o)
-
-pub postfixed-text : (c : Context) (t : Tree) (p : Postfix) (u : Tree) → IsBorrowed t → postfix_at t ≡ Some p → first_of (operands_at t) ≡ Some u
-    → spelled c (core t) ≡ spelled_in (left_by (postfix_op p) (left_context (postfix_op p) c) (summary_of u)) (left_context (postfix_op p) c) u ++ postfix_own p []
-postfixed-text c t p u l a o = ap (λ z. spelled c z) (postfixed-core t p u l a o) ∙ postfixed-spelled c u p
-
-pub postfixed-below : (t : Tree) (p : Postfix) (u : Tree) → IsBorrowed t → postfix_at t ≡ Some p → first_of (operands_at t) ≡ Some u → below t ≡ stack u
-postfixed-below t p u l a o = below-core t ∙ ap below (postfixed-core t p u l a o)
-
-pub ruleset postfixes = (postfixed-text, postfixed-below, postfixed-operator)
-
 -- ---- trailers
-
-shape-tail : (t : Tree) (p : Trailer) → trailer_at t ≡ Some p → shape_at t ≡ tail_shape p
-shape-tail (leaf k) p h = absurd cc
-shape-tail (paren m t) p h = absurd cc
-shape-tail (attributed a more t) p h = shape-tail t p h
-shape-tail (prefixed k gs t) p h = absurd cc
-shape-tail (infixed x k y) p h = absurd cc
-shape-tail (postfixed x k) p h = absurd cc
-shape-tail (tail b k ks) p h = cc
-shape-tail (frame k ks) p h = absurd cc
-
-base-one : (b u : Tree) (ks : Children) → first_of (based_by b ks) ≡ Some u → based_by b ks ≡ based_by u (operand_children (based_by b ks))
-base-one b u none h = cc
-base-one b u (child k c t ks) h = cc
-
-operands-tail : (t : Tree) (p : Trailer) (u : Tree) → trailer_at t ≡ Some p → first_of (operands_at t) ≡ Some u → operands_at t ≡ based_by u (operand_children (operands_at t))
-operands-tail (leaf k) p u h o = absurd cc
-operands-tail (paren m t) p u h o = absurd cc
-operands-tail (attributed a more t) p u h o = operands-tail t p u h o
-operands-tail (prefixed k gs t) p u h o = absurd cc
-operands-tail (infixed x k y) p u h o = absurd cc
-operands-tail (postfixed x k) p u h o = absurd cc
-operands-tail (tail b k ks) p u h o = base-one b u ks o
-operands-tail (frame k ks) p u h o = absurd cc
-
-pub tail-first : (t : Tree) (q : TrailerKind) → kind_at t ≡ kind.Tail q → first_of (operands_at t) ≡ None → ⊥
-tail-first (leaf k) q h o = absurd cc
-tail-first (paren m t) q h o = absurd cc
-tail-first (attributed a more t) q h o = tail-first t q h o
-tail-first (prefixed k gs t) q h o = absurd cc
-tail-first (infixed x k y) q h o = absurd cc
-tail-first (postfixed x k) q h o = absurd cc
-tail-first (tail b k ks) q h o = let f = first-based b ks in absurd cc
-tail-first (frame k ks) q h o = absurd cc
 
 pub tail-there : (t : Tree) (q : TrailerKind) → kind_at t ≡ kind.Tail q → trailer_at t ≡ None → ⊥
 tail-there (leaf k) q h o = absurd cc
@@ -367,42 +244,6 @@ tail-there (infixed x k y) q h o = absurd cc
 tail-there (postfixed x k) q h o = absurd cc
 tail-there (tail b k ks) q h o = absurd cc
 tail-there (frame k ks) q h o = absurd cc
-
-pub tail-kind : (t : Tree) (p : Trailer) (q : TrailerKind) → kind_at t ≡ kind.Tail q → trailer_at t ≡ Some p → trailer_kind p ≡ q
-tail-kind (leaf k) p q i h = absurd cc
-tail-kind (paren m t) p q i h = absurd cc
-tail-kind (attributed a more t) p q i h = tail-kind t p q i h
-tail-kind (prefixed k gs t) p q i h = absurd cc
-tail-kind (infixed x k y) p q i h = absurd cc
-tail-kind (postfixed x k) p q i h = absurd cc
-tail-kind (tail b k ks) p q i h = cc
-tail-kind (frame k ks) p q i h = absurd cc
-
-node-tail : (p : Trailer) (b : Tree) (ks : Children) → node_of (tail_shape p) (based_by b ks) ≡ tail b p ks
-node-tail p b none = refl
-node-tail p b (child k c t ks) = refl
-
-tail-core : (t : Tree) (p : Trailer) (u : Tree) → IsBorrowed t → trailer_at t ≡ Some p → first_of (operands_at t) ≡ Some u → core t ≡ tail u p (operand_children (operands_at t))
-tail-core t p u l a o =
-    l ∙ ap (λ s. node_of s (operands_at t)) (shape-tail t p a) ∙ ap (λ z. node_of (tail_shape p) z) (operands-tail t p u a o)
-    ∙ node-tail p u (operand_children (operands_at t))
-
-pub tail-text : (c : Context) (t : Tree) (p : Trailer) (u : Tree) → IsBorrowed t → trailer_at t ≡ Some p → first_of (operands_at t) ≡ Some u
-    → spelled c (core t) ≡ spelled_in (base_by p (base_context p c) (summary_of u)) (base_context p c) u ++ trailer_own p (children_spelled false (operand_children (operands_at t))) []
-tail-text c t p u l a o = ap (λ z. spelled c z) (tail-core t p u l a o) ∙ tail-spelled c u p (operand_children (operands_at t))
-
-pub tail-below : (t : Tree) (p : Trailer) (u : Tree) → IsBorrowed t → trailer_at t ≡ Some p → first_of (operands_at t) ≡ Some u → below t ≡ children_below (operand_children (operands_at t)) ++ stack u
-tail-below t p u l a o = below-core t ∙ ap below (tail-core t p u l a o)
-
--- by the kind alone
-pub tail-known : (t : Tree) (q : TrailerKind) (u : Tree) → IsBorrowed t → kind_at t ≡ kind.Tail q → first_of (operands_at t) ≡ Some u → below t ≡ children_below (operand_children (operands_at t)) ++ stack u
-tail-known t q u l i o = by (trailer_at t) refl
-  where
-    by : (x : Option Trailer) → trailer_at t ≡ x → below t ≡ children_below (operand_children (operands_at t)) ++ stack u
-    by (Some p) h = tail-below t p u l h o
-    by None h = absurd (tail-there t q i h)
-
-pub ruleset tails = (tail-text, tail-below, tail-kind)
 
 -- ---- frames
 

@@ -1,18 +1,15 @@
 -- A node has the parts that its kind says, as `a + b` has an operator between two operands; and its operands are smaller.
 use Rattle.std.specs.Prelude.{Option, Some, None, is_some, Result, Ok, Err}
-use Rattle.std.proofs.Common.{◌≡◌, ℕ, ◌+◌, ◌<◌, true, false, List, [], ◌++◌, OnOk, subst, refl, sym, ap, ◌∙◌, append_assoc, arith}
+use Rattle.std.proofs.Common.{◌≡◌, ℕ, ◌+◌, ◌<◌, true, List, [], ◌++◌, OnOk, subst, refl, sym, ap, ◌∙◌, arith}
 use Rattle.syn_lexer.specs.declared.lexeme.Delimiter.TheVariants as del
 use Rattle.syn_tokens.specs.Tok.{Tok}
 use Rattle.syn_parts.specs.Own as own_parts
 use Rattle.syn_grammar.specs.declared.kinds.Infix.{Infix}
 use Rattle.syn_grammar.specs.declared.next.Context.{Context}
-use Rattle.syn_grammar.specs.Op.{level}
-use Rattle.syn_grammar.specs.Next.{enclosed, left_context, right_context, base_context, prefix_context}
-use Rattle.syn_grammar.specs.Summaries.{summary_of, stack, below, place_by, left_by, base_by, prefix_by}
+use Rattle.syn_grammar.specs.Next.{enclosed}
+use Rattle.syn_grammar.specs.Summaries.{stack, below}
 use Rattle.syn_grammar.specs.Tree as e
-use Rattle.syn_grammar.specs.Tree.{Tree, leaf_own, prefix_own, infix_own, postfix_own, postfix_op, trailer_own, size, children_size}
-use Rattle.syn_expr_summaries.specs.Label as label
-use Rattle.syn_expr_summaries.specs.Label.{prefix_kind, trailer_kind}
+use Rattle.syn_grammar.specs.Tree.{Tree, leaf_own, size, children_size}
 use Rattle.syn_expr_summaries.specs.Kind.{kind_at}
 use Rattle.syn_expr_summaries.specs.declared.kind.NodeKind.TheVariants as kind
 use Rattle.syn_expr_summaries.specs.declared.label.LeafKind.{LeafKind}
@@ -23,10 +20,10 @@ use Rattle.syn_expr_summaries.specs.declared.label.FrameKind.{FrameKind}
 use Rattle.syn_expr_kinds.specs.Node.{operands_at, leaf_at, is_paren, prefix_at, operator_at, postfix_at, trailer_at, frame_at, operand_children, first_of, second_of}
 use Rattle.syn_lower_leaves.specs.View.{mapped}
 use Rattle.syn_expr_print.specs.declared.summaries.Summaries.{Summaries}
-use Rattle.syn_expr_print.specs.Printing.{spelled, spelled_in, children_spelled, core, IsBorrowed}
+use Rattle.syn_expr_print.specs.Printing.{spelled, core, IsBorrowed}
 use Rattle.syn_expr_print.specs.Taken.{Taken}
 use Rattle.syn_expr_kinds.proofs.Sizes.{first-smaller, second-smaller, children-smaller}
-use Rattle.syn_expr_print.proofs.Borrowed.{leaf-there, leaf-text, leaf-below, is-paren, paren-first, paren-text, paren-below, prefixed-there, prefixed-first, prefixed-text, prefixed-below, prefixed-kind, infixed-operator, infixed-first, infixed-second, infixed-text, infixed-below, postfixed-there, postfixed-first, postfixed-text, postfixed-below, postfixed-operator, tail-there, tail-first, tail-text, tail-kind, tail-known, frame-there}
+use Rattle.syn_expr_print.proofs.Borrowed.{leaf-there, leaf-text, leaf-below, is-paren, paren-first, paren-text, paren-below, prefixed-there, prefixed-first, prefixed-below, infixed-operator, infixed-second, postfixed-there, tail-there, frame-there}
 use Rattle.syn_expr_print.proofs.Stacks.{taken-none}
 
 there : {A : Type 0} (o : Option A) → (o ≡ None → ⊥) → is_some o ≡ true
@@ -71,17 +68,8 @@ paren-operand t h = there (first_of (operands_at t)) (paren-first t h)
 pub prefixed-operand : (t : Tree) (q : PrefixKind) → kind_at t ≡ kind.Prefix q → is_some (first_of (operands_at t)) ≡ true
 prefixed-operand t q h = there (first_of (operands_at t)) (prefixed-first t q h)
 
-pub left-operand : (t : Tree) (q : Infix) → kind_at t ≡ kind.Infix q → is_some (first_of (operands_at t)) ≡ true
-left-operand t q h = there (first_of (operands_at t)) (infixed-first t q h)
-
 pub right-operand : (t : Tree) (q : Infix) → kind_at t ≡ kind.Infix q → is_some (second_of (operands_at t)) ≡ true
 right-operand t q h = there (second_of (operands_at t)) (infixed-second t q h)
-
-pub postfixed-operand : (t : Tree) (q : PostfixKind) → kind_at t ≡ kind.Postfix q → is_some (first_of (operands_at t)) ≡ true
-postfixed-operand t q h = there (first_of (operands_at t)) (postfixed-first t q h)
-
-pub base-operand : (t : Tree) (q : TrailerKind) → kind_at t ≡ kind.Tail q → is_some (first_of (operands_at t)) ≡ true
-base-operand t q h = there (first_of (operands_at t)) (tail-first t q h)
 
 -- ---- sizes
 
@@ -101,7 +89,7 @@ on-map (Err x) h f = h
 
 -- ---- the tokens of the borrowed parts, one part after the other
 
-borrowed-at : {A B : Type 0} (f : A → B) (o : Option A) (l : A) (x : Option B) → mapped f o ≡ x → o ≡ Some l → x ≡ Some (f l)
+pub borrowed-at : {A B : Type 0} (f : A → B) (o : Option A) (l : A) (x : Option B) → mapped f o ≡ x → o ≡ Some l → x ≡ Some (f l)
 borrowed-at f o l x m e = sym m ∙ ap (mapped f) e
 
 pub leaf-written : {A : Type 0} (f : A → e.Leaf) (o : Option A) (l : A) (c : Context) (t : Tree) (t0 t1 : List Tok)
@@ -118,66 +106,6 @@ pub paren-written : (c : Context) (t u : Tree) (t0 t1 : List Tok) → IsBorrowed
     → t1 ≡ t0 ++ own_parts.enclosed del.Parenthesis (spelled enclosed u) [] → t1 ≡ t0 ++ spelled c (core t)
 paren-written c t u t0 t1 n h o p = p ∙ ap (λ z. t0 ++ z) (sym (paren-text c t u n h o))
 
-pub prefixed-written : {A U X : Type 0} (r : Result U X) (f : A → e.Prefix × List Tree) (o : Option A) (l : A) (q : PrefixKind) (c : Context) (t u : Tree) (t0 t1 t2 : List Tok)
-    → IsBorrowed t → kind_at t ≡ kind.Prefix q → mapped f o ≡ prefix_at t → o ≡ Some l → first_of (operands_at t) ≡ Some u → t1 ≡ t0 ++ prefix_own (f l).0 []
-    → ((k : e.Prefix) → prefix_kind k ≡ q → OnOk r (t2 ≡ t1 ++ spelled_in (prefix_by k (prefix_context k c) (summary_of u)) (prefix_context k c) u))
-    → OnOk r (t2 ≡ t0 ++ spelled c (core t))
-prefixed-written r f o l q c t u t0 t1 t2 n h m s v p g = by r (g (f l).0 (prefixed-kind t (f l) q h a))
-  where
-    a : prefix_at t ≡ Some (f l)
-    a = borrowed-at f o l (prefix_at t) m s
-
-    z : List Tok
-    z = spelled_in (prefix_by (f l).0 (prefix_context (f l).0 c) (summary_of u)) (prefix_context (f l).0 c) u
-
-    by : {U X : Type 0} (r : Result U X) → OnOk r (t2 ≡ t1 ++ z) → OnOk r (t2 ≡ t0 ++ spelled c (core t))
-    by (Ok x) y = y ∙ ap (λ w. w ++ z) p ∙ append_assoc t0 (prefix_own (f l).0 []) z ∙ ap (λ w. t0 ++ w) (sym (prefixed-text c t (f l) u n a v))
-    by (Err x) y = y
-
-pub postfixed-written : {A : Type 0} (f : A → e.Postfix) (o : Option A) (l : A) (q : PostfixKind) (c : Context) (t u : Tree) (t0 t1 t2 : List Tok)
-    → IsBorrowed t → kind_at t ≡ kind.Postfix q → mapped f o ≡ postfix_at t → o ≡ Some l → first_of (operands_at t) ≡ Some u
-    → t1 ≡ t0 ++ spelled_in (left_by (label.postfix_op q) (left_context (label.postfix_op q) c) (summary_of u)) (left_context (label.postfix_op q) c) u
-    → t2 ≡ t1 ++ postfix_own (f l) [] → t2 ≡ t0 ++ spelled c (core t)
-postfixed-written f o l q c t u t0 t1 t2 n h m s v p g =
-    let a = borrowed-at f o l (postfix_at t) m s in
-    let k = postfixed-operator t (f l) q h a in
-    let y = postfix_own (f l) [] in
-    let z = λ (op : Infix). spelled_in (left_by op (left_context op c) (summary_of u)) (left_context op c) u in
-    g ∙ ap (λ w. w ++ y) (p ∙ ap (λ op. t0 ++ z op) k) ∙ append_assoc t0 (z (postfix_op (f l))) y ∙ ap (λ w. t0 ++ w) (sym (postfixed-text c t (f l) u n a v))
-
-pub infixed-parts : {A U X : Type 0} (r : Result U X) (f : A → Infix) (o : Option A) (l : A) (q : Infix) (c : Context) (t u v : Tree) (t0 t1 t2 t3 : List Tok)
-    → IsBorrowed t → kind_at t ≡ kind.Infix q → mapped f o ≡ operator_at t → o ≡ Some l → first_of (operands_at t) ≡ Some u → second_of (operands_at t) ≡ Some v
-    → t1 ≡ t0 ++ spelled_in (left_by q (left_context q c) (summary_of u)) (left_context q c) u
-    → t2 ≡ t1 ++ infix_own (f l) []
-    → OnOk r (t3 ≡ t2 ++ spelled_in (place_by (level q) (right_context q c) (summary_of v)) (right_context q c) v)
-    → OnOk r (t3 ≡ t0 ++ spelled c (core t))
-infixed-parts r f o l q c t u v t0 t1 t2 t3 n h m s d w p g k = by r k
-  where
-    y : List Tok
-    y = spelled_in (left_by q (left_context q c) (summary_of u)) (left_context q c) u
-
-    z : List Tok
-    z = spelled_in (place_by (level q) (right_context q c) (summary_of v)) (right_context q c) v
-
-    same : f l ≡ q
-    same = let a = sym (borrowed-at f o l (operator_at t) m s) ∙ infixed-operator t q h in cc
-
-    by : {U X : Type 0} (r : Result U X) → OnOk r (t3 ≡ t2 ++ z) → OnOk r (t3 ≡ t0 ++ spelled c (core t))
-    by (Ok x) j =
-        j ∙ ap (λ i. i ++ z) (g ∙ ap (λ i. i ++ infix_own (f l) []) p ∙ ap (λ i. (t0 ++ y) ++ infix_own i []) same)
-        ∙ append_assoc (t0 ++ y) (infix_own q []) z ∙ append_assoc t0 y (infix_own q [] ++ z) ∙ ap (λ i. t0 ++ i) (sym (infixed-text c t q u v n h d w))
-    by (Err x) j = j
-
-pub tail-written : {A : Type 0} (f : A → e.Trailer) (o : Option A) (l : A) (q : TrailerKind) (c : Context) (t u : Tree) (t0 t1 t2 : List Tok)
-    → IsBorrowed t → kind_at t ≡ kind.Tail q → mapped f o ≡ trailer_at t → o ≡ Some l → first_of (operands_at t) ≡ Some u
-    → ((k : e.Trailer) → trailer_kind k ≡ q → t1 ≡ t0 ++ spelled_in (base_by k (base_context k c) (summary_of u)) (base_context k c) u)
-    → t2 ≡ t1 ++ trailer_own (f l) (children_spelled false (operand_children (operands_at t))) [] → t2 ≡ t0 ++ spelled c (core t)
-tail-written f o l q c t u t0 t1 t2 n h m s v p g =
-    let a = borrowed-at f o l (trailer_at t) m s in
-    let y = trailer_own (f l) (children_spelled false (operand_children (operands_at t))) [] in
-    let z = spelled_in (base_by (f l) (base_context (f l) c) (summary_of u)) (base_context (f l) c) u in
-    g ∙ ap (λ w. w ++ y) (p (f l) (tail-kind t (f l) q h a)) ∙ append_assoc t0 z y ∙ ap (λ w. t0 ++ w) (sym (tail-text c t (f l) u n a v))
-
 -- ---- what is below, by the kind
 
 pub prefixed-stack : (t u : Tree) (q : PrefixKind) → IsBorrowed t → kind_at t ≡ kind.Prefix q → first_of (operands_at t) ≡ Some u → below t ≡ stack u
@@ -187,23 +115,16 @@ prefixed-stack t u q n h o = by (prefix_at t) refl
     by (Some p) a = prefixed-below t p u n a o
     by None a = absurd (prefixed-there t q h a)
 
-pub postfixed-stack : (t u : Tree) (q : PostfixKind) → IsBorrowed t → kind_at t ≡ kind.Postfix q → first_of (operands_at t) ≡ Some u → below t ≡ stack u
-postfixed-stack t u q n h o = by (postfix_at t) refl
-  where
-    by : (x : Option e.Postfix) → postfix_at t ≡ x → below t ≡ stack u
-    by (Some p) a = postfixed-below t p u n a o
-    by None a = absurd (postfixed-there t q h a)
-
 pub ruleset leaf_ends = (leaf-some, leaf-written, leaf-none)
 
 pub ruleset paren_ends = (paren-some, paren-operand, less-first, paren-written, paren-below)
 
-pub ruleset prefix_ends = (prefixed-some, prefixed-operand, less-first, prefixed-written, prefixed-stack)
+pub ruleset prefix_ends = (prefixed-some, prefixed-operand, less-first, prefixed-stack)
 
-pub ruleset infix_ends = (operator-some, left-operand, right-operand, less-first, less-second, infixed-parts, infixed-below)
+pub ruleset infix_ends = (operator-some, right-operand, less-second)
 
-pub ruleset postfix_ends = (postfixed-some, postfixed-operand, less-first, postfixed-written, postfixed-stack)
+pub ruleset postfix_ends = (postfixed-some)
 
-pub ruleset tail_ends = (trailer-some, base-operand, less-first, less-children, tail-written, tail-known)
+pub ruleset tail_ends = (trailer-some, less-children)
 
 pub ruleset shapes = (frame-some, leaf-taken)

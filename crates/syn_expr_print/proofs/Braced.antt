@@ -1,4 +1,4 @@
--- What is printed behind `else` and behind the output of a closure: an `if` or a block, or anything else in braces.
+-- What is printed after `else` and after the output of a closure: an `if` or a block, or anything else in braces.
 use Rattle.std.specs.Prelude.{if◌then◌else◌}
 use Rattle.std.proofs.Common.{◌≡◌, Bool, true, false, List, [], ◌∷◌, refl, ap, ◌∙◌}
 use Rattle.syn_lexer.specs.declared.lexeme.Delimiter.TheVariants as del

@@ -1,4 +1,4 @@
--- What is printed behind `else`, by its parts.
+-- What is printed after `else`, by its parts.
 use Rattle.std.proofs.Common.{◌≡◌, true, false, List, [], ◌∷◌, refl}
 use Rattle.syn_lexer.specs.declared.lexeme.Delimiter.TheVariants as del
 use Rattle.syn_tokens.specs.Tok.{group, inside}
@@ -14,7 +14,7 @@ use Rattle.syn_expr_print.specs.Printing.{spelled, piece_spelled, core, node_of,
 use Rattle.syn_expr_print.specs.Shape.{shape_at}
 use Rattle.syn_expr_print.proofs.Braced.{chained-braced, chained-frame, chained-attributed, chained-leaf, chained-attributed-leaf}
 
--- attributes that are lent of a node are all that stand before it
+-- attributes that are lent of a node are all that come before it
 borrowed-once : (u t : Tree) (a : AttributeTree) (more : List AttributeTree) → attributed a more t ≡ node_of (shape_at u) (operands_at u) → ⊥
 borrowed-once (leaf k) t a more h = absurd cc
 borrowed-once (paren m x) t a more h = absurd cc

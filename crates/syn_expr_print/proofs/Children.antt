@@ -1,4 +1,4 @@
--- What is printed of operands in places of their own, one behind the other.
+-- What is printed of operands in places of their own, one after the other.
 use Rattle.std.specs.Prelude.{◌||◌, not, if◌then◌else◌}
 use Rattle.std.proofs.Common.{◌≡◌, Bool, true, false, List, [], ◌∷◌, ◌++◌, refl, ap, ◌∙◌}
 use Rattle.std.proofs.lemmas.List.{append-nil}
@@ -166,9 +166,9 @@ rest-spelled last d t =
     ∙ ap (λ l. joint 46 ∷ alone 46 ∷ (piece_spelled (e.rest d) t ++ l)) (none-spelled last)
     ∙ ap (λ l. joint 46 ∷ alone 46 ∷ l) (append-nil (piece_spelled (e.rest d) t) ∙ rest-is d t)
 
--- ---- behind `else` and behind a closure's output
+-- ---- after `else` and after a closure's output
 
--- what isn't an `if` or a block stands in braces, as a statement
+-- what isn't an `if` or a block is in braces, as a statement
 pub chained-spelled : (last : Bool) (t : Tree) → children_spelled last (child e.chained e.no_ending t none) ≡ ident (codes "else") ∷ piece_spelled e.chained t
 chained-spelled last t =
     loud-spelled last e.chained e.no_ending t none refl

@@ -19,12 +19,12 @@ use Rattle.syn_expr_print.specs.Printing.{children_spelled, piece_spelled}
 use Rattle.syn_expr_print.specs.Placed.{comma_if}
 use Rattle.syn_expr_print.proofs.Children.{loud-spelled, silent-spelled, comma-stays}
 
--- fields with the commas behind them, before others
+-- fields with the commas after them, before others
 abbrev pub field_children : {F P : Type 0} → (F → FieldView) → List (F × P) → Children → Children
 field_children f [] ks = ks
 field_children f (q ∷ more) ks = child (e.field_value (f q.0).attrs (f q.0).member (f q.0).colon) e.comma (f q.0).value (field_children f more ks)
 
--- the last field, behind which no comma stands
+-- the last field, after which no comma stands
 abbrev pub last_field : {F : Type 0} → (F → FieldView) → Option (Box F Global) → Children → Children
 last_field f None ks = ks
 last_field f (Some x) ks = child (e.field_value (f x.value).attrs (f x.value).member (f x.value).colon) e.no_ending (f x.value).value ks
@@ -56,7 +56,7 @@ unfolding piece_spelled whole
 value-is a m true t = refl
 value-is a m false t = refl
 
--- a field whatever is behind it
+-- a field whatever is after it
 field-by : (last : Bool) (c : Ending) (a : List AttributeTree) (m : MemberTree) (colon : Bool) (t : Tree) (ks : Children)
     → children_spelled last (child (e.field_value a m colon) c t ks)
     ≡ field_spelled (record { attrs = a; member = m; colon = colon; value = t }) ++ ending_own (e.field_value a m colon) (with_comma (not (is_none ks) || last) c) (children_spelled last ks) []

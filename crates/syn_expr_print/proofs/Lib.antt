@@ -17,3 +17,6 @@ pub mod Rounds
 pub mod Borrowing
 pub mod Counts
 pub mod Attributed
+pub mod Spines
+pub mod Behinds
+pub mod Leading

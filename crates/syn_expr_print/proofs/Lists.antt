@@ -9,12 +9,12 @@ use Rattle.syn_grammar.specs.Tree as e
 use Rattle.syn_grammar.specs.Tree.{Tree, Children, none, child}
 use Rattle.syn_expr_kinds.specs.View.{elements}
 
--- the last element, behind which no comma stands
+-- the last element, after which no comma stands
 abbrev pub last_child : {E : Type 0} → (E → Tree) → Option (Box E Global) → Children
 last_child f None = none
 last_child f (Some x) = child e.element e.no_ending (f x.value) none
 
--- elements with the commas behind them, before others
+-- elements with the commas after them, before others
 abbrev pub pair_children : {E P : Type 0} → (E → Tree) → List (E × P) → Children → Children
 pair_children f [] ks = ks
 pair_children f (q ∷ more) ks = child e.element e.comma (f q.0) (pair_children f more ks)

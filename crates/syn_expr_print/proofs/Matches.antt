@@ -40,7 +40,7 @@ pub ruleset guards = (guard-there, attributes_append)
 abbrev behind : ArmView → List Tok → List Tok
 behind x l = joint 61 ∷ alone 62 ∷ (whole in_arm x.body ++ l)
 
--- a comma behind the body
+-- a comma after the body
 abbrev after : ArmView → Children → Bool → List Tok
 after x more last = comma_if (x.comma || (not (is_none more) && not (is_block_like x.body))) ++ children_spelled last more
 

@@ -30,7 +30,7 @@ plain-sort (e.async_block m ts) = refl
 plain-sort (e.try_block ts) = refl
 plain-sort (e.verbatim ts) = refl
 
--- behind attributes a node's summary says of no block
+-- after attributes a node's summary says of no block
 behind-sort : (b : Bool) (s : Sort) → is_block_sort (if b then sort.Other else attributed_sort s) ≡ false
 behind-sort true s = refl
 behind-sort false sort.Block = refl

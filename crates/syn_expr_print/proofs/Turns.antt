@@ -34,7 +34,7 @@ cut (x ∷ xs) d h = ap (λ l. x ∷ l) (sym (take_all (length (x ∷ xs) - 1) x
 pub cut_item : {A : Type 0} (xs : List A) (d : A) → 1 ≤ length xs → d ≡ get_or xs 0 d → xs ≡ d ∷ take (length xs - 1) (drop 1 xs)
 cut_item xs d h e = cut xs d h ∙ ap (λ x. x ∷ take (length xs - 1) (drop 1 xs)) (sym e)
 
--- an operand and the sign behind it
+-- an operand and the sign after it
 pub sign_behind : (now x s more : List Tok) {infixed new all : List Tok} → infixed ≡ now ++ x → new ≡ infixed ++ s → now ++ ((x ++ s) ++ more) ≡ all → new ++ more ≡ all
 sign_behind now x s more a b e =
     ap (λ l. l ++ more) b ∙ ap (λ l. (l ++ s) ++ more) a ∙ ap (λ l. l ++ more) (append_assoc now x s) ∙ append_assoc now (x ++ s) more ∙ e

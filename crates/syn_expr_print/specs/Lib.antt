@@ -2,5 +2,6 @@ pub mod Placed
 pub mod Printing
 pub mod Prints
 pub mod Shape
+pub mod Spine
 pub mod Taken
 pub mod Operation

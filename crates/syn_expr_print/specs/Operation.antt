@@ -1,4 +1,4 @@
--- Which nodes stand in parentheses behind attributes, by their kinds.
+-- Which nodes are in parentheses after attributes, by their kinds.
 use Rattle.std.specs.Prelude.{Bool, false, true}
 use Rattle.syn_expr_summaries.specs.declared.kind.NodeKind.{NodeKind}
 use Rattle.syn_expr_summaries.specs.declared.kind.NodeKind.TheVariants as kind

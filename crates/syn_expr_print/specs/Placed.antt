@@ -26,7 +26,7 @@ use Rattle.syn_expr_print.specs.Printing.{piece_spelled}
 
 -- ---- lists with commas
 
--- behind the last operand
+-- after the last operand
 abbrev pub comma_if : Bool → List Tok
 comma_if b = before_if b (λ l. alone 44 ∷ l) []
 
@@ -34,7 +34,7 @@ abbrev pub option_size : Option Tree → ℕ
 option_size None = 0
 option_size (Some t) = size t
 
--- the last element, behind which no comma stands, and so the last field
+-- the last element, after which no comma stands, and so the last field
 abbrev pub last_spelled : Option Tree → Bool → List Tok
 last_spelled None b = []
 last_spelled (Some t) b = whole enclosed t ++ comma_if b
@@ -51,7 +51,7 @@ abbrev pub last_field_size : Option FieldView → ℕ
 last_field_size None = 0
 last_field_size (Some x) = size x.value
 
--- the expression behind the fields of a struct expression
+-- the expression after the fields of a struct expression
 abbrev pub rest_spelled : Option Tree → List Tok
 rest_spelled None = []
 rest_spelled (Some t) = joint 46 ∷ alone 46 ∷ whole enclosed t
@@ -78,7 +78,7 @@ abbrev pub arms_spelled : List ArmView → List Tok
 arms_spelled [] = []
 arms_spelled (x ∷ xs) = (arm_spelled x ++ comma_if (has_comma x (not (is_nil xs)))) ++ arms_spelled xs
 
--- ---- behind the block of an `if`
+-- ---- after the block of an `if`
 
 abbrev pub else_tree : {E S : Type 0} → (E → Tree) → Option (S × Box E Global) → Option Tree
 else_tree f otherwise = mapped (λ q. f q.1.value) otherwise
@@ -87,7 +87,7 @@ abbrev pub else_spelled : Option Tree → List Tok
 else_spelled None = []
 else_spelled (Some t) = ident (codes "else") ∷ piece_spelled e.chained t
 
--- whether it is a block, behind attributes too
+-- whether it is a block, after attributes too
 abbrev pub is_block : Tree → Bool
 is_block (e.leaf k) = is_block_expr_leaf k
 is_block (e.attributed a more t) = is_block t
@@ -115,7 +115,7 @@ needs_last e.tuple one = one
 needs_last (e.structure q p dots) one = dots
 needs_last _ one = false
 
--- whether a delimiter encloses the operands, and whether a comma is needed behind the last of these
+-- whether a delimiter encloses the operands, and whether a comma is needed after the last of these
 abbrev pub is_enclosed : Option (Frame × List Tree) → Bool
 is_enclosed None = false
 is_enclosed (Some p) = is_some (enclosure p.0)

@@ -29,7 +29,7 @@ spelled c t = own_tokens (bare c (fill t))
 unfoldable pub spelled_in : Bool → Context → Tree → List Tok
 spelled_in wrapped c t = own_tokens (put wrapped (bare enclosed (fill t)) (bare c (fill t)))
 
--- of operands in places of their own; `last`: behind the last one a comma is needed
+-- of operands in places of their own; `last`: after the last one a comma is needed
 unfoldable pub children_spelled : Bool → Children → List Tok
 children_spelled last ks = children_own (bare_children (fill_children last ks)) []
 

@@ -1,4 +1,4 @@
-//! What stands in braces that may be added: what is behind `else`, and the body of a closure with an output (Rust Reference,
+//! What is in braces that may be added: what is after `else`, and the body of a closure with an output (Rust Reference,
 //! "`if` expressions", "Closure expressions").
 
 ghost use Rattle.std.specs.Prelude.{◌≡◌, ◌+◌, ◌++◌, ◌∷◌, [], OnOk};
@@ -30,7 +30,7 @@ use syn_grammar::summary::{Sort, Summary};
 use syn_tokens::token::Brace;
 use syn_tokens::tree::TokenStream;
 
-/// Whether a summary is that of a block without a label, before which no attributes stand.
+/// Whether a summary is that of a block without a label, before which no attributes are.
 fn is_block_sort(sort: Sort) -> bool
     ensures { result ≡ placed.is_block_sort sort }
 {
@@ -49,7 +49,7 @@ fn is_plain_block<E: HasShape>(x: &E, summary: Summary) -> bool
     }
 }
 
-/// Prints what is put in braces, where it stands as a statement; its summary was taken.
+/// Prints what is put in braces, where it is as a statement; its summary was taken.
 #[tactic(auto, using(syn_tokens::proofs::Fronts::fronts, crate::proofs::Spellings::roles))]
 pub(crate) fn braced<
     E: HasPrint,

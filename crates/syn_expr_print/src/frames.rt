@@ -54,7 +54,7 @@ use syn_tokens::tree::TokenStream;
 
 // ---- what is asked of a node and of what is lent of it
 
-/// Whether it is a block, with or without a label, behind attributes too.
+/// Whether it is a block, with or without a label, after attributes too.
 #[tactic(auto, using(crate::proofs::Likes::blocks))]
 fn is_block<E: HasKind>(x: &E) -> bool
     ensures { result ≡ placed.is_block (E.tree x.now) }
@@ -62,7 +62,7 @@ fn is_block<E: HasKind>(x: &E) -> bool
     matches!(x.kind(), NodeKind::Leaf(LeafKind::Block { .. }))
 }
 
-/// Whether it is an `if`, behind attributes too.
+/// Whether it is an `if`, after attributes too.
 fn is_if_expr<E: HasShape>(x: &E) -> bool
     ensures { result ≡ placed.is_if_expr (frame_at (E.tree x.now)) }
 {
@@ -77,7 +77,7 @@ fn is_if_expr<E: HasShape>(x: &E) -> bool
 pub struct Asked {
     /// A delimiter encloses the operands.
     pub is_enclosed: bool,
-    /// A comma is needed behind the last: behind the one of a tuple, and before the `..` that ends a struct expression.
+    /// A comma is needed after the last: after the one of a tuple, and before the `..` that ends a struct expression.
     pub needs_comma: bool,
     /// The braces round the arms of a `match`; of other nodes some that have no place.
     pub brace: Brace,
@@ -188,7 +188,7 @@ fn looped<E: HasPrint, F: Fn(&mut TokenStream, &mut Summaries, &E, Context) -> P
     put_body(tokens, braces)
 }
 
-/// Prints what a `match` looks at, and its arms in their braces, behind the inner attributes.
+/// Prints what a `match` looks at, and its arms in their braces, after the inner attributes.
 #[tactic(auto, using(syn_tokens::proofs::Fronts::fronts, crate::proofs::Stacks::takes))]
 fn chosen<E: HasPrint + HasArms, F: Fn(&mut TokenStream, &mut Summaries, &E, Context) -> PutResult>(
     bare: &F,
@@ -215,7 +215,7 @@ where
     put_braces(tokens, &brace, inside)
 }
 
-/// Prints what stands behind `else`: an `if` without its attributes, a block, or anything else in braces.
+/// Prints what comes after `else`: an `if` without its attributes, a block, or anything else in braces.
 #[cycle(frame)]
 #[tactic(auto, using(syn_tokens::proofs::Fronts::fronts))]
 fn chained<
@@ -262,7 +262,7 @@ fn guarded<E: HasPrint, F: Fn(&mut TokenStream, &mut Summaries, &E, Context) -> 
     put(tokens, block)
 }
 
-/// Prints `else` and what stands behind it, if there is such.
+/// Prints `else` and what comes after it, if there is such.
 #[cycle(frame)]
 #[tactic(auto, using(syn_tokens::proofs::Fronts::fronts, crate::proofs::Turns::turns))]
 fn alternative<
@@ -293,7 +293,7 @@ where
     }
 }
 
-/// Prints the condition of an `if`, its block, and what stands behind `else`.
+/// Prints the condition of an `if`, its block, and what comes after `else`.
 #[cycle(frame)]
 #[tactic(auto, using(syn_tokens::proofs::Fronts::fronts, crate::proofs::Stacks::takes))]
 fn if_exprs<
@@ -321,8 +321,8 @@ where
     alternative(bare, tokens, summaries, otherwise)
 }
 
-/// Prints the operands of a node that are in places of their own, with what stands between them: those of a frame, or what
-/// a trailer holds. `needs_comma`: one is needed behind the last; `brace`: those round the arms of a `match`.
+/// Prints the operands of a node that are in places of their own, with what is between them: those of a frame, or what
+/// a trailer holds. `needs_comma`: one is needed after the last; `brace`: those round the arms of a `match`.
 #[cycle(frame)]
 #[tactic(auto, using(syn_tokens::proofs::Fronts::fronts, crate::proofs::Stacks::takes, crate::proofs::Children::children, syn_expr_kinds::proofs::Borrowed::based, crate::proofs::Matches::match_exprs, crate::proofs::Turns::nils))]
 pub fn children<
@@ -402,7 +402,7 @@ where
 }
 
 /// Prints a node that has its operands in places of their own, without the attributes before it; its summary was taken.
-/// What is printed doesn't depend on where it stands.
+/// What is printed doesn't depend on where it is.
 #[cycle(frame)]
 #[tactic(auto, using(syn_tokens::proofs::Fronts::fronts, crate::proofs::Borrowed::frames))]
 pub(crate) fn frame<

@@ -10,6 +10,6 @@ pub mod operand;
 pub mod places;
 pub mod print;
 pub mod printed;
+mod spine;
 pub mod structure;
 pub mod summaries;
-mod tail;

@@ -29,14 +29,14 @@ use syn_grammar::next::Context;
 use syn_tokens::token::{Comma, FatArrow, If};
 use syn_tokens::tree::TokenStream;
 
-/// Whether a comma is needed behind an arm with this value: `more` arms follow.
+/// Whether a comma is needed after an arm with this value: `more` arms follow.
 fn needs_comma<E: HasKind>(more: bool, x: &E) -> bool
     ensures { result ≡ more && not (e.is_block_like (E.tree x.now)) }
 {
     more && !is_block_like(x)
 }
 
-/// Prints a guard behind its `if`, if there is one.
+/// Prints a guard after its `if`, if there is one.
 #[tactic(auto, using(syn_tokens::proofs::Fronts::fronts, crate::proofs::Turns::turns))]
 fn guard<E: HasPrint, F: Fn(&mut TokenStream, &mut Summaries, &E, Context) -> PutResult>(
     bare: &F,
@@ -62,7 +62,7 @@ fn guard<E: HasPrint, F: Fn(&mut TokenStream, &mut Summaries, &E, Context) -> Pu
     }
 }
 
-/// Puts the comma behind an arm: its own, or one that is needed.
+/// Puts the comma after an arm: its own, or one that is needed.
 #[tactic(auto, using(syn_tokens::proofs::Fronts::fronts), unfolding(syn_tokens::specs::Sign::sign_text))]
 fn put_arm_comma(tokens: &mut TokenStream, comma: &Option<Comma>, is_needed: bool) -> PutResult
     ensures text { OnOk result (tokens.new ≡ tokens.old ++ comma_if (is_some comma.now || is_needed)) }
@@ -75,7 +75,7 @@ fn put_arm_comma(tokens: &mut TokenStream, comma: &Option<Comma>, is_needed: boo
     }
 }
 
-/// Prints the value of an arm behind `=>`.
+/// Prints the value of an arm after `=>`.
 #[tactic(auto, using(syn_tokens::proofs::Fronts::fronts))]
 fn body<E: HasPrint, F: Fn(&mut TokenStream, &mut Summaries, &E, Context) -> PutResult>(
     bare: &F,

@@ -97,7 +97,7 @@ pub fn whole<E: HasPrint, F: Fn(&mut TokenStream, &mut Summaries, &E, Context) -
     inside(bare, tokens, summaries, x, wrapped, context)
 }
 
-/// Prints the operand behind its prefix, with which a node ends; `context` is that of the node.
+/// Prints the operand after its prefix, with which a node ends; `context` is that of the node.
 #[tactic(auto, using(syn_tokens::proofs::Fronts::fronts, crate::proofs::Stacks::takes))]
 pub fn behind_prefix<
     E: HasPrint,

@@ -29,7 +29,7 @@ use syn_lower::punctuated::Punctuated;
 use syn_tokens::token::{Comma, Semi};
 use syn_tokens::tree::TokenStream;
 
-/// Prints elements with the commas behind them.
+/// Prints elements with the commas after them.
 #[tactic(auto, using(syn_tokens::proofs::Fronts::fronts, crate::proofs::Turns::turns), unfolding(syn_tokens::specs::Sign::sign_text))]
 fn pairs<E: HasPrint, F: Fn(&mut TokenStream, &mut Summaries, &E, Context) -> PutResult>(
     bare: &F,
@@ -52,7 +52,7 @@ fn pairs<E: HasPrint, F: Fn(&mut TokenStream, &mut Summaries, &E, Context) -> Pu
     Ok(())
 }
 
-/// Prints the last element of a list, behind which no comma stands, with one where it is needed.
+/// Prints the last element of a list, after which no comma stands, with one where it is needed.
 #[tactic(auto, using(syn_tokens::proofs::Fronts::fronts, crate::proofs::Turns::turns))]
 fn last_element<E: HasPrint, F: Fn(&mut TokenStream, &mut Summaries, &E, Context) -> PutResult>(
     bare: &F,
@@ -78,7 +78,7 @@ fn last_element<E: HasPrint, F: Fn(&mut TokenStream, &mut Summaries, &E, Context
 }
 
 /// Prints elements with their commas (Rust Reference, "Array expressions", "Tuple expressions", "Call expressions"). Where
-/// `needs_comma` is set one stands behind the last too, whether there is one or not: a tuple of one has it.
+/// `needs_comma` is set one comes after the last too, whether there is one or not: a tuple of one has it.
 #[tactic(auto, using(syn_tokens::proofs::Fronts::fronts))]
 pub fn elements<E: HasPrint, F: Fn(&mut TokenStream, &mut Summaries, &E, Context) -> PutResult>(
     bare: &F,

@@ -72,7 +72,7 @@ pub fn node<E: HasPrinter>(
 
 /// Prints an expression in its place, with the parentheses that it needs there and inside: those without which the tokens
 /// would be read as another tree, or not at all (Rust Reference, "Expression precedence"). In a statement a `let` and a macro
-/// with braces get some that are redundant, and so may an operation behind attributes. It answers how often a node was
+/// with braces get some that are redundant, and so may an operation after attributes. It answers how often a node was
 /// visited, at most twice each: once to be summarized, once to be printed. A count that reaches the greatest `u64` stays there.
 ///
 /// It is refused only because memory ran out; a part of the tokens may then follow what was there.

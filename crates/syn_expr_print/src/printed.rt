@@ -1,4 +1,4 @@
-//! A whole node, in a place where it is left bare: its attributes, and behind them what it is by its shape.
+//! A whole node, in a place where it is left bare: its attributes, and after them what it is by its shape.
 
 ghost use Rattle.std.specs.Prelude.{◌≡◌, ◌++◌, false, OnOk};
 ghost use Rattle.syn_parts.specs.Form.{is_nil};
@@ -11,11 +11,11 @@ ghost use Rattle.syn_grammar.specs.Summaries.{below};
 ghost use Rattle.syn_grammar.specs.Tree.{size};
 ghost use Rattle.syn_tokens.specs.Input.{IsFront};
 
-use crate::ends::{infixed, leaf, paren, postfixed, prefixed};
+use crate::ends::{leaf, paren, prefixed};
 use crate::frames::frame;
 use crate::node::HasPrint;
+use crate::spine::spine;
 use crate::summaries::Summaries;
-use crate::tail::tail;
 use syn_expr_collect::HasArms;
 use syn_expr_kinds::attrs::put_attributes;
 use syn_expr_kinds::body::put_parens;
@@ -62,14 +62,14 @@ where
         NodeKind::Leaf(kind) => leaf(tokens, x, kind, context),
         NodeKind::Paren => paren(bare, tokens, summaries, x, context),
         NodeKind::Prefix(kind) => prefixed(bare, tokens, summaries, x, kind, context),
-        NodeKind::Infix(op) => infixed(bare, tokens, summaries, x, op, context),
-        NodeKind::Postfix(kind) => postfixed(bare, tokens, summaries, x, kind, context),
-        NodeKind::Tail(kind) => tail(bare, tokens, summaries, x, kind, context),
+        NodeKind::Infix(_) | NodeKind::Postfix(_) | NodeKind::Tail(_) => {
+            spine(bare, tokens, summaries, x, context)
+        }
         NodeKind::Frame(_) => frame(bare, tokens, summaries, x),
     }
 }
 
-/// Prints a node behind its attributes, in parentheses where it is `wrapped`.
+/// Prints a node after its attributes, in parentheses where it is `wrapped`.
 #[tactic(auto, using(syn_tokens::proofs::Fronts::fronts, crate::proofs::Spellings::roles))]
 fn behind<E: HasPrint + HasArms, F: Fn(&mut TokenStream, &mut Summaries, &E, Context) -> PutResult>(
     bare: &F,
@@ -98,7 +98,7 @@ where
     }
 }
 
-/// Prints the attributes before a node, and the node behind them; an operation stands in parentheses there, without which
+/// Prints the attributes before a node, and the node after them; an operation is in parentheses there, without which
 /// they would be those of its first operand.
 #[tactic(auto, using(syn_tokens::proofs::Fronts::fronts))]
 fn attributed<

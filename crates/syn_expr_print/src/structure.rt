@@ -53,7 +53,7 @@ pub fn field<E: HasPrint, F: Fn(&mut TokenStream, &mut Summaries, &E, Context) -
     }
 }
 
-/// Prints fields with the commas behind them.
+/// Prints fields with the commas after them.
 #[tactic(auto, using(syn_tokens::proofs::Fronts::fronts, crate::proofs::Turns::turns), unfolding(syn_tokens::specs::Sign::sign_text))]
 fn pairs<E: HasPrint, F: Fn(&mut TokenStream, &mut Summaries, &E, Context) -> PutResult>(
     bare: &F,
@@ -76,7 +76,7 @@ fn pairs<E: HasPrint, F: Fn(&mut TokenStream, &mut Summaries, &E, Context) -> Pu
     Ok(())
 }
 
-/// Prints the last field, behind which no comma stands, with one where it is needed.
+/// Prints the last field, after which no comma stands, with one where it is needed.
 #[tactic(auto, using(syn_tokens::proofs::Fronts::fronts, crate::proofs::Turns::turns))]
 fn last_field<E: HasPrint, F: Fn(&mut TokenStream, &mut Summaries, &E, Context) -> PutResult>(
     bare: &F,
@@ -101,7 +101,7 @@ fn last_field<E: HasPrint, F: Fn(&mut TokenStream, &mut Summaries, &E, Context) 
     Ok(())
 }
 
-/// Whether a comma is needed behind the last field: `needs_comma` says so, or what the other fields are taken of follows.
+/// Whether a comma is needed after the last field: `needs_comma` says so, or what the other fields are taken of follows.
 #[tactic(auto, using(crate::proofs::Pairs::rests))]
 fn is_before_rest<E>(needs_comma: bool, rest: &Option<Box<E>>) -> bool
     ensures { (tree : E → Tree) → result ≡ needs_comma || is_some (boxed tree rest.now) }
@@ -109,7 +109,7 @@ fn is_before_rest<E>(needs_comma: bool, rest: &Option<Box<E>>) -> bool
     needs_comma || rest.is_some()
 }
 
-/// Puts the `..` before the rest, which stands there whether the value has it or not.
+/// Puts the `..` before the rest, which is there whether the value has it or not.
 #[tactic(auto, using(syn_tokens::proofs::Fronts::fronts), unfolding(syn_tokens::specs::Sign::sign_text))]
 fn put_rest_dots(tokens: &mut TokenStream, dots: &Option<DotDot>) -> PutResult
     ensures text { OnOk result (tokens.new ≡ tokens.old ++ joint 46 ∷ alone 46 ∷ []) }
@@ -121,7 +121,7 @@ fn put_rest_dots(tokens: &mut TokenStream, dots: &Option<DotDot>) -> PutResult
     }
 }
 
-/// Prints what the other fields are taken of, if there is such, behind `..`.
+/// Prints what the other fields are taken of, if there is such, after `..`.
 #[tactic(auto, using(syn_tokens::proofs::Fronts::fronts, crate::proofs::Turns::turns))]
 fn rest<E: HasPrint, F: Fn(&mut TokenStream, &mut Summaries, &E, Context) -> PutResult>(
     bare: &F,
@@ -146,8 +146,8 @@ fn rest<E: HasPrint, F: Fn(&mut TokenStream, &mut Summaries, &E, Context) -> Put
     }
 }
 
-/// Prints the fields of a struct expression with their commas, and what the other fields are taken of. Behind the last
-/// field a comma stands where there is one, where more follows, or where `needs_comma` is set.
+/// Prints the fields of a struct expression with their commas, and what the other fields are taken of. After the last
+/// field a comma is where there is one, where more follows, or where `needs_comma` is set.
 #[tactic(auto, using(syn_tokens::proofs::Fronts::fronts))]
 pub(crate) fn fields<
     E: HasPrint,

@@ -1,4 +1,4 @@
--- What encloses the operands of a node, with these tokens of the operands; and what stands before a field's value.
+-- What encloses the operands of a node, with these tokens of the operands; and what comes before a field's value.
 use Rattle.std.specs.Prelude.{List, [], ◌∷◌, ◌++◌, Option, Some, None}
 use Rattle.syn_tokens.specs.Tok.{Tok}
 use Rattle.syn_parts.specs.Own.{alone, before_if, enclosed}

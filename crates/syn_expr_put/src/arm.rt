@@ -12,7 +12,7 @@ use syn_lower::attr::Attribute;
 use syn_tokens::token::{Comma, FatArrow, If};
 use syn_tokens::tree::TokenStream;
 
-/// What stands round the guard and the value of an arm.
+/// What is round the guard and the value of an arm.
 pub struct ArmHead<'a, P> {
     /// The attributes.
     pub attrs: &'a Vec<Attribute>,
@@ -35,7 +35,7 @@ pub trait HasArmHead: HasArmView {
     /// The type of patterns.
     type Pat: PutPat;
 
-    /// What stands round the guard and the value.
+    /// What is round the guard and the value.
     fn head(&self) -> ArmHead<'_, Self::Pat>
         ensures attrs { attrs_of result.attrs.now ≡ (Self.view self.now).attrs }
         ensures pat { Self.Pat.view result.pat.now ≡ (Self.view self.now).pat }

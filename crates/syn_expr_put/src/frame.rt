@@ -17,7 +17,7 @@ use syn_expr_kinds::put::{PutResult, put, put_some, put_tree};
 use syn_expr_kinds::structure::FieldValueOf;
 use syn_tokens::tree::TokenStream;
 
-/// Puts what stands before the operands of a node whose operands no delimiter encloses; before others nothing.
+/// Puts what comes before the operands of a node whose operands no delimiter encloses; before others nothing.
 #[tactic(auto, using(syn_tokens::proofs::Fronts::fronts, syn_expr_kinds::proofs::Owns::owns), unfolding(syn_tokens::specs::Sign::word_text))]
 pub fn put_frame_head<P: PutPat>(tokens: &mut TokenStream, frame: Frame<'_, P>) -> PutResult
     ensures ok { OnOk result (tokens.new ≡ tokens.old ++ frame_own (frame_of P.view frame.entry) []) }
@@ -45,7 +45,7 @@ pub fn put_frame_head<P: PutPat>(tokens: &mut TokenStream, frame: Frame<'_, P>) 
     }
 }
 
-/// Puts the delimiter round the operands of a node, with what stands before it and behind the operands in it; `inside` is
+/// Puts the delimiter round the operands of a node, with what comes before it and after the operands in it; `inside` is
 /// what is printed of the operands. Of a node whose operands no delimiter encloses nothing is put.
 #[tactic(auto, using(syn_tokens::proofs::Fronts::fronts, syn_expr_kinds::proofs::Owns::owns))]
 pub fn put_framed<P: PutPat>(

@@ -1,4 +1,4 @@
-//! The tokens of all that is no operand: what stands before, between and behind the operands of an expression, and what
+//! The tokens of all that is no operand: what comes before, between and after the operands of an expression, and what
 //! holds none. Each is put at the end of a stream; that memory ran out is all that it is refused for, and what was there
 //! before stays in front.
 #![tactic(auto)]

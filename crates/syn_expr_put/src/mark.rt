@@ -45,7 +45,7 @@ pub fn put_else(tokens: &mut TokenStream, word: &Else) -> PutResult
     put(tokens, word)
 }
 
-/// Puts `if`, as it stands before a guard.
+/// Puts `if`, as it comes before a guard.
 #[tactic(auto, using(syn_tokens::proofs::Fronts::fronts), unfolding(syn_tokens::specs::Sign::word_text))]
 pub fn put_if(tokens: &mut TokenStream, word: &If) -> PutResult
     ensures ok { OnOk result (tokens.new ≡ tokens.old ++ ident (codes "if") ∷ []) }

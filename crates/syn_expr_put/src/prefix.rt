@@ -1,4 +1,4 @@
-//! What stands before an operand with which a node ends.
+//! What comes before an operand with which a node ends.
 
 ghost use Rattle.std.specs.Prelude.{◌≡◌, ◌++◌, [], OnOk};
 ghost use Rattle.syn_expr_kinds.specs.Node.{closure_of, prefix_of};
@@ -27,7 +27,7 @@ pub trait PutPat: HasPatTree {
         ensures front { IsFront tokens.old tokens.new };
 }
 
-/// Puts arguments with the commas behind them.
+/// Puts arguments with the commas after them.
 #[tactic(auto, using(syn_tokens::proofs::Fronts::fronts), unfolding(syn_tokens::specs::Sign::sign_text))]
 fn put_pairs<P: PutPat>(tokens: &mut TokenStream, mut pairs: &[(P, Comma)]) -> PutResult
     ensures ok { OnOk result (tokens.new ≡ tokens.old ++ pairs_printed (λ p. pat_own (P.view p).tree []) comma pairs.entry.now) }
@@ -83,7 +83,7 @@ pub(crate) fn put_closure<P: PutPat>(tokens: &mut TokenStream, closure: Closure<
     put(tokens, output)
 }
 
-/// Puts what stands before an operand with which a node ends.
+/// Puts what comes before an operand with which a node ends.
 #[tactic(auto, using(syn_tokens::proofs::Fronts::fronts, syn_expr_kinds::proofs::Owns::owns), unfolding(syn_tokens::specs::Sign::sign_text, syn_tokens::specs::Sign::word_text))]
 pub fn put_prefix<P: PutPat>(tokens: &mut TokenStream, prefix: Prefix<'_, P>) -> PutResult
     ensures ok { OnOk result (tokens.new ≡ tokens.old ++ prefix_own (prefix_of P.view prefix.entry) []) }

@@ -1,4 +1,4 @@
-//! What stands between and behind operands.
+//! What is between and after operands.
 
 ghost use Rattle.std.specs.Prelude.{◌≡◌, ◌++◌, [], OnOk};
 ghost use Rattle.syn_expr_kinds.specs.Node.{operator_of, postfix_of, trailer_of};
@@ -23,7 +23,7 @@ pub fn put_operator(tokens: &mut TokenStream, operator: Operator<'_>) -> PutResu
     }
 }
 
-/// Puts what stands behind an operand with which a node begins.
+/// Puts what comes after an operand with which a node begins.
 #[tactic(auto, using(syn_tokens::proofs::Fronts::fronts, syn_expr_kinds::proofs::Owns::owns), unfolding(syn_tokens::specs::Sign::word_text))]
 pub fn put_postfix(tokens: &mut TokenStream, postfix: Postfix<'_>) -> PutResult
     ensures ok { OnOk result (tokens.new ≡ tokens.old ++ postfix_own (postfix_of postfix.entry) []) }

@@ -13,7 +13,7 @@ use Rattle.syn_expr_queries.specs.Node.{is_labelled, word_behind, asked, verbati
 use Rattle.syn_expr_kinds.proofs.Borrowed.{first-based}
 use Rattle.syn_expr_queries.proofs.Rights.{bare_framed}
 
--- behind outer attributes none is first
+-- after outer attributes none is first
 pub leads-attributed : (w : Bool) (t : Tree) → is_nil (outers (attributes_at t)) ≡ false → false ≡ tree_leads w t
 leads-attributed w (leaf k) h = absurd cc
 leads-attributed w (paren m t) h = absurd cc
@@ -34,7 +34,7 @@ none_before (postfixed x k) h = refl
 none_before (tail b k ks) h = refl
 none_before (frame k ks) h = refl
 
--- behind inner ones that which stands behind them is
+-- after inner ones that which comes after them is
 behind : (w : Bool) (a : AttributeTree) (more : List AttributeTree) (t : Tree) → is_nil (outers (a ∷ more)) ≡ true → tree_leads w t ≡ tree_leads w (attributed a more t)
 behind w a more t h = sym (ap (λ b. b && tree_leads w t) h)
 

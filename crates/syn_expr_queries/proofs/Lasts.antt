@@ -40,7 +40,7 @@ pub ruleset names = (map-append, last_segment_name, last_bound_name)
 
 pub ruleset braces = (map-append, last_segment_brace, last_bound_brace)
 
--- a path that a type qualifies: all of its segments stand before the `>`, or some behind it
+-- a path that a type qualifies: all of its segments come before the `>`, or some after it
 
 pub inside_brace : (b l a c : Bool) (x : TypeTree) (n : ℕ) (xs : List SegmentTree) → length xs ≤ n → false ≡ type_brace b (t.path (t.qself x n a) l (t.segments_of xs) c)
 inside_brace b l a c x n xs h =

@@ -79,7 +79,7 @@ loop_braces : (b : Bool) (ks : Children) → LoopBraces b ks
 loop_braces b none h = absurd cc
 loop_braces b (child k c t ks) h = loop_child b k c t ks (λ g. loop_braces b ks g) h
 
--- what stands behind `else`
+-- what comes after `else`
 else_braces : (b : Bool) (y : Body) (t : Tree) (k : Piece) (c : Ending) (u : Tree) (ks : Children) → is_if (child e.condition (e.braced y) t (child k c u ks)) ≡ true → true ≡ children_brace b (child e.condition (e.braced y) t (child k c u ks))
 else_braces b y t e.chained e.no_ending u none h = refl
 else_braces b y t e.chained e.no_ending u (child l d v ks) h = absurd cc
@@ -168,7 +168,7 @@ bare_framed (postfixed x k) h = h
 bare_framed (tail b k ks) h = h
 bare_framed (frame k ks) h = h
 
--- behind attributes
+-- after attributes
 tells_attributed : (r : Right) (b : Bool) (a : AttributeTree) (more : List AttributeTree) (t : Tree) → NodeTells r (is_nil (outers (a ∷ more)) && b) t → NodeTells r b (attributed a more t)
 tells_attributed (right.Known d) b a more t h = h
 tells_attributed (right.Operand d) b a more t h = h

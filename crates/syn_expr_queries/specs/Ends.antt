@@ -1,4 +1,4 @@
--- What stands at the right end of a type.
+-- What is at the right end of a type.
 use Rattle.std.specs.Prelude.{◌≡◌, ℕ, ◌<◌, Bool}
 use Rattle.syn_parts.specs.Tree.{TypeTree}
 use Rattle.syn_lower.specs.Ends.{depth}

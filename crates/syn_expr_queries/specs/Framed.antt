@@ -1,4 +1,4 @@
--- What an expression holds in places of their own: the condition of an `if`, of a loop and of a `match` has its braces behind
+-- What an expression holds in places of their own: the condition of an `if`, of a loop and of a `match` has its braces after
 -- it, and a closure with an output has its body alone.
 use Rattle.std.proofs.Common.{◌≡◌, true, List, [], ◌∷◌, Option, Some, None, refl, ap, sym, ◌∙◌, subst}
 use Rattle.std.specs.Prelude.{map}

@@ -1,10 +1,10 @@
--- What is known of the operands that stand in places of their own: those whose node ends with braces, and the body of a
+-- What is known of the operands that are in places of their own: those whose node ends with braces, and the body of a
 -- closure with an output. All attributes of a node are in one list.
 use Rattle.std.specs.Prelude.{Bool, true, false}
 use Rattle.syn_grammar.specs.Tree as e
 use Rattle.syn_grammar.specs.Tree.{Tree, Children, Frame, none, child}
 
--- behind guards in patterns, where none may stand
+-- after guards in patterns, where none may stand
 
 abbrev pub is_body : Children → Bool
 is_body (child e.stray e.no_ending t ks) = is_body ks

@@ -22,7 +22,7 @@ is_labelled (node.Leaf k) = leaf_labelled k
 is_labelled (node.Frame k) = frame_labelled k
 is_labelled _ = false
 
--- whether a word stands behind the operand with which a node begins, if it does
+-- whether a word comes after the operand with which a node begins, if it does
 abbrev pub word_behind : NodeKind → Option Bool
 word_behind (node.Infix op) = Some (is_cast_op op)
 word_behind (node.Postfix k) = Some (is_cast_postfix k)

@@ -16,7 +16,7 @@ frame_right e.group_expr = right.Known false
 frame_right (e.closure_block h) = right.Operand (return_brace h.output)
 frame_right _ = right.Known true
 
--- this is what a node answers behind braces, or behind none
+-- this is what a node answers after braces, or after none
 abbrev pub NodeTells : Right → Bool → Tree → Type 0
 NodeTells (right.Known b) before t = b ≡ tree_brace before t
 NodeTells (right.Operand b) before t = asked (tree_brace b) (last_of (operands_at t)) ≡ tree_brace before t

@@ -1,4 +1,4 @@
-//! Whether a type ends with a group in braces. What is spelled by no tokens, as a path without segments, answers what stands
+//! Whether a type ends with a group in braces. What is spelled by no tokens, as a path without segments, answers what is
 //! before it.
 
 ghost use Rattle.std.specs.Prelude.{◌≡◌, ◌&&◌, false, map};
@@ -17,7 +17,7 @@ use syn_lower::punctuated::Punctuated;
 use syn_lower::ty::{ReturnType, Type, TypeParamBound};
 use syn_tokens::token::Plus;
 
-/// What stands at the right end of a segment.
+/// What is at the right end of a segment.
 fn segment_end(segment: &PathSegment) -> End<'_>
     ensures { let s = segment_of type_of segment.now in Tells (query.type_brace false) result (query.arguments_brace s.arguments) (arguments_depth s.arguments) }
 {
@@ -27,7 +27,7 @@ fn segment_end(segment: &PathSegment) -> End<'_>
     }
 }
 
-/// What stands at the right end of the segments of a path; `before`: whether braces stand before them.
+/// What is at the right end of the segments of a path; `before`: whether braces come before them.
 #[tactic(auto, using(crate::proofs::Lasts::braces, syn_lower::proofs::Lasts::lasts))]
 fn segments_end(path: &Path, before: bool) -> End<'_>
     ensures { let ss = t.segments_of (path_of type_of path.now).segments in Tells (query.type_brace false) result (query.segments_brace before ss (trails path.now.segments)) (segments_depth ss) }
@@ -44,7 +44,7 @@ fn segments_end(path: &Path, before: bool) -> End<'_>
     }
 }
 
-/// What stands at the right end of a path, which may be qualified by a type; `before`: whether braces stand before it.
+/// What is at the right end of a path, which may be qualified by a type; `before`: whether braces come before it.
 fn path_end<'a>(qself: &Option<QSelf>, path: &'a Path, before: bool) -> End<'a>
     ensures { let p = path_of type_of path.now in let ss = t.segments_of p.segments in
         Tells (query.type_brace false) result (query.type_brace before (t.path (qself_or type_of qself.now) p.leading ss p.trailing)) (segments_depth ss) }
@@ -56,7 +56,7 @@ fn path_end<'a>(qself: &Option<QSelf>, path: &'a Path, before: bool) -> End<'a>
     }
 }
 
-/// What stands at the right end of bounds.
+/// What is at the right end of bounds.
 #[tactic(auto, using(crate::proofs::Lasts::braces, syn_lower::proofs::Lasts::lasts))]
 fn bounds_end(bounds: &Punctuated<TypeParamBound, Plus>) -> End<'_>
     ensures { let bs = t.bounds_of (map bound_of (values bounds.now)) in Tells (query.type_brace false) result (query.bounds_brace bs (trails bounds.now)) (bounds_depth bs) }
@@ -80,7 +80,7 @@ pub(crate) fn is_brace(delimiter: &MacroDelimiter) -> bool
     matches!(delimiter, MacroDelimiter::Brace(_))
 }
 
-/// What stands at the right end of a type; `before`: whether braces stand before it.
+/// What is at the right end of a type; `before`: whether braces come before it.
 #[tactic(auto, using(syn_lower::proofs::Makes::makes))]
 fn type_end(ty: &Type, before: bool) -> End<'_>
     ensures { Tells (query.type_brace false) result (query.type_brace before (type_of ty.now)) (depth (type_of ty.now)) }
@@ -102,7 +102,7 @@ fn type_end(ty: &Type, before: bool) -> End<'_>
     }
 }
 
-/// Whether a type ends with braces; `before`: whether braces stand before it.
+/// Whether a type ends with braces; `before`: whether braces come before it.
 pub(crate) fn type_brace(ty: &Type, before: bool) -> bool
     ensures { result ≡ query.type_brace before (type_of ty.now) }
 {
@@ -112,7 +112,7 @@ pub(crate) fn type_brace(ty: &Type, before: bool) -> bool
     }
 }
 
-/// Whether a path ends with braces, which may be qualified by a type; `before`: whether braces stand before it.
+/// Whether a path ends with braces, which may be qualified by a type; `before`: whether braces come before it.
 pub(crate) fn path_brace(qself: &Option<QSelf>, path: &Path, before: bool) -> bool
     ensures { let p = path_of type_of path.now in result ≡ query.type_brace before (t.path (qself_or type_of qself.now) p.leading (t.segments_of p.segments) p.trailing) }
 {

@@ -15,15 +15,15 @@ use syn_expr_summaries::kind::NodeKind;
 use syn_expr_summaries::label::LeafKind;
 use syn_lower::ty::Type;
 
-/// Whether a match arm with this body needs a comma behind it (Rust Reference, "Match expressions"): any does but an `if`, a
-/// `match`, a loop and a block that is not `async`, whatever attributes stand before it.
+/// Whether a match arm with this body needs a comma after it (Rust Reference, "Match expressions"): any does but an `if`, a
+/// `match`, a loop and a block that is not `async`, whatever attributes come before it.
 pub fn requires_comma_to_be_match_arm<E: HasKind>(expr: &E) -> bool
     ensures { result ≡ spec.requires_comma_to_be_match_arm (E.tree expr.now) }
 {
     !is_block_like(expr)
 }
 
-/// Whether a statement of this expression needs a semicolon behind it (Rust Reference, "Expression statements"): as for a match
+/// Whether a statement of this expression needs a semicolon after it (Rust Reference, "Expression statements"): as for a match
 /// arm, but a macro that is called with braces needs none.
 #[tactic(auto, using(crate::proofs::Likes::likes))]
 pub fn requires_semi_to_be_stmt<E: HasKind>(expr: &E) -> bool
@@ -44,7 +44,7 @@ pub fn trailing_unparameterized_path(ty: &Type) -> bool
 }
 
 /// Whether the tokens of an expression begin with a label (Rust Reference, "Loop expressions"), as those of `'a: loop {}` do,
-/// and those of `'a: {} + b`. Behind outer attributes none is first: their `#` is.
+/// and those of `'a: {} + b`. After outer attributes none is first: their `#` is.
 pub fn expr_leading_label<E: HasFrames>(expr: &E) -> bool
     ensures { result ≡ query.leading_label (E.tree expr.now) }
 {
@@ -52,7 +52,7 @@ pub fn expr_leading_label<E: HasFrames>(expr: &E) -> bool
 }
 
 /// Whether the tokens of an expression end with a group in braces, as those of `return S {}` and `x as m! {}` do. An `if`
-/// always does, whatever stands behind its `else`, since a printer puts that into a block.
+/// always does, whatever comes after its `else`, since a printer puts that into a block.
 pub fn expr_trailing_brace<E: HasFrames>(expr: &E) -> bool
     ensures { result ≡ query.trailing_brace (E.tree expr.now) }
 {

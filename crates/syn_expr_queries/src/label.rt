@@ -36,7 +36,7 @@ fn verbatim(leaf: Leaf<'_>) -> Option<&'_ TokenStream>
     }
 }
 
-/// Whether a word stands behind the operand with which a node of this kind begins, which of all that may is `as` alone; none
+/// Whether a word comes after the operand with which a node of this kind begins, which of all that may is `as` alone; none
 /// where it begins with no operand.
 fn word_behind(kind: NodeKind) -> Option<bool>
     ensures { result ≡ word_behind kind }
@@ -74,7 +74,7 @@ fn verbatim_tokens<E: HasShape>(expr: &E) -> Option<&TokenStream>
     }
 }
 
-/// Whether a label is first in an expression; `word`: whether a word stands behind it.
+/// Whether a label is first in an expression; `word`: whether a word comes after it.
 #[tactic(auto, using(crate::proofs::Labels::labels, syn_expr_kinds::proofs::Sizes::smaller))]
 pub(crate) fn begins_with_label<E: HasFrames>(expr: &E, word: bool) -> bool
     ensures { result ≡ query.tree_leads word (E.tree expr.now) }

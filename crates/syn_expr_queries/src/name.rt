@@ -14,7 +14,7 @@ use syn_lower::punctuated::Punctuated;
 use syn_lower::ty::{Type, TypeParamBound};
 use syn_tokens::token::Plus;
 
-/// What stands at the right end of a segment.
+/// What is at the right end of a segment.
 fn segment_end(segment: &PathSegment) -> End<'_>
     ensures { let s = segment_of type_of segment.now in Tells trailing_unparameterized_path result (query.arguments_unparameterized s.arguments) (arguments_depth s.arguments) }
 {
@@ -25,7 +25,7 @@ fn segment_end(segment: &PathSegment) -> End<'_>
     }
 }
 
-/// What stands at the right end of a path.
+/// What is at the right end of a path.
 #[tactic(auto, using(crate::proofs::Lasts::names, syn_lower::proofs::Lasts::lasts))]
 fn path_end(path: &Path) -> End<'_>
     ensures { let ss = t.segments_of (path_of type_of path.now).segments in Tells trailing_unparameterized_path result (query.segments_unparameterized ss) (segments_depth ss) }
@@ -36,7 +36,7 @@ fn path_end(path: &Path) -> End<'_>
     }
 }
 
-/// What stands at the right end of bounds.
+/// What is at the right end of bounds.
 #[tactic(auto, using(crate::proofs::Lasts::names, syn_lower::proofs::Lasts::lasts))]
 fn bounds_end(bounds: &Punctuated<TypeParamBound, Plus>) -> End<'_>
     ensures { let bs = t.bounds_of (map bound_of (values bounds.now)) in Tells trailing_unparameterized_path result (query.bounds_unparameterized bs) (bounds_depth bs) }
@@ -47,7 +47,7 @@ fn bounds_end(bounds: &Punctuated<TypeParamBound, Plus>) -> End<'_>
     }
 }
 
-/// What stands at the right end of a type.
+/// What is at the right end of a type.
 #[tactic(auto, using(syn_lower::proofs::Makes::makes))]
 fn type_end(ty: &Type) -> End<'_>
     ensures { Tells trailing_unparameterized_path result (trailing_unparameterized_path (type_of ty.now)) (depth (type_of ty.now)) }

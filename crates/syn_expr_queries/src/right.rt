@@ -20,11 +20,11 @@ use syn_expr_summaries::kind::NodeKind;
 enum Right {
     /// No operand: whether braces are.
     Known(bool),
-    /// An operand; whether braces stand before it.
+    /// An operand; whether braces come before it.
     Operand(bool),
 }
 
-/// Whether what holds no expression ends with braces; `before`: whether braces stand before it.
+/// Whether what holds no expression ends with braces; `before`: whether braces come before it.
 fn leaf_brace(leaf: Leaf<'_>, before: bool) -> bool
     ensures { result ≡ query.leaf_brace before (leaf_of leaf.entry) }
 {
@@ -51,7 +51,7 @@ fn closure_brace<P>(closure: Closure<'_, P>) -> bool
     output_brace(closure.output)
 }
 
-/// Whether braces stand before the operand that this has behind it: only an output ends with such.
+/// Whether braces come before the operand that this has after it: only an output ends with such.
 fn prefix_brace<P>(prefix: Prefix<'_, P>) -> bool
     ensures { (pat : P → PatView) → result ≡ query.prefix_brace (prefix_of pat prefix.entry) }
 {
@@ -66,7 +66,7 @@ fn prefix_brace<P>(prefix: Prefix<'_, P>) -> bool
     }
 }
 
-/// Whether what stands behind an operand ends with braces.
+/// Whether what comes after an operand ends with braces.
 fn postfix_brace(postfix: Postfix<'_>) -> bool
     ensures { result ≡ query.postfix_brace (postfix_of postfix.entry) }
 {
@@ -100,14 +100,14 @@ fn is_infixed(kind: NodeKind) -> bool
     matches!(kind, NodeKind::Infix(_))
 }
 
-/// Whether braces stand before a node, behind its attributes: not where any are printed before it.
+/// Whether braces come before a node, after its attributes: not where any are printed before it.
 fn behind(before: bool, attributes: Attributes<'_>) -> bool
     ensures { result ≡ (is_nil (outers (before_of attributes.entry)) && before) }
 {
     attributes.prints_none_before() && before
 }
 
-/// What is last in a node; `before`: whether braces stand before it.
+/// What is last in a node; `before`: whether braces come before it.
 #[tactic(auto, using(crate::proofs::Rights::rights))]
 fn node_right<E: HasFrames>(expr: &E, before: bool) -> Right
     ensures { NodeTells result before (E.tree expr.now) }
@@ -132,7 +132,7 @@ fn node_right<E: HasFrames>(expr: &E, before: bool) -> Right
     }
 }
 
-/// Whether an expression ends with braces; `before`: whether braces stand before it.
+/// Whether an expression ends with braces; `before`: whether braces come before it.
 #[tactic(auto, using(syn_expr_kinds::proofs::Sizes::smaller))]
 pub(crate) fn node_brace<E: HasFrames>(expr: &E, before: bool) -> bool
     ensures { result ≡ query.tree_brace before (E.tree expr.now) }

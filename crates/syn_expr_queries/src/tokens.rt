@@ -28,7 +28,7 @@ pub(crate) fn begins_with_lifetime(tokens: &TokenStream, word: bool) -> bool
     Lifetime::peek(trees) || word && is_sole_quote(trees)
 }
 
-/// Whether a group in braces ends verbatim tokens; `before`: whether it ends what stands before them.
+/// Whether a group in braces ends verbatim tokens; `before`: whether it ends what comes before them.
 #[tactic(auto, using(crate::proofs::Verbatim::lasts))]
 pub(crate) fn ends_with_braces(tokens: &TokenStream, before: bool) -> bool
     ensures { result ≡ spec.last_braces before tokens.now }

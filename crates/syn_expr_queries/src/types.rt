@@ -1,4 +1,4 @@
-//! What stands at the right end of a type.
+//! What is at the right end of a type.
 
 ghost use Rattle.std.specs.Prelude.{false};
 ghost use Rattle.syn_expr_queries.specs.Ends.{Tells};
@@ -8,7 +8,7 @@ ghost use Rattle.syn_lower.specs.View.{return_of};
 
 use syn_lower::ty::{ReturnType, Type};
 
-/// What stands at the right end.
+/// What is at the right end.
 pub(crate) enum End<'a> {
     /// No type: this is the answer.
     Known(bool),
@@ -16,7 +16,7 @@ pub(crate) enum End<'a> {
     Inside(&'a Type),
 }
 
-/// What stands at the right end of an output.
+/// What is at the right end of an output.
 pub(crate) fn output_end(output: &ReturnType) -> End<'_>
     ensures name { Tells query.trailing_unparameterized_path result (query.return_unparameterized (return_of output.now)) (return_depth (return_of output.now)) }
     ensures brace { Tells (query.type_brace false) result (query.return_brace (return_of output.now)) (return_depth (return_of output.now)) }

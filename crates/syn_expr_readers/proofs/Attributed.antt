@@ -1,4 +1,4 @@
--- Whether attributes stand before a node is told by those that it lends.
+-- Whether attributes come before a node is told by those that it lends.
 use Rattle.std.proofs.Common.{◌≡◌, not, refl}
 use Rattle.syn_parts.specs.Form.{is_nil}
 use Rattle.syn_grammar.specs.Tree as e

@@ -21,7 +21,7 @@ use Rattle.syn_expr_kinds.proofs.Outers.{outers_are}
 pub outers_left : (l m : List Tok) (ats : List AttributeTree) → outer_attributes.reads l ≡ Some (ats, m) → IsTail m l
 outers_left l m ats h = left here.outer ats l m (heads.outers.sound l ats m h)
 
--- ---- where `#` stands there is one
+-- ---- where `#` is there is one
 
 none_there : (l m : List Tok) → pound.at l ≡ true → outer_attributes.behind [] l ≡ Some m → ⊥
 unfolding outer_attributes more fix iterate

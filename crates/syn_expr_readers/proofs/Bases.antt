@@ -1,4 +1,4 @@
--- Which bases take which trailers, and which indices stand behind a dot.
+-- Which bases take which trailers, and which indices come after a dot.
 use Rattle.std.specs.Prelude.{not, ◌||◌, ◌&&◌}
 use Rattle.std.proofs.Common.{◌≡◌, ℕ, Bool, true, false, cond, List, [], ◌∷◌, Option, Some, None, refl, ap}
 use Rattle.syn_lexer.specs.declared.lexeme.Delimiter.{Delimiter}
@@ -43,7 +43,7 @@ fits-kind p (e.method w a) t = other t
 fits-kind p (e.field m) t = other t
 fits-kind p e.await t = other t
 
--- ---- indices behind a dot
+-- ---- indices after a dot
 
 step_some : (o : Option ℕ) (q : Option (List ℕ × Bool)) (b : Bool) → step o q ≡ Some ([], b) → ⊥
 step_some None q b h = absurd cc
@@ -81,7 +81,7 @@ pub nothing-held : (l : List Tok) → content expr nothing l ≡ Some (e.none, l
 unfolding content
 nothing-held l = refl
 
--- No arguments stand first where `::` does.
+-- No arguments come first where `::` does.
 no_group : (d : Delimiter) (l : List Tok) → colon2.at l ≡ true → group_at d l ≡ None
 unfolding group_at sign_at
 no_group d [] h = refl

@@ -1,4 +1,4 @@
--- What is read of an operand, by what stands first.
+-- What is read of an operand, by what comes first.
 use Rattle.std.proofs.Common.{◌≡◌, Bool, true, false, cond, List, drop, refl, ◌∙◌}
 use Rattle.syn_tokens.specs.Tok.{Tok}
 use Rattle.syn_parts.specs.Mark.{round_at}

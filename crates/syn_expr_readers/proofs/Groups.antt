@@ -52,7 +52,7 @@ extended_is p (q, w) l = by ((more colon2 (segment type style.Expr)).reads l)
 
 pub ruleset segments = (extended_is)
 
--- ---- behind a group
+-- ---- after a group
 
 pub no_path : (p : Place) (x : Tree) (n : List Tok) → is_path x ≡ false → behind_group p x n ≡ Some (in_group x, n)
 no_path p (leaf (e.path q w)) n h = absurd cc

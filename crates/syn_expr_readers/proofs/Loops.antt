@@ -49,7 +49,7 @@ operation_refused p x l op count i f h = turn_is p x l (Some (op, count)) i ∙ 
 pub operation_chained : (p : Place) (x : Tree) (l : List Tok) (op : Infix) (count : ℕ) → next_operator p x l ≡ Some (op, count) → (is_comparison op && compares x) ≡ true → operations p x l ≡ None
 operation_chained p x l op count i f = turn_is p x l (Some (op, count)) i ∙ rw (operator_fits p x l op count i, f) refl
 
--- a trailer is left behind it
+-- a trailer is left after it
 pub operation_open : (p : Place) (x y : Tree) (l m : List Tok) (op : Infix) (count : ℕ) → next_operator p x l ≡ Some (op, count) → (is_comparison op && compares x) ≡ false
     → longer expr p x op (drop count l) ≡ Some (y, m) → closes p y m ≡ false → operations p x l ≡ None
 operation_open p x y l m op count i f h c = turn_is p x l (Some (op, count)) i ∙ rw (operator_fits p x l op count i, f, h, c) refl

@@ -27,7 +27,7 @@ use Rattle.syn_grammar.proofs.NameFronts.{named_word, one_word, word_read}
 use Rattle.syn_expr_front.proofs.Names.{name_segment, try_reserved, no_try}
 use Rattle.syn_expr_readers.specs.Names.{may_go_on, is_alone}
 
--- nothing that goes on a name stands first
+-- nothing that goes on a name comes first
 record Ended (l : List Tok) : Type 0 where
   pub no_colons : colon2.at l ≡ false
   pub no_bang : not_ne.at l ≡ false

@@ -1,4 +1,4 @@
--- What is read behind prefix operators, one behind the other.
+-- What is read after prefix operators, one after the other.
 use Rattle.std.specs.Prelude.{◌==◌, ◌&&◌, ◌||◌, is_some}
 use Rattle.std.proofs.Common.{◌≡◌, ℕ, zero, suc, ◌+◌, ◌-◌, ◌<◌, ◌≤◌, Bool, true, false, cond, List, [], ◌∷◌, ◌++◌, take, drop, length, get_or, Option, Some, None, refl, sym, ap, ◌∙◌, subst, arith}
 use Rattle.std.proofs.Math.Seq.{take-suc, take-length}
@@ -33,7 +33,7 @@ use Rattle.syn_expr_readers.specs.Loops.{operations, trailers}
 use Rattle.syn_expr_readers.specs.Operators.{operator_of, operator_at, are_operators, wrap, wrapped}
 use Rattle.syn_expr_readers.proofs.Knots.{expr_is}
 
--- ---- an operator that stands first is told before anything else
+-- ---- an operator that comes first is told before anything else
 
 no_quote : (c : ℕ) (s : Spacing) (l : List Tok) → (c == 39) ≡ false → lifetime_at (punct c s ∷ l) ≡ false
 unfolding lifetime_at
@@ -95,7 +95,7 @@ no_pound (ident w) l k h = absurd cc
 no_pound (literal w) l k h = absurd cc
 no_pound (group d i) l k h = absurd cc
 
--- what is read where an operator stands first
+-- what is read where an operator comes first
 pub prefix_first : (p : Place) (l : List Tok) (k : UnKind) → operator_at l ≡ Some k → atom expr p l ≡ (prefixed (unary k) none <$> expr (at p lev.Prefix)) (drop 1 l)
 prefix_first p [] k h = absurd cc
 prefix_first p (t ∷ l) k h = first_is p t l k h
@@ -302,7 +302,7 @@ one_more (suc n) (s ∷ l) m t e a h = let (b, c) = both_true (is_some (operator
     by_first true b c = c
     by_first false b c = absurd cc
 
--- in a slice: the first, and what is behind it
+-- in a slice: the first, and what is after it
 first_split : (xs : List TokenTree) (d : TokenTree) → 1 ≤ length xs → d ≡ get_or xs 0 d → toks_of xs ≡ tok_of d ∷ toks_of (drop 1 xs)
 first_split [] d h e = absurd (omega arith)
 first_split (t ∷ xs) d h e = ap (λ s. tok_of s ∷ toks_of xs) (sym e)

@@ -1,4 +1,4 @@
--- Where an expression ends that no operator goes on, and where no trailer is left behind one.
+-- Where an expression ends that no operator goes on, and where no trailer is left after one.
 use Rattle.std.specs.Prelude.{◌&&◌, ◌||◌, not, if◌then◌else◌}
 use Rattle.std.proofs.Common.{◌≡◌, ℕ, Bool, true, false, List, Option, Some, None, refl, subst}
 use Rattle.syn_tokens.specs.Tok.{Tok}

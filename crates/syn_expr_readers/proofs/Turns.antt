@@ -29,7 +29,7 @@ use Rattle.syn_grammar.proofs.Lesses.{here, node_less, content_left, within_less
 use Rattle.syn_grammar.proofs.Sound.{content_sound}
 use Rattle.syn_grammar.proofs.Exact.{expr_sound}
 
--- two ways to go on that agree behind what was read agree in all
+-- two ways to go on that agree after what was read agree in all
 pub then_same : {A B : Type 0} (o : Outcome A) (f g : A → Reading B) → ((q : A × List Tok) → o ≡ Some q → f q.0 q.1 ≡ g q.0 q.1) → and_then o f ≡ and_then o g
 then_same None f g h = refl
 then_same (Some q) f g h = h q refl
@@ -86,7 +86,7 @@ longer_less p x l o q i h = less_then (operator_less l o.0 o.1 (next_some p x l 
 closed_is : (p : Place) (x : Tree) (l : List Tok) (q : Tree × List Tok) → closing expr p x l ≡ Some q → (closes p x l ≡ true) × ((x, l) ≡ q)
 closed_is p x l q h = let (a, b) = only_some (closes p x l) (Some (x, l)) q h in (a, some_is b)
 
--- the same behind an operation that is closed
+-- the same after an operation that is closed
 turns_same : (p : Place) (x : Tree) (l : List Tok) (o : Infix × ℕ) (f g : Tree → Reading Tree) → next_operator p x l ≡ Some o
     → ((q : Tree × List Tok) → weight q.1 < weight l → f q.0 q.1 ≡ g q.0 q.1) → turn expr p x (Some o) f l ≡ turn expr p x (Some o) g l
 turns_same p x l o f g i h = by_fits (fits_left p o.0 x)

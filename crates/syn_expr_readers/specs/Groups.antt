@@ -13,15 +13,15 @@ use Rattle.syn_grammar.specs.Tree as e
 use Rattle.syn_grammar.specs.Tree.{Tree, leaf, frame, none, child}
 use Rattle.syn_grammar.specs.Read.{Reading, ◌>>=◌, named_by, expr}
 
--- what stands behind a path: the end of a macro, the braces of a struct expression, or nothing
+-- what comes after a path: the end of a macro, the braces of a struct expression, or nothing
 unfoldable pub behind_path : Place → QPathTree → Reading Tree
 behind_path p q = (macro_end q).reads >>= named_by expr p q
 
--- a path that no group begins, and what stands behind it
+-- a path that no group begins, and what comes after it
 unfoldable pub named : Place → Reading Tree
 named p = (qpath type style.Expr).reads >>= behind_path p
 
--- the segments that go on a path, and what stands behind them
+-- the segments that go on a path, and what comes after them
 unfoldable pub extended : Place → QPathTree → Reading Tree
 extended p q = (more colon2 (segment type style.Expr)).reads >>= (λ ss. behind_path p (to_path (q, ss)))
 
@@ -29,7 +29,7 @@ extended p q = (more colon2 (segment type style.Expr)).reads >>= (λ ss. behind_
 abbrev pub in_group : Tree → Tree
 in_group x = frame e.group_expr (child e.grouped e.no_ending x none)
 
--- Behind a group: what goes on the path that it holds, or nothing.
+-- After a group: what goes on the path that it holds, or nothing.
 abbrev pub behind_group : Place → Tree → Reading Tree
 behind_group p (leaf (e.path q w)) n = if goes_on_path (not p.condition) (q, w) n then extended p (q, w) n else Some (in_group (leaf (e.path q w)), n)
 behind_group p x n = Some (in_group x, n)

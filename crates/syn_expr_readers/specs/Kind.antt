@@ -12,7 +12,7 @@ use Rattle.syn_expr_summaries.specs.declared.label.TrailerKind.{TrailerKind}
 use Rattle.syn_expr_summaries.specs.declared.label.TrailerKind.TheVariants as trailers
 use Rattle.syn_grammar.specs.declared.kinds.Place.{Place}
 
--- ---- of a node behind attributes too
+-- ---- of a node after attributes too
 
 abbrev pub carries : NodeKind → Bool
 carries (node.Leaf k) = not (is_range_leaf k)
@@ -59,7 +59,7 @@ abbrev pub is_named_field : Option NodeKind → Bool
 is_named_field (Some (node.Tail k)) = is_named_trailer k
 is_named_field _ = false
 
--- `?` and a trailer behind a dot may stand behind it
+-- `?` and a trailer after a dot may come after it
 abbrev pub is_base : Tree → Bool
 is_base t = stands.carries t && not (stands.is_attributed t || stands.is_pounded t)
 
@@ -68,6 +68,6 @@ takes_kind p trailers.Call t = not (stands.is_named_field t) && not (stands.rest
 takes_kind p trailers.Index t = not (stands.rests p t)
 takes_kind p _ t = true
 
--- a trailer of this kind may stand behind it
+-- a trailer of this kind may come after it
 abbrev pub fits_base : Place → TrailerKind → Tree → Bool
 fits_base p k t = is_base t && takes_kind p k t

@@ -14,11 +14,11 @@ use Rattle.syn_grammar.specs.Read.{Reading, ◌>>=◌, operation, only_if, befor
 abbrev pub right_operand : Place → Infix → Reading Tree
 right_operand p op = expr (at p (level op)) >>= operation op
 
--- the operations behind a left operand, as many as there are
+-- the operations after a left operand, as many as there are
 unfoldable pub operations : Place → Tree → Reading Tree
 operations p x l = climb expr p (suc (weight l)) x l
 
--- the trailers behind a base, as many as there are
+-- the trailers after a base, as many as there are
 unfoldable pub trailers : Place → Tree → Reading Tree
 trailers p b l = trail expr p (suc (weight l)) b l
 

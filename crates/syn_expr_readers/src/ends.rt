@@ -1,4 +1,4 @@
-//! What may stand behind an expression that was read.
+//! What may come after an expression that was read.
 
 ghost use Rattle.std.specs.Prelude.{◌≡◌, None};
 ghost use Rattle.syn_grammar.specs.Read as read;
@@ -13,7 +13,7 @@ use syn_op::infix::infix_at;
 use syn_op::level::{level as level_of, takes};
 use syn_tokens::buffer::ParseBuffer;
 
-/// Whether a trailer stands first that goes on a base, or on one that is the whole: then only `?` or a dot does.
+/// Whether a trailer comes first that goes on a base, or on one that is the whole: then only `?` or a dot does.
 fn goes_behind(input: &ParseBuffer<'_>, rests: bool) -> bool
     ensures { result ≡ stands.goes_behind rests input.now.rest }
 {
@@ -24,13 +24,13 @@ fn goes_behind(input: &ParseBuffer<'_>, rests: bool) -> bool
     }
 }
 
-/// Whether no trailer is left behind what could carry it, nor behind a cast.
+/// Whether no trailer is left after what could carry it, nor after a cast.
 #[inline(always)]
 #[tactic(auto, using(crate::proofs::Stops::closed), unfolding(syn_grammar::specs::Stands::closes))]
 pub fn closes<E: ReadExprs>(input: &ParseBuffer<'_>, place: Place, x: &E) -> bool
     ensures { result ≡ stands.closes place (E.tree x.now) input.now.rest }
 {
-    // Mostly none stands there at all, so that nothing is asked of the expression.
+    // Mostly none is there at all, so that nothing is asked of the expression.
     if !trailer_at(input) {
         return true;
     }
@@ -63,7 +63,7 @@ pub fn next_operator<E: ReadExprs>(
     Some(next)
 }
 
-/// Whether it may end here, where no operator goes on it: it is a range or the whole, or none of the tokens stands first that
+/// Whether it may end here, where no operator goes on it: it is a range or the whole, or none of the tokens comes first that
 /// are refused there.
 #[tactic(auto, using(crate::proofs::Stops::stops))]
 pub fn stops<E: ReadExprs>(input: &ParseBuffer<'_>, place: Place, x: &E) -> bool

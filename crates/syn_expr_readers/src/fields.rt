@@ -1,4 +1,4 @@
-//! Fields that are the indices of a float behind a dot: `pair.0.1` has the tokens `pair`, `.` and `0.1` (Rust Reference,
+//! Fields that are the indices of a float after a dot: `pair.0.1` has the tokens `pair`, `.` and `0.1` (Rust Reference,
 //! "Tuple indexing expressions").
 
 ghost use Rattle.std.specs.Prelude.{◌≡◌, IfOk};
@@ -11,7 +11,7 @@ use syn_expr_kinds::kinds::IsExpr;
 use syn_expr_parts::member::Member;
 use syn_tokens::token::Dot;
 
-/// Fields of fields, one for each index, and the dot behind them. The dots that are in the float have its place.
+/// Fields of fields, one for each index, and the dot after them. The dots that are in the float have its place.
 pub(crate) fn fields<E: IsExpr + Drop>(
     alloc: Global,
     mut base: Box<E>,

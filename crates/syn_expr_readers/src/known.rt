@@ -1,4 +1,4 @@
-//! What the reading asks of an expression that was read: by its kind, and by whether attributes stand before it.
+//! What the reading asks of an expression that was read: by its kind, and by whether attributes come before it.
 
 ghost use Rattle.std.specs.Prelude.{◌≡◌, ◌&&◌};
 ghost use Rattle.syn_expr_readers.specs.Kind as spec;
@@ -12,7 +12,7 @@ use syn_expr_summaries::label::{LeafKind, TrailerKind};
 use syn_grammar::kinds::{Infix, Place};
 use syn_op::level::{is_comparison, is_range_op};
 
-/// Whether attributes stand before it (Rust Reference, "Expression attributes").
+/// Whether attributes come before it (Rust Reference, "Expression attributes").
 #[tactic(auto, using(crate::proofs::Attributed::attributed))]
 pub fn is_attributed<E: HasNode>(x: &E) -> bool
     ensures { result ≡ stands.is_attributed (E.tree x.now) }
@@ -32,7 +32,7 @@ pub fn bare_kind<E: HasNode + HasKind>(x: &E) -> Option<NodeKind>
     }
 }
 
-/// Whether a trailer may stand behind it.
+/// Whether a trailer may come after it.
 #[tactic(auto, using(crate::proofs::ByKind::kinds))]
 pub fn carries<E: HasKind>(x: &E) -> bool
     ensures { result ≡ stands.carries (E.tree x.now) }
@@ -48,7 +48,7 @@ pub fn carries<E: HasKind>(x: &E) -> bool
     }
 }
 
-/// Whether it is a range, behind attributes too (Rust Reference, "Range expressions").
+/// Whether it is a range, after attributes too (Rust Reference, "Range expressions").
 #[tactic(auto, using(crate::proofs::ByKind::kinds))]
 pub fn is_range<E: HasKind>(x: &E) -> bool
     ensures { result ≡ stands.is_range (E.tree x.now) }
@@ -130,7 +130,7 @@ pub fn is_named_field<E: HasNode + HasKind>(x: &E) -> bool
     }
 }
 
-/// Whether it is the whole where it stands at a head: it is like a block, or holds one in invisible groups (Rust Reference,
+/// Whether it is the whole where it is at a head: it is like a block, or holds one in invisible groups (Rust Reference,
 /// "Expression statements").
 pub fn rests<E: ReadExprs>(place: Place, x: &E) -> bool
     ensures { result ≡ stands.rests place (E.tree x.now) }
@@ -138,7 +138,7 @@ pub fn rests<E: ReadExprs>(place: Place, x: &E) -> bool
     place.head && x.holds_block()
 }
 
-/// Whether attributes may stand before it: none do, it is neither an operation nor verbatim tokens, and a range only at
+/// Whether attributes may come before it: none do, it is neither an operation nor verbatim tokens, and a range only at
 /// a head (Rust Reference, "Expression attributes").
 pub fn takes_attributes<E: HasNode + HasKind>(place: Place, x: &E) -> bool
     ensures { result ≡ stands.takes_attributes place (E.tree x.now) }
@@ -146,22 +146,22 @@ pub fn takes_attributes<E: HasNode + HasKind>(place: Place, x: &E) -> bool
     !(is_infix(x) || is_attributed(x) || is_verbatim(x)) && (place.head || !is_range(x))
 }
 
-/// Whether it and the operator behind it would chain comparisons (Rust Reference, "Comparison Operators").
+/// Whether it and the operator after it would chain comparisons (Rust Reference, "Comparison Operators").
 pub fn chains<E: HasNode + HasKind>(op: Infix, x: &E) -> bool
     ensures { result ≡ op_spec.is_comparison op && stands.compares (E.tree x.now) }
 {
     is_comparison(op) && compares(x)
 }
 
-/// Whether `?` or a trailer with a dot may stand behind it.
+/// Whether `?` or a trailer with a dot may come after it.
 fn is_base<E: HasNode + HasKind>(x: &E) -> bool
     ensures { result ≡ spec.is_base (E.tree x.now) }
 {
     carries(x) && !(is_attributed(x) || is_pounded(x))
 }
 
-/// Whether a trailer of this kind may stand behind it: it carries one, and attributes don't stand before it; arguments stand
-/// behind no field with a name, and neither they nor an index behind what is the whole (Rust Reference, "Call expressions",
+/// Whether a trailer of this kind may come after it: it carries one, and attributes don't come before it; arguments stand
+/// after no field with a name, and neither they nor an index after what is the whole (Rust Reference, "Call expressions",
 /// "Array and slice indexing expressions").
 pub fn fits_base<E: ReadExprs>(place: Place, kind: TrailerKind, x: &E) -> bool
     ensures { result ≡ spec.fits_base place kind (E.tree x.now) }

@@ -1,4 +1,4 @@
-//! Lists of tokens without a leftover: without what stands in brackets after an index.
+//! Lists of tokens without a leftover: without what is in brackets after an index.
 
 ghost use Rattle.std.specs.Prelude.{◌≡◌, IfErr};
 
@@ -42,8 +42,8 @@ fn tree_without(
     }
 }
 
-/// A copy of some trees, with their places, without the leftover at a place. `is_index`: they stand in the brackets of an
-/// index, where the leftover may begin behind the first.
+/// A copy of some trees, with their places, without the leftover at a place. `is_index`: they are in the brackets of an
+/// index, where the leftover may begin after the first.
 #[cycle(cut)]
 #[tactic(auto, using(syn_tokens::proofs::Views::insides, syn_tokens::proofs::Weights::one_at_least), unfolding(syn_tokens::specs::Tok::weight))]
 fn trees_without(
@@ -68,7 +68,7 @@ fn trees_without(
     Ok(stream)
 }
 
-/// A copy of some trees, with their places, without the leftover that begins at a place: where the token there stands in
+/// A copy of some trees, with their places, without the leftover that begins at a place: where the token there is in
 /// the brackets of an index, that token is missing and all that follows it in them. It is refused only where memory runs
 /// out.
 pub fn without_leftover(alloc: Global, trees: &[TokenTree], leftover: Span) -> Result<TokenStream>

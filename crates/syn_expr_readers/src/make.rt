@@ -112,7 +112,7 @@ pub(crate) fn limits(kind: Limits, spans: [Span; 3]) -> RangeLimits
     }
 }
 
-/// An operand behind its prefix operator.
+/// An operand after its prefix operator.
 #[tactic(auto, unfolding(syn_expr_kinds::specs::Attrs::attrs_of))]
 pub(crate) fn unary<E: IsExpr + Drop>(
     alloc: Global,
@@ -167,7 +167,7 @@ pub(crate) fn assign<E: IsExpr + Drop>(
     boxed(alloc, E::assign(assign))
 }
 
-/// `as` and a type behind an operand.
+/// `as` and a type after an operand.
 #[tactic(auto, unfolding(syn_expr_kinds::specs::Attrs::attrs_of))]
 pub(crate) fn cast<E: IsExpr + Drop>(
     alloc: Global,
@@ -226,7 +226,7 @@ pub(crate) fn range_between<E: IsExpr + Drop>(
     boxed(alloc, E::range(range))
 }
 
-/// Arguments behind what is called.
+/// Arguments after what is called.
 #[tactic(auto, unfolding(syn_expr_kinds::specs::Attrs::attrs_of))]
 pub(crate) fn call<E: IsExpr + Drop>(
     alloc: Global,
@@ -246,7 +246,7 @@ pub(crate) fn call<E: IsExpr + Drop>(
     boxed(alloc, E::call(call))
 }
 
-/// An index behind what has it.
+/// An index after what has it.
 #[tactic(auto, unfolding(syn_expr_kinds::specs::Attrs::attrs_of))]
 pub(crate) fn index<E: IsExpr + Drop>(
     alloc: Global,
@@ -266,7 +266,7 @@ pub(crate) fn index<E: IsExpr + Drop>(
     boxed(alloc, E::index(index))
 }
 
-/// `?` behind what is tried.
+/// `?` after what is tried.
 #[tactic(auto, unfolding(syn_expr_kinds::specs::Attrs::attrs_of))]
 pub(crate) fn try_expr<E: IsExpr + Drop>(
     alloc: Global,
@@ -284,7 +284,7 @@ pub(crate) fn try_expr<E: IsExpr + Drop>(
     boxed(alloc, E::try_expr(question))
 }
 
-/// A member behind what has it.
+/// A member after what has it.
 #[tactic(auto, unfolding(syn_expr_kinds::specs::Attrs::attrs_of))]
 pub(crate) fn field<E: IsExpr + Drop>(
     alloc: Global,
@@ -304,7 +304,7 @@ pub(crate) fn field<E: IsExpr + Drop>(
     boxed(alloc, E::field(field))
 }
 
-/// `.await` behind what is awaited.
+/// `.await` after what is awaited.
 #[tactic(auto, unfolding(syn_expr_kinds::specs::Attrs::attrs_of))]
 pub(crate) fn awaited<E: IsExpr + Drop>(
     alloc: Global,

@@ -10,8 +10,8 @@ use syn_tokens::Delimiter;
 use syn_tokens::buffer::ParseBuffer;
 use syn_tokens::tree::{Ident, TokenTree};
 
-/// Whether what stands behind a name may go on it: `::`, the `!` of a macro, the brace of a struct expression, or the `#`
-/// behind `builtin`.
+/// Whether what comes after a name may go on it: `::`, the `!` of a macro, the brace of a struct expression, or the `#`
+/// after `builtin`.
 fn may_go_on(behind: &[TokenTree]) -> bool
     ensures { result ≡ names.may_go_on (toks_of behind.now) }
 {
@@ -22,7 +22,7 @@ fn may_go_on(behind: &[TokenTree]) -> bool
     }
 }
 
-/// The name that stands first, where nothing behind it may go on it: the path of it is an operand.
+/// The name that comes first, where nothing after it may go on it: the path of it is an operand.
 pub(crate) fn name_alone<'a>(input: &ParseBuffer<'a>) -> Option<&'a Ident>
     ensures { MatchOption result (names.is_alone input.now.rest ≡ false) (λ name. (names.is_alone input.now.rest ≡ true) × (input.now.rest ≡ ident name.now ∷ drop 1 input.now.rest)) }
 {

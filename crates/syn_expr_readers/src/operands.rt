@@ -1,4 +1,4 @@
-//! The readers of operands: by what stands first, with their trailers and attributes (Rust Reference, "Expressions",
+//! The readers of operands: by what comes first, with their trailers and attributes (Rust Reference, "Expressions",
 //! "Expression attributes").
 
 ghost use Rattle.std.specs.Prelude.{◌≡◌, ◌≤◌, ◌∷◌, false, true, drop, not, Some};
@@ -27,6 +27,7 @@ use crate::{make, refusal};
 use syn_expr_atoms::atoms::Atoms;
 use syn_expr_atoms::leaf::{leaf, standing};
 use syn_expr_blocks::blocks::Blocks;
+use syn_expr_ends::held::{LetGo, given_up};
 use syn_expr_ends::kinds::{ReadExprs, ReadPats};
 use syn_expr_ends::place::PLAIN;
 use syn_expr_front::sign::brace_at;
@@ -53,8 +54,8 @@ use syn_tokens::span::Span;
 use syn_tokens::token::{Group, If, Match, Ne, Not, PathSep, Pound};
 use syn_tokens::tree::{Ident, TokenTree};
 
-/// An operand with the attributes that stand before it, given the tokens of these: they are the first of an operand's tokens
-/// that are kept. Before a range without a start they are refused, at its operator, which stands at the span.
+/// An operand with the attributes that come before it, given the tokens of these: they are the first of an operand's tokens
+/// that are kept. Before a range without a start they are refused, at its operator, which is at the span.
 // Not in the frame of its caller, which is on the stack once for each level of a tree.
 #[inline(never)]
 #[tactic(auto, using(crate::proofs::Attributes::outers))]
@@ -77,6 +78,7 @@ fn with_outer<E: ReadExprs + Drop>(
         }
         Err(x) => {
             if !takes_attributes(place, &x) {
+                x.let_go();
                 return Err(Error::new(span, ErrorKind::RangeAttributes));
             }
             Ok(make::boxed(input.alloc(), x.with_attrs(attrs)?)?)
@@ -84,7 +86,7 @@ fn with_outer<E: ReadExprs + Drop>(
     }
 }
 
-/// Whether what stands first goes on the path that an invisible group before it holds: `::`, the `!` of a macro, or the
+/// Whether what comes first goes on the path that an invisible group before it holds: `::`, the `!` of a macro, or the
 /// brace of a struct expression where one may stand.
 #[tactic(auto, unfolding(syn_tokens::specs::Sign::sign_text, syn_parts::specs::Mark::sign_at))]
 fn goes_on(input: &ParseBuffer<'_>, place: Place, qself: &Option<QSelf>, path: &Path) -> bool
@@ -113,9 +115,9 @@ fn named_alone<E: IsExpr + Drop>(input: &mut ParseBuffer<'_>, name: &Ident) -> R
 impl<E: ReadExprs + Drop, F: Fn(&mut ParseBuffer<'_>, Place) -> Result<Box<E>> + Copy> Grammar<F>
 where
     E::Pat: ReadPats + Drop,
-    <E as IsExpr>::Arm: Drop,
+    <E as IsExpr>::Arm: LetGo + Drop,
 {
-    /// Reads what stands behind a path: the `!` and the group of a macro, the braces of a struct expression, or nothing.
+    /// Reads what comes after a path: the `!` and the group of a macro, the braces of a struct expression, or nothing.
     // It is a part of its callers, so that a struct expression has no frame more for it.
     #[inline(always)]
     #[tactic(auto, using(syn_expr_kinds::proofs::Inner::named_inner), unfolding(crate::specs::Groups::behind_path))]
@@ -156,7 +158,7 @@ where
         self.behind_path(input, place, qself, path)
     }
 
-    /// Reads the segments that go on a path, and what stands behind them.
+    /// Reads the segments that go on a path, and what comes after them.
     #[tactic(auto, using(crate::proofs::Groups::segments), unfolding(crate::specs::Groups::extended))]
     fn extended(
         &self,
@@ -213,8 +215,8 @@ where
         }
     }
 
-    /// Reads an invisible group: an operand, or the front of a path that goes on behind it. One that holds a lifetime alone is
-    /// refused as `ExpectedExpression`, where it stands.
+    /// Reads an invisible group: an operand, or the front of a path that goes on after it. One that holds a lifetime alone is
+    /// refused as `ExpectedExpression`, where it is.
     #[inline(never)]
     #[tactic(auto, using(crate::proofs::Groups::groups), unfolding(crate::specs::Groups::group))]
     fn group(&self, input: &mut ParseBuffer<'_>, place: Place) -> Result<Box<E>>
@@ -236,7 +238,7 @@ where
             Err(e) => return Err(named_refusal(e, begins)),
         };
         if !content.is_empty() {
-            return Err(content.error(ErrorKind::UnexpectedToken));
+            return Err(given_up(x, content.error(ErrorKind::UnexpectedToken)));
         }
         self.behind_group(input, place, group_token, x)
     }
@@ -275,8 +277,8 @@ where
         blocks.match_expr(input, place, match_token)
     }
 
-    /// Reads an operand without trailers, by what stands first. It is refused as its parts are, as `ExpectedExpression` where none
-    /// begins, and as `ExpectedLoopOrBlock` where neither a loop nor a block is behind a label.
+    /// Reads an operand without trailers, by what comes first. It is refused as its parts are, as `ExpectedExpression` where none
+    /// begins, and as `ExpectedLoopOrBlock` where neither a loop nor a block is after a label.
     #[tactic(auto, using(crate::proofs::Firsts::firsts, crate::proofs::Names::name_alone, crate::proofs::Operators::prefix_first))]
     pub fn atom(&self, input: &mut ParseBuffer<'_>, place: Place) -> Result<Box<E>>
         requires callable { Callable (weight input.old.rest) (F.pre self.now.expr) }
@@ -323,7 +325,7 @@ where
         self.trail(input, place, base)
     }
 
-    /// Reads an operand behind its attributes. Before a range without a start they are refused as `RangeAttributes`, but at a
+    /// Reads an operand after its attributes. Before a range without a start they are refused as `RangeAttributes`, but at a
     /// head.
     #[tactic(auto, unfolding(syn_grammar::specs::Read::operand, syn_tokens::specs::Sign::sign_text, syn_parts::specs::Mark::sign_at))]
     fn operand(&self, input: &mut ParseBuffer<'_>, place: Place) -> Result<Box<E>>
@@ -339,7 +341,7 @@ where
         self.read_attributed(input, place)
     }
 
-    /// Reads attributes, and the operand behind them.
+    /// Reads attributes, and the operand after them.
     // Not in the frame of its caller, which is on the stack once for each level of a tree.
     #[inline(never)]
     #[tactic(auto, using(crate::proofs::Attributes::attributes), unfolding(syn_grammar::specs::Read::operand, syn_expr_kinds::specs::Attrs::attrs_of))]

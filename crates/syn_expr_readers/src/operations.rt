@@ -1,4 +1,4 @@
-//! The readers of operations: an operator behind its left operand, and what goes on it (Rust Reference, "Operator
+//! The readers of operations: an operator after its left operand, and what goes on it (Rust Reference, "Operator
 //! expressions", "Expression precedence").
 
 ghost use Rattle.std.specs.Prelude.{◌≡◌, ◌≤◌, ◌+◌, false};
@@ -14,6 +14,7 @@ use crate::ends::{closes, next_operator, stops};
 use crate::grammar::Grammar;
 use crate::known::chains;
 use crate::make;
+use syn_expr_ends::held::{Held, given_up};
 use syn_expr_ends::kinds::ReadExprs;
 use syn_expr_ends::place::at;
 use syn_expr_front::sign::{ends_open_range, left_arrow_at};
@@ -27,7 +28,7 @@ use syn_tokens::span::Span;
 use syn_tokens::token::{As, Await, Eq, Paren, PathSep};
 use syn_tokens::tree::TokenTree;
 
-/// Which trailer with a dot stands first.
+/// Which trailer with a dot comes first.
 fn dotted_trailer(trees: &[TokenTree]) -> AfterCast {
     match trees {
         [_, name @ ..] if Await::peek(name) => AfterCast::Await,
@@ -36,7 +37,7 @@ fn dotted_trailer(trees: &[TokenTree]) -> AfterCast {
     }
 }
 
-/// The refusal of the trailer that stands first behind a cast.
+/// The refusal of the trailer that comes first after a cast.
 fn after_cast(input: &ParseBuffer<'_>) -> Error {
     let trailer = match trailer_start(input) {
         TrailerStart::Call => AfterCast::FunctionCall,
@@ -47,7 +48,7 @@ fn after_cast(input: &ParseBuffer<'_>) -> Error {
     input.error(ErrorKind::AfterCast(trailer))
 }
 
-/// The refusal of what stands behind a whole expression.
+/// The refusal of what comes after a whole expression.
 fn refusal(input: &ParseBuffer<'_>) -> Error {
     if left_arrow_at(input) {
         input.error(ErrorKind::LeftArrow)
@@ -69,12 +70,12 @@ impl<E: ReadExprs + Drop, F: Fn(&mut ParseBuffer<'_>, Place) -> Result<Box<E>>> 
     {
         let right = (self.expr)(input, at(place, level_of(op)))?;
         if left_arrow_at(input) {
-            return Err(input.error(ErrorKind::LeftArrow));
+            return Err(given_up(right, input.error(ErrorKind::LeftArrow)));
         }
         Ok(right)
     }
 
-    /// Reads what stands behind the operator of a range: its end, or nothing.
+    /// Reads what comes after the operator of a range: its end, or nothing.
     // Not in the frame of its caller, which is on the stack once for each level of a tree.
     #[inline(never)]
     #[tactic(auto, unfolding(syn_grammar::specs::Read::longer, syn_grammar::specs::Stands::ends_operation, syn_grammar::specs::Stands::infix_stands, syn_grammar::specs::Stands::postfix_stands))]
@@ -96,11 +97,12 @@ impl<E: ReadExprs + Drop, F: Fn(&mut ParseBuffer<'_>, Place) -> Result<Box<E>>> 
         if matches!(kind, Limits::HalfOpen) && ends_open_range(input, place.condition) {
             return Ok(make::range_from(input.alloc(), start, limits)?);
         }
+        let start = Held { value: start };
         let end = (self.expr)(input, at(place, Level::Range))?;
-        Ok(make::range_between(input.alloc(), start, limits, end)?)
+        Ok(make::range_between(input.alloc(), start.into_inner(), limits, end)?)
     }
 
-    /// Reads what stands behind an operator, which was taken, and its left operand: the operation that they are.
+    /// Reads what comes after an operator, which was taken, and its left operand: the operation that they are.
     // Not in the frame of its caller, which is on the stack once for each level of a tree.
     #[inline(never)]
     #[tactic(auto, unfolding(syn_grammar::specs::Read::longer, syn_grammar::specs::Stands::ends_operation, syn_grammar::specs::Stands::infix_stands, syn_grammar::specs::Stands::postfix_stands))]
@@ -119,31 +121,32 @@ impl<E: ReadExprs + Drop, F: Fn(&mut ParseBuffer<'_>, Place) -> Result<Box<E>>> 
         ensures shrinks { weight input.new.rest ≤ weight input.old.rest }
     {
         let [first, _, _] = spans;
+        let left = Held { value: left };
         match op {
             Infix::Binary(kind) => {
                 let right = self.right(input, place, op)?;
-                Ok(make::binary(input.alloc(), left, kind, spans, right)?)
+                Ok(make::binary(input.alloc(), left.into_inner(), kind, spans, right)?)
             }
             Infix::Assign => {
                 let right = self.right(input, place, op)?;
                 let eq_token = Eq { spans: [first] };
-                Ok(make::assign(input.alloc(), left, eq_token, right)?)
+                Ok(make::assign(input.alloc(), left.into_inner(), eq_token, right)?)
             }
-            Infix::Range(kind) => self.range(input, place, left, kind, spans),
+            Infix::Range(kind) => self.range(input, place, left.into_inner(), kind, spans),
             Infix::Cast => {
                 let ty = ty(input, false)?;
                 if left_arrow_at(input) {
                     return Err(input.error(ErrorKind::LeftArrow));
                 }
-                Ok(make::cast(input.alloc(), left, As { span: first }, ty)?)
+                Ok(make::cast(input.alloc(), left.into_inner(), As { span: first }, ty)?)
             }
         }
     }
 
-    /// Reads the operations behind a left operand, as many as the place takes.
+    /// Reads the operations after a left operand, as many as the place takes.
     ///
     /// It is refused as `ChainedComparison` at the second of two comparisons without parentheses, as `AfterCast` at a trailer
-    /// behind a cast, as `LeftArrow` at `<-`, as `UnexpectedToken` at `...`, and inside as an operand or a type is.
+    /// after a cast, as `LeftArrow` at `<-`, as `UnexpectedToken` at `...`, and inside as an operand or a type is.
     #[tactic(auto, using(crate::proofs::Loops::operators))]
     pub(crate) fn climb(
         &self,
@@ -159,17 +162,17 @@ impl<E: ReadExprs + Drop, F: Fn(&mut ParseBuffer<'_>, Place) -> Result<Box<E>>> 
     {
         'operators: while let Some((op, count)) = next_operator(input, place, &*left) {
             if chains(op, &*left) {
-                return Err(input.error(ErrorKind::ChainedComparison));
+                return Err(given_up(left, input.error(ErrorKind::ChainedComparison)));
             }
             let spans = input.spans();
             input.skip(count);
             left = self.longer(input, place, left, op, spans)?;
             if !closes(input, place, &*left) {
-                return Err(after_cast(input));
+                return Err(given_up(left, after_cast(input)));
             }
         }
         if !stops(input, place, &*left) {
-            return Err(refusal(input));
+            return Err(given_up(left, refusal(input)));
         }
         Ok(left)
     }

@@ -1,4 +1,4 @@
-//! The reader of prefix operators, one behind the other: they are counted, the operand is read, and then it is wrapped by
+//! The reader of prefix operators, one after the other: they are counted, the operand is read, and then it is wrapped by
 //! each of them (Rust Reference, "Operator expressions"). So their number takes no stack.
 
 ghost use Rattle.std.specs.Prelude.{◌≡◌, ◌<◌, ◌≤◌, ◌+◌, true, IfSome, length, take};
@@ -42,7 +42,7 @@ fn operator(tree: &TokenTree) -> Option<UnOp>
     }
 }
 
-/// The prefix operator that stands first.
+/// The prefix operator that comes first.
 #[tactic(auto, using(crate::proofs::Operators::first_taken))]
 pub(crate) fn first_operator(input: &ParseBuffer<'_>) -> Option<UnOp>
     ensures value { mapped un_kind result ≡ operator_at input.now.rest }
@@ -51,7 +51,7 @@ pub(crate) fn first_operator(input: &ParseBuffer<'_>) -> Option<UnOp>
     operator(input.first()?)
 }
 
-/// How many prefix operators stand first, one behind the other.
+/// How many prefix operators come first, one after the other.
 #[tactic(auto, using(crate::proofs::Operators::counted))]
 fn operator_count(trees: &[TokenTree]) -> usize
     ensures all { are_operators (take result (toks_of trees.now)) ≡ true }
@@ -70,7 +70,7 @@ fn operator_count(trees: &[TokenTree]) -> usize
 }
 
 impl<E: ReadExprs + Drop, F: Fn(&mut ParseBuffer<'_>, Place) -> Result<Box<E>> + Copy> Grammar<F> {
-    /// Wraps an operand in the prefix operators before it, the last of them first, each with the trailers behind it.
+    /// Wraps an operand in the prefix operators before it, the last of them first, each with the trailers after it.
     #[tactic(auto, using(crate::proofs::Operators::wraps))]
     fn wrapped(
         &self,

@@ -43,7 +43,7 @@ fn of_path(e: Error, start: Span) -> Error
     }
 }
 
-/// Reads a path and the type that it is qualified by, if there is one. Where not even its first token stands there, it is
+/// Reads a path and the type that it is qualified by, if there is one. Where not even its first token is there, it is
 /// refused as `ExpectedExpression`, else as a path is.
 pub(crate) fn qpath(input: &mut ParseBuffer<'_>) -> Result<(Option<QSelf>, Path)>
     ensures value { Reads (λ q. (qself_or type_of q.0, path_of type_of q.1)) ((part.qpath part.type PathStyle.Expr).reads input.old.rest) result input.new.rest }

@@ -1,4 +1,4 @@
-//! The readers of trailers: calls, indices, `?`, and what stands behind a dot (Rust Reference, "Call expressions", "Array and
+//! The readers of trailers: calls, indices, `?`, and what comes after a dot (Rust Reference, "Call expressions", "Array and
 //! slice indexing expressions", "Field access expressions", "Method-call expressions", "Await expressions").
 
 ghost use Rattle.std.specs.Prelude.{◌≡◌, ◌≤◌, ◌+◌, [], if◌then◌else◌, false, map, Some, None};
@@ -24,6 +24,7 @@ use crate::fields::fields;
 use crate::grammar::Grammar;
 use crate::known::fits_base;
 use crate::make;
+use syn_expr_ends::held::{Held, given_up};
 use syn_expr_ends::kinds::ReadExprs;
 use syn_expr_front::float::{FloatIndices, indices, indices_before_name, refusal};
 use syn_expr_front::sign::bracket_at;
@@ -65,12 +66,12 @@ fn try_expr<E: ReadExprs + Drop>(
     ensures same { input.new ≡ input.old }
 {
     if !fits_base(place, TrailerKind::Try, &*base) {
-        return Err(input.error(ErrorKind::UnexpectedToken));
+        return Err(given_up(base, input.error(ErrorKind::UnexpectedToken)));
     }
     Ok(make::try_expr(input.alloc(), base, question_token)?)
 }
 
-/// Makes indices, which were taken behind a dot, part of their base.
+/// Makes indices, which were taken after a dot, part of their base.
 #[tactic(auto, using(crate::proofs::Bases::bases))]
 fn indexed<E: ReadExprs + Drop>(
     input: &ParseBuffer<'_>,
@@ -82,7 +83,7 @@ fn indexed<E: ReadExprs + Drop>(
     ensures value { Reads (λ b. E.tree b.value) (if known.fits_base place (kinds.Field false) (E.tree base.value) then Some (stands.fields_of (E.tree base.value) indices.entry, input.now.rest) else None) result input.now.rest }
 {
     if !fits_base(place, TrailerKind::Field { named: false }, &*base) {
-        return Err(input.error(ErrorKind::UnexpectedToken));
+        return Err(given_up(base, input.error(ErrorKind::UnexpectedToken)));
     }
     let (x, _) = fields(input.alloc(), base, dot_token, indices)?;
     Ok(x)
@@ -101,11 +102,12 @@ impl<E: ReadExprs + Drop, F: Fn(&mut ParseBuffer<'_>, Place) -> Result<Box<E>> +
         ensures shrinks { weight input.new.rest ≤ weight input.old.rest }
     {
         if !fits_base(place, TrailerKind::Call, &*base) {
-            return Err(input.error(ErrorKind::UnexpectedToken));
+            return Err(given_up(base, input.error(ErrorKind::UnexpectedToken)));
         }
+        let base = Held { value: base };
         let lists = Lists { expr: self.expr };
         let (paren_token, args) = lists.arguments(input)?;
-        Ok(make::call(input.alloc(), base, paren_token, args)?)
+        Ok(make::call(input.alloc(), base.into_inner(), paren_token, args)?)
     }
 
     /// Reads an index in brackets.
@@ -120,15 +122,16 @@ impl<E: ReadExprs + Drop, F: Fn(&mut ParseBuffer<'_>, Place) -> Result<Box<E>> +
         ensures shrinks { weight input.new.rest ≤ weight input.old.rest }
     {
         if !fits_base(place, TrailerKind::Index, &*base) {
-            return Err(input.error(ErrorKind::UnexpectedToken));
+            return Err(given_up(base, input.error(ErrorKind::UnexpectedToken)));
         }
+        let base = Held { value: base };
         let lists = Lists { expr: self.expr };
         let (bracket_token, index) = lists.index(input)?;
-        Ok(make::index(input.alloc(), base, bracket_token, index)?)
+        Ok(make::index(input.alloc(), base.into_inner(), bracket_token, index)?)
     }
 
-    /// Reads the arguments of a method behind its name and its turbofish, if it has one. A `::` that begins no turbofish is
-    /// refused as `ExpectedToken` of the `<` that is missing behind it.
+    /// Reads the arguments of a method after its name and its turbofish, if it has one. A `::` that begins no turbofish is
+    /// refused as `ExpectedToken` of the `<` that is missing after it.
     #[tactic(auto, using(crate::proofs::Bases::no_arguments))]
     fn method_arguments(
         &self,
@@ -148,7 +151,7 @@ impl<E: ReadExprs + Drop, F: Fn(&mut ParseBuffer<'_>, Place) -> Result<Box<E>> +
         lists.arguments(input)
     }
 
-    /// Reads `await`, a field or a method with its arguments, behind the indices of a float that stand before it.
+    /// Reads `await`, a field or a method with its arguments, after the indices of a float that come before it.
     // Not in the frame of its caller, which is on the stack once for each level of a tree.
     #[inline(never)]
     #[tactic(auto, using(crate::proofs::Bases::bases))]
@@ -166,11 +169,12 @@ impl<E: ReadExprs + Drop, F: Fn(&mut ParseBuffer<'_>, Place) -> Result<Box<E>> +
         ensures noted { input.new.noted ≡ input.old.noted }
         ensures shrinks { weight input.new.rest ≤ weight input.old.rest }
     {
+        let base = Held { value: base };
         let head = dotted(input)?;
-        if !fits_base(place, head_kind(&head), &*base) {
+        if !fits_base(place, head_kind(&head), &*base.value) {
             return Err(input.error(ErrorKind::UnexpectedToken));
         }
-        let (base, dot_token) = fields(input.alloc(), base, dot_token, indices)?;
+        let (base, dot_token) = fields(input.alloc(), base.into_inner(), dot_token, indices)?;
         match head {
             TrailerHead::Await(await_token) => Ok(make::awaited(
                 input.alloc(),
@@ -180,14 +184,16 @@ impl<E: ReadExprs + Drop, F: Fn(&mut ParseBuffer<'_>, Place) -> Result<Box<E>> +
             )?),
             TrailerHead::Field(member) => Ok(make::field(input.alloc(), base, dot_token, member)?),
             TrailerHead::Method(name, turbofish) => {
+                let base = Held { value: base };
                 let arguments = self.method_arguments(input, turbofish.is_some())?;
                 let name = (name, turbofish);
+                let base = base.into_inner();
                 Ok(make::method(input.alloc(), base, dot_token, name, arguments)?)
             }
         }
     }
 
-    /// Reads what stands behind a dot: indices, or a name with what belongs to it.
+    /// Reads what comes after a dot: indices, or a name with what belongs to it.
     // Not in the frame of its caller, which is on the stack once for each level of a tree.
     #[inline(never)]
     #[tactic(auto, using(crate::proofs::Bases::bases))]
@@ -208,12 +214,12 @@ impl<E: ReadExprs + Drop, F: Fn(&mut ParseBuffer<'_>, Place) -> Result<Box<E>> +
             return indexed(input, place, base, dot_token, indices);
         }
         let Some(indices) = indices_before_name(input) else {
-            return Err(refusal(input));
+            return Err(given_up(base, refusal(input)));
         };
         self.named_trailer(input, place, base, dot_token, indices)
     }
 
-    /// Reads a trailer behind its base.
+    /// Reads a trailer after its base.
     // Not in the frame of its caller, which is on the stack once for each level of a tree.
     #[inline(never)]
     #[tactic(auto, unfolding(syn_grammar::specs::Read::trailed, syn_grammar::specs::Front::question_at))]
@@ -234,16 +240,18 @@ impl<E: ReadExprs + Drop, F: Fn(&mut ParseBuffer<'_>, Place) -> Result<Box<E>> +
             return try_expr(input, place, base, question_token);
         }
         let Some(dot_token) = dot(input) else {
-            return Err(input.error(ErrorKind::UnexpectedToken));
+            return Err(given_up(base, input.error(ErrorKind::UnexpectedToken)));
         };
         self.behind_dot(input, place, base, dot_token)
     }
 
-    /// Reads the trailers behind a base, as many as there are.
+    /// Reads the trailers after a base, as many as there are.
     ///
     /// It is refused as `UnexpectedToken` at a trailer that its base doesn't take, as `ExpectedMember`,
-    /// `ExpectedUnsuffixedInteger` or `IndexOutOfRange` where no name, method or index is behind a dot, as `ExpectedToken` where
+    /// `ExpectedUnsuffixedInteger` or `IndexOutOfRange` where no name, method or index is after a dot, as `ExpectedToken` where
     /// a method lacks its arguments or the `<` of its turbofish, and inside as arguments, an index or a type are.
+    // Mostly there is none, which is told without a call.
+    #[inline(always)]
     #[tactic(auto, using(crate::proofs::Loops::trails))]
     pub(crate) fn trail(
         &self,

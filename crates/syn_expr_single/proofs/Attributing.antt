@@ -1,4 +1,4 @@
--- A node behind its attributes, as it is printed by itself.
+-- A node after its attributes, as it is printed by itself.
 use Rattle.std.proofs.Common.{◌≡◌, true, false, List, [], ◌∷◌, ◌++◌, refl, sym, ap, ◌∙◌, append_assoc}
 use Rattle.syn_lexer.specs.declared.lexeme.Delimiter.TheVariants as del
 use Rattle.syn_tokens.specs.Tok.{Tok}
@@ -14,7 +14,7 @@ use Rattle.syn_expr_print.specs.Printing.{spelled, spelled_in}
 use Rattle.syn_expr_print.proofs.Spellings.{spelled-attributed, spelled-bare, spelled-wrapped}
 use Rattle.syn_expr_single.proofs.Enclosed.{whole-bare}
 
--- behind attributes, in parentheses where it is an operation
+-- after attributes, in parentheses where it is an operation
 pub behind-some : (a : AttributeTree) (more : List AttributeTree) (t : Tree) → whole enclosed (attributed a more t) ≡ attributes_own (outers (a ∷ more)) [] ++ spelled_in (is_operation t) enclosed t
 behind-some a more t = whole-bare (attributed a more t) ∙ spelled-attributed enclosed (attributed a more t) a more refl
 
@@ -38,7 +38,7 @@ operation-wrapped (a ∷ more) t h o =
     ∙ ap (λ w. attributes_own (outers (a ∷ more)) [] ++ spelled_in w enclosed t) o
     ∙ ap (λ l. attributes_own (outers (a ∷ more)) [] ++ l) (spelled-wrapped enclosed t)
 
--- ---- one part behind the other
+-- ---- one part after the other
 
 pub plain-written : (ats : List AttributeTree) (t : Tree) (x t0 t1 t2 : List Tok) → is_operation t ≡ false → spelled enclosed t ≡ x
     → t1 ≡ t0 ++ attributes_own (outers ats) [] → t2 ≡ t1 ++ x → t2 ≡ t0 ++ whole enclosed (attributed_with ats t)

@@ -1,4 +1,4 @@
--- In plain position no pair stands round a node.
+-- In plain position no pair is round a node.
 use Rattle.std.proofs.Common.{◌≡◌, ap}
 use Rattle.syn_grammar.specs.Next.{enclosed}
 use Rattle.syn_grammar.specs.Rule.{put, bare}

@@ -1,4 +1,4 @@
--- An arm behind which no other follows.
+-- An arm after which no other follows.
 use Rattle.std.proofs.Common.{◌≡◌, false}
 use Rattle.syn_grammar.proofs.Bools.{or_none}
 use Rattle.syn_expr_kinds.specs.Pats.{ArmView}

@@ -130,7 +130,7 @@ below-framed o h = ap operands_below h
 pub ruleset placed = (below-framed)
 
 module _ {P : Type 0} (pat : P → PatView) where
-  -- without a delimiter no comma is needed behind the last
+  -- without a delimiter no comma is needed after the last
   last-open : (k : Frame P) (ks : Children) → is_some (enclosure (frame_of pat k)) ≡ false → needs_last (frame_of pat k) (e.is_one ks) ≡ false
   last-open (frame.Array t) ks h = refl
   last-open (frame.Tuple t) ks h = absurd cc

@@ -1,4 +1,4 @@
-//! An operation behind its attributes.
+//! An operation after its attributes.
 
 ghost use Rattle.std.specs.Prelude.{◌≡◌, ◌++◌, true, OnOk};
 ghost use Rattle.syn_expr_kinds.specs.Attrs.{attrs_of};
@@ -16,7 +16,7 @@ use syn_expr_kinds::put::{PutResult, put_result};
 use syn_lower::attr::Attribute;
 use syn_tokens::tree::TokenStream;
 
-/// Puts attributes, and behind them what was printed of an operation: in parentheses, unless there are no attributes. Without
+/// Puts attributes, and after them what was printed of an operation: in parentheses, unless there are no attributes. Without
 /// these the attributes would be those of its first operand (Rust Reference, "Expression attributes").
 ///
 /// Memory may run out; a part of the tokens may then follow what was there.

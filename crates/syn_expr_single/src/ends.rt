@@ -38,7 +38,7 @@ use syn_tokens::tree::TokenStream;
 
 // ---- what is no operation
 
-/// Prints parentheses with what stands in them.
+/// Prints parentheses with what is in them.
 #[tactic(auto, using(syn_tokens::proofs::Fronts::fronts, crate::proofs::Shapes::parens))]
 fn bare_paren<E: HasPrinter>(tokens: &mut TokenStream, paren: &Paren, x: &E) -> PutResult
     ensures text { OnOk result (tokens.new ≡ tokens.old ++ spelled next.enclosed (e.paren false (E.tree x.now))) }
@@ -49,7 +49,7 @@ fn bare_paren<E: HasPrinter>(tokens: &mut TokenStream, paren: &Paren, x: &E) -> 
     put_paren(tokens, paren, content)
 }
 
-/// Prints parentheses with what stands in them, behind their attributes.
+/// Prints parentheses with what is in them, after their attributes.
 ///
 /// Memory may run out, here and in all that prints a node by its shape; a part of the tokens may then follow what was there.
 #[tactic(auto, using(syn_tokens::proofs::Fronts::fronts))]
@@ -67,7 +67,7 @@ pub fn paren<E: HasPrinter>(
     Ok(())
 }
 
-/// The kind of what stands before an operand.
+/// The kind of what comes before an operand.
 fn prefix_kind<P: HasPatTree>(prefix: Prefix<'_, P>) -> PrefixKind
     ensures { result ≡ prefix_kind (prefix_of P.view prefix.entry) }
 {
@@ -85,7 +85,7 @@ fn prefix_kind<P: HasPatTree>(prefix: Prefix<'_, P>) -> PrefixKind
     }
 }
 
-/// Prints a prefix and the operand behind it.
+/// Prints a prefix and the operand after it.
 #[tactic(auto, using(syn_tokens::proofs::Fronts::fronts, crate::proofs::Shapes::prefixes))]
 fn prefixed_parts<E: HasPrinter, P: PutPat>(
     tokens: &mut TokenStream,
@@ -101,7 +101,7 @@ fn prefixed_parts<E: HasPrinter, P: PutPat>(
     behind_prefix(&node::<E>, tokens, &mut summaries, x, kind, enclosed())
 }
 
-/// Prints a node that ends with its operand, behind its attributes and what stands before the operand.
+/// Prints a node that ends with its operand, after its attributes and what comes before the operand.
 #[tactic(auto, using(syn_tokens::proofs::Fronts::fronts))]
 pub fn prefixed<E: HasPrinter, P: PutPat>(
     tokens: &mut TokenStream,
@@ -151,7 +151,7 @@ fn between<E: HasPrinter>(
     right_of(&node::<E>, tokens, &mut summaries, y, op, enclosed())
 }
 
-/// Prints an operation of two operands, behind its attributes in parentheses.
+/// Prints an operation of two operands, after its attributes in parentheses.
 #[tactic(auto, using(syn_tokens::proofs::Fronts::fronts))]
 pub fn infixed<E: HasPrinter>(
     tokens: &mut TokenStream,
@@ -168,7 +168,7 @@ pub fn infixed<E: HasPrinter>(
     operation(tokens, attrs, printed)
 }
 
-/// The operator that stands behind an operand.
+/// The operator that comes after an operand.
 fn postfix_op(postfix: Postfix<'_>) -> Infix
     ensures { result ≡ postfix_op (postfix_of postfix.entry) }
 {
@@ -178,7 +178,7 @@ fn postfix_op(postfix: Postfix<'_>) -> Infix
     }
 }
 
-/// Prints an operand, and what stands behind it.
+/// Prints an operand, and what comes after it.
 #[tactic(auto, using(syn_tokens::proofs::Fronts::fronts, crate::proofs::Shapes::postfixes))]
 fn posted<E: HasPrinter>(tokens: &mut TokenStream, x: &E, postfix: Postfix<'_>) -> PutResult
     ensures text { OnOk result (tokens.new ≡ tokens.old ++ spelled next.enclosed (e.postfixed (E.tree x.now) (postfix_of postfix.entry))) }
@@ -193,7 +193,7 @@ fn posted<E: HasPrinter>(tokens: &mut TokenStream, x: &E, postfix: Postfix<'_>) 
     Ok(())
 }
 
-/// Prints a node that begins with its operand, behind its attributes in parentheses.
+/// Prints a node that begins with its operand, after its attributes in parentheses.
 #[tactic(auto, using(syn_tokens::proofs::Fronts::fronts))]
 pub fn postfixed<E: HasPrinter>(
     tokens: &mut TokenStream,
@@ -209,7 +209,7 @@ pub fn postfixed<E: HasPrinter>(
     operation(tokens, attrs, printed)
 }
 
-/// Prints a range without a start, behind its attributes in parentheses.
+/// Prints a range without a start, after its attributes in parentheses.
 #[tactic(auto, using(syn_tokens::proofs::Fronts::fronts))]
 fn range_to<E: HasPrinter>(
     tokens: &mut TokenStream,
@@ -225,7 +225,7 @@ fn range_to<E: HasPrinter>(
     operation(tokens, attrs, printed)
 }
 
-/// Prints a range without a start and an end, behind its attributes in parentheses.
+/// Prints a range without a start and an end, after its attributes in parentheses.
 #[tactic(auto, using(syn_tokens::proofs::Fronts::fronts, crate::proofs::Shapes::ranges))]
 fn full_range(tokens: &mut TokenStream, attrs: &Vec<Attribute>, limits: &RangeLimits) -> PutResult
     ensures text { OnOk result (tokens.new ≡ tokens.old ++ whole next.enclosed (attributed_with (attrs_of attrs.now) (e.leaf (e.full_range (limits_kind limits.now))))) }
@@ -236,7 +236,7 @@ fn full_range(tokens: &mut TokenStream, attrs: &Vec<Attribute>, limits: &RangeLi
     operation(tokens, attrs, printed)
 }
 
-/// Prints a range between the ends that are there, behind its attributes in parentheses.
+/// Prints a range between the ends that are there, after its attributes in parentheses.
 #[tactic(auto, using(syn_tokens::proofs::Fronts::fronts))]
 pub fn range<E: HasPrinter>(
     tokens: &mut TokenStream,

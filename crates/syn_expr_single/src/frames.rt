@@ -23,7 +23,7 @@ use syn_expr_put::prefix::PutPat;
 use syn_tokens::token::Brace;
 use syn_tokens::tree::TokenStream;
 
-/// Prints operands in places of their own, with what stands between them. `needs_comma`: one is needed behind the last: behind
+/// Prints operands in places of their own, with what is between them. `needs_comma`: one is needed after the last: after
 /// the one of a tuple, and before the `..` that ends a struct expression. `brace`: those round the arms of a `match`; of other
 /// nodes some that have no place.
 #[tactic(auto, using(syn_tokens::proofs::Fronts::fronts, crate::proofs::Shapes::placed))]
@@ -48,7 +48,7 @@ fn placed<E: HasPrinter>(
     )
 }
 
-/// Prints a node with a delimiter round its operands, behind its attributes. `needs_comma`: a comma is needed behind the last.
+/// Prints a node with a delimiter round its operands, after its attributes. `needs_comma`: a comma is needed after the last.
 #[tactic(auto, using(syn_tokens::proofs::Fronts::fronts))]
 fn closed<E: HasPrinter, P: PutPat>(
     tokens: &mut TokenStream,
@@ -70,7 +70,7 @@ fn closed<E: HasPrinter, P: PutPat>(
     Ok(())
 }
 
-/// Prints a node with a head before its operands, and no delimiter round them, behind its attributes. `brace`: those round the
+/// Prints a node with a head before its operands, and no delimiter round them, after its attributes. `brace`: those round the
 /// arms of a `match`; of other nodes some that have no place.
 #[tactic(auto, using(syn_tokens::proofs::Fronts::fronts))]
 fn opened<E: HasPrinter, P: PutPat>(
@@ -91,7 +91,7 @@ fn opened<E: HasPrinter, P: PutPat>(
     Ok(())
 }
 
-/// Prints a node that has its operands in places of their own, behind its attributes.
+/// Prints a node that has its operands in places of their own, after its attributes.
 #[tactic(auto, using(syn_tokens::proofs::Fronts::fronts))]
 pub fn frame<E: HasPrinter, P: PutPat>(
     tokens: &mut TokenStream,

@@ -1,7 +1,7 @@
 //! Nodes printed by themselves, over any type of expressions (Rust Reference, "Expressions").
 //!
 //! The printer of whole expressions goes through a node by its parts. Here a node's parts are lent by the struct of
-//! its kind, and only its operands are expressions: a node is printed by its shape, behind its attributes.
+//! its kind, and only its operands are expressions: a node is printed by its shape, after its attributes.
 #![tactic(auto)]
 
 pub mod behind;

@@ -43,7 +43,7 @@ fn summarize_arm<E: HasPrinter>(tokens: &TokenStream, arm: &E::Arm) -> Result<Su
     Ok(Summaries { left, visits })
 }
 
-/// Prints a field: its attributes and its name or index, and behind a colon its value. No comma stands behind it.
+/// Prints a field: its attributes and its name or index, and after a colon its value. No comma comes after it.
 #[tactic(auto, using(syn_tokens::proofs::Fronts::fronts))]
 pub fn field<E: HasPrinter>(tokens: &mut TokenStream, field: &FieldValueOf<E>) -> PutResult
     ensures text { OnOk result (tokens.new ≡ tokens.old ++ field_spelled (field_value_of E.tree field.now)) }

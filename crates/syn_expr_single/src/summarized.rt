@@ -27,7 +27,7 @@ pub(crate) fn summarize_one<E: HasPrinter>(
     Ok(Summaries { left, visits })
 }
 
-/// The summaries of two operands: those of the first stand last.
+/// The summaries of two operands: those of the first come last.
 #[tactic(auto, using(syn_expr_print::proofs::Stacks::ends_all))]
 pub(crate) fn summarize_two<E: HasPrinter>(
     tokens: &TokenStream,

@@ -1,4 +1,4 @@
-//! Trailers behind their bases (Rust Reference, "Call expressions", "Method-call expressions", "Field access expressions",
+//! Trailers after their bases (Rust Reference, "Call expressions", "Method-call expressions", "Field access expressions",
 //! "Array and array index expressions", "Await expressions", "The question mark operator"), by their parts.
 
 ghost use Rattle.std.specs.Prelude.{◌≡◌, ◌++◌, false, map, IfOk, OnOk};
@@ -46,7 +46,7 @@ fn trailer_kind(trailer: Trailer<'_>) -> TrailerKind
     }
 }
 
-/// Prints a base, and behind it a trailer that holds no operand.
+/// Prints a base, and after it a trailer that holds no operand.
 #[tactic(auto, using(syn_tokens::proofs::Fronts::fronts))]
 fn behind_base<E: HasPrinter>(tokens: &mut TokenStream, base: &E, trailer: Trailer<'_>) -> PutResult
     ensures text { OnOk result (tokens.new ≡ tokens.old ++ spelled next.enclosed (e.tail (E.tree base.now) (trailer_of trailer.entry) e.none)) }
@@ -62,7 +62,7 @@ fn behind_base<E: HasPrinter>(tokens: &mut TokenStream, base: &E, trailer: Trail
     Ok(())
 }
 
-/// Prints a base with a trailer that holds no operand, behind the attributes.
+/// Prints a base with a trailer that holds no operand, after the attributes.
 #[tactic(auto, using(syn_tokens::proofs::Fronts::fronts))]
 pub fn trailed<E: HasPrinter>(
     tokens: &mut TokenStream,
@@ -78,7 +78,7 @@ pub fn trailed<E: HasPrinter>(
     Ok(())
 }
 
-/// Prints what is called, and answers what stands in the parentheses behind it: its arguments with their commas. `kind` is
+/// Prints what is called, and answers what is in the parentheses after it: its arguments with their commas. `kind` is
 /// that of the trailer: of a call, or of a method's.
 #[tactic(auto, using(syn_tokens::proofs::Fronts::fronts, syn_expr_print::proofs::Stacks::takes, crate::proofs::Shapes::calls))]
 fn called<E: HasPrinter>(
@@ -114,7 +114,7 @@ fn applied<E: HasPrinter>(
     Ok(())
 }
 
-/// Prints what is called, or the receiver of a method, with its arguments in parentheses, behind the attributes.
+/// Prints what is called, or the receiver of a method, with its arguments in parentheses, after the attributes.
 #[tactic(auto, using(syn_tokens::proofs::Fronts::fronts))]
 pub fn call<E: HasPrinter>(
     tokens: &mut TokenStream,
@@ -151,7 +151,7 @@ fn bare_index<E: HasPrinter>(
     Ok(())
 }
 
-/// Prints what is indexed, and its index in brackets, behind the attributes.
+/// Prints what is indexed, and its index in brackets, after the attributes.
 #[tactic(auto, using(syn_tokens::proofs::Fronts::fronts))]
 pub fn indexed<E: HasPrinter>(
     tokens: &mut TokenStream,

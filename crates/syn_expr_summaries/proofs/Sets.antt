@@ -113,7 +113,7 @@ widened_has : (b : Bool) (s : ℕ) (n : Next) → has (if b then 0xff_ffff else 
 widened_has true s n = every_has n
 widened_has false s n = refl
 
--- ---- what the owner of a place must not have behind it
+-- ---- what the owner of a place must not have after it
 
 abbrev pub wrapped_by_set : Level → Summary → Bool → ℕ
 wrapped_by_set v x always = if not (takes v x.low) || always then 0xff_ffff else x.ends

@@ -1,4 +1,4 @@
--- The kind of a node, whatever attributes stand before it.
+-- The kind of a node, whatever attributes come before it.
 use Rattle.syn_grammar.specs.Tree as e
 use Rattle.syn_grammar.specs.Tree.{Tree}
 use Rattle.syn_expr_summaries.specs.Label.{leaf_kind, prefix_kind, postfix_kind, trailer_kind, frame_kind}

@@ -1,4 +1,4 @@
-//! Classes of tokens: what stands behind a node, as far as it decides about parentheses.
+//! Classes of tokens: what comes after a node, as far as it decides about parentheses.
 
 ghost use Rattle.std.specs.Prelude.{◌≡◌};
 ghost use Rattle.syn_grammar.specs.Next as spec;
@@ -115,21 +115,21 @@ pub fn begins_next(next: Next) -> bool
     )
 }
 
-/// Whether it is the brace of a block behind a condition.
+/// Whether it is the brace of a block after a condition.
 pub fn is_block_next(next: Next) -> bool
     ensures { result ≡ spec.is_block_next next }
 {
     matches!(next, Next::Block)
 }
 
-/// Whether it is a brace behind which a path would be that of a struct expression.
+/// Whether it is a brace after which a path would be that of a struct expression.
 pub fn is_brace_next(next: Next) -> bool
     ensures { result ≡ spec.is_brace_next next }
 {
     matches!(next, Next::Brace)
 }
 
-/// What it is behind the value of a jump, where a brace opens no block.
+/// What it is after the value of a jump, where a brace opens no block.
 pub fn without_block(next: Next) -> Next
     ensures { result ≡ spec.without_block next }
 {

@@ -1,4 +1,4 @@
-//! The places of operands: what stands behind a node, and what is round it.
+//! The places of operands: what comes after a node, and what is round it.
 
 ghost use Rattle.std.specs.Prelude.{◌≡◌};
 ghost use Rattle.syn_grammar.specs.Next as spec;
@@ -11,7 +11,7 @@ use crate::label::{PieceKind, PrefixKind, TrailerKind};
 use syn_grammar::kinds::{Infix, Limits};
 use syn_grammar::next::{Context, Edge, Next};
 
-/// Inside of delimiters, with nothing behind; and in plain position.
+/// Inside of delimiters, with nothing after; and in plain position.
 pub fn enclosed() -> Context
     ensures { result ≡ spec.enclosed }
 {
@@ -85,7 +85,7 @@ fn base_edge(trailer: TrailerKind, edge: Edge) -> Edge
     }
 }
 
-/// The edge behind attributes, where no brace is first.
+/// The edge after attributes, where no brace is first.
 pub fn attributed_edge(edge: Edge) -> Edge
     ensures { result ≡ spec.attributed_edge edge }
 {
@@ -102,7 +102,7 @@ fn braceless(condition: bool) -> Edge
     if condition { Edge::NoBrace } else { Edge::Free }
 }
 
-/// The edge of an end of a range: of `..` a brace behind a condition would be no end.
+/// The edge of an end of a range: of `..` a brace after a condition would be no end.
 fn end_edge(op: Infix, condition: bool) -> Edge
     ensures { result ≡ label.end_edge op condition }
 {
@@ -145,7 +145,7 @@ pub fn base_context(trailer: TrailerKind, context: Context) -> Context
     }
 }
 
-/// The place of a node behind its attributes.
+/// The place of a node after its attributes.
 pub fn attributed_context(context: Context) -> Context
     ensures { result ≡ spec.attributed_context context }
 {
@@ -156,7 +156,7 @@ pub fn attributed_context(context: Context) -> Context
     }
 }
 
-/// The edge of an operand behind its prefix.
+/// The edge of an operand after its prefix.
 fn prefix_edge(prefix: PrefixKind, condition: bool) -> Edge
     ensures { result ≡ label.prefix_edge prefix condition }
 {
@@ -167,7 +167,7 @@ fn prefix_edge(prefix: PrefixKind, condition: bool) -> Edge
     }
 }
 
-/// Whether an operand behind its prefix is before a block: that behind a jump isn't.
+/// Whether an operand after its prefix is before a block: that after a jump isn't.
 fn prefix_condition(prefix: PrefixKind, condition: bool) -> bool
     ensures { result ≡ label.prefix_condition prefix condition }
 {
@@ -177,7 +177,7 @@ fn prefix_condition(prefix: PrefixKind, condition: bool) -> bool
     }
 }
 
-/// What stands behind an operand, by what stands behind its prefix.
+/// What comes after an operand, by what comes after its prefix.
 pub fn prefix_next(prefix: PrefixKind, next: Next) -> Next
     ensures { (k : Prefix) → prefix_kind k ≡ prefix → result ≡ spec.prefix_next k next }
 {
@@ -187,7 +187,7 @@ pub fn prefix_next(prefix: PrefixKind, next: Next) -> Next
     }
 }
 
-/// The place of an operand behind its prefix.
+/// The place of an operand after its prefix.
 pub fn prefix_context(prefix: PrefixKind, context: Context) -> Context
     ensures { (k : Prefix) → prefix_kind k ≡ prefix → result ≡ spec.prefix_context k context }
 {

@@ -123,7 +123,7 @@ pub(crate) fn takes_label(prefix: PrefixKind, x: Summary) -> bool
     prefix.is_bare_break() && x.labelled
 }
 
-/// Whether an operand behind its prefix is put in parentheses.
+/// Whether an operand after its prefix is put in parentheses.
 pub fn prefix_by(prefix: PrefixKind, context: Context, x: Summary) -> bool
     ensures { (k : Prefix) → prefix_kind k ≡ prefix → result ≡ spec.prefix_by k context x }
 {

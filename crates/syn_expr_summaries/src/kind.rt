@@ -3,7 +3,7 @@
 use crate::label::{FrameKind, LeafKind, PostfixKind, PrefixKind, TrailerKind};
 use syn_grammar::kinds::Infix;
 
-/// The kind of a node, whatever attributes stand before it.
+/// The kind of a node, whatever attributes come before it.
 #[derive(Clone, Copy, Debug, PartialEq, Eq)]
 pub enum NodeKind {
     /// Closed at both ends, without an operand at an end or in a place of its own.
@@ -14,9 +14,9 @@ pub enum NodeKind {
     Prefix(PrefixKind),
     /// An operator between two operands.
     Infix(Infix),
-    /// Tokens behind an operand.
+    /// Tokens after an operand.
     Postfix(PostfixKind),
-    /// A trailer behind its base.
+    /// A trailer after its base.
     Tail(TrailerKind),
     /// Operands in places of their own.
     Frame(FrameKind),

@@ -41,7 +41,7 @@ pub enum LeafKind {
     Other,
 }
 
-/// What stands before an operand.
+/// What comes before an operand.
 #[derive(Clone, Copy, Debug, PartialEq, Eq)]
 pub enum PrefixKind {
     /// A prefix operator, `&` or `&raw`.
@@ -61,19 +61,19 @@ pub enum PrefixKind {
     Closure,
 }
 
-/// What stands behind an operand.
+/// What comes after an operand.
 #[derive(Clone, Copy, Debug, PartialEq, Eq)]
 pub enum PostfixKind {
     /// `as` and a type.
     Cast {
-        /// A `<` behind the type would begin its arguments.
+        /// A `<` after the type would begin its arguments.
         ends_open: bool,
     },
     /// A range without an end.
     RangeFrom(Limits),
 }
 
-/// What stands behind the base of a trailer.
+/// What comes after the base of a trailer.
 #[derive(Clone, Copy, Debug, PartialEq, Eq)]
 pub enum TrailerKind {
     /// The arguments of a call.
@@ -190,7 +190,7 @@ impl PrefixKind {
         matches!(self, PrefixKind::RangeTo(_))
     }
 
-    /// Whether a trailer behind it would belong to it, or is refused there.
+    /// Whether a trailer after it would belong to it, or is refused there.
     pub fn carries(self) -> bool
         ensures { result ≡ not (spec.is_prefix self || spec.is_range_prefix self) }
     {

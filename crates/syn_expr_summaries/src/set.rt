@@ -1,4 +1,4 @@
-//! Sets of classes, a bit for each: what a node must not have behind it.
+//! Sets of classes, a bit for each: what a node must not have after it.
 
 ghost use Rattle.std.specs.Prelude.{◌≡◌, ◌||◌, not, if◌then◌else◌};
 ghost use Rattle.syn_grammar.specs.Next as next_spec;
@@ -24,7 +24,7 @@ const BEGINNINGS: u32 = 0xf0_cdb8;
 /// The classes with which an expression begins, but for the brace of a block.
 const VALUES: u32 = 0xb0_cdb8;
 
-/// The brace behind which a path would be that of a struct expression.
+/// The brace after which a path would be that of a struct expression.
 const BRACE: u32 = 0x80_0000;
 
 /// The classes that would begin the arguments of a type.
@@ -85,9 +85,9 @@ fn widened(set: u32, every: bool) -> u32
     if every { EVERY } else { set }
 }
 
-/// What the owner of a place must not have behind it, by the summary of its occupant: an operator that the place takes, unless
-/// a bare range is there, or a trailer that the occupant could carry. The occupant stands in parentheses before a class
-/// that it must not have behind it, and `always` where it does for what it is.
+/// What the owner of a place must not have after it, by the summary of its occupant: an operator that the place takes, unless
+/// a bare range is there, or a trailer that the occupant could carry. The occupant is in parentheses before a class
+/// that it must not have after it, and `always` where it does for what it is.
 pub fn end_set(level: Level, x: Summary, always: bool) -> u32
     ensures { result ≡ spec.set_of (λ n. spec.end_by level x n (spec.wrapped_by level x n || always)) }
 {
@@ -97,7 +97,7 @@ pub fn end_set(level: Level, x: Summary, always: bool) -> u32
     (taken_set(level) & operators) | (TRAILERS & trailers)
 }
 
-/// What a leaf must not have behind it: a path a brace, a jump without a value what begins one, a range without an end what
+/// What a leaf must not have after it: a path a brace, a jump without a value what begins one, a range without an end what
 /// begins one.
 #[tactic(auto, unfolding(syn_grammar::specs::Summaries::set_of))]
 pub fn leaf_ends(kind: LeafKind) -> u32
@@ -111,7 +111,7 @@ pub fn leaf_ends(kind: LeafKind) -> u32
     }
 }
 
-/// What must not stand behind a cast, a `<` behind a type whose arguments it would begin; or behind a range without an
+/// What must not come after a cast, a `<` after a type whose arguments it would begin; or after a range without an
 /// end, what begins one.
 #[tactic(auto, unfolding(syn_grammar::specs::Summaries::set_of))]
 pub fn postfix_ends(kind: PostfixKind) -> u32

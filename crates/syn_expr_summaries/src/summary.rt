@@ -57,7 +57,7 @@ pub fn leaf_summary(kind: LeafKind) -> Summary
     }
 }
 
-/// What a node is behind attributes: no brace is first.
+/// What a node is after attributes: no brace is first.
 fn attributed_sort(sort: Sort) -> Sort
     ensures { result ≡ spec.attributed_sort sort }
 {
@@ -67,7 +67,7 @@ fn attributed_sort(sort: Sort) -> Sort
     }
 }
 
-/// The summary of a node behind attributes: an operation is in parentheses there.
+/// The summary of a node after attributes: an operation is in parentheses there.
 pub fn attributed_summary(x: Summary) -> Summary
     ensures { result ≡ spec.attributed_summary x }
 {

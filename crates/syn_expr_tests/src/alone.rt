@@ -1,5 +1,5 @@
-//! Each kind read by itself: what is read, what is left behind it, and where and as what another is refused. In the texts `@`
-//! and the parentheses behind it stand for an invisible group.
+//! Each kind read by itself: what is read, what is left after it, and where and as what another is refused. In the texts `@`
+//! and the parentheses after it stand for an invisible group.
 
 use crate::made::{text_of, tokens_of};
 use rows::check;
@@ -14,7 +14,7 @@ use syn_expr::{
     ParseBuffer, ToTokens, TokenStream,
 };
 
-/// What is printed of the `T` that a text begins with, and behind `then` what is left.
+/// What is printed of the `T` that a text begins with, and after `then` what is left.
 fn read<T: Parse>(alloc: Global, text: &str) -> Result<String, Error>
 where
     Expr: From<T>,

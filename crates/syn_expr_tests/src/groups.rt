@@ -1,5 +1,5 @@
 //! Invisible groups where an operand begins: what is read of them, and where they are refused. In the texts `@` and the
-//! parentheses behind it stand for one, and so they do in what is printed.
+//! parentheses after it stand for one, and so they do in what is printed.
 
 use crate::made::{text_of, tokens_of};
 use rows::check;
@@ -55,7 +55,7 @@ fn bare(alloc: Global, text: &str) -> Result<String, Error> {
     described(alloc, &held)
 }
 
-/// The same of the expression that a text begins with in a position, and behind `then` what is left.
+/// The same of the expression that a text begins with in a position, and after `then` what is left.
 fn front(alloc: Global, text: &str, position: Position) -> Result<String, Error> {
     let tokens = tokens_of(alloc, text)?;
     let mut input = ParseBuffer::new(&tokens)?;

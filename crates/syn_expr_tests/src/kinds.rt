@@ -4,7 +4,7 @@ use std::alloc::Global;
 use std::test::Fail;
 use syn_expr::{Error, Expr, HeldExpr, Result, ToTokens, TokenStream, parse_str, to_text};
 
-/// A text of each kind but verbatim tokens and invisible groups, and of some behind attributes.
+/// A text of each kind but verbatim tokens and invisible groups, and of some after attributes.
 const KINDS: [&str; 49] = [
     "[a, b]",
     "a = b",
@@ -57,7 +57,7 @@ const KINDS: [&str; 49] = [
     "yield a",
 ];
 
-/// A text with arms or fields, and the text of these one behind the other.
+/// A text with arms or fields, and the text of these one after the other.
 const PARTS: [(&str, &str); 2] = [
     (
         "match a { p if b => c, #[x] _ => {} }",

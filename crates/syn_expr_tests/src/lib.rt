@@ -22,6 +22,8 @@ mod places;
 #[cfg(test)]
 mod questions;
 #[cfg(test)]
+mod shown;
+#[cfg(test)]
 mod small;
 #[cfg(test)]
 mod trees;

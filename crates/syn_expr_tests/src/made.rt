@@ -38,7 +38,7 @@ fn hidden<F: Fn(Global, &[TokenTree]) -> Result<TokenStream, Error>>(
     Ok(tokens)
 }
 
-/// The tokens of a list in which each invisible group is parentheses behind `@`, where `inside` makes what groups enclose.
+/// The tokens of a list in which each invisible group is parentheses after `@`, where `inside` makes what groups enclose.
 fn shown<F: Fn(Global, &[TokenTree]) -> Result<TokenStream, Error>>(
     alloc: Global,
     trees: &[TokenTree],

@@ -54,7 +54,7 @@ fn numbers_are_made_indices(rt: HostRuntime) -> Result<(), Fail> {
     Ok(())
 }
 
-/// Tokens, and what is left of them behind a label that may be missing.
+/// Tokens, and what is left of them after a label that may be missing.
 const LABELS: &str = "
 'a: loop {} | loop {}
 'a : {}     | {}
@@ -163,7 +163,7 @@ fn printed(alloc: Global, expr: &Expr) -> Result<String, Error> {
     to_text(&tokens)
 }
 
-/// Puts the expression that stands in for others in place of the left operand.
+/// Puts the expression that is in for others in place of the left operand.
 fn take_left(alloc: Global, expr: &mut Expr) {
     if let Expr::Binary(x) = expr {
         let _taken = HeldExpr {

@@ -1,12 +1,12 @@
-//! What the calls of `FixupContext` answer: whether an operand is left bare for its level, and which places put what stands
+//! What the calls of `FixupContext` answer: whether an operand is left bare for its level, and which places put what is
 //! there in parentheses.
 
 use std::alloc::Global;
 use std::test::Fail;
 use syn_expr::{Error, Expr, FixupContext, HeldExpr, Level, Position, parse_str};
 
-/// A left operand, the level of the operator behind it, whether this begins an expression and generic arguments, and
-/// whether the operand is left bare. What is printed stands behind it.
+/// A left operand, the level of the operator after it, whether this begins an expression and generic arguments, and
+/// whether the operand is left bare. What is printed comes after it.
 const LEFT: [(&str, Level, bool, bool, bool); 30] = [
     ("a + b", Level::Product, true, false, false), // (a + b) * c
     ("a + b", Level::Product, false, false, false), // (a + b) / c
@@ -40,7 +40,7 @@ const LEFT: [(&str, Level, bool, bool, bool); 30] = [
     ("|x| x", Level::Sum, false, false, false), // (| x | x) + 1
 ];
 
-/// A base, and whether it is left bare before a dot, and before the bracket of an index. What is printed stands behind it.
+/// A base, and whether it is left bare before a dot, and before the bracket of an index. What is printed comes after it.
 const BASE: [(&str, bool, bool); 12] = [
     ("a", true, true), // a . x, a [x]
     ("a[b]", true, true), // a [b] . x, a [b] [x]
@@ -56,8 +56,8 @@ const BASE: [(&str, bool, bool); 12] = [
     ("loop {}", true, true), // loop {} . x, loop {} [x]
 ];
 
-/// An operand behind an operator, the level of this, whether `+` stands behind the operand, and whether this is left bare.
-/// What is printed stands behind it.
+/// An operand after an operator, the level of this, whether `+` comes after the operand, and whether this is left bare.
+/// What is printed comes after it.
 const RIGHT: [(&str, Level, bool, bool); 21] = [
     ("b - c", Level::Sum, false, false), // a - (b - c)
     ("b * c", Level::Sum, false, true), // a - b * c
@@ -124,7 +124,7 @@ fn bases_are_left_bare(rt: HostRuntime) -> Result<(), Fail> {
     Ok(())
 }
 
-/// Whether an operand is left bare behind an operator of a level. It is asked in two ways; there is no answer where these differ.
+/// Whether an operand is left bare after an operator of a level. It is asked in two ways; there is no answer where these differ.
 fn is_bare_right(fixup: FixupContext, expr: &Expr, level: Level) -> Option<bool> {
     let (told, _) = fixup.rightmost_subexpression(expr, level);
     let place = fixup.rightmost_subexpression_fixup(false, false, level);
@@ -154,8 +154,8 @@ fn right_operands_are_left_bare(rt: HostRuntime) -> Result<(), Fail> {
     Ok(())
 }
 
-/// A position, a place in what stands there, an expression in this place, and whether it is put in parentheses for what it
-/// is. What is printed stands behind it.
+/// A position, a place in what is there, an expression in this place, and whether it is put in parentheses for what it
+/// is. What is printed comes after it.
 const PLACES: [(Position, &str, &str, bool); 48] = [
     (Position::Plain, "", "S {}", false), // S {}
     (Position::Plain, "left", "{ a }", false), // { a } + b
@@ -207,8 +207,8 @@ const PLACES: [(Position, &str, &str, bool); 48] = [
     (Position::Plain, "jump", "x", false), // return x
 ];
 
-/// A place of an expression in what stands in another place: on the left of `+`, before a dot or a bracket, on the right of
-/// `==`, as the value of `return` or of `break`, behind `..` or `..=`, and else the other place itself.
+/// A place of an expression in what is in another place: on the left of `+`, before a dot or a bracket, on the right of
+/// `==`, as the value of `return` or of `break`, after `..` or `..=`, and else the other place itself.
 fn place(fixup: FixupContext, word: &str, expr: &Expr) -> FixupContext {
     match word {
         "left" => fixup

@@ -12,7 +12,7 @@ use syn_expr::{
 /// The trees of one node.
 const LEAVES: [&str; 4] = ["a", "b", "..", "return"];
 
-/// What stands before and behind an operand that is the only one.
+/// What comes before and after an operand that is the only one.
 const AROUND_ONE: [(&str, &str); 5] = [
     ("-", ""),
     ("..", ""),
@@ -21,7 +21,7 @@ const AROUND_ONE: [(&str, &str); 5] = [
     ("", "?"),
 ];
 
-/// What stands between two operands.
+/// What is between two operands.
 const BETWEEN_TWO: [&str; 6] = ["=", "..", "||", "<", "+", "*"];
 
 /// How many nodes a tree has at most. The tests take seconds as they are built; `rt try --test`, which looks for bad
@@ -114,7 +114,7 @@ fn printed(alloc: Global, position: Position, expr: &Expr) -> Result<String, Err
     to_text(&tokens)
 }
 
-/// What stands behind an expression in a position.
+/// What comes after an expression in a position.
 fn behind(position: Position) -> &'static str {
     match position {
         Position::Plain => "",
@@ -143,7 +143,7 @@ pub(crate) fn left_by(
     Ok(Some((held, left)))
 }
 
-/// The expression that a text is read as in a position, without its parentheses, before what may stand behind it there.
+/// The expression that a text is read as in a position, without its parentheses, before what may come after it there.
 /// There is none where it is refused, or where something else is left.
 fn read_in(alloc: Global, position: Position, text: &str) -> Result<Option<HeldExpr>, Error> {
     let behind = behind(position);

@@ -1,4 +1,4 @@
-//! The trees that texts are read as. Each stands beside the same text with a pair of parentheses round each operand, but
+//! The trees that texts are read as. Each is beside the same text with a pair of parentheses round each operand, but
 //! for some that are a word, a number or a block.
 
 use crate::small::{flat, left_by};

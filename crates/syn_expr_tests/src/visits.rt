@@ -5,7 +5,7 @@ use std::alloc::Global;
 use std::test::Fail;
 use syn_expr::{Error, Expr, FixupContext, print_counted, to_text};
 
-/// A text, another `count` times behind it, and a third.
+/// A text, another `count` times after it, and a third.
 fn repeated(
     alloc: Global,
     first: &str,

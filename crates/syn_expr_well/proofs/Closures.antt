@@ -50,7 +50,7 @@ arguments_alone pat (p ∷ ps) =
     ∙ (four _ (is_nil (pat p).guards) (inputs_fit (trees (map pat ps))) (is_nil (guards (map pat ps)))
     ∙ ap (λ b. inputs_fit (trees (map pat (p ∷ ps))) && b) (sym (nil_append (pat p).guards (guards (map pat ps)))))
 
--- a punct ends a list only behind a value
+-- a punct ends a list only after a value
 pub inputs_end : {P C : Type 0} (pat : P → PatView) (p : Punctuated P C) → ends_well (is_nil (trees (map pat (values p)))) (trails p) ≡ true
 unfolding values trails
 inputs_end {P} {C} pat p = by p.inner.items p.last
@@ -63,7 +63,7 @@ pub some_lifetimes : (o : Option BoundLifetimes) → fits_if lifetimes_fit (mapp
 some_lifetimes None = refl
 some_lifetimes (Some x) = lifetimes_always x
 
--- whether `move` and `use` don't both stand there
+-- whether `move` and `use` don't both are there
 abbrev pub captures : {P : Type 0} → Closure P → Bool
 captures x = not (is_some x.capture.now && is_some x.modifiers.now.use_token)
 

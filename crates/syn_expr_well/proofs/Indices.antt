@@ -29,7 +29,7 @@ digit_step d found r h =
 is_digit : (d : ℕ) → d < 10 → is_ascii_digit (48 + d) ≡ true
 is_digit d h = grind (arith, nat_tests, h)
 
--- `x`, `o` or `b`, behind which the digits of another base stand
+-- `x`, `o` or `b`, after which the digits of another base stand
 abbrev begins_radix : ℕ → Bool
 begins_radix c = c == 120 || (c == 111 || c == 98)
 

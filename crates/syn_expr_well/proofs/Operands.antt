@@ -350,7 +350,7 @@ grouped-well s dots t = rw (grouped_in s e.no_ending t) (and-false _)
 pub repeated-well : (s : Slot) (dots : Bool) (x y : Tree) → operands_well s dots (framed (child e.repeated e.no_ending x (child e.value e.no_ending y none))) ≡ (is_counted s && (well x && well y))
 repeated-well s dots x y = rw (not_both dots, repeated_in s e.no_ending x, and_true (is_counted s), and_true (well y)) refl
 
--- what stands behind `else`
+-- what comes after `else`
 chain_is : (b k w : Bool) → (((b || k) && true) && ((k || w) && true)) ≡ (k || (b && w))
 chain_is true true w = refl
 chain_is true false w = and_true w

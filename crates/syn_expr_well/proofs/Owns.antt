@@ -12,7 +12,7 @@ use Rattle.syn_expr_kinds.specs.Node.{attributes_at, leaf_at, prefix_at, postfix
 use Rattle.syn_expr_well.specs.Alone.{prefix_alone, frame_alone}
 use Rattle.syn_expr_well.specs.Well.{own_fits, kind_fits, frame_dots, slot_at, dots_at, bare_leaf}
 
--- ---- where its operands stand
+-- ---- where its operands are
 
 pub slot-trailer : (k : Trailer) (t : Tree) → trailer_at t ≡ Some k → trailer_slot k ≡ slot_at t
 slot-trailer k (leaf l) h = absurd cc

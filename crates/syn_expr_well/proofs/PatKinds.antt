@@ -103,7 +103,7 @@ whole-some b v h = ap (λ c. c && is_nil v.guards) (by v.tree h)
     by (t.guarded p) h = absurd cc
     by (t.typed p x) h = absurd cc
 
--- what stands behind the attributes, where it has none of its own
+-- what comes after the attributes, where it has none of its own
 behind_by : (ats : List AttributeTree) (p : PatTree) → behind p ≡ p → behind (attributed_by ats p) ≡ p
 behind_by [] p h = h
 behind_by (a ∷ more) p h = refl
@@ -202,7 +202,7 @@ ors_alone f (p ∷ ps) =
     ∙ (four (pat_fits false (f p).tree) (is_nil (f p).guards) (or_fits (pats_in f ps)) (is_nil (guards_in f ps))
     ∙ ap (λ b. or_fits (pats_in f (p ∷ ps)) && b) (sym (nil_append (f p).guards (guards_in f ps))))
 
--- a punct ends a list only behind a value
+-- a punct ends a list only after a value
 pats_end : {P S : Type 0} (f : P → PatView) (p : Punctuated P S) → ends_well (no_more_pats (pats_in f (values p))) (trails p) ≡ true
 unfolding values trails
 pats_end {P} {S} f p = by p.inner.items p.last
@@ -327,7 +327,7 @@ fields_alone f (x ∷ xs) =
     ∙ (six (attributes_outer (attributes_of x.attrs)) (field_fits (field_of f x.kind)) (is_nil (field_guards f x.kind)) (fields_fit (t.fields_of (map (field_pat_of f) xs))) (is_nil (flat_map (λ y. field_guards f y.kind) xs))
     ∙ ap (λ b. (attributes_outer (attributes_of x.attrs) && (field_fits (field_of f x.kind) && fields_fit (t.fields_of (map (field_pat_of f) xs)))) && b) (sym (nil_append (field_guards f x.kind) (flat_map (λ y. field_guards f y.kind) xs)))))
 
--- behind the last field a comma stands where a `..` follows
+-- after the last field a comma is where a `..` follows
 rest_behind : {P S : Type 0} (f : P → PatView) (d : Bool) (p : Punctuated (FieldPatOf P) S) → (not d || (no_more_fields (t.fields_of (map (field_pat_of f) (values p))) || trails p)) ≡ (not d || not (is_some p.last))
 unfolding values trails
 rest_behind {P} {S} f d p = by d p.inner.items p.last

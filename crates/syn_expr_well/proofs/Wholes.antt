@@ -65,7 +65,7 @@ dots_last true true false r = refl
 dots_last true false d r = refl
 dots_last false t d r = refl
 
--- `..` ends the fields where no expression is behind
+-- `..` ends the fields where no expression is after
 frame_split : (k : Frame) (ks : Children) → frame_fits k ks ≡ (frame_fits k none && not (frame_dots k && has_rest ks))
 frame_split e.array ks = refl
 frame_split e.tuple ks = refl

@@ -28,9 +28,9 @@ fits_alone several p = pat_fits several p.tree && is_nil p.guards
 abbrev pub argument_fits : PatView → Bool
 argument_fits p = closure_arg_fits p.tree && is_nil p.guards
 
--- ---- behind attributes
+-- ---- after attributes
 
--- the attributes before a pattern, and what stands behind them
+-- the attributes before a pattern, and what comes after them
 abbrev pub attributes_at : PatTree → List AttributeTree
 attributes_at (t.attributed a more p) = a ∷ more
 attributes_at p = []
@@ -64,12 +64,12 @@ abbrev pub is_mut_sort : PatSort → Bool
 is_mut_sort sort.Mut = true
 is_mut_sort _ = false
 
--- the pattern behind `@`
+-- the pattern after `@`
 abbrev pub sub_alone : {P A : Type 0} → (P → PatView) → Option (A × Box P Global) → Bool
 sub_alone f None = true
 sub_alone f (Some s) = fits_alone false (f s.1.value)
 
--- `..` alone, with no punct behind it
+-- `..` alone, with no punct after it
 abbrev pub is_sole_rest : {P S : Type 0} → (P → PatView) → List (P × S) → Option (Box P Global) → Bool
 is_sole_rest f [] (Some p) = t.is_rest (f p.value).tree
 is_sole_rest f _ _ = false
@@ -88,7 +88,7 @@ is_name s = not (is_reserved_word s.ident) && has_none s.arguments
 
 -- ---- what holds patterns
 
--- what stands before an operand, and a frame without its operands, with the guards in their patterns
+-- what comes before an operand, and a frame without its operands, with the guards in their patterns
 abbrev pub prefix_alone : Prefix × List Tree → Bool
 prefix_alone k = prefix_fits k.0 && is_nil k.1
 

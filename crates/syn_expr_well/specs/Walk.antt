@@ -34,7 +34,7 @@ option_well (Some t) = well t
 abbrev pub field_well : FieldView → Bool
 field_well x = attributes_outer x.attrs && (member_fits x.member && ((x.colon || is_name_path x.member x.value) && well x.value))
 
--- what stands behind `else`
+-- what comes after `else`
 abbrev pub chain_well : Tree → Bool
 chain_well t = is_verbatim_block t || (is_if_expr t && well t)
 
@@ -77,7 +77,7 @@ named_by w (Some k) = is_word_leaf w k
 abbrev pub node_fits : Tree → Bool
 node_fits t = attributes_outer (attributes_at t) && own_fits t
 
--- of no node more is told than is lent: attributes stand once before it, and before an operand only guards stand where none may
+-- of no node more is told than is lent: attributes stand once before it, and before an operand only guards are where none may
 abbrev pub is_plain : Tree → Bool
 is_plain (e.attributed a more t) = false
 is_plain (e.prefixed k gs t) = is_none (without_strays gs)

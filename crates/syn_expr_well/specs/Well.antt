@@ -1,4 +1,4 @@
--- What a node is but for its operands, as a test of being read back asks, and where these stand.
+-- What a node is but for its operands, as a test of being read back asks, and where these are.
 use Rattle.std.specs.Prelude.{Bool, true, false, Option, Some, None}
 use Rattle.syn_grammar.specs.Slot as s
 use Rattle.syn_grammar.specs.Slot.{Slot}

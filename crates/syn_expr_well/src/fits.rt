@@ -51,7 +51,7 @@ pub fn path_fits(qself: &Option<QSelf>, path: &Path) -> bool
     qpath_is_read_back(qself, path, true) && !is_word_alone(qself, path, "try")
 }
 
-/// Whether `#` and `!` stand first.
+/// Whether `#` and `!` come first.
 #[tactic(auto, unfolding(syn_tokens::specs::Sign::sign_text, syn_parts::specs::Mark::sign_at))]
 fn begins_with_inner(tokens: &TokenStream) -> bool
     ensures { result ≡ part.pound_bang.at tokens.now }
@@ -62,7 +62,7 @@ fn begins_with_inner(tokens: &TokenStream) -> bool
     }
 }
 
-/// Whether what stands in braces is read back: no outer attribute of the node stands behind an inner one, and the tokens don't
+/// Whether what is in braces is read back: no outer attribute of the node comes after an inner one, and the tokens don't
 /// begin as an inner attribute does.
 pub fn braces_fit(braces: Braces<'_>) -> bool
     ensures { result ≡ spec.body_fits (braces_of braces.entry) }
@@ -98,7 +98,7 @@ pub fn infix_fits(op: Infix) -> bool
     op != Infix::Cast
 }
 
-/// Whether what stands behind an operand is read back.
+/// Whether what comes after an operand is read back.
 pub fn postfix_fits(postfix: Postfix<'_>) -> bool
     ensures { result ≡ spec.postfix_fits (postfix_of postfix.entry) }
 {

@@ -19,11 +19,11 @@ use syn_tokens::token::{Comma, Move};
 
 /// The type of expressions, as one asks whether the patterns in them are read back.
 pub trait HasPatFits: HasShape {
-    /// Whether a pattern is read back where alternatives may stand, and no guard stands in it.
+    /// Whether a pattern is read back where alternatives may stand, and no guard is in it.
     fn pat_fits(pat: &Self::Pat) -> bool
         ensures { result ≡ spec.fits_alone true (Self.Pat.view pat.now) };
 
-    /// Whether a pattern is read back as an argument of a closure, and no guard stands in it.
+    /// Whether a pattern is read back as an argument of a closure, and no guard is in it.
     fn argument_fits(pat: &Self::Pat) -> bool
         ensures { result ≡ spec.argument_fits (Self.Pat.view pat.now) };
 }
@@ -62,14 +62,14 @@ fn has_output(output: &ReturnType) -> bool
     matches!(output, ReturnType::Given(_, _))
 }
 
-/// Whether `move` and `use` don't both stand there.
+/// Whether `move` and `use` don't both are there.
 fn captures_fit(capture: &Option<Move>, modifiers: &ClosureModifiers) -> bool
     ensures { result ≡ not (is_some capture.now && is_some modifiers.now.use_token) }
 {
     !(capture.is_some() && modifiers.use_token.is_some())
 }
 
-/// Whether a closure is read back up to its body, and no guard stands in its arguments.
+/// Whether a closure is read back up to its body, and no guard is in its arguments.
 fn closure_fits<E: HasPatFits>(closure: Closure<'_, E::Pat>) -> bool
     ensures { result ≡ (head_fits (closure_of E.Pat.view closure.entry) && is_nil (guards (inputs_of E.Pat.view closure.entry))) }
 {
@@ -79,7 +79,7 @@ fn closure_fits<E: HasPatFits>(closure: Closure<'_, E::Pat>) -> bool
     arguments_fit::<E>(closure.inputs) && closure.output.is_read_back(true)
 }
 
-/// Whether what stands before an operand is read back, and no guard stands in its patterns.
+/// Whether what comes before an operand is read back, and no guard is in its patterns.
 #[tactic(auto, using(crate::proofs::Closures::ends))]
 pub fn prefix_fits<E: HasPatFits>(prefix: Prefix<'_, E::Pat>) -> bool
     ensures { result ≡ spec.prefix_alone (prefix_seen E.Pat.view prefix.entry) }
@@ -96,7 +96,7 @@ pub fn prefix_fits<E: HasPatFits>(prefix: Prefix<'_, E::Pat>) -> bool
     }
 }
 
-/// Whether a frame without its operands is read back, and no guard stands in its patterns.
+/// Whether a frame without its operands is read back, and no guard is in its patterns.
 #[tactic(auto, using(crate::proofs::Closures::ends))]
 pub fn frame_fits<E: HasPatFits>(frame: Frame<'_, E::Pat>) -> bool
     ensures { result ≡ spec.frame_alone (frame_seen E.Pat.view frame.entry) }

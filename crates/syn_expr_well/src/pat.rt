@@ -46,7 +46,7 @@ fn attrs(pat: &Pat) -> &Vec<Attribute>
     }
 }
 
-/// Whether no attributes stand before a pattern.
+/// Whether no attributes come before a pattern.
 #[tactic(auto, using(syn_expr_kinds::proofs::Attributes::bares))]
 fn is_bare(pat: &Pat) -> bool
     ensures { result ≡ is_nil (spec.attributes_at (pat_of pat.now).tree) }
@@ -82,7 +82,7 @@ fn begins_mut(pat: &Pat) -> bool
     matches!(sort(pat), PatSort::Mut)
 }
 
-/// Whether a list is `..` alone, with no punct behind it.
+/// Whether a list is `..` alone, with no punct after it.
 #[tactic(auto, using(crate::proofs::PatKinds::soles))]
 fn is_sole_rest(list: &Punctuated<Pat, Comma>) -> bool
     ensures { result ≡ spec.is_sole_rest pat_of list.now.inner.items list.now.last }
@@ -93,7 +93,7 @@ fn is_sole_rest(list: &Punctuated<Pat, Comma>) -> bool
     }
 }
 
-/// Whether a tuple is read back: behind one pattern a comma stands, unless it is `..`.
+/// Whether a tuple is read back: after one pattern a comma stands, unless it is `..`.
 #[cycle(fits)]
 #[tactic(auto, using(crate::proofs::PatKinds::kinds))]
 fn tuple_fits(x: &PatTuple, several: bool) -> bool
@@ -111,7 +111,7 @@ fn paren_fits(x: &PatParen, several: bool) -> bool
     x.pat.fits(true) && !is_rest(&x.pat)
 }
 
-/// Whether a reference is read back: behind `&` a `mut` would belong to it.
+/// Whether a reference is read back: after `&` a `mut` would belong to it.
 #[cycle(fits)]
 #[tactic(auto, using(crate::proofs::PatKinds::kinds))]
 fn reference_fits(x: &PatReference, several: bool) -> bool
@@ -120,8 +120,8 @@ fn reference_fits(x: &PatReference, several: bool) -> bool
     x.pat.fits(false) && (x.mutability.is_some() || !begins_mut(&x.pat))
 }
 
-/// Whether what stands behind the attributes of a pattern is read back, where alternatives may stand or may not, and no guard
-/// stands in it.
+/// Whether what comes after the attributes of a pattern is read back, where alternatives may stand or may not, and no guard
+/// is in it.
 #[cycle(fits)]
 #[tactic(auto, using(syn_expr_all::proofs::TreeOf::pats, syn_expr_all::proofs::TreeOf::members, crate::proofs::PatKinds::always))]
 fn fits_behind(pat: &Pat, several: bool) -> bool
@@ -158,7 +158,7 @@ impl FitPat for Pat {
     }
 }
 
-/// Whether an argument of a closure with a type is read back, behind its attributes.
+/// Whether an argument of a closure with a type is read back, after its attributes.
 #[tactic(auto, using(crate::proofs::Pats::arguments))]
 fn typed_fits(x: &PatType) -> bool
     ensures { result ≡ spec.argument_behind (of.pat_type_of pat_of x.now) }
@@ -166,7 +166,7 @@ fn typed_fits(x: &PatType) -> bool
     x.pat.fits(false) && x.ty.is_read_back(true)
 }
 
-/// Whether an argument of a closure is read back behind its attributes.
+/// Whether an argument of a closure is read back after its attributes.
 #[tactic(auto, using(syn_expr_all::proofs::TreeOf::pats, crate::proofs::Pats::arguments))]
 fn fits_as_argument(pat: &Pat) -> bool
     ensures { result ≡ spec.argument_behind (pat_of pat.now) }
@@ -177,7 +177,7 @@ fn fits_as_argument(pat: &Pat) -> bool
     }
 }
 
-/// Whether a pattern is read back as an argument of a closure, and no guard stands in it.
+/// Whether a pattern is read back as an argument of a closure, and no guard is in it.
 #[tactic(auto, using(crate::proofs::Pats::attributed), unfolding(syn_expr_kinds::specs::Attrs::attrs_of))]
 pub(crate) fn argument_fits(pat: &Pat) -> bool
     ensures { result ≡ spec.argument_fits (pat_of pat.now) }

@@ -30,7 +30,7 @@ pub enum PatSort {
     Rest,
     /// `mut` and a name.
     Mut,
-    /// Another, or one behind attributes.
+    /// Another, or one after attributes.
     Other,
 }
 
@@ -42,7 +42,7 @@ pub trait FitPat {
     /// A pattern without its places, and the guards in it.
     ghost shown: { Self → PatView };
 
-    /// Whether a pattern is read back, where alternatives may stand or may not, and no guard stands in it.
+    /// Whether a pattern is read back, where alternatives may stand or may not, and no guard is in it.
     fn fits(&self, several: bool) -> bool
         ensures { result ≡ spec.fits_alone several (Self.shown self.now) };
 }
@@ -136,7 +136,7 @@ pub fn lit_fits(x: &PatLit, several: bool) -> bool
     x.lit.is_read_back()
 }
 
-/// Whether what stands behind `@` is read back, if there is such.
+/// Whether what comes after `@` is read back, if there is such.
 fn sub_fits<P: FitPat>(sub: &Option<(At, Box<P>)>) -> bool
     ensures { result ≡ spec.sub_alone P.shown sub.now }
 {
@@ -146,7 +146,7 @@ fn sub_fits<P: FitPat>(sub: &Option<(At, Box<P>)>) -> bool
     }
 }
 
-/// Whether a name that is bound is read back, and what stands behind its `@`.
+/// Whether a name that is bound is read back, and what comes after its `@`.
 #[tactic(auto, using(crate::proofs::PatKinds::kinds))]
 pub fn ident_fits<P: FitPat>(x: &PatIdentOf<P>, several: bool) -> bool
     ensures { result ≡ spec.fits_behind several (of.pat_ident_of P.shown x.now) }
@@ -223,7 +223,7 @@ pub fn macro_fits(x: &PatMacro, several: bool) -> bool
     x.mac.path.is_read_back(PathStyle::Expr) && are_bare(&x.mac.path.segments)
 }
 
-/// Whether what a field of a struct pattern is behind its attributes is read back.
+/// Whether what a field of a struct pattern is after its attributes is read back.
 fn kind_fits<P: FitPat>(kind: &FieldPatKindOf<P>) -> bool
     ensures { result ≡ spec.kind_alone P.shown kind.now }
 {

@@ -16,9 +16,9 @@ pub enum Slot {
     Elements,
     /// One in brackets.
     Single,
-    /// Before `;`, and behind it.
+    /// Before `;`, and after it.
     Counted,
-    /// In a struct expression; whether `..` ends it with no expression behind.
+    /// In a struct expression; whether `..` ends it with no expression after.
     Fields(bool),
     /// Before the block of an `if`.
     Conditions,
@@ -26,63 +26,63 @@ pub enum Slot {
     Loops,
     /// Before the arms of a `match`.
     Scrutinees,
-    /// Behind the output of a closure.
+    /// After the output of a closure.
     Outputs,
     /// In no place of their own.
     Done,
 }
 
 impl Slot {
-    /// Whether they stand in a list with commas.
+    /// Whether they are in a list with commas.
     pub(crate) fn is_elements(self) -> bool
         ensures { result ≡ is_elements (slot_of self) }
     {
         matches!(self, Slot::Elements)
     }
 
-    /// Whether they stand as one in brackets.
+    /// Whether they are as one in brackets.
     pub(crate) fn is_single(self) -> bool
         ensures { result ≡ is_single (slot_of self) }
     {
         matches!(self, Slot::Single)
     }
 
-    /// Whether they stand before `;` and behind it.
+    /// Whether they come before `;` and after it.
     pub(crate) fn is_counted(self) -> bool
         ensures { result ≡ is_counted (slot_of self) }
     {
         matches!(self, Slot::Counted)
     }
 
-    /// Whether they stand in a struct expression.
+    /// Whether they are in a struct expression.
     pub(crate) fn is_fields(self) -> bool
         ensures { result ≡ is_fields (slot_of self) }
     {
         matches!(self, Slot::Fields(_))
     }
 
-    /// Whether they stand before the block of an `if`.
+    /// Whether they come before the block of an `if`.
     pub(crate) fn is_conditions(self) -> bool
         ensures { result ≡ is_conditions (slot_of self) }
     {
         matches!(self, Slot::Conditions)
     }
 
-    /// Whether they stand before the block of a loop.
+    /// Whether they come before the block of a loop.
     pub(crate) fn is_loops(self) -> bool
         ensures { result ≡ is_loops (slot_of self) }
     {
         matches!(self, Slot::Loops)
     }
 
-    /// Whether they stand before the arms of a `match`.
+    /// Whether they come before the arms of a `match`.
     pub(crate) fn is_scrutinees(self) -> bool
         ensures { result ≡ is_scrutinees (slot_of self) }
     {
         matches!(self, Slot::Scrutinees)
     }
 
-    /// Whether they stand behind the output of a closure.
+    /// Whether they come after the output of a closure.
     pub(crate) fn is_outputs(self) -> bool
         ensures { result ≡ is_outputs (slot_of self) }
     {

@@ -156,7 +156,7 @@ fn fields_well<E: HasWell>(
     }
 }
 
-/// Whether what stands behind `else` is read back: an `if`, or a block that keeps its tokens.
+/// Whether what comes after `else` is read back: an `if`, or a block that keeps its tokens.
 #[cycle(is_well)]
 fn chain_well<E: HasWell>(expr: &E) -> bool
     ensures { result ≡ spec.chain_well (E.tree expr.now) }
@@ -164,7 +164,7 @@ fn chain_well<E: HasWell>(expr: &E) -> bool
     is_verbatim_block(expr) || is_if_expr(expr) && is_well(expr)
 }
 
-/// Whether what stands behind `else` is read back, if there is such.
+/// Whether what comes after `else` is read back, if there is such.
 #[cycle(is_well)]
 fn else_well<E: HasWell>(otherwise: &Option<(Else, Box<E>)>) -> bool
     ensures { result ≡ spec.else_well (mapped (λ q. E.tree q.1.value) otherwise.now) }

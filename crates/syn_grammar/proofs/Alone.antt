@@ -24,7 +24,7 @@ use Rattle.syn_grammar.specs.Tree.{Tree, Children, Leaf, leaf, paren, attributed
 use Rattle.syn_grammar.specs.Path.{invisible_at, expr_path}
 use Rattle.syn_grammar.specs.Head.{leaf_form, named, to_named, literal_at, range_at, jump_at, loop_at, block_at, const_block_at, async_block_at, try_block_at, builtin_at}
 use Rattle.syn_grammar.specs.Slot as s
-use Rattle.syn_grammar.specs.Stands.{Node, is_leaf, is_become, is_attributed_verbatim, is_paren, is_attributed_by, is_prefixed, is_infixed, is_postfixed, is_tail, is_indexed, is_frame, Content, holds_within, Stands, leaf_stands, prefix_place, takes_attributes, is_attributed, is_verbatim_leaf, ends_list, fields_of}
+use Rattle.syn_grammar.specs.Stands.{Node, is_leaf, is_paren, is_attributed_by, is_prefixed, is_indexed, is_frame, Content, holds_within, Stands, leaf_stands, prefix_place, takes_attributes, is_attributed, is_verbatim_leaf, ends_list, fields_of}
 use Rattle.syn_grammar.specs.Read.{Reading, only_if, bare_operands, atom, expr}
 use Rattle.syn_grammar.specs.Alone.{Alone, behind_attributes, unadorned, is_inside, PathAlone, is_path, LitAlone, is_lit, MacroAlone, is_macro, ReferenceAlone, is_reference, StructAlone, is_struct, OfKind, of_kind, ungrouped}
 use Rattle.syn_grammar.specs.Exact.{IsExact}
@@ -42,7 +42,7 @@ use Rattle.syn_grammar.proofs.ReadTrailers.{pound_there}
 use Rattle.syn_grammar.proofs.ReadFrames.{prefix_atom, paren_atom, frame_atom}
 use Rattle.syn_grammar.proofs.Exact.{expr_sound, expr_complete}
 
--- a reading that gives what stands, and all that does
+-- a reading that gives what is, and all that does
 exactly : {B : Type 0} {reads : List Tok → Outcome B} {stands : List Tok → B → List Tok → Type 0}
     → ((l : List Tok) (x : B) (n : List Tok) → reads l ≡ Some (x, n) → stands l x n) → ((l : List Tok) (x : B) (n : List Tok) → stands l x n → reads l ≡ Some (x, n))
     → ((l : List Tok) (x : B) (n : List Tok) → stands l x n → IsLess n l) → IsExact reads stands
@@ -59,24 +59,19 @@ fields_no_atom : (b : Tree) (is : List ℕ) → is_atom b ≡ false → is_atom 
 fields_no_atom b [] h = h
 fields_no_atom b (i ∷ is) h = fields_no_atom _ is refl
 
--- what stands as one is read as one
+-- what is as one is read as one
 atom_is : {l n : List Tok} {x : Tree} → Node plain l x n → is_atom x ≡ true → atom expr plain l ≡ Some (x, n)
 atom_is (is_leaf {l = l} {n = n} {k = k} h g) a = leaf_atom expr plain k l n h g
-atom_is (is_become w d e c i) a = absurd cc
-atom_is (is_attributed_verbatim b bs fs v d i j) a = absurd cc
 atom_is (is_paren {i = i} {n = n} {x = x} d e c) a =
     paren_atom expr (weight (group del.Parenthesis i ∷ n)) (λ p l m y b s. expr_complete p l y m s) plain i n x (omega arith) d e c
-atom_is (is_attributed_by v f d) a = absurd cc
 atom_is (is_prefixed {l = l} {m = m} {n = n} {k = k} {x = x} h g d e c) a =
     prefix_atom expr (weight l) (λ p i j y b s. expr_complete p i y j s) plain k l m n x h g
     (expr_complete (prefix_place plain k) m x n (record { node = d; ending = e; closing = c }))
-atom_is (is_infixed d c f i t g r e q b) a = absurd cc
-atom_is (is_postfixed d c f i t v g b) a = absurd cc
-atom_is (is_tail d f h c i) a = absurd cc
 atom_is (is_indexed {b = b} {i = i} {is = is} d f h j) a =
     absurd (cc (j, a, fields_no_atom (tail b (tr.field (an_index i)) none) is refl))
 atom_is (is_frame {l = l} {h = h} {n = n} {k = k} {ks = ks} b c g e) a =
     frame_atom expr (weight l) (λ p i j y d s. expr_complete p i y j s) plain k l h n ks b c (omega arith) g e
+atom_is _ a = absurd cc
 
 operand_sound : (is : Tree → Bool) (l : List Tok) (x : Tree) (n : List Tok) → operand_alone is l ≡ Some (x, n) → Alone is l x n
 unfolding operand_alone
@@ -106,19 +101,11 @@ fields_bare b (i ∷ is) h = fields_bare _ is refl
 
 attributed_pound : {l n : List Tok} {x : Tree} → Node plain l x n → is_attributed x ≡ true → pound.at l ≡ true
 attributed_pound (is_attributed_by {l = l} {m = m} {a = a} {more = bs} v f d) b = pound_there a bs l m v
-attributed_pound (is_leaf h g) b = absurd cc
-attributed_pound (is_become w d e c i) b = absurd cc
-attributed_pound (is_attributed_verbatim v vs fs w d i j) b = absurd cc
-attributed_pound (is_paren d e c) b = absurd cc
-attributed_pound (is_prefixed h g d e c) b = absurd cc
-attributed_pound (is_infixed d c f i t g r e q v) b = absurd cc
-attributed_pound (is_postfixed d c f i t v g w) b = absurd cc
-attributed_pound (is_tail d f h c i) b = absurd cc
 attributed_pound (is_indexed {b = v} {i = i} {is = more} d f h j) b =
     absurd (cc (j, b, fields_bare (tail v (tr.field (an_index i)) none) more refl))
-attributed_pound (is_frame v c g e) b = absurd cc
+attributed_pound _ b = absurd cc
 
--- no attributes stand before it
+-- no attributes come before it
 atom_bare : (l : List Tok) (x : Tree) (n : List Tok) → atom expr plain l ≡ Some (x, n) → is_attributed x ≡ false
 atom_bare l x n h = go (is_attributed x) refl
   where
@@ -139,7 +126,7 @@ module _ (is : Tree → Bool) (l : List Tok) where
   unfolding operand_alone
   operand_none h = rw h refl
 
--- no attributes stand before what was read
+-- no attributes come before what was read
 pub operand_bare : (is : Tree → Bool) (l n : List Tok) (x : Tree) → operand_alone is l ≡ Some (x, n) → is_attributed x ≡ false
 unfolding operand_alone
 operand_bare is l n x h =
@@ -202,17 +189,9 @@ module _ (is : Tree → Bool) (plains : ArePlain is) where
   leaf_read_is : {l n : List Tok} {x : Tree} → Node plain l x n → is x ≡ true → is_plain x ≡ true → leaf_alone is l ≡ Some (x, n)
   unfolding leaf_alone
   leaf_read_is (is_leaf {l = l} {n = n} {k = k} h g) a b = rw (heads.leaves.found l k n h, a) refl
-  leaf_read_is (is_become w d e c i) a b = absurd cc
-  leaf_read_is (is_attributed_verbatim v vs fs w d i j) a b = absurd cc
-  leaf_read_is (is_paren d e c) a b = absurd cc
-  leaf_read_is (is_attributed_by v f d) a b = absurd cc
-  leaf_read_is (is_prefixed h g d e c) a b = absurd cc
-  leaf_read_is (is_infixed d c f i t g r e q v) a b = absurd cc
-  leaf_read_is (is_postfixed d c f i t v g w) a b = absurd cc
-  leaf_read_is (is_tail d f h c i) a b = absurd cc
   leaf_read_is (is_indexed {b = v} {i = i} {is = more} d f h j) a b =
       absurd (cc (j, b, fields_no_leaf (tail v (tr.field (an_index i)) none) more refl))
-  leaf_read_is (is_frame v c g e) a b = absurd cc
+  leaf_read_is _ a b = absurd cc
 
   no_kind : (k : Leaf) → is_plain_leaf k ≡ false → is (leaf k) ≡ false
   no_kind k h = by_kind (is (leaf k)) refl
@@ -237,7 +216,7 @@ module _ (is : Tree → Bool) (plains : ArePlain is) where
   pub leaf_exact : IsExact (leaf_alone is) (Alone is)
   leaf_exact = exactly leaf_sound (λ l x n s. leaf_read_is s.0 s.1 (plains x s.1)) (λ l x n s. node_less s.0)
 
--- ---- behind attributes
+-- ---- after attributes
 
 -- where none stand, nothing is taken
 none_behind : (l m : List Tok) → outer_attributes.behind [] l ≡ Some m → l ≡ m
@@ -274,19 +253,11 @@ module _ (is : Tree → Bool) (inner : Reading Tree) (exact : IsExact inner (Alo
   unfolding attributed_alone
   attributed_read_is (is_attributed_by {l = l} {m = m} {n = n} {a = b} {more = more} {x = x} v f d) a =
       rw (heads.outers.found l (b ∷ more) m v, exact.complete m x n (d, a)) refl
-  attributed_read_is {l} {n} {x} (is_leaf h g) a = bare_read_is l x n (is_leaf h g) refl a
-  attributed_read_is {l} {n} {x} (is_become w d e c i) a = bare_read_is l x n (is_become w d e c i) refl a
-  attributed_read_is {l} {n} {x} (is_attributed_verbatim v vs fs w d i j) a = bare_read_is l x n (is_attributed_verbatim v vs fs w d i j) refl a
-  attributed_read_is {l} {n} {x} (is_paren d e c) a = bare_read_is l x n (is_paren d e c) refl a
-  attributed_read_is {l} {n} {x} (is_prefixed h g d e c) a = bare_read_is l x n (is_prefixed h g d e c) refl a
-  attributed_read_is {l} {n} {x} (is_infixed d c f i t g r e q v) a = bare_read_is l x n (is_infixed d c f i t g r e q v) refl a
-  attributed_read_is {l} {n} {x} (is_postfixed d c f i t v g w) a = bare_read_is l x n (is_postfixed d c f i t v g w) refl a
-  attributed_read_is {l} {n} {x} (is_tail d f h c i) a = bare_read_is l x n (is_tail d f h c i) refl a
   attributed_read_is {l} {n} {x} (is_indexed {b = v} {i = i} {is = more} d f h j) a =
       bare_read_is l x n (is_indexed d f h j) (ap is_attributed j ∙ fields_bare (tail v (tr.field (an_index i)) none) more refl) a
-  attributed_read_is {l} {n} {x} (is_frame v c g e) a = bare_read_is l x n (is_frame v c g e) refl a
+  attributed_read_is {l} {n} {x} u a = bare_read_is l x n u refl a
 
-  -- behind attributes or none
+  -- after attributes or none
   pub attributed_exact : IsExact (attributed_alone inner) (Alone (behind_attributes is))
   attributed_exact = exactly attributed_sound (λ l x n s. attributed_read_is s.0 s.1) (λ l x n s. node_less s.0)
 

@@ -6,7 +6,7 @@ use Rattle.syn_grammar.specs.Stands.{is_if_expr}
 use Rattle.syn_grammar.specs.Alone.{is_infer, is_block, is_loop, is_unsafe, is_const, is_async, is_try_block, is_continue, is_return, is_yield, is_break, is_paren, is_unary, is_raw_addr, is_let, is_closure, is_array, is_repeat, is_match, is_for_loop, is_while}
 use Rattle.syn_grammar.specs.AloneRead.{AreAtoms, AreAttributed, ArePlain}
 
--- ---- leaves that ask nothing of what is behind them
+-- ---- leaves that ask nothing of what is after them
 
 pub infer_plain : ArePlain is_infer
 infer_plain (leaf tr.infer) h = refl
@@ -106,7 +106,7 @@ while_atom _ h = absurd cc
 
 pub ruleset atoms = (return_atom, yield_atom, break_atom, paren_atom, unary_atom, raw_addr_atom, let_atom, closure_atom, array_atom, repeat_atom, if_expr_atom, match_atom, for_loop_atom, while_atom)
 
--- ---- those that attributes may stand before
+-- ---- those that attributes may come before
 
 pub if_expr_attributed : AreAttributed is_if_expr
 if_expr_attributed (frame tr.if_expr ks) h = refl

@@ -73,11 +73,9 @@ outer_both (a ∷ more) ys h k =
 -- ---- in braces
 
 children_same : (ks : Children) → children_with (children_inner ks) ks ≡ ks
-children_same none = refl
-children_same (child k (e.braced b) t ks) = refl
-children_same (child k (e.opened ats) t ks) = refl
 children_same (child k e.no_ending t ks) = ap (child k e.no_ending t) (children_same ks)
 children_same (child k e.comma t ks) = ap (child k e.comma t) (children_same ks)
+children_same _ = refl
 
 frame_same : (b : Bool) (ks : Children) → (if b then children_with (if b then children_inner ks else []) ks else ks) ≡ ks
 frame_same true ks = children_same ks
@@ -85,9 +83,6 @@ frame_same false ks = refl
 
 leaf_same : (k : Leaf) → with_inner (inner_in (leaf k)) (leaf k) ≡ leaf k
 leaf_same (e.block label b) = refl
-leaf_same (e.loop_expr label b) = refl
-leaf_same (e.unsafe_block b) = refl
-leaf_same (e.const_block b) = refl
 leaf_same _ = refl
 
 -- with those that it has
@@ -98,11 +93,9 @@ with_inner_same _ = refl
 
 -- without braces there are none to put there
 children_twice : (xs ys : List AttributeTree) (ks : Children) → children_with xs (children_with ys ks) ≡ children_with xs ks
-children_twice xs ys none = refl
-children_twice xs ys (child k (e.braced b) t ks) = refl
-children_twice xs ys (child k (e.opened ats) t ks) = refl
 children_twice xs ys (child k e.no_ending t ks) = ap (child k e.no_ending t) (children_twice xs ys ks)
 children_twice xs ys (child k e.comma t ks) = ap (child k e.comma t) (children_twice xs ys ks)
+children_twice xs ys _ = refl
 
 frame_twice : (b : Bool) (xs ys : List AttributeTree) (ks : Children)
     → (if b then children_with xs (if b then children_with ys ks else ks) else (if b then children_with ys ks else ks)) ≡ (if b then children_with xs ks else ks)
@@ -111,9 +104,6 @@ frame_twice false xs ys ks = refl
 
 leaf_twice : (xs ys : List AttributeTree) (k : Leaf) → with_inner xs (with_inner ys (leaf k)) ≡ with_inner xs (leaf k)
 leaf_twice xs ys (e.block label b) = refl
-leaf_twice xs ys (e.loop_expr label b) = refl
-leaf_twice xs ys (e.unsafe_block b) = refl
-leaf_twice xs ys (e.const_block b) = refl
 leaf_twice xs ys _ = refl
 
 -- the last ones stay
@@ -123,11 +113,9 @@ with_inner_twice xs ys (frame k ks) = ap (frame k) (frame_twice (frame_has_brace
 with_inner_twice xs ys _ = refl
 
 children_grown : (xs ys : List AttributeTree) (ks : Children) → children_with (xs ++ children_inner (children_with ys ks)) ks ≡ children_with (xs ++ ys) ks
-children_grown xs ys none = refl
-children_grown xs ys (child k (e.braced b) t ks) = refl
-children_grown xs ys (child k (e.opened ats) t ks) = refl
 children_grown xs ys (child k e.no_ending t ks) = ap (child k e.no_ending t) (children_grown xs ys ks)
 children_grown xs ys (child k e.comma t ks) = ap (child k e.comma t) (children_grown xs ys ks)
+children_grown xs ys _ = refl
 
 frame_grown : (b : Bool) (xs ys : List AttributeTree) (ks : Children)
     → (if b then children_with (xs ++ (if b then children_inner (if b then children_with ys ks else ks) else [])) ks else ks) ≡ (if b then children_with (xs ++ ys) ks else ks)
@@ -136,9 +124,6 @@ frame_grown false xs ys ks = refl
 
 leaf_grown : (xs ys : List AttributeTree) (k : Leaf) → with_inner (xs ++ inner_in (with_inner ys (leaf k))) (leaf k) ≡ with_inner (xs ++ ys) (leaf k)
 leaf_grown xs ys (e.block label b) = refl
-leaf_grown xs ys (e.loop_expr label b) = refl
-leaf_grown xs ys (e.unsafe_block b) = refl
-leaf_grown xs ys (e.const_block b) = refl
 leaf_grown xs ys _ = refl
 
 -- before those that were put there
@@ -149,9 +134,6 @@ with_inner_grown xs ys _ = refl
 
 leaf_braces : (ats : List AttributeTree) (k : Leaf) → has_braces (with_inner ats (leaf k)) ≡ has_braces (leaf k)
 leaf_braces ats (e.block label b) = refl
-leaf_braces ats (e.loop_expr label b) = refl
-leaf_braces ats (e.unsafe_block b) = refl
-leaf_braces ats (e.const_block b) = refl
 leaf_braces ats _ = refl
 
 -- it is the same kind
@@ -193,7 +175,7 @@ outside_with t ys xs = ap (λ (b : Bool). if b then outers xs else xs) (with_inn
 
 -- ---- before others
 
--- neither behind attributes nor verbatim tokens
+-- neither after attributes nor verbatim tokens
 abbrev pub is_free : Tree → Bool
 is_free (leaf k) = not (is_verbatim_leaf k)
 is_free (attributed a more t) = false
@@ -201,16 +183,13 @@ is_free _ = true
 
 leaf_free : (ats : List AttributeTree) (k : Leaf) → is_free (with_inner ats (leaf k)) ≡ is_free (leaf k)
 leaf_free ats (e.block label b) = refl
-leaf_free ats (e.loop_expr label b) = refl
-leaf_free ats (e.unsafe_block b) = refl
-leaf_free ats (e.const_block b) = refl
 leaf_free ats _ = refl
 
 pub with_inner_free : (ats : List AttributeTree) (t : Tree) → is_free (with_inner ats t) ≡ is_free t
 with_inner_free ats (leaf k) = leaf_free ats k
 with_inner_free ats _ = refl
 
--- these attributes before those of the node t, where `own` stands before it already
+-- these attributes before those of the node t, where `own` comes before it already
 abbrev pub put_before : (more own : List AttributeTree) → Tree → Tree
 put_before more own t = attributed_with (outside t more ++ own) (with_inner (inners more ++ inner_in t) t)
 
@@ -221,12 +200,7 @@ leaf_prepend more _ h = refl
 pub prepend_free : (more : List AttributeTree) (t : Tree) → is_free t ≡ true → prepend more t ≡ attributed_with (outside t more) (with_inner (inners more ++ inner_in t) t)
 prepend_free more (leaf k) h = leaf_prepend more k h
 prepend_free more (attributed a ats t) h = cc
-prepend_free more (paren m t) h = refl
-prepend_free more (prefixed k gs t) h = refl
-prepend_free more (infixed x k y) h = refl
-prepend_free more (postfixed x k) h = refl
-prepend_free more (tail b k ks) h = refl
-prepend_free more (frame k ks) h = refl
+prepend_free more _ h = refl
 
 pub prepend_attributed_with : (more own : List AttributeTree) (t : Tree) → is_free t ≡ true → prepend more (attributed_with own t) ≡ put_before more own t
 prepend_attributed_with more [] t h = prepend_free more t h ∙ ap (λ l. attributed_with l (with_inner (inners more ++ inner_in t) t)) (sym (append-nil (outside t more)))
@@ -237,7 +211,7 @@ prepend_behind : (more own : List AttributeTree) (a : AttributeTree) (ats : List
 prepend_behind more [] a ats t = refl
 prepend_behind more (b ∷ own) a ats t = refl
 
--- those that were put before it stay behind these
+-- those that were put before it stay after these
 put_twice : (xs ys own : List AttributeTree) (t : Tree)
     → put_before xs (outside t ys ++ own) (with_inner (inners ys ++ inner_in t) t) ≡ put_before (xs ++ ys) own t
 put_twice xs ys own t =
@@ -254,7 +228,7 @@ own_more : (xs ys : List AttributeTree) (ts : List Tok) → attributes_own (xs +
 own_more [] ys ts = refl
 own_more (a ∷ more) ys ts = ap (attribute_own a) (own_more more ys ts)
 
--- What can have attributes in front is free, behind attributes, or verbatim tokens.
+-- What can have attributes in front is free, after attributes, or verbatim tokens.
 leaf_or : {A : Leaf → Type 0} → ((k : Leaf) → is_free (leaf k) ≡ true → A k) → ((ts : List Tok) → A (e.verbatim ts)) → (k : Leaf) → A k
 leaf_or f g (e.verbatim ts) = g ts
 leaf_or f g _ = f _ refl
@@ -263,12 +237,7 @@ pub free_or : {A : Tree → Type 0} → ((t : Tree) → is_free t ≡ true → A
     → ((ts : List Tok) → A (leaf (e.verbatim ts))) → (t : Tree) → A t
 free_or {A = A} f g h (leaf k) = leaf_or {A = λ k. A (leaf k)} (λ k. f (leaf k)) h k
 free_or f g h (attributed a more t) = g a more t
-free_or f g h (paren m t) = f _ refl
-free_or f g h (prefixed k gs t) = f _ refl
-free_or f g h (infixed x k y) = f _ refl
-free_or f g h (postfixed x k) = f _ refl
-free_or f g h (tail b k ks) = f _ refl
-free_or f g h (frame k ks) = f _ refl
+free_or f g h _ = f _ refl
 
 -- those of two pairs of parentheses
 pub more_before : (xs ys : List AttributeTree) (t : Tree) → prepend (xs ++ ys) t ≡ prepend xs (prepend ys t)
@@ -309,12 +278,7 @@ leaf_outer more _ h = refl
 free_outer : (more : List AttributeTree) (t : Tree) → is_free t ≡ true → put_outer more t ≡ attributed_with more t
 free_outer more (leaf k) h = leaf_outer more k h
 free_outer more (attributed a ats t) h = cc
-free_outer more (paren m t) h = refl
-free_outer more (prefixed k gs t) h = refl
-free_outer more (infixed x k y) h = refl
-free_outer more (postfixed x k) h = refl
-free_outer more (tail b k ks) h = refl
-free_outer more (frame k ks) h = refl
+free_outer more _ h = refl
 
 pub prepend_outer : (more : List AttributeTree) (t : Tree) → attributes_outer more ≡ true → prepend more t ≡ put_outer more t
 prepend_outer more t o = free_or {A = λ t. prepend more t ≡ put_outer more t} free (λ b bs u. outer_put more (b ∷ bs) u o) kept t
@@ -337,9 +301,4 @@ leaf_put ats _ h = refl
 pub with_attributes_free : (ats : List AttributeTree) (t : Tree) → is_free t ≡ true → with_attributes ats t ≡ attributed_with (outside t ats) (with_inner (from_inner ats) t)
 with_attributes_free ats (leaf k) h = leaf_put ats k h
 with_attributes_free ats (attributed a more t) h = cc
-with_attributes_free ats (paren m t) h = refl
-with_attributes_free ats (prefixed k gs t) h = refl
-with_attributes_free ats (infixed x k y) h = refl
-with_attributes_free ats (postfixed x k) h = refl
-with_attributes_free ats (tail b k ks) h = refl
-with_attributes_free ats (frame k ks) h = refl
+with_attributes_free ats _ h = refl

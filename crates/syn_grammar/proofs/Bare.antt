@@ -1,5 +1,5 @@
 -- The printed tree is formed where the tree is.
-use Rattle.std.proofs.Common.{◌≡◌, Bool, true, false, not, ◌||◌, Some, None, refl, sym, ◌∙◌, ap, subst}
+use Rattle.std.proofs.Common.{◌≡◌, Bool, true, false, not, ◌||◌, None, refl, sym, ◌∙◌, ap, subst}
 use Rattle.std.proofs.Math.Bool.{and-false}
 use Rattle.syn_grammar.specs.declared.kinds.Level.TheVariants as lev
 use Rattle.syn_grammar.specs.declared.next.Next.TheVariants as next
@@ -26,24 +26,15 @@ attributed_put false a b h = h
 
 attributed_bare : (c : Context) (t : Tree) → is_attributed (bare c t) ≡ is_attributed t
 attributed_bare c (leaf k) = refl
-attributed_bare c (paren m t) = refl
-attributed_bare c (attributed a more t) = refl
-attributed_bare c (prefixed k gs t) = refl
-attributed_bare c (infixed x k y) = refl
-attributed_bare c (postfixed x k) = refl
-attributed_bare c (tail b k ks) = refl
-attributed_bare c (frame k ks) = refl
+attributed_bare c _ = refl
 
 not_block : (t : Tree) → is_operation t ≡ true → is_block_like t ≡ false
 not_block (leaf (e.full_range op)) h = refl
 not_block (leaf k) h = absurd cc
-not_block (paren m t) h = absurd cc
-not_block (attributed a more t) h = absurd cc
 not_block (prefixed k gs t) h = refl
 not_block (infixed x k y) h = refl
 not_block (postfixed x k) h = refl
-not_block (tail b k ks) h = absurd cc
-not_block (frame k ks) h = absurd cc
+not_block _ h = absurd cc
 
 block_put : (c : Context) (t : Tree) (w : Bool) → is_operation t ≡ w → is_block_like (bare c t) ≡ is_block_like t → is_block_like (put w (bare enclosed t) (bare c t)) ≡ is_block_like t
 block_put c t true h e = sym (not_block t h)
@@ -51,13 +42,8 @@ block_put c t false h e = e
 
 pub block_bare : (c : Context) (t : Tree) → is_block_like (bare c t) ≡ is_block_like t
 block_bare c (leaf k) = refl
-block_bare c (paren m t) = refl
 block_bare c (attributed a more t) = block_put (attributed_context c) t (is_operation t) refl (block_bare (attributed_context c) t)
-block_bare c (prefixed k gs t) = refl
-block_bare c (infixed x k y) = refl
-block_bare c (postfixed x k) = refl
-block_bare c (tail b k ks) = refl
-block_bare c (frame k ks) = refl
+block_bare c _ = refl
 
 none_bare : (ks : Children) → is_none (bare_children ks) ≡ is_none ks
 none_bare none = refl
@@ -70,14 +56,7 @@ one_bare (child k c t ks) = none_bare ks
 last_bare : (k : Frame) (ks : Children) → needs_last_comma k (bare_children ks) ≡ needs_last_comma k ks
 last_bare e.array ks = refl
 last_bare e.tuple ks = one_bare ks
-last_bare e.repeat ks = refl
-last_bare (e.structure q p d) ks = refl
-last_bare (e.closure_block h) ks = refl
-last_bare e.if_expr ks = refl
-last_bare (e.while_loop w) ks = refl
-last_bare (e.for_loop w p) ks = refl
-last_bare e.match_expr ks = refl
-last_bare e.group_expr ks = refl
+last_bare _ ks = refl
 
 rest_bare : (ks : Children) → has_rest (bare_children ks) ≡ has_rest ks
 rest_bare none = refl
@@ -99,59 +78,21 @@ rest_bare (child e.stray c t ks) = rest_bare ks
 
 frame_bare : (k : Frame) (ks : Children) → frame_fits k (bare_children ks) ≡ frame_fits k ks
 frame_bare e.array ks = refl
-frame_bare e.tuple ks = refl
-frame_bare e.repeat ks = refl
 frame_bare (e.structure q p d) ks = rw (rest_bare ks) refl
-frame_bare (e.closure_block h) ks = refl
-frame_bare e.if_expr ks = refl
-frame_bare (e.while_loop w) ks = refl
-frame_bare (e.for_loop w p) ks = refl
-frame_bare e.match_expr ks = refl
-frame_bare e.group_expr ks = refl
+frame_bare _ ks = refl
 
 -- ---- nothing is put in parentheses at the head of an arm's body
 
 leaf_arm : (k : Leaf) → leaf_misplaced in_arm k ≡ false
-leaf_arm (e.lit x) = refl
-leaf_arm (e.path q p) = refl
-leaf_arm (e.mac m) = refl
-leaf_arm e.infer = refl
-leaf_arm (e.full_range op) = refl
-leaf_arm (e.bare_jump j) = refl
-leaf_arm (e.continuing w) = refl
 leaf_arm (e.block None b) = refl
-leaf_arm (e.block (Some w) b) = refl
-leaf_arm (e.loop_expr w b) = refl
-leaf_arm (e.unsafe_block b) = refl
-leaf_arm (e.const_block b) = refl
-leaf_arm (e.async_block m ts) = refl
-leaf_arm (e.try_block ts) = refl
-leaf_arm (e.verbatim ts) = refl
+leaf_arm _ = refl
 
 misplaced_arm : (t : Tree) → misplaced in_arm t ≡ false
 misplaced_arm (leaf k) = leaf_arm k
-misplaced_arm (paren m t) = refl
 misplaced_arm (attributed a more t) = rw (misplaced_arm t) (and-false (not (is_operation t)))
 misplaced_arm (prefixed (e.unary op) gs t) = refl
-misplaced_arm (prefixed (e.reference m) gs t) = refl
-misplaced_arm (prefixed (e.raw_addr m) gs t) = refl
-misplaced_arm (prefixed (e.range_to op) gs t) = refl
-misplaced_arm (prefixed (e.let_expr p) gs t) = refl
-misplaced_arm (prefixed (e.jump j) gs t) = refl
-misplaced_arm (prefixed (e.closure h) gs t) = refl
-misplaced_arm (infixed x k y) = refl
-misplaced_arm (postfixed x k) = refl
-misplaced_arm (tail b k ks) = refl
 misplaced_arm (frame e.array ks) = refl
-misplaced_arm (frame e.tuple ks) = refl
-misplaced_arm (frame e.repeat ks) = refl
-misplaced_arm (frame (e.structure q p d) ks) = refl
-misplaced_arm (frame (e.closure_block h) ks) = refl
-misplaced_arm (frame e.if_expr ks) = refl
-misplaced_arm (frame (e.while_loop w) ks) = refl
-misplaced_arm (frame (e.for_loop w p) ks) = refl
-misplaced_arm (frame e.match_expr ks) = refl
-misplaced_arm (frame e.group_expr ks) = refl
+misplaced_arm _ = refl
 
 pub arm_bare : (t : Tree) → place_asks lev.Jump in_arm t ≡ false
 arm_bare t = let p : refuses t next.End ≡ false = (or_false _ _ (self_enclosed t)).0 in rw (low_some t, bad_end t, p, misplaced_arm t) refl
@@ -170,10 +111,8 @@ child_put k t =
 -- an `if`, or a block with its tokens alone
 chained_verbatim : (t : Tree) → is_if_expr t || is_verbatim_block t ≡ true → is_if_expr (child_put e.chained t) || is_verbatim_block (child_put e.chained t) ≡ true
 chained_verbatim (leaf (e.block None b)) h = h
-chained_verbatim (leaf k) h = absurd cc
 chained_verbatim (frame e.if_expr ks) h = refl
-chained_verbatim (frame k ks) h = absurd cc
-chained_verbatim t h = absurd cc
+chained_verbatim _ h = absurd cc
 
 output_verbatim : (t : Tree) → is_verbatim_block t ≡ true → is_verbatim_block (child_put e.output_block t) ≡ true
 output_verbatim (leaf (e.block None b)) h = rw h h
@@ -199,26 +138,13 @@ piece_bare x k c t h = absurd cc
 
 comma_bare : (k : Piece) (t : Tree) (m last : Bool) → needs_comma k (child_put k t) m last ≡ needs_comma k t m last
 comma_bare e.element t m last = refl
-comma_bare e.value t m last = refl
-comma_bare e.repeated t m last = refl
-comma_bare (e.field_value ats w b) t m last = refl
-comma_bare (e.rest d) t m last = refl
-comma_bare e.condition t m last = refl
-comma_bare e.loop_head t m last = refl
-comma_bare e.scrutinee t m last = refl
-comma_bare e.chained t m last = refl
-comma_bare (e.guard ats w) t m last = refl
 comma_bare e.guarded t m last = rw (block_arm t) refl
 comma_bare (e.arm ats w) t m last = rw (block_arm t) refl
-comma_bare e.output_block t m last = refl
-comma_bare e.grouped t m last = refl
-comma_bare e.stray t m last = refl
+comma_bare _ t m _ = refl
 
 comma_stays : (k : Piece) (c : Ending) (t : Tree) (m last : Bool) → comma_there k c t m last ≡ true → comma_there k c (child_put k t) m last ≡ true
 comma_stays k e.no_ending t m last h = ap not (comma_bare k t m last) ∙ h
-comma_stays k e.comma t m last h = refl
-comma_stays k (e.braced b) t m last h = refl
-comma_stays k (e.opened ats) t m last h = refl
+comma_stays k _ t m last h = refl
 
 child_bare : (x : Slot) (last : Bool) (k : Piece) (c : Ending) (t : Tree) (ks : Children) → ChildFormed x last k c t ks → ChildFormed x last k c (child_put k t) (bare_children ks)
 child_bare x last k c t ks f = record {
@@ -241,10 +167,8 @@ formed_at c t f = formed_put (place_asks lev.Jump c t) (bare enclosed t) (bare c
 chained_formed : (t : Tree) → is_if_expr t || is_verbatim_block t ≡ true → (is_verbatim_block t ≡ false → IsFormed t) → is_verbatim_block (child_put e.chained t) ≡ false
     → Formed (child_put e.chained t)
 chained_formed (leaf (e.block None b)) h f n = absurd cc
-chained_formed (leaf k) h f n = absurd cc
 chained_formed (frame e.if_expr ks) h f n = f refl enclosed
-chained_formed (frame k ks) h f n = absurd cc
-chained_formed t h f n = absurd cc
+chained_formed _ h f n = absurd cc
 
 child_formed : (x : Slot) (k : Piece) (c : Ending) (t : Tree) → piece_fits x k c t ≡ true → (keeps_block k t ≡ false → Formed t) → (keeps_block k t ≡ false → IsFormed t)
     → keeps_block k (child_put k t) ≡ false → Formed (child_put k t)

@@ -17,8 +17,9 @@ use Rattle.syn_grammar.specs.Next.{prefix_level}
 use Rattle.syn_grammar.specs.Tree as e
 use Rattle.syn_grammar.specs.Tree.{Tree, Children, Leaf, Prefix, Trailer, Piece, leaf, paren, attributed, prefixed, infixed, postfixed, tail, frame, none, postfix_op}
 use Rattle.syn_grammar.specs.Slot.{Slot, Holder}
-use Rattle.syn_grammar.specs.Stands.{Node, Content, Operands, is_leaf, is_become, is_attributed_verbatim, is_paren, is_attributed_by, is_prefixed, is_infixed, is_postfixed, is_tail, is_indexed, is_frame, holds_none, holds_within, holds_bare, no_more, one_more, short, block, arms_inside, is_base, fits_base, fields_of, trailer_head, short_value, path_of, fits_left, ends, prefix_place, refuses_dots, refuses_arrow, compares, carries, is_range, is_infix, is_range_leaf, is_range_prefix, is_prefix}
+use Rattle.syn_grammar.specs.Stands.{Node, Content, Operands, is_leaf, is_become, is_attributed_verbatim, is_paren, is_attributed_by, is_prefixed, is_infixed, is_postfixed, is_tail, is_indexed, is_frame, holds_none, holds_within, holds_bare, no_more, one_more, short, block, arms_inside, is_base, fits_base, carries_trailer, fields_of, trailer_head, short_value, path_of, fits_left, ends, prefix_place, refuses_dots, refuses_arrow, compares, carries, is_range, is_infix, is_range_leaf, is_range_prefix, is_prefix}
 use Rattle.syn_grammar.specs.Binding.{everywhere, children_everywhere, binds_right, as_tight, binds_left, compares_once, ranges_stay, RightOperandBindsTighter, LeftOperandBindsAsTight, ComparisonsDontChain, RangeIsNoLeftOperand}
+use Rattle.syn_grammar.proofs.Callees.{fits_there, fits_index}
 use Rattle.syn_grammar.proofs.Flat.{both, left_of}
 
 -- what is shown of a test at one node each
@@ -46,11 +47,7 @@ fields_fit : (p : Place) (k : Trailer) (b : Tree) (m h : List Tok) (is : List �
     → (is ≡ []) ⊎ ((i : ℕ) → is_base (e.field (an_index i)) b ≡ true)
 unfolding trailer_head indices
 fields_fit p e.call b m h is g t = inl (sym (ap indices t))
-fields_fit p e.index b m h is g t = inr (λ i. based p e.index b g)
-fields_fit p (e.method w a) b m h is g t = inr (λ i. based p (e.method w a) b g)
-fields_fit p (e.field x) b m h is g t = inr (λ i. based p (e.field x) b g)
-fields_fit p e.await b m h is g t = inr (λ i. based p e.await b g)
-fields_fit p e.try_expr b m h is g t = inr (λ i. based p e.try_expr b g)
+fields_fit p d b m h is g t = inr (λ i. based p d b g)
 
 tail_base : (f : Tree → Bool) → AtNodes f → (b x : Tree) (is : List ℕ) → (is ≡ []) ⊎ ((i : ℕ) → is_base (e.field (an_index i)) b ≡ true) → everywhere f b ≡ true
     → x ≡ fields_of b is → everywhere f x ≡ true
@@ -59,8 +56,6 @@ tail_base f h b x is (inr g) w q = subst (λ u. everywhere f u ≡ true) (sym q)
 
 short_holds : (f : Tree → Bool) → AtNodes f → (k : Piece) (x : Tree) → short_value k ≡ Some x → everywhere f x ≡ true
 short_holds f h (e.field_value ats (a_name w) false) x v = let q : path_of w ≡ x = cc in subst (λ u. everywhere f u ≡ true) q (h.at_leaf _)
-short_holds f h (e.field_value ats (a_name w) true) x v = cc
-short_holds f h (e.field_value ats (an_index i) b) x v = cc
 short_holds f h _ x v = cc
 
 mutual
@@ -76,9 +71,9 @@ mutual
   at_nodes f h p l n x (is_postfixed d c g i t k s o) = both _ _ (h.at_node p l n _ (is_postfixed d c g i t k s o)) (at_nodes f h _ _ _ _ d)
   at_nodes f h p l n x (is_tail {m = m} {h = i} {b = b} {x = u} {k = k} {is = is} d g t c q) =
       both _ _ (h.at_node p l n _ (is_tail d g t c q))
-      (both _ _ (tail_base f h b u is (fields_fit p k b m i is g t) (at_nodes f h _ _ _ _ d) q) (in_content f h _ _ _ _ c))
+      (both _ _ (tail_base f h b u is (fields_fit p k b m i is (fits_there k d g t c) t) (at_nodes f h _ _ _ _ d) q) (in_content f h _ _ _ _ c))
   at_nodes f h p l n x (is_indexed {b = b} {i = i} {is = is} d g t q) =
-      tail_base f h b x (i ∷ is) (inr (λ j. based p (e.field (an_index i)) b g)) (at_nodes f h _ _ _ _ d) q
+      tail_base f h b x (i ∷ is) (inr (λ j. based p (e.field (an_index i)) b (fits_index p i b g))) (at_nodes f h _ _ _ _ d) q
   at_nodes f h p l n x (is_frame g c s e) = both _ _ (h.at_node p l n _ (is_frame g c s e)) (in_content f h _ _ _ _ c)
 
   in_content : (f : Tree → Bool) → AtNodes f → (o : Holder) (l n : List Tok) (ks : Children) → Content o l ks n → children_everywhere f ks ≡ true
@@ -100,56 +95,35 @@ last_field f h b i [] g = h b i g
 last_field f h b i (j ∷ more) g = last_field f h (tail b (e.field (an_index i)) none) j more refl
 
 pub indexed_holds : (f : Tree → Bool) → ((b : Tree) (i : ℕ) → is_base (e.field (an_index i)) b ≡ true → f (tail b (e.field (an_index i)) none) ≡ true)
-    → (p : Place) (b x : Tree) (i : ℕ) (is : List ℕ) → fits_base p (e.field (an_index i)) b ≡ true → x ≡ fields_of b (i ∷ is) → f x ≡ true
-indexed_holds f h p b x i is g q = subst (λ u. f u ≡ true) (sym q) (last_field f h b i is (based p (e.field (an_index i)) b g))
+    → (p : Place) (b x : Tree) (i : ℕ) (is : List ℕ) → carries_trailer p (e.field (an_index i)) b ≡ true → x ≡ fields_of b (i ∷ is) → f x ≡ true
+indexed_holds f h p b x i is g q = subst (λ u. f u ≡ true) (sym q) (last_field f h b i is (based p (e.field (an_index i)) b (fits_index p i b g)))
 
--- ---- an operand on the right, or behind a prefix
+-- ---- an operand on the right, or after a prefix
 
 above : (left : Tree) (k : Infix) (p : Place) {l n : List Tok} {x : Tree} → Node (at p (level k)) l x n → binds_right (infixed left k x) ≡ true
 above left k p (is_leaf g s) = refl
-above left k p (is_become w d s c q) = refl
-above left k p (is_attributed_verbatim a more fs g d q r) = refl
-above left k p (is_paren d s c) = refl
-above left k p (is_attributed_by g u d) = refl
-above left k p (is_prefixed g j d s c) = refl
 above left k p (is_infixed d c g i t j r s q o) = t
 above left k p (is_postfixed d c g i t j s o) = t
-above left k p (is_tail d g t c q) = refl
 above left k p (is_indexed {b = b} {x = x} {i = i} {is = is} d g t q) = indexed_holds (λ u. binds_right (infixed left k u)) (λ c j w. refl) (at p (level k)) b x i is g q
-above left k p (is_frame g c s e) = refl
+above left k p _ = refl
 
 behind : (k : Prefix) (gs : Children) (p : Place) {l n : List Tok} {x : Tree} → p.level ≡ prefix_level k → Node p l x n → binds_right (prefixed k gs x) ≡ true
 behind k gs p v (is_leaf g s) = refl
-behind k gs p v (is_become w d s c q) = refl
-behind k gs p v (is_attributed_verbatim a more fs g d q r) = refl
-behind k gs p v (is_paren d s c) = refl
-behind k gs p v (is_attributed_by g u d) = refl
-behind k gs p v (is_prefixed g j d s c) = refl
 behind k gs p v (is_infixed {op = op} d c g i t j r s q o) = ap (λ w. takes w (level op)) (sym v) ∙ t
 behind k gs p v (is_postfixed {k = op} d c g i t j s o) = ap (λ w. takes w (level (postfix_op op))) (sym v) ∙ t
-behind k gs p v (is_tail d g t c q) = refl
 behind k gs p v (is_indexed {b = b} {x = x} {i = i} {is = is} d g t q) = indexed_holds (λ u. binds_right (prefixed k gs u)) (λ c j w. refl) p b x i is g q
-behind k gs p v (is_frame g c s e) = refl
+behind k gs p v _ = refl
 
 level_behind : (p : Place) (k : Prefix) → (prefix_place p k).level ≡ prefix_level k
 level_behind p (e.range_to op) = refl
-level_behind p (e.let_expr x) = refl
-level_behind p (e.jump j) = refl
-level_behind p (e.closure h) = refl
 level_behind p _ = refl
 
 right_node : (p : Place) (l n : List Tok) (x : Tree) → Node p l x n → binds_right x ≡ true
 right_node p l n x (is_leaf g s) = refl
-right_node p l n x (is_become w d s c q) = refl
-right_node p l n x (is_attributed_verbatim a more fs g d q r) = refl
-right_node p l n x (is_paren d s c) = refl
-right_node p l n x (is_attributed_by g u d) = refl
 right_node p l n x (is_prefixed {k = k} g j d s c) = behind k none (prefix_place p k) (level_behind p k) d
 right_node p l n x (is_infixed {x = left} {op = op} d c g i t j r s q o) = above left op p r
-right_node p l n x (is_postfixed d c g i t j s o) = refl
-right_node p l n x (is_tail d g t c q) = refl
 right_node p l n x (is_indexed {b = b} {i = i} {is = is} d g t q) = indexed_holds binds_right (λ c j w. refl) p b x i is g q
-right_node p l n x (is_frame g c s e) = refl
+right_node p l n x _ = refl
 
 pub right_operand_binds_tighter : RightOperandBindsTighter
 right_operand_binds_tighter p l n x s =
@@ -191,30 +165,18 @@ no_range_left p k l op g = cc
 
 below : (k : Infix) (count : ℕ) (p : Place) {l n : List Tok} {x : Tree} → infix_at n ≡ Some (k, count) → fits_left p k x ≡ true → Node p l x n → as_tight k x ≡ true
 below k count p i f (is_leaf g s) = refl
-below k count p i f (is_become w d s c q) = refl
-below k count p i f (is_attributed_verbatim a more fs g d q r) = refl
-below k count p i f (is_paren d s c) = refl
-below k count p i f (is_attributed_by g u d) = refl
-below k count p i f (is_prefixed g j d s c) = refl
 below k count p i f (is_infixed {n = n} {y = y} {op = op} d c g o t j r s q w) = tight op k y p n count i s
 below k count p i f (is_postfixed {k = e.cast ty} d c g o t j s w) = at_most_cast k
 below k count p i f (is_postfixed {x = x} {k = e.range_from op} d c g o t j s w) = no_range_left p k x op f
-below k count p i f (is_tail d g t c q) = refl
 below k count p i f (is_indexed {b = b} {x = x} {i = j} {is = is} d g t q) = indexed_holds (as_tight k) (λ c m w. refl) p b x j is g q
-below k count p i f (is_frame g c s e) = refl
+below k count p i f _ = refl
 
 left_node : (p : Place) (l n : List Tok) (x : Tree) → Node p l x n → binds_left x ≡ true
 left_node p l n x (is_leaf g s) = refl
-left_node p l n x (is_become w d s c q) = refl
-left_node p l n x (is_attributed_verbatim a more fs g d q r) = refl
-left_node p l n x (is_paren d s c) = refl
-left_node p l n x (is_attributed_by g u d) = refl
-left_node p l n x (is_prefixed g j d s c) = refl
 left_node p l n x (is_infixed {op = op} {count = count} d c g i t j r s q o) = below op count p i g d
 left_node p l n x (is_postfixed {k = k} {count = count} d c g i t j s o) = below (postfix_op k) count p i g d
-left_node p l n x (is_tail d g t c q) = refl
 left_node p l n x (is_indexed {b = b} {i = i} {is = is} d g t q) = indexed_holds binds_left (λ c j w. refl) p b x i is g q
-left_node p l n x (is_frame g c s e) = refl
+left_node p l n x _ = refl
 
 pub left_operand_binds_as_tight : LeftOperandBindsAsTight
 left_operand_binds_as_tight p l n x s =
@@ -232,16 +194,9 @@ fits p op x h = let a = neither (is_range x) _ h in let b = neither (is_comparis
 
 compares_node : (p : Place) (l n : List Tok) (x : Tree) → Node p l x n → compares_once x ≡ true
 compares_node p l n x (is_leaf g s) = refl
-compares_node p l n x (is_become w d s c q) = refl
-compares_node p l n x (is_attributed_verbatim a more fs g d q r) = refl
-compares_node p l n x (is_paren d s c) = refl
-compares_node p l n x (is_attributed_by g u d) = refl
-compares_node p l n x (is_prefixed g j d s c) = refl
 compares_node p l n x (is_infixed {x = left} {op = op} d c g i t j r s q o) = let f = fits p op left g in f.1
-compares_node p l n x (is_postfixed d c g i t j s o) = refl
-compares_node p l n x (is_tail d g t c q) = refl
 compares_node p l n x (is_indexed {b = b} {i = i} {is = is} d g t q) = indexed_holds compares_once (λ c j w. refl) p b x i is g q
-compares_node p l n x (is_frame g c s e) = refl
+compares_node p l n x _ = refl
 
 pub comparisons_dont_chain : ComparisonsDontChain
 comparisons_dont_chain p l n x s =
@@ -259,7 +214,6 @@ closed (leaf k) h = by (is_range_leaf k) h
     by : (b : Bool) → not b ≡ true → not (b || false) ≡ true
     by true h = h
     by false h = refl
-closed (paren m t) h = refl
 closed (attributed a more t) h = by (is_range t) (neither (is_range t) _ (closed t h)).0
   where
     by : (b : Bool) → not b ≡ true → not (b || false) ≡ true
@@ -268,8 +222,7 @@ closed (attributed a more t) h = by (is_range t) (neither (is_range t) _ (closed
 closed (prefixed k gs t) h = no_more_true (is_prefix k) (is_range_prefix k) h
 closed (infixed x k y) h = cc
 closed (postfixed x k) h = cc
-closed (tail b k ks) h = refl
-closed (frame k ks) h = refl
+closed _ h = refl
 
 closed_fields : (b : Tree) (is : List ℕ) → carries b ≡ true → not (is_range (fields_of b is) || is_infix (fields_of b is)) ≡ true
 closed_fields b [] h = closed b h
@@ -277,17 +230,12 @@ closed_fields b (i ∷ more) h = closed_fields (tail b (e.field (an_index i)) no
 
 ranges_node : (p : Place) (l n : List Tok) (x : Tree) → Node p l x n → ranges_stay x ≡ true
 ranges_node p l n x (is_leaf g s) = refl
-ranges_node p l n x (is_become w d s c q) = refl
-ranges_node p l n x (is_attributed_verbatim a more fs g d q r) = refl
-ranges_node p l n x (is_paren d s c) = refl
-ranges_node p l n x (is_attributed_by g u d) = refl
-ranges_node p l n x (is_prefixed g j d s c) = refl
 ranges_node p l n x (is_infixed {x = left} {op = op} d c g i t j r s q o) = let f = fits p op left g in f.0
 ranges_node p l n x (is_postfixed {x = left} {k = k} d c g i t j s o) = let f = fits p (postfix_op k) left g in f.0
 ranges_node p l n x (is_tail {b = b} {x = u} {k = k} {is = is} d g t c q) =
-    subst (λ v. not (is_range v || is_infix v) ≡ true) (sym q) (closed_fields b is (left_of (carries b) _ (based p k b g)))
+    subst (λ v. not (is_range v || is_infix v) ≡ true) (sym q) (closed_fields b is (left_of (carries b) _ (based p k b (fits_there k d g t c))))
 ranges_node p l n x (is_indexed {b = b} {i = i} {is = is} d g t q) = indexed_holds ranges_stay (λ c j w. closed c (left_of (carries c) _ w)) p b x i is g q
-ranges_node p l n x (is_frame g c s e) = refl
+ranges_node p l n x _ = refl
 
 pub range_is_no_left_operand : RangeIsNoLeftOperand
 range_is_no_left_operand p l n x s =

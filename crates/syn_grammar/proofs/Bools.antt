@@ -48,21 +48,7 @@ takes_rank a b = nat_lt a b || (a == 1 && b == 1)
 
 assign_rank : (v : Level) → is_assign v ≡ (rank v == 1)
 assign_rank lev.Jump = refl
-assign_rank lev.Assign = refl
-assign_rank lev.Range = refl
-assign_rank lev.Or = refl
-assign_rank lev.And = refl
-assign_rank lev.Let = refl
-assign_rank lev.Compare = refl
-assign_rank lev.BitOr = refl
-assign_rank lev.BitXor = refl
-assign_rank lev.BitAnd = refl
-assign_rank lev.Shift = refl
-assign_rank lev.Sum = refl
-assign_rank lev.Product = refl
-assign_rank lev.Cast = refl
-assign_rank lev.Prefix = refl
-assign_rank lev.Unambiguous = refl
+assign_rank _ = refl
 
 takes_by_rank : (v w : Level) → takes v w ≡ takes_rank (rank v) (rank w)
 unfolding takes_rank

@@ -32,6 +32,7 @@ use Rattle.syn_grammar.specs.Stands.{Node, Content, Operands, is_attributed, is_
 use Rattle.syn_grammar.specs.Tree as e
 use Rattle.syn_grammar.specs.Tree.{Tree, Children, Leaf, Frame, Trailer, leaf, paren, attributed, prefixed, infixed, postfixed, tail, frame, none, child, outers, postfix_op, is_one, is_block_like, is_block_leaf, infix_own, postfix_own, trailer_own, own, children_own, enclosure, behind_operands, clear, clear_children}
 use Rattle.syn_grammar.specs.WellFormed.{trailer_fits, frame_fits, piece_fits, is_verbatim_block}
+use Rattle.syn_grammar.proofs.Callees.{carries_it}
 use Rattle.syn_grammar.proofs.Bools.{or_false, both_true, not_it, and_true}
 use Rattle.syn_grammar.proofs.HeadsBack.{heads_back}
 use Rattle.syn_grammar.proofs.HeadLeaf.{leaf_stops}
@@ -50,70 +51,36 @@ use Rattle.syn_grammar.proofs.Children.{rests_well, operands_end, piece_meets, c
 
 base_plain : (k : Trailer) (b : Tree) → is_base k b ≡ true → (is_attributed b ≡ false) × (is_operation b ≡ false)
 base_plain k (leaf j) h = (refl, not_it _ (both_true _ _ h).0)
-base_plain k (paren m t) h = (refl, refl)
 base_plain k (attributed a more t) h = absurd (let f : true ≡ false = sym h ∙ and-false _ in cc)
 base_plain k (prefixed j gs t) h = (refl, (or_false _ _ (not_it _ (both_true _ _ h).0)).1)
 base_plain k (infixed x j y) h = absurd cc
 base_plain k (postfixed x j) h = absurd cc
-base_plain k (tail b j ks) h = (refl, refl)
-base_plain k (frame j ks) h = (refl, refl)
+base_plain k _ h = (refl, refl)
 
 no_pound : (v : Level) (c : Context) (t : Tree) → Obeys v c t → is_attributed t ≡ false → is_operation t ≡ false → begins_pound t ≡ false
-no_pound v c (leaf k) h a o = refl
-no_pound v c (paren m t) h a o = refl
 no_pound v c (attributed b more t) h a o = absurd cc
-no_pound v c (prefixed k gs t) h a o = refl
 no_pound v c (infixed x k y) h a o = absurd cc
 no_pound v c (postfixed x k) h a o = absurd cc
 no_pound v c (tail b k ks) h a o = let p = base_plain k b h.0 in no_pound v (base_context k c) b h.1 p.0 p.1
-no_pound v c (frame k ks) h a o = refl
+no_pound v c _ h a o = refl
 
--- ---- what is behind the operand of a prefix
+-- ---- what is after the operand of a prefix
 
 seen_jump : (n : Next) → seen n ≡ seen (without_block n)
 seen_jump next.End = refl
-seen_jump next.Assign = refl
-seen_jump next.ShiftLeftAssign = refl
-seen_jump next.Range = refl
-seen_jump next.OrOr = refl
-seen_jump next.AndAnd = refl
-seen_jump next.Compare = refl
-seen_jump next.Less = refl
-seen_jump next.Or = refl
-seen_jump next.Caret = refl
-seen_jump next.And = refl
-seen_jump next.ShiftLeft = refl
-seen_jump next.ShiftRight = refl
-seen_jump next.Plus = refl
-seen_jump next.Minus = refl
-seen_jump next.Star = refl
-seen_jump next.Divide = refl
-seen_jump next.As = refl
-seen_jump next.Dot = refl
-seen_jump next.Question = refl
-seen_jump next.Parenthesis = refl
-seen_jump next.Bracket = refl
-seen_jump next.Block = refl
-seen_jump next.Brace = refl
+seen_jump _ = refl
 
 shows_prefix : (k : e.Prefix) (c : Context) (r : List Tok) → Shows c.next r → Shows (prefix_context k c).next r
 shows_prefix (e.unary op) c r s = s
-shows_prefix (e.reference m) c r s = s
-shows_prefix (e.raw_addr m) c r s = s
-shows_prefix (e.range_to op) c r s = s
-shows_prefix (e.let_expr p) c r s = s
 shows_prefix (e.jump j) c r s = record { same = s.same ∙ seen_jump c.next }
-shows_prefix (e.closure h) c r s = s
+shows_prefix _ c r s = s
 
 -- ---- bases
 
 base_free : (p : Place) (k : Trailer) (c : Context) (b : Tree) → Meets p c → Formed b → Obeys p.level (base_context k c) b → is_parenthesis_or_bracket k && rests p (clear b) ≡ false
 base_free p e.call c b m f h = goes_free p p.level c (base_context e.call c) b m refl f h
 base_free p e.index c b m f h = goes_free p p.level c (base_context e.index c) b m refl f h
-base_free p (e.method w a) c b m f h = refl
-base_free p (e.field x) c b m f h = refl
-base_free p e.await c b m f h = refl
-base_free p e.try_expr c b m f h = refl
+base_free p _ c b m f h = refl
 
 field_stops : (w : _) (b : Tree) (n : Next) (r : List Tok) → Shows n r → Calls (tail b (e.field (a_name w)) none) n → trailer_stops (e.field (a_name w)) r ≡ true
 field_stops w b n r s g =
@@ -149,7 +116,7 @@ struct_rests q w d ks f =
     let y = both_true (not (is_try_alone q w)) _ x.1 in
     rw (dots_end d) y.1
 
--- ---- blocks, which stand before any tokens
+-- ---- blocks, which come before any tokens
 
 block_leaf : (p : Place) (k : Leaf) (r : List Tok) → is_block_leaf k ≡ true → (leaf_stops k r ≡ true) × (leaf_stands p k r ≡ true)
 unfolding leaf_stands
@@ -169,20 +136,13 @@ block_pound (leaf (e.loop_expr (Some w) b)) r h a = refl
 block_pound (leaf (e.unsafe_block b)) r h a = refl
 block_pound (leaf (e.const_block b)) r h a = refl
 block_pound (leaf (e.try_block ts)) r h a = refl
-block_pound (leaf k) r h a = absurd cc
-block_pound (paren m t) r h a = absurd cc
-block_pound (attributed b more t) r h a = absurd cc
-block_pound (prefixed k gs t) r h a = absurd cc
-block_pound (infixed x k y) r h a = absurd cc
-block_pound (postfixed x k) r h a = absurd cc
-block_pound (tail b k ks) r h a = absurd cc
 block_pound (frame e.if_expr ks) r h a = refl
 block_pound (frame (e.while_loop None) ks) r h a = refl
 block_pound (frame (e.while_loop (Some w)) ks) r h a = refl
 block_pound (frame (e.for_loop None p) ks) r h a = refl
 block_pound (frame (e.for_loop (Some w) p) ks) r h a = refl
 block_pound (frame e.match_expr ks) r h a = refl
-block_pound (frame k ks) r h a = absurd cc
+block_pound _ r h a = absurd cc
 
 if_expr_block : (t : Tree) → is_if_expr t ≡ true → is_block_like t ≡ true
 if_expr_block (frame e.if_expr ks) h = refl
@@ -233,7 +193,7 @@ tail_made : (p : Place) (c : Context) (b : Tree) (k : Trailer) (ks : Children) (
     → is_base k b ≡ true → Obeys p.level (base_context k c) b → Node p (own b (trailer_own k (children_own ks []) r)) (clear b) (trailer_own k (children_own ks []) r)
     → Content (trailer_holder k) (trailer_rest k (children_own ks []) r) (clear_children ks) r → Node p (own (tail b k ks) r) (clear (tail b k ks)) r
 tail_made p c b k ks r f i z w m h o d g =
-    st.is_tail d (base_fits p k b h (base_free p k c b m w o)) (heads_back.trailers k (children_own ks []) r f i z) g refl
+    st.is_tail d (carries_it p k (clear b) (base_fits p k b h (base_free p k c b m w o))) (heads_back.trailers k (children_own ks []) r f i z) g refl
 
 list_held : (d : _) (x : Slot) (ks : Children) (r : List Tok) → Operands x (children_own ks []) (clear_children ks) [] → Content (within d x false) (o.enclosed d (children_own ks []) r) (clear_children ks) r
 list_held d x ks r q = st.holds_within (heads_back.groups d (children_own ks []) r) q refl
@@ -243,7 +203,7 @@ indexed_made : (p : Place) (c : Context) (b : Tree) (n : ℕ) (r : List Tok) →
     → Node p (own b (trailer_own (e.field (an_index n)) [] r)) (clear b) (trailer_own (e.field (an_index n)) [] r)
     → Node p (own (tail b (e.field (an_index n)) none) r) (clear (tail b (e.field (an_index n)) none)) r
 indexed_made p c b n r f w m h o d =
-    st.is_indexed d (base_fits p (e.field (an_index n)) b h (base_free p (e.field (an_index n)) c b m w o)) (heads_back.indices n [] r f) refl
+    st.is_indexed d (carries_it p (e.field (an_index n)) (clear b) (base_fits p (e.field (an_index n)) b h (base_free p (e.field (an_index n)) c b m w o))) (heads_back.indices n [] r f) refl
 
 -- a frame but a group ends anywhere
 frame_ended : (p : Place) (k : Frame) (ks us : Children) (n : List Tok) → frame_fits k ks ≡ true → frame_ends p k us n ≡ true
@@ -267,33 +227,11 @@ not_verbatim t h = absurd cc
 
 not_grouped : (x : Slot) (c : e.Ending) (t : Tree) → piece_fits x e.grouped c t ≡ true → ⊥
 not_grouped slot.elements c t h = absurd cc
-not_grouped slot.single c t h = absurd cc
-not_grouped slot.counted c t h = absurd cc
-not_grouped slot.fields c t h = absurd cc
-not_grouped slot.conditions c t h = absurd cc
-not_grouped slot.otherwise c t h = absurd cc
-not_grouped slot.loops c t h = absurd cc
-not_grouped slot.scrutinees c t h = absurd cc
-not_grouped slot.arms c t h = absurd cc
-not_grouped slot.bodies c t h = absurd cc
-not_grouped slot.outputs c t h = absurd cc
-not_grouped slot.groups c t h = absurd cc
-not_grouped slot.done c t h = absurd cc
+not_grouped _ c t h = absurd cc
 
 not_stray : (x : Slot) (c : e.Ending) (t : Tree) → piece_fits x e.stray c t ≡ true → ⊥
 not_stray slot.elements c t h = absurd cc
-not_stray slot.single c t h = absurd cc
-not_stray slot.counted c t h = absurd cc
-not_stray slot.fields c t h = absurd cc
-not_stray slot.conditions c t h = absurd cc
-not_stray slot.otherwise c t h = absurd cc
-not_stray slot.loops c t h = absurd cc
-not_stray slot.scrutinees c t h = absurd cc
-not_stray slot.arms c t h = absurd cc
-not_stray slot.bodies c t h = absurd cc
-not_stray slot.outputs c t h = absurd cc
-not_stray slot.groups c t h = absurd cc
-not_stray slot.done c t h = absurd cc
+not_stray _ c t h = absurd cc
 
 mutual
   unfolding frame_stands
@@ -346,7 +284,7 @@ mutual
   bridge (frame e.match_expr ks) p c r f m s h g = frame_made p e.match_expr ks r f.0 refl (st.holds_bare (operands ks slot.scrutinees false r f.1 h.1 refl)) refl
   bridge (frame e.group_expr ks) p c r f m s h g = absurd (let q = f.0 in cc)
 
-  -- a block-like expression stands before any tokens but `else`
+  -- a block-like expression comes before any tokens but `else`
   pub block_bridge : (t : Tree) (p : Place) (c : Context) (r : List Tok) → is_block_like t ≡ true → Formed t → Obeys p.level c t → word_at (codes "else") r ≡ false → Node p (own t r) (clear t) r
   block_bridge (leaf k) p c r b f h w = let q = block_leaf p k r b in st.is_leaf (heads_back.leaves k r f q.0) q.1
   block_bridge (attributed a more t) p c r b f h w = attributed_made p a more t r f h.0 (block_pound t r b f.1) (block_bridge t p (attributed_context c) r b f.2 h.1 w)
@@ -355,12 +293,7 @@ mutual
   block_bridge (frame (e.while_loop l) ks) p c r b f h w = frame_made p (e.while_loop l) ks r f.0 refl (st.holds_bare (operands ks slot.loops false r f.1 h.1 refl)) refl
   block_bridge (frame (e.for_loop l k) ks) p c r b f h w = frame_made p (e.for_loop l k) ks r f.0 refl (st.holds_bare (operands ks slot.loops false r f.1 h.1 refl)) refl
   block_bridge (frame e.match_expr ks) p c r b f h w = frame_made p e.match_expr ks r f.0 refl (st.holds_bare (operands ks slot.scrutinees false r f.1 h.1 refl)) refl
-  block_bridge (frame k ks) p c r b f h w = absurd cc
-  block_bridge (paren m t) p c r b f h w = absurd cc
-  block_bridge (prefixed k gs t) p c r b f h w = absurd cc
-  block_bridge (infixed x k y) p c r b f h w = absurd cc
-  block_bridge (postfixed x k) p c r b f h w = absurd cc
-  block_bridge (tail t k ks) p c r b f h w = absurd cc
+  block_bridge _ p c r b f h w = absurd cc
 
   operands : (ks : Children) (x : Slot) (last : Bool) (r : List Tok) → FormedChildren x last ks → ObeysChildren ks → rests_well x last ks r ≡ true → Operands x (children_own ks r) (clear_children ks) r
   operands none x last r f h w = st.no_more (operands_end x last r f w)

@@ -57,7 +57,7 @@ pub not_false : (b : Bool) → not b ≡ false → b ≡ true
 not_false true h = refl
 not_false false h = absurd cc
 
--- What a form reads stands there, and what stands it reads; no tokens are added.
+-- What a form reads is there, and what stands it reads; no tokens are added.
 pub record Reads {A : Type 0} (f : Form A) : Type 0 where
   pub sound : (l : List Tok) (x : A) (n : List Tok) → f.reads l ≡ Some (x, n) → f.behind x l ≡ Some n
   pub found : (l : List Tok) (x : A) (n : List Tok) → f.behind x l ≡ Some n → f.reads l ≡ Some (x, n)

@@ -56,27 +56,15 @@ piece_meets k = meets_plain
 
 child_fits : (k : Piece) (t : Tree) → Fits (piece_place k).level t (piece_context k).next
 child_fits e.condition t = record { no_operator = refl; no_trailer = refl }
-child_fits e.loop_head t = record { no_operator = refl; no_trailer = refl }
-child_fits e.scrutinee t = record { no_operator = refl; no_trailer = refl }
-child_fits e.guarded t = record { no_operator = refl; no_trailer = refl }
-child_fits (e.arm ats p) t = record { no_operator = refl; no_trailer = refl }
-child_fits k t = record { no_operator = refl; no_trailer = refl }
+child_fits _ t = record { no_operator = refl; no_trailer = refl }
 
 pub child_calls : (k : Piece) (t : Tree) → Calls t (piece_context k).next
 child_calls e.condition t = record { none = refl }
-child_calls e.loop_head t = record { none = refl }
-child_calls e.scrutinee t = record { none = refl }
-child_calls e.guarded t = record { none = refl }
-child_calls (e.arm ats p) t = record { none = refl }
-child_calls k t = record { none = refl }
+child_calls _ t = record { none = refl }
 
 pub child_obeyed : (k : Piece) (t : Tree) → Obeys lev.Jump (piece_context k) t → Obeys (piece_place k).level (piece_context k) t
 child_obeyed e.condition t h = h
-child_obeyed e.loop_head t h = h
-child_obeyed e.scrutinee t h = h
-child_obeyed e.guarded t h = h
-child_obeyed (e.arm ats p) t h = h
-child_obeyed k t h = h
+child_obeyed _ t h = h
 
 plain_ends : (k : Piece) (x : Tree) (l : List Tok) → takes_block k ≡ false → ends (piece_place k) x l ≡ true → closes (piece_place k) x l ≡ true → ends_piece k x l ≡ true
 plain_ends e.chained x l b p q = absurd cc
@@ -93,13 +81,11 @@ loud_stops (e.field_value ats m false) l h = absurd cc
 loud_stops k l h = refl
 
 inside_same : (k : Piece) (c : Ending) (r : List Tok) → is_scrutinee k ≡ false → ending_fits k c ≡ true → inside_of c r ≡ r
-inside_same k e.no_ending r s f = refl
-inside_same k e.comma r s f = refl
-inside_same k (e.braced b) r s f = refl
 inside_same e.scrutinee (e.opened ats) r s f = absurd cc
 inside_same k (e.opened ats) r s f = absurd cc
+inside_same k _ r s f = refl
 
--- ---- what may stand behind the operands
+-- ---- what may come after the operands
 
 abbrev pub rests_well : Slot → Bool → Children → List Tok → Bool
 rests_well s.elements last ks r = is_empty r
@@ -123,22 +109,16 @@ operands_end s.otherwise last r f w = w
 operands_end s.arms last r f w = w
 operands_end s.done last r f w = refl
 operands_end s.single last r f w = absurd cc
-operands_end s.counted last r f w = absurd cc
-operands_end s.conditions last r f w = absurd cc
-operands_end s.loops last r f w = absurd cc
-operands_end s.scrutinees last r f w = absurd cc
-operands_end s.bodies last r f w = absurd cc
-operands_end s.outputs last r f w = absurd cc
-operands_end s.groups last r f w = absurd cc
+operands_end _ last r f w = absurd cc
 
--- ---- one operand, by what is behind it
+-- ---- one operand, by what is after it
 
 record Behind (x : Slot) (last : Bool) (k : Piece) (c : Ending) (u : Tree) (ks : Children) (r : List Tok) : Type 0 where
   shows : Shows (piece_context k).next (ending_own k c (children_own ks r) r)
   stops : ending_stops k u c (children_own ks r) ≡ true
   rest : rests_well (after k) last ks r ≡ true
 
--- those that stand before a token of their class
+-- those that come before a token of their class
 abbrev pub is_regular : Piece → Bool
 is_regular e.element = true
 is_regular e.value = true
@@ -195,21 +175,15 @@ list_behind last c t u ks r f w =
 
 field_ending : (ats : List AttributeTree) (m : MemberTree) (b : Bool) (c : Ending) → ending_fits (e.field_value ats m b) c ≡ ending_fits e.element c
 field_ending ats m b e.no_ending = refl
-field_ending ats m b e.comma = refl
-field_ending ats m b (e.braced x) = refl
-field_ending ats m b (e.opened x) = refl
+field_ending ats m b _ = refl
 
 field_same : (ats : List AttributeTree) (m : MemberTree) (b : Bool) (u : Tree) (c : Ending) (l : List Tok) → ending_stops e.element u c l ≡ true → ending_stops (e.field_value ats m b) u c l ≡ true
 field_same ats m b u e.no_ending l h = h
-field_same ats m b u e.comma l h = refl
-field_same ats m b u (e.braced x) l h = refl
-field_same ats m b u (e.opened x) l h = refl
+field_same ats m b u _ l h = refl
 
 field_own : (ats : List AttributeTree) (m : MemberTree) (b : Bool) (c : Ending) (l r : List Tok) → Shows next.End (ending_own e.element c l r) → Shows next.End (ending_own (e.field_value ats m b) c l r)
 field_own ats m b e.no_ending l r h = h
-field_own ats m b e.comma l r h = h
-field_own ats m b (e.braced x) l r h = h
-field_own ats m b (e.opened x) l r h = h
+field_own ats m b _ l r h = h
 
 field_behind : (last : Bool) (ats : List AttributeTree) (m : MemberTree) (b : Bool) (c : Ending) (t u : Tree) (ks : Children) (r : List Tok) → ChildFormed s.fields last (e.field_value ats m b) c t ks
     → rests_well s.fields last ks r ≡ true → Shows next.End (ending_own (e.field_value ats m b) c (children_own ks r) r) × (ending_stops (e.field_value ats m b) u c (children_own ks r) ≡ true)
@@ -314,7 +288,7 @@ regular x last k c t ks r g f fs w d q =
 
 -- ---- the bodies of arms
 
--- what is behind a body that ends with a block
+-- what is after a body that ends with a block
 abbrev pub Blocked : Tree → Type 0
 Blocked t = (l : List Tok) → is_block_like t ≡ true → word_at (codes "else") l ≡ false → Node at_head (own t l) (clear t) l
 
@@ -347,7 +321,7 @@ unfolding sign_at
 empty_is [] h = refl
 empty_is (a ∷ r) h = absurd cc
 
--- a body that ends with a block stands before the next arm
+-- a body that ends with a block comes before the next arm
 block_placed : (t : Tree) (n : List Tok) → is_block_like t ≡ true → NoBody n → Blocked t
     → Node at_head (own t n) (clear t) n × ends_piece e.guarded (clear t) n ≡ true × (not (comma.at n) && (is_empty n || is_block_like (clear t)) ≡ true)
 block_placed t n b f g =
@@ -400,12 +374,12 @@ arm_made x last ats p c t ks r f fs w d g q =
     let z = body_slot_arm ats p x c t f.piece last (child (e.arm ats p) c t ks) r w in
     child_made x last (e.arm ats p) c t ks r r f refl refl (arm_placed x last ats p c t ks r f fs z d g) (q z)
 
--- ---- blocks behind `else` and behind outputs
+-- ---- blocks after `else` and after outputs
 
-verbatim_body : (b : Body) → is_nil b.inner ≡ true → b ≡ s.plain_body b.tokens
+verbatim_body : (b : Body) → is_nil b.inner ≡ true → b ≡ e.body_of [] b.tokens
 verbatim_body b h = go b.inner b.tokens h
   where
-    go : (xs : List AttributeTree) (ts : List Tok) → is_nil xs ≡ true → record { inner = xs; tokens = ts } ≡ s.plain_body ts
+    go : (xs : List AttributeTree) (ts : List Tok) → is_nil xs ≡ true → record { inner = xs; tokens = ts } ≡ e.body_of [] ts
     go [] ts h = refl
     go (a ∷ xs) ts h = absurd cc
 
@@ -453,9 +427,7 @@ brace_output o i r = parts_end.outputs true o (group del.Brace i ∷ r) refl ref
 pub output_first : (o : ReturnTree) (last : Bool) (ks : Children) (r : List Tok) → FormedChildren s.outputs last ks → output_stops true o (children_own ks r) ≡ true
 output_first o last none r f = absurd cc
 output_first o last (child e.output_block c (leaf (e.block None b)) ks) r f = brace_output o _ _
-output_first o last (child e.output_block c (leaf j) ks) r f = absurd (let q = f.0.piece in cc)
-output_first o last (child e.output_block c t ks) r f = absurd (let q = f.0.piece in cc)
-output_first o last (child k c t ks) r f = absurd (let q = f.0.piece in cc)
+output_first o last _ r f = absurd (let q = f.0.piece in cc)
 
 -- ---- a field whose value its name says
 
@@ -469,19 +441,14 @@ same_path : (w v : Text) (a : t.ArgumentsTree) → v ≡ w → a ≡ t.no_argume
 same_path w v a p q = rw (p, q) refl
 
 path_is : (w : Text) (b : Bool) (ss : List SegmentTree) (e0 : Bool) → not b && is_sole w ss ≡ true → e0 ≡ false → leaf (e.path t.no_qself (record { leading = b; segments = ss; trailing = e0 })) ≡ path_of w
-path_is w true ss e0 h z = absurd cc
-path_is w false [] e0 h z = absurd cc
-path_is w false (x ∷ y ∷ ss) e0 h z = absurd cc
-path_is w false (x ∷ []) true h z = absurd cc
 path_is w false (x ∷ []) false h z =
     let p = both_true (bytes_eq x.ident w) (has_none x.arguments) h in
     same_path w x.ident x.arguments ((bytes_eq-Decides x.ident w).0 p.0) (no_argument x.arguments p.1)
+path_is w _ _ _ h z = absurd cc
 
 name_is : (w : Text) (t : Tree) → is_name_path (a_name w) t ≡ true → Formed t → t ≡ path_of w
 name_is w (leaf (e.path t.no_qself p)) h f = path_is w p.leading p.segments p.trailing h (not_it _ (both_true (not p.trailing) _ (both_true (qpath_fits style.Expr (t.no_qself, p)) _ f).0).0)
-name_is w (leaf (e.path (t.qself y n a) p)) h f = absurd cc
-name_is w (leaf k) h f = absurd cc
-name_is w x h f = absurd cc
+name_is w _ h f = absurd cc
 
 named_value : (ats : List AttributeTree) (m : MemberTree) (t : Tree) → is_name_path m t ≡ true → Formed t → short_value (e.field_value ats m false) ≡ Some (clear t)
 named_value ats (a_name w) t h f = ap (λ x. Some (clear x)) (sym (name_is w t h f))

@@ -1,9 +1,9 @@
--- Trailers, attributes and operations, one behind the other: what stands for the tokens is read.
+-- Trailers, attributes and operations, one after the other: what stands for the tokens is read.
 use Rattle.std.specs.Prelude.{not, ◌||◌, ◌&&◌}
 use Rattle.std.proofs.Common.{◌≡◌, ℕ, zero, suc, ◌<◌, ◌≤◌, Bool, true, false, List, [], ◌∷◌, ◌++◌, drop, codes, Option, Some, None, refl, ap, sym, ◌∙◌, subst, arith}
 use Rattle.syn_lexer.specs.declared.lexeme.Delimiter.TheVariants as del
 use Rattle.syn_lexer.specs.declared.lexeme.Spacing.TheVariants as spacing
-use Rattle.syn_tokens.specs.Tok.{Tok, ident, literal, punct, group, weight}
+use Rattle.syn_tokens.specs.Tok.{Tok, punct, group, weight}
 use Rattle.syn_parts.specs.Tree.{AttributeTree}
 use Rattle.syn_parts.specs.Mark.{sign_at, pound}
 use Rattle.syn_parts.specs.Part.{outer_attributes}
@@ -23,6 +23,7 @@ use Rattle.syn_grammar.specs.Slot.{trailer_holder}
 use Rattle.syn_grammar.specs.Stands.{Node, is_leaf, is_become, is_attributed_verbatim, is_paren, is_attributed_by, is_prefixed, is_infixed, is_postfixed, is_tail, is_indexed, is_frame, Content, Stands, ends, closes, compares, goes_behind, carries, is_cast, rests, is_range, is_attributed, is_pounded, fits_left, prefix_place, takes_attributes, infix_stands, postfix_stands, postfix_behind, ends_operation, refuses_dots, refuses_arrow, trailer_head, fields_of}
 use Rattle.syn_grammar.specs.Read.{Reading, trailed, trail, core, atom, operand, read_attributed, verbatim_of, stop, taken_by, taken_at, next_operator, postfix_made, infix_read, longer, turn, climb, at_place, become_word}
 use Rattle.syn_grammar.proofs.HeadMoves.{postfix_left, IsLess, less_then, marked, taken_is, tail_falls, left, left_less, fields_less, trailer_less, trailer_left}
+use Rattle.syn_grammar.proofs.Callees.{fits_there, fits_index}
 use Rattle.syn_grammar.proofs.Chains.{some_is, neither, not_true}
 use Rattle.syn_grammar.proofs.Needs.{heads}
 use Rattle.syn_grammar.proofs.Lesses.{within_less, here, node_less, content_left, operator_less}
@@ -36,10 +37,7 @@ tail_less : (t : Trailer) (m h n : List Tok) (is : List ℕ) (ks : Children) →
 unfolding trailer_head
 tail_less tr.call m h n is ks a c t = subst (λ z. IsLess n z) (sym (ap (λ (r : List ℕ × List Tok). r.1) (some_is a))) (within_less c)
 tail_less tr.index m h n is ks a c t = subst (λ z. IsLess n z) (sym (ap (λ (r : List ℕ × List Tok). r.1) (some_is a))) (within_less c)
-tail_less tr.try_expr m h n is ks a c t = less_then (trailer_less tr.try_expr m is h refl a) t
-tail_less (tr.method w g) m h n is ks a c t = less_then (trailer_less (tr.method w g) m is h refl a) t
-tail_less (tr.field y) m h n is ks a c t = less_then (trailer_less (tr.field y) m is h refl a) t
-tail_less tr.await m h n is ks a c t = less_then (trailer_less tr.await m is h refl a) t
+tail_less d m h n is ks a c t = less_then (trailer_less d m is h refl a) t
 
 -- ---- which nodes are operands without attributes
 
@@ -59,9 +57,7 @@ same_first : (x : Tok) (l m : List Tok) → pound.at (x ∷ l) ≡ true → poun
 unfolding sign_at
 same_first (punct c spacing.Alone) l m g = g
 same_first (punct c spacing.Joint) l m g = g
-same_first (ident w) l m g = absurd cc
-same_first (literal w) l m g = absurd cc
-same_first (group d i) l m g = absurd cc
+same_first _ l m g = absurd cc
 
 word_less : (l : List Tok) → become_word.at l ≡ true → weight (drop 1 l) < weight l
 word_less l g = let a = marked (word_present (codes "become")) l g in a.less
@@ -179,28 +175,27 @@ module _ (rec : Place → Reading Tree) where
     core_comes (is_leaf {p = p} {l = l} {n = n} {k = f} h g) b y = from_atom p l n (leaf f) (leaf_atom rec p f l n h g)
     core_comes (is_become {p = p} {l = l} {n = n} {ts = ts} {x = x} w d e c i) b y =
         from_atom p l n (leaf (tr.verbatim ts)) (become_atom rec k complete p l n ts x w (full rec k complete plain (drop 1 l) n x (omega (arith, word_less l w)) d e c) i)
-    core_comes (is_attributed_verbatim a more fs v d i j) b y = absurd cc
-    core_comes (is_attributed_by v f d) b y = absurd cc
-    core_comes (is_infixed d c f i t g r e q a) b y = absurd cc
-    core_comes (is_postfixed d c f i t v g a) b y = absurd cc
     core_comes (is_paren {p = p} {i = i} {n = n} {x = x} d e c) b y = from_atom p (group del.Parenthesis i ∷ n) n (paren false x) (paren_atom rec k complete p i n x b d e c)
     core_comes (is_prefixed {p = p} {l = l} {m = m} {n = n} {k = f} {x = x} h g d e c) b y =
         let u = left_less here.prefixes f l m h in
         from_atom p l n (prefixed f none x) (prefix_atom rec k complete p f l m n x h g (full rec k complete (prefix_place p f) m n x (omega (arith, u.less)) d e c))
     core_comes (is_tail {p = p} {l = l} {m = m} {h = h} {n = n} {b = v} {x = x} {k = t} {is = is} {ks = ks} d f a c i) b y =
-        let w = base_is p t v f in
+        let u = fits_there t d f a c in
+        let w = base_is p t v u in
         let r = core_comes d b (base_plain d w.carrying w.bare w.no_pound) in
         let g = node_less d in
         let z = tail_less t m h n is ks a c (content_left c) in
-        let o = tail_next rec p t v m h n is ks f a c (content_read rec k complete (trailer_holder t) h n ks c (omega (arith, g.less, tail_falls (trailer_left t m is h a)))) in
+        let o = tail_next rec p t v m h n is ks u a c (content_read rec k complete (trailer_holder t) h n ks c (omega (arith, g.less, tail_falls (trailer_left t m is h a)))) in
         subst (λ u. Trails p l (tail u t ks) n) (sym i) (on r.turns p l m n v (tail (fields_of v is) t ks) r.few r.came r.started o.opened o.reading z.less)
     core_comes (is_indexed {p = p} {l = l} {m = m} {n = n} {b = v} {x = x} {i = i} {is = is} d f a j) b y =
-        let w = base_is p (tr.field (an_index i)) v f in
+        let u = fits_index p i v f in
+        let w = base_is p (tr.field (an_index i)) v u in
         let r = core_comes d b (base_plain d w.carrying w.bare w.no_pound) in
-        let o = index_next rec p v m n i is f a in
+        let o = index_next rec p v m n i is u a in
         let z = fields_less m (i ∷ is) n a in
         subst (λ u. Trails p l u n) (sym j) (on r.turns p l m n v (fields_of v (i ∷ is)) r.few r.came r.started o.opened o.reading z.less)
     core_comes (is_frame {p = p} {l = l} {h = h} {n = n} {k = f} {ks = ks} a c g e) b y = from_atom p l n (frame f ks) (frame_atom rec k complete p f l h n ks a c b g e)
+    core_comes _ b y = absurd cc
 
     plain_operand : {p : Place} {l n : List Tok} {x : Tree} (d : Node p l x n) → weight l ≤ k → is_plain d ≡ true → closes p x n ≡ true → operand rec p l ≡ Some (x, n)
     plain_operand {p} {l} {n} {x} d b y c = let t = core_comes d b y in bare_operand p l (Some (x, n)) t.started (core_read p l n x t c)
@@ -216,13 +211,7 @@ module _ (rec : Place → Reading Tree) where
         behind_attributes p l m n (a ∷ more) x (Some (attributed a more x, n)) (pound_there a more l m v) v (core_read p m n x t (bare_closes p a more x n f c)) (tree_attributed p l m n x a more f)
     operand_comes (is_infixed d c f i t g r e q a) b y v = absurd cc
     operand_comes (is_postfixed d c f i t v g a) b y w = absurd cc
-    operand_comes (is_leaf h g) b y c = plain_operand (is_leaf h g) b refl c
-    operand_comes (is_become w d e v i) b y c = plain_operand (is_become w d e v i) b refl c
-    operand_comes (is_paren d e v) b y c = plain_operand (is_paren d e v) b refl c
-    operand_comes (is_prefixed h g d e v) b y c = plain_operand (is_prefixed h g d e v) b refl c
-    operand_comes (is_tail d f a v i) b y c = plain_operand (is_tail d f a v i) b refl c
-    operand_comes (is_indexed d f a j) b y c = plain_operand (is_indexed d f a j) b refl c
-    operand_comes (is_frame a v g e) b y c = plain_operand (is_frame a v g e) b refl c
+    operand_comes u b y c = plain_operand u b refl c
 
   -- ---- operations
 
@@ -254,11 +243,9 @@ module _ (rec : Place → Reading Tree) where
 
   longer_infix : (p : Place) (x y : Tree) (m n : List Tok) (op : Infix) → infix_stands p op m ≡ true → rec (at p (level op)) m ≡ Some (y, n) → ends_operation op n ≡ true → longer rec p x op m ≡ Some (infixed x op y, n)
   unfolding longer infix_stands
-  longer_infix p x y m n (inf.Binary op) g r a = infix_reads p x y m n (inf.Binary op) g r a
-  longer_infix p x y m n inf.Assign g r a = infix_reads p x y m n inf.Assign g r a
-  longer_infix p x y m n (inf.Range limits.Closed) g r a = infix_reads p x y m n (inf.Range limits.Closed) g r a
   longer_infix p x y m n (inf.Range limits.HalfOpen) g r a = rw (not_true _ g, r, a) refl
   longer_infix p x y m n inf.Cast g r a = absurd cc
+  longer_infix p x y m n d g r a = infix_reads p x y m n d g r a
 
   postfix_reads : (p : Place) (x : Tree) (q : Postfix) (n : List Tok) → postfix_stands p q n ≡ true → ends_operation (postfix_op q) n ≡ true → postfix_made rec p x q n ≡ Some (postfixed x q, n)
   postfix_reads p x q n g a = rw (g, a) refl

@@ -1,4 +1,4 @@
--- No struct expression stands in a condition; and which expressions need a comma or a semicolon behind them.
+-- No struct expression is in a condition; and which expressions need a comma or a semicolon after them.
 use Rattle.std.specs.Prelude.{not, ◌||◌, ◌&&◌}
 use Rattle.std.proofs.Common.{◌≡◌, ℕ, Bool, true, false, List, [], ◌∷◌, Some, refl, ◌∙◌, ap, subst}
 use Rattle.syn_tokens.specs.Tok.{Tok}
@@ -7,7 +7,7 @@ use Rattle.syn_grammar.specs.declared.kinds.Place.{Place}
 use Rattle.syn_grammar.specs.Tree as e
 use Rattle.syn_grammar.specs.Tree.{Tree, Children, Frame, Piece, leaf, paren, attributed, prefixed, infixed, postfixed, tail, frame, none, is_block_like}
 use Rattle.syn_grammar.specs.Slot.{Slot, Holder, piece_place}
-use Rattle.syn_grammar.specs.Stands.{Node, Content, Operands, is_leaf, is_become, is_attributed_verbatim, is_paren, is_attributed_by, is_prefixed, is_infixed, is_postfixed, is_tail, is_indexed, is_frame, holds_none, holds_within, holds_bare, no_more, one_more, short, block, arms_inside, fields_of, short_value, path_of, frame_stands}
+use Rattle.syn_grammar.specs.Stands.{Node, Content, Operands, is_leaf, is_paren, is_attributed_by, is_prefixed, is_infixed, is_postfixed, is_tail, is_indexed, is_frame, holds_none, holds_within, holds_bare, no_more, one_more, short, block, arms_inside, fields_of, short_value, path_of, frame_stands}
 use Rattle.syn_grammar.specs.Binding.{is_structure, has_no_structure, conditions_hold, keeps_conditions, ConditionsHaveNoStructures, is_braced_macro, CommaTestsDiffer}
 use Rattle.syn_grammar.proofs.Flat.{both}
 use Rattle.syn_grammar.proofs.Bindings.{at_nodes, indexed_holds}
@@ -26,11 +26,7 @@ no_frame p _ ks c s = refl
 
 bare_of : {p : Place} {l n : List Tok} {x : Tree} → p.condition ≡ true → Node p l x n → has_no_structure x ≡ true
 bare_of c (is_leaf g s) = refl
-bare_of c (is_become w d s t q) = refl
-bare_of c (is_attributed_verbatim a more fs g d q r) = refl
-bare_of c (is_paren d s t) = refl
 bare_of c (is_attributed_by g u d) = bare_of c d
-bare_of c (is_prefixed {k = e.jump j} g h d s t) = refl
 bare_of c (is_prefixed {k = e.unary op} g h d s t) = bare_of c d
 bare_of c (is_prefixed {k = e.reference m} g h d s t) = bare_of c d
 bare_of c (is_prefixed {k = e.raw_addr m} g h d s t) = bare_of c d
@@ -42,6 +38,7 @@ bare_of c (is_postfixed d t g i j k s o) = bare_of c d
 bare_of c (is_tail {b = b} {x = u} {is = is} d g t o q) = of_fields b u is q (bare_of c d)
 bare_of c (is_indexed {b = b} {x = x} {i = i} {is = is} d g t q) = of_fields b x (i ∷ is) q (bare_of c d)
 bare_of c (is_frame {p = p} {k = k} {ks = ks} g o s e) = no_frame p k ks c s
+bare_of c _ = refl
 
 or_true : (b : Bool) → (b || true) ≡ true
 or_true true = refl
@@ -49,8 +46,6 @@ or_true false = refl
 
 short_bare : (k : Piece) (x : Tree) → short_value k ≡ Some x → has_no_structure x ≡ true
 short_bare (e.field_value ats (a_name w) false) x v = let q : path_of w ≡ x = cc in subst (λ u. has_no_structure u ≡ true) q refl
-short_bare (e.field_value ats (a_name w) true) x v = cc
-short_bare (e.field_value ats (an_index i) b) x v = cc
 short_bare _ x v = cc
 
 where_condition : (b : Bool) (h : Bool) → (b ≡ true → h ≡ true) → (not b || h) ≡ true
@@ -73,16 +68,9 @@ in_content (holds_bare d) = in_operands d
 
 condition_node : (p : Place) (l n : List Tok) (x : Tree) → Node p l x n → keeps_conditions x ≡ true
 condition_node p l n x (is_leaf g s) = refl
-condition_node p l n x (is_become w d s c q) = refl
-condition_node p l n x (is_attributed_verbatim a more fs g d q r) = refl
-condition_node p l n x (is_paren d s c) = refl
-condition_node p l n x (is_attributed_by g u d) = refl
-condition_node p l n x (is_prefixed g j d s c) = refl
-condition_node p l n x (is_infixed d c g i t j r s q o) = refl
-condition_node p l n x (is_postfixed d c g i t j s o) = refl
-condition_node p l n x (is_tail d g t c q) = refl
 condition_node p l n x (is_indexed {b = b} {i = i} {is = is} d g t q) = indexed_holds keeps_conditions (λ c j w. refl) p b x i is g q
 condition_node p l n x (is_frame g c s e) = in_content c
+condition_node p l n x _ = refl
 
 pub conditions_have_no_structures : ConditionsHaveNoStructures
 conditions_have_no_structures = record {
@@ -98,12 +86,8 @@ braced_is_no_block : (t : Tree) → is_braced_macro t ≡ true → not (is_block
 braced_is_no_block (leaf (e.mac m)) h = refl
 braced_is_no_block (leaf _) h = cc
 braced_is_no_block (attributed a more t) h = braced_is_no_block t h
-braced_is_no_block (paren m t) h = refl
-braced_is_no_block (prefixed k gs t) h = refl
-braced_is_no_block (infixed x k y) h = refl
-braced_is_no_block (postfixed x k) h = refl
-braced_is_no_block (tail b k ks) h = refl
 braced_is_no_block (frame k ks) h = cc
+braced_is_no_block _ h = refl
 
 pub comma_tests_differ : CommaTestsDiffer
 comma_tests_differ = record {

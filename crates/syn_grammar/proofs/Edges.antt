@@ -1,5 +1,5 @@
 -- What the ends of a tree have in common with those of the printed tree.
-use Rattle.std.proofs.Common.{◌≡◌, Bool, true, false, not, ◌&&◌, ◌||◌, Some, None, refl, sym, ◌∙◌}
+use Rattle.std.proofs.Common.{◌≡◌, Bool, true, false, not, ◌&&◌, ◌||◌, None, refl, sym, ◌∙◌}
 use Rattle.std.specs.Prelude.{if◌then◌else◌}
 use Rattle.std.proofs.Math.Bool.{and-false}
 use Rattle.syn_grammar.specs.declared.kinds.BinKind.{BinKind}
@@ -25,33 +25,18 @@ use Rattle.syn_grammar.proofs.Obeys.{begins_label}
 
 pub infix_bare : (c : Context) (t : Tree) → is_infix (bare c t) ≡ is_infix t
 infix_bare c (leaf k) = refl
-infix_bare c (paren m t) = refl
-infix_bare c (attributed a more t) = refl
-infix_bare c (prefixed k gs t) = refl
-infix_bare c (infixed x k y) = refl
-infix_bare c (postfixed x k) = refl
-infix_bare c (tail b k ks) = refl
-infix_bare c (frame k ks) = refl
+infix_bare c _ = refl
 
 pub compares_bare : (c : Context) (t : Tree) → compares (bare c t) ≡ compares t
 compares_bare c (leaf k) = refl
-compares_bare c (paren m t) = refl
-compares_bare c (attributed a more t) = refl
-compares_bare c (prefixed k gs t) = refl
-compares_bare c (infixed x k y) = refl
-compares_bare c (postfixed x k) = refl
-compares_bare c (tail b k ks) = refl
-compares_bare c (frame k ks) = refl
+compares_bare c _ = refl
 
 prints_is : (t : Tree) → is_range t ≡ false → prints_range t ≡ false
-prints_is (leaf k) h = h
 prints_is (paren m t) h = refl
 prints_is (attributed a more t) h = refl
-prints_is (prefixed k gs t) h = h
-prints_is (infixed x k y) h = h
-prints_is (postfixed x k) h = h
 prints_is (tail b k ks) h = refl
 prints_is (frame k ks) h = refl
+prints_is _ h = h
 
 put_range : (c : Context) (t : Tree) (w : Bool) → is_operation t ≡ w → is_range (bare c t) ≡ prints_range t → is_range (put w (bare enclosed t) (bare c t)) ≡ false
 put_range c t true h e = refl
@@ -59,39 +44,22 @@ put_range c t false h e = e ∙ (or_false _ _ h).1
 
 pub range_bare : (c : Context) (t : Tree) → is_range (bare c t) ≡ prints_range t
 range_bare c (leaf k) = refl
-range_bare c (paren m t) = refl
 range_bare c (attributed a more t) = put_range (attributed_context c) t _ refl (range_bare (attributed_context c) t)
-range_bare c (prefixed k gs t) = refl
-range_bare c (infixed x k y) = refl
-range_bare c (postfixed x k) = refl
-range_bare c (tail b k ks) = refl
-range_bare c (frame k ks) = refl
+range_bare c _ = refl
 
 pub operation_bare : (c : Context) (t : Tree) → is_operation t ≡ false → is_operation (bare c t) ≡ false
 operation_bare c t h = let p = or_false _ _ h in neither _ _ (infix_bare c t ∙ p.0) (prints_is (bare c t) (range_bare c t ∙ p.1))
 
 pub cast_bare : (c : Context) (t : Tree) → is_cast (bare c t) ≡ is_cast t
 cast_bare c (leaf k) = refl
-cast_bare c (paren m t) = refl
-cast_bare c (attributed a more t) = refl
-cast_bare c (prefixed k gs t) = refl
-cast_bare c (infixed x k y) = refl
-cast_bare c (postfixed x (e.cast ty)) = refl
-cast_bare c (postfixed x (e.range_from op)) = refl
-cast_bare c (tail b k ks) = refl
-cast_bare c (frame k ks) = refl
+cast_bare c _ = refl
 
 pub not_cast : (t : Tree) → is_operation t ≡ false → is_cast t ≡ false
 not_cast (leaf k) h = refl
-not_cast (paren m t) h = refl
-not_cast (attributed a more t) h = refl
-not_cast (prefixed k gs t) h = refl
-not_cast (infixed x k y) h = refl
 not_cast (postfixed x k) h = absurd cc
-not_cast (tail b k ks) h = refl
-not_cast (frame k ks) h = refl
+not_cast _ h = refl
 
--- a trailer behind it would belong to it, or is refused there
+-- a trailer after it would belong to it, or is refused there
 abbrev pub takes_trailers : Tree → Bool
 takes_trailers t = carries t || is_cast t
 
@@ -105,29 +73,13 @@ put_carrier c t false h e = or_none _ ∙ sym (carries_unless (bare c t) (cast_b
 
 pub carrier_bare : (c : Context) (t : Tree) → takes_trailers (bare c t) ≡ prints_carrier t
 carrier_bare c (leaf k) = refl
-carrier_bare c (paren m t) = refl
 carrier_bare c (attributed a more t) = put_carrier (attributed_context c) t (is_operation t) refl (carrier_bare (attributed_context c) t)
-carrier_bare c (prefixed k gs t) = refl
-carrier_bare c (infixed x k y) = refl
-carrier_bare c (postfixed x (e.cast ty)) = refl
-carrier_bare c (postfixed x (e.range_from op)) = refl
-carrier_bare c (tail b k ks) = refl
-carrier_bare c (frame k ks) = refl
+carrier_bare c _ = refl
 
 pub base_bare : (k : Trailer) (c : Context) (b : Tree) → is_base k (bare c b) ≡ is_base k b
-base_bare k c (leaf j) = refl
-base_bare k c (paren m t) = refl
 base_bare k c (attributed a more t) = and-false _ ∙ sym (and-false _)
-base_bare k c (prefixed j gs t) = refl
-base_bare k c (infixed x j y) = refl
-base_bare k c (postfixed x j) = refl
 base_bare k c (tail b (e.field m) ks) = refl
-base_bare k c (tail b e.call ks) = refl
-base_bare k c (tail b e.index ks) = refl
-base_bare k c (tail b (e.method w a) ks) = refl
-base_bare k c (tail b e.await ks) = refl
-base_bare k c (tail b e.try_expr ks) = refl
-base_bare k c (frame j ks) = refl
+base_bare k c _ = refl
 
 pub base_paren : (k : Trailer) (m : Bool) (t : Tree) → is_base k (paren m t) ≡ true
 base_paren k m t = rw (and-false (is_call k)) refl
@@ -144,9 +96,6 @@ and_later false b h e = h
 
 pub label_bare : (c : Context) (t : Tree) → labelled t ≡ false → begins_label (bare c t) ≡ false
 label_bare c (leaf k) h = h
-label_bare c (paren m t) h = refl
-label_bare c (attributed a more t) h = refl
-label_bare c (prefixed k gs t) h = refl
 label_bare c (infixed x k y) h =
     label_put (left_asks k (left_context k c) x) (bare enclosed x) (bare (left_context k c) x)
     (λ w. label_bare (left_context k c) x (and_later _ _ h (or_false _ _ w).0))
@@ -157,76 +106,35 @@ label_bare c (tail b k ks) h =
     label_put (base_asks k (base_context k c) b) (bare enclosed b) (bare (base_context k c) b)
     (λ w. label_bare (base_context k c) b (and_later _ _ h (or_false _ _ w).0))
 label_bare c (frame k ks) h = h
+label_bare c _ h = refl
 
--- ---- nothing behind
+-- ---- nothing after
 
 pub prefix_next_is : (k : Prefix) (c : Context) → (prefix_context k c).next ≡ prefix_next k c.next
 prefix_next_is (e.unary op) c = refl
-prefix_next_is (e.reference m) c = refl
-prefix_next_is (e.raw_addr m) c = refl
-prefix_next_is (e.range_to op) c = refl
-prefix_next_is (e.let_expr p) c = refl
-prefix_next_is (e.jump j) c = refl
-prefix_next_is (e.closure h) c = refl
+prefix_next_is _ c = refl
 
 prefix_end : (k : Prefix) → prefix_next k next.End ≡ next.End
 prefix_end (e.unary op) = refl
-prefix_end (e.reference m) = refl
-prefix_end (e.raw_addr m) = refl
-prefix_end (e.range_to op) = refl
-prefix_end (e.let_expr p) = refl
-prefix_end (e.jump j) = refl
-prefix_end (e.closure h) = refl
+prefix_end _ = refl
 
 ends_end : (v : Level) (t : Tree) (n : Next) (w : Bool) → n ≡ next.End → ends_badly v t n w ≡ false
 ends_end v t n w h = rw h refl
 
 pub bad_end : (t : Tree) → bad t next.End ≡ false
 bad_end (leaf k) = refl
-bad_end (paren m t) = refl
 bad_end (attributed a more t) = rw (bad_end t) (and-false (not (is_operation t)))
 bad_end (prefixed k gs t) = ends_end (prefix_level k) t _ _ (prefix_end k)
-bad_end (infixed x k y) = refl
-bad_end (postfixed x k) = refl
-bad_end (tail b k ks) = refl
-bad_end (frame k ks) = refl
+bad_end _ = refl
 
 binary_some : (k : BinKind) → takes lev.Jump (level (inf.Binary k)) ≡ true
 binary_some bin.Add = refl
-binary_some bin.Sub = refl
-binary_some bin.Mul = refl
-binary_some bin.Div = refl
-binary_some bin.Rem = refl
-binary_some bin.And = refl
-binary_some bin.Or = refl
-binary_some bin.BitXor = refl
-binary_some bin.BitAnd = refl
-binary_some bin.BitOr = refl
-binary_some bin.Shl = refl
-binary_some bin.Shr = refl
-binary_some bin.Eq = refl
-binary_some bin.Lt = refl
-binary_some bin.Le = refl
-binary_some bin.Ne = refl
-binary_some bin.Ge = refl
-binary_some bin.Gt = refl
-binary_some bin.AddAssign = refl
-binary_some bin.SubAssign = refl
-binary_some bin.MulAssign = refl
-binary_some bin.DivAssign = refl
-binary_some bin.RemAssign = refl
-binary_some bin.BitXorAssign = refl
-binary_some bin.BitAndAssign = refl
-binary_some bin.BitOrAssign = refl
-binary_some bin.ShlAssign = refl
-binary_some bin.ShrAssign = refl
+binary_some _ = refl
 
 -- a place of its own takes each operator
 pub takes_each : (k : Infix) → takes lev.Jump (level k) ≡ true
 takes_each (inf.Binary k) = binary_some k
-takes_each inf.Assign = refl
-takes_each (inf.Range op) = refl
-takes_each inf.Cast = refl
+takes_each _ = refl
 
 low_left : (w : Bool) (a b : Level) → takes lev.Jump a ≡ true → takes lev.Jump b ≡ true → takes lev.Jump (lower a (if w then lev.Unambiguous else b)) ≡ true
 low_left true a b p q = lower_takes lev.Jump a lev.Unambiguous p refl
@@ -234,76 +142,37 @@ low_left false a b p q = lower_takes lev.Jump a b p q
 
 pub low_some : (t : Tree) → takes lev.Jump (low t) ≡ true
 low_some (leaf k) = refl
-low_some (paren m t) = refl
-low_some (attributed a more t) = refl
-low_some (prefixed k gs t) = refl
 low_some (infixed x k y) = low_left (left_wrapped k x (bad x (class_of k))) (level k) (low x) (takes_each k) (low_some x)
 low_some (postfixed x k) = low_left (left_wrapped (postfix_op k) x (bad x (class_of (postfix_op k)))) (level (postfix_op k)) (low x) (takes_each (postfix_op k)) (low_some x)
-low_some (tail b k ks) = refl
-low_some (frame k ks) = refl
+low_some _ = refl
 
 -- only an infix node has an operator on its left edge
 pub low_closed : (t : Tree) → is_infix t ≡ false → low t ≡ lev.Unambiguous
 low_closed (leaf k) h = refl
-low_closed (paren m t) h = refl
-low_closed (attributed a more t) h = refl
-low_closed (prefixed k gs t) h = refl
 low_closed (infixed x k y) h = absurd cc
 low_closed (postfixed x k) h = absurd cc
-low_closed (tail b k ks) h = refl
-low_closed (frame k ks) h = refl
+low_closed _ h = refl
 
 pub carrier_closed : (t : Tree) → carries t ≡ true → is_infix t ≡ false
 carrier_closed (leaf k) h = refl
-carrier_closed (paren m t) h = refl
-carrier_closed (attributed a more t) h = refl
-carrier_closed (prefixed k gs t) h = refl
 carrier_closed (infixed x k y) h = absurd cc
 carrier_closed (postfixed x k) h = absurd cc
-carrier_closed (tail b k ks) h = refl
-carrier_closed (frame k ks) h = refl
+carrier_closed _ h = refl
 
 -- ---- what is put in parentheses for what it is itself
 
 leaf_enclosed : (k : Leaf) → leaf_refuses k next.End || leaf_misplaced enclosed k ≡ false
-leaf_enclosed (e.lit x) = refl
-leaf_enclosed (e.path q p) = refl
-leaf_enclosed (e.mac m) = refl
-leaf_enclosed e.infer = refl
-leaf_enclosed (e.full_range op) = refl
 leaf_enclosed (e.bare_jump e.returning) = refl
-leaf_enclosed (e.bare_jump e.yielding) = refl
-leaf_enclosed (e.bare_jump (e.breaking w)) = refl
-leaf_enclosed (e.continuing w) = refl
 leaf_enclosed (e.block None b) = refl
-leaf_enclosed (e.block (Some w) b) = refl
-leaf_enclosed (e.loop_expr w b) = refl
-leaf_enclosed (e.unsafe_block b) = refl
-leaf_enclosed (e.const_block b) = refl
-leaf_enclosed (e.async_block m ts) = refl
-leaf_enclosed (e.try_block ts) = refl
-leaf_enclosed (e.verbatim ts) = refl
+leaf_enclosed _ = refl
 
 frame_enclosed : (k : Frame) → frame_misplaced enclosed k ≡ false
 frame_enclosed e.array = refl
-frame_enclosed e.tuple = refl
-frame_enclosed e.repeat = refl
-frame_enclosed (e.structure q p d) = refl
-frame_enclosed (e.closure_block h) = refl
-frame_enclosed e.if_expr = refl
-frame_enclosed (e.while_loop w) = refl
-frame_enclosed (e.for_loop w p) = refl
-frame_enclosed e.match_expr = refl
-frame_enclosed e.group_expr = refl
+frame_enclosed _ = refl
 
 prefix_enclosed : (k : Prefix) → prefix_misplaced enclosed k ≡ false
 prefix_enclosed (e.unary op) = refl
-prefix_enclosed (e.reference m) = refl
-prefix_enclosed (e.raw_addr m) = refl
-prefix_enclosed (e.range_to op) = refl
-prefix_enclosed (e.let_expr p) = refl
-prefix_enclosed (e.jump j) = refl
-prefix_enclosed (e.closure h) = refl
+prefix_enclosed _ = refl
 
 refuses_end : (k : Postfix) → postfix_refuses k next.End ≡ false
 refuses_end (e.cast x) = refl
@@ -315,13 +184,11 @@ either false a b h = h
 
 pub self_enclosed : (t : Tree) → self_wrapped enclosed t ≡ false
 self_enclosed (leaf k) = leaf_enclosed k
-self_enclosed (paren m t) = refl
 self_enclosed (attributed a more t) = either (is_operation t) _ _ (self_enclosed t)
 self_enclosed (prefixed k gs t) = prefix_enclosed k
-self_enclosed (infixed x k y) = refl
 self_enclosed (postfixed x k) = or_none _ ∙ refuses_end k
-self_enclosed (tail b k ks) = refl
 self_enclosed (frame k ks) = frame_enclosed k
+self_enclosed _ = refl
 
 -- what is put in parentheses for its place
 pub record IsMisplaced (t : Tree) : Type 0 where
@@ -330,19 +197,8 @@ pub record IsMisplaced (t : Tree) : Type 0 where
 
 misplaced_leaf : (c : Context) (k : Leaf) → leaf_misplaced c k ≡ true → is_range_leaf k ≡ false
 misplaced_leaf c (e.lit x) h = refl
-misplaced_leaf c (e.path q p) h = refl
-misplaced_leaf c (e.mac m) h = refl
-misplaced_leaf c e.infer h = refl
 misplaced_leaf c (e.full_range op) h = absurd (let g : true ≡ false = sym h ∙ and-false _ in cc)
-misplaced_leaf c (e.bare_jump j) h = refl
-misplaced_leaf c (e.continuing w) h = refl
-misplaced_leaf c (e.block w b) h = refl
-misplaced_leaf c (e.loop_expr w b) h = refl
-misplaced_leaf c (e.unsafe_block b) h = refl
-misplaced_leaf c (e.const_block b) h = refl
-misplaced_leaf c (e.async_block m ts) h = refl
-misplaced_leaf c (e.try_block ts) h = refl
-misplaced_leaf c (e.verbatim ts) h = refl
+misplaced_leaf c _ h = refl
 
 pub misplaced_kind : (c : Context) (t : Tree) → misplaced c t ≡ true → IsMisplaced t
 misplaced_kind c (leaf k) h = let r = misplaced_leaf c k h in record { no_range = r; carrier = rw r refl }
@@ -352,13 +208,5 @@ misplaced_kind c (attributed a more t) h =
     let q = misplaced_kind (attributed_context c) t p.1 in
     record { no_range = refl; carrier = rw q.carrier (or_true (is_operation t)) }
 misplaced_kind c (prefixed (e.let_expr p) gs t) h = record { no_range = refl; carrier = refl }
-misplaced_kind c (prefixed (e.unary op) gs t) h = absurd cc
-misplaced_kind c (prefixed (e.reference m) gs t) h = absurd cc
-misplaced_kind c (prefixed (e.raw_addr m) gs t) h = absurd cc
-misplaced_kind c (prefixed (e.range_to op) gs t) h = absurd cc
-misplaced_kind c (prefixed (e.jump j) gs t) h = absurd cc
-misplaced_kind c (prefixed (e.closure k) gs t) h = absurd cc
-misplaced_kind c (infixed x k y) h = absurd cc
-misplaced_kind c (postfixed x k) h = absurd cc
-misplaced_kind c (tail b k ks) h = absurd cc
 misplaced_kind c (frame k ks) h = record { no_range = refl; carrier = refl }
+misplaced_kind c _ h = absurd cc

@@ -5,12 +5,33 @@ use Rattle.syn_grammar.specs.declared.kinds.Place.{Place}
 use Rattle.syn_grammar.specs.Tree.{Tree}
 use Rattle.syn_grammar.specs.Stands.{Stands}
 use Rattle.syn_grammar.specs.Read.{bounded, expr}
-use Rattle.syn_grammar.specs.Exact.{ReadingIsExact, OneTree}
+use Rattle.syn_parts.specs.Form.{Form}
+use Rattle.syn_parts.specs.Laws.{IsReadable, IsExact}
+use Rattle.syn_grammar.specs.Exact.{HeadsAreExact, ReadingIsExact, OneTree}
 use Rattle.syn_grammar.proofs.Chains.{some_is}
+use Rattle.syn_grammar.proofs.Heads.{heads_readable}
 use Rattle.syn_grammar.proofs.Needs.{heads}
 use Rattle.syn_grammar.proofs.Lesses.{node_less}
 use Rattle.syn_grammar.proofs.SoundTurns.{at_place_sound}
 use Rattle.syn_grammar.proofs.Complete.{at_place_complete}
+
+readable_exact : {A : Type 0} {k : ℕ} {f : Form A} → IsReadable k f → IsExact f
+readable_exact r l x rest = ((λ h. r.stands l rest x h), (λ h. r.found l rest x h))
+
+pub heads_exact : HeadsAreExact
+heads_exact = record {
+  leaves = readable_exact heads_readable.leaves;
+  prefixes = readable_exact heads_readable.prefixes;
+  trailers = readable_exact heads_readable.trailers;
+  pieces = λ s. readable_exact (heads_readable.pieces s);
+  paths = λ b. readable_exact (heads_readable.expr_paths b);
+  closure_heads = readable_exact heads_readable.closure_heads;
+  for_heads = readable_exact heads_readable.for_heads;
+  labels = readable_exact heads_readable.labels;
+  jumps = readable_exact heads_readable.jumps;
+  ranges = readable_exact heads_readable.ranges;
+  bodies = readable_exact heads_readable.bodies;
+}
 
 bounded_sound : (k : ℕ) (p : Place) (l : List Tok) (x : Tree) (n : List Tok) → bounded k p l ≡ Some (x, n) → Stands p l x n
 unfolding bounded

@@ -1,7 +1,7 @@
--- The fill-ins: what they leave as it is, and what is there behind them.
+-- The fill-ins: what they leave as it is, and what is there after them.
 use Rattle.std.specs.Prelude.{not, ◌&&◌}
 use Rattle.std.proofs.Common.{◌≡◌, Bool, true, false, refl, sym, ◌∙◌, ap}
-use Rattle.syn_parts.specs.Pat.{MemberTree, a_name, an_index}
+use Rattle.syn_parts.specs.Pat.{MemberTree, a_name}
 use Rattle.syn_grammar.specs.Tree as e
 use Rattle.syn_grammar.specs.Tree.{Tree, Children, Frame, Piece, Ending, leaf, paren, attributed, prefixed, infixed, postfixed, tail, frame, none, child, is_none, is_one, is_block_like, needs_comma, needs_last_comma, with_comma, fill_piece, fill, fill_children, clear, clear_children}
 use Rattle.syn_grammar.specs.Slot.{Slot, fields, otherwise, outputs, after}
@@ -15,75 +15,32 @@ use Rattle.syn_grammar.proofs.Flat.{both, left_of, right_of}
 
 pub block_fill : (t : Tree) → is_block_like (fill t) ≡ is_block_like t
 block_fill (leaf k) = refl
-block_fill (paren m t) = refl
 block_fill (attributed a more t) = block_fill t
-block_fill (prefixed k gs t) = refl
-block_fill (infixed x k y) = refl
-block_fill (postfixed x k) = refl
-block_fill (tail b k ks) = refl
-block_fill (frame k ks) = refl
+block_fill _ = refl
 
 pub attributed_fill : (t : Tree) → is_attributed (fill t) ≡ is_attributed t
 attributed_fill (leaf k) = refl
-attributed_fill (paren m t) = refl
-attributed_fill (attributed a more t) = refl
-attributed_fill (prefixed k gs t) = refl
-attributed_fill (infixed x k y) = refl
-attributed_fill (postfixed x k) = refl
-attributed_fill (tail b k ks) = refl
-attributed_fill (frame k ks) = refl
+attributed_fill _ = refl
 
 pub if_expr_fill : (t : Tree) → is_if_expr (fill t) ≡ is_if_expr t
-if_expr_fill (leaf k) = refl
-if_expr_fill (paren m t) = refl
-if_expr_fill (attributed a more t) = refl
-if_expr_fill (prefixed k gs t) = refl
-if_expr_fill (infixed x k y) = refl
-if_expr_fill (postfixed x k) = refl
-if_expr_fill (tail b k ks) = refl
 if_expr_fill (frame e.if_expr ks) = refl
-if_expr_fill (frame _ ks) = refl
+if_expr_fill _ = refl
 
 pub verbatim_fill : (t : Tree) → is_verbatim_block (fill t) ≡ is_verbatim_block t
 verbatim_fill (leaf k) = refl
-verbatim_fill (paren m t) = refl
-verbatim_fill (attributed a more t) = refl
-verbatim_fill (prefixed k gs t) = refl
-verbatim_fill (infixed x k y) = refl
-verbatim_fill (postfixed x k) = refl
-verbatim_fill (tail b k ks) = refl
-verbatim_fill (frame k ks) = refl
+verbatim_fill _ = refl
 
 name_fill : (m : MemberTree) (t : Tree) → is_name_path m (fill t) ≡ is_name_path m t
 name_fill (a_name w) (leaf k) = refl
-name_fill (a_name w) (paren m t) = refl
-name_fill (a_name w) (attributed a more t) = refl
-name_fill (a_name w) (prefixed k gs t) = refl
-name_fill (a_name w) (infixed x k y) = refl
-name_fill (a_name w) (postfixed x k) = refl
-name_fill (a_name w) (tail b k ks) = refl
-name_fill (a_name w) (frame k ks) = refl
-name_fill (an_index n) t = refl
+name_fill _ _ = refl
 
 infix_fill : (t : Tree) → is_infix (fill t) ≡ is_infix t
 infix_fill (leaf k) = refl
-infix_fill (paren m t) = refl
-infix_fill (attributed a more t) = refl
-infix_fill (prefixed k gs t) = refl
-infix_fill (infixed x k y) = refl
-infix_fill (postfixed x k) = refl
-infix_fill (tail b k ks) = refl
-infix_fill (frame k ks) = refl
+infix_fill _ = refl
 
 range_fill : (t : Tree) → prints_range (fill t) ≡ prints_range t
 range_fill (leaf k) = refl
-range_fill (paren m t) = refl
-range_fill (attributed a more t) = refl
-range_fill (prefixed k gs t) = refl
-range_fill (infixed x k y) = refl
-range_fill (postfixed x k) = refl
-range_fill (tail b k ks) = refl
-range_fill (frame k ks) = refl
+range_fill _ = refl
 
 pub operation_fill : (t : Tree) → is_operation (fill t) ≡ is_operation t
 operation_fill t = let a = infix_fill t in let b = range_fill t in cc
@@ -106,7 +63,7 @@ rest_fill b none = refl
 rest_fill b (child (e.rest d) c t ks) = refl
 rest_fill b (child _ c t ks) = rest_fill b ks
 
--- ---- what is there behind them
+-- ---- what is there after them
 
 -- a needed comma is there
 abbrev pub comma_there : Piece → Ending → Tree → Bool → Bool → Bool
@@ -134,11 +91,8 @@ abbrev mutual
   children_filled last (child k c t ks) = (dots_there k && comma_there k c t (not (is_none ks)) last) && (filled t && children_filled last ks)
 
 needs_fill : (k : Piece) (t : Tree) (more last : Bool) → needs_comma (fill_piece k) (fill t) more last ≡ needs_comma k t more last
-needs_fill e.element t more last = refl
-needs_fill (e.field_value ats m colon) t more last = refl
 needs_fill e.guarded t more last = ap (λ b. more && not b) (block_fill t)
 needs_fill (e.arm ats p) t more last = ap (λ b. more && not b) (block_fill t)
-needs_fill (e.rest d) t more last = refl
 needs_fill _ t more last = refl
 
 dots_fill : (k : Piece) → dots_there (fill_piece k) ≡ true
@@ -246,12 +200,9 @@ piece_fill _ _ c d t = refl
 -- a comma that is filled in fits
 comma_fits : (k : Piece) (c : Ending) (b : Bool) → ending_fits k e.comma ≡ ending_fits k e.no_ending → ending_fits (fill_piece k) (with_comma b c) ≡ ending_fits (fill_piece k) c
 comma_fits k c false h = refl
-comma_fits e.element e.no_ending true h = refl
 comma_fits (e.rest d) e.no_ending true h = h
 comma_fits _ e.no_ending true h = h
-comma_fits k e.comma true h = refl
-comma_fits k (e.braced x) true h = refl
-comma_fits k (e.opened ats) true h = refl
+comma_fits _ _ _ h = refl
 
 rest_ending : (d : Bool) (c : Ending) → ending_fits (e.rest true) c ≡ ending_fits (e.rest d) c
 rest_ending d e.no_ending = refl
@@ -318,13 +269,8 @@ mutual
 
 pub block_clear : (t : Tree) → is_block_like (clear t) ≡ is_block_like t
 block_clear (leaf k) = refl
-block_clear (paren m t) = refl
 block_clear (attributed a more t) = block_clear t
-block_clear (prefixed k gs t) = refl
-block_clear (infixed x k y) = refl
-block_clear (postfixed x k) = refl
-block_clear (tail b k ks) = refl
-block_clear (frame k ks) = refl
+block_clear _ = refl
 
 none_clear : (ks : Children) → is_none (clear_children ks) ≡ is_none ks
 none_clear none = refl
@@ -340,8 +286,6 @@ last_clear (e.structure q p d) ks = refl
 last_clear _ ks = refl
 
 needs_clear : (k : Piece) (t : Tree) (more last : Bool) → needs_comma k (clear t) more last ≡ needs_comma k t more last
-needs_clear e.element t more last = refl
-needs_clear (e.field_value ats m colon) t more last = refl
 needs_clear e.guarded t more last = ap (λ b. more && not b) (block_clear t)
 needs_clear (e.arm ats p) t more last = ap (λ b. more && not b) (block_clear t)
 needs_clear _ t more last = refl

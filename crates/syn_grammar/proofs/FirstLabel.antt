@@ -1,5 +1,5 @@
 -- The first of the own tokens of a tree: whether they are a label.
-use Rattle.std.proofs.Common.{◌≡◌, ℕ, ◌||◌, ◌&&◌, ◌==◌, Bool, true, false, List, [], ◌∷◌, ◌++◌, Option, Some, None, refl, sym, ap, subst, ◌∙◌}
+use Rattle.std.proofs.Common.{◌≡◌, ℕ, ◌||◌, ◌&&◌, ◌==◌, Bool, true, false, List, [], ◌∷◌, ◌++◌, Option, None, refl, sym, ap, subst, ◌∙◌}
 use Rattle.std.specs.Prelude.{codes, if◌then◌else◌}
 use Rattle.syn_lexer.specs.declared.lexeme.Delimiter.TheVariants as del
 use Rattle.syn_lexer.specs.declared.lexeme.Spacing.TheVariants as spacing
@@ -79,78 +79,45 @@ unfolding lifetime_at
 lit_first kind.Bool text r = refl
 lit_first kind.Int text r = number_first text r
 lit_first kind.Float text r = number_first text r
-lit_first kind.Str text r = refl
-lit_first kind.ByteStr text r = refl
-lit_first kind.CStr text r = refl
-lit_first kind.Byte text r = refl
-lit_first kind.Char text r = refl
+lit_first _ _ r = refl
 
 leaf_first : (k : Leaf) (r : List Tok) → lifetime_at r ≡ false → lifetime_at (leaf_own k r) ≡ leaf_leads (is_word r) k
 unfolding lifetime_at lit_own
 leaf_first (e.lit x) r h = lit_first x.kind x.text r
 leaf_first (e.path q p) r h = path_first q p.leading (t.segments_of p.segments) p.trailing r h
 leaf_first (e.mac m) r h = macro_first m.path.leading (t.segments_of m.path.segments) m.path.trailing (enclosed m.delimiter m.tokens r)
-leaf_first e.infer r h = refl
 leaf_first (e.full_range limits.HalfOpen) r h = refl
-leaf_first (e.full_range limits.Closed) r h = refl
 leaf_first (e.bare_jump e.returning) r h = refl
-leaf_first (e.bare_jump e.yielding) r h = refl
-leaf_first (e.bare_jump (e.breaking w)) r h = refl
-leaf_first (e.continuing w) r h = refl
 leaf_first (e.block None b) r h = refl
-leaf_first (e.block (Some w) b) r h = refl
 leaf_first (e.loop_expr None b) r h = refl
-leaf_first (e.loop_expr (Some w) b) r h = refl
-leaf_first (e.unsafe_block b) r h = refl
-leaf_first (e.const_block b) r h = refl
-leaf_first (e.async_block m ts) r h = refl
-leaf_first (e.try_block ts) r h = refl
 leaf_first (e.verbatim ts) r h = verbatim_first ts r h
+leaf_first _ r h = refl
 
 closure_first : (f : Option LifetimesTree) (c s a m u : Bool) (r : List Tok)
     → lifetime_at (before_some f lifetimes_own (word_if c (codes "const") (word_if s (codes "static") (word_if a (codes "async") (word_if m (codes "move") (word_if u (codes "use") (vert_before r))))))) ≡ false
 unfolding lifetime_at lifetimes_own
-closure_first (Some p) c s a m u r = refl
-closure_first None true s a m u r = refl
-closure_first None false true a m u r = refl
-closure_first None false false true m u r = refl
-closure_first None false false false true u r = refl
 closure_first None false false false false true r = refl
-closure_first None false false false false false r = refl
+closure_first _ _ _ _ _ _ r = refl
 
 prefix_first : (k : Prefix) (r : List Tok) → lifetime_at (prefix_own k r) ≡ false
 unfolding lifetime_at
 prefix_first (e.unary un.Deref) r = refl
-prefix_first (e.unary un.Not) r = refl
-prefix_first (e.unary un.Neg) r = refl
-prefix_first (e.reference m) r = refl
-prefix_first (e.raw_addr m) r = refl
 prefix_first (e.range_to limits.HalfOpen) r = refl
-prefix_first (e.range_to limits.Closed) r = refl
-prefix_first (e.let_expr p) r = refl
 prefix_first (e.jump e.returning) r = refl
-prefix_first (e.jump e.yielding) r = refl
-prefix_first (e.jump (e.breaking w)) r = refl
 prefix_first (e.closure h) r = closure_first h.lifetimes h.constness h.movability h.asyncness h.capture h.usage _
+prefix_first _ r = refl
 
 frame_first : (k : Frame) (o r : List Tok) → lifetime_at (framed k (enclosure k) o r) ≡ frame_labelled k
 unfolding lifetime_at
-frame_first e.array o r = refl
-frame_first e.tuple o r = refl
-frame_first e.repeat o r = refl
 frame_first (e.structure q p d) o r =
     subst (λ l. lifetime_at l ≡ false) (type_append (t.path q p.leading (t.segments_of p.segments) p.trailing) (enclosed del.Brace o r))
     (path_first q p.leading (t.segments_of p.segments) p.trailing (enclosed del.Brace o r) refl)
 frame_first (e.closure_block h) o r = closure_first h.lifetimes h.constness h.movability h.asyncness h.capture h.usage _
-frame_first e.if_expr o r = refl
 frame_first (e.while_loop None) o r = refl
-frame_first (e.while_loop (Some w)) o r = refl
 frame_first (e.for_loop None p) o r = refl
-frame_first (e.for_loop (Some w) p) o r = refl
-frame_first e.match_expr o r = refl
-frame_first e.group_expr o r = refl
+frame_first _ o r = refl
 
--- what stands behind a left end is no label, and a word only where it is `as`
+-- what comes after a left end is no label, and a word only where it is `as`
 record Behind (r : List Tok) (word : Bool) : Type 0 where
   no_label : lifetime_at r ≡ false
   word_there : is_word r ≡ word
@@ -158,37 +125,8 @@ record Behind (r : List Tok) (word : Bool) : Type 0 where
 infix_behind : (k : Infix) (l : List Tok) → Behind (infix_own k l) (is_cast_op k)
 unfolding lifetime_at
 infix_behind (inf.Binary bin.Add) l = record { no_label = refl; word_there = refl }
-infix_behind (inf.Binary bin.Sub) l = record { no_label = refl; word_there = refl }
-infix_behind (inf.Binary bin.Mul) l = record { no_label = refl; word_there = refl }
-infix_behind (inf.Binary bin.Div) l = record { no_label = refl; word_there = refl }
-infix_behind (inf.Binary bin.Rem) l = record { no_label = refl; word_there = refl }
-infix_behind (inf.Binary bin.And) l = record { no_label = refl; word_there = refl }
-infix_behind (inf.Binary bin.Or) l = record { no_label = refl; word_there = refl }
-infix_behind (inf.Binary bin.BitXor) l = record { no_label = refl; word_there = refl }
-infix_behind (inf.Binary bin.BitAnd) l = record { no_label = refl; word_there = refl }
-infix_behind (inf.Binary bin.BitOr) l = record { no_label = refl; word_there = refl }
-infix_behind (inf.Binary bin.Shl) l = record { no_label = refl; word_there = refl }
-infix_behind (inf.Binary bin.Shr) l = record { no_label = refl; word_there = refl }
-infix_behind (inf.Binary bin.Eq) l = record { no_label = refl; word_there = refl }
-infix_behind (inf.Binary bin.Lt) l = record { no_label = refl; word_there = refl }
-infix_behind (inf.Binary bin.Le) l = record { no_label = refl; word_there = refl }
-infix_behind (inf.Binary bin.Ne) l = record { no_label = refl; word_there = refl }
-infix_behind (inf.Binary bin.Ge) l = record { no_label = refl; word_there = refl }
-infix_behind (inf.Binary bin.Gt) l = record { no_label = refl; word_there = refl }
-infix_behind (inf.Binary bin.AddAssign) l = record { no_label = refl; word_there = refl }
-infix_behind (inf.Binary bin.SubAssign) l = record { no_label = refl; word_there = refl }
-infix_behind (inf.Binary bin.MulAssign) l = record { no_label = refl; word_there = refl }
-infix_behind (inf.Binary bin.DivAssign) l = record { no_label = refl; word_there = refl }
-infix_behind (inf.Binary bin.RemAssign) l = record { no_label = refl; word_there = refl }
-infix_behind (inf.Binary bin.BitXorAssign) l = record { no_label = refl; word_there = refl }
-infix_behind (inf.Binary bin.BitAndAssign) l = record { no_label = refl; word_there = refl }
-infix_behind (inf.Binary bin.BitOrAssign) l = record { no_label = refl; word_there = refl }
-infix_behind (inf.Binary bin.ShlAssign) l = record { no_label = refl; word_there = refl }
-infix_behind (inf.Binary bin.ShrAssign) l = record { no_label = refl; word_there = refl }
-infix_behind inf.Assign l = record { no_label = refl; word_there = refl }
 infix_behind (inf.Range limits.HalfOpen) l = record { no_label = refl; word_there = refl }
-infix_behind (inf.Range limits.Closed) l = record { no_label = refl; word_there = refl }
-infix_behind inf.Cast l = record { no_label = refl; word_there = refl }
+infix_behind _ l = record { no_label = refl; word_there = refl }
 
 postfix_behind : (k : Postfix) (l : List Tok) → Behind (postfix_own k l) (is_cast_op (postfix_op k))
 postfix_behind (e.cast x) l = infix_behind inf.Cast (type_own x l)
@@ -197,11 +135,7 @@ postfix_behind (e.range_from op) l = infix_behind (inf.Range op) l
 trailer_behind : (k : Trailer) (i l : List Tok) → Behind (trailer_own k i l) false
 unfolding lifetime_at
 trailer_behind e.call i l = record { no_label = refl; word_there = refl }
-trailer_behind e.index i l = record { no_label = refl; word_there = refl }
-trailer_behind (e.method w a) i l = record { no_label = refl; word_there = refl }
-trailer_behind (e.field m) i l = record { no_label = refl; word_there = refl }
-trailer_behind e.await i l = record { no_label = refl; word_there = refl }
-trailer_behind e.try_expr i l = record { no_label = refl; word_there = refl }
+trailer_behind _ i l = record { no_label = refl; word_there = refl }
 
 attributes_first : (ats : List AttributeTree) (l : List Tok) (b : Bool) → lifetime_at l ≡ b → lifetime_at (attributes_own ats l) ≡ (is_nil ats && b)
 unfolding lifetime_at attribute_own

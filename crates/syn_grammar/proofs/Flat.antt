@@ -81,7 +81,7 @@ inner_flat ats (frame k ks) h = by (frame_has_braces k)
     by false = h
 inner_flat ats _ h = h
 
--- those that stand outside stay there, before more of that kind
+-- those that are outside stay there, before more of that kind
 outside_stands : (ats own : List AttributeTree) (t : Tree) → stand_before own t ≡ true → stand_before (outside t ats ++ own) t ≡ true
 outside_stands ats own t h = by (has_braces t) h
   where

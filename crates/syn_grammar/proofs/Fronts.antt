@@ -5,7 +5,7 @@ use Rattle.std.proofs.lemmas.Slice.Eq.{bytes_eq-Decides}
 use Rattle.std.specs.Str.{bytes_eq}
 use Rattle.syn_lexer.specs.declared.lexeme.Spacing.{Spacing}
 use Rattle.syn_lexer.specs.declared.lexeme.Spacing.TheVariants as spacing
-use Rattle.syn_tokens.specs.Tok.{Tok, ident, punct, literal, group}
+use Rattle.syn_tokens.specs.Tok.{Tok, ident, punct}
 use Rattle.syn_tokens.specs.Front.{group_at}
 use Rattle.syn_parts.specs.Text.{Text, is_truth}
 use Rattle.syn_parts.specs.Form.{Mark, then_by, then_behind, flag, maybe, is_none}
@@ -20,6 +20,16 @@ use Rattle.syn_grammar.specs.Head.{prefix_form, closure_head, closure_inputs, cl
 use Rattle.syn_grammar.specs.Read.{leaf_at, prefix_at}
 use Rattle.syn_grammar.proofs.Chains.{some_is, behind_some, only_some, chosen, both_true, one_true}
 
+-- what a front is asked, for a proof that computes it
+asked : Bool
+unfolding closure_at leaf_at literal_at word_at loop_at block_at lifetime_at brace_at group_at const_block_at async_block_at try_block_at builtin_at sign_at lifetimes_at is_truth prefix_form range_at jump_at
+asked = true
+
+-- what the front of a leaf is asked, for a proof that computes it
+leaf_asked : Bool
+unfolding leaf_at literal_at word_at loop_at block_at lifetime_at brace_at group_at const_block_at async_block_at try_block_at builtin_at sign_at is_truth
+leaf_asked = true
+
 pub word_is : (w : Text) (l : List Tok) → word_at w l ≡ true → l ≡ ident w ∷ drop 1 l
 unfolding word_at
 word_is w (ident v ∷ l) h = let (a, b) = both_true (not _) (bytes_eq v w) h in ap (λ z. ident z ∷ l) ((bytes_eq-Decides v w).0 b)
@@ -28,11 +38,8 @@ word_is w _ h = absurd cc
 pub no_lifetime : (c : ℕ) (s : Spacing) (m : List Tok) → (c == 39) ≡ false → lifetime_at (punct c s ∷ m) ≡ false
 unfolding lifetime_at
 no_lifetime c spacing.Alone m h = refl
-no_lifetime c spacing.Joint [] h = refl
 no_lifetime c spacing.Joint (ident w ∷ m) h = h
-no_lifetime c spacing.Joint (punct d t ∷ m) h = refl
-no_lifetime c spacing.Joint (literal w ∷ m) h = refl
-no_lifetime c spacing.Joint (group d i ∷ m) h = refl
+no_lifetime c _ _ h = refl
 
 pub sign_no_leaf : (c : ℕ) (s : Spacing) (m : List Tok) → (c == 39) ≡ false → leaf_at (punct c s ∷ m) ≡ false
 unfolding leaf_at literal_at word_at loop_at block_at brace_at group_at const_block_at async_block_at try_block_at builtin_at
@@ -91,35 +98,35 @@ record Begun (l : List Tok) : Type 0 where
   no_brace : brace_at l ≡ false
 
 begun_move : (l : List Tok) → Begun (ident (codes "move") ∷ l)
-unfolding closure_at leaf_at literal_at word_at loop_at block_at lifetime_at brace_at group_at const_block_at async_block_at try_block_at builtin_at sign_at lifetimes_at is_truth prefix_form range_at jump_at
+unfolding asked
 begun_move l = record { closed = record { at = refl; no_leaf = refl; closures = λ f. refl }; no_brace = refl }
 
 begun_use : (l : List Tok) → Begun (ident (codes "use") ∷ l)
-unfolding closure_at leaf_at literal_at word_at loop_at block_at lifetime_at brace_at group_at const_block_at async_block_at try_block_at builtin_at sign_at lifetimes_at is_truth prefix_form range_at jump_at
+unfolding asked
 begun_use l = record { closed = record { at = refl; no_leaf = refl; closures = λ f. refl }; no_brace = refl }
 
 begun_static : (l : List Tok) → Begun (ident (codes "static") ∷ l)
-unfolding closure_at leaf_at literal_at word_at loop_at block_at lifetime_at brace_at group_at const_block_at async_block_at try_block_at builtin_at sign_at lifetimes_at is_truth prefix_form range_at jump_at
+unfolding asked
 begun_static l = record { closed = record { at = refl; no_leaf = refl; closures = λ f. refl }; no_brace = refl }
 
 begun_bar : (s : Spacing) (l : List Tok) → Begun (punct 124 s ∷ l)
-unfolding closure_at leaf_at literal_at word_at loop_at block_at lifetime_at brace_at group_at const_block_at async_block_at try_block_at builtin_at sign_at lifetimes_at is_truth prefix_form range_at jump_at
+unfolding asked
 begun_bar spacing.Alone l = record { closed = record { at = refl; no_leaf = sign_no_leaf 124 spacing.Alone l refl; closures = λ f. refl }; no_brace = refl }
 begun_bar spacing.Joint l = record { closed = record { at = refl; no_leaf = sign_no_leaf 124 spacing.Joint l refl; closures = λ f. refl }; no_brace = refl }
 
--- behind `async`
+-- after `async`
 async_move : (l : List Tok) → bar.at l ≡ true → Begun (ident (codes "async") ∷ ident (codes "move") ∷ l)
-unfolding closure_at leaf_at literal_at word_at loop_at block_at lifetime_at brace_at group_at const_block_at async_block_at try_block_at builtin_at sign_at lifetimes_at is_truth prefix_form range_at jump_at
+unfolding asked
 async_move l g =
     let n = sign_no_brace 124 l g in
     record { closed = record { at = rw n refl; no_leaf = rw n refl; closures = λ f. refl }; no_brace = refl }
 
 async_use : (l : List Tok) → Begun (ident (codes "async") ∷ ident (codes "use") ∷ l)
-unfolding closure_at leaf_at literal_at word_at loop_at block_at lifetime_at brace_at group_at const_block_at async_block_at try_block_at builtin_at sign_at lifetimes_at is_truth prefix_form range_at jump_at
+unfolding asked
 async_use l = record { closed = record { at = refl; no_leaf = refl; closures = λ f. refl }; no_brace = refl }
 
 async_bar : (s : Spacing) (l : List Tok) → Begun (ident (codes "async") ∷ punct 124 s ∷ l)
-unfolding closure_at leaf_at literal_at word_at loop_at block_at lifetime_at brace_at group_at const_block_at async_block_at try_block_at builtin_at sign_at lifetimes_at is_truth prefix_form range_at jump_at
+unfolding asked
 async_bar spacing.Alone l = record { closed = record { at = refl; no_leaf = refl; closures = λ f. refl }; no_brace = refl }
 async_bar spacing.Joint l = record { closed = record { at = refl; no_leaf = refl; closures = λ f. refl }; no_brace = refl }
 
@@ -134,14 +141,14 @@ async_captures l (by_use g) = subst (λ z. Begun (ident (codes "async") ∷ z)) 
 async_captures l (by_bar g) = sign_first 124 [] (λ z. Begun (ident (codes "async") ∷ z)) async_bar l g
 
 closed_const : (l : List Tok) → brace_at l ≡ false → Closed (ident (codes "const") ∷ l)
-unfolding closure_at leaf_at literal_at word_at loop_at block_at lifetime_at brace_at group_at const_block_at async_block_at try_block_at builtin_at sign_at lifetimes_at is_truth prefix_form range_at jump_at
+unfolding asked
 closed_const l g = record { at = rw g refl; no_leaf = rw g refl; closures = λ f. refl }
 
 closed_for : (l : List Tok) → lifetimes_at (ident (codes "for") ∷ l) ≡ true → Closed (ident (codes "for") ∷ l)
 unfolding closure_at leaf_at literal_at word_at loop_at block_at lifetime_at brace_at group_at const_block_at async_block_at try_block_at builtin_at sign_at is_truth prefix_form range_at jump_at
 closed_for l g = record { at = rw g refl; no_leaf = refl; closures = λ f. refl }
 
--- behind `async` or not, behind `static` or not, behind `const` or not
+-- after `async` or not, after `static` or not, after `const` or not
 begun_async : (l m : List Tok) (a : Bool) → async_word.at l ≡ a → m ≡ (if a then drop 1 l else l) → Captures m → Begun l
 begun_async l m true g d c = subst (λ z. Begun z) (sym (word_is _ l g)) (subst (λ z. Begun (ident (codes "async") ∷ z)) d (async_captures m c))
 begun_async l m false g d c = subst (λ z. Begun z) d (begun_captures m c)
@@ -204,25 +211,25 @@ closure_front f l n g =
     subst (λ y. Closed y) (sym (some_is b)) (closed_from_flags f z n j))
     (chosen (lifetimes_at l) _ _ (Some z) i)
 
--- ---- what stands before an operand
+-- ---- what comes before an operand
 
 sign_fronted : (c : ℕ) (l : List Tok) → (c == 39) ≡ false → sign_at (c ∷ []) l ≡ true → prefix_at l ≡ true → Fronted l
 sign_fronted c l g v w = record { prefixes = w; no_leaf = sign_first c [] (λ z. leaf_at z ≡ false) (λ s z. sign_no_leaf c s z g) l v }
 
 let_no_leaf : (l : List Tok) → leaf_at (ident (codes "let") ∷ l) ≡ false
-unfolding leaf_at literal_at word_at loop_at block_at lifetime_at brace_at group_at const_block_at async_block_at try_block_at builtin_at sign_at is_truth
+unfolding leaf_asked
 let_no_leaf l = refl
 
 return_no_leaf : (l : List Tok) → leaf_at (ident (codes "return") ∷ l) ≡ false
-unfolding leaf_at literal_at word_at loop_at block_at lifetime_at brace_at group_at const_block_at async_block_at try_block_at builtin_at sign_at is_truth
+unfolding leaf_asked
 return_no_leaf l = refl
 
 yield_no_leaf : (l : List Tok) → leaf_at (ident (codes "yield") ∷ l) ≡ false
-unfolding leaf_at literal_at word_at loop_at block_at lifetime_at brace_at group_at const_block_at async_block_at try_block_at builtin_at sign_at is_truth
+unfolding leaf_asked
 yield_no_leaf l = refl
 
 break_no_leaf : (l : List Tok) → leaf_at (ident (codes "break") ∷ l) ≡ false
-unfolding leaf_at literal_at word_at loop_at block_at lifetime_at brace_at group_at const_block_at async_block_at try_block_at builtin_at sign_at is_truth
+unfolding leaf_asked
 break_no_leaf l = refl
 
 pub jump_no_leaf : (l : List Tok) → jump_at l ≡ true → leaf_at l ≡ false

@@ -32,7 +32,7 @@ obeys_enclosed t g = g lev.Jump enclosed (low_some t) (bad_end t) (self_enclosed
 pub obeys_paren : (t : Tree) → Good t → Obeys lev.Jump enclosed (bare enclosed t) × Fits lev.Jump (bare enclosed t) next.End
 obeys_paren t g = (obeys_enclosed t g, record { no_operator = refl; no_trailer = refl })
 
--- the pair that is added round a node for what it is stands before what the node could stand before
+-- the pair that is added round a node for what it is comes before what the node could come before
 wrapped_fits : (v : Level) (t : Tree) (c : Context) (a m x : Bool) → Formed t → misplaced c t ≡ m → (a || m) || x ≡ true
     → ends_badly v t c.next (a || x) ≡ false → Fits v (paren true (bare enclosed t)) c.next
 wrapped_fits v t c true m x f q h e = let p = or_false _ _ e in record { no_operator = p.0; no_trailer = p.1 }
@@ -115,19 +115,7 @@ at_child t c false g h =
 chained_obeys : (x : Tree) → Obeys lev.Jump enclosed x → Obeys lev.Jump enclosed (chained_bare x)
 chained_obeys (attributed a more (frame k ks)) h = h.1
 chained_obeys (attributed a more (leaf k)) h = h
-chained_obeys (attributed a more (paren m t)) h = h
-chained_obeys (attributed a more (attributed b bs t)) h = h
-chained_obeys (attributed a more (prefixed k gs t)) h = h
-chained_obeys (attributed a more (infixed x k y)) h = h
-chained_obeys (attributed a more (postfixed x k)) h = h
-chained_obeys (attributed a more (tail b k ks)) h = h
-chained_obeys (leaf k) h = h
-chained_obeys (paren m t) h = h
-chained_obeys (prefixed k gs t) h = h
-chained_obeys (infixed x k y) h = h
-chained_obeys (postfixed x k) h = h
-chained_obeys (tail b k ks) h = h
-chained_obeys (frame k ks) h = h
+chained_obeys _ h = h
 
 or_block : (w : Bool) (x s : Tree) → Obeys lev.Jump enclosed x → Obeys lev.Jump enclosed (if w then x else plain_block (own_tokens s))
 or_block true x s h = h
@@ -136,51 +124,29 @@ or_block false x s h = refl
 child_obeys : (k : Piece) (t : Tree) → Good t → is_silent k ≡ false
     → Obeys lev.Jump (piece_context k) (piece_put k t (bare enclosed t) (bare (piece_context k) t)
     (put (place_asks lev.Jump in_statement t) (bare enclosed t) (bare in_statement t)) (place_asks lev.Jump (piece_context k) t))
-child_obeys e.element t g s = at_child t enclosed _ g refl
-child_obeys e.value t g s = at_child t enclosed _ g refl
-child_obeys e.repeated t g s = at_child t enclosed _ g refl
 child_obeys (e.field_value ats m c) t g s = rw s (at_child t enclosed _ g refl)
-child_obeys (e.rest d) t g s = at_child t enclosed _ g refl
 child_obeys e.condition t g s = at_child t (piece_context e.condition) _ g refl
 child_obeys e.loop_head t g s = at_child t (piece_context e.loop_head) _ g refl
 child_obeys e.scrutinee t g s = at_child t (piece_context e.scrutinee) _ g refl
 child_obeys e.chained t g s =
     or_block (is_chainable t) (chained_bare (bare enclosed t)) (put (place_asks lev.Jump in_statement t) (bare enclosed t) (bare in_statement t))
     (chained_obeys (bare enclosed t) (obeys_enclosed t g))
-child_obeys (e.guard ats p) t g s = at_child t enclosed _ g refl
 child_obeys e.guarded t g s = at_child t (piece_context e.guarded) _ g refl
 child_obeys (e.arm ats p) t g s = at_child t (piece_context (e.arm ats p)) _ g refl
 child_obeys e.output_block t g s =
     or_block (is_plain_block t) (bare enclosed t) (put (place_asks lev.Jump in_statement t) (bare enclosed t) (bare in_statement t)) (obeys_enclosed t g)
-child_obeys e.grouped t g s = at_child t enclosed _ g refl
 child_obeys e.stray t g s = absurd cc
+child_obeys _ t g s = at_child t enclosed _ g refl
 
 pub not_verbatim : (k : Piece) (t : Tree) → is_verbatim_block t ≡ false → keeps_block k t ≡ false
 not_verbatim e.element t h = refl
-not_verbatim e.value t h = refl
-not_verbatim e.repeated t h = refl
-not_verbatim (e.field_value ats m c) t h = refl
-not_verbatim (e.rest d) t h = refl
-not_verbatim e.condition t h = refl
-not_verbatim e.loop_head t h = refl
-not_verbatim e.scrutinee t h = refl
 not_verbatim e.chained t h = h
-not_verbatim (e.guard ats p) t h = refl
-not_verbatim e.guarded t h = refl
-not_verbatim (e.arm ats p) t h = refl
 not_verbatim e.output_block t h = h
-not_verbatim e.grouped t h = refl
-not_verbatim e.stray t h = refl
+not_verbatim _ t h = refl
 
 child_good : (k : Piece) (t : Tree) → (keeps_block k t ≡ false → Good t) → Good t
 child_good k (leaf j) g = λ v c h e s. s
-child_good k (paren m t) g = g (not_verbatim k (paren m t) refl)
-child_good k (attributed a more t) g = g (not_verbatim k (attributed a more t) refl)
-child_good k (prefixed j gs t) g = g (not_verbatim k (prefixed j gs t) refl)
-child_good k (infixed x j y) g = g (not_verbatim k (infixed x j y) refl)
-child_good k (postfixed x j) g = g (not_verbatim k (postfixed x j) refl)
-child_good k (tail b j ks) g = g (not_verbatim k (tail b j ks) refl)
-child_good k (frame j ks) g = g (not_verbatim k (frame j ks) refl)
+child_good k d g = g (not_verbatim k d refl)
 
 prefix_ends : (k : Prefix) (t : Tree) (c : Context) → bad (prefixed k e.none t) c.next ≡ false
     → ends_badly (prefix_level k) t (prefix_context k c).next

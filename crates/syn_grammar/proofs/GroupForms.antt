@@ -1,4 +1,4 @@
--- The path of an expression, its front in an invisible group or not, is read exactly where its tokens stand.
+-- The path of an expression, its front in an invisible group or not, is read exactly where its tokens are.
 use Rattle.std.specs.Prelude.{not, ◌&&◌, ◌||◌, ◌==◌, nat_le, take, drop}
 use Rattle.std.proofs.Common.{◌≡◌, ℕ, zero, suc, ◌≤◌, Bool, true, false, cond, List, [], ◌∷◌, length, Option, Some, None, refl, ap, sym, ◌∙◌, subst}
 use Rattle.std.proofs.lemmas.List.{take-append-drop}
@@ -27,7 +27,7 @@ qpath_whole {k} = weaker (qpath_alike {k = k} types_alike style.Expr)
 pub qpath_whole_leaves : Leaves (qpath type style.Expr)
 qpath_whole_leaves = qpath_leaves type_leaves style.Expr
 
--- ---- the parts: what stands in the group, and the segments behind it
+-- ---- the parts: what is in the group, and the segments after it
 
 behind_alike : {k : ℕ} (braces : Bool) (q : QPathTree) → Alike k (when (goes_on_path braces q) (more colon2 (segment type style.Expr)) never) (when (goes_on_path braces q) (more colon2 (segment type style.Expr)) never)
 behind_alike {k} braces q = when_alike (goes_on_path braces q) (more_alike colon2_present (whole_segment_alike style.Expr)) (never_alike k)
@@ -256,7 +256,7 @@ pub group_seen : (l i n : List Tok) → group_at del.None l ≡ Some (i, n) → 
 unfolding invisible_at
 group_seen l i n g = rw g refl
 
--- No path begins with a group whose inside is none, or behind which nothing goes on it.
+-- No path begins with a group whose inside is none, or after which nothing goes on it.
 pub no_front : (braces : Bool) (l i n : List Tok) → group_at del.None l ≡ Some (i, n) → ((q : QPathTree) → (expr_path false).behind q i ≡ Some [] → goes_on_path braces q n ≡ true → ⊥) → (expr_path braces).reads l ≡ None
 no_front braces l i n g f = opened braces l ∙ rw (group_seen l i n g) (by_read ((group_parts (expr_path false) braces).reads l) refl)
   where
@@ -268,7 +268,7 @@ no_front braces l i n g f = opened braces l ∙ rw (group_seen l i n g) (by_read
         let a : Alike 0 (expr_path false) (expr_path false) = expr_path_alike false in
         absurd (f x.0.0 (a.sound i x.0.0 [] u) (subst (λ z. goes_on_path braces x.0.0 z ≡ true) (sym v) p.goes_on))
 
--- What goes on the path that a group holds is its own segments, and those behind the group.
+-- What goes on the path that a group holds is its own segments, and those after the group.
 joined_parts : (q : QPathTree) (o : Outcome (List SegmentTree)) → and_then {B = QPathTree} (and_then {B = QPathTree × List SegmentTree} o (λ ss m. Some ((q, ss), m))) (λ x m. Some (to_path x, m))
     ≡ and_then o (λ ss m. Some (to_path (q, ss), m))
 joined_parts q None = refl
@@ -295,9 +295,7 @@ qualified_closed x k false p f n h = by_tests (k == 0) p.leading p.trailing h
   where
     by_tests : (a b c : Bool) → then_behind (cond (a && (b && not c)) (Some ((x, None), p.segments)) None) f ≡ Some n → c ≡ false
     by_tests true true false h = refl
-    by_tests true true true h = absurd cc
-    by_tests true false c h = absurd cc
-    by_tests false b c h = absurd cc
+    by_tests _ _ _ h = absurd cc
 
 none_or : (a b : Bool) (o : Option (List Tok)) (n : List Tok) → cond a (cond b None None) o ≡ Some n → o ≡ Some n
 none_or true true o n h = absurd cc

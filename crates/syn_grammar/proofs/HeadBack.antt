@@ -83,7 +83,7 @@ unfolding lifetime lifetime_at
 lifetime_or_none None r s = rw (not_true (lifetime_at r) s) refl
 lifetime_or_none (Some w) r s = rw (text_same w) refl
 
--- behind `break` alone a lifetime would be its label
+-- after `break` alone a lifetime would be its label
 abbrev pub jump_stops : Jump → List Tok → Bool
 jump_stops e.returning r = true
 jump_stops e.yielding r = true
@@ -102,7 +102,7 @@ range_back limits.Closed r = refl
 
 -- ---- closures
 
--- what is behind an argument: the comma, or the `|` that ends the arguments
+-- what is after an argument: the comma, or the `|` that ends the arguments
 record ArgEnds (l : List Tok) : Type 0 where
   ends : ends_patterns l ≡ true
   no_plus : plus.at l ≡ false
@@ -141,36 +141,23 @@ from_words a b c d u l =
 
 no_lifetimes : (a b c d u : Bool) (l : List Tok) → lifetimes_at (from_words a b c d u l) ≡ false
 unfolding lifetimes_at word_at
-no_lifetimes true b c d u l = refl
-no_lifetimes false true c d u l = refl
-no_lifetimes false false true d u l = refl
-no_lifetimes false false false true u l = refl
 no_lifetimes false false false false true l = refl
-no_lifetimes false false false false false l = refl
+no_lifetimes _ _ _ _ _ l = refl
 
 const_back : (a b c d u : Bool) (l : List Tok) → (flag constant).behind a (from_words a b c d u l) ≡ Some (from_words false b c d u l)
 unfolding word_at
-const_back true b c d u l = refl
-const_back false true c d u l = refl
-const_back false false true d u l = refl
-const_back false false false true u l = refl
 const_back false false false false true l = refl
-const_back false false false false false l = refl
+const_back _ _ _ _ _ l = refl
 
 static_back : (b c d u : Bool) (l : List Tok) → (flag h.static_word).behind b (from_words false b c d u l) ≡ Some (from_words false false c d u l)
 unfolding word_at
-static_back true c d u l = refl
-static_back false true d u l = refl
-static_back false false true u l = refl
 static_back false false false true l = refl
-static_back false false false false l = refl
+static_back _ _ _ _ l = refl
 
 async_back : (c d u : Bool) (l : List Tok) → (flag h.async_word).behind c (from_words false false c d u l) ≡ Some (from_words false false false d u l)
 unfolding word_at
-async_back true d u l = refl
-async_back false true u l = refl
 async_back false false true l = refl
-async_back false false false l = refl
+async_back _ _ _ l = refl
 
 capture_back : (d u : Bool) (l : List Tok) → not (d && u) ≡ true
     → (then_by (flag h.move_word) h.use_behind).behind (d, u) (from_words false false false d u l) ≡ Some (vert_before l)
@@ -191,7 +178,7 @@ lifetimes_piece : (p : Option LifetimesTree) (a b c d u : Bool) (l : List Tok) �
 lifetimes_piece None a b c d u l f = rw (no_lifetimes a b c d u l) refl
 lifetimes_piece (Some p) a b c d u l f = rw (lifetimes_seen p (from_words a b c d u l) f) (lifetimes_back p (from_words a b c d u l) f)
 
--- behind all of it but its output
+-- after all of it but its output
 pub head_opens : (c : ClosureHead) (r : List Tok) → head_fits c ≡ true → h.closure_head.behind c (closure_own c r) ≡ (output type true).behind c.output (return_own c.output r)
 unfolding h.closure_head
 head_opens c r f =
@@ -217,9 +204,9 @@ head_back c r f w =
     let (u, v) = both_true (ends_well (is_nil c.inputs) c.trailing) (output_fits true c.output) m in
     head_opens c r f ∙ parts_read_back.outputs true c.output r v w
 
--- ---- what stands before an operand
+-- ---- what comes before an operand
 
--- behind `&` alone a `mut` would be its own, and so would `raw` before `mut` or `const`
+-- after `&` alone a `mut` would be its own, and so would `raw` before `mut` or `const`
 abbrev pub prefix_stops : Prefix → List Tok → Bool
 prefix_stops (e.reference false) r = not (mutable.at r) && not (h.raw_at r)
 prefix_stops (e.jump j) r = jump_stops j r
@@ -229,13 +216,8 @@ prefix_stops _ r = true
 pub closure_seen : (x : ClosureHead) (p : Option LifetimesTree) (a b c d u : Bool) (l : List Tok)
     → h.prefix_form.behind (e.closure x) (before_some p lifetimes_own (from_words a b c d u l)) ≡ h.closure_head.behind x (before_some p lifetimes_own (from_words a b c d u l))
 unfolding h.prefix_form h.range_at h.jump_at sign_at word_at lifetimes_own
-closure_seen x (Some p) a b c d u l = refl
-closure_seen x None true b c d u l = refl
-closure_seen x None false true c d u l = refl
-closure_seen x None false false true d u l = refl
-closure_seen x None false false false true u l = refl
 closure_seen x None false false false false true l = refl
-closure_seen x None false false false false false l = refl
+closure_seen x _ _ _ _ _ _ l = refl
 
 equal_ends : (l : List Tok) → ends_patterns (alone 61 ∷ l) ≡ true
 unfolding ends_patterns ends_types bound_at sign_at round_at brace_at group_at

@@ -1,4 +1,4 @@
--- What is asked of the tokens behind a head leaves nothing out: where its own tokens are read back, it holds.
+-- What is asked of the tokens after a head leaves nothing out: where its own tokens are read back, it holds.
 use Rattle.std.proofs.Common.{◌≡◌, Bool, true, false, not, ◌||◌, ◌&&◌, cond, List, [], ◌∷◌, drop, Option, Some, None, refl, ap, sym, ◌∙◌, subst, codes}
 use Rattle.std.proofs.lemmas.Slice.Eq.{bytes_eq-Decides}
 use Rattle.std.specs.Str.{bytes_eq}
@@ -48,7 +48,7 @@ label_complete None r g = by_lifetime (lifetime_at r) g
     by_lifetime true g = absurd cc
     by_lifetime false g = refl
 
--- a value behind a jump's word
+-- a value after a jump's word
 after_word : (r : List Tok) → cond {A = Option (List Tok)} (lifetime_at r) None (Some r) ≡ Some r → not (lifetime_at r) ≡ true
 after_word r g = by_lifetime (lifetime_at r) g
   where
@@ -58,12 +58,10 @@ after_word r g = by_lifetime (lifetime_at r) g
 
 pub jump_complete : (j : Jump) (r : List Tok) → h.jump_head.behind j (jump_own j r) ≡ Some r → jump_stops j r ≡ true
 unfolding h.jump_head word_at
-jump_complete e.returning r g = refl
-jump_complete e.yielding r g = refl
-jump_complete (e.breaking (Some w)) r g = refl
 jump_complete (e.breaking None) r g = after_word r g
+jump_complete _ r g = refl
 
--- ---- what stands before an operand
+-- ---- what comes before an operand
 
 reference_complete : (r : List Tok) → h.prefix_form.behind (e.reference false) (prefix_own (e.reference false) r) ≡ Some r → (not (mutable.at r) && not (h.raw_at r)) ≡ true
 unfolding h.prefix_form sign_at
@@ -112,10 +110,6 @@ special q p r g = rw g refl
 
 no_special : (q : QSelfTree) (p : PathTree) (w : QSelfTree) (l x : Bool) (ss : List SegmentTree) (r : List Tok) → qpath_fits style.Expr (w, record { leading = l; segments = ss; trailing = x }) ≡ true → h.leaf_form.behind (e.path q p) (qualified_own (w, record { leading = l; segments = ss; trailing = x }) r) ≡ Some r
     → (is_word_alone (codes "builtin") w (record { leading = l; segments = ss; trailing = x }) && sign_at (codes "#") r) ≡ false
-no_special q p (t.qself y n a) l x ss r f g = refl
-no_special q p t.no_qself true x ss r f g = refl
-no_special q p t.no_qself false x [] r f g = refl
-no_special q p t.no_qself false x (s ∷ z ∷ zs) r f g = refl
 no_special q p t.no_qself false true (s ∷ []) r f g = absurd cc
 no_special q p t.no_qself false false (s ∷ []) r f g = by_arguments s.ident s.arguments g
   where
@@ -136,6 +130,7 @@ no_special q p t.no_qself false false (s ∷ []) r f g = by_arguments s.ident s.
     by_arguments w t.no_arguments g = by_word w (bytes_eq w (codes "builtin")) (sign_at (codes "#") r) refl refl g
     by_arguments w (t.angle c gs e) g = and_none (bytes_eq w (codes "builtin")) (sign_at (codes "#") r)
     by_arguments w (t.round xs e o) g = and_none (bytes_eq w (codes "builtin")) (sign_at (codes "#") r)
+no_special q p _ _ x _ r f g = refl
 
 named_complete : (q : QSelfTree) (p : PathTree) (r : List Tok) → qpath_fits style.Expr (q, p) ≡ true → h.named.behind (e.path q p) (qualified_own (q, p) r) ≡ Some r → (path_stops style.Expr p r ≡ true) × ((is_bare (q, p) && not_ne.at r) ≡ false)
 unfolding h.named macro_end
@@ -237,7 +232,7 @@ ending_complete (e.arm ats p) e.no_ending x l r g = arm_complete x l g
 ending_complete (e.rest d) e.no_ending x l r g = rest_complete l g
 ending_complete _ c x l r g = refl
 
--- ---- trailers, frames, behind a left operand
+-- ---- trailers, frames, after a left operand
 
 field_opens_by : (w : Text) (r : List Tok) → is_reserved_word w ≡ false
     → dotted.behind (e.field (a_name w)) (ident w ∷ r) ≡ cond (round_at r || colon2.at r) None (member.behind (a_name w) (ident w ∷ r))

@@ -1,12 +1,11 @@
--- The heads of expressions are read exactly where their tokens stand.
-use Rattle.std.proofs.Common.{◌≡◌, ℕ, ◌≤◌, Bool, true, false, not, ◌&&◌, ◌==◌, List, [], ◌∷◌, Option, Some, None, refl, ap, sym, arith, codes}
+-- The heads of expressions are read exactly where their tokens are.
+use Rattle.std.proofs.Common.{◌≡◌, ℕ, ◌≤◌, Bool, true, false, not, ◌&&◌, ◌==◌, List, [], ◌∷◌, Some, None, refl, ap, sym, arith, codes}
 use Rattle.std.specs.Str.{bytes_eq}
 use Rattle.syn_lexer.specs.Keywords.{is_reserved_word}
 use Rattle.syn_lexer.specs.declared.lexeme.Delimiter.{Delimiter}
 use Rattle.syn_lexer.specs.declared.lexeme.Delimiter.TheVariants as del
 use Rattle.syn_tokens.specs.Tok.{Tok, ident, punct, group, weight}
 use Rattle.syn_parts.specs.declared.label.PathStyle.TheVariants as style
-use Rattle.syn_parts.specs.Text.{Text}
 use Rattle.syn_parts.specs.Tree as t
 use Rattle.syn_parts.specs.Tree.{LitTree, AttributeTree, LifetimesTree, QSelfTree, PathTree, ArgumentsTree, ReturnTree}
 use Rattle.syn_parts.specs.Form.{then_by}
@@ -20,7 +19,6 @@ use Rattle.syn_parts.proofs.Forms.{Alike, Finds, leaf_alike, Present, Sees, Only
 use Rattle.syn_parts.proofs.Parts.{forms, falls_by, block_alike, inside_at_alike, outer_attributes_alike, inner_attributes_alike, lifetimes_alike, mutability_alike, macro_end_alike, arguments_alike, output_alike, types_alike}
 use Rattle.syn_parts.proofs.Pats.{member_alike, pattern_alike, closure_arg_alike}
 use Rattle.syn_grammar.specs.declared.kinds.UnKind.TheVariants as un
-use Rattle.syn_grammar.specs.declared.kinds.Limits.{Limits}
 use Rattle.syn_grammar.specs.declared.kinds.Limits.TheVariants as limits
 use Rattle.syn_grammar.specs.Tree as e
 use Rattle.syn_grammar.specs.Tree.{Body, Jump, Leaf, ClosureHead, Prefix, Trailer, Piece}
@@ -61,303 +59,133 @@ pub ruleset head_marks = (for_present, bar_present, minus_present, dots_present,
 -- ---- views
 
 pub only_returning : Only e.returning h.is_returning
-only_returning = record { itself = refl; only = only }
-  where
-    only : (y : Jump) → h.is_returning y ≡ true → e.returning ≡ y
-    only e.returning g = refl
-    only _ g = absurd cc
+only_returning = record { itself = refl; only = elim [ e.returning ↦ λ g. refl | _ ↦ λ g. absurd cc ] }
 
 pub only_yielding : Only e.yielding h.is_yielding
-only_yielding = record { itself = refl; only = only }
-  where
-    only : (y : Jump) → h.is_yielding y ≡ true → e.yielding ≡ y
-    only e.yielding g = refl
-    only _ g = absurd cc
+only_yielding = record { itself = refl; only = elim [ e.yielding ↦ λ g. refl | _ ↦ λ g. absurd cc ] }
 
 pub sees_breaking : Sees e.breaking h.from_breaking
-sees_breaking = record { there = λ x. refl; back = back }
-  where
-    back : (y : Jump) (x : Option Text) → h.from_breaking y ≡ Some x → e.breaking x ≡ y
-    back (e.breaking label) x g = ap e.breaking (sym (some_is g))
-    back _ x g = absurd cc
+sees_breaking = record { there = λ x. refl; back = elim [ e.breaking label ↦ λ x g. ap e.breaking (sym (some_is g)) | _ ↦ λ x g. absurd cc ] }
 
 pub only_half_open : Only limits.HalfOpen h.is_half_open
-only_half_open = record { itself = refl; only = only }
-  where
-    only : (y : Limits) → h.is_half_open y ≡ true → limits.HalfOpen ≡ y
-    only limits.HalfOpen g = refl
-    only _ g = absurd cc
+only_half_open = record { itself = refl; only = elim [ limits.HalfOpen ↦ λ g. refl | _ ↦ λ g. absurd cc ] }
 
 pub only_closed : Only limits.Closed h.is_closed
-only_closed = record { itself = refl; only = only }
-  where
-    only : (y : Limits) → h.is_closed y ≡ true → limits.Closed ≡ y
-    only limits.Closed g = refl
-    only _ g = absurd cc
+only_closed = record { itself = refl; only = elim [ limits.Closed ↦ λ g. refl | _ ↦ λ g. absurd cc ] }
 
 pub sees_body : Sees h.to_body h.from_body
-sees_body = record { there = λ x. refl; back = back }
-  where
-    back : (y : Body) (x : List AttributeTree × List Tok) → h.from_body y ≡ Some x → h.to_body x ≡ y
-    back (b) x g = ap h.to_body (sym (some_is g))
+sees_body = record { there = λ x. refl; back = λ b x g. ap h.to_body (sym (some_is g)) }
 
 pub sees_lit : Sees e.lit h.from_lit
-sees_lit = record { there = λ x. refl; back = back }
-  where
-    back : (y : Leaf) (x : LitTree) → h.from_lit y ≡ Some x → e.lit x ≡ y
-    back (e.lit z) x g = ap e.lit (sym (some_is g))
-    back _ x g = absurd cc
+sees_lit = record { there = λ x. refl; back = elim [ e.lit z ↦ λ x g. ap e.lit (sym (some_is g)) | _ ↦ λ x g. absurd cc ] }
 
 pub only_infer : Only e.infer h.is_infer
-only_infer = record { itself = refl; only = only }
-  where
-    only : (y : Leaf) → h.is_infer y ≡ true → e.infer ≡ y
-    only e.infer g = refl
-    only _ g = absurd cc
+only_infer = record { itself = refl; only = elim [ e.infer ↦ λ g. refl | _ ↦ λ g. absurd cc ] }
 
 pub sees_full_range : Sees e.full_range h.from_full_range
-sees_full_range = record { there = λ x. refl; back = back }
-  where
-    back : (y : Leaf) (x : Limits) → h.from_full_range y ≡ Some x → e.full_range x ≡ y
-    back (e.full_range op) x g = ap e.full_range (sym (some_is g))
-    back _ x g = absurd cc
+sees_full_range = record { there = λ x. refl; back = elim [ e.full_range op ↦ λ x g. ap e.full_range (sym (some_is g)) | _ ↦ λ x g. absurd cc ] }
 
 pub sees_bare_jump : Sees e.bare_jump h.from_bare_jump
-sees_bare_jump = record { there = λ x. refl; back = back }
-  where
-    back : (y : Leaf) (x : Jump) → h.from_bare_jump y ≡ Some x → e.bare_jump x ≡ y
-    back (e.bare_jump j) x g = ap e.bare_jump (sym (some_is g))
-    back _ x g = absurd cc
+sees_bare_jump = record { there = λ x. refl; back = elim [ e.bare_jump j ↦ λ x g. ap e.bare_jump (sym (some_is g)) | _ ↦ λ x g. absurd cc ] }
 
 pub sees_continuing : Sees e.continuing h.from_continuing
-sees_continuing = record { there = λ x. refl; back = back }
-  where
-    back : (y : Leaf) (x : Option Text) → h.from_continuing y ≡ Some x → e.continuing x ≡ y
-    back (e.continuing label) x g = ap e.continuing (sym (some_is g))
-    back _ x g = absurd cc
+sees_continuing = record { there = λ x. refl; back = elim [ e.continuing label ↦ λ x g. ap e.continuing (sym (some_is g)) | _ ↦ λ x g. absurd cc ] }
 
 pub sees_block : Sees h.to_block h.from_block
-sees_block = record { there = λ x. refl; back = back }
-  where
-    back : (y : Leaf) (x : Option Text × Body) → h.from_block y ≡ Some x → h.to_block x ≡ y
-    back (e.block label b) x g = ap h.to_block (sym (some_is g))
-    back _ x g = absurd cc
+sees_block = record { there = λ x. refl; back = elim [ e.block label b ↦ λ x g. ap h.to_block (sym (some_is g)) | _ ↦ λ x g. absurd cc ] }
 
 pub sees_loop : Sees h.to_loop h.from_loop
-sees_loop = record { there = λ x. refl; back = back }
-  where
-    back : (y : Leaf) (x : Option Text × Body) → h.from_loop y ≡ Some x → h.to_loop x ≡ y
-    back (e.loop_expr label b) x g = ap h.to_loop (sym (some_is g))
-    back _ x g = absurd cc
+sees_loop = record { there = λ x. refl; back = elim [ e.loop_expr label b ↦ λ x g. ap h.to_loop (sym (some_is g)) | _ ↦ λ x g. absurd cc ] }
 
 pub sees_unsafe : Sees e.unsafe_block h.from_unsafe
-sees_unsafe = record { there = λ x. refl; back = back }
-  where
-    back : (y : Leaf) (x : Body) → h.from_unsafe y ≡ Some x → e.unsafe_block x ≡ y
-    back (e.unsafe_block b) x g = ap e.unsafe_block (sym (some_is g))
-    back _ x g = absurd cc
+sees_unsafe = record { there = λ x. refl; back = elim [ e.unsafe_block b ↦ λ x g. ap e.unsafe_block (sym (some_is g)) | _ ↦ λ x g. absurd cc ] }
 
 pub sees_const : Sees e.const_block h.from_const
-sees_const = record { there = λ x. refl; back = back }
-  where
-    back : (y : Leaf) (x : Body) → h.from_const y ≡ Some x → e.const_block x ≡ y
-    back (e.const_block b) x g = ap e.const_block (sym (some_is g))
-    back _ x g = absurd cc
+sees_const = record { there = λ x. refl; back = elim [ e.const_block b ↦ λ x g. ap e.const_block (sym (some_is g)) | _ ↦ λ x g. absurd cc ] }
 
 pub sees_async : Sees h.to_async h.from_async
-sees_async = record { there = λ x. refl; back = back }
-  where
-    back : (y : Leaf) (x : Bool × List Tok) → h.from_async y ≡ Some x → h.to_async x ≡ y
-    back (e.async_block m ts) x g = ap h.to_async (sym (some_is g))
-    back _ x g = absurd cc
+sees_async = record { there = λ x. refl; back = elim [ e.async_block m ts ↦ λ x g. ap h.to_async (sym (some_is g)) | _ ↦ λ x g. absurd cc ] }
 
 pub sees_try : Sees e.try_block h.from_try
-sees_try = record { there = λ x. refl; back = back }
-  where
-    back : (y : Leaf) (x : List Tok) → h.from_try y ≡ Some x → e.try_block x ≡ y
-    back (e.try_block ts) x g = ap e.try_block (sym (some_is g))
-    back _ x g = absurd cc
+sees_try = record { there = λ x. refl; back = elim [ e.try_block ts ↦ λ x g. ap e.try_block (sym (some_is g)) | _ ↦ λ x g. absurd cc ] }
 
 pub sees_verbatim : Sees e.verbatim h.from_verbatim
-sees_verbatim = record { there = λ x. refl; back = back }
-  where
-    back : (y : Leaf) (x : List Tok) → h.from_verbatim y ≡ Some x → e.verbatim x ≡ y
-    back (e.verbatim ts) x g = ap e.verbatim (sym (some_is g))
-    back _ x g = absurd cc
+sees_verbatim = record { there = λ x. refl; back = elim [ e.verbatim ts ↦ λ x g. ap e.verbatim (sym (some_is g)) | _ ↦ λ x g. absurd cc ] }
 
 pub sees_head : Sees h.to_head h.from_head
-sees_head = record { there = λ x. refl; back = back }
-  where
-    back : (y : ClosureHead) (x : h.HeadParts) → h.from_head y ≡ Some x → h.to_head x ≡ y
-    back (z) x g = ap h.to_head (sym (some_is g))
+sees_head = record { there = λ x. refl; back = λ z x g. ap h.to_head (sym (some_is g)) }
 
 pub only_deref : Only (e.unary un.Deref) h.is_deref
-only_deref = record { itself = refl; only = only }
-  where
-    only : (y : Prefix) → h.is_deref y ≡ true → (e.unary un.Deref) ≡ y
-    only (e.unary un.Deref) g = refl
-    only _ g = absurd cc
+only_deref = record { itself = refl; only = elim [ e.unary un.Deref ↦ λ g. refl | _ ↦ λ g. absurd cc ] }
 
 pub only_not : Only (e.unary un.Not) h.is_not
-only_not = record { itself = refl; only = only }
-  where
-    only : (y : Prefix) → h.is_not y ≡ true → (e.unary un.Not) ≡ y
-    only (e.unary un.Not) g = refl
-    only _ g = absurd cc
+only_not = record { itself = refl; only = elim [ e.unary un.Not ↦ λ g. refl | _ ↦ λ g. absurd cc ] }
 
 pub only_neg : Only (e.unary un.Neg) h.is_neg
-only_neg = record { itself = refl; only = only }
-  where
-    only : (y : Prefix) → h.is_neg y ≡ true → (e.unary un.Neg) ≡ y
-    only (e.unary un.Neg) g = refl
-    only _ g = absurd cc
+only_neg = record { itself = refl; only = elim [ e.unary un.Neg ↦ λ g. refl | _ ↦ λ g. absurd cc ] }
 
 pub sees_reference : Sees e.reference h.from_reference
-sees_reference = record { there = λ x. refl; back = back }
-  where
-    back : (y : Prefix) (x : Bool) → h.from_reference y ≡ Some x → e.reference x ≡ y
-    back (e.reference m) x g = ap e.reference (sym (some_is g))
-    back _ x g = absurd cc
+sees_reference = record { there = λ x. refl; back = elim [ e.reference m ↦ λ x g. ap e.reference (sym (some_is g)) | _ ↦ λ x g. absurd cc ] }
 
 pub sees_raw_addr : Sees e.raw_addr h.from_raw_addr
-sees_raw_addr = record { there = λ x. refl; back = back }
-  where
-    back : (y : Prefix) (x : Bool) → h.from_raw_addr y ≡ Some x → e.raw_addr x ≡ y
-    back (e.raw_addr m) x g = ap e.raw_addr (sym (some_is g))
-    back _ x g = absurd cc
+sees_raw_addr = record { there = λ x. refl; back = elim [ e.raw_addr m ↦ λ x g. ap e.raw_addr (sym (some_is g)) | _ ↦ λ x g. absurd cc ] }
 
 pub sees_range_to : Sees e.range_to h.from_range_to
-sees_range_to = record { there = λ x. refl; back = back }
-  where
-    back : (y : Prefix) (x : Limits) → h.from_range_to y ≡ Some x → e.range_to x ≡ y
-    back (e.range_to op) x g = ap e.range_to (sym (some_is g))
-    back _ x g = absurd cc
+sees_range_to = record { there = λ x. refl; back = elim [ e.range_to op ↦ λ x g. ap e.range_to (sym (some_is g)) | _ ↦ λ x g. absurd cc ] }
 
 pub sees_let : Sees e.let_expr h.from_let
-sees_let = record { there = λ x. refl; back = back }
-  where
-    back : (y : Prefix) (x : PatTree) → h.from_let y ≡ Some x → e.let_expr x ≡ y
-    back (e.let_expr p) x g = ap e.let_expr (sym (some_is g))
-    back _ x g = absurd cc
+sees_let = record { there = λ x. refl; back = elim [ e.let_expr p ↦ λ x g. ap e.let_expr (sym (some_is g)) | _ ↦ λ x g. absurd cc ] }
 
 pub sees_jump : Sees e.jump h.from_jump
-sees_jump = record { there = λ x. refl; back = back }
-  where
-    back : (y : Prefix) (x : Jump) → h.from_jump y ≡ Some x → e.jump x ≡ y
-    back (e.jump j) x g = ap e.jump (sym (some_is g))
-    back _ x g = absurd cc
+sees_jump = record { there = λ x. refl; back = elim [ e.jump j ↦ λ x g. ap e.jump (sym (some_is g)) | _ ↦ λ x g. absurd cc ] }
 
 pub sees_closure : Sees e.closure h.from_closure
-sees_closure = record { there = λ x. refl; back = back }
-  where
-    back : (y : Prefix) (x : ClosureHead) → h.from_closure y ≡ Some x → e.closure x ≡ y
-    back (e.closure c) x g = ap e.closure (sym (some_is g))
-    back _ x g = absurd cc
+sees_closure = record { there = λ x. refl; back = elim [ e.closure c ↦ λ x g. ap e.closure (sym (some_is g)) | _ ↦ λ x g. absurd cc ] }
 
 pub only_await : Only e.await h.is_await
-only_await = record { itself = refl; only = only }
-  where
-    only : (y : Trailer) → h.is_await y ≡ true → e.await ≡ y
-    only e.await g = refl
-    only _ g = absurd cc
+only_await = record { itself = refl; only = elim [ e.await ↦ λ g. refl | _ ↦ λ g. absurd cc ] }
 
 pub sees_method : Sees h.to_method h.from_method
-sees_method = record { there = λ x. refl; back = back }
-  where
-    back : (y : Trailer) (x : Text × ArgumentsTree) → h.from_method y ≡ Some x → h.to_method x ≡ y
-    back (e.method w a) x g = ap h.to_method (sym (some_is g))
-    back _ x g = absurd cc
+sees_method = record { there = λ x. refl; back = elim [ e.method w a ↦ λ x g. ap h.to_method (sym (some_is g)) | _ ↦ λ x g. absurd cc ] }
 
 pub sees_field : Sees e.field h.from_field
-sees_field = record { there = λ x. refl; back = back }
-  where
-    back : (y : Trailer) (x : MemberTree) → h.from_field y ≡ Some x → e.field x ≡ y
-    back (e.field m) x g = ap e.field (sym (some_is g))
-    back _ x g = absurd cc
+sees_field = record { there = λ x. refl; back = elim [ e.field m ↦ λ x g. ap e.field (sym (some_is g)) | _ ↦ λ x g. absurd cc ] }
 
 pub only_element : Only e.element (s.is_of s.elements)
-only_element = record { itself = refl; only = only }
-  where
-    only : (y : Piece) → s.is_of s.elements y ≡ true → e.element ≡ y
-    only e.element g = refl
-    only _ g = absurd cc
+only_element = record { itself = refl; only = elim [ e.element ↦ λ g. refl | _ ↦ λ g. absurd cc ] }
 
 pub only_value : Only e.value (s.is_of s.single)
-only_value = record { itself = refl; only = only }
-  where
-    only : (y : Piece) → s.is_of s.single y ≡ true → e.value ≡ y
-    only e.value g = refl
-    only _ g = absurd cc
+only_value = record { itself = refl; only = elim [ e.value ↦ λ g. refl | _ ↦ λ g. absurd cc ] }
 
 pub only_repeated : Only e.repeated (s.is_of s.counted)
-only_repeated = record { itself = refl; only = only }
-  where
-    only : (y : Piece) → s.is_of s.counted y ≡ true → e.repeated ≡ y
-    only e.repeated g = refl
-    only _ g = absurd cc
+only_repeated = record { itself = refl; only = elim [ e.repeated ↦ λ g. refl | _ ↦ λ g. absurd cc ] }
 
 pub only_condition : Only e.condition (s.is_of s.conditions)
-only_condition = record { itself = refl; only = only }
-  where
-    only : (y : Piece) → s.is_of s.conditions y ≡ true → e.condition ≡ y
-    only e.condition g = refl
-    only _ g = absurd cc
+only_condition = record { itself = refl; only = elim [ e.condition ↦ λ g. refl | _ ↦ λ g. absurd cc ] }
 
 pub only_loop_head : Only e.loop_head (s.is_of s.loops)
-only_loop_head = record { itself = refl; only = only }
-  where
-    only : (y : Piece) → s.is_of s.loops y ≡ true → e.loop_head ≡ y
-    only e.loop_head g = refl
-    only _ g = absurd cc
+only_loop_head = record { itself = refl; only = elim [ e.loop_head ↦ λ g. refl | _ ↦ λ g. absurd cc ] }
 
 pub only_scrutinee : Only e.scrutinee s.is_scrutinee
-only_scrutinee = record { itself = refl; only = only }
-  where
-    only : (y : Piece) → s.is_scrutinee y ≡ true → e.scrutinee ≡ y
-    only e.scrutinee g = refl
-    only _ g = absurd cc
+only_scrutinee = record { itself = refl; only = elim [ e.scrutinee ↦ λ g. refl | _ ↦ λ g. absurd cc ] }
 
 pub only_chained : Only e.chained s.is_chained
-only_chained = record { itself = refl; only = only }
-  where
-    only : (y : Piece) → s.is_chained y ≡ true → e.chained ≡ y
-    only e.chained g = refl
-    only _ g = absurd cc
+only_chained = record { itself = refl; only = elim [ e.chained ↦ λ g. refl | _ ↦ λ g. absurd cc ] }
 
 pub only_guarded : Only e.guarded (s.is_of s.bodies)
-only_guarded = record { itself = refl; only = only }
-  where
-    only : (y : Piece) → s.is_of s.bodies y ≡ true → e.guarded ≡ y
-    only e.guarded g = refl
-    only _ g = absurd cc
+only_guarded = record { itself = refl; only = elim [ e.guarded ↦ λ g. refl | _ ↦ λ g. absurd cc ] }
 
 pub only_output_block : Only e.output_block (s.is_of s.outputs)
-only_output_block = record { itself = refl; only = only }
-  where
-    only : (y : Piece) → s.is_of s.outputs y ≡ true → e.output_block ≡ y
-    only e.output_block g = refl
-    only _ g = absurd cc
+only_output_block = record { itself = refl; only = elim [ e.output_block ↦ λ g. refl | _ ↦ λ g. absurd cc ] }
 
 pub only_grouped : Only e.grouped (s.is_of s.groups)
-only_grouped = record { itself = refl; only = only }
-  where
-    only : (y : Piece) → s.is_of s.groups y ≡ true → e.grouped ≡ y
-    only e.grouped g = refl
-    only _ g = absurd cc
+only_grouped = record { itself = refl; only = elim [ e.grouped ↦ λ g. refl | _ ↦ λ g. absurd cc ] }
 
 pub only_rest : Only (e.rest true) s.is_rest
-only_rest = record { itself = refl; only = only }
-  where
-    only : (y : Piece) → s.is_rest y ≡ true → (e.rest true) ≡ y
-    only (e.rest true) g = refl
-    only _ g = absurd cc
+only_rest = record { itself = refl; only = elim [ e.rest true ↦ λ g. refl | _ ↦ λ g. absurd cc ] }
 
 pub sees_field_value : Sees s.to_field s.from_field
-sees_field_value = record { there = λ x. refl; back = back }
-  where
-    back : (y : Piece) (x : List AttributeTree × (MemberTree × Bool)) → s.from_field y ≡ Some x → s.to_field x ≡ y
-    back (e.field_value ats m c) x g = ap s.to_field (sym (some_is g))
-    back _ x g = absurd cc
+sees_field_value = record { there = λ x. refl; back = elim [ e.field_value ats m c ↦ λ x g. ap s.to_field (sym (some_is g)) | _ ↦ λ x g. absurd cc ] }
 
 pub sees_arm : Sees s.to_arm s.from_arm
 sees_arm = record { there = there; back = back }
@@ -431,7 +259,7 @@ named_back (e.path q p) x g = ap h.to_named (sym (some_is g))
 named_back (e.mac m) x g = ap h.to_named (sym (some_is g))
 named_back _ x g = absurd cc
 
--- no macro stands behind a qualified path
+-- no macro comes after a qualified path
 macro_there : (q : QSelfTree) (p : PathTree) (g : Delimiter × List Tok) (m n : List Tok) → (macro_end (q, p)).behind (Some g) m ≡ Some n
     → h.from_named (h.to_named ((q, p), Some g)) ≡ Some ((q, p), Some g)
 unfolding macro_end
@@ -448,7 +276,7 @@ named_alike = shown_where_alike there named_back (then_by_alike (expr_path_alike
         let (m, i, j) = behind_some ((expr_path false).behind (q, p) l) ((macro_end (q, p)).behind (Some d)) n g in
         macro_there q p d m n j
 
--- ---- leaves, what stands before an operand, and behind a dot
+-- ---- leaves, what comes before an operand, and after a dot
 
 pub leaf_form_alike : {k : ℕ} → Alike k h.leaf_form h.leaf_form
 unfolding h.leaf_form
@@ -477,7 +305,7 @@ dotted_alike = search (member_alike, arguments_whole, forms, head_marks, head_vi
 pub for_head_alike : {k : ℕ} → Alike k s.for_head s.for_head
 for_head_alike = search (pattern_alike, forms, head_marks) depth 12
 
--- ---- what stands before an operand in a place of its own
+-- ---- what comes before an operand in a place of its own
 
 pub field_colon_alike : {k : ℕ} (m : MemberTree) → Alike k (s.field_colon m) (s.field_colon m)
 field_colon_alike (a_name w) = flag_at_alike colon_present

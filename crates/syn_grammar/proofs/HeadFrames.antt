@@ -1,4 +1,4 @@
--- The tokens of frames and those behind a left operand are read back from their own tokens.
+-- The tokens of frames and those after a left operand are read back from their own tokens.
 use Rattle.std.proofs.Common.{◌≡◌, ℕ, Bool, true, false, List, [], ◌∷◌, ◌++◌, drop, length, Option, Some, None, refl, sym, codes}
 use Rattle.syn_lexer.specs.Keywords.{is_reserved_word}
 use Rattle.syn_lexer.specs.declared.lexeme.Delimiter.TheVariants as del
@@ -37,12 +37,12 @@ use Rattle.syn_grammar.proofs.HeadBack.{label_stops, label_back, head_back}
 
 -- ---- frames
 
--- behind a closure's output nothing goes on with its type
+-- after a closure's output nothing goes on with its type
 abbrev pub frame_stops : Frame → List Tok → Bool
 frame_stops (e.closure_block c) operands = output_stops true c.output operands
 frame_stops k operands = true
 
--- behind the tokens of a frame: its group, or its operands
+-- after the tokens of a frame: its group, or its operands
 abbrev pub frame_rest : Option Enclosure → List Tok → List Tok → List Tok
 frame_rest None operands r = operands
 frame_rest (Some i) operands r = enclosed i.delimiter operands r
@@ -90,9 +90,6 @@ unfolding word_at
 word_back l = (refl, refl)
 
 pub frame_back : (k : Frame) (ks : Children) (operands r : List Tok) → frame_fits k ks ≡ true → frame_stops k operands ≡ true → frame_head k (framed k (enclosure k) operands r) ≡ Some (frame_rest (enclosure k) operands r)
-frame_back e.array ks o r f g = refl
-frame_back e.tuple ks o r f g = refl
-frame_back e.repeat ks o r f g = refl
 frame_back (e.structure q p d) ks o r f g = let (i, j) = both_true (qpath_fits style.Expr (q, p)) _ f in structure_back q p r o i
 frame_back (e.closure_block c) ks o r f g = let (i, j) = both_true (head_fits c) _ f in head_back c o i g
 frame_back e.if_expr ks o r f g = let (i, j) = word_back o in i
@@ -100,10 +97,11 @@ frame_back (e.while_loop w) ks o r f g = while_back w o
 frame_back (e.for_loop w p) ks o r f g = for_back w p o f
 frame_back e.match_expr ks o r f g = let (i, j) = word_back o in j
 frame_back e.group_expr ks o r f g = absurd cc
+frame_back _ ks o r f g = refl
 
--- ---- behind a left operand
+-- ---- after a left operand
 
--- behind an operator's own tokens
+-- after an operator's own tokens
 abbrev pub postfix_rest : Postfix → List Tok → List Tok
 postfix_rest (e.cast x) r = type_own x r
 postfix_rest (e.range_from op) r = r
@@ -126,35 +124,6 @@ infix_count op = length (infix_own op [])
 
 pub infix_back : (op : Infix) (r : List Tok) → (infix_at (infix_own op r) ≡ Some (op, infix_count op)) × (drop (infix_count op) (infix_own op r) ≡ r)
 unfolding infix_at sign_at word_at
-infix_back inf.Assign r = (refl, refl)
-infix_back inf.Cast r = (refl, refl)
 infix_back (inf.Range limits.HalfOpen) r = (refl, refl)
-infix_back (inf.Range limits.Closed) r = (refl, refl)
 infix_back (inf.Binary bin.Add) r = (refl, refl)
-infix_back (inf.Binary bin.Sub) r = (refl, refl)
-infix_back (inf.Binary bin.Mul) r = (refl, refl)
-infix_back (inf.Binary bin.Div) r = (refl, refl)
-infix_back (inf.Binary bin.Rem) r = (refl, refl)
-infix_back (inf.Binary bin.And) r = (refl, refl)
-infix_back (inf.Binary bin.Or) r = (refl, refl)
-infix_back (inf.Binary bin.BitXor) r = (refl, refl)
-infix_back (inf.Binary bin.BitAnd) r = (refl, refl)
-infix_back (inf.Binary bin.BitOr) r = (refl, refl)
-infix_back (inf.Binary bin.Shl) r = (refl, refl)
-infix_back (inf.Binary bin.Shr) r = (refl, refl)
-infix_back (inf.Binary bin.Eq) r = (refl, refl)
-infix_back (inf.Binary bin.Lt) r = (refl, refl)
-infix_back (inf.Binary bin.Le) r = (refl, refl)
-infix_back (inf.Binary bin.Ne) r = (refl, refl)
-infix_back (inf.Binary bin.Ge) r = (refl, refl)
-infix_back (inf.Binary bin.Gt) r = (refl, refl)
-infix_back (inf.Binary bin.AddAssign) r = (refl, refl)
-infix_back (inf.Binary bin.SubAssign) r = (refl, refl)
-infix_back (inf.Binary bin.MulAssign) r = (refl, refl)
-infix_back (inf.Binary bin.DivAssign) r = (refl, refl)
-infix_back (inf.Binary bin.RemAssign) r = (refl, refl)
-infix_back (inf.Binary bin.BitXorAssign) r = (refl, refl)
-infix_back (inf.Binary bin.BitAndAssign) r = (refl, refl)
-infix_back (inf.Binary bin.BitOrAssign) r = (refl, refl)
-infix_back (inf.Binary bin.ShlAssign) r = (refl, refl)
-infix_back (inf.Binary bin.ShrAssign) r = (refl, refl)
+infix_back _ r = (refl, refl)

@@ -31,8 +31,8 @@ use Rattle.syn_grammar.specs.WellFormed.{leaf_fits, body_fits}
 use Rattle.syn_grammar.proofs.GroupForms.{path_stands}
 use Rattle.syn_grammar.proofs.HeadBack.{body_back, label_back, lifetime_or_none, jump_back, range_back, jump_stops, label_stops}
 
--- Behind a path no `::` stands, behind one without arguments no `!` but that of `!=`, and behind the name `builtin` no `#`;
--- behind `break` and `continue` alone no lifetime.
+-- After a path no `::` stands, after one without arguments no `!` but that of `!=`, and after the name `builtin` no `#`;
+-- after `break` and `continue` alone no lifetime.
 abbrev pub leaf_stops : Leaf → List Tok → Bool
 leaf_stops (e.path q p) r = not (colon2.at r) && (not (is_bare (q, p) && not_ne.at r) && not (is_word_alone (codes "builtin") q p && sign_at (codes "#") r))
 leaf_stops (e.bare_jump j) r = jump_stops j r
@@ -135,7 +135,7 @@ and_true : (b c : Bool) → ((b && true) && c) ≡ false → (b && c) ≡ false
 and_true true c g = g
 and_true false c g = refl
 
--- behind a word `::` stands
+-- after a word `::` stands
 further_seen : (k : Leaf) (w : Text) (m : List Tok) → is_segment w ≡ true → h.leaf_form.behind k (ident w ∷ colon2_before m) ≡ h.named.behind k (ident w ∷ colon2_before m)
 unfolding brace_at group_at sign_at
 further_seen k w m g = named_word k w (colon2_before m) g (no_brace (bytes_eq w (codes "try"))) (no_pound (bytes_eq w (codes "builtin")))
@@ -189,10 +189,8 @@ pub own_visible : (q : QSelfTree) (l e : Bool) (xs : List SegmentTree) (r : List
     → invisible_at (qualified_own (q, record { leading = l; segments = xs; trailing = e }) r) ≡ false
 unfolding invisible_at group_at
 own_visible q l true xs r f = absurd cc
-own_visible (t.qself x n a) l false xs r f = refl
-own_visible t.no_qself true false xs r f = refl
 own_visible t.no_qself false false [] r f = absurd cc
-own_visible t.no_qself false false (s ∷ xs) r f = refl
+own_visible _ _ false _ r f = refl
 
 named_back : (q : QSelfTree) (p : PathTree) (l r : List Tok) → (qpath type style.Expr).behind (q, p) l ≡ Some r → (is_bare (q, p) && not_ne.at r) ≡ false → h.named.behind (e.path q p) l ≡ Some r
 unfolding h.named macro_end

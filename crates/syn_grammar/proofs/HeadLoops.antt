@@ -40,7 +40,7 @@ begins_none m true b f g h = sign_first 62 [] (λ z. (q.type true).reads z ≡ N
 begins_none m false true f g h = begins_quote m g
 begins_none m false false f g h = absurd cc
 
--- what a pattern stands in front of
+-- what a pattern comes before
 some_none : {A : Type 0} {x : A} {o : Option A} → o ≡ Some x → o ≡ None → Some x ≡ None
 some_none f g = sym f ∙ g
 
@@ -52,7 +52,7 @@ no_angle x l n f true true g h =
     let none : (p.pattern true).reads l ≡ None = sign_first 60 [] (λ z. (q.type true).reads (drop 1 z) ≡ None → (p.pattern true).reads z ≡ None) (λ s z k. angle_none s z k) l g r in
     let e : Some (x, n) ≡ None = some_none f none in absurd cc
 
--- where a pattern stands behind `for`, no lifetimes of a closure do
+-- where a pattern comes after `for`, no lifetimes of a closure do
 pub no_lifetimes : (x : PatTree) (l n : List Tok) → (p.pattern true).behind x l ≡ Some n → q.lifetimes_at (ident (codes "for") ∷ l) ≡ false
 unfolding q.lifetimes_at word_at
 no_lifetimes x l n f = let a = pattern_alike {k = 0} true in no_angle x l n (a.complete l x n f) _ _ refl refl

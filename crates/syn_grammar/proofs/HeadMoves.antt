@@ -1,4 +1,4 @@
--- What is left behind trailers, the tokens of frames and the ends of operands is a tail of the list, and weighs less where
+-- What is left after trailers, the tokens of frames and the ends of operands is a tail of the list, and weighs less where
 -- a token was taken.
 use Rattle.std.proofs.Common.{◌≡◌, ℕ, ◌≤◌, ◌<◌, Bool, true, false, ◌||◌, cond, List, [], ◌∷◌, ◌++◌, take, drop, length, ◌-◌, length-append, Option, Some, None, refl, ap, sym, subst, arith}
 use Rattle.std.proofs.lemmas.List.{take-append-drop}
@@ -9,7 +9,7 @@ use Rattle.syn_tokens.specs.Tok.{Tok, ident, punct, literal, group, toks, weight
 use Rattle.syn_tokens.specs.Front.{group_at, same_delimiter, is_empty}
 use Rattle.syn_tokens.specs.Floats.{float_parts}
 use Rattle.syn_tokens.specs.Input.{IsTail}
-use Rattle.syn_parts.specs.Form.{Form, Outcome, Mark}
+use Rattle.syn_parts.specs.Form.{Form, Outcome, Mark, and_then}
 use Rattle.syn_parts.specs.Laws.{IsReadable}
 use Rattle.syn_parts.specs.Mark.{sign_at, comma, semi}
 use Rattle.syn_parts.proofs.Forms.{Present, behind_some}
@@ -17,7 +17,7 @@ use Rattle.syn_parts.proofs.Marks.{begins_in_front, comma_present, semi_present,
 use Rattle.syn_parts.proofs.Tails.{nothing_taken, tail_then, one_taken}
 use Rattle.syn_parts.proofs.Weights.{some_is, taken}
 use Rattle.syn_grammar.specs.Front.{dot_at, question_at}
-use Rattle.syn_grammar.specs.Head.{label, body_inside, dotted}
+use Rattle.syn_grammar.specs.Head.{label, body, dotted}
 use Rattle.syn_grammar.specs.Slot as s
 use Rattle.syn_grammar.specs.Slot.{if_at, for_head, frame_head, ending_at}
 use Rattle.syn_grammar.specs.Stands.{trailer_head, fields_head, name_at, indices_at, postfix_behind, closed_steps, open_steps, steps_of, named_behind, with_steps, is_parenthesis_or_bracket}
@@ -54,7 +54,7 @@ then_less g h = record { tail = tail_then g h.tail; less = omega (arith, h.less,
 pub marked : {m : Mark} → Present m → (l : List Tok) → m.at l ≡ true → IsLess (drop m.count l) l
 marked {m} p l h = record { tail = dropped m.count l; less = p.present l h }
 
--- behind a group, and in it
+-- after a group, and in it
 pub grouped : (d : Delimiter) (l i n : List Tok) → group_at d l ≡ Some (i, n) → IsLess n l
 unfolding group_at
 grouped d l i n h = record { tail = behind d l i n h; less = omega (arith, taken d l i n h) }
@@ -73,7 +73,7 @@ grouped d l i n h = record { tail = behind d l i n h; less = omega (arith, taken
 pub group_inside : (d : Delimiter) (l i n : List Tok) → group_at d l ≡ Some (i, n) → weight i < weight l
 group_inside d l i n h = omega (arith, taken d l i n h)
 
--- of a form that reads what stands
+-- of a form that reads what is
 pub left : {A : Type 0} {k : ℕ} {f : Form A} → IsReadable k f → (x : A) (l n : List Tok) → f.behind x l ≡ Some n → IsTail n l
 left r x l n h = r.tail l n x (r.found l n x h)
 
@@ -112,9 +112,7 @@ name_left (literal w ∷ l) is n h = by_steps (steps_of (float_parts w)) h
     by_steps (Some (js, false)) h = absurd cc
     by_steps None h = absurd cc
 name_left [] is n h = subst (λ z. IsTail z []) (ap (λ z. z.1) (some_is h)) (nothing_taken [])
-name_left (ident w ∷ l) is n h = subst (λ z. IsTail z (ident w ∷ l)) (ap (λ z. z.1) (some_is h)) (nothing_taken (ident w ∷ l))
-name_left (punct c q ∷ l) is n h = subst (λ z. IsTail z (punct c q ∷ l)) (ap (λ z. z.1) (some_is h)) (nothing_taken (punct c q ∷ l))
-name_left (group d i ∷ l) is n h = subst (λ z. IsTail z (group d i ∷ l)) (ap (λ z. z.1) (some_is h)) (nothing_taken (group d i ∷ l))
+name_left v is n h = subst (λ z. IsTail z v) (ap (λ z. z.1) (some_is h)) (nothing_taken v)
 
 pub fields_less : (m : List Tok) (is : List ℕ) (n : List Tok) → fields_head m ≡ Some (is, n) → IsLess n m
 unfolding fields_head
@@ -154,9 +152,7 @@ unfolding trailer_head
 trailer_less e.call m is n c h = absurd cc
 trailer_less e.index m is n c h = absurd cc
 trailer_less e.try_expr m is n c h = question_less m is n h
-trailer_less (e.method w a) m is n c h = dotted_less (e.method w a) m is n h
-trailer_less (e.field f) m is n c h = dotted_less (e.field f) m is n h
-trailer_less e.await m is n c h = dotted_less e.await m is n h
+trailer_less d m is n c h = dotted_less d m is n h
 
 -- a call's and an index's group is not taken yet
 pub trailer_left : (k : Trailer) (m : List Tok) (is : List ℕ) (n : List Tok) → trailer_head k m ≡ Some (is, n) → IsTail n m
@@ -177,7 +173,7 @@ if_less {m} p l n h = by_bool (m.at l) refl h
     by_bool true e h = subst (λ z. IsLess z l) (some_is h) (marked p l e)
     by_bool false e h = absurd cc
 
--- the frames in a delimiter whose tokens stand in it alone
+-- the frames in a delimiter whose tokens are in it alone
 abbrev pub is_enclosed : Frame → Bool
 is_enclosed e.array = true
 is_enclosed e.tuple = true
@@ -186,9 +182,6 @@ is_enclosed e.group_expr = true
 is_enclosed _ = false
 
 pub frame_less : (k : Frame) (l n : List Tok) → is_enclosed k ≡ false → frame_head k l ≡ Some n → IsLess n l
-frame_less e.array l n c h = absurd cc
-frame_less e.tuple l n c h = absurd cc
-frame_less e.repeat l n c h = absurd cc
 frame_less (e.structure q p d) l n c h = left_less (here.expr_paths true) (q, p) l n h
 frame_less (e.closure_block f) l n c h = left_less here.closure_heads f l n h
 frame_less e.if_expr l n c h = if_less (word_present _) l n h
@@ -199,21 +192,18 @@ frame_less (e.for_loop w p) l n c h =
     let (m, i, j) = behind_some (label.behind w l) (for_head.behind p) n h in
     then_less (left here.labels w l m i) (left_less here.for_heads p m n j)
 frame_less e.match_expr l n c h = if_less (word_present _) l n h
-frame_less e.group_expr l n c h = absurd cc
+frame_less _ l n c h = absurd cc
 
 pub frame_left : (k : Frame) (l n : List Tok) → frame_head k l ≡ Some n → IsTail n l
-frame_left e.array l n h = subst (λ z. IsTail z l) (some_is h) (nothing_taken l)
-frame_left e.tuple l n h = subst (λ z. IsTail z l) (some_is h) (nothing_taken l)
-frame_left e.repeat l n h = subst (λ z. IsTail z l) (some_is h) (nothing_taken l)
 frame_left (e.structure q p d) l n h = let a = frame_less (e.structure q p d) l n refl h in a.tail
 frame_left (e.closure_block f) l n h = let a = frame_less (e.closure_block f) l n refl h in a.tail
 frame_left e.if_expr l n h = let a = frame_less e.if_expr l n refl h in a.tail
 frame_left (e.while_loop w) l n h = let a = frame_less (e.while_loop w) l n refl h in a.tail
 frame_left (e.for_loop w p) l n h = let a = frame_less (e.for_loop w p) l n refl h in a.tail
 frame_left e.match_expr l n h = let a = frame_less e.match_expr l n refl h in a.tail
-frame_left e.group_expr l n h = subst (λ z. IsTail z l) (some_is h) (nothing_taken l)
+frame_left _ l n h = subst (λ z. IsTail z l) (some_is h) (nothing_taken l)
 
--- ---- behind an operand
+-- ---- after an operand
 
 pub postfix_left : (k : Postfix) (l n : List Tok) → postfix_behind k l ≡ Some n → IsTail n l
 postfix_left (e.cast x) l n h = left (here.types false) x l n h
@@ -242,35 +232,25 @@ ending_left e.repeated x l c n h = by_bool (semi.at l) h
     by_bool false h = absurd cc
 ending_left e.condition x l c n h = by_group (group_at del.Brace l) refl h
   where
-    by_group : (o : Option (List Tok × List Tok)) → group_at del.Brace l ≡ o → s.behind_condition o ≡ Some (c, n) → IsTail n l
+    by_group : (o : Outcome (List Tok)) → group_at del.Brace l ≡ o → and_then o (λ ts m. Some (e.braced (e.body_of [] ts), m)) ≡ Some (c, n) → IsTail n l
     by_group None g h = absurd cc
-    by_group (Some p) g h = let a = grouped del.Brace l p.0 p.1 g in same_left (e.braced (s.plain_body p.0)) c l p.1 n a.tail h
-ending_left e.loop_head x l c n h = by_group (group_at del.Brace l) refl h
+    by_group (Some p) g h = let a = grouped del.Brace l p.0 p.1 g in same_left (e.braced (e.body_of [] p.0)) c l p.1 n a.tail h
+ending_left e.loop_head x l c n h = by_body (body.reads l) refl h
   where
-    by_body : (i m : List Tok) (o : Outcome Body) → IsTail m l → s.whole_body o m ≡ Some (c, n) → IsTail n l
-    by_body i m (Some (b, [])) t h = same_left (e.braced b) c l m n t h
-    by_body i m (Some (b, y ∷ ys)) t h = absurd cc
-    by_body i m None t h = absurd cc
-
-    by_group : (o : Option (List Tok × List Tok)) → group_at del.Brace l ≡ o → s.behind_loop o ≡ Some (c, n) → IsTail n l
-    by_group None g h = absurd cc
-    by_group (Some p) g h = let a = grouped del.Brace l p.0 p.1 g in by_body p.0 p.1 (body_inside.reads p.0) a.tail h
+    by_body : (o : Outcome Body) → body.reads l ≡ o → and_then o (λ b m. Some (e.braced b, m)) ≡ Some (c, n) → IsTail n l
+    by_body None g h = absurd cc
+    by_body (Some (b, m)) g h = same_left (e.braced b) c l m n (here.bodies.tail l m b g) h
 ending_left e.guarded x l c n h = comma_left (is_empty l || e.is_block_like x) l c n h
 ending_left (e.arm ats p) x l c n h = comma_left (is_empty l || e.is_block_like x) l c n h
 ending_left e.scrutinee x l c n h = absurd cc
-ending_left e.value x l c n h = same_left e.no_ending c l l n (nothing_taken l) h
 ending_left (e.rest d) x l c n h = by_bool (is_empty l) h
   where
     by_bool : (b : Bool) → cond {A = Outcome Ending} b (Some (e.no_ending, l)) None ≡ Some (c, n) → IsTail n l
     by_bool true h = same_left e.no_ending c l l n (nothing_taken l) h
     by_bool false h = absurd cc
-ending_left e.chained x l c n h = same_left e.no_ending c l l n (nothing_taken l) h
-ending_left (e.guard ats p) x l c n h = same_left e.no_ending c l l n (nothing_taken l) h
-ending_left e.output_block x l c n h = same_left e.no_ending c l l n (nothing_taken l) h
-ending_left e.grouped x l c n h = same_left e.no_ending c l l n (nothing_taken l) h
-ending_left e.stray x l c n h = same_left e.no_ending c l l n (nothing_taken l) h
+ending_left _ x l c n h = same_left e.no_ending c l l n (nothing_taken l) h
 
--- A token is taken behind these, and by a comma.
+-- A token is taken after these, and by a comma.
 abbrev pub takes_end : Piece → Ending → Bool
 takes_end e.repeated c = true
 takes_end k e.no_ending = false
@@ -289,23 +269,7 @@ comma_less b l c n f h = by_comma (comma.at l) refl b h
 
 ended_some : (k : Piece) (c : Ending) → is_repeated k ≡ false → takes_end k c ≡ true → e.no_ending ≡ c → ⊥
 ended_some e.repeated c r t d = absurd cc
-ended_some e.element e.no_ending r t d = absurd cc
-ended_some (e.field_value ats m b) e.no_ending r t d = absurd cc
-ended_some e.guarded e.no_ending r t d = absurd cc
-ended_some (e.arm ats p) e.no_ending r t d = absurd cc
-ended_some e.condition e.no_ending r t d = absurd cc
-ended_some e.loop_head e.no_ending r t d = absurd cc
-ended_some e.scrutinee e.no_ending r t d = absurd cc
-ended_some e.value e.no_ending r t d = absurd cc
-ended_some (e.rest b) e.no_ending r t d = absurd cc
-ended_some e.chained e.no_ending r t d = absurd cc
-ended_some (e.guard ats p) e.no_ending r t d = absurd cc
-ended_some e.output_block e.no_ending r t d = absurd cc
-ended_some e.grouped e.no_ending r t d = absurd cc
-ended_some e.stray e.no_ending r t d = absurd cc
-ended_some k e.comma r t d = absurd cc
-ended_some k (e.braced b) r t d = absurd cc
-ended_some k (e.opened ats) r t d = absurd cc
+ended_some _ _ r t d = absurd cc
 
 pub ending_less : (k : Piece) (x : Tree) (l : List Tok) (c : Ending) (n : List Tok) → takes_end k c ≡ true → ending_at k x l ≡ Some (c, n) → IsLess n l
 unfolding ending_at
@@ -320,31 +284,22 @@ ending_less e.repeated x l c n t h = by_bool (semi.at l) refl h
     by_bool false g h = absurd cc
 ending_less e.condition x l c n t h = by_group (group_at del.Brace l) refl h
   where
-    by_group : (o : Option (List Tok × List Tok)) → group_at del.Brace l ≡ o → s.behind_condition o ≡ Some (c, n) → IsLess n l
+    by_group : (o : Outcome (List Tok)) → group_at del.Brace l ≡ o → and_then o (λ ts m. Some (e.braced (e.body_of [] ts), m)) ≡ Some (c, n) → IsLess n l
     by_group None g h = absurd cc
-    by_group (Some p) g h = same_less (e.braced (s.plain_body p.0)) c l p.1 n (grouped del.Brace l p.0 p.1 g) h
-ending_less e.loop_head x l c n t h = by_group (group_at del.Brace l) refl h
+    by_group (Some p) g h = same_less (e.braced (e.body_of [] p.0)) c l p.1 n (grouped del.Brace l p.0 p.1 g) h
+ending_less e.loop_head x l c n t h = by_body (body.reads l) refl h
   where
-    by_body : (m : List Tok) (o : Outcome Body) → IsLess m l → s.whole_body o m ≡ Some (c, n) → IsLess n l
-    by_body m (Some (b, [])) t h = same_less (e.braced b) c l m n t h
-    by_body m (Some (b, y ∷ ys)) t h = absurd cc
-    by_body m None t h = absurd cc
-
-    by_group : (o : Option (List Tok × List Tok)) → group_at del.Brace l ≡ o → s.behind_loop o ≡ Some (c, n) → IsLess n l
-    by_group None g h = absurd cc
-    by_group (Some p) g h = by_body p.1 (body_inside.reads p.0) (grouped del.Brace l p.0 p.1 g) h
+    by_body : (o : Outcome Body) → body.reads l ≡ o → and_then o (λ b m. Some (e.braced b, m)) ≡ Some (c, n) → IsLess n l
+    by_body None g h = absurd cc
+    by_body (Some (b, m)) g h =
+        same_less (e.braced b) c l m n (record { tail = here.bodies.tail l m b g; less = omega (arith, here.bodies.moves l m b g) }) h
 ending_less e.scrutinee x l c n t h = absurd cc
-ending_less e.value x l c n t h = absurd (ended_some e.value c refl t (ap (λ z. z.0) (some_is h)))
 ending_less (e.rest d) x l c n t h = by_bool (is_empty l) h
   where
     by_bool : (b : Bool) → cond {A = Outcome Ending} b (Some (e.no_ending, l)) None ≡ Some (c, n) → IsLess n l
     by_bool true h = absurd (ended_some (e.rest d) c refl t (ap (λ z. z.0) (some_is h)))
     by_bool false h = absurd cc
-ending_less e.chained x l c n t h = absurd (ended_some e.chained c refl t (ap (λ z. z.0) (some_is h)))
-ending_less (e.guard ats p) x l c n t h = absurd (ended_some (e.guard ats p) c refl t (ap (λ z. z.0) (some_is h)))
-ending_less e.output_block x l c n t h = absurd (ended_some e.output_block c refl t (ap (λ z. z.0) (some_is h)))
-ending_less e.grouped x l c n t h = absurd (ended_some e.grouped c refl t (ap (λ z. z.0) (some_is h)))
-ending_less e.stray x l c n t h = absurd (ended_some e.stray c refl t (ap (λ z. z.0) (some_is h)))
+ending_less d x l c n t h = absurd (ended_some d c refl t (ap (λ z. z.0) (some_is h)))
 
 -- ---- lengths
 

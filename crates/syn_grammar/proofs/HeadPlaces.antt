@@ -1,4 +1,4 @@
--- What stands before and behind the operands, trailers, and the tokens of frames are read back from their own tokens.
+-- What comes before and after the operands, trailers, and the tokens of frames are read back from their own tokens.
 use Rattle.std.proofs.Common.{◌≡◌, Bool, true, false, not, ◌||◌, ◌&&◌, List, [], ◌∷◌, Some, refl, ◌∙◌, codes}
 use Rattle.syn_lexer.specs.Keywords.{is_reserved_word}
 use Rattle.syn_lexer.specs.declared.lexeme.Delimiter.{Delimiter}
@@ -7,7 +7,7 @@ use Rattle.syn_tokens.specs.Tok.{Tok, ident, toks-inside}
 use Rattle.syn_tokens.specs.Front.{group_at, is_empty}
 use Rattle.syn_parts.specs.Text.{is_segment, is_truth, stands_alone}
 use Rattle.syn_parts.specs.Tree.{AttributeTree}
-use Rattle.syn_parts.specs.Form.{is_nil}
+use Rattle.syn_parts.specs.Form.{and_then, is_nil}
 use Rattle.syn_parts.specs.Mark.{sign_at, word_at, round_at, brace_at, pound, colon, comma}
 use Rattle.syn_parts.specs.Own.{alone, joint, before_if, enclosed, attribute_own}
 use Rattle.syn_parts.specs.Ends.{ends_patterns, ends_types}
@@ -26,9 +26,9 @@ use Rattle.syn_grammar.specs.Tree as e
 use Rattle.syn_grammar.specs.Tree.{Body, Tree, Piece, Ending, inners, piece_own, ending_own, body_own, is_block_like}
 use Rattle.syn_grammar.specs.WellFormed.{body_fits, piece_fits, ending_fits, is_name_path}
 use Rattle.syn_grammar.proofs.Attributes.{outers_are}
-use Rattle.syn_grammar.proofs.HeadBack.{body_inside_back}
+use Rattle.syn_grammar.proofs.HeadBack.{body_back}
 use Rattle.syn_grammar.proofs.HeadFront.{pattern_no_pound}
-use Rattle.syn_grammar.proofs.HeadForms.{body_inside_alike}
+use Rattle.syn_grammar.proofs.HeadForms.{body_alike}
 
 -- ---- before an operand
 
@@ -59,7 +59,7 @@ abbrev pub piece_stops : Piece → List Tok → Bool
 piece_stops (e.field_value ats m false) r = not (colon.at r)
 piece_stops _ r = true
 
--- `..` is written before what is behind the fields
+-- `..` is written before what is after the fields
 abbrev pub is_written : Piece → Bool
 is_written (e.rest d) = d
 is_written _ = true
@@ -82,7 +82,7 @@ colon_back (a_name w) false x r f g = rw (not_true (sign_at (codes ":") r) g) re
 colon_back (an_index n) true x r f g = refl
 colon_back (an_index n) false x r f g = absurd cc
 
--- behind all of it but its colon
+-- after all of it but its colon
 pub field_opens : (ats : List AttributeTree) (m : MemberTree) (b : Bool) (r : List Tok) → attributes_outer ats ≡ true → member_fits m ≡ true
     → (piece_form s.fields).behind (e.field_value ats m b) (piece_own (e.field_value ats m b) r) ≡ (s.field_colon m).behind b (before_if b (λ l. alone 58 ∷ l) r)
 unfolding piece_form
@@ -127,9 +127,9 @@ piece_back s.bodies e.guarded c x r f w g = guarded_back r
 piece_back s.outputs e.output_block c x r f w g = refl
 piece_back _ k c x r f w g = absurd cc
 
--- ---- behind an operand
+-- ---- after an operand
 
--- Nothing is behind a last element without a comma, nor behind a rest; behind an arm's body no comma, and nothing or what ends with a block
+-- Nothing is after a last element without a comma, nor after a rest; after an arm's body no comma, and nothing or what ends with a block
 -- before it.
 abbrev pub ending_stops : Piece → Tree → Ending → List Tok → Bool
 ending_stops e.element x e.no_ending l = is_empty l
@@ -154,20 +154,18 @@ arm_last_back x l g =
     let (i, j) = both_true (not (comma.at l)) (is_empty l || is_block_like x) g in
     rw (not_true (comma.at l) i, j) refl
 
-condition_back : (b : Body) (l : List Tok) → is_nil b.inner ≡ true → s.behind_condition (group_at del.Brace (body_own b l)) ≡ Some (e.braced b, l)
+condition_back : (b : Body) (l : List Tok) → is_nil b.inner ≡ true
+    → and_then (group_at del.Brace (body_own b l)) (λ ts n. Some (e.braced (e.body_of [] ts), n)) ≡ Some (e.braced b, l)
 unfolding group_at
 condition_back b l f = by_inner b.inner b.tokens f
   where
     by_inner : (xs : List AttributeTree) (ts : List Tok) → is_nil xs ≡ true
-        → s.behind_condition (group_at del.Brace (body_own (record { inner = xs; tokens = ts }) l)) ≡ Some (e.braced (record { inner = xs; tokens = ts }), l)
+        → and_then (group_at del.Brace (body_own (e.body_of xs ts) l)) (λ us n. Some (e.braced (e.body_of [] us), n)) ≡ Some (e.braced (e.body_of xs ts), l)
     by_inner [] ts f = rw (toks-inside ts) refl
     by_inner (a ∷ xs) ts f = absurd cc
 
-loop_back : (b : Body) (l : List Tok) → body_fits b ≡ true → s.behind_loop (group_at del.Brace (body_own b l)) ≡ Some (e.braced b, l)
-unfolding group_at
-loop_back b l f =
-    let a : Alike 0 h.body_inside h.body_inside = body_inside_alike in
-    rw (toks-inside (attributes_own (inners b.inner) b.tokens), a.complete (attributes_own (inners b.inner) b.tokens) b [] (body_inside_back b f)) refl
+loop_back : (b : Body) (l : List Tok) → body_fits b ≡ true → and_then (h.body.reads (body_own b l)) (λ x n. Some (e.braced x, n)) ≡ Some (e.braced b, l)
+loop_back b l f = let a : Alike 0 h.body h.body = body_alike in rw (a.complete (body_own b l) b l (body_back b l f)) refl
 
 pub ending_back : (k : Piece) (c : Ending) (x : Tree) (l r : List Tok) → ending_fits k c ≡ true → is_scrutinee k ≡ false → ending_stops k x c l ≡ true → ending_at k x (ending_own k c l r) ≡ Some (c, l)
 unfolding ending_at sign_at

@@ -1,4 +1,4 @@
--- What is left behind patterns and behind the heads of expressions is a tail of the list.
+-- What is left after patterns and after the heads of expressions is a tail of the list.
 use Rattle.std.proofs.Common.{◌≡◌, Bool, true, false, not, ◌&&◌, ◌==◌, ℕ, List, [], ◌∷◌, Option, Some, None, ap, subst, codes}
 use Rattle.std.specs.Str.{bytes_eq}
 use Rattle.syn_lexer.specs.Keywords.{is_reserved_word}
@@ -151,7 +151,7 @@ pub body_leaves : Leaves h.body
 unfolding h.body
 body_leaves = search leaving depth 12
 
--- ---- leaves, what stands before an operand, and behind a dot
+-- ---- leaves, what comes before an operand, and after a dot
 
 found_builtin : Found h.find_builtin
 found_builtin = record { leaves = leaves }
@@ -208,7 +208,7 @@ dotted_leaves = search (member_leaves, arguments_leaves, case_leaves, leaving) d
 pub for_head_leaves : Leaves s.for_head
 for_head_leaves = search (pattern_leaves, leaving) depth 12
 
--- ---- what stands before an operand in a place of its own
+-- ---- what comes before an operand in a place of its own
 
 field_colon_leaves : (m : MemberTree) → Leaves (s.field_colon m)
 field_colon_leaves (a_name w) = flag_leaves colon
@@ -216,16 +216,9 @@ field_colon_leaves (an_index n) = mark_leaves colon (pure_leaves _ _)
 
 pub piece_form_leaves : (q : Slot) → Leaves (s.piece_form q)
 unfolding s.piece_form
-piece_form_leaves s.elements = pure_leaves _ _
-piece_form_leaves s.single = pure_leaves _ _
-piece_form_leaves s.counted = pure_leaves _ _
 piece_form_leaves s.fields = case_leaves p.dots (pure_leaves _ _) (shown_leaves _ _ (both_leaves outer_attributes_leaves (then_by_leaves member_leaves field_colon_leaves)))
-piece_form_leaves s.conditions = pure_leaves _ _
 piece_form_leaves s.otherwise = mark_leaves s.else_word (pure_leaves _ _)
-piece_form_leaves s.loops = pure_leaves _ _
-piece_form_leaves s.scrutinees = pure_leaves _ _
 piece_form_leaves s.arms = search (outer_attributes_leaves, pattern_leaves, case_leaves, leaving) depth 16
 piece_form_leaves s.bodies = mark_leaves s.fat_arrow (pure_leaves _ _)
-piece_form_leaves s.outputs = pure_leaves _ _
-piece_form_leaves s.groups = pure_leaves _ _
 piece_form_leaves s.done = never_leaves
+piece_form_leaves _ = pure_leaves _ _

@@ -52,7 +52,7 @@ builtin_takes = record { takes = takes }
         by l n (ident b ∷ punct c q ∷ ident w ∷ group del.Parenthesis i ∷ l) (verbatim_some (bytes_eq b (codes "builtin") && (c == 35 && not (is_reserved_word w))) (ident b ∷ punct c q ∷ ident w ∷ group del.Parenthesis i ∷ []) l x n g) (four (ident b) (punct c q) (ident w) (group del.Parenthesis i) l)
     takes _ x n g = absurd cc
 
--- a mark, whatever is read behind it
+-- a mark, whatever is read after it
 pub marked : {A : Type 0} {m : Mark} {f : Form A} → Present m → Alike 0 f f → Takes (mark m f)
 marked p a = mark_takes {k = 0} p a
 
@@ -86,7 +86,7 @@ pub leaf_form_takes : Takes h.leaf_form
 unfolding h.leaf_form
 leaf_form_takes = search (unsigned_takes, range_op_takes, jump_head_takes, body_takes, builtin_takes, named_takes, label_alike, body_alike, block_alike, taking, forms, head_marks, head_views) depth 40
 
--- ---- what stands before an operand, and behind a dot
+-- ---- what comes before an operand, and after a dot
 
 closure_inputs_takes : Takes h.closure_inputs
 unfolding h.closure_inputs
@@ -107,7 +107,7 @@ dotted_takes = search (name_takes, member_takes, arguments_whole, taking, forms,
 pub for_head_takes : Takes s.for_head
 for_head_takes = search (pattern_alike, taking, forms, head_marks) depth 16
 
--- ---- what stands before an operand in a place of its own
+-- ---- what comes before an operand in a place of its own
 
 pub fields_take : Takes (s.piece_form s.fields)
 unfolding s.piece_form

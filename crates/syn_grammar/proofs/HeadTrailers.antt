@@ -1,4 +1,4 @@
--- Trailers, the tokens of frames and those behind a left operand are read back from their own tokens.
+-- Trailers, the tokens of frames and those after a left operand are read back from their own tokens.
 use Rattle.std.proofs.Common.{◌≡◌, ℕ, ◌+◌, ◌*◌, Bool, true, false, not, ◌||◌, ◌&&◌, ◌==◌, nat_lt, cond, List, [], ◌∷◌, ◌++◌, drop, Option, Some, None, refl, ap, ◌∙◌, subst, codes, arith, append_assoc}
 use Rattle.std.proofs.lemmas.Bool.Decides.{nat_tests}
 use Rattle.std.proofs.lemmas.List.{append-nil}
@@ -37,7 +37,7 @@ abbrev pub trailer_stops : Trailer → List Tok → Bool
 trailer_stops (e.field (a_name w)) r = not (round_at r || colon2.at r)
 trailer_stops k r = true
 
--- behind a trailer's own tokens: its group, or nothing
+-- after a trailer's own tokens: its group, or nothing
 abbrev pub trailer_rest : Trailer → List Tok → List Tok → List Tok
 trailer_rest e.call i r = enclosed del.Parenthesis i r
 trailer_rest e.index i r = enclosed del.Bracket i r
@@ -83,8 +83,6 @@ await_back r = refl
 
 pub trailer_back : (k : Trailer) (i r : List Tok) → trailer_fits k ≡ true → is_indexed k ≡ false → trailer_stops k r ≡ true → trailer_head k (trailer_own k i r) ≡ Some ([], trailer_rest k i r)
 unfolding trailer_head dot_at question_at sign_at name_at
-trailer_back e.call i r f g u = refl
-trailer_back e.index i r f g u = refl
 trailer_back (e.method w a) i r f g u =
     let (j, k) = both_true (not (is_reserved_word w)) (arguments_fit style.Expr a) f in
     rw (method_back w a i r (not_true (is_reserved_word w) j) k) refl
@@ -93,7 +91,7 @@ trailer_back (e.field (a_name w)) i r f g u =
     rw (field_back w r (not_true (is_reserved_word w) f) j k) refl
 trailer_back (e.field (an_index n)) i r f g u = absurd cc
 trailer_back e.await i r f g u = rw (await_back r) refl
-trailer_back e.try_expr i r f g u = refl
+trailer_back _ i r f g u = refl
 
 -- ---- indices
 
@@ -139,7 +137,7 @@ base_small c = by_bool (c == 120) (c == 111)
     by_bool false true = refl
     by_bool false false = refl
 
--- the digits of a number in a base behind a prefix
+-- the digits of a number in a base after a prefix
 radix_no_dot : (w : Text) (n : ℕ) → has_radix w ≡ true → digits_value (base_of (byte_at w 1)) 0 (drop 2 w) ≡ Some n → no_dot w ≡ true
 radix_no_dot [] n f g = absurd cc
 radix_no_dot (b ∷ []) n f g = let (i, j) = both_true (b == 48) _ f in absurd cc

@@ -1,5 +1,5 @@
--- The forms that the definitions and the reading of expressions use are read exactly where their tokens stand, what is
--- left behind each is a tail of the list, and those that take a token leave less.
+-- The forms that the definitions and the reading of expressions use are read exactly where their tokens are, what is
+-- left after each is a tail of the list, and those that take a token leave less.
 use Rattle.std.proofs.Common.{Bool, arith}
 use Rattle.syn_parts.specs.declared.label.PathStyle.TheVariants as style
 use Rattle.syn_parts.specs.Form.{Form}
@@ -40,7 +40,7 @@ readable_or_none a t = record {
   found = λ l n x h. a.complete l x n h;
 }
 
--- What each form reads stands there, and what stands it reads; what is left is a tail, of less weight where 1 is asked.
+-- What each form reads is there, and what stands it reads; what is left is a tail, of less weight where 1 is asked.
 pub record HeadsAreReadable : Type 0 where
   pub leaves : IsReadable 1 leaf_form
   pub prefixes : IsReadable 1 prefix_form

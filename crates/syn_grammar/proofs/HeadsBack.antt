@@ -36,9 +36,9 @@ pub record HeadsAreReadBack : Type 0 where
   pub closure_heads : (c : ClosureHead) (r : List Tok) → head_fits c ≡ true → output_stops true c.output r ≡ true → closure_head.behind c (closure_own c r) ≡ Some r
   pub leaves : (k : Leaf) (r : List Tok) → leaf_fits k ≡ true → leaf_stops k r ≡ true → leaf_form.behind k (leaf_own k r) ≡ Some r
   pub prefixes : (k : Prefix) (r : List Tok) → prefix_fits k ≡ true → prefix_stops k r ≡ true → prefix_form.behind k (prefix_own k r) ≡ Some r
-  -- `..` behind the fields is written where the piece says so
+  -- `..` after the fields is written where the piece says so
   pub pieces : (s : Slot) (k : Piece) (c : Ending) (x : Tree) (r : List Tok) → piece_fits s k c x ≡ true → is_written k ≡ true → piece_stops k r ≡ true → (piece_form s).behind k (piece_own k r) ≡ Some r
-  -- l is what is behind the ending, or inside of its brace; r is behind that brace
+  -- l is what is after the ending, or inside of its brace; r is after that brace
   pub endings : (k : Piece) (c : Ending) (x : Tree) (l r : List Tok) → ending_fits k c ≡ true → is_scrutinee k ≡ false → ending_stops k x c l ≡ true → ending_at k x (ending_own k c l r) ≡ Some (c, l)
   pub opened : (ats : List AttributeTree) (l r : List Tok) → group_at del.Brace (ending_own e.scrutinee (e.opened ats) l r) ≡ Some (attributes_own (inners ats) l, r)
   pub groups : (d : Delimiter) (ts r : List Tok) → group_at d (enclosed d ts r) ≡ Some (ts, r)

@@ -25,7 +25,7 @@ use Rattle.syn_grammar.proofs.Obeys.{Fits, FitsLeft, begins_label, Obeys, ObeysC
 use Rattle.syn_grammar.proofs.Edges.{prefix_next_is, not_cast}
 use Rattle.syn_grammar.proofs.Parenthesized.{compares_stays, label_stays, base_stays, same_infix, same_tail, same_child}
 
--- ---- trees that have no marks, and whose blocks stand where they must be bare
+-- ---- trees that have no marks, and whose blocks are where they must be bare
 
 abbrev pub block_there : Piece → Tree → Bool
 block_there e.chained t = is_if_expr t || is_verbatim_block t
@@ -52,52 +52,19 @@ abbrev mutual
 
 binary_small : (k : BinKind) → takes (level (inf.Binary k)) lev.Unambiguous ≡ true
 binary_small bin.Add = refl
-binary_small bin.Sub = refl
-binary_small bin.Mul = refl
-binary_small bin.Div = refl
-binary_small bin.Rem = refl
-binary_small bin.And = refl
-binary_small bin.Or = refl
-binary_small bin.BitXor = refl
-binary_small bin.BitAnd = refl
-binary_small bin.BitOr = refl
-binary_small bin.Shl = refl
-binary_small bin.Shr = refl
-binary_small bin.Eq = refl
-binary_small bin.Lt = refl
-binary_small bin.Le = refl
-binary_small bin.Ne = refl
-binary_small bin.Ge = refl
-binary_small bin.Gt = refl
-binary_small bin.AddAssign = refl
-binary_small bin.SubAssign = refl
-binary_small bin.MulAssign = refl
-binary_small bin.DivAssign = refl
-binary_small bin.RemAssign = refl
-binary_small bin.BitXorAssign = refl
-binary_small bin.BitAndAssign = refl
-binary_small bin.BitOrAssign = refl
-binary_small bin.ShlAssign = refl
-binary_small bin.ShrAssign = refl
+binary_small _ = refl
 
 pub level_small : (k : Infix) → takes (level k) lev.Unambiguous ≡ true
 level_small (inf.Binary k) = binary_small k
-level_small inf.Assign = refl
-level_small (inf.Range op) = refl
-level_small inf.Cast = refl
+level_small _ = refl
 
 pub prefix_small : (k : Prefix) → takes (prefix_level k) lev.Unambiguous ≡ true
 prefix_small (e.unary op) = refl
-prefix_small (e.reference m) = refl
-prefix_small (e.raw_addr m) = refl
-prefix_small (e.range_to op) = refl
-prefix_small (e.let_expr p) = refl
-prefix_small (e.jump j) = refl
-prefix_small (e.closure h) = refl
+prefix_small _ = refl
 
 -- ---- what obeys is of the kind that is printed
 
--- by whether a pair stands behind the attributes
+-- by whether a pair comes after the attributes
 abbrev ObeysBehind : Level → Context → Tree → Bool → Type 0
 ObeysBehind v c t b =
     let u = put b (parenthesize_attributed t) (parenthesize_attributed t) in
@@ -105,44 +72,32 @@ ObeysBehind v c t b =
 
 pub range_obeys : (t : Tree) (v : Level) (c : Context) → Obeys v c (parenthesize_attributed t) → prints_range t ≡ is_range (parenthesize_attributed t)
 range_obeys (leaf k) v c i = refl
-range_obeys (paren m t) v c i = refl
 range_obeys (attributed a more t) v c i = go (λ h. range_obeys t v (attributed_context c) h) (is_operation t) refl i
   where
     go : (Obeys v (attributed_context c) (parenthesize_attributed t) → prints_range t ≡ is_range (parenthesize_attributed t)) → (b : Bool) → is_operation t ≡ b
         → ObeysBehind v c t b → false ≡ is_range (put b (parenthesize_attributed t) (parenthesize_attributed t))
     go again true o j = refl
     go again false o j = sym (or_false (is_infix t) (prints_range t) o).1 ∙ again j.1
-range_obeys (prefixed k gs t) v c i = refl
-range_obeys (infixed x k y) v c i = refl
-range_obeys (postfixed x k) v c i = refl
-range_obeys (tail b k ks) v c i = refl
-range_obeys (frame k ks) v c i = refl
+range_obeys _ v c i = refl
 
 pub carrier_obeys : (t : Tree) (v : Level) (c : Context) → Obeys v c (parenthesize_attributed t)
     → prints_carrier t ≡ carries (parenthesize_attributed t) || is_cast (parenthesize_attributed t)
 carrier_obeys (leaf k) v c i = refl
-carrier_obeys (paren m t) v c i = refl
 carrier_obeys (attributed a more t) v c i = go (λ h. carrier_obeys t v (attributed_context c) h) (is_operation t) i
   where
     go : (Obeys v (attributed_context c) (parenthesize_attributed t) → prints_carrier t ≡ carries (parenthesize_attributed t) || is_cast (parenthesize_attributed t))
         → (b : Bool) → ObeysBehind v c t b → b || prints_carrier t ≡ carries (put b (parenthesize_attributed t) (parenthesize_attributed t)) || false
     go again true j = refl
     go again false j = again j.1 ∙ ap (λ b. carries (parenthesize_attributed t) || b) (not_cast (parenthesize_attributed t) j.0)
-carrier_obeys (prefixed k gs t) v c i = refl
-carrier_obeys (infixed x k y) v c i = refl
-carrier_obeys (postfixed x k) v c i = refl
-carrier_obeys (tail b k ks) v c i = refl
-carrier_obeys (frame k ks) v c i = refl
+carrier_obeys _ v c i = refl
 
 no_label : (t : Tree) → begins_label t ≡ false → labelled t ≡ false
 no_label (leaf k) h = h
-no_label (paren m t) h = refl
-no_label (attributed a more t) h = refl
-no_label (prefixed k gs t) h = refl
 no_label (infixed x k y) h = rw (no_label x h) (and-false _)
 no_label (postfixed x k) h = rw (no_label x h) (and-false _)
 no_label (tail b k ks) h = rw (no_label b h) (and-false _)
 no_label (frame k ks) h = h
+no_label _ h = refl
 
 bare_break : (k : Prefix) (t : Tree) → is_bare_break k && begins_label (parenthesize_attributed t) ≡ false → is_bare_break k && labelled t ≡ false
 bare_break k t h = go (is_bare_break k) h
@@ -240,83 +195,32 @@ Same k t = piece_put k t (bare enclosed t) (bare (piece_context k) t) (put (plac
 verbatim_block : (t : Tree) → is_verbatim_block t ≡ true → (bare enclosed t ≡ parenthesize_attributed t) × (is_plain_block t ≡ true)
 verbatim_block (leaf (e.block None b)) h = (refl, h)
 verbatim_block (leaf (e.block (Some w) b)) h = absurd cc
-verbatim_block (leaf (e.lit x)) h = absurd cc
-verbatim_block (leaf (e.path q p)) h = absurd cc
-verbatim_block (leaf (e.mac m)) h = absurd cc
-verbatim_block (leaf e.infer) h = absurd cc
-verbatim_block (leaf (e.full_range op)) h = absurd cc
-verbatim_block (leaf (e.bare_jump j)) h = absurd cc
-verbatim_block (leaf (e.continuing w)) h = absurd cc
-verbatim_block (leaf (e.loop_expr w b)) h = absurd cc
-verbatim_block (leaf (e.unsafe_block b)) h = absurd cc
-verbatim_block (leaf (e.const_block b)) h = absurd cc
-verbatim_block (leaf (e.async_block m ts)) h = absurd cc
-verbatim_block (leaf (e.try_block ts)) h = absurd cc
-verbatim_block (leaf (e.verbatim ts)) h = absurd cc
-verbatim_block (paren m t) h = absurd cc
-verbatim_block (attributed a more t) h = absurd cc
-verbatim_block (prefixed k gs t) h = absurd cc
-verbatim_block (infixed x k y) h = absurd cc
-verbatim_block (postfixed x k) h = absurd cc
-verbatim_block (tail b k ks) h = absurd cc
-verbatim_block (frame k ks) h = absurd cc
+verbatim_block _ h = absurd cc
 
 kept_chained : (t : Tree) → is_if_expr t || is_verbatim_block t ≡ true → bare enclosed t ≡ parenthesize_attributed t → Same e.chained t
 kept_chained (leaf k) h s = rw (chainable_leaf k h) refl
   where
     chainable_leaf : (k : Leaf) → is_verbatim_block (leaf k) ≡ true → is_chainable (leaf k) ≡ true
     chainable_leaf (e.block w b) h = refl
-    chainable_leaf (e.lit x) h = absurd cc
-    chainable_leaf (e.path q p) h = absurd cc
-    chainable_leaf (e.mac m) h = absurd cc
-    chainable_leaf e.infer h = absurd cc
-    chainable_leaf (e.full_range op) h = absurd cc
-    chainable_leaf (e.bare_jump j) h = absurd cc
-    chainable_leaf (e.continuing w) h = absurd cc
-    chainable_leaf (e.loop_expr w b) h = absurd cc
-    chainable_leaf (e.unsafe_block b) h = absurd cc
-    chainable_leaf (e.const_block b) h = absurd cc
-    chainable_leaf (e.async_block m ts) h = absurd cc
-    chainable_leaf (e.try_block ts) h = absurd cc
-    chainable_leaf (e.verbatim ts) h = absurd cc
+    chainable_leaf _ h = absurd cc
 kept_chained (frame e.if_expr ks) h s = s
-kept_chained (frame e.array ks) h s = absurd cc
-kept_chained (frame e.tuple ks) h s = absurd cc
-kept_chained (frame e.repeat ks) h s = absurd cc
-kept_chained (frame (e.structure q p d) ks) h s = absurd cc
-kept_chained (frame (e.closure_block j) ks) h s = absurd cc
-kept_chained (frame (e.while_loop w) ks) h s = absurd cc
-kept_chained (frame (e.for_loop w p) ks) h s = absurd cc
-kept_chained (frame e.match_expr ks) h s = absurd cc
-kept_chained (frame e.group_expr ks) h s = absurd cc
-kept_chained (paren m t) h s = absurd cc
-kept_chained (attributed a more t) h s = absurd cc
-kept_chained (prefixed k gs t) h s = absurd cc
-kept_chained (infixed x k y) h s = absurd cc
-kept_chained (postfixed x k) h s = absurd cc
-kept_chained (tail b k ks) h s = absurd cc
+kept_chained _ h s = absurd cc
 
 kept_at : (t : Tree) (c : Context) → Kept lev.Jump c t → put (place_asks lev.Jump c t) (bare enclosed t) (bare c t) ≡ parenthesize_attributed t
 kept_at t c k = put_bare _ (bare enclosed t) (bare c t) (parenthesize_attributed t) (not_asked lev.Jump c t k.tight) k.same
 
 kept_child : (k : Piece) (t : Tree) → block_there k t ≡ true → (is_silent k ≡ false → Kept lev.Jump (piece_context k) t)
     → (is_silent k ≡ true → parenthesize_attributed t ≡ t) → Same k t
-kept_child e.element t b h z = kept_at t enclosed (h refl)
-kept_child e.value t b h z = kept_at t enclosed (h refl)
-kept_child e.repeated t b h z = kept_at t enclosed (h refl)
-kept_child (e.field_value ats m true) t b h z = kept_at t enclosed (h refl)
 kept_child (e.field_value ats m false) t b h z = sym (z refl)
-kept_child (e.rest d) t b h z = kept_at t enclosed (h refl)
 kept_child e.condition t b h z = kept_at t (piece_context e.condition) (h refl)
 kept_child e.loop_head t b h z = kept_at t (piece_context e.loop_head) (h refl)
 kept_child e.scrutinee t b h z = kept_at t (piece_context e.scrutinee) (h refl)
 kept_child e.chained t b h z = kept_chained t b (h refl).same
-kept_child (e.guard ats p) t b h z = kept_at t enclosed (h refl)
 kept_child e.guarded t b h z = kept_at t (piece_context e.guarded) (h refl)
 kept_child (e.arm ats p) t b h z = kept_at t (piece_context (e.arm ats p)) (h refl)
 kept_child e.output_block t b h z = let p = verbatim_block t b in rw p.1 p.0
-kept_child e.grouped t b h z = kept_at t enclosed (h refl)
 kept_child e.stray t b h z = sym (z refl)
+kept_child _ t b h z = kept_at t enclosed (h refl)
 
 kept_attributes : (v : Level) (c : Context) (a : AttributeTree) (more : List AttributeTree) (t : Tree) → takes v lev.Unambiguous ≡ true
     → (b : Bool) → is_operation t ≡ b → (b ≡ true → bare enclosed t ≡ parenthesize_attributed t) → (b ≡ false → Kept v (attributed_context c) t)
@@ -333,7 +237,7 @@ kept_attributes v c a more t s false o f h =
       same = rw o (ap (attributed a more) k.same);
     }
 
--- what is known of an operand behind attributes, in the pair or without one
+-- what is known of an operand after attributes, in the pair or without one
 inside_pair : (v : Level) (c : Context) (t : Tree) (b : Bool) → ObeysBehind v c t b → b ≡ true → Obeys lev.Jump enclosed (parenthesize_attributed t)
 inside_pair v c t true i h = i.1.0
 inside_pair v c t false i h = absurd cc

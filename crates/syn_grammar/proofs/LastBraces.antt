@@ -25,7 +25,7 @@ use Rattle.syn_grammar.specs.Tree.{Tree, Children, Jump, Leaf, Prefix, Postfix, 
 use Rattle.syn_grammar.specs.Query.{last_braces, is_braces, blocked, children_blocked, return_brace, leaf_brace, prefix_brace, postfix_brace, piece_brace, operand_brace, frame_brace, frame_head_brace, tree_brace, children_brace}
 use Rattle.syn_grammar.proofs.LastTypes.{Fixed, over, through, if_there, if_some, one, first, colons, for_lifetimes, elements, type_last, return_last}
 
--- ---- what stands before others: attributes, literals, paths and patterns
+-- ---- what comes before others: attributes, literals, paths and patterns
 
 attributes : (ats : List AttributeTree) (l : List Tok) (b : Bool) → Fixed l b → Fixed (attributes_own ats l) b
 unfolding attribute_own
@@ -91,7 +91,7 @@ mutual
   or_patterns p.no_pats c l b f = f
   or_patterns (p.more_pats x ps) c l b f = patterns x _ b (if_there (not (no_more_pats ps) || c) vert_before (one (alone 124)) _ b (or_patterns ps c l b f))
 
--- ---- the tree as it is: what stands behind `else` ends with what it ends with
+-- ---- the tree as it is: what comes after `else` ends with what it ends with
 
 abbrev pub child_spelled : Bool → Piece → Bool → Bool
 child_spelled before e.chained bare = bare
@@ -127,14 +127,11 @@ verbatim before k (e.opened ats) x y ks ms same h = refl
 
 mutual
   pub blocked_ends : (before : Bool) (x : Tree) → as_spelled before (blocked x) ≡ tree_brace before x
-  blocked_ends before (leaf k) = refl
-  blocked_ends before (paren m x) = refl
   blocked_ends before (attributed a more x) = blocked_ends _ x
   blocked_ends before (prefixed k gs x) = blocked_ends (prefix_brace k) x
   blocked_ends before (infixed x k y) = blocked_ends false y
-  blocked_ends before (postfixed x k) = refl
-  blocked_ends before (tail x k ks) = refl
   blocked_ends before (frame k ks) = ap (frame_brace k) (blocked_children (frame_head_brace k) ks)
+  blocked_ends before _ = refl
 
   blocked_children : (before : Bool) (ks : Children) → children_spelled before (children_blocked ks) ≡ children_brace before ks
   blocked_children before none = refl
@@ -160,39 +157,25 @@ lit_last : (before : Bool) (k : LitKind) (text : Text) (r : List Tok) → last_b
 lit_last before kind.Bool text r = refl
 lit_last before kind.Int text r = number_last before text r
 lit_last before kind.Float text r = number_last before text r
-lit_last before kind.Str text r = refl
-lit_last before kind.ByteStr text r = refl
-lit_last before kind.CStr text r = refl
-lit_last before kind.Byte text r = refl
-lit_last before kind.Char text r = refl
+lit_last _ _ _ r = refl
 
 jump_last : (before : Bool) (j : Jump) (r : List Tok) → last_braces before (jump_own j r) ≡ last_braces false r
-jump_last before e.returning r = refl
-jump_last before e.yielding r = refl
 jump_last before (e.breaking None) r = refl
-jump_last before (e.breaking (Some w)) r = refl
+jump_last before _ r = refl
 
 leaf_last : (before : Bool) (k : Leaf) (r : List Tok) → last_braces before (leaf_own k r) ≡ last_braces (leaf_brace before k) r
 unfolding lit_own block_own
 leaf_last before (e.lit x) r = lit_last before x.kind x.text r
 leaf_last before (e.path q w) r = type_last before (t.path q w.leading (t.segments_of w.segments) w.trailing) r
 leaf_last before (e.mac m) r = (paths m.path _ _ (one (alone 33) _ _ (first (group m.delimiter (inside m.tokens)) r _ refl))).behind before
-leaf_last before e.infer r = refl
 leaf_last before (e.full_range limits.HalfOpen) r = refl
-leaf_last before (e.full_range limits.Closed) r = refl
 leaf_last before (e.bare_jump j) r = jump_last before j r
 leaf_last before (e.continuing None) r = refl
-leaf_last before (e.continuing (Some w)) r = refl
 leaf_last before (e.block None b) r = refl
-leaf_last before (e.block (Some w) b) r = refl
 leaf_last before (e.loop_expr None b) r = refl
-leaf_last before (e.loop_expr (Some w) b) r = refl
-leaf_last before (e.unsafe_block b) r = refl
-leaf_last before (e.const_block b) r = refl
 leaf_last before (e.async_block true ts) r = refl
-leaf_last before (e.async_block false ts) r = refl
-leaf_last before (e.try_block ts) r = refl
 leaf_last before (e.verbatim ts) r = verbatim_last before ts r
+leaf_last before _ r = refl
 
 closure_last : (h : ClosureHead) (before : Bool) (r : List Tok) → last_braces before (closure_own h r) ≡ last_braces (return_brace h.output) r
 closure_last h before r =
@@ -202,70 +185,33 @@ closure_last h before r =
 
 prefix_last : (before : Bool) (k : Prefix) (r : List Tok) → last_braces before (prefix_own k r) ≡ last_braces (prefix_brace k) r
 prefix_last before (e.unary un.Deref) r = refl
-prefix_last before (e.unary un.Not) r = refl
-prefix_last before (e.unary un.Neg) r = refl
 prefix_last before (e.reference true) r = refl
-prefix_last before (e.reference false) r = refl
-prefix_last before (e.raw_addr m) r = refl
 prefix_last before (e.range_to limits.HalfOpen) r = refl
-prefix_last before (e.range_to limits.Closed) r = refl
 prefix_last before (e.let_expr x) r = (patterns x _ _ (first (alone 61) r _ refl)).behind false
 prefix_last before (e.jump j) r = jump_last before j r
 prefix_last before (e.closure h) r = closure_last h before r
+prefix_last before _ r = refl
 
 infix_last : (before : Bool) (k : Infix) (r : List Tok) → last_braces before (infix_own k r) ≡ last_braces false r
 infix_last before (inf.Binary bin.Add) r = refl
-infix_last before (inf.Binary bin.Sub) r = refl
-infix_last before (inf.Binary bin.Mul) r = refl
-infix_last before (inf.Binary bin.Div) r = refl
-infix_last before (inf.Binary bin.Rem) r = refl
-infix_last before (inf.Binary bin.And) r = refl
-infix_last before (inf.Binary bin.Or) r = refl
-infix_last before (inf.Binary bin.BitXor) r = refl
-infix_last before (inf.Binary bin.BitAnd) r = refl
-infix_last before (inf.Binary bin.BitOr) r = refl
-infix_last before (inf.Binary bin.Shl) r = refl
-infix_last before (inf.Binary bin.Shr) r = refl
-infix_last before (inf.Binary bin.Eq) r = refl
-infix_last before (inf.Binary bin.Lt) r = refl
-infix_last before (inf.Binary bin.Le) r = refl
-infix_last before (inf.Binary bin.Ne) r = refl
-infix_last before (inf.Binary bin.Ge) r = refl
-infix_last before (inf.Binary bin.Gt) r = refl
-infix_last before (inf.Binary bin.AddAssign) r = refl
-infix_last before (inf.Binary bin.SubAssign) r = refl
-infix_last before (inf.Binary bin.MulAssign) r = refl
-infix_last before (inf.Binary bin.DivAssign) r = refl
-infix_last before (inf.Binary bin.RemAssign) r = refl
-infix_last before (inf.Binary bin.BitXorAssign) r = refl
-infix_last before (inf.Binary bin.BitAndAssign) r = refl
-infix_last before (inf.Binary bin.BitOrAssign) r = refl
-infix_last before (inf.Binary bin.ShlAssign) r = refl
-infix_last before (inf.Binary bin.ShrAssign) r = refl
-infix_last before inf.Assign r = refl
 infix_last before (inf.Range limits.HalfOpen) r = refl
-infix_last before (inf.Range limits.Closed) r = refl
-infix_last before inf.Cast r = refl
+infix_last before _ r = refl
 
 postfix_last : (before : Bool) (k : Postfix) (r : List Tok) → last_braces before (postfix_own k r) ≡ last_braces (postfix_brace k) r
 postfix_last before (e.cast x) r = type_last false x r
 postfix_last before (e.range_from op) r = infix_last before (inf.Range op) r
 
 trailer_last : (before : Bool) (k : Trailer) (i r : List Tok) → last_braces before (trailer_own k i r) ≡ last_braces false r
-trailer_last before e.call i r = refl
-trailer_last before e.index i r = refl
 trailer_last before (e.method w a) i r =
     (through {F = arguments_own a} (arguments_append a) _ _ (first (group del.Parenthesis (inside i)) r _ refl)).behind false
 trailer_last before (e.field (p.a_name w)) i r = refl
-trailer_last before (e.field (p.an_index n)) i r = refl
-trailer_last before e.await i r = refl
-trailer_last before e.try_expr i r = refl
+trailer_last before _ i r = refl
 
 label_last : (before : Bool) (w : Option Text) (l : List Tok) (b : Bool) → Fixed l b → last_braces before (label_own w l) ≡ b
 label_last before None l b f = f.behind before
 label_last before (Some w) l b f = f.behind false
 
--- behind attributes, the last of which ends with brackets
+-- after attributes, the last of which ends with brackets
 attributed_last : (before : Bool) (a : AttributeTree) (more : List AttributeTree) (l : List Tok) → last_braces before (attributes_own (a ∷ more) l) ≡ last_braces false l
 unfolding attribute_own
 attributed_last before a [] l = (if_there a.inner (λ m. alone 33 ∷ m) (one (alone 33)) _ _ (first (group del.Bracket (inside a.tokens)) l _ refl)).behind false
@@ -284,14 +230,10 @@ piece_last : (before : Bool) (k : Piece) (l : List Tok) → last_braces before (
 piece_last before (e.field_value ats m true) l = (attributes (outers ats) _ _ (members_last m _ _ refl)).behind before
 piece_last before (e.field_value ats m false) l = (attributes (outers ats) _ _ (members_last m _ _ refl)).behind before
 piece_last true (e.rest true) l = refl
-piece_last false (e.rest true) l = refl
-piece_last true (e.rest false) l = refl
 piece_last false (e.rest false) l = refl
-piece_last before e.chained l = refl
 piece_last before (e.guard ats x) l = (attributes ats _ _ (patterns x _ _ (first (ident (codes "if")) l _ refl))).behind before
-piece_last before e.guarded l = refl
 piece_last before (e.arm ats x) l = (attributes ats _ _ (patterns x _ _ (one (joint 61) _ _ (first (alone 62) l _ refl)))).behind before
-piece_last before k l = refl
+piece_last _ _ l = refl
 
 operand_last : (before : Bool) (silent : Bool) (x : Tree) (l : List Tok) → last_braces before (own x l) ≡ last_braces (as_spelled before x) l
     → last_braces before (if silent then l else own x l) ≡ last_braces (if silent then before else as_spelled before x) l
@@ -309,16 +251,11 @@ child_is before k bare = refl
 mutual
   pub tree_last : (before : Bool) (x : Tree) (r : List Tok) → last_braces before (own x r) ≡ last_braces (as_spelled before x) r
   tree_last before (leaf k) r = leaf_last before k r
-  tree_last before (paren m x) r = refl
   tree_last before (attributed a more x) r = attributes_last before (outers (a ∷ more)) (own x r) ∙ tree_last _ x r
   tree_last before (prefixed k gs x) r = prefix_last before k _ ∙ tree_last (prefix_brace k) x r
   tree_last before (infixed x k y) r = tree_last before x _ ∙ infix_last _ k _ ∙ tree_last false y r
   tree_last before (postfixed x k) r = tree_last before x _ ∙ postfix_last _ k r
   tree_last before (tail x k ks) r = tree_last before x _ ∙ trailer_last _ k _ r
-  tree_last before (frame e.array ks) r = refl
-  tree_last before (frame e.tuple ks) r = refl
-  tree_last before (frame e.repeat ks) r = refl
-  tree_last before (frame e.group_expr ks) r = refl
   tree_last before (frame (e.structure q w d) ks) r =
       (over (qualified_own (q, w) []) _ _ (first (group del.Brace _) r _ refl)).behind before
   tree_last before (frame (e.closure_block h) ks) r = closure_last h before _ ∙ children_last (return_brace h.output) ks r
@@ -327,6 +264,7 @@ mutual
   tree_last before (frame (e.for_loop w x) ks) r =
       label_last before w _ _ (one (ident (codes "for")) _ _ (patterns x _ _ (first (ident (codes "in")) _ _ (children_last false ks r))))
   tree_last before (frame e.match_expr ks) r = children_last false ks r
+  tree_last before _ r = refl
 
   children_last : (before : Bool) (ks : Children) (r : List Tok) → last_braces before (children_own ks r) ≡ last_braces (children_spelled before ks) r
   children_last before none r = refl

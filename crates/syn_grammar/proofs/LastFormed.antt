@@ -1,4 +1,4 @@
--- A well-formed tree ends with braces exactly where its own tokens do: behind `else` stands an `if` or a block.
+-- A well-formed tree ends with braces exactly where its own tokens do: after `else` stands an `if` or a block.
 use Rattle.std.proofs.Common.{◌≡◌, ◌||◌, ◌&&◌, Bool, true, false, not, [], ◌∷◌, None, refl, sym, ap, subst, ◌∙◌}
 use Rattle.syn_parts.specs.PatFits.{attributes_outer}
 use Rattle.syn_grammar.specs.Tree as e
@@ -20,7 +20,7 @@ wrong_ending : (a b : Bool) → (a && false) && b ≡ true → ⊥
 wrong_ending true b h = cc
 wrong_ending false b h = cc
 
--- behind the block of an `if`
+-- after the block of an `if`
 chain_ends : (ks : Children) → children_well s.otherwise ks ≡ true → children_brace true ks ≡ true
 chain_ends none h = refl
 chain_ends (child e.chained e.no_ending x ks) h = stops ks (both_true _ _ (both_true _ _ h).1).1
@@ -65,14 +65,11 @@ put_ends z k c x before h w q = ap (operand_brace before k) q
 
 mutual
   well_ends : (x : Tree) → well x ≡ true → (before : Bool) → as_spelled before x ≡ tree_brace before x
-  well_ends (leaf k) w before = refl
-  well_ends (paren m x) w before = refl
   well_ends (attributed a more x) w before = well_ends x (both_true (not (is_attributed x)) _ (both_true (attributes_outer (a ∷ more)) _ w).1).1 _
   well_ends (prefixed k gs x) w before = well_ends x (both_true (is_none gs) _ (both_true (prefix_fits k) _ w).1).1 (prefix_brace k)
   well_ends (infixed x k y) w before = well_ends y (both_true (well x) _ (both_true (infix_fits k) _ w).1).1 false
-  well_ends (postfixed x k) w before = refl
-  well_ends (tail x k ks) w before = refl
   well_ends (frame k ks) w before = ap (frame_brace k) (children_end (frame_slot k) ks (both_true (frame_fits k ks) _ w).1 (frame_head_brace k))
+  well_ends _ w before = refl
 
   children_end : (z : Slot) (ks : Children) → children_well z ks ≡ true → (before : Bool) → children_spelled before ks ≡ children_brace before ks
   children_end z none w before = refl

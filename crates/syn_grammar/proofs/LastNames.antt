@@ -21,14 +21,14 @@ use Rattle.syn_parts.proofs.Fronts.{word_not}
 use Rattle.syn_grammar.specs.Query.{is_name, is_quote, last_name, trailing_unparameterized_path, segments_unparameterized, arguments_unparameterized, return_unparameterized, bounds_unparameterized, bound_unparameterized, UnparameterizedPathsAreLast}
 use Rattle.syn_grammar.proofs.Bools.{both_true}
 
--- Whatever stands before, a quote too, the last token answers b.
+-- Whatever comes before, a quote too, the last token answers b.
 record Settled (l : List Tok) (b : Bool) : Type 0 where
   behind : (quoted named : Bool) → last_name quoted named l ≡ b
 
 one : (u : Tok) (l : List Tok) (b : Bool) → Settled l b → Settled (u ∷ l) b
 one u l b f = record { behind = λ q n. f.behind (is_quote u) (is_name u && not q) }
 
--- behind a token that is no name
+-- after a token that is no name
 first : (u : Tok) (l : List Tok) (b : Bool) → is_name u ≡ false → last_name (is_quote u) false l ≡ b → Settled (u ∷ l) b
 first u l b g h = record { behind = λ q n. ap (λ m. last_name (is_quote u) (m && not q) l) g ∙ h }
 
@@ -57,14 +57,14 @@ lifetimes [] c l b f = f
 lifetimes (x ∷ xs) c l b f =
     one (joint 39) _ b (one (ident x) _ b (if_there (not (is_nil xs) || c) comma_before (one (alone 44)) _ b (lifetimes xs c l b f)))
 
--- behind `for<..>` no quote stands, nor a name
+-- after `for<..>` no quote stands, nor a name
 for_lifetimes : (p : LifetimesTree) (l : List Tok) (b : Bool) → last_name false false l ≡ b → Settled (lifetimes_own p l) b
 unfolding lifetimes_own
 for_lifetimes p l b h = one (ident (codes "for")) _ b (one (alone 60) _ b (lifetimes p.0 p.1 _ b (first (alone 62) l b refl h)))
 
 -- ---- the ends of a path
 
--- what stands behind no quote
+-- what comes after no quote
 abbrev Ends : List Tok → Bool → Type 0
 Ends l b = (named : Bool) → last_name false named l ≡ b
 

@@ -11,14 +11,14 @@ use Rattle.syn_parts.specs.Own.{alone, joint, before_if, before_some, comma_befo
 use Rattle.syn_parts.proofs.Appends.{type_append, segments_append, generics_append, bound_append, lifetimes_own-append, extern_append}
 use Rattle.syn_grammar.specs.Query.{last_braces, is_braces, is_unqualified, is_all_inside, type_brace, segments_brace, arguments_brace, return_brace, bounds_brace, bound_brace}
 
--- Whatever stands before, the last token answers b.
+-- Whatever comes before, the last token answers b.
 pub record Fixed (l : List Tok) (b : Bool) : Type 0 where
   pub behind : (before : Bool) → last_braces before l ≡ b
 
 pub one : (u : Tok) (l : List Tok) (b : Bool) → Fixed l b → Fixed (u ∷ l) b
 one u l b f = record { behind = λ d. f.behind (is_braces u) }
 
--- from what stands behind a first token
+-- from what comes after a first token
 pub first : (u : Tok) (l : List Tok) (b : Bool) → last_braces (is_braces u) l ≡ b → Fixed (u ∷ l) b
 first u l b h = record { behind = λ d. h }
 
@@ -186,18 +186,13 @@ mutual
       (through {F = segments_own 0 ss c} (segments_append 0 ss c) _ _ (one (alone 33) _ _ (first (group d (inside ts)) r _ refl)))).behind before
   type_last before (t.reference a m x) r = words_last a m _ _ (type_last false x r)
   type_last before (t.ptr m x) r = type_last false x r
-  type_last before (t.slice x) r = refl
-  type_last before (t.array x n) r = refl
-  type_last before (t.tuple xs c) r = refl
-  type_last before (t.paren x) r = refl
-  type_last before t.never r = refl
-  type_last before t.infer r = refl
   type_last before (t.fn_ptr f u a xs c o) r =
       (if_some f lifetimes_own for_lifetimes _ _ (if_there u (λ l. ident (codes "unsafe") ∷ l) (one (ident (codes "unsafe"))) _ _
       (if_some a extern_own (λ x m b g. through {F = extern_own x} (extern_append x) m b g) _ _
       (one (ident (codes "fn")) _ _ (first (group del.Parenthesis (inside (args_own xs c []))) _ _ (return_last o r)))))).behind before
   type_last before (t.impl_trait bs c) r = bounds_last bs c r
   type_last before (t.trait_object bs c) r = bounds_last bs c r
+  type_last before _ r = refl
 
   segments_last : (n : ℕ) (before : Bool) (ss : Segments) (c : Bool) (r : List Tok) → last_braces before (segments_own n ss c r) ≡ last_braces (inside_brace n before ss c) r
   segments_last n before t.no_segments c r = refl

@@ -1,4 +1,4 @@
--- What is left behind an expression is a tail of the list, and weighs less.
+-- What is left after an expression is a tail of the list, and weighs less.
 use Rattle.std.proofs.Common.{◌≡◌, ℕ, ◌<◌, Bool, true, false, cond, List, [], ◌∷◌, drop, Option, Some, None, refl, sym, subst, arith}
 use Rattle.syn_lexer.specs.declared.lexeme.Delimiter.{Delimiter}
 use Rattle.syn_lexer.specs.declared.lexeme.Delimiter.TheVariants as del
@@ -68,16 +68,13 @@ pub within_less : {d : Delimiter} {v : Slot} {b : Bool} {l n : List Tok} {ks : C
 within_less (holds_within {d = d} {l = l} {i = i} {n = n} g o e) = grouped d l i n g
 
 frame_node : (k : Frame) (l h n : List Tok) (ks : Children) → frame_head k l ≡ Some h → Content (frame_holder k) h ks n → IsTail n h → IsLess n l
-frame_node tr.array l h n ks a c t = subst (λ z. IsLess n z) (sym (some_is a)) (within_less c)
-frame_node tr.tuple l h n ks a c t = subst (λ z. IsLess n z) (sym (some_is a)) (within_less c)
-frame_node tr.repeat l h n ks a c t = subst (λ z. IsLess n z) (sym (some_is a)) (within_less c)
 frame_node (tr.structure q p d) l h n ks a c t = less_then (frame_less (tr.structure q p d) l h refl a) t
 frame_node (tr.closure_block f) l h n ks a c t = less_then (frame_less (tr.closure_block f) l h refl a) t
 frame_node tr.if_expr l h n ks a c t = less_then (frame_less tr.if_expr l h refl a) t
 frame_node (tr.while_loop w) l h n ks a c t = less_then (frame_less (tr.while_loop w) l h refl a) t
 frame_node (tr.for_loop w p) l h n ks a c t = less_then (frame_less (tr.for_loop w p) l h refl a) t
 frame_node tr.match_expr l h n ks a c t = less_then (frame_less tr.match_expr l h refl a) t
-frame_node tr.group_expr l h n ks a c t = subst (λ z. IsLess n z) (sym (some_is a)) (within_less c)
+frame_node _ l h n ks a c t = subst (λ z. IsLess n z) (sym (some_is a)) (within_less c)
 
 tail_of : {n l : List Tok} → IsLess n l → IsTail n l
 tail_of h = h.tail

@@ -32,6 +32,7 @@ pub mod Kept
 pub mod Tight
 pub mod NeededPairs
 pub mod HeadComplete
+pub mod Computing
 pub mod WorkedRows
 pub mod Flat
 pub mod FillIns
@@ -42,6 +43,7 @@ pub mod SummaryLemmas
 pub mod Bindings
 pub mod Conditions
 pub mod Chains
+pub mod Callees
 pub mod Needs
 pub mod Sound
 pub mod SoundAtoms

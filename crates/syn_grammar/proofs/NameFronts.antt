@@ -29,12 +29,17 @@ use Rattle.syn_grammar.proofs.Fronts.{word_is, no_lifetime, sign_no_leaf, flag_i
 use Rattle.syn_grammar.proofs.GroupForms.{invisible_is, plain_path}
 use Rattle.syn_grammar.proofs.HeadLeaf.{not_leaf_words}
 
+-- what the front of a name is asked, for a proof that computes it
+asked : Bool
+unfolding prefix_at range_at jump_at closure_at sign_at word_at lifetimes_at loop_head_at lifetime_at round_at bracket_at group_at leaf_at literal_at is_truth loop_at block_at const_block_at async_block_at try_block_at builtin_at brace_at
+asked = true
+
 -- words that no path and no leaf begins with
 not_other_words : NoSegment (codes "let") × NoSegment (codes "move") × NoSegment (codes "use") × NoSegment (codes "static") × NoSegment (codes "become") × NoSegment (codes "if") × NoSegment (codes "while") × NoSegment (codes "match")
 unfolding is_segment stands_alone is_reserved_word
 not_other_words = (refl, refl, refl, refl, refl, refl, refl, refl)
 
--- a path stands first, and nothing else
+-- a path comes first, and nothing else
 pub record Named (l : List Tok) : Type 0 where
   pub no_prefix : prefix_at l ≡ false
   pub no_round : round_at l ≡ false
@@ -182,14 +187,14 @@ pub record LoopFront (l : List Tok) : Type 0 where
   pub loops : loop_head_at l ≡ true
 
 while_front : (l : List Tok) → LoopFront (ident (codes "while") ∷ l)
-unfolding prefix_at range_at jump_at closure_at sign_at word_at lifetimes_at loop_head_at lifetime_at round_at bracket_at group_at leaf_at literal_at is_truth loop_at block_at const_block_at async_block_at try_block_at builtin_at brace_at
+unfolding asked
 while_front l = record { no_leaf = refl; no_prefix = refl; no_round = refl; no_bracket = refl; no_become = refl; no_if = refl; loops = refl }
 
 for_front : (l : List Tok) → lifetimes_at (ident (codes "for") ∷ l) ≡ false → LoopFront (ident (codes "for") ∷ l)
 unfolding prefix_at range_at jump_at closure_at sign_at word_at loop_head_at lifetime_at round_at bracket_at group_at leaf_at literal_at is_truth loop_at block_at const_block_at async_block_at try_block_at builtin_at brace_at
 for_front l g = record { no_leaf = refl; no_prefix = rw g refl; no_round = refl; no_bracket = refl; no_become = refl; no_if = refl; loops = rw g refl }
 
--- a loop's word behind a label or none
+-- a loop's word after a label or none
 labelled_front : (l m : List Tok) → past_label l ≡ m → loop_word.at m ≡ false → brace_at m ≡ false → (lifetime_at l ≡ false → LoopFront l) → LoopFront l
 unfolding prefix_at range_at jump_at closure_at sign_at word_at lifetimes_at loop_head_at lifetime_at round_at bracket_at group_at leaf_at literal_at is_truth loop_at block_at const_block_at async_block_at try_block_at builtin_at
 labelled_front (punct c spacing.Joint ∷ ident s ∷ l) m g a b f =
@@ -229,7 +234,7 @@ pub record WordFront (l : List Tok) : Type 0 where
   pub no_bracket : bracket_at l ≡ false
 
 become_first : (l : List Tok) → WordFront (ident (codes "become") ∷ l)
-unfolding prefix_at range_at jump_at closure_at sign_at word_at lifetimes_at loop_head_at lifetime_at round_at bracket_at group_at leaf_at literal_at is_truth loop_at block_at const_block_at async_block_at try_block_at builtin_at brace_at
+unfolding asked
 become_first l = record { no_leaf = refl; no_prefix = refl; no_round = refl; no_bracket = refl }
 
 pub become_front : (l : List Tok) → become_word.at l ≡ true → WordFront l
@@ -240,7 +245,7 @@ pub record IfFront (l : List Tok) : Type 0 where
   pub no_become : become_word.at l ≡ false
 
 if_first : (l : List Tok) → IfFront (ident (codes "if") ∷ l)
-unfolding prefix_at range_at jump_at closure_at sign_at word_at lifetimes_at loop_head_at lifetime_at round_at bracket_at group_at leaf_at literal_at is_truth loop_at block_at const_block_at async_block_at try_block_at builtin_at brace_at
+unfolding asked
 if_first l = record { front = record { no_leaf = refl; no_prefix = refl; no_round = refl; no_bracket = refl }; no_become = refl }
 
 pub if_front : (l : List Tok) → if_word.at l ≡ true → IfFront l
@@ -253,7 +258,7 @@ pub record MatchFront (l : List Tok) : Type 0 where
   pub no_loop : loop_head_at l ≡ false
 
 match_first : (l : List Tok) → MatchFront (ident (codes "match") ∷ l)
-unfolding prefix_at range_at jump_at closure_at sign_at word_at lifetimes_at loop_head_at lifetime_at round_at bracket_at group_at leaf_at literal_at is_truth loop_at block_at const_block_at async_block_at try_block_at builtin_at brace_at
+unfolding asked
 match_first l = record { front = record { no_leaf = refl; no_prefix = refl; no_round = refl; no_bracket = refl }; no_become = refl; no_if = refl; no_loop = refl }
 
 pub match_front : (l : List Tok) → match_word.at l ≡ true → MatchFront l

@@ -13,7 +13,7 @@ use Rattle.syn_grammar.specs.Next.{class_of, next_of, enclosed, in_statement, le
 use Rattle.syn_grammar.specs.Stands.{is_range, is_base, is_if_expr, compares}
 use Rattle.syn_grammar.specs.Tree as e
 use Rattle.syn_grammar.specs.Tree.{Tree, Children, Leaf, Prefix, Piece, Ending, Trailer, leaf, paren, attributed, prefixed, infixed, postfixed, tail, frame, none, child, postfix_op, is_silent, needs_last_comma}
-use Rattle.syn_grammar.specs.Slot.{Slot, elements, single, counted, fields, conditions, otherwise, loops, scrutinees, arms, bodies, outputs, groups, done, after}
+use Rattle.syn_grammar.specs.Slot.{Slot, elements, fields, otherwise, outputs, after}
 use Rattle.syn_grammar.specs.Rule.{is_operation, prints_range, is_bare_break, bad, place_asks, left_asks, base_asks, prefix_asks, put, is_chainable, is_plain_block, piece_put, bare, bare_children}
 use Rattle.syn_grammar.specs.Minimal.{OneLess, OneLessChild}
 use Rattle.syn_grammar.specs.WellFormed.{piece_fits, is_verbatim_block, is_name_path, trailer_slot, frame_slot, keeps_block}
@@ -26,7 +26,7 @@ use Rattle.syn_grammar.proofs.Kept as kept
 use Rattle.syn_grammar.proofs.Kept.{not_asked, left_bare, level_small, prefix_small}
 use Rattle.syn_grammar.proofs.Tight.{tight, no_bare_label}
 
--- what belongs behind `else` and a closure's output, and what is not spelled
+-- what belongs after `else` and a closure's output, and what is not spelled
 abbrev pub child_there : Piece → Tree → Bool
 child_there e.chained t = is_if_expr t || is_verbatim_block t
 child_there e.output_block t = is_verbatim_block t
@@ -37,62 +37,21 @@ child_there k t = true
 chained_there : (s : Slot) (c : Ending) (t : Tree) → piece_fits s e.chained c t ≡ true → child_there e.chained t ≡ true
 chained_there otherwise c t h = h
 chained_there elements c t h = absurd cc
-chained_there single c t h = absurd cc
-chained_there counted c t h = absurd cc
-chained_there fields c t h = absurd cc
-chained_there conditions c t h = absurd cc
-chained_there loops c t h = absurd cc
-chained_there scrutinees c t h = absurd cc
-chained_there arms c t h = absurd cc
-chained_there bodies c t h = absurd cc
-chained_there outputs c t h = absurd cc
-chained_there groups c t h = absurd cc
-chained_there done c t h = absurd cc
+chained_there _ c t h = absurd cc
 
 output_there : (s : Slot) (c : Ending) (t : Tree) → piece_fits s e.output_block c t ≡ true → child_there e.output_block t ≡ true
 output_there outputs c t h = h
 output_there elements c t h = absurd cc
-output_there single c t h = absurd cc
-output_there counted c t h = absurd cc
-output_there fields c t h = absurd cc
-output_there conditions c t h = absurd cc
-output_there otherwise c t h = absurd cc
-output_there loops c t h = absurd cc
-output_there scrutinees c t h = absurd cc
-output_there arms c t h = absurd cc
-output_there bodies c t h = absurd cc
-output_there groups c t h = absurd cc
-output_there done c t h = absurd cc
+output_there _ c t h = absurd cc
 
 field_there : (s : Slot) (ats : List AttributeTree) (m : MemberTree) (b : Bool) (c : Ending) (t : Tree) → piece_fits s (e.field_value ats m b) c t ≡ true → b || is_name_path m t ≡ true
 field_there fields ats m b c t h = (both_true _ _ (both_true _ _ h).1).1
 field_there elements ats m b c t h = absurd cc
-field_there single ats m b c t h = absurd cc
-field_there counted ats m b c t h = absurd cc
-field_there conditions ats m b c t h = absurd cc
-field_there otherwise ats m b c t h = absurd cc
-field_there loops ats m b c t h = absurd cc
-field_there scrutinees ats m b c t h = absurd cc
-field_there arms ats m b c t h = absurd cc
-field_there bodies ats m b c t h = absurd cc
-field_there outputs ats m b c t h = absurd cc
-field_there groups ats m b c t h = absurd cc
-field_there done ats m b c t h = absurd cc
+field_there _ ats m b c t h = absurd cc
 
 stray_there : (s : Slot) (c : Ending) (t : Tree) → piece_fits s e.stray c t ≡ true → false ≡ true
 stray_there elements c t h = h
-stray_there single c t h = h
-stray_there counted c t h = h
-stray_there fields c t h = h
-stray_there conditions c t h = h
-stray_there otherwise c t h = h
-stray_there loops c t h = h
-stray_there scrutinees c t h = h
-stray_there arms c t h = h
-stray_there bodies c t h = h
-stray_there outputs c t h = h
-stray_there groups c t h = h
-stray_there done c t h = h
+stray_there _ c t h = h
 
 pub fits_there : (s : Slot) (k : Piece) (c : Ending) (t : Tree) → piece_fits s k c t ≡ true → child_there k t ≡ true
 fits_there s e.chained c t h = chained_there s c t h
@@ -100,16 +59,7 @@ fits_there s e.output_block c t h = output_there s c t h
 fits_there s (e.field_value ats m b) c t h = field_there s ats m b c t h
 fits_there s e.stray c t h = stray_there s c t h
 fits_there s e.element c t h = refl
-fits_there s e.value c t h = refl
-fits_there s e.repeated c t h = refl
-fits_there s (e.rest d) c t h = refl
-fits_there s e.condition c t h = refl
-fits_there s e.loop_head c t h = refl
-fits_there s e.scrutinee c t h = refl
-fits_there s (e.guard ats p) c t h = refl
-fits_there s e.guarded c t h = refl
-fits_there s (e.arm ats p) c t h = refl
-fits_there s e.grouped c t h = refl
+fits_there s _ c t h = refl
 
 -- ---- one pair less at a node
 
@@ -164,13 +114,7 @@ needed_base v k c t q s h o z i =
 
 prints_bare : (t : Tree) → prints_range (bare enclosed t) ≡ prints_range t
 prints_bare (leaf k) = refl
-prints_bare (paren m t) = refl
-prints_bare (attributed a more t) = refl
-prints_bare (prefixed k gs t) = refl
-prints_bare (infixed x k y) = refl
-prints_bare (postfixed x k) = refl
-prints_bare (tail b k ks) = refl
-prints_bare (frame k ks) = refl
+prints_bare _ = refl
 
 needed_attributes : (v : Level) (c : Context) (t q : Tree) → takes v lev.Unambiguous ≡ true → NeedsItsPairs t
     → OneLess (put (is_operation t) (bare enclosed t) (bare c t)) q → is_operation q ≡ false → Obeys v c q → ⊥
@@ -193,78 +137,34 @@ PutChild k t = piece_put k t (bare enclosed t) (bare (piece_context k) t) (put (
 needed_chained : (t q : Tree) → NeedsItsPairs t → is_if_expr t || is_verbatim_block t ≡ true → OneLess (PutChild e.chained t) q → Obeys lev.Jump enclosed q → ⊥
 needed_chained (leaf k) q h b o i = no_pair_in (is_chainable (leaf k)) k _ q o
 needed_chained (frame e.if_expr ks) q h b o i = h lev.Jump enclosed q refl o i
-needed_chained (frame e.array ks) q h b o i = absurd cc
-needed_chained (frame e.tuple ks) q h b o i = absurd cc
-needed_chained (frame e.repeat ks) q h b o i = absurd cc
-needed_chained (frame (e.structure n p d) ks) q h b o i = absurd cc
-needed_chained (frame (e.closure_block j) ks) q h b o i = absurd cc
-needed_chained (frame (e.while_loop w) ks) q h b o i = absurd cc
-needed_chained (frame (e.for_loop w p) ks) q h b o i = absurd cc
-needed_chained (frame e.match_expr ks) q h b o i = absurd cc
-needed_chained (frame e.group_expr ks) q h b o i = absurd cc
-needed_chained (paren m t) q h b o i = absurd cc
-needed_chained (attributed a more t) q h b o i = absurd cc
-needed_chained (prefixed k gs t) q h b o i = absurd cc
-needed_chained (infixed x k y) q h b o i = absurd cc
-needed_chained (postfixed x k) q h b o i = absurd cc
-needed_chained (tail b k ks) q h z o i = absurd cc
+needed_chained _ q h b o i = absurd cc
 
 needed_output : (t q : Tree) → is_verbatim_block t ≡ true → OneLess (PutChild e.output_block t) q → ⊥
 needed_output (leaf k) q b o = no_pair_in (is_plain_block (leaf k)) k _ q o
-needed_output (frame k ks) q b o = absurd cc
-needed_output (paren m t) q b o = absurd cc
-needed_output (attributed a more t) q b o = absurd cc
-needed_output (prefixed k gs t) q b o = absurd cc
-needed_output (infixed x k y) q b o = absurd cc
-needed_output (postfixed x k) q b o = absurd cc
-needed_output (tail b k ks) q z o = absurd cc
+needed_output _ q b o = absurd cc
 
 needed_name : (m : MemberTree) (t q : Tree) → is_name_path m t ≡ true → OneLess t q → ⊥
 needed_name m (leaf k) q b o = o
-needed_name (a_name w) (frame k ks) q b o = absurd cc
-needed_name (a_name w) (paren n t) q b o = absurd cc
-needed_name (a_name w) (attributed a more t) q b o = absurd cc
-needed_name (a_name w) (prefixed k gs t) q b o = absurd cc
-needed_name (a_name w) (infixed x k y) q b o = absurd cc
-needed_name (a_name w) (postfixed x k) q b o = absurd cc
-needed_name (a_name w) (tail b k ks) q z o = absurd cc
-needed_name (an_index n) (frame k ks) q b o = absurd cc
-needed_name (an_index n) (paren m t) q b o = absurd cc
-needed_name (an_index n) (attributed a more t) q b o = absurd cc
-needed_name (an_index n) (prefixed k gs t) q b o = absurd cc
-needed_name (an_index n) (infixed x k y) q b o = absurd cc
-needed_name (an_index n) (postfixed x k) q b o = absurd cc
-needed_name (an_index n) (tail b k ks) q z o = absurd cc
+needed_name (a_name w) _ q b o = absurd cc
+needed_name (an_index n) _ q b o = absurd cc
 
 needed_child : (k : Piece) (t q : Tree) → NeedsItsPairs t → child_there k t ≡ true → OneLess (PutChild k t) q
     → (is_silent k ≡ false → Obeys lev.Jump (piece_context k) q) → ⊥
-needed_child e.element t q h b o i = needed_place lev.Jump enclosed t q refl h o (i refl)
-needed_child e.value t q h b o i = needed_place lev.Jump enclosed t q refl h o (i refl)
-needed_child e.repeated t q h b o i = needed_place lev.Jump enclosed t q refl h o (i refl)
-needed_child (e.field_value ats m true) t q h b o i = needed_place lev.Jump enclosed t q refl h o (i refl)
 needed_child (e.field_value ats m false) t q h b o i = needed_name m t q b o
-needed_child (e.rest d) t q h b o i = needed_place lev.Jump enclosed t q refl h o (i refl)
 needed_child e.condition t q h b o i = needed_place lev.Jump (piece_context e.condition) t q refl h o (i refl)
 needed_child e.loop_head t q h b o i = needed_place lev.Jump (piece_context e.loop_head) t q refl h o (i refl)
 needed_child e.scrutinee t q h b o i = needed_place lev.Jump (piece_context e.scrutinee) t q refl h o (i refl)
 needed_child e.chained t q h b o i = needed_chained t q h b o (i refl)
-needed_child (e.guard ats p) t q h b o i = needed_place lev.Jump enclosed t q refl h o (i refl)
 needed_child e.guarded t q h b o i = needed_place lev.Jump (piece_context e.guarded) t q refl h o (i refl)
 needed_child (e.arm ats p) t q h b o i = needed_place lev.Jump (piece_context (e.arm ats p)) t q refl h o (i refl)
 needed_child e.output_block t q h b o i = needed_output t q b o
-needed_child e.grouped t q h b o i = needed_place lev.Jump enclosed t q refl h o (i refl)
 needed_child e.stray t q h b o i = absurd cc
+needed_child _ t q h b o i = needed_place lev.Jump enclosed t q refl h o (i refl)
 
 -- a leaf has no pair
 child_needed : (k : Piece) (t : Tree) → (keeps_block k t ≡ false → NeedsItsPairs t) → NeedsItsPairs t
 child_needed k (leaf j) g = λ v c q s o i. o
-child_needed k (paren m t) g = g (not_verbatim k (paren m t) refl)
-child_needed k (attributed a more t) g = g (not_verbatim k (attributed a more t) refl)
-child_needed k (prefixed j gs t) g = g (not_verbatim k (prefixed j gs t) refl)
-child_needed k (infixed x j y) g = g (not_verbatim k (infixed x j y) refl)
-child_needed k (postfixed x j) g = g (not_verbatim k (postfixed x j) refl)
-child_needed k (tail b j ks) g = g (not_verbatim k (tail b j ks) refl)
-child_needed k (frame j ks) g = g (not_verbatim k (frame j ks) refl)
+child_needed k d g = g (not_verbatim k d refl)
 
 mutual
   pub needs_its_pairs : (t : Tree) → Formed t → NeedsItsPairs t

@@ -14,7 +14,7 @@ use Rattle.syn_grammar.specs.declared.next.Context.{Context}
 use Rattle.syn_grammar.specs.Place.{plain, before_block, at_head}
 use Rattle.syn_grammar.specs.Next.{enclosed, in_condition, in_arm}
 use Rattle.syn_grammar.specs.Slot.{Slot, Holder}
-use Rattle.syn_grammar.specs.Stands.{Node, is_leaf, is_become, is_attributed_verbatim, is_paren, is_attributed_by, is_prefixed, is_infixed, is_postfixed, is_tail, is_indexed, is_frame, Content, holds_none, holds_within, holds_bare, Operands, no_more, one_more, short, block, arms_inside, fields_of, ends_piece, short_value, takes_block, Stands}
+use Rattle.syn_grammar.specs.Stands.{Node, is_paren, is_attributed_by, is_prefixed, is_infixed, is_postfixed, is_tail, is_indexed, is_frame, Content, holds_none, holds_within, holds_bare, Operands, no_more, one_more, short, block, arms_inside, fields_of, ends_piece, short_value, takes_block, Stands}
 use Rattle.syn_grammar.specs.Tree as e
 use Rattle.syn_grammar.specs.Tree.{Tree, Children, Piece, tail, none, plain_block, is_silent, own, fill, clear}
 use Rattle.syn_grammar.specs.Rule.{place_asks, put, bare}
@@ -40,8 +40,6 @@ ends_there _ x n h = refl
 
 short_there : (k : Piece) (x : Tree) → short_value k ≡ Some x → (block_there k x ≡ true) × (is_silent k ≡ true) × (parenthesize_attributed x ≡ x)
 short_there (e.field_value ats (a_name w) false) x h = (refl, refl, subst (λ z. parenthesize_attributed z ≡ z) (some_is h) refl)
-short_there (e.field_value ats (a_name w) true) x h = absurd cc
-short_there (e.field_value ats (an_index i) b) x h = absurd cc
 short_there _ x h = absurd cc
 
 block_is_there : (k : Piece) (i : List Tok) → takes_block k ≡ true → block_there k (plain_block i) ≡ true
@@ -58,9 +56,6 @@ silent b P h k = absurd (let r : true ≡ false = sym h ∙ k in cc)
 
 mutual
   pub proper : {p : Place} {l n : List Tok} {x : Tree} → Node p l x n → Proper x
-  proper (is_leaf f g) = tt
-  proper (is_become w d q r o) = tt
-  proper (is_attributed_verbatim z more fs f d q r) = tt
   proper (is_paren d q r) = (refl, proper d)
   proper (is_attributed_by f g d) = proper d
   proper (is_prefixed f g d q r) = proper d
@@ -69,6 +64,7 @@ mutual
   proper (is_tail {b = b} {is = is} d f t o q) = (subst Proper (sym q) (proper_fields is b (proper d)), proper_content o)
   proper (is_indexed {b = b} {i = i} {is = is} d f t q) = subst Proper (sym q) (proper_fields (i ∷ is) b (proper d))
   proper (is_frame f o g e) = proper_content o
+  proper _ = tt
 
   proper_content : {h : Holder} {l n : List Tok} {ks : Children} → Content h l ks n → ProperChildren ks
   proper_content holds_none = tt

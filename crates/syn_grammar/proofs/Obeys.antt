@@ -13,7 +13,7 @@ use Rattle.syn_grammar.specs.Stands.{is_range, is_cast, carries, compares, is_ba
 use Rattle.syn_grammar.specs.Tree.{Tree, Children, leaf, paren, attributed, prefixed, infixed, postfixed, tail, frame, none, child, postfix_op, is_silent}
 use Rattle.syn_grammar.specs.Rule.{is_operation, leaf_refuses, postfix_refuses, leaf_misplaced, prefix_misplaced, frame_misplaced, is_bare_break, leaf_labelled, frame_labelled}
 
--- what a place asks of its occupant, with a token of this class behind it
+-- what a place asks of its occupant, with a token of this class after it
 pub record Fits (v : Level) (t : Tree) (n : Next) : Type 0 where
   pub no_operator : takes_next v n && not (is_range t) ≡ false
   pub no_trailer : trails n && (carries t || is_cast t) ≡ false

@@ -1,5 +1,5 @@
 -- The first tokens of a tree's own spelling.
-use Rattle.std.proofs.Common.{◌≡◌, Bool, true, false, not, ◌||◌, ◌==◌, List, [], ◌∷◌, Option, Some, None, refl, sym, ◌∙◌, ap, subst, codes}
+use Rattle.std.proofs.Common.{◌≡◌, Bool, true, false, not, ◌||◌, ◌==◌, List, [], ◌∷◌, Option, None, refl, sym, ◌∙◌, ap, subst, codes}
 use Rattle.std.specs.Prelude.{if◌then◌else◌}
 use Rattle.std.proofs.lemmas.Slice.Eq.{bytes_eq-Decides}
 use Rattle.std.specs.Str.{bytes_eq}
@@ -38,6 +38,11 @@ use Rattle.syn_grammar.proofs.Attributes.{outers_are}
 use Rattle.syn_grammar.proofs.Formed.{Formed}
 use Rattle.syn_grammar.proofs.Obeys.{begins_label}
 use Rattle.syn_grammar.proofs.Shows.{Shows, shows_operator, shows_trailer}
+
+-- what the first token is asked, for a proof that computes it
+asked : Bool
+unfolding begins_expr sign_begins ends_open_range dot_at sign_at word_at lifetime_at brace_at group_at raw_at
+asked = true
 
 -- the first token is a group in braces
 abbrev pub leaf_braced : Leaf → Bool
@@ -100,7 +105,7 @@ more_quiet t.no_segments r q = q
 more_quiet (t.more_segments w a ss) r q = colons_quiet _
 
 word_front : (w : Text) (l : List Tok) → is_segment w ≡ true → Quiet l → Front false false false (ident w ∷ l)
-unfolding begins_expr sign_begins ends_open_range dot_at sign_at word_at lifetime_at brace_at group_at raw_at
+unfolding asked
 word_front w l h q = record {
   begins = rw (word_not w (codes "as") h not_as) refl;
   stops = rw (word_not w (codes "as") h not_as) refl;
@@ -113,7 +118,7 @@ word_front w l h q = record {
 }
 
 colons_front : (l : List Tok) → Front false false false (colon2_before l)
-unfolding begins_expr sign_begins ends_open_range dot_at sign_at word_at lifetime_at brace_at group_at raw_at
+unfolding asked
 colons_front l = record { begins = refl; stops = refl; brace = refl; label = refl; pound = refl; no_mut = refl; no_raw = refl; no_arrow = refl }
 
 segments_front : (s : PathStyle) (ss : Segments) (r : List Tok) → no_more_segments ss ≡ false → segments_fit 0 s ss ≡ true → Quiet r
@@ -128,7 +133,7 @@ path_front s true ss r e f q = colons_front _
 path_front s false ss r e f q = segments_front s ss r e f q
 
 less_front : (l : List Tok) → Front false false false (alone 60 ∷ l)
-unfolding begins_expr sign_begins ends_open_range dot_at sign_at word_at lifetime_at brace_at group_at raw_at
+unfolding asked
 less_front l = record { begins = refl; stops = refl; brace = refl; label = refl; pound = refl; no_mut = refl; no_raw = refl; no_arrow = refl }
 
 named_front : (q : QSelfTree) (b : Bool) (ss : List SegmentTree) (e : Bool) (r : List Tok)
@@ -150,11 +155,11 @@ macro_front m r f = let p = both_true _ _ f in path_of_macro m.path.leading m.pa
 -- ---- literals
 
 quote_front : (text : Text) (l : List Tok) → Front false false false (literal text ∷ l)
-unfolding begins_expr sign_begins ends_open_range dot_at sign_at word_at lifetime_at brace_at group_at raw_at
+unfolding asked
 quote_front text l = record { begins = refl; stops = refl; brace = refl; label = refl; pound = refl; no_mut = refl; no_raw = refl; no_arrow = refl }
 
 minus_front : (l : List Tok) → Front false false false (alone 45 ∷ l)
-unfolding begins_expr sign_begins ends_open_range dot_at sign_at word_at lifetime_at brace_at group_at raw_at
+unfolding asked
 minus_front l = record { begins = refl; stops = refl; brace = refl; label = refl; pound = refl; no_mut = refl; no_raw = refl; no_arrow = refl }
 
 signed_front : (b : Bool) (u v : Text) (l : List Tok) → Front false false false (if b then alone 45 ∷ literal u ∷ l else literal v ∷ l)
@@ -181,88 +186,56 @@ truth_front text l h = go (bytes_eq text (codes "true")) refl
 
 lit_front : (k : LitKind) (text : Text) (l : List Tok) → unsigned_fits (record { kind = k; text = text }) ≡ true → Front false false false (lit_own (record { kind = k; text = text }) l)
 unfolding lit_own
-lit_front kind.Str text l h = quote_front text l
-lit_front kind.ByteStr text l h = quote_front text l
-lit_front kind.CStr text l h = quote_front text l
-lit_front kind.Byte text l h = quote_front text l
-lit_front kind.Char text l h = quote_front text l
 lit_front kind.Int text l h = number_front text l
 lit_front kind.Float text l h = number_front text l
 lit_front kind.Bool text l h = truth_front text l h
+lit_front _ text l h = quote_front text l
 
 -- ---- leaves
 
 leaf_front : (k : Leaf) (r : List Tok) → leaf_fits k ≡ true → Quiet r → Front (leaf_braced k) (leaf_labelled k) false (leaf_own k r)
-unfolding begins_expr sign_begins ends_open_range dot_at sign_at word_at lifetime_at brace_at group_at raw_at
+unfolding asked
 leaf_front (e.lit x) r f q = lit_front x.kind x.text r f
 leaf_front (e.path w p) r f q = named_front w p.leading p.segments p.trailing r (both_true _ _ f).0 q
 leaf_front (e.mac m) r f q = macro_front m r f
 leaf_front (e.verbatim ts) r f q = absurd cc
-leaf_front e.infer r f q = record { begins = refl; stops = refl; brace = refl; label = refl; pound = refl; no_mut = refl; no_raw = refl; no_arrow = refl }
 leaf_front (e.full_range limits.HalfOpen) r f q = record { begins = refl; stops = refl; brace = refl; label = refl; pound = refl; no_mut = refl; no_raw = refl; no_arrow = refl }
-leaf_front (e.full_range limits.Closed) r f q = record { begins = refl; stops = refl; brace = refl; label = refl; pound = refl; no_mut = refl; no_raw = refl; no_arrow = refl }
 leaf_front (e.bare_jump e.returning) r f q = record { begins = refl; stops = refl; brace = refl; label = refl; pound = refl; no_mut = refl; no_raw = refl; no_arrow = refl }
-leaf_front (e.bare_jump e.yielding) r f q = record { begins = refl; stops = refl; brace = refl; label = refl; pound = refl; no_mut = refl; no_raw = refl; no_arrow = refl }
-leaf_front (e.bare_jump (e.breaking w)) r f q = record { begins = refl; stops = refl; brace = refl; label = refl; pound = refl; no_mut = refl; no_raw = refl; no_arrow = refl }
-leaf_front (e.continuing w) r f q = record { begins = refl; stops = refl; brace = refl; label = refl; pound = refl; no_mut = refl; no_raw = refl; no_arrow = refl }
 leaf_front (e.block None b) r f q = record { begins = refl; stops = refl; brace = refl; label = refl; pound = refl; no_mut = refl; no_raw = refl; no_arrow = refl }
-leaf_front (e.block (Some w) b) r f q = record { begins = refl; stops = refl; brace = refl; label = refl; pound = refl; no_mut = refl; no_raw = refl; no_arrow = refl }
 leaf_front (e.loop_expr None b) r f q = record { begins = refl; stops = refl; brace = refl; label = refl; pound = refl; no_mut = refl; no_raw = refl; no_arrow = refl }
-leaf_front (e.loop_expr (Some w) b) r f q = record { begins = refl; stops = refl; brace = refl; label = refl; pound = refl; no_mut = refl; no_raw = refl; no_arrow = refl }
-leaf_front (e.unsafe_block b) r f q = record { begins = refl; stops = refl; brace = refl; label = refl; pound = refl; no_mut = refl; no_raw = refl; no_arrow = refl }
-leaf_front (e.const_block b) r f q = record { begins = refl; stops = refl; brace = refl; label = refl; pound = refl; no_mut = refl; no_raw = refl; no_arrow = refl }
-leaf_front (e.async_block m ts) r f q = record { begins = refl; stops = refl; brace = refl; label = refl; pound = refl; no_mut = refl; no_raw = refl; no_arrow = refl }
-leaf_front (e.try_block ts) r f q = record { begins = refl; stops = refl; brace = refl; label = refl; pound = refl; no_mut = refl; no_raw = refl; no_arrow = refl }
+leaf_front _ r f q = record { begins = refl; stops = refl; brace = refl; label = refl; pound = refl; no_mut = refl; no_raw = refl; no_arrow = refl }
 
 closure_front : (o : Option LifetimesTree) (c s a m u : Bool) (l : List Tok)
     → Front false false false (before_some o lifetimes_own (word_if c (codes "const") (word_if s (codes "static") (word_if a (codes "async") (word_if m (codes "move") (word_if u (codes "use") (vert_before l)))))))
 unfolding begins_expr sign_begins ends_open_range dot_at sign_at word_at lifetime_at brace_at group_at raw_at lifetimes_own
-closure_front (Some x) c s a m u l = record { begins = refl; stops = refl; brace = refl; label = refl; pound = refl; no_mut = refl; no_raw = refl; no_arrow = refl }
-closure_front None true s a m u l = record { begins = refl; stops = refl; brace = refl; label = refl; pound = refl; no_mut = refl; no_raw = refl; no_arrow = refl }
-closure_front None false true a m u l = record { begins = refl; stops = refl; brace = refl; label = refl; pound = refl; no_mut = refl; no_raw = refl; no_arrow = refl }
-closure_front None false false true m u l = record { begins = refl; stops = refl; brace = refl; label = refl; pound = refl; no_mut = refl; no_raw = refl; no_arrow = refl }
-closure_front None false false false true u l = record { begins = refl; stops = refl; brace = refl; label = refl; pound = refl; no_mut = refl; no_raw = refl; no_arrow = refl }
 closure_front None false false false false true l = record { begins = refl; stops = refl; brace = refl; label = refl; pound = refl; no_mut = refl; no_raw = refl; no_arrow = refl }
-closure_front None false false false false false l = record { begins = refl; stops = refl; brace = refl; label = refl; pound = refl; no_mut = refl; no_raw = refl; no_arrow = refl }
+closure_front _ _ _ _ _ _ l = record { begins = refl; stops = refl; brace = refl; label = refl; pound = refl; no_mut = refl; no_raw = refl; no_arrow = refl }
 
 prefix_front : (k : Prefix) (r : List Tok) → Front false false false (prefix_own k r)
-unfolding begins_expr sign_begins ends_open_range dot_at sign_at word_at lifetime_at brace_at group_at raw_at
+unfolding asked
 prefix_front (e.closure h) r = closure_front h.lifetimes h.constness h.movability h.asyncness h.capture h.usage _
 prefix_front (e.unary un.Deref) r = record { begins = refl; stops = refl; brace = refl; label = refl; pound = refl; no_mut = refl; no_raw = refl; no_arrow = refl }
-prefix_front (e.unary un.Not) r = record { begins = refl; stops = refl; brace = refl; label = refl; pound = refl; no_mut = refl; no_raw = refl; no_arrow = refl }
-prefix_front (e.unary un.Neg) r = record { begins = refl; stops = refl; brace = refl; label = refl; pound = refl; no_mut = refl; no_raw = refl; no_arrow = refl }
-prefix_front (e.reference m) r = record { begins = refl; stops = refl; brace = refl; label = refl; pound = refl; no_mut = refl; no_raw = refl; no_arrow = refl }
-prefix_front (e.raw_addr m) r = record { begins = refl; stops = refl; brace = refl; label = refl; pound = refl; no_mut = refl; no_raw = refl; no_arrow = refl }
 prefix_front (e.range_to limits.HalfOpen) r = record { begins = refl; stops = refl; brace = refl; label = refl; pound = refl; no_mut = refl; no_raw = refl; no_arrow = refl }
-prefix_front (e.range_to limits.Closed) r = record { begins = refl; stops = refl; brace = refl; label = refl; pound = refl; no_mut = refl; no_raw = refl; no_arrow = refl }
-prefix_front (e.let_expr p) r = record { begins = refl; stops = refl; brace = refl; label = refl; pound = refl; no_mut = refl; no_raw = refl; no_arrow = refl }
 prefix_front (e.jump e.returning) r = record { begins = refl; stops = refl; brace = refl; label = refl; pound = refl; no_mut = refl; no_raw = refl; no_arrow = refl }
-prefix_front (e.jump e.yielding) r = record { begins = refl; stops = refl; brace = refl; label = refl; pound = refl; no_mut = refl; no_raw = refl; no_arrow = refl }
-prefix_front (e.jump (e.breaking w)) r = record { begins = refl; stops = refl; brace = refl; label = refl; pound = refl; no_mut = refl; no_raw = refl; no_arrow = refl }
+prefix_front _ r = record { begins = refl; stops = refl; brace = refl; label = refl; pound = refl; no_mut = refl; no_raw = refl; no_arrow = refl }
 
 frame_front : (k : Frame) (ks : Children) (o r : List Tok) → frame_fits k ks ≡ true → Front false (frame_labelled k) false (framed k (enclosure k) o r)
-unfolding begins_expr sign_begins ends_open_range dot_at sign_at word_at lifetime_at brace_at group_at raw_at
+unfolding asked
 frame_front (e.structure q p d) ks o r f =
     subst (λ l. Front false false false l) (type_append (t.path q p.leading (t.segments_of p.segments) p.trailing) (enclosed del.Brace o r))
     (named_front q p.leading p.segments p.trailing (enclosed del.Brace o r) (both_true (qpath_fits style.Expr (q, p)) _ f).0 (record { no_mut = refl; no_const = refl }))
 frame_front (e.closure_block h) ks o r f = closure_front h.lifetimes h.constness h.movability h.asyncness h.capture h.usage _
 frame_front e.group_expr ks o r f = absurd cc
-frame_front e.array ks o r f = record { begins = refl; stops = refl; brace = refl; label = refl; pound = refl; no_mut = refl; no_raw = refl; no_arrow = refl }
-frame_front e.tuple ks o r f = record { begins = refl; stops = refl; brace = refl; label = refl; pound = refl; no_mut = refl; no_raw = refl; no_arrow = refl }
-frame_front e.repeat ks o r f = record { begins = refl; stops = refl; brace = refl; label = refl; pound = refl; no_mut = refl; no_raw = refl; no_arrow = refl }
-frame_front e.if_expr ks o r f = record { begins = refl; stops = refl; brace = refl; label = refl; pound = refl; no_mut = refl; no_raw = refl; no_arrow = refl }
 frame_front (e.while_loop None) ks o r f = record { begins = refl; stops = refl; brace = refl; label = refl; pound = refl; no_mut = refl; no_raw = refl; no_arrow = refl }
-frame_front (e.while_loop (Some w)) ks o r f = record { begins = refl; stops = refl; brace = refl; label = refl; pound = refl; no_mut = refl; no_raw = refl; no_arrow = refl }
 frame_front (e.for_loop None p) ks o r f = record { begins = refl; stops = refl; brace = refl; label = refl; pound = refl; no_mut = refl; no_raw = refl; no_arrow = refl }
-frame_front (e.for_loop (Some w) p) ks o r f = record { begins = refl; stops = refl; brace = refl; label = refl; pound = refl; no_mut = refl; no_raw = refl; no_arrow = refl }
-frame_front e.match_expr ks o r f = record { begins = refl; stops = refl; brace = refl; label = refl; pound = refl; no_mut = refl; no_raw = refl; no_arrow = refl }
+frame_front _ ks o r f = record { begins = refl; stops = refl; brace = refl; label = refl; pound = refl; no_mut = refl; no_raw = refl; no_arrow = refl }
 
 paren_front : (i : Inside) (r : List Tok) → Front false false false (group del.Parenthesis i ∷ r)
-unfolding begins_expr sign_begins ends_open_range dot_at sign_at word_at lifetime_at brace_at group_at raw_at
+unfolding asked
 paren_front i r = record { begins = refl; stops = refl; brace = refl; label = refl; pound = refl; no_mut = refl; no_raw = refl; no_arrow = refl }
 
 pound_front : (l : List Tok) → Front false false true (alone 35 ∷ l)
-unfolding begins_expr sign_begins ends_open_range dot_at sign_at word_at lifetime_at brace_at group_at raw_at
+unfolding asked
 pound_front l = record { begins = refl; stops = refl; brace = refl; label = refl; pound = refl; no_mut = refl; no_raw = refl; no_arrow = refl }
 
 attributed_front : (a : AttributeTree) (r : List Tok) → Front false false true (attribute_own a r)

@@ -43,73 +43,37 @@ mutual
 
 pub operation_stays : (t : Tree) → is_operation (parenthesize_attributed t) ≡ is_operation t
 operation_stays (leaf k) = refl
-operation_stays (paren m t) = refl
-operation_stays (attributed a more t) = refl
-operation_stays (prefixed k gs t) = refl
-operation_stays (infixed x k y) = refl
-operation_stays (postfixed x k) = refl
-operation_stays (tail b k ks) = refl
-operation_stays (frame k ks) = refl
+operation_stays _ = refl
 
 pub compares_stays : (t : Tree) → compares (parenthesize_attributed t) ≡ compares t
 compares_stays (leaf k) = refl
-compares_stays (paren m t) = refl
-compares_stays (attributed a more t) = refl
-compares_stays (prefixed k gs t) = refl
-compares_stays (infixed x k y) = refl
-compares_stays (postfixed x k) = refl
-compares_stays (tail b k ks) = refl
-compares_stays (frame k ks) = refl
+compares_stays _ = refl
 
 pub cast_stays : (t : Tree) → is_cast (parenthesize_attributed t) ≡ is_cast t
-cast_stays (leaf k) = refl
-cast_stays (paren m t) = refl
-cast_stays (attributed a more t) = refl
-cast_stays (prefixed k gs t) = refl
-cast_stays (infixed x k y) = refl
 cast_stays (postfixed x (e.cast y)) = refl
-cast_stays (postfixed x (e.range_from op)) = refl
-cast_stays (tail b k ks) = refl
-cast_stays (frame k ks) = refl
+cast_stays _ = refl
 
 pub label_stays : (t : Tree) → begins_label (parenthesize_attributed t) ≡ begins_label t
-label_stays (leaf k) = refl
-label_stays (paren m t) = refl
-label_stays (attributed a more t) = refl
-label_stays (prefixed k gs t) = refl
 label_stays (infixed x k y) = label_stays x
 label_stays (postfixed x k) = label_stays x
 label_stays (tail b k ks) = label_stays b
-label_stays (frame k ks) = refl
+label_stays _ = refl
 
 pub base_stays : (k : Trailer) (b : Tree) → is_base k (parenthesize_attributed b) ≡ is_base k b
-base_stays k (leaf l) = refl
-base_stays k (paren m t) = refl
 base_stays k (attributed a more t) = and-false (carries (put (is_operation t) (parenthesize_attributed t) (parenthesize_attributed t))) ∙ sym (and-false (carries t))
-base_stays k (prefixed l gs t) = refl
-base_stays k (infixed x l y) = refl
-base_stays k (postfixed x l) = refl
 base_stays k (tail b e.call ks) = refl
-base_stays k (tail b e.index ks) = refl
-base_stays k (tail b (e.method w a) ks) = refl
-base_stays k (tail b (e.field m) ks) = refl
-base_stays k (tail b e.await ks) = refl
-base_stays k (tail b e.try_expr ks) = refl
-base_stays k (frame l ks) = refl
+base_stays k _ = refl
 
 pub no_range : (t : Tree) → is_range t ≡ false → is_range (parenthesize_attributed t) ≡ false
-no_range (leaf k) h = h
 no_range (paren m t) h = refl
 no_range (attributed a more t) h = go (is_operation t) (no_range t h)
   where
     go : (b : Bool) → is_range (parenthesize_attributed t) ≡ false → is_range (put b (parenthesize_attributed t) (parenthesize_attributed t)) ≡ false
     go true i = refl
     go false i = i
-no_range (prefixed k gs t) h = h
-no_range (infixed x k y) h = h
-no_range (postfixed x k) h = h
 no_range (tail b k ks) h = refl
 no_range (frame k ks) h = refl
+no_range _ h = h
 
 pub fields_stay : (is : List ℕ) (b : Tree) → parenthesize_attributed (fields_of b is) ≡ fields_of (parenthesize_attributed b) is
 fields_stay [] b = refl

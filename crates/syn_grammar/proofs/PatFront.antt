@@ -60,7 +60,7 @@ else_none : (l : List Tok) → (p.pattern true).reads (ident (codes "else") ∷ 
 unfolding p.at_width p.multi p.single p.path_pat p.binding_at q.qpath q.path q.pieces q.segment q.segment_name sign_at word_at group_at is_segment stands_alone is_reserved_word is_truth
 else_none l = pattern_is true (ident (codes "else") ∷ l)
 
--- what is behind an arm whose body ends with a block
+-- what is after an arm whose body ends with a block
 pub record NoBody (l : List Tok) : Type 0 where
   pub no_else : word_at (codes "else") l ≡ false
   pub no_dot : dot_at l ≡ false

@@ -1,4 +1,4 @@
--- Places and contexts; what a place asks of its occupant, from the class of what is behind.
+-- Places and contexts; what a place asks of its occupant, from the class of what is after.
 use Rattle.std.proofs.Common.{◌≡◌, ℕ, Bool, true, false, not, ◌&&◌, ◌||◌, List, drop, Some, None, refl, sym, ◌∙◌, ap, subst}
 use Rattle.std.proofs.Math.Bool.{and-false}
 use Rattle.syn_tokens.specs.Tok.{Tok}
@@ -33,124 +33,48 @@ use Rattle.syn_grammar.proofs.Shows.{Shows, is_round_next, shows_op}
 
 pub range_clear : (t : Tree) → is_range (clear t) ≡ is_range t
 range_clear (leaf k) = refl
-range_clear (paren m t) = refl
 range_clear (attributed a more t) = range_clear t
-range_clear (prefixed k gs t) = refl
-range_clear (infixed x k y) = refl
-range_clear (postfixed x k) = refl
-range_clear (tail b k ks) = refl
-range_clear (frame k ks) = refl
+range_clear _ = refl
 
 pub infix_clear : (t : Tree) → is_infix (clear t) ≡ is_infix t
 infix_clear (leaf k) = refl
-infix_clear (paren m t) = refl
-infix_clear (attributed a more t) = refl
-infix_clear (prefixed k gs t) = refl
-infix_clear (infixed x k y) = refl
-infix_clear (postfixed x k) = refl
-infix_clear (tail b k ks) = refl
-infix_clear (frame k ks) = refl
+infix_clear _ = refl
 
 pub compares_clear : (t : Tree) → compares (clear t) ≡ compares t
 compares_clear (leaf k) = refl
-compares_clear (paren m t) = refl
-compares_clear (attributed a more t) = refl
-compares_clear (prefixed k gs t) = refl
-compares_clear (infixed x k y) = refl
-compares_clear (postfixed x k) = refl
-compares_clear (tail b k ks) = refl
-compares_clear (frame k ks) = refl
+compares_clear _ = refl
 
 pub attributed_clear : (t : Tree) → is_attributed (clear t) ≡ is_attributed t
 attributed_clear (leaf k) = refl
-attributed_clear (paren m t) = refl
-attributed_clear (attributed a more t) = refl
-attributed_clear (prefixed k gs t) = refl
-attributed_clear (infixed x k y) = refl
-attributed_clear (postfixed x k) = refl
-attributed_clear (tail b k ks) = refl
-attributed_clear (frame k ks) = refl
+attributed_clear _ = refl
 
 pub carries_clear : (t : Tree) → carries (clear t) ≡ carries t
 carries_clear (leaf k) = refl
-carries_clear (paren m t) = refl
 carries_clear (attributed a more t) = carries_clear t
-carries_clear (prefixed k gs t) = refl
-carries_clear (infixed x k y) = refl
-carries_clear (postfixed x k) = refl
-carries_clear (tail b k ks) = refl
-carries_clear (frame k ks) = refl
+carries_clear _ = refl
 
 pub cast_clear : (t : Tree) → is_cast (clear t) ≡ is_cast t
 cast_clear (leaf k) = refl
-cast_clear (paren m t) = refl
-cast_clear (attributed a more t) = refl
-cast_clear (prefixed k gs t) = refl
-cast_clear (infixed x k y) = refl
-cast_clear (postfixed x (e.cast ty)) = refl
-cast_clear (postfixed x (e.range_from op)) = refl
-cast_clear (tail b k ks) = refl
-cast_clear (frame k ks) = refl
+cast_clear _ = refl
 
 pub verbatim_clear : (t : Tree) → Formed t → is_verbatim (clear t) ≡ false
 verbatim_clear (leaf (e.lit x)) f = refl
-verbatim_clear (leaf (e.path q p)) f = refl
-verbatim_clear (leaf (e.mac m)) f = refl
-verbatim_clear (leaf e.infer) f = refl
-verbatim_clear (leaf (e.full_range op)) f = refl
-verbatim_clear (leaf (e.bare_jump j)) f = refl
-verbatim_clear (leaf (e.continuing w)) f = refl
-verbatim_clear (leaf (e.block w b)) f = refl
-verbatim_clear (leaf (e.loop_expr w b)) f = refl
-verbatim_clear (leaf (e.unsafe_block b)) f = refl
-verbatim_clear (leaf (e.const_block b)) f = refl
-verbatim_clear (leaf (e.async_block m ts)) f = refl
-verbatim_clear (leaf (e.try_block ts)) f = refl
 verbatim_clear (leaf (e.verbatim ts)) f = absurd cc
-verbatim_clear (paren m t) f = refl
-verbatim_clear (attributed a more t) f = refl
-verbatim_clear (prefixed k gs t) f = refl
-verbatim_clear (infixed x k y) f = refl
-verbatim_clear (postfixed x k) f = refl
-verbatim_clear (tail b k ks) f = refl
-verbatim_clear (frame k ks) f = refl
+verbatim_clear _ f = refl
 
 pub base_clear : (k : Trailer) (t : Tree) → is_base k (clear t) ≡ is_base k t
-base_clear k (leaf j) = refl
-base_clear k (paren m t) = refl
 base_clear k (attributed a more t) = and-false _ ∙ sym (and-false _)
-base_clear k (prefixed j gs t) = refl
-base_clear k (infixed x j y) = refl
-base_clear k (postfixed x j) = refl
 base_clear k (tail b (e.field m) ks) = refl
-base_clear k (tail b e.call ks) = refl
-base_clear k (tail b e.index ks) = refl
-base_clear k (tail b (e.method w a) ks) = refl
-base_clear k (tail b e.await ks) = refl
-base_clear k (tail b e.try_expr ks) = refl
-base_clear k (frame j ks) = refl
+base_clear k _ = refl
 
 if_expr_frame : (k : Frame) (ks us : Children) → is_if_expr (frame k ks) ≡ is_if_expr (frame k us)
 if_expr_frame e.array ks us = refl
-if_expr_frame e.tuple ks us = refl
-if_expr_frame e.repeat ks us = refl
-if_expr_frame (e.structure q p d) ks us = refl
-if_expr_frame (e.closure_block h) ks us = refl
-if_expr_frame e.if_expr ks us = refl
-if_expr_frame (e.while_loop w) ks us = refl
-if_expr_frame (e.for_loop w p) ks us = refl
-if_expr_frame e.match_expr ks us = refl
-if_expr_frame e.group_expr ks us = refl
+if_expr_frame _ ks us = refl
 
 pub if_expr_clear : (t : Tree) → is_if_expr (clear t) ≡ is_if_expr t
 if_expr_clear (leaf k) = refl
-if_expr_clear (paren m t) = refl
-if_expr_clear (attributed a more t) = refl
-if_expr_clear (prefixed k gs t) = refl
-if_expr_clear (infixed x k y) = refl
-if_expr_clear (postfixed x k) = refl
-if_expr_clear (tail b k ks) = refl
 if_expr_clear (frame k ks) = if_expr_frame k (clear_children ks) ks
+if_expr_clear _ = refl
 
 -- ---- places and contexts
 
@@ -162,7 +86,7 @@ heads x = true
 pub record Meets (p : Place) (c : Context) : Type 0 where
   pub mode : p.condition ≡ c.condition
   pub head : p.head ≡ heads c.edge
-  -- a brace that opens a block is behind a condition
+  -- a brace that opens a block is after a condition
   pub block : is_block_next c.next && not c.condition ≡ false
 
 pub meets_plain : Meets plain enclosed
@@ -179,35 +103,20 @@ meets_condition = record { mode = refl; head = refl; block = refl }
 
 heads_left : (x : Edge) → heads x ≡ heads (left_edge x)
 heads_left edge.Free = refl
-heads_left edge.NoBrace = refl
-heads_left edge.Arm = refl
-heads_left edge.BelowArm = refl
-heads_left edge.Statement = refl
-heads_left edge.BelowStatement = refl
+heads_left _ = refl
 
 heads_dot : (x : Edge) → heads x ≡ heads (dot_edge x)
 heads_dot edge.Free = refl
-heads_dot edge.NoBrace = refl
-heads_dot edge.Arm = refl
-heads_dot edge.BelowArm = refl
-heads_dot edge.Statement = refl
-heads_dot edge.BelowStatement = refl
+heads_dot _ = refl
 
 heads_base : (k : Trailer) (x : Edge) → heads x ≡ heads (base_edge k x)
 heads_base e.call x = heads_left x
 heads_base e.index x = heads_left x
-heads_base (e.method w a) x = heads_dot x
-heads_base (e.field m) x = heads_dot x
-heads_base e.await x = heads_dot x
-heads_base e.try_expr x = heads_dot x
+heads_base _ x = heads_dot x
 
 heads_attributed : (x : Edge) → heads x ≡ heads (attributed_edge x)
 heads_attributed edge.Free = refl
-heads_attributed edge.NoBrace = refl
-heads_attributed edge.Arm = refl
-heads_attributed edge.BelowArm = refl
-heads_attributed edge.Statement = refl
-heads_attributed edge.BelowStatement = refl
+heads_attributed _ = refl
 
 not_heads : (b : Bool) → false ≡ heads (braceless b)
 not_heads true = refl
@@ -215,11 +124,7 @@ not_heads false = refl
 
 trailer_no_block : (k : Trailer) → is_block_next (next_of k) ≡ false
 trailer_no_block e.call = refl
-trailer_no_block e.index = refl
-trailer_no_block (e.method w a) = refl
-trailer_no_block (e.field m) = refl
-trailer_no_block e.await = refl
-trailer_no_block e.try_expr = refl
+trailer_no_block _ = refl
 
 -- no operator is a trailer, nor a brace
 pub record IsOperator (n : Next) : Type 0 where
@@ -229,37 +134,8 @@ pub record IsOperator (n : Next) : Type 0 where
 
 pub operator_class : (k : Infix) → IsOperator (class_of k)
 operator_class (inf.Binary bin.Add) = record { no_trailer = refl; no_block = refl; no_round = refl }
-operator_class (inf.Binary bin.Sub) = record { no_trailer = refl; no_block = refl; no_round = refl }
-operator_class (inf.Binary bin.Mul) = record { no_trailer = refl; no_block = refl; no_round = refl }
-operator_class (inf.Binary bin.Div) = record { no_trailer = refl; no_block = refl; no_round = refl }
-operator_class (inf.Binary bin.Rem) = record { no_trailer = refl; no_block = refl; no_round = refl }
-operator_class (inf.Binary bin.And) = record { no_trailer = refl; no_block = refl; no_round = refl }
-operator_class (inf.Binary bin.Or) = record { no_trailer = refl; no_block = refl; no_round = refl }
-operator_class (inf.Binary bin.BitXor) = record { no_trailer = refl; no_block = refl; no_round = refl }
-operator_class (inf.Binary bin.BitAnd) = record { no_trailer = refl; no_block = refl; no_round = refl }
-operator_class (inf.Binary bin.BitOr) = record { no_trailer = refl; no_block = refl; no_round = refl }
-operator_class (inf.Binary bin.Shl) = record { no_trailer = refl; no_block = refl; no_round = refl }
-operator_class (inf.Binary bin.Shr) = record { no_trailer = refl; no_block = refl; no_round = refl }
-operator_class (inf.Binary bin.Eq) = record { no_trailer = refl; no_block = refl; no_round = refl }
-operator_class (inf.Binary bin.Lt) = record { no_trailer = refl; no_block = refl; no_round = refl }
-operator_class (inf.Binary bin.Le) = record { no_trailer = refl; no_block = refl; no_round = refl }
-operator_class (inf.Binary bin.Ne) = record { no_trailer = refl; no_block = refl; no_round = refl }
-operator_class (inf.Binary bin.Ge) = record { no_trailer = refl; no_block = refl; no_round = refl }
-operator_class (inf.Binary bin.Gt) = record { no_trailer = refl; no_block = refl; no_round = refl }
-operator_class (inf.Binary bin.AddAssign) = record { no_trailer = refl; no_block = refl; no_round = refl }
-operator_class (inf.Binary bin.SubAssign) = record { no_trailer = refl; no_block = refl; no_round = refl }
-operator_class (inf.Binary bin.MulAssign) = record { no_trailer = refl; no_block = refl; no_round = refl }
-operator_class (inf.Binary bin.DivAssign) = record { no_trailer = refl; no_block = refl; no_round = refl }
-operator_class (inf.Binary bin.RemAssign) = record { no_trailer = refl; no_block = refl; no_round = refl }
-operator_class (inf.Binary bin.BitXorAssign) = record { no_trailer = refl; no_block = refl; no_round = refl }
-operator_class (inf.Binary bin.BitAndAssign) = record { no_trailer = refl; no_block = refl; no_round = refl }
-operator_class (inf.Binary bin.BitOrAssign) = record { no_trailer = refl; no_block = refl; no_round = refl }
-operator_class (inf.Binary bin.ShlAssign) = record { no_trailer = refl; no_block = refl; no_round = refl }
-operator_class (inf.Binary bin.ShrAssign) = record { no_trailer = refl; no_block = refl; no_round = refl }
-operator_class inf.Assign = record { no_trailer = refl; no_block = refl; no_round = refl }
 operator_class (inf.Range limits.HalfOpen) = record { no_trailer = refl; no_block = refl; no_round = refl }
-operator_class (inf.Range limits.Closed) = record { no_trailer = refl; no_block = refl; no_round = refl }
-operator_class inf.Cast = record { no_trailer = refl; no_block = refl; no_round = refl }
+operator_class _ = record { no_trailer = refl; no_block = refl; no_round = refl }
 
 -- how many tokens an operator has
 abbrev pub count_of : Infix → ℕ
@@ -268,102 +144,28 @@ count_of (inf.Binary bin.Sub) = 1
 count_of (inf.Binary bin.Mul) = 1
 count_of (inf.Binary bin.Div) = 1
 count_of (inf.Binary bin.Rem) = 1
-count_of (inf.Binary bin.And) = 2
-count_of (inf.Binary bin.Or) = 2
 count_of (inf.Binary bin.BitXor) = 1
 count_of (inf.Binary bin.BitAnd) = 1
 count_of (inf.Binary bin.BitOr) = 1
-count_of (inf.Binary bin.Shl) = 2
-count_of (inf.Binary bin.Shr) = 2
-count_of (inf.Binary bin.Eq) = 2
 count_of (inf.Binary bin.Lt) = 1
-count_of (inf.Binary bin.Le) = 2
-count_of (inf.Binary bin.Ne) = 2
-count_of (inf.Binary bin.Ge) = 2
 count_of (inf.Binary bin.Gt) = 1
-count_of (inf.Binary bin.AddAssign) = 2
-count_of (inf.Binary bin.SubAssign) = 2
-count_of (inf.Binary bin.MulAssign) = 2
-count_of (inf.Binary bin.DivAssign) = 2
-count_of (inf.Binary bin.RemAssign) = 2
-count_of (inf.Binary bin.BitXorAssign) = 2
-count_of (inf.Binary bin.BitAndAssign) = 2
-count_of (inf.Binary bin.BitOrAssign) = 2
 count_of (inf.Binary bin.ShlAssign) = 3
 count_of (inf.Binary bin.ShrAssign) = 3
 count_of inf.Assign = 1
-count_of (inf.Range limits.HalfOpen) = 2
 count_of (inf.Range limits.Closed) = 3
 count_of inf.Cast = 1
+count_of _ = 2
 
 pub own_infix : (k : Infix) (l : List Tok) → infix_at (infix_own k l) ≡ Some (k, count_of k)
 unfolding infix_at sign_at word_at
 own_infix (inf.Binary bin.Add) l = refl
-own_infix (inf.Binary bin.Sub) l = refl
-own_infix (inf.Binary bin.Mul) l = refl
-own_infix (inf.Binary bin.Div) l = refl
-own_infix (inf.Binary bin.Rem) l = refl
-own_infix (inf.Binary bin.And) l = refl
-own_infix (inf.Binary bin.Or) l = refl
-own_infix (inf.Binary bin.BitXor) l = refl
-own_infix (inf.Binary bin.BitAnd) l = refl
-own_infix (inf.Binary bin.BitOr) l = refl
-own_infix (inf.Binary bin.Shl) l = refl
-own_infix (inf.Binary bin.Shr) l = refl
-own_infix (inf.Binary bin.Eq) l = refl
-own_infix (inf.Binary bin.Lt) l = refl
-own_infix (inf.Binary bin.Le) l = refl
-own_infix (inf.Binary bin.Ne) l = refl
-own_infix (inf.Binary bin.Ge) l = refl
-own_infix (inf.Binary bin.Gt) l = refl
-own_infix (inf.Binary bin.AddAssign) l = refl
-own_infix (inf.Binary bin.SubAssign) l = refl
-own_infix (inf.Binary bin.MulAssign) l = refl
-own_infix (inf.Binary bin.DivAssign) l = refl
-own_infix (inf.Binary bin.RemAssign) l = refl
-own_infix (inf.Binary bin.BitXorAssign) l = refl
-own_infix (inf.Binary bin.BitAndAssign) l = refl
-own_infix (inf.Binary bin.BitOrAssign) l = refl
-own_infix (inf.Binary bin.ShlAssign) l = refl
-own_infix (inf.Binary bin.ShrAssign) l = refl
-own_infix inf.Assign l = refl
 own_infix (inf.Range limits.HalfOpen) l = refl
-own_infix (inf.Range limits.Closed) l = refl
-own_infix inf.Cast l = refl
+own_infix _ l = refl
 
 pub own_drop : (k : Infix) (l : List Tok) → drop (count_of k) (infix_own k l) ≡ l
 own_drop (inf.Binary bin.Add) l = refl
-own_drop (inf.Binary bin.Sub) l = refl
-own_drop (inf.Binary bin.Mul) l = refl
-own_drop (inf.Binary bin.Div) l = refl
-own_drop (inf.Binary bin.Rem) l = refl
-own_drop (inf.Binary bin.And) l = refl
-own_drop (inf.Binary bin.Or) l = refl
-own_drop (inf.Binary bin.BitXor) l = refl
-own_drop (inf.Binary bin.BitAnd) l = refl
-own_drop (inf.Binary bin.BitOr) l = refl
-own_drop (inf.Binary bin.Shl) l = refl
-own_drop (inf.Binary bin.Shr) l = refl
-own_drop (inf.Binary bin.Eq) l = refl
-own_drop (inf.Binary bin.Lt) l = refl
-own_drop (inf.Binary bin.Le) l = refl
-own_drop (inf.Binary bin.Ne) l = refl
-own_drop (inf.Binary bin.Ge) l = refl
-own_drop (inf.Binary bin.Gt) l = refl
-own_drop (inf.Binary bin.AddAssign) l = refl
-own_drop (inf.Binary bin.SubAssign) l = refl
-own_drop (inf.Binary bin.MulAssign) l = refl
-own_drop (inf.Binary bin.DivAssign) l = refl
-own_drop (inf.Binary bin.RemAssign) l = refl
-own_drop (inf.Binary bin.BitXorAssign) l = refl
-own_drop (inf.Binary bin.BitAndAssign) l = refl
-own_drop (inf.Binary bin.BitOrAssign) l = refl
-own_drop (inf.Binary bin.ShlAssign) l = refl
-own_drop (inf.Binary bin.ShrAssign) l = refl
-own_drop inf.Assign l = refl
 own_drop (inf.Range limits.HalfOpen) l = refl
-own_drop (inf.Range limits.Closed) l = refl
-own_drop inf.Cast l = refl
+own_drop _ l = refl
 
 pub meets_left : (p : Place) (k : Infix) (c : Context) → Meets p c → Meets p (left_context k c)
 meets_left p k c m = record { mode = m.mode; head = m.head ∙ heads_left c.edge; block = rw (operator_class k).no_block refl }
@@ -379,97 +181,48 @@ meets_right p k c m = record { mode = m.mode; head = not_heads (is_half_open k &
 
 jump_no_block : (n : Next) → is_block_next (without_block n) && true ≡ false
 jump_no_block next.End = refl
-jump_no_block next.Assign = refl
-jump_no_block next.ShiftLeftAssign = refl
-jump_no_block next.Range = refl
-jump_no_block next.OrOr = refl
-jump_no_block next.AndAnd = refl
-jump_no_block next.Compare = refl
-jump_no_block next.Less = refl
-jump_no_block next.Or = refl
-jump_no_block next.Caret = refl
-jump_no_block next.And = refl
-jump_no_block next.ShiftLeft = refl
-jump_no_block next.ShiftRight = refl
-jump_no_block next.Plus = refl
-jump_no_block next.Minus = refl
-jump_no_block next.Star = refl
-jump_no_block next.Divide = refl
-jump_no_block next.As = refl
-jump_no_block next.Dot = refl
-jump_no_block next.Question = refl
-jump_no_block next.Parenthesis = refl
-jump_no_block next.Bracket = refl
-jump_no_block next.Block = refl
-jump_no_block next.Brace = refl
+jump_no_block _ = refl
 
 pub meets_prefix : (p : Place) (k : Prefix) (c : Context) → Meets p c → Meets (prefix_place p k) (prefix_context k c)
-meets_prefix p (e.unary op) c m = record { mode = m.mode; head = refl; block = m.block }
-meets_prefix p (e.reference b) c m = record { mode = m.mode; head = refl; block = m.block }
-meets_prefix p (e.raw_addr b) c m = record { mode = m.mode; head = refl; block = m.block }
 meets_prefix p (e.range_to op) c m = record { mode = m.mode; head = not_heads (is_half_open (inf.Range op) && c.condition); block = m.block }
-meets_prefix p (e.let_expr w) c m = record { mode = m.mode; head = refl; block = m.block }
 meets_prefix p (e.jump j) c m = record { mode = refl; head = not_heads (is_break j && c.condition); block = jump_no_block c.next }
-meets_prefix p (e.closure h) c m = record { mode = m.mode; head = refl; block = m.block }
+meets_prefix p _ c m = record { mode = m.mode; head = refl; block = m.block }
 
 pub prefix_level_is : (p : Place) (k : Prefix) → prefix_level k ≡ (prefix_place p k).level
 prefix_level_is p (e.unary op) = refl
-prefix_level_is p (e.reference b) = refl
-prefix_level_is p (e.raw_addr b) = refl
-prefix_level_is p (e.range_to op) = refl
-prefix_level_is p (e.let_expr w) = refl
-prefix_level_is p (e.jump j) = refl
-prefix_level_is p (e.closure h) = refl
+prefix_level_is p _ = refl
 
 -- ---- at a head
 
 below_attributed : (x : Edge) → is_below (attributed_edge x) ≡ is_below x
 below_attributed edge.Free = refl
-below_attributed edge.NoBrace = refl
-below_attributed edge.Arm = refl
-below_attributed edge.BelowArm = refl
-below_attributed edge.Statement = refl
-below_attributed edge.BelowStatement = refl
+below_attributed _ = refl
 
 below_leaf : (c : Context) (k : Leaf) → is_below c.edge ≡ true → leaf_misplaced c k ≡ false → is_block_leaf k ≡ false
 below_leaf c (e.lit x) e h = refl
-below_leaf c (e.path q p) e h = refl
-below_leaf c (e.mac m) e h = refl
-below_leaf c e.infer e h = refl
-below_leaf c (e.full_range op) e h = refl
-below_leaf c (e.bare_jump j) e h = refl
-below_leaf c (e.continuing w) e h = refl
 below_leaf c (e.block None b) e h = absurd (let f : true ≡ false = sym e ∙ (or_false _ _ h).0 in cc)
 below_leaf c (e.block (Some w) b) e h = absurd (let f : true ≡ false = sym (rw e refl) ∙ h in cc)
 below_leaf c (e.loop_expr w b) e h = absurd (let f : true ≡ false = sym (rw e refl) ∙ h in cc)
 below_leaf c (e.unsafe_block b) e h = absurd (let f : true ≡ false = sym (rw e refl) ∙ h in cc)
 below_leaf c (e.const_block b) e h = absurd (let f : true ≡ false = sym (rw e refl) ∙ h in cc)
-below_leaf c (e.async_block m ts) e h = refl
 below_leaf c (e.try_block ts) e h = absurd (let f : true ≡ false = sym (rw e refl) ∙ h in cc)
-below_leaf c (e.verbatim ts) e h = refl
+below_leaf c _ e h = refl
 
 below_frame : (c : Context) (k : Frame) → is_below c.edge ≡ true → frame_misplaced c k ≡ false → is_block_frame k ≡ false
 below_frame c e.array b h = refl
-below_frame c e.tuple b h = refl
-below_frame c e.repeat b h = refl
-below_frame c (e.structure q p d) b h = refl
-below_frame c (e.closure_block k) b h = refl
 below_frame c e.if_expr b h = absurd (let f : true ≡ false = sym (rw b refl) ∙ h in cc)
 below_frame c (e.while_loop w) b h = absurd (let f : true ≡ false = sym (rw b refl) ∙ h in cc)
 below_frame c (e.for_loop w p) b h = absurd (let f : true ≡ false = sym (rw b refl) ∙ h in cc)
 below_frame c e.match_expr b h = absurd (let f : true ≡ false = sym (rw b refl) ∙ h in cc)
-below_frame c e.group_expr b h = refl
+below_frame c _ b h = refl
 
--- on the left at a head no block-like expression stands
+-- on the left at a head no block-like expression is
 no_block : (v : Level) (c : Context) (t : Tree) → is_below c.edge ≡ true → Obeys v c t → is_block_like t ≡ false
 no_block v c (leaf k) b h = below_leaf c k b (or_false _ _ h).1
 no_block v c (paren m t) b h = refl
 no_block v c (attributed a more t) b h = no_block v (attributed_context c) t (below_attributed c.edge ∙ b) h.1
-no_block v c (prefixed k gs t) b h = refl
-no_block v c (infixed x k y) b h = refl
-no_block v c (postfixed x k) b h = refl
-no_block v c (tail t k ks) b h = refl
 no_block v c (frame k ks) b h = below_frame c k b h.0
+no_block v c _ b h = refl
 
 -- left of an operator, a call or an index
 pub goes_free : (p : Place) (v : Level) (c d : Context) (t : Tree) → Meets p c → d.edge ≡ left_edge c.edge → Formed t → Obeys v d t → rests p (clear t) ≡ false
@@ -481,12 +234,9 @@ goes_free p v c d t m s f h = go c.edge refl
     go : (x : Edge) → c.edge ≡ x → rests p (clear t) ≡ false
     go edge.Free i = rw (m.head, i) refl
     go edge.NoBrace i = rw (m.head, i) refl
-    go edge.Arm i = below (rw (s, i) refl)
-    go edge.BelowArm i = below (rw (s, i) refl)
-    go edge.Statement i = below (rw (s, i) refl)
-    go edge.BelowStatement i = below (rw (s, i) refl)
+    go _ i = below (rw (s, i) refl)
 
--- ---- what may stand behind
+-- ---- what may come after
 
 no_trailer_behind : (r b q d : Bool) → r || (b || (q || d)) ≡ false → d || q ≡ false
 no_trailer_behind r b q d h =
@@ -550,14 +300,11 @@ unfolding ends_operation
 operation_ends k n l s = rw (ap (λ x. x.arrow) s.same) (or_true (is_range_op k))
 
 unadorned_range : (t : Tree) → is_attributed t ≡ false → prints_range t ≡ false → is_range t ≡ false
-unadorned_range (leaf k) a h = h
 unadorned_range (paren m t) a h = refl
 unadorned_range (attributed b more t) a h = absurd cc
-unadorned_range (prefixed k gs t) a h = h
-unadorned_range (infixed x k y) a h = h
-unadorned_range (postfixed x k) a h = h
 unadorned_range (tail b k ks) a h = refl
 unadorned_range (frame k ks) a h = refl
+unadorned_range _ a h = h
 
 pub takes_attributes_there : (p : Place) (t : Tree) → Formed t → is_attributed t ≡ false → is_operation t ≡ false → takes_attributes p (clear t) ≡ true
 takes_attributes_there p t f a o =
@@ -576,39 +323,14 @@ pub record Calls (t : Tree) (n : Next) : Type 0 where
 
 named_carries : (t : Tree) → carries t ≡ false → ends_named t ≡ false
 named_carries (leaf k) h = refl
-named_carries (paren m t) h = refl
 named_carries (attributed a more t) h = named_carries t h
-named_carries (prefixed k gs t) h = refl
-named_carries (infixed x k y) h = refl
-named_carries (postfixed x k) h = refl
 named_carries (tail b k ks) h = absurd cc
-named_carries (frame k ks) h = refl
+named_carries _ h = refl
 
 round_trails : (n : Next) (a b : Bool) → trails n && a ≡ false → (a ≡ false → b ≡ false) → is_round_next n && b ≡ false
 round_trails next.Parenthesis a b h g = g h
 round_trails next.End a b h g = refl
-round_trails next.Assign a b h g = refl
-round_trails next.ShiftLeftAssign a b h g = refl
-round_trails next.Range a b h g = refl
-round_trails next.OrOr a b h g = refl
-round_trails next.AndAnd a b h g = refl
-round_trails next.Compare a b h g = refl
-round_trails next.Less a b h g = refl
-round_trails next.Or a b h g = refl
-round_trails next.Caret a b h g = refl
-round_trails next.And a b h g = refl
-round_trails next.ShiftLeft a b h g = refl
-round_trails next.ShiftRight a b h g = refl
-round_trails next.Plus a b h g = refl
-round_trails next.Minus a b h g = refl
-round_trails next.Star a b h g = refl
-round_trails next.Divide a b h g = refl
-round_trails next.As a b h g = refl
-round_trails next.Dot a b h g = refl
-round_trails next.Question a b h g = refl
-round_trails next.Bracket a b h g = refl
-round_trails next.Block a b h g = refl
-round_trails next.Brace a b h g = refl
+round_trails _ a b h g = refl
 
 pub fits_calls : (v : Level) (t : Tree) (n : Next) → Fits v t n → Calls t n
 fits_calls v t n f = record { none = round_trails n (carries t || is_cast t) _ f.no_trailer (λ h. let p = or_false _ _ h in neither _ _ (named_carries t p.0) p.1) }
@@ -618,39 +340,21 @@ left_calls t k = record { none = rw (operator_class k).no_round refl }
 
 base_call : (t : Tree) → is_base e.call t ≡ true → ends_named t || is_cast t ≡ false
 base_call (leaf k) h = refl
-base_call (paren m t) h = refl
 base_call (attributed a more t) h = absurd (let f : true ≡ false = sym h ∙ and-false _ in cc)
-base_call (prefixed k gs t) h = refl
-base_call (infixed x k y) h = refl
 base_call (postfixed x k) h = absurd cc
 base_call (tail b (e.field m) ks) h = or_none _ ∙ not_it _ h
-base_call (tail b e.call ks) h = refl
-base_call (tail b e.index ks) h = refl
-base_call (tail b (e.method w a) ks) h = refl
-base_call (tail b e.await ks) h = refl
-base_call (tail b e.try_expr ks) h = refl
-base_call (frame k ks) h = refl
+base_call _ h = refl
 
 pub base_calls : (t : Tree) (k : Trailer) → is_base k t ≡ true → Calls t (next_of k)
 base_calls t e.call h = record { none = base_call t h }
-base_calls t e.index h = record { none = refl }
-base_calls t (e.method w a) h = record { none = refl }
-base_calls t (e.field m) h = record { none = refl }
-base_calls t e.await h = record { none = refl }
-base_calls t e.try_expr h = record { none = refl }
+base_calls t _ h = record { none = refl }
 
 pub attributed_calls : (a : _) (more : _) (t : Tree) (n : Next) → is_operation t ≡ false → Calls (attributed a more t) n → Calls t n
 attributed_calls a more t n o h = record { none = ap (λ x. is_round_next n && (ends_named t || x)) (no_cast t o) ∙ h.none }
   where
     no_cast : (t : Tree) → is_operation t ≡ false → is_cast t ≡ false
-    no_cast (leaf k) h = refl
-    no_cast (paren m t) h = refl
-    no_cast (attributed a more t) h = refl
-    no_cast (prefixed k gs t) h = refl
-    no_cast (infixed x k y) h = refl
     no_cast (postfixed x k) h = absurd cc
-    no_cast (tail b k ks) h = refl
-    no_cast (frame k ks) h = refl
+    no_cast _ h = refl
 
 -- ---- operands of frames and trailers
 
@@ -667,7 +371,7 @@ end_fits t = record { no_operator = refl; no_trailer = refl }
 pub block_fits : (t : Tree) → Fits lev.Jump t next.Block
 block_fits t = record { no_operator = refl; no_trailer = refl }
 
--- a block-like whole at a head stands before all but `.` and `?`
+-- a block-like whole at a head comes before all but `.` and `?`
 pub rests_ends : (x : Tree) (l : List Tok) → is_block_like x ≡ true → ends at_head x l ≡ true
 unfolding ends
 rests_ends x l h = rw (block_held x h) (or_true (is_range x))

@@ -1,7 +1,7 @@
 -- The printed tree stands for its own tokens, in each position and before whatever may follow there.
 use Rattle.std.proofs.Common.{◌≡◌, Bool, true, false, ◌||◌, List, [], ◌∷◌, refl, subst}
 use Rattle.syn_lexer.specs.declared.lexeme.Delimiter.TheVariants as del
-use Rattle.syn_tokens.specs.Tok.{Tok, ident, punct, literal, group}
+use Rattle.syn_tokens.specs.Tok.{Tok, group}
 use Rattle.syn_tokens.specs.Front.{group_at, is_empty}
 use Rattle.syn_parts.specs.Mark.{brace_at, comma, semi}
 use Rattle.syn_parts.proofs.Ends.{sign_first}
@@ -45,10 +45,7 @@ brace_shows : (l : List Tok) → brace_at l ≡ true → Shows next.Block l
 unfolding brace_at group_at
 brace_shows (group del.Brace i ∷ l) h = shows_block i l
 brace_shows [] h = absurd cc
-brace_shows (ident w ∷ l) h = absurd cc
-brace_shows (literal w ∷ l) h = absurd cc
-brace_shows (punct c s ∷ l) h = absurd cc
-brace_shows (group d i ∷ l) h = absurd cc
+brace_shows _ h = absurd cc
 
 -- ---- in each position
 

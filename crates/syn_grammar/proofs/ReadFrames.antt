@@ -1,4 +1,4 @@
--- Frames, parentheses and what stands before an operand: what stands is read.
+-- Frames, parentheses and what comes before an operand: what stands is read.
 use Rattle.std.specs.Prelude.{not, ◌&&◌, if◌then◌else◌}
 use Rattle.std.proofs.Math.Bool.{and-false}
 use Rattle.std.proofs.Common.{◌≡◌, ℕ, ◌<◌, ◌≤◌, Bool, true, false, List, [], ◌∷◌, ◌++◌, drop, codes, Option, Some, None, refl, ap, sym, ◌∙◌, subst, arith}
@@ -177,7 +177,7 @@ grouped_is {l} {o} {q} {c} {x} {ks} (one_more {m = m} {h = h} {n = n} a u d f g 
 grouped_is {l} {o} {q} (short {m = m} {x = v} a u g more) = let (w, y) = grouped_at q l m a in let i : short_value tr.grouped ≡ Some v = subst (λ z. short_value z ≡ Some v) w u in absurd cc
 grouped_is {l} {o} {q} (block {m = m} a v g more) = let (w, y) = grouped_at q l m a in let i : takes_block tr.grouped ≡ true = subst (λ z. takes_block z ≡ true) w v in absurd cc
 
--- a path that is the whole of a list stands there
+-- a path that is the whole of a list is there
 no_macro_left : (q : QPathTree) → (macro_end q).reads [] ≡ Some (None, [])
 unfolding macro_end sign_at
 no_macro_left q = rw (and-false (is_bare q)) refl

@@ -8,7 +8,7 @@ use Rattle.syn_tokens.specs.Input.{IsTail}
 use Rattle.syn_parts.specs.Tree.{AttributeTree}
 use Rattle.syn_parts.specs.Mark.{brace_at}
 use Rattle.syn_parts.specs.Part.{inner_attributes}
-use Rattle.syn_parts.specs.Pat.{a_name, an_index, dots}
+use Rattle.syn_parts.specs.Pat.{a_name, dots}
 use Rattle.syn_grammar.specs.declared.kinds.Place.{Place}
 use Rattle.syn_grammar.specs.Place.{before_block}
 use Rattle.syn_grammar.specs.Tree as tr
@@ -66,9 +66,7 @@ not_ended s.fields k l m h g f =
 not_ended _ k l m h g f = refl
 
 not_silent : (k : Piece) → is_silent k ≡ false → short_value k ≡ None
-not_silent (tr.field_value ats (a_name w) true) h = refl
 not_silent (tr.field_value ats (a_name w) false) h = absurd cc
-not_silent (tr.field_value ats (an_index n) c) h = refl
 not_silent _ h = refl
 
 short_no_block : (k : Piece) (x : Tree) → short_value k ≡ Some x → (takes_block k ≡ false) × (is_rest k ≡ false)

@@ -1,4 +1,4 @@
--- What attributes and trailers begin with, and trailers behind a base: what stands is read.
+-- What attributes and trailers begin with, and trailers after a base: what stands is read.
 use Rattle.std.specs.Prelude.{not, ◌||◌, ◌&&◌}
 use Rattle.std.proofs.Common.{◌≡◌, ℕ, zero, suc, Bool, true, false, cond, ⊎_elim, List, [], ◌∷◌, drop, codes, Option, Some, None, refl, ap, ◌∙◌, subst}
 use Rattle.syn_lexer.specs.declared.lexeme.Delimiter.TheVariants as del
@@ -139,7 +139,7 @@ bracket_goes true m a g = absurd cc
 bracket_goes false m a g = second_true (round_at m) (first_true _ g)
 
 module _ (rec : Place → Reading Tree) where
-  -- a trailer that is read behind a base, from which the base can go on
+  -- a trailer that is read after a base, from which the base can go on
   pub record Next (p : Place) (b : Tree) (m : List Tok) (x : Tree) (n : List Tok) : Type 0 where
     pub opened : closes p b m ≡ false
     pub reading : trailed rec p b m ≡ Some (x, n)
@@ -212,6 +212,4 @@ module _ (rec : Place → Reading Tree) where
       let u : ([], drop 1 m) ≡ (is, g) = some_is i in
       subst (λ (r : List ℕ × List Tok). content rec (trailer_holder tr.try_expr) r.1 ≡ Some (ks, n) → Next p b m (tail (fields_of b r.0) tr.try_expr ks) n) u
       (λ c. question_next p b m n ks f q c) c
-  tail_next p (tr.method w a) b m g n is ks f h d c = dotted_next p (tr.method w a) b m g n is ks f h c
-  tail_next p (tr.field y) b m g n is ks f h d c = dotted_next p (tr.field y) b m g n is ks f h c
-  tail_next p tr.await b m g n is ks f h d c = dotted_next p tr.await b m g n is ks f h c
+  tail_next p t b m g n is ks f h d c = dotted_next p t b m g n is ks f h c

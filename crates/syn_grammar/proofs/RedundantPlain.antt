@@ -25,7 +25,7 @@ abbrev is_marked : Tree → Bool
 is_marked (paren m t) = m
 is_marked _ = false
 
--- no pair that was added stands behind attributes
+-- no pair that was added comes after attributes
 abbrev mutual
   kept_apart : Tree → Bool
   kept_apart (leaf k) = true
@@ -46,13 +46,9 @@ abbrev mutual
 less_operation : (t u : Tree) → is_marked t ≡ false → OneLess t u → is_operation u ≡ is_operation t
 less_operation (leaf k) u m o = absurd o
 less_operation (paren true t) u m o = absurd cc
-less_operation (paren false t) u m o = ap is_operation o.2
-less_operation (attributed a more t) u m o = ap is_operation o.2
-less_operation (prefixed k gs t) u m o = ap is_operation o.2
 less_operation (infixed x k y) u m o = elim o [ inl z ↦ ap is_operation z.2 | inr z ↦ ap is_operation z.2 ]
-less_operation (postfixed x k) u m o = ap is_operation o.2
 less_operation (tail b k ks) u m o = elim o [ inl z ↦ ap is_operation z.2 | inr z ↦ ap is_operation z.2 ]
-less_operation (frame k ks) u m o = ap is_operation o.2
+less_operation _ u m o = ap is_operation o.2
 
 not_true : {b : Bool} → not b ≡ true → b ≡ false
 not_true {b = true} h = absurd cc
@@ -105,7 +101,7 @@ mutual
         | inr z ↦ subst (λ y. children_plainly y ≡ true) (sym z.2) (both _ _ i (less_children ks z.0 z.1 j n))
       ]
 
--- ---- what is printed has no added pair behind attributes
+-- ---- what is printed has no added pair after attributes
 
 record Good (u : Tree) : Type 0 where
   plain : plainly_attributed u ≡ true
@@ -121,13 +117,7 @@ if_good false x y f g = g
 
 marked_bare : (c : Context) (t : Tree) → is_marked (bare c t) ≡ false
 marked_bare c (leaf k) = refl
-marked_bare c (paren m t) = refl
-marked_bare c (attributed a more t) = refl
-marked_bare c (prefixed k gs t) = refl
-marked_bare c (infixed x k y) = refl
-marked_bare c (postfixed x k) = refl
-marked_bare c (tail b k ks) = refl
-marked_bare c (frame k ks) = refl
+marked_bare c _ = refl
 
 chained_good : (u : Tree) → Good u → Good (chained_bare u)
 chained_good (attributed a more (frame k ks)) g =
@@ -149,18 +139,7 @@ short_good _ ats m c t h = absurd cc
 
 no_stray : (v : Slot) (c : Ending) (t : Tree) → piece_fits v e.stray c t ≡ false
 no_stray s.elements c t = refl
-no_stray s.single c t = refl
-no_stray s.counted c t = refl
-no_stray s.fields c t = refl
-no_stray s.conditions c t = refl
-no_stray s.otherwise c t = refl
-no_stray s.loops c t = refl
-no_stray s.scrutinees c t = refl
-no_stray s.arms c t = refl
-no_stray s.bodies c t = refl
-no_stray s.outputs c t = refl
-no_stray s.groups c t = refl
-no_stray s.done c t = refl
+no_stray _ c t = refl
 
 piece_good : (v : Slot) (k : Piece) (c : Ending) (t st : Tree) (asks : Bool) → piece_fits v k c t ≡ true → ((c : Context) → Good (bare c t))
     → Good (piece_put k t (bare enclosed t) (bare (piece_context k) t) st asks)

@@ -17,7 +17,7 @@ use Rattle.syn_grammar.specs.Same.{PrintedIsSame}
 use Rattle.syn_grammar.proofs.Flat.{left_of, right_of}
 use Rattle.syn_grammar.proofs.FillIns.{well_fill}
 
--- behind `else` stands an `if` or a block, and behind a closure's output a block
+-- after `else` stands an `if` or a block, and after a closure's output a block
 abbrev pub put_fits : Piece → Tree → Bool
 put_fits e.chained t = is_if_expr t || is_verbatim_block t
 put_fits e.output_block t = is_verbatim_block t
@@ -32,26 +32,12 @@ fits_put _ _ c t h = refl
 
 pub chained_stays : (c : Context) (t : Tree) → (is_if_expr t || is_verbatim_block t) ≡ true → (is_chainable t ≡ true) × (chained_bare (bare c t) ≡ bare c t)
 chained_stays c (leaf (e.block label b)) h = (refl, refl)
-chained_stays c (leaf _) h = cc
 chained_stays c (frame e.if_expr ks) h = (refl, refl)
-chained_stays c (frame _ ks) h = cc
-chained_stays c (paren m t) h = cc
-chained_stays c (attributed a more t) h = cc
-chained_stays c (prefixed k gs t) h = cc
-chained_stays c (infixed x k y) h = cc
-chained_stays c (postfixed x k) h = cc
-chained_stays c (tail b k ks) h = cc
+chained_stays c _ h = cc
 
 pub verbatim_stays : (c : Context) (t : Tree) → is_verbatim_block t ≡ true → (is_plain_block t ≡ true) × (bare c t ≡ t)
 verbatim_stays c (leaf (e.block label b)) h = (h, refl)
-verbatim_stays c (leaf _) h = cc
-verbatim_stays c (frame k ks) h = cc
-verbatim_stays c (paren m t) h = cc
-verbatim_stays c (attributed a more t) h = cc
-verbatim_stays c (prefixed k gs t) h = cc
-verbatim_stays c (infixed x k y) h = cc
-verbatim_stays c (postfixed x k) h = cc
-verbatim_stays c (tail b k ks) h = cc
+verbatim_stays c _ h = cc
 
 pub flatten_put : (w : Bool) (a b t : Tree) → flatten a ≡ flatten t → flatten b ≡ flatten t → flatten (put w a b) ≡ flatten t
 flatten_put true a b t p q = p

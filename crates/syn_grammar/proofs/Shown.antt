@@ -5,6 +5,7 @@ use Rattle.syn_lexer.specs.declared.lexeme.Delimiter.TheVariants as del
 use Rattle.syn_tokens.specs.Tok.{Tok}
 use Rattle.syn_tokens.specs.Front.{group_at}
 use Rattle.syn_parts.specs.Tree.{TypeTree}
+use Rattle.syn_parts.specs.Form.{Outcome, and_then, inside_reads}
 use Rattle.syn_parts.specs.Part.{type}
 use Rattle.syn_parts.specs.Pat.{an_index, a_name}
 use Rattle.syn_parts.specs.Mark.{lt, brace_at}
@@ -19,14 +20,15 @@ use Rattle.syn_grammar.specs.declared.next.Context.{Context}
 use Rattle.syn_grammar.specs.Place.{at}
 use Rattle.syn_grammar.specs.Op.{level, is_comparison}
 use Rattle.syn_grammar.specs.Front.{dot_at, question_at}
-use Rattle.syn_grammar.specs.Head.{leaf_form, prefix_form}
+use Rattle.syn_grammar.specs.Head.{leaf_form, prefix_form, body, body_inside}
 use Rattle.syn_grammar.specs.Next.{enclosed, in_condition, next_of, takes_next, trails, left_context, base_context, right_context, attributed_context, prefix_context, prefix_level, piece_context, left_edge}
-use Rattle.syn_grammar.specs.Slot.{Slot, Holder, within, ending_at, behind_loop, behind_condition, piece_place, trailer_holder}
+use Rattle.syn_grammar.specs.Slot.{Slot, Holder, within, ending_at, piece_place, trailer_holder}
 use Rattle.syn_grammar.specs.Stands.{Node, is_leaf, is_become, is_attributed_verbatim, is_paren, is_attributed_by, is_prefixed, is_infixed, is_postfixed, is_tail, is_indexed, is_frame, Content, holds_none, holds_within, holds_bare, Operands, no_more, one_more, short, block, arms_inside, fits_base, fields_of, fields_head, trailer_head, is_base, is_call, carries, is_cast, is_range, is_infix, is_attributed, is_verbatim, is_pounded, takes_attributes, postfix_behind, postfix_stands, prefix_place, short_value, takes_block}
 use Rattle.syn_grammar.specs.Tree as e
 use Rattle.syn_grammar.specs.Tree.{Tree, Children, Leaf, Prefix, Postfix, Trailer, Piece, Ending, leaf, paren, attributed, prefixed, infixed, postfixed, tail, frame, none, postfix_op, plain_block, is_silent, is_block_like}
 use Rattle.syn_grammar.specs.Rule.{is_below, is_braceless, is_operation, put, postfix_refuses, is_less_next, is_bare_break}
 use Rattle.syn_grammar.specs.Printed.{parenthesize_attributed, parenthesize_attributed_children}
+use Rattle.syn_grammar.proofs.Callees.{fits_there, fits_index}
 use Rattle.syn_grammar.proofs.Bools.{both_true, both, not_it, or_false, or_none}
 use Rattle.syn_grammar.proofs.Holds.{no_block_held}
 use Rattle.syn_grammar.proofs.Obeys.{Fits, FitsLeft, begins_label, Obeys, ObeysChildren}
@@ -71,9 +73,7 @@ unfolding trailer_head
 fields_dot e.call m h i is t = absurd (no_steps ([], m) (i ∷ is, h) i is t refl refl)
 fields_dot e.index m h i is t = absurd (no_steps ([], m) (i ∷ is, h) i is t refl refl)
 fields_dot e.try_expr m h i is t = absurd (no_tested (question_at m) ([], drop 1 m) (i ∷ is, h) i is t refl refl)
-fields_dot (e.method w a) m h i is t = (refl, refl)
-fields_dot (e.field f) m h i is t = (refl, refl)
-fields_dot e.await m h i is t = (refl, refl)
+fields_dot _ m h i is t = (refl, refl)
 
 test_of : {A : Type 0} (b : Bool) (o : Option A) (y : A) → (if b then o else None) ≡ Some y → b ≡ true
 test_of true o y h = refl
@@ -92,9 +92,7 @@ front_trailer e.call m h n is ks t c =
 front_trailer e.index m h n is ks t c =
     let g = holder_group _ _ _ h n ks c in front_index m g.0 (ap (group_at del.Bracket) (call_inside ([], m) (is, h) t) ∙ g.1)
 front_trailer e.try_expr m h n is ks t c = front_question m (test_of (question_at m) _ _ t)
-front_trailer (e.method w a) m h n is ks t c = front_dot m (test_of (dot_at m) _ _ t)
-front_trailer (e.field f) m h n is ks t c = front_dot m (test_of (dot_at m) _ _ t)
-front_trailer e.await m h n is ks t c = front_dot m (test_of (dot_at m) _ _ t)
+front_trailer _ m h n is ks t c = front_dot m (test_of (dot_at m) _ _ t)
 
 front_fields : (m : List Tok) (y : List ℕ × List Tok) → fields_head m ≡ Some y → Front next.Dot m
 unfolding fields_head
@@ -102,13 +100,18 @@ front_fields m y t = front_dot m (test_of (dot_at m) _ y t)
 
 -- ---- operands of frames and trailers
 
-behind_block : (c : Ending) (h n : List Tok) (o : Option (List Tok × List Tok)) → group_at del.Brace h ≡ o → behind_condition o ≡ Some (c, n) → Front next.Block h
+behind_block : (c : Ending) (h n : List Tok) (o : Outcome (List Tok)) → group_at del.Brace h ≡ o
+    → and_then o (λ ts m. Some (e.braced (e.body_of [] ts), m)) ≡ Some (c, n) → Front next.Block h
 behind_block c h n None q t = absurd cc
 behind_block c h n (Some g) q t = front_block h g q
 
-behind_loop_block : (c : Ending) (h n : List Tok) (o : Option (List Tok × List Tok)) → group_at del.Brace h ≡ o → behind_loop o ≡ Some (c, n) → Front next.Block h
-behind_loop_block c h n None q t = absurd cc
-behind_loop_block c h n (Some g) q t = front_block h g q
+behind_loop_block : (c : Ending) (h n : List Tok) → and_then (body.reads h) (λ b m. Some (e.braced b, m)) ≡ Some (c, n) → Front next.Block h
+unfolding body
+behind_loop_block c h n t = by_group (group_at del.Brace h) refl t
+  where
+    by_group : (o : Option (List Tok × List Tok)) → group_at del.Brace h ≡ o → and_then (inside_reads body_inside o) (λ b m. Some (e.braced b, m)) ≡ Some (c, n) → Front next.Block h
+    by_group None q t = absurd cc
+    by_group (Some g) q t = front_block h g q
 
 abbrev pub ShownAt : Place → List Tok → Tree → List Tok → Type 0
 ShownAt p l x n = (c : Context) → Agrees p c → Front c.next n → At c l x → Obeys p.level c (parenthesize_attributed x)
@@ -116,21 +119,12 @@ ShownAt p l x n = (c : Context) → Agrees p c → Front c.next n → At c l x �
 piece_shown : (k : Piece) (l n m : List Tok) (x : Tree) (c : Ending) → ending_at k x n ≡ Some (c, m) → ShownAt (piece_place k) l x n
     → Obeys lev.Jump (piece_context k) (parenthesize_attributed x)
 unfolding ending_at
-piece_shown e.element l n m x c t s = s enclosed agrees_plain (front_end n) (refl, refl)
-piece_shown e.value l n m x c t s = s enclosed agrees_plain (front_end n) (refl, refl)
-piece_shown e.repeated l n m x c t s = s enclosed agrees_plain (front_end n) (refl, refl)
-piece_shown (e.field_value ats y b) l n m x c t s = s enclosed agrees_plain (front_end n) (refl, refl)
-piece_shown (e.rest d) l n m x c t s = s enclosed agrees_plain (front_end n) (refl, refl)
 piece_shown e.condition l n m x c t s = s in_condition agrees_condition (behind_block c n m _ refl t) (refl, refl)
-piece_shown e.loop_head l n m x c t s = s in_condition agrees_condition (behind_loop_block c n m _ refl t) (refl, refl)
+piece_shown e.loop_head l n m x c t s = s in_condition agrees_condition (behind_loop_block c n m t) (refl, refl)
 piece_shown e.scrutinee l n m x c t s = absurd cc
-piece_shown e.chained l n m x c t s = s enclosed agrees_plain (front_end n) (refl, refl)
-piece_shown (e.guard ats y) l n m x c t s = s enclosed agrees_plain (front_end n) (refl, refl)
 piece_shown e.guarded l n m x c t s = s (piece_context e.guarded) agrees_arm (front_end n) (refl, refl)
 piece_shown (e.arm ats y) l n m x c t s = s (piece_context (e.arm ats y)) agrees_arm (front_end n) (refl, refl)
-piece_shown e.output_block l n m x c t s = s enclosed agrees_plain (front_end n) (refl, refl)
-piece_shown e.grouped l n m x c t s = s enclosed agrees_plain (front_end n) (refl, refl)
-piece_shown e.stray l n m x c t s = s enclosed agrees_plain (front_end n) (refl, refl)
+piece_shown _ l n m x c t s = s enclosed agrees_plain (front_end n) (refl, refl)
 
 block_shown : (k : Piece) (i : List Tok) → takes_block k ≡ true → Obeys lev.Jump (piece_context k) (plain_block i)
 block_shown e.chained i h = refl
@@ -139,8 +133,6 @@ block_shown _ i h = absurd cc
 
 short_silent : (k : Piece) (x : Tree) → short_value k ≡ Some x → is_silent k ≡ false → ⊥
 short_silent (e.field_value ats (a_name w) false) x h s = absurd cc
-short_silent (e.field_value ats (a_name w) true) x h s = absurd cc
-short_silent (e.field_value ats (an_index i) b) x h s = absurd cc
 short_silent _ x h s = absurd cc
 
 no_bare_label : (k : Prefix) (l m n : List Tok) (p : Place) (x : Tree) → prefix_form.behind k l ≡ Some m → Node p m x n → is_bare_break k && begins_label x ≡ false
@@ -153,14 +145,9 @@ no_bare_label _ l m n p x h d = refl
 
 prefix_level_is : (p : Place) (k : Prefix) → (prefix_place p k).level ≡ prefix_level k
 prefix_level_is p (e.unary op) = refl
-prefix_level_is p (e.reference m) = refl
-prefix_level_is p (e.raw_addr m) = refl
-prefix_level_is p (e.range_to op) = refl
-prefix_level_is p (e.let_expr x) = refl
-prefix_level_is p (e.jump j) = refl
-prefix_level_is p (e.closure h) = refl
+prefix_level_is p _ = refl
 
--- A type that would take arguments at `<` has none behind it.
+-- A type that would take arguments at `<` has none after it.
 abbrev pub TypesClose : Type 0
 TypesClose = (x : TypeTree) (l n : List Tok) → (type false).behind x l ≡ Some n → lt.at n ≡ true → ends_open x ≡ false
 
@@ -207,46 +194,24 @@ is_possible p = not (p.head && p.condition)
 
 piece_possible : (k : Piece) → is_possible (piece_place k) ≡ true
 piece_possible e.element = refl
-piece_possible e.value = refl
-piece_possible e.repeated = refl
-piece_possible (e.field_value ats m c) = refl
-piece_possible (e.rest d) = refl
-piece_possible e.condition = refl
-piece_possible e.loop_head = refl
-piece_possible e.scrutinee = refl
-piece_possible e.chained = refl
-piece_possible (e.guard ats p) = refl
-piece_possible e.guarded = refl
-piece_possible (e.arm ats p) = refl
-piece_possible e.output_block = refl
-piece_possible e.grouped = refl
-piece_possible e.stray = refl
+piece_possible _ = refl
 
 prefix_possible : (p : Place) (k : Prefix) → is_possible (prefix_place p k) ≡ true
 prefix_possible p k = ap (λ b. not (b && (prefix_place p k).condition)) (prefix_head p k)
 
--- An operation behind attributes is a range without a start.
+-- An operation after attributes is a range without a start.
 operation_range : (x : Tree) → is_operation x ≡ true → is_infix x ≡ false → is_range x ≡ true
 operation_range (leaf k) o i = o
-operation_range (paren m t) o i = absurd cc
-operation_range (attributed a more t) o i = absurd cc
 operation_range (prefixed k gs t) o i = o
-operation_range (infixed x k y) o i = absurd cc
-operation_range (postfixed x k) o i = absurd cc
-operation_range (tail b k ks) o i = absurd cc
-operation_range (frame k ks) o i = absurd cc
+operation_range _ o i = absurd cc
 
 any_level : (x : Tree) (v w : Level) (c : Context) → is_operation x ≡ true → is_infix x ≡ false → Obeys v c (parenthesize_attributed x) → Obeys w c (parenthesize_attributed x)
 any_level (leaf k) v w c o i h = h
 any_level (paren m t) v w c o i h = h
-any_level (attributed a more t) v w c o i h = absurd cc
 any_level (prefixed k gs t) v w c o i h = h
-any_level (infixed x k y) v w c o i h = absurd cc
-any_level (postfixed x k) v w c o i h = absurd cc
-any_level (tail b k ks) v w c o i h = absurd cc
-any_level (frame k ks) v w c o i h = absurd cc
+any_level _ v w c o i h = absurd cc
 
--- what may stand behind attributes there
+-- what may come after attributes there
 record Behind (p : Place) (x : Tree) : Type 0 where
   no_infix : is_infix x ≡ false
   at_head : is_range x ≡ true → p.head ≡ true
@@ -293,17 +258,9 @@ same_fields [] b s = s
 same_fields (i ∷ is) b s = same_fields is (tail b (e.field (an_index i)) none) (record { range = refl; carrier = refl })
 
 same_kind : {p : Place} {l n : List Tok} {x : Tree} → Node p l x n → p.head ≡ false → SameKind x
-same_kind (is_leaf f g) h = record { range = refl; carrier = refl }
-same_kind (is_become w d q r o) h = record { range = refl; carrier = refl }
-same_kind (is_attributed_verbatim z more fs f d q r) h = record { range = refl; carrier = refl }
-same_kind (is_paren d q r) h = record { range = refl; carrier = refl }
 same_kind (is_attributed_by {p = p} {x = x} f g d) h = same_behind x _ _ (no_operation_there p x g h) (same_kind d h)
-same_kind (is_prefixed f g d q r) h = record { range = refl; carrier = refl }
-same_kind (is_infixed d q r i t o d2 u v w) h = record { range = refl; carrier = refl }
-same_kind (is_postfixed d q r i t u o w) h = record { range = refl; carrier = refl }
-same_kind (is_tail d f t o q) h = record { range = refl; carrier = refl }
 same_kind (is_indexed {b = b} {i = i} {is = is} d f t q) h = subst SameKind (sym q) (same_fields (i ∷ is) b (same_kind d h))
-same_kind (is_frame f o g e) h = record { range = refl; carrier = refl }
+same_kind _ h = record { range = refl; carrier = refl }
 
 fits_kind : (v : Level) (x : Tree) (n : Next) → SameKind x → Fits v x n → Fits v (parenthesize_attributed x) n
 fits_kind v x n s f =
@@ -370,11 +327,11 @@ module _ (closed : TypesClose) where
           postfix_refused p c k (drop count y) n m s u o,
         )
     shown (is_tail {p = p} {l = l} {m = y} {h = h} {n = n} {b = z} {x = x} {k = k} {is = is} {ks = ks} d f t o q) a c m s b =
-        let r = tail_shown p c k l y h z x is m b.1 f t (front_trailer k y h n is ks t o) q (shown d a) in
+        let r = tail_shown p c k l y h z x is m b.1 (fits_there k d f t o) t (front_trailer k y h n is ks t o) q (shown d a) in
         (r.0, r.1, shown_content o)
     shown (is_indexed {p = p} {l = l} {m = y} {n = n} {b = z} {x = x} {i = i} {is = is} d f t q) a c m s b =
         subst (λ w. Obeys p.level c w) (sym (ap parenthesize_attributed q ∙ fields_stay (i ∷ is) z))
-        (obeys_fields is i p.level c (parenthesize_attributed z) (base_stays (e.field (an_index i)) z ∙ base_is p (e.field (an_index i)) z f)
+        (obeys_fields is i p.level c (parenthesize_attributed z) (base_stays (e.field (an_index i)) z ∙ base_is p (e.field (an_index i)) z (fits_index p i z f))
         (index_shown p c l y z i m b.1 (front_fields y (i ∷ is, n) t) (shown d a)))
     shown (is_frame {p = p} {k = k} {ks = ks} f o g e) a c m s b = (frame_shown p c k ks m g b.0, shown_content o)
 

@@ -12,7 +12,7 @@ use Rattle.syn_parts.specs.Mark.{lifetime_at, brace_at, underscore, constant, st
 use Rattle.syn_grammar.specs.declared.kinds.Place.{Place}
 use Rattle.syn_grammar.specs.Head.{leaf_form, named, label, body, literal_at, range_at, jump_at, loop_at, block_at, continue_word, loop_word, unsafe_word, const_block_at, async_block_at, try_block_at, builtin_at, async_word, try_word, prefix_form, minus, let_word, raw_at, raw_word, jump_head, return_word, yield_word, break_word}
 use Rattle.syn_grammar.specs.Slot.{frame_head}
-use Rattle.syn_grammar.specs.Stands.{Node, is_leaf, is_become, is_attributed_verbatim, is_paren, is_attributed_by, is_prefixed, is_infixed, is_postfixed, is_tail, is_indexed, is_frame, fields_of}
+use Rattle.syn_grammar.specs.Stands.{Node, is_leaf, is_become, is_infixed, is_postfixed, is_tail, is_indexed, is_frame, fields_of}
 use Rattle.syn_grammar.specs.Tree as e
 use Rattle.syn_grammar.specs.Tree.{Tree, Leaf, Frame, Body, tail, none}
 use Rattle.syn_grammar.specs.Rule.{leaf_labelled, frame_labelled}
@@ -103,15 +103,12 @@ fields_label (i ∷ is) b = fields_label is (tail b (e.field (an_index i)) none)
 pub label_first : {p : Place} {l n : List Tok} {x : Tree} → Node p l x n → begins_label x ≡ true → lifetime_at l ≡ true
 label_first (is_leaf {l = l} {n = n} {k = k} f g) t = leaf_label k l n f t
 label_first (is_become w d q r s) t = absurd cc
-label_first (is_attributed_verbatim a more fs f d q r) t = absurd cc
-label_first (is_paren d q r) t = absurd cc
-label_first (is_attributed_by f g d) t = absurd cc
-label_first (is_prefixed f g d q r) t = absurd cc
 label_first (is_infixed d q r i t o d2 u v z) h = label_first d h
 label_first (is_postfixed d q r i t b o z) h = label_first d h
 label_first (is_tail {b = b} {x = x} {is = is} d f t k q) h = label_first d (sym (fields_label is b) ∙ ap begins_label (sym q) ∙ h)
 label_first (is_indexed {b = b} {x = x} {i = i} {is = is} d f t q) h = label_first d (sym (fields_label (i ∷ is) b) ∙ ap begins_label (sym q) ∙ h)
 label_first (is_frame {l = l} {h = h} {k = k} f c g e) t = frame_label k l h f t
+label_first _ t = absurd cc
 
 -- the value of a `break` without a label
 skip_by : (b : Bool) (x o : Option (List Tok)) (n : List Tok) → (x ≡ Some n → ⊥) → (if b then x else o) ≡ Some n → o ≡ Some n
@@ -120,9 +117,7 @@ skip_by false x o n f h = h
 
 no_and : (b c d : Bool) (n : List Tok) → (if b then (if c then (if d then None else None) else None) else None) ≡ Some n → ⊥
 no_and true true true n h = absurd cc
-no_and true true false n h = absurd cc
-no_and true false d n h = absurd cc
-no_and false c d n h = absurd cc
+no_and _ _ _ n h = absurd cc
 
 break_label : (b c : Bool) (m n : List Tok) → (if b then (if c then None else Some m) else None) ≡ Some n → (c ≡ false) × (m ≡ n)
 break_label true true m n h = absurd cc

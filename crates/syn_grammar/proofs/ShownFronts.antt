@@ -1,4 +1,4 @@
--- Of what class a list is: what must stand in front where a class of tokens matters, however the puncts are joined.
+-- Of what class a list is: what must are in front where a class of tokens matters, however the puncts are joined.
 use Rattle.std.proofs.Common.{◌≡◌, ℕ, Bool, true, false, not, ◌&&◌, ◌||◌, ◌==◌, ◌⊎◌, inl, inr, List, [], ◌∷◌, Option, Some, None, refl, sym, ◌∙◌, ap, subst, codes, arith}
 use Rattle.std.specs.Prelude.{if◌then◌else◌}
 use Rattle.std.proofs.lemmas.Bool.Decides.{nat_tests}
@@ -6,7 +6,7 @@ use Rattle.syn_lexer.specs.declared.lexeme.Delimiter.{Delimiter}
 use Rattle.syn_lexer.specs.declared.lexeme.Delimiter.TheVariants as del
 use Rattle.syn_lexer.specs.declared.lexeme.Spacing.{Spacing}
 use Rattle.syn_lexer.specs.declared.lexeme.Spacing.TheVariants as spacing
-use Rattle.syn_tokens.specs.Tok.{Tok, ident, punct, literal, group}
+use Rattle.syn_tokens.specs.Tok.{Tok, punct, group}
 use Rattle.syn_tokens.specs.Front.{group_at}
 use Rattle.syn_parts.specs.Text.{Text}
 use Rattle.syn_parts.specs.Mark.{sign_at, word_at, lifetime_at, brace_at, round_at, lt}
@@ -24,6 +24,11 @@ use Rattle.syn_grammar.specs.Next.{class_of, level_of, takes_next, trails, begin
 use Rattle.syn_grammar.specs.Rule.{is_less_next}
 use Rattle.syn_grammar.proofs.Bools.{both_true, not_it}
 use Rattle.syn_grammar.proofs.Chains.{some_is}
+
+-- what the next token is asked, for a proof that computes it
+asked : Bool
+unfolding sign_at word_at lifetime_at begins_expr sign_begins ends_open_range dot_at brace_at group_at
+asked = true
 
 -- What a class stands for is seen in front of l. The class `End` says nothing.
 pub record Front (n : Next) (l : List Tok) : Type 0 where
@@ -187,47 +192,47 @@ record Starts (l : List Tok) : Type 0 where
   brace : brace_at l ≡ false
 
 start_less : (s : Spacing) (l : List Tok) → sign_at (codes "<=") (punct 60 s ∷ l) ≡ false → sign_at (codes "<<=") (punct 60 s ∷ l) ≡ false → Starts (punct 60 s ∷ l)
-unfolding sign_at word_at lifetime_at begins_expr sign_begins ends_open_range dot_at brace_at group_at
+unfolding asked
 start_less spacing.Alone l h0 h1 = record { begin = refl; stops = refl; brace = refl }
 start_less spacing.Joint l h0 h1 = record { begin = rw (h0, h1) refl; stops = rw (h0, h1) refl; brace = refl }
 
 start_minus : (s : Spacing) (l : List Tok) → sign_at (codes "-=") (punct 45 s ∷ l) ≡ false → sign_at (codes "->") (punct 45 s ∷ l) ≡ false → Starts (punct 45 s ∷ l)
-unfolding sign_at word_at lifetime_at begins_expr sign_begins ends_open_range dot_at brace_at group_at
+unfolding asked
 start_minus spacing.Alone l h0 h1 = record { begin = refl; stops = refl; brace = refl }
 start_minus spacing.Joint l h0 h1 = record { begin = rw (h0, h1) refl; stops = rw h0 refl; brace = refl }
 
 start_star : (s : Spacing) (l : List Tok) → sign_at (codes "*=") (punct 42 s ∷ l) ≡ false → Starts (punct 42 s ∷ l)
-unfolding sign_at word_at lifetime_at begins_expr sign_begins ends_open_range dot_at brace_at group_at
+unfolding asked
 start_star spacing.Alone l h0 = record { begin = refl; stops = refl; brace = refl }
 start_star spacing.Joint l h0 = record { begin = rw (h0) refl; stops = rw (h0) refl; brace = refl }
 
 start_or : (s : Spacing) (l : List Tok) → sign_at (codes "|=") (punct 124 s ∷ l) ≡ false → Starts (punct 124 s ∷ l)
-unfolding sign_at word_at lifetime_at begins_expr sign_begins ends_open_range dot_at brace_at group_at
+unfolding asked
 start_or spacing.Alone l h0 = record { begin = refl; stops = refl; brace = refl }
 start_or spacing.Joint l h0 = record { begin = rw (h0) refl; stops = rw (h0) refl; brace = refl }
 
 start_and : (s : Spacing) (l : List Tok) → sign_at (codes "&=") (punct 38 s ∷ l) ≡ false → Starts (punct 38 s ∷ l)
-unfolding sign_at word_at lifetime_at begins_expr sign_begins ends_open_range dot_at brace_at group_at
+unfolding asked
 start_and spacing.Alone l h0 = record { begin = refl; stops = refl; brace = refl }
 start_and spacing.Joint l h0 = record { begin = rw (h0) refl; stops = rw (h0) refl; brace = refl }
 
 start_shift : (s : Spacing) (l : List Tok) → sign_at (codes "<<=") (punct 60 spacing.Joint ∷ punct 60 s ∷ l) ≡ false → Starts (punct 60 spacing.Joint ∷ punct 60 s ∷ l)
-unfolding sign_at word_at lifetime_at begins_expr sign_begins ends_open_range dot_at brace_at group_at
+unfolding asked
 start_shift spacing.Alone l h0 = record { begin = refl; stops = refl; brace = refl }
 start_shift spacing.Joint l h0 = record { begin = rw (h0) refl; stops = rw (h0) refl; brace = refl }
 
 start_or_or : (s : Spacing) (l : List Tok) → Starts (punct 124 spacing.Joint ∷ punct 124 s ∷ l)
-unfolding sign_at word_at lifetime_at begins_expr sign_begins ends_open_range dot_at brace_at group_at
+unfolding asked
 start_or_or spacing.Alone l = record { begin = refl; stops = refl; brace = refl }
 start_or_or spacing.Joint l = record { begin = refl; stops = refl; brace = refl }
 
 start_and_and : (s : Spacing) (l : List Tok) → Starts (punct 38 spacing.Joint ∷ punct 38 s ∷ l)
-unfolding sign_at word_at lifetime_at begins_expr sign_begins ends_open_range dot_at brace_at group_at
+unfolding asked
 start_and_and spacing.Alone l = record { begin = refl; stops = refl; brace = refl }
 start_and_and spacing.Joint l = record { begin = refl; stops = refl; brace = refl }
 
 start_range : (s : Spacing) (l : List Tok) → Starts (punct 46 spacing.Joint ∷ punct 46 s ∷ l)
-unfolding sign_at word_at lifetime_at begins_expr sign_begins ends_open_range dot_at brace_at group_at
+unfolding asked
 start_range spacing.Alone l = record { begin = refl; stops = refl; brace = refl }
 start_range spacing.Joint l = record { begin = refl; stops = refl; brace = refl }
 
@@ -313,71 +318,11 @@ less_shl_assign l c h = sign_second 60 60 (61 ∷ []) (λ y. lt.at y ≡ true) l
 
 level_class : (k : Infix) → level_of (class_of k) ≡ Some (level k)
 level_class (inf.Binary bin.Add) = refl
-level_class (inf.Binary bin.Sub) = refl
-level_class (inf.Binary bin.Mul) = refl
-level_class (inf.Binary bin.Div) = refl
-level_class (inf.Binary bin.Rem) = refl
-level_class (inf.Binary bin.And) = refl
-level_class (inf.Binary bin.Or) = refl
-level_class (inf.Binary bin.BitXor) = refl
-level_class (inf.Binary bin.BitAnd) = refl
-level_class (inf.Binary bin.BitOr) = refl
-level_class (inf.Binary bin.Shl) = refl
-level_class (inf.Binary bin.Shr) = refl
-level_class (inf.Binary bin.Eq) = refl
-level_class (inf.Binary bin.Lt) = refl
-level_class (inf.Binary bin.Le) = refl
-level_class (inf.Binary bin.Ne) = refl
-level_class (inf.Binary bin.Ge) = refl
-level_class (inf.Binary bin.Gt) = refl
-level_class (inf.Binary bin.AddAssign) = refl
-level_class (inf.Binary bin.SubAssign) = refl
-level_class (inf.Binary bin.MulAssign) = refl
-level_class (inf.Binary bin.DivAssign) = refl
-level_class (inf.Binary bin.RemAssign) = refl
-level_class (inf.Binary bin.BitXorAssign) = refl
-level_class (inf.Binary bin.BitAndAssign) = refl
-level_class (inf.Binary bin.BitOrAssign) = refl
-level_class (inf.Binary bin.ShlAssign) = refl
-level_class (inf.Binary bin.ShrAssign) = refl
-level_class inf.Assign = refl
-level_class (inf.Range limits.HalfOpen) = refl
-level_class (inf.Range limits.Closed) = refl
-level_class inf.Cast = refl
+level_class _ = refl
 
 quiet_class : (k : Infix) → trails (class_of k) ≡ false
 quiet_class (inf.Binary bin.Add) = refl
-quiet_class (inf.Binary bin.Sub) = refl
-quiet_class (inf.Binary bin.Mul) = refl
-quiet_class (inf.Binary bin.Div) = refl
-quiet_class (inf.Binary bin.Rem) = refl
-quiet_class (inf.Binary bin.And) = refl
-quiet_class (inf.Binary bin.Or) = refl
-quiet_class (inf.Binary bin.BitXor) = refl
-quiet_class (inf.Binary bin.BitAnd) = refl
-quiet_class (inf.Binary bin.BitOr) = refl
-quiet_class (inf.Binary bin.Shl) = refl
-quiet_class (inf.Binary bin.Shr) = refl
-quiet_class (inf.Binary bin.Eq) = refl
-quiet_class (inf.Binary bin.Lt) = refl
-quiet_class (inf.Binary bin.Le) = refl
-quiet_class (inf.Binary bin.Ne) = refl
-quiet_class (inf.Binary bin.Ge) = refl
-quiet_class (inf.Binary bin.Gt) = refl
-quiet_class (inf.Binary bin.AddAssign) = refl
-quiet_class (inf.Binary bin.SubAssign) = refl
-quiet_class (inf.Binary bin.MulAssign) = refl
-quiet_class (inf.Binary bin.DivAssign) = refl
-quiet_class (inf.Binary bin.RemAssign) = refl
-quiet_class (inf.Binary bin.BitXorAssign) = refl
-quiet_class (inf.Binary bin.BitAndAssign) = refl
-quiet_class (inf.Binary bin.BitOrAssign) = refl
-quiet_class (inf.Binary bin.ShlAssign) = refl
-quiet_class (inf.Binary bin.ShrAssign) = refl
-quiet_class inf.Assign = refl
-quiet_class (inf.Range limits.HalfOpen) = refl
-quiet_class (inf.Range limits.Closed) = refl
-quiet_class inf.Cast = refl
+quiet_class _ = refl
 
 op_front : (l : List Tok) (k : Infix) (c : ℕ) → infix_at l ≡ Some (k, c) → (v : Level) → takes_next v (class_of k) ≡ true → goes_on v l ≡ true
 unfolding goes_on
@@ -386,40 +331,20 @@ op_front l k c h v t = rw h (rw (level_class k) at t)
 no_trailer : (k : Infix) (P : Type 0) → trails (class_of k) ≡ true → P
 no_trailer k P h = absurd (let r : true ≡ false = sym h ∙ quiet_class k in cc)
 
--- a list that an operator stands in front of is of the operator's class
+-- a list that an operator comes before is of the operator's class
 pub front_operator : (l : List Tok) (k : Infix) (c : ℕ) → infix_at l ≡ Some (k, c) → Front (class_of k) l
-front_operator l (inf.Binary bin.Add) c h = record { op = op_front l (inf.Binary bin.Add) c h; trailer = λ t. absurd cc; begin = λ t. absurd cc; stops = λ t. absurd cc; brace = λ t. absurd cc; less = λ t. absurd cc }
 front_operator l (inf.Binary bin.Sub) c h = let z = found_at (inf.Binary bin.Sub) c l refl h in let s = starts_sub l c z in record { op = op_front l (inf.Binary bin.Sub) c h; trailer = λ t. absurd cc; begin = λ t. s.begin; stops = λ t. s.stops; brace = λ t. s.brace; less = λ t. absurd cc }
 front_operator l (inf.Binary bin.Mul) c h = let z = found_at (inf.Binary bin.Mul) c l refl h in let s = starts_mul l c z in record { op = op_front l (inf.Binary bin.Mul) c h; trailer = λ t. absurd cc; begin = λ t. s.begin; stops = λ t. s.stops; brace = λ t. s.brace; less = λ t. absurd cc }
-front_operator l (inf.Binary bin.Div) c h = record { op = op_front l (inf.Binary bin.Div) c h; trailer = λ t. absurd cc; begin = λ t. absurd cc; stops = λ t. absurd cc; brace = λ t. absurd cc; less = λ t. absurd cc }
-front_operator l (inf.Binary bin.Rem) c h = record { op = op_front l (inf.Binary bin.Rem) c h; trailer = λ t. absurd cc; begin = λ t. absurd cc; stops = λ t. absurd cc; brace = λ t. absurd cc; less = λ t. absurd cc }
 front_operator l (inf.Binary bin.And) c h = let z = found_at (inf.Binary bin.And) c l refl h in let s = starts_and l c z in record { op = op_front l (inf.Binary bin.And) c h; trailer = λ t. absurd cc; begin = λ t. s.begin; stops = λ t. s.stops; brace = λ t. s.brace; less = λ t. absurd cc }
 front_operator l (inf.Binary bin.Or) c h = let z = found_at (inf.Binary bin.Or) c l refl h in let s = starts_or l c z in record { op = op_front l (inf.Binary bin.Or) c h; trailer = λ t. absurd cc; begin = λ t. s.begin; stops = λ t. s.stops; brace = λ t. s.brace; less = λ t. absurd cc }
-front_operator l (inf.Binary bin.BitXor) c h = record { op = op_front l (inf.Binary bin.BitXor) c h; trailer = λ t. absurd cc; begin = λ t. absurd cc; stops = λ t. absurd cc; brace = λ t. absurd cc; less = λ t. absurd cc }
 front_operator l (inf.Binary bin.BitAnd) c h = let z = found_at (inf.Binary bin.BitAnd) c l refl h in let s = starts_bit_and l c z in record { op = op_front l (inf.Binary bin.BitAnd) c h; trailer = λ t. absurd cc; begin = λ t. s.begin; stops = λ t. s.stops; brace = λ t. s.brace; less = λ t. absurd cc }
 front_operator l (inf.Binary bin.BitOr) c h = let z = found_at (inf.Binary bin.BitOr) c l refl h in let s = starts_bit_or l c z in record { op = op_front l (inf.Binary bin.BitOr) c h; trailer = λ t. absurd cc; begin = λ t. s.begin; stops = λ t. s.stops; brace = λ t. s.brace; less = λ t. absurd cc }
 front_operator l (inf.Binary bin.Shl) c h = let z = found_at (inf.Binary bin.Shl) c l refl h in let s = starts_shl l c z in record { op = op_front l (inf.Binary bin.Shl) c h; trailer = λ t. absurd cc; begin = λ t. s.begin; stops = λ t. s.stops; brace = λ t. s.brace; less = λ t. less_shl l c z }
-front_operator l (inf.Binary bin.Shr) c h = record { op = op_front l (inf.Binary bin.Shr) c h; trailer = λ t. absurd cc; begin = λ t. absurd cc; stops = λ t. absurd cc; brace = λ t. absurd cc; less = λ t. absurd cc }
-front_operator l (inf.Binary bin.Eq) c h = record { op = op_front l (inf.Binary bin.Eq) c h; trailer = λ t. absurd cc; begin = λ t. absurd cc; stops = λ t. absurd cc; brace = λ t. absurd cc; less = λ t. absurd cc }
 front_operator l (inf.Binary bin.Lt) c h = let z = found_at (inf.Binary bin.Lt) c l refl h in let s = starts_lt l c z in record { op = op_front l (inf.Binary bin.Lt) c h; trailer = λ t. absurd cc; begin = λ t. s.begin; stops = λ t. s.stops; brace = λ t. s.brace; less = λ t. less_lt l c z }
-front_operator l (inf.Binary bin.Le) c h = record { op = op_front l (inf.Binary bin.Le) c h; trailer = λ t. absurd cc; begin = λ t. absurd cc; stops = λ t. absurd cc; brace = λ t. absurd cc; less = λ t. absurd cc }
-front_operator l (inf.Binary bin.Ne) c h = record { op = op_front l (inf.Binary bin.Ne) c h; trailer = λ t. absurd cc; begin = λ t. absurd cc; stops = λ t. absurd cc; brace = λ t. absurd cc; less = λ t. absurd cc }
-front_operator l (inf.Binary bin.Ge) c h = record { op = op_front l (inf.Binary bin.Ge) c h; trailer = λ t. absurd cc; begin = λ t. absurd cc; stops = λ t. absurd cc; brace = λ t. absurd cc; less = λ t. absurd cc }
-front_operator l (inf.Binary bin.Gt) c h = record { op = op_front l (inf.Binary bin.Gt) c h; trailer = λ t. absurd cc; begin = λ t. absurd cc; stops = λ t. absurd cc; brace = λ t. absurd cc; less = λ t. absurd cc }
-front_operator l (inf.Binary bin.AddAssign) c h = record { op = op_front l (inf.Binary bin.AddAssign) c h; trailer = λ t. absurd cc; begin = λ t. absurd cc; stops = λ t. absurd cc; brace = λ t. absurd cc; less = λ t. absurd cc }
-front_operator l (inf.Binary bin.SubAssign) c h = record { op = op_front l (inf.Binary bin.SubAssign) c h; trailer = λ t. absurd cc; begin = λ t. absurd cc; stops = λ t. absurd cc; brace = λ t. absurd cc; less = λ t. absurd cc }
-front_operator l (inf.Binary bin.MulAssign) c h = record { op = op_front l (inf.Binary bin.MulAssign) c h; trailer = λ t. absurd cc; begin = λ t. absurd cc; stops = λ t. absurd cc; brace = λ t. absurd cc; less = λ t. absurd cc }
-front_operator l (inf.Binary bin.DivAssign) c h = record { op = op_front l (inf.Binary bin.DivAssign) c h; trailer = λ t. absurd cc; begin = λ t. absurd cc; stops = λ t. absurd cc; brace = λ t. absurd cc; less = λ t. absurd cc }
-front_operator l (inf.Binary bin.RemAssign) c h = record { op = op_front l (inf.Binary bin.RemAssign) c h; trailer = λ t. absurd cc; begin = λ t. absurd cc; stops = λ t. absurd cc; brace = λ t. absurd cc; less = λ t. absurd cc }
-front_operator l (inf.Binary bin.BitXorAssign) c h = record { op = op_front l (inf.Binary bin.BitXorAssign) c h; trailer = λ t. absurd cc; begin = λ t. absurd cc; stops = λ t. absurd cc; brace = λ t. absurd cc; less = λ t. absurd cc }
-front_operator l (inf.Binary bin.BitAndAssign) c h = record { op = op_front l (inf.Binary bin.BitAndAssign) c h; trailer = λ t. absurd cc; begin = λ t. absurd cc; stops = λ t. absurd cc; brace = λ t. absurd cc; less = λ t. absurd cc }
-front_operator l (inf.Binary bin.BitOrAssign) c h = record { op = op_front l (inf.Binary bin.BitOrAssign) c h; trailer = λ t. absurd cc; begin = λ t. absurd cc; stops = λ t. absurd cc; brace = λ t. absurd cc; less = λ t. absurd cc }
 front_operator l (inf.Binary bin.ShlAssign) c h = let z = found_at (inf.Binary bin.ShlAssign) c l refl h in record { op = op_front l (inf.Binary bin.ShlAssign) c h; trailer = λ t. absurd cc; begin = λ t. absurd cc; stops = λ t. absurd cc; brace = λ t. absurd cc; less = λ t. less_shl_assign l c z }
-front_operator l (inf.Binary bin.ShrAssign) c h = record { op = op_front l (inf.Binary bin.ShrAssign) c h; trailer = λ t. absurd cc; begin = λ t. absurd cc; stops = λ t. absurd cc; brace = λ t. absurd cc; less = λ t. absurd cc }
-front_operator l inf.Assign c h = record { op = op_front l inf.Assign c h; trailer = λ t. absurd cc; begin = λ t. absurd cc; stops = λ t. absurd cc; brace = λ t. absurd cc; less = λ t. absurd cc }
 front_operator l (inf.Range limits.HalfOpen) c h = let z = found_at (inf.Range limits.HalfOpen) c l refl h in let s = starts_half_open l c z in record { op = op_front l (inf.Range limits.HalfOpen) c h; trailer = λ t. absurd cc; begin = λ t. s.begin; stops = λ t. s.stops; brace = λ t. s.brace; less = λ t. absurd cc }
 front_operator l (inf.Range limits.Closed) c h = let z = found_at (inf.Range limits.Closed) c l refl h in let s = starts_closed l c z in record { op = op_front l (inf.Range limits.Closed) c h; trailer = λ t. absurd cc; begin = λ t. s.begin; stops = λ t. s.stops; brace = λ t. s.brace; less = λ t. absurd cc }
-front_operator l inf.Cast c h = record { op = op_front l inf.Cast c h; trailer = λ t. absurd cc; begin = λ t. absurd cc; stops = λ t. absurd cc; brace = λ t. absurd cc; less = λ t. absurd cc }
+front_operator l d c h = record { op = op_front l d c h; trailer = λ t. absurd cc; begin = λ t. absurd cc; stops = λ t. absurd cc; brace = λ t. absurd cc; less = λ t. absurd cc }
 
 -- ---- trailers and braces
 
@@ -431,17 +356,11 @@ front_group : (P : Delimiter → List Tok → Type 0) (d : Delimiter) (l : List 
     → ((i : _) (r : List Tok) → P d (group d i ∷ r)) → P d l
 unfolding group_at
 front_group P d [] g h f = absurd cc
-front_group P d (ident w ∷ l) g h f = absurd cc
-front_group P d (literal w ∷ l) g h f = absurd cc
-front_group P d (punct c s ∷ l) g h f = absurd cc
 front_group P del.Parenthesis (group del.Parenthesis i ∷ l) g h f = f i l
-front_group P del.Parenthesis (group e i ∷ l) g h f = absurd cc
 front_group P del.Bracket (group del.Bracket i ∷ l) g h f = f i l
-front_group P del.Bracket (group e i ∷ l) g h f = absurd cc
 front_group P del.Brace (group del.Brace i ∷ l) g h f = f i l
-front_group P del.Brace (group e i ∷ l) g h f = absurd cc
 front_group P del.None (group del.None i ∷ l) g h f = f i l
-front_group P del.None (group e i ∷ l) g h f = absurd cc
+front_group _ _ _ g h f = absurd cc
 
 pub front_call : (l : List Tok) (g : List Tok × List Tok) → group_at del.Parenthesis l ≡ Some g → Front next.Parenthesis l
 unfolding trailer_at round_at bracket_at group_at begins_expr brace_at
@@ -465,25 +384,21 @@ front_block l g h = front_group (λ d z. Front next.Block z) del.Brace l g h at_
     at_group i r = record { op = λ v t. absurd cc; trailer = λ t. absurd cc; begin = λ t. refl; stops = λ t. open_group del.Brace i r; brace = λ t. refl; less = λ t. absurd cc }
 
 last_true : (a b c d : Bool) → d ≡ true → a || (b || (c || d)) ≡ true
-last_true true b c d h = refl
-last_true false true c d h = refl
-last_true false false true d h = refl
 last_true false false false d h = h
+last_true _ _ _ d h = refl
 
 pub front_dot : (l : List Tok) → dot_at l ≡ true → Front next.Dot l
 unfolding trailer_at
 front_dot l h = record { op = λ v t. absurd cc; trailer = λ t. last_true (round_at l) (bracket_at l) (question_at l) (dot_at l) h; begin = λ t. absurd cc; stops = λ t. absurd cc; brace = λ t. absurd cc; less = λ t. absurd cc }
 
 third_true : (a b c d : Bool) → c ≡ true → a || (b || (c || d)) ≡ true
-third_true true b c d h = refl
-third_true false true c d h = refl
-third_true false false true d h = refl
 third_true false false false d h = absurd cc
+third_true _ _ _ d h = refl
 
 pub front_question : (l : List Tok) → question_at l ≡ true → Front next.Question l
 unfolding trailer_at
 front_question l h = record { op = λ v t. absurd cc; trailer = λ t. third_true (round_at l) (bracket_at l) (question_at l) (dot_at l) h; begin = λ t. absurd cc; stops = λ t. absurd cc; brace = λ t. absurd cc; less = λ t. absurd cc }
 
--- behind the value of a jump
+-- after the value of a jump
 pub front_jump : (n : Next) (l : List Tok) → Front next.Block l → Front next.Brace l
 front_jump n l f = record { op = λ v t. absurd cc; trailer = λ t. absurd cc; begin = λ t. f.begin refl; stops = λ t. f.stops refl; brace = λ t. f.brace refl; less = λ t. absurd cc }

@@ -1,4 +1,4 @@
--- What stands obeys: the tests of a node, by the class of what stands behind it.
+-- What stands obeys: the tests of a node, by the class of what comes after it.
 use Rattle.std.proofs.Common.{◌≡◌, Bool, true, false, not, ◌&&◌, ◌||◌, List, [], ◌∷◌, Option, Some, None, refl, sym, ◌∙◌, ap, codes}
 use Rattle.std.proofs.Math.Bool.{and-false}
 use Rattle.syn_tokens.specs.Tok.{Tok, ident, punct, literal, group}
@@ -54,10 +54,7 @@ agrees_arm = record { mode = refl; head = λ h. refl; no_statement = refl; brace
 calm_unarmed : (x : Edge) → is_calm x ≡ true → (is_armed x ≡ false) × (is_statement x ≡ false)
 calm_unarmed edge.Free h = (refl, refl)
 calm_unarmed edge.NoBrace h = (refl, refl)
-calm_unarmed edge.Arm h = absurd cc
-calm_unarmed edge.BelowArm h = absurd cc
-calm_unarmed edge.Statement h = absurd cc
-calm_unarmed edge.BelowStatement h = absurd cc
+calm_unarmed _ h = absurd cc
 
 clash : (b : Bool) → b ≡ true → b ≡ false → ⊥
 clash b h k = let r : true ≡ false = sym h ∙ k in cc
@@ -69,67 +66,35 @@ agrees_calm p c m q b =
 
 left_armed : (x : Edge) → is_armed (left_edge x) ≡ is_armed x
 left_armed edge.Free = refl
-left_armed edge.NoBrace = refl
-left_armed edge.Arm = refl
-left_armed edge.BelowArm = refl
-left_armed edge.Statement = refl
-left_armed edge.BelowStatement = refl
+left_armed _ = refl
 
 left_statement : (x : Edge) → is_statement (left_edge x) ≡ is_statement x
 left_statement edge.Free = refl
-left_statement edge.NoBrace = refl
-left_statement edge.Arm = refl
-left_statement edge.BelowArm = refl
-left_statement edge.Statement = refl
-left_statement edge.BelowStatement = refl
+left_statement _ = refl
 
 pub left_braceless : (x : Edge) → is_braceless (left_edge x) ≡ is_braceless x
 left_braceless edge.Free = refl
-left_braceless edge.NoBrace = refl
-left_braceless edge.Arm = refl
-left_braceless edge.BelowArm = refl
-left_braceless edge.Statement = refl
-left_braceless edge.BelowStatement = refl
+left_braceless _ = refl
 
 dot_armed : (x : Edge) → is_armed (dot_edge x) ≡ is_armed x
 dot_armed edge.Free = refl
-dot_armed edge.NoBrace = refl
-dot_armed edge.Arm = refl
-dot_armed edge.BelowArm = refl
-dot_armed edge.Statement = refl
-dot_armed edge.BelowStatement = refl
+dot_armed _ = refl
 
 dot_statement : (x : Edge) → is_statement (dot_edge x) ≡ is_statement x
 dot_statement edge.Free = refl
-dot_statement edge.NoBrace = refl
-dot_statement edge.Arm = refl
-dot_statement edge.BelowArm = refl
-dot_statement edge.Statement = refl
-dot_statement edge.BelowStatement = refl
+dot_statement _ = refl
 
 pub dot_braceless : (x : Edge) → is_braceless (dot_edge x) ≡ is_braceless x
 dot_braceless edge.Free = refl
-dot_braceless edge.NoBrace = refl
-dot_braceless edge.Arm = refl
-dot_braceless edge.BelowArm = refl
-dot_braceless edge.Statement = refl
-dot_braceless edge.BelowStatement = refl
+dot_braceless _ = refl
 
 pub dot_above : (x : Edge) → is_below (dot_edge x) ≡ false
 dot_above edge.Free = refl
-dot_above edge.NoBrace = refl
-dot_above edge.Arm = refl
-dot_above edge.BelowArm = refl
-dot_above edge.Statement = refl
-dot_above edge.BelowStatement = refl
+dot_above _ = refl
 
 pub dot_twice : (x : Edge) → dot_edge (dot_edge x) ≡ dot_edge x
 dot_twice edge.Free = refl
-dot_twice edge.NoBrace = refl
-dot_twice edge.Arm = refl
-dot_twice edge.BelowArm = refl
-dot_twice edge.Statement = refl
-dot_twice edge.BelowStatement = refl
+dot_twice _ = refl
 
 pub below_left : (x : Edge) (h b : Bool) → (is_armed x ≡ true → h ≡ true) → is_statement x ≡ false → h && b ≡ false → is_below (left_edge x) && b ≡ false
 below_left edge.Free h b f s r = refl
@@ -141,37 +106,7 @@ below_left edge.BelowStatement h b f s r = absurd cc
 
 class_brace : (k : Infix) → is_brace_next (class_of k) ≡ false
 class_brace (inf.Binary bin.Add) = refl
-class_brace (inf.Binary bin.Sub) = refl
-class_brace (inf.Binary bin.Mul) = refl
-class_brace (inf.Binary bin.Div) = refl
-class_brace (inf.Binary bin.Rem) = refl
-class_brace (inf.Binary bin.And) = refl
-class_brace (inf.Binary bin.Or) = refl
-class_brace (inf.Binary bin.BitXor) = refl
-class_brace (inf.Binary bin.BitAnd) = refl
-class_brace (inf.Binary bin.BitOr) = refl
-class_brace (inf.Binary bin.Shl) = refl
-class_brace (inf.Binary bin.Shr) = refl
-class_brace (inf.Binary bin.Eq) = refl
-class_brace (inf.Binary bin.Lt) = refl
-class_brace (inf.Binary bin.Le) = refl
-class_brace (inf.Binary bin.Ne) = refl
-class_brace (inf.Binary bin.Ge) = refl
-class_brace (inf.Binary bin.Gt) = refl
-class_brace (inf.Binary bin.AddAssign) = refl
-class_brace (inf.Binary bin.SubAssign) = refl
-class_brace (inf.Binary bin.MulAssign) = refl
-class_brace (inf.Binary bin.DivAssign) = refl
-class_brace (inf.Binary bin.RemAssign) = refl
-class_brace (inf.Binary bin.BitXorAssign) = refl
-class_brace (inf.Binary bin.BitAndAssign) = refl
-class_brace (inf.Binary bin.BitOrAssign) = refl
-class_brace (inf.Binary bin.ShlAssign) = refl
-class_brace (inf.Binary bin.ShrAssign) = refl
-class_brace inf.Assign = refl
-class_brace (inf.Range limits.HalfOpen) = refl
-class_brace (inf.Range limits.Closed) = refl
-class_brace inf.Cast = refl
+class_brace _ = refl
 
 pub agrees_left : (p : Place) (k : Infix) (c : Context) → Agrees p c → Agrees p (left_context k c)
 agrees_left p k c m =
@@ -197,18 +132,11 @@ agrees_base p e.call c m =
     record { mode = m.mode; head = λ h. m.head (sym (left_armed c.edge) ∙ h); no_statement = left_statement c.edge ∙ m.no_statement; brace = refl }
 agrees_base p e.index c m =
     record { mode = m.mode; head = λ h. m.head (sym (left_armed c.edge) ∙ h); no_statement = left_statement c.edge ∙ m.no_statement; brace = refl }
-agrees_base p (e.method w a) c m = agrees_dot p c (e.method w a) m refl refl
-agrees_base p (e.field f) c m = agrees_dot p c (e.field f) m refl refl
-agrees_base p e.await c m = agrees_dot p c e.await m refl refl
-agrees_base p e.try_expr c m = agrees_dot p c e.try_expr m refl refl
+agrees_base p d c m = agrees_dot p c d m refl refl
 
 attributed_armed : (x : Edge) → (is_armed (attributed_edge x) ≡ is_armed x) × (is_statement (attributed_edge x) ≡ is_statement x) × (is_below (attributed_edge x) ≡ is_below x) × (is_braceless (attributed_edge x) ≡ false)
 attributed_armed edge.Free = (refl, refl, refl, refl)
-attributed_armed edge.NoBrace = (refl, refl, refl, refl)
-attributed_armed edge.Arm = (refl, refl, refl, refl)
-attributed_armed edge.BelowArm = (refl, refl, refl, refl)
-attributed_armed edge.Statement = (refl, refl, refl, refl)
-attributed_armed edge.BelowStatement = (refl, refl, refl, refl)
+attributed_armed _ = (refl, refl, refl, refl)
 
 pub agrees_attributed : (p : Place) (c : Context) → Agrees p c → Agrees p (attributed_context c)
 agrees_attributed p c m =
@@ -237,57 +165,25 @@ pub agrees_right : (p : Place) (k : Infix) (c : Context) → Agrees p c → Agre
 agrees_right p k c m = agrees_calm (at p (level k)) (right_context k c) m.mode (braceless_calm _) m.brace
 
 pub agrees_prefix : (p : Place) (k : Prefix) (c : Context) → Agrees p c → Agrees (prefix_place p k) (prefix_context k c)
-agrees_prefix p (e.unary op) c m = agrees_calm _ (prefix_context (e.unary op) c) m.mode refl m.brace
-agrees_prefix p (e.reference b) c m = agrees_calm _ (prefix_context (e.reference b) c) m.mode refl m.brace
-agrees_prefix p (e.raw_addr b) c m = agrees_calm _ (prefix_context (e.raw_addr b) c) m.mode refl m.brace
 agrees_prefix p (e.range_to op) c m = agrees_calm _ (prefix_context (e.range_to op) c) m.mode (braceless_calm _) m.brace
-agrees_prefix p (e.let_expr x) c m = agrees_calm _ (prefix_context (e.let_expr x) c) m.mode refl m.brace
 agrees_prefix p (e.jump j) c m = agrees_calm _ (prefix_context (e.jump j) c) refl (braceless_calm _) (and-false _)
-agrees_prefix p (e.closure h) c m = agrees_calm _ (prefix_context (e.closure h) c) m.mode refl m.brace
+agrees_prefix p d c m = agrees_calm _ (prefix_context d c) m.mode refl m.brace
 
 front_without : (n : Next) (l : List Tok) → Front n l → Front (without_block n) l
 front_without next.Block l f = front_jump next.Block l f
 front_without next.Range l f = f
-front_without next.OrOr l f = f
-front_without next.AndAnd l f = f
-front_without next.Less l f = f
-front_without next.Or l f = f
-front_without next.And l f = f
-front_without next.ShiftLeft l f = f
-front_without next.Minus l f = f
-front_without next.Star l f = f
-front_without next.Parenthesis l f = f
-front_without next.Bracket l f = f
-front_without next.End l f = f
-front_without next.Assign l f = f
-front_without next.ShiftLeftAssign l f = f
-front_without next.Compare l f = f
-front_without next.Caret l f = f
-front_without next.ShiftRight l f = f
-front_without next.Plus l f = f
-front_without next.Divide l f = f
-front_without next.As l f = f
-front_without next.Dot l f = f
-front_without next.Question l f = f
-front_without next.Brace l f = f
+front_without _ l f = f
 
 pub front_prefix : (k : Prefix) (c : Context) (l : List Tok) → Front c.next l → Front (prefix_context k c).next l
 front_prefix (e.unary op) c l f = f
-front_prefix (e.reference b) c l f = f
-front_prefix (e.raw_addr b) c l f = f
-front_prefix (e.range_to op) c l f = f
-front_prefix (e.let_expr x) c l f = f
 front_prefix (e.jump j) c l f = front_without c.next l f
-front_prefix (e.closure h) c l f = f
+front_prefix _ c l f = f
 
 pub prefix_above : (k : Prefix) (c : Context) (b : Bool) → is_below (prefix_context k c).edge && b ≡ false
 prefix_above (e.unary op) c b = refl
-prefix_above (e.reference m) c b = refl
-prefix_above (e.raw_addr m) c b = refl
 prefix_above (e.range_to op) c b = ap (λ z. z && b) (braceless_above _)
-prefix_above (e.let_expr x) c b = refl
 prefix_above (e.jump j) c b = ap (λ z. z && b) (braceless_above _)
-prefix_above (e.closure h) c b = refl
+prefix_above _ c b = refl
 
 pub right_above : (k : Infix) (c : Context) (b : Bool) → is_below (right_context k c).edge && b ≡ false
 right_above k c b = ap (λ z. z && b) (braceless_above _)
@@ -325,23 +221,14 @@ edge_brace b x h = ap (λ z. z && x) (braceless_is b) ∙ h
 pub prefix_brace : (p : Place) (k : Prefix) (c : Context) (m : List Tok) → Agrees p c → prefix_stands p k m ≡ true → is_braceless (prefix_context k c).edge && brace_at m ≡ false
 unfolding prefix_stands
 prefix_brace p (e.unary op) c m a h = refl
-prefix_brace p (e.reference b) c m a h = refl
-prefix_brace p (e.raw_addr b) c m a h = refl
 prefix_brace p (e.range_to limits.HalfOpen) c m a h = edge_brace c.condition _ (ap (λ b. b && brace_at m) a.mode ∙ open_brace p.condition m (not_it _ h))
-prefix_brace p (e.range_to limits.Closed) c m a h = refl
-prefix_brace p (e.let_expr x) c m a h = refl
-prefix_brace p (e.jump e.returning) c m a h = refl
-prefix_brace p (e.jump e.yielding) c m a h = refl
 prefix_brace p (e.jump (e.breaking w)) c m a h = edge_brace c.condition _ (ap (λ b. b && brace_at m) a.mode ∙ jump_brace p w m h)
-prefix_brace p (e.closure j) c m a h = refl
+prefix_brace p _ c m a h = refl
 
 pub right_brace : (p : Place) (k : Infix) (c : Context) (m : List Tok) → Agrees p c → infix_stands p k m ≡ true → is_braceless (right_context k c).edge && brace_at m ≡ false
 unfolding infix_stands
-right_brace p (inf.Binary op) c m a h = refl
-right_brace p inf.Assign c m a h = refl
 right_brace p (inf.Range limits.HalfOpen) c m a h = edge_brace c.condition _ (ap (λ b. b && brace_at m) a.mode ∙ open_brace p.condition m (not_it _ h))
-right_brace p (inf.Range limits.Closed) c m a h = refl
-right_brace p inf.Cast c m a h = refl
+right_brace p _ c m a h = refl
 
 -- ---- what a node refuses
 
@@ -350,11 +237,8 @@ path_brace next.Brace b n f q h = absurd (let r : false ≡ true = rw (q, f.brac
 path_brace _ b n f q h = refl
 
 open_rest : (a b c d x : Bool) → a || (b || (c || (d || x))) ≡ true → a || (b || (c || (d || false))) ≡ false → x ≡ true
-open_rest true b c d x h k = absurd cc
-open_rest false true c d x h k = absurd cc
-open_rest false false true d x h k = absurd cc
-open_rest false false false true x h k = absurd cc
 open_rest false false false false x h k = h
+open_rest _ _ _ _ x h k = absurd cc
 
 open_end : (b : Bool) (n : List Tok) → ends_open_range b n ≡ true → ends_open_range false n ≡ false → b && brace_at n ≡ true
 unfolding ends_open_range
@@ -363,7 +247,7 @@ open_end b n h k = open_rest (is_empty n) _ (dot_at n) (word_at (codes "as") n) 
 no_block : (b x : Bool) → x ≡ false → b && x ≡ true → ⊥
 no_block b x h k = clash (b && x) k (ap (λ z. b && z) h ∙ and-false b)
 
--- a brace behind, where none is in this class
+-- a brace after, where none is in this class
 pub range_ends : (x : Next) (b : Bool) (n : List Tok) → Front x n → is_brace_next x && b ≡ false → ends_open_range b n ≡ true → not (ends_range_next x) ≡ false
 range_ends next.Range b n f q h = absurd (no_block b _ (f.brace refl) (open_end b n h (f.stops refl)))
 range_ends next.OrOr b n f q h = absurd (no_block b _ (f.brace refl) (open_end b n h (f.stops refl)))
@@ -378,17 +262,7 @@ range_ends next.Parenthesis b n f q h = absurd (no_block b _ (f.brace refl) (ope
 range_ends next.Bracket b n f q h = absurd (no_block b _ (f.brace refl) (open_end b n h (f.stops refl)))
 range_ends next.Brace b n f q h = absurd (let r = (both_true _ _ (open_end b n h (f.stops refl))).0 in clash b r q)
 range_ends next.End b n f q h = refl
-range_ends next.Assign b n f q h = refl
-range_ends next.ShiftLeftAssign b n f q h = refl
-range_ends next.Compare b n f q h = refl
-range_ends next.Caret b n f q h = refl
-range_ends next.ShiftRight b n f q h = refl
-range_ends next.Plus b n f q h = refl
-range_ends next.Divide b n f q h = refl
-range_ends next.As b n f q h = refl
-range_ends next.Dot b n f q h = refl
-range_ends next.Question b n f q h = refl
-range_ends next.Block b n f q h = refl
+range_ends _ b n f q h = refl
 
 no_begin : (x : Next) (n : List Tok) → Front x n → begins_expr n ≡ false → begins_next x ≡ false
 no_begin x n f h = go (begins_next x) refl
@@ -416,17 +290,7 @@ break_ends next.Parenthesis b n f q h = absurd (no_block b _ (f.brace refl) (or_
 break_ends next.Bracket b n f q h = absurd (no_block b _ (f.brace refl) (or_second _ _ h (f.begin refl)))
 break_ends next.Brace b n f q h = absurd (let r = (both_true _ _ (or_second _ _ h (f.begin refl))).0 in clash b r q)
 break_ends next.End b n f q h = refl
-break_ends next.Assign b n f q h = refl
-break_ends next.ShiftLeftAssign b n f q h = refl
-break_ends next.Compare b n f q h = refl
-break_ends next.Caret b n f q h = refl
-break_ends next.ShiftRight b n f q h = refl
-break_ends next.Plus b n f q h = refl
-break_ends next.Divide b n f q h = refl
-break_ends next.As b n f q h = refl
-break_ends next.Dot b n f q h = refl
-break_ends next.Question b n f q h = refl
-break_ends next.Block b n f q h = refl
+break_ends _ b n f q h = refl
 
 pub jump_ends : (x : Next) (p : Place) (j : Jump) (n : List Tok) → Front x n → is_brace_next x && p.condition ≡ false → ends_jump p j n ≡ true → jump_refuses j x ≡ false
 jump_ends x p e.returning n f q h = no_begin x n f (not_it _ h)
@@ -437,10 +301,7 @@ jump_ends x p (e.breaking (Some w)) n f q h = break_ends x p.condition n f q (bo
 below_statement : (x : Edge) → is_statement x ≡ false → is_below_statement x ≡ false
 below_statement edge.BelowStatement h = absurd cc
 below_statement edge.Free h = refl
-below_statement edge.NoBrace h = refl
-below_statement edge.Arm h = refl
-below_statement edge.BelowArm h = refl
-below_statement edge.Statement h = refl
+below_statement _ h = refl
 
 and_one : (a : Bool) → a && true ≡ false → a ≡ false
 and_one true h = h
@@ -461,37 +322,18 @@ leaf_shown p c (e.bare_jump j) l n m f g b z i = neither _ _ (jump_ends c.next p
 leaf_shown p c (e.mac x) l n m f g b z i = ap (λ y. y && is_brace_delimiter x.delimiter) (below_statement c.edge m.no_statement)
 leaf_shown p c (e.block None x) l n m f g b z i = neither _ _ (and_one _ b) (and_one _ (ap (λ y. is_braceless c.edge && y) (sym (i x refl)) ∙ z))
 leaf_shown p c (e.block (Some w) x) l n m f g b z i = b
-leaf_shown p c (e.lit x) l n m f g b z i = b
-leaf_shown p c e.infer l n m f g b z i = b
-leaf_shown p c (e.continuing w) l n m f g b z i = b
-leaf_shown p c (e.loop_expr w x) l n m f g b z i = b
-leaf_shown p c (e.unsafe_block x) l n m f g b z i = b
-leaf_shown p c (e.const_block x) l n m f g b z i = b
-leaf_shown p c (e.async_block x ts) l n m f g b z i = b
-leaf_shown p c (e.try_block ts) l n m f g b z i = b
-leaf_shown p c (e.verbatim ts) l n m f g b z i = b
+leaf_shown p c _ l n m f g b z i = b
 
 pub prefix_placed : (c : Context) (k : Prefix) → is_statement c.edge ≡ false → prefix_misplaced c k ≡ false
 prefix_placed c (e.let_expr x) h = h
 prefix_placed c (e.unary op) h = refl
-prefix_placed c (e.reference m) h = refl
-prefix_placed c (e.raw_addr m) h = refl
-prefix_placed c (e.range_to op) h = refl
-prefix_placed c (e.jump j) h = refl
-prefix_placed c (e.closure k) h = refl
+prefix_placed c _ h = refl
 
 pub frame_shown : (p : Place) (c : Context) (k : Frame) (ks : _) → Agrees p c → frame_stands p k ks ≡ true → is_below c.edge && is_block_frame k ≡ false → frame_misplaced c k ≡ false
 unfolding frame_stands
 frame_shown p c (e.structure q w d) ks m g b = m.mode ∙ (or_false _ _ (not_it _ g)).0
 frame_shown p c e.array ks m g b = b
-frame_shown p c e.tuple ks m g b = b
-frame_shown p c e.repeat ks m g b = b
-frame_shown p c (e.closure_block h) ks m g b = b
-frame_shown p c e.if_expr ks m g b = b
-frame_shown p c (e.while_loop w) ks m g b = b
-frame_shown p c (e.for_loop w x) ks m g b = b
-frame_shown p c e.match_expr ks m g b = b
-frame_shown p c e.group_expr ks m g b = b
+frame_shown p c _ ks m g b = b
 
 -- ---- what a place asks
 
@@ -535,29 +377,18 @@ left_shown p op x h =
 
 pub prefix_head : (p : Place) (k : Prefix) → (prefix_place p k).head ≡ false
 prefix_head p (e.unary op) = refl
-prefix_head p (e.reference m) = refl
-prefix_head p (e.raw_addr m) = refl
-prefix_head p (e.range_to op) = refl
-prefix_head p (e.let_expr x) = refl
-prefix_head p (e.jump j) = refl
-prefix_head p (e.closure h) = refl
+prefix_head p _ = refl
 
 pub base_below : (p : Place) (c : Context) (k : Trailer) (b : Tree) → Agrees p c → fits_base p k b ≡ true → is_below (base_context k c).edge && is_block_like b ≡ false
 unfolding fits_base
 base_below p c e.call b m h = no_block_held (is_below (base_context e.call c).edge) b (below_left c.edge p.head _ m.head m.no_statement (not_it _ (both_true _ _ h).1))
 base_below p c e.index b m h = no_block_held (is_below (base_context e.index c).edge) b (below_left c.edge p.head _ m.head m.no_statement (not_it _ (both_true _ _ h).1))
-base_below p c (e.method w a) b m h = ap (λ z. z && is_block_like b) (dot_above c.edge)
-base_below p c (e.field f) b m h = ap (λ z. z && is_block_like b) (dot_above c.edge)
-base_below p c e.await b m h = ap (λ z. z && is_block_like b) (dot_above c.edge)
-base_below p c e.try_expr b m h = ap (λ z. z && is_block_like b) (dot_above c.edge)
+base_below p c _ b m h = ap (λ z. z && is_block_like b) (dot_above c.edge)
 
 pub base_braceless : (k : Trailer) (x : Edge) → is_braceless (base_edge k x) ≡ is_braceless x
 base_braceless e.call x = left_braceless x
 base_braceless e.index x = left_braceless x
-base_braceless (e.method w a) x = dot_braceless x
-base_braceless (e.field f) x = dot_braceless x
-base_braceless e.await x = dot_braceless x
-base_braceless e.try_expr x = dot_braceless x
+base_braceless _ x = dot_braceless x
 
 pub postfix_shown : (p : Place) (c : Context) (k : _) (n : List Tok) → Agrees p c → Front c.next n → postfix_stands p (e.range_from k) n ≡ true → not (ends_range_next c.next) ≡ false
 unfolding postfix_stands

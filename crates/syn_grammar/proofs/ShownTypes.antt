@@ -83,7 +83,7 @@ fn_end b f u a xs e o l n h =
 
 -- ---- lists with a mark between
 
--- an element that is open stands before no `<`
+-- an element that is open comes before no `<`
 record Shuts {A : Type 0} (f : Form A) (goes : A → Bool) (x : A) : Type 0 where
   shuts : (l n : List Tok) → f.behind x l ≡ Some n → lt.at n ≡ true → goes x ≡ false
 
@@ -225,12 +225,10 @@ bound_last (t.more_bounds x (t.more_bounds y bs)) = bound_last (t.more_bounds y 
 
 bounds_shut : (b : Bool) (bs : Bounds) (e : Bool) → AllShut (bound type) bound_open (t.bounds bs) → (l n : List Tok) → (bounds type b).behind (t.bounds bs, e) l ≡ Some n → lt.at n ≡ true → bounds_open bs ≡ false
 unfolding bounds
-bounds_shut true bs true s l n h i = absurd cc
 bounds_shut true bs false s l n h i = sym (bound_last bs) ∙ joined_shut plus (bound type) bound_open plus_present bound_whole (t.bounds bs) s l n h i
 bounds_shut false t.no_bounds e s l n h i = refl
-bounds_shut false (t.more_bounds x t.no_bounds) true s l n h i = absurd cc
 bounds_shut false (t.more_bounds x t.no_bounds) false s l n h i = s.0.shuts l n h i
-bounds_shut false (t.more_bounds x (t.more_bounds y bs)) e s l n h i = absurd cc
+bounds_shut _ _ _ s l n h i = absurd cc
 
 -- ---- by the last part
 
@@ -285,18 +283,12 @@ mutual
   type_shut : (b : Bool) (x : TypeTree) (l n : List Tok) → (type b).behind x l ≡ Some n → lt.at n ≡ true → ends_open x ≡ false
   type_shut b (t.path q d ss e) l n h i =
       sym (segments_last ss) ∙ qpath_shut q d e (t.segments ss) (all_segments ss) l n (named_path q d ss e l n (path_named b q d ss e l n (type_opens b (t.path q d ss e) l n h))) i
-  type_shut b (t.mac d ss e g ts) l n h i = refl
   type_shut b (t.reference a m x) l n h i = let (k, j) = reference_end b a m x l n (type_opens b (t.reference a m x) l n h) in type_shut false x k n j i
   type_shut b (t.ptr m x) l n h i = let (k, j) = pointer_end b m x l n (type_opens b (t.ptr m x) l n h) in type_shut false x k n j i
-  type_shut b (t.slice x) l n h i = refl
-  type_shut b (t.array x k) l n h i = refl
-  type_shut b (t.tuple xs e) l n h i = refl
-  type_shut b (t.paren x) l n h i = refl
-  type_shut b t.never l n h i = refl
-  type_shut b t.infer l n h i = refl
   type_shut b (t.fn_ptr f u a xs e o) l n h i = let (k, j) = fn_end b f u a xs e o l n (type_opens b (t.fn_ptr f u a xs e o) l n h) in return_shut o k n j i
   type_shut b (t.impl_trait bs e) l n h i = bounds_shut b bs e (all_bounds bs) (drop 1 l) n (impl_bounds b bs e l n (type_opens b (t.impl_trait bs e) l n h)) i
   type_shut b (t.trait_object bs e) l n h i = bounds_shut b bs e (all_bounds bs) (drop 1 l) n (object_bounds b bs e l n (type_opens b (t.trait_object bs e) l n h)) i
+  type_shut b _ l n h i = refl
 
   return_shut : (o : ReturnTree) (l n : List Tok) → (output type false).behind o l ≡ Some n → lt.at n ≡ true → return_open o ≡ false
   return_shut t.default l n h i = refl
@@ -319,6 +311,6 @@ mutual
   bound_shut (t.outlives w) l n h i = refl
   bound_shut (t.a_trait q f d ss e) l n h i = let (k, j) = trait_path q f d ss e l n h in sym (segments_last ss) ∙ path_shut d e (t.segments ss) (all_segments ss) k n j i
 
--- a type that could go on with a `<` stands before none
+-- a type that could go on with a `<` comes before none
 pub open_types : TypesClose
 open_types x l n h i = type_shut false x l n h i

@@ -1,4 +1,4 @@
--- What stands first, and trailers behind it: what is read stands.
+-- What comes first, and trailers after it: what is read stands.
 use Rattle.std.specs.Prelude.{not, ◌&&◌, if◌then◌else◌, is_some}
 use Rattle.std.proofs.Common.{◌≡◌, Bool, true, false, cond, ⊎_elim, List, [], ◌∷◌, ◌++◌, drop, Option, Some, None, refl, ap, sym, ◌∙◌, subst}
 use Rattle.syn_lexer.specs.declared.lexeme.Delimiter.TheVariants as del
@@ -99,9 +99,7 @@ skip false o r y f h = h
 
 none_two : {A : Type 0} (b c d : Bool) (y : A) → (if b then (if c then (if d then None else None) else None) else None) ≡ Some y → ⊥
 none_two true true true y h = absurd cc
-none_two true true false y h = absurd cc
-none_two true false d y h = absurd cc
-none_two false c d y h = absurd cc
+none_two _ _ _ y h = absurd cc
 
 closure_of : (l m : List Tok) (h : ClosureHead) → prefix_form.behind (tr.closure h) l ≡ Some m → closure_head.behind h l ≡ Some m
 unfolding prefix_form
@@ -217,7 +215,7 @@ module _ (H : Heads) (rec : Place → Reading Tree) (sound : (p : Place) (l : Li
           (λ c. standing_sound q None n (unbraced p.condition l q.0 q.1 i (rw e c.0)) j c.1)
           (chosen (brace_at n && not p.condition) (structure_read rec p q.0 n) (standing p (to_named (q.0, None)) n) (Some r) k)
 
-  -- ---- what stands before an operand
+  -- ---- what comes before an operand
 
   unled_sound : (p : Place) (l m : List Tok) (k : Prefix) (o : Option ClosureHead) (q : Tree × List Tok) → prefix_form.behind k l ≡ Some m → from_closure k ≡ o → unled rec p l o m ≡ Some q → Node p l q.0 q.1
   unled_sound p l m k None q a b h = leaf_read_sound H p l q h
@@ -256,7 +254,7 @@ module _ (H : Heads) (rec : Place → Reading Tree) (sound : (p : Place) (l : Li
       ⊎_elim (λ j. named_sound p l q a b j.1) (λ j. framed_sound H rec sound p tr.group_expr l l q refl j.1)
       (chosen (is_some ((expr_path (not p.condition)).reads l)) (named_read rec p l) (framed_by rec p tr.group_expr l) (Some q) h)
 
-  -- ---- by what stands first
+  -- ---- by what comes first
 
   become_sound : (p : Place) (l : List Tok) (q : Tree × List Tok) → become_word.at l ≡ true → and_then (rec plain (drop 1 l)) (verbatim_from rec l) ≡ Some q → Node p l q.0 q.1
   become_sound p l q w h =

@@ -14,6 +14,7 @@ use Rattle.syn_grammar.specs.Op.{infix_at, level}
 use Rattle.syn_grammar.specs.Tree as tr
 use Rattle.syn_grammar.specs.Tree.{Tree, Postfix, Trailer, leaf, attributed, infixed, postfixed, tail, postfix_op}
 use Rattle.syn_grammar.specs.Read.{Reading, content, is_taken, taken, atom, trailed_by, indexed_by, dotted_by, trailed, trail, core, attributed_by, read_attributed, verbatim_of, operand, postfix_made, infix_read, longer, closing, turn, climb, at_place, stop, taken_by, taken_at, next_operator, operation}
+use Rattle.syn_grammar.proofs.Callees.{carries_it}
 use Rattle.syn_grammar.proofs.Chains.{some_is, then_some, only_some, chosen}
 use Rattle.syn_grammar.proofs.Needs.{Heads}
 use Rattle.syn_parts.specs.Mark.{pound, round_at}
@@ -59,7 +60,7 @@ attributed_closes : (p : Place) (a : AttributeTree) (more : List AttributeTree) 
 unfolding closes
 attributed_closes p a more x n h = less_closes (carries x) (is_cast x) (goes_behind (rests p x) n) h
 
--- a left operand: nothing is asked of it but what stands behind
+-- a left operand: nothing is asked of it but what comes after
 record Open (p : Place) (l : List Tok) (q : Tree × List Tok) : Type 0 where
   node : Node p l q.0 q.1
   closing : closes p q.0 q.1 ≡ true
@@ -93,13 +94,13 @@ module _ (H : Heads) (rec : Place → Reading Tree) (sound : (p : Place) (l : Li
   trailer_sound p l m h b k is q d a i =
       let (f, g) = only_some (fits_base p k b) (and_then (content rec (trailer_holder k) h) (λ ks n. Some (tail (fields_of b is) k ks, n))) q i in
       let (z, j, c) = then_some (content rec (trailer_holder k) h) (λ ks n. Some (tail (fields_of b is) k ks, n)) q g in
-      moved (tail (fields_of b is) k z.0, z.1) q (some_is c) (is_tail d f a (content_sound H rec sound (trailer_holder k) h z j) refl)
+      moved (tail (fields_of b is) k z.0, z.1) q (some_is c) (is_tail d (carries_it p k b f) a (content_sound H rec sound (trailer_holder k) h z j) refl)
 
   indexed_sound : (p : Place) (l m n : List Tok) (b : Tree) (is : List ℕ) (q : Tree × List Tok) → Node p l b m → fields_head m ≡ Some (is, n) → indexed_by rec p b is n ≡ Some q → Node p l q.0 q.1
   indexed_sound p l m n b [] q d a h = absurd cc
   indexed_sound p l m n b (i ∷ is) q d a h =
       let (f, g) = only_some (fits_base p (tr.field (an_index i)) b) (Some (fields_of b (i ∷ is), n)) q h in
-      moved (fields_of b (i ∷ is), n) q (some_is g) (is_indexed d f a refl)
+      moved (fields_of b (i ∷ is), n) q (some_is g) (is_indexed d (carries_it p (tr.field (an_index i)) b f) a refl)
 
   dotted_sound : (p : Place) (l m : List Tok) (b : Tree) (o : Option (List ℕ × List Tok)) (q : Tree × List Tok) → Node p l b m → dot_at m ≡ true → indices_at (drop 1 m) ≡ o
       → dotted_by rec p b o (drop 1 m) ≡ Some q → Node p l q.0 q.1
@@ -186,15 +187,13 @@ module _ (H : Heads) (rec : Place → Reading Tree) (sound : (p : Place) (l : Li
 
   longer_sound : (p : Place) (l m : List Tok) (x : Tree) (op : Infix) (count : ℕ) (q : Tree × List Tok) → Left p l m x op count → longer rec p x op (drop count m) ≡ Some q → Node p l q.0 q.1
   unfolding longer
-  longer_sound p l m x (inf.Binary op) count q d h = infix_sound p l m x (inf.Binary op) count q d h
-  longer_sound p l m x inf.Assign count q d h = infix_sound p l m x inf.Assign count q d h
-  longer_sound p l m x (inf.Range limits.Closed) count q d h = infix_sound p l m x (inf.Range limits.Closed) count q d h
   longer_sound p l m x (inf.Range limits.HalfOpen) count q d h =
       ⊎_elim (λ j. postfix_sound p l m (drop count m) x (tr.range_from limits.HalfOpen) count q d refl j.1) (λ j. infix_sound p l m x (inf.Range limits.HalfOpen) count q d j.1)
       (chosen (ends_open_range p.condition (drop count m)) _ _ (Some q) h)
   longer_sound p l m x inf.Cast count q d h =
       let (ty, i, f) = then_some ((type false).reads (drop count m)) (λ ty. postfix_made rec p x (tr.cast ty)) q h in
       postfix_sound p l m ty.1 x (tr.cast ty.0) count q d (H.types.sound (drop count m) ty.0 ty.1 i) f
+  longer_sound p l m x v count q d h = infix_sound p l m x v count q d h
 
   climb_sound : (n : ℕ) (p : Place) (l m : List Tok) (x : Tree) (q : Tree × List Tok) → Node p l x m → closes p x m ≡ true → climb rec p n x m ≡ Some q → Stands p l q.0 q.1
   unfolding climb

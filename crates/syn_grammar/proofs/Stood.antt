@@ -1,4 +1,4 @@
--- The tests of a node hold for its own tokens, from the class of what is behind.
+-- The tests of a node hold for its own tokens, from the class of what is after.
 use Rattle.std.proofs.Common.{◌≡◌, Bool, true, false, not, ◌&&◌, ◌||◌, List, [], ◌∷◌, drop, Some, None, refl, sym, ◌∙◌, ap, codes}
 use Rattle.std.proofs.Math.Bool.{and-false}
 use Rattle.syn_tokens.specs.Tok.{Tok}
@@ -37,9 +37,9 @@ use Rattle.syn_grammar.proofs.Shows.{Shows, is_round_next}
 use Rattle.syn_grammar.proofs.OwnFronts.{Front, begins_brace}
 use Rattle.syn_grammar.proofs.Places.{Meets, Calls, count_of}
 
--- ---- a brace behind
+-- ---- a brace after
 
--- behind what stands in a condition a brace opens a block
+-- after what is in a condition a brace opens a block
 block_mode : (p : Place) (c : Context) → Meets p c → is_block_next c.next ≡ true → p.condition ≡ true
 block_mode p c m b = m.mode ∙ go (is_block_next c.next) c.condition b m.block
   where
@@ -60,11 +60,8 @@ bare_path false false false f h = refl
 -- ---- the end of a range without an end
 
 monotone : (a b c d w : Bool) → a || (b || (c || (d || false))) ≡ true → a || (b || (c || (d || w))) ≡ true
-monotone true b c d w h = refl
-monotone false true c d w h = refl
-monotone false false true d w h = refl
-monotone false false false true w h = refl
 monotone false false false false w h = absurd cc
+monotone _ _ _ _ w h = refl
 
 last_true : (a b c d w : Bool) → w ≡ true → a || (b || (c || (d || w))) ≡ true
 last_true a b c d w h = rw (h, or_true d, or_true c, or_true b) (or_true a)
@@ -85,7 +82,7 @@ ends_block w l h = last_true (is_empty l) (stop_signs l) (dot_at l) (word_at (co
 not_last : (a b c d w : Bool) → a || (b || (c || (d || false))) ≡ false → w ≡ false → a || (b || (c || (d || w))) ≡ false
 not_last a b c d w h e = rw e h
 
--- no end of a range stands where an expression begins, but for a brace in a condition
+-- no end of a range is where an expression begins, but for a brace in a condition
 ends_not : (w : Bool) (l : List Tok) → ends_open_range false l ≡ false → w && brace_at l ≡ false → ends_open_range w l ≡ false
 unfolding ends_open_range stop_signs
 ends_not w l h b = not_last (is_empty l) (stop_signs l) (dot_at l) (word_at (codes "as") l) (w && brace_at l) h b
@@ -129,17 +126,7 @@ leaf_there p c (e.path q w) l f m s h =
 leaf_there p c (e.full_range limits.HalfOpen) l f m s h = open_ends p c l m s (not_true _ h)
 leaf_there p c (e.full_range limits.Closed) l f m s h = absurd cc
 leaf_there p c (e.bare_jump j) l f m s h = jump_ends p c j l m s h
-leaf_there p c (e.lit x) l f m s h = refl
-leaf_there p c (e.mac x) l f m s h = refl
-leaf_there p c e.infer l f m s h = refl
-leaf_there p c (e.continuing w) l f m s h = refl
-leaf_there p c (e.block w b) l f m s h = refl
-leaf_there p c (e.loop_expr w b) l f m s h = refl
-leaf_there p c (e.unsafe_block b) l f m s h = refl
-leaf_there p c (e.const_block b) l f m s h = refl
-leaf_there p c (e.async_block b ts) l f m s h = refl
-leaf_there p c (e.try_block ts) l f m s h = refl
-leaf_there p c (e.verbatim ts) l f m s h = refl
+leaf_there p c _ l f m s h = refl
 
 nothing_first : (w : _) (l : List Tok) → lifetime_at l ≡ false → label_stops w l ≡ true
 nothing_first None l h = rw h refl
@@ -148,20 +135,9 @@ nothing_first (Some w) l h = refl
 pub leaf_stopped : (n : Next) (k : Leaf) (l : List Tok) → Shows n l → leaf_stops k l ≡ true
 leaf_stopped n (e.path q w) l s = rw (ap (λ x. x.colon2) s.same, ap (λ x. x.bang) s.same, ap (λ x. x.pound) s.same, and-false (is_bare (q, w)), and-false (is_word_alone (codes "builtin") q w)) refl
 leaf_stopped n (e.bare_jump e.returning) l s = refl
-leaf_stopped n (e.bare_jump e.yielding) l s = refl
 leaf_stopped n (e.bare_jump (e.breaking w)) l s = nothing_first w l (ap (λ x. x.lifetime) s.same)
 leaf_stopped n (e.continuing w) l s = nothing_first w l (ap (λ x. x.lifetime) s.same)
-leaf_stopped n (e.full_range op) l s = refl
-leaf_stopped n (e.lit x) l s = refl
-leaf_stopped n (e.mac x) l s = refl
-leaf_stopped n e.infer l s = refl
-leaf_stopped n (e.block w b) l s = refl
-leaf_stopped n (e.loop_expr w b) l s = refl
-leaf_stopped n (e.unsafe_block b) l s = refl
-leaf_stopped n (e.const_block b) l s = refl
-leaf_stopped n (e.async_block b ts) l s = refl
-leaf_stopped n (e.try_block ts) l s = refl
-leaf_stopped n (e.verbatim ts) l s = refl
+leaf_stopped n _ l s = refl
 
 -- ---- no brace first
 
@@ -181,26 +157,10 @@ braceless_base k x h = absurd cc
 pub no_brace : (v : Level) (c : Context) (t : Tree) → is_braceless c.edge ≡ true → Obeys v c t → begins_brace t ≡ false
 no_brace v c (leaf (e.block None b)) i h = absurd (let f : true ≡ false = sym i ∙ (or_false (is_below c.edge) (is_braceless c.edge) h).1 in cc)
 no_brace v c (leaf (e.block (Some w) b)) i h = refl
-no_brace v c (leaf (e.lit x)) i h = refl
-no_brace v c (leaf (e.path q w)) i h = refl
-no_brace v c (leaf (e.mac x)) i h = refl
-no_brace v c (leaf e.infer) i h = refl
-no_brace v c (leaf (e.full_range op)) i h = refl
-no_brace v c (leaf (e.bare_jump j)) i h = refl
-no_brace v c (leaf (e.continuing w)) i h = refl
-no_brace v c (leaf (e.loop_expr w b)) i h = refl
-no_brace v c (leaf (e.unsafe_block b)) i h = refl
-no_brace v c (leaf (e.const_block b)) i h = refl
-no_brace v c (leaf (e.async_block b ts)) i h = refl
-no_brace v c (leaf (e.try_block ts)) i h = refl
-no_brace v c (leaf (e.verbatim ts)) i h = refl
-no_brace v c (paren m t) i h = refl
-no_brace v c (attributed a more t) i h = refl
-no_brace v c (prefixed k gs t) i h = refl
 no_brace v c (infixed x k y) i h = no_brace v (left_context k c) x (braceless_left c.edge i) h.1
 no_brace v c (postfixed x k) i h = no_brace v (left_context (postfix_op k) c) x (braceless_left c.edge i) h.1
 no_brace v c (tail b k ks) i h = no_brace v (base_context k c) b (braceless_base k c.edge i) h.1
-no_brace v c (frame k ks) i h = refl
+no_brace v c _ i h = refl
 
 braced_so : (b : Bool) → b ≡ true → is_braceless (braceless b) ≡ true
 braced_so true h = refl
@@ -224,12 +184,8 @@ pub prefix_there : (p : Place) (c : Context) (k : Prefix) (t : Tree) (l : List T
     → Obeys (prefix_level k) (prefix_context k c) t → Front (begins_brace t) b d l → prefix_stands p k l ≡ true
 unfolding prefix_stands
 prefix_there p c (e.unary op) t l b d f m h r = refl
-prefix_there p c (e.reference x) t l b d f m h r = refl
-prefix_there p c (e.raw_addr x) t l b d f m h r = refl
 prefix_there p c (e.range_to limits.HalfOpen) t l b d f m h r =
     rw (ends_not p.condition l r.stops (free_of_brace p c (prefix_context (e.range_to limits.HalfOpen) c) _ true b t l m refl h r.brace refl)) refl
-prefix_there p c (e.range_to limits.Closed) t l b d f m h r = refl
-prefix_there p c (e.let_expr x) t l b d f m h r = refl
 prefix_there p c (e.jump e.returning) t l b d f m h r = rw r.begins refl
 prefix_there p c (e.jump e.yielding) t l b d f m h r = rw r.begins refl
 prefix_there p c (e.jump (e.breaking None)) t l b d f m h r =
@@ -238,6 +194,7 @@ prefix_there p c (e.jump (e.breaking (Some w))) t l b d f m h r =
     let i = free_of_brace p c (prefix_context (e.jump (e.breaking (Some w))) c) _ true b t l m refl h r.brace refl in
     rw (i, r.begins) refl
 prefix_there p c (e.closure x) t l b d f m h r = (both_true _ (is_default x.output) f).1
+prefix_there p c _ t l b d f m h r = refl
 
 output_stopped : (o : ReturnTree) (l : List Tok) → is_default o ≡ true → sign_at (codes "->") l ≡ false → output_stops true o l ≡ true
 output_stopped t.default l h e = rw e refl
@@ -245,28 +202,20 @@ output_stopped (t.given x) l h e = absurd cc
 
 pub prefix_stopped : (k : Prefix) (l : List Tok) (a b d : Bool) → prefix_fits k ≡ true → Front a b d l → is_bare_break k && b ≡ false → prefix_stops k l ≡ true
 prefix_stopped (e.unary op) l a b d f r h = refl
-prefix_stopped (e.reference true) l a b d f r h = refl
 prefix_stopped (e.reference false) l a b d f r h = rw (r.no_mut, r.no_raw) refl
-prefix_stopped (e.raw_addr x) l a b d f r h = refl
-prefix_stopped (e.range_to op) l a b d f r h = refl
-prefix_stopped (e.let_expr x) l a b d f r h = refl
-prefix_stopped (e.jump e.returning) l a b d f r h = refl
-prefix_stopped (e.jump e.yielding) l a b d f r h = refl
 prefix_stopped (e.jump (e.breaking None)) l a b d f r h = rw (r.label, h) refl
-prefix_stopped (e.jump (e.breaking (Some w))) l a b d f r h = refl
 prefix_stopped (e.closure x) l a b d f r h = output_stopped x.output l (both_true _ (is_default x.output) f).1 r.no_arrow
+prefix_stopped _ l a b d f r h = refl
 
--- ---- behind an operand
+-- ---- after an operand
 
 pub infix_there : (p : Place) (c : Context) (k : Infix) (t : Tree) (l : List Tok) (b d : Bool) → infix_fits k ≡ true → Meets p c
     → Obeys (level k) (right_context k c) t → Front (begins_brace t) b d l → infix_stands p k l ≡ true
 unfolding infix_stands
-infix_there p c (inf.Binary op) t l b d f m h r = refl
-infix_there p c inf.Assign t l b d f m h r = refl
 infix_there p c (inf.Range limits.HalfOpen) t l b d f m h r =
     rw (ends_not p.condition l r.stops (free_of_brace p c (right_context (inf.Range limits.HalfOpen) c) _ true b t l m refl h r.brace refl)) refl
-infix_there p c (inf.Range limits.Closed) t l b d f m h r = refl
 infix_there p c inf.Cast t l b d f m h r = absurd cc
+infix_there p c _ t l b d f m h r = refl
 
 pub postfix_there : (p : Place) (c : Context) (k : Postfix) (l : List Tok) → postfix_fits k ≡ true → Meets p c → Shows c.next l → postfix_refuses k c.next ≡ false → postfix_stands p k l ≡ true
 unfolding postfix_stands

@@ -16,7 +16,7 @@ use Rattle.syn_grammar.specs.Tree as e
 use Rattle.syn_grammar.specs.Tree.{Tree, Children, Piece, Ending, Frame, tail, none, child, fill, is_none, is_one, is_block_like, needs_last_comma}
 use Rattle.syn_grammar.specs.Slot as s
 use Rattle.syn_grammar.specs.Slot.{Slot, Holder, after, piece_form, ending_at, comma_or_end, behind_arm}
-use Rattle.syn_grammar.specs.Stands.{Node, is_leaf, is_become, is_attributed_verbatim, is_paren, is_attributed_by, is_prefixed, is_infixed, is_postfixed, is_tail, is_indexed, is_frame, Content, holds_none, holds_within, holds_bare, Operands, no_more, one_more, short, block, arms_inside, fields_of, short_value, takes_block, ends_list, frame_stands, has_no_comma}
+use Rattle.syn_grammar.specs.Stands.{Node, is_paren, is_attributed_by, is_prefixed, is_infixed, is_postfixed, is_tail, is_indexed, is_frame, Content, holds_none, holds_within, holds_bare, Operands, no_more, one_more, short, block, arms_inside, fields_of, short_value, takes_block, ends_list, frame_stands, has_no_comma}
 use Rattle.syn_grammar.specs.Rule.{place_asks, put, bare}
 use Rattle.syn_grammar.specs.Printed.{OwnSpelling, in_plain, parenthesize_attributed}
 use Rattle.syn_grammar.proofs.Bools.{both}
@@ -28,7 +28,7 @@ use Rattle.syn_grammar.proofs.SoundAtoms.{no_some}
 use Rattle.syn_grammar.proofs.NoneRedundant.{pairs_there}
 use Rattle.syn_grammar.proofs.Parenthesized.{plain_stays}
 
--- ---- nothing stands where nothing is left
+-- ---- nothing is where nothing is left
 
 nil_tail : (l m : List Tok) → is_empty l ≡ true → IsTail m l → is_empty m ≡ true
 nil_tail [] [] h t = refl
@@ -60,20 +60,7 @@ is_scrutinees _ = false
 
 after_other : (k : Piece) → is_scrutinees (after k) ≡ false
 after_other e.element = refl
-after_other e.value = refl
-after_other e.repeated = refl
-after_other (e.field_value ats m c) = refl
-after_other (e.rest d) = refl
-after_other e.condition = refl
-after_other e.loop_head = refl
-after_other e.scrutinee = refl
-after_other e.chained = refl
-after_other (e.guard ats p) = refl
-after_other e.guarded = refl
-after_other (e.arm ats p) = refl
-after_other e.output_block = refl
-after_other e.grouped = refl
-after_other e.stray = refl
+after_other _ = refl
 
 last_none : (last : Bool) (n o : List Tok) → is_empty n ≡ true → IsTail o n → (last ≡ true → is_empty o ≡ false) → last ≡ false
 last_none true n o h t f = let a = nil_tail n o h t in let b = f refl in absurd cc
@@ -132,8 +119,6 @@ dots_ok v _ l m h = refl
 
 short_filled : (k : Piece) (x : Tree) → short_value k ≡ Some x → filled x ≡ true
 short_filled (e.field_value ats (a_name w) false) x h = subst (λ z. filled z ≡ true) (some_is h) refl
-short_filled (e.field_value ats (a_name w) true) x h = absurd cc
-short_filled (e.field_value ats (an_index n) b) x h = absurd cc
 short_filled _ x h = absurd cc
 
 block_comma : (k : Piece) (t : Tree) (more last : Bool) → takes_block k ≡ true → comma_there k e.no_ending t more last ≡ true
@@ -152,12 +137,9 @@ ends_dots true (x ∷ o) h g = refl
 ends_dots false o h g = absurd cc
 
 tuple_filled : (ks : Children) → children_filled false ks ≡ true → not (is_one ks && has_no_comma ks) ≡ true → children_filled (is_one ks) ks ≡ true
-tuple_filled none h g = h
 tuple_filled (child k c x (child i d y ks)) h g = h
 tuple_filled (child k e.no_ending x none) h g = absurd cc
-tuple_filled (child k e.comma x none) h g = h
-tuple_filled (child k (e.braced b) x none) h g = h
-tuple_filled (child k (e.opened ats) x none) h g = h
+tuple_filled _ h g = h
 
 abbrev dotted : Holder → Bool
 dotted (s.within d v b) = b
@@ -185,9 +167,6 @@ by_frame p _ ks g f = f false never refl
 
 mutual
   node_filled : {p : Place} {l n : List Tok} {x : Tree} → Node p l x n → filled x ≡ true
-  node_filled (is_leaf h g) = refl
-  node_filled (is_become w d a c i) = refl
-  node_filled (is_attributed_verbatim a more fs b d i j) = refl
   node_filled (is_paren d a c) = node_filled d
   node_filled (is_attributed_by b f d) = node_filled d
   node_filled (is_prefixed h g d a c) = node_filled d
@@ -197,6 +176,7 @@ mutual
       both _ _ (subst (λ z. filled z ≡ true) (sym i) (fields_filled b is (node_filled d))) (content_filled c false never (and-false (holds_scrutinee (s.trailer_holder k))))
   node_filled (is_indexed {b = b} {i = i} {is = is} d f t j) = subst (λ z. filled z ≡ true) (sym j) (fields_filled b (i ∷ is) (node_filled d))
   node_filled (is_frame {p = p} {k = k} {ks = ks} a c g e) = by_frame p k ks g (content_filled c)
+  node_filled _ = refl
 
   content_filled : {v : Holder} {l n : List Tok} {ks : Children} → Content v l ks n → (last : Bool) → (last ≡ true → dotted v ≡ true) → (holds_scrutinee v && last) ≡ false → children_filled last ks ≡ true
   content_filled holds_none last f w = refl

@@ -50,55 +50,11 @@ bit_is false = refl
 -- its place in the order of the classes
 in_order : (n : Next) → get_or classes (index n) next.End ≡ n
 in_order next.End = refl
-in_order next.Assign = refl
-in_order next.ShiftLeftAssign = refl
-in_order next.Range = refl
-in_order next.OrOr = refl
-in_order next.AndAnd = refl
-in_order next.Compare = refl
-in_order next.Less = refl
-in_order next.Or = refl
-in_order next.Caret = refl
-in_order next.And = refl
-in_order next.ShiftLeft = refl
-in_order next.ShiftRight = refl
-in_order next.Plus = refl
-in_order next.Minus = refl
-in_order next.Star = refl
-in_order next.Divide = refl
-in_order next.As = refl
-in_order next.Dot = refl
-in_order next.Question = refl
-in_order next.Parenthesis = refl
-in_order next.Bracket = refl
-in_order next.Block = refl
-in_order next.Brace = refl
+in_order _ = refl
 
 in_all : (n : Next) → index n < length classes
 in_all next.End = search arith
-in_all next.Assign = search arith
-in_all next.ShiftLeftAssign = search arith
-in_all next.Range = search arith
-in_all next.OrOr = search arith
-in_all next.AndAnd = search arith
-in_all next.Compare = search arith
-in_all next.Less = search arith
-in_all next.Or = search arith
-in_all next.Caret = search arith
-in_all next.And = search arith
-in_all next.ShiftLeft = search arith
-in_all next.ShiftRight = search arith
-in_all next.Plus = search arith
-in_all next.Minus = search arith
-in_all next.Star = search arith
-in_all next.Divide = search arith
-in_all next.As = search arith
-in_all next.Dot = search arith
-in_all next.Question = search arith
-in_all next.Parenthesis = search arith
-in_all next.Bracket = search arith
-in_all next.Block = search arith
-in_all next.Brace = search arith
+in_all _ = search arith
 
 pub set_has : (f : Next → Bool) (n : Next) → has (set_of f) n ≡ f n
 unfolding has set_of
@@ -171,8 +127,6 @@ below_attributed _ = refl
 
 brace_attributed : (x : Edge) → is_below x ≡ is_below (attributed_edge x) || is_braceless (attributed_edge x)
 brace_attributed edge.NoBrace = refl
-brace_attributed edge.BelowArm = refl
-brace_attributed edge.BelowStatement = refl
 brace_attributed _ = refl
 
 statement_attributed : (x : Edge) → is_statement x ≡ is_statement (attributed_edge x)
@@ -191,7 +145,7 @@ attributed_sorted sort.Let c = statement_attributed c.edge
 attributed_sorted sort.Struct c = refl
 attributed_sorted sort.Other c = refl
 
--- behind attributes, where an operation is in parentheses
+-- after attributes, where an operation is in parentheses
 attributed_ends : (o : Bool) (s : ℕ) (n : Next) (a b : Bool) → has s n ≡ a || b → has (if o then 0 else s) n ≡ (not o && a) || (not o && b)
 attributed_ends true s n a b h = none_has n
 attributed_ends false s n a b h = h
@@ -317,58 +271,23 @@ named_same b _ ks = refl
 
 pub summarized : (t : Tree) → Summarizes (summary_of t) t
 summarized (leaf k) = leaf_summarized k
-summarized (paren m t) = record {
-  low_is = refl;
-  ends_is = none_has;
-  operation_is = refl;
-  range_is = refl;
-  comparison_is = refl;
-  carries_is = refl;
-  base_is = refl;
-  named_is = refl;
-  labelled_is = refl;
-  misplaced_is = λ c. refl;
-}
+summarized (paren m t) = search none_has
 summarized (attributed a more t) = attributed_summarized a more (summary_of t) t (summarized t)
 summarized (prefixed k gs t) = prefix_summarized k gs (summary_of t) t (summarized t)
 summarized (infixed x k y) = infix_summarized k (summary_of x) (summary_of y) x y (summarized x) (summarized y)
 summarized (postfixed x k) = postfix_summarized k (summary_of x) x (summarized x)
-summarized (tail b k ks) = record {
-  low_is = refl;
-  ends_is = none_has;
-  operation_is = refl;
-  range_is = refl;
-  comparison_is = refl;
-  carries_is = refl;
-  base_is = refl;
-  named_is = named_same b k ks;
-  labelled_is = base_labelled_same k (summary_of b) b (summarized b);
-  misplaced_is = λ c. refl;
-}
-summarized (frame k ks) = record {
-  low_is = refl;
-  ends_is = none_has;
-  operation_is = refl;
-  range_is = refl;
-  comparison_is = refl;
-  carries_is = refl;
-  base_is = refl;
-  named_is = refl;
-  labelled_is = refl;
-  misplaced_is = frame_sorted k;
-}
+summarized (tail b k ks) = search (none_has, named_same b k ks, base_labelled_same k (summary_of b) b (summarized b))
+summarized (frame k ks) = search (none_has, frame_sorted k)
 
 -- ---- fill-ins change no summary
 
 pub summary_fill : (t : Tree) → summary_of (fill t) ≡ summary_of t
-summary_fill (leaf k) = refl
-summary_fill (paren m t) = refl
 summary_fill (attributed a more t) = ap attributed_summary (summary_fill t)
 summary_fill (prefixed k gs t) = ap (prefix_summary k) (summary_fill t)
 summary_fill (infixed x k y) = ap (λ u. infix_summary k u (summary_of (fill y))) (summary_fill x) ∙ ap (infix_summary k (summary_of x)) (summary_fill y)
 summary_fill (postfixed x k) = ap (postfix_summary k) (summary_fill x)
 summary_fill (tail b k ks) = ap (λ x. closed_summary (is_named_trailer k) (not (base_wrapped_by k x) && x.labelled) sort.Other) (summary_fill b)
-summary_fill (frame k ks) = refl
+summary_fill _ = refl
 
 silent_fill : (k : Piece) → is_silent (fill_piece k) ≡ is_silent k
 silent_fill (e.rest d) = refl

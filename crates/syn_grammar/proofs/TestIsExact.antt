@@ -1,8 +1,11 @@
 -- The test of well-formed trees tells just those whose parts are read back.
-use Rattle.std.proofs.Common.{◌≡◌, Bool, true, false, not, ◌||◌, ◌&&◌, ◌⊎◌, inl, inr, List, [], ◌∷◌, Option, Some, None, refl, sym, ◌∙◌, subst}
+use Rattle.std.proofs.Common.{◌≡◌, Bool, true, false, cond, not, ◌||◌, ◌⊎◌, inl, inr, List, [], ◌∷◌, Option, Some, None, refl, sym, ◌∙◌, ap, subst}
 use Rattle.syn_parts.specs.declared.label.PathStyle.TheVariants as style
-use Rattle.syn_parts.specs.Tree.{LifetimesTree}
-use Rattle.syn_parts.specs.Mark.{word_at}
+use Rattle.syn_parts.specs.Tree.{AttributeTree, LifetimesTree}
+use Rattle.syn_tokens.specs.Tok.{Tok}
+use Rattle.syn_tokens.specs.Front.{group_at}
+use Rattle.syn_parts.specs.Form.{Outcome, is_nil}
+use Rattle.syn_parts.specs.Mark.{sign_at, word_at}
 use Rattle.syn_parts.specs.Part.{lifetimes}
 use Rattle.syn_parts.specs.Own.{lifetimes_own}
 use Rattle.syn_parts.specs.Fits.{fits_if, lifetimes_fit}
@@ -11,13 +14,18 @@ use Rattle.syn_parts.specs.PatOwn.{pat_own}
 use Rattle.syn_parts.proofs.Exact.{tests_exact}
 use Rattle.syn_parts.proofs.PatWholeComplete.{pattern_tests_exact}
 use Rattle.syn_grammar.specs.declared.kinds.Limits.TheVariants as limits
+use Rattle.syn_grammar.specs.declared.kinds.Infix.{Infix}
+use Rattle.syn_grammar.specs.declared.kinds.Infix.TheVariants as inf
+use Rattle.syn_grammar.specs.Head.{body}
 use Rattle.syn_grammar.specs.Tree as e
-use Rattle.syn_grammar.specs.Tree.{Tree, Children, Leaf, Prefix, Postfix, Trailer, Frame, Piece, Ending, ClosureHead, leaf, paren, attributed, prefixed, infixed, postfixed, tail, frame, none, child}
+use Rattle.syn_grammar.specs.Tree.{Tree, Children, Leaf, Prefix, Postfix, Trailer, Frame, Piece, Ending, Body, ClosureHead, leaf, paren, attributed, prefixed, infixed, postfixed, tail, frame, none, child, ending_own, is_block_like}
 use Rattle.syn_grammar.specs.Slot as s
-use Rattle.syn_grammar.specs.Slot.{Slot, after, may_end, frame_holder, trailer_holder}
-use Rattle.syn_grammar.specs.WellFormed.{leaf_fits, inputs_fit, head_fits, prefix_fits, postfix_fits, trailer_fits, trailer_slot, frame_slot, frame_fits, piece_fits, may_stop, keeps_block, well, children_well, is_well_formed}
-use Rattle.syn_grammar.specs.IsWellFormed.{SomeReadBack, AllReadBack, LeafReadBack, HeadReadBack, PrefixReadBack, PostfixReadBack, TrailerReadBack, FrameReadBack, PieceReadBack, first_slot, IsWellFormed, AreWellFormed, TestIsExact}
+use Rattle.syn_grammar.specs.Slot.{Slot, after, may_end, piece_form, ending_at, frame_holder, trailer_holder}
+use Rattle.syn_grammar.specs.WellFormed.{leaf_fits, inputs_fit, head_fits, prefix_fits, infix_fits, postfix_fits, trailer_fits, trailer_slot, frame_slot, frame_fits, piece_fits, ending_fits, may_stop, keeps_block, well, children_well, is_well_formed}
+use Rattle.syn_grammar.specs.IsWellFormed.{SomeReadBack, AllReadBack, LeafReadBack, HeadReadBack, PrefixReadBack, PostfixReadBack, TrailerReadBack, FrameReadBack, PieceReadBack, EndingReadBack, first_slot, IsWellFormed, AreWellFormed, TestIsExact}
 use Rattle.syn_grammar.proofs.Bools.{both, both_true, not_it}
+use Rattle.syn_grammar.proofs.Chains.{some_is, then_some}
+use Rattle.syn_grammar.proofs.HeadPlaces.{ending_stops, ending_back}
 
 is_not : (a : Bool) → a ≡ false → not a ≡ true
 is_not a e = rw e refl
@@ -33,43 +41,20 @@ one_of : {A B : Type 0} (a b : Bool) → a || b ≡ true → (a ≡ true → A) 
 one_of true b h f g = inl (f refl)
 one_of false b h f g = inr (g h)
 
--- ---- where operands stand
+-- ---- where operands are
 
 end_is : (x : Slot) → may_end x [] ≡ may_stop x
 unfolding word_at
 end_is s.elements = refl
-end_is s.single = refl
-end_is s.counted = refl
-end_is s.fields = refl
-end_is s.conditions = refl
-end_is s.otherwise = refl
-end_is s.loops = refl
-end_is s.scrutinees = refl
-end_is s.arms = refl
-end_is s.bodies = refl
-end_is s.outputs = refl
-end_is s.groups = refl
-end_is s.done = refl
+end_is _ = refl
 
 trailer_slot_is : (k : Trailer) → first_slot (trailer_holder k) ≡ trailer_slot k
 trailer_slot_is e.call = refl
-trailer_slot_is e.index = refl
-trailer_slot_is (e.method w a) = refl
-trailer_slot_is (e.field m) = refl
-trailer_slot_is e.await = refl
-trailer_slot_is e.try_expr = refl
+trailer_slot_is _ = refl
 
 frame_slot_is : (k : Frame) (ks : Children) → FrameReadBack k ks → first_slot (frame_holder k) ≡ frame_slot k
-frame_slot_is e.array ks h = refl
-frame_slot_is e.tuple ks h = refl
-frame_slot_is e.repeat ks h = refl
-frame_slot_is (e.structure q p d) ks h = refl
-frame_slot_is (e.closure_block c) ks h = refl
-frame_slot_is e.if_expr ks h = refl
-frame_slot_is (e.while_loop w) ks h = refl
-frame_slot_is (e.for_loop w p) ks h = refl
-frame_slot_is e.match_expr ks h = refl
 frame_slot_is e.group_expr ks h = absurd h
+frame_slot_is _ ks h = refl
 
 -- ---- what is read back passes
 
@@ -120,21 +105,108 @@ frame_passes (e.for_loop w p) ks h = (pattern_tests_exact.patterns true p).0 h
 frame_passes e.group_expr ks h = absurd h
 frame_passes _ ks h = refl
 
+infix_passes : (k : Infix) → (k ≡ inf.Cast → ⊥) → infix_fits k ≡ true
+infix_passes inf.Cast h = absurd (h refl)
+infix_passes _ h = refl
+
+no_test : (b : Bool) (n : List Tok) → cond {A = Option (List Tok)} b None None ≡ Some n → ⊥
+no_test true n h = absurd cc
+no_test false n h = absurd cc
+
+no_tests : (b : Bool) (n : List Tok) → cond {A = Option (List Tok)} b (cond b None None) None ≡ Some n → ⊥
+no_tests true n h = absurd cc
+no_tests false n h = absurd cc
+
 piece_passes : (x : Slot) (k : Piece) (c : Ending) (t : Tree) → PieceReadBack x k t → piece_fits x k c t ≡ true
+unfolding piece_form
 piece_passes s.elements e.element c t h = refl
 piece_passes s.single e.value c t h = refl
 piece_passes s.counted e.repeated c t h = refl
 piece_passes s.fields (e.field_value ats m b) c t (f, g, h) = both _ _ f (both _ _ ((pattern_tests_exact.members m).0 g) h)
 piece_passes s.fields (e.rest d) c t h = refl
+piece_passes s.fields k c t h = absurd (no_tests _ [] h)
 piece_passes s.conditions e.condition c t h = refl
 piece_passes s.otherwise e.chained c t h = h
+piece_passes s.otherwise k c t h = absurd (no_test _ [] h)
 piece_passes s.loops e.loop_head c t h = refl
 piece_passes s.scrutinees e.scrutinee c t h = refl
 piece_passes s.arms (e.guard ats p) c t h = both _ _ h.0 ((pattern_tests_exact.patterns true p).0 h.1)
 piece_passes s.arms (e.arm ats p) c t h = both _ _ h.0 ((pattern_tests_exact.patterns true p).0 h.1)
 piece_passes s.bodies e.guarded c t h = refl
+piece_passes s.bodies k c t h = absurd (no_test _ [] h)
 piece_passes s.outputs e.output_block c t h = h
-piece_passes x k c t h = absurd h
+piece_passes s.groups k c t h = absurd h
+piece_passes x k c t h = absurd cc
+
+nil_inner : Ending → Bool
+nil_inner (e.braced b) = is_nil b.inner
+nil_inner c = true
+
+no_none : {y : Ending × List Tok} → None ≡ Some y → ⊥
+no_none h = absurd cc
+
+apart : (b : Body) (ats : List AttributeTree) → e.braced b ≡ e.opened ats → ⊥
+apart b ats h = absurd cc
+
+no_opened : (b : Body) (l : List Tok) (ats : List AttributeTree) → ◌≡◌ {A = Outcome Ending} (Some (e.braced b, l)) (Some (e.opened ats, [])) → ⊥
+no_opened b l ats h = apart b ats (ap (λ (r : Ending × List Tok). r.0) (some_is h))
+
+none_is : (l : List Tok) (c : Ending) → ◌≡◌ {A = Outcome Ending} (Some (e.no_ending, l)) (Some (c, [])) → e.no_ending ≡ c
+none_is l c h = ap (λ (r : Ending × List Tok). r.0) (some_is h)
+
+arm_none : (b : Bool) (l : List Tok) (c : Ending) → cond {A = Outcome Ending} b (Some (e.no_ending, l)) None ≡ Some (c, []) → e.no_ending ≡ c
+arm_none true l c h = none_is l c h
+arm_none false l c h = absurd (no_none h)
+
+no_false : false ≡ true → ⊥
+no_false h = absurd cc
+
+no_grouped : (x : Slot) (c : Ending) (t : Tree) → piece_fits x e.grouped c t ≡ true → ⊥
+no_grouped s.elements c t h = no_false h
+no_grouped _ c t h = no_false h
+
+no_stray : (x : Slot) (c : Ending) (t : Tree) → piece_fits x e.stray c t ≡ true → ⊥
+no_stray s.elements c t h = no_false h
+no_stray _ c t h = no_false h
+
+-- an ending that is none
+plain_passes : (k : Piece) (c : Ending) → ending_fits k e.no_ending ≡ true → e.no_ending ≡ c → ending_fits k c ≡ true
+plain_passes k c f g = subst (λ z. ending_fits k z ≡ true) g f
+
+ending_passes : (x : Slot) (k : Piece) (c : Ending) (t : Tree) → piece_fits x k c t ≡ true → EndingReadBack k t c → ending_fits k c ≡ true
+unfolding ending_at sign_at group_at body nil_inner
+ending_passes x e.element e.no_ending t f h = refl
+ending_passes x e.element e.comma t f h = refl
+ending_passes x e.element c t f h = absurd (no_none h)
+ending_passes x (e.field_value ats m b) e.no_ending t f h = refl
+ending_passes x (e.field_value ats m b) e.comma t f h = refl
+ending_passes x (e.field_value ats m b) c t f h = absurd (no_none h)
+ending_passes x e.guarded e.no_ending t f h = refl
+ending_passes x e.guarded e.comma t f h = refl
+ending_passes x e.guarded c t f h = plain_passes e.guarded c refl (arm_none (is_block_like t) _ c h)
+ending_passes x (e.arm ats p) e.no_ending t f h = refl
+ending_passes x (e.arm ats p) e.comma t f h = refl
+ending_passes x (e.arm ats p) c t f h = plain_passes (e.arm ats p) c refl (arm_none (is_block_like t) _ c h)
+ending_passes x e.condition (e.braced b) t f h = sym (ap (λ (r : Ending × List Tok). nil_inner r.0) (some_is h))
+ending_passes x e.condition (e.opened ats) t f h = absurd (no_opened _ _ ats h)
+ending_passes x e.condition c t f h = absurd (no_none h)
+ending_passes x e.loop_head (e.braced b) t f h = h
+ending_passes x e.loop_head (e.opened ats) t f h =
+    let (p, a, b) = then_some (body.reads (ending_own e.loop_head (e.opened ats) [] [])) (λ b n. Some (e.braced b, n)) (e.opened ats, []) h in
+    absurd (no_opened p.0 p.1 ats b)
+ending_passes x e.loop_head c t f h = absurd (no_none h)
+ending_passes x e.scrutinee (e.opened ats) t f h = h
+ending_passes x e.scrutinee c t f h = absurd (no_none h)
+ending_passes x e.repeated e.no_ending t f h = refl
+ending_passes x e.repeated c t f h = absurd (no_none h)
+ending_passes x (e.rest d) e.no_ending t f h = refl
+ending_passes x (e.rest d) c t f h = absurd (no_none h)
+ending_passes x e.value c t f h = plain_passes e.value c refl (none_is _ c h)
+ending_passes x e.chained c t f h = plain_passes e.chained c refl (none_is _ c h)
+ending_passes x (e.guard ats p) c t f h = plain_passes (e.guard ats p) c refl (none_is _ c h)
+ending_passes x e.output_block c t f h = plain_passes e.output_block c refl (none_is _ c h)
+ending_passes x e.grouped c t f h = absurd (no_grouped x c t f)
+ending_passes x e.stray c t f h = absurd (no_stray x c t f)
 
 mutual
   passes : (t : Tree) → IsWellFormed t → well t ≡ true
@@ -142,7 +214,7 @@ mutual
   passes (paren m t) h = passes t h
   passes (attributed a more t) (f, g, h) = both _ _ f (both _ _ (is_not _ g) (passes t h))
   passes (prefixed k gs t) (f, g, h) = both _ _ (prefix_passes k f) (both _ _ g (passes t h))
-  passes (infixed x k y) (f, g, h) = both _ _ f (both _ _ (passes x g) (passes y h))
+  passes (infixed x k y) (f, g, h) = both _ _ (infix_passes k f) (both _ _ (passes x g) (passes y h))
   passes (postfixed x k) (f, g) = both _ _ (postfix_passes k f) (passes x g)
   passes (tail b k ks) (f, g, h) = both _ _ (trailer_passes k f) (both _ _ (passes b g) (children_pass ks (trailer_slot k) (subst (λ x. AreWellFormed x ks) (trailer_slot_is k) h)))
   passes (frame k ks) (f, g) = both _ _ (frame_passes k ks f) (children_pass ks (frame_slot k) (subst (λ x. AreWellFormed x ks) (frame_slot_is k ks f) g))
@@ -151,7 +223,8 @@ mutual
   children_pass none x h = sym (end_is x) ∙ h
   children_pass (child k c t ks) x (f, g, h, i) =
       let w : keeps_block k t || well t ≡ true = elim h [ inl z ↦ or_left _ _ z | inr z ↦ or_right _ _ (passes t z) ] in
-      both _ _ (both _ _ (piece_passes x k c t f) g) (both _ _ w (children_pass ks (after k) i))
+      let y = piece_passes x k c t f in
+      both _ _ (both _ _ y (ending_passes x k c t y g)) (both _ _ w (children_pass ks (after k) i))
 
 -- ---- what passes is read back
 
@@ -209,24 +282,44 @@ frame_complete (e.for_loop w p) ks h = (pattern_tests_exact.patterns true p).1 h
 frame_complete e.group_expr ks h = absurd cc
 frame_complete _ ks h = tt
 
+infix_complete : (k : Infix) → infix_fits k ≡ true → k ≡ inf.Cast → ⊥
+infix_complete inf.Cast h q = absurd cc
+infix_complete _ h q = absurd cc
+
 piece_complete : (x : Slot) (k : Piece) (c : Ending) (t : Tree) → piece_fits x k c t ≡ true → PieceReadBack x k t
-piece_complete s.elements e.element c t h = tt
-piece_complete s.single e.value c t h = tt
-piece_complete s.counted e.repeated c t h = tt
+unfolding piece_form sign_at
+piece_complete s.elements e.element c t h = refl
+piece_complete s.single e.value c t h = refl
+piece_complete s.counted e.repeated c t h = refl
 piece_complete s.fields (e.field_value ats m b) c t h =
     let (f, g) = both_true _ _ h in
     let (i, j) = both_true _ _ g in
     (f, (pattern_tests_exact.members m).1 i, j)
 piece_complete s.fields (e.rest d) c t h = tt
-piece_complete s.conditions e.condition c t h = tt
+piece_complete s.conditions e.condition c t h = refl
 piece_complete s.otherwise e.chained c t h = h
-piece_complete s.loops e.loop_head c t h = tt
-piece_complete s.scrutinees e.scrutinee c t h = tt
+piece_complete s.loops e.loop_head c t h = refl
+piece_complete s.scrutinees e.scrutinee c t h = refl
 piece_complete s.arms (e.guard ats p) c t h = let (i, j) = both_true _ _ h in (i, (pattern_tests_exact.patterns true p).1 j)
 piece_complete s.arms (e.arm ats p) c t h = let (i, j) = both_true _ _ h in (i, (pattern_tests_exact.patterns true p).1 j)
-piece_complete s.bodies e.guarded c t h = tt
+piece_complete s.bodies e.guarded c t h = refl
 piece_complete s.outputs e.output_block c t h = h
 piece_complete x k c t h = absurd cc
+
+stops_before_none : (k : Piece) (c : Ending) (t : Tree) → ending_stops k t c [] ≡ true
+unfolding sign_at
+stops_before_none e.element e.no_ending t = refl
+stops_before_none (e.field_value ats m b) e.no_ending t = refl
+stops_before_none (e.rest d) e.no_ending t = refl
+stops_before_none e.guarded e.no_ending t = refl
+stops_before_none (e.arm ats p) e.no_ending t = refl
+stops_before_none k c t = refl
+
+ending_complete : (k : Piece) (c : Ending) (t : Tree) → ending_fits k c ≡ true → EndingReadBack k t c
+ending_complete e.scrutinee (e.opened ats) t h = h
+ending_complete e.scrutinee c t h = absurd cc
+ending_complete e.loop_head (e.braced b) t h = h
+ending_complete k c t h = ending_back k c t [] [] h refl (stops_before_none k c t)
 
 mutual
   complete : (t : Tree) → well t ≡ true → IsWellFormed t
@@ -243,7 +336,7 @@ mutual
   complete (infixed x k y) h =
       let (f, g) = both_true _ _ h in
       let (i, j) = both_true _ _ g in
-      (f, complete x i, complete y j)
+      (infix_complete k f, complete x i, complete y j)
   complete (postfixed x k) h = let (f, g) = both_true _ _ h in (postfix_complete k f, complete x g)
   complete (tail b k ks) h =
       let (f, g) = both_true _ _ h in
@@ -260,7 +353,7 @@ mutual
       let (f, g) = both_true _ _ h in
       let (i, j) = both_true _ _ f in
       let (l, m) = both_true _ _ g in
-      (piece_complete x k c t i, j, one_of (keeps_block k t) (well t) l (λ z. z) (λ z. complete t z), children_complete ks (after k) m)
+      (piece_complete x k c t i, ending_complete k c t j, one_of (keeps_block k t) (well t) l (λ z. z) (λ z. complete t z), children_complete ks (after k) m)
 
 pub test_is_exact : TestIsExact
 unfolding is_well_formed

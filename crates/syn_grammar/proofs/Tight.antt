@@ -27,20 +27,14 @@ is_calm edge.NoBrace = true
 is_calm _ = false
 
 calm_above : (x : Edge) → is_calm x ≡ true → is_below x ≡ false
-calm_above edge.Free h = refl
-calm_above edge.NoBrace h = refl
-calm_above edge.Arm h = refl
 calm_above edge.BelowArm h = absurd cc
-calm_above edge.Statement h = refl
 calm_above edge.BelowStatement h = absurd cc
+calm_above _ h = refl
 
 calm_left : (x : Edge) → is_calm x ≡ true → is_calm (left_edge x) ≡ true
 calm_left edge.Free h = refl
 calm_left edge.NoBrace h = refl
-calm_left edge.Arm h = absurd cc
-calm_left edge.BelowArm h = absurd cc
-calm_left edge.Statement h = absurd cc
-calm_left edge.BelowStatement h = absurd cc
+calm_left _ h = absurd cc
 
 calm_base : (k : Trailer) (x : Edge) → is_calm x ≡ true → is_calm (base_edge k x) ≡ true
 calm_base e.call x h = calm_left x h
@@ -48,27 +42,13 @@ calm_base e.index x h = calm_left x h
 calm_base (e.method w a) edge.Free h = refl
 calm_base (e.method w a) edge.NoBrace h = refl
 calm_base (e.method w a) edge.Arm h = absurd cc
-calm_base (e.method w a) edge.BelowArm h = absurd cc
-calm_base (e.method w a) edge.Statement h = absurd cc
-calm_base (e.method w a) edge.BelowStatement h = absurd cc
 calm_base (e.field m) edge.Free h = refl
 calm_base (e.field m) edge.NoBrace h = refl
-calm_base (e.field m) edge.Arm h = absurd cc
-calm_base (e.field m) edge.BelowArm h = absurd cc
-calm_base (e.field m) edge.Statement h = absurd cc
-calm_base (e.field m) edge.BelowStatement h = absurd cc
 calm_base e.await edge.Free h = refl
 calm_base e.await edge.NoBrace h = refl
-calm_base e.await edge.Arm h = absurd cc
-calm_base e.await edge.BelowArm h = absurd cc
-calm_base e.await edge.Statement h = absurd cc
-calm_base e.await edge.BelowStatement h = absurd cc
 calm_base e.try_expr edge.Free h = refl
 calm_base e.try_expr edge.NoBrace h = refl
-calm_base e.try_expr edge.Arm h = absurd cc
-calm_base e.try_expr edge.BelowArm h = absurd cc
-calm_base e.try_expr edge.Statement h = absurd cc
-calm_base e.try_expr edge.BelowStatement h = absurd cc
+calm_base _ _ h = absurd cc
 
 calm_braceless : (b : Bool) → is_calm (braceless b) ≡ true
 calm_braceless true = refl
@@ -76,12 +56,9 @@ calm_braceless false = refl
 
 calm_prefix : (k : Prefix) (c : Context) → is_calm (prefix_context k c).edge ≡ true
 calm_prefix (e.unary op) c = refl
-calm_prefix (e.reference m) c = refl
-calm_prefix (e.raw_addr m) c = refl
 calm_prefix (e.range_to op) c = calm_braceless _
-calm_prefix (e.let_expr p) c = refl
 calm_prefix (e.jump j) c = calm_braceless _
-calm_prefix (e.closure h) c = refl
+calm_prefix _ c = refl
 
 below_and : (a b : Bool) → a ≡ false → a && b ≡ true → ⊥
 below_and a b p q = absurd (let r : false ≡ true = ap (λ x. x && b) (sym p) ∙ q in cc)
@@ -89,44 +66,21 @@ below_and a b p q = absurd (let r : false ≡ true = ap (λ x. x && b) (sym p) �
 label_leaf : (c : Context) (k : Leaf) → is_below c.edge ≡ false → leaf_misplaced c k ≡ true → leaf_labelled k ≡ false
 label_leaf c (e.block None b) n h = refl
 label_leaf c (e.block (Some w) b) n h = absurd (below_and _ _ n h)
-label_leaf c (e.loop_expr None b) n h = refl
 label_leaf c (e.loop_expr (Some w) b) n h = absurd (below_and _ _ n h)
-label_leaf c (e.lit x) n h = refl
-label_leaf c (e.path q p) n h = refl
-label_leaf c (e.mac m) n h = refl
-label_leaf c e.infer n h = refl
-label_leaf c (e.full_range op) n h = refl
-label_leaf c (e.bare_jump j) n h = refl
-label_leaf c (e.continuing w) n h = refl
-label_leaf c (e.unsafe_block b) n h = refl
-label_leaf c (e.const_block b) n h = refl
-label_leaf c (e.async_block m ts) n h = refl
-label_leaf c (e.try_block ts) n h = refl
-label_leaf c (e.verbatim ts) n h = refl
+label_leaf c _ n h = refl
 
 label_frame : (c : Context) (k : Frame) → is_below c.edge ≡ false → frame_misplaced c k ≡ true → frame_labelled k ≡ false
 label_frame c e.array n h = refl
-label_frame c e.tuple n h = refl
-label_frame c e.repeat n h = refl
-label_frame c (e.structure q p d) n h = refl
-label_frame c (e.closure_block j) n h = refl
-label_frame c e.if_expr n h = refl
-label_frame c (e.while_loop None) n h = refl
 label_frame c (e.while_loop (Some w)) n h = absurd (below_and _ _ n h)
-label_frame c (e.for_loop None p) n h = refl
 label_frame c (e.for_loop (Some w) p) n h = absurd (below_and _ _ n h)
-label_frame c e.match_expr n h = refl
-label_frame c e.group_expr n h = refl
+label_frame c _ n h = refl
 
 label_misplaced : (c : Context) (t : Tree) → is_calm c.edge ≡ true → misplaced c t ≡ true → labelled t ≡ false
 label_misplaced c (leaf k) n h = label_leaf c k (calm_above _ n) h
-label_misplaced c (paren m t) n h = absurd cc
 label_misplaced c (attributed a more t) n h = refl
 label_misplaced c (prefixed k gs t) n h = refl
-label_misplaced c (infixed x k y) n h = absurd cc
-label_misplaced c (postfixed x k) n h = absurd cc
-label_misplaced c (tail b k ks) n h = absurd cc
 label_misplaced c (frame k ks) n h = label_frame c k (calm_above _ n) h
+label_misplaced c _ n h = absurd cc
 
 label_unput : (l m : Bool) (x a b : Tree) → (m ≡ true → labelled x ≡ false) → (begins_label b ≡ false → labelled x ≡ false) → begins_label (put (l || m) a b) ≡ false
     → not l && labelled x ≡ false
@@ -136,9 +90,6 @@ label_unput false false x a b f g h = g h
 
 pub label_back : (c : Context) (t : Tree) → is_calm c.edge ≡ true → begins_label (bare c t) ≡ false → labelled t ≡ false
 label_back c (leaf k) n h = h
-label_back c (paren m t) n h = refl
-label_back c (attributed a more t) n h = refl
-label_back c (prefixed k gs t) n h = refl
 label_back c (infixed x k y) n h =
     let j = calm_left c.edge n in
     label_unput (left_wrapped k x (bad x (class_of k))) (misplaced (left_context k c) x) x (bare enclosed x) (bare (left_context k c) x)
@@ -152,6 +103,7 @@ label_back c (tail b k ks) n h =
     label_unput (base_wrapped k b (bad b (next_of k))) (misplaced (base_context k c) b) b (bare enclosed b) (bare (base_context k c) b)
     (λ p. label_misplaced (base_context k c) b j p) (λ p. label_back (base_context k c) b j p) h
 label_back c (frame k ks) n h = h
+label_back c _ n h = refl
 
 pub no_bare_label : (k : Prefix) (c : Context) (t : Tree) → is_calm c.edge ≡ true → is_bare_break k && begins_label (bare c t) ≡ false → is_bare_break k && labelled t ≡ false
 no_bare_label k c t n h = go (is_bare_break k) h
@@ -178,13 +130,9 @@ tight_end v c c0 t false x g y i p =
 
 misplaced_low : (c : Context) (t : Tree) → misplaced c t ≡ true → low t ≡ lev.Unambiguous
 misplaced_low c (leaf k) h = refl
-misplaced_low c (paren m t) h = refl
-misplaced_low c (attributed a more t) h = refl
-misplaced_low c (prefixed k gs t) h = refl
 misplaced_low c (infixed x k y) h = absurd cc
 misplaced_low c (postfixed x k) h = absurd cc
-misplaced_low c (tail b k ks) h = refl
-misplaced_low c (frame k ks) h = refl
+misplaced_low c _ h = refl
 
 -- the operators on the left edge; l: the left operand is in parentheses, m: since it is misplaced
 tight_left : (v : Level) (a : Level) (c : Context) (x p q : Tree) (l m : Bool) → takes v lev.Unambiguous ≡ true → takes v a ≡ true → (m ≡ true → low x ≡ lev.Unambiguous)

@@ -16,26 +16,17 @@ use Rattle.syn_grammar.proofs.Places.{range_clear, infix_clear, compares_clear, 
 
 prints_clear : (t : Tree) → prints_range (clear t) ≡ prints_range t
 prints_clear (leaf k) = refl
-prints_clear (paren m t) = refl
-prints_clear (attributed a more t) = refl
-prints_clear (prefixed k gs t) = refl
-prints_clear (infixed x k y) = refl
-prints_clear (postfixed x k) = refl
-prints_clear (tail b k ks) = refl
-prints_clear (frame k ks) = refl
+prints_clear _ = refl
 
 pub operation_clear : (t : Tree) → is_operation (clear t) ≡ is_operation t
 operation_clear t = ap (λ b. b || prints_range (clear t)) (infix_clear t) ∙ ap (λ b. is_infix t || b) (prints_clear t)
 
 label_clear : (t : Tree) → begins_label (clear t) ≡ begins_label t
 label_clear (leaf k) = refl
-label_clear (paren m t) = refl
-label_clear (attributed a more t) = refl
-label_clear (prefixed k gs t) = refl
 label_clear (infixed x k y) = label_clear x
 label_clear (postfixed x k) = label_clear x
 label_clear (tail b k ks) = label_clear b
-label_clear (frame k ks) = refl
+label_clear _ = refl
 
 fits_unclear : (v : Level) (t : Tree) (n : Next) → Fits v (clear t) n → Fits v t n
 fits_unclear v t n f = record {

@@ -1,4 +1,4 @@
--- Which expression of one kind stands by itself for which tokens, whatever is behind it (Rust Reference, "Expressions").
+-- Which expression of one kind is by itself for which tokens, whatever is after it (Rust Reference, "Expressions").
 use Rattle.std.specs.Prelude.{◌≡◌, Bool, true, false, List, drop, Some}
 use Rattle.syn_tokens.specs.Tok.{Tok}
 use Rattle.syn_parts.specs.declared.label.PathStyle.TheVariants as style
@@ -14,7 +14,7 @@ use Rattle.syn_grammar.specs.Tree.{Tree, Children, leaf, paren, attributed, pref
 use Rattle.syn_grammar.specs.Slot.{frame_holder}
 use Rattle.syn_grammar.specs.Stands.{Node, Content, Stands}
 
--- ---- kinds, of expressions before which no attributes stand. `is_if_expr`, `is_cast` and `is_range` are in `Stands`.
+-- ---- kinds, of expressions before which no attributes are. `is_if_expr`, `is_cast` and `is_range` are in `Stands`.
 
 -- `_`
 abbrev pub is_infer : Tree → Bool
@@ -175,17 +175,17 @@ abbrev pub unadorned : Tree → Tree
 unadorned (attributed a more x) = x
 unadorned x = x
 
--- of a kind, behind attributes or none
+-- of a kind, after attributes or none
 abbrev pub behind_attributes : (Tree → Bool) → Tree → Bool
 behind_attributes is x = is (unadorned x)
 
--- ---- what stands
+-- ---- what is
 
--- Of a kind, it is spelled by the tokens of l before n and obeys the binding rules inside; no place asks what is behind it.
+-- Of a kind, it is spelled by the tokens of l before n and obeys the binding rules inside; no place asks what is after it.
 abbrev pub Alone : (Tree → Bool) → List Tok → Tree → List Tok → Type 0
 Alone is l x n = Node plain l x n × (is x ≡ true)
 
--- a path, behind attributes or none, before whatever follows; `try` too
+-- a path, after attributes or none, before whatever follows; `try` too
 pub data PathAlone : List Tok → Tree → List Tok → Type 0 where
   is_path : {l m n : List Tok} (ats : List AttributeTree) (q : QSelfTree) (w : PathTree)
       → outer_attributes.behind ats l ≡ Some m → (qpath type style.Expr).behind (q, w) m ≡ Some n
@@ -217,10 +217,10 @@ ungrouped (frame e.group_expr (child k c x ks)) = ungrouped x
 ungrouped (attributed a more (frame e.group_expr (child k c x ks))) = ungrouped x
 ungrouped x = x
 
--- of a kind, looked at through invisible groups, behind attributes or none
+-- of a kind, looked at through invisible groups, after attributes or none
 abbrev pub is_inside : (Tree → Bool) → Tree → Bool
 is_inside is x = is (unadorned (ungrouped x))
 
--- an expression of a kind, without the invisible groups that it stands in
+-- an expression of a kind, without the invisible groups that it is in
 pub data OfKind (is : Tree → Bool) : List Tok → Tree → List Tok → Type 0 where
   of_kind : {l n : List Tok} {x : Tree} → Stands plain l x n → is_inside is x ≡ true → OfKind is l (ungrouped x) n

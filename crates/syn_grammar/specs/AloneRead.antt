@@ -27,7 +27,7 @@ is_atom (prefixed k gs x) = true
 is_atom (frame k ks) = true
 is_atom _ = false
 
--- a leaf that asks nothing of what is behind it, and that no path begins
+-- a leaf that asks nothing of what is after it, and that no path begins
 abbrev pub is_plain_leaf : Leaf → Bool
 is_plain_leaf (e.path q w) = false
 is_plain_leaf (e.mac m) = false
@@ -40,7 +40,7 @@ abbrev pub is_plain : Tree → Bool
 is_plain (leaf k) = is_plain_leaf k
 is_plain _ = false
 
--- All of a kind are operands without trailers; attributes may stand before them all; they are leaves that ask nothing.
+-- All of a kind are operands without trailers; attributes may come before them all; they are leaves that ask nothing.
 abbrev pub AreAtoms : (Tree → Bool) → Type 0
 AreAtoms is = (x : Tree) → is x ≡ true → is_atom x ≡ true
 
@@ -64,11 +64,11 @@ leaf_alone is = leaf_form.reads >>= (λ k. kind_of is (leaf k))
 unfoldable pub operand_alone : (Tree → Bool) → Reading Tree
 operand_alone is = atom expr plain >>= kind_of is
 
--- behind these attributes
+-- after these attributes
 abbrev pub attributing : List AttributeTree → Reading Tree → Reading Tree
 attributing ats inner = attributed_with ats <$> inner
 
--- behind attributes or none
+-- after attributes or none
 unfoldable pub attributed_alone : Reading Tree → Reading Tree
 attributed_alone inner = outer_attributes.reads >>= (λ ats. attributing ats inner)
 
@@ -85,7 +85,7 @@ unfoldable pub reference_alone : Reading Tree
 reference_alone l =
     only_if (and.at l) (((flag mutable).reads >>= (λ b. prefixed (e.reference b) none <$> expr (at plain lev.Prefix))) (drop and.count l))
 
--- a struct expression, behind its path
+-- a struct expression, after its path
 unfoldable pub structure_behind : QSelfTree × PathTree → Reading Tree
 structure_behind q l =
     and_then (group_at del.Brace l) (λ i n. and_then (bare_operands expr fields i) (λ ks o.

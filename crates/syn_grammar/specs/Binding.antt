@@ -1,4 +1,4 @@
--- What callers rely on in a tree that stands, at each of its nodes (Rust Reference, "Expression precedence"). An operand is
+-- What callers rely on in a tree that is, at each of its nodes (Rust Reference, "Expression precedence"). An operand is
 -- bare where it has neither parentheses nor attributes.
 use Rattle.std.specs.Prelude.{◌≡◌, Bool, true, false, not, ◌||◌, ◌&&◌, nat_le, List, [], ◌∷◌, Some}
 use Rattle.syn_lexer.specs.declared.lexeme.Delimiter.TheVariants as del
@@ -36,7 +36,7 @@ InTreesThatStand f = (p : Place) (l behind : List Tok) (x : Tree) → Stands p l
 
 -- ---- operators
 
--- A bare infix operand on the right, or behind a prefix operator, a `let`, a jump or a closure's head, is above what stands
+-- A bare infix operand on the right, or after a prefix operator, a `let`, a jump or a closure's head, is above what is
 -- before it, or both are assignments.
 abbrev pub binds_right : Tree → Bool
 binds_right (infixed l k (infixed m op r)) = takes (level k) (level op)
@@ -45,7 +45,7 @@ binds_right (prefixed k gs (infixed m op r)) = takes (prefix_level k) (level op)
 binds_right (prefixed k gs (postfixed m op)) = takes (prefix_level k) (level (postfix_op op))
 binds_right _ = true
 
--- A bare infix left operand binds at least as tight as the operator, unless a bare range stands at its right end.
+-- A bare infix left operand binds at least as tight as the operator, unless a bare range is at its right end.
 abbrev pub as_tight : Infix → Tree → Bool
 as_tight k (infixed l op m) = is_range m || nat_le (rank (level k)) (rank (level op))
 as_tight k (postfixed l op) = nat_le (rank (level k)) (rank (level (postfix_op op)))
@@ -86,7 +86,7 @@ abbrev pub is_structure : Frame → Bool
 is_structure (e.structure q p d) = true
 is_structure _ = false
 
--- No struct expression but in delimiters, behind a jump, or where a place of its own begins.
+-- No struct expression but in delimiters, after a jump, or where a place of its own begins.
 abbrev pub has_no_structure : Tree → Bool
 has_no_structure (leaf k) = true
 has_no_structure (paren m t) = true
@@ -98,7 +98,7 @@ has_no_structure (postfixed x k) = has_no_structure x
 has_no_structure (tail b k ks) = has_no_structure b
 has_no_structure (frame k ks) = not (is_structure k)
 
--- those of the operands that stand before a block
+-- those of the operands that come before a block
 abbrev pub conditions_hold : Children → Bool
 conditions_hold none = true
 conditions_hold (child k c t ks) = (not (piece_place k).condition || has_no_structure t) && conditions_hold ks
@@ -108,11 +108,11 @@ keeps_conditions (frame k ks) = conditions_hold ks
 keeps_conditions _ = true
 
 pub record ConditionsHaveNoStructures : Type 0 where
-  -- what stands in a condition
+  -- what is in a condition
   pub here : (p : Place) (l n : List Tok) (x : Tree) → p.condition ≡ true → Stands p l x n → has_no_structure x ≡ true
-  -- and each condition in a tree that stands
+  -- and each condition in a tree that is
   pub inside : InTreesThatStand keeps_conditions
-  -- But whatever stands by itself, a struct expression too, stands in parentheses anywhere, and behind a jump.
+  -- But whatever is by itself, a struct expression too, is in parentheses anywhere, and after a jump.
   pub in_parentheses : (p : Place) (i : Inside) (n : List Tok) (x : Tree) → Stands plain (toks i) x []
       → Node p (group del.Parenthesis i ∷ n) (paren false x) n
   pub behind_jump : (p : Place) (l m n : List Tok) (j : Jump) (x : Tree) → prefix_form.behind (e.jump j) l ≡ Some m
@@ -120,7 +120,7 @@ pub record ConditionsHaveNoStructures : Type 0 where
 
 -- ---- what ends a statement or an arm (Rust Reference, "Expression statements", "Match expressions")
 
--- A match arm with this body needs a comma behind it: all but `if`, `match`, `while`, `for`, `loop`, and blocks but `async`.
+-- A match arm with this body needs a comma after it: all but `if`, `match`, `while`, `for`, `loop`, and blocks but `async`.
 abbrev pub requires_comma_to_be_match_arm : Tree → Bool
 requires_comma_to_be_match_arm t = not (is_block_like t)
 
@@ -130,7 +130,7 @@ is_braced_macro (leaf (e.mac m)) = is_brace_delimiter m.delimiter
 is_braced_macro (attributed a more t) = is_braced_macro t
 is_braced_macro _ = false
 
--- A statement of this expression needs a semicolon behind it.
+-- A statement of this expression needs a semicolon after it.
 abbrev pub requires_semi_to_be_stmt : Tree → Bool
 requires_semi_to_be_stmt t = not (is_braced_macro t) && requires_comma_to_be_match_arm t
 

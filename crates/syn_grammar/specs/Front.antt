@@ -1,4 +1,4 @@
--- What stands at the front of a list of tokens.
+-- What is at the front of a list of tokens.
 use Rattle.std.specs.Prelude.{Bool, true, false, not, ◌||◌, ◌&&◌, List, [], ◌∷◌, codes}
 use Rattle.syn_lexer.specs.declared.lexeme.Delimiter.TheVariants as del
 use Rattle.syn_tokens.specs.Tok.{ident, punct, literal, group}

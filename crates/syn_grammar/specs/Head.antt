@@ -1,4 +1,4 @@
--- What spells a leaf, what stands before or behind an operand, and a trailer: forms over those of the lower parts.
+-- What spells a leaf, what comes before or after an operand, and a trailer: forms over those of the lower parts.
 use Rattle.std.specs.Prelude.{Bool, true, false, not, ◌||◌, ◌&&◌, ◌==◌, if◌then◌else◌, List, [], ◌∷◌, drop, codes, Option, Some, None}
 use Rattle.std.specs.Str.{bytes_eq}
 use Rattle.syn_lexer.specs.Keywords.{is_reserved_word}
@@ -50,7 +50,7 @@ yield_word = word (codes "yield")
 abbrev pub break_word : Mark
 break_word = word (codes "break")
 
--- a label behind `break` and `continue` counts as theirs
+-- a label after `break` and `continue` counts as theirs
 unfoldable pub jump_head : Form Jump
 jump_head =
     case return_word (pure e.returning is_returning)
@@ -214,7 +214,7 @@ builtin_at l = builtin_word.at l && sign_at (codes "#") (drop 1 l)
 abbrev pub verbatim_if : Bool → List Tok → List Tok → Outcome (List Tok)
 verbatim_if b ts l = if b then Some (ts, l) else None
 
--- behind these comes a name and a group in parentheses
+-- after these comes a name and a group in parentheses
 abbrev pub find_builtin : List Tok → Outcome (List Tok)
 find_builtin (ident b ∷ punct c s ∷ ident w ∷ group del.Parenthesis i ∷ l) =
     verbatim_if (bytes_eq b (codes "builtin") && (c == 35 && not (is_reserved_word w))) (ident b ∷ punct c s ∷ ident w ∷ group del.Parenthesis i ∷ []) l
@@ -227,7 +227,7 @@ builtin = leaf same_toks find_builtin
 unfoldable pub named : Form Leaf
 named = shown to_named from_named (then_by (expr_path false) macro_end)
 
--- by what stands first (Rust Reference, "Literal expressions", "Underscore expressions", "Range expressions", "Return
+-- by what comes first (Rust Reference, "Literal expressions", "Underscore expressions", "Range expressions", "Return
 -- expressions", "Break expressions", "Continue expressions", "Loop expressions", "Block expressions", "Unsafe blocks",
 -- "Const blocks", "Async blocks")
 unfoldable pub leaf_form : Form Leaf
@@ -303,7 +303,7 @@ closure_at l =
     bar.at l || (move_word.at l || (use_word.at l || (static_word.at l || (lifetimes_at l
     || ((constant.at l && not (brace_at (drop 1 l))) || (async_word.at l && captures_at (drop 1 l)))))))
 
--- ---- what stands before an operand
+-- ---- what comes before an operand
 
 abbrev pub is_deref : Prefix → Bool
 is_deref (e.unary un.Deref) = true
@@ -354,7 +354,7 @@ raw_word = word (codes "raw")
 unfoldable pub raw_at : Test
 raw_at l = raw_word.at l && (mutable.at (drop 1 l) || constant.at (drop 1 l))
 
--- by what stands first (Rust Reference, "Operator expressions", "Borrow operators", "Range expressions", "`let`
+-- by what comes first (Rust Reference, "Operator expressions", "Borrow operators", "Range expressions", "`let`
 -- expressions", "Closure expressions")
 unfoldable pub prefix_form : Form Prefix
 prefix_form =
@@ -367,7 +367,7 @@ prefix_form =
     (when jump_at (shown e.jump from_jump jump_head)
     (shown e.closure from_closure closure_head)))))))
 
--- ---- trailers behind a dot (Rust Reference, "Await expressions", "Method-call expressions", "Field access expressions")
+-- ---- trailers after a dot (Rust Reference, "Await expressions", "Method-call expressions", "Field access expressions")
 
 abbrev pub is_await : Trailer → Bool
 is_await e.await = true

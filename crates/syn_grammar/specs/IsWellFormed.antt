@@ -1,6 +1,6 @@
--- The trees that are promised to be read back: each part is read back from its own tokens, and stands where it may. No kept
+-- The trees that are promised to be read back: each part is read back from its own tokens, and is where it may. No kept
 -- tokens and no invisible group are among them. A law says that the test `is_well_formed` tells just these.
-use Rattle.std.specs.Prelude.{◌≡◌, ◌⊎◌, ◌↔◌, Bool, true, false, not, ◌||◌, ◌&&◌, List, [], ◌∷◌, Option, Some, None}
+use Rattle.std.specs.Prelude.{◌≡◌, ◌⊎◌, ◌↔◌, true, false, ◌||◌, ◌&&◌, List, [], ◌∷◌, Option, Some, None}
 use Rattle.syn_tokens.specs.Tok.{Tok}
 use Rattle.syn_parts.specs.declared.label.PathStyle.TheVariants as style
 use Rattle.syn_parts.specs.Form.{Form, is_nil}
@@ -11,16 +11,17 @@ use Rattle.syn_parts.specs.Pat.{member, pattern, closure_arg}
 use Rattle.syn_parts.specs.PatOwn.{member_own, pat_own}
 use Rattle.syn_parts.specs.PatFits.{attributes_outer}
 use Rattle.syn_lexer.specs.Keywords.{is_reserved_word}
+use Rattle.syn_grammar.specs.declared.kinds.Infix.TheVariants as inf
 use Rattle.syn_grammar.specs.Tree as e
-use Rattle.syn_grammar.specs.Tree.{Tree, Children, Leaf, Prefix, Postfix, Trailer, Frame, Piece, ClosureHead, leaf, paren, attributed, prefixed, infixed, postfixed, tail, frame, none, child, is_none}
+use Rattle.syn_grammar.specs.Tree.{Tree, Children, Leaf, Prefix, Postfix, Trailer, Frame, Piece, Ending, ClosureHead, leaf, paren, attributed, prefixed, infixed, postfixed, tail, frame, none, child, is_none, piece_own, ending_own}
 use Rattle.syn_grammar.specs.Slot as s
-use Rattle.syn_grammar.specs.Slot.{Slot, Holder, nothing, within, bare, done, after, may_end, frame_holder, trailer_holder}
+use Rattle.syn_grammar.specs.Slot.{Slot, Holder, nothing, within, bare, done, after, may_end, piece_form, ending_at, frame_holder, trailer_holder}
 use Rattle.syn_grammar.specs.Path.{is_try_alone}
 use Rattle.syn_grammar.specs.Head.{is_half_open}
 use Rattle.syn_grammar.specs.Stands.{is_attributed, is_if_expr}
-use Rattle.syn_grammar.specs.WellFormed.{body_fits, infix_fits, has_rest, is_name_path, is_verbatim_block, ending_fits, keeps_block, is_well_formed}
+use Rattle.syn_grammar.specs.WellFormed.{attributes_inner, body_fits, has_rest, is_name_path, is_verbatim_block, keeps_block, is_well_formed}
 
--- from its own tokens, with nothing behind them
+-- from its own tokens, with nothing after them
 abbrev pub IsReadBack : {A : Type 0} → Form A → (A → List Tok → List Tok) → A → Type 0
 IsReadBack {A} form own x = form.behind x (own x []) ≡ Some []
 
@@ -73,26 +74,26 @@ FrameReadBack (e.for_loop w p) ks = IsReadBack (pattern true) pat_own p
 FrameReadBack e.group_expr ks = ⊥
 FrameReadBack _ ks = Unit {0}
 
--- the tokens before the operand t, which stand in this slot
+-- the tokens before the operand t, which are in this slot
 abbrev pub PieceReadBack : Slot → Piece → Tree → Type 0
-PieceReadBack s.elements e.element t = Unit {0}
-PieceReadBack s.single e.value t = Unit {0}
-PieceReadBack s.counted e.repeated t = Unit {0}
 PieceReadBack s.fields (e.field_value ats m b) t = (attributes_outer ats ≡ true) × IsReadBack member member_own m × (b || is_name_path m t ≡ true)
 PieceReadBack s.fields (e.rest d) t = Unit {0}
-PieceReadBack s.conditions e.condition t = Unit {0}
 PieceReadBack s.otherwise e.chained t = is_if_expr t || is_verbatim_block t ≡ true
-PieceReadBack s.loops e.loop_head t = Unit {0}
-PieceReadBack s.scrutinees e.scrutinee t = Unit {0}
 PieceReadBack s.arms (e.guard ats p) t = (attributes_outer ats ≡ true) × IsReadBack (pattern true) pat_own p
 PieceReadBack s.arms (e.arm ats p) t = (attributes_outer ats ≡ true) × IsReadBack (pattern true) pat_own p
-PieceReadBack s.bodies e.guarded t = Unit {0}
 PieceReadBack s.outputs e.output_block t = is_verbatim_block t ≡ true
-PieceReadBack _ k t = ⊥
+PieceReadBack s.groups k t = ⊥
+PieceReadBack x k t = IsReadBack (piece_form x) piece_own k
+
+-- the tokens after the operand t
+abbrev pub EndingReadBack : Piece → Tree → Ending → Type 0
+EndingReadBack e.loop_head t (e.braced b) = body_fits b ≡ true
+EndingReadBack e.scrutinee t (e.opened ats) = attributes_inner ats ≡ true
+EndingReadBack k t c = ending_at k t (ending_own k c [] []) ≡ Some (c, [])
 
 -- ---- the whole
 
--- the slot that the first operand stands in
+-- the slot that the first operand is in
 abbrev pub first_slot : Holder → Slot
 first_slot nothing = done
 first_slot (within d x b) = x
@@ -104,7 +105,7 @@ abbrev mutual
   IsWellFormed (paren m t) = IsWellFormed t
   IsWellFormed (attributed a more t) = (attributes_outer (a ∷ more) ≡ true) × (is_attributed t ≡ false) × IsWellFormed t
   IsWellFormed (prefixed k gs t) = PrefixReadBack k × (is_none gs ≡ true) × IsWellFormed t
-  IsWellFormed (infixed x k y) = (infix_fits k ≡ true) × IsWellFormed x × IsWellFormed y
+  IsWellFormed (infixed x k y) = (k ≡ inf.Cast → ⊥) × IsWellFormed x × IsWellFormed y
   IsWellFormed (postfixed x k) = PostfixReadBack k × IsWellFormed x
   IsWellFormed (tail b k ks) = TrailerReadBack k × IsWellFormed b × AreWellFormed (first_slot (trailer_holder k)) ks
   IsWellFormed (frame k ks) = FrameReadBack k ks × AreWellFormed (first_slot (frame_holder k)) ks
@@ -112,7 +113,7 @@ abbrev mutual
   pub AreWellFormed : Slot → Children → Type 0
   AreWellFormed x none = may_end x [] ≡ true
   AreWellFormed x (child k c t ks) =
-      PieceReadBack x k t × (ending_fits k c ≡ true) × ((keeps_block k t ≡ true) ⊎ IsWellFormed t) × AreWellFormed (after k) ks
+      PieceReadBack x k t × EndingReadBack k t c × ((keeps_block k t ≡ true) ⊎ IsWellFormed t) × AreWellFormed (after k) ks
 
 abbrev pub TestIsExact : Type 0
 TestIsExact = (t : Tree) → IsWellFormed t ↔ (is_well_formed t ≡ true)

@@ -1,4 +1,4 @@
--- What a printer has to know of the place of a node: what stands behind it, and what is round it.
+-- What a printer has to know of the place of a node: what comes after it, and what is round it.
 use Rattle.std.specs.Prelude.{Bool, true, false, ◌&&◌, Option, Some, None}
 use Rattle.syn_grammar.specs.declared.kinds.BinKind.{BinKind}
 use Rattle.syn_grammar.specs.declared.kinds.Limits.TheVariants as limits
@@ -93,19 +93,19 @@ abbrev pub is_block_next : Next → Bool
 is_block_next next.Block = true
 is_block_next _ = false
 
--- a brace behind which a path would be that of a struct expression
+-- a brace after which a path would be that of a struct expression
 abbrev pub is_brace_next : Next → Bool
 is_brace_next next.Brace = true
 is_brace_next _ = false
 
--- behind a value of a jump a brace opens no block
+-- after a value of a jump a brace opens no block
 abbrev pub without_block : Next → Next
 without_block next.Block = next.Brace
 without_block n = n
 
 -- ---- contexts
 
--- inside of delimiters, with nothing behind; and for plain position
+-- inside of delimiters, with nothing after; and for plain position
 abbrev pub enclosed : Context
 enclosed = record { condition = false; edge = edge.Free; next = next.End }
 
@@ -135,7 +135,7 @@ base_edge e.call x = left_edge x
 base_edge e.index x = left_edge x
 base_edge _ x = dot_edge x
 
--- behind attributes no brace is first
+-- after attributes no brace is first
 abbrev pub attributed_edge : Edge → Edge
 attributed_edge edge.NoBrace = edge.Free
 attributed_edge x = x
@@ -170,12 +170,12 @@ prefix_context (e.jump j) c = record { condition = false; edge = braceless (is_b
 prefix_context (e.range_to op) c = record { condition = c.condition; edge = braceless (is_half_open (inf.Range op) && c.condition); next = c.next }
 prefix_context k c = record { condition = c.condition; edge = edge.Free; next = c.next }
 
--- what is behind an operand, by what is behind its prefix
+-- what is after an operand, by what is after its prefix
 abbrev pub prefix_next : Prefix → Next → Next
 prefix_next (e.jump j) n = without_block n
 prefix_next k n = n
 
--- the level of the place of an operand behind its prefix
+-- the level of the place of an operand after its prefix
 abbrev pub prefix_level : Prefix → Level
 prefix_level (e.range_to op) = lev.Range
 prefix_level (e.let_expr p) = lev.Let

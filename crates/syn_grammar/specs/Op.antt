@@ -124,7 +124,7 @@ longest (e ∷ more) l = if sign_at e.0 l then counted e.0 e.1 else longest more
 unfoldable pub infix_at : List Tok → Option (Infix × ℕ)
 infix_at l = if word_at (codes "as") l then Some (inf.Cast, 1) else longest entries l
 
--- an operator stands at the front that an expression at this level takes
+-- an operator is at the front that an expression at this level takes
 abbrev pub takes_by : Level → Option (Infix × ℕ) → Bool
 takes_by v None = false
 takes_by v (Some p) = takes v (level p.0)

@@ -1,4 +1,4 @@
--- The path of an expression. Its front may stand in an invisible group, also in further ones: then the path goes on behind
+-- The path of an expression. Its front may are in an invisible group, also in further ones: then the path goes on after
 -- that (Rust Reference, "Paths in expressions").
 use Rattle.std.specs.Prelude.{ℕ, Bool, false, not, ◌||◌, ◌&&◌, List, [], ◌∷◌, ◌++◌, drop, take, length, codes, Option, Some, None}
 use Rattle.std.specs.Str.{bytes_eq}
@@ -34,7 +34,7 @@ abbrev pub goes_on_path : Bool → QPathTree → Test
 goes_on_path braces (q, p) l =
     not (is_try_alone q p) && (colon2.at l || ((is_bare (q, p) && not_ne.at l) || (braces && brace_at l)))
 
--- the path in such a group, and the segments behind it
+-- the path in such a group, and the segments after it
 abbrev pub group_parts : Form QPathTree → Bool → Form (QPathTree × List SegmentTree)
 group_parts held braces = then_by (inside del.None held) (λ q. when (goes_on_path braces q) (more colon2 (segment type style.Expr)) never)
 
@@ -49,7 +49,7 @@ abbrev pub segment_count : Outcome QPathTree → ℕ
 segment_count None = 0
 segment_count (Some (q, l)) = length q.1.segments
 
--- how many segments stand in the group
+-- how many segments are in the group
 abbrev pub count_inside : Form QPathTree → List Tok → ℕ
 count_inside held l = segment_count ((inside del.None held).reads l)
 

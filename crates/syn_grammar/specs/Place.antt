@@ -1,4 +1,4 @@
--- Where an expression stands, and how tightly the levels bind (Rust Reference, "Expression precedence").
+-- Where an expression is, and how tightly the levels bind (Rust Reference, "Expression precedence").
 use Rattle.std.specs.Prelude.{ℕ, Bool, true, false, ◌&&◌, ◌||◌, nat_lt}
 use Rattle.syn_grammar.specs.declared.kinds.Level.{Level}
 use Rattle.syn_grammar.specs.declared.kinds.Level.TheVariants as lev
@@ -36,7 +36,7 @@ is_assign _ = false
 abbrev pub takes : Level → Level → Bool
 takes v w = above w v || (is_assign v && is_assign w)
 
--- the whole of a list, and what stands inside of delimiters
+-- the whole of a list, and what is inside of delimiters
 abbrev pub plain : Place
 plain = record { level = lev.Jump; condition = false; head = false }
 
@@ -48,6 +48,6 @@ before_block = record { level = lev.Jump; condition = true; head = false }
 abbrev pub at_head : Place
 at_head = record { level = lev.Jump; condition = false; head = true }
 
--- the place of a right operand, or of the operand behind a prefix operator: the mode stays, a head it is no more
+-- the place of a right operand, or of the operand after a prefix operator: the mode stays, a head it is no more
 abbrev pub at : Place → Level → Place
 at p v = record { level = v; condition = p.condition; head = false }

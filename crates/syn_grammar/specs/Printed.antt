@@ -33,7 +33,7 @@ context_of as_statement = in_statement
 context_of as_condition = in_condition
 context_of as_arm = in_arm
 
--- what may stand behind it there: nothing; nothing or `;`; the brace of a block; nothing or `,`
+-- what may come after it there: nothing; nothing or `;`; the brace of a block; nothing or `,`
 abbrev pub allows : Position → List Tok → Bool
 allows in_plain rest = is_empty rest
 allows as_statement rest = is_empty rest || semi.at rest
@@ -64,7 +64,7 @@ abbrev mutual
   children_plainly none = true
   children_plainly (child k c t ks) = plainly_attributed t && children_plainly ks
 
--- the tree with each operation that has attributes in a pair of parentheses, behind these
+-- the tree with each operation that has attributes in a pair of parentheses, after these
 abbrev mutual
   pub parenthesize_attributed : Tree → Tree
   parenthesize_attributed (leaf k) = leaf k
@@ -80,12 +80,12 @@ abbrev mutual
   parenthesize_attributed_children none = none
   parenthesize_attributed_children (child k c t ks) = child k c (parenthesize_attributed t) (parenthesize_attributed_children ks)
 
--- the tree, printed in the position, stands there before this rest
+-- the tree, printed in the position, is there before this rest
 abbrev pub StandsPrinted : Position → Tree → List Tok → Type 0
 StandsPrinted s t rest = Stands (place_of s) (own (printed_in s t) rest) (clear (printed_in s t)) rest
 
 -- A well-formed tree is printed as the same tree up to parentheses and fill-ins, and its tokens stand for it there,
--- whatever is behind them that the position allows.
+-- whatever is after them that the position allows.
 abbrev pub PrintedStands : Type 0
 PrintedStands = (s : Position) (t : Tree) (rest : List Tok) → is_well_formed t ≡ true → allows s rest ≡ true
     → IsSameTree t (printed_in s t) × StandsPrinted s t rest

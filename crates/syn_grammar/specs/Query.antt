@@ -40,7 +40,7 @@ abbrev pub leaf_leads : Bool → Leaf → Bool
 leaf_leads word (e.verbatim ts) = verbatim_leads word ts
 leaf_leads word k = leaf_labelled k
 
--- `word`: a word stands behind the tree. The one word that stands behind a left end is `as`. Inner attributes before a
+-- `word`: a word comes after the tree. The one word that comes after a left end is `as`. Inner attributes before a
 -- node aren't spelled.
 abbrev pub tree_leads : Bool → Tree → Bool
 tree_leads word (leaf k) = leaf_leads word k
@@ -63,12 +63,12 @@ abbrev pub is_braces : Tok → Bool
 is_braces (group d i) = is_brace_delimiter d
 is_braces _ = false
 
--- The last of the tokens is a group in braces; where there are none, `before` says so of what stands before them.
+-- The last of the tokens is a group in braces; where there are none, `before` says so of what comes before them.
 abbrev pub last_braces : Bool → List Tok → Bool
 last_braces before [] = before
 last_braces before (t ∷ ts) = last_braces (is_braces t) ts
 
--- What stands behind `else` at the right end is put in a block, as a printer does with what is none: an `if` always ends
+-- What comes after `else` at the right end is put in a block, as a printer does with what is none: an `if` always ends
 -- with braces.
 abbrev mutual
   pub blocked : Tree → Tree
@@ -93,7 +93,7 @@ abbrev pub is_unqualified : QSelfTree → Bool
 is_unqualified t.no_qself = true
 is_unqualified (t.qself x n a) = false
 
--- the `>` of a qualified path stands behind all of its k segments
+-- the `>` of a qualified path comes after all of its k segments
 abbrev pub is_all_inside : QSelfTree → ℕ → Bool
 is_all_inside t.no_qself k = false
 is_all_inside (t.qself x n a) k = nat_le k n
@@ -163,7 +163,7 @@ piece_brace before e.guarded = false
 piece_brace before (e.arm ats p) = false
 piece_brace before _ = before
 
--- what stands behind the operand is no token but perhaps a `;`; `bare` is what the operand answers
+-- what comes after the operand is no token but perhaps a `;`; `bare` is what the operand answers
 abbrev pub operand_brace : Bool → Piece → Bool → Bool
 operand_brace before e.repeated bare = false
 operand_brace before e.chained bare = true
@@ -205,10 +205,10 @@ trailing_brace t = tree_brace false t
 
 pub record TrailingBraceIsLast : Type 0 where
   pub everywhere : (t : Tree) → trailing_brace t ≡ ends_with_brace t
-  -- An `if` always does, with an `else` and without one, whatever stands behind that.
+  -- An `if` always does, with an `else` and without one, whatever comes after that.
   pub if_exprs : (b : Body) (c x : Tree) → (ends_with_brace (frame e.if_expr (child e.condition (e.braced b) c none)) ≡ true)
       × (ends_with_brace (frame e.if_expr (child e.condition (e.braced b) c (child e.chained e.no_ending x none))) ≡ true)
-  -- A well-formed tree has an `if` or a block behind each `else`.
+  -- A well-formed tree has an `if` or a block after each `else`.
   pub well_formed : (t : Tree) → is_well_formed t ≡ true → trailing_brace t ≡ last_braces false (own_tokens t)
 
 -- ---- a name without arguments last (Rust Reference, "Paths in types")
@@ -258,7 +258,7 @@ abbrev pub is_quote : Tok → Bool
 is_quote (punct c spacing.Joint) = c == 39
 is_quote _ = false
 
--- The last of the tokens is a name, and no lifetime's; of none, what stands before them is `named`. `quoted`: behind a quote.
+-- The last of the tokens is a name, and no lifetime's; of none, what comes before them is `named`. `quoted`: after a quote.
 abbrev pub last_name : Bool → Bool → List Tok → Bool
 last_name quoted named [] = named
 last_name quoted named (u ∷ l) = last_name (is_quote u) (is_name u && not quoted) l
@@ -269,5 +269,5 @@ ends_in_name x = last_name false false (type_own x [])
 pub record UnparameterizedPathsAreLast : Type 0 where
   -- A type that is read back ends so where the last of its own tokens is a name.
   pub read_back : (several : Bool) (x : TypeTree) → type_fits several x ≡ true → trailing_unparameterized_path x ≡ ends_in_name x
-  -- Whatever type would have a `<` behind it as the beginning of arguments ends so.
+  -- Whatever type would have a `<` after it as the beginning of arguments ends so.
   pub open_ends : (x : TypeTree) → ends_open x ≡ true → trailing_unparameterized_path x ≡ true

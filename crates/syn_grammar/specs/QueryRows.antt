@@ -65,7 +65,7 @@ pub record QueryRows : Type 0 where
   pub round_macro : Answers ends_with_brace (ident (codes "m") ∷ bang ∷ round ∷ []) false
   -- `x {}.y`
   pub field : Answers ends_with_brace (ident (codes "x") ∷ braces ∷ alone 46 ∷ ident (codes "y") ∷ []) false
-  -- An `if` ends with braces whatever stands behind its `else`, as here a path that is none; so does a `return` of it.
+  -- An `if` ends with braces whatever comes after its `else`, as here a path that is none; so does a `return` of it.
   pub otherwise : ends_with_brace (frame e.if_expr (child e.condition (e.braced (record { inner = []; tokens = [] })) empty_path (child e.chained e.no_ending empty_path none))) ≡ true
   -- a path without segments, and a cast to one
   pub empty : ends_with_brace empty_path ≡ false

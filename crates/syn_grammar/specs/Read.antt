@@ -65,9 +65,9 @@ taken l n = take (length l - length n) l
 abbrev pub is_taken : List Tok → List Tok → Bool
 is_taken l n = same_toks (taken l n ++ n) l
 
--- ---- leaves, by what stands behind them
+-- ---- leaves, by what comes after them
 
--- where it stands there
+-- where it is there
 abbrev pub standing : Place → Leaf → Reading Tree
 standing p k l = if leaf_stands p k l then Some (leaf k, l) else None
 
@@ -130,7 +130,7 @@ unfoldable pub prefix_at : Test
 prefix_at l =
     star.at l || (bang.at l || (minus.at l || (and.at l || (range_at l || (let_word.at l || (jump_at l || closure_at l))))))
 
--- where no block stands behind a label
+-- where no block comes after a label
 unfoldable pub loop_head_at : Test
 loop_head_at l = lifetime_at l || (while_word.at l || for_word.at l)
 
@@ -149,7 +149,7 @@ module _ (expr : Place → Reading Tree) where
   abbrev pub if_expr_by : Reading Children → Reading Tree
   if_expr_by inner l = only_if (if_word.at l) ((frame e.if_expr <$> inner) (drop 1 l))
 
-  -- a block that keeps its tokens, or an `if` behind `else`
+  -- a block that keeps its tokens, or an `if` after `else`
   abbrev pub block_by : Reading Children → Piece → Reading (Ending × Tree)
   block_by inner k l =
       if brace_at l then and_then (group_at del.Brace l) (λ i n. Some ((e.no_ending, plain_block i), n))
@@ -237,7 +237,7 @@ module _ (expr : Place → Reading Tree) where
   unfoldable pub named_read : Place → Reading Tree
   named_read p = (expr_path (not p.condition)).reads >>= (λ q. (macro_end q).reads >>= named_by p q)
 
-  -- ---- what stands before an operand
+  -- ---- what comes before an operand
 
   -- a jump or a range without an operand, or a closure with an output
   abbrev pub unled : Place → List Tok → Option ClosureHead → Reading Tree
@@ -269,7 +269,7 @@ module _ (expr : Place → Reading Tree) where
   unfoldable pub group_read : Place → Reading Tree
   group_read p l = if is_some ((expr_path (not p.condition)).reads l) then named_read p l else framed_by p e.group_expr l
 
-  -- by what stands first
+  -- by what comes first
   unfoldable pub atom : Place → Reading Tree
   atom p l =
       if leaf_at l then leaf_read p l
@@ -292,7 +292,7 @@ module _ (expr : Place → Reading Tree) where
   indexed_by p b [] n = None
   indexed_by p b (i ∷ is) n = only_if (fits_base p (e.field (an_index i)) b) (Some (fields_of b (i ∷ is), n))
 
-  -- behind the dot: indices, or a name
+  -- after the dot: indices, or a name
   abbrev pub dotted_by : Place → Tree → Option (List ℕ × List Tok) → Reading Tree
   dotted_by p b (Some i) l = indexed_by p b i.0 i.1
   dotted_by p b None l = and_then (name_at l) (λ is. dotted.reads >>= trailed_by p b is)
@@ -304,7 +304,7 @@ module _ (expr : Place → Reading Tree) where
       else (if question_at l then trailed_by p b [] e.try_expr (drop 1 l)
       else only_if (dot_at l) (dotted_by p b (indices_at (drop 1 l)) (drop 1 l))))
 
-  -- trailers, one behind the other
+  -- trailers, one after the other
   unfoldable pub trail : Place → ℕ → Tree → Reading Tree
   trail p zero b l = None
   trail p (suc n) b l = if closes p b l then Some (b, l) else (trailed p b >>= trail p n) l
@@ -312,7 +312,7 @@ module _ (expr : Place → Reading Tree) where
   unfoldable pub core : Place → Reading Tree
   core p = atom p >>= (λ b l. trail p (suc (weight l)) b l)
 
-  -- an operand behind its attributes
+  -- an operand after its attributes
   unfoldable pub operand : Place → Reading Tree
   operand p l = if pound.at l then and_then (outer_attributes.reads l) (λ ats m. (core p >>= read_attributed p l m ats) m) else core p l
 
@@ -324,7 +324,7 @@ module _ (expr : Place → Reading Tree) where
   abbrev pub infix_read : Place → Tree → Infix → Reading Tree
   infix_read p x op m = only_if (infix_stands p op m) ((expr (at p (level op)) >>= (λ y. operation op (infixed x op y))) m)
 
-  -- an operation, behind its left operand and its operator
+  -- an operation, after its left operand and its operator
   unfoldable pub longer : Place → Tree → Infix → Reading Tree
   longer p x inf.Cast m = ((type false).reads >>= (λ ty. postfix_made p x (e.cast ty))) m
   longer p x (inf.Range limits.HalfOpen) m =
@@ -333,7 +333,7 @@ module _ (expr : Place → Reading Tree) where
   longer p x inf.Assign m = infix_read p x inf.Assign m
   longer p x (inf.Binary op) m = infix_read p x (inf.Binary op) m
 
-  -- no trailer is left behind a cast
+  -- no trailer is left after a cast
   abbrev pub closing : Place → Tree → Reading Tree
   closing p x l = if closes p x l then Some (x, l) else None
 
@@ -341,7 +341,7 @@ module _ (expr : Place → Reading Tree) where
   turn p x None next = stop p x
   turn p x (Some o) next = λ l. only_if (fits_left p o.0 x) ((longer p x o.0 >>= closing p >>= next) (drop o.1 l))
 
-  -- operations, one behind the other
+  -- operations, one after the other
   unfoldable pub climb : Place → ℕ → Tree → Reading Tree
   climb p zero x = λ l. None
   climb p (suc n) x = λ l. turn p x (next_operator p x l) (climb p n) l
@@ -349,7 +349,7 @@ module _ (expr : Place → Reading Tree) where
   unfoldable pub at_place : Place → Reading Tree
   at_place p = operand p >>= (λ x l. climb p (suc (weight l)) x l)
 
--- Inside of an expression are fewer tokens: so many times an expression can stand in another.
+-- Inside of an expression are fewer tokens: so many times an expression can are in another.
 unfoldable pub bounded : ℕ → Place → Reading Tree
 bounded zero p l = None
 bounded (suc n) p l = at_place (bounded n) p l

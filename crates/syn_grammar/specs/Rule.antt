@@ -20,22 +20,22 @@ use Rattle.syn_grammar.specs.Stands.{is_infix, is_range, is_cast, carries, compa
 use Rattle.syn_grammar.specs.Tree as e
 use Rattle.syn_grammar.specs.Tree.{Tree, Children, Leaf, Prefix, Postfix, Jump, Frame, Piece, Trailer, leaf, paren, attributed, prefixed, infixed, postfixed, tail, frame, none, child, own_tokens, fill, plain_block, postfix_op, is_block_leaf, is_block_frame, is_silent}
 
--- ---- what a node is as printed: an operation behind attributes is in parentheses
+-- ---- what a node is as printed: an operation after attributes is in parentheses
 
 abbrev pub prints_range : Tree → Bool
 prints_range (attributed a more t) = false
 prints_range t = is_range t
 
--- without attributes: behind these it is in parentheses, since they would belong to its first operand
+-- without attributes: after these it is in parentheses, since they would belong to its first operand
 abbrev pub is_operation : Tree → Bool
 is_operation t = is_infix t || prints_range t
 
--- a trailer behind it would belong to it, or is refused there
+-- a trailer after it would belong to it, or is refused there
 abbrev pub prints_carrier : Tree → Bool
 prints_carrier (attributed a more t) = is_operation t || prints_carrier t
 prints_carrier t = carries t || is_cast t
 
--- ---- what a node must not have behind it, for what it is itself
+-- ---- what a node must not have after it, for what it is itself
 
 -- no end of a range
 abbrev pub ends_range_next : Next → Bool
@@ -124,8 +124,8 @@ self_wrapped c t = refuses t c.next || misplaced c t
 abbrev pub lower : Level → Level → Level
 lower v w = if above v w then w else v
 
--- The owner of a place must not have this behind it: an operator that the place takes, unless a bare range is there,
--- or a trailer that the occupant could carry. `wrapped`: the occupant stands in parentheses.
+-- The owner of a place must not have this after it: an operator that the place takes, unless a bare range is there,
+-- or a trailer that the occupant could carry. `wrapped`: the occupant is in parentheses.
 abbrev pub ends_badly : Level → Tree → Next → Bool → Bool
 ends_badly v t n wrapped = (takes_next v n && not (not wrapped && prints_range t)) || (trails n && (wrapped || prints_carrier t))
 
@@ -164,7 +164,7 @@ abbrev mutual
   low (postfixed x k) = lower (level (postfix_op k)) (if left_wrapped (postfix_op k) x (bad x (class_of (postfix_op k))) then lev.Unambiguous else low x)
   low _ = lev.Unambiguous
 
-  -- the bare right end must not have a token of this class behind it
+  -- the bare right end must not have a token of this class after it
   pub bad : Tree → Next → Bool
   bad (prefixed k gs t) n =
       ends_badly (prefix_level k) t (prefix_next k n)
@@ -193,7 +193,7 @@ left_asks k c t = left_wrapped k t (bad t c.next) || misplaced c t
 abbrev pub base_asks : Trailer → Context → Tree → Bool
 base_asks k c t = base_wrapped k t (bad t c.next) || misplaced c t
 
--- behind a prefix: the value of a `break` too where it begins with a label
+-- after a prefix: the value of a `break` too where it begins with a label
 abbrev pub prefix_asks : Prefix → Context → Tree → Bool
 prefix_asks k c t = place_asks (prefix_level k) c t || (is_bare_break k && labelled t)
 
@@ -233,8 +233,8 @@ abbrev pub chained_bare : Tree → Tree
 chained_bare (attributed a more (frame k ks)) = frame k ks
 chained_bare t = t
 
--- Behind `else` anything else than an `if` or a block, and behind a closure's output than a block, is put in braces, and
--- stands there as a statement.
+-- After `else` anything else than an `if` or a block, and after a closure's output than a block, is put in braces, and
+-- is there as a statement.
 abbrev pub piece_put : Piece → Tree → Tree → Tree → Tree → Bool → Tree
 piece_put e.chained t alone bare stated asks = if is_chainable t then chained_bare bare else plain_block (own_tokens stated)
 piece_put e.output_block t alone bare stated asks = if is_plain_block t then bare else plain_block (own_tokens stated)

@@ -1,21 +1,21 @@
--- The operands of a frame or a trailer, one behind the other: in which slot each stands, and what spells the tokens before
--- and behind it.
+-- The operands of a frame or a trailer, one after the other: in which slot each stands, and what spells the tokens before
+-- and after it.
 use Rattle.std.specs.Prelude.{Bool, true, false, not, ◌||◌, ◌&&◌, if◌then◌else◌, List, [], drop, codes, Option, Some, None}
 use Rattle.syn_lexer.specs.declared.lexeme.Delimiter.{Delimiter}
 use Rattle.syn_lexer.specs.declared.lexeme.Delimiter.TheVariants as del
 use Rattle.syn_tokens.specs.Tok.{Tok}
 use Rattle.syn_tokens.specs.Front.{group_at, is_empty}
 use Rattle.syn_parts.specs.Tree.{AttributeTree}
-use Rattle.syn_parts.specs.Form.{Form, Outcome, Test, Mark, then_behind, mark, then_by, both, shown, pure, case, flag, is_true, closed_by}
+use Rattle.syn_parts.specs.Form.{Form, Outcome, Test, Mark, and_then, then_behind, mark, then_by, both, shown, pure, case, flag, is_true, closed_by}
 use Rattle.syn_parts.specs.Mark.{sign, word, comma, semi, colon, word_at}
 use Rattle.syn_parts.specs.Part.{lifetimes_at, outer_attributes}
 use Rattle.syn_parts.specs.Pat.{MemberTree, PatTree, a_name, an_index, member, pattern, dots}
 use Rattle.syn_grammar.specs.declared.kinds.Place.{Place}
 use Rattle.syn_grammar.specs.Place.{plain, before_block, at_head}
 use Rattle.syn_grammar.specs.Path.{expr_path}
-use Rattle.syn_grammar.specs.Head.{label, closure_head, body_inside}
+use Rattle.syn_grammar.specs.Head.{label, closure_head, body}
 use Rattle.syn_grammar.specs.Tree as e
-use Rattle.syn_grammar.specs.Tree.{Body, Tree, Piece, Ending, Frame, Trailer, is_block_like}
+use Rattle.syn_grammar.specs.Tree.{Tree, Piece, Ending, Frame, Trailer, body_of, is_block_like}
 
 -- What may come next among operands.
 pub data Slot : Type 0 where
@@ -32,7 +32,7 @@ pub data Slot : Type 0 where
   otherwise : Slot
   -- the condition or the iterator of a loop
   loops : Slot
-  -- what a `match` looks at, and its arms; behind a guard the arm's body
+  -- what a `match` looks at, and its arms; after a guard the arm's body
   scrutinees : Slot
   arms : Slot
   bodies : Slot
@@ -43,7 +43,7 @@ pub data Slot : Type 0 where
   -- no more
   done : Slot
 
--- the slot behind an operand
+-- the slot after an operand
 abbrev pub after : Piece → Slot
 after e.element = elements
 after e.value = done
@@ -61,10 +61,10 @@ after e.output_block = done
 after e.grouped = done
 after e.stray = done
 
--- Here the operands may end: what they stand in ends, or no `else` follows.
+-- Here the operands may end: what they are in ends, or no `else` follows.
 abbrev pub may_end : Slot → Test
 may_end elements l = is_empty l
--- `..` without an expression behind may end the fields
+-- `..` without an expression after may end the fields
 may_end fields l = is_empty l || (dots.at l && is_empty (drop 2 l))
 may_end arms l = is_empty l
 may_end otherwise l = not (word_at (codes "else") l)
@@ -153,40 +153,25 @@ piece_place e.guarded = at_head
 piece_place (e.arm ats p) = at_head
 piece_place _ = plain
 
--- ---- the tokens behind an operand
+-- ---- the tokens after an operand
 
 -- a comma, or the end
 abbrev pub comma_or_end : List Tok → Outcome Ending
 comma_or_end l = if comma.at l then Some (e.comma, drop 1 l) else (if is_empty l then Some (e.no_ending, l) else None)
 
--- a comma; or none behind the last arm, and behind a block
+-- a comma; or none after the last arm, and after a block
 abbrev pub behind_arm : Tree → List Tok → Outcome Ending
 behind_arm x l =
     if comma.at l then Some (e.comma, drop 1 l) else (if is_empty l || is_block_like x then Some (e.no_ending, l) else None)
 
-abbrev pub plain_body : List Tok → Body
-plain_body ts = record { inner = []; tokens = ts }
-
-abbrev pub whole_body : Outcome Body → List Tok → Outcome Ending
-whole_body (Some (b, [])) n = Some (e.braced b, n)
-whole_body _ n = None
-
-abbrev pub behind_loop : Option (List Tok × List Tok) → Outcome Ending
-behind_loop None = None
-behind_loop (Some g) = whole_body (body_inside.reads g.0) g.1
-
-abbrev pub behind_condition : Option (List Tok × List Tok) → Outcome Ending
-behind_condition None = None
-behind_condition (Some g) = Some (e.braced (plain_body g.0), g.1)
-
--- what stands behind the operand x, and the tokens behind that
+-- what comes after the operand x, and the tokens after that; the attributes in the block of an `if` are its tokens
 unfoldable pub ending_at : Piece → Tree → List Tok → Outcome Ending
 ending_at e.element x l = comma_or_end l
 ending_at (e.field_value ats m c) x l = comma_or_end l
 ending_at (e.rest d) x l = if is_empty l then Some (e.no_ending, l) else None
 ending_at e.repeated x l = if semi.at l then Some (e.no_ending, drop 1 l) else None
-ending_at e.condition x l = behind_condition (group_at del.Brace l)
-ending_at e.loop_head x l = behind_loop (group_at del.Brace l)
+ending_at e.condition x l = and_then (group_at del.Brace l) (λ ts n. Some (e.braced (body_of [] ts), n))
+ending_at e.loop_head x l = and_then (body.reads l) (λ b n. Some (e.braced b, n))
 ending_at e.guarded x l = behind_arm x l
 ending_at (e.arm ats p) x l = behind_arm x l
 ending_at e.scrutinee x l = None

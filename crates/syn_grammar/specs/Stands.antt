@@ -67,7 +67,7 @@ is_prefix (e.reference m) = true
 is_prefix (e.raw_addr m) = true
 is_prefix _ = false
 
--- a call, a field or another trailer may stand behind it
+-- a call, a field or another trailer may come after it
 abbrev pub carries : Tree → Bool
 carries (leaf k) = not (is_range_leaf k)
 carries (attributed a more x) = carries x
@@ -88,7 +88,7 @@ abbrev pub is_attributed : Tree → Bool
 is_attributed (attributed a more x) = true
 is_attributed _ = false
 
--- Attributes may stand before it, and none do. Before a range without a start they may at a head alone; those before a
+-- Attributes may come before it, and none do. Before a range without a start they may at a head alone; those before a
 -- `Verbatim` are of its tokens.
 abbrev pub takes_attributes : Place → Tree → Bool
 takes_attributes p x = not (is_infix x || (is_attributed x || is_verbatim x)) && (p.head || not (is_range x))
@@ -97,7 +97,7 @@ abbrev pub is_if_expr : Tree → Bool
 is_if_expr (frame e.if_expr ks) = true
 is_if_expr _ = false
 
--- ---- what may stand behind a node
+-- ---- what may come after a node
 
 -- a block-like expression, or what holds one in an invisible group
 abbrev pub holds_block : Tree → Bool
@@ -113,7 +113,7 @@ abbrev pub goes_behind : Bool → List Tok → Bool
 goes_behind true n = dot_at n || question_at n
 goes_behind false n = trailer_at n
 
--- no trailer is left behind what could carry it, nor behind a cast
+-- no trailer is left after what could carry it, nor after a cast
 unfoldable pub closes : Place → Tree → List Tok → Bool
 closes p x n = not ((carries x || is_cast x) && goes_behind (rests p x) n)
 
@@ -126,7 +126,7 @@ is_jump_or_let lev.Jump = true
 is_jump_or_let lev.Let = true
 is_jump_or_let _ = false
 
--- `<-` is no operator; it is refused behind a whole expression and behind the value of `let`
+-- `<-` is no operator; it is refused after a whole expression and after the value of `let`
 abbrev pub refuses_arrow : Level → List Tok → Bool
 refuses_arrow v n = is_jump_or_let v && left_arrow_at n
 
@@ -136,7 +136,7 @@ unfoldable pub ends : Place → Tree → List Tok → Bool
 ends p x n =
     is_range x || (rests p x || not (goes_on p.level n || (refuses_dots p.level n || refuses_arrow p.level n)))
 
--- behind an operation but a range no `<-` stands
+-- after an operation but a range no `<-` stands
 unfoldable pub ends_operation : Infix → List Tok → Bool
 ends_operation op n = is_range_op op || not (left_arrow_at n)
 
@@ -146,19 +146,19 @@ fits_left p op x = not (is_range x || ((is_comparison op && compares x) || rests
 
 -- ---- leaves
 
--- a brace behind it is that of a block
+-- a brace after it is that of a block
 abbrev pub is_block_next : Place → List Tok → Bool
 is_block_next p n = p.condition && brace_at n
 
--- no value follows a jump without one, but before the block of a condition none is read behind `break`
+-- no value follows a jump without one, but before the block of a condition none is read after `break`
 abbrev pub ends_jump : Place → Jump → List Tok → Bool
 ends_jump p e.returning n = not (begins_expr n)
 ends_jump p e.yielding n = not (begins_expr n)
 ends_jump p (e.breaking None) n = not (begins_expr n) || is_block_next p n
 ends_jump p (e.breaking (Some w)) n = (not (begins_expr n) || is_block_next p n) && not (colon.at n)
 
--- A path stands alone: no brace behind it makes it a struct expression (in a condition the brace is the block's), no `#`
--- behind `builtin` special syntax; and `try` alone is one before `!=` only.
+-- A path stands alone: no brace after it makes it a struct expression (in a condition the brace is the block's), no `#`
+-- after `builtin` special syntax; and `try` alone is one before `!=` only.
 unfoldable pub leaf_stands : Place → Leaf → List Tok → Bool
 leaf_stands p (e.path q w) n =
     (p.condition || not (brace_at n))
@@ -168,7 +168,7 @@ leaf_stands p (e.full_range limits.Closed) n = false
 leaf_stands p (e.bare_jump j) n = ends_jump p j n
 leaf_stands p k n = true
 
--- ---- before an operand: m are the tokens behind the prefix
+-- ---- before an operand: m are the tokens after the prefix
 
 unfoldable pub prefix_stands : Place → Prefix → List Tok → Bool
 prefix_stands p (e.jump j) m = not (ends_jump p j m) && begins_expr m
@@ -183,15 +183,15 @@ prefix_place p (e.jump j) = plain
 prefix_place p (e.closure h) = at p lev.Jump
 prefix_place p k = at p lev.Prefix
 
--- ---- behind a left operand
+-- ---- after a left operand
 
--- an operation with a right operand: m are the tokens behind its operator
+-- an operation with a right operand: m are the tokens after its operator
 unfoldable pub infix_stands : Place → Infix → List Tok → Bool
 infix_stands p (inf.Range limits.HalfOpen) m = not (ends_open_range p.condition m)
 infix_stands p inf.Cast m = false
 infix_stands p op m = true
 
--- an operation without one: n are the tokens behind it
+-- an operation without one: n are the tokens after it
 unfoldable pub postfix_stands : Place → Postfix → List Tok → Bool
 postfix_stands p (e.cast x) n = true
 postfix_stands p (e.range_from limits.HalfOpen) n = ends_open_range p.condition n
@@ -224,20 +224,25 @@ abbrev pub is_pounded : Tree → Bool
 is_pounded (leaf k) = is_pounded_leaf k
 is_pounded _ = false
 
--- only these stand behind a block-like expression at a head
+-- only these come after a block-like expression at a head
 abbrev pub is_parenthesis_or_bracket : Trailer → Bool
 is_parenthesis_or_bracket e.call = true
 is_parenthesis_or_bracket e.index = true
 is_parenthesis_or_bracket _ = false
 
--- it can carry this trailer, and has no attributes; a named field is no callee
+-- it can carry this trailer, and has no attributes
+unfoldable pub carries_trailer : Place → Trailer → Tree → Bool
+carries_trailer p k x = carries x && (not (is_attributed x || is_pounded x) && not (is_parenthesis_or_bracket k && rests p x))
+
+-- The same, by which trees are read and printed: a named field is no callee. (None comes before a group in parentheses,
+-- where its name would be that of a method.)
 abbrev pub is_base : Trailer → Tree → Bool
 is_base k x = carries x && (not (is_attributed x || is_pounded x) && not (is_call k && is_named_field x))
 
 unfoldable pub fits_base : Place → Trailer → Tree → Bool
 fits_base p k x = is_base k x && not (is_parenthesis_or_bracket k && rests p x)
 
--- A float behind a dot is its parts (see `float_parts`): indices, and whether a dot ends them.
+-- A float after a dot is its parts (see `float_parts`): indices, and whether a dot ends them.
 abbrev pub step : Option ℕ → Option (List ℕ × Bool) → Option (List ℕ × Bool)
 step (Some n) (Some p) = Some (n ∷ p.0, p.1)
 step _ _ = None
@@ -258,12 +263,12 @@ abbrev pub open_steps : Option (List ℕ × Bool) → List Tok → Option (List 
 open_steps (Some (is, true)) l = Some (is, l)
 open_steps _ l = None
 
--- the indices behind a dot
+-- the indices after a dot
 unfoldable pub indices_at : List Tok → Option (List ℕ × List Tok)
 indices_at (literal s ∷ l) = closed_steps (steps_of (float_parts s)) l
 indices_at _ = None
 
--- where a name stands behind a dot: perhaps behind indices and a dot that are a float
+-- where a name comes after a dot: perhaps after indices and a dot that are a float
 unfoldable pub name_at : List Tok → Option (List ℕ × List Tok)
 name_at (literal s ∷ l) = open_steps (steps_of (float_parts s)) l
 name_at l = Some ([], l)
@@ -276,7 +281,7 @@ abbrev pub named_behind : Trailer → Option (List ℕ × List Tok) → Option (
 named_behind k None = None
 named_behind k (Some p) = with_steps p.0 (dotted.behind k p.1)
 
--- the indices of a float before the trailer, and the tokens behind its own
+-- the indices of a float before the trailer, and the tokens after its own
 unfoldable pub trailer_head : Trailer → List Tok → Option (List ℕ × List Tok)
 trailer_head e.call m = Some ([], m)
 trailer_head e.index m = Some ([], m)
@@ -297,14 +302,14 @@ abbrev pub has_no_comma : Children → Bool
 has_no_comma (child k e.no_ending x ks) = true
 has_no_comma _ = false
 
--- a tuple of one needs its comma; no struct expression stands in a condition, nor one of the path `try`
+-- a tuple of one needs its comma; no struct expression is in a condition, nor one of the path `try`
 unfoldable pub frame_stands : Place → Frame → Children → Bool
 frame_stands p e.tuple ks = not (is_one ks && has_no_comma ks)
 frame_stands p (e.structure q w d) ks = not (p.condition || is_try_alone q w)
 frame_stands p (e.closure_block h) ks = not (is_default h.output)
 frame_stands p k ks = true
 
--- a path alone in an invisible group: nothing behind that goes on it
+-- a path alone in an invisible group: nothing after that goes on it
 unfoldable pub frame_ends : Place → Frame → Children → List Tok → Bool
 frame_ends p e.group_expr (child k c (leaf (e.path q w)) ks) n = not (goes_on_path (not p.condition) (q, w) n)
 frame_ends p k ks n = true
@@ -315,7 +320,7 @@ ends_list false l = is_empty l
 
 -- ---- operands in places of their own
 
--- Behind `else` stands an `if` that is no place; and only a block behind a closure's output.
+-- After `else` stands an `if` that is no place; and only a block after a closure's output.
 abbrev pub ends_piece : Piece → Tree → List Tok → Bool
 ends_piece e.chained x n = is_if_expr x
 ends_piece e.output_block x n = false
@@ -339,7 +344,7 @@ takes_block _ = false
 
 mutual
   -- Node p l x n: the tree x is spelled by the tokens of l before n, and obeys the binding rules at this place, but for
-  -- what the place asks of the tokens n behind x itself.
+  -- what the place asks of the tokens n after x itself.
   pub data Node : Place → List Tok → Tree → List Tok → Type 0 where
     is_leaf : {p : Place} {l n : List Tok} {k : Leaf}
         → leaf_form.behind k l ≡ Some n → leaf_stands p k n ≡ true → Node p l (leaf k) n
@@ -372,10 +377,10 @@ mutual
         (behind : postfix_behind k (drop count m) ≡ Some n) (may_stand : postfix_stands p k n ≡ true) (whole_ends : ends_operation (postfix_op k) n ≡ true)
         → Node p l (postfixed x k) n
     is_tail : {p : Place} {l m h n : List Tok} {b x : Tree} {k : Trailer} {is : List ℕ} {ks : Children}
-        → Node p l b m → fits_base p k b ≡ true → trailer_head k m ≡ Some (is, h) → Content (trailer_holder k) h ks n
+        → Node p l b m → carries_trailer p k b ≡ true → trailer_head k m ≡ Some (is, h) → Content (trailer_holder k) h ks n
         → x ≡ fields_of b is → Node p l (tail x k ks) n
     is_indexed : {p : Place} {l m n : List Tok} {b x : Tree} {i : ℕ} {is : List ℕ}
-        → Node p l b m → fits_base p (e.field (an_index i)) b ≡ true → fields_head m ≡ Some (i ∷ is, n)
+        → Node p l b m → carries_trailer p (e.field (an_index i)) b ≡ true → fields_head m ≡ Some (i ∷ is, n)
         → x ≡ fields_of b (i ∷ is) → Node p l x n
     is_frame : {p : Place} {l h n : List Tok} {k : Frame} {ks : Children}
         → frame_head k l ≡ Some h → Content (frame_holder k) h ks n → frame_stands p k ks ≡ true → frame_ends p k ks n ≡ true
@@ -409,7 +414,7 @@ mutual
         → group_at del.Brace h ≡ Some (i, n) → inner_attributes.behind ats i ≡ Some j → Operands arms j ks []
         → Operands scrutinees l (child e.scrutinee (e.opened ats) x ks) n
 
--- The tree stands at the place for the tokens of l before n: it is spelled by them, obeys the binding rules, and ends
+-- The tree is at the place for the tokens of l before n: it is spelled by them, obeys the binding rules, and ends
 -- there.
 pub record Stands (p : Place) (l : List Tok) (x : Tree) (n : List Tok) : Type 0 where
   pub node : Node p l x n

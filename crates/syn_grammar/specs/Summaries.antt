@@ -101,7 +101,7 @@ prefix_by k c x = place_by (prefix_level k) c x || (is_bare_break k && x.labelle
 
 -- ---- summaries, by those of the operands
 
--- what the owner of a place must not have behind it; `wrapped`: the occupant is in parentheses
+-- what the owner of a place must not have after it; `wrapped`: the occupant is in parentheses
 abbrev pub end_by : Level → Summary → Next → Bool → Bool
 end_by v x n wrapped = (takes_next v n && not (not wrapped && x.range)) || (trails n && (wrapped || x.carries))
 
@@ -121,7 +121,7 @@ abbrev pub frame_sort : Frame → Sort
 frame_sort (e.structure q p d) = sort.Struct
 frame_sort k = if is_block_frame k then sort.BlockLike else sort.Other
 
--- behind attributes no brace is first
+-- after attributes no brace is first
 abbrev pub attributed_sort : Sort → Sort
 attributed_sort sort.Block = sort.BlockLike
 attributed_sort s = s
@@ -157,7 +157,7 @@ leaf_summary k =
       sort = leaf_sort k;
     }
 
--- an operation behind attributes is in parentheses
+-- an operation after attributes is in parentheses
 abbrev pub attributed_summary : Summary → Summary
 attributed_summary x =
     record {

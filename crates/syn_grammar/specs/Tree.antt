@@ -1,6 +1,6 @@
 -- Expressions as trees, without places in a text (Rust Reference, "Expressions"). A kind is a label of one of a few shapes:
 -- closed at both ends (`leaf`), in parentheses, tokens before an operand (`prefixed`), tokens between two operands (`infixed`),
--- tokens behind an operand (`postfixed`), a trailer with what it encloses (`tail`), operands in places of their own (`frame`);
+-- tokens after an operand (`postfixed`), a trailer with what it encloses (`tail`), operands in places of their own (`frame`);
 -- and a shape for attributes.
 use Rattle.std.specs.Prelude.{◌≡◌, ℕ, ◌+◌, ◌-◌, Bool, true, false, not, ◌||◌, ◌&&◌, if◌then◌else◌, List, [], ◌∷◌, ◌++◌, length, take, codes, Option, Some, None}
 use Rattle.syn_lexer.specs.declared.lexeme.Delimiter.{Delimiter}
@@ -13,13 +13,14 @@ use Rattle.syn_parts.specs.Part.{MacroTree}
 use Rattle.syn_parts.specs.Pat.{MemberTree, PatTree}
 use Rattle.syn_parts.specs.Own.{alone, joint, before_if, before_some, comma_before, enclosed, elements_own, lit_own, lifetime_own, lifetimes_own, block_own, type_own, return_own, arguments_own, qualified_own, macro_own}
 use Rattle.syn_parts.specs.PatOwn.{attributes_own, member_own, pat_own}
+pub use Rattle.syn_parts.specs.PatOwn.{word_if, vert_before}
 use Rattle.syn_grammar.specs.declared.kinds.UnKind.{UnKind}
 use Rattle.syn_grammar.specs.declared.kinds.Limits.{Limits}
 use Rattle.syn_grammar.specs.declared.kinds.Infix.{Infix}
 use Rattle.syn_grammar.specs.declared.kinds.Infix.TheVariants as inf
 use Rattle.syn_grammar.specs.Op.{binary_text, limits_text, unary_text}
 
--- what stands in the braces of a block: attributes (only the inner ones are spelled) and the tokens of its statements
+-- what is in the braces of a block: attributes (only the inner ones are spelled) and the tokens of its statements
 pub record Body : Type 0 where
   pub inner : List AttributeTree
   pub tokens : List Tok
@@ -45,7 +46,7 @@ pub data Leaf : Type 0 where
   loop_expr : Option Text → Body → Leaf
   unsafe_block : Body → Leaf
   const_block : Body → Leaf
-  -- whether `move` stands there; the block's tokens
+  -- whether `move` is there; the block's tokens
   async_block : Bool → List Tok → Leaf
   try_block : List Tok → Leaf
   -- verbatim tokens
@@ -66,7 +67,7 @@ pub record ClosureHead : Type 0 where
 
 pub data Prefix : Type 0 where
   unary : UnKind → Prefix
-  -- `&`, and whether `mut` stands there
+  -- `&`, and whether `mut` is there
   reference : Bool → Prefix
   -- `&raw`, and whether `mut` or `const`
   raw_addr : Bool → Prefix
@@ -97,7 +98,7 @@ pub data Frame : Type 0 where
   array : Frame
   tuple : Frame
   repeat : Frame
-  -- a struct expression, and whether `..` ends it with no expression behind
+  -- a struct expression, and whether `..` ends it with no expression after
   structure : QSelfTree → PathTree → Bool → Frame
   -- a closure with an output, before its block
   closure_block : ClosureHead → Frame
@@ -112,21 +113,21 @@ pub data Frame : Type 0 where
 pub data Piece : Type 0 where
   -- an element of a list
   element : Piece
-  -- alone in delimiters, or the length behind `;`
+  -- alone in delimiters, or the length after `;`
   value : Piece
   -- before `;`
   repeated : Piece
   -- a field's value, and whether a colon is before it: without one it isn't spelled
   field_value : List AttributeTree → MemberTree → Bool → Piece
-  -- behind the fields of a struct expression, and whether `..` is before it
+  -- after the fields of a struct expression, and whether `..` is before it
   rest : Bool → Piece
   -- before the block of an `if`, of a loop, and before the arms of a `match`
   condition : Piece
   loop_head : Piece
   scrutinee : Piece
-  -- behind `else`
+  -- after `else`
   chained : Piece
-  -- a match guard behind its pattern, the body behind it, and an arm's body behind a pattern
+  -- a match guard after its pattern, the body after it, and an arm's body after a pattern
   guard : List AttributeTree → PatTree → Piece
   guarded : Piece
   arm : List AttributeTree → PatTree → Piece
@@ -137,20 +138,20 @@ pub data Piece : Type 0 where
   -- a guard in a pattern where none may stand: it isn't spelled
   stray : Piece
 
--- the tokens behind such an operand
+-- the tokens after such an operand
 pub data Ending : Type 0 where
   no_ending : Ending
   comma : Ending
   braced : Body → Ending
-  -- the braces of a `match`, with what follows inside: behind inner attributes
+  -- the braces of a `match`, with what follows inside: after inner attributes
   opened : List AttributeTree → Ending
 
 mutual
   pub data Tree : Type 0 where
     leaf : Leaf → Tree
-    -- The mark says that a printer added the pair. What is read, or stands in a program's value, has none.
+    -- The mark says that a printer added the pair. What is read, or is in a program's value, has none.
     paren : Bool → Tree → Tree
-    -- behind one attribute or more
+    -- after one attribute or more
     attributed : AttributeTree → List AttributeTree → Tree → Tree
     -- with stray guards of its patterns
     prefixed : Prefix → Children → Tree → Tree
@@ -167,8 +168,8 @@ abbrev pub attributed_with : List AttributeTree → Tree → Tree
 attributed_with [] t = t
 attributed_with (a ∷ more) t = attributed a more t
 
--- ---- attributes (Rust Reference, "Expression attributes"): the outer ones stand before an expression. In blocks, loops and
--- a `match` the inner ones stand first in the braces. Other kinds print no inner one.
+-- ---- attributes (Rust Reference, "Expression attributes"): the outer ones come before an expression. In blocks, loops and
+-- a `match` the inner ones come first in the braces. Other kinds print no inner one.
 
 -- the outer ones of these, and the inner ones, in their order
 abbrev pub outers : List AttributeTree → List AttributeTree
@@ -184,7 +185,7 @@ abbrev pub from_inner : List AttributeTree → List AttributeTree
 from_inner [] = []
 from_inner (a ∷ more) = if a.inner then a ∷ more else from_inner more
 
--- whether inner attributes stand in the braces of the node
+-- whether inner attributes are in the braces of the node
 abbrev pub leaf_has_braces : Leaf → Bool
 leaf_has_braces (block label b) = true
 leaf_has_braces (loop_expr label b) = true
@@ -204,7 +205,7 @@ has_braces (frame k ks) = frame_has_braces k
 has_braces _ = false
 
 -- The attributes in the braces: those of the node's list from the first inner one on. Only the inner ones are spelled
--- there. The outer ones among them stand before the node too: so the tree keeps the order of the list.
+-- there. The outer ones among them come before the node too: so the tree keeps the order of the list.
 abbrev pub leaf_inner : Leaf → List AttributeTree
 leaf_inner (block label b) = b.inner
 leaf_inner (loop_expr label b) = b.inner
@@ -251,7 +252,7 @@ with_inner ats (leaf k) = leaf (leaf_with ats k)
 with_inner ats (frame k ks) = frame k (frame_with ats k ks)
 with_inner ats t = t
 
--- which of these attributes stand before the node
+-- which of these attributes come before the node
 abbrev pub outside : Tree → List AttributeTree → List AttributeTree
 outside t ats = if has_braces t then outers ats else ats
 
@@ -277,7 +278,7 @@ prepend more (attributed b bs t) = attributed_with (outside t more ++ b ∷ bs) 
 prepend more (leaf (verbatim ts)) = leaf (verbatim (attributes_own (outers more) ts))
 prepend more t = attributed_with (outside t more) (with_inner (inners more ++ inner_in t) t)
 
--- the block of these tokens, as it stands behind `else` and behind a closure's output
+-- the block of these tokens, as it comes after `else` and after a closure's output
 abbrev pub plain_block : List Tok → Tree
 plain_block ts = leaf (block None (record { inner = []; tokens = ts }))
 
@@ -286,9 +287,6 @@ plain_block ts = leaf (block None (record { inner = []; tokens = ts }))
 
 abbrev pub sign_before : Text → List Tok → List Tok
 sign_before text r = sign_toks text ++ r
-
-abbrev pub word_if : Bool → Text → List Tok → List Tok
-word_if b w r = before_if b (λ l. ident w ∷ l) r
 
 abbrev pub label_own : Option Text → List Tok → List Tok
 label_own label r = before_some label (λ w l. lifetime_own w (alone 58 ∷ l)) r
@@ -317,9 +315,6 @@ leaf_own (async_block m ts) r = ident (codes "async") ∷ word_if m (codes "move
 leaf_own (try_block ts) r = ident (codes "try") ∷ block_own ts r
 leaf_own (verbatim ts) r = ts ++ r
 
-abbrev pub vert_before : List Tok → List Tok
-vert_before r = alone 124 ∷ r
-
 abbrev pub closure_own : ClosureHead → List Tok → List Tok
 closure_own h r =
     before_some h.lifetimes lifetimes_own (word_if h.constness (codes "const") (word_if h.movability (codes "static")
@@ -341,7 +336,7 @@ infix_own inf.Assign r = alone 61 ∷ r
 infix_own (inf.Range op) r = sign_before (limits_text op) r
 infix_own inf.Cast r = ident (codes "as") ∷ r
 
--- the operator of what stands behind an operand
+-- the operator of what comes after an operand
 abbrev pub postfix_op : Postfix → Infix
 postfix_op (cast x) = inf.Cast
 postfix_op (range_from op) = inf.Range op
@@ -368,7 +363,7 @@ frame_own (for_loop label p) r = label_own label (ident (codes "for") ∷ pat_ow
 frame_own match_expr r = ident (codes "match") ∷ r
 frame_own _ r = r
 
--- the delimiter round the operands of a frame, the tokens before it, and those behind the operands in it
+-- the delimiter round the operands of a frame, the tokens before it, and those after the operands in it
 pub record Enclosure : Type 0 where
   pub delimiter : Delimiter
   pub head : List Tok
@@ -401,7 +396,7 @@ abbrev pub is_repeated : Piece → Bool
 is_repeated repeated = true
 is_repeated _ = false
 
--- what stands behind the operands that follow: nothing where this opens the braces that they stand in
+-- what comes after the operands that follow: nothing where this opens the braces that they are in
 abbrev pub inside_of : Ending → List Tok → List Tok
 inside_of (opened ats) r = []
 inside_of _ r = r
@@ -417,7 +412,7 @@ abbrev pub framed : Frame → Option Enclosure → List Tok → List Tok → Lis
 framed k None operands r = frame_own k operands
 framed k (Some e) operands r = e.head ++ enclosed e.delimiter operands r
 
--- what follows the operands: the tokens behind the whole, or the end of what is enclosed
+-- what follows the operands: the tokens after the whole, or the end of what is enclosed
 abbrev pub behind_operands : Option Enclosure → List Tok → List Tok
 behind_operands None r = r
 behind_operands (Some e) r = e.ending
@@ -479,7 +474,7 @@ abbrev mutual
 
 -- ---- the fill-ins: the comma of a tuple of one, those between arms, the one before `..`, and `..` before a rest
 
--- an expression that ends with a block, behind which a statement or an arm ends (Rust Reference, "Expression
+-- an expression that ends with a block, after which a statement or an arm ends (Rust Reference, "Expression
 -- statements", "Match expressions")
 abbrev pub is_block_leaf : Leaf → Bool
 is_block_leaf (block label b) = true
@@ -516,7 +511,7 @@ needs_last_comma tuple ks = is_one ks
 needs_last_comma (structure q p dots) ks = dots
 needs_last_comma _ ks = false
 
--- Whether a comma is needed behind the operand t: `more` operands follow, `last` says whether one is needed anyway.
+-- Whether a comma is needed after the operand t: `more` operands follow, `last` says whether one is needed anyway.
 abbrev pub needs_comma : Piece → Tree → Bool → Bool → Bool
 needs_comma element t more last = more || last
 needs_comma (field_value ats m colon) t more last = more || last

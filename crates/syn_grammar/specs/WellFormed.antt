@@ -117,7 +117,7 @@ abbrev pub is_verbatim_block : Tree → Bool
 is_verbatim_block (leaf k) = is_verbatim_leaf k
 is_verbatim_block _ = false
 
--- an operand of this kind belongs into the slot, with its tokens before and behind
+-- an operand of this kind belongs into the slot, with its tokens before and after
 abbrev pub piece_fits : Slot → Piece → Ending → Tree → Bool
 piece_fits elements e.element c t = true
 piece_fits single e.value c t = true
@@ -134,7 +134,7 @@ piece_fits bodies e.guarded c t = true
 piece_fits outputs e.output_block c t = is_verbatim_block t
 piece_fits _ k c t = false
 
--- the tokens behind an operand are of its kind
+-- the tokens after an operand are of its kind
 abbrev pub ending_fits : Piece → Ending → Bool
 ending_fits e.element e.no_ending = true
 ending_fits e.element e.comma = true
@@ -164,7 +164,7 @@ may_stop arms = true
 may_stop done = true
 may_stop _ = false
 
--- a block of a whole `if` behind `else`, or behind a closure's output, keeps all its tokens
+-- a block of a whole `if` after `else`, or after a closure's output, keeps all its tokens
 abbrev pub keeps_block : Piece → Tree → Bool
 keeps_block e.chained t = is_verbatim_block t
 keeps_block e.output_block t = is_verbatim_block t

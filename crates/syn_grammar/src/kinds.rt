@@ -81,7 +81,7 @@ pub enum Limits {
     Closed,
 }
 
-/// The operators that stand behind a left operand.
+/// The operators that come after a left operand.
 #[derive(Clone, Copy, Debug, PartialEq, Eq)]
 pub enum Infix {
     /// A binary operator.
@@ -131,7 +131,7 @@ pub enum Level {
     Unambiguous,
 }
 
-/// Where an expression stands.
+/// Where an expression is.
 #[derive(Clone, Copy, Debug, PartialEq, Eq)]
 pub struct Place {
     /// Infix operators above this level belong to the expression.

@@ -8,7 +8,7 @@ pub fn pairs_are_added()
 {}
 
 /// No parentheses are added to a well-formed tree in plain position, in a condition or in an arm exactly where the tree's own
-/// spelling stands there for it. (In operations with attributes they always are.)
+/// spelling is there for it. (In operations with attributes they always are.)
 pub fn none_redundant()
     ensures { NoneRedundant }
 {}

@@ -1,6 +1,6 @@
-//! What a printer has to know of the place of a node: what stands behind it, and what is round it.
+//! What a printer has to know of the place of a node: what comes after it, and what is round it.
 
-/// The first token behind a node, as far as it decides about parentheses.
+/// The first token after a node, as far as it decides about parentheses.
 #[derive(Clone, Copy, Debug, PartialEq, Eq)]
 pub enum Next {
     /// Nothing, or a token with which no expression goes on.
@@ -47,9 +47,9 @@ pub enum Next {
     Parenthesis,
     /// A group in brackets.
     Bracket,
-    /// A group in braces that opens a block: behind a condition.
+    /// A group in braces that opens a block: after a condition.
     Block,
-    /// A group in braces elsewhere: behind the value of a jump in a condition.
+    /// A group in braces elsewhere: after the value of a jump in a condition.
     Brace,
 }
 
@@ -77,6 +77,6 @@ pub struct Context {
     pub condition: bool,
     /// What its first leaf may be.
     pub edge: Edge,
-    /// What stands behind it.
+    /// What comes after it.
     pub next: Next,
 }

@@ -10,7 +10,7 @@ pub fn leading_label_is_first()
 {}
 
 /// A tree ends with a brace exactly where the last of its own tokens is a group in braces, whatever the tree; and an `if`
-/// always does, what stands behind `else` as a block.
+/// always does, what comes after `else` as a block.
 pub fn trailing_brace_is_last()
     ensures { TrailingBraceIsLast }
 {}

@@ -7,7 +7,7 @@ use crate::kinds::Level;
 pub enum Sort {
     /// A block without a label: a brace is first.
     Block,
-    /// Another expression that ends with a block, or one behind attributes.
+    /// Another expression that ends with a block, or one after attributes.
     BlockLike,
     /// A macro called with braces.
     BracedMacro,
@@ -24,7 +24,7 @@ pub enum Sort {
 pub struct Summary {
     /// The lowest operator on its left edge, `Unambiguous` where there is none.
     pub low: Level,
-    /// The classes of tokens that it must not have behind it: a bit for each, in the order of `Next`.
+    /// The classes of tokens that it must not have after it: a bit for each, in the order of `Next`.
     pub ends: u32,
     /// It is an assignment, a binary operation, a cast or a range, and has no attributes.
     pub operation: bool,
@@ -32,7 +32,7 @@ pub struct Summary {
     pub range: bool,
     /// It is a comparison, and has no attributes.
     pub comparison: bool,
-    /// A trailer behind it would belong to it, or is refused there.
+    /// A trailer after it would belong to it, or is refused there.
     pub carries: bool,
     /// A trailer may have it as its base.
     pub base: bool,

@@ -5,13 +5,13 @@ use Rattle.std.proofs.lemmas.Bool.Decides.{nat_tests}
 use Rattle.syn_lexer.specs.Text.{Text, begins}
 use Rattle.syn_lexer.specs.Blanks.{comment_rest}
 
--- one more comment is open behind `/*`
+-- one more comment is open after `/*`
 pub comment_rest-opens : (inner n : ℕ) (z : Text) → begins (codes "/*") z ≡ true → comment_rest false inner n z ≡ comment_rest false (inner + 1) (n + 2) (drop 2 z)
 comment_rest-opens inner n [] is = refl
 comment_rest-opens inner n (c ∷ []) is = rw is refl
 comment_rest-opens inner n (c ∷ (d ∷ z)) is = let two : n + 1 + 1 ≡ n + 2 = omega arith in rw (is, two) refl
 
--- one less is open behind a `*/` that does not close the outermost
+-- one less is open after a `*/` that does not close the outermost
 pub comment_rest-closes : (inner n : ℕ) (z : Text) → begins (codes "/*") z ≡ false → begins (codes "*/") z ≡ true → inner ≢ 0
     → comment_rest false inner n z ≡ comment_rest false (inner - 1) (n + 2) (drop 2 z)
 comment_rest-closes inner n [] other is more = refl

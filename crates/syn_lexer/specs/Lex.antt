@@ -54,7 +54,7 @@ token z =
     else (if is_ascii_digit (slice_index z 0) then number z
     else (if slice_index z 0 == single_quote then character_or_lifetime z else single z))))))
 
--- what stands at the front of a text that has characters
+-- what is at the front of a text that has characters
 unfoldable pub reading : Text → Reading
 reading z =
     if is_white_space (slice_index z 0) then Ok (Blank, white_space_len z)

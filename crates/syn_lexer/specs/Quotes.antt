@@ -32,7 +32,7 @@ is_hash c = c == 35
 abbrev pub hashes_len : Text → ℕ
 hashes_len z = prefix_len is_hash z
 
--- how many characters there are up to and with the first `"` that has so many `#` behind it, counted on from `n`
+-- how many characters there are up to and with the first `"` that has so many `#` after it, counted on from `n`
 abbrev pub raw_string_rest : ℕ → ℕ → Text → Option ℕ
 raw_string_rest hashes n [] = None
 raw_string_rest hashes n (c ∷ z) =
@@ -77,7 +77,7 @@ raw_string z =
     let opening = raw_string_opening_len z in
     closed z opening (raw_string_rest (raw_string_hashes z) 0 (drop opening z)) (length z)
 
--- ---- characters and bytes, behind their opening `'`
+-- ---- characters and bytes, after their opening `'`
 
 -- neither `'` nor a line feed
 abbrev pub is_within_character : ℕ → Bool
@@ -95,7 +95,7 @@ is_character z = is_within_character (slice_index z 0) && slice_index z (charact
 abbrev pub character_rest : Text → Option ℕ
 character_rest z = if is_character z then Some (character_len z + 1) else None
 
--- how many characters there are up to where the closing `'` is missing, behind so many; no more than the text
+-- how many characters there are up to where the closing `'` is missing, after so many; no more than the text
 abbrev pub unclosed_len : ℕ → Text → ℕ
 unclosed_len opening z = min (opening + character_len (drop opening z)) (length z)
 

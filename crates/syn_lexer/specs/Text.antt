@@ -1,4 +1,4 @@
--- A text is a list of characters; what stands at its front is read, or refused.
+-- A text is a list of characters; what is at its front is read, or refused.
 use Rattle.std.specs.Prelude.{ℕ, ◌≤◌, Bool, List, length, Result, Ok, Err, MatchResult, nat_eq}
 use Rattle.std.specs.List.{starts_with}
 use Rattle.syn_lexer.specs.declared.lexeme.Lexeme.{Lexeme}
@@ -9,7 +9,7 @@ use Rattle.syn_lexer.specs.declared.error.Refusal.{Refusal}
 abbrev pub Text : Type 0
 Text = List ℕ
 
--- the kind of what stands at the front and how many characters it is; or why nothing stands there, and how many
+-- the kind of what is at the front and how many characters it is; or why nothing is there, and how many
 -- characters there are to where the lexer stood
 abbrev pub Reading : Type 0
 Reading = Result (LexemeKind × ℕ) (LexError × ℕ)

@@ -16,7 +16,7 @@ abbrev pub starts_word : Text → Bool
 starts_word [] = false
 starts_word (c ∷ z) = is_word_start c
 
--- the first character, and those with the Unicode property XID_Continue behind it
+-- the first character, and those with the Unicode property XID_Continue after it
 abbrev pub word_len : Text → ℕ
 word_len z = 1 + prefix_len is_xid_continue (drop 1 z)
 

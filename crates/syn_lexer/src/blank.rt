@@ -28,7 +28,7 @@ fn more_white_space(text: &[char]) -> usize
     text.iter().take_while(|c| is_white_space(**c)).count()
 }
 
-/// How many characters of white space stand at the front, where one does.
+/// How many characters of white space are at the front, where one does.
 pub fn white_space_len(text: &[char]) -> usize
     requires { 0 < length text.now }
     ensures value { result ≡ spec.white_space_len text.now }
@@ -37,7 +37,7 @@ pub fn white_space_len(text: &[char]) -> usize
     1 + more_white_space(&text[1..])
 }
 
-/// Whether `//` stands first.
+/// Whether `//` comes first.
 pub fn begins_line_comment(text: &[char]) -> bool
     ensures value { result ≡ spec.begins_line_comment text.now }
     ensures within { result ≡ true → 2 ≤ length text.now }
@@ -45,7 +45,7 @@ pub fn begins_line_comment(text: &[char]) -> bool
     matches!(text, ['/', '/', ..])
 }
 
-/// Whether `/*` stands first.
+/// Whether `/*` comes first.
 pub fn begins_block_comment(text: &[char]) -> bool
     ensures value { result ≡ spec.begins_block_comment text.now }
     ensures within { result ≡ true → 2 ≤ length text.now }
@@ -53,7 +53,7 @@ pub fn begins_block_comment(text: &[char]) -> bool
     matches!(text, ['/', '*', ..])
 }
 
-/// Whether a comment stands first.
+/// Whether a comment comes first.
 pub fn begins_comment(text: &[char]) -> bool
     ensures { result ≡ spec.begins_comment text.now }
 {

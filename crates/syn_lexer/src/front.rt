@@ -105,7 +105,7 @@ fn plain(text: &[char]) -> Result<Lexeme, Refusal>
     single(text)
 }
 
-/// A comment, a literal, a raw identifier or a lifetime, if one stands here.
+/// A comment, a literal, a raw identifier or a lifetime, if one is here.
 // Most lexemes are none, and are read faster without the code of these between.
 #[inline(never)]
 #[tactic(auto, unfolding(crate::specs::Lex::reading, crate::specs::Lex::token))]
@@ -145,7 +145,7 @@ fn marked(text: &[char]) -> Option<Result<Lexeme, Refusal>>
     None
 }
 
-/// As `marked`, which is asked only behind a first character that may begin one.
+/// As `marked`, which is asked only after a first character that may begin one.
 fn marked_at(text: &[char]) -> Option<Result<Lexeme, Refusal>>
     requires some { 0 < length text.now }
     requires no_white_space { is_white_space (slice_index text.now 0) ≡ false }

@@ -23,7 +23,7 @@ pub enum Spacing {
     Joint,
 }
 
-/// What stands at the front of a text.
+/// What is at the front of a text.
 #[derive(Clone, Copy, Debug, PartialEq, Eq, Hash)]
 pub enum LexemeKind {
     /// White space, or a comment that is no doc comment (Rust Reference, "Whitespace", "Comments").

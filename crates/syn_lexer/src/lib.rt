@@ -1,4 +1,4 @@
-//! The lexemes of a Rust text: what stands at its front, and how long it is.
+//! The lexemes of a Rust text: what is at its front, and how long it is.
 #![tactic(auto)]
 
 mod blank;

@@ -162,7 +162,7 @@ fn more_of_character(text: &[char]) -> usize
     text.iter().take_while(|c| is_within_character(**c)).count()
 }
 
-/// How many characters stand before the closing `'`, which may be missing.
+/// How many characters come before the closing `'`, which may be missing.
 fn character_len(text: &[char]) -> usize
     ensures value { result ≡ spec.character_len text.now }
     ensures within { (1 ≤ result) × (result ≤ length text.now + 1) }

@@ -60,7 +60,7 @@ fn suffix_len(text: &[char]) -> usize
     if starts_word(text) { word_len(text) } else { 0 }
 }
 
-/// The literal that ends at this place, with the suffix behind it.
+/// The literal that ends at this place, with the suffix after it.
 pub fn literal_to(text: &[char], end: usize) -> Lexeme
     requires { end ≤ length text.now }
     ensures value { (result.kind, result.len) ≡ spec.literal_to text.now end }

@@ -1,7 +1,7 @@
 -- Each level of a type shows the trees of what it holds.
 --
 -- A fold goes into a type by maps that are written for each place where a list, an option or an enum stands. What is shown
--- of each of these is the same behind its map, from the inside out.
+-- of each of these is the same after its map, from the inside out.
 use Rattle.std.proofs.Common.{◌≡◌, Bool, not, ◌&&◌, List, [], ◌∷◌, ◌++◌, map, Option, Some, None, refl, ◌∙◌, ap, rules}
 use Rattle.std.proofs.lemmas.List.{map-append}
 use Rattle.std.proofs.lemmas.Simd.{map-map}

@@ -1,4 +1,4 @@
--- What stands at the right end of a type.
+-- What is at the right end of a type.
 use Rattle.std.specs.Prelude.{◌≡◌, ℕ, ◌+◌, ◌<◌, Bool}
 use Rattle.syn_parts.specs.Ends.{ends_open}
 use Rattle.syn_parts.specs.Tree as t
@@ -7,7 +7,7 @@ use Rattle.syn_lower.specs.View.{type_of}
 use Rattle.syn_lower.specs.declared.ends.End.{End}
 use Rattle.syn_lower.specs.declared.ends.End.TheVariants as end
 
--- how many types stand there, each at the right end of the one before
+-- how many types are there, each at the right end of the one before
 abbrev mutual
   pub depth : TypeTree → ℕ
   depth (t.path q l ss e) = segments_depth ss

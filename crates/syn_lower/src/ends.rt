@@ -1,4 +1,4 @@
-//! Whether a type ends in a name that could have arguments behind it.
+//! Whether a type ends in a name that could have arguments after it.
 
 ghost use Rattle.std.specs.Prelude.{◌≡◌, map};
 ghost use Rattle.syn_lower.specs.Ends.{Tells, depth, segments_depth, arguments_depth, return_depth, bounds_depth};
@@ -12,7 +12,7 @@ use syn_lower_leaves::text::stands_alone;
 use syn_lower_lists::punctuated::Punctuated;
 use syn_tokens::token::Plus;
 
-/// What stands at the right end.
+/// What is at the right end.
 enum End<'a> {
     /// No type: whether a name without arguments does.
     Name(bool),
@@ -20,7 +20,7 @@ enum End<'a> {
     Inside(&'a Type),
 }
 
-/// What stands at the right end of an output.
+/// What is at the right end of an output.
 fn output_end(output: &ReturnType) -> End<'_>
     ensures { Tells result (spec.return_open (return_of output.now)) (return_depth (return_of output.now)) }
 {
@@ -30,7 +30,7 @@ fn output_end(output: &ReturnType) -> End<'_>
     }
 }
 
-/// What stands at the right end of a segment.
+/// What is at the right end of a segment.
 fn segment_end(segment: &PathSegment) -> End<'_>
     ensures { let s = segment_of type_of segment.now in Tells result (spec.arguments_open s.ident s.arguments) (arguments_depth s.arguments) }
 {
@@ -41,7 +41,7 @@ fn segment_end(segment: &PathSegment) -> End<'_>
     }
 }
 
-/// What stands at the right end of a path.
+/// What is at the right end of a path.
 #[tactic(auto, using(crate::proofs::Lasts::lasts))]
 fn path_end(path: &Path) -> End<'_>
     ensures { let ss = t.segments_of (path_of type_of path.now).segments in Tells result (spec.segments_open ss) (segments_depth ss) }
@@ -52,7 +52,7 @@ fn path_end(path: &Path) -> End<'_>
     }
 }
 
-/// What stands at the right end of bounds.
+/// What is at the right end of bounds.
 #[tactic(auto, using(crate::proofs::Lasts::lasts))]
 fn bounds_end(bounds: &Punctuated<TypeParamBound, Plus>) -> End<'_>
     ensures { let bs = t.bounds_of (map bound_of (values bounds.now)) in Tells result (spec.bounds_open bs) (bounds_depth bs) }
@@ -64,7 +64,7 @@ fn bounds_end(bounds: &Punctuated<TypeParamBound, Plus>) -> End<'_>
     }
 }
 
-/// What stands at the right end of a type.
+/// What is at the right end of a type.
 #[tactic(auto, using(crate::proofs::Makes::makes))]
 fn type_end(ty: &Type) -> End<'_>
     ensures { Tells result (spec.ends_open (type_of ty.now)) (depth (type_of ty.now)) }
@@ -86,7 +86,7 @@ fn type_end(ty: &Type) -> End<'_>
     }
 }
 
-/// Whether a type ends in a name without arguments that could have some: at a `<` behind it the type would go on (Rust
+/// Whether a type ends in a name without arguments that could have some: at a `<` after it the type would go on (Rust
 /// Reference, "Paths in types"). `super`, `self`, `crate` and `try` take none.
 pub fn ends_open(ty: &Type) -> bool
     ensures { result ≡ spec.ends_open (type_of ty.now) }

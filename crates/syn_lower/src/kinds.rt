@@ -177,7 +177,7 @@ impl Parse for TypeNever {
 
     ghost seen = { λ x. type_of (variant.Never x) };
 
-    /// `!` stands before the rest.
+    /// `!` comes before the rest.
     ghost spells = { λ l x rest. (kinds.type_of_kind part.is_never).behind x l ≡ Some rest };
 
     ghost least = { 1 };
@@ -197,7 +197,7 @@ impl Parse for TypeInfer {
 
     ghost seen = { λ x. type_of (variant.Infer x) };
 
-    /// `_` stands before the rest.
+    /// `_` comes before the rest.
     ghost spells = { λ l x rest. (kinds.type_of_kind part.is_infer).behind x l ≡ Some rest };
 
     ghost least = { 1 };

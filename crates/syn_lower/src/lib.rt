@@ -1,5 +1,5 @@
 //! The lower parts of expressions: literals, attributes, lifetimes, paths, types, bounds, macros, blocks, and lists with
-//! puncts, as in syn. Their names stand in syn's modules, and here at the root too.
+//! puncts, as in syn. Their names are in syn's modules, and here at the root too.
 #![tactic(auto)]
 
 pub mod ends;

@@ -28,5 +28,5 @@ pub type AssocType = AssocTypeOf<Type>;
 /// `(A, B) -> C`, the arguments of a trait of functions.
 pub type ParenthesizedGenericArguments = ParenthesizedGenericArgumentsOf<Type>;
 
-/// The type in front of a path: `<T as a::b>::c` is held as `a::b::c`, of which two segments stand inside.
+/// The type in front of a path: `<T as a::b>::c` is held as `a::b::c`, of which two segments are inside.
 pub type QSelf = QSelfOf<Type>;

@@ -62,7 +62,7 @@ impl ToTokens for Type {
 }
 
 /// Prints a path and the type that it is qualified by, if there is one: `<T as a::b>::c`, or the path alone. `position`
-/// says how many segments stand before `>`; where the path has fewer, all do. `as` is printed exactly where some do,
+/// says how many segments come before `>`; where the path has fewer, all do. `as` is printed exactly where some do,
 /// whatever `as_token` is. It is refused as `OutOfMemory` alone, and the tokens that were there then stay in front.
 #[inline(always)]
 #[tactic(auto, using(syn_lower_generic::proofs::Prints::qpaths))]

@@ -1,5 +1,5 @@
 //! Whether types are read back from their own tokens. The tests of the parts, and what it means that one is read back, stand
-//! in `syn_lower_generic::read_back`; here are those of `Type`, on which they stand.
+//! in `syn_lower_generic::read_back`; here are those of `Type`, on which they are.
 
 ghost use Rattle.std.specs.Prelude.{◌≡◌, true, false};
 ghost use Rattle.syn_lower.specs.View.{type_of};
@@ -53,7 +53,7 @@ impl FitTypes for Type {
 }
 
 impl Type {
-    /// Whether it is read back; behind its `impl` or `dyn` several bounds may stand (`parse`), or one (`without_plus`).
+    /// Whether it is read back; after its `impl` or `dyn` several bounds may stand (`parse`), or one (`without_plus`).
     pub fn is_read_back(&self, several: bool) -> bool
         ensures { result ≡ spec.type_fits several (type_of self.now) }
     {

@@ -1,4 +1,4 @@
-//! The reader of types, which ties the knot of `syn_lower_readers`, and those that stand on it.
+//! The reader of types, which ties the knot of `syn_lower_readers`, and those that are on it.
 #![tactic(auto, using(syn_parts::proofs::Readable::readables))]
 
 ghost use Rattle.std.specs.Prelude.{◌≡◌, ◌≤◌, ◌+◌, IfErr, IfOk, Some, true, false, if◌then◌else◌};
@@ -23,7 +23,7 @@ use syn_parts::label::PathStyle;
 use syn_tokens::buffer::{Parse, ParseBuffer};
 use syn_tokens::error::Result;
 
-/// Reads a type; behind its `impl` or `dyn` several bounds may stand, or one.
+/// Reads a type; after its `impl` or `dyn` several bounds may stand, or one.
 #[tactic(auto, using(syn_parts::proofs::Parts::type_is))]
 pub fn ty(input: &mut ParseBuffer<'_>, several: bool) -> Result<Box<Type>>
     ensures value { Reads (λ x. type_of x.value) ((part.type several).reads input.old.rest) result input.new.rest }
@@ -154,12 +154,12 @@ impl Parse for Type {
 
     ghost seen = { type_of };
 
-    /// A type stands before the rest; behind its `impl` or `dyn` several bounds may stand.
+    /// A type comes before the rest; after its `impl` or `dyn` several bounds may stand.
     ghost spells = { λ l x rest. (part.type true).behind x l ≡ Some rest };
 
     ghost least = { 1 };
 
-    /// Reads a type (Rust Reference, "Types"), with several bounds behind `impl` and `dyn`.
+    /// Reads a type (Rust Reference, "Types"), with several bounds after `impl` and `dyn`.
     ///
     /// It is refused as `ExpectedPart` of a type where it or a type inside is missing, of a path where a bound or a segment
     /// is, of a macro where no group follows the `!` of one, and of a literal where no number follows the `-` of an argument;
@@ -171,8 +171,8 @@ impl Parse for Type {
 }
 
 impl Type {
-    /// Reads a type with one bound behind `impl` and `dyn`, as behind `as` (Rust Reference, "Type cast expressions"). It is
-    /// read exactly where one stands, unless memory runs out. It is refused as `parse` refuses a type, and the input then
+    /// Reads a type with one bound after `impl` and `dyn`, as after `as` (Rust Reference, "Type cast expressions"). It is
+    /// read exactly where one is, unless memory runs out. It is refused as `parse` refuses a type, and the input then
     /// stays where it was.
     #[tactic(auto, using(crate::proofs::ReadingParts::one_bound_reading))]
     pub fn without_plus(input: &mut ParseBuffer<'_>) -> Result<Type>
@@ -191,8 +191,8 @@ impl Type {
 
 /// Reads a path and the type that it is qualified by, if there is one: `<T as a::b>::c`, or the path alone, in an
 /// expression's style (`::` before `<`) or in a type's (Rust Reference, "Paths", "Qualified paths"). It is read exactly
-/// where one stands, unless memory runs out. It is refused as `ExpectedPart` of a path where a segment is missing, as
-/// `ExpectedToken` where `>` or the `::` behind it is, and inside as a type is; the input then stays where it was.
+/// where one is, unless memory runs out. It is refused as `ExpectedPart` of a path where a segment is missing, as
+/// `ExpectedToken` where `>` or the `::` after it is, and inside as a type is; the input then stays where it was.
 #[tactic(auto, using(crate::proofs::ReadingParts::qpath_reading))]
 pub fn qpath(input: &mut ParseBuffer<'_>, expr_style: bool) -> Result<(Option<QSelf>, Path)>
     ensures value { Reads (λ q. (qself_or type_of q.0, path_of type_of q.1)) ((part.qpath part.type (if expr_style then PathStyle.Expr else PathStyle.Type)).reads input.old.rest) result input.new.rest }

@@ -1,4 +1,4 @@
-//! Types (Rust Reference, "Types"). The parts that hold types stand in `syn_lower_generic`, generic in them; here they have syn's
+//! Types (Rust Reference, "Types"). The parts that hold types are in `syn_lower_generic`, generic in them; here they have syn's
 //! names, over `Type`.
 
 ghost use Rattle.std.specs.Prelude.{◌≡◌};
@@ -17,7 +17,7 @@ use syn_tokens::token::{Not, Underscore};
 
 /// A type.
 #[cycle(types)]
-#[derive(Drop, PartialEq)]
+#[derive(Debug, Drop, PartialEq)]
 pub enum Type {
     /// `a::B<C>`, `<T as A>::B`
     Path(TypePathOf<Type>),
@@ -72,14 +72,14 @@ pub type TypeTuple = TypeTupleOf<Type>;
 pub type TypeParen = TypeParenOf<Type>;
 
 /// `!` (Rust Reference, "Never type").
-#[derive(Drop, PartialEq)]
+#[derive(Debug, Drop, PartialEq)]
 pub struct TypeNever {
     /// `!`
     pub bang_token: Not,
 }
 
 /// `_` (Rust Reference, "Inferred type").
-#[derive(Drop, PartialEq)]
+#[derive(Debug, Drop, PartialEq)]
 pub struct TypeInfer {
     /// `_`
     pub underscore_token: Underscore,

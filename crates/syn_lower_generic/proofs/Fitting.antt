@@ -61,7 +61,7 @@ args_all : {A : Type 0} (f : A → FnArgTree) (xs : List A) → args_fit (t.args
 args_all f [] = refl
 args_all f (x ∷ xs) = ap (λ b. fits_if is_arg_name (f x).name && (type_fits true (f x).ty && b)) (args_all f xs) ∙ sym (and_assoc (fits_if is_arg_name (f x).name) (type_fits true (f x).ty) _)
 
--- a punct ends a list only behind a value
+-- a punct ends a list only after a value
 ends : {A P : Type 0} (none : List A → Bool) → ((x : A) (xs : List A) → none (x ∷ xs) ≡ false) → (p : Punctuated A P) → ends_well (none (values p)) (trails p) ≡ true
 unfolding values trails
 ends {A} {P} none h p = by p.inner.items p.last

@@ -43,7 +43,7 @@ use Rattle.syn_lower_generic.specs.declared.ty.TraitBoundOf.{TraitBoundOf}
 abbrev pub grouped : Delimiter → List Tok → List Tok
 grouped d ts = group d (inside ts) ∷ []
 
--- ---- types in brackets and behind words
+-- ---- types in brackets and after words
 
 abbrev pub return_printed : {T : Type 0} → (T → List Tok) → ReturnTypeOf T → List Tok
 return_printed f output.Default = []
@@ -89,13 +89,13 @@ macro_printed f x = path_printed f x.path ++ alone 33 ∷ grouped (delimiter_of 
 abbrev pub closed_printed : ℕ → List Tok
 closed_printed n = if n == 1 then alone 62 ∷ [] else []
 
--- `>` behind the last of the n segments that stand inside
+-- `>` after the last of the n segments that are inside
 abbrev pub inside_printed : {A P : Type 0} → (A → List Tok) → ℕ → List (A × P) → Option (Box A Global) → List Tok
 inside_printed f n [] None = []
 inside_printed f n [] (Some b) = f b.value ++ closed_printed n
 inside_printed f n (q ∷ qs) o = f q.0 ++ (closed_printed n ++ (colon2 q.1 ++ inside_printed f (n - 1) qs o))
 
--- `>` at once where none stand inside, else `as`
+-- `>` at once where none are inside, else `as`
 abbrev pub qself_end_printed : ℕ → List Tok
 qself_end_printed n = if n == 0 then alone 62 ∷ [] else ident (codes "as") ∷ []
 

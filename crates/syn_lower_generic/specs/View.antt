@@ -35,7 +35,7 @@ use Rattle.syn_lower_generic.specs.declared.ty.TypeParenOf.{TypeParenOf}
 use Rattle.syn_lower_generic.specs.declared.ty.TypeImplTraitOf.{TypeImplTraitOf}
 use Rattle.syn_lower_generic.specs.declared.ty.TypeTraitObjectOf.{TypeTraitObjectOf}
 
--- ---- types in brackets and behind words
+-- ---- types in brackets and after words
 
 abbrev pub return_of : {T : Type 0} → (T → TypeTree) → ReturnTypeOf T → ReturnTree
 return_of f output.Default = t.default

@@ -1,4 +1,4 @@
-//! Whether parts are read back from their own tokens: what stands behind the public tests.
+//! Whether parts are read back from their own tokens: what comes after the public tests.
 
 ghost use Rattle.std.specs.List.{list_all};
 ghost use Rattle.std.specs.Prelude.{◌≡◌, true, ◌&&◌, is_some, length, map, []};
@@ -99,7 +99,7 @@ fn arguments_end_before_colons<T: FitTypes>(arguments: &PathArgumentsOf<T>) -> b
     }
 }
 
-/// Whether what a function returns is read back; behind its `impl` or `dyn` several bounds may stand, or one.
+/// Whether what a function returns is read back; after its `impl` or `dyn` several bounds may stand, or one.
 pub(crate) fn output_fits<T: FitTypes>(output: &ReturnTypeOf<T>, several: bool) -> bool
     ensures { result ≡ spec.output_fits several (return_of T.tree output.now) }
 {
@@ -173,7 +173,7 @@ pub(crate) fn segment_fits<T: FitTypes>(segment: &PathSegmentOf<T>, style: PathS
         && arguments_fit(&segment.arguments, style)
 }
 
-/// Whether a segment is read back that another follows, where this many stand before `>`.
+/// Whether a segment is read back that another follows, where this many come before `>`.
 fn inner_fits<T: FitTypes>(segment: &PathSegmentOf<T>, left: usize, style: PathStyle) -> bool
     ensures { result ≡ inner_fits left style (segment_of T.tree segment.now) }
 {
@@ -181,7 +181,7 @@ fn inner_fits<T: FitTypes>(segment: &PathSegmentOf<T>, left: usize, style: PathS
         && (left == 1 || arguments_end_before_colons(&segment.arguments))
 }
 
-/// Whether segments are read back, of which this many stand before `>`.
+/// Whether segments are read back, of which this many come before `>`.
 fn segments_fit<T: FitTypes>(
     mut left: usize,
     style: PathStyle,
@@ -200,7 +200,7 @@ fn segments_fit<T: FitTypes>(
     segment_fits(last, style_at(left, style))
 }
 
-/// Whether a path is read back of which this many segments stand before `>`.
+/// Whether a path is read back of which this many segments come before `>`.
 #[tactic(auto, using(crate::proofs::Fitting::paths))]
 pub(crate) fn path_fits<T: FitTypes>(inside: usize, style: PathStyle, path: &PathOf<T>) -> bool
     ensures { result ≡ path_fits_inside inside style (path_of T.tree path.now) }
@@ -211,7 +211,7 @@ pub(crate) fn path_fits<T: FitTypes>(inside: usize, style: PathStyle, path: &Pat
     }
 }
 
-/// Whether so many segments may stand before the `>` of this path.
+/// Whether so many segments may come before the `>` of this path.
 fn position_fits<T>(qself: &QSelfOf<T>, path: &PathOf<T>) -> bool
     ensures { result ≡ spec.position_fits (is_some qself.now.as_token) qself.now.position (is_some path.now.leading_colon) (length (values path.now.segments)) }
 {

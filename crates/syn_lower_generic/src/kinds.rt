@@ -82,7 +82,7 @@ impl<T: Kind<TypeReferenceOf<T>>> Parse for TypeReferenceOf<T> {
 
     ghost seen = { T.shown };
 
-    /// A reference stands before the rest.
+    /// A reference comes before the rest.
     ghost spells = { λ l x rest. (kinds.type_of_kind T.is).behind x l ≡ Some rest };
 
     ghost least = { 1 };
@@ -102,7 +102,7 @@ impl<T: Kind<TypePtrOf<T>>> Parse for TypePtrOf<T> {
 
     ghost seen = { T.shown };
 
-    /// A raw pointer stands before the rest.
+    /// A raw pointer comes before the rest.
     ghost spells = { λ l x rest. (kinds.type_of_kind T.is).behind x l ≡ Some rest };
 
     ghost least = { 1 };
@@ -122,7 +122,7 @@ impl<T: Kind<TypeSliceOf<T>>> Parse for TypeSliceOf<T> {
 
     ghost seen = { T.shown };
 
-    /// A slice stands before the rest.
+    /// A slice comes before the rest.
     ghost spells = { λ l x rest. (kinds.type_of_kind T.is).behind x l ≡ Some rest };
 
     ghost least = { 1 };
@@ -142,7 +142,7 @@ impl<T: Kind<TypeArrayOf<T>>> Parse for TypeArrayOf<T> {
 
     ghost seen = { T.shown };
 
-    /// An array, whose length is kept as tokens, stands before the rest.
+    /// An array, whose length is kept as tokens, comes before the rest.
     ghost spells = { λ l x rest. (kinds.type_of_kind T.is).behind x l ≡ Some rest };
 
     ghost least = { 1 };
@@ -162,7 +162,7 @@ impl<T: Kind<TypeTupleOf<T>>> Parse for TypeTupleOf<T> {
 
     ghost seen = { T.shown };
 
-    /// A tuple stands before the rest.
+    /// A tuple comes before the rest.
     ghost spells = { λ l x rest. (kinds.type_of_kind T.is).behind x l ≡ Some rest };
 
     ghost least = { 1 };
@@ -182,7 +182,7 @@ impl<T: Kind<TypeParenOf<T>>> Parse for TypeParenOf<T> {
 
     ghost seen = { T.shown };
 
-    /// A type in parentheses stands before the rest.
+    /// A type in parentheses comes before the rest.
     ghost spells = { λ l x rest. (kinds.type_of_kind T.is).behind x l ≡ Some rest };
 
     ghost least = { 1 };
@@ -202,7 +202,7 @@ impl<T: Kind<TypeFnPtrOf<T>>> Parse for TypeFnPtrOf<T> {
 
     ghost seen = { T.shown };
 
-    /// A function pointer stands before the rest.
+    /// A function pointer comes before the rest.
     ghost spells = { λ l x rest. (kinds.type_of_kind T.is).behind x l ≡ Some rest };
 
     ghost least = { 1 };
@@ -222,7 +222,7 @@ impl<T: Kind<TypeImplTraitOf<T>>> Parse for TypeImplTraitOf<T> {
 
     ghost seen = { T.shown };
 
-    /// `impl` and its bounds stand before the rest.
+    /// `impl` and its bounds come before the rest.
     ghost spells = { λ l x rest. (kinds.type_of_kind T.is).behind x l ≡ Some rest };
 
     ghost least = { 1 };
@@ -242,7 +242,7 @@ impl<T: Kind<TypeTraitObjectOf<T>>> Parse for TypeTraitObjectOf<T> {
 
     ghost seen = { T.shown };
 
-    /// `dyn` and its bounds stand before the rest.
+    /// `dyn` and its bounds come before the rest.
     ghost spells = { λ l x rest. (kinds.type_of_kind T.is).behind x l ≡ Some rest };
 
     ghost least = { 1 };
@@ -277,14 +277,14 @@ impl<T: ReadTypes> Parse for TypePathOf<T> {
 
     ghost seen = { λ x. (view.qself_or T.tree x.qself, view.path_of T.tree x.path) };
 
-    /// A path as in a type stands before the rest, a type that it is qualified by in front or not.
+    /// A path as in a type comes before the rest, a type that it is qualified by in front or not.
     ghost spells = { λ l x rest. (part.qpath part.type style.Type).behind x l ≡ Some rest };
 
     ghost least = { 1 };
 
     /// Reads a path as in a type, qualified by a type or not (Rust Reference, "Paths in types", "Qualified paths"). A `!`
     /// may follow: it is left. It is refused as `ExpectedPart` of a path where a segment is missing, as `ExpectedToken`
-    /// of `>` or `::` behind a type between `<` and `>`, and inside as the type is.
+    /// of `>` or `::` after a type between `<` and `>`, and inside as the type is.
     fn parse(input: &mut ParseBuffer<'_>) -> Result<Self> {
         ahead(input)
     }
@@ -312,7 +312,7 @@ impl<T: ReadTypes> Parse for TypeMacroOf<T> {
 
     ghost seen = { λ x. view.macro_of T.tree x.mac };
 
-    /// A path without arguments, `!` and a group stand before the rest.
+    /// A path without arguments, `!` and a group come before the rest.
     ghost spells = { λ l x rest. part.macro.behind x l ≡ Some rest };
 
     ghost least = { 1 };

@@ -1,4 +1,4 @@
-//! The parts of expressions that hold types (paths and what stands in them, macros, the kinds of types), generic in the
+//! The parts of expressions that hold types (paths and what is in them, macros, the kinds of types), generic in the
 //! type of types, which stands above.
 #![tactic(auto)]
 

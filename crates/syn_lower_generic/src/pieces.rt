@@ -1,4 +1,4 @@
-//! The readers of what stands inside of types and paths.
+//! The readers of what is inside of types and paths.
 #![tactic(auto, using(syn_parts::proofs::Readable::readables))]
 
 ghost use Rattle.std.specs.Prelude.{◌≡◌, Some, true};
@@ -35,12 +35,12 @@ impl<T: ReadTypes> Parse for ReturnTypeOf<T> {
 
     ghost seen = { view.return_of T.tree };
 
-    /// `->` and a type stand before the rest, or nothing does and the rest begins with no `->`.
+    /// `->` and a type come before the rest, or nothing does and the rest begins with no `->`.
     ghost spells = { λ l x rest. (part.output part.type true).behind x l ≡ Some rest };
 
     ghost least = { 0 };
 
-    /// Reads `->` and a type (Rust Reference, "Functions"), with several bounds behind `impl` and `dyn`; where no `->` stands
+    /// Reads `->` and a type (Rust Reference, "Functions"), with several bounds after `impl` and `dyn`; where no `->` stands
     /// first, nothing is read. The type is refused as a type is.
     fn parse(input: &mut ParseBuffer<'_>) -> Result<Self> {
         ahead(input)
@@ -68,12 +68,12 @@ impl<T: ReadTypes> Parse for AngleBracketedGenericArgumentsOf<T> {
 
     ghost seen = { view.angle_of T.tree };
 
-    /// `<`, arguments with commas between and `>` stand before the rest, `::` in front or not.
+    /// `<`, arguments with commas between and `>` come before the rest, `::` in front or not.
     ghost spells = { λ l x rest. (part.angle_bracketed part.type).behind x l ≡ Some rest };
 
     ghost least = { 1 };
 
-    /// Reads arguments between `<` and `>`, behind `::` or not (Rust Reference, "Paths in expressions", "Paths in types"). It is
+    /// Reads arguments between `<` and `>`, after `::` or not (Rust Reference, "Paths in expressions", "Paths in types"). It is
     /// refused as `ExpectedToken` of `<` or `>` where that is missing, and inside as the argument is.
     fn parse(input: &mut ParseBuffer<'_>) -> Result<Self> {
         ahead(input)
@@ -101,12 +101,12 @@ impl<T: ReadTypes> Parse for ParenthesizedGenericArgumentsOf<T> {
 
     ghost seen = { view.round_of T.tree };
 
-    /// Types in parentheses stand before the rest, and `->` with a type if that stands there.
+    /// Types in parentheses come before the rest, and `->` with a type if that is there.
     ghost spells = { λ l x rest. (part.parenthesized part.type).behind x l ≡ Some rest };
 
     ghost least = { 1 };
 
-    /// Reads types in parentheses, and `->` with a type of one bound behind `impl` and `dyn` (Rust Reference, "Paths in types").
+    /// Reads types in parentheses, and `->` with a type of one bound after `impl` and `dyn` (Rust Reference, "Paths in types").
     /// It is refused as `ExpectedToken` of `(` where there are none, as `UnexpectedToken` at what is left in them, and
     /// inside as the type is.
     fn parse(input: &mut ParseBuffer<'_>) -> Result<Self> {
@@ -137,13 +137,13 @@ impl<T: ReadTypes> Parse for AssocTypeOf<T> {
 
     ghost seen = { view.name_and_type T.tree };
 
-    /// An identifier, a single `=` and a type stand before the rest.
+    /// An identifier, a single `=` and a type come before the rest.
     ghost spells = { λ l x rest. (part.assoc part.type).behind x l ≡ Some rest };
 
     ghost least = { 1 };
 
     /// Reads a name, `=` and a type (Rust Reference, "Paths in expressions"). It is refused as `ExpectedToken` of an
-    /// identifier or of `=` where that is missing, and behind it as the type is.
+    /// identifier or of `=` where that is missing, and after it as the type is.
     fn parse(input: &mut ParseBuffer<'_>) -> Result<Self> {
         ahead(input)
     }
@@ -170,12 +170,12 @@ impl<T: ReadTypes> Parse for BareFnArgOf<T> {
 
     ghost seen = { view.arg_of T.tree };
 
-    /// A type stands before the rest, and a name with a single `:` in front or not.
+    /// A type comes before the rest, and a name with a single `:` in front or not.
     ghost spells = { λ l x rest. (part.fn_arg part.type).behind x l ≡ Some rest };
 
     ghost least = { 1 };
 
-    /// Reads an argument of a function pointer (Rust Reference, "Function pointer types"): a type, behind an identifier or
+    /// Reads an argument of a function pointer (Rust Reference, "Function pointer types"): a type, after an identifier or
     /// `_` with `:` or not. It is refused as the type is.
     fn parse(input: &mut ParseBuffer<'_>) -> Result<Self> {
         ahead(input)
@@ -203,12 +203,12 @@ impl<T: ReadTypes> Parse for TraitBoundOf<T> {
 
     ghost seen = { view.trait_of T.tree };
 
-    /// A path as in a type stands before the rest, `?` and `for<..>` in front or not.
+    /// A path as in a type comes before the rest, `?` and `for<..>` in front or not.
     ghost spells = { λ l x rest. (part.trait_bound part.type).behind x l ≡ Some rest };
 
     ghost least = { 1 };
 
-    /// Reads a trait as a bound (Rust Reference, "Trait and lifetime bounds"): `?` if it stands there, `for<..>` if it does, and
+    /// Reads a trait as a bound (Rust Reference, "Trait and lifetime bounds"): `?` if it is there, `for<..>` if it does, and
     /// a path as in a type. It is refused as the path is, or the lifetimes.
     fn parse(input: &mut ParseBuffer<'_>) -> Result<Self> {
         ahead(input)

@@ -1,4 +1,4 @@
-//! The printers of paths, of what stands in them, and of macros: each writes its own spelling, the last punct of each token
+//! The printers of paths, of what is in them, and of macros: each writes its own spelling, the last punct of each token
 //! alone.
 
 ghost use Rattle.std.specs.Prelude.{length, ◌≡◌, ◌++◌, ◌∷◌, IfErr, OnOk, OnErr};
@@ -128,14 +128,14 @@ impl<T: ToTokens> ToTokens for MacroOf<T> {
     }
 }
 
-/// How many of `count` segments stand before `>`: no more than there are.
+/// How many of `count` segments come before `>`: no more than there are.
 fn inside_count(position: usize, count: usize) -> usize
     ensures { result ≡ at_most position count }
 {
     if position <= count { position } else { count }
 }
 
-/// Prints the `>` behind the last of the segments that stand inside.
+/// Prints the `>` after the last of the segments that are inside.
 #[tactic(auto, using(syn_tokens::proofs::Fronts::fronts), unfolding(syn_tokens::specs::Sign::sign_text))]
 fn print_close(left: usize, gt: &Gt, tokens: &mut TokenStream) -> Result<()>
     ensures ok { OnOk result (tokens.new ≡ tokens.old ++ closed_printed left) }
@@ -159,7 +159,7 @@ fn print_colons(colons: &PathSep, tokens: &mut TokenStream) -> Result<()>
     colons.to_tokens(tokens)
 }
 
-/// Prints segments of which `left` stand before `>`.
+/// Prints segments of which `left` come before `>`.
 #[tactic(auto, using(syn_tokens::proofs::Fronts::fronts))]
 fn print_inside<S: ToTokens>(
     mut left: usize,
@@ -186,7 +186,7 @@ fn print_inside<S: ToTokens>(
     Ok(())
 }
 
-/// Prints what stands behind the type of a qualified path.
+/// Prints what comes after the type of a qualified path.
 #[tactic(auto, using(syn_tokens::proofs::Fronts::fronts), unfolding(syn_tokens::specs::Sign::sign_text, syn_tokens::specs::Sign::word_text))]
 fn print_qself_end(
     inside: usize,
@@ -207,7 +207,7 @@ fn print_qself_end(
     }
 }
 
-/// Prints a path behind the type that it is qualified by.
+/// Prints a path after the type that it is qualified by.
 #[inline(never)]
 #[tactic(auto, using(syn_tokens::proofs::Fronts::fronts), unfolding(syn_tokens::specs::Sign::sign_text))]
 fn print_qualified<T: ToTokens>(
@@ -234,7 +234,7 @@ fn print_qualified<T: ToTokens>(
 }
 
 /// Prints a path and the type that it is qualified by, if there is one: `<T as a::b>::c`, or the path alone. `position`
-/// says how many segments stand before `>`; where the path has fewer, all do. `as` is printed exactly where segments stand
+/// says how many segments come before `>`; where the path has fewer, all do. `as` is printed exactly where segments stand
 /// there, whatever `as_token` is. It is refused as `OutOfMemory` alone.
 #[inline(always)]
 pub fn print_with_qself<T: ToTokens>(

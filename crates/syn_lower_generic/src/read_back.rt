@@ -1,8 +1,8 @@
 //! Whether parts are read back from their own tokens.
 //!
 //! A user may build parts that no tokens spell, or whose own tokens spell another part: a path of a reserved word, a tuple
-//! of one type without a comma, `dyn A + B` behind `&`. A part is read back in its place where the grammar of that place
-//! spells it by its own tokens with nothing behind; then it is read back before whatever doesn't go on with it too
+//! of one type without a comma, `dyn A + B` after `&`. A part is read back in its place where the grammar of that place
+//! spells it by its own tokens with nothing after; then it is read back before whatever doesn't go on with it too
 //! (`syn_lower_laws::laws::parts_are_read_back`). Lifetimes, attributes, blocks, `for<..>`, `mut` and `const`, `!` and `_`
 //! always are, so they have no test.
 
@@ -36,8 +36,8 @@ impl<T: FitTypes> PathOf<T> {
 }
 
 /// Whether a path and the type that it is qualified by, if there is one, are read back by `qpath`, in an expression's style
-/// or in a type's (Rust Reference, "Paths", "Qualified paths"). Behind `as` one segment at least stands before `>` and one
-/// behind it; without `as` none stands before it, and the path begins with `::`.
+/// or in a type's (Rust Reference, "Paths", "Qualified paths"). After `as` one segment at least comes before `>` and one
+/// after it; without `as` none comes before it, and the path begins with `::`.
 pub fn qpath_is_read_back<T: FitTypes>(
     qself: &Option<QSelfOf<T>>,
     path: &PathOf<T>,
@@ -69,7 +69,7 @@ impl<T: FitTypes> PathArgumentsOf<T> {
 }
 
 impl<T: FitTypes> AngleBracketedGenericArgumentsOf<T> {
-    /// Whether they are read back in a path of this style: in an expression's `::` stands in front.
+    /// Whether they are read back in a path of this style: in an expression's `::` is in front.
     pub fn is_read_back(&self, style: PathStyle) -> bool
         ensures { result ≡ spec.arguments_fit style (view.angle_of T.tree self.now) }
     {
@@ -105,7 +105,7 @@ impl<T: FitTypes> AssocTypeOf<T> {
 }
 
 impl<T: FitTypes> ReturnTypeOf<T> {
-    /// Whether it is read back; behind its `impl` or `dyn` several bounds may stand, or one.
+    /// Whether it is read back; after its `impl` or `dyn` several bounds may stand, or one.
     pub fn is_read_back(&self, several: bool) -> bool
         ensures { result ≡ spec.output_fits several (view.return_of T.tree self.now) }
     {
@@ -211,7 +211,7 @@ impl<T: FitTypes> TypeArrayOf<T> {
 }
 
 impl<T: FitTypes> TypeTupleOf<T> {
-    /// Whether it is read back as a type: its types are, and behind one type alone a comma stands.
+    /// Whether it is read back as a type: its types are, and after one type alone a comma stands.
     pub fn is_read_back(&self) -> bool
         ensures { result ≡ spec.type_fits true (view.tuple_of T.tree self.now) }
     {
@@ -229,7 +229,7 @@ impl<T: FitTypes> TypeParenOf<T> {
 }
 
 impl<T: FitTypes> TypeFnPtrOf<T> {
-    /// Whether it is read back as a type: what stands behind `extern` is a string, and the arguments and the output are read
+    /// Whether it is read back as a type: what comes after `extern` is a string, and the arguments and the output are read
     /// back.
     pub fn is_read_back(&self) -> bool
         ensures { result ≡ spec.type_fits true (view.fn_ptr_of T.tree self.now) }

@@ -42,13 +42,13 @@ impl<T: ReadTypes> Parse for PathOf<T> {
 
     ghost seen = { view.path_of T.tree };
 
-    /// A path as in a type stands before the rest.
+    /// A path as in a type comes before the rest.
     ghost spells = { λ l x rest. (part.path part.type place.Type).behind x l ≡ Some rest };
 
     ghost least = { 1 };
 
     /// Reads a path as in a type (Rust Reference, "Paths in types"). It is refused as `ExpectedPart` of a path where a segment
-    /// is missing, as `ExpectedToken` of `>` behind arguments, as `UnexpectedToken` at what is left in parentheses, and inside
+    /// is missing, as `ExpectedToken` of `>` after arguments, as `UnexpectedToken` at what is left in parentheses, and inside
     /// as the argument or the type is.
     fn parse(input: &mut ParseBuffer<'_>) -> Result<Self> {
         ahead(input)
@@ -76,13 +76,13 @@ impl<T: ReadTypes> Parse for PathSegmentOf<T> {
 
     ghost seen = { view.segment_of T.tree };
 
-    /// A segment as in a type stands before the rest.
+    /// A segment as in a type comes before the rest.
     ghost spells = { λ l x rest. (part.segment part.type place.Type).behind x l ≡ Some rest };
 
     ghost least = { 1 };
 
     /// Reads a segment of a path as in a type (Rust Reference, "Paths in types"). It is refused as `ExpectedPart` of a path
-    /// where its word is missing, as `ExpectedToken` of `>` behind arguments, as `UnexpectedToken` at what is left in
+    /// where its word is missing, as `ExpectedToken` of `>` after arguments, as `UnexpectedToken` at what is left in
     /// parentheses, and inside as the argument or the type is.
     fn parse(input: &mut ParseBuffer<'_>) -> Result<Self> {
         ahead(input)
@@ -110,7 +110,7 @@ impl<T: ReadTypes> Parse for GenericArgumentOf<T> {
 
     ghost seen = { view.generic_of T.tree };
 
-    /// An argument between `<` and `>` stands before the rest.
+    /// An argument between `<` and `>` comes before the rest.
     ghost spells = { λ l x rest. (part.generic part.type).behind x l ≡ Some rest };
 
     ghost least = { 1 };
@@ -143,12 +143,12 @@ impl<T: ReadTypes> Parse for TypeParamBoundOf<T> {
 
     ghost seen = { view.bound_of T.tree };
 
-    /// A bound stands before the rest.
+    /// A bound comes before the rest.
     ghost spells = { λ l x rest. (part.bound part.type).behind x l ≡ Some rest };
 
     ghost least = { 1 };
 
-    /// Reads a bound (Rust Reference, "Trait and lifetime bounds"). It is refused as `ExpectedToken` of `>` or a lifetime behind
+    /// Reads a bound (Rust Reference, "Trait and lifetime bounds"). It is refused as `ExpectedToken` of `>` or a lifetime after
     /// `for`, and else as the path is.
     fn parse(input: &mut ParseBuffer<'_>) -> Result<Self> {
         ahead(input)
@@ -187,7 +187,7 @@ impl<T: ReadTypes> Parse for MacroOf<T> {
 
     ghost seen = { view.macro_of T.tree };
 
-    /// A path without arguments, `!` and a group stand before the rest.
+    /// A path without arguments, `!` and a group come before the rest.
     ghost spells = { λ l x rest. part.macro.behind x l ≡ Some rest };
 
     ghost least = { 1 };
@@ -199,7 +199,7 @@ impl<T: ReadTypes> Parse for MacroOf<T> {
 }
 
 impl<T: ReadTypes> PathOf<T> {
-    /// Reads a path without arguments (Rust Reference, "Simple paths"). It is read exactly where one stands, unless memory
+    /// Reads a path without arguments (Rust Reference, "Simple paths"). It is read exactly where one is, unless memory
     /// runs out; it is refused as `ExpectedPart` of a path where a segment is missing, and the input stays where it was.
     #[tactic(auto, using(crate::proofs::ReadingParts::mod_path_reading))]
     pub fn parse_mod_style(input: &mut ParseBuffer<'_>) -> Result<PathOf<T>>

@@ -88,7 +88,7 @@ pub trait IsType: HasTree {
 
 /// The type of types, with the readers of what holds types. Where one refuses, tokens may have been passed over.
 pub trait ReadTypes: HasTree + Drop {
-    /// Reads a type; behind its `impl` or `dyn` several bounds may stand, or one.
+    /// Reads a type; after its `impl` or `dyn` several bounds may stand, or one.
     fn read_type(input: &mut ParseBuffer<'_>, several: bool) -> Result<Self>
         ensures value { Reads Self.tree ((part.type several).reads input.old.rest) result input.new.rest }
         ensures noted { input.new.noted ≡ input.old.noted };
@@ -116,7 +116,7 @@ pub trait ReadTypes: HasTree + Drop {
         ensures value { Reads (view.generic_of Self.tree) ((part.generic part.type).reads input.old.rest) result input.new.rest }
         ensures noted { input.new.noted ≡ input.old.noted };
 
-    /// Reads arguments between `<` and `>`, behind `::` or not.
+    /// Reads arguments between `<` and `>`, after `::` or not.
     fn read_angle(input: &mut ParseBuffer<'_>) -> Result<AngleBracketedGenericArgumentsOf<Self>>
         ensures value { Reads (view.angle_of Self.tree) ((part.angle_bracketed part.type).reads input.old.rest) result input.new.rest }
         ensures noted { input.new.noted ≡ input.old.noted };
@@ -160,7 +160,7 @@ pub trait FitTypes: HasTree {
     ghost use Rattle.syn_parts.specs.Fits.{type_fits, type_stops};
     ghost use Rattle.syn_parts.specs.Own.{colon2_before};
 
-    /// Whether it is read back; behind its `impl` or `dyn` several bounds may stand, or one.
+    /// Whether it is read back; after its `impl` or `dyn` several bounds may stand, or one.
     fn fits_where(&self, several: bool) -> bool
         ensures { result ≡ type_fits several (Self.tree self.now) };
 

@@ -1,4 +1,4 @@
--- The kind of each type, and what is behind those that end by themselves.
+-- The kind of each type, and what is after those that end by themselves.
 use Rattle.std.proofs.Common.{◌≡◌, true, List, refl}
 use Rattle.syn_tokens.specs.Tok.{Tok}
 use Rattle.syn_parts.specs.Part.{is_never, is_infer}

@@ -53,7 +53,7 @@ at_piece s z p false e = refl
 one_less : (n : ℕ) → suc n - 1 ≡ n
 one_less n = omega arith
 
--- the first piece, and those behind it
+-- the first piece, and those after it
 first_piece : (s : Style) (c n : ℕ) (v : Option ℕ) (z : Text) → closes s (c ∷ z) ≡ false → piece s (c ∷ z) ≡ Some (v, suc n)
     → content s 0 (c ∷ z) ≡ option_map (λ vs. option_to_list v ++ vs) (content s 0 (drop (suc n) (c ∷ z)))
 first_piece s c n v z e f =

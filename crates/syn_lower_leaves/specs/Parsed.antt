@@ -14,7 +14,7 @@ IsNoValue kind = kind ≡ Lex MalformedLiteral
 abbrev pub IsOutOfRange : ErrorKind → Type 0
 IsOutOfRange kind = kind ≡ LiteralOutOfRange
 
--- A number is parsed as a type takes its value as a `u128`, and behind a sign as an `i128`. It is refused where neither holds
+-- A number is parsed as a type takes its value as a `u128`, and after a sign as an `i128`. It is refused where neither holds
 -- the value, and where the type refuses it.
 abbrev pub Parses : {N E F M : Type 0} → (ℕ → Result N E → Type 0) → (ℤ → Result N F → Type 0) → Option M → Option ℕ → Result N Error → Type 0
 Parses {N} {E} {F} {M} takes takes_signed m None (Ok n) = ⊥

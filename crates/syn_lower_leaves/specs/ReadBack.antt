@@ -21,7 +21,7 @@ all_outer xs = list_all (λ x. not (is_inner x.style)) xs
 abbrev pub all_inner : List Attribute → Bool
 all_inner xs = list_all (λ x. is_inner x.style) xs
 
--- one behind another
+-- one after another
 abbrev pub all_printed : {A : Type 0} → (A → List Tok) → List A → List Tok
 all_printed printed [] = []
 all_printed printed (x ∷ xs) = printed x ++ all_printed printed xs

@@ -9,12 +9,12 @@ use Rattle.syn_tokens.specs.Tok.{Tok}
 use Rattle.syn_tokens.specs.Input.{Input}
 use Rattle.syn_parts.specs.Form.{Outcome, Mark}
 
--- What was read, as it is seen, and what is behind it, unless memory runs out.
+-- What was read, as it is seen, and what is after it, unless memory runs out.
 abbrev pub Reads : {A B : Type 0} → (A → B) → Outcome B → Result A Error → List Tok → Type 0
 Reads view outcome (Ok a) new = outcome ≡ Some (view a, new)
 Reads view outcome (Err e) new = e.kind ≢ OutOfMemory → outcome ≡ None
 
--- A token is taken where it stands first; else nothing changes.
+-- A token is taken where it comes first; else nothing changes.
 abbrev pub Takes : {A : Type 0} → Mark → Input → Option A → Input → Type 0
 Takes m old (Some t) new = (m.at old.rest ≡ true) × (new ≡ record old { rest = drop m.count old.rest })
 Takes m old None new = (m.at old.rest ≡ false) × (new ≡ old)

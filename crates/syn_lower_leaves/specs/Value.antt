@@ -17,7 +17,7 @@ base text = if has_radix text then base_of (byte_at text 1) else 10
 abbrev pub behind_prefix : Text → Text
 behind_prefix text = if has_radix text then drop 2 text else text
 
--- the value of the digits that stand first, counted on from what was found; underscores are ignored
+-- the value of the digits that come first, counted on from what was found; underscores are ignored
 abbrev pub digits_value : ℕ → ℕ → Text → ℕ
 digits_value b found [] = found
 digits_value b found (c ∷ z) =
@@ -27,7 +27,7 @@ digits_value b found (c ∷ z) =
 unfoldable pub int_value : Text → ℕ
 int_value text = digits_value (base text) 0 (behind_prefix text)
 
--- what stands behind digits and underscores
+-- what comes after digits and underscores
 abbrev pub past_digits : ℕ → Text → Text
 past_digits b [] = []
 past_digits b (c ∷ z) = if c == 95 || nat_lt (digit_value c) b then past_digits b z else c ∷ z
@@ -65,13 +65,13 @@ float_digits text = encode_utf8_all (filter is_no_underscore (take (length text 
 
 -- ---- escapes ("Character escapes", "Byte escapes"): the number that one stands for, of a character or of a byte
 
--- `\n`, `\r`, `\t`, `\0`, `\\`, `\'` and `\"`, behind the backslash
+-- `\n`, `\r`, `\t`, `\0`, `\\`, `\'` and `\"`, after the backslash
 abbrev pub simple_escape : ℕ → Option ℕ
 simple_escape c =
     if c == 110 then Some 10 else (if c == 114 then Some 13 else (if c == 116 then Some 9 else
     (if c == 48 then Some 0 else (if c == 92 || (c == 39 || c == 34) then Some c else None))))
 
--- two hexadecimal digits behind `\x`: a character's number is below 128
+-- two hexadecimal digits after `\x`: a character's number is below 128
 abbrev pub hex_escape : Bool → ℕ → ℕ → Option ℕ
 hex_escape is_byte a b =
     if nat_lt a 16 && (nat_lt b 16 && (is_byte || nat_lt a 8)) then Some (a * 16 + b) else None
@@ -80,7 +80,7 @@ hex_escape is_byte a b =
 abbrev pub is_scalar : ℕ → Bool
 is_scalar c = nat_lt c 0xd800 || (nat_lt 0xdfff c && nat_lt c 0x110000)
 
--- Behind `\u{`: one to six hexadecimal digits, underscores behind the first, and `}`. How many digits there were, what was
+-- After `\u{`: one to six hexadecimal digits, underscores after the first, and `}`. How many digits there were, what was
 -- found of the value, and how many characters there were with the brace, is counted on.
 abbrev pub braced : ℕ → ℕ → ℕ → Text → Option (ℕ × ℕ)
 braced digits found n [] = None
@@ -89,7 +89,7 @@ braced digits found n (c ∷ z) =
     (if c == 95 then (if nat_lt 0 digits then braced digits found (n + 1) z else None) else
     (if nat_lt (digit_value c) 16 && nat_lt digits 6 then braced (digits + 1) (found * 16 + digit_value c) (n + 1) z else None))
 
--- what an escape behind its backslash stands for, and how many characters it is without the backslash
+-- what an escape after its backslash stands for, and how many characters it is without the backslash
 abbrev pub one_long : Option ℕ → Option (ℕ × ℕ)
 one_long None = None
 one_long (Some v) = Some (v, 1)
@@ -129,7 +129,7 @@ closed_by z (Some (v, n)) = if byte_at z n == 39 then Some v else None
 abbrev pub is_special : ℕ → Bool
 is_special c = c == 39 || (c == 10 || (c == 13 || c == 9))
 
--- Behind the opening `'`: an escape, or one character that is none of these.
+-- After the opening `'`: an escape, or one character that is none of these.
 abbrev pub single : Bool → Text → Option ℕ
 single is_byte [] = None
 single is_byte (c ∷ z) =
@@ -164,12 +164,12 @@ of_escape (Some (v, n)) = Some (Some v, n + 1)
 abbrev pub breaks_line : Text → Bool
 breaks_line z = byte_at z 0 == 10 || (byte_at z 0 == 13 && byte_at z 1 == 10)
 
--- A backslash and what is behind it: with a line break it stands for nothing, up to what is no blank ("String continuation
+-- A backslash and what is after it: with a line break it stands for nothing, up to what is no blank ("String continuation
 -- escapes").
 abbrev pub escaped : Bool → Text → Option Piece
 escaped is_byte z = if breaks_line z then Some (None, 1 + prefix_len is_blank z) else of_escape (escape is_byte z)
 
--- A carriage return stands in a line break alone.
+-- A carriage return is in a line break alone.
 abbrev pub plain : Bool → ℕ → Text → Option Piece
 plain is_byte c z =
     if c == 13 then (if byte_at z 0 == 10 then Some (Some 10, 2) else None) else
@@ -187,13 +187,13 @@ abbrev pub joined : Option Piece → (ℕ → Option (List ℕ)) → Option (Lis
 joined None rest = None
 joined (Some (v, n)) rest = option_map (λ vs. option_to_list v ++ vs) (rest (n - 1))
 
--- Piece by piece up to the closing `"`, behind so many characters that are passed over.
+-- Piece by piece up to the closing `"`, after so many characters that are passed over.
 abbrev pub content : Style → ℕ → Text → Option (List ℕ)
 content style left [] = None
 content style (suc left) (c ∷ z) = content style left z
 content style zero (c ∷ z) = if closes style (c ∷ z) then Some [] else joined (piece style (c ∷ z)) (λ left. content style left z)
 
--- how a string is written, and what is behind its opening: a `"`, or `r`, any number of `#` and a `"`
+-- how a string is written, and what is after its opening: a `"`, or `r`, any number of `#` and a `"`
 abbrev pub opened : Bool → Text → Option (Style × Text)
 opened is_byte [] = None
 opened is_byte (c ∷ z) =

@@ -3,7 +3,7 @@
 use syn_tokens::token::{Bracket, Not, Pound};
 use syn_tokens::tree::TokenStream;
 
-/// Whether an attribute stands before what it belongs to, or inside of it.
+/// Whether an attribute comes before what it belongs to, or inside of it.
 #[derive(Clone, Copy, Debug, PartialEq)]
 pub enum AttrStyle {
     /// `#[..]`
@@ -13,7 +13,7 @@ pub enum AttrStyle {
 }
 
 /// An attribute. What is in the brackets is kept as tokens.
-#[derive(Drop, PartialEq)]
+#[derive(Debug, Drop, PartialEq)]
 pub struct Attribute {
     /// `#`
     pub pound_token: Pound,

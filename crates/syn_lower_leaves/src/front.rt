@@ -15,7 +15,7 @@ use syn_tokens::token::{
     Word,
 };
 
-/// Takes a token of some puncts, where it stands first; else nothing changes.
+/// Takes a token of some puncts, where it comes first; else nothing changes.
 #[tactic(auto, using(syn_tokens::proofs::Signs::fronts))]
 pub fn sign<const N: usize, const K: u8>(input: &mut ParseBuffer<'_>) -> Option<Sign<N, K>>
     ensures value { MatchOption result ((sign_spec.sees N K input.old.rest ≡ false) × (input.new ≡ input.old)) (λ _. (sign_spec.sees N K input.old.rest ≡ true) × (input.new ≡ record input.old { rest = drop N input.old.rest })) }
@@ -29,7 +29,7 @@ pub fn sign<const N: usize, const K: u8>(input: &mut ParseBuffer<'_>) -> Option<
     Some(Sign { spans })
 }
 
-/// Takes a word, where it stands first; else nothing changes.
+/// Takes a word, where it comes first; else nothing changes.
 #[tactic(auto, using(syn_tokens::proofs::Signs::fronts))]
 pub fn word<const K: u8>(input: &mut ParseBuffer<'_>) -> Option<Word<K>>
     ensures value { MatchOption result ((sign_spec.sees_word K input.old.rest ≡ false) × (input.new ≡ input.old)) (λ _. (sign_spec.sees_word K input.old.rest ≡ true) × (input.new ≡ record input.old { rest = drop 1 input.old.rest })) }

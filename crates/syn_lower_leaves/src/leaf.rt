@@ -25,7 +25,7 @@ use syn_tokens::span::Span;
 use syn_tokens::token::Minus;
 use syn_tokens::tree::{Ident, Literal, TokenTree};
 
-/// The place of the apostrophe and the word of a lifetime that stands first.
+/// The place of the apostrophe and the word of a lifetime that comes first.
 #[tactic(auto, unfolding(syn_parts::specs::Mark::lifetime_at))]
 fn quoted<'a>(rest: &'a [TokenTree]) -> Option<(Span, &'a Ident)>
     ensures { MatchOption result (mark.lifetime_at (toks_of rest.now) ≡ false) (λ q. (mark.lifetime_at (toks_of rest.now) ≡ true) × (drop 1 (toks_of rest.now) ≡ tok.ident q.1.now ∷ drop 2 (toks_of rest.now))) }
@@ -50,7 +50,7 @@ impl Token for Lifetime {
     }
 }
 
-/// Whether a lifetime stands first.
+/// Whether a lifetime comes first.
 pub fn lifetime_at(input: &ParseBuffer<'_>) -> bool
     ensures { result ≡ mark.lifetime_at input.now.rest }
 {
@@ -74,7 +74,7 @@ pub fn lifetime(input: &mut ParseBuffer<'_>) -> Result<Lifetime>
     Ok(Lifetime { apostrophe, ident })
 }
 
-/// A number behind its sign.
+/// A number after its sign.
 fn number(minus_token: Option<Minus>, token: Literal) -> Lit
     requires { text.is_number token ≡ true }
     ensures { lit_of result ≡ record { kind = text.number_kind token; text = signed minus_token token } }
@@ -133,7 +133,7 @@ pub fn unsigned(input: &mut ParseBuffer<'_>) -> Result<Lit>
     }
 }
 
-/// The place of the `-` and the number behind it that stand first.
+/// The place of the `-` and the number after it that come first.
 fn negative<'a>(input: &ParseBuffer<'a>) -> Option<(Span, &'a Literal)>
     ensures { MatchOption result (part.find_signed input.now.rest ≡ part.find_lit input.now.rest) (λ n. (part.find_signed input.now.rest ≡ Some (record { kind = text.number_kind n.1.now; text = 45 ∷ n.1.now }, drop 2 input.now.rest)) × (text.is_number n.1.now ≡ true)) }
 {
@@ -180,7 +180,7 @@ pub fn string(input: &mut ParseBuffer<'_>) -> Result<LitStr>
     }
 }
 
-/// Whether a string literal stands first.
+/// Whether a string literal comes first.
 #[tactic(auto, unfolding(syn_parts::specs::Part::string_at))]
 pub fn string_at(input: &ParseBuffer<'_>) -> bool
     ensures { result ≡ part.string_at input.now.rest }

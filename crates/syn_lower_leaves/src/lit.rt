@@ -83,7 +83,7 @@ pub struct LitBool {
     pub(crate) word: Ident,
 }
 
-/// Prints a number, behind its sign.
+/// Prints a number, after its sign.
 #[tactic(auto, using(syn_tokens::proofs::Fronts::fronts), unfolding(syn_tokens::specs::Sign::sign_text))]
 fn print_number(minus: &Option<Minus>, token: &Literal, tokens: &mut TokenStream) -> Result<()>
     ensures ok { OnOk result (tokens.new ≡ tokens.old ++ number_printed minus.now token.now) }

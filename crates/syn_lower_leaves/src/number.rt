@@ -19,7 +19,7 @@ pub(crate) fn digit_value(c: u32) -> u32
     }
 }
 
-/// What stands behind a place where a character of ASCII is.
+/// What comes after a place where a character of ASCII is.
 fn behind(text: &str, at: usize) -> &str
     requires within { at < length text.now }
     requires narrow { slice_index text.now at < 128 }
@@ -28,7 +28,7 @@ fn behind(text: &str, at: usize) -> &str
     &text[at + 1..]
 }
 
-/// The base of an integer's text, and what stands behind its prefix.
+/// The base of an integer's text, and what comes after its prefix.
 fn base_and_digits(text: &str) -> (u32, &str)
     ensures base { result.0 ≡ spec.base text.now }
     ensures digits { result.1.now ≡ spec.behind_prefix text.now }
@@ -43,7 +43,7 @@ fn base_and_digits(text: &str) -> (u32, &str)
     }
 }
 
-/// A number with one more digit behind it, if a `u128` holds it.
+/// A number with one more digit after it, if a `u128` holds it.
 #[tactic(auto, unfolding(crate::specs::Value::in_u128))]
 fn with_digit(found: u128, base: u32, digit: u32) -> Option<u128>
     ensures value { result ≡ spec.in_u128 (found * base + digit) }
@@ -55,7 +55,7 @@ fn with_digit(found: u128, base: u32, digit: u32) -> Option<u128>
         .checked_add(u128::from(digit))
 }
 
-/// The value of the digits that stand first, if a `u128` holds it.
+/// The value of the digits that come first, if a `u128` holds it.
 #[tactic(auto, using(crate::proofs::Digits::numbers))]
 fn digits_value(base: u32, digits: &[u8]) -> Option<u128>
     requires some { 0 < base }
@@ -88,7 +88,7 @@ pub fn int_value(text: &str) -> Option<u128>
     digits_value(base, digits.as_bytes())
 }
 
-/// What stands behind digits of a base and underscores.
+/// What comes after digits of a base and underscores.
 #[tactic(auto, using(crate::proofs::Digits::narrows))]
 fn past_digits(base: u32, mut text: &str) -> &str
     requires { base ≤ 16 }
@@ -112,7 +112,7 @@ pub fn int_suffix(text: &str) -> &str
     past_digits(base, digits)
 }
 
-/// What stands behind a dot and digits.
+/// What comes after a dot and digits.
 fn past_fraction(text: &str) -> &str
     ensures { result.now ≡ spec.past_fraction text.now }
 {
@@ -122,7 +122,7 @@ fn past_fraction(text: &str) -> &str
     }
 }
 
-/// What stands behind a sign.
+/// What comes after a sign.
 fn past_sign(text: &str) -> &str
     ensures { result.now ≡ spec.past_sign text.now }
 {
@@ -132,7 +132,7 @@ fn past_sign(text: &str) -> &str
     }
 }
 
-/// What stands behind an exponent.
+/// What comes after an exponent.
 fn past_exponent(text: &str) -> &str
     ensures { result.now ≡ spec.past_exponent text.now }
 {

@@ -45,7 +45,7 @@ impl Parse for Lifetime {
 
     ghost seen = { lifetime_of };
 
-    /// An apostrophe and a word stand before the rest.
+    /// An apostrophe and a word come before the rest.
     ghost spells = { λ l x rest. part.lifetime.behind x l ≡ Some rest };
 
     ghost least = { 1 };
@@ -79,7 +79,7 @@ impl Parse for Lit {
 
     ghost seen = { lit_of };
 
-    /// A literal, or `-` and a number, stands before the rest.
+    /// A literal, or `-` and a number, comes before the rest.
     ghost spells = { λ l x rest. part.lit.behind x l ≡ Some rest };
 
     ghost least = { 1 };
@@ -117,7 +117,7 @@ impl Parse for LitStr {
 
     ghost seen = { lit_str_of };
 
-    /// A string literal stands before the rest.
+    /// A string literal comes before the rest.
     ghost spells = { λ l x rest. (kinds.of_kind kind.Str).behind x l ≡ Some rest };
 
     ghost least = { 1 };
@@ -155,7 +155,7 @@ impl Parse for LitByteStr {
 
     ghost seen = { λ x. record { kind = kind.ByteStr; text = x.token } };
 
-    /// A byte string literal stands before the rest.
+    /// A byte string literal comes before the rest.
     ghost spells = { λ l x rest. (kinds.of_kind kind.ByteStr).behind x l ≡ Some rest };
 
     ghost least = { 1 };
@@ -193,7 +193,7 @@ impl Parse for LitCStr {
 
     ghost seen = { λ x. record { kind = kind.CStr; text = x.token } };
 
-    /// A C string literal stands before the rest.
+    /// A C string literal comes before the rest.
     ghost spells = { λ l x rest. (kinds.of_kind kind.CStr).behind x l ≡ Some rest };
 
     ghost least = { 1 };
@@ -231,7 +231,7 @@ impl Parse for LitByte {
 
     ghost seen = { λ x. record { kind = kind.Byte; text = x.token } };
 
-    /// A byte literal stands before the rest.
+    /// A byte literal comes before the rest.
     ghost spells = { λ l x rest. (kinds.of_kind kind.Byte).behind x l ≡ Some rest };
 
     ghost least = { 1 };
@@ -268,7 +268,7 @@ impl Parse for LitChar {
 
     ghost seen = { λ x. record { kind = kind.Char; text = x.token } };
 
-    /// A character literal stands before the rest.
+    /// A character literal comes before the rest.
     ghost spells = { λ l x rest. (kinds.of_kind kind.Char).behind x l ≡ Some rest };
 
     ghost least = { 1 };
@@ -305,7 +305,7 @@ impl Parse for LitInt {
 
     ghost seen = { lit_int_of };
 
-    /// An integer literal without a sign stands before the rest.
+    /// An integer literal without a sign comes before the rest.
     ghost spells = { λ l x rest. (kinds.of_kind kind.Int).behind x l ≡ Some rest };
 
     ghost least = { 1 };
@@ -343,7 +343,7 @@ impl Parse for LitFloat {
 
     ghost seen = { lit_float_of };
 
-    /// A floating-point literal without a sign stands before the rest.
+    /// A floating-point literal without a sign comes before the rest.
     ghost spells = { λ l x rest. (kinds.of_kind kind.Float).behind x l ≡ Some rest };
 
     ghost least = { 1 };
@@ -381,7 +381,7 @@ impl Parse for LitBool {
 
     ghost seen = { λ x. record { kind = kind.Bool; text = x.word } };
 
-    /// `true` or `false` stands before the rest.
+    /// `true` or `false` comes before the rest.
     ghost spells = { λ l x rest. (kinds.of_kind kind.Bool).behind x l ≡ Some rest };
 
     ghost least = { 1 };
@@ -415,7 +415,7 @@ impl Parse for Block {
 
     ghost seen = { λ b. b.stmts };
 
-    /// A brace group stands before the rest.
+    /// A brace group comes before the rest.
     ghost spells = { λ l x rest. part.block.behind x l ≡ Some rest };
 
     ghost least = { 1 };
@@ -428,8 +428,8 @@ impl Parse for Block {
 }
 
 impl Attribute {
-    /// Reads the outer attributes that stand first, as many as there are (Rust Reference, "Attributes"). They are read
-    /// exactly where they stand, unless memory runs out; a `#` without brackets behind it is refused as `ExpectedToken`
+    /// Reads the outer attributes that come first, as many as there are (Rust Reference, "Attributes"). They are read
+    /// exactly where they are, unless memory runs out; a `#` without brackets after it is refused as `ExpectedToken`
     /// of `[`. Where they are refused the input stays where it was.
     #[tactic(auto, using(crate::proofs::ReadingAttributes::outer_reading))]
     pub fn parse_outer(input: &mut ParseBuffer<'_>) -> Result<Vec<Attribute>>
@@ -445,8 +445,8 @@ impl Attribute {
         Ok(x)
     }
 
-    /// Reads the inner attributes that stand first, as many as there are (Rust Reference, "Attributes"). They are read
-    /// exactly where they stand, unless memory runs out; a `#` and a `!` without brackets behind them are refused as
+    /// Reads the inner attributes that come first, as many as there are (Rust Reference, "Attributes"). They are read
+    /// exactly where they are, unless memory runs out; a `#` and a `!` without brackets after them are refused as
     /// `ExpectedToken` of `[`. Where they are refused the input stays where it was.
     #[tactic(auto, using(crate::proofs::ReadingAttributes::inner_reading))]
     pub fn parse_inner(input: &mut ParseBuffer<'_>) -> Result<Vec<Attribute>>

@@ -30,7 +30,7 @@ fn simple_escape(c: char) -> Option<char>
     }
 }
 
-/// What two digits behind `\x` stand for.
+/// What two digits after `\x` stand for.
 fn hex_escape(is_byte: bool, a: u32, b: u32) -> Option<char>
     ensures value { result ≡ spec.hex_escape is_byte a b }
     ensures narrow { IfSome result (λ v. v < 256) }
@@ -42,7 +42,7 @@ fn hex_escape(is_byte: bool, a: u32, b: u32) -> Option<char>
     }
 }
 
-/// The character that digits in braces stand for, behind `\u{`, and how many characters they are with these.
+/// The character that digits in braces stand for, after `\u{`, and how many characters they are with these.
 #[tactic(auto, using(crate::proofs::Quotes::braces))]
 fn braced(text: &[char]) -> Option<(char, usize)>
     ensures value { result ≡ spec.braced 0 0 2 text.now }
@@ -80,7 +80,7 @@ fn braced(text: &[char]) -> Option<(char, usize)>
     None
 }
 
-/// What two digits stand for, behind `\x`.
+/// What two digits stand for, after `\x`.
 fn hex_at(is_byte: bool, text: &[char]) -> Option<(char, usize)>
     ensures value { result ≡ spec.hex_at is_byte text.now }
     ensures within { IfSome result (λ p. (1 ≤ p.1) × (p.1 ≤ length text.now + 1)) }
@@ -96,7 +96,7 @@ fn hex_at(is_byte: bool, text: &[char]) -> Option<(char, usize)>
     }
 }
 
-/// What digits in braces stand for, behind `\u`.
+/// What digits in braces stand for, after `\u`.
 fn braces_at(text: &[char]) -> Option<(char, usize)>
     ensures value { result ≡ spec.braces_at text.now }
     ensures within { IfSome result (λ p. (1 ≤ p.1) × (p.1 ≤ length text.now + 1)) }
@@ -107,7 +107,7 @@ fn braces_at(text: &[char]) -> Option<(char, usize)>
     }
 }
 
-/// What an escape stands for, behind its backslash, and how many characters it is without that.
+/// What an escape stands for, after its backslash, and how many characters it is without that.
 fn escape(is_byte: bool, text: &[char]) -> Option<(char, usize)>
     ensures value { result ≡ spec.escape is_byte text.now }
     ensures within { IfSome result (λ p. (1 ≤ p.1) × (p.1 ≤ length text.now)) }
@@ -142,7 +142,7 @@ fn is_special(c: char) -> bool
     matches!(c, '\'' | '\n' | '\r' | '\t')
 }
 
-/// What stands between apostrophes, behind the first.
+/// What is between apostrophes, after the first.
 fn single(is_byte: bool, text: &[char]) -> Option<char>
     ensures value { result ≡ spec.single is_byte text.now }
     ensures narrow { is_byte ≡ true → IfSome result (λ v. v < 256) }
@@ -194,7 +194,7 @@ pub struct Style {
     pub is_byte: bool,
     /// Without escapes.
     pub is_raw: bool,
-    /// Behind so many `#`, and before as many.
+    /// After so many `#`, and before as many.
     pub hashes: usize,
 }
 
@@ -227,7 +227,7 @@ fn blanks_len(text: &[char]) -> usize
 /// What a piece of a string stands for, if anything, and how many characters it takes.
 type Piece = (Option<char>, usize);
 
-/// What a backslash stands for with what is behind it.
+/// What a backslash stands for with what is after it.
 fn escaped(is_byte: bool, text: &[char]) -> Option<Piece>
     ensures value { result ≡ spec.escaped is_byte text.now }
     ensures within { IfSome result (λ p. (1 ≤ p.1) × (p.1 ≤ length text.now + 1)) }
@@ -287,7 +287,7 @@ fn closes(style: Style, text: &[char]) -> bool
     }
 }
 
-/// What stands behind so many characters.
+/// What comes after so many characters.
 fn past(text: &[char], n: usize) -> &[char]
     requires { n ≤ length text.now }
     ensures { result.now ≡ drop n text.now }
@@ -316,7 +316,7 @@ fn push_byte(out: &mut Vec<u8>, value: Option<char>) -> Result<(), AllocError>
     Ok(())
 }
 
-/// The text that the content of a string is, behind its opening.
+/// The text that the content of a string is, after its opening.
 #[tactic(auto, using(crate::proofs::Quotes::pieces))]
 fn text_of(alloc: Global, style: Style, text: &[char]) -> Result<Option<String>, AllocError>
     ensures { IfOk result (λ o. option_map string_bytes o ≡ option_map encode_utf8_all (spec.content style 0 text.now)) }
@@ -336,7 +336,7 @@ fn text_of(alloc: Global, style: Style, text: &[char]) -> Result<Option<String>,
     Ok(None)
 }
 
-/// The bytes that the content of a byte string is, behind its opening.
+/// The bytes that the content of a byte string is, after its opening.
 #[tactic(auto, using(crate::proofs::Quotes::pieces))]
 fn bytes_of(alloc: Global, style: Style, text: &[char]) -> Result<Option<Vec<u8>>, AllocError>
     requires { style.is_byte ≡ true }
@@ -357,7 +357,7 @@ fn bytes_of(alloc: Global, style: Style, text: &[char]) -> Result<Option<Vec<u8>
     Ok(None)
 }
 
-/// How a string is written, and what stands behind its opening, without the `b` of bytes.
+/// How a string is written, and what comes after its opening, without the `b` of bytes.
 fn opened(is_byte: bool, text: &[char]) -> Option<(Style, &[char])>
     ensures value { option_map (λ p. (p.0, p.1.now)) result ≡ spec.opened is_byte text.now }
     ensures byte { IfSome result (λ p. p.0.is_byte ≡ is_byte) }

@@ -1,7 +1,7 @@
 //! Whether literals are read back from their own tokens.
 //!
 //! A literal is read back where the grammar of its type spells it by its own tokens; then it is read back before whatever
-//! stands behind it too (`laws::leaves_are_read_back`). Lifetimes, attributes and blocks always are, so they have no test.
+//! comes after it too (`laws::leaves_are_read_back`). Lifetimes, attributes and blocks always are, so they have no test.
 
 ghost use Rattle.std.specs.Prelude.{◌≡◌};
 ghost use Rattle.syn_lower_leaves.specs.View as view;

@@ -39,7 +39,7 @@ fn is_digit(c: u8) -> bool
     c.is_ascii_digit() || c == b'_'
 }
 
-/// How many decimal digits and underscores stand first.
+/// How many decimal digits and underscores come first.
 fn digits_len(text: &str) -> usize
     ensures { result ≡ prefix_len spec.is_digit text.now }
 {

@@ -112,7 +112,7 @@ impl LitInt {
         int_suffix(self.token.as_str())
     }
 
-    /// Its value in decimal digits, behind a `-` where it has a sign. It is refused where its value is above that of any integer
+    /// Its value in decimal digits, after a `-` where it has a sign. It is refused where its value is above that of any integer
     /// type (`LiteralOutOfRange`), and where memory runs out.
     pub fn base10_digits(&self, alloc: Global) -> Result<String>
         ensures value { IfOk result (λ s. Some (string_bytes s) ≡ option_map (λ n. signed self.now.minus_token (decimal n)) (spec.in_u128 (spec.int_value self.now.token))) }
@@ -162,7 +162,7 @@ impl LitFloat {
     {
         float_suffix(self.token.as_str())
     }
-    /// Its digits, with its dot and its exponent, behind a `-` where it has a sign; underscores are left out. It is refused
+    /// Its digits, with its dot and its exponent, after a `-` where it has a sign; underscores are left out. It is refused
     /// only where memory runs out.
     pub fn base10_digits(&self, alloc: Global) -> Result<String>
         ensures value { IfOk result (λ s. string_bytes s ≡ signed self.now.minus_token (spec.float_digits self.now.token)) }

@@ -76,7 +76,7 @@ fn pound_bang(input: &mut ParseBuffer<'_>) -> Option<(Pound, Not)>
     }
 }
 
-/// Reads the outer attributes that stand first, as many as there are.
+/// Reads the outer attributes that come first, as many as there are.
 #[tactic(auto, using(crate::proofs::Loops::outer_attributes), unfolding(syn_parts::specs::Part::outer_attributes))]
 pub fn outer_attributes(input: &mut ParseBuffer<'_>) -> Result<Vec<Attribute>>
     ensures value { Reads (λ v. map attribute_of v.items) (part.outer_attributes.reads input.old.rest) result input.new.rest }
@@ -90,7 +90,7 @@ pub fn outer_attributes(input: &mut ParseBuffer<'_>) -> Result<Vec<Attribute>>
     Ok(found)
 }
 
-/// Reads the inner attributes that stand first, as many as there are.
+/// Reads the inner attributes that come first, as many as there are.
 #[tactic(auto, using(crate::proofs::Loops::inner_attributes), unfolding(syn_parts::specs::Part::inner_attributes))]
 pub fn inner_attributes(input: &mut ParseBuffer<'_>) -> Result<Vec<Attribute>>
     ensures value { Reads (λ v. map attribute_of v.items) (part.inner_attributes.reads input.old.rest) result input.new.rest }
@@ -161,7 +161,7 @@ pub fn rest_of(input: &mut ParseBuffer<'_>) -> Result<TokenStream>
     Ok(tokens)
 }
 
-/// Whether a literal or a `-` stands first.
+/// Whether a literal or a `-` comes first.
 fn lit_at(input: &ParseBuffer<'_>) -> bool
     ensures { result ≡ part.is_lit_there input.now.rest }
 {
@@ -174,7 +174,7 @@ fn lit_at(input: &ParseBuffer<'_>) -> bool
     }
 }
 
-/// Whether a constant argument stands first: a literal, a `-` or a brace group.
+/// Whether a constant argument comes first: a literal, a `-` or a brace group.
 #[tactic(auto, unfolding(syn_parts::specs::Part::const_at))]
 pub fn const_at(input: &ParseBuffer<'_>) -> bool
     ensures { result ≡ part.const_at input.now.rest }
@@ -182,7 +182,7 @@ pub fn const_at(input: &ParseBuffer<'_>) -> bool
     lit_at(input) || input.peek::<Brace>()
 }
 
-/// How many tokens the constant argument has that stands first; 0 where none does.
+/// How many tokens the constant argument has that comes first; 0 where none does.
 fn constant_len(input: &ParseBuffer<'_>) -> usize
     ensures { part.find_const input.now.rest ≡ (if nat_lt 0 result then Some (first_alone (take result input.now.rest), drop result input.now.rest) else None) }
 {

@@ -1,4 +1,4 @@
-//! What no clause says of lifetimes, blocks and attributes: what is left behind them, what is printed of them, their
+//! What no clause says of lifetimes, blocks and attributes: what is left after them, what is printed of them, their
 //! refusals, and which are equal or read back.
 
 use rows::{again, check, compared, left, left_by, printed, words};
@@ -76,7 +76,7 @@ fn an_apostrophe_by_itself_begins_no_lifetime(rt: HostRuntime) -> Result<(), Fai
     Ok(())
 }
 
-/// Whether a lifetime stands first, and whether a lifetime or an identifier stands second.
+/// Whether a lifetime comes first, and whether a lifetime or an identifier stands second.
 fn peeked(alloc: Global, text: &str) -> Result<String, Error> {
     let tokens = lex(alloc, text)?;
     let input = ParseBuffer::new(&tokens)?;

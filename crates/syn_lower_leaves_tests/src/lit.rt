@@ -140,7 +140,7 @@ fn one_kind_each(rt: HostRuntime) -> Result<(), Fail> {
     check(alloc, TRUTHS, printed::<LitBool>)
 }
 
-/// Puts a name behind others if something holds.
+/// Puts a name after others if something holds.
 fn name_if(holds: bool, name: &str, names: &mut String) -> Result<(), Error> {
     if holds {
         names.push_str(name)?;
@@ -149,7 +149,7 @@ fn name_if(holds: bool, name: &str, names: &mut String) -> Result<(), Error> {
     Ok(())
 }
 
-/// Puts a name behind others if a text is a `T`. Else it has to be refused as no literal.
+/// Puts a name after others if a text is a `T`. Else it has to be refused as no literal.
 fn name_of<T: Parse + Drop>(
     alloc: Global,
     text: &str,
@@ -197,7 +197,7 @@ fn literals_of_one_kind(rt: HostRuntime) -> Result<(), Fail> {
     check(rt.alloc(), OWN_KINDS, own_kinds)
 }
 
-/// The characters of a value, or its digits with the suffix behind a blank.
+/// The characters of a value, or its digits with the suffix after a blank.
 fn value(alloc: Global, text: &str) -> Result<String, Error> {
     match parse_str::<Lit>(alloc, text)? {
         Lit::Str(x) => {

@@ -24,7 +24,7 @@ pub record PutsPunct {A P : Type 0} (allowed : P → Type 0) (old new : Punctuat
   pub none : takes_value old ≡ true → puncts new ≡ puncts old
   pub one : takes_value old ≡ false → (p : P) × allowed p × (puncts new ≡ puncts old ++ p ∷ [])
 
--- one value, and no punct behind it
+-- one value, and no punct after it
 abbrev pub is_one : {A : Type 0} → List A → Bool → Bool
 is_one [] e = false
 is_one (x ∷ []) e = not e

@@ -17,7 +17,7 @@ use syn_tokens::token::Colon;
 use syn_tokens::tree::{Ident, TokenStream, TokenTree};
 use syn_tokens::{Delimiter, Spacing};
 
-/// What stands in a list.
+/// What is in a list.
 pub trait Element {
     ghost use Rattle.std.specs.Prelude.{◌≡◌, Bool};
 
@@ -56,7 +56,7 @@ pub fn all_fit<T: Element, P>(list: &Punctuated<T, P>) -> bool
     }
 }
 
-/// Whether a list is one value, and no punct behind it.
+/// Whether a list is one value, and no punct after it.
 #[tactic(auto, unfolding(crate::specs::View::values, crate::specs::View::trails))]
 pub fn is_one<T, P>(list: &Punctuated<T, P>) -> bool
     ensures { result ≡ is_one (values list.now) (trails list.now) }
@@ -75,7 +75,7 @@ pub fn bounds_fit<B: Element, P>(bounds: &Punctuated<B, P>, several: bool) -> bo
     }
 }
 
-/// The style of a segment where this many stand before `>`.
+/// The style of a segment where this many come before `>`.
 pub fn style_at(left: usize, style: PathStyle) -> PathStyle
     ensures { result ≡ spec.style_at left style }
 {

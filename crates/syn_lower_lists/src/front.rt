@@ -1,4 +1,4 @@
-//! What stands first, as the readers of paths and types ask.
+//! What comes first, as the readers of paths and types ask.
 
 ghost use Rattle.std.specs.Prelude.{◌≡◌, ◌||◌};
 ghost use Rattle.syn_parts.specs.Mark as mark;
@@ -15,7 +15,7 @@ use syn_tokens::token::{
 };
 use syn_tokens::tree::TokenTree;
 
-/// Whether `<` stands first that doesn't begin `<=`.
+/// Whether `<` comes first that doesn't begin `<=`.
 #[tactic(auto, unfolding(syn_tokens::specs::Sign::sign_text, syn_parts::specs::Mark::sign_at))]
 fn lt_at(rest: &[TokenTree]) -> bool
     ensures { result ≡ mark.lt.at (toks_of rest.now) }
@@ -23,7 +23,7 @@ fn lt_at(rest: &[TokenTree]) -> bool
     Lt::peek(rest) && !Le::peek(rest)
 }
 
-/// Whether `::` and `<` stand first.
+/// Whether `::` and `<` come first.
 #[tactic(auto, unfolding(syn_parts::specs::Part::turbofish_at, syn_tokens::specs::Sign::sign_text, syn_parts::specs::Mark::sign_at))]
 pub fn turbofish_at(input: &ParseBuffer<'_>) -> bool
     ensures { result ≡ part.turbofish_at input.now.rest }
@@ -37,7 +37,7 @@ pub fn turbofish_at(input: &ParseBuffer<'_>) -> bool
     }
 }
 
-/// Whether `<` stands first, `::` before it or not.
+/// Whether `<` comes first, `::` before it or not.
 #[tactic(auto, unfolding(syn_parts::specs::Part::angle_at, syn_parts::specs::Part::turbofish_at))]
 pub fn angle_at(input: &ParseBuffer<'_>) -> bool
     ensures { result ≡ part.angle_at input.now.rest }
@@ -45,7 +45,7 @@ pub fn angle_at(input: &ParseBuffer<'_>) -> bool
     lt_at(input.trees()) || turbofish_at(input)
 }
 
-/// Whether `>` stands first.
+/// Whether `>` comes first.
 #[tactic(auto, unfolding(syn_tokens::specs::Sign::sign_text, syn_parts::specs::Mark::sign_at))]
 pub fn gt_at(input: &ParseBuffer<'_>) -> bool
     ensures { result ≡ mark.gt.at input.now.rest }
@@ -53,7 +53,7 @@ pub fn gt_at(input: &ParseBuffer<'_>) -> bool
     input.peek::<Gt>()
 }
 
-/// Whether parentheses stand first.
+/// Whether parentheses come first.
 #[tactic(auto, unfolding(syn_parts::specs::Mark::round_at))]
 pub fn round_at(input: &ParseBuffer<'_>) -> bool
     ensures { result ≡ mark.round_at input.now.rest }
@@ -61,7 +61,7 @@ pub fn round_at(input: &ParseBuffer<'_>) -> bool
     input.peek::<Paren>()
 }
 
-/// Whether `=` stands first that begins neither `==` nor `=>`.
+/// Whether `=` comes first that begins neither `==` nor `=>`.
 #[tactic(auto, unfolding(syn_tokens::specs::Sign::sign_text, syn_parts::specs::Mark::sign_at))]
 fn eq_at(rest: &[TokenTree]) -> bool
     ensures { result ≡ mark.eq.at (toks_of rest.now) }
@@ -69,7 +69,7 @@ fn eq_at(rest: &[TokenTree]) -> bool
     Eq::peek(rest) && !EqEq::peek(rest) && !FatArrow::peek(rest)
 }
 
-/// Whether a name and a single `=` stand first.
+/// Whether a name and a single `=` come first.
 #[tactic(auto, unfolding(syn_parts::specs::Part::assoc_at))]
 pub fn assoc_at(input: &ParseBuffer<'_>) -> bool
     ensures { result ≡ part.assoc_at input.now.rest }
@@ -80,7 +80,7 @@ pub fn assoc_at(input: &ParseBuffer<'_>) -> bool
     }
 }
 
-/// Whether a lifetime or `>` stands first.
+/// Whether a lifetime or `>` comes first.
 #[tactic(auto, unfolding(syn_tokens::specs::Sign::sign_text, syn_parts::specs::Mark::sign_at, syn_parts::specs::Mark::lifetime_at))]
 fn lifetimes_behind(rest: &[TokenTree]) -> bool
     ensures { result ≡ (mark.gt.at (toks_of rest.now) || mark.lifetime_at (toks_of rest.now)) }
@@ -94,7 +94,7 @@ fn lifetimes_behind(rest: &[TokenTree]) -> bool
     }
 }
 
-/// Whether `<` stands first.
+/// Whether `<` comes first.
 #[tactic(auto, unfolding(syn_tokens::specs::Sign::sign_text, syn_parts::specs::Mark::sign_at))]
 fn less_at(rest: &[TokenTree]) -> bool
     ensures { result ≡ mark.less.at (toks_of rest.now) }
@@ -102,7 +102,7 @@ fn less_at(rest: &[TokenTree]) -> bool
     Lt::peek(rest)
 }
 
-/// Whether lifetimes of a bound stand first: `for` and `<`, and then `>` or a lifetime.
+/// Whether lifetimes of a bound come first: `for` and `<`, and then `>` or a lifetime.
 #[tactic(auto, unfolding(syn_parts::specs::Part::lifetimes_at, syn_tokens::specs::Sign::word_text, syn_parts::specs::Mark::word_at, syn_parts::specs::Mark::sign_at))]
 pub fn lifetimes_at(input: &ParseBuffer<'_>) -> bool
     ensures { result ≡ part.lifetimes_at input.now.rest }
@@ -116,7 +116,7 @@ pub fn lifetimes_at(input: &ParseBuffer<'_>) -> bool
     }
 }
 
-/// Whether `:` stands first that doesn't begin `::`.
+/// Whether `:` comes first that doesn't begin `::`.
 #[tactic(auto, unfolding(syn_tokens::specs::Sign::sign_text, syn_parts::specs::Mark::sign_at))]
 fn colon_at(rest: &[TokenTree]) -> bool
     ensures { result ≡ mark.lone_colon.at (toks_of rest.now) }
@@ -124,7 +124,7 @@ fn colon_at(rest: &[TokenTree]) -> bool
     Colon::peek(rest) && !PathSep::peek(rest)
 }
 
-/// Whether the name of an argument and a single `:` stand first.
+/// Whether the name of an argument and a single `:` come first.
 #[tactic(auto, unfolding(syn_parts::specs::Part::arg_name_at))]
 pub fn arg_name_at(input: &ParseBuffer<'_>) -> bool
     ensures { result ≡ part.arg_name_at input.now.rest }
@@ -137,7 +137,7 @@ pub fn arg_name_at(input: &ParseBuffer<'_>) -> bool
     }
 }
 
-/// Whether a function pointer stands first.
+/// Whether a function pointer comes first.
 #[tactic(auto, unfolding(syn_parts::specs::Part::fn_at, syn_tokens::specs::Sign::word_text, syn_parts::specs::Mark::word_at))]
 pub fn fn_at(input: &ParseBuffer<'_>) -> bool
     ensures { result ≡ part.fn_at input.now.rest }
@@ -148,7 +148,7 @@ pub fn fn_at(input: &ParseBuffer<'_>) -> bool
         || input.peek::<token::Fn>()
 }
 
-/// Whether the word of a path's segment stands first.
+/// Whether the word of a path's segment comes first.
 fn segment_at(input: &ParseBuffer<'_>) -> bool
     ensures { result ≡ pat.begins_segment input.now.rest }
 {
@@ -158,7 +158,7 @@ fn segment_at(input: &ParseBuffer<'_>) -> bool
     }
 }
 
-/// Whether a path begins, qualified by a type or not: the word of a segment stands first, `::` or `<`.
+/// Whether a path begins, qualified by a type or not: the word of a segment comes first, `::` or `<`.
 #[tactic(auto, unfolding(syn_tokens::specs::Sign::sign_text, syn_parts::specs::Mark::sign_at))]
 pub fn path_at(input: &ParseBuffer<'_>) -> bool
     ensures { result ≡ (pat.begins_segment input.now.rest || (mark.colon2.at input.now.rest || mark.less.at input.now.rest)) }

@@ -34,7 +34,7 @@ impl Parse for BoundLifetimes {
 
     ghost seen = { view.lifetimes_of };
 
-    /// `for` and lifetimes between `<` and `>` stand before the rest.
+    /// `for` and lifetimes between `<` and `>` come before the rest.
     ghost spells = { λ l x rest. part.lifetimes.behind x l ≡ Some rest };
 
     ghost least = { 1 };
@@ -67,7 +67,7 @@ impl Parse for PointerMutability {
 
     ghost seen = { view.is_mut };
 
-    /// `mut` or `const` stands before the rest.
+    /// `mut` or `const` comes before the rest.
     ghost spells = { λ l x rest. part.mutability.behind x l ≡ Some rest };
 
     ghost least = { 1 };
@@ -104,12 +104,12 @@ impl Parse for Abi {
 
     ghost seen = { view.abi_of };
 
-    /// `extern` stands before the rest, and a string behind it where one stands there.
+    /// `extern` comes before the rest, and a string after it where one is there.
     ghost spells = { λ l x rest. part.abi.behind x l ≡ Some rest };
 
     ghost least = { 1 };
 
-    /// Reads `extern` and a string, if one stands there (Rust Reference, "Function pointer types"); it is refused as
+    /// Reads `extern` and a string, if one is there (Rust Reference, "Function pointer types"); it is refused as
     /// `ExpectedToken` of `extern`.
     fn parse(input: &mut ParseBuffer<'_>) -> Result<Self> {
         ahead(input)

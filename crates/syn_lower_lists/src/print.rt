@@ -24,7 +24,7 @@ pub fn print_some<T: ToTokens>(part: &Option<T>, tokens: &mut TokenStream) -> Re
     }
 }
 
-/// Prints values with the puncts behind them.
+/// Prints values with the puncts after them.
 #[tactic(auto, using(syn_tokens::proofs::Fronts::fronts))]
 fn print_pairs<T: ToTokens, P: ToTokens>(
     mut pairs: &[(T, P)],

@@ -45,7 +45,7 @@ impl<T, P: Drop> Pair<T, P> {
 }
 
 /// Values with puncts between, and perhaps one at the end.
-#[derive(PartialEq)]
+#[derive(Debug, PartialEq)]
 pub struct Punctuated<T, P> {
     /// The values that puncts follow, each with its own.
     pub inner: Vec<(T, P)>,
@@ -120,7 +120,7 @@ impl<T: Drop, P: Drop> Punctuated<T, P> {
         self.last = Some(value);
     }
 
-    /// Puts a punct at the end, behind a value. Where memory runs out the list stays as it was, and the punct is
+    /// Puts a punct at the end, after a value. Where memory runs out the list stays as it was, and the punct is
     /// given up.
     #[tactic(auto, unfolding(crate::specs::View::values, crate::specs::View::trails, crate::specs::Punct::puncts, crate::specs::Punct::takes_value))]
     pub fn push_punct(&mut self, punct: P) -> Result<()>
@@ -261,7 +261,7 @@ impl<T: Drop, P: Default + Drop> Punctuated<T, P> {
     ghost use Rattle.syn_lower_lists.specs.View.{values, trails};
     ghost use Rattle.syn_lower_lists.specs.Punct.{takes_value, PutsPunct, IsSameList};
 
-    /// Puts a value at the end, behind a default punct where a value is last. Where memory runs out the list stays
+    /// Puts a value at the end, after a default punct where a value is last. Where memory runs out the list stays
     /// as it was, and the value is given up.
     #[tactic(auto, using(crate::proofs::Puncts::puts), unfolding(crate::specs::View::values, crate::specs::View::trails, crate::specs::Punct::puncts, crate::specs::Punct::takes_value))]
     pub fn push(&mut self, value: T) -> Result<()>

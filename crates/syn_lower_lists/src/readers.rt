@@ -21,7 +21,7 @@ use syn_tokens::error::{ErrorKind, Expected, Result};
 use syn_tokens::token::{Colon, Comma, Const, For, Gt, Lt, Mut, Unsafe};
 use syn_tokens::tree::Ident;
 
-/// Reads a lifetime, if one stands first.
+/// Reads a lifetime, if one comes first.
 pub fn maybe_lifetime(input: &mut ParseBuffer<'_>) -> Result<Option<Lifetime>>
     ensures value { Reads (view.mapped view.lifetime_of) ((form.maybe mark.lifetime_at part.lifetime).reads input.old.rest) result input.new.rest }
     ensures noted { input.new.noted ≡ input.old.noted }
@@ -97,7 +97,7 @@ pub fn lifetimes(input: &mut ParseBuffer<'_>) -> Result<BoundLifetimes>
     })
 }
 
-/// Reads the lifetimes of a bound, if they stand first.
+/// Reads the lifetimes of a bound, if they come first.
 pub fn maybe_lifetimes(input: &mut ParseBuffer<'_>) -> Result<Option<BoundLifetimes>>
     ensures value { Reads (view.mapped view.lifetimes_of) ((form.maybe part.lifetimes_at part.lifetimes).reads input.old.rest) result input.new.rest }
     ensures noted { input.new.noted ≡ input.old.noted }
@@ -110,7 +110,7 @@ pub fn maybe_lifetimes(input: &mut ParseBuffer<'_>) -> Result<Option<BoundLifeti
     }
 }
 
-/// Reads the name of an argument and `:`, if they stand first.
+/// Reads the name of an argument and `:`, if they come first.
 pub fn maybe_name(input: &mut ParseBuffer<'_>) -> Result<Option<(Ident, Colon)>>
     ensures value { Reads (view.mapped (λ p. p.0)) ((form.maybe part.arg_name_at (form.closed_by mark.lone_colon part.arg_name)).reads input.old.rest) result input.new.rest }
     ensures noted { input.new.noted ≡ input.old.noted }
@@ -126,7 +126,7 @@ pub fn maybe_name(input: &mut ParseBuffer<'_>) -> Result<Option<(Ident, Colon)>>
     Ok(Some((name, colon)))
 }
 
-/// Reads a string, if one stands first.
+/// Reads a string, if one comes first.
 fn maybe_string(input: &mut ParseBuffer<'_>) -> Result<Option<LitStr>>
     ensures value { Reads (view.mapped view.lit_str_of) ((form.maybe part.string_at part.string).reads input.old.rest) result input.new.rest }
     ensures noted { input.new.noted ≡ input.old.noted }
@@ -139,7 +139,7 @@ fn maybe_string(input: &mut ParseBuffer<'_>) -> Result<Option<LitStr>>
     }
 }
 
-/// Reads `extern` and a string, if they stand first.
+/// Reads `extern` and a string, if they come first.
 pub fn maybe_abi(input: &mut ParseBuffer<'_>) -> Result<Option<Abi>>
     ensures value { Reads (view.mapped view.abi_of) ((form.maybe mark.extern_word.at part.abi).reads input.old.rest) result input.new.rest }
     ensures noted { input.new.noted ≡ input.old.noted }
@@ -152,7 +152,7 @@ pub fn maybe_abi(input: &mut ParseBuffer<'_>) -> Result<Option<Abi>>
     Ok(Some(Abi { extern_token, name }))
 }
 
-/// Reads what stands before the `fn` of a function pointer.
+/// Reads what comes before the `fn` of a function pointer.
 #[tactic(auto, unfolding(syn_parts::specs::Part::fn_head))]
 pub fn fn_head(
     input: &mut ParseBuffer<'_>,

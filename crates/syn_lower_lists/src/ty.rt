@@ -24,7 +24,7 @@ pub struct Abi {
 }
 
 /// `for<'a, 'b>` (Rust Reference, "Higher-ranked trait bounds").
-#[derive(Drop, PartialEq)]
+#[derive(Debug, Drop, PartialEq)]
 pub struct BoundLifetimes {
     /// `for`
     pub for_token: For,

@@ -46,7 +46,7 @@ pub segments_turn : (s : PathStyle) (found : List SegmentTree) (l : List Tok) �
     ≡ cond (colon2.at l) (and_then ((segment type s).reads (drop colon2.count l)) (λ x n. gathered_more colon2 (segment type s) (found ++ x ∷ []) n)) (Some (found, l))
 segments_turn s = loops.more_turn colon2 (segment type s) colon2_present (λ k. whole_segment_alike s)
 
--- behind others
+-- after others
 pub segments_start : (s : PathStyle) (found : List SegmentTree) (l : List Tok) → extend_more found ((joined colon2 (segment type s)).reads l)
     ≡ and_then ((segment type s).reads l) (λ x n. gathered_more colon2 (segment type s) (found ++ x ∷ []) n)
 unfolding gathered_more
@@ -62,7 +62,7 @@ segments_start s found l = ap (extend_more found) (loops.joined_start colon2 (se
 
 pub ruleset segments = (map-one, segments_turn, segments_start)
 
--- none, or one behind `::` and more
+-- none, or one after `::` and more
 pub segments_further : (s : PathStyle) (found : List SegmentTree) (l : List Tok) → gathered_more colon2 (segment type s) found l
     ≡ cond (colon2.at l) (extend_more found ((joined colon2 (segment type s)).reads (drop colon2.count l))) (Some (found, l))
 segments_further s found l = segments_turn s found l ∙ ap (λ o. cond (colon2.at l) o (Some (found, l))) (sym (segments_start s found (drop colon2.count l)))

@@ -20,7 +20,7 @@ pub map_length : {A B : Type 0} (f : A → B) (xs : List A) → length (map f xs
 map_length f [] = refl
 map_length f (x ∷ xs) = let e = map_length f xs in cc
 
--- the segments behind `>`, read onto those before it
+-- the segments after `>`, read onto those before it
 pub joined_on : (x : TypeTree) (a : Option (Bool × List SegmentTree)) (i : (ℕ × Bool) × (Bool × List SegmentTree)) (o : Outcome (List SegmentTree)) (ss : List SegmentTree) (n : List Tok)
     → i ≡ inside_of a
     → extend_more i.1.1 o ≡ Some (ss, n)

@@ -28,7 +28,7 @@ use syn_tokens::error::{ErrorKind, Expected, Part, Result};
 use syn_tokens::token::{As, Bracket, Gt, Lt, Not, Paren, PathSep};
 use syn_tokens::tree::TokenStream;
 
-/// What stands behind the `as` of a qualified path: that word, `::` in front, the segments.
+/// What comes after the `as` of a qualified path: that word, `::` in front, the segments.
 type AsPath<T> = (As, Option<PathSep>, Punctuated<PathSegmentOf<T>, PathSep>);
 
 /// A path, and the type that it is qualified by.
@@ -71,10 +71,10 @@ pub fn is_bare<T: HasTree>(qself: &Option<QSelfOf<T>>, path: &PathOf<T>) -> bool
     }
 }
 
-/// What stands behind the path of a macro: `!` and a group.
+/// What comes after the path of a macro: `!` and a group.
 pub type MacroEnd = (Not, MacroDelimiter, TokenStream);
 
-/// A path as a type, or the macro that `!` and a group behind it make.
+/// A path as a type, or the macro that `!` and a group after it make.
 fn path_or_macro<T: IsType + Drop>(
     qself: Option<QSelfOf<T>>,
     path: PathOf<T>,
@@ -94,7 +94,7 @@ fn path_or_macro<T: IsType + Drop>(
     T::mac(TypeMacroOf { mac })
 }
 
-/// Reads `!` and a group behind a path that they make a macro.
+/// Reads `!` and a group after a path that they make a macro.
 #[tactic(auto, unfolding(syn_parts::specs::Part::macro_end))]
 pub fn macro_end<T: HasTree>(
     input: &mut ParseBuffer<'_>,
@@ -115,7 +115,7 @@ pub fn macro_end<T: HasTree>(
     Ok(Some((bang_token, delimiter, tokens)))
 }
 
-/// The part of a qualified path before the segments behind `>`: how many segments stand in it, `as`, `::` in front,
+/// The part of a qualified path before the segments after `>`: how many segments are in it, `as`, `::` in front,
 /// those segments.
 type Inside<T> = (
     usize,
@@ -124,7 +124,7 @@ type Inside<T> = (
     Punctuated<PathSegmentOf<T>, PathSep>,
 );
 
-/// Begins a qualified path by what stands behind its `as`, and the `::` behind `>`.
+/// Begins a qualified path by what comes after its `as`, and the `::` after `>`.
 #[tactic(auto, using(crate::proofs::QPaths::lengths))]
 fn inside<T: IsType + Drop>(
     alloc: Global,
@@ -145,7 +145,7 @@ fn inside<T: IsType + Drop>(
 }
 
 impl<T: IsType + Drop, F: Fn(&mut ParseBuffer<'_>, bool) -> Result<Box<T>>> Grammar<F> {
-    /// Reads `as` and a path, if they stand first.
+    /// Reads `as` and a path, if they come first.
     #[tactic(auto, using(crate::proofs::Loops::nothing), unfolding(syn_parts::specs::Part::pieces))]
     fn as_path(&self, input: &mut ParseBuffer<'_>) -> Result<Option<AsPath<T>>>
         requires callable { Callable (weight input.old.rest) (F.pre self.now.ty) }
@@ -164,7 +164,7 @@ impl<T: IsType + Drop, F: Fn(&mut ParseBuffer<'_>, bool) -> Result<Box<T>>> Gram
         Ok(Some((as_token, leading_colon, segments)))
     }
 
-    /// Reads what stands between `<` and `>`, and the `>`.
+    /// Reads what is between `<` and `>`, and the `>`.
     fn between(&self, input: &mut ParseBuffer<'_>) -> Result<(Box<T>, Option<AsPath<T>>, Gt)>
         requires callable { Callable (weight input.old.rest + 1) (F.pre self.now.ty) }
         requires reads { ReadsType T.tree (F.post self.now.ty) }
@@ -181,7 +181,7 @@ impl<T: IsType + Drop, F: Fn(&mut ParseBuffer<'_>, bool) -> Result<Box<T>>> Gram
         Ok((ty, as_path, gt_token))
     }
 
-    /// Reads a qualified path behind its `<`.
+    /// Reads a qualified path after its `<`.
     #[tactic(auto, using(crate::proofs::QPaths::joins), unfolding(syn_parts::specs::Part::qualified))]
     fn qualified(
         &self,
@@ -269,7 +269,7 @@ impl<T: IsType + Drop, F: Fn(&mut ParseBuffer<'_>, bool) -> Result<Box<T>>> Gram
         Err(input.error(ErrorKind::ExpectedPart(Part::Type)))
     }
 
-    /// Reads a type; behind its `impl` or `dyn` several bounds may stand, or one.
+    /// Reads a type; after its `impl` or `dyn` several bounds may stand, or one.
     #[tactic(auto, unfolding(syn_parts::specs::Part::at_place))]
     pub fn at_place(&self, input: &mut ParseBuffer<'_>, several: bool) -> Result<Box<T>>
         requires callable { Callable (weight input.old.rest) (F.pre self.now.ty) }

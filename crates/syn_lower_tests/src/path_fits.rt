@@ -78,7 +78,7 @@ fn type_of_words(alloc: Global, text: &str) -> Result<String, Error> {
     agreed(alloc, is_part, Type::Path(path).is_read_back(true))
 }
 
-/// A path of these words with `::` behind it.
+/// A path of these words with `::` after it.
 fn path_to_nothing(alloc: Global, text: &str) -> Result<String, Error> {
     let mut path = path_of(alloc, text)?;
     if path.segments.empty_or_trailing() {
@@ -88,7 +88,7 @@ fn path_to_nothing(alloc: Global, text: &str) -> Result<String, Error> {
     words(alloc, styles_of(&path))
 }
 
-/// The path of a text with a segment behind it.
+/// The path of a text with a segment after it.
 fn path_over(alloc: Global, text: &str) -> Result<String, Error> {
     let mut path = parse_str::<Path>(alloc, text)?;
     path.segments.push(PathSegment {
@@ -199,7 +199,7 @@ fn arguments_in_parentheses(rt: HostRuntime) -> Result<(), Fail> {
     check(rt.alloc(), OUTPUTS, round_to)
 }
 
-/// Whether the path that a text is read as, behind a type or alone, is read back as the same.
+/// Whether the path that a text is read as, after a type or alone, is read back as the same.
 fn qpath_again(alloc: Global, text: &str, expr_style: bool) -> Result<String, Error> {
     let tokens = lex(alloc, text)?;
     let mut input = ParseBuffer::new(&tokens)?;
@@ -215,7 +215,7 @@ fn qpath_again(alloc: Global, text: &str, expr_style: bool) -> Result<String, Er
     words(alloc, if is_same { "same" } else { "another" })
 }
 
-/// Whether the path of a text is read back behind `T as` and so many segments.
+/// Whether the path of a text is read back after `T as` and so many segments.
 fn is_read_back_at(
     alloc: Global,
     text: &str,
@@ -235,7 +235,7 @@ fn is_read_back_at(
     Ok(qpath_is_read_back(&qself, &path, expr_style))
 }
 
-/// Whether a path is read back where no segment is left behind `>`, and where `as` alone stands before it.
+/// Whether a path is read back where no segment is left after `>`, and where `as` alone comes before it.
 fn misplaced(alloc: Global, text: &str, expr_style: bool) -> Result<String, Error> {
     let behind_all = is_read_back_at(alloc, text, expr_style, 5)?;
     let before_all = is_read_back_at(alloc, text, expr_style, 0)?;

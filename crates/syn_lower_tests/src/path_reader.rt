@@ -91,7 +91,7 @@ fn parts_hold_their_tokens(rt: HostRuntime) -> Result<(), Fail> {
     Ok(())
 }
 
-/// What a path as a type holds: how many of its segments stand inside, of how many, and whether `as` and `::` in front do.
+/// What a path as a type holds: how many of its segments are inside, of how many, and whether `as` and `::` in front do.
 fn held(alloc: Global, text: &str) -> Result<String, Error> {
     let TypePath { qself, path } = parse_str::<TypePath>(alloc, text)?;
     let Some(qself) = qself else {
@@ -118,7 +118,7 @@ fn qualified_paths_hold_their_tokens(rt: HostRuntime) -> Result<(), Fail> {
     check(rt.alloc(), HELD, held)
 }
 
-/// Whether a text with an invisible group of `u8` behind it is read as a `T`.
+/// Whether a text with an invisible group of `u8` after it is read as a `T`.
 fn with_group<T: Parse + Drop>(alloc: Global, text: &str) -> Result<String, Error> {
     let mut tokens = lex(alloc, text)?;
     let invisible = Group {

@@ -1,5 +1,5 @@
 //! What no clause says of readers: where they stop, which refusals they give and where, that a refused read leaves the
-//! input where it was, and that calls succeed. A row has what is left behind the part at its front, or the refusal: its
+//! input where it was, and that calls succeed. A row has what is left after the part at its front, or the refusal: its
 //! place in bytes and its text. The rows are by the Rust Reference's grammar of types and paths.
 
 use rows::{check, left, left_by};

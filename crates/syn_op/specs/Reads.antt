@@ -32,7 +32,7 @@ prefix_at l =
     (if sign_at (unary_text un.Not) l then Some un.Not else
     (if sign_at (unary_text un.Neg) l then Some un.Neg else None))
 
--- the operator's punct stands first
+-- the operator's punct comes first
 abbrev pub SpellsUnOp : List Tok → UnKind → List Tok → Type 0
 SpellsUnOp l op rest = (prefix_at l ≡ Some op) × (rest ≡ drop 1 l)
 
@@ -55,7 +55,7 @@ obsolete_range_op l =
 abbrev pub wanted_limits : ErrorKind
 wanted_limits = ExpectedToken (expected.Two (wanted.Sign 10) (wanted.Sign 12))
 
--- What stands first is taken, and a note stays; where none stands first nothing changes.
+-- What comes first is taken, and a note stays; where none comes first nothing changes.
 abbrev pub TakesLimits : Outcome Limits → Input → Result RangeLimits Error → Input → Type 0
 TakesLimits outcome old (Ok x) new = (outcome ≡ Some (limits_kind x, new.rest)) × (new.noted ≡ old.noted)
 TakesLimits outcome old (Err e) new = (outcome ≡ None) × (new ≡ old) × (e.kind ≡ wanted_limits)

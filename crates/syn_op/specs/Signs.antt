@@ -13,7 +13,7 @@ unfoldable pub first : List Tok → ℕ
 first (punct c s ∷ l) = c
 first _ = 0
 
--- the tokens behind a punct that they are joined to, none where no such punct is there
+-- the tokens after a punct that they are joined to, none where no such punct is there
 unfoldable pub behind : List Tok → List Tok
 behind (punct c spacing.Joint ∷ l) = l
 behind _ = []
@@ -27,15 +27,15 @@ third l = first (behind (behind l))
 abbrev binary : BinKind → ℕ → Option (Infix × ℕ)
 binary op count = Some (inf.Binary op, count)
 
--- an operator alone, or behind it `=`
+-- an operator alone, or after it `=`
 abbrev pub compound : ℕ → BinKind → BinKind → Option (Infix × ℕ)
 compound b equal once = if b == 61 then binary equal 2 else binary once 1
 
--- an operator alone, doubled, or behind it `=`
+-- an operator alone, doubled, or after it `=`
 abbrev pub doubled : ℕ → ℕ → BinKind → BinKind → BinKind → Option (Infix × ℕ)
 doubled a b twice equal once = if b == a then binary twice 2 else compound b equal once
 
--- a shift alone, or behind it `=`
+-- a shift alone, or after it `=`
 abbrev pub shift : ℕ → BinKind → BinKind → Option (Infix × ℕ)
 shift c equal once = if c == 61 then binary equal 3 else binary once 2
 

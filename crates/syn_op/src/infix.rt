@@ -1,4 +1,4 @@
-//! The longest infix operator that stands first (Rust Reference, "Operator expressions", "Punctuation").
+//! The longest infix operator that comes first (Rust Reference, "Operator expressions", "Punctuation").
 
 ghost use Rattle.std.specs.Prelude.{◌≡◌};
 ghost use Rattle.syn_grammar.specs.Op as spec;
@@ -22,7 +22,7 @@ fn first(trees: &[TokenTree]) -> char
     }
 }
 
-/// The trees behind a punct that they are joined to, none where no such punct is there.
+/// The trees after a punct that they are joined to, none where no such punct is there.
 #[tactic(auto, unfolding(crate::specs::Signs::behind))]
 fn behind(trees: &[TokenTree]) -> &[TokenTree]
     ensures { toks_of result.now ≡ signs.behind (toks_of trees.now) }
@@ -33,7 +33,7 @@ fn behind(trees: &[TokenTree]) -> &[TokenTree]
     }
 }
 
-/// An operator alone, or behind it `=`.
+/// An operator alone, or after it `=`.
 fn compound(second: char, equal: BinKind, once: BinKind) -> Option<(Infix, usize)>
     ensures { result ≡ signs.compound second equal once }
 {
@@ -44,7 +44,7 @@ fn compound(second: char, equal: BinKind, once: BinKind) -> Option<(Infix, usize
     }
 }
 
-/// An operator alone, doubled, or behind it `=`.
+/// An operator alone, doubled, or after it `=`.
 fn doubled(
     first: char,
     second: char,
@@ -61,7 +61,7 @@ fn doubled(
     }
 }
 
-/// A shift, doubled from one of `<` and `>`, alone or behind it `=`.
+/// A shift, doubled from one of `<` and `>`, alone or after it `=`.
 fn shift(third: char, equal: BinKind, once: BinKind) -> Option<(Infix, usize)>
     ensures { result ≡ signs.shift third equal once }
 {
@@ -103,7 +103,7 @@ fn operator(a: char, b: char, c: char) -> Option<(Infix, usize)>
     }
 }
 
-/// The infix operator that stands first, the longest, and of how many tokens it is: over joined puncts, or `as`.
+/// The infix operator that comes first, the longest, and of how many tokens it is: over joined puncts, or `as`.
 #[tactic(auto, using(crate::proofs::Longest::operator_at), unfolding(syn_grammar::specs::Op::infix_at, syn_tokens::specs::Sign::word_text, syn_parts::specs::Mark::word_at))]
 pub fn infix_at(input: &ParseBuffer<'_>) -> Option<(Infix, usize)>
     ensures { result ≡ spec.infix_at input.now.rest }

@@ -1,4 +1,4 @@
-//! Operators: binary and prefix operators and those of ranges, each with its token, and the longest one that stands first.
+//! Operators: binary and prefix operators and those of ranges, each with its token, and the longest one that comes first.
 #![tactic(auto)]
 
 pub mod infix;

@@ -89,7 +89,7 @@ pub enum UnOp {
     Neg(Minus),
 }
 
-/// The prefix operator that stands first, one punct, joined to the next or not.
+/// The prefix operator that comes first, one punct, joined to the next or not.
 #[tactic(auto, using(crate::proofs::Operators::prefix_present), unfolding(crate::specs::Reads::prefix_at, syn_tokens::specs::Sign::sign_text, syn_parts::specs::Mark::sign_at))]
 pub fn prefix_at(input: &ParseBuffer<'_>) -> Option<UnKind>
     ensures value { result ≡ spec.prefix_at input.now.rest }
@@ -249,7 +249,7 @@ impl Parse for UnOp {
     ghost refuses = { λ _ kind. kind ≡ wanted_prefix };
 
     /// Takes `*`, `!` or `-`, one punct, joined to the next or not. It is refused as `ExpectedToken`, of these three,
-    /// where none stands first. It takes no memory.
+    /// where none comes first. It takes no memory.
     fn parse(input: &mut ParseBuffer<'_>) -> Result<Self> {
         let Some(kind) = prefix_at(input) else {
             return Err(input.error(ErrorKind::ExpectedToken(Expected::Three(

@@ -1,4 +1,4 @@
-//! What no clause says of operators: which texts are which, which are refused and where, and what is left behind them.
+//! What no clause says of operators: which texts are which, which are refused and where, and what is left after them.
 
 use rows::{check, compared, left, left_by, printed, words};
 use std::alloc::Global;

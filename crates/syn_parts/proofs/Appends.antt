@@ -53,14 +53,9 @@ numbers_append (c ∷ text) r = by (c == 45)
     by false = refl
 
 lit_by_append : (k : LitKind) (text : Text) (r : List Tok) → lit_own_by k text r ≡ lit_own_by k text [] ++ r
-lit_by_append kind.Bool text r = refl
 lit_by_append kind.Int text r = numbers_append text r
 lit_by_append kind.Float text r = numbers_append text r
-lit_by_append kind.Str text r = refl
-lit_by_append kind.ByteStr text r = refl
-lit_by_append kind.CStr text r = refl
-lit_by_append kind.Byte text r = refl
-lit_by_append kind.Char text r = refl
+lit_by_append _ text r = refl
 
 pub lit_append : (x : LitTree) (r : List Tok) → lit_own x r ≡ lit_own x [] ++ r
 unfolding lit_own
@@ -100,17 +95,12 @@ mutual
   type_append (t.mac b ss e d ts) r = both (if_there b colons) (both (segments_append 0 ss e) (both (one (alone 33)) (group_first d ts))) r
   type_append (t.reference a m x) r = both (one (alone 38)) (both (if_some a lifetime_own lifetime_append) (both (if_there m (word_first (codes "mut"))) (type_append x))) r
   type_append (t.ptr m x) r = both (one (alone 42)) (both (word_first (if m then codes "mut" else codes "const")) (type_append x)) r
-  type_append (t.slice x) r = refl
-  type_append (t.array x n) r = refl
-  type_append (t.tuple xs e) r = refl
-  type_append (t.paren x) r = refl
-  type_append t.never r = refl
-  type_append t.infer r = refl
   type_append (t.fn_ptr f u a xs e o) r =
       both (if_some f lifetimes_own lifetimes_own-append) (both (if_there u (word_first (codes "unsafe"))) (both (if_some a extern_own extern_append)
       (both (word_first (codes "fn")) (both (group_first del.Parenthesis (args_own xs e [])) (return_append o))))) r
   type_append (t.impl_trait bs e) r = both (word_first (codes "impl")) (bounds_append bs e) r
   type_append (t.trait_object bs e) r = both (word_first (codes "dyn")) (bounds_append bs e) r
+  type_append _ r = refl
 
   pub qself_append : (q : QSelfTree) (k : ℕ) (r : List Tok) → qself_own q k r ≡ qself_own q k [] ++ r
   qself_append t.no_qself k r = refl

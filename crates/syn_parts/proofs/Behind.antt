@@ -1,4 +1,4 @@
--- What is behind a part: tokens that go on with nothing, and what the tests of it look at.
+-- What is after a part: tokens that go on with nothing, and what the tests of it look at.
 use Rattle.std.proofs.Common.{◌≡◌, Bool, true, false, ◌&&◌, ◌||◌, List, [], ◌∷◌, refl, codes}
 use Rattle.std.proofs.Math.Bool.{and-false}
 use Rattle.syn_tokens.specs.Tok.{Tok, ident}
@@ -63,18 +63,12 @@ module _ (r : List Tok) (c : Calm r) where
   mutual
     pub type_calm : (b : Bool) (x : TypeTree) → (b && plus.at r) ≡ false → type_stops b x r ≡ true
     type_calm b (t.path q l ss e) p = rw (segments_calm style.Type ss, c.no_colon2, mac_calm q ss) refl
-    type_calm b (t.mac l ss e d ts) p = refl
     type_calm b (t.reference a m x) p = type_calm false x refl
     type_calm b (t.ptr m x) p = type_calm false x refl
-    type_calm b (t.slice x) p = refl
-    type_calm b (t.array x n) p = refl
-    type_calm b (t.tuple xs e) p = refl
-    type_calm b (t.paren x) p = refl
-    type_calm b t.never p = refl
-    type_calm b t.infer p = refl
     type_calm b (t.fn_ptr f u a xs e o) p = return_calm o
     type_calm b (t.impl_trait bs e) p = rw (bounds_calm bs, p) refl
     type_calm b (t.trait_object bs e) p = rw (bounds_calm bs, p) refl
+    type_calm b _ p = refl
 
     pub segments_calm : (s : PathStyle) (ss : Segments) → segments_stop s ss r ≡ true
     segments_calm s t.no_segments = refl
@@ -127,18 +121,12 @@ module _ (l m : List Tok) (f : SameFront l m) where
   mutual
     pub type_front : (b : Bool) (x : TypeTree) → type_stops b x l ≡ type_stops b x m
     type_front b (t.path q d ss e) = rw (segments_front style.Type ss, f.colon2s, mac_front q ss) refl
-    type_front b (t.mac d ss e g ts) = refl
     type_front b (t.reference a u x) = type_front false x
     type_front b (t.ptr u x) = type_front false x
-    type_front b (t.slice x) = refl
-    type_front b (t.array x n) = refl
-    type_front b (t.tuple xs e) = refl
-    type_front b (t.paren x) = refl
-    type_front b t.never = refl
-    type_front b t.infer = refl
     type_front b (t.fn_ptr g u a xs e o) = return_front o
     type_front b (t.impl_trait bs e) = rw (bounds_front bs, f.pluses) refl
     type_front b (t.trait_object bs e) = rw (bounds_front bs, f.pluses) refl
+    type_front b _ = refl
 
     pub segments_front : (s : PathStyle) (ss : Segments) → segments_stop s ss l ≡ segments_stop s ss m
     segments_front s t.no_segments = refl

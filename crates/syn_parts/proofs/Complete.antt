@@ -47,7 +47,7 @@ maybe_none {A} at f l n h =
 pub maybe_some : {A : Type 0} (at : Test) (f : Form A) (x : A) (l n : List Tok) → (maybe at f).behind (Some x) l ≡ Some n → (at l ≡ true) × (f.behind x l ≡ Some n)
 maybe_some at f x l n h = first_only at (shown Some itself f) (pure None is_none) (Some x) (pure_refuses None is_none (Some x) refl) l n h
 
--- a part that may be there, where it leaves what stands behind it
+-- a part that may be there, where it leaves what comes after it
 pub piece : {A : Type 0} (at : Test) (f : Form A) (own : A → List Tok → List Tok) (o : Option A) (l n : List Tok) → ((x : A) (m : List Tok) → f.behind x (own x l) ≡ Some m → m ≡ l)
     → (maybe at f).behind o (before_some o own l) ≡ Some n → n ≡ l
 piece at f own None l n only h = let (a, e) = maybe_none at f l n h in e

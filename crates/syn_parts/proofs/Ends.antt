@@ -1,4 +1,4 @@
--- What stands behind a part: the tests of it fail only where a part goes on.
+-- What comes after a part: the tests of it fail only where a part goes on.
 use Rattle.std.proofs.Common.{◌≡◌, ℕ, zero, suc, ◌<◌, Bool, true, false, not, ◌&&◌, ◌||◌, ◌==◌, nat_lt, nat_le, List, [], ◌∷◌, refl, subst, codes, arith}
 use Rattle.std.proofs.lemmas.Bool.Decides.{nat_tests}
 use Rattle.std.proofs.Math.Bool.{and-false}
@@ -95,18 +95,12 @@ module _ (r : List Tok) (h : lt.at r ≡ true) where
   mutual
     type_less : (b : Bool) (x : TypeTree) → type_stops b x r ≡ not (ends_open x)
     type_less b (t.path q l ss e) = rw (no_colon2, mac_less q ss, and_true (segments_stop style.Type ss r)) (segments_less ss)
-    type_less b (t.mac l ss e d ts) = refl
     type_less b (t.reference a m x) = type_less false x
     type_less b (t.ptr m x) = type_less false x
-    type_less b (t.slice x) = refl
-    type_less b (t.array x n) = refl
-    type_less b (t.tuple xs e) = refl
-    type_less b (t.paren x) = refl
-    type_less b t.never = refl
-    type_less b t.infer = refl
     type_less b (t.fn_ptr f u a xs e z) = return_less z
     type_less b (t.impl_trait bs e) = rw (no_other 43 [] refl, and-false b, and_true (bounds_stop bs r)) (bounds_less bs)
     type_less b (t.trait_object bs e) = rw (no_other 43 [] refl, and-false b, and_true (bounds_stop bs r)) (bounds_less bs)
+    type_less b _ = refl
 
     segments_less : (ss : Segments) → segments_stop style.Type ss r ≡ not (segments_open ss)
     segments_less t.no_segments = refl
@@ -140,7 +134,7 @@ module _ (r : List Tok) (h : colon2.at r ≡ false) where
   last_ends w (t.angle d gs e) f = refl
   last_ends w (t.round xs e z) f = absurd cc
 
-  -- where not all segments stand inside
+  -- where not all segments are inside
   segments_end : (n : ℕ) (ss : Segments) → n < count_segments ss → segments_fit n style.Expr ss ≡ true → segments_stop style.Expr ss r ≡ true
   segments_end n t.no_segments k f = refl
   segments_end zero (t.more_segments w a t.no_segments) k f =

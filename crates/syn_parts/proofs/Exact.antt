@@ -41,10 +41,8 @@ path_none s p = rw (segments_calm [] nil_calm s (t.segments_of p.segments)) refl
 after_name_none : (s : PathStyle) (a : ArgumentsTree) → after_name_stops s a [] ≡ true
 unfolding angle_at turbofish_at round_at sign_at group_at
 after_name_none style.Mod t.no_arguments = refl
-after_name_none style.Expr t.no_arguments = refl
-after_name_none style.Type t.no_arguments = refl
-after_name_none s (t.angle c gs e) = refl
 after_name_none s (t.round xs e o) = return_calm [] nil_calm o
+after_name_none _ _ = refl
 
 generic_none : (g : GenericTree) → generic_stops g [] ≡ true
 unfolding sign_at

@@ -1,4 +1,4 @@
--- Laws of forms: what is read is what stands there, in each form that is made of such forms.
+-- Laws of forms: what is read is what is there, in each form that is made of such forms.
 use Rattle.std.proofs.Common.{◌≡◌, ℕ, zero, suc, ◌≤◌, ◌<◌, Bool, true, false, not, cond, List, [], ◌∷◌, drop, Option, Some, None, refl, ap, sym, ◌∙◌, subst, arith}
 use Rattle.syn_lexer.specs.declared.lexeme.Delimiter.{Delimiter}
 use Rattle.syn_tokens.specs.Tok.{Tok, weight}
@@ -6,7 +6,7 @@ use Rattle.syn_parts.proofs.Weights.{some_is, taken}
 use Rattle.syn_tokens.specs.Front.{group_at}
 use Rattle.syn_parts.specs.Form.{Form, Outcome, Test, Mark, and_then, then_behind, never, when, mark, then_by, both, shown, pure, whole, inside_reads, ended, inside_behind, inside, case, group_case, is_true, flag, is_none, itself, maybe, is_nil, cons, uncons, end, iterate, fix, tail_step, tail, listed, prepend, split_first, more_step, more, joined, closed_by, leaf, if_same, is_end}
 
--- f reads exactly what stands, and reads as g does in lists of less than k tokens
+-- f reads exactly what is, and reads as g does in lists of less than k tokens
 pub record Alike {A : Type 0} (k : ℕ) (f g : Form A) : Type 0 where
   pub sound : (l : List Tok) (x : A) (n : List Tok) → f.reads l ≡ Some (x, n) → f.behind x l ≡ Some n
   pub complete : (l : List Tok) (x : A) (n : List Tok) → f.behind x l ≡ Some n → f.reads l ≡ Some (x, n)
@@ -466,7 +466,7 @@ pub closed_by_alike : {A : Type 0} {k : ℕ} {m : Mark} {f f' : Form A} → Pres
 closed_by_alike p a = shown_alike (record { there = λ x. refl; back = λ y x h. ap (λ z. z.0) (sym (some_is h)) })
     (both_alike a (weaker (mark_alike p (pure_alike {is = λ u. true} (record { itself = refl; only = λ y h. refl })))))
 
--- what stands as such a list, opened once
+-- what is as such a list, opened once
 pub tail_opens : {A : Type 0} (m : Mark) (stop : Test) (f : Form A) → Present m → ((k : ℕ) → Alike k f f) → (q : List A × Bool) (l n : List Tok)
     → (tail m stop f).behind q l ≡ Some n → (tail_step m stop f (λ i. tail m stop f) tt).behind q l ≡ Some n
 tail_opens m stop f p a q l n h =

@@ -134,7 +134,7 @@ colon2_front : (l r : List Tok) → Front (colon2_before l) r
 unfolding lifetime_at word_at const_at brace_at group_at sign_at assoc_at arg_name_at
 colon2_front l r = record { some = refl; no_lifetime = refl; no_mut = refl; no_const = refl; no_gt = refl; no_assoc = λ e. refl; no_name = λ e. refl }
 
--- behind a segment's name stands no single `=` and no single `:`, unless what is behind the path begins so
+-- after a segment's name stands no single `=` and no single `:`, unless what is after the path begins so
 behind_name : (a : ArgumentsTree) (l : List Tok) → (eq.at l ≡ false → eq.at (arguments_own a l) ≡ false) × (lone_colon.at l ≡ false → lone_colon.at (arguments_own a l) ≡ false)
 unfolding sign_at
 behind_name t.no_arguments l = ((λ e. e), (λ e. e))
@@ -180,7 +180,7 @@ fn_own_front true a l r = unsafe_front _ r
 fn_own_front false (Some s) l r = extern_front _ r
 fn_own_front false None l r = fn_front l r
 
--- behind the first token of a macro's path stands `!` or what a path has there
+-- after the first token of a macro's path stands `!` or what a path has there
 pub type_begins : (b : Bool) (x : TypeTree) (r : List Tok) → type_fits b x ≡ true → Front (type_own x r) r
 unfolding lifetimes_own sign_at
 type_begins b (t.path t.no_qself l ss e) r f =

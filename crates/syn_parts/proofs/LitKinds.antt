@@ -1,4 +1,4 @@
--- Literals of one kind are read exactly where their tokens stand.
+-- Literals of one kind are read exactly where their tokens are.
 use Rattle.std.proofs.Common.{◌≡◌, ℕ, Bool, true, false, cond, List, Some, None}
 use Rattle.syn_tokens.specs.Tok.{Tok}
 use Rattle.syn_parts.specs.declared.label.LitKind.{LitKind}

@@ -1,4 +1,4 @@
--- A mark that stands in front has tokens.
+-- A mark that is in front has tokens.
 use Rattle.std.proofs.Common.{◌≡◌, ℕ, ◌<◌, true, false, List, [], ◌∷◌, drop, refl, arith}
 use Rattle.syn_tokens.specs.Tok.{Tok, weight}
 use Rattle.syn_parts.specs.Form.{Mark}

@@ -1,4 +1,4 @@
--- Each part is read exactly where its tokens stand.
+-- Each part is read exactly where its tokens are.
 use Rattle.std.proofs.Common.{◌≡◌, ℕ, suc, ◌≤◌, Bool, true, false, not, ◌&&◌, ◌==◌, ◌↔◌, List, [], ◌∷◌, Option, Some, None, ap, sym, ◌∙◌, subst, arith}
 use Rattle.syn_lexer.specs.Keywords.{is_reserved_word}
 use Rattle.syn_lexer.specs.declared.lexeme.Delimiter.{Delimiter}
@@ -101,15 +101,8 @@ finds_signed = record { falls = falls }
     falls (group d i ∷ l) x n h = absurd cc
 
 pub string_some : (w : Text) (l : List Tok) (o : Option LitKind) (x : LitTree) (n : List Tok) → string_if o w l ≡ Some (x, n) → l ≡ n
-string_some w l None x n h = absurd cc
 string_some w l (Some kind.Str) x n h = ap (λ z. z.1) (some_is h)
-string_some w l (Some kind.ByteStr) x n h = absurd cc
-string_some w l (Some kind.CStr) x n h = absurd cc
-string_some w l (Some kind.Byte) x n h = absurd cc
-string_some w l (Some kind.Char) x n h = absurd cc
-string_some w l (Some kind.Int) x n h = absurd cc
-string_some w l (Some kind.Float) x n h = absurd cc
-string_some w l (Some kind.Bool) x n h = absurd cc
+string_some w l _ x n h = absurd cc
 
 finds_string : Finds find_string
 finds_string = record { falls = falls }

@@ -1,9 +1,8 @@
--- Patterns are read exactly where their tokens stand.
+-- Patterns are read exactly where their tokens are.
 use Rattle.std.proofs.Common.{◌≡◌, ℕ, suc, ◌≤◌, Bool, true, false, not, cond, List, [], ◌∷◌, Option, Some, None, refl, ap, sym, ◌∙◌, arith}
 use Rattle.std.proofs.lemmas.Bool.Decides.{nat_tests}
 use Rattle.std.proofs.lemmas.Slice.Eq.{bytes_eq-Decides}
 use Rattle.syn_lexer.specs.Keywords.{is_reserved_word}
-use Rattle.syn_lexer.specs.declared.lexeme.Delimiter.{Delimiter}
 use Rattle.syn_lexer.specs.declared.lexeme.Delimiter.TheVariants as del
 use Rattle.syn_tokens.specs.Tok.{Tok, ident, literal, weight}
 use Rattle.syn_parts.specs.declared.label.PathStyle.TheVariants as style
@@ -99,11 +98,7 @@ sees_end : Sees p.to_end p.itself
 sees_end = record { there = λ x. refl; back = λ y x h. sym h }
 
 only_wild : Only p.wild p.is_wild
-only_wild = record { itself = refl; only = only }
-  where
-    only : (y : PatTree) → p.is_wild y ≡ true → p.wild ≡ y
-    only p.wild h = refl
-    only _ h = absurd cc
+only_wild = record { itself = refl; only = elim [ p.wild ↦ λ h. refl | _ ↦ λ h. absurd cc ] }
 
 sees_open : Sees p.to_open p.from_open
 sees_open = record { there = there; back = back }
@@ -131,8 +126,6 @@ sees_lit = record { there = there; back = back }
     back : (y : PatTree) (x : LitTree × Option (Bool × Option PatBound)) → p.from_lit y ≡ Some x → p.to_lit x ≡ y
     back (p.a_lit z) x h = ap p.to_lit (sym (some_is h))
     back (p.range (Some (p.lit_bound z)) c e) x h = ap p.to_lit (sym (some_is h))
-    back (p.range (Some (p.path_bound q z)) c e) x h = absurd cc
-    back (p.range None c e) x h = absurd cc
     back _ x h = absurd cc
 
 sees_sub : Sees p.sub p.from_sub
@@ -150,32 +143,16 @@ only_no_sub = record { itself = refl; only = only }
     only (p.sub z) h = absurd cc
 
 sees_binding : Sees p.to_binding p.from_binding
-sees_binding = record { there = λ x. refl; back = back }
-  where
-    back : (y : PatTree) (x : Bool × (Bool × (Text × SubPat))) → p.from_binding y ≡ Some x → p.to_binding x ≡ y
-    back (p.a_binding r m w s) x h = ap p.to_binding (sym (some_is h))
-    back _ x h = absurd cc
+sees_binding = record { there = λ x. refl; back = elim [ p.a_binding r m w s ↦ λ x h. ap p.to_binding (sym (some_is h)) | _ ↦ λ x h. absurd cc ] }
 
 sees_reference : Sees p.to_reference p.from_reference
-sees_reference = record { there = λ x. refl; back = back }
-  where
-    back : (y : PatTree) (x : Bool × PatTree) → p.from_reference y ≡ Some x → p.to_reference x ≡ y
-    back (p.a_reference m z) x h = ap p.to_reference (sym (some_is h))
-    back _ x h = absurd cc
+sees_reference = record { there = λ x. refl; back = elim [ p.a_reference m z ↦ λ x h. ap p.to_reference (sym (some_is h)) | _ ↦ λ x h. absurd cc ] }
 
 sees_block : Sees p.a_block p.from_block
-sees_block = record { there = λ x. refl; back = back }
-  where
-    back : (y : PatTree) (x : List Tok) → p.from_block y ≡ Some x → p.a_block x ≡ y
-    back (p.a_block ts) x h = ap p.a_block (sym (some_is h))
-    back _ x h = absurd cc
+sees_block = record { there = λ x. refl; back = elim [ p.a_block ts ↦ λ x h. ap p.a_block (sym (some_is h)) | _ ↦ λ x h. absurd cc ] }
 
 sees_slice : Sees p.to_slice p.from_slice
-sees_slice = record { there = λ x. rw (pats-pats_of x.0) refl; back = back }
-  where
-    back : (y : PatTree) (x : List PatTree × Bool) → p.from_slice y ≡ Some x → p.to_slice x ≡ y
-    back (p.a_slice ps e) x h = ap p.to_slice (sym (some_is h)) ∙ ap (λ z. p.a_slice z e) (pats_of-pats ps)
-    back _ x h = absurd cc
+sees_slice = record { there = λ x. rw (pats-pats_of x.0) refl; back = elim [ p.a_slice ps e ↦ λ x h. ap p.to_slice (sym (some_is h)) ∙ ap (λ z. p.a_slice z e) (pats_of-pats ps) | _ ↦ λ x h. absurd cc ] }
 
 rest_is : (z : PatTree) → p.is_rest z ≡ true → z ≡ p.rest
 rest_is p.rest h = refl
@@ -235,39 +212,19 @@ sees_field : Sees p.to_field p.from_field
 sees_field = record { there = λ x. refl; back = λ y x h. ap p.to_field (sym (some_is h)) }
 
 only_no_more : Only p.no_more p.is_no_more
-only_no_more = record { itself = refl; only = only }
-  where
-    only : (y : PathEnd) → p.is_no_more y ≡ true → p.no_more ≡ y
-    only p.no_more h = refl
-    only _ h = absurd cc
+only_no_more = record { itself = refl; only = elim [ p.no_more ↦ λ h. refl | _ ↦ λ h. absurd cc ] }
 
 sees_mac_end : Sees p.to_mac_end p.from_mac_end
-sees_mac_end = record { there = λ x. refl; back = back }
-  where
-    back : (y : PathEnd) (x : Delimiter × List Tok) → p.from_mac_end y ≡ Some x → p.to_mac_end x ≡ y
-    back (p.mac_end d ts) x h = ap p.to_mac_end (sym (some_is h))
-    back _ x h = absurd cc
+sees_mac_end = record { there = λ x. refl; back = elim [ p.mac_end d ts ↦ λ x h. ap p.to_mac_end (sym (some_is h)) | _ ↦ λ x h. absurd cc ] }
 
 sees_struct_end : Sees p.to_struct_end p.from_struct_end
-sees_struct_end = record { there = λ x. refl; back = back }
-  where
-    back : (y : PathEnd) (x : (List FieldPatTree × Bool) × Bool) → p.from_struct_end y ≡ Some x → p.to_struct_end x ≡ y
-    back (p.struct_end fs e r) x h = ap p.to_struct_end (sym (some_is h))
-    back _ x h = absurd cc
+sees_struct_end = record { there = λ x. refl; back = elim [ p.struct_end fs e r ↦ λ x h. ap p.to_struct_end (sym (some_is h)) | _ ↦ λ x h. absurd cc ] }
 
 sees_tuple_end : Sees p.to_tuple_end p.from_tuple_end
-sees_tuple_end = record { there = λ x. refl; back = back }
-  where
-    back : (y : PathEnd) (x : List PatTree × Bool) → p.from_tuple_end y ≡ Some x → p.to_tuple_end x ≡ y
-    back (p.tuple_end ps e) x h = ap p.to_tuple_end (sym (some_is h))
-    back _ x h = absurd cc
+sees_tuple_end = record { there = λ x. refl; back = elim [ p.tuple_end ps e ↦ λ x h. ap p.to_tuple_end (sym (some_is h)) | _ ↦ λ x h. absurd cc ] }
 
 sees_range_more : Sees p.to_range_more p.from_range_more
-sees_range_more = record { there = λ x. refl; back = back }
-  where
-    back : (y : PathEnd) (x : Bool × Option PatBound) → p.from_range_more y ≡ Some x → p.to_range_more x ≡ y
-    back (p.range_more c e) x h = ap p.to_range_more (sym (some_is h))
-    back _ x h = absurd cc
+sees_range_more = record { there = λ x. refl; back = elim [ p.range_more c e ↦ λ x h. ap p.to_range_more (sym (some_is h)) | _ ↦ λ x h. absurd cc ] }
 
 path_back : (y : PatTree) (x : QPathTree × PathEnd) → p.from_path y ≡ Some x → p.to_path x ≡ y
 path_back (p.a_path q z) x h = ap p.to_path (sym (some_is h))
@@ -275,8 +232,6 @@ path_back (p.a_mac m) x h = ap p.to_path (sym (some_is h))
 path_back (p.a_struct z fs e r) x h = ap p.to_path (sym (some_is h)) ∙ ap (λ w. p.a_struct z w e r) (fields_of-fields fs)
 path_back (p.tuple_struct z ps e) x h = ap p.to_path (sym (some_is h)) ∙ ap (λ w. p.tuple_struct z w e) (pats_of-pats ps)
 path_back (p.range (Some (p.path_bound q z)) c e) x h = ap p.to_path (sym (some_is h))
-path_back (p.range (Some (p.lit_bound z)) c e) x h = absurd cc
-path_back (p.range None c e) x h = absurd cc
 path_back _ x h = absurd cc
 
 ruleset pat_views = (sees_lit_bound, sees_path_bound, sees_end, only_wild, sees_open, sees_lit, sees_sub, only_no_sub, sees_binding, sees_reference, sees_block, sees_slice, sees_round, sees_short, sees_full, sees_field, only_no_more, sees_mac_end, sees_struct_end, sees_tuple_end, sees_range_more)
@@ -331,7 +286,7 @@ module _ {k : ℕ} {pattern pattern' : Bool → Form PatTree} (again : (b : Bool
   unfolding p.path_end
   path_end_alike q = search (again, struct_alike, range_end_alike, pat_forms, pat_marks, pat_views) depth 14
 
-  -- behind a qualified path stands neither a macro's end nor a struct's nor a tuple struct's
+  -- after a qualified path stands neither a macro's end nor a struct's nor a tuple struct's
   path_there : (q : QPathTree) (e : PathEnd) (l n : List Tok) → (p.path_end pattern q).behind e l ≡ Some n → p.from_path (p.to_path (q, e)) ≡ Some (q, e)
   unfolding p.path_end
   path_there (q, z) p.no_more l n h = refl
@@ -454,7 +409,7 @@ single_opens z l n h =
     let a = width_alike {k = 0} pattern_alike false in
     a.sound l z n (sym (pattern_is false l) ∙ f.complete l z n h)
 
--- neither a type nor attributes stand round the pattern of an argument
+-- neither a type nor attributes are round the pattern of an argument
 from_bare : (z : PatTree) (l n : List Tok) → (p.pattern false).behind z l ≡ Some n → p.from_closure_arg z ≡ Some ([], (z, None))
 from_bare (p.typed z x) l n h = let r = typed_refused {k = 0} pattern_alike z x in absurd (r.refuses l n (single_opens (p.typed z x) l n h))
 from_bare (p.attributed a xs z) l n h = let r = attributed_refused {k = 0} pattern_alike a xs z in absurd (r.refuses l n (single_opens (p.attributed a xs z) l n h))

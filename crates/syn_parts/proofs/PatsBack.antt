@@ -40,7 +40,7 @@ use Rattle.syn_parts.proofs.Forms.{Alike, weaker, more_stands}
 use Rattle.syn_parts.proofs.Parts.{outer_body_alike}
 use Rattle.syn_parts.proofs.Pats.{pattern_alike, single_alike, field_alike, vert_present, arg_pieces}
 
--- ---- nothing behind goes on with a pattern
+-- ---- nothing after goes on with a pattern
 
 pub record PatCalm (l : List Tok) : Type 0 where
   pub calm : Calm l
@@ -87,24 +87,14 @@ module _ (r : List Tok) (c : PatCalm r) where
 
   mutual
     pub single_calm : (z : PatTree) → test.single_stops z r ≡ true
-    single_calm p.wild = refl
     single_calm p.rest = rw c.no_bound refl
     single_calm (p.range s d e) = bound_calm e
     single_calm (p.a_lit x) = rw c.no_dots refl
     single_calm (p.a_binding b m w s) = rw (sub_calm s, bare_calm s, or_true m, or_true b) refl
     single_calm (p.a_path q z) = rw (path_calm style.Expr z, c.no_dots, path_pat_calm q z) refl
-    single_calm (p.a_mac m) = refl
-    single_calm (p.a_struct z fs e d) = refl
-    single_calm (p.tuple_struct z ps e) = refl
-    single_calm (p.a_tuple ps e) = refl
-    single_calm (p.a_paren z) = refl
-    single_calm (p.a_slice ps e) = refl
     single_calm (p.a_reference m z) = single_calm z
-    single_calm (p.a_block ts) = refl
     single_calm (p.alternatives l ps e) = or_calm ps
-    single_calm (p.guarded z) = refl
-    single_calm (p.typed z x) = refl
-    single_calm (p.attributed a xs z) = refl
+    single_calm _ = refl
 
     sub_calm : (s : SubPat) → test.sub_stops s r ≡ true
     sub_calm p.no_sub = rw c.no_at refl
@@ -158,11 +148,7 @@ lit_begins x r h = by_kind x.kind x.text h
     by_kind kind.Bool text h = lit_word h
     by_kind kind.Int text h = number_begins kind.Int text r h
     by_kind kind.Float text h = number_begins kind.Float text r h
-    by_kind kind.Str text h = lit_plain
-    by_kind kind.ByteStr text h = lit_plain
-    by_kind kind.CStr text h = lit_plain
-    by_kind kind.Byte text h = lit_plain
-    by_kind kind.Char text h = lit_plain
+    by_kind _ text h = lit_plain
 
 lit_seen : {l : List Tok} → LitBegins l → is_lit_there l ≡ true
 lit_seen (lit_word h) = h
@@ -377,7 +363,7 @@ not_ref : is_segment (codes "ref") ≡ false
 unfolding is_segment stands_alone is_reserved_word
 not_ref = refl
 
--- a word of a path is no binding, where a path goes on behind it or where it is no name
+-- a word of a path is no binding, where a path goes on after it or where it is no name
 word_no_binding : (w : Text) (m : List Tok) → is_segment w ≡ true → (not (is_reserved_word w) && not (p.goes_on m)) ≡ false → p.binding_at (ident w ∷ m) ≡ false
 unfolding p.binding_at word_at
 word_no_binding w m h k = rw (word_not w (codes "ref") h not_ref, word_not w (codes "mut") h not_mut) k
@@ -385,13 +371,11 @@ word_no_binding w m h k = rw (word_not w (codes "ref") h not_ref, word_not w (co
 goes_no_binding : (w : Text) (m : List Tok) → p.goes_on m ≡ true → (not (is_reserved_word w) && not (p.goes_on m)) ≡ false
 goes_no_binding w m h = rw h (and-false (not (is_reserved_word w)))
 
--- what stands behind a name that has arguments, or before another segment
+-- what comes after a name that has arguments, or before another segment
 arguments_go : (a : ArgumentsTree) (l : List Tok) → arguments_fit style.Expr a ≡ true → has_none a ≡ false → p.goes_on (arguments_own a l) ≡ true
 unfolding sign_at
-arguments_go t.no_arguments l f h = absurd cc
 arguments_go (t.angle true gs e) l f h = refl
-arguments_go (t.angle false gs e) l f h = absurd cc
-arguments_go (t.round xs e d) l f h = absurd cc
+arguments_go _ l f h = absurd cc
 
 next_goes : (a : ArgumentsTree) (l : List Tok) → arguments_fit style.Expr a ≡ true → p.goes_on (arguments_own a (colon2_before l)) ≡ true
 unfolding sign_at
@@ -643,7 +627,7 @@ field_pound (p.short false false w) l = no_pound_word w l
 field_pound (p.full (p.a_name w) z) l = no_pound_word w _
 field_pound (p.full (p.an_index n) z) l = no_pound_literal (index_text n) _
 
--- behind a shorthand's name stands no single `:`
+-- after a shorthand's name stands no single `:`
 short_not_full : (b m : Bool) (w : Text) (l : List Tok) → colon.at l ≡ false → p.full_at (o.field_own (p.short b m w) l) ≡ false
 unfolding p.full_at is_reserved_word sign_at
 short_not_full true m w l h = refl
@@ -734,7 +718,7 @@ pats_listed ps e h c =
     subst (λ l. (listed comma is_empty (p.pattern true)).behind (p.pats ps, e) l ≡ Some []) (sym (pats_elements ps e []))
     (listed_back (p.pattern true) o.pat_own is_empty (λ k. pattern_alike true) [] refl nil_comma e (p.pats ps) (sym (pats_end ps e) ∙ h) c)
 
--- behind the fields stands nothing, or `..`
+-- after the fields stands nothing, or `..`
 abbrev pub fields_rest : Bool → List Tok
 fields_rest d = before_if d (o.limits_before false) []
 
@@ -915,10 +899,7 @@ pat_first b (p.a_paren z) r h f = group_first (p.a_paren z) _ r
 pat_first b (p.a_slice ps e) r h f = bracket_first (p.a_slice ps e) _ r
 pat_first b (p.a_reference m z) r h f = sign_first (p.a_reference m z) 38 _ refl refl
 pat_first b (p.a_block ts) r h f = const_first ts _
-pat_first b (p.alternatives l ps e) r h f = absurd cc
-pat_first b (p.guarded z) r h f = absurd cc
-pat_first b (p.typed z x) r h f = absurd cc
-pat_first b (p.attributed a xs z) r h f = absurd cc
+pat_first b _ r h f = absurd cc
 
 -- alternatives have none inside
 pub single_fits : (z : PatTree) → test.pat_fits false z ≡ true → is_or z ≡ false
@@ -1081,17 +1062,14 @@ mutual
       let (u, v) = both_true true _ s in
       let j = const_first ts (enclosed del.Brace ts r) in
       as_width b (p.a_block ts) _ r refl j.no_vert v (block_step r ts)
-  pat_back b (p.guarded z) r f s = absurd cc
-  pat_back b (p.typed z x) r f s = absurd cc
-  pat_back b (p.attributed a xs z) r f s = absurd cc
   pat_back false (p.alternatives l ps e) r f s = absurd cc
-  pat_back true (p.alternatives l ps true) r f s = absurd cc
   pat_back true (p.alternatives l ps false) r f s =
       let (u, v) = both_true (test.or_stops ps r) _ s in
       let (g, h) = both_true (not (o.no_more_pats ps)) _ f in
       let (i, k) = both_true (l || not (test.is_one_pat ps)) (test.or_fits ps) h in
       let (m, n) = or_some ps r (not_true (o.no_more_pats ps) g) k in
       multi_is (p.alternatives l ps false) _ r (or_step l ps r i (not_true (o.no_more_pats ps) g) n (not_true (p.vert.at r) v) (or_joins ps r k u))
+  pat_back _ _ r f s = absurd cc
 
   sub_back : (y : SubPat) (r : List Tok) → test.sub_fits y ≡ true → test.sub_stops y r ≡ true → (when p.at_sign.at (mark p.at_sign (shown p.sub p.from_sub (p.pattern false))) (pure p.no_sub p.has_no_sub)).behind y (o.sub_own y r) ≡ Some r
   sub_back p.no_sub r f s = no_sub_step r (not_true (p.at_sign.at r) s)

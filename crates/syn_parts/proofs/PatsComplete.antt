@@ -133,7 +133,7 @@ binding_only b m w s l n h =
     let (a, j) = second_only p.lit_first a_literal from_name z (search shown_refuses) l n i in
     first_only p.binding_at (p.binding p.pattern) (p.path_pat p.pattern) z (search shown_refuses) l n j
 
--- a pattern that begins with a path, by its path and what stands behind it
+-- a pattern that begins with a path, by its path and what comes after it
 abbrev path_parts : Form (QPathTree × PathEnd)
 path_parts = then_by (qpath type style.Expr) (p.path_end p.pattern)
 
@@ -157,7 +157,7 @@ range_only : (q : QSelfTree) (z : PathTree) (c : Bool) (e : Option PatBound) (l 
 unfolding p.reference_pat p.round_pat p.slice_pat p.binding p.path_pat
 range_only q z c e l n h = by_path (p.range (Some (p.path_bound q z)) c e) refl (search shown_refuses) (search shown_refuses) (search shown_refuses) (search shown_refuses) (search shown_refuses) (search shown_refuses) (search shown_refuses) l n h
 
--- ---- what stands behind a path
+-- ---- what comes after a path
 
 abbrev a_mac_end : Form PathEnd
 a_mac_end = shown p.to_mac_end p.from_mac_end (mark not_ne any_group)
@@ -180,7 +180,7 @@ from_tuple q = when (λ l. p.unqualified q && round_at l) a_tuple_end from_range
 abbrev from_struct : QPathTree → Form PathEnd
 from_struct q = when (λ l. p.unqualified q && brace_at l) a_struct_end (from_tuple q)
 
--- the path fits, and its end stands behind it
+-- the path fits, and its end comes after it
 path_complete : (q : QSelfTree) (z : PathTree) (e : PathEnd) (k n : List Tok) → path_parts.behind ((q, z), e) (qualified_own (q, z) k) ≡ Some n
     → (qpath_fits style.Expr (q, z) ≡ true) × (path_stops style.Expr z k ≡ true) × ((p.path_end p.pattern (q, z)).behind e k ≡ Some n)
 path_complete q z e k n h =
@@ -620,7 +620,7 @@ or_complete l ps false r n all h =
 or_no_single : (l : Bool) (ps : Pats) (e : Bool) (k n : List Tok) → (p.pattern false).behind (p.alternatives l ps e) k ≡ Some n → ⊥
 or_no_single l ps e k n h = let r = or_refused {k = 0} pattern_alike l ps e in r.refuses k n (single_is (p.alternatives l ps e) k n h)
 
--- behind `&`, the pattern's own `mut` stands first
+-- after `&`, the pattern's own `mut` comes first
 mut_first : (z : PatTree) (r : List Tok) → test.begins_mut z ≡ true → mutable.at (o.pat_own z r) ≡ true
 unfolding word_at
 mut_first (p.a_binding false true w s) r h = refl

@@ -70,11 +70,7 @@ lit_back x r h = by_kind x.kind x.text h
     by_kind kind.Bool text h = rw (h, same_lit-refl (record { kind = kind.Bool; text = text })) refl
     by_kind kind.Int text h = number_back kind.Int text r h
     by_kind kind.Float text h = number_back kind.Float text r h
-    by_kind kind.Str text h = plain_back kind.Str text r h
-    by_kind kind.ByteStr text h = plain_back kind.ByteStr text r h
-    by_kind kind.CStr text h = plain_back kind.CStr text r h
-    by_kind kind.Byte text h = plain_back kind.Byte text r h
-    by_kind kind.Char text h = plain_back kind.Char text r h
+    by_kind d text h = plain_back d text r h
 
 -- ---- groups of verbatim tokens
 
@@ -100,12 +96,12 @@ pub ends_is : {A : Type 0} (xs : List A) (e : Bool) → ends_well (is_none xs) e
 ends_is [] e = refl
 ends_is (x ∷ xs) e = refl
 
--- what is behind an element before the others
+-- what is after an element before the others
 abbrev pub next_own : {A : Type 0} → (A → List Tok → List Tok) → (List Tok → List Tok) → List A → Bool → List Tok → List Tok
 next_own own sep xs e r = separated (is_nil xs) e sep (elements_own own sep xs e r)
 
 module _ {A : Type 0} (f : Form A) (own : A → List Tok → List Tok) (stop : Test) (e : Bool) (r : List Tok) where
-  -- each element is read back before what follows it, and nothing that ends the list stands first
+  -- each element is read back before what follows it, and nothing that ends the list comes first
   pub data Commas : List A → Type 0 where
     no_element : Commas []
     element : {x : A} {xs : List A} → f.behind x (own x (next_own own comma_before xs e r)) ≡ Some (next_own own comma_before xs e r)

@@ -1,4 +1,4 @@
--- The forms that readers follow: what each reads stands there, takes a token and leaves a tail, and what stands it reads.
+-- The forms that readers follow: what each reads is there, takes a token and leaves a tail, and what stands it reads.
 use Rattle.std.proofs.Common.{◌≡◌, Bool, true, false, cond, List, Some, None, refl, subst, arith}
 use Rattle.syn_lexer.specs.declared.lexeme.Delimiter.TheVariants as del
 use Rattle.syn_tokens.specs.Tok.{Tok}

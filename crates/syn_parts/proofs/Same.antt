@@ -19,9 +19,7 @@ both_true false b h = absurd cc
 
 pub same_delimiter-refl : (d : Delimiter) → same_delimiter d d ≡ true
 same_delimiter-refl del.Parenthesis = refl
-same_delimiter-refl del.Brace = refl
-same_delimiter-refl del.Bracket = refl
-same_delimiter-refl del.None = refl
+same_delimiter-refl _ = refl
 
 pub same_toks-refl : (l : List Tok) → same_toks l l ≡ true
 unfolding same_toks
@@ -33,13 +31,7 @@ same_toks-true l m h = same_list-true l m h
 
 pub same_kind-refl : (k : LitKind) → same_kind k k ≡ true
 same_kind-refl kind.Str = refl
-same_kind-refl kind.ByteStr = refl
-same_kind-refl kind.CStr = refl
-same_kind-refl kind.Byte = refl
-same_kind-refl kind.Char = refl
-same_kind-refl kind.Int = refl
-same_kind-refl kind.Float = refl
-same_kind-refl kind.Bool = refl
+same_kind-refl _ = refl
 
 pub same_kind-true : (k j : LitKind) → same_kind k j ≡ true → k ≡ j
 same_kind-true kind.Str kind.Str h = refl

@@ -87,11 +87,7 @@ lit_complete x r n h = by_kind x.kind x.text h
     by_kind kind.Bool text h = truth_leaf (is_truth text) text r n h
     by_kind kind.Int text h = number_complete kind.Int text r n h
     by_kind kind.Float text h = number_complete kind.Float text r n h
-    by_kind kind.Str text h = lit_leaf (kind_of text) kind.Str text r n h
-    by_kind kind.ByteStr text h = lit_leaf (kind_of text) kind.ByteStr text r n h
-    by_kind kind.CStr text h = lit_leaf (kind_of text) kind.CStr text r n h
-    by_kind kind.Byte text h = lit_leaf (kind_of text) kind.Byte text r n h
-    by_kind kind.Char text h = lit_leaf (kind_of text) kind.Char text r n h
+    by_kind d text h = lit_leaf (kind_of text) d text r n h
 
 -- a number without a sign
 plain_complete : (k : LitKind) (text : Text) (r n : List Tok) → unsigned.behind (record { kind = k; text = text }) (number_own text r) ≡ Some n → Fitted (has_kind (kind_of text) k) true r n
@@ -111,11 +107,7 @@ unsigned_complete x r n h = by_kind x.kind x.text h
     by_kind kind.Bool text h = truth_leaf (is_truth text) text r n h
     by_kind kind.Int text h = plain_complete kind.Int text r n h
     by_kind kind.Float text h = plain_complete kind.Float text r n h
-    by_kind kind.Str text h = lit_leaf (kind_of text) kind.Str text r n h
-    by_kind kind.ByteStr text h = lit_leaf (kind_of text) kind.ByteStr text r n h
-    by_kind kind.CStr text h = lit_leaf (kind_of text) kind.CStr text r n h
-    by_kind kind.Byte text h = lit_leaf (kind_of text) kind.Byte text r n h
-    by_kind kind.Char text h = lit_leaf (kind_of text) kind.Char text r n h
+    by_kind d text h = lit_leaf (kind_of text) d text r n h
 
 -- no literal begins with `-`
 sign_is_none : (text : Text) → kind_of (45 ∷ text) ≡ None
@@ -146,11 +138,7 @@ unsigned_back x r h = by_kind x.kind x.text h
     by_kind kind.Bool text h = rw (h, same_lit-refl (record { kind = kind.Bool; text = text })) refl
     by_kind kind.Int text h = plain_number kind.Int text r h
     by_kind kind.Float text h = plain_number kind.Float text r h
-    by_kind kind.Str text h = lit_found kind.Str text r h
-    by_kind kind.ByteStr text h = lit_found kind.ByteStr text r h
-    by_kind kind.CStr text h = lit_found kind.CStr text r h
-    by_kind kind.Byte text h = lit_found kind.Byte text r h
-    by_kind kind.Char text h = lit_found kind.Char text r h
+    by_kind d text h = lit_found d text r h
 
 -- one kind alone is the same literal, and of that kind
 of_kind_found : (k : LitKind) (x : LitTree) (o : Outcome LitTree) (n : List Tok) → if_same same_lit x (only (λ z. same_kind z.kind k) o) ≡ Some n → (same_kind x.kind k ≡ true) × (if_same same_lit x o ≡ Some n)
@@ -214,11 +202,7 @@ string_complete x r n h = by_kind x.kind x.text h
     by_kind kind.Bool text h = absurd cc
     by_kind kind.Int text h = by_number kind.Int text h
     by_kind kind.Float text h = by_number kind.Float text h
-    by_kind kind.Str text h = string_leaf (kind_of text) kind.Str text r n h
-    by_kind kind.ByteStr text h = string_leaf (kind_of text) kind.ByteStr text r n h
-    by_kind kind.CStr text h = string_leaf (kind_of text) kind.CStr text r n h
-    by_kind kind.Byte text h = string_leaf (kind_of text) kind.Byte text r n h
-    by_kind kind.Char text h = string_leaf (kind_of text) kind.Char text r n h
+    by_kind d text h = string_leaf (kind_of text) d text r n h
 
 pub abi_complete : (o : Option LitTree) (r n : List Tok) → abi.behind o (extern_own o r) ≡ Some n → Fitted (fits_if is_string o) (abi_stops o r) r n
 unfolding word_at
@@ -260,14 +244,7 @@ const_found (punct c s ∷ literal text ∷ l) x n h = by_bool (c == 45 && is_nu
     by_bool true e h = subst (λ (z : List Tok × List Tok). is_const z.0 ≡ true) (some_is h) e
     by_bool false e h = absurd cc
 const_found (group del.Brace i ∷ l) x n h = subst (λ (z : List Tok × List Tok). is_const z.0 ≡ true) (some_is h) refl
-const_found (group del.Parenthesis i ∷ l) x n h = absurd cc
-const_found (group del.Bracket i ∷ l) x n h = absurd cc
-const_found (group del.None i ∷ l) x n h = absurd cc
-const_found (punct c s ∷ []) x n h = absurd cc
-const_found (punct c s ∷ ident w ∷ l) x n h = absurd cc
-const_found (punct c s ∷ punct d e ∷ l) x n h = absurd cc
-const_found (punct c s ∷ group d e ∷ l) x n h = absurd cc
-const_found [] x n h = absurd cc
+const_found _ x n h = absurd cc
 
 pub const_complete : (ts l n : List Tok) → constant_tokens.behind ts l ≡ Some n → is_const ts ≡ true
 unfolding constant_tokens

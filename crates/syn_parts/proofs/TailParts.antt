@@ -1,4 +1,4 @@
--- What is left behind each part is a tail of the list.
+-- What is left after each part is a tail of the list.
 use Rattle.std.proofs.Common.{◌≡◌, Bool, not, ◌&&◌, ◌==◌, List, [], ◌∷◌, Some, ap, subst}
 use Rattle.std.specs.Str.{bytes_eq}
 use Rattle.syn_lexer.specs.Keywords.{is_reserved_word}

@@ -21,7 +21,7 @@ one_taken x l = record { front = x ∷ []; is = refl }
 dropped : (n : ℕ) (l : List Tok) → IsTail (drop n l) l
 dropped n l = record { front = take n l; is = sym (take-append-drop n l) }
 
--- what is behind a part that is read
+-- what is after a part that is read
 pub record Leaves {A : Type 0} (f : Form A) : Type 0 where
   pub leaves : (l : List Tok) (x : A) (n : List Tok) → f.reads l ≡ Some (x, n) → IsTail n l
 

@@ -66,7 +66,7 @@ pub bare_is : (ss : Segments) → segments_bare (t.segments ss) ≡ bare_segment
 bare_is t.no_segments = refl
 bare_is (t.more_segments w a ss) = ap (λ b. has_none a && b) (bare_is ss)
 
--- ---- what is behind an element of a list
+-- ---- what is after an element of a list
 
 pub record Quiet (l : List Tok) : Type 0 where
   pub calm : Calm l
@@ -140,10 +140,8 @@ rest_back (x ∷ l) h = rw (same_toks-refl (x ∷ l)) refl
 
 pub group_back : (d : Delimiter) (ts r : List Tok) → is_macro_delimiter d ≡ true → any_group.behind (d, ts) (enclosed d ts r) ≡ Some r
 unfolding any_group same_group
-group_back del.Parenthesis ts r h = rw (toks-inside ts, same_toks-refl ts) refl
-group_back del.Brace ts r h = rw (toks-inside ts, same_toks-refl ts) refl
-group_back del.Bracket ts r h = rw (toks-inside ts, same_toks-refl ts) refl
 group_back del.None ts r h = absurd cc
+group_back _ ts r h = rw (toks-inside ts, same_toks-refl ts) refl
 
 type_stands : (b : Bool) (x : TypeTree) (l n : List Tok) → (at_place type b).behind x l ≡ Some n → (type b).behind x l ≡ Some n
 type_stands b x l n h =
@@ -210,13 +208,7 @@ string_back x r h = by_kind x.kind x.text h
   where
     by_kind : (k : LitKind) (text : Text) → is_string (record { kind = k; text = text }) ≡ true → string.behind (record { kind = k; text = text }) (lit_own (record { kind = k; text = text }) r) ≡ Some r
     by_kind kind.Str text h = rw (has_str (kind_of text) h, same_lit-refl (record { kind = kind.Str; text = text })) refl
-    by_kind kind.ByteStr text h = absurd cc
-    by_kind kind.CStr text h = absurd cc
-    by_kind kind.Byte text h = absurd cc
-    by_kind kind.Char text h = absurd cc
-    by_kind kind.Int text h = absurd cc
-    by_kind kind.Float text h = absurd cc
-    by_kind kind.Bool text h = absurd cc
+    by_kind _ text h = absurd cc
 
 pub string_seen : (x : LitTree) (r : List Tok) → is_string x ≡ true → string_at (lit_own x r) ≡ true
 unfolding string_at lit_own
@@ -224,13 +216,7 @@ string_seen x r h = by_kind x.kind x.text h
   where
     by_kind : (k : LitKind) (text : Text) → is_string (record { kind = k; text = text }) ≡ true → string_at (lit_own (record { kind = k; text = text }) r) ≡ true
     by_kind kind.Str text h = rw (has_str (kind_of text) h) refl
-    by_kind kind.ByteStr text h = absurd cc
-    by_kind kind.CStr text h = absurd cc
-    by_kind kind.Byte text h = absurd cc
-    by_kind kind.Char text h = absurd cc
-    by_kind kind.Int text h = absurd cc
-    by_kind kind.Float text h = absurd cc
-    by_kind kind.Bool text h = absurd cc
+    by_kind _ text h = absurd cc
 
 abbrev pub fn_tokens : List Tok → List Tok
 fn_tokens l = ident (codes "fn") ∷ l
@@ -376,7 +362,7 @@ no_less true ss e r h = refl
 no_less false t.no_segments e r h = absurd cc
 no_less false (t.more_segments w a ss) e r h = refl
 
--- the segments that stand inside of `<` and `>`, and those behind
+-- the segments that are inside of `<` and `>`, and those after
 pub segments_split : (n : ℕ) (ss : Segments) (r : List Tok) → nat_lt (suc n) (count_segments ss) ≡ true
     → segments_own (suc n) ss false r ≡ elements_own segment_own colon2_before (take (suc n) (t.segments ss)) false (alone 62 ∷ colon2_before (elements_own segment_own colon2_before (drop (suc n) (t.segments ss)) false r))
 segments_split n t.no_segments r h = absurd (grind (arith, nat_tests, h))
@@ -687,7 +673,7 @@ as_no_plus : (l : List Tok) → plus.at (ident (codes "as") ∷ l) ≡ false
 unfolding sign_at
 as_no_plus l = refl
 
--- a path behind `<` `>`, by its type and its segments
+-- a path after `<` `>`, by its type and its segments
 qself_back : (s : PathStyle) (x : TypeTree) (n : ℕ) (a l : Bool) (ss : Segments) (r : List Tok) → position_fits a n l (count_segments ss) ≡ true → no_more_segments ss ≡ false
     → ((k : List Tok) → type_stops true x k ≡ true → (type true).behind x (type_own x k) ≡ Some k)
     → ((m : ℕ) (k : List Tok) → segments_fit (suc m) s ss ≡ true → Joins (segment type style.Type) segment_own colon2_before (alone 62 ∷ k) (take (suc m) (t.segments ss)))
@@ -734,7 +720,6 @@ mutual
       let e = not_true (no_more_segments ss) n in
       let h = pieces_step style.Type l ss r e (not_true (colon2.at r) d) (segments_joins 0 style.Type ss r g c) in
       type_stands b (t.path t.no_qself l ss false) _ r (path_begins b (t.path t.no_qself l ss false) l ss false r e g ∙ path_step b l ss _ r h k (no_less l ss false r e))
-  type_back b (t.path (t.qself x n a) l ss true) r f s = absurd cc
   type_back b (t.path (t.qself x n a) l ss false) r f s =
       let (g, h) = both_true (not (no_more_segments ss)) _ f in
       let (i, j) = both_true (type_fits true x && position_fits a n l (count_segments ss)) _ h in
@@ -742,7 +727,6 @@ mutual
       let (c, m) = both_true (segments_stop style.Type ss r) _ s in
       let (d, o) = both_true (not (colon2.at r)) _ m in
       type_stands b (t.path (t.qself x n a) l ss false) _ r (named_qself b x n a l ss _ r (qself_back style.Type x n a l ss r p (not_true (no_more_segments ss) g) (λ v w. type_back true x v k w) (λ v w y. segments_within v style.Type ss w y) (λ v w. segments_joins v style.Type ss r w c) j (not_true (colon2.at r) d)))
-  type_back b (t.mac l ss true d ts) r f s = absurd cc
   type_back b (t.mac l ss false d ts) r f s =
       let (n, g) = both_true (not (no_more_segments ss)) _ f in
       let (m, h) = both_true (bare_segments ss) _ g in
@@ -775,18 +759,17 @@ mutual
       let (k, m) = both_true (args_fit xs) _ j in
       let (n, q) = both_true (ends_well (no_more_args xs) e) (return_fits o) m in
       type_stands b (t.fn_ptr p u a xs e o) _ r (fn_step b (p, (u, a)) xs e o (args_own xs e []) (return_own o r) r g i (args_listed xs e n (args_commas e xs k)) (return_back o r q s))
-  type_back b (t.impl_trait bs true) r f s = absurd cc
   type_back b (t.impl_trait bs false) r f s =
       let (g, h) = both_true (not (no_more_bounds bs)) _ f in
       let (i, j) = both_true (b || is_one_bound bs) (bounds_fit bs) h in
       let (k, m) = both_true (bounds_stop bs r) (not (b && plus.at r)) s in
       type_stands b (t.impl_trait bs false) _ r (impl_step b r bs (bounds_own bs false r) (bounds_step b bs r (not_true (no_more_bounds bs) g) i m (bounds_joins bs r j k)))
-  type_back b (t.trait_object bs true) r f s = absurd cc
   type_back b (t.trait_object bs false) r f s =
       let (g, h) = both_true (not (no_more_bounds bs)) _ f in
       let (i, j) = both_true (b || is_one_bound bs) (bounds_fit bs) h in
       let (k, m) = both_true (bounds_stop bs r) (not (b && plus.at r)) s in
       type_stands b (t.trait_object bs false) _ r (object_step b r bs (bounds_own bs false r) (bounds_step b bs r (not_true (no_more_bounds bs) g) i m (bounds_joins bs r j k)))
+  type_back b _ r f s = absurd cc
 
   types_commas : (e : Bool) (xs : Types) → types_fit xs ≡ true → Commas (type true) type_own is_empty e [] (t.types xs)
   types_commas e t.no_types f = no_element
@@ -828,7 +811,7 @@ mutual
   return_back t.default r f s = default_step r (not_true (arrow.at r) s)
   return_back (t.given x) r f s = given_step x (type_own x r) r (type_back false x r f s)
 
-  -- the segments behind the first n
+  -- the segments after the first n
   pub segments_joins : (n : ℕ) (s : PathStyle) (ss : Segments) (r : List Tok) → segments_fit n s ss ≡ true → segments_stop s ss r ≡ true → Joins (segment type s) segment_own colon2_before r (drop n (t.segments ss))
   segments_joins zero s t.no_segments r f c = no_join
   segments_joins zero s (t.more_segments w a t.no_segments) r f c =
@@ -851,7 +834,7 @@ mutual
       let (o, p) = both_true (goes_over (suc n) style.Type w a (t.more_segments v d ss)) _ m in
       segments_joins n s (t.more_segments v d ss) r p c
 
-  -- those that stand inside
+  -- those that are inside
   pub segments_within : (n : ℕ) (s : PathStyle) (ss : Segments) (r : List Tok) → segments_fit (suc n) s ss ≡ true → Joins (segment type style.Type) segment_own colon2_before (alone 62 ∷ r) (take (suc n) (t.segments ss))
   segments_within n s t.no_segments r f = no_join
   segments_within zero s (t.more_segments w a ss) r f =

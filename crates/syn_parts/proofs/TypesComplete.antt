@@ -295,7 +295,7 @@ segments_pass s (t.more_segments w a (t.more_segments v c ss)) r (fit p q f) =
     let l = arguments_own c (next_own segment_own colon2_before (t.segments ss) false r) in
     (rw (d, g, k, some_fit s w v a l q) i, j)
 
--- the first stand inside of `<` and `>`
+-- the first are inside of `<` and `>`
 segments_pass_within : (n : ℕ) (s : PathStyle) (ss : Segments) (m r : List Tok) → nat_lt (suc n) (count_segments ss) ≡ true → AllFit style.Type (alone 62 ∷ m) (take (suc n) (t.segments ss)) → AllFit s r (drop (suc n) (t.segments ss))
     → (segments_fit (suc n) s ss ≡ true) × (segments_stop s ss r ≡ true)
 segments_pass_within n s t.no_segments m r fewer f g = absurd (grind (arith, nat_tests, fewer))
@@ -373,7 +373,7 @@ left_some (suc n) [] h = absurd cc
 left_some zero (x ∷ xs) h = grind (arith, nat_tests)
 left_some (suc n) (x ∷ xs) h = let e = left_some n xs h in grind (arith, nat_tests, e)
 
--- what stands in `<` and `>`
+-- what is in `<` and `>`
 abbrev in_less : Form (TypeTree × Option (Bool × List SegmentTree))
 in_less = both (type true) (maybe as_word.at (mark as_word (pieces type style.Type)))
 
@@ -383,7 +383,7 @@ behind_less s = mark colon2 (joined colon2 (segment type s))
 abbrev selfed : PathStyle → Form ((TypeTree × Option (Bool × List SegmentTree)) × List SegmentTree)
 selfed s = both (closed_by gt in_less) (behind_less s)
 
--- some segments stand inside, and some behind
+-- some segments are inside, and some after
 inside_some : (s : PathStyle) (x : TypeTree) (c : Bool) (xs ys : List SegmentTree) (l n : List Tok) → (selfed s).behind ((x, Some (c, xs)), ys) l ≡ Some n → (is_nil xs ≡ false) × (is_nil ys ≡ false)
 unfolding pieces
 inside_some s x c xs ys l n h =
@@ -448,7 +448,7 @@ module _ (s : PathStyle) (x : TypeTree) (ss : Segments) (only : (k m : List Tok)
   abbrev SelfFits : ℕ → Bool → Bool → Bool → ℕ → Bool
   SelfFits n a l e z = not e && (not (no_more_segments ss) && ((type_fits true x && position_fits a n l (count_segments ss)) && segments_fit z s ss))
 
-  -- how many stand inside, as the tokens say it
+  -- how many are inside, as the tokens say it
   abbrev self_own : ℕ → Bool → Bool → List Tok → List Tok
   self_own z l e r = type_own x (qself_end z (before_if l colon2_before (segments_own z ss e r)))
 
@@ -585,7 +585,7 @@ bounds_tells false (t.more_bounds x (t.more_bounds y ys)) e r n all h = absurd c
 
 -- ---- generic arguments, outputs, arguments of function pointers
 
--- a test that sees a word of this kind, and what stands behind it
+-- a test that sees a word of this kind, and what comes after it
 pub record Sees (such : Text → Bool) (at behind : Test) : Type 0 where
   pub word : (w : Text) (l : List Tok) → at (ident w ∷ l) ≡ (such w && behind l)
 

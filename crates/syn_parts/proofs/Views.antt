@@ -3,10 +3,9 @@ use Rattle.std.proofs.Common.{◌≡◌, ℕ, zero, suc, Bool, true, false, not,
 use Rattle.std.proofs.lemmas.Bool.Decides.{nat_tests}
 use Rattle.syn_lexer.specs.declared.lexeme.Delimiter.{Delimiter}
 use Rattle.syn_tokens.specs.Tok.{Tok}
-use Rattle.syn_parts.specs.Text.{Text}
 use Rattle.syn_parts.specs.Tree as t
 use Rattle.syn_parts.specs.Tree.{LifetimesTree, TypeTree, SegmentTree, PathTree, FnArgTree, ArgumentsTree, GenericTree, ReturnTree, BoundTree}
-use Rattle.syn_parts.specs.Part.{to_outer, from_outer, to_inner, from_inner, to_path, from_path, to_angle, from_angle, to_round, from_round, has_none, to_segment, from_segment, from_lifetime, from_const, to_assoc, from_assoc, from_type, to_trait, from_trait, from_outlives, to_one, from_one, to_several, from_several, Qualified, QPathTree, to_qualified, qualified_by, from_qualified, to_bare, from_bare, MacroEnd, to_named, from_named, to_reference, from_reference, to_pointer, from_pointer, to_row, from_row, to_tuple, tuple_of, from_tuple, to_impl, from_impl, to_object, from_object, is_never, is_infer, to_arg, from_arg, FnHead, to_fn, from_fn, from_given, is_default, to_macro, from_macro}
+use Rattle.syn_parts.specs.Part.{to_outer, from_outer, to_inner, from_inner, to_path, from_path, to_angle, from_angle, to_round, from_round, has_none, to_segment, from_segment, from_lifetime, from_const, to_assoc, from_assoc, from_type, to_trait, from_trait, from_outlives, to_one, from_one, to_several, from_several, Qualified, QPathTree, to_qualified, qualified_by, from_qualified, to_bare, from_bare, MacroEnd, to_named, from_named, to_reference, from_reference, to_pointer, from_pointer, to_row, from_row, to_tuple, tuple_of, from_tuple, to_impl, from_impl, to_object, from_object, is_never, is_infer, to_arg, from_arg, to_fn, from_fn, from_given, is_default, to_macro, from_macro}
 use Rattle.syn_parts.proofs.Weights.{some_is}
 use Rattle.syn_parts.proofs.Same.{both_true, not_true}
 use Rattle.syn_parts.proofs.Forms.{Sees, Only}
@@ -41,69 +40,33 @@ sees_segment = record { there = λ x. refl; back = λ y x h. ap to_segment (sym 
 -- ---- arguments
 
 pub sees_angle : Sees to_angle from_angle
-sees_angle = record { there = λ x. rw (generics-generics_of x.1.0) refl; back = back }
-  where
-    back : (y : ArgumentsTree) (x : Bool × (List GenericTree × Bool)) → from_angle y ≡ Some x → to_angle x ≡ y
-    back (t.angle c gs e) x h = ap to_angle (sym (some_is h)) ∙ ap (λ z. t.angle c z e) (generics_of-generics gs)
-    back _ x h = absurd cc
+sees_angle = record { there = λ x. rw (generics-generics_of x.1.0) refl; back = elim [ t.angle c gs e ↦ λ x h. ap to_angle (sym (some_is h)) ∙ ap (λ z. t.angle c z e) (generics_of-generics gs) | _ ↦ λ x h. absurd cc ] }
 
 pub sees_round : Sees to_round from_round
-sees_round = record { there = λ x. rw (types-types_of x.0.0) refl; back = back }
-  where
-    back : (y : ArgumentsTree) (x : (List TypeTree × Bool) × ReturnTree) → from_round y ≡ Some x → to_round x ≡ y
-    back (t.round ts e r) x h = ap to_round (sym (some_is h)) ∙ ap (λ z. t.round z e r) (types_of-types ts)
-    back _ x h = absurd cc
+sees_round = record { there = λ x. rw (types-types_of x.0.0) refl; back = elim [ t.round ts e r ↦ λ x h. ap to_round (sym (some_is h)) ∙ ap (λ z. t.round z e r) (types_of-types ts) | _ ↦ λ x h. absurd cc ] }
 
 pub only_no_arguments : Only t.no_arguments has_none
-only_no_arguments = record { itself = refl; only = only }
-  where
-    only : (y : ArgumentsTree) → has_none y ≡ true → t.no_arguments ≡ y
-    only t.no_arguments h = refl
-    only _ h = absurd cc
+only_no_arguments = record { itself = refl; only = elim [ t.no_arguments ↦ λ h. refl | _ ↦ λ h. absurd cc ] }
 
 pub sees_lifetime : Sees t.a_lifetime from_lifetime
-sees_lifetime = record { there = λ x. refl; back = back }
-  where
-    back : (y : GenericTree) (x : Text) → from_lifetime y ≡ Some x → t.a_lifetime x ≡ y
-    back (t.a_lifetime w) x h = ap t.a_lifetime (sym (some_is h))
-    back _ x h = absurd cc
+sees_lifetime = record { there = λ x. refl; back = elim [ t.a_lifetime w ↦ λ x h. ap t.a_lifetime (sym (some_is h)) | _ ↦ λ x h. absurd cc ] }
 
 pub sees_const : Sees t.a_const from_const
-sees_const = record { there = λ x. refl; back = back }
-  where
-    back : (y : GenericTree) (x : List Tok) → from_const y ≡ Some x → t.a_const x ≡ y
-    back (t.a_const ts) x h = ap t.a_const (sym (some_is h))
-    back _ x h = absurd cc
+sees_const = record { there = λ x. refl; back = elim [ t.a_const ts ↦ λ x h. ap t.a_const (sym (some_is h)) | _ ↦ λ x h. absurd cc ] }
 
 pub sees_assoc : Sees to_assoc from_assoc
-sees_assoc = record { there = λ x. refl; back = back }
-  where
-    back : (y : GenericTree) (x : Text × TypeTree) → from_assoc y ≡ Some x → to_assoc x ≡ y
-    back (t.an_assoc w u) x h = ap to_assoc (sym (some_is h))
-    back _ x h = absurd cc
+sees_assoc = record { there = λ x. refl; back = elim [ t.an_assoc w u ↦ λ x h. ap to_assoc (sym (some_is h)) | _ ↦ λ x h. absurd cc ] }
 
 pub sees_type : Sees t.a_type from_type
-sees_type = record { there = λ x. refl; back = back }
-  where
-    back : (y : GenericTree) (x : TypeTree) → from_type y ≡ Some x → t.a_type x ≡ y
-    back (t.a_type u) x h = ap t.a_type (sym (some_is h))
-    back _ x h = absurd cc
+sees_type = record { there = λ x. refl; back = elim [ t.a_type u ↦ λ x h. ap t.a_type (sym (some_is h)) | _ ↦ λ x h. absurd cc ] }
 
 -- ---- bounds
 
 pub sees_trait : Sees to_trait from_trait
-sees_trait = record { there = λ x. rw (segments-segments_of x.1.1.segments) refl; back = back }
-  where
-    back : (y : BoundTree) (x : Bool × (Option LifetimesTree × PathTree)) → from_trait y ≡ Some x → to_trait x ≡ y
-    back (t.a_trait q f b ss e) x h = ap to_trait (sym (some_is h)) ∙ ap (λ z. t.a_trait q f b z e) (segments_of-segments ss)
-    back _ x h = absurd cc
+sees_trait = record { there = λ x. rw (segments-segments_of x.1.1.segments) refl; back = elim [ t.a_trait q f b ss e ↦ λ x h. ap to_trait (sym (some_is h)) ∙ ap (λ z. t.a_trait q f b z e) (segments_of-segments ss) | _ ↦ λ x h. absurd cc ] }
 
 pub sees_outlives : Sees t.outlives from_outlives
-sees_outlives = record { there = λ x. refl; back = back }
-  where
-    back : (y : BoundTree) (x : Text) → from_outlives y ≡ Some x → t.outlives x ≡ y
-    back (t.outlives w) x h = ap t.outlives (sym (some_is h))
-    back _ x h = absurd cc
+sees_outlives = record { there = λ x. refl; back = elim [ t.outlives w ↦ λ x h. ap t.outlives (sym (some_is h)) | _ ↦ λ x h. absurd cc ] }
 
 pub sees_one : Sees to_one from_one
 sees_one = record { there = λ x. refl; back = back }
@@ -189,18 +152,10 @@ sees_bare = record { there = λ x. refl; back = back }
 -- ---- types
 
 pub sees_reference : Sees to_reference from_reference
-sees_reference = record { there = λ x. refl; back = back }
-  where
-    back : (y : TypeTree) (x : Option Text × (Bool × TypeTree)) → from_reference y ≡ Some x → to_reference x ≡ y
-    back (t.reference a m u) x h = ap to_reference (sym (some_is h))
-    back _ x h = absurd cc
+sees_reference = record { there = λ x. refl; back = elim [ t.reference a m u ↦ λ x h. ap to_reference (sym (some_is h)) | _ ↦ λ x h. absurd cc ] }
 
 pub sees_pointer : Sees to_pointer from_pointer
-sees_pointer = record { there = λ x. refl; back = back }
-  where
-    back : (y : TypeTree) (x : Bool × TypeTree) → from_pointer y ≡ Some x → to_pointer x ≡ y
-    back (t.ptr m u) x h = ap to_pointer (sym (some_is h))
-    back _ x h = absurd cc
+sees_pointer = record { there = λ x. refl; back = elim [ t.ptr m u ↦ λ x h. ap to_pointer (sym (some_is h)) | _ ↦ λ x h. absurd cc ] }
 
 pub sees_row : Sees to_row from_row
 sees_row = record { there = there; back = back }
@@ -235,42 +190,22 @@ sees_tuple = record { there = there; back = back }
     back _ x h = absurd cc
 
 pub sees_impl : Sees to_impl from_impl
-sees_impl = record { there = λ x. rw (bounds-bounds_of x.0) refl; back = back }
-  where
-    back : (y : TypeTree) (x : List BoundTree × Bool) → from_impl y ≡ Some x → to_impl x ≡ y
-    back (t.impl_trait bs e) x h = ap to_impl (sym (some_is h)) ∙ ap (λ z. t.impl_trait z e) (bounds_of-bounds bs)
-    back _ x h = absurd cc
+sees_impl = record { there = λ x. rw (bounds-bounds_of x.0) refl; back = elim [ t.impl_trait bs e ↦ λ x h. ap to_impl (sym (some_is h)) ∙ ap (λ z. t.impl_trait z e) (bounds_of-bounds bs) | _ ↦ λ x h. absurd cc ] }
 
 pub sees_object : Sees to_object from_object
-sees_object = record { there = λ x. rw (bounds-bounds_of x.0) refl; back = back }
-  where
-    back : (y : TypeTree) (x : List BoundTree × Bool) → from_object y ≡ Some x → to_object x ≡ y
-    back (t.trait_object bs e) x h = ap to_object (sym (some_is h)) ∙ ap (λ z. t.trait_object z e) (bounds_of-bounds bs)
-    back _ x h = absurd cc
+sees_object = record { there = λ x. rw (bounds-bounds_of x.0) refl; back = elim [ t.trait_object bs e ↦ λ x h. ap to_object (sym (some_is h)) ∙ ap (λ z. t.trait_object z e) (bounds_of-bounds bs) | _ ↦ λ x h. absurd cc ] }
 
 pub only_never : Only t.never is_never
-only_never = record { itself = refl; only = only }
-  where
-    only : (y : TypeTree) → is_never y ≡ true → t.never ≡ y
-    only t.never h = refl
-    only _ h = absurd cc
+only_never = record { itself = refl; only = elim [ t.never ↦ λ h. refl | _ ↦ λ h. absurd cc ] }
 
 pub only_infer : Only t.infer is_infer
-only_infer = record { itself = refl; only = only }
-  where
-    only : (y : TypeTree) → is_infer y ≡ true → t.infer ≡ y
-    only t.infer h = refl
-    only _ h = absurd cc
+only_infer = record { itself = refl; only = elim [ t.infer ↦ λ h. refl | _ ↦ λ h. absurd cc ] }
 
 pub sees_arg : Sees to_arg from_arg
 sees_arg = record { there = λ x. refl; back = λ y x h. ap to_arg (sym (some_is h)) }
 
 pub sees_fn : Sees to_fn from_fn
-sees_fn = record { there = λ x. rw (args-args_of x.1.0.0) refl; back = back }
-  where
-    back : (y : TypeTree) (x : FnHead × ((List FnArgTree × Bool) × ReturnTree)) → from_fn y ≡ Some x → to_fn x ≡ y
-    back (t.fn_ptr f u a xs e r) x h = ap to_fn (sym (some_is h)) ∙ ap (λ z. t.fn_ptr f u a z e r) (args_of-args xs)
-    back _ x h = absurd cc
+sees_fn = record { there = λ x. rw (args-args_of x.1.0.0) refl; back = elim [ t.fn_ptr f u a xs e r ↦ λ x h. ap to_fn (sym (some_is h)) ∙ ap (λ z. t.fn_ptr f u a z e r) (args_of-args xs) | _ ↦ λ x h. absurd cc ] }
 
 pub sees_given : Sees t.given from_given
 sees_given = record { there = λ x. refl; back = back }

@@ -1,4 +1,4 @@
--- How many tokens are left behind what is taken.
+-- How many tokens are left after what is taken.
 use Rattle.std.proofs.Common.{◌≡◌, ℕ, true, zero, suc, ◌+◌, ◌≤◌, ◌<◌, Bool, false, cond, List, [], ◌∷◌, drop, Option, Some, None, subst, arith}
 use Rattle.syn_lexer.specs.declared.lexeme.Delimiter.{Delimiter}
 use Rattle.syn_tokens.specs.Tok.{Tok, ident, punct, literal, group, toks, token_weight, inside_weight, weight, weight-toks}
@@ -9,9 +9,7 @@ some_is h = cc
 
 pub one_at_least : (t : Tok) → 1 ≤ token_weight t
 one_at_least (ident s) = omega arith
-one_at_least (punct c s) = omega arith
-one_at_least (literal s) = omega arith
-one_at_least (group d i) = omega arith
+one_at_least _ = omega arith
 
 pub drop_weight : (n : ℕ) (l : List Tok) → weight (drop n l) ≤ weight l
 unfolding weight
@@ -24,7 +22,7 @@ unfolding weight
 drop_smaller zero x l p = absurd (omega arith)
 drop_smaller (suc n) x l p = omega (arith, drop_weight n l, one_at_least x)
 
--- a group weighs more than its inside and what is behind it
+-- a group weighs more than its inside and what is after it
 pub taken : (d : Delimiter) (l inner n : List Tok) → group_at d l ≡ Some (inner, n) → weight inner + weight n < weight l
 unfolding group_at weight
 taken d [] inner n h = absurd cc

@@ -1,4 +1,4 @@
--- What may stand behind a type, an output, a path and a pattern: by what each goes on, and that nothing else is refused.
+-- What may come after a type, an output, a path and a pattern: by what each goes on, and that nothing else is refused.
 use Rattle.std.specs.Prelude.{◌≡◌, ℕ, Bool, true, false, not, ◌||◌, ◌&&◌, ◌==◌, List, [], ◌∷◌, codes}
 use Rattle.syn_lexer.specs.declared.lexeme.Delimiter.{Delimiter}
 use Rattle.syn_lexer.specs.declared.lexeme.Delimiter.TheVariants as del

@@ -1,5 +1,5 @@
 -- Where a part is read back from its own tokens: `x_fits x` is what a part must be for it, and `x_stops x r` says that the
--- tokens r behind it don't go on with it.
+-- tokens r after it don't go on with it.
 use Rattle.std.specs.Prelude.{ℕ, zero, suc, Bool, true, false, not, ◌&&◌, ◌||◌, ◌==◌, nat_lt, if◌then◌else◌, List, [], ◌∷◌, codes, Option, Some, None}
 use Rattle.syn_lexer.specs.Keywords.{is_reserved_word}
 use Rattle.syn_lexer.specs.declared.lexeme.Delimiter.{Delimiter}
@@ -26,7 +26,7 @@ abbrev pub has_kind : Option LitKind → LitKind → Bool
 has_kind None k = false
 has_kind (Some j) k = same_kind j k
 
--- the text of a number behind its sign
+-- the text of a number after its sign
 abbrev pub number_fits : LitKind → Text → Bool
 number_fits k [] = false
 number_fits k (c ∷ text) =
@@ -101,7 +101,7 @@ abbrev pub is_one_bound : Bounds → Bool
 is_one_bound (t.more_bounds b t.no_bounds) = true
 is_one_bound _ = false
 
--- what `as` says of how many segments stand inside
+-- what `as` says of how many segments are inside
 abbrev pub position_fits : Bool → ℕ → Bool → ℕ → Bool
 position_fits false n leading count = n == 0 && leading
 position_fits true n leading count = nat_lt 0 n && nat_lt n count
@@ -111,7 +111,7 @@ abbrev pub bare_segments : Segments → Bool
 bare_segments t.no_segments = true
 bare_segments (t.more_segments w a ss) = has_none a && bare_segments ss
 
--- the style of a segment: those that stand inside are read as in a type
+-- the style of a segment: those that are inside are read as in a type
 abbrev pub style_at : ℕ → PathStyle → PathStyle
 style_at zero s = s
 style_at (suc n) s = style.Type
@@ -125,7 +125,7 @@ abbrev pub takes_round : PathStyle → Bool
 takes_round style.Type = true
 takes_round _ = false
 
--- ---- what is behind a part
+-- ---- what is after a part
 
 -- no arguments begin
 abbrev pub none_stops : PathStyle → Test
@@ -177,7 +177,7 @@ abbrev mutual
   bound_stops (t.outlives w) r = true
   bound_stops (t.a_trait q f l ss e) r = segments_stop style.Type ss r && not (colon2.at r)
 
--- Where another segment follows behind `::`, this one doesn't go on there: an output that ends in a path would.
+-- Where another segment follows after `::`, this one doesn't go on there: an output that ends in a path would.
 abbrev pub goes_over : ℕ → PathStyle → Text → ArgumentsTree → Segments → Bool
 goes_over n s w a t.no_segments = true
 goes_over zero s w a (t.more_segments v c ss) = arguments_stop s w a (colon2_before (ident v ∷ []))
@@ -210,7 +210,7 @@ abbrev mutual
   qself_fits t.no_qself l k = true
   qself_fits (t.qself x n a) l k = type_fits true x && position_fits a n l k
 
-  -- n segments stand inside, the others are of this style
+  -- n segments are inside, the others are of this style
   pub segments_fit : ℕ → PathStyle → Segments → Bool
   segments_fit n s t.no_segments = true
   segments_fit n s (t.more_segments w a ss) =
@@ -281,7 +281,7 @@ segment_fits s x = segments_fit 0 s (t.segments_of (x ∷ []))
 abbrev pub segment_stops : PathStyle → SegmentTree → Test
 segment_stops s x r = arguments_stop s x.ident x.arguments r
 
--- arguments behind a name that may have some
+-- arguments after a name that may have some
 abbrev pub after_name_stops : PathStyle → ArgumentsTree → Test
 after_name_stops s t.no_arguments r = none_stops s r
 after_name_stops s (t.angle c gs e) r = true
@@ -331,7 +331,7 @@ abbrev pub trait_fits : BoundTree → Bool
 trait_fits (t.outlives w) = false
 trait_fits (t.a_trait q f l ss e) = bound_fits (t.a_trait q f l ss e)
 
--- bounds, as what they are behind `impl`
+-- bounds, as what they are after `impl`
 abbrev pub bounds_list_fits : Bool → List BoundTree × Bool → Bool
 bounds_list_fits b p = type_fits b (t.impl_trait (t.bounds_of p.0) p.1)
 

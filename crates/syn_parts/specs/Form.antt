@@ -1,7 +1,7 @@
--- Forms: how a part is read from the front of a list of tokens, and what is behind a part that stands there.
+-- Forms: how a part is read from the front of a list of tokens, and what is after a part that is there.
 --
--- `reads f l` is the part at the front of l, and the tokens behind it. `behind f x l` takes the tokens of x from
--- the front of l, from left to right, and gives the tokens behind them. So `behind f x l ≡ Some n` says two things:
+-- `reads f l` is the part at the front of l, and the tokens after it. `behind f x l` takes the tokens of x from
+-- the front of l, from left to right, and gives the tokens after them. So `behind f x l ≡ Some n` says two things:
 -- the tokens of l before n spell x, and n doesn't begin with a token by which x would go on.
 use Rattle.std.specs.Prelude.{ℕ, zero, suc, Bool, true, false, not, if◌then◌else◌, List, [], ◌∷◌, ◌++◌, drop, Option, Some, None, is_some}
 use Rattle.syn_lexer.specs.declared.lexeme.Delimiter.{Delimiter}
@@ -145,7 +145,7 @@ itself o = o
 abbrev pub maybe : {A : Type 0} → Test → Form A → Form (Option A)
 maybe at f = when at (shown Some itself f) (pure None is_none)
 
--- a list behind an element of it, and whether a separator ends it
+-- a list after an element of it, and whether a separator ends it
 abbrev pub is_end : {A : Type 0} → Bool → List A × Bool → Bool
 is_end b ([], c) = if b then c else not c
 is_end b (x ∷ xs, c) = false
@@ -207,7 +207,7 @@ module _ {A : Type 0} (m : Mark) (f : Form A) where
 abbrev pub closed_by : {A : Type 0} → Mark → Form A → Form A
 closed_by m f = shown (λ p. p.0) (λ x. Some (x, tt)) (both f (mark m (pure tt (λ (u : Unit {0}). true))))
 
--- what is read behind these elements, and they
+-- what is read after these elements, and they
 abbrev pub extend : {A : Type 0} → List A → Outcome (List A × Bool) → Outcome (List A × Bool)
 extend found o = and_then o (λ p m. Some ((found ++ p.0, p.1), m))
 

@@ -16,7 +16,7 @@ only is (Some p) = if is p.0 then Some p else None
 unfoldable pub of_kind : LitKind → Form LitTree
 of_kind k = leaf same_lit (λ l. only (λ x. same_kind x.kind k) (find_lit l))
 
--- a type that passes this test; several bounds may stand behind its `impl` or `dyn`
+-- a type that passes this test; several bounds may come after its `impl` or `dyn`
 unfoldable pub type_of_kind : (TypeTree → Bool) → Form TypeTree
 type_of_kind is = record {
   reads = λ l. only is ((type true).reads l);

@@ -1,4 +1,4 @@
--- What is true of the lower parts: each is read exactly where its tokens stand, and read back from its own tokens.
+-- What is true of the lower parts: each is read exactly where its tokens are, and read back from its own tokens.
 use Rattle.std.specs.Prelude.{ℕ, ◌+◌, ◌≤◌, ◌≡◌, Bool, true, not, ◌↔◌, List, [], ◌∷◌, Option, Some}
 use Rattle.syn_lexer.specs.Keywords.{is_reserved_word}
 use Rattle.syn_tokens.specs.Tok.{Tok, ident, weight}
@@ -56,7 +56,7 @@ TypesAreSpelledByKind = (several : Bool) (l : List Tok) (x : TypeTree) (rest : L
 abbrev pub OneType : Type 0
 OneType = (several : Bool) (l : List Tok) (x y : TypeTree) (m n : List Tok) → SpellsType several l x m → SpellsType several l y n → (x ≡ y) × (m ≡ n)
 
--- What passes the test and is printed is read back as the same part, whatever stands behind that doesn't go on with it.
+-- What passes the test and is printed is read back as the same part, whatever comes after that doesn't go on with it.
 pub record PartsAreReadBack : Type 0 where
   pub names : (w : Text) (rest : List Tok) → not (is_reserved_word w) ≡ true → name.behind w (ident w ∷ rest) ≡ Some rest
   pub lifetime_names : (w : Text) (rest : List Tok) → lifetime.behind w (lifetime_own w rest) ≡ Some rest
@@ -91,7 +91,7 @@ pub record Fitted (fits stops : Bool) (rest left : List Tok) : Type 0 where
   pub ends : stops ≡ true
   pub same : left ≡ rest
 
--- Whatever stands behind: where the own tokens of x and those are read as x, x passes its test.
+-- Whatever comes after: where the own tokens of x and those are read as x, x passes its test.
 abbrev pub FitsWhereReadBack : {A : Type 0} → Form A → (A → List Tok → List Tok) → (A → Bool) → (A → Test) → Type 0
 FitsWhereReadBack {A} f own fits stops = (x : A) (rest left : List Tok) → f.behind x (own x rest) ≡ Some left → Fitted (fits x) (stops x rest) rest left
 
@@ -120,7 +120,7 @@ pub record PartsThatAreReadBackFit : Type 0 where
   pub outputs : (several : Bool) → FitsWhereReadBack (output type several) return_own (output_fits several) (output_stops several)
   pub types : (several : Bool) → FitsWhereReadBack (type several) type_own (type_fits several) (type_stops several)
 
--- A part is read back in its place, its own tokens with nothing behind them, exactly where it passes its test.
+-- A part is read back in its place, its own tokens with nothing after them, exactly where it passes its test.
 abbrev pub IsTestOf : {A : Type 0} → Form A → (A → List Tok → List Tok) → (A → Bool) → Type 0
 IsTestOf {A} f own fits = (x : A) → (f.behind x (own x []) ≡ Some []) ↔ (fits x ≡ true)
 
@@ -148,7 +148,7 @@ pub record TestsAreExact : Type 0 where
   pub outputs : (several : Bool) → IsTestOf (output type several) return_own (output_fits several)
   pub types : (several : Bool) → IsTestOf (type several) type_own (type_fits several)
 
--- A form that a reader can follow: what it reads stands there, takes this weight at least and leaves a tail, and what stands it reads.
+-- A form that a reader can follow: what it reads is there, takes this weight at least and leaves a tail, and what stands it reads.
 pub record IsReadable {A : Type 0} (least : ℕ) (f : Form A) : Type 0 where
   pub tail : (l n : List Tok) (x : A) → f.reads l ≡ Some (x, n) → IsTail n l
   pub moves : (l n : List Tok) (x : A) → f.reads l ≡ Some (x, n) → least + weight n ≤ weight l

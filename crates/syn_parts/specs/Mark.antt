@@ -1,4 +1,4 @@
--- The signs and words that parts are made of, and the tests of what stands at the front of a list.
+-- The signs and words that parts are made of, and the tests of what is at the front of a list.
 use Rattle.std.specs.Prelude.{ℕ, false, not, ◌&&◌, ◌==◌, List, ◌∷◌, length, codes}
 use Rattle.syn_lexer.specs.declared.lexeme.Delimiter.TheVariants as del
 use Rattle.syn_lexer.specs.declared.lexeme.Spacing.TheVariants as spacing

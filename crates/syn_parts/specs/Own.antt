@@ -117,7 +117,7 @@ abbrev pub no_more_bounds : Bounds → Bool
 no_more_bounds t.no_bounds = true
 no_more_bounds (t.more_bounds b bs) = false
 
--- `>` behind the last of the segments that stand inside
+-- `>` after the last of the segments that are inside
 abbrev pub closed_at : ℕ → List Tok → List Tok
 closed_at zero r = r
 closed_at (suc zero) r = alone 62 ∷ r
@@ -134,12 +134,12 @@ count_segments (t.more_segments w a ss) = suc (count_segments ss)
 abbrev pub at_most : ℕ → ℕ → ℕ
 at_most n k = if nat_le n k then n else k
 
--- how many of k segments stand inside: no more than there are
+-- how many of k segments are inside: no more than there are
 abbrev pub inner_count : QSelfTree → ℕ → ℕ
 inner_count t.no_qself k = 0
 inner_count (t.qself x n a) k = at_most n k
 
--- behind the type of a qualified path: `as` where segments stand inside, else `>`
+-- after the type of a qualified path: `as` where segments are inside, else `>`
 abbrev pub qself_end : ℕ → List Tok → List Tok
 qself_end zero r = alone 62 ∷ r
 qself_end (suc n) r = ident (codes "as") ∷ r
@@ -171,7 +171,7 @@ abbrev mutual
   qself_own t.no_qself k r = r
   qself_own (t.qself x n a) k r = alone 60 ∷ type_own x (qself_end (at_most n k) r)
 
-  -- `n` segments stand before a `>`, or 0
+  -- `n` segments come before a `>`, or 0
   pub segments_own : ℕ → Segments → Bool → List Tok → List Tok
   segments_own n t.no_segments e r = r
   segments_own n (t.more_segments w a ss) e r =

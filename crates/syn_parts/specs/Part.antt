@@ -1,5 +1,5 @@
--- What spells each lower part. A form is read from left to right: `both` and `then_by` one part behind another, `case` and
--- `when` a choice by what stands in front, `mark` a fixed token, `inside` a whole group, `listed` a list with commas and
+-- What spells each lower part. A form is read from left to right: `both` and `then_by` one part after another, `case` and
+-- `when` a choice by what is in front, `mark` a fixed token, `inside` a whole group, `listed` a list with commas and
 -- perhaps one at the end, `joined` one or more with a mark between, `maybe` a part that is there where its test says so.
 use Rattle.std.specs.Prelude.{◌≡◌, ℕ, Bool, true, false, not, ◌||◌, ◌&&◌, ◌==◌, if◌then◌else◌, List, [], ◌∷◌, ◌++◌, length, drop, take, codes, nat_le, Option, Some, None}
 use Rattle.std.specs.Str.{bytes_eq}
@@ -298,8 +298,8 @@ from_several (bs, true) = None
 
 -- ---- qualified paths (Rust Reference, "Qualified paths")
 
--- Between `<` and `>` a type, and `as` with a path; behind `>` the other segments. The path holds all segments, the
--- position says how many stand inside; without `as` it is 0, and the path's leading `::` is the one behind `>`.
+-- Between `<` and `>` a type, and `as` with a path; after `>` the other segments. The path holds all segments, the
+-- position says how many are inside; without `as` it is 0, and the path's leading `::` is the one after `>`.
 abbrev pub Qualified : Type 0
 Qualified = TypeTree × Option (Bool × List SegmentTree)
 
@@ -470,11 +470,11 @@ fn_head = both (maybe lifetimes_at lifetimes) (both (flag unsafe_word) (maybe ex
 abbrev pub mutability : Form Bool
 mutability = case mutable (pure true is_true) (mark constant (pure false not))
 
--- behind a path without arguments, `!` and a group make it a macro (Rust Reference, "Macro Invocation")
+-- after a path without arguments, `!` and a group make it a macro (Rust Reference, "Macro Invocation")
 unfoldable pub macro_end : QPathTree → Form MacroEnd
 macro_end p = maybe (λ l. is_bare p && not_ne.at l) (mark not_ne any_group)
 
--- `type several` is a type; behind its `impl` or `dyn` several bounds may stand, or one.
+-- `type several` is a type; after its `impl` or `dyn` several bounds may stand, or one.
 module _ (type : Bool → Form TypeTree) where
   -- `->` and a type, or nothing (Rust Reference, "Functions", "Function pointer types")
   unfoldable pub output : Bool → Form ReturnTree
@@ -504,7 +504,7 @@ module _ (type : Bool → Form TypeTree) where
   unfoldable pub parenthesized : Form ArgumentsTree
   parenthesized = shown to_round from_round (both (inside del.Parenthesis (listed comma is_empty (type true))) (output false))
 
-  -- what may stand behind a segment's name (Rust Reference, "Simple paths", "Paths in expressions", "Paths in types")
+  -- what may come after a segment's name (Rust Reference, "Simple paths", "Paths in expressions", "Paths in types")
   unfoldable pub arguments : PathStyle → Form ArgumentsTree
   arguments style.Mod = no_arguments
   arguments style.Expr = when turbofish_at angle_bracketed no_arguments
@@ -575,7 +575,7 @@ module _ (type : Bool → Form TypeTree) where
   unfoldable pub named : Form TypeTree
   named = shown to_named from_named (then_by (qpath style.Type) macro_end)
 
-  -- by what stands first: `&`, `*`, `!` (Rust Reference, "Never type"), `_` ("Inferred type"), a group, a function
+  -- by what comes first: `&`, `*`, `!` (Rust Reference, "Never type"), `_` ("Inferred type"), a group, a function
   -- pointer, `impl`, `dyn`, or a name
   unfoldable pub at_place : Bool → Form TypeTree
   at_place several =
@@ -594,7 +594,7 @@ module _ (type : Bool → Form TypeTree) where
 unfoldable pub type : Bool → Form TypeTree
 type = fix {A = λ several. TypeTree} at_place
 
--- l begins with the tokens of x, and what is behind them, the rest, doesn't go on with x
+-- l begins with the tokens of x, and what is after them, the rest, doesn't go on with x
 abbrev pub SpellsType : Bool → List Tok → TypeTree → List Tok → Type 0
 SpellsType several l x rest = (type several).behind x l ≡ Some rest
 

@@ -75,7 +75,7 @@ pub data PatBound : Type 0 where
   lit_bound : LitTree → PatBound
   path_bound : QSelfTree → PathTree → PatBound
 
--- A `Bool` behind a list says whether a separator ends it.
+-- A `Bool` after a list says whether a separator ends it.
 mutual
   pub data PatTree : Type 0 where
     wild : PatTree
@@ -83,7 +83,7 @@ mutual
     -- `..=` or `..`
     range : Option PatBound → Bool → Option PatBound → PatTree
     a_lit : LitTree → PatTree
-    -- `ref`, `mut`, the name, what stands behind `@`
+    -- `ref`, `mut`, the name, what comes after `@`
     a_binding : Bool → Bool → Text → SubPat → PatTree
     a_path : QSelfTree → PathTree → PatTree
     a_mac : MacroTree → PatTree
@@ -95,13 +95,13 @@ mutual
     a_slice : Pats → Bool → PatTree
     a_reference : Bool → PatTree → PatTree
     a_block : List Tok → PatTree
-    -- whether `|` stands first
+    -- whether `|` comes first
     alternatives : Bool → Pats → Bool → PatTree
-    -- before `if` and an expression, which stands beside the pattern (Rust Reference, "Match guards")
+    -- before `if` and an expression, which is beside the pattern (Rust Reference, "Match guards")
     guarded : PatTree → PatTree
     -- before `:` and a type
     typed : PatTree → TypeTree → PatTree
-    -- behind one attribute or more
+    -- after one attribute or more
     attributed : AttributeTree → List AttributeTree → PatTree → PatTree
 
   pub data SubPat : Type 0 where
@@ -321,7 +321,7 @@ to_field p = record { attrs = p.0; field = p.1 }
 abbrev pub from_field : FieldPatTree → Option (List AttributeTree × FieldTree)
 from_field f = Some (f.attrs, f.field)
 
--- ---- what stands behind a path
+-- ---- what comes after a path
 
 pub data PathEnd : Type 0 where
   no_more : PathEnd
@@ -398,7 +398,7 @@ from_or p = Some (false, p ∷ [])
 
 -- ---- the forms
 
--- A bare name is no binding where a path, a macro, a struct or a range goes on behind it.
+-- A bare name is no binding where a path, a macro, a struct or a range goes on after it.
 abbrev pub goes_on : Test
 goes_on l = colon2.at l || (not_ne.at l || (brace_at l || (round_at l || dots.at l)))
 
@@ -435,11 +435,11 @@ module _ (pattern : Bool → Form PatTree) where
   field = shown to_field from_field (both outer_attributes
       (when full_at (shown to_full from_full (both member (mark colon (pattern true)))) (shown to_short from_short (both (flag by_ref) (both (flag mutable) name)))))
 
-  -- fields, and `..` behind none or behind a comma
+  -- fields, and `..` after none or after a comma
   unfoldable pub struct_inside : Form ((List FieldPatTree × Bool) × Bool)
   struct_inside = then_by (listed comma fields_stop field) (λ p. when (λ l. is_nil p.0 || p.1) (flag dots) (pure false not))
 
-  -- a macro, a struct, a tuple struct or a range goes on behind a path (Rust Reference, "Macro Invocation", "Struct
+  -- a macro, a struct, a tuple struct or a range goes on after a path (Rust Reference, "Macro Invocation", "Struct
   -- patterns", "Tuple struct patterns", "Range patterns")
   unfoldable pub path_end : QPathTree → Form PathEnd
   path_end q =
@@ -476,7 +476,7 @@ module _ (pattern : Bool → Form PatTree) where
 unfoldable pub pattern : Bool → Form PatTree
 pattern = fix {A = λ several. PatTree} at_width
 
--- l begins with the tokens of the pattern p, and n, what is behind them, doesn't go on with it
+-- l begins with the tokens of the pattern p, and n, what is after them, doesn't go on with it
 abbrev pub SpellsPat : Bool → List Tok → PatTree → List Tok → Type 0
 SpellsPat several l p n = (pattern several).behind p l ≡ Some n
 

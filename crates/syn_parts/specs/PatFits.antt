@@ -1,5 +1,5 @@
 -- Where a pattern is read back from its own tokens: `x_fits x` is what a pattern must be for it, and `x_stops x r` says that
--- the tokens r behind it don't go on with it.
+-- the tokens r after it don't go on with it.
 use Rattle.std.specs.Prelude.{ℕ, Bool, true, false, not, ◌&&◌, ◌||◌, ◌==◌, List, [], ◌∷◌, Option, Some, None}
 use Rattle.syn_parts.specs.PatOwn.{index_text}
 use Rattle.syn_lexer.specs.Keywords.{is_reserved_word}
@@ -13,7 +13,7 @@ use Rattle.syn_parts.specs.Fits.{type_fits, type_stops, lit_fits, path_fits, pat
 use Rattle.syn_parts.specs.Pat.{MemberTree, a_name, an_index, index_of, PatBound, lit_bound, path_bound, PatTree, SubPat, Pats, Fields, FieldTree, wild, rest, range, a_lit, a_binding, a_path, a_mac, a_struct, tuple_struct, a_tuple, a_paren, a_slice, a_reference, a_block, alternatives, guarded, typed, attributed, no_sub, sub, no_pats, more_pats, no_fields, more_fields, short, full, is_rest, bound_at, dots, at_sign, vert, goes_on}
 use Rattle.syn_parts.specs.PatOwn.{no_more_pats, no_more_fields}
 
--- ---- what is behind a pattern
+-- ---- what is after a pattern
 
 abbrev pub range_bound_stops : Option PatBound → Test
 range_bound_stops None r = not (bound_at r)
@@ -86,7 +86,7 @@ abbrev pub is_one_name : QSelfTree → PathTree → Bool
 is_one_name t.no_qself p = is_name_alone p.leading p.segments
 is_one_name (t.qself x n a) p = false
 
--- behind `&` a `mut` would belong to it
+-- after `&` a `mut` would belong to it
 abbrev pub begins_mut : PatTree → Bool
 begins_mut (a_binding false true w s) = true
 begins_mut _ = false

@@ -8,7 +8,7 @@ use Rattle.syn_parts.specs.PatFits.{closure_arg_fits, closure_arg_stops, member_
 use Rattle.syn_parts.specs.Fits.{closed}
 use Rattle.syn_parts.specs.Laws.{IsExact, FitsWhereReadBack, IsTestOf}
 
--- Each is read exactly where its tokens stand; a pattern with alternatives where `several` holds, else a single one.
+-- Each is read exactly where its tokens are; a pattern with alternatives where `several` holds, else a single one.
 pub record PatternsAreExact : Type 0 where
   pub members : IsExact member
   pub bounds_of_ranges : IsExact range_bound
@@ -23,7 +23,7 @@ PatternsAreSpelledByKind = (several : Bool) (l : List Tok) (p : PatTree) (n : Li
 abbrev pub OnePattern : Type 0
 OnePattern = (several : Bool) (l : List Tok) (x y : PatTree) (m n : List Tok) → SpellsPat several l x m → SpellsPat several l y n → (x ≡ y) × (m ≡ n)
 
--- What passes the test and is printed is read back as the same part, whatever stands behind that doesn't go on with it.
+-- What passes the test and is printed is read back as the same part, whatever comes after that doesn't go on with it.
 pub record PatternsAreReadBack : Type 0 where
   pub members : (k : MemberTree) (rest : List Tok) → member_fits k ≡ true → member.behind k (member_own k rest) ≡ Some rest
   pub bounds_of_ranges : (b : PatBound) (rest : List Tok) → range_bound_fits b ≡ true → range_bound_stops (Some b) rest ≡ true → range_bound.behind b (range_bound_own b rest) ≡ Some rest
@@ -37,7 +37,7 @@ pub record PatternsThatAreReadBackFit : Type 0 where
   pub patterns : (several : Bool) → FitsWhereReadBack (pattern several) pat_own (pat_fits several) (pat_stops several)
   pub closure_args : FitsWhereReadBack closure_arg pat_own closure_arg_fits closure_arg_stops
 
--- Each is read back in its place, from its own tokens with nothing behind them, exactly where it passes its test.
+-- Each is read back in its place, from its own tokens with nothing after them, exactly where it passes its test.
 pub record PatternTestsAreExact : Type 0 where
   pub members : IsTestOf member member_own member_fits
   pub bounds_of_ranges : IsTestOf range_bound range_bound_own range_bound_fits

@@ -1,4 +1,4 @@
--- Lists from outside, and what stands at their front: the rows of the grammar that are easily got wrong
+-- Lists from outside, and what is at their front: the rows of the grammar that are easily got wrong
 -- (Rust Reference, "Types", "Paths", "Patterns").
 use Rattle.std.specs.Prelude.{◌≡◌, ℕ, Bool, true, false, List, [], ◌∷◌, codes, Option, Some, None}
 use Rattle.syn_lexer.specs.declared.lexeme.Delimiter.TheVariants as del
@@ -12,7 +12,7 @@ use Rattle.syn_parts.specs.Part.{type, generic}
 use Rattle.syn_parts.specs.Pat as p
 use Rattle.syn_parts.specs.Pat.{PatTree, index_of, pattern, closure_arg}
 
--- how much is left behind what is read, or that nothing is
+-- how much is left after what is read, or that nothing is
 abbrev pub behind : {A : Type 0} → Outcome A → Option (List Tok)
 behind None = None
 behind (Some p) = Some p.1
@@ -61,7 +61,7 @@ pub record TypeSamples : Type 0 where
   pub one_bound : Leaves false (ident (codes "dyn") ∷ A ∷ alone 43 ∷ B ∷ []) (alone 43 ∷ B ∷ [])
   -- a last `+`
   pub last_plus : Refuses true (ident (codes "dyn") ∷ A ∷ alone 43 ∷ [])
-  -- `& dyn A + B`: one bound behind `&`
+  -- `& dyn A + B`: one bound after `&`
   pub behind_and : Leaves true (alone 38 ∷ ident (codes "dyn") ∷ A ∷ alone 43 ∷ B ∷ []) (alone 43 ∷ B ∷ [])
   -- `fn(a: u8) -> T`
   pub function : Leaves false (ident (codes "fn") ∷ group del.Parenthesis (inside (ident (codes "a") ∷ alone 58 ∷ u8 ∷ [])) ∷ joint 45 ∷ gt ∷ T ∷ []) []

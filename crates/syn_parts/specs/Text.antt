@@ -32,14 +32,14 @@ is_digit c = is_ascii_digit c || c == 95
 abbrev pub byte_at : Text → ℕ → ℕ
 byte_at text i = slice_index_or text i 0
 
--- behind `0`: `x`, `o` or `b`
+-- after `0`: `x`, `o` or `b`
 abbrev pub has_radix : Text → Bool
 has_radix text = byte_at text 0 == 48 && (byte_at text 1 == 120 || (byte_at text 1 == 111 || byte_at text 1 == 98))
 
 abbrev pub begins_fraction : ℕ → Bool
 begins_fraction c = c == 46 || (c == 101 || c == 69)
 
--- Behind decimal digits stands a dot or an exponent (Rust Reference, "Floating-point literals").
+-- After decimal digits stands a dot or an exponent (Rust Reference, "Floating-point literals").
 unfoldable pub is_float_text : Text → Bool
 is_float_text text = not (has_radix text) && begins_fraction (byte_at text (prefix_len is_digit text))
 

@@ -19,15 +19,15 @@ pub record AttributeTree : Type 0 where
 abbrev pub LifetimesTree : Type 0
 LifetimesTree = List Text × Bool
 
--- Types, and the paths in them (Rust Reference, "Types", "Paths"). A list has a type of its own; a `Bool` behind a list
+-- Types, and the paths in them (Rust Reference, "Types", "Paths"). A list has a type of its own; a `Bool` after a list
 -- says whether a separator ends it.
 mutual
   pub data TypeTree : Type 0 where
-    -- the qualified self, whether `::` stands first, the segments, and whether a `::` ends them
+    -- the qualified self, whether `::` comes first, the segments, and whether a `::` ends them
     path : QSelfTree → Bool → Segments → Bool → TypeTree
     -- the path, and a group of tokens
     mac : Bool → Segments → Bool → Delimiter → List Tok → TypeTree
-    -- the lifetime, and whether `mut` stands there
+    -- the lifetime, and whether `mut` is there
     reference : Option Text → Bool → TypeTree → TypeTree
     -- `mut` or `const`
     ptr : Bool → TypeTree → TypeTree
@@ -46,7 +46,7 @@ mutual
     no_types : Types
     more_types : TypeTree → Types → Types
 
-  -- the type, how many segments of the path stand inside, and whether `as` stands there
+  -- the type, how many segments of the path are inside, and whether `as` is there
   pub data QSelfTree : Type 0 where
     no_qself : QSelfTree
     qself : TypeTree → ℕ → Bool → QSelfTree
@@ -57,7 +57,7 @@ mutual
 
   pub data ArgumentsTree : Type 0 where
     no_arguments : ArgumentsTree
-    -- whether `::` stands before `<`
+    -- whether `::` comes before `<`
     angle : Bool → Generics → Bool → ArgumentsTree
     round : Types → Bool → ReturnTree → ArgumentsTree
 

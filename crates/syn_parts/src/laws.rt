@@ -5,7 +5,7 @@ ghost use Rattle.syn_parts.specs.Ends as ends;
 ghost use Rattle.syn_parts.specs.PatLaws as pat;
 ghost use Rattle.syn_parts.specs.Samples as sample;
 
-/// Each part is read exactly where its tokens stand, and what is left is what stands behind it.
+/// Each part is read exactly where its tokens are, and what is left is what comes after it.
 pub fn parts_are_exact()
     ensures { spec.PartsAreExact }
 {}
@@ -15,13 +15,13 @@ pub fn parts_are_read_back()
     ensures { spec.PartsAreReadBack }
 {}
 
-/// Nothing but what passes the test of a part is read back: where the own tokens of a part, and any behind them, are
-/// read as that part, it passes its test, and the tokens behind don't go on with it and are what is left.
+/// Nothing but what passes the test of a part is read back: where the own tokens of a part, and any after them, are
+/// read as that part, it passes its test, and the tokens after don't go on with it and are what is left.
 pub fn parts_that_are_read_back_fit()
     ensures { spec.PartsThatAreReadBackFit }
 {}
 
-/// A part is read back in its place, from its own tokens with nothing behind them, exactly where it passes its test.
+/// A part is read back in its place, from its own tokens with nothing after them, exactly where it passes its test.
 pub fn tests_are_exact()
     ensures { spec.TestsAreExact }
 {}
@@ -36,7 +36,7 @@ pub fn one_type()
     ensures { spec.OneType }
 {}
 
-/// Patterns without guards, and the arguments of closures, are read exactly where their tokens stand.
+/// Patterns without guards, and the arguments of closures, are read exactly where their tokens are.
 pub fn patterns_are_exact()
     ensures { pat.PatternsAreExact }
 {}
@@ -57,13 +57,13 @@ pub fn patterns_are_read_back()
     ensures { pat.PatternsAreReadBack }
 {}
 
-/// Nothing but what passes its test is read back: where the own tokens of a pattern, and any behind them, are read as
-/// that pattern, it passes its test, and the tokens behind don't go on with it and are what is left.
+/// Nothing but what passes its test is read back: where the own tokens of a pattern, and any after them, are read as
+/// that pattern, it passes its test, and the tokens after don't go on with it and are what is left.
 pub fn patterns_that_are_read_back_fit()
     ensures { pat.PatternsThatAreReadBackFit }
 {}
 
-/// A pattern is read back in its place, from its own tokens with nothing behind them, exactly where it passes its test.
+/// A pattern is read back in its place, from its own tokens with nothing after them, exactly where it passes its test.
 pub fn pattern_tests_are_exact()
     ensures { pat.PatternTestsAreExact }
 {}
@@ -109,7 +109,7 @@ pub fn pattern_kinds()
     ensures { sample.PatternKinds }
 {}
 
-/// What is left behind a pattern, and lists that begin with none.
+/// What is left after a pattern, and lists that begin with none.
 pub fn pattern_rests()
     ensures { sample.PatternRests }
 {}

@@ -1,4 +1,4 @@
--- Each kind of pattern as a tree without places, by the views of the patterns in it: the tree, and the guards that stand
+-- Each kind of pattern as a tree without places, by the views of the patterns in it: the tree, and the guards that are
 -- beside it.
 use Rattle.std.specs.Prelude.{Bool, true, false, List, [], ◌∷◌, ◌++◌, map, flat_map, Option, Some, None, is_some}
 use Rattle.std.specs.declared.vec.Vec.{Vec}
@@ -51,7 +51,7 @@ abbrev pub attributed_by : List AttributeTree → PatTree → PatTree
 attributed_by [] p = p
 attributed_by (a ∷ more) p = t.attributed a more p
 
--- a pattern behind its attributes, and the guards in it
+-- a pattern after its attributes, and the guards in it
 abbrev pub view_with : Vec Attribute Global → PatTree → List Tree → PatView
 view_with attrs p guards = record { tree = attributed_by (attributes_of attrs) p; guards = guards }
 
@@ -64,7 +64,7 @@ pats_in f ps = t.pats_of (map (λ p. (f p).tree) ps)
 abbrev pub guards_in : {P : Type 0} → (P → PatView) → List P → List Tree
 guards_in f ps = flat_map (λ p. (f p).guards) ps
 
--- the pattern behind `@`
+-- the pattern after `@`
 abbrev pub sub_of : {P A : Type 0} → (P → PatView) → Option (A × Box P Global) → SubPat
 sub_of f None = t.no_sub
 sub_of f (Some s) = t.sub (f s.1.value).tree
@@ -149,6 +149,6 @@ pat_or_of f x = view_with x.attrs (t.alternatives (is_some x.leading_vert) (pats
 abbrev pub pat_type_of : {P : Type 0} → (P → PatView) → PatTypeOf P → PatView
 pat_type_of f x = view_with x.attrs (t.typed (f x.pat.value).tree (type_of x.ty.value)) (f x.pat.value).guards
 
--- a pattern behind its attributes, and its guard
+-- a pattern after its attributes, and its guard
 abbrev pub pat_guard_of : Vec Attribute Global → PatView → Tree → PatView
 pat_guard_of attrs p guard = view_with attrs (t.guarded p.tree) (p.guards ++ guard ∷ [])

@@ -19,7 +19,7 @@ use syn_tokens::token::{
 use syn_tokens::tree::Ident;
 
 /// `_` (Rust Reference, "Wildcard pattern").
-#[derive(Drop, PartialEq)]
+#[derive(Debug, Drop, PartialEq)]
 pub struct PatWild {
     /// The attributes before it.
     pub attrs: Vec<Attribute>,
@@ -28,7 +28,7 @@ pub struct PatWild {
 }
 
 /// `..` (Rust Reference, "Rest patterns").
-#[derive(Drop, PartialEq)]
+#[derive(Debug, Drop, PartialEq)]
 pub struct PatRest {
     /// The attributes before it.
     pub attrs: Vec<Attribute>,
@@ -37,7 +37,7 @@ pub struct PatRest {
 }
 
 /// `1..2`, `'a'..='z'`, `..=i32::MAX` (Rust Reference, "Range patterns").
-#[derive(Drop, PartialEq)]
+#[derive(Debug, Drop, PartialEq)]
 pub struct PatRange {
     /// The attributes before it.
     pub attrs: Vec<Attribute>,
@@ -45,12 +45,12 @@ pub struct PatRange {
     pub start: Option<RangeBound>,
     /// `..` or `..=`; `...` is read as `..=`.
     pub limits: RangeLimits,
-    /// The bound behind it.
+    /// The bound after it.
     pub end: Option<RangeBound>,
 }
 
 /// A bound of a range.
-#[derive(Drop, PartialEq)]
+#[derive(Debug, Drop, PartialEq)]
 pub enum RangeBound {
     /// `1`, `-1`, `'a'`
     Lit(Lit),
@@ -64,7 +64,7 @@ pub enum RangeBound {
 }
 
 /// `1`, `"a"` (Rust Reference, "Literal patterns").
-#[derive(Drop, PartialEq)]
+#[derive(Debug, Drop, PartialEq)]
 pub struct PatLit {
     /// The attributes before it.
     pub attrs: Vec<Attribute>,
@@ -73,7 +73,7 @@ pub struct PatLit {
 }
 
 /// `ref mut x @ 1..2` (Rust Reference, "Identifier patterns").
-#[derive(Drop, PartialEq)]
+#[derive(Debug, Drop, PartialEq)]
 pub struct PatIdentOf<P> {
     /// The attributes before it.
     pub attrs: Vec<Attribute>,
@@ -88,7 +88,7 @@ pub struct PatIdentOf<P> {
 }
 
 /// `a::B`, `<T as A>::B` (Rust Reference, "Path patterns"). A name alone is read as `PatIdentOf`.
-#[derive(Drop, PartialEq)]
+#[derive(Debug, Drop, PartialEq)]
 pub struct PatPath {
     /// The attributes before it.
     pub attrs: Vec<Attribute>,
@@ -99,7 +99,7 @@ pub struct PatPath {
 }
 
 /// `m!(..)`, the call of a macro as a pattern (Rust Reference, "Macro Invocation").
-#[derive(Drop, PartialEq)]
+#[derive(Debug, Drop, PartialEq)]
 pub struct PatMacro {
     /// The attributes before it.
     pub attrs: Vec<Attribute>,
@@ -108,7 +108,7 @@ pub struct PatMacro {
 }
 
 /// `A { x, 0: y, .. }` (Rust Reference, "Struct patterns").
-#[derive(Drop, PartialEq)]
+#[derive(Debug, Drop, PartialEq)]
 pub struct PatStructOf<P> {
     /// The attributes before it.
     pub attrs: Vec<Attribute>,
@@ -118,21 +118,21 @@ pub struct PatStructOf<P> {
     pub brace_token: Brace,
     /// The fields in them.
     pub fields: Punctuated<FieldPatOf<P>, Comma>,
-    /// `..` behind the fields.
+    /// `..` after the fields.
     pub rest: Option<DotDot>,
 }
 
 /// A field of a struct pattern.
-#[derive(Drop, PartialEq)]
+#[derive(Debug, Drop, PartialEq)]
 pub struct FieldPatOf<P> {
     /// The attributes before it.
     pub attrs: Vec<Attribute>,
-    /// What stands behind them.
+    /// What comes after them.
     pub kind: FieldPatKindOf<P>,
 }
 
 /// What a field of a struct pattern is.
-#[derive(Drop, PartialEq)]
+#[derive(Debug, Drop, PartialEq)]
 pub enum FieldPatKindOf<P> {
     /// `x`, `ref mut x`
     Short(ShortFieldPat),
@@ -141,7 +141,7 @@ pub enum FieldPatKindOf<P> {
 }
 
 /// A field that is bound to its own name: `x`, `ref mut x`.
-#[derive(Drop, PartialEq)]
+#[derive(Debug, Drop, PartialEq)]
 pub struct ShortFieldPat {
     /// `ref`
     pub by_ref: Option<Ref>,
@@ -152,7 +152,7 @@ pub struct ShortFieldPat {
 }
 
 /// A field with a pattern of its own: `x: P`, `0: P`.
-#[derive(Drop, PartialEq)]
+#[derive(Debug, Drop, PartialEq)]
 pub struct FullFieldPatOf<P> {
     /// The name or the index of the field.
     pub member: Member,
@@ -163,7 +163,7 @@ pub struct FullFieldPatOf<P> {
 }
 
 /// `A(x, ..)` (Rust Reference, "Tuple struct patterns").
-#[derive(Drop, PartialEq)]
+#[derive(Debug, Drop, PartialEq)]
 pub struct PatTupleStructOf<P> {
     /// The attributes before it.
     pub attrs: Vec<Attribute>,
@@ -176,7 +176,7 @@ pub struct PatTupleStructOf<P> {
 }
 
 /// `(x, y)` (Rust Reference, "Tuple patterns"). `(..)` is one too.
-#[derive(Drop, PartialEq)]
+#[derive(Debug, Drop, PartialEq)]
 pub struct PatTupleOf<P> {
     /// The attributes before it.
     pub attrs: Vec<Attribute>,
@@ -187,7 +187,7 @@ pub struct PatTupleOf<P> {
 }
 
 /// `(x)` (Rust Reference, "Grouped patterns").
-#[derive(Drop, PartialEq)]
+#[derive(Debug, Drop, PartialEq)]
 pub struct PatParenOf<P> {
     /// The attributes before it.
     pub attrs: Vec<Attribute>,
@@ -198,7 +198,7 @@ pub struct PatParenOf<P> {
 }
 
 /// `[x, .., y]` (Rust Reference, "Slice patterns").
-#[derive(Drop, PartialEq)]
+#[derive(Debug, Drop, PartialEq)]
 pub struct PatSliceOf<P> {
     /// The attributes before it.
     pub attrs: Vec<Attribute>,
@@ -209,7 +209,7 @@ pub struct PatSliceOf<P> {
 }
 
 /// `&mut x` (Rust Reference, "Reference patterns").
-#[derive(Drop, PartialEq)]
+#[derive(Debug, Drop, PartialEq)]
 pub struct PatReferenceOf<P> {
     /// The attributes before it.
     pub attrs: Vec<Attribute>,
@@ -222,7 +222,7 @@ pub struct PatReferenceOf<P> {
 }
 
 /// `const { .. }`, a block whose value is matched. What is in it is kept as tokens.
-#[derive(Drop, PartialEq)]
+#[derive(Debug, Drop, PartialEq)]
 pub struct PatConst {
     /// The attributes before it.
     pub attrs: Vec<Attribute>,
@@ -233,7 +233,7 @@ pub struct PatConst {
 }
 
 /// `| A | B` (Rust Reference, "Or-patterns").
-#[derive(Drop, PartialEq)]
+#[derive(Debug, Drop, PartialEq)]
 pub struct PatOrOf<P> {
     /// The attributes before it.
     pub attrs: Vec<Attribute>,
@@ -244,7 +244,7 @@ pub struct PatOrOf<P> {
 }
 
 /// `x: T`, an argument of a closure with its type (Rust Reference, "Closure expressions").
-#[derive(Drop, PartialEq)]
+#[derive(Debug, Drop, PartialEq)]
 pub struct PatTypeOf<P> {
     /// The attributes before it.
     pub attrs: Vec<Attribute>,

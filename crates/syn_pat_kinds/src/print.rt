@@ -39,7 +39,7 @@ pub trait PrintPat {
         ensures memory { IfErr result (λ e. e.kind ≡ OutOfMemory) };
 }
 
-/// Prints patterns with the puncts behind them.
+/// Prints patterns with the puncts after them.
 #[tactic(auto, using(syn_tokens::proofs::Fronts::fronts))]
 fn print_pairs<P: PrintPat, S: ToTokens>(
     mut pairs: &[(P, S)],
@@ -74,7 +74,7 @@ fn print_pats<P: PrintPat, S: ToTokens>(
     }
 }
 
-/// Prints attributes, one behind another. It is refused as `OutOfMemory` alone, and the tokens that were there then stay in
+/// Prints attributes, one after another. It is refused as `OutOfMemory` alone, and the tokens that were there then stay in
 /// front.
 pub fn print_attributes(attrs: &Vec<Attribute>, tokens: &mut TokenStream) -> Result<()>
     ensures ok { OnOk result (tokens.new ≡ tokens.old ++ attributes_printed attrs.now) }
@@ -84,7 +84,7 @@ pub fn print_attributes(attrs: &Vec<Attribute>, tokens: &mut TokenStream) -> Res
     print_all(attrs, tokens)
 }
 
-/// Prints parts, one behind another.
+/// Prints parts, one after another.
 #[tactic(auto, using(syn_tokens::proofs::Fronts::fronts))]
 fn print_all<T: ToTokens>(mut parts: &[T], tokens: &mut TokenStream) -> Result<()>
     ensures ok { OnOk result (tokens.new ≡ tokens.old ++ all_printed T.printed parts.entry.now) }

@@ -28,7 +28,7 @@ behind : {B : Type 0} (a b : List B) → a ++ b ≡ [] → b ≡ []
 behind [] b h = h
 behind (x ∷ xs) b h = absurd cc
 
--- an element without guards behind others without
+-- an element without guards after others without
 pub no_guards : {A B : Type 0} (f : A → List B) (xs : List A) (x : A) → flat_map f xs ≡ [] → f x ≡ [] → flat_map f (xs ++ x ∷ []) ≡ []
 no_guards f [] x h e = rw e refl
 no_guards f (y ∷ ys) x h e = both (f y) (flat_map f ys) (flat_map f (ys ++ x ∷ [])) h (no_guards f ys x (behind (f y) (flat_map f ys) h) e)

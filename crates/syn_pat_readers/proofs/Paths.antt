@@ -1,4 +1,4 @@
--- What stands behind a path: the rest of a macro, or what makes none.
+-- What comes after a path: the rest of a macro, or what makes none.
 use Rattle.std.proofs.Common.{◌≡◌, Bool, true, false, ◌&&◌, cond, List, Some, None, refl}
 use Rattle.syn_lexer.specs.declared.lexeme.Delimiter.{Delimiter}
 use Rattle.syn_tokens.specs.Tok.{Tok}

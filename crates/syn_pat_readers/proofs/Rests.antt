@@ -8,7 +8,7 @@ use Rattle.syn_lower_lists.specs.Punct.{takes_value}
 use Rattle.syn_lower_lists.specs.View.{values, trails, last_of, is_some_pair}
 use Rattle.syn_lower_lists.specs.declared.punctuated.Punctuated.{Punctuated}
 
--- behind none, or behind a comma
+-- after none, or after a comma
 pub takes_rest : {A B P : Type 0} (f : A → B) (p : Punctuated A P) → takes_value p ≡ (is_nil (map f (values p)) || trails p)
 unfolding takes_value values trails
 takes_rest {A} {B} {P} f p = by p.inner.items p.last

@@ -25,11 +25,11 @@ pub record ReadsPat {P : Type 0} (see : P → PatView) (post : MutBor Input → 
   pub noted : (old new : MutBor Input) (b : Bool) (r : Result P Error) → post old b r new → new.now.noted ≡ old.now.noted
   pub shrinks : (old new : MutBor Input) (b : Bool) (r : Result P Error) → post old b r new → weight new.now.rest ≤ weight old.now.rest
 
--- the pattern that a path makes with what stands behind it
+-- the pattern that a path makes with what comes after it
 abbrev pub by_path : QPathTree → Outcome PathEnd → Outcome PatTree
 by_path q o = and_then o (λ e n. Some (to_path (q, e), n))
 
--- what stands behind a path where no macro's `!` does
+-- what comes after a path where no macro's `!` does
 abbrev pub unmarked_end : QPathTree → Form PathEnd
 unmarked_end q =
     when (λ l. unqualified q && brace_at l) (shown p.to_struct_end p.from_struct_end (inside del.Brace (struct_inside pattern)))

@@ -1,4 +1,4 @@
-//! Which pattern stands first, alternatives, and the arguments of closures (Rust Reference, "Patterns", "Or-patterns",
+//! Which pattern comes first, alternatives, and the arguments of closures (Rust Reference, "Patterns", "Or-patterns",
 //! "Closure expressions").
 
 ghost use Rattle.std.specs.Prelude.{◌≡◌, ◌≤◌, ◌+◌, [], is_some, map, false, IfOk};
@@ -80,7 +80,7 @@ impl<P: ReadPat + Drop, F: Fn(&mut ParseBuffer<'_>, bool) -> Result<P>> Grammar<
         Err(input.error(ErrorKind::ExpectedPart(Part::Pattern)))
     }
 
-    /// Reads a single pattern, as what stands first says.
+    /// Reads a single pattern, as what comes first says.
     #[tactic(auto, unfolding(syn_parts::specs::Pat::single))]
     pub fn single(&self, input: &mut ParseBuffer<'_>) -> Result<P>
         requires callable { Callable (weight input.old.rest) (F.pre self.now.pat) }

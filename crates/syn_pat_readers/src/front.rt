@@ -1,4 +1,4 @@
-//! What stands first, as the readers of patterns ask, and the tokens that only patterns have.
+//! What comes first, as the readers of patterns ask, and the tokens that only patterns have.
 
 ghost use Rattle.std.specs.Prelude.{◌≡◌, ◌<◌, ◌≤◌, ◌&&◌, not, true, false, drop, is_some, IfSome, Some};
 ghost use Rattle.syn_lower_leaves.specs.Reads.{Takes};
@@ -80,7 +80,7 @@ pub fn by_ref(input: &mut ParseBuffer<'_>) -> Option<Ref>
     Some(Word { span })
 }
 
-/// Whether `..` stands first.
+/// Whether `..` comes first.
 #[tactic(auto, unfolding(syn_tokens::specs::Sign::sign_text, syn_parts::specs::Mark::sign_at))]
 pub fn dots_at(input: &ParseBuffer<'_>) -> bool
     ensures { result ≡ pat.dots.at input.now.rest }
@@ -88,7 +88,7 @@ pub fn dots_at(input: &ParseBuffer<'_>) -> bool
     input.peek::<DotDot>()
 }
 
-/// Whether `:` stands first, whatever is joined to it.
+/// Whether `:` comes first, whatever is joined to it.
 #[tactic(auto, unfolding(syn_tokens::specs::Sign::sign_text, syn_parts::specs::Mark::sign_at))]
 pub fn colon_at(input: &ParseBuffer<'_>) -> bool
     ensures { result ≡ mark.colon.at input.now.rest }
@@ -96,7 +96,7 @@ pub fn colon_at(input: &ParseBuffer<'_>) -> bool
     input.peek::<Colon>()
 }
 
-/// Whether a literal or a `-` stands first.
+/// Whether a literal or a `-` comes first.
 pub fn lit_first(input: &ParseBuffer<'_>) -> bool
     ensures { result ≡ pat.lit_first input.now.rest }
 {
@@ -109,7 +109,7 @@ pub fn lit_first(input: &ParseBuffer<'_>) -> bool
     }
 }
 
-/// Whether a number stands first.
+/// Whether a number comes first.
 fn begins_number(rest: &[TokenTree]) -> bool
     ensures { result ≡ pat.begins_number (toks_of rest.now) }
 {
@@ -119,7 +119,7 @@ fn begins_number(rest: &[TokenTree]) -> bool
     }
 }
 
-/// Whether a literal stands first, a number perhaps behind a `-`.
+/// Whether a literal comes first, a number perhaps after a `-`.
 fn begins_lit(input: &ParseBuffer<'_>) -> bool
     ensures { result ≡ pat.begins_lit input.now.rest }
 {
@@ -139,7 +139,7 @@ pub fn bound_at(input: &ParseBuffer<'_>) -> bool
     begins_lit(input) || path_at(input)
 }
 
-/// Whether a path, a macro, a struct or a range goes on behind a name.
+/// Whether a path, a macro, a struct or a range goes on after a name.
 #[tactic(auto, unfolding(syn_tokens::specs::Sign::sign_text, syn_parts::specs::Mark::sign_at, syn_parts::specs::Mark::brace_at, syn_parts::specs::Mark::round_at))]
 fn goes_on(rest: &[TokenTree]) -> bool
     ensures { result ≡ pat.goes_on (toks_of rest.now) }
@@ -151,7 +151,7 @@ fn goes_on(rest: &[TokenTree]) -> bool
         || DotDot::peek(rest)
 }
 
-/// Whether a name stands first that nothing goes on behind.
+/// Whether a name comes first that nothing goes on after.
 fn lone_name_at(input: &ParseBuffer<'_>) -> bool
     ensures { result ≡ (part.is_name_there input.now.rest && not (pat.goes_on (drop 1 input.now.rest))) }
 {
@@ -161,7 +161,7 @@ fn lone_name_at(input: &ParseBuffer<'_>) -> bool
     }
 }
 
-/// Whether a binding stands first: `ref`, `mut`, or a name that nothing goes on behind.
+/// Whether a binding comes first: `ref`, `mut`, or a name that nothing goes on after.
 #[tactic(auto, unfolding(syn_tokens::specs::Sign::word_text, syn_parts::specs::Mark::word_at, syn_parts::specs::Pat::binding_at))]
 pub fn binding_at(input: &ParseBuffer<'_>) -> bool
     ensures { result ≡ pat.binding_at input.now.rest }
@@ -169,7 +169,7 @@ pub fn binding_at(input: &ParseBuffer<'_>) -> bool
     input.peek::<Ref>() || input.peek::<Mut>() || lone_name_at(input)
 }
 
-/// Whether a member and `:` stand first.
+/// Whether a member and `:` come first.
 #[tactic(auto, unfolding(syn_tokens::specs::Sign::sign_text, syn_parts::specs::Mark::sign_at, syn_parts::specs::Pat::full_at))]
 pub fn full_at(input: &ParseBuffer<'_>) -> bool
     ensures { result ≡ pat.full_at input.now.rest }

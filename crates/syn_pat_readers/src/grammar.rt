@@ -59,7 +59,7 @@ pub fn wild<P: IsPat>(alloc: Global, underscore_token: Underscore) -> P
     })
 }
 
-/// Reads a block behind `const`.
+/// Reads a block after `const`.
 pub fn const_pat<P: IsPat>(input: &mut ParseBuffer<'_>, const_token: Const) -> Result<P>
     ensures value { Reads (λ x. (P.view x).tree) ((form.shown pat.a_block pat.from_block part.block).reads input.old.rest) result input.new.rest }
     ensures unguarded { IfOk result (λ x. (P.view x).guards ≡ []) }
@@ -131,7 +131,7 @@ impl<P: ReadPat + Drop, F: Fn(&mut ParseBuffer<'_>, bool) -> Result<P>> Grammar<
         Ok(boxed(input.alloc(), pat)?)
     }
 
-    /// Reads a reference behind its `&`.
+    /// Reads a reference after its `&`.
     #[tactic(auto, unfolding(syn_parts::specs::Pat::reference_pat))]
     pub fn reference(&self, input: &mut ParseBuffer<'_>, and_token: And) -> Result<P>
         requires callable { Callable (weight input.old.rest + 1) (F.pre self.now.pat) }
@@ -237,7 +237,7 @@ impl<P: ReadPat + Drop, F: Fn(&mut ParseBuffer<'_>, bool) -> Result<P>> Grammar<
             elems,
         }))
     }
-    /// Reads a field of a struct behind its attributes.
+    /// Reads a field of a struct after its attributes.
     #[tactic(auto)]
     fn field_kind(&self, input: &mut ParseBuffer<'_>) -> Result<FieldPatKindOf<P>>
         requires callable { Callable (weight input.old.rest + 1) (F.pre self.now.pat) }

@@ -31,10 +31,10 @@ use syn_tokens::buffer::{ParseBuffer, Token};
 use syn_tokens::error::{ErrorKind, Result};
 use syn_tokens::token::{Brace, Comma, DotDot, Paren};
 
-/// The fields of a struct, and `..` behind them.
+/// The fields of a struct, and `..` after them.
 type Inside<P> = (Punctuated<FieldPatOf<P>, Comma>, Option<DotDot>);
 
-/// Reads a range behind the path that it begins with, or nothing more.
+/// Reads a range after the path that it begins with, or nothing more.
 fn path_or_range<P: IsPat>(
     input: &mut ParseBuffer<'_>,
     qself: Option<QSelf>,
@@ -98,7 +98,7 @@ impl<P: ReadPat + Drop, F: Fn(&mut ParseBuffer<'_>, bool) -> Result<P>> Grammar<
         Ok((fields, None))
     }
 
-    /// Reads the braces of a struct behind its path.
+    /// Reads the braces of a struct after its path.
     #[tactic(auto)]
     fn struct_pat(&self, input: &mut ParseBuffer<'_>, path: Path) -> Result<P>
         requires callable { Callable (weight input.old.rest) (F.pre self.now.pat) }
@@ -123,7 +123,7 @@ impl<P: ReadPat + Drop, F: Fn(&mut ParseBuffer<'_>, bool) -> Result<P>> Grammar<
         }))
     }
 
-    /// Reads the parentheses of a tuple struct behind its path.
+    /// Reads the parentheses of a tuple struct after its path.
     #[tactic(auto)]
     fn tuple_struct(&self, input: &mut ParseBuffer<'_>, path: Path) -> Result<P>
         requires callable { Callable (weight input.old.rest) (F.pre self.now.pat) }
@@ -147,7 +147,7 @@ impl<P: ReadPat + Drop, F: Fn(&mut ParseBuffer<'_>, bool) -> Result<P>> Grammar<
         }))
     }
 
-    /// Reads what stands behind a path that no type qualifies: a struct, a tuple struct, the rest of a range, or nothing.
+    /// Reads what comes after a path that no type qualifies: a struct, a tuple struct, the rest of a range, or nothing.
     #[tactic(auto, unfolding(syn_parts::specs::Mark::brace_at, syn_parts::specs::Mark::round_at))]
     fn behind_plain(&self, input: &mut ParseBuffer<'_>, path: Path) -> Result<P>
         requires callable { Callable (weight input.old.rest) (F.pre self.now.pat) }
@@ -166,7 +166,7 @@ impl<P: ReadPat + Drop, F: Fn(&mut ParseBuffer<'_>, bool) -> Result<P>> Grammar<
         path_or_range(input, None, path)
     }
 
-    /// Reads what stands behind a path where no macro's `!` does. A qualified path begins no struct.
+    /// Reads what comes after a path where no macro's `!` does. A qualified path begins no struct.
     #[tactic(auto)]
     fn behind_unmarked(
         &self,
@@ -187,7 +187,7 @@ impl<P: ReadPat + Drop, F: Fn(&mut ParseBuffer<'_>, bool) -> Result<P>> Grammar<
         }
     }
 
-    /// Reads what stands behind a path: the rest of a macro, or what makes no macro.
+    /// Reads what comes after a path: the rest of a macro, or what makes no macro.
     #[tactic(auto, using(crate::proofs::Paths::ends))]
     fn behind_path(
         &self,

@@ -65,7 +65,7 @@ fn maybe_bound(input: &mut ParseBuffer<'_>) -> Result<Option<RangeBound>>
     }
 }
 
-/// Reads the operator of a range and the bound behind it, which a closed range needs.
+/// Reads the operator of a range and the bound after it, which a closed range needs.
 #[tactic(auto, unfolding(syn_parts::specs::Pat::range_end))]
 pub fn range_end(input: &mut ParseBuffer<'_>) -> Result<(RangeLimits, Option<RangeBound>)>
     ensures value { Reads (λ p. (view.is_closed p.0, view.mapped view.bound_of p.1)) (pat.range_end.reads input.old.rest) result input.new.rest }

@@ -47,7 +47,7 @@ before_long : (k c : ℕ) (cs : List ℕ) → k < len_utf8 c → before k (c ∷
 before_long k c cs h = ap (λ b. cond b (c ∷ before (k - len_utf8 c) cs) []) (le_no (len_utf8 c) k h)
 
 -- A place was reached in a text on the way to an offset, which is `left` bytes away; what stands from the start of its line on,
--- and behind it.
+-- and after it.
 pub record Reached (text : List ℕ) (offset : ℕ) (place : LineColumn) (left : ℕ) (line_text rest : List ℕ) (count : ℕ) : Type 0 where
   pub utf8 : IsUtf8 rest
   pub done : List ℕ
@@ -84,7 +84,7 @@ reached_start text offset u = record {
   count_fits = omega arith;
 }
 
--- what a place becomes behind a character
+-- what a place becomes after a character
 pub record Moved (c : ℕ) (place : LineColumn) (line_text : List ℕ) (count : ℕ) (next : LineColumn) (next_text more : List ℕ) (next_count : ℕ) : Type 0 where
   pub line_number : next.line ≡ cond (ends_line c) (place.line + 1) place.line
   pub column : next.column ≡ cond (ends_line c) 0 (place.column + 1)

@@ -9,7 +9,7 @@ abbrev pub before : ℕ → List ℕ → List ℕ
 before offset [] = []
 before offset (c ∷ cs) = if nat_le (len_utf8 c) offset then c ∷ before (offset - len_utf8 c) cs else []
 
--- those behind them
+-- those after them
 abbrev pub behind : ℕ → List ℕ → List ℕ
 behind offset cs = drop (length (before offset cs)) cs
 

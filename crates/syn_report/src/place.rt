@@ -8,7 +8,7 @@ ghost use Rattle.syn_report.specs.Place as spec;
 pub struct LineColumn {
     /// The line, from 1. A line ends with `\n`, and so with `\r\n` too.
     pub line: usize,
-    /// The column, from 0: how many characters stand before it on the line. Each counts as one, also a tab, a wide
+    /// The column, from 0: how many characters come before it on the line. Each counts as one, also a tab, a wide
     /// character and a `\r`.
     pub column: usize,
 }
@@ -30,14 +30,14 @@ pub(crate) struct Place<'a> {
     pub(crate) at: LineColumn,
     /// The text from the start of its line on.
     pub(crate) line: &'a str,
-    /// The text behind it.
+    /// The text after it.
     pub(crate) behind: &'a str,
     /// How many characters are before it.
     pub(crate) count: usize,
 }
 
 impl<'a> Place<'a> {
-    /// The place behind a character, which has this text behind it.
+    /// The place after a character, which has this text after it.
     fn after(&self, c: char, behind: &'a str) -> Place<'a>
         requires lines { self.now.at.line + 1 < 2 ^ 64 }
         requires columns { self.now.at.column + 1 < 2 ^ 64 }

@@ -63,8 +63,8 @@ fn margin(alloc: Global, line: usize) -> Result<String, AllocError>
 /// ```
 ///
 /// The place is cut at the end of its line, and has one caret at least, so also at the end of the text. Tabs before it
-/// stand in the line of carets too, so that they are below it wherever tabs stop. Each other character has one place,
-/// also a wide one; a `\r` is shown as a space. The report has no line end behind it. It is refused only where memory
+/// are in the line of carets too, so that they are below it wherever tabs stop. Each other character has one place,
+/// also a wide one; a `\r` is shown as a space. The report has no line end after it. It is refused only where memory
 /// runs out.
 pub fn report(alloc: Global, text: &str, error: &Error) -> Result<String, AllocError>
     ensures { IfOk result (λ s. string_bytes s ≡ spec.report (chars text.now) error.now) }

@@ -10,13 +10,13 @@ use Rattle.syn_tokens.specs.declared.tree.TokenTree.{TokenTree}
 pub tail_le : (xs ys : List TokenTree) → IsTail (toks_of ys) (toks_of xs) → length ys ≤ length xs
 tail_le xs ys h = omega (arith, length-toks_of xs, length-toks_of ys, simp length-append at (ap length h.is))
 
--- and stands behind as many trees as it lacks
+-- and comes after as many trees as it lacks
 pub tail_at : (xs ys : List TokenTree) → IsTail (toks_of ys) (toks_of xs) → toks_of (drop (length xs - length ys) xs) ≡ toks_of ys
 tail_at xs ys h =
     let n : length xs - length ys ≡ length h.front = omega (arith, length-toks_of xs, length-toks_of ys, simp length-append at (ap length h.is)) in
     rw (toks_of-drop, n, h.is) (drop-append_seam h.front (toks_of ys))
 
--- and what stands before it is the front
+-- and what comes before it is the front
 pub front_at : (xs ys : List TokenTree) → IsTail (toks_of ys) (toks_of xs) → toks_of xs ≡ toks_of (take (length xs - length ys) xs) ++ toks_of ys
 front_at xs ys h =
     let n = length xs - length ys in

@@ -40,7 +40,7 @@ unfinished-closes os before ts d =
 
 pub ruleset nests = (unfinished-leaf, unfinished-opens, unfinished-closes, append-nil)
 
--- ---- which delimiters are open behind some pieces
+-- ---- which delimiters are open after some pieces
 
 abbrev run : List Delimiter → List Piece → Option (List Delimiter)
 run st [] = Some st

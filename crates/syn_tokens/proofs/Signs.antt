@@ -1,4 +1,4 @@
--- What stands first where a sign or a word is seen.
+-- What comes first where a sign or a word is seen.
 use Rattle.std.proofs.Common.{◌≡◌, ◌≤◌, ℕ, List, [], ◌∷◌, length, Bool, true, false, refl, arith}
 use Rattle.std.specs.Prelude.{◌==◌, ◌&&◌}
 use Rattle.syn_tokens.specs.Tok.{Tok, ident, punct}
@@ -9,7 +9,7 @@ right_of : (a b : Bool) → (a && b) ≡ true → b ≡ true
 right_of true b h = h
 right_of false b h = cc
 
--- as many tokens stand first as there are puncts
+-- as many tokens come first as there are puncts
 pub begins-le : (text : List ℕ) (ts : List Tok) → begins text ts ≡ true → length text ≤ length ts
 begins-le [] ts h = omega arith
 begins-le (b ∷ more) [] h = cc

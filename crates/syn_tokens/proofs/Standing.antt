@@ -1,4 +1,4 @@
--- The characters of a text and the bytes that they stand in.
+-- The characters of a text and the bytes that they are in.
 use Rattle.std.proofs.Common.{◌≡◌, Bool, ℕ, ◌+◌, ◌-◌, ◌≤◌, List, [], ◌∷◌, ◌++◌, length, take, drop, true, refl, sym, ◌∙◌, ap, append_assoc, arith, encode_utf8_all, chars}
 use Rattle.std.specs.Str.{IsUtf8, IsCharBoundary, all_scalars}
 use Rattle.std.proofs.lemmas.Bool.{and_parts}
@@ -20,7 +20,7 @@ all_left bytes u = record {
   characters = scalars-chars bytes u;
 }
 
--- ---- what is left behind some characters
+-- ---- what is left after some characters
 
 left_parts : (bytes : List ℕ) (at : ℕ) (xs ys : List ℕ) → AreLeft bytes at (xs ++ ys)
     → drop at bytes ≡ encode_utf8_all xs ++ encode_utf8_all ys

@@ -1,4 +1,4 @@
--- Floats behind a dot: `x.0.1` is cut into the tokens `x`, `.` and `0.1`, and is read as `x . 0 . 1` (Rust Reference,
+-- Floats after a dot: `x.0.1` is cut into the tokens `x`, `.` and `0.1`, and is read as `x . 0 . 1` (Rust Reference,
 -- "Tuple indexing expressions").
 use Rattle.std.specs.Prelude.{◌≡◌, ℕ, Bool, true, false, not, ◌&&◌, ◌==◌, if◌then◌else◌, List, [], ◌∷◌, ◌++◌, map}
 use Rattle.std.specs.Char.{is_ascii_digit}
@@ -9,7 +9,7 @@ use Rattle.syn_tokens.specs.Tok.{Tok, ident, punct, literal, group}
 abbrev pub dot : Tok
 dot = punct 46 Alone
 
--- a part of a float as a literal; none behind a last dot
+-- a part of a float as a literal; none after a last dot
 abbrev pub part : List ℕ → List Tok
 part [] = []
 part (b ∷ s) = literal (b ∷ s) ∷ []
@@ -32,7 +32,7 @@ abbrev pub is_joint : Spacing → Bool
 is_joint Joint = true
 is_joint Alone = false
 
--- A dot is single where it is no part of `..`: it is not joined to a dot behind it, and no joint dot is before it.
+-- A dot is single where it is no part of `..`: it is not joined to a dot after it, and no joint dot is before it.
 -- The tests say of the token before the list whether it is a joint dot, and whether it is a dot without one before it.
 abbrev pub split_from : Bool → Bool → List Tok → List Tok
 split_from joint single [] = []
@@ -52,7 +52,7 @@ split_floats = split_from false false
 pub data Split : Type 0 where
   -- a token of the list itself
   whole : Tok → Split
-  -- of a float: one token, with others behind it
+  -- of a float: one token, with others after it
   piece : Tok → Split
   -- of this float: its last token
   last : List ℕ → Tok → Split

@@ -1,4 +1,4 @@
--- What stands first in a list of tokens.
+-- What comes first in a list of tokens.
 use Rattle.std.specs.Prelude.{Bool, true, false, ◌==◌, if◌then◌else◌, is_some, List, [], ◌∷◌, Option, Some, None}
 use Rattle.syn_tokens.specs.Tok.{Tok, ident, punct, group, toks}
 use Rattle.syn_lexer.specs.declared.lexeme.Delimiter.{Delimiter}
@@ -20,12 +20,12 @@ abbrev pub group_of : Delimiter → Tok → List Tok → Option (List Tok × Lis
 group_of d (group found i) ts = if same_delimiter found d then Some (toks i, ts) else None
 group_of d _ ts = None
 
--- the inside of a group with this delimiter, if it stands first, and what is behind it
+-- the inside of a group with this delimiter, if it comes first, and what is after it
 unfoldable pub group_at : Delimiter → List Tok → Option (List Tok × List Tok)
 group_at d [] = None
 group_at d (t ∷ ts) = group_of d t ts
 
--- a group with this delimiter stands first
+-- a group with this delimiter comes first
 abbrev pub sees_group : Delimiter → List Tok → Bool
 sees_group d ts = is_some (group_at d ts)
 

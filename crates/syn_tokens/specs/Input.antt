@@ -43,7 +43,7 @@ pub record IsAfter (old new : Input) : Type 0 where
   pub is : old.rest ≡ front ++ new.rest
   pub noted : (s : Span) → old.noted ≡ Some s → new.noted ≡ Some s
 
--- Where a value that is seen so stands before a rest, it is read and that rest is left, with no note, unless memory runs out.
+-- Where a value that is seen so comes before a rest, it is read and that rest is left, with no note, unless memory runs out.
 abbrev pub Reaches : {A B : Type 0} → (A → B) → B → List Tok → Result A Error → Input → Type 0
 Reaches seen s rest (Ok v) new = (seen v ≡ s) × (new.rest ≡ rest) × (new.noted ≡ None)
 Reaches seen s rest (Err e) new = e.kind ≡ OutOfMemory
@@ -57,8 +57,8 @@ Gives seen s (Err e) = e.kind ≡ OutOfMemory
 abbrev pub wanted_group : Delimiter → ErrorKind
 wanted_group d = ExpectedToken (expected.One (wanted.Delimiter d))
 
--- A group with this delimiter stands first: its inside is read on its own, with no note, and the rest is what is
--- behind it. Where none stands nothing changes.
+-- A group with this delimiter comes first: its inside is read on its own, with no note, and the rest is what is
+-- after it. Where none stands nothing changes.
 abbrev pub Enters : {A : Type 0} → Delimiter → Input → Result (A × Input) Error → Input → Type 0
 Enters d old (Ok p) new = (group_at d old.rest ≡ Some (p.1.rest, new.rest)) × (p.1.noted ≡ None) × (new.noted ≡ old.noted)
 Enters d old (Err e) new = (group_at d old.rest ≡ None) × (new ≡ old) × (e.kind ≡ wanted_group d)
@@ -78,7 +78,7 @@ first_note first None = first
 first_note None (Some s) = Some s
 first_note (Some r) (Some s) = Some r
 
--- The token at this place was left over: it is the one that is noted, else one that stands behind what was read.
+-- The token at this place was left over: it is the one that is noted, else one that comes after what was read.
 abbrev pub IsLeftAt : {A : Type 0} → (A → List Tok → Type 0) → List Tok → Option Span → Span → Type 0
 IsLeftAt spells rest (Some s) place = place ≡ s
 IsLeftAt {A} spells rest None place = (s : A) × spells s rest × (is_empty rest ≡ false)

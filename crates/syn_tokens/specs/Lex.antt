@@ -26,7 +26,7 @@ abbrev pub lexeme_pieces : LexemeKind → Text → List Piece
 lexeme_pieces Blank z = []
 lexeme_pieces Ident z = leaf (ident (encode_utf8_all z)) ∷ []
 lexeme_pieces Literal z = leaf (literal (encode_utf8_all z)) ∷ []
--- the joint `'`, and the identifier behind it
+-- the joint `'`, and the identifier after it
 lexeme_pieces Lifetime z = leaf (punct 39 Joint) ∷ leaf (ident (encode_utf8_all (drop 1 z))) ∷ []
 lexeme_pieces (Punct c s) z = leaf (punct c s) ∷ []
 lexeme_pieces (Open d) z = opens d ∷ []
@@ -72,7 +72,7 @@ Spells z ts = pieces z ≡ Some (flat ts)
 
 -- ---- why a text is refused
 
--- the delimiters that are open behind a lexeme, the innermost first; none where it closes what is not open
+-- the delimiters that are open after a lexeme, the innermost first; none where it closes what is not open
 abbrev pub open_behind : LexemeKind → List Delimiter → Option (List Delimiter)
 open_behind (Open d) st = Some (d ∷ st)
 open_behind (Close d) [] = None

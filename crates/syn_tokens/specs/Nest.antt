@@ -6,7 +6,7 @@ use Rattle.syn_tokens.specs.Lex.{Piece, opens, flat}
 use Rattle.syn_tokens.specs.declared.lexer.Open as code
 use Rattle.syn_tokens.specs.declared.lexer.Nest.{Nest}
 
--- a group that is open, behind these trees
+-- a group that is open, after these trees
 abbrev pub Open : Type 0
 Open = Delimiter × List Tok
 

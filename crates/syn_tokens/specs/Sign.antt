@@ -17,7 +17,7 @@ abbrev pub is_nil : List ℕ → Bool
 is_nil [] = true
 is_nil (b ∷ bs) = false
 
--- The puncts of a text stand first, each but the last joint; the last one's spacing is free.
+-- The puncts of a text come first, each but the last joint; the last one's spacing is free.
 abbrev pub begins : List ℕ → List Tok → Bool
 begins [] ts = false
 begins (b ∷ more) [] = false
@@ -25,16 +25,16 @@ begins (b ∷ more) (punct c Alone ∷ ts) = c == b && is_nil more
 begins (b ∷ more) (punct c Joint ∷ ts) = c == b && (is_nil more || begins more ts)
 begins (b ∷ more) (t ∷ ts) = false
 
--- the sign at place k stands first, and has n puncts
+-- the sign at place k comes first, and has n puncts
 abbrev pub sees : ℕ → ℕ → List Tok → Bool
 sees n k ts = length (sign_text k) == n && begins (sign_text k) ts
 
--- a text stands first as an identifier
+-- a text comes first as an identifier
 abbrev pub begins_word : List ℕ → List Tok → Bool
 begins_word text (ident s ∷ ts) = not (is_nil text) && bytes_eq s text
 begins_word text _ = false
 
--- the word at place k stands first
+-- the word at place k comes first
 abbrev pub sees_word : ℕ → List Tok → Bool
 sees_word k ts = begins_word (word_text k) ts
 
@@ -57,7 +57,7 @@ word_toks (b ∷ more) = ident (b ∷ more) ∷ []
 abbrev pub printed_word : ℕ → List Tok
 printed_word k = word_toks (word_text k)
 
--- `_` stands first
+-- `_` comes first
 abbrev pub sees_underscore : List Tok → Bool
 sees_underscore = begins_word (95 ∷ [])
 

@@ -9,7 +9,7 @@ abbrev pub is_joint : Tok → Bool
 is_joint (punct c spacing.Joint) = true
 is_joint t = false
 
--- one space between neighbours, but none behind a joint punct
+-- one space between neighbours, but none after a joint punct
 abbrev pub gap : Tok → List Tok → List ℕ
 gap t ts = if is_joint t || nat_eq (length ts) 0 then [] else 32 ∷ []
 

@@ -285,21 +285,21 @@ impl<'a> ParseBuffer<'a> {
         }
     }
 
-    /// Whether a `T` stands first.
+    /// Whether a `T` comes first.
     pub fn peek<T: Token>(&self) -> bool
         ensures { result ≡ T.sees self.now.rest }
     {
         T::peek(self.rest)
     }
 
-    /// Whether a `T` stands behind the next token tree, a lifetime counted as one.
+    /// Whether a `T` comes after the next token tree, a lifetime counted as one.
     pub fn peek2<T: Token>(&self) -> bool
         ensures { result ≡ T.sees (front.past_one self.now.rest) }
     {
         T::peek(past_one(self.rest))
     }
 
-    /// Whether a `T` stands behind the next two token trees, a lifetime counted as one.
+    /// Whether a `T` comes after the next two token trees, a lifetime counted as one.
     pub fn peek3<T: Token>(&self) -> bool
         ensures { result ≡ T.sees (front.past_one (front.past_one self.now.rest)) }
     {
@@ -332,7 +332,7 @@ impl<'a> ParseBuffer<'a> {
         }
     }
 
-    /// Takes a group with this delimiter, if it stands first: its place, and what it encloses.
+    /// Takes a group with this delimiter, if it comes first: its place, and what it encloses.
     #[tactic(auto, using(crate::proofs::Views::views, crate::proofs::Inputs::tails, crate::proofs::Views::insides), unfolding(crate::specs::Front::group_at, crate::specs::Tok::weight))]
     pub fn group(&mut self, delimiter: Delimiter) -> Option<(Span, ParseBuffer<'a>)>
         ensures value { spec.Opens delimiter self.old result self.new }
@@ -362,7 +362,7 @@ impl<'a> ParseBuffer<'a> {
     }
 
     /// Takes a group in parentheses: its place, and what it encloses. Give the content to `close` once it is read.
-    /// Where none stands first it is refused there as `ExpectedToken`, this delimiter, and nothing changes. It takes no
+    /// Where none comes first it is refused there as `ExpectedToken`, this delimiter, and nothing changes. It takes no
     /// memory.
     pub fn parse_parens(&mut self) -> Result<(Paren, ParseBuffer<'a>)>
         ensures value { spec.Enters Delimiter.Parenthesis self.old result self.new }
@@ -376,7 +376,7 @@ impl<'a> ParseBuffer<'a> {
     }
 
     /// Takes a group in braces: its place, and what it encloses. Give the content to `close` once it is read.
-    /// Where none stands first it is refused there as `ExpectedToken`, this delimiter, and nothing changes. It takes no
+    /// Where none comes first it is refused there as `ExpectedToken`, this delimiter, and nothing changes. It takes no
     /// memory.
     pub fn parse_braces(&mut self) -> Result<(Brace, ParseBuffer<'a>)>
         ensures value { spec.Enters Delimiter.Brace self.old result self.new }
@@ -390,7 +390,7 @@ impl<'a> ParseBuffer<'a> {
     }
 
     /// Takes a group in brackets: its place, and what it encloses. Give the content to `close` once it is read.
-    /// Where none stands first it is refused there as `ExpectedToken`, this delimiter, and nothing changes. It takes no
+    /// Where none comes first it is refused there as `ExpectedToken`, this delimiter, and nothing changes. It takes no
     /// memory.
     pub fn parse_brackets(&mut self) -> Result<(Bracket, ParseBuffer<'a>)>
         ensures value { spec.Enters Delimiter.Bracket self.old result self.new }
@@ -404,7 +404,7 @@ impl<'a> ParseBuffer<'a> {
     }
 
     /// Takes an invisible group: its place, and what it encloses. Give the content to `close` once it is read.
-    /// Where none stands first it is refused there as `ExpectedToken`, this delimiter, and nothing changes. It takes no
+    /// Where none comes first it is refused there as `ExpectedToken`, this delimiter, and nothing changes. It takes no
     /// memory.
     pub fn parse_group(&mut self) -> Result<(Group, ParseBuffer<'a>)>
         ensures value { spec.Enters Delimiter.None self.old result self.new }

@@ -41,19 +41,19 @@ pub enum ErrorKind {
     OutOfMemory,
     /// No expression begins here.
     ExpectedExpression,
-    /// No binary operator stands here.
+    /// No binary operator is here.
     ExpectedBinaryOperator,
     /// A comparison whose left side is a bare comparison.
     ChainedComparison,
     /// `<-` where an operator may stand.
     LeftArrow,
-    /// A trailer behind a cast.
+    /// A trailer after a cast.
     AfterCast(AfterCast),
     /// Attributes in front of a range that begins with its operator; the place is the operator.
     RangeAttributes,
     /// A label in front of neither a loop nor a block.
     ExpectedLoopOrBlock,
-    /// Neither `,` nor `;` behind the first element of an array.
+    /// Neither `,` nor `;` after the first element of an array.
     ExpectedCommaOrSemi,
     /// A labeled value of a `break` that wants parentheses; the place goes from the label to the value's end.
     ParenthesesRequired,
@@ -65,7 +65,7 @@ pub enum ErrorKind {
     IndexOutOfRange,
     /// Another kind of expression was read; the place goes from its first to its last token.
     ExpectedExprKind(WantedKind),
-    /// None of these tokens stands here.
+    /// None of these tokens is here.
     ExpectedToken(Expected),
     /// A token that nothing reads, or the end where any token may stand.
     UnexpectedToken,
@@ -163,7 +163,7 @@ pub enum Part {
     Type,
     /// A pattern. No reader here answers it yet.
     Pattern,
-    /// A macro call, or its group behind the `!`.
+    /// A macro call, or its group after the `!`.
     Macro,
     /// An attribute. No reader here answers it yet.
     Attribute,

@@ -49,7 +49,7 @@ pub(crate) fn chars_of(alloc: Global, text: &str) -> Result<Vec<char>>
     Ok(text.chars().collect::<Vec<char>>(alloc)?)
 }
 
-/// The place behind some characters that stand at a place.
+/// The place after some characters that are at a place.
 fn past(at: usize, z: &[char]) -> usize
     requires { at + length (encode_utf8_all z.now) < 2 ^ 64 }
     ensures { result ≡ at + length (encode_utf8_all z.now) }
@@ -81,7 +81,7 @@ fn refusal(lo: usize, hi: usize, error: LexError) -> Error
     }
 }
 
-/// The refusal of the first characters, which stand at a place.
+/// The refusal of the first characters, which are at a place.
 fn refused_front(at: usize, rest: &[char], refused: Refusal) -> Error
     requires within { refused.len ≤ length rest.now }
     requires small { at + length (encode_utf8_all rest.now) < 2 ^ 64 }
@@ -91,7 +91,7 @@ fn refused_front(at: usize, rest: &[char], refused: Refusal) -> Error
     refusal(at, past(at, read), refused.error)
 }
 
-/// What was read: the groups that are open, each behind the trees before it, and the trees behind the last opening
+/// What was read: the groups that are open, each after the trees before it, and the trees after the last opening
 /// delimiter.
 #[derive(Drop)]
 struct Nest {
@@ -99,7 +99,7 @@ struct Nest {
     current: TokenStream,
 }
 
-/// A group that is open at a place, behind these trees.
+/// A group that is open at a place, after these trees.
 #[derive(Drop)]
 struct Open {
     delimiter: Delimiter,
@@ -128,7 +128,7 @@ impl Nest {
         Ok(())
     }
 
-    /// The `'` of a lifetime, and the identifier behind it.
+    /// The `'` of a lifetime, and the identifier after it.
     fn lifetime(&mut self, text: &RcStr<Global>, read: &[char], span: Span) -> Result<()>
         requires some { 0 < length read.now }
         requires stands { StandAt (rc_str_bytes text.now) span.lo span.hi read.now }

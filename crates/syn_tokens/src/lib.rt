@@ -1,4 +1,4 @@
-//! Token trees, streams of them, and the reading of their fronts. What a user names stands here at the root too, the types
+//! Token trees, streams of them, and the reading of their fronts. What a user names is here at the root too, the types
 //! of tokens in `token`.
 #![tactic(auto)]
 

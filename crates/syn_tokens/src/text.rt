@@ -10,7 +10,7 @@ use crate::tree::{TokenStream, TokenTree};
 use crate::{Delimiter, Spacing};
 use std::alloc::AllocError;
 
-/// The text of a stream: one space between neighbours, but none behind a joint punct; a group is its two delimiters
+/// The text of a stream: one space between neighbours, but none after a joint punct; a group is its two delimiters
 /// with its inside between, a brace that is not empty with one space at both ends; an invisible group is its inside
 /// alone. It is refused only as `OutOfMemory`.
 pub fn to_text(stream: &TokenStream) -> Result<String>
@@ -43,7 +43,7 @@ fn closing(delimiter: Delimiter) -> &'static str
     }
 }
 
-/// What stands at both ends of a group's inside.
+/// What is at both ends of a group's inside.
 #[tactic(auto, using(crate::proofs::Texts::texts))]
 fn margin(delimiter: Delimiter, trees: &[TokenTree]) -> &'static str
     ensures { result.now ≡ spec.margin delimiter (inside (toks_of trees.now)) }
@@ -71,7 +71,7 @@ fn is_joint(tree: &TokenTree) -> bool
     }
 }
 
-/// Writes what stands between a tree and those behind it.
+/// Writes what is between a tree and those after it.
 #[tactic(auto, using(crate::proofs::Views::views))]
 fn write_gap(
     out: &mut String,

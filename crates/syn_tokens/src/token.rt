@@ -123,7 +123,7 @@ impl Default for Underscore {
     }
 }
 
-/// Whether the puncts of a text stand first, each but the last joint.
+/// Whether the puncts of a text come first, each but the last joint.
 fn begins(mut text: &[u8], mut rest: &[TokenTree]) -> bool
     ensures { result ≡ spec.begins text.entry.now (toks_of rest.entry.now) }
 {
@@ -146,7 +146,7 @@ fn begins(mut text: &[u8], mut rest: &[TokenTree]) -> bool
     false
 }
 
-/// Whether a text stands first as an identifier.
+/// Whether a text comes first as an identifier.
 fn begins_word(text: &str, rest: &[TokenTree]) -> bool
     ensures { result ≡ spec.begins_word text.now (toks_of rest.now) }
 {
@@ -361,7 +361,7 @@ fn enclosed(delimiter: Delimiter, stream: TokenStream, span: Span) -> TokenTree
     })
 }
 
-/// Whether a group with this delimiter stands first.
+/// Whether a group with this delimiter comes first.
 #[tactic(auto, unfolding(crate::specs::Front::group_at))]
 fn begins_group(delimiter: Delimiter, rest: &[TokenTree]) -> bool
     ensures { result ≡ front.sees_group delimiter (toks_of rest.now) }

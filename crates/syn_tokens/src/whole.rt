@@ -11,8 +11,8 @@ use crate::lexer::lex;
 use crate::tree::TokenStream;
 use std::alloc::Global;
 
-/// Reads a `T` from the whole list, which a refusal gives up. It is refused as the reader of `T` refuses it. Behind a `T`,
-/// the first token that nothing read in a group is refused as `UnexpectedToken`, then a token that is left behind it.
+/// Reads a `T` from the whole list, which a refusal gives up. It is refused as the reader of `T` refuses it. After a `T`,
+/// the first token that nothing read in a group is refused as `UnexpectedToken`, then a token that is left after it.
 pub fn parse2<T: Parse + Drop>(tokens: TokenStream) -> Result<T>
     // What was read is spelled by the whole list.
     ensures read { IfOk result (λ v. T.spells tokens (T.seen v) []) }

@@ -52,7 +52,7 @@ a ~ a | equal
 a ~ b | different
 ";
 
-/// Whether the word of a text is that behind `~`.
+/// Whether the word of a text is that after `~`.
 fn named(alloc: Global, texts: &str) -> Result<String, Error> {
     let Some((ident, name)) = texts.split_once('~') else {
         return words(alloc, "no `~` in the row");

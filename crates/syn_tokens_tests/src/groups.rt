@@ -13,7 +13,7 @@ use syn_tokens::text::to_text;
 use syn_tokens::token::{self, Brace, Bracket, Paren};
 use syn_tokens::tree::{Group, Ident, TokenStream, TokenTree};
 
-/// The tokens of a text, and an invisible group of `d` behind them.
+/// The tokens of a text, and an invisible group of `d` after them.
 fn with_group(alloc: Global, text: &str) -> Result<TokenStream, Error> {
     let mut tokens = lex(alloc, text)?;
     let invisible = token::Group {
@@ -80,7 +80,7 @@ fn tell_next(
     }
 }
 
-/// Takes groups with these delimiters, one behind the other, and tells whether a token was left in them.
+/// Takes groups with these delimiters, one after the other, and tells whether a token was left in them.
 fn contents(alloc: Global, openings: &str) -> Result<String, Error> {
     let tokens = with_group(alloc, "(a) {b} [c]")?;
     let mut input = ParseBuffer::new(&tokens)?;
@@ -243,7 +243,7 @@ fn left_in_groups(alloc: Global) -> Result<(Option<Span>, Option<Span>), Error> 
     pass(&mut ParseBuffer::new(&tokens)?)
 }
 
-/// It is the content's own first token, and behind it the content's note and not what follows it.
+/// It is the content's own first token, and after it the content's note and not what follows it.
 #[test]
 fn left_in_a_group(rt: HostRuntime) -> Result<(), Fail> {
     let first = Some(Span { lo: 6, hi: 7 });
@@ -251,7 +251,7 @@ fn left_in_a_group(rt: HostRuntime) -> Result<(), Fail> {
     Ok(())
 }
 
-/// The place of what is left to a fork behind groups, and once it read a tree the places up to it from here and from
+/// The place of what is left to a fork after groups, and once it read a tree the places up to it from here and from
 /// itself.
 fn left_to_a_fork(alloc: Global) -> Result<(Option<Span>, [Span; 2]), Error> {
     let tokens = lex(alloc, IN_GROUPS)?;
@@ -273,7 +273,7 @@ fn left_to_forks(rt: HostRuntime) -> Result<(), Fail> {
     Ok(())
 }
 
-/// The first word of the next parentheses, what stands behind it noted.
+/// The first word of the next parentheses, what comes after it noted.
 fn head(input: &mut ParseBuffer<'_>) -> Result<Ident, Error> {
     let (_, mut content) = input.parse_parens()?;
     let word = content.parse::<Ident>()?;
@@ -281,7 +281,7 @@ fn head(input: &mut ParseBuffer<'_>) -> Result<Ident, Error> {
     Ok(word)
 }
 
-/// The place of what is left behind two groups.
+/// The place of what is left after two groups.
 fn left_in_two(alloc: Global) -> Result<Option<Span>, Error> {
     let tokens = lex(alloc, "(a b) (c d)")?;
     let mut input = ParseBuffer::new(&tokens)?;

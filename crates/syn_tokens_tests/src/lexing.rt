@@ -76,7 +76,7 @@ b'\''u8         | 0..7 b'\''u8
  ( [ ] { } )␠   | 1..12 ([] {})
 "###;
 
-/// Behind blanks that don't show.
+/// After blanks that don't show.
 const LEXEMES_BEHIND_BLANKS: &str = "
 x                                   | 0..1 x
 \u{85}\u{200e}␉␍␊x         | 8..9 x

@@ -1,4 +1,4 @@
-//! What no clause says of buffers: the places of what stands there, was read there or is refused there.
+//! What no clause says of buffers: the places of what is there, was read there or is refused there.
 
 use crate::told::{places, places_of, unpictured};
 use rows::check;
@@ -15,7 +15,7 @@ use syn_tokens::{Delimiter, Spacing};
 
 const TEXT: &str = r#"é 'a += r#b ["é"] /* é */ 1.0u8 ({})"#;
 
-/// The next ten places. Behind the tokens it is their end.
+/// The next ten places. After the tokens it is their end.
 fn ten_places(alloc: Global) -> Result<String, Error> {
     let tokens = lex(alloc, TEXT)?;
     places(alloc, ParseBuffer::new(&tokens)?.spans::<10>().as_slice())
@@ -30,7 +30,7 @@ fn places_of_tokens(rt: HostRuntime) -> Result<(), Fail> {
     Ok(())
 }
 
-/// Whether a tree is a quote that is joint to what stands behind it.
+/// Whether a tree is a quote that is joint to what comes after it.
 fn is_quote(tree: Option<&TokenTree>) -> bool {
     match tree {
         Some(TokenTree::Punct(quote)) => quote.ch == '\'' && quote.spacing == Spacing::Joint,
@@ -46,7 +46,7 @@ fn is_word(tree: Option<&TokenTree>, text: &str) -> bool {
     }
 }
 
-/// Whether the second tree is a quote and the word behind it `a`, and the front of the brackets behind three trees more.
+/// Whether the second tree is a quote and the word after it `a`, and the front of the brackets after three trees more.
 fn behind_one(alloc: Global) -> Result<(bool, bool, Span), Error> {
     let tokens = lex(alloc, TEXT)?;
     let mut input = ParseBuffer::new(&tokens)?;
@@ -66,7 +66,7 @@ fn places_behind_a_lifetime(rt: HostRuntime) -> Result<(), Fail> {
     Ok(())
 }
 
-/// The text of the tests of what stands in parentheses behind a word.
+/// The text of the tests of what is in parentheses after a word.
 const WORD_AND_PARENS: &str = "a ( b )";
 
 /// Whether the word is `a`, and the places of it before and once it is read, of the parentheses, and of the end.
@@ -89,7 +89,7 @@ fn places_of_what_is_read(rt: HostRuntime) -> Result<(), Fail> {
     Ok(())
 }
 
-/// The place behind a `T` in the parentheses, and the refusal of braces there.
+/// The place after a `T` in the parentheses, and the refusal of braces there.
 fn in_parens<T: Parse + Drop>(input: &mut ParseBuffer<'_>) -> Result<(Span, Option<Error>), Error> {
     let _ = input.parse::<Ident>()?;
     let (_, mut content) = input.parse_parens()?;
@@ -127,7 +127,7 @@ fn seen<T: Token>(input: &ParseBuffer<'_>) -> [bool; 3] {
     [input.peek::<T>(), input.peek2::<T>(), input.peek3::<T>()]
 }
 
-/// Whether a `T` is seen at each of the next three trees behind so many, and whether a fork sees it there.
+/// Whether a `T` is seen at each of the next three trees after so many, and whether a fork sees it there.
 fn seen_behind<T: Token>(alloc: Global, count: usize) -> Result<([bool; 3], [bool; 3]), Error> {
     let tokens = lex(alloc, TREES)?;
     let mut input = ParseBuffer::new(&tokens)?;
@@ -167,7 +167,7 @@ fn passed(input: &mut ParseBuffer<'_>, count: usize) -> Result<(usize, Span), Er
 }
 
 /// How many trees there are, how many are passed over and how many are left, where those are that are passed over, and
-/// a refusal behind them.
+/// a refusal after them.
 fn three_passed(alloc: Global) -> Result<([usize; 3], Span, Error), Error> {
     let tokens = lex(alloc, TREES)?;
     let mut input = ParseBuffer::new(&tokens)?;
@@ -189,7 +189,7 @@ fn trees_are_passed_over(rt: HostRuntime) -> Result<(), Fail> {
     Ok(())
 }
 
-/// Whether the fourth tree is `c`, the places of `+=` behind it, and how many trees are left.
+/// Whether the fourth tree is `c`, the places of `+=` after it, and how many trees are left.
 fn fourth(alloc: Global) -> Result<(bool, [Span; 2], usize), Error> {
     let tokens = lex(alloc, TREES)?;
     let mut input = ParseBuffer::new(&tokens)?;
@@ -208,7 +208,7 @@ fn places_of_a_sign(rt: HostRuntime) -> Result<(), Fail> {
     Ok(())
 }
 
-/// What is left behind so many trees: whether it is nothing, where it is, and the next place.
+/// What is left after so many trees: whether it is nothing, where it is, and the next place.
 fn left_behind(alloc: Global, count: usize) -> Result<(bool, Option<Span>, Span), Error> {
     let tokens = lex(alloc, TREES)?;
     let mut input = ParseBuffer::new(&tokens)?;

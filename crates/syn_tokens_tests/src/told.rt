@@ -5,7 +5,7 @@ use syn_tokens::error::Error;
 use syn_tokens::span::Span;
 use syn_tokens::tree::TokenStream;
 
-/// The text of a row without the blanks behind it. A blank that counts there and the ends of lines stand in the row as
+/// The text of a row without the blanks after it. A blank that counts there and the ends of lines are in the row as
 /// the pictures of these characters.
 pub fn unpictured(alloc: Global, given: &str) -> Result<String, Error> {
     let mut text = String::new(alloc);
@@ -21,7 +21,7 @@ pub fn unpictured(alloc: Global, given: &str) -> Result<String, Error> {
     Ok(text)
 }
 
-/// The text of a token behind its place.
+/// The text of a token after its place.
 pub fn at(alloc: Global, Span { lo, hi }: Span, text: &str) -> Result<String, Error> {
     Ok(format!(in alloc; "{lo}..{hi} {text}")?)
 }

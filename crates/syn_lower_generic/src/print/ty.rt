@@ -176,7 +176,7 @@ impl<T: ToTokens> ToTokens for TraitBoundOf<T> {
     }
 }
 
-/// Prints what stands before the arguments of a function pointer.
+/// Prints what comes before the arguments of a function pointer.
 #[tactic(auto, using(syn_tokens::proofs::Fronts::fronts), unfolding(crate::specs::Printed::fn_head_printed, syn_tokens::specs::Sign::word_text))]
 fn print_fn_head(
     lifetimes: &Option<BoundLifetimes>,

@@ -99,7 +99,7 @@ impl<T: IsType + Drop, F: Fn(&mut ParseBuffer<'_>, bool) -> Result<Box<T>>> Gram
         Ok(found)
     }
 
-    /// Reads the bounds behind `impl`.
+    /// Reads the bounds after `impl`.
     #[tactic(auto, unfolding(syn_parts::specs::Part::implements))]
     pub(crate) fn implements(
         &self,
@@ -118,7 +118,7 @@ impl<T: IsType + Drop, F: Fn(&mut ParseBuffer<'_>, bool) -> Result<Box<T>>> Gram
         Ok(boxed(input.alloc(), T::impl_trait(implements))?)
     }
 
-    /// Reads the bounds behind `dyn`.
+    /// Reads the bounds after `dyn`.
     #[tactic(auto, unfolding(syn_parts::specs::Part::object))]
     pub(crate) fn object(
         &self,

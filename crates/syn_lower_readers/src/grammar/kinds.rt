@@ -21,7 +21,7 @@ use syn_tokens::error::{ErrorKind, Result};
 use syn_tokens::token::{And, Bracket, Paren, Star};
 
 impl<T: IsType + Drop, F: Fn(&mut ParseBuffer<'_>, bool) -> Result<Box<T>>> Grammar<F> {
-    /// Reads a reference behind its `&`.
+    /// Reads a reference after its `&`.
     #[tactic(auto, unfolding(syn_parts::specs::Part::reference))]
     pub(crate) fn reference(&self, input: &mut ParseBuffer<'_>, and_token: And) -> Result<Box<T>>
         requires callable { Callable (weight input.old.rest + 1) (F.pre self.now.ty) }
@@ -42,7 +42,7 @@ impl<T: IsType + Drop, F: Fn(&mut ParseBuffer<'_>, bool) -> Result<Box<T>>> Gram
         Ok(boxed(input.alloc(), T::reference(reference))?)
     }
 
-    /// Reads a pointer behind its `*`.
+    /// Reads a pointer after its `*`.
     #[tactic(auto, unfolding(syn_parts::specs::Part::pointer))]
     pub(crate) fn pointer(&self, input: &mut ParseBuffer<'_>, star_token: Star) -> Result<Box<T>>
         requires callable { Callable (weight input.old.rest + 1) (F.pre self.now.ty) }

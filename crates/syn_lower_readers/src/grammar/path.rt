@@ -1,4 +1,4 @@
-//! The readers of paths and of what stands in them.
+//! The readers of paths and of what is in them.
 
 ghost use Rattle.std.specs.Prelude.{◌≡◌, ◌≤◌, ◌+◌, map, true, false, IfOk};
 ghost use Rattle.syn_lexer.specs.declared.lexeme.Delimiter.TheVariants as del;
@@ -94,7 +94,7 @@ impl<T: IsType + Drop, F: Fn(&mut ParseBuffer<'_>, bool) -> Result<Box<T>>> Gram
         Ok(found)
     }
 
-    /// Reads arguments between `<` and `>`, behind `::` or not.
+    /// Reads arguments between `<` and `>`, after `::` or not.
     #[tactic(auto, unfolding(syn_parts::specs::Part::angle_bracketed, syn_parts::specs::Part::angle))]
     pub fn angle(&self, input: &mut ParseBuffer<'_>) -> Result<AngleBracketedGenericArgumentsOf<T>>
         requires callable { Callable (weight input.old.rest) (F.pre self.now.ty) }
@@ -157,7 +157,7 @@ impl<T: IsType + Drop, F: Fn(&mut ParseBuffer<'_>, bool) -> Result<Box<T>>> Gram
         })
     }
 
-    /// Reads what may stand behind the word of a segment.
+    /// Reads what may come after the word of a segment.
     #[tactic(auto, unfolding(syn_parts::specs::Part::arguments, syn_parts::specs::Part::no_arguments))]
     fn arguments(&self, input: &mut ParseBuffer<'_>, style: PathStyle) -> Result<PathArgumentsOf<T>>
         requires callable { Callable (weight input.old.rest) (F.pre self.now.ty) }
@@ -198,7 +198,7 @@ impl<T: IsType + Drop, F: Fn(&mut ParseBuffer<'_>, bool) -> Result<Box<T>>> Gram
         Ok(PathSegmentOf { ident, arguments })
     }
 
-    /// Reads segments with `::` between behind others.
+    /// Reads segments with `::` between after others.
     #[tactic(auto, using(crate::proofs::Loops::segments))]
     pub(crate) fn segments(
         &self,
@@ -224,8 +224,8 @@ impl<T: IsType + Drop, F: Fn(&mut ParseBuffer<'_>, bool) -> Result<Box<T>>> Gram
         }
     }
 
-    /// Reads the segments that go on a path, each behind `::`, and puts them behind those that were found. Where no `::`
-    /// stands there are none. It is refused as a segment is (Rust Reference, "Paths in expressions").
+    /// Reads the segments that go on a path, each after `::`, and puts them after those that were found. Where no `::`
+    /// is there are none. It is refused as a segment is (Rust Reference, "Paths in expressions").
     #[tactic(auto, using(crate::proofs::Loops::further))]
     pub fn more_segments(
         &self,

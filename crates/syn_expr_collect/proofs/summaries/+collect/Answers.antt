@@ -1,13 +1,16 @@
 -- The summaries of the operands, and then the node's own.
-use Rattle.std.proofs.Common.{◌≡◌, ◌+◌, ◌-◌, ◌^◌, ◌++◌, ◌∷◌, [], min, OnOk, length, take, get_or, map, subst, sym, ap, ◌∙◌, append_assoc, arith, rules}
-use Rattle.std.specs.Prelude.{is_some}
+use Rattle.std.proofs.Common.{◌≡◌, ◌+◌, ◌-◌, ◌^◌, ◌++◌, [], min, OnOk, length, take, get_or, map, subst, refl, sym, ap, ◌∙◌, append_assoc, arith, rules}
+use Rattle.std.specs.Prelude.{Some, is_some}
+use Rattle.std.proofs.lemmas.List.{append-nil}
 use Rattle.syn_lower_lists.specs.View.{values, trails}
-use Rattle.syn_grammar.specs.Summaries.{stack, below}
-use Rattle.syn_expr_kinds.specs.Node.{before_of, operands_of}
+use Rattle.syn_grammar.specs.Summaries.{stack}
+use Rattle.syn_expr_kinds.specs.Node.{first_of, operands_at, operands_of}
 use Rattle.syn_expr_kinds.specs.View.{boxed, elements, field_value_of}
-use Rattle.syn_expr_collect.specs.Below.{summarized_behind, operands_below, operands_visited, backwards, total, field_below, field_visited, option_below, arm_below, arm_visited}
+use Rattle.syn_expr_collect.specs.Spine.{IsSecond, Prefixes, above, behind_below, behind_visited}
+use Rattle.syn_expr_collect.specs.Below.{AreFirst, operands_below, operands_visited, backwards, total, field_below, field_visited, option_below, arm_below, arm_visited}
 use Rattle.syn_expr_collect.specs.Visited.{visited}
-use Rattle.syn_expr_collect.proofs.Nodes.{behind_is, below_is, leaf_below, based_below, based_visited}
+use Rattle.syn_expr_collect.proofs.Nodes.{based_below, based_visited, below_is, visited_is}
+use Rattle.syn_expr_collect.proofs.Spines.{are_first, based_behind, based_left, down_rests, down_visited, first_below, begins_more, on_map, whole_rests}
 use Rattle.syn_expr_collect.proofs.Lists.{backwards_last, total_last, backwards_end, total_end, step_kept, two_summarized, some_below, some_visited, none_below, none_visited, elements_below, elements_visited, fields_below, fields_visited, arms_below, arms_visited}
 use Rattle.syn_expr_collect.proofs.summaries.+collect.Goals as goal
 
@@ -69,23 +72,147 @@ collect_arms-arms-preserved g t c =
 
 -- ---- a node
 
-pub collect_below-returns-in-Leaf-clause-kept : goal.collect_below-returns-in-Leaf-clause-kept
-collect_below-returns-in-Leaf-clause-kept g t c =
-    sym (leaf_below c.args.summaries.now.items (g.E.HasExprTree.tree c.args.expr.now) _ (c.requires ∙ c.in-Leaf.is))
+pub collect-collect_spine-requires : goal.collect-collect_spine-requires
+collect-collect_spine-requires g t c =
+    let v = visited_is (g.E.HasExprTree.tree c.args.expr.now) in
+    search rules
 
-pub collect-returns-clause-kept : goal.collect-returns-clause-kept
-collect-returns-clause-kept g t c =
-    let tree = g.E.HasExprTree.tree c.args.expr.now in
-    let plain = c.plain_summary-summary.ensures tree (sym c.kind-kind.ensures) c.in_ok-first.ensures.first in
-    let behind = behind_is tree in
-    let under = below_is tree in
-    let before = c.attributes.ensures in
-    let kept = c.in_ok-first.ensures.kept in
-    let old = c.args.summaries.now.items in
-    let own = summarized_behind (before_of c.attributes.result) c.plain_summary-summary.result ∷ [] in
-    let q = append_assoc old (below tree) own in
-    let e : c.collect_below.new.summaries.items ++ own ≡ old ++ stack tree = cc in
-    subst (λ z. OnOk c.keep.result (c.keep.new.summaries.items ≡ z)) e c.keep.ensures.kept
+-- ---- down first operands
+
+pub collect_spine-collect_operands-requires : goal.collect_spine-collect_operands-requires
+collect_spine-collect_operands-requires g t c =
+    let v = ap operands_visited c.operands-operands.ensures in
+    let x = visited_is (g.E.HasExprTree.tree c.down.x.now) in
+    let w = visited_is (g.E.HasExprTree.tree c.args.expr.now) in
+    let m = c.down.invariant.fewer in
+    search rules
+
+pub collect_spine-collect_behind-requires : goal.collect_spine-collect_behind-requires
+collect_spine-collect_behind-requires g t c =
+    let tree = g.E.HasExprTree.tree in
+    let x = tree c.down.x.now in
+    let v = ap behind_visited c.operands-operands.ensures in
+    let i : first_of (operands_at x) ≡ Some (tree c.in-Some.first.now) = sym (ap first_of c.operands-operands.ensures) ∙ sym (c.in-Some.ensures tree g.E.Arm.HasArmView.view) in
+    let f = down_visited x (tree c.in-Some.first.now) i in
+    let w = visited_is (tree c.args.expr.now) in
+    let m = c.down.invariant.fewer in
+    search rules
+
+pub collect_spine-down-init : goal.collect_spine-down-init
+collect_spine-down-init g t c =
+    let tree = g.E.HasExprTree.tree in
+    let e : c.new-spine.result.items ≡ [] = search rules in
+    record {
+      prefixes = subst (λ l. Prefixes tree (tree c.args.expr.now) l (tree c.args.expr.now)) (sym e) refl;
+      kept = ap (λ l. c.args.summaries.now.items ++ (stack (tree c.args.expr.now) ++ above tree l)) e ∙ ap (λ l. c.args.summaries.now.items ++ l) (append-nil (stack (tree c.args.expr.now)));
+      counted = refl;
+      fewer = omega arith;
+    }
+
+pub collect_spine-down-smaller : goal.collect_spine-down-smaller
+collect_spine-down-smaller g t c =
+    let tree = g.E.HasExprTree.tree in
+    let x = tree c.down.x.now in
+    let i : first_of (operands_at x) ≡ Some (tree c.in-Some.first.now) = sym (ap first_of c.operands-operands.ensures) ∙ sym (c.in-Some.ensures tree g.E.Arm.HasArmView.view) in
+    let f = down_visited x (tree c.in-Some.first.now) i in
+    omega arith
+
+pub collect_spine-down-preserved : goal.collect_spine-down-preserved
+collect_spine-down-preserved g t c =
+    let tree = g.E.HasExprTree.tree in
+    let x = tree c.down.x.now in
+    let u = tree c.in-Some.first.now in
+    let qs = c.down.spine.items in
+    let o = c.operands-operands.ensures in
+    let i : first_of (operands_at x) ≡ Some u = sym (ap first_of o) ∙ sym (c.in-Some.ensures tree g.E.Arm.HasArmView.view) in
+    let s = subst (λ z. IsSecond z c.in_ok-second.second) o c.in_ok-second.ensures.second in
+    let more = c.in_ok-push.ensures.items in
+    let kept = c.in_ok-second.ensures.kept ∙ ap (λ z. c.down.summaries.items ++ behind_below z) o in
+    let v = down_visited x u i in
+    let b = ap behind_visited o in
+    let k : c.collect_behind.new.visits ≡ min (c.tick.new.visits + behind_visited (operands_of tree g.E.Arm.HasArmView.view c.operands-operands.result)) (2 ^ 64 - 1) = c.in_ok-second.ensures.counted in
+    let j = c.down.invariant.counted in
+    let m = c.down.invariant.fewer in
+    record {
+      prefixes = subst (λ l. Prefixes tree (tree c.args.expr.now) l u) (sym more) (begins_more tree (tree c.args.expr.now) x u qs (c.down.x, c.in_ok-second.second) c.down.invariant.prefixes refl s i);
+      kept = ap (λ l. c.collect_behind.new.summaries.items ++ (stack u ++ above tree l)) more ∙ down_rests tree c.down.summaries.items _ _ x u qs (c.down.x, c.in_ok-second.second) kept i refl c.down.invariant.kept;
+      counted = omega arith;
+      fewer = omega arith;
+    }
+
+-- the innermost has no first operand
+
+pub collect_spine-returns-in_default-clause-same : goal.collect_spine-returns-in_default-clause-same
+collect_spine-returns-in_default-clause-same g t c =
+    let a = subst (λ z. AreFirst z c.in_ok-first.first c.in_ok-first.second) c.operands-operands.ensures c.in_ok-first.ensures.first in
+    c.finish.ensures.same (g.E.HasExprTree.tree c.args.expr.now) c.down.invariant.prefixes a
+
+pub collect_spine-returns-in_default-clause-kept : goal.collect_spine-returns-in_default-clause-kept
+collect_spine-returns-in_default-clause-kept g t c =
+    let tree = g.E.HasExprTree.tree in
+    let x = tree c.down.x.now in
+    let now = c.down.summaries.items in
+    let o = c.operands-operands.ensures in
+    let a = subst (λ z. AreFirst z c.in_ok-first.first c.in_ok-first.second) o c.in_ok-first.ensures.first in
+    let under = c.in_ok-first.ensures.kept ∙ ap (λ z. now ++ operands_below z) o ∙ ap (λ l. now ++ l) (below_is x) in
+    let e = whole_rests tree now c.collect_operands.new.summaries.items _ x c.down.spine.items under c.down.invariant.kept in
+    subst (λ z. OnOk c.finish.result (c.finish.new.summaries.items ≡ z)) e (c.finish.ensures.kept (tree c.args.expr.now) c.down.invariant.prefixes a)
+
+pub collect_spine-returns-in_default-clause-counted : goal.collect_spine-returns-in_default-clause-counted
+collect_spine-returns-in_default-clause-counted g t c =
+    let tree = g.E.HasExprTree.tree in
+    let o = ap operands_visited c.operands-operands.ensures in
+    let v = visited_is (tree c.down.x.now) in
+    let k : c.collect_operands.new.visits ≡ min (c.tick.new.visits + operands_visited (operands_of tree g.E.Arm.HasArmView.view c.operands-operands.result)) (2 ^ 64 - 1) = c.in_ok-first.ensures.counted in
+    let j = c.down.invariant.counted in
+    let a = subst (λ z. AreFirst z c.in_ok-first.first c.in_ok-first.second) c.operands-operands.ensures c.in_ok-first.ensures.first in
+    let e : c.collect_operands.new.visits ≡ min (c.args.visits.now + visited (tree c.args.expr.now)) (2 ^ 64 - 1) = omega arith in
+    on_map c.finish.result (c.finish.ensures.kept (tree c.args.expr.now) c.down.invariant.prefixes a) (λ _. e)
+
+-- or that is a leaf
+
+pub collect_spine-returns-in-Leaf-clause-same : goal.collect_spine-returns-in-Leaf-clause-same
+collect_spine-returns-in-Leaf-clause-same g t c =
+    let tree = g.E.HasExprTree.tree in
+    let x = tree c.down.x.now in
+    let u = tree c.in-Some.first.now in
+    let o = c.operands-operands.ensures in
+    let i : first_of (operands_at x) ≡ Some u = sym (ap first_of o) ∙ sym (c.in-Some.ensures tree g.E.Arm.HasArmView.view) in
+    let s = subst (λ z. IsSecond z c.in_ok-second.second) o c.in_ok-second.ensures.second in
+    let a = are_first (operands_at x) u c.in_ok-first-2.first c.in_ok-second.second i c.in_ok-first-2.ensures.same s in
+    c.finish-in-Leaf.ensures.same (tree c.args.expr.now) c.down.invariant.prefixes a
+
+pub collect_spine-returns-in-Leaf-clause-kept : goal.collect_spine-returns-in-Leaf-clause-kept
+collect_spine-returns-in-Leaf-clause-kept g t c =
+    let tree = g.E.HasExprTree.tree in
+    let x = tree c.down.x.now in
+    let u = tree c.in-Some.first.now in
+    let now = c.down.summaries.items in
+    let o = c.operands-operands.ensures in
+    let i : first_of (operands_at x) ≡ Some u = sym (ap first_of o) ∙ sym (c.in-Some.ensures tree g.E.Arm.HasArmView.view) in
+    let s = subst (λ z. IsSecond z c.in_ok-second.second) o c.in_ok-second.ensures.second in
+    let a = are_first (operands_at x) u c.in_ok-first-2.first c.in_ok-second.second i c.in_ok-first-2.ensures.same s in
+    let others = c.in_ok-second.ensures.kept ∙ ap (λ z. now ++ behind_below z) o in
+    let under = two_summarized now (behind_below (operands_at x)) (stack u) others c.in_ok-first-2.ensures.kept (sym (below_is x) ∙ first_below (operands_at x) u i) in
+    let e = whole_rests tree now c.collect_leaf.new.summaries.items _ x c.down.spine.items under c.down.invariant.kept in
+    subst (λ z. OnOk c.finish-in-Leaf.result (c.finish-in-Leaf.new.summaries.items ≡ z)) e (c.finish-in-Leaf.ensures.kept (tree c.args.expr.now) c.down.invariant.prefixes a)
+
+pub collect_spine-returns-in-Leaf-clause-counted : goal.collect_spine-returns-in-Leaf-clause-counted
+collect_spine-returns-in-Leaf-clause-counted g t c =
+    let tree = g.E.HasExprTree.tree in
+    let x = tree c.down.x.now in
+    let u = tree c.in-Some.first.now in
+    let o = c.operands-operands.ensures in
+    let i : first_of (operands_at x) ≡ Some u = sym (ap first_of o) ∙ sym (c.in-Some.ensures tree g.E.Arm.HasArmView.view) in
+    let s = subst (λ z. IsSecond z c.in_ok-second.second) o c.in_ok-second.ensures.second in
+    let a = are_first (operands_at x) u c.in_ok-first-2.first c.in_ok-second.second i c.in_ok-first-2.ensures.same s in
+    let v = down_visited x u i in
+    let b = ap behind_visited o in
+    let k : c.collect_behind.new.visits ≡ min (c.tick.new.visits + behind_visited (operands_of tree g.E.Arm.HasArmView.view c.operands-operands.result)) (2 ^ 64 - 1) = c.in_ok-second.ensures.counted in
+    let m : c.collect_leaf.new.visits ≡ min (c.collect_behind.new.visits + visited u) (2 ^ 64 - 1) = c.in_ok-first-2.ensures.counted in
+    let j = c.down.invariant.counted in
+    let e : c.collect_leaf.new.visits ≡ min (c.args.visits.now + visited (tree c.args.expr.now)) (2 ^ 64 - 1) = omega arith in
+    on_map c.finish-in-Leaf.result (c.finish-in-Leaf.ensures.kept (tree c.args.expr.now) c.down.invariant.prefixes a) (λ _. e)
 
 -- ---- lists
 
@@ -248,4 +375,22 @@ collect_operands-returns-in_ok-collect-in-Arms-clause-counted g t c =
     let k = c.in_ok-collect_arms-in-Arms.ensures.counted in
     let n = c.in_ok-collect-in-Arms.ensures.counted in
     let d = ap (λ x. visited (g.E.HasExprTree.tree x)) c.deref-in-Arms-2.ensures in
+    omega arith
+
+pub collect_behind-returns-in_ok-collect_elements-in-Call-clause-kept : goal.collect_behind-returns-in_ok-collect_elements-in-Call-clause-kept
+collect_behind-returns-in_ok-collect_elements-in-Call-clause-kept g t c =
+    let tree = g.E.HasExprTree.tree in
+    let xs = c.in-Call.arguments.now in
+    let i = ap (λ o. behind_below (operands_of tree g.E.Arm.HasArmView.view o)) c.in-Call.is in
+    let b = based_behind (tree c.in-Call.field-0.now.value) (elements (map tree (values xs)) (trails xs)) in
+    c.in_ok-collect_elements-in-Call.ensures.kept ∙ ap (λ l. c.args.summaries.now.items ++ l) (sym (i ∙ b ∙ elements_below tree (values xs) (trails xs)))
+
+pub collect_behind-returns-in_ok-collect_elements-in-Call-clause-counted : goal.collect_behind-returns-in_ok-collect_elements-in-Call-clause-counted
+collect_behind-returns-in_ok-collect_elements-in-Call-clause-counted g t c =
+    let tree = g.E.HasExprTree.tree in
+    let xs = c.in-Call.arguments.now in
+    let i = ap (λ o. behind_visited (operands_of tree g.E.Arm.HasArmView.view o)) c.in-Call.is in
+    let b = based_left (tree c.in-Call.field-0.now.value) (elements (map tree (values xs)) (trails xs)) in
+    let m = elements_visited tree (values xs) (trails xs) in
+    let k = c.in_ok-collect_elements-in-Call.ensures.counted in
     omega arith

@@ -1,4 +1,4 @@
--- A pass goes down the nodes that it visits. A loop leaves the operands before those that were summarized.
+-- A pass goes down the nodes that it visits. A loop over a list leaves the operands before those that were summarized.
 use Rattle.std.proofs.Common.{◌≡◌, ◌+◌, ◌*◌, ◌^◌, ◌-◌, ◌≤◌, ◌++◌, min, length}
 use Rattle.syn_lower_lists.specs.View.{values}
 use Rattle.syn_grammar.specs.Summaries.{stack}
@@ -6,16 +6,20 @@ use Rattle.syn_expr_kinds.specs.Node.{operands_at, operands_of}
 use Rattle.syn_expr_kinds.specs.View.{boxed, field_value_of}
 use Rattle.syn_expr_collect.specs.Below.{operands_visited, backwards, total, field_below, field_visited, option_visited, arm_below, arm_visited}
 use Rattle.syn_expr_collect.specs.Visited.{visited}
+use Rattle.syn_expr_collect.specs.Spine.{Prefixes, above, behind_visited}
 use Rattle.syn_expr_collect.proofs.summaries.+collect.Given as goal
 
 abbrev pub decreases-collect : goal.decreases-collect
 decreases-collect g l = 6 * visited (g.E.HasExprTree.tree l.expr.now)
 
-abbrev pub decreases-collect_below : goal.decreases-collect_below
-decreases-collect_below g l = 5 + 6 * operands_visited (operands_at (g.E.HasExprTree.tree l.expr.now))
+abbrev pub decreases-collect_spine : goal.decreases-collect_spine
+decreases-collect_spine g l = 5 + 6 * operands_visited (operands_at (g.E.HasExprTree.tree l.expr.now))
 
 abbrev pub decreases-collect_operands : goal.decreases-collect_operands
 decreases-collect_operands g l = 4 + 6 * operands_visited (operands_of g.E.HasExprTree.tree g.E.Arm.HasArmView.view l.operands)
+
+abbrev pub decreases-collect_behind : goal.decreases-collect_behind
+decreases-collect_behind g l = 4 + 6 * behind_visited (operands_of g.E.HasExprTree.tree g.E.Arm.HasArmView.view l.operands)
 
 abbrev pub decreases-collect_elements : goal.decreases-collect_elements
 decreases-collect_elements g l = 3 + 6 * total (λ x. visited (g.E.HasExprTree.tree x)) (values l.elements.now)
@@ -73,3 +77,16 @@ invariant-collect_arms-arms g l =
 
 abbrev pub decreases-collect_arms-arms : goal.decreases-collect_arms-arms
 decreases-collect_arms-arms g l = length l.arms
+
+-- Down first operands the nodes over the one that is next are kept.
+abbrev pub invariant-collect_spine-down : goal.invariant-collect_spine-down
+invariant-collect_spine-down g l =
+    record {
+      prefixes : Prefixes g.E.HasExprTree.tree (g.E.HasExprTree.tree l.fn.expr) l.spine.items (g.E.HasExprTree.tree l.x);
+      kept : l.summaries.items ++ (stack (g.E.HasExprTree.tree l.x) ++ above g.E.HasExprTree.tree l.spine.items) ≡ l.fn.summaries.items ++ stack (g.E.HasExprTree.tree l.fn.expr);
+      counted : min (l.visits + visited (g.E.HasExprTree.tree l.x)) (2 ^ 64 - 1) ≡ min (l.fn.visits + visited (g.E.HasExprTree.tree l.fn.expr)) (2 ^ 64 - 1);
+      fewer : visited (g.E.HasExprTree.tree l.x) ≤ visited (g.E.HasExprTree.tree l.fn.expr);
+    }
+
+abbrev pub decreases-collect_spine-down : goal.decreases-collect_spine-down
+decreases-collect_spine-down g l = visited (g.E.HasExprTree.tree l.x)

@@ -1,4 +1,4 @@
--- Before those of its own; where all are outer ones none is put behind.
+-- Before those of its own; where all are outer ones none is put after.
 use Rattle.std.proofs.Common.{◌≡◌, ◌++◌, IfOk, subst, sym, ap, ◌∙◌}
 use Rattle.syn_grammar.specs.Tree.{inners, outers}
 use Rattle.syn_grammar.proofs.Attributes.{inners_none}

@@ -1,4 +1,4 @@
--- The label behind the word.
+-- The label after the word.
 use Rattle.std.proofs.Common.{◌≡◌, ◌++◌, ◌∷◌, [], OnOk, subst, sym, ap, ◌∙◌}
 use Rattle.std.specs.Prelude.{codes}
 use Rattle.syn_tokens.specs.Tok.{ident}

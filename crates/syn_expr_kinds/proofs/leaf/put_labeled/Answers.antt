@@ -1,4 +1,4 @@
--- The braces behind the label.
+-- The braces after the label.
 use Rattle.std.proofs.Common.{◌≡◌, ◌++◌, OnOk, subst, sym, ap, ◌∙◌}
 use Rattle.syn_expr_kinds.proofs.Owns.{label_first, then}
 use Rattle.syn_expr_kinds.proofs.leaf.put_labeled.Goals as goal

@@ -1,4 +1,4 @@
--- Each part behind those before it.
+-- Each part after those before it.
 use Rattle.std.proofs.Common.{◌≡◌, ◌++◌, ◌∷◌, [], OnOk, subst, sym, ap, ◌∙◌}
 use Rattle.std.specs.Prelude.{codes}
 use Rattle.syn_tokens.specs.Tok.{ident}

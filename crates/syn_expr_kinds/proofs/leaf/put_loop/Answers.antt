@@ -1,4 +1,4 @@
--- The word and the braces behind the label.
+-- The word and the braces after the label.
 use Rattle.std.proofs.Common.{◌≡◌, ◌++◌, OnOk, subst, sym, ap, ◌∙◌}
 use Rattle.syn_tokens.specs.Sign.{word_text}
 use Rattle.syn_expr_kinds.proofs.Owns.{label_first, then}

@@ -1,4 +1,4 @@
--- The leaf behind its attributes.
+-- The leaf after its attributes.
 use Rattle.syn_expr_kinds.specs.Node.{leaf_of}
 use Rattle.syn_expr_kinds.proofs.Leaves.{leaf-written}
 use Rattle.syn_expr_kinds.proofs.leaf.put_whole_leaf.Goals as goal

@@ -1,4 +1,4 @@
--- What stands in the parentheses is printed for itself.
+-- What is in the parentheses is printed for itself.
 use Rattle.std.proofs.Common.{◌≡◌, [], ◌++◌, false, OnOk, subst, sym, ap, ◌∙◌}
 use Rattle.syn_lexer.specs.declared.lexeme.Delimiter.TheVariants as del
 use Rattle.syn_parts.specs.Own as own_parts

@@ -1,4 +1,4 @@
--- What stands behind `else`, and a frame with its operands.
+-- What comes after `else`, and a frame with its operands.
 use Rattle.std.proofs.Common.{◌≡◌, ◌+◌, ◌++◌, OnOk, map, subst, sym, ap, ◌∙◌, arith, rules}
 use Rattle.syn_grammar.specs.Next.{enclosed}
 use Rattle.syn_grammar.specs.Summaries.{stack, children_below}
@@ -18,7 +18,7 @@ use Rattle.syn_expr_print.proofs.Spellings.{spelled-bare}
 use Rattle.syn_expr_kinds.proofs.Owns.{then}
 use Rattle.syn_expr_print.proofs.frames.+frame.Goals as goal
 
--- ---- behind `else`
+-- ---- after `else`
 
 pub chained-returns-then-is_if_expr-clause-text : goal.chained-returns-then-is_if_expr-clause-text
 chained-returns-then-is_if_expr-clause-text g t c =

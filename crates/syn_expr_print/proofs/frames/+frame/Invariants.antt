@@ -1,4 +1,4 @@
--- What stands behind `else` is smaller than its `if`.
+-- What comes after `else` is smaller than its `if`.
 use Rattle.std.proofs.Common.{◌+◌, ◌*◌}
 use Rattle.syn_grammar.specs.Tree.{size, children_size}
 use Rattle.syn_expr_kinds.specs.Node.{operands_of, operand_children}

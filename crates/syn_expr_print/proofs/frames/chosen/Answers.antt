@@ -1,4 +1,4 @@
--- The arms behind what is looked at.
+-- The arms after what is looked at.
 use Rattle.std.proofs.Common.{◌++◌, subst, sym, ap, arith}
 use Rattle.syn_grammar.specs.Summaries.{stack}
 use Rattle.syn_expr_collect.specs.Below.{arm_below, backwards, total}

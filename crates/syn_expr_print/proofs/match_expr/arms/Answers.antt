@@ -1,4 +1,4 @@
--- An arm and those behind it.
+-- An arm and those after it.
 use Rattle.std.proofs.Common.{◌-◌, ◌++◌, length, take, drop, map, subst, sym, ap, ◌∙◌, arith}
 use Rattle.std.specs.Prelude.{not}
 use Rattle.syn_tokens.proofs.Fronts.{front_through}

@@ -1,4 +1,4 @@
--- The pattern behind the attributes.
+-- The pattern after the attributes.
 use Rattle.std.proofs.Common.{◌≡◌, ◌++◌, [], OnOk, map, subst, sym, ap, ◌∙◌}
 use Rattle.syn_parts.specs.PatOwn.{attributes_own, pat_own}
 use Rattle.syn_lower_leaves.specs.View.{attribute_of}

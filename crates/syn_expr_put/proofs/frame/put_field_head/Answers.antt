@@ -1,4 +1,4 @@
--- Each part behind those before it.
+-- Each part after those before it.
 use Rattle.std.proofs.Common.{◌≡◌, ◌++◌, OnOk, subst, sym, ap, ◌∙◌}
 use Rattle.syn_tokens.specs.Sign.{sign_text}
 use Rattle.syn_expr_parts.specs.View.{member_of}

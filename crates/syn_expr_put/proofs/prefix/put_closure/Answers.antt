@@ -1,4 +1,4 @@
--- Each part behind those before it.
+-- Each part after those before it.
 use Rattle.std.proofs.Common.{◌≡◌, ◌++◌, OnOk, subst, sym, ap, ◌∙◌}
 use Rattle.syn_tokens.specs.Sign.{sign_text, word_text}
 use Rattle.syn_tokens.proofs.Fronts.{front_through}

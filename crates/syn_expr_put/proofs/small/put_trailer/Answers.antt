@@ -1,4 +1,4 @@
--- A method's parts, each behind those before it.
+-- A method's parts, each after those before it.
 use Rattle.std.proofs.Common.{◌≡◌, ◌++◌, ◌∷◌, [], OnOk, subst, sym, ap, ◌∙◌}
 use Rattle.syn_tokens.specs.Tok.{ident}
 use Rattle.syn_tokens.specs.Sign.{sign_text, word_text}

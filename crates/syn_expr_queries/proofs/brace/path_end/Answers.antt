@@ -1,4 +1,4 @@
--- A path that a type qualifies, by how many of its segments stand before the `>`.
+-- A path that a type qualifies, by how many of its segments come before the `>`.
 use Rattle.std.proofs.Common.{◌<◌, ◌≤◌, length, map, subst, arith}
 use Rattle.std.proofs.lemmas.List.{length-map}
 use Rattle.std.specs.Prelude.{false, is_some}

@@ -1,4 +1,4 @@
--- Behind attributes that are all inner ones, what a node begins with is first.
+-- After attributes that are all inner ones, what a node begins with is first.
 use Rattle.std.proofs.Common.{◌≡◌, Some, true, ap, sym, ◌∙◌}
 use Rattle.syn_grammar.specs.Query as query
 use Rattle.syn_grammar.specs.Tree.{outers}

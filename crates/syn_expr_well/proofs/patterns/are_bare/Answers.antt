@@ -1,4 +1,4 @@
--- The last of the segments, behind which no `::` stands.
+-- The last of the segments, after which no `::` stands.
 use Rattle.std.proofs.Common.{map, ap, rules}
 use Rattle.syn_lower.specs.View.{type_of, segment_of}
 use Rattle.syn_parts.specs.Part.{has_none, segments_bare}

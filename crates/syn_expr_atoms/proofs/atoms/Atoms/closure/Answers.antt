@@ -1,4 +1,4 @@
--- No body stands where no block does behind an output.
+-- No body is where no block does after an output.
 use Rattle.std.proofs.Common.{◌≡◌, false, rules, ap, arith}
 use Rattle.syn_parts.specs.Part.{is_default}
 use Rattle.syn_lower.specs.View.{return_of}

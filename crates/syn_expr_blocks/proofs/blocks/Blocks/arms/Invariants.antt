@@ -7,7 +7,7 @@ use Rattle.syn_expr_blocks.proofs.blocks.Blocks.arms.Given as goal
 
 abbrev pub invariant-arms : goal.invariant-arms
 invariant-arms g l = record {
-  value : bare_operands expr slot.arms l.fn.input.rest ≡ arms_behind (map g.E.Arm.HasArmView.view l.found.items) l.input.rest;
+  value : bare_operands expr slot.arms l.fn.input.rest ≡ arms_behind (map g.E.Arm.HasArmView.view l.held.value.items) l.input.rest;
   noted : l.input.noted ≡ l.fn.input.noted;
   shrinks : weight l.input.rest ≤ weight l.fn.input.rest;
 }

@@ -8,8 +8,8 @@ use Rattle.syn_expr_lists.proofs.lists.Lists.fields.Given as goal
 
 abbrev pub invariant-fields : goal.invariant-fields
 invariant-fields g l = record {
-  value : braced l.fn.input.rest ≡ gathered (map (field_value_of g.E.HasExprTree.tree) (values l.fields)) l.input.rest;
-  ready : takes_value l.fields ≡ true;
+  value : braced l.fn.input.rest ≡ gathered (map (field_value_of g.E.HasExprTree.tree) (values l.held.value)) l.input.rest;
+  ready : takes_value l.held.value ≡ true;
   noted : l.input.noted ≡ l.fn.input.noted;
   shrinks : weight l.input.rest ≤ weight l.fn.input.rest;
 }

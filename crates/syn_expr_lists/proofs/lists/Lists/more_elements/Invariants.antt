@@ -7,8 +7,8 @@ use Rattle.syn_expr_lists.proofs.lists.Lists.more_elements.Given as goal
 
 abbrev pub invariant-elements : goal.invariant-elements
 invariant-elements g l = record {
-  value : gathered (map g.E.HasExprTree.tree (values l.fn.found)) l.fn.input.rest ≡ gathered (map g.E.HasExprTree.tree (values l.found)) l.input.rest;
-  ready : takes_value l.found ≡ true;
+  value : gathered (map g.E.HasExprTree.tree (values l.fn.found)) l.fn.input.rest ≡ gathered (map g.E.HasExprTree.tree (values l.held.value)) l.input.rest;
+  ready : takes_value l.held.value ≡ true;
   noted : l.input.noted ≡ l.fn.input.noted;
   shrinks : weight l.input.rest ≤ weight l.fn.input.rest;
 }

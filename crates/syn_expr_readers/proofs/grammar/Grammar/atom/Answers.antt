@@ -8,7 +8,7 @@ use Rattle.syn_expr_readers.specs.Operators.{operator_at}
 use Rattle.syn_expr_readers.proofs.Operators.{prefix_first}
 use Rattle.syn_expr_readers.proofs.grammar.Grammar.atom.Goals as goal
 
--- behind the operator that was taken
+-- after the operator that was taken
 pub returns-in-Some-first_operator-clause-value : goal.returns-in-Some-first_operator-clause-value
 returns-in-Some-first_operator-clause-value g c =
     let k = un_kind c.in-Some-first_operator.op in

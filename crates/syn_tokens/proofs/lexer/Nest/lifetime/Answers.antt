@@ -9,7 +9,7 @@ use Rattle.syn_tokens.specs.Tok.{punct, ident}
 use Rattle.syn_tokens.proofs.Standing.{stand_in_order, stand_from, stand_to, stand_are, stand_behind}
 use Rattle.syn_tokens.proofs.lexer.Nest.lifetime.Goals as goal
 
--- the name behind the quote
+-- the name after the quote
 name_stands : (bytes : List ℕ) (lo hi : ℕ) (read : List ℕ) → StandAt bytes lo hi read → StandAt bytes (lo + length (encode_utf8_all (take 1 read))) hi (drop 1 read)
 name_stands bytes lo hi read s = stand_behind bytes lo hi (take 1 read) (drop 1 read) (rw (take-append-drop 1 read) s)
 
