@@ -1,6 +1,7 @@
 //! An expression that is given up, with all in it.
 
 ghost use Rattle.std.specs.Prelude.{◌≡◌, ◌⊎◌, ◌<◌, Some, IfSome};
+ghost use Rattle.syn_expr_all.specs.declared.control.ExprMatch.{out-ExprMatch};
 ghost use Rattle.syn_expr_all.specs.declared.expr.Expr.{size-Expr};
 
 use crate::closure::ExprClosure;
@@ -208,7 +209,9 @@ fn of_if(x: ExprIf) -> (Box<Expr>, Option<(Else, Box<Expr>)>)
 }
 
 /// What it matches, and its arms.
-fn of_match(x: ExprMatch) -> (Box<Expr>, Vec<Arm>) {
+fn of_match(x: ExprMatch) -> (Box<Expr>, Vec<Arm>)
+    ensures { result ≡ ((out-ExprMatch x).expr, (out-ExprMatch x).arms) }
+{
     (x.expr, x.arms)
 }
 
@@ -297,44 +300,23 @@ fn one_arm(arm: Arm) {
 // Not in the frame of `let_go`, which is on the stack once for each level of a tree that no loop goes down.
 #[inline(never)]
 #[cycle(let_go)]
-fn arms(arms: Vec<Arm>) {
-    for x in arms {
-        one_arm(x);
+fn arms(mut arms: Vec<Arm>) {
+    while let Some(arm) = arms.pop() {
+        one_arm(arm);
     }
 }
 
-/// Lets one of two operands go, and answers the other.
+/// Lets one of two operands go, where both are there, and answers the other.
 #[cycle(let_go)]
-fn both(operands: (Box<Expr>, Box<Expr>)) -> Option<Box<Expr>>
-    ensures { (result ≡ Some operands.0) ⊎ (result ≡ Some operands.1) }
+fn both(second: Option<Box<Expr>>, first: Option<Box<Expr>>) -> Option<Box<Expr>>
+    ensures { (result ≡ second) ⊎ (result ≡ first) }
 {
-    let (left, right) = operands;
-    Some(beside(right, left))
-}
-
-/// Lets one of two operands go, where there are two, and answers the other.
-#[cycle(let_go)]
-fn ends(operands: (Option<Box<Expr>>, Option<Box<Expr>>)) -> Option<Box<Expr>>
-    ensures { (result ≡ operands.0) ⊎ (result ≡ operands.1) }
-{
-    let (first, second) = operands;
-    let Some(left) = first else {
-        return second;
+    let Some(right) = second else {
+        return first;
     };
-    match second {
-        Some(right) => Some(beside(right, left)),
-        None => Some(left),
-    }
-}
-
-/// Lets the elements of a list go, and perhaps its base, and answers an operand that is left.
-#[cycle(let_go)]
-fn with_base(base: Box<Expr>, list: Punctuated<Expr, Comma>) -> Option<Box<Expr>>
-    ensures { (result ≡ Some base) ⊎ (result ≡ list.last) }
-{
-    match elements(list) {
-        Some(last) => Some(beside(last, base)),
-        None => Some(base),
+    match first {
+        Some(left) => Some(beside(right, left)),
+        None => Some(right),
     }
 }
 
@@ -346,13 +328,19 @@ fn all_but_one(x: Expr) -> Option<Box<Expr>>
 {
     match x {
         Expr::Array(x) => elements(of_array(x)),
-        Expr::Assign(x) => both(of_assign(x)),
+        Expr::Assign(x) => {
+            let (left, right) = of_assign(x);
+            Some(beside(right, left))
+        }
         Expr::Await(x) => Some(of_await(x)),
-        Expr::Binary(x) => both(of_binary(x)),
+        Expr::Binary(x) => {
+            let (left, right) = of_binary(x);
+            Some(beside(right, left))
+        }
         Expr::Break(x) => of_break(x),
         Expr::Call(x) => {
             let (base, args) = of_call(x);
-            with_base(base, args)
+            both(elements(args), Some(base))
         }
         Expr::Cast(x) => Some(of_cast(x)),
         Expr::Closure(x) => Some(of_closure(x)),
@@ -366,7 +354,10 @@ fn all_but_one(x: Expr) -> Option<Box<Expr>>
                 None => Some(cond),
             }
         }
-        Expr::Index(x) => both(of_index(x)),
+        Expr::Index(x) => {
+            let (left, right) = of_index(x);
+            Some(beside(right, left))
+        }
         Expr::Let(x) => Some(of_let(x)),
         Expr::Match(x) => {
             let (expr, all) = of_match(x);
@@ -375,13 +366,19 @@ fn all_but_one(x: Expr) -> Option<Box<Expr>>
         }
         Expr::MethodCall(x) => {
             let (base, args) = of_method_call(x);
-            with_base(base, args)
+            both(elements(args), Some(base))
         }
         Expr::Paren(x) => Some(of_paren(x)),
-        Expr::Range(x) => ends(of_range(x)),
+        Expr::Range(x) => {
+            let (start, end) = of_range(x);
+            both(end, start)
+        }
         Expr::RawAddr(x) => Some(of_raw_addr(x)),
         Expr::Reference(x) => Some(of_reference(x)),
-        Expr::Repeat(x) => both(of_repeat(x)),
+        Expr::Repeat(x) => {
+            let (left, right) = of_repeat(x);
+            Some(beside(right, left))
+        }
         Expr::Return(x) => of_return(x),
         Expr::Struct(x) => {
             let (all, rest) = of_struct(x);
