@@ -1,0 +1,5 @@
+mod Counts
+mod Files
+mod Kinds
+mod Lines
+pub mod Parts
