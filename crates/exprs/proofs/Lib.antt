@@ -1,5 +1,0 @@
-mod Counts
-mod Files
-mod Kinds
-mod Lines
-pub mod Parts
