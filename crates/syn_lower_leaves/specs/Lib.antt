@@ -7,4 +7,3 @@ pub mod Verbatim
 pub mod Value
 pub mod ValueRows
 pub mod Parsed
-pub mod Written

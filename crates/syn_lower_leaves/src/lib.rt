@@ -11,7 +11,6 @@ pub mod leaf;
 pub mod lifetime;
 pub mod lit;
 pub mod mac;
-mod make;
 mod number;
 mod parse;
 mod print;

@@ -5,5 +5,3 @@
 mod leaf;
 #[cfg(test)]
 mod lit;
-#[cfg(test)]
-mod made;
