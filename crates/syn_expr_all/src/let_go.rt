@@ -321,7 +321,6 @@ fn both(second: Option<Box<Expr>>, first: Option<Box<Expr>>) -> Option<Box<Expr>
 }
 
 /// Lets an expression go but for one operand, and answers that.
-#[inline(never)]
 #[cycle(let_go)]
 fn all_but_one(x: Expr) -> Option<Box<Expr>>
     ensures { IfSome result (λ b. size-Expr b.value < size-Expr x) }
@@ -397,10 +396,9 @@ fn all_but_one(x: Expr) -> Option<Box<Expr>>
 /// Lets an expression go, and all in it, by a loop down its operands.
 #[inline(never)]
 #[cycle(let_go)]
-pub(crate) fn let_go(x: Expr) {
-    let mut left = all_but_one(x);
-    'left: while let Some(one) = left {
-        left = all_but_one(Box::into_inner(one));
+pub(crate) fn let_go(mut x: Expr) {
+    'x: while let Some(left) = all_but_one(x) {
+        x = Box::into_inner(left);
     }
 }
 

@@ -103,6 +103,8 @@ pub fn place_by(level: Level, context: Context, x: Summary) -> bool
 }
 
 /// Whether a left operand is put in parentheses.
+// Asked of each operation of a tree, so without a call.
+#[inline(always)]
 pub fn left_by(op: Infix, context: Context, x: Summary) -> bool
     ensures { result ≡ spec.left_by op context x }
 {

@@ -124,6 +124,8 @@ fn first_labelled(x: Summary, wrapped: bool) -> bool
 }
 
 /// The summary of an operation with two operands.
+// Made at each operation of a tree, so without a call.
+#[inline(always)]
 pub fn infix_summary(op: Infix, x: Summary, y: Summary) -> Summary
     ensures { result ≡ spec.infix_summary op x y }
 {

@@ -1,4 +1,4 @@
-use Rattle.std.proofs.Common.{◌<◌, IfSome, ◌+◌, ◌*◌}
+use Rattle.std.proofs.Common.{◌≤◌, ◌+◌, ◌*◌}
 use Rattle.syn_expr_all.specs.declared.expr.Expr.{size-Expr}
 use Rattle.syn_expr_all.proofs.let_go.+let_go.Given as goal
 
@@ -48,6 +48,6 @@ invariant-fields-loop-field l = goal.no_deeper-fields-loop-field l
 abbrev pub decreases-fields-loop-field : goal.decreases-fields-loop-field
 decreases-fields-loop-field l = goal.left-fields-loop-field l
 
--- what is left of it is smaller
-abbrev pub invariant-let_go-left : goal.invariant-let_go-left
-invariant-let_go-left l = IfSome l.left (λ b. size-Expr b.value < size-Expr l.fn.x)
+-- what is left of it is no deeper
+abbrev pub invariant-let_go-x : goal.invariant-let_go-x
+invariant-let_go-x l = size-Expr l.x ≤ size-Expr l.fn.x
