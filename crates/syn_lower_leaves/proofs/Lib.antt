@@ -11,3 +11,5 @@ pub mod Digits
 pub mod DecimalValues
 pub mod Quotes
 pub mod ValueRows
+pub mod Written
+pub mod Made

@@ -7,3 +7,4 @@ pub mod Verbatim
 pub mod Value
 pub mod ValueRows
 pub mod Parsed
+pub mod Written

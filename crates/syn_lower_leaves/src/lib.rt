@@ -11,6 +11,7 @@ pub mod leaf;
 pub mod lifetime;
 pub mod lit;
 pub mod mac;
+mod make;
 mod number;
 mod parse;
 mod print;

@@ -10,7 +10,7 @@ use syn_tokens::error::{ErrorKind, Result};
 use syn_tokens::token::Minus;
 use syn_tokens::tree::{Ident, Literal, TokenStream};
 
-/// A literal. Its kinds are made by readers alone.
+/// A literal.
 #[derive(Debug, Drop, PartialEq)]
 pub enum Lit {
     /// `"text"`, `r"text"`

@@ -20,7 +20,7 @@ pub(crate) fn digit_value(c: u32) -> u32
 }
 
 /// What comes after a place where a character of ASCII is.
-fn behind(text: &str, at: usize) -> &str
+pub(crate) fn behind(text: &str, at: usize) -> &str
     requires within { at < length text.now }
     requires narrow { slice_index text.now at < 128 }
     ensures { result.now ≡ drop (at + 1) text.now }

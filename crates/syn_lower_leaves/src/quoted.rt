@@ -129,7 +129,7 @@ fn escape(is_byte: bool, text: &[char]) -> Option<(char, usize)>
 }
 
 /// Whether it may stand for itself.
-fn is_plain(is_byte: bool, c: char) -> bool
+pub(crate) fn is_plain(is_byte: bool, c: char) -> bool
     ensures { result ≡ spec.is_plain is_byte c }
 {
     !is_byte || c < '\u{80}'

@@ -55,7 +55,7 @@ fn begins_fraction(c: u8) -> bool
 
 /// Whether a number is one with a dot or an exponent.
 #[tactic(auto, unfolding(syn_parts::specs::Text::is_float_text))]
-fn is_float(text: &str) -> bool
+pub(crate) fn is_float(text: &str) -> bool
     ensures { result ≡ spec.is_float_text text.now }
 {
     !has_radix(text) && begins_fraction(byte_at(text, digits_len(text)))

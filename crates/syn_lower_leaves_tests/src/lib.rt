@@ -5,3 +5,5 @@
 mod leaf;
 #[cfg(test)]
 mod lit;
+#[cfg(test)]
+mod made;

@@ -1,0 +1,22 @@
+use Rattle.std.proofs.Common.{◌∙◌, ap, true, subst, sym, chars}
+use Rattle.std.proofs.Math.Facts.{Fits-lt-pow}
+use Rattle.syn_tokens.specs.Lex.{IsLiteralText}
+use Rattle.syn_lower_leaves.specs.Value.{byte_str_value}
+use Rattle.syn_lower_leaves.specs.Written.{quoted}
+use Rattle.syn_lower_leaves.proofs.Made.{is_made, is_literal, byte_str_made, byte_str_is_literal}
+use Rattle.syn_lower_leaves.proofs.lit.LitByteStr.new.Goals as goal
+
+pub token-requires : goal.token-requires
+token-requires c = is_literal (quoted true 34 c.args.value.now) _ c.as_str.utf8 (c.as_str.ensures.value ∙ c.in_ok-text.ensures) (byte_str_is_literal c.args.value.now (λ k e. Fits-lt-pow (c.type_inv.value k)))
+
+pub returns-clause-value : goal.returns-clause-value
+returns-clause-value c =
+    let e = ap chars c.in_ok-token.ensures.made ∙ is_made (quoted true 34 c.args.value.now) _ c.as_str.utf8 (c.as_str.ensures.value ∙ c.in_ok-text.ensures) in
+    ap byte_str_value e ∙ byte_str_made c.args.value.now (λ k e. Fits-lt-pow (c.type_inv.value k))
+
+pub returns-clause-text : goal.returns-clause-text
+returns-clause-text c = ap chars c.in_ok-token.ensures.made ∙ is_made (quoted true 34 c.args.value.now) _ c.as_str.utf8 (c.as_str.ensures.value ∙ c.in_ok-text.ensures)
+
+pub returns-clause-literal : goal.returns-clause-literal
+returns-clause-literal c =
+    subst (λ w. IsLiteralText (chars w)) (sym c.in_ok-token.ensures.made) (is_literal (quoted true 34 c.args.value.now) _ c.as_str.utf8 (c.as_str.ensures.value ∙ c.in_ok-text.ensures) (byte_str_is_literal c.args.value.now (λ k e. Fits-lt-pow (c.type_inv.value k))))
