@@ -3,13 +3,14 @@
 use crate::rows::{Behind, both, printed, read, refused, tell, words};
 use std::alloc::Global;
 use syn_expr::op::{BinOp, UnOp};
+use syn_expr::token::Comma;
 use syn_expr::{
     Abi, AngleBracketedGenericArguments, AssocType, Attribute, BareFnArg, Block, BoundLifetimes,
     GenericArgument, Ident, Index, Label, Lifetime, Lit, LitBool, LitByte, LitByteStr, LitCStr,
     LitChar, LitFloat, LitInt, LitStr, Macro, Member, ParenthesizedGenericArguments, ParseBuffer,
-    Path, PathSegment, PointerMutability, RangeLimits, Result, ReturnType, Span, ToTokens,
-    TokenStream, TraitBound, Type, TypeArray, TypeFnPtr, TypeImplTrait, TypeInfer, TypeMacro,
-    TypeNever, TypeParamBound, TypeParen, TypePath, TypePtr, TypeReference, TypeSlice,
+    Path, PathSegment, PointerMutability, Punctuated, RangeLimits, Result, ReturnType, Span,
+    ToTokens, TokenStream, TraitBound, Type, TypeArray, TypeFnPtr, TypeImplTrait, TypeInfer,
+    TypeMacro, TypeNever, TypeParamBound, TypeParen, TypePath, TypePtr, TypeReference, TypeSlice,
     TypeTraitObject, TypeTuple, lex, parse_str, print_qpath, qpath,
 };
 
@@ -77,6 +78,19 @@ fn value_of(alloc: Global, text: &str) -> Result<String> {
 fn byte_of(alloc: Global, text: &str) -> Result<String> {
     let byte = parse_str::<LitInt>(alloc, text)?.base10_parse::<u8>()?;
     Ok(format!(in alloc; "{byte}")?)
+}
+
+/// Literals of these values, with commas between.
+fn made(alloc: Global) -> Result<String> {
+    let mut list = Punctuated::<Lit, Comma>::new(alloc);
+    list.push(Lit::Str(LitStr::new(alloc, "a \"b\"\n", Span::call_site())?))?;
+    list.push(Lit::ByteStr(LitByteStr::new(alloc, b"a\\", Span::call_site())?))?;
+    list.push(Lit::Char(LitChar::new(alloc, '\'', Span::call_site())?))?;
+    list.push(Lit::Byte(LitByte::new(alloc, b'\0', Span::call_site())?))?;
+    list.push(Lit::Int(LitInt::new(alloc, "-1u8", Span::call_site())?))?;
+    list.push(Lit::Float(LitFloat::new(alloc, "1.5e3", Span::call_site())?))?;
+    list.push(Lit::Bool(LitBool::new(alloc, true, Span::call_site())?))?;
+    printed(alloc, &list)
 }
 
 /// A path of one word.
@@ -189,6 +203,11 @@ pub fn leaves(rt: &HostRuntime) {
     tell(rt, "LitInt::base10_parse", byte_of(alloc, "0x1_F"));
     tell(rt, "LitInt::base10_parse", byte_of(alloc, "256"));
     tell(rt, "LitFloat::base10_digits", value_of(alloc, "-1_0.5f32"));
+    tell(
+        rt,
+        "LitStr::new LitByteStr::new LitChar::new LitByte::new LitInt::new LitFloat::new LitBool::new",
+        made(alloc),
+    );
     tell(
         rt,
         "Block::parse Block::to_tokens",
