@@ -9,6 +9,7 @@ ghost use Rattle.syn_grammar.specs.Stands.{Stands};
 
 use crate::expr::Expr;
 use crate::let_go::let_go;
+use std::ops::Deref;
 use syn_tokens::buffer::{Parse, ParseBuffer, ToTokens};
 use syn_tokens::error::Result;
 use syn_tokens::tree::TokenStream;
@@ -35,6 +36,26 @@ impl HeldExpr {
     {
         let HeldExpr { expr } = self;
         expr
+    }
+}
+
+impl From<Expr> for HeldExpr {
+    ghost from_gives = { λ x held. held.expr ≡ x };
+
+    /// Holds the expression.
+    fn from(expr: Expr) -> HeldExpr {
+        HeldExpr { expr }
+    }
+}
+
+impl Deref for HeldExpr {
+    type Target = Expr;
+
+    ghost deref_gives = { λ held x. x ≡ held.expr };
+
+    /// The expression, so that `held.attrs()` asks the expression that is held.
+    fn deref(&self) -> &Expr {
+        &self.expr
     }
 }
 

@@ -30,7 +30,7 @@ m!{ x }         | 0..7
 
 fn shown(alloc: Global, text: &str) -> Result<String, Error> {
     let held = parse_str::<HeldExpr>(alloc, text)?;
-    let expr = &held.expr;
+    let expr = &*held;
     Ok(format!(in alloc; "{expr:?}")?)
 }
 
@@ -54,9 +54,7 @@ fn trees_have_places(rt: HostRuntime) -> Result<(), Fail> {
 
 #[test]
 fn no_tokens_have_no_place(rt: HostRuntime) -> Result<(), Fail> {
-    let held = HeldExpr {
-        expr: Expr::Verbatim(TokenStream::new(rt.alloc())),
-    };
+    let held = HeldExpr::from(Expr::Verbatim(TokenStream::new(rt.alloc())));
     assert!(rt; held.expr.span(rt.alloc())?.is_none());
     Ok(())
 }
