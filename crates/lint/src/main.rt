@@ -9,7 +9,7 @@ ghost use Rattle.syn_expr.specs.Texts.{NothingStands};
 use std::alloc::Global;
 use std::io;
 use syn_expr::{ErrorKind, Expr, HeldExpr, Precedence, Result, parse_str};
-use syn_expr_laws::same::equal_expressions;
+use syn_laws::same::equal_expressions;
 
 /// Whether the same expression is on both sides of a comparison.
 fn compares_with_itself(expr: &Expr) -> bool

@@ -1,6 +1,6 @@
 //! Expressions: the tree, its reader and its printer, as in syn. What a user names is here at the root too, with the lower
 //! parts and with what `syn_tokens` has there: a program that reads, changes and prints needs no other crate of these; what
-//! `==` says is in `syn_expr_laws`.
+//! `==` says is in `syn_laws`.
 #![tactic(auto)]
 
 pub mod laws;
@@ -95,12 +95,12 @@ pub use syn_expr_fixup::FixupContext;
 pub use syn_expr_fixup::fixup;
 pub use syn_expr_flatten::flatten;
 pub use syn_expr_flatten::flatten_in_place;
-pub use syn_expr_queries::classify;
-pub use syn_expr_queries::expr_leading_label;
-pub use syn_expr_queries::expr_trailing_brace;
-pub use syn_expr_queries::requires_comma_to_be_match_arm;
-pub use syn_expr_queries::requires_semi_to_be_stmt;
-pub use syn_expr_queries::trailing_unparameterized_path;
+pub use syn_expr_classify::classify;
+pub use syn_expr_classify::expr_leading_label;
+pub use syn_expr_classify::expr_trailing_brace;
+pub use syn_expr_classify::requires_comma_to_be_match_arm;
+pub use syn_expr_classify::requires_semi_to_be_stmt;
+pub use syn_expr_classify::trailing_unparameterized_path;
 pub use syn_grammar::kinds::Level;
 pub use syn_grammar::next::Context;
 pub use syn_lower::Abi;

@@ -5,7 +5,7 @@ ghost use Rattle.syn_expr_all.specs.View.{tree_of};
 ghost use Rattle.syn_grammar.specs.WellFormed as spec;
 
 use syn_expr_all::Expr;
-use syn_expr_well::is_well;
+use syn_expr_wellformed::is_well;
 
 /// Whether the tree of an expression is well-formed: a reader gives back the same tree from its own tokens, with parentheses
 /// where they have to be. Ill-formed are verbatim tokens, invisible groups, and whatever no tokens spell: reserved words as names,

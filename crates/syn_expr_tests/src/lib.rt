@@ -1,4 +1,5 @@
-//! Tests of `syn_expr`, in a crate of their own: tests inside of a crate are proved together with it once more.
+//! Tests of `syn_expr`: in every position, each kind by itself, and on bad input; in a crate of their own: tests inside of a
+//! crate are proved together with it once more.
 #![tactic(auto)]
 
 #[cfg(test)]
@@ -6,11 +7,13 @@ mod alone;
 #[cfg(test)]
 mod attrs;
 #[cfg(test)]
+mod cuts;
+#[cfg(test)]
+mod forks;
+#[cfg(test)]
 mod groups;
 #[cfg(test)]
 mod guards;
-#[cfg(test)]
-mod kinds;
 #[cfg(test)]
 mod made;
 #[cfg(test)]
@@ -25,6 +28,8 @@ mod questions;
 mod shown;
 #[cfg(test)]
 mod small;
+#[cfg(test)]
+mod swaps;
 #[cfg(test)]
 mod trees;
 #[cfg(test)]

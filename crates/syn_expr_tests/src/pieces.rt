@@ -1,14 +1,11 @@
-//! Members, indices, labels and modifiers, and what is put in place of an expression or of its attributes.
+//! Members, indices, labels and modifiers, what is put in place of an expression or of its attributes, and each kind printed
+//! by itself.
 
 use rows::{check, left_by, words};
 use std::alloc::Global;
 use std::mem::replace;
 use std::test::Fail;
-use syn_expr::{
-    Attribute, BlockModifiers, ClosureModifiers, Error, ErrorKind, Expr, HeldExpr, Index, Label,
-    Member, ParseBuffer, Span, ToTokens, TokenStream, is_well_formed, lex, parse_str, to_text,
-    token,
-};
+use syn_expr::{Attribute, BlockModifiers, ClosureModifiers, Error, ErrorKind, Expr, HeldExpr, Index, Label, Member, ParseBuffer, Result, Span, ToTokens, TokenStream, is_well_formed, lex, parse_str, to_text, token};
 
 /// Members, and whether one is a name.
 const MEMBERS: &str = "
@@ -20,7 +17,7 @@ r#type     | a name
 ";
 
 #[test]
-fn members_are_names_or_indices(rt: HostRuntime) -> Result<(), Fail> {
+fn members_are_names_or_indices(rt: HostRuntime) -> std::result::Result<(), Fail> {
     check(rt.alloc(), MEMBERS, |alloc, text| {
         let member = parse_str::<Member>(alloc, text)?;
         words(
@@ -35,7 +32,7 @@ fn members_are_names_or_indices(rt: HostRuntime) -> Result<(), Fail> {
 }
 
 #[test]
-fn numbers_are_made_indices(rt: HostRuntime) -> Result<(), Fail> {
+fn numbers_are_made_indices(rt: HostRuntime) -> std::result::Result<(), Fail> {
     for number in [0usize, 1, 4294967294] {
         assert!(rt; Index::fits(number), "{number}");
     }
@@ -68,14 +65,14 @@ a: b        | a : b
 ";
 
 #[test]
-fn labels_may_be_missing(rt: HostRuntime) -> Result<(), Fail> {
+fn labels_may_be_missing(rt: HostRuntime) -> std::result::Result<(), Fail> {
     check(rt.alloc(), LABELS, |alloc, text| {
         left_by(alloc, text, |input| Label::parse_optional(input).err())
     })
 }
 
 /// What the modifiers of an expression answer where none are wanted. There is no answer where it has none to ask.
-fn without_modifiers(expr: &Expr) -> Option<Result<(), Error>> {
+fn without_modifiers(expr: &Expr) -> Option<std::result::Result<(), Error>> {
     match expr {
         Expr::Closure(x) => Some(x.modifiers.require_empty()),
         Expr::Async(x) => Some(x.modifiers.require_empty()),
@@ -86,7 +83,7 @@ fn without_modifiers(expr: &Expr) -> Option<Result<(), Error>> {
 }
 
 #[test]
-fn most_have_no_modifiers(rt: HostRuntime) -> Result<(), Fail> {
+fn most_have_no_modifiers(rt: HostRuntime) -> std::result::Result<(), Fail> {
     assert!(rt; ClosureModifiers::default().require_empty().is_ok());
     assert!(rt; BlockModifiers::default().require_empty().is_ok());
     for text in [
@@ -113,7 +110,7 @@ const MODIFIED: [(&str, usize, usize); 6] = [
 ];
 
 #[test]
-fn modifiers_are_refused_at_the_first(rt: HostRuntime) -> Result<(), Fail> {
+fn modifiers_are_refused_at_the_first(rt: HostRuntime) -> std::result::Result<(), Fail> {
     for (text, lo, hi) in MODIFIED {
         let held = parse_str::<HeldExpr>(rt.alloc(), text)?;
         let refusal = Error::new(Span { lo, hi }, ErrorKind::ModifierNotEmpty);
@@ -130,7 +127,7 @@ fn put_use(expr: &mut Expr) {
 }
 
 #[test]
-fn a_closure_with_move_and_use_is_no_tree_of_a_text(rt: HostRuntime) -> Result<(), Fail> {
+fn a_closure_with_move_and_use_is_no_tree_of_a_text(rt: HostRuntime) -> std::result::Result<(), Fail> {
     let mut held = parse_str::<HeldExpr>(rt.alloc(), "static async move |x| x")?;
     assert!(rt; is_well_formed(&held.expr));
     put_use(&mut held.expr);
@@ -143,7 +140,7 @@ fn a_closure_with_move_and_use_is_no_tree_of_a_text(rt: HostRuntime) -> Result<(
 }
 
 #[test]
-fn equality_sees_modifiers(rt: HostRuntime) -> Result<(), Fail> {
+fn equality_sees_modifiers(rt: HostRuntime) -> std::result::Result<(), Fail> {
     let plain = parse_str::<HeldExpr>(rt.alloc(), "|x| x")?;
     for text in ["static |x| x", "use |x| x"] {
         let held = parse_str::<HeldExpr>(rt.alloc(), text)?;
@@ -157,7 +154,7 @@ fn equality_sees_modifiers(rt: HostRuntime) -> Result<(), Fail> {
 }
 
 /// What is printed of an expression.
-fn printed(alloc: Global, expr: &Expr) -> Result<String, Error> {
+fn printed(alloc: Global, expr: &Expr) -> std::result::Result<String, Error> {
     let mut tokens = TokenStream::new(alloc);
     expr.to_tokens(&mut tokens)?;
     to_text(&tokens)
@@ -173,7 +170,7 @@ fn take_left(alloc: Global, expr: &mut Expr) {
 }
 
 #[test]
-fn a_placeholder_is_a_path_without_tokens(rt: HostRuntime) -> Result<(), Fail> {
+fn a_placeholder_is_a_path_without_tokens(rt: HostRuntime) -> std::result::Result<(), Fail> {
     let held = HeldExpr {
         expr: Expr::placeholder(rt.alloc()),
     };
@@ -186,5 +183,162 @@ fn a_placeholder_is_a_path_without_tokens(rt: HostRuntime) -> Result<(), Fail> {
     take_left(rt.alloc(), &mut held.expr);
     assert_eq!(rt; printed(rt.alloc(), &held.expr)?.as_str(), "+ c");
     assert!(rt; !is_well_formed(&held.expr));
+    Ok(())
+}
+
+/// A text of each kind but verbatim tokens and invisible groups, and of some after attributes.
+const KINDS: [&str; 49] = [
+    "[a, b]",
+    "a = b",
+    "async move { a }",
+    "a.await",
+    "a + b",
+    "#[x] (a + b)",
+    "'l: { #![x] a }",
+    "break",
+    "break 'l a",
+    "f(a, b)",
+    "a as T",
+    "|a, b| a + b",
+    "|a| -> T { a }",
+    "const { a }",
+    "continue 'l",
+    "a.b",
+    "a.0",
+    "'l: for p in a { b }",
+    "if a { b } else if c { d } else { e }",
+    "a[b]",
+    "_",
+    "let p = a",
+    "1",
+    "loop { a }",
+    "m!(a)",
+    "#[x] match a { #![y] p if b => c, _ => {} }",
+    "a.f::<T>(b)",
+    "(a)",
+    "<T as U>::a",
+    "..",
+    "a..b",
+    "a..",
+    "..=b",
+    "#[x] (a..b)",
+    "&raw const a",
+    "&mut a",
+    "[a; b]",
+    "return",
+    "return a",
+    "S { a: b, c, ..d }",
+    "a?",
+    "try { a }",
+    "(a,)",
+    "(a, b)",
+    "-a",
+    "unsafe { a }",
+    "'l: while a { b }",
+    "yield",
+    "yield a",
+];
+
+/// A text with arms or fields, and the text of these one after the other.
+const PARTS: [(&str, &str); 2] = [
+    (
+        "match a { p if b => c, #[x] _ => {} }",
+        "p if b => c , # [x] _ => {}",
+    ),
+    ("S { a: b, #[x] c, ..d }", "a : b # [x] c"),
+];
+
+/// Puts what an expression is, as the struct of its kind has it.
+fn put_kind(expr: &Expr, tokens: &mut TokenStream) -> Result<()> {
+    match expr {
+        Expr::Array(x) => x.to_tokens(tokens),
+        Expr::Assign(x) => x.to_tokens(tokens),
+        Expr::Async(x) => x.to_tokens(tokens),
+        Expr::Await(x) => x.to_tokens(tokens),
+        Expr::Binary(x) => x.to_tokens(tokens),
+        Expr::Block(x) => x.to_tokens(tokens),
+        Expr::Break(x) => x.to_tokens(tokens),
+        Expr::Call(x) => x.to_tokens(tokens),
+        Expr::Cast(x) => x.to_tokens(tokens),
+        Expr::Closure(x) => x.to_tokens(tokens),
+        Expr::Const(x) => x.to_tokens(tokens),
+        Expr::Continue(x) => x.to_tokens(tokens),
+        Expr::Field(x) => x.to_tokens(tokens),
+        Expr::ForLoop(x) => x.to_tokens(tokens),
+        Expr::Group(x) => x.to_tokens(tokens),
+        Expr::If(x) => x.to_tokens(tokens),
+        Expr::Index(x) => x.to_tokens(tokens),
+        Expr::Infer(x) => x.to_tokens(tokens),
+        Expr::Let(x) => x.to_tokens(tokens),
+        Expr::Lit(x) => x.to_tokens(tokens),
+        Expr::Loop(x) => x.to_tokens(tokens),
+        Expr::Macro(x) => x.to_tokens(tokens),
+        Expr::Match(x) => x.to_tokens(tokens),
+        Expr::MethodCall(x) => x.to_tokens(tokens),
+        Expr::Paren(x) => x.to_tokens(tokens),
+        Expr::Path(x) => x.to_tokens(tokens),
+        Expr::Range(x) => x.to_tokens(tokens),
+        Expr::RawAddr(x) => x.to_tokens(tokens),
+        Expr::Reference(x) => x.to_tokens(tokens),
+        Expr::Repeat(x) => x.to_tokens(tokens),
+        Expr::Return(x) => x.to_tokens(tokens),
+        Expr::Struct(x) => x.to_tokens(tokens),
+        Expr::Try(x) => x.to_tokens(tokens),
+        Expr::TryBlock(x) => x.to_tokens(tokens),
+        Expr::Tuple(x) => x.to_tokens(tokens),
+        Expr::Unary(x) => x.to_tokens(tokens),
+        Expr::Unsafe(x) => x.to_tokens(tokens),
+        Expr::Verbatim(kept) => kept.to_tokens(tokens),
+        Expr::While(x) => x.to_tokens(tokens),
+        Expr::Yield(x) => x.to_tokens(tokens),
+    }
+}
+
+/// Whether the struct of its kind and the expression of this text are printed as the same tokens.
+fn is_its_kind(alloc: Global, text: &str) -> std::result::Result<bool, Error> {
+    let held = parse_str::<HeldExpr>(alloc, text)?;
+    let mut kind = TokenStream::new(alloc);
+    put_kind(&held.expr, &mut kind)?;
+    let mut whole = TokenStream::new(alloc);
+    held.expr.to_tokens(&mut whole)?;
+    Ok(to_text(&kind)? == to_text(&whole)?)
+}
+
+#[test]
+fn kinds_are_printed_as_their_expressions(rt: HostRuntime) -> std::result::Result<(), Fail> {
+    for text in KINDS {
+        if !is_its_kind(rt.alloc(), text)? {
+            return Err(Fail::new(format_args!("the kind of {text} is printed as another")));
+        }
+    }
+    Ok(())
+}
+
+/// Puts the arms or the fields that an expression has.
+fn put_parts(expr: &Expr, tokens: &mut TokenStream) -> Result<()> {
+    match expr {
+        Expr::Match(x) => {
+            for arm in &x.arms {
+                arm.to_tokens(tokens)?;
+            }
+        }
+        Expr::Struct(x) => {
+            for field in x.fields.iter() {
+                field.to_tokens(tokens)?;
+            }
+        }
+        _ => {}
+    }
+    Ok(())
+}
+
+#[test]
+fn arms_and_fields_are_printed_by_themselves(rt: HostRuntime) -> std::result::Result<(), Fail> {
+    for (text, parts) in PARTS {
+        let held = parse_str::<HeldExpr>(rt.alloc(), text)?;
+        let mut tokens = TokenStream::new(rt.alloc());
+        put_parts(&held.expr, &mut tokens)?;
+        assert_eq!(rt; to_text(&tokens)?.as_str(), parts);
+    }
     Ok(())
 }

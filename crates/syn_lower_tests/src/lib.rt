@@ -1,8 +1,13 @@
-//! Tests of `syn_lower`, in a crate of their own: tests inside of a crate are proved together with it once more.
+//! Tests of `syn_lower_leaves`, of `syn_lower` and of operators, in a crate of their own: tests inside of a crate are proved
+//! together with it once more.
 #![tactic(auto)]
 
 #[cfg(test)]
 mod fits;
+#[cfg(test)]
+mod leaves;
+#[cfg(test)]
+mod operators;
 #[cfg(test)]
 mod path_fits;
 #[cfg(test)]

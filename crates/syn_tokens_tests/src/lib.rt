@@ -1,10 +1,13 @@
-//! Tests of `syn_tokens`, in a crate of their own: tests inside of a crate are proved together with it once more.
+//! Tests of `syn_lexer`, `syn_tokens` and `syn_report`, in a crate of their own: tests inside of a crate are proved together
+//! with it once more.
 #![tactic(auto)]
 
 #[cfg(test)]
 mod equality;
 #[cfg(test)]
 mod groups;
+#[cfg(test)]
+mod lexer;
 #[cfg(test)]
 mod lexing;
 #[cfg(test)]
@@ -13,6 +16,8 @@ mod places;
 mod readers;
 #[cfg(test)]
 mod refusals;
+#[cfg(test)]
+mod report;
 #[cfg(test)]
 mod spellings;
 #[cfg(test)]

@@ -1,0 +1,4 @@
+pub mod Verbatim
+pub mod Lasts
+pub mod Labels
+pub mod Rights

@@ -1,0 +1,4 @@
+pub mod Right
+pub mod Node
+pub mod Frames
+pub mod Framed

@@ -1,9 +1,0 @@
-pub mod Indices
-pub mod Closures
-pub mod PatKinds
-pub mod Orders
-pub mod Owns
-pub mod VerbatimLeaves
-pub mod Operands
-pub mod Wholes
-pub mod Pats

@@ -1,0 +1,31 @@
+//! What the walk asks of `Expr`: of the patterns in it, and of its arms.
+
+ghost use Rattle.syn_expr_wellformed.specs.Whole as whole;
+
+use crate::heads::HasPatFits;
+use crate::pat;
+use crate::patterns::FitPat;
+use crate::walk::HasWell;
+use syn_expr_all::control::Arm;
+use syn_expr_all::expr::Expr;
+use syn_expr_all::pat::Pat;
+use syn_expr_kinds::attrs::all_outer;
+
+impl HasPatFits for Expr {
+    fn pat_fits(pat: &Pat) -> bool {
+        pat.fits(true)
+    }
+
+    fn argument_fits(pat: &Pat) -> bool {
+        pat::argument_fits(pat)
+    }
+}
+
+#[tactic(auto, using(syn_expr_all::proofs::TreeOf::members))]
+impl HasWell for Expr {
+    ghost whole = { whole.tree_whole };
+
+    fn arm_fits(arm: &Arm) -> bool {
+        all_outer(&arm.attrs) && pat::arm_pattern_fits(&arm.pat)
+    }
+}

@@ -1,0 +1,15 @@
+pub mod ListTies
+pub mod PartTies
+pub mod LowerSames
+pub mod OwnTokens
+pub mod KindBacks
+pub mod KindStops
+pub mod TreeEq
+pub mod Shapes
+pub mod StructTies
+pub mod Guards
+pub mod PatTies
+pub mod Children
+pub mod Members
+pub mod Filled
+pub mod Sames

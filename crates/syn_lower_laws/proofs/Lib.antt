@@ -1,6 +1,0 @@
-pub mod ListTies
-pub mod PartTies
-pub mod Sames
-pub mod OwnTokens
-pub mod KindBacks
-pub mod KindStops

@@ -1,0 +1,6 @@
+//! Tests of `syn_lexer`.
+
+#[cfg(test)]
+mod lexemes;
+#[cfg(test)]
+mod words;

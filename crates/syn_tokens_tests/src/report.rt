@@ -1,0 +1,6 @@
+//! Tests of `syn_report`.
+
+#[cfg(test)]
+mod places;
+#[cfg(test)]
+mod reports;
