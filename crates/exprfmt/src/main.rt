@@ -1,25 +1,17 @@
 //! `exprfmt plain|stmt|cond|arm [bare]`: reads the text of an expression from standard input and prints it for this
-//! position, as its tokens with the parentheses that they need there: by itself, as a statement, as a condition before
-//! a block, or as the body of a match arm. With `bare` it first loses the parentheses that it has; those alone stand then
+//! position, as its tokens with the parentheses that they need there: by itself, as a statement, as a condition before a
+//! block, or as the body of a match arm. With `bare` it first loses the parentheses that it has; those alone stand then
 //! which the printer puts.
 //!
-//! Status 0: the printed line is on standard output. Status 1: the input was refused, memory ran out, or reading or
-//! writing failed; one line on standard error says so. Status 2: the arguments are no words of the program; the usage
-//! is on standard error.
+//! Status 0: the printed line is on standard output. Status 1: the input was refused, memory ran out, or reading or writing
+//! failed; one line on standard error says so. Status 2: the arguments are no words of the program; the usage is on standard
+//! error.
 #![tactic(auto)]
 
-mod run;
-#[cfg(test)]
-mod tables;
-#[cfg(test)]
-mod tests;
-mod watched;
-
-use run::{args_failed, is_bare, named, run, usage};
+use exprfmt_run::run::{Watched, args_failed, is_bare, named, run, usage};
 use std::process::ExitCode;
 use std::{env, io};
 use syn_expr::position::Position;
-use watched::Watched;
 
 fn main(rt: HostRuntime) -> ExitCode {
     let mut errors = Watched::new(rt.stderr());

@@ -17,9 +17,9 @@ use syn_lower::mac::MacroDelimiter;
 use syn_lower::path::{Path, PathArguments, PathSegment, QSelf};
 use syn_lower::punctuated::Punctuated;
 use syn_lower::ty::{ReturnType, Type, TypeParamBound};
-use syn_tokens::token::Plus;
 use syn_lower_leaves::lifetime::Lifetime;
 use syn_tokens::buffer::Token;
+use syn_tokens::token::Plus;
 use syn_tokens::tree::{TokenStream, TokenTree};
 use syn_tokens::{Delimiter, Spacing};
 

@@ -17,15 +17,17 @@ ghost use Rattle.syn_parts.specs.Form.{is_nil};
 ghost use Rattle.syn_pat_kinds.specs.View.{PatView};
 ghost use Rattle.syn_expr_classify.specs.Frames.{frames_hold};
 
+use crate::brace::{
+    begins_with_lifetime, ends_with_braces, is_brace, output_brace, path_brace, type_brace,
+};
 use crate::name::ends_in_name;
+use syn_expr_all::expr::Expr;
 use syn_expr_kinds::like::is_block_like;
 use syn_expr_kinds::node::{Attributes, Closure, Frame, HasKind, HasShape, Leaf, Postfix, Prefix};
 use syn_expr_summaries::kind::NodeKind;
 use syn_expr_summaries::label::LeafKind;
-use syn_lower::ty::{ReturnType, Type};
-use syn_expr_all::expr::Expr;
-use crate::brace::{begins_with_lifetime, ends_with_braces, is_brace, output_brace, path_brace, type_brace};
 use syn_grammar::kinds::Infix;
+use syn_lower::ty::{ReturnType, Type};
 use syn_tokens::tree::TokenStream;
 
 /// Whether a match arm with this body needs a comma after it (Rust Reference, "Match expressions"): any does but an `if`, a

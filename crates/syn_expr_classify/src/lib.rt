@@ -7,7 +7,6 @@ pub mod classify;
 mod name;
 
 pub use classify::{
-    expr_leading_label, expr_trailing_brace, requires_comma_to_be_match_arm,
+    HasFrames, expr_leading_label, expr_trailing_brace, requires_comma_to_be_match_arm,
     requires_semi_to_be_stmt, trailing_unparameterized_path,
 };
-pub use classify::HasFrames;

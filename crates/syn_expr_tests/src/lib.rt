@@ -1,5 +1,5 @@
-//! Tests of `syn_expr`: in every position, each kind by itself, and on bad input; in a crate of their own: tests inside of a
-//! crate are proved together with it once more.
+//! Tests of `syn_expr`: in every position, each kind by itself, and on bad input. They are in a crate of their own, since tests
+//! inside of a crate are proved together with it once more.
 #![tactic(auto)]
 
 #[cfg(test)]
@@ -23,6 +23,8 @@ mod pieces;
 #[cfg(test)]
 mod places;
 #[cfg(test)]
+mod program;
+#[cfg(test)]
 mod questions;
 #[cfg(test)]
 mod shown;
@@ -30,6 +32,8 @@ mod shown;
 mod small;
 #[cfg(test)]
 mod swaps;
+#[cfg(test)]
+mod tables;
 #[cfg(test)]
 mod trees;
 #[cfg(test)]

@@ -5,7 +5,11 @@ use rows::{check, left_by, words};
 use std::alloc::Global;
 use std::mem::replace;
 use std::test::Fail;
-use syn_expr::{Attribute, BlockModifiers, ClosureModifiers, Error, ErrorKind, Expr, HeldExpr, Index, Label, Member, ParseBuffer, Result, Span, ToTokens, TokenStream, is_well_formed, lex, parse_str, to_text, token};
+use syn_expr::{
+    Attribute, BlockModifiers, ClosureModifiers, Error, ErrorKind, Expr, HeldExpr, Index, Label,
+    Member, ParseBuffer, Result, Span, ToTokens, TokenStream, is_well_formed, lex, parse_str,
+    to_text, token,
+};
 
 /// Members, and whether one is a name.
 const MEMBERS: &str = "
@@ -127,7 +131,9 @@ fn put_use(expr: &mut Expr) {
 }
 
 #[test]
-fn a_closure_with_move_and_use_is_no_tree_of_a_text(rt: HostRuntime) -> std::result::Result<(), Fail> {
+fn a_closure_with_move_and_use_is_no_tree_of_a_text(
+    rt: HostRuntime,
+) -> std::result::Result<(), Fail> {
     let mut held = parse_str::<HeldExpr>(rt.alloc(), "static async move |x| x")?;
     assert!(rt; is_well_formed(&held.expr));
     put_use(&mut held.expr);

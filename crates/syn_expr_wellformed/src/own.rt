@@ -9,9 +9,9 @@ ghost use Rattle.syn_parts.specs.PatFits.{attributes_outer};
 
 use crate::fits::{infix_fits, leaf_fits, postfix_fits, trailer_fits};
 use crate::heads::{HasPatFits, frame_fits, prefix_fits};
+use syn_expr_kinds::attrs::all_outer;
 use syn_expr_kinds::node::{Attributes, HasShape, Leaf};
 use syn_expr_summaries::kind::NodeKind;
-use syn_expr_kinds::attrs::all_outer;
 
 /// Whether an operator of this kind of node is read back; where it is none, nothing is asked.
 fn kind_fits(kind: NodeKind) -> bool

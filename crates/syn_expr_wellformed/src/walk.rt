@@ -12,9 +12,9 @@ ghost use Rattle.syn_grammar.specs.Tree as e;
 ghost use Rattle.syn_grammar.specs.WellFormed.{children_well, well};
 ghost use Rattle.syn_lower_lists.specs.View.{mapped, trails, values};
 
-use crate::own::{before_fit, is_if_expr, own_fits};
 use crate::fits::{braces_fit, member_fits};
 use crate::heads::HasPatFits;
+use crate::own::{before_fit, is_if_expr, own_fits};
 use crate::slot::{Slot, operand_slot};
 use crate::verbatim::{is_name_path, is_verbatim_block};
 use syn_expr_collect::arm::HasArms;

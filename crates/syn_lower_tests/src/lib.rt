@@ -1,5 +1,5 @@
-//! Tests of `syn_lower_leaves`, of `syn_lower` and of operators, in a crate of their own: tests inside of a crate are proved
-//! together with it once more.
+//! Tests of `syn_lower_leaves`, of `syn_lower` and of operators. They are in a crate of their own, since tests inside of a
+//! crate are proved together with it once more.
 #![tactic(auto)]
 
 #[cfg(test)]

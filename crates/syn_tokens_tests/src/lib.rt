@@ -1,5 +1,5 @@
-//! Tests of `syn_lexer`, `syn_tokens` and `syn_report`, in a crate of their own: tests inside of a crate are proved together
-//! with it once more.
+//! Tests of `syn_lexer`, `syn_tokens` and `syn_report`. They are in a crate of their own, since tests inside of a crate are
+//! proved together with it once more.
 #![tactic(auto)]
 
 #[cfg(test)]

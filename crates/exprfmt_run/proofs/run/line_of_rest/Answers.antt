@@ -1,6 +1,6 @@
 use Rattle.syn_expr.specs.Positions.{position_of}
-use Rattle.exprfmt.proofs.RunLaws.{known, known_left}
-use Rattle.exprfmt.proofs.run.line_of_rest.Goals as goal
+use Rattle.exprfmt_run.proofs.RunLaws.{known, known_left}
+use Rattle.exprfmt_run.proofs.run.line_of_rest.Goals as goal
 
 pub returns-clause-refused : goal.returns-clause-refused
 returns-clause-refused g c =

@@ -1,7 +1,7 @@
 use Rattle.std.proofs.lemmas.List.{take_rest}
-use Rattle.exprfmt.proofs.RunLaws.{more_written, written_kept}
-use Rattle.exprfmt.proofs.watched.write_whole.Goals.{in-Ok, in-Err+else-ne}
-use Rattle.exprfmt.proofs.watched.write_whole.Goals as goal
+use Rattle.exprfmt_run.proofs.RunLaws.{more_written, written_kept}
+use Rattle.exprfmt_run.proofs.run.write_whole.Goals.{in-Ok, in-Err+else-ne}
+use Rattle.exprfmt_run.proofs.run.write_whole.Goals as goal
 
 pub writes-preserved : goal.writes-preserved
 writes-preserved g c =

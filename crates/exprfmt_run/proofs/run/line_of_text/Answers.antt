@@ -1,7 +1,7 @@
 use Rattle.std.proofs.Common.{rules, chars}
 use Rattle.syn_expr.specs.Positions.{position_of}
-use Rattle.exprfmt.proofs.RunLaws.{line_is}
-use Rattle.exprfmt.proofs.run.line_of_text.Goals as goal
+use Rattle.exprfmt_run.proofs.RunLaws.{line_is}
+use Rattle.exprfmt_run.proofs.run.line_of_text.Goals as goal
 
 pub returns-clause-value : goal.returns-clause-value
 returns-clause-value c =

@@ -1,9 +1,9 @@
 use Rattle.std.proofs.Common.{◌∙◌, [], ◌∷◌, codes}
 use Rattle.std.specs.Fmt.{decimal}
 use Rattle.syn_tokens.specs.ErrorText.{kind_text}
-use Rattle.exprfmt.specs.Run.{writer}
-use Rattle.exprfmt.proofs.RunLaws.{formatted, regroup, reports_refusal, reports_memory}
-use Rattle.exprfmt.proofs.run.report.Goals as goal
+use Rattle.exprfmt_run.specs.Run.{writer}
+use Rattle.exprfmt_run.proofs.RunLaws.{formatted, regroup, reports_refusal, reports_memory}
+use Rattle.exprfmt_run.proofs.run.report.Goals as goal
 
 pub returns-in-Ok : goal.returns-in-Ok
 returns-in-Ok g c =

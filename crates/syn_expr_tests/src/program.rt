@@ -1,8 +1,7 @@
 //! Runs over memory: rows of input and answer, the texts of refusals, and reads and writes that fail.
 
-use crate::run::{args_failed, is_bare, named, run, usage};
 use crate::tables::{BARE, PRINTED, REFUSED};
-use crate::watched::Watched;
+use exprfmt_run::run::{Watched, args_failed, is_bare, named, run, usage};
 use std::alloc::Global;
 use std::io;
 use std::io::{Read, Write};

@@ -1,7 +1,7 @@
 use Rattle.std.proofs.Common.{refl, subst}
-use Rattle.exprfmt.specs.Run.{writer, Takes}
-use Rattle.exprfmt.proofs.RunLaws.{memory_line}
-use Rattle.exprfmt.proofs.run.args_failed.Goals as goal
+use Rattle.exprfmt_run.specs.Run.{writer, Takes}
+use Rattle.exprfmt_run.proofs.RunLaws.{memory_line}
+use Rattle.exprfmt_run.proofs.run.args_failed.Goals as goal
 
 pub returns-then-eq-clause-memory : goal.returns-then-eq-clause-memory
 returns-then-eq-clause-memory g c =

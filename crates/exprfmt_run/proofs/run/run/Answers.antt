@@ -1,8 +1,8 @@
 use Rattle.std.proofs.Common.{refl, string_bytes}
 use Rattle.syn_expr.specs.Positions.{position_of}
-use Rattle.exprfmt.specs.Run.{writer}
-use Rattle.exprfmt.proofs.RunLaws.{reported, printed_whole, printed_front}
-use Rattle.exprfmt.proofs.run.run.Goals as goal
+use Rattle.exprfmt_run.specs.Run.{writer}
+use Rattle.exprfmt_run.proofs.RunLaws.{reported, printed_whole, printed_front}
+use Rattle.exprfmt_run.proofs.run.run.Goals as goal
 
 pub returns-in-Err : goal.returns-in-Err
 returns-in-Err g c =

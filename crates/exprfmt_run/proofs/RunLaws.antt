@@ -16,11 +16,11 @@ use Rattle.syn_grammar.specs.Printed.{Position}
 use Rattle.syn_grammar.specs.Tree.{Tree}
 use Rattle.syn_expr_flat.specs.Flat.{IsFlat}
 use Rattle.syn_expr.specs.Promises.{PrintedAs}
-use Rattle.exprfmt.specs.Run.{IsLine, meant, AreLeft, Follows, Writer, Takes, Prints, Reports, Ran, line, printed, refused, not_utf8, failed, out_of_memory}
+use Rattle.exprfmt_run.specs.Run.{IsLine, meant, AreLeft, Follows, Writer, Takes, Prints, Reports, Ran, line, printed, refused, not_utf8, failed, out_of_memory}
 use Rattle.syn_expr.specs.Texts.{StandsFor}
-use Rattle.exprfmt.specs.FaultView.{outcome_of}
-use Rattle.exprfmt.specs.declared.run.Fault.{Fault}
-use Rattle.exprfmt.specs.declared.run.Fault.TheVariants.{Refused, NotUtf8, Failed}
+use Rattle.exprfmt_run.specs.FaultView.{outcome_of}
+use Rattle.exprfmt_run.specs.declared.run.Fault.{Fault}
+use Rattle.exprfmt_run.specs.declared.run.Fault.TheVariants.{Refused, NotUtf8, Failed}
 
 -- ---- a text that is written part by part
 

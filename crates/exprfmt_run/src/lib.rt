@@ -1,0 +1,4 @@
+//! What the program `exprfmt` does, over any reader and writers.
+#![tactic(auto)]
+
+pub mod run;
