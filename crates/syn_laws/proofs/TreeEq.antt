@@ -140,11 +140,11 @@ tested test sound whole x y = go (test x y) refl
 through : {A B : Type 0} (f : A → B) → ((x y : A) → f x ≡ f y → x ≡ y) → Discrete B → Discrete A
 through f k d x y = map_dec (k x y) (λ e. ap f e) (d (f x) (f y))
 
-option_eq : {A : Type 0} → Discrete A → Discrete (Option A)
-option_eq d None None = yes refl
-option_eq d None (Some y) = no (λ e. absurd cc)
-option_eq d (Some x) None = no (λ e. absurd cc)
-option_eq d (Some x) (Some y) = map_dec (λ h. cc) (λ h. cc) (d x y)
+option_discrete : {A : Type 0} → Discrete A → Discrete (Option A)
+option_discrete d None None = yes refl
+option_discrete d None (Some y) = no (λ e. absurd cc)
+option_discrete d (Some x) None = no (λ e. absurd cc)
+option_discrete d (Some x) (Some y) = map_dec (λ h. cc) (λ h. cc) (d x y)
 
 both : {P Q : Type 0} → Dec P → Dec Q → Dec (P × Q)
 both (yes p) (yes q) = yes (p, q)
@@ -163,7 +163,7 @@ text_eq : Discrete Text
 text_eq = List-discrete ℕ_discrete
 
 label_eq : Discrete (Option Text)
-label_eq = option_eq text_eq
+label_eq = option_discrete text_eq
 
 lit_eq : Discrete LitTree
 lit_eq = tested same_lit compares_lits.equal compares_lits.itself
@@ -210,7 +210,7 @@ bound_eq (path_bound a0 b0) (path_bound a1 b1) = map_dec (λ h. let p0 = h.0 in 
 bound_eq _ _ = no (λ e. absurd cc)
 
 bounds_eq : Discrete (Option PatBound)
-bounds_eq = option_eq bound_eq
+bounds_eq = option_discrete bound_eq
 
 mutual
   pub pat_eq : (x y : PatTree) → Dec (x ≡ y)
@@ -283,7 +283,7 @@ closure_head_eq = through {B = HeadParts} (λ x. (x.lifetimes, (x.constness, ((x
     (λ x y h. let a = ap (λ p. p.0) h in let b = ap (λ p. p.1.0) h in let m = ap (λ p. p.1.1.0.0) h in let u = ap (λ p. p.1.1.0.1) h in
     let c = ap (λ p. p.1.1.1.0) h in let d = ap (λ p. p.1.1.1.1.0) h in let f = ap (λ p. p.1.1.1.1.1.0) h in let g = ap (λ p. p.1.1.1.1.1.1.0) h in let k = ap (λ p. p.1.1.1.1.1.1.1) h in
     λ i. record { lifetimes = a i; constness = b i; movability = m i; asyncness = c i; capture = d i; usage = u i; inputs = f i; trailing = g i; output = k i })
-    (×_discrete (option_eq lifetimes_eq) (×_discrete Bool-discrete (×_discrete (×_discrete Bool-discrete Bool-discrete) (×_discrete Bool-discrete (×_discrete Bool-discrete (×_discrete (List-discrete pat_eq) (×_discrete Bool-discrete return_eq)))))))
+    (×_discrete (option_discrete lifetimes_eq) (×_discrete Bool-discrete (×_discrete (×_discrete Bool-discrete Bool-discrete) (×_discrete Bool-discrete (×_discrete Bool-discrete (×_discrete (List-discrete pat_eq) (×_discrete Bool-discrete return_eq)))))))
 
 jump_eq : (x y : Jump) → Dec (x ≡ y)
 jump_eq e.returning e.returning = yes refl
