@@ -9,7 +9,6 @@ ghost use Rattle.syn_lower.specs.Ends.{depth, segments_depth, arguments_depth, b
 ghost use Rattle.syn_lower_generic.specs.View.{delimiter_of};
 ghost use Rattle.syn_lower.specs.View.{type_of, values, trails, segment_of, path_of, qself_or, return_of, bound_of};
 ghost use Rattle.syn_parts.specs.Tree as t;
-ghost use Rattle.syn_grammar.specs.Query as spec;
 ghost use Rattle.syn_tokens.specs.View.{toks_of};
 
 use crate::classify::{End, output_end};
@@ -141,7 +140,7 @@ pub(crate) fn output_brace(output: &ReturnType) -> bool
 /// Whether the apostrophe of a lifetime is all there is.
 #[tactic(auto, using(crate::proofs::Verbatim::quotes))]
 fn is_sole_quote(trees: &[TokenTree]) -> bool
-    ensures { result ≡ spec.is_sole_quote (toks_of trees.now) }
+    ensures { result ≡ query.is_sole_quote (toks_of trees.now) }
 {
     match trees {
         [TokenTree::Punct(quote)] => quote.ch == '\'' && quote.spacing == Spacing::Joint,
@@ -151,7 +150,7 @@ fn is_sole_quote(trees: &[TokenTree]) -> bool
 
 /// Whether verbatim tokens begin with a lifetime, or are its apostrophe before a word.
 pub(crate) fn begins_with_lifetime(tokens: &TokenStream, word: bool) -> bool
-    ensures { result ≡ spec.verbatim_leads word tokens.now }
+    ensures { result ≡ query.verbatim_leads word tokens.now }
 {
     let trees = tokens.trees();
     Lifetime::peek(trees) || word && is_sole_quote(trees)
@@ -160,7 +159,7 @@ pub(crate) fn begins_with_lifetime(tokens: &TokenStream, word: bool) -> bool
 /// Whether a group in braces ends verbatim tokens; `before`: whether it ends what comes before them.
 #[tactic(auto, using(crate::proofs::Verbatim::lasts))]
 pub(crate) fn ends_with_braces(tokens: &TokenStream, before: bool) -> bool
-    ensures { result ≡ spec.last_braces before tokens.now }
+    ensures { result ≡ query.last_braces before tokens.now }
 {
     match tokens.trees() {
         [] => before,
