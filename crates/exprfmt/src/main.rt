@@ -1,7 +1,7 @@
 //! `exprfmt plain|stmt|cond|arm [bare]`: reads the text of an expression from standard input and prints it for this
 //! position, as its tokens with the parentheses that they need there: by itself, as a statement, as a condition before a
-//! block, or as the body of a match arm. With `bare` it first loses the parentheses that it has; those alone stand then
-//! which the printer puts.
+//! block, or as the body of a match arm. With `bare` it first loses the parentheses that it has, and is printed with
+//! those alone that it needs.
 //!
 //! Status 0: the printed line is on standard output. Status 1: the input was refused, memory ran out, or reading or writing
 //! failed; one line on standard error says so. Status 2: the arguments are no words of the program; the usage is on standard

@@ -93,6 +93,20 @@ fn made(alloc: Global) -> Result<String> {
     printed(alloc, &list)
 }
 
+/// Copies of literals of each kind, with commas between.
+fn copied(alloc: Global) -> Result<String> {
+    let mut list = Punctuated::<Lit, Comma>::new(alloc);
+    list.push(parse_str::<Lit>(alloc, "\"a\"")?.copy(alloc)?)?;
+    list.push(parse_str::<Lit>(alloc, "b\"a\"")?.copy(alloc)?)?;
+    list.push(parse_str::<Lit>(alloc, "c\"a\"")?.copy(alloc)?)?;
+    list.push(parse_str::<Lit>(alloc, "b'a'")?.copy(alloc)?)?;
+    list.push(parse_str::<Lit>(alloc, "'a'")?.copy(alloc)?)?;
+    list.push(parse_str::<Lit>(alloc, "-1u8")?.copy(alloc)?)?;
+    list.push(parse_str::<Lit>(alloc, "1.5")?.copy(alloc)?)?;
+    list.push(parse_str::<Lit>(alloc, "true")?.copy(alloc)?)?;
+    printed(alloc, &list)
+}
+
 /// A path of one word.
 fn path_of_word(alloc: Global) -> Result<String> {
     let ident = Ident::new(alloc, "a", Span::call_site())?;
@@ -207,6 +221,11 @@ pub fn leaves(rt: &HostRuntime) {
         rt,
         "LitStr::new LitByteStr::new LitChar::new LitByte::new LitInt::new LitFloat::new LitBool::new",
         made(alloc),
+    );
+    tell(
+        rt,
+        "Lit::copy LitStr::copy LitByteStr::copy LitCStr::copy LitByte::copy LitChar::copy LitInt::copy LitFloat::copy LitBool::copy",
+        copied(alloc),
     );
     tell(
         rt,

@@ -42,7 +42,7 @@ pub fn print_expr(expr: &Expr, tokens: &mut TokenStream, fixup: FixupContext) ->
 }
 
 /// The tokens that `print_expr` puts at the end, and how often a node was visited: by the pass that summarizes the ends of each
-/// node, and by the printing; each at least once, and at most twice. Guards in patterns where none may stand aren't visited. A
+/// node, and by the printing; each at least once, and at most twice. Guards in patterns where there may be none aren't visited. A
 /// count that reaches the greatest `u64` stays there.
 ///
 /// Memory may run out (`OutOfMemory`).

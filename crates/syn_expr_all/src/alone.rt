@@ -2,7 +2,7 @@
 //! stays where it was where they are refused.
 //!
 //! What is an operand without trailers is read by the reader of all of these, and told by the tokens that it begins with why
-//! none of its kind stands. What has an operand in front is read as an expression.
+//! there is none of its kind. What has an operand in front is read as an expression.
 
 ghost use Rattle.std.specs.Prelude.{◌≡◌, Some, IfOk};
 ghost use Rattle.syn_expr_all.specs.View.{let_of, match_of, closure_of, for_loop_of, tree_of};
@@ -50,7 +50,7 @@ use syn_tokens::token::{
 
 /// A struct of the operands of one kind, without trailers.
 pub(crate) trait Operand: Kind {
-    /// Reads the tokens that all of the kind begin with, and is refused where they don't stand. Where another kind begins with
+    /// Reads the tokens that all of the kind begin with, and is refused where they aren't there. Where another kind begins with
     /// the same tokens, it reads as far as they differ.
     fn begins(input: &mut ParseBuffer<'_>) -> Result<()>;
 }
@@ -453,7 +453,7 @@ impl Parse for ExprClosure {
 
     /// Reads a closure, without attributes before it (Rust Reference, "Closure expressions").
     ///
-    /// It is refused, memory aside, only where none stands, and the input then stays where it was: as `ExpectedToken`
+    /// It is refused, memory aside, only where there is none, and the input then stays where it was: as `ExpectedToken`
     /// of `|` or of a block after an output, and as its parts are.
     fn parse(input: &mut ParseBuffer<'_>) -> Result<Self>
         ensures { ReadsExactly closure_of (Alone is_closure) input.old result input.new }
@@ -480,7 +480,7 @@ impl Parse for ExprForLoop {
     /// Reads a `for` after outer attributes and a label, or none (Rust Reference, "Iterator loops"). Inner attributes
     /// come first in its braces.
     ///
-    /// It is refused, memory aside, only where none stands, and the input then stays where it was: as its attributes
+    /// It is refused, memory aside, only where there is none, and the input then stays where it was: as its attributes
     /// and its label are, as `ExpectedToken` of `for`, `in` or `{`, and as its pattern and what gives the values are.
     fn parse(input: &mut ParseBuffer<'_>) -> Result<Self>
         ensures { ReadsExactly for_loop_of (Alone (behind_attributes is_for_loop)) input.old result input.new }
@@ -507,7 +507,7 @@ impl Parse for ExprLet {
     /// Reads `let`, a pattern, `=` and what is to match it, without attributes before it (Rust Reference, "`if let`
     /// patterns"). This takes the operators that bind tighter than `&&`.
     ///
-    /// It is refused, memory aside, only where none stands, and the input then stays where it was: as `ExpectedToken`
+    /// It is refused, memory aside, only where there is none, and the input then stays where it was: as `ExpectedToken`
     /// of `let` or of `=`, and as the pattern and the operand are.
     fn parse(input: &mut ParseBuffer<'_>) -> Result<Self>
         ensures { ReadsExactly let_of (Alone is_let) input.old result input.new }
@@ -534,7 +534,7 @@ impl Parse for ExprMatch {
     /// Reads a `match` after outer attributes or none (Rust Reference, "`match` expressions"). Inner attributes are
     /// first in its braces.
     ///
-    /// It is refused, memory aside, only where none stands, and the input then stays where it was: as its attributes
+    /// It is refused, memory aside, only where there is none, and the input then stays where it was: as its attributes
     /// are, as `ExpectedToken` of `match` or of `{`, and as what it looks at and its arms are.
     fn parse(input: &mut ParseBuffer<'_>) -> Result<Self>
         ensures { ReadsExactly match_of (Alone (behind_attributes is_match)) input.old result input.new }

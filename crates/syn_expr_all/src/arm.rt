@@ -1,4 +1,4 @@
-//! What is lent of the arms of a `match` (Rust Reference, "Match expressions").
+//! What is borrowed of the arms of a `match` (Rust Reference, "Match expressions").
 
 ghost use Rattle.std.specs.Prelude.{◌≡◌, is_some};
 ghost use Rattle.syn_expr_all.specs.View.{tree_of, pat_of, guard_of};

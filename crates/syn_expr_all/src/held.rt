@@ -96,7 +96,7 @@ impl ToTokens for HeldExpr {
 
     ghost printed = { λ x. whole next.enclosed (tree_of x.expr) };
 
-    /// Prints the expression as between delimiters, where it stands for itself.
+    /// Prints the expression as between delimiters, where it is by itself.
     fn to_tokens(&self, tokens: &mut TokenStream) -> Result<()> {
         self.expr.to_tokens(tokens)
     }

@@ -46,7 +46,7 @@ fn answered(refusal: Error) -> Error
     }
 }
 
-/// What is told where the expression at a place of the input is refused.
+/// Why the expression at a place of the input is refused.
 pub(crate) fn refusal(input: &ParseBuffer<'_>, place: Place, e: Error) -> Error
     ensures may { MayRefuse result.kind }
     ensures memory { e.kind ≡ OutOfMemory → result.kind ≡ OutOfMemory }
@@ -84,13 +84,13 @@ impl Parse for Expr {
 
     ghost least = { 1 };
 
-    /// Whatever the list is, it is refused as one of the kinds that are told below, and out of memory.
+    /// Whatever the list is, it is refused as one of the kinds that are named below, or out of memory.
     ghost refuses = { λ _ kind. MayRefuse kind };
 
     /// Reads an expression: the tree that is at the front of the list (Rust Reference, "Expressions", "Expression
     /// precedence").
     ///
-    /// It is refused, memory aside, only where none does, and the input then stays where it was:
+    /// It is refused, memory aside, only where there is none, and the input then stays where it was:
     ///
     /// - as `ExpectedExpression` where an operand is missing, and as `ExpectedLoopOrBlock` where it has a label and is
     ///   neither;
@@ -100,9 +100,8 @@ impl Parse for Expr {
     /// - as `ExpectedMember`, `ExpectedUnsuffixedInteger` or `IndexOutOfRange` after a dot, and as `ExpectedCommaOrSemi`
     ///   after the first element of an array;
     /// - as its literals, paths, types, patterns, attributes and macros are;
-    /// - as `ExpectedToken` where another token stands than the one that must, and as `UnexpectedToken` where nothing reads
-    ///   it. In the brackets of an index that is told last: where what comes after can't be read, the refusal of that is
-    ///   told.
+    /// - as `ExpectedToken` where a required token is missing, and as `UnexpectedToken` at a token that nothing reads. In the
+    ///   brackets of an index that is reported last: `x[a b] + c` is refused at the `b`, but `x[a b] +` at its end.
     fn parse(input: &mut ParseBuffer<'_>) -> Result<Self>
         ensures exact { ReadsExactly tree_of (Stands plain) input.old result input.new }
         ensures refused { IfErr result (λ e. MayRefuse e.kind) }
@@ -114,8 +113,8 @@ impl Parse for Expr {
 impl Expr {
     /// Reads an expression before a block, as the condition of an `if` or a `while` and what a `match` or a `for` looks at
     /// (Rust Reference, "`if` expressions", "`match` expressions", "Predicate loops"): a path before a brace is no struct
-    /// expression, but inside delimiters. It is read exactly where one stands so, unless memory runs out. It is refused as
-    /// `parse` refuses an expression, and the input then stays where it was.
+    /// expression, but inside delimiters. It is read exactly where there is such an expression, unless memory runs out. It is
+    /// refused as `parse` refuses an expression, and the input then stays where it was.
     pub fn parse_without_eager_brace(input: &mut ParseBuffer<'_>) -> Result<Expr>
         ensures exact { ReadsExactly tree_of (Stands before_block) input.old result input.new }
         ensures refused { IfErr result (λ e. MayRefuse e.kind) }
@@ -125,8 +124,8 @@ impl Expr {
 
     /// Reads an expression at the head of a statement or of the body of a `match` arm (Rust Reference, "Expression
     /// statements", "`match` expressions"): where it begins with a block, a loop, an `if` or a `match`, it ends there, but
-    /// before a `.` or `?`. It is read exactly where one stands so, unless memory runs out. It is refused as `parse` refuses
-    /// an expression, but at a range without a start after attributes, and the input then stays where it was.
+    /// before a `.` or `?`. It is read exactly where there is such an expression, unless memory runs out. It is refused as
+    /// `parse` refuses an expression, but at a range without a start after attributes, and the input then stays where it was.
     pub fn parse_with_earlier_boundary_rule(input: &mut ParseBuffer<'_>) -> Result<Expr>
         ensures exact { ReadsExactly tree_of (Stands at_head) input.old result input.new }
         ensures refused { IfErr result (λ e. MayRefuse e.kind) }

@@ -1,4 +1,4 @@
-//! What is lent of an expression that holds patterns.
+//! What is borrowed of an expression that holds patterns.
 
 ghost use Rattle.std.specs.Prelude.{◌≡◌, Some};
 ghost use Rattle.syn_expr_kinds.specs.Node as spec;

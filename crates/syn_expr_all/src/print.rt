@@ -39,7 +39,7 @@ impl ToTokens for Expr {
 
     ghost printed = { λ x. whole next.enclosed (tree_of x) };
 
-    /// Prints it as between delimiters, where it stands for itself.
+    /// Prints it as between delimiters, where it is by itself.
     fn to_tokens(&self, tokens: &mut TokenStream) -> Result<()> {
         print_counted(self, tokens, enclosed())?;
         Ok(())

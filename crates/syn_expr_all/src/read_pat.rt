@@ -112,7 +112,7 @@ impl Pat {
     /// It is read exactly where one is, unless memory runs out, and has neither attributes nor a guard. It is refused as
     /// `ExpectedPart` of a pattern where it or a pattern inside is missing, of a path where the end of a closed range or a
     /// segment is, of a literal where no number follows a `-`, and of a macro where no group follows the `!` of one; as
-    /// `ExpectedToken` where another token stands than the one that must, as `UnexpectedToken` where one is left in a group,
+    /// `ExpectedToken` where a required token is missing, as `UnexpectedToken` where one is left in a group,
     /// and inside as members, types and attributes are. The input then stays where it was.
     pub fn parse_single(input: &mut ParseBuffer<'_>) -> Result<Pat>
         ensures value { Reads (λ x. (pat_of x).tree) ((pat.pattern false).reads input.old.rest) result input.new.rest }

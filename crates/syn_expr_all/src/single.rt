@@ -34,7 +34,7 @@ impl Parse for Arm {
     /// Reads an arm of a `match`: outer attributes, a pattern with alternatives, a guard or none, `=>`, its body, and a comma,
     /// which none has to be at the end and after a block (Rust Reference, "`match` expressions").
     ///
-    /// It is refused, memory aside, only where none stands, and the input then stays where it was: as `ExpectedToken` where a
+    /// It is refused, memory aside, only where there is none, and the input then stays where it was: as `ExpectedToken` where a
     /// token is missing, and as its attributes, its pattern, its guard and its body are.
     #[tactic(auto, using(crate::proofs::Parts::arm_tail))]
     fn parse(input: &mut ParseBuffer<'_>) -> Result<Self>
@@ -52,7 +52,7 @@ impl Parse for Arm {
 
 impl Arm {
     /// Reads the arms of a `match` to the end of the input, as they are in its braces (Rust Reference, "`match`
-    /// expressions"). They are read exactly where arms stand up to the end, unless memory runs out. It is refused as the
+    /// expressions"). They are read exactly where there are arms up to the end, unless memory runs out. It is refused as the
     /// reader of an arm refuses one, and the input then stays where it was.
     #[tactic(auto, using(crate::proofs::Parts::all_arms))]
     pub fn parse_multiple(input: &mut ParseBuffer<'_>) -> Result<Vec<Arm>>

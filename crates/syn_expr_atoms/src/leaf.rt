@@ -18,8 +18,8 @@ use syn_grammar::kinds::Place;
 use syn_tokens::buffer::ParseBuffer;
 use syn_tokens::error::{Error, ErrorKind, Result};
 
-/// The refusal of a leaf that doesn't stand before what is left. At the path `try` no expression begins; after any other leaf
-/// stands a token that goes on it.
+/// The refusal of a leaf that can't come before what is left. At the path `try` no expression begins; any other leaf has a
+/// token after it that continues it, as the path in `a!`.
 fn not_standing(input: &ParseBuffer<'_>, leaf: &LeafHead) -> Error {
     match leaf {
         LeafHead::Path(qself, path) if is_word_alone(qself, path, "try") => {

@@ -16,7 +16,7 @@ use syn_op::limits::RangeLimits;
 use syn_tokens::buffer::ParseBuffer;
 use syn_tokens::token::{Colon, Ne, Pound};
 
-/// Whether a path stands alone: no brace after it makes it a struct expression, and it begins no other expression.
+/// Whether a path is alone: no brace after it makes it a struct expression, and it begins no other expression.
 #[tactic(auto, unfolding(syn_grammar::specs::Stands::leaf_stands, syn_tokens::specs::Sign::sign_text, syn_parts::specs::Mark::sign_at))]
 fn path_stands(input: &ParseBuffer<'_>, place: Place, qself: &Option<QSelf>, path: &Path) -> bool
     ensures { result ≡ stands.leaf_stands place (e.path (qself_or type_of qself.now) (path_of type_of path.now)) input.now.rest }

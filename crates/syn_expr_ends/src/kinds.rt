@@ -24,7 +24,7 @@ use syn_tokens::tree::TokenStream;
 
 /// The type of patterns: it has readers. What they read holds no guard.
 pub trait ReadPats: HasPatTree + LetGo {
-    /// Reads a pattern; after it `|` and more may stand, or one alone.
+    /// Reads a pattern; after it there may be `|` and more, or one alone.
     fn read_pattern(input: &mut ParseBuffer<'_>, multi: bool) -> Result<Self>
         ensures value { Reads (λ x. (Self.view x).tree) ((pat.pattern multi).reads input.old.rest) result input.new.rest }
         ensures unguarded { IfOk result (λ x. (Self.view x).guards ≡ []) }

@@ -5,7 +5,7 @@ ghost use Rattle.syn_grammar.specs.Place as places;
 
 use syn_grammar::kinds::{Level, Place};
 
-/// The whole of a list, an element of one, and what stands alone in delimiters.
+/// The whole of a list, an element of one, and what is alone in delimiters.
 pub const PLAIN: Place = Place {
     level: Level::Jump,
     condition: false,

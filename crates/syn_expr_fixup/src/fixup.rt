@@ -172,7 +172,7 @@ impl FixupContext {
     }
 
     /// What decides about a left operand of an operator with this precedence: `Unambiguous` where it is left bare for its
-    /// level, else `Jump`, and the place of the operand. It is told of the operator's first token whether it can begin an
+    /// level, else `Jump`, and the place of the operand. Two flags say whether the operator's first token can begin an
     /// expression (`-`) and generic arguments (`<`). With `Unambiguous`: the base of an index.
     ///
     /// `(a + b) * c` needs its parentheses; `a * b + c` none.
@@ -262,7 +262,7 @@ impl FixupContext {
     }
 
     /// The place of an operand at the right end, after an operator of this precedence. `reset_allow_struct`: after a jump,
-    /// where struct expressions may stand even in a condition. `optional_operand`: it might be left out, so that in a
+    /// where struct expressions may be even in a condition. `optional_operand`: it might be left out, so that in a
     /// condition a brace there would be that of the block.
     ///
     /// `reset_allow_struct`: `if x == (S {}) {}` needs its parentheses; `if return S {} {}` none.

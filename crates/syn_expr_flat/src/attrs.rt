@@ -13,7 +13,7 @@ use syn_expr_kinds::attrs::{all_outer, from_inner, is_inner};
 use syn_expr_kinds::joined::joined;
 use syn_lower::attr::Attribute;
 
-/// The attributes of parentheses that stood round an expression; None where none stood there.
+/// The attributes of parentheses that were round an expression; None where there were none.
 pub type Before = Option<Vec<Attribute>>;
 
 /// Puts these before the attributes that an expression has of its own. Refused where memory runs out.

@@ -1,4 +1,4 @@
-//! Parentheses, of which what they held is left.
+//! Parentheses, replaced by what they held.
 
 ghost use Rattle.std.specs.Prelude.{IfOk};
 ghost use Rattle.syn_expr_flat.specs.Calls.{Takes};

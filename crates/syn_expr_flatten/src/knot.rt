@@ -49,7 +49,7 @@ fn arm(x: &mut Arm) -> Flattened<()>
     members::arm(x, operand, pattern)
 }
 
-/// An expression without the parentheses in it, after the attributes of those that stood round it.
+/// An expression without the parentheses in it, after the attributes of those that were round it.
 #[cycle(flatten)]
 fn flattened(x: &mut Expr, attrs: Before) -> Flattened<()>
     ensures { IfOk result (λ _. IsFlatBehind attrs (tree_of x.old) (tree_of x.new)) }

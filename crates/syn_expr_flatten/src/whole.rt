@@ -9,7 +9,7 @@ use syn_expr_all::expr::Expr;
 use syn_expr_all::held::HeldExpr;
 use syn_tokens::error::{ErrorKind, Result};
 
-/// Takes away all parentheses in an expression, those round it too, wherever an expression may stand: in its operands,
+/// Takes away all parentheses in an expression, those round it too, wherever an expression may be: in its operands,
 /// in the guards of patterns, in the bodies of arms and closures. Blocks stay as they are, whose tokens are verbatim. The
 /// attributes of parentheses come before those of the expression in them; before verbatim tokens the outer ones are
 /// the first of these tokens. Inner ones, which no parentheses that are read have, are printed where the expression has

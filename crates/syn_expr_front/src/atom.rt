@@ -145,7 +145,7 @@ fn captures_first(trees: &[TokenTree]) -> bool
     Or::peek(trees) || Use::peek(trees) || Move::peek(trees) && !Brace::peek(behind(trees, 1))
 }
 
-/// Whether `async` comes first, and after it what may are there in a closure.
+/// Whether `async` comes first, and after it what may be there in a closure.
 #[tactic(auto, unfolding(syn_tokens::specs::Sign::word_text, syn_parts::specs::Mark::word_at))]
 fn async_closure_at(input: &ParseBuffer<'_>) -> bool
     ensures { result ≡ (head.async_word.at input.now.rest && head.captures_at (drop 1 input.now.rest)) }

@@ -78,7 +78,7 @@ fn ends_with_dot(text: &str) -> Option<bool>
 }
 
 impl<'a> FloatIndices<'a> {
-    /// No indices, where no float stands.
+    /// No indices, where there is no float.
     fn none(span: Span) -> FloatIndices<'a>
         ensures { result ≡ [] }
     {

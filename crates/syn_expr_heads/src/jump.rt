@@ -14,7 +14,7 @@ use syn_tokens::buffer::ParseBuffer;
 use syn_tokens::error::{ErrorKind, Result};
 
 /// Reads a jump up to its value; a lifetime after `break` is its label (Rust Reference, "Return expressions", "Break
-/// expressions"). It is refused as `ExpectedExpression` where none of the three words stands.
+/// expressions"). It is refused as `ExpectedExpression` where there is none of the three words.
 #[tactic(auto, unfolding(syn_grammar::specs::Head::jump_head))]
 pub fn jump_head(input: &mut ParseBuffer<'_>) -> Result<JumpHead>
     ensures value { Reads jump_of (head.jump_head.reads input.old.rest) result input.new.rest }

@@ -31,7 +31,7 @@ use syn_tokens::token::{And, Eq, FatArrow, In, Let, Raw};
 /// The readers of what holds patterns, over those of the patterns.
 #[derive(Clone, Copy)]
 pub struct Prefixes<F, G> {
-    /// Reads a pattern; after it `|` and more may stand, or one alone.
+    /// Reads a pattern; after it there may be `|` and more, or one alone.
     pub pat: F,
     /// Reads the argument of a closure.
     pub arg: G,
@@ -134,7 +134,7 @@ impl<
         self.word_prefix(input)
     }
 
-    /// Reads `for` that begins no lifetimes, a pattern and `in` (Rust Reference, "Iterator loops"). Where no `for` stands, which
+    /// Reads `for` that begins no lifetimes, a pattern and `in` (Rust Reference, "Iterator loops"). Where there is no `for`, which
     /// can only be after a label, it is refused as `ExpectedLoopOrBlock`, else as `ExpectedToken` of `in`, and inside as a
     /// pattern is.
     pub fn for_head(&self, input: &mut ParseBuffer<'_>) -> Result<ForHead<P>>

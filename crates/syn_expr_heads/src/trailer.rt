@@ -38,7 +38,7 @@ fn turbofish(input: &mut ParseBuffer<'_>) -> Result<Option<AngleBracketedGeneric
 /// Reads what comes after a dot: `await`, the name of a method and its arguments in angle brackets, or a member (Rust
 /// Reference, "Await expressions", "Method-call expressions", "Field access expressions").
 ///
-/// Where none of them stands it is refused as a member is: as `ExpectedUnsuffixedInteger` at an integer with a suffix, as
+/// Where there is none of them it is refused as a member is: as `ExpectedUnsuffixedInteger` at an integer with a suffix, as
 /// `IndexOutOfRange` at one that is too large, else as `ExpectedMember`. Inside of angle brackets it is refused as a type is.
 #[tactic(auto, unfolding(syn_grammar::specs::Head::dotted))]
 pub fn dotted(input: &mut ParseBuffer<'_>) -> Result<TrailerHead>

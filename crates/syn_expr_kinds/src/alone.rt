@@ -55,7 +55,7 @@ pub(crate) trait LeafKind {
         requires inner { has_inner (leaf_of head) ≡ true }
         ensures { IfOk result (λ o. MatchOption o (is (e.leaf (leaf_of head)) ≡ false) (λ x. (is (e.leaf (leaf_of head)) ≡ true) × (tree x ≡ e.attributed_with (attrs_of attrs) (e.leaf (leaf_of head))))) };
 
-    /// Reads the tokens that all of the kind begin with, and is refused where they don't stand.
+    /// Reads the tokens that all of the kind begin with, and is refused where they aren't there.
     fn begins(input: &mut ParseBuffer<'_>) -> Result<()>;
 }
 

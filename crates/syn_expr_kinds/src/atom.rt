@@ -385,7 +385,7 @@ impl<E: PutShape> ToTokens for ExprTupleOf<E> {
 
     ghost printed = { λ x. whole enclosed (expr_tuple_of E.tree x) };
 
-    /// Puts the elements in parentheses, with their commas; after one alone a comma always stands.
+    /// Puts the elements in parentheses, with their commas; after one alone there is always a comma.
     fn to_tokens(&self, tokens: &mut TokenStream) -> Result<()> {
         let frame = Frame::Tuple(&self.paren_token);
         let operands = Operands::Elements(&self.elems);
@@ -411,7 +411,7 @@ impl Parse for ExprInfer {
 
     /// Reads `_` after outer attributes or none (Rust Reference, "Underscore expressions").
     ///
-    /// It is refused, memory aside, only where none stands, and the input then stays where it was: as its attributes
+    /// It is refused, memory aside, only where there is none, and the input then stays where it was: as its attributes
     /// are, and as `ExpectedToken` of `_`.
     fn parse(input: &mut ParseBuffer<'_>) -> Result<Self>
         ensures { ReadsExactly expr_infer_of (Alone (behind_attributes is_infer)) input.old result input.new }
@@ -437,7 +437,7 @@ impl Parse for ExprLit {
     /// Reads a literal, a number with its sign too, without attributes before it (Rust Reference, "Literal
     /// expressions").
     ///
-    /// It is refused, memory aside, only where none stands, and the input then stays where it was: as `ExpectedPart` of
+    /// It is refused, memory aside, only where there is none, and the input then stays where it was: as `ExpectedPart` of
     /// a literal.
     fn parse(input: &mut ParseBuffer<'_>) -> Result<Self>
         ensures { ReadsExactly expr_lit_of LitAlone input.old result input.new }
@@ -462,7 +462,7 @@ impl Parse for ExprMacro {
 
     /// Reads the call of a macro, without attributes before it (Rust Reference, "Macro Invocation").
     ///
-    /// It is refused, memory aside, only where none stands, and the input then stays where it was: as a `Macro` is.
+    /// It is refused, memory aside, only where there is none, and the input then stays where it was: as a `Macro` is.
     fn parse(input: &mut ParseBuffer<'_>) -> Result<Self>
         ensures { ReadsExactly expr_macro_of MacroAlone input.old result input.new }
     {
@@ -487,7 +487,7 @@ impl Parse for ExprPath {
     /// Reads a path, qualified by a type or not, after outer attributes or none (Rust Reference, "Paths in
     /// expressions", "Qualified paths"). Whatever follows is left, a brace and the `!` of a macro too.
     ///
-    /// It is refused, memory aside, only where none stands, and the input then stays where it was: as its attributes
+    /// It is refused, memory aside, only where there is none, and the input then stays where it was: as its attributes
     /// are, and as a path is.
     fn parse(input: &mut ParseBuffer<'_>) -> Result<Self>
         ensures { ReadsExactly expr_path_of PathAlone input.old result input.new }
@@ -512,7 +512,7 @@ impl<E: ParseKinds> Parse for ExprArrayOf<E> {
 
     /// Reads an array of its elements, without attributes before it (Rust Reference, "Array expressions").
     ///
-    /// It is refused, memory aside, only where none stands, and the input then stays where it was: as `ExpectedToken`
+    /// It is refused, memory aside, only where there is none, and the input then stays where it was: as `ExpectedToken`
     /// of `[`, of a comma after an element, and as its elements are.
     fn parse(input: &mut ParseBuffer<'_>) -> Result<Self>
         ensures { ReadsExactly (expr_array_of E.tree) (Alone is_array) input.old result input.new }
@@ -537,7 +537,7 @@ impl<E: ParseKinds> Parse for ExprParenOf<E> {
 
     /// Reads an expression in parentheses, without attributes before them (Rust Reference, "Grouped expressions").
     ///
-    /// It is refused, memory aside, only where none stands, and the input then stays where it was: as `ExpectedToken`
+    /// It is refused, memory aside, only where there is none, and the input then stays where it was: as `ExpectedToken`
     /// of `(`, as `UnexpectedToken` where a comma or more comes after the expression, and as this is.
     fn parse(input: &mut ParseBuffer<'_>) -> Result<Self>
         ensures { ReadsExactly (expr_paren_of E.tree) (Alone is_paren) input.old result input.new }
@@ -563,7 +563,7 @@ impl<E: ParseKinds> Parse for ExprRepeatOf<E> {
     /// Reads an array of an element that is repeated, without attributes before it (Rust Reference, "Array
     /// expressions").
     ///
-    /// It is refused, memory aside, only where none stands, and the input then stays where it was: as `ExpectedToken`
+    /// It is refused, memory aside, only where there is none, and the input then stays where it was: as `ExpectedToken`
     /// of `[`, of `;` after the element, as `UnexpectedToken` where more comes after the length, and as both are.
     fn parse(input: &mut ParseBuffer<'_>) -> Result<Self>
         ensures { ReadsExactly (expr_repeat_of E.tree) (Alone is_repeat) input.old result input.new }
@@ -589,8 +589,8 @@ impl<E: ParseKinds> Parse for ExprTupleOf<E> {
     /// Reads an expression that is a tuple, with attributes before it or without (Rust Reference, "Tuple expressions").
     /// Invisible groups that it is in are looked through, and left out with the attributes before them.
     ///
-    /// It is refused, memory aside, only where none stands, and the input then stays where it was: as an expression is,
-    /// and where another kind stands, as `ExpectedExprKind`, from the first token of this to its last.
+    /// It is refused, memory aside, only where there is none, and the input then stays where it was: as an expression is,
+    /// and where there is another kind, as `ExpectedExprKind`, from the first token of this to its last.
     fn parse(input: &mut ParseBuffer<'_>) -> Result<Self>
         ensures exact { ReadsExactly (expr_tuple_of E.tree) (OfKind is_tuple) input.old result input.new }
         ensures others { RefusesOthers is_tuple WantedKind.Tuple input.old result }

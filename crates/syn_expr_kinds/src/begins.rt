@@ -5,7 +5,7 @@ ghost use Rattle.syn_tokens.specs.declared.error.ErrorKind.TheVariants.{OutOfMem
 
 use syn_tokens::error::{Error, ErrorKind, Result};
 
-/// Why none of a kind is read: that its first tokens don't stand, where `begins` is the refusal of these, else what the
+/// Why none of a kind is read: that its first tokens aren't there, where `begins` is the refusal of these, else what the
 /// reader of all kinds told.
 pub fn named_refusal(refusal: Error, begins: Result<()>) -> Error
     ensures memory { refusal.kind ≡ OutOfMemory → result.kind ≡ OutOfMemory }

@@ -424,7 +424,7 @@ impl Parse for ExprAsync {
     /// Reads `async`, with `move` or without, and a block, without attributes before it (Rust Reference, "`async`
     /// blocks").
     ///
-    /// It is refused, memory aside, only where none stands, and the input then stays where it was: as `ExpectedToken`
+    /// It is refused, memory aside, only where there is none, and the input then stays where it was: as `ExpectedToken`
     /// of `async` or of `{`.
     fn parse(input: &mut ParseBuffer<'_>) -> Result<Self>
         ensures { ReadsExactly expr_async_of (Alone is_async) input.old result input.new }
@@ -451,7 +451,7 @@ impl Parse for ExprBlock {
     /// Reads a block after outer attributes and a label, or none (Rust Reference, "Block expressions", "Labelled block
     /// expressions"). Inner attributes come first in its braces.
     ///
-    /// It is refused, memory aside, only where none stands, and the input then stays where it was: as its attributes
+    /// It is refused, memory aside, only where there is none, and the input then stays where it was: as its attributes
     /// and its label are, and as `ExpectedToken` of `{`.
     fn parse(input: &mut ParseBuffer<'_>) -> Result<Self>
         ensures { ReadsExactly expr_block_of (Alone (behind_attributes is_block)) input.old result input.new }
@@ -478,7 +478,7 @@ impl Parse for ExprConst {
     /// Reads `const` and a block, without attributes before it (Rust Reference, "`const` blocks"). Inner attributes
     /// come first in its braces.
     ///
-    /// It is refused, memory aside, only where none stands, and the input then stays where it was: as `ExpectedToken`
+    /// It is refused, memory aside, only where there is none, and the input then stays where it was: as `ExpectedToken`
     /// of `const` or of `{`, and as its attributes are.
     fn parse(input: &mut ParseBuffer<'_>) -> Result<Self>
         ensures { ReadsExactly expr_const_of (Alone is_const) input.old result input.new }
@@ -505,7 +505,7 @@ impl Parse for ExprLoop {
     /// Reads a `loop` after outer attributes and a label, or none (Rust Reference, "Infinite loops"). Inner attributes
     /// come first in its braces.
     ///
-    /// It is refused, memory aside, only where none stands, and the input then stays where it was: as its attributes
+    /// It is refused, memory aside, only where there is none, and the input then stays where it was: as its attributes
     /// and its label are, and as `ExpectedToken` of `loop` or of `{`.
     fn parse(input: &mut ParseBuffer<'_>) -> Result<Self>
         ensures { ReadsExactly expr_loop_of (Alone (behind_attributes is_loop)) input.old result input.new }
@@ -531,7 +531,7 @@ impl Parse for ExprTryBlock {
 
     /// Reads `try` and a block, without attributes before it.
     ///
-    /// It is refused, memory aside, only where none stands, and the input then stays where it was: as `ExpectedToken`
+    /// It is refused, memory aside, only where there is none, and the input then stays where it was: as `ExpectedToken`
     /// of `try` or of `{`.
     fn parse(input: &mut ParseBuffer<'_>) -> Result<Self>
         ensures { ReadsExactly expr_try_block_of (Alone is_try_block) input.old result input.new }
@@ -558,7 +558,7 @@ impl Parse for ExprUnsafe {
     /// Reads `unsafe` and a block, without attributes before it (Rust Reference, "`unsafe` blocks"). Inner attributes
     /// come first in its braces.
     ///
-    /// It is refused, memory aside, only where none stands, and the input then stays where it was: as `ExpectedToken`
+    /// It is refused, memory aside, only where there is none, and the input then stays where it was: as `ExpectedToken`
     /// of `unsafe` or of `{`, and as its attributes are.
     fn parse(input: &mut ParseBuffer<'_>) -> Result<Self>
         ensures { ReadsExactly expr_unsafe_of (Alone is_unsafe) input.old result input.new }
@@ -585,7 +585,7 @@ impl<E: ParseKinds> Parse for ExprIfOf<E> {
     /// Reads an `if` after outer attributes or none, with each `else` that follows (Rust Reference, "`if`
     /// expressions").
     ///
-    /// It is refused, memory aside, only where none stands, and the input then stays where it was: as its attributes
+    /// It is refused, memory aside, only where there is none, and the input then stays where it was: as its attributes
     /// are, as `ExpectedToken` of `if` or of a brace, and as its conditions are.
     fn parse(input: &mut ParseBuffer<'_>) -> Result<Self>
         ensures { ReadsExactly (expr_if_of E.tree) (Alone (behind_attributes is_if_expr)) input.old result input.new }
@@ -611,7 +611,7 @@ impl<E: ParseKinds> Parse for ExprWhileOf<E> {
     /// Reads a `while` after outer attributes and a label, or none (Rust Reference, "Predicate loops"). Inner
     /// attributes come first in its braces.
     ///
-    /// It is refused, memory aside, only where none stands, and the input then stays where it was: as its attributes
+    /// It is refused, memory aside, only where there is none, and the input then stays where it was: as its attributes
     /// and its label are, as `ExpectedToken` of `while` or of `{`, and as its condition is.
     fn parse(input: &mut ParseBuffer<'_>) -> Result<Self>
         ensures { ReadsExactly (expr_while_of E.tree) (Alone (behind_attributes is_while)) input.old result input.new }

@@ -305,7 +305,7 @@ impl Parse for ExprContinue {
 
     /// Reads `continue` and a label or none, without attributes before it (Rust Reference, "`continue` expressions").
     ///
-    /// It is refused, memory aside, only where none stands, and the input then stays where it was: as `ExpectedToken`
+    /// It is refused, memory aside, only where there is none, and the input then stays where it was: as `ExpectedToken`
     /// of `continue`.
     fn parse(input: &mut ParseBuffer<'_>) -> Result<Self>
         ensures { ReadsExactly expr_continue_of (Alone is_continue) input.old result input.new }
@@ -331,7 +331,7 @@ impl<E: ParseKinds> Parse for ExprBreakOf<E> {
     /// Reads `break`, a label or none, and a value where one follows, without attributes before it (Rust Reference,
     /// "`break` expressions").
     ///
-    /// It is refused, memory aside, only where none stands, and the input then stays where it was: as `ExpectedToken`
+    /// It is refused, memory aside, only where there is none, and the input then stays where it was: as `ExpectedToken`
     /// of `break`, and as its value is.
     fn parse(input: &mut ParseBuffer<'_>) -> Result<Self>
         ensures { ReadsExactly (expr_break_of E.tree) (Alone is_break) input.old result input.new }
@@ -357,7 +357,7 @@ impl<E: ParseKinds> Parse for ExprReturnOf<E> {
     /// Reads `return`, and a value where one follows, without attributes before it (Rust Reference, "`return`
     /// expressions").
     ///
-    /// It is refused, memory aside, only where none stands, and the input then stays where it was: as `ExpectedToken`
+    /// It is refused, memory aside, only where there is none, and the input then stays where it was: as `ExpectedToken`
     /// of `return`, and as its value is.
     fn parse(input: &mut ParseBuffer<'_>) -> Result<Self>
         ensures { ReadsExactly (expr_return_of E.tree) (Alone is_return) input.old result input.new }
@@ -382,7 +382,7 @@ impl<E: ParseKinds> Parse for ExprYieldOf<E> {
 
     /// Reads `yield`, and a value where one follows, without attributes before it.
     ///
-    /// It is refused, memory aside, only where none stands, and the input then stays where it was: as `ExpectedToken`
+    /// It is refused, memory aside, only where there is none, and the input then stays where it was: as `ExpectedToken`
     /// of `yield`, and as its value is.
     fn parse(input: &mut ParseBuffer<'_>) -> Result<Self>
         ensures { ReadsExactly (expr_yield_of E.tree) (Alone is_yield) input.old result input.new }

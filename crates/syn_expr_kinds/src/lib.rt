@@ -1,6 +1,6 @@
 //! The kinds of expressions (Rust Reference, "Expressions"), a struct each, as in syn.
 //!
-//! A struct that holds expressions is generic in them, so that it stands below the type of expressions: `ExprCallOf<Expr>` is
+//! A struct that holds expressions is generic in them, so that it is below the type of expressions: `ExprCallOf<Expr>` is
 //! syn's `ExprCall`. The kinds that hold patterns are beside that type.
 #![tactic(auto)]
 

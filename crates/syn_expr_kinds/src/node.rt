@@ -321,7 +321,7 @@ impl<'a, E, A> Operands<'a, E, A> {
         }
     }
 
-    /// The operand with which a node ends, or after which its trailer stands.
+    /// The operand with which a node ends, or after which its trailer comes.
     #[tactic(auto, using(crate::proofs::Borrowed::based))]
     pub fn last(self) -> Option<&'a E>
         ensures { (tree : E → Tree) (arm : A → ArmView) → mapped (λ x. tree x.now) result ≡ last_of (operands_of tree arm self.entry) }

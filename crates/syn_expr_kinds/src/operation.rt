@@ -427,7 +427,7 @@ impl<E: ParseKinds> Parse for ExprRawAddrOf<E> {
     /// Reads `&raw const` or `&raw mut` and the operand, which takes no operator, without attributes before them (Rust
     /// Reference, "Raw borrow operators").
     ///
-    /// It is refused, memory aside, only where none stands, and the input then stays where it was: as `ExpectedToken`
+    /// It is refused, memory aside, only where there is none, and the input then stays where it was: as `ExpectedToken`
     /// of `&`, `raw`, or `mut` and `const`, and as the operand is.
     fn parse(input: &mut ParseBuffer<'_>) -> Result<Self>
         ensures { ReadsExactly (expr_raw_addr_of E.tree) (Alone is_raw_addr) input.old result input.new }
@@ -453,7 +453,7 @@ impl<E: ParseKinds> Parse for ExprReferenceOf<E> {
     /// Reads `&`, `mut` or not, and the operand, which takes no operator, without attributes before them (Rust
     /// Reference, "Borrow operators"). The word `raw` after `&` is a path here: what comes after it is left.
     ///
-    /// It is refused, memory aside, only where none stands, and the input then stays where it was: as `ExpectedToken`
+    /// It is refused, memory aside, only where there is none, and the input then stays where it was: as `ExpectedToken`
     /// of `&`, and as the operand is.
     fn parse(input: &mut ParseBuffer<'_>) -> Result<Self>
         ensures { ReadsExactly (expr_reference_of E.tree) ReferenceAlone input.old result input.new }
@@ -479,7 +479,7 @@ impl<E: ParseKinds> Parse for ExprUnaryOf<E> {
     /// Reads `*`, `!` or `-` and the operand, which takes no operator, without attributes before them (Rust Reference,
     /// "Dereference operator", "Negation operators").
     ///
-    /// It is refused, memory aside, only where none stands, and the input then stays where it was: as `ExpectedToken`
+    /// It is refused, memory aside, only where there is none, and the input then stays where it was: as `ExpectedToken`
     /// of one of the three signs, and as the operand is.
     fn parse(input: &mut ParseBuffer<'_>) -> Result<Self>
         ensures { ReadsExactly (expr_unary_of E.tree) (Alone is_unary) input.old result input.new }
@@ -506,8 +506,8 @@ impl<E: ParseKinds> Parse for ExprAssignOf<E> {
     /// expressions"). Invisible groups that it is in are looked through, and left out with the attributes before
     /// them.
     ///
-    /// It is refused, memory aside, only where none stands, and the input then stays where it was: as an expression is,
-    /// and where another kind stands, as `ExpectedExprKind`, from the first token of this to its last.
+    /// It is refused, memory aside, only where there is none, and the input then stays where it was: as an expression is,
+    /// and where there is another kind, as `ExpectedExprKind`, from the first token of this to its last.
     fn parse(input: &mut ParseBuffer<'_>) -> Result<Self>
         ensures exact { ReadsExactly (expr_assign_of E.tree) (OfKind is_assign) input.old result input.new }
         ensures others { RefusesOthers is_assign WantedKind.Assign input.old result }
@@ -535,8 +535,8 @@ impl<E: ParseKinds> Parse for ExprBinaryOf<E> {
     /// "Compound assignment expressions"). Invisible groups that it is in are looked through, and left out with the
     /// attributes before them.
     ///
-    /// It is refused, memory aside, only where none stands, and the input then stays where it was: as an expression is,
-    /// and where another kind stands, as `ExpectedExprKind`, from the first token of this to its last.
+    /// It is refused, memory aside, only where there is none, and the input then stays where it was: as an expression is,
+    /// and where there is another kind, as `ExpectedExprKind`, from the first token of this to its last.
     fn parse(input: &mut ParseBuffer<'_>) -> Result<Self>
         ensures exact { ReadsExactly (expr_binary_of E.tree) (OfKind is_binary) input.old result input.new }
         ensures others { RefusesOthers is_binary WantedKind.Binary input.old result }
@@ -564,8 +564,8 @@ impl<E: ParseKinds> Parse for ExprCastOf<E> {
     /// expressions"). Invisible groups that it is in are looked through, and left out with the attributes before
     /// them.
     ///
-    /// It is refused, memory aside, only where none stands, and the input then stays where it was: as an expression is,
-    /// and where another kind stands, as `ExpectedExprKind`, from the first token of this to its last.
+    /// It is refused, memory aside, only where there is none, and the input then stays where it was: as an expression is,
+    /// and where there is another kind, as `ExpectedExprKind`, from the first token of this to its last.
     fn parse(input: &mut ParseBuffer<'_>) -> Result<Self>
         ensures exact { ReadsExactly (expr_cast_of E.tree) (OfKind is_cast) input.old result input.new }
         ensures others { RefusesOthers is_cast WantedKind.Cast input.old result }
@@ -592,8 +592,8 @@ impl<E: ParseKinds> Parse for ExprRangeOf<E> {
     /// Reads an expression that is a range, with attributes before it or without (Rust Reference, "Range expressions").
     /// Invisible groups that it is in are looked through, and left out with the attributes before them.
     ///
-    /// It is refused, memory aside, only where none stands, and the input then stays where it was: as an expression is,
-    /// and where another kind stands, as `ExpectedExprKind`, from the first token of this to its last.
+    /// It is refused, memory aside, only where there is none, and the input then stays where it was: as an expression is,
+    /// and where there is another kind, as `ExpectedExprKind`, from the first token of this to its last.
     fn parse(input: &mut ParseBuffer<'_>) -> Result<Self>
         ensures exact { ReadsExactly (expr_range_of E.tree) (OfKind is_range) input.old result input.new }
         ensures others { RefusesOthers is_range WantedKind.Range input.old result }

@@ -152,8 +152,8 @@ impl<E: ParseField> Parse for FieldValueOf<E> {
     /// Reads a field of a struct expression, without the comma after it: outer attributes, a member, and its value after a
     /// colon, which only a name may be without (Rust Reference, "Struct expressions").
     ///
-    /// It is refused, memory aside, only where none stands, and the input then stays where it was: as `ExpectedMember` where
-    /// no member stands, as `ExpectedToken` of the colon where an index has none, and as its attributes, its index and its
+    /// It is refused, memory aside, only where there is none, and the input then stays where it was: as `ExpectedMember` where
+    /// there is no member, as `ExpectedToken` of the colon where an index has none, and as its attributes, its index and its
     /// value are.
     fn parse(input: &mut ParseBuffer<'_>) -> Result<Self>
         ensures { ReadsExactly (field_value_of E.tree) FieldStands input.old result input.new }

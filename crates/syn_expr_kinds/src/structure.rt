@@ -124,7 +124,7 @@ impl<E: ParseKinds> Parse for ExprStructOf<E> {
     /// Reads a struct expression, without attributes before it (Rust Reference, "Struct expressions"). Its path may be
     /// `try`.
     ///
-    /// It is refused, memory aside, only where none stands, and the input then stays where it was: as a path is, as
+    /// It is refused, memory aside, only where there is none, and the input then stays where it was: as a path is, as
     /// `ExpectedToken` of `{` or of a comma, and as its fields are.
     fn parse(input: &mut ParseBuffer<'_>) -> Result<Self>
         ensures { ReadsExactly (expr_struct_of E.tree) StructAlone input.old result input.new }

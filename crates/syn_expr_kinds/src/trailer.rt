@@ -352,8 +352,8 @@ impl<E: ParseKinds> Parse for ExprAwaitOf<E> {
     /// "Await expressions"). Invisible groups that it is in are looked through, and left out with the attributes
     /// before them.
     ///
-    /// It is refused, memory aside, only where none stands, and the input then stays where it was: as an expression is,
-    /// and where another kind stands, as `ExpectedExprKind`, from the first token of this to its last.
+    /// It is refused, memory aside, only where there is none, and the input then stays where it was: as an expression is,
+    /// and where there is another kind, as `ExpectedExprKind`, from the first token of this to its last.
     fn parse(input: &mut ParseBuffer<'_>) -> Result<Self>
         ensures exact { ReadsExactly (expr_await_of E.tree) (OfKind is_await) input.old result input.new }
         ensures others { RefusesOthers is_await WantedKind.Await input.old result }
@@ -379,8 +379,8 @@ impl<E: ParseKinds> Parse for ExprCallOf<E> {
     /// Reads an expression that is a call, with attributes before it or without (Rust Reference, "Call expressions").
     /// Invisible groups that it is in are looked through, and left out with the attributes before them.
     ///
-    /// It is refused, memory aside, only where none stands, and the input then stays where it was: as an expression is,
-    /// and where another kind stands, as `ExpectedExprKind`, from the first token of this to its last.
+    /// It is refused, memory aside, only where there is none, and the input then stays where it was: as an expression is,
+    /// and where there is another kind, as `ExpectedExprKind`, from the first token of this to its last.
     fn parse(input: &mut ParseBuffer<'_>) -> Result<Self>
         ensures exact { ReadsExactly (expr_call_of E.tree) (OfKind is_call) input.old result input.new }
         ensures others { RefusesOthers is_call WantedKind.Call input.old result }
@@ -407,8 +407,8 @@ impl<E: ParseKinds> Parse for ExprFieldOf<E> {
     /// "Field access expressions", "Tuple indexing expressions"). Invisible groups that it is in are looked
     /// through, and left out with the attributes before them.
     ///
-    /// It is refused, memory aside, only where none stands, and the input then stays where it was: as an expression is,
-    /// and where another kind stands, as `ExpectedExprKind`, from the first token of this to its last.
+    /// It is refused, memory aside, only where there is none, and the input then stays where it was: as an expression is,
+    /// and where there is another kind, as `ExpectedExprKind`, from the first token of this to its last.
     fn parse(input: &mut ParseBuffer<'_>) -> Result<Self>
         ensures exact { ReadsExactly (expr_field_of E.tree) (OfKind is_field) input.old result input.new }
         ensures others { RefusesOthers is_field WantedKind.Field input.old result }
@@ -435,8 +435,8 @@ impl<E: ParseKinds> Parse for ExprIndexOf<E> {
     /// "Array and slice indexing expressions"). Invisible groups that it is in are looked through, and left out
     /// with the attributes before them.
     ///
-    /// It is refused, memory aside, only where none stands, and the input then stays where it was: as an expression is,
-    /// and where another kind stands, as `ExpectedExprKind`, from the first token of this to its last.
+    /// It is refused, memory aside, only where there is none, and the input then stays where it was: as an expression is,
+    /// and where there is another kind, as `ExpectedExprKind`, from the first token of this to its last.
     fn parse(input: &mut ParseBuffer<'_>) -> Result<Self>
         ensures exact { ReadsExactly (expr_index_of E.tree) (OfKind is_index) input.old result input.new }
         ensures others { RefusesOthers is_index WantedKind.Index input.old result }
@@ -463,8 +463,8 @@ impl<E: ParseKinds> Parse for ExprMethodCallOf<E> {
     /// "Method-call expressions"). Invisible groups that it is in are looked through, and left out with the
     /// attributes before them.
     ///
-    /// It is refused, memory aside, only where none stands, and the input then stays where it was: as an expression is,
-    /// and where another kind stands, as `ExpectedExprKind`, from the first token of this to its last.
+    /// It is refused, memory aside, only where there is none, and the input then stays where it was: as an expression is,
+    /// and where there is another kind, as `ExpectedExprKind`, from the first token of this to its last.
     fn parse(input: &mut ParseBuffer<'_>) -> Result<Self>
         ensures exact { ReadsExactly (expr_method_call_of E.tree) (OfKind is_method_call) input.old result input.new }
         ensures others { RefusesOthers is_method_call WantedKind.MethodCall input.old result }
@@ -491,8 +491,8 @@ impl<E: ParseKinds> Parse for ExprTryOf<E> {
     /// try propagation expression"). Invisible groups that it is in are looked through, and left out with the
     /// attributes before them.
     ///
-    /// It is refused, memory aside, only where none stands, and the input then stays where it was: as an expression is,
-    /// and where another kind stands, as `ExpectedExprKind`, from the first token of this to its last.
+    /// It is refused, memory aside, only where there is none, and the input then stays where it was: as an expression is,
+    /// and where there is another kind, as `ExpectedExprKind`, from the first token of this to its last.
     fn parse(input: &mut ParseBuffer<'_>) -> Result<Self>
         ensures exact { ReadsExactly (expr_try_of E.tree) (OfKind is_try) input.old result input.new }
         ensures others { RefusesOthers is_try WantedKind.Try input.old result }

@@ -50,7 +50,7 @@ pub struct Fields<E> {
     pub rest: Option<Box<E>>,
 }
 
-/// Fields after which no `..` stands.
+/// Fields after which there is no `..`.
 fn without_rest<E>(fields: Punctuated<FieldValueOf<E>, Comma>) -> Fields<E>
     ensures { result ≡ record { fields = fields; dot2_token = None; rest = None } }
 {
@@ -233,7 +233,7 @@ impl<E: ReadExprs + Drop, F: Fn(&mut ParseBuffer<'_>, Place) -> Result<Box<E>>> 
         })
     }
 
-    /// Reads a struct expression after its path, where one may stand: none does before the block of a condition, nor after
+    /// Reads a struct expression after its path, where there may be one: there is none before the block of a condition, nor after
     /// the path `try`. There it is refused as `UnexpectedToken`, else as `structure_behind` refuses it.
     // Not in the frame of its caller, which is on the stack once for each level of a tree.
     #[inline(never)]

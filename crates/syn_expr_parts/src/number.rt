@@ -37,7 +37,7 @@ fn base_and_digits(text: &str) -> (u64, &[u8])
     }
 }
 
-/// The value of digits with underscores between; none where it is above 4294967295, or where another character stands
+/// The value of digits with underscores between; none where it is above 4294967295, or where there is another character
 /// among them.
 #[tactic(auto, using(crate::proofs::Numbers::numbers))]
 fn digits_value(base: u64, digits: &[u8]) -> Option<u32>

@@ -52,7 +52,7 @@ use syn_pat_kinds::kinds::HasPatTree;
 use syn_tokens::token::{Brace, Comma, Else};
 use syn_tokens::tree::TokenStream;
 
-// ---- what is asked of a node and of what is lent of it
+// ---- what is asked of a node and of what is borrowed of it
 
 /// Whether it is a block, with or without a label, after attributes too.
 #[tactic(auto, using(crate::proofs::Likes::blocks))]

@@ -52,7 +52,7 @@ fn pairs<E: HasPrint, F: Fn(&mut TokenStream, &mut Summaries, &E, Context) -> Pu
     Ok(())
 }
 
-/// Prints the last element of a list, after which no comma stands, with one where it is needed.
+/// Prints the last element of a list, after which there is no comma, with one where it is needed.
 #[tactic(auto, using(syn_tokens::proofs::Fronts::fronts, crate::proofs::Turns::turns))]
 fn last_element<E: HasPrint, F: Fn(&mut TokenStream, &mut Summaries, &E, Context) -> PutResult>(
     bare: &F,

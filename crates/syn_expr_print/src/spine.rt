@@ -32,7 +32,7 @@ use syn_grammar::summary::Summary;
 use syn_tokens::token::Brace;
 use syn_tokens::tree::TokenStream;
 
-/// Where the first operand of a node of this kind stands.
+/// Where the first operand of a node of this kind is.
 fn first_context(kind: NodeKind, context: Context) -> Context
     ensures { (t : Tree) → kind_at t ≡ kind → result ≡ first_place t context }
 {

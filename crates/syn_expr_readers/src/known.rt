@@ -20,7 +20,7 @@ pub fn is_attributed<E: HasNode>(x: &E) -> bool
     !x.attributes().has_none_before()
 }
 
-/// The kind of a node before which no attribute stands; none of another.
+/// The kind of a node before which there is no attribute; none of another.
 #[tactic(auto, unfolding(crate::specs::Kind::bare_kind))]
 pub fn bare_kind<E: HasNode + HasKind>(x: &E) -> Option<NodeKind>
     ensures { result ≡ spec.bare_kind (E.tree x.now) }

@@ -87,7 +87,7 @@ fn with_outer<E: ReadExprs + Drop>(
 }
 
 /// Whether what comes first goes on the path that an invisible group before it holds: `::`, the `!` of a macro, or the
-/// brace of a struct expression where one may stand.
+/// brace of a struct expression where there may be one.
 #[tactic(auto, unfolding(syn_tokens::specs::Sign::sign_text, syn_parts::specs::Mark::sign_at))]
 fn goes_on(input: &ParseBuffer<'_>, place: Place, qself: &Option<QSelf>, path: &Path) -> bool
     ensures { result ≡ paths.goes_on_path (not place.condition) (qself_or type_of qself.now, path_of type_of path.now) input.now.rest }

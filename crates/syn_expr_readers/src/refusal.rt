@@ -15,7 +15,7 @@ use syn_tokens::buffer::ParseBuffer;
 use syn_tokens::error::{Error, ErrorKind, Part, Result};
 use syn_tokens::span::Span;
 
-/// Where the operator that is first stands; the first token, where none is.
+/// Where the first operator is; the first token, where none is.
 pub(crate) fn operator_span(input: &ParseBuffer<'_>) -> Span {
     let [first, second, third]: [Span; 3] = input.spans();
     match infix_at(input) {

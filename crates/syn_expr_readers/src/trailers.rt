@@ -250,7 +250,7 @@ impl<E: ReadExprs + Drop, F: Fn(&mut ParseBuffer<'_>, Place) -> Result<Box<E>> +
     /// It is refused as `UnexpectedToken` at a trailer that its base doesn't take, as `ExpectedMember`,
     /// `ExpectedUnsuffixedInteger` or `IndexOutOfRange` where no name, method or index is after a dot, as `ExpectedToken` where
     /// a method lacks its arguments or the `<` of its turbofish, and inside as arguments, an index or a type are.
-    // Mostly there is none, which is told without a call.
+    // Mostly there is none, which is known without a call.
     #[inline(always)]
     #[tactic(auto, using(crate::proofs::Loops::trails))]
     pub(crate) fn trail(

@@ -120,7 +120,7 @@ pub fn prefixed<E: HasPrinter, P: PutPat>(
 
 // ---- operations
 
-/// The operator of what is lent.
+/// The operator of what is borrowed.
 fn infix(operator: Operator<'_>) -> Infix
     ensures { result ≡ operator_of operator.entry }
 {

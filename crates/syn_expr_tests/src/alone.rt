@@ -463,7 +463,7 @@ fn kinds_are_read_by_themselves_4(rt: HostRuntime) -> Result<(), Fail> {
     Ok(())
 }
 
-/// What is told of a `T` at the front of a text: what was read and what is left, or the place and the text of the refusal.
+/// What becomes of a `T` at the front of a text: what was read and what is left, or the place and the text of the refusal.
 fn told<T: Parse>(alloc: Global, text: &str) -> Result<String, Error>
 where
     Expr: From<T>,

@@ -5,7 +5,7 @@ use std::alloc::Global;
 use std::test::Fail;
 use syn_expr::{Error, ErrorKind, HeldExpr, ToTokens, TokenStream, lex, parse2, to_text};
 
-/// Texts that are read whole. After `~` stands the text of their own tokens, where it is another.
+/// Texts that are read whole. After `~` comes the text of their own tokens, where it is another.
 const READ: &str = "
 a - b - c
 a = b = c

@@ -184,7 +184,7 @@ fn positions_of_groups(rt: HostRuntime) -> Result<(), Fail> {
     })
 }
 
-/// Where no operand begins, no group stands.
+/// Where no operand begins, there is no group.
 const OTHER_PLACES: &str = "
 a as @(T)                 | 6..9 expected a type
 let @(a) = b              | 5..8 expected a pattern

@@ -95,7 +95,7 @@ fn swap_fields(expr: &mut Expr, other: &mut Expr) {
     }
 }
 
-/// The colon of the last field, after which no comma stands.
+/// The colon of the last field, after which there is no comma.
 fn swap_colon(expr: &mut Expr, other: &mut Expr) {
     if let Expr::Struct(x) = expr {
         if let Expr::Struct(y) = other {

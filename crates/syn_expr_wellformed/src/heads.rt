@@ -19,7 +19,7 @@ use syn_tokens::token::{Comma, Move};
 
 /// The type of expressions, as one asks whether the patterns in them are read back.
 pub trait HasPatFits: HasShape {
-    /// Whether a pattern is read back where alternatives may stand, and no guard is in it.
+    /// Whether a pattern is read back where there may be alternatives, and no guard is in it.
     fn pat_fits(pat: &Self::Pat) -> bool
         ensures { result ≡ spec.fits_alone true (Self.Pat.view pat.now) };
 

@@ -93,7 +93,7 @@ fn is_sole_rest(list: &Punctuated<Pat, Comma>) -> bool
     }
 }
 
-/// Whether a tuple is read back: after one pattern a comma stands, unless it is `..`.
+/// Whether a tuple is read back: after one pattern there is a comma, unless it is `..`.
 #[cycle(fits)]
 #[tactic(auto, using(crate::proofs::PatKinds::kinds))]
 fn tuple_fits(x: &PatTuple, several: bool) -> bool
@@ -120,7 +120,7 @@ fn reference_fits(x: &PatReference, several: bool) -> bool
     x.pat.fits(false) && (x.mutability.is_some() || !begins_mut(&x.pat))
 }
 
-/// Whether what comes after the attributes of a pattern is read back, where alternatives may stand or may not, and no guard
+/// Whether what comes after the attributes of a pattern is read back, where there may be alternatives or may not, and no guard
 /// is in it.
 #[cycle(fits)]
 #[tactic(auto, using(syn_expr_all::proofs::TreeOf::pats, syn_expr_all::proofs::TreeOf::members, crate::proofs::PatKinds::always))]

@@ -42,7 +42,7 @@ pub trait FitPat {
     /// A pattern without its places, and the guards in it.
     ghost shown: { Self → PatView };
 
-    /// Whether a pattern is read back, where alternatives may stand or may not, and no guard is in it.
+    /// Whether a pattern is read back, where there may be alternatives or may not, and no guard is in it.
     fn fits(&self, several: bool) -> bool
         ensures { result ≡ spec.fits_alone several (Self.shown self.now) };
 }
@@ -268,7 +268,7 @@ fn fields_fit<P: FitPat, S>(list: &Punctuated<FieldPatOf<P>, S>) -> bool
     }
 }
 
-/// Whether a struct pattern is read back: between its fields and `..` a comma stands.
+/// Whether a struct pattern is read back: there is a comma between its fields and `..`.
 #[tactic(auto, using(crate::proofs::PatKinds::structs))]
 pub fn struct_fits<P: FitPat>(x: &PatStructOf<P>, several: bool) -> bool
     ensures { result ≡ spec.fits_behind several (of.pat_struct_of P.shown x.now) }
@@ -294,7 +294,7 @@ pub fn slice_fits<P: FitPat>(x: &PatSliceOf<P>, several: bool) -> bool
     pats_fit(&x.elems, true)
 }
 
-/// Whether alternatives are read back where they may stand: one alone has a `|` before it, and none ends them.
+/// Whether alternatives are read back where there may be some: one alone has a `|` before it, and no `|` ends them.
 #[tactic(auto, using(crate::proofs::PatKinds::kinds))]
 pub fn or_fits<P: FitPat>(x: &PatOrOf<P>, several: bool) -> bool
     ensures { result ≡ spec.fits_behind several (of.pat_or_of P.shown x.now) }

@@ -1,4 +1,4 @@
-//! Where the operands of a node stand.
+//! Where the operands of a node are.
 
 ghost use Rattle.std.specs.Prelude.{◌≡◌, false};
 ghost use Rattle.syn_expr_kinds.specs.Node.{frame_of, trailer_of};
@@ -9,7 +9,7 @@ ghost use Rattle.syn_pat_kinds.specs.View.{PatView};
 
 use syn_expr_kinds::node::{Frame, HasShape, Trailer};
 
-/// Where the operands of a node stand.
+/// Where the operands of a node are.
 #[derive(Clone, Copy)]
 pub enum Slot {
     /// In a list with commas.
@@ -104,7 +104,7 @@ impl Slot {
     }
 }
 
-/// Where the operands of a trailer stand.
+/// Where the operands of a trailer are.
 fn trailer_slot(trailer: Trailer<'_>) -> Slot
     ensures slot { slot_of result ≡ well.trailer_slot (trailer_of trailer.entry) }
     ensures dots { dots_of result ≡ false }
@@ -116,7 +116,7 @@ fn trailer_slot(trailer: Trailer<'_>) -> Slot
     }
 }
 
-/// Where the operands of a frame stand.
+/// Where the operands of a frame are.
 fn frame_slot<P>(frame: Frame<'_, P>) -> Slot
     ensures slot { (pat : P → PatView) → slot_of result ≡ well.frame_slot (frame_of pat frame.entry) }
     ensures dots { (pat : P → PatView) → dots_of result ≡ spec.frame_dots (frame_of pat frame.entry) }
@@ -133,7 +133,7 @@ fn frame_slot<P>(frame: Frame<'_, P>) -> Slot
     }
 }
 
-/// Where the operands of a node stand.
+/// Where the operands of a node are.
 #[tactic(auto, using(crate::proofs::Owns::slots))]
 pub fn operand_slot<E: HasShape>(expr: &E) -> Slot
     ensures slot { slot_of result ≡ spec.slot_at (E.tree expr.now) }

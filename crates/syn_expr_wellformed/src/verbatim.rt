@@ -1,4 +1,4 @@
-//! Operands that stand only in a certain form: blocks that keep their tokens, and values that are the name of their field.
+//! Operands that may only have a certain form: blocks that keep their tokens, and values that are the name of their field.
 
 ghost use Rattle.std.specs.Prelude.{◌≡◌};
 ghost use Rattle.syn_expr_kinds.specs.Node.{leaf_of};

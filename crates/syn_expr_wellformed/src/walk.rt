@@ -33,7 +33,7 @@ pub trait HasWell: HasPatFits + HasArms {
     fn arm_fits(arm: &Self::Arm) -> bool
         ensures { result ≡ spec.arm_head (Self.Arm.view arm.now) };
 
-    /// Of no node more is told than is lent.
+    /// What is borrowed of a node is all of it.
     ghost whole: { (x : Self) → is_whole (Self.tree x) ≡ true };
 }
 

@@ -182,7 +182,7 @@ impl Parse for TypeNever {
 
     ghost least = { 1 };
 
-    /// Reads `!` (Rust Reference, "Never type"). It is refused as a type is, and where another kind of type stands, as
+    /// Reads `!` (Rust Reference, "Never type"). It is refused as a type is, and where another kind of type comes, as
     /// `ExpectedPart` of a type.
     fn parse(input: &mut ParseBuffer<'_>) -> Result<Self> {
         let x: OfKind<Type, Self> = ahead(input)?;
@@ -202,7 +202,7 @@ impl Parse for TypeInfer {
 
     ghost least = { 1 };
 
-    /// Reads `_` (Rust Reference, "Inferred type"). It is refused as a type is, and where another kind of type stands,
+    /// Reads `_` (Rust Reference, "Inferred type"). It is refused as a type is, and where another kind of type comes,
     /// as `ExpectedPart` of a type.
     fn parse(input: &mut ParseBuffer<'_>) -> Result<Self> {
         let x: OfKind<Type, Self> = ahead(input)?;

@@ -53,7 +53,7 @@ impl FitTypes for Type {
 }
 
 impl Type {
-    /// Whether it is read back; after its `impl` or `dyn` several bounds may stand (`parse`), or one (`without_plus`).
+    /// Whether it is read back; after its `impl` or `dyn` there may be several bounds (`parse`), or one (`without_plus`).
     pub fn is_read_back(&self, several: bool) -> bool
         ensures { result ≡ spec.type_fits several (type_of self.now) }
     {

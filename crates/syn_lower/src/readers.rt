@@ -23,7 +23,7 @@ use syn_parts::label::PathStyle;
 use syn_tokens::buffer::{Parse, ParseBuffer};
 use syn_tokens::error::Result;
 
-/// Reads a type; after its `impl` or `dyn` several bounds may stand, or one.
+/// Reads a type; after its `impl` or `dyn` there may be several bounds, or one.
 #[tactic(auto, using(syn_parts::proofs::Parts::type_is))]
 pub fn ty(input: &mut ParseBuffer<'_>, several: bool) -> Result<Box<Type>>
     ensures value { Reads (λ x. type_of x.value) ((part.type several).reads input.old.rest) result input.new.rest }
@@ -154,7 +154,7 @@ impl Parse for Type {
 
     ghost seen = { type_of };
 
-    /// A type comes before the rest; after its `impl` or `dyn` several bounds may stand.
+    /// A type comes before the rest; after its `impl` or `dyn` there may be several bounds.
     ghost spells = { λ l x rest. (part.type true).behind x l ≡ Some rest };
 
     ghost least = { 1 };

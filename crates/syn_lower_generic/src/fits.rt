@@ -99,7 +99,7 @@ fn arguments_end_before_colons<T: FitTypes>(arguments: &PathArgumentsOf<T>) -> b
     }
 }
 
-/// Whether what a function returns is read back; after its `impl` or `dyn` several bounds may stand, or one.
+/// Whether what a function returns is read back; after its `impl` or `dyn` there may be several bounds, or one.
 pub(crate) fn output_fits<T: FitTypes>(output: &ReturnTypeOf<T>, several: bool) -> bool
     ensures { result ≡ spec.output_fits several (return_of T.tree output.now) }
 {

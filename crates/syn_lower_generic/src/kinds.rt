@@ -88,7 +88,7 @@ impl<T: Kind<TypeReferenceOf<T>>> Parse for TypeReferenceOf<T> {
     ghost least = { 1 };
 
     /// Reads a reference (Rust Reference, "Pointer types"). It is refused as a type is, and where another kind of type
-    /// stands, as `ExpectedPart` of a type.
+    /// comes, as `ExpectedPart` of a type.
     fn parse(input: &mut ParseBuffer<'_>) -> Result<Self> {
         let x: OfKind<T, Self> = ahead(input)?;
         Ok(x.part)
@@ -108,7 +108,7 @@ impl<T: Kind<TypePtrOf<T>>> Parse for TypePtrOf<T> {
     ghost least = { 1 };
 
     /// Reads a raw pointer (Rust Reference, "Pointer types"). It is refused as a type is, and where another kind of
-    /// type stands, as `ExpectedPart` of a type.
+    /// type comes, as `ExpectedPart` of a type.
     fn parse(input: &mut ParseBuffer<'_>) -> Result<Self> {
         let x: OfKind<T, Self> = ahead(input)?;
         Ok(x.part)
@@ -128,7 +128,7 @@ impl<T: Kind<TypeSliceOf<T>>> Parse for TypeSliceOf<T> {
     ghost least = { 1 };
 
     /// Reads a slice (Rust Reference, "Slice types"). It is refused as a type is, and where another kind of type
-    /// stands, as `ExpectedPart` of a type.
+    /// comes, as `ExpectedPart` of a type.
     fn parse(input: &mut ParseBuffer<'_>) -> Result<Self> {
         let x: OfKind<T, Self> = ahead(input)?;
         Ok(x.part)
@@ -148,7 +148,7 @@ impl<T: Kind<TypeArrayOf<T>>> Parse for TypeArrayOf<T> {
     ghost least = { 1 };
 
     /// Reads an array, whose length is kept as tokens (Rust Reference, "Array types"). It is refused as a type is, and
-    /// where another kind of type stands, as `ExpectedPart` of a type.
+    /// where another kind of type comes, as `ExpectedPart` of a type.
     fn parse(input: &mut ParseBuffer<'_>) -> Result<Self> {
         let x: OfKind<T, Self> = ahead(input)?;
         Ok(x.part)
@@ -168,7 +168,7 @@ impl<T: Kind<TypeTupleOf<T>>> Parse for TypeTupleOf<T> {
     ghost least = { 1 };
 
     /// Reads a tuple (Rust Reference, "Tuple types"). It is refused as a type is, and where another kind of type
-    /// stands, as `ExpectedPart` of a type.
+    /// comes, as `ExpectedPart` of a type.
     fn parse(input: &mut ParseBuffer<'_>) -> Result<Self> {
         let x: OfKind<T, Self> = ahead(input)?;
         Ok(x.part)
@@ -188,7 +188,7 @@ impl<T: Kind<TypeParenOf<T>>> Parse for TypeParenOf<T> {
     ghost least = { 1 };
 
     /// Reads a type in parentheses (Rust Reference, "Parenthesized types"). It is refused as a type is, and where
-    /// another kind of type stands, as `ExpectedPart` of a type.
+    /// another kind of type comes, as `ExpectedPart` of a type.
     fn parse(input: &mut ParseBuffer<'_>) -> Result<Self> {
         let x: OfKind<T, Self> = ahead(input)?;
         Ok(x.part)
@@ -208,7 +208,7 @@ impl<T: Kind<TypeFnPtrOf<T>>> Parse for TypeFnPtrOf<T> {
     ghost least = { 1 };
 
     /// Reads a function pointer (Rust Reference, "Function pointer types"). It is refused as a type is, and where
-    /// another kind of type stands, as `ExpectedPart` of a type.
+    /// another kind of type comes, as `ExpectedPart` of a type.
     fn parse(input: &mut ParseBuffer<'_>) -> Result<Self> {
         let x: OfKind<T, Self> = ahead(input)?;
         Ok(x.part)
@@ -228,7 +228,7 @@ impl<T: Kind<TypeImplTraitOf<T>>> Parse for TypeImplTraitOf<T> {
     ghost least = { 1 };
 
     /// Reads `impl` and its bounds (Rust Reference, "Impl trait"). It is refused as a type is, and where another kind
-    /// of type stands, as `ExpectedPart` of a type.
+    /// of type comes, as `ExpectedPart` of a type.
     fn parse(input: &mut ParseBuffer<'_>) -> Result<Self> {
         let x: OfKind<T, Self> = ahead(input)?;
         Ok(x.part)
@@ -248,7 +248,7 @@ impl<T: Kind<TypeTraitObjectOf<T>>> Parse for TypeTraitObjectOf<T> {
     ghost least = { 1 };
 
     /// Reads `dyn` and its bounds (Rust Reference, "Trait objects"). It is refused as a type is, and where another kind
-    /// of type stands, as `ExpectedPart` of a type.
+    /// of type comes, as `ExpectedPart` of a type.
     fn parse(input: &mut ParseBuffer<'_>) -> Result<Self> {
         let x: OfKind<T, Self> = ahead(input)?;
         Ok(x.part)

@@ -1,5 +1,5 @@
 //! The parts of expressions that hold types (paths and what is in them, macros, the kinds of types), generic in the
-//! type of types, which stands above.
+//! type of types, which is above.
 #![tactic(auto)]
 
 pub mod fits;

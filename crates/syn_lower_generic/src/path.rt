@@ -1,6 +1,6 @@
 //! Paths (Rust Reference, "Paths").
 //!
-//! Each is generic in the type of types, so that it stands below it; `syn_lower` has the alias of syn's name: `Path` is
+//! Each is generic in the type of types, so that it is below it; `syn_lower` has the alias of syn's name: `Path` is
 //! `PathOf<Type>`.
 
 ghost use Rattle.std.specs.Prelude.{◌≡◌, if◌then◌else◌};

@@ -40,7 +40,7 @@ impl<T: ReadTypes> Parse for ReturnTypeOf<T> {
 
     ghost least = { 0 };
 
-    /// Reads `->` and a type (Rust Reference, "Functions"), with several bounds after `impl` and `dyn`; where no `->` stands
+    /// Reads `->` and a type (Rust Reference, "Functions"), with several bounds after `impl` and `dyn`; where there is no `->`
     /// first, nothing is read. The type is refused as a type is.
     fn parse(input: &mut ParseBuffer<'_>) -> Result<Self> {
         ahead(input)

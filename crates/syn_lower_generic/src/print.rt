@@ -234,8 +234,8 @@ fn print_qualified<T: ToTokens>(
 }
 
 /// Prints a path and the type that it is qualified by, if there is one: `<T as a::b>::c`, or the path alone. `position`
-/// says how many segments come before `>`; where the path has fewer, all do. `as` is printed exactly where segments stand
-/// there, whatever `as_token` is. It is refused as `OutOfMemory` alone.
+/// says how many segments come before `>`; where the path has fewer, all do. `as` is printed exactly where there are
+/// such segments, whatever `as_token` is. It is refused as `OutOfMemory` alone.
 #[inline(always)]
 pub fn print_with_qself<T: ToTokens>(
     qself: &Option<QSelfOf<T>>,

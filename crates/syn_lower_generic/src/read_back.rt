@@ -105,7 +105,7 @@ impl<T: FitTypes> AssocTypeOf<T> {
 }
 
 impl<T: FitTypes> ReturnTypeOf<T> {
-    /// Whether it is read back; after its `impl` or `dyn` several bounds may stand, or one.
+    /// Whether it is read back; after its `impl` or `dyn` there may be several bounds, or one.
     pub fn is_read_back(&self, several: bool) -> bool
         ensures { result ≡ spec.output_fits several (view.return_of T.tree self.now) }
     {
@@ -211,7 +211,7 @@ impl<T: FitTypes> TypeArrayOf<T> {
 }
 
 impl<T: FitTypes> TypeTupleOf<T> {
-    /// Whether it is read back as a type: its types are, and after one type alone a comma stands.
+    /// Whether it is read back as a type: its types are, and after one type alone there is a comma.
     pub fn is_read_back(&self) -> bool
         ensures { result ≡ spec.type_fits true (view.tuple_of T.tree self.now) }
     {
@@ -239,7 +239,7 @@ impl<T: FitTypes> TypeFnPtrOf<T> {
 }
 
 impl<T: FitTypes> TypeImplTraitOf<T> {
-    /// Whether it is read back as a type where several bounds may stand, or one: it has a bound, each is read back, and no
+    /// Whether it is read back as a type where there may be several bounds, or one: it has a bound, each is read back, and no
     /// `+` ends them.
     pub fn is_read_back(&self, several: bool) -> bool
         ensures { result ≡ spec.type_fits several (view.impl_trait_of T.tree self.now) }
@@ -249,7 +249,7 @@ impl<T: FitTypes> TypeImplTraitOf<T> {
 }
 
 impl<T: FitTypes> TypeTraitObjectOf<T> {
-    /// Whether it is read back as a type where several bounds may stand, or one: it has a bound, each is read back, and no
+    /// Whether it is read back as a type where there may be several bounds, or one: it has a bound, each is read back, and no
     /// `+` ends them.
     pub fn is_read_back(&self, several: bool) -> bool
         ensures { result ≡ spec.type_fits several (view.trait_object_of T.tree self.now) }

@@ -1,6 +1,6 @@
 //! Types (Rust Reference, "Types").
 //!
-//! Each part is generic in the type of types, so that it stands below it; `syn_lower` has the aliases of syn's names.
+//! Each part is generic in the type of types, so that it is below it; `syn_lower` has the aliases of syn's names.
 
 use crate::mac::MacroOf;
 use crate::path::{PathOf, QSelfOf};

@@ -88,7 +88,7 @@ pub trait IsType: HasTree {
 
 /// The type of types, with the readers of what holds types. Where one refuses, tokens may have been passed over.
 pub trait ReadTypes: HasTree + Drop {
-    /// Reads a type; after its `impl` or `dyn` several bounds may stand, or one.
+    /// Reads a type; after its `impl` or `dyn` there may be several bounds, or one.
     fn read_type(input: &mut ParseBuffer<'_>, several: bool) -> Result<Self>
         ensures value { Reads Self.tree ((part.type several).reads input.old.rest) result input.new.rest }
         ensures noted { input.new.noted ≡ input.old.noted };
@@ -160,7 +160,7 @@ pub trait FitTypes: HasTree {
     ghost use Rattle.syn_parts.specs.Fits.{type_fits, type_stops};
     ghost use Rattle.syn_parts.specs.Own.{colon2_before};
 
-    /// Whether it is read back; after its `impl` or `dyn` several bounds may stand, or one.
+    /// Whether it is read back; after its `impl` or `dyn` there may be several bounds, or one.
     fn fits_where(&self, several: bool) -> bool
         ensures { result ≡ type_fits several (Self.tree self.now) };
 

@@ -5,6 +5,7 @@
 pub mod ahead;
 pub mod attr;
 pub mod block;
+mod copy;
 pub mod front;
 pub mod laws;
 pub mod leaf;

@@ -252,13 +252,11 @@ impl LitInt {
         ensures place { IfErr result (λ e. (e.kind ≡ ErrorKind.OutOfMemory) ⊎ (e.span ≡ span)) }
     {
         let (is_negative, text) = past_minus(repr);
-        match number_token(alloc, false, text, span) {
-            Ok(token) => Ok(LitInt {
-                minus_token: minus_at(is_negative, span),
-                token,
-            }),
-            Err(e) => Err(e),
-        }
+        let token = number_token(alloc, false, text, span)?;
+        Ok(LitInt {
+            minus_token: minus_at(is_negative, span),
+            token,
+        })
     }
 }
 
@@ -274,13 +272,11 @@ impl LitFloat {
         ensures place { IfErr result (λ e. (e.kind ≡ ErrorKind.OutOfMemory) ⊎ (e.span ≡ span)) }
     {
         let (is_negative, text) = past_minus(repr);
-        match number_token(alloc, true, text, span) {
-            Ok(token) => Ok(LitFloat {
-                minus_token: minus_at(is_negative, span),
-                token,
-            }),
-            Err(e) => Err(e),
-        }
+        let token = number_token(alloc, true, text, span)?;
+        Ok(LitFloat {
+            minus_token: minus_at(is_negative, span),
+            token,
+        })
     }
 }
 

@@ -29,7 +29,7 @@ use syn_tokens::token::Comma;
 /// The readers over that of the types inside.
 #[derive(Clone, Copy)]
 pub struct Grammar<F> {
-    /// Reads a type; after its `impl` or `dyn` several bounds may stand, or one.
+    /// Reads a type; after its `impl` or `dyn` there may be several bounds, or one.
     pub ty: F,
 }
 

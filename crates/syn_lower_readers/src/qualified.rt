@@ -269,7 +269,7 @@ impl<T: IsType + Drop, F: Fn(&mut ParseBuffer<'_>, bool) -> Result<Box<T>>> Gram
         Err(input.error(ErrorKind::ExpectedPart(Part::Type)))
     }
 
-    /// Reads a type; after its `impl` or `dyn` several bounds may stand, or one.
+    /// Reads a type; after its `impl` or `dyn` there may be several bounds, or one.
     #[tactic(auto, unfolding(syn_parts::specs::Part::at_place))]
     pub fn at_place(&self, input: &mut ParseBuffer<'_>, several: bool) -> Result<Box<T>>
         requires callable { Callable (weight input.old.rest) (F.pre self.now.ty) }

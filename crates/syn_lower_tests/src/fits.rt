@@ -24,7 +24,7 @@ pub(crate) fn boxed_type(alloc: Global, text: &str) -> Result<Box<Type>, Error> 
     Ok(Box::new(alloc, parse_str::<Type>(alloc, text)?)?)
 }
 
-/// How many bounds may are where a part is read back, by its tests where several may stand and where one may.
+/// How many bounds there may be where a part is read back, by its tests where there may be several and where there may be one.
 fn by_bounds(with_several: bool, with_one: bool) -> &'static str {
     match (with_several, with_one) {
         (true, true) => "one bound",
@@ -34,7 +34,7 @@ fn by_bounds(with_several: bool, with_one: bool) -> &'static str {
     }
 }
 
-/// How many bounds may are where the type of a text is read back.
+/// How many bounds there may be where the type of a text is read back.
 fn type_again(alloc: Global, text: &str) -> Result<String, Error> {
     let ty = parse_str::<Type>(alloc, text)?;
     let told = verdict(alloc, &ty, true)?;

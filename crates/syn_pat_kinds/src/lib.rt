@@ -1,4 +1,4 @@
-//! The kinds of patterns, generic in the type of patterns, which stands above.
+//! The kinds of patterns, generic in the type of patterns, which is above.
 #![tactic(auto)]
 
 pub mod kinds;

@@ -1,7 +1,7 @@
 //! Patterns (Rust Reference, "Patterns").
 //!
-//! Each kind that holds patterns is generic in their type, so that it stands below it. A pattern with a guard holds an
-//! expression too, and stands above. `attrs` are the attributes before an argument of a closure; where there is a type, they
+//! Each kind that holds patterns is generic in their type, so that it is below it. A pattern with a guard holds an
+//! expression too, and is above. `attrs` are the attributes before an argument of a closure; where there is a type, they
 //! are those of the pattern with the type, and elsewhere there are none.
 
 use syn_expr_parts::member::Member;

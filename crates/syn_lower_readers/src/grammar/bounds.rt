@@ -78,7 +78,7 @@ impl<T: IsType + Drop, F: Fn(&mut ParseBuffer<'_>, bool) -> Result<Box<T>>> Gram
         }
     }
 
-    /// Reads bounds with `+` between, or one where only one may stand.
+    /// Reads bounds with `+` between, or one where there may be only one.
     #[tactic(auto, unfolding(syn_parts::specs::Part::bounds))]
     fn bounds(
         &self,

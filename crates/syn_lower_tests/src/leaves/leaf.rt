@@ -76,7 +76,7 @@ fn an_apostrophe_by_itself_begins_no_lifetime(rt: HostRuntime) -> Result<(), Fai
     Ok(())
 }
 
-/// Whether a lifetime comes first, and whether a lifetime or an identifier stands second.
+/// Whether a lifetime comes first, and whether a lifetime or an identifier is second.
 fn peeked(alloc: Global, text: &str) -> Result<String, Error> {
     let tokens = lex(alloc, text)?;
     let input = ParseBuffer::new(&tokens)?;
@@ -144,7 +144,7 @@ fn invisible(alloc: Global) -> Result<TokenStream, Error> {
     Ok(tokens)
 }
 
-/// How a block or a macro's group is refused where an invisible group stands; none where it is read.
+/// How a block or a macro's group is refused where there is an invisible group; none where it is read.
 fn refusals_of_invisible(alloc: Global) -> Result<(Option<Error>, Option<Error>), Error> {
     let tokens = invisible(alloc)?;
     let mut input = ParseBuffer::new(&tokens)?;
