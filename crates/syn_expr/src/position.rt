@@ -9,7 +9,7 @@ ghost use Rattle.syn_expr.specs.Positions.{position_of};
 ghost use Rattle.syn_grammar.specs.Printed.{context_of, place_of};
 ghost use Rattle.syn_grammar.specs.Stands.{Stands};
 
-use syn_expr_all::Expr;
+use syn_expr_all::expr::Expr;
 use syn_expr_fixup::FixupContext;
 use syn_tokens::buffer::{Parse, ParseBuffer};
 use syn_tokens::error::Result;

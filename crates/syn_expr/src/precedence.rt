@@ -9,7 +9,7 @@ ghost use Rattle.syn_grammar.specs.Op as grammar;
 ghost use Rattle.syn_grammar.specs.Place.{rank};
 ghost use Rattle.syn_op.specs.View.{bin_kind};
 
-use syn_expr_all::Expr;
+use syn_expr_all::expr::Expr;
 use syn_expr_kinds::node::{Attributes, HasKind, HasNode};
 use syn_expr_summaries::kind::NodeKind;
 use syn_expr_summaries::label::LeafKind;

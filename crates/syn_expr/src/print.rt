@@ -12,7 +12,7 @@ ghost use Rattle.syn_grammar.specs.WellFormed.{is_well_formed};
 ghost use Rattle.syn_tokens.specs.Input.{IsFront};
 
 use std::alloc::Global;
-use syn_expr_all::Expr;
+use syn_expr_all::expr::Expr;
 use syn_expr_fixup::FixupContext;
 use syn_tokens::error::{ErrorKind, Result};
 use syn_tokens::tree::TokenStream;

@@ -1,4 +1,4 @@
-//! Expressions and the patterns in them, as in syn. Their names are here at the root too. Types, paths, attributes, literals
+//! Expressions and the patterns in them, as in syn. Types, paths, attributes, literals
 //! and the other lower parts are at the root of `syn_lower`, tokens and their readers at that of `syn_tokens`.
 #![tactic(auto)]
 
@@ -31,13 +31,6 @@ mod read_pat;
 mod shape;
 mod single;
 
-pub use expr::{
-    Arm, Expr, ExprArray, ExprAssign, ExprAsync, ExprAwait, ExprBinary, ExprBlock, ExprBreak,
-    ExprCall, ExprCast, ExprClosure, ExprConst, ExprContinue, ExprField, ExprForLoop, ExprGroup,
-    ExprIf, ExprIndex, ExprInfer, ExprLet, ExprLit, ExprLoop, ExprMacro, ExprMatch, ExprMethodCall,
-    ExprParen, ExprPath, ExprRange, ExprRawAddr, ExprReference, ExprRepeat, ExprReturn, ExprStruct,
-    ExprTry, ExprTryBlock, ExprTuple, ExprUnary, ExprUnsafe, ExprWhile, ExprYield, FieldValue,
-};
 pub use held::HeldExpr;
 pub use pat::{
     FieldPat, FieldPatKind, FullFieldPat, Pat, PatConst, PatGuard, PatIdent, PatLit, PatMacro,

@@ -24,6 +24,7 @@ use Rattle.syn_grammar.specs.Path.{invisible_at}
 use Rattle.syn_grammar.specs.Slot as slot
 use Rattle.syn_grammar.specs.Slot.{piece_form}
 use Rattle.syn_grammar.specs.Stands.{frame_stands, frame_ends, prefix_stands}
+use Rattle.syn_grammar.specs.Head.{leaf_at}
 use Rattle.syn_grammar.specs.Read as read
 use Rattle.syn_grammar.specs.Read.{Reading, operands, bare_operands, content, framed_by, only_if, led, leaf_read, verbatim_from, become_word, expr}
 use Rattle.syn_grammar.proofs.Chains.{chosen}
@@ -32,10 +33,11 @@ use Rattle.syn_grammar.proofs.Fronts.{range_no_leaf, jump_no_leaf}
 use Rattle.syn_grammar.proofs.HeadMoves.{dropped, marked, taken_is}
 use Rattle.syn_grammar.proofs.Heads.{heads_readable}
 use Rattle.syn_grammar.proofs.Lesses.{node_less}
-use Rattle.syn_grammar.proofs.SoundAtoms.{no_leaf, no_some, skip}
+use Rattle.syn_grammar.proofs.SoundAtoms.{no_some, skip}
 use Rattle.syn_expr_front.specs.Begins.{atom_of, atom_by}
 use Rattle.syn_expr_front.specs.declared.start.Atom.TheVariants as atom
 use Rattle.syn_expr_atoms.specs.Led.{behind, behind_or, body_of, block}
+use Rattle.syn_grammar.proofs.HeadForms.{no_leaf}
 
 -- what is left weighs less
 pub prefix_less : (l : List Tok) (k : Prefix) (m : List Tok) → prefix_form.reads l ≡ Some (k, m) → weight m < weight l
@@ -157,7 +159,7 @@ become_there l h = ⊎_elim (λ i. absurd cc) (λ a.
     ⊎_elim (λ i. absurd cc) (λ i. absurd cc)
     (chosen (invisible_at l) _ _ atom.Become k.1)) (chosen (slot.match_word.at l) _ _ atom.Become j.1)) (chosen (read.loop_head_at l) _ _ atom.Become g.1)) (chosen (slot.if_word.at l) _ _ atom.Become f.1))
     (chosen (become_word.at l) _ _ atom.Become d.1)) (chosen (bracket_at l) _ _ atom.Become c.1)) (chosen (round_at l) _ _ atom.Become b.1))
-    (chosen (read.prefix_at l) _ _ atom.Become a.1)) (chosen (read.leaf_at l) _ _ atom.Become h)
+    (chosen (read.prefix_at l) _ _ atom.Become a.1)) (chosen (leaf_at l) _ _ atom.Become h)
 
 pub become_less : (l : List Tok) → atom_of l ≡ atom.Become → weight (drop 1 l) < weight l
 become_less l h = (marked (word_present (codes "become")) l (become_there l h)).less

@@ -54,65 +54,23 @@ leads-first w v (frame k ks) h f g = absurd cc
 -- verbatim tokens
 pub leads-verbatim : (w : Bool) (ts : List Tok) (t : Tree) → is_nil (outers (attributes_at t)) ≡ true → frames_hold t ≡ true → verbatim_at t ≡ Some ts → verbatim_leads w ts ≡ tree_leads w t
 leads-verbatim w ts (leaf (e.verbatim us)) h f g = cc
-leads-verbatim w ts (leaf (e.lit x)) h f g = absurd cc
-leads-verbatim w ts (leaf (e.path q p)) h f g = absurd cc
-leads-verbatim w ts (leaf (e.mac m)) h f g = absurd cc
-leads-verbatim w ts (leaf e.infer) h f g = absurd cc
-leads-verbatim w ts (leaf (e.full_range op)) h f g = absurd cc
-leads-verbatim w ts (leaf (e.bare_jump j)) h f g = absurd cc
-leads-verbatim w ts (leaf (e.continuing l)) h f g = absurd cc
-leads-verbatim w ts (leaf (e.block l b)) h f g = absurd cc
-leads-verbatim w ts (leaf (e.loop_expr l b)) h f g = absurd cc
-leads-verbatim w ts (leaf (e.unsafe_block b)) h f g = absurd cc
-leads-verbatim w ts (leaf (e.const_block b)) h f g = absurd cc
-leads-verbatim w ts (leaf (e.async_block m us)) h f g = absurd cc
-leads-verbatim w ts (leaf (e.try_block us)) h f g = absurd cc
-leads-verbatim w ts (paren m t) h f g = absurd cc
 leads-verbatim w ts (attributed a more t) h f g = leads-verbatim w ts t (none_before t f) (bare_framed t f) g ∙ behind w a more t h
-leads-verbatim w ts (prefixed k gs t) h f g = absurd cc
-leads-verbatim w ts (infixed x k y) h f g = absurd cc
-leads-verbatim w ts (postfixed x k) h f g = absurd cc
-leads-verbatim w ts (tail b k ks) h f g = absurd cc
-leads-verbatim w ts (frame k ks) h f g = absurd cc
+leads-verbatim w ts t h f g = absurd cc
 
 -- any other is labelled or not by its kind
 pub leads-kind : (w : Bool) (t : Tree) → is_nil (outers (attributes_at t)) ≡ true → frames_hold t ≡ true → word_behind (kind_at t) ≡ None → verbatim_at t ≡ None → is_labelled (kind_at t) ≡ tree_leads w t
 leads-kind w (leaf (e.verbatim us)) h f g n = absurd cc
-leads-kind w (leaf (e.lit x)) h f g n = refl
-leads-kind w (leaf (e.path q p)) h f g n = refl
-leads-kind w (leaf (e.mac m)) h f g n = refl
-leads-kind w (leaf e.infer) h f g n = refl
-leads-kind w (leaf (e.full_range op)) h f g n = refl
 leads-kind w (leaf (e.bare_jump e.returning)) h f g n = refl
-leads-kind w (leaf (e.bare_jump e.yielding)) h f g n = refl
-leads-kind w (leaf (e.bare_jump (e.breaking l))) h f g n = refl
-leads-kind w (leaf (e.continuing l)) h f g n = refl
 leads-kind w (leaf (e.block None b)) h f g n = refl
-leads-kind w (leaf (e.block (Some l) b)) h f g n = refl
 leads-kind w (leaf (e.loop_expr None b)) h f g n = refl
-leads-kind w (leaf (e.loop_expr (Some l) b)) h f g n = refl
-leads-kind w (leaf (e.unsafe_block b)) h f g n = refl
-leads-kind w (leaf (e.const_block b)) h f g n = refl
-leads-kind w (leaf (e.async_block m us)) h f g n = refl
-leads-kind w (leaf (e.try_block us)) h f g n = refl
-leads-kind w (paren m t) h f g n = refl
 leads-kind w (attributed a more t) h f g n = leads-kind w t (none_before t f) (bare_framed t f) g n ∙ behind w a more t h
-leads-kind w (prefixed k gs t) h f g n = refl
 leads-kind w (infixed x k y) h f g n = absurd cc
 leads-kind w (postfixed x k) h f g n = absurd cc
 leads-kind w (tail b k ks) h f g n = absurd cc
 leads-kind w (frame e.array ks) h f g n = refl
-leads-kind w (frame e.tuple ks) h f g n = refl
-leads-kind w (frame e.repeat ks) h f g n = refl
-leads-kind w (frame (e.structure q p d) ks) h f g n = refl
-leads-kind w (frame (e.closure_block c) ks) h f g n = refl
-leads-kind w (frame e.if_expr ks) h f g n = refl
 leads-kind w (frame (e.while_loop None) ks) h f g n = refl
-leads-kind w (frame (e.while_loop (Some l)) ks) h f g n = refl
 leads-kind w (frame (e.for_loop None p) ks) h f g n = refl
-leads-kind w (frame (e.for_loop (Some l) p) ks) h f g n = refl
-leads-kind w (frame e.match_expr ks) h f g n = refl
-leads-kind w (frame e.group_expr ks) h f g n = refl
+leads-kind w t h f g n = refl
 
 pub ruleset labels = (leads-attributed, leads-first, leads-verbatim, leads-kind)
 
@@ -120,27 +78,8 @@ pub ruleset labels = (leads-attributed, leads-first, leads-verbatim, leads-kind)
 
 pub braced-kind : (t : Tree) → is_braced_macro t ≡ is_braced_call (kind_at t)
 braced-kind (e.leaf (e.lit x)) = refl
-braced-kind (e.leaf (e.path q p)) = refl
-braced-kind (e.leaf (e.mac m)) = refl
-braced-kind (e.leaf e.infer) = refl
-braced-kind (e.leaf (e.full_range op)) = refl
 braced-kind (e.leaf (e.bare_jump e.returning)) = refl
-braced-kind (e.leaf (e.bare_jump e.yielding)) = refl
-braced-kind (e.leaf (e.bare_jump (e.breaking l))) = refl
-braced-kind (e.leaf (e.continuing l)) = refl
-braced-kind (e.leaf (e.block l b)) = refl
-braced-kind (e.leaf (e.loop_expr l b)) = refl
-braced-kind (e.leaf (e.unsafe_block b)) = refl
-braced-kind (e.leaf (e.const_block b)) = refl
-braced-kind (e.leaf (e.async_block m ts)) = refl
-braced-kind (e.leaf (e.try_block ts)) = refl
-braced-kind (e.leaf (e.verbatim ts)) = refl
-braced-kind (e.paren m t) = refl
 braced-kind (e.attributed a more t) = braced-kind t
-braced-kind (e.prefixed k gs t) = refl
-braced-kind (e.infixed x op y) = refl
-braced-kind (e.postfixed x k) = refl
-braced-kind (e.tail b k ks) = refl
-braced-kind (e.frame k ks) = refl
+braced-kind t = refl
 
 pub ruleset likes = (braced-kind)

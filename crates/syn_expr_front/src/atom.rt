@@ -284,9 +284,9 @@ fn verbatim_block_at(input: &ParseBuffer<'_>) -> bool
 }
 
 /// Whether a leaf comes first that is no path, macro, jump or range.
-#[tactic(auto, unfolding(syn_grammar::specs::Read::leaf_at, syn_tokens::specs::Sign::word_text, syn_parts::specs::Mark::word_at))]
+#[tactic(auto, unfolding(syn_grammar::specs::Head::leaf_at, syn_tokens::specs::Sign::word_text, syn_parts::specs::Mark::word_at))]
 pub fn leaf_at(input: &ParseBuffer<'_>) -> bool
-    ensures { result ≡ read.leaf_at input.now.rest }
+    ensures { result ≡ head.leaf_at input.now.rest }
 {
     literal_at(input)
         || input.peek::<Underscore>()

@@ -6,9 +6,10 @@ use Rattle.syn_tokens.specs.Front.{group_at}
 use Rattle.syn_parts.specs.Mark.{sign_at, word_at, lifetime_at, brace_at}
 use Rattle.syn_parts.specs.Part.{qpath, path, pieces, segment, segment_name}
 use Rattle.syn_grammar.specs.Path.{invisible_at}
-use Rattle.syn_grammar.specs.Head.{named, leaf_form, literal_at, range_at, jump_at, loop_at, block_at, const_block_at, async_block_at, try_block_at, builtin_at}
+use Rattle.syn_grammar.specs.Head.{named, leaf_form, range_at, jump_at}
 use Rattle.syn_grammar.proofs.GroupForms.{invisible_is, plain_read}
 use Rattle.syn_expr_heads.specs.Leaves as closed
+use Rattle.syn_grammar.proofs.HeadForms.{leaf_tests}
 
 named_is : (l : List Tok) → invisible_at l ≡ false → named.reads l ≡ closed.named.reads l
 unfolding named
@@ -19,7 +20,7 @@ unfolding leaf_form closed.leaf_form
 form_is l v = rw (named_is l v) refl
 
 group_closed : (i : Inside) (m : List Tok) → closed.leaf_form.reads (group del.None i ∷ m) ≡ None
-unfolding closed.leaf_form qpath path pieces segment segment_name range_at jump_at sign_at word_at lifetime_at group_at literal_at loop_at block_at const_block_at async_block_at try_block_at builtin_at brace_at
+unfolding closed.leaf_form qpath path pieces segment segment_name range_at jump_at sign_at word_at lifetime_at group_at leaf_tests brace_at
 group_closed i m = refl
 
 pub none_closed : (l : List Tok) → invisible_at l ≡ true → closed.leaf_form.reads l ≡ None

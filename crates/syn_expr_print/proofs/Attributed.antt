@@ -23,21 +23,8 @@ use Rattle.syn_expr_print.proofs.Spellings.{spelled-attributed, core-plain}
 
 range-leaf : (k : Leaf) → is_range_leaf k ≡ label.is_range_leaf (leaf_kind k)
 range-leaf (e.lit x) = refl
-range-leaf (e.path q p) = refl
-range-leaf (e.mac m) = refl
-range-leaf e.infer = refl
-range-leaf (e.full_range op) = refl
 range-leaf (e.bare_jump (e.breaking label)) = refl
-range-leaf (e.bare_jump e.returning) = refl
-range-leaf (e.bare_jump e.yielding) = refl
-range-leaf (e.continuing label) = refl
-range-leaf (e.block label b) = refl
-range-leaf (e.loop_expr label b) = refl
-range-leaf (e.unsafe_block b) = refl
-range-leaf (e.const_block b) = refl
-range-leaf (e.async_block m ts) = refl
-range-leaf (e.try_block ts) = refl
-range-leaf (e.verbatim ts) = refl
+range-leaf t = refl
 
 range-prefixed : (k : Prefix) → is_range_prefix k ≡ label.is_range_prefix (prefix_kind k)
 range-prefixed (e.unary op) = refl

@@ -15,20 +15,7 @@ use Rattle.syn_expr_print.proofs.Braced.{output-plain, output-braced}
 
 plain-sort : (k : Leaf) → is_plain_leaf k ≡ is_plain_leaf k && is_block_sort (leaf_sort k)
 plain-sort (e.block None b) = sym (and_true (is_plain_leaf (e.block None b)))
-plain-sort (e.block (Some w) b) = refl
-plain-sort (e.lit x) = refl
-plain-sort (e.path q p) = refl
-plain-sort (e.mac m) = refl
-plain-sort e.infer = refl
-plain-sort (e.full_range op) = refl
-plain-sort (e.bare_jump j) = refl
-plain-sort (e.continuing w) = refl
-plain-sort (e.loop_expr w b) = refl
-plain-sort (e.unsafe_block b) = refl
-plain-sort (e.const_block b) = refl
-plain-sort (e.async_block m ts) = refl
-plain-sort (e.try_block ts) = refl
-plain-sort (e.verbatim ts) = refl
+plain-sort t = refl
 
 -- after attributes a node's summary says of no block
 behind-sort : (b : Bool) (s : Sort) → is_block_sort (if b then sort.Other else attributed_sort s) ≡ false

@@ -56,26 +56,7 @@ pub ruleset segments = (extended_is)
 
 pub no_path : (p : Place) (x : Tree) (n : List Tok) → is_path x ≡ false → behind_group p x n ≡ Some (in_group x, n)
 no_path p (leaf (e.path q w)) n h = absurd cc
-no_path p (leaf (e.lit k)) n h = refl
-no_path p (leaf (e.mac k)) n h = refl
-no_path p (leaf e.infer) n h = refl
-no_path p (leaf (e.full_range k)) n h = refl
-no_path p (leaf (e.bare_jump k)) n h = refl
-no_path p (leaf (e.continuing k)) n h = refl
-no_path p (leaf (e.block w k)) n h = refl
-no_path p (leaf (e.loop_expr w k)) n h = refl
-no_path p (leaf (e.unsafe_block k)) n h = refl
-no_path p (leaf (e.const_block k)) n h = refl
-no_path p (leaf (e.async_block m k)) n h = refl
-no_path p (leaf (e.try_block k)) n h = refl
-no_path p (leaf (e.verbatim k)) n h = refl
-no_path p (paren m x) n h = refl
-no_path p (attributed a others x) n h = refl
-no_path p (prefixed k gs x) n h = refl
-no_path p (infixed x k y) n h = refl
-no_path p (postfixed x k) n h = refl
-no_path p (tail b k ks) n h = refl
-no_path p (frame k ks) n h = refl
+no_path p t n h = refl
 
 pub not_closed : (b : Bool) → not b ≡ true → b ≡ false
 not_closed b h = not_true b h
@@ -92,26 +73,7 @@ fields_no_leaf b i (j ∷ is) k h = fields_no_leaf (tail b (e.field (an_index i)
 ends_by : (p : Place) (x : Tree) (n : List Tok) → is_path x ≡ false → frame_ends p e.group_expr (child e.grouped e.no_ending x none) n ≡ true
 unfolding frame_ends
 ends_by p (leaf (e.path q w)) n h = absurd cc
-ends_by p (leaf (e.lit k)) n h = refl
-ends_by p (leaf (e.mac k)) n h = refl
-ends_by p (leaf e.infer) n h = refl
-ends_by p (leaf (e.full_range k)) n h = refl
-ends_by p (leaf (e.bare_jump k)) n h = refl
-ends_by p (leaf (e.continuing k)) n h = refl
-ends_by p (leaf (e.block w k)) n h = refl
-ends_by p (leaf (e.loop_expr w k)) n h = refl
-ends_by p (leaf (e.unsafe_block k)) n h = refl
-ends_by p (leaf (e.const_block k)) n h = refl
-ends_by p (leaf (e.async_block m k)) n h = refl
-ends_by p (leaf (e.try_block k)) n h = refl
-ends_by p (leaf (e.verbatim k)) n h = refl
-ends_by p (paren m x) n h = refl
-ends_by p (attributed a others x) n h = refl
-ends_by p (prefixed k gs x) n h = refl
-ends_by p (infixed x k y) n h = refl
-ends_by p (postfixed x k) n h = refl
-ends_by p (tail b k ks) n h = refl
-ends_by p (frame k ks) n h = refl
+ends_by p t n h = refl
 
 path_ends : (p : Place) (q : QSelfTree) (w : PathTree) (n : List Tok) → frame_ends p e.group_expr (child e.grouped e.no_ending (leaf (e.path q w)) none) n ≡ not (goes_on_path (not p.condition) (q, w) n)
 unfolding frame_ends
@@ -230,25 +192,7 @@ module _ (l i n : List Tok) (g : group_at del.None l ≡ Some (i, n)) where
           let same : (q, w) ≡ r = ap (λ (z : QPathTree × List Tok). z.0) o in
           absurd (cc (c, u, ap (λ z. goes_on_path (not p.condition) z n) same)))
   by_test p (leaf (e.lit k)) h = by_other p (leaf (e.lit k)) h refl
-  by_test p (leaf (e.mac k)) h = by_other p (leaf (e.mac k)) h refl
-  by_test p (leaf e.infer) h = by_other p (leaf e.infer) h refl
-  by_test p (leaf (e.full_range k)) h = by_other p (leaf (e.full_range k)) h refl
-  by_test p (leaf (e.bare_jump k)) h = by_other p (leaf (e.bare_jump k)) h refl
-  by_test p (leaf (e.continuing k)) h = by_other p (leaf (e.continuing k)) h refl
-  by_test p (leaf (e.block w k)) h = by_other p (leaf (e.block w k)) h refl
-  by_test p (leaf (e.loop_expr w k)) h = by_other p (leaf (e.loop_expr w k)) h refl
-  by_test p (leaf (e.unsafe_block k)) h = by_other p (leaf (e.unsafe_block k)) h refl
-  by_test p (leaf (e.const_block k)) h = by_other p (leaf (e.const_block k)) h refl
-  by_test p (leaf (e.async_block m k)) h = by_other p (leaf (e.async_block m k)) h refl
-  by_test p (leaf (e.try_block k)) h = by_other p (leaf (e.try_block k)) h refl
-  by_test p (leaf (e.verbatim k)) h = by_other p (leaf (e.verbatim k)) h refl
-  by_test p (paren m x) h = by_other p (paren m x) h refl
-  by_test p (attributed a others x) h = by_other p (attributed a others x) h refl
-  by_test p (prefixed k gs x) h = by_other p (prefixed k gs x) h refl
-  by_test p (infixed x k y) h = by_other p (infixed x k y) h refl
-  by_test p (postfixed x k) h = by_other p (postfixed x k) h refl
-  by_test p (tail b k ks) h = by_other p (tail b k ks) h refl
-  by_test p (frame k ks) h = by_other p (frame k ks) h refl
+  by_test p t h = by_other p t h refl
 
   by_inside : (p : Place) (o : Outcome Tree) → expr plain i ≡ o → group_read expr p l ≡ and_then (whole o n) (behind_group p)
   by_inside p None h = by_frame p None (no_held (not p.condition) (λ x j. absurd (cc (h, j)))) (framed_none p (λ x j. absurd (cc (h, j))))
@@ -273,25 +217,6 @@ group_is p l v =
 
 pub read_closed : (i : List Tok) (x : Tree) → expr plain i ≡ Some (x, []) → closed_path x ≡ true
 read_closed i (leaf (e.path q w)) h = rw (path_closed false (q, w) i [] (path_inside i q w h)) refl
-read_closed i (leaf (e.lit k)) h = refl
-read_closed i (leaf (e.mac k)) h = refl
-read_closed i (leaf e.infer) h = refl
-read_closed i (leaf (e.full_range k)) h = refl
-read_closed i (leaf (e.bare_jump k)) h = refl
-read_closed i (leaf (e.continuing k)) h = refl
-read_closed i (leaf (e.block w k)) h = refl
-read_closed i (leaf (e.loop_expr w k)) h = refl
-read_closed i (leaf (e.unsafe_block k)) h = refl
-read_closed i (leaf (e.const_block k)) h = refl
-read_closed i (leaf (e.async_block m k)) h = refl
-read_closed i (leaf (e.try_block k)) h = refl
-read_closed i (leaf (e.verbatim k)) h = refl
-read_closed i (paren m x) h = refl
-read_closed i (attributed a others x) h = refl
-read_closed i (prefixed k gs x) h = refl
-read_closed i (infixed x k y) h = refl
-read_closed i (postfixed x k) h = refl
-read_closed i (tail b k ks) h = refl
-read_closed i (frame k ks) h = refl
+read_closed i t h = refl
 
 pub ruleset groups = (read_closed)

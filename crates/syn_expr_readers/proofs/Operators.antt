@@ -23,15 +23,16 @@ use Rattle.syn_grammar.specs.declared.kinds.UnKind.{UnKind}
 use Rattle.syn_grammar.specs.declared.kinds.UnKind.TheVariants as un
 use Rattle.syn_grammar.specs.Place.{at, takes}
 use Rattle.syn_grammar.specs.Op.{level, infix_at, goes_on, takes_by}
-use Rattle.syn_grammar.specs.Head.{prefix_form, literal_at, loop_at, block_at, const_block_at, async_block_at, try_block_at, builtin_at}
+use Rattle.syn_grammar.specs.Head.{prefix_form, leaf_at}
 use Rattle.syn_grammar.specs.Tree.{Tree, prefixed, unary, none}
 use Rattle.syn_grammar.specs.Stands.{ends, is_range, rests, prefix_stands}
-use Rattle.syn_grammar.specs.Read.{Reading, ◌<$>◌, ◌>>=◌, atom, read_attributed, leaf_at, prefix_at, prefix_read, core, operand, at_place, climb, stop, taken_at, taken_by, next_operator, expr}
+use Rattle.syn_grammar.specs.Read.{Reading, ◌<$>◌, ◌>>=◌, atom, read_attributed, prefix_at, prefix_read, core, operand, at_place, climb, stop, taken_at, taken_by, next_operator, expr}
 use Rattle.syn_grammar.proofs.Chains.{both_true}
 use Rattle.syn_expr_atoms.specs.Led.{behind}
 use Rattle.syn_expr_readers.specs.Loops.{operations, trailers}
 use Rattle.syn_expr_readers.specs.Operators.{operator_of, operator_at, are_operators, wrap, wrapped}
 use Rattle.syn_expr_readers.proofs.Knots.{expr_is}
+use Rattle.syn_grammar.proofs.HeadForms.{leaf_tests}
 
 -- ---- an operator that comes first is told before anything else
 
@@ -43,17 +44,17 @@ no_quote c Joint (ident w ∷ l) h = rw h refl
 no_quote c Joint (_ ∷ l) h = refl
 
 star_first : (p : Place) (s : Spacing) (l : List Tok) → atom expr p (punct 42 s ∷ l) ≡ (prefixed (unary un.Deref) none <$> expr (at p lev.Prefix)) l
-unfolding atom leaf_at prefix_at prefix_read prefix_form prefix_stands literal_at loop_at block_at const_block_at async_block_at try_block_at builtin_at brace_at group_at sign_at word_at
+unfolding atom leaf_at prefix_at prefix_read prefix_form prefix_stands leaf_tests brace_at group_at sign_at word_at
 star_first p Alone l = rw (no_quote 42 Alone l refl) refl
 star_first p Joint l = rw (no_quote 42 Joint l refl) refl
 
 bang_first : (p : Place) (s : Spacing) (l : List Tok) → atom expr p (punct 33 s ∷ l) ≡ (prefixed (unary un.Not) none <$> expr (at p lev.Prefix)) l
-unfolding atom leaf_at prefix_at prefix_read prefix_form prefix_stands literal_at loop_at block_at const_block_at async_block_at try_block_at builtin_at brace_at group_at sign_at word_at
+unfolding atom leaf_at prefix_at prefix_read prefix_form prefix_stands leaf_tests brace_at group_at sign_at word_at
 bang_first p Alone l = rw (no_quote 33 Alone l refl) refl
 bang_first p Joint l = rw (no_quote 33 Joint l refl) refl
 
 minus_first : (p : Place) (s : Spacing) (l : List Tok) → atom expr p (punct 45 s ∷ l) ≡ (prefixed (unary un.Neg) none <$> expr (at p lev.Prefix)) l
-unfolding atom leaf_at prefix_at prefix_read prefix_form prefix_stands literal_at loop_at block_at const_block_at async_block_at try_block_at builtin_at brace_at group_at sign_at word_at
+unfolding atom leaf_at prefix_at prefix_read prefix_form prefix_stands leaf_tests brace_at group_at sign_at word_at
 minus_first p Alone l = rw (no_quote 45 Alone l refl) refl
 minus_first p Joint l = rw (no_quote 45 Joint l refl) refl
 

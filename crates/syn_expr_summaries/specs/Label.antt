@@ -44,11 +44,8 @@ leaf_kind (e.bare_jump (e.breaking label)) = leafs.Break
 leaf_kind (e.bare_jump j) = leafs.Jump
 leaf_kind (e.block label b) = leafs.Block (is_some label)
 leaf_kind (e.loop_expr label b) = leafs.BlockLike (is_some label)
-leaf_kind (e.unsafe_block b) = leafs.BlockLike false
-leaf_kind (e.const_block b) = leafs.BlockLike false
-leaf_kind (e.try_block ts) = leafs.BlockLike false
 leaf_kind (e.verbatim ts) = leafs.Verbatim (sign_at (codes "#") ts)
-leaf_kind _ = leafs.Other
+leaf_kind k = if e.is_block_leaf k then leafs.BlockLike false else leafs.Other
 
 abbrev pub prefix_kind : Prefix → PrefixKind
 prefix_kind (e.range_to op) = prefixes.RangeTo op

@@ -28,19 +28,7 @@ pub ruleset blocks = (verbatim-some, verbatim-none)
 
 word_is : (w : Text) (k : Leaf) → is_name_path (a_name w) (leaf k) ≡ is_word_leaf w k
 word_is w (e.lit x) = refl
-word_is w (e.path q p) = refl
-word_is w (e.mac m) = refl
-word_is w e.infer = refl
-word_is w (e.full_range op) = refl
-word_is w (e.bare_jump j) = refl
-word_is w (e.continuing l) = refl
-word_is w (e.block l b) = refl
-word_is w (e.loop_expr l b) = refl
-word_is w (e.unsafe_block b) = refl
-word_is w (e.const_block b) = refl
-word_is w (e.async_block m ts) = refl
-word_is w (e.try_block ts) = refl
-word_is w (e.verbatim ts) = refl
+word_is w t = refl
 
 named_is : (w : Text) (t : Tree) → is_name_path (a_name w) t ≡ named_by w (bare_leaf t)
 named_is w (leaf k) = word_is w k

@@ -22,7 +22,7 @@ use Rattle.syn_grammar.specs.Place.{plain, at}
 use Rattle.syn_grammar.specs.Tree as tr
 use Rattle.syn_grammar.specs.Tree.{Tree, Children, Leaf, leaf, paren, attributed, prefixed, infixed, postfixed, tail, frame, none, attributed_with}
 use Rattle.syn_grammar.specs.Path.{invisible_at, expr_path}
-use Rattle.syn_grammar.specs.Head.{leaf_form, named, to_named, literal_at, range_at, jump_at, loop_at, block_at, const_block_at, async_block_at, try_block_at, builtin_at}
+use Rattle.syn_grammar.specs.Head.{leaf_form, named, to_named, range_at, jump_at}
 use Rattle.syn_grammar.specs.Slot as s
 use Rattle.syn_grammar.specs.Stands.{Node, is_leaf, is_paren, is_attributed_by, is_prefixed, is_indexed, is_frame, Content, holds_within, Stands, leaf_stands, prefix_place, takes_attributes, is_attributed, is_verbatim_leaf, ends_list, fields_of}
 use Rattle.syn_grammar.specs.Read.{Reading, only_if, bare_operands, atom, expr}
@@ -41,6 +41,7 @@ use Rattle.syn_grammar.proofs.ReadOperands.{bare_read}
 use Rattle.syn_grammar.proofs.ReadTrailers.{pound_there}
 use Rattle.syn_grammar.proofs.ReadFrames.{prefix_atom, paren_atom, frame_atom}
 use Rattle.syn_grammar.proofs.Exact.{expr_sound, expr_complete}
+use Rattle.syn_grammar.proofs.HeadForms.{leaf_tests}
 
 -- a reading that gives what is, and all that does
 exactly : {B : Type 0} {reads : List Tok → Outcome B} {stands : List Tok → B → List Tok → Type 0}
@@ -171,7 +172,7 @@ fields_no_leaf b (i ∷ is) h = fields_no_leaf _ is refl
 
 -- what an invisible group begins is a path or a macro, if it is a leaf
 group_leaf : (i : Inside) (m : List Tok) → leaf_form.reads (group del.None i ∷ m) ≡ named.reads (group del.None i ∷ m)
-unfolding leaf_form range_at jump_at sign_at word_at lifetime_at group_at literal_at loop_at block_at const_block_at async_block_at try_block_at builtin_at brace_at
+unfolding leaf_form range_at jump_at sign_at word_at lifetime_at group_at leaf_tests brace_at
 group_leaf i m = refl
 
 named_no_plain : (x : QPathTree × MacroEnd) → is_plain_leaf (to_named x) ≡ false

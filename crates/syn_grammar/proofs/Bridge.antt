@@ -120,22 +120,23 @@ struct_rests q w d ks f =
 
 block_leaf : (p : Place) (k : Leaf) (r : List Tok) → is_block_leaf k ≡ true → (leaf_stops k r ≡ true) × (leaf_stands p k r ≡ true)
 unfolding leaf_stands
-block_leaf p (e.block w b) r h = (refl, refl)
-block_leaf p (e.loop_expr w b) r h = (refl, refl)
-block_leaf p (e.unsafe_block b) r h = (refl, refl)
-block_leaf p (e.const_block b) r h = (refl, refl)
-block_leaf p (e.try_block ts) r h = (refl, refl)
-block_leaf p k r h = absurd cc
+block_leaf p (e.path q w) r h = absurd cc
+block_leaf p (e.full_range op) r h = absurd cc
+block_leaf p (e.bare_jump j) r h = absurd cc
+block_leaf p (e.continuing w) r h = absurd cc
+block_leaf p k r h = (refl, refl)
 
 block_pound : (t : Tree) (r : List Tok) → is_block_like t ≡ true → is_attributed t ≡ false → pound.at (own t r) ≡ false
 unfolding sign_at
+block_pound (leaf (e.lit x)) r h a = absurd cc
+block_pound (leaf (e.path q w)) r h a = absurd cc
+block_pound (leaf (e.mac m)) r h a = absurd cc
+block_pound (leaf (e.full_range op)) r h a = absurd cc
+block_pound (leaf (e.bare_jump j)) r h a = absurd cc
+block_pound (leaf (e.verbatim ts)) r h a = absurd cc
 block_pound (leaf (e.block None b)) r h a = refl
-block_pound (leaf (e.block (Some w) b)) r h a = refl
 block_pound (leaf (e.loop_expr None b)) r h a = refl
-block_pound (leaf (e.loop_expr (Some w) b)) r h a = refl
-block_pound (leaf (e.unsafe_block b)) r h a = refl
-block_pound (leaf (e.const_block b)) r h a = refl
-block_pound (leaf (e.try_block ts)) r h a = refl
+block_pound (leaf k) r h a = refl
 block_pound (frame e.if_expr ks) r h a = refl
 block_pound (frame (e.while_loop None) ks) r h a = refl
 block_pound (frame (e.while_loop (Some w)) ks) r h a = refl

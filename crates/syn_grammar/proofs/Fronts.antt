@@ -16,18 +16,19 @@ use Rattle.syn_grammar.specs.declared.kinds.Limits.{Limits}
 use Rattle.syn_grammar.specs.Tree as tr
 use Rattle.syn_grammar.specs.Tree.{Prefix, ClosureHead, Jump}
 use Rattle.syn_grammar.specs.Head as h
-use Rattle.syn_grammar.specs.Head.{prefix_form, closure_head, closure_inputs, closure_at, bar, move_word, use_word, static_word, use_behind, async_word, minus, let_word, range_at, jump_at, jump_head, literal_at, loop_at, block_at, const_block_at, async_block_at, try_block_at, builtin_at, range_op}
-use Rattle.syn_grammar.specs.Read.{leaf_at, prefix_at}
+use Rattle.syn_grammar.specs.Head.{prefix_form, closure_head, closure_inputs, closure_at, bar, move_word, use_word, static_word, use_behind, async_word, minus, let_word, range_at, jump_at, jump_head, range_op, leaf_at}
+use Rattle.syn_grammar.specs.Read.{prefix_at}
 use Rattle.syn_grammar.proofs.Chains.{some_is, behind_some, only_some, chosen, both_true, one_true}
+use Rattle.syn_grammar.proofs.HeadForms.{leaf_tests}
 
 -- what a front is asked, for a proof that computes it
 asked : Bool
-unfolding closure_at leaf_at literal_at word_at loop_at block_at lifetime_at brace_at group_at const_block_at async_block_at try_block_at builtin_at sign_at lifetimes_at is_truth prefix_form range_at jump_at
+unfolding closure_at leaf_at word_at lifetime_at brace_at group_at leaf_tests sign_at lifetimes_at is_truth prefix_form range_at jump_at
 asked = true
 
 -- what the front of a leaf is asked, for a proof that computes it
 leaf_asked : Bool
-unfolding leaf_at literal_at word_at loop_at block_at lifetime_at brace_at group_at const_block_at async_block_at try_block_at builtin_at sign_at is_truth
+unfolding leaf_at word_at lifetime_at brace_at group_at leaf_tests sign_at is_truth
 leaf_asked = true
 
 pub word_is : (w : Text) (l : List Tok) → word_at w l ≡ true → l ≡ ident w ∷ drop 1 l
@@ -42,7 +43,7 @@ no_lifetime c spacing.Joint (ident w ∷ m) h = h
 no_lifetime c _ _ h = refl
 
 pub sign_no_leaf : (c : ℕ) (s : Spacing) (m : List Tok) → (c == 39) ≡ false → leaf_at (punct c s ∷ m) ≡ false
-unfolding leaf_at literal_at word_at loop_at block_at brace_at group_at const_block_at async_block_at try_block_at builtin_at
+unfolding leaf_at word_at brace_at group_at leaf_tests
 sign_no_leaf c s m g = rw (no_lifetime c s m g) refl
 
 -- ---- which word or sign
@@ -145,7 +146,7 @@ unfolding asked
 closed_const l g = record { at = rw g refl; no_leaf = rw g refl; closures = λ f. refl }
 
 closed_for : (l : List Tok) → lifetimes_at (ident (codes "for") ∷ l) ≡ true → Closed (ident (codes "for") ∷ l)
-unfolding closure_at leaf_at literal_at word_at loop_at block_at lifetime_at brace_at group_at const_block_at async_block_at try_block_at builtin_at sign_at is_truth prefix_form range_at jump_at
+unfolding closure_at leaf_at word_at lifetime_at brace_at group_at leaf_tests sign_at is_truth prefix_form range_at jump_at
 closed_for l g = record { at = rw g refl; no_leaf = refl; closures = λ f. refl }
 
 -- after `async` or not, after `static` or not, after `const` or not

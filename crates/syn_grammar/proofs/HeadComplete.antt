@@ -37,6 +37,7 @@ use Rattle.syn_grammar.proofs.HeadLeaf.{leaf_stops, path_seen, own_visible}
 use Rattle.syn_grammar.proofs.HeadPlaces.{piece_stops, is_written, ending_stops, field_opens}
 use Rattle.syn_grammar.proofs.HeadTrailers.{r_await, trailer_stops, trailer_rest, is_indexed}
 use Rattle.syn_grammar.proofs.HeadFrames.{frame_stops, frame_rest, postfix_rest, postfix_ends}
+use Rattle.syn_grammar.proofs.HeadForms.{leaf_tests}
 
 -- ---- labels and jumps
 
@@ -105,7 +106,7 @@ bare_jump_complete (e.breaking w) r g = jump_complete (e.breaking w) r g
 
 -- `builtin` before `#` is no path
 special : (q : QSelfTree) (p : PathTree) (r : List Tok) → sign_at (codes "#") r ≡ true → h.leaf_form.behind (e.path q p) (ident (codes "builtin") ∷ r) ≡ None
-unfolding h.leaf_form h.literal_at h.range_at h.jump_at h.loop_at h.block_at h.const_block_at h.async_block_at h.try_block_at h.builtin_at is_truth word_at lifetime_at brace_at group_at sign_at
+unfolding h.leaf_form h.range_at h.jump_at leaf_tests is_truth word_at lifetime_at brace_at group_at sign_at
 special q p r g = rw g refl
 
 no_special : (q : QSelfTree) (p : PathTree) (w : QSelfTree) (l x : Bool) (ss : List SegmentTree) (r : List Tok) → qpath_fits style.Expr (w, record { leading = l; segments = ss; trailing = x }) ≡ true → h.leaf_form.behind (e.path q p) (qualified_own (w, record { leading = l; segments = ss; trailing = x }) r) ≡ Some r

@@ -9,7 +9,7 @@ use Rattle.syn_parts.specs.declared.label.PathStyle.TheVariants as style
 use Rattle.syn_parts.specs.Tree as t
 use Rattle.syn_parts.specs.Tree.{LitTree, AttributeTree, LifetimesTree, QSelfTree, PathTree, ArgumentsTree, ReturnTree}
 use Rattle.syn_parts.specs.Form.{then_by}
-use Rattle.syn_parts.specs.Mark.{sign, sign_at}
+use Rattle.syn_parts.specs.Mark.{sign, sign_at, underscore}
 use Rattle.syn_parts.specs.Part.{QPathTree, MacroEnd, macro_end, arguments, output, type}
 use Rattle.syn_parts.specs.Pat.{MemberTree, PatTree, a_name, an_index, dots}
 use Rattle.syn_parts.proofs.Weights.{some_is}
@@ -28,6 +28,8 @@ use Rattle.syn_grammar.specs.Slot as s
 use Rattle.syn_parts.specs.Mark.{word_at}
 use Rattle.syn_grammar.specs.Slot.{Slot}
 use Rattle.syn_grammar.proofs.GroupForms.{expr_path_alike}
+use Rattle.syn_grammar.specs.Head.{literal_at, continue_word, loop_at, block_at, unsafe_word, const_block_at, async_block_at, try_block_at, builtin_at, leaf_at}
+use Rattle.syn_grammar.proofs.Chains.{neither}
 
 -- ---- marks
 
@@ -326,3 +328,27 @@ piece_form_alike s.bodies = mark_at_alike fat_arrow_present (pure_alike only_gua
 piece_form_alike s.outputs = pure_alike only_output_block
 piece_form_alike s.groups = pure_alike only_grouped
 piece_form_alike {k} s.done = never_alike k
+
+pub record NoLeaf (l : List Tok) : Type 0 where
+  pub no_literal : literal_at l ≡ false
+  pub no_underscore : underscore.at l ≡ false
+  pub no_continue : continue_word.at l ≡ false
+  pub no_loop : loop_at l ≡ false
+  pub no_block : block_at l ≡ false
+  pub no_unsafe : unsafe_word.at l ≡ false
+  pub no_const : const_block_at l ≡ false
+  pub no_async : async_block_at l ≡ false
+  pub no_try : try_block_at l ≡ false
+  pub no_builtin : builtin_at l ≡ false
+
+pub no_leaf : (l : List Tok) → leaf_at l ≡ false → NoLeaf l
+unfolding leaf_at
+no_leaf l h =
+    let a = neither _ _ h in let b = neither _ _ a.1 in let c = neither _ _ b.1 in let d = neither _ _ c.1 in let f = neither _ _ d.1 in
+    let g = neither _ _ f.1 in let i = neither _ _ g.1 in let j = neither _ _ i.1 in let k = neither _ _ j.1 in
+    record { no_literal = a.0; no_underscore = b.0; no_continue = c.0; no_loop = d.0; no_block = f.0; no_unsafe = g.0; no_const = i.0; no_async = j.0; no_try = k.0; no_builtin = k.1 }
+
+-- What a proof computes with where it asks what a leaf begins with: it names this definition in place of the tests.
+unfoldable pub leaf_tests : Bool
+unfolding h.literal_at h.loop_at h.block_at h.const_block_at h.async_block_at h.try_block_at h.builtin_at
+leaf_tests = true

@@ -30,6 +30,7 @@ use Rattle.syn_grammar.specs.Path.{is_word_alone, is_try_alone, invisible_at}
 use Rattle.syn_grammar.specs.WellFormed.{leaf_fits, body_fits}
 use Rattle.syn_grammar.proofs.GroupForms.{path_stands}
 use Rattle.syn_grammar.proofs.HeadBack.{body_back, label_back, lifetime_or_none, jump_back, range_back, jump_stops, label_stops}
+use Rattle.syn_grammar.proofs.HeadForms.{leaf_tests}
 
 -- After a path no `::` stands, after one without arguments no `!` but that of `!=`, and after the name `builtin` no `#`;
 -- after `break` and `continue` alone no lifetime.
@@ -105,7 +106,7 @@ async_back true ts r = block_back ts r
 async_back false ts r = block_back ts r
 
 try_back : (ts r : List Tok) → h.leaf_form.behind (e.try_block ts) (leaf_own (e.try_block ts) r) ≡ Some r
-unfolding h.leaf_form h.literal_at h.range_at h.jump_at h.loop_at h.block_at h.const_block_at h.async_block_at h.try_block_at is_truth sign_at word_at lifetime_at brace_at group_at block_own
+unfolding h.leaf_form h.range_at h.jump_at leaf_tests is_truth sign_at word_at lifetime_at brace_at group_at block_own
 try_back ts r = block_back ts r
 
 -- ---- paths
@@ -118,17 +119,17 @@ not_leaf_words = (refl, refl, refl, refl, refl, refl, refl)
 -- a word of a path leads to the paths, but `try` before a brace and `builtin` before `#`
 named_word : (k : Leaf) (w : Text) (l : List Tok) → is_segment w ≡ true → (bytes_eq w (codes "try") && brace_at l) ≡ false → (bytes_eq w (codes "builtin") && sign_at (codes "#") l) ≡ false
     → h.leaf_form.behind k (ident w ∷ l) ≡ h.named.behind k (ident w ∷ l)
-unfolding h.leaf_form h.literal_at h.range_at h.jump_at h.loop_at h.block_at h.const_block_at h.async_block_at h.try_block_at h.builtin_at word_at lifetime_at sign_at brace_at group_at
+unfolding h.leaf_form h.range_at h.jump_at leaf_tests word_at lifetime_at sign_at brace_at group_at
 named_word k w l g i j =
     let (not_return, not_yield, not_break, not_continue, not_loop, not_const, not_async) = not_leaf_words in
     rw (no_truth w g, word_not w (codes "_") g not_underscore, word_not w (codes "return") g not_return, word_not w (codes "yield") g not_yield, word_not w (codes "break") g not_break, word_not w (codes "continue") g not_continue, word_not w (codes "loop") g not_loop, word_not w (codes "unsafe") g not_unsafe, word_not w (codes "const") g not_const, word_not w (codes "async") g not_async, i, j) refl
 
 colon2_seen : (k : Leaf) (l : List Tok) → h.leaf_form.behind k (colon2_before l) ≡ h.named.behind k (colon2_before l)
-unfolding h.leaf_form h.literal_at h.range_at h.jump_at h.loop_at h.block_at h.const_block_at h.async_block_at h.try_block_at h.builtin_at word_at lifetime_at sign_at brace_at group_at
+unfolding h.leaf_form h.range_at h.jump_at leaf_tests word_at lifetime_at sign_at brace_at group_at
 colon2_seen k l = refl
 
 less_seen : (k : Leaf) (l : List Tok) → h.leaf_form.behind k (alone 60 ∷ l) ≡ h.named.behind k (alone 60 ∷ l)
-unfolding h.leaf_form h.literal_at h.range_at h.jump_at h.loop_at h.block_at h.const_block_at h.async_block_at h.try_block_at h.builtin_at word_at lifetime_at sign_at brace_at group_at
+unfolding h.leaf_form h.range_at h.jump_at leaf_tests word_at lifetime_at sign_at brace_at group_at
 less_seen k l = refl
 
 and_true : (b c : Bool) → ((b && true) && c) ≡ false → (b && c) ≡ false

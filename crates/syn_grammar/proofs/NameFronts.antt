@@ -15,23 +15,25 @@ use Rattle.syn_parts.specs.declared.label.PathStyle.TheVariants as style
 use Rattle.syn_parts.specs.Tree as t
 use Rattle.syn_parts.specs.Tree.{PathTree, SegmentTree}
 use Rattle.syn_parts.specs.Form.{flag, is_none, if_same, joined, more, fix, iterate}
-use Rattle.syn_parts.specs.Mark.{sign_at, word_at, lifetime_at, brace_at, round_at, less, colon2, colon}
+use Rattle.syn_parts.specs.Mark.{sign_at, word_at, lifetime_at, brace_at, round_at, less, colon2, colon, pound}
 use Rattle.syn_parts.specs.Part.{QPathTree, qpath, path, pieces, segment, segment_name, find_segment, type, lifetimes_at, lifetime, from_bare, from_path, arguments, turbofish_at, no_arguments}
 use Rattle.syn_parts.proofs.Ends.{sign_first}
 use Rattle.syn_parts.proofs.Fronts.{NoSegment, word_not, no_truth, not_for, not_underscore, not_unsafe}
 use Rattle.syn_grammar.specs.Front.{bracket_at}
-use Rattle.syn_grammar.specs.Path.{invisible_at, expr_path}
-use Rattle.syn_grammar.specs.Head.{closure_at, range_at, jump_at, literal_at, loop_at, loop_word, block_at, const_block_at, async_block_at, try_block_at, builtin_at, label, past_label}
+use Rattle.syn_grammar.specs.Path.{invisible_at, expr_path, is_try_alone}
+use Rattle.syn_grammar.specs.Head.{closure_at, range_at, jump_at, literal_at, loop_at, loop_word, block_at, const_block_at, async_block_at, try_block_at, builtin_at, label, past_label, leaf_at}
 use Rattle.syn_grammar.specs.Slot.{if_word, match_word, while_word, for_word}
-use Rattle.syn_grammar.specs.Read.{leaf_at, prefix_at, loop_head_at, become_word}
+use Rattle.syn_grammar.specs.Read.{prefix_at, loop_head_at, become_word}
 use Rattle.syn_grammar.proofs.Chains.{some_is, behind_some, only_some, chosen, both_true, not_true}
 use Rattle.syn_grammar.proofs.Fronts.{word_is, no_lifetime, sign_no_leaf, flag_is}
 use Rattle.syn_grammar.proofs.GroupForms.{invisible_is, plain_path}
 use Rattle.syn_grammar.proofs.HeadLeaf.{not_leaf_words}
+use Rattle.syn_grammar.proofs.Needs.{heads}
+use Rattle.syn_grammar.proofs.HeadForms.{leaf_tests}
 
 -- what the front of a name is asked, for a proof that computes it
 asked : Bool
-unfolding prefix_at range_at jump_at closure_at sign_at word_at lifetimes_at loop_head_at lifetime_at round_at bracket_at group_at leaf_at literal_at is_truth loop_at block_at const_block_at async_block_at try_block_at builtin_at brace_at
+unfolding prefix_at range_at jump_at closure_at sign_at word_at lifetimes_at loop_head_at lifetime_at round_at bracket_at group_at leaf_at is_truth leaf_tests brace_at
 asked = true
 
 -- words that no path and no leaf begins with
@@ -133,12 +135,19 @@ qpath_front q l n g = ⊎_elim (λ a. sign_first 60 [] (λ z. Named z) named_les
 
 -- an invisible group, which a path may begin with
 pub group_named : (i : Inside) (m : List Tok) → Named (group del.None i ∷ m)
-unfolding prefix_at range_at jump_at closure_at sign_at word_at lifetimes_at loop_head_at lifetime_at round_at bracket_at group_at leaf_at literal_at loop_at block_at const_block_at async_block_at try_block_at builtin_at brace_at
+unfolding prefix_at range_at jump_at closure_at sign_at word_at lifetimes_at loop_head_at lifetime_at round_at bracket_at group_at leaf_at leaf_tests brace_at
 group_named i m = record { no_prefix = refl; no_round = refl; no_bracket = refl; no_become = refl; no_if = refl; no_loop = refl; no_match = refl; no_leaf = λ a b. refl }
 
 pub group_words : (l : List Tok) → invisible_at l ≡ true → (try_block_at l ≡ false) × (builtin_at l ≡ false)
 unfolding try_block_at builtin_at word_at
 group_words l v = let (i, m, e) = invisible_is l v in subst (λ z. (try_block_at z ≡ false) × (builtin_at z ≡ false)) (sym e) (refl, refl)
+
+pub group_no_leaf : (l : List Tok) → invisible_at l ≡ true → leaf_at l ≡ false
+group_no_leaf l v =
+    let (i, m, e) = invisible_is l v in
+    let (a, b) = group_words l v in
+    let f = (group_named i m).no_leaf (subst (λ z. try_block_at z ≡ false) e a) (subst (λ z. builtin_at z ≡ false) e b) in
+    subst (λ z. leaf_at z ≡ false) (sym e) f
 
 pub expr_path_front : (braces : Bool) (q : QPathTree) (l n : List Tok) → (expr_path braces).behind q l ≡ Some n → Named l
 expr_path_front braces q l n g = by_group (invisible_at l) refl
@@ -191,12 +200,12 @@ unfolding asked
 while_front l = record { no_leaf = refl; no_prefix = refl; no_round = refl; no_bracket = refl; no_become = refl; no_if = refl; loops = refl }
 
 for_front : (l : List Tok) → lifetimes_at (ident (codes "for") ∷ l) ≡ false → LoopFront (ident (codes "for") ∷ l)
-unfolding prefix_at range_at jump_at closure_at sign_at word_at loop_head_at lifetime_at round_at bracket_at group_at leaf_at literal_at is_truth loop_at block_at const_block_at async_block_at try_block_at builtin_at brace_at
+unfolding prefix_at range_at jump_at closure_at sign_at word_at loop_head_at lifetime_at round_at bracket_at group_at leaf_at is_truth leaf_tests brace_at
 for_front l g = record { no_leaf = refl; no_prefix = rw g refl; no_round = refl; no_bracket = refl; no_become = refl; no_if = refl; loops = rw g refl }
 
 -- a loop's word after a label or none
 labelled_front : (l m : List Tok) → past_label l ≡ m → loop_word.at m ≡ false → brace_at m ≡ false → (lifetime_at l ≡ false → LoopFront l) → LoopFront l
-unfolding prefix_at range_at jump_at closure_at sign_at word_at lifetimes_at loop_head_at lifetime_at round_at bracket_at group_at leaf_at literal_at is_truth loop_at block_at const_block_at async_block_at try_block_at builtin_at
+unfolding prefix_at range_at jump_at closure_at sign_at word_at lifetimes_at loop_head_at lifetime_at round_at bracket_at group_at leaf_at is_truth leaf_tests
 labelled_front (punct c spacing.Joint ∷ ident s ∷ l) m g a b f =
     ⊎_elim (λ k. let i : 39 ≡ c = grind (arith, nat_tests, k.0) in quoted i g)
     (λ k. f k.0) (chosen (c == 39) true false _ refl)
@@ -271,9 +280,77 @@ pub record GroupFront (l : List Tok) : Type 0 where
   pub no_prefix : prefix_at l ≡ false
 
 pub round_front : (i : Inside) (l : List Tok) → GroupFront (group del.Parenthesis i ∷ l)
-unfolding prefix_at range_at jump_at closure_at sign_at word_at lifetimes_at lifetime_at group_at leaf_at literal_at loop_at block_at const_block_at async_block_at try_block_at builtin_at brace_at
+unfolding prefix_at range_at jump_at closure_at sign_at word_at lifetimes_at lifetime_at group_at leaf_at leaf_tests brace_at
 round_front i l = record { no_leaf = refl; no_prefix = refl }
 
 pub bracket_front : (i : Inside) (l : List Tok) → GroupFront (group del.Bracket i ∷ l)
-unfolding prefix_at range_at jump_at closure_at sign_at word_at lifetimes_at lifetime_at group_at leaf_at literal_at loop_at block_at const_block_at async_block_at try_block_at builtin_at brace_at
+unfolding prefix_at range_at jump_at closure_at sign_at word_at lifetimes_at lifetime_at group_at leaf_at leaf_tests brace_at
 bracket_front i l = record { no_leaf = refl; no_prefix = refl }
+
+by_word : (q : QPathTree) (w : Text) (x : Tok) (m n : List Tok) → is_segment w ≡ true → colon2.at (x ∷ m) ≡ false → (qpath type style.Expr).behind q (ident w ∷ x ∷ m) ≡ Some n → (one_word w ≡ q) × (x ∷ m ≡ n)
+by_word q w x m n a b g =
+    let i : Some (one_word w, x ∷ m) ≡ Some (q, n) = sym (word_read w x m a b) ∙ heads.qpaths.found (ident w ∷ x ∷ m) q n g in
+    let j = some_is i in (ap (λ (r : QPathTree × List Tok). r.0) j, ap (λ (r : QPathTree × List Tok). r.1) j)
+
+brace_is : (l : List Tok) → brace_at l ≡ true → (i : Inside) × (n : List Tok) × (l ≡ group del.Brace i ∷ n)
+unfolding brace_at group_at
+brace_is (group del.Brace i ∷ l) g = (i, l, refl)
+brace_is _ g = absurd cc
+
+pound_is : (l : List Tok) → pound.at l ≡ true → (s : Spacing) × (n : List Tok) × (l ≡ punct 35 s ∷ n)
+pound_is l g = sign_first 35 [] (λ z. (s : Spacing) × (n : List Tok) × (z ≡ punct 35 s ∷ n)) (λ s n. (s, n, refl)) l g
+
+try_segment : is_segment (codes "try") ≡ true
+unfolding is_segment stands_alone is_reserved_word
+try_segment = refl
+
+builtin_segment : is_segment (codes "builtin") ≡ true
+unfolding is_segment stands_alone is_reserved_word
+builtin_segment = refl
+
+brace_no_colons : (i : Inside) (n : List Tok) → colon2.at (group del.Brace i ∷ n) ≡ false
+unfolding sign_at
+brace_no_colons i n = refl
+
+pound_no_colons : (s : Spacing) (n : List Tok) → colon2.at (punct 35 s ∷ n) ≡ false
+unfolding sign_at
+pound_no_colons spacing.Alone n = refl
+pound_no_colons spacing.Joint n = refl
+
+try_alone : is_try_alone (one_word (codes "try")).0 (one_word (codes "try")).1 ≡ true
+unfolding one_word
+try_alone = refl
+
+path_no_try : (q : QPathTree) (l m : List Tok) → (qpath type style.Expr).behind q l ≡ Some m → is_try_alone q.0 q.1 ≡ false → try_block_at l ≡ false
+unfolding try_block_at
+path_no_try q l m g t = by_test (try_block_at l) refl
+  where
+    by_test : (b : Bool) → try_block_at l ≡ b → b ≡ false
+    by_test false v = refl
+    by_test true v =
+        let (a, b) = both_true (word_at (codes "try") l) (brace_at (drop 1 l)) v in
+        let (i, n, c) = brace_is (drop 1 l) b in
+        let d : l ≡ ident (codes "try") ∷ group del.Brace i ∷ n = word_is (codes "try") l a ∙ ap (λ z. ident (codes "try") ∷ z) c in
+        let (f, j) = by_word q (codes "try") (group del.Brace i) n m try_segment (brace_no_colons i n) (subst (λ z. (qpath type style.Expr).behind q z ≡ Some m) d g) in
+        let o : is_try_alone q.0 q.1 ≡ true = subst (λ (r : QPathTree). is_try_alone r.0 r.1 ≡ true) f try_alone in absurd (cc (o, t))
+
+path_no_builtin : (q : QPathTree) (l m : List Tok) → (qpath type style.Expr).behind q l ≡ Some m → pound.at m ≡ false → builtin_at l ≡ false
+unfolding builtin_at
+path_no_builtin q l m g t = by_test (builtin_at l) refl
+  where
+    by_test : (b : Bool) → builtin_at l ≡ b → b ≡ false
+    by_test false v = refl
+    by_test true v =
+        let (a, b) = both_true (word_at (codes "builtin") l) (pound.at (drop 1 l)) v in
+        let (w, y, c) = pound_is (drop 1 l) b in
+        let d : l ≡ ident (codes "builtin") ∷ punct 35 w ∷ y = word_is (codes "builtin") l a ∙ ap (λ z. ident (codes "builtin") ∷ z) c in
+        let (f, j) = by_word q (codes "builtin") (punct 35 w) y m builtin_segment (pound_no_colons w y) (subst (λ z. (qpath type style.Expr).behind q z ≡ Some m) d g) in
+        absurd (cc (b, subst (λ z. pound.at z ≡ false) (sym (c ∙ j)) t))
+
+-- no such path begins with the block of a `try`, nor as special syntax does
+pub path_no_words : (braces : Bool) (q : QPathTree) (l m : List Tok) → (expr_path braces).behind q l ≡ Some m → is_try_alone q.0 q.1 ≡ false → pound.at m ≡ false → (try_block_at l ≡ false) × (builtin_at l ≡ false)
+path_no_words braces q l m g t b = by_group (invisible_at l) refl
+  where
+    by_group : (c : Bool) → invisible_at l ≡ c → (try_block_at l ≡ false) × (builtin_at l ≡ false)
+    by_group true v = group_words l v
+    by_group false v = let a = plain_path braces q l m v g in (path_no_try q l m a t, path_no_builtin q l m a b)

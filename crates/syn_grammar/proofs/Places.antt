@@ -198,15 +198,14 @@ below_attributed : (x : Edge) → is_below (attributed_edge x) ≡ is_below x
 below_attributed edge.Free = refl
 below_attributed _ = refl
 
+right_false : (a b : Bool) → a ≡ true → a && b ≡ false → b ≡ false
+right_false true b e h = h
+right_false false b e h = absurd cc
+
 below_leaf : (c : Context) (k : Leaf) → is_below c.edge ≡ true → leaf_misplaced c k ≡ false → is_block_leaf k ≡ false
-below_leaf c (e.lit x) e h = refl
 below_leaf c (e.block None b) e h = absurd (let f : true ≡ false = sym e ∙ (or_false _ _ h).0 in cc)
-below_leaf c (e.block (Some w) b) e h = absurd (let f : true ≡ false = sym (rw e refl) ∙ h in cc)
-below_leaf c (e.loop_expr w b) e h = absurd (let f : true ≡ false = sym (rw e refl) ∙ h in cc)
-below_leaf c (e.unsafe_block b) e h = absurd (let f : true ≡ false = sym (rw e refl) ∙ h in cc)
-below_leaf c (e.const_block b) e h = absurd (let f : true ≡ false = sym (rw e refl) ∙ h in cc)
-below_leaf c (e.try_block ts) e h = absurd (let f : true ≡ false = sym (rw e refl) ∙ h in cc)
-below_leaf c _ e h = refl
+below_leaf c (e.mac m) e h = refl
+below_leaf c k e h = right_false _ _ e h
 
 below_frame : (c : Context) (k : Frame) → is_below c.edge ≡ true → frame_misplaced c k ≡ false → is_block_frame k ≡ false
 below_frame c e.array b h = refl

@@ -21,17 +21,18 @@ use Rattle.syn_grammar.specs.Path.{invisible_at, expr_path}
 use Rattle.syn_grammar.specs.Tree as tr
 use Rattle.syn_grammar.specs.Tree.{Tree, Children, Leaf, Prefix, Piece, Ending, Jump, leaf, none, child}
 use Rattle.syn_grammar.specs.Head as h
-use Rattle.syn_grammar.specs.Head.{leaf_form, prefix_form, named, to_named, range_at, jump_at, range_op, jump_head, from_full_range, from_bare_jump, closure_at}
+use Rattle.syn_grammar.specs.Head.{leaf_form, prefix_form, named, to_named, range_at, jump_at, range_op, jump_head, from_full_range, from_bare_jump, closure_at, leaf_at}
 use Rattle.syn_grammar.specs.Slot.{Slot, may_end, elements, single, counted, after, piece_form, piece_place, ending_at, comma_or_end}
 use Rattle.syn_grammar.specs.Stands.{Node, Operands, no_more, one_more, short, block, ends, closes, ends_piece, ends_list, short_value, takes_block, leaf_stands, prefix_stands}
-use Rattle.syn_grammar.specs.Read.{Reading, leaf_read, leaf_at, prefix_at, loop_head_at, prefix_read, unled, named_read, named_by, group_read, framed_by, atom}
+use Rattle.syn_grammar.specs.Read.{Reading, leaf_read, prefix_at, loop_head_at, prefix_read, unled, named_read, named_by, group_read, framed_by, atom}
 use Rattle.syn_grammar.proofs.Chains.{some_is, then_some, behind_some, only_some, chosen, both_true}
 use Rattle.syn_grammar.proofs.Needs.{heads}
 use Rattle.syn_grammar.proofs.Sound.{empty_is}
-use Rattle.syn_grammar.proofs.SoundAtoms.{NoLeaf, no_leaf, named_reads}
+use Rattle.syn_grammar.proofs.SoundAtoms.{named_reads}
 use Rattle.syn_grammar.proofs.Fronts.{no_lifetime, sign_no_leaf, range_prefix, range_is_prefix, jump_prefix, jump_is_prefix}
 use Rattle.syn_grammar.proofs.GroupForms.{plain_read, in_place}
 use Rattle.syn_grammar.proofs.NameFronts.{Named, expr_path_front}
+use Rattle.syn_grammar.proofs.HeadForms.{NoLeaf, no_leaf}
 
 -- ---- leaves
 

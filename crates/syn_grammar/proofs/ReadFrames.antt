@@ -24,7 +24,7 @@ use Rattle.syn_grammar.specs.Front.{trailer_at, bracket_at, question_at, dot_at,
 use Rattle.syn_grammar.specs.Op.{goes_on, infix_at}
 use Rattle.syn_grammar.specs.Tree as tr
 use Rattle.syn_grammar.specs.Tree.{Tree, Children, Prefix, Frame, Piece, Ending, ClosureHead, leaf, paren, prefixed, frame, none, child}
-use Rattle.syn_grammar.specs.Head.{prefix_form, closure_head, named, to_named, label, try_block_at, builtin_at}
+use Rattle.syn_grammar.specs.Head.{prefix_form, closure_head, named, to_named, label}
 use Rattle.syn_grammar.specs.Slot as s
 use Rattle.syn_grammar.specs.Slot.{elements, single, counted, after, piece_form, piece_place, ending_at, comma_or_end, frame_head, frame_holder, if_at, for_head, if_word, match_word, while_word, for_word}
 use Rattle.syn_grammar.specs.Path.{is_word_alone, is_try_alone, goes_on_path, invisible_at, expr_path}
@@ -37,11 +37,12 @@ use Rattle.syn_grammar.proofs.Lesses.{node_less}
 use Rattle.syn_grammar.proofs.Sound.{Element, element_is, empty_is, group_is, ends_a_piece}
 use Rattle.syn_grammar.proofs.Fronts.{word_is, prefix_front, closure_front}
 use Rattle.syn_grammar.proofs.GroupForms.{plain_path, group_seen, no_front}
-use Rattle.syn_grammar.proofs.SoundAtoms.{no_leaf, no_prefix, named_reads, named_read_is}
-use Rattle.syn_grammar.proofs.NameFronts.{Named, group_named, group_words, expr_path_front, one_word, word_read, LoopFront, while_loop_front, for_loop_front, become_front, if_front, match_front, round_front, bracket_front}
+use Rattle.syn_grammar.proofs.SoundAtoms.{no_prefix, named_reads, named_read_is}
+use Rattle.syn_grammar.proofs.NameFronts.{Named, group_named, group_words, expr_path_front, one_word, word_read, LoopFront, while_loop_front, for_loop_front, become_front, if_front, match_front, round_front, bracket_front, path_no_words}
 use Rattle.syn_grammar.proofs.HeadMoves.{ending_left, dropped, group_inside, frame_less}
 use Rattle.syn_grammar.proofs.ReadAtoms.{Counted, prefixes, unnamed, grouped, unled_read, brace_no_macro, ends_is, none_is, comma_no_semi, counted_is, element_kind}
 use Rattle.syn_grammar.proofs.ReadOperands.{there, full, bare_read, within_read, content_read}
+use Rattle.syn_grammar.proofs.HeadForms.{no_leaf}
 
 all_read : {A : Type 0} (o : Outcome A) (x : A) → o ≡ Some (x, []) → all_of o ≡ Some x
 all_read o x g = rw g refl
@@ -53,78 +54,10 @@ structure_free : (p : Place) (q : QPathTree) (d : Bool) (ks : Children) → fram
 unfolding frame_stands
 structure_free p q d ks g = neither p.condition (is_try_alone q.0 q.1) (not_true _ g)
 
-by_word : (q : QPathTree) (w : Text) (x : Tok) (m n : List Tok) → is_segment w ≡ true → colon2.at (x ∷ m) ≡ false → (qpath type style.Expr).behind q (ident w ∷ x ∷ m) ≡ Some n → (one_word w ≡ q) × (x ∷ m ≡ n)
-by_word q w x m n a b g =
-    let i : Some (one_word w, x ∷ m) ≡ Some (q, n) = sym (word_read w x m a b) ∙ heads.qpaths.found (ident w ∷ x ∷ m) q n g in
-    let j = some_is i in (ap (λ (r : QPathTree × List Tok). r.0) j, ap (λ (r : QPathTree × List Tok). r.1) j)
-
-brace_is : (l : List Tok) → brace_at l ≡ true → (i : Inside) × (n : List Tok) × (l ≡ group del.Brace i ∷ n)
-unfolding brace_at group_at
-brace_is (group del.Brace i ∷ l) g = (i, l, refl)
-brace_is _ g = absurd cc
-
-pound_is : (l : List Tok) → pound.at l ≡ true → (s : Spacing) × (n : List Tok) × (l ≡ punct 35 s ∷ n)
-pound_is l g = sign_first 35 [] (λ z. (s : Spacing) × (n : List Tok) × (z ≡ punct 35 s ∷ n)) (λ s n. (s, n, refl)) l g
-
-try_segment : is_segment (codes "try") ≡ true
-unfolding is_segment stands_alone is_reserved_word
-try_segment = refl
-
-builtin_segment : is_segment (codes "builtin") ≡ true
-unfolding is_segment stands_alone is_reserved_word
-builtin_segment = refl
-
-brace_no_colons : (i : Inside) (n : List Tok) → colon2.at (group del.Brace i ∷ n) ≡ false
-unfolding sign_at
-brace_no_colons i n = refl
-
-pound_no_colons : (s : Spacing) (n : List Tok) → colon2.at (punct 35 s ∷ n) ≡ false
-unfolding sign_at
-pound_no_colons spacing.Alone n = refl
-pound_no_colons spacing.Joint n = refl
-
-try_alone : is_try_alone (one_word (codes "try")).0 (one_word (codes "try")).1 ≡ true
-unfolding one_word
-try_alone = refl
-
-path_no_try : (q : QPathTree) (l m : List Tok) → (qpath type style.Expr).behind q l ≡ Some m → is_try_alone q.0 q.1 ≡ false → try_block_at l ≡ false
-unfolding try_block_at
-path_no_try q l m g t = by_test (try_block_at l) refl
-  where
-    by_test : (b : Bool) → try_block_at l ≡ b → b ≡ false
-    by_test false v = refl
-    by_test true v =
-        let (a, b) = both_true (word_at (codes "try") l) (brace_at (drop 1 l)) v in
-        let (i, n, c) = brace_is (drop 1 l) b in
-        let d : l ≡ ident (codes "try") ∷ group del.Brace i ∷ n = word_is (codes "try") l a ∙ ap (λ z. ident (codes "try") ∷ z) c in
-        let (f, j) = by_word q (codes "try") (group del.Brace i) n m try_segment (brace_no_colons i n) (subst (λ z. (qpath type style.Expr).behind q z ≡ Some m) d g) in
-        let o : is_try_alone q.0 q.1 ≡ true = subst (λ (r : QPathTree). is_try_alone r.0 r.1 ≡ true) f try_alone in absurd (cc (o, t))
-
-path_no_builtin : (q : QPathTree) (l m : List Tok) → (qpath type style.Expr).behind q l ≡ Some m → pound.at m ≡ false → builtin_at l ≡ false
-unfolding builtin_at
-path_no_builtin q l m g t = by_test (builtin_at l) refl
-  where
-    by_test : (b : Bool) → builtin_at l ≡ b → b ≡ false
-    by_test false v = refl
-    by_test true v =
-        let (a, b) = both_true (word_at (codes "builtin") l) (pound.at (drop 1 l)) v in
-        let (w, y, c) = pound_is (drop 1 l) b in
-        let d : l ≡ ident (codes "builtin") ∷ punct 35 w ∷ y = word_is (codes "builtin") l a ∙ ap (λ z. ident (codes "builtin") ∷ z) c in
-        let (f, j) = by_word q (codes "builtin") (punct 35 w) y m builtin_segment (pound_no_colons w y) (subst (λ z. (qpath type style.Expr).behind q z ≡ Some m) d g) in
-        absurd (cc (b, subst (λ z. pound.at z ≡ false) (sym (c ∙ j)) t))
-
 pound_no_brace : (m i n : List Tok) → group_at del.Brace m ≡ Some (i, n) → pound.at m ≡ false
 unfolding group_at sign_at
 pound_no_brace (group d j ∷ m) i n g = refl
 pound_no_brace _ i n g = absurd cc
-
--- no such path begins with the block of a `try`, nor as special syntax does
-path_no_words : (braces : Bool) (q : QPathTree) (l m : List Tok) → (expr_path braces).behind q l ≡ Some m → is_try_alone q.0 q.1 ≡ false → pound.at m ≡ false → (try_block_at l ≡ false) × (builtin_at l ≡ false)
-path_no_words braces q l m g t b = by_group (invisible_at l) refl
-  where
-    by_group : (c : Bool) → invisible_at l ≡ c → (try_block_at l ≡ false) × (builtin_at l ≡ false)
-    by_group true v = group_words l v
-    by_group false v = let a = plain_path braces q l m v g in (path_no_try q l m a t, path_no_builtin q l m a b)
 
 for_first_no_while : (m : List Tok) → while_word.at (ident (codes "for") ∷ m) ≡ false
 unfolding word_at

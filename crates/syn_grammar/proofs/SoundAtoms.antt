@@ -14,36 +14,18 @@ use Rattle.syn_grammar.specs.Place.{plain}
 use Rattle.syn_grammar.specs.Path.{invisible_at, expr_path}
 use Rattle.syn_grammar.specs.Tree as tr
 use Rattle.syn_grammar.specs.Tree.{Tree, Children, ClosureHead, Prefix, Piece, Ending, leaf, paren, prefixed, frame, none, child, is_one}
-use Rattle.syn_grammar.specs.Head.{minus, let_word, raw_at, raw_word, leaf_form, prefix_form, closure_head, to_named, from_closure, label, named, literal_at, range_at, jump_at, continue_word, loop_at, block_at, unsafe_word, const_block_at, async_block_at, try_block_at, builtin_at}
+use Rattle.syn_grammar.specs.Head.{minus, let_word, raw_at, raw_word, leaf_form, prefix_form, closure_head, to_named, from_closure, label, named, range_at, jump_at, continue_word, unsafe_word, leaf_at}
 use Rattle.syn_grammar.specs.Slot.{elements, single, fields, piece_form, ending_at, within, if_word, while_word, for_head, match_word, comma_or_end}
 use Rattle.syn_grammar.specs.Stands.{Node, is_leaf, is_become, is_paren, is_prefixed, is_frame, Content, holds_within, no_more, one_more, Stands, ends, closes, ends_list, leaf_stands, prefix_stands, prefix_place, frame_stands, frame_ends, has_no_comma}
-use Rattle.syn_grammar.specs.Read.{Reading, standing, ended_by, bare_operands, content, framed_by, all_of, before, rounded, round_read, repeated_by, elements_by, bracketed, bracket_inside, bracket_read, structured, structure_read, named_by, named_read, unled, led, prefix_read, looped, loop_read, verbatim_from, become_word, is_taken, taken, leaf_at, prefix_at, loop_head_at, group_read, atom}
+use Rattle.syn_grammar.specs.Read.{Reading, standing, ended_by, bare_operands, content, framed_by, all_of, before, rounded, round_read, repeated_by, elements_by, bracketed, bracket_inside, bracket_read, structured, structure_read, named_by, named_read, unled, led, prefix_read, looped, loop_read, verbatim_from, become_word, is_taken, taken, prefix_at, loop_head_at, group_read, atom}
 use Rattle.syn_grammar.proofs.Chains.{some_is, then_some, all_some, before_some, only_some, chosen, both_true, neither}
 use Rattle.syn_grammar.proofs.GroupForms.{unbraced, braced}
 use Rattle.syn_grammar.proofs.Needs.{Heads}
 use Rattle.syn_grammar.specs.Front.{bracket_at}
 use Rattle.syn_grammar.proofs.Sound.{moved, leaf_read_sound, bare_sound, content_sound, framed_sound, element_is, group_is, no_comma_is, ends_a_piece}
+use Rattle.syn_grammar.proofs.HeadForms.{NoLeaf, no_leaf}
 
 -- ---- which leaf it is
-
-pub record NoLeaf (l : List Tok) : Type 0 where
-  pub no_literal : literal_at l ≡ false
-  pub no_underscore : underscore.at l ≡ false
-  pub no_continue : continue_word.at l ≡ false
-  pub no_loop : loop_at l ≡ false
-  pub no_block : block_at l ≡ false
-  pub no_unsafe : unsafe_word.at l ≡ false
-  pub no_const : const_block_at l ≡ false
-  pub no_async : async_block_at l ≡ false
-  pub no_try : try_block_at l ≡ false
-  pub no_builtin : builtin_at l ≡ false
-
-pub no_leaf : (l : List Tok) → leaf_at l ≡ false → NoLeaf l
-unfolding leaf_at
-no_leaf l h =
-    let a = neither _ _ h in let b = neither _ _ a.1 in let c = neither _ _ b.1 in let d = neither _ _ c.1 in let f = neither _ _ d.1 in
-    let g = neither _ _ f.1 in let i = neither _ _ g.1 in let j = neither _ _ i.1 in let k = neither _ _ j.1 in
-    record { no_literal = a.0; no_underscore = b.0; no_continue = c.0; no_loop = d.0; no_block = f.0; no_unsafe = g.0; no_const = i.0; no_async = j.0; no_try = k.0; no_builtin = k.1 }
 
 pub record NoPrefix (l : List Tok) : Type 0 where
   pub no_range : range_at l ≡ false

@@ -99,15 +99,14 @@ braced_sorted : (b : Bool) (c : Context) → misplaced_by c (if b then sort.Brac
 braced_sorted true c = sym (and_true _)
 braced_sorted false c = sym (and-false _)
 
+block_sorted : (b : Bool) (c : Context) → misplaced_by c (if b then sort.BlockLike else sort.Other) ≡ is_below c.edge && b
+block_sorted true c = sym (and_true _)
+block_sorted false c = sym (and-false _)
+
 leaf_sorted : (k : Leaf) (c : Context) → misplaced_by c (leaf_sort k) ≡ leaf_misplaced c k
 leaf_sorted (e.block None b) c = refl
-leaf_sorted (e.block (Some w) b) c = sym (and_true _)
 leaf_sorted (e.mac m) c = braced_sorted (is_brace_delimiter m.delimiter) c
-leaf_sorted (e.loop_expr w b) c = sym (and_true _)
-leaf_sorted (e.unsafe_block b) c = sym (and_true _)
-leaf_sorted (e.const_block b) c = sym (and_true _)
-leaf_sorted (e.try_block ts) c = sym (and_true _)
-leaf_sorted _ c = sym (and-false _)
+leaf_sorted k c = block_sorted (e.is_block_leaf k) c
 
 prefix_sorted : (k : Prefix) (c : Context) → misplaced_by c (prefix_sort k) ≡ prefix_misplaced c k
 prefix_sorted (e.let_expr p) c = refl

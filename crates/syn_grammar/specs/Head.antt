@@ -396,3 +396,9 @@ dotted =
     case await_word (pure e.await is_await)
     (when method_at (shown to_method from_method (both name (arguments type style.Expr)))
     (shown e.field from_field member))
+
+-- the leaves but paths, macros, jumps and ranges
+unfoldable pub leaf_at : Test
+leaf_at l =
+    literal_at l || (underscore.at l || (continue_word.at l || (loop_at l || (block_at l || (unsafe_word.at l
+    || (const_block_at l || (async_block_at l || (try_block_at l || builtin_at l))))))))

@@ -136,14 +136,13 @@ abbrev mutual
 abbrev pub leaf_brace : Bool → Leaf → Bool
 leaf_brace before (e.path q p) = type_brace before (t.path q p.leading (t.segments_of p.segments) p.trailing)
 leaf_brace before (e.mac m) = is_brace_delimiter m.delimiter
-leaf_brace before (e.block w b) = true
-leaf_brace before (e.loop_expr w b) = true
-leaf_brace before (e.unsafe_block b) = true
-leaf_brace before (e.const_block b) = true
-leaf_brace before (e.async_block m ts) = true
-leaf_brace before (e.try_block ts) = true
 leaf_brace before (e.verbatim ts) = last_braces before ts
-leaf_brace before _ = false
+leaf_brace before (e.lit x) = false
+leaf_brace before e.infer = false
+leaf_brace before (e.full_range op) = false
+leaf_brace before (e.bare_jump j) = false
+leaf_brace before (e.continuing w) = false
+leaf_brace before _ = true
 
 -- of the tokens before an operand
 abbrev pub prefix_brace : Prefix → Bool

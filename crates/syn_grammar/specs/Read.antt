@@ -22,7 +22,7 @@ use Rattle.syn_grammar.specs.Op.{infix_at, level}
 use Rattle.syn_grammar.specs.Front.{ends_open_range, dot_at, question_at, bracket_at}
 use Rattle.syn_grammar.specs.Tree as e
 use Rattle.syn_grammar.specs.Tree.{Tree, Children, ClosureHead, Leaf, Prefix, Postfix, Trailer, Frame, Piece, Ending, leaf, paren, attributed, prefixed, infixed, postfixed, tail, frame, none, child, plain_block, postfix_op, is_one, is_silent}
-use Rattle.syn_grammar.specs.Head.{leaf_form, prefix_form, dotted, to_named, from_closure, label, closure_at, jump_at, range_at, literal_at, let_word, minus, continue_word, loop_at, block_at, unsafe_word, const_block_at, async_block_at, try_block_at, builtin_at}
+use Rattle.syn_grammar.specs.Head.{leaf_form, prefix_form, dotted, to_named, from_closure, label, closure_at, jump_at, range_at, let_word, minus, continue_word, unsafe_word, leaf_at}
 use Rattle.syn_grammar.specs.Slot.{Slot, Holder, elements, single, fields, conditions, scrutinees, arms, after, may_end, piece_form, piece_place, ending_at, frame_holder, trailer_holder, nothing, within, bare, is_chained, for_head, while_word, for_word, if_word, match_word}
 use Rattle.syn_grammar.specs.Stands.{closes, ends, ends_operation, fits_left, fits_base, leaf_stands, prefix_stands, prefix_place, infix_stands, postfix_stands, frame_stands, frame_ends, ends_list, short_value, takes_block, takes_attributes, rests, is_range, fields_of, name_at, indices_at, has_no_comma}
 
@@ -119,12 +119,6 @@ read_attributed p l m (a ∷ more) x n = attributed_by p l m a more x (verbatim_
 
 abbrev pub become_word : Mark
 become_word = word (codes "become")
-
--- the leaves but paths, macros, jumps and ranges
-unfoldable pub leaf_at : Test
-leaf_at l =
-    literal_at l || (underscore.at l || (continue_word.at l || (loop_at l || (block_at l || (unsafe_word.at l
-    || (const_block_at l || (async_block_at l || (try_block_at l || builtin_at l))))))))
 
 unfoldable pub prefix_at : Test
 prefix_at l =

@@ -30,18 +30,13 @@ abbrev pub leaf_fits : Leaf → Bool
 leaf_fits (e.lit x) = unsigned_fits x
 leaf_fits (e.path q p) = qpath_fits style.Expr (q, p) && not (is_try_alone q p)
 leaf_fits (e.mac m) = macro_fits m
-leaf_fits e.infer = true
-leaf_fits (e.full_range limits.HalfOpen) = true
 leaf_fits (e.full_range limits.Closed) = false
-leaf_fits (e.bare_jump j) = true
-leaf_fits (e.continuing w) = true
 leaf_fits (e.block w b) = body_fits b
 leaf_fits (e.loop_expr w b) = body_fits b
 leaf_fits (e.unsafe_block b) = body_fits b
 leaf_fits (e.const_block b) = body_fits b
-leaf_fits (e.async_block m ts) = true
-leaf_fits (e.try_block ts) = true
 leaf_fits (e.verbatim ts) = false
+leaf_fits _ = true
 
 abbrev pub inputs_fit : List PatTree → Bool
 inputs_fit [] = true

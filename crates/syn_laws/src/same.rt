@@ -8,9 +8,9 @@ ghost use Rattle.syn_lower.specs.declared.ty.«Type».TheVariants as ty;
 ghost use Rattle.syn_expr_all.specs.View.{arm_of, let_of, match_of, closure_of, for_loop_of, guard_of, pat_of, tree_of};
 ghost use Rattle.syn_expr_kinds.specs.View.{field_value_of};
 
-use syn_expr_all::{
-    Arm, Expr, ExprClosure, ExprForLoop, ExprLet, ExprMatch, FieldValue, Pat, PatGuard,
-};
+use syn_expr_all::expr::{Arm, Expr, ExprClosure, ExprForLoop, ExprLet, ExprMatch, FieldValue};
+
+use syn_expr_all::{Pat, PatGuard};
 use syn_lower::mac::Macro;
 use syn_lower::path::{
     AngleBracketedGenericArguments, AssocType, GenericArgument, ParenthesizedGenericArguments,
