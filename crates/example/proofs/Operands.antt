@@ -6,20 +6,20 @@ use Rattle.syn_tokens.specs.Text.{text}
 use Rattle.syn_tokens.specs.Tok.{Tok}
 use Rattle.syn_tokens.specs.declared.error.Error.{Error}
 use Rattle.syn_tokens.specs.declared.error.ErrorKind.TheVariants.{OutOfMemory}
-use Rattle.syn_parts.specs.Tree.{AttributeTree}
-use Rattle.syn_grammar.specs.declared.kinds.Infix.TheVariants as inf
-use Rattle.syn_grammar.specs.declared.next.Context.{Context}
-use Rattle.syn_grammar.specs.Next.{enclosed}
-use Rattle.syn_grammar.specs.Printed.{in_plain}
-use Rattle.syn_grammar.specs.Rule as rule
-use Rattle.syn_grammar.specs.Tree.{Tree, attributed_with, attributed, infixed, own_tokens}
-use Rattle.syn_op.specs.View.{bin_kind}
-use Rattle.syn_expr_kinds.specs.declared.operation.ExprBinaryOf.{ExprBinaryOf}
-use Rattle.syn_expr_kinds.specs.Attrs.{attrs_of}
-use Rattle.syn_expr_all.specs.declared.expr.Expr.{Expr}
-use Rattle.syn_expr_all.specs.declared.expr.Expr.TheVariants as ex
-use Rattle.syn_expr_all.specs.View.{tree_of}
-use Rattle.syn_expr_all.proofs.TreeOf.{tree-Binary}
+use Rattle.syn_lower_spec.specs.Tree.{AttributeTree}
+use Rattle.syn_expr_spec.specs.declared.kinds.Infix.TheVariants as inf
+use Rattle.syn_expr_spec.specs.declared.next.Context.{Context}
+use Rattle.syn_expr_spec.specs.Next.{enclosed}
+use Rattle.syn_expr_spec.specs.Printed.{in_plain}
+use Rattle.syn_expr_spec.specs.Rule as rule
+use Rattle.syn_expr_spec.specs.Tree.{Tree, attributed_with, attributed, infixed, own_tokens}
+use Rattle.syn_expr_tokens.specs.View.{bin_kind}
+use Rattle.syn_expr_ast.specs.declared.operation.ExprBinaryOf.{ExprBinaryOf}
+use Rattle.syn_expr_ast.specs.Attrs.{attrs_of}
+use Rattle.syn_expr_core.specs.declared.expr.Expr.{Expr}
+use Rattle.syn_expr_core.specs.declared.expr.Expr.TheVariants as ex
+use Rattle.syn_expr_core.specs.View.{tree_of}
+use Rattle.syn_expr_core.proofs.TreeOf.{tree-Binary}
 use Rattle.syn_expr.specs.Promises.{PrintedAs}
 use Rattle.syn_expr.proofs.Binaries.{is_binary, no_binary}
 use Rattle.syn_expr.proofs.Promised.{prints_at}

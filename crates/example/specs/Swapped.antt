@@ -2,9 +2,9 @@
 use Rattle.std.specs.Prelude.{◌≡◌, ℕ, List}
 use Rattle.syn_tokens.specs.Tok.{Tok}
 use Rattle.syn_tokens.specs.Text.{text}
-use Rattle.syn_grammar.specs.declared.kinds.Infix.TheVariants as inf
-use Rattle.syn_grammar.specs.Printed.{in_plain}
-use Rattle.syn_grammar.specs.Tree.{Tree, attributed, infixed}
+use Rattle.syn_expr_spec.specs.declared.kinds.Infix.TheVariants as inf
+use Rattle.syn_expr_spec.specs.Printed.{in_plain}
+use Rattle.syn_expr_spec.specs.Tree.{Tree, attributed, infixed}
 use Rattle.syn_expr.specs.Promises.{PrintedAs}
 use Rattle.syn_expr.specs.Texts.{StandsFor}
 

@@ -11,7 +11,7 @@
 use exprfmt_run::run::{Watched, args_failed, is_bare, named, run, usage};
 use std::process::ExitCode;
 use std::{env, io};
-use syn_expr::position::Position;
+use syn_expr::print::Position;
 
 fn main(rt: HostRuntime) -> ExitCode {
     let mut errors = Watched::new(rt.stderr());

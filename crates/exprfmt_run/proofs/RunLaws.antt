@@ -12,9 +12,9 @@ use Rattle.std.proofs.lemmas.Fmt.{decimal_digit}
 use Rattle.syn_tokens.specs.Text.{text}
 use Rattle.syn_tokens.specs.Tok.{Tok}
 use Rattle.syn_tokens.specs.declared.error.Error.{Error}
-use Rattle.syn_grammar.specs.Printed.{Position}
-use Rattle.syn_grammar.specs.Tree.{Tree}
-use Rattle.syn_expr_flat.specs.Flat.{IsFlat}
+use Rattle.syn_expr_spec.specs.Printed.{Position}
+use Rattle.syn_expr_spec.specs.Tree.{Tree}
+use Rattle.syn_expr_flatten.specs.Flat.{IsFlat}
 use Rattle.syn_expr.specs.Promises.{PrintedAs}
 use Rattle.exprfmt_run.specs.Run.{IsLine, meant, AreLeft, Follows, Writer, Takes, Prints, Reports, Ran, line, printed, refused, not_utf8, failed, out_of_memory}
 use Rattle.syn_expr.specs.Texts.{StandsFor}

@@ -7,12 +7,12 @@ use Rattle.syn_tokens.specs.Text.{text}
 use Rattle.syn_tokens.specs.declared.error.Error.{Error}
 use Rattle.syn_tokens.specs.declared.error.ErrorKind.TheVariants.{OutOfMemory}
 use Rattle.syn_tokens.specs.ErrorText.{kind_text}
-use Rattle.syn_grammar.specs.Printed.{Position}
-use Rattle.syn_grammar.specs.Tree.{Tree, flatten}
+use Rattle.syn_expr_spec.specs.Printed.{Position}
+use Rattle.syn_expr_spec.specs.Tree.{Tree, flatten}
 use Rattle.syn_expr.specs.Promises.{PrintedAs}
 use Rattle.syn_expr.specs.Texts.{StandsFor, NothingStands}
-use Rattle.syn_expr.specs.declared.position.Position as code
-use Rattle.syn_expr.specs.declared.position.Position.TheVariants as named
+use Rattle.syn_expr.specs.declared.print.Position as code
+use Rattle.syn_expr.specs.declared.print.Position.TheVariants as named
 
 -- the name of a position
 abbrev pub word : code.Position → List ℕ

@@ -4,11 +4,10 @@ ghost use Rattle.std.specs.Prelude.{◌≡◌, ◌≢◌, ◌⊎◌, ℕ, Bool, 
 ghost use Rattle.std.specs.Str.{IsUtf8};
 ghost use Rattle.std.specs.IoError.{error_kind};
 ghost use Rattle.std.specs.declared.io.ErrorKind.TheVariants.{OutOfMemory};
-ghost use Rattle.syn_expr_all.specs.View.{tree_of};
-ghost use Rattle.syn_expr.specs.Positions.{position_of};
+ghost use Rattle.syn_expr_core.specs.View.{tree_of};
+ghost use Rattle.syn_expr.specs.Texts.{position_of, NothingStands};
 ghost use Rattle.syn_expr.specs.Promises.{PrintedAs};
-ghost use Rattle.syn_expr.specs.Texts.{NothingStands};
-ghost use Rattle.syn_grammar.specs.Printed as grammar;
+ghost use Rattle.syn_expr_spec.specs.Printed as grammar;
 ghost use Rattle.exprfmt_run.specs.Run as spec;
 ghost use Rattle.exprfmt_run.specs.FaultView.{outcome_of};
 ghost use Rattle.std.specs.Io.KnownBytes.{Appends};
@@ -18,14 +17,12 @@ use std::alloc::Global;
 use std::fmt::{InlineText, Write as _};
 use std::io;
 use std::io::{Read, Write};
-use syn_expr::position::Position;
-use syn_expr::print::print_counted;
+use syn_expr::print::{Position, print_counted};
 use syn_expr::{Expr, HeldExpr, flatten_in_place};
 use syn_tokens::error::{Error, ErrorKind, Result};
-use syn_tokens::span::Span;
+use syn_tokens::parse::parse_str;
 use syn_tokens::text::to_text;
-use syn_tokens::tree::TokenStream;
-use syn_tokens::whole::parse_str;
+use syn_tokens::tree::{Span, TokenStream};
 
 /// The position of this name.
 pub fn named(name: &str) -> Option<Position>

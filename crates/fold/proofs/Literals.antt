@@ -3,10 +3,10 @@ use Rattle.std.proofs.Common.{◌≡◌, ℕ, Bool, true, false, ◌==◌, [], �
 use Rattle.std.specs.Prelude.{if◌then◌else◌}
 use Rattle.std.proofs.lemmas.Grind.{common_steps}
 use Rattle.syn_tokens.specs.Tok.{literal}
-use Rattle.syn_parts.specs.declared.label.LitKind.TheVariants as kind
-use Rattle.syn_parts.specs.Own.{alone, lit_own}
-use Rattle.syn_parts.specs.Pat.{index_of}
-use Rattle.syn_parts.specs.Text.{Text, is_number}
+use Rattle.syn_lower_spec.specs.declared.label.LitKind.TheVariants as kind
+use Rattle.syn_lower_spec.specs.Own.{alone, lit_own}
+use Rattle.syn_lower_spec.specs.Pat.{index_of}
+use Rattle.syn_lower_spec.specs.Text.{Text, is_number}
 use Rattle.fold.specs.Fold.{integer, token_value}
 
 no_number : (c : ℕ) (text : Text) → (c == 45) ≡ true → index_of (c ∷ text) ≡ None

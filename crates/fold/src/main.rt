@@ -4,8 +4,8 @@
 ghost use Rattle.std.specs.Prelude.{◌≡◌, ◌⊎◌, IfErr, IfOk, chars, option_and_then};
 ghost use Rattle.syn_tokens.specs.View.{toks_of};
 ghost use Rattle.syn_lower_leaves.specs.View.{lit_of};
-ghost use Rattle.syn_op.specs.View.{bin_kind, un_kind};
-ghost use Rattle.syn_expr_all.specs.View.{tree_of};
+ghost use Rattle.syn_expr_tokens.specs.View.{bin_kind, un_kind};
+ghost use Rattle.syn_expr_core.specs.View.{tree_of};
 ghost use Rattle.syn_expr.specs.Texts.{NothingStands};
 ghost use Rattle.fold.specs.Fold as spec;
 
@@ -15,7 +15,7 @@ use syn_expr::op::{BinOp, UnOp};
 use syn_expr::{
     ErrorKind, Expr, HeldExpr, Lit, Result, ToTokens, TokenStream, TokenTree, parse_str,
 };
-use syn_expr_parts::number::index_of;
+use syn_expr_tokens::number::index_of;
 
 /// The value of a single token, if it is an integer without a suffix that is not above 4294967295.
 #[tactic(auto, using(syn_tokens::proofs::Views::views))]

@@ -1,9 +1,9 @@
 -- Comparisons of a value with itself (Rust Reference, "Comparison operators").
 use Rattle.std.specs.Prelude.{◌≡◌, ◌↔◌, ℕ, Bool, true, List}
-use Rattle.syn_grammar.specs.declared.kinds.Infix.TheVariants as inf
-use Rattle.syn_grammar.specs.declared.kinds.Level.TheVariants as lev
-use Rattle.syn_grammar.specs.Op.{binary_level}
-use Rattle.syn_grammar.specs.Tree.{Tree, attributed, infixed}
+use Rattle.syn_expr_spec.specs.declared.kinds.Infix.TheVariants as inf
+use Rattle.syn_expr_spec.specs.declared.kinds.Level.TheVariants as lev
+use Rattle.syn_expr_spec.specs.Op.{binary_level}
+use Rattle.syn_expr_spec.specs.Tree.{Tree, attributed, infixed}
 use Rattle.syn_expr.specs.Texts.{StandsFor}
 
 -- After its attributes it is a comparison, and the same is on both sides.

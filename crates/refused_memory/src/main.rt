@@ -6,7 +6,6 @@
 
 mod alone;
 mod expressions;
-mod kinds;
 mod lower;
 mod patterns;
 mod rows;
@@ -19,8 +18,8 @@ fn main(rt: HostRuntime) {
     lower::paths(&rt);
     lower::types(&rt);
     patterns::patterns(&rt);
-    kinds::operands(&rt);
-    kinds::blocks(&rt);
+    alone::operands(&rt);
+    alone::blocks(&rt);
     expressions::readers(&rt);
     alone::first(&rt);
     alone::second(&rt);

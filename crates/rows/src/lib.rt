@@ -4,12 +4,11 @@
 use std::alloc::Global;
 use std::test::Fail;
 use syn_tokens::buffer::{Parse, ParseBuffer, ToTokens};
-use syn_tokens::copy::copy_trees;
 use syn_tokens::error::Error;
 use syn_tokens::lexer::lex;
+use syn_tokens::parse::{parse_str, parse2};
 use syn_tokens::text::to_text;
-use syn_tokens::tree::TokenStream;
-use syn_tokens::whole::{parse_str, parse2};
+use syn_tokens::tree::{TokenStream, copy_trees};
 
 /// An answer as rows have it: of a refusal its place and its text.
 fn told(alloc: Global, answer: Result<String, Error>) -> Result<String, Error> {

@@ -1,24 +1,24 @@
 -- Of the kinds of expressions `Binary` alone has a binary operation as its tree.
 use Rattle.std.proofs.Common.{◌≡◌, Bool, true, false, List, [], ◌∷◌, refl, ap, sym, ◌∙◌, Option, Some, None, rules}
-use Rattle.syn_parts.specs.Tree.{AttributeTree, ReturnTree, default, given}
-use Rattle.syn_grammar.specs.declared.kinds.Infix.TheVariants as inf
-use Rattle.syn_grammar.specs.declared.kinds.Limits.{Limits}
-use Rattle.syn_grammar.specs.Tree.{Tree, Jump, ClosureHead, attributed_with, attributed, infixed}
-use Rattle.syn_expr_kinds.specs.declared.operation.ExprBinaryOf.{ExprBinaryOf}
-use Rattle.syn_expr_kinds.specs.Pats.{closure_by}
-use Rattle.syn_expr_kinds.specs.View.{jump_with, range_between}
-use Rattle.syn_expr_all.specs.declared.expr.Expr.{Expr, out-Expr, roll-Expr, roll-out-Expr}
-use Rattle.syn_expr_all.specs.declared.expr.Expr.TheVariants as ex
-use Rattle.syn_expr_all.specs.declared.expr.Expr.TheOpen.{Expr-F}
-use Rattle.syn_expr_all.specs.declared.pat.Pat.{Pat}
-use Rattle.syn_expr_all.specs.declared.pat.PatGuard.{PatGuard}
-use Rattle.syn_expr_all.specs.declared.closure.ExprClosure.{ExprClosure}
-use Rattle.syn_expr_all.specs.declared.control.Arm.{Arm}
-use Rattle.syn_expr_all.specs.declared.control.ExprForLoop.{ExprForLoop}
-use Rattle.syn_expr_all.specs.declared.control.ExprLet.{ExprLet}
-use Rattle.syn_expr_all.specs.declared.control.ExprMatch.{ExprMatch}
-use Rattle.syn_expr_all.specs.View.{tree_layer, tree_of, views}
-use Rattle.syn_expr_all.proofs.TreeOf.{tree_out, closure-is, for_loop-is, let_expr-is, match_expr-is}
+use Rattle.syn_lower_spec.specs.Tree.{AttributeTree, ReturnTree, default, given}
+use Rattle.syn_expr_spec.specs.declared.kinds.Infix.TheVariants as inf
+use Rattle.syn_expr_spec.specs.declared.kinds.Limits.{Limits}
+use Rattle.syn_expr_spec.specs.Tree.{Tree, Jump, ClosureHead, attributed_with, attributed, infixed}
+use Rattle.syn_expr_ast.specs.declared.operation.ExprBinaryOf.{ExprBinaryOf}
+use Rattle.syn_expr_ast.specs.Pats.{closure_by}
+use Rattle.syn_expr_ast.specs.View.{jump_with, range_between}
+use Rattle.syn_expr_core.specs.declared.expr.Expr.{Expr, out-Expr, roll-Expr, roll-out-Expr}
+use Rattle.syn_expr_core.specs.declared.expr.Expr.TheVariants as ex
+use Rattle.syn_expr_core.specs.declared.expr.Expr.TheOpen.{Expr-F}
+use Rattle.syn_expr_core.specs.declared.pat.Pat.{Pat}
+use Rattle.syn_expr_core.specs.declared.pat.PatGuard.{PatGuard}
+use Rattle.syn_expr_core.specs.declared.closure.ExprClosure.{ExprClosure}
+use Rattle.syn_expr_core.specs.declared.control.Arm.{Arm}
+use Rattle.syn_expr_core.specs.declared.control.ExprForLoop.{ExprForLoop}
+use Rattle.syn_expr_core.specs.declared.control.ExprLet.{ExprLet}
+use Rattle.syn_expr_core.specs.declared.control.ExprMatch.{ExprMatch}
+use Rattle.syn_expr_core.specs.View.{tree_layer, tree_of, views}
+use Rattle.syn_expr_core.proofs.TreeOf.{tree_out, closure-is, for_loop-is, let_expr-is, match_expr-is}
 
 -- It is a binary operation, after its attributes.
 abbrev pub is_binary : Tree → Bool

@@ -1,24 +1,24 @@
 -- Marks play no part in what is printed.
 use Rattle.std.proofs.Common.{◌≡◌, Bool, true, false, not, ◌&&◌, List, [], ◌∷◌, refl, sym, ◌∙◌, ap}
 use Rattle.std.specs.Prelude.{if◌then◌else◌}
-use Rattle.syn_lexer.specs.declared.lexeme.Delimiter.TheVariants as del
+use Rattle.syn_lexer.specs.declared.front.Delimiter.TheVariants as del
 use Rattle.syn_tokens.specs.Tok.{Tok}
-use Rattle.syn_parts.specs.Own as o
-use Rattle.syn_parts.specs.PatOwn.{attributes_own}
-use Rattle.syn_grammar.specs.declared.kinds.Infix.{Infix}
-use Rattle.syn_grammar.specs.declared.kinds.Level.{Level}
-use Rattle.syn_grammar.specs.declared.kinds.Level.TheVariants as lev
-use Rattle.syn_grammar.specs.declared.next.Context.{Context}
-use Rattle.syn_grammar.specs.declared.summary.Summary.{Summary}
-use Rattle.syn_grammar.specs.declared.summary.Sort.TheVariants as sort
-use Rattle.syn_grammar.specs.Next.{enclosed, in_statement, left_context, base_context, right_context, attributed_context, prefix_context, piece_context}
-use Rattle.syn_grammar.specs.Summaries.{summary_of, attributed_summary, prefix_summary, infix_summary, postfix_summary, closed_summary, base_wrapped_by, is_named_trailer, place_by, left_by, base_by, prefix_by}
-use Rattle.syn_grammar.specs.Op.{level}
-use Rattle.syn_grammar.specs.Rule.{is_operation, put, piece_put, bare, bare_children, place_asks, left_asks, base_asks, prefix_asks, is_chainable, is_plain_block, chained_bare}
-use Rattle.syn_grammar.specs.Tree as e
-use Rattle.syn_grammar.specs.Tree.{Tree, Children, Prefix, Trailer, Piece, Ending, leaf, paren, attributed, prefixed, infixed, postfixed, tail, frame, none, child, outers, own, children_own, own_tokens, clear, clear_children, plain_block, postfix_op, is_silent, prefix_own, infix_own, postfix_own, trailer_own, framed, enclosure, behind_operands, inside_of, ending_own, piece_own}
-use Rattle.syn_grammar.proofs.SummaryLemmas.{summaries_are_right}
-use Rattle.syn_grammar.proofs.Unclear.{operation_clear}
+use Rattle.syn_lower_spec.specs.Own as o
+use Rattle.syn_lower_spec.specs.PatOwn.{attributes_own}
+use Rattle.syn_expr_spec.specs.declared.kinds.Infix.{Infix}
+use Rattle.syn_expr_spec.specs.declared.kinds.Level.{Level}
+use Rattle.syn_expr_spec.specs.declared.kinds.Level.TheVariants as lev
+use Rattle.syn_expr_spec.specs.declared.next.Context.{Context}
+use Rattle.syn_expr_spec.specs.declared.summary.Summary.{Summary}
+use Rattle.syn_expr_spec.specs.declared.summary.Sort.TheVariants as sort
+use Rattle.syn_expr_spec.specs.Next.{enclosed, in_statement, left_context, base_context, right_context, attributed_context, prefix_context, piece_context}
+use Rattle.syn_expr_spec.specs.Summaries.{summary_of, attributed_summary, prefix_summary, infix_summary, postfix_summary, closed_summary, base_wrapped_by, is_named_trailer, place_by, left_by, base_by, prefix_by}
+use Rattle.syn_expr_spec.specs.Op.{level}
+use Rattle.syn_expr_spec.specs.Rule.{is_operation, put, piece_put, bare, bare_children, place_asks, left_asks, base_asks, prefix_asks, is_chainable, is_plain_block, chained_bare}
+use Rattle.syn_expr_spec.specs.Tree as e
+use Rattle.syn_expr_spec.specs.Tree.{Tree, Children, Prefix, Trailer, Piece, Ending, leaf, paren, attributed, prefixed, infixed, postfixed, tail, frame, none, child, outers, own, children_own, own_tokens, clear, clear_children, plain_block, postfix_op, is_silent, prefix_own, infix_own, postfix_own, trailer_own, framed, enclosure, behind_operands, inside_of, ending_own, piece_own}
+use Rattle.syn_expr_spec.proofs.SummaryLemmas.{summaries_are_right}
+use Rattle.syn_expr_spec.proofs.Unclear.{operation_clear}
 
 -- ---- nodes of equal parts
 

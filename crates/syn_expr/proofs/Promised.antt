@@ -1,22 +1,22 @@
 -- What is printed of a tree in a position keeps all that is promised.
 use Rattle.std.proofs.Common.{◌≡◌, ◌↔◌, true, List, [], ◌++◌, refl, sym, ◌∙◌, ap, subst}
 use Rattle.syn_tokens.specs.Tok.{Tok}
-use Rattle.syn_grammar.specs.declared.next.Context.{Context}
-use Rattle.syn_grammar.specs.Next.{enclosed}
-use Rattle.syn_grammar.specs.Printed.{Position, in_plain, as_statement, as_condition, as_arm, context_of, place_of, allows, is_minimal, plainly_attributed, printed_in}
-use Rattle.syn_grammar.specs.Rule.{printed}
-use Rattle.syn_grammar.specs.Stands.{Stands}
-use Rattle.syn_grammar.specs.Tree.{Tree, own, own_tokens, clear, fill}
-use Rattle.syn_grammar.specs.WellFormed.{is_well_formed}
-use Rattle.syn_grammar.proofs.Added.{pairs_are_added}
-use Rattle.syn_grammar.proofs.FillIns.{plainly_fill}
-use Rattle.syn_grammar.proofs.Flat.{flatten_clear}
-use Rattle.syn_grammar.proofs.NoneRedundant.{bare_there}
-use Rattle.syn_grammar.proofs.Promise.{printed_stands}
-use Rattle.syn_grammar.proofs.Same.{printed_is_same}
-use Rattle.syn_grammar.proofs.RedundantPlain.{no_pair_redundant, plain_clear}
-use Rattle.syn_grammar.proofs.StoodFilled.{own_spelling}
-use Rattle.syn_expr_kinds.specs.Printed.{whole}
+use Rattle.syn_expr_spec.specs.declared.next.Context.{Context}
+use Rattle.syn_expr_spec.specs.Next.{enclosed}
+use Rattle.syn_expr_spec.specs.Printed.{Position, in_plain, as_statement, as_condition, as_arm, context_of, place_of, allows, is_minimal, plainly_attributed, printed_in}
+use Rattle.syn_expr_spec.specs.Rule.{printed}
+use Rattle.syn_expr_spec.specs.Stands.{Stands}
+use Rattle.syn_expr_spec.specs.Tree.{Tree, own, own_tokens, clear, fill}
+use Rattle.syn_expr_spec.specs.WellFormed.{is_well_formed}
+use Rattle.syn_expr_spec.proofs.Added.{pairs_are_added}
+use Rattle.syn_expr_spec.proofs.FillIns.{plainly_fill}
+use Rattle.syn_expr_spec.proofs.Flat.{flatten_clear}
+use Rattle.syn_expr_spec.proofs.NoneRedundant.{bare_there}
+use Rattle.syn_expr_spec.proofs.Promise.{printed_stands}
+use Rattle.syn_expr_spec.proofs.Same.{printed_is_same}
+use Rattle.syn_expr_spec.proofs.RedundantPlain.{no_pair_redundant, plain_clear}
+use Rattle.syn_expr_spec.proofs.StoodFilled.{own_spelling}
+use Rattle.syn_expr_ast.specs.Printed.{whole}
 use Rattle.syn_expr_print.proofs.Appends.{own_append}
 use Rattle.syn_expr.specs.Promises.{Puts, StandsBack, StandsWithPairs, IsOwn, IsMinimal, PrintedAs}
 use Rattle.syn_expr.proofs.Marks.{own_clear, clear_twice, put_clear}

@@ -6,13 +6,13 @@ use Rattle.syn_tokens.specs.Input.{Gives}
 use Rattle.syn_tokens.specs.Tok.{Tok}
 use Rattle.syn_tokens.specs.declared.error.Error.{Error}
 use Rattle.syn_tokens.specs.declared.error.ErrorKind.TheVariants.{OutOfMemory}
-use Rattle.syn_grammar.specs.Place.{plain}
-use Rattle.syn_grammar.specs.Printed.{in_plain}
-use Rattle.syn_grammar.specs.Stands.{Stands}
-use Rattle.syn_grammar.specs.Tree.{Tree, flatten, IsSameTree}
-use Rattle.syn_grammar.specs.WellFormed.{is_well_formed}
-use Rattle.syn_expr_all.specs.declared.expr.Expr.{Expr}
-use Rattle.syn_expr_all.specs.View.{tree_of}
+use Rattle.syn_expr_spec.specs.Place.{plain}
+use Rattle.syn_expr_spec.specs.Printed.{in_plain}
+use Rattle.syn_expr_spec.specs.Stands.{Stands}
+use Rattle.syn_expr_spec.specs.Tree.{Tree, flatten, IsSameTree}
+use Rattle.syn_expr_spec.specs.WellFormed.{is_well_formed}
+use Rattle.syn_expr_core.specs.declared.expr.Expr.{Expr}
+use Rattle.syn_expr_core.specs.View.{tree_of}
 use Rattle.syn_expr.specs.Promises.{Puts, StandsBack}
 
 read_by : (t x : Tree) (r : Result Expr Error) → IsSameTree t x → Gives tree_of x r → MatchResult r (λ v. IsSameTree t (tree_of v)) (λ e. e.kind ≡ OutOfMemory)

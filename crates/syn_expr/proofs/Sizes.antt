@@ -1,14 +1,14 @@
 -- How often nodes are visited, against how many there are.
 use Rattle.std.proofs.Common.{◌≡◌, Bool, true, false, ◌+◌, ◌*◌, ◌-◌, ◌^◌, ◌≤◌, ◌&&◌, ◌||◌, ◌∷◌, refl, ap, arith}
 use Rattle.std.specs.Prelude.{ℕ, min}
-use Rattle.syn_grammar.specs.Slot.{Slot, elements, single, counted, fields, conditions, otherwise, loops, scrutinees, arms, bodies, outputs, groups, done, after}
-use Rattle.syn_grammar.specs.Tree as e
-use Rattle.syn_grammar.specs.Tree.{Tree, Children, Piece, Ending, leaf, paren, attributed, prefixed, infixed, postfixed, tail, frame, none, child, size, children_size, is_none}
-use Rattle.syn_grammar.specs.WellFormed.{well, children_well, is_well_formed, prefix_fits, infix_fits, postfix_fits, trailer_fits, frame_fits, trailer_slot, frame_slot, piece_fits, ending_fits, keeps_block, is_verbatim_block}
-use Rattle.syn_parts.specs.PatFits.{attributes_outer}
-use Rattle.syn_grammar.proofs.Flat.{left_of, right_of}
-use Rattle.syn_grammar.proofs.Same.{verbatim_or}
-use Rattle.syn_expr_collect.specs.Visited.{visited, children_visited}
+use Rattle.syn_expr_spec.specs.Slot.{Slot, elements, single, counted, fields, conditions, otherwise, loops, scrutinees, arms, bodies, outputs, groups, done, after}
+use Rattle.syn_expr_spec.specs.Tree as e
+use Rattle.syn_expr_spec.specs.Tree.{Tree, Children, Piece, Ending, leaf, paren, attributed, prefixed, infixed, postfixed, tail, frame, none, child, size, children_size, is_none}
+use Rattle.syn_expr_spec.specs.WellFormed.{well, children_well, is_well_formed, prefix_fits, infix_fits, postfix_fits, trailer_fits, frame_fits, trailer_slot, frame_slot, piece_fits, ending_fits, keeps_block, is_verbatim_block}
+use Rattle.syn_lower_spec.specs.PatFits.{attributes_outer}
+use Rattle.syn_expr_spec.proofs.Flat.{left_of, right_of}
+use Rattle.syn_expr_spec.proofs.Same.{verbatim_or}
+use Rattle.syn_expr_fixup.specs.Visited.{visited, children_visited}
 
 -- ---- no more often than there are nodes
 

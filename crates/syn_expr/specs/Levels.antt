@@ -1,16 +1,15 @@
 -- How tightly an expression binds, by its tree.
 use Rattle.std.specs.Prelude.{Bool, false, not, ◌||◌, if◌then◌else◌, List, [], ◌∷◌}
-use Rattle.syn_parts.specs.Tree.{AttributeTree}
-use Rattle.syn_grammar.specs.declared.kinds.Level.{Level}
-use Rattle.syn_grammar.specs.declared.kinds.Level.TheVariants as lev
-use Rattle.syn_grammar.specs.Op.{level}
-use Rattle.syn_grammar.specs.Tree.{Tree}
-use Rattle.syn_expr_summaries.specs.declared.kind.NodeKind.{NodeKind}
-use Rattle.syn_expr_summaries.specs.declared.kind.NodeKind.TheVariants as node
-use Rattle.syn_expr_summaries.specs.declared.label.LeafKind.TheVariants as leafs
-use Rattle.syn_expr_summaries.specs.Kind.{kind_at}
-use Rattle.syn_expr_summaries.specs.Label.{prefix_level, postfix_op}
-use Rattle.syn_expr_kinds.specs.Node.{attributes_at}
+use Rattle.syn_lower_spec.specs.Tree.{AttributeTree}
+use Rattle.syn_expr_spec.specs.declared.kinds.Level.{Level}
+use Rattle.syn_expr_spec.specs.declared.kinds.Level.TheVariants as lev
+use Rattle.syn_expr_spec.specs.Op.{level}
+use Rattle.syn_expr_spec.specs.Tree.{Tree}
+use Rattle.syn_expr_ast.specs.declared.label.NodeKind.{NodeKind}
+use Rattle.syn_expr_ast.specs.declared.label.NodeKind.TheVariants as node
+use Rattle.syn_expr_ast.specs.declared.label.LeafKind.TheVariants as leafs
+use Rattle.syn_expr_ast.specs.Label.{kind_at, prefix_level, postfix_op}
+use Rattle.syn_expr_ast.specs.Node.{attributes_at}
 use Rattle.syn_expr.specs.declared.precedence.Precedence.{Precedence}
 use Rattle.syn_expr.specs.declared.precedence.Precedence.TheVariants as prec
 

@@ -1,4 +1,3 @@
 pub mod Levels
-pub mod Positions
-pub mod Promises
 pub mod Texts
+pub mod Promises

@@ -1,12 +1,12 @@
 -- What is promised of the tokens that are printed of a tree.
 use Rattle.std.specs.Prelude.{◌≡◌, ◌↔◌, ◌++◌, true, List, []}
 use Rattle.syn_tokens.specs.Tok.{Tok}
-use Rattle.syn_grammar.specs.Place.{plain}
-use Rattle.syn_grammar.specs.Printed.{Position, in_plain, place_of, allows, is_minimal, plainly_attributed, parenthesize_attributed, printed_in}
-use Rattle.syn_grammar.specs.Minimal.{OneLess, without_added}
-use Rattle.syn_grammar.specs.Stands.{Stands}
-use Rattle.syn_grammar.specs.Tree.{Tree, own, own_tokens, clear, fill, IsSameTree}
-use Rattle.syn_grammar.specs.WellFormed.{is_well_formed}
+use Rattle.syn_expr_spec.specs.Place.{plain}
+use Rattle.syn_expr_spec.specs.Printed.{Position, in_plain, place_of, allows, is_minimal, plainly_attributed, parenthesize_attributed, printed_in}
+use Rattle.syn_expr_spec.specs.Minimal.{OneLess, without_added}
+use Rattle.syn_expr_spec.specs.Stands.{Stands}
+use Rattle.syn_expr_spec.specs.Tree.{Tree, own, own_tokens, clear, fill, IsSameTree}
+use Rattle.syn_expr_spec.specs.WellFormed.{is_well_formed}
 
 -- what was put after the old tokens
 abbrev pub Puts : List Tok → List Tok → (List Tok → Type 0) → Type 0

@@ -1,26 +1,24 @@
 //! What follows of the readers and the printer together, of their contracts alone.
 
 ghost use Rattle.std.specs.Prelude.{◌≡◌, [], true, MatchResult};
-ghost use Rattle.syn_expr_all.specs.View.{tree_of};
-ghost use Rattle.syn_expr.specs.Positions.{position_of};
-ghost use Rattle.syn_grammar.specs.Place.{plain};
-ghost use Rattle.syn_grammar.specs.Printed.{allows};
-ghost use Rattle.syn_grammar.specs.Stands.{Stands};
-ghost use Rattle.syn_grammar.specs.Tree.{IsSameTree, Tree};
-ghost use Rattle.syn_grammar.specs.WellFormed.{is_well_formed};
+ghost use Rattle.syn_expr_core.specs.View.{tree_of};
+ghost use Rattle.syn_expr.specs.Texts.{position_of};
+ghost use Rattle.syn_expr_spec.specs.Place.{plain};
+ghost use Rattle.syn_expr_spec.specs.Printed.{allows};
+ghost use Rattle.syn_expr_spec.specs.Stands.{Stands};
+ghost use Rattle.syn_expr_spec.specs.Tree.{IsSameTree, Tree};
+ghost use Rattle.syn_expr_spec.specs.WellFormed.{is_well_formed};
 ghost use Rattle.syn_tokens.specs.Input.{Gives};
 
-use crate::position::Position;
-use crate::print::print_expr;
+use crate::print::{Position, print_expr};
 use std::alloc::Global;
-use syn_expr_all::expr::Expr;
-use syn_expr_all::HeldExpr;
+use syn_expr_core::HeldExpr;
+use syn_expr_core::expr::Expr;
 use syn_expr_fixup::FixupContext;
 use syn_tokens::buffer::ParseBuffer;
-use syn_tokens::copy::copy_trees;
 use syn_tokens::error::{ErrorKind, Result};
-use syn_tokens::tree::TokenStream;
-use syn_tokens::whole::parse2;
+use syn_tokens::parse::parse2;
+use syn_tokens::tree::{TokenStream, copy_trees};
 
 /// Reads the expression that is the whole list.
 fn read_whole(tokens: TokenStream) -> Result<Expr>

@@ -3,20 +3,18 @@
 ghost use Rattle.std.specs.Prelude.{◌≡◌, if◌then◌else◌, Some};
 ghost use Rattle.std.specs.Ordering.{nat_cmp};
 ghost use Rattle.syn_expr.specs.Levels.{behind, has_outer, kind_level, level_of, tree_level};
-ghost use Rattle.syn_expr_all.specs.View.{tree_of};
-ghost use Rattle.syn_expr_kinds.specs.Attrs.{attrs_of};
-ghost use Rattle.syn_grammar.specs.Op as grammar;
-ghost use Rattle.syn_grammar.specs.Place.{rank};
-ghost use Rattle.syn_op.specs.View.{bin_kind};
+ghost use Rattle.syn_expr_core.specs.View.{tree_of};
+ghost use Rattle.syn_expr_ast.specs.Attrs.{attrs_of};
+ghost use Rattle.syn_expr_spec.specs.Op as grammar;
+ghost use Rattle.syn_expr_spec.specs.Place.{rank};
+ghost use Rattle.syn_expr_tokens.specs.View.{bin_kind};
 
-use syn_expr_all::expr::Expr;
-use syn_expr_kinds::node::{Attributes, HasKind, HasNode};
-use syn_expr_summaries::kind::NodeKind;
-use syn_expr_summaries::label::LeafKind;
-use syn_grammar::kinds::Level;
+use syn_expr_ast::label::{LeafKind, NodeKind};
+use syn_expr_ast::node::{Attributes, HasKind, HasNode};
+use syn_expr_core::expr::Expr;
+use syn_expr_spec::kinds::Level;
+use syn_expr_tokens::op::{BinOp, binary_level, level};
 use syn_lower::attr::{AttrStyle, Attribute};
-use syn_op::level::{binary_level, level};
-use syn_op::op::BinOp;
 
 /// The levels of binding, loosest first.
 #[derive(Clone, Copy, Debug, PartialEq, Eq, PartialOrd)]
@@ -147,7 +145,7 @@ fn behind_attributes(level: Level, outer: bool) -> Level
 }
 
 /// Whether one of the attributes is an outer one.
-#[tactic(auto, unfolding(syn_expr_kinds::specs::Attrs::attrs_of))]
+#[tactic(auto, unfolding(syn_expr_ast::specs::Attrs::attrs_of))]
 fn has_outer(attrs: &Vec<Attribute>) -> bool
     ensures { result ≡ has_outer (attrs_of attrs.now) }
 {
@@ -160,7 +158,7 @@ fn has_outer(attrs: &Vec<Attribute>) -> bool
 }
 
 /// The level of a node after its attributes.
-#[tactic(auto, using(crate::proofs::Levels::levels), unfolding(syn_expr_kinds::specs::Attrs::attrs_of, syn_expr_kinds::specs::Attrs::outer_of))]
+#[tactic(auto, using(crate::proofs::Levels::levels), unfolding(syn_expr_ast::specs::Attrs::attrs_of, syn_expr_ast::specs::Attrs::outer_of))]
 fn level_in<E: HasNode + HasKind>(expr: &E) -> Level
     ensures { result ≡ tree_level (E.tree expr.now) }
 {

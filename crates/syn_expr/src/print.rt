@@ -1,19 +1,25 @@
-//! The printer of expressions: a tree's own tokens, with the parentheses that it needs.
+//! The printer of expressions: a tree's own tokens, with the parentheses that it needs in a position.
 
 ghost use Rattle.std.specs.Prelude.{◌≡◌, ◌++◌, ◌*◌, ◌-◌, ◌^◌, ◌≤◌, true, min, IfErr, IfOk, OnOk};
-ghost use Rattle.syn_expr_all.specs.View.{tree_of};
-ghost use Rattle.syn_expr_collect.specs.Visited.{visited};
+ghost use Rattle.syn_expr_core.specs.View.{tree_of};
+ghost use Rattle.syn_expr_fixup.specs.Visited.{visited};
 ghost use Rattle.syn_expr.specs.Promises.{Puts, StandsBack, StandsWithPairs, IsOwn, IsMinimal, PrintedAs};
-ghost use Rattle.syn_grammar.specs.Next.{enclosed};
-ghost use Rattle.syn_grammar.specs.Printed.{Position, context_of};
-ghost use Rattle.syn_grammar.specs.Rule.{printed};
-ghost use Rattle.syn_grammar.specs.Tree.{own_tokens, size};
-ghost use Rattle.syn_grammar.specs.WellFormed.{is_well_formed};
+ghost use Rattle.syn_expr_spec.specs.Next.{enclosed};
+ghost use Rattle.syn_expr_spec.specs.Printed.{Position, context_of, place_of};
+ghost use Rattle.syn_expr_spec.specs.Rule.{printed};
+ghost use Rattle.syn_expr_spec.specs.Tree.{own_tokens, size};
+ghost use Rattle.syn_expr_spec.specs.WellFormed.{is_well_formed};
 ghost use Rattle.syn_tokens.specs.Input.{IsFront};
+ghost use Rattle.syn_expr_core.specs.Refused.{MayRefuse};
+ghost use Rattle.syn_expr_ast.specs.Printed.{ReadsExactly};
+ghost use Rattle.syn_expr_fixup.specs.Fixup.{whole_at};
+ghost use Rattle.syn_expr.specs.Texts.{position_of};
+ghost use Rattle.syn_expr_spec.specs.Stands.{Stands};
 
 use std::alloc::Global;
-use syn_expr_all::expr::Expr;
+use syn_expr_core::expr::Expr;
 use syn_expr_fixup::FixupContext;
+use syn_tokens::buffer::{Parse, ParseBuffer};
 use syn_tokens::error::{ErrorKind, Result};
 use syn_tokens::tree::TokenStream;
 
@@ -37,7 +43,7 @@ pub fn print_expr(expr: &Expr, tokens: &mut TokenStream, fixup: FixupContext) ->
     // No parentheses are added needlessly, and none of them can be left out.
     ensures minimal { OnOk result ((s : Position) → fixup.context ≡ context_of s → Puts tokens.old tokens.new (IsMinimal s (tree_of expr.now))) }
 {
-    syn_expr_all::print_counted(expr, tokens, fixup.context())?;
+    syn_expr_core::print_counted(expr, tokens, fixup.context())?;
     Ok(())
 }
 
@@ -55,6 +61,47 @@ pub fn print_counted(alloc: Global, expr: &Expr, fixup: FixupContext) -> Result<
     ensures err { IfErr result (λ e. e.kind ≡ ErrorKind.OutOfMemory) }
 {
     let mut tokens = TokenStream::new(alloc);
-    let visits = syn_expr_all::print_counted(expr, &mut tokens, fixup.context())?;
+    let visits = syn_expr_core::print_counted(expr, &mut tokens, fixup.context())?;
     Ok((tokens, visits))
+}
+
+/// Where an expression is, and what may come after it there.
+#[derive(Clone, Copy, Debug, PartialEq, Eq)]
+pub enum Position {
+    /// By itself, as in delimiters: nothing is after it.
+    Plain,
+    /// A statement, with nothing or a `;` after it (Rust Reference, "Expression statements").
+    Stmt,
+    /// Before the block of an `if`, `while`, `match` or `for` (Rust Reference, "`if` expressions").
+    Cond,
+    /// The body of a match arm, with nothing or a `,` after it (Rust Reference, "`match` expressions").
+    Arm,
+}
+
+impl Position {
+    /// Where an expression in this position is printed.
+    pub fn fixup(self) -> FixupContext
+        ensures { result ≡ whole_at (context_of (position_of self)) }
+    {
+        match self {
+            Position::Plain => FixupContext::NONE,
+            Position::Stmt => FixupContext::new_stmt(),
+            Position::Cond => FixupContext::new_condition(),
+            Position::Arm => FixupContext::new_match_arm(),
+        }
+    }
+
+    /// Reads the expression that is in this position, as the reader of the position reads it: `parse`,
+    /// `parse_without_eager_brace` or `parse_with_earlier_boundary_rule`. It is refused as that reader refuses it, and the
+    /// input then stays where it was.
+    pub fn parse(self, input: &mut ParseBuffer<'_>) -> Result<Expr>
+        ensures exact { ReadsExactly tree_of (Stands (place_of (position_of self))) input.old result input.new }
+        ensures refused { IfErr result (λ e. MayRefuse e.kind) }
+    {
+        match self {
+            Position::Plain => Expr::parse(input),
+            Position::Cond => Expr::parse_without_eager_brace(input),
+            Position::Stmt | Position::Arm => Expr::parse_with_earlier_boundary_rule(input),
+        }
+    }
 }

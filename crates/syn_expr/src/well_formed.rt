@@ -1,10 +1,10 @@
 //! Whether an expression is read back.
 
 ghost use Rattle.std.specs.Prelude.{◌≡◌};
-ghost use Rattle.syn_expr_all.specs.View.{tree_of};
-ghost use Rattle.syn_grammar.specs.WellFormed as spec;
+ghost use Rattle.syn_expr_core.specs.View.{tree_of};
+ghost use Rattle.syn_expr_spec.specs.WellFormed as spec;
 
-use syn_expr_all::expr::Expr;
+use syn_expr_core::expr::Expr;
 use syn_expr_wellformed::is_well;
 
 /// Whether the tree of an expression is well-formed: a reader gives back the same tree from its own tokens, with parentheses

@@ -2,13 +2,13 @@
 
 ghost use Rattle.std.specs.Prelude.{IfOk};
 ghost use Rattle.syn_expr_attrs.specs.Behind.{Behind};
-ghost use Rattle.syn_expr_kinds.specs.Attrs.{attrs_of};
-ghost use Rattle.syn_expr_kinds.specs.View.{expr_block_of, expr_const_of, expr_loop_of, expr_unsafe_of, expr_while_of};
-ghost use Rattle.syn_grammar.specs.Tree.{Tree};
+ghost use Rattle.syn_expr_ast.specs.Attrs.{attrs_of};
+ghost use Rattle.syn_expr_ast.specs.View.{expr_block_of, expr_const_of, expr_loop_of, expr_unsafe_of, expr_while_of};
+ghost use Rattle.syn_expr_spec.specs.Tree.{Tree};
 
 use std::alloc::AllocError;
-use syn_expr_kinds::block::{ExprBlock, ExprConst, ExprLoop, ExprUnsafe, ExprWhileOf};
-use syn_expr_kinds::joined::joined;
+use syn_expr_ast::attrs::joined;
+use syn_expr_ast::block::{ExprBlock, ExprConst, ExprLoop, ExprUnsafe, ExprWhileOf};
 use syn_lower::attr::Attribute;
 
 /// It after more attributes.

@@ -2,24 +2,24 @@
 
 ghost use Rattle.std.specs.Prelude.{IfOk};
 ghost use Rattle.syn_expr_attrs.specs.Behind.{Behind};
-ghost use Rattle.syn_expr_kinds.specs.Attrs.{attrs_of};
-ghost use Rattle.syn_expr_kinds.specs.View.{expr_array_of, expr_group_of, expr_infer_of, expr_lit_of, expr_macro_of, expr_paren_of, expr_path_of, expr_repeat_of, expr_tuple_of, expr_async_of, expr_if_of, expr_try_block_of, expr_break_of, expr_continue_of, expr_return_of, expr_yield_of, expr_assign_of, expr_binary_of, expr_cast_of, expr_range_of, expr_raw_addr_of, expr_reference_of, expr_unary_of, expr_struct_of, expr_await_of, expr_call_of, expr_field_of, expr_index_of, expr_method_call_of, expr_try_of};
-ghost use Rattle.syn_grammar.specs.Tree.{Tree};
+ghost use Rattle.syn_expr_ast.specs.Attrs.{attrs_of};
+ghost use Rattle.syn_expr_ast.specs.View.{expr_array_of, expr_group_of, expr_infer_of, expr_lit_of, expr_macro_of, expr_paren_of, expr_path_of, expr_repeat_of, expr_tuple_of, expr_async_of, expr_if_of, expr_try_block_of, expr_break_of, expr_continue_of, expr_return_of, expr_yield_of, expr_assign_of, expr_binary_of, expr_cast_of, expr_range_of, expr_raw_addr_of, expr_reference_of, expr_unary_of, expr_struct_of, expr_await_of, expr_call_of, expr_field_of, expr_index_of, expr_method_call_of, expr_try_of};
+ghost use Rattle.syn_expr_spec.specs.Tree.{Tree};
 
 use std::alloc::AllocError;
-use syn_expr_kinds::atom::{
+use syn_expr_ast::atom::{
     ExprArrayOf, ExprGroupOf, ExprInfer, ExprLit, ExprMacro, ExprParenOf, ExprPath, ExprRepeatOf,
     ExprTupleOf,
 };
-use syn_expr_kinds::block::{ExprAsync, ExprIfOf, ExprTryBlock};
-use syn_expr_kinds::joined::joined;
-use syn_expr_kinds::jump::{ExprBreakOf, ExprContinue, ExprReturnOf, ExprYieldOf};
-use syn_expr_kinds::operation::{
+use syn_expr_ast::attrs::joined;
+use syn_expr_ast::block::{ExprAsync, ExprIfOf, ExprTryBlock};
+use syn_expr_ast::jump::{ExprBreakOf, ExprContinue, ExprReturnOf, ExprYieldOf};
+use syn_expr_ast::operation::{
     ExprAssignOf, ExprBinaryOf, ExprCastOf, ExprRangeOf, ExprRawAddrOf, ExprReferenceOf,
     ExprUnaryOf,
 };
-use syn_expr_kinds::structure::ExprStructOf;
-use syn_expr_kinds::trailer::{
+use syn_expr_ast::structure::ExprStructOf;
+use syn_expr_ast::trailer::{
     ExprAwaitOf, ExprCallOf, ExprFieldOf, ExprIndexOf, ExprMethodCallOf, ExprTryOf,
 };
 use syn_lower::attr::Attribute;

@@ -1,18 +1,18 @@
 -- What a query about the first tokens answers of a node, by its kind and by its parts.
 use Rattle.std.proofs.Common.{◌≡◌, Bool, true, false, ◌&&◌, List, ◌∷◌, Some, None, refl, sym, ap, ◌∙◌}
 use Rattle.syn_tokens.specs.Tok.{Tok}
-use Rattle.syn_parts.specs.Tree.{AttributeTree}
-use Rattle.syn_grammar.specs.Query.{tree_leads, verbatim_leads}
-use Rattle.syn_grammar.specs.Tree as e
-use Rattle.syn_grammar.specs.Tree.{Tree, leaf, paren, attributed, outers, prefixed, infixed, postfixed, tail, frame}
-use Rattle.syn_expr_summaries.specs.Kind.{kind_at}
-use Rattle.syn_parts.specs.Form.{is_nil}
-use Rattle.syn_expr_kinds.specs.Node.{attributes_at, operands_at, first_of}
+use Rattle.syn_lower_spec.specs.Tree.{AttributeTree}
+use Rattle.syn_expr_spec.specs.Query.{tree_leads, verbatim_leads}
+use Rattle.syn_expr_spec.specs.Tree as e
+use Rattle.syn_expr_spec.specs.Tree.{Tree, leaf, paren, attributed, outers, prefixed, infixed, postfixed, tail, frame}
+use Rattle.syn_expr_ast.specs.Label.{kind_at}
+use Rattle.syn_lower_spec.specs.Form.{is_nil}
+use Rattle.syn_expr_ast.specs.Node.{attributes_at, operands_at, first_of}
 use Rattle.syn_expr_classify.specs.Frames.{bare_holds, frames_hold}
 use Rattle.syn_expr_classify.specs.Node.{is_labelled, word_behind, asked, verbatim_at, is_braced_call}
-use Rattle.syn_expr_kinds.proofs.Borrowed.{first-based}
+use Rattle.syn_expr_ast.proofs.Borrowed.{first-based}
 use Rattle.syn_expr_classify.proofs.Rights.{bare_framed}
-use Rattle.syn_grammar.specs.Binding.{is_braced_macro}
+use Rattle.syn_expr_spec.specs.Binding.{is_braced_macro}
 
 -- after outer attributes none is first
 pub leads-attributed : (w : Bool) (t : Tree) → is_nil (outers (attributes_at t)) ≡ false → false ≡ tree_leads w t

@@ -3,10 +3,10 @@ use Rattle.std.proofs.Common.{◌≡◌, ◌≤◌, ◌<◌, ℕ, Bool, true, fa
 use Rattle.std.proofs.lemmas.Bool.Decides.{nat_tests}
 use Rattle.std.proofs.lemmas.List.{map-append}
 use Rattle.std.proofs.Math.Bool.{and-false}
-use Rattle.syn_parts.specs.Own.{count_segments}
-use Rattle.syn_parts.specs.Tree as t
-use Rattle.syn_parts.specs.Tree.{TypeTree, SegmentTree, BoundTree}
-use Rattle.syn_grammar.specs.Query.{segments_unparameterized, arguments_unparameterized, bounds_unparameterized, bound_unparameterized, segments_brace, arguments_brace, bounds_brace, bound_brace, type_brace}
+use Rattle.syn_lower_spec.specs.Own.{count_segments}
+use Rattle.syn_lower_spec.specs.Tree as t
+use Rattle.syn_lower_spec.specs.Tree.{TypeTree, SegmentTree, BoundTree}
+use Rattle.syn_expr_spec.specs.Query.{segments_unparameterized, arguments_unparameterized, bounds_unparameterized, bound_unparameterized, segments_brace, arguments_brace, bounds_brace, bound_brace, type_brace}
 
 -- a name without arguments
 

@@ -1,12 +1,12 @@
 -- What is last in a node, by its parts.
 use Rattle.std.proofs.Common.{◌≡◌, Bool, true, false, ◌&&◌, List, ◌∷◌, Some, None, refl, sym, ap, subst}
-use Rattle.syn_parts.specs.Tree.{AttributeTree}
-use Rattle.syn_expr_summaries.specs.Kind.{kind_at}
-use Rattle.syn_grammar.specs.Query.{leaf_brace, prefix_brace, postfix_brace, return_brace, tree_brace, children_brace}
-use Rattle.syn_grammar.specs.Tree as e
-use Rattle.syn_grammar.specs.Tree.{Tree, Children, Body, Piece, Ending, Leaf, Prefix, Postfix, Frame, leaf, paren, attributed, outers, prefixed, infixed, postfixed, tail, frame, none, child}
-use Rattle.syn_parts.specs.Form.{is_nil}
-use Rattle.syn_expr_kinds.specs.Node.{framed, attributes_at, without_strays, operands_at, leaf_at, prefix_at, postfix_at, frame_at, last_of}
+use Rattle.syn_lower_spec.specs.Tree.{AttributeTree}
+use Rattle.syn_expr_ast.specs.Label.{kind_at}
+use Rattle.syn_expr_spec.specs.Query.{leaf_brace, prefix_brace, postfix_brace, return_brace, tree_brace, children_brace}
+use Rattle.syn_expr_spec.specs.Tree as e
+use Rattle.syn_expr_spec.specs.Tree.{Tree, Children, Body, Piece, Ending, Leaf, Prefix, Postfix, Frame, leaf, paren, attributed, outers, prefixed, infixed, postfixed, tail, frame, none, child}
+use Rattle.syn_lower_spec.specs.Form.{is_nil}
+use Rattle.syn_expr_ast.specs.Node.{framed, attributes_at, without_strays, operands_at, leaf_at, prefix_at, postfix_at, frame_at, last_of}
 use Rattle.syn_expr_classify.specs.Frames.{is_body, is_loop, is_if, is_match, frame_holds, bare_holds, frames_hold}
 use Rattle.syn_expr_classify.specs.Node.{is_infixed, asked}
 use Rattle.syn_expr_classify.specs.Right.{frame_right, NodeTells}

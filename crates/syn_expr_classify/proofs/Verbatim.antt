@@ -1,11 +1,11 @@
 -- The last of verbatim tokens.
 use Rattle.std.proofs.Common.{◌≡◌, ◌-◌, ◌≤◌, suc, Bool, false, List, [], ◌∷◌, ◌++◌, length, take, get_or, refl, ap, ◌∙◌, arith}
 use Rattle.std.proofs.Math.Seq.{take-suc, take-length}
-use Rattle.syn_lexer.specs.declared.lexeme.Spacing.TheVariants as spacing
+use Rattle.syn_lexer.specs.declared.front.Spacing.TheVariants as spacing
 use Rattle.syn_tokens.specs.Tok.{Tok, ident, punct, literal, group}
 use Rattle.syn_tokens.specs.View.{tok_of, toks_of, toks_of-append}
 use Rattle.syn_tokens.specs.declared.tree.TokenTree.{TokenTree}
-use Rattle.syn_grammar.specs.Query.{is_braces, last_braces, is_sole_quote}
+use Rattle.syn_expr_spec.specs.Query.{is_braces, last_braces, is_sole_quote}
 
 last_append : (b : Bool) (ts : List Tok) (t : Tok) → last_braces b (ts ++ t ∷ []) ≡ is_braces t
 last_append b [] t = refl

@@ -4,33 +4,33 @@ use Rattle.std.proofs.Common.{◌≡◌, true, List, [], ◌∷◌, Option, Some
 use Rattle.std.specs.Prelude.{map}
 use Rattle.std.specs.declared.boxed.Box.{Box}
 use Rattle.std.specs.declared.alloc.Global.{Global}
-use Rattle.syn_parts.specs.Tree.{AttributeTree, ReturnTree, default, given}
-use Rattle.syn_grammar.specs.declared.kinds.Limits.{Limits}
-use Rattle.syn_grammar.specs.Tree as e
-use Rattle.syn_grammar.specs.Tree.{Tree, Body, Jump, ClosureHead, prefixed, frame, none, child, attributed_with}
+use Rattle.syn_lower_spec.specs.Tree.{AttributeTree, ReturnTree, default, given}
+use Rattle.syn_expr_spec.specs.declared.kinds.Limits.{Limits}
+use Rattle.syn_expr_spec.specs.Tree as e
+use Rattle.syn_expr_spec.specs.Tree.{Tree, Body, Jump, ClosureHead, prefixed, frame, none, child, attributed_with}
 use Rattle.syn_lower.specs.View.{mapped, return_of, values}
-use Rattle.syn_expr_parts.specs.View.{label_of}
-use Rattle.syn_pat_kinds.specs.View.{PatView}
-use Rattle.syn_expr_kinds.specs.Attrs.{attrs_of, outer_of, inner_of}
-use Rattle.syn_expr_kinds.specs.Both.{closure_head_of, expr_closure_of, expr_for_loop_of, expr_let_of, expr_match_of}
-use Rattle.syn_expr_kinds.specs.Pats.{ArmView, strays, guards, closure_by, arms}
-use Rattle.syn_expr_kinds.specs.declared.pattern.ExprClosureOf.{ExprClosureOf}
-use Rattle.syn_expr_kinds.specs.declared.pattern.ExprForLoopOf.{ExprForLoopOf}
-use Rattle.syn_expr_kinds.specs.declared.pattern.ExprLetOf.{ExprLetOf}
-use Rattle.syn_expr_kinds.specs.declared.pattern.ExprMatchOf.{ExprMatchOf}
-use Rattle.syn_expr_kinds.specs.View.{body_of, else_of, range_between, jump_with}
+use Rattle.syn_expr_tokens.specs.View.{label_of}
+use Rattle.syn_pat.specs.View.{PatView}
+use Rattle.syn_expr_ast.specs.Attrs.{attrs_of, outer_of, inner_of}
+use Rattle.syn_expr_ast.specs.Both.{closure_head_of, expr_closure_of, expr_for_loop_of, expr_let_of, expr_match_of}
+use Rattle.syn_expr_ast.specs.Pats.{ArmView, strays, guards, closure_by, arms}
+use Rattle.syn_expr_ast.specs.declared.pattern.ExprClosureOf.{ExprClosureOf}
+use Rattle.syn_expr_ast.specs.declared.pattern.ExprForLoopOf.{ExprForLoopOf}
+use Rattle.syn_expr_ast.specs.declared.pattern.ExprLetOf.{ExprLetOf}
+use Rattle.syn_expr_ast.specs.declared.pattern.ExprMatchOf.{ExprMatchOf}
+use Rattle.syn_expr_ast.specs.View.{body_of, else_of, range_between, jump_with}
 use Rattle.syn_expr_classify.specs.Frames.{is_body, is_loop, bare_holds, frames_hold}
-use Rattle.syn_expr_all.specs.declared.expr.Expr.{Expr, out-Expr}
-use Rattle.syn_expr_all.specs.declared.expr.Expr.TheOpen.{Expr-F}
-use Rattle.syn_expr_all.specs.declared.pat.Pat.{Pat}
-use Rattle.syn_expr_all.specs.declared.pat.PatGuard.{PatGuard}
-use Rattle.syn_expr_all.specs.declared.closure.ExprClosure.{ExprClosure, out-ExprClosure}
-use Rattle.syn_expr_all.specs.declared.control.Arm.{Arm}
-use Rattle.syn_expr_all.specs.declared.control.ExprForLoop.{ExprForLoop, out-ExprForLoop}
-use Rattle.syn_expr_all.specs.declared.control.ExprLet.{ExprLet, out-ExprLet}
-use Rattle.syn_expr_all.specs.declared.control.ExprMatch.{ExprMatch, out-ExprMatch}
-use Rattle.syn_expr_all.specs.View.{closure_parts, for_loop_parts, let_parts, match_parts, tree_layer, tree_of, pat_of, closure_of, arm_of, for_loop_of, let_of, match_of, views}
-use Rattle.syn_expr_all.proofs.TreeOf.{tree_out, closure-is, for_loop-is, let_expr-is, match_expr-is}
+use Rattle.syn_expr_core.specs.declared.expr.Expr.{Expr, out-Expr}
+use Rattle.syn_expr_core.specs.declared.expr.Expr.TheOpen.{Expr-F}
+use Rattle.syn_expr_core.specs.declared.pat.Pat.{Pat}
+use Rattle.syn_expr_core.specs.declared.pat.PatGuard.{PatGuard}
+use Rattle.syn_expr_core.specs.declared.closure.ExprClosure.{ExprClosure, out-ExprClosure}
+use Rattle.syn_expr_core.specs.declared.control.Arm.{Arm}
+use Rattle.syn_expr_core.specs.declared.control.ExprForLoop.{ExprForLoop, out-ExprForLoop}
+use Rattle.syn_expr_core.specs.declared.control.ExprLet.{ExprLet, out-ExprLet}
+use Rattle.syn_expr_core.specs.declared.control.ExprMatch.{ExprMatch, out-ExprMatch}
+use Rattle.syn_expr_core.specs.View.{closure_parts, for_loop_parts, let_parts, match_parts, tree_layer, tree_of, pat_of, closure_of, arm_of, for_loop_of, let_of, match_of, views}
+use Rattle.syn_expr_core.proofs.TreeOf.{tree_out, closure-is, for_loop-is, let_expr-is, match_expr-is}
 
 record IsFramed (t : Tree) : Type 0 where
   holds : frames_hold t ≡ true

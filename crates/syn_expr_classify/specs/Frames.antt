@@ -1,8 +1,8 @@
 -- What is known of the operands that are in places of their own: those whose node ends with braces, and the body of a
 -- closure with an output. All attributes of a node are in one list.
 use Rattle.std.specs.Prelude.{Bool, true, false}
-use Rattle.syn_grammar.specs.Tree as e
-use Rattle.syn_grammar.specs.Tree.{Tree, Children, Frame, none, child}
+use Rattle.syn_expr_spec.specs.Tree as e
+use Rattle.syn_expr_spec.specs.Tree.{Tree, Children, Frame, none, child}
 
 -- after guards in patterns, where none may stand
 

@@ -1,14 +1,14 @@
 -- What the parts of a node say of it.
 use Rattle.std.specs.Prelude.{Bool, true, false, List, Option, Some, None}
 use Rattle.syn_tokens.specs.Tok.{Tok}
-use Rattle.syn_grammar.specs.Head.{from_verbatim}
-use Rattle.syn_grammar.specs.Query.{is_cast_op}
-use Rattle.syn_grammar.specs.Tree.{Tree, Leaf}
-use Rattle.syn_expr_summaries.specs.Label.{leaf_labelled, frame_labelled, is_cast_postfix}
-use Rattle.syn_expr_summaries.specs.declared.kind.NodeKind.{NodeKind}
-use Rattle.syn_expr_summaries.specs.declared.kind.NodeKind.TheVariants as node
-use Rattle.syn_expr_summaries.specs.declared.label.LeafKind.TheVariants as leafs
-use Rattle.syn_expr_kinds.specs.Node.{leaf_at}
+use Rattle.syn_expr_spec.specs.Head.{from_verbatim}
+use Rattle.syn_expr_spec.specs.Query.{is_cast_op}
+use Rattle.syn_expr_spec.specs.Tree.{Tree, Leaf}
+use Rattle.syn_expr_ast.specs.Label.{leaf_labelled, frame_labelled, is_cast_postfix}
+use Rattle.syn_expr_ast.specs.declared.label.NodeKind.{NodeKind}
+use Rattle.syn_expr_ast.specs.declared.label.NodeKind.TheVariants as node
+use Rattle.syn_expr_ast.specs.declared.label.LeafKind.TheVariants as leafs
+use Rattle.syn_expr_ast.specs.Node.{leaf_at}
 
 -- ---- kinds
 

@@ -1,13 +1,13 @@
 -- What is last in a node: an operand, or whether braces are.
 use Rattle.std.specs.Prelude.{◌≡◌, Bool, true, false, ℕ, ◌<◌}
-use Rattle.syn_grammar.specs.Query.{return_brace, tree_brace}
-use Rattle.syn_grammar.specs.Tree as e
-use Rattle.syn_grammar.specs.Tree.{Tree, Frame}
-use Rattle.syn_expr_kinds.specs.Node.{operands_at, last_of}
+use Rattle.syn_expr_spec.specs.Query.{return_brace, tree_brace}
+use Rattle.syn_expr_spec.specs.Tree as e
+use Rattle.syn_expr_spec.specs.Tree.{Tree, Frame}
+use Rattle.syn_expr_ast.specs.Node.{operands_at, last_of}
 use Rattle.syn_expr_classify.specs.Node.{asked}
 use Rattle.syn_expr_classify.specs.declared.classify.Right.{Right}
 use Rattle.syn_expr_classify.specs.declared.classify.Right.TheVariants as right
-use Rattle.syn_parts.specs.Tree.{TypeTree}
+use Rattle.syn_lower_spec.specs.Tree.{TypeTree}
 use Rattle.syn_lower.specs.Ends.{depth}
 use Rattle.syn_lower.specs.View.{type_of}
 use Rattle.syn_expr_classify.specs.declared.classify.End.{End}

@@ -3,12 +3,12 @@
 
 ghost use Rattle.std.specs.Prelude.{◌≡◌, ◌&&◌, false, map};
 ghost use Rattle.syn_expr_classify.specs.Right.{Tells};
-ghost use Rattle.syn_grammar.specs.Query as query;
-ghost use Rattle.syn_grammar.specs.Rule.{is_brace_delimiter};
+ghost use Rattle.syn_expr_spec.specs.Query as query;
+ghost use Rattle.syn_expr_spec.specs.Rule.{is_brace_delimiter};
 ghost use Rattle.syn_lower.specs.Ends.{depth, segments_depth, arguments_depth, bounds_depth};
-ghost use Rattle.syn_lower_generic.specs.View.{delimiter_of};
+ghost use Rattle.syn_lower_types.specs.View.{delimiter_of};
 ghost use Rattle.syn_lower.specs.View.{type_of, values, trails, segment_of, path_of, qself_or, return_of, bound_of};
-ghost use Rattle.syn_parts.specs.Tree as t;
+ghost use Rattle.syn_lower_spec.specs.Tree as t;
 ghost use Rattle.syn_tokens.specs.View.{toks_of};
 
 use crate::classify::{End, output_end};

@@ -2,31 +2,29 @@
 //! in an expression, and whether it ends with a group in braces.
 
 ghost use Rattle.std.specs.Prelude.{◌≡◌, false, ◌&&◌, true};
-ghost use Rattle.syn_grammar.specs.Binding as spec;
-ghost use Rattle.syn_grammar.specs.Query as query;
+ghost use Rattle.syn_expr_spec.specs.Binding as spec;
+ghost use Rattle.syn_expr_spec.specs.Query as query;
 ghost use Rattle.syn_lower.specs.View.{type_of, return_of};
 ghost use Rattle.syn_expr_classify.specs.Right.{Tells, NodeTells, frame_right};
 ghost use Rattle.syn_lower.specs.Ends.{return_depth};
 ghost use Rattle.syn_expr_classify.specs.Framed as framed;
-ghost use Rattle.syn_expr_kinds.specs.Node.{leaf_of, before_of, prefix_of, postfix_of, frame_of};
+ghost use Rattle.syn_expr_ast.specs.Node.{leaf_of, before_of, prefix_of, postfix_of, frame_of};
 ghost use Rattle.syn_expr_classify.specs.Node.{verbatim_at, is_labelled, word_behind, is_infixed};
-ghost use Rattle.syn_grammar.specs.Head.{from_verbatim};
+ghost use Rattle.syn_expr_spec.specs.Head.{from_verbatim};
 ghost use Rattle.syn_lower_leaves.specs.View.{mapped};
-ghost use Rattle.syn_grammar.specs.Tree.{outers};
-ghost use Rattle.syn_parts.specs.Form.{is_nil};
-ghost use Rattle.syn_pat_kinds.specs.View.{PatView};
+ghost use Rattle.syn_expr_spec.specs.Tree.{outers};
+ghost use Rattle.syn_lower_spec.specs.Form.{is_nil};
+ghost use Rattle.syn_pat.specs.View.{PatView};
 ghost use Rattle.syn_expr_classify.specs.Frames.{frames_hold};
 
 use crate::brace::{
     begins_with_lifetime, ends_with_braces, is_brace, output_brace, path_brace, type_brace,
 };
 use crate::name::ends_in_name;
-use syn_expr_all::expr::Expr;
-use syn_expr_kinds::like::is_block_like;
-use syn_expr_kinds::node::{Attributes, Closure, Frame, HasKind, HasShape, Leaf, Postfix, Prefix};
-use syn_expr_summaries::kind::NodeKind;
-use syn_expr_summaries::label::LeafKind;
-use syn_grammar::kinds::Infix;
+use syn_expr_ast::label::{LeafKind, NodeKind, is_block_like};
+use syn_expr_ast::node::{Attributes, Closure, Frame, HasKind, HasShape, Leaf, Postfix, Prefix};
+use syn_expr_core::expr::Expr;
+use syn_expr_spec::kinds::Infix;
 use syn_lower::ty::{ReturnType, Type};
 use syn_tokens::tree::TokenStream;
 
@@ -158,7 +156,7 @@ fn verbatim_tokens<E: HasShape>(expr: &E) -> Option<&TokenStream>
 }
 
 /// Whether a label is first in an expression; `word`: whether a word comes after it.
-#[tactic(auto, using(crate::proofs::Labels::labels, syn_expr_kinds::proofs::Sizes::smaller))]
+#[tactic(auto, using(crate::proofs::Labels::labels, syn_expr_ast::proofs::Sizes::smaller))]
 pub(crate) fn begins_with_label<E: HasFrames>(expr: &E, word: bool) -> bool
     ensures { result ≡ query.tree_leads word (E.tree expr.now) }
 {
@@ -295,7 +293,7 @@ fn node_right<E: HasFrames>(expr: &E, before: bool) -> Right
 }
 
 /// Whether an expression ends with braces; `before`: whether braces come before it.
-#[tactic(auto, using(syn_expr_kinds::proofs::Sizes::smaller))]
+#[tactic(auto, using(syn_expr_ast::proofs::Sizes::smaller))]
 pub(crate) fn node_brace<E: HasFrames>(expr: &E, before: bool) -> bool
     ensures { result ≡ query.tree_brace before (E.tree expr.now) }
 {

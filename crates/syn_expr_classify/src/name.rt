@@ -2,11 +2,11 @@
 
 ghost use Rattle.std.specs.Prelude.{◌≡◌, map};
 ghost use Rattle.syn_expr_classify.specs.Right.{Tells};
-ghost use Rattle.syn_grammar.specs.Query as query;
-ghost use Rattle.syn_grammar.specs.Query.{trailing_unparameterized_path};
+ghost use Rattle.syn_expr_spec.specs.Query as query;
+ghost use Rattle.syn_expr_spec.specs.Query.{trailing_unparameterized_path};
 ghost use Rattle.syn_lower.specs.Ends.{depth, segments_depth, arguments_depth, bounds_depth};
 ghost use Rattle.syn_lower.specs.View.{type_of, values, segment_of, path_of, bound_of};
-ghost use Rattle.syn_parts.specs.Tree as t;
+ghost use Rattle.syn_lower_spec.specs.Tree as t;
 
 use crate::classify::{End, output_end};
 use syn_lower::path::{Path, PathArguments, PathSegment};

@@ -2,20 +2,20 @@
 use Rattle.std.proofs.Common.{◌≡◌, Bool, true, false, not, ◌||◌, ◌&&◌, refl, sym, ap, ◌∙◌, subst}
 use Rattle.std.specs.Prelude.{Option, Some, None}
 use Rattle.std.proofs.Math.Bool.{and-false}
-use Rattle.syn_grammar.specs.declared.kinds.BinKind.TheVariants as bin
-use Rattle.syn_grammar.specs.declared.kinds.Infix.{Infix}
-use Rattle.syn_grammar.specs.declared.kinds.Infix.TheVariants as inf
-use Rattle.syn_grammar.specs.declared.kinds.Level.{Level}
-use Rattle.syn_grammar.specs.declared.next.Context.{Context}
-use Rattle.syn_grammar.specs.declared.next.Next.{Next}
-use Rattle.syn_grammar.specs.declared.next.Next.TheVariants as next
-use Rattle.syn_grammar.specs.Op.{level, is_comparison}
-use Rattle.syn_grammar.specs.Next.{class_of, next_of, begins_next, is_block_next, is_brace_next, left_context, base_context}
-use Rattle.syn_grammar.specs.Summaries.{summary_of, has, misplaced_by, wrapped_by, left_wrapped_by, base_wrapped_by}
-use Rattle.syn_grammar.specs.Rule.{is_less_next, is_operation, bad, low, refuses, place_wrapped, left_wrapped, base_wrapped}
-use Rattle.syn_grammar.specs.Tree as e
-use Rattle.syn_grammar.specs.Tree.{Tree, Children, Prefix, Trailer, leaf, paren, attributed, prefixed, infixed, postfixed, tail, frame}
-use Rattle.syn_grammar.proofs.SummaryLemmas.{summarized, wrapped_same, left_same, base_same}
+use Rattle.syn_expr_spec.specs.declared.kinds.BinKind.TheVariants as bin
+use Rattle.syn_expr_spec.specs.declared.kinds.Infix.{Infix}
+use Rattle.syn_expr_spec.specs.declared.kinds.Infix.TheVariants as inf
+use Rattle.syn_expr_spec.specs.declared.kinds.Level.{Level}
+use Rattle.syn_expr_spec.specs.declared.next.Context.{Context}
+use Rattle.syn_expr_spec.specs.declared.next.Next.{Next}
+use Rattle.syn_expr_spec.specs.declared.next.Next.TheVariants as next
+use Rattle.syn_expr_spec.specs.Op.{level, is_comparison}
+use Rattle.syn_expr_spec.specs.Next.{class_of, next_of, begins_next, is_block_next, is_brace_next, left_context, base_context}
+use Rattle.syn_expr_spec.specs.Summaries.{summary_of, has, misplaced_by, wrapped_by, left_wrapped_by, base_wrapped_by}
+use Rattle.syn_expr_spec.specs.Rule.{is_less_next, is_operation, bad, low, refuses, place_wrapped, left_wrapped, base_wrapped}
+use Rattle.syn_expr_spec.specs.Tree as e
+use Rattle.syn_expr_spec.specs.Tree.{Tree, Children, Prefix, Trailer, leaf, paren, attributed, prefixed, infixed, postfixed, tail, frame}
+use Rattle.syn_expr_spec.proofs.SummaryLemmas.{summarized, wrapped_same, left_same, base_same}
 use Rattle.syn_expr_fixup.specs.Fixup.{Fits, parenthesized}
 use Rattle.syn_expr_fixup.specs.Operator.{operator_at}
 

@@ -1,1 +1,5 @@
+pub mod Sets
+pub mod Nodes
+pub mod Lists
+pub mod Spines
 pub mod Classes

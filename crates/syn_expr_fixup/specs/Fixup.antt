@@ -1,15 +1,15 @@
 -- Where an expression is printed, and what a printer asks there of an operand.
 use Rattle.std.specs.Prelude.{◌≡◌, Bool, true, false, ◌||◌, ◌&&◌, if◌then◌else◌}
-use Rattle.syn_grammar.specs.declared.kinds.Infix.{Infix}
-use Rattle.syn_grammar.specs.declared.kinds.Infix.TheVariants as inf
-use Rattle.syn_grammar.specs.declared.kinds.Level.{Level}
-use Rattle.syn_grammar.specs.declared.kinds.Level.TheVariants as lev
-use Rattle.syn_grammar.specs.declared.next.Context.{Context}
-use Rattle.syn_grammar.specs.Op.{level}
-use Rattle.syn_grammar.specs.Next.{class_of, begins_next, is_block_next, is_brace_next, is_half_open, is_break}
-use Rattle.syn_grammar.specs.Rule.{is_less_next, misplaced, refuses}
-use Rattle.syn_grammar.specs.Tree as e
-use Rattle.syn_grammar.specs.Tree.{Tree, Prefix}
+use Rattle.syn_expr_spec.specs.declared.kinds.Infix.{Infix}
+use Rattle.syn_expr_spec.specs.declared.kinds.Infix.TheVariants as inf
+use Rattle.syn_expr_spec.specs.declared.kinds.Level.{Level}
+use Rattle.syn_expr_spec.specs.declared.kinds.Level.TheVariants as lev
+use Rattle.syn_expr_spec.specs.declared.next.Context.{Context}
+use Rattle.syn_expr_spec.specs.Op.{level}
+use Rattle.syn_expr_spec.specs.Next.{class_of, begins_next, is_block_next, is_brace_next, is_half_open, is_break}
+use Rattle.syn_expr_spec.specs.Rule.{is_less_next, misplaced, refuses}
+use Rattle.syn_expr_spec.specs.Tree as e
+use Rattle.syn_expr_spec.specs.Tree.{Tree, Prefix}
 
 -- what is round the place and after it, and how tightly an operand has to bind there
 pub record Fixup : Type 0 where

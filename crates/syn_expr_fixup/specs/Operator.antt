@@ -1,11 +1,11 @@
 -- An operator of a level, by what its first token begins.
 use Rattle.std.specs.Prelude.{Bool, if◌then◌else◌, Option, Some, None}
-use Rattle.syn_grammar.specs.declared.kinds.BinKind.TheVariants as bin
-use Rattle.syn_grammar.specs.declared.kinds.Infix.{Infix}
-use Rattle.syn_grammar.specs.declared.kinds.Infix.TheVariants as inf
-use Rattle.syn_grammar.specs.declared.kinds.Level.{Level}
-use Rattle.syn_grammar.specs.declared.kinds.Level.TheVariants as lev
-use Rattle.syn_grammar.specs.declared.kinds.Limits.TheVariants as limits
+use Rattle.syn_expr_spec.specs.declared.kinds.BinKind.TheVariants as bin
+use Rattle.syn_expr_spec.specs.declared.kinds.Infix.{Infix}
+use Rattle.syn_expr_spec.specs.declared.kinds.Infix.TheVariants as inf
+use Rattle.syn_expr_spec.specs.declared.kinds.Level.{Level}
+use Rattle.syn_expr_spec.specs.declared.kinds.Level.TheVariants as lev
+use Rattle.syn_expr_spec.specs.declared.kinds.Limits.TheVariants as limits
 
 -- `b`: an expression; `g`: generic arguments
 abbrev pub operator_at : Level → Bool → Bool → Option Infix

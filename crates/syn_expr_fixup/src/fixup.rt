@@ -1,27 +1,27 @@
 //! Where an expression is printed: what decides about its parentheses, but the expression itself.
 
 ghost use Rattle.std.specs.Prelude.{◌≡◌, false, if◌then◌else◌};
-ghost use Rattle.syn_grammar.specs.Next as spec;
-ghost use Rattle.syn_grammar.specs.Next.{base_context, class_of, is_half_open, prefix_context, left_context, right_context};
-ghost use Rattle.syn_grammar.specs.Rule.{bad, base_wrapped, left_wrapped, low, place_wrapped};
-ghost use Rattle.syn_grammar.specs.Tree as e;
-ghost use Rattle.syn_grammar.specs.Tree.{Prefix, Trailer};
-ghost use Rattle.syn_grammar.specs.declared.kinds.Infix.{Infix};
-ghost use Rattle.syn_grammar.specs.declared.kinds.Level.TheVariants as lev;
-ghost use Rattle.syn_grammar.specs.declared.next.Next.TheVariants as next;
+ghost use Rattle.syn_expr_spec.specs.Next as spec;
+ghost use Rattle.syn_expr_spec.specs.Next.{base_context, class_of, is_half_open, prefix_context, left_context, right_context};
+ghost use Rattle.syn_expr_spec.specs.Rule.{bad, base_wrapped, left_wrapped, low, place_wrapped};
+ghost use Rattle.syn_expr_spec.specs.Tree as e;
+ghost use Rattle.syn_expr_spec.specs.Tree.{Prefix, Trailer};
+ghost use Rattle.syn_expr_spec.specs.declared.kinds.Infix.{Infix};
+ghost use Rattle.syn_expr_spec.specs.declared.kinds.Level.TheVariants as lev;
+ghost use Rattle.syn_expr_spec.specs.declared.next.Next.TheVariants as next;
 ghost use Rattle.syn_expr_fixup.specs.Fixup.{Fits, is_jump, is_optional, level_if, parenthesized, whole_at};
 ghost use Rattle.syn_expr_fixup.specs.Operator.{operator_at};
 
+use crate::context::{
+    base_context, base_wrapped_by, has, in_arm, in_condition, in_statement, is_block_next,
+    is_brace_next, left_context, left_wrapped_by, misplaced_by, without_block, wrapped_by,
+};
+use crate::summary_of;
 use std::marker::Model;
-use syn_expr_collect::summary_of;
-use syn_expr_kinds::node::{HasKind, HasNode};
-use syn_expr_summaries::class::{is_block_next, is_brace_next, without_block};
-use syn_expr_summaries::context::{base_context, in_arm, in_condition, in_statement, left_context};
-use syn_expr_summaries::decide::{base_wrapped_by, left_wrapped_by, misplaced_by, wrapped_by};
-use syn_expr_summaries::label::TrailerKind;
-use syn_expr_summaries::set::has;
-use syn_grammar::kinds::{BinKind, Infix, Level, Limits};
-use syn_grammar::next::{Context, Edge, Next};
+use syn_expr_ast::label::TrailerKind;
+use syn_expr_ast::node::{HasKind, HasNode};
+use syn_expr_spec::kinds::{BinKind, Infix, Level, Limits};
+use syn_expr_spec::next::{Context, Edge, Next};
 
 /// Where an expression is printed: what is round it and after it, and how tightly it has to bind there.
 ///

@@ -3,34 +3,34 @@ use Rattle.std.proofs.Common.{◌≡◌, Bool, List, [], ◌∷◌, ◌++◌, ma
 use Rattle.std.specs.declared.vec.Vec.{Vec}
 use Rattle.std.specs.declared.boxed.Box.{Box}
 use Rattle.std.specs.declared.alloc.Global.{Global}
-use Rattle.syn_parts.specs.Tree.{AttributeTree}
-use Rattle.syn_parts.specs.Pat as t
-use Rattle.syn_parts.specs.Pat.{PatTree}
+use Rattle.syn_lower_spec.specs.Tree.{AttributeTree}
+use Rattle.syn_lower_spec.specs.Pat as t
+use Rattle.syn_lower_spec.specs.Pat.{PatTree}
 use Rattle.syn_lower.specs.View.{mapped, lifetimes_of, return_of, values, trails}
 use Rattle.syn_lower_leaves.specs.declared.attr.Attribute.{Attribute}
-use Rattle.syn_lower_lists.specs.declared.punctuated.Punctuated.{Punctuated}
-use Rattle.syn_grammar.specs.Tree as e
-use Rattle.syn_grammar.specs.Tree.{Tree, ClosureHead, prefixed, frame, child, none, body_of, inners, outers}
-use Rattle.syn_expr_parts.specs.View.{label_of}
-use Rattle.syn_pat_kinds.specs.View.{PatView}
-use Rattle.syn_expr_kinds.specs.Attrs.{attrs_of, outer_of, inner_of}
-use Rattle.syn_expr_kinds.specs.Both.{arm_of, expr_closure_of, expr_for_loop_of, expr_let_of, expr_match_of, guarded_of}
-use Rattle.syn_expr_kinds.specs.Pats.{ArmView, arms, closure_by, guards, strays, trees}
-use Rattle.syn_expr_kinds.specs.declared.pattern.ArmOf.{ArmOf}
-use Rattle.syn_expr_kinds.specs.declared.pattern.ExprClosureOf.{ExprClosureOf}
-use Rattle.syn_expr_kinds.specs.declared.pattern.ExprForLoopOf.{ExprForLoopOf}
-use Rattle.syn_expr_kinds.specs.declared.pattern.ExprLetOf.{ExprLetOf}
-use Rattle.syn_expr_kinds.specs.declared.pattern.ExprMatchOf.{ExprMatchOf}
-use Rattle.syn_expr_kinds.specs.declared.pattern.PatGuardOf.{PatGuardOf}
-use Rattle.syn_expr_flat.specs.Each.{Each}
-use Rattle.syn_expr_flat.specs.Flat.{IsFlat, IsFlatBehind, before}
-use Rattle.syn_expr_flat.specs.Pats.{IsFlatArm, IsFlatPat}
-use Rattle.syn_expr_flat.proofs.Arms.{arms_flat, closure_flat, closure_plain}
-use Rattle.syn_expr_flat.proofs.Braced.{at_braces, for_loop_braced, match_braced}
-use Rattle.syn_expr_flat.proofs.Each.{each_both, each_one}
-use Rattle.syn_expr_flat.proofs.Children.{frame_flat, child_flat, prefixes_flat, none_flat, strays_flat}
-use Rattle.syn_expr_flat.proofs.Nodes.{at_node, same_flat}
-use Rattle.syn_expr_flat.proofs.Pats.{attributed}
+use Rattle.syn_lower_leaves.specs.declared.punctuated.Punctuated.{Punctuated}
+use Rattle.syn_expr_spec.specs.Tree as e
+use Rattle.syn_expr_spec.specs.Tree.{Tree, ClosureHead, prefixed, frame, child, none, body_of, inners, outers}
+use Rattle.syn_expr_tokens.specs.View.{label_of}
+use Rattle.syn_pat.specs.View.{PatView}
+use Rattle.syn_expr_ast.specs.Attrs.{attrs_of, outer_of, inner_of}
+use Rattle.syn_expr_ast.specs.Both.{arm_of, expr_closure_of, expr_for_loop_of, expr_let_of, expr_match_of, guarded_of}
+use Rattle.syn_expr_ast.specs.Pats.{ArmView, arms, closure_by, guards, strays, trees}
+use Rattle.syn_expr_ast.specs.declared.pattern.ArmOf.{ArmOf}
+use Rattle.syn_expr_ast.specs.declared.pattern.ExprClosureOf.{ExprClosureOf}
+use Rattle.syn_expr_ast.specs.declared.pattern.ExprForLoopOf.{ExprForLoopOf}
+use Rattle.syn_expr_ast.specs.declared.pattern.ExprLetOf.{ExprLetOf}
+use Rattle.syn_expr_ast.specs.declared.pattern.ExprMatchOf.{ExprMatchOf}
+use Rattle.syn_expr_ast.specs.declared.pattern.PatGuardOf.{PatGuardOf}
+use Rattle.syn_expr_flatten.specs.Calls.{Each}
+use Rattle.syn_expr_flatten.specs.Flat.{IsFlat, IsFlatBehind, before}
+use Rattle.syn_expr_flatten.specs.Pats.{IsFlatArm, IsFlatPat}
+use Rattle.syn_expr_flatten.proofs.Arms.{arms_flat, closure_flat, closure_plain}
+use Rattle.syn_expr_flatten.proofs.Braced.{at_braces, for_loop_braced, match_braced}
+use Rattle.syn_expr_flatten.proofs.Each.{each_both, each_one}
+use Rattle.syn_expr_flatten.proofs.Children.{frame_flat, child_flat, prefixes_flat, none_flat, strays_flat}
+use Rattle.syn_expr_flatten.proofs.Nodes.{at_node, same_flat}
+use Rattle.syn_expr_flatten.proofs.Pats.{attributed}
 
 -- these attributes, and those of parentheses before them
 abbrev pub Joined : Option (Vec Attribute Global) → Vec Attribute Global → Vec Attribute Global → Type 0

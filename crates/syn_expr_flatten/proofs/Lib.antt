@@ -1,3 +1,17 @@
+pub mod Arms
+pub mod Braced
+pub mod Calls
+pub mod Each
+pub mod FlatFill
+pub mod FlatWell
+pub mod FormedParens
+pub mod Verbatim
+pub mod Children
+pub mod Nodes
+pub mod OuterParens
+pub mod Pats
+pub mod Puts
+pub mod Upto
 pub mod Both
 pub mod Made
 mod Matches

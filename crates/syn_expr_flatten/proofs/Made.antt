@@ -6,23 +6,23 @@ use Rattle.std.specs.declared.boxed.Box.{Box}
 use Rattle.std.specs.declared.alloc.Global.{Global}
 use Rattle.syn_lower.specs.View.{values, trails}
 use Rattle.syn_lower_leaves.specs.declared.attr.Attribute.{Attribute}
-use Rattle.syn_lower_lists.specs.declared.punctuated.Punctuated.{Punctuated}
-use Rattle.syn_grammar.specs.Tree.{Tree}
-use Rattle.syn_pat_kinds.specs.View.{PatView}
-use Rattle.syn_expr_kinds.specs.Attrs.{attrs_of}
-use Rattle.syn_expr_all.specs.declared.expr.Expr.{Expr}
-use Rattle.syn_expr_all.specs.declared.pat.Pat.{Pat}
-use Rattle.syn_expr_all.specs.declared.closure.ExprClosure.{ExprClosure, out-ExprClosure, roll-ExprClosure, out-roll-ExprClosure}
-use Rattle.syn_expr_all.specs.declared.control.Arm.{Arm, out-Arm, roll-Arm, out-roll-Arm}
-use Rattle.syn_expr_all.specs.declared.control.ExprForLoop.{ExprForLoop, out-ExprForLoop, roll-ExprForLoop, out-roll-ExprForLoop}
-use Rattle.syn_expr_all.specs.declared.control.ExprLet.{ExprLet, out-ExprLet, roll-ExprLet, out-roll-ExprLet}
-use Rattle.syn_expr_all.specs.declared.control.ExprMatch.{ExprMatch, out-ExprMatch, roll-ExprMatch, out-roll-ExprMatch}
-use Rattle.syn_expr_all.specs.declared.pat.PatGuard.{PatGuard, out-PatGuard, roll-PatGuard, out-roll-PatGuard}
-use Rattle.syn_expr_all.specs.View.{arm_layer, arm_of, arm_parts, let_layer, let_of, let_parts, match_layer, match_of, match_parts, closure_layer, closure_of, closure_parts, for_loop_layer, for_loop_of, for_loop_parts, guard_layer, guard_of, guard_parts, pat_of, tree_of, views}
-use Rattle.syn_expr_all.proofs.TreeOf.{arm-is, let_expr-is, match_expr-is, closure-is, for_loop-is, guard-is}
-use Rattle.syn_expr_flat.specs.Each.{Each}
-use Rattle.syn_expr_flat.specs.Flat.{IsFlat, IsFlatBehind, before}
-use Rattle.syn_expr_flat.specs.Pats.{IsFlatArm, IsFlatPat}
+use Rattle.syn_lower_leaves.specs.declared.punctuated.Punctuated.{Punctuated}
+use Rattle.syn_expr_spec.specs.Tree.{Tree}
+use Rattle.syn_pat.specs.View.{PatView}
+use Rattle.syn_expr_ast.specs.Attrs.{attrs_of}
+use Rattle.syn_expr_core.specs.declared.expr.Expr.{Expr}
+use Rattle.syn_expr_core.specs.declared.pat.Pat.{Pat}
+use Rattle.syn_expr_core.specs.declared.closure.ExprClosure.{ExprClosure, out-ExprClosure, roll-ExprClosure, out-roll-ExprClosure}
+use Rattle.syn_expr_core.specs.declared.control.Arm.{Arm, out-Arm, roll-Arm, out-roll-Arm}
+use Rattle.syn_expr_core.specs.declared.control.ExprForLoop.{ExprForLoop, out-ExprForLoop, roll-ExprForLoop, out-roll-ExprForLoop}
+use Rattle.syn_expr_core.specs.declared.control.ExprLet.{ExprLet, out-ExprLet, roll-ExprLet, out-roll-ExprLet}
+use Rattle.syn_expr_core.specs.declared.control.ExprMatch.{ExprMatch, out-ExprMatch, roll-ExprMatch, out-roll-ExprMatch}
+use Rattle.syn_expr_core.specs.declared.pat.PatGuard.{PatGuard, out-PatGuard, roll-PatGuard, out-roll-PatGuard}
+use Rattle.syn_expr_core.specs.View.{arm_layer, arm_of, arm_parts, let_layer, let_of, let_parts, match_layer, match_of, match_parts, closure_layer, closure_of, closure_parts, for_loop_layer, for_loop_of, for_loop_parts, guard_layer, guard_of, guard_parts, pat_of, tree_of, views}
+use Rattle.syn_expr_core.proofs.TreeOf.{arm-is, let_expr-is, match_expr-is, closure-is, for_loop-is, guard-is}
+use Rattle.syn_expr_flatten.specs.Calls.{Each}
+use Rattle.syn_expr_flatten.specs.Flat.{IsFlat, IsFlatBehind, before}
+use Rattle.syn_expr_flatten.specs.Pats.{IsFlatArm, IsFlatPat}
 use Rattle.syn_expr_flatten.proofs.Both.{ArePats, Joined, arm_flat, closure_behind, for_loop_behind, guard_flat, let_behind, match_behind}
 
 -- what is related by what both are

@@ -4,13 +4,13 @@ use Rattle.std.specs.declared.vec.Vec.{Vec}
 use Rattle.std.specs.declared.boxed.Box.{Box}
 use Rattle.std.specs.declared.alloc.Global.{Global}
 use Rattle.syn_lower_leaves.specs.declared.attr.Attribute.{Attribute}
-use Rattle.syn_expr_all.specs.declared.expr.Expr.{Expr}
-use Rattle.syn_expr_all.specs.declared.control.Arm.{Arm}
-use Rattle.syn_expr_all.specs.declared.control.ExprMatch.{ExprMatch, out-ExprMatch, roll-ExprMatch, out-roll-ExprMatch}
-use Rattle.syn_expr_all.specs.View.{arm_of, match_of, tree_of}
-use Rattle.syn_expr_flat.specs.Each.{Each}
-use Rattle.syn_expr_flat.specs.Flat.{IsFlat, IsFlatBehind}
-use Rattle.syn_expr_flat.specs.Pats.{IsFlatArm}
+use Rattle.syn_expr_core.specs.declared.expr.Expr.{Expr}
+use Rattle.syn_expr_core.specs.declared.control.Arm.{Arm}
+use Rattle.syn_expr_core.specs.declared.control.ExprMatch.{ExprMatch, out-ExprMatch, roll-ExprMatch, out-roll-ExprMatch}
+use Rattle.syn_expr_core.specs.View.{arm_of, match_of, tree_of}
+use Rattle.syn_expr_flatten.specs.Calls.{Each}
+use Rattle.syn_expr_flatten.specs.Flat.{IsFlat, IsFlatBehind}
+use Rattle.syn_expr_flatten.specs.Pats.{IsFlatArm}
 use Rattle.syn_expr_flatten.proofs.Both.{Joined}
 use Rattle.syn_expr_flatten.proofs.Made.{match_made}
 

@@ -2,24 +2,23 @@
 
 ghost use Rattle.std.specs.Prelude.{Contains, IfOk};
 ghost use Rattle.std.specs.Option.{ForSome};
-ghost use Rattle.syn_expr_all.specs.View.{arm_of, let_of, match_of, closure_of, for_loop_of, guard_of, pat_of, tree_of};
-ghost use Rattle.syn_expr_all.specs.declared.closure.ExprClosure.{out-ExprClosure};
-ghost use Rattle.syn_expr_all.specs.declared.control.Arm.{Arm, out-Arm};
-ghost use Rattle.syn_expr_all.specs.declared.control.ExprForLoop.{out-ExprForLoop};
-ghost use Rattle.syn_expr_all.specs.declared.control.ExprLet.{out-ExprLet};
-ghost use Rattle.syn_expr_all.specs.declared.control.ExprMatch.{out-ExprMatch};
-ghost use Rattle.syn_expr_all.specs.declared.pat.PatGuard.{out-PatGuard};
-ghost use Rattle.syn_expr_flat.specs.Calls.{Takes};
-ghost use Rattle.syn_expr_flat.specs.Flat.{Flattens, IsFlatBehind};
-ghost use Rattle.syn_expr_flat.specs.Pats.{FlattensArm, FlattensPat, IsFlatArm, IsFlatPat};
+ghost use Rattle.syn_expr_core.specs.View.{arm_of, let_of, match_of, closure_of, for_loop_of, guard_of, pat_of, tree_of};
+ghost use Rattle.syn_expr_core.specs.declared.closure.ExprClosure.{out-ExprClosure};
+ghost use Rattle.syn_expr_core.specs.declared.control.Arm.{Arm, out-Arm};
+ghost use Rattle.syn_expr_core.specs.declared.control.ExprForLoop.{out-ExprForLoop};
+ghost use Rattle.syn_expr_core.specs.declared.control.ExprLet.{out-ExprLet};
+ghost use Rattle.syn_expr_core.specs.declared.control.ExprMatch.{out-ExprMatch};
+ghost use Rattle.syn_expr_core.specs.declared.pat.PatGuard.{out-PatGuard};
+ghost use Rattle.syn_expr_flatten.specs.Calls.{Takes, Leaves, Each};
+ghost use Rattle.syn_expr_flatten.specs.Flat.{Flattens, IsFlatBehind};
+ghost use Rattle.syn_expr_flatten.specs.Pats.{FlattensArm, FlattensPat, IsFlatArm, IsFlatPat};
 
-use crate::each::each;
-use syn_expr_all::closure::ExprClosure;
-use syn_expr_all::control::{Arm, ExprForLoop, ExprLet, ExprMatch};
-use syn_expr_all::expr::Expr;
-use syn_expr_all::pat::{Pat, PatGuard};
-use syn_expr_flat::attrs::{Before, put_around, put_before};
-use syn_expr_flat::operands::{Flattened, boxed, punctuated};
+use crate::attrs::{Before, put_around, put_before};
+use crate::operands::{Flattened, boxed, punctuated};
+use syn_expr_core::closure::ExprClosure;
+use syn_expr_core::control::{Arm, ExprForLoop, ExprLet, ExprMatch};
+use syn_expr_core::expr::Expr;
+use syn_expr_core::pat::{Pat, PatGuard};
 
 /// A pattern with a guard, without the parentheses in it.
 pub(crate) fn guarded<F: Fn(&mut Expr) -> Flattened<()>, G: Fn(&mut Pat) -> Flattened<()>>(
@@ -129,5 +128,17 @@ pub(crate) fn match_expr<F: Fn(&mut Expr) -> Flattened<()>, A: Fn(&mut Arm) -> F
     put_around(attrs, &mut x.attrs)?;
     boxed(&mut x.expr, flatten)?;
     each(&mut x.arms, arm)?;
+    Ok(())
+}
+
+/// Each element, as the function leaves it. Refused where the function refuses one.
+#[tactic(auto, using(crate::proofs::Upto::upto))]
+pub(crate) fn each<T, F: Fn(&mut T) -> Flattened<()>>(xs: &mut Vec<T>, flatten: F) -> Flattened<()>
+    requires { (x : T) → Contains xs.old.items x → Takes (F.pre flatten) x }
+    ensures { IfOk result (λ _. Each (Leaves (F.post flatten)) xs.old.items xs.new.items) }
+{
+    for x in xs.iter_mut() {
+        flatten(x)?;
+    }
     Ok(())
 }

@@ -1,12 +1,12 @@
 //! Flattening as callers have it.
 
 ghost use Rattle.std.specs.Prelude.{◌≡◌, IfErr, IfOk};
-ghost use Rattle.syn_expr_all.specs.View.{tree_of};
-ghost use Rattle.syn_expr_flat.specs.Flat.{IsFlat};
+ghost use Rattle.syn_expr_core.specs.View.{tree_of};
+ghost use Rattle.syn_expr_flatten.specs.Flat.{IsFlat};
 
 use crate::knot::operand;
-use syn_expr_all::expr::Expr;
-use syn_expr_all::held::HeldExpr;
+use syn_expr_core::expr::Expr;
+use syn_expr_core::held::HeldExpr;
 use syn_tokens::error::{ErrorKind, Result};
 
 /// Takes away all parentheses in an expression, those round it too, wherever an expression may be: in its operands,

@@ -1,15 +1,15 @@
 -- Leaves that no invisible group begins: where none comes first, they are all leaves; where one does, there is none.
 use Rattle.std.proofs.Common.{◌≡◌, true, false, List, ◌∷◌, None, refl, sym, subst}
-use Rattle.syn_lexer.specs.declared.lexeme.Delimiter.TheVariants as del
+use Rattle.syn_lexer.specs.declared.front.Delimiter.TheVariants as del
 use Rattle.syn_tokens.specs.Tok.{Tok, Inside, group}
 use Rattle.syn_tokens.specs.Front.{group_at}
-use Rattle.syn_parts.specs.Mark.{sign_at, word_at, lifetime_at, brace_at}
-use Rattle.syn_parts.specs.Part.{qpath, path, pieces, segment, segment_name}
-use Rattle.syn_grammar.specs.Path.{invisible_at}
-use Rattle.syn_grammar.specs.Head.{named, leaf_form, range_at, jump_at}
-use Rattle.syn_grammar.proofs.GroupForms.{invisible_is, plain_read}
-use Rattle.syn_expr_heads.specs.Leaves as closed
-use Rattle.syn_grammar.proofs.HeadForms.{leaf_tests}
+use Rattle.syn_lower_spec.specs.Mark.{sign_at, word_at, lifetime_at, brace_at}
+use Rattle.syn_lower_spec.specs.Part.{qpath, path, pieces, segment, segment_name}
+use Rattle.syn_expr_spec.specs.Path.{invisible_at}
+use Rattle.syn_expr_spec.specs.Head.{named, leaf_form, range_at, jump_at}
+use Rattle.syn_expr_spec.proofs.GroupForms.{invisible_is, plain_read}
+use Rattle.syn_expr_heads.specs.View as closed
+use Rattle.syn_expr_spec.proofs.HeadForms.{leaf_tests}
 
 named_is : (l : List Tok) → invisible_at l ≡ false → named.reads l ≡ closed.named.reads l
 unfolding named

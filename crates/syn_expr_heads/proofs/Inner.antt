@@ -1,15 +1,15 @@
 -- What is read first in braces are inner attributes.
 use Rattle.std.proofs.Common.{◌≡◌, Bool, true, false, cond, List, [], ◌∷◌, drop, Some, None, refl, ap, sym, ◌∙◌}
 use Rattle.syn_tokens.specs.Tok.{Tok}
-use Rattle.syn_parts.specs.Tree.{AttributeTree}
-use Rattle.syn_parts.specs.Form.{Outcome, and_then, more, prepend}
-use Rattle.syn_parts.specs.Part.{inner_attributes, inner_body, verbatim, pound_bang, to_inner}
-use Rattle.syn_lexer.specs.declared.lexeme.Delimiter.TheVariants as del
-use Rattle.syn_parts.proofs.Forms.{more_is}
-use Rattle.syn_parts.proofs.Marks.{pound_bang_present}
-use Rattle.syn_parts.proofs.Parts.{inner_body_alike}
-use Rattle.syn_grammar.specs.WellFormed.{attributes_inner}
-use Rattle.syn_grammar.proofs.Chains.{some_is, then_some}
+use Rattle.syn_lower_spec.specs.Tree.{AttributeTree}
+use Rattle.syn_lower_spec.specs.Form.{Outcome, and_then, more, prepend}
+use Rattle.syn_lower_spec.specs.Part.{inner_attributes, inner_body, verbatim, pound_bang, to_inner}
+use Rattle.syn_lexer.specs.declared.front.Delimiter.TheVariants as del
+use Rattle.syn_lower_spec.proofs.Forms.{more_is}
+use Rattle.syn_lower_spec.proofs.Marks.{pound_bang_present}
+use Rattle.syn_lower_spec.proofs.Parts.{inner_body_alike}
+use Rattle.syn_expr_spec.specs.WellFormed.{attributes_inner}
+use Rattle.syn_expr_spec.proofs.Chains.{some_is, then_some}
 
 pub inner_attributes_inner : (ats : List AttributeTree) (l n : List Tok) → inner_attributes.reads l ≡ Some (ats, n) → attributes_inner ats ≡ true
 unfolding inner_attributes inner_body

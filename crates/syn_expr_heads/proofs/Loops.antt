@@ -4,13 +4,13 @@ use Rattle.std.proofs.Common.{◌≡◌, true, false, cond, List, [], ◌∷◌,
 use Rattle.std.proofs.lemmas.Grind.{flat_map-append}
 use Rattle.std.proofs.lemmas.Simd.{map-map}
 use Rattle.syn_tokens.specs.Tok.{Tok}
-use Rattle.syn_parts.specs.Form.{and_then, listed, gathered}
-use Rattle.syn_parts.specs.Mark.{comma}
-use Rattle.syn_parts.specs.Pat.{PatTree, closure_arg}
-use Rattle.syn_grammar.specs.Head.{bar}
-use Rattle.syn_parts.proofs.Loops as loops
-use Rattle.syn_parts.proofs.Marks.{comma_present}
-use Rattle.syn_parts.proofs.Pats.{closure_arg_alike}
+use Rattle.syn_lower_spec.specs.Form.{and_then, listed, gathered}
+use Rattle.syn_lower_spec.specs.Mark.{comma}
+use Rattle.syn_lower_spec.specs.Pat.{PatTree, closure_arg}
+use Rattle.syn_expr_spec.specs.Head.{bar}
+use Rattle.syn_lower_spec.proofs.Loops as loops
+use Rattle.syn_lower_spec.proofs.Marks.{comma_present}
+use Rattle.syn_lower_spec.proofs.Pats.{closure_arg_alike}
 use Rattle.syn_lower_leaves.proofs.Loops.{map-one}
 
 pub args_turn : (found : List PatTree) (l : List Tok) → gathered comma bar.at closure_arg found l

@@ -1,26 +1,26 @@
 -- The reading of operands, one turn after the other: the count of turns never runs out.
 use Rattle.std.specs.Prelude.{not}
 use Rattle.std.proofs.Common.{◌≡◌, ℕ, zero, suc, ◌<◌, ◌≤◌, Bool, true, false, cond, ⊎_elim, List, drop, Option, Some, None, refl, ap, sym, ◌∙◌, subst, arith}
-use Rattle.syn_lexer.specs.declared.lexeme.Delimiter.TheVariants as del
+use Rattle.syn_lexer.specs.declared.front.Delimiter.TheVariants as del
 use Rattle.syn_tokens.specs.Tok.{Tok, weight}
 use Rattle.syn_tokens.specs.Front.{group_at}
-use Rattle.syn_parts.specs.Form.{Outcome, and_then}
-use Rattle.syn_parts.specs.Mark.{brace_at}
-use Rattle.syn_parts.specs.Part.{inner_attributes}
-use Rattle.syn_parts.proofs.Marks.{word_present}
-use Rattle.syn_grammar.specs.declared.kinds.Place.{Place}
-use Rattle.syn_grammar.specs.Place.{before_block}
-use Rattle.syn_grammar.specs.Tree as e
-use Rattle.syn_grammar.specs.Tree.{Tree, Children, Piece, Ending, frame, child, plain_block, is_silent}
-use Rattle.syn_grammar.specs.Slot.{Slot, conditions, arms, after, may_end, piece_form, piece_place, ending_at, is_chained, if_word}
-use Rattle.syn_grammar.specs.Stands.{short_value, takes_block}
-use Rattle.syn_grammar.specs.Read.{Reading, expr, all_of, before, only_if, is_scrutinees, ended_by, if_expr_by, block_by, value_by, operand_of, armed, operands_by, operands, bare_operands}
-use Rattle.syn_grammar.proofs.Chains.{some_is, then_some, only_some, chosen}
-use Rattle.syn_grammar.proofs.Needs.{heads}
-use Rattle.syn_grammar.proofs.HeadMoves.{IsLess, less_then, then_less, grouped, group_inside, left, ending_left, marked}
-use Rattle.syn_grammar.proofs.Lesses.{here, node_less, short_less, operands_left}
-use Rattle.syn_grammar.proofs.Sound.{bare_sound}
-use Rattle.syn_grammar.proofs.Exact.{expr_sound}
+use Rattle.syn_lower_spec.specs.Form.{Outcome, and_then}
+use Rattle.syn_lower_spec.specs.Mark.{brace_at}
+use Rattle.syn_lower_spec.specs.Part.{inner_attributes}
+use Rattle.syn_lower_spec.proofs.Marks.{word_present}
+use Rattle.syn_expr_spec.specs.declared.kinds.Place.{Place}
+use Rattle.syn_expr_spec.specs.Place.{before_block}
+use Rattle.syn_expr_spec.specs.Tree as e
+use Rattle.syn_expr_spec.specs.Tree.{Tree, Children, Piece, Ending, frame, child, plain_block, is_silent}
+use Rattle.syn_expr_spec.specs.Slot.{Slot, conditions, arms, after, may_end, piece_form, piece_place, ending_at, is_chained, if_word}
+use Rattle.syn_expr_spec.specs.Stands.{short_value, takes_block}
+use Rattle.syn_expr_spec.specs.Read.{Reading, expr, all_of, before, only_if, is_scrutinees, ended_by, if_expr_by, block_by, value_by, operand_of, armed, operands_by, operands, bare_operands}
+use Rattle.syn_expr_spec.proofs.Chains.{some_is, then_some, only_some, chosen}
+use Rattle.syn_expr_spec.proofs.Needs.{heads}
+use Rattle.syn_expr_spec.proofs.HeadMoves.{IsLess, less_then, then_less, grouped, group_inside, left, ending_left, marked}
+use Rattle.syn_expr_spec.proofs.Lesses.{here, node_less, short_less, operands_left}
+use Rattle.syn_expr_spec.proofs.Sound.{bare_sound}
+use Rattle.syn_expr_spec.proofs.Exact.{expr_sound}
 
 -- ---- what is left
 

@@ -1,4 +1,3 @@
 pub mod Prefixes
-pub mod Leaves
-pub mod Reads
 pub mod View
+pub mod Reads

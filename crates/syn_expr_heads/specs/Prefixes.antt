@@ -1,12 +1,12 @@
 -- The form of what comes before an operand in its parts.
 use Rattle.std.specs.Prelude.{true}
-use Rattle.syn_parts.specs.Form.{Form, when, mark, shown, case, flag, closed_by}
-use Rattle.syn_parts.specs.Mark.{eq, mutable}
-use Rattle.syn_parts.specs.Part.{mutability}
-use Rattle.syn_parts.specs.Pat.{pattern}
-use Rattle.syn_grammar.specs.Tree as e
-use Rattle.syn_grammar.specs.Tree.{Prefix}
-use Rattle.syn_grammar.specs.Head.{raw_at, raw_word, from_raw_addr, from_reference, range_at, range_op, from_range_to, let_word, from_let, jump_at, jump_head, from_jump, closure_head, from_closure}
+use Rattle.syn_lower_spec.specs.Form.{Form, when, mark, shown, case, flag, closed_by}
+use Rattle.syn_lower_spec.specs.Mark.{eq, mutable}
+use Rattle.syn_lower_spec.specs.Part.{mutability}
+use Rattle.syn_lower_spec.specs.Pat.{pattern}
+use Rattle.syn_expr_spec.specs.Tree as e
+use Rattle.syn_expr_spec.specs.Tree.{Prefix}
+use Rattle.syn_expr_spec.specs.Head.{raw_at, raw_word, from_raw_addr, from_reference, range_at, range_op, from_range_to, let_word, from_let, jump_at, jump_head, from_jump, closure_head, from_closure}
 
 -- after `&`
 abbrev pub borrow : Form Prefix

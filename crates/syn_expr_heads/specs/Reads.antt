@@ -4,9 +4,9 @@ use denote.Ref.{MutBor}
 use Rattle.syn_tokens.specs.declared.error.Error.{Error}
 use Rattle.syn_tokens.specs.Tok.{weight}
 use Rattle.syn_tokens.specs.Input.{Input}
-use Rattle.syn_parts.specs.Pat.{pattern, closure_arg}
+use Rattle.syn_lower_spec.specs.Pat.{pattern, closure_arg}
 use Rattle.syn_lower_leaves.specs.Reads.{Reads}
-use Rattle.syn_pat_kinds.specs.View.{PatView}
+use Rattle.syn_pat.specs.View.{PatView}
 
 -- a reader of the arguments of closures that may be called where less than a bound is left
 abbrev pub CallableArg : ℕ → (MutBor Input → Type 0) → Type 0

@@ -1,32 +1,35 @@
 -- What comes before, between and after operands as trees, without places.
 use Rattle.std.specs.Prelude.{true, List, [], map, flat_map, Option, Some, None, is_some}
-use Rattle.syn_lower_leaves.specs.View.{mapped, lifetime_of, attribute_of, lit_of}
+use Rattle.syn_lower_leaves.specs.View.{mapped, lifetime_of, attribute_of, lit_of, lifetimes_of, is_mut, values, trails}
 use Rattle.syn_lower.specs.View.{type_of, path_of, qself_or, macro_of, return_of}
-use Rattle.syn_expr_parts.specs.View.{label_of, member_of}
-use Rattle.syn_op.specs.View.{un_kind, limits_kind}
-use Rattle.syn_parts.specs.Tree as t
-use Rattle.syn_parts.specs.Tree.{ArgumentsTree}
-use Rattle.syn_pat_kinds.specs.View.{PatView}
-use Rattle.syn_lower_lists.specs.View.{lifetimes_of, is_mut, values, trails}
-use Rattle.syn_lower_generic.specs.View.{angle_of}
-use Rattle.syn_lower_generic.specs.declared.path.AngleBracketedGenericArgumentsOf.{AngleBracketedGenericArgumentsOf}
+use Rattle.syn_expr_tokens.specs.View.{label_of, member_of, un_kind, limits_kind}
+use Rattle.syn_lower_spec.specs.Tree as t
+use Rattle.syn_lower_spec.specs.Tree.{ArgumentsTree}
+use Rattle.syn_pat.specs.View.{PatView}
+use Rattle.syn_lower_types.specs.View.{angle_of}
+use Rattle.syn_lower_types.specs.declared.path.AngleBracketedGenericArgumentsOf.{AngleBracketedGenericArgumentsOf}
 use Rattle.syn_lower.specs.declared.ty.«Type».{«Type»}
-use Rattle.syn_grammar.specs.Tree as e
-use Rattle.syn_grammar.specs.Tree.{Tree}
-use Rattle.syn_expr_heads.specs.declared.types.Body.{Body}
-use Rattle.syn_expr_heads.specs.declared.types.JumpHead.{JumpHead}
-use Rattle.syn_expr_heads.specs.declared.types.JumpHead.TheVariants as jump
-use Rattle.syn_expr_heads.specs.declared.types.LeafHead.{LeafHead}
-use Rattle.syn_expr_heads.specs.declared.types.LeafHead.TheVariants as leaf
-use Rattle.syn_expr_heads.specs.declared.types.TrailerHead.{TrailerHead}
-use Rattle.syn_expr_heads.specs.declared.types.TrailerHead.TheVariants as trailer
-use Rattle.syn_expr_heads.specs.declared.types.FieldHead.{FieldHead}
-use Rattle.syn_expr_heads.specs.declared.types.FieldHead.TheVariants as field
-use Rattle.syn_expr_heads.specs.declared.types.ArmHead.{ArmHead}
-use Rattle.syn_expr_heads.specs.declared.types.ArmHead.TheVariants as arm
-use Rattle.syn_expr_heads.specs.declared.types.ClosureHead.{ClosureHead}
-use Rattle.syn_expr_heads.specs.declared.types.PrefixHead.{PrefixHead}
-use Rattle.syn_expr_heads.specs.declared.types.PrefixHead.TheVariants as prefix
+use Rattle.syn_expr_spec.specs.Tree as e
+use Rattle.syn_expr_spec.specs.Tree.{Tree, Leaf}
+use Rattle.syn_expr_heads.specs.declared.leaf.Body.{Body}
+use Rattle.syn_expr_heads.specs.declared.leaf.JumpHead.{JumpHead}
+use Rattle.syn_expr_heads.specs.declared.leaf.JumpHead.TheVariants as jump
+use Rattle.syn_expr_heads.specs.declared.leaf.LeafHead.{LeafHead}
+use Rattle.syn_expr_heads.specs.declared.leaf.LeafHead.TheVariants as leaf
+use Rattle.syn_expr_heads.specs.declared.leaf.TrailerHead.{TrailerHead}
+use Rattle.syn_expr_heads.specs.declared.leaf.TrailerHead.TheVariants as trailer
+use Rattle.syn_expr_heads.specs.declared.leaf.FieldHead.{FieldHead}
+use Rattle.syn_expr_heads.specs.declared.leaf.FieldHead.TheVariants as field
+use Rattle.syn_expr_heads.specs.declared.leaf.ArmHead.{ArmHead}
+use Rattle.syn_expr_heads.specs.declared.leaf.ArmHead.TheVariants as arm
+use Rattle.syn_expr_heads.specs.declared.leaf.ClosureHead.{ClosureHead}
+use Rattle.syn_expr_heads.specs.declared.leaf.PrefixHead.{PrefixHead}
+use Rattle.syn_expr_heads.specs.declared.leaf.PrefixHead.TheVariants as prefix
+use Rattle.syn_lower_spec.specs.declared.label.PathStyle.TheVariants as style
+use Rattle.syn_lower_spec.specs.Form.{Form, when, mark, then_by, both, shown, pure, case, flag, maybe}
+use Rattle.syn_lower_spec.specs.Mark.{lifetime_at, underscore, constant}
+use Rattle.syn_lower_spec.specs.Part.{lifetime, unsigned, block, qpath, macro_end, type}
+use Rattle.syn_expr_spec.specs.Head.{label, body, builtin, jump_head, range_op, to_named, from_named, from_lit, is_infer, from_full_range, from_bare_jump, from_continuing, to_loop, from_loop, to_block, from_block, from_unsafe, from_const, to_async, from_async, from_try, from_verbatim, continue_word, loop_word, unsafe_word, async_word, move_word, try_word, literal_at, range_at, jump_at, loop_at, block_at, const_block_at, async_block_at, try_block_at, builtin_at}
 
 abbrev pub body_of : Body → e.Body
 body_of b = record { inner = map attribute_of b.attrs.items; tokens = b.block.stmts }
@@ -111,3 +114,51 @@ abbrev pub prefix_guards : {P : Type 0} → (P → PatView) → PrefixHead P →
 prefix_guards f (prefix.Let w p q) = (f p).guards
 prefix_guards f (prefix.Closure h) = closure_guards f h
 prefix_guards f _ = []
+
+-- ---- the form of leaves in its parts
+
+abbrev pub loop_leaf : Form Leaf
+loop_leaf = shown to_loop from_loop (both label (mark loop_word body))
+
+abbrev pub block_leaf : Form Leaf
+block_leaf = shown to_block from_block (both label body)
+
+abbrev pub const_leaf : Form Leaf
+const_leaf = mark constant (shown e.const_block from_const body)
+
+abbrev pub async_leaf : Form Leaf
+async_leaf = mark async_word (shown to_async from_async (both (flag move_word) block))
+
+abbrev pub try_leaf : Form Leaf
+try_leaf = mark try_word (shown e.try_block from_try block)
+
+-- a path or the call of a macro, which no invisible group begins
+abbrev pub named : Form Leaf
+named = shown to_named from_named (then_by (qpath type style.Expr) macro_end)
+
+-- a block after `const`, `async` or `try`, special syntax, a path or a macro
+abbrev pub word_leaf : Form Leaf
+word_leaf =
+    when const_block_at const_leaf
+    (when async_block_at async_leaf
+    (when try_block_at try_leaf
+    (when builtin_at (shown e.verbatim from_verbatim builtin)
+    named)))
+
+-- a loop, a block, or one of those
+abbrev pub labelled_leaf : Form Leaf
+labelled_leaf =
+    when loop_at loop_leaf
+    (when block_at block_leaf
+    (case unsafe_word (shown e.unsafe_block from_unsafe body)
+    word_leaf))
+
+-- a leaf that no invisible group begins
+unfoldable pub leaf_form : Form Leaf
+leaf_form =
+    when literal_at (shown e.lit from_lit unsigned)
+    (case underscore (pure e.infer is_infer)
+    (when range_at (shown e.full_range from_full_range range_op)
+    (when jump_at (shown e.bare_jump from_bare_jump jump_head)
+    (case continue_word (shown e.continuing from_continuing (maybe lifetime_at lifetime))
+    labelled_leaf))))

@@ -2,21 +2,21 @@
 
 ghost use Rattle.std.specs.Prelude.{◌≡◌, ◌≤◌, [], true, IfOk};
 ghost use Rattle.syn_expr_heads.specs.View.{body_of};
-ghost use Rattle.syn_grammar.specs.Head as head;
-ghost use Rattle.syn_grammar.specs.WellFormed.{attributes_inner};
+ghost use Rattle.syn_expr_spec.specs.Head as head;
+ghost use Rattle.syn_expr_spec.specs.WellFormed.{attributes_inner};
 ghost use Rattle.syn_lower_leaves.specs.Reads.{Reads};
 ghost use Rattle.syn_tokens.specs.Tok.{weight};
 
-use crate::types::Body;
+use crate::leaf::Body;
 use syn_lower_leaves::block::Block;
-use syn_lower_leaves::verbatim::inner_attributes;
+use syn_lower_leaves::leaf::inner_attributes;
 use syn_tokens::buffer::ParseBuffer;
-use syn_tokens::copy::copy_trees;
 use syn_tokens::error::Result;
 use syn_tokens::token::Brace;
+use syn_tokens::tree::copy_trees;
 
 /// Reads inner attributes, as many as there are, and keeps all that is after them.
-#[tactic(auto, using(crate::proofs::Inner::inner), unfolding(syn_grammar::specs::Head::body_inside, syn_grammar::specs::Head::all_left))]
+#[tactic(auto, using(crate::proofs::Inner::inner), unfolding(syn_expr_spec::specs::Head::body_inside, syn_expr_spec::specs::Head::all_left))]
 fn body_inside(content: &mut ParseBuffer<'_>, brace_token: Brace) -> Result<Body>
     ensures value { Reads body_of (head.body_inside.reads content.old.rest) result content.new.rest }
     ensures all { IfOk result (λ _. content.new.rest ≡ []) }
@@ -31,7 +31,7 @@ fn body_inside(content: &mut ParseBuffer<'_>, brace_token: Brace) -> Result<Body
 
 /// Reads a block with inner attributes (Rust Reference, "Block expressions", "Attributes"). Missing braces are refused as
 /// `ExpectedToken` of `{`, and an inner attribute without brackets as `ExpectedToken` of `[`.
-#[tactic(auto, unfolding(syn_grammar::specs::Head::body))]
+#[tactic(auto, unfolding(syn_expr_spec::specs::Head::body))]
 pub fn body(input: &mut ParseBuffer<'_>) -> Result<Body>
     ensures value { Reads body_of (head.body.reads input.old.rest) result input.new.rest }
     ensures inner { IfOk result (λ b. attributes_inner (body_of b).inner ≡ true) }

@@ -3,24 +3,24 @@
 ghost use Rattle.std.specs.Prelude.{◌≡◌, ◌≤◌, ◌+◌, is_some, map, IfOk, Some, []};
 ghost use Rattle.syn_expr_heads.specs.Reads.{CallableArg, ReadsArg};
 ghost use Rattle.syn_expr_heads.specs.View.{closure_guards, closure_of};
-ghost use Rattle.syn_grammar.specs.Head as head;
-ghost use Rattle.syn_lower_generic.specs.View as view;
+ghost use Rattle.syn_expr_spec.specs.Head as head;
+ghost use Rattle.syn_lower_types.specs.View as view;
 ghost use Rattle.syn_lower_leaves.specs.Reads.{Reads};
-ghost use Rattle.syn_parts.specs.Form as form;
-ghost use Rattle.syn_parts.specs.Mark as mark;
-ghost use Rattle.syn_parts.specs.Pat as pat;
-ghost use Rattle.syn_pat_kinds.specs.View as kinds;
+ghost use Rattle.syn_lower_spec.specs.Form as form;
+ghost use Rattle.syn_lower_spec.specs.Mark as mark;
+ghost use Rattle.syn_lower_spec.specs.Pat as pat;
+ghost use Rattle.syn_pat.specs.View as kinds;
 ghost use Rattle.syn_tokens.specs.Tok.{weight};
 
-use crate::types::ClosureHead;
+use crate::leaf::ClosureHead;
 use crate::word::{async_word, bar, bar_at, move_word, static_word, use_word};
-use syn_expr_parts::modifiers::ClosureModifiers;
+use syn_expr_tokens::modifiers::ClosureModifiers;
+use syn_lower::grammar::Grammar;
 use syn_lower::readers::ty;
 use syn_lower_leaves::front::{comma, constant};
-use syn_lower_lists::punctuated::Punctuated;
-use syn_lower_lists::readers::maybe_lifetimes;
-use syn_lower_readers::grammar::Grammar;
-use syn_pat_kinds::kinds::HasPatTree;
+use syn_lower_leaves::punctuated::Punctuated;
+use syn_lower_leaves::readers::maybe_lifetimes;
+use syn_pat::kinds::HasPatTree;
 use syn_tokens::buffer::{ParseBuffer, Token};
 use syn_tokens::error::{ErrorKind, Expected, Result};
 use syn_tokens::token::{Comma, Move, Or, Use};
@@ -70,7 +70,7 @@ impl<P: HasPatTree + Drop, G: Fn(&mut ParseBuffer<'_>) -> Result<P>> Closures<G>
     }
 
     /// Reads the arguments between the bars.
-    #[tactic(auto, unfolding(syn_grammar::specs::Head::closure_inputs))]
+    #[tactic(auto, unfolding(syn_expr_spec::specs::Head::closure_inputs))]
     fn inputs(&self, input: &mut ParseBuffer<'_>) -> Result<Inputs<P>>
         requires callable { CallableArg (weight input.old.rest) (G.pre self.now.arg) }
         requires reads { ReadsArg P.view (G.post self.now.arg) }
@@ -92,7 +92,7 @@ impl<P: HasPatTree + Drop, G: Fn(&mut ParseBuffer<'_>) -> Result<P>> Closures<G>
     /// Reads a closure up to its body: lifetimes, `const`, `static`, `async`, and `move` or `use`, each if it is there, the
     /// arguments between bars, and what it returns (Rust Reference, "Closure expressions"). A missing bar is refused as
     /// `ExpectedToken` of it, an argument as its reader refuses it, and the type after `->` as a type is.
-    #[tactic(auto, using(crate::proofs::Loops::inputs), unfolding(syn_grammar::specs::Head::closure_head))]
+    #[tactic(auto, using(crate::proofs::Loops::inputs), unfolding(syn_expr_spec::specs::Head::closure_head))]
     pub fn closure_head(&self, input: &mut ParseBuffer<'_>) -> Result<ClosureHead<P>>
         requires callable { CallableArg (weight input.old.rest) (G.pre self.now.arg) }
         requires reads { ReadsArg P.view (G.post self.now.arg) }

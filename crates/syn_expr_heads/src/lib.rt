@@ -4,12 +4,6 @@
 
 pub mod block;
 pub mod closure;
-pub mod ending;
-pub mod field;
-pub mod jump;
-pub mod label;
 pub mod leaf;
 pub mod prefix;
-pub mod trailer;
-pub mod types;
 pub mod word;

@@ -5,25 +5,23 @@ ghost use Rattle.std.specs.Prelude.{◌≡◌, ◌≤◌, ◌+◌, IfOk, [], tru
 ghost use Rattle.syn_expr_heads.specs.Prefixes as prefixes;
 ghost use Rattle.syn_expr_heads.specs.Reads.{CallableArg, ReadsArg, ReadsPat};
 ghost use Rattle.syn_expr_heads.specs.View.{arm_guards, arm_of, prefix_guards, prefix_of};
-ghost use Rattle.syn_grammar.specs.Head as head;
-ghost use Rattle.syn_grammar.specs.Slot as slot;
+ghost use Rattle.syn_expr_spec.specs.Head as head;
+ghost use Rattle.syn_expr_spec.specs.Slot as slot;
 ghost use Rattle.syn_lower_leaves.specs.Reads.{Reads};
-ghost use Rattle.syn_lower_readers.specs.Reads.{Callable};
-ghost use Rattle.syn_parts.specs.Pat as pat;
+ghost use Rattle.syn_lower.specs.Reads.{Callable};
+ghost use Rattle.syn_lower_spec.specs.Pat as pat;
 ghost use Rattle.syn_tokens.specs.Tok.{weight};
 
 use crate::closure::Closures;
-use crate::jump::jump_head;
-use crate::types::{ArmHead, ForHead, PrefixHead};
+use crate::leaf::{ArmHead, ForHead, PrefixHead, jump_head};
 use crate::word::{fat_arrow, if_word, in_word, let_word, minus, raw_word};
-use syn_expr_front::atom::{jump_at, range_at, raw_at};
-use syn_lower_leaves::front::{and, bang, eq, for_word, mutable, star};
-use syn_lower_leaves::verbatim::outer_attributes;
-use syn_lower_lists::front::lifetimes_at;
-use syn_lower_lists::readers::pointer_mutability;
-use syn_op::limits::range_limits;
-use syn_op::op::UnOp;
-use syn_pat_kinds::kinds::HasPatTree;
+use syn_expr_tokens::atom::{jump_at, range_at, raw_at};
+use syn_expr_tokens::limits::range_limits;
+use syn_expr_tokens::op::UnOp;
+use syn_lower_leaves::front::{and, bang, eq, for_word, lifetimes_at, mutable, star};
+use syn_lower_leaves::leaf::outer_attributes;
+use syn_lower_leaves::readers::pointer_mutability;
+use syn_pat::kinds::HasPatTree;
 use syn_tokens::buffer::{ParseBuffer, Token};
 use syn_tokens::error::{ErrorKind, Expected, Result};
 use syn_tokens::token::{And, Eq, FatArrow, In, Let, Raw};
@@ -108,7 +106,7 @@ impl<
     ///
     /// It is refused as `ExpectedToken` of `|` where none of them begins, as `ExpectedToken` where another token is missing,
     /// and inside as a pattern, an argument of a closure or a type is.
-    #[tactic(auto, unfolding(syn_grammar::specs::Head::prefix_form))]
+    #[tactic(auto, unfolding(syn_expr_spec::specs::Head::prefix_form))]
     pub fn prefix(&self, input: &mut ParseBuffer<'_>) -> Result<PrefixHead<P>>
         requires pat { Callable (weight input.old.rest + 1) (F.pre self.now.pat) }
         requires reads { ReadsPat P.view (F.post self.now.pat) }
@@ -165,7 +163,7 @@ impl<
     /// Reads an arm up to its guard or its body: attributes, a pattern, and `if` or `=>` (Rust Reference, "Match
     /// expressions"). It is refused as `ExpectedToken` of `=>`, and of `[` at an attribute without brackets, and inside as a
     /// pattern is.
-    #[tactic(auto, unfolding(syn_grammar::specs::Slot::piece_form))]
+    #[tactic(auto, unfolding(syn_expr_spec::specs::Slot::piece_form))]
     pub fn arm(&self, input: &mut ParseBuffer<'_>) -> Result<ArmHead<P>>
         requires pat { Callable (weight input.old.rest + 1) (F.pre self.now.pat) }
         requires reads { ReadsPat P.view (F.post self.now.pat) }

@@ -1,23 +1,30 @@
-//! The words and signs of expressions, at the front of the input. Each is taken where it comes first; else nothing changes.
+//! The words, signs and labels of expressions, at the front of the input. Each is taken where it comes first; else nothing
+//! changes.
 
 ghost use Rattle.std.specs.Prelude.{◌≡◌, ◌<◌, ◌≤◌, is_some, Some, IfSome};
-ghost use Rattle.syn_grammar.specs.Front as front;
-ghost use Rattle.syn_grammar.specs.Head as head;
-ghost use Rattle.syn_grammar.specs.Read as read;
-ghost use Rattle.syn_grammar.specs.Slot as slot;
-ghost use Rattle.syn_lower_leaves.specs.Reads.{Takes};
-ghost use Rattle.syn_parts.specs.Form.{flag};
+ghost use Rattle.syn_expr_spec.specs.Front as front;
+ghost use Rattle.syn_expr_spec.specs.Head as head;
+ghost use Rattle.syn_expr_spec.specs.Read as read;
+ghost use Rattle.syn_expr_spec.specs.Slot as slot;
+ghost use Rattle.syn_lower_leaves.specs.Reads.{Takes, Reads};
+ghost use Rattle.syn_lower_spec.specs.Form.{flag};
 ghost use Rattle.syn_tokens.specs.Tok.{weight};
+ghost use Rattle.syn_expr_tokens.specs.View.{label_of};
+ghost use Rattle.syn_lower_leaves.specs.View.{mapped};
 
+use syn_expr_tokens::modifiers::Label;
+use syn_expr_tokens::reader::label;
 use syn_lower_leaves::front::{sign, word};
+use syn_lower_leaves::leaf::lifetime_at;
 use syn_tokens::buffer::ParseBuffer;
+use syn_tokens::error::Result;
 use syn_tokens::token::{
     Async, Await, Become, Break, Continue, Dot, DotDot, Else, FatArrow, If, In, Let, Loop, Match,
     Minus, Move, Or, Raw, Return, Sign, Static, Try, Use, While, Yield,
 };
 
 /// Takes `return`.
-#[tactic(auto, unfolding(syn_tokens::specs::Sign::word_text, syn_parts::specs::Mark::word_at))]
+#[tactic(auto, unfolding(syn_tokens::specs::Sign::word_text, syn_lower_spec::specs::Mark::word_at))]
 pub fn return_word(input: &mut ParseBuffer<'_>) -> Option<Return>
     ensures value { Takes head.return_word input.old result input.new }
     ensures smaller { IfSome result (λ _. weight input.new.rest < weight input.old.rest) }
@@ -27,7 +34,7 @@ pub fn return_word(input: &mut ParseBuffer<'_>) -> Option<Return>
 }
 
 /// Takes `yield`.
-#[tactic(auto, unfolding(syn_tokens::specs::Sign::word_text, syn_parts::specs::Mark::word_at))]
+#[tactic(auto, unfolding(syn_tokens::specs::Sign::word_text, syn_lower_spec::specs::Mark::word_at))]
 pub fn yield_word(input: &mut ParseBuffer<'_>) -> Option<Yield>
     ensures value { Takes head.yield_word input.old result input.new }
     ensures smaller { IfSome result (λ _. weight input.new.rest < weight input.old.rest) }
@@ -37,7 +44,7 @@ pub fn yield_word(input: &mut ParseBuffer<'_>) -> Option<Yield>
 }
 
 /// Takes `break`.
-#[tactic(auto, unfolding(syn_tokens::specs::Sign::word_text, syn_parts::specs::Mark::word_at))]
+#[tactic(auto, unfolding(syn_tokens::specs::Sign::word_text, syn_lower_spec::specs::Mark::word_at))]
 pub fn break_word(input: &mut ParseBuffer<'_>) -> Option<Break>
     ensures value { Takes head.break_word input.old result input.new }
     ensures smaller { IfSome result (λ _. weight input.new.rest < weight input.old.rest) }
@@ -47,7 +54,7 @@ pub fn break_word(input: &mut ParseBuffer<'_>) -> Option<Break>
 }
 
 /// Takes `continue`.
-#[tactic(auto, unfolding(syn_tokens::specs::Sign::word_text, syn_parts::specs::Mark::word_at))]
+#[tactic(auto, unfolding(syn_tokens::specs::Sign::word_text, syn_lower_spec::specs::Mark::word_at))]
 pub fn continue_word(input: &mut ParseBuffer<'_>) -> Option<Continue>
     ensures value { Takes head.continue_word input.old result input.new }
     ensures smaller { IfSome result (λ _. weight input.new.rest < weight input.old.rest) }
@@ -57,7 +64,7 @@ pub fn continue_word(input: &mut ParseBuffer<'_>) -> Option<Continue>
 }
 
 /// Takes `loop`.
-#[tactic(auto, unfolding(syn_tokens::specs::Sign::word_text, syn_parts::specs::Mark::word_at))]
+#[tactic(auto, unfolding(syn_tokens::specs::Sign::word_text, syn_lower_spec::specs::Mark::word_at))]
 pub fn loop_word(input: &mut ParseBuffer<'_>) -> Option<Loop>
     ensures value { Takes head.loop_word input.old result input.new }
     ensures smaller { IfSome result (λ _. weight input.new.rest < weight input.old.rest) }
@@ -67,7 +74,7 @@ pub fn loop_word(input: &mut ParseBuffer<'_>) -> Option<Loop>
 }
 
 /// Takes `async`.
-#[tactic(auto, unfolding(syn_tokens::specs::Sign::word_text, syn_parts::specs::Mark::word_at))]
+#[tactic(auto, unfolding(syn_tokens::specs::Sign::word_text, syn_lower_spec::specs::Mark::word_at))]
 pub fn async_word(input: &mut ParseBuffer<'_>) -> Option<Async>
     ensures value { Takes head.async_word input.old result input.new }
     ensures flag { (flag head.async_word).reads input.old.rest ≡ Some (is_some result, input.new.rest) }
@@ -78,7 +85,7 @@ pub fn async_word(input: &mut ParseBuffer<'_>) -> Option<Async>
 }
 
 /// Takes `move`.
-#[tactic(auto, unfolding(syn_tokens::specs::Sign::word_text, syn_parts::specs::Mark::word_at))]
+#[tactic(auto, unfolding(syn_tokens::specs::Sign::word_text, syn_lower_spec::specs::Mark::word_at))]
 pub fn move_word(input: &mut ParseBuffer<'_>) -> Option<Move>
     ensures value { Takes head.move_word input.old result input.new }
     ensures flag { (flag head.move_word).reads input.old.rest ≡ Some (is_some result, input.new.rest) }
@@ -89,7 +96,7 @@ pub fn move_word(input: &mut ParseBuffer<'_>) -> Option<Move>
 }
 
 /// Takes `static`.
-#[tactic(auto, unfolding(syn_tokens::specs::Sign::word_text, syn_parts::specs::Mark::word_at))]
+#[tactic(auto, unfolding(syn_tokens::specs::Sign::word_text, syn_lower_spec::specs::Mark::word_at))]
 pub fn static_word(input: &mut ParseBuffer<'_>) -> Option<Static>
     ensures value { Takes head.static_word input.old result input.new }
     ensures flag { (flag head.static_word).reads input.old.rest ≡ Some (is_some result, input.new.rest) }
@@ -100,7 +107,7 @@ pub fn static_word(input: &mut ParseBuffer<'_>) -> Option<Static>
 }
 
 /// Takes `use`.
-#[tactic(auto, unfolding(syn_tokens::specs::Sign::word_text, syn_parts::specs::Mark::word_at))]
+#[tactic(auto, unfolding(syn_tokens::specs::Sign::word_text, syn_lower_spec::specs::Mark::word_at))]
 pub fn use_word(input: &mut ParseBuffer<'_>) -> Option<Use>
     ensures value { Takes head.use_word input.old result input.new }
     ensures flag { (flag head.use_word).reads input.old.rest ≡ Some (is_some result, input.new.rest) }
@@ -111,7 +118,7 @@ pub fn use_word(input: &mut ParseBuffer<'_>) -> Option<Use>
 }
 
 /// Takes `try`.
-#[tactic(auto, unfolding(syn_tokens::specs::Sign::word_text, syn_parts::specs::Mark::word_at))]
+#[tactic(auto, unfolding(syn_tokens::specs::Sign::word_text, syn_lower_spec::specs::Mark::word_at))]
 pub fn try_word(input: &mut ParseBuffer<'_>) -> Option<Try>
     ensures value { Takes head.try_word input.old result input.new }
     ensures smaller { IfSome result (λ _. weight input.new.rest < weight input.old.rest) }
@@ -121,7 +128,7 @@ pub fn try_word(input: &mut ParseBuffer<'_>) -> Option<Try>
 }
 
 /// Takes `let`.
-#[tactic(auto, unfolding(syn_tokens::specs::Sign::word_text, syn_parts::specs::Mark::word_at))]
+#[tactic(auto, unfolding(syn_tokens::specs::Sign::word_text, syn_lower_spec::specs::Mark::word_at))]
 pub fn let_word(input: &mut ParseBuffer<'_>) -> Option<Let>
     ensures value { Takes head.let_word input.old result input.new }
     ensures smaller { IfSome result (λ _. weight input.new.rest < weight input.old.rest) }
@@ -131,7 +138,7 @@ pub fn let_word(input: &mut ParseBuffer<'_>) -> Option<Let>
 }
 
 /// Takes `raw`.
-#[tactic(auto, unfolding(syn_tokens::specs::Sign::word_text, syn_parts::specs::Mark::word_at))]
+#[tactic(auto, unfolding(syn_tokens::specs::Sign::word_text, syn_lower_spec::specs::Mark::word_at))]
 pub fn raw_word(input: &mut ParseBuffer<'_>) -> Option<Raw>
     ensures value { Takes head.raw_word input.old result input.new }
     ensures smaller { IfSome result (λ _. weight input.new.rest < weight input.old.rest) }
@@ -141,7 +148,7 @@ pub fn raw_word(input: &mut ParseBuffer<'_>) -> Option<Raw>
 }
 
 /// Takes `await`.
-#[tactic(auto, unfolding(syn_tokens::specs::Sign::word_text, syn_parts::specs::Mark::word_at))]
+#[tactic(auto, unfolding(syn_tokens::specs::Sign::word_text, syn_lower_spec::specs::Mark::word_at))]
 pub fn await_word(input: &mut ParseBuffer<'_>) -> Option<Await>
     ensures value { Takes head.await_word input.old result input.new }
     ensures smaller { IfSome result (λ _. weight input.new.rest < weight input.old.rest) }
@@ -151,7 +158,7 @@ pub fn await_word(input: &mut ParseBuffer<'_>) -> Option<Await>
 }
 
 /// Takes `if`.
-#[tactic(auto, unfolding(syn_tokens::specs::Sign::word_text, syn_parts::specs::Mark::word_at))]
+#[tactic(auto, unfolding(syn_tokens::specs::Sign::word_text, syn_lower_spec::specs::Mark::word_at))]
 pub fn if_word(input: &mut ParseBuffer<'_>) -> Option<If>
     ensures value { Takes slot.if_word input.old result input.new }
     ensures smaller { IfSome result (λ _. weight input.new.rest < weight input.old.rest) }
@@ -161,7 +168,7 @@ pub fn if_word(input: &mut ParseBuffer<'_>) -> Option<If>
 }
 
 /// Takes `else`.
-#[tactic(auto, unfolding(syn_tokens::specs::Sign::word_text, syn_parts::specs::Mark::word_at))]
+#[tactic(auto, unfolding(syn_tokens::specs::Sign::word_text, syn_lower_spec::specs::Mark::word_at))]
 pub fn else_word(input: &mut ParseBuffer<'_>) -> Option<Else>
     ensures value { Takes slot.else_word input.old result input.new }
     ensures smaller { IfSome result (λ _. weight input.new.rest < weight input.old.rest) }
@@ -171,7 +178,7 @@ pub fn else_word(input: &mut ParseBuffer<'_>) -> Option<Else>
 }
 
 /// Takes `in`.
-#[tactic(auto, unfolding(syn_tokens::specs::Sign::word_text, syn_parts::specs::Mark::word_at))]
+#[tactic(auto, unfolding(syn_tokens::specs::Sign::word_text, syn_lower_spec::specs::Mark::word_at))]
 pub fn in_word(input: &mut ParseBuffer<'_>) -> Option<In>
     ensures value { Takes slot.in_word input.old result input.new }
     ensures smaller { IfSome result (λ _. weight input.new.rest < weight input.old.rest) }
@@ -181,7 +188,7 @@ pub fn in_word(input: &mut ParseBuffer<'_>) -> Option<In>
 }
 
 /// Takes `while`.
-#[tactic(auto, unfolding(syn_tokens::specs::Sign::word_text, syn_parts::specs::Mark::word_at))]
+#[tactic(auto, unfolding(syn_tokens::specs::Sign::word_text, syn_lower_spec::specs::Mark::word_at))]
 pub fn while_word(input: &mut ParseBuffer<'_>) -> Option<While>
     ensures value { Takes slot.while_word input.old result input.new }
     ensures smaller { IfSome result (λ _. weight input.new.rest < weight input.old.rest) }
@@ -191,7 +198,7 @@ pub fn while_word(input: &mut ParseBuffer<'_>) -> Option<While>
 }
 
 /// Takes `match`.
-#[tactic(auto, unfolding(syn_tokens::specs::Sign::word_text, syn_parts::specs::Mark::word_at))]
+#[tactic(auto, unfolding(syn_tokens::specs::Sign::word_text, syn_lower_spec::specs::Mark::word_at))]
 pub fn match_word(input: &mut ParseBuffer<'_>) -> Option<Match>
     ensures value { Takes slot.match_word input.old result input.new }
     ensures smaller { IfSome result (λ _. weight input.new.rest < weight input.old.rest) }
@@ -201,7 +208,7 @@ pub fn match_word(input: &mut ParseBuffer<'_>) -> Option<Match>
 }
 
 /// Takes `become`.
-#[tactic(auto, unfolding(syn_tokens::specs::Sign::word_text, syn_parts::specs::Mark::word_at))]
+#[tactic(auto, unfolding(syn_tokens::specs::Sign::word_text, syn_lower_spec::specs::Mark::word_at))]
 pub fn become_word(input: &mut ParseBuffer<'_>) -> Option<Become>
     ensures value { Takes read.become_word input.old result input.new }
     ensures smaller { IfSome result (λ _. weight input.new.rest < weight input.old.rest) }
@@ -211,7 +218,7 @@ pub fn become_word(input: &mut ParseBuffer<'_>) -> Option<Become>
 }
 
 /// Takes `|`.
-#[tactic(auto, unfolding(syn_tokens::specs::Sign::sign_text, syn_parts::specs::Mark::sign_at))]
+#[tactic(auto, unfolding(syn_tokens::specs::Sign::sign_text, syn_lower_spec::specs::Mark::sign_at))]
 pub fn bar(input: &mut ParseBuffer<'_>) -> Option<Or>
     ensures value { Takes head.bar input.old result input.new }
     ensures smaller { IfSome result (λ _. weight input.new.rest < weight input.old.rest) }
@@ -221,7 +228,7 @@ pub fn bar(input: &mut ParseBuffer<'_>) -> Option<Or>
 }
 
 /// Whether `|` comes first, whatever is joined to it.
-#[tactic(auto, unfolding(syn_tokens::specs::Sign::sign_text, syn_parts::specs::Mark::sign_at))]
+#[tactic(auto, unfolding(syn_tokens::specs::Sign::sign_text, syn_lower_spec::specs::Mark::sign_at))]
 pub fn bar_at(input: &ParseBuffer<'_>) -> bool
     ensures { result ≡ head.bar.at input.now.rest }
 {
@@ -229,7 +236,7 @@ pub fn bar_at(input: &ParseBuffer<'_>) -> bool
 }
 
 /// Takes `-`.
-#[tactic(auto, unfolding(syn_tokens::specs::Sign::sign_text, syn_parts::specs::Mark::sign_at))]
+#[tactic(auto, unfolding(syn_tokens::specs::Sign::sign_text, syn_lower_spec::specs::Mark::sign_at))]
 pub fn minus(input: &mut ParseBuffer<'_>) -> Option<Minus>
     ensures value { Takes head.minus input.old result input.new }
     ensures smaller { IfSome result (λ _. weight input.new.rest < weight input.old.rest) }
@@ -239,7 +246,7 @@ pub fn minus(input: &mut ParseBuffer<'_>) -> Option<Minus>
 }
 
 /// Takes `=>`.
-#[tactic(auto, unfolding(syn_tokens::specs::Sign::sign_text, syn_parts::specs::Mark::sign_at))]
+#[tactic(auto, unfolding(syn_tokens::specs::Sign::sign_text, syn_lower_spec::specs::Mark::sign_at))]
 pub fn fat_arrow(input: &mut ParseBuffer<'_>) -> Option<FatArrow>
     ensures value { Takes slot.fat_arrow input.old result input.new }
     ensures smaller { IfSome result (λ _. weight input.new.rest < weight input.old.rest) }
@@ -249,7 +256,7 @@ pub fn fat_arrow(input: &mut ParseBuffer<'_>) -> Option<FatArrow>
 }
 
 /// Takes `.` that doesn't begin `..`.
-#[tactic(auto, unfolding(syn_tokens::specs::Sign::sign_text, syn_parts::specs::Mark::sign_at, syn_grammar::specs::Front::dot_at))]
+#[tactic(auto, unfolding(syn_tokens::specs::Sign::sign_text, syn_lower_spec::specs::Mark::sign_at, syn_expr_spec::specs::Front::dot_at))]
 pub fn dot(input: &mut ParseBuffer<'_>) -> Option<Dot>
     ensures value { Takes (record { at = front.dot_at; count = 1 }) input.old result input.new }
     ensures smaller { IfSome result (λ _. weight input.new.rest < weight input.old.rest) }
@@ -259,4 +266,18 @@ pub fn dot(input: &mut ParseBuffer<'_>) -> Option<Dot>
         return None;
     }
     sign(input)
+}
+
+/// Reads a label, if a lifetime comes first (Rust Reference, "Loop labels"). A missing `:` is refused as `ExpectedToken`
+/// of it.
+pub fn maybe_label(input: &mut ParseBuffer<'_>) -> Result<Option<Label>>
+    ensures value { Reads (mapped label_of) (head.label.reads input.old.rest) result input.new.rest }
+    ensures noted { input.new.noted ≡ input.old.noted }
+    ensures shrinks { weight input.new.rest ≤ weight input.old.rest }
+{
+    if lifetime_at(input) {
+        Ok(Some(label(input)?))
+    } else {
+        Ok(None)
+    }
 }

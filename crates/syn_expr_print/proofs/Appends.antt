@@ -1,21 +1,21 @@
 -- What follows the own tokens of a tree follows them as they are.
 use Rattle.std.proofs.Common.{◌≡◌, Bool, true, false, List, [], ◌∷◌, ◌++◌, Option, Some, None, refl}
 use Rattle.std.specs.Prelude.{codes, not, ◌||◌, if◌then◌else◌}
-use Rattle.syn_lexer.specs.declared.lexeme.Delimiter.TheVariants as del
+use Rattle.syn_lexer.specs.declared.front.Delimiter.TheVariants as del
 use Rattle.syn_tokens.specs.Tok.{Tok, ident}
 use Rattle.syn_tokens.specs.Sign.{sign_toks}
-use Rattle.syn_parts.specs.Text.{Text}
-use Rattle.syn_parts.specs.Pat.{PatTree}
-use Rattle.syn_parts.specs.Form.{is_nil}
-use Rattle.syn_parts.specs.Own.{alone, joint, comma_before, enclosed, elements_own, lifetime_own, lifetimes_own, block_own}
-use Rattle.syn_parts.specs.PatOwn.{pat_own}
-use Rattle.syn_parts.proofs.Appends.{both, one, if_there, if_some, group_first, verbatim_append, lifetime_append, lit_append, type_append, arguments_append, lifetimes_own-append, return_append}
-use Rattle.syn_pat_kinds.proofs.Appends.{words, attributes_append, qualified_append, path_append, member_append, pat_append}
-use Rattle.syn_grammar.specs.declared.kinds.Infix.{Infix}
-use Rattle.syn_grammar.specs.declared.kinds.Infix.TheVariants as inf
-use Rattle.syn_grammar.specs.Op.{binary_text, limits_text, unary_text}
-use Rattle.syn_grammar.specs.Tree as e
-use Rattle.syn_grammar.specs.Tree.{Tree, Children, Jump, Leaf, Prefix, Postfix, Trailer, Frame, Enclosure, Piece, Ending, ClosureHead, outers, leaf, paren, attributed, prefixed, infixed, postfixed, tail, frame, none, child, sign_before, label_own, body_own, jump_own, leaf_own, closure_own, prefix_own, infix_own, postfix_own, trailer_own, frame_own, enclosure, piece_own, is_silent, is_repeated, inside_of, ending_own, framed, behind_operands, own, children_own}
+use Rattle.syn_lower_spec.specs.Text.{Text}
+use Rattle.syn_lower_spec.specs.Pat.{PatTree}
+use Rattle.syn_lower_spec.specs.Form.{is_nil}
+use Rattle.syn_lower_spec.specs.Own.{alone, joint, comma_before, enclosed, elements_own, lifetime_own, lifetimes_own, block_own}
+use Rattle.syn_lower_spec.specs.PatOwn.{pat_own}
+use Rattle.syn_lower_spec.proofs.Appends.{both, one, if_there, if_some, group_first, verbatim_append, lifetime_append, lit_append, type_append, arguments_append, lifetimes_own-append, return_append}
+use Rattle.syn_pat.proofs.Appends.{words, attributes_append, qualified_append, path_append, member_append, pat_append}
+use Rattle.syn_expr_spec.specs.declared.kinds.Infix.{Infix}
+use Rattle.syn_expr_spec.specs.declared.kinds.Infix.TheVariants as inf
+use Rattle.syn_expr_spec.specs.Op.{binary_text, limits_text, unary_text}
+use Rattle.syn_expr_spec.specs.Tree as e
+use Rattle.syn_expr_spec.specs.Tree.{Tree, Children, Jump, Leaf, Prefix, Postfix, Trailer, Frame, Enclosure, Piece, Ending, ClosureHead, outers, leaf, paren, attributed, prefixed, infixed, postfixed, tail, frame, none, child, sign_before, label_own, body_own, jump_own, leaf_own, closure_own, prefix_own, infix_own, postfix_own, trailer_own, frame_own, enclosure, piece_own, is_silent, is_repeated, inside_of, ending_own, framed, behind_operands, own, children_own}
 
 -- tokens before others, which follow as they are
 abbrev pub Before : (List Tok → List Tok) → Type 0

@@ -2,17 +2,17 @@
 use Rattle.std.specs.Prelude.{not, ◌||◌, ◌&&◌, codes}
 use Rattle.std.proofs.Common.{◌≡◌, Bool, true, false, List, [], ◌∷◌, ◌++◌, refl, sym, ap, ◌∙◌, append_assoc}
 use Rattle.syn_tokens.specs.Tok.{Tok, ident}
-use Rattle.syn_parts.specs.Tree.{AttributeTree}
-use Rattle.syn_parts.specs.Pat.{PatTree}
-use Rattle.syn_parts.specs.Own.{alone, joint}
-use Rattle.syn_parts.specs.PatOwn.{attributes_own, pat_own}
-use Rattle.syn_pat_kinds.proofs.Appends.{attributes_append, pat_append}
-use Rattle.syn_grammar.specs.Next.{enclosed, in_arm}
-use Rattle.syn_grammar.specs.Tree as e
-use Rattle.syn_grammar.specs.Tree.{Tree, Children, Piece, child, piece_own, ending_own, is_none, is_block_like, with_comma}
-use Rattle.syn_expr_kinds.specs.Pats.{guard_children, arm_ending}
-use Rattle.syn_expr_kinds.specs.Printed.{whole}
-use Rattle.syn_expr_collect.specs.Arm.{last_guard}
+use Rattle.syn_lower_spec.specs.Tree.{AttributeTree}
+use Rattle.syn_lower_spec.specs.Pat.{PatTree}
+use Rattle.syn_lower_spec.specs.Own.{alone, joint}
+use Rattle.syn_lower_spec.specs.PatOwn.{attributes_own, pat_own}
+use Rattle.syn_pat.proofs.Appends.{attributes_append, pat_append}
+use Rattle.syn_expr_spec.specs.Next.{enclosed, in_arm}
+use Rattle.syn_expr_spec.specs.Tree as e
+use Rattle.syn_expr_spec.specs.Tree.{Tree, Children, Piece, child, piece_own, ending_own, is_none, is_block_like, with_comma}
+use Rattle.syn_expr_ast.specs.Pats.{guard_children, arm_ending}
+use Rattle.syn_expr_ast.specs.Printed.{whole}
+use Rattle.syn_expr_fixup.specs.Below.{last_guard}
 use Rattle.syn_expr_print.specs.Printing.{children_spelled, piece_spelled}
 use Rattle.syn_expr_print.specs.Placed.{comma_if}
 use Rattle.syn_expr_print.proofs.Children.{loud-spelled}

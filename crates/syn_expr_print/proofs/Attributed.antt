@@ -1,22 +1,20 @@
 -- A node after its attributes, and without them.
 use Rattle.std.proofs.Common.{◌≡◌, Bool, true, false, List, [], ◌∷◌, ◌++◌, refl, sym, ap, ◌∙◌, append_assoc}
 use Rattle.syn_tokens.specs.Tok.{Tok}
-use Rattle.syn_parts.specs.Tree.{AttributeTree}
-use Rattle.syn_parts.specs.PatOwn.{attributes_own}
-use Rattle.syn_grammar.specs.declared.next.Context.{Context}
-use Rattle.syn_grammar.specs.Next.{attributed_context}
-use Rattle.syn_grammar.specs.Rule.{is_operation}
-use Rattle.syn_grammar.specs.Stands.{is_attributed, is_range_leaf, is_range_prefix}
-use Rattle.syn_grammar.specs.Tree as e
-use Rattle.syn_grammar.specs.Tree.{Tree, Leaf, Prefix, leaf, paren, attributed, outers, prefixed, infixed, postfixed, tail, frame}
-use Rattle.syn_expr_summaries.specs.Kind.{kind_at}
-use Rattle.syn_expr_summaries.specs.Label as label
-use Rattle.syn_expr_summaries.specs.Label.{leaf_kind, prefix_kind}
-use Rattle.syn_expr_kinds.specs.Node.{OperandTrees, no_trees, one_tree, two_trees, based, framed, attributes_at, operands_at}
-use Rattle.syn_parts.specs.Form.{is_nil}
-use Rattle.syn_expr_print.specs.Operation.{is_operation_kind}
+use Rattle.syn_lower_spec.specs.Tree.{AttributeTree}
+use Rattle.syn_lower_spec.specs.PatOwn.{attributes_own}
+use Rattle.syn_expr_spec.specs.declared.next.Context.{Context}
+use Rattle.syn_expr_spec.specs.Next.{attributed_context}
+use Rattle.syn_expr_spec.specs.Rule.{is_operation}
+use Rattle.syn_expr_spec.specs.Stands.{is_attributed, is_range_leaf, is_range_prefix}
+use Rattle.syn_expr_spec.specs.Tree as e
+use Rattle.syn_expr_spec.specs.Tree.{Tree, Leaf, Prefix, leaf, paren, attributed, outers, prefixed, infixed, postfixed, tail, frame}
+use Rattle.syn_expr_ast.specs.Label.{kind_at, leaf_kind, prefix_kind}
+use Rattle.syn_expr_ast.specs.Label as label
+use Rattle.syn_expr_ast.specs.Node.{OperandTrees, no_trees, one_tree, two_trees, based, framed, attributes_at, operands_at}
+use Rattle.syn_lower_spec.specs.Form.{is_nil}
+use Rattle.syn_expr_print.specs.Shape.{is_operation_kind, ShapeTree, leaf_shape, paren_shape, prefix_shape, infix_shape, postfix_shape, tail_shape, frame_shape, shape_at}
 use Rattle.syn_expr_print.specs.Printing.{spelled, spelled_in, core, node_of, IsBorrowed}
-use Rattle.syn_expr_print.specs.Shape.{ShapeTree, leaf_shape, paren_shape, prefix_shape, infix_shape, postfix_shape, tail_shape, frame_shape, shape_at}
 use Rattle.syn_expr_print.proofs.Spellings.{spelled-attributed, core-plain}
 
 -- ---- operations

@@ -2,25 +2,24 @@
 use Rattle.std.specs.Prelude.{Option, Some, is_some, Result}
 use Rattle.std.proofs.Common.{◌≡◌, Bool, true, false, List, [], ◌++◌, OnOk, refl, sym, ap, ◌∙◌, subst, append_assoc}
 use Rattle.syn_tokens.specs.Tok.{Tok}
-use Rattle.syn_parts.specs.Tree.{AttributeTree}
+use Rattle.syn_lower_spec.specs.Tree.{AttributeTree}
 use Rattle.syn_lower_leaves.specs.View.{mapped}
-use Rattle.syn_grammar.specs.declared.kinds.Infix.{Infix}
-use Rattle.syn_grammar.specs.declared.next.Context.{Context}
-use Rattle.syn_grammar.specs.declared.summary.Summary.{Summary}
-use Rattle.syn_grammar.specs.Op.{level}
-use Rattle.syn_grammar.specs.Next.{left_context, right_context, base_context}
-use Rattle.syn_grammar.specs.Summaries.{summary_of, stack, children_below, place_by, left_by, base_by}
-use Rattle.syn_grammar.specs.Tree.{Tree, Children, Postfix, Trailer, leaf, paren, attributed, prefixed, infixed, postfixed, tail, frame, none, child, infix_own, postfix_own, postfix_op, trailer_own}
-use Rattle.syn_expr_summaries.specs.Kind.{kind_at}
-use Rattle.syn_expr_summaries.specs.Label as label
-use Rattle.syn_expr_summaries.specs.Label.{postfix_kind, trailer_kind}
-use Rattle.syn_expr_summaries.specs.declared.kind.NodeKind.{NodeKind}
-use Rattle.syn_expr_summaries.specs.declared.kind.NodeKind.TheVariants as kind
-use Rattle.syn_expr_summaries.specs.declared.label.PostfixKind.{PostfixKind}
-use Rattle.syn_expr_summaries.specs.declared.label.TrailerKind.{TrailerKind}
-use Rattle.syn_expr_kinds.specs.Node.{operands_at, based_by, operator_at, postfix_at, trailer_at, operand_children, first_of, second_of}
-use Rattle.syn_expr_kinds.proofs.Borrowed.{first-based, children-based}
-use Rattle.syn_expr_collect.specs.Spine.{behind_below}
+use Rattle.syn_expr_spec.specs.declared.kinds.Infix.{Infix}
+use Rattle.syn_expr_spec.specs.declared.next.Context.{Context}
+use Rattle.syn_expr_spec.specs.declared.summary.Summary.{Summary}
+use Rattle.syn_expr_spec.specs.Op.{level}
+use Rattle.syn_expr_spec.specs.Next.{left_context, right_context, base_context}
+use Rattle.syn_expr_spec.specs.Summaries.{summary_of, stack, children_below, place_by, left_by, base_by}
+use Rattle.syn_expr_spec.specs.Tree.{Tree, Children, Postfix, Trailer, leaf, paren, attributed, prefixed, infixed, postfixed, tail, frame, none, child, infix_own, postfix_own, postfix_op, trailer_own}
+use Rattle.syn_expr_ast.specs.Label.{kind_at, postfix_kind, trailer_kind}
+use Rattle.syn_expr_ast.specs.Label as label
+use Rattle.syn_expr_ast.specs.declared.label.NodeKind.{NodeKind}
+use Rattle.syn_expr_ast.specs.declared.label.NodeKind.TheVariants as kind
+use Rattle.syn_expr_ast.specs.declared.label.PostfixKind.{PostfixKind}
+use Rattle.syn_expr_ast.specs.declared.label.TrailerKind.{TrailerKind}
+use Rattle.syn_expr_ast.specs.Node.{operands_at, based_by, operator_at, postfix_at, trailer_at, operand_children, first_of, second_of}
+use Rattle.syn_expr_ast.proofs.Borrowed.{first-based, children-based}
+use Rattle.syn_expr_fixup.specs.Spine.{behind_below}
 use Rattle.syn_expr_print.specs.Printing.{spelled_in, children_spelled}
 use Rattle.syn_expr_print.specs.Spine.{begins, first_place, first_wrapped, behind_spelled}
 use Rattle.syn_expr_print.proofs.Borrowed.{infixed-operator, postfixed-operator}

@@ -1,27 +1,26 @@
 -- A node by its parts: what is printed of it, and the summaries and the size of what is below.
 use Rattle.std.specs.Prelude.{Some, None}
 use Rattle.std.proofs.Common.{◌≡◌, true, false, List, [], ◌∷◌, ◌++◌, refl, sym, ap, ◌∙◌}
-use Rattle.syn_lexer.specs.declared.lexeme.Delimiter.TheVariants as del
+use Rattle.syn_lexer.specs.declared.front.Delimiter.TheVariants as del
 use Rattle.syn_tokens.specs.Tok.{group, inside}
-use Rattle.syn_parts.specs.Own as own_parts
-use Rattle.syn_grammar.specs.declared.kinds.Infix.{Infix}
-use Rattle.syn_grammar.specs.declared.next.Context.{Context}
-use Rattle.syn_grammar.specs.Next.{enclosed, prefix_context}
-use Rattle.syn_grammar.specs.Summaries.{summary_of, stack, below, children_below, prefix_by}
-use Rattle.syn_grammar.specs.Tree as e
-use Rattle.syn_grammar.specs.Tree.{Tree, Leaf, Postfix, Frame, Enclosure, leaf, paren, attributed, prefixed, infixed, postfixed, tail, frame, none, leaf_own, prefix_own, postfix_op, frame_own, enclosure, needs_last_comma}
-use Rattle.syn_expr_summaries.specs.Kind.{kind_at}
-use Rattle.syn_expr_summaries.specs.Label as label
-use Rattle.syn_expr_summaries.specs.Label.{prefix_kind, postfix_kind}
-use Rattle.syn_expr_summaries.specs.declared.kind.NodeKind.TheVariants as kind
-use Rattle.syn_expr_summaries.specs.declared.label.LeafKind.{LeafKind}
-use Rattle.syn_expr_summaries.specs.declared.label.PrefixKind.{PrefixKind}
-use Rattle.syn_expr_summaries.specs.declared.label.PostfixKind.{PostfixKind}
-use Rattle.syn_expr_summaries.specs.declared.label.TrailerKind.{TrailerKind}
-use Rattle.syn_expr_summaries.specs.declared.label.FrameKind.{FrameKind}
+use Rattle.syn_lower_spec.specs.Own as own_parts
+use Rattle.syn_expr_spec.specs.declared.kinds.Infix.{Infix}
+use Rattle.syn_expr_spec.specs.declared.next.Context.{Context}
+use Rattle.syn_expr_spec.specs.Next.{enclosed, prefix_context}
+use Rattle.syn_expr_spec.specs.Summaries.{summary_of, stack, below, children_below, prefix_by}
+use Rattle.syn_expr_spec.specs.Tree as e
+use Rattle.syn_expr_spec.specs.Tree.{Tree, Leaf, Postfix, Frame, Enclosure, leaf, paren, attributed, prefixed, infixed, postfixed, tail, frame, none, leaf_own, prefix_own, postfix_op, frame_own, enclosure, needs_last_comma}
+use Rattle.syn_expr_ast.specs.Label.{kind_at, prefix_kind, postfix_kind}
+use Rattle.syn_expr_ast.specs.Label as label
+use Rattle.syn_expr_ast.specs.declared.label.NodeKind.TheVariants as kind
+use Rattle.syn_expr_ast.specs.declared.label.LeafKind.{LeafKind}
+use Rattle.syn_expr_ast.specs.declared.label.PrefixKind.{PrefixKind}
+use Rattle.syn_expr_ast.specs.declared.label.PostfixKind.{PostfixKind}
+use Rattle.syn_expr_ast.specs.declared.label.TrailerKind.{TrailerKind}
+use Rattle.syn_expr_ast.specs.declared.label.FrameKind.{FrameKind}
 use Rattle.syn_expr_print.specs.Shape.{leaf_shape, paren_shape, prefix_shape, frame_shape, shape_at}
-use Rattle.syn_expr_kinds.specs.Node.{no_trees, one_tree, framed, operands_at, leaf_at, is_paren, prefix_at, operator_at, postfix_at, trailer_at, frame_at, operand_children, first_of, second_of}
-use Rattle.syn_expr_kinds.specs.Pats.{strays}
+use Rattle.syn_expr_ast.specs.Node.{no_trees, one_tree, framed, operands_at, leaf_at, is_paren, prefix_at, operator_at, postfix_at, trailer_at, frame_at, operand_children, first_of, second_of}
+use Rattle.syn_expr_ast.specs.Pats.{strays}
 use Rattle.syn_expr_print.specs.Printing.{spelled, spelled_in, children_spelled, core, node_of, IsBorrowed}
 use Rattle.syn_expr_print.proofs.Spellings.{leaf-spelled, paren-spelled, prefixed-spelled, open-spelled, closed-spelled, strays-spelled, strays-below, below-core}
 

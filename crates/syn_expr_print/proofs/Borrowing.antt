@@ -1,28 +1,28 @@
 -- A node has the parts that its kind says, as `a + b` has an operator between two operands; and its operands are smaller.
 use Rattle.std.specs.Prelude.{Option, Some, None, is_some, Result, Ok, Err}
 use Rattle.std.proofs.Common.{◌≡◌, ℕ, ◌+◌, ◌<◌, true, List, [], ◌++◌, OnOk, subst, refl, sym, ap, ◌∙◌, arith}
-use Rattle.syn_lexer.specs.declared.lexeme.Delimiter.TheVariants as del
+use Rattle.syn_lexer.specs.declared.front.Delimiter.TheVariants as del
 use Rattle.syn_tokens.specs.Tok.{Tok}
-use Rattle.syn_parts.specs.Own as own_parts
-use Rattle.syn_grammar.specs.declared.kinds.Infix.{Infix}
-use Rattle.syn_grammar.specs.declared.next.Context.{Context}
-use Rattle.syn_grammar.specs.Next.{enclosed}
-use Rattle.syn_grammar.specs.Summaries.{stack, below}
-use Rattle.syn_grammar.specs.Tree as e
-use Rattle.syn_grammar.specs.Tree.{Tree, leaf_own, size, children_size}
-use Rattle.syn_expr_summaries.specs.Kind.{kind_at}
-use Rattle.syn_expr_summaries.specs.declared.kind.NodeKind.TheVariants as kind
-use Rattle.syn_expr_summaries.specs.declared.label.LeafKind.{LeafKind}
-use Rattle.syn_expr_summaries.specs.declared.label.PrefixKind.{PrefixKind}
-use Rattle.syn_expr_summaries.specs.declared.label.PostfixKind.{PostfixKind}
-use Rattle.syn_expr_summaries.specs.declared.label.TrailerKind.{TrailerKind}
-use Rattle.syn_expr_summaries.specs.declared.label.FrameKind.{FrameKind}
-use Rattle.syn_expr_kinds.specs.Node.{operands_at, leaf_at, is_paren, prefix_at, operator_at, postfix_at, trailer_at, frame_at, operand_children, first_of, second_of}
+use Rattle.syn_lower_spec.specs.Own as own_parts
+use Rattle.syn_expr_spec.specs.declared.kinds.Infix.{Infix}
+use Rattle.syn_expr_spec.specs.declared.next.Context.{Context}
+use Rattle.syn_expr_spec.specs.Next.{enclosed}
+use Rattle.syn_expr_spec.specs.Summaries.{stack, below}
+use Rattle.syn_expr_spec.specs.Tree as e
+use Rattle.syn_expr_spec.specs.Tree.{Tree, leaf_own, size, children_size}
+use Rattle.syn_expr_ast.specs.Label.{kind_at}
+use Rattle.syn_expr_ast.specs.declared.label.NodeKind.TheVariants as kind
+use Rattle.syn_expr_ast.specs.declared.label.LeafKind.{LeafKind}
+use Rattle.syn_expr_ast.specs.declared.label.PrefixKind.{PrefixKind}
+use Rattle.syn_expr_ast.specs.declared.label.PostfixKind.{PostfixKind}
+use Rattle.syn_expr_ast.specs.declared.label.TrailerKind.{TrailerKind}
+use Rattle.syn_expr_ast.specs.declared.label.FrameKind.{FrameKind}
+use Rattle.syn_expr_ast.specs.Node.{operands_at, leaf_at, is_paren, prefix_at, operator_at, postfix_at, trailer_at, frame_at, operand_children, first_of, second_of}
 use Rattle.syn_lower_leaves.specs.View.{mapped}
-use Rattle.syn_expr_print.specs.declared.summaries.Summaries.{Summaries}
+use Rattle.syn_expr_print.specs.declared.print.Summaries.{Summaries}
 use Rattle.syn_expr_print.specs.Printing.{spelled, core, IsBorrowed}
 use Rattle.syn_expr_print.specs.Taken.{Taken}
-use Rattle.syn_expr_kinds.proofs.Sizes.{first-smaller, second-smaller, children-smaller}
+use Rattle.syn_expr_ast.proofs.Sizes.{first-smaller, second-smaller, children-smaller}
 use Rattle.syn_expr_print.proofs.Borrowed.{leaf-there, leaf-text, leaf-below, is-paren, paren-first, paren-text, paren-below, prefixed-there, prefixed-first, prefixed-below, infixed-operator, infixed-second, postfixed-there, tail-there, frame-there}
 use Rattle.syn_expr_print.proofs.Stacks.{taken-none}
 

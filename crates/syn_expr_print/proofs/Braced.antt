@@ -1,15 +1,15 @@
 -- What is printed after `else` and after the output of a closure: an `if` or a block, or anything else in braces.
 use Rattle.std.specs.Prelude.{if◌then◌else◌}
 use Rattle.std.proofs.Common.{◌≡◌, Bool, true, false, List, [], ◌∷◌, refl, ap, ◌∙◌}
-use Rattle.syn_lexer.specs.declared.lexeme.Delimiter.TheVariants as del
+use Rattle.syn_lexer.specs.declared.front.Delimiter.TheVariants as del
 use Rattle.syn_tokens.specs.Tok.{group, inside}
-use Rattle.syn_parts.specs.Tree.{AttributeTree}
-use Rattle.syn_grammar.specs.declared.kinds.Level.TheVariants as lev
-use Rattle.syn_grammar.specs.Next.{enclosed, in_statement}
-use Rattle.syn_grammar.specs.Rule.{put, place_asks, bare, chained_bare, is_chainable, is_plain_block}
-use Rattle.syn_grammar.specs.Tree as e
-use Rattle.syn_grammar.specs.Tree.{Tree, Children, Leaf, Frame, leaf, paren, attributed, prefixed, infixed, postfixed, tail, frame, own_tokens, plain_block, fill}
-use Rattle.syn_expr_kinds.specs.Printed.{whole}
+use Rattle.syn_lower_spec.specs.Tree.{AttributeTree}
+use Rattle.syn_expr_spec.specs.declared.kinds.Level.TheVariants as lev
+use Rattle.syn_expr_spec.specs.Next.{enclosed, in_statement}
+use Rattle.syn_expr_spec.specs.Rule.{put, place_asks, bare, chained_bare, is_chainable, is_plain_block}
+use Rattle.syn_expr_spec.specs.Tree as e
+use Rattle.syn_expr_spec.specs.Tree.{Tree, Children, Leaf, Frame, leaf, paren, attributed, prefixed, infixed, postfixed, tail, frame, own_tokens, plain_block, fill}
+use Rattle.syn_expr_ast.specs.Printed.{whole}
 use Rattle.syn_expr_print.specs.Printing.{spelled, piece_spelled}
 
 chainable-fill : (t : Tree) → is_chainable (fill t) ≡ is_chainable t

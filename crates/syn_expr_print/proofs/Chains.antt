@@ -1,15 +1,15 @@
 -- What is printed after `else`, by its parts.
 use Rattle.std.proofs.Common.{◌≡◌, true, false, List, [], ◌∷◌, refl}
-use Rattle.syn_lexer.specs.declared.lexeme.Delimiter.TheVariants as del
+use Rattle.syn_lexer.specs.declared.front.Delimiter.TheVariants as del
 use Rattle.syn_tokens.specs.Tok.{group, inside}
-use Rattle.syn_parts.specs.Tree.{AttributeTree}
-use Rattle.syn_grammar.specs.Next.{enclosed, in_statement}
-use Rattle.syn_grammar.specs.Rule.{is_chainable}
-use Rattle.syn_grammar.specs.Tree as e
-use Rattle.syn_grammar.specs.Tree.{Tree, leaf, paren, attributed, prefixed, infixed, postfixed, tail, frame, none, child}
-use Rattle.syn_expr_kinds.specs.Node.{frame_at, operands_at}
+use Rattle.syn_lower_spec.specs.Tree.{AttributeTree}
+use Rattle.syn_expr_spec.specs.Next.{enclosed, in_statement}
+use Rattle.syn_expr_spec.specs.Rule.{is_chainable}
+use Rattle.syn_expr_spec.specs.Tree as e
+use Rattle.syn_expr_spec.specs.Tree.{Tree, leaf, paren, attributed, prefixed, infixed, postfixed, tail, frame, none, child}
+use Rattle.syn_expr_ast.specs.Node.{frame_at, operands_at}
 use Rattle.syn_expr_print.specs.Placed.{is_block, is_if_expr}
-use Rattle.syn_expr_kinds.specs.Printed.{whole}
+use Rattle.syn_expr_ast.specs.Printed.{whole}
 use Rattle.syn_expr_print.specs.Printing.{spelled, piece_spelled, core, node_of, IsBorrowed}
 use Rattle.syn_expr_print.specs.Shape.{shape_at}
 use Rattle.syn_expr_print.proofs.Braced.{chained-braced, chained-frame, chained-attributed, chained-leaf, chained-attributed-leaf}

@@ -1,22 +1,21 @@
 -- What is printed of operands in places of their own, one after the other.
-use Rattle.std.specs.Prelude.{◌||◌, not, if◌then◌else◌}
+use Rattle.std.specs.Prelude.{◌||◌, not, if◌then◌else◌, codes}
 use Rattle.std.proofs.Common.{◌≡◌, Bool, true, false, List, [], ◌∷◌, ◌++◌, refl, ap, ◌∙◌}
 use Rattle.std.proofs.lemmas.List.{append-nil}
-use Rattle.std.specs.Prelude.{codes}
-use Rattle.syn_lexer.specs.declared.lexeme.Delimiter.TheVariants as del
+use Rattle.syn_lexer.specs.declared.front.Delimiter.TheVariants as del
 use Rattle.syn_tokens.specs.Tok.{Tok, ident}
-use Rattle.syn_parts.specs.Tree.{AttributeTree}
-use Rattle.syn_parts.specs.Own.{alone, joint}
-use Rattle.syn_parts.specs.Own as own_parts
-use Rattle.syn_parts.specs.PatOwn.{attributes_own}
-use Rattle.syn_pat_kinds.proofs.Appends.{attributes_append}
-use Rattle.syn_grammar.specs.declared.kinds.Level.TheVariants as lev
-use Rattle.syn_grammar.specs.Next.{enclosed, in_condition, in_statement, piece_context}
-use Rattle.syn_grammar.specs.Rule.{put, piece_put, place_asks, bare, bare_children}
-use Rattle.syn_grammar.specs.Tree as e
-use Rattle.syn_grammar.specs.Tree.{Tree, Children, Body, Piece, Ending, none, child, inners, own, children_own, piece_own, ending_own, inside_of, body_own, is_silent, is_none, needs_comma, with_comma, fill_piece, fill, fill_children}
+use Rattle.syn_lower_spec.specs.Tree.{AttributeTree}
+use Rattle.syn_lower_spec.specs.Own.{alone, joint}
+use Rattle.syn_lower_spec.specs.Own as own_parts
+use Rattle.syn_lower_spec.specs.PatOwn.{attributes_own}
+use Rattle.syn_pat.proofs.Appends.{attributes_append}
+use Rattle.syn_expr_spec.specs.declared.kinds.Level.TheVariants as lev
+use Rattle.syn_expr_spec.specs.Next.{enclosed, in_condition, in_statement, piece_context}
+use Rattle.syn_expr_spec.specs.Rule.{put, piece_put, place_asks, bare, bare_children}
+use Rattle.syn_expr_spec.specs.Tree as e
+use Rattle.syn_expr_spec.specs.Tree.{Tree, Children, Body, Piece, Ending, none, child, inners, own, children_own, piece_own, ending_own, inside_of, body_own, is_silent, is_none, needs_comma, with_comma, fill_piece, fill, fill_children}
 use Rattle.syn_expr_print.specs.Placed.{comma_if}
-use Rattle.syn_expr_kinds.specs.Printed.{whole}
+use Rattle.syn_expr_ast.specs.Printed.{whole}
 use Rattle.syn_expr_print.specs.Printing.{children_spelled, piece_spelled}
 use Rattle.syn_expr_print.proofs.Appends.{piece_append, own_append}
 

@@ -2,13 +2,13 @@
 use Rattle.std.specs.Prelude.{◌-◌, ◌*◌, ◌^◌, min}
 use Rattle.std.proofs.Common.{◌≡◌, ℕ, true, false, ◌+◌, ◌≤◌, List, [], ◌∷◌, ◌++◌, length, arith}
 use Rattle.std.proofs.lemmas.List.{length-append}
-use Rattle.syn_grammar.specs.declared.summary.Summary.{Summary}
-use Rattle.syn_grammar.specs.Summaries.{summary_of, stack, below, children_below}
-use Rattle.syn_grammar.specs.Tree as e
-use Rattle.syn_grammar.specs.Tree.{Tree, Children, leaf, paren, attributed, prefixed, infixed, postfixed, tail, frame, none, child}
-use Rattle.syn_expr_print.specs.declared.summaries.Summaries.{Summaries}
+use Rattle.syn_expr_spec.specs.declared.summary.Summary.{Summary}
+use Rattle.syn_expr_spec.specs.Summaries.{summary_of, stack, below, children_below}
+use Rattle.syn_expr_spec.specs.Tree as e
+use Rattle.syn_expr_spec.specs.Tree.{Tree, Children, leaf, paren, attributed, prefixed, infixed, postfixed, tail, frame, none, child}
+use Rattle.syn_expr_print.specs.declared.print.Summaries.{Summaries}
 use Rattle.syn_expr_print.specs.Taken.{Taken}
-use Rattle.syn_expr_collect.specs.Visited.{visited, children_visited}
+use Rattle.syn_expr_fixup.specs.Visited.{visited, children_visited}
 
 one-more : (xs : List Summary) (n : Summary) → length (xs ++ n ∷ []) ≡ length xs + 1
 one-more xs n = length-append xs (n ∷ [])

@@ -5,16 +5,16 @@ use Rattle.std.proofs.lemmas.List.{append-nil}
 use Rattle.std.specs.declared.boxed.Box.{Box}
 use Rattle.std.specs.declared.alloc.Global.{Global}
 use Rattle.syn_tokens.specs.Tok.{Tok}
-use Rattle.syn_parts.specs.Tree.{AttributeTree}
-use Rattle.syn_parts.specs.Pat.{MemberTree}
-use Rattle.syn_parts.specs.Own.{alone}
-use Rattle.syn_lower_lists.specs.View.{values, trails, last_of, is_some_pair}
-use Rattle.syn_lower_lists.specs.declared.punctuated.Punctuated.{Punctuated}
-use Rattle.syn_grammar.specs.Next.{enclosed}
-use Rattle.syn_grammar.specs.Tree as e
-use Rattle.syn_grammar.specs.Tree.{Tree, Children, Ending, child, piece_own, ending_own, is_none, with_comma}
-use Rattle.syn_expr_kinds.specs.View.{FieldView, fields}
-use Rattle.syn_expr_kinds.specs.Printed.{whole, field_spelled}
+use Rattle.syn_lower_spec.specs.Tree.{AttributeTree}
+use Rattle.syn_lower_spec.specs.Pat.{MemberTree}
+use Rattle.syn_lower_spec.specs.Own.{alone}
+use Rattle.syn_lower_leaves.specs.View.{values, trails, last_of, is_some_pair}
+use Rattle.syn_lower_leaves.specs.declared.punctuated.Punctuated.{Punctuated}
+use Rattle.syn_expr_spec.specs.Next.{enclosed}
+use Rattle.syn_expr_spec.specs.Tree as e
+use Rattle.syn_expr_spec.specs.Tree.{Tree, Children, Ending, child, piece_own, ending_own, is_none, with_comma}
+use Rattle.syn_expr_ast.specs.View.{FieldView, fields}
+use Rattle.syn_expr_ast.specs.Printed.{whole, field_spelled}
 use Rattle.syn_expr_print.specs.Printing.{children_spelled, piece_spelled}
 use Rattle.syn_expr_print.specs.Placed.{comma_if}
 use Rattle.syn_expr_print.proofs.Children.{loud-spelled, silent-spelled, comma-stays}

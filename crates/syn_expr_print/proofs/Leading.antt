@@ -3,18 +3,17 @@ use Rattle.std.specs.Prelude.{Option, Some, Result}
 use Rattle.std.proofs.Common.{◌≡◌, Bool, false, List, [], ◌∷◌, ◌++◌, OnOk, sym, ap, ◌∙◌, subst, append_assoc}
 use Rattle.syn_tokens.specs.Tok.{Tok}
 use Rattle.syn_lower_leaves.specs.View.{mapped}
-use Rattle.syn_grammar.specs.declared.next.Context.{Context}
-use Rattle.syn_grammar.specs.declared.summary.Summary.{Summary}
-use Rattle.syn_grammar.specs.Next.{prefix_context}
-use Rattle.syn_grammar.specs.Summaries.{summary_of, stack, below, prefix_by}
-use Rattle.syn_grammar.specs.Tree as e
-use Rattle.syn_grammar.specs.Tree.{Tree, prefix_own}
-use Rattle.syn_expr_summaries.specs.Label.{prefix_kind}
-use Rattle.syn_expr_summaries.specs.Kind.{kind_at}
-use Rattle.syn_expr_summaries.specs.declared.kind.NodeKind.TheVariants as kind
-use Rattle.syn_expr_summaries.specs.declared.label.PrefixKind.{PrefixKind}
-use Rattle.syn_expr_kinds.specs.Node.{operands_at, prefix_at, first_of}
-use Rattle.syn_expr_print.specs.declared.summaries.Summaries.{Summaries}
+use Rattle.syn_expr_spec.specs.declared.next.Context.{Context}
+use Rattle.syn_expr_spec.specs.declared.summary.Summary.{Summary}
+use Rattle.syn_expr_spec.specs.Next.{prefix_context}
+use Rattle.syn_expr_spec.specs.Summaries.{summary_of, stack, below, prefix_by}
+use Rattle.syn_expr_spec.specs.Tree as e
+use Rattle.syn_expr_spec.specs.Tree.{Tree, prefix_own}
+use Rattle.syn_expr_ast.specs.Label.{prefix_kind, kind_at}
+use Rattle.syn_expr_ast.specs.declared.label.NodeKind.TheVariants as kind
+use Rattle.syn_expr_ast.specs.declared.label.PrefixKind.{PrefixKind}
+use Rattle.syn_expr_ast.specs.Node.{operands_at, prefix_at, first_of}
+use Rattle.syn_expr_print.specs.declared.print.Summaries.{Summaries}
 use Rattle.syn_expr_print.specs.Printing.{spelled, spelled_in, core, IsBorrowed}
 use Rattle.syn_expr_print.specs.Taken.{Going, Taken}
 use Rattle.syn_expr_print.proofs.Borrowing.{borrowed-at, on-map}

@@ -12,7 +12,6 @@ pub mod Arms
 pub mod Matches
 pub mod Borrowed
 pub mod Chains
-pub mod Likes
 pub mod Rounds
 pub mod Borrowing
 pub mod Counts
@@ -20,3 +19,5 @@ pub mod Attributed
 pub mod Spines
 pub mod Behinds
 pub mod Leading
+pub mod Attributing
+pub mod Shapes

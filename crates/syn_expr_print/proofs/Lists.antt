@@ -3,11 +3,11 @@ use Rattle.std.specs.Prelude.{not, ◌&&◌, Option, Some, None, is_some, map}
 use Rattle.std.proofs.Common.{◌≡◌, true, false, List, [], ◌∷◌, ◌++◌, refl, ap}
 use Rattle.std.specs.declared.boxed.Box.{Box}
 use Rattle.std.specs.declared.alloc.Global.{Global}
-use Rattle.syn_lower_lists.specs.View.{values, trails, last_of, is_some_pair}
-use Rattle.syn_lower_lists.specs.declared.punctuated.Punctuated.{Punctuated}
-use Rattle.syn_grammar.specs.Tree as e
-use Rattle.syn_grammar.specs.Tree.{Tree, Children, none, child}
-use Rattle.syn_expr_kinds.specs.View.{elements}
+use Rattle.syn_lower_leaves.specs.View.{values, trails, last_of, is_some_pair}
+use Rattle.syn_lower_leaves.specs.declared.punctuated.Punctuated.{Punctuated}
+use Rattle.syn_expr_spec.specs.Tree as e
+use Rattle.syn_expr_spec.specs.Tree.{Tree, Children, none, child}
+use Rattle.syn_expr_ast.specs.View.{elements}
 
 -- the last element, after which no comma stands
 abbrev pub last_child : {E : Type 0} → (E → Tree) → Option (Box E Global) → Children

@@ -3,21 +3,20 @@ use Rattle.std.specs.Prelude.{not, ◌||◌, ◌&&◌, codes, map, nat_eq, is_so
 use Rattle.std.proofs.Common.{◌≡◌, ◌+◌, ◌≤◌, Bool, false, List, [], ◌∷◌, ◌++◌, length, refl, sym, ap, ◌∙◌, append_assoc, arith}
 use Rattle.std.proofs.lemmas.Bool.Decides.{nat_tests}
 use Rattle.syn_tokens.specs.Tok.{Tok, ident}
-use Rattle.syn_parts.specs.Form.{is_nil}
-use Rattle.syn_parts.specs.Own.{alone, joint}
-use Rattle.syn_parts.specs.Pat.{PatTree, guarded}
-use Rattle.syn_parts.specs.PatOwn.{pat_own}
-use Rattle.syn_pat_kinds.proofs.Appends.{attributes_append}
-use Rattle.syn_grammar.specs.Next.{enclosed, in_arm}
-use Rattle.syn_grammar.specs.Tree as e
-use Rattle.syn_grammar.specs.Tree.{Tree, Children, child, is_block_like, is_none, size, children_size}
-use Rattle.syn_expr_kinds.specs.Pats.{ArmView, strays, guard_children, arm_ending, arm_children, arms}
-use Rattle.syn_expr_put.specs.Arm.{guarded_by, has_guard}
-use Rattle.syn_expr_collect.specs.Arm.{guard_by, guard_at, last_guard}
-use Rattle.syn_expr_collect.specs.Below.{total}
-use Rattle.syn_expr_collect.proofs.Lists.{arms_below}
+use Rattle.syn_lower_spec.specs.Form.{is_nil}
+use Rattle.syn_lower_spec.specs.Own.{alone, joint}
+use Rattle.syn_lower_spec.specs.Pat.{PatTree, guarded}
+use Rattle.syn_lower_spec.specs.PatOwn.{pat_own}
+use Rattle.syn_pat.proofs.Appends.{attributes_append}
+use Rattle.syn_expr_spec.specs.Next.{enclosed, in_arm}
+use Rattle.syn_expr_spec.specs.Tree as e
+use Rattle.syn_expr_spec.specs.Tree.{Tree, Children, child, is_block_like, is_none, size, children_size}
+use Rattle.syn_expr_ast.specs.Pats.{ArmView, strays, guard_children, arm_ending, arm_children, arms}
+use Rattle.syn_expr_print.specs.Framed.{guarded_by, has_guard}
+use Rattle.syn_expr_fixup.specs.Below.{guard_by, guard_at, last_guard, total}
+use Rattle.syn_expr_fixup.proofs.Lists.{arms_below}
 use Rattle.syn_expr_print.specs.Placed.{comma_if, option_size, arm_size, guard_spelled, arm_spelled, arms_spelled}
-use Rattle.syn_expr_kinds.specs.Printed.{whole}
+use Rattle.syn_expr_ast.specs.Printed.{whole}
 use Rattle.syn_expr_print.specs.Printing.{children_spelled}
 use Rattle.syn_expr_print.proofs.Arms.{head_spelled, arm-spelled, guard-spelled, guarded-spelled, guards-spelled}
 use Rattle.syn_expr_print.proofs.Children.{none-spelled}

@@ -4,18 +4,18 @@ use Rattle.std.proofs.Common.{◌≡◌, ◌+◌, Bool, true, false, List, [], �
 use Rattle.std.proofs.lemmas.List.{append-nil}
 use Rattle.std.specs.declared.boxed.Box.{Box}
 use Rattle.std.specs.declared.alloc.Global.{Global}
-use Rattle.syn_parts.specs.Own.{alone}
-use Rattle.syn_lower_lists.specs.View.{values, trails}
-use Rattle.syn_lower_lists.specs.Printed.{comma, pairs_printed}
-use Rattle.syn_lower_lists.specs.declared.punctuated.Punctuated.{Punctuated}
-use Rattle.syn_grammar.specs.Next.{enclosed}
-use Rattle.syn_grammar.specs.Summaries.{stack, children_below}
-use Rattle.syn_grammar.specs.Tree as e
-use Rattle.syn_grammar.specs.Tree.{Tree, Children, size, children_size}
-use Rattle.syn_expr_kinds.specs.View.{FieldView, boxed, elements, fields, option_child}
-use Rattle.syn_expr_collect.specs.Below.{backwards, total, field_below, option_below}
+use Rattle.syn_lower_spec.specs.Own.{alone}
+use Rattle.syn_lower_leaves.specs.View.{values, trails}
+use Rattle.syn_lower_leaves.specs.Printed.{comma, pairs_printed}
+use Rattle.syn_lower_leaves.specs.declared.punctuated.Punctuated.{Punctuated}
+use Rattle.syn_expr_spec.specs.Next.{enclosed}
+use Rattle.syn_expr_spec.specs.Summaries.{stack, children_below}
+use Rattle.syn_expr_spec.specs.Tree as e
+use Rattle.syn_expr_spec.specs.Tree.{Tree, Children, size, children_size}
+use Rattle.syn_expr_ast.specs.View.{FieldView, boxed, elements, fields, option_child}
+use Rattle.syn_expr_fixup.specs.Below.{backwards, total, field_below, option_below}
 use Rattle.syn_expr_print.specs.Placed.{comma_if, last_field_below, last_field_size, last_field_spelled, last_spelled, option_size, rest_spelled}
-use Rattle.syn_expr_kinds.specs.Printed.{whole, field_spelled}
+use Rattle.syn_expr_ast.specs.Printed.{whole, field_spelled}
 use Rattle.syn_expr_print.specs.Printing.{children_spelled}
 use Rattle.syn_expr_print.proofs.Children.{none-spelled, element-comma, element-last, rest-spelled}
 use Rattle.syn_expr_print.proofs.Lists.{last_child, pair_children, lists-elements}

@@ -2,16 +2,17 @@
 use Rattle.std.specs.Prelude.{◌&&◌, if◌then◌else◌, Some, None}
 use Rattle.std.proofs.Common.{◌≡◌, Bool, true, false, refl, sym, ap, ◌∙◌}
 use Rattle.std.proofs.Math.Bool.{and-false}
-use Rattle.syn_grammar.specs.declared.summary.Sort.{Sort}
-use Rattle.syn_grammar.specs.declared.summary.Sort.TheVariants as sort
-use Rattle.syn_grammar.specs.Summaries.{summary_of, leaf_sort, attributed_sort}
-use Rattle.syn_grammar.specs.Rule.{is_plain_leaf, is_plain_block}
-use Rattle.syn_grammar.specs.Tree as e
-use Rattle.syn_grammar.proofs.Bools.{and_true}
-use Rattle.syn_grammar.specs.Tree.{Tree, Leaf, leaf, paren, attributed, prefixed, infixed, postfixed, tail, frame}
-use Rattle.syn_expr_kinds.specs.Node.{leaf_at}
-use Rattle.syn_expr_print.specs.Placed.{is_block_sort}
+use Rattle.syn_expr_spec.specs.declared.summary.Sort.{Sort}
+use Rattle.syn_expr_spec.specs.declared.summary.Sort.TheVariants as sort
+use Rattle.syn_expr_spec.specs.Summaries.{summary_of, leaf_sort, attributed_sort}
+use Rattle.syn_expr_spec.specs.Rule.{is_plain_leaf, is_plain_block}
+use Rattle.syn_expr_spec.specs.Tree as e
+use Rattle.syn_expr_spec.proofs.Bools.{and_true}
+use Rattle.syn_expr_spec.specs.Tree.{Tree, Leaf, leaf, paren, attributed, prefixed, infixed, postfixed, tail, frame}
+use Rattle.syn_expr_ast.specs.Node.{leaf_at}
+use Rattle.syn_expr_print.specs.Placed.{is_block_sort, is_block, is_block_kind}
 use Rattle.syn_expr_print.proofs.Braced.{output-plain, output-braced}
+use Rattle.syn_expr_ast.specs.Label.{kind_at}
 
 plain-sort : (k : Leaf) → is_plain_leaf k ≡ is_plain_leaf k && is_block_sort (leaf_sort k)
 plain-sort (e.block None b) = sym (and_true (is_plain_leaf (e.block None b)))
@@ -50,3 +51,13 @@ never-plain (frame k ks) h = refl
 pub ruleset plains = (plain-is, never-plain)
 
 pub ruleset outputs = (output-plain, output-braced)
+
+-- ---- an expression is a block by its kind
+
+pub block-kind : (t : Tree) → is_block t ≡ is_block_kind (kind_at t)
+block-kind (e.leaf (e.lit x)) = refl
+block-kind (e.leaf (e.bare_jump e.returning)) = refl
+block-kind (e.attributed a more t) = block-kind t
+block-kind t = refl
+
+pub ruleset blocks = (block-kind)

@@ -5,22 +5,22 @@ use Rattle.std.proofs.lemmas.Bool.Decides.{nat_tests}
 use Rattle.std.specs.declared.boxed.Box.{Box}
 use Rattle.std.specs.declared.alloc.Global.{Global}
 use Rattle.syn_tokens.specs.Tok.{Tok}
-use Rattle.syn_parts.specs.Form.{is_nil}
-use Rattle.syn_grammar.specs.declared.next.Context.{Context}
-use Rattle.syn_grammar.specs.Summaries.{below, children_below}
-use Rattle.syn_grammar.specs.Tree as e
-use Rattle.syn_grammar.specs.Tree.{Tree, Children, Enclosure, frame_own, enclosure, needs_last_comma}
-use Rattle.syn_pat_kinds.specs.View.{PatView}
-use Rattle.syn_expr_kinds.specs.Node.{frame_at, frame_of, frame_guards, frame_seen, operands_at, operand_children}
-use Rattle.syn_expr_kinds.specs.Pats.{ArmView, arms, strays}
-use Rattle.syn_expr_kinds.specs.View.{FieldView, boxed, elements, fields, option_child, else_of}
-use Rattle.syn_expr_kinds.specs.declared.node.Frame.{Frame}
-use Rattle.syn_expr_kinds.specs.declared.node.Frame.TheVariants as frame
-use Rattle.syn_expr_put.specs.Framed.{framed_own, in_enclosure}
+use Rattle.syn_lower_spec.specs.Form.{is_nil}
+use Rattle.syn_expr_spec.specs.declared.next.Context.{Context}
+use Rattle.syn_expr_spec.specs.Summaries.{below, children_below}
+use Rattle.syn_expr_spec.specs.Tree as e
+use Rattle.syn_expr_spec.specs.Tree.{Tree, Children, Enclosure, frame_own, enclosure, needs_last_comma}
+use Rattle.syn_pat.specs.View.{PatView}
+use Rattle.syn_expr_ast.specs.Node.{frame_at, frame_of, frame_guards, frame_seen, operands_at, operand_children}
+use Rattle.syn_expr_ast.specs.Pats.{ArmView, arms, strays}
+use Rattle.syn_expr_ast.specs.View.{FieldView, boxed, elements, fields, option_child, else_of}
+use Rattle.syn_expr_ast.specs.declared.node.Frame.{Frame}
+use Rattle.syn_expr_ast.specs.declared.node.Frame.TheVariants as frame
+use Rattle.syn_expr_print.specs.Framed.{framed_own, in_enclosure}
 use Rattle.syn_expr_print.specs.Placed.{is_enclosed, needs_comma, needs_last, is_single, is_one_field}
 use Rattle.syn_expr_print.specs.Printing.{spelled, children_spelled, core, IsBorrowed}
 use Rattle.syn_expr_print.proofs.Matches.{arms-none}
-use Rattle.syn_expr_kinds.proofs.Borrowed.{first-based, second-based, children-based}
+use Rattle.syn_expr_ast.proofs.Borrowed.{first-based, second-based, children-based}
 use Rattle.syn_expr_print.proofs.Borrowed.{open-text, closed-text, frame-below}
 
 module _ {P : Type 0} (pat : P → PatView) where

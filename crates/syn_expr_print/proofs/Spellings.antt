@@ -2,26 +2,26 @@
 use Rattle.std.specs.Prelude.{Option, Some, None}
 use Rattle.std.proofs.Common.{◌≡◌, Bool, true, false, List, [], ◌∷◌, ◌++◌, refl, sym, ap, ◌∙◌}
 use Rattle.std.proofs.lemmas.List.{append-nil}
-use Rattle.syn_lexer.specs.declared.lexeme.Delimiter.TheVariants as del
+use Rattle.syn_lexer.specs.declared.front.Delimiter.TheVariants as del
 use Rattle.syn_tokens.specs.Tok.{group, inside}
-use Rattle.syn_parts.specs.Tree.{AttributeTree}
-use Rattle.syn_parts.specs.Own as own_parts
-use Rattle.syn_parts.specs.PatOwn.{attributes_own}
-use Rattle.syn_pat_kinds.proofs.Appends.{attributes_append}
-use Rattle.syn_grammar.specs.declared.kinds.Infix.{Infix}
-use Rattle.syn_grammar.specs.declared.kinds.Level.TheVariants as lev
-use Rattle.syn_grammar.specs.declared.next.Context.{Context}
-use Rattle.syn_grammar.specs.Op.{level}
-use Rattle.syn_grammar.specs.Next.{enclosed, left_context, right_context, base_context, prefix_context, attributed_context}
-use Rattle.syn_grammar.specs.Summaries.{summary_of, below, children_below, place_by, left_by, base_by, prefix_by}
-use Rattle.syn_grammar.specs.Rule.{put, bare, bare_children, is_operation, prefix_asks, left_asks, base_asks, place_asks}
-use Rattle.syn_grammar.specs.Tree as e
-use Rattle.syn_grammar.specs.Tree.{Tree, Children, Leaf, Prefix, Postfix, Trailer, Frame, Enclosure, leaf, paren, attributed, outers, prefixed, infixed, postfixed, tail, frame, own, own_tokens, children_own, leaf_own, prefix_own, infix_own, postfix_own, postfix_op, trailer_own, frame_own, enclosure, framed, fill, fill_children, needs_last_comma}
-use Rattle.syn_grammar.proofs.SummaryLemmas.{summaries_are_right, summary_fill}
-use Rattle.syn_grammar.proofs.FillIns.{operation_fill}
-use Rattle.syn_expr_kinds.specs.Node.{attributes_at}
-use Rattle.syn_expr_kinds.specs.Pats.{strays}
-use Rattle.syn_expr_kinds.specs.Printed.{whole}
+use Rattle.syn_lower_spec.specs.Tree.{AttributeTree}
+use Rattle.syn_lower_spec.specs.Own as own_parts
+use Rattle.syn_lower_spec.specs.PatOwn.{attributes_own}
+use Rattle.syn_pat.proofs.Appends.{attributes_append}
+use Rattle.syn_expr_spec.specs.declared.kinds.Infix.{Infix}
+use Rattle.syn_expr_spec.specs.declared.kinds.Level.TheVariants as lev
+use Rattle.syn_expr_spec.specs.declared.next.Context.{Context}
+use Rattle.syn_expr_spec.specs.Op.{level}
+use Rattle.syn_expr_spec.specs.Next.{enclosed, left_context, right_context, base_context, prefix_context, attributed_context}
+use Rattle.syn_expr_spec.specs.Summaries.{summary_of, below, children_below, place_by, left_by, base_by, prefix_by}
+use Rattle.syn_expr_spec.specs.Rule.{put, bare, bare_children, is_operation, prefix_asks, left_asks, base_asks, place_asks}
+use Rattle.syn_expr_spec.specs.Tree as e
+use Rattle.syn_expr_spec.specs.Tree.{Tree, Children, Leaf, Prefix, Postfix, Trailer, Frame, Enclosure, leaf, paren, attributed, outers, prefixed, infixed, postfixed, tail, frame, own, own_tokens, children_own, leaf_own, prefix_own, infix_own, postfix_own, postfix_op, trailer_own, frame_own, enclosure, framed, fill, fill_children, needs_last_comma}
+use Rattle.syn_expr_spec.proofs.SummaryLemmas.{summaries_are_right, summary_fill}
+use Rattle.syn_expr_spec.proofs.FillIns.{operation_fill}
+use Rattle.syn_expr_ast.specs.Node.{attributes_at}
+use Rattle.syn_expr_ast.specs.Pats.{strays}
+use Rattle.syn_expr_ast.specs.Printed.{whole}
 use Rattle.syn_expr_print.specs.Printing.{spelled, spelled_in, children_spelled, core}
 use Rattle.syn_expr_print.proofs.Appends.{prefix_append, infix_append, frame_append, own_append, children_append}
 

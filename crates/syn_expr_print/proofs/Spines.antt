@@ -3,23 +3,23 @@ use Rattle.std.proofs.Common.{◌≡◌, ℕ, ◌≤◌, Bool, true, false, List
 use Rattle.std.proofs.lemmas.List.{append-nil}
 use denote.Ref.{Bor}
 use Rattle.syn_tokens.specs.Tok.{Tok}
-use Rattle.syn_parts.specs.Form.{is_nil}
-use Rattle.syn_grammar.specs.declared.next.Context.{Context}
-use Rattle.syn_grammar.specs.declared.summary.Summary.{Summary}
-use Rattle.syn_grammar.specs.Summaries.{summary_of, stack, below}
-use Rattle.syn_grammar.specs.Stands.{is_attributed}
-use Rattle.syn_grammar.specs.Tree.{Tree, Children, leaf, paren, attributed, prefixed, infixed, postfixed, tail, frame, none, child, size}
-use Rattle.syn_grammar.proofs.Chains.{both_true}
-use Rattle.syn_expr_summaries.specs.Kind.{kind_at}
-use Rattle.syn_expr_kinds.specs.Node.{attributes_at, operands_at, based_by, first_of}
-use Rattle.syn_expr_collect.specs.Spine.{behind_below}
-use Rattle.syn_expr_collect.proofs.Nodes.{below_is}
-use Rattle.syn_expr_collect.proofs.Spines.{first_below}
+use Rattle.syn_lower_spec.specs.Form.{is_nil}
+use Rattle.syn_expr_spec.specs.declared.next.Context.{Context}
+use Rattle.syn_expr_spec.specs.declared.summary.Summary.{Summary}
+use Rattle.syn_expr_spec.specs.Summaries.{summary_of, stack, below}
+use Rattle.syn_expr_spec.specs.Stands.{is_attributed}
+use Rattle.syn_expr_spec.specs.Tree.{Tree, Children, leaf, paren, attributed, prefixed, infixed, postfixed, tail, frame, none, child, size}
+use Rattle.syn_expr_spec.proofs.Chains.{both_true}
+use Rattle.syn_expr_ast.specs.Label.{kind_at}
+use Rattle.syn_expr_ast.specs.Node.{attributes_at, operands_at, based_by, first_of}
+use Rattle.syn_expr_fixup.specs.Spine.{behind_below}
+use Rattle.syn_expr_fixup.proofs.Nodes.{below_is}
+use Rattle.syn_expr_fixup.proofs.Spines.{first_below}
 use Rattle.syn_expr_print.specs.Printing.{core, spelled, spelled_in, EndsWith, IsBorrowed}
 use Rattle.syn_expr_print.specs.Shape.{shape_at}
 use Rattle.syn_expr_print.specs.Spine.{begins, is_next, first_place, first_wrapped, behind_spelled, behinds, lefts, Over}
 use Rattle.syn_expr_print.specs.Taken.{Going, Taken}
-use Rattle.syn_expr_print.specs.declared.summaries.Summaries.{Summaries}
+use Rattle.syn_expr_print.specs.declared.print.Summaries.{Summaries}
 use Rattle.syn_expr_print.proofs.Spellings.{infixed-spelled, postfixed-spelled, tail-spelled, spelled-bare}
 use Rattle.syn_expr_print.proofs.Attributed.{plain-node}
 use Rattle.syn_expr_print.proofs.Stacks.{ends_back}

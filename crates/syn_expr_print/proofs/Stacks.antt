@@ -2,8 +2,8 @@
 use Rattle.std.specs.Prelude.{◌-◌, ◌^◌, min, Result, Ok, Err}
 use Rattle.std.proofs.Common.{◌≡◌, ◌+◌, ℕ, List, [], ◌∷◌, ◌++◌, length, OnOk, subst, refl, sym, ◌∙◌, ap, append_assoc, arith}
 use Rattle.std.proofs.lemmas.List.{append_cancel_right, append-nil, length-append}
-use Rattle.syn_grammar.specs.declared.summary.Summary.{Summary}
-use Rattle.syn_expr_print.specs.declared.summaries.Summaries.{Summaries}
+use Rattle.syn_expr_spec.specs.declared.summary.Summary.{Summary}
+use Rattle.syn_expr_print.specs.declared.print.Summaries.{Summaries}
 use Rattle.syn_expr_print.specs.Printing.{EndsWith}
 use Rattle.syn_expr_print.specs.Taken.{Taken}
 

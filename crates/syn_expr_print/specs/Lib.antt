@@ -1,7 +1,7 @@
+pub mod Framed
 pub mod Placed
 pub mod Printing
 pub mod Prints
 pub mod Shape
 pub mod Spine
 pub mod Taken
-pub mod Operation

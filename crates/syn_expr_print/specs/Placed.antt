@@ -3,25 +3,24 @@ use Rattle.std.specs.Prelude.{ℕ, ◌+◌, Bool, true, false, not, ◌||◌, �
 use Rattle.std.specs.declared.boxed.Box.{Box}
 use Rattle.std.specs.declared.alloc.Global.{Global}
 use Rattle.syn_tokens.specs.Tok.{Tok, ident}
-use Rattle.syn_parts.specs.Form.{is_nil}
-use Rattle.syn_parts.specs.Own.{alone, joint, before_if}
-use Rattle.syn_parts.specs.PatOwn.{attributes_own, pat_own}
+use Rattle.syn_lower_spec.specs.Form.{is_nil}
+use Rattle.syn_lower_spec.specs.Own.{alone, joint, before_if}
+use Rattle.syn_lower_spec.specs.PatOwn.{attributes_own, pat_own}
 use Rattle.syn_lower_leaves.specs.View.{mapped}
-use Rattle.syn_grammar.specs.declared.summary.Summary.{Summary}
-use Rattle.syn_grammar.specs.declared.summary.Sort.{Sort}
-use Rattle.syn_grammar.specs.declared.summary.Sort.TheVariants as sort
-use Rattle.syn_grammar.specs.Next.{enclosed, in_arm}
-use Rattle.syn_grammar.specs.Rule.{is_block_expr_leaf, is_if}
-use Rattle.syn_grammar.specs.Tree as e
-use Rattle.syn_grammar.specs.Tree.{Tree, Children, Frame, enclosure, is_block_like, size}
-use Rattle.syn_expr_summaries.specs.declared.kind.NodeKind.{NodeKind}
-use Rattle.syn_expr_summaries.specs.declared.kind.NodeKind.TheVariants as node
-use Rattle.syn_expr_summaries.specs.declared.label.LeafKind.TheVariants as leaf
-use Rattle.syn_expr_kinds.specs.Pats.{ArmView}
-use Rattle.syn_expr_kinds.specs.View.{FieldView}
-use Rattle.syn_expr_collect.specs.Arm.{guard_at}
-use Rattle.syn_expr_collect.specs.Below.{field_below}
-use Rattle.syn_expr_kinds.specs.Printed.{field_spelled, whole}
+use Rattle.syn_expr_spec.specs.declared.summary.Summary.{Summary}
+use Rattle.syn_expr_spec.specs.declared.summary.Sort.{Sort}
+use Rattle.syn_expr_spec.specs.declared.summary.Sort.TheVariants as sort
+use Rattle.syn_expr_spec.specs.Next.{enclosed, in_arm}
+use Rattle.syn_expr_spec.specs.Rule.{is_block_expr_leaf, is_if}
+use Rattle.syn_expr_spec.specs.Tree as e
+use Rattle.syn_expr_spec.specs.Tree.{Tree, Children, Frame, enclosure, is_block_like, size}
+use Rattle.syn_expr_ast.specs.declared.label.NodeKind.{NodeKind}
+use Rattle.syn_expr_ast.specs.declared.label.NodeKind.TheVariants as node
+use Rattle.syn_expr_ast.specs.declared.label.LeafKind.TheVariants as leaf
+use Rattle.syn_expr_ast.specs.Pats.{ArmView}
+use Rattle.syn_expr_ast.specs.View.{FieldView}
+use Rattle.syn_expr_fixup.specs.Below.{guard_at, field_below}
+use Rattle.syn_expr_ast.specs.Printed.{field_spelled, whole}
 use Rattle.syn_expr_print.specs.Printing.{piece_spelled}
 
 -- ---- lists with commas

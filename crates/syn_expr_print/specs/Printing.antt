@@ -1,16 +1,16 @@
 -- What a printer writes of a node and of its operands, and the summaries that it takes.
 use Rattle.std.specs.Prelude.{◌≡◌, Bool, false, List, [], ◌++◌}
 use Rattle.syn_tokens.specs.Tok.{Tok}
-use Rattle.syn_grammar.specs.declared.next.Context.{Context}
-use Rattle.syn_grammar.specs.declared.summary.Summary.{Summary}
-use Rattle.syn_grammar.specs.declared.kinds.Level.TheVariants as lev
-use Rattle.syn_grammar.specs.Next.{enclosed, in_statement, piece_context}
-use Rattle.syn_grammar.specs.Rule.{put, piece_put, place_asks, bare, bare_children}
-use Rattle.syn_grammar.specs.Tree as e
-use Rattle.syn_grammar.specs.Tree.{Tree, Children, Piece, leaf, paren, attributed, prefixed, infixed, postfixed, tail, frame, none, own_tokens, children_own, fill, fill_children}
-use Rattle.syn_expr_kinds.specs.Node.{OperandTrees, no_trees, one_tree, two_trees, based, framed, operands_at}
+use Rattle.syn_expr_spec.specs.declared.next.Context.{Context}
+use Rattle.syn_expr_spec.specs.declared.summary.Summary.{Summary}
+use Rattle.syn_expr_spec.specs.declared.kinds.Level.TheVariants as lev
+use Rattle.syn_expr_spec.specs.Next.{enclosed, in_statement, piece_context}
+use Rattle.syn_expr_spec.specs.Rule.{put, piece_put, place_asks, bare, bare_children}
+use Rattle.syn_expr_spec.specs.Tree as e
+use Rattle.syn_expr_spec.specs.Tree.{Tree, Children, Piece, leaf, paren, attributed, prefixed, infixed, postfixed, tail, frame, none, own_tokens, children_own, fill, fill_children}
+use Rattle.syn_expr_ast.specs.Node.{OperandTrees, no_trees, one_tree, two_trees, based, framed, operands_at}
 use Rattle.syn_expr_print.specs.Shape.{ShapeTree, leaf_shape, paren_shape, prefix_shape, infix_shape, postfix_shape, tail_shape, frame_shape, shape_at}
-use Rattle.syn_expr_kinds.specs.Pats.{strays}
+use Rattle.syn_expr_ast.specs.Pats.{strays}
 
 -- ---- summaries
 

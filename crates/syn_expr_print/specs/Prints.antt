@@ -4,10 +4,10 @@ use Rattle.std.specs.declared.alloc.AllocError.{AllocError}
 use denote.Ref.{Bor, MutBor}
 use Rattle.syn_tokens.specs.Tok.{Tok}
 use Rattle.syn_tokens.specs.Input.{IsFront}
-use Rattle.syn_grammar.specs.declared.next.Context.{Context}
-use Rattle.syn_grammar.specs.Summaries.{below}
-use Rattle.syn_grammar.specs.Tree.{Tree, size}
-use Rattle.syn_expr_print.specs.declared.summaries.Summaries.{Summaries}
+use Rattle.syn_expr_spec.specs.declared.next.Context.{Context}
+use Rattle.syn_expr_spec.specs.Summaries.{below}
+use Rattle.syn_expr_spec.specs.Tree.{Tree, size}
+use Rattle.syn_expr_print.specs.declared.print.Summaries.{Summaries}
 use Rattle.syn_expr_print.specs.Printing.{EndsWith, spelled}
 use Rattle.syn_expr_print.specs.Taken.{Taken}
 

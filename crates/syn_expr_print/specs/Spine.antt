@@ -2,18 +2,18 @@
 use Rattle.std.specs.Prelude.{◌≡◌, ℕ, ◌≤◌, Bool, true, false, not, ◌&&◌, ⊤, List, [], ◌∷◌, ◌++◌}
 use denote.Ref.{Bor}
 use Rattle.syn_tokens.specs.Tok.{Tok}
-use Rattle.syn_parts.specs.Form.{is_nil}
-use Rattle.syn_grammar.specs.declared.next.Context.{Context}
-use Rattle.syn_grammar.specs.declared.summary.Summary.{Summary}
-use Rattle.syn_grammar.specs.Op.{level}
-use Rattle.syn_grammar.specs.Next.{left_context, right_context, base_context}
-use Rattle.syn_grammar.specs.Summaries.{summary_of, place_by, left_by, base_by}
-use Rattle.syn_grammar.specs.Tree.{Tree, attributed, infixed, postfixed, tail, infix_own, postfix_own, postfix_op, trailer_own, size}
-use Rattle.syn_expr_summaries.specs.Kind.{kind_at}
-use Rattle.syn_expr_summaries.specs.declared.kind.NodeKind.{NodeKind}
-use Rattle.syn_expr_summaries.specs.declared.kind.NodeKind.TheVariants as node
-use Rattle.syn_expr_kinds.specs.Node.{attributes_at, operands_at}
-use Rattle.syn_expr_collect.specs.Spine.{behind_below}
+use Rattle.syn_lower_spec.specs.Form.{is_nil}
+use Rattle.syn_expr_spec.specs.declared.next.Context.{Context}
+use Rattle.syn_expr_spec.specs.declared.summary.Summary.{Summary}
+use Rattle.syn_expr_spec.specs.Op.{level}
+use Rattle.syn_expr_spec.specs.Next.{left_context, right_context, base_context}
+use Rattle.syn_expr_spec.specs.Summaries.{summary_of, place_by, left_by, base_by}
+use Rattle.syn_expr_spec.specs.Tree.{Tree, attributed, infixed, postfixed, tail, infix_own, postfix_own, postfix_op, trailer_own, size}
+use Rattle.syn_expr_ast.specs.Label.{kind_at}
+use Rattle.syn_expr_ast.specs.declared.label.NodeKind.{NodeKind}
+use Rattle.syn_expr_ast.specs.declared.label.NodeKind.TheVariants as node
+use Rattle.syn_expr_ast.specs.Node.{attributes_at, operands_at}
+use Rattle.syn_expr_fixup.specs.Spine.{behind_below}
 use Rattle.syn_expr_print.specs.Printing.{spelled_in, children_spelled}
 
 -- nodes of this kind begin with an operand

@@ -1,7 +1,7 @@
 -- Summaries that were taken, one visit each.
 use Rattle.std.specs.Prelude.{◌≡◌, ◌+◌, ◌-◌, ◌^◌, min, length, List, ◌++◌}
-use Rattle.syn_grammar.specs.declared.summary.Summary.{Summary}
-use Rattle.syn_expr_print.specs.declared.summaries.Summaries.{Summaries}
+use Rattle.syn_expr_spec.specs.declared.summary.Summary.{Summary}
+use Rattle.syn_expr_print.specs.declared.print.Summaries.{Summaries}
 
 pub record Taken (old new : Summaries) (xs : List Summary) : Type 0 where
   pub items : old.left.items ≡ new.left.items ++ xs

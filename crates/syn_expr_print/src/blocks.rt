@@ -3,30 +3,27 @@
 
 ghost use Rattle.std.specs.Prelude.{◌≡◌, ◌+◌, ◌++◌, ◌∷◌, [], OnOk};
 ghost use Rattle.syn_expr_print.specs.Placed as placed;
-ghost use Rattle.syn_expr_kinds.specs.Printed as printed;
+ghost use Rattle.syn_expr_ast.specs.Printed as printed;
 ghost use Rattle.syn_expr_print.specs.Printing.{EndsWith, piece_spelled};
 ghost use Rattle.syn_expr_print.specs.Prints.{Callable, Prints};
 ghost use Rattle.syn_expr_print.specs.Taken.{Taken};
-ghost use Rattle.syn_grammar.specs.Next as next;
-ghost use Rattle.syn_grammar.specs.Summaries.{below, summary_of, stack};
-ghost use Rattle.syn_grammar.specs.Rule as rule;
-ghost use Rattle.syn_grammar.specs.Tree as e;
-ghost use Rattle.syn_grammar.specs.Tree.{size};
-ghost use Rattle.syn_lexer.specs.declared.lexeme.Delimiter.TheVariants as del;
+ghost use Rattle.syn_expr_spec.specs.Next as next;
+ghost use Rattle.syn_expr_spec.specs.Summaries.{below, summary_of, stack};
+ghost use Rattle.syn_expr_spec.specs.Rule as rule;
+ghost use Rattle.syn_expr_spec.specs.Tree as e;
+ghost use Rattle.syn_expr_spec.specs.Tree.{size};
+ghost use Rattle.syn_lexer.specs.declared.front.Delimiter.TheVariants as del;
 ghost use Rattle.syn_tokens.specs.Input.{IsFront};
 ghost use Rattle.syn_tokens.specs.Tok as tok;
 
-use crate::node::HasPrint;
 use crate::operand::inside;
-use crate::summaries::{Summaries, take_summary};
-use syn_expr_kinds::body::put_braces;
-use syn_expr_kinds::node::HasShape;
-use syn_expr_kinds::put::PutResult;
-use syn_expr_summaries::context::{enclosed, in_statement};
-use syn_expr_summaries::decide::place_by;
-use syn_grammar::kinds::Level;
-use syn_grammar::next::Context;
-use syn_grammar::summary::{Sort, Summary};
+use crate::print::{HasPrint, Summaries, take_summary};
+use syn_expr_ast::node::HasShape;
+use syn_expr_ast::put::{PutResult, put_braces};
+use syn_expr_fixup::context::{enclosed, in_statement, place_by};
+use syn_expr_spec::kinds::Level;
+use syn_expr_spec::next::Context;
+use syn_expr_spec::summary::{Sort, Summary};
 use syn_tokens::token::Brace;
 use syn_tokens::tree::TokenStream;
 

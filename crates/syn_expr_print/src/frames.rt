@@ -2,60 +2,54 @@
 //! expressions", "`if` expressions", "Loop expressions", "`match` expressions", "Closure expressions").
 
 ghost use Rattle.std.specs.Prelude.{◌≡◌, ◌+◌, ◌++◌, [], map, true, is_some, OnOk};
-ghost use Rattle.syn_expr_collect.specs.Below.{arm_below, backwards, option_below, total};
-ghost use Rattle.syn_expr_kinds.specs.Attrs.{inner_of};
-ghost use Rattle.syn_expr_kinds.specs.Node.{braces_of, frame_at, frame_of, operand_children, operands_at, operands_of};
-ghost use Rattle.syn_expr_kinds.specs.Pats.{ArmView};
-ghost use Rattle.syn_expr_kinds.specs.View.{body_of};
+ghost use Rattle.syn_expr_fixup.specs.Below.{arm_below, backwards, option_below, total};
+ghost use Rattle.syn_expr_ast.specs.Attrs.{inner_of};
+ghost use Rattle.syn_expr_ast.specs.Node.{braces_of, frame_at, frame_of, operand_children, operands_at, operands_of};
+ghost use Rattle.syn_expr_ast.specs.Pats.{ArmView};
+ghost use Rattle.syn_expr_ast.specs.View.{body_of};
 ghost use Rattle.syn_expr_print.specs.Placed as placed;
 ghost use Rattle.syn_expr_print.specs.Placed.{arm_size, arms_spelled, else_spelled, else_tree, option_size};
-ghost use Rattle.syn_expr_kinds.specs.Printed as printed;
+ghost use Rattle.syn_expr_ast.specs.Printed as printed;
 ghost use Rattle.syn_expr_print.specs.Printing.{EndsWith, core, children_spelled, piece_spelled, spelled};
 ghost use Rattle.syn_expr_print.specs.Prints.{Callable, Prints};
 ghost use Rattle.syn_expr_print.specs.Taken.{Taken};
-ghost use Rattle.syn_grammar.specs.Next as next;
-ghost use Rattle.syn_grammar.specs.Summaries.{below, children_below, stack};
-ghost use Rattle.syn_grammar.specs.Tree as e;
-ghost use Rattle.syn_grammar.specs.Tree.{Tree, body_own, enclosure, inners, children_size, size};
-ghost use Rattle.syn_grammar.specs.declared.next.Context as contexts;
-ghost use Rattle.syn_lower_lists.specs.View.{values};
-ghost use Rattle.syn_lexer.specs.declared.lexeme.Delimiter.TheVariants as del;
-ghost use Rattle.syn_parts.specs.Own as own_parts;
-ghost use Rattle.syn_parts.specs.PatOwn.{attributes_own};
+ghost use Rattle.syn_expr_spec.specs.Next as next;
+ghost use Rattle.syn_expr_spec.specs.Summaries.{below, children_below, stack};
+ghost use Rattle.syn_expr_spec.specs.Tree as e;
+ghost use Rattle.syn_expr_spec.specs.Tree.{Tree, body_own, enclosure, inners, children_size, size};
+ghost use Rattle.syn_expr_spec.specs.declared.next.Context as contexts;
+ghost use Rattle.syn_lower_leaves.specs.View.{values};
+ghost use Rattle.syn_lexer.specs.declared.front.Delimiter.TheVariants as del;
+ghost use Rattle.syn_lower_spec.specs.Own as own_parts;
+ghost use Rattle.syn_lower_spec.specs.PatOwn.{attributes_own};
 ghost use Rattle.syn_tokens.specs.Input.{IsFront};
 
 use crate::blocks::{braced, output};
 use crate::match_expr;
-use crate::node::HasPrint;
-use crate::operand::{inside, whole};
-use crate::places::{elements, repeated};
+use crate::operand::{elements, inside, repeated, whole};
+use crate::print::{HasPrint, Summaries, take_summary};
+use crate::put::frame::{HasArmHead, put_else, put_frame_head, put_framed};
+use crate::put::prefix::PutPat;
 use crate::structure::fields;
-use crate::summaries::{Summaries, take_summary};
-use syn_expr_collect::HasArms;
-use syn_expr_kinds::attrs::put_inner;
-use syn_expr_kinds::body::{put_body, put_braces};
-use syn_expr_kinds::node::{Braces, Frame, HasKind, HasShape, Operands};
-use syn_expr_kinds::put::{PutResult, put};
-use syn_expr_kinds::structure::FieldValueOf;
-use syn_expr_put::arm::HasArmHead;
-use syn_expr_put::frame::{put_frame_head, put_framed};
-use syn_expr_put::mark::put_else;
-use syn_expr_put::prefix::PutPat;
-use syn_expr_summaries::context::{enclosed, in_condition};
-use syn_expr_summaries::kind::NodeKind;
-use syn_expr_summaries::label::LeafKind;
-use syn_grammar::next::Context;
+use syn_expr_ast::attrs::put_inner;
+use syn_expr_ast::label::{LeafKind, NodeKind};
+use syn_expr_ast::node::{Braces, Frame, HasKind, HasShape, Operands};
+use syn_expr_ast::put::{PutResult, put, put_body, put_braces};
+use syn_expr_ast::structure::FieldValueOf;
+use syn_expr_fixup::HasArms;
+use syn_expr_fixup::context::{enclosed, in_condition};
+use syn_expr_spec::next::Context;
 use syn_lower::attr::Attribute;
 use syn_lower::punctuated::Punctuated;
 use syn_lower::stmt::Block;
-use syn_pat_kinds::kinds::HasPatTree;
+use syn_pat::kinds::HasPatTree;
 use syn_tokens::token::{Brace, Comma, Else};
 use syn_tokens::tree::TokenStream;
 
 // ---- what is asked of a node and of what is borrowed of it
 
 /// Whether it is a block, with or without a label, after attributes too.
-#[tactic(auto, using(crate::proofs::Likes::blocks))]
+#[tactic(auto, using(crate::proofs::Plain::blocks))]
 fn is_block<E: HasKind>(x: &E) -> bool
     ensures { result ≡ placed.is_block (E.tree x.now) }
 {
@@ -243,7 +237,7 @@ where
 }
 
 /// Prints the condition of an `if`, and its block.
-#[tactic(auto, using(syn_tokens::proofs::Fronts::fronts), unfolding(syn_parts::specs::Own::block_own))]
+#[tactic(auto, using(syn_tokens::proofs::Fronts::fronts), unfolding(syn_lower_spec::specs::Own::block_own))]
 fn guarded<E: HasPrint, F: Fn(&mut TokenStream, &mut Summaries, &E, Context) -> PutResult>(
     bare: &F,
     tokens: &mut TokenStream,
@@ -324,7 +318,7 @@ where
 /// Prints the operands of a node that are in places of their own, with what is between them: those of a frame, or what
 /// a trailer holds. `needs_comma`: one is needed after the last; `brace`: those round the arms of a `match`.
 #[cycle(frame)]
-#[tactic(auto, using(syn_tokens::proofs::Fronts::fronts, crate::proofs::Stacks::takes, crate::proofs::Children::children, syn_expr_kinds::proofs::Borrowed::based, crate::proofs::Matches::match_exprs, crate::proofs::Turns::nils))]
+#[tactic(auto, using(syn_tokens::proofs::Fronts::fronts, crate::proofs::Stacks::takes, crate::proofs::Children::children, syn_expr_ast::proofs::Borrowed::based, crate::proofs::Matches::match_exprs, crate::proofs::Turns::nils))]
 pub fn children<
     E: HasPrint + HasArms,
     F: Fn(&mut TokenStream, &mut Summaries, &E, Context) -> PutResult,

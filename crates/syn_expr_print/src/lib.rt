@@ -1,15 +1,12 @@
-//! The printer of expressions.
+//! The printer of expressions, over that of the expressions inside.
 #![tactic(auto)]
 
 mod blocks;
 mod ends;
 pub mod frames;
 pub mod match_expr;
-pub mod node;
 pub mod operand;
-pub mod places;
 pub mod print;
-pub mod printed;
-mod spine;
+pub mod put;
+pub mod single;
 pub mod structure;
-pub mod summaries;

@@ -1,31 +1,29 @@
 //! The arms of a `match` (Rust Reference, "Match expressions").
 
 ghost use Rattle.std.specs.Prelude.{◌≡◌, ◌+◌, ◌++◌, ◌∷◌, ◌||◌, ◌&&◌, not, map, is_some, OnOk};
-ghost use Rattle.syn_expr_collect.specs.Below.{arm_below, backwards, option_below, total};
+ghost use Rattle.syn_expr_fixup.specs.Below.{arm_below, backwards, option_below, total};
 ghost use Rattle.syn_expr_print.specs.Placed.{arm_size, arm_spelled, arms_spelled, comma_if, guard_spelled, has_comma, option_size};
-ghost use Rattle.syn_expr_kinds.specs.Printed as printed;
+ghost use Rattle.syn_expr_ast.specs.Printed as printed;
 ghost use Rattle.syn_expr_print.specs.Printing.{EndsWith};
 ghost use Rattle.syn_expr_print.specs.Prints.{Callable, Prints};
 ghost use Rattle.syn_expr_print.specs.Taken.{Taken};
-ghost use Rattle.syn_grammar.specs.Next as next;
-ghost use Rattle.syn_grammar.specs.Summaries.{stack};
-ghost use Rattle.syn_grammar.specs.Tree as e;
-ghost use Rattle.syn_grammar.specs.Tree.{size};
+ghost use Rattle.syn_expr_spec.specs.Next as next;
+ghost use Rattle.syn_expr_spec.specs.Summaries.{stack};
+ghost use Rattle.syn_expr_spec.specs.Tree as e;
+ghost use Rattle.syn_expr_spec.specs.Tree.{size};
 ghost use Rattle.syn_lower_leaves.specs.View.{mapped};
-ghost use Rattle.syn_parts.specs.Own.{alone, joint};
+ghost use Rattle.syn_lower_spec.specs.Own.{alone, joint};
 ghost use Rattle.syn_tokens.specs.Input.{IsFront};
 
-use crate::node::HasPrint;
 use crate::operand::whole;
-use crate::summaries::Summaries;
-use syn_expr_collect::HasArms;
-use syn_expr_kinds::like::is_block_like;
-use syn_expr_kinds::node::HasKind;
-use syn_expr_kinds::put::{PutResult, put};
-use syn_expr_put::arm::{ArmHead, HasArmHead, put_arm_head};
-use syn_expr_put::mark::{put_arrow, put_comma, put_if};
-use syn_expr_summaries::context::{enclosed, in_arm};
-use syn_grammar::next::Context;
+use crate::print::{HasPrint, Summaries};
+use crate::put::frame::{ArmHead, HasArmHead, put_arm_head, put_arrow, put_comma, put_if};
+use syn_expr_ast::label::is_block_like;
+use syn_expr_ast::node::HasKind;
+use syn_expr_ast::put::{PutResult, put};
+use syn_expr_fixup::HasArms;
+use syn_expr_fixup::context::{enclosed, in_arm};
+use syn_expr_spec::next::Context;
 use syn_tokens::token::{Comma, FatArrow, If};
 use syn_tokens::tree::TokenStream;
 

@@ -1,37 +1,35 @@
 //! The fields of struct expressions (Rust Reference, "Struct expressions").
 
 ghost use Rattle.std.specs.Prelude.{◌≡◌, ◌+◌, ◌++◌, ◌∷◌, [], ◌||◌, map, is_some, OnOk};
-ghost use Rattle.syn_expr_collect.specs.Below.{backwards, field_below, option_below, total};
-ghost use Rattle.syn_expr_kinds.specs.View as view;
-ghost use Rattle.syn_expr_kinds.specs.View.{boxed, field_value_of, option_child};
+ghost use Rattle.syn_expr_fixup.specs.Below.{backwards, field_below, option_below, total};
+ghost use Rattle.syn_expr_ast.specs.View as view;
+ghost use Rattle.syn_expr_ast.specs.View.{boxed, field_value_of, option_child};
 ghost use Rattle.syn_expr_print.specs.Placed.{last_field_below, last_field_size, last_field_spelled, option_size, rest_spelled};
-ghost use Rattle.syn_expr_kinds.specs.Printed.{field_spelled};
+ghost use Rattle.syn_expr_ast.specs.Printed.{field_spelled};
 ghost use Rattle.syn_expr_print.specs.Printing.{EndsWith, children_spelled};
 ghost use Rattle.syn_expr_print.specs.Prints.{Callable, Prints};
 ghost use Rattle.syn_expr_print.specs.Taken.{Taken};
-ghost use Rattle.syn_grammar.specs.Summaries.{children_below};
-ghost use Rattle.syn_grammar.specs.Tree as e;
-ghost use Rattle.syn_grammar.specs.Tree.{Tree, size, children_size};
-ghost use Rattle.syn_lower_lists.specs.Printed.{comma, pairs_printed};
-ghost use Rattle.syn_lower_lists.specs.View.{values, trails};
-ghost use Rattle.syn_parts.specs.Own.{alone, joint};
+ghost use Rattle.syn_expr_spec.specs.Summaries.{children_below};
+ghost use Rattle.syn_expr_spec.specs.Tree as e;
+ghost use Rattle.syn_expr_spec.specs.Tree.{Tree, size, children_size};
+ghost use Rattle.syn_lower_leaves.specs.Printed.{comma, pairs_printed};
+ghost use Rattle.syn_lower_leaves.specs.View.{values, trails};
+ghost use Rattle.syn_lower_spec.specs.Own.{alone, joint};
 ghost use Rattle.syn_tokens.specs.Input.{IsFront};
 
-use crate::node::HasPrint;
 use crate::operand::whole;
-use crate::summaries::Summaries;
-use syn_expr_kinds::put::{PutResult, put};
-use syn_expr_kinds::structure::FieldValueOf;
-use syn_expr_put::frame::put_field_head;
-use syn_expr_put::mark::{put_comma, put_dots};
-use syn_expr_summaries::context::enclosed;
-use syn_grammar::next::Context;
+use crate::print::{HasPrint, Summaries};
+use crate::put::frame::{put_comma, put_dots, put_field_head};
+use syn_expr_ast::put::{PutResult, put};
+use syn_expr_ast::structure::FieldValueOf;
+use syn_expr_fixup::context::enclosed;
+use syn_expr_spec::next::Context;
 use syn_lower::punctuated::Punctuated;
 use syn_tokens::token::{Comma, DotDot};
 use syn_tokens::tree::TokenStream;
 
 /// Prints a field. Without a colon its value isn't spelled, and has no summaries.
-#[tactic(auto, using(syn_tokens::proofs::Fronts::fronts, crate::proofs::Turns::turns), unfolding(syn_expr_kinds::specs::Printed::field_spelled))]
+#[tactic(auto, using(syn_tokens::proofs::Fronts::fronts, crate::proofs::Turns::turns), unfolding(syn_expr_ast::specs::Printed::field_spelled))]
 pub fn field<E: HasPrint, F: Fn(&mut TokenStream, &mut Summaries, &E, Context) -> PutResult>(
     bare: &F,
     tokens: &mut TokenStream,

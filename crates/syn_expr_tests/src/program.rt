@@ -6,7 +6,7 @@ use std::alloc::Global;
 use std::io;
 use std::io::{Read, Write};
 use std::test::Fail;
-use syn_expr::position::Position;
+use syn_expr::print::Position;
 
 /// What a run over memory wrote.
 #[derive(Drop)]

@@ -5,19 +5,19 @@ use Rattle.std.specs.Prelude.{is_some}
 use Rattle.std.specs.declared.boxed.Box.{Box}
 use Rattle.std.specs.declared.alloc.Global.{Global}
 use Rattle.std.proofs.Math.Bool.{and-false}
-use Rattle.syn_parts.specs.Fits.{ends_well, fits_if, lifetimes_fit, output_fits}
-use Rattle.syn_parts.specs.Form.{is_nil}
-use Rattle.syn_grammar.specs.WellFormed.{inputs_fit, head_fits}
-use Rattle.syn_grammar.proofs.Bools.{and_true}
-use Rattle.syn_lower_lists.specs.declared.punctuated.Punctuated.{Punctuated}
-use Rattle.syn_lower_lists.specs.declared.ty.BoundLifetimes.{BoundLifetimes}
-use Rattle.syn_lower_lists.specs.View.{values, trails, last_of, is_some_pair, mapped, lifetimes_of}
-use Rattle.syn_lower_generic.proofs.Fitting.{lifetimes_always}
+use Rattle.syn_lower_spec.specs.Fits.{ends_well, fits_if, lifetimes_fit, output_fits}
+use Rattle.syn_lower_spec.specs.Form.{is_nil}
+use Rattle.syn_expr_spec.specs.WellFormed.{inputs_fit, head_fits}
+use Rattle.syn_expr_spec.proofs.Bools.{and_true}
+use Rattle.syn_lower_leaves.specs.declared.punctuated.Punctuated.{Punctuated}
+use Rattle.syn_lower_leaves.specs.declared.ty.BoundLifetimes.{BoundLifetimes}
+use Rattle.syn_lower_leaves.specs.View.{values, trails, last_of, is_some_pair, mapped, lifetimes_of}
+use Rattle.syn_lower_types.proofs.Fitting.{lifetimes_always}
 use Rattle.syn_lower.specs.View.{return_of}
-use Rattle.syn_pat_kinds.specs.View.{PatView}
-use Rattle.syn_expr_kinds.specs.Node.{inputs_of, closure_of}
-use Rattle.syn_expr_kinds.specs.declared.node.Closure.{Closure}
-use Rattle.syn_expr_kinds.specs.Pats.{trees, guards}
+use Rattle.syn_pat.specs.View.{PatView}
+use Rattle.syn_expr_ast.specs.Node.{inputs_of, closure_of}
+use Rattle.syn_expr_ast.specs.declared.node.Closure.{Closure}
+use Rattle.syn_expr_ast.specs.Pats.{trees, guards}
 use Rattle.syn_expr_wellformed.specs.Alone.{argument_fits}
 
 -- ---- tests together

@@ -5,10 +5,10 @@ use Rattle.std.specs.Char.{is_ascii_digit}
 use Rattle.std.proofs.lemmas.Bool.Decides.{nat_tests}
 use Rattle.std.proofs.Math.Bool.{and-false}
 use native.Mathlib.Nat.{pow-zero, pow-suc}
-use Rattle.syn_parts.specs.Text.{Text, byte_at, is_number}
-use Rattle.syn_parts.specs.Pat.{an_index, digit_value, digits_value, index_of}
-use Rattle.syn_parts.specs.PatFits.{member_fits}
-use Rattle.syn_parts.specs.PatOwn.{digits_before, index_text}
+use Rattle.syn_lower_spec.specs.Text.{Text, byte_at, is_number}
+use Rattle.syn_lower_spec.specs.Pat.{an_index, digit_value, digits_value, index_of}
+use Rattle.syn_lower_spec.specs.PatFits.{member_fits}
+use Rattle.syn_lower_spec.specs.PatOwn.{digits_before, index_text}
 
 -- ---- a digit
 

@@ -8,30 +8,29 @@ use Rattle.std.specs.declared.boxed.Box.{Box}
 use Rattle.std.specs.declared.alloc.Global.{Global}
 use Rattle.std.proofs.Math.Bool.{and-false}
 use Rattle.syn_tokens.specs.Tok.{Tok}
-use Rattle.syn_parts.specs.Form.{is_nil}
-use Rattle.syn_parts.specs.Pat.{PatTree, guarded}
-use Rattle.syn_parts.specs.PatFits.{attributes_outer, member_fits, pat_fits}
-use Rattle.syn_lower_lists.specs.declared.punctuated.Punctuated.{Punctuated}
-use Rattle.syn_lower_lists.specs.View.{values, last_of, mapped}
-use Rattle.syn_lower_leaves.specs.View.{attribute_of}
+use Rattle.syn_lower_spec.specs.Form.{is_nil}
+use Rattle.syn_lower_spec.specs.Pat.{PatTree, guarded}
+use Rattle.syn_lower_spec.specs.PatFits.{attributes_outer, member_fits, pat_fits}
+use Rattle.syn_lower_leaves.specs.declared.punctuated.Punctuated.{Punctuated}
+use Rattle.syn_lower_leaves.specs.View.{values, last_of, mapped, attribute_of}
 use Rattle.syn_lower_leaves.specs.declared.attr.Attribute.{Attribute}
-use Rattle.syn_grammar.specs.Slot as slot
-use Rattle.syn_grammar.specs.Slot.{Slot}
-use Rattle.syn_grammar.specs.Tree as e
-use Rattle.syn_grammar.specs.Tree.{Tree, Children, Ending, Body, none, child, from_inner}
-use Rattle.syn_grammar.specs.WellFormed.{attributes_inner, well, children_well, has_rest, may_stop, body_fits, is_verbatim_block, is_name_path, piece_fits, ending_fits}
-use Rattle.syn_grammar.specs.Stands.{is_if_expr}
-use Rattle.syn_grammar.proofs.Bools.{and_true}
-use Rattle.syn_expr_kinds.specs.Attrs.{inner_of}
-use Rattle.syn_expr_kinds.specs.Node.{framed, based, based_by}
-use Rattle.syn_expr_kinds.specs.Pats.{ArmView, strays, guard_children, arm_ending, arm_children, arms}
-use Rattle.syn_expr_kinds.specs.View.{FieldView, ending_of, elements, fields, option_child, boxed, else_of, body_of}
-use Rattle.syn_expr_collect.specs.Arm.{last_guard, guard_by}
-use Rattle.syn_expr_collect.proofs.Lists.{some_visited, none_visited}
+use Rattle.syn_expr_spec.specs.Slot as slot
+use Rattle.syn_expr_spec.specs.Slot.{Slot}
+use Rattle.syn_expr_spec.specs.Tree as e
+use Rattle.syn_expr_spec.specs.Tree.{Tree, Children, Ending, Body, none, child, from_inner}
+use Rattle.syn_expr_spec.specs.WellFormed.{attributes_inner, well, children_well, has_rest, may_stop, body_fits, is_verbatim_block, is_name_path, piece_fits, ending_fits}
+use Rattle.syn_expr_spec.specs.Stands.{is_if_expr}
+use Rattle.syn_expr_spec.proofs.Bools.{and_true}
+use Rattle.syn_expr_ast.specs.Attrs.{inner_of}
+use Rattle.syn_expr_ast.specs.Node.{framed, based, based_by}
+use Rattle.syn_expr_ast.specs.Pats.{ArmView, strays, guard_children, arm_ending, arm_children, arms}
+use Rattle.syn_expr_ast.specs.View.{FieldView, ending_of, elements, fields, option_child, boxed, else_of, body_of}
+use Rattle.syn_expr_fixup.specs.Below.{last_guard, guard_by}
+use Rattle.syn_expr_fixup.proofs.Lists.{some_visited, none_visited}
 use Rattle.syn_expr_wellformed.specs.Slots.{is_elements, is_single, is_counted, is_fields, is_conditions, is_loops, is_scrutinees, is_outputs}
 use Rattle.syn_expr_wellformed.specs.Walk.{operands_well, option_well, field_well, else_well, arm_pattern, arm_well}
 use Rattle.syn_expr_wellformed.proofs.Closures.{and_assoc}
-use Rattle.syn_grammar.proofs.Attributes.{outers_outer}
+use Rattle.syn_expr_spec.proofs.Attributes.{outers_outer}
 
 -- ---- lists with puncts
 

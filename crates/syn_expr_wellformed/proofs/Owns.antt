@@ -1,14 +1,14 @@
 -- What a node is but for its operands, by the shape that is lent.
 use Rattle.std.proofs.Common.{◌≡◌, true, false, List, Some, None, refl, ap, sym, ◌∙◌}
-use Rattle.syn_parts.specs.Form.{is_nil}
-use Rattle.syn_grammar.specs.Rule.{is_if}
-use Rattle.syn_grammar.specs.Slot as s
-use Rattle.syn_grammar.specs.Stands.{is_if_expr}
-use Rattle.syn_grammar.specs.Tree as e
-use Rattle.syn_grammar.specs.Tree.{Tree, Leaf, Prefix, Postfix, Trailer, Frame, leaf, paren, attributed, prefixed, infixed, postfixed, tail, frame}
-use Rattle.syn_grammar.specs.WellFormed.{leaf_fits, postfix_fits, trailer_fits, trailer_slot, frame_slot}
-use Rattle.syn_expr_summaries.specs.Kind.{kind_at}
-use Rattle.syn_expr_kinds.specs.Node.{attributes_at, leaf_at, prefix_at, postfix_at, trailer_at, frame_at}
+use Rattle.syn_lower_spec.specs.Form.{is_nil}
+use Rattle.syn_expr_spec.specs.Rule.{is_if}
+use Rattle.syn_expr_spec.specs.Slot as s
+use Rattle.syn_expr_spec.specs.Stands.{is_if_expr}
+use Rattle.syn_expr_spec.specs.Tree as e
+use Rattle.syn_expr_spec.specs.Tree.{Tree, Leaf, Prefix, Postfix, Trailer, Frame, leaf, paren, attributed, prefixed, infixed, postfixed, tail, frame}
+use Rattle.syn_expr_spec.specs.WellFormed.{leaf_fits, postfix_fits, trailer_fits, trailer_slot, frame_slot}
+use Rattle.syn_expr_ast.specs.Label.{kind_at}
+use Rattle.syn_expr_ast.specs.Node.{attributes_at, leaf_at, prefix_at, postfix_at, trailer_at, frame_at}
 use Rattle.syn_expr_wellformed.specs.Alone.{prefix_alone, frame_alone}
 use Rattle.syn_expr_wellformed.specs.Well.{own_fits, kind_fits, frame_dots, slot_at, dots_at, bare_leaf}
 

@@ -8,49 +8,49 @@ use Rattle.std.specs.declared.vec.Vec.{Vec}
 use Rattle.std.specs.declared.boxed.Box.{Box}
 use Rattle.std.specs.declared.alloc.Global.{Global}
 use Rattle.std.proofs.Math.Bool.{and-false}
-use Rattle.syn_parts.specs.declared.label.PathStyle.TheVariants as style
-use Rattle.syn_parts.specs.Form.{is_nil}
-use Rattle.syn_parts.specs.Tree.{AttributeTree, SegmentTree}
-use Rattle.syn_parts.specs.Part.{has_none, segments_bare}
-use Rattle.syn_grammar.specs.Tree.{Tree}
-use Rattle.syn_parts.specs.Pat as t
-use Rattle.syn_parts.specs.Pat.{PatTree, PatBound, is_rest}
-use Rattle.syn_parts.specs.PatOwn.{no_more_pats, no_more_fields}
-use Rattle.syn_parts.specs.Fits.{lit_fits, path_fits, qpath_fits, is_macro_delimiter, ends_well}
-use Rattle.syn_parts.specs.PatFits.{attributes_outer, member_fits, bound_or, range_fits, is_one_name, begins_mut, is_one_pat, is_one_rest, pat_fits, sub_fits, pats_fit, or_fits, fields_fit, field_fits}
+use Rattle.syn_lower_spec.specs.declared.label.PathStyle.TheVariants as style
+use Rattle.syn_lower_spec.specs.Form.{is_nil}
+use Rattle.syn_lower_spec.specs.Tree.{AttributeTree, SegmentTree}
+use Rattle.syn_lower_spec.specs.Part.{has_none, segments_bare}
+use Rattle.syn_expr_spec.specs.Tree.{Tree}
+use Rattle.syn_lower_spec.specs.Pat as t
+use Rattle.syn_lower_spec.specs.Pat.{PatTree, PatBound, is_rest}
+use Rattle.syn_lower_spec.specs.PatOwn.{no_more_pats, no_more_fields}
+use Rattle.syn_lower_spec.specs.Fits.{lit_fits, path_fits, qpath_fits, is_macro_delimiter, ends_well}
+use Rattle.syn_lower_spec.specs.PatFits.{attributes_outer, member_fits, bound_or, range_fits, is_one_name, begins_mut, is_one_pat, is_one_rest, pat_fits, sub_fits, pats_fit, or_fits, fields_fit, field_fits}
 use Rattle.syn_lexer.specs.Keywords.{is_reserved_word}
 use Rattle.syn_lower_leaves.specs.declared.mac.MacroDelimiter.{MacroDelimiter}
 use Rattle.syn_lower_leaves.specs.declared.mac.MacroDelimiter.TheVariants as mac
 use Rattle.syn_lower_leaves.specs.declared.attr.Attribute.{Attribute}
-use Rattle.syn_lower_generic.specs.declared.path.PathSegmentOf.{PathSegmentOf}
-use Rattle.syn_lower_generic.specs.View.{delimiter_of}
+use Rattle.syn_lower_types.specs.declared.path.PathSegmentOf.{PathSegmentOf}
+use Rattle.syn_lower_types.specs.View.{delimiter_of}
 use Rattle.syn_lower.specs.declared.ty.«Type».{«Type»}
-use Rattle.syn_lower_lists.specs.declared.punctuated.Punctuated.{Punctuated}
-use Rattle.syn_lower_lists.specs.Punct.{is_one}
-use Rattle.syn_lower_lists.specs.View.{last_of, is_some_pair, mapped}
+use Rattle.syn_lower_leaves.specs.declared.punctuated.Punctuated.{Punctuated}
+use Rattle.syn_lower_leaves.specs.Punct.{is_one}
+use Rattle.syn_lower_leaves.specs.View.{last_of, is_some_pair, mapped}
 use Rattle.syn_lower.specs.View.{values, trails, type_of, segment_of, path_of, qself_or}
-use Rattle.syn_pat_kinds.specs.View as of
-use Rattle.syn_pat_kinds.specs.View.{PatView, attribute_of, attributes_of, attributed_by, lit_of, bound_of, is_closed, pats_in, guards_in, sub_of, sub_guards, field_of, field_guards, field_pat_of}
-use Rattle.syn_pat_kinds.specs.declared.pat.FieldPatOf.{FieldPatOf}
-use Rattle.syn_pat_kinds.specs.declared.pat.FieldPatKindOf.{FieldPatKindOf}
-use Rattle.syn_pat_kinds.specs.declared.pat.FieldPatKindOf.TheVariants as kind
-use Rattle.syn_pat_kinds.specs.declared.pat.PatWild.{PatWild}
-use Rattle.syn_pat_kinds.specs.declared.pat.PatRest.{PatRest}
-use Rattle.syn_pat_kinds.specs.declared.pat.PatRange.{PatRange}
-use Rattle.syn_pat_kinds.specs.declared.pat.PatLit.{PatLit}
-use Rattle.syn_pat_kinds.specs.declared.pat.PatIdentOf.{PatIdentOf}
-use Rattle.syn_pat_kinds.specs.declared.pat.PatPath.{PatPath}
-use Rattle.syn_pat_kinds.specs.declared.pat.PatMacro.{PatMacro}
-use Rattle.syn_pat_kinds.specs.declared.pat.PatStructOf.{PatStructOf}
-use Rattle.syn_pat_kinds.specs.declared.pat.PatTupleStructOf.{PatTupleStructOf}
-use Rattle.syn_pat_kinds.specs.declared.pat.PatTupleOf.{PatTupleOf}
-use Rattle.syn_pat_kinds.specs.declared.pat.PatParenOf.{PatParenOf}
-use Rattle.syn_pat_kinds.specs.declared.pat.PatSliceOf.{PatSliceOf}
-use Rattle.syn_pat_kinds.specs.declared.pat.PatReferenceOf.{PatReferenceOf}
-use Rattle.syn_pat_kinds.specs.declared.pat.PatConst.{PatConst}
-use Rattle.syn_pat_kinds.specs.declared.pat.PatOrOf.{PatOrOf}
-use Rattle.syn_pat_kinds.specs.declared.pat.PatTypeOf.{PatTypeOf}
-use Rattle.syn_grammar.proofs.Bools.{and_true}
+use Rattle.syn_pat.specs.View as of
+use Rattle.syn_pat.specs.View.{PatView, attribute_of, attributes_of, attributed_by, lit_of, bound_of, is_closed, pats_in, guards_in, sub_of, sub_guards, field_of, field_guards, field_pat_of}
+use Rattle.syn_pat.specs.declared.pat.FieldPatOf.{FieldPatOf}
+use Rattle.syn_pat.specs.declared.pat.FieldPatKindOf.{FieldPatKindOf}
+use Rattle.syn_pat.specs.declared.pat.FieldPatKindOf.TheVariants as kind
+use Rattle.syn_pat.specs.declared.pat.PatWild.{PatWild}
+use Rattle.syn_pat.specs.declared.pat.PatRest.{PatRest}
+use Rattle.syn_pat.specs.declared.pat.PatRange.{PatRange}
+use Rattle.syn_pat.specs.declared.pat.PatLit.{PatLit}
+use Rattle.syn_pat.specs.declared.pat.PatIdentOf.{PatIdentOf}
+use Rattle.syn_pat.specs.declared.pat.PatPath.{PatPath}
+use Rattle.syn_pat.specs.declared.pat.PatMacro.{PatMacro}
+use Rattle.syn_pat.specs.declared.pat.PatStructOf.{PatStructOf}
+use Rattle.syn_pat.specs.declared.pat.PatTupleStructOf.{PatTupleStructOf}
+use Rattle.syn_pat.specs.declared.pat.PatTupleOf.{PatTupleOf}
+use Rattle.syn_pat.specs.declared.pat.PatParenOf.{PatParenOf}
+use Rattle.syn_pat.specs.declared.pat.PatSliceOf.{PatSliceOf}
+use Rattle.syn_pat.specs.declared.pat.PatReferenceOf.{PatReferenceOf}
+use Rattle.syn_pat.specs.declared.pat.PatConst.{PatConst}
+use Rattle.syn_pat.specs.declared.pat.PatOrOf.{PatOrOf}
+use Rattle.syn_pat.specs.declared.pat.PatTypeOf.{PatTypeOf}
+use Rattle.syn_expr_spec.proofs.Bools.{and_true}
 use Rattle.syn_expr_wellformed.specs.declared.patterns.PatSort.TheVariants as sort
 use Rattle.syn_expr_wellformed.specs.Alone.{fits_alone, attributes_at, behind, fits_behind, sort_at, is_rest_sort, is_mut_sort, sub_alone, is_sole_rest, kind_alone, field_alone}
 use Rattle.syn_expr_wellformed.proofs.Closures.{four, swap, nil_append}

@@ -1,29 +1,29 @@
 -- What is told of a pattern by its kind.
 use Rattle.std.proofs.Common.{◌≡◌, Bool, true, false, ◌&&◌, ◌==◌, List, [], ◌∷◌, ◌++◌, length, map, None, refl, sym, ap, ◌∙◌, arith}
 use Rattle.std.proofs.lemmas.Bool.{eqb-true}
-use Rattle.syn_parts.specs.Form.{is_nil}
-use Rattle.syn_parts.specs.Tree.{AttributeTree}
-use Rattle.syn_parts.specs.Pat as t
-use Rattle.syn_parts.specs.Pat.{PatTree, guarded}
-use Rattle.syn_parts.specs.Fits.{type_fits}
-use Rattle.syn_parts.specs.PatFits.{attributes_outer, pat_fits, typed_fits, closure_arg_fits}
-use Rattle.syn_grammar.specs.Tree.{Tree}
+use Rattle.syn_lower_spec.specs.Form.{is_nil}
+use Rattle.syn_lower_spec.specs.Tree.{AttributeTree}
+use Rattle.syn_lower_spec.specs.Pat as t
+use Rattle.syn_lower_spec.specs.Pat.{PatTree, guarded}
+use Rattle.syn_lower_spec.specs.Fits.{type_fits}
+use Rattle.syn_lower_spec.specs.PatFits.{attributes_outer, pat_fits, typed_fits, closure_arg_fits}
+use Rattle.syn_expr_spec.specs.Tree.{Tree}
 use Rattle.syn_lower.specs.View.{type_of}
 use Rattle.syn_lower_leaves.specs.View.{attribute_of}
 use Rattle.syn_lower_leaves.specs.declared.attr.Attribute.{Attribute}
-use Rattle.syn_pat_kinds.specs.View as of
-use Rattle.syn_pat_kinds.specs.View.{PatView, attributes_of, attributed_by}
-use Rattle.syn_pat_kinds.specs.declared.pat.PatIdentOf.{PatIdentOf}
-use Rattle.syn_pat_kinds.specs.declared.pat.PatRest.{PatRest}
-use Rattle.syn_pat_kinds.specs.declared.pat.PatTypeOf.{PatTypeOf}
-use Rattle.syn_expr_collect.specs.Arm.{guard_by}
-use Rattle.syn_expr_all.specs.declared.pat.Pat.{Pat, out-Pat, roll-Pat, roll-out-Pat}
-use Rattle.syn_expr_all.specs.declared.pat.Pat.TheVariants as pt
-use Rattle.syn_expr_all.specs.declared.expr.Expr.TheOpen.{Pat-F}
-use Rattle.syn_expr_all.specs.declared.pat.PatGuard.{PatGuard, out-PatGuard}
-use Rattle.syn_expr_all.specs.View.{pat_layer, tree_of, pat_of, guard_of, views}
-use Rattle.syn_expr_all.proofs.TreeOf.{pat_out, guard-is}
-use Rattle.syn_expr_all.proofs.Guards.{no-guard}
+use Rattle.syn_pat.specs.View as of
+use Rattle.syn_pat.specs.View.{PatView, attributes_of, attributed_by}
+use Rattle.syn_pat.specs.declared.pat.PatIdentOf.{PatIdentOf}
+use Rattle.syn_pat.specs.declared.pat.PatRest.{PatRest}
+use Rattle.syn_pat.specs.declared.pat.PatTypeOf.{PatTypeOf}
+use Rattle.syn_expr_fixup.specs.Below.{guard_by}
+use Rattle.syn_expr_core.specs.declared.pat.Pat.{Pat, out-Pat, roll-Pat, roll-out-Pat}
+use Rattle.syn_expr_core.specs.declared.pat.Pat.TheVariants as pt
+use Rattle.syn_expr_core.specs.declared.expr.Expr.TheOpen.{Pat-F}
+use Rattle.syn_expr_core.specs.declared.pat.PatGuard.{PatGuard, out-PatGuard}
+use Rattle.syn_expr_core.specs.View.{pat_layer, tree_of, pat_of, guard_of, views}
+use Rattle.syn_expr_core.proofs.TreeOf.{pat_out, guard-is}
+use Rattle.syn_expr_core.proofs.Guards.{no-guard}
 use Rattle.syn_expr_wellformed.specs.declared.patterns.PatSort.TheVariants as sort
 use Rattle.syn_expr_wellformed.specs.Alone.{fits_alone, argument_fits, attributes_at, behind, fits_behind, argument_behind, sort_at}
 use Rattle.syn_expr_wellformed.specs.Walk.{arm_pattern}

@@ -1,10 +1,10 @@
 -- Leaves in a certain form, by what is lent of a node without attributes.
 use Rattle.std.proofs.Common.{◌≡◌, false, Some, None, refl, ap, ◌∙◌}
-use Rattle.syn_parts.specs.Text.{Text}
-use Rattle.syn_parts.specs.Pat.{a_name}
-use Rattle.syn_grammar.specs.Tree as e
-use Rattle.syn_grammar.specs.Tree.{Tree, Leaf, leaf, paren, attributed, prefixed, infixed, postfixed, tail, frame}
-use Rattle.syn_grammar.specs.WellFormed.{is_verbatim_leaf, is_verbatim_block, is_name_path}
+use Rattle.syn_lower_spec.specs.Text.{Text}
+use Rattle.syn_lower_spec.specs.Pat.{a_name}
+use Rattle.syn_expr_spec.specs.Tree as e
+use Rattle.syn_expr_spec.specs.Tree.{Tree, Leaf, leaf, paren, attributed, prefixed, infixed, postfixed, tail, frame}
+use Rattle.syn_expr_spec.specs.WellFormed.{is_verbatim_leaf, is_verbatim_block, is_name_path}
 use Rattle.syn_expr_wellformed.specs.Well.{bare_leaf}
 use Rattle.syn_expr_wellformed.specs.Walk.{verbatim_by, is_word_leaf, named_by}
 

@@ -1,15 +1,15 @@
 -- A node is well-formed where its attributes, what it is but for its operands, and these are.
 use Rattle.std.proofs.Common.{◌≡◌, Bool, true, false, not, ◌&&◌, [], refl, ap, sym, ◌∙◌}
-use Rattle.syn_parts.specs.Form.{is_nil}
-use Rattle.syn_parts.specs.PatFits.{attributes_outer}
-use Rattle.syn_grammar.specs.Slot as s
-use Rattle.syn_grammar.specs.Slot.{Slot}
-use Rattle.syn_grammar.specs.Stands.{is_attributed}
-use Rattle.syn_grammar.specs.Tree as e
-use Rattle.syn_grammar.specs.Tree.{Tree, Children, Ending, Piece, Trailer, Frame, leaf, paren, attributed, prefixed, infixed, postfixed, tail, frame, none, child, is_none}
-use Rattle.syn_grammar.specs.WellFormed.{well, children_well, has_rest, trailer_fits, trailer_slot, frame_fits, frame_slot, prefix_fits, piece_fits}
-use Rattle.syn_grammar.proofs.Bools.{and_true}
-use Rattle.syn_expr_kinds.specs.Node.{attributes_at, operands_at, stray_trees, without_strays, based_by}
+use Rattle.syn_lower_spec.specs.Form.{is_nil}
+use Rattle.syn_lower_spec.specs.PatFits.{attributes_outer}
+use Rattle.syn_expr_spec.specs.Slot as s
+use Rattle.syn_expr_spec.specs.Slot.{Slot}
+use Rattle.syn_expr_spec.specs.Stands.{is_attributed}
+use Rattle.syn_expr_spec.specs.Tree as e
+use Rattle.syn_expr_spec.specs.Tree.{Tree, Children, Ending, Piece, Trailer, Frame, leaf, paren, attributed, prefixed, infixed, postfixed, tail, frame, none, child, is_none}
+use Rattle.syn_expr_spec.specs.WellFormed.{well, children_well, has_rest, trailer_fits, trailer_slot, frame_fits, frame_slot, prefix_fits, piece_fits}
+use Rattle.syn_expr_spec.proofs.Bools.{and_true}
+use Rattle.syn_expr_ast.specs.Node.{attributes_at, operands_at, stray_trees, without_strays, based_by}
 use Rattle.syn_expr_wellformed.specs.Well.{own_fits, slot_at, dots_at, frame_dots}
 use Rattle.syn_expr_wellformed.specs.Walk.{operands_well, node_fits, is_plain, is_whole}
 use Rattle.syn_expr_wellformed.proofs.Closures.{and_assoc}

@@ -3,18 +3,18 @@ use Rattle.std.specs.Prelude.{Bool, true, false, not, ◌&&◌, List, [], ◌∷
 use Rattle.std.specs.declared.boxed.Box.{Box}
 use Rattle.std.specs.declared.alloc.Global.{Global}
 use Rattle.syn_lexer.specs.Keywords.{is_reserved_word}
-use Rattle.syn_parts.specs.Form.{is_nil}
-use Rattle.syn_parts.specs.Tree.{AttributeTree, SegmentTree}
-use Rattle.syn_parts.specs.Part.{has_none}
-use Rattle.syn_parts.specs.Pat as t
-use Rattle.syn_parts.specs.Pat.{PatTree}
-use Rattle.syn_parts.specs.PatFits.{attributes_outer, member_fits, pat_fits, typed_fits, closure_arg_fits}
-use Rattle.syn_grammar.specs.Tree.{Tree, Prefix, Frame, none}
-use Rattle.syn_grammar.specs.WellFormed.{prefix_fits, frame_fits}
-use Rattle.syn_pat_kinds.specs.View.{PatView, attributes_of, member_of}
-use Rattle.syn_pat_kinds.specs.declared.pat.FieldPatOf.{FieldPatOf}
-use Rattle.syn_pat_kinds.specs.declared.pat.FieldPatKindOf.{FieldPatKindOf}
-use Rattle.syn_pat_kinds.specs.declared.pat.FieldPatKindOf.TheVariants as kind
+use Rattle.syn_lower_spec.specs.Form.{is_nil}
+use Rattle.syn_lower_spec.specs.Tree.{AttributeTree, SegmentTree}
+use Rattle.syn_lower_spec.specs.Part.{has_none}
+use Rattle.syn_lower_spec.specs.Pat as t
+use Rattle.syn_lower_spec.specs.Pat.{PatTree}
+use Rattle.syn_lower_spec.specs.PatFits.{attributes_outer, member_fits, pat_fits, typed_fits, closure_arg_fits}
+use Rattle.syn_expr_spec.specs.Tree.{Tree, Prefix, Frame, none}
+use Rattle.syn_expr_spec.specs.WellFormed.{prefix_fits, frame_fits}
+use Rattle.syn_pat.specs.View.{PatView, attributes_of, member_of}
+use Rattle.syn_pat.specs.declared.pat.FieldPatOf.{FieldPatOf}
+use Rattle.syn_pat.specs.declared.pat.FieldPatKindOf.{FieldPatKindOf}
+use Rattle.syn_pat.specs.declared.pat.FieldPatKindOf.TheVariants as kind
 use Rattle.syn_expr_wellformed.specs.declared.patterns.PatSort.{PatSort}
 use Rattle.syn_expr_wellformed.specs.declared.patterns.PatSort.TheVariants as sort
 

@@ -1,6 +1,6 @@
 -- The slots that operands begin in, and whether `..` ends the fields.
 use Rattle.std.specs.Prelude.{Bool, true, false}
-use Rattle.syn_grammar.specs.Slot as s
+use Rattle.syn_expr_spec.specs.Slot as s
 use Rattle.syn_expr_wellformed.specs.declared.slot.Slot.{Slot}
 use Rattle.syn_expr_wellformed.specs.declared.slot.Slot.TheVariants as slot
 

@@ -1,19 +1,19 @@
 -- Whether operands are well-formed in their places, by what is lent of their node.
 use Rattle.std.specs.Prelude.{Bool, true, false, not, ◌||◌, ◌&&◌, List, ◌∷◌, Option, Some, None}
-use Rattle.syn_parts.specs.Form.{is_nil}
-use Rattle.syn_parts.specs.Text.{Text}
-use Rattle.syn_parts.specs.Pat.{PatTree, guarded}
-use Rattle.syn_parts.specs.PatFits.{attributes_outer, member_fits, pat_fits}
-use Rattle.syn_grammar.specs.Slot.{Slot}
-use Rattle.syn_grammar.specs.Path.{is_word_alone}
-use Rattle.syn_grammar.specs.Stands.{is_if_expr}
-use Rattle.syn_grammar.specs.Tree as e
-use Rattle.syn_grammar.specs.Tree.{Tree, Leaf, is_none}
-use Rattle.syn_grammar.specs.WellFormed.{well, children_well, has_rest, may_stop, is_verbatim_block, is_verbatim_leaf, is_name_path}
-use Rattle.syn_expr_kinds.specs.Node.{attributes_at, without_strays, OperandTrees, no_trees, one_tree, two_trees, based, framed}
-use Rattle.syn_expr_kinds.specs.Pats.{ArmView}
-use Rattle.syn_expr_kinds.specs.View.{FieldView}
-use Rattle.syn_expr_collect.specs.Arm.{guard_at}
+use Rattle.syn_lower_spec.specs.Form.{is_nil}
+use Rattle.syn_lower_spec.specs.Text.{Text}
+use Rattle.syn_lower_spec.specs.Pat.{PatTree, guarded}
+use Rattle.syn_lower_spec.specs.PatFits.{attributes_outer, member_fits, pat_fits}
+use Rattle.syn_expr_spec.specs.Slot.{Slot}
+use Rattle.syn_expr_spec.specs.Path.{is_word_alone}
+use Rattle.syn_expr_spec.specs.Stands.{is_if_expr}
+use Rattle.syn_expr_spec.specs.Tree as e
+use Rattle.syn_expr_spec.specs.Tree.{Tree, Leaf, is_none}
+use Rattle.syn_expr_spec.specs.WellFormed.{well, children_well, has_rest, may_stop, is_verbatim_block, is_verbatim_leaf, is_name_path}
+use Rattle.syn_expr_ast.specs.Node.{attributes_at, without_strays, OperandTrees, no_trees, one_tree, two_trees, based, framed}
+use Rattle.syn_expr_ast.specs.Pats.{ArmView}
+use Rattle.syn_expr_ast.specs.View.{FieldView}
+use Rattle.syn_expr_fixup.specs.Below.{guard_at}
 use Rattle.syn_expr_wellformed.specs.Well.{own_fits}
 
 -- ---- operands

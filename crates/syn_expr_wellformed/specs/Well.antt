@@ -1,13 +1,13 @@
 -- What a node is but for its operands, as a test of being read back asks, and where these are.
 use Rattle.std.specs.Prelude.{Bool, true, false, Option, Some, None}
-use Rattle.syn_grammar.specs.Slot as s
-use Rattle.syn_grammar.specs.Slot.{Slot}
-use Rattle.syn_grammar.specs.Tree as e
-use Rattle.syn_grammar.specs.Tree.{Tree, Leaf, Frame}
-use Rattle.syn_grammar.specs.WellFormed.{leaf_fits, infix_fits, postfix_fits, trailer_fits, trailer_slot, frame_slot}
-use Rattle.syn_expr_summaries.specs.declared.kind.NodeKind.{NodeKind}
-use Rattle.syn_expr_summaries.specs.declared.kind.NodeKind.TheVariants as node
-use Rattle.syn_expr_kinds.specs.Node.{stray_trees}
+use Rattle.syn_expr_spec.specs.Slot as s
+use Rattle.syn_expr_spec.specs.Slot.{Slot}
+use Rattle.syn_expr_spec.specs.Tree as e
+use Rattle.syn_expr_spec.specs.Tree.{Tree, Leaf, Frame}
+use Rattle.syn_expr_spec.specs.WellFormed.{leaf_fits, infix_fits, postfix_fits, trailer_fits, trailer_slot, frame_slot}
+use Rattle.syn_expr_ast.specs.declared.label.NodeKind.{NodeKind}
+use Rattle.syn_expr_ast.specs.declared.label.NodeKind.TheVariants as node
+use Rattle.syn_expr_ast.specs.Node.{stray_trees}
 use Rattle.syn_expr_wellformed.specs.Alone.{prefix_alone, frame_alone}
 
 -- ---- a node but for its operands

@@ -1,13 +1,12 @@
 -- Of no node more is told than is lent of it.
 use Rattle.std.proofs.Common.{◌≡◌, true, List, [], ◌∷◌, refl, ap, ◌∙◌}
-use Rattle.syn_grammar.specs.Tree.{Tree, Prefix, leaf, paren, attributed, prefixed, infixed, postfixed, tail, frame, none, is_none}
-use Rattle.syn_expr_kinds.specs.Node.{OperandTrees, no_trees, one_tree, two_trees, based, framed, without_strays, operands_at}
-use Rattle.syn_expr_kinds.specs.Pats.{strays}
+use Rattle.syn_expr_spec.specs.Tree.{Tree, Prefix, leaf, paren, attributed, prefixed, infixed, postfixed, tail, frame, none, is_none}
+use Rattle.syn_expr_ast.specs.Node.{OperandTrees, no_trees, one_tree, two_trees, based, framed, without_strays, operands_at}
+use Rattle.syn_expr_ast.specs.Pats.{strays}
 use Rattle.syn_expr_print.specs.Shape.{ShapeTree, leaf_shape, paren_shape, prefix_shape, infix_shape, postfix_shape, tail_shape, frame_shape, shape_at}
 use Rattle.syn_expr_print.specs.Printing.{core, node_of}
-use Rattle.syn_expr_all.specs.declared.expr.Expr.{Expr}
-use Rattle.syn_expr_all.specs.View.{tree_of}
-use Rattle.syn_expr_all.specs.Borrowed.{tree_borrowed}
+use Rattle.syn_expr_core.specs.declared.expr.Expr.{Expr}
+use Rattle.syn_expr_core.specs.View.{tree_of, tree_borrowed}
 use Rattle.syn_expr_wellformed.specs.Walk.{is_plain, is_whole}
 
 none_left : (gs : List Tree) → is_none (without_strays (strays gs none)) ≡ true

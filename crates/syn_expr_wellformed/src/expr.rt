@@ -6,10 +6,10 @@ use crate::heads::HasPatFits;
 use crate::pat;
 use crate::patterns::FitPat;
 use crate::walk::HasWell;
-use syn_expr_all::control::Arm;
-use syn_expr_all::expr::Expr;
-use syn_expr_all::pat::Pat;
-use syn_expr_kinds::attrs::all_outer;
+use syn_expr_ast::attrs::all_outer;
+use syn_expr_core::control::Arm;
+use syn_expr_core::expr::Expr;
+use syn_expr_core::pat::Pat;
 
 impl HasPatFits for Expr {
     fn pat_fits(pat: &Pat) -> bool {
@@ -21,7 +21,7 @@ impl HasPatFits for Expr {
     }
 }
 
-#[tactic(auto, using(syn_expr_all::proofs::TreeOf::members))]
+#[tactic(auto, using(syn_expr_core::proofs::TreeOf::members))]
 impl HasWell for Expr {
     ghost whole = { whole.tree_whole };
 

@@ -1,34 +1,34 @@
 //! Whether what a node is but for its operands is read back in its place.
 
 ghost use Rattle.std.specs.Prelude.{◌≡◌};
-ghost use Rattle.syn_expr_kinds.specs.Node.{braces_of, leaf_of, postfix_of, trailer_of};
-ghost use Rattle.syn_expr_kinds.specs.View.{turbofish_of};
-ghost use Rattle.syn_expr_parts.specs.View.{member_of};
-ghost use Rattle.syn_grammar.specs.Tree as e;
-ghost use Rattle.syn_grammar.specs.WellFormed as spec;
+ghost use Rattle.syn_expr_ast.specs.Node.{braces_of, leaf_of, postfix_of, trailer_of};
+ghost use Rattle.syn_expr_ast.specs.View.{turbofish_of};
+ghost use Rattle.syn_expr_tokens.specs.View.{member_of};
+ghost use Rattle.syn_expr_spec.specs.Tree as e;
+ghost use Rattle.syn_expr_spec.specs.WellFormed as spec;
 ghost use Rattle.syn_lower.specs.View.{type_of, path_of, qself_or};
 ghost use Rattle.syn_lower_leaves.specs.View.{lit_of};
-ghost use Rattle.syn_parts.specs.Fits.{arguments_fit, unsigned_fits};
-ghost use Rattle.syn_parts.specs.PatFits.{member_fits};
-ghost use Rattle.syn_parts.specs.declared.label.PathStyle.TheVariants as style;
-ghost use Rattle.syn_parts.specs.Part as part;
+ghost use Rattle.syn_lower_spec.specs.Fits.{arguments_fit, unsigned_fits};
+ghost use Rattle.syn_lower_spec.specs.PatFits.{member_fits};
+ghost use Rattle.syn_lower_spec.specs.declared.label.PathStyle.TheVariants as style;
+ghost use Rattle.syn_lower_spec.specs.Part as part;
 
-use syn_expr_kinds::attrs::is_in_order;
-use syn_expr_kinds::node::{Braces, Leaf, Postfix, Trailer};
-use syn_expr_kinds::path::is_word_alone;
-use syn_expr_parts::member::Member;
-use syn_grammar::kinds::Infix;
-use syn_lexer::reserved::is_reserved_word;
+use syn_expr_ast::atom::is_word_alone;
+use syn_expr_ast::attrs::is_in_order;
+use syn_expr_ast::node::{Braces, Leaf, Postfix, Trailer};
+use syn_expr_spec::kinds::Infix;
+use syn_expr_tokens::limits::RangeLimits;
+use syn_expr_tokens::member::Member;
+use syn_lexer::front::is_reserved_word;
 use syn_lower::lit::Lit;
 use syn_lower::path::{AngleBracketedGenericArguments, Path, PathStyle, QSelf};
 use syn_lower::qpath_is_read_back;
-use syn_op::limits::RangeLimits;
 use syn_tokens::buffer::Token;
 use syn_tokens::token::{Not, Pound};
 use syn_tokens::tree::TokenStream;
 
 /// Whether a literal is read back, and has no sign: one with a sign is two expressions.
-#[tactic(auto, unfolding(syn_parts::specs::Fits::lit_fits))]
+#[tactic(auto, unfolding(syn_lower_spec::specs::Fits::lit_fits))]
 fn lit_fits(lit: &Lit) -> bool
     ensures { result ≡ unsigned_fits (lit_of lit.now) }
 {
@@ -52,7 +52,7 @@ pub fn path_fits(qself: &Option<QSelf>, path: &Path) -> bool
 }
 
 /// Whether `#` and `!` come first.
-#[tactic(auto, unfolding(syn_tokens::specs::Sign::sign_text, syn_parts::specs::Mark::sign_at))]
+#[tactic(auto, unfolding(syn_tokens::specs::Sign::sign_text, syn_lower_spec::specs::Mark::sign_at))]
 fn begins_with_inner(tokens: &TokenStream) -> bool
     ensures { result ≡ part.pound_bang.at tokens.now }
 {

@@ -2,17 +2,17 @@
 
 ghost use Rattle.std.specs.List.{list_all};
 ghost use Rattle.std.specs.Prelude.{◌≡◌, ◌&&◌, true, not, map, is_some};
-ghost use Rattle.syn_expr_kinds.specs.Node.{closure_of, frame_seen, inputs_of, prefix_seen};
-ghost use Rattle.syn_expr_kinds.specs.Pats.{guards};
+ghost use Rattle.syn_expr_ast.specs.Node.{closure_of, frame_seen, inputs_of, prefix_seen};
+ghost use Rattle.syn_expr_ast.specs.Pats.{guards};
 ghost use Rattle.syn_expr_wellformed.specs.Alone as spec;
-ghost use Rattle.syn_grammar.specs.WellFormed.{head_fits};
+ghost use Rattle.syn_expr_spec.specs.WellFormed.{head_fits};
 ghost use Rattle.syn_lower.specs.View.{return_of, values};
-ghost use Rattle.syn_parts.specs.Form.{is_nil};
-ghost use Rattle.syn_parts.specs.Part.{is_default};
+ghost use Rattle.syn_lower_spec.specs.Form.{is_nil};
+ghost use Rattle.syn_lower_spec.specs.Part.{is_default};
 
 use crate::fits::path_fits;
-use syn_expr_kinds::node::{Closure, Frame, HasShape, Prefix};
-use syn_expr_parts::modifiers::ClosureModifiers;
+use syn_expr_ast::node::{Closure, Frame, HasShape, Prefix};
+use syn_expr_tokens::modifiers::ClosureModifiers;
 use syn_lower::punctuated::Punctuated;
 use syn_lower::ty::ReturnType;
 use syn_tokens::token::{Comma, Move};
@@ -42,7 +42,7 @@ fn pairs_fit<E: HasPatFits>(mut pairs: &[(E::Pat, Comma)]) -> bool
 }
 
 /// Whether each argument of a closure is read back.
-#[tactic(auto, using(syn_lower_lists::proofs::Fitting::lists), unfolding(syn_lower_lists::specs::View::values))]
+#[tactic(auto, using(syn_lower_leaves::proofs::Fitting::lists), unfolding(syn_lower_leaves::specs::View::values))]
 fn arguments_fit<E: HasPatFits>(list: &Punctuated<E::Pat, Comma>) -> bool
     ensures { result ≡ list_all (λ p. spec.argument_fits (E.Pat.view p)) (values list.now) }
 {

@@ -1,17 +1,17 @@
 //! Whether a node is read back but for its operands, and whether its attributes are.
 
 ghost use Rattle.std.specs.Prelude.{◌≡◌};
-ghost use Rattle.syn_expr_kinds.specs.Node.{leaf_of, before_of};
+ghost use Rattle.syn_expr_ast.specs.Node.{leaf_of, before_of};
 ghost use Rattle.syn_expr_wellformed.specs.Well as spec;
-ghost use Rattle.syn_grammar.specs.Stands.{is_if_expr};
+ghost use Rattle.syn_expr_spec.specs.Stands.{is_if_expr};
 ghost use Rattle.syn_lower_leaves.specs.View.{mapped};
-ghost use Rattle.syn_parts.specs.PatFits.{attributes_outer};
+ghost use Rattle.syn_lower_spec.specs.PatFits.{attributes_outer};
 
 use crate::fits::{infix_fits, leaf_fits, postfix_fits, trailer_fits};
 use crate::heads::{HasPatFits, frame_fits, prefix_fits};
-use syn_expr_kinds::attrs::all_outer;
-use syn_expr_kinds::node::{Attributes, HasShape, Leaf};
-use syn_expr_summaries::kind::NodeKind;
+use syn_expr_ast::attrs::all_outer;
+use syn_expr_ast::label::NodeKind;
+use syn_expr_ast::node::{Attributes, HasShape, Leaf};
 
 /// Whether an operator of this kind of node is read back; where it is none, nothing is asked.
 fn kind_fits(kind: NodeKind) -> bool
@@ -77,7 +77,7 @@ pub fn is_if_expr<E: HasShape>(expr: &E) -> bool
 }
 
 /// Whether the attributes before a node are outer ones, as those of a node with braces always are.
-#[tactic(auto, using(crate::proofs::Operands::outers), unfolding(syn_expr_kinds::specs::Attrs::attrs_of, syn_expr_kinds::specs::Attrs::outer_of))]
+#[tactic(auto, using(crate::proofs::Operands::outers), unfolding(syn_expr_ast::specs::Attrs::attrs_of, syn_expr_ast::specs::Attrs::outer_of))]
 pub(crate) fn before_fit(attributes: Attributes<'_>) -> bool
     ensures { result ≡ attributes_outer (before_of attributes.entry) }
 {

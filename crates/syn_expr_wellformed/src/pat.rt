@@ -1,27 +1,27 @@
 //! Whether a pattern is read back.
 
 ghost use Rattle.std.specs.Prelude.{◌≡◌};
-ghost use Rattle.syn_expr_all.specs.View.{guard_of, pat_of};
+ghost use Rattle.syn_expr_core.specs.View.{guard_of, pat_of};
 ghost use Rattle.syn_expr_wellformed.specs.Alone as spec;
 ghost use Rattle.syn_expr_wellformed.specs.Walk.{arm_pattern};
-ghost use Rattle.syn_parts.specs.Form.{is_nil};
-ghost use Rattle.syn_parts.specs.Pat.{is_rest};
-ghost use Rattle.syn_parts.specs.PatFits.{begins_mut};
-ghost use Rattle.syn_pat_kinds.specs.View as of;
+ghost use Rattle.syn_lower_spec.specs.Form.{is_nil};
+ghost use Rattle.syn_lower_spec.specs.Pat.{is_rest};
+ghost use Rattle.syn_lower_spec.specs.PatFits.{begins_mut};
+ghost use Rattle.syn_pat.specs.View as of;
 
 use crate::patterns::{
     FitPat, PatSort, ident_fits, ident_sort, lit_fits, macro_fits, or_fits, path_fits, pats_fit,
     range_fits, rest_sort, slice_fits, struct_fits, tuple_struct_fits,
 };
-use syn_expr_all::pat::{Pat, PatGuard, PatParen, PatReference, PatTuple, PatType};
-use syn_expr_kinds::attrs::all_outer;
+use syn_expr_ast::attrs::all_outer;
+use syn_expr_core::pat::{Pat, PatGuard, PatParen, PatReference, PatTuple, PatType};
 use syn_lower::attr::Attribute;
 use syn_lower::punctuated::Punctuated;
-use syn_lower_lists::fits::is_one;
+use syn_lower_leaves::fits::is_one;
 use syn_tokens::token::Comma;
 
 /// The attributes before a pattern.
-#[tactic(auto, using(syn_expr_all::proofs::TreeOf::pats, syn_expr_all::proofs::TreeOf::members, crate::proofs::Pats::shapes))]
+#[tactic(auto, using(syn_expr_core::proofs::TreeOf::pats, syn_expr_core::proofs::TreeOf::members, crate::proofs::Pats::shapes))]
 fn attrs(pat: &Pat) -> &Vec<Attribute>
     ensures { of.attributes_of result.now ≡ spec.attributes_at (pat_of pat.now).tree }
 {
@@ -47,7 +47,7 @@ fn attrs(pat: &Pat) -> &Vec<Attribute>
 }
 
 /// Whether no attributes come before a pattern.
-#[tactic(auto, using(syn_expr_kinds::proofs::Attributes::bares))]
+#[tactic(auto, using(syn_expr_ast::proofs::Attributes::bares))]
 fn is_bare(pat: &Pat) -> bool
     ensures { result ≡ is_nil (spec.attributes_at (pat_of pat.now).tree) }
 {
@@ -55,7 +55,7 @@ fn is_bare(pat: &Pat) -> bool
 }
 
 /// What the pattern round it asks of a pattern.
-#[tactic(auto, using(syn_expr_all::proofs::TreeOf::pats, syn_expr_all::proofs::TreeOf::members, crate::proofs::Pats::shapes))]
+#[tactic(auto, using(syn_expr_core::proofs::TreeOf::pats, syn_expr_core::proofs::TreeOf::members, crate::proofs::Pats::shapes))]
 fn sort(pat: &Pat) -> PatSort
     ensures { result ≡ spec.sort_at (pat_of pat.now).tree }
 {
@@ -123,7 +123,7 @@ fn reference_fits(x: &PatReference, several: bool) -> bool
 /// Whether what comes after the attributes of a pattern is read back, where there may be alternatives or may not, and no guard
 /// is in it.
 #[cycle(fits)]
-#[tactic(auto, using(syn_expr_all::proofs::TreeOf::pats, syn_expr_all::proofs::TreeOf::members, crate::proofs::PatKinds::always))]
+#[tactic(auto, using(syn_expr_core::proofs::TreeOf::pats, syn_expr_core::proofs::TreeOf::members, crate::proofs::PatKinds::always))]
 fn fits_behind(pat: &Pat, several: bool) -> bool
     ensures { result ≡ spec.fits_behind several (pat_of pat.now) }
 {
@@ -167,7 +167,7 @@ fn typed_fits(x: &PatType) -> bool
 }
 
 /// Whether an argument of a closure is read back after its attributes.
-#[tactic(auto, using(syn_expr_all::proofs::TreeOf::pats, crate::proofs::Pats::arguments))]
+#[tactic(auto, using(syn_expr_core::proofs::TreeOf::pats, crate::proofs::Pats::arguments))]
 fn fits_as_argument(pat: &Pat) -> bool
     ensures { result ≡ spec.argument_behind (pat_of pat.now) }
 {
@@ -178,7 +178,7 @@ fn fits_as_argument(pat: &Pat) -> bool
 }
 
 /// Whether a pattern is read back as an argument of a closure, and no guard is in it.
-#[tactic(auto, using(crate::proofs::Pats::attributed), unfolding(syn_expr_kinds::specs::Attrs::attrs_of))]
+#[tactic(auto, using(crate::proofs::Pats::attributed), unfolding(syn_expr_ast::specs::Attrs::attrs_of))]
 pub(crate) fn argument_fits(pat: &Pat) -> bool
     ensures { result ≡ spec.argument_fits (pat_of pat.now) }
 {
@@ -186,7 +186,7 @@ pub(crate) fn argument_fits(pat: &Pat) -> bool
 }
 
 /// Whether a pattern with a guard is read back in an arm.
-#[tactic(auto, using(syn_expr_all::proofs::TreeOf::members, crate::proofs::Pats::guards))]
+#[tactic(auto, using(syn_expr_core::proofs::TreeOf::members, crate::proofs::Pats::guards))]
 fn guarded_fits(x: &PatGuard) -> bool
     ensures { let p = guard_of x.now in result ≡ arm_pattern p.tree p.guards }
 {
@@ -194,7 +194,7 @@ fn guarded_fits(x: &PatGuard) -> bool
 }
 
 /// Whether the pattern of an arm is read back, with no guard in it but the arm's own.
-#[tactic(auto, using(syn_expr_all::proofs::TreeOf::pats, crate::proofs::Pats::guards))]
+#[tactic(auto, using(syn_expr_core::proofs::TreeOf::pats, crate::proofs::Pats::guards))]
 pub(crate) fn arm_pattern_fits(pat: &Pat) -> bool
     ensures { let p = pat_of pat.now in result ≡ arm_pattern p.tree p.guards }
 {

@@ -4,20 +4,20 @@ ghost use Rattle.std.specs.List.{list_all};
 ghost use Rattle.std.specs.Prelude.{◌≡◌, ◌&&◌, true, false, map};
 ghost use Rattle.syn_expr_wellformed.specs.Alone as spec;
 ghost use Rattle.syn_lower.specs.View.{type_of, values, mapped, segment_of, path_of, qself_or};
-ghost use Rattle.syn_parts.specs.Part.{segments_bare};
-ghost use Rattle.syn_parts.specs.PatFits as fits;
-ghost use Rattle.syn_pat_kinds.specs.View as of;
+ghost use Rattle.syn_lower_spec.specs.Part.{segments_bare};
+ghost use Rattle.syn_lower_spec.specs.PatFits as fits;
+ghost use Rattle.syn_pat.specs.View as of;
 
 use crate::fits::member_fits;
-use syn_expr_kinds::attrs::all_outer;
-use syn_lexer::reserved::is_reserved_word;
+use syn_expr_ast::attrs::all_outer;
+use syn_expr_tokens::limits::RangeLimits;
+use syn_lexer::front::is_reserved_word;
 use syn_lower::path::{Path, PathArguments, PathSegment, PathStyle, QSelf};
 use syn_lower::punctuated::Punctuated;
 use syn_lower::qpath_is_read_back;
-use syn_lower_generic::fits::has_none;
-use syn_op::limits::RangeLimits;
-use syn_pat_kinds::kinds::HasPatTree;
-use syn_pat_kinds::pat::{
+use syn_lower_types::fits::has_none;
+use syn_pat::kinds::HasPatTree;
+use syn_pat::pat::{
     FieldPatKindOf, FieldPatOf, PatIdentOf, PatLit, PatMacro, PatOrOf, PatPath, PatRange, PatRest,
     PatSliceOf, PatStructOf, PatTupleStructOf, RangeBound,
 };
@@ -37,7 +37,7 @@ pub enum PatSort {
 /// The type of patterns, as one asks whether they are read back. It is one question, without others beside it: `Pat` asks
 /// itself through code that is generic in such a type, and what is not part of that recursion can't be passed on there.
 pub trait FitPat {
-    ghost use Rattle.syn_pat_kinds.specs.View.{PatView};
+    ghost use Rattle.syn_pat.specs.View.{PatView};
 
     /// A pattern without its places, and the guards in it.
     ghost shown: { Self → PatView };
@@ -85,7 +85,7 @@ fn pairs_fit<P: FitPat, S>(mut pairs: &[(P, S)], several: bool) -> bool
 }
 
 /// Whether each pattern of a list is read back.
-#[tactic(auto, using(syn_lower_lists::proofs::Fitting::lists), unfolding(syn_lower_lists::specs::View::values))]
+#[tactic(auto, using(syn_lower_leaves::proofs::Fitting::lists), unfolding(syn_lower_leaves::specs::View::values))]
 pub fn pats_fit<P: FitPat, S>(list: &Punctuated<P, S>, several: bool) -> bool
     ensures { result ≡ list_all (λ p. spec.fits_alone several (P.shown p)) (values list.now) }
 {
@@ -162,7 +162,7 @@ fn is_name(segment: &PathSegment) -> bool
 }
 
 /// Whether the segments are one name.
-#[tactic(auto, unfolding(syn_lower_lists::specs::View::values))]
+#[tactic(auto, unfolding(syn_lower_leaves::specs::View::values))]
 fn is_sole_name(segments: &Punctuated<PathSegment, PathSep>) -> bool
     ensures { result ≡ fits.is_name_alone false (map (segment_of type_of) (values segments.now)) }
 {
@@ -234,7 +234,7 @@ fn kind_fits<P: FitPat>(kind: &FieldPatKindOf<P>) -> bool
 }
 
 /// Whether a field of a struct pattern is read back.
-#[tactic(auto, unfolding(syn_expr_kinds::specs::Attrs::attrs_of))]
+#[tactic(auto, unfolding(syn_expr_ast::specs::Attrs::attrs_of))]
 fn field_fits<P: FitPat>(field: &FieldPatOf<P>) -> bool
     ensures { result ≡ spec.field_alone P.shown field.now }
 {
@@ -255,7 +255,7 @@ fn field_pairs_fit<P: FitPat, S>(mut pairs: &[(FieldPatOf<P>, S)]) -> bool
 }
 
 /// Whether each field of a struct pattern is read back.
-#[tactic(auto, using(syn_lower_lists::proofs::Fitting::lists), unfolding(syn_lower_lists::specs::View::values))]
+#[tactic(auto, using(syn_lower_leaves::proofs::Fitting::lists), unfolding(syn_lower_leaves::specs::View::values))]
 fn fields_fit<P: FitPat, S>(list: &Punctuated<FieldPatOf<P>, S>) -> bool
     ensures { result ≡ list_all (spec.field_alone P.shown) (values list.now) }
 {

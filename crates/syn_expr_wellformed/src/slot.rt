@@ -1,13 +1,13 @@
 //! Where the operands of a node are.
 
 ghost use Rattle.std.specs.Prelude.{◌≡◌, false};
-ghost use Rattle.syn_expr_kinds.specs.Node.{frame_of, trailer_of};
+ghost use Rattle.syn_expr_ast.specs.Node.{frame_of, trailer_of};
 ghost use Rattle.syn_expr_wellformed.specs.Slots.{dots_of, slot_of, is_elements, is_single, is_counted, is_fields, is_conditions, is_loops, is_scrutinees, is_outputs};
 ghost use Rattle.syn_expr_wellformed.specs.Well as spec;
-ghost use Rattle.syn_grammar.specs.WellFormed as well;
-ghost use Rattle.syn_pat_kinds.specs.View.{PatView};
+ghost use Rattle.syn_expr_spec.specs.WellFormed as well;
+ghost use Rattle.syn_pat.specs.View.{PatView};
 
-use syn_expr_kinds::node::{Frame, HasShape, Trailer};
+use syn_expr_ast::node::{Frame, HasShape, Trailer};
 
 /// Where the operands of a node are.
 #[derive(Clone, Copy)]

@@ -1,16 +1,16 @@
 //! Operands that may only have a certain form: blocks that keep their tokens, and values that are the name of their field.
 
 ghost use Rattle.std.specs.Prelude.{◌≡◌};
-ghost use Rattle.syn_expr_kinds.specs.Node.{leaf_of};
-ghost use Rattle.syn_expr_parts.specs.View.{member_of};
+ghost use Rattle.syn_expr_ast.specs.Node.{leaf_of};
+ghost use Rattle.syn_expr_tokens.specs.View.{member_of};
 ghost use Rattle.syn_expr_wellformed.specs.Walk.{is_word_leaf};
-ghost use Rattle.syn_grammar.specs.WellFormed as spec;
-ghost use Rattle.syn_parts.specs.Pat.{a_name};
+ghost use Rattle.syn_expr_spec.specs.WellFormed as spec;
+ghost use Rattle.syn_lower_spec.specs.Pat.{a_name};
 
 use crate::own::bare_leaf;
-use syn_expr_kinds::node::{HasShape, Leaf};
-use syn_expr_kinds::path::is_word_alone;
-use syn_expr_parts::member::Member;
+use syn_expr_ast::atom::is_word_alone;
+use syn_expr_ast::node::{HasShape, Leaf};
+use syn_expr_tokens::member::Member;
 
 /// Whether it is the block of its tokens alone, without attributes.
 #[tactic(auto, using(crate::proofs::VerbatimLeaves::blocks))]

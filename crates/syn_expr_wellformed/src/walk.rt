@@ -2,26 +2,26 @@
 
 ghost use Rattle.std.specs.List.{list_all};
 ghost use Rattle.std.specs.Prelude.{◌≡◌, is_some, map};
-ghost use Rattle.syn_expr_collect.specs.Arm.{guard_at};
-ghost use Rattle.syn_expr_kinds.specs.Node.{framed, operands_of};
-ghost use Rattle.syn_expr_kinds.specs.View as of;
-ghost use Rattle.syn_expr_kinds.specs.View.{boxed, field_value_of, option_child};
+ghost use Rattle.syn_expr_fixup.specs.Below.{guard_at};
+ghost use Rattle.syn_expr_ast.specs.Node.{framed, operands_of};
+ghost use Rattle.syn_expr_ast.specs.View as of;
+ghost use Rattle.syn_expr_ast.specs.View.{boxed, field_value_of, option_child};
 ghost use Rattle.syn_expr_wellformed.specs.Slots.{dots_of, slot_of};
 ghost use Rattle.syn_expr_wellformed.specs.Walk as spec;
-ghost use Rattle.syn_grammar.specs.Tree as e;
-ghost use Rattle.syn_grammar.specs.WellFormed.{children_well, well};
-ghost use Rattle.syn_lower_lists.specs.View.{mapped, trails, values};
+ghost use Rattle.syn_expr_spec.specs.Tree as e;
+ghost use Rattle.syn_expr_spec.specs.WellFormed.{children_well, well};
+ghost use Rattle.syn_lower_leaves.specs.View.{mapped, trails, values};
 
 use crate::fits::{braces_fit, member_fits};
 use crate::heads::HasPatFits;
 use crate::own::{before_fit, is_if_expr, own_fits};
 use crate::slot::{Slot, operand_slot};
 use crate::verbatim::{is_name_path, is_verbatim_block};
-use syn_expr_collect::arm::HasArms;
-use syn_expr_kinds::attrs::{all_outer, is_in_order};
-use syn_expr_kinds::node::Operands;
-use syn_expr_kinds::structure::FieldValueOf;
-use syn_lower_lists::punctuated::Punctuated;
+use syn_expr_ast::attrs::{all_outer, is_in_order};
+use syn_expr_ast::node::Operands;
+use syn_expr_ast::structure::FieldValueOf;
+use syn_expr_fixup::summary::HasArms;
+use syn_lower_leaves::punctuated::Punctuated;
 use syn_tokens::token::{Comma, DotDot, Else};
 
 /// The type of expressions, as one asks whether they are read back.
@@ -209,7 +209,7 @@ fn arms_well<E: HasWell>(mut arms: &[E::Arm]) -> bool
 
 /// Whether the operands of a node are read back in their places.
 #[cycle(is_well)]
-#[tactic(auto, using(crate::proofs::Operands::operands, syn_expr_collect::proofs::Lists::lists, syn_expr_collect::proofs::Nodes::based))]
+#[tactic(auto, using(crate::proofs::Operands::operands, syn_expr_fixup::proofs::Lists::lists, syn_expr_fixup::proofs::Nodes::based))]
 fn operands_well<E: HasWell>(slot: Slot, operands: Operands<'_, E, E::Arm>) -> bool
     ensures { result ≡ spec.operands_well (slot_of slot) (dots_of slot) (operands_of E.tree E.Arm.view operands.entry) }
 {
@@ -241,7 +241,7 @@ fn operands_well<E: HasWell>(slot: Slot, operands: Operands<'_, E, E::Arm>) -> b
 
 /// Whether an expression is read back: its node by itself, and its operands in their places.
 #[cycle(is_well)]
-#[tactic(auto, using(crate::proofs::Wholes::wholes, syn_expr_collect::proofs::Nodes::nodes))]
+#[tactic(auto, using(crate::proofs::Wholes::wholes, syn_expr_fixup::proofs::Nodes::nodes))]
 pub fn is_well<E: HasWell>(expr: &E) -> bool
     ensures { result ≡ well (E.tree expr.now) }
 {

@@ -1,10 +1,10 @@
 -- Operands beside patterns tell what they are made of: guards of patterns where none may stand, and the arms of a `match`.
 use Rattle.std.proofs.Common.{◌≡◌, Bool, true, false, List, [], ◌∷◌, ◌++◌, refl, sym, ◌∙◌, ap, append-nil, append_assoc}
-use Rattle.syn_parts.specs.Tree.{AttributeTree, ReturnTree, default, given}
-use Rattle.syn_parts.specs.Pat.{PatTree, guarded}
-use Rattle.syn_grammar.specs.Tree as e
-use Rattle.syn_grammar.specs.Tree.{Tree, Children, ClosureHead, none, child}
-use Rattle.syn_expr_kinds.specs.Pats.{ArmView, strays, guard_children, arm_children, arm_ending, arms, closure_by}
+use Rattle.syn_lower_spec.specs.Tree.{AttributeTree, ReturnTree, default, given}
+use Rattle.syn_lower_spec.specs.Pat.{PatTree, guarded}
+use Rattle.syn_expr_spec.specs.Tree as e
+use Rattle.syn_expr_spec.specs.Tree.{Tree, Children, ClosureHead, none, child}
+use Rattle.syn_expr_ast.specs.Pats.{ArmView, strays, guard_children, arm_children, arm_ending, arms, closure_by}
 use Rattle.syn_laws.proofs.Shapes.{is_comma}
 
 -- ---- guards where none may stand

@@ -6,28 +6,28 @@ use Rattle.std.proofs.lemmas.Grind.{flat_map-append}
 use Rattle.std.proofs.lemmas.Simd.{map-map}
 use Rattle.std.specs.declared.boxed.Box.{Box}
 use Rattle.std.specs.declared.alloc.Global.{Global}
-use Rattle.syn_parts.specs.Tree.{AttributeTree}
-use Rattle.syn_parts.specs.Pat as t
-use Rattle.syn_parts.specs.Pat.{PatTree}
-use Rattle.syn_grammar.specs.Tree.{Tree}
+use Rattle.syn_lower_spec.specs.Tree.{AttributeTree}
+use Rattle.syn_lower_spec.specs.Pat as t
+use Rattle.syn_lower_spec.specs.Pat.{PatTree}
+use Rattle.syn_expr_spec.specs.Tree.{Tree}
 use Rattle.syn_lower_leaves.specs.View.{mapped, lit_of}
 use Rattle.syn_lower.specs.View.{last_of, type_of, path_of, qself_or, macro_of}
-use Rattle.syn_pat_kinds.specs.View.{attributed_by, attributes_of, bound_of, is_closed, field_of, field_guards, field_pat_of}
-use Rattle.syn_pat_kinds.specs.declared.pat.FieldPatOf.{FieldPatOf}
-use Rattle.syn_pat_kinds.specs.declared.pat.FieldPatKindOf.{FieldPatKindOf}
-use Rattle.syn_pat_kinds.specs.declared.pat.FieldPatKindOf.TheVariants as field
-use Rattle.syn_expr_all.specs.declared.expr.Expr.{Expr}
-use Rattle.syn_expr_all.specs.declared.expr.Expr.TheOpen.{Pat-F, PatGuard-F}
-use Rattle.syn_expr_all.specs.declared.expr.Expr.TheShapes as shapes
-use Rattle.syn_expr_all.specs.declared.pat.Pat.{Pat, map-Pat, ind-Pat, roll-Pat, out-roll-Pat}
-use Rattle.syn_expr_all.specs.declared.pat.PatGuard.{PatGuard, map-PatGuard, roll-PatGuard, out-roll-PatGuard}
-use Rattle.syn_expr_all.specs.declared.closure.ExprClosure.{ExprClosure}
-use Rattle.syn_expr_all.specs.declared.control.Arm.{Arm}
-use Rattle.syn_expr_all.specs.declared.control.ExprForLoop.{ExprForLoop}
-use Rattle.syn_expr_all.specs.declared.control.ExprLet.{ExprLet}
-use Rattle.syn_expr_all.specs.declared.control.ExprMatch.{ExprMatch}
-use Rattle.syn_expr_all.specs.View.{pat_layer, guard_layer, tree_of, pat_of, guard_of, views, values, trails}
-use Rattle.syn_expr_all.proofs.TreeOf.{pat_out, guard-is}
+use Rattle.syn_pat.specs.View.{attributed_by, attributes_of, bound_of, is_closed, field_of, field_guards, field_pat_of}
+use Rattle.syn_pat.specs.declared.pat.FieldPatOf.{FieldPatOf}
+use Rattle.syn_pat.specs.declared.pat.FieldPatKindOf.{FieldPatKindOf}
+use Rattle.syn_pat.specs.declared.pat.FieldPatKindOf.TheVariants as field
+use Rattle.syn_expr_core.specs.declared.expr.Expr.{Expr}
+use Rattle.syn_expr_core.specs.declared.expr.Expr.TheOpen.{Pat-F, PatGuard-F}
+use Rattle.syn_expr_core.specs.declared.expr.Expr.TheShapes as shapes
+use Rattle.syn_expr_core.specs.declared.pat.Pat.{Pat, map-Pat, ind-Pat, roll-Pat, out-roll-Pat}
+use Rattle.syn_expr_core.specs.declared.pat.PatGuard.{PatGuard, map-PatGuard, roll-PatGuard, out-roll-PatGuard}
+use Rattle.syn_expr_core.specs.declared.closure.ExprClosure.{ExprClosure}
+use Rattle.syn_expr_core.specs.declared.control.Arm.{Arm}
+use Rattle.syn_expr_core.specs.declared.control.ExprForLoop.{ExprForLoop}
+use Rattle.syn_expr_core.specs.declared.control.ExprLet.{ExprLet}
+use Rattle.syn_expr_core.specs.declared.control.ExprMatch.{ExprMatch}
+use Rattle.syn_expr_core.specs.View.{pat_layer, guard_layer, tree_of, pat_of, guard_of, views, values, trails}
+use Rattle.syn_expr_core.proofs.TreeOf.{pat_out, guard-is}
 use Rattle.syn_laws.proofs.Guards.{places, sub_places, pats_places, fields_places, field_places, IsFilled, filled-all, places-behind}
 
 behind : (ats : List AttributeTree) (p : PatTree) (gs : List Tree) → length gs ≡ places p → length gs ≡ places (attributed_by ats p)

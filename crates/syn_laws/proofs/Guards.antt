@@ -2,11 +2,11 @@
 -- and the guards of all tell the guards of each.
 use Rattle.std.proofs.Common.{◌≡◌, ℕ, ◌+◌, Bool, true, false, List, [], ◌∷◌, ◌++◌, map, flat_map, length, refl, sym, ◌∙◌, ap}
 use Rattle.std.proofs.lemmas.List.{length-append}
-use Rattle.syn_parts.specs.Tree.{AttributeTree}
-use Rattle.syn_parts.specs.Pat as t
-use Rattle.syn_parts.specs.Pat.{PatTree, SubPat, Pats, Fields, FieldTree}
-use Rattle.syn_grammar.specs.Tree.{Tree}
-use Rattle.syn_pat_kinds.specs.View.{PatView, attributed_by}
+use Rattle.syn_lower_spec.specs.Tree.{AttributeTree}
+use Rattle.syn_lower_spec.specs.Pat as t
+use Rattle.syn_lower_spec.specs.Pat.{PatTree, SubPat, Pats, Fields, FieldTree}
+use Rattle.syn_expr_spec.specs.Tree.{Tree}
+use Rattle.syn_pat.specs.View.{PatView, attributed_by}
 
 -- ---- the places for guards
 

@@ -1,29 +1,29 @@
 -- Types of one kind, and parts of others, that are printed and read back.
 use Rattle.std.proofs.Common.{◌≡◌, Bool, true, List, [], ◌∷◌, ◌++◌, Some, refl, ap}
 use Rattle.syn_tokens.specs.Tok.{Tok, ident}
-use Rattle.syn_parts.specs.declared.label.PathStyle.TheVariants as style
-use Rattle.syn_parts.specs.Tree.{TypeTree}
-use Rattle.syn_parts.specs.Own.{type_own, return_own, arguments_own, assoc_own, bound_own, mutability_own, alone}
-use Rattle.syn_parts.specs.Fits.{type_fits, type_stops, arguments_fit, generic_fits, bound_fits, bound_stops, in_angle_fits, in_round_fits, assoc_fits, trait_fits}
-use Rattle.syn_parts.proofs.Whole.{parts_read_back}
-use Rattle.syn_parts.specs.Kind.{type_of_kind}
-use Rattle.syn_lower_generic.specs.View.{name_and_type}
+use Rattle.syn_lower_spec.specs.declared.label.PathStyle.TheVariants as style
+use Rattle.syn_lower_spec.specs.Tree.{TypeTree}
+use Rattle.syn_lower_spec.specs.Own.{type_own, return_own, arguments_own, assoc_own, bound_own, mutability_own, alone}
+use Rattle.syn_lower_spec.specs.Fits.{type_fits, type_stops, arguments_fit, generic_fits, bound_fits, bound_stops, in_angle_fits, in_round_fits, assoc_fits, trait_fits}
+use Rattle.syn_lower_spec.proofs.Whole.{parts_read_back}
+use Rattle.syn_lower_spec.specs.Kind.{type_of_kind}
+use Rattle.syn_lower_types.specs.View.{name_and_type}
 use Rattle.syn_lower.specs.View.{type_of, generic_of, arguments_of, return_of, bound_of, round_of, angle_of, trait_of, is_mut}
-use Rattle.syn_lower_generic.specs.declared.ty.ReturnTypeOf.{ReturnTypeOf}
-use Rattle.syn_lower_generic.specs.Printed.{mutability_printed, angle_printed, assoc_printed, trait_printed, return_printed as return_typed}
+use Rattle.syn_lower_types.specs.declared.ty.ReturnTypeOf.{ReturnTypeOf}
+use Rattle.syn_lower_types.specs.Printed.{mutability_printed, angle_printed, assoc_printed, trait_printed, return_printed as return_typed}
 use Rattle.syn_laws.proofs.OwnTokens.{type_printed, arguments_printed, return_printed, bound_printed}
-use Rattle.syn_lower_generic.proofs.Prints.{return_print, angle_print, trait_print}
+use Rattle.syn_lower_types.proofs.Prints.{return_print, angle_print, trait_print}
 use Rattle.syn_lower.proofs.Prints.{ty_toks}
-use Rattle.syn_lower_generic.specs.declared.path.AngleBracketedGenericArgumentsOf.{AngleBracketedGenericArgumentsOf}
-use Rattle.syn_lower_generic.specs.declared.path.ParenthesizedGenericArgumentsOf.{ParenthesizedGenericArgumentsOf}
-use Rattle.syn_lower_generic.specs.declared.path.GenericArgumentOf.TheVariants as ge
-use Rattle.syn_lower_generic.specs.declared.path.PathArgumentsOf.TheVariants as ar
-use Rattle.syn_lower_generic.specs.declared.path.AssocTypeOf.{AssocTypeOf}
+use Rattle.syn_lower_types.specs.declared.path.AngleBracketedGenericArgumentsOf.{AngleBracketedGenericArgumentsOf}
+use Rattle.syn_lower_types.specs.declared.path.ParenthesizedGenericArgumentsOf.{ParenthesizedGenericArgumentsOf}
+use Rattle.syn_lower_types.specs.declared.path.GenericArgumentOf.TheVariants as ge
+use Rattle.syn_lower_types.specs.declared.path.PathArgumentsOf.TheVariants as ar
+use Rattle.syn_lower_types.specs.declared.path.AssocTypeOf.{AssocTypeOf}
 use Rattle.syn_lower.specs.declared.ty.«Type».{«Type»}
-use Rattle.syn_lower_generic.specs.declared.ty.TraitBoundOf.{TraitBoundOf}
-use Rattle.syn_lower_generic.specs.declared.ty.TypeParamBoundOf.TheVariants as bo
-use Rattle.syn_lower_lists.specs.declared.ty.PointerMutability.{PointerMutability}
-use Rattle.syn_lower_lists.specs.declared.ty.PointerMutability.TheVariants as pointer
+use Rattle.syn_lower_types.specs.declared.ty.TraitBoundOf.{TraitBoundOf}
+use Rattle.syn_lower_types.specs.declared.ty.TypeParamBoundOf.TheVariants as bo
+use Rattle.syn_lower_leaves.specs.declared.ty.PointerMutability.{PointerMutability}
+use Rattle.syn_lower_leaves.specs.declared.ty.PointerMutability.TheVariants as pointer
 
 -- a type of this kind, by what is printed of it
 pub kind_back : (is : TypeTree → Bool) (x : TypeTree) (printed rest : List Tok) → is x ≡ true → type_own x [] ≡ printed → type_fits true x ≡ true → type_stops true x rest ≡ true → (type_of_kind is).behind x (printed ++ rest) ≡ Some rest

@@ -1,24 +1,24 @@
 -- The kind of each type, and what is after those that end by themselves.
 use Rattle.std.proofs.Common.{◌≡◌, true, List, refl}
 use Rattle.syn_tokens.specs.Tok.{Tok}
-use Rattle.syn_parts.specs.Part.{is_never, is_infer}
-use Rattle.syn_parts.specs.Fits.{type_stops}
-use Rattle.syn_parts.specs.Kind.{is_reference, is_pointer, is_slice, is_array, is_tuple, is_paren, is_fn_pointer, is_impl_trait, is_trait_object}
+use Rattle.syn_lower_spec.specs.Part.{is_never, is_infer}
+use Rattle.syn_lower_spec.specs.Fits.{type_stops}
+use Rattle.syn_lower_spec.specs.Kind.{is_reference, is_pointer, is_slice, is_array, is_tuple, is_paren, is_fn_pointer, is_impl_trait, is_trait_object}
 use Rattle.syn_lower.specs.View.{type_of}
 use Rattle.syn_lower.proofs.Makes.{type-Reference, type-Ptr, type-Slice, type-Array, type-Tuple, type-Paren, type-Never, type-Infer, type-FnPtr, type-ImplTrait, type-TraitObject}
 use Rattle.syn_lower.specs.declared.ty.«Type».{«Type»}
 use Rattle.syn_lower.specs.declared.ty.«Type».TheVariants as ty
-use Rattle.syn_lower_generic.specs.declared.ty.TypeReferenceOf.{TypeReferenceOf}
-use Rattle.syn_lower_generic.specs.declared.ty.TypePtrOf.{TypePtrOf}
-use Rattle.syn_lower_generic.specs.declared.ty.TypeSliceOf.{TypeSliceOf}
-use Rattle.syn_lower_generic.specs.declared.ty.TypeArrayOf.{TypeArrayOf}
-use Rattle.syn_lower_generic.specs.declared.ty.TypeTupleOf.{TypeTupleOf}
-use Rattle.syn_lower_generic.specs.declared.ty.TypeParenOf.{TypeParenOf}
+use Rattle.syn_lower_types.specs.declared.ty.TypeReferenceOf.{TypeReferenceOf}
+use Rattle.syn_lower_types.specs.declared.ty.TypePtrOf.{TypePtrOf}
+use Rattle.syn_lower_types.specs.declared.ty.TypeSliceOf.{TypeSliceOf}
+use Rattle.syn_lower_types.specs.declared.ty.TypeArrayOf.{TypeArrayOf}
+use Rattle.syn_lower_types.specs.declared.ty.TypeTupleOf.{TypeTupleOf}
+use Rattle.syn_lower_types.specs.declared.ty.TypeParenOf.{TypeParenOf}
 use Rattle.syn_lower.specs.declared.ty.TypeNever.{TypeNever}
 use Rattle.syn_lower.specs.declared.ty.TypeInfer.{TypeInfer}
-use Rattle.syn_lower_generic.specs.declared.ty.TypeFnPtrOf.{TypeFnPtrOf}
-use Rattle.syn_lower_generic.specs.declared.ty.TypeImplTraitOf.{TypeImplTraitOf}
-use Rattle.syn_lower_generic.specs.declared.ty.TypeTraitObjectOf.{TypeTraitObjectOf}
+use Rattle.syn_lower_types.specs.declared.ty.TypeFnPtrOf.{TypeFnPtrOf}
+use Rattle.syn_lower_types.specs.declared.ty.TypeImplTraitOf.{TypeImplTraitOf}
+use Rattle.syn_lower_types.specs.declared.ty.TypeTraitObjectOf.{TypeTraitObjectOf}
 
 pub is-Reference : (x : TypeReferenceOf «Type») → is_reference (type_of (ty.Reference x)) ≡ true
 is-Reference x = rw (type-Reference x) refl

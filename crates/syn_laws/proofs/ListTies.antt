@@ -6,9 +6,9 @@ use Rattle.std.specs.Option.{option_eq}
 use Rattle.std.specs.Cmp.Lexicographic.{pointwise}
 use Rattle.std.specs.declared.boxed.Box.{Box}
 use Rattle.std.specs.declared.alloc.Global.{Global}
-use Rattle.syn_lower_leaves.specs.Equal.{IsEqualityOf}
+use Rattle.syn_lower_spec.specs.Equal.{IsEqualityOf}
 use Rattle.syn_lower.specs.View.{mapped, values, trails, last_of, is_some_pair}
-use Rattle.syn_lower_lists.specs.declared.punctuated.Punctuated.{Punctuated}
+use Rattle.syn_lower_leaves.specs.declared.punctuated.Punctuated.{Punctuated}
 use Rattle.syn_lower_leaves.proofs.Ties.{both_tie, on_tie, into_tie, option_tie, list_tie, pair_path, and_true_tie}
 
 abbrev opt : {B : Type 0} → Option B → List B

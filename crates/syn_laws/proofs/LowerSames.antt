@@ -4,10 +4,10 @@ use Rattle.std.proofs.Common.{◌≡◌, ℕ, Bool, true, sym, ap}
 use denote.Enum.Declared.{Choice}
 use denote.Hole.Carrier.{Values}
 use denote.Hole.Compared.{compared}
-use Rattle.syn_parts.specs.Tree as t
-use Rattle.syn_parts.specs.Tree.{TypeTree}
-use Rattle.syn_lower_leaves.specs.Equal.{IsEqualityOf}
-use Rattle.syn_lower_generic.specs.View.{path_of, segment_of, arguments_of, angle_of, round_of, generic_of, assoc_of, macro_of, qself_of, arg_of, return_of, bound_of, trait_of}
+use Rattle.syn_lower_spec.specs.Tree as t
+use Rattle.syn_lower_spec.specs.Tree.{TypeTree}
+use Rattle.syn_lower_spec.specs.Equal.{IsEqualityOf}
+use Rattle.syn_lower_types.specs.View.{path_of, segment_of, arguments_of, angle_of, round_of, generic_of, assoc_of, macro_of, qself_of, arg_of, return_of, bound_of, trait_of}
 use Rattle.syn_lower.specs.View.{type_of}
 use Rattle.syn_lower.specs.declared.ty.«Type».{«Type»}
 use Rattle.syn_lower.specs.declared.ty.«Type».TheBlock as block
@@ -15,34 +15,34 @@ use Rattle.syn_lower.specs.declared.ty.«Type».TheVariants as ty
 use Rattle.syn_lower.specs.contracts.ty.«Type» as type_row
 use Rattle.syn_lower.specs.contracts.ty.TypePartialEq.TheImpl as type_test
 use Rattle.syn_lower.specs.contracts.ty.TypePartialEq.TheImpl.Laws as type_laws
-use Rattle.syn_lower_generic.specs.contracts.path.PathOfPartialEq.TheImpl as path_test
-use Rattle.syn_lower_generic.specs.contracts.path.PathSegmentOfPartialEq.TheImpl as segment_test
-use Rattle.syn_lower_generic.specs.contracts.path.PathArgumentsOfPartialEq.TheImpl as args_test
-use Rattle.syn_lower_generic.specs.contracts.path.AngleBracketedGenericArgumentsOfPartialEq.TheImpl as angle_test
-use Rattle.syn_lower_generic.specs.contracts.path.ParenthesizedGenericArgumentsOfPartialEq.TheImpl as round_test
-use Rattle.syn_lower_generic.specs.contracts.path.GenericArgumentOfPartialEq.TheImpl as generic_test
-use Rattle.syn_lower_generic.specs.contracts.path.AssocTypeOfPartialEq.TheImpl as assoc_test
-use Rattle.syn_lower_generic.specs.contracts.mac.MacroOfPartialEq.TheImpl as macro_test
-use Rattle.syn_lower_generic.specs.contracts.path.QSelfOfPartialEq.TheImpl as qself_test
-use Rattle.syn_lower_generic.specs.contracts.ty.BareFnArgOfPartialEq.TheImpl as arg_test
-use Rattle.syn_lower_generic.specs.contracts.ty.ReturnTypeOfPartialEq.TheImpl as return_test
-use Rattle.syn_lower_generic.specs.contracts.ty.TypeParamBoundOfPartialEq.TheImpl as bound_test
-use Rattle.syn_lower_generic.specs.contracts.ty.TraitBoundOfPartialEq.TheImpl as trait_test
-use Rattle.syn_lower_generic.specs.contracts.ty.TypePathOfPartialEq.TheImpl as path_kind_test
-use Rattle.syn_lower_generic.specs.contracts.ty.TypeMacroOfPartialEq.TheImpl as macro_kind_test
-use Rattle.syn_lower_generic.specs.contracts.ty.TypeReferenceOfPartialEq.TheImpl as reference_kind_test
-use Rattle.syn_lower_generic.specs.contracts.ty.TypePtrOfPartialEq.TheImpl as ptr_kind_test
-use Rattle.syn_lower_generic.specs.contracts.ty.TypeSliceOfPartialEq.TheImpl as slice_kind_test
-use Rattle.syn_lower_generic.specs.contracts.ty.TypeArrayOfPartialEq.TheImpl as array_kind_test
-use Rattle.syn_lower_generic.specs.contracts.ty.TypeTupleOfPartialEq.TheImpl as tuple_kind_test
-use Rattle.syn_lower_generic.specs.contracts.ty.TypeParenOfPartialEq.TheImpl as paren_kind_test
+use Rattle.syn_lower_types.specs.contracts.path.PathOfPartialEq.TheImpl as path_test
+use Rattle.syn_lower_types.specs.contracts.path.PathSegmentOfPartialEq.TheImpl as segment_test
+use Rattle.syn_lower_types.specs.contracts.path.PathArgumentsOfPartialEq.TheImpl as args_test
+use Rattle.syn_lower_types.specs.contracts.path.AngleBracketedGenericArgumentsOfPartialEq.TheImpl as angle_test
+use Rattle.syn_lower_types.specs.contracts.path.ParenthesizedGenericArgumentsOfPartialEq.TheImpl as round_test
+use Rattle.syn_lower_types.specs.contracts.path.GenericArgumentOfPartialEq.TheImpl as generic_test
+use Rattle.syn_lower_types.specs.contracts.path.AssocTypeOfPartialEq.TheImpl as assoc_test
+use Rattle.syn_lower_types.specs.contracts.mac.MacroOfPartialEq.TheImpl as macro_test
+use Rattle.syn_lower_types.specs.contracts.path.QSelfOfPartialEq.TheImpl as qself_test
+use Rattle.syn_lower_types.specs.contracts.ty.BareFnArgOfPartialEq.TheImpl as arg_test
+use Rattle.syn_lower_types.specs.contracts.ty.ReturnTypeOfPartialEq.TheImpl as return_test
+use Rattle.syn_lower_types.specs.contracts.ty.TypeParamBoundOfPartialEq.TheImpl as bound_test
+use Rattle.syn_lower_types.specs.contracts.ty.TraitBoundOfPartialEq.TheImpl as trait_test
+use Rattle.syn_lower_types.specs.contracts.ty.TypePathOfPartialEq.TheImpl as path_kind_test
+use Rattle.syn_lower_types.specs.contracts.ty.TypeMacroOfPartialEq.TheImpl as macro_kind_test
+use Rattle.syn_lower_types.specs.contracts.ty.TypeReferenceOfPartialEq.TheImpl as reference_kind_test
+use Rattle.syn_lower_types.specs.contracts.ty.TypePtrOfPartialEq.TheImpl as ptr_kind_test
+use Rattle.syn_lower_types.specs.contracts.ty.TypeSliceOfPartialEq.TheImpl as slice_kind_test
+use Rattle.syn_lower_types.specs.contracts.ty.TypeArrayOfPartialEq.TheImpl as array_kind_test
+use Rattle.syn_lower_types.specs.contracts.ty.TypeTupleOfPartialEq.TheImpl as tuple_kind_test
+use Rattle.syn_lower_types.specs.contracts.ty.TypeParenOfPartialEq.TheImpl as paren_kind_test
 use Rattle.syn_lower.specs.contracts.ty.TypeNeverPartialEq.TheImpl as never_kind_test
 use Rattle.syn_lower.specs.contracts.ty.TypeInferPartialEq.TheImpl as infer_kind_test
-use Rattle.syn_lower_generic.specs.contracts.ty.TypeFnPtrOfPartialEq.TheImpl as fn_ptr_kind_test
-use Rattle.syn_lower_generic.specs.contracts.ty.TypeImplTraitOfPartialEq.TheImpl as impl_kind_test
-use Rattle.syn_lower_generic.specs.contracts.ty.TypeTraitObjectOfPartialEq.TheImpl as object_kind_test
+use Rattle.syn_lower_types.specs.contracts.ty.TypeFnPtrOfPartialEq.TheImpl as fn_ptr_kind_test
+use Rattle.syn_lower_types.specs.contracts.ty.TypeImplTraitOfPartialEq.TheImpl as impl_kind_test
+use Rattle.syn_lower_types.specs.contracts.ty.TypeTraitObjectOfPartialEq.TheImpl as object_kind_test
 use Rattle.syn_lower.proofs.Makes.{type-Path, type-Macro, type-Reference, type-Ptr, type-Slice, type-Array, type-Tuple, type-Paren, type-Never, type-Infer, type-FnPtr, type-ImplTrait, type-TraitObject}
-use Rattle.syn_parts.proofs.TreeEq.{type_eq}
+use Rattle.syn_lower_spec.proofs.TreeEq.{type_eq}
 use Rattle.syn_lower_leaves.proofs.Ties.{on_tie, constant_tie, along, by_test, rank_end, rank_more, decides, decided_tie, one_test, is_compared}
 use Rattle.syn_laws.proofs.PartTies as parts
 use Rattle.syn_laws.proofs.PartTies.{lifetimes_tie, abi_tie, pointer_tie}

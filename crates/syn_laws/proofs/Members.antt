@@ -1,13 +1,13 @@
 -- The equality of what holds both expressions and patterns, by that of both: of its parts, as the types of the cycle have them.
 use Rattle.std.proofs.Common.{◌≡◌, Bool, true, List, [], ◌∷◌, ◌++◌, Option, refl, ap}
 use Rattle.syn_tokens.specs.Tok.{Tok}
-use Rattle.syn_parts.specs.Text.{Text}
-use Rattle.syn_parts.specs.Tree.{AttributeTree, LifetimesTree, ReturnTree, default, given}
-use Rattle.syn_parts.specs.Pat.{PatTree}
-use Rattle.syn_grammar.specs.Tree as e
-use Rattle.syn_grammar.specs.Tree.{Tree, Body, ClosureHead, prefixed, frame, none, child}
-use Rattle.syn_expr_kinds.specs.Pats.{ArmView, strays, closure_by, arms}
-use Rattle.syn_expr_kinds.specs.View.{body_of}
+use Rattle.syn_lower_spec.specs.Text.{Text}
+use Rattle.syn_lower_spec.specs.Tree.{AttributeTree, LifetimesTree, ReturnTree, default, given}
+use Rattle.syn_lower_spec.specs.Pat.{PatTree}
+use Rattle.syn_expr_spec.specs.Tree as e
+use Rattle.syn_expr_spec.specs.Tree.{Tree, Body, ClosureHead, prefixed, frame, none, child}
+use Rattle.syn_expr_ast.specs.Pats.{ArmView, strays, closure_by, arms}
+use Rattle.syn_expr_ast.specs.View.{body_of}
 use Rattle.syn_lower_leaves.proofs.Ties.{pair_path}
 use Rattle.syn_laws.proofs.Shapes.{is_core}
 use Rattle.syn_laws.proofs.Children.{strays_once, closure_once, arms_once}

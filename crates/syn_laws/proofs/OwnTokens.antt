@@ -1,18 +1,18 @@
 -- What is printed of each part is its own tokens, before whatever follows.
 use Rattle.std.proofs.Common.{◌≡◌, List, [], ◌++◌, sym, ap, ◌∙◌, append_assoc}
 use Rattle.syn_tokens.specs.Tok.{Tok}
-use Rattle.syn_parts.specs.Own.{path_own, macro_own, segment_own, arg_own, arguments_own, return_own, generic_own, bound_own, type_own}
-use Rattle.syn_parts.specs.Tree.{TypeTree, ArgumentsTree, ReturnTree, GenericTree, BoundTree}
+use Rattle.syn_lower_spec.specs.Own.{path_own, macro_own, segment_own, arg_own, arguments_own, return_own, generic_own, bound_own, type_own}
+use Rattle.syn_lower_spec.specs.Tree.{TypeTree, ArgumentsTree, ReturnTree, GenericTree, BoundTree}
 use Rattle.syn_lower.specs.View.{path_of, segment_of, macro_of, arg_of, type_of}
-use Rattle.syn_lower_generic.specs.Printed.{path_printed, segment_printed, macro_printed, arg_printed}
-use Rattle.syn_parts.proofs.Appends.{type_append, arguments_append, return_append, generic_append, bound_append}
-use Rattle.syn_lower_generic.proofs.Prints.{path_print, segment_print, segment_appends, arg_print, arg_appends}
+use Rattle.syn_lower_types.specs.Printed.{path_printed, segment_printed, macro_printed, arg_printed}
+use Rattle.syn_lower_spec.proofs.Appends.{type_append, arguments_append, return_append, generic_append, bound_append}
+use Rattle.syn_lower_types.proofs.Prints.{path_print, segment_print, segment_appends, arg_print, arg_appends}
 use Rattle.syn_lower.proofs.Prints.{ty_toks}
-use Rattle.syn_lower_generic.specs.declared.mac.MacroOf.{MacroOf}
-use Rattle.syn_lower_generic.specs.declared.path.PathOf.{PathOf}
-use Rattle.syn_lower_generic.specs.declared.path.PathSegmentOf.{PathSegmentOf}
+use Rattle.syn_lower_types.specs.declared.mac.MacroOf.{MacroOf}
+use Rattle.syn_lower_types.specs.declared.path.PathOf.{PathOf}
+use Rattle.syn_lower_types.specs.declared.path.PathSegmentOf.{PathSegmentOf}
 use Rattle.syn_lower.specs.declared.ty.«Type».{«Type»}
-use Rattle.syn_lower_generic.specs.declared.ty.BareFnArgOf.{BareFnArgOf}
+use Rattle.syn_lower_types.specs.declared.ty.BareFnArgOf.{BareFnArgOf}
 
 -- by what is printed before nothing
 before_rest : {A : Type 0} (own : A → List Tok → List Tok) → ((x : A) (r : List Tok) → own x r ≡ own x [] ++ r) → (x : A) (printed rest : List Tok) → own x [] ≡ printed → printed ++ rest ≡ own x rest

@@ -6,74 +6,74 @@ use denote.RattleType.{RattleType}
 use mir.Syntax.{Dict, impl, tnil, dnil}
 use Rattle.std.specs.declared.boxed.Box.{Box}
 use Rattle.std.specs.declared.alloc.Global.{Global}
-use Rattle.syn_lexer.specs.declared.lexeme.Delimiter.{Delimiter}
+use Rattle.syn_lexer.specs.declared.front.Delimiter.{Delimiter}
 use Rattle.syn_tokens.specs.Tok.{Tok}
-use Rattle.syn_parts.specs.Text.{Text}
-use Rattle.syn_parts.specs.Tree as t
-use Rattle.syn_parts.specs.Tree.{LitTree, LifetimesTree, TypeTree, SegmentTree, PathTree, FnArgTree, ArgumentsTree, GenericTree, ReturnTree, BoundTree, QSelfTree}
-use Rattle.syn_parts.specs.Part.{MacroTree}
-use Rattle.syn_parts.proofs.Trees.{types-types_of, segments-segments_of, generics-generics_of, args-args_of, bounds-bounds_of}
-use Rattle.syn_lower_leaves.specs.Equal.{IsEqualityOf}
-use Rattle.syn_lower_generic.specs.View.{lifetimes_of, assoc_of, angle_of, round_of, segment_of, path_of, qself_of, qself_or, macro_of, trait_with, trait_of, arg_of, abi_of, is_mut, path_with, mac_with, generic_of, arguments_of, return_of, bound_of, type_path_of, type_macro_of, reference_of, ptr_of, slice_of, array_of, tuple_of, paren_of, fn_ptr_of, impl_trait_of, trait_object_of}
-use Rattle.syn_lower_generic.specs.declared.mac.MacroOf.{MacroOf}
-use Rattle.syn_lower_generic.specs.declared.path.PathOf.{PathOf}
-use Rattle.syn_lower_generic.specs.declared.path.PathSegmentOf.{PathSegmentOf}
-use Rattle.syn_lower_generic.specs.declared.path.PathArgumentsOf.{PathArgumentsOf}
-use Rattle.syn_lower_generic.specs.declared.path.AngleBracketedGenericArgumentsOf.{AngleBracketedGenericArgumentsOf}
-use Rattle.syn_lower_generic.specs.declared.path.ParenthesizedGenericArgumentsOf.{ParenthesizedGenericArgumentsOf}
-use Rattle.syn_lower_generic.specs.declared.path.GenericArgumentOf.{GenericArgumentOf}
-use Rattle.syn_lower_generic.specs.declared.path.AssocTypeOf.{AssocTypeOf}
-use Rattle.syn_lower_generic.specs.declared.path.QSelfOf.{QSelfOf}
-use Rattle.syn_lower_lists.specs.declared.ty.Abi.{Abi}
-use Rattle.syn_lower_lists.specs.declared.ty.BoundLifetimes.{BoundLifetimes}
-use Rattle.syn_lower_lists.specs.declared.ty.PointerMutability.{PointerMutability}
-use Rattle.syn_lower_lists.specs.declared.ty.PointerMutability.TheVariants as pointer
-use Rattle.syn_lower_generic.specs.declared.ty.BareFnArgOf.{BareFnArgOf}
-use Rattle.syn_lower_generic.specs.declared.ty.ReturnTypeOf.{ReturnTypeOf}
-use Rattle.syn_lower_generic.specs.declared.ty.TypeParamBoundOf.{TypeParamBoundOf}
-use Rattle.syn_lower_generic.specs.declared.ty.TraitBoundOf.{TraitBoundOf}
-use Rattle.syn_lower_generic.specs.declared.ty.TypePathOf.{TypePathOf}
-use Rattle.syn_lower_generic.specs.declared.ty.TypeMacroOf.{TypeMacroOf}
-use Rattle.syn_lower_generic.specs.declared.ty.TypeReferenceOf.{TypeReferenceOf}
-use Rattle.syn_lower_generic.specs.declared.ty.TypePtrOf.{TypePtrOf}
-use Rattle.syn_lower_generic.specs.declared.ty.TypeSliceOf.{TypeSliceOf}
-use Rattle.syn_lower_generic.specs.declared.ty.TypeArrayOf.{TypeArrayOf}
-use Rattle.syn_lower_generic.specs.declared.ty.TypeTupleOf.{TypeTupleOf}
-use Rattle.syn_lower_generic.specs.declared.ty.TypeParenOf.{TypeParenOf}
-use Rattle.syn_lower_generic.specs.declared.ty.TypeFnPtrOf.{TypeFnPtrOf}
-use Rattle.syn_lower_generic.specs.declared.ty.TypeImplTraitOf.{TypeImplTraitOf}
-use Rattle.syn_lower_generic.specs.declared.ty.TypeTraitObjectOf.{TypeTraitObjectOf}
-use Rattle.syn_lower_generic.specs.contracts.ty.ReturnTypeOf as return_row
-use Rattle.syn_lower_generic.specs.contracts.ty.TypeParamBoundOf as bound_row
-use Rattle.syn_lower_generic.specs.contracts.path.PathArgumentsOf as args_row
-use Rattle.syn_lower_generic.specs.contracts.path.GenericArgumentOf as generic_row
-use Rattle.syn_lower_generic.specs.contracts.mac.MacroOfPartialEq.TheImpl as macro_eq
-use Rattle.syn_lower_generic.specs.contracts.path.PathOfPartialEq.TheImpl as path_eq
-use Rattle.syn_lower_generic.specs.contracts.path.PathSegmentOfPartialEq.TheImpl as segment_eq
-use Rattle.syn_lower_generic.specs.contracts.path.PathArgumentsOfPartialEq.TheImpl as args_eq
-use Rattle.syn_lower_generic.specs.contracts.path.AngleBracketedGenericArgumentsOfPartialEq.TheImpl as angle_eq
-use Rattle.syn_lower_generic.specs.contracts.path.ParenthesizedGenericArgumentsOfPartialEq.TheImpl as round_eq
-use Rattle.syn_lower_generic.specs.contracts.path.GenericArgumentOfPartialEq.TheImpl as generic_eq
-use Rattle.syn_lower_generic.specs.contracts.path.AssocTypeOfPartialEq.TheImpl as assoc_eq
-use Rattle.syn_lower_generic.specs.contracts.path.QSelfOfPartialEq.TheImpl as qself_eq
-use Rattle.syn_lower_lists.specs.contracts.ty.AbiPartialEq.TheImpl as abi_eq
-use Rattle.syn_lower_lists.specs.contracts.ty.BoundLifetimesPartialEq.TheImpl as lifetimes_eq
-use Rattle.syn_lower_lists.specs.contracts.ty.PointerMutabilityPartialEq.TheImpl as pointer_eq
-use Rattle.syn_lower_generic.specs.contracts.ty.BareFnArgOfPartialEq.TheImpl as arg_eq
-use Rattle.syn_lower_generic.specs.contracts.ty.ReturnTypeOfPartialEq.TheImpl as return_eq
-use Rattle.syn_lower_generic.specs.contracts.ty.TypeParamBoundOfPartialEq.TheImpl as bound_eq
-use Rattle.syn_lower_generic.specs.contracts.ty.TraitBoundOfPartialEq.TheImpl as trait_eq
-use Rattle.syn_lower_generic.specs.contracts.ty.TypePathOfPartialEq.TheImpl as type_path_eq
-use Rattle.syn_lower_generic.specs.contracts.ty.TypeMacroOfPartialEq.TheImpl as type_macro_eq
-use Rattle.syn_lower_generic.specs.contracts.ty.TypeReferenceOfPartialEq.TheImpl as reference_eq
-use Rattle.syn_lower_generic.specs.contracts.ty.TypePtrOfPartialEq.TheImpl as ptr_eq
-use Rattle.syn_lower_generic.specs.contracts.ty.TypeSliceOfPartialEq.TheImpl as slice_eq
-use Rattle.syn_lower_generic.specs.contracts.ty.TypeArrayOfPartialEq.TheImpl as array_eq
-use Rattle.syn_lower_generic.specs.contracts.ty.TypeTupleOfPartialEq.TheImpl as tuple_eq
-use Rattle.syn_lower_generic.specs.contracts.ty.TypeParenOfPartialEq.TheImpl as paren_eq
-use Rattle.syn_lower_generic.specs.contracts.ty.TypeFnPtrOfPartialEq.TheImpl as fn_ptr_eq
-use Rattle.syn_lower_generic.specs.contracts.ty.TypeImplTraitOfPartialEq.TheImpl as impl_eq
-use Rattle.syn_lower_generic.specs.contracts.ty.TypeTraitObjectOfPartialEq.TheImpl as object_eq
+use Rattle.syn_lower_spec.specs.Text.{Text}
+use Rattle.syn_lower_spec.specs.Tree as t
+use Rattle.syn_lower_spec.specs.Tree.{LitTree, LifetimesTree, TypeTree, SegmentTree, PathTree, FnArgTree, ArgumentsTree, GenericTree, ReturnTree, BoundTree, QSelfTree}
+use Rattle.syn_lower_spec.specs.Part.{MacroTree}
+use Rattle.syn_lower_spec.proofs.Trees.{types-types_of, segments-segments_of, generics-generics_of, args-args_of, bounds-bounds_of}
+use Rattle.syn_lower_spec.specs.Equal.{IsEqualityOf}
+use Rattle.syn_lower_types.specs.View.{lifetimes_of, assoc_of, angle_of, round_of, segment_of, path_of, qself_of, qself_or, macro_of, trait_with, trait_of, arg_of, abi_of, is_mut, path_with, mac_with, generic_of, arguments_of, return_of, bound_of, type_path_of, type_macro_of, reference_of, ptr_of, slice_of, array_of, tuple_of, paren_of, fn_ptr_of, impl_trait_of, trait_object_of}
+use Rattle.syn_lower_types.specs.declared.mac.MacroOf.{MacroOf}
+use Rattle.syn_lower_types.specs.declared.path.PathOf.{PathOf}
+use Rattle.syn_lower_types.specs.declared.path.PathSegmentOf.{PathSegmentOf}
+use Rattle.syn_lower_types.specs.declared.path.PathArgumentsOf.{PathArgumentsOf}
+use Rattle.syn_lower_types.specs.declared.path.AngleBracketedGenericArgumentsOf.{AngleBracketedGenericArgumentsOf}
+use Rattle.syn_lower_types.specs.declared.path.ParenthesizedGenericArgumentsOf.{ParenthesizedGenericArgumentsOf}
+use Rattle.syn_lower_types.specs.declared.path.GenericArgumentOf.{GenericArgumentOf}
+use Rattle.syn_lower_types.specs.declared.path.AssocTypeOf.{AssocTypeOf}
+use Rattle.syn_lower_types.specs.declared.path.QSelfOf.{QSelfOf}
+use Rattle.syn_lower_leaves.specs.declared.ty.Abi.{Abi}
+use Rattle.syn_lower_leaves.specs.declared.ty.BoundLifetimes.{BoundLifetimes}
+use Rattle.syn_lower_leaves.specs.declared.ty.PointerMutability.{PointerMutability}
+use Rattle.syn_lower_leaves.specs.declared.ty.PointerMutability.TheVariants as pointer
+use Rattle.syn_lower_types.specs.declared.ty.BareFnArgOf.{BareFnArgOf}
+use Rattle.syn_lower_types.specs.declared.ty.ReturnTypeOf.{ReturnTypeOf}
+use Rattle.syn_lower_types.specs.declared.ty.TypeParamBoundOf.{TypeParamBoundOf}
+use Rattle.syn_lower_types.specs.declared.ty.TraitBoundOf.{TraitBoundOf}
+use Rattle.syn_lower_types.specs.declared.ty.TypePathOf.{TypePathOf}
+use Rattle.syn_lower_types.specs.declared.ty.TypeMacroOf.{TypeMacroOf}
+use Rattle.syn_lower_types.specs.declared.ty.TypeReferenceOf.{TypeReferenceOf}
+use Rattle.syn_lower_types.specs.declared.ty.TypePtrOf.{TypePtrOf}
+use Rattle.syn_lower_types.specs.declared.ty.TypeSliceOf.{TypeSliceOf}
+use Rattle.syn_lower_types.specs.declared.ty.TypeArrayOf.{TypeArrayOf}
+use Rattle.syn_lower_types.specs.declared.ty.TypeTupleOf.{TypeTupleOf}
+use Rattle.syn_lower_types.specs.declared.ty.TypeParenOf.{TypeParenOf}
+use Rattle.syn_lower_types.specs.declared.ty.TypeFnPtrOf.{TypeFnPtrOf}
+use Rattle.syn_lower_types.specs.declared.ty.TypeImplTraitOf.{TypeImplTraitOf}
+use Rattle.syn_lower_types.specs.declared.ty.TypeTraitObjectOf.{TypeTraitObjectOf}
+use Rattle.syn_lower_types.specs.contracts.ty.ReturnTypeOf as return_row
+use Rattle.syn_lower_types.specs.contracts.ty.TypeParamBoundOf as bound_row
+use Rattle.syn_lower_types.specs.contracts.path.PathArgumentsOf as args_row
+use Rattle.syn_lower_types.specs.contracts.path.GenericArgumentOf as generic_row
+use Rattle.syn_lower_types.specs.contracts.mac.MacroOfPartialEq.TheImpl as macro_eq
+use Rattle.syn_lower_types.specs.contracts.path.PathOfPartialEq.TheImpl as path_eq
+use Rattle.syn_lower_types.specs.contracts.path.PathSegmentOfPartialEq.TheImpl as segment_eq
+use Rattle.syn_lower_types.specs.contracts.path.PathArgumentsOfPartialEq.TheImpl as args_eq
+use Rattle.syn_lower_types.specs.contracts.path.AngleBracketedGenericArgumentsOfPartialEq.TheImpl as angle_eq
+use Rattle.syn_lower_types.specs.contracts.path.ParenthesizedGenericArgumentsOfPartialEq.TheImpl as round_eq
+use Rattle.syn_lower_types.specs.contracts.path.GenericArgumentOfPartialEq.TheImpl as generic_eq
+use Rattle.syn_lower_types.specs.contracts.path.AssocTypeOfPartialEq.TheImpl as assoc_eq
+use Rattle.syn_lower_types.specs.contracts.path.QSelfOfPartialEq.TheImpl as qself_eq
+use Rattle.syn_lower_leaves.specs.contracts.ty.AbiPartialEq.TheImpl as abi_eq
+use Rattle.syn_lower_leaves.specs.contracts.ty.BoundLifetimesPartialEq.TheImpl as lifetimes_eq
+use Rattle.syn_lower_leaves.specs.contracts.ty.PointerMutabilityPartialEq.TheImpl as pointer_eq
+use Rattle.syn_lower_types.specs.contracts.ty.BareFnArgOfPartialEq.TheImpl as arg_eq
+use Rattle.syn_lower_types.specs.contracts.ty.ReturnTypeOfPartialEq.TheImpl as return_eq
+use Rattle.syn_lower_types.specs.contracts.ty.TypeParamBoundOfPartialEq.TheImpl as bound_eq
+use Rattle.syn_lower_types.specs.contracts.ty.TraitBoundOfPartialEq.TheImpl as trait_eq
+use Rattle.syn_lower_types.specs.contracts.ty.TypePathOfPartialEq.TheImpl as type_path_eq
+use Rattle.syn_lower_types.specs.contracts.ty.TypeMacroOfPartialEq.TheImpl as type_macro_eq
+use Rattle.syn_lower_types.specs.contracts.ty.TypeReferenceOfPartialEq.TheImpl as reference_eq
+use Rattle.syn_lower_types.specs.contracts.ty.TypePtrOfPartialEq.TheImpl as ptr_eq
+use Rattle.syn_lower_types.specs.contracts.ty.TypeSliceOfPartialEq.TheImpl as slice_eq
+use Rattle.syn_lower_types.specs.contracts.ty.TypeArrayOfPartialEq.TheImpl as array_eq
+use Rattle.syn_lower_types.specs.contracts.ty.TypeTupleOfPartialEq.TheImpl as tuple_eq
+use Rattle.syn_lower_types.specs.contracts.ty.TypeParenOfPartialEq.TheImpl as paren_eq
+use Rattle.syn_lower_types.specs.contracts.ty.TypeFnPtrOfPartialEq.TheImpl as fn_ptr_eq
+use Rattle.syn_lower_types.specs.contracts.ty.TypeImplTraitOfPartialEq.TheImpl as impl_eq
+use Rattle.syn_lower_types.specs.contracts.ty.TypeTraitObjectOfPartialEq.TheImpl as object_eq
 use Rattle.syn_lower_leaves.proofs.Ties.{both_tie, on_tie, made_tie, option_tie, some_tie, text_tie, number_tie, pair_path, and_true_tie, constant_tie, along, rank_end, rank_more}
 use Rattle.syn_lower_leaves.proofs.LeafTies.{toks_tie, lifetime_tie, delimiter_tie, lit_str_tie}
 use Rattle.syn_laws.proofs.ListTies.{punctuated_tie}

@@ -5,78 +5,77 @@ use denote.RattleType.{RattleType}
 use Rattle.std.specs.declared.boxed.Box.{Box}
 use Rattle.std.specs.declared.alloc.Global.{Global}
 use Rattle.syn_tokens.specs.Tok.{Tok}
-use Rattle.syn_parts.specs.Text.{Text}
-use Rattle.syn_parts.specs.Tree.{LitTree, AttributeTree, TypeTree, QSelfTree, PathTree}
-use Rattle.syn_parts.specs.Part.{MacroTree}
-use Rattle.syn_parts.specs.Pat as t
-use Rattle.syn_parts.specs.Pat.{MemberTree, PatTree, PatBound, SubPat, Pats, Fields, FieldTree, FieldPatTree}
-use Rattle.syn_parts.proofs.Trees.{pats-pats_of, fields-fields_of}
-use Rattle.syn_grammar.specs.Tree.{Tree}
-use Rattle.syn_lower_leaves.specs.Equal.{IsEqualityOf}
+use Rattle.syn_lower_spec.specs.Text.{Text}
+use Rattle.syn_lower_spec.specs.Tree.{LitTree, AttributeTree, TypeTree, QSelfTree, PathTree}
+use Rattle.syn_lower_spec.specs.Part.{MacroTree}
+use Rattle.syn_lower_spec.specs.Pat as t
+use Rattle.syn_lower_spec.specs.Pat.{MemberTree, PatTree, PatBound, SubPat, Pats, Fields, FieldTree, FieldPatTree}
+use Rattle.syn_lower_spec.proofs.Trees.{pats-pats_of, fields-fields_of}
+use Rattle.syn_expr_spec.specs.Tree.{Tree}
+use Rattle.syn_lower_spec.specs.Equal.{IsEqualityOf}
 use Rattle.syn_lower_leaves.proofs.Ties.{both_tie, on_tie, into_tie, option_tie, some_tie, text_tie, pair_path, constant_tie}
 use Rattle.syn_lower_leaves.proofs.LeafTies.{block_tie, lit_tie}
 use Rattle.syn_lower.specs.View.{type_of, path_of, qself_or, values, trails}
 use Rattle.syn_lower.specs.declared.ty.«Type».{«Type»}
 use Rattle.syn_lower.specs.contracts.ty.«Type» as type_row
 use Rattle.syn_lower.specs.contracts.ty.TypePartialEq.TheImpl as any_type_test
-use Rattle.syn_lower_generic.specs.declared.path.QSelfOf.{QSelfOf}
-use Rattle.syn_lower_generic.specs.declared.path.PathOf.{PathOf}
-use Rattle.syn_lower_generic.specs.contracts.path.PathOfPartialEq.TheImpl as any_path_test
-use Rattle.syn_lower_lists.specs.declared.punctuated.Punctuated.{Punctuated}
+use Rattle.syn_lower_types.specs.declared.path.QSelfOf.{QSelfOf}
+use Rattle.syn_lower_types.specs.declared.path.PathOf.{PathOf}
+use Rattle.syn_lower_types.specs.contracts.path.PathOfPartialEq.TheImpl as any_path_test
+use Rattle.syn_lower_leaves.specs.declared.punctuated.Punctuated.{Punctuated}
 use Rattle.syn_laws.proofs.ListTies.{punctuated_tie}
 use Rattle.syn_laws.proofs.LowerSames.{type_tie, path_tie, macro_tie}
-use Rattle.syn_op.specs.View.{limits_kind}
-use Rattle.syn_op.specs.declared.limits.RangeLimits.{RangeLimits}
-use Rattle.syn_op.specs.declared.limits.RangeLimits.TheVariants as limits
-use Rattle.syn_op.specs.contracts.same.RangeLimitsPartialEq.TheImpl as limits_test
-use Rattle.syn_expr_parts.specs.View.{member_of}
-use Rattle.syn_expr_parts.proofs.Ties.{member_tie}
-use Rattle.syn_pat_kinds.specs.View.{PatView, view_with, attributes_of, attributed_by, pats_in, guards_in, sub_of, sub_guards, field_of, field_guards, field_pat_of, is_closed, bound_of, pat_wild_of, pat_rest_of, pat_range_of, pat_lit_of, pat_ident_of, pat_path_of, pat_macro_of, pat_struct_of, pat_tuple_struct_of, pat_tuple_of, pat_paren_of, pat_slice_of, pat_reference_of, pat_const_of, pat_or_of, pat_type_of}
-use Rattle.syn_pat_kinds.specs.declared.pat.RangeBound.{RangeBound}
-use Rattle.syn_pat_kinds.specs.declared.pat.RangeBound.TheVariants as bound
-use Rattle.syn_pat_kinds.specs.declared.pat.FieldPatKindOf.{FieldPatKindOf}
-use Rattle.syn_pat_kinds.specs.declared.pat.FieldPatKindOf.TheVariants as field
-use Rattle.syn_pat_kinds.specs.declared.pat.FieldPatOf.{FieldPatOf}
-use Rattle.syn_pat_kinds.specs.declared.pat.ShortFieldPat.{ShortFieldPat}
-use Rattle.syn_pat_kinds.specs.declared.pat.FullFieldPatOf.{FullFieldPatOf}
-use Rattle.syn_pat_kinds.specs.declared.pat.PatWild.{PatWild}
-use Rattle.syn_pat_kinds.specs.declared.pat.PatRest.{PatRest}
-use Rattle.syn_pat_kinds.specs.declared.pat.PatRange.{PatRange}
-use Rattle.syn_pat_kinds.specs.declared.pat.PatLit.{PatLit}
-use Rattle.syn_pat_kinds.specs.declared.pat.PatIdentOf.{PatIdentOf}
-use Rattle.syn_pat_kinds.specs.declared.pat.PatPath.{PatPath}
-use Rattle.syn_pat_kinds.specs.declared.pat.PatMacro.{PatMacro}
-use Rattle.syn_pat_kinds.specs.declared.pat.PatStructOf.{PatStructOf}
-use Rattle.syn_pat_kinds.specs.declared.pat.PatTupleStructOf.{PatTupleStructOf}
-use Rattle.syn_pat_kinds.specs.declared.pat.PatTupleOf.{PatTupleOf}
-use Rattle.syn_pat_kinds.specs.declared.pat.PatParenOf.{PatParenOf}
-use Rattle.syn_pat_kinds.specs.declared.pat.PatSliceOf.{PatSliceOf}
-use Rattle.syn_pat_kinds.specs.declared.pat.PatReferenceOf.{PatReferenceOf}
-use Rattle.syn_pat_kinds.specs.declared.pat.PatConst.{PatConst}
-use Rattle.syn_pat_kinds.specs.declared.pat.PatOrOf.{PatOrOf}
-use Rattle.syn_pat_kinds.specs.declared.pat.PatTypeOf.{PatTypeOf}
-use Rattle.syn_pat_kinds.specs.contracts.pat.RangeBoundPartialEq.TheImpl as bound_test
-use Rattle.syn_pat_kinds.specs.contracts.pat.FieldPatKindOfPartialEq.TheImpl as field_kind_test
-use Rattle.syn_pat_kinds.specs.contracts.pat.FieldPatOfPartialEq.TheImpl as field_test
-use Rattle.syn_pat_kinds.specs.contracts.pat.ShortFieldPatPartialEq.TheImpl as short_test
-use Rattle.syn_pat_kinds.specs.contracts.pat.FullFieldPatOfPartialEq.TheImpl as full_test
-use Rattle.syn_pat_kinds.specs.contracts.pat.PatWildPartialEq.TheImpl as wild_test
-use Rattle.syn_pat_kinds.specs.contracts.pat.PatRestPartialEq.TheImpl as rest_test
-use Rattle.syn_pat_kinds.specs.contracts.pat.PatRangePartialEq.TheImpl as range_test
-use Rattle.syn_pat_kinds.specs.contracts.pat.PatLitPartialEq.TheImpl as lit_test
-use Rattle.syn_pat_kinds.specs.contracts.pat.PatIdentOfPartialEq.TheImpl as ident_test
-use Rattle.syn_pat_kinds.specs.contracts.pat.PatPathPartialEq.TheImpl as path_test
-use Rattle.syn_pat_kinds.specs.contracts.pat.PatMacroPartialEq.TheImpl as mac_test
-use Rattle.syn_pat_kinds.specs.contracts.pat.PatStructOfPartialEq.TheImpl as struct_test
-use Rattle.syn_pat_kinds.specs.contracts.pat.PatTupleStructOfPartialEq.TheImpl as tuple_struct_test
-use Rattle.syn_pat_kinds.specs.contracts.pat.PatTupleOfPartialEq.TheImpl as tuple_test
-use Rattle.syn_pat_kinds.specs.contracts.pat.PatParenOfPartialEq.TheImpl as paren_test
-use Rattle.syn_pat_kinds.specs.contracts.pat.PatSliceOfPartialEq.TheImpl as slice_test
-use Rattle.syn_pat_kinds.specs.contracts.pat.PatReferenceOfPartialEq.TheImpl as reference_test
-use Rattle.syn_pat_kinds.specs.contracts.pat.PatConstPartialEq.TheImpl as const_test
-use Rattle.syn_pat_kinds.specs.contracts.pat.PatOrOfPartialEq.TheImpl as or_test
-use Rattle.syn_pat_kinds.specs.contracts.pat.PatTypeOfPartialEq.TheImpl as type_test
-use Rattle.syn_expr_kinds.specs.Attrs.{attrs_of}
+use Rattle.syn_expr_tokens.specs.View.{limits_kind, member_of}
+use Rattle.syn_expr_tokens.specs.declared.limits.RangeLimits.{RangeLimits}
+use Rattle.syn_expr_tokens.specs.declared.limits.RangeLimits.TheVariants as limits
+use Rattle.syn_expr_tokens.specs.contracts.same.RangeLimitsPartialEq.TheImpl as limits_test
+use Rattle.syn_expr_tokens.proofs.Ties.{member_tie}
+use Rattle.syn_pat.specs.View.{PatView, view_with, attributes_of, attributed_by, pats_in, guards_in, sub_of, sub_guards, field_of, field_guards, field_pat_of, is_closed, bound_of, pat_wild_of, pat_rest_of, pat_range_of, pat_lit_of, pat_ident_of, pat_path_of, pat_macro_of, pat_struct_of, pat_tuple_struct_of, pat_tuple_of, pat_paren_of, pat_slice_of, pat_reference_of, pat_const_of, pat_or_of, pat_type_of}
+use Rattle.syn_pat.specs.declared.pat.RangeBound.{RangeBound}
+use Rattle.syn_pat.specs.declared.pat.RangeBound.TheVariants as bound
+use Rattle.syn_pat.specs.declared.pat.FieldPatKindOf.{FieldPatKindOf}
+use Rattle.syn_pat.specs.declared.pat.FieldPatKindOf.TheVariants as field
+use Rattle.syn_pat.specs.declared.pat.FieldPatOf.{FieldPatOf}
+use Rattle.syn_pat.specs.declared.pat.ShortFieldPat.{ShortFieldPat}
+use Rattle.syn_pat.specs.declared.pat.FullFieldPatOf.{FullFieldPatOf}
+use Rattle.syn_pat.specs.declared.pat.PatWild.{PatWild}
+use Rattle.syn_pat.specs.declared.pat.PatRest.{PatRest}
+use Rattle.syn_pat.specs.declared.pat.PatRange.{PatRange}
+use Rattle.syn_pat.specs.declared.pat.PatLit.{PatLit}
+use Rattle.syn_pat.specs.declared.pat.PatIdentOf.{PatIdentOf}
+use Rattle.syn_pat.specs.declared.pat.PatPath.{PatPath}
+use Rattle.syn_pat.specs.declared.pat.PatMacro.{PatMacro}
+use Rattle.syn_pat.specs.declared.pat.PatStructOf.{PatStructOf}
+use Rattle.syn_pat.specs.declared.pat.PatTupleStructOf.{PatTupleStructOf}
+use Rattle.syn_pat.specs.declared.pat.PatTupleOf.{PatTupleOf}
+use Rattle.syn_pat.specs.declared.pat.PatParenOf.{PatParenOf}
+use Rattle.syn_pat.specs.declared.pat.PatSliceOf.{PatSliceOf}
+use Rattle.syn_pat.specs.declared.pat.PatReferenceOf.{PatReferenceOf}
+use Rattle.syn_pat.specs.declared.pat.PatConst.{PatConst}
+use Rattle.syn_pat.specs.declared.pat.PatOrOf.{PatOrOf}
+use Rattle.syn_pat.specs.declared.pat.PatTypeOf.{PatTypeOf}
+use Rattle.syn_pat.specs.contracts.pat.RangeBoundPartialEq.TheImpl as bound_test
+use Rattle.syn_pat.specs.contracts.pat.FieldPatKindOfPartialEq.TheImpl as field_kind_test
+use Rattle.syn_pat.specs.contracts.pat.FieldPatOfPartialEq.TheImpl as field_test
+use Rattle.syn_pat.specs.contracts.pat.ShortFieldPatPartialEq.TheImpl as short_test
+use Rattle.syn_pat.specs.contracts.pat.FullFieldPatOfPartialEq.TheImpl as full_test
+use Rattle.syn_pat.specs.contracts.pat.PatWildPartialEq.TheImpl as wild_test
+use Rattle.syn_pat.specs.contracts.pat.PatRestPartialEq.TheImpl as rest_test
+use Rattle.syn_pat.specs.contracts.pat.PatRangePartialEq.TheImpl as range_test
+use Rattle.syn_pat.specs.contracts.pat.PatLitPartialEq.TheImpl as lit_test
+use Rattle.syn_pat.specs.contracts.pat.PatIdentOfPartialEq.TheImpl as ident_test
+use Rattle.syn_pat.specs.contracts.pat.PatPathPartialEq.TheImpl as path_test
+use Rattle.syn_pat.specs.contracts.pat.PatMacroPartialEq.TheImpl as mac_test
+use Rattle.syn_pat.specs.contracts.pat.PatStructOfPartialEq.TheImpl as struct_test
+use Rattle.syn_pat.specs.contracts.pat.PatTupleStructOfPartialEq.TheImpl as tuple_struct_test
+use Rattle.syn_pat.specs.contracts.pat.PatTupleOfPartialEq.TheImpl as tuple_test
+use Rattle.syn_pat.specs.contracts.pat.PatParenOfPartialEq.TheImpl as paren_test
+use Rattle.syn_pat.specs.contracts.pat.PatSliceOfPartialEq.TheImpl as slice_test
+use Rattle.syn_pat.specs.contracts.pat.PatReferenceOfPartialEq.TheImpl as reference_test
+use Rattle.syn_pat.specs.contracts.pat.PatConstPartialEq.TheImpl as const_test
+use Rattle.syn_pat.specs.contracts.pat.PatOrOfPartialEq.TheImpl as or_test
+use Rattle.syn_pat.specs.contracts.pat.PatTypeOfPartialEq.TheImpl as type_test
+use Rattle.syn_expr_ast.specs.Attrs.{attrs_of}
 use Rattle.syn_laws.proofs.Shapes.{Attrs, attrs_test, attrs_tie, PunctTest}
 use Rattle.syn_laws.proofs.Guards.{IsFilled, is_bare, attributed_once, views_once, view_path, split, field_places}
 use Rattle.syn_laws.proofs.TreeEq.{no_dict, limits_tie, qself_same, qself_or_tie}

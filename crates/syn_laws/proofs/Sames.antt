@@ -8,51 +8,50 @@ use native.Mathlib.Decide.{map_dec}
 use denote.Enum.Declared.{Choice}
 use denote.Hole.Carrier.{Values}
 use denote.Hole.Compared.{compared}
-use Rattle.syn_parts.specs.Tree.{AttributeTree, ReturnTree, default, given}
-use Rattle.syn_parts.specs.Pat as t
-use Rattle.syn_parts.specs.Pat.{PatTree}
-use Rattle.syn_grammar.specs.Tree as e
-use Rattle.syn_grammar.specs.Tree.{Tree, Leaf, Prefix, Jump, Frame, Trailer, leaf, paren, prefixed, infixed, postfixed, tail, frame, none, child, attributed_with, attributed}
-use Rattle.syn_grammar.specs.declared.kinds.Limits.{Limits}
-use Rattle.syn_grammar.specs.declared.kinds.Infix.{Infix}
-use Rattle.syn_grammar.specs.declared.kinds.Infix.TheVariants as inf
-use Rattle.syn_lower_leaves.specs.Equal.{IsEqualityOf}
+use Rattle.syn_lower_spec.specs.Tree.{AttributeTree, ReturnTree, default, given}
+use Rattle.syn_lower_spec.specs.Pat as t
+use Rattle.syn_lower_spec.specs.Pat.{PatTree}
+use Rattle.syn_expr_spec.specs.Tree as e
+use Rattle.syn_expr_spec.specs.Tree.{Tree, Leaf, Prefix, Jump, Frame, Trailer, leaf, paren, prefixed, infixed, postfixed, tail, frame, none, child, attributed_with, attributed}
+use Rattle.syn_expr_spec.specs.declared.kinds.Limits.{Limits}
+use Rattle.syn_expr_spec.specs.declared.kinds.Infix.{Infix}
+use Rattle.syn_expr_spec.specs.declared.kinds.Infix.TheVariants as inf
+use Rattle.syn_lower_spec.specs.Equal.{IsEqualityOf}
 use Rattle.syn_lower_leaves.proofs.Ties.{both_tie, on_tie, into_tie, made_tie, option_tie, some_tie, list_tie, pair_path, along, by_test, rank_end, rank_more, decides, decided_tie, one_test, is_compared}
 use Rattle.syn_lower_leaves.proofs.LeafTies.{toks_tie, block_tie}
 use Rattle.syn_lower_leaves.specs.View.{lit_of, lifetime_of}
 use Rattle.syn_lower.specs.View.{mapped, lifetimes_of, return_of, values, trails, type_of, path_of, qself_or, macro_of, is_mut}
-use Rattle.syn_op.specs.View.{bin_kind, un_kind, limits_kind}
+use Rattle.syn_expr_tokens.specs.View.{bin_kind, un_kind, limits_kind, label_of, member_of, modifiers_of}
 use Rattle.syn_laws.proofs.PartTies.{lifetimes_tie}
 use Rattle.syn_laws.proofs.LowerSames.{return_tie}
-use Rattle.syn_expr_parts.specs.View.{label_of, member_of, modifiers_of}
-use Rattle.syn_expr_parts.proofs.Ties.{label_tie, modifiers_tie}
-use Rattle.syn_pat_kinds.specs.View.{PatView, attributed_by, attributes_of, pats_in, sub_of, field_pat_of, is_closed, bound_of}
-use Rattle.syn_expr_kinds.specs.Pats.{ArmView, closure_by}
-use Rattle.syn_expr_kinds.specs.Attrs.{attrs_of, outer_of, inner_of}
-use Rattle.syn_expr_kinds.specs.View.{range_between, jump_with, field_value_of, elements, boxed, fields, option_child, body_of, else_of, turbofish_of}
-use Rattle.syn_expr_kinds.specs.contracts.structure.FieldValueOfPartialEq.TheImpl as field_value_test
-use Rattle.syn_expr_all.specs.declared.expr.Expr.{Expr}
-use Rattle.syn_expr_all.specs.declared.expr.Expr.TheBlock as block
-use Rattle.syn_expr_all.specs.declared.pat.Pat.{Pat}
-use Rattle.syn_expr_all.specs.declared.pat.PatGuard.{PatGuard, out-PatGuard}
-use Rattle.syn_expr_all.specs.declared.closure.ExprClosure.{ExprClosure, out-ExprClosure}
-use Rattle.syn_expr_all.specs.declared.control.Arm.{Arm, out-Arm}
-use Rattle.syn_expr_all.specs.declared.control.ExprForLoop.{ExprForLoop, out-ExprForLoop}
-use Rattle.syn_expr_all.specs.declared.control.ExprLet.{ExprLet, out-ExprLet}
-use Rattle.syn_expr_all.specs.declared.control.ExprMatch.{ExprMatch, out-ExprMatch}
-use Rattle.syn_expr_all.specs.contracts.expr.Expr as expr_row
-use Rattle.syn_expr_all.specs.contracts.pat.Pat as pat_row
-use Rattle.syn_expr_all.specs.contracts.expr.ExprPartialEq.TheImpl as expr_test
-use Rattle.syn_expr_all.specs.contracts.expr.ExprPartialEq.TheImpl.Laws as expr_laws
-use Rattle.syn_expr_all.specs.contracts.pat.PatPartialEq.TheImpl as pat_test
-use Rattle.syn_expr_all.specs.contracts.pat.PatGuardPartialEq.TheImpl as guard_test
-use Rattle.syn_expr_all.specs.contracts.closure.ExprClosurePartialEq.TheImpl as closure_test
-use Rattle.syn_expr_all.specs.contracts.control.ArmPartialEq.TheImpl as arm_test
-use Rattle.syn_expr_all.specs.contracts.control.ExprForLoopPartialEq.TheImpl as for_loop_test
-use Rattle.syn_expr_all.specs.contracts.control.ExprLetPartialEq.TheImpl as let_test
-use Rattle.syn_expr_all.specs.contracts.control.ExprMatchPartialEq.TheImpl as match_test
-use Rattle.syn_expr_all.specs.View.{tree_of, pat_of, closure_of, arm_of, for_loop_of, let_of, match_of, guard_of}
-use Rattle.syn_expr_all.proofs.TreeOf.{tree-Array, tree-Assign, tree-Async, tree-Await, tree-Binary, tree-Block, tree-Break, tree-Call, tree-Cast, tree-Closure, tree-Const, tree-Continue, tree-Field, tree-ForLoop, tree-Group, tree-If, tree-Index, tree-Infer, tree-Let, tree-Lit, tree-Loop, tree-Macro, tree-Match, tree-MethodCall, tree-Paren, tree-Path, tree-Range, tree-RawAddr, tree-Reference, tree-Repeat, tree-Return, tree-Struct, tree-Try, tree-TryBlock, tree-Tuple, tree-Unary, tree-Unsafe, tree-While, tree-Yield, tree-Verbatim, pat-Const, pat-Guard, pat-Ident, pat-Lit, pat-Macro, pat-Or, pat-Paren, pat-Path, pat-Range, pat-Reference, pat-Rest, pat-Slice, pat-Struct, pat-Tuple, pat-TupleStruct, pat-Typed, pat-Wild, closure-is, arm-is, for_loop-is, let_expr-is, match_expr-is, guard-is}
+use Rattle.syn_expr_tokens.proofs.Ties.{label_tie, modifiers_tie}
+use Rattle.syn_pat.specs.View.{PatView, attributed_by, attributes_of, pats_in, sub_of, field_pat_of, is_closed, bound_of}
+use Rattle.syn_expr_ast.specs.Pats.{ArmView, closure_by}
+use Rattle.syn_expr_ast.specs.Attrs.{attrs_of, outer_of, inner_of}
+use Rattle.syn_expr_ast.specs.View.{range_between, jump_with, field_value_of, elements, boxed, fields, option_child, body_of, else_of, turbofish_of}
+use Rattle.syn_expr_ast.specs.contracts.structure.FieldValueOfPartialEq.TheImpl as field_value_test
+use Rattle.syn_expr_core.specs.declared.expr.Expr.{Expr}
+use Rattle.syn_expr_core.specs.declared.expr.Expr.TheBlock as block
+use Rattle.syn_expr_core.specs.declared.pat.Pat.{Pat}
+use Rattle.syn_expr_core.specs.declared.pat.PatGuard.{PatGuard, out-PatGuard}
+use Rattle.syn_expr_core.specs.declared.closure.ExprClosure.{ExprClosure, out-ExprClosure}
+use Rattle.syn_expr_core.specs.declared.control.Arm.{Arm, out-Arm}
+use Rattle.syn_expr_core.specs.declared.control.ExprForLoop.{ExprForLoop, out-ExprForLoop}
+use Rattle.syn_expr_core.specs.declared.control.ExprLet.{ExprLet, out-ExprLet}
+use Rattle.syn_expr_core.specs.declared.control.ExprMatch.{ExprMatch, out-ExprMatch}
+use Rattle.syn_expr_core.specs.contracts.expr.Expr as expr_row
+use Rattle.syn_expr_core.specs.contracts.pat.Pat as pat_row
+use Rattle.syn_expr_core.specs.contracts.expr.ExprPartialEq.TheImpl as expr_test
+use Rattle.syn_expr_core.specs.contracts.expr.ExprPartialEq.TheImpl.Laws as expr_laws
+use Rattle.syn_expr_core.specs.contracts.pat.PatPartialEq.TheImpl as pat_test
+use Rattle.syn_expr_core.specs.contracts.pat.PatGuardPartialEq.TheImpl as guard_test
+use Rattle.syn_expr_core.specs.contracts.closure.ExprClosurePartialEq.TheImpl as closure_test
+use Rattle.syn_expr_core.specs.contracts.control.ArmPartialEq.TheImpl as arm_test
+use Rattle.syn_expr_core.specs.contracts.control.ExprForLoopPartialEq.TheImpl as for_loop_test
+use Rattle.syn_expr_core.specs.contracts.control.ExprLetPartialEq.TheImpl as let_test
+use Rattle.syn_expr_core.specs.contracts.control.ExprMatchPartialEq.TheImpl as match_test
+use Rattle.syn_expr_core.specs.View.{tree_of, pat_of, closure_of, arm_of, for_loop_of, let_of, match_of, guard_of}
+use Rattle.syn_expr_core.proofs.TreeOf.{tree-Array, tree-Assign, tree-Async, tree-Await, tree-Binary, tree-Block, tree-Break, tree-Call, tree-Cast, tree-Closure, tree-Const, tree-Continue, tree-Field, tree-ForLoop, tree-Group, tree-If, tree-Index, tree-Infer, tree-Let, tree-Lit, tree-Loop, tree-Macro, tree-Match, tree-MethodCall, tree-Paren, tree-Path, tree-Range, tree-RawAddr, tree-Reference, tree-Repeat, tree-Return, tree-Struct, tree-Try, tree-TryBlock, tree-Tuple, tree-Unary, tree-Unsafe, tree-While, tree-Yield, tree-Verbatim, pat-Const, pat-Guard, pat-Ident, pat-Lit, pat-Macro, pat-Or, pat-Paren, pat-Path, pat-Range, pat-Reference, pat-Rest, pat-Slice, pat-Struct, pat-Tuple, pat-TupleStruct, pat-Typed, pat-Wild, closure-is, arm-is, for_loop-is, let_expr-is, match_expr-is, guard-is}
 use Rattle.syn_laws.proofs.TreeEq.{tree_eq, pat_eq, attributes_eq}
 use Rattle.syn_laws.proofs.Shapes.{attrs_tie, behind_tie, around_tie}
 use Rattle.syn_laws.proofs.TreeEq as kinds

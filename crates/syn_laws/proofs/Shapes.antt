@@ -5,20 +5,20 @@ use Rattle.std.specs.Option.{option_eq}
 use Rattle.std.specs.declared.vec.Vec.{Vec}
 use Rattle.std.specs.declared.boxed.Box.{Box}
 use Rattle.std.specs.declared.alloc.Global.{Global}
-use Rattle.syn_parts.specs.Tree.{AttributeTree}
-use Rattle.syn_grammar.specs.Tree as e
-use Rattle.syn_grammar.specs.Tree.{Tree, Children, Ending, attributed_with, attributed, from_inner, none, child, outers}
-use Rattle.syn_lower_leaves.specs.Equal.{IsEqualityOf}
+use Rattle.syn_lower_spec.specs.Tree.{AttributeTree}
+use Rattle.syn_expr_spec.specs.Tree as e
+use Rattle.syn_expr_spec.specs.Tree.{Tree, Children, Ending, attributed_with, attributed, from_inner, none, child, outers}
+use Rattle.syn_lower_spec.specs.Equal.{IsEqualityOf}
 use Rattle.syn_lower_leaves.specs.declared.attr.Attribute.{Attribute}
 use Rattle.syn_lower_leaves.specs.contracts.attr.AttributePartialEq.TheImpl as attribute_test
 use Rattle.syn_lower_leaves.proofs.Ties.{both_tie, on_tie, into_tie, list_tie, pair_path}
 use Rattle.syn_lower_leaves.proofs.LeafTies.{attribute_tie}
-use Rattle.syn_lower_lists.specs.View.{values, trails, is_some_pair, last_of}
-use Rattle.syn_lower_lists.specs.declared.punctuated.Punctuated.{Punctuated}
+use Rattle.syn_lower_leaves.specs.View.{values, trails, is_some_pair, last_of}
+use Rattle.syn_lower_leaves.specs.declared.punctuated.Punctuated.{Punctuated}
 use Rattle.syn_laws.proofs.ListTies.{punctuated_tie}
-use Rattle.syn_expr_kinds.specs.Attrs.{attrs_of, outer_of, inner_of}
-use Rattle.syn_expr_kinds.specs.View.{elements, boxed}
-use Rattle.syn_expr_kinds.proofs.Attributes.{parts_tell}
+use Rattle.syn_expr_ast.specs.Attrs.{attrs_of, outer_of, inner_of}
+use Rattle.syn_expr_ast.specs.View.{elements, boxed}
+use Rattle.syn_expr_ast.proofs.Attributes.{parts_tell}
 
 -- ---- attributes
 

@@ -1,18 +1,18 @@
 -- The equality of struct expressions, by that of the expressions in their fields.
 use Rattle.std.proofs.Common.{◌≡◌, Bool, true, false, not, ◌&&◌, List, [], ◌∷◌, map, Option, Some, None, is_some, refl, sym, ◌∙◌, ap}
 use denote.RattleType.{RattleType}
-use Rattle.syn_parts.specs.Tree.{QSelfTree, PathTree}
-use Rattle.syn_grammar.specs.Tree as e
-use Rattle.syn_grammar.specs.Tree.{Tree, Children, frame, child}
-use Rattle.syn_lower_leaves.specs.Equal.{IsEqualityOf}
+use Rattle.syn_lower_spec.specs.Tree.{QSelfTree, PathTree}
+use Rattle.syn_expr_spec.specs.Tree as e
+use Rattle.syn_expr_spec.specs.Tree.{Tree, Children, frame, child}
+use Rattle.syn_lower_spec.specs.Equal.{IsEqualityOf}
 use Rattle.syn_lower_leaves.specs.View.{mapped}
 use Rattle.syn_lower_leaves.proofs.Ties.{both_tie, on_tie, into_tie, some_tie, pair_path}
 use Rattle.syn_lower.specs.View.{type_of, path_of, qself_or, values, trails, is_some_pair}
 use Rattle.syn_laws.proofs.ListTies.{punctuated_tie}
 use Rattle.syn_laws.proofs.LowerSames.{path_tie}
-use Rattle.syn_expr_kinds.specs.View.{boxed, FieldView, fields, option_child, field_value_of, expr_struct_of}
-use Rattle.syn_expr_kinds.specs.declared.structure.ExprStructOf.{ExprStructOf}
-use Rattle.syn_expr_kinds.specs.contracts.structure.ExprStructOfPartialEq.TheImpl as struct_test
+use Rattle.syn_expr_ast.specs.View.{boxed, FieldView, fields, option_child, field_value_of, expr_struct_of}
+use Rattle.syn_expr_ast.specs.declared.structure.ExprStructOf.{ExprStructOf}
+use Rattle.syn_expr_ast.specs.contracts.structure.ExprStructOfPartialEq.TheImpl as struct_test
 use Rattle.syn_laws.proofs.Shapes.{behind_tie, boxed_tie, is_comma, trailed}
 use Rattle.syn_laws.proofs.TreeEq.{no_dict, qself_or_tie, field_value_kind_tie}
 

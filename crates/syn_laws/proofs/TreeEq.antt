@@ -5,38 +5,38 @@ use mathlib.Core.Bool.{Bool-discrete}
 use mathlib.Core.List.{List-discrete}
 use native.Mathlib.Decide.{ℕ_discrete, map_dec}
 use denote.Enum.Bare.{same_true, true_same}
-use Rattle.syn_lexer.specs.declared.lexeme.Delimiter.{Delimiter}
+use Rattle.syn_lexer.specs.declared.front.Delimiter.{Delimiter}
 use Rattle.syn_tokens.specs.Tok.{Tok}
 use Rattle.syn_tokens.specs.Front.{same_delimiter}
 use Rattle.syn_tokens.specs.Same.{same_list, same_list-true, same_list_equiv, same_delimiter-true, same_delimiter-refl}
-use Rattle.syn_parts.specs.Text.{Text}
-use Rattle.syn_parts.specs.Tree as t
-use Rattle.syn_parts.specs.Tree.{LitTree, AttributeTree, LifetimesTree, TypeTree, SegmentTree, PathTree, QSelfTree, no_qself, ReturnTree, ArgumentsTree}
-use Rattle.syn_parts.specs.Part.{MacroTree}
-use Rattle.syn_parts.specs.Pat.{MemberTree, a_name, an_index, PatBound, lit_bound, path_bound, PatTree, wild, rest, range, a_lit, a_binding, a_path, a_mac, a_struct, tuple_struct, a_tuple, a_paren, a_slice, a_reference, a_block, alternatives, guarded, typed, attributed, SubPat, no_sub, sub, Pats, no_pats, more_pats, Fields, no_fields, more_fields, FieldTree, short, full}
-use Rattle.syn_parts.specs.Same.{same_lit}
-use Rattle.syn_parts.proofs.Same.{compares_lits}
-use Rattle.syn_parts.proofs.TreeEq.{type_eq, arguments_eq, return_eq}
-use Rattle.syn_parts.proofs.Trees.{segments-segments_of}
-use Rattle.syn_grammar.specs.Tree as e
-use Rattle.syn_grammar.specs.Tree.{Body, Jump, Leaf, ClosureHead, Prefix, Postfix, Trailer, Frame, Piece, Ending, Tree, Children, leaf, paren, prefixed, infixed, postfixed, tail, frame, none, child}
-use Rattle.syn_grammar.specs.declared.kinds.BinKind.{BinKind}
-use Rattle.syn_grammar.specs.declared.kinds.UnKind.{UnKind}
-use Rattle.syn_grammar.specs.declared.kinds.Limits.{Limits}
-use Rattle.syn_grammar.specs.declared.kinds.Infix.{Infix}
-use Rattle.syn_grammar.specs.declared.kinds.Infix.TheVariants as inf
-use Rattle.syn_grammar.specs.contracts.kinds.BinKind as bin_type
-use Rattle.syn_grammar.specs.contracts.kinds.UnKind as un_type
-use Rattle.syn_grammar.specs.contracts.kinds.Limits as limits_type
-use Rattle.syn_grammar.specs.contracts.kinds.BinKindPartialEq.TheImpl as bin_test
-use Rattle.syn_grammar.specs.contracts.kinds.UnKindPartialEq.TheImpl as un_test
-use Rattle.syn_grammar.specs.contracts.kinds.LimitsPartialEq.TheImpl as limits_test
+use Rattle.syn_lower_spec.specs.Text.{Text}
+use Rattle.syn_lower_spec.specs.Tree as t
+use Rattle.syn_lower_spec.specs.Tree.{LitTree, AttributeTree, LifetimesTree, TypeTree, SegmentTree, PathTree, QSelfTree, no_qself, ReturnTree, ArgumentsTree}
+use Rattle.syn_lower_spec.specs.Part.{MacroTree}
+use Rattle.syn_lower_spec.specs.Pat.{MemberTree, a_name, an_index, PatBound, lit_bound, path_bound, PatTree, wild, rest, range, a_lit, a_binding, a_path, a_mac, a_struct, tuple_struct, a_tuple, a_paren, a_slice, a_reference, a_block, alternatives, guarded, typed, attributed, SubPat, no_sub, sub, Pats, no_pats, more_pats, Fields, no_fields, more_fields, FieldTree, short, full}
+use Rattle.syn_lower_spec.specs.Same.{same_lit}
+use Rattle.syn_lower_spec.proofs.Same.{compares_lits}
+use Rattle.syn_lower_spec.proofs.TreeEq.{type_eq, arguments_eq, return_eq}
+use Rattle.syn_lower_spec.proofs.Trees.{segments-segments_of}
+use Rattle.syn_expr_spec.specs.Tree as e
+use Rattle.syn_expr_spec.specs.Tree.{Body, Jump, Leaf, ClosureHead, Prefix, Postfix, Trailer, Frame, Piece, Ending, Tree, Children, leaf, paren, prefixed, infixed, postfixed, tail, frame, none, child}
+use Rattle.syn_expr_spec.specs.declared.kinds.BinKind.{BinKind}
+use Rattle.syn_expr_spec.specs.declared.kinds.UnKind.{UnKind}
+use Rattle.syn_expr_spec.specs.declared.kinds.Limits.{Limits}
+use Rattle.syn_expr_spec.specs.declared.kinds.Infix.{Infix}
+use Rattle.syn_expr_spec.specs.declared.kinds.Infix.TheVariants as inf
+use Rattle.syn_expr_spec.specs.contracts.kinds.BinKind as bin_type
+use Rattle.syn_expr_spec.specs.contracts.kinds.UnKind as un_type
+use Rattle.syn_expr_spec.specs.contracts.kinds.Limits as limits_type
+use Rattle.syn_expr_spec.specs.contracts.kinds.BinKindPartialEq.TheImpl as bin_test
+use Rattle.syn_expr_spec.specs.contracts.kinds.UnKindPartialEq.TheImpl as un_test
+use Rattle.syn_expr_spec.specs.contracts.kinds.LimitsPartialEq.TheImpl as limits_test
 use Rattle.std.specs.Option.{option_eq}
 use denote.RattleType.{RattleType}
 use mir.Syntax.{Dict, impl, tnil, dnil}
 use Rattle.std.specs.declared.boxed.Box.{Box}
 use Rattle.std.specs.declared.alloc.Global.{Global}
-use Rattle.syn_lower_leaves.specs.Equal.{IsEqualityOf}
+use Rattle.syn_lower_spec.specs.Equal.{IsEqualityOf}
 use Rattle.syn_lower_leaves.specs.View.{mapped, lifetime_of}
 use Rattle.syn_lower_leaves.proofs.Ties.{both_tie, on_tie, made_tie, option_tie, some_tie, text_tie, pair_path, and_true_tie, constant_tie}
 use Rattle.syn_lower_leaves.proofs.LeafTies.{lifetime_tie, block_tie, lit_tie}
@@ -44,88 +44,88 @@ use Rattle.syn_lower.specs.View.{type_of, qself_or}
 use Rattle.syn_lower.specs.declared.ty.«Type».{«Type»}
 use Rattle.syn_lower.specs.contracts.ty.«Type» as type_row
 use Rattle.syn_lower.specs.contracts.ty.TypePartialEq.TheImpl as type_test
-use Rattle.syn_lower_generic.specs.declared.path.QSelfOf.{QSelfOf}
-use Rattle.syn_lower_generic.specs.declared.path.AngleBracketedGenericArgumentsOf.{AngleBracketedGenericArgumentsOf}
-use Rattle.syn_lower_generic.specs.contracts.path.QSelfOfPartialEq.TheImpl as qself_test
-use Rattle.syn_lower_generic.specs.contracts.path.AngleBracketedGenericArgumentsOfPartialEq.TheImpl as angle_test
+use Rattle.syn_lower_types.specs.declared.path.QSelfOf.{QSelfOf}
+use Rattle.syn_lower_types.specs.declared.path.AngleBracketedGenericArgumentsOf.{AngleBracketedGenericArgumentsOf}
+use Rattle.syn_lower_types.specs.contracts.path.QSelfOfPartialEq.TheImpl as qself_test
+use Rattle.syn_lower_types.specs.contracts.path.AngleBracketedGenericArgumentsOfPartialEq.TheImpl as angle_test
 use Rattle.syn_laws.proofs.PartTies.{pointer_tie}
 use Rattle.syn_laws.proofs.LowerSames.{type_tie, path_tie, macro_tie, qself_tie, angle_tie}
-use Rattle.syn_op.specs.View.{bin_kind, un_kind, limits_kind}
-use Rattle.syn_op.specs.contracts.same.BinOpPartialEq.TheImpl as kind_ties_bin_test
-use Rattle.syn_op.specs.contracts.same.UnOpPartialEq.TheImpl as kind_ties_un_test
-use Rattle.syn_op.specs.contracts.same.RangeLimitsPartialEq.TheImpl as kind_ties_limits_test
-use Rattle.syn_op.proofs.Equality.{binary, prefix, limits}
-use Rattle.syn_expr_parts.proofs.Ties.{member_tie, label_tie}
-use Rattle.syn_expr_kinds.specs.declared.atom.ExprArrayOf.{ExprArrayOf}
-use Rattle.syn_expr_kinds.specs.contracts.atom.ExprArrayOfPartialEq.TheImpl as array_test
-use Rattle.syn_expr_kinds.specs.declared.atom.ExprGroupOf.{ExprGroupOf}
-use Rattle.syn_expr_kinds.specs.contracts.atom.ExprGroupOfPartialEq.TheImpl as group_test
-use Rattle.syn_expr_kinds.specs.declared.atom.ExprParenOf.{ExprParenOf}
-use Rattle.syn_expr_kinds.specs.contracts.atom.ExprParenOfPartialEq.TheImpl as paren_test
-use Rattle.syn_expr_kinds.specs.declared.atom.ExprRepeatOf.{ExprRepeatOf}
-use Rattle.syn_expr_kinds.specs.contracts.atom.ExprRepeatOfPartialEq.TheImpl as repeat_test
-use Rattle.syn_expr_kinds.specs.declared.atom.ExprTupleOf.{ExprTupleOf}
-use Rattle.syn_expr_kinds.specs.contracts.atom.ExprTupleOfPartialEq.TheImpl as tuple_test
-use Rattle.syn_expr_kinds.specs.contracts.atom.ExprInferPartialEq.TheImpl as infer_test
-use Rattle.syn_expr_kinds.specs.declared.atom.ExprLit.{ExprLit}
-use Rattle.syn_expr_kinds.specs.contracts.atom.ExprLitPartialEq.TheImpl as lit_test
-use Rattle.syn_expr_kinds.specs.declared.atom.ExprMacro.{ExprMacro}
-use Rattle.syn_expr_kinds.specs.contracts.atom.ExprMacroPartialEq.TheImpl as mac_test
-use Rattle.syn_expr_kinds.specs.declared.atom.ExprPath.{ExprPath}
-use Rattle.syn_expr_kinds.specs.contracts.atom.ExprPathPartialEq.TheImpl as path_test
-use Rattle.syn_expr_kinds.specs.declared.operation.ExprAssignOf.{ExprAssignOf}
-use Rattle.syn_expr_kinds.specs.contracts.operation.ExprAssignOfPartialEq.TheImpl as assign_test
-use Rattle.syn_expr_kinds.specs.declared.operation.ExprBinaryOf.{ExprBinaryOf}
-use Rattle.syn_expr_kinds.specs.contracts.operation.ExprBinaryOfPartialEq.TheImpl as binary_kind_test
-use Rattle.syn_expr_kinds.specs.declared.operation.ExprCastOf.{ExprCastOf}
-use Rattle.syn_expr_kinds.specs.contracts.operation.ExprCastOfPartialEq.TheImpl as cast_test
-use Rattle.syn_expr_kinds.specs.declared.operation.ExprRangeOf.{ExprRangeOf}
-use Rattle.syn_expr_kinds.specs.contracts.operation.ExprRangeOfPartialEq.TheImpl as range_test
-use Rattle.syn_expr_kinds.specs.declared.operation.ExprRawAddrOf.{ExprRawAddrOf}
-use Rattle.syn_expr_kinds.specs.contracts.operation.ExprRawAddrOfPartialEq.TheImpl as raw_addr_test
-use Rattle.syn_expr_kinds.specs.declared.operation.ExprReferenceOf.{ExprReferenceOf}
-use Rattle.syn_expr_kinds.specs.contracts.operation.ExprReferenceOfPartialEq.TheImpl as reference_test
-use Rattle.syn_expr_kinds.specs.declared.operation.ExprUnaryOf.{ExprUnaryOf}
-use Rattle.syn_expr_kinds.specs.contracts.operation.ExprUnaryOfPartialEq.TheImpl as unary_test
-use Rattle.syn_expr_kinds.specs.declared.trailer.ExprAwaitOf.{ExprAwaitOf}
-use Rattle.syn_expr_kinds.specs.contracts.trailer.ExprAwaitOfPartialEq.TheImpl as await_test
-use Rattle.syn_expr_kinds.specs.declared.trailer.ExprCallOf.{ExprCallOf}
-use Rattle.syn_expr_kinds.specs.contracts.trailer.ExprCallOfPartialEq.TheImpl as call_test
-use Rattle.syn_expr_kinds.specs.declared.trailer.ExprFieldOf.{ExprFieldOf}
-use Rattle.syn_expr_kinds.specs.contracts.trailer.ExprFieldOfPartialEq.TheImpl as field_kind_test
-use Rattle.syn_expr_kinds.specs.declared.trailer.ExprIndexOf.{ExprIndexOf}
-use Rattle.syn_expr_kinds.specs.contracts.trailer.ExprIndexOfPartialEq.TheImpl as index_test
-use Rattle.syn_expr_kinds.specs.declared.trailer.ExprMethodCallOf.{ExprMethodCallOf}
-use Rattle.syn_expr_kinds.specs.contracts.trailer.ExprMethodCallOfPartialEq.TheImpl as method_test
-use Rattle.syn_expr_kinds.specs.declared.trailer.ExprTryOf.{ExprTryOf}
-use Rattle.syn_expr_kinds.specs.contracts.trailer.ExprTryOfPartialEq.TheImpl as try_test
-use Rattle.syn_expr_kinds.specs.declared.block.ExprAsync.{ExprAsync}
-use Rattle.syn_expr_kinds.specs.contracts.block.ExprAsyncPartialEq.TheImpl as async_test
-use Rattle.syn_expr_kinds.specs.declared.block.ExprBlock.{ExprBlock}
-use Rattle.syn_expr_kinds.specs.contracts.block.ExprBlockPartialEq.TheImpl as block_test
-use Rattle.syn_expr_kinds.specs.declared.block.ExprConst.{ExprConst}
-use Rattle.syn_expr_kinds.specs.contracts.block.ExprConstPartialEq.TheImpl as const_test
-use Rattle.syn_expr_kinds.specs.declared.block.ExprIfOf.{ExprIfOf}
-use Rattle.syn_expr_kinds.specs.contracts.block.ExprIfOfPartialEq.TheImpl as if_test
-use Rattle.syn_expr_kinds.specs.declared.block.ExprLoop.{ExprLoop}
-use Rattle.syn_expr_kinds.specs.contracts.block.ExprLoopPartialEq.TheImpl as loop_test
-use Rattle.syn_expr_kinds.specs.declared.block.ExprTryBlock.{ExprTryBlock}
-use Rattle.syn_expr_kinds.specs.contracts.block.ExprTryBlockPartialEq.TheImpl as try_block_test
-use Rattle.syn_expr_kinds.specs.declared.block.ExprUnsafe.{ExprUnsafe}
-use Rattle.syn_expr_kinds.specs.contracts.block.ExprUnsafePartialEq.TheImpl as unsafe_test
-use Rattle.syn_expr_kinds.specs.declared.block.ExprWhileOf.{ExprWhileOf}
-use Rattle.syn_expr_kinds.specs.contracts.block.ExprWhileOfPartialEq.TheImpl as while_test
-use Rattle.syn_expr_kinds.specs.declared.jump.ExprBreakOf.{ExprBreakOf}
-use Rattle.syn_expr_kinds.specs.contracts.jump.ExprBreakOfPartialEq.TheImpl as break_test
-use Rattle.syn_expr_kinds.specs.declared.jump.ExprContinue.{ExprContinue}
-use Rattle.syn_expr_kinds.specs.contracts.jump.ExprContinuePartialEq.TheImpl as continue_test
-use Rattle.syn_expr_kinds.specs.declared.jump.ExprReturnOf.{ExprReturnOf}
-use Rattle.syn_expr_kinds.specs.contracts.jump.ExprReturnOfPartialEq.TheImpl as return_test
-use Rattle.syn_expr_kinds.specs.declared.jump.ExprYieldOf.{ExprYieldOf}
-use Rattle.syn_expr_kinds.specs.contracts.jump.ExprYieldOfPartialEq.TheImpl as yield_test
-use Rattle.syn_expr_kinds.specs.declared.structure.FieldValueOf.{FieldValueOf}
-use Rattle.syn_expr_kinds.specs.contracts.structure.FieldValueOfPartialEq.TheImpl as field_value_test
-use Rattle.syn_expr_kinds.specs.View.{boxed, FieldView, range_between, jump_with, body_of, else_of, turbofish_of, expr_array_of, expr_group_of, expr_paren_of, expr_repeat_of, expr_tuple_of, expr_infer_of, expr_lit_of, expr_macro_of, expr_path_of, expr_assign_of, expr_binary_of, expr_cast_of, expr_range_of, expr_raw_addr_of, expr_reference_of, expr_unary_of, expr_await_of, expr_call_of, expr_field_of, expr_index_of, expr_method_call_of, expr_try_of, expr_async_of, expr_block_of, expr_const_of, expr_if_of, expr_loop_of, expr_try_block_of, expr_unsafe_of, expr_while_of, expr_break_of, expr_continue_of, expr_return_of, expr_yield_of, field_value_of}
+use Rattle.syn_expr_tokens.specs.View.{bin_kind, un_kind, limits_kind}
+use Rattle.syn_expr_tokens.specs.contracts.same.BinOpPartialEq.TheImpl as kind_ties_bin_test
+use Rattle.syn_expr_tokens.specs.contracts.same.UnOpPartialEq.TheImpl as kind_ties_un_test
+use Rattle.syn_expr_tokens.specs.contracts.same.RangeLimitsPartialEq.TheImpl as kind_ties_limits_test
+use Rattle.syn_expr_tokens.proofs.Equality.{binary, prefix, limits}
+use Rattle.syn_expr_tokens.proofs.Ties.{member_tie, label_tie}
+use Rattle.syn_expr_ast.specs.declared.atom.ExprArrayOf.{ExprArrayOf}
+use Rattle.syn_expr_ast.specs.contracts.atom.ExprArrayOfPartialEq.TheImpl as array_test
+use Rattle.syn_expr_ast.specs.declared.atom.ExprGroupOf.{ExprGroupOf}
+use Rattle.syn_expr_ast.specs.contracts.atom.ExprGroupOfPartialEq.TheImpl as group_test
+use Rattle.syn_expr_ast.specs.declared.atom.ExprParenOf.{ExprParenOf}
+use Rattle.syn_expr_ast.specs.contracts.atom.ExprParenOfPartialEq.TheImpl as paren_test
+use Rattle.syn_expr_ast.specs.declared.atom.ExprRepeatOf.{ExprRepeatOf}
+use Rattle.syn_expr_ast.specs.contracts.atom.ExprRepeatOfPartialEq.TheImpl as repeat_test
+use Rattle.syn_expr_ast.specs.declared.atom.ExprTupleOf.{ExprTupleOf}
+use Rattle.syn_expr_ast.specs.contracts.atom.ExprTupleOfPartialEq.TheImpl as tuple_test
+use Rattle.syn_expr_ast.specs.contracts.atom.ExprInferPartialEq.TheImpl as infer_test
+use Rattle.syn_expr_ast.specs.declared.atom.ExprLit.{ExprLit}
+use Rattle.syn_expr_ast.specs.contracts.atom.ExprLitPartialEq.TheImpl as lit_test
+use Rattle.syn_expr_ast.specs.declared.atom.ExprMacro.{ExprMacro}
+use Rattle.syn_expr_ast.specs.contracts.atom.ExprMacroPartialEq.TheImpl as mac_test
+use Rattle.syn_expr_ast.specs.declared.atom.ExprPath.{ExprPath}
+use Rattle.syn_expr_ast.specs.contracts.atom.ExprPathPartialEq.TheImpl as path_test
+use Rattle.syn_expr_ast.specs.declared.operation.ExprAssignOf.{ExprAssignOf}
+use Rattle.syn_expr_ast.specs.contracts.operation.ExprAssignOfPartialEq.TheImpl as assign_test
+use Rattle.syn_expr_ast.specs.declared.operation.ExprBinaryOf.{ExprBinaryOf}
+use Rattle.syn_expr_ast.specs.contracts.operation.ExprBinaryOfPartialEq.TheImpl as binary_kind_test
+use Rattle.syn_expr_ast.specs.declared.operation.ExprCastOf.{ExprCastOf}
+use Rattle.syn_expr_ast.specs.contracts.operation.ExprCastOfPartialEq.TheImpl as cast_test
+use Rattle.syn_expr_ast.specs.declared.operation.ExprRangeOf.{ExprRangeOf}
+use Rattle.syn_expr_ast.specs.contracts.operation.ExprRangeOfPartialEq.TheImpl as range_test
+use Rattle.syn_expr_ast.specs.declared.operation.ExprRawAddrOf.{ExprRawAddrOf}
+use Rattle.syn_expr_ast.specs.contracts.operation.ExprRawAddrOfPartialEq.TheImpl as raw_addr_test
+use Rattle.syn_expr_ast.specs.declared.operation.ExprReferenceOf.{ExprReferenceOf}
+use Rattle.syn_expr_ast.specs.contracts.operation.ExprReferenceOfPartialEq.TheImpl as reference_test
+use Rattle.syn_expr_ast.specs.declared.operation.ExprUnaryOf.{ExprUnaryOf}
+use Rattle.syn_expr_ast.specs.contracts.operation.ExprUnaryOfPartialEq.TheImpl as unary_test
+use Rattle.syn_expr_ast.specs.declared.trailer.ExprAwaitOf.{ExprAwaitOf}
+use Rattle.syn_expr_ast.specs.contracts.trailer.ExprAwaitOfPartialEq.TheImpl as await_test
+use Rattle.syn_expr_ast.specs.declared.trailer.ExprCallOf.{ExprCallOf}
+use Rattle.syn_expr_ast.specs.contracts.trailer.ExprCallOfPartialEq.TheImpl as call_test
+use Rattle.syn_expr_ast.specs.declared.trailer.ExprFieldOf.{ExprFieldOf}
+use Rattle.syn_expr_ast.specs.contracts.trailer.ExprFieldOfPartialEq.TheImpl as field_kind_test
+use Rattle.syn_expr_ast.specs.declared.trailer.ExprIndexOf.{ExprIndexOf}
+use Rattle.syn_expr_ast.specs.contracts.trailer.ExprIndexOfPartialEq.TheImpl as index_test
+use Rattle.syn_expr_ast.specs.declared.trailer.ExprMethodCallOf.{ExprMethodCallOf}
+use Rattle.syn_expr_ast.specs.contracts.trailer.ExprMethodCallOfPartialEq.TheImpl as method_test
+use Rattle.syn_expr_ast.specs.declared.trailer.ExprTryOf.{ExprTryOf}
+use Rattle.syn_expr_ast.specs.contracts.trailer.ExprTryOfPartialEq.TheImpl as try_test
+use Rattle.syn_expr_ast.specs.declared.block.ExprAsync.{ExprAsync}
+use Rattle.syn_expr_ast.specs.contracts.block.ExprAsyncPartialEq.TheImpl as async_test
+use Rattle.syn_expr_ast.specs.declared.block.ExprBlock.{ExprBlock}
+use Rattle.syn_expr_ast.specs.contracts.block.ExprBlockPartialEq.TheImpl as block_test
+use Rattle.syn_expr_ast.specs.declared.block.ExprConst.{ExprConst}
+use Rattle.syn_expr_ast.specs.contracts.block.ExprConstPartialEq.TheImpl as const_test
+use Rattle.syn_expr_ast.specs.declared.block.ExprIfOf.{ExprIfOf}
+use Rattle.syn_expr_ast.specs.contracts.block.ExprIfOfPartialEq.TheImpl as if_test
+use Rattle.syn_expr_ast.specs.declared.block.ExprLoop.{ExprLoop}
+use Rattle.syn_expr_ast.specs.contracts.block.ExprLoopPartialEq.TheImpl as loop_test
+use Rattle.syn_expr_ast.specs.declared.block.ExprTryBlock.{ExprTryBlock}
+use Rattle.syn_expr_ast.specs.contracts.block.ExprTryBlockPartialEq.TheImpl as try_block_test
+use Rattle.syn_expr_ast.specs.declared.block.ExprUnsafe.{ExprUnsafe}
+use Rattle.syn_expr_ast.specs.contracts.block.ExprUnsafePartialEq.TheImpl as unsafe_test
+use Rattle.syn_expr_ast.specs.declared.block.ExprWhileOf.{ExprWhileOf}
+use Rattle.syn_expr_ast.specs.contracts.block.ExprWhileOfPartialEq.TheImpl as while_test
+use Rattle.syn_expr_ast.specs.declared.jump.ExprBreakOf.{ExprBreakOf}
+use Rattle.syn_expr_ast.specs.contracts.jump.ExprBreakOfPartialEq.TheImpl as break_test
+use Rattle.syn_expr_ast.specs.declared.jump.ExprContinue.{ExprContinue}
+use Rattle.syn_expr_ast.specs.contracts.jump.ExprContinuePartialEq.TheImpl as continue_test
+use Rattle.syn_expr_ast.specs.declared.jump.ExprReturnOf.{ExprReturnOf}
+use Rattle.syn_expr_ast.specs.contracts.jump.ExprReturnOfPartialEq.TheImpl as return_test
+use Rattle.syn_expr_ast.specs.declared.jump.ExprYieldOf.{ExprYieldOf}
+use Rattle.syn_expr_ast.specs.contracts.jump.ExprYieldOfPartialEq.TheImpl as yield_test
+use Rattle.syn_expr_ast.specs.declared.structure.FieldValueOf.{FieldValueOf}
+use Rattle.syn_expr_ast.specs.contracts.structure.FieldValueOfPartialEq.TheImpl as field_value_test
+use Rattle.syn_expr_ast.specs.View.{boxed, FieldView, range_between, jump_with, body_of, else_of, turbofish_of, expr_array_of, expr_group_of, expr_paren_of, expr_repeat_of, expr_tuple_of, expr_infer_of, expr_lit_of, expr_macro_of, expr_path_of, expr_assign_of, expr_binary_of, expr_cast_of, expr_range_of, expr_raw_addr_of, expr_reference_of, expr_unary_of, expr_await_of, expr_call_of, expr_field_of, expr_index_of, expr_method_call_of, expr_try_of, expr_async_of, expr_block_of, expr_const_of, expr_if_of, expr_loop_of, expr_try_block_of, expr_unsafe_of, expr_while_of, expr_break_of, expr_continue_of, expr_return_of, expr_yield_of, field_value_of}
 use Rattle.syn_laws.proofs.Shapes.{behind_tie, around_tie, attrs_tie, elements_tie, boxed_tie, is_core}
 
 -- ---- by a test, and through what tells as much

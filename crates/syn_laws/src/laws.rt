@@ -3,15 +3,15 @@
 ghost use Rattle.std.specs.Prelude.{Bool, true, false, [], if◌then◌else◌};
 ghost use Rattle.syn_lower.specs.ReadBack.{PrintsOwn, IsReadBack, IsRead, qpath_of};
 ghost use Rattle.syn_lower.specs.View as view;
-ghost use Rattle.syn_lower_generic.specs.declared.path.GenericArgumentOf.TheVariants as generic;
-ghost use Rattle.syn_lower_generic.specs.declared.path.PathArgumentsOf.TheVariants as arguments;
-ghost use Rattle.syn_lower_generic.specs.declared.ty.TypeParamBoundOf.TheVariants as bound;
+ghost use Rattle.syn_lower_types.specs.declared.path.GenericArgumentOf.TheVariants as generic;
+ghost use Rattle.syn_lower_types.specs.declared.path.PathArgumentsOf.TheVariants as arguments;
+ghost use Rattle.syn_lower_types.specs.declared.ty.TypeParamBoundOf.TheVariants as bound;
 ghost use Rattle.syn_lower.specs.declared.ty.«Type».TheVariants as ty;
-ghost use Rattle.syn_parts.specs.Fits as fits;
-ghost use Rattle.syn_parts.specs.Fits.{closed};
-ghost use Rattle.syn_parts.specs.Own as own;
-ghost use Rattle.syn_parts.specs.Part as part;
-ghost use Rattle.syn_parts.specs.declared.label.PathStyle.TheVariants as style;
+ghost use Rattle.syn_lower_spec.specs.Fits as fits;
+ghost use Rattle.syn_lower_spec.specs.Fits.{closed};
+ghost use Rattle.syn_lower_spec.specs.Own as own;
+ghost use Rattle.syn_lower_spec.specs.Part as part;
+ghost use Rattle.syn_lower_spec.specs.declared.label.PathStyle.TheVariants as style;
 
 use syn_lower::mac::Macro;
 use syn_lower::path::{

@@ -2,15 +2,14 @@
 //! of functions that do nothing. Attributes before a node and in its braces count in their order, and a guard with the
 //! pattern before it: the tree shows both.
 
-ghost use Rattle.syn_lower_leaves.specs.Equal.{IsEqualityOf};
+ghost use Rattle.syn_lower_spec.specs.Equal.{IsEqualityOf};
 ghost use Rattle.syn_lower.specs.View.{abi_of, angle_of, arg_of, arguments_of, assoc_of, bound_of, generic_of, is_mut, lifetimes_of, macro_of, path_of, qself_of, return_of, round_of, segment_of, trait_of, type_of};
 ghost use Rattle.syn_lower.specs.declared.ty.«Type».TheVariants as ty;
-ghost use Rattle.syn_expr_all.specs.View.{arm_of, let_of, match_of, closure_of, for_loop_of, guard_of, pat_of, tree_of};
-ghost use Rattle.syn_expr_kinds.specs.View.{field_value_of};
+ghost use Rattle.syn_expr_core.specs.View.{arm_of, let_of, match_of, closure_of, for_loop_of, guard_of, pat_of, tree_of};
+ghost use Rattle.syn_expr_ast.specs.View.{field_value_of};
 
-use syn_expr_all::expr::{Arm, Expr, ExprClosure, ExprForLoop, ExprLet, ExprMatch, FieldValue};
-
-use syn_expr_all::{Pat, PatGuard};
+use syn_expr_core::expr::{Arm, Expr, ExprClosure, ExprForLoop, ExprLet, ExprMatch, FieldValue};
+use syn_expr_core::{Pat, PatGuard};
 use syn_lower::mac::Macro;
 use syn_lower::path::{
     AngleBracketedGenericArguments, AssocType, GenericArgument, ParenthesizedGenericArguments,

@@ -1,11 +1,13 @@
 -- The lexeme at the front of a text.
-use Rattle.std.proofs.Common.{◌≡◌, ℕ, ◌<◌, [], ◌∷◌, length, arith, ap, refl, sym, ◌∙◌}
-use Rattle.std.specs.Prelude.{Result, Ok, Err, IfErr, MatchResult, Some, None}
-use Rattle.syn_lexer.specs.declared.lexeme.Lexeme.{Lexeme}
-use Rattle.syn_lexer.specs.declared.lexeme.LexemeKind.{LexemeKind}
+use Rattle.std.proofs.Common.{◌≡◌, ℕ, ◌<◌, [], ◌∷◌, length, arith, ap, refl, sym, ◌∙◌, ◌+◌, ◌-◌, drop}
+use Rattle.std.specs.Prelude.{Result, Ok, Err, IfErr, MatchResult, Some, None, ◌≢◌, ◌==◌, true, false, codes}
+use Rattle.syn_lexer.specs.declared.front.Lexeme.{Lexeme}
+use Rattle.syn_lexer.specs.declared.front.LexemeKind.{LexemeKind}
 use Rattle.syn_lexer.specs.declared.error.Refusal.{Refusal}
-use Rattle.syn_lexer.specs.Text.{Text, reading_of}
+use Rattle.syn_lexer.specs.Text.{Text, reading_of, begins}
 use Rattle.syn_lexer.specs.Lex.{reading, of_reading, front}
+use Rattle.std.proofs.lemmas.Bool.Decides.{nat_tests}
+use Rattle.syn_lexer.specs.Blanks.{comment_rest}
 
 front_is : (z : Text) → 0 < length z → front z ≡ of_reading (reading z)
 unfolding front
@@ -26,3 +28,22 @@ pub front_empty : (z : Text) (kind : LexemeKind) (n : ℕ) → length z ≡ 0 �
 unfolding front
 front_empty [] kind n none is = cc
 front_empty (c ∷ z) kind n none is = absurd (omega arith)
+
+-- ---- the marks inside of a block comment
+
+-- one more comment is open after `/*`
+pub comment_rest-opens : (inner n : ℕ) (z : Text) → begins (codes "/*") z ≡ true → comment_rest false inner n z ≡ comment_rest false (inner + 1) (n + 2) (drop 2 z)
+comment_rest-opens inner n [] is = refl
+comment_rest-opens inner n (c ∷ []) is = rw is refl
+comment_rest-opens inner n (c ∷ (d ∷ z)) is = let two : n + 1 + 1 ≡ n + 2 = omega arith in rw (is, two) refl
+
+-- one less is open after a `*/` that does not close the outermost
+pub comment_rest-closes : (inner n : ℕ) (z : Text) → begins (codes "/*") z ≡ false → begins (codes "*/") z ≡ true → inner ≢ 0
+    → comment_rest false inner n z ≡ comment_rest false (inner - 1) (n + 2) (drop 2 z)
+comment_rest-closes inner n [] other is more = refl
+comment_rest-closes inner n (c ∷ []) other is more =
+    let no : (inner == 0) ≡ false = grind (arith, nat_tests) in rw (other, is, no) refl
+comment_rest-closes inner n (c ∷ (d ∷ z)) other is more =
+    let no : (inner == 0) ≡ false = grind (arith, nat_tests) in
+    let two : n + 1 + 1 ≡ n + 2 = omega arith in
+    rw (other, is, no, two) refl

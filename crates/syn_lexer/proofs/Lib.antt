@@ -1,5 +1,4 @@
-pub mod CommentLaws
-pub mod FirstBytes
 pub mod LexLaws
+pub mod FirstBytes
 pub mod Marks
 pub mod Words

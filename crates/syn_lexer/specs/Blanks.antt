@@ -2,7 +2,7 @@
 use Rattle.std.specs.Prelude.{ℕ, ◌+◌, ◌-◌, Bool, true, false, not, ◌&&◌, ◌||◌, if◌then◌else◌, ◌==◌, nat_le, [], ◌∷◌, length, drop, Option, Some, None, Ok, Err, codes}
 use Rattle.std.specs.List.{prefix_len}
 use Rattle.syn_lexer.specs.Text.{Text, Reading, line_feed, begins}
-use Rattle.syn_lexer.specs.declared.lexeme.LexemeKind.TheVariants.{Blank}
+use Rattle.syn_lexer.specs.declared.front.LexemeKind.TheVariants.{Blank}
 use Rattle.syn_lexer.specs.declared.error.LexError.TheVariants.{DocComment, UnterminatedComment}
 
 -- U+0009 to U+000D, the space, and U+0085, U+200E, U+200F, U+2028, U+2029

@@ -7,11 +7,11 @@ use Rattle.syn_lexer.specs.Blanks.{is_white_space, white_space_len, begins_comme
 use Rattle.syn_lexer.specs.Words.{starts_word, word_len, begins_raw_word, raw_word}
 use Rattle.syn_lexer.specs.Numbers.{number}
 use Rattle.syn_lexer.specs.Quotes.{begins_string, string, begins_raw_string, raw_string, begins_byte, byte, character_or_lifetime}
-use Rattle.syn_lexer.specs.declared.lexeme.Delimiter.TheVariants.{Parenthesis, Bracket, Brace}
-use Rattle.syn_lexer.specs.declared.lexeme.Spacing.{Spacing}
-use Rattle.syn_lexer.specs.declared.lexeme.Spacing.TheVariants.{Alone, Joint}
-use Rattle.syn_lexer.specs.declared.lexeme.LexemeKind.{LexemeKind}
-use Rattle.syn_lexer.specs.declared.lexeme.LexemeKind.TheVariants.{Blank, Ident, Punct, Open, Close}
+use Rattle.syn_lexer.specs.declared.front.Delimiter.TheVariants.{Parenthesis, Bracket, Brace}
+use Rattle.syn_lexer.specs.declared.front.Spacing.{Spacing}
+use Rattle.syn_lexer.specs.declared.front.Spacing.TheVariants.{Alone, Joint}
+use Rattle.syn_lexer.specs.declared.front.LexemeKind.{LexemeKind}
+use Rattle.syn_lexer.specs.declared.front.LexemeKind.TheVariants.{Blank, Ident, Punct, Open, Close}
 use Rattle.syn_lexer.specs.declared.error.LexError.TheVariants.{UnknownCharacter}
 
 -- the characters of punctuation (Rust Reference, "Punctuation"), and the `'` of a lifetime

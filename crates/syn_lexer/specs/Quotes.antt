@@ -5,7 +5,7 @@ use Rattle.std.specs.Prelude.{ℕ, ◌+◌, Bool, true, false, not, ◌&&◌, �
 use Rattle.std.specs.List.{prefix_len}
 use Rattle.syn_lexer.specs.Text.{Text, Reading, line_feed, double_quote, single_quote, backslash, begins}
 use Rattle.syn_lexer.specs.Words.{starts_word, begins_raw_word, word_len, literal_to}
-use Rattle.syn_lexer.specs.declared.lexeme.LexemeKind.TheVariants.{Lifetime}
+use Rattle.syn_lexer.specs.declared.front.LexemeKind.TheVariants.{Lifetime}
 use Rattle.syn_lexer.specs.declared.error.LexError.TheVariants.{MalformedLiteral, MalformedLifetime}
 
 -- a literal whose opening is so many characters, and whose rest is so many more; where it is not closed, a refusal of

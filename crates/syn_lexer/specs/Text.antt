@@ -1,8 +1,8 @@
 -- A text is a list of characters; what is at its front is read, or refused.
 use Rattle.std.specs.Prelude.{ℕ, ◌≤◌, Bool, List, length, Result, Ok, Err, MatchResult, nat_eq}
 use Rattle.std.specs.List.{starts_with}
-use Rattle.syn_lexer.specs.declared.lexeme.Lexeme.{Lexeme}
-use Rattle.syn_lexer.specs.declared.lexeme.LexemeKind.{LexemeKind}
+use Rattle.syn_lexer.specs.declared.front.Lexeme.{Lexeme}
+use Rattle.syn_lexer.specs.declared.front.LexemeKind.{LexemeKind}
 use Rattle.syn_lexer.specs.declared.error.LexError.{LexError}
 use Rattle.syn_lexer.specs.declared.error.Refusal.{Refusal}
 

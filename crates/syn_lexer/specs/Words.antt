@@ -4,8 +4,8 @@ use Rattle.std.specs.List.{prefix_len, list_any}
 use Rattle.std.specs.Str.{bytes_eq}
 use Rattle.unicode_ident.specs.Ident.{is_xid_start, is_xid_continue}
 use Rattle.syn_lexer.specs.Text.{Text, Reading, underscore, begins}
-use Rattle.syn_lexer.specs.declared.lexeme.LexemeKind.{LexemeKind}
-use Rattle.syn_lexer.specs.declared.lexeme.LexemeKind.TheVariants.{Ident, Literal}
+use Rattle.syn_lexer.specs.declared.front.LexemeKind.{LexemeKind}
+use Rattle.syn_lexer.specs.declared.front.LexemeKind.TheVariants.{Ident, Literal}
 use Rattle.syn_lexer.specs.declared.error.LexError.TheVariants.{ReservedRawIdentifier}
 
 -- `_` or a character with the Unicode property XID_Start

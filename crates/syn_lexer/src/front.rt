@@ -1,22 +1,22 @@
-//! The lexeme at the front of a text.
+//! The lexeme at the front of a text, after white space and comments; and its words: identifiers, raw identifiers, suffixes
+//! and reserved words.
 
-ghost use Rattle.std.specs.Prelude.{◌≡◌, ◌<◌, ◌↔◌, length, slice_index, false, IsTrue, IfErr, IfSome, MatchOption, MatchResult, Some, None, Err};
+ghost use Rattle.std.specs.Prelude.{◌≡◌, ◌<◌, ◌↔◌, length, slice_index, false, IsTrue, IfErr, IfSome, MatchOption, MatchResult, Some, None, Err, ◌≢◌, ◌≤◌, true, map, ◌+◌, Ok};
 ghost use Rattle.syn_lexer.specs.Blanks.{is_white_space};
 ghost use Rattle.syn_lexer.specs.Lex as spec;
 ghost use Rattle.syn_lexer.specs.Text.{reading_of, IsWithin};
+ghost use Rattle.syn_lexer.specs.Text as text_spec;
+ghost use Rattle.std.specs.List.{filter, prefix_len};
+ghost use Rattle.syn_lexer.specs.Keywords as keywords_spec;
+ghost use Rattle.unicode_ident.specs.Ident.{is_xid_continue};
+ghost use Rattle.syn_lexer.specs.Words as words_spec;
+ghost use Rattle.syn_lexer.specs.Blanks as blanks_spec;
 
-use crate::blank::{
-    begins_block_comment, begins_comment, begins_line_comment, block_comment, is_white_space,
-    line_comment, white_space_len,
-};
 use crate::error::{LexError, Refusal};
-use crate::lexeme::{Delimiter, Lexeme, LexemeKind, Spacing};
-use crate::number::number;
-use crate::quote::{
-    begins_byte, begins_raw_string, begins_string, byte, character_or_lifetime, raw_string, string,
+use crate::number::{
+    begins_byte, begins_raw_string, begins_string, byte, character_or_lifetime, number, raw_string,
+    string,
 };
-use crate::text::char_at;
-use crate::word::{begins_raw_word, raw_word, starts_word, word_len};
 
 fn is_punct(c: char) -> bool
     ensures { result ≡ spec.is_punct c }
@@ -218,4 +218,378 @@ pub fn is_literal(text: &[char]) -> bool
     ensures { IsTrue result ↔ (spec.front text.now ≡ Some (LexemeKind.Literal, length text.now)) }
 {
     is_whole(text, LexemeKind::Literal)
+}
+
+/// Whether the text begins with this mark.
+pub fn begins(text: &[char], mark: &[char]) -> bool
+    ensures value { result ≡ text_spec.begins mark.now text.now }
+    ensures within { result ≡ true → length mark.now ≤ length text.now }
+{
+    text.starts_with(mark)
+}
+
+/// The character at a place, or U+0000 past the end.
+pub fn char_at(text: &[char], at: usize) -> char
+    ensures value { result ≡ slice_index text.now at }
+    ensures within { result ≢ 0 → at < length text.now }
+{
+    if at < text.len() { text[at] } else { '\0' }
+}
+
+/// The reserved words that begin with a byte.
+fn beginning_with(first: u8) -> &'static [&'static str]
+    ensures { map (λ w. w.now) result.now ≡ filter (keywords_spec.begins_with first) keywords_spec.reserved_words }
+{
+    match first {
+        b'_' => &["_"],
+        b'a' => &["abstract", "as", "async", "await"],
+        b'b' => &["become", "box", "break"],
+        b'c' => &["const", "continue", "crate"],
+        b'd' => &["do", "dyn"],
+        b'e' => &["else", "enum", "extern"],
+        b'f' => &["false", "final", "fn", "for"],
+        b'i' => &["if", "impl", "in"],
+        b'l' => &["let", "loop"],
+        b'm' => &["macro", "match", "mod", "move", "mut"],
+        b'o' => &["override"],
+        b'p' => &["priv", "pub"],
+        b'r' => &["ref", "return"],
+        b'S' => &["Self"],
+        b's' => &["self", "static", "struct", "super"],
+        b't' => &["trait", "true", "try", "type", "typeof"],
+        b'u' => &["unsafe", "unsized", "use"],
+        b'v' => &["virtual"],
+        b'w' => &["where", "while"],
+        b'y' => &["yield"],
+        _ => &[],
+    }
+}
+
+fn is_one_of(mut words: &[&str], word: &str) -> bool
+    ensures { result ≡ keywords_spec.is_one_of (map (λ w. w.now) words.entry.now) word.now }
+{
+    'words: while let [first, more @ ..] = words {
+        if word == *first {
+            return true;
+        }
+        words = more;
+    }
+    false
+}
+
+/// Whether a word is reserved, so that it is no identifier: `_`, and the words of syn's list, which are the strict and
+/// reserved keywords but `gen` (Rust Reference, "Keywords"). A raw identifier, which begins with `r#`, never is.
+pub fn is_reserved_word(word: &str) -> bool
+    ensures { result ≡ keywords_spec.is_reserved_word word.now }
+{
+    match word.as_bytes() {
+        [b'_'] => true,
+        // Each of the others goes on with a small letter.
+        [first, second, ..] if second.is_ascii_lowercase() => {
+            is_one_of(beginning_with(*first), word)
+        }
+        _ => false,
+    }
+}
+
+#[tactic(auto, using(crate::proofs::Words::words))]
+fn is_word_start(c: char) -> bool
+    ensures { result ≡ words_spec.is_word_start c }
+{
+    // ASCII is told without the tables of Unicode.
+    c.is_ascii_alphabetic() || c == '_' || !c.is_ascii() && unicode_ident::is_xid_start(c)
+}
+
+/// Whether a word goes on with a character.
+#[tactic(auto, using(crate::proofs::Words::words))]
+fn goes_on(c: char) -> bool
+    ensures { result ≡ is_xid_continue c }
+{
+    // ASCII is told without the tables of Unicode.
+    c.is_ascii_alphanumeric() || c == '_' || !c.is_ascii() && unicode_ident::is_xid_continue(c)
+}
+
+/// Whether an identifier begins here, or a prefix that is spelled like one.
+pub fn starts_word(text: &[char]) -> bool
+    ensures value { result ≡ words_spec.starts_word text.now }
+    ensures within { result ≡ true → 0 < length text.now }
+{
+    match text {
+        [c, ..] => is_word_start(*c),
+        [] => false,
+    }
+}
+
+fn more_of_word(text: &[char]) -> usize
+    ensures value { result ≡ prefix_len is_xid_continue text.now }
+    ensures within { result ≤ length text.now }
+{
+    text.iter().take_while(|c| goes_on(**c)).count()
+}
+
+/// How many characters the identifier at the front is.
+pub fn word_len(text: &[char]) -> usize
+    requires { 0 < length text.now }
+    ensures value { result ≡ words_spec.word_len text.now }
+    ensures within { (1 ≤ result) × (result ≤ length text.now) }
+{
+    1 + more_of_word(&text[1..])
+}
+
+fn suffix_len(text: &[char]) -> usize
+    ensures value { result ≡ words_spec.suffix_len text.now }
+    ensures within { result ≤ length text.now }
+{
+    if starts_word(text) { word_len(text) } else { 0 }
+}
+
+/// The literal that ends at this place, with the suffix after it.
+pub fn literal_to(text: &[char], end: usize) -> Lexeme
+    requires { end ≤ length text.now }
+    ensures value { (result.kind, result.len) ≡ words_spec.literal_to text.now end }
+    ensures within { (end ≤ result.len) × (result.len ≤ length text.now) }
+{
+    Lexeme {
+        kind: LexemeKind::Literal,
+        len: end + suffix_len(&text[end..]),
+    }
+}
+
+/// Whether a raw identifier begins here.
+pub fn begins_raw_word(text: &[char]) -> bool
+    ensures value { result ≡ words_spec.begins_raw_word text.now }
+    ensures within { result ≡ true → 2 < length text.now }
+{
+    matches!(text, ['r', '#', word @ ..] if starts_word(word))
+}
+
+fn is_reserved_raw(word: &[char]) -> bool
+    ensures { result ≡ words_spec.is_reserved_raw word.now }
+{
+    word == ['_'].as_slice()
+        || word == ['s', 'e', 'l', 'f'].as_slice()
+        || word == ['S', 'e', 'l', 'f'].as_slice()
+        || word == ['s', 'u', 'p', 'e', 'r'].as_slice()
+        || word == ['c', 'r', 'a', 't', 'e'].as_slice()
+}
+
+/// What begins with `r#` and an identifier.
+pub fn raw_word(text: &[char]) -> Result<Lexeme, Refusal>
+    requires { 2 < length text.now }
+    ensures value { reading_of result ≡ words_spec.raw_word text.now }
+    ensures within { IsWithin text.now result }
+{
+    let word = &text[2..];
+    let n = word_len(word);
+    if is_reserved_raw(&word[..n]) {
+        return Err(Refusal {
+            error: LexError::ReservedRawIdentifier,
+            len: 2 + n,
+        });
+    }
+    Ok(Lexeme {
+        kind: LexemeKind::Ident,
+        len: 2 + n,
+    })
+}
+
+/// Whether a character is skipped between tokens (Rust Reference, "Whitespace").
+pub fn is_white_space(c: char) -> bool
+    ensures { result ≡ blanks_spec.is_white_space c }
+{
+    // Most characters are told by this one range.
+    !c.is_ascii_graphic()
+        && matches!(
+            c,
+            '\u{9}'..='\u{d}' | ' ' | '\u{85}' | '\u{200e}' | '\u{200f}' | '\u{2028}' | '\u{2029}'
+        )
+}
+
+fn more_white_space(text: &[char]) -> usize
+    ensures value { result ≡ prefix_len blanks_spec.is_white_space text.now }
+    ensures within { result ≤ length text.now }
+{
+    text.iter().take_while(|c| is_white_space(**c)).count()
+}
+
+/// How many characters of white space are at the front, where one does.
+pub fn white_space_len(text: &[char]) -> usize
+    requires { 0 < length text.now }
+    ensures value { result ≡ blanks_spec.white_space_len text.now }
+    ensures within { (1 ≤ result) × (result ≤ length text.now) }
+{
+    1 + more_white_space(&text[1..])
+}
+
+/// Whether `//` comes first.
+pub fn begins_line_comment(text: &[char]) -> bool
+    ensures value { result ≡ blanks_spec.begins_line_comment text.now }
+    ensures within { result ≡ true → 2 ≤ length text.now }
+{
+    matches!(text, ['/', '/', ..])
+}
+
+/// Whether `/*` comes first.
+pub fn begins_block_comment(text: &[char]) -> bool
+    ensures value { result ≡ blanks_spec.begins_block_comment text.now }
+    ensures within { result ≡ true → 2 ≤ length text.now }
+{
+    matches!(text, ['/', '*', ..])
+}
+
+/// Whether a comment comes first.
+pub fn begins_comment(text: &[char]) -> bool
+    ensures { result ≡ blanks_spec.begins_comment text.now }
+{
+    begins_line_comment(text) || begins_block_comment(text)
+}
+
+fn is_line_doc(text: &[char]) -> bool
+    ensures { result ≡ blanks_spec.is_line_doc text.now }
+{
+    begins(text, &['/', '/', '!'])
+        || (begins(text, &['/', '/', '/']) && !begins(text, &['/', '/', '/', '/']))
+}
+
+fn is_within_line(c: char) -> bool
+    ensures { result ≡ blanks_spec.is_within_line c }
+{
+    c != '\n'
+}
+
+fn more_of_line(text: &[char]) -> usize
+    ensures value { result ≡ prefix_len blanks_spec.is_within_line text.now }
+    ensures within { result ≤ length text.now }
+{
+    text.iter().take_while(|c| is_within_line(**c)).count()
+}
+
+/// What begins with `//`.
+pub fn line_comment(text: &[char]) -> Result<Lexeme, Refusal>
+    requires { 2 ≤ length text.now }
+    ensures value { reading_of result ≡ blanks_spec.line_comment text.now }
+    ensures within { IsWithin text.now result }
+{
+    let len = 2 + more_of_line(&text[2..]);
+    if is_line_doc(text) {
+        return Err(Refusal {
+            error: LexError::DocComment,
+            len,
+        });
+    }
+    Ok(Lexeme {
+        kind: LexemeKind::Blank,
+        len,
+    })
+}
+
+fn is_block_doc(text: &[char]) -> bool
+    ensures { result ≡ blanks_spec.is_block_doc text.now }
+{
+    begins(text, &['/', '*', '!'])
+        || (begins(text, &['/', '*', '*'])
+            && !(begins(text, &['/', '*', '*', '*']) || begins(text, &['/', '*', '*', '/'])))
+}
+
+/// How many characters there are up to the end of a block comment, from behind its `/*` on.
+fn comment_rest(mut text: &[char]) -> Option<usize>
+    ensures value { result ≡ blanks_spec.comment_rest false 0 0 text.entry.now }
+    ensures within { IfSome result (λ n. n ≤ length text.entry.now) }
+{
+    let mut inner: usize = 0;
+    let mut n = 0;
+    'characters: while !text.is_empty() {
+        if begins(text, &['/', '*']) {
+            inner += 1;
+            n += 2;
+            text = &text[2..];
+        } else if begins(text, &['*', '/']) {
+            if inner == 0 {
+                return Some(n + 2);
+            }
+            inner -= 1;
+            n += 2;
+            text = &text[2..];
+        } else {
+            n += 1;
+            text = &text[1..];
+        }
+    }
+    None
+}
+
+/// What begins with `/*`.
+pub fn block_comment(text: &[char]) -> Result<Lexeme, Refusal>
+    requires { 2 ≤ length text.now }
+    ensures value { reading_of result ≡ blanks_spec.block_comment text.now }
+    ensures within { IsWithin text.now result }
+{
+    let Some(n) = comment_rest(&text[2..]) else {
+        return Err(Refusal {
+            error: LexError::UnterminatedComment,
+            len: text.len(),
+        });
+    };
+    if is_block_doc(text) {
+        return Err(Refusal {
+            error: LexError::DocComment,
+            len: 2 + n,
+        });
+    }
+    Ok(Lexeme {
+        kind: LexemeKind::Blank,
+        len: 2 + n,
+    })
+}
+
+/// What encloses a group of tokens (Rust Reference, "Delimiters"); `None` is an invisible group.
+#[derive(Clone, Copy, Debug, PartialEq, Eq, Hash)]
+pub enum Delimiter {
+    /// `( .. )`
+    Parenthesis,
+    /// `{ .. }`
+    Brace,
+    /// `[ .. ]`
+    Bracket,
+    /// An invisible group, as macros make them.
+    None,
+}
+
+/// Whether another punct follows a punct at once, as `Spacing` of proc_macro2 (Rust Reference, "Punctuation"). A comment
+/// is no punct.
+#[derive(Clone, Copy, Debug, PartialEq, Eq, Hash)]
+pub enum Spacing {
+    /// A blank, another token or the end follows.
+    Alone,
+    /// Another punct follows at once, so that the two may make one token.
+    Joint,
+}
+
+/// What is at the front of a text.
+#[derive(Clone, Copy, Debug, PartialEq, Eq, Hash)]
+pub enum LexemeKind {
+    /// White space, or a comment that is no doc comment (Rust Reference, "Whitespace", "Comments").
+    Blank,
+    /// An identifier, a reserved word or a raw identifier (Rust Reference, "Identifiers").
+    Ident,
+    /// A literal with its suffix (Rust Reference, "Tokens", "Literals").
+    Literal,
+    /// A lifetime: `'` and an identifier (Rust Reference, "Lifetimes and loop labels"). It makes two tokens, the joint
+    /// punct `'` and the identifier.
+    Lifetime,
+    /// One character of punctuation (Rust Reference, "Punctuation").
+    Punct(char, Spacing),
+    /// The opening character of a delimiter (Rust Reference, "Delimiters").
+    Open(Delimiter),
+    /// The closing character of a delimiter.
+    Close(Delimiter),
+}
+
+/// A lexeme at the front of a text.
+#[derive(Clone, Copy, Debug, PartialEq, Eq, Hash)]
+pub struct Lexeme {
+    /// What it is.
+    pub kind: LexemeKind,
+    /// How many characters it is, at least one.
+    pub len: usize,
 }

@@ -1,9 +1,9 @@
 -- The right end of a list is that of the last in it.
 use Rattle.std.proofs.Common.{◌≡◌, List, [], ◌∷◌, ◌++◌, refl}
 use Rattle.std.proofs.lemmas.List.{map-append}
-use Rattle.syn_parts.specs.Ends.{segments_open, arguments_open, bounds_open, bound_open}
-use Rattle.syn_parts.specs.Tree as t
-use Rattle.syn_parts.specs.Tree.{SegmentTree, BoundTree}
+use Rattle.syn_lower_spec.specs.Ends.{segments_open, arguments_open, bounds_open, bound_open}
+use Rattle.syn_lower_spec.specs.Tree as t
+use Rattle.syn_lower_spec.specs.Tree.{SegmentTree, BoundTree}
 use Rattle.syn_lower.specs.Ends.{segments_depth, arguments_depth, bounds_depth, bound_depth}
 
 pub last_segment_open : (xs : List SegmentTree) (x : SegmentTree) → segments_open (t.segments_of (xs ++ x ∷ [])) ≡ arguments_open x.ident x.arguments

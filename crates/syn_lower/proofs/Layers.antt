@@ -8,19 +8,19 @@ use Rattle.std.proofs.lemmas.Simd.{map-map}
 use Rattle.std.specs.Prelude.{is_some}
 use Rattle.std.specs.declared.boxed.Box.{Box}
 use Rattle.std.specs.declared.alloc.Global.{Global}
-use Rattle.syn_parts.specs.Tree as t
-use Rattle.syn_parts.specs.Tree.{TypeTree}
-use Rattle.syn_lower_generic.specs.declared.path.PathArgumentsOf.{PathArgumentsOf}
-use Rattle.syn_lower_generic.specs.declared.path.PathArgumentsOf.TheVariants as arguments
-use Rattle.syn_lower_generic.specs.declared.path.PathSegmentOf.{PathSegmentOf}
-use Rattle.syn_lower_generic.specs.declared.path.GenericArgumentOf.{GenericArgumentOf}
-use Rattle.syn_lower_generic.specs.declared.path.GenericArgumentOf.TheVariants as generic
-use Rattle.syn_lower_generic.specs.declared.path.QSelfOf.{QSelfOf}
-use Rattle.syn_lower_generic.specs.declared.ty.ReturnTypeOf.{ReturnTypeOf}
-use Rattle.syn_lower_generic.specs.declared.ty.ReturnTypeOf.TheVariants as output
-use Rattle.syn_lower_generic.specs.declared.ty.TypeParamBoundOf.{TypeParamBoundOf}
-use Rattle.syn_lower_generic.specs.declared.ty.TypeParamBoundOf.TheVariants as bound
-use Rattle.syn_lower_generic.specs.View.{values, trails, last_of, is_some_pair, mapped, lifetimes_of, delimiter_of, generic_of, arguments_of, return_of, bound_of, segment_of, qself_or}
+use Rattle.syn_lower_spec.specs.Tree as t
+use Rattle.syn_lower_spec.specs.Tree.{TypeTree}
+use Rattle.syn_lower_types.specs.declared.path.PathArgumentsOf.{PathArgumentsOf}
+use Rattle.syn_lower_types.specs.declared.path.PathArgumentsOf.TheVariants as arguments
+use Rattle.syn_lower_types.specs.declared.path.PathSegmentOf.{PathSegmentOf}
+use Rattle.syn_lower_types.specs.declared.path.GenericArgumentOf.{GenericArgumentOf}
+use Rattle.syn_lower_types.specs.declared.path.GenericArgumentOf.TheVariants as generic
+use Rattle.syn_lower_types.specs.declared.path.QSelfOf.{QSelfOf}
+use Rattle.syn_lower_types.specs.declared.ty.ReturnTypeOf.{ReturnTypeOf}
+use Rattle.syn_lower_types.specs.declared.ty.ReturnTypeOf.TheVariants as output
+use Rattle.syn_lower_types.specs.declared.ty.TypeParamBoundOf.{TypeParamBoundOf}
+use Rattle.syn_lower_types.specs.declared.ty.TypeParamBoundOf.TheVariants as bound
+use Rattle.syn_lower_types.specs.View.{values, trails, last_of, is_some_pair, mapped, lifetimes_of, delimiter_of, generic_of, arguments_of, return_of, bound_of, segment_of, qself_or}
 use Rattle.syn_lower.specs.declared.ty.«Type».{«Type», map-Type, fold_out-Type, out-Type}
 use Rattle.syn_lower.specs.declared.ty.«Type».TheOpen.{Type-F}
 use Rattle.syn_lower.specs.declared.ty.«Type».TheShapes as shapes

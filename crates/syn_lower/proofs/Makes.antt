@@ -1,20 +1,20 @@
 -- The tree of each kind of type, by its fields.
 use Rattle.std.proofs.Common.{◌≡◌, ◌∙◌, ap}
-use Rattle.syn_parts.specs.Tree as t
-use Rattle.syn_lower_generic.specs.View as parts
-use Rattle.syn_lower_generic.specs.declared.ty.TypePathOf.{TypePathOf}
-use Rattle.syn_lower_generic.specs.declared.ty.TypeMacroOf.{TypeMacroOf}
-use Rattle.syn_lower_generic.specs.declared.ty.TypeReferenceOf.{TypeReferenceOf}
-use Rattle.syn_lower_generic.specs.declared.ty.TypePtrOf.{TypePtrOf}
-use Rattle.syn_lower_generic.specs.declared.ty.TypeSliceOf.{TypeSliceOf}
-use Rattle.syn_lower_generic.specs.declared.ty.TypeArrayOf.{TypeArrayOf}
-use Rattle.syn_lower_generic.specs.declared.ty.TypeTupleOf.{TypeTupleOf}
-use Rattle.syn_lower_generic.specs.declared.ty.TypeParenOf.{TypeParenOf}
+use Rattle.syn_lower_spec.specs.Tree as t
+use Rattle.syn_lower_types.specs.View as parts
+use Rattle.syn_lower_types.specs.declared.ty.TypePathOf.{TypePathOf}
+use Rattle.syn_lower_types.specs.declared.ty.TypeMacroOf.{TypeMacroOf}
+use Rattle.syn_lower_types.specs.declared.ty.TypeReferenceOf.{TypeReferenceOf}
+use Rattle.syn_lower_types.specs.declared.ty.TypePtrOf.{TypePtrOf}
+use Rattle.syn_lower_types.specs.declared.ty.TypeSliceOf.{TypeSliceOf}
+use Rattle.syn_lower_types.specs.declared.ty.TypeArrayOf.{TypeArrayOf}
+use Rattle.syn_lower_types.specs.declared.ty.TypeTupleOf.{TypeTupleOf}
+use Rattle.syn_lower_types.specs.declared.ty.TypeParenOf.{TypeParenOf}
 use Rattle.syn_lower.specs.declared.ty.TypeNever.{TypeNever}
 use Rattle.syn_lower.specs.declared.ty.TypeInfer.{TypeInfer}
-use Rattle.syn_lower_generic.specs.declared.ty.TypeFnPtrOf.{TypeFnPtrOf}
-use Rattle.syn_lower_generic.specs.declared.ty.TypeImplTraitOf.{TypeImplTraitOf}
-use Rattle.syn_lower_generic.specs.declared.ty.TypeTraitObjectOf.{TypeTraitObjectOf}
+use Rattle.syn_lower_types.specs.declared.ty.TypeFnPtrOf.{TypeFnPtrOf}
+use Rattle.syn_lower_types.specs.declared.ty.TypeImplTraitOf.{TypeImplTraitOf}
+use Rattle.syn_lower_types.specs.declared.ty.TypeTraitObjectOf.{TypeTraitObjectOf}
 use Rattle.syn_lower.specs.declared.ty.«Type».{«Type»}
 use Rattle.syn_lower.specs.declared.ty.«Type».TheVariants as ty
 use Rattle.syn_lower.specs.View.{type_layer, type_of}

@@ -1,22 +1,22 @@
 -- A type that is no value of a kind's variant doesn't pass the kind's test.
 use Rattle.std.proofs.Common.{◌≡◌, ◌⊎◌, inl, inr, ⊎_elim, Bool, false, refl, ap, sym, ◌∙◌}
-use Rattle.syn_parts.specs.Tree.{TypeTree}
-use Rattle.syn_parts.specs.Part.{is_never, is_infer}
-use Rattle.syn_parts.specs.Kind.{is_reference, is_pointer, is_slice, is_array, is_tuple, is_paren, is_fn_pointer, is_impl_trait, is_trait_object}
+use Rattle.syn_lower_spec.specs.Tree.{TypeTree}
+use Rattle.syn_lower_spec.specs.Part.{is_never, is_infer}
+use Rattle.syn_lower_spec.specs.Kind.{is_reference, is_pointer, is_slice, is_array, is_tuple, is_paren, is_fn_pointer, is_impl_trait, is_trait_object}
 use Rattle.syn_lower.specs.declared.ty.«Type».{«Type», out-Type, roll-Type, roll-out-Type}
 use Rattle.syn_lower.specs.declared.ty.«Type».TheOpen.{Type-F}
 use Rattle.syn_lower.specs.declared.ty.«Type».TheVariants as ty
-use Rattle.syn_lower_generic.specs.declared.ty.TypeReferenceOf.{TypeReferenceOf}
-use Rattle.syn_lower_generic.specs.declared.ty.TypePtrOf.{TypePtrOf}
-use Rattle.syn_lower_generic.specs.declared.ty.TypeSliceOf.{TypeSliceOf}
-use Rattle.syn_lower_generic.specs.declared.ty.TypeArrayOf.{TypeArrayOf}
-use Rattle.syn_lower_generic.specs.declared.ty.TypeTupleOf.{TypeTupleOf}
-use Rattle.syn_lower_generic.specs.declared.ty.TypeParenOf.{TypeParenOf}
+use Rattle.syn_lower_types.specs.declared.ty.TypeReferenceOf.{TypeReferenceOf}
+use Rattle.syn_lower_types.specs.declared.ty.TypePtrOf.{TypePtrOf}
+use Rattle.syn_lower_types.specs.declared.ty.TypeSliceOf.{TypeSliceOf}
+use Rattle.syn_lower_types.specs.declared.ty.TypeArrayOf.{TypeArrayOf}
+use Rattle.syn_lower_types.specs.declared.ty.TypeTupleOf.{TypeTupleOf}
+use Rattle.syn_lower_types.specs.declared.ty.TypeParenOf.{TypeParenOf}
 use Rattle.syn_lower.specs.declared.ty.TypeNever.{TypeNever}
 use Rattle.syn_lower.specs.declared.ty.TypeInfer.{TypeInfer}
-use Rattle.syn_lower_generic.specs.declared.ty.TypeFnPtrOf.{TypeFnPtrOf}
-use Rattle.syn_lower_generic.specs.declared.ty.TypeImplTraitOf.{TypeImplTraitOf}
-use Rattle.syn_lower_generic.specs.declared.ty.TypeTraitObjectOf.{TypeTraitObjectOf}
+use Rattle.syn_lower_types.specs.declared.ty.TypeFnPtrOf.{TypeFnPtrOf}
+use Rattle.syn_lower_types.specs.declared.ty.TypeImplTraitOf.{TypeImplTraitOf}
+use Rattle.syn_lower_types.specs.declared.ty.TypeTraitObjectOf.{TypeTraitObjectOf}
 use Rattle.syn_lower.specs.View.{type_layer, type_of}
 use Rattle.syn_lower.proofs.Layers.{type_of-out}
 use Rattle.syn_lower.proofs.Makes.{makes}

@@ -2,22 +2,22 @@
 use Rattle.std.proofs.Common.{◌≡◌, List, [], ◌∷◌, refl}
 use Rattle.std.specs.Prelude.{codes}
 use Rattle.syn_tokens.specs.Tok.{Tok, ident}
-use Rattle.syn_parts.specs.Own.{alone, type_own}
-use Rattle.syn_lower_generic.specs.Printed.{type_path_printed, macro_printed, reference_printed, ptr_printed, slice_printed, array_printed, tuple_printed, paren_printed, fn_ptr_printed, impl_printed, object_printed}
-use Rattle.syn_lower_generic.proofs.Prints.{type_path_print, type_macro_print, reference_print, ptr_print, slice_print, array_print, tuple_print, paren_print, fn_ptr_print, impl_trait_print, trait_object_print}
+use Rattle.syn_lower_spec.specs.Own.{alone, type_own}
+use Rattle.syn_lower_types.specs.Printed.{type_path_printed, macro_printed, reference_printed, ptr_printed, slice_printed, array_printed, tuple_printed, paren_printed, fn_ptr_printed, impl_printed, object_printed}
+use Rattle.syn_lower_types.proofs.Prints.{type_path_print, type_macro_print, reference_print, ptr_print, slice_print, array_print, tuple_print, paren_print, fn_ptr_print, impl_trait_print, trait_object_print}
 use Rattle.syn_lower.specs.View.{type_of}
 use Rattle.syn_lower.proofs.Makes.{type-Path, type-Macro, type-Reference, type-Ptr, type-Slice, type-Array, type-Tuple, type-Paren, type-Never, type-Infer, type-FnPtr, type-ImplTrait, type-TraitObject}
-use Rattle.syn_lower_generic.specs.declared.ty.TypePathOf.{TypePathOf}
-use Rattle.syn_lower_generic.specs.declared.ty.TypeMacroOf.{TypeMacroOf}
-use Rattle.syn_lower_generic.specs.declared.ty.TypeReferenceOf.{TypeReferenceOf}
-use Rattle.syn_lower_generic.specs.declared.ty.TypePtrOf.{TypePtrOf}
-use Rattle.syn_lower_generic.specs.declared.ty.TypeSliceOf.{TypeSliceOf}
-use Rattle.syn_lower_generic.specs.declared.ty.TypeArrayOf.{TypeArrayOf}
-use Rattle.syn_lower_generic.specs.declared.ty.TypeTupleOf.{TypeTupleOf}
-use Rattle.syn_lower_generic.specs.declared.ty.TypeParenOf.{TypeParenOf}
-use Rattle.syn_lower_generic.specs.declared.ty.TypeFnPtrOf.{TypeFnPtrOf}
-use Rattle.syn_lower_generic.specs.declared.ty.TypeImplTraitOf.{TypeImplTraitOf}
-use Rattle.syn_lower_generic.specs.declared.ty.TypeTraitObjectOf.{TypeTraitObjectOf}
+use Rattle.syn_lower_types.specs.declared.ty.TypePathOf.{TypePathOf}
+use Rattle.syn_lower_types.specs.declared.ty.TypeMacroOf.{TypeMacroOf}
+use Rattle.syn_lower_types.specs.declared.ty.TypeReferenceOf.{TypeReferenceOf}
+use Rattle.syn_lower_types.specs.declared.ty.TypePtrOf.{TypePtrOf}
+use Rattle.syn_lower_types.specs.declared.ty.TypeSliceOf.{TypeSliceOf}
+use Rattle.syn_lower_types.specs.declared.ty.TypeArrayOf.{TypeArrayOf}
+use Rattle.syn_lower_types.specs.declared.ty.TypeTupleOf.{TypeTupleOf}
+use Rattle.syn_lower_types.specs.declared.ty.TypeParenOf.{TypeParenOf}
+use Rattle.syn_lower_types.specs.declared.ty.TypeFnPtrOf.{TypeFnPtrOf}
+use Rattle.syn_lower_types.specs.declared.ty.TypeImplTraitOf.{TypeImplTraitOf}
+use Rattle.syn_lower_types.specs.declared.ty.TypeTraitObjectOf.{TypeTraitObjectOf}
 use Rattle.syn_lower.specs.declared.ty.«Type».{«Type»}
 use Rattle.syn_lower.specs.declared.ty.«Type».TheVariants as ty
 use Rattle.syn_lower.specs.declared.ty.TypeNever.{TypeNever}

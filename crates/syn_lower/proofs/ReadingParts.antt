@@ -2,10 +2,10 @@
 use Rattle.std.proofs.Common.{◌≡◌, ◌+◌, ◌≤◌, false, List, Some}
 use Rattle.syn_tokens.specs.Tok.{Tok, weight}
 use Rattle.syn_tokens.specs.Input.{IsTail}
-use Rattle.syn_parts.specs.declared.label.PathStyle.{PathStyle}
-use Rattle.syn_parts.specs.Tree.{TypeTree}
-use Rattle.syn_parts.specs.Part.{QPathTree, type, qpath}
-use Rattle.syn_parts.proofs.Readable.{type_readable, qpath_readable}
+use Rattle.syn_lower_spec.specs.declared.label.PathStyle.{PathStyle}
+use Rattle.syn_lower_spec.specs.Tree.{TypeTree}
+use Rattle.syn_lower_spec.specs.Part.{QPathTree, type, qpath}
+use Rattle.syn_lower_spec.proofs.Readable.{type_readable, qpath_readable}
 
 pub one_bound_tail : (l n : List Tok) (x : TypeTree) → (type false).reads l ≡ Some (x, n) → IsTail n l
 one_bound_tail l n x h = let r = type_readable false in r.tail l n x h

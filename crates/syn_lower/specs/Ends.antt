@@ -1,8 +1,8 @@
 -- What is at the right end of a type.
 use Rattle.std.specs.Prelude.{◌≡◌, ℕ, ◌+◌, ◌<◌, Bool}
-use Rattle.syn_parts.specs.Ends.{ends_open}
-use Rattle.syn_parts.specs.Tree as t
-use Rattle.syn_parts.specs.Tree.{TypeTree, Segments, ArgumentsTree, ReturnTree, Bounds, BoundTree}
+use Rattle.syn_lower_spec.specs.Ends.{ends_open}
+use Rattle.syn_lower_spec.specs.Tree as t
+use Rattle.syn_lower_spec.specs.Tree.{TypeTree, Segments, ArgumentsTree, ReturnTree, Bounds, BoundTree}
 use Rattle.syn_lower.specs.View.{type_of}
 use Rattle.syn_lower.specs.declared.ends.End.{End}
 use Rattle.syn_lower.specs.declared.ends.End.TheVariants as end

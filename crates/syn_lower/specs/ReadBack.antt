@@ -1,9 +1,9 @@
 -- Parts that are read back, as their laws say it.
 use Rattle.std.specs.Prelude.{Option}
-use Rattle.syn_parts.specs.Part.{QPathTree}
+use Rattle.syn_lower_spec.specs.Part.{QPathTree}
 pub use Rattle.syn_lower_leaves.specs.ReadBack.{PrintsOwn, IsReadBack, IsRead}
-use Rattle.syn_lower_generic.specs.declared.path.PathOf.{PathOf}
-use Rattle.syn_lower_generic.specs.declared.path.QSelfOf.{QSelfOf}
+use Rattle.syn_lower_types.specs.declared.path.PathOf.{PathOf}
+use Rattle.syn_lower_types.specs.declared.path.QSelfOf.{QSelfOf}
 use Rattle.syn_lower.specs.View.{qself_or, path_of, type_of}
 use Rattle.syn_lower.specs.declared.ty.«Type».{«Type»}
 

@@ -1,14 +1,14 @@
 -- Types as trees, without their places, and the parts that hold types by them.
-use Rattle.syn_parts.specs.Tree as t
-use Rattle.syn_parts.specs.Tree.{TypeTree, ArgumentsTree, GenericTree, ReturnTree, BoundTree}
-use Rattle.syn_lower_generic.specs.View as parts
-pub use Rattle.syn_lower_generic.specs.View.{mapped, last_of, is_some_pair, lifetimes_of, abi_of, is_mut, segment_of, path_of, qself_of, qself_or, macro_of, trait_of, assoc_of, angle_of, arg_of, path_with}
-unfoldable pub use Rattle.syn_lower_generic.specs.View.{values, trails}
-use Rattle.syn_lower_generic.specs.declared.path.PathArgumentsOf.{PathArgumentsOf}
-use Rattle.syn_lower_generic.specs.declared.path.ParenthesizedGenericArgumentsOf.{ParenthesizedGenericArgumentsOf}
-use Rattle.syn_lower_generic.specs.declared.path.GenericArgumentOf.{GenericArgumentOf}
-use Rattle.syn_lower_generic.specs.declared.ty.ReturnTypeOf.{ReturnTypeOf}
-use Rattle.syn_lower_generic.specs.declared.ty.TypeParamBoundOf.{TypeParamBoundOf}
+use Rattle.syn_lower_spec.specs.Tree as t
+use Rattle.syn_lower_spec.specs.Tree.{TypeTree, ArgumentsTree, GenericTree, ReturnTree, BoundTree}
+use Rattle.syn_lower_types.specs.View as parts
+pub use Rattle.syn_lower_types.specs.View.{mapped, last_of, is_some_pair, lifetimes_of, abi_of, is_mut, segment_of, path_of, qself_of, qself_or, macro_of, trait_of, assoc_of, angle_of, arg_of, path_with}
+unfoldable pub use Rattle.syn_lower_types.specs.View.{values, trails}
+use Rattle.syn_lower_types.specs.declared.path.PathArgumentsOf.{PathArgumentsOf}
+use Rattle.syn_lower_types.specs.declared.path.ParenthesizedGenericArgumentsOf.{ParenthesizedGenericArgumentsOf}
+use Rattle.syn_lower_types.specs.declared.path.GenericArgumentOf.{GenericArgumentOf}
+use Rattle.syn_lower_types.specs.declared.ty.ReturnTypeOf.{ReturnTypeOf}
+use Rattle.syn_lower_types.specs.declared.ty.TypeParamBoundOf.{TypeParamBoundOf}
 use Rattle.syn_lower.specs.declared.ty.«Type».{«Type», fold-Type}
 use Rattle.syn_lower.specs.declared.ty.«Type».TheOpen.{Type-F}
 

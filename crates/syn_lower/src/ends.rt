@@ -3,13 +3,13 @@
 ghost use Rattle.std.specs.Prelude.{◌≡◌, map};
 ghost use Rattle.syn_lower.specs.Ends.{Tells, depth, segments_depth, arguments_depth, return_depth, bounds_depth};
 ghost use Rattle.syn_lower.specs.View.{type_of, values, segment_of, path_of, return_of, bound_of};
-ghost use Rattle.syn_parts.specs.Ends as spec;
-ghost use Rattle.syn_parts.specs.Tree as t;
+ghost use Rattle.syn_lower_spec.specs.Ends as spec;
+ghost use Rattle.syn_lower_spec.specs.Tree as t;
 
 use crate::path::{Path, PathArguments, PathSegment};
 use crate::ty::{ReturnType, Type, TypeParamBound};
-use syn_lower_leaves::text::stands_alone;
-use syn_lower_lists::punctuated::Punctuated;
+use syn_lower_leaves::leaf::stands_alone;
+use syn_lower_leaves::punctuated::Punctuated;
 use syn_tokens::token::Plus;
 
 /// What is at the right end.

@@ -1,18 +1,18 @@
 //! The types of each kind.
-#![tactic(auto, using(syn_parts::proofs::Readable::readables))]
+#![tactic(auto, using(syn_lower_spec::proofs::Readable::readables))]
 
 ghost use Rattle.std.specs.Prelude.{◌≡◌, Some};
 ghost use Rattle.syn_lower.specs.View.{type_of};
 ghost use Rattle.syn_lower.specs.declared.ty.«Type».TheVariants as variant;
-ghost use Rattle.syn_parts.specs.Kind as kinds;
-ghost use Rattle.syn_parts.specs.Part as part;
+ghost use Rattle.syn_lower_spec.specs.Kind as kinds;
+ghost use Rattle.syn_lower_spec.specs.Part as part;
 
 use crate::ty::{
     Type, TypeArray, TypeFnPtr, TypeImplTrait, TypeInfer, TypeNever, TypeParen, TypePtr,
     TypeReference, TypeSlice, TypeTraitObject, TypeTuple,
 };
-use syn_lower_generic::kinds::{Kind, OfKind};
 use syn_lower_leaves::ahead::ahead;
+use syn_lower_types::kinds::{Kind, OfKind};
 use syn_tokens::buffer::{Parse, ParseBuffer};
 use syn_tokens::error::Result;
 
@@ -171,7 +171,7 @@ impl Kind<TypeTraitObject> for Type {
 }
 
 impl Parse for TypeNever {
-    ghost use Rattle.syn_parts.specs.Tree.{TypeTree};
+    ghost use Rattle.syn_lower_spec.specs.Tree.{TypeTree};
 
     ghost Seen = { TypeTree };
 
@@ -191,7 +191,7 @@ impl Parse for TypeNever {
 }
 
 impl Parse for TypeInfer {
-    ghost use Rattle.syn_parts.specs.Tree.{TypeTree};
+    ghost use Rattle.syn_lower_spec.specs.Tree.{TypeTree};
 
     ghost Seen = { TypeTree };
 

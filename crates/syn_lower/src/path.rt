@@ -1,11 +1,11 @@
-//! Paths (Rust Reference, "Paths"): the parts of `syn_lower_generic` over `Type`, under syn's names.
+//! Paths (Rust Reference, "Paths"): the parts of `syn_lower_types` over `Type`, under syn's names.
 
 use crate::ty::Type;
-use syn_lower_generic::path::{
+pub use syn_lower_spec::label::PathStyle;
+use syn_lower_types::path::{
     AngleBracketedGenericArgumentsOf, AssocTypeOf, GenericArgumentOf,
     ParenthesizedGenericArgumentsOf, PathArgumentsOf, PathOf, PathSegmentOf, QSelfOf,
 };
-pub use syn_parts::label::PathStyle;
 
 /// A path: segments with `::` between, and perhaps one in front.
 pub type Path = PathOf<Type>;

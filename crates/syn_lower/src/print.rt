@@ -3,14 +3,14 @@
 
 ghost use Rattle.std.specs.Prelude.{◌≡◌, ◌++◌, [], ◌∷◌, IfErr, OnOk, OnErr};
 ghost use Rattle.syn_lower.specs.View.{type_of, path_with, qself_or};
-ghost use Rattle.syn_lower_generic.specs.View.{path_of};
-ghost use Rattle.syn_parts.specs.Own.{alone, type_own};
+ghost use Rattle.syn_lower_types.specs.View.{path_of};
+ghost use Rattle.syn_lower_spec.specs.Own.{alone, type_own};
 ghost use Rattle.syn_tokens.specs.Input.{IsFront};
 ghost use Rattle.syn_tokens.specs.Tok as tok;
 
 use crate::path::{Path, QSelf};
 use crate::ty::{Type, TypeInfer, TypeNever};
-use syn_lower_generic::print::print_with_qself;
+use syn_lower_types::print::print_with_qself;
 use syn_tokens::buffer::ToTokens;
 use syn_tokens::error::{ErrorKind, Result};
 use syn_tokens::tree::TokenStream;
@@ -36,7 +36,7 @@ impl ToTokens for TypeInfer {
 
 impl ToTokens for Type {
     ghost use Rattle.syn_lower.specs.View.{type_of};
-    ghost use Rattle.syn_parts.specs.Own.{type_own};
+    ghost use Rattle.syn_lower_spec.specs.Own.{type_own};
 
     ghost printed = { λ x. type_own (type_of x) [] };
 
@@ -65,7 +65,7 @@ impl ToTokens for Type {
 /// says how many segments come before `>`; where the path has fewer, all do. `as` is printed exactly where some do,
 /// whatever `as_token` is. It is refused as `OutOfMemory` alone, and the tokens that were there then stay in front.
 #[inline(always)]
-#[tactic(auto, using(syn_lower_generic::proofs::Prints::qpaths))]
+#[tactic(auto, using(syn_lower_types::proofs::Prints::qpaths))]
 pub fn print_qpath(qself: &Option<QSelf>, path: &Path, tokens: &mut TokenStream) -> Result<()>
     ensures ok { OnOk result (tokens.new ≡ tokens.old ++ type_own (path_with (qself_or type_of qself.now) (path_of type_of path.now)) []) }
     ensures err { OnErr result (IsFront tokens.old tokens.new) }

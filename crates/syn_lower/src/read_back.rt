@@ -1,14 +1,14 @@
 //! Whether types are read back from their own tokens. The tests of the parts, and what it means that one is read back, stand
-//! in `syn_lower_generic::read_back`; here are those of `Type`, on which they are.
+//! in `syn_lower_types::read_back`; here are those of `Type`, on which they are.
 
 ghost use Rattle.std.specs.Prelude.{◌≡◌, true, false};
 ghost use Rattle.syn_lower.specs.View.{type_of};
-ghost use Rattle.syn_parts.specs.Fits as spec;
+ghost use Rattle.syn_lower_spec.specs.Fits as spec;
 
 use crate::ty::Type;
-use syn_lower_generic::fits::{bounds_end_before_colons, output_ends_before_colons};
-pub use syn_lower_generic::read_back::qpath_is_read_back;
-use syn_lower_generic::types::FitTypes;
+use syn_lower_types::fits::{bounds_end_before_colons, output_ends_before_colons};
+pub use syn_lower_types::read_back::qpath_is_read_back;
+use syn_lower_types::types::FitTypes;
 
 #[tactic(auto, using(crate::proofs::Makes::makes))]
 impl FitTypes for Type {
@@ -32,7 +32,7 @@ impl FitTypes for Type {
     }
 
     #[cycle(fits)]
-    #[tactic(auto, using(crate::proofs::Makes::makes, syn_lower_generic::proofs::Fitting::colons))]
+    #[tactic(auto, using(crate::proofs::Makes::makes, syn_lower_types::proofs::Fitting::colons))]
     fn ends_before_colons(&self) -> bool {
         match self {
             Type::Path(_) => false,

@@ -1,30 +1,30 @@
-//! The reader of types, which ties the knot of `syn_lower_readers`, and those that are on it.
-#![tactic(auto, using(syn_parts::proofs::Readable::readables))]
+//! The reader of types, which ties the knot of `grammar`, and those that are on it.
+#![tactic(auto, using(syn_lower_spec::proofs::Readable::readables))]
 
 ghost use Rattle.std.specs.Prelude.{◌≡◌, ◌≤◌, ◌+◌, IfErr, IfOk, Some, true, false, if◌then◌else◌};
-ghost use Rattle.syn_lower_generic.specs.View as view;
+ghost use Rattle.syn_lower_types.specs.View as view;
 ghost use Rattle.syn_lower_leaves.specs.Reads.{Reads};
 ghost use Rattle.syn_lower.specs.View.{path_of, qself_or, type_of};
-ghost use Rattle.syn_parts.specs.Part as part;
+ghost use Rattle.syn_lower_spec.specs.Part as part;
 ghost use Rattle.syn_tokens.specs.Input.{IsAfter};
 ghost use Rattle.syn_tokens.specs.Tok.{weight};
 
+use crate::grammar::Grammar;
 use crate::path::{Path, QSelf};
 use crate::ty::Type;
-use syn_lower_generic::path::{
+use syn_lower_leaves::ahead::{ReadByForm, ahead};
+use syn_lower_spec::label::PathStyle;
+use syn_lower_types::path::{
     AngleBracketedGenericArgumentsOf, AssocTypeOf, GenericArgumentOf,
     ParenthesizedGenericArgumentsOf, PathOf, PathSegmentOf, QSelfOf, style,
 };
-use syn_lower_generic::ty::{BareFnArgOf, ReturnTypeOf, TraitBoundOf, TypeParamBoundOf};
-use syn_lower_generic::types::ReadTypes;
-use syn_lower_leaves::ahead::{ReadByForm, ahead};
-use syn_lower_readers::grammar::Grammar;
-use syn_parts::label::PathStyle;
+use syn_lower_types::ty::{BareFnArgOf, ReturnTypeOf, TraitBoundOf, TypeParamBoundOf};
+use syn_lower_types::types::ReadTypes;
 use syn_tokens::buffer::{Parse, ParseBuffer};
 use syn_tokens::error::Result;
 
 /// Reads a type; after its `impl` or `dyn` there may be several bounds, or one.
-#[tactic(auto, using(syn_parts::proofs::Parts::type_is))]
+#[tactic(auto, using(syn_lower_spec::proofs::Parts::type_is))]
 pub fn ty(input: &mut ParseBuffer<'_>, several: bool) -> Result<Box<Type>>
     ensures value { Reads (λ x. type_of x.value) ((part.type several).reads input.old.rest) result input.new.rest }
     ensures noted { input.new.noted ≡ input.old.noted }
@@ -134,7 +134,7 @@ impl ReadTypes for Type {
 }
 
 impl ReadByForm for Type {
-    ghost use Rattle.syn_parts.specs.Tree.{TypeTree};
+    ghost use Rattle.syn_lower_spec.specs.Tree.{TypeTree};
 
     ghost Seen = { TypeTree };
 
@@ -148,7 +148,7 @@ impl ReadByForm for Type {
 }
 
 impl Parse for Type {
-    ghost use Rattle.syn_parts.specs.Tree.{TypeTree};
+    ghost use Rattle.syn_lower_spec.specs.Tree.{TypeTree};
 
     ghost Seen = { TypeTree };
 

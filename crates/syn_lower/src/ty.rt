@@ -1,18 +1,18 @@
-//! Types (Rust Reference, "Types"). The parts that hold types are in `syn_lower_generic`, generic in them; here they have syn's
+//! Types (Rust Reference, "Types"). The parts that hold types are in `syn_lower_types`, generic in them; here they have syn's
 //! names, over `Type`.
 
 ghost use Rattle.std.specs.Prelude.{◌≡◌};
-ghost use Rattle.syn_lower_generic.specs.View as view;
+ghost use Rattle.syn_lower_types.specs.View as view;
 ghost use Rattle.syn_lower.specs.View.{type_of};
-ghost use Rattle.syn_parts.specs.Tree as t;
+ghost use Rattle.syn_lower_spec.specs.Tree as t;
 
-use syn_lower_generic::ty::{
+pub use syn_lower_leaves::ty::{Abi, BoundLifetimes, PointerMutability};
+use syn_lower_types::ty::{
     BareFnArgOf, ReturnTypeOf, TraitBoundOf, TypeArrayOf, TypeFnPtrOf, TypeImplTraitOf,
     TypeMacroOf, TypeParamBoundOf, TypeParenOf, TypePathOf, TypePtrOf, TypeReferenceOf,
     TypeSliceOf, TypeTraitObjectOf, TypeTupleOf,
 };
-use syn_lower_generic::types::{HasTree, IsType};
-pub use syn_lower_lists::ty::{Abi, BoundLifetimes, PointerMutability};
+use syn_lower_types::types::{HasTree, IsType};
 use syn_tokens::token::{Not, Underscore};
 
 /// A type.

@@ -1,20 +1,20 @@
 -- What is printed is read back.
 use Rattle.std.proofs.Common.{◌≡◌, Bool, true, false, not, List, [], ◌∷◌, ◌++◌, map, Some, refl, ap, ◌∙◌}
 use Rattle.syn_tokens.specs.Tok.{Tok}
-use Rattle.syn_parts.specs.declared.label.LitKind.TheVariants as kind
-use Rattle.syn_parts.specs.Text.{Text}
-use Rattle.syn_parts.specs.Tree.{AttributeTree}
-use Rattle.syn_parts.specs.Form.{Form}
-use Rattle.syn_parts.specs.Mark.{sign_at, pound}
-use Rattle.syn_parts.specs.Part.{pound_bang, outer_body, inner_body, outer_attributes, inner_attributes}
-use Rattle.syn_parts.specs.Own.{attribute_own, block_own}
-use Rattle.syn_parts.specs.Fits.{lit_fits, of_kind_fits}
-use Rattle.syn_parts.specs.Laws.{IsExact}
-use Rattle.syn_parts.proofs.Forms.{more_stands}
-use Rattle.syn_parts.proofs.Marks.{pound_present, pound_bang_present}
-use Rattle.syn_parts.proofs.Parts.{outer_body_alike, inner_body_alike}
-use Rattle.syn_parts.proofs.ReadBack.{verbatim_bracket_back}
-use Rattle.syn_parts.proofs.Same.{both_true, not_true}
+use Rattle.syn_lower_spec.specs.declared.label.LitKind.TheVariants as kind
+use Rattle.syn_lower_spec.specs.Text.{Text}
+use Rattle.syn_lower_spec.specs.Tree.{AttributeTree}
+use Rattle.syn_lower_spec.specs.Form.{Form}
+use Rattle.syn_lower_spec.specs.Mark.{sign_at, pound}
+use Rattle.syn_lower_spec.specs.Part.{pound_bang, outer_body, inner_body, outer_attributes, inner_attributes}
+use Rattle.syn_lower_spec.specs.Own.{attribute_own, block_own}
+use Rattle.syn_lower_spec.specs.Fits.{lit_fits, of_kind_fits}
+use Rattle.syn_lower_spec.specs.Laws.{IsExact}
+use Rattle.syn_lower_spec.proofs.Forms.{more_stands}
+use Rattle.syn_lower_spec.proofs.Marks.{pound_present, pound_bang_present}
+use Rattle.syn_lower_spec.proofs.Parts.{outer_body_alike, inner_body_alike}
+use Rattle.syn_lower_spec.proofs.ReadBack.{verbatim_bracket_back}
+use Rattle.syn_lower_spec.proofs.Same.{both_true, not_true}
 use Rattle.syn_lower_leaves.specs.ReadBack.{all_outer, all_inner, all_printed}
 use Rattle.syn_lower_leaves.specs.View.{is_inner, attribute_of}
 use Rattle.syn_lower_leaves.specs.declared.attr.Attribute.{Attribute}

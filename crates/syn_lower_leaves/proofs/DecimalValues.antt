@@ -8,8 +8,8 @@ use Rattle.std.proofs.lemmas.Bool.Decides.{nat_tests}
 use Rattle.std.proofs.lemmas.Fmt.{decimal_by_steps_wide}
 use Rattle.std.proofs.lemmas.List.{append-nil, append_assoc}
 use Rattle.std.proofs.lemmas.List.Folds.{list_all-append}
-use Rattle.syn_parts.specs.Text.{Text, byte_at, has_radix}
-use Rattle.syn_parts.specs.Pat.{digit_value}
+use Rattle.syn_lower_spec.specs.Text.{Text, byte_at, has_radix}
+use Rattle.syn_lower_spec.specs.Pat.{digit_value}
 use Rattle.syn_lower_leaves.specs.Value.{digits_value, int_value, base, behind_prefix}
 
 by_digit : (v c d : ℕ) (r : Text) → (c == 95) ≡ false → nat_lt (digit_value c) 10 ≡ true → digit_value c ≡ d

@@ -3,8 +3,8 @@ use Rattle.std.proofs.Common.{◌≡◌, ℕ, zero, suc, ◌+◌, ◌*◌, ◌^�
 use Rattle.std.specs.Prelude.{nat_lt, if◌then◌else◌, filter, encode_utf8, encode_utf8_all}
 use Rattle.std.proofs.lemmas.Bool.Decides.{nat_tests}
 use native.Mathlib.Nat.{mul-suc}
-use Rattle.syn_parts.specs.Text.{Text}
-use Rattle.syn_parts.specs.Pat.{digit_value}
+use Rattle.syn_lower_spec.specs.Text.{Text}
+use Rattle.syn_lower_spec.specs.Pat.{digit_value}
 use Rattle.syn_lower_leaves.specs.Value.{digits_value, in_u128, is_no_underscore}
 
 -- ---- a value that is too large stays so

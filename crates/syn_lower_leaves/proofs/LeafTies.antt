@@ -4,11 +4,11 @@ use Rattle.std.specs.Option.{option_eq}
 use Rattle.std.specs.Cmp.Lexicographic.{pointwise}
 use Rattle.syn_tokens.specs.Tok.{Tok}
 use Rattle.syn_tokens.specs.Same.{same_list, same_list-true, same_list_equiv}
-use Rattle.syn_parts.specs.declared.label.LitKind.{LitKind}
-use Rattle.syn_parts.specs.declared.label.LitKind.TheVariants as kind
-use Rattle.syn_parts.specs.Text.{Text, is_number}
-use Rattle.syn_parts.specs.Tree.{LitTree, AttributeTree}
-use Rattle.syn_lower_leaves.specs.Equal.{IsEqualityOf}
+use Rattle.syn_lower_spec.specs.declared.label.LitKind.{LitKind}
+use Rattle.syn_lower_spec.specs.declared.label.LitKind.TheVariants as kind
+use Rattle.syn_lower_spec.specs.Text.{Text, is_number}
+use Rattle.syn_lower_spec.specs.Tree.{LitTree, AttributeTree}
+use Rattle.syn_lower_spec.specs.Equal.{IsEqualityOf}
 use Rattle.syn_lower_leaves.specs.View.{signed, lifetime_of, attribute_of, is_inner, lit_of, lit_str_of, lit_int_of, lit_float_of, delimiter_of}
 use Rattle.syn_lower_leaves.specs.declared.lifetime.Lifetime.{Lifetime}
 use Rattle.syn_lower_leaves.specs.declared.lit.Lit.{Lit}

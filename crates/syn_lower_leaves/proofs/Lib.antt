@@ -1,9 +1,6 @@
 pub mod Numbers
-pub mod LitFits
-pub mod Groups
-pub mod Loops
-pub mod AttrOwn
 pub mod ReadingAttributes
+pub mod Loops
 pub mod Backs
 pub mod Ties
 pub mod LeafTies
@@ -13,3 +10,6 @@ pub mod Quotes
 pub mod ValueRows
 pub mod Written
 pub mod Made
+pub mod Puncts
+pub mod Owns
+pub mod Fitting

@@ -12,11 +12,11 @@ use Rattle.unicode_ident.proofs.IdentLemmas.{is_xid_start-ascii, is_xid_continue
 use Rattle.syn_lexer.specs.Lex.{front, reading, token, of_reading}
 use Rattle.syn_lexer.specs.Words.{literal_to, suffix_len}
 use Rattle.syn_lexer.specs.Quotes.{closed, string_rest, is_within_character, is_character, character_len}
-use Rattle.syn_lexer.specs.declared.lexeme.LexemeKind.{LexemeKind}
-use Rattle.syn_lexer.specs.declared.lexeme.LexemeKind.TheVariants.{Literal}
+use Rattle.syn_lexer.specs.declared.front.LexemeKind.{LexemeKind}
+use Rattle.syn_lexer.specs.declared.front.LexemeKind.TheVariants.{Literal}
 use Rattle.syn_tokens.specs.Lex.{IsIdentText, IsLiteralText}
-use Rattle.syn_parts.specs.Text.{Text}
-use Rattle.syn_parts.specs.Pat.{digit_value}
+use Rattle.syn_lower_spec.specs.Text.{Text}
+use Rattle.syn_lower_spec.specs.Pat.{digit_value}
 use Rattle.syn_lower_leaves.specs.declared.quoted.Style.{Style}
 use Rattle.syn_lower_leaves.specs.View.{signed}
 use Rattle.syn_lower_leaves.specs.Value.{simple_escape, hex_escape, is_plain, single, content, char_value, byte_value, str_value, byte_str_value, bool_value}

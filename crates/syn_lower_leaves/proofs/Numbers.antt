@@ -1,13 +1,15 @@
 -- A number's text begins with a digit, so that its sign is told apart.
-use Rattle.std.proofs.Common.{◌≡◌, ℕ, Bool, true, false, ◌==◌, [], ◌∷◌, Option, Some, None, refl, ap, arith}
+use Rattle.std.proofs.Common.{◌≡◌, ℕ, Bool, true, false, ◌==◌, [], ◌∷◌, Option, Some, None, refl, ap, arith, ◌&&◌, not, is_some}
 use Rattle.std.specs.Prelude.{if◌then◌else◌}
 use Rattle.std.proofs.lemmas.Grind.{common_steps}
 use Rattle.syn_tokens.specs.Tok.{literal}
-use Rattle.syn_parts.specs.declared.label.LitKind.TheVariants as kind
-use Rattle.syn_parts.specs.Text.{Text, is_number}
-use Rattle.syn_parts.specs.Own.{alone, lit_own, number_own}
-use Rattle.syn_lower_leaves.specs.Printed.{number_printed}
+use Rattle.syn_lower_spec.specs.declared.label.LitKind.TheVariants as kind
+use Rattle.syn_lower_spec.specs.Text.{Text, is_number, kind_of}
+use Rattle.syn_lower_spec.specs.Own.{alone, lit_own, number_own}
+use Rattle.syn_lower_leaves.specs.Signed.{number_printed}
 use Rattle.syn_lower_leaves.specs.View.{signed}
+use Rattle.syn_lower_spec.specs.declared.label.LitKind.{LitKind}
+use Rattle.syn_lower_spec.specs.Fits.{has_kind, number_fits}
 
 pub no_sign : (c : ℕ) (text : Text) → is_number (c ∷ text) ≡ true → (c == 45) ≡ false
 unfolding is_number
@@ -28,3 +30,18 @@ unfolding lit_own
 float_own m text h = number_own-signed m text h
 
 pub ruleset numbers = (int_own, float_own)
+
+-- ---- whether a number is read back, by the kind of its text
+
+-- with its sign
+pub signed_by : {M : Type 0} (m : Option M) (text : Text) (k : LitKind) → is_number text ≡ true → number_fits k (signed m text) ≡ has_kind (kind_of text) k
+unfolding is_number kind_of
+signed_by None [] k h = absurd cc
+signed_by None (c ∷ text) k h = rw (no_sign c text h) refl
+signed_by (Some m) text k h = rw h refl
+
+-- without one
+pub unsigned_by : {M : Type 0} (m : Option M) (text : Text) (k : LitKind) → has_kind (kind_of (signed m text)) k ≡ (not (is_some m) && has_kind (kind_of text) k)
+unfolding is_number kind_of
+unsigned_by None text k = refl
+unsigned_by (Some m) text k = refl

@@ -3,7 +3,7 @@ use Rattle.std.proofs.Common.{◌≡◌, ℕ, zero, suc, ◌+◌, ◌-◌, ◌*�
 use Rattle.std.specs.Prelude.{option_map, option_to_list, encode_utf8_all, if◌then◌else◌}
 use Rattle.std.proofs.lemmas.Str.{encodes-append}
 use Rattle.syn_lower_leaves.specs.declared.quoted.Style.{Style}
-use Rattle.syn_parts.specs.Text.{Text}
+use Rattle.syn_lower_spec.specs.Text.{Text}
 use Rattle.syn_lower_leaves.specs.Value.{content, closes, piece, joined, Piece}
 
 -- ---- digits in braces

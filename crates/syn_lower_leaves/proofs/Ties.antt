@@ -7,8 +7,8 @@ use mathlib.Core.Logic.{inl, inr, ⊎_elim}
 use denote.Hole.Compared.{Rel, Agree, within, compared, Local, settled}
 use Rattle.std.specs.Cmp.Lexicographic.{pointwise}
 use Rattle.std.proofs.lemmas.Slice.Eq.{bytes_eq-Decides}
-use Rattle.syn_parts.proofs.Same.{both_true}
-use Rattle.syn_lower_leaves.specs.Equal.{IsEqualityOf}
+use Rattle.syn_lower_spec.proofs.Same.{both_true}
+use Rattle.syn_lower_spec.specs.Equal.{IsEqualityOf}
 use Rattle.syn_lower_leaves.specs.View.{mapped}
 
 both_of : (a b : Bool) → a ≡ true → b ≡ true → (a && b) ≡ true

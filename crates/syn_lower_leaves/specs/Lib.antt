@@ -1,10 +1,10 @@
 pub mod View
-pub mod Equal
+pub mod Signed
 pub mod Printed
 pub mod Reads
 pub mod ReadBack
-pub mod Verbatim
 pub mod Value
 pub mod ValueRows
 pub mod Parsed
 pub mod Written
+pub mod Punct

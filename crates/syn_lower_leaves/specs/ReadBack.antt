@@ -2,7 +2,7 @@
 use Rattle.std.specs.Prelude.{◌≡◌, ◌++◌, Bool, true, not, List, [], ◌∷◌, Some}
 use Rattle.std.specs.List.{list_all}
 use Rattle.syn_tokens.specs.Tok.{Tok}
-use Rattle.syn_parts.specs.Form.{Test, Form}
+use Rattle.syn_lower_spec.specs.Form.{Test, Form}
 use Rattle.syn_lower_leaves.specs.declared.attr.Attribute.{Attribute}
 use Rattle.syn_lower_leaves.specs.View.{is_inner}
 

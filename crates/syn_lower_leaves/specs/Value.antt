@@ -5,8 +5,8 @@ use Rattle.std.specs.Prelude.{ℕ, ◌+◌, ◌-◌, ◌*◌, ◌^◌, ◌++◌,
 use Rattle.std.specs.Str.{bytes_eq}
 use Rattle.std.specs.List.{prefix_len}
 use Rattle.syn_lower_leaves.specs.declared.quoted.Style.{Style}
-use Rattle.syn_parts.specs.Text.{Text, is_digit, byte_at, has_radix}
-use Rattle.syn_parts.specs.Pat.{digit_value, base_of}
+use Rattle.syn_lower_spec.specs.Text.{Text, is_digit, byte_at, has_radix}
+use Rattle.syn_lower_spec.specs.Pat.{digit_value, base_of}
 
 -- ---- integers ("Integer literal expressions")
 

@@ -1,10 +1,10 @@
 -- The parts that hold no others as trees without places.
-use Rattle.std.specs.Prelude.{Bool, true, false, ◌∷◌, Option, Some, None}
-use Rattle.syn_lexer.specs.declared.lexeme.Delimiter.{Delimiter}
-use Rattle.syn_lexer.specs.declared.lexeme.Delimiter.TheVariants as del
-use Rattle.syn_parts.specs.declared.label.LitKind.TheVariants as kind
-use Rattle.syn_parts.specs.Text.{Text}
-use Rattle.syn_parts.specs.Tree.{LitTree, AttributeTree}
+use Rattle.std.specs.Prelude.{Bool, true, false, ◌∷◌, Option, Some, None, not, ◌&&◌, List, [], ◌++◌, map, is_some}
+use Rattle.syn_lexer.specs.declared.front.Delimiter.{Delimiter}
+use Rattle.syn_lexer.specs.declared.front.Delimiter.TheVariants as del
+use Rattle.syn_lower_spec.specs.declared.label.LitKind.TheVariants as kind
+use Rattle.syn_lower_spec.specs.Text.{Text}
+use Rattle.syn_lower_spec.specs.Tree.{LitTree, AttributeTree, LifetimesTree}
 use Rattle.syn_lower_leaves.specs.declared.lifetime.Lifetime.{Lifetime}
 use Rattle.syn_lower_leaves.specs.declared.lit.Lit.{Lit}
 use Rattle.syn_lower_leaves.specs.declared.lit.Lit.TheVariants as lit
@@ -16,6 +16,13 @@ use Rattle.syn_lower_leaves.specs.declared.attr.AttrStyle.{AttrStyle}
 use Rattle.syn_lower_leaves.specs.declared.attr.AttrStyle.TheVariants as style
 use Rattle.syn_lower_leaves.specs.declared.mac.MacroDelimiter.{MacroDelimiter}
 use Rattle.syn_lower_leaves.specs.declared.mac.MacroDelimiter.TheVariants as mac
+use Rattle.std.specs.declared.boxed.Box.{Box}
+use Rattle.std.specs.declared.alloc.Global.{Global}
+use Rattle.syn_lower_leaves.specs.declared.punctuated.Punctuated.{Punctuated}
+use Rattle.syn_lower_leaves.specs.declared.ty.BoundLifetimes.{BoundLifetimes}
+use Rattle.syn_lower_leaves.specs.declared.ty.PointerMutability.{PointerMutability}
+use Rattle.syn_lower_leaves.specs.declared.ty.PointerMutability.TheVariants as pointer
+use Rattle.syn_lower_leaves.specs.declared.ty.Abi.{Abi}
 
 abbrev pub mapped : {A B : Type 0} → (A → B) → Option A → Option B
 mapped f None = None
@@ -59,3 +66,35 @@ abbrev pub delimiter_of : MacroDelimiter → Delimiter
 delimiter_of (mac.Paren d) = del.Parenthesis
 delimiter_of (mac.Brace d) = del.Brace
 delimiter_of (mac.Bracket d) = del.Bracket
+
+-- ---- lists with puncts by their values, and the parts of types that hold no types as trees, without their places
+
+-- ---- lists with puncts
+
+abbrev pub last_of : {A : Type 0} → Option (Box A Global) → List A
+last_of None = []
+last_of (Some b) = b.value ∷ []
+
+-- the values of a list with puncts
+unfoldable pub values : {A P : Type 0} → Punctuated A P → List A
+values p = map (λ q. q.0) p.inner.items ++ last_of p.last
+
+abbrev pub is_some_pair : {A : Type 0} → List A → Bool
+is_some_pair [] = false
+is_some_pair (x ∷ xs) = true
+
+-- whether a punct ends it
+unfoldable pub trails : {A P : Type 0} → Punctuated A P → Bool
+trails p = is_some_pair p.inner.items && not (is_some p.last)
+
+-- ---- parts that hold no types
+
+abbrev pub lifetimes_of : BoundLifetimes → LifetimesTree
+lifetimes_of x = (map lifetime_of (values x.lifetimes), trails x.lifetimes)
+
+abbrev pub abi_of : Abi → Option LitTree
+abi_of x = mapped lit_str_of x.name
+
+abbrev pub is_mut : PointerMutability → Bool
+is_mut (pointer.Const c) = false
+is_mut (pointer.Mut m) = true

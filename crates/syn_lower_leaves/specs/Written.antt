@@ -3,7 +3,7 @@
 use Rattle.std.specs.Prelude.{◌≡◌, ℕ, ◌/◌, ◌%◌, Bool, true, false, not, ◌||◌, ◌&&◌, ◌==◌, nat_le, if◌then◌else◌, List, [], ◌∷◌, ◌++◌, codes, chars, flat_map}
 use Rattle.std.specs.Char.{digit_char}
 use Rattle.syn_tokens.specs.Lex.{IsLiteralText}
-use Rattle.syn_parts.specs.Text.{Text, is_number, is_float_text}
+use Rattle.syn_lower_spec.specs.Text.{Text, is_number, is_float_text}
 use Rattle.syn_lower_leaves.specs.Value.{is_plain}
 
 -- no control character; of a byte, one of ASCII

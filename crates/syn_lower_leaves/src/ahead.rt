@@ -1,7 +1,7 @@
 //! Reading on a fork: what each reader of a part has in common with the others.
 
 ghost use Rattle.std.specs.Prelude.{◌≡◌, ◌≤◌, ◌+◌, IfErr, IfOk, List, None, Some};
-ghost use Rattle.syn_parts.specs.Laws.{IsReadable};
+ghost use Rattle.syn_lower_spec.specs.Laws.{IsReadable};
 ghost use Rattle.syn_tokens.specs.Input.{IsAfter, Reaches};
 ghost use Rattle.syn_tokens.specs.Tok.{Tok, weight};
 
@@ -12,7 +12,7 @@ use syn_tokens::error::Result;
 pub trait ReadByForm {
     ghost use Rattle.std.specs.Prelude.{List, ℕ};
     ghost use Rattle.syn_lower_leaves.specs.Reads.{Reads};
-    ghost use Rattle.syn_parts.specs.Form.{Form};
+    ghost use Rattle.syn_lower_spec.specs.Form.{Form};
     ghost use Rattle.syn_tokens.specs.Tok.{Tok};
     ghost use Rattle.syn_tokens.specs.declared.error.ErrorKind.{ErrorKind};
 

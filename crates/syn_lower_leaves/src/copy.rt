@@ -5,8 +5,8 @@ ghost use Rattle.syn_lower_leaves.specs.View.{lit_float_of, lit_int_of, lit_of, 
 
 use crate::lit::{Lit, LitBool, LitByte, LitByteStr, LitCStr, LitChar, LitFloat, LitInt, LitStr};
 use std::alloc::Global;
-use syn_tokens::copy::{copy_ident, copy_literal};
 use syn_tokens::error::{ErrorKind, Result};
+use syn_tokens::tree::{copy_ident, copy_literal};
 
 impl LitStr {
     /// A copy, with its place. It is refused only where memory runs out.

@@ -4,12 +4,12 @@ ghost use Rattle.std.specs.Prelude.{map, not, true};
 ghost use Rattle.syn_lower_leaves.specs.ReadBack.{IsReadBack, IsRead, all_outer, all_inner, all_printed};
 ghost use Rattle.syn_lower_leaves.specs.ValueRows as rows;
 ghost use Rattle.syn_lower_leaves.specs.View as view;
-ghost use Rattle.syn_parts.specs.Fits as fits;
-ghost use Rattle.syn_parts.specs.Fits.{closed};
-ghost use Rattle.syn_parts.specs.Mark.{pound};
-ghost use Rattle.syn_parts.specs.Part as part;
-ghost use Rattle.syn_parts.specs.Part.{pound_bang};
-ghost use Rattle.syn_parts.specs.declared.label.LitKind.TheVariants as kind;
+ghost use Rattle.syn_lower_spec.specs.Fits as fits;
+ghost use Rattle.syn_lower_spec.specs.Fits.{closed};
+ghost use Rattle.syn_lower_spec.specs.Mark.{pound};
+ghost use Rattle.syn_lower_spec.specs.Part as part;
+ghost use Rattle.syn_lower_spec.specs.Part.{pound_bang};
+ghost use Rattle.syn_lower_spec.specs.declared.label.LitKind.TheVariants as kind;
 
 use crate::attr::Attribute;
 use crate::block::Block;

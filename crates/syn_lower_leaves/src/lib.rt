@@ -1,11 +1,12 @@
-//! The lower parts that hold no others: literals, lifetimes, attributes, blocks and the delimiters of macros, as in syn; and
-//! what the readers of all lower parts share: the tokens at the front of the input, the groups whose tokens are verbatim.
+//! `Lit`, `Lifetime`, `Attribute`, `Punctuated` and the other lower parts that hold no types, and what the readers of all
+//! lower parts share.
 #![tactic(auto)]
 
 pub mod ahead;
 pub mod attr;
 pub mod block;
 mod copy;
+pub mod fits;
 pub mod front;
 pub mod laws;
 pub mod leaf;
@@ -15,10 +16,11 @@ pub mod mac;
 mod make;
 mod number;
 mod parse;
-mod print;
+pub mod print;
+pub mod punctuated;
 mod quoted;
 pub mod read_back;
+pub mod readers;
 pub mod same;
-pub mod text;
+pub mod ty;
 mod value;
-pub mod verbatim;

@@ -1,7 +1,6 @@
 //! Lifetimes and loop labels (Rust Reference, "Lifetimes and loop labels").
 
-use syn_tokens::span::Span;
-use syn_tokens::tree::Ident;
+use syn_tokens::tree::{Ident, Span};
 
 /// A lifetime: an apostrophe and a word, which may be a reserved one.
 #[derive(Debug, Drop)]

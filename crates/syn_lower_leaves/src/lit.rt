@@ -1,8 +1,8 @@
 //! Literals (Rust Reference, "Literal expressions").
 
 ghost use Rattle.std.specs.Prelude.{◌≡◌, true, ◌++◌, [], IfErr, OnOk, OnErr};
-ghost use Rattle.syn_lower_leaves.specs.Printed.{number_printed};
-ghost use Rattle.syn_parts.specs.Text.{is_number};
+ghost use Rattle.syn_lower_leaves.specs.Signed.{number_printed};
+ghost use Rattle.syn_lower_spec.specs.Text.{is_number};
 ghost use Rattle.syn_tokens.specs.Input.{IsFront};
 
 use syn_tokens::buffer::ToTokens;
@@ -96,10 +96,10 @@ fn print_number(minus: &Option<Minus>, token: &Literal, tokens: &mut TokenStream
     token.to_tokens(tokens)
 }
 
-#[tactic(auto, unfolding(syn_parts::specs::Own::lit_own))]
+#[tactic(auto, unfolding(syn_lower_spec::specs::Own::lit_own))]
 impl ToTokens for LitStr {
     ghost use Rattle.syn_lower_leaves.specs.View.{lit_str_of};
-    ghost use Rattle.syn_parts.specs.Own.{lit_own};
+    ghost use Rattle.syn_lower_spec.specs.Own.{lit_own};
 
     ghost printed = { λ x. lit_own (lit_str_of x) [] };
 
@@ -108,10 +108,10 @@ impl ToTokens for LitStr {
     }
 }
 
-#[tactic(auto, unfolding(syn_parts::specs::Own::lit_own))]
+#[tactic(auto, unfolding(syn_lower_spec::specs::Own::lit_own))]
 impl ToTokens for LitByteStr {
-    ghost use Rattle.syn_parts.specs.declared.label.LitKind.TheVariants as kind;
-    ghost use Rattle.syn_parts.specs.Own.{lit_own};
+    ghost use Rattle.syn_lower_spec.specs.declared.label.LitKind.TheVariants as kind;
+    ghost use Rattle.syn_lower_spec.specs.Own.{lit_own};
 
     ghost printed = { λ x. lit_own (record { kind = kind.ByteStr; text = x.token }) [] };
 
@@ -120,10 +120,10 @@ impl ToTokens for LitByteStr {
     }
 }
 
-#[tactic(auto, unfolding(syn_parts::specs::Own::lit_own))]
+#[tactic(auto, unfolding(syn_lower_spec::specs::Own::lit_own))]
 impl ToTokens for LitCStr {
-    ghost use Rattle.syn_parts.specs.declared.label.LitKind.TheVariants as kind;
-    ghost use Rattle.syn_parts.specs.Own.{lit_own};
+    ghost use Rattle.syn_lower_spec.specs.declared.label.LitKind.TheVariants as kind;
+    ghost use Rattle.syn_lower_spec.specs.Own.{lit_own};
 
     ghost printed = { λ x. lit_own (record { kind = kind.CStr; text = x.token }) [] };
 
@@ -132,10 +132,10 @@ impl ToTokens for LitCStr {
     }
 }
 
-#[tactic(auto, unfolding(syn_parts::specs::Own::lit_own))]
+#[tactic(auto, unfolding(syn_lower_spec::specs::Own::lit_own))]
 impl ToTokens for LitByte {
-    ghost use Rattle.syn_parts.specs.declared.label.LitKind.TheVariants as kind;
-    ghost use Rattle.syn_parts.specs.Own.{lit_own};
+    ghost use Rattle.syn_lower_spec.specs.declared.label.LitKind.TheVariants as kind;
+    ghost use Rattle.syn_lower_spec.specs.Own.{lit_own};
 
     ghost printed = { λ x. lit_own (record { kind = kind.Byte; text = x.token }) [] };
 
@@ -144,10 +144,10 @@ impl ToTokens for LitByte {
     }
 }
 
-#[tactic(auto, unfolding(syn_parts::specs::Own::lit_own))]
+#[tactic(auto, unfolding(syn_lower_spec::specs::Own::lit_own))]
 impl ToTokens for LitChar {
-    ghost use Rattle.syn_parts.specs.declared.label.LitKind.TheVariants as kind;
-    ghost use Rattle.syn_parts.specs.Own.{lit_own};
+    ghost use Rattle.syn_lower_spec.specs.declared.label.LitKind.TheVariants as kind;
+    ghost use Rattle.syn_lower_spec.specs.Own.{lit_own};
 
     ghost printed = { λ x. lit_own (record { kind = kind.Char; text = x.token }) [] };
 
@@ -159,7 +159,7 @@ impl ToTokens for LitChar {
 #[tactic(auto, using(crate::proofs::Numbers::numbers))]
 impl ToTokens for LitInt {
     ghost use Rattle.syn_lower_leaves.specs.View.{lit_int_of};
-    ghost use Rattle.syn_parts.specs.Own.{lit_own};
+    ghost use Rattle.syn_lower_spec.specs.Own.{lit_own};
 
     ghost printed = { λ x. lit_own (lit_int_of x) [] };
 
@@ -171,7 +171,7 @@ impl ToTokens for LitInt {
 #[tactic(auto, using(crate::proofs::Numbers::numbers))]
 impl ToTokens for LitFloat {
     ghost use Rattle.syn_lower_leaves.specs.View.{lit_float_of};
-    ghost use Rattle.syn_parts.specs.Own.{lit_own};
+    ghost use Rattle.syn_lower_spec.specs.Own.{lit_own};
 
     ghost printed = { λ x. lit_own (lit_float_of x) [] };
 
@@ -180,10 +180,10 @@ impl ToTokens for LitFloat {
     }
 }
 
-#[tactic(auto, unfolding(syn_parts::specs::Own::lit_own))]
+#[tactic(auto, unfolding(syn_lower_spec::specs::Own::lit_own))]
 impl ToTokens for LitBool {
-    ghost use Rattle.syn_parts.specs.declared.label.LitKind.TheVariants as kind;
-    ghost use Rattle.syn_parts.specs.Own.{lit_own};
+    ghost use Rattle.syn_lower_spec.specs.declared.label.LitKind.TheVariants as kind;
+    ghost use Rattle.syn_lower_spec.specs.Own.{lit_own};
 
     ghost printed = { λ x. lit_own (record { kind = kind.Bool; text = x.word }) [] };
 
@@ -194,7 +194,7 @@ impl ToTokens for LitBool {
 
 impl ToTokens for Lit {
     ghost use Rattle.syn_lower_leaves.specs.View.{lit_of};
-    ghost use Rattle.syn_parts.specs.Own.{lit_own};
+    ghost use Rattle.syn_lower_spec.specs.Own.{lit_own};
 
     ghost printed = { λ x. lit_own (lit_of x) [] };
 

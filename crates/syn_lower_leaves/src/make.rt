@@ -5,19 +5,18 @@ ghost use Rattle.std.specs.Char.{digit_char};
 ghost use Rattle.syn_lower_leaves.specs.Value as spec;
 ghost use Rattle.syn_lower_leaves.specs.View.{lit_float_of, lit_int_of};
 ghost use Rattle.syn_lower_leaves.specs.Written as forms;
-ghost use Rattle.syn_parts.specs.Text as parts;
-ghost use Rattle.syn_parts.specs.declared.label.LitKind.TheVariants as kind;
+ghost use Rattle.syn_lower_spec.specs.Text as parts;
+ghost use Rattle.syn_lower_spec.specs.declared.label.LitKind.TheVariants as kind;
 ghost use Rattle.syn_tokens.specs.Lex.{IsLiteralText};
 
+use crate::leaf::{is_float, is_number};
 use crate::lit::{LitBool, LitByte, LitByteStr, LitChar, LitFloat, LitInt, LitStr};
 use crate::number::behind;
 use crate::quoted::is_plain;
-use crate::text::{is_float, is_number};
 use std::alloc::{AllocError, Global};
 use syn_tokens::error::{Error, ErrorKind, Part, Result};
-use syn_tokens::span::Span;
 use syn_tokens::token::Minus;
-use syn_tokens::tree::{Ident, Literal};
+use syn_tokens::tree::{Ident, Literal, Span};
 
 /// Whether it is written as itself if no escape has a name for it.
 fn is_shown(is_byte: bool, c: char) -> bool

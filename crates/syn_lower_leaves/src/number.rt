@@ -1,7 +1,7 @@
 //! The values of numbers, by the texts of their tokens.
 
 ghost use Rattle.std.specs.Prelude.{◌≡◌, ◌≤◌, ◌<◌, ◌+◌, ◌*◌, ◌^◌, length, drop, slice_index, IfOk, IfSome, filter, string_bytes, encode_utf8_all};
-ghost use Rattle.syn_parts.specs.Pat as parts;
+ghost use Rattle.syn_lower_spec.specs.Pat as parts;
 ghost use Rattle.syn_lower_leaves.specs.Value as spec;
 
 use std::alloc::{AllocError, Global};

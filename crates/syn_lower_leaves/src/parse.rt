@@ -1,29 +1,32 @@
-//! The readers of the parts that hold no others, as the trait has them: each answers exactly what its form spells, and
-//! leaves the rest.
-#![tactic(auto, using(syn_parts::proofs::Readable::readables))]
+//! The readers of the parts that hold no types, as the trait has them: each answers exactly what its form spells, and leaves
+//! the rest.
 
 ghost use Rattle.std.specs.Prelude.{◌≡◌, ◌⊎◌, ◌≤◌, IfErr, IfOk, Some, map};
 ghost use Rattle.syn_lower_leaves.specs.Reads.{Reads, wanted_lifetime};
 ghost use Rattle.syn_lower_leaves.specs.View.{attribute_of, lifetime_of, lit_of, lit_str_of, lit_int_of, lit_float_of};
-ghost use Rattle.syn_parts.specs.Kind as kinds;
-ghost use Rattle.syn_parts.specs.declared.label.LitKind.TheVariants as kind;
-ghost use Rattle.syn_parts.specs.Part as part;
+ghost use Rattle.syn_lower_spec.specs.Kind as kinds;
+ghost use Rattle.syn_lower_spec.specs.declared.label.LitKind.TheVariants as kind;
+ghost use Rattle.syn_lower_spec.specs.Part as part;
 ghost use Rattle.syn_tokens.specs.Input.{IsAfter};
 ghost use Rattle.syn_tokens.specs.Tok.{weight};
 ghost use Rattle.syn_tokens.specs.declared.error.ErrorKind.TheVariants.{OutOfMemory};
+ghost use Rattle.syn_lower_leaves.specs.View as view;
 
 use crate::ahead::{ReadByForm, ahead};
 use crate::attr::Attribute;
 use crate::block::Block;
-use crate::leaf::{lifetime, lit, unsigned};
+use crate::leaf::{block, inner_attributes, lifetime, lit, outer_attributes, unsigned};
 use crate::lifetime::Lifetime;
 use crate::lit::{Lit, LitBool, LitByte, LitByteStr, LitCStr, LitChar, LitFloat, LitInt, LitStr};
-use crate::verbatim::{block, inner_attributes, outer_attributes};
-use syn_tokens::buffer::{Parse, ParseBuffer};
-use syn_tokens::error::{ErrorKind, Part, Result};
+use crate::readers::{lifetimes, maybe_abi, pointer_mutability};
+use crate::ty::{Abi, BoundLifetimes, PointerMutability};
+use syn_tokens::buffer::{Parse, ParseBuffer, Token};
+use syn_tokens::error::{ErrorKind, Expected, Part, Result};
+use syn_tokens::token::Extern;
 
+#[tactic(auto, using(syn_lower_spec::proofs::Readable::readables))]
 impl ReadByForm for Lifetime {
-    ghost use Rattle.syn_parts.specs.Text.{Text};
+    ghost use Rattle.syn_lower_spec.specs.Text.{Text};
 
     ghost Seen = { Text };
 
@@ -38,8 +41,9 @@ impl ReadByForm for Lifetime {
     }
 }
 
+#[tactic(auto, using(syn_lower_spec::proofs::Readable::readables))]
 impl Parse for Lifetime {
-    ghost use Rattle.syn_parts.specs.Text.{Text};
+    ghost use Rattle.syn_lower_spec.specs.Text.{Text};
 
     ghost Seen = { Text };
 
@@ -58,8 +62,9 @@ impl Parse for Lifetime {
     }
 }
 
+#[tactic(auto, using(syn_lower_spec::proofs::Readable::readables))]
 impl ReadByForm for Lit {
-    ghost use Rattle.syn_parts.specs.Tree.{LitTree};
+    ghost use Rattle.syn_lower_spec.specs.Tree.{LitTree};
 
     ghost Seen = { LitTree };
 
@@ -72,8 +77,9 @@ impl ReadByForm for Lit {
     }
 }
 
+#[tactic(auto, using(syn_lower_spec::proofs::Readable::readables))]
 impl Parse for Lit {
-    ghost use Rattle.syn_parts.specs.Tree.{LitTree};
+    ghost use Rattle.syn_lower_spec.specs.Tree.{LitTree};
 
     ghost Seen = { LitTree };
 
@@ -91,9 +97,9 @@ impl Parse for Lit {
     }
 }
 
-#[tactic(auto, unfolding(syn_parts::specs::Part::unsigned, syn_parts::specs::Kind::of_kind))]
+#[tactic(auto, unfolding(syn_lower_spec::specs::Part::unsigned, syn_lower_spec::specs::Kind::of_kind))]
 impl ReadByForm for LitStr {
-    ghost use Rattle.syn_parts.specs.Tree.{LitTree};
+    ghost use Rattle.syn_lower_spec.specs.Tree.{LitTree};
 
     ghost Seen = { LitTree };
 
@@ -110,8 +116,9 @@ impl ReadByForm for LitStr {
     }
 }
 
+#[tactic(auto, using(syn_lower_spec::proofs::Readable::readables))]
 impl Parse for LitStr {
-    ghost use Rattle.syn_parts.specs.Tree.{LitTree};
+    ghost use Rattle.syn_lower_spec.specs.Tree.{LitTree};
 
     ghost Seen = { LitTree };
 
@@ -129,9 +136,9 @@ impl Parse for LitStr {
     }
 }
 
-#[tactic(auto, unfolding(syn_parts::specs::Part::unsigned, syn_parts::specs::Kind::of_kind))]
+#[tactic(auto, unfolding(syn_lower_spec::specs::Part::unsigned, syn_lower_spec::specs::Kind::of_kind))]
 impl ReadByForm for LitByteStr {
-    ghost use Rattle.syn_parts.specs.Tree.{LitTree};
+    ghost use Rattle.syn_lower_spec.specs.Tree.{LitTree};
 
     ghost Seen = { LitTree };
 
@@ -148,8 +155,9 @@ impl ReadByForm for LitByteStr {
     }
 }
 
+#[tactic(auto, using(syn_lower_spec::proofs::Readable::readables))]
 impl Parse for LitByteStr {
-    ghost use Rattle.syn_parts.specs.Tree.{LitTree};
+    ghost use Rattle.syn_lower_spec.specs.Tree.{LitTree};
 
     ghost Seen = { LitTree };
 
@@ -167,9 +175,9 @@ impl Parse for LitByteStr {
     }
 }
 
-#[tactic(auto, unfolding(syn_parts::specs::Part::unsigned, syn_parts::specs::Kind::of_kind))]
+#[tactic(auto, unfolding(syn_lower_spec::specs::Part::unsigned, syn_lower_spec::specs::Kind::of_kind))]
 impl ReadByForm for LitCStr {
-    ghost use Rattle.syn_parts.specs.Tree.{LitTree};
+    ghost use Rattle.syn_lower_spec.specs.Tree.{LitTree};
 
     ghost Seen = { LitTree };
 
@@ -186,8 +194,9 @@ impl ReadByForm for LitCStr {
     }
 }
 
+#[tactic(auto, using(syn_lower_spec::proofs::Readable::readables))]
 impl Parse for LitCStr {
-    ghost use Rattle.syn_parts.specs.Tree.{LitTree};
+    ghost use Rattle.syn_lower_spec.specs.Tree.{LitTree};
 
     ghost Seen = { LitTree };
 
@@ -205,9 +214,9 @@ impl Parse for LitCStr {
     }
 }
 
-#[tactic(auto, unfolding(syn_parts::specs::Part::unsigned, syn_parts::specs::Kind::of_kind))]
+#[tactic(auto, unfolding(syn_lower_spec::specs::Part::unsigned, syn_lower_spec::specs::Kind::of_kind))]
 impl ReadByForm for LitByte {
-    ghost use Rattle.syn_parts.specs.Tree.{LitTree};
+    ghost use Rattle.syn_lower_spec.specs.Tree.{LitTree};
 
     ghost Seen = { LitTree };
 
@@ -224,8 +233,9 @@ impl ReadByForm for LitByte {
     }
 }
 
+#[tactic(auto, using(syn_lower_spec::proofs::Readable::readables))]
 impl Parse for LitByte {
-    ghost use Rattle.syn_parts.specs.Tree.{LitTree};
+    ghost use Rattle.syn_lower_spec.specs.Tree.{LitTree};
 
     ghost Seen = { LitTree };
 
@@ -242,9 +252,9 @@ impl Parse for LitByte {
     }
 }
 
-#[tactic(auto, unfolding(syn_parts::specs::Part::unsigned, syn_parts::specs::Kind::of_kind))]
+#[tactic(auto, unfolding(syn_lower_spec::specs::Part::unsigned, syn_lower_spec::specs::Kind::of_kind))]
 impl ReadByForm for LitChar {
-    ghost use Rattle.syn_parts.specs.Tree.{LitTree};
+    ghost use Rattle.syn_lower_spec.specs.Tree.{LitTree};
 
     ghost Seen = { LitTree };
 
@@ -261,8 +271,9 @@ impl ReadByForm for LitChar {
     }
 }
 
+#[tactic(auto, using(syn_lower_spec::proofs::Readable::readables))]
 impl Parse for LitChar {
-    ghost use Rattle.syn_parts.specs.Tree.{LitTree};
+    ghost use Rattle.syn_lower_spec.specs.Tree.{LitTree};
 
     ghost Seen = { LitTree };
 
@@ -279,9 +290,9 @@ impl Parse for LitChar {
     }
 }
 
-#[tactic(auto, unfolding(syn_parts::specs::Part::unsigned, syn_parts::specs::Kind::of_kind))]
+#[tactic(auto, unfolding(syn_lower_spec::specs::Part::unsigned, syn_lower_spec::specs::Kind::of_kind))]
 impl ReadByForm for LitInt {
-    ghost use Rattle.syn_parts.specs.Tree.{LitTree};
+    ghost use Rattle.syn_lower_spec.specs.Tree.{LitTree};
 
     ghost Seen = { LitTree };
 
@@ -298,8 +309,9 @@ impl ReadByForm for LitInt {
     }
 }
 
+#[tactic(auto, using(syn_lower_spec::proofs::Readable::readables))]
 impl Parse for LitInt {
-    ghost use Rattle.syn_parts.specs.Tree.{LitTree};
+    ghost use Rattle.syn_lower_spec.specs.Tree.{LitTree};
 
     ghost Seen = { LitTree };
 
@@ -317,9 +329,9 @@ impl Parse for LitInt {
     }
 }
 
-#[tactic(auto, unfolding(syn_parts::specs::Part::unsigned, syn_parts::specs::Kind::of_kind))]
+#[tactic(auto, unfolding(syn_lower_spec::specs::Part::unsigned, syn_lower_spec::specs::Kind::of_kind))]
 impl ReadByForm for LitFloat {
-    ghost use Rattle.syn_parts.specs.Tree.{LitTree};
+    ghost use Rattle.syn_lower_spec.specs.Tree.{LitTree};
 
     ghost Seen = { LitTree };
 
@@ -336,8 +348,9 @@ impl ReadByForm for LitFloat {
     }
 }
 
+#[tactic(auto, using(syn_lower_spec::proofs::Readable::readables))]
 impl Parse for LitFloat {
-    ghost use Rattle.syn_parts.specs.Tree.{LitTree};
+    ghost use Rattle.syn_lower_spec.specs.Tree.{LitTree};
 
     ghost Seen = { LitTree };
 
@@ -355,9 +368,9 @@ impl Parse for LitFloat {
     }
 }
 
-#[tactic(auto, unfolding(syn_parts::specs::Part::unsigned, syn_parts::specs::Kind::of_kind))]
+#[tactic(auto, unfolding(syn_lower_spec::specs::Part::unsigned, syn_lower_spec::specs::Kind::of_kind))]
 impl ReadByForm for LitBool {
-    ghost use Rattle.syn_parts.specs.Tree.{LitTree};
+    ghost use Rattle.syn_lower_spec.specs.Tree.{LitTree};
 
     ghost Seen = { LitTree };
 
@@ -374,8 +387,9 @@ impl ReadByForm for LitBool {
     }
 }
 
+#[tactic(auto, using(syn_lower_spec::proofs::Readable::readables))]
 impl Parse for LitBool {
-    ghost use Rattle.syn_parts.specs.Tree.{LitTree};
+    ghost use Rattle.syn_lower_spec.specs.Tree.{LitTree};
 
     ghost Seen = { LitTree };
 
@@ -392,6 +406,7 @@ impl Parse for LitBool {
     }
 }
 
+#[tactic(auto, using(syn_lower_spec::proofs::Readable::readables))]
 impl ReadByForm for Block {
     ghost use Rattle.std.specs.Prelude.{List};
     ghost use Rattle.syn_tokens.specs.Tok.{Tok};
@@ -407,6 +422,7 @@ impl ReadByForm for Block {
     }
 }
 
+#[tactic(auto, using(syn_lower_spec::proofs::Readable::readables))]
 impl Parse for Block {
     ghost use Rattle.std.specs.Prelude.{List};
     ghost use Rattle.syn_tokens.specs.Tok.{Tok};
@@ -427,6 +443,7 @@ impl Parse for Block {
     }
 }
 
+#[tactic(auto, using(syn_lower_spec::proofs::Readable::readables))]
 impl Attribute {
     /// Reads the outer attributes that come first, as many as there are (Rust Reference, "Attributes"). They are read
     /// exactly where they are, unless memory runs out; a `#` without brackets after it is refused as `ExpectedToken`
@@ -460,5 +477,114 @@ impl Attribute {
         let x = inner_attributes(&mut ahead)?;
         input.advance_to(&ahead);
         Ok(x)
+    }
+}
+
+#[tactic(auto, using(syn_lower_spec::proofs::Readable::readables))]
+impl ReadByForm for BoundLifetimes {
+    ghost use Rattle.syn_lower_spec.specs.Tree.{LifetimesTree};
+
+    ghost Seen = { LifetimesTree };
+
+    ghost seen = { view.lifetimes_of };
+
+    ghost form = { part.lifetimes };
+
+    fn read(input: &mut ParseBuffer<'_>) -> Result<Self> {
+        lifetimes(input)
+    }
+}
+
+#[tactic(auto, using(syn_lower_spec::proofs::Readable::readables))]
+impl Parse for BoundLifetimes {
+    ghost use Rattle.syn_lower_spec.specs.Tree.{LifetimesTree};
+
+    ghost Seen = { LifetimesTree };
+
+    ghost seen = { view.lifetimes_of };
+
+    /// `for` and lifetimes between `<` and `>` come before the rest.
+    ghost spells = { λ l x rest. part.lifetimes.behind x l ≡ Some rest };
+
+    ghost least = { 1 };
+
+    /// Reads `for` and lifetimes (Rust Reference, "Higher-ranked trait bounds"); it is refused as `ExpectedToken` of
+    /// `for`, `<`, `>` or a lifetime.
+    fn parse(input: &mut ParseBuffer<'_>) -> Result<Self> {
+        ahead(input)
+    }
+}
+
+#[tactic(auto, using(syn_lower_spec::proofs::Readable::readables))]
+impl ReadByForm for PointerMutability {
+    ghost use Rattle.std.specs.Prelude.{Bool};
+
+    ghost Seen = { Bool };
+
+    ghost seen = { view.is_mut };
+
+    ghost form = { part.mutability };
+
+    fn read(input: &mut ParseBuffer<'_>) -> Result<Self> {
+        pointer_mutability(input)
+    }
+}
+
+#[tactic(auto, using(syn_lower_spec::proofs::Readable::readables))]
+impl Parse for PointerMutability {
+    ghost use Rattle.std.specs.Prelude.{Bool};
+
+    ghost Seen = { Bool };
+
+    ghost seen = { view.is_mut };
+
+    /// `mut` or `const` comes before the rest.
+    ghost spells = { λ l x rest. part.mutability.behind x l ≡ Some rest };
+
+    ghost least = { 1 };
+
+    /// Reads `mut` or `const` (Rust Reference, "Pointer types"); it is refused as `ExpectedToken` of the two.
+    fn parse(input: &mut ParseBuffer<'_>) -> Result<Self> {
+        ahead(input)
+    }
+}
+
+#[tactic(auto, using(syn_lower_spec::proofs::Readable::readables))]
+impl ReadByForm for Abi {
+    ghost use Rattle.std.specs.Prelude.{Option};
+    ghost use Rattle.syn_lower_spec.specs.Tree.{LitTree};
+
+    ghost Seen = { Option LitTree };
+
+    ghost seen = { view.abi_of };
+
+    ghost form = { part.abi };
+
+    fn read(input: &mut ParseBuffer<'_>) -> Result<Self> {
+        match maybe_abi(input)? {
+            Some(abi) => Ok(abi),
+            None => Err(input.error(ErrorKind::ExpectedToken(Expected::One(Extern::wanted())))),
+        }
+    }
+}
+
+#[tactic(auto, using(syn_lower_spec::proofs::Readable::readables))]
+impl Parse for Abi {
+    ghost use Rattle.std.specs.Prelude.{Option};
+    ghost use Rattle.syn_lower_spec.specs.Tree.{LitTree};
+
+    ghost Seen = { Option LitTree };
+
+    ghost seen = { view.abi_of };
+
+    /// `extern` comes before the rest, and a string after it where one is there.
+    ghost spells = { λ l x rest. part.abi.behind x l ≡ Some rest };
+
+    ghost least = { 1 };
+
+    /// Reads `extern` and a string, if one is there (Rust Reference, "Function pointer types"); it is refused as
+    /// `ExpectedToken` of `extern`.
+    fn parse(input: &mut ParseBuffer<'_>) -> Result<Self> {
+        ahead(input)
     }
 }

@@ -5,13 +5,13 @@
 
 ghost use Rattle.std.specs.Prelude.{◌≡◌};
 ghost use Rattle.syn_lower_leaves.specs.View as view;
-ghost use Rattle.syn_parts.specs.Fits as spec;
-ghost use Rattle.syn_parts.specs.Text as text;
-ghost use Rattle.syn_parts.specs.declared.label.LitKind.TheVariants as kind;
+ghost use Rattle.syn_lower_spec.specs.Fits as spec;
+ghost use Rattle.syn_lower_spec.specs.Text as text;
+ghost use Rattle.syn_lower_spec.specs.declared.label.LitKind.TheVariants as kind;
 
+use crate::leaf::{is_truth, kind_of};
 use crate::lit::{Lit, LitBool, LitByte, LitByteStr, LitCStr, LitChar, LitFloat, LitInt, LitStr};
-use crate::text::{is_truth, kind_of};
-use syn_parts::label::LitKind;
+use syn_lower_spec::label::LitKind;
 use syn_tokens::tree::Literal;
 
 /// Whether a literal is of this kind.
@@ -26,7 +26,7 @@ fn has_kind(token: &Literal, kind: LitKind) -> bool
 
 impl LitStr {
     /// Whether its token is a string literal.
-    #[tactic(auto, unfolding(syn_parts::specs::Fits::lit_fits))]
+    #[tactic(auto, unfolding(syn_lower_spec::specs::Fits::lit_fits))]
     pub fn is_read_back(&self) -> bool
         ensures { result ≡ spec.lit_fits (view.lit_str_of self.now) }
     {
@@ -36,7 +36,7 @@ impl LitStr {
 
 impl LitByteStr {
     /// Whether its token is a byte string literal.
-    #[tactic(auto, unfolding(syn_parts::specs::Fits::lit_fits))]
+    #[tactic(auto, unfolding(syn_lower_spec::specs::Fits::lit_fits))]
     pub fn is_read_back(&self) -> bool
         ensures { result ≡ spec.lit_fits (record { kind = kind.ByteStr; text = self.now.token }) }
     {
@@ -46,7 +46,7 @@ impl LitByteStr {
 
 impl LitCStr {
     /// Whether its token is a C string literal.
-    #[tactic(auto, unfolding(syn_parts::specs::Fits::lit_fits))]
+    #[tactic(auto, unfolding(syn_lower_spec::specs::Fits::lit_fits))]
     pub fn is_read_back(&self) -> bool
         ensures { result ≡ spec.lit_fits (record { kind = kind.CStr; text = self.now.token }) }
     {
@@ -56,7 +56,7 @@ impl LitCStr {
 
 impl LitByte {
     /// Whether its token is a byte literal.
-    #[tactic(auto, unfolding(syn_parts::specs::Fits::lit_fits))]
+    #[tactic(auto, unfolding(syn_lower_spec::specs::Fits::lit_fits))]
     pub fn is_read_back(&self) -> bool
         ensures { result ≡ spec.lit_fits (record { kind = kind.Byte; text = self.now.token }) }
     {
@@ -66,7 +66,7 @@ impl LitByte {
 
 impl LitChar {
     /// Whether its token is a character literal.
-    #[tactic(auto, unfolding(syn_parts::specs::Fits::lit_fits))]
+    #[tactic(auto, unfolding(syn_lower_spec::specs::Fits::lit_fits))]
     pub fn is_read_back(&self) -> bool
         ensures { result ≡ spec.lit_fits (record { kind = kind.Char; text = self.now.token }) }
     {
@@ -76,7 +76,7 @@ impl LitChar {
 
 impl LitInt {
     /// Whether its token is an integer literal and it has no sign: a number with a sign is read back as a `Lit` alone.
-    #[tactic(auto, using(crate::proofs::LitFits::unsigned_by))]
+    #[tactic(auto, using(crate::proofs::Numbers::unsigned_by))]
     pub fn is_read_back(&self) -> bool
         ensures { result ≡ spec.of_kind_fits kind.Int (view.lit_int_of self.now) }
     {
@@ -87,7 +87,7 @@ impl LitInt {
 impl LitFloat {
     /// Whether its token is a floating-point literal and it has no sign: a number with a sign is read back as a `Lit`
     /// alone.
-    #[tactic(auto, using(crate::proofs::LitFits::unsigned_by))]
+    #[tactic(auto, using(crate::proofs::Numbers::unsigned_by))]
     pub fn is_read_back(&self) -> bool
         ensures { result ≡ spec.of_kind_fits kind.Float (view.lit_float_of self.now) }
     {
@@ -97,7 +97,7 @@ impl LitFloat {
 
 impl LitBool {
     /// Whether its word is `true` or `false`.
-    #[tactic(auto, unfolding(syn_parts::specs::Fits::lit_fits))]
+    #[tactic(auto, unfolding(syn_lower_spec::specs::Fits::lit_fits))]
     pub fn is_read_back(&self) -> bool
         ensures { result ≡ spec.lit_fits (record { kind = kind.Bool; text = self.now.word }) }
     {
@@ -107,7 +107,7 @@ impl LitBool {
 
 impl Lit {
     /// Whether its token is one of its kind. A number may have a sign.
-    #[tactic(auto, using(crate::proofs::LitFits::signed_by), unfolding(syn_parts::specs::Fits::lit_fits))]
+    #[tactic(auto, using(crate::proofs::Numbers::signed_by), unfolding(syn_lower_spec::specs::Fits::lit_fits))]
     pub fn is_read_back(&self) -> bool
         ensures { result ≡ spec.lit_fits (view.lit_of self.now) }
     {

@@ -2,7 +2,7 @@
 //! functions that do nothing.
 #![tactic(auto, using(crate::proofs::LeafTies::leaf_ties))]
 
-ghost use Rattle.syn_lower_leaves.specs.Equal.{IsEqualityOf};
+ghost use Rattle.syn_lower_spec.specs.Equal.{IsEqualityOf};
 ghost use Rattle.syn_lower_leaves.specs.View.{attribute_of, delimiter_of, is_inner, lifetime_of, lit_float_of, lit_int_of, lit_of, lit_str_of};
 ghost use Rattle.syn_lower_leaves.specs.declared.lit.Lit.TheVariants as lit;
 

@@ -3,9 +3,8 @@
 use rows::{check, compared, left, left_by, printed, words};
 use std::alloc::Global;
 use std::test::Fail;
-use syn_op::infix::infix_at;
-use syn_op::limits::RangeLimits;
-use syn_op::op::{BinOp, UnOp};
+use syn_expr_tokens::limits::RangeLimits;
+use syn_expr_tokens::op::{BinOp, UnOp, infix_at};
 use syn_tokens::buffer::ParseBuffer;
 use syn_tokens::error::Error;
 use syn_tokens::lexer::lex;

@@ -4,8 +4,8 @@ use Rattle.std.specs.Prelude.{◌≢◌, ◌⊎◌, Result, Ok, Err, IfOk, IfErr
 use Rattle.syn_lexer.specs.Text.{Text, Reading}
 use Rattle.syn_lexer.specs.Lex.{front, reading, of_reading}
 use Rattle.syn_lexer.specs.declared.error.LexError.{LexError}
-use Rattle.syn_lexer.specs.declared.lexeme.Delimiter.{Delimiter}
-use Rattle.syn_lexer.specs.declared.lexeme.LexemeKind.{LexemeKind}
+use Rattle.syn_lexer.specs.declared.front.Delimiter.{Delimiter}
+use Rattle.syn_lexer.specs.declared.front.LexemeKind.{LexemeKind}
 use Rattle.syn_tokens.specs.Tok.{Tok}
 use Rattle.syn_tokens.specs.Lex.{Piece, pieces, pieces_from, lexeme_pieces, then_pieces, flat, Spells, open_behind, refusal_behind, refusal_at_end, refusal_from, refusal, IsRefusedAs}
 use Rattle.syn_tokens.specs.Input.{Gives}

@@ -3,7 +3,7 @@ use Rattle.std.proofs.Common.{◌≡◌, ◌≤◌, ℕ, List, [], ◌∷◌, le
 use Rattle.std.specs.Prelude.{◌==◌, ◌&&◌}
 use Rattle.syn_tokens.specs.Tok.{Tok, ident, punct}
 use Rattle.syn_tokens.specs.Sign.{begins, begins_word, word_toks}
-use Rattle.syn_lexer.specs.declared.lexeme.Spacing.TheVariants.{Alone, Joint}
+use Rattle.syn_lexer.specs.declared.front.Spacing.TheVariants.{Alone, Joint}
 
 right_of : (a b : Bool) → (a && b) ≡ true → b ≡ true
 right_of true b h = h

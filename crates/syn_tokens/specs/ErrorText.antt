@@ -2,7 +2,7 @@
 use Rattle.std.specs.Prelude.{ℕ, List, ◌++◌, codes}
 use Rattle.syn_lexer.specs.ErrorText.{lex_error_text}
 use Rattle.syn_tokens.specs.Sign.{sign_text, word_text}
-use Rattle.syn_lexer.specs.declared.lexeme.Delimiter.TheVariants as delimiter
+use Rattle.syn_lexer.specs.declared.front.Delimiter.TheVariants as delimiter
 use Rattle.syn_tokens.specs.declared.error.ErrorKind.{ErrorKind}
 use Rattle.syn_tokens.specs.declared.error.ErrorKind.TheVariants as kind
 use Rattle.syn_tokens.specs.declared.error.AfterCast.{AfterCast}

@@ -2,8 +2,8 @@
 -- "Tuple indexing expressions").
 use Rattle.std.specs.Prelude.{◌≡◌, ℕ, Bool, true, false, not, ◌&&◌, ◌==◌, if◌then◌else◌, List, [], ◌∷◌, ◌++◌, map}
 use Rattle.std.specs.Char.{is_ascii_digit}
-use Rattle.syn_lexer.specs.declared.lexeme.Spacing.{Spacing}
-use Rattle.syn_lexer.specs.declared.lexeme.Spacing.TheVariants.{Alone, Joint}
+use Rattle.syn_lexer.specs.declared.front.Spacing.{Spacing}
+use Rattle.syn_lexer.specs.declared.front.Spacing.TheVariants.{Alone, Joint}
 use Rattle.syn_tokens.specs.Tok.{Tok, ident, punct, literal, group}
 
 abbrev pub dot : Tok

@@ -1,9 +1,9 @@
 -- What comes first in a list of tokens.
 use Rattle.std.specs.Prelude.{Bool, true, false, ◌==◌, if◌then◌else◌, is_some, List, [], ◌∷◌, Option, Some, None}
 use Rattle.syn_tokens.specs.Tok.{Tok, ident, punct, group, toks}
-use Rattle.syn_lexer.specs.declared.lexeme.Delimiter.{Delimiter}
-use Rattle.syn_lexer.specs.declared.lexeme.Delimiter.TheVariants as delimiter
-use Rattle.syn_lexer.specs.declared.lexeme.Spacing.TheVariants.{Alone, Joint}
+use Rattle.syn_lexer.specs.declared.front.Delimiter.{Delimiter}
+use Rattle.syn_lexer.specs.declared.front.Delimiter.TheVariants as delimiter
+use Rattle.syn_lexer.specs.declared.front.Spacing.TheVariants.{Alone, Joint}
 
 abbrev pub is_empty : List Tok → Bool
 is_empty [] = true

@@ -4,13 +4,13 @@ use Rattle.std.specs.Coded.{Coded, code_by, coded×, coded_ℕ, coded_option}
 use Rattle.syn_tokens.specs.Tok.{Tok}
 use Rattle.syn_tokens.specs.TokCode.{toks_code}
 use Rattle.syn_tokens.specs.Front.{is_empty, group_at}
-use Rattle.syn_lexer.specs.declared.lexeme.Delimiter.{Delimiter}
+use Rattle.syn_lexer.specs.declared.front.Delimiter.{Delimiter}
 use Rattle.syn_tokens.specs.declared.error.Error.{Error}
 use Rattle.syn_tokens.specs.declared.error.ErrorKind.{ErrorKind}
 use Rattle.syn_tokens.specs.declared.error.ErrorKind.TheVariants.{OutOfMemory, ExpectedToken, UnexpectedToken}
 use Rattle.syn_tokens.specs.declared.error.Expected.TheVariants as expected
 use Rattle.syn_tokens.specs.declared.error.Wanted.TheVariants as wanted
-use Rattle.syn_tokens.specs.declared.span.Span.{Span}
+use Rattle.syn_tokens.specs.declared.tree.Span.{Span}
 
 pub record Input : Type 0 where
   -- the tokens that are left

@@ -4,10 +4,10 @@ use Rattle.syn_lexer.specs.Text.{Text, Reading}
 use Rattle.syn_lexer.specs.Lex.{front, reading}
 use Rattle.syn_lexer.specs.declared.error.LexError.{LexError}
 use Rattle.syn_lexer.specs.declared.error.LexError.TheVariants.{UnclosedDelimiter, UnexpectedClosingDelimiter, UnknownCharacter}
-use Rattle.syn_lexer.specs.declared.lexeme.Delimiter.{Delimiter}
-use Rattle.syn_lexer.specs.declared.lexeme.LexemeKind.{LexemeKind}
-use Rattle.syn_lexer.specs.declared.lexeme.Spacing.TheVariants.{Joint}
-use Rattle.syn_lexer.specs.declared.lexeme.LexemeKind.TheVariants.{Blank, Ident, Literal, Lifetime, Punct, Open, Close}
+use Rattle.syn_lexer.specs.declared.front.Delimiter.{Delimiter}
+use Rattle.syn_lexer.specs.declared.front.LexemeKind.{LexemeKind}
+use Rattle.syn_lexer.specs.declared.front.Spacing.TheVariants.{Joint}
+use Rattle.syn_lexer.specs.declared.front.LexemeKind.TheVariants.{Blank, Ident, Literal, Lifetime, Punct, Open, Close}
 use Rattle.syn_tokens.specs.declared.error.ErrorKind.{ErrorKind}
 use Rattle.syn_tokens.specs.declared.error.ErrorKind.TheVariants.{Lex}
 use Rattle.syn_tokens.specs.Front.{same_delimiter}

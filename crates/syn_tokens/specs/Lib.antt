@@ -4,14 +4,14 @@ pub mod View
 pub mod TokSize
 pub mod Front
 pub mod Sign
-pub mod Shared
+pub mod Text
 pub mod Input
 pub mod ErrorText
 pub mod Same
 pub mod Leaf
-pub mod Text
 pub mod Lex
 pub mod Standing
 pub mod Nest
 pub mod Places
 pub mod Floats
+pub mod Spans

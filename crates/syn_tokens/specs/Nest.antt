@@ -1,6 +1,6 @@
 -- What a lexer has read, with the groups that are still open.
 use Rattle.std.specs.Prelude.{◌≢◌, List, [], ◌∷◌, ◌++◌, map}
-use Rattle.syn_lexer.specs.declared.lexeme.Delimiter.{Delimiter}
+use Rattle.syn_lexer.specs.declared.front.Delimiter.{Delimiter}
 use Rattle.syn_tokens.specs.Tok.{Tok}
 use Rattle.syn_tokens.specs.Lex.{Piece, opens, flat}
 use Rattle.syn_tokens.specs.declared.lexer.Open as code

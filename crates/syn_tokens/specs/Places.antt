@@ -1,8 +1,8 @@
 -- Where a token is, and where a group ends.
 use Rattle.std.specs.Prelude.{◌≡◌, ◌+◌, ◌-◌, nat_le, if◌then◌else◌}
-use Rattle.syn_lexer.specs.declared.lexeme.Delimiter.{Delimiter}
-use Rattle.syn_lexer.specs.declared.lexeme.Delimiter.TheVariants as delimiter
-use Rattle.syn_tokens.specs.declared.span.Span.{Span}
+use Rattle.syn_lexer.specs.declared.front.Delimiter.{Delimiter}
+use Rattle.syn_lexer.specs.declared.front.Delimiter.TheVariants as delimiter
+use Rattle.syn_tokens.specs.declared.tree.Span.{Span}
 use Rattle.syn_tokens.specs.declared.tree.TokenTree.{TokenTree}
 use Rattle.syn_tokens.specs.declared.tree.TokenTree.TheVariants.{Group, Ident, Punct, Literal}
 

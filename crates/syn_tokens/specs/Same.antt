@@ -6,10 +6,10 @@ use Rattle.std.specs.Cmp.{IsEquivalence, decided}
 use Rattle.std.proofs.lemmas.Slice.Eq.{bytes_eq-Decides}
 use Rattle.std.specs.Str.{bytes_eq}
 use Rattle.std.specs.Hash as fed
-use Rattle.syn_lexer.specs.declared.lexeme.Delimiter.{Delimiter}
-use Rattle.syn_lexer.specs.declared.lexeme.Delimiter.TheVariants as delimiter
-use Rattle.syn_lexer.specs.declared.lexeme.Spacing.{Spacing}
-use Rattle.syn_lexer.specs.declared.lexeme.Spacing.TheVariants as spacing
+use Rattle.syn_lexer.specs.declared.front.Delimiter.{Delimiter}
+use Rattle.syn_lexer.specs.declared.front.Delimiter.TheVariants as delimiter
+use Rattle.syn_lexer.specs.declared.front.Spacing.{Spacing}
+use Rattle.syn_lexer.specs.declared.front.Spacing.TheVariants as spacing
 use Rattle.syn_tokens.specs.Front.{same_delimiter}
 use Rattle.syn_tokens.specs.Tok.{Tok, Inside, ident, punct, literal, group, nothing, first}
 

@@ -2,8 +2,8 @@
 use Rattle.std.specs.Prelude.{◌≡◌, ℕ, Bool, true, false, IsTrue, ◌&&◌, ◌||◌, ◌==◌, if◌then◌else◌, not, List, [], ◌∷◌, length, drop, map, slice_index_or}
 use Rattle.std.specs.Str.{bytes_eq}
 use Rattle.syn_tokens.specs.Tok.{Tok, ident, punct}
-use Rattle.syn_lexer.specs.declared.lexeme.Spacing.TheVariants.{Alone, Joint}
-use Rattle.syn_tokens.specs.declared.table.TheConstants.{SIGNS, WORDS}
+use Rattle.syn_lexer.specs.declared.front.Spacing.TheVariants.{Alone, Joint}
+use Rattle.syn_tokens.specs.declared.token.TheConstants.{SIGNS, WORDS}
 
 -- the sign at a place of the table, none past it
 unfoldable pub sign_text : ℕ → List ℕ

@@ -1,9 +1,14 @@
 -- The text of tokens.
-use Rattle.std.specs.Prelude.{ℕ, Bool, true, false, ◌||◌, if◌then◌else◌, nat_eq, length, List, [], ◌∷◌, ◌++◌, encode_utf8}
-use Rattle.syn_lexer.specs.declared.lexeme.Delimiter.{Delimiter}
-use Rattle.syn_lexer.specs.declared.lexeme.Delimiter.TheVariants as delimiter
-use Rattle.syn_lexer.specs.declared.lexeme.Spacing.TheVariants as spacing
+use Rattle.std.specs.Prelude.{ℕ, Bool, true, false, ◌||◌, if◌then◌else◌, nat_eq, length, List, [], ◌∷◌, ◌++◌, encode_utf8, ◌≤◌, ◌-◌, take, drop}
+use Rattle.syn_lexer.specs.declared.front.Delimiter.{Delimiter}
+use Rattle.syn_lexer.specs.declared.front.Delimiter.TheVariants as delimiter
+use Rattle.syn_lexer.specs.declared.front.Spacing.TheVariants as spacing
 use Rattle.syn_tokens.specs.Tok.{Tok, Inside, toks, ident, punct, literal, group, nothing, first}
+use Rattle.std.specs.Rc.{rc_str_bytes}
+use Rattle.std.specs.Str.{IsCharBoundary}
+use Rattle.syn_tokens.specs.Sign.{word_text}
+use Rattle.syn_tokens.specs.declared.text.Kept.{Kept}
+use Rattle.syn_tokens.specs.declared.text.Kept.TheVariants.{Part, Word}
 
 abbrev pub is_joint : Tok → Bool
 is_joint (punct c spacing.Joint) = true
@@ -45,3 +50,13 @@ abbrev mutual
 abbrev pub text : List Tok → List ℕ
 text [] = []
 text (t ∷ ts) = text_of t ++ gap t ts ++ text ts
+
+-- ---- what a text is that shares another
+
+abbrev pub source_bytes : Kept → List ℕ
+source_bytes (Word k) = word_text k
+source_bytes (Part whole lo hi) = take (hi - lo) (drop lo (rc_str_bytes whole))
+
+abbrev pub IsTextSource : Kept → Type 0
+IsTextSource (Word k) = Unit {0}
+IsTextSource (Part whole lo hi) = (lo ≤ hi) × IsCharBoundary (rc_str_bytes whole) lo × IsCharBoundary (rc_str_bytes whole) hi

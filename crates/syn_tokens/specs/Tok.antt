@@ -1,7 +1,7 @@
 -- Token trees without their places in a text (Rust Reference, "Tokens", "Token trees").
 use Rattle.std.specs.Prelude.{◌≡◌, ℕ, ◌+◌, List, [], ◌∷◌, refl}
-use Rattle.syn_lexer.specs.declared.lexeme.Delimiter.{Delimiter}
-use Rattle.syn_lexer.specs.declared.lexeme.Spacing.{Spacing}
+use Rattle.syn_lexer.specs.declared.front.Delimiter.{Delimiter}
+use Rattle.syn_lexer.specs.declared.front.Spacing.{Spacing}
 
 -- Texts are lists of bytes, the character of a punct is a number.
 mutual

@@ -3,10 +3,10 @@ use Rattle.std.specs.Prelude.{◌≡◌, ℕ, List, refl}
 use Rattle.std.specs.Coded.{Coded, coded_ℕ, coded_list}
 use base.Stored.{Gv, gnil, gnum, gcons}
 use Rattle.syn_tokens.specs.Tok.{Tok, Inside, ident, punct, literal, group, nothing, first}
-use Rattle.syn_lexer.specs.declared.lexeme.Delimiter.{Delimiter}
-use Rattle.syn_lexer.specs.declared.lexeme.Delimiter.TheVariants as delimiter
-use Rattle.syn_lexer.specs.declared.lexeme.Spacing.{Spacing}
-use Rattle.syn_lexer.specs.declared.lexeme.Spacing.TheVariants as spacing
+use Rattle.syn_lexer.specs.declared.front.Delimiter.{Delimiter}
+use Rattle.syn_lexer.specs.declared.front.Delimiter.TheVariants as delimiter
+use Rattle.syn_lexer.specs.declared.front.Spacing.{Spacing}
+use Rattle.syn_lexer.specs.declared.front.Spacing.TheVariants as spacing
 
 abbrev text_code : List ℕ → Gv
 text_code = (coded_list coded_ℕ).code

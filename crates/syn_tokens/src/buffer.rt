@@ -5,13 +5,12 @@ ghost use Rattle.syn_tokens.specs.Front as front;
 ghost use Rattle.syn_tokens.specs.Input as spec;
 ghost use Rattle.syn_tokens.specs.Input.{Input, Reaches, IsTail, IsAfter};
 ghost use Rattle.syn_tokens.specs.Tok.{Tok, weight, token_weight};
-ghost use Rattle.syn_tokens.specs.declared.span.Span.{Span};
+ghost use Rattle.syn_tokens.specs.declared.tree.Span.{Span};
 ghost use Rattle.syn_tokens.specs.View.{tok_of, toks_of};
 
 use crate::error::{Error, ErrorKind, Expected, Result, Wanted};
-use crate::span::Span;
 use crate::token::{Brace, Bracket, Group, Paren};
-use crate::tree::{TokenStream, TokenTree};
+use crate::tree::{Span, TokenStream, TokenTree};
 use crate::{Delimiter, Spacing};
 use std::alloc::Global;
 use std::marker::Model;

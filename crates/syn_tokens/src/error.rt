@@ -5,8 +5,8 @@ ghost use Rattle.syn_tokens.specs.declared.error.ErrorKind.TheVariants.{OutOfMem
 ghost use Rattle.syn_tokens.specs.ErrorText as spec;
 
 use crate::Delimiter;
-use crate::span::Span;
-use crate::table::{sign_text, word_text};
+use crate::token::{sign_text, word_text};
+use crate::tree::Span;
 use std::alloc::{AllocError, AllocFailed};
 use std::fmt;
 pub use syn_lexer::error::LexError;

@@ -11,15 +11,13 @@ ghost use Rattle.syn_tokens.specs.View.{tok_of};
 
 use crate::error::{Error, ErrorKind, LexError, Result};
 use crate::same::is_same;
-use crate::shared::SharedText;
-use crate::span::Span;
-use crate::tree::{Group, Ident, Literal, Punct, TokenStream, TokenTree};
+use crate::text::SharedText;
+use crate::tree::{Group, Ident, Literal, Punct, Span, TokenStream, TokenTree};
 use crate::{Delimiter, Spacing};
 use std::alloc::Global;
 use std::rc::RcStr;
 use syn_lexer::error::Refusal;
-use syn_lexer::front::front;
-use syn_lexer::lexeme::LexemeKind;
+use syn_lexer::front::{LexemeKind, front};
 
 /// The token trees of a text (Rust Reference, "Tokens"), with places in bytes from its start. Blanks and comments make
 /// none. Groups may nest without bound.

@@ -5,9 +5,8 @@ ghost use Rattle.syn_tokens.specs.Lex.{IsIdentText, IsLiteralText, refusal, or_u
 
 use crate::error::{Error, ErrorKind, LexError, Result};
 use crate::lexer::{chars_of, lex};
-use crate::shared::SharedText;
-use crate::span::Span;
-use crate::tree::{Ident, Literal};
+use crate::text::SharedText;
+use crate::tree::{Ident, Literal, Span};
 use std::alloc::Global;
 use syn_lexer::front::{is_ident, is_literal};
 

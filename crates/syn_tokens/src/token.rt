@@ -1,7 +1,7 @@
-//! The tokens of one or more puncts, the words and the delimiters.
+//! The tokens of one or more puncts, the words and the delimiters, each with its spelling.
 
-ghost use Rattle.std.specs.Prelude.{◌≡◌, ◌+◌, ◌++◌, [], ◌∷◌, replicate, IfErr, OnOk, OnErr, false};
-ghost use Rattle.syn_lexer.specs.declared.lexeme.Delimiter.TheVariants as delimiter;
+ghost use Rattle.std.specs.Prelude.{◌≡◌, ◌+◌, ◌++◌, [], ◌∷◌, replicate, IfErr, OnOk, OnErr, false, map, slice_index_or};
+ghost use Rattle.syn_lexer.specs.declared.front.Delimiter.TheVariants as delimiter;
 ghost use Rattle.syn_tokens.specs.Front as front;
 ghost use Rattle.syn_tokens.specs.Input.{IsFront};
 ghost use Rattle.syn_tokens.specs.Places.{IsAt};
@@ -22,11 +22,9 @@ pub use crate::alias::{
 };
 use crate::buffer::{Parse, ParseBuffer, ToTokens, Token};
 use crate::error::{ErrorKind, Expected, Result, Wanted};
-use crate::shared::SharedText;
-use crate::span::Span;
-use crate::table::{sign_text, word_text};
-use crate::tree::{self, Ident, Punct, TokenStream, TokenTree};
-use crate::{Delimiter, Spacing};
+use crate::text::SharedText;
+use crate::tree::{Ident, Punct, Span, TokenStream, TokenTree};
+use crate::{Delimiter, Spacing, tree};
 
 /// A token of N puncts, the one at place K of `SIGNS` (Rust Reference, "Punctuation"). Where that has another number of
 /// puncts, or K is past the list, it is never seen or read and prints nothing. Equality ignores places.
@@ -442,4 +440,39 @@ impl Group {
     {
         enclosed(Delimiter::None, stream, self.span)
     }
+}
+
+/// The signs, each at its place (Rust Reference, "Punctuation", with `~` and `$`).
+pub const SIGNS: [&str; 46] = [
+    "&", "&&", "&=", "@", "^", "^=", ":", ",", "$", ".", "..", "...", "..=", "=", "==", "=>", ">=",
+    ">", "<-", "<=", "<", "-", "-=", "!=", "!", "|", "|=", "||", "::", "%", "%=", "+", "+=", "#",
+    "?", "->", ";", "<<", "<<=", ">>", ">>=", "/", "/=", "*", "*=", "~",
+];
+
+/// The words, each at its place (Rust Reference, "Keywords").
+pub const WORDS: [&str; 29] = [
+    "as", "async", "await", "become", "break", "const", "continue", "dyn", "else", "extern", "fn",
+    "for", "if", "impl", "in", "let", "loop", "match", "move", "mut", "raw", "ref", "return",
+    "static", "try", "unsafe", "use", "while", "yield",
+];
+
+/// The text at a place, none past the table.
+fn entry(table: &[&'static str], k: usize) -> &'static str
+    ensures { result.now ≡ slice_index_or (map (λ s. s.now) table.now) k [] }
+{
+    if k < table.len() { table[k] } else { "" }
+}
+
+/// The sign at place `k` of `SIGNS`; an empty text past the list.
+pub fn sign_text(k: usize) -> &'static str
+    ensures { result.now ≡ spec.sign_text k }
+{
+    entry(&SIGNS, k)
+}
+
+/// The word at place `k` of `WORDS`; an empty text past the list.
+pub fn word_text(k: usize) -> &'static str
+    ensures { result.now ≡ spec.word_text k }
+{
+    entry(&WORDS, k)
 }

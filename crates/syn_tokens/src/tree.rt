@@ -1,10 +1,10 @@
-//! Token trees and streams of them, as in proc_macro2.
+//! Token trees and streams of them, as in proc_macro2, with their places in a text and their copies.
 
-ghost use Rattle.std.specs.Prelude.{◌≡◌, [], ◌∷◌, ◌++◌, length, take, IfOk, IfErr, OnOk, OnErr, IsTrue, ◌↔◌};
+ghost use Rattle.std.specs.Prelude.{◌≡◌, [], ◌∷◌, ◌++◌, length, take, IfOk, IfErr, OnOk, OnErr, IsTrue, ◌↔◌, min, max};
+ghost use Rattle.syn_tokens.specs.View.{tok_of, toks_of};
 
 use crate::error::{ErrorKind, Result};
-use crate::shared::SharedText;
-use crate::span::Span;
+use crate::text::SharedText;
 use crate::{Delimiter, Spacing};
 use std::alloc::{AllocError, Global};
 use std::marker::Model;
@@ -274,4 +274,85 @@ impl TokenStream {
     {
         self.trees.len()
     }
+}
+
+/// A place in a text: byte offsets, from `lo` to before `hi`.
+#[derive(Clone, Copy, Debug, Default, PartialEq, Eq, Hash)]
+pub struct Span {
+    /// Where the first byte is.
+    pub lo: usize,
+    /// Where the last byte ends.
+    pub hi: usize,
+}
+
+impl Span {
+    /// The place of what was not read from a text: `0..0`.
+    pub fn call_site() -> Span
+        ensures { result ≡ record { lo = 0; hi = 0 } }
+    {
+        Span { lo: 0, hi: 0 }
+    }
+    /// From where the first of two places begins to where the last of them ends.
+    pub fn join(self, other: Span) -> Span
+        ensures { result ≡ record { lo = min self.lo other.lo; hi = max self.hi other.hi } }
+    {
+        Span {
+            lo: self.lo.min(other.lo),
+            hi: self.hi.max(other.hi),
+        }
+    }
+}
+
+/// A copy of a word, with its place, which shares its text; refused only where memory runs out.
+pub fn copy_ident(_: Global, ident: &Ident) -> Result<Ident>
+    ensures copied { IfOk result (λ i. i ≡ ident.now) }
+    ensures memory { IfErr result (λ e. e.kind ≡ ErrorKind.OutOfMemory) }
+{
+    Ok(ident.copy()?)
+}
+
+/// A copy of a literal, with its place, which shares its text; refused only where memory runs out.
+pub fn copy_literal(_: Global, literal: &Literal) -> Result<Literal>
+    ensures copied { IfOk result (λ l. l ≡ literal.now) }
+    ensures memory { IfErr result (λ e. e.kind ≡ ErrorKind.OutOfMemory) }
+{
+    Ok(literal.copy()?)
+}
+
+/// A copy of a tree, with its places; refused only where memory runs out.
+#[cycle(copy)]
+#[tactic(auto, using(crate::proofs::Views::insides))]
+pub fn copy_tree(alloc: Global, tree: &TokenTree) -> Result<TokenTree>
+    ensures copied { IfOk result (λ t. tok_of t ≡ tok_of tree.now) }
+    ensures memory { IfErr result (λ e. e.kind ≡ ErrorKind.OutOfMemory) }
+{
+    match tree {
+        TokenTree::Ident(ident) => Ok(TokenTree::Ident(copy_ident(alloc, ident)?)),
+        TokenTree::Literal(literal) => Ok(TokenTree::Literal(copy_literal(alloc, literal)?)),
+        TokenTree::Punct(punct) => Ok(TokenTree::Punct(*punct)),
+        TokenTree::Group(group) => {
+            let stream = copy_trees(alloc, group.stream.trees())?;
+            Ok(TokenTree::Group(Group {
+                delimiter: group.delimiter,
+                stream,
+                span: group.span,
+            }))
+        }
+    }
+}
+
+/// A copy of some trees, with their places; refused only where memory runs out.
+#[cycle(copy)]
+#[tactic(auto, using(crate::proofs::Views::insides, crate::proofs::Weights::one_at_least), unfolding(crate::specs::Tok::weight))]
+pub fn copy_trees(alloc: Global, trees: &[TokenTree]) -> Result<TokenStream>
+    ensures copied { IfOk result (λ s. s ≡ toks_of trees.now) }
+    ensures memory { IfErr result (λ e. e.kind ≡ ErrorKind.OutOfMemory) }
+{
+    let mut stream = TokenStream::new(alloc);
+    let mut rest = trees;
+    while let [tree, more @ ..] = rest {
+        stream.push(copy_tree(alloc, tree)?)?;
+        rest = more;
+    }
+    Ok(stream)
 }

@@ -6,9 +6,9 @@ use std::hash::{DefaultHasher, Hash, Hasher};
 use std::test::Fail;
 use syn_tokens::buffer::Parse;
 use syn_tokens::error::Error;
+use syn_tokens::parse::parse_str;
 use syn_tokens::token::{PlusEq, Yield};
 use syn_tokens::tree::{Ident, Literal, TokenStream, TokenTree};
-use syn_tokens::whole::parse_str;
 
 fn hash_of<T: Hash>(value: &T) -> u64 {
     let mut state = DefaultHasher::new();

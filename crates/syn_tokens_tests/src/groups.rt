@@ -8,10 +8,9 @@ use syn_tokens::Delimiter;
 use syn_tokens::buffer::ParseBuffer;
 use syn_tokens::error::Error;
 use syn_tokens::lexer::lex;
-use syn_tokens::span::Span;
 use syn_tokens::text::to_text;
 use syn_tokens::token::{self, Brace, Bracket, Paren};
-use syn_tokens::tree::{Group, Ident, TokenStream, TokenTree};
+use syn_tokens::tree::{Group, Ident, Span, TokenStream, TokenTree};
 
 /// The tokens of a text, and an invisible group of `d` after them.
 fn with_group(alloc: Global, text: &str) -> Result<TokenStream, Error> {

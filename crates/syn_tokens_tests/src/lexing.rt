@@ -7,8 +7,8 @@ use std::test::Fail;
 use syn_tokens::buffer::ParseBuffer;
 use syn_tokens::error::{Error, ErrorKind, LexError};
 use syn_tokens::lexer::lex;
-use syn_tokens::span::Span;
 use syn_tokens::text::to_text;
+use syn_tokens::tree::Span;
 
 /// The text of the tokens of a text. It has no blank at an end, which a row would not tell.
 fn lexed(alloc: Global, given: &str) -> Result<String, Error> {

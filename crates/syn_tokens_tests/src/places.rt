@@ -7,10 +7,9 @@ use std::test::Fail;
 use syn_tokens::buffer::{Parse, ParseBuffer, ToTokens, Token};
 use syn_tokens::error::{Error, ErrorKind, Expected, Wanted};
 use syn_tokens::lexer::lex;
-use syn_tokens::span::Span;
+use syn_tokens::parse::parse_str;
 use syn_tokens::token::{Paren, Plus, PlusEq, Underscore, Yield};
-use syn_tokens::tree::{Ident, Literal, TokenStream, TokenTree};
-use syn_tokens::whole::parse_str;
+use syn_tokens::tree::{Ident, Literal, Span, TokenStream, TokenTree};
 use syn_tokens::{Delimiter, Spacing};
 
 const TEXT: &str = r#"é 'a += r#b ["é"] /* é */ 1.0u8 ({})"#;

@@ -7,11 +7,9 @@ use std::test::Fail;
 use syn_tokens::buffer::ParseBuffer;
 use syn_tokens::error::Error;
 use syn_tokens::lexer::lex;
-use syn_tokens::parse::parse_any_word;
-use syn_tokens::span::Span;
+use syn_tokens::parse::{parse_any_word, parse_str};
 use syn_tokens::token::{Comma, DotDotEq, Underscore, Yield};
-use syn_tokens::tree::{Ident, Literal, TokenStream, TokenTree};
-use syn_tokens::whole::parse_str;
+use syn_tokens::tree::{Ident, Literal, Span, TokenStream, TokenTree};
 
 #[test]
 fn tokens_are_printed(rt: HostRuntime) -> Result<(), Fail> {

@@ -7,8 +7,8 @@ use syn_tokens::Delimiter;
 use syn_tokens::error::{
     AfterCast, Error, ErrorKind, Expected, LexError, Part, Wanted, WantedKind,
 };
-use syn_tokens::span::Span;
 use syn_tokens::token::{Comma, Underscore, Yield};
+use syn_tokens::tree::Span;
 
 /// What is shown of a refusal.
 fn shown(alloc: Global, kind: ErrorKind) -> Result<String, Error> {

@@ -5,10 +5,10 @@ use std::test::Fail;
 use syn_tokens::buffer::{Parse, ParseBuffer, ToTokens, Token};
 use syn_tokens::error::Error;
 use syn_tokens::lexer::lex;
+use syn_tokens::parse::parse2;
 use syn_tokens::text::to_text;
 use syn_tokens::token::{self, Sign, Word};
 use syn_tokens::tree::TokenStream;
-use syn_tokens::whole::parse2;
 
 /// Whether a token type is seen, read and printed as this text.
 fn is_spelled<T: Default + Drop + Parse + ToTokens + Token>(

@@ -5,12 +5,12 @@ use rows::{check, words};
 use std::alloc::Global;
 use std::test::Fail;
 use syn_tokens::buffer::{ParseBuffer, ToTokens};
-use syn_tokens::copy::{copy_ident, copy_literal, copy_tree, copy_trees};
 use syn_tokens::error::Error;
 use syn_tokens::lexer::lex;
-use syn_tokens::span::Span;
 use syn_tokens::text::to_text;
-use syn_tokens::tree::{Ident, TokenStream, TokenTree};
+use syn_tokens::tree::{
+    Ident, Span, TokenStream, TokenTree, copy_ident, copy_literal, copy_tree, copy_trees,
+};
 
 /// A word, then the tokens of a text, then those of an empty stream.
 fn grown(alloc: Global, text: &str) -> Result<TokenStream, Error> {

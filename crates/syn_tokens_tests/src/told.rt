@@ -2,8 +2,7 @@
 
 use std::alloc::Global;
 use syn_tokens::error::Error;
-use syn_tokens::span::Span;
-use syn_tokens::tree::TokenStream;
+use syn_tokens::tree::{Span, TokenStream};
 
 /// The text of a row without the blanks after it. A blank that counts there and the ends of lines are in the row as
 /// the pictures of these characters.

@@ -6,15 +6,14 @@ use std::alloc::Global;
 use std::test::Fail;
 use syn_lower_leaves::attr::Attribute;
 use syn_lower_leaves::block::Block;
+use syn_lower_leaves::leaf::any_group;
 use syn_lower_leaves::lifetime::Lifetime;
-use syn_lower_leaves::verbatim::any_group;
 use syn_tokens::buffer::{Parse, ParseBuffer, ToTokens};
 use syn_tokens::error::{Error, ErrorKind, Expected, Part, Wanted};
 use syn_tokens::lexer::lex;
-use syn_tokens::span::Span;
 use syn_tokens::text::to_text;
 use syn_tokens::token::Group;
-use syn_tokens::tree::{Ident, Punct, TokenStream, TokenTree};
+use syn_tokens::tree::{Ident, Punct, Span, TokenStream, TokenTree};
 use syn_tokens::{Delimiter, Spacing};
 
 const LIFETIMES_AT_THE_FRONT: &str = "

@@ -4,13 +4,13 @@
 use rows::{again, check, compared, left, printed, verdict, words};
 use std::alloc::Global;
 use std::test::Fail;
+use syn_lower_leaves::leaf::{is_number, is_truth, kind_of};
 use syn_lower_leaves::lit::{
     Lit, LitBool, LitByte, LitByteStr, LitCStr, LitChar, LitFloat, LitInt, LitStr,
 };
-use syn_lower_leaves::text::{is_number, is_truth, kind_of};
 use syn_tokens::buffer::Parse;
 use syn_tokens::error::{Error, ErrorKind, Part};
-use syn_tokens::whole::parse_str;
+use syn_tokens::parse::parse_str;
 
 /// Whole texts, and what is printed of them or their refusals.
 const LITERALS: &str = r##"

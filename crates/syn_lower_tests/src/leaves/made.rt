@@ -6,10 +6,9 @@ use std::test::Fail;
 use syn_lower_leaves::lit::{LitBool, LitByte, LitByteStr, LitChar, LitFloat, LitInt, LitStr};
 use syn_tokens::buffer::ToTokens;
 use syn_tokens::error::Error;
-use syn_tokens::span::Span;
+use syn_tokens::parse::parse_str;
 use syn_tokens::text::to_text;
-use syn_tokens::tree::TokenStream;
-use syn_tokens::whole::parse_str;
+use syn_tokens::tree::{Span, TokenStream};
 
 fn printed<T: ToTokens>(alloc: Global, part: &T) -> Result<String, Error> {
     let mut tokens = TokenStream::new(alloc);

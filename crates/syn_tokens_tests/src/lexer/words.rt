@@ -1,8 +1,7 @@
 //! Which whole texts are a word or a literal, which words are reserved, and the texts of refusals.
 
 use syn_lexer::error::LexError;
-use syn_lexer::front::{is_ident, is_literal};
-use syn_lexer::reserved::is_reserved_word;
+use syn_lexer::front::{is_ident, is_literal, is_reserved_word};
 
 #[test]
 fn whole_texts(rt: HostRuntime) {

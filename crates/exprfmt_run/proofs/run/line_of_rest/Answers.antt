@@ -1,4 +1,4 @@
-use Rattle.syn_expr.specs.Positions.{position_of}
+use Rattle.syn_expr.specs.Texts.{position_of}
 use Rattle.exprfmt_run.proofs.RunLaws.{known, known_left}
 use Rattle.exprfmt_run.proofs.run.line_of_rest.Goals as goal
 

@@ -1,5 +1,5 @@
 use Rattle.std.proofs.Common.{rules, chars}
-use Rattle.syn_expr.specs.Positions.{position_of}
+use Rattle.syn_expr.specs.Texts.{position_of}
 use Rattle.exprfmt_run.proofs.RunLaws.{line_is}
 use Rattle.exprfmt_run.proofs.run.line_of_text.Goals as goal
 

@@ -1,5 +1,5 @@
 use Rattle.std.proofs.Common.{refl, string_bytes}
-use Rattle.syn_expr.specs.Positions.{position_of}
+use Rattle.syn_expr.specs.Texts.{position_of}
 use Rattle.exprfmt_run.specs.Run.{writer}
 use Rattle.exprfmt_run.proofs.RunLaws.{reported, printed_whole, printed_front}
 use Rattle.exprfmt_run.proofs.run.run.Goals as goal

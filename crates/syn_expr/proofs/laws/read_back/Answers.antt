@@ -1,6 +1,6 @@
 use Rattle.std.proofs.Common.{refl}
-use Rattle.syn_expr_all.specs.View.{tree_of}
-use Rattle.syn_grammar.specs.Printed.{in_plain}
+use Rattle.syn_expr_core.specs.View.{tree_of}
+use Rattle.syn_expr_spec.specs.Printed.{in_plain}
 use Rattle.syn_expr.proofs.ReadBack.{given_back}
 use Rattle.syn_expr.proofs.laws.read_back.Goals as goal
 

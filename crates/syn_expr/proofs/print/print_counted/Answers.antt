@@ -1,4 +1,4 @@
-use Rattle.syn_expr_all.specs.View.{tree_of}
+use Rattle.syn_expr_core.specs.View.{tree_of}
 use Rattle.syn_expr.proofs.Promised.{text_of, prints_at}
 use Rattle.syn_expr.proofs.Sizes.{at_least_once, at_most_twice}
 use Rattle.syn_expr.proofs.print.print_counted.Goals as goal

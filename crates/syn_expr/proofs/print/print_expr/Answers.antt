@@ -1,4 +1,4 @@
-use Rattle.syn_expr_all.specs.View.{tree_of}
+use Rattle.syn_expr_core.specs.View.{tree_of}
 use Rattle.syn_expr.proofs.Promised.{text_at, back_at, added_at, own_at, minimal_at}
 use Rattle.syn_expr.proofs.print.print_expr.Goals as goal
 

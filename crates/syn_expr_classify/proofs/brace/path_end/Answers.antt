@@ -2,10 +2,10 @@
 use Rattle.std.proofs.Common.{◌<◌, ◌≤◌, length, map, subst, arith}
 use Rattle.std.proofs.lemmas.List.{length-map}
 use Rattle.std.specs.Prelude.{false, is_some}
-use Rattle.syn_grammar.specs.Query.{type_brace}
+use Rattle.syn_expr_spec.specs.Query.{type_brace}
 use Rattle.syn_lower.specs.Ends.{segments_depth}
 use Rattle.syn_lower.specs.View.{type_of, values, trails, segment_of}
-use Rattle.syn_parts.specs.Tree as t
+use Rattle.syn_lower_spec.specs.Tree as t
 use Rattle.syn_expr_classify.specs.Right.{Tells}
 use Rattle.syn_expr_classify.proofs.Lasts.{inside_brace, outside_brace}
 use Rattle.syn_expr_classify.proofs.brace.path_end.Goals as goal

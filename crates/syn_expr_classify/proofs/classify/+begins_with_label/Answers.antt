@@ -1,11 +1,11 @@
 -- After attributes that are all inner ones, what a node begins with is first.
 use Rattle.std.proofs.Common.{◌≡◌, Some, true, ap, sym, ◌∙◌}
-use Rattle.syn_grammar.specs.Query as query
-use Rattle.syn_grammar.specs.Tree.{outers}
+use Rattle.syn_expr_spec.specs.Query as query
+use Rattle.syn_expr_spec.specs.Tree.{outers}
 use Rattle.syn_lower_leaves.specs.View.{mapped}
-use Rattle.syn_parts.specs.Form.{is_nil}
-use Rattle.syn_expr_summaries.specs.Kind.{kind_at}
-use Rattle.syn_expr_kinds.specs.Node.{attributes_at, first_of, operands_at}
+use Rattle.syn_lower_spec.specs.Form.{is_nil}
+use Rattle.syn_expr_ast.specs.Label.{kind_at}
+use Rattle.syn_expr_ast.specs.Node.{attributes_at, first_of, operands_at}
 use Rattle.syn_expr_classify.specs.Node.{asked, verbatim_at, word_behind}
 use Rattle.syn_expr_classify.proofs.Labels.{leads-first, leads-verbatim}
 use Rattle.syn_expr_classify.proofs.classify.+begins_with_label.Goals as goal

@@ -1,5 +1,5 @@
 -- A walk goes down the operands at the right end.
-use Rattle.syn_grammar.specs.Tree.{size}
+use Rattle.syn_expr_spec.specs.Tree.{size}
 use Rattle.syn_expr_classify.proofs.classify.+node_brace.Given as goal
 
 abbrev pub decreases-node_brace : goal.decreases-node_brace

@@ -1,10 +1,10 @@
 -- What is last in a node, by the shape that is lent.
 use Rattle.std.proofs.Common.{◌≡◌, ◌&&◌, Some, ap, sym, subst, ◌∙◌}
-use Rattle.syn_grammar.specs.Query as query
-use Rattle.syn_grammar.specs.Tree.{outers}
+use Rattle.syn_expr_spec.specs.Query as query
+use Rattle.syn_expr_spec.specs.Tree.{outers}
 use Rattle.syn_lower_leaves.specs.View.{mapped}
-use Rattle.syn_parts.specs.Form.{is_nil}
-use Rattle.syn_expr_kinds.specs.Node.{leaf_of, prefix_seen, frame_seen, operands_at, leaf_at, prefix_at, frame_at, last_of}
+use Rattle.syn_lower_spec.specs.Form.{is_nil}
+use Rattle.syn_expr_ast.specs.Node.{leaf_of, prefix_seen, frame_seen, operands_at, leaf_at, prefix_at, frame_at, last_of}
 use Rattle.syn_expr_classify.specs.Node.{asked}
 use Rattle.syn_expr_classify.specs.Right.{NodeTells}
 use Rattle.syn_expr_classify.proofs.Rights.{right-leaf, right-prefixed, right-frame}

@@ -1,12 +1,12 @@
 -- In each arm what the arm's own function leaves is put back into its kind.
 use Rattle.std.proofs.Common.{refl, sym, ap, ◌∙◌}
-use Rattle.syn_expr_all.specs.View.{let_of, match_of, closure_of, expr_array_of, expr_assign_of, expr_async_of, expr_await_of, expr_binary_of, expr_block_of, expr_break_of, expr_call_of, expr_cast_of, expr_const_of, expr_continue_of, expr_field_of, expr_group_of, expr_if_of, expr_index_of, expr_infer_of, expr_lit_of, expr_loop_of, expr_macro_of, expr_method_call_of, expr_paren_of, expr_path_of, expr_range_of, expr_raw_addr_of, expr_reference_of, expr_repeat_of, expr_return_of, expr_struct_of, expr_try_block_of, expr_try_of, expr_tuple_of, expr_unary_of, expr_unsafe_of, expr_while_of, expr_yield_of, for_loop_of, guard_of, pat_ident_of, pat_of, pat_or_of, pat_paren_of, pat_reference_of, pat_slice_of, pat_struct_of, pat_tuple_of, pat_tuple_struct_of, pat_type_of, tree_of}
-use Rattle.syn_grammar.specs.Tree.{leaf, verbatim}
-use Rattle.syn_expr_all.specs.declared.expr.Expr.TheVariants as ex
-use Rattle.syn_expr_all.specs.declared.pat.Pat.TheVariants as pt
-use Rattle.syn_expr_all.proofs.TreeOf as of
-use Rattle.syn_expr_flat.specs.Flat.{IsFlatBehind}
-use Rattle.syn_expr_flat.proofs.Nodes.{none_behind}
+use Rattle.syn_expr_core.specs.View.{let_of, match_of, closure_of, expr_array_of, expr_assign_of, expr_async_of, expr_await_of, expr_binary_of, expr_block_of, expr_break_of, expr_call_of, expr_cast_of, expr_const_of, expr_continue_of, expr_field_of, expr_group_of, expr_if_of, expr_index_of, expr_infer_of, expr_lit_of, expr_loop_of, expr_macro_of, expr_method_call_of, expr_paren_of, expr_path_of, expr_range_of, expr_raw_addr_of, expr_reference_of, expr_repeat_of, expr_return_of, expr_struct_of, expr_try_block_of, expr_try_of, expr_tuple_of, expr_unary_of, expr_unsafe_of, expr_while_of, expr_yield_of, for_loop_of, guard_of, pat_ident_of, pat_of, pat_or_of, pat_paren_of, pat_reference_of, pat_slice_of, pat_struct_of, pat_tuple_of, pat_tuple_struct_of, pat_type_of, tree_of}
+use Rattle.syn_expr_spec.specs.Tree.{leaf, verbatim}
+use Rattle.syn_expr_core.specs.declared.expr.Expr.TheVariants as ex
+use Rattle.syn_expr_core.specs.declared.pat.Pat.TheVariants as pt
+use Rattle.syn_expr_core.proofs.TreeOf as of
+use Rattle.syn_expr_flatten.specs.Flat.{IsFlatBehind}
+use Rattle.syn_expr_flatten.proofs.Nodes.{none_behind}
 use Rattle.syn_expr_flatten.proofs.Made.{arm, bare, case, related}
 use Rattle.syn_expr_flatten.proofs.knot.+flatten.Goals as goal
 

@@ -1,5 +1,5 @@
-use Rattle.syn_expr_all.specs.View.{tree_of}
-use Rattle.syn_expr_flat.proofs.Calls.{flat_by}
+use Rattle.syn_expr_core.specs.View.{tree_of}
+use Rattle.syn_expr_flatten.proofs.Calls.{flat_by}
 use Rattle.syn_expr_flatten.proofs.Made.{arm_made}
 use Rattle.syn_expr_flatten.proofs.members.arm.Goals as goal
 

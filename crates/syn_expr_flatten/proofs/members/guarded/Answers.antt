@@ -1,5 +1,5 @@
-use Rattle.syn_expr_all.specs.View.{pat_of, tree_of}
-use Rattle.syn_expr_flat.proofs.Calls.{flat_by, pat_by}
+use Rattle.syn_expr_core.specs.View.{pat_of, tree_of}
+use Rattle.syn_expr_flatten.proofs.Calls.{flat_by, pat_by}
 use Rattle.syn_expr_flatten.proofs.Made.{guard_made}
 use Rattle.syn_expr_flatten.proofs.members.guarded.Goals as goal
 

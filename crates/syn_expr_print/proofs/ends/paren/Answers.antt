@@ -1,8 +1,8 @@
 -- What is in the parentheses is printed for itself.
 use Rattle.std.proofs.Common.{◌≡◌, [], ◌++◌, false, OnOk, subst, sym, ap, ◌∙◌}
-use Rattle.syn_lexer.specs.declared.lexeme.Delimiter.TheVariants as del
-use Rattle.syn_parts.specs.Own as own_parts
-use Rattle.syn_grammar.specs.Next.{enclosed}
+use Rattle.syn_lexer.specs.declared.front.Delimiter.TheVariants as del
+use Rattle.syn_lower_spec.specs.Own as own_parts
+use Rattle.syn_expr_spec.specs.Next.{enclosed}
 use Rattle.syn_expr_print.specs.Printing.{spelled_in}
 use Rattle.syn_expr_print.specs.Taken.{Taken}
 use Rattle.syn_expr_print.proofs.Borrowing.{on-map}

@@ -1,8 +1,8 @@
 -- The prefix, and then its operand, or what that begins with.
 use Rattle.std.proofs.Common.{◌≡◌, [], false, subst, arith, rules}
 use Rattle.syn_tokens.proofs.Fronts.{front_through}
-use Rattle.syn_grammar.specs.Summaries.{below}
-use Rattle.syn_expr_kinds.proofs.Sizes.{first-smaller}
+use Rattle.syn_expr_spec.specs.Summaries.{below}
+use Rattle.syn_expr_ast.proofs.Sizes.{first-smaller}
 use Rattle.syn_expr_print.specs.Printing.{EndsWith, core}
 use Rattle.syn_expr_print.proofs.Leading.{prefix_parts, prefix_last, prefix_down, prefix_going}
 use Rattle.syn_expr_print.proofs.Borrowing.{prefixed-stack, on-map}

@@ -1,10 +1,10 @@
 -- What is printed from here on is the operand that is next.
 use Rattle.std.proofs.Common.{◌≡◌, ◌≤◌, ◌++◌}
 use Rattle.syn_tokens.specs.Input.{IsFront}
-use Rattle.syn_grammar.specs.Summaries.{below}
-use Rattle.syn_grammar.specs.Tree.{size}
-use Rattle.syn_expr_summaries.specs.Kind.{kind_at}
-use Rattle.syn_expr_summaries.specs.declared.kind.NodeKind.TheVariants as node
+use Rattle.syn_expr_spec.specs.Summaries.{below}
+use Rattle.syn_expr_spec.specs.Tree.{size}
+use Rattle.syn_expr_ast.specs.Label.{kind_at}
+use Rattle.syn_expr_ast.specs.declared.label.NodeKind.TheVariants as node
 use Rattle.syn_expr_print.specs.Printing.{core, spelled}
 use Rattle.syn_expr_print.specs.Taken.{Going}
 use Rattle.syn_expr_print.proofs.ends.prefixed.Given as goal

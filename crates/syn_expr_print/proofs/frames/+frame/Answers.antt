@@ -1,21 +1,21 @@
 -- What comes after `else`, and a frame with its operands.
 use Rattle.std.proofs.Common.{◌≡◌, ◌+◌, ◌++◌, OnOk, map, subst, sym, ap, ◌∙◌, arith, rules}
-use Rattle.syn_grammar.specs.Next.{enclosed}
-use Rattle.syn_grammar.specs.Summaries.{stack, children_below}
-use Rattle.syn_grammar.specs.Tree.{size, children_size}
+use Rattle.syn_expr_spec.specs.Next.{enclosed}
+use Rattle.syn_expr_spec.specs.Summaries.{stack, children_below}
+use Rattle.syn_expr_spec.specs.Tree.{size, children_size}
 use Rattle.syn_lower_leaves.specs.View.{mapped}
-use Rattle.syn_expr_kinds.specs.Node.{frame_seen, operands_at, operands_of, operand_children}
-use Rattle.syn_expr_kinds.specs.Pats.{arms}
-use Rattle.syn_expr_collect.specs.Below.{arm_below, backwards}
-use Rattle.syn_expr_collect.proofs.Lists.{arms_below}
+use Rattle.syn_expr_ast.specs.Node.{frame_seen, operands_at, operands_of, operand_children}
+use Rattle.syn_expr_ast.specs.Pats.{arms}
+use Rattle.syn_expr_fixup.specs.Below.{arm_below, backwards}
+use Rattle.syn_expr_fixup.proofs.Lists.{arms_below}
 use Rattle.syn_expr_print.specs.Printing.{EndsWith, children_spelled, spelled}
 use Rattle.syn_expr_print.specs.Taken.{Taken}
 use Rattle.syn_expr_print.proofs.Chains.{if_expr-chained, block-chained, other-chained}
 use Rattle.syn_expr_print.proofs.Matches.{arms-size}
 use Rattle.syn_expr_print.proofs.Rounds.{framed-below, framed-text, open-frame-text}
-use Rattle.syn_expr_kinds.proofs.Sizes.{children-smaller}
+use Rattle.syn_expr_ast.proofs.Sizes.{children-smaller}
 use Rattle.syn_expr_print.proofs.Spellings.{spelled-bare}
-use Rattle.syn_expr_kinds.proofs.Owns.{then}
+use Rattle.syn_expr_ast.proofs.Owns.{then}
 use Rattle.syn_expr_print.proofs.frames.+frame.Goals as goal
 
 -- ---- after `else`

@@ -1,7 +1,7 @@
 -- What comes after `else` is smaller than its `if`.
 use Rattle.std.proofs.Common.{◌+◌, ◌*◌}
-use Rattle.syn_grammar.specs.Tree.{size, children_size}
-use Rattle.syn_expr_kinds.specs.Node.{operands_of, operand_children}
+use Rattle.syn_expr_spec.specs.Tree.{size, children_size}
+use Rattle.syn_expr_ast.specs.Node.{operands_of, operand_children}
 use Rattle.syn_expr_print.specs.Placed.{else_tree, option_size}
 use Rattle.syn_expr_print.proofs.frames.+frame.Given as goal
 

@@ -1,7 +1,7 @@
 -- The arms after what is looked at.
 use Rattle.std.proofs.Common.{◌++◌, subst, sym, ap, arith}
-use Rattle.syn_grammar.specs.Summaries.{stack}
-use Rattle.syn_expr_collect.specs.Below.{arm_below, backwards, total}
+use Rattle.syn_expr_spec.specs.Summaries.{stack}
+use Rattle.syn_expr_fixup.specs.Below.{arm_below, backwards, total}
 use Rattle.syn_expr_print.specs.Placed.{arm_size}
 use Rattle.syn_expr_print.specs.Printing.{EndsWith}
 use Rattle.syn_expr_print.proofs.Stacks.{taken-left}

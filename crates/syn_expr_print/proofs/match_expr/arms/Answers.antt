@@ -2,7 +2,7 @@
 use Rattle.std.proofs.Common.{◌-◌, ◌++◌, length, take, drop, map, subst, sym, ap, ◌∙◌, arith}
 use Rattle.std.specs.Prelude.{not}
 use Rattle.syn_tokens.proofs.Fronts.{front_through}
-use Rattle.syn_expr_collect.specs.Below.{arm_below, backwards, total}
+use Rattle.syn_expr_fixup.specs.Below.{arm_below, backwards, total}
 use Rattle.syn_expr_print.specs.Placed.{arm_size, arm_spelled, arms_spelled, comma_if, has_comma}
 use Rattle.syn_expr_print.specs.Taken.{Going}
 use Rattle.syn_expr_print.proofs.Matches.{nil-map}

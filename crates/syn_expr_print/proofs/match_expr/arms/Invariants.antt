@@ -1,6 +1,6 @@
 use Rattle.std.proofs.Common.{◌≡◌, ◌≤◌, ◌++◌, length, map}
 use Rattle.syn_tokens.specs.Input.{IsFront}
-use Rattle.syn_expr_collect.specs.Below.{arm_below, backwards, total}
+use Rattle.syn_expr_fixup.specs.Below.{arm_below, backwards, total}
 use Rattle.syn_expr_print.specs.Placed.{arm_size, arms_spelled}
 use Rattle.syn_expr_print.specs.Taken.{Going}
 use Rattle.syn_expr_print.proofs.match_expr.arms.Given as goal

@@ -1,5 +1,5 @@
 -- What is printed by itself is smaller.
-use Rattle.syn_grammar.specs.Tree.{size}
+use Rattle.syn_expr_spec.specs.Tree.{size}
 use Rattle.syn_expr_print.proofs.print.+node.Given as goal
 
 abbrev pub decreases-node : goal.decreases-node

@@ -1,7 +1,7 @@
 -- Each node is summarized, and printed at most once.
 use Rattle.std.proofs.Common.{◌≤◌, ◌-◌, ◌*◌, subst, sym}
 use Rattle.std.specs.Prelude.{◌^◌, min}
-use Rattle.syn_expr_collect.specs.Visited.{visited}
+use Rattle.syn_expr_fixup.specs.Visited.{visited}
 use Rattle.syn_expr_print.proofs.Counts.{twice-visited}
 use Rattle.syn_expr_print.proofs.print.print_with.Goals as goal
 

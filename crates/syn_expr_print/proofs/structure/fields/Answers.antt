@@ -1,13 +1,13 @@
 -- The fields with commas, the last, and what the others are taken of.
 use Rattle.std.proofs.Common.{◌≡◌, ◌++◌, OnOk, subst, sym, ap, ◌∙◌, append_assoc, arith}
 use Rattle.std.specs.Prelude.{is_some}
-use Rattle.syn_lower_lists.specs.Printed.{comma, pairs_printed}
-use Rattle.syn_grammar.specs.Tree.{size}
-use Rattle.syn_expr_kinds.specs.View.{boxed, field_value_of}
-use Rattle.syn_expr_kinds.proofs.Owns.{then}
-use Rattle.syn_expr_collect.specs.Below.{backwards, field_below, option_below, total}
+use Rattle.syn_lower_leaves.specs.Printed.{comma, pairs_printed}
+use Rattle.syn_expr_spec.specs.Tree.{size}
+use Rattle.syn_expr_ast.specs.View.{boxed, field_value_of}
+use Rattle.syn_expr_ast.proofs.Owns.{then}
+use Rattle.syn_expr_fixup.specs.Below.{backwards, field_below, option_below, total}
 use Rattle.syn_expr_print.specs.Placed.{last_field_below, last_field_spelled, rest_spelled}
-use Rattle.syn_expr_kinds.specs.Printed.{field_spelled}
+use Rattle.syn_expr_ast.specs.Printed.{field_spelled}
 use Rattle.syn_expr_print.specs.Printing.{EndsWith}
 use Rattle.syn_expr_print.proofs.Pairs.{fields-text, fields-below, fields-size}
 use Rattle.syn_expr_print.proofs.Stacks.{ends_back, taken-both, taken-left, taken-on}

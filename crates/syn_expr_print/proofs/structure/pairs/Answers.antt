@@ -2,12 +2,12 @@
 use Rattle.std.proofs.Common.{◌++◌, ◌∷◌, [], get_or, subst, sym, ap, ◌∙◌, arith}
 use Rattle.syn_tokens.specs.Sign.{sign_text}
 use Rattle.syn_tokens.proofs.Fronts.{front_through}
-use Rattle.syn_parts.specs.Own.{alone}
-use Rattle.syn_lower_lists.specs.Printed.{comma, pairs_printed}
-use Rattle.syn_grammar.specs.Tree.{size}
-use Rattle.syn_expr_kinds.specs.View.{field_value_of}
-use Rattle.syn_expr_collect.specs.Below.{backwards, field_below, total}
-use Rattle.syn_expr_kinds.specs.Printed.{field_spelled}
+use Rattle.syn_lower_spec.specs.Own.{alone}
+use Rattle.syn_lower_leaves.specs.Printed.{comma, pairs_printed}
+use Rattle.syn_expr_spec.specs.Tree.{size}
+use Rattle.syn_expr_ast.specs.View.{field_value_of}
+use Rattle.syn_expr_fixup.specs.Below.{backwards, field_below, total}
+use Rattle.syn_expr_ast.specs.Printed.{field_spelled}
 use Rattle.syn_expr_print.specs.Taken.{Going}
 use Rattle.syn_expr_print.proofs.Turns.{cut, going-next, going-on, sign_behind}
 use Rattle.syn_expr_print.proofs.structure.pairs.Goals as goal

@@ -1,10 +1,10 @@
 use Rattle.std.proofs.Common.{◌≡◌, ◌≤◌, ◌++◌, length}
 use Rattle.syn_tokens.specs.Input.{IsFront}
-use Rattle.syn_grammar.specs.Tree.{size}
-use Rattle.syn_lower_lists.specs.Printed.{comma, pairs_printed}
-use Rattle.syn_expr_kinds.specs.View.{field_value_of}
-use Rattle.syn_expr_collect.specs.Below.{backwards, field_below, total}
-use Rattle.syn_expr_kinds.specs.Printed.{field_spelled}
+use Rattle.syn_expr_spec.specs.Tree.{size}
+use Rattle.syn_lower_leaves.specs.Printed.{comma, pairs_printed}
+use Rattle.syn_expr_ast.specs.View.{field_value_of}
+use Rattle.syn_expr_fixup.specs.Below.{backwards, field_below, total}
+use Rattle.syn_expr_ast.specs.Printed.{field_spelled}
 use Rattle.syn_expr_print.specs.Taken.{Going}
 use Rattle.syn_expr_print.proofs.structure.pairs.Given as goal
 

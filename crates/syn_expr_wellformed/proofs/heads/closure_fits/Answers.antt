@@ -1,7 +1,7 @@
 -- A closure by its words, its arguments and its output.
 use Rattle.std.proofs.Common.{◌≡◌, ◌&&◌, true, ap, sym, ◌∙◌}
 use Rattle.std.specs.List.{list_all}
-use Rattle.syn_parts.specs.Fits.{output_fits}
+use Rattle.syn_lower_spec.specs.Fits.{output_fits}
 use Rattle.syn_lower.specs.View.{return_of, values}
 use Rattle.syn_expr_wellformed.specs.Alone.{argument_fits}
 use Rattle.syn_expr_wellformed.proofs.Closures.{captures, closure_is}

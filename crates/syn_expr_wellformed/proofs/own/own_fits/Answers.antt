@@ -1,7 +1,7 @@
 -- What holds patterns is read back, by the shape that is lent.
 use Rattle.std.proofs.Common.{◌≡◌, Some, ap, sym, ◌∙◌}
 use Rattle.syn_lower_leaves.specs.View.{mapped}
-use Rattle.syn_expr_kinds.specs.Node.{prefix_seen, frame_seen, prefix_at, frame_at}
+use Rattle.syn_expr_ast.specs.Node.{prefix_seen, frame_seen, prefix_at, frame_at}
 use Rattle.syn_expr_wellformed.proofs.Owns.{own-prefixed, own-frame}
 use Rattle.syn_expr_wellformed.proofs.own.own_fits.Goals as goal
 

@@ -1,7 +1,7 @@
 -- The last of the segments, after which no `::` stands.
 use Rattle.std.proofs.Common.{map, ap, rules}
 use Rattle.syn_lower.specs.View.{type_of, segment_of}
-use Rattle.syn_parts.specs.Part.{has_none, segments_bare}
+use Rattle.syn_lower_spec.specs.Part.{has_none, segments_bare}
 use Rattle.syn_expr_wellformed.proofs.PatKinds.{bare-some}
 use Rattle.syn_expr_wellformed.proofs.patterns.are_bare.Goals as goal
 

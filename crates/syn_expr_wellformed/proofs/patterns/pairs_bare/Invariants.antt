@@ -1,6 +1,6 @@
 use Rattle.std.proofs.Common.{◌≡◌, map, length}
 use Rattle.syn_lower.specs.View.{type_of, segment_of}
-use Rattle.syn_parts.specs.Part.{segments_bare}
+use Rattle.syn_lower_spec.specs.Part.{segments_bare}
 use Rattle.syn_expr_wellformed.proofs.patterns.pairs_bare.Given as goal
 
 abbrev pub invariant-pairs : goal.invariant-pairs

@@ -1,7 +1,7 @@
 -- Where the operands of a frame stand.
 use Rattle.std.proofs.Common.{◌≡◌, Some, ap, sym, ◌∙◌}
 use Rattle.syn_lower_leaves.specs.View.{mapped}
-use Rattle.syn_expr_kinds.specs.Node.{frame_seen, frame_at}
+use Rattle.syn_expr_ast.specs.Node.{frame_seen, frame_at}
 use Rattle.syn_expr_wellformed.proofs.Owns.{slot-frame, dots-frame}
 use Rattle.syn_expr_wellformed.proofs.slot.operand_slot.Goals as goal
 

@@ -1,11 +1,11 @@
 -- What is left of lists, of arms and of a node.
 use Rattle.std.proofs.Common.{ap, sym, ◌∙◌, rules}
 use Rattle.std.specs.List.{list_all}
-use Rattle.syn_grammar.specs.WellFormed.{well}
-use Rattle.syn_expr_kinds.specs.Node.{operands_of}
-use Rattle.syn_expr_kinds.specs.View.{field_value_of}
-use Rattle.syn_expr_collect.specs.Below.{operands_visited, total, arm_visited}
-use Rattle.syn_expr_collect.proofs.Lists.{arms_visited}
+use Rattle.syn_expr_spec.specs.WellFormed.{well}
+use Rattle.syn_expr_ast.specs.Node.{operands_of}
+use Rattle.syn_expr_ast.specs.View.{field_value_of}
+use Rattle.syn_expr_fixup.specs.Below.{operands_visited, total, arm_visited}
+use Rattle.syn_expr_fixup.proofs.Lists.{arms_visited}
 use Rattle.syn_expr_wellformed.specs.Slots.{dots_of}
 use Rattle.syn_expr_wellformed.specs.Well.{slot_at, dots_at}
 use Rattle.syn_expr_wellformed.specs.Walk.{operands_well, field_well}

@@ -1,13 +1,12 @@
 -- A walk goes down the operands of nodes. A loop has found well those before what is left.
 use Rattle.std.proofs.Common.{◌≡◌, ◌+◌, ◌*◌, ◌≤◌, length}
 use Rattle.std.specs.List.{list_all}
-use Rattle.syn_lower_lists.specs.View.{values, mapped}
-use Rattle.syn_grammar.specs.WellFormed.{well}
-use Rattle.syn_expr_kinds.specs.Node.{operands_of}
-use Rattle.syn_expr_kinds.specs.View.{boxed, field_value_of}
-use Rattle.syn_expr_collect.specs.Arm.{guard_at}
-use Rattle.syn_expr_collect.specs.Below.{operands_visited, total, field_visited, option_visited, arm_visited}
-use Rattle.syn_expr_collect.specs.Visited.{visited}
+use Rattle.syn_lower_leaves.specs.View.{values, mapped}
+use Rattle.syn_expr_spec.specs.WellFormed.{well}
+use Rattle.syn_expr_ast.specs.Node.{operands_of}
+use Rattle.syn_expr_ast.specs.View.{boxed, field_value_of}
+use Rattle.syn_expr_fixup.specs.Below.{guard_at, operands_visited, total, field_visited, option_visited, arm_visited}
+use Rattle.syn_expr_fixup.specs.Visited.{visited}
 use Rattle.syn_expr_wellformed.specs.Walk.{field_well, arm_well}
 use Rattle.syn_expr_wellformed.proofs.walk.+is_well.Given as goal
 

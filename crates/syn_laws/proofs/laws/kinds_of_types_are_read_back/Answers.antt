@@ -1,19 +1,19 @@
 use Rattle.std.proofs.Common.{true, sym, ap, ◌∙◌}
-use Rattle.syn_parts.specs.declared.label.PathStyle.TheVariants as style
-use Rattle.syn_parts.specs.Part as part
-use Rattle.syn_parts.proofs.Whole.{parts_read_back}
+use Rattle.syn_lower_spec.specs.declared.label.PathStyle.TheVariants as style
+use Rattle.syn_lower_spec.specs.Part as part
+use Rattle.syn_lower_spec.proofs.Whole.{parts_read_back}
 use Rattle.syn_lower_leaves.proofs.Backs.{stands}
-use Rattle.syn_lower_generic.specs.View.{type_path_of}
+use Rattle.syn_lower_types.specs.View.{type_path_of}
 use Rattle.syn_lower.specs.View.{type_of, path_of, qself_or, macro_of}
-use Rattle.syn_lower_generic.proofs.Fitting.{fits-macro}
-use Rattle.syn_lower_generic.proofs.Prints.{type_path_print}
+use Rattle.syn_lower_types.proofs.Fitting.{fits-macro}
+use Rattle.syn_lower_types.proofs.Prints.{type_path_print}
 use Rattle.syn_laws.proofs.OwnTokens.{type_printed, macros_print}
-use Rattle.syn_parts.specs.Part.{is_never, is_infer}
-use Rattle.syn_parts.specs.Kind.{is_reference, is_pointer, is_slice, is_array, is_tuple, is_paren, is_fn_pointer, is_impl_trait, is_trait_object}
+use Rattle.syn_lower_spec.specs.Part.{is_never, is_infer}
+use Rattle.syn_lower_spec.specs.Kind.{is_reference, is_pointer, is_slice, is_array, is_tuple, is_paren, is_fn_pointer, is_impl_trait, is_trait_object}
 use Rattle.syn_laws.proofs.KindBacks.{kind_back}
 use Rattle.syn_laws.proofs.KindStops.{stops-Slice, stops-Array, stops-Tuple, stops-Paren, stops-Never, stops-Infer, is-Reference, is-Ptr, is-Slice, is-Array, is-Tuple, is-Paren, is-Never, is-Infer, is-FnPtr, is-ImplTrait, is-TraitObject}
 use Rattle.syn_lower.proofs.Makes.{type-Macro, type-Never, type-Infer}
-use Rattle.syn_parts.specs.Fits.{type_fits}
+use Rattle.syn_lower_spec.specs.Fits.{type_fits}
 use Rattle.syn_lower.proofs.Prints.{ty-Reference, ty-Ptr, ty-Slice, ty-Array, ty-Tuple, ty-Paren, ty-Never, ty-Infer, ty-FnPtr, ty-ImplTrait, ty-TraitObject}
 use Rattle.syn_laws.proofs.laws.kinds_of_types_are_read_back.Goals as goal
 

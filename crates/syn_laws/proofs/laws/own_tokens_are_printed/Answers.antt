@@ -1,5 +1,5 @@
 use Rattle.syn_laws.proofs.OwnTokens.{paths_print, segments_print, macros_print, args_print, type_printed, arguments_printed, return_printed, generic_printed, bound_printed}
-use Rattle.syn_lower_generic.proofs.Prints.{arguments_print, generic_print, parenthesized_print, return_print, bound_print, angle_print, assoc_print, trait_print}
+use Rattle.syn_lower_types.proofs.Prints.{arguments_print, generic_print, parenthesized_print, return_print, bound_print, angle_print, assoc_print, trait_print}
 use Rattle.syn_lower.specs.View.{type_of, round_of, angle_of, assoc_of, trait_of}
 use Rattle.syn_lower.proofs.Prints.{ty-Path, ty-FnPtr, ty-Macro, ty-Reference, ty-Ptr, ty-Slice, ty-Array, ty-Tuple, ty-Paren, ty-Never, ty-Infer, ty-ImplTrait, ty-TraitObject}
 use Rattle.syn_laws.proofs.laws.own_tokens_are_printed.Goals as goal

@@ -1,13 +1,13 @@
 use Rattle.std.proofs.Common.{true, false, refl, sym, if◌then◌else◌}
-use Rattle.syn_parts.specs.declared.label.PathStyle.TheVariants as style
-use Rattle.syn_parts.specs.Part as part
-use Rattle.syn_parts.proofs.Whole.{parts_read_back, parts_exact}
+use Rattle.syn_lower_spec.specs.declared.label.PathStyle.TheVariants as style
+use Rattle.syn_lower_spec.specs.Part as part
+use Rattle.syn_lower_spec.proofs.Whole.{parts_read_back, parts_exact}
 use Rattle.syn_lower.specs.View as view
 use Rattle.syn_lower_leaves.proofs.Backs.{stands, is_read}
-use Rattle.syn_lower_generic.proofs.Fitting.{lifetimes_always}
-use Rattle.syn_lower_generic.proofs.Prints.{generic_print, bound_print}
+use Rattle.syn_lower_types.proofs.Fitting.{lifetimes_always}
+use Rattle.syn_lower_types.proofs.Prints.{generic_print, bound_print}
 use Rattle.syn_laws.proofs.OwnTokens.{paths_print, segments_print, macros_print, type_printed, generic_printed, bound_printed}
-use Rattle.syn_parts.proofs.Appends.{lifetimes_own-append}
+use Rattle.syn_lower_spec.proofs.Appends.{lifetimes_own-append}
 use Rattle.syn_laws.proofs.laws.parts_are_read_back.Goals as goal
 
 pub returns : goal.returns

@@ -1,13 +1,13 @@
 use Rattle.std.proofs.Common.{true, sym, ◌∙◌}
-use Rattle.syn_parts.specs.Part as part
-use Rattle.syn_parts.proofs.Whole.{parts_read_back}
-use Rattle.syn_lower_generic.specs.View.{name_and_type}
+use Rattle.syn_lower_spec.specs.Part as part
+use Rattle.syn_lower_spec.proofs.Whole.{parts_read_back}
+use Rattle.syn_lower_types.specs.View.{name_and_type}
 use Rattle.syn_lower.specs.View as view
 use Rattle.syn_lower_leaves.proofs.Backs.{stands}
 use Rattle.syn_laws.proofs.KindBacks.{returns_print, mutabilities_print, angle_fits-is, angles_print, round_fits-is, assoc_fits-is, assocs_print, trait_fits-is, trait_stops-is, traits_print}
 use Rattle.syn_laws.proofs.OwnTokens.{arguments_printed, args_print}
-use Rattle.syn_lower_generic.proofs.Prints.{parenthesized_print}
-use Rattle.syn_parts.proofs.Appends.{extern_append}
+use Rattle.syn_lower_types.proofs.Prints.{parenthesized_print}
+use Rattle.syn_lower_spec.proofs.Appends.{extern_append}
 use Rattle.syn_laws.proofs.laws.pieces_are_read_back.Goals as goal
 
 pub returns : goal.returns

@@ -1,11 +1,11 @@
 use Rattle.std.proofs.Common.{refl, sym}
-use Rattle.syn_parts.specs.declared.label.LitKind.TheVariants as kind
-use Rattle.syn_parts.specs.Kind.{of_kind}
-use Rattle.syn_parts.specs.Part as part
-use Rattle.syn_parts.proofs.Whole.{parts_read_back, parts_exact}
+use Rattle.syn_lower_spec.specs.declared.label.LitKind.TheVariants as kind
+use Rattle.syn_lower_spec.specs.Kind.{of_kind}
+use Rattle.syn_lower_spec.specs.Part as part
+use Rattle.syn_lower_spec.proofs.Whole.{parts_read_back, parts_exact}
 use Rattle.syn_lower_leaves.specs.View as view
 use Rattle.syn_lower_leaves.proofs.Backs.{stands, is_read, blocks_print, string_fits, byte_string_fits, c_string_fits, byte_fits, char_fits, truth_fits, outer_back, inner_back}
-use Rattle.syn_parts.proofs.Appends.{lit_append}
+use Rattle.syn_lower_spec.proofs.Appends.{lit_append}
 use Rattle.syn_lower_leaves.proofs.laws.leaves_are_read_back.Goals as goal
 
 pub returns : goal.returns

@@ -1,6 +1,6 @@
 use Rattle.std.proofs.Common.{rules, refl, ap, ◌∙◌}
-use Rattle.syn_grammar.specs.Summaries.{base_wrapped_by}
-use Rattle.syn_grammar.specs.Tree as e
+use Rattle.syn_expr_spec.specs.Summaries.{base_wrapped_by}
+use Rattle.syn_expr_spec.specs.Tree as e
 use Rattle.syn_expr_fixup.specs.Fixup.{level_if}
 use Rattle.syn_expr_fixup.proofs.Classes.{base_level, dot_level, dot_place}
 use Rattle.syn_expr_fixup.proofs.fixup.FixupContext.leftmost_subexpression_with_dot.Goals as goal

@@ -1,6 +1,6 @@
 use Rattle.std.proofs.Common.{rules, refl, sym, ap, ◌∙◌}
-use Rattle.syn_grammar.specs.Summaries.{base_wrapped_by, left_wrapped_by}
-use Rattle.syn_grammar.specs.Tree as e
+use Rattle.syn_expr_spec.specs.Summaries.{base_wrapped_by, left_wrapped_by}
+use Rattle.syn_expr_spec.specs.Tree as e
 use Rattle.syn_expr_fixup.specs.Fixup.{level_if}
 use Rattle.syn_expr_fixup.proofs.Classes.{base_level, left_level}
 use Rattle.syn_expr_fixup.proofs.fixup.FixupContext.leftmost_subexpression_with_operator.Goals as goal

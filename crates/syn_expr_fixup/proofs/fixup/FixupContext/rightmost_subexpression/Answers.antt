@@ -1,5 +1,5 @@
 use Rattle.std.proofs.Common.{rules, refl}
-use Rattle.syn_grammar.specs.declared.kinds.Infix.TheVariants as inf
+use Rattle.syn_expr_spec.specs.declared.kinds.Infix.TheVariants as inf
 use Rattle.syn_expr_fixup.proofs.fixup.FixupContext.rightmost_subexpression.Goals as goal
 
 pub returns-clause-level : goal.returns-clause-level

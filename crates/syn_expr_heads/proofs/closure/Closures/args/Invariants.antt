@@ -1,12 +1,12 @@
 use Rattle.std.proofs.Common.{◌≡◌, ◌≤◌, ◌++◌, ◌∷◌, [], cond, map, true, Some}
 use Rattle.syn_tokens.specs.Tok.{weight}
-use Rattle.syn_parts.specs.Form.{listed, gathered, and_then}
-use Rattle.syn_parts.specs.Mark.{comma}
-use Rattle.syn_parts.specs.Pat.{closure_arg}
-use Rattle.syn_grammar.specs.Head.{bar}
-use Rattle.syn_lower_generic.specs.View.{values, trails}
-use Rattle.syn_lower_lists.specs.Punct.{takes_value}
-use Rattle.syn_pat_kinds.specs.View.{guards_in}
+use Rattle.syn_lower_spec.specs.Form.{listed, gathered, and_then}
+use Rattle.syn_lower_spec.specs.Mark.{comma}
+use Rattle.syn_lower_spec.specs.Pat.{closure_arg}
+use Rattle.syn_expr_spec.specs.Head.{bar}
+use Rattle.syn_lower_types.specs.View.{values, trails}
+use Rattle.syn_lower_leaves.specs.Punct.{takes_value}
+use Rattle.syn_pat.specs.View.{guards_in}
 use Rattle.syn_expr_heads.proofs.closure.Closures.args.Given as goal
 
 abbrev pub invariant-items : goal.invariant-items

@@ -1,6 +1,6 @@
 use Rattle.std.proofs.Common.{arith, append_assoc}
 use Rattle.syn_tokens.specs.Sign.{sign_text}
-use Rattle.syn_lower_leaves.proofs.AttrOwn.{attribute_own-parts}
+use Rattle.syn_lower_leaves.proofs.ReadingAttributes.{attribute_own-parts}
 use Rattle.syn_lower_leaves.proofs.print.AttributeToTokens.to_tokens.Goals as goal
 
 pub returns-clause-ok : goal.returns-clause-ok

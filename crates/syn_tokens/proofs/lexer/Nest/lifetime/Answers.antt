@@ -1,7 +1,7 @@
 use Rattle.std.proofs.Common.{◌≡◌, ◌+◌, ◌++◌, ◌∷◌, [], ℕ, List, drop, take, length, encode_utf8_all, arith, sym, ◌∙◌, append_assoc}
 use Rattle.std.proofs.lemmas.List.{take-append-drop}
 use Rattle.std.specs.Rc.{rc_str_bytes}
-use Rattle.syn_lexer.specs.declared.lexeme.Spacing.TheVariants.{Joint}
+use Rattle.syn_lexer.specs.declared.front.Spacing.TheVariants.{Joint}
 use Rattle.syn_tokens.specs.Lex.{leaf}
 use Rattle.syn_tokens.specs.Nest.{nest_pieces}
 use Rattle.syn_tokens.specs.Standing.{StandAt}

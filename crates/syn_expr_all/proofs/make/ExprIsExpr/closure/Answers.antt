@@ -1,6 +1,0 @@
-use Rattle.std.proofs.Common.{◌∙◌}
-use Rattle.syn_expr_all.proofs.TreeOf.{tree-Closure, closure-is}
-use Rattle.syn_expr_all.proofs.make.ExprIsExpr.closure.Goals as goal
-
-pub returns : goal.returns
-returns c = tree-Closure _ ∙ closure-is _

@@ -1,8 +1,0 @@
-use Rattle.syn_expr_all.proofs.OfKind.{found_while, not_while}
-use Rattle.syn_expr_all.proofs.of_kind.ExprWhileKind.of.Goals as goal
-
-pub returns-in-While : goal.returns-in-While
-returns-in-While c = found_while c.args.x c.in-While.x c.in-While.is
-
-pub returns-in_default : goal.returns-in_default
-returns-in_default c = not_while c.args.x c.in_default.not-While

@@ -1,8 +1,0 @@
-use Rattle.syn_expr_all.proofs.OfKind.{found_yield, not_yield}
-use Rattle.syn_expr_all.proofs.of_kind.ExprYieldKind.of.Goals as goal
-
-pub returns-in-Yield : goal.returns-in-Yield
-returns-in-Yield c = found_yield c.args.x c.in-Yield.x c.in-Yield.is
-
-pub returns-in_default : goal.returns-in_default
-returns-in_default c = not_yield c.args.x c.in_default.not-Yield

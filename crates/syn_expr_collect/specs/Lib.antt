@@ -1,4 +1,0 @@
-pub mod Arm
-pub mod Visited
-pub mod Below
-pub mod Spine

@@ -1,0 +1,13 @@
+pub mod TreeOf
+pub mod Verbatim
+pub mod Paths
+pub mod Holds
+pub mod Matches
+pub mod ReadPat
+pub mod PrintsPat
+pub mod Guards
+pub mod Replaced
+pub mod Parts
+pub mod Spelled
+pub mod OfKind
+pub mod KindRead

@@ -1,4 +1,0 @@
-use Rattle.syn_expr_ends.proofs.held.PunctuatedLetGo.let_go.Given as goal
-
-abbrev pub decreases-loop-x : goal.decreases-loop-x
-decreases-loop-x g l = goal.left-loop-x g l

@@ -1,5 +1,0 @@
-use Rattle.syn_expr_flat.proofs.FormedParens.{well_formed_outer}
-use Rattle.syn_expr_flat.proofs.laws.formed_parens_are_outer.Goals as goal
-
-pub returns : goal.returns
-returns c = well_formed_outer

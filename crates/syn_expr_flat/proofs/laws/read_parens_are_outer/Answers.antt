@@ -1,5 +1,0 @@
-use Rattle.syn_expr_flat.proofs.OuterParens.{stands_outer}
-use Rattle.syn_expr_flat.proofs.laws.read_parens_are_outer.Goals as goal
-
-pub returns : goal.returns
-returns c = stands_outer

@@ -1,6 +1,0 @@
-use Rattle.std.proofs.Common.{refl}
-use Rattle.syn_expr_flat.proofs.Nodes.{at_node, leaf_flat}
-use Rattle.syn_expr_flat.proofs.leaf.path.Goals as goal
-
-pub returns : goal.returns
-returns c = at_node _ _ _ _ _ refl c.in_ok-put_before.ensures (leaf_flat _)

@@ -1,8 +1,0 @@
-use Rattle.syn_parts.specs.Pat as t
-use Rattle.syn_expr_flat.proofs.Calls.{pat_by}
-use Rattle.syn_expr_flat.proofs.Each.{each_by}
-use Rattle.syn_expr_flat.proofs.Pats.{list_flat}
-use Rattle.syn_expr_flat.proofs.pat.tuple.Goals as goal
-
-pub returns : goal.returns
-returns g c = list_flat t.a_tuple c.args.x.now.attrs g.P.HasPatTree.view _ _ (each_by _ _ (pat_by g.P.HasPatTree.view _ c.requires.gives) _ _ c.in_ok-punctuated.ensures.values) c.in_ok-punctuated.ensures.trails

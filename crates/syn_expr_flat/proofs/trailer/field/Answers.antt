@@ -1,8 +1,0 @@
-use Rattle.std.proofs.Common.{refl}
-use Rattle.syn_expr_flat.proofs.Calls.{flat_by}
-use Rattle.syn_expr_flat.proofs.Children.{tail_flat, none_flat}
-use Rattle.syn_expr_flat.proofs.Nodes.{at_node}
-use Rattle.syn_expr_flat.proofs.trailer.field.Goals as goal
-
-pub returns : goal.returns
-returns g c = at_node _ _ _ _ _ refl c.in_ok-put_before.ensures (tail_flat _ _ _ _ _ (flat_by g.E.HasExprTree.tree _ c.requires.gives _ _ c.in_ok-boxed.ensures) none_flat)

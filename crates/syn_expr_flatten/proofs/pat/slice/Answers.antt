@@ -1,0 +1,8 @@
+use Rattle.syn_lower_spec.specs.Pat as t
+use Rattle.syn_expr_flatten.proofs.Calls.{pat_by}
+use Rattle.syn_expr_flatten.proofs.Each.{each_by}
+use Rattle.syn_expr_flatten.proofs.Pats.{list_flat}
+use Rattle.syn_expr_flatten.proofs.pat.slice.Goals as goal
+
+pub returns : goal.returns
+returns g c = list_flat t.a_slice c.args.x.now.attrs g.P.HasPatTree.view _ _ (each_by _ _ (pat_by g.P.HasPatTree.view _ c.requires.gives) _ _ c.in_ok-punctuated.ensures.values) c.in_ok-punctuated.ensures.trails

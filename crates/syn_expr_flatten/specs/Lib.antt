@@ -1,0 +1,5 @@
+pub mod Calls
+pub mod Flat
+pub mod Laws
+pub mod Outer
+pub mod Pats

@@ -1,4 +1,0 @@
-pub mod Elements
-pub mod FieldStands
-pub mod Fields
-pub mod Structures

@@ -1,0 +1,11 @@
+pub mod Kind
+pub mod Reads
+pub mod Elements
+pub mod Fields
+pub mod View
+pub mod Arms
+pub mod Parts
+pub mod Led
+pub mod Groups
+pub mod Operators
+pub mod Names

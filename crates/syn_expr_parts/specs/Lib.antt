@@ -1,4 +1,0 @@
-pub mod View
-pub mod Number
-pub mod Refusal
-pub mod Label

@@ -1,2 +1,0 @@
-pub mod Arm
-pub mod Framed

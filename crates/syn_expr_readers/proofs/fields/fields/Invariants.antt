@@ -1,9 +1,0 @@
-use Rattle.std.proofs.Common.{◌≡◌, length}
-use Rattle.syn_grammar.specs.Stands.{fields_of}
-use Rattle.syn_expr_readers.proofs.fields.fields.Given as goal
-
-abbrev pub invariant-indices : goal.invariant-indices
-invariant-indices g l = fields_of (g.E.HasExprTree.tree l.fn.base.value) l.fn.indices ≡ fields_of (g.E.HasExprTree.tree l.base.value) l.indices
-
-abbrev pub decreases-indices : goal.decreases-indices
-decreases-indices g l = length l.indices

@@ -1,4 +1,0 @@
-pub mod Enclosed
-pub mod Attributing
-pub mod Shapes
-pub mod Parts

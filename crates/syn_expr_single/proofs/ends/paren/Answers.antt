@@ -1,6 +1,0 @@
-use Rattle.std.proofs.Common.{refl}
-use Rattle.syn_expr_single.proofs.Attributing.{plain-written}
-use Rattle.syn_expr_single.proofs.ends.paren.Goals as goal
-
-pub returns-clause-text : goal.returns-clause-text
-returns-clause-text g c = plain-written _ _ _ _ _ _ refl refl c.in_ok-put_attributes.ensures.ok c.in_ok-bare_paren.ensures.text

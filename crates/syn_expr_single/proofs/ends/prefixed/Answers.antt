@@ -1,6 +1,0 @@
-use Rattle.std.proofs.Common.{refl}
-use Rattle.syn_expr_single.proofs.Attributing.{plain-written}
-use Rattle.syn_expr_single.proofs.ends.prefixed.Goals as goal
-
-pub returns-clause-text : goal.returns-clause-text
-returns-clause-text g c = plain-written _ _ _ _ _ _ c.requires refl c.in_ok-put_attributes.ensures.ok c.in_ok-prefixed_parts.ensures.text

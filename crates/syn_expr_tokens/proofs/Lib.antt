@@ -1,0 +1,9 @@
+pub mod Longest
+pub mod Operators
+pub mod Equality
+pub mod Numbers
+pub mod Reading
+pub mod Decimals
+pub mod Ties
+pub mod Choices
+pub mod Cuts

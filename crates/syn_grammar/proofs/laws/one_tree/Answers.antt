@@ -1,5 +1,0 @@
-use Rattle.syn_grammar.proofs.Exact.{at_most_one}
-use Rattle.syn_grammar.proofs.laws.one_tree.Goals as goal
-
-pub returns : goal.returns
-returns c = at_most_one

@@ -1,5 +1,0 @@
-use Rattle.syn_grammar.proofs.FirstLabel.{leading_label_is_first}
-use Rattle.syn_grammar.proofs.queries.leading_label_is_first.Goals as goal
-
-pub returns : goal.returns
-returns c = leading_label_is_first

@@ -1,5 +1,0 @@
-use Rattle.syn_grammar.proofs.Bindings.{comparisons_dont_chain}
-use Rattle.syn_grammar.proofs.trees.comparisons_dont_chain.Goals as goal
-
-pub returns : goal.returns
-returns c = comparisons_dont_chain

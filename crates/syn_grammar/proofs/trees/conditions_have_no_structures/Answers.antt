@@ -1,5 +1,0 @@
-use Rattle.syn_grammar.proofs.Conditions.{conditions_have_no_structures}
-use Rattle.syn_grammar.proofs.trees.conditions_have_no_structures.Goals as goal
-
-pub returns : goal.returns
-returns c = conditions_have_no_structures

@@ -1,5 +1,0 @@
-use Rattle.syn_grammar.proofs.Same.{printed_is_same}
-use Rattle.syn_grammar.proofs.trees.printed_is_same.Goals as goal
-
-pub returns : goal.returns
-returns c = printed_is_same

@@ -1,5 +1,0 @@
-use Rattle.syn_grammar.proofs.Bindings.{range_is_no_left_operand}
-use Rattle.syn_grammar.proofs.trees.range_is_no_left_operand.Goals as goal
-
-pub returns : goal.returns
-returns c = range_is_no_left_operand

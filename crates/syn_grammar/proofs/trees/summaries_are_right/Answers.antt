@@ -1,5 +1,0 @@
-use Rattle.syn_grammar.proofs.SummaryLemmas.{summaries_are_right}
-use Rattle.syn_grammar.proofs.trees.summaries_are_right.Goals as goal
-
-pub returns : goal.returns
-returns c = summaries_are_right

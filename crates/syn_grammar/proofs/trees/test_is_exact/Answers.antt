@@ -1,5 +1,0 @@
-use Rattle.syn_grammar.proofs.TestIsExact.{test_is_exact}
-use Rattle.syn_grammar.proofs.trees.test_is_exact.Goals as goal
-
-pub returns : goal.returns
-returns c = test_is_exact

@@ -1,6 +1,0 @@
-use Rattle.std.proofs.Common.{true, sym, ◌∙◌}
-use Rattle.syn_lower_generic.proofs.Fitting.{fits-Path}
-use Rattle.syn_lower_generic.proofs.ty.TypePathOf.is_read_back.Goals as goal
-
-pub returns : goal.returns
-returns g c = c.qpath_fits.ensures ∙ sym (fits-Path g.T.HasTree.tree true c.args.self.now)

@@ -1,2 +1,0 @@
--- What the equality of a part says.
-pub use Rattle.syn_parts.specs.Equal.{IsEqualityOf}

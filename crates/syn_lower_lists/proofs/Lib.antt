@@ -1,4 +1,0 @@
-pub mod Puncts
-pub mod Owns
-pub mod Loops
-pub mod Fitting

@@ -1,4 +1,0 @@
-pub mod View
-pub mod Punct
-pub mod PunctIter
-pub mod Printed

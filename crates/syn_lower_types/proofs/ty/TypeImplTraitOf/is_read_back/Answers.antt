@@ -1,0 +1,6 @@
+use Rattle.std.proofs.Common.{sym, ◌∙◌}
+use Rattle.syn_lower_types.proofs.Fitting.{fits-ImplTrait}
+use Rattle.syn_lower_types.proofs.ty.TypeImplTraitOf.is_read_back.Goals as goal
+
+pub returns : goal.returns
+returns g c = c.bounds_fit.ensures ∙ sym (fits-ImplTrait g.T.HasTree.tree c.args.several c.args.self.now)

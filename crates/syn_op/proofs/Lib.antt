@@ -1,3 +1,0 @@
-pub mod Longest
-pub mod Operators
-pub mod Equality

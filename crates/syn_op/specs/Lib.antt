@@ -1,3 +1,0 @@
-pub mod Signs
-pub mod View
-pub mod Reads

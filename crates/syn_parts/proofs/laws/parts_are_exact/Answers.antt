@@ -1,5 +1,0 @@
-use Rattle.syn_parts.proofs.Whole.{parts_exact}
-use Rattle.syn_parts.proofs.laws.parts_are_exact.Goals as goal
-
-pub returns : goal.returns
-returns c = parts_exact

@@ -1,5 +1,0 @@
-use Rattle.syn_parts.proofs.Whole.{parts_read_back}
-use Rattle.syn_parts.proofs.laws.parts_are_read_back.Goals as goal
-
-pub returns : goal.returns
-returns c = parts_read_back

@@ -1,5 +1,0 @@
-use Rattle.syn_parts.proofs.PatWholeComplete.{pattern_tests_exact}
-use Rattle.syn_parts.proofs.laws.pattern_tests_are_exact.Goals as goal
-
-pub returns : goal.returns
-returns c = pattern_tests_exact

@@ -1,5 +1,0 @@
-use Rattle.syn_parts.proofs.PatWholeComplete.{patterns_complete}
-use Rattle.syn_parts.proofs.laws.patterns_that_are_read_back_fit.Goals as goal
-
-pub returns : goal.returns
-returns c = patterns_complete

@@ -1,5 +1,0 @@
-use Rattle.syn_parts.proofs.Parts.{spells_is}
-use Rattle.syn_parts.proofs.laws.types_are_spelled_by_kind.Goals as goal
-
-pub returns : goal.returns
-returns c = spells_is
