@@ -96,14 +96,11 @@ fn made(alloc: Global) -> Result<String> {
 /// Copies of literals of each kind, with commas between.
 fn copied(alloc: Global) -> Result<String> {
     let mut list = Punctuated::<Lit, Comma>::new(alloc);
-    list.push(parse_str::<Lit>(alloc, "\"a\"")?.copy(alloc)?)?;
-    list.push(parse_str::<Lit>(alloc, "b\"a\"")?.copy(alloc)?)?;
-    list.push(parse_str::<Lit>(alloc, "c\"a\"")?.copy(alloc)?)?;
-    list.push(parse_str::<Lit>(alloc, "b'a'")?.copy(alloc)?)?;
-    list.push(parse_str::<Lit>(alloc, "'a'")?.copy(alloc)?)?;
-    list.push(parse_str::<Lit>(alloc, "-1u8")?.copy(alloc)?)?;
-    list.push(parse_str::<Lit>(alloc, "1.5")?.copy(alloc)?)?;
-    list.push(parse_str::<Lit>(alloc, "true")?.copy(alloc)?)?;
+    for text in [
+        "\"a\"", "b\"a\"", "c\"a\"", "b'a'", "'a'", "-1u8", "1.5", "true",
+    ] {
+        list.push(parse_str::<Lit>(alloc, text)?.copy(alloc)?)?;
+    }
     printed(alloc, &list)
 }
 

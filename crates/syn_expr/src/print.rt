@@ -5,7 +5,8 @@ ghost use Rattle.syn_expr_core.specs.View.{tree_of};
 ghost use Rattle.syn_expr_fixup.specs.Visited.{visited};
 ghost use Rattle.syn_expr.specs.Promises.{Puts, StandsBack, StandsWithPairs, IsOwn, IsMinimal, PrintedAs};
 ghost use Rattle.syn_expr_spec.specs.Next.{enclosed};
-ghost use Rattle.syn_expr_spec.specs.Printed.{Position, context_of, place_of};
+ghost use Rattle.syn_expr_spec.specs.Printed as positions;
+ghost use Rattle.syn_expr_spec.specs.Printed.{context_of, place_of};
 ghost use Rattle.syn_expr_spec.specs.Rule.{printed};
 ghost use Rattle.syn_expr_spec.specs.Tree.{own_tokens, size};
 ghost use Rattle.syn_expr_spec.specs.WellFormed.{is_well_formed};
@@ -35,13 +36,13 @@ pub fn print_expr(expr: &Expr, tokens: &mut TokenStream, fixup: FixupContext) ->
     ensures err { IfErr result (λ e. e.kind ≡ ErrorKind.OutOfMemory) }
 
     // In the position that this is, they stand for the same tree.
-    ensures back { OnOk result ((s : Position) → fixup.context ≡ context_of s → Puts tokens.old tokens.new (StandsBack s (tree_of expr.now))) }
+    ensures back { OnOk result ((s : positions.Position) → fixup.context ≡ context_of s → Puts tokens.old tokens.new (StandsBack s (tree_of expr.now))) }
     // It is the tree with its fill-ins and with pairs of parentheses that were added.
-    ensures added { OnOk result ((s : Position) → fixup.context ≡ context_of s → Puts tokens.old tokens.new (StandsWithPairs s (tree_of expr.now))) }
+    ensures added { OnOk result ((s : positions.Position) → fixup.context ≡ context_of s → Puts tokens.old tokens.new (StandsWithPairs s (tree_of expr.now))) }
     // What stands for some list is written as its own spelling, but for a pair round each operation that has attributes.
     ensures own { OnOk result (fixup.context ≡ enclosed → Puts tokens.old tokens.new (IsOwn (tree_of expr.now))) }
     // No parentheses are added needlessly, and none of them can be left out.
-    ensures minimal { OnOk result ((s : Position) → fixup.context ≡ context_of s → Puts tokens.old tokens.new (IsMinimal s (tree_of expr.now))) }
+    ensures minimal { OnOk result ((s : positions.Position) → fixup.context ≡ context_of s → Puts tokens.old tokens.new (IsMinimal s (tree_of expr.now))) }
 {
     syn_expr_core::print_counted(expr, tokens, fixup.context())?;
     Ok(())
@@ -54,7 +55,7 @@ pub fn print_expr(expr: &Expr, tokens: &mut TokenStream, fixup: FixupContext) ->
 /// Memory may run out (`OutOfMemory`).
 pub fn print_counted(alloc: Global, expr: &Expr, fixup: FixupContext) -> Result<(TokenStream, u64)>
     ensures ok { IfOk result (λ r. r.0 ≡ own_tokens (printed fixup.context (tree_of expr.now))) }
-    ensures promised { IfOk result (λ r. (s : Position) → fixup.context ≡ context_of s → PrintedAs s (tree_of expr.now) r.0) }
+    ensures promised { IfOk result (λ r. (s : positions.Position) → fixup.context ≡ context_of s → PrintedAs s (tree_of expr.now) r.0) }
     ensures least { IfOk result (λ r. is_well_formed (tree_of expr.now) ≡ true → min (size (tree_of expr.now)) (2 ^ 64 - 1) ≤ r.1) }
     ensures most { IfOk result (λ r. r.1 ≤ min (2 * size (tree_of expr.now)) (2 ^ 64 - 1)) }
     ensures visits { IfOk result (λ r. min (visited (tree_of expr.now)) (2 ^ 64 - 1) ≤ r.1) }

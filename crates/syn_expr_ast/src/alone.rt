@@ -436,8 +436,8 @@ pub(crate) fn mac(input: &mut ParseBuffer<'_>) -> Result<ExprMacro>
     Ok(x)
 }
 
-/// Why none of a kind is read: that its first tokens aren't there, where `begins` is the refusal of these, else what the
-/// reader of all kinds told.
+/// Why none of a kind is read: that its first tokens aren't there, where `begins` is the refusal of these, else the
+/// refusal of the reader of all kinds.
 pub fn named_refusal(refusal: Error, begins: Result<()>) -> Error
     ensures memory { refusal.kind ≡ OutOfMemory → result.kind ≡ OutOfMemory }
 {

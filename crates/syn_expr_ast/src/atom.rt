@@ -172,7 +172,7 @@ impl<E> ExprGroupOf<E> {
 
 #[tactic(auto, using(crate::proofs::Shapes::shapes))]
 impl ExprInfer {
-    /// It, as it is lent: all of it but its attributes.
+    /// All of it but its attributes, borrowed.
     pub fn leaf(&self) -> Leaf<'_>
         ensures { Some (leaf_of result) ≡ leaf_at (expr_infer_of self.now) }
     {
@@ -182,7 +182,7 @@ impl ExprInfer {
 
 #[tactic(auto, using(crate::proofs::Shapes::shapes))]
 impl ExprLit {
-    /// It, as it is lent: all of it but its attributes.
+    /// All of it but its attributes, borrowed.
     pub fn leaf(&self) -> Leaf<'_>
         ensures { Some (leaf_of result) ≡ leaf_at (expr_lit_of self.now) }
     {
@@ -200,7 +200,7 @@ impl ExprMacro {
         NodeKind::Leaf(LeafKind::Macro { braced })
     }
 
-    /// It, as it is lent: all of it but its attributes.
+    /// All of it but its attributes, borrowed.
     pub fn leaf(&self) -> Leaf<'_>
         ensures { Some (leaf_of result) ≡ leaf_at (expr_macro_of self.now) }
     {
@@ -220,7 +220,7 @@ impl<E> ExprParenOf<E> {
 
 #[tactic(auto, using(crate::proofs::Shapes::shapes))]
 impl ExprPath {
-    /// It, as it is lent: all of it but its attributes.
+    /// All of it but its attributes, borrowed.
     pub fn leaf(&self) -> Leaf<'_>
         ensures { Some (leaf_of result) ≡ leaf_at (expr_path_of self.now) }
     {

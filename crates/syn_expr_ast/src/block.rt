@@ -140,7 +140,7 @@ fn braces<'a>(attrs: &'a Vec<Attribute>, block: &'a Block) -> Braces<'a>
 }
 
 impl ExprAsync {
-    /// It, as it is lent: all of it but its attributes.
+    /// All of it but its attributes, borrowed.
     pub fn leaf(&self) -> Leaf<'_>
         ensures { Some (leaf_of result) ≡ leaf_at (expr_async_of self.now) }
     {
@@ -157,7 +157,7 @@ impl ExprBlock {
         NodeKind::Leaf(LeafKind::Block { labelled })
     }
 
-    /// It, as it is lent: all of it but its attributes.
+    /// All of it but its attributes, borrowed.
     pub fn leaf(&self) -> Leaf<'_>
         ensures { Some (leaf_of result) ≡ leaf_at (expr_block_of self.now) }
     {
@@ -166,7 +166,7 @@ impl ExprBlock {
 }
 
 impl ExprConst {
-    /// It, as it is lent: all of it but its attributes.
+    /// All of it but its attributes, borrowed.
     pub fn leaf(&self) -> Leaf<'_>
         ensures { Some (leaf_of result) ≡ leaf_at (expr_const_of self.now) }
     {
@@ -199,7 +199,7 @@ impl ExprLoop {
         NodeKind::Leaf(LeafKind::BlockLike { labelled })
     }
 
-    /// It, as it is lent: all of it but its attributes.
+    /// All of it but its attributes, borrowed.
     pub fn leaf(&self) -> Leaf<'_>
         ensures { Some (leaf_of result) ≡ leaf_at (expr_loop_of self.now) }
     {
@@ -212,7 +212,7 @@ impl ExprLoop {
 }
 
 impl ExprTryBlock {
-    /// It, as it is lent: all of it but its attributes.
+    /// All of it but its attributes, borrowed.
     pub fn leaf(&self) -> Leaf<'_>
         ensures { Some (leaf_of result) ≡ leaf_at (expr_try_block_of self.now) }
     {
@@ -221,7 +221,7 @@ impl ExprTryBlock {
 }
 
 impl ExprUnsafe {
-    /// It, as it is lent: all of it but its attributes.
+    /// All of it but its attributes, borrowed.
     pub fn leaf(&self) -> Leaf<'_>
         ensures { Some (leaf_of result) ≡ leaf_at (expr_unsafe_of self.now) }
     {

@@ -124,7 +124,7 @@ impl<E> ExprBreakOf<E> {
 }
 
 impl ExprContinue {
-    /// It, as it is lent: all of it but its attributes.
+    /// All of it but its attributes, borrowed.
     pub fn leaf(&self) -> Leaf<'_>
         ensures { Some (leaf_of result) ≡ leaf_at (expr_continue_of self.now) }
     {

@@ -385,8 +385,8 @@ pub trait HasKind: HasExprTree {
         ensures { result ≡ kind_at (Self.tree self.now) };
 }
 
-/// The type of expressions, as one looks at them: what a node is but for its operands, lent by the shape that it has. Each
-/// shape has a call of its own, since what is lent at once of so large a family of types has to be small for the prover.
+/// The type of expressions, as one looks at them: what a node is but for its operands, borrowed by the shape that it has. Each
+/// shape has a call of its own, since what is borrowed at once of so large a family of types has to be small for the prover.
 pub trait HasShape: HasNode + HasKind {
     /// The type of patterns.
     type Pat: HasPatTree;

@@ -24,7 +24,7 @@ use syn_tokens::token::{Bracket, Comma, Paren};
 use syn_tokens::tree::TokenStream;
 
 /// The type of expressions, as what puts a node by itself: after its attributes, with the parentheses that it needs inside and
-/// no others. Each shape has a call of its own, which is lent the parts of the node.
+/// no others. Each shape has a call of its own, which borrows the parts of the node.
 ///
 /// An operation that has attributes is in parentheses after them, since they would be those of its first operand. That
 /// memory ran out is all that a call is refused for; a part of the tokens may then follow what was there.

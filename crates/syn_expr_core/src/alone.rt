@@ -1,8 +1,8 @@
 //! The readers of expressions of one kind by themselves (Rust Reference, "Expressions"). All read on a fork, so that the input
 //! stays where it was where they are refused.
 //!
-//! What is an operand without trailers is read by the reader of all of these, and told by the tokens that it begins with why
-//! there is none of its kind. What has an operand in front is read as an expression.
+//! What is an operand without trailers is read by the reader of all of these. Where there is none of its kind, the tokens that
+//! it begins with say why. What has an operand in front is read as an expression.
 
 ghost use Rattle.std.specs.Prelude.{◌≡◌, Some, IfOk};
 ghost use Rattle.syn_expr_core.specs.View.{let_of, match_of, closure_of, for_loop_of, tree_of};

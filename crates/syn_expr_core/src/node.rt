@@ -322,7 +322,7 @@ fn verbatim_kind(tokens: &TokenStream) -> NodeKind
 
 #[tactic(auto, using(crate::proofs::TreeOf::kinds, crate::proofs::TreeOf::members, syn_expr_ast::proofs::Shapes::shapes))]
 impl HasKind for Expr {
-    // Each node is asked for its kind, its operands and its leaf when it is noted and when it is printed, mostly to go on by
+    // Each node is asked for its kind, its operands and its leaf when it is summarized and when it is printed, mostly to go on by
     // the answer at once: a call takes longer than the answer.
     #[inline(always)]
     fn kind(&self) -> NodeKind {

@@ -188,8 +188,8 @@ fn is_base<E: HasNode + HasKind>(x: &E) -> bool
     carries(x) && !(is_attributed(x) || is_pounded(x))
 }
 
-/// Whether a trailer of this kind may come after it: it carries one, and attributes don't come before it; arguments stand
-/// after no field with a name, and neither they nor an index after what is the whole (Rust Reference, "Call expressions",
+/// Whether a trailer of this kind may come after it: it carries one, and attributes don't come before it. No arguments
+/// come after a field with a name, and neither they nor an index after what is the whole (Rust Reference, "Call expressions",
 /// "Array and slice indexing expressions").
 pub fn fits_base<E: ReadExprs>(place: Place, kind: TrailerKind, x: &E) -> bool
     ensures { result ≡ spec.fits_base place kind (E.tree x.now) }

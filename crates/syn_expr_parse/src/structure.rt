@@ -82,8 +82,8 @@ impl<E: ReadExprs + Drop, F: Fn(&mut ParseBuffer<'_>, Place) -> Result<Box<E>>> 
     }
 
     /// Reads a field by itself, without the comma after it: outer attributes, a member, and its value after a colon, which
-    /// only a name may be without (Rust Reference, "Struct expressions"). It is refused as `ExpectedMember` where no member
-    /// stands, as `ExpectedToken` of the colon where an index has none, and as its attributes and its value are.
+    /// only a name may be without (Rust Reference, "Struct expressions"). It is refused as `ExpectedMember` where there
+    /// is no member, as `ExpectedToken` of the colon where an index has none, and as its attributes and its value are.
     #[tactic(auto, unfolding(crate::specs::Fields::one_field, syn_expr_ast::specs::Attrs::attrs_of))]
     pub fn field_value(&self, input: &mut ParseBuffer<'_>) -> Result<FieldValueOf<E>>
         requires callable { Callable (weight input.old.rest + 1) (F.pre self.now.expr) }

@@ -1,5 +1,5 @@
-//! Whether types are read back from their own tokens. The tests of the parts, and what it means that one is read back, stand
-//! in `syn_lower_types::read_back`; here are those of `Type`, on which they are.
+//! Whether types are read back from their own tokens. The tests of the parts, and what it means that one is read back,
+//! are in `syn_lower_types::read_back`. Here are the tests of `Type`, on which they stand.
 
 ghost use Rattle.std.specs.Prelude.{◌≡◌, true, false};
 ghost use Rattle.syn_lower.specs.View.{type_of};

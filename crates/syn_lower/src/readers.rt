@@ -163,7 +163,7 @@ impl Parse for Type {
     ///
     /// It is refused as `ExpectedPart` of a type where it or a type inside is missing, of a path where a bound or a segment
     /// is, of a macro where no group follows the `!` of one, and of a literal where no number follows the `-` of an argument;
-    /// as `ExpectedExpression` where an array has no length; as `ExpectedToken` where another token stands than the one that
+    /// as `ExpectedExpression` where an array has no length; as `ExpectedToken` where there is another token than the one that
     /// must, and as `UnexpectedToken` where one is left in a group.
     fn parse(input: &mut ParseBuffer<'_>) -> Result<Self> {
         ahead(input)
