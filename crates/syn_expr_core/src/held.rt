@@ -35,8 +35,8 @@ use syn_tokens::error::Result;
 use syn_tokens::token::{Comma, Else};
 use syn_tokens::tree::TokenStream;
 
-/// An expression that is let go with this value. A program that lets a bare `Expr` go, or has one alive where it may return
-/// early, proves of each type of expressions again that it can be let go, ten minutes of a processor; one that holds it here
+/// An expression that is dropped with this value. A program that drops a bare `Expr`, or has one alive where it may return
+/// early, proves again of each type of expressions that it can be dropped, ten minutes of a processor; one that holds it here
 /// doesn't. It is read and printed as the expression is: `parse_str::<HeldExpr>(alloc, text)?`.
 pub struct HeldExpr {
     /// The expression.
@@ -51,7 +51,7 @@ impl Drop for HeldExpr {
 }
 
 impl HeldExpr {
-    /// The expression, which is the caller's to let go.
+    /// The expression, which is the caller's to drop.
     pub fn into_inner(self) -> Expr
         ensures { result ≡ self.expr }
     {

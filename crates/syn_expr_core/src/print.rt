@@ -42,9 +42,9 @@ use syn_tokens::tree::TokenStream;
 impl HasPrinter for Expr {}
 
 /// Prints an expression where it is, after the tokens that are there: with the parentheses that it needs in this context
-/// and inside (Rust Reference, "Expression precedence"); in a statement a `let` and a macro with braces get some that could be
-/// spared, and so may an operation after attributes. It answers how often a node was visited, at most twice each; a count
-/// that reaches the greatest `u64` stays there.
+/// and inside (Rust Reference, "Expression precedence"); in a statement a `let` and a macro with braces get redundant
+/// ones, and so may an operation after attributes. It answers how often a node was visited, at most twice each; a count that
+/// reaches the greatest `u64` stays there.
 ///
 /// It is refused only because memory ran out; a part of the tokens may then come after the old ones.
 pub fn print_counted(expr: &Expr, tokens: &mut TokenStream, context: Context) -> Result<u64>

@@ -18,7 +18,7 @@ flat_by tree post = left_by post (λ x y. IsFlat (tree x) (tree y))
 pub pat_by : {P : Type 0} (view : P → PatView) (post : MutBor P → Result (Unit {0}) AllocError → MutBor P → Type 0) → FlattensPat view post → (x y : P) → Leaves post x y → IsFlatPat (view x) (view y)
 pat_by view post = left_by post (λ x y. IsFlatPat (view x) (view y))
 
--- ---- calls through a reference to a function, which lend anew what they were lent
+-- ---- calls through a reference to a function, which reborrow their argument
 
 module _ {E : Type 0} where
   abbrev pub anew : MutBor E → ℕ → E → MutBor E

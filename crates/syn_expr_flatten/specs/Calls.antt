@@ -15,7 +15,7 @@ pub record Leaves {E : Type 0} (post : MutBor E → Result (Unit {0}) AllocError
   pub leaves : new.now ≡ y
   pub met : post old (Ok tt) new
 
--- ---- lists of which each element is related to that of another in its place
+-- ---- lists that are related element by element
 
 unfoldable pub Each : {A B : Type 0} → (A → B → Type 0) → List A → List B → Type 0
 Each R [] [] = ⊤

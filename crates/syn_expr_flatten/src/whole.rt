@@ -29,7 +29,7 @@ pub fn flatten_in_place(expr: &mut Expr) -> Result<()>
 }
 
 /// The expression without parentheses: what `flatten_in_place` leaves of it. Where memory runs out (`OutOfMemory`) the
-/// expression is let go.
+/// expression is dropped.
 pub fn flatten(expr: Expr) -> Result<Expr>
     ensures tree { IfOk result (λ y. IsFlat (tree_of expr) (tree_of y)) }
     ensures memory { IfErr result (λ e. e.kind ≡ ErrorKind.OutOfMemory) }

@@ -67,7 +67,7 @@ pub ruleset attributes = (outers_left, outers_are, outer_is)
 
 pub ruleset outers = (outer_tree, outer_refused, attributed-not)
 
--- ---- whether attributes come before a node is told by those that it lends
+-- ---- whether attributes come before a node can be seen from those that it lends
 
 pub by_attributes : (t : Tree) → is_attributed t ≡ not (is_nil (attributes_at t))
 by_attributes (tr.attributed a more t) = refl

@@ -1,4 +1,4 @@
--- What the reading asks of an expression is told by its kind and by its attributes.
+-- What the reading asks of an expression can be seen from its kind and its attributes.
 use Rattle.std.proofs.Common.{◌≡◌, refl}
 use Rattle.syn_expr_spec.specs.Tree as e
 use Rattle.syn_expr_spec.specs.Tree.{Tree}

@@ -281,10 +281,10 @@ pub fn at(place: Place, level: Level) -> Place
     }
 }
 
-/// What is let go by a loop.
+/// What is dropped by a loop.
 // Apart from the readers of all kinds, since of those two name a type of arms.
 pub trait LetGo {
-    /// Lets it go, and all in it, in no more stack than reading it takes: a chain of operands takes none.
+    /// Drops it, and all in it, in no more stack than reading it takes: a chain of operands takes none.
     fn let_go(self);
 }
 
@@ -348,7 +348,7 @@ impl<T: LetGo + Drop> Drop for Held<T> {
 }
 
 impl<T: LetGo> Held<T> {
-    /// What was read, which is the caller's to let go.
+    /// What was read, which is the caller's to drop.
     pub fn into_inner(self) -> T
         ensures { result ≡ self.value }
     {

@@ -43,8 +43,8 @@ fn fields_are_read_by_themselves(rt: HostRuntime) -> Result<(), Fail> {
 /// Single arms.
 const SINGLE: [&str; 3] = ["a => b", "#[k] a | b if c => {}", "_ => return,"];
 
-/// Whether an arm that is read by itself is printed as its own tokens, with its comma. It is let go with a `match` that is held
-/// and had room for it before it was read: letting a bare arm go is proved type by type.
+/// Whether an arm that is read by itself is printed as its own tokens, with its comma. It is dropped with a `match` that is
+/// held and had room for it before it was read: the drop of a bare arm is proved type by type.
 fn is_arm(alloc: Global, text: &str) -> Result<bool, Error> {
     let tokens = lex(alloc, text)?;
     let mut input = ParseBuffer::new(&tokens)?;
