@@ -1,0 +1,10 @@
+pub mod Answered
+pub mod Both
+pub mod Calls
+pub mod Changed
+pub mod Elementwise
+pub mod Levels
+pub mod Made
+pub mod Pats
+pub mod Upto
+pub mod Walk

@@ -1,0 +1,8 @@
+use Rattle.std.proofs.Common.{false, ap}
+use Rattle.syn_expr_spec.specs.Tree.{paren}
+use Rattle.syn_visit_kinds.proofs.Calls.{left}
+use Rattle.syn_visit_kinds.proofs.Made.{attributed_made}
+use Rattle.syn_visit_kinds.proofs.atom.paren_mut.Goals as goal
+
+pub returns-clause-tree : goal.returns-clause-tree
+returns-clause-tree g c = λ f leaves. let tree = g.E.HasExprTree.tree in attributed_made f _ _ _ (ap (paren false) (left tree f _ leaves _ _ c.in_ok-boxed_mut.ensures.left))

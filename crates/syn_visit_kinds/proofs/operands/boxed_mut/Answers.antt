@@ -1,0 +1,9 @@
+use Rattle.std.proofs.Common.{refl}
+use Rattle.syn_visit_kinds.proofs.Answered.{left_answer, refused_answer}
+use Rattle.syn_visit_kinds.proofs.operands.boxed_mut.Goals as goal
+
+pub returns-clause-left : goal.returns-clause-left
+returns-clause-left g c = left_answer _ _ c.call.ensures c.deref_mut.ensures.value refl
+
+pub returns-clause-refused : goal.returns-clause-refused
+returns-clause-refused g c = refused_answer _ _ c.call.ensures

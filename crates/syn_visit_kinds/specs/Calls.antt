@@ -1,0 +1,74 @@
+-- Calls that are passed a part of an expression, told by what they are passed alone.
+use Rattle.std.specs.Prelude.{◌≡◌, Bool, Result, Ok, Err, IfOk, ⊤, List, [], ◌∷◌}
+use denote.Ref.{Bor, MutBor}
+
+-- ---- calls that change what they are passed
+
+-- a call that may be passed x
+abbrev pub Takes : {E : Type 0} → (MutBor E → Type 0) → E → Type 0
+Takes pre x = (borrowed : MutBor _) → borrowed.now ≡ x → pre borrowed
+
+-- a call that leaves of what it is passed what k makes of it, both as h shows them
+abbrev pub Leaves : {E T R : Type 0} → (E → T) → (T → T) → (MutBor E → Result (Unit {0}) R → MutBor E → Type 0) → Type 0
+Leaves h k post = (old new : MutBor _) (r : _) → post old r new → IfOk r (λ _. h new.now ≡ k (h old.now))
+
+-- a call that was passed x may have answered `Ok`, and left y there
+pub record Left {E R : Type 0} (post : MutBor E → Result (Unit {0}) R → MutBor E → Type 0) (x y : E) : Type 0 where
+  pub old : MutBor E
+  pub new : MutBor E
+  pub shows : old.now ≡ x
+  pub leaves : new.now ≡ y
+  pub met : post old (Ok tt) new
+
+-- a call may have answered this error
+pub record Refused {E R : Type 0} (post : MutBor E → Result (Unit {0}) R → MutBor E → Type 0) (e : R) : Type 0 where
+  pub old : MutBor E
+  pub new : MutBor E
+  pub met : post old (Err e) new
+
+-- ---- the same of calls that are passed something else besides
+
+abbrev pub TakesWith : {E C : Type 0} → (MutBor E → Bor C → Type 0) → C → E → Type 0
+TakesWith pre c x = (borrowed : MutBor _) (with : Bor _) → borrowed.now ≡ x → with.now ≡ c → pre borrowed with
+
+abbrev pub LeavesWith : {E C T R : Type 0} → (E → T) → (T → T) → (MutBor E → Bor C → Result (Unit {0}) R → MutBor E → Type 0) → C → Type 0
+LeavesWith h k post c = (old new : MutBor _) (with : Bor _) (r : _) → with.now ≡ c → post old with r new → IfOk r (λ _. h new.now ≡ k (h old.now))
+
+pub record LeftWith {E C R : Type 0} (post : MutBor E → Bor C → Result (Unit {0}) R → MutBor E → Type 0) (c : C) (x y : E) : Type 0 where
+  pub old : MutBor E
+  pub new : MutBor E
+  pub with : Bor C
+  pub shows : old.now ≡ x
+  pub leaves : new.now ≡ y
+  pub passes : with.now ≡ c
+  pub met : post old with (Ok tt) new
+
+pub record RefusedWith {E C R : Type 0} (post : MutBor E → Bor C → Result (Unit {0}) R → MutBor E → Type 0) (c : C) (e : R) : Type 0 where
+  pub old : MutBor E
+  pub new : MutBor E
+  pub with : Bor C
+  pub passes : with.now ≡ c
+  pub met : post old with (Err e) new
+
+-- ---- calls that test what they are passed
+
+-- a call that may be passed x
+abbrev pub Asks : {E : Type 0} → (Bor E → Type 0) → E → Type 0
+Asks pre x = (borrowed : Bor _) → borrowed.now ≡ x → pre borrowed
+
+-- a call that answers what q tells of what it is passed
+abbrev pub Tells : {E : Type 0} → (E → Bool) → (Bor E → Bool → Type 0) → Type 0
+Tells q post = (borrowed : Bor _) (r : Bool) → post borrowed r → r ≡ q borrowed.now
+
+abbrev pub AsksWith : {E C : Type 0} → (Bor E → Bor C → Type 0) → C → E → Type 0
+AsksWith pre c x = (borrowed : Bor _) (with : Bor _) → borrowed.now ≡ x → with.now ≡ c → pre borrowed with
+
+abbrev pub TellsWith : {E C : Type 0} → (E → Bool) → (Bor E → Bor C → Bool → Type 0) → C → Type 0
+TellsWith q post c = (borrowed : Bor _) (with : Bor _) (r : Bool) → with.now ≡ c → post borrowed with r → r ≡ q borrowed.now
+
+-- ---- lists of which each element is related to that of another in its place
+
+unfoldable pub Each : {A B : Type 0} → (A → B → Type 0) → List A → List B → Type 0
+Each R [] [] = ⊤
+Each R (x ∷ xs) (y ∷ ys) = R x y × Each R xs ys
+Each R _ _ = ⊥

@@ -1,0 +1,5 @@
+pub mod Calls
+pub mod Nodes
+pub mod Parts
+pub mod Samples
+pub mod Walk
