@@ -6,7 +6,7 @@ use Rattle.syn_lower_spec.specs.Pat.{PatTree}
 use Rattle.syn_expr_spec.specs.Tree as e
 use Rattle.syn_expr_spec.specs.Tree.{Tree, Children, Piece, ClosureHead, none, child}
 use Rattle.syn_expr_ast.specs.Pats.{ArmView, strays, guard_children, arm_children, arm_ending, arms, closure_by}
-use Rattle.syn_expr_flatten.specs.Calls.{Each}
+use Rattle.syn_visit_kinds.specs.Calls.{Each}
 use Rattle.syn_expr_flatten.specs.Flat.{IsFlat, AreFlat}
 use Rattle.syn_expr_flatten.specs.Pats.{IsFlatArm}
 use Rattle.syn_expr_flatten.proofs.Children.{none_flat, child_flat, strays_flat, prefixes_flat, frame_flat}

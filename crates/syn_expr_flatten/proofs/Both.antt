@@ -22,12 +22,12 @@ use Rattle.syn_expr_ast.specs.declared.pattern.ExprForLoopOf.{ExprForLoopOf}
 use Rattle.syn_expr_ast.specs.declared.pattern.ExprLetOf.{ExprLetOf}
 use Rattle.syn_expr_ast.specs.declared.pattern.ExprMatchOf.{ExprMatchOf}
 use Rattle.syn_expr_ast.specs.declared.pattern.PatGuardOf.{PatGuardOf}
-use Rattle.syn_expr_flatten.specs.Calls.{Each}
+use Rattle.syn_visit_kinds.specs.Calls.{Each}
 use Rattle.syn_expr_flatten.specs.Flat.{IsFlat, IsFlatBehind, before}
 use Rattle.syn_expr_flatten.specs.Pats.{IsFlatArm, IsFlatPat}
 use Rattle.syn_expr_flatten.proofs.Arms.{arms_flat, closure_flat, closure_plain}
 use Rattle.syn_expr_flatten.proofs.Braced.{at_braces, for_loop_braced, match_braced}
-use Rattle.syn_expr_flatten.proofs.Each.{each_both, each_one}
+use Rattle.syn_visit_kinds.proofs.Elementwise.{each_both, each_one}
 use Rattle.syn_expr_flatten.proofs.Children.{frame_flat, child_flat, prefixes_flat, none_flat, strays_flat}
 use Rattle.syn_expr_flatten.proofs.Nodes.{at_node, same_flat}
 use Rattle.syn_expr_flatten.proofs.Pats.{attributed}

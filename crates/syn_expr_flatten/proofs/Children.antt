@@ -12,7 +12,7 @@ use Rattle.syn_lower.specs.View.{values, trails, last_of}
 use Rattle.syn_lower_leaves.specs.declared.punctuated.Punctuated.{Punctuated}
 use Rattle.syn_expr_ast.specs.Pats.{strays}
 use Rattle.syn_expr_ast.specs.View.{FieldView, boxed, elements, ending_of, fields, option_child, range_between, jump_with}
-use Rattle.syn_expr_flatten.specs.Calls.{Each}
+use Rattle.syn_visit_kinds.specs.Calls.{Each}
 use Rattle.syn_expr_flatten.specs.Flat.{IsFlat, AreFlat, IsFlatField}
 use Rattle.syn_expr_flatten.proofs.Nodes.{same_flat, is_plain, prefix_flat, infix_flat, postfix_flat, leaf_flat}
 

@@ -1,7 +1,6 @@
 pub mod Arms
 pub mod Braced
 pub mod Calls
-pub mod Each
 pub mod FlatFill
 pub mod FlatWell
 pub mod FormedParens
@@ -11,7 +10,6 @@ pub mod Nodes
 pub mod OuterParens
 pub mod Pats
 pub mod Puts
-pub mod Upto
 pub mod Both
 pub mod Made
 mod Matches

@@ -20,7 +20,7 @@ use Rattle.syn_expr_core.specs.declared.control.ExprMatch.{ExprMatch, out-ExprMa
 use Rattle.syn_expr_core.specs.declared.pat.PatGuard.{PatGuard, out-PatGuard, roll-PatGuard, out-roll-PatGuard}
 use Rattle.syn_expr_core.specs.View.{arm_layer, arm_of, arm_parts, let_layer, let_of, let_parts, match_layer, match_of, match_parts, closure_layer, closure_of, closure_parts, for_loop_layer, for_loop_of, for_loop_parts, guard_layer, guard_of, guard_parts, pat_of, tree_of, views}
 use Rattle.syn_expr_core.proofs.TreeOf.{arm-is, let_expr-is, match_expr-is, closure-is, for_loop-is, guard-is}
-use Rattle.syn_expr_flatten.specs.Calls.{Each}
+use Rattle.syn_visit_kinds.specs.Calls.{Each}
 use Rattle.syn_expr_flatten.specs.Flat.{IsFlat, IsFlatBehind, before}
 use Rattle.syn_expr_flatten.specs.Pats.{IsFlatArm, IsFlatPat}
 use Rattle.syn_expr_flatten.proofs.Both.{ArePats, Joined, arm_flat, closure_behind, for_loop_behind, guard_flat, let_behind, match_behind}

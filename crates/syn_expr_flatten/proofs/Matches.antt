@@ -8,7 +8,7 @@ use Rattle.syn_expr_core.specs.declared.expr.Expr.{Expr}
 use Rattle.syn_expr_core.specs.declared.control.Arm.{Arm}
 use Rattle.syn_expr_core.specs.declared.control.ExprMatch.{ExprMatch, out-ExprMatch, roll-ExprMatch, out-roll-ExprMatch}
 use Rattle.syn_expr_core.specs.View.{arm_of, match_of, tree_of}
-use Rattle.syn_expr_flatten.specs.Calls.{Each}
+use Rattle.syn_visit_kinds.specs.Calls.{Each}
 use Rattle.syn_expr_flatten.specs.Flat.{IsFlat, IsFlatBehind}
 use Rattle.syn_expr_flatten.specs.Pats.{IsFlatArm}
 use Rattle.syn_expr_flatten.proofs.Both.{Joined}

@@ -8,12 +8,12 @@ use Rattle.syn_lower_leaves.specs.declared.punctuated.Punctuated.{Punctuated}
 use Rattle.syn_pat.specs.View.{PatView, pats_in, guards_in, values, trails, view_with, attributed_by, attributes_of, field_pat_of, field_guards}
 use Rattle.syn_lower_spec.specs.Pat as t
 use Rattle.syn_lower_spec.specs.Pat.{PatTree, Pats}
-use Rattle.syn_expr_flatten.specs.Calls.{Each}
+use Rattle.syn_visit_kinds.specs.Calls.{Each}
 use Rattle.syn_expr_flatten.specs.Flat.{IsFlat}
 use Rattle.syn_expr_flatten.specs.Pats.{IsFlatPat, IsFlatFieldPat}
 use Rattle.syn_lower_spec.specs.Tree.{PathTree}
 use Rattle.syn_pat.specs.declared.pat.FieldPatOf.{FieldPatOf}
-use Rattle.syn_expr_flatten.proofs.Each.{each_both}
+use Rattle.syn_visit_kinds.proofs.Elementwise.{each_both}
 
 pub same_trees : {P : Type 0} (f : P → PatView) (xs ys : List P) → Each (λ x y. IsFlatPat (f x) (f y)) xs ys → map (λ p. (f p).tree) ys ≡ map (λ p. (f p).tree) xs
 unfolding Each

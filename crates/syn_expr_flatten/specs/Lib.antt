@@ -1,4 +1,3 @@
-pub mod Calls
 pub mod Flat
 pub mod Laws
 pub mod Outer

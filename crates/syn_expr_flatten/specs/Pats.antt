@@ -6,7 +6,7 @@ use Rattle.syn_pat.specs.View.{PatView, field_of, field_guards, field_pat_of}
 use Rattle.syn_pat.specs.declared.pat.FieldPatKindOf.{FieldPatKindOf}
 use Rattle.syn_pat.specs.declared.pat.FieldPatOf.{FieldPatOf}
 use Rattle.syn_expr_ast.specs.Pats.{ArmView}
-use Rattle.syn_expr_flatten.specs.Calls.{Each}
+use Rattle.syn_visit_kinds.specs.Calls.{Each}
 use Rattle.syn_expr_flatten.specs.Flat.{IsFlat}
 
 abbrev pub IsFlatPat : PatView → PatView → Type 0

@@ -3,7 +3,7 @@
 ghost use Rattle.std.specs.Prelude.{Contains, IfOk};
 ghost use Rattle.std.specs.Option.{ForSome};
 ghost use Rattle.syn_expr_ast.specs.View.{expr_array_of, expr_group_of, expr_repeat_of, expr_tuple_of, expr_struct_of, field_value_of};
-ghost use Rattle.syn_expr_flatten.specs.Calls.{Takes};
+ghost use Rattle.syn_visit_kinds.specs.Calls.{Takes};
 ghost use Rattle.syn_expr_flatten.specs.Flat.{Flattens, IsFlatBehind, IsFlatField};
 
 use crate::attrs::{Before, put_before};

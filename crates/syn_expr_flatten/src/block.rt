@@ -3,7 +3,7 @@
 ghost use Rattle.std.specs.Prelude.{IfOk};
 ghost use Rattle.std.specs.Option.{ForSome};
 ghost use Rattle.syn_expr_ast.specs.View.{else_of, expr_if_of, expr_while_of};
-ghost use Rattle.syn_expr_flatten.specs.Calls.{Takes};
+ghost use Rattle.syn_visit_kinds.specs.Calls.{Takes};
 ghost use Rattle.syn_expr_flatten.specs.Flat.{AreFlat, Flattens, IsFlatBehind};
 
 use crate::attrs::{Before, put_around, put_before};

@@ -3,7 +3,7 @@
 ghost use Rattle.std.specs.Prelude.{IfOk};
 ghost use Rattle.std.specs.Option.{ForSome};
 ghost use Rattle.syn_expr_ast.specs.View.{expr_break_of, expr_return_of, expr_yield_of};
-ghost use Rattle.syn_expr_flatten.specs.Calls.{Takes};
+ghost use Rattle.syn_visit_kinds.specs.Calls.{Takes};
 ghost use Rattle.syn_expr_flatten.specs.Flat.{Flattens, IsFlatBehind};
 
 use crate::attrs::{Before, put_before};

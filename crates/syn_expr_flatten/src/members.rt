@@ -9,7 +9,7 @@ ghost use Rattle.syn_expr_core.specs.declared.control.ExprForLoop.{out-ExprForLo
 ghost use Rattle.syn_expr_core.specs.declared.control.ExprLet.{out-ExprLet};
 ghost use Rattle.syn_expr_core.specs.declared.control.ExprMatch.{out-ExprMatch};
 ghost use Rattle.syn_expr_core.specs.declared.pat.PatGuard.{out-PatGuard};
-ghost use Rattle.syn_expr_flatten.specs.Calls.{Takes, Leaves, Each};
+ghost use Rattle.syn_visit_kinds.specs.Calls.{Each, Left, Takes};
 ghost use Rattle.syn_expr_flatten.specs.Flat.{Flattens, IsFlatBehind};
 ghost use Rattle.syn_expr_flatten.specs.Pats.{FlattensArm, FlattensPat, IsFlatArm, IsFlatPat};
 
@@ -132,10 +132,10 @@ pub(crate) fn match_expr<F: Fn(&mut Expr) -> Flattened<()>, A: Fn(&mut Arm) -> F
 }
 
 /// Each element, as the function leaves it. Refused where the function refuses one.
-#[tactic(auto, using(crate::proofs::Upto::upto))]
+#[tactic(auto, using(syn_visit_kinds::proofs::Upto::upto))]
 pub(crate) fn each<T, F: Fn(&mut T) -> Flattened<()>>(xs: &mut Vec<T>, flatten: F) -> Flattened<()>
     requires { (x : T) → Contains xs.old.items x → Takes (F.pre flatten) x }
-    ensures { IfOk result (λ _. Each (Leaves (F.post flatten)) xs.old.items xs.new.items) }
+    ensures { IfOk result (λ _. Each (Left (F.post flatten)) xs.old.items xs.new.items) }
 {
     for x in xs.iter_mut() {
         flatten(x)?;

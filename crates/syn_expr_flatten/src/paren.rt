@@ -1,7 +1,7 @@
 //! Parentheses, replaced by what they held.
 
 ghost use Rattle.std.specs.Prelude.{IfOk};
-ghost use Rattle.syn_expr_flatten.specs.Calls.{Takes};
+ghost use Rattle.syn_visit_kinds.specs.Calls.{Takes};
 ghost use Rattle.syn_expr_flatten.specs.Flat.{FlattensBehind, IsFlatBehind};
 ghost use Rattle.syn_expr_ast.specs.View.{expr_paren_of};
 

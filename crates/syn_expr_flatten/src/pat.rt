@@ -5,7 +5,7 @@ ghost use Rattle.std.specs.Option.{ForSome};
 ghost use Rattle.syn_pat.specs.View.{pat_ident_of, pat_or_of, pat_paren_of, pat_reference_of, pat_slice_of, pat_struct_of, pat_tuple_of, pat_tuple_struct_of, pat_type_of, sub_guards, sub_of};
 ghost use Rattle.syn_pat.specs.declared.pat.FieldPatKindOf.TheVariants as field;
 ghost use Rattle.syn_pat.specs.declared.pat.FullFieldPatOf.{FullFieldPatOf};
-ghost use Rattle.syn_expr_flatten.specs.Calls.{Takes, Each};
+ghost use Rattle.syn_visit_kinds.specs.Calls.{Each, Takes};
 ghost use Rattle.syn_expr_flatten.specs.Flat.{IsFlat};
 ghost use Rattle.syn_expr_flatten.specs.Pats.{FlattensPat, IsFlatPat, IsFlatKind, IsFlatFieldPat};
 
@@ -18,7 +18,7 @@ use syn_pat::pat::{
 use syn_tokens::token::At;
 
 /// What comes after `@`, without the parentheses in its guards.
-#[tactic(auto, using(crate::proofs::Each::each))]
+#[tactic(auto, using(syn_visit_kinds::proofs::Elementwise::each))]
 fn sub_pattern<P: HasPatTree, F: Fn(&mut P) -> Flattened<()>>(
     x: &mut Option<(At, Box<P>)>,
     flatten: F,
@@ -51,7 +51,7 @@ pub fn ident<P: HasPatTree, F: Fn(&mut P) -> Flattened<()>>(
 }
 
 /// What a field is, without the parentheses in its guards.
-#[tactic(auto, using(crate::proofs::Each::each))]
+#[tactic(auto, using(syn_visit_kinds::proofs::Elementwise::each))]
 fn field_kind<P: HasPatTree, F: Fn(&mut P) -> Flattened<()>>(
     x: &mut FieldPatKindOf<P>,
     flatten: F,

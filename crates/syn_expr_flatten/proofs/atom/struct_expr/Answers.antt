@@ -2,7 +2,7 @@ use Rattle.std.proofs.Common.{refl, ap, ◌∙◌}
 use Rattle.syn_expr_ast.specs.View.{field_value_of}
 use Rattle.syn_expr_flatten.specs.Flat.{IsFlatField}
 use Rattle.syn_expr_flatten.proofs.Calls.{flat_by, left_by}
-use Rattle.syn_expr_flatten.proofs.Each.{each_by}
+use Rattle.syn_visit_kinds.proofs.Elementwise.{each_by}
 use Rattle.syn_expr_flatten.proofs.Children.{option_flat, same_rest, struct_flat}
 use Rattle.syn_expr_flatten.proofs.Nodes.{at_node}
 use Rattle.syn_expr_flatten.proofs.atom.struct_expr.Goals as goal

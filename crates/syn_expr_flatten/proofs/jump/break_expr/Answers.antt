@@ -1,5 +1,5 @@
 use Rattle.syn_expr_flatten.proofs.Calls.{flat_by}
-use Rattle.syn_expr_flatten.proofs.Each.{each_by}
+use Rattle.syn_visit_kinds.proofs.Elementwise.{each_by}
 use Rattle.syn_expr_flatten.proofs.Children.{jump_plain, jump_flat}
 use Rattle.syn_expr_flatten.proofs.Nodes.{at_node}
 use Rattle.syn_expr_flatten.proofs.jump.break_expr.Goals as goal

@@ -1,6 +1,6 @@
 use Rattle.syn_expr_core.specs.View.{pat_of, tree_of}
 use Rattle.syn_expr_flatten.proofs.Calls.{flat_by, pat_by}
-use Rattle.syn_expr_flatten.proofs.Each.{each_by}
+use Rattle.syn_visit_kinds.proofs.Elementwise.{each_by}
 use Rattle.syn_expr_flatten.proofs.Made.{closure_made}
 use Rattle.syn_expr_flatten.proofs.members.closure.Goals as goal
 

@@ -1,5 +1,5 @@
 use Rattle.std.proofs.Common.{arith, refl}
-use Rattle.syn_expr_flatten.proofs.Upto.{upto_more, upto_next, upto_whole}
+use Rattle.syn_visit_kinds.proofs.Upto.{upto_more, upto_next, upto_whole}
 use Rattle.syn_expr_flatten.proofs.members.each.Goals as goal
 
 pub flatten-requires : goal.flatten-requires

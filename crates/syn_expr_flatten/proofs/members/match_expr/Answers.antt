@@ -2,7 +2,7 @@ use Rattle.std.proofs.Common.{Contains, subst}
 use Rattle.syn_expr_core.specs.View.{arm_of, tree_of}
 use Rattle.syn_expr_flatten.specs.Pats.{IsFlatArm}
 use Rattle.syn_expr_flatten.proofs.Calls.{flat_by, left_by}
-use Rattle.syn_expr_flatten.proofs.Each.{each_by}
+use Rattle.syn_visit_kinds.proofs.Elementwise.{each_by}
 use Rattle.syn_expr_flatten.proofs.Matches.{arms_same, match_left}
 use Rattle.syn_expr_flatten.proofs.members.match_expr.Goals as goal
 

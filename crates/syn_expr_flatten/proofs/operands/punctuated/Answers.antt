@@ -1,4 +1,4 @@
-use Rattle.syn_expr_flatten.proofs.Each.{each_by, each_value, each_trails}
+use Rattle.syn_visit_kinds.proofs.Elementwise.{each_by, each_value, each_trails}
 use Rattle.syn_expr_flatten.proofs.Calls.{anew, by_ref}
 use Rattle.syn_expr_flatten.proofs.operands.punctuated.Goals as goal
 

@@ -1,7 +1,7 @@
 use Rattle.std.proofs.Common.{sym, ap, ◌∙◌}
 use Rattle.syn_expr_flatten.specs.Pats.{IsFlatFieldPat}
 use Rattle.syn_expr_flatten.proofs.Calls.{left_by}
-use Rattle.syn_expr_flatten.proofs.Each.{each_by}
+use Rattle.syn_visit_kinds.proofs.Elementwise.{each_by}
 use Rattle.syn_expr_flatten.proofs.Pats.{struct_flat}
 use Rattle.syn_expr_flatten.proofs.pat.struct_pat.Goals as goal
 

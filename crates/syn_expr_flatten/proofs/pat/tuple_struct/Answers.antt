@@ -1,7 +1,7 @@
 use Rattle.syn_lower_spec.specs.Pat as t
 use Rattle.syn_lower.specs.View.{path_of, type_of}
 use Rattle.syn_expr_flatten.proofs.Calls.{pat_by}
-use Rattle.syn_expr_flatten.proofs.Each.{each_by}
+use Rattle.syn_visit_kinds.proofs.Elementwise.{each_by}
 use Rattle.syn_expr_flatten.proofs.Pats.{list_flat}
 use Rattle.syn_expr_flatten.proofs.pat.tuple_struct.Goals as goal
 

@@ -1,6 +1,6 @@
 use Rattle.std.proofs.Common.{refl}
 use Rattle.syn_expr_flatten.proofs.Calls.{flat_by, by_ref}
-use Rattle.syn_expr_flatten.proofs.Each.{each_by}
+use Rattle.syn_visit_kinds.proofs.Elementwise.{each_by}
 use Rattle.syn_expr_flatten.proofs.Children.{tail_flat, list_flat}
 use Rattle.syn_expr_flatten.proofs.Nodes.{at_node}
 use Rattle.syn_expr_flatten.proofs.trailer.call.Goals as goal
