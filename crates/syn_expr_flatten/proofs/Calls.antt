@@ -1,5 +1,5 @@
 -- What follows of a call for the value that it left.
-use Rattle.std.proofs.Common.{Result, Ok, IfOk, subst, ℕ}
+use Rattle.std.proofs.Common.{Result, Ok, IfOk, subst}
 use Rattle.std.specs.declared.alloc.AllocError.{AllocError}
 use denote.Ref.{MutBor}
 use Rattle.syn_expr_spec.specs.Tree.{Tree}
@@ -17,13 +17,3 @@ flat_by tree post = left_by post (λ x y. IsFlat (tree x) (tree y))
 
 pub pat_by : {P : Type 0} (view : P → PatView) (post : MutBor P → Result (Unit {0}) AllocError → MutBor P → Type 0) → FlattensPat view post → (x y : P) → Left post x y → IsFlatPat (view x) (view y)
 pat_by view post = left_by post (λ x y. IsFlatPat (view x) (view y))
-
--- ---- calls through a reference to a function, which reborrow their argument
-
-module _ {E : Type 0} where
-  abbrev pub anew : MutBor E → ℕ → E → MutBor E
-  anew borrowed n x = record { ref_ptr = borrowed.ref_ptr; ghost_name = n; now = x }
-
-  pub by_ref : (post : MutBor E → Result (Unit {0}) AllocError → MutBor E → Type 0) (x y : E)
-      → Left (λ old r new. (n : ℕ) × post (anew old n old.now) r (anew old n new.now)) x y → Left post x y
-  by_ref post x y call = record { old = anew call.old call.met.0 call.old.now; new = anew call.old call.met.0 call.new.now; shows = call.shows; leaves = call.leaves; met = call.met.1 }

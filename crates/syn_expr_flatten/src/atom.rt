@@ -6,11 +6,11 @@ ghost use Rattle.syn_expr_ast.specs.View.{expr_array_of, expr_group_of, expr_rep
 ghost use Rattle.syn_visit_kinds.specs.Calls.{Takes};
 ghost use Rattle.syn_expr_flatten.specs.Flat.{Flattens, IsFlatBehind, IsFlatField};
 
-use crate::attrs::{Before, put_before};
-use crate::operands::{Flattened, boxed, optional, punctuated};
+use crate::attrs::{Before, Flattened, put_before};
 use syn_expr_ast::alone::HasExprTree;
 use syn_expr_ast::atom::{ExprArrayOf, ExprGroupOf, ExprRepeatOf, ExprTupleOf};
 use syn_expr_ast::structure::{ExprStructOf, FieldValueOf};
+use syn_visit_kinds::operands::{boxed_mut, optional_mut, punctuated_mut};
 
 /// An array without the parentheses in it, after more attributes.
 pub fn array<E: HasExprTree, F: Fn(&mut E) -> Flattened<()>>(
@@ -24,7 +24,7 @@ pub fn array<E: HasExprTree, F: Fn(&mut E) -> Flattened<()>>(
     ensures { IfOk result (λ _. IsFlatBehind attrs (expr_array_of E.tree x.old) (expr_array_of E.tree x.new)) }
 {
     put_before(attrs, &mut x.attrs)?;
-    punctuated(&mut x.elems, flatten)?;
+    punctuated_mut(&mut x.elems, &flatten)?;
     Ok(())
 }
 
@@ -39,7 +39,7 @@ pub fn group<E: HasExprTree, F: Fn(&mut E) -> Flattened<()>>(
     ensures { IfOk result (λ _. IsFlatBehind attrs (expr_group_of E.tree x.old) (expr_group_of E.tree x.new)) }
 {
     put_before(attrs, &mut x.attrs)?;
-    boxed(&mut x.expr, flatten)?;
+    boxed_mut(&mut x.expr, &flatten)?;
     Ok(())
 }
 
@@ -55,8 +55,8 @@ pub fn repeat<E: HasExprTree, F: Fn(&mut E) -> Flattened<()>>(
     ensures { IfOk result (λ _. IsFlatBehind attrs (expr_repeat_of E.tree x.old) (expr_repeat_of E.tree x.new)) }
 {
     put_before(attrs, &mut x.attrs)?;
-    boxed(&mut x.expr, &flatten)?;
-    boxed(&mut x.len, flatten)?;
+    boxed_mut(&mut x.expr, &flatten)?;
+    boxed_mut(&mut x.len, &flatten)?;
     Ok(())
 }
 
@@ -72,7 +72,7 @@ pub fn tuple<E: HasExprTree, F: Fn(&mut E) -> Flattened<()>>(
     ensures { IfOk result (λ _. IsFlatBehind attrs (expr_tuple_of E.tree x.old) (expr_tuple_of E.tree x.new)) }
 {
     put_before(attrs, &mut x.attrs)?;
-    punctuated(&mut x.elems, flatten)?;
+    punctuated_mut(&mut x.elems, &flatten)?;
     Ok(())
 }
 
@@ -89,9 +89,9 @@ pub fn struct_expr<E: HasExprTree, F: Fn(&mut E) -> Flattened<()>>(
     ensures { IfOk result (λ _. IsFlatBehind attrs (expr_struct_of E.tree x.old) (expr_struct_of E.tree x.new)) }
 {
     put_before(attrs, &mut x.attrs)?;
-    punctuated(
+    punctuated_mut(
         &mut x.fields,
-        |field: &mut FieldValueOf<E>| -> Flattened<()>
+        &|field: &mut FieldValueOf<E>| -> Flattened<()>
             requires value { Takes (F.pre flatten) field.old.expr }
             requires gives { Flattens E.tree (F.post flatten) }
             ensures { IfOk result (λ _. IsFlatField (field_value_of E.tree field.old) (field_value_of E.tree field.new)) }
@@ -100,6 +100,6 @@ pub fn struct_expr<E: HasExprTree, F: Fn(&mut E) -> Flattened<()>>(
             Ok(())
         },
     )?;
-    optional(&mut x.rest, flatten)?;
+    optional_mut(&mut x.rest, &flatten)?;
     Ok(())
 }

@@ -6,10 +6,13 @@ ghost use Rattle.syn_expr_ast.specs.Attrs.{attrs_of, inner_of, outer_of};
 ghost use Rattle.syn_expr_spec.specs.Tree.{inners, outers};
 ghost use Rattle.syn_lower_leaves.specs.View.{attribute_of};
 
-use crate::operands::Flattened;
+use std::alloc::AllocError;
 use std::mem::replace;
 use syn_expr_ast::attrs::{all_outer, from_inner, is_inner, joined};
 use syn_lower::attr::Attribute;
+
+/// What is answered inside. That memory ran out is all that flattening is refused for; nothing is said then of what was given.
+pub type Flattened<T> = Result<T, AllocError>;
 
 /// The attributes of parentheses that were round an expression; None where there were none.
 pub type Before = Option<Vec<Attribute>>;

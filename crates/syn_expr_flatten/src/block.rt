@@ -6,11 +6,11 @@ ghost use Rattle.syn_expr_ast.specs.View.{else_of, expr_if_of, expr_while_of};
 ghost use Rattle.syn_visit_kinds.specs.Calls.{Takes};
 ghost use Rattle.syn_expr_flatten.specs.Flat.{AreFlat, Flattens, IsFlatBehind};
 
-use crate::attrs::{Before, put_around, put_before};
-use crate::operands::{Flattened, boxed};
+use crate::attrs::{Before, Flattened, put_around, put_before};
 use syn_expr_ast::alone::HasExprTree;
 use syn_expr_ast::block::{ExprIfOf, ExprWhileOf};
 use syn_tokens::token::Else;
+use syn_visit_kinds::operands::boxed_mut;
 
 /// What comes after `else`, without the parentheses in it.
 #[tactic(auto, using(crate::proofs::Children::children, crate::proofs::Calls::flat_by))]
@@ -24,7 +24,7 @@ fn else_branch<E: HasExprTree, F: Fn(&mut E) -> Flattened<()>>(
 {
     match x {
         Some(both) => {
-            boxed(&mut both.1, flatten)?;
+            boxed_mut(&mut both.1, &flatten)?;
             Ok(())
         }
         None => Ok(()),
@@ -43,7 +43,7 @@ pub fn if_expr<E: HasExprTree, F: Fn(&mut E) -> Flattened<()>>(
     ensures { IfOk result (λ _. IsFlatBehind attrs (expr_if_of E.tree x.old) (expr_if_of E.tree x.new)) }
 {
     put_before(attrs, &mut x.attrs)?;
-    boxed(&mut x.cond, &flatten)?;
+    boxed_mut(&mut x.cond, &flatten)?;
     else_branch(&mut x.else_branch, flatten)?;
     Ok(())
 }
@@ -59,6 +59,6 @@ pub fn while_expr<E: HasExprTree, F: Fn(&mut E) -> Flattened<()>>(
     ensures { IfOk result (λ _. IsFlatBehind attrs (expr_while_of E.tree x.old) (expr_while_of E.tree x.new)) }
 {
     put_around(attrs, &mut x.attrs)?;
-    boxed(&mut x.cond, flatten)?;
+    boxed_mut(&mut x.cond, &flatten)?;
     Ok(())
 }

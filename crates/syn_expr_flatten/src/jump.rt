@@ -6,10 +6,10 @@ ghost use Rattle.syn_expr_ast.specs.View.{expr_break_of, expr_return_of, expr_yi
 ghost use Rattle.syn_visit_kinds.specs.Calls.{Takes};
 ghost use Rattle.syn_expr_flatten.specs.Flat.{Flattens, IsFlatBehind};
 
-use crate::attrs::{Before, put_before};
-use crate::operands::{Flattened, optional};
+use crate::attrs::{Before, Flattened, put_before};
 use syn_expr_ast::alone::HasExprTree;
 use syn_expr_ast::jump::{ExprBreakOf, ExprReturnOf, ExprYieldOf};
+use syn_visit_kinds::operands::optional_mut;
 
 /// A `break` without the parentheses in it, after more attributes.
 pub fn break_expr<E: HasExprTree, F: Fn(&mut E) -> Flattened<()>>(
@@ -22,7 +22,7 @@ pub fn break_expr<E: HasExprTree, F: Fn(&mut E) -> Flattened<()>>(
     ensures { IfOk result (λ _. IsFlatBehind attrs (expr_break_of E.tree x.old) (expr_break_of E.tree x.new)) }
 {
     put_before(attrs, &mut x.attrs)?;
-    optional(&mut x.expr, flatten)?;
+    optional_mut(&mut x.expr, &flatten)?;
     Ok(())
 }
 
@@ -37,7 +37,7 @@ pub fn return_expr<E: HasExprTree, F: Fn(&mut E) -> Flattened<()>>(
     ensures { IfOk result (λ _. IsFlatBehind attrs (expr_return_of E.tree x.old) (expr_return_of E.tree x.new)) }
 {
     put_before(attrs, &mut x.attrs)?;
-    optional(&mut x.expr, flatten)?;
+    optional_mut(&mut x.expr, &flatten)?;
     Ok(())
 }
 
@@ -52,6 +52,6 @@ pub fn yield_expr<E: HasExprTree, F: Fn(&mut E) -> Flattened<()>>(
     ensures { IfOk result (λ _. IsFlatBehind attrs (expr_yield_of E.tree x.old) (expr_yield_of E.tree x.new)) }
 {
     put_before(attrs, &mut x.attrs)?;
-    optional(&mut x.expr, flatten)?;
+    optional_mut(&mut x.expr, &flatten)?;
     Ok(())
 }

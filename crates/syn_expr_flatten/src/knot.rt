@@ -11,9 +11,8 @@ ghost use Rattle.syn_expr_core.specs.declared.expr.Expr.TheVariants as ex;
 ghost use Rattle.syn_expr_ast.specs.declared.atom.ExprParenOf.{ExprParenOf};
 ghost use Rattle.syn_expr_ast.specs.View.{expr_infer_of, expr_lit_of, expr_macro_of, expr_path_of, expr_async_of, expr_try_block_of, expr_continue_of, expr_block_of, expr_const_of, expr_loop_of, expr_unsafe_of};
 
-use crate::attrs::{Before, put_around, put_before};
+use crate::attrs::{Before, Flattened, put_around, put_before};
 use crate::block::{if_expr, while_expr};
-use crate::operands::Flattened;
 use crate::paren::unwrapped;
 use crate::{atom, jump, members, operation, pat, trailer};
 use std::mem::replace;

@@ -8,7 +8,6 @@ pub mod jump;
 pub mod knot;
 pub mod laws;
 mod members;
-pub mod operands;
 pub mod operation;
 pub mod paren;
 pub mod pat;

@@ -13,12 +13,12 @@ ghost use Rattle.syn_visit_kinds.specs.Calls.{Each, Left, Takes};
 ghost use Rattle.syn_expr_flatten.specs.Flat.{Flattens, IsFlatBehind};
 ghost use Rattle.syn_expr_flatten.specs.Pats.{FlattensArm, FlattensPat, IsFlatArm, IsFlatPat};
 
-use crate::attrs::{Before, put_around, put_before};
-use crate::operands::{Flattened, boxed, punctuated};
+use crate::attrs::{Before, Flattened, put_around, put_before};
 use syn_expr_core::closure::ExprClosure;
 use syn_expr_core::control::{Arm, ExprForLoop, ExprLet, ExprMatch};
 use syn_expr_core::expr::Expr;
 use syn_expr_core::pat::{Pat, PatGuard};
+use syn_visit_kinds::operands::{boxed_mut, punctuated_mut};
 
 /// A pattern with a guard, without the parentheses in it.
 pub(crate) fn guarded<F: Fn(&mut Expr) -> Flattened<()>, G: Fn(&mut Pat) -> Flattened<()>>(
@@ -32,8 +32,8 @@ pub(crate) fn guarded<F: Fn(&mut Expr) -> Flattened<()>, G: Fn(&mut Pat) -> Flat
     requires gives { Flattens tree_of (F.post flatten) }
     ensures { IfOk result (λ _. IsFlatPat (guard_of x.old) (guard_of x.new)) }
 {
-    boxed(&mut x.pat, pattern)?;
-    boxed(&mut x.guard, flatten)?;
+    boxed_mut(&mut x.pat, &pattern)?;
+    boxed_mut(&mut x.guard, &flatten)?;
     Ok(())
 }
 
@@ -52,8 +52,8 @@ pub(crate) fn closure<F: Fn(&mut Expr) -> Flattened<()>, G: Fn(&mut Pat) -> Flat
     ensures { IfOk result (λ _. IsFlatBehind attrs (closure_of x.old) (closure_of x.new)) }
 {
     put_before(attrs, &mut x.attrs)?;
-    punctuated(&mut x.inputs, pattern)?;
-    boxed(&mut x.body, flatten)?;
+    punctuated_mut(&mut x.inputs, &pattern)?;
+    boxed_mut(&mut x.body, &flatten)?;
     Ok(())
 }
 
@@ -71,8 +71,8 @@ pub(crate) fn for_loop<F: Fn(&mut Expr) -> Flattened<()>, G: Fn(&mut Pat) -> Fla
     ensures { IfOk result (λ _. IsFlatBehind attrs (for_loop_of x.old) (for_loop_of x.new)) }
 {
     put_around(attrs, &mut x.attrs)?;
-    boxed(&mut x.pat, pattern)?;
-    boxed(&mut x.expr, flatten)?;
+    boxed_mut(&mut x.pat, &pattern)?;
+    boxed_mut(&mut x.expr, &flatten)?;
     Ok(())
 }
 
@@ -90,8 +90,8 @@ pub(crate) fn let_expr<F: Fn(&mut Expr) -> Flattened<()>, G: Fn(&mut Pat) -> Fla
     ensures { IfOk result (λ _. IsFlatBehind attrs (let_of x.old) (let_of x.new)) }
 {
     put_before(attrs, &mut x.attrs)?;
-    boxed(&mut x.pat, pattern)?;
-    boxed(&mut x.expr, flatten)?;
+    boxed_mut(&mut x.pat, &pattern)?;
+    boxed_mut(&mut x.expr, &flatten)?;
     Ok(())
 }
 
@@ -108,7 +108,7 @@ pub(crate) fn arm<F: Fn(&mut Expr) -> Flattened<()>, G: Fn(&mut Pat) -> Flattene
     ensures { IfOk result (λ _. IsFlatArm (arm_of one.old) (arm_of one.new)) }
 {
     pattern(&mut one.pat)?;
-    boxed(&mut one.body, flatten)?;
+    boxed_mut(&mut one.body, &flatten)?;
     Ok(())
 }
 
@@ -126,7 +126,7 @@ pub(crate) fn match_expr<F: Fn(&mut Expr) -> Flattened<()>, A: Fn(&mut Arm) -> F
     ensures { IfOk result (λ _. IsFlatBehind attrs (match_of x.old) (match_of x.new)) }
 {
     put_around(attrs, &mut x.attrs)?;
-    boxed(&mut x.expr, flatten)?;
+    boxed_mut(&mut x.expr, &flatten)?;
     each(&mut x.arms, arm)?;
     Ok(())
 }

@@ -6,13 +6,13 @@ ghost use Rattle.syn_expr_ast.specs.View.{expr_assign_of, expr_binary_of, expr_c
 ghost use Rattle.syn_visit_kinds.specs.Calls.{Takes};
 ghost use Rattle.syn_expr_flatten.specs.Flat.{Flattens, IsFlatBehind};
 
-use crate::attrs::{Before, put_before};
-use crate::operands::{Flattened, boxed, optional};
+use crate::attrs::{Before, Flattened, put_before};
 use syn_expr_ast::alone::HasExprTree;
 use syn_expr_ast::operation::{
     ExprAssignOf, ExprBinaryOf, ExprCastOf, ExprRangeOf, ExprRawAddrOf, ExprReferenceOf,
     ExprUnaryOf,
 };
+use syn_visit_kinds::operands::{boxed_mut, optional_mut};
 
 /// An assignment without the parentheses in it, after more attributes.
 pub fn assign<E: HasExprTree, F: Fn(&mut E) -> Flattened<()>>(
@@ -26,8 +26,8 @@ pub fn assign<E: HasExprTree, F: Fn(&mut E) -> Flattened<()>>(
     ensures { IfOk result (λ _. IsFlatBehind attrs (expr_assign_of E.tree x.old) (expr_assign_of E.tree x.new)) }
 {
     put_before(attrs, &mut x.attrs)?;
-    boxed(&mut x.left, &flatten)?;
-    boxed(&mut x.right, flatten)?;
+    boxed_mut(&mut x.left, &flatten)?;
+    boxed_mut(&mut x.right, &flatten)?;
     Ok(())
 }
 
@@ -43,8 +43,8 @@ pub fn binary<E: HasExprTree, F: Fn(&mut E) -> Flattened<()>>(
     ensures { IfOk result (λ _. IsFlatBehind attrs (expr_binary_of E.tree x.old) (expr_binary_of E.tree x.new)) }
 {
     put_before(attrs, &mut x.attrs)?;
-    boxed(&mut x.left, &flatten)?;
-    boxed(&mut x.right, flatten)?;
+    boxed_mut(&mut x.left, &flatten)?;
+    boxed_mut(&mut x.right, &flatten)?;
     Ok(())
 }
 
@@ -59,7 +59,7 @@ pub fn cast<E: HasExprTree, F: Fn(&mut E) -> Flattened<()>>(
     ensures { IfOk result (λ _. IsFlatBehind attrs (expr_cast_of E.tree x.old) (expr_cast_of E.tree x.new)) }
 {
     put_before(attrs, &mut x.attrs)?;
-    boxed(&mut x.expr, flatten)?;
+    boxed_mut(&mut x.expr, &flatten)?;
     Ok(())
 }
 
@@ -75,8 +75,8 @@ pub fn range<E: HasExprTree, F: Fn(&mut E) -> Flattened<()>>(
     ensures { IfOk result (λ _. IsFlatBehind attrs (expr_range_of E.tree x.old) (expr_range_of E.tree x.new)) }
 {
     put_before(attrs, &mut x.attrs)?;
-    optional(&mut x.start, &flatten)?;
-    optional(&mut x.end, flatten)?;
+    optional_mut(&mut x.start, &flatten)?;
+    optional_mut(&mut x.end, &flatten)?;
     Ok(())
 }
 
@@ -91,7 +91,7 @@ pub fn raw_addr<E: HasExprTree, F: Fn(&mut E) -> Flattened<()>>(
     ensures { IfOk result (λ _. IsFlatBehind attrs (expr_raw_addr_of E.tree x.old) (expr_raw_addr_of E.tree x.new)) }
 {
     put_before(attrs, &mut x.attrs)?;
-    boxed(&mut x.expr, flatten)?;
+    boxed_mut(&mut x.expr, &flatten)?;
     Ok(())
 }
 
@@ -106,7 +106,7 @@ pub fn reference<E: HasExprTree, F: Fn(&mut E) -> Flattened<()>>(
     ensures { IfOk result (λ _. IsFlatBehind attrs (expr_reference_of E.tree x.old) (expr_reference_of E.tree x.new)) }
 {
     put_before(attrs, &mut x.attrs)?;
-    boxed(&mut x.expr, flatten)?;
+    boxed_mut(&mut x.expr, &flatten)?;
     Ok(())
 }
 
@@ -121,6 +121,6 @@ pub fn unary<E: HasExprTree, F: Fn(&mut E) -> Flattened<()>>(
     ensures { IfOk result (λ _. IsFlatBehind attrs (expr_unary_of E.tree x.old) (expr_unary_of E.tree x.new)) }
 {
     put_before(attrs, &mut x.attrs)?;
-    boxed(&mut x.expr, flatten)?;
+    boxed_mut(&mut x.expr, &flatten)?;
     Ok(())
 }

@@ -5,8 +5,7 @@ ghost use Rattle.syn_visit_kinds.specs.Calls.{Takes};
 ghost use Rattle.syn_expr_flatten.specs.Flat.{FlattensBehind, IsFlatBehind};
 ghost use Rattle.syn_expr_ast.specs.View.{expr_paren_of};
 
-use crate::attrs::{Before, put_before};
-use crate::operands::Flattened;
+use crate::attrs::{Before, Flattened, put_before};
 use std::mem::replace;
 use syn_expr_ast::alone::HasExprTree;
 use syn_expr_ast::atom::ExprParenOf;

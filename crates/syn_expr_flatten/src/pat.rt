@@ -9,13 +9,14 @@ ghost use Rattle.syn_visit_kinds.specs.Calls.{Each, Takes};
 ghost use Rattle.syn_expr_flatten.specs.Flat.{IsFlat};
 ghost use Rattle.syn_expr_flatten.specs.Pats.{FlattensPat, IsFlatPat, IsFlatKind, IsFlatFieldPat};
 
-use crate::operands::{Flattened, boxed, punctuated};
+use crate::attrs::Flattened;
 use syn_pat::kinds::HasPatTree;
 use syn_pat::pat::{
     FieldPatKindOf, FieldPatOf, PatIdentOf, PatOrOf, PatParenOf, PatReferenceOf, PatSliceOf,
     PatStructOf, PatTupleOf, PatTupleStructOf, PatTypeOf,
 };
 use syn_tokens::token::At;
+use syn_visit_kinds::operands::{boxed_mut, punctuated_mut};
 
 /// What comes after `@`, without the parentheses in its guards.
 #[tactic(auto, using(syn_visit_kinds::proofs::Elementwise::each))]
@@ -30,7 +31,7 @@ fn sub_pattern<P: HasPatTree, F: Fn(&mut P) -> Flattened<()>>(
 {
     match x {
         Some(both) => {
-            boxed(&mut both.1, flatten)?;
+            boxed_mut(&mut both.1, &flatten)?;
             Ok(())
         }
         None => Ok(()),
@@ -63,7 +64,7 @@ fn field_kind<P: HasPatTree, F: Fn(&mut P) -> Flattened<()>>(
     match x {
         FieldPatKindOf::Short(_) => Ok(()),
         FieldPatKindOf::Full(x) => {
-            boxed(&mut x.pat, flatten)?;
+            boxed_mut(&mut x.pat, &flatten)?;
             Ok(())
         }
     }
@@ -79,9 +80,9 @@ pub fn struct_pat<P: HasPatTree, F: Fn(&mut P) -> Flattened<()>>(
     requires gives { FlattensPat P.view (F.post flatten) }
     ensures { IfOk result (λ _. IsFlatPat (pat_struct_of P.view x.old) (pat_struct_of P.view x.new)) }
 {
-    punctuated(
+    punctuated_mut(
         &mut x.fields,
-        |one: &mut FieldPatOf<P>| -> Flattened<()>
+        &|one: &mut FieldPatOf<P>| -> Flattened<()>
             requires inner { (p : FullFieldPatOf P) → one.old.kind ≡ field.Full p → Takes (F.pre flatten) p.pat.value }
             requires gives { FlattensPat P.view (F.post flatten) }
             ensures { IfOk result (λ _. IsFlatFieldPat P.view one.old one.new) }
@@ -103,7 +104,7 @@ pub fn or<P: HasPatTree, F: Fn(&mut P) -> Flattened<()>>(
     requires gives { FlattensPat P.view (F.post flatten) }
     ensures { IfOk result (λ _. IsFlatPat (pat_or_of P.view x.old) (pat_or_of P.view x.new)) }
 {
-    punctuated(&mut x.cases, flatten)?;
+    punctuated_mut(&mut x.cases, &flatten)?;
     Ok(())
 }
 
@@ -116,7 +117,7 @@ pub fn paren<P: HasPatTree, F: Fn(&mut P) -> Flattened<()>>(
     requires gives { FlattensPat P.view (F.post flatten) }
     ensures { IfOk result (λ _. IsFlatPat (pat_paren_of P.view x.old) (pat_paren_of P.view x.new)) }
 {
-    boxed(&mut x.pat, flatten)?;
+    boxed_mut(&mut x.pat, &flatten)?;
     Ok(())
 }
 
@@ -129,7 +130,7 @@ pub fn reference<P: HasPatTree, F: Fn(&mut P) -> Flattened<()>>(
     requires gives { FlattensPat P.view (F.post flatten) }
     ensures { IfOk result (λ _. IsFlatPat (pat_reference_of P.view x.old) (pat_reference_of P.view x.new)) }
 {
-    boxed(&mut x.pat, flatten)?;
+    boxed_mut(&mut x.pat, &flatten)?;
     Ok(())
 }
 
@@ -143,7 +144,7 @@ pub fn slice<P: HasPatTree, F: Fn(&mut P) -> Flattened<()>>(
     requires gives { FlattensPat P.view (F.post flatten) }
     ensures { IfOk result (λ _. IsFlatPat (pat_slice_of P.view x.old) (pat_slice_of P.view x.new)) }
 {
-    punctuated(&mut x.elems, flatten)?;
+    punctuated_mut(&mut x.elems, &flatten)?;
     Ok(())
 }
 
@@ -157,7 +158,7 @@ pub fn tuple<P: HasPatTree, F: Fn(&mut P) -> Flattened<()>>(
     requires gives { FlattensPat P.view (F.post flatten) }
     ensures { IfOk result (λ _. IsFlatPat (pat_tuple_of P.view x.old) (pat_tuple_of P.view x.new)) }
 {
-    punctuated(&mut x.elems, flatten)?;
+    punctuated_mut(&mut x.elems, &flatten)?;
     Ok(())
 }
 
@@ -171,7 +172,7 @@ pub fn tuple_struct<P: HasPatTree, F: Fn(&mut P) -> Flattened<()>>(
     requires gives { FlattensPat P.view (F.post flatten) }
     ensures { IfOk result (λ _. IsFlatPat (pat_tuple_struct_of P.view x.old) (pat_tuple_struct_of P.view x.new)) }
 {
-    punctuated(&mut x.elems, flatten)?;
+    punctuated_mut(&mut x.elems, &flatten)?;
     Ok(())
 }
 
@@ -184,6 +185,6 @@ pub fn typed<P: HasPatTree, F: Fn(&mut P) -> Flattened<()>>(
     requires gives { FlattensPat P.view (F.post flatten) }
     ensures { IfOk result (λ _. IsFlatPat (pat_type_of P.view x.old) (pat_type_of P.view x.new)) }
 {
-    boxed(&mut x.pat, flatten)?;
+    boxed_mut(&mut x.pat, &flatten)?;
     Ok(())
 }

@@ -6,12 +6,12 @@ ghost use Rattle.syn_expr_ast.specs.View.{expr_await_of, expr_call_of, expr_fiel
 ghost use Rattle.syn_visit_kinds.specs.Calls.{Takes};
 ghost use Rattle.syn_expr_flatten.specs.Flat.{Flattens, IsFlatBehind};
 
-use crate::attrs::{Before, put_before};
-use crate::operands::{Flattened, boxed, punctuated};
+use crate::attrs::{Before, Flattened, put_before};
 use syn_expr_ast::alone::HasExprTree;
 use syn_expr_ast::trailer::{
     ExprAwaitOf, ExprCallOf, ExprFieldOf, ExprIndexOf, ExprMethodCallOf, ExprTryOf,
 };
+use syn_visit_kinds::operands::{boxed_mut, punctuated_mut};
 
 /// An `.await` without the parentheses in it, after more attributes.
 pub fn await_expr<E: HasExprTree, F: Fn(&mut E) -> Flattened<()>>(
@@ -24,7 +24,7 @@ pub fn await_expr<E: HasExprTree, F: Fn(&mut E) -> Flattened<()>>(
     ensures { IfOk result (λ _. IsFlatBehind attrs (expr_await_of E.tree x.old) (expr_await_of E.tree x.new)) }
 {
     put_before(attrs, &mut x.attrs)?;
-    boxed(&mut x.base, flatten)?;
+    boxed_mut(&mut x.base, &flatten)?;
     Ok(())
 }
 
@@ -41,8 +41,8 @@ pub fn call<E: HasExprTree, F: Fn(&mut E) -> Flattened<()>>(
     ensures { IfOk result (λ _. IsFlatBehind attrs (expr_call_of E.tree x.old) (expr_call_of E.tree x.new)) }
 {
     put_before(attrs, &mut x.attrs)?;
-    boxed(&mut x.func, &flatten)?;
-    punctuated(&mut x.args, flatten)?;
+    boxed_mut(&mut x.func, &flatten)?;
+    punctuated_mut(&mut x.args, &flatten)?;
     Ok(())
 }
 
@@ -57,7 +57,7 @@ pub fn field<E: HasExprTree, F: Fn(&mut E) -> Flattened<()>>(
     ensures { IfOk result (λ _. IsFlatBehind attrs (expr_field_of E.tree x.old) (expr_field_of E.tree x.new)) }
 {
     put_before(attrs, &mut x.attrs)?;
-    boxed(&mut x.base, flatten)?;
+    boxed_mut(&mut x.base, &flatten)?;
     Ok(())
 }
 
@@ -73,8 +73,8 @@ pub fn index<E: HasExprTree, F: Fn(&mut E) -> Flattened<()>>(
     ensures { IfOk result (λ _. IsFlatBehind attrs (expr_index_of E.tree x.old) (expr_index_of E.tree x.new)) }
 {
     put_before(attrs, &mut x.attrs)?;
-    boxed(&mut x.expr, &flatten)?;
-    boxed(&mut x.index, flatten)?;
+    boxed_mut(&mut x.expr, &flatten)?;
+    boxed_mut(&mut x.index, &flatten)?;
     Ok(())
 }
 
@@ -91,8 +91,8 @@ pub fn method_call<E: HasExprTree, F: Fn(&mut E) -> Flattened<()>>(
     ensures { IfOk result (λ _. IsFlatBehind attrs (expr_method_call_of E.tree x.old) (expr_method_call_of E.tree x.new)) }
 {
     put_before(attrs, &mut x.attrs)?;
-    boxed(&mut x.receiver, &flatten)?;
-    punctuated(&mut x.args, flatten)?;
+    boxed_mut(&mut x.receiver, &flatten)?;
+    punctuated_mut(&mut x.args, &flatten)?;
     Ok(())
 }
 
@@ -107,6 +107,6 @@ pub fn try_expr<E: HasExprTree, F: Fn(&mut E) -> Flattened<()>>(
     ensures { IfOk result (λ _. IsFlatBehind attrs (expr_try_of E.tree x.old) (expr_try_of E.tree x.new)) }
 {
     put_before(attrs, &mut x.attrs)?;
-    boxed(&mut x.expr, flatten)?;
+    boxed_mut(&mut x.expr, &flatten)?;
     Ok(())
 }

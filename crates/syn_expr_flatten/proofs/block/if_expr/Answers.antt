@@ -1,8 +1,8 @@
 use Rattle.std.proofs.Common.{refl}
-use Rattle.syn_expr_flatten.proofs.Calls.{flat_by, by_ref}
+use Rattle.syn_expr_flatten.proofs.Calls.{flat_by}
 use Rattle.syn_expr_flatten.proofs.Children.{frame_flat, child_flat}
 use Rattle.syn_expr_flatten.proofs.Nodes.{at_node}
 use Rattle.syn_expr_flatten.proofs.block.if_expr.Goals as goal
 
 pub returns : goal.returns
-returns g c = at_node _ _ _ _ _ refl c.in_ok-put_before.ensures (frame_flat _ _ _ (child_flat _ _ _ _ _ _ (flat_by g.E.HasExprTree.tree _ c.requires.gives _ _ (by_ref _ _ _ c.in_ok-boxed.ensures)) (c.in_ok-else_branch.ensures)))
+returns g c = at_node _ _ _ _ _ refl c.in_ok-put_before.ensures (frame_flat _ _ _ (child_flat _ _ _ _ _ _ (flat_by g.E.HasExprTree.tree _ c.requires.gives _ _ c.in_ok-boxed_mut.ensures.left) (c.in_ok-else_branch.ensures)))

@@ -6,4 +6,4 @@ use Rattle.syn_expr_flatten.proofs.members.closure.Goals as goal
 
 pub returns : goal.returns
 returns g c = closure_made c.args.attrs c.args.x.now _ _ _ c.in_ok-put_before.ensures
-    (each_by _ _ (pat_by pat_of _ c.requires.pats) _ _ c.in_ok-punctuated.ensures.values) c.in_ok-punctuated.ensures.trails (flat_by tree_of _ c.requires.gives _ _ c.in_ok-boxed.ensures)
+    (each_by _ _ (pat_by pat_of _ c.requires.pats) _ _ c.in_ok-punctuated_mut.ensures.values) c.in_ok-punctuated_mut.ensures.trails (flat_by tree_of _ c.requires.gives _ _ c.in_ok-boxed_mut.ensures.left)

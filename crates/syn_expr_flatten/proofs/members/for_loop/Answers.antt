@@ -5,4 +5,4 @@ use Rattle.syn_expr_flatten.proofs.members.for_loop.Goals as goal
 
 pub returns : goal.returns
 returns g c = for_loop_made c.args.attrs c.args.x.now _ _ _ (c.in_ok-put_around.ensures.outer, c.in_ok-put_around.ensures.inner)
-    (pat_by pat_of _ c.requires.pats _ _ c.in_ok-boxed.ensures) (flat_by tree_of _ c.requires.gives _ _ c.in_ok-boxed-2.ensures)
+    (pat_by pat_of _ c.requires.pats _ _ c.in_ok-boxed_mut.ensures.left) (flat_by tree_of _ c.requires.gives _ _ c.in_ok-boxed_mut-2.ensures.left)

@@ -4,4 +4,4 @@ use Rattle.syn_expr_flatten.proofs.Nodes.{at_node, prefix_flat}
 use Rattle.syn_expr_flatten.proofs.operation.unary.Goals as goal
 
 pub returns : goal.returns
-returns g c = at_node _ _ _ _ _ refl c.in_ok-put_before.ensures (prefix_flat _ _ _ (flat_by g.E.HasExprTree.tree _ c.requires.gives _ _ c.in_ok-boxed.ensures))
+returns g c = at_node _ _ _ _ _ refl c.in_ok-put_before.ensures (prefix_flat _ _ _ (flat_by g.E.HasExprTree.tree _ c.requires.gives _ _ c.in_ok-boxed_mut.ensures.left))

@@ -6,4 +6,4 @@ use Rattle.syn_expr_flatten.proofs.Pats.{list_flat}
 use Rattle.syn_expr_flatten.proofs.pat.or.Goals as goal
 
 pub returns : goal.returns
-returns g c = list_flat (t.alternatives (is_some c.args.x.now.leading_vert)) c.args.x.now.attrs g.P.HasPatTree.view _ _ (each_by _ _ (pat_by g.P.HasPatTree.view _ c.requires.gives) _ _ c.in_ok-punctuated.ensures.values) c.in_ok-punctuated.ensures.trails
+returns g c = list_flat (t.alternatives (is_some c.args.x.now.leading_vert)) c.args.x.now.attrs g.P.HasPatTree.view _ _ (each_by _ _ (pat_by g.P.HasPatTree.view _ c.requires.gives) _ _ c.in_ok-punctuated_mut.ensures.values) c.in_ok-punctuated_mut.ensures.trails

@@ -5,4 +5,4 @@ use Rattle.syn_expr_flatten.proofs.Nodes.{at_node}
 use Rattle.syn_expr_flatten.proofs.trailer.await_expr.Goals as goal
 
 pub returns : goal.returns
-returns g c = at_node _ _ _ _ _ refl c.in_ok-put_before.ensures (tail_flat _ _ _ _ _ (flat_by g.E.HasExprTree.tree _ c.requires.gives _ _ c.in_ok-boxed.ensures) none_flat)
+returns g c = at_node _ _ _ _ _ refl c.in_ok-put_before.ensures (tail_flat _ _ _ _ _ (flat_by g.E.HasExprTree.tree _ c.requires.gives _ _ c.in_ok-boxed_mut.ensures.left) none_flat)
