@@ -1,0 +1,5 @@
+use Rattle.std.proofs.Common.{◌≡◌, map, take}
+use Rattle.syn_lower_copy.proofs.list.copy_pairs.Given as goal
+
+abbrev pub invariant-loop-x : goal.invariant-loop-x
+invariant-loop-x g l = map (λ q. g.V.Sees.seen q.0) l.ys.items ≡ map (λ q. g.V.Sees.seen q.0) (take l.x-index l.xs)
