@@ -13,8 +13,8 @@ use std::io;
 use std::mem::replace;
 use syn_expr::op::{BinOp, UnOp};
 use syn_expr::{
-    ErrorKind, Expr, ExprUnary, FixupContext, HeldExpr, Result, TokenStream, flatten_in_place, parse_str,
-    print_expr, to_text,
+    ErrorKind, Expr, ExprUnary, FixupContext, HeldExpr, Result, TokenStream, flatten_in_place,
+    parse_str, print_expr, to_text,
 };
 use syn_tokens::token::Ne;
 use syn_visit::rewrite;

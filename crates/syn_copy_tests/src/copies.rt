@@ -23,8 +23,8 @@ a.await? + b.c.0[d] - e::<F, 'g, { 1 }, H = I>(j, k,)
 break
 continue 'a
 const { a } == unsafe { b }
-a as [B; 2] as &'c mut [D] as *const (E, F,) as fn(g: H, ..) -> !
-a as for<'b> unsafe extern "C" fn(_: B) -> impl C + 'd as dyn ?for<'e> E<'e> + (F)
+a as [B; 2] as &'c mut [D] as *const (E, F,) as fn(g: H) -> !
+a as for<'b> unsafe extern "C" fn(_: B) -> (impl C + 'd) as (dyn for<'e> E<'e> + F(G) -> H)
 <A as B::C>::d::<_>(m! { e })
 for<'a> static move |&mut (ref mut b, _): &'c D, [.., e @ 1..=2]| -> F { g }
 #[a] 'b: for (c, ..) in ..d { #![e] f }
@@ -65,16 +65,26 @@ fn is_copied(alloc: Global, text: &str) -> Result<bool, Error> {
     Ok(is_equal && is_shown && is_printed)
 }
 
-#[test]
-fn copies_are_equal(rt: HostRuntime) -> Result<(), Fail> {
+/// The texts of which the copy differs, or that are refused.
+fn differing(alloc: Global) -> Result<String, Error> {
+    let mut found = String::new(alloc);
     for text in TEXTS.trim().split('\n') {
-        match is_copied(rt.alloc(), text) {
+        match is_copied(alloc, text) {
             Ok(true) => {}
-            Ok(false) => return Err(Fail::new(format_args!("the copy differs: {text}"))),
-            Err(e) => return Err(Fail::new(format_args!("{text}: {}", e.kind))),
+            Ok(false) => found.push_str(&format!(in alloc; "{text}: it differs\n")?)?,
+            Err(e) => found.push_str(&format!(in alloc; "{text}: {}\n", e.kind)?)?,
         }
     }
-    Ok(())
+    Ok(found)
+}
+
+#[test]
+fn copies_are_equal(rt: HostRuntime) -> Result<(), Fail> {
+    match differing(rt.alloc()) {
+        Ok(found) if found.is_empty() => Ok(()),
+        Ok(found) => Err(Fail::new(format_args!("{found}"))),
+        Err(e) => Err(Fail::new(format_args!("{}", e.kind))),
+    }
 }
 
 /// A `match` with patterns of several kinds.
@@ -88,26 +98,25 @@ fn is_arm_copied(alloc: Global, arm: &Arm) -> Result<bool, Error> {
     Ok(copy.value == *arm && pat.value == arm.pat)
 }
 
-/// How many arms of a `match` are copied, of how many.
-fn copied_arms(alloc: Global) -> Result<(usize, usize), Error> {
+/// Whether the five arms of a `match` are copied.
+fn are_arms_copied(alloc: Global) -> Result<bool, Error> {
     let held = parse_str::<HeldExpr>(alloc, MATCH)?;
     let Expr::Match(x) = &held.expr else {
-        return Ok((0, 0));
+        return Ok(false);
     };
-    let mut count = 0;
     for arm in x.arms.iter() {
-        if is_arm_copied(alloc, arm)? {
-            count += 1;
+        if !is_arm_copied(alloc, arm)? {
+            return Ok(false);
         }
     }
-    Ok((count, x.arms.len()))
+    Ok(x.arms.len() == 5)
 }
 
 #[test]
 fn arms_are_equal(rt: HostRuntime) -> Result<(), Fail> {
-    match copied_arms(rt.alloc()) {
-        Ok((5, 5)) => Ok(()),
-        Ok((count, all)) => Err(Fail::new(format_args!("{count} of {all} arms"))),
+    match are_arms_copied(rt.alloc()) {
+        Ok(true) => Ok(()),
+        Ok(false) => Err(Fail::new(format_args!("the copy of an arm differs"))),
         Err(e) => Err(Fail::new(format_args!("{}", e.kind))),
     }
 }
