@@ -115,7 +115,7 @@ inner _ h = absurd cc
 
 pub printed : (cs : List ℕ) (t flat u : Tree) (c : Context) (old new : List Tok) (r : Result (String Global) Error) → StandsFor cs t → IsFlat t flat → u ≡ rewrite_tree simplified flat → c ≡ enclosed → old ≡ []
     → new ≡ old ++ own_tokens (rule.printed c u) → MatchResult r (λ s. string_bytes s ≡ text new) (λ e. e.kind ≡ OutOfMemory) → IfOk r (λ s. IsSimplified cs (string_bytes s))
-printed cs t flat u c old new (Ok s) stands is_flat is here none wrote h =
-    let whole = prints_at in_plain u c new (wrote ∙ ap (λ (l : List Tok). l ++ own_tokens (rule.printed c u)) none) here in
+printed cs t flat u c old new (Ok s) stands is_flat is here gone wrote h =
+    let whole = prints_at in_plain u c new (wrote ∙ ap (λ (l : List Tok). l ++ own_tokens (rule.printed c u)) gone) here in
     (t, flat, new, stands, is_flat, subst (λ (v : Tree). PrintedAs in_plain v new) is whole, h)
-printed cs t flat u c old new (Err e) stands is_flat is here none wrote h = tt
+printed cs t flat u c old new (Err e) stands is_flat is here gone wrote h = tt

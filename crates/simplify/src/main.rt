@@ -101,7 +101,7 @@ fn simplified_text(alloc: Global, text: &str) -> Result<String>
     rewrite(
         &mut held.expr,
         &|expr: &mut Expr| -> Result<()>
-            ensures tree { tree_of expr.new ≡ simplified (tree_of expr.old) }
+            ensures tree { IfOk result (λ _. tree_of expr.new ≡ simplified (tree_of expr.old)) }
             ensures done { IfErr result (λ e. ⊥) }
         {
             simplify(alloc, expr);
