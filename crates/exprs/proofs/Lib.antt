@@ -1,5 +1,0 @@
-mod Counts
-mod Files
-mod KindLaws
-mod Lines
-pub mod Parts
