@@ -11,11 +11,11 @@ mod copies;
 
 use crate::copies::{copied_arm, copied_expr, copied_pat};
 use std::alloc::Global;
-use syn_expr_copy::held::Copied;
 use syn_expr_core::control::Arm;
 use syn_expr_core::expr::Expr;
 use syn_expr_core::held::HeldExpr;
 use syn_expr_core::pat::Pat;
+use syn_expr_parse::known::Held;
 use syn_tokens::error::{ErrorKind, Result};
 
 /// A copy of an expression, with its places. Where memory runs out it is refused as `OutOfMemory`, and all that was copied by
@@ -30,21 +30,21 @@ pub fn copy_expr(alloc: Global, x: &Expr) -> Result<HeldExpr>
 }
 
 /// A copy of a pattern, with its places. It is refused as `copy_expr` is.
-pub fn copy_pat(alloc: Global, x: &Pat) -> Result<Copied<Pat>>
+pub fn copy_pat(alloc: Global, x: &Pat) -> Result<Held<Pat>>
     ensures copied { IfOk result (λ y. pat_of y.value ≡ pat_of x.now) }
     ensures memory { IfErr result (λ e. e.kind ≡ ErrorKind.OutOfMemory) }
 {
-    Ok(Copied {
+    Ok(Held {
         value: copied_pat(x, alloc)?,
     })
 }
 
 /// A copy of an arm of `match`, with its places. It is refused as `copy_expr` is.
-pub fn copy_arm(alloc: Global, x: &Arm) -> Result<Copied<Arm>>
+pub fn copy_arm(alloc: Global, x: &Arm) -> Result<Held<Arm>>
     ensures copied { IfOk result (λ y. arm_of y.value ≡ arm_of x.now) }
     ensures memory { IfErr result (λ e. e.kind ≡ ErrorKind.OutOfMemory) }
 {
-    Ok(Copied {
+    Ok(Held {
         value: copied_arm(x, alloc)?,
     })
 }

@@ -65,7 +65,7 @@ fn is_copied(alloc: Global, text: &str) -> Result<bool, Error> {
     Ok(is_equal && is_shown && is_printed)
 }
 
-/// The texts of which the copy differs, or that are refused.
+/// The texts whose copy differs, and those that are refused.
 fn differing(alloc: Global) -> Result<String, Error> {
     let mut found = String::new(alloc);
     for text in TEXTS.trim().split('\n') {

@@ -4,9 +4,8 @@ ghost use Rattle.std.specs.Option.{ForSome};
 ghost use Rattle.std.specs.Prelude.{◌≡◌, Contains, IfErr, IfOk};
 ghost use Rattle.syn_expr_ast.specs.View.{expr_array_of, expr_group_of, expr_infer_of, expr_lit_of, expr_macro_of, expr_paren_of, expr_path_of, expr_repeat_of, expr_struct_of, expr_tuple_of};
 ghost use Rattle.syn_expr_spec.specs.Tree.{leaf, verbatim};
-ghost use Rattle.syn_lower_copy.specs.Copying.{Copies, Lends, RunsOut};
+ghost use Rattle.syn_lower_copy.specs.Copying.{Copies, Takes, RunsOut};
 
-use crate::held::Copied;
 use crate::leaf::copy_attrs;
 use crate::list::{copy_boxed, copy_punctuated, drop_some};
 use crate::operand::{copy_fields, copy_some};
@@ -18,7 +17,7 @@ use syn_expr_ast::atom::{
     ExprTupleOf,
 };
 use syn_expr_ast::structure::ExprStructOf;
-use syn_expr_parse::known::LetGo;
+use syn_expr_parse::known::{Held, LetGo};
 use syn_lower_copy::types::{copy_types_mac, copy_types_path, copy_types_qself};
 use syn_tokens::error::{ErrorKind, Result};
 use syn_tokens::tree::{TokenStream, copy_trees};
@@ -29,8 +28,8 @@ pub fn copy_expr_array<E: IsExpr + LetGo, F: Fn(&E, Global) -> Result<E>>(
     x: &ExprArrayOf<E>,
     call: &F,
 ) -> Result<E>
-    requires lends_elems_inner { (q : _) → Contains x.now.elems.inner.items q → Lends (F.pre call.now) alloc q.0 }
-    requires lends_elems_last { ForSome x.now.elems.last (λ b. Lends (F.pre call.now) alloc b.value) }
+    requires takes_elems_inner { (q : _) → Contains x.now.elems.inner.items q → Takes (F.pre call.now) alloc q.0 }
+    requires takes_elems_last { ForSome x.now.elems.last (λ b. Takes (F.pre call.now) alloc b.value) }
     requires copies { Copies E.tree (F.post call.now) alloc }
     requires runs_out { RunsOut (F.post call.now) alloc }
     ensures copied { IfOk result (λ y. E.tree y ≡ expr_array_of E.tree x.now) }
@@ -51,7 +50,7 @@ pub fn copy_expr_group<E: IsExpr + LetGo, F: Fn(&E, Global) -> Result<E>>(
     x: &ExprGroupOf<E>,
     call: &F,
 ) -> Result<E>
-    requires lends_expr { Lends (F.pre call.now) alloc x.now.expr.value }
+    requires takes_expr { Takes (F.pre call.now) alloc x.now.expr.value }
     requires copies { Copies E.tree (F.post call.now) alloc }
     requires runs_out { RunsOut (F.post call.now) alloc }
     ensures copied { IfOk result (λ y. E.tree y ≡ expr_group_of E.tree x.now) }
@@ -104,7 +103,7 @@ pub fn copy_expr_paren<E: IsExpr + LetGo, F: Fn(&E, Global) -> Result<E>>(
     x: &ExprParenOf<E>,
     call: &F,
 ) -> Result<E>
-    requires lends_expr { Lends (F.pre call.now) alloc x.now.expr.value }
+    requires takes_expr { Takes (F.pre call.now) alloc x.now.expr.value }
     requires copies { Copies E.tree (F.post call.now) alloc }
     requires runs_out { RunsOut (F.post call.now) alloc }
     ensures copied { IfOk result (λ y. E.tree y ≡ expr_paren_of E.tree x.now) }
@@ -136,15 +135,15 @@ pub fn copy_expr_repeat<E: IsExpr + LetGo, F: Fn(&E, Global) -> Result<E>>(
     x: &ExprRepeatOf<E>,
     call: &F,
 ) -> Result<E>
-    requires lends_expr { Lends (F.pre call.now) alloc x.now.expr.value }
-    requires lends_len { Lends (F.pre call.now) alloc x.now.len.value }
+    requires takes_expr { Takes (F.pre call.now) alloc x.now.expr.value }
+    requires takes_len { Takes (F.pre call.now) alloc x.now.len.value }
     requires copies { Copies E.tree (F.post call.now) alloc }
     requires runs_out { RunsOut (F.post call.now) alloc }
     ensures copied { IfOk result (λ y. E.tree y ≡ expr_repeat_of E.tree x.now) }
     ensures memory { IfErr result (λ e. e.kind ≡ ErrorKind.OutOfMemory) }
 {
     let attrs = copy_attrs(alloc, &x.attrs)?;
-    let expr = Copied {
+    let expr = Held {
         value: copy_boxed(alloc, ByExpr {}, &x.expr, call)?,
     };
     let len = copy_boxed(alloc, ByExpr {}, &x.len, call)?;
@@ -163,8 +162,8 @@ pub fn copy_expr_tuple<E: IsExpr + LetGo, F: Fn(&E, Global) -> Result<E>>(
     x: &ExprTupleOf<E>,
     call: &F,
 ) -> Result<E>
-    requires lends_elems_inner { (q : _) → Contains x.now.elems.inner.items q → Lends (F.pre call.now) alloc q.0 }
-    requires lends_elems_last { ForSome x.now.elems.last (λ b. Lends (F.pre call.now) alloc b.value) }
+    requires takes_elems_inner { (q : _) → Contains x.now.elems.inner.items q → Takes (F.pre call.now) alloc q.0 }
+    requires takes_elems_last { ForSome x.now.elems.last (λ b. Takes (F.pre call.now) alloc b.value) }
     requires copies { Copies E.tree (F.post call.now) alloc }
     requires runs_out { RunsOut (F.post call.now) alloc }
     ensures copied { IfOk result (λ y. E.tree y ≡ expr_tuple_of E.tree x.now) }
@@ -194,9 +193,9 @@ pub fn copy_expr_struct<E: IsExpr + LetGo, F: Fn(&E, Global) -> Result<E>>(
     x: &ExprStructOf<E>,
     call: &F,
 ) -> Result<E>
-    requires lends_fields_inner { (q : _) → Contains x.now.fields.inner.items q → Lends (F.pre call.now) alloc q.0.expr }
-    requires lends_fields_last { ForSome x.now.fields.last (λ b. Lends (F.pre call.now) alloc b.value.expr) }
-    requires lends_rest { ForSome x.now.rest (λ b. Lends (F.pre call.now) alloc b.value) }
+    requires takes_fields_inner { (q : _) → Contains x.now.fields.inner.items q → Takes (F.pre call.now) alloc q.0.expr }
+    requires takes_fields_last { ForSome x.now.fields.last (λ b. Takes (F.pre call.now) alloc b.value.expr) }
+    requires takes_rest { ForSome x.now.rest (λ b. Takes (F.pre call.now) alloc b.value) }
     requires copies { Copies E.tree (F.post call.now) alloc }
     requires runs_out { RunsOut (F.post call.now) alloc }
     ensures copied { IfOk result (λ y. E.tree y ≡ expr_struct_of E.tree x.now) }

@@ -3,9 +3,8 @@
 ghost use Rattle.std.specs.Option.{ForSome};
 ghost use Rattle.std.specs.Prelude.{◌≡◌, IfErr, IfOk};
 ghost use Rattle.syn_expr_ast.specs.View.{expr_async_of, expr_block_of, expr_break_of, expr_const_of, expr_continue_of, expr_if_of, expr_loop_of, expr_return_of, expr_try_block_of, expr_unsafe_of, expr_while_of, expr_yield_of};
-ghost use Rattle.syn_lower_copy.specs.Copying.{Copies, Lends, RunsOut};
+ghost use Rattle.syn_lower_copy.specs.Copying.{Copies, Takes, RunsOut};
 
-use crate::held::Copied;
 use crate::leaf::{copy_attrs, copy_some_label};
 use crate::list::copy_boxed;
 use crate::operand::{copy_else, copy_some};
@@ -16,7 +15,7 @@ use syn_expr_ast::block::{
     ExprAsync, ExprBlock, ExprConst, ExprIfOf, ExprLoop, ExprTryBlock, ExprUnsafe, ExprWhileOf,
 };
 use syn_expr_ast::jump::{ExprBreakOf, ExprContinue, ExprReturnOf, ExprYieldOf};
-use syn_expr_parse::known::LetGo;
+use syn_expr_parse::known::{Held, LetGo};
 use syn_lower_copy::leaf::{copy_block, copy_some_lifetime};
 use syn_tokens::error::{ErrorKind, Result};
 
@@ -72,8 +71,8 @@ pub fn copy_expr_if<E: IsExpr + LetGo, F: Fn(&E, Global) -> Result<E>>(
     x: &ExprIfOf<E>,
     call: &F,
 ) -> Result<E>
-    requires lends_cond { Lends (F.pre call.now) alloc x.now.cond.value }
-    requires lends_else_branch { ForSome x.now.else_branch (λ q. Lends (F.pre call.now) alloc q.1.value) }
+    requires takes_cond { Takes (F.pre call.now) alloc x.now.cond.value }
+    requires takes_else_branch { ForSome x.now.else_branch (λ q. Takes (F.pre call.now) alloc q.1.value) }
     requires copies { Copies E.tree (F.post call.now) alloc }
     requires runs_out { RunsOut (F.post call.now) alloc }
     ensures copied { IfOk result (λ y. E.tree y ≡ expr_if_of E.tree x.now) }
@@ -81,7 +80,7 @@ pub fn copy_expr_if<E: IsExpr + LetGo, F: Fn(&E, Global) -> Result<E>>(
 {
     let attrs = copy_attrs(alloc, &x.attrs)?;
     let then_branch = copy_block(alloc, &x.then_branch)?;
-    let cond = Copied {
+    let cond = Held {
         value: copy_boxed(alloc, ByExpr {}, &x.cond, call)?,
     };
     let else_branch = copy_else(alloc, &x.else_branch, call)?;
@@ -145,7 +144,7 @@ pub fn copy_expr_while<E: IsExpr + LetGo, F: Fn(&E, Global) -> Result<E>>(
     x: &ExprWhileOf<E>,
     call: &F,
 ) -> Result<E>
-    requires lends_cond { Lends (F.pre call.now) alloc x.now.cond.value }
+    requires takes_cond { Takes (F.pre call.now) alloc x.now.cond.value }
     requires copies { Copies E.tree (F.post call.now) alloc }
     requires runs_out { RunsOut (F.post call.now) alloc }
     ensures copied { IfOk result (λ y. E.tree y ≡ expr_while_of E.tree x.now) }
@@ -170,7 +169,7 @@ pub fn copy_expr_break<E: IsExpr + LetGo, F: Fn(&E, Global) -> Result<E>>(
     x: &ExprBreakOf<E>,
     call: &F,
 ) -> Result<E>
-    requires lends_expr { ForSome x.now.expr (λ b. Lends (F.pre call.now) alloc b.value) }
+    requires takes_expr { ForSome x.now.expr (λ b. Takes (F.pre call.now) alloc b.value) }
     requires copies { Copies E.tree (F.post call.now) alloc }
     requires runs_out { RunsOut (F.post call.now) alloc }
     ensures copied { IfOk result (λ y. E.tree y ≡ expr_break_of E.tree x.now) }
@@ -207,7 +206,7 @@ pub fn copy_expr_return<E: IsExpr + LetGo, F: Fn(&E, Global) -> Result<E>>(
     x: &ExprReturnOf<E>,
     call: &F,
 ) -> Result<E>
-    requires lends_expr { ForSome x.now.expr (λ b. Lends (F.pre call.now) alloc b.value) }
+    requires takes_expr { ForSome x.now.expr (λ b. Takes (F.pre call.now) alloc b.value) }
     requires copies { Copies E.tree (F.post call.now) alloc }
     requires runs_out { RunsOut (F.post call.now) alloc }
     ensures copied { IfOk result (λ y. E.tree y ≡ expr_return_of E.tree x.now) }
@@ -228,7 +227,7 @@ pub fn copy_expr_yield<E: IsExpr + LetGo, F: Fn(&E, Global) -> Result<E>>(
     x: &ExprYieldOf<E>,
     call: &F,
 ) -> Result<E>
-    requires lends_expr { ForSome x.now.expr (λ b. Lends (F.pre call.now) alloc b.value) }
+    requires takes_expr { ForSome x.now.expr (λ b. Takes (F.pre call.now) alloc b.value) }
     requires copies { Copies E.tree (F.post call.now) alloc }
     requires runs_out { RunsOut (F.post call.now) alloc }
     ensures copied { IfOk result (λ y. E.tree y ≡ expr_yield_of E.tree x.now) }

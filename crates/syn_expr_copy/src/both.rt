@@ -4,9 +4,8 @@
 ghost use Rattle.std.specs.Option.{ForSome};
 ghost use Rattle.std.specs.Prelude.{◌≡◌, Contains, IfErr, IfOk, map};
 ghost use Rattle.syn_expr_ast.specs.Both.{arm_of, expr_closure_of, expr_for_loop_of, expr_let_of, expr_match_of, guarded_of};
-ghost use Rattle.syn_lower_copy.specs.Copying.{Copies, Lends, RunsOut};
+ghost use Rattle.syn_lower_copy.specs.Copying.{Copies, Takes, RunsOut};
 
-use crate::held::Copied;
 use crate::leaf::{copy_attrs, copy_some_label};
 use crate::list::{copy_all, copy_boxed};
 use crate::pat_part::copy_pats;
@@ -17,7 +16,7 @@ use syn_expr_ast::node::Closure;
 use syn_expr_ast::pattern::{
     ArmOf, ExprClosureOf, ExprForLoopOf, ExprLetOf, ExprMatchOf, PatGuardOf,
 };
-use syn_expr_parse::known::LetGo;
+use syn_expr_parse::known::{Held, LetGo};
 use syn_expr_tokens::modifiers::Label;
 use syn_lower::attr::Attribute;
 use syn_lower::stmt::Block;
@@ -41,9 +40,9 @@ pub fn copy_closure<
 ) -> Result<E>
 where
     E::Pat: LetGo,
-    requires lends_inner { (q : _) → Contains head.now.inputs.now.inner.items q → Lends (G.pre call_pat.now) alloc q.0 }
-    requires lends_last { ForSome head.now.inputs.now.last (λ b. Lends (G.pre call_pat.now) alloc b.value) }
-    requires lends_body { Lends (F.pre call.now) alloc body.now.value }
+    requires takes_inner { (q : _) → Contains head.now.inputs.now.inner.items q → Takes (G.pre call_pat.now) alloc q.0 }
+    requires takes_last { ForSome head.now.inputs.now.last (λ b. Takes (G.pre call_pat.now) alloc b.value) }
+    requires takes_body { Takes (F.pre call.now) alloc body.now.value }
     requires copies { Copies E.tree (F.post call.now) alloc }
     requires runs_out { RunsOut (F.post call.now) alloc }
     requires copies_pat { Copies E.Pat.view (G.post call_pat.now) alloc }
@@ -54,7 +53,7 @@ where
     let attrs = copy_attrs(alloc, attrs)?;
     let lifetimes = copy_some_lifetimes(alloc, head.lifetimes)?;
     let output = copy_types_output(alloc, head.output)?;
-    let body = Copied {
+    let body = Held {
         value: copy_boxed(alloc, ByExpr {}, body, call)?,
     };
     let inputs = copy_pats(alloc, head.inputs, call_pat)?;
@@ -92,8 +91,8 @@ pub fn copy_for_loop<
 ) -> Result<E>
 where
     E::Pat: LetGo,
-    requires lends_pat { Lends (G.pre call_pat.now) alloc pat.now.value }
-    requires lends_expr { Lends (F.pre call.now) alloc expr.now.value }
+    requires takes_pat { Takes (G.pre call_pat.now) alloc pat.now.value }
+    requires takes_expr { Takes (F.pre call.now) alloc expr.now.value }
     requires copies { Copies E.tree (F.post call.now) alloc }
     requires runs_out { RunsOut (F.post call.now) alloc }
     requires copies_pat { Copies E.Pat.view (G.post call_pat.now) alloc }
@@ -104,7 +103,7 @@ where
     let attrs = copy_attrs(alloc, attrs)?;
     let label = copy_some_label(alloc, label)?;
     let body = copy_block(alloc, body)?;
-    let pat = Copied {
+    let pat = Held {
         value: copy_boxed(alloc, ByPat {}, pat, call_pat)?,
     };
     let expr = copy_boxed(alloc, ByExpr {}, expr, call)?;
@@ -136,8 +135,8 @@ pub fn copy_let<
 ) -> Result<E>
 where
     E::Pat: LetGo,
-    requires lends_pat { Lends (G.pre call_pat.now) alloc pat.now.value }
-    requires lends_expr { Lends (F.pre call.now) alloc expr.now.value }
+    requires takes_pat { Takes (G.pre call_pat.now) alloc pat.now.value }
+    requires takes_expr { Takes (F.pre call.now) alloc expr.now.value }
     requires copies { Copies E.tree (F.post call.now) alloc }
     requires runs_out { RunsOut (F.post call.now) alloc }
     requires copies_pat { Copies E.Pat.view (G.post call_pat.now) alloc }
@@ -146,7 +145,7 @@ where
     ensures memory { IfErr result (λ e. e.kind ≡ ErrorKind.OutOfMemory) }
 {
     let attrs = copy_attrs(alloc, attrs)?;
-    let pat = Copied {
+    let pat = Held {
         value: copy_boxed(alloc, ByPat {}, pat, call_pat)?,
     };
     let expr = copy_boxed(alloc, ByExpr {}, expr, call)?;
@@ -176,8 +175,8 @@ pub fn copy_match<
 ) -> Result<E>
 where
     E::Arm: LetGo,
-    requires lends_expr { Lends (F.pre call.now) alloc expr.now.value }
-    requires lends_arms { (x : _) → Contains arms.now.items x → Lends (G.pre call_arm.now) alloc x }
+    requires takes_expr { Takes (F.pre call.now) alloc expr.now.value }
+    requires takes_arms { (x : _) → Contains arms.now.items x → Takes (G.pre call_arm.now) alloc x }
     requires copies { Copies E.tree (F.post call.now) alloc }
     requires runs_out { RunsOut (F.post call.now) alloc }
     requires copies_arm { Copies E.Arm.view (G.post call_arm.now) alloc }
@@ -186,7 +185,7 @@ where
     ensures memory { IfErr result (λ e. e.kind ≡ ErrorKind.OutOfMemory) }
 {
     let attrs = copy_attrs(alloc, attrs)?;
-    let expr = Copied {
+    let expr = Held {
         value: copy_boxed(alloc, ByExpr {}, expr, call)?,
     };
     let arms = copy_all(alloc, ByArm {}, arms, call_arm)?;
@@ -216,8 +215,8 @@ pub fn copy_arm<
 ) -> Result<E::Arm>
 where
     E::Pat: LetGo,
-    requires lends_pat { Lends (G.pre call_pat.now) alloc pat.now }
-    requires lends_body { Lends (F.pre call.now) alloc body.now.value }
+    requires takes_pat { Takes (G.pre call_pat.now) alloc pat.now }
+    requires takes_body { Takes (F.pre call.now) alloc body.now.value }
     requires copies { Copies E.tree (F.post call.now) alloc }
     requires runs_out { RunsOut (F.post call.now) alloc }
     requires copies_pat { Copies E.Pat.view (G.post call_pat.now) alloc }
@@ -226,7 +225,7 @@ where
     ensures memory { IfErr result (λ e. e.kind ≡ ErrorKind.OutOfMemory) }
 {
     let attrs = copy_attrs(alloc, attrs)?;
-    let pat = Copied {
+    let pat = Held {
         value: call_pat(pat, alloc)?,
     };
     let body = copy_boxed(alloc, ByExpr {}, body, call)?;
@@ -255,8 +254,8 @@ pub fn copy_guard<
 ) -> Result<E::Pat>
 where
     E::Pat: LetGo,
-    requires lends_pat { Lends (G.pre call_pat.now) alloc pat.now.value }
-    requires lends_guard { Lends (F.pre call.now) alloc guard.now.value }
+    requires takes_pat { Takes (G.pre call_pat.now) alloc pat.now.value }
+    requires takes_guard { Takes (F.pre call.now) alloc guard.now.value }
     requires copies { Copies E.tree (F.post call.now) alloc }
     requires runs_out { RunsOut (F.post call.now) alloc }
     requires copies_pat { Copies E.Pat.view (G.post call_pat.now) alloc }
@@ -265,7 +264,7 @@ where
     ensures memory { IfErr result (λ e. e.kind ≡ ErrorKind.OutOfMemory) }
 {
     let attrs = copy_attributes(alloc, attrs)?;
-    let pat = Copied {
+    let pat = Held {
         value: copy_boxed(alloc, ByPat {}, pat, call_pat)?,
     };
     let guard = copy_boxed(alloc, ByExpr {}, guard, call)?;

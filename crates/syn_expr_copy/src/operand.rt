@@ -3,7 +3,7 @@
 ghost use Rattle.std.specs.Option.{ForSome};
 ghost use Rattle.std.specs.Prelude.{◌≡◌, Contains, IfErr, IfOk, map};
 ghost use Rattle.syn_expr_ast.specs.View.{boxed, else_of, field_value_of, trails, values};
-ghost use Rattle.syn_lower_copy.specs.Copying.{Copies, Lends, RunsOut};
+ghost use Rattle.syn_lower_copy.specs.Copying.{Copies, Takes, RunsOut};
 
 use crate::leaf::{copy_attrs, copy_member};
 use crate::list::{copy_boxed, copy_punctuated};
@@ -24,7 +24,7 @@ pub fn copy_some<V: Sees<A> + Drops<A> + Copy, A, F: Fn(&A, Global) -> Result<A>
     x: &Option<Box<A>>,
     call: &F,
 ) -> Result<Option<Box<A>>>
-    requires lends { ForSome x.now (λ b. Lends (F.pre call.now) alloc b.value) }
+    requires takes { ForSome x.now (λ b. Takes (F.pre call.now) alloc b.value) }
     requires copies { Copies V.seen (F.post call.now) alloc }
     requires runs_out { RunsOut (F.post call.now) alloc }
     ensures copied { IfOk result (λ y. boxed V.seen y ≡ boxed V.seen x.now) }
@@ -42,7 +42,7 @@ pub fn copy_else<E: HasExprTree + LetGo, F: Fn(&E, Global) -> Result<E>>(
     x: &Option<(Else, Box<E>)>,
     call: &F,
 ) -> Result<Option<(Else, Box<E>)>>
-    requires lends { ForSome x.now (λ q. Lends (F.pre call.now) alloc q.1.value) }
+    requires takes { ForSome x.now (λ q. Takes (F.pre call.now) alloc q.1.value) }
     requires copies { Copies E.tree (F.post call.now) alloc }
     requires runs_out { RunsOut (F.post call.now) alloc }
     ensures copied { IfOk result (λ y. else_of E.tree y ≡ else_of E.tree x.now) }
@@ -63,7 +63,7 @@ fn copy_field_value<E: HasExprTree + LetGo, F: Fn(&E, Global) -> Result<E>>(
     x: &FieldValueOf<E>,
     call: &F,
 ) -> Result<FieldValueOf<E>>
-    requires lends { Lends (F.pre call.now) alloc x.now.expr }
+    requires takes { Takes (F.pre call.now) alloc x.now.expr }
     requires copies { Copies E.tree (F.post call.now) alloc }
     requires runs_out { RunsOut (F.post call.now) alloc }
     ensures copied { IfOk result (λ y. field_value_of E.tree y ≡ field_value_of E.tree x.now) }
@@ -86,8 +86,8 @@ pub fn copy_fields<E: HasExprTree + LetGo, F: Fn(&E, Global) -> Result<E>>(
     x: &Punctuated<FieldValueOf<E>, Comma>,
     call: &F,
 ) -> Result<Punctuated<FieldValueOf<E>, Comma>>
-    requires inner { (q : _) → Contains x.now.inner.items q → Lends (F.pre call.now) alloc q.0.expr }
-    requires last { ForSome x.now.last (λ b. Lends (F.pre call.now) alloc b.value.expr) }
+    requires inner { (q : _) → Contains x.now.inner.items q → Takes (F.pre call.now) alloc q.0.expr }
+    requires last { ForSome x.now.last (λ b. Takes (F.pre call.now) alloc b.value.expr) }
     requires copies { Copies E.tree (F.post call.now) alloc }
     requires runs_out { RunsOut (F.post call.now) alloc }
     ensures values { IfOk result (λ y. map (field_value_of E.tree) (values y) ≡ map (field_value_of E.tree) (values x.now)) }

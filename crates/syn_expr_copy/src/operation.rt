@@ -3,9 +3,8 @@
 ghost use Rattle.std.specs.Option.{ForSome};
 ghost use Rattle.std.specs.Prelude.{◌≡◌, IfErr, IfOk};
 ghost use Rattle.syn_expr_ast.specs.View.{expr_assign_of, expr_binary_of, expr_cast_of, expr_range_of, expr_raw_addr_of, expr_reference_of, expr_unary_of};
-ghost use Rattle.syn_lower_copy.specs.Copying.{Copies, Lends, RunsOut};
+ghost use Rattle.syn_lower_copy.specs.Copying.{Copies, Takes, RunsOut};
 
-use crate::held::Copied;
 use crate::leaf::copy_attrs;
 use crate::list::{copy_boxed, drop_some};
 use crate::operand::copy_some;
@@ -16,7 +15,7 @@ use syn_expr_ast::operation::{
     ExprAssignOf, ExprBinaryOf, ExprCastOf, ExprRangeOf, ExprRawAddrOf, ExprReferenceOf,
     ExprUnaryOf,
 };
-use syn_expr_parse::known::LetGo;
+use syn_expr_parse::known::{Held, LetGo};
 use syn_lower_copy::types::copy_boxed_type;
 use syn_tokens::error::{ErrorKind, Result};
 
@@ -26,15 +25,15 @@ pub fn copy_expr_assign<E: IsExpr + LetGo, F: Fn(&E, Global) -> Result<E>>(
     x: &ExprAssignOf<E>,
     call: &F,
 ) -> Result<E>
-    requires lends_left { Lends (F.pre call.now) alloc x.now.left.value }
-    requires lends_right { Lends (F.pre call.now) alloc x.now.right.value }
+    requires takes_left { Takes (F.pre call.now) alloc x.now.left.value }
+    requires takes_right { Takes (F.pre call.now) alloc x.now.right.value }
     requires copies { Copies E.tree (F.post call.now) alloc }
     requires runs_out { RunsOut (F.post call.now) alloc }
     ensures copied { IfOk result (λ y. E.tree y ≡ expr_assign_of E.tree x.now) }
     ensures memory { IfErr result (λ e. e.kind ≡ ErrorKind.OutOfMemory) }
 {
     let attrs = copy_attrs(alloc, &x.attrs)?;
-    let left = Copied {
+    let left = Held {
         value: copy_boxed(alloc, ByExpr {}, &x.left, call)?,
     };
     let right = copy_boxed(alloc, ByExpr {}, &x.right, call)?;
@@ -52,15 +51,15 @@ pub fn copy_expr_binary<E: IsExpr + LetGo, F: Fn(&E, Global) -> Result<E>>(
     x: &ExprBinaryOf<E>,
     call: &F,
 ) -> Result<E>
-    requires lends_left { Lends (F.pre call.now) alloc x.now.left.value }
-    requires lends_right { Lends (F.pre call.now) alloc x.now.right.value }
+    requires takes_left { Takes (F.pre call.now) alloc x.now.left.value }
+    requires takes_right { Takes (F.pre call.now) alloc x.now.right.value }
     requires copies { Copies E.tree (F.post call.now) alloc }
     requires runs_out { RunsOut (F.post call.now) alloc }
     ensures copied { IfOk result (λ y. E.tree y ≡ expr_binary_of E.tree x.now) }
     ensures memory { IfErr result (λ e. e.kind ≡ ErrorKind.OutOfMemory) }
 {
     let attrs = copy_attrs(alloc, &x.attrs)?;
-    let left = Copied {
+    let left = Held {
         value: copy_boxed(alloc, ByExpr {}, &x.left, call)?,
     };
     let right = copy_boxed(alloc, ByExpr {}, &x.right, call)?;
@@ -78,7 +77,7 @@ pub fn copy_expr_cast<E: IsExpr + LetGo, F: Fn(&E, Global) -> Result<E>>(
     x: &ExprCastOf<E>,
     call: &F,
 ) -> Result<E>
-    requires lends_expr { Lends (F.pre call.now) alloc x.now.expr.value }
+    requires takes_expr { Takes (F.pre call.now) alloc x.now.expr.value }
     requires copies { Copies E.tree (F.post call.now) alloc }
     requires runs_out { RunsOut (F.post call.now) alloc }
     ensures copied { IfOk result (λ y. E.tree y ≡ expr_cast_of E.tree x.now) }
@@ -101,8 +100,8 @@ pub fn copy_expr_range<E: IsExpr + LetGo, F: Fn(&E, Global) -> Result<E>>(
     x: &ExprRangeOf<E>,
     call: &F,
 ) -> Result<E>
-    requires lends_start { ForSome x.now.start (λ b. Lends (F.pre call.now) alloc b.value) }
-    requires lends_end { ForSome x.now.end (λ b. Lends (F.pre call.now) alloc b.value) }
+    requires takes_start { ForSome x.now.start (λ b. Takes (F.pre call.now) alloc b.value) }
+    requires takes_end { ForSome x.now.end (λ b. Takes (F.pre call.now) alloc b.value) }
     requires copies { Copies E.tree (F.post call.now) alloc }
     requires runs_out { RunsOut (F.post call.now) alloc }
     ensures copied { IfOk result (λ y. E.tree y ≡ expr_range_of E.tree x.now) }
@@ -130,7 +129,7 @@ pub fn copy_expr_raw_addr<E: IsExpr + LetGo, F: Fn(&E, Global) -> Result<E>>(
     x: &ExprRawAddrOf<E>,
     call: &F,
 ) -> Result<E>
-    requires lends_expr { Lends (F.pre call.now) alloc x.now.expr.value }
+    requires takes_expr { Takes (F.pre call.now) alloc x.now.expr.value }
     requires copies { Copies E.tree (F.post call.now) alloc }
     requires runs_out { RunsOut (F.post call.now) alloc }
     ensures copied { IfOk result (λ y. E.tree y ≡ expr_raw_addr_of E.tree x.now) }
@@ -153,7 +152,7 @@ pub fn copy_expr_reference<E: IsExpr + LetGo, F: Fn(&E, Global) -> Result<E>>(
     x: &ExprReferenceOf<E>,
     call: &F,
 ) -> Result<E>
-    requires lends_expr { Lends (F.pre call.now) alloc x.now.expr.value }
+    requires takes_expr { Takes (F.pre call.now) alloc x.now.expr.value }
     requires copies { Copies E.tree (F.post call.now) alloc }
     requires runs_out { RunsOut (F.post call.now) alloc }
     ensures copied { IfOk result (λ y. E.tree y ≡ expr_reference_of E.tree x.now) }
@@ -175,7 +174,7 @@ pub fn copy_expr_unary<E: IsExpr + LetGo, F: Fn(&E, Global) -> Result<E>>(
     x: &ExprUnaryOf<E>,
     call: &F,
 ) -> Result<E>
-    requires lends_expr { Lends (F.pre call.now) alloc x.now.expr.value }
+    requires takes_expr { Takes (F.pre call.now) alloc x.now.expr.value }
     requires copies { Copies E.tree (F.post call.now) alloc }
     requires runs_out { RunsOut (F.post call.now) alloc }
     ensures copied { IfOk result (λ y. E.tree y ≡ expr_unary_of E.tree x.now) }

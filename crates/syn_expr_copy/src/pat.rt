@@ -2,7 +2,7 @@
 
 ghost use Rattle.std.specs.Option.{ForSome};
 ghost use Rattle.std.specs.Prelude.{◌≡◌, Contains, IfErr, IfOk, Some};
-ghost use Rattle.syn_lower_copy.specs.Copying.{Copies, Lends, RunsOut};
+ghost use Rattle.syn_lower_copy.specs.Copying.{Copies, Takes, RunsOut};
 ghost use Rattle.syn_pat.specs.View.{pat_const_of, pat_ident_of, pat_lit_of, pat_macro_of, pat_or_of, pat_paren_of, pat_path_of, pat_range_of, pat_reference_of, pat_rest_of, pat_slice_of, pat_struct_of, pat_tuple_of, pat_tuple_struct_of, pat_type_of, pat_wild_of};
 ghost use Rattle.syn_pat.specs.declared.pat.FieldPatKindOf.TheVariants as field;
 ghost use Rattle.syn_pat.specs.declared.pat.FullFieldPatOf.{FullFieldPatOf};
@@ -42,7 +42,7 @@ pub fn copy_pat_ident<P: IsPat + LetGo, F: Fn(&P, Global) -> Result<P>>(
     x: &PatIdentOf<P>,
     call: &F,
 ) -> Result<P>
-    requires lends_subpat { ForSome x.now.subpat (λ q. Lends (F.pre call.now) alloc q.1.value) }
+    requires takes_subpat { ForSome x.now.subpat (λ q. Takes (F.pre call.now) alloc q.1.value) }
     requires copies { Copies P.view (F.post call.now) alloc }
     requires runs_out { RunsOut (F.post call.now) alloc }
     ensures copied { IfOk result (λ y. P.view y ≡ pat_ident_of P.view x.now) }
@@ -86,8 +86,8 @@ pub fn copy_pat_or<P: IsPat + LetGo, F: Fn(&P, Global) -> Result<P>>(
     x: &PatOrOf<P>,
     call: &F,
 ) -> Result<P>
-    requires lends_cases_inner { (q : _) → Contains x.now.cases.inner.items q → Lends (F.pre call.now) alloc q.0 }
-    requires lends_cases_last { ForSome x.now.cases.last (λ b. Lends (F.pre call.now) alloc b.value) }
+    requires takes_cases_inner { (q : _) → Contains x.now.cases.inner.items q → Takes (F.pre call.now) alloc q.0 }
+    requires takes_cases_last { ForSome x.now.cases.last (λ b. Takes (F.pre call.now) alloc b.value) }
     requires copies { Copies P.view (F.post call.now) alloc }
     requires runs_out { RunsOut (F.post call.now) alloc }
     ensures copied { IfOk result (λ y. P.view y ≡ pat_or_of P.view x.now) }
@@ -108,7 +108,7 @@ pub fn copy_pat_paren<P: IsPat + LetGo, F: Fn(&P, Global) -> Result<P>>(
     x: &PatParenOf<P>,
     call: &F,
 ) -> Result<P>
-    requires lends_pat { Lends (F.pre call.now) alloc x.now.pat.value }
+    requires takes_pat { Takes (F.pre call.now) alloc x.now.pat.value }
     requires copies { Copies P.view (F.post call.now) alloc }
     requires runs_out { RunsOut (F.post call.now) alloc }
     ensures copied { IfOk result (λ y. P.view y ≡ pat_paren_of P.view x.now) }
@@ -156,7 +156,7 @@ pub fn copy_pat_reference<P: IsPat + LetGo, F: Fn(&P, Global) -> Result<P>>(
     x: &PatReferenceOf<P>,
     call: &F,
 ) -> Result<P>
-    requires lends_pat { Lends (F.pre call.now) alloc x.now.pat.value }
+    requires takes_pat { Takes (F.pre call.now) alloc x.now.pat.value }
     requires copies { Copies P.view (F.post call.now) alloc }
     requires runs_out { RunsOut (F.post call.now) alloc }
     ensures copied { IfOk result (λ y. P.view y ≡ pat_reference_of P.view x.now) }
@@ -190,8 +190,8 @@ pub fn copy_pat_slice<P: IsPat + LetGo, F: Fn(&P, Global) -> Result<P>>(
     x: &PatSliceOf<P>,
     call: &F,
 ) -> Result<P>
-    requires lends_elems_inner { (q : _) → Contains x.now.elems.inner.items q → Lends (F.pre call.now) alloc q.0 }
-    requires lends_elems_last { ForSome x.now.elems.last (λ b. Lends (F.pre call.now) alloc b.value) }
+    requires takes_elems_inner { (q : _) → Contains x.now.elems.inner.items q → Takes (F.pre call.now) alloc q.0 }
+    requires takes_elems_last { ForSome x.now.elems.last (λ b. Takes (F.pre call.now) alloc b.value) }
     requires copies { Copies P.view (F.post call.now) alloc }
     requires runs_out { RunsOut (F.post call.now) alloc }
     ensures copied { IfOk result (λ y. P.view y ≡ pat_slice_of P.view x.now) }
@@ -212,8 +212,8 @@ pub fn copy_pat_struct<P: IsPat + LetGo, F: Fn(&P, Global) -> Result<P>>(
     x: &PatStructOf<P>,
     call: &F,
 ) -> Result<P>
-    requires lends_fields_inner { (q : _) (p : FullFieldPatOf P) → Contains x.now.fields.inner.items q → q.0.kind ≡ field.Full p → Lends (F.pre call.now) alloc p.pat.value }
-    requires lends_fields_last { (b : _) (p : FullFieldPatOf P) → x.now.fields.last ≡ Some b → b.value.kind ≡ field.Full p → Lends (F.pre call.now) alloc p.pat.value }
+    requires takes_fields_inner { (q : _) (p : FullFieldPatOf P) → Contains x.now.fields.inner.items q → q.0.kind ≡ field.Full p → Takes (F.pre call.now) alloc p.pat.value }
+    requires takes_fields_last { (b : _) (p : FullFieldPatOf P) → x.now.fields.last ≡ Some b → b.value.kind ≡ field.Full p → Takes (F.pre call.now) alloc p.pat.value }
     requires copies { Copies P.view (F.post call.now) alloc }
     requires runs_out { RunsOut (F.post call.now) alloc }
     ensures copied { IfOk result (λ y. P.view y ≡ pat_struct_of P.view x.now) }
@@ -237,8 +237,8 @@ pub fn copy_pat_tuple<P: IsPat + LetGo, F: Fn(&P, Global) -> Result<P>>(
     x: &PatTupleOf<P>,
     call: &F,
 ) -> Result<P>
-    requires lends_elems_inner { (q : _) → Contains x.now.elems.inner.items q → Lends (F.pre call.now) alloc q.0 }
-    requires lends_elems_last { ForSome x.now.elems.last (λ b. Lends (F.pre call.now) alloc b.value) }
+    requires takes_elems_inner { (q : _) → Contains x.now.elems.inner.items q → Takes (F.pre call.now) alloc q.0 }
+    requires takes_elems_last { ForSome x.now.elems.last (λ b. Takes (F.pre call.now) alloc b.value) }
     requires copies { Copies P.view (F.post call.now) alloc }
     requires runs_out { RunsOut (F.post call.now) alloc }
     ensures copied { IfOk result (λ y. P.view y ≡ pat_tuple_of P.view x.now) }
@@ -259,8 +259,8 @@ pub fn copy_pat_tuple_struct<P: IsPat + LetGo, F: Fn(&P, Global) -> Result<P>>(
     x: &PatTupleStructOf<P>,
     call: &F,
 ) -> Result<P>
-    requires lends_elems_inner { (q : _) → Contains x.now.elems.inner.items q → Lends (F.pre call.now) alloc q.0 }
-    requires lends_elems_last { ForSome x.now.elems.last (λ b. Lends (F.pre call.now) alloc b.value) }
+    requires takes_elems_inner { (q : _) → Contains x.now.elems.inner.items q → Takes (F.pre call.now) alloc q.0 }
+    requires takes_elems_last { ForSome x.now.elems.last (λ b. Takes (F.pre call.now) alloc b.value) }
     requires copies { Copies P.view (F.post call.now) alloc }
     requires runs_out { RunsOut (F.post call.now) alloc }
     ensures copied { IfOk result (λ y. P.view y ≡ pat_tuple_struct_of P.view x.now) }
@@ -283,7 +283,7 @@ pub fn copy_pat_type<P: IsPat + LetGo, F: Fn(&P, Global) -> Result<P>>(
     x: &PatTypeOf<P>,
     call: &F,
 ) -> Result<P>
-    requires lends_pat { Lends (F.pre call.now) alloc x.now.pat.value }
+    requires takes_pat { Takes (F.pre call.now) alloc x.now.pat.value }
     requires copies { Copies P.view (F.post call.now) alloc }
     requires runs_out { RunsOut (F.post call.now) alloc }
     ensures copied { IfOk result (λ y. P.view y ≡ pat_type_of P.view x.now) }

@@ -3,7 +3,7 @@
 ghost use Rattle.std.specs.Option.{ForSome};
 ghost use Rattle.std.specs.Prelude.{◌≡◌, Contains, IfErr, IfOk, flat_map, map};
 ghost use Rattle.syn_expr_copy.specs.Within.{InField, InFieldKind};
-ghost use Rattle.syn_lower_copy.specs.Copying.{Copies, Lends, RunsOut};
+ghost use Rattle.syn_lower_copy.specs.Copying.{Copies, Takes, RunsOut};
 ghost use Rattle.syn_pat.specs.View.{bound_of, field_guards, field_of, field_pat_of, guards_in, mapped, pats_in, sub_guards, sub_of, trails, values};
 
 use crate::leaf::copy_member;
@@ -52,7 +52,7 @@ pub fn copy_sub<P: HasPatTree + LetGo, F: Fn(&P, Global) -> Result<P>>(
     x: &Option<(At, Box<P>)>,
     call: &F,
 ) -> Result<Option<(At, Box<P>)>>
-    requires lends { ForSome x.now (λ q. Lends (F.pre call.now) alloc q.1.value) }
+    requires takes { ForSome x.now (λ q. Takes (F.pre call.now) alloc q.1.value) }
     requires copies { Copies P.view (F.post call.now) alloc }
     requires runs_out { RunsOut (F.post call.now) alloc }
     ensures copied { IfOk result (λ y. sub_of P.view y ≡ sub_of P.view x.now) }
@@ -74,8 +74,8 @@ pub fn copy_pats<P: HasPatTree + LetGo, S: Copy + Drop, F: Fn(&P, Global) -> Res
     x: &Punctuated<P, S>,
     call: &F,
 ) -> Result<Punctuated<P, S>>
-    requires inner { (q : _) → Contains x.now.inner.items q → Lends (F.pre call.now) alloc q.0 }
-    requires last { ForSome x.now.last (λ b. Lends (F.pre call.now) alloc b.value) }
+    requires inner { (q : _) → Contains x.now.inner.items q → Takes (F.pre call.now) alloc q.0 }
+    requires last { ForSome x.now.last (λ b. Takes (F.pre call.now) alloc b.value) }
     requires copies { Copies P.view (F.post call.now) alloc }
     requires runs_out { RunsOut (F.post call.now) alloc }
     ensures all { IfOk result (λ y. map P.view (values y) ≡ map P.view (values x.now)) }
@@ -94,7 +94,7 @@ fn copy_field_kind<P: HasPatTree + LetGo, F: Fn(&P, Global) -> Result<P>>(
     x: &FieldPatKindOf<P>,
     call: &F,
 ) -> Result<FieldPatKindOf<P>>
-    requires lends { InFieldKind (Lends (F.pre call.now) alloc) x.now }
+    requires takes { InFieldKind (Takes (F.pre call.now) alloc) x.now }
     requires copies { Copies P.view (F.post call.now) alloc }
     requires runs_out { RunsOut (F.post call.now) alloc }
     ensures copied { IfOk result (λ y. field_of P.view y ≡ field_of P.view x.now) }
@@ -128,7 +128,7 @@ fn copy_field<P: HasPatTree + LetGo, F: Fn(&P, Global) -> Result<P>>(
     x: &FieldPatOf<P>,
     call: &F,
 ) -> Result<FieldPatOf<P>>
-    requires lends { InField (Lends (F.pre call.now) alloc) x.now }
+    requires takes { InField (Takes (F.pre call.now) alloc) x.now }
     requires copies { Copies P.view (F.post call.now) alloc }
     requires runs_out { RunsOut (F.post call.now) alloc }
     ensures copied { IfOk result (λ y. field_pat_of P.view y ≡ field_pat_of P.view x.now) }
@@ -146,8 +146,8 @@ pub fn copy_fields<P: HasPatTree + LetGo, F: Fn(&P, Global) -> Result<P>>(
     x: &Punctuated<FieldPatOf<P>, Comma>,
     call: &F,
 ) -> Result<Punctuated<FieldPatOf<P>, Comma>>
-    requires inner { (q : _) → Contains x.now.inner.items q → InField (Lends (F.pre call.now) alloc) q.0 }
-    requires last { ForSome x.now.last (λ b. InField (Lends (F.pre call.now) alloc) b.value) }
+    requires inner { (q : _) → Contains x.now.inner.items q → InField (Takes (F.pre call.now) alloc) q.0 }
+    requires last { ForSome x.now.last (λ b. InField (Takes (F.pre call.now) alloc) b.value) }
     requires copies { Copies P.view (F.post call.now) alloc }
     requires runs_out { RunsOut (F.post call.now) alloc }
     ensures trees { IfOk result (λ y. map (field_pat_of P.view) (values y) ≡ map (field_pat_of P.view) (values x.now)) }

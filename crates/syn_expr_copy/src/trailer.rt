@@ -3,9 +3,8 @@
 ghost use Rattle.std.specs.Option.{ForSome};
 ghost use Rattle.std.specs.Prelude.{◌≡◌, Contains, IfErr, IfOk};
 ghost use Rattle.syn_expr_ast.specs.View.{expr_await_of, expr_call_of, expr_field_of, expr_index_of, expr_method_call_of, expr_try_of};
-ghost use Rattle.syn_lower_copy.specs.Copying.{Copies, Lends, RunsOut};
+ghost use Rattle.syn_lower_copy.specs.Copying.{Copies, Takes, RunsOut};
 
-use crate::held::Copied;
 use crate::leaf::{copy_attrs, copy_member, copy_turbofish};
 use crate::list::{copy_boxed, copy_punctuated};
 use crate::seen::ByExpr;
@@ -14,7 +13,7 @@ use syn_expr_ast::alone::IsExpr;
 use syn_expr_ast::trailer::{
     ExprAwaitOf, ExprCallOf, ExprFieldOf, ExprIndexOf, ExprMethodCallOf, ExprTryOf,
 };
-use syn_expr_parse::known::LetGo;
+use syn_expr_parse::known::{Held, LetGo};
 use syn_tokens::error::{ErrorKind, Result};
 use syn_tokens::tree::copy_ident;
 
@@ -24,7 +23,7 @@ pub fn copy_expr_await<E: IsExpr + LetGo, F: Fn(&E, Global) -> Result<E>>(
     x: &ExprAwaitOf<E>,
     call: &F,
 ) -> Result<E>
-    requires lends_base { Lends (F.pre call.now) alloc x.now.base.value }
+    requires takes_base { Takes (F.pre call.now) alloc x.now.base.value }
     requires copies { Copies E.tree (F.post call.now) alloc }
     requires runs_out { RunsOut (F.post call.now) alloc }
     ensures copied { IfOk result (λ y. E.tree y ≡ expr_await_of E.tree x.now) }
@@ -46,16 +45,16 @@ pub fn copy_expr_call<E: IsExpr + LetGo, F: Fn(&E, Global) -> Result<E>>(
     x: &ExprCallOf<E>,
     call: &F,
 ) -> Result<E>
-    requires lends_func { Lends (F.pre call.now) alloc x.now.func.value }
-    requires lends_args_inner { (q : _) → Contains x.now.args.inner.items q → Lends (F.pre call.now) alloc q.0 }
-    requires lends_args_last { ForSome x.now.args.last (λ b. Lends (F.pre call.now) alloc b.value) }
+    requires takes_func { Takes (F.pre call.now) alloc x.now.func.value }
+    requires takes_args_inner { (q : _) → Contains x.now.args.inner.items q → Takes (F.pre call.now) alloc q.0 }
+    requires takes_args_last { ForSome x.now.args.last (λ b. Takes (F.pre call.now) alloc b.value) }
     requires copies { Copies E.tree (F.post call.now) alloc }
     requires runs_out { RunsOut (F.post call.now) alloc }
     ensures copied { IfOk result (λ y. E.tree y ≡ expr_call_of E.tree x.now) }
     ensures memory { IfErr result (λ e. e.kind ≡ ErrorKind.OutOfMemory) }
 {
     let attrs = copy_attrs(alloc, &x.attrs)?;
-    let func = Copied {
+    let func = Held {
         value: copy_boxed(alloc, ByExpr {}, &x.func, call)?,
     };
     let args = copy_punctuated(alloc, ByExpr {}, &x.args, call)?;
@@ -73,7 +72,7 @@ pub fn copy_expr_field<E: IsExpr + LetGo, F: Fn(&E, Global) -> Result<E>>(
     x: &ExprFieldOf<E>,
     call: &F,
 ) -> Result<E>
-    requires lends_base { Lends (F.pre call.now) alloc x.now.base.value }
+    requires takes_base { Takes (F.pre call.now) alloc x.now.base.value }
     requires copies { Copies E.tree (F.post call.now) alloc }
     requires runs_out { RunsOut (F.post call.now) alloc }
     ensures copied { IfOk result (λ y. E.tree y ≡ expr_field_of E.tree x.now) }
@@ -96,15 +95,15 @@ pub fn copy_expr_index<E: IsExpr + LetGo, F: Fn(&E, Global) -> Result<E>>(
     x: &ExprIndexOf<E>,
     call: &F,
 ) -> Result<E>
-    requires lends_expr { Lends (F.pre call.now) alloc x.now.expr.value }
-    requires lends_index { Lends (F.pre call.now) alloc x.now.index.value }
+    requires takes_expr { Takes (F.pre call.now) alloc x.now.expr.value }
+    requires takes_index { Takes (F.pre call.now) alloc x.now.index.value }
     requires copies { Copies E.tree (F.post call.now) alloc }
     requires runs_out { RunsOut (F.post call.now) alloc }
     ensures copied { IfOk result (λ y. E.tree y ≡ expr_index_of E.tree x.now) }
     ensures memory { IfErr result (λ e. e.kind ≡ ErrorKind.OutOfMemory) }
 {
     let attrs = copy_attrs(alloc, &x.attrs)?;
-    let expr = Copied {
+    let expr = Held {
         value: copy_boxed(alloc, ByExpr {}, &x.expr, call)?,
     };
     let index = copy_boxed(alloc, ByExpr {}, &x.index, call)?;
@@ -122,9 +121,9 @@ pub fn copy_expr_method_call<E: IsExpr + LetGo, F: Fn(&E, Global) -> Result<E>>(
     x: &ExprMethodCallOf<E>,
     call: &F,
 ) -> Result<E>
-    requires lends_receiver { Lends (F.pre call.now) alloc x.now.receiver.value }
-    requires lends_args_inner { (q : _) → Contains x.now.args.inner.items q → Lends (F.pre call.now) alloc q.0 }
-    requires lends_args_last { ForSome x.now.args.last (λ b. Lends (F.pre call.now) alloc b.value) }
+    requires takes_receiver { Takes (F.pre call.now) alloc x.now.receiver.value }
+    requires takes_args_inner { (q : _) → Contains x.now.args.inner.items q → Takes (F.pre call.now) alloc q.0 }
+    requires takes_args_last { ForSome x.now.args.last (λ b. Takes (F.pre call.now) alloc b.value) }
     requires copies { Copies E.tree (F.post call.now) alloc }
     requires runs_out { RunsOut (F.post call.now) alloc }
     ensures copied { IfOk result (λ y. E.tree y ≡ expr_method_call_of E.tree x.now) }
@@ -133,7 +132,7 @@ pub fn copy_expr_method_call<E: IsExpr + LetGo, F: Fn(&E, Global) -> Result<E>>(
     let attrs = copy_attrs(alloc, &x.attrs)?;
     let method = copy_ident(alloc, &x.method)?;
     let turbofish = copy_turbofish(alloc, &x.turbofish)?;
-    let receiver = Copied {
+    let receiver = Held {
         value: copy_boxed(alloc, ByExpr {}, &x.receiver, call)?,
     };
     let args = copy_punctuated(alloc, ByExpr {}, &x.args, call)?;
@@ -154,7 +153,7 @@ pub fn copy_expr_try<E: IsExpr + LetGo, F: Fn(&E, Global) -> Result<E>>(
     x: &ExprTryOf<E>,
     call: &F,
 ) -> Result<E>
-    requires lends_expr { Lends (F.pre call.now) alloc x.now.expr.value }
+    requires takes_expr { Takes (F.pre call.now) alloc x.now.expr.value }
     requires copies { Copies E.tree (F.post call.now) alloc }
     requires runs_out { RunsOut (F.post call.now) alloc }
     ensures copied { IfOk result (λ y. E.tree y ≡ expr_try_of E.tree x.now) }

@@ -27,7 +27,7 @@ use syn_expr_ast::block::ExprIfOf;
 use syn_expr_ast::jump::{ExprBreakOf, ExprReturnOf, ExprYieldOf};
 use syn_expr_ast::structure::{ExprStructOf, FieldValueOf};
 use syn_expr_ast::trailer::{ExprCallOf, ExprMethodCallOf};
-use syn_expr_parse::known::LetGo;
+use syn_expr_parse::known::{HoldsExpr, LetGo};
 use syn_lower::path::Path;
 use syn_lower::punctuated::Punctuated;
 use syn_tokens::buffer::{Parse, ParseBuffer, ToTokens};
@@ -57,6 +57,20 @@ impl HeldExpr {
     {
         let HeldExpr { expr } = self;
         expr
+    }
+}
+
+impl HoldsExpr for HeldExpr {
+    type Expr = Expr;
+
+    ghost held = { λ x. x.expr };
+
+    fn hold(expr: Expr) -> HeldExpr {
+        HeldExpr { expr }
+    }
+
+    fn into_expr(self) -> Expr {
+        self.into_inner()
     }
 }
 

@@ -19,6 +19,7 @@ ghost use Rattle.syn_tokens.specs.Tok.{weight};
 ghost use Rattle.syn_expr_spec.specs.Read as read;
 
 use crate::kinds::ReadExprs;
+use syn_expr_ast::alone::IsExpr;
 use syn_expr_ast::atom::is_word_alone;
 use syn_expr_ast::label::{LeafKind, NodeKind, TrailerKind};
 use syn_expr_ast::node::{HasKind, HasNode};
@@ -326,6 +327,23 @@ impl<E: LetGo + Drop> LetGo for FieldValueOf<E> {
     }
 }
 
+/// A value that holds an expression and drops it, as `HeldExpr` does.
+pub trait HoldsExpr {
+    /// The type of expressions.
+    type Expr: IsExpr + LetGo;
+
+    /// The expression that a value holds.
+    ghost held: { Self → Self.Expr };
+
+    /// Holds an expression.
+    fn hold(expr: Self::Expr) -> Self
+        ensures { Self.held result ≡ expr };
+
+    /// The expression, which is the caller's to drop.
+    fn into_expr(self) -> Self::Expr
+        ensures { result ≡ Self.held self };
+}
+
 /// A refusal, where what was read is given up for it.
 pub fn given_up<T: LetGo>(value: T, refusal: Error) -> Error
     ensures { result ≡ refusal }
@@ -334,13 +352,16 @@ pub fn given_up<T: LetGo>(value: T, refusal: Error) -> Error
     refusal
 }
 
-/// What was read.
+/// A part of an expression that is dropped with this value, unless it is taken out before.
+///
+/// It asks of the part that a call drops it, and not that it is `Drop`: a crate that holds an `Expr` here proves no drop of it
+/// again.
 pub struct Held<T: LetGo> {
-    /// What was read.
+    /// The part.
     pub value: T,
 }
 
-impl<T: LetGo + Drop> Drop for Held<T> {
+impl<T: LetGo> Drop for Held<T> {
     fn drop(self) {
         let Held { value } = self;
         value.let_go();
@@ -348,7 +369,7 @@ impl<T: LetGo + Drop> Drop for Held<T> {
 }
 
 impl<T: LetGo> Held<T> {
-    /// What was read, which is the caller's to drop.
+    /// The part, which is the caller's to drop.
     pub fn into_inner(self) -> T
         ensures { result ≡ self.value }
     {

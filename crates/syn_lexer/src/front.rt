@@ -296,7 +296,7 @@ pub fn is_reserved_word(word: &str) -> bool
 fn is_word_start(c: char) -> bool
     ensures { result ≡ words_spec.is_word_start c }
 {
-    // ASCII is told without the tables of Unicode.
+    // ASCII needs no tables of Unicode.
     c.is_ascii_alphabetic() || c == '_' || !c.is_ascii() && unicode_ident::is_xid_start(c)
 }
 
@@ -305,7 +305,7 @@ fn is_word_start(c: char) -> bool
 fn goes_on(c: char) -> bool
     ensures { result ≡ is_xid_continue c }
 {
-    // ASCII is told without the tables of Unicode.
+    // ASCII needs no tables of Unicode.
     c.is_ascii_alphanumeric() || c == '_' || !c.is_ascii() && unicode_ident::is_xid_continue(c)
 }
 
@@ -397,7 +397,7 @@ pub fn raw_word(text: &[char]) -> Result<Lexeme, Refusal>
 pub fn is_white_space(c: char) -> bool
     ensures { result ≡ blanks_spec.is_white_space c }
 {
-    // Most characters are told by this one range.
+    // This one range answers for most characters.
     !c.is_ascii_graphic()
         && matches!(
             c,

@@ -1,7 +1,7 @@
 //! Copies of what stands between `<` and `>` and in parentheses after a name.
 
 ghost use Rattle.std.specs.Prelude.{◌≡◌, IfOk, IfErr};
-ghost use Rattle.syn_lower_copy.specs.Copying.{Copies, Lends, RunsOut};
+ghost use Rattle.syn_lower_copy.specs.Copying.{Copies, Takes, RunsOut};
 ghost use Rattle.syn_lower_copy.specs.Within.{InAngle, InArguments, InGeneric, InOutput, InRound};
 ghost use Rattle.syn_lower_types.specs.View.{angle_of, arguments_of, generic_of, name_and_type, return_of, round_of};
 
@@ -24,7 +24,7 @@ pub fn copy_output<T: HasTree + Drop, F: Fn(&T, Global) -> Result<T>>(
     x: &ReturnTypeOf<T>,
     call: &F,
 ) -> Result<ReturnTypeOf<T>>
-    requires lends { InOutput (Lends (F.pre call.now) alloc) x.now }
+    requires takes { InOutput (Takes (F.pre call.now) alloc) x.now }
     requires copies { Copies T.tree (F.post call.now) alloc }
     requires runs_out { RunsOut (F.post call.now) alloc }
     ensures copied { IfOk result (λ y. return_of T.tree y ≡ return_of T.tree x.now) }
@@ -45,7 +45,7 @@ fn copy_assoc<T: HasTree + Drop, F: Fn(&T, Global) -> Result<T>>(
     x: &AssocTypeOf<T>,
     call: &F,
 ) -> Result<AssocTypeOf<T>>
-    requires lends { Lends (F.pre call.now) alloc x.now.ty }
+    requires takes { Takes (F.pre call.now) alloc x.now.ty }
     requires copies { Copies T.tree (F.post call.now) alloc }
     requires runs_out { RunsOut (F.post call.now) alloc }
     ensures copied { IfOk result (λ y. name_and_type T.tree y ≡ name_and_type T.tree x.now) }
@@ -66,7 +66,7 @@ fn copy_generic<T: HasTree + Drop, F: Fn(&T, Global) -> Result<T>>(
     x: &GenericArgumentOf<T>,
     call: &F,
 ) -> Result<GenericArgumentOf<T>>
-    requires lends { InGeneric (Lends (F.pre call.now) alloc) x.now }
+    requires takes { InGeneric (Takes (F.pre call.now) alloc) x.now }
     requires copies { Copies T.tree (F.post call.now) alloc }
     requires runs_out { RunsOut (F.post call.now) alloc }
     ensures copied { IfOk result (λ y. generic_of T.tree y ≡ generic_of T.tree x.now) }
@@ -88,7 +88,7 @@ pub fn copy_angle<T: HasTree + Drop, F: Fn(&T, Global) -> Result<T>>(
     x: &AngleBracketedGenericArgumentsOf<T>,
     call: &F,
 ) -> Result<AngleBracketedGenericArgumentsOf<T>>
-    requires lends { InAngle (Lends (F.pre call.now) alloc) x.now }
+    requires takes { InAngle (Takes (F.pre call.now) alloc) x.now }
     requires copies { Copies T.tree (F.post call.now) alloc }
     requires runs_out { RunsOut (F.post call.now) alloc }
     ensures copied { IfOk result (λ y. angle_of T.tree y ≡ angle_of T.tree x.now) }
@@ -110,7 +110,7 @@ fn copy_round<T: HasTree + Drop, F: Fn(&T, Global) -> Result<T>>(
     x: &ParenthesizedGenericArgumentsOf<T>,
     call: &F,
 ) -> Result<ParenthesizedGenericArgumentsOf<T>>
-    requires lends { InRound (Lends (F.pre call.now) alloc) x.now }
+    requires takes { InRound (Takes (F.pre call.now) alloc) x.now }
     requires copies { Copies T.tree (F.post call.now) alloc }
     requires runs_out { RunsOut (F.post call.now) alloc }
     ensures copied { IfOk result (λ y. round_of T.tree y ≡ round_of T.tree x.now) }
@@ -131,7 +131,7 @@ pub fn copy_arguments<T: HasTree + Drop, F: Fn(&T, Global) -> Result<T>>(
     x: &PathArgumentsOf<T>,
     call: &F,
 ) -> Result<PathArgumentsOf<T>>
-    requires lends { InArguments (Lends (F.pre call.now) alloc) x.now }
+    requires takes { InArguments (Takes (F.pre call.now) alloc) x.now }
     requires copies { Copies T.tree (F.post call.now) alloc }
     requires runs_out { RunsOut (F.post call.now) alloc }
     ensures copied { IfOk result (λ y. arguments_of T.tree y ≡ arguments_of T.tree x.now) }

@@ -1,7 +1,7 @@
 //! Copies of bounds, and of the arguments of function pointers.
 
 ghost use Rattle.std.specs.Prelude.{◌≡◌, IfOk, IfErr};
-ghost use Rattle.syn_lower_copy.specs.Copying.{Copies, Lends, RunsOut};
+ghost use Rattle.syn_lower_copy.specs.Copying.{Copies, Takes, RunsOut};
 ghost use Rattle.syn_lower_copy.specs.Within.{InBound, InPath};
 ghost use Rattle.syn_lower_types.specs.View.{arg_of, bound_of, mapped, trait_of};
 
@@ -31,7 +31,7 @@ pub fn copy_arg<T: HasTree + Drop, F: Fn(&T, Global) -> Result<T>>(
     x: &BareFnArgOf<T>,
     call: &F,
 ) -> Result<BareFnArgOf<T>>
-    requires lends { Lends (F.pre call.now) alloc x.now.ty }
+    requires takes { Takes (F.pre call.now) alloc x.now.ty }
     requires copies { Copies T.tree (F.post call.now) alloc }
     requires runs_out { RunsOut (F.post call.now) alloc }
     ensures copied { IfOk result (λ y. arg_of T.tree y ≡ arg_of T.tree x.now) }
@@ -48,7 +48,7 @@ fn copy_trait<T: HasTree + Drop, F: Fn(&T, Global) -> Result<T>>(
     x: &TraitBoundOf<T>,
     call: &F,
 ) -> Result<TraitBoundOf<T>>
-    requires lends { InPath (Lends (F.pre call.now) alloc) x.now.path }
+    requires takes { InPath (Takes (F.pre call.now) alloc) x.now.path }
     requires copies { Copies T.tree (F.post call.now) alloc }
     requires runs_out { RunsOut (F.post call.now) alloc }
     ensures copied { IfOk result (λ y. trait_of T.tree y ≡ trait_of T.tree x.now) }
@@ -69,7 +69,7 @@ pub fn copy_bound<T: HasTree + Drop, F: Fn(&T, Global) -> Result<T>>(
     x: &TypeParamBoundOf<T>,
     call: &F,
 ) -> Result<TypeParamBoundOf<T>>
-    requires lends { InBound (Lends (F.pre call.now) alloc) x.now }
+    requires takes { InBound (Takes (F.pre call.now) alloc) x.now }
     requires copies { Copies T.tree (F.post call.now) alloc }
     requires runs_out { RunsOut (F.post call.now) alloc }
     ensures copied { IfOk result (λ y. bound_of T.tree y ≡ bound_of T.tree x.now) }

@@ -1,7 +1,7 @@
 //! Copies of each kind of type.
 
 ghost use Rattle.std.specs.Prelude.{◌≡◌, IfOk, IfErr};
-ghost use Rattle.syn_lower_copy.specs.Copying.{Copies, Lends, RunsOut};
+ghost use Rattle.syn_lower_copy.specs.Copying.{Copies, Takes, RunsOut};
 ghost use Rattle.syn_lower_copy.specs.Within.{InBound, InFnPtr, InList, InPath, InTypePath};
 ghost use Rattle.syn_lower_types.specs.View.{array_of, fn_ptr_of, impl_trait_of, paren_of, ptr_of, reference_of, slice_of, trait_object_of, tuple_of, type_macro_of, type_path_of};
 
@@ -27,7 +27,7 @@ pub fn copy_type_path<T: HasTree + Drop, F: Fn(&T, Global) -> Result<T>>(
     x: &TypePathOf<T>,
     call: &F,
 ) -> Result<TypePathOf<T>>
-    requires lends { InTypePath (Lends (F.pre call.now) alloc) x.now }
+    requires takes { InTypePath (Takes (F.pre call.now) alloc) x.now }
     requires copies { Copies T.tree (F.post call.now) alloc }
     requires runs_out { RunsOut (F.post call.now) alloc }
     ensures copied { IfOk result (λ y. type_path_of T.tree y ≡ type_path_of T.tree x.now) }
@@ -44,7 +44,7 @@ pub fn copy_type_macro<T: HasTree + Drop, F: Fn(&T, Global) -> Result<T>>(
     x: &TypeMacroOf<T>,
     call: &F,
 ) -> Result<TypeMacroOf<T>>
-    requires lends { InPath (Lends (F.pre call.now) alloc) x.now.mac.path }
+    requires takes { InPath (Takes (F.pre call.now) alloc) x.now.mac.path }
     requires copies { Copies T.tree (F.post call.now) alloc }
     requires runs_out { RunsOut (F.post call.now) alloc }
     ensures copied { IfOk result (λ y. type_macro_of T.tree y ≡ type_macro_of T.tree x.now) }
@@ -60,7 +60,7 @@ pub fn copy_reference<T: HasTree + Drop, F: Fn(&T, Global) -> Result<T>>(
     x: &TypeReferenceOf<T>,
     call: &F,
 ) -> Result<TypeReferenceOf<T>>
-    requires lends { Lends (F.pre call.now) alloc x.now.elem.value }
+    requires takes { Takes (F.pre call.now) alloc x.now.elem.value }
     requires copies { Copies T.tree (F.post call.now) alloc }
     requires runs_out { RunsOut (F.post call.now) alloc }
     ensures copied { IfOk result (λ y. reference_of T.tree y ≡ reference_of T.tree x.now) }
@@ -82,7 +82,7 @@ pub fn copy_ptr<T: HasTree + Drop, F: Fn(&T, Global) -> Result<T>>(
     x: &TypePtrOf<T>,
     call: &F,
 ) -> Result<TypePtrOf<T>>
-    requires lends { Lends (F.pre call.now) alloc x.now.elem.value }
+    requires takes { Takes (F.pre call.now) alloc x.now.elem.value }
     requires copies { Copies T.tree (F.post call.now) alloc }
     requires runs_out { RunsOut (F.post call.now) alloc }
     ensures copied { IfOk result (λ y. ptr_of T.tree y ≡ ptr_of T.tree x.now) }
@@ -102,7 +102,7 @@ pub fn copy_slice<T: HasTree + Drop, F: Fn(&T, Global) -> Result<T>>(
     x: &TypeSliceOf<T>,
     call: &F,
 ) -> Result<TypeSliceOf<T>>
-    requires lends { Lends (F.pre call.now) alloc x.now.elem.value }
+    requires takes { Takes (F.pre call.now) alloc x.now.elem.value }
     requires copies { Copies T.tree (F.post call.now) alloc }
     requires runs_out { RunsOut (F.post call.now) alloc }
     ensures copied { IfOk result (λ y. slice_of T.tree y ≡ slice_of T.tree x.now) }
@@ -121,7 +121,7 @@ pub fn copy_array<T: HasTree + Drop, F: Fn(&T, Global) -> Result<T>>(
     x: &TypeArrayOf<T>,
     call: &F,
 ) -> Result<TypeArrayOf<T>>
-    requires lends { Lends (F.pre call.now) alloc x.now.elem.value }
+    requires takes { Takes (F.pre call.now) alloc x.now.elem.value }
     requires copies { Copies T.tree (F.post call.now) alloc }
     requires runs_out { RunsOut (F.post call.now) alloc }
     ensures copied { IfOk result (λ y. array_of T.tree y ≡ array_of T.tree x.now) }
@@ -143,7 +143,7 @@ pub fn copy_tuple<T: HasTree + Drop, F: Fn(&T, Global) -> Result<T>>(
     x: &TypeTupleOf<T>,
     call: &F,
 ) -> Result<TypeTupleOf<T>>
-    requires lends { InList (Lends (F.pre call.now) alloc) x.now.elems }
+    requires takes { InList (Takes (F.pre call.now) alloc) x.now.elems }
     requires copies { Copies T.tree (F.post call.now) alloc }
     requires runs_out { RunsOut (F.post call.now) alloc }
     ensures copied { IfOk result (λ y. tuple_of T.tree y ≡ tuple_of T.tree x.now) }
@@ -162,7 +162,7 @@ pub fn copy_paren<T: HasTree + Drop, F: Fn(&T, Global) -> Result<T>>(
     x: &TypeParenOf<T>,
     call: &F,
 ) -> Result<TypeParenOf<T>>
-    requires lends { Lends (F.pre call.now) alloc x.now.elem.value }
+    requires takes { Takes (F.pre call.now) alloc x.now.elem.value }
     requires copies { Copies T.tree (F.post call.now) alloc }
     requires runs_out { RunsOut (F.post call.now) alloc }
     ensures copied { IfOk result (λ y. paren_of T.tree y ≡ paren_of T.tree x.now) }
@@ -181,7 +181,7 @@ pub fn copy_fn_ptr<T: HasTree + Drop, F: Fn(&T, Global) -> Result<T>>(
     x: &TypeFnPtrOf<T>,
     call: &F,
 ) -> Result<TypeFnPtrOf<T>>
-    requires lends { InFnPtr (Lends (F.pre call.now) alloc) x.now }
+    requires takes { InFnPtr (Takes (F.pre call.now) alloc) x.now }
     requires copies { Copies T.tree (F.post call.now) alloc }
     requires runs_out { RunsOut (F.post call.now) alloc }
     ensures copied { IfOk result (λ y. fn_ptr_of T.tree y ≡ fn_ptr_of T.tree x.now) }
@@ -209,7 +209,7 @@ pub fn copy_impl_trait<T: HasTree + Drop, F: Fn(&T, Global) -> Result<T>>(
     x: &TypeImplTraitOf<T>,
     call: &F,
 ) -> Result<TypeImplTraitOf<T>>
-    requires lends { InList (InBound (Lends (F.pre call.now) alloc)) x.now.bounds }
+    requires takes { InList (InBound (Takes (F.pre call.now) alloc)) x.now.bounds }
     requires copies { Copies T.tree (F.post call.now) alloc }
     requires runs_out { RunsOut (F.post call.now) alloc }
     ensures copied { IfOk result (λ y. impl_trait_of T.tree y ≡ impl_trait_of T.tree x.now) }
@@ -229,7 +229,7 @@ pub fn copy_trait_object<T: HasTree + Drop, F: Fn(&T, Global) -> Result<T>>(
     x: &TypeTraitObjectOf<T>,
     call: &F,
 ) -> Result<TypeTraitObjectOf<T>>
-    requires lends { InList (InBound (Lends (F.pre call.now) alloc)) x.now.bounds }
+    requires takes { InList (InBound (Takes (F.pre call.now) alloc)) x.now.bounds }
     requires copies { Copies T.tree (F.post call.now) alloc }
     requires runs_out { RunsOut (F.post call.now) alloc }
     ensures copied { IfOk result (λ y. trait_object_of T.tree y ≡ trait_object_of T.tree x.now) }

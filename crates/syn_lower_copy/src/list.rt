@@ -2,7 +2,7 @@
 
 ghost use Rattle.std.specs.Option.{ForSome};
 ghost use Rattle.std.specs.Prelude.{◌≡◌, Contains, IfOk, IfErr, map};
-ghost use Rattle.syn_lower_copy.specs.Copying.{Copies, Lends, RunsOut};
+ghost use Rattle.syn_lower_copy.specs.Copying.{Copies, Takes, RunsOut};
 ghost use Rattle.syn_lower_leaves.specs.View.{last_of, trails, values};
 
 use crate::seen::Sees;
@@ -17,7 +17,7 @@ pub fn copy_boxed<V: Sees<A> + Copy, A: Drop, F: Fn(&A, Global) -> Result<A>>(
     x: &Box<A>,
     call: &F,
 ) -> Result<Box<A>>
-    requires lends { Lends (F.pre call.now) alloc x.now.value }
+    requires takes { Takes (F.pre call.now) alloc x.now.value }
     requires copies { Copies V.seen (F.post call.now) alloc }
     requires runs_out { RunsOut (F.post call.now) alloc }
     ensures copied { IfOk result (λ y. V.seen y.value ≡ V.seen x.now.value) }
@@ -34,7 +34,7 @@ pub fn copy_last<V: Sees<A> + Copy, A: Drop, F: Fn(&A, Global) -> Result<A>>(
     x: &Option<Box<A>>,
     call: &F,
 ) -> Result<Option<Box<A>>>
-    requires lends { ForSome x.now (λ b. Lends (F.pre call.now) alloc b.value) }
+    requires takes { ForSome x.now (λ b. Takes (F.pre call.now) alloc b.value) }
     requires copies { Copies V.seen (F.post call.now) alloc }
     requires runs_out { RunsOut (F.post call.now) alloc }
     ensures copied { IfOk result (λ y. map V.seen (last_of y) ≡ map V.seen (last_of x.now)) }
@@ -60,7 +60,7 @@ fn copy_pairs<V: Sees<A> + Copy, A: Drop, P: Copy + Drop, F: Fn(&A, Global) -> R
     xs: &[(A, P)],
     call: &F,
 ) -> Result<Vec<(A, P)>>
-    requires lends { (q : _) → Contains xs.now q → Lends (F.pre call.now) alloc q.0 }
+    requires takes { (q : _) → Contains xs.now q → Takes (F.pre call.now) alloc q.0 }
     requires copies { Copies V.seen (F.post call.now) alloc }
     requires runs_out { RunsOut (F.post call.now) alloc }
     ensures copied { IfOk result (λ ys. map (λ q. V.seen q.0) ys.items ≡ map (λ q. V.seen q.0) xs.now) }
@@ -81,8 +81,8 @@ pub fn copy_punctuated<V: Sees<A> + Copy, A: Drop, P: Copy + Drop, F: Fn(&A, Glo
     x: &Punctuated<A, P>,
     call: &F,
 ) -> Result<Punctuated<A, P>>
-    requires inner { (q : _) → Contains x.now.inner.items q → Lends (F.pre call.now) alloc q.0 }
-    requires last { ForSome x.now.last (λ b. Lends (F.pre call.now) alloc b.value) }
+    requires inner { (q : _) → Contains x.now.inner.items q → Takes (F.pre call.now) alloc q.0 }
+    requires last { ForSome x.now.last (λ b. Takes (F.pre call.now) alloc b.value) }
     requires copies { Copies V.seen (F.post call.now) alloc }
     requires runs_out { RunsOut (F.post call.now) alloc }
     ensures values { IfOk result (λ y. map V.seen (values y) ≡ map V.seen (values x.now)) }
@@ -101,7 +101,7 @@ fn copy_each<V: Sees<A> + Copy, A: Drop, F: Fn(&A, Global) -> Result<A>>(
     xs: &[A],
     call: &F,
 ) -> Result<Vec<A>>
-    requires lends { (x : _) → Contains xs.now x → Lends (F.pre call.now) alloc x }
+    requires takes { (x : _) → Contains xs.now x → Takes (F.pre call.now) alloc x }
     requires copies { Copies V.seen (F.post call.now) alloc }
     requires runs_out { RunsOut (F.post call.now) alloc }
     ensures copied { IfOk result (λ ys. map V.seen ys.items ≡ map V.seen xs.now) }
@@ -121,7 +121,7 @@ pub fn copy_all<V: Sees<A> + Copy, A: Drop, F: Fn(&A, Global) -> Result<A>>(
     xs: &Vec<A>,
     call: &F,
 ) -> Result<Vec<A>>
-    requires lends { (x : _) → Contains xs.now.items x → Lends (F.pre call.now) alloc x }
+    requires takes { (x : _) → Contains xs.now.items x → Takes (F.pre call.now) alloc x }
     requires copies { Copies V.seen (F.post call.now) alloc }
     requires runs_out { RunsOut (F.post call.now) alloc }
     ensures copied { IfOk result (λ ys. map V.seen ys.items ≡ map V.seen xs.now.items) }

@@ -1,7 +1,7 @@
 //! Copies of paths, and of the calls of macros.
 
 ghost use Rattle.std.specs.Prelude.{◌≡◌, IfOk, IfErr};
-ghost use Rattle.syn_lower_copy.specs.Copying.{Copies, Lends, RunsOut};
+ghost use Rattle.syn_lower_copy.specs.Copying.{Copies, Takes, RunsOut};
 ghost use Rattle.syn_lower_copy.specs.Within.{InPath, InQSelf, InSegment};
 ghost use Rattle.syn_lower_types.specs.View.{macro_of, path_of, qself_or, segment_of};
 
@@ -21,7 +21,7 @@ fn copy_segment<T: HasTree + Drop, F: Fn(&T, Global) -> Result<T>>(
     x: &PathSegmentOf<T>,
     call: &F,
 ) -> Result<PathSegmentOf<T>>
-    requires lends { InSegment (Lends (F.pre call.now) alloc) x.now }
+    requires takes { InSegment (Takes (F.pre call.now) alloc) x.now }
     requires copies { Copies T.tree (F.post call.now) alloc }
     requires runs_out { RunsOut (F.post call.now) alloc }
     ensures copied { IfOk result (λ y. segment_of T.tree y ≡ segment_of T.tree x.now) }
@@ -38,7 +38,7 @@ pub fn copy_path<T: HasTree + Drop, F: Fn(&T, Global) -> Result<T>>(
     x: &PathOf<T>,
     call: &F,
 ) -> Result<PathOf<T>>
-    requires lends { InPath (Lends (F.pre call.now) alloc) x.now }
+    requires takes { InPath (Takes (F.pre call.now) alloc) x.now }
     requires copies { Copies T.tree (F.post call.now) alloc }
     requires runs_out { RunsOut (F.post call.now) alloc }
     ensures copied { IfOk result (λ y. path_of T.tree y ≡ path_of T.tree x.now) }
@@ -58,7 +58,7 @@ pub fn copy_qself<T: HasTree + Drop, F: Fn(&T, Global) -> Result<T>>(
     x: &Option<QSelfOf<T>>,
     call: &F,
 ) -> Result<Option<QSelfOf<T>>>
-    requires lends { InQSelf (Lends (F.pre call.now) alloc) x.now }
+    requires takes { InQSelf (Takes (F.pre call.now) alloc) x.now }
     requires copies { Copies T.tree (F.post call.now) alloc }
     requires runs_out { RunsOut (F.post call.now) alloc }
     ensures copied { IfOk result (λ y. qself_or T.tree y ≡ qself_or T.tree x.now) }
@@ -85,7 +85,7 @@ pub fn copy_macro<T: HasTree + Drop, F: Fn(&T, Global) -> Result<T>>(
     x: &MacroOf<T>,
     call: &F,
 ) -> Result<MacroOf<T>>
-    requires lends { InPath (Lends (F.pre call.now) alloc) x.now.path }
+    requires takes { InPath (Takes (F.pre call.now) alloc) x.now.path }
     requires copies { Copies T.tree (F.post call.now) alloc }
     requires runs_out { RunsOut (F.post call.now) alloc }
     ensures copied { IfOk result (λ y. macro_of T.tree y ≡ macro_of T.tree x.now) }

@@ -145,8 +145,8 @@ pub struct TokenStream {
     trees: Vec<TokenTree>,
 }
 
-// Written out and not derived: a crate that lets a list go calls this, and doesn't prove again of groups in groups that
-// they can be let go.
+// Written out and not derived: a crate that drops a list calls this, and doesn't prove again of groups in groups that
+// they can be dropped.
 impl Drop for TokenStream {
     #[cycle(trees)]
     fn drop(self) {

@@ -27,7 +27,7 @@ use Rattle.syn_visit_kinds.specs.Nodes.{all_nodes, operands_in}
 use Rattle.syn_visit_kinds.specs.Parts.{arm_operands, else_operand, field_pattern}
 use Rattle.syn_visit_kinds.specs.Walk.{Walk, ended, Saw, SawWith, Shown}
 use Rattle.syn_visit_kinds.proofs.Changed.{attributed_operands, closure_expr_operands, for_loop_operands, let_operands, match_operands}
-use Rattle.syn_visit_kinds.proofs.Walk.{first_stops, told_with, walk_both, walk_flat, walk_same, walk_shown}
+use Rattle.syn_visit_kinds.proofs.Walk.{first_stops, known_with, walk_both, walk_flat, walk_same, walk_shown}
 
 -- ---- a list in two parts
 
@@ -64,12 +64,12 @@ module _ {S R : Type 0} {to : Tree → S → Result (Unit {0}) R → S → Type 
 
 -- ---- patterns in patterns
 
--- what goes through something was passed a function: what it passes on is told by that
+-- a function was passed to what goes through something: so it is known what that passes on
 module _ {E C S R : Type 0} (list : E → List Tree) (of : C → Bor Expr → MutBor S → Result (Unit {0}) R → MutBor S → Type 0) {c : C} {post : Bor E → Bor C → MutBor S → Result (Unit {0}) R → MutBor S → Type 0}
     (says : (one : Bor E) (with : Bor C) (old : MutBor S) (r : Result (Unit {0}) R) (new : MutBor S) → post one with old r new → Walk (Shown tree_of (Saw (of with.now))) (list one.now) old.now r new.now) where
   passed_on : (x : E) (s : S) (r : Result (Unit {0}) R) (z : S) → SawWith post c x s r z → Walk (Shown tree_of (Saw (of c))) (list x) s r z
   passed_on x s r z call =
-      told_with (λ y a b t. Walk (Shown tree_of (Saw (of c))) (list y) a b t)
+      known_with (λ y a b t. Walk (Shown tree_of (Saw (of c))) (list y) a b t)
       (λ one with old b new is met. subst (λ d. Walk (Shown tree_of (Saw (of d))) (list one.now) old.now b new.now) is (says one with old b new met)) x s r z call
 
 -- the guards of a pattern

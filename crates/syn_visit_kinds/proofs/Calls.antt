@@ -47,12 +47,12 @@ module _ {E C T R : Type 0} (h : E → T) (k : T → T) (post : MutBor E → Bor
   pub each_with : (xs ys : List E) → Each (LeftWith post c) xs ys → Each (Becomes h k) xs ys
   each_with xs ys all = each_by _ _ left_with xs ys all
 
--- what an answer tells of what was passed and what is left
+-- what is known of the value that was passed and of the value that was left there
 module _ {E R : Type 0} (post : MutBor E → Result (Unit {0}) R → MutBor E → Type 0) (Q : E → E → Type 0) (says : (old new : MutBor E) → post old (Ok tt) new → Q old.now new.now) where
-  pub told : (x y : E) → Left post x y → Q x y
-  told x y call = subst (λ a. Q a y) call.shows (subst (Q call.old.now) call.leaves (says call.old call.new call.met))
+  pub known : (x y : E) → Left post x y → Q x y
+  known x y call = subst (λ a. Q a y) call.shows (subst (Q call.old.now) call.leaves (says call.old call.new call.met))
 
 -- the same of each of many
-pub each_told : {E R : Type 0} (post : MutBor E → Result (Unit {0}) R → MutBor E → Type 0) (Q : E → E → Type 0) (xs ys : List E) → Each (Left post) xs ys
+pub each_known : {E R : Type 0} (post : MutBor E → Result (Unit {0}) R → MutBor E → Type 0) (Q : E → E → Type 0) (xs ys : List E) → Each (Left post) xs ys
     → ((old new : MutBor E) → post old (Ok tt) new → Q old.now new.now) → Each Q xs ys
-each_told post Q xs ys all says = each_by (Left post) Q (told post Q says) xs ys all
+each_known post Q xs ys all says = each_by (Left post) Q (known post Q says) xs ys all

@@ -98,33 +98,33 @@ walk_shown h (went saw w) = went (record { one = _; shows = refl; saw = saw }) (
 
 -- ---- calls of a function
 
--- what an answer tells of what was passed and of both states
+-- what is known of the value that was passed and of the states before and after
 module _ {E S R : Type 0} {post : Bor E → MutBor S → Result (Unit {0}) R → MutBor S → Type 0} (Q : E → S → Result (Unit {0}) R → S → Type 0)
     (says : (one : Bor E) (old : MutBor S) (r : Result (Unit {0}) R) (new : MutBor S) → post one old r new → Q one.now old.now r new.now) where
-  pub told : (x : E) (s : S) (r : Result (Unit {0}) R) (z : S) → Saw post x s r z → Q x s r z
-  told x s r z call =
+  pub known : (x : E) (s : S) (r : Result (Unit {0}) R) (z : S) → Saw post x s r z → Q x s r z
+  known x s r z call =
       subst (λ a. Q a s r z) call.shows (subst (λ a. Q call.one.now a r z) call.begins (subst (Q call.one.now call.old.now r) call.leaves (says call.one call.old r call.new call.met)))
 
 module _ {E C S R : Type 0} {post : Bor E → Bor C → MutBor S → Result (Unit {0}) R → MutBor S → Type 0} {c : C} (Q : E → S → Result (Unit {0}) R → S → Type 0)
     (says : (one : Bor E) (with : Bor C) (old : MutBor S) (r : Result (Unit {0}) R) (new : MutBor S) → with.now ≡ c → post one with old r new → Q one.now old.now r new.now) where
-  pub told_with : (x : E) (s : S) (r : Result (Unit {0}) R) (z : S) → SawWith post c x s r z → Q x s r z
-  told_with x s r z call =
+  pub known_with : (x : E) (s : S) (r : Result (Unit {0}) R) (z : S) → SawWith post c x s r z → Q x s r z
+  known_with x s r z call =
       subst (λ a. Q a s r z) call.shows (subst (λ a. Q call.one.now a r z) call.begins (subst (Q call.one.now call.old.now r) call.leaves (says call.one call.with call.old r call.new call.passes call.met)))
 
 -- the same of each of a list
-pub walk_told : {E S R : Type 0} {post : Bor E → MutBor S → Result (Unit {0}) R → MutBor S → Type 0} {to : E → S → Result (Unit {0}) R → S → Type 0} {xs : List E} {s z : S} {r : Result (Unit {0}) R}
+pub walk_known : {E S R : Type 0} {post : Bor E → MutBor S → Result (Unit {0}) R → MutBor S → Type 0} {to : E → S → Result (Unit {0}) R → S → Type 0} {xs : List E} {s z : S} {r : Result (Unit {0}) R}
     → Walk (Saw post) xs s r z → ((one : Bor E) (old : MutBor S) (b : Result (Unit {0}) R) (new : MutBor S) → post one old b new → to one.now old.now b new.now) → Walk to xs s r z
-walk_told ended says = ended
-walk_told {to = to} (refused h) says = refused (told to says _ _ _ _ h)
-walk_told {to = to} (went h w) says = went (told to says _ _ _ _ h) (walk_told w says)
+walk_known ended says = ended
+walk_known {to = to} (refused h) says = refused (known to says _ _ _ _ h)
+walk_known {to = to} (went h w) says = went (known to says _ _ _ _ h) (walk_known w says)
 
 -- the same of what is shown
-pub shown_told : {E B S R : Type 0} {h : E → B} {post : Bor E → MutBor S → Result (Unit {0}) R → MutBor S → Type 0} {to : E → S → Result (Unit {0}) R → S → Type 0} {ys : List B} {s z : S} {r : Result (Unit {0}) R}
+pub shown_known : {E B S R : Type 0} {h : E → B} {post : Bor E → MutBor S → Result (Unit {0}) R → MutBor S → Type 0} {to : E → S → Result (Unit {0}) R → S → Type 0} {ys : List B} {s z : S} {r : Result (Unit {0}) R}
     → Walk (Shown h (Saw post)) ys s r z → ((one : Bor E) (old : MutBor S) (b : Result (Unit {0}) R) (new : MutBor S) → post one old b new → to one.now old.now b new.now) → Walk (Shown h to) ys s r z
-shown_told ended says = ended
-shown_told {to = to} (refused h) says = refused (record { one = h.one; shows = h.shows; saw = told to says _ _ _ _ h.saw })
-shown_told {to = to} (went h w) says = went (record { one = h.one; shows = h.shows; saw = told to says _ _ _ _ h.saw }) (shown_told w says)
+shown_known ended says = ended
+shown_known {to = to} (refused h) says = refused (record { one = h.one; shows = h.shows; saw = known to says _ _ _ _ h.saw })
+shown_known {to = to} (went h w) says = went (record { one = h.one; shows = h.shows; saw = known to says _ _ _ _ h.saw }) (shown_known w says)
 
 pub shown_any : {E B S R : Type 0} {h : E → B} {post : Bor E → MutBor S → Result (Unit {0}) R → MutBor S → Type 0} (p : B → Bool) {ys : List B} {s z : S} {r : Result (Unit {0}) R}
     → Walk (Shown h (Saw post)) ys s r z → ((one : Bor E) (old : MutBor S) (b : Result (Unit {0}) R) (new : MutBor S) → post one old b new → is_err b ≡ p (h one.now)) → is_err r ≡ list_any p ys
-shown_any {h = h} p w says = walk_any p (λ y a b t shown. told (λ x c d v. is_err d ≡ p (h x)) says shown.one a b t shown.saw ∙ ap p shown.shows) w
+shown_any {h = h} p w says = walk_any p (λ y a b t shown. known (λ x c d v. is_err d ≡ p (h x)) says shown.one a b t shown.saw ∙ ap p shown.shows) w

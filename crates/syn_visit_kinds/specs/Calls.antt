@@ -1,4 +1,4 @@
--- Calls that are passed a part of an expression, told by what they are passed alone.
+-- Calls that are passed a part of an expression. What they require and promise depends on that part alone.
 use Rattle.std.specs.Prelude.{◌≡◌, Bool, Result, Ok, Err, IfOk, ⊤, List, [], ◌∷◌}
 use denote.Ref.{Bor, MutBor}
 
@@ -56,7 +56,7 @@ pub record RefusedWith {E C R : Type 0} (post : MutBor E → Bor C → Result (U
 abbrev pub Asks : {E : Type 0} → (Bor E → Type 0) → E → Type 0
 Asks pre x = (borrowed : Bor _) → borrowed.now ≡ x → pre borrowed
 
--- a call that answers what q tells of what it is passed
+-- a call whose answer is that of q for what it is passed
 abbrev pub Tells : {E : Type 0} → (E → Bool) → (Bor E → Bool → Type 0) → Type 0
 Tells q post = (borrowed : Bor _) (r : Bool) → post borrowed r → r ≡ q borrowed.now
 
@@ -66,7 +66,7 @@ AsksWith pre c x = (borrowed : Bor _) (with : Bor _) → borrowed.now ≡ x → 
 abbrev pub TellsWith : {E C : Type 0} → (E → Bool) → (Bor E → Bor C → Bool → Type 0) → C → Type 0
 TellsWith q post c = (borrowed : Bor _) (with : Bor _) (r : Bool) → with.now ≡ c → post borrowed with r → r ≡ q borrowed.now
 
--- ---- lists of which each element is related to that of another in its place
+-- ---- two lists whose elements are related one by one
 
 unfoldable pub Each : {A B : Type 0} → (A → B → Type 0) → List A → List B → Type 0
 Each R [] [] = ⊤

@@ -1,4 +1,4 @@
-//! What holds operands, each of which is passed to a function along with a state of the caller's, from left to right.
+//! Calls a function on each operand that a box, an option or a list holds, from left to right, with a state of the caller's.
 
 ghost use Rattle.std.specs.Option.{ForSome};
 ghost use Rattle.std.specs.Prelude.{◌≡◌, ◌++◌, ◌∷◌, [], Contains, map};

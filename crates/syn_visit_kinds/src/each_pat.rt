@@ -1,4 +1,4 @@
-//! Patterns in patterns, each of which is passed to a function along with a state of the caller's and something else besides.
+//! Calls a function on each pattern in a pattern, with a state of the caller's and one more value.
 
 ghost use Rattle.std.specs.Option.{ForSome};
 ghost use Rattle.std.specs.Prelude.{◌≡◌, Contains, Some};

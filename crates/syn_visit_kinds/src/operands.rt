@@ -1,4 +1,4 @@
-//! What holds operands, each of which a function may change, from left to right.
+//! Calls a function on each operand that a box, an option or a list holds, from left to right; the function may change it.
 
 ghost use Rattle.std.specs.Prelude.{◌≡◌, Contains, IfErr, IfOk};
 ghost use Rattle.std.specs.Option.{ForSome};

@@ -1,4 +1,4 @@
--- What copies an expression or a pattern may be lent what holds it and nothing else; all else is lent parts.
+-- What copies an expression or a pattern may borrow what holds it and nothing else; all other functions borrow parts.
 use Rattle.std.proofs.Common.{◌+◌, ◌*◌}
 use Rattle.syn_copy.proofs.copies.+copy.Given as goal
 

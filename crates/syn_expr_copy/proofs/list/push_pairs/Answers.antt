@@ -6,6 +6,6 @@ pub call-requires : goal.call-requires
 call-requires g c =
     let got = Contains-get_or c.args.xs.now c.loop-x.x-index c.x-item.result (omega (arith, c.loop-x-test.true)) in
     let has : Contains c.args.xs.now c.x-item.result = subst (λ x. Contains c.args.xs.now x) (sym c.x-item.is) got in
-    let lends = c.requires.lends c.x-item.result has in
+    let takes = c.requires.takes c.x-item.result has in
     let is = c.value_of.ensures in
-    search (lends, is)
+    search (takes, is)
