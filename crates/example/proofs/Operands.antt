@@ -1,18 +1,13 @@
 -- What the swap does to a tree, and what follows of a text.
-use Rattle.std.proofs.Common.{◌≡◌, ℕ, false, List, [], ◌∷◌, ◌++◌, refl, sym, ap, ◌∙◌, subst, Result, Ok, Err, string_bytes}
-use Rattle.std.specs.Prelude.{IfOk, MatchResult, String}
+use Rattle.std.proofs.Common.{◌≡◌, ℕ, false, List, [], ◌∷◌, refl, sym, ap, ◌∙◌, subst, Result, string_bytes}
+use Rattle.std.proofs.lemmas.Result.{IfOk-weaker}
+use Rattle.std.specs.Prelude.{IfOk, String}
 use Rattle.std.specs.declared.alloc.Global.{Global}
-use Rattle.syn_tokens.specs.Text.{text}
-use Rattle.syn_tokens.specs.Tok.{Tok}
 use Rattle.syn_tokens.specs.declared.error.Error.{Error}
-use Rattle.syn_tokens.specs.declared.error.ErrorKind.TheVariants.{OutOfMemory}
 use Rattle.syn_lower_spec.specs.Tree.{AttributeTree}
 use Rattle.syn_expr_spec.specs.declared.kinds.Infix.TheVariants as inf
-use Rattle.syn_expr_spec.specs.declared.next.Context.{Context}
-use Rattle.syn_expr_spec.specs.Next.{enclosed}
 use Rattle.syn_expr_spec.specs.Printed.{in_plain}
-use Rattle.syn_expr_spec.specs.Rule as rule
-use Rattle.syn_expr_spec.specs.Tree.{Tree, attributed_with, attributed, infixed, own_tokens}
+use Rattle.syn_expr_spec.specs.Tree.{Tree, attributed_with, attributed, infixed}
 use Rattle.syn_expr_tokens.specs.View.{bin_kind}
 use Rattle.syn_expr_ast.specs.declared.operation.ExprBinaryOf.{ExprBinaryOf}
 use Rattle.syn_expr_ast.specs.Attrs.{attrs_of}
@@ -20,9 +15,8 @@ use Rattle.syn_expr_core.specs.declared.expr.Expr.{Expr}
 use Rattle.syn_expr_core.specs.declared.expr.Expr.TheVariants as ex
 use Rattle.syn_expr_core.specs.View.{tree_of}
 use Rattle.syn_expr_core.proofs.TreeOf.{tree-Binary}
-use Rattle.syn_expr.specs.Promises.{PrintedAs}
+use Rattle.syn_expr.specs.Promises.{IsTextOf}
 use Rattle.syn_expr.proofs.Binaries.{is_binary, no_binary}
-use Rattle.syn_expr.proofs.Promised.{prints_at}
 use Rattle.example.specs.Swapped.{swapped_tree, IsSwapped}
 use Rattle.syn_expr.specs.Texts.{StandsFor}
 
@@ -49,9 +43,5 @@ left_alone x none = sym (stays (tree_of x) (no_binary x none))
 
 -- ---- a text
 
-pub printed : (cs : List ℕ) (t u : Tree) (c : Context) (old new : List Tok) (r : Result (String Global) Error) → StandsFor cs t → u ≡ swapped_tree t → c ≡ enclosed → old ≡ []
-    → new ≡ old ++ own_tokens (rule.printed c u) → MatchResult r (λ s. string_bytes s ≡ text new) (λ e. e.kind ≡ OutOfMemory) → IfOk r (λ s. IsSwapped cs (string_bytes s))
-printed cs t u c old new (Ok s) stands is here none wrote h =
-    let whole = prints_at in_plain u c new (wrote ∙ ap (λ (l : List Tok). l ++ own_tokens (rule.printed c u)) none) here in
-    (t, new, stands, subst (λ (v : Tree). PrintedAs in_plain v new) is whole, h)
-printed cs t u c old new (Err e) stands is here none wrote h = tt
+pub printed : (cs : List ℕ) (t u : Tree) (r : Result (String Global) Error) → StandsFor cs t → u ≡ swapped_tree t → IfOk r (λ s. IsTextOf in_plain u (string_bytes s)) → IfOk r (λ s. IsSwapped cs (string_bytes s))
+printed cs t u r stands is = IfOk-weaker r _ _ (λ s text. (t, stands, subst (λ v. IsTextOf in_plain v (string_bytes s)) is text))

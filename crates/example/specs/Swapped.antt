@@ -1,11 +1,9 @@
 -- What becomes of a text: its expression with the operands swapped (Rust Reference, "Operator expressions").
-use Rattle.std.specs.Prelude.{◌≡◌, ℕ, List}
-use Rattle.syn_tokens.specs.Tok.{Tok}
-use Rattle.syn_tokens.specs.Text.{text}
+use Rattle.std.specs.Prelude.{ℕ, List}
 use Rattle.syn_expr_spec.specs.declared.kinds.Infix.TheVariants as inf
 use Rattle.syn_expr_spec.specs.Printed.{in_plain}
 use Rattle.syn_expr_spec.specs.Tree.{Tree, attributed, infixed}
-use Rattle.syn_expr.specs.Promises.{PrintedAs}
+use Rattle.syn_expr.specs.Promises.{IsTextOf}
 use Rattle.syn_expr.specs.Texts.{StandsFor}
 
 -- An operation, after its attributes, has its operands swapped; anything else stays.
@@ -14,7 +12,6 @@ swapped_tree (attributed a more t) = attributed a more (swapped_tree t)
 swapped_tree (infixed x (inf.Binary k) y) = infixed y (inf.Binary k) x
 swapped_tree t = t
 
--- Some tree stands for the text, and `bytes` is the text of tokens that keep all that is promised of this tree with the
--- operands swapped.
+-- Some tree stands for the text, and `bytes` is the text of this tree with the operands swapped.
 abbrev pub IsSwapped : List ℕ → List ℕ → Type 0
-IsSwapped cs bytes = (t : Tree) × (ts : List Tok) × StandsFor cs t × PrintedAs in_plain (swapped_tree t) ts × (bytes ≡ text ts)
+IsSwapped cs bytes = (t : Tree) × StandsFor cs t × IsTextOf in_plain (swapped_tree t) bytes

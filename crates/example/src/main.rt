@@ -9,9 +9,7 @@ ghost use Rattle.syn_expr.specs.Texts.{NothingStands};
 use std::alloc::Global;
 use std::io;
 use std::mem::swap;
-use syn_expr::{
-    ErrorKind, Expr, FixupContext, HeldExpr, Result, TokenStream, parse_str, print_expr, to_text,
-};
+use syn_expr::{ErrorKind, Expr, HeldExpr, Position, Result, expr_to_text, parse_str};
 
 /// Swaps the operands of an operation. What is no operation stays as it is.
 fn swap_operands(expr: &mut Expr)
@@ -29,9 +27,7 @@ fn swapped(alloc: Global, text: &str) -> Result<String>
 {
     let mut held = parse_str::<HeldExpr>(alloc, text)?;
     swap_operands(&mut held.expr);
-    let mut tokens = TokenStream::new(alloc);
-    print_expr(&held.expr, &mut tokens, FixupContext::NONE)?;
-    to_text(&tokens)
+    expr_to_text(alloc, &held.expr, Position::Plain)
 }
 
 fn main(rt: HostRuntime) -> io::Result<()> {

@@ -5,7 +5,7 @@ use std::alloc::Global;
 use syn_expr::token::{Brace, Group, Match};
 use syn_expr::{
     Arm, Error, Expr, ExprMatch, ExprParen, FieldValue, HeldExpr, Parse, ParseBuffer, Position,
-    Result, ToTokens, TokenStream, flatten, flatten_in_place, lex, parse_str, parse2,
+    Result, ToTokens, TokenStream, expr_to_text, flatten, flatten_in_place, lex, parse_str, parse2,
     print_counted, print_expr, read_back, read_back_before, to_text,
 };
 
@@ -158,6 +158,12 @@ fn counted(alloc: Global, text: &str, position: Position) -> Result<String> {
     to_text(&tokens)
 }
 
+/// The text of the expression of a text in a position.
+fn text_for(alloc: Global, text: &str, position: Position) -> Result<String> {
+    let held = parse_str::<HeldExpr>(alloc, text)?;
+    expr_to_text(alloc, &held.expr, position)
+}
+
 /// The expression of a text without its parentheses.
 fn flattened(alloc: Global, text: &str) -> Result<String> {
     let expr = parse_str::<HeldExpr>(alloc, text)?.into_inner();
@@ -273,6 +279,11 @@ pub fn printers(rt: &HostRuntime) {
         rt,
         "print_counted",
         counted(alloc, "{ a } + b", Position::Stmt),
+    );
+    tell(
+        rt,
+        "expr_to_text",
+        text_for(alloc, "{ a } + b", Position::Arm),
     );
     tell(
         rt,

@@ -1,6 +1,11 @@
 -- What is printed of a tree in a position keeps all that is promised.
-use Rattle.std.proofs.Common.{◌≡◌, ◌↔◌, true, List, [], ◌++◌, refl, sym, ◌∙◌, ap, subst}
+use Rattle.std.proofs.Common.{◌≡◌, ◌↔◌, true, List, [], ◌++◌, refl, sym, ◌∙◌, ap, subst, Result, Ok, Err, string_bytes}
+use Rattle.std.specs.Prelude.{IfOk, MatchResult, String}
+use Rattle.std.specs.declared.alloc.Global.{Global}
+use Rattle.syn_tokens.specs.Text.{text}
 use Rattle.syn_tokens.specs.Tok.{Tok}
+use Rattle.syn_tokens.specs.declared.error.Error.{Error}
+use Rattle.syn_tokens.specs.declared.error.ErrorKind.TheVariants.{OutOfMemory}
 use Rattle.syn_expr_spec.specs.declared.next.Context.{Context}
 use Rattle.syn_expr_spec.specs.Next.{enclosed}
 use Rattle.syn_expr_spec.specs.Printed.{Position, in_plain, as_statement, as_condition, as_arm, context_of, place_of, allows, is_minimal, plainly_attributed, printed_in}
@@ -18,7 +23,7 @@ use Rattle.syn_expr_spec.proofs.RedundantPlain.{no_pair_redundant, plain_clear}
 use Rattle.syn_expr_spec.proofs.StoodFilled.{own_spelling}
 use Rattle.syn_expr_ast.specs.Printed.{whole}
 use Rattle.syn_expr_print.proofs.Appends.{own_append}
-use Rattle.syn_expr.specs.Promises.{Puts, StandsBack, StandsWithPairs, IsOwn, IsMinimal, PrintedAs}
+use Rattle.syn_expr.specs.Promises.{Puts, StandsBack, StandsWithPairs, IsOwn, IsMinimal, IsTextOf, PrintedAs}
 use Rattle.syn_expr.proofs.Marks.{own_clear, clear_twice, put_clear}
 
 pub stands_back : (s : Position) (t : Tree) → StandsBack s t (own_tokens (printed_in s t))
@@ -93,3 +98,8 @@ minimal_at s t c old new h e = (own_tokens (printed c t), h, subst (λ (d : Cont
 pub prints_at : (s : Position) (t : Tree) (c : Context) (ts : List Tok) → ts ≡ own_tokens (printed c t) → c ≡ context_of s → PrintedAs s t ts
 prints_at s t c ts h e =
     subst (λ (l : List Tok). PrintedAs s t l) (sym h) (subst (λ (d : Context). PrintedAs s t (own_tokens (printed d t))) (sym e) (prints s t))
+
+pub is_text : (s : Position) (t : Tree) (ts : List Tok) (r : Result (String Global) Error) → PrintedAs s t ts → MatchResult r (λ x. string_bytes x ≡ text ts) (λ e. e.kind ≡ OutOfMemory)
+    → IfOk r (λ x. IsTextOf s t (string_bytes x))
+is_text s t ts (Ok x) printed is = (ts, printed, is)
+is_text s t ts (Err e) printed is = tt

@@ -1,5 +1,6 @@
 -- What is promised of the tokens that are printed of a tree.
-use Rattle.std.specs.Prelude.{◌≡◌, ◌↔◌, ◌++◌, true, List, []}
+use Rattle.std.specs.Prelude.{◌≡◌, ◌↔◌, ◌++◌, true, ℕ, List, []}
+use Rattle.syn_tokens.specs.Text.{text}
 use Rattle.syn_tokens.specs.Tok.{Tok}
 use Rattle.syn_expr_spec.specs.Place.{plain}
 use Rattle.syn_expr_spec.specs.Printed.{Position, in_plain, place_of, allows, is_minimal, plainly_attributed, parenthesize_attributed, printed_in}
@@ -51,3 +52,7 @@ pub record PrintedAs (s : Position) (t : Tree) (ts : List Tok) : Type 0 where
   pub added : StandsWithPairs s t ts
   pub own : s ≡ in_plain → IsOwn t ts
   pub minimal : IsMinimal s t ts
+
+-- The tree is printed in the position as some tokens, and these bytes are their text.
+abbrev pub IsTextOf : Position → Tree → List ℕ → Type 0
+IsTextOf s t bytes = (ts : List Tok) × PrintedAs s t ts × (bytes ≡ text ts)

@@ -12,6 +12,7 @@ pub use laws::read_back;
 pub use laws::read_back_before;
 pub use precedence::Precedence;
 pub use print::Position;
+pub use print::expr_to_text;
 pub use print::print_counted;
 pub use print::print_expr;
 pub use syn_expr_classify::classify;

@@ -1,9 +1,9 @@
 //! The printer of expressions: a tree's own tokens, with the parentheses that it needs in a position.
 
-ghost use Rattle.std.specs.Prelude.{◌≡◌, ◌++◌, ◌*◌, ◌-◌, ◌^◌, ◌≤◌, true, min, IfErr, IfOk, OnOk};
+ghost use Rattle.std.specs.Prelude.{◌≡◌, ◌++◌, ◌*◌, ◌-◌, ◌^◌, ◌≤◌, true, min, string_bytes, IfErr, IfOk, OnOk};
 ghost use Rattle.syn_expr_core.specs.View.{tree_of};
 ghost use Rattle.syn_expr_fixup.specs.Visited.{visited};
-ghost use Rattle.syn_expr.specs.Promises.{Puts, StandsBack, StandsWithPairs, IsOwn, IsMinimal, PrintedAs};
+ghost use Rattle.syn_expr.specs.Promises.{Puts, StandsBack, StandsWithPairs, IsOwn, IsMinimal, IsTextOf, PrintedAs};
 ghost use Rattle.syn_expr_spec.specs.Next.{enclosed};
 ghost use Rattle.syn_expr_spec.specs.Printed as positions;
 ghost use Rattle.syn_expr_spec.specs.Printed.{context_of, place_of};
@@ -22,6 +22,7 @@ use syn_expr_core::expr::Expr;
 use syn_expr_fixup::FixupContext;
 use syn_tokens::buffer::{Parse, ParseBuffer};
 use syn_tokens::error::{ErrorKind, Result};
+use syn_tokens::text::to_text;
 use syn_tokens::tree::TokenStream;
 
 /// Puts the tokens of an expression at the end, with the parentheses that it needs where it is printed: those without which
@@ -64,6 +65,18 @@ pub fn print_counted(alloc: Global, expr: &Expr, fixup: FixupContext) -> Result<
     let mut tokens = TokenStream::new(alloc);
     let visits = syn_expr_core::print_counted(expr, &mut tokens, fixup.context())?;
     Ok((tokens, visits))
+}
+
+/// The text of an expression in a position: that of the tokens which `print_expr` puts there. `(a + b) * c` gives
+/// `"(a + b) * c"`, whether or not the tree has the parentheses.
+///
+/// Memory may run out (`OutOfMemory`).
+pub fn expr_to_text(alloc: Global, expr: &Expr, position: Position) -> Result<String>
+    ensures text { IfOk result (λ s. IsTextOf (position_of position) (tree_of expr.now) (string_bytes s)) }
+    ensures memory { IfErr result (λ e. e.kind ≡ ErrorKind.OutOfMemory) }
+{
+    let printed = print_counted(alloc, expr, position.fixup())?;
+    to_text(&printed.0)
 }
 
 /// Where an expression is, and what may come after it there.
