@@ -3,22 +3,12 @@ use Rattle.std.proofs.Common.{◌≡◌, ℕ, false, List, [], ◌∷◌, refl, 
 use Rattle.std.proofs.lemmas.Result.{IfOk-weaker}
 use Rattle.std.specs.Prelude.{IfOk, String}
 use Rattle.std.specs.declared.alloc.Global.{Global}
-use Rattle.syn_tokens.specs.declared.error.Error.{Error}
-use Rattle.syn_lower_spec.specs.Tree.{AttributeTree}
-use Rattle.syn_expr_spec.specs.declared.kinds.Infix.TheVariants as inf
-use Rattle.syn_expr_spec.specs.Printed.{in_plain}
-use Rattle.syn_expr_spec.specs.Tree.{Tree, attributed_with, attributed, infixed}
-use Rattle.syn_expr_tokens.specs.View.{bin_kind}
-use Rattle.syn_expr_ast.specs.declared.operation.ExprBinaryOf.{ExprBinaryOf}
-use Rattle.syn_expr_ast.specs.Attrs.{attrs_of}
-use Rattle.syn_expr_core.specs.declared.expr.Expr.{Expr}
-use Rattle.syn_expr_core.specs.declared.expr.Expr.TheVariants as ex
-use Rattle.syn_expr_core.specs.View.{tree_of}
-use Rattle.syn_expr_core.proofs.TreeOf.{tree-Binary}
-use Rattle.syn_expr.specs.Promises.{IsTextOf}
+use Rattle.syn_expr.specs.Prelude.{Error, AttributeTree, in_plain, Tree, attributed_with, attributed, infixed, bin_kind, ExprBinaryOf, attrs_of, Expr, tree_of, IsTextOf, StandsFor}
+use Rattle.syn_expr.specs.Infix as inf
+use Rattle.syn_expr.specs.Expr as ex
+use Rattle.syn_expr.proofs.TreeOf.{tree-Binary}
 use Rattle.syn_expr.proofs.Binaries.{is_binary, no_binary}
 use Rattle.example.specs.Swapped.{swapped_tree, IsSwapped}
-use Rattle.syn_expr.specs.Texts.{StandsFor}
 
 -- ---- an operation
 

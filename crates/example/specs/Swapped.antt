@@ -1,10 +1,7 @@
 -- What becomes of a text: its expression with the operands swapped (Rust Reference, "Operator expressions").
 use Rattle.std.specs.Prelude.{ℕ, List}
-use Rattle.syn_expr_spec.specs.declared.kinds.Infix.TheVariants as inf
-use Rattle.syn_expr_spec.specs.Printed.{in_plain}
-use Rattle.syn_expr_spec.specs.Tree.{Tree, attributed, infixed}
-use Rattle.syn_expr.specs.Promises.{IsTextOf}
-use Rattle.syn_expr.specs.Texts.{StandsFor}
+use Rattle.syn_expr.specs.Infix as inf
+use Rattle.syn_expr.specs.Prelude.{in_plain, Tree, attributed, infixed, IsTextOf, StandsFor}
 
 -- An operation, after its attributes, has its operands swapped; anything else stays.
 abbrev pub swapped_tree : Tree → Tree

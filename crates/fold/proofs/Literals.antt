@@ -2,11 +2,8 @@
 use Rattle.std.proofs.Common.{◌≡◌, ℕ, Bool, true, false, ◌==◌, [], ◌∷◌, None, refl, arith}
 use Rattle.std.specs.Prelude.{if◌then◌else◌}
 use Rattle.std.proofs.lemmas.Grind.{common_steps}
-use Rattle.syn_tokens.specs.Tok.{literal}
-use Rattle.syn_lower_spec.specs.declared.label.LitKind.TheVariants as kind
-use Rattle.syn_lower_spec.specs.Own.{alone, lit_own}
-use Rattle.syn_lower_spec.specs.Pat.{index_of}
-use Rattle.syn_lower_spec.specs.Text.{Text, is_number}
+use Rattle.syn_expr.specs.Prelude.{literal, alone, lit_own, index_of, Text, is_number}
+use Rattle.syn_expr.specs.LitKind as kind
 use Rattle.fold.specs.Fold.{integer, token_value}
 
 no_number : (c : ℕ) (text : Text) → (c == 45) ≡ true → index_of (c ∷ text) ≡ None

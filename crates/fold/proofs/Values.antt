@@ -1,20 +1,10 @@
 -- The value of each kind, and that the others have none.
 use Rattle.std.proofs.Common.{◌≡◌, false, List, [], ◌∷◌, refl, ap, ◌∙◌, None}
 use Rattle.std.specs.Prelude.{option_and_then}
-use Rattle.syn_lower_spec.specs.Tree.{AttributeTree}
-use Rattle.syn_expr_spec.specs.declared.kinds.Infix.TheVariants as inf
-use Rattle.syn_expr_spec.specs.Tree.{Tree, attributed_with, attributed, leaf, lit, paren, prefixed, unary, infixed, none}
-use Rattle.syn_lower_leaves.specs.View.{lit_of}
-use Rattle.syn_expr_tokens.specs.View.{bin_kind, un_kind}
-use Rattle.syn_expr_ast.specs.declared.atom.ExprLit.{ExprLit}
-use Rattle.syn_expr_ast.specs.declared.atom.ExprParenOf.{ExprParenOf}
-use Rattle.syn_expr_ast.specs.declared.operation.ExprBinaryOf.{ExprBinaryOf}
-use Rattle.syn_expr_ast.specs.declared.operation.ExprUnaryOf.{ExprUnaryOf}
-use Rattle.syn_expr_ast.specs.Attrs.{attrs_of}
-use Rattle.syn_expr_core.specs.declared.expr.Expr.{Expr}
-use Rattle.syn_expr_core.specs.declared.expr.Expr.TheVariants as ex
-use Rattle.syn_expr_core.specs.View.{tree_of}
-use Rattle.syn_expr_core.proofs.TreeOf.{tree-Lit, tree-Paren, tree-Unary, tree-Binary}
+use Rattle.syn_expr.specs.Prelude.{AttributeTree, Tree, attributed_with, attributed, leaf, lit, paren, prefixed, unary, infixed, none, lit_of, bin_kind, un_kind, ExprLit, ExprParenOf, ExprBinaryOf, ExprUnaryOf, attrs_of, Expr, tree_of}
+use Rattle.syn_expr.specs.Infix as inf
+use Rattle.syn_expr.specs.Expr as ex
+use Rattle.syn_expr.proofs.TreeOf.{tree-Lit, tree-Paren, tree-Unary, tree-Binary}
 use Rattle.syn_expr.proofs.OtherKinds.{kind_of, other, k-Lit, k-Paren, k-Unary, k-Binary, in-Lit, in-Paren, in-Unary, in-Binary}
 use Rattle.fold.specs.Fold.{literal_value, prefix_value, binary_value, combined, value_of}
 

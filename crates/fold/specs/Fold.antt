@@ -1,19 +1,11 @@
 -- The value of an expression of integers, as an `i64` (Rust Reference, "Integer literal expressions", "Grouped expressions",
 -- "Negation operators", "Arithmetic and Logical Binary Operators", "Overflow").
 use Rattle.std.specs.Prelude.{◌≡◌, ℕ, zero, ◌^◌, Bool, false, nat_lt, if◌then◌else◌, List, [], ◌∷◌, Option, Some, None, option_map, option_and_then, ℤ, pos, negsuc, ◌+ℤ◌, ◌-ℤ◌, ◌*ℤ◌, neg_ℤ, int_div, int_rem}
-use Rattle.syn_tokens.specs.Tok.{Tok, literal}
-use Rattle.syn_lower_spec.specs.declared.label.LitKind.{LitKind}
-use Rattle.syn_lower_spec.specs.declared.label.LitKind.TheVariants as kind
-use Rattle.syn_lower_spec.specs.Pat.{index_of}
-use Rattle.syn_lower_spec.specs.Text.{Text}
-use Rattle.syn_lower_spec.specs.Tree.{LitTree}
-use Rattle.syn_expr_spec.specs.declared.kinds.BinKind.{BinKind}
-use Rattle.syn_expr_spec.specs.declared.kinds.BinKind.TheVariants as bin
-use Rattle.syn_expr_spec.specs.declared.kinds.Infix.TheVariants as inf
-use Rattle.syn_expr_spec.specs.declared.kinds.UnKind.{UnKind}
-use Rattle.syn_expr_spec.specs.declared.kinds.UnKind.TheVariants as un
-use Rattle.syn_expr_spec.specs.Tree.{Tree, leaf, lit, paren, attributed, prefixed, unary, infixed}
-use Rattle.syn_expr.specs.Texts.{StandsFor}
+use Rattle.syn_expr.specs.Prelude.{Tok, literal, LitKind, index_of, Text, LitTree, BinKind, UnKind, Tree, leaf, lit, paren, attributed, prefixed, unary, infixed, StandsFor}
+use Rattle.syn_expr.specs.LitKind as kind
+use Rattle.syn_expr.specs.BinKind as bin
+use Rattle.syn_expr.specs.Infix as inf
+use Rattle.syn_expr.specs.UnKind as un
 
 -- ---- literals
 

@@ -2,11 +2,7 @@
 #![tactic(auto)]
 
 ghost use Rattle.std.specs.Prelude.{◌≡◌, ◌⊎◌, IfErr, IfOk, chars, option_and_then};
-ghost use Rattle.syn_tokens.specs.View.{toks_of};
-ghost use Rattle.syn_lower_leaves.specs.View.{lit_of};
-ghost use Rattle.syn_expr_tokens.specs.View.{bin_kind, un_kind};
-ghost use Rattle.syn_expr_core.specs.View.{tree_of};
-ghost use Rattle.syn_expr.specs.Texts.{NothingStands};
+ghost use Rattle.syn_expr.specs.Prelude.{toks_of, lit_of, bin_kind, un_kind, tree_of, NothingStands};
 ghost use Rattle.fold.specs.Fold as spec;
 
 use std::alloc::Global;

@@ -1,22 +1,13 @@
 -- What an operation compares, and that nothing else compares.
 use Rattle.std.proofs.Common.{◌≡◌, Bool, true, false, List, [], ◌∷◌, refl, ap, sym, subst, ◌∙◌}
-use Rattle.syn_lower_spec.specs.Tree.{AttributeTree}
-use Rattle.syn_expr_spec.specs.declared.kinds.Infix.TheVariants as inf
-use Rattle.syn_expr_spec.specs.declared.kinds.Level.TheVariants as lev
-use Rattle.syn_expr_spec.specs.Op.{binary_level}
-use Rattle.syn_expr_spec.specs.Tree.{Tree, attributed_with, attributed, infixed}
-use Rattle.syn_expr_tokens.specs.View.{bin_kind}
-use Rattle.syn_expr_ast.specs.declared.operation.ExprBinaryOf.{ExprBinaryOf}
-use Rattle.syn_expr_ast.specs.Attrs.{attrs_of}
-use Rattle.syn_expr_core.specs.declared.expr.Expr.{Expr}
-use Rattle.syn_expr_core.specs.declared.expr.Expr.TheVariants as ex
-use Rattle.syn_expr_core.specs.View.{tree_of}
-use Rattle.syn_expr_core.proofs.TreeOf.{tree-Binary}
+use Rattle.syn_expr.specs.Prelude.{AttributeTree, binary_level, Tree, attributed_with, attributed, infixed, bin_kind, ExprBinaryOf, attrs_of, Expr, tree_of, level_of, IsEqualityOf}
+use Rattle.syn_expr.specs.Infix as inf
+use Rattle.syn_expr.specs.Level as lev
+use Rattle.syn_expr.specs.Expr as ex
+use Rattle.syn_expr.proofs.TreeOf.{tree-Binary}
 use Rattle.syn_expr.specs.declared.precedence.Precedence.{Precedence}
 use Rattle.syn_expr.specs.declared.precedence.Precedence.TheVariants as prec
-use Rattle.syn_expr.specs.Levels.{level_of}
 use Rattle.syn_expr.proofs.Binaries.{is_binary, no_binary}
-use Rattle.syn_lower_spec.specs.Equal.{IsEqualityOf}
 use Rattle.lint.specs.Lint.{ComparesWithItself}
 
 -- ---- an operation

@@ -1,10 +1,8 @@
 -- Comparisons of a value with itself (Rust Reference, "Comparison operators").
 use Rattle.std.specs.Prelude.{◌≡◌, ◌↔◌, ℕ, Bool, true, List}
-use Rattle.syn_expr_spec.specs.declared.kinds.Infix.TheVariants as inf
-use Rattle.syn_expr_spec.specs.declared.kinds.Level.TheVariants as lev
-use Rattle.syn_expr_spec.specs.Op.{binary_level}
-use Rattle.syn_expr_spec.specs.Tree.{Tree, attributed, infixed}
-use Rattle.syn_expr.specs.Texts.{StandsFor}
+use Rattle.syn_expr.specs.Infix as inf
+use Rattle.syn_expr.specs.Level as lev
+use Rattle.syn_expr.specs.Prelude.{binary_level, Tree, attributed, infixed, StandsFor}
 
 -- After its attributes it is a comparison, and the same is on both sides.
 abbrev pub ComparesWithItself : Tree → Type 0

@@ -2,9 +2,8 @@
 #![tactic(auto)]
 
 ghost use Rattle.std.specs.Prelude.{◌≡◌, ◌⊎◌, IfErr, IfOk, chars, true};
-ghost use Rattle.syn_expr_core.specs.View.{tree_of};
+ghost use Rattle.syn_expr.specs.Prelude.{tree_of, NothingStands};
 ghost use Rattle.lint.specs.Lint.{ComparesWithItself, IsVerdictOn};
-ghost use Rattle.syn_expr.specs.Texts.{NothingStands};
 
 use std::alloc::Global;
 use std::io;

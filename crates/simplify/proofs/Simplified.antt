@@ -3,20 +3,11 @@ use Rattle.std.proofs.Common.{◌≡◌, ℕ, Bool, true, false, ◌&&◌, ◌==
 use Rattle.std.proofs.lemmas.Result.{IfOk-weaker}
 use Rattle.std.specs.Prelude.{IfOk, String}
 use Rattle.std.specs.declared.alloc.Global.{Global}
-use Rattle.syn_tokens.specs.declared.error.Error.{Error}
-use Rattle.syn_lower_leaves.specs.declared.attr.Attribute.{Attribute}
-use Rattle.syn_lower_leaves.specs.View.{attribute_of}
-use Rattle.syn_expr_spec.specs.declared.kinds.BinKind.{BinKind}
-use Rattle.syn_expr_spec.specs.declared.kinds.BinKind.TheVariants as bin
-use Rattle.syn_expr_spec.specs.declared.kinds.Infix.TheVariants as inf
-use Rattle.syn_expr_spec.specs.declared.kinds.UnKind.{UnKind}
-use Rattle.syn_expr_spec.specs.declared.kinds.UnKind.TheVariants as un
-use Rattle.syn_expr_spec.specs.Tree.{Tree, attributed_with, prefixed, unary, infixed, none}
-use Rattle.syn_expr_spec.specs.Printed.{in_plain}
-use Rattle.syn_expr_flatten.specs.Flat.{IsFlat}
+use Rattle.syn_expr.specs.Prelude.{Error, Attribute, attribute_of, BinKind, UnKind, Tree, attributed_with, prefixed, unary, infixed, none, in_plain, IsFlat, IsTextOf, StandsFor}
+use Rattle.syn_expr.specs.BinKind as bin
+use Rattle.syn_expr.specs.Infix as inf
+use Rattle.syn_expr.specs.UnKind as un
 use Rattle.syn_visit_kinds.specs.Nodes.{rewrite_tree}
-use Rattle.syn_expr.specs.Promises.{IsTextOf}
-use Rattle.syn_expr.specs.Texts.{StandsFor}
 use Rattle.syn_expr.proofs.OtherKinds.{kind_of, k-Binary, k-Unary}
 use Rattle.simplify.specs.Simplified.{IsSimplified, simplified, is_eq, is_not}
 

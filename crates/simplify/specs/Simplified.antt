@@ -1,15 +1,9 @@
 -- Negated comparisons (Rust Reference, "Negation operators" and "Comparison operators").
 use Rattle.std.specs.Prelude.{ℕ, List, Bool, true, false}
-use Rattle.syn_expr_spec.specs.declared.kinds.BinKind.{BinKind}
-use Rattle.syn_expr_spec.specs.declared.kinds.BinKind.TheVariants as bin
-use Rattle.syn_expr_spec.specs.declared.kinds.Infix.TheVariants as inf
-use Rattle.syn_expr_spec.specs.declared.kinds.UnKind.{UnKind}
-use Rattle.syn_expr_spec.specs.declared.kinds.UnKind.TheVariants as un
-use Rattle.syn_expr_spec.specs.Printed.{in_plain}
-use Rattle.syn_expr_spec.specs.Tree.{Tree, prefixed, unary, infixed}
-use Rattle.syn_expr_flatten.specs.Flat.{IsFlat}
-use Rattle.syn_expr.specs.Promises.{IsTextOf}
-use Rattle.syn_expr.specs.Texts.{StandsFor}
+use Rattle.syn_expr.specs.Prelude.{BinKind, UnKind, in_plain, Tree, prefixed, unary, infixed, IsFlat, IsTextOf, StandsFor}
+use Rattle.syn_expr.specs.BinKind as bin
+use Rattle.syn_expr.specs.Infix as inf
+use Rattle.syn_expr.specs.UnKind as un
 use Rattle.syn_visit_kinds.specs.Nodes.{rewrite_tree}
 
 -- `!(a == b)` without its parentheses becomes `a != b`. Anything else stays.

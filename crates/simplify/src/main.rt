@@ -2,21 +2,19 @@
 #![tactic(auto)]
 
 ghost use Rattle.std.specs.Prelude.{◌≡◌, ◌⊎◌, ◌&&◌, ◌==◌, IfErr, IfOk, chars, length, string_bytes};
-ghost use Rattle.syn_expr_core.specs.View.{tree_of};
-ghost use Rattle.syn_expr_tokens.specs.View.{bin_kind, un_kind};
+ghost use Rattle.syn_expr.specs.Prelude.{tree_of, bin_kind, un_kind, NothingStands};
 ghost use Rattle.simplify.specs.Simplified as spec;
 ghost use Rattle.simplify.specs.Simplified.{IsSimplified, simplified};
-ghost use Rattle.syn_expr.specs.Texts.{NothingStands};
 
 use std::alloc::Global;
 use std::io;
 use std::mem::replace;
 use syn_expr::op::{BinOp, UnOp};
+use syn_expr::token::Ne;
 use syn_expr::{
     Attribute, ErrorKind, Expr, ExprBinary, HeldExpr, Position, Result, expr_to_text,
     flatten_in_place, parse_str,
 };
-use syn_tokens::token::Ne;
 use syn_visit::rewrite;
 
 /// Whether it is `==`.

@@ -1,4 +1,4 @@
-use Rattle.syn_expr_core.specs.declared.expr.Expr.TheVariants as ex
+use Rattle.syn_expr.specs.Expr as ex
 use Rattle.example.proofs.Operands.{exchanged, left_alone}
 use Rattle.example.proofs.swap_operands.Goals as goal
 
