@@ -1,0 +1,58 @@
+-- The trees of expressions, and the views of patterns and arms, that are held.
+use Rattle.std.specs.Prelude.{◌≡◌, Bool, true, false, List, [], ◌∷◌, chars, Option, Some, None}
+use Rattle.std.specs.declared.alloc.Global.{Global}
+use Rattle.std.specs.declared.boxed.Box.{Box}
+use Rattle.syn_lower_spec.specs.Tree.{default}
+use Rattle.syn_lower_spec.specs.Pat.{PatTree}
+use Rattle.syn_lower_spec.specs.Text.{Text}
+use Rattle.syn_lower_spec.specs.declared.label.LitKind.{LitKind}
+use Rattle.syn_expr_spec.specs.Tree.{Tree, ClosureHead, leaf, lit}
+use Rattle.syn_pat.specs.View.{PatView}
+use Rattle.syn_expr_ast.specs.Pats.{ArmView}
+use Rattle.syn_expr_parse.specs.declared.known.Held.{Held}
+
+-- the tree of the expression that is held
+abbrev pub tree_in : {H E : Type 0} → (E → Tree) → (H → E) → H → Tree
+tree_in tree held x = tree (held x)
+
+-- the view of the pattern or the arm that is held
+abbrev pub view_in : {T V : Type 0} → (T → V) → Held T → V
+view_in view x = view x.value
+
+-- the same of a part in its box, if it is there
+abbrev pub boxed_or : {T V : Type 0} → (T → V) → Option (Held (Box T Global)) → Option V
+boxed_or view None = None
+boxed_or view (Some x) = Some (view x.value.value)
+
+-- whether a list is of one alone: a tuple of one has a comma after it (Rust Reference, "Tuple expressions")
+abbrev pub is_one : {A : Type 0} → List A → Bool
+is_one [] = false
+is_one (x ∷ []) = true
+is_one (x ∷ y ∷ more) = false
+
+-- a literal of this kind, whose text has these characters
+abbrev pub IsLit : LitKind → Text → Tree → Type 0
+IsLit kind cs (leaf (lit x)) = (x.kind ≡ kind) × (chars x.text ≡ cs)
+IsLit kind cs _ = ⊥
+
+-- a pattern, and the guards that are beside it
+abbrev pub pat_view : PatTree → List Tree → PatView
+pat_view p guards = record { tree = p; guards = guards }
+
+-- an arm without attributes and without a comma
+abbrev pub arm_view : PatView → Tree → ArmView
+arm_view p body = record { attrs = []; pat = p; body = body; comma = false }
+
+-- the head of a closure with these arguments, which has no words but `move`, and no type of its value
+abbrev pub closure_head : Bool → List PatTree → ClosureHead
+closure_head is_move inputs = record {
+  lifetimes = None;
+  constness = false;
+  movability = false;
+  asyncness = false;
+  capture = is_move;
+  usage = false;
+  inputs = inputs;
+  trailing = false;
+  output = default;
+}
