@@ -1,0 +1,5 @@
+mod Counts
+mod Files
+pub mod KindLaws
+mod Lines
+pub mod Parts

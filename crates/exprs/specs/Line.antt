@@ -1,0 +1,27 @@
+-- What is printed for an expression.
+use Rattle.std.specs.Prelude.{◌≡◌, ℕ, Bool, true, false, List, [], ◌∷◌, ◌++◌}
+use Rattle.syn_tokens.specs.Tok.{Tok}
+use Rattle.syn_tokens.specs.Text.{text}
+pub use Rattle.syn_expr_spec.specs.Printed.{Position}
+use Rattle.syn_expr_spec.specs.Tree.{Tree, flatten}
+use Rattle.syn_expr.specs.Promises.{PrintedAs}
+use Rattle.syn_expr.specs.Texts.{StandsFor}
+use Rattle.exprs.specs.Kinds.{kind_of}
+
+-- the tree that is printed of one: with `bare` the same without its parentheses
+abbrev pub meant : Bool → Tree → Tree
+meant false t = t
+meant true t = flatten t
+
+-- the tokens that are promised of a tree where it is printed in the position, and a newline after them
+abbrev pub IsPrinted : Position → Tree → List ℕ → Type 0
+IsPrinted s t bytes = (ts : List Tok) × PrintedAs s t ts × (bytes ≡ text ts ++ 10 ∷ [])
+
+-- The same, unless the tree is shown: of what is written then nothing is promised.
+abbrev pub IsLineOf : Bool → Position → Tree → List ℕ → Type 0
+IsLineOf false s t bytes = IsPrinted s t bytes
+IsLineOf true s t bytes = Unit {0}
+
+-- A tree of this kind stands for the text, and this is its line: that of the tree, or of it without its parentheses.
+abbrev pub IsLine : Bool → Position → Bool → List ℕ → ℕ → List ℕ → Type 0
+IsLine dump s bare cs kind bytes = (t : Tree) × StandsFor cs t × (kind ≡ kind_of t) × IsLineOf dump s (meant bare t) bytes

@@ -1,0 +1,87 @@
+//! What is answered for one expression.
+
+ghost use Rattle.std.specs.Prelude.{◌≡◌, ◌⊎◌, IfErr, IfOk, chars, string_bytes};
+ghost use Rattle.exprs.specs.Line as spec;
+ghost use Rattle.syn_expr.specs.Texts.{position_of, NothingStands};
+ghost use Rattle.syn_expr.specs.Promises.{PrintedAs};
+ghost use Rattle.syn_expr_core.specs.View.{tree_of};
+
+use crate::args::Settings;
+use crate::kinds::kind_of;
+use std::alloc::Global;
+use syn_expr::print::print_counted;
+use syn_expr::{
+    Error, ErrorKind, Expr, HeldExpr, Position, Result, TokenStream, flatten_in_place, parse_str,
+    to_text,
+};
+
+/// Makes of an expression that was read what is printed of it: with `bare` it loses its parentheses.
+fn prepare(bare: bool, expr: &mut Expr) -> Result<()>
+    ensures tree { IfOk result (λ _. tree_of expr.new ≡ spec.meant bare (tree_of expr.old)) }
+    ensures refused { IfErr result (λ e. e.kind ≡ ErrorKind.OutOfMemory) }
+{
+    if bare {
+        flatten_in_place(expr)?;
+    }
+    Ok(())
+}
+
+/// The tokens of the printed expression.
+fn tokens_of(alloc: Global, position: Position, expr: &Expr) -> Result<TokenStream>
+    ensures value { IfOk result (λ ts. PrintedAs (position_of position) (tree_of expr.now) ts) }
+    ensures refused { IfErr result (λ e. e.kind ≡ ErrorKind.OutOfMemory) }
+{
+    let (tokens, _) = print_counted(alloc, expr, position.fixup())?;
+    Ok(tokens)
+}
+
+/// The line of the printed expression, with its newline.
+fn printed(alloc: Global, position: Position, expr: &Expr) -> Result<String>
+    ensures value { IfOk result (λ s. spec.IsPrinted (position_of position) (tree_of expr.now) (string_bytes s)) }
+    ensures refused { IfErr result (λ e. e.kind ≡ ErrorKind.OutOfMemory) }
+{
+    let tokens = tokens_of(alloc, position, expr)?;
+    let mut line = to_text(&tokens)?;
+    line.push('\n')?;
+    Ok(line)
+}
+
+/// The tree of an expression as `Debug` shows it, on a line.
+fn dumped(alloc: Global, expr: &Expr) -> Result<String>
+    ensures refused { IfErr result (λ e. e.kind ≡ ErrorKind.OutOfMemory) }
+{
+    Ok(format!(in alloc; "{expr:?}\n")?)
+}
+
+/// The line of an expression.
+fn line_of(alloc: Global, settings: Settings, expr: &Expr) -> Result<String>
+    ensures value { IfOk result (λ s. spec.IsLineOf settings.dump (position_of settings.position) (tree_of expr.now) (string_bytes s)) }
+    ensures refused { IfErr result (λ e. e.kind ≡ ErrorKind.OutOfMemory) }
+{
+    if settings.dump {
+        dumped(alloc, expr)
+    } else {
+        printed(alloc, settings.position, expr)
+    }
+}
+
+/// An expression that was read.
+#[derive(Drop)]
+pub struct Answer {
+    /// The number of its kind.
+    pub kind: usize,
+    /// Its line, with its newline.
+    pub line: String,
+}
+
+/// The answer for an expression.
+pub fn answer_of(alloc: Global, settings: Settings, text: &str) -> Result<Answer>
+    ensures value { IfOk result (λ a. spec.IsLine settings.dump (position_of settings.position) settings.bare (chars text.now) a.kind (string_bytes a.line)) }
+    ensures refused { IfErr result (λ e. (e.kind ≡ ErrorKind.OutOfMemory) ⊎ NothingStands (chars text.now)) }
+{
+    let mut held = parse_str::<HeldExpr>(alloc, text)?;
+    let kind = kind_of(&held.expr);
+    prepare(settings.bare, &mut held.expr)?;
+    let line = line_of(alloc, settings, &held.expr)?;
+    Ok(Answer { kind, line })
+}
