@@ -2,7 +2,10 @@
 use Rattle.std.proofs.Common.{◌≡◌, ℕ, Bool, true, false, ◌==◌, [], ◌∷◌, None, refl, arith}
 use Rattle.std.specs.Prelude.{if◌then◌else◌}
 use Rattle.std.proofs.lemmas.Grind.{common_steps}
-use Rattle.syn_expr.specs.Prelude.{literal, alone, lit_own, index_of, Text, is_number}
+use Rattle.syn_lower_spec.specs.Own.{lit_own}
+use Rattle.syn_lower_spec.specs.Pat.{index_of}
+use Rattle.syn_lower_spec.specs.Text.{is_number}
+use Rattle.syn_expr.specs.Prelude.{literal, alone, Text}
 use Rattle.syn_expr.specs.LitKind as kind
 use Rattle.fold.specs.Fold.{integer, token_value}
 

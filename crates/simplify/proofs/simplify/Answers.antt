@@ -1,5 +1,5 @@
 use Rattle.std.proofs.Common.{◌≡◌, true, ap, sym, ◌∙◌}
-use Rattle.syn_expr.specs.Prelude.{tree_of}
+use Rattle.syn_expr_core.specs.View.{tree_of}
 use Rattle.simplify.specs.Simplified.{is_equality, is_negated_equality, unequal}
 use Rattle.simplify.proofs.Simplified.{both, neither, inner}
 use Rattle.simplify.proofs.simplify.Goals as goal
