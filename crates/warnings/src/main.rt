@@ -108,7 +108,8 @@ fn main(rt: HostRuntime) -> io::Result<()> {
         match warnings(rt.alloc(), text) {
             Ok(found) => {
                 for (warning, span) in &found {
-                    let LineColumn { line, column } = LineColumn::of(text, span.lo);
+                    let at = LineColumn::of(text, span.lo);
+                    let (line, column) = (at.line, at.column.saturating_add(1));
                     let message = match warning {
                         Warning::ClonedTwice => "a clone is cloned",
                         Warning::ReturnInClosure => "there is a `return` in a closure",
