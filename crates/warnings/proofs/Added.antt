@@ -10,7 +10,7 @@ use Rattle.syn_tokens.specs.declared.error.ErrorKind.TheVariants.{OutOfMemory}
 use Rattle.syn_visit_kinds.specs.Walk.{Walk, ended, refused, went, Saw, Shown}
 use Rattle.syn_visit_kinds.proofs.Walk.{shown_known}
 
--- more is added to what is seen of the state, or the answer is an error as N has it
+-- `more` is added at the end of the list that `seen` shows of the state, or the answer is an error that meets N
 abbrev pub Adds : {S K R : Type 0} → (S → List K) → (R → Type 0) → List K → S → Result (Unit {0}) R → S → Type 0
 Adds seen N more s r z = MatchResult r (λ _. seen z ≡ seen s ++ more) N
 

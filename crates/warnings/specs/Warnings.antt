@@ -23,7 +23,7 @@ is_clone _ = false
 abbrev pub is_cloned_twice : Tree → Bool
 is_cloned_twice t = behind_attributes is_clone t && list_any (behind_attributes is_clone) (operands_in t)
 
--- a closure of which some node is a `return`
+-- a closure with a `return` anywhere in it, as `|x| if x { return 1 } else { 2 }`
 abbrev pub returns_in_closure : Tree → Bool
 returns_in_closure t = behind_attributes is_closure t && list_any (behind_attributes is_return) (all_nodes t)
 
