@@ -1,28 +1,22 @@
--- The trees of expressions, and the views of patterns and arms, that are held.
-use Rattle.std.specs.Prelude.{◌≡◌, Bool, true, false, List, [], ◌∷◌, chars, Option, Some, None}
-use Rattle.std.specs.declared.alloc.Global.{Global}
-use Rattle.std.specs.declared.boxed.Box.{Box}
+-- The trees of expressions, and the views of patterns, arms and fields, that are held.
+use Rattle.std.specs.Prelude.{◌≡◌, Bool, true, false, List, [], ◌∷◌, chars, None}
 use Rattle.syn_lower_spec.specs.Tree.{default}
-use Rattle.syn_lower_spec.specs.Pat.{PatTree}
+use Rattle.syn_lower_spec.specs.Pat.{MemberTree, PatTree}
 use Rattle.syn_lower_spec.specs.Text.{Text}
 use Rattle.syn_lower_spec.specs.declared.label.LitKind.{LitKind}
 use Rattle.syn_expr_spec.specs.Tree.{Tree, ClosureHead, leaf, lit}
 use Rattle.syn_pat.specs.View.{PatView}
 use Rattle.syn_expr_ast.specs.Pats.{ArmView}
+use Rattle.syn_expr_ast.specs.View.{FieldView}
 use Rattle.syn_expr_parse.specs.declared.known.Held.{Held}
 
 -- the tree of the expression that is held
 abbrev pub tree_in : {H E : Type 0} → (E → Tree) → (H → E) → H → Tree
 tree_in tree held x = tree (held x)
 
--- the view of the pattern or the arm that is held
+-- the view of the pattern, the arm or the field that is held
 abbrev pub view_in : {T V : Type 0} → (T → V) → Held T → V
 view_in view x = view x.value
-
--- the same of a part in its box, if it is there
-abbrev pub boxed_or : {T V : Type 0} → (T → V) → Option (Held (Box T Global)) → Option V
-boxed_or view None = None
-boxed_or view (Some x) = Some (view x.value.value)
 
 -- whether a list is of one alone: a tuple of one has a comma after it (Rust Reference, "Tuple expressions")
 abbrev pub is_one : {A : Type 0} → List A → Bool
@@ -42,6 +36,10 @@ pat_view p guards = record { tree = p; guards = guards }
 -- an arm without attributes and without a comma
 abbrev pub arm_view : PatView → Tree → ArmView
 arm_view p body = record { attrs = []; pat = p; body = body; comma = false }
+
+-- a field with a colon, without attributes
+abbrev pub field_view : MemberTree → Tree → FieldView
+field_view member value = record { attrs = []; member = member; colon = true; value = value }
 
 -- the head of a closure with these arguments, which has no words but `move`, and no type of its value
 abbrev pub closure_head : Bool → List PatTree → ClosureHead

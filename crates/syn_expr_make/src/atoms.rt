@@ -1,5 +1,5 @@
 //! Paths, macros, and what is in delimiters.
-#![tactic(auto, unfolding(syn_expr_ast::specs::Attrs::attrs_of))]
+#![tactic(auto, using(crate::proofs::Lists::maps), unfolding(syn_expr_ast::specs::Attrs::attrs_of))]
 
 ghost use Rattle.std.specs.Prelude.{◌≡◌, ◌⊎◌, false, chars, IfErr, IfOk, map};
 ghost use Rattle.syn_expr_ast.specs.View.{elements};

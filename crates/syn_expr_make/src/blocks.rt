@@ -3,7 +3,7 @@
 
 ghost use Rattle.std.specs.Prelude.{◌≡◌, [], IfErr, IfOk, None, option_map};
 ghost use Rattle.syn_expr_ast.specs.View.{else_of, option_child};
-ghost use Rattle.syn_expr_make.specs.Held.{boxed_or, tree_in};
+ghost use Rattle.syn_expr_make.specs.Held.{tree_in};
 ghost use Rattle.syn_expr_spec.specs.Tree as e;
 
 use crate::operand::{operand, operand_or_none};
@@ -32,7 +32,7 @@ fn braces(stmts: TokenStream) -> Block
 
 /// `else` and what comes after it, if that is there.
 fn else_or_none<E: HasExprTree + LetGo>(operand: Option<Held<Box<E>>>) -> Option<(Else, Box<E>)>
-    ensures { else_of E.tree result ≡ option_child e.chained (boxed_or E.tree operand) }
+    ensures { else_of E.tree result ≡ option_child e.chained (option_map (λ b. E.tree b.value.value) operand) }
 {
     match operand {
         None => None,

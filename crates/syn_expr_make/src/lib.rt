@@ -3,7 +3,7 @@
 //! where it then has parentheses, is the printer's.
 //!
 //! They are generic in the type that holds an expression and drops it: they take and give values of that type, and a
-//! program puts `HeldExpr` in. Patterns and arms are held as `Held`, and lists are vectors. A maker that takes memory is
+//! program puts `HeldExpr` in. Patterns, arms and fields are held as `Held`, and lists are vectors. A maker that takes memory is
 //! refused where there is none, one that takes a name also where this is no identifier, and one of a literal where the text
 //! is none. What it was given is then dropped.
 #![tactic(auto)]
@@ -16,6 +16,7 @@ mod literals;
 mod operand;
 mod operations;
 mod patterns;
+mod structs;
 mod trailers;
 mod words;
 
@@ -30,5 +31,6 @@ pub use patterns::{
     ArmIn, PatIn, arm, closure, for_loop, guarded, ident_pat, let_expr, match_expr,
     tuple_struct_pat, wild_pat,
 };
+pub use structs::{field_value, struct_expr};
 pub use syn_expr_parse::known::{Held, HoldsExpr};
 pub use trailers::{await_expr, call, field, index, method_call, try_expr};

@@ -1,49 +1,61 @@
-//! Lists of expressions, patterns and arms.
+//! Lists of expressions, and of parts that are held.
 
-ghost use Rattle.std.specs.Prelude.{◌≡◌, false, map, IfErr, IfOk};
+ghost use Rattle.std.specs.Prelude.{◌≡◌, false, length, map, IfErr, IfOk};
 ghost use Rattle.syn_expr_ast.specs.View.{trails, values};
-ghost use Rattle.syn_expr_make.specs.Held.{is_one, tree_in, view_in};
+ghost use Rattle.syn_expr_make.specs.Held.{is_one};
 ghost use Rattle.syn_lower_leaves.specs.View.{is_some_pair};
 
-use crate::operand::{box_or_none, operand_or_none, pat_box_or_none, pat_or_none};
+use crate::operand::{box_or_none, in_box_or_none};
 use std::alloc::Global;
-use syn_expr_ast::alone::HasArmView;
 use syn_expr_parse::known::{Held, HoldsExpr, LetGo};
 use syn_lower::punctuated::Punctuated;
-use syn_pat::kinds::HasPatTree;
 use syn_tokens::error::{ErrorKind, Result};
 use syn_tokens::token::Comma;
 
-/// The expressions of a list, a comma after each. No memory is taken once there are expressions in it.
-fn each_with_comma<H: HoldsExpr + Drop>(
-    alloc: Global,
-    exprs: Vec<H>,
-) -> Result<Vec<(H::Expr, Comma)>>
-    ensures made { IfOk result (λ v. map (λ p. H.Expr.tree p.0) v.items ≡ map (tree_in H.Expr.tree H.held) exprs.items) }
+/// What is made of each value of a list. No memory is taken once something was made.
+fn each<S: Drop, T, F: Fn(S) -> T>(alloc: Global, all: Vec<S>, make: &F) -> Result<Vec<T>>
+    requires { F.IsAlwaysCallable make.now }
+    ensures made { IfOk result (λ v. (of : S → T) → ((x : S) (y : T) → F.post make.now x y → y ≡ of x) → v.items ≡ map of all.items) }
+    ensures len { IfOk result (λ v. length v.items ≡ length all.items) }
     ensures memory { IfErr result (λ x. x.kind ≡ ErrorKind.OutOfMemory) }
 {
-    let mut pairs = Vec::with_capacity(alloc, exprs.len())?;
-    for expr in exprs {
-        pairs.push_reserved((expr.into_expr(), Comma::default()));
+    let mut made = Vec::with_capacity(alloc, all.len())?;
+    for value in all {
+        made.push_reserved(make(value));
     }
-    Ok(pairs)
+    Ok(made)
+}
+
+/// What is made of each value of a list, with commas between.
+fn separated_by<S: Drop, T: LetGo, F: Fn(S) -> T>(
+    alloc: Global,
+    mut all: Vec<S>,
+    make: &F,
+) -> Result<Punctuated<T, Comma>>
+    requires { F.IsAlwaysCallable make.now }
+    ensures values { IfOk result (λ p. (of : S → T) → ((x : S) (y : T) → F.post make.now x y → y ≡ of x) → values p ≡ map of all.items) }
+    ensures trails { IfOk result (λ p. trails p ≡ false) }
+    ensures memory { IfErr result (λ x. x.kind ≡ ErrorKind.OutOfMemory) }
+{
+    let comma = Comma::default();
+    let last = in_box_or_none(alloc, all.pop().map(|value| make(value)))?;
+    let inner = each(alloc, all, &|value: S| (make(value), comma))?;
+    Ok(Punctuated {
+        inner,
+        last: box_or_none(last),
+    })
 }
 
 /// Expressions with commas between.
 pub(crate) fn separated<H: HoldsExpr + Drop>(
     alloc: Global,
-    mut exprs: Vec<H>,
+    exprs: Vec<H>,
 ) -> Result<Punctuated<H::Expr, Comma>>
-    ensures values { IfOk result (λ p. map H.Expr.tree (values p) ≡ map (tree_in H.Expr.tree H.held) exprs.items) }
+    ensures values { IfOk result (λ p. values p ≡ map H.held exprs.items) }
     ensures trails { IfOk result (λ p. trails p ≡ false) }
     ensures memory { IfErr result (λ x. x.kind ≡ ErrorKind.OutOfMemory) }
 {
-    let last = operand_or_none(alloc, exprs.pop())?;
-    let inner = each_with_comma(alloc, exprs)?;
-    Ok(Punctuated {
-        inner,
-        last: box_or_none(last),
-    })
+    separated_by(alloc, exprs, &|expr: H| expr.into_expr())
 }
 
 /// Expressions with a comma after each.
@@ -51,11 +63,12 @@ fn terminated<H: HoldsExpr + Drop>(
     alloc: Global,
     exprs: Vec<H>,
 ) -> Result<Punctuated<H::Expr, Comma>>
-    ensures values { IfOk result (λ p. map H.Expr.tree (values p) ≡ map (tree_in H.Expr.tree H.held) exprs.items) }
+    ensures values { IfOk result (λ p. values p ≡ map H.held exprs.items) }
     ensures trails { IfOk result (λ p. trails p ≡ is_some_pair exprs.items) }
     ensures memory { IfErr result (λ x. x.kind ≡ ErrorKind.OutOfMemory) }
 {
-    let inner = each_with_comma(alloc, exprs)?;
+    let comma = Comma::default();
+    let inner = each(alloc, exprs, &|expr: H| (expr.into_expr(), comma))?;
     Ok(Punctuated { inner, last: None })
 }
 
@@ -64,7 +77,7 @@ pub(crate) fn with_comma_if_one<H: HoldsExpr + Drop>(
     alloc: Global,
     exprs: Vec<H>,
 ) -> Result<Punctuated<H::Expr, Comma>>
-    ensures values { IfOk result (λ p. map H.Expr.tree (values p) ≡ map (tree_in H.Expr.tree H.held) exprs.items) }
+    ensures values { IfOk result (λ p. values p ≡ map H.held exprs.items) }
     ensures trails { IfOk result (λ p. trails p ≡ is_one exprs.items) }
     ensures memory { IfErr result (λ x. x.kind ≡ ErrorKind.OutOfMemory) }
 {
@@ -75,46 +88,22 @@ pub(crate) fn with_comma_if_one<H: HoldsExpr + Drop>(
     }
 }
 
-/// The patterns of a list, a comma after each. No memory is taken once there are patterns in it.
-fn pats_with_comma<P: HasPatTree + LetGo>(
+/// Parts with commas between.
+pub(crate) fn separated_parts<T: LetGo>(
     alloc: Global,
-    pats: Vec<Held<P>>,
-) -> Result<Vec<(P, Comma)>>
-    ensures made { IfOk result (λ v. map (λ p. P.view p.0) v.items ≡ map (view_in P.view) pats.items) }
-    ensures memory { IfErr result (λ x. x.kind ≡ ErrorKind.OutOfMemory) }
-{
-    let mut pairs = Vec::with_capacity(alloc, pats.len())?;
-    for pat in pats {
-        pairs.push_reserved((pat.into_inner(), Comma::default()));
-    }
-    Ok(pairs)
-}
-
-/// Patterns with commas between.
-pub(crate) fn separated_pats<P: HasPatTree + LetGo>(
-    alloc: Global,
-    mut pats: Vec<Held<P>>,
-) -> Result<Punctuated<P, Comma>>
-    ensures values { IfOk result (λ p. map P.view (values p) ≡ map (view_in P.view) pats.items) }
+    parts: Vec<Held<T>>,
+) -> Result<Punctuated<T, Comma>>
+    ensures values { IfOk result (λ p. values p ≡ map (λ x. x.value) parts.items) }
     ensures trails { IfOk result (λ p. trails p ≡ false) }
     ensures memory { IfErr result (λ x. x.kind ≡ ErrorKind.OutOfMemory) }
 {
-    let last = pat_or_none(alloc, pats.pop())?;
-    let inner = pats_with_comma(alloc, pats)?;
-    Ok(Punctuated {
-        inner,
-        last: pat_box_or_none(last),
-    })
+    separated_by(alloc, parts, &Held::into_inner)
 }
 
-/// The arms of a list. No memory is taken once there are arms in it.
-pub(crate) fn all_arms<A: HasArmView + LetGo>(alloc: Global, arms: Vec<Held<A>>) -> Result<Vec<A>>
-    ensures made { IfOk result (λ v. map A.view v.items ≡ map (view_in A.view) arms.items) }
+/// Parts without commas.
+pub(crate) fn all_parts<T: LetGo>(alloc: Global, parts: Vec<Held<T>>) -> Result<Vec<T>>
+    ensures made { IfOk result (λ v. v.items ≡ map (λ x. x.value) parts.items) }
     ensures memory { IfErr result (λ x. x.kind ≡ ErrorKind.OutOfMemory) }
 {
-    let mut all = Vec::with_capacity(alloc, arms.len())?;
-    for arm in arms {
-        all.push_reserved(arm.into_inner());
-    }
-    Ok(all)
+    each(alloc, parts, &Held::into_inner)
 }

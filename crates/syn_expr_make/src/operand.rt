@@ -1,13 +1,9 @@
-//! Operands and patterns in boxes.
+//! Operands and other parts in boxes.
 
 ghost use Rattle.std.specs.Prelude.{◌≡◌, IfErr, IfOk, option_map};
-ghost use Rattle.syn_expr_ast.specs.View.{boxed};
-ghost use Rattle.syn_expr_make.specs.Held.{boxed_or, tree_in, view_in};
 
 use std::alloc::{AllocError, Global};
-use syn_expr_ast::alone::HasExprTree;
 use syn_expr_parse::known::{Held, HoldsExpr, LetGo, given_up};
-use syn_pat::kinds::HasPatTree;
 use syn_tokens::error::{Error, ErrorKind, Result};
 
 /// The value in a box of its own.
@@ -18,6 +14,20 @@ pub(crate) fn in_box<T: LetGo>(alloc: Global, value: T) -> Result<Held<Box<T>>>
     match Box::new(alloc, value) {
         Ok(value) => Ok(Held { value }),
         Err(failed) => Err(given_up(failed.value, Error::from(AllocError))),
+    }
+}
+
+/// The value in a box of its own, if it is there.
+pub(crate) fn in_box_or_none<T: LetGo>(
+    alloc: Global,
+    value: Option<T>,
+) -> Result<Option<Held<Box<T>>>>
+    ensures made { IfOk result (λ x. option_map (λ b. b.value.value) x ≡ value) }
+    ensures memory { IfErr result (λ x. x.kind ≡ ErrorKind.OutOfMemory) }
+{
+    match value {
+        None => Ok(None),
+        Some(value) => Ok(Some(in_box(alloc, value)?)),
     }
 }
 
@@ -34,45 +44,18 @@ pub(crate) fn operand_or_none<H: HoldsExpr>(
     alloc: Global,
     expr: Option<H>,
 ) -> Result<Option<Held<Box<H::Expr>>>>
-    ensures made { IfOk result (λ x. boxed_or H.Expr.tree x ≡ option_map (tree_in H.Expr.tree H.held) expr) }
+    ensures made { IfOk result (λ x. option_map (λ b. b.value.value) x ≡ option_map H.held expr) }
     ensures memory { IfErr result (λ x. x.kind ≡ ErrorKind.OutOfMemory) }
 {
-    match expr {
-        None => Ok(None),
-        Some(expr) => Ok(Some(operand(alloc, expr)?)),
-    }
+    in_box_or_none(alloc, expr.map(|expr| expr.into_expr()))
 }
 
-/// The box of an operand that may be there.
-pub(crate) fn box_or_none<E: HasExprTree + LetGo>(operand: Option<Held<Box<E>>>) -> Option<Box<E>>
-    ensures { boxed E.tree result ≡ boxed_or E.tree operand }
+/// The box of a part that may be there.
+pub(crate) fn box_or_none<T: LetGo>(part: Option<Held<Box<T>>>) -> Option<Box<T>>
+    ensures { option_map (λ b. b.value) result ≡ option_map (λ b. b.value.value) part }
 {
-    match operand {
+    match part {
         None => None,
-        Some(operand) => Some(operand.into_inner()),
-    }
-}
-
-/// The pattern in a box of its own, if it is there.
-pub(crate) fn pat_or_none<P: HasPatTree + LetGo>(
-    alloc: Global,
-    pat: Option<Held<P>>,
-) -> Result<Option<Held<Box<P>>>>
-    ensures made { IfOk result (λ x. boxed_or P.view x ≡ option_map (view_in P.view) pat) }
-    ensures memory { IfErr result (λ x. x.kind ≡ ErrorKind.OutOfMemory) }
-{
-    match pat {
-        None => Ok(None),
-        Some(pat) => Ok(Some(in_box(alloc, pat.into_inner())?)),
-    }
-}
-
-/// The box of a pattern that may be there.
-pub(crate) fn pat_box_or_none<P: HasPatTree + LetGo>(pat: Option<Held<Box<P>>>) -> Option<Box<P>>
-    ensures { boxed P.view result ≡ boxed_or P.view pat }
-{
-    match pat {
-        None => None,
-        Some(pat) => Some(pat.into_inner()),
+        Some(part) => Some(part.into_inner()),
     }
 }

@@ -1,5 +1,5 @@
 //! Patterns, and what holds both patterns and expressions.
-#![tactic(auto, unfolding(syn_expr_ast::specs::Attrs::attrs_of, syn_expr_ast::specs::Attrs::outer_of, syn_expr_ast::specs::Attrs::inner_of))]
+#![tactic(auto, using(crate::proofs::Lists::maps), unfolding(syn_expr_ast::specs::Attrs::attrs_of, syn_expr_ast::specs::Attrs::outer_of, syn_expr_ast::specs::Attrs::inner_of))]
 
 ghost use Rattle.std.specs.Prelude.{◌≡◌, ◌⊎◌, [], ◌∷◌, ◌++◌, false, chars, map, IfErr, IfOk, None};
 ghost use Rattle.syn_expr_ast.specs.Pats as pats;
@@ -9,7 +9,7 @@ ghost use Rattle.syn_lower.specs.View.{path_of, type_of};
 ghost use Rattle.syn_lower_spec.specs.Pat as p;
 ghost use Rattle.syn_tokens.specs.Lex.{IsIdentText};
 
-use crate::list::{all_arms, separated_pats};
+use crate::list::{all_parts, separated_parts};
 use crate::operand::{in_box, operand};
 use crate::words::move_if;
 use std::alloc::Global;
@@ -71,7 +71,7 @@ where
     ensures memory { IfErr result (λ x. x.kind ≡ ErrorKind.OutOfMemory) }
 {
     let body = operand(alloc, body)?;
-    let inputs = separated_pats(alloc, inputs)?;
+    let inputs = separated_parts(alloc, inputs)?;
     Ok(H::hold(H::Expr::closure(ExprClosureOf {
         attrs: Vec::new(alloc),
         lifetimes: None,
@@ -188,7 +188,7 @@ where
     ensures memory { IfErr result (λ x. x.kind ≡ ErrorKind.OutOfMemory) }
 {
     let expr = operand(alloc, expr)?;
-    let arms = all_arms(alloc, arms)?;
+    let arms = all_parts(alloc, arms)?;
     Ok(H::hold(H::Expr::match_expr(ExprMatchOf {
         attrs: Vec::new(alloc),
         match_token: Match::default(),
@@ -199,7 +199,6 @@ where
 }
 
 /// `A(p, q)`, the pattern of a tuple struct or of such a variant.
-#[tactic(auto, using(crate::proofs::Pats::pats_seen, crate::proofs::Pats::guards_seen))]
 pub fn tuple_struct_pat<P: IsPat + LetGo>(
     alloc: Global,
     path: Path,
@@ -208,7 +207,7 @@ pub fn tuple_struct_pat<P: IsPat + LetGo>(
     ensures made { let seen = map (view_in P.view) elems.items in IfOk result (λ x. P.view x.value ≡ pat_view (p.tuple_struct (path_of type_of path) (p.pats_of (pats.trees seen)) false) (pats.guards seen)) }
     ensures memory { IfErr result (λ x. x.kind ≡ ErrorKind.OutOfMemory) }
 {
-    let elems = separated_pats(alloc, elems)?;
+    let elems = separated_parts(alloc, elems)?;
     Ok(Held {
         value: P::tuple_struct(PatTupleStructOf {
             attrs: Vec::new(alloc),

@@ -4,7 +4,18 @@ ghost use Rattle.std.specs.Prelude.{◌≡◌, is_some};
 ghost use Rattle.syn_lower.specs.View as of;
 
 use syn_lower::ty::PointerMutability;
-use syn_tokens::token::{Const, Move, Mut};
+use syn_tokens::token::{Const, DotDot, Move, Mut};
+
+/// `..`, if it is asked for.
+pub(crate) fn dots_if(has_dots: bool) -> Option<DotDot>
+    ensures { is_some result ≡ has_dots }
+{
+    if has_dots {
+        Some(DotDot::default())
+    } else {
+        None
+    }
+}
 
 /// `move`, if it is asked for.
 pub(crate) fn move_if(is_move: bool) -> Option<Move>

@@ -321,9 +321,10 @@ impl<T: LetGo + Drop, P: Drop> LetGo for Punctuated<T, P> {
     }
 }
 
-impl<E: LetGo + Drop> LetGo for FieldValueOf<E> {
+impl<E: LetGo> LetGo for FieldValueOf<E> {
     fn let_go(self) {
-        self.expr.let_go();
+        let FieldValueOf { expr, .. } = self;
+        expr.let_go();
     }
 }
 

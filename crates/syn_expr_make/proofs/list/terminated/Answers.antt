@@ -1,10 +1,14 @@
-use Rattle.std.proofs.Common.{refl}
-use Rattle.syn_expr_make.specs.Held.{tree_in}
-use Rattle.syn_expr_make.proofs.Lists.{values_terminated, trails_terminated}
+use Rattle.std.proofs.Common.{append-nil, arith, rules}
+use Rattle.std.proofs.lemmas.Grind.{common_steps}
+use Rattle.syn_expr_make.proofs.Lists.{maps}
 use Rattle.syn_expr_make.proofs.list.terminated.Goals as goal
 
 pub returns-clause-values : goal.returns-clause-values
-returns-clause-values g c = let tree = g.H.Expr.HasExprTree.tree in values_terminated (tree_in tree g.H.HoldsExpr.held) tree _ _ refl c.in_ok-inner.ensures.made
+unfolding Rattle.syn_lower_leaves.specs.View.values
+returns-clause-values g c =
+    let inner = c.in_ok-inner.ensures.made (λ x. (g.H.HoldsExpr.held x, c.default-comma.result)) (λ x y h. search rules) in
+    grind (arith, maps, append-nil, inner)
 
 pub returns-clause-trails : goal.returns-clause-trails
-returns-clause-trails g c = let tree = g.H.Expr.HasExprTree.tree in trails_terminated (tree_in tree g.H.HoldsExpr.held) tree _ _ refl c.in_ok-inner.ensures.made
+unfolding Rattle.syn_lower_leaves.specs.View.trails
+returns-clause-trails g c = grind (arith, common_steps, c.in_ok-inner.ensures.len)
