@@ -1,7 +1,8 @@
 //! Copies of expressions of each kind: each equals what it was made of, has its places, and prints the same text. Copies of arms
-//! and of patterns.
+//! and of patterns. Hashes of expressions, in which places don't count.
 
 use std::alloc::Global;
+use std::hash::{DefaultHasher, Hash, Hasher};
 use std::test::Fail;
 use syn_copy::{copy_arm, copy_expr, copy_pat};
 use syn_expr_core::control::Arm;
@@ -117,6 +118,41 @@ fn arms_are_equal(rt: HostRuntime) -> Result<(), Fail> {
     match are_arms_copied(rt.alloc()) {
         Ok(true) => Ok(()),
         Ok(false) => Err(Fail::new(format_args!("the copy of an arm differs"))),
+        Err(e) => Err(Fail::new(format_args!("{}", e.kind))),
+    }
+}
+
+fn hash_of(expr: &Expr) -> u64 {
+    let mut state = DefaultHasher::new();
+    expr.hash(&mut state);
+    state.finish()
+}
+
+/// The hash of what a text is read as, if what is printed of it has the same hash and is equal, at other places.
+fn steady_hash(alloc: Global, text: &str) -> Result<Option<u64>, Error> {
+    let held = parse_str::<HeldExpr>(alloc, text)?;
+    let again = parse_str::<HeldExpr>(alloc, printed(alloc, &held)?.as_str())?;
+    let hash = hash_of(&held.expr);
+    Ok((again.expr == held.expr && hash_of(&again.expr) == hash).then_some(hash))
+}
+
+/// Whether each text has a hash of its own.
+fn are_hashed(alloc: Global) -> Result<bool, Error> {
+    let mut seen = Vec::new(alloc);
+    for text in TEXTS.trim().split('\n') {
+        match steady_hash(alloc, text)? {
+            Some(hash) if !seen.contains(&hash) => seen.push(hash)?,
+            _ => return Ok(false),
+        }
+    }
+    Ok(true)
+}
+
+#[test]
+fn hashes_know_no_places(rt: HostRuntime) -> Result<(), Fail> {
+    match are_hashed(rt.alloc()) {
+        Ok(true) => Ok(()),
+        Ok(false) => Err(Fail::new(format_args!("a hash is another's, or knows places"))),
         Err(e) => Err(Fail::new(format_args!("{}", e.kind))),
     }
 }

@@ -32,7 +32,7 @@ use syn_tokens::tree::TokenStream;
 
 /// `[a, b]` (Rust Reference, "Array expressions").
 #[tactic(auto, using(crate::proofs::Shapes::shapes))]
-#[derive(Debug, Drop, PartialEq)]
+#[derive(Debug, Drop, PartialEq, Eq, Hash)]
 pub struct ExprArrayOf<E> {
     /// The attributes.
     pub attrs: Vec<Attribute>,
@@ -44,7 +44,7 @@ pub struct ExprArrayOf<E> {
 
 /// An expression in delimiters that are not seen, which a macro's expansion leaves.
 #[tactic(auto, using(crate::proofs::Shapes::shapes))]
-#[derive(Debug, Drop, PartialEq)]
+#[derive(Debug, Drop, PartialEq, Eq, Hash)]
 pub struct ExprGroupOf<E> {
     /// The attributes.
     pub attrs: Vec<Attribute>,
@@ -56,7 +56,7 @@ pub struct ExprGroupOf<E> {
 
 /// `_`, to be inferred, or as a place that is assigned to and dropped (Rust Reference, "Underscore expressions").
 #[tactic(auto, using(crate::proofs::Shapes::shapes))]
-#[derive(Debug, Drop, PartialEq)]
+#[derive(Debug, Drop, PartialEq, Eq, Hash)]
 pub struct ExprInfer {
     /// The attributes.
     pub attrs: Vec<Attribute>,
@@ -66,7 +66,7 @@ pub struct ExprInfer {
 
 /// A literal (Rust Reference, "Literal expressions").
 #[tactic(auto, using(crate::proofs::Shapes::shapes))]
-#[derive(Debug, Drop, PartialEq)]
+#[derive(Debug, Drop, PartialEq, Eq, Hash)]
 pub struct ExprLit {
     /// The attributes.
     pub attrs: Vec<Attribute>,
@@ -76,7 +76,7 @@ pub struct ExprLit {
 
 /// The call of a macro (Rust Reference, "Macro Invocation").
 #[tactic(auto, using(crate::proofs::Shapes::shapes))]
-#[derive(Debug, Drop, PartialEq)]
+#[derive(Debug, Drop, PartialEq, Eq, Hash)]
 pub struct ExprMacro {
     /// The attributes.
     pub attrs: Vec<Attribute>,
@@ -86,7 +86,7 @@ pub struct ExprMacro {
 
 /// `(a)` (Rust Reference, "Grouped expressions").
 #[tactic(auto, using(crate::proofs::Shapes::shapes))]
-#[derive(Debug, Drop, PartialEq)]
+#[derive(Debug, Drop, PartialEq, Eq, Hash)]
 pub struct ExprParenOf<E> {
     /// The attributes.
     pub attrs: Vec<Attribute>,
@@ -98,7 +98,7 @@ pub struct ExprParenOf<E> {
 
 /// `a::b`, `<T as A>::b` (Rust Reference, "Path expressions").
 #[tactic(auto, using(crate::proofs::Shapes::shapes))]
-#[derive(Debug, Drop, PartialEq)]
+#[derive(Debug, Drop, PartialEq, Eq, Hash)]
 pub struct ExprPath {
     /// The attributes.
     pub attrs: Vec<Attribute>,
@@ -110,7 +110,7 @@ pub struct ExprPath {
 
 /// `[a; n]` (Rust Reference, "Array expressions").
 #[tactic(auto, using(crate::proofs::Shapes::shapes))]
-#[derive(Debug, Drop, PartialEq)]
+#[derive(Debug, Drop, PartialEq, Eq, Hash)]
 pub struct ExprRepeatOf<E> {
     /// The attributes.
     pub attrs: Vec<Attribute>,
@@ -126,7 +126,7 @@ pub struct ExprRepeatOf<E> {
 
 /// `()`, `(a,)`, `(a, b)` (Rust Reference, "Tuple expressions").
 #[tactic(auto, using(crate::proofs::Shapes::shapes))]
-#[derive(Debug, Drop, PartialEq)]
+#[derive(Debug, Drop, PartialEq, Eq, Hash)]
 pub struct ExprTupleOf<E> {
     /// The attributes.
     pub attrs: Vec<Attribute>,

@@ -27,7 +27,7 @@ use syn_tokens::token::{Async, Const, Else, If, Loop, Move, Try, Unsafe, While};
 use syn_tokens::tree::TokenStream;
 
 /// `async { .. }`, `async move { .. }` (Rust Reference, "`async` blocks").
-#[derive(Debug, Drop, PartialEq)]
+#[derive(Debug, Drop, PartialEq, Eq, Hash)]
 pub struct ExprAsync {
     /// The attributes.
     pub attrs: Vec<Attribute>,
@@ -42,7 +42,7 @@ pub struct ExprAsync {
 }
 
 /// `{ .. }`, `'a: { .. }` (Rust Reference, "Block expressions", "Labelled block expressions").
-#[derive(Debug, Drop, PartialEq)]
+#[derive(Debug, Drop, PartialEq, Eq, Hash)]
 pub struct ExprBlock {
     /// The attributes: those before it, and those first in its braces.
     pub attrs: Vec<Attribute>,
@@ -53,7 +53,7 @@ pub struct ExprBlock {
 }
 
 /// `const { .. }` (Rust Reference, "`const` blocks").
-#[derive(Debug, Drop, PartialEq)]
+#[derive(Debug, Drop, PartialEq, Eq, Hash)]
 pub struct ExprConst {
     /// The attributes: those before it, and those first in its braces.
     pub attrs: Vec<Attribute>,
@@ -66,7 +66,7 @@ pub struct ExprConst {
 }
 
 /// `if a { .. } else { .. }` (Rust Reference, "`if` expressions").
-#[derive(Debug, Drop, PartialEq)]
+#[derive(Debug, Drop, PartialEq, Eq, Hash)]
 pub struct ExprIfOf<E> {
     /// The attributes.
     pub attrs: Vec<Attribute>,
@@ -81,7 +81,7 @@ pub struct ExprIfOf<E> {
 }
 
 /// `loop { .. }` (Rust Reference, "Infinite loops").
-#[derive(Debug, Drop, PartialEq)]
+#[derive(Debug, Drop, PartialEq, Eq, Hash)]
 pub struct ExprLoop {
     /// The attributes: those before it, and those first in its braces.
     pub attrs: Vec<Attribute>,
@@ -94,7 +94,7 @@ pub struct ExprLoop {
 }
 
 /// `try { .. }`, which is not stable.
-#[derive(Debug, Drop, PartialEq)]
+#[derive(Debug, Drop, PartialEq, Eq, Hash)]
 pub struct ExprTryBlock {
     /// The attributes.
     pub attrs: Vec<Attribute>,
@@ -107,7 +107,7 @@ pub struct ExprTryBlock {
 }
 
 /// `unsafe { .. }` (Rust Reference, "`unsafe` blocks").
-#[derive(Debug, Drop, PartialEq)]
+#[derive(Debug, Drop, PartialEq, Eq, Hash)]
 pub struct ExprUnsafe {
     /// The attributes: those before it, and those first in its braces.
     pub attrs: Vec<Attribute>,
@@ -118,7 +118,7 @@ pub struct ExprUnsafe {
 }
 
 /// `while a { .. }` (Rust Reference, "Predicate loops").
-#[derive(Debug, Drop, PartialEq)]
+#[derive(Debug, Drop, PartialEq, Eq, Hash)]
 pub struct ExprWhileOf<E> {
     /// The attributes: those before it, and those first in its braces.
     pub attrs: Vec<Attribute>,

@@ -26,7 +26,7 @@ use syn_tokens::token::{Break, Continue, Return, Yield};
 use syn_tokens::tree::TokenStream;
 
 /// `break`, `break 'a b` (Rust Reference, "`break` expressions").
-#[derive(Debug, Drop, PartialEq)]
+#[derive(Debug, Drop, PartialEq, Eq, Hash)]
 pub struct ExprBreakOf<E> {
     /// The attributes.
     pub attrs: Vec<Attribute>,
@@ -39,7 +39,7 @@ pub struct ExprBreakOf<E> {
 }
 
 /// `continue`, `continue 'a` (Rust Reference, "`continue` expressions").
-#[derive(Debug, Drop, PartialEq)]
+#[derive(Debug, Drop, PartialEq, Eq, Hash)]
 pub struct ExprContinue {
     /// The attributes.
     pub attrs: Vec<Attribute>,
@@ -50,7 +50,7 @@ pub struct ExprContinue {
 }
 
 /// `return`, `return a` (Rust Reference, "`return` expressions").
-#[derive(Debug, Drop, PartialEq)]
+#[derive(Debug, Drop, PartialEq, Eq, Hash)]
 pub struct ExprReturnOf<E> {
     /// The attributes.
     pub attrs: Vec<Attribute>,
@@ -61,7 +61,7 @@ pub struct ExprReturnOf<E> {
 }
 
 /// `yield`, `yield a`, which is not stable.
-#[derive(Debug, Drop, PartialEq)]
+#[derive(Debug, Drop, PartialEq, Eq, Hash)]
 pub struct ExprYieldOf<E> {
     /// The attributes.
     pub attrs: Vec<Attribute>,

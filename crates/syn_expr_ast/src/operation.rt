@@ -29,7 +29,7 @@ use syn_tokens::token::{And, As, Eq, Mut, Raw};
 use syn_tokens::tree::TokenStream;
 
 /// `a = b` (Rust Reference, "Assignment expressions").
-#[derive(Debug, Drop, PartialEq)]
+#[derive(Debug, Drop, PartialEq, Eq, Hash)]
 pub struct ExprAssignOf<E> {
     /// The attributes.
     pub attrs: Vec<Attribute>,
@@ -43,7 +43,7 @@ pub struct ExprAssignOf<E> {
 
 /// `a + b`, `a += b` (Rust Reference, "Arithmetic and Logical Binary Operators", "Comparison Operators", "Lazy boolean
 /// operators", "Compound assignment expressions").
-#[derive(Debug, Drop, PartialEq)]
+#[derive(Debug, Drop, PartialEq, Eq, Hash)]
 pub struct ExprBinaryOf<E> {
     /// The attributes.
     pub attrs: Vec<Attribute>,
@@ -56,7 +56,7 @@ pub struct ExprBinaryOf<E> {
 }
 
 /// `a as T` (Rust Reference, "Type cast expressions").
-#[derive(Debug, Drop, PartialEq)]
+#[derive(Debug, Drop, PartialEq, Eq, Hash)]
 pub struct ExprCastOf<E> {
     /// The attributes.
     pub attrs: Vec<Attribute>,
@@ -69,7 +69,7 @@ pub struct ExprCastOf<E> {
 }
 
 /// `a..b`, `a..`, `..=b`, `..` (Rust Reference, "Range expressions").
-#[derive(Debug, Drop, PartialEq)]
+#[derive(Debug, Drop, PartialEq, Eq, Hash)]
 pub struct ExprRangeOf<E> {
     /// The attributes.
     pub attrs: Vec<Attribute>,
@@ -82,7 +82,7 @@ pub struct ExprRangeOf<E> {
 }
 
 /// `&raw const a`, `&raw mut a` (Rust Reference, "Raw borrow operators").
-#[derive(Debug, Drop, PartialEq)]
+#[derive(Debug, Drop, PartialEq, Eq, Hash)]
 pub struct ExprRawAddrOf<E> {
     /// The attributes.
     pub attrs: Vec<Attribute>,
@@ -97,7 +97,7 @@ pub struct ExprRawAddrOf<E> {
 }
 
 /// `&a`, `&mut a` (Rust Reference, "Borrow operators").
-#[derive(Debug, Drop, PartialEq)]
+#[derive(Debug, Drop, PartialEq, Eq, Hash)]
 pub struct ExprReferenceOf<E> {
     /// The attributes.
     pub attrs: Vec<Attribute>,
@@ -110,7 +110,7 @@ pub struct ExprReferenceOf<E> {
 }
 
 /// `*a`, `!a`, `-a` (Rust Reference, "The dereference operator", "Negation operators").
-#[derive(Debug, Drop, PartialEq)]
+#[derive(Debug, Drop, PartialEq, Eq, Hash)]
 pub struct ExprUnaryOf<E> {
     /// The attributes.
     pub attrs: Vec<Attribute>,

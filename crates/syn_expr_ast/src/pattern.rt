@@ -11,7 +11,7 @@ use syn_tokens::token::{
 };
 
 /// `|a, b| a + b`, `move |a| -> T { .. }` (Rust Reference, "Closure expressions").
-#[derive(Debug, Drop, PartialEq)]
+#[derive(Debug, Drop, PartialEq, Eq, Hash)]
 pub struct ExprClosureOf<E, P> {
     /// The attributes.
     pub attrs: Vec<Attribute>,
@@ -38,7 +38,7 @@ pub struct ExprClosureOf<E, P> {
 }
 
 /// `for p in a { .. }` (Rust Reference, "Iterator loops").
-#[derive(Debug, Drop, PartialEq)]
+#[derive(Debug, Drop, PartialEq, Eq, Hash)]
 pub struct ExprForLoopOf<E, P> {
     /// The attributes: those before it, and those first in its braces.
     pub attrs: Vec<Attribute>,
@@ -57,7 +57,7 @@ pub struct ExprForLoopOf<E, P> {
 }
 
 /// `let p = a`, in a condition (Rust Reference, "`if let` patterns", "`while let` patterns").
-#[derive(Debug, Drop, PartialEq)]
+#[derive(Debug, Drop, PartialEq, Eq, Hash)]
 pub struct ExprLetOf<E, P> {
     /// The attributes.
     pub attrs: Vec<Attribute>,
@@ -72,7 +72,7 @@ pub struct ExprLetOf<E, P> {
 }
 
 /// `match a { p => b, .. }` (Rust Reference, "Match expressions"), over the type of arms.
-#[derive(Debug, Drop, PartialEq)]
+#[derive(Debug, Drop, PartialEq, Eq, Hash)]
 pub struct ExprMatchOf<E, A> {
     /// The attributes: those before it, and those first in its braces.
     pub attrs: Vec<Attribute>,
@@ -87,7 +87,7 @@ pub struct ExprMatchOf<E, A> {
 }
 
 /// `p if a => b,` (Rust Reference, "Match expressions").
-#[derive(Debug, Drop, PartialEq)]
+#[derive(Debug, Drop, PartialEq, Eq, Hash)]
 pub struct ArmOf<E, P> {
     /// The attributes.
     pub attrs: Vec<Attribute>,
@@ -102,7 +102,7 @@ pub struct ArmOf<E, P> {
 }
 
 /// `p if a`, a pattern with a guard (Rust Reference, "Match guards").
-#[derive(Debug, Drop, PartialEq)]
+#[derive(Debug, Drop, PartialEq, Eq, Hash)]
 pub struct PatGuardOf<E, P> {
     /// The attributes.
     pub attrs: Vec<Attribute>,

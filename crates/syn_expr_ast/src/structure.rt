@@ -23,7 +23,7 @@ use syn_tokens::token::{Brace, Colon, Comma, DotDot};
 use syn_tokens::tree::TokenStream;
 
 /// `S { a: 1, b, ..rest }` (Rust Reference, "Struct expressions").
-#[derive(Debug, Drop, PartialEq)]
+#[derive(Debug, Drop, PartialEq, Eq, Hash)]
 pub struct ExprStructOf<E> {
     /// The attributes.
     pub attrs: Vec<Attribute>,
@@ -42,7 +42,7 @@ pub struct ExprStructOf<E> {
 }
 
 /// `a: 1`, `0: x`, `b` (Rust Reference, "Struct expressions").
-#[derive(Debug, Drop, PartialEq)]
+#[derive(Debug, Drop, PartialEq, Eq, Hash)]
 pub struct FieldValueOf<E> {
     /// The attributes.
     pub attrs: Vec<Attribute>,

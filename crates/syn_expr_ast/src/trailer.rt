@@ -24,7 +24,7 @@ use syn_tokens::token::{Await, Bracket, Comma, Dot, Paren, Question};
 use syn_tokens::tree::{Ident, TokenStream};
 
 /// `a.await` (Rust Reference, "Await expressions").
-#[derive(Debug, Drop, PartialEq)]
+#[derive(Debug, Drop, PartialEq, Eq, Hash)]
 pub struct ExprAwaitOf<E> {
     /// The attributes.
     pub attrs: Vec<Attribute>,
@@ -37,7 +37,7 @@ pub struct ExprAwaitOf<E> {
 }
 
 /// `f(a, b)` (Rust Reference, "Call expressions").
-#[derive(Debug, Drop, PartialEq)]
+#[derive(Debug, Drop, PartialEq, Eq, Hash)]
 pub struct ExprCallOf<E> {
     /// The attributes.
     pub attrs: Vec<Attribute>,
@@ -50,7 +50,7 @@ pub struct ExprCallOf<E> {
 }
 
 /// `a.b`, `a.0` (Rust Reference, "Field access expressions", "Tuple indexing expressions").
-#[derive(Debug, Drop, PartialEq)]
+#[derive(Debug, Drop, PartialEq, Eq, Hash)]
 pub struct ExprFieldOf<E> {
     /// The attributes.
     pub attrs: Vec<Attribute>,
@@ -63,7 +63,7 @@ pub struct ExprFieldOf<E> {
 }
 
 /// `a[i]` (Rust Reference, "Array and slice indexing expressions").
-#[derive(Debug, Drop, PartialEq)]
+#[derive(Debug, Drop, PartialEq, Eq, Hash)]
 pub struct ExprIndexOf<E> {
     /// The attributes.
     pub attrs: Vec<Attribute>,
@@ -76,7 +76,7 @@ pub struct ExprIndexOf<E> {
 }
 
 /// `a.f(b)`, `a.f::<T>(b)` (Rust Reference, "Method-call expressions").
-#[derive(Debug, Drop, PartialEq)]
+#[derive(Debug, Drop, PartialEq, Eq, Hash)]
 pub struct ExprMethodCallOf<E> {
     /// The attributes.
     pub attrs: Vec<Attribute>,
@@ -95,7 +95,7 @@ pub struct ExprMethodCallOf<E> {
 }
 
 /// `a?` (Rust Reference, "The try propagation expression").
-#[derive(Debug, Drop, PartialEq)]
+#[derive(Debug, Drop, PartialEq, Eq, Hash)]
 pub struct ExprTryOf<E> {
     /// The attributes.
     pub attrs: Vec<Attribute>,

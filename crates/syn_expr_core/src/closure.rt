@@ -10,7 +10,7 @@ use syn_tokens::token::{Async, Comma, Const, Move, Or};
 
 /// `|a, b| a + b`, `move |a| -> T { .. }` (Rust Reference, "Closure expressions").
 #[cycle(expr)]
-#[derive(Debug, Drop, PartialEq)]
+#[derive(Debug, Drop, PartialEq, Eq, Hash)]
 pub struct ExprClosure {
     /// The attributes.
     pub attrs: Vec<Attribute>,

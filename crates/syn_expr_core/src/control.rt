@@ -9,7 +9,7 @@ use syn_tokens::token::{Brace, Comma, Eq, FatArrow, For, In, Let, Match};
 
 /// `for p in a { .. }` (Rust Reference, "Iterator loops").
 #[cycle(expr)]
-#[derive(Debug, Drop, PartialEq)]
+#[derive(Debug, Drop, PartialEq, Eq, Hash)]
 pub struct ExprForLoop {
     /// The attributes: those before it, and those first in its braces.
     pub attrs: Vec<Attribute>,
@@ -29,7 +29,7 @@ pub struct ExprForLoop {
 
 /// `let p = a`, in a condition (Rust Reference, "`if let` patterns", "`while let` patterns").
 #[cycle(expr)]
-#[derive(Debug, Drop, PartialEq)]
+#[derive(Debug, Drop, PartialEq, Eq, Hash)]
 pub struct ExprLet {
     /// The attributes.
     pub attrs: Vec<Attribute>,
@@ -45,7 +45,7 @@ pub struct ExprLet {
 
 /// `match a { p => b, .. }` (Rust Reference, "Match expressions").
 #[cycle(expr)]
-#[derive(Debug, Drop, PartialEq)]
+#[derive(Debug, Drop, PartialEq, Eq, Hash)]
 pub struct ExprMatch {
     /// The attributes: those before it, and those first in its braces.
     pub attrs: Vec<Attribute>,
@@ -61,7 +61,7 @@ pub struct ExprMatch {
 
 /// `p if a => b,` (Rust Reference, "Match expressions").
 #[cycle(expr)]
-#[derive(Debug, Drop, PartialEq)]
+#[derive(Debug, Drop, PartialEq, Eq, Hash)]
 pub struct Arm {
     /// The attributes.
     pub attrs: Vec<Attribute>,

@@ -25,7 +25,7 @@ use syn_tokens::tree::TokenStream;
 
 /// An expression.
 #[cycle(expr)]
-#[derive(Debug, Drop, PartialEq)]
+#[derive(Debug, Drop, PartialEq, Eq, Hash)]
 pub enum Expr {
     /// `[a, b]`
     Array(ExprArrayOf<Expr>),

@@ -15,7 +15,7 @@ use syn_tokens::token::If;
 
 /// A pattern.
 #[cycle(expr)]
-#[derive(Debug, Drop, PartialEq)]
+#[derive(Debug, Drop, PartialEq, Eq, Hash)]
 pub enum Pat {
     /// `const { .. }`
     Const(PatConst),
@@ -55,7 +55,7 @@ pub enum Pat {
 
 /// `p if a`, a pattern with a guard (Rust Reference, "Match guards").
 #[cycle(expr)]
-#[derive(Debug, Drop, PartialEq)]
+#[derive(Debug, Drop, PartialEq, Eq, Hash)]
 pub struct PatGuard {
     /// The attributes.
     pub attrs: Vec<Attribute>,

@@ -1,7 +1,7 @@
 //! Kinds without places in a text: the labels that the trees of the definitions and the code share.
 
 /// The prefix operators that make an `ExprUnary`.
-#[derive(Clone, Copy, Debug, PartialEq, Eq)]
+#[derive(Clone, Copy, Debug, PartialEq, Eq, Hash)]
 pub enum UnKind {
     /// `*`
     Deref,
@@ -12,7 +12,7 @@ pub enum UnKind {
 }
 
 /// The binary operators, the compound assignments among them.
-#[derive(Clone, Copy, Debug, PartialEq, Eq)]
+#[derive(Clone, Copy, Debug, PartialEq, Eq, Hash)]
 pub enum BinKind {
     /// `+`
     Add,
@@ -73,7 +73,7 @@ pub enum BinKind {
 }
 
 /// The operators of ranges.
-#[derive(Clone, Copy, Debug, PartialEq, Eq)]
+#[derive(Clone, Copy, Debug, PartialEq, Eq, Hash)]
 pub enum Limits {
     /// `..`
     HalfOpen,

@@ -9,7 +9,7 @@ use syn_tokens::token::{Colon, Static, Use};
 
 /// The modifiers of a closure: the words before its arguments but `const`, `async` and `move`, which `ExprClosure` has itself.
 /// Equality ignores places.
-#[derive(Clone, Copy, Debug, Default, PartialEq, Eq)]
+#[derive(Clone, Copy, Debug, Default, PartialEq, Eq, Hash)]
 pub struct ClosureModifiers {
     /// `static`
     pub static_token: Option<Static>,
@@ -33,7 +33,7 @@ impl ClosureModifiers {
 }
 
 /// The modifiers of a block: none.
-#[derive(Clone, Copy, Debug, Default, PartialEq, Eq)]
+#[derive(Clone, Copy, Debug, Default, PartialEq, Eq, Hash)]
 pub struct BlockModifiers {}
 
 impl BlockModifiers {
@@ -46,7 +46,7 @@ impl BlockModifiers {
 }
 
 /// A label: a lifetime and `:`. Equality ignores places.
-#[derive(Debug, Drop, PartialEq)]
+#[derive(Debug, Drop, PartialEq, Eq, Hash)]
 pub struct Label {
     /// The name, an apostrophe and a word.
     pub name: Lifetime,

@@ -2,12 +2,15 @@
 //! of functions that do nothing. Attributes before a node and in its braces count in their order, and a guard with the
 //! pattern before it: the tree shows both.
 
+ghost use Rattle.std.specs.Prelude.{◌≡◌};
+ghost use Rattle.syn_expr_core.specs.declared.expr.Expr.{Expr};
 ghost use Rattle.syn_lower_spec.specs.Equal.{IsEqualityOf};
 ghost use Rattle.syn_lower.specs.View.{abi_of, angle_of, arg_of, arguments_of, assoc_of, bound_of, generic_of, is_mut, lifetimes_of, macro_of, path_of, qself_of, return_of, round_of, segment_of, trait_of, type_of};
 ghost use Rattle.syn_lower.specs.declared.ty.«Type».TheVariants as ty;
 ghost use Rattle.syn_expr_core.specs.View.{arm_of, let_of, match_of, closure_of, for_loop_of, guard_of, pat_of, tree_of};
 ghost use Rattle.syn_expr_ast.specs.View.{field_value_of};
 
+use std::hash::Hash;
 use syn_expr_core::expr::{Arm, Expr, ExprClosure, ExprForLoop, ExprLet, ExprMatch, FieldValue};
 use syn_expr_core::{Pat, PatGuard};
 use syn_lower::mac::Macro;
@@ -73,6 +76,11 @@ pub fn equal_expressions()
     ensures pat { IsEqualityOf pat_of ⟦<Pat as PartialEq>⟧.eq }
     ensures arm { IsEqualityOf arm_of ⟦<Arm as PartialEq>⟧.eq }
     ensures field { IsEqualityOf (field_value_of tree_of) ⟦<FieldValue as PartialEq>⟧.eq }
+{}
+
+/// What is fed to a hasher of an expression depends on its tree alone: its places are not.
+pub fn equal_expressions_hash_alike()
+    ensures { (x y : Expr) → tree_of x ≡ tree_of y → ⟦<Expr as Hash>⟧.hash_input x ≡ ⟦<Expr as Hash>⟧.hash_input y }
 {}
 
 /// Two structs of a kind that holds patterns are equal exactly where their trees are.

@@ -17,7 +17,7 @@ use syn_tokens::token::{Not, Underscore};
 
 /// A type.
 #[cycle(types)]
-#[derive(Debug, Drop, PartialEq)]
+#[derive(Debug, Drop, PartialEq, Eq, Hash)]
 pub enum Type {
     /// `a::B<C>`, `<T as A>::B`
     Path(TypePathOf<Type>),
@@ -72,14 +72,14 @@ pub type TypeTuple = TypeTupleOf<Type>;
 pub type TypeParen = TypeParenOf<Type>;
 
 /// `!` (Rust Reference, "Never type").
-#[derive(Debug, Drop, PartialEq)]
+#[derive(Debug, Drop, PartialEq, Eq, Hash)]
 pub struct TypeNever {
     /// `!`
     pub bang_token: Not,
 }
 
 /// `_` (Rust Reference, "Inferred type").
-#[derive(Debug, Drop, PartialEq)]
+#[derive(Debug, Drop, PartialEq, Eq, Hash)]
 pub struct TypeInfer {
     /// `_`
     pub underscore_token: Underscore,

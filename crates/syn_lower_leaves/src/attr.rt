@@ -4,7 +4,7 @@ use syn_tokens::token::{Bracket, Not, Pound};
 use syn_tokens::tree::TokenStream;
 
 /// Whether an attribute comes before what it belongs to, or inside of it.
-#[derive(Clone, Copy, Debug, PartialEq)]
+#[derive(Clone, Copy, Debug, PartialEq, Eq, Hash)]
 pub enum AttrStyle {
     /// `#[..]`
     Outer,
@@ -13,7 +13,7 @@ pub enum AttrStyle {
 }
 
 /// An attribute. What is in the brackets is kept as tokens.
-#[derive(Debug, Drop, PartialEq)]
+#[derive(Debug, Drop, PartialEq, Eq, Hash)]
 pub struct Attribute {
     /// `#`
     pub pound_token: Pound,

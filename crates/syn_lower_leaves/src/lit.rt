@@ -11,7 +11,7 @@ use syn_tokens::token::Minus;
 use syn_tokens::tree::{Ident, Literal, TokenStream};
 
 /// A literal.
-#[derive(Debug, Drop, PartialEq)]
+#[derive(Debug, Drop, PartialEq, Eq, Hash)]
 pub enum Lit {
     /// `"text"`, `r"text"`
     Str(LitStr),
@@ -32,37 +32,37 @@ pub enum Lit {
 }
 
 /// A string literal.
-#[derive(Debug, Drop, PartialEq)]
+#[derive(Debug, Drop, PartialEq, Eq, Hash)]
 pub struct LitStr {
     pub(crate) token: Literal,
 }
 
 /// A byte string literal.
-#[derive(Debug, Drop, PartialEq)]
+#[derive(Debug, Drop, PartialEq, Eq, Hash)]
 pub struct LitByteStr {
     pub(crate) token: Literal,
 }
 
 /// A C string literal.
-#[derive(Debug, Drop, PartialEq)]
+#[derive(Debug, Drop, PartialEq, Eq, Hash)]
 pub struct LitCStr {
     pub(crate) token: Literal,
 }
 
 /// A byte literal.
-#[derive(Debug, Drop, PartialEq)]
+#[derive(Debug, Drop, PartialEq, Eq, Hash)]
 pub struct LitByte {
     pub(crate) token: Literal,
 }
 
 /// A character literal.
-#[derive(Debug, Drop, PartialEq)]
+#[derive(Debug, Drop, PartialEq, Eq, Hash)]
 pub struct LitChar {
     pub(crate) token: Literal,
 }
 
 /// An integer literal. Where a sign was read with it, it prints as two tokens.
-#[derive(Debug, Drop, PartialEq)]
+#[derive(Debug, Drop, PartialEq, Eq, Hash)]
 pub struct LitInt {
     pub(crate) minus_token: Option<Minus>,
     pub(crate) token: Literal,
@@ -70,7 +70,7 @@ pub struct LitInt {
 }
 
 /// A floating-point literal. Where a sign was read with it, it prints as two tokens.
-#[derive(Debug, Drop, PartialEq)]
+#[derive(Debug, Drop, PartialEq, Eq, Hash)]
 pub struct LitFloat {
     pub(crate) minus_token: Option<Minus>,
     pub(crate) token: Literal,
@@ -78,7 +78,7 @@ pub struct LitFloat {
 }
 
 /// `true` or `false`.
-#[derive(Debug, Drop, PartialEq)]
+#[derive(Debug, Drop, PartialEq, Eq, Hash)]
 pub struct LitBool {
     pub(crate) word: Ident,
 }

@@ -3,7 +3,7 @@
 use syn_tokens::token::{Brace, Bracket, Paren};
 
 /// What encloses the tokens of a macro's call.
-#[derive(Clone, Copy, Debug, PartialEq)]
+#[derive(Clone, Copy, Debug, PartialEq, Eq, Hash)]
 pub enum MacroDelimiter {
     /// `( .. )`
     Paren(Paren),

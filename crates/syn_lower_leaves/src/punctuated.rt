@@ -8,7 +8,7 @@ use std::alloc::Global;
 use syn_tokens::error::{ErrorKind, Result};
 
 /// A value of a list with puncts, and the punct that follows it.
-#[derive(Debug, Drop, PartialEq)]
+#[derive(Debug, Drop, PartialEq, Eq, Hash)]
 pub enum Pair<T, P> {
     /// A value that a punct follows.
     Punctuated(T, P),
@@ -45,7 +45,7 @@ impl<T, P: Drop> Pair<T, P> {
 }
 
 /// Values with puncts between, and perhaps one at the end.
-#[derive(Debug, PartialEq)]
+#[derive(Debug, PartialEq, Eq, Hash)]
 pub struct Punctuated<T, P> {
     /// The values that puncts follow, each with its own.
     pub inner: Vec<(T, P)>,

@@ -6,7 +6,7 @@ use crate::punctuated::Punctuated;
 use syn_tokens::token::{Comma, Const, Extern, For, Gt, Lt, Mut};
 
 /// Whether a pointer's target may be written (Rust Reference, "Pointer types").
-#[derive(Clone, Copy, Debug, PartialEq)]
+#[derive(Clone, Copy, Debug, PartialEq, Eq, Hash)]
 pub enum PointerMutability {
     /// `const`
     Const(Const),
@@ -15,7 +15,7 @@ pub enum PointerMutability {
 }
 
 /// `extern "C"` (Rust Reference, "Function pointer types").
-#[derive(Debug, Drop, PartialEq)]
+#[derive(Debug, Drop, PartialEq, Eq, Hash)]
 pub struct Abi {
     /// `extern`
     pub extern_token: Extern,
@@ -24,7 +24,7 @@ pub struct Abi {
 }
 
 /// `for<'a, 'b>` (Rust Reference, "Higher-ranked trait bounds").
-#[derive(Debug, Drop, PartialEq)]
+#[derive(Debug, Drop, PartialEq, Eq, Hash)]
 pub struct BoundLifetimes {
     /// `for`
     pub for_token: For,

@@ -6,7 +6,7 @@ use syn_tokens::token::Not;
 use syn_tokens::tree::TokenStream;
 
 /// The call of a macro.
-#[derive(Debug, Drop, PartialEq)]
+#[derive(Debug, Drop, PartialEq, Eq, Hash)]
 pub struct MacroOf<T> {
     /// The macro's path, without arguments.
     pub path: PathOf<T>,

@@ -24,7 +24,7 @@ pub fn style(expr_style: bool) -> PathStyle
 }
 
 /// A path.
-#[derive(Debug, Drop, PartialEq)]
+#[derive(Debug, Drop, PartialEq, Eq, Hash)]
 pub struct PathOf<T> {
     /// `::` in front.
     pub leading_colon: Option<PathSep>,
@@ -33,7 +33,7 @@ pub struct PathOf<T> {
 }
 
 /// A segment of a path.
-#[derive(Debug, Drop, PartialEq)]
+#[derive(Debug, Drop, PartialEq, Eq, Hash)]
 pub struct PathSegmentOf<T> {
     /// The word.
     pub ident: Ident,
@@ -42,7 +42,7 @@ pub struct PathSegmentOf<T> {
 }
 
 /// The arguments of a segment.
-#[derive(Debug, Drop, PartialEq)]
+#[derive(Debug, Drop, PartialEq, Eq, Hash)]
 pub enum PathArgumentsOf<T> {
     /// None.
     None,
@@ -53,7 +53,7 @@ pub enum PathArgumentsOf<T> {
 }
 
 /// Arguments between `<` and `>`.
-#[derive(Debug, Drop, PartialEq)]
+#[derive(Debug, Drop, PartialEq, Eq, Hash)]
 pub struct AngleBracketedGenericArgumentsOf<T> {
     /// `::` in front.
     pub colon2_token: Option<PathSep>,
@@ -66,7 +66,7 @@ pub struct AngleBracketedGenericArgumentsOf<T> {
 }
 
 /// An argument between `<` and `>` (Rust Reference, "Paths in expressions").
-#[derive(Debug, Drop, PartialEq)]
+#[derive(Debug, Drop, PartialEq, Eq, Hash)]
 pub enum GenericArgumentOf<T> {
     /// `'a`
     Lifetime(Lifetime),
@@ -79,7 +79,7 @@ pub enum GenericArgumentOf<T> {
 }
 
 /// An associated type and what it is equal to.
-#[derive(Debug, Drop, PartialEq)]
+#[derive(Debug, Drop, PartialEq, Eq, Hash)]
 pub struct AssocTypeOf<T> {
     /// Its name.
     pub ident: Ident,
@@ -90,7 +90,7 @@ pub struct AssocTypeOf<T> {
 }
 
 /// `(A, B) -> C`, the arguments of a trait of functions.
-#[derive(Debug, Drop, PartialEq)]
+#[derive(Debug, Drop, PartialEq, Eq, Hash)]
 pub struct ParenthesizedGenericArgumentsOf<T> {
     /// The parentheses.
     pub paren_token: Paren,
@@ -101,7 +101,7 @@ pub struct ParenthesizedGenericArgumentsOf<T> {
 }
 
 /// The type in front of a path (Rust Reference, "Qualified paths").
-#[derive(Debug, Drop, PartialEq)]
+#[derive(Debug, Drop, PartialEq, Eq, Hash)]
 pub struct QSelfOf<T> {
     /// `<`
     pub lt_token: Lt,

@@ -14,7 +14,7 @@ use syn_tokens::token::{
 use syn_tokens::tree::{Ident, TokenStream};
 
 /// A path as a type (Rust Reference, "Paths in types").
-#[derive(Debug, Drop, PartialEq)]
+#[derive(Debug, Drop, PartialEq, Eq, Hash)]
 pub struct TypePathOf<T> {
     /// The type in front of it.
     pub qself: Option<QSelfOf<T>>,
@@ -23,14 +23,14 @@ pub struct TypePathOf<T> {
 }
 
 /// The call of a macro as a type.
-#[derive(Debug, Drop, PartialEq)]
+#[derive(Debug, Drop, PartialEq, Eq, Hash)]
 pub struct TypeMacroOf<T> {
     /// The call.
     pub mac: MacroOf<T>,
 }
 
 /// A reference (Rust Reference, "Shared references", "Mutable references").
-#[derive(Debug, Drop, PartialEq)]
+#[derive(Debug, Drop, PartialEq, Eq, Hash)]
 pub struct TypeReferenceOf<T> {
     /// `&`
     pub and_token: And,
@@ -43,7 +43,7 @@ pub struct TypeReferenceOf<T> {
 }
 
 /// A raw pointer (Rust Reference, "Raw pointers").
-#[derive(Debug, Drop, PartialEq)]
+#[derive(Debug, Drop, PartialEq, Eq, Hash)]
 pub struct TypePtrOf<T> {
     /// `*`
     pub star_token: Star,
@@ -54,7 +54,7 @@ pub struct TypePtrOf<T> {
 }
 
 /// A slice (Rust Reference, "Slice types").
-#[derive(Debug, Drop, PartialEq)]
+#[derive(Debug, Drop, PartialEq, Eq, Hash)]
 pub struct TypeSliceOf<T> {
     /// The brackets.
     pub bracket_token: Bracket,
@@ -63,7 +63,7 @@ pub struct TypeSliceOf<T> {
 }
 
 /// An array (Rust Reference, "Array types").
-#[derive(Debug, Drop, PartialEq)]
+#[derive(Debug, Drop, PartialEq, Eq, Hash)]
 pub struct TypeArrayOf<T> {
     /// The brackets.
     pub bracket_token: Bracket,
@@ -76,7 +76,7 @@ pub struct TypeArrayOf<T> {
 }
 
 /// A tuple (Rust Reference, "Tuple types").
-#[derive(Debug, Drop, PartialEq)]
+#[derive(Debug, Drop, PartialEq, Eq, Hash)]
 pub struct TypeTupleOf<T> {
     /// The parentheses.
     pub paren_token: Paren,
@@ -85,7 +85,7 @@ pub struct TypeTupleOf<T> {
 }
 
 /// A type in parentheses (Rust Reference, "Parenthesized types").
-#[derive(Debug, Drop, PartialEq)]
+#[derive(Debug, Drop, PartialEq, Eq, Hash)]
 pub struct TypeParenOf<T> {
     /// The parentheses.
     pub paren_token: Paren,
@@ -94,7 +94,7 @@ pub struct TypeParenOf<T> {
 }
 
 /// `for<'a> unsafe extern "C" fn(a: A) -> B` (Rust Reference, "Function pointer types").
-#[derive(Debug, Drop, PartialEq)]
+#[derive(Debug, Drop, PartialEq, Eq, Hash)]
 pub struct TypeFnPtrOf<T> {
     /// `for<'a>`
     pub lifetimes: Option<BoundLifetimes>,
@@ -113,7 +113,7 @@ pub struct TypeFnPtrOf<T> {
 }
 
 /// An argument of a function pointer.
-#[derive(Debug, Drop, PartialEq)]
+#[derive(Debug, Drop, PartialEq, Eq, Hash)]
 pub struct BareFnArgOf<T> {
     /// Its name, an identifier or `_`, and `:`.
     pub name: Option<(Ident, Colon)>,
@@ -122,7 +122,7 @@ pub struct BareFnArgOf<T> {
 }
 
 /// A type by what it implements (Rust Reference, "Impl trait").
-#[derive(Debug, Drop, PartialEq)]
+#[derive(Debug, Drop, PartialEq, Eq, Hash)]
 pub struct TypeImplTraitOf<T> {
     /// `impl`
     pub impl_token: Impl,
@@ -131,7 +131,7 @@ pub struct TypeImplTraitOf<T> {
 }
 
 /// A type by what it can do (Rust Reference, "Trait objects").
-#[derive(Debug, Drop, PartialEq)]
+#[derive(Debug, Drop, PartialEq, Eq, Hash)]
 pub struct TypeTraitObjectOf<T> {
     /// `dyn`
     pub dyn_token: Dyn,
@@ -140,7 +140,7 @@ pub struct TypeTraitObjectOf<T> {
 }
 
 /// A bound (Rust Reference, "Trait and lifetime bounds").
-#[derive(Debug, Drop, PartialEq)]
+#[derive(Debug, Drop, PartialEq, Eq, Hash)]
 pub enum TypeParamBoundOf<T> {
     /// `'a`
     Lifetime(Lifetime),
@@ -149,7 +149,7 @@ pub enum TypeParamBoundOf<T> {
 }
 
 /// A trait as a bound.
-#[derive(Debug, Drop, PartialEq)]
+#[derive(Debug, Drop, PartialEq, Eq, Hash)]
 pub struct TraitBoundOf<T> {
     /// `?`
     pub maybe: Option<Question>,
@@ -160,7 +160,7 @@ pub struct TraitBoundOf<T> {
 }
 
 /// What a function returns.
-#[derive(Debug, Drop, PartialEq)]
+#[derive(Debug, Drop, PartialEq, Eq, Hash)]
 pub enum ReturnTypeOf<T> {
     /// Nothing is written.
     Default,

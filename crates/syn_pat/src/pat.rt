@@ -19,7 +19,7 @@ use syn_tokens::token::{
 use syn_tokens::tree::Ident;
 
 /// `_` (Rust Reference, "Wildcard pattern").
-#[derive(Debug, Drop, PartialEq)]
+#[derive(Debug, Drop, PartialEq, Eq, Hash)]
 pub struct PatWild {
     /// The attributes before it.
     pub attrs: Vec<Attribute>,
@@ -28,7 +28,7 @@ pub struct PatWild {
 }
 
 /// `..` (Rust Reference, "Rest patterns").
-#[derive(Debug, Drop, PartialEq)]
+#[derive(Debug, Drop, PartialEq, Eq, Hash)]
 pub struct PatRest {
     /// The attributes before it.
     pub attrs: Vec<Attribute>,
@@ -37,7 +37,7 @@ pub struct PatRest {
 }
 
 /// `1..2`, `'a'..='z'`, `..=i32::MAX` (Rust Reference, "Range patterns").
-#[derive(Debug, Drop, PartialEq)]
+#[derive(Debug, Drop, PartialEq, Eq, Hash)]
 pub struct PatRange {
     /// The attributes before it.
     pub attrs: Vec<Attribute>,
@@ -50,7 +50,7 @@ pub struct PatRange {
 }
 
 /// A bound of a range.
-#[derive(Debug, Drop, PartialEq)]
+#[derive(Debug, Drop, PartialEq, Eq, Hash)]
 pub enum RangeBound {
     /// `1`, `-1`, `'a'`
     Lit(Lit),
@@ -64,7 +64,7 @@ pub enum RangeBound {
 }
 
 /// `1`, `"a"` (Rust Reference, "Literal patterns").
-#[derive(Debug, Drop, PartialEq)]
+#[derive(Debug, Drop, PartialEq, Eq, Hash)]
 pub struct PatLit {
     /// The attributes before it.
     pub attrs: Vec<Attribute>,
@@ -73,7 +73,7 @@ pub struct PatLit {
 }
 
 /// `ref mut x @ 1..2` (Rust Reference, "Identifier patterns").
-#[derive(Debug, Drop, PartialEq)]
+#[derive(Debug, Drop, PartialEq, Eq, Hash)]
 pub struct PatIdentOf<P> {
     /// The attributes before it.
     pub attrs: Vec<Attribute>,
@@ -88,7 +88,7 @@ pub struct PatIdentOf<P> {
 }
 
 /// `a::B`, `<T as A>::B` (Rust Reference, "Path patterns"). A name alone is read as `PatIdentOf`.
-#[derive(Debug, Drop, PartialEq)]
+#[derive(Debug, Drop, PartialEq, Eq, Hash)]
 pub struct PatPath {
     /// The attributes before it.
     pub attrs: Vec<Attribute>,
@@ -99,7 +99,7 @@ pub struct PatPath {
 }
 
 /// `m!(..)`, the call of a macro as a pattern (Rust Reference, "Macro Invocation").
-#[derive(Debug, Drop, PartialEq)]
+#[derive(Debug, Drop, PartialEq, Eq, Hash)]
 pub struct PatMacro {
     /// The attributes before it.
     pub attrs: Vec<Attribute>,
@@ -108,7 +108,7 @@ pub struct PatMacro {
 }
 
 /// `A { x, 0: y, .. }` (Rust Reference, "Struct patterns").
-#[derive(Debug, Drop, PartialEq)]
+#[derive(Debug, Drop, PartialEq, Eq, Hash)]
 pub struct PatStructOf<P> {
     /// The attributes before it.
     pub attrs: Vec<Attribute>,
@@ -123,7 +123,7 @@ pub struct PatStructOf<P> {
 }
 
 /// A field of a struct pattern.
-#[derive(Debug, Drop, PartialEq)]
+#[derive(Debug, Drop, PartialEq, Eq, Hash)]
 pub struct FieldPatOf<P> {
     /// The attributes before it.
     pub attrs: Vec<Attribute>,
@@ -132,7 +132,7 @@ pub struct FieldPatOf<P> {
 }
 
 /// What a field of a struct pattern is.
-#[derive(Debug, Drop, PartialEq)]
+#[derive(Debug, Drop, PartialEq, Eq, Hash)]
 pub enum FieldPatKindOf<P> {
     /// `x`, `ref mut x`
     Short(ShortFieldPat),
@@ -141,7 +141,7 @@ pub enum FieldPatKindOf<P> {
 }
 
 /// A field that is bound to its own name: `x`, `ref mut x`.
-#[derive(Debug, Drop, PartialEq)]
+#[derive(Debug, Drop, PartialEq, Eq, Hash)]
 pub struct ShortFieldPat {
     /// `ref`
     pub by_ref: Option<Ref>,
@@ -152,7 +152,7 @@ pub struct ShortFieldPat {
 }
 
 /// A field with a pattern of its own: `x: P`, `0: P`.
-#[derive(Debug, Drop, PartialEq)]
+#[derive(Debug, Drop, PartialEq, Eq, Hash)]
 pub struct FullFieldPatOf<P> {
     /// The name or the index of the field.
     pub member: Member,
@@ -163,7 +163,7 @@ pub struct FullFieldPatOf<P> {
 }
 
 /// `A(x, ..)` (Rust Reference, "Tuple struct patterns").
-#[derive(Debug, Drop, PartialEq)]
+#[derive(Debug, Drop, PartialEq, Eq, Hash)]
 pub struct PatTupleStructOf<P> {
     /// The attributes before it.
     pub attrs: Vec<Attribute>,
@@ -176,7 +176,7 @@ pub struct PatTupleStructOf<P> {
 }
 
 /// `(x, y)` (Rust Reference, "Tuple patterns"). `(..)` is one too.
-#[derive(Debug, Drop, PartialEq)]
+#[derive(Debug, Drop, PartialEq, Eq, Hash)]
 pub struct PatTupleOf<P> {
     /// The attributes before it.
     pub attrs: Vec<Attribute>,
@@ -187,7 +187,7 @@ pub struct PatTupleOf<P> {
 }
 
 /// `(x)` (Rust Reference, "Grouped patterns").
-#[derive(Debug, Drop, PartialEq)]
+#[derive(Debug, Drop, PartialEq, Eq, Hash)]
 pub struct PatParenOf<P> {
     /// The attributes before it.
     pub attrs: Vec<Attribute>,
@@ -198,7 +198,7 @@ pub struct PatParenOf<P> {
 }
 
 /// `[x, .., y]` (Rust Reference, "Slice patterns").
-#[derive(Debug, Drop, PartialEq)]
+#[derive(Debug, Drop, PartialEq, Eq, Hash)]
 pub struct PatSliceOf<P> {
     /// The attributes before it.
     pub attrs: Vec<Attribute>,
@@ -209,7 +209,7 @@ pub struct PatSliceOf<P> {
 }
 
 /// `&mut x` (Rust Reference, "Reference patterns").
-#[derive(Debug, Drop, PartialEq)]
+#[derive(Debug, Drop, PartialEq, Eq, Hash)]
 pub struct PatReferenceOf<P> {
     /// The attributes before it.
     pub attrs: Vec<Attribute>,
@@ -222,7 +222,7 @@ pub struct PatReferenceOf<P> {
 }
 
 /// `const { .. }`, a block whose value is matched. What is in it is kept as tokens.
-#[derive(Debug, Drop, PartialEq)]
+#[derive(Debug, Drop, PartialEq, Eq, Hash)]
 pub struct PatConst {
     /// The attributes before it.
     pub attrs: Vec<Attribute>,
@@ -233,7 +233,7 @@ pub struct PatConst {
 }
 
 /// `| A | B` (Rust Reference, "Or-patterns").
-#[derive(Debug, Drop, PartialEq)]
+#[derive(Debug, Drop, PartialEq, Eq, Hash)]
 pub struct PatOrOf<P> {
     /// The attributes before it.
     pub attrs: Vec<Attribute>,
@@ -244,7 +244,7 @@ pub struct PatOrOf<P> {
 }
 
 /// `x: T`, an argument of a closure with its type (Rust Reference, "Closure expressions").
-#[derive(Debug, Drop, PartialEq)]
+#[derive(Debug, Drop, PartialEq, Eq, Hash)]
 pub struct PatTypeOf<P> {
     /// The attributes before it.
     pub attrs: Vec<Attribute>,
