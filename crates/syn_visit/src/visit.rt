@@ -11,8 +11,10 @@
 //! The operands of a node are the expressions in it, from left to right: those in its places, the values of its fields, the
 //! guards in its patterns, and the bodies of its arms. The tokens of a block are none.
 
+ghost use Rattle.std.specs.List as list;
 ghost use Rattle.std.specs.List.{list_any};
-ghost use Rattle.std.specs.Prelude.{◌≡◌, ◌<◌, Bool, is_err};
+ghost use Rattle.std.specs.Option.{option_to_list};
+ghost use Rattle.std.specs.Prelude.{◌≡◌, ◌<◌, ◌++◌, Bool, IfErr, IfOk, Option, is_err};
 ghost use Rattle.syn_expr_core.specs.View.{tree_of};
 ghost use Rattle.syn_expr_core.specs.declared.expr.Expr.{Expr, size-Expr};
 ghost use Rattle.syn_expr_spec.specs.Tree.{Tree};
@@ -22,8 +24,10 @@ ghost use Rattle.syn_visit_kinds.specs.Walk.{Saw, SawWith, Sees, SeesWith, Shown
 
 use crate::members;
 use crate::passed::Passed;
+use std::alloc::Global;
 use std::marker::PhantomData;
 use syn_expr_core::expr::Expr;
+use syn_tokens::error::{Error, ErrorKind};
 use syn_visit_kinds::each::{
     call_expr, ends, if_expr, one, optional, punctuated, struct_expr, two,
 };
@@ -195,4 +199,34 @@ pub fn any<F: Fn(&Expr) -> bool>(expr: &Expr, test: &F) -> bool
     ensures { (p : Tree → Bool) → Tells (λ y. p (tree_of y)) (F.post test.now) → result ≡ list_any p (all_nodes (tree_of expr.now)) }
 {
     test(expr) || any_operand_with(expr, test, any)
+}
+
+/// What a function finds at the nodes of an expression: at the expression itself, then at those inside it at any depth, each
+/// before those inside it, from left to right. A node where it answers `None` is left out.
+///
+/// Refused only where memory runs out.
+pub fn filter_map<T: Drop, F: Fn(&Expr) -> Option<T>>(
+    alloc: Global,
+    expr: &Expr,
+    find: &F,
+) -> Result<Vec<T>, Error>
+    requires { F.IsAlwaysCallable find.now }
+    ensures found { (g : Tree → Option T) → Tells (λ y. g (tree_of y)) (F.post find.now) → IfOk result (λ v. v.items ≡ list.filter_map g (all_nodes (tree_of expr.now))) }
+    ensures memory { IfErr result (λ e. e.kind ≡ ErrorKind.OutOfMemory) }
+{
+    let mut found = Vec::new(alloc);
+    for_each(
+        expr,
+        &mut found,
+        &|node: &Expr, found: &mut Vec<T>| -> Result<(), Error>
+            ensures found { (g : Tree → Option T) → Tells (λ y. g (tree_of y)) (F.post find.now) → IfOk result (λ _. found.new.items ≡ found.old.items ++ option_to_list (g (tree_of node.now))) }
+            ensures memory { IfErr result (λ e. e.kind ≡ ErrorKind.OutOfMemory) }
+        {
+            if let Some(one) = find(node) {
+                found.push(one)?;
+            }
+            Ok(())
+        },
+    )?;
+    Ok(found)
 }

@@ -1,3 +1,4 @@
+pub mod Added
 pub mod Answered
 pub mod Both
 pub mod Calls

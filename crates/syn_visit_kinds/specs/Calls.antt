@@ -1,5 +1,5 @@
 -- Calls that are passed a part of an expression. What they require and promise depends on that part alone.
-use Rattle.std.specs.Prelude.{◌≡◌, Bool, Result, Ok, Err, IfOk, ⊤, List, [], ◌∷◌}
+use Rattle.std.specs.Prelude.{◌≡◌, Result, Ok, Err, IfOk, ⊤, List, [], ◌∷◌}
 use denote.Ref.{Bor, MutBor}
 
 -- ---- calls that change what they are passed
@@ -50,21 +50,21 @@ pub record RefusedWith {E C R : Type 0} (post : MutBor E → Bor C → Result (U
   pub passes : with.now ≡ c
   pub met : post old with (Err e) new
 
--- ---- calls that test what they are passed
+-- ---- calls that look at what they are passed
 
 -- a call that may be passed x
 abbrev pub Asks : {E : Type 0} → (Bor E → Type 0) → E → Type 0
 Asks pre x = (borrowed : Bor _) → borrowed.now ≡ x → pre borrowed
 
 -- a call whose answer is that of q for what it is passed
-abbrev pub Tells : {E : Type 0} → (E → Bool) → (Bor E → Bool → Type 0) → Type 0
-Tells q post = (borrowed : Bor _) (r : Bool) → post borrowed r → r ≡ q borrowed.now
+abbrev pub Tells : {E A : Type 0} → (E → A) → (Bor E → A → Type 0) → Type 0
+Tells q post = (borrowed : Bor _) (r : _) → post borrowed r → r ≡ q borrowed.now
 
 abbrev pub AsksWith : {E C : Type 0} → (Bor E → Bor C → Type 0) → C → E → Type 0
 AsksWith pre c x = (borrowed : Bor _) (with : Bor _) → borrowed.now ≡ x → with.now ≡ c → pre borrowed with
 
-abbrev pub TellsWith : {E C : Type 0} → (E → Bool) → (Bor E → Bor C → Bool → Type 0) → C → Type 0
-TellsWith q post c = (borrowed : Bor _) (with : Bor _) (r : Bool) → with.now ≡ c → post borrowed with r → r ≡ q borrowed.now
+abbrev pub TellsWith : {E C A : Type 0} → (E → A) → (Bor E → Bor C → A → Type 0) → C → Type 0
+TellsWith q post c = (borrowed : Bor _) (with : Bor _) (r : _) → with.now ≡ c → post borrowed with r → r ≡ q borrowed.now
 
 -- ---- two lists whose elements are related one by one
 

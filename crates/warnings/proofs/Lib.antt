@@ -1,2 +1,1 @@
-pub mod Added
 mod Nodes

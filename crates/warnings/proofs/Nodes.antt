@@ -1,13 +1,7 @@
 -- Which nodes call a method `clone`.
 use Rattle.std.proofs.Common.{◌≡◌, false, [], ◌∷◌, List, codes, refl, ap, ◌∙◌}
 use Rattle.std.specs.Str.{bytes_eq}
-use Rattle.syn_lower_spec.specs.Text.{Text}
-use Rattle.syn_lower_spec.specs.Tree.{ArgumentsTree}
-use Rattle.syn_expr_spec.specs.Alone.{behind_attributes, is_method_call}
-use Rattle.syn_expr_spec.specs.Tree.{Children, tail, method}
-use Rattle.syn_expr_ast.specs.View.{elements, expr_method_call_of, turbofish_of, values, trails}
-use Rattle.syn_expr_ast.specs.declared.trailer.ExprMethodCallOf.{ExprMethodCallOf}
-use Rattle.syn_expr.specs.Prelude.{AttributeTree, Tree, Expr, attributed_with, attrs_of, tree_of}
+use Rattle.syn_expr.specs.Prelude.{ArgumentsTree, AttributeTree, Children, Expr, ExprMethodCallOf, Text, Tree, attributed_with, attrs_of, behind_attributes, expr_method_call_of, is_method_call, method, tail, tree_of, turbofish_of}
 use Rattle.warnings.specs.Warnings.{is_clone}
 
 after : (ats : List AttributeTree) (b : Tree) (name : Text) (types : ArgumentsTree) (ks : Children)

@@ -1,25 +1,29 @@
 //! Warns of two things, wherever they are in an expression: a clone that is cloned, and a `return` in a closure.
 #![tactic(auto)]
 
-ghost use Rattle.std.specs.Option.{option_to_list};
-ghost use Rattle.std.specs.Prelude.{◌≡◌, ◌++◌, ◌⊎◌, IfErr, IfOk, MatchResult, chars};
+ghost use Rattle.std.specs.Prelude.{◌≡◌, ◌⊎◌, ℕ, List, IfErr, IfOk, chars};
+ghost use Rattle.syn_expr.specs.Prelude as node;
 ghost use Rattle.syn_expr.specs.Prelude.{tree_of, NothingStands};
-ghost use Rattle.syn_expr_spec.specs.Alone as node;
 ghost use Rattle.warnings.specs.Warnings as spec;
 
 use std::alloc::Global;
 use std::io;
-use syn_expr::{ErrorKind, Expr, HeldExpr, Result, Span, Spanned, parse_str};
+use std::marker::Model;
+use syn_expr::{ErrorKind, Expr, HeldExpr, Result, Span, parse_str};
 use syn_report::{LineColumn, report};
-use syn_visit::{any, any_operand, for_each};
+use syn_visit::{any, any_operand, filter_map};
 
-/// What a warning is about.
-#[derive(Clone, Copy)]
-enum Warning {
-    /// `x.clone().clone()`
-    ClonedTwice,
-    /// `|x| return x`
-    ReturnInClosure,
+/// A warning, at its place in the text. Contracts see what it says.
+#[derive(Drop)]
+struct Warning {
+    message: &'static str,
+    span: Span,
+}
+
+impl Model for Warning {
+    ghost Value = { List ℕ };
+
+    ghost view = { λ w. w.message.now };
 }
 
 /// Whether it calls a method `clone`.
@@ -60,42 +64,37 @@ fn returns_in_closure(expr: &Expr) -> bool
     is_closure(expr) && any(expr, &is_return)
 }
 
+/// Where a warning of a node is: at the name of the method, or where the closure begins.
+fn place(expr: &Expr) -> Span {
+    match expr {
+        Expr::MethodCall(call) => call.method.span(),
+        Expr::Closure(closure) => closure.inputs_begin.spans[0],
+        _ => Span::call_site(),
+    }
+}
+
 /// What there is to warn of at a node.
 fn warning_at(expr: &Expr) -> Option<Warning>
     ensures { result ≡ spec.warning_at (tree_of expr.now) }
 {
-    if is_cloned_twice(expr) {
-        Some(Warning::ClonedTwice)
+    let message = if is_cloned_twice(expr) {
+        "a clone is cloned"
     } else if returns_in_closure(expr) {
-        Some(Warning::ReturnInClosure)
+        "there is a `return` in a closure"
     } else {
-        None
-    }
-}
-
-/// Adds what there is to warn of at a node, with its place in the text: the name of the method, or the whole closure.
-fn warn(expr: &Expr, found: &mut Vec<(Warning, Span)>) -> Result<()>
-    ensures { MatchResult result (λ _. spec.kinds found.new ≡ spec.kinds found.old ++ option_to_list (spec.warning_at (tree_of expr.now))) spec.RunsOut }
-{
-    if let Some(warning) = warning_at(expr) {
-        let span = match expr {
-            Expr::MethodCall(call) => call.method.span(),
-            _ => expr.span(*found.allocator())?.unwrap_or_default(),
-        };
-        found.push((warning, span))?;
-    }
-    Ok(())
+        return None;
+    };
+    let span = place(expr);
+    Some(Warning { message, span })
 }
 
 /// What there is to warn of in the expression of a text: at each node before those in it, from left to right.
-fn warnings(alloc: Global, text: &str) -> Result<Vec<(Warning, Span)>>
-    ensures value { IfOk result (λ w. spec.AreWarningsOf (chars text.now) (spec.kinds w)) }
+fn warnings(alloc: Global, text: &str) -> Result<Vec<Warning>>
+    ensures value { IfOk result (λ w. spec.AreWarningsOf (chars text.now) w.items) }
     ensures refused { IfErr result (λ e. (e.kind ≡ ErrorKind.OutOfMemory) ⊎ NothingStands (chars text.now)) }
 {
     let held = parse_str::<HeldExpr>(alloc, text)?;
-    let mut found = Vec::new(alloc);
-    for_each(&held.expr, &mut found, &warn)?;
-    Ok(found)
+    filter_map(alloc, &held.expr, &warning_at)
 }
 
 fn main(rt: HostRuntime) -> io::Result<()> {
@@ -107,14 +106,10 @@ fn main(rt: HostRuntime) -> io::Result<()> {
         println!(rt; "{text}")?;
         match warnings(rt.alloc(), text) {
             Ok(found) => {
-                for (warning, span) in &found {
-                    let at = LineColumn::of(text, span.lo);
-                    let (line, column) = (at.line, at.column.saturating_add(1));
-                    let message = match warning {
-                        Warning::ClonedTwice => "a clone is cloned",
-                        Warning::ReturnInClosure => "there is a `return` in a closure",
-                    };
-                    println!(rt; "warning: in line {line} at column {column}, {message}")?;
+                for warning in &found {
+                    let LineColumn { line, column } = LineColumn::of(text, warning.span.lo);
+                    let column = column.saturating_add(1);
+                    println!(rt; "warning: {line}:{column}: {}", warning.message)?;
                 }
             }
             Err(e) => println!(rt; "{}", report(rt.alloc(), text, &e)?)?,
