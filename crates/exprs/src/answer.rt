@@ -11,8 +11,8 @@ use crate::kinds::kind_of;
 use std::alloc::Global;
 use syn_expr::print::print_counted;
 use syn_expr::{
-    Error, ErrorKind, Expr, HeldExpr, Position, Result, TokenStream, flatten_in_place, parse_str,
-    to_text,
+    Error, ErrorKind, Expr, HeldExpr, Position, Result, TokenStream, dump, flatten_in_place,
+    parse_str, to_text,
 };
 
 /// Makes of an expression that was read what is printed of it: with `bare` it loses its parentheses.
@@ -46,20 +46,13 @@ fn printed(alloc: Global, position: Position, expr: &Expr) -> Result<String>
     Ok(line)
 }
 
-/// The tree of an expression as `Debug` shows it, on a line.
-fn dumped(alloc: Global, expr: &Expr) -> Result<String>
-    ensures refused { IfErr result (λ e. e.kind ≡ ErrorKind.OutOfMemory) }
-{
-    Ok(format!(in alloc; "{expr:?}\n")?)
-}
-
 /// The line of an expression.
 fn line_of(alloc: Global, settings: Settings, expr: &Expr) -> Result<String>
     ensures value { IfOk result (λ s. spec.IsLineOf settings.dump (position_of settings.position) (tree_of expr.now) (string_bytes s)) }
     ensures refused { IfErr result (λ e. e.kind ≡ ErrorKind.OutOfMemory) }
 {
     if settings.dump {
-        dumped(alloc, expr)
+        dump(alloc, expr)
     } else {
         printed(alloc, settings.position, expr)
     }

@@ -5,8 +5,8 @@ use std::alloc::Global;
 use syn_expr::token::{Brace, Group, Match};
 use syn_expr::{
     Arm, Error, Expr, ExprMatch, ExprParen, FieldValue, HeldExpr, Parse, ParseBuffer, Position,
-    Result, ToTokens, TokenStream, expr_to_text, flatten, flatten_in_place, lex, parse_str, parse2,
-    print_counted, print_expr, read_back, read_back_before, to_text,
+    Result, ToTokens, TokenStream, dump, expr_to_text, flatten, flatten_in_place, lex, parse_str,
+    parse2, print_counted, print_expr, read_back, read_back_before, to_text,
 };
 
 /// An expression that is held.
@@ -164,6 +164,13 @@ fn text_for(alloc: Global, text: &str, position: Position) -> Result<String> {
     expr_to_text(alloc, &held.expr, position)
 }
 
+/// How long the text is that shows the tree of a text.
+fn dumped(alloc: Global, text: &str) -> Result<String> {
+    let held = parse_str::<HeldExpr>(alloc, text)?;
+    let shown = dump(alloc, &held.expr)?;
+    Ok(format!(in alloc; "{} bytes", shown.len())?)
+}
+
 /// The expression of a text without its parentheses.
 fn flattened(alloc: Global, text: &str) -> Result<String> {
     let expr = parse_str::<HeldExpr>(alloc, text)?.into_inner();
@@ -285,6 +292,7 @@ pub fn printers(rt: &HostRuntime) {
         "expr_to_text",
         text_for(alloc, "{ a } + b", Position::Arm),
     );
+    tell(rt, "dump", dumped(alloc, "-_"));
     tell(
         rt,
         "flatten",

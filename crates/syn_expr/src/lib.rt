@@ -3,11 +3,13 @@
 //! `==` says is in `syn_laws`.
 #![tactic(auto)]
 
+pub mod dump;
 pub mod laws;
 pub mod precedence;
 pub mod print;
 pub mod well_formed;
 
+pub use dump::dump;
 pub use laws::read_back;
 pub use laws::read_back_before;
 pub use precedence::Precedence;

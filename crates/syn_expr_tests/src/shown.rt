@@ -1,15 +1,33 @@
-//! What `{:?}` shows of trees, and where they are. The texts are as Rust's derived `Debug` writes them; places are in bytes.
+//! What `{:?}` and `dump` show of trees, and where they are. The texts are as Rust's derived `Debug` writes them; places are in bytes.
 
 use rows::check;
 use std::alloc::Global;
 use std::test::Fail;
-use syn_expr::{Error, Expr, HeldExpr, Spanned, TokenStream, parse_str};
+use syn_expr::{Error, Expr, HeldExpr, Spanned, TokenStream, dump, parse_str};
 
 /// A text, and what is shown of its tree.
 const SHOWN: &str = "
 _   | Infer(ExprInfer { attrs: [], underscore_token: Underscore { spans: [Span { lo: 0, hi: 1 }] } })
 (_) | Paren(ExprParenOf { attrs: [], paren_token: Paren { span: Span { lo: 0, hi: 3 } }, expr: Infer(ExprInfer { attrs: [], underscore_token: Underscore { spans: [Span { lo: 1, hi: 2 }] } }) })
 -a  | Unary(ExprUnaryOf { attrs: [], op: Neg(Sign { spans: [Span { lo: 0, hi: 1 }] }), expr: Path(ExprPath { attrs: [], qself: None, path: PathOf { leading_colon: None, segments: Punctuated { inner: [], last: Some(PathSegmentOf { ident: Ident { text: \"a\", span: Span { lo: 1, hi: 2 } }, arguments: None }) } } }) })
+";
+
+/// What `dump` shows of `-_`.
+const DUMPED: &str = "\
+Unary(
+    ExprUnaryOf {
+        attrs: [],
+        op: Neg(
+            Sign {},
+        ),
+        expr: Infer(
+            ExprInfer {
+                attrs: [],
+                underscore_token: Underscore {},
+            },
+        ),
+    },
+)
 ";
 
 /// A text, and where its tree is.
@@ -45,6 +63,13 @@ fn placed(alloc: Global, text: &str) -> Result<String, Error> {
 #[test]
 fn trees_are_shown(rt: HostRuntime) -> Result<(), Fail> {
     check(rt.alloc(), SHOWN, shown)
+}
+
+#[test]
+fn trees_are_dumped(rt: HostRuntime) -> Result<(), Fail> {
+    let held = parse_str::<HeldExpr>(rt.alloc(), "-_")?;
+    assert_eq!(rt; dump(rt.alloc(), &held.expr)?.as_str(), DUMPED);
+    Ok(())
 }
 
 #[test]
