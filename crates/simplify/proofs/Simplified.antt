@@ -1,121 +1,48 @@
--- Which expressions are negated equalities, and what is made of them.
-use Rattle.std.proofs.Common.{◌≡◌, ℕ, Bool, true, false, ◌&&◌, ◌==◌, List, [], ◌∷◌, ◌++◌, Result, Ok, Err, string_bytes, subst, length, map, refl, ap, sym, ◌∙◌, rules}
-use Rattle.syn_lower_leaves.specs.declared.attr.Attribute.{Attribute}
-use Rattle.syn_lower_leaves.specs.View.{attribute_of}
-use Rattle.syn_lower_spec.specs.Tree.{AttributeTree}
-use Rattle.syn_expr_spec.specs.declared.kinds.BinKind.TheVariants as bin
-use Rattle.syn_expr_spec.specs.declared.kinds.Infix.TheVariants as inf
-use Rattle.syn_expr_spec.specs.declared.kinds.UnKind.{UnKind}
-use Rattle.syn_expr_spec.specs.declared.kinds.UnKind.TheVariants as un
-use Rattle.syn_expr_spec.specs.Tree.{Tree, attributed_with, attributed, prefixed, unary, infixed, none, own_tokens}
-use Rattle.syn_expr_tokens.specs.View.{bin_kind, un_kind}
-use Rattle.syn_expr_tokens.specs.declared.op.BinOp.{BinOp}
-use Rattle.syn_expr_ast.specs.declared.operation.ExprBinaryOf.{ExprBinaryOf}
-use Rattle.syn_expr_ast.specs.declared.operation.ExprUnaryOf.{ExprUnaryOf}
+-- What is a negated equality, and what is made of it.
+use Rattle.std.proofs.Common.{◌≡◌, true, false, List, [], ◌∷◌, map, refl, ap, sym, subst, ◌∙◌}
+use Rattle.syn_expr.specs.BinKind as bin
+use Rattle.syn_expr.specs.Infix as inf
+use Rattle.syn_expr.specs.UnKind as un
+use Rattle.syn_expr.specs.Expr as ex
+use Rattle.syn_expr.specs.Prelude.{Attribute, BinKind, BinOp, Expr, ExprBinaryOf, ExprUnaryOf, Tree, UnKind, attribute_of, attributed_with, bin_kind, infixed, none, prefixed, tree_of, unary, un_kind}
 use Rattle.syn_expr_ast.specs.Attrs.{attrs_of}
-use Rattle.syn_expr_core.specs.declared.expr.Expr.{Expr}
-use Rattle.syn_expr_core.specs.declared.expr.Expr.TheVariants as ex
-use Rattle.syn_expr_core.specs.View.{tree_of}
-use Rattle.syn_expr_core.proofs.TreeOf.{tree-Binary, tree-Unary}
-use Rattle.std.specs.Prelude.{IfOk, MatchResult, String}
-use Rattle.std.specs.declared.alloc.Global.{Global}
-use Rattle.syn_tokens.specs.Text.{text}
-use Rattle.syn_tokens.specs.Tok.{Tok}
-use Rattle.syn_tokens.specs.declared.error.Error.{Error}
-use Rattle.syn_tokens.specs.declared.error.ErrorKind.TheVariants.{OutOfMemory}
-use Rattle.syn_expr_spec.specs.declared.next.Context.{Context}
-use Rattle.syn_expr_spec.specs.Next.{enclosed}
-use Rattle.syn_expr_spec.specs.Printed.{in_plain}
-use Rattle.syn_expr_spec.specs.Rule as rule
-use Rattle.syn_expr_flatten.specs.Flat.{IsFlat}
-use Rattle.syn_expr.specs.Promises.{PrintedAs}
-use Rattle.syn_expr.specs.Texts.{StandsFor}
-use Rattle.syn_expr.proofs.Promised.{prints_at}
-use Rattle.syn_visit_kinds.specs.Nodes.{rewrite_tree}
-use Rattle.syn_expr.proofs.OtherKinds.{kind_of, other, k-Binary, k-Unary, in-Binary, in-Unary}
-use Rattle.simplify.specs.Simplified.{IsSimplified, simplified, is_eq, is_not, is_equality, is_negated_equality, operand_of, unequal}
+use Rattle.syn_expr.proofs.TreeOf.{tree-Binary, tree-Unary}
+use Rattle.syn_expr.proofs.OtherKinds.{kind_of, k-Binary, k-Unary}
+use Rattle.simplify.specs.Simplified.{simplified, negates}
 
--- ---- an equality
+abbrev operation : List Attribute → Tree → BinKind → Tree → Tree
+operation ats x op y = attributed_with (map attribute_of ats) (infixed x (inf.Binary op) y)
 
-abbrev sides : ExprBinaryOf Expr → Tree
-sides o = infixed (tree_of o.left.value) (inf.Binary (bin_kind o.op)) (tree_of o.right.value)
+abbrev negation : List Attribute → UnKind → Tree → Tree
+negation ats k t = attributed_with (map attribute_of ats) (prefixed (unary k) none t)
 
-equality_after : (ats : List Attribute) (t : Tree) → ((length ats == 0) && is_equality t) ≡ is_equality (attributed_with (map attribute_of ats) t)
-equality_after [] t = refl
-equality_after (a ∷ ats) t = search rules
+changes : (ats : List Attribute) (k : UnKind) (more : List Attribute) (op : BinKind) (x y : Tree) → negates ats k more op ≡ true → operation more x bin.Ne y ≡ simplified (negation ats k (operation more x op y))
+changes [] un.Not [] bin.Eq x y h = refl
+changes _ _ _ _ x y h = absurd cc
 
-equality : (x : Expr) (o : ExprBinaryOf Expr) → x ≡ ex.Binary o → ((length o.attrs.items == 0) && is_eq (bin_kind o.op)) ≡ is_equality (tree_of x)
-unfolding attrs_of
-equality x o is = equality_after o.attrs.items (sides o) ∙ sym (ap is_equality (ap tree_of is ∙ tree-Binary o))
+keeps : (ats : List Attribute) (k : UnKind) (more : List Attribute) (op : BinKind) (x y : Tree) → negates ats k more op ≡ false → negation ats k (operation more x op y) ≡ simplified (negation ats k (operation more x op y))
+keeps [] un.Not [] bin.Eq x y h = absurd cc
+keeps _ _ _ _ x y h = refl
 
-pub equality_if : (x : Expr) (o : ExprBinaryOf Expr) → x ≡ ex.Binary o → (b : Bool) → (length o.attrs.items == 0) ≡ b → (b && is_eq (bin_kind o.op)) ≡ is_equality (tree_of x)
-equality_if x o is b h = sym (ap (λ e. e && is_eq (bin_kind o.op)) h) ∙ equality x o is
+pub no_operation : (ats : List Attribute) (k : UnKind) (t : Tree) → (kind_of t ≡ k-Binary → ⊥) → negation ats k t ≡ simplified (negation ats k t)
+no_operation [] un.Not (infixed x (inf.Binary bin.Eq) y) differs = absurd (differs refl)
+no_operation _ _ _ differs = refl
 
-other_equality : (t : Tree) → (kind_of t ≡ k-Binary → ⊥) → false ≡ is_equality t
-other_equality (infixed x (inf.Binary k) y) differs = absurd (differs refl)
-other_equality _ differs = refl
+pub no_negation : (t : Tree) → (kind_of t ≡ k-Unary → ⊥) → t ≡ simplified t
+no_negation (prefixed (unary un.Not) guards (infixed x (inf.Binary bin.Eq) y)) differs = absurd (differs refl)
+no_negation _ differs = refl
 
-pub no_equality : (x : Expr) → ((o : ExprBinaryOf Expr) → x ≡ ex.Binary o → ⊥) → false ≡ is_equality (tree_of x)
-no_equality x differs = other_equality (tree_of x) (other in-Binary x differs)
+module _ (o : ExprUnaryOf Expr) where
+  pub stays : (t : Tree) → tree_of o.expr.value ≡ t → negation o.attrs.items (un_kind o.op) t ≡ simplified (negation o.attrs.items (un_kind o.op) t) → tree_of (ex.Unary o) ≡ simplified (tree_of (ex.Unary o))
+  unfolding attrs_of
+  stays t is h = subst (λ u. u ≡ simplified u) (sym (tree-Unary o ∙ ap (negation o.attrs.items (un_kind o.op)) is)) h
 
--- ---- a negation
+  pub kept : (b : ExprBinaryOf Expr) → o.expr.value ≡ ex.Binary b → negates o.attrs.items (un_kind o.op) b.attrs.items (bin_kind b.op) ≡ false → tree_of (ex.Unary o) ≡ simplified (tree_of (ex.Unary o))
+  unfolding attrs_of
+  kept b is h = stays _ (ap tree_of is ∙ tree-Binary b) (keeps o.attrs.items (un_kind o.op) b.attrs.items (bin_kind b.op) _ _ h)
 
-abbrev negated : ExprUnaryOf Expr → Tree
-negated o = prefixed (unary (un_kind o.op)) none (tree_of o.expr.value)
-
-negation_after : (ats : List Attribute) (t : Tree) → ((length ats == 0) && is_negated_equality t) ≡ is_negated_equality (attributed_with (map attribute_of ats) t)
-negation_after [] t = refl
-negation_after (a ∷ ats) t = search rules
-
-negation : (x : Expr) (o : ExprUnaryOf Expr) → x ≡ ex.Unary o → ((length o.attrs.items == 0) && (is_not (un_kind o.op) && is_equality (tree_of o.expr.value))) ≡ is_negated_equality (tree_of x)
-unfolding attrs_of
-negation x o is = negation_after o.attrs.items (negated o) ∙ sym (ap is_negated_equality (ap tree_of is ∙ tree-Unary o))
-
-pub negation_if : (x : Expr) (o : ExprUnaryOf Expr) → x ≡ ex.Unary o → (b : Bool) → (length o.attrs.items == 0) ≡ b → (b && (is_not (un_kind o.op) && is_equality (tree_of o.expr.value))) ≡ is_negated_equality (tree_of x)
-negation_if x o is b h = sym (ap (λ e. e && (is_not (un_kind o.op) && is_equality (tree_of o.expr.value))) h) ∙ negation x o is
-
-other_negation : (t : Tree) → (kind_of t ≡ k-Unary → ⊥) → false ≡ is_negated_equality t
-other_negation (prefixed (unary k) guards t) differs = absurd (differs refl)
-other_negation _ differs = refl
-
-pub no_negation : (x : Expr) → ((o : ExprUnaryOf Expr) → x ≡ ex.Unary o → ⊥) → false ≡ is_negated_equality (tree_of x)
-no_negation x differs = other_negation (tree_of x) (other in-Unary x differs)
-
--- ---- what is made of it
-
-operand : (ats : List AttributeTree) (k : UnKind) (t : Tree) → t ≡ operand_of (attributed_with ats (prefixed (unary k) none t))
-operand [] k t = refl
-operand (a ∷ more) k t = refl
-
-pub lifted : (o : ExprUnaryOf Expr) → tree_of o.expr.value ≡ operand_of (tree_of (ex.Unary o))
-lifted o = operand (attrs_of o.attrs) (un_kind o.op) (tree_of o.expr.value) ∙ sym (ap operand_of (tree-Unary o))
-
-unequal_after : (ats : List AttributeTree) (t : Tree) → attributed_with ats (unequal t) ≡ unequal (attributed_with ats t)
-unequal_after [] t = refl
-unequal_after (a ∷ more) t = refl
-
-pub unequal-Binary : (o : ExprBinaryOf Expr) (op : BinOp) → bin_kind op ≡ bin.Ne → tree_of (ex.Binary (record o { op = op })) ≡ unequal (tree_of (ex.Binary o))
-unequal-Binary o op is =
-    tree-Binary (record o { op = op }) ∙ ap (λ k. attributed_with (attrs_of o.attrs) (infixed (tree_of o.left.value) (inf.Binary k) (tree_of o.right.value))) is
-    ∙ unequal_after (attrs_of o.attrs) (sides o) ∙ sym (ap unequal (tree-Binary o))
-
-pub both : (t : Tree) → is_negated_equality t ≡ true → unequal (operand_of t) ≡ simplified t
-both (prefixed (unary un.Not) guards (infixed x (inf.Binary bin.Eq) y)) h = refl
-both _ h = absurd cc
-
-pub neither : (t : Tree) → is_negated_equality t ≡ false → t ≡ simplified t
-neither (prefixed (unary un.Not) guards (infixed x (inf.Binary bin.Eq) y)) h = absurd cc
-neither _ h = refl
-
-pub inner : (t : Tree) → is_negated_equality t ≡ true → is_equality (operand_of t) ≡ true
-inner (prefixed (unary un.Not) guards t) h = h
-inner _ h = absurd cc
-
--- ---- a text
-
-pub printed : (cs : List ℕ) (t flat u : Tree) (c : Context) (old new : List Tok) (r : Result (String Global) Error) → StandsFor cs t → IsFlat t flat → u ≡ rewrite_tree simplified flat → c ≡ enclosed → old ≡ []
-    → new ≡ old ++ own_tokens (rule.printed c u) → MatchResult r (λ s. string_bytes s ≡ text new) (λ e. e.kind ≡ OutOfMemory) → IfOk r (λ s. IsSimplified cs (string_bytes s))
-printed cs t flat u c old new (Ok s) stands is_flat is here gone wrote h =
-    let whole = prints_at in_plain u c new (wrote ∙ ap (λ (l : List Tok). l ++ own_tokens (rule.printed c u)) gone) here in
-    (t, flat, new, stands, is_flat, subst (λ (v : Tree). PrintedAs in_plain v new) is whole, h)
-printed cs t flat u c old new (Err e) stands is_flat is here gone wrote h = tt
+  pub changed : (b : ExprBinaryOf Expr) (op : BinOp) → o.expr.value ≡ ex.Binary b → bin_kind op ≡ bin.Ne → negates o.attrs.items (un_kind o.op) b.attrs.items (bin_kind b.op) ≡ true → tree_of (ex.Binary (record b { op = op })) ≡ simplified (tree_of (ex.Unary o))
+  unfolding attrs_of
+  changed b op is ne h =
+      tree-Binary (record b { op = op }) ∙ ap (λ k. operation b.attrs.items (tree_of b.left.value) k (tree_of b.right.value)) ne ∙ changes o.attrs.items (un_kind o.op) b.attrs.items (bin_kind b.op) _ _ h
+      ∙ sym (ap simplified (tree-Unary o ∙ ap (negation o.attrs.items (un_kind o.op)) (ap tree_of is ∙ tree-Binary b)))

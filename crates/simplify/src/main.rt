@@ -1,20 +1,18 @@
 //! Simplifies expressions: `!(a == b)` becomes `a != b` wherever it is, and parentheses that aren't needed are gone.
 #![tactic(auto)]
 
-ghost use Rattle.std.specs.Prelude.{◌≡◌, ◌⊎◌, ◌&&◌, IfErr, IfOk, chars, string_bytes, true};
-ghost use Rattle.syn_expr_core.specs.View.{tree_of};
-ghost use Rattle.syn_expr_tokens.specs.View.{bin_kind, un_kind};
+ghost use Rattle.std.specs.Prelude.{◌≡◌, ◌⊎◌, IfErr, IfOk, chars, string_bytes};
+ghost use Rattle.syn_expr.specs.Prelude.{bin_kind, un_kind, tree_of, NothingStands};
 ghost use Rattle.simplify.specs.Simplified as spec;
 ghost use Rattle.simplify.specs.Simplified.{IsSimplified, simplified};
-ghost use Rattle.syn_expr.specs.Texts.{NothingStands};
 
 use std::alloc::Global;
 use std::io;
 use std::mem::replace;
 use syn_expr::op::{BinOp, UnOp};
 use syn_expr::{
-    ErrorKind, Expr, ExprUnary, FixupContext, HeldExpr, Result, TokenStream, flatten_in_place,
-    parse_str, print_expr, to_text,
+    Attribute, ErrorKind, Expr, ExprBinary, HeldExpr, Position, Result, expr_to_text,
+    flatten_in_place, parse_str,
 };
 use syn_tokens::token::Ne;
 use syn_visit::rewrite;
@@ -33,61 +31,25 @@ fn is_not(op: &UnOp) -> bool
     matches!(op, UnOp::Not(_))
 }
 
-/// Whether it is `a == b`, without attributes.
-fn is_equality(expr: &Expr) -> bool
-    ensures { result ≡ spec.is_equality (tree_of expr.now) }
+/// Whether it is `!` before `a == b`, both without attributes.
+fn negates_equality(attrs: &Vec<Attribute>, op: &UnOp, equality: &ExprBinary) -> bool
+    ensures { result ≡ spec.negates attrs.now.items (un_kind op.now) equality.now.attrs.items (bin_kind equality.now.op) }
 {
-    match expr {
-        Expr::Binary(operation) => operation.attrs.is_empty() && is_eq(&operation.op),
-        _ => false,
-    }
-}
-
-/// Whether it is `!` and such an operation after it.
-fn negates_equality(operation: &ExprUnary) -> bool
-    ensures { result ≡ (spec.is_not (un_kind operation.now.op) && spec.is_equality (tree_of operation.now.expr.value)) }
-{
-    is_not(&operation.op) && is_equality(&operation.expr)
-}
-
-/// Whether it is the same, without attributes.
-fn is_negated_equality(expr: &Expr) -> bool
-    ensures { result ≡ spec.is_negated_equality (tree_of expr.now) }
-{
-    match expr {
-        Expr::Unary(operation) => operation.attrs.is_empty() && negates_equality(operation),
-        _ => false,
-    }
-}
-
-/// Puts the operand of a prefix operator in its place.
-fn lift_operand(alloc: Global, expr: &mut Expr)
-    ensures { spec.is_negated_equality (tree_of expr.old) ≡ true → tree_of expr.new ≡ spec.operand_of (tree_of expr.old) }
-{
-    if let Expr::Unary(operation) = expr {
-        let operand = replace(&mut *operation.expr, Expr::placeholder(alloc));
-        drop(HeldExpr {
-            expr: replace(expr, operand),
-        });
-    }
-}
-
-/// Makes the operator of an equality `!=`.
-fn make_unequal(expr: &mut Expr)
-    ensures { spec.is_equality (tree_of expr.old) ≡ true → tree_of expr.new ≡ spec.unequal (tree_of expr.old) }
-{
-    if let Expr::Binary(operation) = expr {
-        operation.op = BinOp::Ne(Ne::default());
-    }
+    attrs.is_empty() && is_not(op) && equality.attrs.is_empty() && is_eq(&equality.op)
 }
 
 /// Makes `a != b` of `!(a == b)` whose parentheses are gone. All else stays as it is.
 fn simplify(alloc: Global, expr: &mut Expr)
     ensures { tree_of expr.new ≡ simplified (tree_of expr.old) }
 {
-    if is_negated_equality(expr) {
-        lift_operand(alloc, expr);
-        make_unequal(expr);
+    if let Expr::Unary(negation) = expr {
+        if let Expr::Binary(equality) = &mut *negation.expr {
+            if negates_equality(&negation.attrs, &negation.op, equality) {
+                equality.op = BinOp::Ne(Ne::default());
+                let unequal = replace(&mut *negation.expr, Expr::placeholder(alloc));
+                drop(HeldExpr::from(replace(expr, unequal)));
+            }
+        }
     }
 }
 
@@ -108,9 +70,7 @@ fn simplified_text(alloc: Global, text: &str) -> Result<String>
             Ok(())
         },
     )?;
-    let mut tokens = TokenStream::new(alloc);
-    print_expr(&held.expr, &mut tokens, FixupContext::NONE)?;
-    to_text(&tokens)
+    expr_to_text(alloc, &held.expr, Position::Plain)
 }
 
 fn main(rt: HostRuntime) -> io::Result<()> {
