@@ -3,7 +3,7 @@ use Rattle.std.specs.Prelude.{ℕ, ◌==◌, ◌&&◌, List, length, Bool, true,
 use Rattle.syn_expr.specs.BinKind as bin
 use Rattle.syn_expr.specs.Infix as inf
 use Rattle.syn_expr.specs.UnKind as un
-use Rattle.syn_expr.specs.Prelude.{Attribute, BinKind, UnKind, Tree, prefixed, unary, infixed, in_plain, IsFlat, IsTextOf, StandsFor}
+use Rattle.syn_expr.specs.Prelude.{AttributeTree, BinKind, UnKind, Tree, prefixed, unary, infixed, in_plain, IsFlat, IsTextOf, StandsFor}
 use Rattle.syn_visit_kinds.specs.Nodes.{rewrite_tree}
 
 -- `!(a == b)` without its parentheses becomes `a != b`. Anything else stays.
@@ -27,5 +27,5 @@ is_not un.Not = true
 is_not _ = false
 
 -- whether the operator k after the attributes ats, before the operation op after the attributes more, makes `!(a == b)`
-abbrev pub negates : List Attribute → UnKind → List Attribute → BinKind → Bool
+abbrev pub negates : List AttributeTree → UnKind → List AttributeTree → BinKind → Bool
 negates ats k more op = (length ats == 0) && is_not k && (length more == 0) && is_eq op

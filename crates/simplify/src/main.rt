@@ -2,7 +2,7 @@
 #![tactic(auto)]
 
 ghost use Rattle.std.specs.Prelude.{◌≡◌, ◌⊎◌, IfErr, IfOk, chars, string_bytes};
-ghost use Rattle.syn_expr.specs.Prelude.{bin_kind, un_kind, tree_of, NothingStands};
+ghost use Rattle.syn_expr.specs.Prelude.{attrs_of, bin_kind, un_kind, tree_of, NothingStands};
 ghost use Rattle.simplify.specs.Simplified as spec;
 ghost use Rattle.simplify.specs.Simplified.{IsSimplified, simplified};
 
@@ -32,8 +32,9 @@ fn is_not(op: &UnOp) -> bool
 }
 
 /// Whether it is `!` before `a == b`, both without attributes.
+#[tactic(auto, unfolding(syn_expr_ast::specs::Attrs::attrs_of))]
 fn negates_equality(attrs: &Vec<Attribute>, op: &UnOp, equality: &ExprBinary) -> bool
-    ensures { result ≡ spec.negates attrs.now.items (un_kind op.now) equality.now.attrs.items (bin_kind equality.now.op) }
+    ensures { result ≡ spec.negates (attrs_of attrs.now) (un_kind op.now) (attrs_of equality.now.attrs) (bin_kind equality.now.op) }
 {
     attrs.is_empty() && is_not(op) && equality.attrs.is_empty() && is_eq(&equality.op)
 }

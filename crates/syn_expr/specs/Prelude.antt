@@ -8,8 +8,7 @@ pub use Rattle.syn_lower_spec.specs.Pat.{index_of}
 pub use Rattle.syn_lower_spec.specs.Text.{Text}
 pub use Rattle.syn_lower_spec.specs.Tree.{ArgumentsTree, AttributeTree, LitTree}
 pub use Rattle.syn_lower_spec.specs.declared.label.LitKind.{LitKind}
-pub use Rattle.syn_lower_leaves.specs.View.{attribute_of, lit_of}
-pub use Rattle.syn_lower_leaves.specs.declared.attr.Attribute.{Attribute}
+pub use Rattle.syn_lower_leaves.specs.View.{lit_of}
 pub use Rattle.syn_expr_tokens.specs.declared.op.BinOp.{BinOp}
 pub use Rattle.syn_expr_spec.specs.Alone.{behind_attributes, is_closure, is_method_call, is_return}
 pub use Rattle.syn_expr_spec.specs.Op.{binary_level}
