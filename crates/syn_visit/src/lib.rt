@@ -9,6 +9,7 @@ pub mod visit;
 pub mod visit_mut;
 
 pub use visit::{
-    any, any_operand, any_operand_with, filter_map, for_each, for_each_operand, for_each_operand_with,
+    any, any_operand, any_operand_with, filter_map, for_each, for_each_operand,
+    for_each_operand_with,
 };
 pub use visit_mut::{for_each_operand_mut, for_each_operand_mut_with, rewrite};
