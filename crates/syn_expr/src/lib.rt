@@ -3,13 +3,12 @@
 //! `==` says is in `syn_laws`.
 #![tactic(auto)]
 
-pub mod dump;
 pub mod laws;
 pub mod precedence;
 pub mod print;
+pub mod shown;
 pub mod well_formed;
 
-pub use dump::dump;
 pub use laws::read_back;
 pub use laws::read_back_before;
 pub use precedence::Precedence;
@@ -17,6 +16,7 @@ pub use print::Position;
 pub use print::expr_to_text;
 pub use print::print_counted;
 pub use print::print_expr;
+pub use shown::dump;
 pub use syn_expr_classify::classify;
 pub use syn_expr_classify::expr_leading_label;
 pub use syn_expr_classify::expr_trailing_brace;
