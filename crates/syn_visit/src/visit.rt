@@ -219,7 +219,8 @@ pub fn filter_map<T: Drop, F: Fn(&Expr) -> Option<T>>(
         expr,
         &mut found,
         &|node: &Expr, found: &mut Vec<T>| -> Result<(), Error>
-            ensures found { (g : Tree → Option T) → Tells (λ y. g (tree_of y)) (F.post find.now) → IfOk result (λ _. found.new.items ≡ found.old.items ++ option_to_list (g (tree_of node.now))) }
+            requires { F.IsAlwaysCallable find.now }
+            ensures found { (g : Tree → Option T) → Tells (λ y. g (tree_of y)) (F.post find.entry.now) → IfOk result (λ _. found.new.items ≡ found.old.items ++ option_to_list (g (tree_of node.now))) }
             ensures memory { IfErr result (λ e. e.kind ≡ ErrorKind.OutOfMemory) }
         {
             if let Some(one) = find(node) {
