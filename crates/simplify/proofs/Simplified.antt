@@ -1,5 +1,5 @@
 -- What is a negated equality, and what is made of it.
-use Rattle.std.proofs.Common.{◌≡◌, Bool, true, false, if◌then◌else◌, List, [], refl, ap, sym, subst, ◌∙◌}
+use Rattle.std.proofs.Common.{◌≡◌, Bool, true, false, if◌then◌else◌, List, [], ◌∷◌, length, ◌==◌, refl, ap, sym, subst, ◌∙◌, rules}
 use Rattle.syn_expr.specs.BinKind as bin
 use Rattle.syn_expr.specs.Infix as inf
 use Rattle.syn_expr.specs.UnKind as un
@@ -15,10 +15,15 @@ operation ats x op y = attributed_with ats (infixed x (inf.Binary op) y)
 abbrev negation : List AttributeTree → UnKind → Tree → Tree
 negation ats k t = attributed_with ats (prefixed (unary k) none t)
 
+some : (a : AttributeTree) (ats : List AttributeTree) → (length (a ∷ ats) == 0) ≡ false
+some a ats = search rules
+
 becomes : (ats : List AttributeTree) (k : UnKind) (more : List AttributeTree) (op : BinKind) (x y : Tree) (b : Bool) → negates ats k more op ≡ b
     → (if b then operation more x bin.Ne y else negation ats k (operation more x op y)) ≡ simplified (negation ats k (operation more x op y))
 becomes [] un.Not [] bin.Eq x y true h = refl
 becomes [] un.Not [] bin.Eq x y false h = absurd cc
+becomes [] un.Not (a ∷ more) op x y true h = let one = some a more in absurd cc
+becomes (a ∷ ats) k more op x y true h = let one = some a ats in absurd cc
 becomes _ _ _ _ x y true h = absurd cc
 becomes _ _ _ _ x y false h = refl
 
@@ -30,14 +35,18 @@ pub no_negation : (t : Tree) → (kind_of t ≡ k-Unary → ⊥) → t ≡ simpl
 no_negation (prefixed (unary un.Not) guards (infixed x (inf.Binary bin.Eq) y)) differs = absurd (differs refl)
 no_negation _ differs = refl
 
-module _ (o : ExprUnaryOf Expr) where
-  pub stays : (t : Tree) → tree_of o.expr.value ≡ t → negation (attrs_of o.attrs) (un_kind o.op) t ≡ simplified (negation (attrs_of o.attrs) (un_kind o.op) t) → tree_of (ex.Unary o) ≡ simplified (tree_of (ex.Unary o))
-  stays t is h = subst (λ u. u ≡ simplified u) (sym (tree-Unary o ∙ ap (negation (attrs_of o.attrs) (un_kind o.op)) is)) h
+-- what is written back where `v` is the operand that was matched
+module _ (o : ExprUnaryOf Expr) (v : Expr) (same : v ≡ o.expr.value) where
+  pub stays : (t : Tree) → tree_of v ≡ t → negation (attrs_of o.attrs) (un_kind o.op) t ≡ simplified (negation (attrs_of o.attrs) (un_kind o.op) t)
+      → tree_of (ex.Unary (record o { expr = record o.expr { value = v } })) ≡ simplified (tree_of (ex.Unary o))
+  stays t is h =
+      tree-Unary (record o { expr = record o.expr { value = v } }) ∙ ap (negation (attrs_of o.attrs) (un_kind o.op)) is ∙ h
+      ∙ ap (λ u. simplified (negation (attrs_of o.attrs) (un_kind o.op) u)) (sym is ∙ ap tree_of same) ∙ sym (ap simplified (tree-Unary o))
 
-  pub kept : (b : ExprBinaryOf Expr) → o.expr.value ≡ ex.Binary b → negates (attrs_of o.attrs) (un_kind o.op) (attrs_of b.attrs) (bin_kind b.op) ≡ false → tree_of (ex.Unary o) ≡ simplified (tree_of (ex.Unary o))
+  pub kept : (b : ExprBinaryOf Expr) → v ≡ ex.Binary b → negates (attrs_of o.attrs) (un_kind o.op) (attrs_of b.attrs) (bin_kind b.op) ≡ false → tree_of (ex.Unary (record o { expr = record o.expr { value = v } })) ≡ simplified (tree_of (ex.Unary o))
   kept b is h = stays _ (ap tree_of is ∙ tree-Binary b) (becomes (attrs_of o.attrs) (un_kind o.op) (attrs_of b.attrs) (bin_kind b.op) _ _ false h)
 
-  pub changed : (b : ExprBinaryOf Expr) (op : BinOp) → o.expr.value ≡ ex.Binary b → bin_kind op ≡ bin.Ne → negates (attrs_of o.attrs) (un_kind o.op) (attrs_of b.attrs) (bin_kind b.op) ≡ true → tree_of (ex.Binary (record b { op = op })) ≡ simplified (tree_of (ex.Unary o))
+  pub changed : (b : ExprBinaryOf Expr) (op : BinOp) → v ≡ ex.Binary b → bin_kind op ≡ bin.Ne → negates (attrs_of o.attrs) (un_kind o.op) (attrs_of b.attrs) (bin_kind b.op) ≡ true → tree_of (ex.Binary (record b { op = op })) ≡ simplified (tree_of (ex.Unary o))
   changed b op is ne h =
       tree-Binary (record b { op = op }) ∙ ap (λ k. operation (attrs_of b.attrs) (tree_of b.left.value) k (tree_of b.right.value)) ne ∙ becomes (attrs_of o.attrs) (un_kind o.op) (attrs_of b.attrs) (bin_kind b.op) _ _ true h
-      ∙ sym (ap simplified (tree-Unary o ∙ ap (negation (attrs_of o.attrs) (un_kind o.op)) (ap tree_of is ∙ tree-Binary b)))
+      ∙ sym (ap simplified (tree-Unary o ∙ ap (negation (attrs_of o.attrs) (un_kind o.op)) (ap tree_of (sym same ∙ is) ∙ tree-Binary b)))
