@@ -1,2 +1,1 @@
-pub mod Literals
 pub mod Values

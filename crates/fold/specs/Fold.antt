@@ -1,7 +1,8 @@
 -- The value of an expression of integers, as an `i64` (Rust Reference, "Integer literal expressions", "Grouped expressions",
 -- "Negation operators", "Arithmetic and Logical Binary Operators", "Overflow").
-use Rattle.std.specs.Prelude.{◌≡◌, ℕ, zero, ◌^◌, Bool, false, nat_lt, if◌then◌else◌, List, [], ◌∷◌, Option, Some, None, option_map, option_and_then, ℤ, pos, negsuc, ◌+ℤ◌, ◌-ℤ◌, ◌*ℤ◌, neg_ℤ, int_div, int_rem}
-use Rattle.syn_expr.specs.Prelude.{Tok, literal, LitKind, index_of, Text, LitTree, BinKind, UnKind, Tree, leaf, lit, paren, attributed, prefixed, unary, infixed, StandsFor}
+use Rattle.std.specs.Prelude.{◌≡◌, ℕ, zero, ◌^◌, ◌==◌, Bool, false, nat_lt, if◌then◌else◌, List, drop, length, Option, Some, None, option_map, option_and_then, ℤ, pos, negsuc, ◌+ℤ◌, ◌-ℤ◌, ◌*ℤ◌, neg_ℤ, int_div, int_rem}
+use Rattle.syn_lower_spec.specs.Text.{byte_at}
+use Rattle.syn_expr.specs.Prelude.{int_suffix, int_value, LitKind, Text, LitTree, BinKind, UnKind, Tree, leaf, lit, paren, attributed, prefixed, unary, infixed, StandsFor}
 use Rattle.syn_expr.specs.LitKind as kind
 use Rattle.syn_expr.specs.BinKind as bin
 use Rattle.syn_expr.specs.Infix as inf
@@ -9,32 +10,31 @@ use Rattle.syn_expr.specs.UnKind as un
 
 -- ---- literals
 
--- an integer of any base, with underscores or without, that has no suffix and is not above 4294967295
-abbrev pub integer : Text → Option ℤ
-integer text = option_map pos (index_of text)
+-- from -2 ^ 63 to 2 ^ 63 - 1
+abbrev pub fits : ℤ → Bool
+fits (pos n) = nat_lt n (2 ^ 63)
+fits (negsuc n) = nat_lt n (2 ^ 63)
 
--- the same of a single token
-abbrev pub token_value : List Tok → Option ℤ
-token_value (literal text ∷ []) = integer text
-token_value _ = None
+-- What overflows is no value.
+abbrev pub checked : ℤ → Option ℤ
+checked z = if fits z then Some z else None
+
+-- a number of any base, without a suffix
+abbrev pub unsigned : Text → Option ℤ
+unsigned text = if length (int_suffix text) == 0 then Some (pos (int_value text)) else None
+
+-- A `-` may come before it.
+abbrev pub integer : Text → Option ℤ
+integer text = if byte_at text 0 == 45 then option_map neg_ℤ (unsigned (drop 1 text)) else unsigned text
 
 abbrev pub value_by_kind : LitKind → Text → Option ℤ
-value_by_kind kind.Int text = integer text
+value_by_kind kind.Int text = option_and_then checked (integer text)
 value_by_kind _ text = None
 
 abbrev pub literal_value : LitTree → Option ℤ
 literal_value x = value_by_kind x.kind x.text
 
 -- ---- operations
-
--- from -2 ^ 63 to 2 ^ 63 - 1
-abbrev pub fits : ℤ → Bool
-fits (pos n) = nat_lt n (2 ^ 63)
-fits (negsuc n) = nat_lt n (2 ^ 63)
-
--- A result that overflows is no value.
-abbrev pub checked : ℤ → Option ℤ
-checked z = if fits z then Some z else None
 
 -- The divisor is not zero, and the quotient, rounded towards zero, doesn't overflow.
 abbrev pub divides : ℤ → ℤ → Bool

@@ -2,40 +2,22 @@
 #![tactic(auto)]
 
 ghost use Rattle.std.specs.Prelude.{◌≡◌, ◌⊎◌, IfErr, IfOk, chars, option_and_then};
-ghost use Rattle.syn_expr.specs.Prelude.{toks_of, lit_of, bin_kind, un_kind, tree_of, NothingStands};
+ghost use Rattle.syn_expr.specs.Prelude.{lit_of, bin_kind, un_kind, tree_of, NothingStands};
 ghost use Rattle.fold.specs.Fold as spec;
 
 use std::alloc::Global;
 use std::io;
 use syn_expr::op::{BinOp, UnOp};
-use syn_expr::{
-    ErrorKind, Expr, HeldExpr, Lit, Result, ToTokens, TokenStream, TokenTree, parse_str,
-};
-use syn_expr_tokens::number::index_of;
+use syn_expr::{ErrorKind, Expr, HeldExpr, Lit, Result, parse_str};
 
-/// The value of a single token, if it is an integer without a suffix that is not above 4294967295.
-#[tactic(auto, using(syn_tokens::proofs::Views::views))]
-fn token_value(tokens: &[TokenTree]) -> Option<i64>
-    ensures { result ≡ spec.token_value (toks_of tokens.now) }
+/// The value of a literal, if it is an integer without a suffix that an `i64` holds.
+fn literal_value(lit: &Lit) -> Option<i64>
+    ensures { result ≡ spec.literal_value (lit_of lit.now) }
 {
-    match tokens {
-        [TokenTree::Literal(literal)] => index_of(literal.as_str()).map(i64::from),
+    match lit {
+        Lit::Int(number) if number.suffix().is_empty() => number.base10_parse().ok(),
         _ => None,
     }
-}
-
-/// The value of a literal, if it is such an integer.
-#[tactic(auto, using(crate::proofs::Literals::own_value))]
-fn literal_value(alloc: Global, lit: &Lit) -> Result<Option<i64>>
-    ensures value { IfOk result (λ v. v ≡ spec.literal_value (lit_of lit.now)) }
-    ensures memory { IfErr result (λ e. e.kind ≡ ErrorKind.OutOfMemory) }
-{
-    let Lit::Int(number) = lit else {
-        return Ok(None);
-    };
-    let mut tokens = TokenStream::new(alloc);
-    number.to_tokens(&mut tokens)?;
-    Ok(token_value(tokens.trees()))
 }
 
 /// The value of an operand after a prefix operator, if it has one and does not overflow.
@@ -65,26 +47,19 @@ fn binary_value(op: &BinOp, left: Option<i64>, right: Option<i64>) -> Option<i64
 
 /// The value of an expression of integers, parentheses, `-`, and `+`, `-`, `*`, `/` and `%`, whatever attributes it has. No other
 /// expression has a value, nor has one in which an operation overflows or divides by zero.
-///
-/// Memory may run out (`OutOfMemory`).
 #[tactic(auto, using(crate::proofs::Values::kinds))]
-fn value(alloc: Global, expr: &Expr) -> Result<Option<i64>>
-    ensures value { IfOk result (λ v. v ≡ spec.value_of (tree_of expr.now)) }
-    ensures memory { IfErr result (λ e. e.kind ≡ ErrorKind.OutOfMemory) }
+fn value(expr: &Expr) -> Option<i64>
+    ensures { result ≡ spec.value_of (tree_of expr.now) }
 {
     match expr {
-        Expr::Lit(literal) => literal_value(alloc, &literal.lit),
-        Expr::Paren(paren) => value(alloc, &paren.expr),
-        Expr::Unary(operation) => {
-            let operand = value(alloc, &operation.expr)?;
-            Ok(prefix_value(&operation.op, operand))
-        }
+        Expr::Lit(literal) => literal_value(&literal.lit),
+        Expr::Paren(paren) => value(&paren.expr),
+        Expr::Unary(operation) => prefix_value(&operation.op, value(&operation.expr)),
         Expr::Binary(operation) => {
-            let left = value(alloc, &operation.left)?;
-            let right = value(alloc, &operation.right)?;
-            Ok(binary_value(&operation.op, left, right))
+            let left = value(&operation.left);
+            binary_value(&operation.op, left, value(&operation.right))
         }
-        _ => Ok(None),
+        _ => None,
     }
 }
 
@@ -94,7 +69,7 @@ fn value_of_text(alloc: Global, text: &str) -> Result<Option<i64>>
     ensures refused { IfErr result (λ e. (e.kind ≡ ErrorKind.OutOfMemory) ⊎ NothingStands (chars text.now)) }
 {
     let held = parse_str::<HeldExpr>(alloc, text)?;
-    value(alloc, &held.expr)
+    Ok(value(&held.expr))
 }
 
 fn main(rt: HostRuntime) -> io::Result<()> {
@@ -105,7 +80,8 @@ fn main(rt: HostRuntime) -> io::Result<()> {
         "-7 % 3",
         "0xff_ff - 0b1",
         "1 / 0",
-        "4294967295 * 4294967295",
+        "9223372036854775807 + 1",
+        "1 + 2u8",
         "a + 1",
         "1 +",
     ] {

@@ -1,5 +1,5 @@
 -- Negated comparisons (Rust Reference, "Negation operators" and "Comparison operators").
-use Rattle.std.specs.Prelude.{ℕ, ◌==◌, ◌&&◌, List, length, Bool, true, false}
+use Rattle.std.specs.Prelude.{ℕ, List, [], Bool, true, false}
 use Rattle.syn_expr.specs.BinKind as bin
 use Rattle.syn_expr.specs.Infix as inf
 use Rattle.syn_expr.specs.UnKind as un
@@ -16,16 +16,9 @@ simplified t = t
 abbrev pub IsSimplified : List ℕ → List ℕ → Type 0
 IsSimplified cs bytes = (t flat : Tree) × StandsFor cs t × IsFlat t flat × IsTextOf in_plain (rewrite_tree simplified flat) bytes
 
--- ---- in steps
-
-abbrev pub is_eq : BinKind → Bool
-is_eq bin.Eq = true
-is_eq _ = false
-
-abbrev pub is_not : UnKind → Bool
-is_not un.Not = true
-is_not _ = false
+-- ---- in a step
 
 -- whether the operator k after the attributes ats, before the operation op after the attributes more, makes `!(a == b)`
 abbrev pub negates : List AttributeTree → UnKind → List AttributeTree → BinKind → Bool
-negates ats k more op = (length ats == 0) && is_not k && (length more == 0) && is_eq op
+negates [] un.Not [] bin.Eq = true
+negates _ _ _ _ = false

@@ -17,26 +17,15 @@ use syn_expr::{
 use syn_tokens::token::Ne;
 use syn_visit::rewrite;
 
-/// Whether it is `==`.
-fn is_eq(op: &BinOp) -> bool
-    ensures { result ≡ spec.is_eq (bin_kind op.now) }
-{
-    matches!(op, BinOp::Eq(_))
-}
-
-/// Whether it is `!`.
-fn is_not(op: &UnOp) -> bool
-    ensures { result ≡ spec.is_not (un_kind op.now) }
-{
-    matches!(op, UnOp::Not(_))
-}
-
 /// Whether it is `!` before `a == b`, both without attributes.
 #[tactic(auto, unfolding(syn_expr_ast::specs::Attrs::attrs_of))]
 fn negates_equality(attrs: &Vec<Attribute>, op: &UnOp, equality: &ExprBinary) -> bool
     ensures { result ≡ spec.negates (attrs_of attrs.now) (un_kind op.now) (attrs_of equality.now.attrs) (bin_kind equality.now.op) }
 {
-    attrs.is_empty() && is_not(op) && equality.attrs.is_empty() && is_eq(&equality.op)
+    attrs.is_empty()
+        && matches!(op, UnOp::Not(_))
+        && equality.attrs.is_empty()
+        && matches!(equality.op, BinOp::Eq(_))
 }
 
 /// Makes `a != b` of `!(a == b)` whose parentheses are gone. All else stays as it is.

@@ -1,5 +1,5 @@
 -- Of the attributes of a node with braces one is an outer one exactly where one comes before it.
-use Rattle.std.proofs.Common.{◌≡◌, Bool, true, false, not, ◌||◌, if◌then◌else◌, List, [], ◌∷◌, refl, ap, ◌∙◌}
+use Rattle.std.proofs.Common.{◌≡◌, Bool, true, false, not, ◌||◌, if◌then◌else◌, List, [], ◌∷◌, refl, ap}
 use Rattle.syn_lower_spec.specs.Tree.{AttributeTree}
 use Rattle.syn_expr_spec.specs.Tree.{outers}
 use Rattle.syn_expr.specs.Levels.{has_outer}

@@ -2,7 +2,7 @@
 use Rattle.std.proofs.Common.{◌≡◌, List, [], ◌∷◌, ◌++◌, map, flat_map, refl, ap, ◌∙◌, sym}
 use Rattle.syn_expr_spec.specs.Tree.{Tree}
 use Rattle.syn_lower_spec.specs.Pat as t
-use Rattle.syn_lower_spec.specs.Pat.{PatTree, FieldPatTree}
+use Rattle.syn_lower_spec.specs.Pat.{FieldPatTree}
 use Rattle.syn_pat.specs.View.{PatView, pats_in, guards_in, field_pat_of, field_guards}
 use Rattle.syn_pat.specs.declared.pat.FieldPatOf.{FieldPatOf}
 

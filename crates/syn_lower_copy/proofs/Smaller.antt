@@ -1,5 +1,5 @@
 -- What holds of types of less than a size holds of each type in a part of less than that size.
-use Rattle.std.proofs.Common.{◌≡◌, ℕ, ◌+◌, ◌<◌, List, [], ◌∷◌, ◌++◌, map, Option, Some, None, Contains, arith, subst, refl, ap}
+use Rattle.std.proofs.Common.{◌≡◌, ℕ, ◌+◌, ◌<◌, List, [], ◌∷◌, ◌++◌, map, Option, Some, None, arith, subst, refl, ap}
 use Rattle.std.specs.List.{AllByRecursion}
 use Rattle.std.specs.Option.{ForSome}
 use Rattle.std.proofs.lemmas.List.Elements.{All-from_recursion, All-contains}
@@ -9,10 +9,8 @@ use Rattle.syn_lower_spec.specs.Tree as t
 use Rattle.syn_lower_spec.specs.Tree.{TypeTree}
 use Rattle.syn_lower_leaves.specs.View.{values, last_of}
 use Rattle.syn_lower_leaves.specs.declared.punctuated.Punctuated.{Punctuated}
-use Rattle.syn_lower_types.specs.View.{type_path_of, type_macro_of, tuple_of, fn_ptr_of, impl_trait_of, trait_object_of, path_of, macro_of, qself_or, segment_of, arguments_of, angle_of, round_of, generic_of, return_of, arg_of, bound_of}
-use Rattle.syn_lower_types.specs.declared.mac.MacroOf.{MacroOf}
+use Rattle.syn_lower_types.specs.View.{type_path_of, type_macro_of, tuple_of, fn_ptr_of, impl_trait_of, trait_object_of, path_of, qself_or, segment_of, arguments_of, angle_of, round_of, generic_of, return_of, arg_of, bound_of}
 use Rattle.syn_lower_types.specs.declared.path.PathOf.{PathOf}
-use Rattle.syn_lower_types.specs.declared.path.PathSegmentOf.{PathSegmentOf}
 use Rattle.syn_lower_types.specs.declared.path.AngleBracketedGenericArgumentsOf.{AngleBracketedGenericArgumentsOf}
 use Rattle.syn_lower_types.specs.declared.path.QSelfOf.{QSelfOf}
 use Rattle.syn_lower_types.specs.declared.path.PathArgumentsOf.{PathArgumentsOf}
@@ -24,7 +22,6 @@ use Rattle.syn_lower_types.specs.declared.ty.ReturnTypeOf.{ReturnTypeOf}
 use Rattle.syn_lower_types.specs.declared.ty.ReturnTypeOf.TheVariants as output
 use Rattle.syn_lower_types.specs.declared.ty.TypeParamBoundOf.{TypeParamBoundOf}
 use Rattle.syn_lower_types.specs.declared.ty.TypeParamBoundOf.TheVariants as bound
-use Rattle.syn_lower_types.specs.declared.ty.BareFnArgOf.{BareFnArgOf}
 use Rattle.syn_lower_types.specs.declared.ty.TypePathOf.{TypePathOf}
 use Rattle.syn_lower_types.specs.declared.ty.TypeMacroOf.{TypeMacroOf}
 use Rattle.syn_lower_types.specs.declared.ty.TypeTupleOf.{TypeTupleOf}

@@ -1,8 +1,7 @@
 -- What holds of each type that is in a part.
-use Rattle.std.specs.Prelude.{◌≡◌, Contains, Option, Some, None}
+use Rattle.std.specs.Prelude.{Contains, Option, None}
 use Rattle.std.specs.Option.{ForSome}
 use Rattle.syn_lower_leaves.specs.declared.punctuated.Punctuated.{Punctuated}
-use Rattle.syn_lower_types.specs.declared.mac.MacroOf.{MacroOf}
 use Rattle.syn_lower_types.specs.declared.path.PathOf.{PathOf}
 use Rattle.syn_lower_types.specs.declared.path.PathSegmentOf.{PathSegmentOf}
 use Rattle.syn_lower_types.specs.declared.path.AngleBracketedGenericArgumentsOf.{AngleBracketedGenericArgumentsOf}

@@ -10,7 +10,7 @@ use Rattle.syn_lower_spec.specs.Pat.{PatTree}
 use Rattle.syn_expr_spec.specs.declared.kinds.Infix.{Infix}
 use Rattle.syn_expr_spec.specs.declared.kinds.Limits.{Limits}
 use Rattle.syn_expr_spec.specs.Tree as e
-use Rattle.syn_expr_spec.specs.Tree.{Tree, Children, Ending, Piece, Jump, ClosureHead, leaf, paren, attributed, prefixed, infixed, postfixed, tail, frame, none, child, attributed_with}
+use Rattle.syn_expr_spec.specs.Tree.{Tree, Children, Ending, Piece, Jump, ClosureHead, attributed, prefixed, infixed, tail, frame, none, child, attributed_with}
 use Rattle.syn_lower.specs.View.{mapped, values, trails}
 use Rattle.syn_lower_leaves.specs.declared.punctuated.Punctuated.{Punctuated}
 use Rattle.syn_expr_ast.specs.View.{FieldView, elements, else_of, ending_of, fields, jump_with, option_child, range_between}

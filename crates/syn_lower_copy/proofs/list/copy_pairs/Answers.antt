@@ -1,4 +1,4 @@
-use Rattle.std.proofs.Common.{◌≡◌, sym, Contains, arith, rules, subst}
+use Rattle.std.proofs.Common.{sym, Contains, arith, subst}
 use Rattle.std.proofs.lemmas.List.Elements.{Contains-get_or}
 use Rattle.syn_lower_copy.proofs.list.copy_pairs.Goals as goal
 

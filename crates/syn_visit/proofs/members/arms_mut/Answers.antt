@@ -1,4 +1,4 @@
-use Rattle.std.proofs.Common.{arith, refl}
+use Rattle.std.proofs.Common.{arith}
 use Rattle.syn_expr_core.specs.View.{arm_of}
 use Rattle.syn_visit_kinds.proofs.Elementwise.{each_by}
 use Rattle.syn_visit_kinds.proofs.Upto.{upto_more, upto_next, upto_whole}
