@@ -13,6 +13,7 @@ use Rattle.syn_expr.specs.Texts.{NothingStands}
 use Rattle.exprs.specs.Kinds.{counted}
 use Rattle.exprs.specs.Line.{IsLine}
 use Rattle.std.specs.Str.{trim}
+use Rattle.std.proofs.Math.Bool.{and-true}
 use Rattle.exprs.specs.Answers.{refusal, Source, Outcome, separator, blank, printed, refused, Follows, is_read, line, line_unless, tallied, report_of, added, writer, Room, room, Takes, HasNone, CutsFirst, CutBy, Writes, FollowEach, all_read, lines, all_tallied, reports, WritesAll}
 
 -- ---- the first separator
@@ -60,12 +61,8 @@ and_assoc : (a b c : Bool) → (a && (b && c)) ≡ ((a && b) && c)
 and_assoc true b c = refl
 and_assoc false b c = refl
 
-and_true : (a : Bool) → (a && true) ≡ a
-and_true true = refl
-and_true false = refl
-
 read_more : (os : List Outcome) (o : Outcome) → all_read (os ++ o ∷ []) ≡ (all_read os && is_read o)
-read_more [] o = and_true (is_read o)
+read_more [] o = and-true (is_read o)
 read_more (x ∷ os) o = ap (λ b. is_read x && b) (read_more os o) ∙ and_assoc (is_read x) (all_read os) (is_read o)
 
 lines_more : (kinds : Bool) (os : List Outcome) (o : Outcome) → lines kinds (os ++ o ∷ []) ≡ lines kinds os ++ line kinds o

@@ -16,23 +16,15 @@ use Rattle.syn_expr_spec.specs.Summaries.{summary_of, attributed_summary, prefix
 use Rattle.syn_expr_spec.specs.Op.{level}
 use Rattle.syn_expr_spec.specs.Rule.{is_operation, put, piece_put, bare, bare_children, place_asks, left_asks, base_asks, prefix_asks, is_chainable, is_plain_block, chained_bare}
 use Rattle.syn_expr_spec.specs.Tree as e
-use Rattle.syn_expr_spec.specs.Tree.{Tree, Children, Prefix, Trailer, Piece, Ending, leaf, paren, attributed, prefixed, infixed, postfixed, tail, frame, none, child, outers, own, children_own, own_tokens, clear, clear_children, plain_block, postfix_op, is_silent, prefix_own, infix_own, postfix_own, trailer_own, framed, enclosure, behind_operands, inside_of, ending_own, piece_own}
+use Rattle.syn_expr_spec.specs.Tree.{Tree, Children, Prefix, Trailer, Piece, leaf, paren, attributed, prefixed, infixed, postfixed, tail, frame, none, child, outers, own, children_own, own_tokens, clear, clear_children, plain_block, postfix_op, is_silent, prefix_own, infix_own, postfix_own, trailer_own, framed, enclosure, behind_operands, inside_of, ending_own, piece_own}
 use Rattle.syn_expr_spec.proofs.SummaryLemmas.{summaries_are_right}
 use Rattle.syn_expr_spec.proofs.Unclear.{operation_clear}
+use Rattle.syn_expr_spec.proofs.Parenthesized.{same_infix, same_tail, same_child}
 
 -- ---- nodes of equal parts
 
 same_prefix : (k : Prefix) (gs gs' : Children) (t t' : Tree) → gs ≡ gs' → t ≡ t' → prefixed k gs t ≡ prefixed k gs' t'
 same_prefix k gs gs' t t' p q = cc
-
-same_infix : (x x' y y' : Tree) (k : Infix) → x ≡ x' → y ≡ y' → infixed x k y ≡ infixed x' k y'
-same_infix x x' y y' k p q = cc
-
-same_tail : (b b' : Tree) (ks ks' : Children) (k : Trailer) → b ≡ b' → ks ≡ ks' → tail b k ks ≡ tail b' k ks'
-same_tail b b' ks ks' k p q = cc
-
-same_child : (t t' : Tree) (ks ks' : Children) (k : Piece) (c : Ending) → t ≡ t' → ks ≡ ks' → child k c t ks ≡ child k c t' ks'
-same_child t t' ks ks' k c p q = cc
 
 -- ---- own tokens
 

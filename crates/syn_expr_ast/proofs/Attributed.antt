@@ -4,13 +4,13 @@ use Rattle.std.proofs.Common.{◌≡◌, true, false, List, [], ◌∷◌, ◌++
 use Rattle.std.proofs.lemmas.List.{append-nil, map-append}
 use Rattle.std.specs.declared.vec.Vec.{Vec}
 use Rattle.std.specs.declared.alloc.Global.{Global}
+use Rattle.std.proofs.lemmas.Bool.{and_parts, not-true}
 use Rattle.syn_lower_spec.specs.Tree.{AttributeTree}
 use Rattle.syn_lower_spec.specs.PatFits.{attributes_outer}
 use Rattle.syn_lower_leaves.specs.View.{attribute_of}
 use Rattle.syn_lower_leaves.specs.declared.attr.Attribute.{Attribute}
 use Rattle.syn_expr_spec.specs.Tree.{Tree, attributed_with, outers, from_inner}
 use Rattle.syn_expr_spec.specs.Stands.{is_attributed}
-use Rattle.syn_expr_spec.proofs.Chains.{both_true, not_true}
 use Rattle.syn_expr_spec.proofs.Attributes.{outers_append, outers_are}
 use Rattle.syn_expr_ast.specs.Attrs.{attrs_of, outer_of, inner_of}
 
@@ -28,8 +28,8 @@ outer_all v h = outers_are (map attribute_of v.items) h
 from_outer : (ats bs : List AttributeTree) → attributes_outer ats ≡ true → from_inner (ats ++ bs) ≡ from_inner bs
 from_outer [] bs h = refl
 from_outer (a ∷ more) bs h =
-    let p = both_true (not a.inner) (attributes_outer more) h in
-    ap (λ b. if b then a ∷ (more ++ bs) else from_inner (more ++ bs)) (not_true a.inner p.0) ∙ from_outer more bs p.1
+    let p = and_parts (not a.inner) (attributes_outer more) h in
+    ap (λ b. if b then a ∷ (more ++ bs) else from_inner (more ++ bs)) (not-true a.inner p.0) ∙ from_outer more bs p.1
 
 pub ruleset attributed = (attributed_with_more, outer_all)
 

@@ -2,6 +2,7 @@
 use Rattle.std.specs.Prelude.{not, ◌&&◌, ◌-◌, take}
 use Rattle.std.proofs.Common.{◌≡◌, Bool, true, false, if◌then◌else◌, ◌==◌, List, [], ◌∷◌, ◌++◌, length, map, refl, sym, ap, ◌∙◌, arith, rules}
 use Rattle.std.proofs.lemmas.List.{append-nil, length-append, take-append-le, take_all}
+use Rattle.std.proofs.lemmas.Bool.{and_parts}
 use Rattle.syn_tokens.specs.Tok.{Tok}
 use Rattle.syn_lower_spec.specs.Form.{is_nil}
 use Rattle.syn_lower_spec.specs.Tree.{AttributeTree}
@@ -15,7 +16,6 @@ use Rattle.syn_pat.proofs.Appends.{attribute_append, attributes_append}
 use Rattle.syn_expr_spec.specs.Tree.{but_last, from_inner, inners, outers}
 use Rattle.syn_expr_spec.specs.WellFormed.{attributes_inner}
 use Rattle.syn_expr_spec.proofs.Attributes.{outers_are, outers_outer}
-use Rattle.syn_expr_spec.proofs.Bools.{both_true}
 use Rattle.syn_expr_ast.specs.Attrs.{before_inner, outer_printed, inner_printed}
 
 pub all_is : (xs : List Attribute) → attributes_own (map attribute_of xs) [] ≡ all_printed (λ a. attribute_own (attribute_of a) []) xs
@@ -100,13 +100,13 @@ pub ruleset inside = (inner_none)
 pub no_outer : (ats : List AttributeTree) → attributes_inner ats ≡ true → outers ats ≡ []
 no_outer [] h = refl
 no_outer (a ∷ more) h =
-    let (i, j) = both_true a.inner (attributes_inner more) h in
+    let (i, j) = and_parts a.inner (attributes_inner more) h in
     ap (λ b. if b then outers more else a ∷ outers more) i ∙ no_outer more j
 
 pub all_inside : (ats : List AttributeTree) → attributes_inner ats ≡ true → from_inner ats ≡ ats
 all_inside [] h = refl
 all_inside (a ∷ more) h =
-    let (i, j) = both_true a.inner (attributes_inner more) h in
+    let (i, j) = and_parts a.inner (attributes_inner more) h in
     ap (λ b. if b then a ∷ more else from_inner more) i
 
 pub ruleset insides = (no_outer, all_inside)

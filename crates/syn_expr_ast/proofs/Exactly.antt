@@ -9,8 +9,8 @@ use Rattle.syn_tokens.specs.declared.error.Error.{Error}
 use Rattle.syn_tokens.specs.declared.error.ErrorKind.{ErrorKind}
 use Rattle.syn_tokens.specs.declared.error.ErrorKind.TheVariants.{OutOfMemory}
 use Rattle.syn_lower_spec.specs.Form.{Outcome}
+use Rattle.syn_lower_spec.proofs.Weights.{some_is}
 use Rattle.syn_expr_spec.specs.Exact.{IsExact}
-use Rattle.syn_expr_spec.proofs.Chains.{some_is}
 use Rattle.syn_expr_ast.specs.Printed.{ReadsExactly}
 
 -- ---- what is given, and what is refused

@@ -1,6 +1,7 @@
 -- The attributes in the braces of a leaf that is read are inner ones.
 use Rattle.std.specs.Prelude.{◌&&◌}
 use Rattle.std.proofs.Common.{◌≡◌, Bool, true, ⊎_elim, List, [], ◌∷◌, drop, Option, Some, None, refl, ap, subst}
+use Rattle.std.proofs.lemmas.Bool.{and_parts}
 use Rattle.syn_lexer.specs.declared.front.Delimiter.{Delimiter}
 use Rattle.syn_tokens.specs.Tok.{Tok}
 use Rattle.syn_tokens.specs.Front.{group_at}
@@ -8,10 +9,11 @@ use Rattle.syn_lower_spec.specs.declared.label.PathStyle.TheVariants as style
 use Rattle.syn_lower_spec.specs.Form.{Form, Outcome, Test, Mark, and_then, when, mark, both, shown, then_by, case, flag, maybe, pure, whole, inside, inside_reads}
 use Rattle.syn_lower_spec.specs.Mark.{lifetime_at, underscore, constant}
 use Rattle.syn_lower_spec.specs.Part.{lifetime, unsigned, block, qpath, type, macro_end, QPathTree, MacroEnd, inner_attributes}
+use Rattle.syn_lower_spec.proofs.Weights.{some_is}
 use Rattle.syn_expr_spec.specs.Tree as e
 use Rattle.syn_expr_spec.specs.Tree.{Body, Leaf}
 use Rattle.syn_expr_spec.specs.Head.{label, jump_head, range_op, all_left, to_body, from_body, body_inside, body, from_lit, is_infer, from_full_range, from_bare_jump, from_continuing, to_block, from_block, to_loop, from_loop, from_unsafe, from_const, to_async, from_async, from_try, from_verbatim, to_named, from_named, continue_word, loop_word, unsafe_word, async_word, move_word, try_word, literal_at, range_at, jump_at, loop_at, block_at, const_block_at, async_block_at, try_block_at, builtin_at, builtin}
-use Rattle.syn_expr_spec.proofs.Chains.{some_is, then_some, only_some, chosen, both_true}
+use Rattle.syn_expr_spec.proofs.Chains.{then_some, only_some, chosen}
 use Rattle.syn_expr_spec.specs.WellFormed.{attributes_inner}
 use Rattle.syn_expr_heads.specs.View.{named, leaf_form}
 use Rattle.syn_expr_heads.proofs.Inner.{inner_attributes_inner}
@@ -70,7 +72,7 @@ any_passes : {A : Type 0} (f : Form A) → Passes (λ x. true) f
 any_passes f = record { all = λ l x n h. refl }
 
 first_true : (a : Bool) → (a && true) ≡ true → a ≡ true
-first_true a h = let (i, j) = both_true a true h in i
+first_true a h = let (i, j) = and_parts a true h in i
 
 inner_passes : Passes attributes_inner inner_attributes
 inner_passes = record { all = λ l xs n h. inner_attributes_inner xs l n h }

@@ -1,6 +1,7 @@
 -- In plain position no pair is round a node; and what is printed there of a leaf after its attributes.
 use Rattle.std.specs.Prelude.{Result, Ok, Err}
 use Rattle.std.proofs.Common.{◌≡◌, Bool, false, List, [], ◌∷◌, ◌++◌, OnOk, refl, sym, ap, ◌∙◌, append_assoc}
+use Rattle.std.proofs.lemmas.Bool.{or_parts}
 use Rattle.syn_tokens.specs.Tok.{Tok}
 use Rattle.syn_lower_spec.specs.Tree.{AttributeTree}
 use Rattle.syn_lower_spec.specs.PatOwn.{attributes_own}
@@ -11,12 +12,11 @@ use Rattle.syn_expr_spec.specs.Next.{enclosed}
 use Rattle.syn_expr_spec.specs.Rule.{put, place_asks, refuses, misplaced}
 use Rattle.syn_expr_spec.specs.Stands.{is_range_leaf}
 use Rattle.syn_expr_spec.specs.Tree.{Tree, Leaf, leaf, attributed, attributed_with, outers, own_tokens, leaf_own}
-use Rattle.syn_expr_spec.proofs.Bools.{or_false}
 use Rattle.syn_expr_spec.proofs.Edges.{bad_end, low_some, self_enclosed}
 use Rattle.syn_expr_ast.specs.Printed.{whole}
 
 pub place-bare : (t : Tree) → place_asks lev.Jump enclosed t ≡ false
-place-bare t = let s = or_false (refuses t next.End) (misplaced enclosed t) (self_enclosed t) in rw (low_some t, bad_end t, s.0, s.1) refl
+place-bare t = let s = or_parts (refuses t next.End) (misplaced enclosed t) (self_enclosed t) in rw (low_some t, bad_end t, s.0, s.1) refl
 
 pub leaf-whole : (ats : List AttributeTree) (k : Leaf) → is_range_leaf k ≡ false → whole enclosed (attributed_with ats (leaf k)) ≡ attributes_own (outers ats) [] ++ leaf_own k []
 unfolding whole

@@ -8,7 +8,7 @@ use Rattle.syn_lower_spec.specs.Mark.{pound}
 use Rattle.syn_lower_spec.specs.Part.{outer_attributes, outer_body, verbatim}
 use Rattle.syn_lower_spec.specs.Tree.{AttributeTree}
 use Rattle.syn_lower_spec.specs.PatFits.{attributes_outer}
-use Rattle.syn_expr_spec.proofs.Chains.{behind_some}
+use Rattle.syn_lower_spec.proofs.Forms.{behind_some}
 use Rattle.syn_expr_spec.proofs.Needs.{heads}
 
 style_is : (b : Bool) (a : AttributeTree) (f : List Tok → Option (List Tok)) (m : List Tok) → a.inner ≡ b → then_behind (cond b None (Some a.tokens)) f ≡ Some m → not b ≡ true

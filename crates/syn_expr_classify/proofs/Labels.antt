@@ -10,8 +10,8 @@ use Rattle.syn_lower_spec.specs.Form.{is_nil}
 use Rattle.syn_expr_ast.specs.Node.{attributes_at, operands_at, first_of}
 use Rattle.syn_expr_classify.specs.Frames.{bare_holds, frames_hold}
 use Rattle.syn_expr_classify.specs.Node.{is_labelled, word_behind, asked, verbatim_at, is_braced_call}
+use Rattle.syn_expr_classify.specs.Framed.{bare_framed}
 use Rattle.syn_expr_ast.proofs.Borrowed.{first-based}
-use Rattle.syn_expr_classify.proofs.Rights.{bare_framed}
 use Rattle.syn_expr_spec.specs.Binding.{is_braced_macro}
 
 -- after outer attributes none is first

@@ -7,11 +7,12 @@ use Rattle.syn_expr_spec.specs.Tree as e
 use Rattle.syn_expr_spec.specs.Tree.{Tree, Children, Body, Piece, Ending, Leaf, Prefix, Postfix, Frame, leaf, paren, attributed, outers, prefixed, infixed, postfixed, tail, frame, none, child}
 use Rattle.syn_lower_spec.specs.Form.{is_nil}
 use Rattle.syn_expr_ast.specs.Node.{framed, attributes_at, without_strays, operands_at, leaf_at, prefix_at, postfix_at, frame_at, last_of}
-use Rattle.syn_expr_classify.specs.Frames.{is_body, is_loop, is_if, is_match, frame_holds, bare_holds, frames_hold}
+use Rattle.syn_expr_classify.specs.Frames.{is_body, is_loop, is_if, is_match, frame_holds, frames_hold}
 use Rattle.syn_expr_classify.specs.Node.{is_infixed, asked}
 use Rattle.syn_expr_classify.specs.Right.{frame_right, NodeTells}
 use Rattle.syn_expr_classify.specs.declared.classify.Right.{Right}
 use Rattle.syn_expr_classify.specs.declared.classify.Right.TheVariants as right
+use Rattle.syn_expr_classify.specs.Framed.{bare_framed}
 
 -- ---- operands in places of their own
 
@@ -157,16 +158,6 @@ frame_last b e.match_expr ks h = match_braces false ks h
 frame_last b e.group_expr ks h = refl
 
 -- ---- nodes
-
-pub bare_framed : (t : Tree) → bare_holds t ≡ true → frames_hold t ≡ true
-bare_framed (attributed a more t) h = absurd cc
-bare_framed (leaf k) h = h
-bare_framed (paren m t) h = h
-bare_framed (prefixed k gs t) h = h
-bare_framed (infixed x k y) h = h
-bare_framed (postfixed x k) h = h
-bare_framed (tail b k ks) h = h
-bare_framed (frame k ks) h = h
 
 -- after attributes
 tells_attributed : (r : Right) (b : Bool) (a : AttributeTree) (more : List AttributeTree) (t : Tree) → NodeTells r (is_nil (outers (a ∷ more)) && b) t → NodeTells r b (attributed a more t)

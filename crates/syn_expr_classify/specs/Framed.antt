@@ -40,7 +40,7 @@ record IsFramed (t : Tree) : Type 0 where
 record IsBare (t : Tree) : Type 0 where
   holds : bare_holds t ≡ true
 
-bare_framed : (t : Tree) → bare_holds t ≡ true → frames_hold t ≡ true
+pub bare_framed : (t : Tree) → bare_holds t ≡ true → frames_hold t ≡ true
 bare_framed (e.attributed a more t) h = absurd cc
 bare_framed (e.leaf k) h = h
 bare_framed (e.paren m t) h = h

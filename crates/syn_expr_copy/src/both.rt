@@ -2,7 +2,7 @@
 //! made of both stands beside them.
 
 ghost use Rattle.std.specs.Option.{ForSome};
-ghost use Rattle.std.specs.Prelude.{◌≡◌, Contains, IfErr, IfOk, map};
+ghost use Rattle.std.specs.Prelude.{◌≡◌, Contains, IfErr, IfOk};
 ghost use Rattle.syn_expr_ast.specs.Both.{arm_of, expr_closure_of, expr_for_loop_of, expr_let_of, expr_match_of, guarded_of};
 ghost use Rattle.syn_lower_copy.specs.Copying.{Copies, Takes, RunsOut};
 

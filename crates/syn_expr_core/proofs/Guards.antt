@@ -26,7 +26,7 @@ bare_behind (a ∷ more) p gs h = (refl, refl)
 
 -- ---- a pattern with a guard
 
-not_empty : (a : Attribute) (ats : List Attribute) → (length (a ∷ ats) == 0) ≡ true → ⊥
+pub not_empty : (a : Attribute) (ats : List Attribute) → (length (a ∷ ats) == 0) ≡ true → ⊥
 not_empty a ats h = let e : length (a ∷ ats) ≡ 0 = eqb-true (length (a ∷ ats)) 0 h in omega arith
 
 pub last_end : (h : Tree) (gs : List Tree) (g : Tree) → last_guard h (gs ++ g ∷ []) ≡ g

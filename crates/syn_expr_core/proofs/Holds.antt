@@ -1,10 +1,9 @@
 -- What holds a block is told through invisible groups.
-use Rattle.std.proofs.Common.{◌≡◌, List, [], ◌∷◌, refl, ap, ◌∙◌, Some}
+use Rattle.std.proofs.Common.{◌≡◌, List, [], ◌∷◌, refl, Some}
 use Rattle.syn_lower_spec.specs.Tree.{AttributeTree}
 use Rattle.syn_expr_spec.specs.Tree as e
-use Rattle.syn_expr_spec.specs.Tree.{Tree, frame, none, child, attributed_with, is_block_like}
+use Rattle.syn_expr_spec.specs.Tree.{Tree, frame, none, child, attributed_with}
 use Rattle.syn_expr_spec.specs.Stands.{holds_block}
-use Rattle.syn_expr_core.specs.declared.expr.Expr.{Expr}
 use Rattle.syn_tokens.specs.Tok.{Tok}
 use Rattle.syn_tokens.specs.Input.{IsTail}
 use Rattle.syn_expr_spec.specs.declared.kinds.Place.{Place}

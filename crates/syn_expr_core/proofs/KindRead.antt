@@ -1,15 +1,13 @@
 -- Reading an expression of a kind, as code reads it: an expression, looked at through invisible groups.
-use Rattle.std.proofs.Common.{◌≡◌, ◌≢◌, ◌⊎◌, inl, inr, Bool, true, false, List, Option, Some, None, refl, ap, sym, subst, ◌∙◌}
-use Rattle.std.specs.Prelude.{Ok, Err, MatchResult, Result}
+use Rattle.std.proofs.Common.{◌≡◌, ◌≢◌, inl, inr, Bool, true, false, List, Some, None, refl, ap, sym, subst, ◌∙◌}
+use Rattle.std.specs.Prelude.{Ok, Err}
 use Rattle.syn_tokens.specs.Tok.{Tok}
 use Rattle.syn_tokens.specs.Input.{Input, start_of}
 use Rattle.syn_tokens.specs.declared.error.Error.{Error}
-use Rattle.syn_tokens.specs.declared.error.ErrorKind.{ErrorKind}
 use Rattle.syn_tokens.specs.declared.error.ErrorKind.TheVariants.{OutOfMemory, ExpectedExprKind}
 use Rattle.syn_tokens.specs.declared.error.WantedKind.{WantedKind}
 use Rattle.syn_expr_spec.specs.Place.{plain}
 use Rattle.syn_expr_spec.specs.Tree.{Tree}
-use Rattle.syn_expr_spec.specs.Stands.{Stands}
 use Rattle.syn_expr_spec.specs.Read.{expr}
 use Rattle.syn_expr_spec.specs.Alone.{is_inside, unattributed, ungrouped}
 use Rattle.syn_expr_spec.specs.AloneRead.{expr_of_kind}

@@ -1,5 +1,6 @@
 -- An expression is of a kind exactly where it is of the variant of it.
 use Rattle.std.proofs.Common.{◌≡◌, ◌⊎◌, inl, inr, ⊎_elim, Bool, true, false, List, [], ◌∷◌, Option, Some, None, refl, ap, sym, ◌∙◌, rules}
+use Rattle.std.proofs.lemmas.Bool.{false_from_ne_true}
 use Rattle.syn_lower_spec.specs.Text.{Text}
 use Rattle.syn_lower_spec.specs.Tree.{AttributeTree, ReturnTree, default, given}
 use Rattle.syn_expr_spec.specs.declared.kinds.Infix.{Infix}
@@ -11,7 +12,7 @@ use Rattle.syn_expr_spec.specs.Stands.{is_attributed, is_if_expr, is_cast, is_ra
 use Rattle.syn_expr_spec.specs.Alone.{unattributed, ungrouped, is_array, is_assign, is_await, is_binary, is_break, is_call, is_closure, is_field, is_for_loop, is_index, is_let, is_match, is_method_call, is_paren, is_raw_addr, is_repeat, is_return, is_try, is_tuple, is_unary, is_while, is_yield}
 use Rattle.syn_expr_ast.specs.Attrs.{attrs_of}
 use Rattle.syn_expr_ast.specs.Pats.{closure_by}
-use Rattle.syn_expr_ast.specs.View.{jump_with, range_between, boxed, expr_array_of, expr_assign_of, expr_await_of, expr_binary_of, expr_break_of, expr_call_of, expr_cast_of, expr_field_of, expr_if_of, expr_index_of, expr_method_call_of, expr_paren_of, expr_range_of, expr_raw_addr_of, expr_repeat_of, expr_return_of, expr_try_of, expr_tuple_of, expr_unary_of, expr_while_of, expr_yield_of}
+use Rattle.syn_expr_ast.specs.View.{jump_with, range_between, expr_array_of, expr_assign_of, expr_await_of, expr_binary_of, expr_break_of, expr_call_of, expr_cast_of, expr_field_of, expr_if_of, expr_index_of, expr_method_call_of, expr_paren_of, expr_range_of, expr_raw_addr_of, expr_repeat_of, expr_return_of, expr_try_of, expr_tuple_of, expr_unary_of, expr_while_of, expr_yield_of}
 use Rattle.syn_expr_ast.specs.declared.atom.ExprArrayOf.{ExprArrayOf}
 use Rattle.syn_expr_ast.specs.declared.operation.ExprAssignOf.{ExprAssignOf}
 use Rattle.syn_expr_ast.specs.declared.trailer.ExprAwaitOf.{ExprAwaitOf}
@@ -204,14 +205,10 @@ behind is k f (postfixed x j) h = f (postfixed x j) h
 behind is k f (tail b j ks) h = f (tail b j ks) h
 behind is k f (frame j ks) h = f (frame j ks) h
 
-false_where : (b : Bool) → (b ≡ true → ⊥) → b ≡ false
-false_where true h = absurd (h refl)
-false_where false h = refl
-
 not_kind : {S : Type 0} (variant : S → Expr) (is : Tree → Bool) (k : Kind) → ((t : Tree) → is t ≡ true → kind t ≡ k)
     → ((l : Expr-F Expr Pat ExprClosure Arm ExprForLoop ExprLet ExprMatch PatGuard) → ((x : S) × (roll-Expr l ≡ variant x)) ⊎ (layer_kind l ≡ k → ⊥))
     → (v : Expr) → ((x : S) → v ≡ variant x → ⊥) → is (unattributed (tree_of v)) ≡ false
-not_kind variant is k f levels v other = false_where (is (unattributed (tree_of v))) (λ e.
+not_kind variant is k f levels v other = false_from_ne_true (is (unattributed (tree_of v))) (λ e.
     ⊎_elim (λ h. other h.0 (sym (roll-out-Expr v) ∙ h.1))
     (λ h. h (sym (kind_is (out-Expr v)) ∙ ap kind (sym (tree_out v)) ∙ behind is k f (tree_of v) e)) (levels (out-Expr v)))
 

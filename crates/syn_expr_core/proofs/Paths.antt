@@ -1,7 +1,5 @@
 -- Of the kinds of expressions one alone is a path.
-use Rattle.std.proofs.Common.{◌≡◌, true, false, ◌==◌, List, [], ◌∷◌, length, map, refl, ap, sym, ◌∙◌, Option, Some, None, arith, rules}
-use Rattle.std.proofs.lemmas.Bool.{eqb-true}
-use Rattle.syn_tokens.specs.Tok.{Tok}
+use Rattle.std.proofs.Common.{◌≡◌, true, false, ◌==◌, List, [], ◌∷◌, length, map, refl, ap, sym, ◌∙◌, Option, Some, None, rules}
 use Rattle.syn_lower_spec.specs.Tree.{AttributeTree, ReturnTree, default, given}
 use Rattle.syn_expr_spec.specs.Tree as e
 use Rattle.syn_expr_spec.specs.Tree.{Tree, Jump, ClosureHead, leaf, attributed_with}
@@ -26,6 +24,7 @@ use Rattle.syn_expr_core.specs.declared.control.ExprLet.{ExprLet}
 use Rattle.syn_expr_core.specs.declared.control.ExprMatch.{ExprMatch}
 use Rattle.syn_expr_core.specs.View.{tree_layer, tree_of, views}
 use Rattle.syn_expr_core.proofs.TreeOf.{tree_out, tree-Path, closure-is, for_loop-is, let_expr-is, match_expr-is}
+use Rattle.syn_expr_core.proofs.Guards.{not_empty}
 
 -- Attributes before it make none of it.
 attributed_with_no_path : (ats : List AttributeTree) (t : Tree) → is_path t ≡ false → is_path (attributed_with ats t) ≡ false
@@ -56,9 +55,6 @@ pub not_path : (x : Expr) → ((p : ExprPath) → x ≡ ex.Path p → ⊥) → i
 not_path x other = ap is_path (tree_out x) ∙ layer_no_path (out-Expr x) (λ p h. other p (sym (roll-out-Expr x) ∙ ap roll-Expr h ∙ ex.rolls-Path p))
 
 -- ---- attributes before a path
-
-not_empty : (a : Attribute) (ats : List Attribute) → (length (a ∷ ats) == 0) ≡ true → ⊥
-not_empty a ats h = let e : length (a ∷ ats) ≡ 0 = eqb-true (length (a ∷ ats)) 0 h in omega arith
 
 bare_is : (ats : List Attribute) (t : Tree) → (length ats == 0) ≡ true → attributed_with (map attribute_of ats) t ≡ t
 bare_is [] t h = refl

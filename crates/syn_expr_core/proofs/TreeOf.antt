@@ -167,7 +167,7 @@ guards_same : {A B S P : Type 0} (f : A → List S) (g : B → List S) (m : A ×
 guards_same f g m h [] = refl
 guards_same f g m h (x ∷ xs) = let a = h x in let r = guards_same f g m h xs in cc
 
-pairs_same : {A B : Type 0} (m : A → B) (xs : List A) → is_some_pair (map m xs) ≡ is_some_pair xs
+pub pairs_same : {A B : Type 0} (m : A → B) (xs : List A) → is_some_pair (map m xs) ≡ is_some_pair xs
 pairs_same m [] = refl
 pairs_same m (x ∷ xs) = refl
 

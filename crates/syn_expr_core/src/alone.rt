@@ -10,7 +10,7 @@ ghost use Rattle.syn_expr_attrs.specs.Behind.{Behind};
 ghost use Rattle.syn_expr_ast.specs.Attrs.{attrs_of};
 ghost use Rattle.syn_expr_ast.specs.Printed.{ReadsExactly, RefusesOthers};
 ghost use Rattle.syn_expr_ast.specs.View.{expr_reference_of, expr_struct_of};
-ghost use Rattle.syn_expr_spec.specs.Alone.{Alone, OfKind, ReferenceAlone, StructAlone, behind_attributes, is_closure, is_for_loop, is_let, is_match};
+ghost use Rattle.syn_expr_spec.specs.Alone.{Alone, OfKind, behind_attributes, is_closure, is_for_loop, is_let, is_match};
 ghost use Rattle.syn_expr_spec.specs.AloneRead.{AreAttributed, AreAtoms, attributed_alone, operand_alone, reference_alone, struct_alone};
 ghost use Rattle.syn_lower_leaves.specs.Reads.{Reads};
 

@@ -105,7 +105,7 @@ elements_below f xs b = elements_summarized (map f xs) b ∙ backwards_map stack
 pub elements_visited : {E : Type 0} (f : E → Tree) (xs : List E) (b : Bool) → children_visited (elements (map f xs) b) ≡ total (λ x. visited (f x)) xs
 elements_visited f xs b = elements_seen (map f xs) b ∙ total_map visited f xs
 
-silent_if : {A : Type 0} (b : Bool) (x y : A) → (if not b then x else y) ≡ (if b then y else x)
+pub silent_if : {A : Type 0} (b : Bool) (x y : A) → (if not b then x else y) ≡ (if b then y else x)
 silent_if true x y = refl
 silent_if false x y = refl
 
@@ -117,7 +117,7 @@ fields_seen : (xs : List FieldView) (b : Bool) (rest : Children) → children_vi
 fields_seen [] b rest = omega arith
 fields_seen (x ∷ xs) b rest = omega (arith, fields_seen xs b rest)
 
-rest_below : (d : Bool) (o : Option Tree) → children_below (option_child (e.rest d) o) ≡ option_below o
+pub rest_below : (d : Bool) (o : Option Tree) → children_below (option_child (e.rest d) o) ≡ option_below o
 rest_below d None = refl
 rest_below d (Some t) = refl
 
@@ -138,7 +138,7 @@ fields_visited f xs b d o =
 
 -- ---- arms
 
-strays_none : (gs : List Tree) (ks : Children) → children_below (strays gs ks) ≡ children_below ks
+pub strays_none : (gs : List Tree) (ks : Children) → children_below (strays gs ks) ≡ children_below ks
 strays_none [] ks = refl
 strays_none (g ∷ gs) ks = append-nil (children_below (strays gs ks)) ∙ strays_none gs ks
 

@@ -178,9 +178,6 @@ leaf_operands (postfixed x l) k h = absurd cc
 leaf_operands (tail b l ks) k h = absurd cc
 leaf_operands (frame l ks) k h = absurd cc
 
-pub leaf_below : (old : List Summary) (t : Tree) (k : LeafKind) → kind_at t ≡ node.Leaf k → old ++ operands_below (operands_at t) ≡ old
-leaf_below old t k h = ap (λ o. old ++ operands_below o) (leaf_operands t k h) ∙ append-nil old
-
 pub ruleset based = (based_below, based_visited)
 
 pub ruleset leaves = (leaf_operands)

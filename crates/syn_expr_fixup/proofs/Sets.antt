@@ -12,6 +12,7 @@ use Rattle.syn_expr_spec.specs.Place.{takes}
 use Rattle.syn_expr_spec.specs.Next.{takes_next, trails}
 use Rattle.syn_expr_spec.specs.Summaries.{index, classes, bit, bits, set_of, has, wrapped_by, end_by}
 use Rattle.std.proofs.Math.Nat.{pow-suc}
+use Rattle.std.proofs.Math.Bool.{or-false}
 use Rattle.syn_expr_spec.proofs.SummaryLemmas.{bits_at, set_has}
 
 -- ---- a set is below 2 ^ 24
@@ -100,14 +101,10 @@ or_true : (b : Bool) → true ≡ b || true
 or_true true = refl
 or_true false = refl
 
-pub or_false : (b : Bool) → b || false ≡ b
-or_false true = refl
-or_false false = refl
-
 wrapped_has : (p q : Bool) (s : ℕ) (n : Next) → has (if p || q then 0xff_ffff else s) n ≡ (p || has s n) || q
 wrapped_has true q s n = every_has n
 wrapped_has false true s n = every_has n ∙ or_true (has s n)
-wrapped_has false false s n = sym (or_false (has s n))
+wrapped_has false false s n = sym (or-false (has s n))
 
 widened_has : (b : Bool) (s : ℕ) (n : Next) → has (if b then 0xff_ffff else s) n ≡ b || has s n
 widened_has true s n = every_has n
@@ -174,4 +171,4 @@ pub plain_ends : (v : Level) (x : Summary)
 plain_ends v x =
     let f = λ (n : Next). end_by v x n (wrapped_by v x n || false) in
     set_is (set_of f) (λ n. end_by v x n (wrapped_by v x n)) (set_small f)
-    (λ n. set_has f n ∙ ap (end_by v x n) (or_false (wrapped_by v x n)))
+    (λ n. set_has f n ∙ ap (end_by v x n) (or-false (wrapped_by v x n)))

@@ -1,12 +1,12 @@
 -- Nothing is filled in to a tree without its parentheses where nothing was before.
 use Rattle.std.specs.Prelude.{not, ◌&&◌}
 use Rattle.std.proofs.Common.{◌≡◌, Bool, true, false, List, [], ◌∷◌, ◌++◌, refl, sym, ◌∙◌, ap}
+use Rattle.std.proofs.lemmas.Bool.{and_parts, and_from}
 use Rattle.syn_lower_spec.specs.Tree.{AttributeTree}
 use Rattle.syn_expr_spec.specs.Tree as e
 use Rattle.syn_expr_spec.specs.Tree.{Tree, Children, Leaf, Frame, Piece, Ending, leaf, paren, attributed, prefixed, infixed, postfixed, tail, frame, none, child, attributed_with, prepend, flatten, flatten_children, frame_with, inner_in, inners, children_with, leaf_with, outside, with_inner, fill, is_block_like, is_none, is_one, needs_last_comma}
 use Rattle.syn_expr_spec.specs.Stands.{is_verbatim_leaf}
 use Rattle.syn_expr_spec.proofs.Attributes.{is_free, prepend_free}
-use Rattle.syn_expr_spec.proofs.Bools.{both_true, both}
 use Rattle.syn_expr_spec.proofs.FillIns.{filled, children_filled, comma_there, dots_there, fill_filled, filled_stays}
 
 pub none_flatten : (ks : Children) → is_none (flatten_children ks) ≡ is_none ks
@@ -134,21 +134,21 @@ mutual
   filled_flatten (leaf k) h = refl
   filled_flatten (paren m t) h = filled_flatten t h
   filled_flatten (attributed a more t) h = filled_behind (a ∷ more) (flatten t) (filled_flatten t h)
-  filled_flatten (prefixed k gs t) h = let p = both_true (children_filled false gs) (filled t) h in both _ _ (children_filled_flatten false gs p.0) (filled_flatten t p.1)
-  filled_flatten (infixed x k y) h = let p = both_true (filled x) (filled y) h in both _ _ (filled_flatten x p.0) (filled_flatten y p.1)
+  filled_flatten (prefixed k gs t) h = let p = and_parts (children_filled false gs) (filled t) h in and_from _ _ (children_filled_flatten false gs p.0) (filled_flatten t p.1)
+  filled_flatten (infixed x k y) h = let p = and_parts (filled x) (filled y) h in and_from _ _ (filled_flatten x p.0) (filled_flatten y p.1)
   filled_flatten (postfixed x k) h = filled_flatten x h
-  filled_flatten (tail b k ks) h = let p = both_true (filled b) (children_filled false ks) h in both _ _ (filled_flatten b p.0) (children_filled_flatten false ks p.1)
+  filled_flatten (tail b k ks) h = let p = and_parts (filled b) (children_filled false ks) h in and_from _ _ (filled_flatten b p.0) (children_filled_flatten false ks p.1)
   filled_flatten (frame k ks) h = ap (λ b. children_filled b (flatten_children ks)) (last_flatten k ks) ∙ children_filled_flatten (needs_last_comma k ks) ks h
 
   children_filled_flatten : (last : Bool) (ks : Children) → children_filled last ks ≡ true → children_filled last (flatten_children ks) ≡ true
   children_filled_flatten last none h = refl
   children_filled_flatten last (child k c t ks) h =
       let more = not (is_none ks) in
-      let p = both_true (dots_there k && comma_there k c t more last) (filled t && children_filled last ks) h in
-      let q = both_true (dots_there k) (comma_there k c t more last) p.0 in
-      let r = both_true (filled t) (children_filled last ks) p.1 in
+      let p = and_parts (dots_there k && comma_there k c t more last) (filled t && children_filled last ks) h in
+      let q = and_parts (dots_there k) (comma_there k c t more last) p.0 in
+      let r = and_parts (filled t) (children_filled last ks) p.1 in
       let comma = ap (λ b. comma_there k c (flatten t) (not b) last) (none_flatten ks) ∙ comma_flatten k c t more last q.1 in
-      both _ _ (both _ _ q.0 comma) (both _ _ (filled_flatten t r.0) (children_filled_flatten last ks r.1))
+      and_from _ _ (and_from _ _ q.0 comma) (and_from _ _ (filled_flatten t r.0) (children_filled_flatten last ks r.1))
 
 pub fill_flatten : (t : Tree) → fill t ≡ t → fill (flatten t) ≡ flatten t
 fill_flatten t h = filled_stays (flatten t) (filled_flatten t (ap filled (sym h) ∙ fill_filled t))

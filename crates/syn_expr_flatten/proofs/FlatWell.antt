@@ -1,6 +1,7 @@
 -- Without its parentheses a well-formed tree is well-formed.
 use Rattle.std.specs.Prelude.{not, ◌&&◌, ◌||◌}
 use Rattle.std.proofs.Common.{◌≡◌, Bool, true, false, List, ◌∷◌, refl, ap, ◌∙◌}
+use Rattle.std.proofs.lemmas.Bool.{and_parts, and_from}
 use Rattle.syn_lower_spec.specs.Tree.{AttributeTree}
 use Rattle.syn_lower_spec.specs.Pat.{MemberTree, a_name, an_index}
 use Rattle.syn_lower_spec.specs.PatFits.{member_fits, attributes_outer}
@@ -10,7 +11,6 @@ use Rattle.syn_expr_spec.specs.Slot.{Slot, fields, otherwise, outputs, after}
 use Rattle.syn_expr_spec.specs.Stands.{is_attributed, is_if_expr}
 use Rattle.syn_expr_spec.specs.WellFormed.{has_rest, is_name_path, is_verbatim_block, prefix_fits, infix_fits, postfix_fits, trailer_fits, trailer_slot, frame_fits, frame_slot, piece_fits, ending_fits, keeps_block, well, children_well, is_well_formed}
 use Rattle.syn_expr_spec.proofs.Attributes.{outer_both, prepend_outer, put_outer}
-use Rattle.syn_expr_spec.proofs.Bools.{both_true, both}
 use Rattle.syn_expr_flatten.proofs.FlatFill.{none_flatten}
 
 -- ---- what belongs into a slot
@@ -36,9 +36,9 @@ either false b false d f g h = g h
 
 piece_flatten : (s : Slot) (k : Piece) (c : Ending) (t : Tree) → piece_fits s k c t ≡ true → piece_fits s k c (flatten t) ≡ true
 piece_flatten fields (e.field_value ats m b) c t h =
-    let p = both_true (attributes_outer ats) _ h in
-    let q = both_true (member_fits m) _ p.1 in
-    both _ _ p.0 (both _ _ q.0 (either b (is_name_path m t) b (is_name_path m (flatten t)) (λ x. x) (name_flatten m t) q.1))
+    let p = and_parts (attributes_outer ats) _ h in
+    let q = and_parts (member_fits m) _ p.1 in
+    and_from _ _ p.0 (and_from _ _ q.0 (either b (is_name_path m t) b (is_name_path m (flatten t)) (λ x. x) (name_flatten m t) q.1))
 piece_flatten otherwise e.chained c t h = either (is_if_expr t) (is_verbatim_block t) (is_if_expr (flatten t)) (is_verbatim_block (flatten t)) (if_expr_flatten t) (verbatim_flatten t) h
 piece_flatten outputs e.output_block c t h = verbatim_flatten t h
 piece_flatten _ (e.rest d) c t h = h
@@ -58,18 +58,18 @@ frame_flatten _ ks = refl
 
 leaf_behind : (a : AttributeTree) (more : List AttributeTree) (k : Leaf) → attributes_outer (a ∷ more) ≡ true → well (leaf k) ≡ true → well (put_outer (a ∷ more) (leaf k)) ≡ true
 leaf_behind a more (e.verbatim ts) o h = absurd cc
-leaf_behind a more _ o h = both _ _ o h
+leaf_behind a more _ o h = and_from _ _ o h
 
 outer_behind : (a : AttributeTree) (more : List AttributeTree) (t : Tree) → attributes_outer (a ∷ more) ≡ true → well t ≡ true → well (put_outer (a ∷ more) t) ≡ true
 outer_behind a more (leaf k) o h = leaf_behind a more k o h
 outer_behind a more (attributed b bs t) o h =
-    let p = both_true (attributes_outer (b ∷ bs)) (not (is_attributed t) && well t) h in both _ _ (outer_both (a ∷ more) (b ∷ bs) o p.0) p.1
-outer_behind a more (paren m t) o h = both _ _ o h
-outer_behind a more (prefixed k gs t) o h = both _ _ o h
-outer_behind a more (infixed x k y) o h = both _ _ o h
-outer_behind a more (postfixed x k) o h = both _ _ o h
-outer_behind a more (tail b k ks) o h = both _ _ o h
-outer_behind a more (frame k ks) o h = both _ _ o h
+    let p = and_parts (attributes_outer (b ∷ bs)) (not (is_attributed t) && well t) h in and_from _ _ (outer_both (a ∷ more) (b ∷ bs) o p.0) p.1
+outer_behind a more (paren m t) o h = and_from _ _ o h
+outer_behind a more (prefixed k gs t) o h = and_from _ _ o h
+outer_behind a more (infixed x k y) o h = and_from _ _ o h
+outer_behind a more (postfixed x k) o h = and_from _ _ o h
+outer_behind a more (tail b k ks) o h = and_from _ _ o h
+outer_behind a more (frame k ks) o h = and_from _ _ o h
 
 well_behind : (a : AttributeTree) (more : List AttributeTree) (t : Tree) → attributes_outer (a ∷ more) ≡ true → well t ≡ true → well (prepend (a ∷ more) t) ≡ true
 well_behind a more t o h = ap well (prepend_outer (a ∷ more) t o) ∙ outer_behind a more t o h
@@ -84,33 +84,33 @@ mutual
   well_flatten (leaf k) h = h
   well_flatten (paren m t) h = well_flatten t h
   well_flatten (attributed a more t) h =
-      let p = both_true (attributes_outer (a ∷ more)) (not (is_attributed t) && well t) h in
-      let q = both_true (not (is_attributed t)) (well t) p.1 in
+      let p = and_parts (attributes_outer (a ∷ more)) (not (is_attributed t) && well t) h in
+      let q = and_parts (not (is_attributed t)) (well t) p.1 in
       well_behind a more (flatten t) p.0 (well_flatten t q.1)
   well_flatten (prefixed k gs t) h =
-      let p = both_true (prefix_fits k) (is_none gs && well t) h in
-      let q = both_true (is_none gs) (well t) p.1 in
-      both _ _ p.0 (both _ _ (none_flatten gs ∙ q.0) (well_flatten t q.1))
+      let p = and_parts (prefix_fits k) (is_none gs && well t) h in
+      let q = and_parts (is_none gs) (well t) p.1 in
+      and_from _ _ p.0 (and_from _ _ (none_flatten gs ∙ q.0) (well_flatten t q.1))
   well_flatten (infixed x k y) h =
-      let p = both_true (infix_fits k) (well x && well y) h in
-      let q = both_true (well x) (well y) p.1 in
-      both _ _ p.0 (both _ _ (well_flatten x q.0) (well_flatten y q.1))
-  well_flatten (postfixed x k) h = let p = both_true (postfix_fits k) (well x) h in both _ _ p.0 (well_flatten x p.1)
+      let p = and_parts (infix_fits k) (well x && well y) h in
+      let q = and_parts (well x) (well y) p.1 in
+      and_from _ _ p.0 (and_from _ _ (well_flatten x q.0) (well_flatten y q.1))
+  well_flatten (postfixed x k) h = let p = and_parts (postfix_fits k) (well x) h in and_from _ _ p.0 (well_flatten x p.1)
   well_flatten (tail b k ks) h =
-      let p = both_true (trailer_fits k) (well b && children_well (trailer_slot k) ks) h in
-      let q = both_true (well b) (children_well (trailer_slot k) ks) p.1 in
-      both _ _ p.0 (both _ _ (well_flatten b q.0) (children_well_flatten (trailer_slot k) ks q.1))
+      let p = and_parts (trailer_fits k) (well b && children_well (trailer_slot k) ks) h in
+      let q = and_parts (well b) (children_well (trailer_slot k) ks) p.1 in
+      and_from _ _ p.0 (and_from _ _ (well_flatten b q.0) (children_well_flatten (trailer_slot k) ks q.1))
   well_flatten (frame k ks) h =
-      let p = both_true (frame_fits k ks) (children_well (frame_slot k) ks) h in
-      both _ _ (frame_flatten k ks ∙ p.0) (children_well_flatten (frame_slot k) ks p.1)
+      let p = and_parts (frame_fits k ks) (children_well (frame_slot k) ks) h in
+      and_from _ _ (frame_flatten k ks ∙ p.0) (children_well_flatten (frame_slot k) ks p.1)
 
   children_well_flatten : (s : Slot) (ks : Children) → children_well s ks ≡ true → children_well s (flatten_children ks) ≡ true
   children_well_flatten s none h = h
   children_well_flatten s (child k c t ks) h =
-      let p = both_true (piece_fits s k c t && ending_fits k c) ((keeps_block k t || well t) && children_well (after k) ks) h in
-      let q = both_true (piece_fits s k c t) (ending_fits k c) p.0 in
-      let r = both_true (keeps_block k t || well t) (children_well (after k) ks) p.1 in
-      both _ _ (both _ _ (piece_flatten s k c t q.0) q.1) (both _ _ (keeps_flatten k t r.0 (well_flatten t)) (children_well_flatten (after k) ks r.1))
+      let p = and_parts (piece_fits s k c t && ending_fits k c) ((keeps_block k t || well t) && children_well (after k) ks) h in
+      let q = and_parts (piece_fits s k c t) (ending_fits k c) p.0 in
+      let r = and_parts (keeps_block k t || well t) (children_well (after k) ks) p.1 in
+      and_from _ _ (and_from _ _ (piece_flatten s k c t q.0) q.1) (and_from _ _ (keeps_flatten k t r.0 (well_flatten t)) (children_well_flatten (after k) ks r.1))
 
 pub well_formed_flatten : (t : Tree) → is_well_formed t ≡ true → is_well_formed (flatten t) ≡ true
 unfolding is_well_formed

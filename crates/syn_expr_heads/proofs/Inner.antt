@@ -8,8 +8,9 @@ use Rattle.syn_lexer.specs.declared.front.Delimiter.TheVariants as del
 use Rattle.syn_lower_spec.proofs.Forms.{more_is}
 use Rattle.syn_lower_spec.proofs.Marks.{pound_bang_present}
 use Rattle.syn_lower_spec.proofs.Parts.{inner_body_alike}
+use Rattle.syn_lower_spec.proofs.Weights.{some_is}
 use Rattle.syn_expr_spec.specs.WellFormed.{attributes_inner}
-use Rattle.syn_expr_spec.proofs.Chains.{some_is, then_some}
+use Rattle.syn_expr_spec.proofs.Chains.{then_some}
 
 pub inner_attributes_inner : (ats : List AttributeTree) (l n : List Tok) → inner_attributes.reads l ≡ Some (ats, n) → attributes_inner ats ≡ true
 unfolding inner_attributes inner_body

@@ -8,6 +8,7 @@ use Rattle.syn_lower_spec.specs.Form.{Outcome, and_then}
 use Rattle.syn_lower_spec.specs.Mark.{brace_at}
 use Rattle.syn_lower_spec.specs.Part.{inner_attributes}
 use Rattle.syn_lower_spec.proofs.Marks.{word_present}
+use Rattle.syn_lower_spec.proofs.Weights.{some_is}
 use Rattle.syn_expr_spec.specs.declared.kinds.Place.{Place}
 use Rattle.syn_expr_spec.specs.Place.{before_block}
 use Rattle.syn_expr_spec.specs.Tree as e
@@ -15,7 +16,7 @@ use Rattle.syn_expr_spec.specs.Tree.{Tree, Children, Piece, Ending, frame, child
 use Rattle.syn_expr_spec.specs.Slot.{Slot, conditions, arms, after, may_end, piece_form, piece_place, ending_at, is_chained, if_word}
 use Rattle.syn_expr_spec.specs.Stands.{short_value, takes_block}
 use Rattle.syn_expr_spec.specs.Read.{Reading, expr, all_of, before, only_if, is_scrutinees, ended_by, if_expr_by, block_by, value_by, operand_of, armed, operands_by, operands, bare_operands}
-use Rattle.syn_expr_spec.proofs.Chains.{some_is, then_some, only_some, chosen}
+use Rattle.syn_expr_spec.proofs.Chains.{then_some, only_some, chosen}
 use Rattle.syn_expr_spec.proofs.Needs.{heads}
 use Rattle.syn_expr_spec.proofs.HeadMoves.{IsLess, less_then, then_less, grouped, group_inside, left, ending_left, marked}
 use Rattle.syn_expr_spec.proofs.Lesses.{here, node_less, short_less, operands_left}

@@ -41,7 +41,7 @@ use syn_lower::ty::ReturnType;
 use syn_lower_leaves::attr::Attribute;
 use syn_lower_leaves::block::Block;
 use syn_lower_leaves::front::{
-    colon, comma, constant, dots, semi, turbofish_at, underscore, unsafe_word,
+    colon, comma, constant, dots, turbofish_at, underscore, unsafe_word,
 };
 use syn_lower_leaves::leaf::{block, name, outer_attributes, unsigned};
 use syn_lower_leaves::lifetime::Lifetime;
@@ -55,7 +55,7 @@ use syn_tokens::buffer::{ParseBuffer, Token};
 use syn_tokens::error::{Error, ErrorKind, Expected, Result, Wanted};
 use syn_tokens::token::{
     And, Async, Await, Break, Colon, Comma, Const, Continue, DotDot, Else, Eq, FatArrow, For, If,
-    In, Let, Loop, Move, Mut, Or, Raw, Return, Semi, Try, Underscore, Unsafe, Yield,
+    In, Let, Loop, Move, Mut, Or, Raw, Return, Try, Underscore, Unsafe, Yield,
 };
 use syn_tokens::tree::{Ident, TokenStream, TokenTree, copy_trees};
 
@@ -441,20 +441,6 @@ pub fn behind_arm(input: &mut ParseBuffer<'_>, block_like: bool) -> Result<Optio
         return Ok(None);
     }
     Err(input.error(ErrorKind::ExpectedToken(Expected::One(Comma::wanted()))))
-}
-
-/// Takes the `;` after the element that an array repeats (Rust Reference, "Array expressions"). It is refused as
-/// `ExpectedToken` of `;`.
-#[tactic(auto, unfolding(syn_expr_spec::specs::Slot::ending_at))]
-pub fn behind_repeated(input: &mut ParseBuffer<'_>) -> Result<Semi>
-    ensures value { (x : e.Tree) → Reads (λ _. e.no_ending) (slot.ending_at e.repeated x input.old.rest) result input.new.rest }
-    ensures noted { input.new.noted ≡ input.old.noted }
-    ensures shrinks { weight input.new.rest ≤ weight input.old.rest }
-{
-    let Some(semi_token) = semi(input) else {
-        return Err(input.error(ErrorKind::ExpectedToken(Expected::One(Semi::wanted()))));
-    };
-    Ok(semi_token)
 }
 
 /// Reads the block after the condition of an `if` (Rust Reference, "`if` expressions"). It is refused as `ExpectedToken` of

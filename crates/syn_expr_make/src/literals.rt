@@ -2,7 +2,7 @@
 #![tactic(auto, unfolding(syn_expr_ast::specs::Attrs::attrs_of))]
 
 ghost use Rattle.std.specs.Prelude.{◌≡◌, ◌⊎◌, ◌∷◌, [], false, true, chars, IfErr, IfOk};
-ghost use Rattle.syn_expr_make.specs.Held.{IsLit, tree_in};
+ghost use Rattle.syn_expr_make.specs.Held.{IsLit};
 ghost use Rattle.syn_expr_spec.specs.Tree as e;
 ghost use Rattle.syn_lower_leaves.specs.View.{lit_of};
 ghost use Rattle.syn_lower_leaves.specs.Written as forms;

@@ -3,6 +3,7 @@ use Rattle.std.proofs.Common.{◌≡◌, suc, Bool, true, false, cond, List, [],
 use Rattle.syn_tokens.specs.Tok.{Tok, weight}
 use Rattle.syn_lower_spec.specs.Tree.{AttributeTree}
 use Rattle.syn_lower_spec.specs.Pat.{PatTree, guarded}
+use Rattle.syn_lower_spec.proofs.Weights.{some_is}
 use Rattle.syn_expr_spec.specs.Place.{plain, at_head}
 use Rattle.syn_expr_spec.specs.Tree as e
 use Rattle.syn_expr_spec.specs.Tree.{Tree, Children, Ending, Piece}
@@ -10,7 +11,7 @@ use Rattle.syn_expr_spec.specs.Slot as slot
 use Rattle.syn_expr_spec.specs.Slot.{behind_arm, fat_arrow, piece_form}
 use Rattle.syn_expr_spec.specs.Stands.{Stands, Operands}
 use Rattle.syn_expr_spec.specs.Read.{expr, bare_operands}
-use Rattle.syn_expr_spec.proofs.Chains.{some_is, then_some}
+use Rattle.syn_expr_spec.proofs.Chains.{then_some}
 use Rattle.syn_expr_spec.proofs.Needs.{heads}
 use Rattle.syn_expr_spec.proofs.Exact.{expr_sound, expr_complete}
 use Rattle.syn_expr_spec.proofs.Sound.{bare_sound}

@@ -1,7 +1,6 @@
 -- Attributes before an operand, as they are read.
 use Rattle.std.proofs.Common.{◌≡◌, Bool, true, false, cond, List, [], ◌∷◌, ◌++◌, Option, Some, None, refl, sym, subst, not}
 use Rattle.syn_tokens.specs.Tok.{Tok}
-use Rattle.syn_tokens.specs.Input.{IsTail}
 use Rattle.syn_lower_spec.specs.Form.{more, fix, iterate, is_nil}
 use Rattle.syn_lower_spec.specs.Tree.{AttributeTree}
 use Rattle.syn_lower_spec.specs.Mark.{pound}
@@ -14,13 +13,10 @@ use Rattle.syn_expr_spec.specs.Stands.{is_attributed, is_verbatim, takes_attribu
 use Rattle.syn_expr_spec.specs.Read.{attributed_by, read_attributed, before, verbatim_of}
 use Rattle.syn_expr_parse.specs.Operators.{outer_operand, with_outer}
 use Rattle.syn_expr_spec.proofs.Needs.{heads}
-use Rattle.syn_expr_spec.proofs.HeadMoves.{left, taken_is}
-use Rattle.syn_expr_spec.proofs.Lesses.{here}
+use Rattle.syn_expr_spec.proofs.HeadMoves.{taken_is}
 use Rattle.syn_expr_ast.proofs.Outers.{outers_are}
 use Rattle.syn_expr_ast.specs.Node.{attributes_at}
-
-pub outers_left : (l m : List Tok) (ats : List AttributeTree) → outer_attributes.reads l ≡ Some (ats, m) → IsTail m l
-outers_left l m ats h = left here.outer ats l m (heads.outers.sound l ats m h)
+use Rattle.syn_lower_leaves.proofs.ReadingAttributes.{outer_tail}
 
 -- ---- where `#` is there is one
 
@@ -63,7 +59,7 @@ pub attributed-not : (p : Place) (x : Tree) → takes_attributes p x ≡ true �
 attributed-not p (tr.attributed a more x) h = absurd cc
 attributed-not p _ h = refl
 
-pub ruleset attributes = (outers_left, outers_are, outer_is)
+pub ruleset attributes = (outer_tail, outers_are, outer_is)
 
 pub ruleset outers = (outer_tree, outer_refused, attributed-not)
 

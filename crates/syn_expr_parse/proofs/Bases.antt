@@ -8,6 +8,7 @@ use Rattle.syn_tokens.specs.Front.{group_at}
 use Rattle.syn_tokens.specs.Floats.{float_parts}
 use Rattle.syn_lower_spec.specs.Mark.{colon2, sign_at}
 use Rattle.syn_lower_spec.specs.Pat.{an_index, index_of}
+use Rattle.syn_lower_spec.proofs.Weights.{some_is}
 use Rattle.syn_expr_spec.specs.declared.kinds.Place.{Place}
 use Rattle.syn_expr_spec.specs.Tree as e
 use Rattle.syn_expr_spec.specs.Tree.{Tree}
@@ -15,7 +16,6 @@ use Rattle.syn_expr_spec.specs.Stands as stands
 use Rattle.syn_expr_spec.specs.Stands.{fields_of, fits_base, indices_at, step, steps_of, closed_steps}
 use Rattle.syn_expr_spec.specs.Slot.{nothing, trailer_holder}
 use Rattle.syn_expr_spec.specs.Read.{content, indexed_by, expr}
-use Rattle.syn_expr_spec.proofs.Chains.{some_is}
 use Rattle.syn_expr_ast.specs.Label.{trailer_kind}
 use Rattle.syn_expr_ast.specs.declared.label.TrailerKind.TheVariants as trailers
 use Rattle.syn_expr_parse.specs.Kind as known

@@ -7,6 +7,7 @@ use Rattle.syn_tokens.specs.Tok.{Tok, weight}
 use Rattle.syn_tokens.specs.Front.{is_empty, group_at}
 use Rattle.syn_lower_spec.specs.Form.{Outcome, and_then}
 use Rattle.syn_lower_spec.specs.Mark.{comma, semi}
+use Rattle.syn_lower_spec.proofs.Weights.{some_is}
 use Rattle.syn_expr_spec.specs.Place.{plain}
 use Rattle.syn_expr_spec.specs.Tree as tr
 use Rattle.syn_expr_spec.specs.Tree.{Tree, Children, Ending, none, child}
@@ -16,7 +17,7 @@ use Rattle.syn_lexer.specs.declared.front.Delimiter.TheVariants as del
 use Rattle.syn_expr_spec.specs.Read as Read
 use Rattle.syn_expr_spec.specs.Read.{expr, bare_operands, rounded, repeated_by, elements_by, bracket_inside, bracket_read, all_of, before as outcome_before, only_if}
 use Rattle.syn_expr_spec.proofs.Sound.{empty_is}
-use Rattle.syn_expr_spec.proofs.Chains.{some_is, then_some, only_some, chosen}
+use Rattle.syn_expr_spec.proofs.Chains.{then_some, only_some, chosen}
 use Rattle.syn_expr_spec.proofs.HeadMoves.{ending_left, tail_falls}
 use Rattle.syn_lower_leaves.proofs.Loops.{map-one}
 use Rattle.syn_lower_leaves.specs.Punct.{takes_value, is_one}

@@ -2,6 +2,7 @@
 use Rattle.std.proofs.Common.{◌≡◌, true, false, List, Some, refl, subst}
 use Rattle.syn_tokens.specs.Tok.{Tok}
 use Rattle.syn_lower_spec.specs.Pat.{a_name, an_index}
+use Rattle.syn_lower_spec.proofs.Weights.{some_is}
 use Rattle.syn_expr_spec.specs.Place.{plain}
 use Rattle.syn_expr_spec.specs.Tree as e
 use Rattle.syn_expr_spec.specs.Tree.{Piece}
@@ -9,7 +10,7 @@ use Rattle.syn_expr_spec.specs.Slot as slot
 use Rattle.syn_expr_spec.specs.Slot.{piece_form}
 use Rattle.syn_expr_spec.specs.Stands.{path_of}
 use Rattle.syn_expr_spec.specs.Read.{expr}
-use Rattle.syn_expr_spec.proofs.Chains.{some_is, then_some}
+use Rattle.syn_expr_spec.proofs.Chains.{then_some}
 use Rattle.syn_expr_spec.proofs.Needs.{heads}
 use Rattle.syn_expr_spec.proofs.Exact.{expr_sound, expr_complete}
 use Rattle.syn_expr_spec.proofs.HeadMoves.{IsLess, left_less, less_then}

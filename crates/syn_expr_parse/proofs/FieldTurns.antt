@@ -9,6 +9,7 @@ use Rattle.syn_lower_spec.specs.Tree.{AttributeTree}
 use Rattle.syn_lower_spec.specs.Form.{Outcome, and_then}
 use Rattle.syn_lower_spec.specs.Mark.{comma}
 use Rattle.syn_lower_spec.specs.Pat.{MemberTree, a_name, an_index, dots}
+use Rattle.syn_lower_spec.proofs.Weights.{some_is}
 use Rattle.syn_expr_spec.specs.Place.{plain}
 use Rattle.syn_expr_spec.specs.Tree as tr
 use Rattle.syn_expr_spec.specs.Tree.{Tree, Children, Piece, Ending, none, child}
@@ -16,7 +17,7 @@ use Rattle.syn_expr_spec.specs.Slot as s
 use Rattle.syn_expr_spec.specs.Slot.{after, piece_form, ending_at, comma_or_end, to_field, may_end}
 use Rattle.syn_expr_spec.specs.Stands.{short_value, path_of}
 use Rattle.syn_expr_spec.specs.Read.{Reading, only_if, expr, bare_operands, value_by, operand_of}
-use Rattle.syn_expr_spec.proofs.Chains.{some_is, then_some, only_some, chosen}
+use Rattle.syn_expr_spec.proofs.Chains.{then_some, only_some, chosen}
 use Rattle.syn_expr_spec.proofs.HeadMoves.{left_less}
 use Rattle.syn_expr_spec.proofs.Needs.{heads}
 use Rattle.syn_expr_spec.proofs.Lesses.{here}

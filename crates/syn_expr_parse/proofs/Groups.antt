@@ -1,6 +1,7 @@
 -- Paths and invisible groups are read in their parts.
 use Rattle.std.specs.Prelude.{not, ◌&&◌}
 use Rattle.std.proofs.Common.{◌≡◌, ℕ, suc, Bool, true, false, cond, List, [], ◌∷◌, Option, Some, None, refl, ap, sym, ◌∙◌, subst, arith}
+use Rattle.std.proofs.lemmas.Bool.{not-true, and_parts}
 use Rattle.syn_lexer.specs.declared.front.Delimiter.TheVariants as del
 use Rattle.syn_tokens.specs.Tok.{Tok, Inside, group as group_tok, toks, weight}
 use Rattle.syn_lower_spec.specs.Pat.{an_index}
@@ -10,6 +11,8 @@ use Rattle.syn_lower_spec.specs.Tree.{QSelfTree, PathTree, SegmentTree}
 use Rattle.syn_lower_spec.specs.Form.{Outcome, and_then, whole, more, extend_more, gathered_more}
 use Rattle.syn_lower_spec.specs.Mark.{colon2, not_ne}
 use Rattle.syn_lower_spec.specs.Part.{QPathTree, is_bare, macro_end, segment, type}
+use Rattle.syn_lower_spec.proofs.Weights.{some_is}
+use Rattle.syn_lower_spec.proofs.Forms.{behind_some}
 use Rattle.syn_expr_spec.specs.declared.kinds.Place.{Place}
 use Rattle.syn_expr_spec.specs.Place.{plain}
 use Rattle.syn_expr_spec.specs.Path.{is_try_alone, invisible_at, goes_on_path, to_path, expr_path}
@@ -17,10 +20,9 @@ use Rattle.syn_expr_spec.specs.Head.{leaf_form, named as named_form}
 use Rattle.syn_expr_spec.specs.Slot as s
 use Rattle.syn_expr_spec.specs.Slot.{piece_form, ending_at}
 use Rattle.syn_expr_spec.specs.Tree as e
-use Rattle.syn_expr_spec.specs.Tree.{Tree, Children, Leaf, leaf, paren, attributed, prefixed, infixed, postfixed, tail, frame, none, child}
+use Rattle.syn_expr_spec.specs.Tree.{Tree, Children, Leaf, leaf, tail, none, child}
 use Rattle.syn_expr_spec.specs.Stands.{Node, Content, Operands, holds_within, one_more, no_more, is_leaf, is_indexed, fields_of, frame_stands, frame_ends}
 use Rattle.syn_expr_spec.specs.Read.{content, named_read, framed_by, group_read, expr}
-use Rattle.syn_expr_spec.proofs.Chains.{some_is, behind_some, both_true, not_true}
 use Rattle.syn_expr_spec.proofs.Needs.{heads}
 use Rattle.syn_expr_spec.proofs.Exact.{expr_sound, expr_complete}
 use Rattle.syn_expr_spec.proofs.GroupForms.{invisible_is, plain_read, no_front, extended_front, path_closed}
@@ -58,10 +60,7 @@ pub no_path : (p : Place) (x : Tree) (n : List Tok) → is_path x ≡ false → 
 no_path p (leaf (e.path q w)) n h = absurd cc
 no_path p t n h = refl
 
-pub not_closed : (b : Bool) → not b ≡ true → b ≡ false
-not_closed b h = not_true b h
-
-pub ruleset closed = (no_path, not_closed)
+pub ruleset closed = (no_path, not-true)
 
 -- ---- a group
 
@@ -128,8 +127,8 @@ module _ (l i n : List Tok) (g : group_at del.None l ≡ Some (i, n)) where
   no_held : (braces : Bool) → ((x : Tree) → expr plain i ≡ Some (x, []) → ⊥) → (expr_path braces).reads l ≡ None
   no_held braces f =
       no_front braces l i n g (λ q a h.
-      let u = both_true (not (is_try_alone q.0 q.1)) _ h in
-      f (leaf (e.path q.0 q.1)) (expr_complete plain i (leaf (e.path q.0 q.1)) [] (path_alone_stands q.0 q.1 i a (not_true (is_try_alone q.0 q.1) u.0))))
+      let u = and_parts (not (is_try_alone q.0 q.1)) _ h in
+      f (leaf (e.path q.0 q.1)) (expr_complete plain i (leaf (e.path q.0 q.1)) [] (path_alone_stands q.0 q.1 i a (not-true (is_try_alone q.0 q.1) u.0))))
 
   framed_is : (p : Place) (x : Tree) (b : Bool) → expr plain i ≡ Some (x, []) → frame_ends p e.group_expr (child e.grouped e.no_ending x none) n ≡ b
       → framed_by expr p e.group_expr l ≡ cond b (Some (in_group x, n)) None
@@ -178,7 +177,7 @@ module _ (l i n : List Tok) (g : group_at del.None l ≡ Some (i, n)) where
   by_other : (p : Place) (x : Tree) → expr plain i ≡ Some (x, []) → is_path x ≡ false → group_read expr p l ≡ behind_group p x n
   by_other p x h k =
       ending_there p x h (ends_by p x n k) (λ r a c.
-      let u = not_true (is_try_alone r.0 r.1) (both_true (not (is_try_alone r.0 r.1)) _ c).0 in
+      let u = not-true (is_try_alone r.0 r.1) (and_parts (not (is_try_alone r.0 r.1)) _ c).0 in
       let same = only_path x r h a u in absurd (cc (k, ap is_path same))) ∙ sym (no_path p x n k)
 
   by_test : (p : Place) (x : Tree) → expr plain i ≡ Some (x, []) → group_read expr p l ≡ behind_group p x n

@@ -1,6 +1,7 @@
 -- What the loops over operators and trailers go by.
 use Rattle.std.specs.Prelude.{◌&&◌, ◌||◌, not}
 use Rattle.std.proofs.Common.{◌≡◌, ℕ, ◌<◌, Bool, true, false, cond, List, drop, Option, Some, None, refl, ap, ◌∙◌}
+use Rattle.std.proofs.Math.Bool.{or-false}
 use Rattle.syn_tokens.specs.Tok.{Tok, weight}
 use Rattle.syn_expr_spec.specs.declared.kinds.Infix.{Infix}
 use Rattle.syn_expr_spec.specs.declared.kinds.Place.{Place}
@@ -18,13 +19,9 @@ turn_is : (p : Place) (x : Tree) (l : List Tok) (o : Option (Infix × ℕ)) → 
 unfolding operations
 turn_is p x l o i = climb_turn p x l ∙ rw i refl
 
-or_false : (a : Bool) → (a || false) ≡ a
-or_false true = refl
-or_false false = refl
-
 -- an operator goes on neither a range nor what is the whole, so that it fits where it chains no comparison
 fits_by : (r c w : Bool) → (r || w) ≡ false → not (r || (c || w)) ≡ not c
-fits_by false c false h = ap not (or_false c)
+fits_by false c false h = ap not (or-false c)
 fits_by false c true h = absurd cc
 fits_by true c w h = absurd cc
 

@@ -3,6 +3,7 @@ use Rattle.std.specs.Prelude.{◌&&◌, ◌||◌, ◌==◌, not}
 use Rattle.std.proofs.Common.{◌≡◌, Bool, true, false, List, [], ◌∷◌, drop, codes, Some, refl, ap, sym, ◌∙◌}
 use Rattle.std.specs.Str.{bytes_eq}
 use Rattle.std.proofs.Math.Bool.{and-false}
+use Rattle.std.proofs.lemmas.Bool.{and_parts, or_parts, not-true}
 use Rattle.syn_lexer.specs.Keywords.{is_reserved_word}
 use Rattle.syn_lexer.specs.declared.front.Delimiter.TheVariants as del
 use Rattle.syn_lexer.specs.declared.front.Spacing.TheVariants as spacing
@@ -21,7 +22,6 @@ use Rattle.syn_expr_spec.specs.Tree as e
 use Rattle.syn_expr_spec.specs.Head.{builtin_at}
 use Rattle.syn_expr_spec.specs.Stands.{leaf_stands, path_of}
 use Rattle.syn_expr_spec.specs.Read.{atom, named_read, expr}
-use Rattle.syn_expr_spec.proofs.Chains.{both_true, neither, not_true}
 use Rattle.syn_expr_spec.proofs.GroupForms.{plain_read}
 use Rattle.syn_expr_spec.proofs.NameFronts.{named_word, one_word, word_read}
 use Rattle.syn_expr_tokens.proofs.Choices.{name_segment, try_reserved, no_try}
@@ -37,12 +37,12 @@ record Ended (l : List Tok) : Type 0 where
 ended : (l : List Tok) → may_go_on l ≡ false → Ended l
 unfolding sign_at brace_at group_at
 ended (punct c spacing.Alone ∷ l) h =
-    let (a, b) = neither (c == 58) _ h in
-    let (d, g) = neither (c == 33) _ b in
+    let (a, b) = or_parts (c == 58) _ h in
+    let (d, g) = or_parts (c == 33) _ b in
     record { no_colons = rw a refl; no_bang = rw d refl; no_pound = rw g refl; no_brace = refl }
 ended (punct c spacing.Joint ∷ l) h =
-    let (a, b) = neither (c == 58) _ h in
-    let (d, g) = neither (c == 33) _ b in
+    let (a, b) = or_parts (c == 58) _ h in
+    let (d, g) = or_parts (c == 33) _ b in
     record { no_colons = rw a refl; no_bang = rw d refl; no_pound = rw g refl; no_brace = refl }
 ended (group del.Brace i ∷ l) h = absurd cc
 ended (group _ i ∷ l) h = record { no_colons = refl; no_bang = refl; no_pound = refl; no_brace = refl }
@@ -88,9 +88,9 @@ named_alone w l p h g = rw (plain_read (not p.condition) (ident w ∷ l) (word_v
 
 word_alone : (w : Text) (l : List Tok) (p : Place) → is_alone (ident w ∷ l) ≡ true → atom expr p (ident w ∷ l) ≡ Some (path_of w, l)
 word_alone w l p h =
-    let (a, b) = both_true (not (is_reserved_word w)) (not (may_go_on l)) h in
-    let g = ended l (not_true _ b) in
-    named_first w l p (not_true _ a) g ∙ named_alone w l p (not_true _ a) g
+    let (a, b) = and_parts (not (is_reserved_word w)) (not (may_go_on l)) h in
+    let g = ended l (not-true _ b) in
+    named_first w l p (not-true _ a) g ∙ named_alone w l p (not-true _ a) g
 
 pub name_alone : (w : Text) (l : List Tok) (p : Place) → l ≡ ident w ∷ drop 1 l → is_alone l ≡ true → atom expr p l ≡ Some (path_of w, drop 1 l)
 name_alone w l p i h = ap (λ z. atom expr p z) i ∙ word_alone w (drop 1 l) p (ap is_alone (sym i) ∙ h)

@@ -9,7 +9,7 @@ use Rattle.syn_expr_spec.proofs.Complete.{at_place_complete}
 use Rattle.syn_expr_spec.proofs.Exact.{expr_sound, expr_complete}
 use Rattle.std.specs.Prelude.{◌==◌, ◌&&◌, ◌||◌, is_some}
 use Rattle.std.proofs.Math.Seq.{take-suc, take-length}
-use Rattle.std.proofs.lemmas.Bool.{eqb-true}
+use Rattle.std.proofs.lemmas.Bool.{eqb-true, and_parts}
 use Rattle.std.proofs.lemmas.List.{drop-drop}
 use Rattle.syn_lexer.specs.declared.front.Spacing.{Spacing}
 use Rattle.syn_lexer.specs.declared.front.Spacing.TheVariants.{Alone, Joint}
@@ -17,7 +17,7 @@ use Rattle.syn_tokens.specs.Front.{group_at}
 use Rattle.syn_tokens.specs.View.{tok_of, toks_of, toks_of-append, toks_of-take, toks_of-drop}
 use Rattle.syn_tokens.specs.declared.tree.TokenTree.{TokenTree}
 use Rattle.syn_lower_spec.specs.Form.{Outcome, and_then}
-use Rattle.syn_lower_spec.specs.Mark.{sign_at, word_at, brace_at, lifetime_at, pound}
+use Rattle.syn_lower_spec.specs.Mark.{sign_at, word_at, brace_at, pound}
 use Rattle.syn_lower_spec.specs.Part.{outer_attributes}
 use Rattle.syn_expr_spec.specs.declared.kinds.Infix.{Infix}
 use Rattle.syn_expr_spec.specs.declared.kinds.Infix.TheVariants as inf
@@ -31,10 +31,10 @@ use Rattle.syn_expr_spec.specs.Op.{level, infix_at, goes_on, takes_by}
 use Rattle.syn_expr_spec.specs.Head.{prefix_form, leaf_at}
 use Rattle.syn_expr_spec.specs.Tree.{Tree, prefixed, unary, none}
 use Rattle.syn_expr_spec.specs.Stands.{ends, is_range, rests, prefix_stands}
-use Rattle.syn_expr_spec.proofs.Chains.{both_true}
 use Rattle.syn_expr_parse.specs.Led.{behind}
 use Rattle.syn_expr_parse.specs.Operators.{operations, trailers, operator_of, operator_at, are_operators, wrap, wrapped}
 use Rattle.syn_expr_spec.proofs.HeadForms.{leaf_tests}
+use Rattle.syn_expr_spec.proofs.Fronts.{no_lifetime}
 
 -- two readings are one where each gives what the other gives
 same_answers : {A : Type 0} (a b : Option A) → ((y : A) → a ≡ Some y → b ≡ Some y) → ((y : A) → b ≡ Some y → a ≡ Some y) → a ≡ b
@@ -51,27 +51,20 @@ expr_is p l = same_answers (expr p l) (at_place expr p l)
 
 -- ---- an operator that comes first is told before anything else
 
-no_quote : (c : ℕ) (s : Spacing) (l : List Tok) → (c == 39) ≡ false → lifetime_at (punct c s ∷ l) ≡ false
-unfolding lifetime_at
-no_quote c Alone l h = refl
-no_quote c Joint [] h = refl
-no_quote c Joint (ident w ∷ l) h = rw h refl
-no_quote c Joint (_ ∷ l) h = refl
-
 star_first : (p : Place) (s : Spacing) (l : List Tok) → atom expr p (punct 42 s ∷ l) ≡ (prefixed (unary un.Deref) none <$> expr (at p lev.Prefix)) l
 unfolding atom leaf_at prefix_at prefix_read prefix_form prefix_stands leaf_tests brace_at group_at sign_at word_at
-star_first p Alone l = rw (no_quote 42 Alone l refl) refl
-star_first p Joint l = rw (no_quote 42 Joint l refl) refl
+star_first p Alone l = rw (no_lifetime 42 Alone l refl) refl
+star_first p Joint l = rw (no_lifetime 42 Joint l refl) refl
 
 bang_first : (p : Place) (s : Spacing) (l : List Tok) → atom expr p (punct 33 s ∷ l) ≡ (prefixed (unary un.Not) none <$> expr (at p lev.Prefix)) l
 unfolding atom leaf_at prefix_at prefix_read prefix_form prefix_stands leaf_tests brace_at group_at sign_at word_at
-bang_first p Alone l = rw (no_quote 33 Alone l refl) refl
-bang_first p Joint l = rw (no_quote 33 Joint l refl) refl
+bang_first p Alone l = rw (no_lifetime 33 Alone l refl) refl
+bang_first p Joint l = rw (no_lifetime 33 Joint l refl) refl
 
 minus_first : (p : Place) (s : Spacing) (l : List Tok) → atom expr p (punct 45 s ∷ l) ≡ (prefixed (unary un.Neg) none <$> expr (at p lev.Prefix)) l
 unfolding atom leaf_at prefix_at prefix_read prefix_form prefix_stands leaf_tests brace_at group_at sign_at word_at
-minus_first p Alone l = rw (no_quote 45 Alone l refl) refl
-minus_first p Joint l = rw (no_quote 45 Joint l refl) refl
+minus_first p Alone l = rw (no_lifetime 45 Alone l refl) refl
+minus_first p Joint l = rw (no_lifetime 45 Joint l refl) refl
 
 punct_first : (p : Place) (c : ℕ) (s : Spacing) (l : List Tok) (k : UnKind) → operator_of (punct c s) ≡ Some k → atom expr p (punct c s ∷ l) ≡ (prefixed (unary k) none <$> expr (at p lev.Prefix)) l
 unfolding operator_of
@@ -237,7 +230,7 @@ chain : (p : Place) (n : ℕ) (l : List Tok) → IsInner p → are_operators (ta
 chain p zero l e h = same_then (expr p l)
 chain p (suc n) [] e h = same_then (expr p [])
 chain p (suc n) (t ∷ l) e h =
-    let (a, b) = both_true (is_some (operator_of t)) (are_operators (take n l)) h in
+    let (a, b) = and_parts (is_some (operator_of t)) (are_operators (take n l)) h in
     step p t l e a
     ∙ ap (λ (o : Outcome Tree). and_then o (wrap p (operator_of t))) (chain p n l e b)
     ∙ then_then (expr p (drop n l)) (wrapped p (take n l)) (wrap p (operator_of t))
@@ -310,7 +303,7 @@ pub one_more : (n : ℕ) (l m : List Tok) (t : Tok) → drop n l ≡ t ∷ m →
 one_more zero [] m t e a h = absurd cc
 one_more zero (s ∷ l) m t e a h = let f : t ≡ s = cc in let g : is_some (operator_of s) ≡ true = subst (λ s. is_some (operator_of s) ≡ true) f h in rw g refl
 one_more (suc n) [] m t e a h = absurd cc
-one_more (suc n) (s ∷ l) m t e a h = let (b, c) = both_true (is_some (operator_of s)) (are_operators (take n l)) a in
+one_more (suc n) (s ∷ l) m t e a h = let (b, c) = and_parts (is_some (operator_of s)) (are_operators (take n l)) a in
     let f : suc n + 1 ≡ suc (n + 1) = omega arith in
     subst (λ k. are_operators (take k (s ∷ l)) ≡ true) (sym f) (by_first (is_some (operator_of s)) b (one_more n l m t e c h))
   where

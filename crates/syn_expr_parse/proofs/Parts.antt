@@ -10,6 +10,7 @@ use Rattle.syn_lower_spec.specs.Form.{Outcome, and_then}
 use Rattle.syn_lower_spec.specs.Mark.{brace_at}
 use Rattle.syn_lower_spec.specs.Part.{inner_attributes}
 use Rattle.syn_lower_spec.specs.Pat.{PatTree, guarded}
+use Rattle.syn_lower_spec.proofs.Weights.{some_is}
 use Rattle.syn_expr_spec.specs.declared.kinds.Place.{Place}
 use Rattle.syn_expr_spec.specs.Place.{before_block, plain, at_head}
 use Rattle.syn_expr_spec.specs.Tree as e
@@ -19,7 +20,7 @@ use Rattle.syn_expr_spec.specs.Head.{label}
 use Rattle.syn_expr_spec.specs.Slot.{piece_form, ending_at, behind_arm, if_word, else_word, while_word, for_head, fat_arrow, after}
 use Rattle.syn_expr_spec.specs.Stands.{frame_stands, frame_ends}
 use Rattle.syn_expr_spec.specs.Read.{Reading, expr, all_of, before, ended_by, operand_of, operands_by, bare_operands, content, framed_by, looped, loop_read}
-use Rattle.syn_expr_spec.proofs.Chains.{some_is, then_some}
+use Rattle.syn_expr_spec.proofs.Chains.{then_some}
 use Rattle.syn_expr_spec.proofs.Needs.{heads}
 use Rattle.syn_expr_spec.proofs.HeadMoves.{IsLess, less_then, then_less, left, ending_left}
 use Rattle.syn_expr_spec.proofs.Lesses.{here}

@@ -1,6 +1,7 @@
 -- Where an expression ends that no operator goes on, and where no trailer is left after one.
 use Rattle.std.specs.Prelude.{◌&&◌, ◌||◌, not, if◌then◌else◌}
 use Rattle.std.proofs.Common.{◌≡◌, ℕ, Bool, true, false, List, Option, Some, None, refl, subst}
+use Rattle.std.proofs.lemmas.Bool.{or_parts}
 use Rattle.syn_tokens.specs.Tok.{Tok}
 use Rattle.syn_lower_spec.specs.Mark.{round_at}
 use Rattle.syn_expr_spec.specs.declared.kinds.Infix.{Infix}
@@ -12,7 +13,6 @@ use Rattle.syn_expr_spec.specs.Op.{infix_at, level, goes_on, takes_by}
 use Rattle.syn_expr_spec.specs.Tree.{Tree}
 use Rattle.syn_expr_spec.specs.Stands.{closes, ends, goes_behind, is_range, rests, refuses_dots, refuses_arrow, carries, is_cast}
 use Rattle.syn_expr_spec.specs.Read.{taken_by, taken_at, next_operator}
-use Rattle.syn_expr_spec.proofs.Chains.{neither}
 
 -- ---- operators
 
@@ -46,9 +46,9 @@ no_trailer : (r : Bool) (l : List Tok) → trailer_at l ≡ false → goes_behin
 unfolding trailer_at
 no_trailer false l h = h
 no_trailer true l h =
-    let (a, b) = neither (round_at l) _ h in
-    let (c, d) = neither (bracket_at l) _ b in
-    let (e, f) = neither (question_at l) (dot_at l) d in
+    let (a, b) = or_parts (round_at l) _ h in
+    let (c, d) = or_parts (bracket_at l) _ b in
+    let (e, f) = or_parts (question_at l) (dot_at l) d in
     rw (f, e) refl
 
 nothing_left : (a : Bool) → not (a && false) ≡ true

@@ -8,6 +8,7 @@ use Rattle.syn_lower_spec.specs.Mark.{round_at}
 use Rattle.syn_lower_spec.specs.Part.{type}
 use Rattle.syn_lower_spec.specs.Pat.{an_index}
 use Rattle.syn_lower_spec.proofs.Tails.{nothing_taken, tail_then}
+use Rattle.syn_lower_spec.proofs.Weights.{some_is}
 use Rattle.syn_expr_spec.specs.declared.kinds.Infix.{Infix}
 use Rattle.syn_expr_spec.specs.declared.kinds.Infix.TheVariants as inf
 use Rattle.syn_expr_spec.specs.declared.kinds.Limits.TheVariants as limits
@@ -22,7 +23,7 @@ use Rattle.syn_expr_spec.specs.Tree.{Tree, Children, Postfix, Trailer, infixed, 
 use Rattle.syn_expr_spec.specs.Slot.{trailer_holder}
 use Rattle.syn_expr_spec.specs.Stands.{Content, closes, ends_operation, fits_left, fits_base, infix_stands, postfix_stands, rests, is_range, fields_of, name_at, indices_at, fields_head, trailer_head}
 use Rattle.syn_expr_spec.specs.Read.{Reading, content, trailed, trailed_by, indexed_by, dotted_by, trail, operation, postfix_made, infix_read, longer, closing, turn, climb, taken_by, taken_at, next_operator, expr}
-use Rattle.syn_expr_spec.proofs.Chains.{some_is, then_some, only_some, chosen}
+use Rattle.syn_expr_spec.proofs.Chains.{then_some, only_some, chosen}
 use Rattle.syn_expr_spec.proofs.Needs.{heads}
 use Rattle.syn_expr_spec.proofs.HeadMoves.{IsLess, less_then, then_less, dropped, left, left_less, fields_less, trailer_less, name_left}
 use Rattle.syn_expr_spec.proofs.Lesses.{here, node_less, content_left, within_less, operator_less}

@@ -22,7 +22,8 @@ use Rattle.syn_expr_print.specs.Shape.{leaf_shape, paren_shape, prefix_shape, fr
 use Rattle.syn_expr_ast.specs.Node.{no_trees, one_tree, framed, operands_at, leaf_at, is_paren, prefix_at, operator_at, postfix_at, trailer_at, frame_at, operand_children, first_of, second_of}
 use Rattle.syn_expr_ast.specs.Pats.{strays}
 use Rattle.syn_expr_print.specs.Printing.{spelled, spelled_in, children_spelled, core, node_of, IsBorrowed}
-use Rattle.syn_expr_print.proofs.Spellings.{leaf-spelled, paren-spelled, prefixed-spelled, open-spelled, closed-spelled, strays-spelled, strays-below, below-core}
+use Rattle.syn_expr_print.proofs.Spellings.{leaf-spelled, paren-spelled, prefixed-spelled, open-spelled, closed-spelled, strays-spelled, below-core}
+use Rattle.syn_expr_fixup.proofs.Lists.{strays_none}
 
 -- ---- tokens, and an operand
 
@@ -295,6 +296,6 @@ closed-text c t p x l a h =
     ∙ ap (λ z. x.head ++ own_parts.enclosed x.delimiter (z ++ x.ending) []) (strays-spelled b p.1 ks)
 
 pub frame-below : (t : Tree) (p : Frame × List Tree) → IsBorrowed t → frame_at t ≡ Some p → below t ≡ children_below (operand_children (operands_at t))
-frame-below t p l a = below-core t ∙ ap below (frame-core t p l a) ∙ strays-below p.1 (operand_children (operands_at t))
+frame-below t p l a = below-core t ∙ ap below (frame-core t p l a) ∙ strays_none p.1 (operand_children (operands_at t))
 
 pub ruleset frames = (open-text, closed-text, frame-below)

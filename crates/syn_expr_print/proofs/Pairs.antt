@@ -1,5 +1,5 @@
 -- Lists of operands with commas, as they are printed: those that commas follow, and the last.
-use Rattle.std.specs.Prelude.{not, ◌||◌, if◌then◌else◌, Option, Some, None, is_some, map}
+use Rattle.std.specs.Prelude.{not, ◌||◌, Option, Some, None, is_some, map}
 use Rattle.std.proofs.Common.{◌≡◌, ◌+◌, Bool, true, false, List, [], ◌∷◌, ◌++◌, refl, sym, ap, ◌∙◌, append_assoc, arith}
 use Rattle.std.proofs.lemmas.List.{append-nil}
 use Rattle.std.specs.declared.boxed.Box.{Box}
@@ -14,6 +14,7 @@ use Rattle.syn_expr_spec.specs.Tree as e
 use Rattle.syn_expr_spec.specs.Tree.{Tree, Children, size, children_size}
 use Rattle.syn_expr_ast.specs.View.{FieldView, boxed, elements, fields, option_child}
 use Rattle.syn_expr_fixup.specs.Below.{backwards, total, field_below, option_below}
+use Rattle.syn_expr_fixup.proofs.Lists.{silent_if, rest_below}
 use Rattle.syn_expr_print.specs.Placed.{comma_if, last_field_below, last_field_size, last_field_spelled, last_spelled, option_size, rest_spelled}
 use Rattle.syn_expr_ast.specs.Printed.{whole, field_spelled}
 use Rattle.syn_expr_print.specs.Printing.{children_spelled}
@@ -77,14 +78,10 @@ field-pairs-text f last (q ∷ ps) ks =
     ∙ sym (append_assoc (field_spelled (f q.0)) (alone 44 ∷ []) (pairs_printed (λ x. field_spelled (f x)) comma ps ++ children_spelled last ks))
     ∙ sym (append_assoc (field_spelled (f q.0) ++ alone 44 ∷ []) (pairs_printed (λ x. field_spelled (f x)) comma ps) (children_spelled last ks))
 
-silent-if : {A : Type 0} (b : Bool) (x y : A) → (if not b then x else y) ≡ (if b then y else x)
-silent-if true x y = refl
-silent-if false x y = refl
-
 field-pairs-below : {F P : Type 0} (f : F → FieldView) (ps : List (F × P)) (ks : Children) → children_below (field_children f ps ks) ≡ children_below ks ++ backwards (λ q. field_below (f q.0)) ps
 field-pairs-below f [] ks = sym (append-nil (children_below ks))
 field-pairs-below f (q ∷ ps) ks =
-    ap (λ l. children_below (field_children f ps ks) ++ l) (silent-if (f q.0).colon [] (stack (f q.0).value))
+    ap (λ l. children_below (field_children f ps ks) ++ l) (silent_if (f q.0).colon [] (stack (f q.0).value))
     ∙ ap (λ l. l ++ field_below (f q.0)) (field-pairs-below f ps ks)
     ∙ append_assoc (children_below ks) (backwards (λ q. field_below (f q.0)) ps) (field_below (f q.0))
 
@@ -95,10 +92,6 @@ field-pairs-size f (q ∷ ps) ks = omega (arith, field-pairs-size f ps ks)
 rest-text : (last d : Bool) (o : Option Tree) → children_spelled last (option_child (e.rest d) o) ≡ rest_spelled o
 rest-text last d None = none-spelled last
 rest-text last d (Some t) = rest-spelled last d t
-
-rest-below : (d : Bool) (o : Option Tree) → children_below (option_child (e.rest d) o) ≡ option_below o
-rest-below d None = refl
-rest-below d (Some t) = refl
 
 rest-size : (d : Bool) (o : Option Tree) → children_size (option_child (e.rest d) o) ≡ option_size o
 rest-size d None = refl
@@ -145,10 +138,10 @@ module _ {F P : Type 0} (f : F → FieldView) (p : Punctuated F P) (d : Bool) (r
       ∙ append_assoc (option_below r) (last_field_below (boxed f p.last)) (backwards (λ q. field_below (f q.0)) p.inner.items)
     where
       by : (o : Option (Box F Global)) → children_below (last_field f o (option_child (e.rest d) r)) ≡ option_below r ++ last_field_below (boxed f o)
-      by None = rest-below d r ∙ sym (append-nil (option_below r))
+      by None = rest_below d r ∙ sym (append-nil (option_below r))
       by (Some b) =
-          ap (λ l. children_below (option_child (e.rest d) r) ++ l) (silent-if (f b.value).colon [] (stack (f b.value).value))
-          ∙ ap (λ l. l ++ field_below (f b.value)) (rest-below d r)
+          ap (λ l. children_below (option_child (e.rest d) r) ++ l) (silent_if (f b.value).colon [] (stack (f b.value).value))
+          ∙ ap (λ l. l ++ field_below (f b.value)) (rest_below d r)
 
   pub fields-size : children_size (fields (map f (values p)) (trails p) (option_child (e.rest d) r))
       ≡ total (λ q. size (f q.0).value) p.inner.items + (last_field_size (boxed f p.last) + option_size r)

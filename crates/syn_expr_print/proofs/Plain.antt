@@ -1,13 +1,12 @@
 -- Whether a node is a block without a label and attributes, and what is printed of the body of a closure with an output.
 use Rattle.std.specs.Prelude.{◌&&◌, if◌then◌else◌, Some, None}
 use Rattle.std.proofs.Common.{◌≡◌, Bool, true, false, refl, sym, ap, ◌∙◌}
-use Rattle.std.proofs.Math.Bool.{and-false}
+use Rattle.std.proofs.Math.Bool.{and-false, and-true}
 use Rattle.syn_expr_spec.specs.declared.summary.Sort.{Sort}
 use Rattle.syn_expr_spec.specs.declared.summary.Sort.TheVariants as sort
 use Rattle.syn_expr_spec.specs.Summaries.{summary_of, leaf_sort, attributed_sort}
 use Rattle.syn_expr_spec.specs.Rule.{is_plain_leaf, is_plain_block}
 use Rattle.syn_expr_spec.specs.Tree as e
-use Rattle.syn_expr_spec.proofs.Bools.{and_true}
 use Rattle.syn_expr_spec.specs.Tree.{Tree, Leaf, leaf, paren, attributed, prefixed, infixed, postfixed, tail, frame}
 use Rattle.syn_expr_ast.specs.Node.{leaf_at}
 use Rattle.syn_expr_print.specs.Placed.{is_block_sort, is_block, is_block_kind}
@@ -15,7 +14,7 @@ use Rattle.syn_expr_print.proofs.Braced.{output-plain, output-braced}
 use Rattle.syn_expr_ast.specs.Label.{kind_at}
 
 plain-sort : (k : Leaf) → is_plain_leaf k ≡ is_plain_leaf k && is_block_sort (leaf_sort k)
-plain-sort (e.block None b) = sym (and_true (is_plain_leaf (e.block None b)))
+plain-sort (e.block None b) = sym (and-true (is_plain_leaf (e.block None b)))
 plain-sort t = refl
 
 -- after attributes a node's summary says of no block

@@ -1,6 +1,7 @@
 -- What is printed of a node of each shape in plain position, by what is printed of its operands.
 use Rattle.std.specs.Prelude.{Option, Some, None, is_some, Result, Ok, Err}
 use Rattle.std.proofs.Common.{◌≡◌, Bool, true, false, List, [], ◌++◌, OnOk, refl, sym, ap, ◌∙◌, append_assoc}
+use Rattle.std.proofs.Math.Bool.{or-false}
 use Rattle.syn_lexer.specs.declared.front.Delimiter.TheVariants as del
 use Rattle.syn_tokens.specs.Tok.{Tok}
 use Rattle.syn_lower_spec.specs.Tree.{AttributeTree}
@@ -32,7 +33,6 @@ use Rattle.syn_expr_print.proofs.Children.{none-spelled, value-spelled}
 use Rattle.syn_expr_print.proofs.Rounds.{last-seen}
 use Rattle.syn_expr_print.proofs.Spellings.{leaf-spelled, paren-spelled, prefixed-spelled, infixed-spelled, postfixed-spelled, tail-spelled, open-spelled, closed-spelled, strays-spelled}
 use Rattle.syn_expr_print.proofs.Attributing.{whole-bare, behind-plain}
-use Rattle.syn_expr_spec.proofs.Bools.{or_none}
 
 -- ---- leaves, and operands at the ends
 
@@ -195,6 +195,6 @@ module _ {P : Type 0} (pat : P → PatView) where
 -- ---- an arm after which no other follows
 
 pub comma-own : (x : ArmView) → has_comma x false ≡ x.comma
-comma-own x = or_none x.comma
+comma-own x = or-false x.comma
 
 pub ruleset arms = (comma-own)

@@ -1,7 +1,6 @@
 -- What is printed of a node of each shape, by what is printed of its operands.
 use Rattle.std.specs.Prelude.{Option, Some, None}
 use Rattle.std.proofs.Common.{◌≡◌, Bool, true, false, List, [], ◌∷◌, ◌++◌, refl, sym, ap, ◌∙◌}
-use Rattle.std.proofs.lemmas.List.{append-nil}
 use Rattle.syn_lexer.specs.declared.front.Delimiter.TheVariants as del
 use Rattle.syn_tokens.specs.Tok.{group, inside}
 use Rattle.syn_lower_spec.specs.Tree.{AttributeTree}
@@ -13,7 +12,7 @@ use Rattle.syn_expr_spec.specs.declared.kinds.Level.TheVariants as lev
 use Rattle.syn_expr_spec.specs.declared.next.Context.{Context}
 use Rattle.syn_expr_spec.specs.Op.{level}
 use Rattle.syn_expr_spec.specs.Next.{enclosed, left_context, right_context, base_context, prefix_context, attributed_context}
-use Rattle.syn_expr_spec.specs.Summaries.{summary_of, below, children_below, place_by, left_by, base_by, prefix_by}
+use Rattle.syn_expr_spec.specs.Summaries.{summary_of, below, place_by, left_by, base_by, prefix_by}
 use Rattle.syn_expr_spec.specs.Rule.{put, bare, bare_children, is_operation, prefix_asks, left_asks, base_asks, place_asks}
 use Rattle.syn_expr_spec.specs.Tree as e
 use Rattle.syn_expr_spec.specs.Tree.{Tree, Children, Leaf, Prefix, Postfix, Trailer, Frame, Enclosure, leaf, paren, attributed, outers, prefixed, infixed, postfixed, tail, frame, own, own_tokens, children_own, leaf_own, prefix_own, infix_own, postfix_own, postfix_op, trailer_own, frame_own, enclosure, framed, fill, fill_children, needs_last_comma}
@@ -164,7 +163,3 @@ pub strays-spelled : (last : Bool) (gs : List Tree) (ks : Children) → children
 unfolding children_spelled
 strays-spelled last [] ks = refl
 strays-spelled last (g ∷ gs) ks = strays-spelled last gs ks
-
-pub strays-below : (gs : List Tree) (ks : Children) → children_below (strays gs ks) ≡ children_below ks
-strays-below [] ks = refl
-strays-below (g ∷ gs) ks = append-nil (children_below (strays gs ks)) ∙ strays-below gs ks

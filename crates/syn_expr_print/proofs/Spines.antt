@@ -1,6 +1,7 @@
 -- Down nodes that begin with an operand, and up again.
 use Rattle.std.proofs.Common.{◌≡◌, ℕ, ◌≤◌, Bool, true, false, List, [], ◌∷◌, ◌++◌, Some, refl, sym, ap, ◌∙◌, subst, append_assoc}
 use Rattle.std.proofs.lemmas.List.{append-nil}
+use Rattle.std.proofs.lemmas.Bool.{and_parts}
 use denote.Ref.{Bor}
 use Rattle.syn_tokens.specs.Tok.{Tok}
 use Rattle.syn_lower_spec.specs.Form.{is_nil}
@@ -9,7 +10,6 @@ use Rattle.syn_expr_spec.specs.declared.summary.Summary.{Summary}
 use Rattle.syn_expr_spec.specs.Summaries.{summary_of, stack, below}
 use Rattle.syn_expr_spec.specs.Stands.{is_attributed}
 use Rattle.syn_expr_spec.specs.Tree.{Tree, Children, leaf, paren, attributed, prefixed, infixed, postfixed, tail, frame, none, child, size}
-use Rattle.syn_expr_spec.proofs.Chains.{both_true}
 use Rattle.syn_expr_ast.specs.Label.{kind_at}
 use Rattle.syn_expr_ast.specs.Node.{attributes_at, operands_at, based_by, first_of}
 use Rattle.syn_expr_fixup.specs.Spine.{behind_below}
@@ -75,11 +75,11 @@ next_bare false t h = refl
 
 pub next_core : (w : Bool) (t : Tree) → is_next w t ≡ true → core t ≡ t
 next_core true t h = absurd cc
-next_core false t h = let (a, b) = both_true (is_nil (attributes_at t)) (begins (kind_at t)) h in bare_core t a
+next_core false t h = let (a, b) = and_parts (is_nil (attributes_at t)) (begins (kind_at t)) h in bare_core t a
 
 pub next_begins : (w : Bool) (t : Tree) → is_next w t ≡ true → begins (kind_at t) ≡ true
 next_begins true t h = absurd cc
-next_begins false t h = let (a, b) = both_true (is_nil (attributes_at t)) (begins (kind_at t)) h in b
+next_begins false t h = let (a, b) = and_parts (is_nil (attributes_at t)) (begins (kind_at t)) h in b
 
 -- the summaries of its first operand come first, and then those of what comes after it; `next` follows
 pub first_left : (now : Summaries) (next : List Summary) (t u : Tree) → first_of (operands_at t) ≡ Some u → EndsWith now.left.items (next ++ below t) → EndsWith now.left.items (stack u)

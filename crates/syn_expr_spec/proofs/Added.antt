@@ -1,6 +1,7 @@
 -- Without its added pairs a printed tree is the tree that was printed, with its fill-ins.
 use Rattle.std.specs.Prelude.{not, ◌&&◌, ◌||◌, if◌then◌else◌}
-use Rattle.std.proofs.Common.{◌≡◌, Bool, true, false, ◌∷◌, refl, sym, ◌∙◌, ap}
+use Rattle.std.proofs.Common.{◌≡◌, Bool, true, false, ◌∷◌, refl, ◌∙◌, ap}
+use Rattle.std.proofs.lemmas.Bool.{and_parts}
 use Rattle.syn_lower_spec.specs.Pat.{MemberTree, a_name}
 use Rattle.syn_lower_spec.specs.PatFits.{attributes_outer, member_fits}
 use Rattle.syn_expr_spec.specs.declared.next.Context.{Context}
@@ -9,7 +10,7 @@ use Rattle.syn_expr_spec.specs.declared.kinds.Infix.{Infix}
 use Rattle.syn_expr_spec.specs.Op.{level}
 use Rattle.syn_expr_spec.specs.Next.{enclosed, in_statement, prefix_context, left_context, right_context, base_context, attributed_context, piece_context}
 use Rattle.syn_expr_spec.specs.Tree as e
-use Rattle.syn_expr_spec.specs.Tree.{Tree, Children, Prefix, Trailer, Piece, Ending, leaf, paren, attributed, prefixed, infixed, postfixed, tail, frame, none, child, is_none, fill, clear, clear_children, prepend, flatten, flatten_children, postfix_op, is_silent, IsSameTree}
+use Rattle.syn_expr_spec.specs.Tree.{Tree, Children, Prefix, Trailer, Piece, Ending, leaf, paren, attributed, prefixed, infixed, postfixed, tail, frame, none, child, is_none, fill, clear, clear_children, prepend, flatten, flatten_children, postfix_op, is_silent}
 use Rattle.syn_expr_spec.specs.Slot as s
 use Rattle.syn_expr_spec.specs.Slot.{Slot, after}
 use Rattle.syn_expr_spec.specs.Stands.{is_attributed, takes_block}
@@ -17,8 +18,7 @@ use Rattle.syn_expr_spec.specs.Rule.{is_operation, put, piece_put, prefix_asks, 
 use Rattle.syn_expr_spec.specs.Minimal.{without_added, children_without_added}
 use Rattle.syn_expr_spec.specs.Printed.{context_of, PairsAreAdded}
 use Rattle.syn_expr_spec.specs.WellFormed.{is_verbatim_block, is_name_path, infix_fits, postfix_fits, prefix_fits, frame_fits, trailer_fits, trailer_slot, frame_slot, piece_fits, ending_fits, keeps_block, well, children_well, is_well_formed}
-use Rattle.syn_expr_spec.proofs.Bools.{both_true}
-use Rattle.syn_expr_spec.proofs.Flat.{left_of, right_of, flatten_clear}
+use Rattle.syn_expr_spec.proofs.Flat.{left_of, right_of}
 use Rattle.syn_expr_spec.proofs.FillIns.{well_fill}
 use Rattle.syn_expr_spec.proofs.Same.{put_fits, fits_put, verbatim_stays, piece_puts, verbatim_or}
 
@@ -56,7 +56,7 @@ name_without m t h = absurd cc
 
 -- an operand that isn't spelled is the name of its field
 silent_without : (x : Slot) (k : Piece) (c : Ending) (t : Tree) → piece_fits x k c t ≡ true → is_silent k ≡ true → without_added t ≡ clear t
-silent_without s.fields (e.field_value ats m false) c t h g = name_without m t (both_true (member_fits m) _ (both_true (attributes_outer ats) _ h).1).1
+silent_without s.fields (e.field_value ats m false) c t h g = name_without m t (and_parts (member_fits m) _ (and_parts (attributes_outer ats) _ h).1).1
 silent_without s.fields (e.field_value ats m true) c t h g = absurd cc
 silent_without s.fields (e.rest d) c t h g = absurd cc
 silent_without s.elements e.element c t h g = absurd cc
@@ -148,6 +148,3 @@ mutual
   flatten_without_children : (ks : Children) → flatten_children (children_without_added ks) ≡ flatten_children ks
   flatten_without_children none = refl
   flatten_without_children (child k c t ks) = same_child k c (flatten_without t) (flatten_without_children ks)
-
-pub without_is_same : (t p : Tree) → without_added p ≡ clear (fill t) → IsSameTree t p
-without_is_same t p h = sym (flatten_without p) ∙ ap flatten h ∙ flatten_clear (fill t)

@@ -16,11 +16,12 @@ use Rattle.syn_lower_spec.proofs.Marks.{and_present, mutable_present}
 use Rattle.syn_lower_spec.proofs.PatsBack.{attributes_back}
 use Rattle.syn_lower_spec.proofs.Readable.{lit_readable, macro_readable}
 use Rattle.syn_lower_spec.proofs.Tails.{flag_leaves, tail_then}
+use Rattle.syn_lower_spec.proofs.Weights.{some_is}
 use Rattle.syn_expr_spec.specs.declared.kinds.Place.{Place}
 use Rattle.syn_expr_spec.specs.declared.kinds.Level.TheVariants as lev
 use Rattle.syn_expr_spec.specs.Place.{plain, at}
 use Rattle.syn_expr_spec.specs.Tree as tr
-use Rattle.syn_expr_spec.specs.Tree.{Tree, Children, Leaf, leaf, paren, prefixed, infixed, postfixed, tail, frame, none, attributed_with}
+use Rattle.syn_expr_spec.specs.Tree.{Tree, Children, Leaf, leaf, paren, prefixed, tail, frame, none, attributed_with}
 use Rattle.syn_expr_spec.specs.Path.{invisible_at, expr_path}
 use Rattle.syn_expr_spec.specs.Head.{leaf_form, named, to_named, range_at, jump_at}
 use Rattle.syn_expr_spec.specs.Slot as s
@@ -29,7 +30,7 @@ use Rattle.syn_expr_spec.specs.Read.{Reading, only_if, bare_operands, atom, expr
 use Rattle.syn_expr_spec.specs.Alone.{Alone, behind_attributes, unattributed, is_inside, PathAlone, is_path, LitAlone, is_lit, MacroAlone, is_macro, ReferenceAlone, is_reference, StructAlone, is_struct, OfKind, of_kind, ungrouped, is_infer, is_block, is_loop, is_unsafe, is_const, is_async, is_try_block, is_continue, is_return, is_yield, is_break, is_unary, is_raw_addr, is_let, is_closure, is_array, is_repeat, is_match, is_for_loop, is_while}
 use Rattle.syn_expr_spec.specs.Exact.{IsExact}
 use Rattle.syn_expr_spec.specs.AloneRead.{is_atom, is_plain_leaf, is_plain, AreAtoms, AreAttributed, ArePlain, kind_of, leaf_alone, operand_alone, attributed_alone, path_alone, lit_alone, macro_alone, reference_alone, structure_behind, struct_alone, expr_of_kind}
-use Rattle.syn_expr_spec.proofs.Chains.{some_is, then_some, only_some, chosen}
+use Rattle.syn_expr_spec.proofs.Chains.{then_some, only_some, chosen}
 use Rattle.syn_expr_spec.proofs.GroupForms.{invisible_is}
 use Rattle.syn_expr_spec.proofs.Needs.{heads}
 use Rattle.syn_expr_spec.proofs.HeadMoves.{IsLess, less_then, then_less, marked, grouped, group_inside, left, left_less}

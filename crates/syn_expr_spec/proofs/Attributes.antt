@@ -2,16 +2,16 @@
 use Rattle.std.specs.Prelude.{not, ◌&&◌, if◌then◌else◌}
 use Rattle.std.proofs.Common.{◌≡◌, Bool, true, false, List, [], ◌∷◌, ◌++◌, refl, sym, ap, ◌∙◌}
 use Rattle.std.proofs.lemmas.List.{append-nil, append_assoc}
+use Rattle.std.proofs.lemmas.Bool.{and_parts, and_from}
 use Rattle.syn_tokens.specs.Tok.{Tok}
 use Rattle.syn_lower_spec.specs.Tree.{AttributeTree}
 use Rattle.syn_lower_spec.specs.Own.{attribute_own}
 use Rattle.syn_lower_spec.specs.PatOwn.{attributes_own}
 use Rattle.syn_lower_spec.specs.PatFits.{attributes_outer}
 use Rattle.syn_expr_spec.specs.Tree as e
-use Rattle.syn_expr_spec.specs.Tree.{Tree, Children, Leaf, Frame, leaf, paren, attributed, prefixed, infixed, postfixed, tail, frame, none, child, attributed_with, outers, inners, from_inner, has_braces, frame_has_braces, children_inner, children_with, frame_with, frame_inner, inner_in, with_inner, outside, with_attributes, prepend}
+use Rattle.syn_expr_spec.specs.Tree.{Tree, Children, Leaf, leaf, attributed, frame, child, attributed_with, outers, inners, has_braces, frame_has_braces, children_inner, children_with, inner_in, with_inner, outside, prepend}
 use Rattle.syn_expr_spec.specs.Stands.{is_verbatim_leaf}
 use Rattle.syn_expr_spec.specs.WellFormed.{attributes_inner}
-use Rattle.syn_expr_spec.proofs.Bools.{both_true, both}
 
 -- ---- outer ones and inner ones
 
@@ -68,7 +68,7 @@ inners_append (a ∷ more) ys = by a.inner (inners_append more ys)
 pub outer_both : (xs ys : List AttributeTree) → attributes_outer xs ≡ true → attributes_outer ys ≡ true → attributes_outer (xs ++ ys) ≡ true
 outer_both [] ys h k = k
 outer_both (a ∷ more) ys h k =
-    let p = both_true (not a.inner) (attributes_outer more) h in both (not a.inner) (attributes_outer (more ++ ys)) p.0 (outer_both more ys p.1 k)
+    let p = and_parts (not a.inner) (attributes_outer more) h in and_from (not a.inner) (attributes_outer (more ++ ys)) p.0 (outer_both more ys p.1 k)
 
 -- ---- in braces
 
@@ -291,14 +291,3 @@ prepend_outer more t o = free_or {A = λ t. prepend more t ≡ put_outer more t}
 
 pub prepend_none : (t : Tree) → prepend [] t ≡ t
 prepend_none t = prepend_outer [] t refl ∙ free_or {A = λ t. put_outer [] t ≡ t} (λ t h. free_outer [] t h) (λ a more t. refl) (λ ts. refl) t
-
--- ---- in place of others
-
-leaf_put : (ats : List AttributeTree) (k : Leaf) → is_free (leaf k) ≡ true → with_attributes ats (leaf k) ≡ attributed_with (outside (leaf k) ats) (with_inner (from_inner ats) (leaf k))
-leaf_put ats (e.verbatim ts) h = cc
-leaf_put ats _ h = refl
-
-pub with_attributes_free : (ats : List AttributeTree) (t : Tree) → is_free t ≡ true → with_attributes ats t ≡ attributed_with (outside t ats) (with_inner (from_inner ats) t)
-with_attributes_free ats (leaf k) h = leaf_put ats k h
-with_attributes_free ats (attributed a more t) h = cc
-with_attributes_free ats _ h = refl

@@ -1,6 +1,7 @@
 -- The printed tree is formed where the tree is.
 use Rattle.std.proofs.Common.{◌≡◌, Bool, true, false, not, ◌||◌, None, refl, sym, ◌∙◌, ap, subst}
 use Rattle.std.proofs.Math.Bool.{and-false}
+use Rattle.std.proofs.lemmas.Bool.{or_parts}
 use Rattle.syn_expr_spec.specs.declared.kinds.Level.TheVariants as lev
 use Rattle.syn_expr_spec.specs.declared.next.Next.TheVariants as next
 use Rattle.syn_expr_spec.specs.declared.next.Context.{Context}
@@ -13,7 +14,6 @@ use Rattle.syn_expr_spec.specs.Slot as s
 use Rattle.syn_expr_spec.specs.Slot.{Slot, after}
 use Rattle.syn_expr_spec.specs.Rule.{is_operation, refuses, misplaced, leaf_misplaced, place_asks, left_asks, base_asks, prefix_asks, put, piece_put, bare, bare_children}
 use Rattle.syn_expr_spec.specs.WellFormed.{well, frame_fits, has_rest, frame_slot, trailer_slot, piece_fits, is_verbatim_block, keeps_block}
-use Rattle.syn_expr_spec.proofs.Bools.{or_false}
 use Rattle.syn_expr_spec.proofs.FillIns.{comma_there}
 use Rattle.syn_expr_spec.proofs.Formed.{ChildFormed, Formed, FormedChildren, formed_fill}
 use Rattle.syn_expr_spec.proofs.Edges.{low_some, bad_end, self_enclosed}
@@ -95,7 +95,7 @@ misplaced_arm (frame e.array ks) = refl
 misplaced_arm _ = refl
 
 pub arm_bare : (t : Tree) → place_asks lev.Jump in_arm t ≡ false
-arm_bare t = let p : refuses t next.End ≡ false = (or_false _ _ (self_enclosed t)).0 in rw (low_some t, bad_end t, p, misplaced_arm t) refl
+arm_bare t = let p : refuses t next.End ≡ false = (or_parts _ _ (self_enclosed t)).0 in rw (low_some t, bad_end t, p, misplaced_arm t) refl
 
 block_arm : (t : Tree) → is_block_like (put (place_asks lev.Jump in_arm t) (bare enclosed t) (bare in_arm t)) ≡ is_block_like t
 block_arm t = rw (arm_bare t) (block_bare in_arm t)

@@ -2,6 +2,7 @@
 use Rattle.std.specs.Prelude.{not, ◌||◌, ◌&&◌, nat_lt, nat_le}
 use Rattle.std.proofs.lemmas.Bool.Decides.{nat_tests}
 use Rattle.std.proofs.Common.{◌≡◌, ◌⊎◌, inl, inr, ℕ, Bool, true, false, List, [], ◌∷◌, Option, Some, None, refl, sym, ◌∙◌, ap, subst, arith}
+use Rattle.std.proofs.lemmas.Bool.{and_from}
 use Rattle.syn_tokens.specs.Tok.{Tok}
 use Rattle.syn_lower_spec.specs.Pat.{a_name, an_index}
 use Rattle.syn_expr_spec.specs.declared.kinds.Place.{Place}
@@ -15,12 +16,12 @@ use Rattle.syn_expr_spec.specs.Place.{rank, takes, at}
 use Rattle.syn_expr_spec.specs.Op.{infix_at, level, binary_level, goes_on, is_comparison}
 use Rattle.syn_expr_spec.specs.Next.{prefix_level}
 use Rattle.syn_expr_spec.specs.Tree as e
-use Rattle.syn_expr_spec.specs.Tree.{Tree, Children, Leaf, Prefix, Trailer, Piece, leaf, paren, attributed, prefixed, infixed, postfixed, tail, frame, none, postfix_op}
+use Rattle.syn_expr_spec.specs.Tree.{Tree, Children, Leaf, Prefix, Trailer, Piece, leaf, attributed, prefixed, infixed, postfixed, tail, none, postfix_op}
 use Rattle.syn_expr_spec.specs.Slot.{Slot, Holder}
 use Rattle.syn_expr_spec.specs.Stands.{Node, Content, Operands, is_leaf, is_become, is_attributed_verbatim, is_paren, is_attributed_by, is_prefixed, is_infixed, is_postfixed, is_tail, is_indexed, is_frame, holds_none, holds_within, holds_bare, no_more, one_more, short, block, arms_inside, is_base, fits_base, carries_trailer, fields_of, trailer_head, short_value, path_of, fits_left, ends, prefix_place, refuses_dots, refuses_arrow, compares, carries, is_range, is_infix, is_range_leaf, is_range_prefix, is_prefix}
 use Rattle.syn_expr_spec.specs.Binding.{everywhere, children_everywhere, binds_right, as_tight, binds_left, compares_once, ranges_stay, RightOperandBindsTighter, LeftOperandBindsAsTight, ComparisonsDontChain, RangeIsNoLeftOperand}
 use Rattle.syn_expr_spec.proofs.Callees.{fits_there, fits_index}
-use Rattle.syn_expr_spec.proofs.Flat.{both, left_of}
+use Rattle.syn_expr_spec.proofs.Flat.{left_of}
 
 -- what is shown of a test at one node each
 pub record AtNodes (f : Tree → Bool) : Type 0 where
@@ -32,7 +33,7 @@ fields_hold : (f : Tree → Bool) → AtNodes f → (b : Tree) (is : List ℕ) �
     → everywhere f (fields_of b is) ≡ true
 fields_hold f h b [] g w = w
 fields_hold f h b (i ∷ more) g w =
-    fields_hold f h (tail b (e.field (an_index i)) none) more (λ j. refl) (both _ _ (h.at_index b i (g i)) (both _ _ w refl))
+    fields_hold f h (tail b (e.field (an_index i)) none) more (λ j. refl) (and_from _ _ (h.at_index b i (g i)) (and_from _ _ w refl))
 
 based : (p : Place) (k : Trailer) (b : Tree) → fits_base p k b ≡ true → is_base k b ≡ true
 unfolding fits_base
@@ -63,18 +64,18 @@ mutual
   at_nodes f h p l n x (is_leaf {k = k} g s) = h.at_leaf k
   at_nodes f h p l n x (is_become {ts = ts} w d s c q) = h.at_leaf (e.verbatim ts)
   at_nodes f h p l n x (is_attributed_verbatim {us = us} a more fs g d q r) = h.at_leaf (e.verbatim us)
-  at_nodes f h p l n x (is_paren d s c) = both _ _ (h.at_node p _ n _ (is_paren {p = p} d s c)) (at_nodes f h _ _ _ _ d)
-  at_nodes f h p l n x (is_attributed_by {a = a} {more = more} g u d) = both _ _ (h.at_node p l n _ (is_attributed_by {a = a} {more = more} g u d)) (at_nodes f h _ _ _ _ d)
-  at_nodes f h p l n x (is_prefixed g k d s c) = both _ _ (h.at_node p l n _ (is_prefixed g k d s c)) (both true _ refl (at_nodes f h _ _ _ _ d))
+  at_nodes f h p l n x (is_paren d s c) = and_from _ _ (h.at_node p _ n _ (is_paren {p = p} d s c)) (at_nodes f h _ _ _ _ d)
+  at_nodes f h p l n x (is_attributed_by {a = a} {more = more} g u d) = and_from _ _ (h.at_node p l n _ (is_attributed_by {a = a} {more = more} g u d)) (at_nodes f h _ _ _ _ d)
+  at_nodes f h p l n x (is_prefixed g k d s c) = and_from _ _ (h.at_node p l n _ (is_prefixed g k d s c)) (and_from true _ refl (at_nodes f h _ _ _ _ d))
   at_nodes f h p l n x (is_infixed d c g i t k r s q o) =
-      both _ _ (h.at_node p l n _ (is_infixed d c g i t k r s q o)) (both _ _ (at_nodes f h _ _ _ _ d) (at_nodes f h _ _ _ _ r))
-  at_nodes f h p l n x (is_postfixed d c g i t k s o) = both _ _ (h.at_node p l n _ (is_postfixed d c g i t k s o)) (at_nodes f h _ _ _ _ d)
+      and_from _ _ (h.at_node p l n _ (is_infixed d c g i t k r s q o)) (and_from _ _ (at_nodes f h _ _ _ _ d) (at_nodes f h _ _ _ _ r))
+  at_nodes f h p l n x (is_postfixed d c g i t k s o) = and_from _ _ (h.at_node p l n _ (is_postfixed d c g i t k s o)) (at_nodes f h _ _ _ _ d)
   at_nodes f h p l n x (is_tail {m = m} {h = i} {b = b} {x = u} {k = k} {is = is} d g t c q) =
-      both _ _ (h.at_node p l n _ (is_tail d g t c q))
-      (both _ _ (tail_base f h b u is (fields_fit p k b m i is (fits_there k d g t c) t) (at_nodes f h _ _ _ _ d) q) (in_content f h _ _ _ _ c))
+      and_from _ _ (h.at_node p l n _ (is_tail d g t c q))
+      (and_from _ _ (tail_base f h b u is (fields_fit p k b m i is (fits_there k d g t c) t) (at_nodes f h _ _ _ _ d) q) (in_content f h _ _ _ _ c))
   at_nodes f h p l n x (is_indexed {b = b} {i = i} {is = is} d g t q) =
       tail_base f h b x (i ∷ is) (inr (λ j. based p (e.field (an_index i)) b (fits_index p i b g))) (at_nodes f h _ _ _ _ d) q
-  at_nodes f h p l n x (is_frame g c s e) = both _ _ (h.at_node p l n _ (is_frame g c s e)) (in_content f h _ _ _ _ c)
+  at_nodes f h p l n x (is_frame g c s e) = and_from _ _ (h.at_node p l n _ (is_frame g c s e)) (in_content f h _ _ _ _ c)
 
   in_content : (f : Tree → Bool) → AtNodes f → (o : Holder) (l n : List Tok) (ks : Children) → Content o l ks n → children_everywhere f ks ≡ true
   in_content f h o l n ks holds_none = refl
@@ -83,10 +84,10 @@ mutual
 
   in_operands : (f : Tree → Bool) → AtNodes f → (s : Slot) (l n : List Tok) (ks : Children) → Operands s l ks n → children_everywhere f ks ≡ true
   in_operands f h s l n ks (no_more g) = refl
-  in_operands f h s l n ks (one_more g i d q c r) = both _ _ (at_nodes f h _ _ _ _ d) (in_operands f h _ _ _ _ r)
-  in_operands f h s l n ks (short {k = k} {x = x} g v c r) = both _ _ (short_holds f h k x v) (in_operands f h _ _ _ _ r)
-  in_operands f h s l n ks (block {i = i} g t b r) = both _ _ (h.at_leaf _) (in_operands f h _ _ _ _ r)
-  in_operands f h s l n ks (arms_inside d q c g i r) = both _ _ (at_nodes f h _ _ _ _ d) (in_operands f h _ _ _ _ r)
+  in_operands f h s l n ks (one_more g i d q c r) = and_from _ _ (at_nodes f h _ _ _ _ d) (in_operands f h _ _ _ _ r)
+  in_operands f h s l n ks (short {k = k} {x = x} g v c r) = and_from _ _ (short_holds f h k x v) (in_operands f h _ _ _ _ r)
+  in_operands f h s l n ks (block {i = i} g t b r) = and_from _ _ (h.at_leaf _) (in_operands f h _ _ _ _ r)
+  in_operands f h s l n ks (arms_inside d q c g i r) = and_from _ _ (at_nodes f h _ _ _ _ d) (in_operands f h _ _ _ _ r)
 
 -- the last of fields of fields
 last_field : (f : Tree → Bool) → ((b : Tree) (i : ℕ) → is_base (e.field (an_index i)) b ≡ true → f (tail b (e.field (an_index i)) none) ≡ true)

@@ -1,45 +1,11 @@
 -- Laws of tests.
-use Rattle.std.proofs.Common.{◌≡◌, ℕ, Bool, true, false, not, ◌&&◌, ◌||◌, ◌==◌, refl, sym, ◌∙◌, arith}
+use Rattle.std.proofs.Common.{◌≡◌, ℕ, Bool, true, false, ◌&&◌, ◌||◌, ◌==◌, refl, sym, ◌∙◌, arith}
 use Rattle.std.specs.Prelude.{nat_lt, if◌then◌else◌}
 use Rattle.std.proofs.lemmas.Bool.Decides.{nat_tests}
 use Rattle.syn_expr_spec.specs.declared.kinds.Level.{Level}
 use Rattle.syn_expr_spec.specs.declared.kinds.Level.TheVariants as lev
 use Rattle.syn_expr_spec.specs.Place.{rank, above, is_assign, takes}
 use Rattle.syn_expr_spec.specs.Rule.{lower}
-
-pub or_false : (a b : Bool) → a || b ≡ false → (a ≡ false) × (b ≡ false)
-or_false true b e = absurd cc
-or_false false b e = (refl, e)
-
-pub neither : (a b : Bool) → a ≡ false → b ≡ false → a || b ≡ false
-neither a b p q = rw (p, q) refl
-
-pub both_true : (a b : Bool) → a && b ≡ true → (a ≡ true) × (b ≡ true)
-both_true true b e = (refl, e)
-both_true false b e = absurd cc
-
-pub both : (a b : Bool) → a ≡ true → b ≡ true → a && b ≡ true
-both a b p q = rw (p, q) refl
-
-pub not_true : (a : Bool) → not a ≡ false → a ≡ true
-not_true true e = refl
-not_true false e = absurd cc
-
-pub not_it : (a : Bool) → not a ≡ true → a ≡ false
-not_it true e = absurd cc
-not_it false e = refl
-
-pub or_true : (b : Bool) → b || true ≡ true
-or_true true = refl
-or_true false = refl
-
-pub or_none : (b : Bool) → b || false ≡ b
-or_none true = refl
-or_none false = refl
-
-pub and_true : (b : Bool) → b && true ≡ b
-and_true true = refl
-and_true false = refl
 
 -- ---- levels
 
@@ -54,7 +20,7 @@ takes_by_rank : (v w : Level) → takes v w ≡ takes_rank (rank v) (rank w)
 unfolding takes_rank
 takes_by_rank v w = rw (assign_rank v, assign_rank w) refl
 
--- what takes the lower one takes both
+-- what takes the lower one takes and_from
 lower_ranks : (v a b : ℕ) → nat_lt b a ≡ true → takes_rank v b ≡ true → takes_rank v a ≡ true
 unfolding takes_rank
 lower_ranks v a b e h = grind (arith, nat_tests)

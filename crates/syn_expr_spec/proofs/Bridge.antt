@@ -1,6 +1,7 @@
 -- A printed tree that obeys the binding rules stands for its own tokens.
 use Rattle.std.proofs.Common.{◌≡◌, ℕ, Bool, true, false, not, ◌&&◌, ◌||◌, List, [], ◌∷◌, Some, None, refl, sym, ◌∙◌, ap, subst, codes}
-use Rattle.std.proofs.Math.Bool.{and-false}
+use Rattle.std.proofs.Math.Bool.{and-false, and-true}
+use Rattle.std.proofs.lemmas.Bool.{or_parts, and_parts, not-true}
 use Rattle.syn_lexer.specs.declared.front.Delimiter.TheVariants as del
 use Rattle.syn_tokens.specs.Tok.{Tok, toks-inside}
 use Rattle.syn_lower_spec.specs.declared.label.PathStyle.TheVariants as style
@@ -30,10 +31,9 @@ use Rattle.syn_expr_spec.specs.Stands as st
 use Rattle.syn_expr_spec.specs.Path.{is_try_alone}
 use Rattle.syn_expr_spec.specs.Stands.{Node, Content, Operands, is_attributed, is_if_expr, rests, ends_list, is_base, is_parenthesis_or_bracket, has_no_comma, frame_stands, frame_ends, leaf_stands, infix_stands, prefix_place}
 use Rattle.syn_expr_spec.specs.Tree as e
-use Rattle.syn_expr_spec.specs.Tree.{Tree, Children, Leaf, Frame, Trailer, leaf, paren, attributed, prefixed, infixed, postfixed, tail, frame, none, child, outers, postfix_op, is_one, is_block_like, is_block_leaf, infix_own, postfix_own, trailer_own, own, children_own, enclosure, behind_operands, clear, clear_children}
+use Rattle.syn_expr_spec.specs.Tree.{Tree, Children, Leaf, Frame, Trailer, leaf, paren, attributed, prefixed, infixed, postfixed, tail, frame, none, child, postfix_op, is_one, is_block_like, is_block_leaf, infix_own, postfix_own, trailer_own, own, children_own, enclosure, behind_operands, clear, clear_children}
 use Rattle.syn_expr_spec.specs.WellFormed.{trailer_fits, frame_fits, piece_fits, is_verbatim_block}
 use Rattle.syn_expr_spec.proofs.Callees.{carries_it}
-use Rattle.syn_expr_spec.proofs.Bools.{or_false, both_true, not_it, and_true}
 use Rattle.syn_expr_spec.proofs.HeadsBack.{heads_back}
 use Rattle.syn_expr_spec.proofs.HeadForms.{leaf_stops}
 use Rattle.syn_expr_spec.proofs.HeadTrailers.{trailer_stops, trailer_rest, is_indexed}
@@ -50,9 +50,9 @@ use Rattle.syn_expr_spec.proofs.Children.{rests_well, operands_end, piece_meets,
 -- ---- no attribute first
 
 base_plain : (k : Trailer) (b : Tree) → is_base k b ≡ true → (is_attributed b ≡ false) × (is_operation b ≡ false)
-base_plain k (leaf j) h = (refl, not_it _ (both_true _ _ h).0)
+base_plain k (leaf j) h = (refl, not-true _ (and_parts _ _ h).0)
 base_plain k (attributed a more t) h = absurd (let f : true ≡ false = sym h ∙ and-false _ in cc)
-base_plain k (prefixed j gs t) h = (refl, (or_false _ _ (not_it _ (both_true _ _ h).0)).1)
+base_plain k (prefixed j gs t) h = (refl, (or_parts _ _ (not-true _ (and_parts _ _ h).0)).1)
 base_plain k (infixed x j y) h = absurd cc
 base_plain k (postfixed x j) h = absurd cc
 base_plain k _ h = (refl, refl)
@@ -84,7 +84,7 @@ base_free p _ c b m f h = refl
 
 field_stops : (w : _) (b : Tree) (n : Next) (r : List Tok) → Shows n r → Calls (tail b (e.field (a_name w)) none) n → trailer_stops (e.field (a_name w)) r ≡ true
 field_stops w b n r s g =
-    let q : is_round_next n ≡ false = sym (and_true (is_round_next n)) ∙ g.none in
+    let q : is_round_next n ≡ false = sym (and-true (is_round_next n)) ∙ g.none in
     rw (ap (λ x. x.round) s.same ∙ q, ap (λ x. x.colon2) s.same) refl
 
 -- ---- frames
@@ -105,15 +105,15 @@ dots_end false = refl
 
 struct_stands : (p : Place) (c : Context) (q : QSelfTree) (w : PathTree) (d : Bool) (ks : Children) → Meets p c → c.condition ≡ false → frame_fits (e.structure q w d) ks ≡ true → not (p.condition || is_try_alone q w) ≡ true
 struct_stands p c q w d ks m h f =
-    let x = both_true (qpath_fits style.Expr (q, w)) _ f in
-    let y = both_true (not (is_try_alone q w)) _ x.1 in
-    rw (m.mode ∙ h, not_it _ y.0) refl
+    let x = and_parts (qpath_fits style.Expr (q, w)) _ f in
+    let y = and_parts (not (is_try_alone q w)) _ x.1 in
+    rw (m.mode ∙ h, not-true _ y.0) refl
 
 struct_rests : (q : QSelfTree) (w : PathTree) (d : Bool) (ks : Children) → frame_fits (e.structure q w d) ks ≡ true
     → rests_well slot.fields d ks (before_if d (λ l. joint 46 ∷ alone 46 ∷ l) []) ≡ true
 struct_rests q w d ks f =
-    let x = both_true (qpath_fits style.Expr (q, w)) _ f in
-    let y = both_true (not (is_try_alone q w)) _ x.1 in
+    let x = and_parts (qpath_fits style.Expr (q, w)) _ f in
+    let y = and_parts (not (is_try_alone q w)) _ x.1 in
     rw (dots_end d) y.1
 
 -- ---- blocks, which come before any tokens
@@ -238,7 +238,7 @@ mutual
   unfolding frame_stands
 
   pub bridge : (t : Tree) (p : Place) (c : Context) (r : List Tok) → Formed t → Meets p c → Shows c.next r → Obeys p.level c t → Calls t c.next → Node p (own t r) (clear t) r
-  bridge (leaf k) p c r f m s h g = st.is_leaf (heads_back.leaves k r f (leaf_stopped c.next k r s)) (leaf_there p c k r f m s (or_false _ _ h).0)
+  bridge (leaf k) p c r f m s h g = st.is_leaf (heads_back.leaves k r f (leaf_stopped c.next k r s)) (leaf_there p c k r f m s (or_parts _ _ h).0)
   bridge (paren b t) p c r f m s h g = paren_made p b t r (bridge t plain enclosed [] f meets_plain shows_nothing h.0 (fits_calls lev.Jump t next.End h.1)) h.1
   bridge (attributed a more t) p c r f m s h g =
       attributed_made p a more t r f h.0 ((front t c.next r f.2 s).pound ∙ no_pound p.level (attributed_context c) t h.1 f.1 h.0)
@@ -277,7 +277,7 @@ mutual
       (st.holds_within (heads_back.groups del.Brace _ r) (operands ks slot.fields d (before_if d (λ l. joint 46 ∷ alone 46 ∷ l) []) f.1 h.1 (struct_rests q w d ks f.0)) (dots_end d))
       (struct_stands p c q w d ks m h.0 f.0)
   bridge (frame (e.closure_block k) ks) p c r f m s h g =
-      frame_made p (e.closure_block k) ks r f.0 (output_first k.output false ks r f.1) (st.holds_bare (operands ks slot.outputs false r f.1 h.1 refl)) (both_true _ (not (is_default k.output)) f.0).1
+      frame_made p (e.closure_block k) ks r f.0 (output_first k.output false ks r f.1) (st.holds_bare (operands ks slot.outputs false r f.1 h.1 refl)) (and_parts _ (not (is_default k.output)) f.0).1
   bridge (frame e.if_expr ks) p c r f m s h g =
       frame_made p e.if_expr ks r f.0 refl (st.holds_bare (operands ks slot.conditions false r f.1 h.1 (ap (λ z. not z.otherwise) s.same))) refl
   bridge (frame (e.while_loop w) ks) p c r f m s h g = frame_made p (e.while_loop w) ks r f.0 refl (st.holds_bare (operands ks slot.loops false r f.1 h.1 refl)) refl

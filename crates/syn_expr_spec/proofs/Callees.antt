@@ -5,11 +5,13 @@ use Rattle.std.proofs.Common.{◌≡◌, ℕ, Bool, true, false, cond, List, [],
 use Rattle.syn_lexer.specs.Keywords.{is_reserved_word}
 use Rattle.syn_lexer.specs.declared.front.Delimiter.TheVariants as del
 use Rattle.std.specs.Str.{bytes_eq}
+use Rattle.std.proofs.lemmas.Bool.{and_parts, or_parts}
 use Rattle.syn_tokens.specs.Tok.{Tok, ident, literal}
 use Rattle.syn_lower_spec.specs.Text.{Text}
 use Rattle.syn_lower_spec.specs.Form.{if_same}
 use Rattle.syn_lower_spec.specs.Mark.{round_at, colon2}
 use Rattle.syn_lower_spec.specs.Pat.{a_name, an_index, member, same_member, name_if, index_if, index_of}
+use Rattle.syn_lower_spec.proofs.Weights.{some_is}
 use Rattle.syn_expr_spec.specs.declared.kinds.Place.{Place}
 use Rattle.syn_expr_spec.specs.Tree as e
 use Rattle.syn_expr_spec.specs.Tree.{Tree, Children, Trailer, tail, none}
@@ -17,7 +19,6 @@ use Rattle.syn_expr_spec.specs.Head.{dotted, method_at, await_word}
 use Rattle.syn_expr_spec.specs.Slot.{Slot, trailer_holder, nothing, within}
 use Rattle.syn_expr_spec.specs.Front.{dot_at}
 use Rattle.syn_expr_spec.specs.Stands.{Node, Content, is_tail, is_indexed, holds_none, holds_within, is_base, fits_base, carries_trailer, carries, is_attributed, is_pounded, is_call, is_named_field, trailer_head, name_at, named_behind, with_steps, fields_of}
-use Rattle.syn_expr_spec.proofs.Chains.{some_is, both_true, neither}
 
 -- ---- after a name that is no method's
 
@@ -35,7 +36,7 @@ unfolding method_at member
 name_left w (ident v ∷ r) n g h = by_word (is_reserved_word v) g h
   where
     by_same : (b : Bool) → (round_at r || colon2.at r) ≡ false → cond {A = Option (List Tok)} b (Some r) None ≡ Some n → round_at n ≡ false
-    by_same true g h = let (a, b) = neither (round_at r) (colon2.at r) g in subst (λ z. round_at z ≡ false) (some_is h) a
+    by_same true g h = let (a, b) = or_parts (round_at r) (colon2.at r) g in subst (λ z. round_at z ≡ false) (some_is h) a
     by_same false g h = absurd cc
 
     by_word : (b : Bool) → (not b && (round_at r || colon2.at r)) ≡ false → if_same same_member (a_name w) (name_if (not b) v r) ≡ Some n → round_at n ≡ false
@@ -109,22 +110,22 @@ pub fits_there : {p : Place} {l m h n : List Tok} {b : Tree} {is : List ℕ} {ks
     → trailer_head k m ≡ Some (is, h) → Content (trailer_holder k) h ks n → fits_base p k b ≡ true
 unfolding fits_base carries_trailer
 fits_there {p} {l} {m} {h} {n} {b} {is} {ks} k d f t c =
-    let (x, y) = both_true (carries b) _ f in
-    let (z, w) = both_true (not (is_attributed b || is_pounded b)) _ y in
+    let (x, y) = and_parts (carries b) _ f in
+    let (z, w) = and_parts (not (is_attributed b || is_pounded b)) _ y in
     rw (x, z, w, no_callee k h n is ks d t c) refl
 
 pub fits_index : (p : Place) (i : ℕ) (b : Tree) → carries_trailer p (e.field (an_index i)) b ≡ true → fits_base p (e.field (an_index i)) b ≡ true
 unfolding fits_base carries_trailer
 fits_index p i b f =
-    let (x, y) = both_true (carries b) _ f in
-    let (z, w) = both_true (not (is_attributed b || is_pounded b)) _ y in
+    let (x, y) = and_parts (carries b) _ f in
+    let (z, w) = and_parts (not (is_attributed b || is_pounded b)) _ y in
     rw (x, z) refl
 
 -- and what fits carries
 pub carries_it : (p : Place) (k : Trailer) (b : Tree) → fits_base p k b ≡ true → carries_trailer p k b ≡ true
 unfolding fits_base carries_trailer
 carries_it p k b f =
-    let (a, c) = both_true (is_base k b) _ f in
-    let (x, y) = both_true (carries b) _ a in
-    let (z, w) = both_true (not (is_attributed b || is_pounded b)) _ y in
+    let (a, c) = and_parts (is_base k b) _ f in
+    let (x, y) = and_parts (carries b) _ a in
+    let (z, w) = and_parts (not (is_attributed b || is_pounded b)) _ y in
     rw (x, z, c) refl

@@ -1,22 +1,15 @@
 -- Readings, taken apart into their steps.
-use Rattle.std.specs.Prelude.{not, ◌||◌, ◌&&◌}
+use Rattle.std.specs.Prelude.{◌||◌}
 use Rattle.std.proofs.Common.{◌≡◌, ◌≤◌, Bool, true, false, cond, ◌⊎◌, inl, inr, List, [], ◌∷◌, Option, Some, None, refl, ap}
 use Rattle.syn_tokens.specs.Tok.{Tok, weight}
-use Rattle.syn_lower_spec.specs.Form.{Form, Outcome, and_then, then_behind}
+use Rattle.syn_lower_spec.specs.Form.{Form, Outcome, and_then}
+use Rattle.syn_lower_spec.proofs.Weights.{some_is}
 use Rattle.syn_expr_spec.specs.Read.{Reading, all_of, before, only_if}
-
-pub some_is : {A : Type 0} {x y : A} → Some x ≡ Some y → x ≡ y
-some_is h = cc
 
 pub then_some : {A B : Type 0} (o : Outcome A) (f : A → Reading B) (y : B × List Tok) → and_then o f ≡ Some y
     → (p : A × List Tok) × (o ≡ Some p) × (f p.0 p.1 ≡ Some y)
 then_some None f y h = absurd cc
 then_some (Some p) f y h = (p, refl, h)
-
-pub behind_some : {A : Type 0} (o : Option A) (f : A → Option (List Tok)) (n : List Tok) → then_behind o f ≡ Some n
-    → (m : A) × (o ≡ Some m) × (f m ≡ Some n)
-behind_some None f n h = absurd cc
-behind_some (Some m) f n h = (m, refl, h)
 
 pub all_some : {A : Type 0} (o : Outcome A) (x : A) → all_of o ≡ Some x → o ≡ Some (x, [])
 all_some None x h = absurd cc
@@ -37,25 +30,9 @@ pub chosen : {X : Type 0} (b : Bool) (p q y : X) → cond b p q ≡ y → (b ≡
 chosen true p q y h = inl (refl, h)
 chosen false p q y h = inr (refl, h)
 
-pub both_true : (a b : Bool) → (a && b) ≡ true → (a ≡ true) × (b ≡ true)
-both_true true b h = (refl, h)
-both_true false b h = absurd cc
-
-pub neither : (a b : Bool) → (a || b) ≡ false → (a ≡ false) × (b ≡ false)
-neither true b h = absurd cc
-neither false b h = (refl, h)
-
 pub one_true : (a b : Bool) → (a || b) ≡ true → (a ≡ true) ⊎ (a ≡ false) × (b ≡ true)
 one_true true b h = inl refl
 one_true false b h = inr (refl, h)
-
-pub not_true : (b : Bool) → not b ≡ true → b ≡ false
-not_true true h = absurd cc
-not_true false h = refl
-
-pub not_false : (b : Bool) → not b ≡ false → b ≡ true
-not_false true h = refl
-not_false false h = absurd cc
 
 -- What a form reads is there, and what stands it reads; no tokens are added.
 pub record Reads {A : Type 0} (f : Form A) : Type 0 where

@@ -3,6 +3,8 @@ use Rattle.std.proofs.Common.{◌≡◌, Bool, true, false, not, ◌&&◌, ◌||
 use Rattle.std.specs.Str.{bytes_eq}
 use Rattle.syn_lexer.specs.Keywords.{is_reserved_word}
 use Rattle.std.proofs.lemmas.Slice.Eq.{bytes_eq-Decides}
+use Rattle.std.proofs.lemmas.Bool.{and_parts, not-true}
+use Rattle.std.proofs.Math.Bool.{or-true}
 use Rattle.syn_lexer.specs.declared.front.Delimiter.TheVariants as del
 use Rattle.syn_lexer.specs.declared.front.Spacing.TheVariants as spacing
 use Rattle.syn_tokens.specs.Tok.{Tok, Inside, ident, group, inside}
@@ -34,7 +36,6 @@ use Rattle.syn_expr_spec.specs.Stands.{Node, Operands, is_if_expr, ends, closes,
 use Rattle.syn_expr_spec.specs.Tree as e
 use Rattle.syn_expr_spec.specs.Tree.{Tree, Children, Piece, Ending, Body, inners, leaf, none, child, is_none, is_block_like, is_silent, piece_own, ending_own, inside_of, own, children_own, clear, clear_children}
 use Rattle.syn_expr_spec.specs.WellFormed.{piece_fits, ending_fits, may_stop, has_rest, is_verbatim_block, is_name_path}
-use Rattle.syn_expr_spec.proofs.Bools.{both_true, not_it, or_true}
 use Rattle.syn_expr_spec.proofs.HeadPlaces.{is_written, piece_stops, ending_stops, is_scrutinee}
 use Rattle.syn_expr_spec.proofs.HeadsBack.{heads_back}
 use Rattle.syn_expr_spec.proofs.PatFront.{NoBody, attributes_front, outer_front}
@@ -99,12 +100,12 @@ rests_well s.otherwise last ks r = not (word_at (codes "else") r)
 rests_well _ last ks r = true
 
 fields_end : (last : Bool) (r : List Tok) → ends_list last r ≡ true → is_empty r || (dots.at r && is_empty (drop 2 r)) ≡ true
-fields_end true r h = rw h (or_true (is_empty r))
+fields_end true r h = rw h (or-true (is_empty r))
 fields_end false r h = rw h refl
 
 pub operands_end : (x : Slot) (last : Bool) (r : List Tok) → may_stop x ≡ true → rests_well x last none r ≡ true → may_end x r ≡ true
 operands_end s.elements last r f w = w
-operands_end s.fields last r f w = fields_end last r (both_true (ends_list last r) _ w).0
+operands_end s.fields last r f w = fields_end last r (and_parts (ends_list last r) _ w).0
 operands_end s.otherwise last r f w = w
 operands_end s.arms last r f w = w
 operands_end s.done last r f w = refl
@@ -166,7 +167,7 @@ no_last false h = refl
 
 field_end : (last : Bool) (r : List Tok) (b : Bool) → ends_list last r && b ≡ true → last ≡ false → is_empty r ≡ true
 field_end true r b w e = absurd cc
-field_end false r b w e = (both_true (is_empty r) b w).0
+field_end false r b w e = (and_parts (is_empty r) b w).0
 
 list_behind : (last : Bool) (c : Ending) (t u : Tree) (ks : Children) (r : List Tok) → ChildFormed s.elements last e.element c t ks → is_empty r ≡ true → Behind s.elements last e.element c u ks r
 list_behind last c t u ks r f w =
@@ -202,7 +203,7 @@ counted_behind last c u ks r f w = absurd cc
 rest_behind : (last d : Bool) (c : Ending) (t u : Tree) (ks : Children) (r : List Tok) → ending_fits (e.rest d) c ≡ true → FormedChildren s.done last ks
     → rests_well s.fields last (child (e.rest d) c t ks) r ≡ true → Behind s.fields last (e.rest d) c u ks r
 rest_behind last d e.no_ending t u ks r f fs w =
-    let p = both_true (ends_list last r) (not (last && true)) w in
+    let p = and_parts (ends_list last r) (not (last && true)) w in
     let z = field_end last r _ w (no_last last p.1) in
     record { shows = empty_end ks r (done_none last ks fs) z; stops = empty_children ks r (done_none last ks fs) z; rest = refl }
 rest_behind last d c t u ks r f fs w = absurd cc
@@ -295,14 +296,14 @@ Blocked t = (l : List Tok) → is_block_like t ≡ true → word_at (codes "else
 if_spelled : (ats : List AttributeTree) (p : PatTree) (l : List Tok) → attributes_outer ats && pat_fits true p ≡ true → NoBody (attributes_own ats (pat_own p (ident (codes "if") ∷ l)))
 unfolding ends_patterns ends_types bound_at is_segment stands_alone is_reserved_word is_truth sign_at round_at brace_at group_at
 if_spelled ats p l f =
-    let q = both_true (attributes_outer ats) (pat_fits true p) f in
+    let q = and_parts (attributes_outer ats) (pat_fits true p) f in
     let w : pat_stops true p (ident (codes "if") ∷ l) ≡ true = parts_end.patterns true p (ident (codes "if") ∷ l) refl refl in
     attributes_front ats p _ _ (patterns_read_back.patterns true p (ident (codes "if") ∷ l) q.1 w)
 
 arrow_spelled : (ats : List AttributeTree) (p : PatTree) (l : List Tok) → attributes_outer ats && pat_fits true p ≡ true → NoBody (attributes_own ats (pat_own p (joint 61 ∷ alone 62 ∷ l)))
 unfolding ends_patterns ends_types bound_at sign_at round_at brace_at group_at
 arrow_spelled ats p l f =
-    let q = both_true (attributes_outer ats) (pat_fits true p) f in
+    let q = and_parts (attributes_outer ats) (pat_fits true p) f in
     let w : pat_stops true p (joint 61 ∷ alone 62 ∷ l) ≡ true = parts_end.patterns true p (joint 61 ∷ alone 62 ∷ l) refl refl in
     attributes_front ats p _ _ (patterns_read_back.patterns true p (joint 61 ∷ alone 62 ∷ l) q.1 w)
 
@@ -326,7 +327,7 @@ block_placed : (t : Tree) (n : List Tok) → is_block_like t ≡ true → NoBody
     → Node at_head (own t n) (clear t) n × ends_piece e.guarded (clear t) n ≡ true × (not (comma.at n) && (is_empty n || is_block_like (clear t)) ≡ true)
 block_placed t n b f g =
     let c = block_clear t ∙ b in
-    (g n b f.no_else, rw (rests_ends (clear t) n c, rests_closes (clear t) n c f.no_dot f.no_question) refl, rw (f.no_comma, c) (or_true (is_empty n)))
+    (g n b f.no_else, rw (rests_ends (clear t) n c, rests_closes (clear t) n c f.no_dot f.no_question) refl, rw (f.no_comma, c) (or-true (is_empty n)))
 
 guarded_placed : (x : Slot) (last : Bool) (c : Ending) (t : Tree) (ks : Children) (r : List Tok) → ChildFormed x last e.guarded c t ks → FormedChildren s.arms last ks → is_empty r ≡ true
     → Stood e.guarded t → Blocked t → Placed e.guarded c t (children_own ks r) r
@@ -407,7 +408,7 @@ chained_here last t r f g = go (is_if_expr t) refl
 pub chained_made : (x : Slot) (last : Bool) (c : Ending) (t : Tree) (ks : Children) (r : List Tok) → ChildFormed x last e.chained c t ks → FormedChildren s.done last ks
     → rests_well x last (child e.chained c t ks) r ≡ true → (is_if_expr t ≡ true → word_at (codes "else") r ≡ false → Node plain (own t r) (clear t) r)
     → Operands x (children_own (child e.chained c t ks) r) (clear_children (child e.chained c t ks)) r
-chained_made s.otherwise last e.no_ending t none r f fs w g = chained_here last t r f (λ b. g b (not_it _ w))
+chained_made s.otherwise last e.no_ending t none r f fs w g = chained_here last t r f (λ b. g b (not-true _ w))
 chained_made s.otherwise last e.no_ending t (child k c y ks) r f fs w g = absurd (let q = fs.0.piece in cc)
 chained_made s.otherwise last c t ks r f fs w g = absurd (let q = f.ending in cc)
 chained_made x last c t ks r f fs w g = absurd (let q = f.piece in cc)
@@ -442,12 +443,12 @@ same_path w v a p q = rw (p, q) refl
 
 path_is : (w : Text) (b : Bool) (ss : List SegmentTree) (e0 : Bool) → not b && is_sole w ss ≡ true → e0 ≡ false → leaf (e.path t.no_qself (record { leading = b; segments = ss; trailing = e0 })) ≡ path_of w
 path_is w false (x ∷ []) false h z =
-    let p = both_true (bytes_eq x.ident w) (has_none x.arguments) h in
+    let p = and_parts (bytes_eq x.ident w) (has_none x.arguments) h in
     same_path w x.ident x.arguments ((bytes_eq-Decides x.ident w).0 p.0) (no_argument x.arguments p.1)
 path_is w _ _ _ h z = absurd cc
 
 name_is : (w : Text) (t : Tree) → is_name_path (a_name w) t ≡ true → Formed t → t ≡ path_of w
-name_is w (leaf (e.path t.no_qself p)) h f = path_is w p.leading p.segments p.trailing h (not_it _ (both_true (not p.trailing) _ (both_true (qpath_fits style.Expr (t.no_qself, p)) _ f).0).0)
+name_is w (leaf (e.path t.no_qself p)) h f = path_is w p.leading p.segments p.trailing h (not-true _ (and_parts (not p.trailing) _ (and_parts (qpath_fits style.Expr (t.no_qself, p)) _ f).0).0)
 name_is w _ h f = absurd cc
 
 named_value : (ats : List AttributeTree) (m : MemberTree) (t : Tree) → is_name_path m t ≡ true → Formed t → short_value (e.field_value ats m false) ≡ Some (clear t)
@@ -464,8 +465,8 @@ pub short_made : (x : Slot) (last : Bool) (ats : List AttributeTree) (m : Member
 short_made s.fields last ats m c t ks r f g w q =
     let k = e.field_value ats m false in
     let b = field_behind last ats m false c t (clear t) ks r f w in
-    let p = both_true (attributes_outer ats) (member_fits m && is_name_path m t) f.piece in
-    let n = both_true (member_fits m) (is_name_path m t) p.1 in
+    let p = and_parts (attributes_outer ats) (member_fits m && is_name_path m t) f.piece in
+    let n = and_parts (member_fits m) (is_name_path m t) p.1 in
     subst (λ (l : List Tok). Operands s.fields l (clear_children (child k c t ks)) r) (sym (short_own ats m c t ks r f.ending))
     (st.short (heads_back.pieces s.fields k c t _ f.piece refl (ap (λ z. not z.colon) b.0.same)) (named_value ats m t n.1 g)
     (heads_back.endings k c (clear t) (children_own ks r) r f.ending refl b.1) (q w))
@@ -481,14 +482,14 @@ empty_pound (a ∷ r) h = absurd cc
 if_outer : (ats : List AttributeTree) (p : PatTree) (l : List Tok) → attributes_outer ats && pat_fits true p ≡ true → pound_bang.at (attributes_own ats (pat_own p (ident (codes "if") ∷ l))) ≡ false
 unfolding ends_patterns ends_types bound_at is_segment stands_alone is_reserved_word is_truth sign_at round_at brace_at group_at
 if_outer ats p l f =
-    let q = both_true (attributes_outer ats) (pat_fits true p) f in
+    let q = and_parts (attributes_outer ats) (pat_fits true p) f in
     let w : pat_stops true p (ident (codes "if") ∷ l) ≡ true = parts_end.patterns true p (ident (codes "if") ∷ l) refl refl in
     outer_front ats p _ _ q.0 (patterns_read_back.patterns true p (ident (codes "if") ∷ l) q.1 w)
 
 arrow_outer : (ats : List AttributeTree) (p : PatTree) (l : List Tok) → attributes_outer ats && pat_fits true p ≡ true → pound_bang.at (attributes_own ats (pat_own p (joint 61 ∷ alone 62 ∷ l))) ≡ false
 unfolding ends_patterns ends_types bound_at sign_at round_at brace_at group_at
 arrow_outer ats p l f =
-    let q = both_true (attributes_outer ats) (pat_fits true p) f in
+    let q = and_parts (attributes_outer ats) (pat_fits true p) f in
     let w : pat_stops true p (joint 61 ∷ alone 62 ∷ l) ≡ true = parts_end.patterns true p (joint 61 ∷ alone 62 ∷ l) refl refl in
     outer_front ats p _ _ q.0 (patterns_read_back.patterns true p (joint 61 ∷ alone 62 ∷ l) q.1 w)
 

@@ -1,6 +1,7 @@
 -- Trailers, attributes and operations, one after the other: what stands for the tokens is read.
 use Rattle.std.specs.Prelude.{not, ◌||◌, ◌&&◌}
 use Rattle.std.proofs.Common.{◌≡◌, ℕ, zero, suc, ◌<◌, ◌≤◌, Bool, true, false, List, [], ◌∷◌, ◌++◌, drop, codes, Option, Some, None, refl, ap, sym, ◌∙◌, subst, arith}
+use Rattle.std.proofs.lemmas.Bool.{or_parts, not-true}
 use Rattle.syn_lexer.specs.declared.front.Delimiter.TheVariants as del
 use Rattle.syn_lexer.specs.declared.front.Spacing.TheVariants as spacing
 use Rattle.syn_tokens.specs.Tok.{Tok, punct, group, weight}
@@ -10,6 +11,7 @@ use Rattle.syn_lower_spec.specs.Part.{outer_attributes}
 use Rattle.syn_lower_spec.specs.Pat.{an_index}
 use Rattle.syn_lower_spec.proofs.Marks.{word_present}
 use Rattle.syn_lower_spec.proofs.Same.{same_toks-refl}
+use Rattle.syn_lower_spec.proofs.Weights.{some_is}
 use Rattle.syn_expr_spec.specs.declared.kinds.Place.{Place}
 use Rattle.syn_expr_spec.specs.declared.kinds.Infix.{Infix}
 use Rattle.syn_expr_spec.specs.declared.kinds.Infix.TheVariants as inf
@@ -24,7 +26,6 @@ use Rattle.syn_expr_spec.specs.Stands.{Node, is_leaf, is_become, is_attributed_v
 use Rattle.syn_expr_spec.specs.Read.{Reading, trailed, trail, core, atom, operand, read_attributed, verbatim_of, stop, taken_by, taken_at, next_operator, postfix_made, infix_read, longer, turn, climb, at_place, become_word}
 use Rattle.syn_expr_spec.proofs.HeadMoves.{postfix_left, IsLess, less_then, marked, taken_is, tail_falls, left, left_less, fields_less, trailer_less, trailer_left}
 use Rattle.syn_expr_spec.proofs.Callees.{fits_there, fits_index}
-use Rattle.syn_expr_spec.proofs.Chains.{some_is, neither, not_true}
 use Rattle.syn_expr_spec.proofs.Needs.{heads}
 use Rattle.syn_expr_spec.proofs.Lesses.{within_less, here, node_less, content_left, operator_less}
 use Rattle.syn_tokens.specs.Input.{IsTail}
@@ -125,8 +126,8 @@ ends_next p x n h = go (is_range x) (rests p x) (goes_on p.level n) refl refl re
 next_is : (p : Place) (x : Tree) (n : List Tok) (op : Infix) (count : ℕ) → fits_left p op x ≡ true → infix_at n ≡ Some (op, count) → takes p.level (level op) ≡ true → next_operator p x n ≡ Some (op, count)
 unfolding fits_left taken_at
 next_is p x n op count f i t =
-    let (a, b) = neither (is_range x) ((is_comparison op && compares x) || rests p x) (not_true _ f) in
-    let (c, d) = neither (is_comparison op && compares x) (rests p x) b in rw (a, d, i, t) refl
+    let (a, b) = or_parts (is_range x) ((is_comparison op && compares x) || rests p x) (not-true _ f) in
+    let (c, d) = or_parts (is_comparison op && compares x) (rests p x) b in rw (a, d, i, t) refl
 
 module _ (rec : Place → Reading Tree) where
   -- ---- where the reading of an operand comes to
@@ -243,7 +244,7 @@ module _ (rec : Place → Reading Tree) where
 
   longer_infix : (p : Place) (x y : Tree) (m n : List Tok) (op : Infix) → infix_stands p op m ≡ true → rec (at p (level op)) m ≡ Some (y, n) → ends_operation op n ≡ true → longer rec p x op m ≡ Some (infixed x op y, n)
   unfolding longer infix_stands
-  longer_infix p x y m n (inf.Range limits.HalfOpen) g r a = rw (not_true _ g, r, a) refl
+  longer_infix p x y m n (inf.Range limits.HalfOpen) g r a = rw (not-true _ g, r, a) refl
   longer_infix p x y m n inf.Cast g r a = absurd cc
   longer_infix p x y m n d g r a = infix_reads p x y m n d g r a
 

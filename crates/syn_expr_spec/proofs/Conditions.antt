@@ -1,15 +1,16 @@
 -- No struct expression is in a condition; and which expressions need a comma or a semicolon after them.
 use Rattle.std.specs.Prelude.{not, ◌||◌, ◌&&◌}
 use Rattle.std.proofs.Common.{◌≡◌, ℕ, Bool, true, false, List, [], ◌∷◌, Some, refl, ◌∙◌, ap, subst}
+use Rattle.std.proofs.Math.Bool.{or-true}
+use Rattle.std.proofs.lemmas.Bool.{and_from}
 use Rattle.syn_tokens.specs.Tok.{Tok}
 use Rattle.syn_lower_spec.specs.Pat.{a_name, an_index}
 use Rattle.syn_expr_spec.specs.declared.kinds.Place.{Place}
 use Rattle.syn_expr_spec.specs.Tree as e
-use Rattle.syn_expr_spec.specs.Tree.{Tree, Children, Frame, Piece, leaf, paren, attributed, prefixed, infixed, postfixed, tail, frame, none, is_block_like}
+use Rattle.syn_expr_spec.specs.Tree.{Tree, Children, Frame, Piece, leaf, attributed, tail, frame, none, is_block_like}
 use Rattle.syn_expr_spec.specs.Slot.{Slot, Holder, piece_place}
 use Rattle.syn_expr_spec.specs.Stands.{Node, Content, Operands, is_leaf, is_paren, is_attributed_by, is_prefixed, is_infixed, is_postfixed, is_tail, is_indexed, is_frame, holds_none, holds_within, holds_bare, no_more, one_more, short, block, arms_inside, fields_of, short_value, path_of, frame_stands}
 use Rattle.syn_expr_spec.specs.Binding.{is_structure, has_no_structure, conditions_hold, keeps_conditions, ConditionsHaveNoStructures, is_braced_macro, CommaTestsDiffer}
-use Rattle.syn_expr_spec.proofs.Flat.{both}
 use Rattle.syn_expr_spec.proofs.Bindings.{at_nodes, indexed_holds}
 
 fields_have_none : (b : Tree) (is : List ℕ) → has_no_structure (fields_of b is) ≡ has_no_structure b
@@ -33,16 +34,12 @@ bare_of c (is_prefixed {k = e.raw_addr m} g h d s t) = bare_of c d
 bare_of c (is_prefixed {k = e.range_to op} g h d s t) = bare_of c d
 bare_of c (is_prefixed {k = e.let_expr w} g h d s t) = bare_of c d
 bare_of c (is_prefixed {k = e.closure w} g h d s t) = bare_of c d
-bare_of c (is_infixed {p = p} d t g i j k r s q o) = both _ _ (bare_of c d) (bare_of c r)
+bare_of c (is_infixed {p = p} d t g i j k r s q o) = and_from _ _ (bare_of c d) (bare_of c r)
 bare_of c (is_postfixed d t g i j k s o) = bare_of c d
 bare_of c (is_tail {b = b} {x = u} {is = is} d g t o q) = of_fields b u is q (bare_of c d)
 bare_of c (is_indexed {b = b} {x = x} {i = i} {is = is} d g t q) = of_fields b x (i ∷ is) q (bare_of c d)
 bare_of c (is_frame {p = p} {k = k} {ks = ks} g o s e) = no_frame p k ks c s
 bare_of c _ = refl
-
-or_true : (b : Bool) → (b || true) ≡ true
-or_true true = refl
-or_true false = refl
 
 short_bare : (k : Piece) (x : Tree) → short_value k ≡ Some x → has_no_structure x ≡ true
 short_bare (e.field_value ats (a_name w) false) x v = let q : path_of w ≡ x = cc in subst (λ u. has_no_structure u ≡ true) q refl
@@ -55,11 +52,11 @@ where_condition false h f = refl
 in_operands : {s : Slot} {l n : List Tok} {ks : Children} → Operands s l ks n → conditions_hold ks ≡ true
 in_operands (no_more g) = refl
 in_operands (one_more {k = k} {x = x} g i d q c r) =
-    both _ _ (where_condition (piece_place k).condition (has_no_structure x) (λ c. bare_of c d)) (in_operands r)
+    and_from _ _ (where_condition (piece_place k).condition (has_no_structure x) (λ c. bare_of c d)) (in_operands r)
 in_operands (short {k = k} {x = x} g v c r) =
-    both _ _ (ap (λ b. not (piece_place k).condition || b) (short_bare k x v) ∙ or_true _) (in_operands r)
-in_operands (block {k = k} g t b r) = both _ _ (or_true (not (piece_place k).condition)) (in_operands r)
-in_operands (arms_inside d q c g i r) = both _ _ (bare_of refl d) (in_operands r)
+    and_from _ _ (ap (λ b. not (piece_place k).condition || b) (short_bare k x v) ∙ or-true _) (in_operands r)
+in_operands (block {k = k} g t b r) = and_from _ _ (or-true (not (piece_place k).condition)) (in_operands r)
+in_operands (arms_inside d q c g i r) = and_from _ _ (bare_of refl d) (in_operands r)
 
 in_content : {o : Holder} {l n : List Tok} {ks : Children} → Content o l ks n → conditions_hold ks ≡ true
 in_content holds_none = refl

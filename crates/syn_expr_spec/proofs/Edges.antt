@@ -1,7 +1,8 @@
 -- What the ends of a tree have in common with those of the printed tree.
 use Rattle.std.proofs.Common.{◌≡◌, Bool, true, false, not, ◌&&◌, ◌||◌, None, refl, sym, ◌∙◌}
 use Rattle.std.specs.Prelude.{if◌then◌else◌}
-use Rattle.std.proofs.Math.Bool.{and-false}
+use Rattle.std.proofs.Math.Bool.{and-false, or-true, or-false}
+use Rattle.std.proofs.lemmas.Bool.{or_parts, or_from, and_parts}
 use Rattle.syn_expr_spec.specs.declared.kinds.BinKind.{BinKind}
 use Rattle.syn_expr_spec.specs.declared.kinds.BinKind.TheVariants as bin
 use Rattle.syn_expr_spec.specs.declared.kinds.Infix.{Infix}
@@ -18,7 +19,7 @@ use Rattle.syn_expr_spec.specs.Stands.{is_range, is_range_leaf, is_infix, is_cas
 use Rattle.syn_expr_spec.specs.Tree as e
 use Rattle.syn_expr_spec.specs.Tree.{Tree, Leaf, Prefix, Postfix, Trailer, Frame, leaf, paren, attributed, prefixed, infixed, postfixed, tail, frame, postfix_op}
 use Rattle.syn_expr_spec.specs.Rule.{is_operation, prints_range, prints_carrier, leaf_refuses, leaf_misplaced, prefix_misplaced, frame_misplaced, postfix_refuses, misplaced, self_wrapped, lower, ends_badly, left_wrapped, low, bad, labelled, left_asks, base_asks, put, bare}
-use Rattle.syn_expr_spec.proofs.Bools.{or_false, neither, or_true, or_none, both_true, lower_takes}
+use Rattle.syn_expr_spec.proofs.Bools.{lower_takes}
 use Rattle.syn_expr_spec.proofs.Obeys.{begins_label}
 
 -- ---- the kind of a node is that of the printed one
@@ -40,7 +41,7 @@ prints_is _ h = h
 
 put_range : (c : Context) (t : Tree) (w : Bool) → is_operation t ≡ w → is_range (bare c t) ≡ prints_range t → is_range (put w (bare enclosed t) (bare c t)) ≡ false
 put_range c t true h e = refl
-put_range c t false h e = e ∙ (or_false _ _ h).1
+put_range c t false h e = e ∙ (or_parts _ _ h).1
 
 pub range_bare : (c : Context) (t : Tree) → is_range (bare c t) ≡ prints_range t
 range_bare c (leaf k) = refl
@@ -48,7 +49,7 @@ range_bare c (attributed a more t) = put_range (attributed_context c) t _ refl (
 range_bare c _ = refl
 
 pub operation_bare : (c : Context) (t : Tree) → is_operation t ≡ false → is_operation (bare c t) ≡ false
-operation_bare c t h = let p = or_false _ _ h in neither _ _ (infix_bare c t ∙ p.0) (prints_is (bare c t) (range_bare c t ∙ p.1))
+operation_bare c t h = let p = or_parts _ _ h in or_from _ _ (infix_bare c t ∙ p.0) (prints_is (bare c t) (range_bare c t ∙ p.1))
 
 pub cast_bare : (c : Context) (t : Tree) → is_cast (bare c t) ≡ is_cast t
 cast_bare c (leaf k) = refl
@@ -64,12 +65,12 @@ abbrev pub takes_trailers : Tree → Bool
 takes_trailers t = carries t || is_cast t
 
 carries_unless : (t : Tree) → is_cast t ≡ false → takes_trailers t ≡ carries t
-carries_unless t h = rw h (or_none _)
+carries_unless t h = rw h (or-false _)
 
 put_carrier : (c : Context) (t : Tree) (w : Bool) → is_operation t ≡ w → takes_trailers (bare c t) ≡ prints_carrier t
     → carries (put w (bare enclosed t) (bare c t)) || false ≡ w || prints_carrier t
 put_carrier c t true h e = refl
-put_carrier c t false h e = or_none _ ∙ sym (carries_unless (bare c t) (cast_bare c t ∙ not_cast t h)) ∙ e
+put_carrier c t false h e = or-false _ ∙ sym (carries_unless (bare c t) (cast_bare c t ∙ not_cast t h)) ∙ e
 
 pub carrier_bare : (c : Context) (t : Tree) → takes_trailers (bare c t) ≡ prints_carrier t
 carrier_bare c (leaf k) = refl
@@ -98,13 +99,13 @@ pub label_bare : (c : Context) (t : Tree) → labelled t ≡ false → begins_la
 label_bare c (leaf k) h = h
 label_bare c (infixed x k y) h =
     label_put (left_asks k (left_context k c) x) (bare enclosed x) (bare (left_context k c) x)
-    (λ w. label_bare (left_context k c) x (and_later _ _ h (or_false _ _ w).0))
+    (λ w. label_bare (left_context k c) x (and_later _ _ h (or_parts _ _ w).0))
 label_bare c (postfixed x k) h =
     label_put (left_asks (postfix_op k) (left_context (postfix_op k) c) x) (bare enclosed x) (bare (left_context (postfix_op k) c) x)
-    (λ w. label_bare (left_context (postfix_op k) c) x (and_later _ _ h (or_false _ _ w).0))
+    (λ w. label_bare (left_context (postfix_op k) c) x (and_later _ _ h (or_parts _ _ w).0))
 label_bare c (tail b k ks) h =
     label_put (base_asks k (base_context k c) b) (bare enclosed b) (bare (base_context k c) b)
-    (λ w. label_bare (base_context k c) b (and_later _ _ h (or_false _ _ w).0))
+    (λ w. label_bare (base_context k c) b (and_later _ _ h (or_parts _ _ w).0))
 label_bare c (frame k ks) h = h
 label_bare c _ h = refl
 
@@ -186,7 +187,7 @@ pub self_enclosed : (t : Tree) → self_wrapped enclosed t ≡ false
 self_enclosed (leaf k) = leaf_enclosed k
 self_enclosed (attributed a more t) = either (is_operation t) _ _ (self_enclosed t)
 self_enclosed (prefixed k gs t) = prefix_enclosed k
-self_enclosed (postfixed x k) = or_none _ ∙ refuses_end k
+self_enclosed (postfixed x k) = or-false _ ∙ refuses_end k
 self_enclosed (frame k ks) = frame_enclosed k
 self_enclosed _ = refl
 
@@ -204,9 +205,9 @@ pub misplaced_kind : (c : Context) (t : Tree) → misplaced c t ≡ true → IsM
 misplaced_kind c (leaf k) h = let r = misplaced_leaf c k h in record { no_range = r; carrier = rw r refl }
 misplaced_kind c (paren m t) h = absurd cc
 misplaced_kind c (attributed a more t) h =
-    let p = both_true _ _ h in
+    let p = and_parts _ _ h in
     let q = misplaced_kind (attributed_context c) t p.1 in
-    record { no_range = refl; carrier = rw q.carrier (or_true (is_operation t)) }
+    record { no_range = refl; carrier = rw q.carrier (or-true (is_operation t)) }
 misplaced_kind c (prefixed (e.let_expr p) gs t) h = record { no_range = refl; carrier = refl }
 misplaced_kind c (frame k ks) h = record { no_range = refl; carrier = refl }
 misplaced_kind c _ h = absurd cc

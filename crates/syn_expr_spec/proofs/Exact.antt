@@ -7,8 +7,8 @@ use Rattle.syn_expr_spec.specs.Stands.{Stands}
 use Rattle.syn_expr_spec.specs.Read.{bounded, expr}
 use Rattle.syn_lower_spec.specs.Form.{Form}
 use Rattle.syn_lower_spec.specs.Laws.{IsReadable, IsExact}
+use Rattle.syn_lower_spec.proofs.Weights.{some_is}
 use Rattle.syn_expr_spec.specs.Exact.{HeadsAreExact, ReadingIsExact, OneTree}
-use Rattle.syn_expr_spec.proofs.Chains.{some_is}
 use Rattle.syn_expr_spec.proofs.Heads.{heads_readable}
 use Rattle.syn_expr_spec.proofs.Needs.{heads}
 use Rattle.syn_expr_spec.proofs.Lesses.{node_less}

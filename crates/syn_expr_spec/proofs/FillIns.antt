@@ -1,6 +1,7 @@
 -- The fill-ins: what they leave as it is, and what is there after them.
 use Rattle.std.specs.Prelude.{not, ◌&&◌}
 use Rattle.std.proofs.Common.{◌≡◌, Bool, true, false, refl, sym, ◌∙◌, ap}
+use Rattle.std.proofs.lemmas.Bool.{and_from}
 use Rattle.syn_lower_spec.specs.Pat.{MemberTree, a_name}
 use Rattle.syn_expr_spec.specs.Tree as e
 use Rattle.syn_expr_spec.specs.Tree.{Tree, Children, Frame, Piece, Ending, leaf, paren, attributed, prefixed, infixed, postfixed, tail, frame, none, child, is_none, is_one, is_block_like, needs_comma, needs_last_comma, with_comma, fill_piece, fill, fill_children, clear, clear_children}
@@ -9,7 +10,7 @@ use Rattle.syn_expr_spec.specs.Stands.{is_attributed, is_if_expr, is_infix}
 use Rattle.syn_expr_spec.specs.Rule.{is_operation, prints_range}
 use Rattle.syn_expr_spec.specs.WellFormed.{is_name_path, is_verbatim_block, has_rest, frame_fits, trailer_slot, frame_slot, piece_fits, ending_fits, keeps_block, well, children_well}
 use Rattle.syn_expr_spec.specs.Printed.{plainly_attributed, children_plainly}
-use Rattle.syn_expr_spec.proofs.Flat.{both, left_of, right_of}
+use Rattle.syn_expr_spec.proofs.Flat.{left_of, right_of}
 
 -- ---- kinds of nodes
 
@@ -115,10 +116,10 @@ mutual
   fill_filled (leaf k) = refl
   fill_filled (paren m t) = fill_filled t
   fill_filled (attributed a more t) = fill_filled t
-  fill_filled (prefixed k gs t) = both _ _ (fill_children_filled false gs) (fill_filled t)
-  fill_filled (infixed x k y) = both _ _ (fill_filled x) (fill_filled y)
+  fill_filled (prefixed k gs t) = and_from _ _ (fill_children_filled false gs) (fill_filled t)
+  fill_filled (infixed x k y) = and_from _ _ (fill_filled x) (fill_filled y)
   fill_filled (postfixed x k) = fill_filled x
-  fill_filled (tail b k ks) = both _ _ (fill_filled b) (fill_children_filled false ks)
+  fill_filled (tail b k ks) = and_from _ _ (fill_filled b) (fill_children_filled false ks)
   fill_filled (frame k ks) =
       let b = needs_last_comma k ks in
       ap (λ x. children_filled x (fill_children b ks)) (last_fill b k ks) ∙ fill_children_filled b ks
@@ -129,8 +130,8 @@ mutual
       let more = not (is_none ks) in
       let n : needs_comma (fill_piece k) (fill t) (not (is_none (fill_children last ks))) last ≡ needs_comma k t more last =
       ap (λ x. needs_comma (fill_piece k) (fill t) (not x) last) (none_fill last ks) ∙ needs_fill k t more last in
-      both _ _ (both _ _ (dots_fill k) (there (fill_piece k) c (fill t) (not (is_none (fill_children last ks))) last (needs_comma k t more last) n))
-      (both _ _ (fill_filled t) (fill_children_filled last ks))
+      and_from _ _ (and_from _ _ (dots_fill k) (there (fill_piece k) c (fill t) (not (is_none (fill_children last ks))) last (needs_comma k t more last) n))
+      (and_from _ _ (fill_filled t) (fill_children_filled last ks))
 
 piece_stays : (k : Piece) → dots_there k ≡ true → fill_piece k ≡ k
 piece_stays (e.rest d) h = ap e.rest (sym h)
@@ -180,9 +181,6 @@ mutual
       let u = filled_stays t (left_of _ _ b) in
       let v = filled_children_stay last ks (right_of (filled t) _ b) in
       cc
-
-pub fill_again : (t : Tree) → fill (fill t) ≡ fill t
-fill_again t = filled_stays (fill t) (fill_filled t)
 
 -- ---- what is well-formed stays so
 

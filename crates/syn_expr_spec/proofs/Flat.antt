@@ -1,10 +1,11 @@
 -- Flattening: it is done once, and it sees neither marks nor added parentheses.
 use Rattle.std.specs.Prelude.{not, ◌&&◌, ◌||◌, if◌then◌else◌}
 use Rattle.std.proofs.Common.{◌≡◌, Bool, true, false, List, [], ◌∷◌, ◌++◌, refl, ◌∙◌, ap}
+use Rattle.std.proofs.lemmas.Bool.{and_from}
 use Rattle.syn_lower_spec.specs.Tree.{AttributeTree}
 use Rattle.syn_lower_spec.specs.PatFits.{attributes_outer}
 use Rattle.syn_expr_spec.specs.Tree as e
-use Rattle.syn_expr_spec.specs.Tree.{Tree, Children, Leaf, leaf, paren, attributed, prefixed, infixed, postfixed, tail, frame, none, child, attributed_with, outers, inners, has_braces, frame_has_braces, children_with, inner_in, with_inner, outside, prepend, flatten, flatten_children, clear, clear_children}
+use Rattle.syn_expr_spec.specs.Tree.{Tree, Children, leaf, paren, attributed, prefixed, infixed, postfixed, tail, frame, none, child, attributed_with, outers, inners, has_braces, frame_has_braces, children_with, inner_in, with_inner, outside, prepend, flatten, flatten_children, clear, clear_children}
 use Rattle.syn_expr_spec.specs.Same.{FlattenIsIdempotent}
 use Rattle.syn_expr_spec.proofs.Attributes.{outers_outer, outer_both, outside_outer, inner_stays, with_inner_plain, with_inner_braces, with_inner_free, is_free, prepend_attributed_with, prepend_free, free_or}
 
@@ -27,10 +28,6 @@ abbrev mutual
   flat_children : Children → Bool
   flat_children none = true
   flat_children (child k c t ks) = flat t && flat_children ks
-
-pub both : (a b : Bool) → a ≡ true → b ≡ true → (a && b) ≡ true
-both true b p q = q
-both false b p q = p
 
 pub left_of : (a b : Bool) → (a && b) ≡ true → a ≡ true
 left_of true b p = refl
@@ -63,14 +60,14 @@ stays a more t f h =
 
 flat_attributed_with : (ats : List AttributeTree) (t : Tree) → is_free t ≡ true → stand_before ats t ≡ true → flat t ≡ true → flat (attributed_with ats t) ≡ true
 flat_attributed_with [] t f s h = h
-flat_attributed_with (a ∷ more) t f s h = both _ _ f (both _ _ s h)
+flat_attributed_with (a ∷ more) t f s h = and_from _ _ f (and_from _ _ s h)
 
 children_flat : (ats : List AttributeTree) (ks : Children) → flat_children ks ≡ true → flat_children (children_with ats ks) ≡ true
 children_flat ats none h = refl
 children_flat ats (child k (e.braced b) t ks) h = h
 children_flat ats (child k (e.opened old) t ks) h = h
-children_flat ats (child k e.no_ending t ks) h = both (flat t) _ (left_of (flat t) _ h) (children_flat ats ks (right_of (flat t) _ h))
-children_flat ats (child k e.comma t ks) h = both (flat t) _ (left_of (flat t) _ h) (children_flat ats ks (right_of (flat t) _ h))
+children_flat ats (child k e.no_ending t ks) h = and_from (flat t) _ (left_of (flat t) _ h) (children_flat ats ks (right_of (flat t) _ h))
+children_flat ats (child k e.comma t ks) h = and_from (flat t) _ (left_of (flat t) _ h) (children_flat ats ks (right_of (flat t) _ h))
 
 inner_flat : (ats : List AttributeTree) (t : Tree) → flat t ≡ true → flat (with_inner ats t) ≡ true
 inner_flat ats (leaf k) h = refl
@@ -112,15 +109,15 @@ mutual
   flattened (leaf k) = refl
   flattened (paren m t) = flattened t
   flattened (attributed a more t) = flat_behind a more (flatten t) (flattened t)
-  flattened (prefixed k gs t) = both _ _ (flattened_children gs) (flattened t)
-  flattened (infixed x k y) = both _ _ (flattened x) (flattened y)
+  flattened (prefixed k gs t) = and_from _ _ (flattened_children gs) (flattened t)
+  flattened (infixed x k y) = and_from _ _ (flattened x) (flattened y)
   flattened (postfixed x k) = flattened x
-  flattened (tail b k ks) = both _ _ (flattened b) (flattened_children ks)
+  flattened (tail b k ks) = and_from _ _ (flattened b) (flattened_children ks)
   flattened (frame k ks) = flattened_children ks
 
   flattened_children : (ks : Children) → flat_children (flatten_children ks) ≡ true
   flattened_children none = refl
-  flattened_children (child k c t ks) = both _ _ (flattened t) (flattened_children ks)
+  flattened_children (child k c t ks) = and_from _ _ (flattened t) (flattened_children ks)
 
 mutual
   flat_stays : (t : Tree) → flat t ≡ true → flatten t ≡ t

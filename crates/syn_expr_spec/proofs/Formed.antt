@@ -1,11 +1,11 @@
 -- What is known of a well-formed tree with its fill-ins, node by node.
 use Rattle.std.proofs.Common.{◌≡◌, Bool, true, false, not, ◌||◌, ◌∷◌, ◌∙◌, ◌&&◌, refl}
+use Rattle.std.proofs.lemmas.Bool.{and_parts, not-true}
 use Rattle.syn_expr_spec.specs.Tree.{Tree, Children, Piece, Ending, leaf, paren, attributed, prefixed, infixed, postfixed, tail, frame, none, child, is_none, needs_last_comma, fill, is_block_like, clear}
 use Rattle.syn_expr_spec.specs.Slot.{Slot, after}
 use Rattle.syn_expr_spec.specs.Stands.{is_attributed, holds_block}
 use Rattle.syn_lower_spec.specs.PatFits.{attributes_outer}
 use Rattle.syn_expr_spec.specs.WellFormed.{leaf_fits, prefix_fits, infix_fits, postfix_fits, trailer_fits, trailer_slot, frame_slot, frame_fits, piece_fits, ending_fits, may_stop, keeps_block, well, children_well}
-use Rattle.syn_expr_spec.proofs.Bools.{both_true, not_it}
 use Rattle.syn_expr_spec.proofs.FillIns.{dots_there, comma_there, filled, children_filled, fill_filled, well_fill}
 use Rattle.syn_expr_spec.specs.Tree as e
 
@@ -39,37 +39,37 @@ mutual
   formed (leaf k) h g = h
   formed (paren m t) h g = formed t h g
   formed (attributed a more t) h g =
-      let p = both_true _ _ h in
-      let q = both_true _ _ p.1 in
-      (p.0, not_it _ q.0, formed t q.1 g)
+      let p = and_parts _ _ h in
+      let q = and_parts _ _ p.1 in
+      (p.0, not-true _ q.0, formed t q.1 g)
   formed (prefixed k gs t) h g =
-      let p = both_true _ _ h in
-      let q = both_true _ _ p.1 in
-      (p.0, q.0, formed t q.1 (both_true _ _ g).1)
+      let p = and_parts _ _ h in
+      let q = and_parts _ _ p.1 in
+      (p.0, q.0, formed t q.1 (and_parts _ _ g).1)
   formed (infixed x k y) h g =
-      let p = both_true _ _ h in
-      let q = both_true _ _ p.1 in
-      let r = both_true _ _ g in
+      let p = and_parts _ _ h in
+      let q = and_parts _ _ p.1 in
+      let r = and_parts _ _ g in
       (p.0, formed x q.0 r.0, formed y q.1 r.1)
-  formed (postfixed x k) h g = let p = both_true _ _ h in (p.0, formed x p.1 g)
+  formed (postfixed x k) h g = let p = and_parts _ _ h in (p.0, formed x p.1 g)
   formed (tail b k ks) h g =
-      let p = both_true _ _ h in
-      let q = both_true _ _ p.1 in
-      let r = both_true _ _ g in
+      let p = and_parts _ _ h in
+      let q = and_parts _ _ p.1 in
+      let r = and_parts _ _ g in
       (p.0, formed b q.0 r.0, children_formed ks (trailer_slot k) false q.1 r.1)
   formed (frame k ks) h g =
-      let p = both_true _ _ h in
+      let p = and_parts _ _ h in
       (p.0, children_formed ks (frame_slot k) (needs_last_comma k ks) p.1 g)
 
   pub children_formed : (ks : Children) (s : Slot) (last : Bool) → children_well s ks ≡ true → children_filled last ks ≡ true → FormedChildren s last ks
   children_formed none s last h g = h
   children_formed (child k c t ks) s last h g =
-      let p = both_true _ _ h in
-      let q = both_true _ _ p.0 in
-      let r = both_true _ _ p.1 in
-      let u = both_true _ _ g in
-      let v = both_true _ _ u.0 in
-      let w = both_true _ _ u.1 in (
+      let p = and_parts _ _ h in
+      let q = and_parts _ _ p.0 in
+      let r = and_parts _ _ p.1 in
+      let u = and_parts _ _ g in
+      let v = and_parts _ _ u.0 in
+      let w = and_parts _ _ u.1 in (
         record { piece = q.0; ending = q.1; filled = v.0; comma = v.1 },
         λ b. formed t (or_so (keeps_block k t) (well t) r.0 b) w.0,
         children_formed ks (after k) last r.1 w.1,

@@ -3,6 +3,7 @@ use Rattle.std.specs.Prelude.{not, ◌||◌, ◌==◌, if◌then◌else◌}
 use Rattle.std.proofs.Common.{◌≡◌, ℕ, Bool, true, false, cond, ⊎_elim, List, [], ◌∷◌, drop, codes, Some, None, refl, ap, sym, ◌∙◌, subst}
 use Rattle.std.proofs.lemmas.Slice.Eq.{bytes_eq-Decides}
 use Rattle.std.specs.Str.{bytes_eq}
+use Rattle.std.proofs.lemmas.Bool.{and_parts}
 use Rattle.syn_lexer.specs.declared.front.Spacing.{Spacing}
 use Rattle.syn_lexer.specs.declared.front.Spacing.TheVariants as spacing
 use Rattle.syn_tokens.specs.Tok.{Tok, ident, punct}
@@ -12,13 +13,15 @@ use Rattle.syn_lower_spec.specs.Form.{Mark, then_by, then_behind, flag, maybe, i
 use Rattle.syn_lower_spec.specs.Mark.{sign_at, word_at, lifetime_at, brace_at, star, bang, and, constant}
 use Rattle.syn_lower_spec.specs.Part.{type, lifetimes_at, lifetimes, output}
 use Rattle.syn_lower_spec.proofs.Ends.{sign_first}
+use Rattle.syn_lower_spec.proofs.Weights.{some_is}
+use Rattle.syn_lower_spec.proofs.Forms.{behind_some}
 use Rattle.syn_expr_spec.specs.declared.kinds.Limits.{Limits}
 use Rattle.syn_expr_spec.specs.Tree as tr
 use Rattle.syn_expr_spec.specs.Tree.{Prefix, ClosureHead, Jump}
 use Rattle.syn_expr_spec.specs.Head as h
 use Rattle.syn_expr_spec.specs.Head.{prefix_form, closure_head, closure_inputs, closure_at, bar, move_word, use_word, static_word, use_behind, async_word, minus, let_word, range_at, jump_at, jump_head, range_op, leaf_at}
 use Rattle.syn_expr_spec.specs.Read.{prefix_at}
-use Rattle.syn_expr_spec.proofs.Chains.{some_is, behind_some, only_some, chosen, both_true, one_true}
+use Rattle.syn_expr_spec.proofs.Chains.{only_some, chosen, one_true}
 use Rattle.syn_expr_spec.proofs.HeadForms.{leaf_tests}
 
 -- what a front is asked, for a proof that computes it
@@ -33,7 +36,7 @@ leaf_asked = true
 
 pub word_is : (w : Text) (l : List Tok) → word_at w l ≡ true → l ≡ ident w ∷ drop 1 l
 unfolding word_at
-word_is w (ident v ∷ l) h = let (a, b) = both_true (not _) (bytes_eq v w) h in ap (λ z. ident z ∷ l) ((bytes_eq-Decides v w).0 b)
+word_is w (ident v ∷ l) h = let (a, b) = and_parts (not _) (bytes_eq v w) h in ap (λ z. ident z ∷ l) ((bytes_eq-Decides v w).0 b)
 word_is w _ h = absurd cc
 
 pub no_lifetime : (c : ℕ) (s : Spacing) (m : List Tok) → (c == 39) ≡ false → lifetime_at (punct c s ∷ m) ≡ false
@@ -198,7 +201,7 @@ closed_from_flags f l n g =
 
 first_of_lifetimes : (l : List Tok) → lifetimes_at l ≡ true → word_at (codes "for") l ≡ true
 unfolding lifetimes_at
-first_of_lifetimes l v = let (a, b) = both_true (word_at (codes "for") l) _ v in a
+first_of_lifetimes l v = let (a, b) = and_parts (word_at (codes "for") l) _ v in a
 
 pub closure_front : (f : ClosureHead) (l n : List Tok) → closure_head.behind f l ≡ Some n → Closed l
 unfolding closure_head
@@ -271,10 +274,6 @@ range_other : (s : Spacing) (l : List Tok) → NoOther (punct 46 s ∷ l)
 unfolding sign_at
 range_other spacing.Alone l = record { no_star = refl; no_bang = refl; no_minus = refl; no_and = refl }
 range_other spacing.Joint l = record { no_star = refl; no_bang = refl; no_minus = refl; no_and = refl }
-
-word_other : (w : Text) (l : List Tok) → NoOther (ident w ∷ l)
-unfolding sign_at
-word_other w l = record { no_star = refl; no_bang = refl; no_minus = refl; no_and = refl }
 
 pub first_true : {a : Bool} (b : Bool) → a ≡ true → (a || b) ≡ true
 first_true b v = rw v refl

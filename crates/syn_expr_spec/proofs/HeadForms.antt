@@ -7,7 +7,7 @@ use Rattle.syn_lexer.specs.declared.front.Delimiter.TheVariants as del
 use Rattle.syn_tokens.specs.Tok.{Tok, ident, punct, group, weight, literal}
 use Rattle.syn_lower_spec.specs.declared.label.PathStyle.TheVariants as style
 use Rattle.syn_lower_spec.specs.Tree as t
-use Rattle.syn_lower_spec.specs.Tree.{LitTree, AttributeTree, LifetimesTree, QSelfTree, PathTree, ArgumentsTree, ReturnTree, SegmentTree}
+use Rattle.syn_lower_spec.specs.Tree.{LitTree, AttributeTree, QSelfTree, PathTree, ArgumentsTree, SegmentTree}
 use Rattle.syn_lower_spec.specs.Form.{then_by}
 use Rattle.syn_lower_spec.specs.Mark.{sign, sign_at, underscore, word_at, lifetime_at, brace_at, colon2, not_ne}
 use Rattle.syn_lower_spec.specs.Part.{QPathTree, MacroEnd, macro_end, arguments, output, type, MacroTree, find_lit, truth_if, turbofish_at, unsigned, is_bare, segments_bare, has_none, qpath}
@@ -21,15 +21,15 @@ use Rattle.syn_lower_spec.proofs.Pats.{member_alike, pattern_alike, closure_arg_
 use Rattle.syn_expr_spec.specs.declared.kinds.UnKind.TheVariants as un
 use Rattle.syn_expr_spec.specs.declared.kinds.Limits.TheVariants as limits
 use Rattle.syn_expr_spec.specs.Tree as e
-use Rattle.syn_expr_spec.specs.Tree.{Body, Jump, Leaf, ClosureHead, Prefix, Trailer, Piece, leaf_own, body_own}
-use Rattle.syn_expr_spec.specs.Path.{expr_path, is_word_alone, is_try_alone, invisible_at}
+use Rattle.syn_expr_spec.specs.Tree.{Body, Jump, Leaf, Piece, leaf_own, body_own}
+use Rattle.syn_expr_spec.specs.Path.{expr_path, is_word_alone, is_try_alone}
 use Rattle.syn_expr_spec.specs.Head as h
 use Rattle.syn_expr_spec.specs.Slot as s
 use Rattle.syn_expr_spec.specs.Slot.{Slot}
 use Rattle.syn_expr_spec.proofs.GroupForms.{expr_path_alike, path_stands}
 use Rattle.syn_expr_spec.specs.Head.{literal_at, continue_word, loop_at, block_at, unsafe_word, const_block_at, async_block_at, try_block_at, builtin_at, leaf_at}
-use Rattle.syn_expr_spec.proofs.Chains.{neither}
 use Rattle.std.proofs.Math.Bool.{and-false}
+use Rattle.std.proofs.lemmas.Bool.{or_parts}
 use Rattle.syn_tokens.specs.Front.{group_at}
 use Rattle.syn_lower_spec.specs.Text.{Text, is_segment, is_truth, stands_alone}
 use Rattle.syn_lower_spec.specs.Own.{alone, colon2_before, enclosed, arguments_own, no_more_segments, lit_own, block_own, qualified_own, path_own, macro_own}
@@ -356,8 +356,8 @@ pub record NoLeaf (l : List Tok) : Type 0 where
 pub no_leaf : (l : List Tok) → leaf_at l ≡ false → NoLeaf l
 unfolding leaf_at
 no_leaf l h =
-    let a = neither _ _ h in let b = neither _ _ a.1 in let c = neither _ _ b.1 in let d = neither _ _ c.1 in let f = neither _ _ d.1 in
-    let g = neither _ _ f.1 in let i = neither _ _ g.1 in let j = neither _ _ i.1 in let k = neither _ _ j.1 in
+    let a = or_parts _ _ h in let b = or_parts _ _ a.1 in let c = or_parts _ _ b.1 in let d = or_parts _ _ c.1 in let f = or_parts _ _ d.1 in
+    let g = or_parts _ _ f.1 in let i = or_parts _ _ g.1 in let j = or_parts _ _ i.1 in let k = or_parts _ _ j.1 in
     record { no_literal = a.0; no_underscore = b.0; no_continue = c.0; no_loop = d.0; no_block = f.0; no_unsafe = g.0; no_const = i.0; no_async = j.0; no_try = k.0; no_builtin = k.1 }
 
 -- What a proof computes with where it asks what a leaf begins with: it names this definition in place of the tests.
@@ -521,13 +521,6 @@ path_seen k t.no_qself false false (s ∷ z ∷ zs) r f u v =
     first_seen k s.ident s.arguments _ g n
 
 -- the own tokens of a path begin with no group
-pub own_visible : (q : QSelfTree) (l e : Bool) (xs : List SegmentTree) (r : List Tok) → qpath_fits style.Expr (q, record { leading = l; segments = xs; trailing = e }) ≡ true
-    → invisible_at (qualified_own (q, record { leading = l; segments = xs; trailing = e }) r) ≡ false
-unfolding invisible_at group_at
-own_visible q l true xs r f = absurd cc
-own_visible t.no_qself false false [] r f = absurd cc
-own_visible _ _ false _ r f = refl
-
 name_back : (q : QSelfTree) (p : PathTree) (l r : List Tok) → (qpath type style.Expr).behind (q, p) l ≡ Some r → (is_bare (q, p) && not_ne.at r) ≡ false → h.named.behind (e.path q p) l ≡ Some r
 unfolding h.named macro_end
 name_back q p l r g i = rw (path_stands false (q, p) l r g, i) refl

@@ -30,7 +30,7 @@ use Rattle.syn_expr_spec.specs.Op.{infix_at}
 use Rattle.syn_expr_spec.specs.Slot.{frame_head, for_head}
 use Rattle.syn_expr_spec.specs.Stands.{postfix_behind}
 use Rattle.syn_expr_spec.specs.Tree as e
-use Rattle.syn_expr_spec.specs.Tree.{Frame, Postfix, Enclosure, Children, framed, enclosure, postfix_own, postfix_op, infix_own, label_own}
+use Rattle.syn_expr_spec.specs.Tree.{Frame, Postfix, Enclosure, Children, framed, enclosure, infix_own, label_own}
 use Rattle.syn_expr_spec.specs.WellFormed.{postfix_fits, frame_fits, head_fits}
 use Rattle.syn_expr_spec.proofs.GroupForms.{path_stands}
 use Rattle.syn_expr_spec.proofs.HeadBack.{label_stops, label_back, head_back}
@@ -109,10 +109,6 @@ postfix_rest (e.range_from op) r = r
 abbrev pub postfix_ends : Postfix → List Tok → Bool
 postfix_ends (e.cast x) r = type_stops false x r
 postfix_ends (e.range_from op) r = true
-
-pub postfix_own_is : (k : Postfix) (r : List Tok) → postfix_own k r ≡ infix_own (postfix_op k) (postfix_rest k r)
-postfix_own_is (e.cast x) r = refl
-postfix_own_is (e.range_from op) r = refl
 
 pub postfix_back : (k : Postfix) (r : List Tok) → postfix_fits k ≡ true → postfix_ends k r ≡ true → postfix_behind k (postfix_rest k r) ≡ Some r
 postfix_back (e.cast x) r f g = parts_read_back.types false x r f g

@@ -13,7 +13,7 @@ use Rattle.syn_lower_spec.specs.Form.{Form, Outcome, Mark, and_then}
 use Rattle.syn_lower_spec.specs.Laws.{IsReadable}
 use Rattle.syn_lower_spec.specs.Mark.{sign_at, comma, semi}
 use Rattle.syn_lower_spec.proofs.Forms.{Present, behind_some}
-use Rattle.syn_lower_spec.proofs.Marks.{begins_in_front, comma_present, semi_present, word_present}
+use Rattle.syn_lower_spec.proofs.Marks.{begins_in_front, word_present}
 use Rattle.syn_lower_spec.proofs.Tails.{nothing_taken, tail_then, one_taken}
 use Rattle.syn_lower_spec.proofs.Weights.{some_is, taken}
 use Rattle.syn_expr_spec.specs.Front.{dot_at, question_at}
@@ -23,7 +23,7 @@ use Rattle.syn_expr_spec.specs.Slot.{if_at, for_head, frame_head, ending_at}
 use Rattle.syn_expr_spec.specs.Stands.{trailer_head, fields_head, name_at, indices_at, postfix_behind, closed_steps, open_steps, steps_of, named_behind, with_steps, is_parenthesis_or_bracket}
 use Rattle.syn_expr_spec.specs.Read as r
 use Rattle.syn_expr_spec.specs.Tree as e
-use Rattle.syn_expr_spec.specs.Tree.{Tree, Trailer, Postfix, Frame, Piece, Ending, Body, is_repeated}
+use Rattle.syn_expr_spec.specs.Tree.{Tree, Trailer, Postfix, Frame, Piece, Ending, Body}
 use Rattle.syn_expr_spec.proofs.Heads.{HeadsAreReadable, heads_readable}
 
 -- ---- tails
@@ -84,10 +84,6 @@ here : HeadsAreReadable
 here = heads_readable
 
 -- ---- trailers
-
-dot_present : Present (record { at = dot_at; count = 1 })
-unfolding dot_at sign_at
-dot_present = begins_in_front (record { at = dot_at; count = 1 }) (omega arith) refl
 
 question_present : Present (record { at = question_at; count = 1 })
 unfolding question_at sign_at
@@ -194,15 +190,6 @@ frame_less (e.for_loop w p) l n c h =
 frame_less e.match_expr l n c h = if_less (word_present _) l n h
 frame_less _ l n c h = absurd cc
 
-pub frame_left : (k : Frame) (l n : List Tok) → frame_head k l ≡ Some n → IsTail n l
-frame_left (e.structure q p d) l n h = let a = frame_less (e.structure q p d) l n refl h in a.tail
-frame_left (e.closure_block f) l n h = let a = frame_less (e.closure_block f) l n refl h in a.tail
-frame_left e.if_expr l n h = let a = frame_less e.if_expr l n refl h in a.tail
-frame_left (e.while_loop w) l n h = let a = frame_less (e.while_loop w) l n refl h in a.tail
-frame_left (e.for_loop w p) l n h = let a = frame_less (e.for_loop w p) l n refl h in a.tail
-frame_left e.match_expr l n h = let a = frame_less e.match_expr l n refl h in a.tail
-frame_left _ l n h = subst (λ z. IsTail z l) (some_is h) (nothing_taken l)
-
 -- ---- after an operand
 
 pub postfix_left : (k : Postfix) (l n : List Tok) → postfix_behind k l ≡ Some n → IsTail n l
@@ -250,74 +237,8 @@ ending_left (e.rest d) x l c n h = by_bool (is_empty l) h
     by_bool false h = absurd cc
 ending_left _ x l c n h = same_left e.no_ending c l l n (nothing_taken l) h
 
--- A token is taken after these, and by a comma.
-abbrev pub takes_end : Piece → Ending → Bool
-takes_end e.repeated c = true
-takes_end k e.no_ending = false
-takes_end k c = true
-
-same_less : {A : Type 0} (c d : A) (l m n : List Tok) → IsLess m l → ◌≡◌ {A = Outcome A} (Some (c, m)) (Some (d, n)) → IsLess n l
-same_less c d l m n t h = subst (λ z. IsLess z l) (ap (λ z. z.1) (some_is h)) t
-
-comma_less : (b : Bool) (l : List Tok) (c : Ending) (n : List Tok) → (e.no_ending ≡ c → ⊥) → cond {A = Outcome Ending} (comma.at l) (Some (e.comma, drop 1 l)) (cond b (Some (e.no_ending, l)) None) ≡ Some (c, n) → IsLess n l
-comma_less b l c n f h = by_comma (comma.at l) refl b h
-  where
-    by_comma : (d : Bool) → comma.at l ≡ d → (b : Bool) → cond {A = Outcome Ending} d (Some (e.comma, drop 1 l)) (cond b (Some (e.no_ending, l)) None) ≡ Some (c, n) → IsLess n l
-    by_comma true g b h = same_less e.comma c l (drop 1 l) n (marked comma_present l g) h
-    by_comma false g true h = absurd (f (ap (λ z. z.0) (some_is h)))
-    by_comma false g false h = absurd cc
-
-ended_some : (k : Piece) (c : Ending) → is_repeated k ≡ false → takes_end k c ≡ true → e.no_ending ≡ c → ⊥
-ended_some e.repeated c r t d = absurd cc
-ended_some _ _ r t d = absurd cc
-
-pub ending_less : (k : Piece) (x : Tree) (l : List Tok) (c : Ending) (n : List Tok) → takes_end k c ≡ true → ending_at k x l ≡ Some (c, n) → IsLess n l
-unfolding ending_at
-ending_less e.element x l c n t h = comma_less (is_empty l) l c n (ended_some e.element c refl t) h
-ending_less (e.field_value ats m b) x l c n t h = comma_less (is_empty l) l c n (ended_some (e.field_value ats m b) c refl t) h
-ending_less e.guarded x l c n t h = comma_less (is_empty l || e.is_block_like x) l c n (ended_some e.guarded c refl t) h
-ending_less (e.arm ats p) x l c n t h = comma_less (is_empty l || e.is_block_like x) l c n (ended_some (e.arm ats p) c refl t) h
-ending_less e.repeated x l c n t h = by_bool (semi.at l) refl h
-  where
-    by_bool : (b : Bool) → semi.at l ≡ b → cond {A = Outcome Ending} b (Some (e.no_ending, drop 1 l)) None ≡ Some (c, n) → IsLess n l
-    by_bool true g h = same_less e.no_ending c l (drop 1 l) n (marked semi_present l g) h
-    by_bool false g h = absurd cc
-ending_less e.condition x l c n t h = by_group (group_at del.Brace l) refl h
-  where
-    by_group : (o : Outcome (List Tok)) → group_at del.Brace l ≡ o → and_then o (λ ts m. Some (e.braced (e.body_of [] ts), m)) ≡ Some (c, n) → IsLess n l
-    by_group None g h = absurd cc
-    by_group (Some p) g h = same_less (e.braced (e.body_of [] p.0)) c l p.1 n (grouped del.Brace l p.0 p.1 g) h
-ending_less e.loop_head x l c n t h = by_body (body.reads l) refl h
-  where
-    by_body : (o : Outcome Body) → body.reads l ≡ o → and_then o (λ b m. Some (e.braced b, m)) ≡ Some (c, n) → IsLess n l
-    by_body None g h = absurd cc
-    by_body (Some (b, m)) g h =
-        same_less (e.braced b) c l m n (record { tail = here.bodies.tail l m b g; less = omega (arith, here.bodies.moves l m b g) }) h
-ending_less e.scrutinee x l c n t h = absurd cc
-ending_less (e.rest d) x l c n t h = by_bool (is_empty l) h
-  where
-    by_bool : (b : Bool) → cond {A = Outcome Ending} b (Some (e.no_ending, l)) None ≡ Some (c, n) → IsLess n l
-    by_bool true h = absurd (ended_some (e.rest d) c refl t (ap (λ z. z.0) (some_is h)))
-    by_bool false h = absurd cc
-ending_less d x l c n t h = absurd (ended_some d c refl t (ap (λ z. z.0) (some_is h)))
-
--- ---- lengths
-
-pub tail_shorter : {l n : List Tok} → IsTail n l → length n ≤ length l
-tail_shorter {l} {n} t = rw (t.is, length-append) (omega arith)
-
-pub less_shorter : {l n : List Tok} → IsLess n l → length n < length l
-less_shorter {l} {n} t = by_front t.tail.front t.tail.is
-  where
-    by_front : (f : List Tok) → l ≡ f ++ n → length n < length l
-    by_front [] h = let w : weight l ≡ weight n = ap weight h in absurd (omega (arith, t.less))
-    by_front (x ∷ f) h = rw (h, length-append) (omega arith)
-
 -- the tokens before a tail
 pub taken_is : (f n : List Tok) → r.taken (f ++ n) n ≡ f
 taken_is f n =
     let d : length (f ++ n) - length n ≡ length f = rw length-append (omega arith) in
     rw d (take-append_seam f n)
-
-pub tail_is_taken : {l n : List Tok} → IsTail n l → l ≡ r.taken l n ++ n
-tail_is_taken {l} {n} t = rw t.is (ap (λ z. z ++ n) (sym (taken_is t.front n)))

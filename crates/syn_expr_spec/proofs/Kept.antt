@@ -2,6 +2,7 @@
 use Rattle.std.proofs.Common.{◌≡◌, Bool, true, false, not, ◌&&◌, ◌||◌, List, Some, None, refl, sym, ◌∙◌, ap, subst}
 use Rattle.std.specs.Prelude.{if◌then◌else◌}
 use Rattle.std.proofs.Math.Bool.{and-false}
+use Rattle.std.proofs.lemmas.Bool.{or_parts, or_from}
 use Rattle.syn_lower_spec.specs.Tree.{AttributeTree}
 use Rattle.syn_expr_spec.specs.declared.kinds.Infix.{Infix}
 use Rattle.syn_expr_spec.specs.declared.kinds.BinKind.{BinKind}
@@ -16,11 +17,11 @@ use Rattle.syn_expr_spec.specs.Op.{level, is_comparison}
 use Rattle.syn_expr_spec.specs.Next.{class_of, next_of, takes_next, trails, enclosed, in_statement, left_context, base_context, right_context, attributed_context, prefix_context, prefix_level, piece_context}
 use Rattle.syn_expr_spec.specs.Stands.{is_range, is_cast, is_infix, carries, compares, is_base, is_if_expr}
 use Rattle.syn_expr_spec.specs.Tree as e
-use Rattle.syn_expr_spec.specs.Tree.{Tree, Children, Leaf, Prefix, Piece, Ending, Trailer, leaf, paren, attributed, prefixed, infixed, postfixed, tail, frame, none, child, postfix_op, is_silent}
+use Rattle.syn_expr_spec.specs.Tree.{Tree, Children, Leaf, Prefix, Piece, Trailer, leaf, paren, attributed, prefixed, infixed, postfixed, tail, frame, none, child, postfix_op, is_silent}
 use Rattle.syn_expr_spec.specs.Rule.{is_operation, prints_range, prints_carrier, refuses, misplaced, lower, ends_badly, is_bare_break, left_wrapped, base_wrapped, place_wrapped, low, bad, labelled, place_asks, left_asks, prefix_asks, put, is_chainable, is_plain_block, piece_put, bare, bare_children}
 use Rattle.syn_expr_spec.specs.WellFormed.{is_verbatim_block}
 use Rattle.syn_expr_spec.specs.Printed.{parenthesize_attributed, parenthesize_attributed_children}
-use Rattle.syn_expr_spec.proofs.Bools.{or_false, neither, lower_takes}
+use Rattle.syn_expr_spec.proofs.Bools.{lower_takes}
 use Rattle.syn_expr_spec.proofs.Obeys.{Fits, FitsLeft, begins_label, Obeys, ObeysChildren}
 use Rattle.syn_expr_spec.proofs.Edges.{prefix_next_is, not_cast}
 use Rattle.syn_expr_spec.proofs.Parenthesized.{compares_stays, label_stays, base_stays, same_infix, same_tail, same_child}
@@ -77,7 +78,7 @@ range_obeys (attributed a more t) v c i = go (λ h. range_obeys t v (attributed_
     go : (Obeys v (attributed_context c) (parenthesize_attributed t) → prints_range t ≡ is_range (parenthesize_attributed t)) → (b : Bool) → is_operation t ≡ b
         → ObeysBehind v c t b → false ≡ is_range (put b (parenthesize_attributed t) (parenthesize_attributed t))
     go again true o j = refl
-    go again false o j = sym (or_false (is_infix t) (prints_range t) o).1 ∙ again j.1
+    go again false o j = sym (or_parts (is_infix t) (prints_range t) o).1 ∙ again j.1
 range_obeys _ v c i = refl
 
 pub carrier_obeys : (t : Tree) (v : Level) (c : Context) → Obeys v c (parenthesize_attributed t)
@@ -139,7 +140,7 @@ pub not_wrapped : (v : Level) (c : Context) (t : Tree) → Tight v c t → place
 not_wrapped v c t k = place_bare v t c.next (low t) (bad t c.next) k.edge k.end k.refused
 
 pub not_asked : (v : Level) (c : Context) (t : Tree) → Tight v c t → place_asks v c t ≡ false
-not_asked v c t k = neither _ _ (not_wrapped v c t k) k.placed
+not_asked v c t k = or_from _ _ (not_wrapped v c t k) k.placed
 
 place_ends : (v : Level) (c : Context) (t : Tree) → Tight v c t → Obeys v c (parenthesize_attributed t) → Fits v (parenthesize_attributed t) c.next
     → (takes_next v c.next && not (prints_range t) ≡ false) × (trails c.next && prints_carrier t ≡ false)
@@ -158,8 +159,8 @@ kept_prefix k gs c t h i f l =
     let b = bare_break k t l in
     let p = place_ends (prefix_level k) (prefix_context k c) t h.tight i f in (
       subst (λ (n : Next). ends_badly (prefix_level k) t n (place_wrapped (prefix_level k) t n (low t) (bad t n) || (is_bare_break k && labelled t)) ≡ false)
-          (prefix_next_is k c) (ends_well (prefix_level k) t (prefix_context k c).next _ (neither _ _ w b) p.0 p.1),
-      put_bare _ (bare enclosed t) (bare (prefix_context k c) t) (parenthesize_attributed t) (neither _ _ (neither _ _ w h.tight.placed) b) h.same,
+          (prefix_next_is k c) (ends_well (prefix_level k) t (prefix_context k c).next _ (or_from _ _ w b) p.0 p.1),
+      put_bare _ (bare enclosed t) (bare (prefix_context k c) t) (parenthesize_attributed t) (or_from _ _ (or_from _ _ w h.tight.placed) b) h.same,
     )
 
 kept_place : (v : Level) (c : Context) (t : Tree) → Kept v c t → Obeys v c (parenthesize_attributed t) → Fits v (parenthesize_attributed t) c.next
@@ -178,7 +179,7 @@ kept_left : (v : Level) (k : Infix) (c : Context) (x : Tree) → Kept v (left_co
 kept_left v k c x h i f =
     let o = ap (λ b. b && is_comparison k) (sym (compares_stays x)) ∙ f.no_chain in
     let w = left_bare k x (bad x (class_of k)) (range_obeys x v (left_context k c) i ∙ f.no_range) o h.tight.end h.tight.refused in
-    (w, put_bare _ (bare enclosed x) (bare (left_context k c) x) (parenthesize_attributed x) (neither _ _ w h.tight.placed) h.same)
+    (w, put_bare _ (bare enclosed x) (bare (left_context k c) x) (parenthesize_attributed x) (or_from _ _ w h.tight.placed) h.same)
 
 same_paren : (m : Bool) (t t' : Tree) → m ≡ false → t ≡ t' → paren false t ≡ paren m t'
 same_paren m t t' p q = cc
@@ -249,7 +250,7 @@ without_pair v c t false i h = i.1
 mutual
   pub kept : (t : Tree) (v : Level) (c : Context) → takes v lev.Unambiguous ≡ true → Proper t → Obeys v c (parenthesize_attributed t) → Kept v c t
   kept (leaf k) v c s u i =
-      let p = or_false _ _ i in record { tight = record { edge = s; end = refl; refused = p.0; placed = p.1 }; same = refl }
+      let p = or_parts _ _ i in record { tight = record { edge = s; end = refl; refused = p.0; placed = p.1 }; same = refl }
   kept (paren m t) v c s u i =
       record {
         tight = record { edge = s; end = refl; refused = refl; placed = refl };
@@ -283,7 +284,7 @@ mutual
       record {
         tight = record { edge = s; end = refl; refused = refl; placed = refl };
         same = same_tail _ _ _ _ k
-            (put_bare _ (bare enclosed b) (bare (base_context k c) b) (parenthesize_attributed b) (neither _ _ w h.tight.placed) h.same) (kept_children ks u.1 i.2);
+            (put_bare _ (bare enclosed b) (bare (base_context k c) b) (parenthesize_attributed b) (or_from _ _ w h.tight.placed) h.same) (kept_children ks u.1 i.2);
       }
   kept (frame k ks) v c s u i =
       record { tight = record { edge = s; end = refl; refused = refl; placed = i.0 }; same = ap (frame k) (kept_children ks u i.1) }

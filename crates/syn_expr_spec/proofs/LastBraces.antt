@@ -47,10 +47,6 @@ paths w l b f =
 macros : (m : MacroTree) (l : List Tok) (b : Bool) → Fixed l b → Fixed (macro_own m l) b
 macros m l b f = paths m.path _ b (one (alone 33) _ b (one (group m.delimiter (inside m.tokens)) l b f))
 
-members : (m : MemberTree) (l : List Tok) (b : Bool) → Fixed l b → Fixed (member_own m l) b
-members (p.a_name w) l b f = one _ l b f
-members (p.an_index n) l b f = one _ l b f
-
 dots : (closed : Bool) (l : List Tok) (b : Bool) → Fixed l b → Fixed (limits_before closed l) b
 dots true l b f = one _ _ b (one _ _ b (one _ l b f))
 dots false l b f = one _ _ b (one _ l b f)

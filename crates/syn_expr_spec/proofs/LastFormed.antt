@@ -1,14 +1,14 @@
 -- A well-formed tree ends with braces exactly where its own tokens do: after `else` stands an `if` or a block.
 use Rattle.std.proofs.Common.{◌≡◌, ◌||◌, ◌&&◌, Bool, true, false, not, [], ◌∷◌, None, refl, sym, ap, subst, ◌∙◌}
+use Rattle.std.proofs.lemmas.Bool.{and_parts}
 use Rattle.syn_lower_spec.specs.PatFits.{attributes_outer}
 use Rattle.syn_expr_spec.specs.Tree as e
-use Rattle.syn_expr_spec.specs.Tree.{Tree, Children, Piece, Ending, leaf, paren, attributed, prefixed, infixed, postfixed, tail, frame, none, child, is_none}
+use Rattle.syn_expr_spec.specs.Tree.{Tree, Children, Piece, Ending, leaf, attributed, prefixed, infixed, frame, none, child, is_none}
 use Rattle.syn_expr_spec.specs.Slot as s
 use Rattle.syn_expr_spec.specs.Slot.{Slot, after}
 use Rattle.syn_expr_spec.specs.Stands.{is_attributed, is_if_expr}
 use Rattle.syn_expr_spec.specs.WellFormed.{well, children_well, piece_fits, ending_fits, keeps_block, is_verbatim_block, frame_fits, frame_slot, prefix_fits, infix_fits, is_well_formed}
 use Rattle.syn_expr_spec.specs.Query.{blocked, prefix_brace, piece_brace, operand_brace, frame_brace, frame_head_brace, tree_brace, children_brace, trailing_brace, ends_with_brace, TrailingBraceIsLast}
-use Rattle.syn_expr_spec.proofs.Bools.{both_true}
 use Rattle.syn_expr_spec.proofs.LastBraces.{as_spelled, children_spelled, child_spelled, verbatim, blocked_ends, tree_last}
 
 -- nothing follows
@@ -23,13 +23,13 @@ wrong_ending false b h = cc
 -- after the block of an `if`
 chain_ends : (ks : Children) → children_well s.otherwise ks ≡ true → children_brace true ks ≡ true
 chain_ends none h = refl
-chain_ends (child e.chained e.no_ending x ks) h = stops ks (both_true _ _ (both_true _ _ h).1).1
+chain_ends (child e.chained e.no_ending x ks) h = stops ks (and_parts _ _ (and_parts _ _ h).1).1
 chain_ends (child e.chained c x ks) h = absurd (wrong_ending (is_if_expr x || is_verbatim_block x) _ h)
 chain_ends (child k c x ks) h = absurd cc
 
 if_expr_ends : (ks : Children) → children_well s.conditions ks ≡ true → children_brace false ks ≡ true
 if_expr_ends none h = absurd cc
-if_expr_ends (child e.condition (e.braced b) x ks) h = chain_ends ks (both_true _ _ (both_true _ _ h).1).1
+if_expr_ends (child e.condition (e.braced b) x ks) h = chain_ends ks (and_parts _ _ (and_parts _ _ h).1).1
 if_expr_ends (child k c x ks) h = absurd cc
 
 not_verbatim : (k : Piece) (x : Tree) → is_verbatim_block x ≡ false → keeps_block k x ≡ false
@@ -65,19 +65,19 @@ put_ends z k c x before h w q = ap (operand_brace before k) q
 
 mutual
   well_ends : (x : Tree) → well x ≡ true → (before : Bool) → as_spelled before x ≡ tree_brace before x
-  well_ends (attributed a more x) w before = well_ends x (both_true (not (is_attributed x)) _ (both_true (attributes_outer (a ∷ more)) _ w).1).1 _
-  well_ends (prefixed k gs x) w before = well_ends x (both_true (is_none gs) _ (both_true (prefix_fits k) _ w).1).1 (prefix_brace k)
-  well_ends (infixed x k y) w before = well_ends y (both_true (well x) _ (both_true (infix_fits k) _ w).1).1 false
-  well_ends (frame k ks) w before = ap (frame_brace k) (children_end (frame_slot k) ks (both_true (frame_fits k ks) _ w).1 (frame_head_brace k))
+  well_ends (attributed a more x) w before = well_ends x (and_parts (not (is_attributed x)) _ (and_parts (attributes_outer (a ∷ more)) _ w).1).1 _
+  well_ends (prefixed k gs x) w before = well_ends x (and_parts (is_none gs) _ (and_parts (prefix_fits k) _ w).1).1 (prefix_brace k)
+  well_ends (infixed x k y) w before = well_ends y (and_parts (well x) _ (and_parts (infix_fits k) _ w).1).1 false
+  well_ends (frame k ks) w before = ap (frame_brace k) (children_end (frame_slot k) ks (and_parts (frame_fits k ks) _ w).1 (frame_head_brace k))
   well_ends _ w before = refl
 
   children_end : (z : Slot) (ks : Children) → children_well z ks ≡ true → (before : Bool) → children_spelled before ks ≡ children_brace before ks
   children_end z none w before = refl
   children_end z (child k c x ks) w before =
-      let p = both_true (piece_fits z k c x && ending_fits k c) _ w in
-      let q = both_true (keeps_block k x || well x) _ p.1 in
+      let p = and_parts (piece_fits z k c x && ending_fits k c) _ w in
+      let q = and_parts (keeps_block k x || well x) _ p.1 in
       verbatim before k c x x ks ks
-      (put_ends z k c x before (both_true (piece_fits z k c x) _ p.0).0 q.0 (operand_ends k x (λ v. well_ends x v) q.0 (piece_brace before k)))
+      (put_ends z k c x before (and_parts (piece_fits z k c x) _ p.0).0 q.0 (operand_ends k x (λ v. well_ends x v) q.0 (piece_brace before k)))
       (λ b. children_end (after k) ks q.1 b)
 
 everywhere : (x : Tree) → trailing_brace x ≡ ends_with_brace x

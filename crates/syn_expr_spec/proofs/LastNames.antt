@@ -3,6 +3,7 @@ use Rattle.std.proofs.Common.{◌≡◌, ℕ, zero, suc, ◌&&◌, ◌||◌, Boo
 use Rattle.std.specs.Prelude.{codes, nat_le}
 use Rattle.std.proofs.lemmas.Bool.Decides.{nat_tests}
 use Rattle.std.proofs.Math.Bool.{and-false}
+use Rattle.std.proofs.lemmas.Bool.{and_parts}
 use Rattle.syn_lexer.specs.Keywords.{is_reserved_word}
 use Rattle.syn_lexer.specs.declared.front.Delimiter.TheVariants as del
 use Rattle.syn_tokens.specs.Tok.{Tok, ident, group, inside}
@@ -19,7 +20,6 @@ use Rattle.syn_lower_spec.specs.Fits.{type_fits, types_fit, qself_fits, segments
 use Rattle.syn_lower_spec.proofs.Appends.{type_append, segments_append, arguments_append, generics_append, bound_append, extern_append}
 use Rattle.syn_lower_spec.proofs.Fronts.{word_not}
 use Rattle.syn_expr_spec.specs.Query.{is_name, is_quote, last_name, trailing_unparameterized_path, segments_unparameterized, arguments_unparameterized, return_unparameterized, bounds_unparameterized, bound_unparameterized, UnparameterizedPathsAreLast}
-use Rattle.syn_expr_spec.proofs.Bools.{both_true}
 
 -- Whatever comes before, a quote too, the last token answers b.
 record Settled (l : List Tok) (b : Bool) : Type 0 where
@@ -106,7 +106,7 @@ segment_is_name w h = ap (λ b. not b && true) (word_not w (codes "_") h refl)
 
 few_inside : (q : QSelfTree) (l : Bool) (k : ℕ) → qself_fits q l (suc k) ≡ true → nat_le (suc (inner_count q (suc k))) (suc k) ≡ true
 few_inside t.no_qself l k h = grind (arith, nat_tests)
-few_inside (t.qself x n a) l k h = by a n (both_true (type_fits true x) _ h).1
+few_inside (t.qself x n a) l k h = by a n (and_parts (type_fits true x) _ h).1
   where
     by : (a : Bool) (n : ℕ) → position_fits a n l (suc k) ≡ true → nat_le (suc (at_most n (suc k))) (suc k) ≡ true
     by true n g = grind (arith, nat_tests)
@@ -128,7 +128,7 @@ mutual
   type_ends b (t.path q l ss true) h = absurd cc
   type_ends b (t.path q l t.no_segments false) h = absurd cc
   type_ends b (t.path q l (t.more_segments w a ss) false) h =
-      let p = both_true (qself_fits q l (count_segments (t.more_segments w a ss))) _ h in
+      let p = and_parts (qself_fits q l (count_segments (t.more_segments w a ss))) _ h in
       headed q _ l _ _ (segments_end (inner_count q (suc (count_segments ss))) style.Type (t.more_segments w a ss) p.1 (few_inside q l (count_segments ss) p.0))
   type_ends b (t.mac l ss c d ts) h =
       λ n. (if_there l colon2_before colons _ _
@@ -142,10 +142,10 @@ mutual
   type_ends b t.never h = λ n. refl
   type_ends b t.infer h = λ n. refl
   type_ends b (t.fn_ptr f u a xs c o) h =
-      let p = both_true (fits_if lifetimes_fit f) _ h in
-      let q = both_true (fits_if (fits_if is_string) a) _ p.1 in
-      let r = both_true (args_fit xs) _ q.1 in
-      let s = both_true (ends_well _ c) _ r.1 in
+      let p = and_parts (fits_if lifetimes_fit f) _ h in
+      let q = and_parts (fits_if (fits_if is_string) a) _ p.1 in
+      let r = and_parts (args_fit xs) _ q.1 in
+      let s = and_parts (ends_well _ c) _ r.1 in
       λ n. (if_some f lifetimes_own (λ p l b g. for_lifetimes p l b (g.behind false false)) _ _
       (if_there u (λ l. ident (codes "unsafe") ∷ l) (one (ident (codes "unsafe"))) _ _
       (if_some a extern_own (λ x m b g. through {F = extern_own x} (extern_append x) m b g) _ _
@@ -153,33 +153,33 @@ mutual
   type_ends b (t.impl_trait bs true) h = absurd cc
   type_ends b (t.impl_trait t.no_bounds false) h = absurd cc
   type_ends b (t.impl_trait (t.more_bounds d bs) false) h =
-      λ n. bounds_end (t.more_bounds d bs) (both_true (b || is_one_bound (t.more_bounds d bs)) _ h).1 refl _
+      λ n. bounds_end (t.more_bounds d bs) (and_parts (b || is_one_bound (t.more_bounds d bs)) _ h).1 refl _
   type_ends b (t.trait_object bs true) h = absurd cc
   type_ends b (t.trait_object t.no_bounds false) h = absurd cc
   type_ends b (t.trait_object (t.more_bounds d bs) false) h =
-      λ n. bounds_end (t.more_bounds d bs) (both_true (b || is_one_bound (t.more_bounds d bs)) _ h).1 refl _
+      λ n. bounds_end (t.more_bounds d bs) (and_parts (b || is_one_bound (t.more_bounds d bs)) _ h).1 refl _
 
   segments_end : (n : ℕ) (s : PathStyle) (ss : Segments) → segments_fit n s ss ≡ true → nat_le (suc n) (count_segments ss) ≡ true
       → Ends (segments_own n ss false []) (segments_unparameterized ss)
   segments_end n s t.no_segments h g = absurd (nothing_inside n g)
   segments_end zero s (t.more_segments w a t.no_segments) h g =
-      let p = both_true (is_segment w) _ h in
-      let q = both_true (not (stands_alone w) || has_none a) _ p.1 in
-      let r = both_true (arguments_fit s a) _ q.1 in
+      let p = and_parts (is_segment w) _ h in
+      let q = and_parts (not (stands_alone w) || has_none a) _ p.1 in
+      let r = and_parts (arguments_fit s a) _ q.1 in
       λ n. ap (λ b. last_name false b (arguments_own a [])) (segment_is_name w p.0) ∙ arguments_end s a r.0
   segments_end (suc n) s (t.more_segments w a t.no_segments) h g = absurd (nothing_inside n (fewer n 0 g))
   segments_end zero s (t.more_segments w a (t.more_segments v b ss)) h g =
-      let p = both_true (is_segment w) _ h in
-      let q = both_true (not (stands_alone w) || has_none a) _ p.1 in
-      let r = both_true (arguments_fit s a) _ q.1 in
-      let f = both_true (goes_over zero s w a (t.more_segments v b ss)) _ r.1 in
+      let p = and_parts (is_segment w) _ h in
+      let q = and_parts (not (stands_alone w) || has_none a) _ p.1 in
+      let r = and_parts (arguments_fit s a) _ q.1 in
+      let f = and_parts (goes_over zero s w a (t.more_segments v b ss)) _ r.1 in
       λ n. (one (ident w) _ _ (through {F = arguments_own a} (arguments_append a) _ _
       (one (joint 58) _ _ (first (alone 58) _ _ refl (segments_end zero s (t.more_segments v b ss) f.1 (one_more (count_segments ss)) false))))).behind false n
   segments_end (suc m) s (t.more_segments w a (t.more_segments v b ss)) h g =
-      let p = both_true (is_segment w) _ h in
-      let q = both_true (not (stands_alone w) || has_none a) _ p.1 in
-      let r = both_true (arguments_fit style.Type a) _ q.1 in
-      let f = both_true (goes_over (suc m) style.Type w a (t.more_segments v b ss)) _ r.1 in
+      let p = and_parts (is_segment w) _ h in
+      let q = and_parts (not (stands_alone w) || has_none a) _ p.1 in
+      let r = and_parts (arguments_fit style.Type a) _ q.1 in
+      let f = and_parts (goes_over (suc m) style.Type w a (t.more_segments v b ss)) _ r.1 in
       λ n. (one (ident w) _ _ (through {F = arguments_own a} (arguments_append a) _ _ (closes (suc m) _ _
       (one (joint 58) _ _ (first (alone 58) _ _ refl (segments_end m s (t.more_segments v b ss) f.1 (fewer m _ g) false)))))).behind false n
 
@@ -189,9 +189,9 @@ mutual
       (if_there l colon2_before colons _ _ (one (alone 60) _ _
       (through {F = generics_own gs c} (generics_append gs c) _ _ (first (alone 62) [] false refl refl)))).behind false true
   arguments_end s (t.round xs c o) h =
-      let p = both_true (takes_round s) _ h in
-      let q = both_true (types_fit xs) _ p.1 in
-      let r = both_true (ends_well (no_more_types xs) c) _ q.1 in
+      let p = and_parts (takes_round s) _ h in
+      let q = and_parts (types_fit xs) _ p.1 in
+      let r = and_parts (ends_well (no_more_types xs) c) _ q.1 in
       return_ends o r.1 false
 
   return_ends : (o : ReturnTree) → return_fits o ≡ true → (named : Bool) → last_name false false (return_own o []) ≡ return_unparameterized o
@@ -200,16 +200,16 @@ mutual
 
   bounds_end : (bs : Bounds) → bounds_fit bs ≡ true → no_more_bounds bs ≡ false → Ends (bounds_own bs false []) (bounds_unparameterized bs)
   bounds_end t.no_bounds h g = absurd cc
-  bounds_end (t.more_bounds d t.no_bounds) h g = bound_end d (both_true (bound_fits d) _ h).0
+  bounds_end (t.more_bounds d t.no_bounds) h g = bound_end d (and_parts (bound_fits d) _ h).0
   bounds_end (t.more_bounds d (t.more_bounds x bs)) h g =
-      λ n. (through {F = bound_own d} (bound_append d) _ _ (first (alone 43) _ _ refl (bounds_end (t.more_bounds x bs) (both_true (bound_fits d) _ h).1 refl false))).behind false n
+      λ n. (through {F = bound_own d} (bound_append d) _ _ (first (alone 43) _ _ refl (bounds_end (t.more_bounds x bs) (and_parts (bound_fits d) _ h).1 refl false))).behind false n
 
   bound_end : (d : BoundTree) → bound_fits d ≡ true → Ends (bound_own d []) (bound_unparameterized d)
   bound_end (t.outlives w) h = λ n. and-false (is_name (ident w))
   bound_end (t.a_trait q f l ss true) h = absurd cc
   bound_end (t.a_trait q f l t.no_segments false) h = absurd cc
   bound_end (t.a_trait q f l (t.more_segments w a ss) false) h =
-      trait_ends q f l _ _ (segments_end 0 style.Type (t.more_segments w a ss) (both_true (fits_if lifetimes_fit f) _ h).1 (one_more (count_segments ss)))
+      trait_ends q f l _ _ (segments_end 0 style.Type (t.more_segments w a ss) (and_parts (fits_if lifetimes_fit f) _ h).1 (one_more (count_segments ss)))
 
 -- ---- what would go on at `<`
 

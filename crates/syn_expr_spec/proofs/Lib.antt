@@ -29,7 +29,6 @@ pub mod Parenthesized
 pub mod Kept
 pub mod Tight
 pub mod NeededPairs
-pub mod HeadComplete
 pub mod Computing
 pub mod WorkedRows
 pub mod Flat

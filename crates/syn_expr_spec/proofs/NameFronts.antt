@@ -3,6 +3,7 @@ use Rattle.std.specs.Prelude.{◌==◌, if◌then◌else◌}
 use Rattle.std.proofs.Common.{◌≡◌, Bool, true, false, ⊎_elim, List, [], ◌∷◌, drop, codes, Option, Some, None, refl, ap, sym, ◌∙◌, subst, arith, ℕ}
 use Rattle.std.proofs.lemmas.Bool.Decides.{nat_tests}
 use Rattle.std.specs.Str.{bytes_eq}
+use Rattle.std.proofs.lemmas.Bool.{and_parts, not-true}
 use Rattle.syn_lexer.specs.Keywords.{is_reserved_word}
 use Rattle.syn_lexer.specs.declared.front.Delimiter.TheVariants as del
 use Rattle.syn_lexer.specs.declared.front.Spacing.{Spacing}
@@ -23,12 +24,14 @@ use Rattle.syn_expr_spec.specs.Path.{invisible_at, expr_path, is_try_alone}
 use Rattle.syn_expr_spec.specs.Head.{closure_at, range_at, jump_at, literal_at, loop_at, loop_word, block_at, const_block_at, async_block_at, try_block_at, builtin_at, label, past_label, leaf_at, leaf_form, named, body, continue_word, unsafe_word, async_word, try_word, prefix_form, minus, let_word, raw_at, raw_word, jump_head, return_word, yield_word, break_word}
 use Rattle.syn_expr_spec.specs.Slot.{if_word, match_word, while_word, for_word, frame_head}
 use Rattle.syn_expr_spec.specs.Read.{prefix_at, loop_head_at, become_word}
-use Rattle.syn_expr_spec.proofs.Chains.{some_is, behind_some, only_some, chosen, both_true, not_true}
+use Rattle.syn_expr_spec.proofs.Chains.{only_some, chosen}
 use Rattle.syn_expr_spec.proofs.Fronts.{word_is, no_lifetime, sign_no_leaf, flag_is}
 use Rattle.syn_expr_spec.proofs.GroupForms.{invisible_is, plain_path}
 use Rattle.syn_expr_spec.proofs.HeadForms.{not_leaf_words, leaf_tests}
 use Rattle.syn_expr_spec.proofs.Needs.{heads}
 use Rattle.syn_lower_spec.specs.Pat.{an_index}
+use Rattle.syn_lower_spec.proofs.Weights.{some_is}
+use Rattle.syn_lower_spec.proofs.Forms.{behind_some}
 use Rattle.syn_expr_spec.specs.declared.kinds.Place.{Place}
 use Rattle.syn_expr_spec.specs.Stands.{Node, is_leaf, is_become, is_infixed, is_postfixed, is_tail, is_indexed, is_frame, fields_of}
 use Rattle.syn_expr_spec.specs.Tree as e
@@ -234,10 +237,10 @@ pub for_loop_front : (w : Option Text) (l m : List Tok) → label.behind w l ≡
 unfolding brace_at group_at word_at
 for_loop_front w l m g v =
     let a = label_past w l m g in
-    let (f, n) = both_true (word_at (codes "for") m) _ v in
+    let (f, n) = and_parts (word_at (codes "for") m) _ v in
     let i = word_is _ m f in
     labelled_front l m a (rw i refl) (rw i refl) (λ b. let j : l ≡ m = sym (past_none l b) ∙ a in
-    subst (λ z. LoopFront z) (sym (j ∙ i)) (for_front (drop 1 m) (subst (λ z. lifetimes_at z ≡ false) i (not_true (lifetimes_at m) n))))
+    subst (λ z. LoopFront z) (sym (j ∙ i)) (for_front (drop 1 m) (subst (λ z. lifetimes_at z ≡ false) i (not-true (lifetimes_at m) n))))
 
 -- ---- words
 
@@ -333,7 +336,7 @@ path_no_try q l m g t = by_test (try_block_at l) refl
     by_test : (b : Bool) → try_block_at l ≡ b → b ≡ false
     by_test false v = refl
     by_test true v =
-        let (a, b) = both_true (word_at (codes "try") l) (brace_at (drop 1 l)) v in
+        let (a, b) = and_parts (word_at (codes "try") l) (brace_at (drop 1 l)) v in
         let (i, n, c) = brace_is (drop 1 l) b in
         let d : l ≡ ident (codes "try") ∷ group del.Brace i ∷ n = word_is (codes "try") l a ∙ ap (λ z. ident (codes "try") ∷ z) c in
         let (f, j) = by_word q (codes "try") (group del.Brace i) n m try_segment (brace_no_colons i n) (subst (λ z. (qpath type style.Expr).behind q z ≡ Some m) d g) in
@@ -346,7 +349,7 @@ path_no_builtin q l m g t = by_test (builtin_at l) refl
     by_test : (b : Bool) → builtin_at l ≡ b → b ≡ false
     by_test false v = refl
     by_test true v =
-        let (a, b) = both_true (word_at (codes "builtin") l) (pound.at (drop 1 l)) v in
+        let (a, b) = and_parts (word_at (codes "builtin") l) (pound.at (drop 1 l)) v in
         let (w, y, c) = pound_is (drop 1 l) b in
         let d : l ≡ ident (codes "builtin") ∷ punct 35 w ∷ y = word_is (codes "builtin") l a ∙ ap (λ z. ident (codes "builtin") ∷ z) c in
         let (f, j) = by_word q (codes "builtin") (punct 35 w) y m builtin_segment (pound_no_colons w y) (subst (λ z. (qpath type style.Expr).behind q z ≡ Some m) d g) in

@@ -1,6 +1,7 @@
 -- None of the added pairs can be left out by itself: the tree would break a binding rule.
 use Rattle.std.proofs.Common.{◌≡◌, Bool, true, false, ◌&&◌, ◌||◌, inl, inr, List, refl, sym, ◌∙◌, ap, subst}
 use Rattle.std.specs.Prelude.{if◌then◌else◌}
+use Rattle.std.proofs.lemmas.Bool.{or_parts, or_from, and_parts}
 use Rattle.syn_lower_spec.specs.Tree.{AttributeTree}
 use Rattle.syn_lower_spec.specs.Pat.{MemberTree, a_name, an_index}
 use Rattle.syn_expr_spec.specs.declared.kinds.Infix.{Infix}
@@ -17,7 +18,6 @@ use Rattle.syn_expr_spec.specs.Slot.{Slot, elements, fields, otherwise, outputs,
 use Rattle.syn_expr_spec.specs.Rule.{is_operation, prints_range, is_bare_break, bad, place_asks, left_asks, base_asks, prefix_asks, put, is_chainable, is_plain_block, piece_put, bare, bare_children}
 use Rattle.syn_expr_spec.specs.Minimal.{OneLess, OneLessChild}
 use Rattle.syn_expr_spec.specs.WellFormed.{piece_fits, is_verbatim_block, is_name_path, trailer_slot, frame_slot, keeps_block}
-use Rattle.syn_expr_spec.proofs.Bools.{or_false, neither, both_true}
 use Rattle.syn_expr_spec.proofs.Obeys.{FitsLeft, begins_label, Obeys, ObeysChildren}
 use Rattle.syn_expr_spec.proofs.Formed.{Formed, FormedChildren}
 use Rattle.syn_expr_spec.proofs.Edges.{range_bare, compares_bare, infix_bare, base_bare}
@@ -45,7 +45,7 @@ output_there elements c t h = absurd cc
 output_there _ c t h = absurd cc
 
 field_there : (s : Slot) (ats : List AttributeTree) (m : MemberTree) (b : Bool) (c : Ending) (t : Tree) → piece_fits s (e.field_value ats m b) c t ≡ true → b || is_name_path m t ≡ true
-field_there fields ats m b c t h = (both_true _ _ (both_true _ _ h).1).1
+field_there fields ats m b c t h = (and_parts _ _ (and_parts _ _ h).1).1
 field_there elements ats m b c t h = absurd cc
 field_there _ ats m b c t h = absurd cc
 
@@ -90,7 +90,7 @@ needed_prefix : (k : Prefix) (c : Context) (t q : Tree) → NeedsItsPairs t → 
     → Obeys (prefix_level k) c q → is_bare_break k && begins_label q ≡ false → ⊥
 needed_prefix k c t q h o i l =
     needed_put (prefix_level k) c t q (prefix_asks k c t) (prefix_small k) h
-    (λ w x j. wrong _ (neither _ _ (not_asked (prefix_level k) c t (tight t (prefix_level k) c enclosed (prefix_small k) j))
+    (λ w x j. wrong _ (or_from _ _ (not_asked (prefix_level k) c t (tight t (prefix_level k) c enclosed (prefix_small k) j))
     (no_bare_label k enclosed t refl (ap (λ y. is_bare_break k && begins_label y) (sym x) ∙ l))) w) o i
 
 needed_left : (v : Level) (k : Infix) (c : Context) (t q : Tree) → takes v lev.Unambiguous ≡ true → NeedsItsPairs t
@@ -101,7 +101,7 @@ needed_left v k c t q s h o i z =
     let d = tight t v (left_context k c) enclosed s j in
     let a = sym (range_bare enclosed t) ∙ ap is_range (sym x) ∙ z.no_range in
     let b = ap (λ y. y && is_comparison k) (sym (compares_bare enclosed t) ∙ ap compares (sym x)) ∙ z.no_chain in
-    wrong _ (neither _ _ (left_bare k t (bad t (class_of k)) a b d.end d.refused) d.placed) w) o i
+    wrong _ (or_from _ _ (left_bare k t (bad t (class_of k)) a b d.end d.refused) d.placed) w) o i
 
 needed_base : (v : Level) (k : Trailer) (c : Context) (t q : Tree) → takes v lev.Unambiguous ≡ true → NeedsItsPairs t
     → OneLess (put (base_asks k (base_context k c) t) (bare enclosed t) (bare (base_context k c) t)) q → is_base k q ≡ true → Obeys v (base_context k c) q → ⊥
@@ -110,7 +110,7 @@ needed_base v k c t q s h o z i =
     (λ w x j.
     let d = tight t v (base_context k c) enclosed s j in
     let a = sym (base_bare k enclosed t) ∙ ap (is_base k) (sym x) ∙ z in
-    wrong _ (neither _ _ (kept.base_bare k t (bad t (next_of k)) a d.end d.refused) d.placed) w) o i
+    wrong _ (or_from _ _ (kept.base_bare k t (bad t (next_of k)) a d.end d.refused) d.placed) w) o i
 
 prints_bare : (t : Tree) → prints_range (bare enclosed t) ≡ prints_range t
 prints_bare (leaf k) = refl
@@ -121,8 +121,8 @@ needed_attributes : (v : Level) (c : Context) (t q : Tree) → takes v lev.Unamb
 needed_attributes v c t q s h o z i =
     needed_put v c t q (is_operation t) s h
     (λ w x j.
-    let p = or_false _ _ (ap is_operation (sym x) ∙ z) in
-    wrong _ (neither _ _ (sym (infix_bare enclosed t) ∙ p.0) (sym (prints_bare t) ∙ p.1)) w) o i
+    let p = or_parts _ _ (ap is_operation (sym x) ∙ z) in
+    wrong _ (or_from _ _ (sym (infix_bare enclosed t) ∙ p.0) (sym (prints_bare t) ∙ p.1)) w) o i
 
 -- ---- lists of operands
 

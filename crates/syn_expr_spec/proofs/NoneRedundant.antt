@@ -1,6 +1,7 @@
 -- What stands has no marks, and is printed as it is, but for pairs round its attributed operations.
-use Rattle.std.proofs.Common.{◌≡◌, ℕ, Bool, true, false, ◌||◌, List, [], ◌∷◌, Option, Some, None, refl, sym, ◌∙◌, ap, subst}
+use Rattle.std.proofs.Common.{◌≡◌, ℕ, Bool, true, false, List, [], ◌∷◌, Option, Some, None, refl, sym, ◌∙◌, ap, subst}
 use Rattle.std.specs.Prelude.{is_some}
+use Rattle.std.proofs.lemmas.Bool.{or_left}
 use Rattle.syn_lexer.specs.declared.front.Delimiter.TheVariants as del
 use Rattle.syn_tokens.specs.Tok.{Tok}
 use Rattle.syn_tokens.specs.Front.{group_at}
@@ -34,12 +35,8 @@ use Rattle.syn_expr_spec.proofs.Formed.{formed_fill}
 use Rattle.syn_expr_spec.proofs.Unclear.{unclear}
 use Rattle.syn_expr_spec.proofs.NeededPairs.{needed_in}
 
-if_expr_there : (b c : Bool) → b ≡ true → b || c ≡ true
-if_expr_there true c h = refl
-if_expr_there false c h = absurd cc
-
 ends_there : (k : Piece) (x : Tree) (n : List Tok) → ends_piece k x n ≡ true → block_there k x ≡ true
-ends_there e.chained x n h = if_expr_there _ _ h
+ends_there e.chained x n h = or_left _ _ h
 ends_there e.output_block x n h = absurd cc
 ends_there _ x n h = refl
 

@@ -3,7 +3,8 @@ use Rattle.std.proofs.Common.{◌≡◌, Bool, true, false, not, ◌||◌, ◌==
 use Rattle.std.specs.Prelude.{if◌then◌else◌}
 use Rattle.std.proofs.lemmas.Slice.Eq.{bytes_eq-Decides}
 use Rattle.std.specs.Str.{bytes_eq}
-use Rattle.std.proofs.Math.Bool.{and-false}
+use Rattle.std.proofs.Math.Bool.{and-false, or-false}
+use Rattle.std.proofs.lemmas.Bool.{and_parts, not-true}
 use Rattle.syn_lexer.specs.Keywords.{is_reserved_word}
 use Rattle.syn_lexer.specs.declared.front.Delimiter.TheVariants as del
 use Rattle.syn_tokens.specs.Tok.{Tok, Inside, ident, literal, group}
@@ -31,9 +32,8 @@ use Rattle.syn_expr_spec.specs.Head.{raw_at}
 use Rattle.syn_expr_spec.specs.Next.{class_of, next_of}
 use Rattle.syn_expr_spec.specs.Rule.{leaf_labelled, frame_labelled}
 use Rattle.syn_expr_spec.specs.Tree as e
-use Rattle.syn_expr_spec.specs.Tree.{Tree, Children, Leaf, Prefix, Frame, Postfix, word_if, vert_before, leaf, paren, attributed, prefixed, infixed, postfixed, tail, frame, outers, postfix_op, own, leaf_own, prefix_own, framed, enclosure, postfix_own}
+use Rattle.syn_expr_spec.specs.Tree.{Tree, Children, Leaf, Prefix, Frame, Postfix, word_if, vert_before, leaf, paren, attributed, prefixed, infixed, postfixed, tail, frame, postfix_op, own, leaf_own, prefix_own, framed, enclosure, postfix_own}
 use Rattle.syn_expr_spec.specs.WellFormed.{leaf_fits, frame_fits}
-use Rattle.syn_expr_spec.proofs.Bools.{both_true, not_it, or_none}
 use Rattle.syn_expr_spec.proofs.Attributes.{outers_are}
 use Rattle.syn_expr_spec.proofs.Formed.{Formed}
 use Rattle.syn_expr_spec.proofs.Obeys.{begins_label}
@@ -125,7 +125,7 @@ segments_front : (s : PathStyle) (ss : Segments) (r : List Tok) → no_more_segm
     → Front false false false (segments_own 0 ss false r)
 segments_front s t.no_segments r e f q = absurd cc
 segments_front s (t.more_segments w a ss) r e f q =
-    word_front w _ (both_true _ _ f).0 (arguments_quiet s a _ (more_quiet ss r q))
+    word_front w _ (and_parts _ _ f).0 (arguments_quiet s a _ (more_quiet ss r q))
 
 path_front : (s : PathStyle) (b : Bool) (ss : Segments) (r : List Tok) → no_more_segments ss ≡ false → segments_fit 0 s ss ≡ true → Quiet r
     → Front false false false (before_if b colon2_before (segments_own 0 ss false r))
@@ -140,17 +140,17 @@ named_front : (q : QSelfTree) (b : Bool) (ss : List SegmentTree) (e : Bool) (r :
     → qpath_fits style.Expr (q, record { leading = b; segments = ss; trailing = e }) ≡ true → Quiet r
     → Front false false false (qualified_own (q, record { leading = b; segments = ss; trailing = e }) r)
 named_front t.no_qself b ss true r f q = absurd cc
-named_front t.no_qself b ss false r f q = let p = both_true (not (no_more_segments (t.segments_of ss))) _ f in path_front style.Expr b (t.segments_of ss) r (not_it _ p.0) p.1 q
+named_front t.no_qself b ss false r f q = let p = and_parts (not (no_more_segments (t.segments_of ss))) _ f in path_front style.Expr b (t.segments_of ss) r (not-true _ p.0) p.1 q
 named_front (t.qself x n a) b ss e r f q = less_front _
 
 macro_front : (m : MacroTree) (r : List Tok) → macro_fits m ≡ true → Front false false false (macro_own m r)
 unfolding word_at
-macro_front m r f = let p = both_true _ _ f in path_of_macro m.path.leading m.path.segments m.path.trailing _ p.0 (record { no_mut = refl; no_const = refl })
+macro_front m r f = let p = and_parts _ _ f in path_of_macro m.path.leading m.path.segments m.path.trailing _ p.0 (record { no_mut = refl; no_const = refl })
   where
     path_of_macro : (b : Bool) (ss : List SegmentTree) (e : Bool) (l : List Tok) → path_fits style.Mod (record { leading = b; segments = ss; trailing = e }) ≡ true → Quiet l
         → Front false false false (path_own (record { leading = b; segments = ss; trailing = e }) l)
     path_of_macro b ss true l f q = absurd cc
-    path_of_macro b ss false l f q = let p = both_true (not (no_more_segments (t.segments_of ss))) _ f in path_front style.Mod b (t.segments_of ss) l (not_it _ p.0) p.1 q
+    path_of_macro b ss false l f q = let p = and_parts (not (no_more_segments (t.segments_of ss))) _ f in path_front style.Mod b (t.segments_of ss) l (not-true _ p.0) p.1 q
 
 -- ---- literals
 
@@ -182,7 +182,7 @@ truth_front text l h = go (bytes_eq text (codes "true")) refl
 
     go : (b : Bool) → bytes_eq text (codes "true") ≡ b → Front false false false (ident text ∷ l)
     go true e = concrete (codes "true") ((bytes_eq-Decides text (codes "true")).0 e) (record { begins = refl; stops = refl; brace = refl; label = refl; pound = refl; no_mut = refl; no_raw = refl; no_arrow = refl })
-    go false e = concrete (codes "false") ((bytes_eq-Decides text (codes "false")).0 (sym (or_none (bytes_eq text (codes "false"))) ∙ sym (ap (λ x. x || (bytes_eq text (codes "false") || false)) e) ∙ spelled)) (record { begins = refl; stops = refl; brace = refl; label = refl; pound = refl; no_mut = refl; no_raw = refl; no_arrow = refl })
+    go false e = concrete (codes "false") ((bytes_eq-Decides text (codes "false")).0 (sym (or-false (bytes_eq text (codes "false"))) ∙ sym (ap (λ x. x || (bytes_eq text (codes "false") || false)) e) ∙ spelled)) (record { begins = refl; stops = refl; brace = refl; label = refl; pound = refl; no_mut = refl; no_raw = refl; no_arrow = refl })
 
 lit_front : (k : LitKind) (text : Text) (l : List Tok) → unsigned_fits (record { kind = k; text = text }) ≡ true → Front false false false (lit_own (record { kind = k; text = text }) l)
 unfolding lit_own
@@ -196,7 +196,7 @@ lit_front _ text l h = quote_front text l
 leaf_front : (k : Leaf) (r : List Tok) → leaf_fits k ≡ true → Quiet r → Front (leaf_braced k) (leaf_labelled k) false (leaf_own k r)
 unfolding asked
 leaf_front (e.lit x) r f q = lit_front x.kind x.text r f
-leaf_front (e.path w p) r f q = named_front w p.leading p.segments p.trailing r (both_true _ _ f).0 q
+leaf_front (e.path w p) r f q = named_front w p.leading p.segments p.trailing r (and_parts _ _ f).0 q
 leaf_front (e.mac m) r f q = macro_front m r f
 leaf_front (e.verbatim ts) r f q = absurd cc
 leaf_front (e.full_range limits.HalfOpen) r f q = record { begins = refl; stops = refl; brace = refl; label = refl; pound = refl; no_mut = refl; no_raw = refl; no_arrow = refl }
@@ -223,7 +223,7 @@ frame_front : (k : Frame) (ks : Children) (o r : List Tok) → frame_fits k ks �
 unfolding asked
 frame_front (e.structure q p d) ks o r f =
     subst (λ l. Front false false false l) (type_append (t.path q p.leading (t.segments_of p.segments) p.trailing) (enclosed del.Brace o r))
-    (named_front q p.leading p.segments p.trailing (enclosed del.Brace o r) (both_true (qpath_fits style.Expr (q, p)) _ f).0 (record { no_mut = refl; no_const = refl }))
+    (named_front q p.leading p.segments p.trailing (enclosed del.Brace o r) (and_parts (qpath_fits style.Expr (q, p)) _ f).0 (record { no_mut = refl; no_const = refl }))
 frame_front (e.closure_block h) ks o r f = closure_front h.lifetimes h.constness h.movability h.asyncness h.capture h.usage _
 frame_front e.group_expr ks o r f = absurd cc
 frame_front (e.while_loop None) ks o r f = record { begins = refl; stops = refl; brace = refl; label = refl; pound = refl; no_mut = refl; no_raw = refl; no_arrow = refl }

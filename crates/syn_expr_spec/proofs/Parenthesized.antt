@@ -1,6 +1,7 @@
 -- What the pairs round attributed operations leave as it is.
 use Rattle.std.proofs.Common.{◌≡◌, ℕ, Bool, true, false, not, List, [], ◌∷◌, refl, sym, ◌∙◌, ap}
 use Rattle.std.proofs.Math.Bool.{and-false}
+use Rattle.std.proofs.lemmas.Bool.{and_parts, not-true}
 use Rattle.syn_lower_spec.specs.Pat.{an_index}
 use Rattle.syn_expr_spec.specs.declared.kinds.Infix.{Infix}
 use Rattle.syn_expr_spec.specs.Stands.{is_range, is_cast, compares, carries, is_base, fields_of}
@@ -8,7 +9,6 @@ use Rattle.syn_expr_spec.specs.Tree as e
 use Rattle.syn_expr_spec.specs.Tree.{Tree, Children, Trailer, Piece, Ending, leaf, paren, attributed, prefixed, infixed, postfixed, tail, frame, none, child}
 use Rattle.syn_expr_spec.specs.Rule.{is_operation, put}
 use Rattle.syn_expr_spec.specs.Printed.{plainly_attributed, children_plainly, parenthesize_attributed, parenthesize_attributed_children}
-use Rattle.syn_expr_spec.proofs.Bools.{both_true, not_it}
 use Rattle.syn_expr_spec.proofs.Obeys.{begins_label}
 
 -- ---- where no operation has attributes
@@ -27,17 +27,17 @@ mutual
   plain_stays (leaf k) h = refl
   plain_stays (paren m t) h = ap (paren m) (plain_stays t h)
   plain_stays (attributed a more t) h =
-      let (i, j) = both_true (not (is_operation t)) _ h in
-      ap (λ b. attributed a more (put b (parenthesize_attributed t) (parenthesize_attributed t))) (not_it _ i) ∙ ap (attributed a more) (plain_stays t j)
-  plain_stays (prefixed k gs t) h = ap (prefixed k gs) (plain_stays t (both_true (children_plainly gs) _ h).1)
-  plain_stays (infixed x k y) h = let (i, j) = both_true (plainly_attributed x) _ h in same_infix _ _ _ _ k (plain_stays x i) (plain_stays y j)
+      let (i, j) = and_parts (not (is_operation t)) _ h in
+      ap (λ b. attributed a more (put b (parenthesize_attributed t) (parenthesize_attributed t))) (not-true _ i) ∙ ap (attributed a more) (plain_stays t j)
+  plain_stays (prefixed k gs t) h = ap (prefixed k gs) (plain_stays t (and_parts (children_plainly gs) _ h).1)
+  plain_stays (infixed x k y) h = let (i, j) = and_parts (plainly_attributed x) _ h in same_infix _ _ _ _ k (plain_stays x i) (plain_stays y j)
   plain_stays (postfixed x k) h = ap (λ z. postfixed z k) (plain_stays x h)
-  plain_stays (tail b k ks) h = let (i, j) = both_true (plainly_attributed b) _ h in same_tail _ _ _ _ k (plain_stays b i) (plain_stays_children ks j)
+  plain_stays (tail b k ks) h = let (i, j) = and_parts (plainly_attributed b) _ h in same_tail _ _ _ _ k (plain_stays b i) (plain_stays_children ks j)
   plain_stays (frame k ks) h = ap (frame k) (plain_stays_children ks h)
 
   plain_stays_children : (ks : Children) → children_plainly ks ≡ true → parenthesize_attributed_children ks ≡ ks
   plain_stays_children none h = refl
-  plain_stays_children (child k c t ks) h = let (i, j) = both_true (plainly_attributed t) _ h in same_child _ _ _ _ k c (plain_stays t i) (plain_stays_children ks j)
+  plain_stays_children (child k c t ks) h = let (i, j) = and_parts (plainly_attributed t) _ h in same_child _ _ _ _ k c (plain_stays t i) (plain_stays_children ks j)
 
 -- ---- kinds of nodes
 

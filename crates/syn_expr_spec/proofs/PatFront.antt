@@ -1,6 +1,8 @@
 -- What no arm of a `match` begins with.
-use Rattle.std.proofs.Common.{◌≡◌, ℕ, Bool, true, false, not, ◌&&◌, ◌==◌, List, [], ◌∷◌, Some, None, refl, ◌∙◌, subst, codes}
+use Rattle.std.proofs.Common.{◌≡◌, ℕ, true, false, not, ◌&&◌, ◌==◌, List, [], ◌∷◌, Some, None, refl, ◌∙◌, subst, codes}
 use Rattle.std.proofs.lemmas.Slice.Eq.{bytes_eq-Decides}
+use Rattle.std.proofs.lemmas.Bool.{false_from_ne_true, and_parts, not-true}
+use Rattle.std.proofs.Math.Bool.{or-false}
 use Rattle.syn_lexer.specs.Keywords.{is_reserved_word}
 use Rattle.syn_lexer.specs.declared.front.Spacing.{Spacing}
 use Rattle.syn_lexer.specs.declared.front.Spacing.TheVariants as spacing
@@ -20,7 +22,6 @@ use Rattle.syn_lower_spec.proofs.Forms.{Alike}
 use Rattle.syn_lower_spec.proofs.Pats.{pattern_is, pattern_alike}
 use Rattle.syn_lower_spec.proofs.Ends.{sign_first}
 use Rattle.syn_expr_spec.specs.Front.{dot_at, question_at}
-use Rattle.syn_expr_spec.proofs.Bools.{both_true, not_it, or_none}
 use Rattle.syn_expr_spec.proofs.HeadFront.{pattern_no_pound}
 
 abbrev Spelled : PatTree → List Tok → List Tok → Type 0
@@ -31,10 +32,6 @@ unread : (z : PatTree) (l n : List Tok) → (p.pattern true).reads l ≡ None �
 unread z l n h g =
     let a : Alike 0 (p.pattern true) (p.pattern true) = pattern_alike true in
     let j = a.complete l z n g in cc
-
-refuted : (b : Bool) → (b ≡ true → ⊥) → b ≡ false
-refuted true f = absurd (f refl)
-refuted false f = refl
 
 question_none : (s : Spacing) (l : List Tok) → (p.pattern true).reads (punct 63 s ∷ l) ≡ None
 unfolding p.at_width p.multi p.single p.path_pat p.binding_at q.qpath q.path q.pieces q.segment q.segment_name sign_at word_at group_at
@@ -68,7 +65,7 @@ pub record NoBody (l : List Tok) : Type 0 where
   pub no_comma : comma.at l ≡ false
 
 no_sign : (z : PatTree) (c : ℕ) (l n : List Tok) → ((s : Spacing) (m : List Tok) → (p.pattern true).reads (punct c s ∷ m) ≡ None) → Spelled z l n → sign_at (c ∷ []) l ≡ false
-no_sign z c l n f g = refuted _ (λ e. sign_first c [] (λ m. Spelled z m n → ⊥) (λ s m. unread z (punct c s ∷ m) n (f s m)) l e g)
+no_sign z c l n f g = false_from_ne_true _ (λ e. sign_first c [] (λ m. Spelled z m n → ⊥) (λ s m. unread z (punct c s ∷ m) n (f s m)) l e g)
 
 no_else_word : (z : PatTree) (l n : List Tok) → Spelled z l n → word_at (codes "else") l ≡ false
 unfolding word_at
@@ -76,18 +73,18 @@ no_else_word z [] n g = refl
 no_else_word z (punct c s ∷ l) n g = refl
 no_else_word z (literal w ∷ l) n g = refl
 no_else_word z (group d i ∷ l) n g = refl
-no_else_word z (ident w ∷ l) n g = refuted _ (λ e. unread z (ident (codes "else") ∷ l) n (else_none l) (subst (λ x. Spelled z (ident x ∷ l) n) ((bytes_eq-Decides w (codes "else")).0 e) g))
+no_else_word z (ident w ∷ l) n g = false_from_ne_true _ (λ e. unread z (ident (codes "else") ∷ l) n (else_none l) (subst (λ x. Spelled z (ident x ∷ l) n) ((bytes_eq-Decides w (codes "else")).0 e) g))
 
 no_dot_sign : (z : PatTree) (l n : List Tok) → Spelled z l n → sign_at (codes ".") l && not (sign_at (codes "..") l) ≡ false
-no_dot_sign z l n g = refuted _ (λ e.
-    let t = both_true (sign_at (codes ".") l) (not (sign_at (codes "..") l)) e in
-    sign_first 46 [] (λ m. sign_at (codes "..") m ≡ false → Spelled z m n → ⊥) (λ s m o. unread z (punct 46 s ∷ m) n (dot_none s m o)) l t.0 (not_it _ t.1) g)
+no_dot_sign z l n g = false_from_ne_true _ (λ e.
+    let t = and_parts (sign_at (codes ".") l) (not (sign_at (codes "..") l)) e in
+    sign_first 46 [] (λ m. sign_at (codes "..") m ≡ false → Spelled z m n → ⊥) (λ s m o. unread z (punct 46 s ∷ m) n (dot_none s m o)) l t.0 (not-true _ t.1) g)
 
 pub pattern_front : (z : PatTree) (l n : List Tok) → Spelled z l n → NoBody l
 unfolding dot_at question_at
 pattern_front z l n g = record {
   no_else = no_else_word z l n g;
-  no_dot = rw (or_none (sign_at (codes "..") l)) (no_dot_sign z l n g);
+  no_dot = rw (or-false (sign_at (codes "..") l)) (no_dot_sign z l n g);
   no_question = no_sign z 63 l n question_none g;
   no_comma = no_sign z 44 l n comma_none g;
 }
@@ -101,4 +98,4 @@ attributes_front (a ∷ more) z l n g = record { no_else = refl; no_dot = refl; 
 pub outer_front : (ats : List AttributeTree) (z : PatTree) (l n : List Tok) → attributes_outer ats ≡ true → Spelled z l n → pound_bang.at (attributes_own ats l) ≡ false
 unfolding attribute_own sign_at
 outer_front [] z l n f g = rw (pattern_no_pound z l n g) refl
-outer_front (a ∷ more) z l n f g = rw (not_it a.inner (both_true (not a.inner) _ f).0) refl
+outer_front (a ∷ more) z l n f g = rw (not-true a.inner (and_parts (not a.inner) _ f).0) refl

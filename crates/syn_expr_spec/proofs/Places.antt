@@ -1,6 +1,7 @@
 -- Places and contexts; what a place asks of its occupant, from the class of what is after.
 use Rattle.std.proofs.Common.{◌≡◌, ℕ, Bool, true, false, not, ◌&&◌, ◌||◌, List, drop, Some, None, refl, sym, ◌∙◌, ap, subst}
-use Rattle.std.proofs.Math.Bool.{and-false}
+use Rattle.std.proofs.Math.Bool.{and-false, or-true, or-false}
+use Rattle.std.proofs.lemmas.Bool.{or_parts, or_from, not-true}
 use Rattle.syn_tokens.specs.Tok.{Tok}
 use Rattle.syn_lower_spec.specs.Mark.{sign_at, word_at, round_at}
 use Rattle.syn_expr_spec.specs.declared.kinds.BinKind.TheVariants as bin
@@ -22,8 +23,7 @@ use Rattle.syn_expr_spec.specs.Next.{class_of, next_of, takes_next, trails, is_b
 use Rattle.syn_expr_spec.specs.Rule.{is_operation, prints_range, is_below, leaf_misplaced, frame_misplaced}
 use Rattle.syn_expr_spec.specs.Stands.{is_infix, is_range, is_cast, carries, compares, is_verbatim, is_attributed, is_if_expr, takes_attributes, rests, goes_behind, closes, is_jump_or_let, ends, ends_operation, fits_left, is_named, is_parenthesis_or_bracket, is_base, fits_base, prefix_place}
 use Rattle.syn_expr_spec.specs.Tree as e
-use Rattle.syn_expr_spec.specs.Tree.{Tree, Children, Leaf, Prefix, Frame, Trailer, leaf, paren, attributed, prefixed, infixed, postfixed, tail, frame, none, is_block_like, is_block_leaf, is_block_frame, infix_own, clear, clear_children}
-use Rattle.syn_expr_spec.proofs.Bools.{or_false, neither, not_it, or_true, or_none}
+use Rattle.syn_expr_spec.specs.Tree.{Tree, Children, Leaf, Prefix, Frame, Trailer, leaf, paren, attributed, postfixed, tail, frame, none, is_block_like, is_block_leaf, is_block_frame, infix_own, clear, clear_children}
 use Rattle.syn_expr_spec.proofs.Formed.{Formed, block_held, formed_holds}
 use Rattle.syn_expr_spec.proofs.Obeys.{Fits, FitsLeft, Obeys}
 use Rattle.syn_expr_spec.proofs.Shows.{Shows, is_round_next, shows_op}
@@ -202,7 +202,7 @@ right_false true b e h = h
 right_false false b e h = absurd cc
 
 below_leaf : (c : Context) (k : Leaf) → is_below c.edge ≡ true → leaf_misplaced c k ≡ false → is_block_leaf k ≡ false
-below_leaf c (e.block None b) e h = absurd (let f : true ≡ false = sym e ∙ (or_false _ _ h).0 in cc)
+below_leaf c (e.block None b) e h = absurd (let f : true ≡ false = sym e ∙ (or_parts _ _ h).0 in cc)
 below_leaf c (e.mac m) e h = refl
 below_leaf c k e h = right_false _ _ e h
 
@@ -216,7 +216,7 @@ below_frame c _ b h = refl
 
 -- on the left at a head no block-like expression is
 no_block : (v : Level) (c : Context) (t : Tree) → is_below c.edge ≡ true → Obeys v c t → is_block_like t ≡ false
-no_block v c (leaf k) b h = below_leaf c k b (or_false _ _ h).1
+no_block v c (leaf k) b h = below_leaf c k b (or_parts _ _ h).1
 no_block v c (paren m t) b h = refl
 no_block v c (attributed a more t) b h = no_block v (attributed_context c) t (below_attributed c.edge ∙ b) h.1
 no_block v c (frame k ks) b h = below_frame c k b h.0
@@ -238,10 +238,10 @@ goes_free p v c d t m s f h = go c.edge refl
 
 no_trailer_behind : (r b q d : Bool) → r || (b || (q || d)) ≡ false → d || q ≡ false
 no_trailer_behind r b q d h =
-    let x = or_false r _ h in
-    let y = or_false b _ x.1 in
-    let z = or_false q _ y.1 in
-    neither _ _ z.1 z.0
+    let x = or_parts r _ h in
+    let y = or_parts b _ x.1 in
+    let z = or_parts q _ y.1 in
+    or_from _ _ z.1 z.0
 
 none_behind : (w : Bool) (l : List Tok) → trailer_at l ≡ false → goes_behind w l ≡ false
 unfolding trailer_at
@@ -295,7 +295,7 @@ base_fits p k t b h = rw (base_clear k t, b, h) refl
 
 pub operation_ends : (k : Infix) (n : Next) (l : List Tok) → Shows n l → ends_operation k l ≡ true
 unfolding ends_operation
-operation_ends k n l s = rw (ap (λ x. x.arrow) s.same) (or_true (is_range_op k))
+operation_ends k n l s = rw (ap (λ x. x.arrow) s.same) (or-true (is_range_op k))
 
 unadorned_range : (t : Tree) → is_attributed t ≡ false → prints_range t ≡ false → is_range t ≡ false
 unadorned_range (paren m t) a h = refl
@@ -306,8 +306,8 @@ unadorned_range _ a h = h
 
 pub takes_attributes_there : (p : Place) (t : Tree) → Formed t → is_attributed t ≡ false → is_operation t ≡ false → takes_attributes p (clear t) ≡ true
 takes_attributes_there p t f a o =
-    let q = or_false (is_infix t) (prints_range t) o in
-    rw (infix_clear t, q.0, attributed_clear t, a, verbatim_clear t f, range_clear t, unadorned_range t a q.1) (or_true p.head)
+    let q = or_parts (is_infix t) (prints_range t) o in
+    rw (infix_clear t, q.0, attributed_clear t, a, verbatim_clear t f, range_clear t, unadorned_range t a q.1) (or-true p.head)
 
 -- ---- a named field or a cast before `(`
 
@@ -331,7 +331,7 @@ round_trails next.End a b h g = refl
 round_trails _ a b h g = refl
 
 pub fits_calls : (v : Level) (t : Tree) (n : Next) → Fits v t n → Calls t n
-fits_calls v t n f = record { none = round_trails n (carries t || is_cast t) _ f.no_trailer (λ h. let p = or_false _ _ h in neither _ _ (named_carries t p.0) p.1) }
+fits_calls v t n f = record { none = round_trails n (carries t || is_cast t) _ f.no_trailer (λ h. let p = or_parts _ _ h in or_from _ _ (named_carries t p.0) p.1) }
 
 pub left_calls : (t : Tree) (k : Infix) → Calls t (class_of k)
 left_calls t k = record { none = rw (operator_class k).no_round refl }
@@ -340,7 +340,7 @@ base_call : (t : Tree) → is_base e.call t ≡ true → ends_named t || is_cast
 base_call (leaf k) h = refl
 base_call (attributed a more t) h = absurd (let f : true ≡ false = sym h ∙ and-false _ in cc)
 base_call (postfixed x k) h = absurd cc
-base_call (tail b (e.field m) ks) h = or_none _ ∙ not_it _ h
+base_call (tail b (e.field m) ks) h = or-false _ ∙ not-true _ h
 base_call _ h = refl
 
 pub base_calls : (t : Tree) (k : Trailer) → is_base k t ≡ true → Calls t (next_of k)
@@ -372,7 +372,7 @@ block_fits t = record { no_operator = refl; no_trailer = refl }
 -- a block-like whole at a head comes before all but `.` and `?`
 pub rests_ends : (x : Tree) (l : List Tok) → is_block_like x ≡ true → ends at_head x l ≡ true
 unfolding ends
-rests_ends x l h = rw (block_held x h) (or_true (is_range x))
+rests_ends x l h = rw (block_held x h) (or-true (is_range x))
 
 pub rests_closes : (x : Tree) (l : List Tok) → is_block_like x ≡ true → dot_at l ≡ false → question_at l ≡ false → closes at_head x l ≡ true
 unfolding closes

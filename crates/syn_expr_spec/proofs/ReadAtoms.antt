@@ -2,6 +2,7 @@
 use Rattle.std.specs.Prelude.{not, ◌||◌, ◌&&◌}
 use Rattle.std.proofs.Common.{◌≡◌, Bool, true, false, cond, ⊎_elim, List, [], ◌∷◌, drop, Option, Some, None, refl, ap, sym, ◌∙◌, subst}
 use Rattle.std.proofs.Math.Bool.{and-false}
+use Rattle.std.proofs.lemmas.Bool.{and_parts}
 use Rattle.syn_lexer.specs.declared.front.Delimiter.TheVariants as del
 use Rattle.syn_lexer.specs.declared.front.Spacing.{Spacing}
 use Rattle.syn_lexer.specs.declared.front.Spacing.TheVariants as spacing
@@ -12,6 +13,8 @@ use Rattle.syn_lower_spec.specs.Form.{and_then, then_behind, then_by}
 use Rattle.syn_lower_spec.specs.Mark.{sign_at, word_at, brace_at, round_at, pound, semi, comma}
 use Rattle.syn_lower_spec.specs.Part.{QPathTree, MacroEnd, qpath, path, pieces, segment, segment_name, type, macro_end, is_bare, lifetimes_at}
 use Rattle.syn_lower_spec.proofs.Ends.{sign_first}
+use Rattle.syn_lower_spec.proofs.Weights.{some_is}
+use Rattle.syn_lower_spec.proofs.Forms.{behind_some}
 use Rattle.syn_expr_spec.specs.declared.kinds.Place.{Place}
 use Rattle.syn_expr_spec.specs.declared.kinds.Limits.{Limits}
 use Rattle.syn_expr_spec.specs.declared.kinds.Limits.TheVariants as limits
@@ -25,7 +28,7 @@ use Rattle.syn_expr_spec.specs.Head.{leaf_form, prefix_form, named, to_named, ra
 use Rattle.syn_expr_spec.specs.Slot.{Slot, may_end, elements, single, counted, after, piece_form, piece_place, ending_at, comma_or_end}
 use Rattle.syn_expr_spec.specs.Stands.{Node, Operands, no_more, one_more, short, block, ends, closes, ends_piece, ends_list, short_value, takes_block, leaf_stands, prefix_stands}
 use Rattle.syn_expr_spec.specs.Read.{Reading, leaf_read, prefix_at, loop_head_at, prefix_read, unled, named_read, named_by, group_read, framed_by, atom}
-use Rattle.syn_expr_spec.proofs.Chains.{some_is, then_some, behind_some, only_some, chosen, both_true}
+use Rattle.syn_expr_spec.proofs.Chains.{then_some, only_some, chosen}
 use Rattle.syn_expr_spec.proofs.Needs.{heads}
 use Rattle.syn_expr_spec.proofs.Sound.{empty_is}
 use Rattle.syn_expr_spec.proofs.SoundAtoms.{named_reads}
@@ -73,7 +76,7 @@ no_structure false false g = refl
 
 path_alone : (p : Place) (q : QPathTree) (n : List Tok) → leaf_stands p (to_named (q, None)) n ≡ true → (brace_at n && not p.condition) ≡ false
 unfolding leaf_stands
-path_alone p q n g = let (a, b) = both_true (p.condition || not (brace_at n)) _ g in no_structure p.condition (brace_at n) a
+path_alone p q n g = let (a, b) = and_parts (p.condition || not (brace_at n)) _ g in no_structure p.condition (brace_at n) a
 
 -- no macro ends before a brace
 pub brace_no_macro : (q : QPathTree) (i : Inside) (n : List Tok) → (macro_end q).reads (group del.Brace i ∷ n) ≡ Some (None, group del.Brace i ∷ n)
@@ -146,7 +149,7 @@ counted_by : (k : Piece) (l m h n o : List Tok) (c : Ending) (x : Tree) (ks : Ch
     → Operands (after k) n ks o → Counted l k c x ks o
 unfolding ending_at
 counted_by tr.repeated l m h n o c x ks (v, w) d f g more =
-    let (a, b) = both_true (ends plain x h) (closes plain x h) f in
+    let (a, b) = and_parts (ends plain x h) (closes plain x h) f in
     let (i, j) = only_some (semi.at h) (Some (tr.no_ending, drop 1 h)) (c, n) g in
     let u : (tr.no_ending, drop 1 h) ≡ (c, n) = some_is j in
     record {

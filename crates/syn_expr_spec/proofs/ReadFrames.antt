@@ -2,22 +2,20 @@
 use Rattle.std.specs.Prelude.{not, ◌&&◌, if◌then◌else◌}
 use Rattle.std.proofs.Math.Bool.{and-false}
 use Rattle.std.proofs.Common.{◌≡◌, ℕ, ◌<◌, ◌≤◌, Bool, true, false, List, [], ◌∷◌, ◌++◌, drop, codes, Option, Some, None, refl, ap, sym, ◌∙◌, subst, arith}
+use Rattle.std.proofs.lemmas.Bool.{or_parts, and_parts, not-true}
 use Rattle.syn_lexer.specs.declared.front.Delimiter.TheVariants as del
 use Rattle.syn_lexer.specs.declared.front.Delimiter.{Delimiter}
-use Rattle.syn_lexer.specs.declared.front.Spacing.{Spacing}
-use Rattle.syn_lexer.specs.declared.front.Spacing.TheVariants as spacing
-use Rattle.syn_tokens.specs.Tok.{Tok, Inside, ident, punct, group, toks, weight}
+use Rattle.syn_tokens.specs.Tok.{Tok, Inside, ident, group, toks, weight}
 use Rattle.syn_tokens.specs.Front.{group_at, is_empty}
-use Rattle.syn_lower_spec.specs.Text.{Text, is_segment, stands_alone}
-use Rattle.syn_lexer.specs.Keywords.{is_reserved_word}
-use Rattle.syn_lower_spec.specs.declared.label.PathStyle.TheVariants as style
-use Rattle.syn_lower_spec.specs.Form.{Outcome, and_then}
-use Rattle.syn_lower_spec.specs.Mark.{colon2, sign_at, word_at, brace_at, round_at, pound}
+use Rattle.syn_lower_spec.specs.Text.{Text}
+use Rattle.syn_lower_spec.specs.Form.{and_then}
+use Rattle.syn_lower_spec.specs.Mark.{sign_at, word_at, brace_at, round_at, pound}
 use Rattle.syn_lower_spec.specs.Tree.{QSelfTree, PathTree}
-use Rattle.syn_lower_spec.specs.Part.{QPathTree, qpath, type, is_bare, macro_end}
+use Rattle.syn_lower_spec.specs.Part.{QPathTree, is_bare, macro_end}
 use Rattle.syn_lower_spec.specs.Pat.{PatTree}
-use Rattle.syn_lower_spec.proofs.Ends.{sign_first}
 use Rattle.syn_lower_spec.proofs.Same.{same_toks-refl}
+use Rattle.syn_lower_spec.proofs.Weights.{some_is}
+use Rattle.syn_lower_spec.proofs.Forms.{behind_some}
 use Rattle.syn_expr_spec.specs.declared.kinds.Place.{Place}
 use Rattle.syn_expr_spec.specs.Place.{plain}
 use Rattle.syn_expr_spec.specs.Front.{trailer_at, bracket_at, question_at, dot_at, three_dots_at, left_arrow_at}
@@ -27,31 +25,28 @@ use Rattle.syn_expr_spec.specs.Tree.{Tree, Children, Prefix, Frame, Piece, Endin
 use Rattle.syn_expr_spec.specs.Head.{prefix_form, closure_head, named, to_named, label}
 use Rattle.syn_expr_spec.specs.Slot as s
 use Rattle.syn_expr_spec.specs.Slot.{elements, single, counted, after, piece_form, piece_place, ending_at, comma_or_end, frame_head, frame_holder, if_at, for_head, if_word, match_word, while_word, for_word}
-use Rattle.syn_expr_spec.specs.Path.{is_word_alone, is_try_alone, goes_on_path, invisible_at, expr_path}
+use Rattle.syn_expr_spec.specs.Path.{is_word_alone, is_try_alone, goes_on_path, expr_path}
 use Rattle.syn_expr_spec.specs.Stands.{Node, is_leaf, Content, holds_within, Operands, no_more, one_more, short, block, Stands, ends, closes, ends_piece, ends_list, short_value, takes_block, leaf_stands, prefix_stands, prefix_place, frame_stands, frame_ends}
 use Rattle.syn_expr_spec.specs.Read.{Reading, become_word, prefix_read, named_read, structure_read, structured, standing, framed_by, bare_operands, round_read, rounded, bracket_read, bracket_inside, elements_by, loop_read, verbatim_from, atom, all_of}
 use Rattle.syn_expr_spec.proofs.HeadMoves.{taken_is, tail_falls, ending_left, dropped, group_inside, frame_less}
-use Rattle.syn_expr_spec.proofs.Chains.{neither, some_is, behind_some, only_some, both_true, not_true}
+use Rattle.syn_expr_spec.proofs.Chains.{only_some}
 use Rattle.syn_expr_spec.proofs.Needs.{heads}
 use Rattle.syn_expr_spec.proofs.Lesses.{node_less}
 use Rattle.syn_expr_spec.proofs.Sound.{Element, element_is, empty_is, group_is, ends_a_piece}
 use Rattle.syn_expr_spec.proofs.Fronts.{word_is, prefix_front, closure_front}
-use Rattle.syn_expr_spec.proofs.GroupForms.{plain_path, group_seen, no_front}
+use Rattle.syn_expr_spec.proofs.GroupForms.{group_seen, no_front}
 use Rattle.syn_expr_spec.proofs.SoundAtoms.{no_prefix, named_reads, named_read_is}
-use Rattle.syn_expr_spec.proofs.NameFronts.{Named, group_named, group_words, expr_path_front, one_word, word_read, LoopFront, while_loop_front, for_loop_front, become_front, if_front, match_front, round_front, bracket_front, path_no_words}
+use Rattle.syn_expr_spec.proofs.NameFronts.{Named, group_named, group_words, expr_path_front, LoopFront, while_loop_front, for_loop_front, become_front, if_front, match_front, round_front, bracket_front, path_no_words}
 use Rattle.syn_expr_spec.proofs.ReadAtoms.{Counted, prefixes, unnamed, grouped, unled_read, brace_no_macro, ends_is, none_is, comma_no_semi, counted_is, element_kind}
 use Rattle.syn_expr_spec.proofs.ReadOperands.{there, full, bare_read, within_read, content_read}
 use Rattle.syn_expr_spec.proofs.HeadForms.{no_leaf}
-
-all_read : {A : Type 0} (o : Outcome A) (x : A) → o ≡ Some (x, []) → all_of o ≡ Some x
-all_read o x g = rw g refl
 
 group_there : (d : Delimiter) (l : List Tok) (i n : List Tok) → group_at d l ≡ Some (i, n) → (j : Inside) × (l ≡ group d j ∷ n) × (toks j ≡ i)
 group_there d l i n g = group_is d l i n g
 
 structure_free : (p : Place) (q : QPathTree) (d : Bool) (ks : Children) → frame_stands p (tr.structure q.0 q.1 d) ks ≡ true → (p.condition ≡ false) × (is_try_alone q.0 q.1 ≡ false)
 unfolding frame_stands
-structure_free p q d ks g = neither p.condition (is_try_alone q.0 q.1) (not_true _ g)
+structure_free p q d ks g = or_parts p.condition (is_try_alone q.0 q.1) (not-true _ g)
 
 pound_no_brace : (m i n : List Tok) → group_at del.Brace m ≡ Some (i, n) → pound.at m ≡ false
 unfolding group_at sign_at
@@ -95,7 +90,7 @@ grouped_by : (q : Piece) (l m h n o : List Tok) (c : Ending) (x : Tree) (ks : Ch
     → Operands (after q) n ks o → Grouped l x o
 unfolding ending_at
 grouped_by tr.grouped l m h n o c x ks (v, w) d f g more =
-    let (a, b) = both_true (ends plain x h) (closes plain x h) f in
+    let (a, b) = and_parts (ends plain x h) (closes plain x h) f in
     let e : h ≡ o = ap (λ (r : Ending × List Tok). r.1) (some_is g) ∙ done_is more in
     record {
       node = subst (λ z. Node plain l x z) e (subst (λ z. Node plain z x h) (sym w) d);
@@ -169,7 +164,7 @@ module _ (rec : Place → Reading Tree) (k : ℕ) (complete : (p : Place) (l n :
   tuple_rounded : (p : Place) (ks : Children) → frame_stands p tr.tuple ks ≡ true → rounded rec ks ≡ frame tr.tuple ks
   unfolding frame_stands
   tuple_rounded p none g = refl
-  tuple_rounded p (child q c x ks) g = rw (not_true _ g) refl
+  tuple_rounded p (child q c x ks) g = rw (not-true _ g) refl
 
   tuple_atom : (p : Place) (i : Inside) (n : List Tok) (ks : Children) → Content (s.within del.Parenthesis elements false) (group del.Parenthesis i ∷ n) ks n → weight (group del.Parenthesis i ∷ n) ≤ k
       → frame_stands p tr.tuple ks ≡ true → atom rec p (group del.Parenthesis i ∷ n) ≡ Some (frame tr.tuple ks, n)
@@ -263,7 +258,7 @@ module _ (rec : Place → Reading Tree) (k : ℕ) (complete : (p : Place) (l n :
   no_path p q i n none a u d e b = let (g, v) = none_is d in absurd cc
   no_path p (q, w) i n (child c f x ks) a u d e b =
       let g = grouped_is d in
-      let t = not_true (is_try_alone q w) (both_true (not (is_try_alone q w)) _ u).0 in
+      let t = not-true (is_try_alone q w) (and_parts (not (is_try_alone q w)) _ u).0 in
       let s = path_alone_stands q w i a t in
       let same : x ≡ leaf (tr.path q w) = ap (λ (z : Tree × List Tok). z.0) (some_is (sym (full rec k complete plain i [] x b g.node g.ending g.closing) ∙ complete plain i [] (leaf (tr.path q w)) b s)) in
       let o : frame_ends p tr.group_expr (child c f (leaf (tr.path q w)) ks) n ≡ true = subst (λ z. frame_ends p tr.group_expr (child c f z ks) n ≡ true) same e in
@@ -307,7 +302,7 @@ module _ (rec : Place → Reading Tree) (k : ℕ) (complete : (p : Place) (l n :
   for_read p w x l m h q a b c r = rw (heads.labels.found l w m a, b, heads.fors.found m x h c) r
 
   for_no_while : (m : List Tok) → for_word.at m ≡ true → while_word.at m ≡ false
-  for_no_while m g = let (a, b) = both_true (word_at (codes "for") m) _ g in subst (λ z. while_word.at z ≡ false) (sym (word_is (codes "for") m a)) (for_first_no_while (drop 1 m))
+  for_no_while m g = let (a, b) = and_parts (word_at (codes "for") m) _ g in subst (λ z. while_word.at z ≡ false) (sym (word_is (codes "for") m a)) (for_first_no_while (drop 1 m))
 
   closure_atom : (p : Place) (f : ClosureHead) (l m : List Tok) (q : Option (Tree × List Tok)) → closure_head.behind f l ≡ Some m → prefix_stands p (tr.closure f) m ≡ false → framed_by rec p (tr.closure_block f) m ≡ q → atom rec p l ≡ q
   closure_atom p f l m q a b r =
@@ -318,7 +313,7 @@ module _ (rec : Place → Reading Tree) (k : ℕ) (complete : (p : Place) (l n :
 
   no_prefix_stands : (p : Place) (f : ClosureHead) (m : List Tok) (ks : Children) → frame_stands p (tr.closure_block f) ks ≡ true → prefix_stands p (tr.closure f) m ≡ false
   unfolding frame_stands prefix_stands
-  no_prefix_stands p f m ks g = not_true _ g
+  no_prefix_stands p f m ks g = not-true _ g
 
   pub frame_atom : (p : Place) (f : Frame) (l h n : List Tok) (ks : Children) → frame_head f l ≡ Some h → Content (frame_holder f) h ks n → weight l ≤ k → frame_stands p f ks ≡ true → frame_ends p f ks n ≡ true → atom rec p l ≡ Some (frame f ks, n)
   frame_atom p tr.array l h n ks a c b g e = array_atom p l n ks (subst (λ z. Content (s.within del.Bracket elements false) z ks n) (sym (some_is a)) c) b

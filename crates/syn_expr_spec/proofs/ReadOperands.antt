@@ -1,5 +1,6 @@
 -- Operands in places of their own: what stands is read.
 use Rattle.std.proofs.Common.{◌≡◌, ℕ, zero, suc, ◌<◌, ◌≤◌, Bool, true, false, ⊎_elim, List, [], ◌∷◌, drop, Option, Some, None, refl, ap, sym, subst, arith}
+use Rattle.std.proofs.lemmas.Bool.{and_parts}
 use Rattle.syn_lexer.specs.declared.front.Delimiter.TheVariants as del
 use Rattle.syn_lexer.specs.declared.front.Delimiter.{Delimiter}
 use Rattle.syn_tokens.specs.Tok.{Tok, weight}
@@ -9,6 +10,7 @@ use Rattle.syn_lower_spec.specs.Tree.{AttributeTree}
 use Rattle.syn_lower_spec.specs.Mark.{brace_at}
 use Rattle.syn_lower_spec.specs.Part.{inner_attributes}
 use Rattle.syn_lower_spec.specs.Pat.{a_name, dots}
+use Rattle.syn_lower_spec.proofs.Weights.{some_is}
 use Rattle.syn_expr_spec.specs.declared.kinds.Place.{Place}
 use Rattle.syn_expr_spec.specs.Place.{before_block}
 use Rattle.syn_expr_spec.specs.Tree as tr
@@ -18,7 +20,7 @@ use Rattle.syn_expr_spec.specs.Slot.{Slot, Holder, conditions, scrutinees, arms,
 use Rattle.syn_expr_spec.specs.Stands.{Node, is_indexed, is_frame, Content, holds_none, holds_within, holds_bare, Operands, no_more, one_more, short, block, arms_inside, Stands, ends, closes, ends_piece, short_value, takes_block, is_if_expr, fields_of}
 use Rattle.syn_expr_spec.specs.Read.{Reading, is_scrutinees, if_expr_by, operand_of, operands_by, operands, bare_operands, content}
 use Rattle.syn_expr_spec.proofs.HeadMoves.{IsLess, less_then, then_less, grouped, group_inside, left, frame_less, ending_left, tail_falls}
-use Rattle.syn_expr_spec.proofs.Chains.{some_is, only_some, chosen, both_true}
+use Rattle.syn_expr_spec.proofs.Chains.{only_some, chosen}
 use Rattle.syn_expr_spec.proofs.Needs.{heads}
 use Rattle.syn_expr_spec.proofs.Lesses.{here, node_less, short_less}
 use Rattle.syn_expr_spec.proofs.Fronts.{word_no_brace}
@@ -81,7 +83,7 @@ block_no_rest _ h = absurd cc
 ends_both : (k : Piece) (x : Tree) (n : List Tok) → takes_block k ≡ false → ends_piece k x n ≡ true → (ends (piece_place k) x n ≡ true) × (closes (piece_place k) x n ≡ true)
 ends_both tr.chained x n t h = absurd cc
 ends_both tr.output_block x n t h = absurd cc
-ends_both _ x n t h = both_true _ _ h
+ends_both _ x n t h = and_parts _ _ h
 
 module _ (rec : Place → Reading Tree) where
   step_read : (more : Slot → Reading Children) (v : Slot) (l m n o : List Tok) (q : Piece) (c : Ending) (x : Tree) (ks : Children) → is_scrutinees v ≡ false → may_end v l ≡ false

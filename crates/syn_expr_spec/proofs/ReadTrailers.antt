@@ -1,6 +1,7 @@
 -- What attributes and trailers begin with, and trailers after a base: what stands is read.
 use Rattle.std.specs.Prelude.{not, ◌||◌, ◌&&◌}
 use Rattle.std.proofs.Common.{◌≡◌, ℕ, zero, suc, Bool, true, false, cond, ⊎_elim, List, [], ◌∷◌, drop, codes, Option, Some, None, refl, ap, ◌∙◌, subst}
+use Rattle.std.proofs.lemmas.Bool.{and_parts, or_parts, not-true}
 use Rattle.syn_lexer.specs.declared.front.Delimiter.TheVariants as del
 use Rattle.syn_lexer.specs.declared.front.Delimiter.{Delimiter}
 use Rattle.syn_lexer.specs.declared.front.Spacing.{Spacing}
@@ -14,6 +15,8 @@ use Rattle.syn_lower_spec.specs.Mark.{sign_at, round_at, pound}
 use Rattle.syn_lower_spec.specs.Part.{outer_attributes, outer_body}
 use Rattle.syn_lower_spec.specs.Pat.{an_index}
 use Rattle.syn_lower_spec.proofs.Ends.{sign_first}
+use Rattle.syn_lower_spec.proofs.Weights.{some_is}
+use Rattle.syn_lower_spec.proofs.Forms.{behind_some}
 use Rattle.syn_expr_spec.specs.declared.kinds.Place.{Place}
 use Rattle.syn_expr_spec.specs.Front.{bracket_at, question_at, dot_at, trailer_at}
 use Rattle.syn_expr_spec.specs.Tree as tr
@@ -23,7 +26,7 @@ use Rattle.syn_expr_spec.specs.Slot as s
 use Rattle.syn_expr_spec.specs.Slot.{Slot, trailer_holder}
 use Rattle.syn_expr_spec.specs.Stands.{Content, holds_within, closes, goes_behind, carries, rests, is_attributed, is_pounded, fits_base, is_base, is_call, is_named_field, is_parenthesis_or_bracket, trailer_head, fields_head, name_at, indices_at, steps_of, open_steps, closed_steps, named_behind, with_steps, fields_of}
 use Rattle.syn_expr_spec.specs.Read.{Reading, content, trailed}
-use Rattle.syn_expr_spec.proofs.Chains.{some_is, only_some, behind_some, chosen, both_true, neither, not_true}
+use Rattle.syn_expr_spec.proofs.Chains.{only_some, chosen}
 use Rattle.syn_expr_spec.proofs.Needs.{heads}
 use Rattle.syn_expr_spec.proofs.Sound.{group_is}
 use Rattle.syn_expr_spec.proofs.Fronts.{second_true, first_true}
@@ -67,7 +70,7 @@ dot_first spacing.Joint m = record { no_round = refl; no_bracket = refl; no_ques
 
 dot_front : (m : List Tok) → dot_at m ≡ true → Dotted m
 unfolding dot_at
-dot_front m g = let (a, b) = both_true (sign_at (codes ".") m) _ g in sign_first 46 [] (λ z. Dotted z) dot_first m a
+dot_front m g = let (a, b) = and_parts (sign_at (codes ".") m) _ g in sign_first 46 [] (λ z. Dotted z) dot_first m a
 
 question_front : (m : List Tok) → question_at m ≡ true → (round_at m ≡ false) × (bracket_at m ≡ false)
 unfolding question_at round_at bracket_at group_at
@@ -102,17 +105,17 @@ pub record Base (b : Tree) : Type 0 where
 pub base_is : (p : Place) (t : Trailer) (b : Tree) → fits_base p t b ≡ true → Base b
 unfolding fits_base
 base_is p t b g =
-    let (a, c) = both_true (is_base t b) _ g in
-    let (d, f) = both_true (carries b) (not (is_attributed b || is_pounded b) && not (is_call t && is_named_field b)) a in
-    let (h, i) = both_true (not (is_attributed b || is_pounded b)) _ f in
-    let (j, k) = neither (is_attributed b) (is_pounded b) (not_true _ h) in
+    let (a, c) = and_parts (is_base t b) _ g in
+    let (d, f) = and_parts (carries b) (not (is_attributed b || is_pounded b) && not (is_call t && is_named_field b)) a in
+    let (h, i) = and_parts (not (is_attributed b || is_pounded b)) _ f in
+    let (j, k) = or_parts (is_attributed b) (is_pounded b) (not-true _ h) in
     record { carrying = d; bare = j; no_pound = k }
 
 base_no_rest : (p : Place) (t : Trailer) (b : Tree) → fits_base p t b ≡ true → is_parenthesis_or_bracket t ≡ true → rests p b ≡ false
 unfolding fits_base
 base_no_rest p t b g h =
-    let (a, c) = both_true (is_base t b) _ g in
-    let d : (is_parenthesis_or_bracket t && rests p b) ≡ false = not_true _ c in rw h at d
+    let (a, c) = and_parts (is_base t b) _ g in
+    let d : (is_parenthesis_or_bracket t && rests p b) ≡ false = not-true _ c in rw h at d
 
 opens : (p : Place) (b : Tree) (m : List Tok) → carries b ≡ true → goes_behind (rests p b) m ≡ true → closes p b m ≡ false
 unfolding closes

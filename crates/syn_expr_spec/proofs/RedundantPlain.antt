@@ -1,5 +1,6 @@
 -- One pair less of a printed tree without attributes on operations has none either.
 use Rattle.std.proofs.Common.{◌≡◌, Bool, true, false, not, ◌&&◌, ◌||◌, inl, inr, List, ◌∷◌, cond, refl, sym, ◌∙◌, ap, subst}
+use Rattle.std.proofs.lemmas.Bool.{and_from, and_parts}
 use Rattle.syn_expr_spec.specs.declared.next.Context.{Context}
 use Rattle.syn_expr_spec.specs.Next.{enclosed, left_context, base_context, right_context, attributed_context, prefix_context, piece_context}
 use Rattle.syn_expr_spec.specs.Tree as e
@@ -7,7 +8,6 @@ use Rattle.syn_expr_spec.specs.Tree.{Tree, Children, Piece, leaf, paren, attribu
 use Rattle.syn_expr_spec.specs.Rule.{is_operation, put, bare, bare_children, piece_put, chained_bare, is_chainable, is_plain_block}
 use Rattle.syn_expr_spec.specs.Minimal.{OneLess, OneLessChild}
 use Rattle.syn_expr_spec.specs.Printed.{NoPairRedundant, printed_in, plainly_attributed, children_plainly, context_of}
-use Rattle.syn_expr_spec.proofs.Bools.{both, both_true}
 use Rattle.syn_expr_spec.specs.WellFormed.{well, children_well, piece_fits, ending_fits, keeps_block, is_name_path, is_well_formed, trailer_fits, frame_fits, prefix_fits, infix_fits, postfix_fits, trailer_slot, frame_slot}
 use Rattle.syn_expr_spec.specs.Slot as s
 use Rattle.syn_expr_spec.specs.Slot.{Slot, after}
@@ -66,38 +66,38 @@ mutual
   ]
   less_plain (paren false t) u o h g = subst (λ y. plainly_attributed y ≡ true) (sym o.2) (less_plain t o.0 o.1 h g)
   less_plain (attributed a more t) u o h g =
-      let (i, j) = both_true (not (is_operation t)) _ h in
-      let (m, n) = both_true (not (is_marked t)) _ g in
+      let (i, j) = and_parts (not (is_operation t)) _ h in
+      let (m, n) = and_parts (not (is_marked t)) _ g in
       subst (λ y. plainly_attributed y ≡ true) (sym o.2)
-      (both _ _ (not_false (less_operation t o.0 (not_true m) o.1 ∙ not_true i)) (less_plain t o.0 o.1 j n))
+      (and_from _ _ (not_false (less_operation t o.0 (not_true m) o.1 ∙ not_true i)) (less_plain t o.0 o.1 j n))
   less_plain (prefixed k gs t) u o h g =
-      let (i, j) = both_true (children_plainly gs) _ h in
-      subst (λ y. plainly_attributed y ≡ true) (sym o.2) (both _ _ i (less_plain t o.0 o.1 j g))
+      let (i, j) = and_parts (children_plainly gs) _ h in
+      subst (λ y. plainly_attributed y ≡ true) (sym o.2) (and_from _ _ i (less_plain t o.0 o.1 j g))
   less_plain (infixed x k y) u o h g =
-      let (i, j) = both_true (plainly_attributed x) _ h in
-      let (m, n) = both_true (kept_apart x) _ g in
+      let (i, j) = and_parts (plainly_attributed x) _ h in
+      let (m, n) = and_parts (kept_apart x) _ g in
       elim o [
-        | inl z ↦ subst (λ y. plainly_attributed y ≡ true) (sym z.2) (both _ _ (less_plain x z.0 z.1 i m) j)
-        | inr z ↦ subst (λ y. plainly_attributed y ≡ true) (sym z.2) (both _ _ i (less_plain y z.0 z.1 j n))
+        | inl z ↦ subst (λ y. plainly_attributed y ≡ true) (sym z.2) (and_from _ _ (less_plain x z.0 z.1 i m) j)
+        | inr z ↦ subst (λ y. plainly_attributed y ≡ true) (sym z.2) (and_from _ _ i (less_plain y z.0 z.1 j n))
       ]
   less_plain (postfixed x k) u o h g = subst (λ y. plainly_attributed y ≡ true) (sym o.2) (less_plain x o.0 o.1 h g)
   less_plain (tail b k ks) u o h g =
-      let (i, j) = both_true (plainly_attributed b) _ h in
-      let (m, n) = both_true (kept_apart b) _ g in
+      let (i, j) = and_parts (plainly_attributed b) _ h in
+      let (m, n) = and_parts (kept_apart b) _ g in
       elim o [
-        | inl z ↦ subst (λ y. plainly_attributed y ≡ true) (sym z.2) (both _ _ (less_plain b z.0 z.1 i m) j)
-        | inr z ↦ subst (λ y. plainly_attributed y ≡ true) (sym z.2) (both _ _ i (less_children ks z.0 z.1 j n))
+        | inl z ↦ subst (λ y. plainly_attributed y ≡ true) (sym z.2) (and_from _ _ (less_plain b z.0 z.1 i m) j)
+        | inr z ↦ subst (λ y. plainly_attributed y ≡ true) (sym z.2) (and_from _ _ i (less_children ks z.0 z.1 j n))
       ]
   less_plain (frame k ks) u o h g = subst (λ y. plainly_attributed y ≡ true) (sym o.2) (less_children ks o.0 o.1 h g)
 
   less_children : (ks us : Children) → OneLessChild ks us → children_plainly ks ≡ true → children_apart ks ≡ true → children_plainly us ≡ true
   less_children none us o h g = absurd o
   less_children (child k c t ks) us o h g =
-      let (i, j) = both_true (plainly_attributed t) _ h in
-      let (m, n) = both_true (kept_apart t) _ g in
+      let (i, j) = and_parts (plainly_attributed t) _ h in
+      let (m, n) = and_parts (kept_apart t) _ g in
       elim o [
-        | inl z ↦ subst (λ y. children_plainly y ≡ true) (sym z.2) (both _ _ (less_plain t z.0 z.1 i m) j)
-        | inr z ↦ subst (λ y. children_plainly y ≡ true) (sym z.2) (both _ _ i (less_children ks z.0 z.1 j n))
+        | inl z ↦ subst (λ y. children_plainly y ≡ true) (sym z.2) (and_from _ _ (less_plain t z.0 z.1 i m) j)
+        | inr z ↦ subst (λ y. children_plainly y ≡ true) (sym z.2) (and_from _ _ i (less_children ks z.0 z.1 j n))
       ]
 
 -- ---- what is printed has no added pair after attributes
@@ -120,7 +120,7 @@ marked_bare c _ = refl
 
 chained_good : (u : Tree) → Good u → Good (chained_bare u)
 chained_good (attributed a more (frame k ks)) g =
-    record { plain = (both_true (not (is_operation (frame k ks))) _ g.plain).1; apart = (both_true (not (is_marked (frame k ks))) _ g.apart).1 }
+    record { plain = (and_parts (not (is_operation (frame k ks))) _ g.plain).1; apart = (and_parts (not (is_marked (frame k ks))) _ g.apart).1 }
 chained_good _ g = g
 
 verbatim_good : (k : Piece) (t : Tree) → keeps_block k t ≡ true → (c : Context) → Good (bare c t)
@@ -129,7 +129,7 @@ verbatim_good e.output_block (leaf k) h c = record { plain = refl; apart = refl 
 verbatim_good _ _ h c = absurd cc
 
 short_good : (v : Slot) (ats : List AttributeTree) (m : MemberTree) (c : Ending) (t : Tree) → piece_fits v (e.field_value ats m false) c t ≡ true → Good t
-short_good s.fields ats m c t h = by_name m t (both_true (member_fits m) _ (both_true (attributes_outer ats) _ h).1).1
+short_good s.fields ats m c t h = by_name m t (and_parts (member_fits m) _ (and_parts (attributes_outer ats) _ h).1).1
   where
     by_name : (m : MemberTree) (t : Tree) → is_name_path m t ≡ true → Good t
     by_name (a_name w) (leaf k) h = record { plain = refl; apart = refl }
@@ -162,43 +162,43 @@ mutual
   bare_good (leaf k) c w h = record { plain = refl; apart = refl }
   bare_good (paren m t) c w h = let g = bare_good t enclosed w h in record { plain = g.plain; apart = g.apart }
   bare_good (attributed a more t) c w h =
-      let (i, j) = both_true (not (is_operation t)) _ h in
-      let w1 = (both_true (attributes_outer (a ∷ more)) _ w).1 in
-      let g = bare_good t (attributed_context c) (both_true (not (is_attributed t)) _ w1).1 j in
-      rw (not_true i) (record { plain = both _ _ (not_false (operation_bare (attributed_context c) t (not_true i))) g.plain; apart = both _ _ (not_false (marked_bare (attributed_context c) t)) g.apart })
+      let (i, j) = and_parts (not (is_operation t)) _ h in
+      let w1 = (and_parts (attributes_outer (a ∷ more)) _ w).1 in
+      let g = bare_good t (attributed_context c) (and_parts (not (is_attributed t)) _ w1).1 j in
+      rw (not_true i) (record { plain = and_from _ _ (not_false (operation_bare (attributed_context c) t (not_true i))) g.plain; apart = and_from _ _ (not_false (marked_bare (attributed_context c) t)) g.apart })
   bare_good (prefixed k gs t) c w h =
-      let (i, j) = both_true (children_plainly gs) _ h in
-      let w1 = (both_true (is_none gs) _ (both_true (prefix_fits k) _ w).1).1 in
+      let (i, j) = and_parts (children_plainly gs) _ h in
+      let w1 = (and_parts (is_none gs) _ (and_parts (prefix_fits k) _ w).1).1 in
       let g = put_good _ _ _ (bare_good t enclosed w1 j) (bare_good t (prefix_context k c) w1 j) in
-      record { plain = both _ _ i g.plain; apart = g.apart }
+      record { plain = and_from _ _ i g.plain; apart = g.apart }
   bare_good (infixed x k y) c w h =
-      let (i, j) = both_true (plainly_attributed x) _ h in
-      let (w1, w2) = both_true (well x) _ (both_true (infix_fits k) _ w).1 in
+      let (i, j) = and_parts (plainly_attributed x) _ h in
+      let (w1, w2) = and_parts (well x) _ (and_parts (infix_fits k) _ w).1 in
       let f = put_good _ _ _ (bare_good x enclosed w1 i) (bare_good x (left_context k c) w1 i) in
       let g = put_good _ _ _ (bare_good y enclosed w2 j) (bare_good y (right_context k c) w2 j) in
-      record { plain = both _ _ f.plain g.plain; apart = both _ _ f.apart g.apart }
+      record { plain = and_from _ _ f.plain g.plain; apart = and_from _ _ f.apart g.apart }
   bare_good (postfixed x k) c w h =
-      let w1 = (both_true (postfix_fits k) _ w).1 in
+      let w1 = (and_parts (postfix_fits k) _ w).1 in
       let f = put_good _ _ _ (bare_good x enclosed w1 h) (bare_good x (left_context (postfix_op k) c) w1 h) in
       record { plain = f.plain; apart = f.apart }
   bare_good (tail b k ks) c w h =
-      let (i, j) = both_true (plainly_attributed b) _ h in
-      let (w1, w2) = both_true (well b) _ (both_true (trailer_fits k) _ w).1 in
+      let (i, j) = and_parts (plainly_attributed b) _ h in
+      let (w1, w2) = and_parts (well b) _ (and_parts (trailer_fits k) _ w).1 in
       let f = put_good _ _ _ (bare_good b enclosed w1 i) (bare_good b (base_context k c) w1 i) in
       let g = children_good ks (trailer_slot k) w2 j in
-      record { plain = both _ _ f.plain g.plain; apart = both _ _ f.apart g.apart }
-  bare_good (frame k ks) c w h = let g = children_good ks (frame_slot k) (both_true (frame_fits k ks) _ w).1 h in record { plain = g.plain; apart = g.apart }
+      record { plain = and_from _ _ f.plain g.plain; apart = and_from _ _ f.apart g.apart }
+  bare_good (frame k ks) c w h = let g = children_good ks (frame_slot k) (and_parts (frame_fits k ks) _ w).1 h in record { plain = g.plain; apart = g.apart }
 
   children_good : (ks : Children) (v : Slot) → children_well v ks ≡ true → children_plainly ks ≡ true → GoodChildren (bare_children ks)
   children_good none v w h = record { plain = refl; apart = refl }
   children_good (child k c t ks) v w h =
-      let (i, j) = both_true (plainly_attributed t) _ h in
-      let (w1, w2) = both_true (piece_fits v k c t && ending_fits k c) _ w in
-      let (w3, w4) = both_true (keeps_block k t || well t) _ w2 in
+      let (i, j) = and_parts (plainly_attributed t) _ h in
+      let (w1, w2) = and_parts (piece_fits v k c t && ending_fits k c) _ w in
+      let (w3, w4) = and_parts (keeps_block k t || well t) _ w2 in
       let f = by_verbatim k t (keeps_block k t) refl w3 (λ u c. bare_good t c u i) in
-      let g = piece_good v k c t _ _ (both_true (piece_fits v k c t) _ w1).0 f in
+      let g = piece_good v k c t _ _ (and_parts (piece_fits v k c t) _ w1).0 f in
       let m = children_good ks (after k) w4 j in
-      record { plain = both _ _ g.plain m.plain; apart = both _ _ g.apart m.apart }
+      record { plain = and_from _ _ g.plain m.plain; apart = and_from _ _ g.apart m.apart }
 
 mutual
   pub plain_clear : (t : Tree) → plainly_attributed (clear t) ≡ plainly_attributed t

@@ -1,6 +1,8 @@
 -- What stands obeys the binding rules, said along the tree with its attributed operations in parentheses.
 use Rattle.std.proofs.Common.{◌≡◌, ℕ, Bool, true, false, not, ◌&&◌, ◌||◌, List, [], ◌∷◌, drop, Option, Some, None, refl, sym, ◌∙◌, ap, subst}
 use Rattle.std.specs.Prelude.{if◌then◌else◌}
+use Rattle.std.proofs.lemmas.Bool.{and_parts, and_from, not-true, or_parts}
+use Rattle.std.proofs.Math.Bool.{or-false}
 use Rattle.syn_lexer.specs.declared.front.Delimiter.TheVariants as del
 use Rattle.syn_tokens.specs.Tok.{Tok}
 use Rattle.syn_tokens.specs.Front.{group_at}
@@ -10,6 +12,7 @@ use Rattle.syn_lower_spec.specs.Part.{type}
 use Rattle.syn_lower_spec.specs.Pat.{an_index, a_name}
 use Rattle.syn_lower_spec.specs.Mark.{lt, brace_at}
 use Rattle.syn_lower_spec.specs.Ends.{ends_open}
+use Rattle.syn_lower_spec.proofs.Weights.{some_is}
 use Rattle.syn_expr_spec.specs.declared.kinds.Level.{Level}
 use Rattle.syn_expr_spec.specs.declared.kinds.Level.TheVariants as lev
 use Rattle.syn_expr_spec.specs.declared.kinds.Infix.{Infix}
@@ -25,18 +28,16 @@ use Rattle.syn_expr_spec.specs.Next.{enclosed, in_condition, next_of, takes_next
 use Rattle.syn_expr_spec.specs.Slot.{Slot, Holder, within, ending_at, piece_place, trailer_holder}
 use Rattle.syn_expr_spec.specs.Stands.{Node, is_leaf, is_become, is_attributed_verbatim, is_paren, is_attributed_by, is_prefixed, is_infixed, is_postfixed, is_tail, is_indexed, is_frame, Content, holds_none, holds_within, holds_bare, Operands, no_more, one_more, short, block, arms_inside, fits_base, fields_of, fields_head, trailer_head, is_base, is_call, carries, is_cast, is_range, is_infix, is_attributed, is_verbatim, is_pounded, takes_attributes, postfix_behind, postfix_stands, prefix_place, short_value, takes_block}
 use Rattle.syn_expr_spec.specs.Tree as e
-use Rattle.syn_expr_spec.specs.Tree.{Tree, Children, Leaf, Prefix, Postfix, Trailer, Piece, Ending, leaf, paren, attributed, prefixed, infixed, postfixed, tail, frame, none, postfix_op, plain_block, is_silent, is_block_like}
+use Rattle.syn_expr_spec.specs.Tree.{Tree, Children, Leaf, Prefix, Postfix, Trailer, Piece, Ending, leaf, paren, attributed, prefixed, tail, none, postfix_op, plain_block, is_silent, is_block_like}
 use Rattle.syn_expr_spec.specs.Rule.{is_below, is_braceless, is_operation, put, postfix_refuses, is_less_next, is_bare_break}
 use Rattle.syn_expr_spec.specs.Printed.{parenthesize_attributed, parenthesize_attributed_children}
 use Rattle.syn_expr_spec.proofs.Callees.{fits_there, fits_index}
-use Rattle.syn_expr_spec.proofs.Bools.{both_true, both, not_it, or_false, or_none}
 use Rattle.syn_expr_spec.proofs.Formed.{no_block_held}
 use Rattle.syn_expr_spec.proofs.Obeys.{Fits, FitsLeft, begins_label, Obeys, ObeysChildren}
 use Rattle.syn_expr_spec.proofs.ShownFronts.{Front, front_end, front_operator, front_call, front_index, front_block, front_dot, front_question}
 use Rattle.syn_expr_spec.proofs.ShownParts.{Agrees, agrees_plain, agrees_condition, agrees_arm, agrees_left, agrees_base, agrees_attributed, agrees_right, agrees_prefix, front_prefix, prefix_above, right_above, prefix_brace, right_brace, leaf_shown, prefix_placed, frame_shown, fits_shown, left_shown, prefix_head, base_below, base_braceless, below_left, left_braceless, attributed_below, attributed_braceless, dot_twice, dot_above, dot_braceless, postfix_shown}
 use Rattle.syn_expr_spec.proofs.Parenthesized.{operation_stays, compares_stays, cast_stays, label_stays, base_stays, no_range, fields_stay}
 use Rattle.syn_expr_spec.proofs.NameFronts.{block_first, label_first, bare_break}
-use Rattle.syn_expr_spec.proofs.Chains.{some_is}
 
 -- what is asked of the first token and of the edge
 abbrev pub At : Context → List Tok → Tree → Type 0
@@ -153,13 +154,13 @@ TypesClose = (x : TypeTree) (l n : List Tok) → (type false).behind x l ≡ Som
 
 base_field : (k : Trailer) (i : ℕ) (b : Tree) → is_base k b ≡ true → is_base (e.field (an_index i)) b ≡ true
 base_field k i b h =
-    let p = both_true (carries b) _ h in
-    let q = both_true (not (is_attributed b || is_pounded b)) _ p.1 in
-    both (carries b) _ p.0 (both (not (is_attributed b || is_pounded b)) true q.0 refl)
+    let p = and_parts (carries b) _ h in
+    let q = and_parts (not (is_attributed b || is_pounded b)) _ p.1 in
+    and_from (carries b) _ p.0 (and_from (not (is_attributed b || is_pounded b)) true q.0 refl)
 
 base_is : (p : Place) (k : Trailer) (b : Tree) → fits_base p k b ≡ true → is_base k b ≡ true
 unfolding fits_base
-base_is p k b h = (both_true _ _ h).0
+base_is p k b h = (and_parts _ _ h).0
 
 -- at an index of a field
 index_shown : (p : Place) (c : Context) (l y : List Tok) (b : Tree) (i : ℕ) → Agrees p c → is_braceless c.edge && brace_at l ≡ false → Front next.Dot y → ShownAt p l b y
@@ -218,8 +219,8 @@ record Behind (p : Place) (x : Tree) : Type 0 where
 
 behind_attributes : (p : Place) (x : Tree) → takes_attributes p x ≡ true → Behind p x
 behind_attributes p x h =
-    let (f, g) = both_true (not (is_infix x || (is_attributed x || is_verbatim x))) _ h in
-    record { no_infix = (or_false _ _ (not_it _ f)).0; at_head = λ r. sym (or_none p.head) ∙ ap (λ b. p.head || not b) (sym r) ∙ g }
+    let (f, g) = and_parts (not (is_infix x || (is_attributed x || is_verbatim x))) _ h in
+    record { no_infix = (or_parts _ _ (not-true _ f)).0; at_head = λ r. sym (or-false p.head) ∙ ap (λ b. p.head || not b) (sym r) ∙ g }
 
 clash : (b : Bool) → b ≡ true → b ≡ false → ⊥
 clash b h k = let r : true ≡ false = sym h ∙ k in cc
@@ -228,7 +229,7 @@ clash b h k = let r : true ≡ false = sym h ∙ k in cc
 alone_at_head : (p : Place) → is_possible p ≡ true → p.head ≡ true → Agrees p enclosed
 alone_at_head p f h =
     record {
-      mode = sym (ap (λ b. b && p.condition) (sym h) ∙ not_it _ f);
+      mode = sym (ap (λ b. b && p.condition) (sym h) ∙ not-true _ f);
       head = λ z. absurd cc;
       no_statement = refl;
       brace = refl;

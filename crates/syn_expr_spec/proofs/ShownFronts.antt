@@ -2,6 +2,7 @@
 use Rattle.std.proofs.Common.{◌≡◌, ℕ, Bool, true, false, not, ◌&&◌, ◌||◌, ◌==◌, ◌⊎◌, inl, inr, List, [], ◌∷◌, Option, Some, None, refl, sym, ◌∙◌, ap, subst, codes, arith}
 use Rattle.std.specs.Prelude.{if◌then◌else◌}
 use Rattle.std.proofs.lemmas.Bool.Decides.{nat_tests}
+use Rattle.std.proofs.lemmas.Bool.{and_parts, not-true}
 use Rattle.syn_lexer.specs.declared.front.Delimiter.{Delimiter}
 use Rattle.syn_lexer.specs.declared.front.Delimiter.TheVariants as del
 use Rattle.syn_lexer.specs.declared.front.Spacing.{Spacing}
@@ -11,6 +12,7 @@ use Rattle.syn_tokens.specs.Front.{group_at}
 use Rattle.syn_lower_spec.specs.Text.{Text}
 use Rattle.syn_lower_spec.specs.Mark.{sign_at, word_at, lifetime_at, brace_at, round_at, lt}
 use Rattle.syn_lower_spec.proofs.Ends.{sign_first}
+use Rattle.syn_lower_spec.proofs.Weights.{some_is}
 use Rattle.syn_expr_spec.specs.declared.kinds.BinKind.TheVariants as bin
 use Rattle.syn_expr_spec.specs.declared.kinds.Limits.TheVariants as limits
 use Rattle.syn_expr_spec.specs.declared.kinds.Infix.{Infix}
@@ -22,8 +24,6 @@ use Rattle.syn_expr_spec.specs.Op.{Entry, level, infix_at, goes_on, counted, lon
 use Rattle.syn_expr_spec.specs.Front.{begins_expr, sign_begins, ends_open_range, trailer_at, bracket_at, dot_at, question_at}
 use Rattle.syn_expr_spec.specs.Next.{class_of, level_of, takes_next, trails, begins_next, is_block_next, is_brace_next}
 use Rattle.syn_expr_spec.specs.Rule.{is_less_next}
-use Rattle.syn_expr_spec.proofs.Bools.{both_true, not_it}
-use Rattle.syn_expr_spec.proofs.Chains.{some_is}
 
 -- what the next token is asked, for a proof that computes it
 asked : Bool
@@ -91,7 +91,7 @@ text_is : (s t : Text) → same_text s t ≡ true → s ≡ t
 unfolding same_text
 text_is [] [] h = refl
 text_is (x ∷ s) (y ∷ t) h =
-    let p = both_true (x == y) _ h in
+    let p = and_parts (x == y) _ h in
     let e : x ≡ y = grind (arith, nat_tests, p.0) in
     same_cons x y s t e (text_is s t p.1)
   where
@@ -139,9 +139,9 @@ never : (op : Infix) (c : ℕ) (es : List Entry) (l : List Tok) → lacks op es 
 unfolding lacks
 never op c [] l n h = absurd cc
 never op c ((t, o) ∷ more) l n h =
-    let p = both_true (not (is_op op o)) _ n in
+    let p = and_parts (not (is_op op o)) _ n in
     elim (step (sign_at t l) t o (longest more l) op c h) [
-      | inl z ↦ clash _ z.1 (not_it _ p.0)
+      | inl z ↦ clash _ z.1 (not-true _ p.0)
       | inr z ↦ never op c more l p.1 z.1
     ]
 

@@ -1,6 +1,7 @@
 -- What stands obeys: the tests of a node, by the class of what comes after it.
 use Rattle.std.proofs.Common.{◌≡◌, Bool, true, false, not, ◌&&◌, ◌||◌, List, [], ◌∷◌, Option, Some, None, refl, sym, ◌∙◌, ap, codes}
 use Rattle.std.proofs.Math.Bool.{and-false}
+use Rattle.std.proofs.lemmas.Bool.{or_parts, and_parts, or_from, not-true}
 use Rattle.syn_tokens.specs.Tok.{Tok, ident, punct, literal, group}
 use Rattle.syn_tokens.specs.Front.{group_at, is_empty}
 use Rattle.syn_lower_spec.specs.Text.{Text}
@@ -23,7 +24,6 @@ use Rattle.syn_expr_spec.specs.Stands.{is_range, is_cast, carries, compares, res
 use Rattle.syn_expr_spec.specs.Tree as e
 use Rattle.syn_expr_spec.specs.Tree.{Tree, Leaf, Prefix, Trailer, Frame, Jump, is_block_leaf, is_block_frame, is_block_like}
 use Rattle.syn_expr_spec.specs.Rule.{ends_range_next, jump_refuses, leaf_refuses, leaf_misplaced, prefix_misplaced, frame_misplaced, is_below, is_below_statement, is_statement, is_braceless, is_brace_delimiter}
-use Rattle.syn_expr_spec.proofs.Bools.{or_false, both_true, neither, not_it}
 use Rattle.syn_expr_spec.proofs.Formed.{no_block_held}
 use Rattle.syn_expr_spec.proofs.Obeys.{Fits, FitsLeft}
 use Rattle.syn_expr_spec.proofs.Tight.{is_calm}
@@ -191,7 +191,7 @@ right_above k c b = ap (λ z. z && b) (braceless_above _)
 -- ---- where a brace would be that of a block
 
 last_false : (a b c d x : Bool) → a || (b || (c || (d || x))) ≡ false → x ≡ false
-last_false a b c d x h = (or_false d _ (or_false c _ (or_false b _ (or_false a _ h).1).1).1).1
+last_false a b c d x h = (or_parts d _ (or_parts c _ (or_parts b _ (or_parts a _ h).1).1).1).1
 
 open_brace : (b : Bool) (l : List Tok) → ends_open_range b l ≡ false → b && brace_at l ≡ false
 unfolding ends_open_range
@@ -206,8 +206,8 @@ colon_brace (punct c s ∷ l) h = absurd cc
 colon_brace (group d i ∷ l) h = refl
 
 jump_brace : (p : Place) (w : Option Text) (m : List Tok) → not (ends_jump p (e.breaking w) m) && begins_expr m ≡ true → p.condition && brace_at m ≡ false
-jump_brace p None m h = (or_false _ _ (not_it _ (both_true _ _ h).0)).1
-jump_brace p (Some w) m h = go p.condition (brace_at m) refl (begins_expr m) (not_it _ (both_true _ _ h).0)
+jump_brace p None m h = (or_parts _ _ (not-true _ (and_parts _ _ h).0)).1
+jump_brace p (Some w) m h = go p.condition (brace_at m) refl (begins_expr m) (not-true _ (and_parts _ _ h).0)
   where
     go : (a b : Bool) → brace_at m ≡ b → (g : Bool) → (not g || (a && b)) && not (colon.at m) ≡ false → a && b ≡ false
     go true true q true i = absurd (let r = colon_brace m q in let s : true ≡ false = ap not (sym r) ∙ i in cc)
@@ -221,13 +221,13 @@ edge_brace b x h = ap (λ z. z && x) (braceless_is b) ∙ h
 pub prefix_brace : (p : Place) (k : Prefix) (c : Context) (m : List Tok) → Agrees p c → prefix_stands p k m ≡ true → is_braceless (prefix_context k c).edge && brace_at m ≡ false
 unfolding prefix_stands
 prefix_brace p (e.unary op) c m a h = refl
-prefix_brace p (e.range_to limits.HalfOpen) c m a h = edge_brace c.condition _ (ap (λ b. b && brace_at m) a.mode ∙ open_brace p.condition m (not_it _ h))
+prefix_brace p (e.range_to limits.HalfOpen) c m a h = edge_brace c.condition _ (ap (λ b. b && brace_at m) a.mode ∙ open_brace p.condition m (not-true _ h))
 prefix_brace p (e.jump (e.breaking w)) c m a h = edge_brace c.condition _ (ap (λ b. b && brace_at m) a.mode ∙ jump_brace p w m h)
 prefix_brace p _ c m a h = refl
 
 pub right_brace : (p : Place) (k : Infix) (c : Context) (m : List Tok) → Agrees p c → infix_stands p k m ≡ true → is_braceless (right_context k c).edge && brace_at m ≡ false
 unfolding infix_stands
-right_brace p (inf.Range limits.HalfOpen) c m a h = edge_brace c.condition _ (ap (λ b. b && brace_at m) a.mode ∙ open_brace p.condition m (not_it _ h))
+right_brace p (inf.Range limits.HalfOpen) c m a h = edge_brace c.condition _ (ap (λ b. b && brace_at m) a.mode ∙ open_brace p.condition m (not-true _ h))
 right_brace p _ c m a h = refl
 
 -- ---- what a node refuses
@@ -260,7 +260,7 @@ range_ends next.Minus b n f q h = absurd (no_block b _ (f.brace refl) (open_end 
 range_ends next.Star b n f q h = absurd (no_block b _ (f.brace refl) (open_end b n h (f.stops refl)))
 range_ends next.Parenthesis b n f q h = absurd (no_block b _ (f.brace refl) (open_end b n h (f.stops refl)))
 range_ends next.Bracket b n f q h = absurd (no_block b _ (f.brace refl) (open_end b n h (f.stops refl)))
-range_ends next.Brace b n f q h = absurd (let r = (both_true _ _ (open_end b n h (f.stops refl))).0 in clash b r q)
+range_ends next.Brace b n f q h = absurd (let r = (and_parts _ _ (open_end b n h (f.stops refl))).0 in clash b r q)
 range_ends next.End b n f q h = refl
 range_ends _ b n f q h = refl
 
@@ -288,15 +288,15 @@ break_ends next.Minus b n f q h = absurd (no_block b _ (f.brace refl) (or_second
 break_ends next.Star b n f q h = absurd (no_block b _ (f.brace refl) (or_second _ _ h (f.begin refl)))
 break_ends next.Parenthesis b n f q h = absurd (no_block b _ (f.brace refl) (or_second _ _ h (f.begin refl)))
 break_ends next.Bracket b n f q h = absurd (no_block b _ (f.brace refl) (or_second _ _ h (f.begin refl)))
-break_ends next.Brace b n f q h = absurd (let r = (both_true _ _ (or_second _ _ h (f.begin refl))).0 in clash b r q)
+break_ends next.Brace b n f q h = absurd (let r = (and_parts _ _ (or_second _ _ h (f.begin refl))).0 in clash b r q)
 break_ends next.End b n f q h = refl
 break_ends _ b n f q h = refl
 
 pub jump_ends : (x : Next) (p : Place) (j : Jump) (n : List Tok) → Front x n → is_brace_next x && p.condition ≡ false → ends_jump p j n ≡ true → jump_refuses j x ≡ false
-jump_ends x p e.returning n f q h = no_begin x n f (not_it _ h)
-jump_ends x p e.yielding n f q h = no_begin x n f (not_it _ h)
+jump_ends x p e.returning n f q h = no_begin x n f (not-true _ h)
+jump_ends x p e.yielding n f q h = no_begin x n f (not-true _ h)
 jump_ends x p (e.breaking None) n f q h = break_ends x p.condition n f q h
-jump_ends x p (e.breaking (Some w)) n f q h = break_ends x p.condition n f q (both_true _ _ h).0
+jump_ends x p (e.breaking (Some w)) n f q h = break_ends x p.condition n f q (and_parts _ _ h).0
 
 below_statement : (x : Edge) → is_statement x ≡ false → is_below_statement x ≡ false
 below_statement edge.BelowStatement h = absurd cc
@@ -315,12 +315,12 @@ pub leaf_shown : (p : Place) (c : Context) (k : Leaf) (l n : List Tok) → Agree
     → is_below c.edge && is_block_leaf k ≡ false → is_braceless c.edge && brace_at l ≡ false → ((b : _) → k ≡ e.block None b → brace_at l ≡ true)
     → leaf_refuses k c.next || leaf_misplaced c k ≡ false
 unfolding leaf_stands
-leaf_shown p c (e.path q w) l n m f g b z i = neither _ _ (path_brace c.next p.condition n f (place_brace p c m) (both_true _ _ g).0) b
-leaf_shown p c (e.full_range limits.HalfOpen) l n m f g b z i = neither _ _ (range_ends c.next p.condition n f (place_brace p c m) g) b
+leaf_shown p c (e.path q w) l n m f g b z i = or_from _ _ (path_brace c.next p.condition n f (place_brace p c m) (and_parts _ _ g).0) b
+leaf_shown p c (e.full_range limits.HalfOpen) l n m f g b z i = or_from _ _ (range_ends c.next p.condition n f (place_brace p c m) g) b
 leaf_shown p c (e.full_range limits.Closed) l n m f g b z i = absurd cc
-leaf_shown p c (e.bare_jump j) l n m f g b z i = neither _ _ (jump_ends c.next p j n f (place_brace p c m) g) b
+leaf_shown p c (e.bare_jump j) l n m f g b z i = or_from _ _ (jump_ends c.next p j n f (place_brace p c m) g) b
 leaf_shown p c (e.mac x) l n m f g b z i = ap (λ y. y && is_brace_delimiter x.delimiter) (below_statement c.edge m.no_statement)
-leaf_shown p c (e.block None x) l n m f g b z i = neither _ _ (and_one _ b) (and_one _ (ap (λ y. is_braceless c.edge && y) (sym (i x refl)) ∙ z))
+leaf_shown p c (e.block None x) l n m f g b z i = or_from _ _ (and_one _ b) (and_one _ (ap (λ y. is_braceless c.edge && y) (sym (i x refl)) ∙ z))
 leaf_shown p c (e.block (Some w) x) l n m f g b z i = b
 leaf_shown p c _ l n m f g b z i = b
 
@@ -331,7 +331,7 @@ prefix_placed c _ h = refl
 
 pub frame_shown : (p : Place) (c : Context) (k : Frame) (ks : _) → Agrees p c → frame_stands p k ks ≡ true → is_below c.edge && is_block_frame k ≡ false → frame_misplaced c k ≡ false
 unfolding frame_stands
-frame_shown p c (e.structure q w d) ks m g b = m.mode ∙ (or_false _ _ (not_it _ g)).0
+frame_shown p c (e.structure q w d) ks m g b = m.mode ∙ (or_parts _ _ (not-true _ g)).0
 frame_shown p c e.array ks m g b = b
 frame_shown p c _ ks m g b = b
 
@@ -371,8 +371,8 @@ swap false false = refl
 pub left_shown : (p : Place) (op : Infix) (x : Tree) → fits_left p op x ≡ true → FitsLeft op x × (rests p x ≡ false)
 unfolding fits_left
 left_shown p op x h =
-    let a = or_false _ _ (not_it _ h) in
-    let b = or_false _ _ a.1 in
+    let a = or_parts _ _ (not-true _ h) in
+    let b = or_parts _ _ a.1 in
     (record { no_range = a.0; no_chain = swap (compares x) (is_comparison op) ∙ b.0 }, b.1)
 
 pub prefix_head : (p : Place) (k : Prefix) → (prefix_place p k).head ≡ false
@@ -381,8 +381,8 @@ prefix_head p _ = refl
 
 pub base_below : (p : Place) (c : Context) (k : Trailer) (b : Tree) → Agrees p c → fits_base p k b ≡ true → is_below (base_context k c).edge && is_block_like b ≡ false
 unfolding fits_base
-base_below p c e.call b m h = no_block_held (is_below (base_context e.call c).edge) b (below_left c.edge p.head _ m.head m.no_statement (not_it _ (both_true _ _ h).1))
-base_below p c e.index b m h = no_block_held (is_below (base_context e.index c).edge) b (below_left c.edge p.head _ m.head m.no_statement (not_it _ (both_true _ _ h).1))
+base_below p c e.call b m h = no_block_held (is_below (base_context e.call c).edge) b (below_left c.edge p.head _ m.head m.no_statement (not-true _ (and_parts _ _ h).1))
+base_below p c e.index b m h = no_block_held (is_below (base_context e.index c).edge) b (below_left c.edge p.head _ m.head m.no_statement (not-true _ (and_parts _ _ h).1))
 base_below p c _ b m h = ap (λ z. z && is_block_like b) (dot_above c.edge)
 
 pub base_braceless : (k : Trailer) (x : Edge) → is_braceless (base_edge k x) ≡ is_braceless x

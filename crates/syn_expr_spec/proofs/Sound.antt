@@ -1,6 +1,7 @@
 -- What is read stands for the tokens.
 use Rattle.std.specs.Prelude.{not, ◌&&◌, if◌then◌else◌}
 use Rattle.std.proofs.Common.{◌≡◌, ℕ, zero, suc, true, false, ⊎_elim, List, [], ◌∷◌, drop, Option, Some, None, refl, ap, sym, subst}
+use Rattle.std.proofs.lemmas.Bool.{and_parts, not-true}
 use Rattle.syn_lexer.specs.declared.front.Delimiter.TheVariants as del
 use Rattle.syn_lexer.specs.declared.front.Delimiter.{Delimiter}
 use Rattle.syn_tokens.specs.Tok.{Tok, Inside, ident, literal, punct, group, toks, weight}
@@ -8,6 +9,7 @@ use Rattle.syn_tokens.specs.Front.{group_at, same_delimiter, is_empty}
 use Rattle.syn_lower_spec.specs.Form.{and_then}
 use Rattle.syn_lower_spec.specs.Mark.{brace_at}
 use Rattle.syn_lower_spec.specs.Part.{inner_attributes}
+use Rattle.syn_lower_spec.proofs.Weights.{some_is}
 use Rattle.syn_expr_spec.specs.declared.kinds.Place.{Place}
 use Rattle.syn_expr_spec.specs.Place.{plain, before_block}
 use Rattle.syn_expr_spec.specs.Tree as tr
@@ -16,7 +18,7 @@ use Rattle.syn_expr_spec.specs.Head.{leaf_form}
 use Rattle.syn_expr_spec.specs.Slot.{Slot, Holder, elements, conditions, scrutinees, arms, after, may_end, piece_form, piece_place, ending_at, frame_head, frame_holder, nothing, within, bare, is_chained, if_word, comma_or_end}
 use Rattle.syn_expr_spec.specs.Stands.{Node, is_leaf, is_frame, Content, holds_none, holds_within, holds_bare, Operands, no_more, one_more, short, block, arms_inside, Stands, ends, closes, ends_piece, ends_list, short_value, takes_block, leaf_stands, frame_stands, frame_ends, is_if_expr}
 use Rattle.syn_expr_spec.specs.Read.{Reading, standing, leaf_read, is_scrutinees, ended_by, if_expr_by, block_by, value_by, operand_of, armed, operands_by, operands, bare_operands, ended_list, content, framed_by, all_of, before}
-use Rattle.syn_expr_spec.proofs.Chains.{some_is, then_some, all_some, before_some, only_some, chosen, both_true, not_true}
+use Rattle.syn_expr_spec.proofs.Chains.{then_some, all_some, before_some, only_some, chosen}
 use Rattle.syn_expr_spec.proofs.Needs.{Heads}
 
 pub moved : {p : Place} {l : List Tok} (q r : Tree × List Tok) → q ≡ r → Node p l q.0 q.1 → Node p l r.0 r.1
@@ -97,7 +99,7 @@ module _ (H : Heads) where
         let (a, y, b) = then_some (ending_at k z.0 z.1) (λ c n. Some ((c, z.0), n)) c g in
         let s' = sound (piece_place k) m z.0 z.1 i in
         subst (λ (d : (Ending × Tree) × List Tok). Follows s l k d) (some_is b)
-        (λ ks o r. one_more e (not_true (is_silent k) d) s'.node (ends_a_piece k z.0 z.1 t s'.ending s'.closing) y r)
+        (λ ks o r. one_more e (not-true (is_silent k) d) s'.node (ends_a_piece k z.0 z.1 t s'.ending s'.closing) y r)
 
     operand_sound : (inner : Reading Children) → ((l : List Tok) (q : Children × List Tok) → inner l ≡ Some q → Operands conditions l q.0 q.1)
         → (s : Slot) (l m : List Tok) (k : Piece) (c : (Ending × Tree) × List Tok) → (piece_form s).behind k l ≡ Some m
@@ -159,7 +161,7 @@ module _ (H : Heads) where
     framed_sound p k l m q e h =
         let (z, i, f) = then_some (content rec (frame_holder k) m) _ q h in
         let (s, g) = only_some (frame_ends p k z.0 z.1 && frame_stands p k z.0) (Some (frame k z.0, z.1)) q f in
-        let (b, a) = both_true (frame_ends p k z.0 z.1) (frame_stands p k z.0) s in
+        let (b, a) = and_parts (frame_ends p k z.0 z.1) (frame_stands p k z.0) s in
         moved (frame k z.0, z.1) q (some_is g) (is_frame e (content_sound (frame_holder k) m z i) a b)
 
 -- ---- operands of a list, taken apart
@@ -182,7 +184,7 @@ element_by : (k : Piece) (l m h n o : List Tok) (c : Ending) (x : Tree) (ks : Ch
     → Operands (after k) n ks o → Element l c x ks o
 unfolding ending_at
 element_by tr.element l m h n o c x ks (v, w) d f g more =
-    let (a, b) = both_true (ends plain x h) (closes plain x h) f in
+    let (a, b) = and_parts (ends plain x h) (closes plain x h) f in
     record { middle = h; rest = n; node = subst (λ z. Node plain z x h) (sym w) d; ending = a; closing = b; behind = g; more = more }
 element_by _ l m h n o c x ks (v, w) d f g more = absurd cc
 

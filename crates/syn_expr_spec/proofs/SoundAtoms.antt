@@ -1,24 +1,26 @@
 -- What comes first, and trailers after it: what is read stands.
 use Rattle.std.specs.Prelude.{not, ◌&&◌, if◌then◌else◌, is_some}
 use Rattle.std.proofs.Common.{◌≡◌, Bool, true, false, cond, ⊎_elim, List, [], ◌∷◌, ◌++◌, drop, Option, Some, None, refl, ap, sym, ◌∙◌, subst}
+use Rattle.std.proofs.lemmas.Bool.{and_parts, or_parts}
 use Rattle.syn_lexer.specs.declared.front.Delimiter.TheVariants as del
 use Rattle.syn_lexer.specs.declared.front.Delimiter.{Delimiter}
 use Rattle.syn_tokens.specs.Tok.{Tok, group, toks}
 use Rattle.syn_tokens.specs.Front.{group_at, is_empty}
 use Rattle.syn_lower_spec.specs.Form.{Outcome, and_then}
-use Rattle.syn_lower_spec.specs.Mark.{star, bang, and, sign_at, brace_at, round_at, semi, underscore}
+use Rattle.syn_lower_spec.specs.Mark.{star, bang, and, sign_at, brace_at, round_at, semi}
 use Rattle.syn_lower_spec.specs.Part.{is_bare, macro_end, QPathTree, MacroEnd}
 use Rattle.syn_lower_spec.proofs.Same.{same_toks-true}
+use Rattle.syn_lower_spec.proofs.Weights.{some_is}
 use Rattle.syn_expr_spec.specs.declared.kinds.Place.{Place}
 use Rattle.syn_expr_spec.specs.Place.{plain}
 use Rattle.syn_expr_spec.specs.Path.{invisible_at, expr_path}
 use Rattle.syn_expr_spec.specs.Tree as tr
 use Rattle.syn_expr_spec.specs.Tree.{Tree, Children, ClosureHead, Prefix, Piece, Ending, leaf, paren, prefixed, frame, none, child, is_one}
-use Rattle.syn_expr_spec.specs.Head.{minus, let_word, raw_at, raw_word, leaf_form, prefix_form, closure_head, to_named, from_closure, label, named, range_at, jump_at, continue_word, unsafe_word, leaf_at}
+use Rattle.syn_expr_spec.specs.Head.{minus, let_word, raw_at, raw_word, leaf_form, prefix_form, closure_head, to_named, from_closure, label, named, range_at, jump_at, leaf_at}
 use Rattle.syn_expr_spec.specs.Slot.{elements, single, fields, piece_form, ending_at, within, if_word, while_word, for_head, match_word, comma_or_end}
 use Rattle.syn_expr_spec.specs.Stands.{Node, is_leaf, is_become, is_paren, is_prefixed, is_frame, Content, holds_within, no_more, one_more, Stands, ends, closes, ends_list, leaf_stands, prefix_stands, prefix_place, frame_stands, frame_ends, has_no_comma}
 use Rattle.syn_expr_spec.specs.Read.{Reading, standing, ended_by, bare_operands, content, framed_by, all_of, before, rounded, round_read, repeated_by, elements_by, bracketed, bracket_inside, bracket_read, structured, structure_read, named_by, named_read, unled, led, prefix_read, looped, loop_read, verbatim_from, become_word, is_taken, taken, prefix_at, loop_head_at, group_read, atom}
-use Rattle.syn_expr_spec.proofs.Chains.{some_is, then_some, all_some, before_some, only_some, chosen, both_true, neither}
+use Rattle.syn_expr_spec.proofs.Chains.{then_some, all_some, before_some, only_some, chosen}
 use Rattle.syn_expr_spec.proofs.GroupForms.{unbraced, braced}
 use Rattle.syn_expr_spec.proofs.Needs.{Heads}
 use Rattle.syn_expr_spec.specs.Front.{bracket_at}
@@ -34,8 +36,8 @@ pub record NoPrefix (l : List Tok) : Type 0 where
 pub no_prefix : (l : List Tok) → prefix_at l ≡ false → NoPrefix l
 unfolding prefix_at
 no_prefix l h =
-    let a = neither (star.at l) _ h in let b = neither (bang.at l) _ a.1 in let c = neither (minus.at l) _ b.1 in let d = neither (and.at l) _ c.1 in
-    let f = neither (range_at l) _ d.1 in let g = neither (let_word.at l) _ f.1 in let i = neither (jump_at l) _ g.1 in
+    let a = or_parts (star.at l) _ h in let b = or_parts (bang.at l) _ a.1 in let c = or_parts (minus.at l) _ b.1 in let d = or_parts (and.at l) _ c.1 in
+    let f = or_parts (range_at l) _ d.1 in let g = or_parts (let_word.at l) _ f.1 in let i = or_parts (jump_at l) _ g.1 in
     record { no_range = f.0; no_jump = i.0 }
 
 pub named_reads : (l : List Tok) → NoLeaf l → NoPrefix l → leaf_form.reads l ≡ named.reads l
@@ -116,7 +118,7 @@ module _ (H : Heads) (rec : Place → Reading Tree) (sound : (p : Place) (l : Li
   rounded_sound p l n (child k c x ks) d = by_test _ refl
     where
       by_test : (b : Bool) → (is_one (child k c x ks) && has_no_comma (child k c x ks)) ≡ b → Node p l (if b then paren false x else frame tr.tuple (child k c x ks)) n
-      by_test true h = let (a, b) = both_true (is_one (child k c x ks)) _ h in paren_sound p l n x k c ks a b d
+      by_test true h = let (a, b) = and_parts (is_one (child k c x ks)) _ h in paren_sound p l n x k c ks a b d
       by_test false h = is_frame refl d (rw h refl) refl
 
   round_sound : (p : Place) (l : List Tok) (q : Tree × List Tok) → round_read rec l ≡ Some q → Node p l q.0 q.1
@@ -169,7 +171,7 @@ module _ (H : Heads) (rec : Place → Reading Tree) (sound : (p : Place) (l : Li
       let (z, j, k) = then_some (bare_operands rec fields g.0) (λ ks o. structured rec p q (not (is_empty o)) o ks g.1) r f in
       let d = not (is_empty z.1) in
       let (b, c) = only_some (ends_list d z.1 && frame_stands p (tr.structure q.0 q.1 d) z.0) (Some (frame (tr.structure q.0 q.1 d) z.0, g.1)) r k in
-      let (u, v) = both_true (ends_list d z.1) _ b in
+      let (u, v) = and_parts (ends_list d z.1) _ b in
       moved (frame (tr.structure q.0 q.1 d) z.0, g.1) r (some_is c) (is_frame a (holds_within i (bare_sound H rec sound fields g.0 z j) u) v refl)
 
   named_sound : (p : Place) (l : List Tok) (r : Tree × List Tok) → leaf_at l ≡ false → prefix_at l ≡ false → named_read rec p l ≡ Some r → Node p l r.0 r.1

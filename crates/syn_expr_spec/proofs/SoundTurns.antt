@@ -15,9 +15,10 @@ use Rattle.syn_expr_spec.specs.Tree as tr
 use Rattle.syn_expr_spec.specs.Tree.{Tree, Postfix, Trailer, leaf, attributed, infixed, postfixed, tail, postfix_op}
 use Rattle.syn_expr_spec.specs.Read.{Reading, content, is_taken, taken, atom, trailed_by, indexed_by, dotted_by, trailed, trail, core, attributed_by, read_attributed, verbatim_of, operand, postfix_made, infix_read, longer, closing, turn, climb, at_place, stop, taken_by, taken_at, next_operator, operation}
 use Rattle.syn_expr_spec.proofs.Callees.{carries_it}
-use Rattle.syn_expr_spec.proofs.Chains.{some_is, then_some, only_some, chosen}
+use Rattle.syn_expr_spec.proofs.Chains.{then_some, only_some, chosen}
 use Rattle.syn_expr_spec.proofs.Needs.{Heads}
 use Rattle.syn_lower_spec.specs.Mark.{pound, round_at}
+use Rattle.syn_lower_spec.proofs.Weights.{some_is}
 use Rattle.syn_expr_spec.specs.declared.kinds.Limits.TheVariants as limits
 use Rattle.syn_expr_spec.specs.declared.kinds.Infix.TheVariants as inf
 use Rattle.syn_expr_spec.specs.declared.kinds.Level.{Level}

@@ -1,6 +1,7 @@
 -- The tests of a node hold for its own tokens, from the class of what is after.
 use Rattle.std.proofs.Common.{◌≡◌, Bool, true, false, not, ◌&&◌, ◌||◌, List, [], ◌∷◌, drop, Some, None, refl, sym, ◌∙◌, ap, codes}
-use Rattle.std.proofs.Math.Bool.{and-false}
+use Rattle.std.proofs.Math.Bool.{and-false, or-true, and-true}
+use Rattle.std.proofs.lemmas.Bool.{or_parts, and_parts, not-false}
 use Rattle.syn_tokens.specs.Tok.{Tok}
 use Rattle.syn_tokens.specs.Front.{is_empty}
 use Rattle.syn_lower_spec.specs.Tree as t
@@ -27,9 +28,8 @@ use Rattle.syn_expr_spec.specs.Rule.{ends_range_next, jump_refuses, leaf_refuses
 use Rattle.syn_expr_spec.specs.Path.{is_try_alone, is_word_alone}
 use Rattle.syn_expr_spec.specs.Stands.{ends_jump, leaf_stands, prefix_stands, infix_stands, postfix_stands, postfix_behind}
 use Rattle.syn_expr_spec.specs.Tree as e
-use Rattle.syn_expr_spec.specs.Tree.{Tree, Leaf, Prefix, Postfix, Jump, Trailer, leaf, paren, attributed, prefixed, infixed, postfixed, tail, frame, postfix_op, postfix_own}
+use Rattle.syn_expr_spec.specs.Tree.{Tree, Leaf, Prefix, Postfix, Jump, Trailer, leaf, infixed, postfixed, tail, postfix_op, postfix_own}
 use Rattle.syn_expr_spec.specs.WellFormed.{leaf_fits, prefix_fits, infix_fits, postfix_fits}
-use Rattle.syn_expr_spec.proofs.Bools.{or_false, both_true, not_true, or_true, and_true}
 use Rattle.syn_expr_spec.proofs.HeadBack.{prefix_stops, label_stops}
 use Rattle.syn_expr_spec.proofs.HeadForms.{leaf_stops}
 use Rattle.syn_expr_spec.proofs.Obeys.{Obeys}
@@ -64,7 +64,7 @@ monotone false false false false w h = absurd cc
 monotone _ _ _ _ w h = refl
 
 last_true : (a b c d w : Bool) → w ≡ true → a || (b || (c || (d || w))) ≡ true
-last_true a b c d w h = rw (h, or_true d, or_true c, or_true b) (or_true a)
+last_true a b c d w h = rw (h, or-true d, or-true c, or-true b) (or-true a)
 
 stop_signs : List Tok → Bool
 stop_signs l =
@@ -106,8 +106,8 @@ jump_ends p c (e.breaking w) l m s h = label w (go (begins_next c.next) refl)
     go : (b : Bool) → begins_next c.next ≡ b → not (begins_expr l) || (p.condition && brace_at l) ≡ true
     go false e = rw (ap (λ x. x.begins) s.same, e) refl
     go true e =
-        let b : is_block_next c.next ≡ true = not_true _ (sym (ap (λ x. x && not (is_block_next c.next)) e) ∙ h) in
-        rw (block_mode p c m b, brace_is c.next l s, b) (or_true (not (begins_expr l)))
+        let b : is_block_next c.next ≡ true = not-false _ (sym (ap (λ x. x && not (is_block_next c.next)) e) ∙ h) in
+        rw (block_mode p c m b, brace_is c.next l s, b) (or-true (not (begins_expr l)))
 
     label : (w : _) → not (begins_expr l) || (p.condition && brace_at l) ≡ true → ends_jump p (e.breaking w) l ≡ true
     label None h = h
@@ -116,14 +116,14 @@ jump_ends p c (e.breaking w) l m s h = label w (go (begins_next c.next) refl)
 pub leaf_there : (p : Place) (c : Context) (k : Leaf) (l : List Tok) → leaf_fits k ≡ true → Meets p c → Shows c.next l → leaf_refuses k c.next ≡ false → leaf_stands p k l ≡ true
 unfolding leaf_stands
 leaf_there p c (e.path q w) l f m s h =
-    let t = both_true _ (not (is_try_alone q w)) f in
+    let t = and_parts _ (not (is_try_alone q w)) f in
     rw (brace_is c.next l s, bare_path p.condition (is_block_next c.next) (is_brace_next c.next) (block_mode p c m) h, t.1, ap (λ x. x.pound) s.same)
     (no_pound (is_word_alone (codes "builtin") q w))
   where
     no_pound : (b : Bool) → not (b && false) ≡ true
     no_pound true = refl
     no_pound false = refl
-leaf_there p c (e.full_range limits.HalfOpen) l f m s h = open_ends p c l m s (not_true _ h)
+leaf_there p c (e.full_range limits.HalfOpen) l f m s h = open_ends p c l m s (not-false _ h)
 leaf_there p c (e.full_range limits.Closed) l f m s h = absurd cc
 leaf_there p c (e.bare_jump j) l f m s h = jump_ends p c j l m s h
 leaf_there p c _ l f m s h = refl
@@ -155,7 +155,7 @@ braceless_base e.try_expr edge.NoBrace h = refl
 braceless_base k x h = absurd cc
 
 pub no_brace : (v : Level) (c : Context) (t : Tree) → is_braceless c.edge ≡ true → Obeys v c t → begins_brace t ≡ false
-no_brace v c (leaf (e.block None b)) i h = absurd (let f : true ≡ false = sym i ∙ (or_false (is_below c.edge) (is_braceless c.edge) h).1 in cc)
+no_brace v c (leaf (e.block None b)) i h = absurd (let f : true ≡ false = sym i ∙ (or_parts (is_below c.edge) (is_braceless c.edge) h).1 in cc)
 no_brace v c (leaf (e.block (Some w) b)) i h = refl
 no_brace v c (infixed x k y) i h = no_brace v (left_context k c) x (braceless_left c.edge i) h.1
 no_brace v c (postfixed x k) i h = no_brace v (left_context (postfix_op k) c) x (braceless_left c.edge i) h.1
@@ -193,7 +193,7 @@ prefix_there p c (e.jump (e.breaking None)) t l b d f m h r =
 prefix_there p c (e.jump (e.breaking (Some w))) t l b d f m h r =
     let i = free_of_brace p c (prefix_context (e.jump (e.breaking (Some w))) c) _ true b t l m refl h r.brace refl in
     rw (i, r.begins) refl
-prefix_there p c (e.closure x) t l b d f m h r = (both_true _ (is_default x.output) f).1
+prefix_there p c (e.closure x) t l b d f m h r = (and_parts _ (is_default x.output) f).1
 prefix_there p c _ t l b d f m h r = refl
 
 output_stopped : (o : ReturnTree) (l : List Tok) → is_default o ≡ true → sign_at (codes "->") l ≡ false → output_stops true o l ≡ true
@@ -204,7 +204,7 @@ pub prefix_stopped : (k : Prefix) (l : List Tok) (a b d : Bool) → prefix_fits 
 prefix_stopped (e.unary op) l a b d f r h = refl
 prefix_stopped (e.reference false) l a b d f r h = rw (r.no_mut, r.no_raw) refl
 prefix_stopped (e.jump (e.breaking None)) l a b d f r h = rw (r.label, h) refl
-prefix_stopped (e.closure x) l a b d f r h = output_stopped x.output l (both_true _ (is_default x.output) f).1 r.no_arrow
+prefix_stopped (e.closure x) l a b d f r h = output_stopped x.output l (and_parts _ (is_default x.output) f).1 r.no_arrow
 prefix_stopped _ l a b d f r h = refl
 
 -- ---- after an operand
@@ -220,7 +220,7 @@ infix_there p c _ t l b d f m h r = refl
 pub postfix_there : (p : Place) (c : Context) (k : Postfix) (l : List Tok) → postfix_fits k ≡ true → Meets p c → Shows c.next l → postfix_refuses k c.next ≡ false → postfix_stands p k l ≡ true
 unfolding postfix_stands
 postfix_there p c (e.cast x) l f m s h = refl
-postfix_there p c (e.range_from limits.HalfOpen) l f m s h = open_ends p c l m s (not_true _ h)
+postfix_there p c (e.range_from limits.HalfOpen) l f m s h = open_ends p c l m s (not-false _ h)
 postfix_there p c (e.range_from limits.Closed) l f m s h = absurd cc
 
 type_ends : (n : Next) (x : TypeTree) (l : List Tok) → Shows n l → is_less_next n && ends_open x ≡ false → is_round_next n ≡ false → type_stops false x l ≡ true
@@ -235,7 +235,7 @@ pub postfix_back : (c : Context) (b : Tree) (k : Postfix) (l : List Tok) → pos
 postfix_back c b (e.cast x) l f s h g = parts_read_back.types false x l f (type_ends c.next x l s h (round g.none))
   where
     round : is_round_next c.next && true ≡ false → is_round_next c.next ≡ false
-    round h = sym (and_true (is_round_next c.next)) ∙ h
+    round h = sym (and-true (is_round_next c.next)) ∙ h
 postfix_back c b (e.range_from limits.HalfOpen) l f s h g = refl
 postfix_back c b (e.range_from limits.Closed) l f s h g = refl
 

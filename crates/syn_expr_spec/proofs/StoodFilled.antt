@@ -1,13 +1,14 @@
 -- What stands has its commas and dots: nothing is filled in.
-use Rattle.std.proofs.Common.{◌≡◌, ℕ, Bool, true, false, not, ◌||◌, ◌&&◌, cond, List, [], ◌∷◌, ◌++◌, ◌∙◌, drop, Some, None, refl, sym, subst, ap, arith}
+use Rattle.std.proofs.Common.{◌≡◌, ℕ, Bool, true, false, not, ◌||◌, ◌&&◌, cond, List, [], ◌∷◌, ◌++◌, ◌∙◌, drop, Option, Some, None, refl, sym, subst, ap, arith}
 use Rattle.std.proofs.Math.Bool.{and-false}
+use Rattle.std.proofs.lemmas.Bool.{and_from}
 use Rattle.syn_lexer.specs.declared.front.Delimiter.TheVariants as del
 use Rattle.syn_tokens.specs.Tok.{Tok, weight}
 use Rattle.syn_tokens.specs.Input.{IsTail}
 use Rattle.syn_tokens.specs.Front.{is_empty}
 use Rattle.syn_lower_spec.specs.Form.{Outcome}
 use Rattle.syn_lower_spec.specs.Mark.{comma}
-use Rattle.syn_lower_spec.specs.Pat.{a_name, an_index}
+use Rattle.syn_lower_spec.specs.Pat.{a_name, an_index, dots}
 use Rattle.syn_lower_spec.proofs.Weights.{some_is}
 use Rattle.syn_expr_spec.specs.declared.kinds.Level.TheVariants as lev
 use Rattle.syn_expr_spec.specs.declared.kinds.Place.{Place}
@@ -19,10 +20,8 @@ use Rattle.syn_expr_spec.specs.Slot.{Slot, Holder, after, piece_form, ending_at,
 use Rattle.syn_expr_spec.specs.Stands.{Node, is_paren, is_attributed_by, is_prefixed, is_infixed, is_postfixed, is_tail, is_indexed, is_frame, Content, holds_none, holds_within, holds_bare, Operands, no_more, one_more, short, block, arms_inside, fields_of, short_value, takes_block, ends_list, frame_stands, has_no_comma}
 use Rattle.syn_expr_spec.specs.Rule.{place_asks, put, bare}
 use Rattle.syn_expr_spec.specs.Printed.{OwnSpelling, in_plain, parenthesize_attributed}
-use Rattle.syn_expr_spec.proofs.Bools.{both}
 use Rattle.syn_expr_spec.proofs.FillIns.{filled, children_filled, filled_stays, comma_there, dots_there}
 use Rattle.syn_expr_spec.proofs.HeadMoves.{IsLess, left, grouped}
-use Rattle.syn_expr_spec.proofs.HeadComplete.{unwritten_complete}
 use Rattle.syn_expr_spec.proofs.Lesses.{here, node_less, operands_left, short_less}
 use Rattle.syn_expr_spec.proofs.SoundAtoms.{no_some}
 use Rattle.syn_expr_spec.proofs.NoneRedundant.{pairs_there}
@@ -105,9 +104,18 @@ comma_ok e.guarded e.no_ending x h n o ks last g d f = arm_comma s.arms x n o ks
 comma_ok (e.arm ats p) e.no_ending x h n o ks last g d f = arm_comma s.arms x n o ks d (is_empty n) refl (arm_ended x h n g)
 comma_ok _ e.no_ending x h n o ks last g d f = refl
 
+-- a rest that isn't written is behind nothing
+unwritten : (l n : List Tok) → (piece_form s.fields).behind (e.rest false) l ≡ Some n → ⊥
+unfolding piece_form
+unwritten l n g = by_dots (dots.at l) g
+  where
+    by_dots : (b : Bool) → cond {A = Option (List Tok)} b (cond b None None) None ≡ Some n → ⊥
+    by_dots true g = absurd cc
+    by_dots false g = absurd cc
+
 no_rest : (v : Slot) (l m : List Tok) → (piece_form v).behind (e.rest false) l ≡ Some m → ⊥
 unfolding piece_form
-no_rest s.fields l m h = unwritten_complete l m h
+no_rest s.fields l m h = unwritten l m h
 no_rest s.otherwise l m h = no_some _ m h
 no_rest s.bodies l m h = no_some _ m h
 no_rest _ l m h = absurd cc
@@ -170,10 +178,10 @@ mutual
   node_filled (is_paren d a c) = node_filled d
   node_filled (is_attributed_by b f d) = node_filled d
   node_filled (is_prefixed h g d a c) = node_filled d
-  node_filled (is_infixed d c f i t g r a b q) = both _ _ (node_filled d) (node_filled r)
+  node_filled (is_infixed d c f i t g r a b q) = and_from _ _ (node_filled d) (node_filled r)
   node_filled (is_postfixed d c f i t b g a) = node_filled d
   node_filled (is_tail {b = b} {k = k} {is = is} d f t c i) =
-      both _ _ (subst (λ z. filled z ≡ true) (sym i) (fields_filled b is (node_filled d))) (content_filled c false never (and-false (holds_scrutinee (s.trailer_holder k))))
+      and_from _ _ (subst (λ z. filled z ≡ true) (sym i) (fields_filled b is (node_filled d))) (content_filled c false never (and-false (holds_scrutinee (s.trailer_holder k))))
   node_filled (is_indexed {b = b} {i = i} {is = is} d f t j) = subst (λ z. filled z ≡ true) (sym j) (fields_filled b (i ∷ is) (node_filled d))
   node_filled (is_frame {p = p} {k = k} {ks = ks} a c g e) = by_frame p k ks g (content_filled c)
   node_filled _ = refl
@@ -186,13 +194,13 @@ mutual
   operands_filled : {v : Slot} {l o : List Tok} {ks : Children} → Operands v l ks o → (last : Bool) → (last ≡ true → is_empty o ≡ false) → (is_scrutinees v && last) ≡ false → children_filled last ks ≡ true
   operands_filled (no_more h) last f w = refl
   operands_filled (one_more {s = v} {l = l} {m = m} {h = h} {n = n} {o = o} {k = k} {c = c} {x = x} {ks = ks} p q d a g more) last f w =
-      both _ _ (both _ _ (dots_ok v k l m p) (comma_ok k c x h n o ks last g more f)) (both _ _ (node_filled d) (operands_filled more last f (later k last)))
+      and_from _ _ (and_from _ _ (dots_ok v k l m p) (comma_ok k c x h n o ks last g more f)) (and_from _ _ (node_filled d) (operands_filled more last f (later k last)))
   operands_filled (short {s = v} {l = l} {m = m} {n = n} {o = o} {k = k} {c = c} {x = x} {ks = ks} p q g more) last f w =
-      both _ _ (both _ _ (dots_ok v k l m p) (comma_ok k c x m n o ks last g more f)) (both _ _ (short_filled k x q) (operands_filled more last f (later k last)))
+      and_from _ _ (and_from _ _ (dots_ok v k l m p) (comma_ok k c x m n o ks last g more f)) (and_from _ _ (short_filled k x q) (operands_filled more last f (later k last)))
   operands_filled (block {s = v} {l = l} {m = m} {i = i} {k = k} {ks = ks} p q g more) last f w =
-      both _ _ (both _ _ (dots_ok v k l m p) (block_comma k (e.plain_block i) (not (is_none ks)) last q)) (operands_filled more last f (later k last))
+      and_from _ _ (and_from _ _ (dots_ok v k l m p) (block_comma k (e.plain_block i) (not (is_none ks)) last q)) (operands_filled more last f (later k last))
   operands_filled (arms_inside d a c g i more) last f w =
-      both _ _ (node_filled d) (operands_filled more last (λ j. let a : false ≡ true = sym w ∙ j in absurd cc) refl)
+      and_from _ _ (node_filled d) (operands_filled more last (λ j. let a : false ≡ true = sym w ∙ j in absurd cc) refl)
 
 pub stood_filled : {p : Place} {l n : List Tok} {x : Tree} → Node p l x n → fill x ≡ x
 stood_filled {x = x} d = filled_stays x (node_filled d)

@@ -1,11 +1,11 @@
 -- Summaries are right.
-use Rattle.std.specs.Prelude.{not, ◌&&◌, ◌||◌, nat_eq, if◌then◌else◌, get_or, Some, None}
+use Rattle.std.specs.Prelude.{not, ◌&&◌, ◌||◌, nat_eq, if◌then◌else◌, get_or, None}
 use Rattle.std.proofs.Common.{◌≡◌, ℕ, zero, suc, ◌+◌, ◌*◌, ◌/◌, ◌^◌, ◌<◌, ◌≤◌, Bool, true, false, List, [], ◌∷◌, ◌++◌, length, refl, sym, ◌∙◌, ap, arith}
 use Rattle.std.specs.Int.{bit_at}
 use Rattle.std.proofs.lemmas.Nat.Bits.{bit_at-zero, bit_at-suc, bit_at_lowest}
 use Rattle.std.proofs.lemmas.List.{length-append}
 use Rattle.std.proofs.Math.Nat.{pow-suc}
-use Rattle.std.proofs.Math.Bool.{and-false}
+use Rattle.std.proofs.Math.Bool.{and-false, or-false, and-true, and_assoc}
 use Rattle.syn_expr_spec.specs.declared.kinds.Infix.{Infix}
 use Rattle.syn_expr_spec.specs.declared.kinds.Level.{Level}
 use Rattle.syn_expr_spec.specs.declared.kinds.Level.TheVariants as lev
@@ -66,14 +66,6 @@ none_has n = ap (λ x. nat_eq x 1) (bit_at-zero (index n))
 
 -- ---- summaries
 
-or_false : (b : Bool) → (b || false) ≡ b
-or_false true = refl
-or_false false = refl
-
-and_true : (b : Bool) → (b && true) ≡ b
-and_true true = refl
-and_true false = refl
-
 -- a summary says of the tree what the rule asks
 pub record Summarizes (x : Summary) (t : Tree) : Type 0 where
   pub low_is : x.low ≡ low t
@@ -87,20 +79,16 @@ pub record Summarizes (x : Summary) (t : Tree) : Type 0 where
   pub labelled_is : x.labelled ≡ labelled t
   pub misplaced_is : (c : Context) → misplaced_by c x.sort ≡ misplaced c t
 
-and_and : (a b c : Bool) → ((a && b) && c) ≡ (a && (b && c))
-and_and true b c = refl
-and_and false b c = refl
-
 neither : (a b : Bool) → not (a || b) ≡ not a && not b
 neither true b = refl
 neither false b = refl
 
 braced_sorted : (b : Bool) (c : Context) → misplaced_by c (if b then sort.BracedMacro else sort.Other) ≡ is_below_statement c.edge && b
-braced_sorted true c = sym (and_true _)
+braced_sorted true c = sym (and-true _)
 braced_sorted false c = sym (and-false _)
 
 block_sorted : (b : Bool) (c : Context) → misplaced_by c (if b then sort.BlockLike else sort.Other) ≡ is_below c.edge && b
-block_sorted true c = sym (and_true _)
+block_sorted true c = sym (and-true _)
 block_sorted false c = sym (and-false _)
 
 leaf_sorted : (k : Leaf) (c : Context) → misplaced_by c (leaf_sort k) ≡ leaf_misplaced c k
@@ -114,10 +102,10 @@ prefix_sorted _ c = refl
 
 frame_sorted : (k : Frame) (c : Context) → misplaced_by c (frame_sort k) ≡ frame_misplaced c k
 frame_sorted (e.structure q p d) c = refl
-frame_sorted e.if_expr c = sym (and_true _)
-frame_sorted (e.while_loop w) c = sym (and_true _)
-frame_sorted (e.for_loop w p) c = sym (and_true _)
-frame_sorted e.match_expr c = sym (and_true _)
+frame_sorted e.if_expr c = sym (and-true _)
+frame_sorted (e.while_loop w) c = sym (and-true _)
+frame_sorted (e.for_loop w p) c = sym (and-true _)
+frame_sorted e.match_expr c = sym (and-true _)
 frame_sorted _ c = sym (and-false _)
 
 below_attributed : (x : Edge) → is_below x ≡ is_below (attributed_edge x)
@@ -165,7 +153,7 @@ pub left_same : (k : Infix) (x : Summary) (t : Tree) → Summarizes x t → left
 left_same k x t h = rw (h.range_is, h.comparison_is, h.ends_is (class_of k)) refl
 
 pub base_same : (k : Trailer) (x : Summary) (t : Tree) → Summarizes x t → base_wrapped_by k x ≡ base_wrapped k t (bad t (next_of k))
-base_same k x t h = rw (h.base_is, h.named_is, h.ends_is (next_of k), and_and (carries t) (not (is_attributed t || is_pounded t)) (not (is_call k && is_named_field t))) refl
+base_same k x t h = rw (h.base_is, h.named_is, h.ends_is (next_of k), and_assoc (carries t) (not (is_attributed t || is_pounded t)) (not (is_call k && is_named_field t))) refl
 
 prefix_same : (k : Prefix) (x : Summary) (t : Tree) → Summarizes x t → (is_bare_break k && x.labelled) ≡ (is_bare_break k && labelled t)
 prefix_same k x t h = rw h.labelled_is refl
@@ -191,7 +179,7 @@ leaf_summarized k = record {
   operation_is = refl;
   range_is = refl;
   comparison_is = refl;
-  carries_is = sym (or_false _);
+  carries_is = sym (or-false _);
   base_is = neither _ _;
   named_is = refl;
   labelled_is = refl;
@@ -219,12 +207,12 @@ prefix_summarized k gs x t h = record {
   ends_is = λ n. set_has (λ m. prefix_end_by k x (prefix_next k m)) n
       ∙ end_same (prefix_level k) x t (prefix_next k n) _ (place_wrapped (prefix_level k) t (prefix_next k n) (low t) (bad t (prefix_next k n)) || (is_bare_break k && labelled t)) h
       (rw (wrapped_same (prefix_level k) x t (prefix_next k n) h, prefix_same k x t h) refl)
-      ∙ sym (or_false _);
+      ∙ sym (or-false _);
   operation_is = refl;
   range_is = refl;
   comparison_is = refl;
-  carries_is = sym (or_false _);
-  base_is = sym (and_true _);
+  carries_is = sym (or-false _);
+  base_is = sym (and-true _);
   named_is = refl;
   labelled_is = refl;
   misplaced_is = prefix_sorted k;
@@ -235,7 +223,7 @@ infix_summarized k x y t u h g = record {
   low_is = left_low_same k x t h;
   ends_is = λ n. set_has (λ m. end_by (level k) y m (wrapped_by (level k) y m)) n
       ∙ end_same (level k) y u n _ (place_wrapped (level k) u n (low u) (bad u n)) g (wrapped_same (level k) y u n g)
-      ∙ sym (or_false _);
+      ∙ sym (or-false _);
   operation_is = refl;
   range_is = refl;
   comparison_is = refl;

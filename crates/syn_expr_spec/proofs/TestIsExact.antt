@@ -1,5 +1,6 @@
 -- The test of well-formed trees tells just those whose parts are read back.
 use Rattle.std.proofs.Common.{◌≡◌, Bool, true, false, cond, not, ◌||◌, ◌⊎◌, inl, inr, List, [], ◌∷◌, Option, Some, None, refl, sym, ◌∙◌, ap, subst}
+use Rattle.std.proofs.lemmas.Bool.{or_left, and_from, and_parts, not-true}
 use Rattle.syn_lower_spec.specs.declared.label.PathStyle.TheVariants as style
 use Rattle.syn_lower_spec.specs.Tree.{AttributeTree, LifetimesTree}
 use Rattle.syn_tokens.specs.Tok.{Tok}
@@ -13,6 +14,7 @@ use Rattle.syn_lower_spec.specs.Pat.{PatTree, closure_arg}
 use Rattle.syn_lower_spec.specs.PatOwn.{pat_own}
 use Rattle.syn_lower_spec.proofs.Exact.{tests_exact}
 use Rattle.syn_lower_spec.proofs.PatWholeComplete.{pattern_tests_exact}
+use Rattle.syn_lower_spec.proofs.Weights.{some_is}
 use Rattle.syn_expr_spec.specs.declared.kinds.Limits.TheVariants as limits
 use Rattle.syn_expr_spec.specs.declared.kinds.Infix.{Infix}
 use Rattle.syn_expr_spec.specs.declared.kinds.Infix.TheVariants as inf
@@ -23,15 +25,11 @@ use Rattle.syn_expr_spec.specs.Slot as s
 use Rattle.syn_expr_spec.specs.Slot.{Slot, after, may_end, piece_form, ending_at, frame_holder, trailer_holder}
 use Rattle.syn_expr_spec.specs.WellFormed.{leaf_fits, inputs_fit, head_fits, prefix_fits, infix_fits, postfix_fits, trailer_fits, trailer_slot, frame_slot, frame_fits, piece_fits, ending_fits, may_stop, keeps_block, well, children_well, is_well_formed}
 use Rattle.syn_expr_spec.specs.IsWellFormed.{SomeReadBack, AllReadBack, LeafReadBack, HeadReadBack, PrefixReadBack, PostfixReadBack, TrailerReadBack, FrameReadBack, PieceReadBack, EndingReadBack, first_slot, IsWellFormed, AreWellFormed, TestIsExact}
-use Rattle.syn_expr_spec.proofs.Bools.{both, both_true, not_it}
-use Rattle.syn_expr_spec.proofs.Chains.{some_is, then_some}
+use Rattle.syn_expr_spec.proofs.Chains.{then_some}
 use Rattle.syn_expr_spec.proofs.HeadPlaces.{ending_stops, ending_back}
 
 is_not : (a : Bool) → a ≡ false → not a ≡ true
 is_not a e = rw e refl
-
-or_left : (a b : Bool) → a ≡ true → a || b ≡ true
-or_left a b e = rw e refl
 
 or_right : (a b : Bool) → b ≡ true → a || b ≡ true
 or_right true b e = refl
@@ -64,15 +62,15 @@ some_pass (Some x) h = (tests_exact.bound_lifetimes x).0 h
 
 inputs_pass : (ps : List PatTree) → AllReadBack closure_arg pat_own ps → inputs_fit ps ≡ true
 inputs_pass [] h = refl
-inputs_pass (p ∷ ps) h = both _ _ ((pattern_tests_exact.closure_args p).0 h.0) (inputs_pass ps h.1)
+inputs_pass (p ∷ ps) h = and_from _ _ ((pattern_tests_exact.closure_args p).0 h.0) (inputs_pass ps h.1)
 
 head_passes : (c : ClosureHead) → HeadReadBack c → head_fits c ≡ true
 head_passes c (f, g, h, i, j) =
-    both _ _ (is_not _ f) (both _ _ (some_pass c.lifetimes g) (both _ _ (inputs_pass c.inputs h) (both _ _ i ((tests_exact.outputs true c.output).0 j))))
+    and_from _ _ (is_not _ f) (and_from _ _ (some_pass c.lifetimes g) (and_from _ _ (inputs_pass c.inputs h) (and_from _ _ i ((tests_exact.outputs true c.output).0 j))))
 
 leaf_passes : (k : Leaf) → LeafReadBack k → leaf_fits k ≡ true
 leaf_passes (e.lit x) h = (tests_exact.unsigned_literals x).0 h
-leaf_passes (e.path q p) h = both _ _ ((tests_exact.qualified_paths style.Expr (q, p)).0 h.0) (is_not _ h.1)
+leaf_passes (e.path q p) h = and_from _ _ ((tests_exact.qualified_paths style.Expr (q, p)).0 h.0) (is_not _ h.1)
 leaf_passes (e.mac m) h = (tests_exact.macros m).0 h
 leaf_passes (e.full_range limits.HalfOpen) h = refl
 leaf_passes (e.full_range limits.Closed) h = absurd cc
@@ -85,7 +83,7 @@ leaf_passes _ h = refl
 
 prefix_passes : (k : Prefix) → PrefixReadBack k → prefix_fits k ≡ true
 prefix_passes (e.let_expr p) h = (pattern_tests_exact.patterns true p).0 h
-prefix_passes (e.closure c) h = both _ _ (head_passes c h.0) h.1
+prefix_passes (e.closure c) h = and_from _ _ (head_passes c h.0) h.1
 prefix_passes _ h = refl
 
 postfix_passes : (k : Postfix) → PostfixReadBack k → postfix_fits k ≡ true
@@ -94,13 +92,13 @@ postfix_passes (e.range_from limits.HalfOpen) h = refl
 postfix_passes (e.range_from limits.Closed) h = absurd cc
 
 trailer_passes : (k : Trailer) → TrailerReadBack k → trailer_fits k ≡ true
-trailer_passes (e.method w a) h = both _ _ (is_not _ h.0) ((tests_exact.segment_arguments style.Expr a).0 h.1)
+trailer_passes (e.method w a) h = and_from _ _ (is_not _ h.0) ((tests_exact.segment_arguments style.Expr a).0 h.1)
 trailer_passes (e.field m) h = (pattern_tests_exact.members m).0 h
 trailer_passes _ h = refl
 
 frame_passes : (k : Frame) (ks : Children) → FrameReadBack k ks → frame_fits k ks ≡ true
-frame_passes (e.structure q p d) ks (f, g, h) = both _ _ ((tests_exact.qualified_paths style.Expr (q, p)).0 f) (both _ _ (is_not _ g) (is_not _ h))
-frame_passes (e.closure_block c) ks h = both _ _ (head_passes c h.0) (is_not _ h.1)
+frame_passes (e.structure q p d) ks (f, g, h) = and_from _ _ ((tests_exact.qualified_paths style.Expr (q, p)).0 f) (and_from _ _ (is_not _ g) (is_not _ h))
+frame_passes (e.closure_block c) ks h = and_from _ _ (head_passes c h.0) (is_not _ h.1)
 frame_passes (e.for_loop w p) ks h = (pattern_tests_exact.patterns true p).0 h
 frame_passes e.group_expr ks h = absurd h
 frame_passes _ ks h = refl
@@ -122,7 +120,7 @@ unfolding piece_form
 piece_passes s.elements e.element c t h = refl
 piece_passes s.single e.value c t h = refl
 piece_passes s.counted e.repeated c t h = refl
-piece_passes s.fields (e.field_value ats m b) c t (f, g, h) = both _ _ f (both _ _ ((pattern_tests_exact.members m).0 g) h)
+piece_passes s.fields (e.field_value ats m b) c t (f, g, h) = and_from _ _ f (and_from _ _ ((pattern_tests_exact.members m).0 g) h)
 piece_passes s.fields (e.rest d) c t h = refl
 piece_passes s.fields k c t h = absurd (no_tests _ [] h)
 piece_passes s.conditions e.condition c t h = refl
@@ -130,8 +128,8 @@ piece_passes s.otherwise e.chained c t h = h
 piece_passes s.otherwise k c t h = absurd (no_test _ [] h)
 piece_passes s.loops e.loop_head c t h = refl
 piece_passes s.scrutinees e.scrutinee c t h = refl
-piece_passes s.arms (e.guard ats p) c t h = both _ _ h.0 ((pattern_tests_exact.patterns true p).0 h.1)
-piece_passes s.arms (e.arm ats p) c t h = both _ _ h.0 ((pattern_tests_exact.patterns true p).0 h.1)
+piece_passes s.arms (e.guard ats p) c t h = and_from _ _ h.0 ((pattern_tests_exact.patterns true p).0 h.1)
+piece_passes s.arms (e.arm ats p) c t h = and_from _ _ h.0 ((pattern_tests_exact.patterns true p).0 h.1)
 piece_passes s.bodies e.guarded c t h = refl
 piece_passes s.bodies k c t h = absurd (no_test _ [] h)
 piece_passes s.outputs e.output_block c t h = h
@@ -212,19 +210,19 @@ mutual
   passes : (t : Tree) → IsWellFormed t → well t ≡ true
   passes (leaf k) h = leaf_passes k h
   passes (paren m t) h = passes t h
-  passes (attributed a more t) (f, g, h) = both _ _ f (both _ _ (is_not _ g) (passes t h))
-  passes (prefixed k gs t) (f, g, h) = both _ _ (prefix_passes k f) (both _ _ g (passes t h))
-  passes (infixed x k y) (f, g, h) = both _ _ (infix_passes k f) (both _ _ (passes x g) (passes y h))
-  passes (postfixed x k) (f, g) = both _ _ (postfix_passes k f) (passes x g)
-  passes (tail b k ks) (f, g, h) = both _ _ (trailer_passes k f) (both _ _ (passes b g) (children_pass ks (trailer_slot k) (subst (λ x. AreWellFormed x ks) (trailer_slot_is k) h)))
-  passes (frame k ks) (f, g) = both _ _ (frame_passes k ks f) (children_pass ks (frame_slot k) (subst (λ x. AreWellFormed x ks) (frame_slot_is k ks f) g))
+  passes (attributed a more t) (f, g, h) = and_from _ _ f (and_from _ _ (is_not _ g) (passes t h))
+  passes (prefixed k gs t) (f, g, h) = and_from _ _ (prefix_passes k f) (and_from _ _ g (passes t h))
+  passes (infixed x k y) (f, g, h) = and_from _ _ (infix_passes k f) (and_from _ _ (passes x g) (passes y h))
+  passes (postfixed x k) (f, g) = and_from _ _ (postfix_passes k f) (passes x g)
+  passes (tail b k ks) (f, g, h) = and_from _ _ (trailer_passes k f) (and_from _ _ (passes b g) (children_pass ks (trailer_slot k) (subst (λ x. AreWellFormed x ks) (trailer_slot_is k) h)))
+  passes (frame k ks) (f, g) = and_from _ _ (frame_passes k ks f) (children_pass ks (frame_slot k) (subst (λ x. AreWellFormed x ks) (frame_slot_is k ks f) g))
 
   children_pass : (ks : Children) (x : Slot) → AreWellFormed x ks → children_well x ks ≡ true
   children_pass none x h = sym (end_is x) ∙ h
   children_pass (child k c t ks) x (f, g, h, i) =
       let w : keeps_block k t || well t ≡ true = elim h [ inl z ↦ or_left _ _ z | inr z ↦ or_right _ _ (passes t z) ] in
       let y = piece_passes x k c t f in
-      both _ _ (both _ _ y (ending_passes x k c t y g)) (both _ _ w (children_pass ks (after k) i))
+      and_from _ _ (and_from _ _ y (ending_passes x k c t y g)) (and_from _ _ w (children_pass ks (after k) i))
 
 -- ---- what passes is read back
 
@@ -234,19 +232,19 @@ some_complete (Some x) h = (tests_exact.bound_lifetimes x).1 h
 
 inputs_complete : (ps : List PatTree) → inputs_fit ps ≡ true → AllReadBack closure_arg pat_own ps
 inputs_complete [] h = tt
-inputs_complete (p ∷ ps) h = let (i, j) = both_true _ _ h in ((pattern_tests_exact.closure_args p).1 i, inputs_complete ps j)
+inputs_complete (p ∷ ps) h = let (i, j) = and_parts _ _ h in ((pattern_tests_exact.closure_args p).1 i, inputs_complete ps j)
 
 head_complete : (c : ClosureHead) → head_fits c ≡ true → HeadReadBack c
 head_complete c h =
-    let (f, g) = both_true _ _ h in
-    let (i, j) = both_true _ _ g in
-    let (l, m) = both_true _ _ j in
-    let (n, o) = both_true _ _ m in
-    (not_it _ f, some_complete c.lifetimes i, inputs_complete c.inputs l, n, (tests_exact.outputs true c.output).1 o)
+    let (f, g) = and_parts _ _ h in
+    let (i, j) = and_parts _ _ g in
+    let (l, m) = and_parts _ _ j in
+    let (n, o) = and_parts _ _ m in
+    (not-true _ f, some_complete c.lifetimes i, inputs_complete c.inputs l, n, (tests_exact.outputs true c.output).1 o)
 
 leaf_complete : (k : Leaf) → leaf_fits k ≡ true → LeafReadBack k
 leaf_complete (e.lit x) h = (tests_exact.unsigned_literals x).1 h
-leaf_complete (e.path q p) h = let (i, j) = both_true _ _ h in ((tests_exact.qualified_paths style.Expr (q, p)).1 i, not_it _ j)
+leaf_complete (e.path q p) h = let (i, j) = and_parts _ _ h in ((tests_exact.qualified_paths style.Expr (q, p)).1 i, not-true _ j)
 leaf_complete (e.mac m) h = (tests_exact.macros m).1 h
 leaf_complete (e.full_range limits.HalfOpen) h = refl
 leaf_complete (e.full_range limits.Closed) h = absurd cc
@@ -259,7 +257,7 @@ leaf_complete _ h = tt
 
 prefix_complete : (k : Prefix) → prefix_fits k ≡ true → PrefixReadBack k
 prefix_complete (e.let_expr p) h = (pattern_tests_exact.patterns true p).1 h
-prefix_complete (e.closure c) h = let (i, j) = both_true _ _ h in (head_complete c i, j)
+prefix_complete (e.closure c) h = let (i, j) = and_parts _ _ h in (head_complete c i, j)
 prefix_complete _ h = tt
 
 postfix_complete : (k : Postfix) → postfix_fits k ≡ true → PostfixReadBack k
@@ -268,16 +266,16 @@ postfix_complete (e.range_from limits.HalfOpen) h = refl
 postfix_complete (e.range_from limits.Closed) h = absurd cc
 
 trailer_complete : (k : Trailer) → trailer_fits k ≡ true → TrailerReadBack k
-trailer_complete (e.method w a) h = let (i, j) = both_true _ _ h in (not_it _ i, (tests_exact.segment_arguments style.Expr a).1 j)
+trailer_complete (e.method w a) h = let (i, j) = and_parts _ _ h in (not-true _ i, (tests_exact.segment_arguments style.Expr a).1 j)
 trailer_complete (e.field m) h = (pattern_tests_exact.members m).1 h
 trailer_complete _ h = tt
 
 frame_complete : (k : Frame) (ks : Children) → frame_fits k ks ≡ true → FrameReadBack k ks
 frame_complete (e.structure q p d) ks h =
-    let (f, g) = both_true _ _ h in
-    let (i, j) = both_true _ _ g in
-    ((tests_exact.qualified_paths style.Expr (q, p)).1 f, not_it _ i, not_it _ j)
-frame_complete (e.closure_block c) ks h = let (i, j) = both_true _ _ h in (head_complete c i, not_it _ j)
+    let (f, g) = and_parts _ _ h in
+    let (i, j) = and_parts _ _ g in
+    ((tests_exact.qualified_paths style.Expr (q, p)).1 f, not-true _ i, not-true _ j)
+frame_complete (e.closure_block c) ks h = let (i, j) = and_parts _ _ h in (head_complete c i, not-true _ j)
 frame_complete (e.for_loop w p) ks h = (pattern_tests_exact.patterns true p).1 h
 frame_complete e.group_expr ks h = absurd cc
 frame_complete _ ks h = tt
@@ -292,16 +290,16 @@ piece_complete s.elements e.element c t h = refl
 piece_complete s.single e.value c t h = refl
 piece_complete s.counted e.repeated c t h = refl
 piece_complete s.fields (e.field_value ats m b) c t h =
-    let (f, g) = both_true _ _ h in
-    let (i, j) = both_true _ _ g in
+    let (f, g) = and_parts _ _ h in
+    let (i, j) = and_parts _ _ g in
     (f, (pattern_tests_exact.members m).1 i, j)
 piece_complete s.fields (e.rest d) c t h = tt
 piece_complete s.conditions e.condition c t h = refl
 piece_complete s.otherwise e.chained c t h = h
 piece_complete s.loops e.loop_head c t h = refl
 piece_complete s.scrutinees e.scrutinee c t h = refl
-piece_complete s.arms (e.guard ats p) c t h = let (i, j) = both_true _ _ h in (i, (pattern_tests_exact.patterns true p).1 j)
-piece_complete s.arms (e.arm ats p) c t h = let (i, j) = both_true _ _ h in (i, (pattern_tests_exact.patterns true p).1 j)
+piece_complete s.arms (e.guard ats p) c t h = let (i, j) = and_parts _ _ h in (i, (pattern_tests_exact.patterns true p).1 j)
+piece_complete s.arms (e.arm ats p) c t h = let (i, j) = and_parts _ _ h in (i, (pattern_tests_exact.patterns true p).1 j)
 piece_complete s.bodies e.guarded c t h = refl
 piece_complete s.outputs e.output_block c t h = h
 piece_complete x k c t h = absurd cc
@@ -326,33 +324,33 @@ mutual
   complete (leaf k) h = leaf_complete k h
   complete (paren m t) h = complete t h
   complete (attributed a more t) h =
-      let (f, g) = both_true _ _ h in
-      let (i, j) = both_true _ _ g in
-      (f, not_it _ i, complete t j)
+      let (f, g) = and_parts _ _ h in
+      let (i, j) = and_parts _ _ g in
+      (f, not-true _ i, complete t j)
   complete (prefixed k gs t) h =
-      let (f, g) = both_true _ _ h in
-      let (i, j) = both_true _ _ g in
+      let (f, g) = and_parts _ _ h in
+      let (i, j) = and_parts _ _ g in
       (prefix_complete k f, i, complete t j)
   complete (infixed x k y) h =
-      let (f, g) = both_true _ _ h in
-      let (i, j) = both_true _ _ g in
+      let (f, g) = and_parts _ _ h in
+      let (i, j) = and_parts _ _ g in
       (infix_complete k f, complete x i, complete y j)
-  complete (postfixed x k) h = let (f, g) = both_true _ _ h in (postfix_complete k f, complete x g)
+  complete (postfixed x k) h = let (f, g) = and_parts _ _ h in (postfix_complete k f, complete x g)
   complete (tail b k ks) h =
-      let (f, g) = both_true _ _ h in
-      let (i, j) = both_true _ _ g in
+      let (f, g) = and_parts _ _ h in
+      let (i, j) = and_parts _ _ g in
       (trailer_complete k f, complete b i, subst (λ x. AreWellFormed x ks) (sym (trailer_slot_is k)) (children_complete ks (trailer_slot k) j))
   complete (frame k ks) h =
-      let (f, g) = both_true _ _ h in
+      let (f, g) = and_parts _ _ h in
       let back = frame_complete k ks f in
       (back, subst (λ x. AreWellFormed x ks) (sym (frame_slot_is k ks back)) (children_complete ks (frame_slot k) g))
 
   children_complete : (ks : Children) (x : Slot) → children_well x ks ≡ true → AreWellFormed x ks
   children_complete none x h = end_is x ∙ h
   children_complete (child k c t ks) x h =
-      let (f, g) = both_true _ _ h in
-      let (i, j) = both_true _ _ f in
-      let (l, m) = both_true _ _ g in
+      let (f, g) = and_parts _ _ h in
+      let (i, j) = and_parts _ _ f in
+      let (l, m) = and_parts _ _ g in
       (piece_complete x k c t i, ending_complete k c t j, one_of (keeps_block k t) (well t) l (λ z. z) (λ z. complete t z), children_complete ks (after k) m)
 
 pub test_is_exact : TestIsExact

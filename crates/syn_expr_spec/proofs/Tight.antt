@@ -1,6 +1,8 @@
 -- What is printed for some context, and yet obeys the rules at this place, needs no pair here.
 use Rattle.std.proofs.Common.{◌≡◌, Bool, true, false, not, ◌&&◌, ◌||◌, Some, None, refl, sym, ◌∙◌, ap, subst}
 use Rattle.std.specs.Prelude.{if◌then◌else◌}
+use Rattle.std.proofs.lemmas.Bool.{or_parts, or_from}
+use Rattle.std.proofs.Math.Bool.{or-false}
 use Rattle.syn_expr_spec.specs.declared.kinds.Level.{Level}
 use Rattle.syn_expr_spec.specs.declared.kinds.Level.TheVariants as lev
 use Rattle.syn_expr_spec.specs.declared.next.Next.{Next}
@@ -9,11 +11,11 @@ use Rattle.syn_expr_spec.specs.declared.next.Edge.TheVariants as edge
 use Rattle.syn_expr_spec.specs.declared.next.Context.{Context}
 use Rattle.syn_expr_spec.specs.Place.{takes}
 use Rattle.syn_expr_spec.specs.Op.{level}
-use Rattle.syn_expr_spec.specs.Next.{class_of, next_of, takes_next, trails, enclosed, left_edge, base_edge, braceless, left_context, base_context, right_context, attributed_context, prefix_context, prefix_level}
+use Rattle.syn_expr_spec.specs.Next.{class_of, next_of, takes_next, trails, enclosed, left_edge, base_edge, left_context, base_context, right_context, attributed_context, prefix_context, prefix_level}
 use Rattle.syn_expr_spec.specs.Tree as e
 use Rattle.syn_expr_spec.specs.Tree.{Tree, Leaf, Prefix, Trailer, Frame, leaf, paren, attributed, prefixed, infixed, postfixed, tail, frame, postfix_op}
 use Rattle.syn_expr_spec.specs.Rule.{is_operation, refuses, misplaced, leaf_misplaced, frame_misplaced, is_below, lower, ends_badly, is_bare_break, left_wrapped, base_wrapped, place_wrapped, low, bad, labelled, leaf_labelled, frame_labelled, place_asks, prefix_asks, put, bare}
-use Rattle.syn_expr_spec.proofs.Bools.{or_false, neither, or_none, lower_takes}
+use Rattle.syn_expr_spec.proofs.Bools.{lower_takes}
 use Rattle.syn_expr_spec.proofs.Obeys.{Fits, begins_label, Obeys}
 use Rattle.syn_expr_spec.proofs.Edges.{range_bare, carrier_bare, prefix_next_is}
 use Rattle.syn_expr_spec.proofs.Kept.{Tight, level_small, prefix_small, not_wrapped, ends_well}
@@ -49,16 +51,6 @@ calm_base e.await edge.NoBrace h = refl
 calm_base e.try_expr edge.Free h = refl
 calm_base e.try_expr edge.NoBrace h = refl
 calm_base _ _ h = absurd cc
-
-calm_braceless : (b : Bool) → is_calm (braceless b) ≡ true
-calm_braceless true = refl
-calm_braceless false = refl
-
-calm_prefix : (k : Prefix) (c : Context) → is_calm (prefix_context k c).edge ≡ true
-calm_prefix (e.unary op) c = refl
-calm_prefix (e.range_to op) c = calm_braceless _
-calm_prefix (e.jump j) c = calm_braceless _
-calm_prefix _ c = refl
 
 below_and : (a b : Bool) → a ≡ false → a && b ≡ true → ⊥
 below_and a b p q = absurd (let r : false ≡ true = ap (λ x. x && b) (sym p) ∙ q in cc)
@@ -122,9 +114,9 @@ all_of false b h = refl
 tight_end : (v : Level) (c c0 : Context) (t : Tree) (w x : Bool) → (Obeys v c (bare c0 t) → Tight v c t) → (w ≡ false → x ≡ false)
     → Obeys v c (put w (bare enclosed t) (bare c0 t)) → Fits v (put w (bare enclosed t) (bare c0 t)) c.next
     → ends_badly v t c.next (place_wrapped v t c.next (low t) (bad t c.next) || x) ≡ false
-tight_end v c c0 t true x g y i p = neither _ _ (all_of _ _ p.no_operator) (all_of _ _ p.no_trailer)
+tight_end v c c0 t true x g y i p = or_from _ _ (all_of _ _ p.no_operator) (all_of _ _ p.no_trailer)
 tight_end v c c0 t false x g y i p =
-    ends_well v t c.next _ (neither _ _ (not_wrapped v c t (g i)) (y refl))
+    ends_well v t c.next _ (or_from _ _ (not_wrapped v c t (g i)) (y refl))
     (ap (λ b. takes_next v c.next && not b) (sym (range_bare c0 t)) ∙ p.no_operator)
     (ap (λ b. trails c.next && b) (sym (carrier_bare c0 t)) ∙ p.no_trailer)
 
@@ -147,7 +139,7 @@ tight_attributed v c c0 t true h g i = (refl, refl, refl)
 tight_attributed v c c0 t false h g i = let k = g i in (k.end, k.refused, k.placed)
 
 pub tight : (t : Tree) → (v : Level) (c c0 : Context) → takes v lev.Unambiguous ≡ true → Obeys v c (bare c0 t) → Tight v c t
-tight (leaf k) v c c0 s i = let p = or_false _ _ i in record { edge = s; end = refl; refused = p.0; placed = p.1 }
+tight (leaf k) v c c0 s i = let p = or_parts _ _ i in record { edge = s; end = refl; refused = p.0; placed = p.1 }
 tight (paren m t) v c c0 s i = record { edge = s; end = refl; refused = refl; placed = refl }
 tight (attributed a more t) v c c0 s i =
     let p = tight_attributed v (attributed_context c) (attributed_context c0) t _ refl (tight t v (attributed_context c) (attributed_context c0) s) i.1 in
@@ -155,7 +147,7 @@ tight (attributed a more t) v c c0 s i =
 tight (prefixed k gs t) v c c0 s i =
     let p = tight_end (prefix_level k) (prefix_context k c) (prefix_context k c0) t (prefix_asks k (prefix_context k c0) t) (is_bare_break k && labelled t)
     (tight t (prefix_level k) (prefix_context k c) (prefix_context k c0) (prefix_small k))
-    (λ w. (or_false _ _ w).1) i.1 i.2 in
+    (λ w. (or_parts _ _ w).1) i.1 i.2 in
     record {
       edge = s;
       end = subst (λ (n : Next). ends_badly (prefix_level k) t n (place_wrapped (prefix_level k) t n (low t) (bad t n) || (is_bare_break k && labelled t)) ≡ false) (prefix_next_is k c) p;
@@ -168,7 +160,7 @@ tight (infixed x k y) v c c0 s i =
     record {
       edge = tight_left v (level k) (left_context k c) x (bare enclosed x) (bare (left_context k c0) x) (left_wrapped k x (bad x (class_of k))) (misplaced (left_context k c0) x)
           s i.0 (misplaced_low (left_context k c0) x) (tight x v (left_context k c) (left_context k c0) s) i.1;
-      end = ap (ends_badly (level k) y c.next) (sym (or_none _)) ∙ p;
+      end = ap (ends_badly (level k) y c.next) (sym (or-false _)) ∙ p;
       refused = refl;
       placed = refl;
     }

@@ -8,7 +8,7 @@ use Rattle.syn_lower_spec.specs.Text.{Text}
 use Rattle.syn_lower_spec.specs.Same.{same_toks}
 use Rattle.syn_lower_spec.specs.Tree.{AttributeTree}
 use Rattle.syn_lower_spec.specs.Form.{Outcome, Test, Mark, and_then}
-use Rattle.syn_lower_spec.specs.Mark.{word, brace_at, round_at, semi, star, bang, and, pound, underscore, lifetime_at}
+use Rattle.syn_lower_spec.specs.Mark.{word, brace_at, round_at, semi, star, bang, and, pound, lifetime_at}
 use Rattle.syn_lower_spec.specs.Part.{outer_attributes, inner_attributes, type, QPathTree, MacroEnd, macro_end}
 use Rattle.syn_lower_spec.specs.Pat.{an_index}
 use Rattle.syn_expr_spec.specs.declared.kinds.Infix.{Infix}
@@ -22,7 +22,7 @@ use Rattle.syn_expr_spec.specs.Op.{infix_at, level}
 use Rattle.syn_expr_spec.specs.Front.{ends_open_range, dot_at, question_at, bracket_at}
 use Rattle.syn_expr_spec.specs.Tree as e
 use Rattle.syn_expr_spec.specs.Tree.{Tree, Children, ClosureHead, Leaf, Prefix, Postfix, Trailer, Frame, Piece, Ending, leaf, paren, attributed, prefixed, infixed, postfixed, tail, frame, none, child, plain_block, postfix_op, is_one, is_silent}
-use Rattle.syn_expr_spec.specs.Head.{leaf_form, prefix_form, dotted, to_named, from_closure, label, closure_at, jump_at, range_at, let_word, minus, continue_word, unsafe_word, leaf_at}
+use Rattle.syn_expr_spec.specs.Head.{leaf_form, prefix_form, dotted, to_named, from_closure, label, closure_at, jump_at, range_at, let_word, minus, leaf_at}
 use Rattle.syn_expr_spec.specs.Slot.{Slot, Holder, elements, single, fields, conditions, scrutinees, arms, after, may_end, piece_form, piece_place, ending_at, frame_holder, trailer_holder, nothing, within, bare, is_chained, for_head, while_word, for_word, if_word, match_word}
 use Rattle.syn_expr_spec.specs.Stands.{closes, ends, ends_operation, fits_left, fits_base, leaf_stands, prefix_stands, prefix_place, infix_stands, postfix_stands, frame_stands, frame_ends, ends_list, short_value, takes_block, takes_attributes, rests, is_range, fields_of, name_at, indices_at, has_no_comma}
 

@@ -34,14 +34,8 @@ Arm l o = written in_arm (all_of (expr plain l)) ≡ o
 abbrev pub PlainBare : List Tok → Option (List Tok) → Type 0
 PlainBare l o = written enclosed (flat (all_of (expr plain l))) ≡ o
 
-abbrev pub StmtBare : List Tok → Option (List Tok) → Type 0
-StmtBare l o = written in_statement (flat (all_of (expr plain l))) ≡ o
-
 abbrev pub CondBare : List Tok → Option (List Tok) → Type 0
 CondBare l o = written in_condition (flat (all_of (expr plain l))) ≡ o
-
-abbrev pub ArmBare : List Tok → Option (List Tok) → Type 0
-ArmBare l o = written in_arm (flat (all_of (expr plain l))) ≡ o
 
 pub record PlainRows1 : Type 0 where
   -- `a - b - c`

@@ -106,10 +106,6 @@ no_index : (s : Text) → is_number s ≡ false → index_of s ≡ None
 unfolding index_of
 no_index s e = rw e refl
 
-step_none : (q : Option (List ℕ × Bool)) → step None q ≡ None
-step_none None = refl
-step_none (Some r) = refl
-
 pub no_number : (s : Text) → is_number s ≡ false → steps_of (float_parts s) ≡ None
 no_number s e = rw (begins_is s, e, no_index s e) refl
 

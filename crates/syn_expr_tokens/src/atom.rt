@@ -1,5 +1,5 @@
-//! Which of the operands, of the leaves, of the prefixes and of the trailers is read, by what comes first. No other part of
-//! the input decides it.
+//! Whether an operand, a leaf, a prefix or a trailer comes first, and which operand or trailer is read. No other part of the
+//! input decides it.
 
 ghost use Rattle.std.specs.Prelude.{◌≡◌, ◌&&◌, ◌||◌, not, drop, true};
 ghost use Rattle.syn_expr_spec.specs.Head as head;
@@ -9,7 +9,7 @@ ghost use Rattle.syn_expr_spec.specs.Slot as slot;
 ghost use Rattle.syn_lower_spec.specs.Mark as mark;
 ghost use Rattle.syn_tokens.specs.View.{toks_of};
 ghost use Rattle.syn_expr_tokens.specs.Begins as begins;
-ghost use Rattle.syn_expr_tokens.specs.Begins.{AtomsAreChosen, LeavesAreChosen, PrefixesAreChosen, TrailersAreChosen, NamesAreChosen};
+ghost use Rattle.syn_expr_tokens.specs.Begins.{AtomsAreChosen, TrailersAreChosen};
 
 use crate::op::{bracket_at, dot_at, question_at};
 use syn_lexer::front::is_reserved_word;
@@ -18,9 +18,9 @@ use syn_lower_leaves::leaf::{is_truth, lifetime_at};
 use syn_lower_leaves::lifetime::Lifetime;
 use syn_tokens::buffer::{ParseBuffer, Token};
 use syn_tokens::token::{
-    And, Async, Await, Become, Brace, Break, Const, Continue, DotDot, Else, For, Group, If, In,
-    Let, Loop, Match, Minus, Move, Mut, Not, Or, Paren, PathSep, Pound, Raw, Return, Star, Static,
-    Try, Underscore, Unsafe, Use, While, Yield,
+    And, Async, Become, Brace, Break, Const, Continue, DotDot, For, Group, If, Let, Loop, Match,
+    Minus, Move, Mut, Not, Or, Paren, PathSep, Pound, Raw, Return, Star, Static, Try, Underscore,
+    Unsafe, Use, While, Yield,
 };
 use syn_tokens::tree::TokenTree;
 
@@ -186,13 +186,6 @@ pub fn raw_at(input: &ParseBuffer<'_>) -> bool
     raw_first(input.trees())
 }
 
-/// Whether `raw` comes after the first token, and `mut` or `const` after it (Rust Reference, "Raw borrow operators").
-pub(crate) fn raw_behind(input: &ParseBuffer<'_>) -> bool
-    ensures { result ≡ head.raw_at (drop 1 input.now.rest) }
-{
-    raw_first(behind(input.trees(), 1))
-}
-
 /// Whether a name comes first, and parentheses or `::` after it: that of a method (Rust Reference, "Method-call
 /// expressions").
 #[tactic(auto, unfolding(syn_expr_spec::specs::Head::method_at, syn_tokens::specs::Sign::sign_text, syn_lower_spec::specs::Mark::sign_at, syn_lower_spec::specs::Mark::round_at))]
@@ -231,14 +224,6 @@ pub fn if_at(input: &ParseBuffer<'_>) -> bool
     input.peek::<If>()
 }
 
-/// Whether `else` comes first (Rust Reference, "`if` expressions").
-#[tactic(auto, unfolding(syn_tokens::specs::Sign::word_text, syn_lower_spec::specs::Mark::word_at))]
-pub fn else_at(input: &ParseBuffer<'_>) -> bool
-    ensures { result ≡ slot.else_word.at input.now.rest }
-{
-    input.peek::<Else>()
-}
-
 /// Whether `match` comes first (Rust Reference, "`match` expressions").
 #[tactic(auto, unfolding(syn_tokens::specs::Sign::word_text, syn_lower_spec::specs::Mark::word_at))]
 pub fn match_at(input: &ParseBuffer<'_>) -> bool
@@ -261,14 +246,6 @@ pub fn for_at(input: &ParseBuffer<'_>) -> bool
     ensures { result ≡ slot.for_word.at input.now.rest }
 {
     input.peek::<For>() && !lifetimes_at(input)
-}
-
-/// Whether `in` comes first (Rust Reference, "Iterator loops").
-#[tactic(auto, unfolding(syn_tokens::specs::Sign::word_text, syn_lower_spec::specs::Mark::word_at))]
-pub fn in_at(input: &ParseBuffer<'_>) -> bool
-    ensures { result ≡ slot.in_word.at input.now.rest }
-{
-    input.peek::<In>()
 }
 
 /// Whether a label, `while` or `for` comes first (Rust Reference, "Loop expressions").
@@ -340,60 +317,6 @@ pub enum Atom {
     Named,
 }
 
-/// Which leaf is read.
-#[derive(Clone, Copy, Debug, PartialEq, Eq)]
-pub enum LeafStart {
-    /// A literal.
-    Literal,
-    /// `_`
-    Underscore,
-    /// `..` or `..=`
-    Range,
-    /// `return`, `yield` or `break`
-    Jump,
-    /// `continue`
-    Continue,
-    /// A `loop`, after its label.
-    Loop,
-    /// A block, after its label.
-    Block,
-    /// `unsafe`
-    Unsafe,
-    /// `const` before a block.
-    Const,
-    /// `async` before a block.
-    Async,
-    /// `try` before a block.
-    Try,
-    /// `builtin` and `#`
-    Builtin,
-    /// A path or a macro.
-    Named,
-}
-
-/// Which prefix is read: what comes before an operand.
-#[derive(Clone, Copy, Debug, PartialEq, Eq)]
-pub enum PrefixStart {
-    /// `*`
-    Deref,
-    /// `!`
-    Not,
-    /// `-`
-    Neg,
-    /// `&raw const` or `&raw mut`
-    RawAddr,
-    /// `&` or `&mut`
-    Reference,
-    /// `..` or `..=`
-    Range,
-    /// `let`
-    Let,
-    /// `return`, `yield` or `break`
-    Jump,
-    /// The head of a closure.
-    Closure,
-}
-
 /// Which trailer is read: what comes after an operand and goes on it.
 #[derive(Clone, Copy, Debug, PartialEq, Eq)]
 pub enum TrailerStart {
@@ -407,17 +330,6 @@ pub enum TrailerStart {
     Dot,
     /// No trailer is there.
     Absent,
-}
-
-/// Which trailer is read after a dot, and after the indices of a float.
-#[derive(Clone, Copy, Debug, PartialEq, Eq)]
-pub enum NameStart {
-    /// `await`
-    Await,
-    /// The name of a method.
-    Method,
-    /// The name or the index of a field.
-    Field,
 }
 
 /// Which operand that is in no delimiter is read: one that begins with a word of its own, a loop's head or a name.
@@ -478,100 +390,6 @@ pub fn atom_at(input: &ParseBuffer<'_>) -> Atom
     worded(input)
 }
 
-/// Which leaf is read that begins with the word of a block, with `builtin` or with a name.
-#[tactic(auto, unfolding(syn_tokens::specs::Sign::word_text, syn_lower_spec::specs::Mark::word_at))]
-fn block_or_name(input: &ParseBuffer<'_>) -> LeafStart
-    ensures { result ≡ begins.block_or_name input.now.rest }
-{
-    if input.peek::<Unsafe>() {
-        return LeafStart::Unsafe;
-    }
-    if const_block_at(input) {
-        return LeafStart::Const;
-    }
-    if async_block_at(input) {
-        return LeafStart::Async;
-    }
-    if try_block_at(input) {
-        return LeafStart::Try;
-    }
-    if builtin_at(input) {
-        return LeafStart::Builtin;
-    }
-    LeafStart::Named
-}
-
-/// Which leaf is read (Rust Reference, "Literal expressions", "Underscore expressions", "Range expressions", "Block
-/// expressions", "Path expressions", "Macro Invocation").
-#[tactic(auto, unfolding(syn_tokens::specs::Sign::word_text, syn_lower_spec::specs::Mark::word_at))]
-pub fn leaf_start(input: &ParseBuffer<'_>) -> LeafStart
-    ensures { result ≡ begins.leaf_of input.now.rest }
-{
-    if literal_at(input) {
-        return LeafStart::Literal;
-    }
-    if input.peek::<Underscore>() {
-        return LeafStart::Underscore;
-    }
-    if range_at(input) {
-        return LeafStart::Range;
-    }
-    if jump_at(input) {
-        return LeafStart::Jump;
-    }
-    if input.peek::<Continue>() {
-        return LeafStart::Continue;
-    }
-    if loop_at(input) {
-        return LeafStart::Loop;
-    }
-    if block_at(input) {
-        return LeafStart::Block;
-    }
-    block_or_name(input)
-}
-
-/// Which prefix is read after `&`.
-fn borrow(input: &ParseBuffer<'_>) -> PrefixStart
-    ensures { result ≡ begins.borrow_of input.now.rest }
-{
-    if raw_behind(input) {
-        PrefixStart::RawAddr
-    } else {
-        PrefixStart::Reference
-    }
-}
-
-/// Which prefix is read (Rust Reference, "Operator expressions", "Range expressions", "`let` expressions", "Closure
-/// expressions").
-#[tactic(auto, unfolding(syn_tokens::specs::Sign::word_text, syn_tokens::specs::Sign::sign_text, syn_lower_spec::specs::Mark::word_at, syn_lower_spec::specs::Mark::sign_at))]
-pub fn prefix_start(input: &ParseBuffer<'_>) -> PrefixStart
-    ensures { result ≡ begins.prefix_of input.now.rest }
-{
-    if input.peek::<Star>() {
-        return PrefixStart::Deref;
-    }
-    if input.peek::<Not>() {
-        return PrefixStart::Not;
-    }
-    if input.peek::<Minus>() {
-        return PrefixStart::Neg;
-    }
-    if input.peek::<And>() {
-        return borrow(input);
-    }
-    if range_at(input) {
-        return PrefixStart::Range;
-    }
-    if input.peek::<Let>() {
-        return PrefixStart::Let;
-    }
-    if jump_at(input) {
-        return PrefixStart::Jump;
-    }
-    PrefixStart::Closure
-}
-
 /// Which trailer is read (Rust Reference, "Call expressions", "Array and array index expressions", "The question mark
 /// operator", "Field access expressions").
 pub fn trailer_start(input: &ParseBuffer<'_>) -> TrailerStart
@@ -592,27 +410,9 @@ pub fn trailer_start(input: &ParseBuffer<'_>) -> TrailerStart
     TrailerStart::Absent
 }
 
-/// Which trailer is read after a dot that no index follows, or after the indices of a float (Rust Reference, "Await
-/// expressions", "Method-call expressions", "Field access expressions").
-#[tactic(auto, unfolding(syn_tokens::specs::Sign::word_text, syn_lower_spec::specs::Mark::word_at))]
-pub fn name_start(input: &ParseBuffer<'_>) -> NameStart
-    ensures { result ≡ begins.name_of input.now.rest }
-{
-    if input.peek::<Await>() {
-        return NameStart::Await;
-    }
-    if method_at(input) {
-        return NameStart::Method;
-    }
-    NameStart::Field
-}
-
-/// What is read of an operand, a leaf, a prefix or a trailer is what its kind says that `atom_at`, `leaf_start`, `prefix_start`,
-/// `trailer_start` or `name_start` answers (a law about definitions; it does nothing).
+/// What is read of an operand or a trailer is what its kind says that `atom_at` or `trailer_start` answers (a law about
+/// definitions; it does nothing).
 pub fn kinds_decide()
     ensures atoms { AtomsAreChosen }
-    ensures leaves { LeavesAreChosen }
-    ensures prefixes { PrefixesAreChosen }
     ensures trailers { TrailersAreChosen }
-    ensures names { NamesAreChosen }
 {}

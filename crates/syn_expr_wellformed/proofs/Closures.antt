@@ -4,11 +4,10 @@ use Rattle.std.specs.List.{list_all}
 use Rattle.std.specs.Prelude.{is_some}
 use Rattle.std.specs.declared.boxed.Box.{Box}
 use Rattle.std.specs.declared.alloc.Global.{Global}
-use Rattle.std.proofs.Math.Bool.{and-false}
+use Rattle.std.proofs.Math.Bool.{and-false, and_assoc, and-true}
 use Rattle.syn_lower_spec.specs.Fits.{ends_well, fits_if, lifetimes_fit, output_fits}
 use Rattle.syn_lower_spec.specs.Form.{is_nil}
 use Rattle.syn_expr_spec.specs.WellFormed.{inputs_fit, head_fits}
-use Rattle.syn_expr_spec.proofs.Bools.{and_true}
 use Rattle.syn_lower_leaves.specs.declared.punctuated.Punctuated.{Punctuated}
 use Rattle.syn_lower_leaves.specs.declared.ty.BoundLifetimes.{BoundLifetimes}
 use Rattle.syn_lower_leaves.specs.View.{values, trails, last_of, is_some_pair, mapped, lifetimes_of}
@@ -22,10 +21,6 @@ use Rattle.syn_expr_wellformed.specs.Alone.{argument_fits}
 
 -- ---- tests together
 
-pub and_assoc : (a b c : Bool) → ((a && b) && c) ≡ (a && (b && c))
-and_assoc true b c = refl
-and_assoc false b c = refl
-
 pub four : (a b c d : Bool) → ((a && b) && (c && d)) ≡ ((a && c) && (b && d))
 four true true c d = refl
 four true false c d = sym (and-false c)
@@ -33,7 +28,7 @@ four false b c d = refl
 
 -- the third is asked last
 pub swap : (a b c : Bool) → ((a && c) && b) ≡ ((a && b) && c)
-swap true true c = and_true c
+swap true true c = and-true c
 swap true false c = and-false c
 swap false b c = refl
 
@@ -85,4 +80,4 @@ pub closure_is : {P : Type 0} (pat : P → PatView) (x : Closure P)
     ≡ (captures x && (list_all (λ p. argument_fits (pat p)) (values x.inputs.now) && output_fits true (return_of x.output.now)))
 closure_is pat x = and_assoc (captures x) (behind_captures pat x) (is_nil (guards (inputs_of pat x))) ∙ ap (λ b. captures x && b) (behind_is pat x)
 
-pub ruleset ends = (and_true, swap)
+pub ruleset ends = (and-true, swap)

@@ -6,7 +6,7 @@ use Rattle.std.specs.Prelude.{is_some}
 use Rattle.std.specs.declared.vec.Vec.{Vec}
 use Rattle.std.specs.declared.boxed.Box.{Box}
 use Rattle.std.specs.declared.alloc.Global.{Global}
-use Rattle.std.proofs.Math.Bool.{and-false}
+use Rattle.std.proofs.Math.Bool.{and-false, and_assoc, and-true}
 use Rattle.syn_tokens.specs.Tok.{Tok}
 use Rattle.syn_lower_spec.specs.Form.{is_nil}
 use Rattle.syn_lower_spec.specs.Pat.{PatTree, guarded}
@@ -20,7 +20,6 @@ use Rattle.syn_expr_spec.specs.Tree as e
 use Rattle.syn_expr_spec.specs.Tree.{Tree, Children, Ending, Body, none, child, from_inner}
 use Rattle.syn_expr_spec.specs.WellFormed.{attributes_inner, well, children_well, has_rest, may_stop, body_fits, is_verbatim_block, is_name_path, piece_fits, ending_fits}
 use Rattle.syn_expr_spec.specs.Stands.{is_if_expr}
-use Rattle.syn_expr_spec.proofs.Bools.{and_true}
 use Rattle.syn_expr_ast.specs.Attrs.{inner_of}
 use Rattle.syn_expr_ast.specs.Node.{framed, based, based_by}
 use Rattle.syn_expr_ast.specs.Pats.{ArmView, strays, guard_children, arm_ending, arm_children, arms}
@@ -29,7 +28,6 @@ use Rattle.syn_expr_fixup.specs.Below.{last_guard, guard_by}
 use Rattle.syn_expr_fixup.proofs.Lists.{some_visited, none_visited}
 use Rattle.syn_expr_wellformed.specs.Slots.{is_elements, is_single, is_counted, is_fields, is_conditions, is_loops, is_scrutinees, is_outputs}
 use Rattle.syn_expr_wellformed.specs.Walk.{operands_well, option_well, field_well, else_well, arm_pattern, arm_well}
-use Rattle.syn_expr_wellformed.proofs.Closures.{and_assoc}
 use Rattle.syn_expr_spec.proofs.Attributes.{outers_outer}
 
 -- ---- lists with puncts
@@ -43,10 +41,10 @@ unfolding values
 all_values f p = list_all-append f (map (λ q. q.0) p.inner.items) (last_of p.last) ∙ ap (λ b. b && list_all f (last_of p.last)) (all_map f (λ q. q.0) p.inner.items)
 
 pub all-some : {A P : Type 0} (f : A → Bool) (p : Punctuated A P) (b : Box A Global) → p.last ≡ Some b → list_all f (values p) ≡ (list_all (λ q. f q.0) p.inner.items && f b.value)
-all-some f p b h = all_values f p ∙ ap (λ c. list_all (λ q. f q.0) p.inner.items && c) (ap (λ o. list_all f (last_of o)) h ∙ and_true (f b.value))
+all-some f p b h = all_values f p ∙ ap (λ c. list_all (λ q. f q.0) p.inner.items && c) (ap (λ o. list_all f (last_of o)) h ∙ and-true (f b.value))
 
 pub all-none : {A P : Type 0} (f : A → Bool) (p : Punctuated A P) → p.last ≡ None → list_all f (values p) ≡ list_all (λ q. f q.0) p.inner.items
-all-none f p h = all_values f p ∙ (ap (λ c. list_all (λ q. f q.0) p.inner.items && c) (ap (λ o. list_all f (last_of o)) h) ∙ and_true _)
+all-none f p h = all_values f p ∙ (ap (λ c. list_all (λ q. f q.0) p.inner.items && c) (ap (λ o. list_all f (last_of o)) h) ∙ and-true _)
 
 pub all-not : {A P : Type 0} (f : A → Bool) (p : Punctuated A P) → list_all (λ q. f q.0) p.inner.items ≡ false → list_all f (values p) ≡ false
 all-not f p h = all_values f p ∙ ap (λ b. b && list_all f (last_of p.last)) h
@@ -134,7 +132,7 @@ field_first x xs b rest =
 
 rest_in : (d : Bool) (o : Option Tree) → children_well slot.fields (option_child (e.rest d) o) ≡ option_well o
 rest_in d None = refl
-rest_in d (Some t) = and_true (well t)
+rest_in d (Some t) = and-true (well t)
 
 fields_in : (xs : List FieldView) (b d : Bool) (o : Option Tree) → children_well slot.fields (fields xs b (option_child (e.rest d) o)) ≡ (list_all field_well xs && option_well o)
 fields_in [] b d o = rest_in d o
@@ -335,7 +333,7 @@ call-well s dots t none = refl
 call-well s dots t (child k c x ks) = refl
 
 pub index-well : (s : Slot) (dots : Bool) (x y : Tree) → operands_well s dots (based x (child e.value e.no_ending y none)) ≡ (well x && (is_single s && well y))
-index-well s dots x y = rw (value_in s e.no_ending y, and_true (is_single s), and_true (well y)) refl
+index-well s dots x y = rw (value_in s e.no_ending y, and-true (is_single s), and-true (well y)) refl
 
 no_rest : (ts : List Tree) (b : Bool) → has_rest (elements ts b) ≡ false
 no_rest [] b = refl
@@ -348,12 +346,12 @@ pub grouped-well : (s : Slot) (dots : Bool) (t : Tree) → operands_well s dots 
 grouped-well s dots t = rw (grouped_in s e.no_ending t) (and-false _)
 
 pub repeated-well : (s : Slot) (dots : Bool) (x y : Tree) → operands_well s dots (framed (child e.repeated e.no_ending x (child e.value e.no_ending y none))) ≡ (is_counted s && (well x && well y))
-repeated-well s dots x y = rw (not_both dots, repeated_in s e.no_ending x, and_true (is_counted s), and_true (well y)) refl
+repeated-well s dots x y = rw (not_both dots, repeated_in s e.no_ending x, and-true (is_counted s), and-true (well y)) refl
 
 -- what comes after `else`
 chain_is : (b k w : Bool) → (((b || k) && true) && ((k || w) && true)) ≡ (k || (b && w))
 chain_is true true w = refl
-chain_is true false w = and_true w
+chain_is true false w = and-true w
 chain_is false true w = refl
 chain_is false false w = refl
 
@@ -367,10 +365,10 @@ else_rest f (Some q) = refl
 
 pub if-well : {E S : Type 0} (f : E → Tree) (s : Slot) (dots : Bool) (ts : List Tok) (t : Tree) (o : Option (S × Box E Global))
     → operands_well s dots (framed (child e.condition (e.braced (body_of [] ts)) t (else_of f o))) ≡ (is_conditions s && (well t && else_well (mapped (λ q. f q.1.value) o)))
-if-well f s dots ts t o = rw (else_rest f o, not_both dots, condition_in s (e.braced (body_of [] ts)) t, and_true (is_conditions s), else_in f o) refl
+if-well f s dots ts t o = rw (else_rest f o, not_both dots, condition_in s (e.braced (body_of [] ts)) t, and-true (is_conditions s), else_in f o) refl
 
 pub loop-well : (s : Slot) (dots : Bool) (b : Body) (t : Tree) → operands_well s dots (framed (child e.loop_head (e.braced b) t none)) ≡ (is_loops s && (body_fits b && well t))
-loop-well s dots b t = rw (not_both dots, loop_head_in s (e.braced b) t, and_true (well t)) (and_assoc (is_loops s) (body_fits b) (well t))
+loop-well s dots b t = rw (not_both dots, loop_head_in s (e.braced b) t, and-true (well t)) (and_assoc (is_loops s) (body_fits b) (well t))
 
 pub body-well : (s : Slot) (dots : Bool) (t : Tree) → operands_well s dots (framed (child e.output_block e.no_ending t none)) ≡ (is_outputs s && is_verbatim_block t)
 body-well s dots t = rw (not_both dots, output_in s e.no_ending t) (by (is_outputs s) (is_verbatim_block t))
@@ -451,16 +449,12 @@ arms_rest : (xs : List ArmView) → has_rest (arms xs) ≡ false
 arms_rest [] = refl
 arms_rest (x ∷ xs) = arm_rest x (arms xs) x.pat.tree x.pat.guards ∙ arms_rest xs
 
-in_order : (a b c : Bool) → ((a && b) && c) ≡ (a && (b && c))
-in_order true b c = refl
-in_order false b c = refl
-
 pub arms-well : {A : Type 0} (f : A → ArmView) (s : Slot) (dots : Bool) (v : Vec Attribute Global) (t : Tree) (xs : List A)
     → operands_well s dots (framed (child e.scrutinee (e.opened (inner_of v)) t (arms (map f xs)))) ≡ (is_scrutinees s && (attributes_inner (inner_of v) && (well t && list_all (λ x. arm_well (f x)) xs)))
 unfolding inner_of
 arms-well f s dots v t xs =
     rw (arms_rest (map f xs), not_both dots, scrutinee_in s (e.opened (from_inner (map attribute_of v.items))) t, arms_in (map f xs), all_map arm_well f xs)
-    (in_order (is_scrutinees s) (attributes_inner (from_inner (map attribute_of v.items))) (well t && list_all (λ x. arm_well (f x)) xs))
+    (and_assoc (is_scrutinees s) (attributes_inner (from_inner (map attribute_of v.items))) (well t && list_all (λ x. arm_well (f x)) xs))
 
 pub ruleset operands = (call-well, index-well, elements-well, grouped-well, repeated-well, if-well, loop-well, body-well, arms-well)
 

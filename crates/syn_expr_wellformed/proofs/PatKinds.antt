@@ -7,7 +7,7 @@ use Rattle.std.specs.Prelude.{flat_map, is_some}
 use Rattle.std.specs.declared.vec.Vec.{Vec}
 use Rattle.std.specs.declared.boxed.Box.{Box}
 use Rattle.std.specs.declared.alloc.Global.{Global}
-use Rattle.std.proofs.Math.Bool.{and-false}
+use Rattle.std.proofs.Math.Bool.{and-false, and-true}
 use Rattle.syn_lower_spec.specs.declared.label.PathStyle.TheVariants as style
 use Rattle.syn_lower_spec.specs.Form.{is_nil}
 use Rattle.syn_lower_spec.specs.Tree.{AttributeTree, SegmentTree}
@@ -29,6 +29,7 @@ use Rattle.syn_lower_leaves.specs.declared.punctuated.Punctuated.{Punctuated}
 use Rattle.syn_lower_leaves.specs.Punct.{is_one}
 use Rattle.syn_lower_leaves.specs.View.{last_of, is_some_pair, mapped}
 use Rattle.syn_lower.specs.View.{values, trails, type_of, segment_of, path_of, qself_or}
+use Rattle.syn_lower.proofs.QPaths.{segments_bare-append}
 use Rattle.syn_pat.specs.View as of
 use Rattle.syn_pat.specs.View.{PatView, attribute_of, attributes_of, attributed_by, lit_of, bound_of, is_closed, pats_in, guards_in, sub_of, sub_guards, field_of, field_guards, field_pat_of}
 use Rattle.syn_pat.specs.declared.pat.FieldPatOf.{FieldPatOf}
@@ -50,7 +51,6 @@ use Rattle.syn_pat.specs.declared.pat.PatReferenceOf.{PatReferenceOf}
 use Rattle.syn_pat.specs.declared.pat.PatConst.{PatConst}
 use Rattle.syn_pat.specs.declared.pat.PatOrOf.{PatOrOf}
 use Rattle.syn_pat.specs.declared.pat.PatTypeOf.{PatTypeOf}
-use Rattle.syn_expr_spec.proofs.Bools.{and_true}
 use Rattle.syn_expr_wellformed.specs.declared.patterns.PatSort.TheVariants as sort
 use Rattle.syn_expr_wellformed.specs.Alone.{fits_alone, attributes_at, behind, fits_behind, sort_at, is_rest_sort, is_mut_sort, sub_alone, is_sole_rest, kind_alone, field_alone}
 use Rattle.syn_expr_wellformed.proofs.Closures.{four, swap, nil_append}
@@ -235,7 +235,7 @@ some_mapped f (Some x) = refl
 pub fits-Range : (b : Bool) (x : PatRange) → fits_behind b (of.pat_range_of x) ≡ (((is_some x.start || is_closed x.limits) || is_some x.end) && (bound_or true (mapped bound_of x.start) && bound_or (not (is_closed x.limits)) (mapped bound_of x.end)))
 fits-Range b x =
     shown b (attributes_of x.attrs) (t.range (mapped bound_of x.start) (is_closed x.limits) (mapped bound_of x.end)) [] refl
-    ∙ (and_true _ ∙ (range_is (mapped bound_of x.start) (is_closed x.limits) (mapped bound_of x.end)
+    ∙ (and-true _ ∙ (range_is (mapped bound_of x.start) (is_closed x.limits) (mapped bound_of x.end)
     ∙ rw (some_mapped bound_of x.start, some_mapped bound_of x.end) refl))
 
 pub ruleset ranges = (fits-Range)
@@ -243,7 +243,7 @@ pub ruleset ranges = (fits-Range)
 -- ---- names and paths
 
 pub fits-Lit : (b : Bool) (x : PatLit) → fits_behind b (of.pat_lit_of x) ≡ lit_fits (lit_of x.lit)
-fits-Lit b x = shown b (attributes_of x.attrs) (t.a_lit (lit_of x.lit)) [] refl ∙ and_true _
+fits-Lit b x = shown b (attributes_of x.attrs) (t.a_lit (lit_of x.lit)) [] refl ∙ and-true _
 
 sub_is : {P A : Type 0} (f : P → PatView) (w : Bool) (o : Option (A × Box P Global)) → ((w && sub_fits (sub_of f o)) && is_nil (sub_guards f o)) ≡ (w && sub_alone f o)
 sub_is f true None = refl
@@ -257,15 +257,7 @@ fits-Ident f b x =
     ∙ sub_is f (not (is_reserved_word x.ident)) x.subpat
 
 pub fits-Path : (b : Bool) (x : PatPath) → fits_behind b (of.pat_path_of x) ≡ (qpath_fits style.Expr (qself_or type_of x.qself, path_of type_of x.path) && not (is_one_name (qself_or type_of x.qself) (path_of type_of x.path)))
-fits-Path b x = shown b (attributes_of x.attrs) (t.a_path (qself_or type_of x.qself) (path_of type_of x.path)) [] refl ∙ and_true _
-
-pub bare-append : (xs ys : List SegmentTree) → segments_bare (xs ++ ys) ≡ (segments_bare xs && segments_bare ys)
-bare-append [] ys = refl
-bare-append (x ∷ xs) ys = by (has_none x.arguments) (bare-append xs ys)
-  where
-    by : (b : Bool) → segments_bare (xs ++ ys) ≡ (segments_bare xs && segments_bare ys) → (b && segments_bare (xs ++ ys)) ≡ ((b && segments_bare xs) && segments_bare ys)
-    by true h = h
-    by false h = refl
+fits-Path b x = shown b (attributes_of x.attrs) (t.a_path (qself_or type_of x.qself) (path_of type_of x.path)) [] refl ∙ and-true _
 
 bare_pairs : {A P : Type 0} (f : A → SegmentTree) (xs : List (A × P)) → segments_bare (map f (map (λ q. q.0) xs)) ≡ segments_bare (map (λ q. f q.0) xs)
 bare_pairs f [] = refl
@@ -276,17 +268,17 @@ bare_values : {P : Type 0} (p : Punctuated (PathSegmentOf «Type») P)
 unfolding values
 bare_values p =
     ap segments_bare (map-append (segment_of type_of) (map (λ q. q.0) p.inner.items) (last_of p.last))
-    ∙ (bare-append (map (segment_of type_of) (map (λ q. q.0) p.inner.items)) (map (segment_of type_of) (last_of p.last))
+    ∙ (segments_bare-append (map (segment_of type_of) (map (λ q. q.0) p.inner.items)) (map (segment_of type_of) (last_of p.last))
     ∙ ap (λ b. b && segments_bare (map (segment_of type_of) (last_of p.last))) (bare_pairs (segment_of type_of) p.inner.items))
 
 pub bare-some : {P : Type 0} (p : Punctuated (PathSegmentOf «Type») P) (b : Box (PathSegmentOf «Type») Global) → p.last ≡ Some b
     → segments_bare (map (segment_of type_of) (values p)) ≡ (segments_bare (map (λ q. segment_of type_of q.0) p.inner.items) && has_none (segment_of type_of b.value).arguments)
 bare-some p b h =
-    bare_values p ∙ ap (λ c. segments_bare (map (λ q. segment_of type_of q.0) p.inner.items) && c) (ap (λ o. segments_bare (map (segment_of type_of) (last_of o))) h ∙ and_true (has_none (segment_of type_of b.value).arguments))
+    bare_values p ∙ ap (λ c. segments_bare (map (λ q. segment_of type_of q.0) p.inner.items) && c) (ap (λ o. segments_bare (map (segment_of type_of) (last_of o))) h ∙ and-true (has_none (segment_of type_of b.value).arguments))
 
 pub bare-none : {P : Type 0} (p : Punctuated (PathSegmentOf «Type») P) → p.last ≡ None → segments_bare (map (segment_of type_of) (values p)) ≡ segments_bare (map (λ q. segment_of type_of q.0) p.inner.items)
 bare-none p h =
-    bare_values p ∙ (ap (λ c. segments_bare (map (λ q. segment_of type_of q.0) p.inner.items) && c) (ap (λ o. segments_bare (map (segment_of type_of) (last_of o))) h) ∙ and_true _)
+    bare_values p ∙ (ap (λ c. segments_bare (map (λ q. segment_of type_of q.0) p.inner.items) && c) (ap (λ o. segments_bare (map (segment_of type_of) (last_of o))) h) ∙ and-true _)
 
 pub bare-not : {P : Type 0} (p : Punctuated (PathSegmentOf «Type») P) → segments_bare (map (λ q. segment_of type_of q.0) p.inner.items) ≡ false → segments_bare (map (segment_of type_of) (values p)) ≡ false
 bare-not p h = bare_values p ∙ ap (λ b. b && segments_bare (map (segment_of type_of) (last_of p.last))) h
@@ -301,12 +293,12 @@ shown_delimiter (mac.Bracket x) = refl
 pub fits-Macro : (b : Bool) (x : PatMacro) → fits_behind b (of.pat_macro_of x) ≡ (path_fits style.Expr (path_of type_of x.mac.path) && segments_bare (map (segment_of type_of) (values x.mac.path.segments)))
 fits-Macro b x =
     shown b (attributes_of x.attrs) (t.a_mac (of.macro_of type_of x.mac)) [] refl
-    ∙ (and_true _ ∙ ap (λ c. path_fits style.Expr (path_of type_of x.mac.path) && c) (ap (λ c. segments_bare (map (segment_of type_of) (values x.mac.path.segments)) && c) (shown_delimiter x.mac.delimiter) ∙ and_true _))
+    ∙ (and-true _ ∙ ap (λ c. path_fits style.Expr (path_of type_of x.mac.path) && c) (ap (λ c. segments_bare (map (segment_of type_of) (values x.mac.path.segments)) && c) (shown_delimiter x.mac.delimiter) ∙ and-true _))
 
 -- ---- structs
 
 kind_is : {P : Type 0} (f : P → PatView) (k : FieldPatKindOf P) → kind_alone f k ≡ (field_fits (field_of f k) && is_nil (field_guards f k))
-kind_is f (kind.Short x) = sym (and_true _)
+kind_is f (kind.Short x) = sym (and-true _)
 kind_is f (kind.Full x) = by (member_fits (of.member_of x.member))
   where
     by : (b : Bool) → (b && (pat_fits true (f x.pat.value).tree && is_nil (f x.pat.value).guards)) ≡ ((b && pat_fits true (f x.pat.value).tree) && is_nil (f x.pat.value).guards)
@@ -340,7 +332,7 @@ rest_behind {P} {S} f d p = by d p.inner.items p.last
     by true (q ∷ xs) o = refl
 
 infix_swap : (a b c d : Bool) → ((a && (b && (true && c))) && d) ≡ (a && ((b && d) && c))
-infix_swap true true c true = and_true c
+infix_swap true true c true = and-true c
 infix_swap true true c false = and-false c
 infix_swap true false c d = refl
 infix_swap false b c d = refl
@@ -351,7 +343,7 @@ fits-Struct f b x =
     ∙ rw (fields_end f x.fields, rest_behind f (is_some x.rest) x.fields, fields_alone f (values x.fields))
     (infix_swap (path_fits style.Expr (path_of type_of x.path)) (fields_fit (t.fields_of (map (field_pat_of f) (values x.fields)))) (not (is_some x.rest) || not (is_some x.fields.last)) (is_nil (flat_map (λ y. field_guards f y.kind) (values x.fields))))
 
-pub ruleset structs = (fits-Struct, and_true)
+pub ruleset structs = (fits-Struct, and-true)
 
 pub fits-TupleStruct : {P : Type 0} (f : P → PatView) (b : Bool) (x : PatTupleStructOf P) → fits_behind b (of.pat_tuple_struct_of f x) ≡ (path_fits style.Expr (path_of type_of x.path) && list_all (λ p. fits_alone true (f p)) (values x.elems))
 fits-TupleStruct f b x =
@@ -359,7 +351,7 @@ fits-TupleStruct f b x =
     ∙ rw (pats_end f x.elems, pats_alone f (values x.elems)) (by (path_fits style.Expr (path_of type_of x.path)) (pats_fit (pats_in f (values x.elems))))
   where
     by : (a b : Bool) → ((a && (b && true)) && is_nil (guards_in f (values x.elems))) ≡ (a && (b && is_nil (guards_in f (values x.elems))))
-    by true b = ap (λ c. c && is_nil (guards_in f (values x.elems))) (and_true b)
+    by true b = ap (λ c. c && is_nil (guards_in f (values x.elems))) (and-true b)
     by false b = refl
 
 -- ---- lists of patterns
@@ -386,7 +378,7 @@ fits-Tuple f b x =
 pub fits-Slice : {P : Type 0} (f : P → PatView) (b : Bool) (x : PatSliceOf P) → fits_behind b (of.pat_slice_of f x) ≡ list_all (λ p. fits_alone true (f p)) (values x.elems)
 fits-Slice f b x =
     shown b (attributes_of x.attrs) (t.a_slice (pats_in f (values x.elems)) (trails x.elems)) (guards_in f (values x.elems)) refl
-    ∙ rw (pats_end f x.elems, pats_alone f (values x.elems), and_true (pats_fit (pats_in f (values x.elems)))) refl
+    ∙ rw (pats_end f x.elems, pats_alone f (values x.elems), and-true (pats_fit (pats_in f (values x.elems)))) refl
 
 pub fits-Paren : {P : Type 0} (f : P → PatView) (b : Bool) (x : PatParenOf P) → fits_behind b (of.pat_paren_of f x) ≡ (fits_alone true (f x.pat.value) && not (is_rest (f x.pat.value).tree))
 fits-Paren f b x =

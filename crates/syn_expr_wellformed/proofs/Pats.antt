@@ -1,6 +1,5 @@
 -- What is told of a pattern by its kind.
-use Rattle.std.proofs.Common.{◌≡◌, Bool, true, false, ◌&&◌, ◌==◌, List, [], ◌∷◌, ◌++◌, length, map, None, refl, sym, ap, ◌∙◌, arith}
-use Rattle.std.proofs.lemmas.Bool.{eqb-true}
+use Rattle.std.proofs.Common.{◌≡◌, Bool, true, false, ◌&&◌, ◌==◌, List, [], ◌∷◌, ◌++◌, length, map, None, refl, sym, ap, ◌∙◌}
 use Rattle.syn_lower_spec.specs.Form.{is_nil}
 use Rattle.syn_lower_spec.specs.Tree.{AttributeTree}
 use Rattle.syn_lower_spec.specs.Pat as t
@@ -23,7 +22,7 @@ use Rattle.syn_expr_core.specs.declared.expr.Expr.TheOpen.{Pat-F}
 use Rattle.syn_expr_core.specs.declared.pat.PatGuard.{PatGuard, out-PatGuard}
 use Rattle.syn_expr_core.specs.View.{pat_layer, tree_of, pat_of, guard_of, views}
 use Rattle.syn_expr_core.proofs.TreeOf.{pat_out, guard-is}
-use Rattle.syn_expr_core.proofs.Guards.{no-guard}
+use Rattle.syn_expr_core.proofs.Guards.{no-guard, not_empty}
 use Rattle.syn_expr_wellformed.specs.declared.patterns.PatSort.TheVariants as sort
 use Rattle.syn_expr_wellformed.specs.Alone.{fits_alone, argument_fits, attributes_at, behind, fits_behind, argument_behind, sort_at}
 use Rattle.syn_expr_wellformed.specs.Walk.{arm_pattern}
@@ -163,9 +162,6 @@ arm_other (t.attributed a more p) gs h = refl
 
 pub arm-other : (x : Pat) → ((y : PatGuard) → x ≡ pt.Guard y → ⊥) → arm_pattern (pat_of x).tree (pat_of x).guards ≡ fits_alone true (pat_of x)
 arm-other x not_guard = arm_other (pat_of x).tree (pat_of x).guards (no-guard x not_guard)
-
-not_empty : (a : Attribute) (ats : List Attribute) → (length (a ∷ ats) == 0) ≡ true → ⊥
-not_empty a ats h = let e : length (a ∷ ats) ≡ 0 = eqb-true (length (a ∷ ats)) 0 h in omega arith
 
 -- the guard of the arm is the last of those in its pattern
 own_alone : (p : PatTree) (gs : List Tree) (g : Tree) → arm_pattern (guarded p) (gs ++ g ∷ []) ≡ (pat_fits true p && is_nil gs)

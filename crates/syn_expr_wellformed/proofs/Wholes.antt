@@ -1,5 +1,6 @@
 -- A node is well-formed where its attributes, what it is but for its operands, and these are.
 use Rattle.std.proofs.Common.{◌≡◌, Bool, true, false, not, ◌&&◌, [], refl, ap, sym, ◌∙◌}
+use Rattle.std.proofs.Math.Bool.{and-true, and_assoc}
 use Rattle.syn_lower_spec.specs.Form.{is_nil}
 use Rattle.syn_lower_spec.specs.PatFits.{attributes_outer}
 use Rattle.syn_expr_spec.specs.Slot as s
@@ -8,11 +9,9 @@ use Rattle.syn_expr_spec.specs.Stands.{is_attributed}
 use Rattle.syn_expr_spec.specs.Tree as e
 use Rattle.syn_expr_spec.specs.Tree.{Tree, Children, Ending, Piece, Trailer, Frame, leaf, paren, attributed, prefixed, infixed, postfixed, tail, frame, none, child, is_none}
 use Rattle.syn_expr_spec.specs.WellFormed.{well, children_well, has_rest, trailer_fits, trailer_slot, frame_fits, frame_slot, prefix_fits, piece_fits}
-use Rattle.syn_expr_spec.proofs.Bools.{and_true}
 use Rattle.syn_expr_ast.specs.Node.{attributes_at, operands_at, stray_trees, without_strays, based_by}
 use Rattle.syn_expr_wellformed.specs.Well.{own_fits, slot_at, dots_at, frame_dots}
 use Rattle.syn_expr_wellformed.specs.Walk.{operands_well, node_fits, is_plain, is_whole}
-use Rattle.syn_expr_wellformed.proofs.Closures.{and_assoc}
 
 -- this is asked of a node but for the attributes before it
 abbrev core_well : Tree → Bool
@@ -71,10 +70,10 @@ frame_split e.array ks = refl
 frame_split e.tuple ks = refl
 frame_split e.repeat ks = refl
 frame_split (e.structure q p d) ks = dots_last _ _ d (has_rest ks)
-frame_split (e.closure_block h) ks = sym (and_true _)
+frame_split (e.closure_block h) ks = sym (and-true _)
 frame_split e.if_expr ks = refl
 frame_split (e.while_loop w) ks = refl
-frame_split (e.for_loop w p) ks = sym (and_true _)
+frame_split (e.for_loop w p) ks = sym (and-true _)
 frame_split e.match_expr ks = refl
 frame_split e.group_expr ks = refl
 
@@ -126,16 +125,16 @@ tail_is b k none = refl
 tail_is b k (child p c t ks) = refl
 
 core_is : (t : Tree) → is_plain t ≡ true → core_well t ≡ well t
-core_is (leaf k) h = and_true _
-core_is (paren m t) h = and_true (well t)
+core_is (leaf k) h = and-true _
+core_is (paren m t) h = and-true (well t)
 core_is (attributed a more t) h = absurd cc
-core_is (prefixed k gs t) h = rw (strays_none gs h, and_true (well t)) (by (prefix_fits k) (is_none gs))
+core_is (prefixed k gs t) h = rw (strays_none gs h, and-true (well t)) (by (prefix_fits k) (is_none gs))
   where
     by : (a b : Bool) → ((a && b) && well t) ≡ (a && (b && well t))
     by true b = refl
     by false b = refl
 core_is (infixed x k y) h = refl
-core_is (postfixed x k) h = rw (and_true (well x)) refl
+core_is (postfixed x k) h = rw (and-true (well x)) refl
 core_is (tail b k ks) h = ap (λ c. trailer_fits k && c) (tail_is b k ks)
 core_is (frame k ks) h = frame_is k ks
 

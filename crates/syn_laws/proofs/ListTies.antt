@@ -10,6 +10,7 @@ use Rattle.syn_lower_spec.specs.Equal.{IsEqualityOf}
 use Rattle.syn_lower.specs.View.{mapped, values, trails, last_of, is_some_pair}
 use Rattle.syn_lower_leaves.specs.declared.punctuated.Punctuated.{Punctuated}
 use Rattle.syn_lower_leaves.proofs.Ties.{both_tie, on_tie, into_tie, option_tie, list_tie, pair_path, and_true_tie}
+use Rattle.syn_expr_core.proofs.TreeOf.{pairs_same}
 
 abbrev opt : {B : Type 0} → Option B → List B
 opt None = []
@@ -35,10 +36,6 @@ joined xs ys None (Some y) e h = absurd (no_end xs ys y (sym (append-nil xs) ∙
 joined xs ys (Some x) None e h = absurd (no_end ys xs x (sym (append-nil ys) ∙ sym e) (sym h))
 joined xs ys (Some x) (Some y) e h = let r = snoc xs ys x y e in let q : x ≡ y = r.1 in (r.0, cc)
 
-some_mapped : {A B : Type 0} (g : A → B) (xs : List A) → is_some_pair (map g xs) ≡ is_some_pair xs
-some_mapped g [] = refl
-some_mapped g (x ∷ xs) = refl
-
 module _ {A P B : Type 0} (f : A → B) where
   abbrev fronts : Punctuated A P → List B
   fronts p = map (λ q. f q.0) p.inner.items
@@ -62,7 +59,7 @@ module _ {A P B : Type 0} (f : A → B) where
 
   trailing : (p : Punctuated A P) → trails p ≡ (is_some_pair (fronts p) && not (is_some (ends p)))
   unfolding trails
-  trailing p = sym (ap (λ b. b && not (is_some p.last)) (some_mapped (λ q. f q.0) p.inner.items)) ∙ ap (λ b. is_some_pair (fronts p) && not b) (last p.last)
+  trailing p = sym (ap (λ b. b && not (is_some p.last)) (pairs_same (λ q. f q.0) p.inner.items)) ∙ ap (λ b. is_some_pair (fronts p) && not b) (last p.last)
     where
       last : (o : Option (Box A Global)) → is_some o ≡ is_some (mapped (λ b. f b.value) o)
       last None = refl

@@ -99,7 +99,7 @@ pointer_tie = record { same = go }
 
 -- ---- a tree tells its parts
 
-segments_once : (a b : List SegmentTree) → t.segments_of a ≡ t.segments_of b → a ≡ b
+pub segments_once : (a b : List SegmentTree) → t.segments_of a ≡ t.segments_of b → a ≡ b
 segments_once a b e = sym (segments-segments_of a) ∙ (ap t.segments e ∙ segments-segments_of b)
 
 types_once : (a b : List TypeTree) → t.types_of a ≡ t.types_of b → a ≡ b

@@ -1,5 +1,5 @@
 -- Whether two trees of expressions are equal can be decided.
-use Rattle.std.proofs.Common.{◌≡◌, Bool, true, false, List, Option, Some, None, refl, sym, ◌∙◌, ap, ◌↔◌, []}
+use Rattle.std.proofs.Common.{◌≡◌, Bool, true, false, List, Option, Some, None, refl, ap, ◌↔◌, []}
 use mathlib.Core.HLevel.{Discrete, ×_discrete}
 use mathlib.Core.Bool.{Bool-discrete}
 use mathlib.Core.List.{List-discrete}
@@ -11,13 +11,12 @@ use Rattle.syn_tokens.specs.Front.{same_delimiter}
 use Rattle.syn_tokens.specs.Same.{same_list, same_list-true, same_list_equiv, same_delimiter-true, same_delimiter-refl}
 use Rattle.syn_lower_spec.specs.Text.{Text}
 use Rattle.syn_lower_spec.specs.Tree as t
-use Rattle.syn_lower_spec.specs.Tree.{LitTree, AttributeTree, LifetimesTree, TypeTree, SegmentTree, PathTree, QSelfTree, no_qself, ReturnTree, ArgumentsTree}
+use Rattle.syn_lower_spec.specs.Tree.{LitTree, AttributeTree, LifetimesTree, TypeTree, PathTree, QSelfTree, no_qself, ReturnTree, ArgumentsTree}
 use Rattle.syn_lower_spec.specs.Part.{MacroTree}
 use Rattle.syn_lower_spec.specs.Pat.{MemberTree, a_name, an_index, PatBound, lit_bound, path_bound, PatTree, wild, rest, range, a_lit, a_binding, a_path, a_mac, a_struct, tuple_struct, a_tuple, a_paren, a_slice, a_reference, a_block, alternatives, guarded, typed, attributed, SubPat, no_sub, sub, Pats, no_pats, more_pats, Fields, no_fields, more_fields, FieldTree, short, full}
 use Rattle.syn_lower_spec.specs.Same.{same_lit}
 use Rattle.syn_lower_spec.proofs.Same.{compares_lits}
 use Rattle.syn_lower_spec.proofs.TreeEq.{type_eq, arguments_eq, return_eq}
-use Rattle.syn_lower_spec.proofs.Trees.{segments-segments_of}
 use Rattle.syn_expr_spec.specs.Tree as e
 use Rattle.syn_expr_spec.specs.Tree.{Body, Jump, Leaf, ClosureHead, Prefix, Postfix, Trailer, Frame, Piece, Ending, Tree, Children, leaf, paren, prefixed, infixed, postfixed, tail, frame, none, child}
 use Rattle.syn_expr_spec.specs.declared.kinds.BinKind.{BinKind}
@@ -48,7 +47,7 @@ use Rattle.syn_lower_types.specs.declared.path.QSelfOf.{QSelfOf}
 use Rattle.syn_lower_types.specs.declared.path.AngleBracketedGenericArgumentsOf.{AngleBracketedGenericArgumentsOf}
 use Rattle.syn_lower_types.specs.contracts.path.QSelfOfPartialEq.TheImpl as qself_test
 use Rattle.syn_lower_types.specs.contracts.path.AngleBracketedGenericArgumentsOfPartialEq.TheImpl as angle_test
-use Rattle.syn_laws.proofs.PartTies.{pointer_tie}
+use Rattle.syn_laws.proofs.PartTies.{pointer_tie, segments_once}
 use Rattle.syn_laws.proofs.LowerSames.{type_tie, path_tie, macro_tie, qself_tie, angle_tie}
 use Rattle.syn_expr_tokens.specs.View.{bin_kind, un_kind, limits_kind}
 use Rattle.syn_expr_tokens.specs.contracts.same.BinOpPartialEq.TheImpl as kind_ties_bin_test
@@ -176,9 +175,6 @@ attribute_eq = through {B = Bool × List Tok} (λ x. (x.inner, x.tokens)) (λ x 
 
 pub attributes_eq : Discrete (List AttributeTree)
 attributes_eq = List-discrete attribute_eq
-
-segments_once : (a b : List SegmentTree) → t.segments_of a ≡ t.segments_of b → a ≡ b
-segments_once a b h = sym (segments-segments_of a) ∙ (ap t.segments h ∙ segments-segments_of b)
 
 -- a path as a type
 abbrev as_type : PathTree → TypeTree

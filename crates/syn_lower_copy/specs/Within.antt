@@ -1,5 +1,5 @@
 -- What holds of each type that is in a part.
-use Rattle.std.specs.Prelude.{Contains, Option, None}
+use Rattle.std.specs.Prelude.{Contains, Option}
 use Rattle.std.specs.Option.{ForSome}
 use Rattle.syn_lower_leaves.specs.declared.punctuated.Punctuated.{Punctuated}
 use Rattle.syn_lower_types.specs.declared.path.PathOf.{PathOf}

@@ -1,6 +1,6 @@
 -- The value of a decimal number is that number.
-use Rattle.std.proofs.Common.{◌≡◌, ℕ, zero, suc, ◌+◌, ◌*◌, ◌/◌, ◌%◌, ◌^◌, ◌<◌, ◌≤◌, Bool, true, false, ◌||◌, ◌&&◌, ◌==◌, [], ◌∷◌, List, ◌++◌, refl, sym, ap, ◌∙◌, arith}
-use Rattle.std.specs.Prelude.{nat_lt, if◌then◌else◌}
+use Rattle.std.proofs.Common.{◌≡◌, ℕ, ◌+◌, ◌*◌, ◌/◌, ◌%◌, ◌^◌, ◌<◌, ◌≤◌, Bool, true, false, ◌||◌, ◌&&◌, ◌==◌, [], ◌∷◌, ◌++◌, refl, sym, ap, ◌∙◌, arith}
+use Rattle.std.specs.Prelude.{nat_lt}
 use Rattle.std.specs.Char.{is_ascii_digit}
 use Rattle.std.specs.Fmt.{decimal}
 use Rattle.std.specs.List.{list_all}
@@ -8,9 +8,9 @@ use Rattle.std.proofs.lemmas.Bool.Decides.{nat_tests}
 use Rattle.std.proofs.lemmas.Fmt.{decimal_by_steps_wide}
 use Rattle.std.proofs.lemmas.List.{append-nil, append_assoc}
 use Rattle.std.proofs.lemmas.List.Folds.{list_all-append}
-use Rattle.syn_lower_spec.specs.Text.{Text, byte_at, has_radix}
+use Rattle.syn_lower_spec.specs.Text.{Text, has_radix}
 use Rattle.syn_lower_spec.specs.Pat.{digit_value}
-use Rattle.syn_lower_leaves.specs.Value.{digits_value, int_value, base, behind_prefix}
+use Rattle.syn_lower_leaves.specs.Value.{digits_value, int_value}
 
 by_digit : (v c d : ℕ) (r : Text) → (c == 95) ≡ false → nat_lt (digit_value c) 10 ≡ true → digit_value c ≡ d
     → digits_value 10 v (c ∷ r) ≡ digits_value 10 (v * 10 + d) r

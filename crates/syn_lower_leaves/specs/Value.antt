@@ -1,11 +1,11 @@
 -- The values of literals, by the texts of their tokens, whatever their suffixes (Rust Reference, "Literal expressions",
 -- "Character and string literals", "Byte and byte string literals", "Number literals"). A text that the compiler refuses as a
 -- literal of its kind has no value.
-use Rattle.std.specs.Prelude.{ℕ, ◌+◌, ◌-◌, ◌*◌, ◌^◌, ◌++◌, Bool, true, false, not, ◌||◌, ◌&&◌, ◌==◌, nat_le, nat_lt, if◌then◌else◌, zero, suc, List, [], ◌∷◌, length, take, drop, filter, codes, Option, Some, None, option_map, option_and_then, option_to_list, encode_utf8_all}
+use Rattle.std.specs.Prelude.{ℕ, ◌+◌, ◌-◌, ◌*◌, ◌^◌, ◌++◌, Bool, true, false, not, ◌||◌, ◌&&◌, ◌==◌, nat_le, nat_lt, if◌then◌else◌, zero, suc, List, [], ◌∷◌, length, take, drop, filter, codes, Option, Some, None, option_map, option_to_list, encode_utf8_all}
 use Rattle.std.specs.Str.{bytes_eq}
 use Rattle.std.specs.List.{prefix_len}
 use Rattle.syn_lower_leaves.specs.declared.quoted.Style.{Style}
-use Rattle.syn_lower_spec.specs.Text.{Text, is_digit, byte_at, has_radix}
+use Rattle.syn_lower_spec.specs.Text.{Text, byte_at, has_radix}
 use Rattle.syn_lower_spec.specs.Pat.{digit_value, base_of}
 
 -- ---- integers ("Integer literal expressions")

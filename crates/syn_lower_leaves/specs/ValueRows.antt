@@ -1,5 +1,5 @@
 -- Literals from outside, and their values (rustc 1.90).
-use Rattle.std.specs.Prelude.{◌≡◌, List, [], ◌∷◌, codes, Some, None}
+use Rattle.std.specs.Prelude.{◌≡◌, [], ◌∷◌, codes, Some, None}
 use Rattle.syn_lower_leaves.specs.Value.{int_value, int_suffix, float_suffix, float_digits, char_value, byte_value, str_value, byte_str_value}
 
 pub record IntRows : Type 0 where

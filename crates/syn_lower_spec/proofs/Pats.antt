@@ -12,7 +12,7 @@ use Rattle.syn_lower_spec.specs.Tree.{LitTree, AttributeTree, TypeTree}
 use Rattle.syn_lower_spec.specs.Form.{Form, then_by, both, joined, more, flag, mark, maybe}
 use Rattle.syn_lower_spec.specs.Mark.{sign_at, colon}
 use Rattle.syn_lower_spec.specs.Part.{outer_attributes, qpath, type, QPathTree}
-use Rattle.syn_lower_spec.specs.Pat.{MemberTree, PatBound, PatTree, SubPat, Pats, FieldTree, FieldPatTree, PathEnd}
+use Rattle.syn_lower_spec.specs.Pat.{MemberTree, PatBound, PatTree, SubPat, Pats, FieldTree, PathEnd}
 use Rattle.syn_lower_spec.specs.Pat as p
 use Rattle.syn_lower_spec.proofs.Weights.{some_is}
 use Rattle.syn_lower_spec.proofs.Marks.{marks, begins_in_front, sign_present, word_present, underscore_present, constant_present, and_present}

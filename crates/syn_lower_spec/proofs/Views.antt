@@ -4,7 +4,7 @@ use Rattle.std.proofs.lemmas.Bool.Decides.{nat_tests}
 use Rattle.syn_lexer.specs.declared.front.Delimiter.{Delimiter}
 use Rattle.syn_tokens.specs.Tok.{Tok}
 use Rattle.syn_lower_spec.specs.Tree as t
-use Rattle.syn_lower_spec.specs.Tree.{LifetimesTree, TypeTree, SegmentTree, PathTree, FnArgTree, ArgumentsTree, GenericTree, ReturnTree, BoundTree}
+use Rattle.syn_lower_spec.specs.Tree.{TypeTree, SegmentTree, PathTree, ReturnTree, BoundTree}
 use Rattle.syn_lower_spec.specs.Part.{to_outer, from_outer, to_inner, from_inner, to_path, from_path, to_angle, from_angle, to_round, from_round, has_none, to_segment, from_segment, from_lifetime, from_const, to_assoc, from_assoc, from_type, to_trait, from_trait, from_outlives, to_one, from_one, to_several, from_several, Qualified, QPathTree, to_qualified, qualified_by, from_qualified, to_bare, from_bare, MacroEnd, to_named, from_named, to_reference, from_reference, to_pointer, from_pointer, to_row, from_row, to_tuple, tuple_of, from_tuple, to_impl, from_impl, to_object, from_object, is_never, is_infer, to_arg, from_arg, to_fn, from_fn, from_given, is_default, to_macro, from_macro}
 use Rattle.syn_lower_spec.proofs.Weights.{some_is}
 use Rattle.syn_lower_spec.proofs.Same.{both_true, not_true}

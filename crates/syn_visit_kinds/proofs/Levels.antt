@@ -3,6 +3,7 @@ use Rattle.std.specs.List.{list_any}
 use Rattle.std.proofs.Common.{◌≡◌, Bool, true, false, ◌||◌, List, [], ◌∷◌, ◌++◌, flat_map, refl, sym, ap, ◌∙◌}
 use Rattle.std.proofs.lemmas.List.{append-nil}
 use Rattle.std.proofs.lemmas.List.Concat.{flat_map-append}
+use Rattle.std.proofs.Math.Bool.{or-false}
 use Rattle.syn_expr_spec.specs.Tree.{Tree, Children, leaf, paren, attributed, prefixed, infixed, postfixed, tail, frame, none, child}
 use Rattle.syn_visit_kinds.specs.Nodes.{all_nodes, child_nodes, child_operands, map_children, map_operands, nodes_below, operands_in, rewrite_below, rewrite_children, rewrite_tree}
 
@@ -48,10 +49,6 @@ nodes_level t = ap (λ l. t ∷ l) (below_nodes t)
 
 -- ---- whether a node passes a test: it does, or one below does
 
-pub or_false : (b : Bool) → b || false ≡ b
-or_false true = refl
-or_false false = refl
-
 by_first : (b c d e : Bool) → c ≡ d || e → b || c ≡ (b || d) || e
 by_first true c d e h = refl
 by_first false c d e h = h
@@ -70,13 +67,13 @@ module _ (p : Tree → Bool) where
 
   below_any : (t : Tree) → list_any p (nodes_below t) ≡ list_any any_in (operands_in t)
   below_any (leaf k) = refl
-  below_any (paren m t) = sym (or_false (any_in t))
+  below_any (paren m t) = sym (or-false (any_in t))
   below_any (attributed a more t) = below_any t
   below_any (prefixed k gs t) =
       any_both p (child_nodes gs) (all_nodes t) ∙ ap (λ b. b || any_in t) (children_any gs)
-      ∙ ap (λ b. list_any any_in (child_operands gs) || b) (sym (or_false (any_in t))) ∙ sym (any_both any_in (child_operands gs) (t ∷ []))
-  below_any (infixed x k y) = any_both p (all_nodes x) (all_nodes y) ∙ ap (λ b. any_in x || b) (sym (or_false (any_in y)))
-  below_any (postfixed x k) = sym (or_false (any_in x))
+      ∙ ap (λ b. list_any any_in (child_operands gs) || b) (sym (or-false (any_in t))) ∙ sym (any_both any_in (child_operands gs) (t ∷ []))
+  below_any (infixed x k y) = any_both p (all_nodes x) (all_nodes y) ∙ ap (λ b. any_in x || b) (sym (or-false (any_in y)))
+  below_any (postfixed x k) = sym (or-false (any_in x))
   below_any (tail b k ks) = any_both p (all_nodes b) (child_nodes ks) ∙ ap (λ c. any_in b || c) (children_any ks)
   below_any (frame k ks) = children_any ks
 

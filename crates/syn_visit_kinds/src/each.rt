@@ -1,7 +1,7 @@
 //! Calls a function on each operand that a box, an option or a list holds, from left to right, with a state of the caller's.
 
 ghost use Rattle.std.specs.Option.{ForSome};
-ghost use Rattle.std.specs.Prelude.{◌≡◌, ◌++◌, ◌∷◌, [], Contains, map};
+ghost use Rattle.std.specs.Prelude.{◌++◌, ◌∷◌, [], Contains, map};
 ghost use Rattle.syn_expr_ast.specs.declared.structure.FieldValueOf.{FieldValueOf};
 ghost use Rattle.syn_lower_leaves.specs.View.{last_of, values};
 ghost use Rattle.syn_visit_kinds.specs.Parts.{else_operand};

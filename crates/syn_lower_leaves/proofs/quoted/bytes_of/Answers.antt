@@ -1,5 +1,4 @@
 use Rattle.std.proofs.Common.{◌≡◌, ◌≤◌, ◌∙◌, Some, sym}
-use Rattle.std.specs.Prelude.{string_bytes}
 use Rattle.syn_lower_leaves.specs.Value.{piece}
 use Rattle.syn_lower_leaves.proofs.Quotes.{bytes_put}
 use Rattle.syn_lower_leaves.proofs.quoted.bytes_of.Goals as goal
