@@ -12,7 +12,7 @@ use Rattle.syn_expr_spec.specs.Place.{takes}
 use Rattle.syn_expr_spec.specs.Next.{takes_next, trails}
 use Rattle.syn_expr_spec.specs.Summaries.{index, classes, bit, bits, set_of, has, wrapped_by, end_by}
 use Rattle.std.proofs.Math.Nat.{pow-suc}
-use Rattle.std.proofs.Math.Bool.{or-false}
+use Rattle.std.proofs.Math.Bool.{or-false, or_comm}
 use Rattle.syn_expr_spec.proofs.SummaryLemmas.{bits_at, set_has}
 
 -- ---- a set is below 2 ^ 24
@@ -125,12 +125,6 @@ range_ends true false = refl
 range_ends false true = refl
 range_ends false false = refl
 
-or_swapped : (a b : Bool) → a || b ≡ b || a
-or_swapped true true = refl
-or_swapped true false = refl
-or_swapped false true = refl
-or_swapped false false = refl
-
 set_small : (f : Next → Bool) → set_of f < 2 ^ 24
 unfolding set_of
 set_small f = bits_small f classes
@@ -157,7 +151,7 @@ end_has v x w n =
       widened_has (not x.range) w n,
       widened_has x.carries w n,
       range_ends x.range (has w n),
-      or_swapped x.carries (has w n),
+      or_comm x.carries (has w n),
     ) refl
 
 pub ends_are : (v : Level) (x : Summary) (always : Bool)

@@ -3,6 +3,7 @@ use Rattle.std.proofs.Common.{◌≡◌, Bool, false, not, ◌&&◌, List, [], �
 use Rattle.std.proofs.lemmas.List.{append-nil, append_assoc, map-append}
 use Rattle.std.specs.declared.boxed.Box.{Box}
 use Rattle.std.specs.declared.alloc.Global.{Global}
+use Rattle.std.proofs.lemmas.List.Folds.{flat_map-map}
 use Rattle.syn_lower_leaves.specs.View.{lifetime_of}
 use Rattle.syn_lower.specs.View.{is_mut, last_of, mapped, path_of, qself_or, return_of, trails, type_of, values}
 use Rattle.syn_expr_tokens.specs.View.{bin_kind, limits_kind, un_kind, label_of, member_of}
@@ -132,10 +133,6 @@ map_both : {A B C : Type 0} (h : B → C) (k : A → B) (xs : List A) → map h 
 map_both h k [] = refl
 map_both h k (x ∷ xs) = ap (λ l. h (k x) ∷ l) (map_both h k xs)
 
-flat_both : {A B C : Type 0} (h : B → List C) (k : A → B) (xs : List A) → flat_map h (map k xs) ≡ flat_map (λ x. h (k x)) xs
-flat_both h k [] = refl
-flat_both h k (x ∷ xs) = ap (λ l. h (k x) ++ l) (flat_both h k xs)
-
 module _ {E : Type 0} (f : E → Tree) where
   pub array_operands : (x : ExprArrayOf E) → HasOperands (expr_array_of f x) (map f (values x.elems))
   array_operands x = after (attrs_of x.attrs) (frame e.array (elements (map f (values x.elems)) (trails x.elems))) _ (elements_operands (map f (values x.elems)) (trails x.elems))
@@ -225,7 +222,7 @@ module _ {E P : Type 0} (f : E → Tree) (g : P → PatView) where
   pub closure_expr_operands : (x : ExprClosureOf E P) → HasOperands (expr_closure_of f g x) (flat_map (λ y. (g y).guards) (values x.inputs) ++ f x.body.value ∷ [])
   closure_expr_operands x =
       after (attrs_of x.attrs) (closure_by (return_of x.output) (closure_head_of g x) (guards (map g (values x.inputs))) (f x.body.value)) _ (closure_operands (return_of x.output) (closure_head_of g x) (guards (map g (values x.inputs))) (f x.body.value)
-      ∙ ap (λ l. l ++ f x.body.value ∷ []) (flat_both (λ (v : PatView). v.guards) g (values x.inputs)))
+      ∙ ap (λ l. l ++ f x.body.value ∷ []) (flat_map-map (λ (v : PatView). v.guards) g (values x.inputs)))
 
   pub for_loop_operands : (x : ExprForLoopOf E P) → HasOperands (expr_for_loop_of f g x) ((g x.pat.value).guards ++ f x.expr.value ∷ [])
   for_loop_operands x =
@@ -237,4 +234,4 @@ module _ {E P : Type 0} (f : E → Tree) (g : P → PatView) where
 
 module _ {E A : Type 0} (f : E → Tree) (a : A → ArmView) where
   pub match_operands : (x : ExprMatchOf E A) → HasOperands (expr_match_of f a x) (f x.expr.value ∷ flat_map (λ y. arm_operands (a y)) x.arms.items)
-  match_operands x = after (outer_of x.attrs) (frame e.match_expr (child e.scrutinee (e.opened (inner_of x.attrs)) (f x.expr.value) (arms (map a x.arms.items)))) _ (ap (λ l. f x.expr.value ∷ l) (arms_operands (map a x.arms.items) ∙ flat_both arm_operands a x.arms.items))
+  match_operands x = after (outer_of x.attrs) (frame e.match_expr (child e.scrutinee (e.opened (inner_of x.attrs)) (f x.expr.value) (arms (map a x.arms.items)))) _ (ap (λ l. f x.expr.value ∷ l) (arms_operands (map a x.arms.items) ∙ flat_map-map arm_operands a x.arms.items))
