@@ -77,7 +77,7 @@ fn expansion(alloc: Global, argument: HeldExpr, position: Position) -> Result<St
     expr_to_text(alloc, &made.expr, position)
 }
 
-/// The arguments of the program: `opt` and `a + b`.
+/// An argument of the macro: `a + b` if `is_sum`, else `opt`.
 fn argument(alloc: Global, is_sum: bool) -> Result<HeldExpr> {
     if !is_sum {
         return name(alloc, "opt");

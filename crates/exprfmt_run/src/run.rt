@@ -145,7 +145,8 @@ fn line_of_rest<R: Read>(
     }
 }
 
-/// Room for the line of a refusal: the longest text with the greatest places has fewer than 200 bytes.
+/// Room for the line of a refusal: the longest text with the greatest places has fewer than 200 bytes. (This bound isn't
+/// proved, so the contract of `report` allows for a line that doesn't fit.)
 const REFUSAL_SIZE: usize = 256;
 
 /// Writes why nothing was printed. It takes no memory but a room of fixed size: a line that did not fit there would be
@@ -167,11 +168,11 @@ fn report<E: Write>(errors: &mut Watched<E>, fault: Fault)
     };
 }
 
-/// Reads the input to its end, and writes the expression, with `bare` without the parentheses that it has, printed for
-/// the position, and a newline to `output`, or one line to `errors` that says why not: where the lexer or the reader
-/// refused the text or memory ran out, that it is no UTF-8, or that a read or a write failed. The result is the status:
-/// 0 where the expression was printed, else 1. Where a write fails, `output` has gained a front of its line, and
-/// nothing else; and so has `errors`.
+/// Reads the input to its end as one expression, and prints it for the position: one line to `output`. With `bare` the
+/// expression first loses its parentheses. If nothing can be printed, one line to `errors` says why: where the lexer or the
+/// reader refused the text or memory ran out, that it is no UTF-8, or that a read or a write failed. The result is the status:
+/// 0 if the expression was printed, else 1. Where a write fails, `output` has gained a front of its line, and nothing else; and
+/// so has `errors`.
 pub fn run<R: Read, W: Write, E: Write>(
     alloc: Global,
     position: Position,
@@ -198,7 +199,7 @@ pub fn run<R: Read, W: Write, E: Write>(
     }
 }
 
-/// Writes what the arguments are to `errors`. The result is the status of a call with others, 2.
+/// Writes the line of usage to `errors`. It answers 2, the status of a call with unknown arguments.
 pub fn usage<E: Write>(errors: &mut Watched<E>) -> u8
     ensures status { result ≡ 2 }
     ensures text { spec.Takes (spec.writer (E.contents errors.old.inner) errors.new.failed (E.contents errors.new.inner)) spec.usage }
@@ -286,6 +287,7 @@ fn write_whole<W: Write>(writer: &mut W, text: &[u8]) -> io::Result<()>
     ensures { MatchResult result (λ _. Appends (W.contents writer.old) (W.contents writer.new) text.now) (λ _. GainsFront (W.contents writer.old) text.now (W.contents writer.new)) }
 {
     let mut rest = text;
+    // It is bounded, so that it ends even if each write is interrupted.
     'writes: for _ in 0..u64::MAX {
         if rest.is_empty() {
             return Ok(());

@@ -1,10 +1,8 @@
 -- What is printed for an expression.
 use Rattle.std.specs.Prelude.{◌≡◌, ℕ, Bool, true, false, List, [], ◌∷◌, ◌++◌}
-use Rattle.syn_tokens.specs.Tok.{Tok}
-use Rattle.syn_tokens.specs.Text.{text}
 pub use Rattle.syn_expr_spec.specs.Printed.{Position}
 use Rattle.syn_expr_spec.specs.Tree.{Tree, flatten}
-use Rattle.syn_expr.specs.Promises.{PrintedAs}
+use Rattle.syn_expr.specs.Promises.{IsTextOf}
 use Rattle.syn_expr.specs.Texts.{StandsFor}
 use Rattle.exprs.specs.Kinds.{kind_of}
 
@@ -13,9 +11,9 @@ abbrev pub meant : Bool → Tree → Tree
 meant false t = t
 meant true t = flatten t
 
--- the tokens that are promised of a tree where it is printed in the position, and a newline after them
+-- the text that is promised of a tree where it is printed in the position, and a newline after it
 abbrev pub IsPrinted : Position → Tree → List ℕ → Type 0
-IsPrinted s t bytes = (ts : List Tok) × PrintedAs s t ts × (bytes ≡ text ts ++ 10 ∷ [])
+IsPrinted s t bytes = (cs : List ℕ) × IsTextOf s t cs × (bytes ≡ cs ++ 10 ∷ [])
 
 -- The same, unless the tree is shown: of what is written then nothing is promised.
 abbrev pub IsLineOf : Bool → Position → Tree → List ℕ → Type 0

@@ -3,16 +3,13 @@
 ghost use Rattle.std.specs.Prelude.{◌≡◌, ◌⊎◌, IfErr, IfOk, chars, string_bytes};
 ghost use Rattle.exprs.specs.Line as spec;
 ghost use Rattle.syn_expr.specs.Texts.{position_of, NothingStands};
-ghost use Rattle.syn_expr.specs.Promises.{PrintedAs};
 ghost use Rattle.syn_expr_core.specs.View.{tree_of};
 
 use crate::args::Settings;
 use crate::kinds::kind_of;
 use std::alloc::Global;
-use syn_expr::print::print_counted;
 use syn_expr::{
-    Error, ErrorKind, Expr, HeldExpr, Position, Result, TokenStream, dump, flatten_in_place,
-    parse_str, to_text,
+    ErrorKind, Expr, HeldExpr, Position, Result, dump, expr_to_text, flatten_in_place, parse_str,
 };
 
 /// Makes of an expression that was read what is printed of it: with `bare` it loses its parentheses.
@@ -26,22 +23,12 @@ fn prepare(bare: bool, expr: &mut Expr) -> Result<()>
     Ok(())
 }
 
-/// The tokens of the printed expression.
-fn tokens_of(alloc: Global, position: Position, expr: &Expr) -> Result<TokenStream>
-    ensures value { IfOk result (λ ts. PrintedAs (position_of position) (tree_of expr.now) ts) }
-    ensures refused { IfErr result (λ e. e.kind ≡ ErrorKind.OutOfMemory) }
-{
-    let (tokens, _) = print_counted(alloc, expr, position.fixup())?;
-    Ok(tokens)
-}
-
 /// The line of the printed expression, with its newline.
 fn printed(alloc: Global, position: Position, expr: &Expr) -> Result<String>
     ensures value { IfOk result (λ s. spec.IsPrinted (position_of position) (tree_of expr.now) (string_bytes s)) }
     ensures refused { IfErr result (λ e. e.kind ≡ ErrorKind.OutOfMemory) }
 {
-    let tokens = tokens_of(alloc, position, expr)?;
-    let mut line = to_text(&tokens)?;
+    let mut line = expr_to_text(alloc, expr, position)?;
     line.push('\n')?;
     Ok(line)
 }

@@ -157,8 +157,9 @@ fn write_not_utf8<E: Write>(alloc: Global, name: &str, errors: &mut E) -> io::Re
     errors.write_all(line.as_str().as_bytes())
 }
 
-/// Writes the answers for all expressions of a file of this name: lines to `output`, with `kinds` none, and refusals to
-/// `errors`; or that it is no UTF-8. The result is whether each expression was read.
+/// Writes a line for each expression of a file of this name to `output`, or nothing if kinds are counted, and a report for
+/// each that was refused to `errors`. If the file is no UTF-8, `errors` says so. The result is whether each expression was
+/// read.
 pub fn write_file<W: Write, E: Write>(
     alloc: Global,
     settings: Settings,
@@ -193,7 +194,7 @@ fn write_count<W: Write>(alloc: Global, count: u64, name: &str, output: &mut W) 
     Ok(())
 }
 
-/// Writes a line for each kind that was counted, in the order of their names.
+/// Writes a line for each kind that was counted, in the order of `names`.
 pub fn write_counts<W: Write>(
     alloc: Global,
     counts: &[u64],

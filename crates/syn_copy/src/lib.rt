@@ -15,7 +15,7 @@ use syn_expr_core::control::Arm;
 use syn_expr_core::expr::Expr;
 use syn_expr_core::held::HeldExpr;
 use syn_expr_core::pat::Pat;
-use syn_expr_parse::known::Held;
+pub use syn_expr_parse::known::Held;
 use syn_tokens::error::{ErrorKind, Result};
 
 /// A copy of an expression, with its places. Where memory runs out it is refused as `OutOfMemory`, and all that was copied by
@@ -29,7 +29,8 @@ pub fn copy_expr(alloc: Global, x: &Expr) -> Result<HeldExpr>
     })
 }
 
-/// A copy of a pattern, with its places. It is refused as `copy_expr` is.
+/// A copy of a pattern, with its places. Where memory runs out it is refused as `OutOfMemory`, and all that was copied by then
+/// is dropped.
 pub fn copy_pat(alloc: Global, x: &Pat) -> Result<Held<Pat>>
     ensures copied { IfOk result (λ y. pat_of y.value ≡ pat_of x.now) }
     ensures memory { IfErr result (λ e. e.kind ≡ ErrorKind.OutOfMemory) }
@@ -39,7 +40,8 @@ pub fn copy_pat(alloc: Global, x: &Pat) -> Result<Held<Pat>>
     })
 }
 
-/// A copy of an arm of `match`, with its places. It is refused as `copy_expr` is.
+/// A copy of an arm of `match`, with its places. Where memory runs out it is refused as `OutOfMemory`, and all that was copied
+/// by then is dropped.
 pub fn copy_arm(alloc: Global, x: &Arm) -> Result<Held<Arm>>
     ensures copied { IfOk result (λ y. arm_of y.value ≡ arm_of x.now) }
     ensures memory { IfErr result (λ e. e.kind ≡ ErrorKind.OutOfMemory) }

@@ -24,10 +24,7 @@ use syn_tokens::tree::{TokenStream, copy_trees};
 fn read_whole(tokens: TokenStream) -> Result<Expr>
     ensures { (x : Tree) → Stands plain tokens x [] → Gives tree_of x result }
 {
-    match parse2::<HeldExpr>(tokens) {
-        Ok(read) => Ok(read.into_inner()),
-        Err(e) => Err(e),
-    }
+    Ok(parse2::<HeldExpr>(tokens)?.into_inner())
 }
 
 /// Prints an expression for itself and reads the tokens: a well-formed one is read back as the same tree, up to parentheses
@@ -40,21 +37,21 @@ pub fn read_back(alloc: Global, expr: &Expr) -> Result<Expr>
     read_whole(tokens)
 }
 
-/// Prints an expression in a position, puts other tokens after it, and reads what is there: before whatever the position
-/// allows a well-formed expression is read back as the same tree, up to parentheses and fill-ins, and all after it is left,
-/// unless memory runs out (`OutOfMemory`). It answers what was read, and what is left.
+/// Prints an expression in a position, puts the tokens `rest` after it, and reads what is there. It answers what was read, and
+/// what is left. If the position allows `rest`, a well-formed expression is read back as the same tree, up to parentheses and
+/// fill-ins, and exactly `rest` is left, unless memory runs out (`OutOfMemory`).
 pub fn read_back_before(
     alloc: Global,
     position: Position,
     expr: &Expr,
-    behind: TokenStream,
+    rest: TokenStream,
 ) -> Result<(Expr, TokenStream)>
-    ensures { is_well_formed (tree_of expr.now) ≡ true → allows (position_of position) behind ≡ true
-        → MatchResult result (λ r. IsSameTree (tree_of expr.now) (tree_of r.0) × (r.1 ≡ behind)) (λ e. e.kind ≡ ErrorKind.OutOfMemory) }
+    ensures { is_well_formed (tree_of expr.now) ≡ true → allows (position_of position) rest ≡ true
+        → MatchResult result (λ r. IsSameTree (tree_of expr.now) (tree_of r.0) × (r.1 ≡ rest)) (λ e. e.kind ≡ ErrorKind.OutOfMemory) }
 {
     let mut tokens = TokenStream::new(alloc);
     print_expr(expr, &mut tokens, position.fixup())?;
-    tokens.append(behind)?;
+    tokens.append(rest)?;
     let mut input = ParseBuffer::new(&tokens)?;
     let read = match position.parse(&mut input) {
         Ok(expr) => HeldExpr { expr },

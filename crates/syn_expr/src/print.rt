@@ -93,7 +93,7 @@ pub enum Position {
 }
 
 impl Position {
-    /// Where an expression in this position is printed.
+    /// The `FixupContext` with which `print_expr` prints an expression in this position.
     pub fn fixup(self) -> FixupContext
         ensures { result ≡ whole_at (context_of (position_of self)) }
     {

@@ -1,5 +1,5 @@
-//! Whether a type ends with a group in braces. What is spelled by no tokens, as a path without segments, answers what is
-//! before it. Of verbatim tokens the last one answers.
+//! Whether a type ends with a group in braces. Where nothing is spelled, as by a path without segments, the answer is that of
+//! what is before it. Of verbatim tokens the last one decides.
 
 ghost use Rattle.std.specs.Prelude.{◌≡◌, ◌&&◌, false, map};
 ghost use Rattle.syn_expr_classify.specs.Right.{Tells};

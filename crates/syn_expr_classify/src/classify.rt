@@ -74,7 +74,7 @@ pub fn expr_trailing_brace<E: HasFrames>(expr: &E) -> bool
 
 /// What is at the right end.
 pub(crate) enum End<'a> {
-    /// No type: this is the answer.
+    /// No type is there: this is the answer.
     Known(bool),
     /// A type, which answers.
     Inside(&'a Type),
@@ -306,7 +306,7 @@ pub(crate) fn node_brace<E: HasFrames>(expr: &E, before: bool) -> bool
     }
 }
 
-/// The type of expressions, as one asks for what is last in it.
+/// A type of expressions of which it is known what is last in them.
 pub trait HasFrames: HasShape {
     /// The condition of an `if`, of a loop and of a `match` has its braces after it, and a closure with an output has its
     /// body alone; the attributes of a node are one list.

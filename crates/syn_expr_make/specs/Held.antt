@@ -24,10 +24,10 @@ is_one [] = false
 is_one (x ∷ []) = true
 is_one (x ∷ y ∷ more) = false
 
--- a literal of this kind, whose text has these characters
-abbrev pub IsLit : LitKind → Text → Tree → Type 0
-IsLit kind cs (leaf (lit x)) = (x.kind ≡ kind) × (chars x.text ≡ cs)
-IsLit kind cs _ = ⊥
+-- a literal of this kind, of the characters of whose text this is so
+abbrev pub IsLit : LitKind → (Text → Type 0) → Tree → Type 0
+IsLit kind IsSo (leaf (lit x)) = (x.kind ≡ kind) × IsSo (chars x.text)
+IsLit kind IsSo _ = ⊥
 
 -- a pattern, and the guards that are beside it
 abbrev pub pat_view : PatTree → List Tree → PatView

@@ -8,7 +8,7 @@ ghost use Rattle.syn_expr_spec.specs.Tree as e;
 ghost use Rattle.syn_lower.specs.View.{macro_of, path_of, type_of};
 ghost use Rattle.syn_lower_spec.specs.Tree.{no_qself};
 ghost use Rattle.syn_lower_types.specs.Word.{one_word};
-ghost use Rattle.syn_tokens.specs.Lex.{IsIdentText};
+ghost use Rattle.syn_tokens.specs.Lex.{IsIdentText, or_unknown, refusal};
 
 use crate::list::{separated, with_comma_if_one};
 use crate::operand::operand;
@@ -25,7 +25,7 @@ use syn_tokens::error::{ErrorKind, Result};
 use syn_tokens::token::{Bracket, Group, Paren, Semi, Underscore};
 use syn_tokens::tree::{Ident, Span, TokenStream};
 
-/// `[a, b]`
+/// Makes `[a, b]` (Rust Reference, "Array expressions"). It is refused only where memory runs out.
 pub fn array<H: HoldsExpr + Drop>(alloc: Global, elems: Vec<H>) -> Result<H>
     ensures made { let held = tree_in H.Expr.tree H.held in IfOk result (λ x. held x ≡ e.frame e.array (elements (map held elems.items) false)) }
     ensures memory { IfErr result (λ x. x.kind ≡ ErrorKind.OutOfMemory) }
@@ -38,7 +38,8 @@ pub fn array<H: HoldsExpr + Drop>(alloc: Global, elems: Vec<H>) -> Result<H>
     })))
 }
 
-/// `a` in an invisible group, as macros make them.
+/// Makes `a` in an invisible group, as macros make them. An expression that has such a group isn't well-formed. It is
+/// refused only where memory runs out.
 pub fn group<H: HoldsExpr + Drop>(alloc: Global, expr: H) -> Result<H>
     ensures made { let held = tree_in H.Expr.tree H.held in IfOk result (λ x. held x ≡ e.frame e.group_expr (e.child e.grouped e.no_ending (held expr) e.none)) }
     ensures memory { IfErr result (λ x. x.kind ≡ ErrorKind.OutOfMemory) }
@@ -51,7 +52,7 @@ pub fn group<H: HoldsExpr + Drop>(alloc: Global, expr: H) -> Result<H>
     })))
 }
 
-/// `_`
+/// Makes `_` (Rust Reference, "Underscore expressions").
 pub fn infer<H: HoldsExpr>(alloc: Global) -> H
     ensures { H.Expr.tree (H.held result) ≡ e.leaf e.infer }
 {
@@ -61,7 +62,7 @@ pub fn infer<H: HoldsExpr>(alloc: Global) -> H
     }))
 }
 
-/// `m!(..)`
+/// Makes `m!(..)` (Rust Reference, "Macro Invocation").
 pub fn mac<H: HoldsExpr>(alloc: Global, mac: Macro) -> H
     ensures { H.Expr.tree (H.held result) ≡ e.leaf (e.mac (macro_of type_of mac)) }
 {
@@ -71,11 +72,14 @@ pub fn mac<H: HoldsExpr>(alloc: Global, mac: Macro) -> H
     }))
 }
 
-/// `a`, the path that is this word. A text that is no identifier is refused. A word that may be in no path, as `if`, makes an
-/// expression that isn't well-formed.
+/// Makes `a`, the path that is this word (Rust Reference, "Path expressions"). A text that is no identifier or reserved
+/// word is refused as `Ident::new` refuses it; else it is refused only where memory runs out. A word that may be in no
+/// path, as `if`, makes an expression that isn't well-formed.
 pub fn name<H: HoldsExpr>(alloc: Global, name: &str) -> Result<H>
     ensures made { IfOk result (λ x. H.Expr.tree (H.held x) ≡ e.leaf (e.path no_qself (one_word name.now))) }
+    ensures word { IfOk result (λ x. IsIdentText (chars name.now)) }
     ensures refused { IfErr result (λ x. (x.kind ≡ ErrorKind.OutOfMemory) ⊎ ¬ IsIdentText (chars name.now)) }
+    ensures kind { IfErr result (λ x. (x.kind ≡ ErrorKind.OutOfMemory) ⊎ (x.kind ≡ ErrorKind.Lex (or_unknown (refusal (chars name.now))))) }
 {
     let ident = Ident::new(alloc, name, Span::call_site())?;
     match Path::from_ident(alloc, ident) {
@@ -84,7 +88,7 @@ pub fn name<H: HoldsExpr>(alloc: Global, name: &str) -> Result<H>
     }
 }
 
-/// `(a)`
+/// Makes `(a)` (Rust Reference, "Grouped expressions"). It is refused only where memory runs out.
 pub fn paren<H: HoldsExpr + Drop>(alloc: Global, expr: H) -> Result<H>
     ensures made { let held = tree_in H.Expr.tree H.held in IfOk result (λ x. held x ≡ e.paren false (held expr)) }
     ensures memory { IfErr result (λ x. x.kind ≡ ErrorKind.OutOfMemory) }
@@ -97,7 +101,7 @@ pub fn paren<H: HoldsExpr + Drop>(alloc: Global, expr: H) -> Result<H>
     })))
 }
 
-/// `a::b`
+/// Makes `a::b` (Rust Reference, "Path expressions").
 pub fn path<H: HoldsExpr>(alloc: Global, path: Path) -> H
     ensures { H.Expr.tree (H.held result) ≡ e.leaf (e.path no_qself (path_of type_of path)) }
 {
@@ -108,7 +112,7 @@ pub fn path<H: HoldsExpr>(alloc: Global, path: Path) -> H
     }))
 }
 
-/// `[a; n]`
+/// Makes `[a; n]` (Rust Reference, "Array expressions"). It is refused only where memory runs out.
 pub fn repeat<H: HoldsExpr + Drop>(alloc: Global, expr: H, len: H) -> Result<H>
     ensures made { let held = tree_in H.Expr.tree H.held in IfOk result (λ x. held x ≡ e.frame e.repeat (e.child e.repeated e.no_ending (held expr) (e.child e.value e.no_ending (held len) e.none))) }
     ensures memory { IfErr result (λ x. x.kind ≡ ErrorKind.OutOfMemory) }
@@ -124,7 +128,7 @@ pub fn repeat<H: HoldsExpr + Drop>(alloc: Global, expr: H, len: H) -> Result<H>
     })))
 }
 
-/// `()`, `(a,)`, `(a, b)`
+/// Makes `()`, `(a,)` or `(a, b)` (Rust Reference, "Tuple expressions"). It is refused only where memory runs out.
 pub fn tuple<H: HoldsExpr + Drop>(alloc: Global, elems: Vec<H>) -> Result<H>
     ensures made { let held = tree_in H.Expr.tree H.held in IfOk result (λ x. held x ≡ e.frame e.tuple (elements (map held elems.items) (is_one elems.items))) }
     ensures memory { IfErr result (λ x. x.kind ≡ ErrorKind.OutOfMemory) }
@@ -137,7 +141,7 @@ pub fn tuple<H: HoldsExpr + Drop>(alloc: Global, elems: Vec<H>) -> Result<H>
     })))
 }
 
-/// Tokens that are kept as they are.
+/// Makes an expression of tokens that are kept as they are. It isn't well-formed.
 pub fn verbatim<H: HoldsExpr>(tokens: TokenStream) -> H
     ensures { H.Expr.tree (H.held result) ≡ e.leaf (e.verbatim tokens) }
 {

@@ -40,7 +40,7 @@ fn else_or_none<E: HasExprTree + LetGo>(operand: Option<Held<Box<E>>>) -> Option
     }
 }
 
-/// `async move { .. }`, or `async { .. }`.
+/// Makes `async move { .. }`, or `async { .. }` (Rust Reference, "`async` blocks").
 pub fn async_block<H: HoldsExpr>(alloc: Global, is_move: bool, stmts: TokenStream) -> H
     ensures { H.Expr.tree (H.held result) ≡ e.leaf (e.async_block is_move stmts) }
 {
@@ -53,7 +53,7 @@ pub fn async_block<H: HoldsExpr>(alloc: Global, is_move: bool, stmts: TokenStrea
     }))
 }
 
-/// `{ .. }`
+/// Makes `{ .. }` (Rust Reference, "Block expressions").
 pub fn block<H: HoldsExpr>(alloc: Global, stmts: TokenStream) -> H
     ensures { H.Expr.tree (H.held result) ≡ e.leaf (e.block None (e.body_of [] stmts)) }
 {
@@ -64,7 +64,7 @@ pub fn block<H: HoldsExpr>(alloc: Global, stmts: TokenStream) -> H
     }))
 }
 
-/// `const { .. }`
+/// Makes `const { .. }` (Rust Reference, "`const` blocks").
 pub fn const_block<H: HoldsExpr>(alloc: Global, stmts: TokenStream) -> H
     ensures { H.Expr.tree (H.held result) ≡ e.leaf (e.const_block (e.body_of [] stmts)) }
 {
@@ -76,7 +76,8 @@ pub fn const_block<H: HoldsExpr>(alloc: Global, stmts: TokenStream) -> H
     }))
 }
 
-/// `if a { .. } else b`. After `else` there is a block or another `if`; an expression that is neither is printed in braces.
+/// Makes `if a { .. } else b`, or `if a { .. }` (Rust Reference, "`if` expressions"). After `else` there is a block or
+/// another `if`; an expression that is neither is printed in braces. It is refused only where memory runs out.
 pub fn if_expr<H: HoldsExpr + Drop>(
     alloc: Global,
     cond: H,
@@ -97,7 +98,7 @@ pub fn if_expr<H: HoldsExpr + Drop>(
     })))
 }
 
-/// `loop { .. }`
+/// Makes `loop { .. }` (Rust Reference, "Infinite loops").
 pub fn loop_expr<H: HoldsExpr>(alloc: Global, body: TokenStream) -> H
     ensures { H.Expr.tree (H.held result) ≡ e.leaf (e.loop_expr None (e.body_of [] body)) }
 {
@@ -109,7 +110,7 @@ pub fn loop_expr<H: HoldsExpr>(alloc: Global, body: TokenStream) -> H
     }))
 }
 
-/// `try { .. }`
+/// Makes `try { .. }`, which is not stable.
 pub fn try_block<H: HoldsExpr>(alloc: Global, stmts: TokenStream) -> H
     ensures { H.Expr.tree (H.held result) ≡ e.leaf (e.try_block stmts) }
 {
@@ -121,7 +122,7 @@ pub fn try_block<H: HoldsExpr>(alloc: Global, stmts: TokenStream) -> H
     }))
 }
 
-/// `unsafe { .. }`
+/// Makes `unsafe { .. }` (Rust Reference, "`unsafe` blocks").
 pub fn unsafe_block<H: HoldsExpr>(alloc: Global, stmts: TokenStream) -> H
     ensures { H.Expr.tree (H.held result) ≡ e.leaf (e.unsafe_block (e.body_of [] stmts)) }
 {
@@ -132,7 +133,7 @@ pub fn unsafe_block<H: HoldsExpr>(alloc: Global, stmts: TokenStream) -> H
     }))
 }
 
-/// `while a { .. }`
+/// Makes `while a { .. }` (Rust Reference, "Predicate loops"). It is refused only where memory runs out.
 pub fn while_expr<H: HoldsExpr + Drop>(alloc: Global, cond: H, body: TokenStream) -> Result<H>
     ensures made { let held = tree_in H.Expr.tree H.held in IfOk result (λ x. held x ≡ e.frame (e.while_loop None) (e.child e.loop_head (e.braced (e.body_of [] body)) (held cond) e.none)) }
     ensures memory { IfErr result (λ x. x.kind ≡ ErrorKind.OutOfMemory) }

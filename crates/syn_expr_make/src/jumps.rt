@@ -14,7 +14,7 @@ use syn_expr_parse::known::HoldsExpr;
 use syn_tokens::error::{ErrorKind, Result};
 use syn_tokens::token::{Break, Continue, Return, Yield};
 
-/// `break`, `break a`
+/// Makes `break`, or `break a` (Rust Reference, "`break` expressions"). It is refused only where memory runs out.
 pub fn break_expr<H: HoldsExpr + Drop>(alloc: Global, expr: Option<H>) -> Result<H>
     ensures made { let held = tree_in H.Expr.tree H.held in IfOk result (λ x. held x ≡ jump_with (e.breaking None) (option_map held expr)) }
     ensures memory { IfErr result (λ x. x.kind ≡ ErrorKind.OutOfMemory) }
@@ -28,7 +28,7 @@ pub fn break_expr<H: HoldsExpr + Drop>(alloc: Global, expr: Option<H>) -> Result
     })))
 }
 
-/// `continue`
+/// Makes `continue` (Rust Reference, "`continue` expressions").
 pub fn continue_expr<H: HoldsExpr>(alloc: Global) -> H
     ensures { H.Expr.tree (H.held result) ≡ e.leaf (e.continuing None) }
 {
@@ -39,7 +39,7 @@ pub fn continue_expr<H: HoldsExpr>(alloc: Global) -> H
     }))
 }
 
-/// `return`, `return a`
+/// Makes `return`, or `return a` (Rust Reference, "`return` expressions"). It is refused only where memory runs out.
 pub fn return_expr<H: HoldsExpr + Drop>(alloc: Global, expr: Option<H>) -> Result<H>
     ensures made { let held = tree_in H.Expr.tree H.held in IfOk result (λ x. held x ≡ jump_with e.returning (option_map held expr)) }
     ensures memory { IfErr result (λ x. x.kind ≡ ErrorKind.OutOfMemory) }
@@ -52,7 +52,7 @@ pub fn return_expr<H: HoldsExpr + Drop>(alloc: Global, expr: Option<H>) -> Resul
     })))
 }
 
-/// `yield`, `yield a`, which is not stable.
+/// Makes `yield`, or `yield a`, which is not stable. It is refused only where memory runs out.
 pub fn yield_expr<H: HoldsExpr + Drop>(alloc: Global, expr: Option<H>) -> Result<H>
     ensures made { let held = tree_in H.Expr.tree H.held in IfOk result (λ x. held x ≡ jump_with e.yielding (option_map held expr)) }
     ensures memory { IfErr result (λ x. x.kind ≡ ErrorKind.OutOfMemory) }

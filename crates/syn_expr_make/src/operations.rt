@@ -24,7 +24,7 @@ use syn_lower::ty::Type;
 use syn_tokens::error::{ErrorKind, Result};
 use syn_tokens::token::{And, As, Eq, Raw};
 
-/// `a = b`
+/// Makes `a = b` (Rust Reference, "Assignment expressions"). It is refused only where memory runs out.
 pub fn assign<H: HoldsExpr + Drop>(alloc: Global, left: H, right: H) -> Result<H>
     ensures made { let held = tree_in H.Expr.tree H.held in IfOk result (λ x. held x ≡ e.infixed (held left) inf.Assign (held right)) }
     ensures memory { IfErr result (λ x. x.kind ≡ ErrorKind.OutOfMemory) }
@@ -39,7 +39,7 @@ pub fn assign<H: HoldsExpr + Drop>(alloc: Global, left: H, right: H) -> Result<H
     })))
 }
 
-/// `a + b`, `a += b`
+/// Makes `a + b`, or `a += b` (Rust Reference, "Operator expressions"). It is refused only where memory runs out.
 pub fn binary<H: HoldsExpr + Drop>(alloc: Global, left: H, op: BinOp, right: H) -> Result<H>
     ensures made { let held = tree_in H.Expr.tree H.held in IfOk result (λ x. held x ≡ e.infixed (held left) (inf.Binary (bin_kind op)) (held right)) }
     ensures memory { IfErr result (λ x. x.kind ≡ ErrorKind.OutOfMemory) }
@@ -54,7 +54,7 @@ pub fn binary<H: HoldsExpr + Drop>(alloc: Global, left: H, op: BinOp, right: H) 
     })))
 }
 
-/// `a as T`.
+/// Makes `a as T` (Rust Reference, "Type cast expressions"). It is refused only where memory runs out.
 pub fn cast<H: HoldsExpr + Drop>(alloc: Global, expr: H, ty: Type) -> Result<H>
     ensures made { let held = tree_in H.Expr.tree H.held in IfOk result (λ x. held x ≡ e.postfixed (held expr) (e.cast (type_of ty))) }
     ensures memory { IfErr result (λ x. x.kind ≡ ErrorKind.OutOfMemory) }
@@ -69,7 +69,8 @@ pub fn cast<H: HoldsExpr + Drop>(alloc: Global, expr: H, ty: Type) -> Result<H>
     })))
 }
 
-/// `a..b`, `a..`, `..=b`, `..`
+/// Makes `a..b`, `a..`, `..=b` or `..` (Rust Reference, "Range expressions"). A `..=` without an end makes an expression
+/// that isn't well-formed. It is refused only where memory runs out.
 pub fn range<H: HoldsExpr + Drop>(
     alloc: Global,
     start: Option<H>,
@@ -89,7 +90,8 @@ pub fn range<H: HoldsExpr + Drop>(
     })))
 }
 
-/// `&raw mut a`, or `&raw const a`.
+/// Makes `&raw mut a`, or `&raw const a` (Rust Reference, "Raw borrow operators"). It is refused only where memory runs
+/// out.
 pub fn raw_addr<H: HoldsExpr + Drop>(alloc: Global, is_mut: bool, expr: H) -> Result<H>
     ensures made { let held = tree_in H.Expr.tree H.held in IfOk result (λ x. held x ≡ e.prefixed (e.raw_addr is_mut) e.none (held expr)) }
     ensures memory { IfErr result (λ x. x.kind ≡ ErrorKind.OutOfMemory) }
@@ -104,7 +106,7 @@ pub fn raw_addr<H: HoldsExpr + Drop>(alloc: Global, is_mut: bool, expr: H) -> Re
     })))
 }
 
-/// `&mut a`, or `&a`.
+/// Makes `&mut a`, or `&a` (Rust Reference, "Borrow operators"). It is refused only where memory runs out.
 pub fn reference<H: HoldsExpr + Drop>(alloc: Global, is_mut: bool, expr: H) -> Result<H>
     ensures made { let held = tree_in H.Expr.tree H.held in IfOk result (λ x. held x ≡ e.prefixed (e.reference is_mut) e.none (held expr)) }
     ensures memory { IfErr result (λ x. x.kind ≡ ErrorKind.OutOfMemory) }
@@ -118,7 +120,7 @@ pub fn reference<H: HoldsExpr + Drop>(alloc: Global, is_mut: bool, expr: H) -> R
     })))
 }
 
-/// `*a`, `!a`, `-a`
+/// Makes `*a`, `!a` or `-a` (Rust Reference, "Operator expressions"). It is refused only where memory runs out.
 pub fn unary<H: HoldsExpr + Drop>(alloc: Global, op: UnOp, expr: H) -> Result<H>
     ensures made { let held = tree_in H.Expr.tree H.held in IfOk result (λ x. held x ≡ e.prefixed (e.unary (un_kind op)) e.none (held expr)) }
     ensures memory { IfErr result (λ x. x.kind ≡ ErrorKind.OutOfMemory) }

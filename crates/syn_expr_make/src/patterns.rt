@@ -7,7 +7,7 @@ ghost use Rattle.syn_expr_make.specs.Held.{arm_view, closure_head, pat_view, tre
 ghost use Rattle.syn_expr_spec.specs.Tree as e;
 ghost use Rattle.syn_lower.specs.View.{path_of, type_of};
 ghost use Rattle.syn_lower_spec.specs.Pat as p;
-ghost use Rattle.syn_tokens.specs.Lex.{IsIdentText};
+ghost use Rattle.syn_tokens.specs.Lex.{IsIdentText, or_unknown, refusal};
 
 use crate::list::{all_parts, separated_parts};
 use crate::operand::{in_box, operand};
@@ -34,7 +34,8 @@ pub type PatIn<H> = <<H as HoldsExpr>::Expr as IsExpr>::Pat;
 /// The arms in the expressions that an `H` holds.
 pub type ArmIn<H> = <<H as HoldsExpr>::Expr as IsExpr>::Arm;
 
-/// `p => b`, without a comma after it. The printer puts one where there has to be one.
+/// Makes `p => b` (Rust Reference, "`match` expressions"), without a comma after it: the printer puts one where there has
+/// to be one. It is refused only where memory runs out.
 pub fn arm<H: HoldsExpr + Drop>(
     alloc: Global,
     pat: Held<PatIn<H>>,
@@ -58,7 +59,7 @@ where
     })
 }
 
-/// `move |a, b| c`, or `|a, b| c`.
+/// Makes `move |a, b| c`, or `|a, b| c` (Rust Reference, "Closure expressions"). It is refused only where memory runs out.
 pub fn closure<H: HoldsExpr + Drop>(
     alloc: Global,
     is_move: bool,
@@ -90,7 +91,7 @@ where
     })))
 }
 
-/// `for p in a { .. }`
+/// Makes `for p in a { .. }` (Rust Reference, "Iterator loops"). It is refused only where memory runs out.
 pub fn for_loop<H: HoldsExpr + Drop>(
     alloc: Global,
     pat: Held<PatIn<H>>,
@@ -118,7 +119,8 @@ where
     })))
 }
 
-/// `p if a`, the pattern of an arm with a guard.
+/// Makes `p if a`, the pattern of an arm with a guard (Rust Reference, "Match guards"). It is refused only where memory
+/// runs out.
 pub fn guarded<H: HoldsExpr + Drop>(
     alloc: Global,
     pat: Held<PatIn<H>>,
@@ -141,10 +143,14 @@ where
     })
 }
 
-/// `a`, the pattern that binds a name. A text that is no identifier is refused.
+/// Makes `a`, the pattern that binds a name (Rust Reference, "Identifier patterns"). A text that is no identifier or
+/// reserved word is refused as `Ident::new` refuses it; else it is refused only where memory runs out. A reserved word
+/// makes a pattern that isn't read back.
 pub fn ident_pat<P: IsPat + LetGo>(alloc: Global, name: &str) -> Result<Held<P>>
     ensures made { IfOk result (λ x. P.view x.value ≡ pat_view (p.a_binding false false name.now p.no_sub) []) }
+    ensures word { IfOk result (λ x. IsIdentText (chars name.now)) }
     ensures refused { IfErr result (λ x. (x.kind ≡ ErrorKind.OutOfMemory) ⊎ ¬ IsIdentText (chars name.now)) }
+    ensures kind { IfErr result (λ x. (x.kind ≡ ErrorKind.OutOfMemory) ⊎ (x.kind ≡ ErrorKind.Lex (or_unknown (refusal (chars name.now))))) }
 {
     let ident = Ident::new(alloc, name, Span::call_site())?;
     Ok(Held {
@@ -158,7 +164,7 @@ pub fn ident_pat<P: IsPat + LetGo>(alloc: Global, name: &str) -> Result<Held<P>>
     })
 }
 
-/// `let p = a`, in a condition.
+/// Makes `let p = a`, for a condition (Rust Reference, "`if let` patterns"). It is refused only where memory runs out.
 pub fn let_expr<H: HoldsExpr + Drop>(alloc: Global, pat: Held<PatIn<H>>, expr: H) -> Result<H>
 where
     PatIn<H>: LetGo,
@@ -176,7 +182,7 @@ where
     })))
 }
 
-/// `match a { .. }`
+/// Makes `match a { .. }` (Rust Reference, "`match` expressions"). It is refused only where memory runs out.
 pub fn match_expr<H: HoldsExpr + Drop>(
     alloc: Global,
     expr: H,
@@ -198,7 +204,8 @@ where
     })))
 }
 
-/// `A(p, q)`, the pattern of a tuple struct or of such a variant.
+/// Makes `A(p, q)`, the pattern of a tuple struct or of such a variant (Rust Reference, "Tuple struct patterns"). It is
+/// refused only where memory runs out.
 pub fn tuple_struct_pat<P: IsPat + LetGo>(
     alloc: Global,
     path: Path,
@@ -218,7 +225,7 @@ pub fn tuple_struct_pat<P: IsPat + LetGo>(
     })
 }
 
-/// `_`, the pattern that matches all.
+/// Makes `_`, the pattern that matches all (Rust Reference, "Wildcard pattern").
 pub fn wild_pat<P: IsPat + LetGo>(alloc: Global) -> Held<P>
     ensures { P.view result.value ≡ pat_view p.wild [] }
 {

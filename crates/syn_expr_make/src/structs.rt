@@ -21,7 +21,7 @@ use syn_lower::path::Path;
 use syn_tokens::error::{ErrorKind, Result};
 use syn_tokens::token::{Brace, Colon};
 
-/// `a: 1`, the field of a struct expression.
+/// Makes `a: 1`, the field of a struct expression (Rust Reference, "Struct expressions").
 pub fn field_value<H: HoldsExpr>(
     alloc: Global,
     member: Member,
@@ -39,7 +39,8 @@ pub fn field_value<H: HoldsExpr>(
     }
 }
 
-/// `S { a: 1, b: 2, ..rest }`, or `S { a: 1, b: 2 }`.
+/// Makes `S { a: 1, b: 2, ..rest }`, or `S { a: 1, b: 2 }` (Rust Reference, "Struct expressions"). It is refused only where
+/// memory runs out.
 pub fn struct_expr<H: HoldsExpr + Drop>(
     alloc: Global,
     path: Path,

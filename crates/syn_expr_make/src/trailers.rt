@@ -7,7 +7,7 @@ ghost use Rattle.syn_expr_make.specs.Held.{tree_in};
 ghost use Rattle.syn_expr_tokens.specs.View.{member_of};
 ghost use Rattle.syn_expr_spec.specs.Tree as e;
 ghost use Rattle.syn_lower_spec.specs.Tree.{no_arguments};
-ghost use Rattle.syn_tokens.specs.Lex.{IsIdentText};
+ghost use Rattle.syn_tokens.specs.Lex.{IsIdentText, or_unknown, refusal};
 
 use crate::list::separated;
 use crate::operand::operand;
@@ -22,7 +22,7 @@ use syn_tokens::error::{ErrorKind, Result};
 use syn_tokens::token::{Await, Bracket, Dot, Paren, Question};
 use syn_tokens::tree::{Ident, Span};
 
-/// `a.await`
+/// Makes `a.await` (Rust Reference, "Await expressions"). It is refused only where memory runs out.
 pub fn await_expr<H: HoldsExpr + Drop>(alloc: Global, base: H) -> Result<H>
     ensures made { let held = tree_in H.Expr.tree H.held in IfOk result (λ x. held x ≡ e.tail (held base) e.await e.none) }
     ensures memory { IfErr result (λ x. x.kind ≡ ErrorKind.OutOfMemory) }
@@ -36,7 +36,7 @@ pub fn await_expr<H: HoldsExpr + Drop>(alloc: Global, base: H) -> Result<H>
     })))
 }
 
-/// `f(a, b)`
+/// Makes `f(a, b)` (Rust Reference, "Call expressions"). It is refused only where memory runs out.
 pub fn call<H: HoldsExpr + Drop>(alloc: Global, func: H, args: Vec<H>) -> Result<H>
     ensures made { let held = tree_in H.Expr.tree H.held in IfOk result (λ x. held x ≡ e.tail (held func) e.call (elements (map held args.items) false)) }
     ensures memory { IfErr result (λ x. x.kind ≡ ErrorKind.OutOfMemory) }
@@ -51,7 +51,7 @@ pub fn call<H: HoldsExpr + Drop>(alloc: Global, func: H, args: Vec<H>) -> Result
     })))
 }
 
-/// `a.b`, `a.0`
+/// Makes `a.b`, or `a.0` (Rust Reference, "Field access expressions"). It is refused only where memory runs out.
 pub fn field<H: HoldsExpr + Drop>(alloc: Global, base: H, member: Member) -> Result<H>
     ensures made { let held = tree_in H.Expr.tree H.held in IfOk result (λ x. held x ≡ e.tail (held base) (e.field (member_of member)) e.none) }
     ensures memory { IfErr result (λ x. x.kind ≡ ErrorKind.OutOfMemory) }
@@ -65,7 +65,7 @@ pub fn field<H: HoldsExpr + Drop>(alloc: Global, base: H, member: Member) -> Res
     })))
 }
 
-/// `a[i]`
+/// Makes `a[i]` (Rust Reference, "Array and slice indexing expressions"). It is refused only where memory runs out.
 pub fn index<H: HoldsExpr + Drop>(alloc: Global, expr: H, index: H) -> Result<H>
     ensures made { let held = tree_in H.Expr.tree H.held in IfOk result (λ x. held x ≡ e.tail (held expr) e.index (e.child e.value e.no_ending (held index) e.none)) }
     ensures memory { IfErr result (λ x. x.kind ≡ ErrorKind.OutOfMemory) }
@@ -80,7 +80,9 @@ pub fn index<H: HoldsExpr + Drop>(alloc: Global, expr: H, index: H) -> Result<H>
     })))
 }
 
-/// `a.f(b)`. A text that is no identifier is refused as the name of the method.
+/// Makes `a.f(b)` (Rust Reference, "Method-call expressions"). A text that is no identifier or reserved word is refused as
+/// the name of the method, as `Ident::new` refuses it; else it is refused only where memory runs out. A reserved word makes
+/// an expression that isn't well-formed.
 pub fn method_call<H: HoldsExpr + Drop>(
     alloc: Global,
     receiver: H,
@@ -88,7 +90,9 @@ pub fn method_call<H: HoldsExpr + Drop>(
     args: Vec<H>,
 ) -> Result<H>
     ensures made { let held = tree_in H.Expr.tree H.held in IfOk result (λ x. held x ≡ e.tail (held receiver) (e.method method.now no_arguments) (elements (map held args.items) false)) }
+    ensures word { IfOk result (λ x. IsIdentText (chars method.now)) }
     ensures refused { IfErr result (λ x. (x.kind ≡ ErrorKind.OutOfMemory) ⊎ ¬ IsIdentText (chars method.now)) }
+    ensures kind { IfErr result (λ x. (x.kind ≡ ErrorKind.OutOfMemory) ⊎ (x.kind ≡ ErrorKind.Lex (or_unknown (refusal (chars method.now))))) }
 {
     let method = Ident::new(alloc, method, Span::call_site())?;
     let receiver = operand(alloc, receiver)?;
@@ -104,7 +108,7 @@ pub fn method_call<H: HoldsExpr + Drop>(
     })))
 }
 
-/// `a?`
+/// Makes `a?` (Rust Reference, "The try propagation expression"). It is refused only where memory runs out.
 pub fn try_expr<H: HoldsExpr + Drop>(alloc: Global, expr: H) -> Result<H>
     ensures made { let held = tree_in H.Expr.tree H.held in IfOk result (λ x. held x ≡ e.tail (held expr) e.try_expr e.none) }
     ensures memory { IfErr result (λ x. x.kind ≡ ErrorKind.OutOfMemory) }

@@ -34,7 +34,7 @@ pub enum PatSort {
     Other,
 }
 
-/// The type of patterns, as one asks whether they are read back. It is one question, without others beside it: `Pat` asks
+/// A type of patterns of which it is known whether they are read back. It is one question, without others beside it: `Pat` asks
 /// itself through code that is generic in such a type, and what is not part of that recursion can't be passed on there.
 pub trait FitPat {
     ghost use Rattle.syn_pat.specs.View.{PatView};

@@ -14,10 +14,11 @@ pub struct LineColumn {
 }
 
 impl LineColumn {
-    /// The line and the column of an offset in a text, in bytes. An offset inside of a character counts as the start of
-    /// that character, one past the end of the text as its end.
+    /// The line and the column of a place in a text. `offset` counts the bytes before it. An offset inside of a character
+    /// counts as the start of that character, one past the end of the text as its end.
     pub fn of(text: &str, offset: usize) -> LineColumn
-        ensures { result ≡ spec.line_column offset (chars text.now) }
+        ensures at { result ≡ spec.line_column offset (chars text.now) }
+        ensures fits { result.column ≤ length text.now }
     {
         Place::of(text, offset).at
     }
@@ -73,7 +74,7 @@ impl<'a> Place<'a> {
         }
     }
 
-    /// The place of an offset in bytes.
+    /// The place of an offset, which counts bytes.
     pub(crate) fn of(text: &'a str, offset: usize) -> Place<'a>
         ensures at { result.at ≡ spec.line_column offset (chars text.now) }
         ensures line { chars result.line.now ≡ spec.from_line offset (chars text.now) }

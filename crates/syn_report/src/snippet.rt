@@ -9,7 +9,7 @@ use std::alloc::{AllocError, Global};
 use std::iter::repeat_n;
 use syn_tokens::error::Error;
 
-/// A character a few times.
+/// `c`, `count` times.
 fn repeated(alloc: Global, c: char, count: usize) -> Result<String, AllocError>
     ensures { IfOk result (λ s. string_bytes s ≡ encode_utf8_all (replicate count c)) }
 {
@@ -26,7 +26,7 @@ fn shown_line(alloc: Global, text: &str) -> Result<String, AllocError>
         .collect(alloc)
 }
 
-/// What stands below the first characters of a text.
+/// What stands below the first `count` characters of a text.
 fn blanks(alloc: Global, text: &str, count: usize) -> Result<String, AllocError>
     ensures { IfOk result (λ s. string_bytes s ≡ encode_utf8_all (map spec.blank (take count (chars text.now)))) }
 {

@@ -1,17 +1,16 @@
--- Which nodes call a method `clone`.
-use Rattle.std.proofs.Common.{◌≡◌, false, [], ◌∷◌, List, codes, refl, ap, ◌∙◌}
-use Rattle.std.specs.Str.{bytes_eq}
+-- What is asked of a method call by its name and its receiver.
+use Rattle.std.proofs.Common.{◌≡◌, Bool, false, [], ◌∷◌, List, refl, ap, ◌∙◌}
 use Rattle.syn_expr.specs.Prelude.{ArgumentsTree, AttributeTree, Children, Expr, ExprMethodCallOf, Text, Tree, attributed_with, attrs_of, behind_attributes, expr_method_call_of, is_method_call, method, tail, tree_of, turbofish_of}
-use Rattle.warnings.specs.Warnings.{is_clone}
+use Rattle.warnings.specs.Warnings.{is_call}
 
-after : (ats : List AttributeTree) (b : Tree) (name : Text) (types : ArgumentsTree) (ks : Children)
-    → bytes_eq name (codes "clone") ≡ behind_attributes is_clone (attributed_with ats (tail b (method name types) ks))
-after [] b name types ks = refl
-after (a ∷ ats) b name types ks = refl
+after : (asks : Text → Tree → Bool) (ats : List AttributeTree) (b : Tree) (name : Text) (types : ArgumentsTree) (ks : Children)
+    → asks name b ≡ behind_attributes (is_call asks) (attributed_with ats (tail b (method name types) ks))
+after asks [] b name types ks = refl
+after asks (a ∷ ats) b name types ks = refl
 
-pub call : (t : Tree) (o : ExprMethodCallOf Expr) → expr_method_call_of tree_of o ≡ t → bytes_eq o.method (codes "clone") ≡ behind_attributes is_clone t
-call t o is = after (attrs_of o.attrs) (tree_of o.receiver.value) o.method (turbofish_of o.turbofish) _ ∙ ap (behind_attributes is_clone) is
+pub call : (asks : Text → Tree → Bool) (t : Tree) (o : ExprMethodCallOf Expr) → expr_method_call_of tree_of o ≡ t → asks o.method (tree_of o.receiver.value) ≡ behind_attributes (is_call asks) t
+call asks t o is = after asks (attrs_of o.attrs) (tree_of o.receiver.value) o.method (turbofish_of o.turbofish) _ ∙ ap (behind_attributes (is_call asks)) is
 
-pub no_call : (t : Tree) → is_method_call t ≡ false → false ≡ is_clone t
-no_call (tail b (method name types) ks) h = absurd cc
-no_call _ h = refl
+pub no_call : (asks : Text → Tree → Bool) (t : Tree) → is_method_call t ≡ false → false ≡ is_call asks t
+no_call asks (tail b (method name types) ks) h = absurd cc
+no_call asks _ h = refl

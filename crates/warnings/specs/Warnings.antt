@@ -2,17 +2,21 @@
 use Rattle.std.specs.Prelude.{◌≡◌, ◌&&◌, ℕ, Bool, false, if◌then◌else◌, List, codes, Option, Some, None}
 use Rattle.std.specs.List.{filter_map, list_any}
 use Rattle.std.specs.Str.{bytes_eq}
-use Rattle.syn_expr.specs.Prelude.{StandsFor, Tree, behind_attributes, is_closure, is_return, method, tail}
-use Rattle.syn_visit_kinds.specs.Nodes.{all_nodes, operands_in}
+use Rattle.syn_expr.specs.Prelude.{StandsFor, Text, Tree, behind_attributes, is_closure, is_return, method, tail}
+use Rattle.syn_visit_kinds.specs.Nodes.{all_nodes}
+
+-- a method call with such a name and such a receiver
+abbrev pub is_call : (Text → Tree → Bool) → Tree → Bool
+is_call asks (tail x (method name types) arguments) = asks name x
+is_call asks _ = false
 
 -- `x.clone()`
 abbrev pub is_clone : Tree → Bool
-is_clone (tail x (method name types) arguments) = bytes_eq name (codes "clone")
-is_clone _ = false
+is_clone = behind_attributes (is_call (λ name x. bytes_eq name (codes "clone")))
 
--- Its operand is a clone too.
+-- `x.clone().clone()`
 abbrev pub is_cloned_twice : Tree → Bool
-is_cloned_twice t = behind_attributes is_clone t && list_any (behind_attributes is_clone) (operands_in t)
+is_cloned_twice = behind_attributes (is_call (λ name x. bytes_eq name (codes "clone") && is_clone x))
 
 -- a closure with a `return` anywhere in it, as `|x| if x { return 1 } else { 2 }`
 abbrev pub returns_in_closure : Tree → Bool

@@ -11,7 +11,7 @@ use std::io;
 use std::marker::Model;
 use syn_expr::{ErrorKind, Expr, HeldExpr, Result, Span, parse_str};
 use syn_report::{LineColumn, report};
-use syn_visit::{any, any_operand, filter_map};
+use syn_visit::{any, filter_map};
 
 /// A warning, at its place in the text. Contracts see what it says.
 #[derive(Drop)]
@@ -28,7 +28,7 @@ impl Model for Warning {
 
 /// Whether it calls a method `clone`.
 fn is_clone(expr: &Expr) -> bool
-    ensures { result ≡ node.behind_attributes spec.is_clone (tree_of expr.now) }
+    ensures { result ≡ spec.is_clone (tree_of expr.now) }
 {
     match expr {
         Expr::MethodCall(call) => call.method.is("clone"),
@@ -40,7 +40,10 @@ fn is_clone(expr: &Expr) -> bool
 fn is_cloned_twice(expr: &Expr) -> bool
     ensures { result ≡ spec.is_cloned_twice (tree_of expr.now) }
 {
-    is_clone(expr) && any_operand(expr, is_clone)
+    match expr {
+        Expr::MethodCall(call) => call.method.is("clone") && is_clone(&call.receiver),
+        _ => false,
+    }
 }
 
 /// Whether it is `return`, with a value or without.
@@ -99,7 +102,7 @@ fn warnings(alloc: Global, text: &str) -> Result<Vec<Warning>>
 
 fn main(rt: HostRuntime) -> io::Result<()> {
     for text in [
-        "f(a.clone(), || b.clone().clone().clone())",
+        "f(a.clone(b.clone()), || b.clone().clone().clone())",
         "a.iter()\n    .map(|x| match x {\n        Some(y) => y.clone().clone(),\n        None => return 0,\n    })",
         "a.iter()\n    .map(|x return 0)",
     ] {
