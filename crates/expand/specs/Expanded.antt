@@ -1,13 +1,14 @@
 -- What the macro makes of its argument (Rust Reference, "Match expressions", "Closure expressions").
-use Rattle.std.specs.Prelude.{false, [], ◌∷◌, codes, None}
+use Rattle.std.specs.Prelude.{false, [], ◌∷◌, codes}
 use Rattle.syn_lower_spec.specs.Pat.{wild, a_binding, no_sub}
 use Rattle.syn_lower_spec.specs.Text.{Text}
-use Rattle.syn_lower_spec.specs.Tree.{default, no_arguments, no_qself}
+use Rattle.syn_lower_spec.specs.Tree.{no_arguments, no_qself}
 use Rattle.syn_lower_spec.specs.declared.label.LitKind.TheVariants as kind
 use Rattle.syn_lower_types.specs.Word.{one_word}
 use Rattle.syn_expr_spec.specs.declared.kinds.BinKind.TheVariants as bin
 use Rattle.syn_expr_spec.specs.declared.kinds.Infix.TheVariants as inf
-use Rattle.syn_expr_spec.specs.Tree.{Tree, ClosureHead, leaf, lit, path, infixed, prefixed, closure, tail, method, frame, match_expr, none, child, element, comma, no_ending, scrutinee, opened, guard, guarded, arm}
+use Rattle.syn_expr_spec.specs.Tree.{Tree, leaf, lit, path, infixed, prefixed, closure, tail, method, frame, match_expr, none, child, element, comma, no_ending, scrutinee, opened, guard, guarded, arm}
+use Rattle.syn_expr_make.specs.Held.{closure_head}
 
 abbrev pub name : Text → Tree
 name word = leaf (path no_qself (one_word word))
@@ -15,23 +16,9 @@ name word = leaf (path no_qself (one_word word))
 abbrev pub int : Text → Tree
 int digits = leaf (lit (record { kind = kind.Int; text = digits }))
 
--- `|x|`
-abbrev pub takes_x : ClosureHead
-takes_x = record {
-  lifetimes = None;
-  constness = false;
-  movability = false;
-  asyncness = false;
-  capture = false;
-  usage = false;
-  inputs = a_binding false false (codes "x") no_sub ∷ [];
-  trailing = false;
-  output = default;
-}
-
 -- `|x| x + 1`
 abbrev pub increment : Tree
-increment = prefixed (closure takes_x) none (infixed (name (codes "x")) (inf.Binary bin.Add) (int (codes "1")))
+increment = prefixed (closure (closure_head false (a_binding false false (codes "x") no_sub ∷ []))) none (infixed (name (codes "x")) (inf.Binary bin.Add) (int (codes "1")))
 
 -- `t.map_or(0, |x| x + 1)`
 abbrev pub mapped : Tree → Tree

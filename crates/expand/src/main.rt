@@ -3,19 +3,18 @@
 #![tactic(auto)]
 
 ghost use Rattle.std.specs.Prelude.{◌≡◌, IfOk, string_bytes};
-ghost use Rattle.syn_expr_core.specs.View.{tree_of};
-ghost use Rattle.syn_expr.specs.Promises.{IsTextOf};
+ghost use Rattle.syn_expr.specs.Prelude.{tree_of, IsTextOf};
 ghost use Rattle.syn_expr.specs.Texts.{position_of};
 ghost use Rattle.expand.specs.Expanded as spec;
 
 use std::alloc::Global;
 use std::io;
 use syn_expr::op::BinOp;
+use syn_expr::token::{Gt, Minus, Plus};
 use syn_expr::{HeldExpr, Position, Result, expr_to_text};
 use syn_expr_make::{
     arm, binary, closure, guarded, ident_pat, lit_int, match_expr, method_call, name, wild_pat,
 };
-use syn_tokens::token::{Gt, Minus, Plus};
 
 /// `|x| x + 1`
 fn increment(alloc: Global) -> Result<HeldExpr>
