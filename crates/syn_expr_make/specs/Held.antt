@@ -1,5 +1,5 @@
 -- The trees of expressions, and the views of patterns, arms and fields, that are held.
-use Rattle.std.specs.Prelude.{◌≡◌, Bool, true, false, List, [], ◌∷◌, chars, None}
+use Rattle.std.specs.Prelude.{◌≡◌, ◌==◌, Bool, true, false, List, [], chars, length, None}
 use Rattle.syn_lower_spec.specs.Tree.{default}
 use Rattle.syn_lower_spec.specs.Pat.{MemberTree, PatTree}
 use Rattle.syn_lower_spec.specs.Text.{Text}
@@ -20,9 +20,7 @@ view_in view x = view x.value
 
 -- whether a list is of one alone: a tuple of one has a comma after it (Rust Reference, "Tuple expressions")
 abbrev pub is_one : {A : Type 0} → List A → Bool
-is_one [] = false
-is_one (x ∷ []) = true
-is_one (x ∷ y ∷ more) = false
+is_one xs = length xs == 1
 
 -- a literal of this kind, of the characters of whose text this is so
 abbrev pub IsLit : LitKind → (Text → Type 0) → Tree → Type 0

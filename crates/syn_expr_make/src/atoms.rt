@@ -82,10 +82,8 @@ pub fn name<H: HoldsExpr>(alloc: Global, name: &str) -> Result<H>
     ensures kind { IfErr result (λ x. (x.kind ≡ ErrorKind.OutOfMemory) ⊎ (x.kind ≡ ErrorKind.Lex (or_unknown (refusal (chars name.now))))) }
 {
     let ident = Ident::new(alloc, name, Span::call_site())?;
-    match Path::from_ident(alloc, ident) {
-        Ok(word) => Ok(path(alloc, word)),
-        Err(e) => Err(e),
-    }
+    let word = Path::from_ident(alloc, ident)?;
+    Ok(path(alloc, word))
 }
 
 /// Makes `(a)` (Rust Reference, "Grouped expressions"). It is refused only where memory runs out.

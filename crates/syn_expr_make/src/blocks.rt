@@ -7,7 +7,6 @@ ghost use Rattle.syn_expr_make.specs.Held.{tree_in};
 ghost use Rattle.syn_expr_spec.specs.Tree as e;
 
 use crate::operand::{operand, operand_or_none};
-use crate::words::move_if;
 use std::alloc::Global;
 use syn_expr_ast::alone::{HasExprTree, IsExpr};
 use syn_expr_ast::block::{
@@ -17,7 +16,7 @@ use syn_expr_parse::known::{Held, HoldsExpr, LetGo};
 use syn_expr_tokens::modifiers::BlockModifiers;
 use syn_lower::stmt::Block;
 use syn_tokens::error::{ErrorKind, Result};
-use syn_tokens::token::{Async, Brace, Const, Else, If, Loop, Try, Unsafe, While};
+use syn_tokens::token::{Async, Brace, Const, Else, If, Loop, Move, Try, Unsafe, While};
 use syn_tokens::tree::TokenStream;
 
 /// These tokens in braces.
@@ -34,10 +33,7 @@ fn braces(stmts: TokenStream) -> Block
 fn else_or_none<E: HasExprTree + LetGo>(operand: Option<Held<Box<E>>>) -> Option<(Else, Box<E>)>
     ensures { else_of E.tree result ≡ option_child e.chained (option_map (λ b. E.tree b.value.value) operand) }
 {
-    match operand {
-        None => None,
-        Some(operand) => Some((Else::default(), operand.into_inner())),
-    }
+    operand.map(|operand| (Else::default(), operand.into_inner()))
 }
 
 /// Makes `async move { .. }`, or `async { .. }` (Rust Reference, "`async` blocks").
@@ -47,7 +43,7 @@ pub fn async_block<H: HoldsExpr>(alloc: Global, is_move: bool, stmts: TokenStrea
     H::hold(H::Expr::async_block(ExprAsync {
         attrs: Vec::new(alloc),
         async_token: Async::default(),
-        capture: move_if(is_move),
+        capture: is_move.then(Move::default),
         modifiers: BlockModifiers {},
         block: braces(stmts),
     }))

@@ -18,7 +18,6 @@ mod operations;
 mod patterns;
 mod structs;
 mod trailers;
-mod words;
 
 pub use atoms::{array, group, infer, mac, name, paren, path, repeat, tuple, verbatim};
 pub use blocks::{

@@ -32,10 +32,8 @@ pub fn lit_bool<H: HoldsExpr>(alloc: Global, value: bool) -> Result<H>
     ensures made { IfOk result (λ x. H.Expr.tree (H.held x) ≡ e.leaf (e.lit (record { kind = kind.Bool; text = forms.truth_text value }))) }
     ensures memory { IfErr result (λ x. x.kind ≡ ErrorKind.OutOfMemory) }
 {
-    match LitBool::new(alloc, value, Span::call_site()) {
-        Ok(truth) => Ok(lit(alloc, Lit::Bool(truth))),
-        Err(e) => Err(e),
-    }
+    let truth = LitBool::new(alloc, value, Span::call_site())?;
+    Ok(lit(alloc, Lit::Bool(truth)))
 }
 
 /// Makes the literal of this character (Rust Reference, "Character literals"), escaped where it has to be. It is refused
@@ -45,10 +43,8 @@ pub fn lit_char<H: HoldsExpr>(alloc: Global, value: char) -> Result<H>
     ensures value { IfOk result (λ x. IsLit kind.Char (λ cs. of.char_value cs ≡ Some value) (H.Expr.tree (H.held x))) }
     ensures memory { IfErr result (λ x. x.kind ≡ ErrorKind.OutOfMemory) }
 {
-    match LitChar::new(alloc, value, Span::call_site()) {
-        Ok(character) => Ok(lit(alloc, Lit::Char(character))),
-        Err(e) => Err(e),
-    }
+    let character = LitChar::new(alloc, value, Span::call_site())?;
+    Ok(lit(alloc, Lit::Char(character)))
 }
 
 /// Makes the floating-point number of this text, as `1.5` or `1e3f32` (Rust Reference, "Floating-point literals"). Another
@@ -59,10 +55,8 @@ pub fn lit_float<H: HoldsExpr>(alloc: Global, repr: &str) -> Result<H>
     ensures found { IfOk result (λ x. forms.IsNumber true (forms.without_minus repr.now)) }
     ensures refused { IfErr result (λ x. (x.kind ≡ ErrorKind.OutOfMemory) ⊎ ((x.kind ≡ ErrorKind.ExpectedPart Part.Literal) × ¬ forms.IsNumber true (forms.without_minus repr.now))) }
 {
-    match LitFloat::new(alloc, repr, Span::call_site()) {
-        Ok(number) => Ok(lit(alloc, Lit::Float(number))),
-        Err(e) => Err(e),
-    }
+    let number = LitFloat::new(alloc, repr, Span::call_site())?;
+    Ok(lit(alloc, Lit::Float(number)))
 }
 
 /// Makes the integer of this text, as `1`, `0x1f` or `1u8` (Rust Reference, "Integer literals"). Another text is refused as
@@ -72,10 +66,8 @@ pub fn lit_int<H: HoldsExpr>(alloc: Global, repr: &str) -> Result<H>
     ensures found { IfOk result (λ x. forms.IsNumber false (forms.without_minus repr.now)) }
     ensures refused { IfErr result (λ x. (x.kind ≡ ErrorKind.OutOfMemory) ⊎ ((x.kind ≡ ErrorKind.ExpectedPart Part.Literal) × ¬ forms.IsNumber false (forms.without_minus repr.now))) }
 {
-    match LitInt::new(alloc, repr, Span::call_site()) {
-        Ok(number) => Ok(lit(alloc, Lit::Int(number))),
-        Err(e) => Err(e),
-    }
+    let number = LitInt::new(alloc, repr, Span::call_site())?;
+    Ok(lit(alloc, Lit::Int(number)))
 }
 
 /// Makes the string of this value (Rust Reference, "String literals"). What can't stand for itself in it, or would not be
@@ -85,8 +77,6 @@ pub fn lit_str<H: HoldsExpr>(alloc: Global, value: &str) -> Result<H>
     ensures value { IfOk result (λ x. IsLit kind.Str (λ cs. of.str_value cs ≡ Some (chars value.now)) (H.Expr.tree (H.held x))) }
     ensures memory { IfErr result (λ x. x.kind ≡ ErrorKind.OutOfMemory) }
 {
-    match LitStr::new(alloc, value, Span::call_site()) {
-        Ok(string) => Ok(lit(alloc, Lit::Str(string))),
-        Err(e) => Err(e),
-    }
+    let string = LitStr::new(alloc, value, Span::call_site())?;
+    Ok(lit(alloc, Lit::Str(string)))
 }

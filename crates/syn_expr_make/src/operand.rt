@@ -54,8 +54,5 @@ pub(crate) fn operand_or_none<H: HoldsExpr>(
 pub(crate) fn box_or_none<T: LetGo>(part: Option<Held<Box<T>>>) -> Option<Box<T>>
     ensures { option_map (λ b. b.value) result ≡ option_map (λ b. b.value.value) part }
 {
-    match part {
-        None => None,
-        Some(part) => Some(part.into_inner()),
-    }
+    part.map(|part| part.into_inner())
 }

@@ -6,11 +6,11 @@ ghost use Rattle.syn_expr_ast.specs.View.{range_between};
 ghost use Rattle.syn_expr_make.specs.Held.{tree_in};
 ghost use Rattle.syn_expr_spec.specs.Tree as e;
 ghost use Rattle.syn_expr_spec.specs.declared.kinds.Infix.TheVariants as inf;
+ghost use Rattle.syn_lower.specs.View as of;
 ghost use Rattle.syn_lower.specs.View.{type_of};
 ghost use Rattle.syn_expr_tokens.specs.View.{bin_kind, limits_kind, un_kind};
 
 use crate::operand::{box_or_none, operand, operand_or_none};
-use crate::words::{mut_if, mut_or_const};
 use std::alloc::Global;
 use syn_expr_ast::alone::IsExpr;
 use syn_expr_ast::operation::{
@@ -20,9 +20,20 @@ use syn_expr_ast::operation::{
 use syn_expr_parse::known::HoldsExpr;
 use syn_expr_tokens::limits::RangeLimits;
 use syn_expr_tokens::op::{BinOp, UnOp};
-use syn_lower::ty::Type;
+use syn_lower::ty::{PointerMutability, Type};
 use syn_tokens::error::{ErrorKind, Result};
-use syn_tokens::token::{And, As, Eq, Raw};
+use syn_tokens::token::{And, As, Const, Eq, Mut, Raw};
+
+/// `mut`, or `const`.
+fn mut_or_const(is_mut: bool) -> PointerMutability
+    ensures { of.is_mut result ≡ is_mut }
+{
+    if is_mut {
+        PointerMutability::Mut(Mut::default())
+    } else {
+        PointerMutability::Const(Const::default())
+    }
+}
 
 /// Makes `a = b` (Rust Reference, "Assignment expressions"). It is refused only where memory runs out.
 pub fn assign<H: HoldsExpr + Drop>(alloc: Global, left: H, right: H) -> Result<H>
@@ -115,7 +126,7 @@ pub fn reference<H: HoldsExpr + Drop>(alloc: Global, is_mut: bool, expr: H) -> R
     Ok(H::hold(H::Expr::reference(ExprReferenceOf {
         attrs: Vec::new(alloc),
         and_token: And::default(),
-        mutability: mut_if(is_mut),
+        mutability: is_mut.then(Mut::default),
         expr: expr.into_inner(),
     })))
 }

@@ -11,7 +11,6 @@ ghost use Rattle.syn_tokens.specs.Lex.{IsIdentText, or_unknown, refusal};
 
 use crate::list::{all_parts, separated_parts};
 use crate::operand::{in_box, operand};
-use crate::words::move_if;
 use std::alloc::Global;
 use syn_expr_ast::alone::IsExpr;
 use syn_expr_ast::pattern::{
@@ -25,7 +24,9 @@ use syn_lower::ty::ReturnType;
 use syn_pat::kinds::IsPat;
 use syn_pat::pat::{PatIdentOf, PatTupleStructOf, PatWild};
 use syn_tokens::error::{ErrorKind, Result};
-use syn_tokens::token::{Brace, Eq, FatArrow, For, If, In, Let, Match, Or, Paren, Underscore};
+use syn_tokens::token::{
+    Brace, Eq, FatArrow, For, If, In, Let, Match, Move, Or, Paren, Underscore,
+};
 use syn_tokens::tree::{Ident, Span, TokenStream};
 
 /// The patterns in the expressions that an `H` holds.
@@ -82,7 +83,7 @@ where
         },
         constness: None,
         asyncness: None,
-        capture: move_if(is_move),
+        capture: is_move.then(Move::default),
         inputs_begin: Or::default(),
         inputs,
         inputs_end: Or::default(),

@@ -11,7 +11,6 @@ ghost use Rattle.syn_lower_spec.specs.Tree.{no_qself};
 
 use crate::list::separated_parts;
 use crate::operand::{box_or_none, operand_or_none};
-use crate::words::dots_if;
 use std::alloc::Global;
 use syn_expr_ast::alone::IsExpr;
 use syn_expr_ast::structure::{ExprStructOf, FieldValueOf};
@@ -19,7 +18,7 @@ use syn_expr_parse::known::{Held, HoldsExpr};
 use syn_expr_tokens::member::Member;
 use syn_lower::path::Path;
 use syn_tokens::error::{ErrorKind, Result};
-use syn_tokens::token::{Brace, Colon};
+use syn_tokens::token::{Brace, Colon, DotDot};
 
 /// Makes `a: 1`, the field of a struct expression (Rust Reference, "Struct expressions").
 pub fn field_value<H: HoldsExpr>(
@@ -58,7 +57,7 @@ pub fn struct_expr<H: HoldsExpr + Drop>(
         path,
         brace_token: Brace::default(),
         fields,
-        dot2_token: dots_if(rest.is_some()),
+        dot2_token: rest.is_some().then(DotDot::default),
         rest: box_or_none(rest),
     })))
 }
