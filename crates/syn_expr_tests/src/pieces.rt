@@ -6,9 +6,8 @@ use std::alloc::Global;
 use std::mem::replace;
 use std::test::Fail;
 use syn_expr::{
-    Attribute, BlockModifiers, ClosureModifiers, Error, ErrorKind, Expr, HeldExpr, Index, Label,
-    Member, ParseBuffer, Result, Span, ToTokens, TokenStream, is_well_formed, lex, parse_str,
-    to_text, token,
+    BlockModifiers, ClosureModifiers, Error, ErrorKind, Expr, HeldExpr, Index, Label, Member,
+    Result, Span, ToTokens, TokenStream, is_well_formed, parse_str, to_text, token,
 };
 
 /// Members, and whether one is a name.

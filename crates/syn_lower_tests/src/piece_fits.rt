@@ -3,7 +3,7 @@
 
 use crate::fits::{agreed, word};
 use crate::path_fits::path_of;
-use rows::{again, check, verdict, words};
+use rows::{again, check, verdict};
 use std::alloc::Global;
 use std::test::Fail;
 use syn_lower::{
