@@ -1,7 +1,7 @@
 //! Folds constants: tells the value of each expression that is made of integers and arithmetic alone.
 #![tactic(auto)]
 
-ghost use Rattle.std.specs.Prelude.{◌≡◌, ◌⊎◌, IfErr, IfOk, chars};
+ghost use Rattle.std.specs.Prelude.{◌≡◌, ◌⊎◌, IfErr, IfOk, chars, option_and_then};
 ghost use Rattle.syn_expr.specs.Prelude.{lit_of, bin_kind, un_kind, tree_of, NothingStands};
 ghost use Rattle.fold.specs.Fold as spec;
 
@@ -20,20 +20,21 @@ fn literal_value(lit: &Lit) -> Option<i64>
     }
 }
 
-/// The value of a prefix operator before an operand of this value, if it has one and does not overflow.
-fn prefix_value(op: &UnOp, operand: i64) -> Option<i64>
-    ensures { result ≡ spec.prefix_value (un_kind op.now) operand }
+/// The value of an operand after a prefix operator, if it has one and does not overflow.
+fn prefix_value(op: &UnOp, operand: Option<i64>) -> Option<i64>
+    ensures { result ≡ option_and_then (spec.prefix_value (un_kind op.now)) operand }
 {
     match op {
-        UnOp::Neg(_) => operand.checked_neg(),
+        UnOp::Neg(_) => operand?.checked_neg(),
         UnOp::Deref(_) | UnOp::Not(_) => None,
     }
 }
 
-/// The value of a binary operation on operands of these values, if it has one and neither overflows nor divides by zero.
-fn binary_value(op: &BinOp, left: i64, right: i64) -> Option<i64>
-    ensures { result ≡ spec.binary_value (bin_kind op.now) left right }
+/// The value of a binary operation, if its operands have one and it neither overflows nor divides by zero.
+fn binary_value(op: &BinOp, left: Option<i64>, right: Option<i64>) -> Option<i64>
+    ensures { result ≡ spec.combined (spec.binary_value (bin_kind op.now)) left right }
 {
+    let (left, right) = (left?, right?);
     match op {
         BinOp::Add(_) => left.checked_add(right),
         BinOp::Sub(_) => left.checked_sub(right),
@@ -54,10 +55,10 @@ fn value(expr: &Expr) -> Option<i64>
     match expr {
         Expr::Lit(literal) => literal_value(&literal.lit),
         Expr::Paren(paren) => value(&paren.expr),
-        Expr::Unary(operation) => prefix_value(&operation.op, value(&operation.expr)?),
+        Expr::Unary(operation) => prefix_value(&operation.op, value(&operation.expr)),
         Expr::Binary(operation) => {
-            let left = value(&operation.left)?;
-            binary_value(&operation.op, left, value(&operation.right)?)
+            let left = value(&operation.left);
+            binary_value(&operation.op, left, value(&operation.right))
         }
         _ => None,
     }
