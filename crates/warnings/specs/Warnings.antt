@@ -2,7 +2,8 @@
 use Rattle.std.specs.Prelude.{◌≡◌, ◌&&◌, ℕ, Bool, false, if◌then◌else◌, List, codes, Option, Some, None}
 use Rattle.std.specs.List.{filter_map, list_any}
 use Rattle.std.specs.Str.{bytes_eq}
-use Rattle.syn_expr.specs.Prelude.{StandsFor, Text, Tree, behind_attributes, is_closure, is_return, method, tail}
+pub use Rattle.syn_expr.specs.Prelude.{behind_attributes, is_closure, is_return}
+use Rattle.syn_expr.specs.Prelude.{StandsFor, Text, Tree, method, tail}
 use Rattle.syn_visit_kinds.specs.Nodes.{all_nodes}
 
 -- a method call with such a name and such a receiver

@@ -1,14 +1,11 @@
 //! Warns of two things, wherever they are in an expression: a clone that is cloned, and a `return` in a closure.
-#![tactic(auto)]
+#![tactic(auto, using(crate::proofs::Nodes::clones))]
 
 ghost use Rattle.std.specs.Prelude.{◌≡◌, ◌⊎◌, ℕ, List, IfErr, IfOk, chars};
-ghost use Rattle.syn_expr.specs.Prelude as node;
 ghost use Rattle.syn_expr.specs.Prelude.{tree_of, NothingStands};
 ghost use Rattle.warnings.specs.Warnings as spec;
 
 use std::alloc::Global;
-use std::io;
-use std::marker::Model;
 use syn_expr::{ErrorKind, Expr, HeldExpr, Result, Span, parse_str};
 use syn_report::{LineColumn, report};
 use syn_visit::{any, filter_map};
@@ -20,7 +17,7 @@ struct Warning {
     span: Span,
 }
 
-impl Model for Warning {
+impl std::marker::Model for Warning {
     ghost Value = { List ℕ };
 
     ghost view = { λ w. w.message.now };
@@ -48,14 +45,14 @@ fn is_cloned_twice(expr: &Expr) -> bool
 
 /// Whether it is `return`, with a value or without.
 fn is_return(expr: &Expr) -> bool
-    ensures { result ≡ node.behind_attributes node.is_return (tree_of expr.now) }
+    ensures { result ≡ spec.behind_attributes spec.is_return (tree_of expr.now) }
 {
     matches!(expr, Expr::Return(_))
 }
 
 /// Whether it is a closure.
 fn is_closure(expr: &Expr) -> bool
-    ensures { result ≡ node.behind_attributes node.is_closure (tree_of expr.now) }
+    ensures { result ≡ spec.behind_attributes spec.is_closure (tree_of expr.now) }
 {
     matches!(expr, Expr::Closure(_))
 }
@@ -76,7 +73,7 @@ fn place(expr: &Expr) -> Span {
     }
 }
 
-/// What there is to warn of at a node.
+/// What there is to warn of at a spec.
 fn warning_at(expr: &Expr) -> Option<Warning>
     ensures { result ≡ spec.warning_at (tree_of expr.now) }
 {
@@ -100,7 +97,7 @@ fn warnings(alloc: Global, text: &str) -> Result<Vec<Warning>>
     filter_map(alloc, &held.expr, &warning_at)
 }
 
-fn main(rt: HostRuntime) -> io::Result<()> {
+fn main(rt: HostRuntime) -> std::io::Result<()> {
     for text in [
         "f(a.clone(b.clone()), || b.clone().clone().clone())",
         "a.iter()\n    .map(|x| match x {\n        Some(y) => y.clone().clone(),\n        None => return 0,\n    })",
@@ -111,7 +108,7 @@ fn main(rt: HostRuntime) -> io::Result<()> {
             Ok(found) => {
                 for warning in &found {
                     let LineColumn { line, column } = LineColumn::of(text, warning.span.lo);
-                    let column = column.saturating_add(1);
+                    let column = column + 1;
                     println!(rt; "warning: {line}:{column}: {}", warning.message)?;
                 }
             }
