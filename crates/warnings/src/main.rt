@@ -1,5 +1,5 @@
 //! Warns of two things, wherever they are in an expression: a clone that is cloned, and a `return` in a closure.
-#![tactic(auto, using(crate::proofs::Nodes::clones))]
+#![tactic(auto, using(crate::proofs::Nodes::kinds))]
 
 ghost use Rattle.std.specs.Prelude.{◌≡◌, ◌⊎◌, ℕ, List, IfErr, IfOk, chars};
 ghost use Rattle.syn_expr.specs.Prelude.{tree_of, NothingStands};
