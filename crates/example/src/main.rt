@@ -8,7 +8,7 @@ ghost use Rattle.example.specs.Swapped.{IsSwapped, swapped_tree};
 use std::alloc::Global;
 use std::io;
 use std::mem::swap;
-use syn_expr::{ErrorKind, Expr, HeldExpr, Position, Result, expr_to_text, parse_str};
+use syn_expr::{ErrorKind, Expr, Position, Result, expr_to_text, parse_str};
 
 /// Swaps the operands of an operation. What is no operation stays as it is.
 fn swap_operands(expr: &mut Expr)
@@ -24,9 +24,9 @@ fn swapped(alloc: Global, text: &str) -> Result<String>
     ensures value { IfOk result (λ s. IsSwapped (chars text.now) (string_bytes s)) }
     ensures refused { IfErr result (λ e. (e.kind ≡ ErrorKind.OutOfMemory) ⊎ NothingStands (chars text.now)) }
 {
-    let mut held = parse_str::<HeldExpr>(alloc, text)?;
-    swap_operands(&mut held.expr);
-    expr_to_text(alloc, &held.expr, Position::Plain)
+    let mut expr = parse_str::<Expr>(alloc, text)?;
+    swap_operands(&mut expr);
+    expr_to_text(alloc, &expr, Position::Plain)
 }
 
 fn main(rt: HostRuntime) -> io::Result<()> {

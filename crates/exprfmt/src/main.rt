@@ -8,23 +8,21 @@
 //! error.
 #![tactic(auto)]
 
-use exprfmt_run::run::{Watched, args_failed, is_bare, named, run, usage};
+use exprfmt_run::run::{args_failed, is_bare, named, read_rest, run, usage, write_whole};
 use std::process::ExitCode;
 use std::{env, io};
 use syn_expr::print::Position;
 
 fn main(rt: HostRuntime) -> ExitCode {
-    let mut errors = Watched::new(rt.stderr());
+    let (mut input, mut stdout, mut stderr) = (rt.reader(), io::writer(&rt), rt.stderr());
+    let read = || read_rest(rt.alloc(), &mut input);
+    let mut output = |text: &[u8]| write_whole(&mut stdout, text);
+    let mut errors = |text: &[u8]| write_whole(&mut stderr, text);
     let status = match env::args(&rt) {
         Ok(args) => match asked(args) {
-            Some((position, bare)) => run(
-                rt.alloc(),
-                position,
-                bare,
-                &mut Watched::new(rt.reader()),
-                &mut Watched::new(io::writer(&rt)),
-                &mut errors,
-            ),
+            Some((position, bare)) => {
+                run(rt.alloc(), position, bare, read, &mut output, &mut errors)
+            }
             None => usage(&mut errors),
         },
         Err(e) => args_failed(&mut errors, &e),

@@ -1,26 +1,30 @@
--- Facts of known bytes, and what a fault writes.
+-- Facts of calls, and what a fault writes.
 use Rattle.std.proofs.Common.{◌≡◌, inl, inr, ℕ, Bool, true, false, List, [], ◌∷◌, ◌++◌, take, drop, refl, sym, ap, ◌∙◌, subst, append_assoc, append-nil, take-append-drop, arith}
-use Rattle.std.specs.Prelude.{Option, Some, None, chars, codes}
-use Rattle.std.specs.Io.KnownBytes.{Appends, Keeps}
+use Rattle.std.specs.Prelude.{Option, Some, None, Result, Ok, Err, chars, codes}
+use Rattle.std.specs.Fn.{Mut, Called, CalledAt}
 use Rattle.std.specs.Str.{IsUtf8}
 use Rattle.std.specs.Fmt.{WritesInCalls}
 use Rattle.std.specs.Fmt.InlineText.{inline_text, IsIntact, AppendsIfIntact}
 use Rattle.std.specs.List.{FoldsTo, concat}
 use Rattle.std.specs.declared.fmt.InlineText.{InlineText}
-use Rattle.std.proofs.KnownBytes.{Appends-trans}
+use Rattle.std.specs.declared.io.Error as io
 use Rattle.std.proofs.lemmas.Fmt.{decimal_digit}
-use Rattle.syn_tokens.specs.Text.{text}
-use Rattle.syn_tokens.specs.Tok.{Tok}
 use Rattle.syn_tokens.specs.declared.error.Error.{Error}
 use Rattle.syn_expr_spec.specs.Printed.{Position}
-use Rattle.syn_expr_spec.specs.Tree.{Tree}
-use Rattle.syn_expr_flatten.specs.Flat.{IsFlat}
-use Rattle.syn_expr.specs.Promises.{PrintedAs}
-use Rattle.exprfmt_run.specs.Run.{IsLine, meant, AreLeft, Follows, Writer, Takes, Prints, Reports, Ran, line, printed, refused, not_utf8, failed, out_of_memory}
-use Rattle.syn_expr.specs.Texts.{StandsFor}
+use Rattle.exprfmt_run.specs.Run.{IsLine, meant, FollowsFrom, Reader, Writer, Writes, Reports, Ran, line, printed, refused, not_utf8, failed, out_of_memory}
+use Rattle.exprfmt_run.specs.Calls.{writer}
 use Rattle.exprfmt_run.specs.FaultView.{outcome_of}
 use Rattle.exprfmt_run.specs.declared.run.Fault.{Fault}
 use Rattle.exprfmt_run.specs.declared.run.Fault.TheVariants.{Refused, NotUtf8, Failed}
+use denote.Ref.{Bor}
+use Rattle.std.specs.Io.KnownBytes.{Appends, Keeps}
+use Rattle.std.proofs.KnownBytes.{Appends-trans}
+use Rattle.syn_tokens.specs.Text.{text}
+use Rattle.syn_tokens.specs.Tok.{Tok}
+use Rattle.syn_expr_spec.specs.Tree.{Tree}
+use Rattle.syn_expr_flatten.specs.Flat.{IsFlat}
+use Rattle.syn_expr.specs.Promises.{PrintedAs}
+use Rattle.syn_expr.specs.Texts.{StandsFor}
 
 -- ---- a text that is written part by part
 
@@ -44,6 +48,13 @@ more_written a b c text rest n (done, split, p) q = (
 pub written_kept : (a b c : Option (List ℕ)) (text rest : List ℕ) → Written a text rest b → Keeps b c → Written a text rest c
 written_kept a b c text rest (done, split, p) q = (done, split, appends_kept a b c done p q)
 
+-- ---- a writer that was called
+
+pub written : {F : Type 0} (g : Mut F (Bor (List ℕ) × Unit {0}) (Result (Unit {0}) io.Error)) (old new : F) (text : Bor (List ℕ)) (r : Result (Unit {0}) io.Error)
+    → Called g old (text, tt) r new → Writes (writer g old new) text.now
+written g old new text (Ok x) h = inl (record { shown = text; shows = refl; called = h })
+written g old new text (Err e) h = inr (e, record { shown = text; shows = refl; called = h })
+
 -- ---- a text that is formatted into a room of fixed size
 
 by_calls : {n : ℕ} (s : InlineText n) (parts : List (List ℕ)) (t : InlineText n) → FoldsTo AppendsIfIntact s parts t → IsIntact s → inline_text t ≡ inline_text s ++ concat parts
@@ -54,16 +65,6 @@ by_calls s (x ∷ parts) t (infixed, first, rest) intact =
 
 pub formatted : {n : ℕ} (s : InlineText n) (bs : List ℕ) (t : InlineText n) → IsIntact s → inline_text s ≡ [] → WritesInCalls AppendsIfIntact s bs t → inline_text t ≡ bs
 formatted s bs t intact empty wrote = by_calls s wrote.parts t wrote.calls intact ∙ ap (λ l. l ++ concat wrote.parts) empty ∙ wrote.whole
-
--- ---- what is left to read
-
-abbrev pub known : Option (List ℕ) → List ℕ
-known None = []
-known (Some l) = l
-
-pub known_left : (o : Option (List ℕ)) → AreLeft o (known o)
-known_left None = tt
-known_left (Some l) = refl
 
 -- ---- what is printed of it
 
@@ -88,40 +89,32 @@ regroup a b c d e f g =
 pub memory_line : codes "refused at 0..0: out of memory" ++ 10 ∷ [] ≡ line out_of_memory
 memory_line = rw (decimal_digit 0 (omega arith)) refl
 
-pub reports_refusal : (f : Fault) (e : Error) (errors : Writer) (text : List ℕ) → f ≡ Refused e → Takes errors text → text ≡ line (refused e) → Reports (outcome_of f) errors
-reports_refusal f e errors text is wrote same = subst (λ (h : Fault). Reports (outcome_of h) errors) (sym is) (inl (subst (Takes errors) same wrote))
+pub reports_refusal : (f : Fault) (e : Error) (errors : Writer) (text : List ℕ) → f ≡ Refused e → Writes errors text → text ≡ line (refused e) → Reports (outcome_of f) errors
+reports_refusal f e errors text is wrote same = subst (λ (h : Fault). Reports (outcome_of h) errors) (sym is) (inl (subst (Writes errors) same wrote))
 
-pub reports_memory : (f : Fault) (e : Error) (errors : Writer) → f ≡ Refused e → Takes errors (codes "refused at 0..0: out of memory" ++ 10 ∷ []) → Reports (outcome_of f) errors
-reports_memory f e errors is wrote = subst (λ (h : Fault). Reports (outcome_of h) errors) (sym is) (inr (subst (Takes errors) memory_line wrote))
+pub reports_memory : (f : Fault) (e : Error) (errors : Writer) → f ≡ Refused e → Writes errors (codes "refused at 0..0: out of memory" ++ 10 ∷ []) → Reports (outcome_of f) errors
+reports_memory f e errors is wrote = subst (λ (h : Fault). Reports (outcome_of h) errors) (sym is) (inr (subst (Writes errors) memory_line wrote))
 
 -- ---- how a run ends
 
-pub reported : (s : Position) (bare : Bool) (left : Option (List ℕ)) (bytes : List ℕ) (read_failed : Bool) (f : Fault) (output errors : Writer) → AreLeft left bytes
-    → Follows s bare bytes read_failed (outcome_of f) → output.after ≡ output.before → Reports (outcome_of f) errors → Ran s bare left read_failed 1 output errors
-reported s bare left bytes read_failed (Refused e) output errors a h k (inl w) = (bytes, refused e, a, h, (refl, k, w))
-reported s bare left bytes read_failed (Refused e) output errors a h k (inr w) = (bytes, out_of_memory, a, inl refl, (refl, k, w))
-reported s bare left bytes read_failed NotUtf8 output errors a h k w = (bytes, not_utf8, a, h, (refl, k, w))
-reported s bare left bytes read_failed Failed output errors a h k w = (bytes, failed, a, h, (refl, k, w))
+follows_without_memory : (s : Position) (bare : Bool) (input : Reader) (e : Error) → FollowsFrom s bare input (refused e) → FollowsFrom s bare input out_of_memory
+follows_without_memory s bare input e (inl (bytes, gives, h)) = inl (bytes, gives, inl refl)
+follows_without_memory s bare input e (inr (inl (lacks, h))) = inr (inl (lacks, refl))
+follows_without_memory s bare input e (inr (inr (fails, h))) = absurd cc
 
-prints_whole : (b : Bool) (errors : Writer) → b ≡ false → errors.after ≡ errors.before → Prints b 0 errors
-prints_whole true errors h k = absurd cc
-prints_whole false errors h k = (refl, k)
+pub reported : (s : Position) (bare : Bool) (input : Reader) (f : Fault) (output errors : Writer) → FollowsFrom s bare input (outcome_of f)
+    → output.IsLeft → Reports (outcome_of f) errors → Ran s bare input 1 output errors
+reported s bare input (Refused e) output errors h k (inl w) = (refused e, h, (refl, k, w))
+reported s bare input (Refused e) output errors h k (inr w) = (out_of_memory, follows_without_memory s bare input e h, (refl, k, w))
+reported s bare input NotUtf8 output errors h k w = (not_utf8, h, (refl, k, w))
+reported s bare input Failed output errors h k w = (failed, h, (refl, k, w))
 
-prints_front : (b : Bool) (errors : Writer) → b ≡ true → Takes errors (line failed) → Prints b 1 errors
-prints_front true errors h k = (refl, k)
-prints_front false errors h k = absurd cc
+pub printed_whole : (s : Position) (bare : Bool) (input : Reader) (bytes text : List ℕ) (output errors : Writer) → input.Gives bytes → IsUtf8 bytes → IsLine s bare (chars bytes) text
+    → output.Takes text → errors.IsLeft → Ran s bare input 0 output errors
+printed_whole s bare input bytes text output errors gives utf8 is takes left =
+    (printed is.0, inl (bytes, gives, (utf8, is.1)), inl (refl, subst output.Takes is.2 takes, left))
 
-printed_by : (s : Position) (bare : Bool) (left : Option (List ℕ)) (bytes text : List ℕ) (read_failed : Bool) (status : ℕ) (output errors : Writer) → AreLeft left bytes → IsUtf8 bytes
-    → IsLine s bare (chars bytes) text → Takes output text → Prints output.broke status errors → Ran s bare left read_failed status output errors
-printed_by s bare left bytes text read_failed status output errors a utf8 is wrote prints =
-    (bytes, printed is.0, a, (utf8, is.1), (rw is.2 at wrote, prints))
-
-pub printed_whole : (s : Position) (bare : Bool) (left : Option (List ℕ)) (bytes text : List ℕ) (read_failed : Bool) (output errors : Writer) → AreLeft left bytes → IsUtf8 bytes
-    → IsLine s bare (chars bytes) text → Takes output text → output.broke ≡ false → errors.after ≡ errors.before → Ran s bare left read_failed 0 output errors
-printed_whole s bare left bytes text read_failed output errors a utf8 is wrote h k =
-    printed_by s bare left bytes text read_failed 0 output errors a utf8 is wrote (prints_whole output.broke errors h k)
-
-pub printed_front : (s : Position) (bare : Bool) (left : Option (List ℕ)) (bytes text : List ℕ) (read_failed : Bool) (output errors : Writer) → AreLeft left bytes → IsUtf8 bytes
-    → IsLine s bare (chars bytes) text → Takes output text → output.broke ≡ true → Takes errors (line failed) → Ran s bare left read_failed 1 output errors
-printed_front s bare left bytes text read_failed output errors a utf8 is wrote h k =
-    printed_by s bare left bytes text read_failed 1 output errors a utf8 is wrote (prints_front output.broke errors h k)
+pub printed_front : (s : Position) (bare : Bool) (input : Reader) (bytes text : List ℕ) (output errors : Writer) → input.Gives bytes → IsUtf8 bytes → IsLine s bare (chars bytes) text
+    → output.Fails text → Writes errors (line failed) → Ran s bare input 1 output errors
+printed_front s bare input bytes text output errors gives utf8 is fails wrote =
+    (printed is.0, inl (bytes, gives, (utf8, is.1)), inr (refl, subst output.Fails is.2 fails, wrote))

@@ -1,24 +1,24 @@
-//! What the program does, over any reader and writers. These are watched, so that a clause can say whether one failed.
+//! What the program does, over any reader and writers: they are calls, and the contracts tell of each call that is made.
 
-ghost use Rattle.std.specs.Prelude.{◌≡◌, ◌≢◌, ◌⊎◌, ℕ, Bool, true, false, List, Some, IfOk, IfErr, IfSome, string_bytes, chars, ◌++◌, OnOk, MatchResult};
+ghost use Rattle.std.specs.Prelude.{◌≡◌, ◌≢◌, ◌⊎◌, ℕ, List, Some, true, IfOk, IfErr, IfSome, string_bytes, chars, vec_items, MatchResult};
 ghost use Rattle.std.specs.Str.{IsUtf8};
 ghost use Rattle.std.specs.IoError.{error_kind};
 ghost use Rattle.std.specs.declared.io.ErrorKind.TheVariants.{OutOfMemory};
 ghost use Rattle.syn_expr_core.specs.View.{tree_of};
 ghost use Rattle.syn_expr.specs.Texts.{position_of, NothingStands};
 ghost use Rattle.syn_expr.specs.Promises.{PrintedAs};
-ghost use Rattle.syn_expr_spec.specs.Printed as grammar;
 ghost use Rattle.exprfmt_run.specs.Run as spec;
+ghost use Rattle.exprfmt_run.specs.Run.{GainsFront};
+ghost use Rattle.exprfmt_run.specs.Calls.{reader, writer};
 ghost use Rattle.exprfmt_run.specs.FaultView.{outcome_of};
 ghost use Rattle.std.specs.Io.KnownBytes.{Appends};
-ghost use Rattle.exprfmt_run.specs.Run.{Gains, GainsFront};
 
 use std::alloc::Global;
 use std::fmt::{InlineText, Write as _};
 use std::io;
 use std::io::{Read, Write};
 use syn_expr::print::{Position, print_counted};
-use syn_expr::{Expr, HeldExpr, flatten_in_place};
+use syn_expr::{Expr, flatten_in_place};
 use syn_tokens::error::{Error, ErrorKind, Result};
 use syn_tokens::parse::parse_str;
 use syn_tokens::text::to_text;
@@ -87,9 +87,9 @@ fn line_of_text(alloc: Global, position: Position, bare: bool, text: &str) -> Re
     ensures value { IfOk result (λ s. spec.IsLine (position_of position) bare (chars text.now) (string_bytes s)) }
     ensures refused { IfErr result (λ e. (e.kind ≡ ErrorKind.OutOfMemory) ⊎ NothingStands (chars text.now)) }
 {
-    let mut held = parse_str::<HeldExpr>(alloc, text)?;
-    prepare(bare, &mut held.expr)?;
-    let tokens = printed(alloc, position, &held.expr)?;
+    let mut expr = parse_str::<Expr>(alloc, text)?;
+    prepare(bare, &mut expr)?;
+    let tokens = printed(alloc, position, &expr)?;
     let mut line = to_text(&tokens)?;
     line.push('\n')?;
     Ok(line)
@@ -103,7 +103,7 @@ fn line_of(
     bytes: &[u8],
 ) -> std::result::Result<String, Fault>
     ensures value { IfOk result (λ s. IsUtf8 bytes.now × spec.IsLine (position_of position) bare (chars bytes.now) (string_bytes s)) }
-    ensures refused { IfErr result (λ f. spec.Follows (position_of position) bare bytes.now false (outcome_of f)) }
+    ensures refused { IfErr result (λ f. spec.Follows (position_of position) bare bytes.now (outcome_of f)) }
 {
     let text = match str::from_utf8(bytes) {
         Ok(text) => text,
@@ -117,7 +117,6 @@ fn line_of(
 
 /// The fault of a read that failed.
 fn read_fault(e: &io::Error) -> Fault
-    ensures follows { (s : grammar.Position) (bare : Bool) (bytes : List ℕ) (read_failed : Bool) → read_failed ≡ true → spec.Follows s bare bytes read_failed (outcome_of result) }
     ensures memory { error_kind e.now ≡ OutOfMemory → outcome_of result ≡ spec.out_of_memory }
     ensures other { error_kind e.now ≢ OutOfMemory → outcome_of result ≡ spec.failed }
 {
@@ -128,19 +127,19 @@ fn read_fault(e: &io::Error) -> Fault
     }
 }
 
-/// The line for what a reader has left.
-fn line_of_rest<R: Read>(
+/// The line for what is read.
+fn line_of_rest<R: FnOnce() -> io::Result<Vec<u8>>>(
     alloc: Global,
     position: Position,
     bare: bool,
-    input: &mut Watched<R>,
+    read: R,
 ) -> std::result::Result<String, Fault>
-    ensures value { IfOk result (λ s. (bytes : List ℕ) × spec.AreLeft (R.remaining input.old.inner) bytes × IsUtf8 bytes × spec.IsLine (position_of position) bare (chars bytes) (string_bytes s)) }
-    ensures refused { IfErr result (λ f. (bytes : List ℕ) × spec.AreLeft (R.remaining input.old.inner) bytes × spec.Follows (position_of position) bare bytes input.new.failed (outcome_of f)) }
+    requires { R.IsAlwaysCallable read }
+    ensures value { let input = reader R.FnOnce vec_items read in IfOk result (λ s. (bytes : List ℕ) × input.Gives bytes × IsUtf8 bytes × spec.IsLine (position_of position) bare (chars bytes) (string_bytes s)) }
+    ensures refused { let input = reader R.FnOnce vec_items read in IfErr result (λ f. spec.FollowsFrom (position_of position) bare input (outcome_of f)) }
 {
-    let mut bytes = Vec::new(alloc);
-    match input.read_to_end(&mut bytes) {
-        Ok(()) => line_of(alloc, position, bare, bytes.as_slice()),
+    match read() {
+        Ok(bytes) => line_of(alloc, position, bare, bytes.as_slice()),
         Err(e) => Err(read_fault(&e)),
     }
 }
@@ -151,46 +150,47 @@ const REFUSAL_SIZE: usize = 256;
 
 /// Writes why nothing was printed. It takes no memory but a room of fixed size: a line that did not fit there would be
 /// that of memory that ran out.
-fn report<E: Write>(errors: &mut Watched<E>, fault: Fault)
-    ensures { spec.Reports (outcome_of fault) (spec.writer (E.contents errors.old.inner) errors.new.failed (E.contents errors.new.inner)) }
+fn report<E: FnMut(&[u8]) -> io::Result<()>>(errors: &mut E, fault: Fault)
+    requires { E.IsAlwaysCallable errors.old }
+    ensures { spec.Reports (outcome_of fault) (writer E.FnMut errors.old errors.new) }
 {
     let _ = match fault {
         Fault::Refused(e) => {
             let (lo, hi, kind) = (e.span.lo, e.span.hi, e.kind);
             let mut line = InlineText::<REFUSAL_SIZE>::new();
             match writeln!(line, "refused at {lo}..{hi}: {kind}") {
-                Ok(()) => errors.write_all(line.as_str().as_bytes()),
-                Err(_) => errors.write_all(b"refused at 0..0: out of memory\n"),
+                Ok(()) => errors(line.as_str().as_bytes()),
+                Err(_) => errors(b"refused at 0..0: out of memory\n"),
             }
         }
-        Fault::NotUtf8 => errors.write_all(b"input is not UTF-8\n"),
-        Fault::Failed => errors.write_all(b"input or output failed\n"),
+        Fault::NotUtf8 => errors(b"input is not UTF-8\n"),
+        Fault::Failed => errors(b"input or output failed\n"),
     };
 }
 
-/// Reads the input to its end as one expression, and prints it for the position: one line to `output`. With `bare` the
-/// expression first loses its parentheses. If nothing can be printed, one line to `errors` says why: where the lexer or the
-/// reader refused the text or memory ran out, that it is no UTF-8, or that a read or a write failed. The result is the status:
-/// 0 if the expression was printed, else 1. Where a write fails, `output` has gained a front of its line, and nothing else; and
-/// so has `errors`.
-pub fn run<R: Read, W: Write, E: Write>(
-    alloc: Global,
-    position: Position,
-    bare: bool,
-    input: &mut Watched<R>,
-    output: &mut Watched<W>,
-    errors: &mut Watched<E>,
-) -> u8
-    ensures { spec.Ran (position_of position) bare (R.remaining input.old.inner) input.new.failed result (spec.writer (W.contents output.old.inner) output.new.failed (W.contents output.new.inner)) (spec.writer (E.contents errors.old.inner) errors.new.failed (E.contents errors.new.inner)) }
+/// Reads by `read`, which has to answer all bytes of the input, as one expression, and prints it for the position: one line to
+/// `output`. With `bare` the expression first loses its parentheses. If nothing can be printed, one line to `errors` says why: the
+/// lexer or the reader refused the text, memory ran out, the input is no UTF-8, or a read or a write failed. The result is the
+/// status: 0 if the expression was printed, else 1. `read` is called once. `output` is called once, with the whole line, or not at
+/// all; and so is `errors`. Whether a call failed is what its own answer said.
+pub fn run<
+    R: FnOnce() -> io::Result<Vec<u8>>,
+    W: FnMut(&[u8]) -> io::Result<()>,
+    E: FnMut(&[u8]) -> io::Result<()>,
+>(alloc: Global, position: Position, bare: bool, read: R, output: &mut W, errors: &mut E) -> u8
+    requires input { R.IsAlwaysCallable read }
+    requires output { W.IsAlwaysCallable output.old }
+    requires errors { E.IsAlwaysCallable errors.old }
+    ensures { spec.Ran (position_of position) bare (reader R.FnOnce vec_items read) result (writer W.FnMut output.old output.new) (writer E.FnMut errors.old errors.new) }
 {
-    let line = match line_of_rest(alloc, position, bare, input) {
+    let line = match line_of_rest(alloc, position, bare, read) {
         Ok(line) => line,
         Err(fault) => {
             report(errors, fault);
             return 1;
         }
     };
-    match output.write_all(line.as_bytes()) {
+    match output(line.as_bytes()) {
         Ok(()) => 0,
         Err(_) => {
             report(errors, Fault::Failed);
@@ -200,90 +200,42 @@ pub fn run<R: Read, W: Write, E: Write>(
 }
 
 /// Writes the line of usage to `errors`. It answers 2, the status of a call with unknown arguments.
-pub fn usage<E: Write>(errors: &mut Watched<E>) -> u8
+pub fn usage<E: FnMut(&[u8]) -> io::Result<()>>(errors: &mut E) -> u8
+    requires { E.IsAlwaysCallable errors.old }
     ensures status { result ≡ 2 }
-    ensures text { spec.Takes (spec.writer (E.contents errors.old.inner) errors.new.failed (E.contents errors.new.inner)) spec.usage }
+    ensures text { spec.Writes (writer E.FnMut errors.old errors.new) spec.usage }
 {
-    let _ = errors.write_all(b"usage: exprfmt plain|stmt|cond|arm [bare]\n");
+    let _ = errors(b"usage: exprfmt plain|stmt|cond|arm [bare]\n");
     2
 }
 
 /// Writes to `errors` why the arguments could not be taken: that memory ran out, with status 1; or the usage, with that
 /// of `usage`, where one of them is no UTF-8 and so no word of the program.
-pub fn args_failed<E: Write>(errors: &mut Watched<E>, e: &io::Error) -> u8
-    ensures memory { error_kind e.now ≡ OutOfMemory → (result ≡ 1) × spec.Takes (spec.writer (E.contents errors.old.inner) errors.new.failed (E.contents errors.new.inner)) (spec.line spec.out_of_memory) }
-    ensures other { error_kind e.now ≢ OutOfMemory → (result ≡ 2) × spec.Takes (spec.writer (E.contents errors.old.inner) errors.new.failed (E.contents errors.new.inner)) spec.usage }
+pub fn args_failed<E: FnMut(&[u8]) -> io::Result<()>>(errors: &mut E, e: &io::Error) -> u8
+    requires { E.IsAlwaysCallable errors.old }
+    ensures memory { error_kind e.now ≡ OutOfMemory → (result ≡ 1) × spec.Writes (writer E.FnMut errors.old errors.new) (spec.line spec.out_of_memory) }
+    ensures other { error_kind e.now ≢ OutOfMemory → (result ≡ 2) × spec.Writes (writer E.FnMut errors.old errors.new) spec.usage }
 {
     if e.kind() == io::ErrorKind::OutOfMemory {
-        let _ = errors.write_all(b"refused at 0..0: out of memory\n");
+        let _ = errors(b"refused at 0..0: out of memory\n");
         1
     } else {
         usage(errors)
     }
 }
 
-/// A reader or a writer, and whether the last call below of it failed. No clause of `Read` or `Write` says when a
-/// call fails, so a function over any of them could always claim that one did; over a watched one it cannot.
-#[derive(Drop)]
-pub struct Watched<S> {
-    inner: S,
-    failed: bool,
-}
-
-impl<S> Watched<S> {
-    /// A reader or a writer that has not failed.
-    pub fn new(inner: S) -> Watched<S>
-        ensures inner { result.inner ≡ inner }
-        ensures failed { result.failed ≡ false }
-    {
-        Watched {
-            inner,
-            failed: false,
-        }
-    }
-}
-
-impl<R: Read> Watched<R> {
-    /// Appends all that is left to `bytes`. The error is that of a read, or out of memory.
-    pub fn read_to_end(&mut self, bytes: &mut Vec<u8>) -> io::Result<()>
-        ensures bytes { OnOk result (IfSome (R.remaining self.old.inner) (λ left. bytes.new.items ≡ bytes.old.items ++ left)) }
-        ensures failed { MatchResult result (λ _. self.new.failed ≡ false) (λ _. self.new.failed ≡ true) }
-    {
-        match self.inner.read_to_end(bytes) {
-            Ok(_) => {
-                self.failed = false;
-                Ok(())
-            }
-            Err(e) => {
-                self.failed = true;
-                Err(e)
-            }
-        }
-    }
-}
-
-impl<W: Write> Watched<W> {
-    /// Writes the whole text. Where a write fails, a front of the text may have been written, and nothing else.
-    pub fn write_all(&mut self, text: &[u8]) -> io::Result<()>
-        ensures bytes { Gains (W.contents self.old.inner) text.now self.new.failed (W.contents self.new.inner) }
-        ensures failed { MatchResult result (λ _. self.new.failed ≡ false) (λ _. self.new.failed ≡ true) }
-    {
-        match write_whole(&mut self.inner, text) {
-            Ok(()) => {
-                self.failed = false;
-                Ok(())
-            }
-            Err(e) => {
-                self.failed = true;
-                Err(e)
-            }
-        }
-    }
+/// All bytes that a reader has left.
+pub fn read_rest<R: Read>(alloc: Global, reader: &mut R) -> io::Result<Vec<u8>>
+    ensures { IfOk result (λ bytes. IfSome (R.remaining reader.old) (λ left. bytes.items ≡ left)) }
+{
+    let mut bytes = Vec::new(alloc);
+    reader.read_to_end(&mut bytes)?;
+    Ok(bytes)
 }
 
 /// Writes the whole text, as `Write::write_all` does, whose clauses say nothing of a write that failed. A write that
-/// was interrupted is tried again.
-fn write_whole<W: Write>(writer: &mut W, text: &[u8]) -> io::Result<()>
+/// was interrupted is tried again. If a write fails, the writer has gained a front of the text, and nothing else.
+pub fn write_whole<W: Write>(writer: &mut W, text: &[u8]) -> io::Result<()>
     ensures { MatchResult result (λ _. Appends (W.contents writer.old) (W.contents writer.new) text.now) (λ _. GainsFront (W.contents writer.old) text.now (W.contents writer.new)) }
 {
     let mut rest = text;

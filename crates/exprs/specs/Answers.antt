@@ -4,7 +4,7 @@ use Rattle.std.specs.Str.{IsUtf8, trim}
 use Rattle.std.specs.Io.KnownBytes.{Appends}
 use Rattle.syn_tokens.specs.declared.error.Error.{Error}
 use Rattle.syn_tokens.specs.declared.error.ErrorKind.TheVariants.{OutOfMemory}
-use Rattle.syn_report.specs.Report.{report}
+use Rattle.syn_report.specs.Report.{place_report}
 use Rattle.syn_expr.specs.Texts.{NothingStands}
 use Rattle.exprs.specs.Kinds.{counted}
 use Rattle.exprs.specs.Line.{Position, IsLine}
@@ -44,7 +44,7 @@ abbrev pub moved : ℕ → Error → Error
 moved offset e = record { span = record { lo = added e.span.lo offset; hi = added e.span.hi offset }; kind = e.kind }
 
 abbrev pub refusal : List ℕ → List ℕ → ℕ → Error → List ℕ
-refusal name whole offset e = name ++ codes ": " ++ report (chars whole) (moved offset e) ++ codes "\n"
+refusal name whole offset e = name ++ codes ": " ++ place_report (chars whole) (moved offset e) ++ codes "\n"
 
 -- what is written of it to the errors, where the part begins at this offset of the text of a file of this name
 abbrev pub report_of : List ℕ → List ℕ → ℕ → Outcome → List ℕ

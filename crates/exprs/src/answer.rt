@@ -9,7 +9,7 @@ use crate::args::Settings;
 use crate::kinds::kind_of;
 use std::alloc::Global;
 use syn_expr::{
-    ErrorKind, Expr, HeldExpr, Position, Result, dump, expr_to_text, flatten_in_place, parse_str,
+    ErrorKind, Expr, Position, Result, dump, expr_to_text, flatten_in_place, parse_str,
 };
 
 /// Makes of an expression that was read what is printed of it: with `bare` it loses its parentheses.
@@ -59,9 +59,9 @@ pub fn answer_of(alloc: Global, settings: Settings, text: &str) -> Result<Answer
     ensures value { IfOk result (λ a. spec.IsLine settings.dump (position_of settings.position) settings.bare (chars text.now) a.kind (string_bytes a.line)) }
     ensures refused { IfErr result (λ e. (e.kind ≡ ErrorKind.OutOfMemory) ⊎ NothingStands (chars text.now)) }
 {
-    let mut held = parse_str::<HeldExpr>(alloc, text)?;
-    let kind = kind_of(&held.expr);
-    prepare(settings.bare, &mut held.expr)?;
-    let line = line_of(alloc, settings, &held.expr)?;
+    let mut expr = parse_str::<Expr>(alloc, text)?;
+    let kind = kind_of(&expr);
+    prepare(settings.bare, &mut expr)?;
+    let line = line_of(alloc, settings, &expr)?;
     Ok(Answer { kind, line })
 }

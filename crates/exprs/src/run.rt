@@ -12,7 +12,7 @@ use std::alloc::{AllocError, Global};
 use std::io;
 use std::io::Write;
 use syn_expr::{Error, Span};
-use syn_report::report;
+use syn_report::report_place;
 
 /// The text of a file, and its name.
 #[derive(Clone, Copy)]
@@ -38,7 +38,7 @@ fn moved(e: Error, offset: usize) -> Error
 fn refusal(alloc: Global, source: Source<'_>, offset: usize, e: Error) -> Result<String, AllocError>
     ensures { IfOk result (λ s. string_bytes s ≡ spec.refusal source.entry.name.now source.entry.text.now offset e) }
 {
-    let report = report(alloc, source.text, &moved(e, offset))?;
+    let report = report_place(alloc, source.text, &moved(e, offset))?;
     let name = source.name;
     format!(in alloc; "{name}: {report}\n")
 }

@@ -8,7 +8,7 @@ ghost use Rattle.fold.specs.Fold as spec;
 use std::alloc::Global;
 use std::io;
 use syn_expr::op::{BinOp, UnOp};
-use syn_expr::{ErrorKind, Expr, HeldExpr, Lit, Result, parse_str};
+use syn_expr::{ErrorKind, Expr, Lit, Result, parse_str};
 
 /// The value of a literal, if it is an integer that has no suffix and fits in an `i64`.
 fn literal_value(lit: &Lit) -> Option<i64>
@@ -69,8 +69,8 @@ fn value_of_text(alloc: Global, text: &str) -> Result<Option<i64>>
     ensures value { IfOk result (λ v. spec.IsValueOf (chars text.now) v) }
     ensures refused { IfErr result (λ e. (e.kind ≡ ErrorKind.OutOfMemory) ⊎ NothingStands (chars text.now)) }
 {
-    let held = parse_str::<HeldExpr>(alloc, text)?;
-    Ok(value(&held.expr))
+    let expr = parse_str::<Expr>(alloc, text)?;
+    Ok(value(&expr))
 }
 
 fn main(rt: HostRuntime) -> io::Result<()> {

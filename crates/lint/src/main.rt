@@ -7,7 +7,7 @@ ghost use Rattle.lint.specs.Lint.{ComparesWithItself, IsVerdictOn};
 
 use std::alloc::Global;
 use std::io;
-use syn_expr::{ErrorKind, Expr, HeldExpr, Precedence, Result, parse_str};
+use syn_expr::{ErrorKind, Expr, Precedence, Result, parse_str};
 use syn_laws::same::equal_expressions;
 
 /// Whether the same expression is on both sides of a comparison.
@@ -31,8 +31,8 @@ fn verdict(alloc: Global, text: &str) -> Result<bool>
     ensures value { IfOk result (λ b. IsVerdictOn (chars text.now) b) }
     ensures refused { IfErr result (λ e. (e.kind ≡ ErrorKind.OutOfMemory) ⊎ NothingStands (chars text.now)) }
 {
-    let held = parse_str::<HeldExpr>(alloc, text)?;
-    Ok(compares_with_itself(&held.expr))
+    let expr = parse_str::<Expr>(alloc, text)?;
+    Ok(compares_with_itself(&expr))
 }
 
 fn main(rt: HostRuntime) -> io::Result<()> {

@@ -1,4 +1,5 @@
-//! Simplifies expressions: `!(a == b)` becomes `a != b` wherever it is, and parentheses that aren't needed are gone.
+//! Simplifies expressions: at each node that was read, `!(a == b)` becomes `a != b`, and parentheses that aren't needed are gone.
+//! What is in the braces of a block is kept as tokens, and stays.
 #![tactic(auto)]
 
 ghost use Rattle.std.specs.Prelude.{◌≡◌, ◌⊎◌, IfErr, IfOk, chars, string_bytes};
@@ -11,8 +12,8 @@ use std::io;
 use std::mem::replace;
 use syn_expr::op::{BinOp, UnOp};
 use syn_expr::{
-    Attribute, ErrorKind, Expr, ExprBinary, HeldExpr, Position, Result, expr_to_text,
-    flatten_in_place, parse_str,
+    Attribute, ErrorKind, Expr, ExprBinary, Position, Result, expr_to_text, flatten_in_place,
+    parse_str,
 };
 use syn_tokens::token::Ne;
 use syn_visit::rewrite;
@@ -37,21 +38,21 @@ fn simplify(alloc: Global, expr: &mut Expr)
             if negates_equality(&negation.attrs, &negation.op, equality) {
                 equality.op = BinOp::Ne(Ne::default());
                 let unequal = replace(&mut *negation.expr, Expr::placeholder(alloc));
-                drop(HeldExpr::from(replace(expr, unequal)));
+                drop(replace(expr, unequal));
             }
         }
     }
 }
 
-/// The text of an expression that is simplified at every depth.
+/// The text of an expression after each of its nodes was simplified.
 fn simplified_text(alloc: Global, text: &str) -> Result<String>
     ensures value { IfOk result (λ s. IsSimplified (chars text.now) (string_bytes s)) }
     ensures refused { IfErr result (λ e. (e.kind ≡ ErrorKind.OutOfMemory) ⊎ NothingStands (chars text.now)) }
 {
-    let mut held = parse_str::<HeldExpr>(alloc, text)?;
-    flatten_in_place(&mut held.expr)?;
+    let mut expr = parse_str::<Expr>(alloc, text)?;
+    flatten_in_place(&mut expr)?;
     rewrite(
-        &mut held.expr,
+        &mut expr,
         &|expr: &mut Expr| -> Result<()>
             ensures tree { IfOk result (λ _. tree_of expr.new ≡ simplified (tree_of expr.old)) }
             ensures done { IfErr result (λ e. ⊥) }
@@ -60,7 +61,7 @@ fn simplified_text(alloc: Global, text: &str) -> Result<String>
             Ok(())
         },
     )?;
-    expr_to_text(alloc, &held.expr, Position::Plain)
+    expr_to_text(alloc, &expr, Position::Plain)
 }
 
 fn main(rt: HostRuntime) -> io::Result<()> {

@@ -98,6 +98,7 @@ pub use syn_expr_core::expr::ExprUnsafe;
 pub use syn_expr_core::expr::ExprWhile;
 pub use syn_expr_core::expr::ExprYield;
 pub use syn_expr_core::expr::FieldValue;
+pub use syn_expr_core::expr::Node;
 pub use syn_expr_core::pat;
 pub use syn_expr_fixup::FixupContext;
 pub use syn_expr_fixup::fixup;

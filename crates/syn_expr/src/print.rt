@@ -49,9 +49,9 @@ pub fn print_expr(expr: &Expr, tokens: &mut TokenStream, fixup: FixupContext) ->
     Ok(())
 }
 
-/// The tokens that `print_expr` puts at the end, and how often a node was visited: by the pass that summarizes the ends of each
-/// node, and by the printing; each at least once, and at most twice. Guards in patterns where there may be none aren't visited. A
-/// count that reaches the greatest `u64` stays there.
+/// The tokens that `print_expr` puts at the end, and a count of visits of nodes: one where the ends of a node are summarized, and
+/// one where it is printed. The count is at most twice the number of nodes; for a well-formed tree it is at least that number.
+/// Guards in patterns where there may be none aren't visited. A count that reaches the greatest `u64` stays there.
 ///
 /// Memory may run out (`OutOfMemory`).
 pub fn print_counted(alloc: Global, expr: &Expr, fixup: FixupContext) -> Result<(TokenStream, u64)>

@@ -1,3 +1,4 @@
+pub mod Node
 pub mod TreeOf
 pub mod Verbatim
 pub mod Paths

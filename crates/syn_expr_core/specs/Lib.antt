@@ -1,3 +1,4 @@
+pub mod Node
 pub mod View
 pub mod Guarded
 pub mod Refused

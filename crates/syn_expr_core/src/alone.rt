@@ -21,7 +21,7 @@ use crate::expr::{
     ExprUnary, ExprWhile, ExprYield,
 };
 use crate::held::HeldExpr;
-use crate::of_kind::{Kind, ungrouped};
+use crate::of_kind::Kind;
 use crate::parse::{expr_at, refusal};
 use std::alloc::AllocError;
 use syn_expr_ast::alone::named_refusal;
@@ -135,7 +135,7 @@ fn of_kind<S: Kind>(input: &mut ParseBuffer<'_>, wanted: WantedKind) -> Result<S
         Ok(x) => x,
         Err(e) => return Err(refusal(input, PLAIN, e)),
     };
-    match S::of(ungrouped(Box::into_inner(x))) {
+    match S::of(Box::into_inner(x).ungrouped()) {
         Ok(x) => {
             input.advance_to(&ahead);
             Ok(x)

@@ -11,7 +11,6 @@ pub mod held;
 mod leftover;
 mod make;
 mod make_pat;
-mod node;
 mod of_kind;
 mod parse;
 pub mod pat;

@@ -8,7 +8,7 @@ use crate::expr::{
     Expr, ExprArray, ExprAssign, ExprAwait, ExprBinary, ExprBreak, ExprCall, ExprCast, ExprClosure,
     ExprField, ExprForLoop, ExprIf, ExprIndex, ExprLet, ExprMatch, ExprMethodCall, ExprParen,
     ExprRange, ExprRawAddr, ExprRepeat, ExprReturn, ExprTry, ExprTuple, ExprUnary, ExprWhile,
-    ExprYield,
+    ExprYield, Node,
 };
 
 /// A struct of the expressions of one kind.
@@ -27,16 +27,6 @@ pub(crate) trait Kind {
         ensures { MatchResult result (λ s. (tree s ≡ tree_of x) × (is (alone.unattributed (tree_of x)) ≡ true)) (λ y. is (alone.unattributed (tree_of x)) ≡ false) };
 }
 
-/// What an expression is in invisible groups, in as many as there are; attributes before a group go with it.
-pub(crate) fn ungrouped(x: Expr) -> Expr
-    ensures { tree_of result ≡ alone.ungrouped (tree_of x) }
-{
-    match x {
-        Expr::Group(group) => ungrouped(Box::into_inner(group.expr)),
-        x => x,
-    }
-}
-
 impl Kind for ExprArray {
     ghost use Rattle.syn_expr_core.specs.View.{tree_of};
     ghost use Rattle.syn_expr_ast.specs.View.{expr_array_of};
@@ -47,9 +37,9 @@ impl Kind for ExprArray {
     ghost is = { is_array };
 
     fn of(x: Expr) -> std::result::Result<Self, Expr> {
-        match x {
-            Expr::Array(x) => Ok(x),
-            x => Err(x),
+        match x.node() {
+            Node::Array(x) => Ok(x),
+            x => Err(x.into_expr()),
         }
     }
 }
@@ -64,9 +54,9 @@ impl Kind for ExprAssign {
     ghost is = { is_assign };
 
     fn of(x: Expr) -> std::result::Result<Self, Expr> {
-        match x {
-            Expr::Assign(x) => Ok(x),
-            x => Err(x),
+        match x.node() {
+            Node::Assign(x) => Ok(x),
+            x => Err(x.into_expr()),
         }
     }
 }
@@ -81,9 +71,9 @@ impl Kind for ExprAwait {
     ghost is = { is_await };
 
     fn of(x: Expr) -> std::result::Result<Self, Expr> {
-        match x {
-            Expr::Await(x) => Ok(x),
-            x => Err(x),
+        match x.node() {
+            Node::Await(x) => Ok(x),
+            x => Err(x.into_expr()),
         }
     }
 }
@@ -98,9 +88,9 @@ impl Kind for ExprBinary {
     ghost is = { is_binary };
 
     fn of(x: Expr) -> std::result::Result<Self, Expr> {
-        match x {
-            Expr::Binary(x) => Ok(x),
-            x => Err(x),
+        match x.node() {
+            Node::Binary(x) => Ok(x),
+            x => Err(x.into_expr()),
         }
     }
 }
@@ -115,9 +105,9 @@ impl Kind for ExprBreak {
     ghost is = { is_break };
 
     fn of(x: Expr) -> std::result::Result<Self, Expr> {
-        match x {
-            Expr::Break(x) => Ok(x),
-            x => Err(x),
+        match x.node() {
+            Node::Break(x) => Ok(x),
+            x => Err(x.into_expr()),
         }
     }
 }
@@ -132,9 +122,9 @@ impl Kind for ExprCall {
     ghost is = { is_call };
 
     fn of(x: Expr) -> std::result::Result<Self, Expr> {
-        match x {
-            Expr::Call(x) => Ok(x),
-            x => Err(x),
+        match x.node() {
+            Node::Call(x) => Ok(x),
+            x => Err(x.into_expr()),
         }
     }
 }
@@ -149,9 +139,9 @@ impl Kind for ExprCast {
     ghost is = { is_cast };
 
     fn of(x: Expr) -> std::result::Result<Self, Expr> {
-        match x {
-            Expr::Cast(x) => Ok(x),
-            x => Err(x),
+        match x.node() {
+            Node::Cast(x) => Ok(x),
+            x => Err(x.into_expr()),
         }
     }
 }
@@ -165,9 +155,9 @@ impl Kind for ExprClosure {
     ghost is = { is_closure };
 
     fn of(x: Expr) -> std::result::Result<Self, Expr> {
-        match x {
-            Expr::Closure(x) => Ok(x),
-            x => Err(x),
+        match x.node() {
+            Node::Closure(x) => Ok(x),
+            x => Err(x.into_expr()),
         }
     }
 }
@@ -182,9 +172,9 @@ impl Kind for ExprField {
     ghost is = { is_field };
 
     fn of(x: Expr) -> std::result::Result<Self, Expr> {
-        match x {
-            Expr::Field(x) => Ok(x),
-            x => Err(x),
+        match x.node() {
+            Node::Field(x) => Ok(x),
+            x => Err(x.into_expr()),
         }
     }
 }
@@ -198,9 +188,9 @@ impl Kind for ExprForLoop {
     ghost is = { is_for_loop };
 
     fn of(x: Expr) -> std::result::Result<Self, Expr> {
-        match x {
-            Expr::ForLoop(x) => Ok(x),
-            x => Err(x),
+        match x.node() {
+            Node::ForLoop(x) => Ok(x),
+            x => Err(x.into_expr()),
         }
     }
 }
@@ -215,9 +205,9 @@ impl Kind for ExprIf {
     ghost is = { is_if_expr };
 
     fn of(x: Expr) -> std::result::Result<Self, Expr> {
-        match x {
-            Expr::If(x) => Ok(x),
-            x => Err(x),
+        match x.node() {
+            Node::If(x) => Ok(x),
+            x => Err(x.into_expr()),
         }
     }
 }
@@ -232,9 +222,9 @@ impl Kind for ExprIndex {
     ghost is = { is_index };
 
     fn of(x: Expr) -> std::result::Result<Self, Expr> {
-        match x {
-            Expr::Index(x) => Ok(x),
-            x => Err(x),
+        match x.node() {
+            Node::Index(x) => Ok(x),
+            x => Err(x.into_expr()),
         }
     }
 }
@@ -248,9 +238,9 @@ impl Kind for ExprLet {
     ghost is = { is_let };
 
     fn of(x: Expr) -> std::result::Result<Self, Expr> {
-        match x {
-            Expr::Let(x) => Ok(x),
-            x => Err(x),
+        match x.node() {
+            Node::Let(x) => Ok(x),
+            x => Err(x.into_expr()),
         }
     }
 }
@@ -264,9 +254,9 @@ impl Kind for ExprMatch {
     ghost is = { is_match };
 
     fn of(x: Expr) -> std::result::Result<Self, Expr> {
-        match x {
-            Expr::Match(x) => Ok(x),
-            x => Err(x),
+        match x.node() {
+            Node::Match(x) => Ok(x),
+            x => Err(x.into_expr()),
         }
     }
 }
@@ -281,9 +271,9 @@ impl Kind for ExprMethodCall {
     ghost is = { is_method_call };
 
     fn of(x: Expr) -> std::result::Result<Self, Expr> {
-        match x {
-            Expr::MethodCall(x) => Ok(x),
-            x => Err(x),
+        match x.node() {
+            Node::MethodCall(x) => Ok(x),
+            x => Err(x.into_expr()),
         }
     }
 }
@@ -298,9 +288,9 @@ impl Kind for ExprParen {
     ghost is = { is_paren };
 
     fn of(x: Expr) -> std::result::Result<Self, Expr> {
-        match x {
-            Expr::Paren(x) => Ok(x),
-            x => Err(x),
+        match x.node() {
+            Node::Paren(x) => Ok(x),
+            x => Err(x.into_expr()),
         }
     }
 }
@@ -315,9 +305,9 @@ impl Kind for ExprRange {
     ghost is = { is_range };
 
     fn of(x: Expr) -> std::result::Result<Self, Expr> {
-        match x {
-            Expr::Range(x) => Ok(x),
-            x => Err(x),
+        match x.node() {
+            Node::Range(x) => Ok(x),
+            x => Err(x.into_expr()),
         }
     }
 }
@@ -332,9 +322,9 @@ impl Kind for ExprRawAddr {
     ghost is = { is_raw_addr };
 
     fn of(x: Expr) -> std::result::Result<Self, Expr> {
-        match x {
-            Expr::RawAddr(x) => Ok(x),
-            x => Err(x),
+        match x.node() {
+            Node::RawAddr(x) => Ok(x),
+            x => Err(x.into_expr()),
         }
     }
 }
@@ -349,9 +339,9 @@ impl Kind for ExprRepeat {
     ghost is = { is_repeat };
 
     fn of(x: Expr) -> std::result::Result<Self, Expr> {
-        match x {
-            Expr::Repeat(x) => Ok(x),
-            x => Err(x),
+        match x.node() {
+            Node::Repeat(x) => Ok(x),
+            x => Err(x.into_expr()),
         }
     }
 }
@@ -366,9 +356,9 @@ impl Kind for ExprReturn {
     ghost is = { is_return };
 
     fn of(x: Expr) -> std::result::Result<Self, Expr> {
-        match x {
-            Expr::Return(x) => Ok(x),
-            x => Err(x),
+        match x.node() {
+            Node::Return(x) => Ok(x),
+            x => Err(x.into_expr()),
         }
     }
 }
@@ -383,9 +373,9 @@ impl Kind for ExprTry {
     ghost is = { is_try };
 
     fn of(x: Expr) -> std::result::Result<Self, Expr> {
-        match x {
-            Expr::Try(x) => Ok(x),
-            x => Err(x),
+        match x.node() {
+            Node::Try(x) => Ok(x),
+            x => Err(x.into_expr()),
         }
     }
 }
@@ -400,9 +390,9 @@ impl Kind for ExprTuple {
     ghost is = { is_tuple };
 
     fn of(x: Expr) -> std::result::Result<Self, Expr> {
-        match x {
-            Expr::Tuple(x) => Ok(x),
-            x => Err(x),
+        match x.node() {
+            Node::Tuple(x) => Ok(x),
+            x => Err(x.into_expr()),
         }
     }
 }
@@ -417,9 +407,9 @@ impl Kind for ExprUnary {
     ghost is = { is_unary };
 
     fn of(x: Expr) -> std::result::Result<Self, Expr> {
-        match x {
-            Expr::Unary(x) => Ok(x),
-            x => Err(x),
+        match x.node() {
+            Node::Unary(x) => Ok(x),
+            x => Err(x.into_expr()),
         }
     }
 }
@@ -434,9 +424,9 @@ impl Kind for ExprWhile {
     ghost is = { is_while };
 
     fn of(x: Expr) -> std::result::Result<Self, Expr> {
-        match x {
-            Expr::While(x) => Ok(x),
-            x => Err(x),
+        match x.node() {
+            Node::While(x) => Ok(x),
+            x => Err(x.into_expr()),
         }
     }
 }
@@ -451,9 +441,9 @@ impl Kind for ExprYield {
     ghost is = { is_yield };
 
     fn of(x: Expr) -> std::result::Result<Self, Expr> {
-        match x {
-            Expr::Yield(x) => Ok(x),
-            x => Err(x),
+        match x.node() {
+            Node::Yield(x) => Ok(x),
+            x => Err(x.into_expr()),
         }
     }
 }

@@ -111,7 +111,7 @@ pub fn builtin_at(input: &ParseBuffer<'_>) -> bool
     ensures { result ≡ head.builtin_at input.now.rest }
 {
     match input.trees() {
-        [TokenTree::Ident(word), more @ ..] => word.as_str() == "builtin" && Pound::peek(more),
+        [TokenTree::Ident(word), more @ ..] => word.is("builtin") && Pound::peek(more),
         _ => false,
     }
 }
@@ -360,9 +360,7 @@ fn name_at(input: &ParseBuffer<'_>) -> bool
     ensures { result ≡ true → begins.atom_of input.now.rest ≡ Atom.Named }
 {
     match input.first() {
-        Some(TokenTree::Ident(word)) => {
-            !is_reserved_word(word.as_str()) && word.as_str() != "builtin"
-        }
+        Some(TokenTree::Ident(word)) => { !is_reserved_word(word.as_str()) && !word.is("builtin") }
         _ => false,
     }
 }

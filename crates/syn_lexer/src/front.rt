@@ -1,12 +1,13 @@
 //! The lexeme at the front of a text, after white space and comments; and its words: identifiers, raw identifiers, suffixes
 //! and reserved words.
 
-ghost use Rattle.std.specs.Prelude.{◌≡◌, ◌<◌, ◌↔◌, length, slice_index, false, IsTrue, IfErr, IfSome, MatchOption, MatchResult, Some, None, Err, ◌≢◌, ◌≤◌, true, map, ◌+◌, Ok};
+ghost use Rattle.std.specs.Prelude.{◌≡◌, ◌<◌, ◌↔◌, length, slice_index, false, IsTrue, IfErr, IfSome, MatchResult, Some, None, Err, ◌≢◌, ◌≤◌, true, map, ◌+◌, Ok};
 ghost use Rattle.syn_lexer.specs.Blanks.{is_white_space};
 ghost use Rattle.syn_lexer.specs.Lex as spec;
 ghost use Rattle.syn_lexer.specs.Text.{reading_of, IsWithin};
 ghost use Rattle.syn_lexer.specs.Text as text_spec;
 ghost use Rattle.std.specs.List.{filter, prefix_len};
+ghost use Rattle.std.specs.Str.{bytes_eq};
 ghost use Rattle.syn_lexer.specs.Keywords as keywords_spec;
 ghost use Rattle.unicode_ident.specs.Ident.{is_xid_continue};
 ghost use Rattle.syn_lexer.specs.Words as words_spec;
@@ -18,7 +19,8 @@ use crate::number::{
     string,
 };
 
-fn is_punct(c: char) -> bool
+/// Whether a character is one of the puncts that a token tree may be (Rust Reference, "Punctuation"). Delimiters are none.
+pub fn is_punct(c: char) -> bool
     ensures { result ≡ spec.is_punct c }
 {
     matches!(
@@ -57,6 +59,7 @@ fn spacing_before(text: &[char]) -> Spacing
     }
 }
 
+#[inline(always)]
 #[tactic(auto, unfolding(crate::specs::Lex::single_kind))]
 fn single_kind(text: &[char]) -> Option<LexemeKind>
     requires { 0 < length text.now }
@@ -75,6 +78,7 @@ fn single_kind(text: &[char]) -> Option<LexemeKind>
 }
 
 /// A delimiter or a punct.
+#[inline(always)]
 fn single(text: &[char]) -> Result<Lexeme, Refusal>
     requires { 0 < length text.now }
     ensures value { reading_of result ≡ spec.single text.now }
@@ -105,57 +109,44 @@ fn plain(text: &[char]) -> Result<Lexeme, Refusal>
     single(text)
 }
 
-/// A comment, a literal, a raw identifier or a lifetime, if one is here.
-// Most lexemes are none, and are read faster without the code of these between.
+/// What begins with a character that may begin a comment, a literal, a raw identifier or a lifetime.
+// Most lexemes begin with others, and are read faster without the code of these between.
 #[inline(never)]
 #[tactic(auto, unfolding(crate::specs::Lex::reading, crate::specs::Lex::token))]
-fn marked(text: &[char]) -> Option<Result<Lexeme, Refusal>>
+fn marked(text: &[char]) -> Result<Lexeme, Refusal>
     requires some { 0 < length text.now }
     requires no_white_space { is_white_space (slice_index text.now 0) ≡ false }
-    ensures value { MatchOption result (spec.reading text.now ≡ spec.plain text.now) (λ r. reading_of r ≡ spec.reading text.now) }
-    ensures within { IfSome result (λ r. IsWithin text.now r) }
+    ensures value { reading_of result ≡ spec.reading text.now }
+    ensures within { IsWithin text.now result }
 {
     if begins_line_comment(text) {
-        return Some(line_comment(text));
+        return line_comment(text);
     }
     if begins_block_comment(text) {
-        return Some(block_comment(text));
+        return block_comment(text);
     }
     if begins_string(text) {
-        return Some(string(text));
+        return string(text);
     }
     if begins_raw_string(text) {
-        return Some(raw_string(text));
+        return raw_string(text);
     }
     if begins_byte(text) {
-        return Some(byte(text));
+        return byte(text);
     }
     if begins_raw_word(text) {
-        return Some(raw_word(text));
+        return raw_word(text);
     }
     if starts_word(text) {
-        return None;
+        return plain(text);
     }
     if text[0].is_ascii_digit() {
-        return Some(number(text));
+        return number(text);
     }
     if text[0] == '\'' {
-        return Some(character_or_lifetime(text));
+        return character_or_lifetime(text);
     }
-    None
-}
-
-/// As `marked`, which is asked only after a first character that may begin one.
-fn marked_at(text: &[char]) -> Option<Result<Lexeme, Refusal>>
-    requires some { 0 < length text.now }
-    requires no_white_space { is_white_space (slice_index text.now 0) ≡ false }
-    ensures value { MatchOption result (spec.reading text.now ≡ spec.plain text.now) (λ r. reading_of r ≡ spec.reading text.now) }
-    ensures within { IfSome result (λ r. IsWithin text.now r) }
-{
-    match text[0] {
-        '/' | '"' | '\'' | '0'..='9' | 'b' | 'c' | 'r' => marked(text),
-        _ => None,
-    }
+    single(text)
 }
 
 #[inline(always)]
@@ -171,9 +162,9 @@ fn reading(text: &[char]) -> Result<Lexeme, Refusal>
             len: white_space_len(text),
         });
     }
-    match marked_at(text) {
-        Some(read) => read,
-        None => plain(text),
+    match text[0] {
+        '/' | '"' | '\'' | '0'..='9' | 'b' | 'c' | 'r' => marked(text),
+        _ => plain(text),
     }
 }
 
@@ -221,11 +212,25 @@ pub fn is_literal(text: &[char]) -> bool
 }
 
 /// Whether the text begins with this mark.
+#[inline(always)]
 pub fn begins(text: &[char], mark: &[char]) -> bool
     ensures value { result ≡ text_spec.begins mark.now text.now }
     ensures within { result ≡ true → length mark.now ≤ length text.now }
 {
-    text.starts_with(mark)
+    let mut rest = text;
+    let mut marks = mark;
+    // Where it is called the mark is known, and these are a few tests and no loop.
+    while let [wanted, others @ ..] = marks {
+        let [c, more @ ..] = rest else {
+            return false;
+        };
+        if *c != *wanted {
+            return false;
+        }
+        rest = more;
+        marks = others;
+    }
+    true
 }
 
 /// The character at a place, or U+0000 past the end.
@@ -265,11 +270,21 @@ fn beginning_with(first: u8) -> &'static [&'static str]
     }
 }
 
+/// Whether two words are the same.
+#[inline(always)]
+#[tactic(auto, using(crate::proofs::Words::lengths))]
+fn is_same_word(a: &str, b: &str) -> bool
+    ensures { result ≡ bytes_eq a.now b.now }
+{
+    // Most words differ in their length, which is one test.
+    a.len() == b.len() && a == b
+}
+
 fn is_one_of(mut words: &[&str], word: &str) -> bool
     ensures { result ≡ keywords_spec.is_one_of (map (λ w. w.now) words.entry.now) word.now }
 {
     'words: while let [first, more @ ..] = words {
-        if word == *first {
+        if is_same_word(word, *first) {
             return true;
         }
         words = more;
@@ -305,8 +320,11 @@ fn is_word_start(c: char) -> bool
 fn goes_on(c: char) -> bool
     ensures { result ≡ is_xid_continue c }
 {
-    // ASCII needs no tables of Unicode.
-    c.is_ascii_alphanumeric() || c == '_' || !c.is_ascii() && unicode_ident::is_xid_continue(c)
+    // Most are small letters, and ASCII needs no tables of Unicode.
+    c.is_ascii_lowercase()
+        || c.is_ascii_alphanumeric()
+        || c == '_'
+        || !c.is_ascii() && unicode_ident::is_xid_continue(c)
 }
 
 /// Whether an identifier begins here, or a prefix that is spelled like one.
@@ -397,12 +415,13 @@ pub fn raw_word(text: &[char]) -> Result<Lexeme, Refusal>
 pub fn is_white_space(c: char) -> bool
     ensures { result ≡ blanks_spec.is_white_space c }
 {
-    // This one range answers for most characters.
-    !c.is_ascii_graphic()
-        && matches!(
-            c,
-            '\u{9}'..='\u{d}' | ' ' | '\u{85}' | '\u{200e}' | '\u{200f}' | '\u{2028}' | '\u{2029}'
-        )
+    // The space and this one range answer for most characters.
+    c == ' '
+        || !c.is_ascii_graphic()
+            && matches!(
+                c,
+                '\u{9}'..='\u{d}' | '\u{85}' | '\u{200e}' | '\u{200f}' | '\u{2028}' | '\u{2029}'
+            )
 }
 
 fn more_white_space(text: &[char]) -> usize

@@ -16,6 +16,7 @@ ghost use Rattle.syn_tokens.specs.Tok as tok;
 ghost use Rattle.syn_tokens.specs.Tok.{weight};
 ghost use Rattle.syn_tokens.specs.View.{toks_of};
 ghost use Rattle.std.specs.List.{prefix_len};
+ghost use Rattle.std.specs.Str.{bytes_eq};
 
 use crate::attr::{AttrStyle, Attribute};
 use crate::block::Block;
@@ -335,12 +336,22 @@ pub fn kind_of(text: &str) -> Option<LitKind>
     }
 }
 
+/// Whether a word is this text.
+#[inline(always)]
+#[tactic(auto, using(syn_lexer::proofs::Words::lengths))]
+fn is_word(word: &str, text: &str) -> bool
+    ensures { result ≡ bytes_eq word.now text.now }
+{
+    // Most words differ in their length, which is one test.
+    word.len() == text.len() && word == text
+}
+
 /// Whether a word is `true` or `false`.
 #[tactic(auto, unfolding(syn_lower_spec::specs::Text::is_truth))]
 pub fn is_truth(word: &str) -> bool
     ensures { result ≡ spec.is_truth word.now }
 {
-    word == "true" || word == "false"
+    is_word(word, "true") || is_word(word, "false")
 }
 
 /// Whether a segment of this word takes no arguments.
@@ -348,7 +359,10 @@ pub fn is_truth(word: &str) -> bool
 pub fn stands_alone(word: &str) -> bool
     ensures { result ≡ spec.stands_alone word.now }
 {
-    word == "super" || word == "self" || word == "crate" || word == "try"
+    is_word(word, "super")
+        || is_word(word, "self")
+        || is_word(word, "crate")
+        || is_word(word, "try")
 }
 
 /// Whether a word is a segment of a path.

@@ -1,5 +1,6 @@
 -- How a place goes on, character by character.
 use Rattle.std.proofs.Common.{◌≡◌, ℕ, ◌+◌, ◌-◌, ◌<◌, ◌≤◌, Bool, true, false, not, cond, List, [], ◌∷◌, ◌++◌, length, drop, refl, sym, ap, subst, ◌∙◌, append_assoc, append-nil, length-append, arith, zero-add}
+use Rattle.std.proofs.Math.Nat.{add_comm}
 use Rattle.std.specs.Prelude.{chars, encode_utf8, nat_le}
 use Rattle.std.specs.Char.{len_utf8}
 use Rattle.std.specs.Str.{IsUtf8}
@@ -8,7 +9,7 @@ use Rattle.std.proofs.lemmas.List.{reverse-append, drop_at, drop_all, drop-appen
 use Rattle.std.proofs.lemmas.List.Sums.{sum_by-append}
 use Rattle.std.proofs.lemmas.Bool.Decides.{nat_tests}
 use Rattle.std.proofs.lemmas.Str.{chars_past_char, chars-nil, IsUtf8-past_char, length-encode, len_utf8_bounds}
-use Rattle.syn_report.specs.Place.{before, behind, ends_line, last_line, line_column, from_line}
+use Rattle.syn_report.specs.Place.{before, behind, ends_line, is_operator, last_line, line_column, from_line}
 use Rattle.syn_report.specs.declared.place.LineColumn.{LineColumn}
 
 -- ---- lists with one more at the end
@@ -48,7 +49,7 @@ before_long k c cs h = ap (λ b. cond b (c ∷ before (k - len_utf8 c) cs) []) (
 
 -- A place was reached in a text on the way to an offset, which is `left` bytes away; what stands from the start of its line on,
 -- and after it.
-pub record Reached (text : List ℕ) (offset : ℕ) (place : LineColumn) (left : ℕ) (line_text rest : List ℕ) (count : ℕ) : Type 0 where
+pub record Reached (text : List ℕ) (offset : ℕ) (place : LineColumn) (left : ℕ) (line_text rest : List ℕ) (count joined : ℕ) : Type 0 where
   pub utf8 : IsUtf8 rest
   pub done : List ℕ
   pub split : chars text ≡ done ++ chars rest
@@ -60,16 +61,19 @@ pub record Reached (text : List ℕ) (offset : ℕ) (place : LineColumn) (left :
   pub columns_fit : place.column + length rest ≤ length text
   pub counted : count ≡ length done
   pub count_fits : count + length rest ≤ length text
+  pub joins : joined ≡ suffix_len is_operator done
+  pub joins_fit : joined + length rest ≤ length text
 
 -- the line and column of an offset, step by step
-pub record Placed (text : List ℕ) (offset : ℕ) (place : LineColumn) (line_text rest : List ℕ) (count : ℕ) : Type 0 where
+pub record Placed (text : List ℕ) (offset : ℕ) (place : LineColumn) (line_text rest : List ℕ) (count joined : ℕ) : Type 0 where
   pub at_place : place ≡ line_column offset (chars text)
   pub from_start : chars line_text ≡ from_line offset (chars text)
   pub from_place : chars rest ≡ behind offset (chars text)
   pub count_is : count ≡ length (before offset (chars text))
+  pub joined_is : joined ≡ suffix_len is_operator (before offset (chars text))
   pub fits : place.column ≤ length text
 
-pub reached_start : (text : List ℕ) (offset : ℕ) → IsUtf8 text → Reached text offset (record { line = 1; column = 0 }) offset text text 0
+pub reached_start : (text : List ℕ) (offset : ℕ) → IsUtf8 text → Reached text offset (record { line = 1; column = 0 }) offset text text 0 0
 reached_start text offset u = record {
   utf8 = u;
   done = [];
@@ -82,14 +86,17 @@ reached_start text offset u = record {
   columns_fit = omega arith;
   counted = refl;
   count_fits = omega arith;
+  joins = refl;
+  joins_fit = omega arith;
 }
 
 -- what a place becomes after a character
-pub record Moved (c : ℕ) (place : LineColumn) (line_text : List ℕ) (count : ℕ) (next : LineColumn) (next_text more : List ℕ) (next_count : ℕ) : Type 0 where
+pub record Moved (c : ℕ) (place : LineColumn) (line_text : List ℕ) (count joined : ℕ) (next : LineColumn) (next_text more : List ℕ) (next_count next_joined : ℕ) : Type 0 where
   pub line_number : next.line ≡ cond (ends_line c) (place.line + 1) place.line
   pub column : next.column ≡ cond (ends_line c) 0 (place.column + 1)
   pub line : next_text ≡ cond (ends_line c) more line_text
   pub count_is : next_count ≡ count + 1
+  pub joined_is : next_joined ≡ cond (is_operator c) (joined + 1) 0
 
 shorter : (c : ℕ) (rest more : List ℕ) → rest ≡ encode_utf8 c ++ more → length more + 1 ≤ length rest
 shorter c rest more e = omega (arith, ap length e, length-append (encode_utf8 c) more, length-encode c, (len_utf8_bounds c).0)
@@ -97,10 +104,19 @@ shorter c rest more e = omega (arith, ap length e, length-append (encode_utf8 c)
 split_more : (c : ℕ) (text rest more done : List ℕ) → text ≡ done ++ rest → rest ≡ c ∷ more → text ≡ (done ++ c ∷ []) ++ more
 split_more c text rest more done s e = s ∙ ap (λ l. done ++ l) e ∙ sym (append_assoc done (c ∷ []) more)
 
-moved_by : (b : Bool) (c : ℕ) (text : List ℕ) (offset : ℕ) (place : LineColumn) (left : ℕ) (line_text rest : List ℕ) (count : ℕ) (next : LineColumn) (next_text more : List ℕ) (next_count : ℕ)
-    → ends_line c ≡ b → Reached text offset place left line_text rest count → rest ≡ encode_utf8 c ++ more → len_utf8 c ≤ left → Moved c place line_text count next next_text more next_count
-    → Reached text offset next (left - len_utf8 c) next_text more next_count
-moved_by true c text offset place left line_text rest count next next_text more next_count t r e fits m =
+-- the operator that ends there
+joined_more : (c : ℕ) (done : List ℕ) (joined next : ℕ) → joined ≡ suffix_len is_operator done → next ≡ cond (is_operator c) (joined + 1) 0 → next ≡ suffix_len is_operator (done ++ c ∷ [])
+joined_more c done joined next j n =
+    n ∙ ap (λ k. cond (is_operator c) k 0) (add_comm joined 1 ∙ ap (λ k. 1 + k) j) ∙ sym (suffix_more is_operator done c)
+
+joined_fits : (b : Bool) (joined next rest more text : ℕ) → next ≡ cond b (joined + 1) 0 → more + 1 ≤ rest → joined + rest ≤ text → next + more ≤ text
+joined_fits true joined next rest more text n short fits = omega (arith, n, short, fits)
+joined_fits false joined next rest more text n short fits = omega (arith, n, short, fits)
+
+moved_by : (b : Bool) (c : ℕ) (text : List ℕ) (offset : ℕ) (place : LineColumn) (left : ℕ) (line_text rest : List ℕ) (count joined : ℕ) (next : LineColumn) (next_text more : List ℕ) (next_count next_joined : ℕ)
+    → ends_line c ≡ b → Reached text offset place left line_text rest count joined → rest ≡ encode_utf8 c ++ more → len_utf8 c ≤ left → Moved c place line_text count joined next next_text more next_count next_joined
+    → Reached text offset next (left - len_utf8 c) next_text more next_count next_joined
+moved_by true c text offset place left line_text rest count joined next next_text more next_count next_joined t r e fits m =
     let one : chars rest ≡ c ∷ chars more = chars_past_char rest more c r.utf8 e in
     let short : length more + 1 ≤ length rest = shorter c rest more e in
     let n : next.line ≡ place.line + 1 = m.line_number ∙ ap (λ b. cond b (place.line + 1) place.line) t in
@@ -120,8 +136,10 @@ moved_by true c text offset place left line_text rest count next next_text more 
       columns_fit = omega (arith, k, short, r.columns_fit);
       counted = omega (arith, m.count_is, r.counted, length-append r.done (c ∷ []));
       count_fits = omega (arith, m.count_is, short, r.count_fits);
+      joins = joined_more c r.done joined next_joined r.joins m.joined_is;
+      joins_fit = joined_fits (is_operator c) joined next_joined (length rest) (length more) (length text) m.joined_is short r.joins_fit;
     }
-moved_by false c text offset place left line_text rest count next next_text more next_count t r e fits m =
+moved_by false c text offset place left line_text rest count joined next next_text more next_count next_joined t r e fits m =
     let one : chars rest ≡ c ∷ chars more = chars_past_char rest more c r.utf8 e in
     let short : length more + 1 ≤ length rest = shorter c rest more e in
     let n : next.line ≡ place.line = m.line_number ∙ ap (λ b. cond b (place.line + 1) place.line) t in
@@ -141,14 +159,16 @@ moved_by false c text offset place left line_text rest count next next_text more
       columns_fit = omega (arith, k, short, r.columns_fit);
       counted = omega (arith, m.count_is, r.counted, length-append r.done (c ∷ []));
       count_fits = omega (arith, m.count_is, short, r.count_fits);
+      joins = joined_more c r.done joined next_joined r.joins m.joined_is;
+      joins_fit = joined_fits (is_operator c) joined next_joined (length rest) (length more) (length text) m.joined_is short r.joins_fit;
     }
 
-pub reached_more : (c width : ℕ) (text : List ℕ) (offset : ℕ) (place : LineColumn) (left : ℕ) (line_text rest : List ℕ) (count : ℕ) (next : LineColumn) (next_text more : List ℕ) (next_count : ℕ)
-    → Reached text offset place left line_text rest count → rest ≡ encode_utf8 c ++ more → width ≡ len_utf8 c → width ≤ left
-    → Moved c place line_text count next next_text more next_count → Reached text offset next (left - width) next_text more next_count
-reached_more c width text offset place left line_text rest count next next_text more next_count r e w fits m =
-    let P : ℕ → Type 0 = λ k. Reached text offset next (left - k) next_text more next_count in
-    subst P (sym w) (moved_by (ends_line c) c text offset place left line_text rest count next next_text more next_count refl r e (rw w at fits) m)
+pub reached_more : (c width : ℕ) (text : List ℕ) (offset : ℕ) (place : LineColumn) (left : ℕ) (line_text rest : List ℕ) (count joined : ℕ) (next : LineColumn) (next_text more : List ℕ) (next_count next_joined : ℕ)
+    → Reached text offset place left line_text rest count joined → rest ≡ encode_utf8 c ++ more → width ≡ len_utf8 c → width ≤ left
+    → Moved c place line_text count joined next next_text more next_count next_joined → Reached text offset next (left - width) next_text more next_count next_joined
+reached_more c width text offset place left line_text rest count joined next next_text more next_count next_joined r e w fits m =
+    let P : ℕ → Type 0 = λ k. Reached text offset next (left - k) next_text more next_count next_joined in
+    subst P (sym w) (moved_by (ends_line c) c text offset place left line_text rest count joined next next_text more next_count next_joined refl r e (rw w at fits) m)
 
 same_place : (x y : LineColumn) → x.line ≡ y.line → x.column ≡ y.column → x ≡ y
 same_place x y l k =
@@ -157,9 +177,9 @@ same_place x y l k =
     ap at_line l ∙ ap at_column k
 
 -- no character of what is left ends at the offset or before it
-placed : (text : List ℕ) (offset : ℕ) (place : LineColumn) (left : ℕ) (line_text rest : List ℕ) (count : ℕ) → Reached text offset place left line_text rest count
-    → before left (chars rest) ≡ [] → Placed text offset place line_text rest count
-placed text offset place left line_text rest count r none =
+placed : (text : List ℕ) (offset : ℕ) (place : LineColumn) (left : ℕ) (line_text rest : List ℕ) (count joined : ℕ) → Reached text offset place left line_text rest count joined
+    → before left (chars rest) ≡ [] → Placed text offset place line_text rest count joined
+placed text offset place left line_text rest count joined r none =
     let front : before offset (chars text) ≡ r.done = r.front ∙ ap (λ l. r.done ++ l) none ∙ append-nil r.done in
     let rest_is : behind offset (chars text) ≡ chars rest =
     ap (λ l. drop (length l) (chars text)) front ∙ ap (λ l. drop (length r.done) l) r.split ∙ drop_at r.done (chars rest) (length r.done) refl in
@@ -168,15 +188,16 @@ placed text offset place left line_text rest count r none =
       from_start = r.started ∙ ap (λ l. last_line l ++ chars rest) (sym front) ∙ ap (λ l. last_line (before offset (chars text)) ++ l) (sym rest_is);
       from_place = sym rest_is;
       count_is = r.counted ∙ ap length (sym front);
+      joined_is = r.joins ∙ ap (suffix_len is_operator) (sym front);
       fits = omega (arith, r.columns_fit);
     }
 
-pub placed_long : (c width : ℕ) (text : List ℕ) (offset : ℕ) (place : LineColumn) (left : ℕ) (line_text rest more : List ℕ) (count : ℕ) → Reached text offset place left line_text rest count
-    → rest ≡ encode_utf8 c ++ more → width ≡ len_utf8 c → left < width → Placed text offset place line_text rest count
-placed_long c width text offset place left line_text rest more count r e w long =
-    placed text offset place left line_text rest count r (ap (before left) (chars_past_char rest more c r.utf8 e) ∙ before_long left c (chars more) (rw w at long))
+pub placed_long : (c width : ℕ) (text : List ℕ) (offset : ℕ) (place : LineColumn) (left : ℕ) (line_text rest more : List ℕ) (count joined : ℕ) → Reached text offset place left line_text rest count joined
+    → rest ≡ encode_utf8 c ++ more → width ≡ len_utf8 c → left < width → Placed text offset place line_text rest count joined
+placed_long c width text offset place left line_text rest more count joined r e w long =
+    placed text offset place left line_text rest count joined r (ap (before left) (chars_past_char rest more c r.utf8 e) ∙ before_long left c (chars more) (rw w at long))
 
-pub placed_end : (text : List ℕ) (offset : ℕ) (place : LineColumn) (left : ℕ) (line_text rest : List ℕ) (count : ℕ) → Reached text offset place left line_text rest count
-    → length rest ≡ 0 → Placed text offset place line_text rest count
-placed_end text offset place left line_text rest count r none =
-    placed text offset place left line_text rest count r (ap (λ l. before left (chars l)) (nil_from_length rest none) ∙ ap (before left) chars-nil)
+pub placed_end : (text : List ℕ) (offset : ℕ) (place : LineColumn) (left : ℕ) (line_text rest : List ℕ) (count joined : ℕ) → Reached text offset place left line_text rest count joined
+    → length rest ≡ 0 → Placed text offset place line_text rest count joined
+placed_end text offset place left line_text rest count joined r none =
+    placed text offset place left line_text rest count joined r (ap (λ l. before left (chars l)) (nil_from_length rest none) ∙ ap (before left) chars-nil)

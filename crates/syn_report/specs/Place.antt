@@ -1,7 +1,7 @@
 -- Where in a text, as characters, an offset is, which counts its bytes in UTF-8.
-use Rattle.std.specs.Prelude.{ℕ, ◌+◌, ◌-◌, Bool, nat_le, ◌==◌, if◌then◌else◌, List, [], ◌∷◌, ◌++◌, length, drop}
+use Rattle.std.specs.Prelude.{ℕ, ◌+◌, ◌-◌, Bool, nat_le, ◌==◌, if◌then◌else◌, List, [], ◌∷◌, ◌++◌, length, drop, codes}
 use Rattle.std.specs.Char.{len_utf8}
-use Rattle.std.specs.List.{count_by, before_first, after_last}
+use Rattle.std.specs.List.{count_by, before_first, after_last, list_any}
 use Rattle.syn_report.specs.declared.place.LineColumn.{LineColumn}
 
 -- the characters that end at the offset or before it
@@ -30,3 +30,7 @@ line_column offset cs = record { line = 1 + count_by ends_line (before offset cs
 -- the text from the start of the offset's line on
 abbrev pub from_line : ℕ → List ℕ → List ℕ
 from_line offset cs = last_line (before offset cs) ++ behind offset cs
+
+-- the characters of operators (Rust Reference, "Operator expressions") but `/`, with which comments begin and end
+abbrev pub is_operator : ℕ → Bool
+is_operator c = list_any (λ p. c == p) (codes "+-*%^!&|=<>")

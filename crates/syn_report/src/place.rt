@@ -1,6 +1,7 @@
 //! Where in a text an offset is.
 
 ghost use Rattle.std.specs.Prelude.{◌≡◌, ◌+◌, ◌<◌, ◌≤◌, ◌^◌, length, chars, if◌then◌else◌};
+ghost use Rattle.std.specs.List.{suffix_len};
 ghost use Rattle.syn_report.specs.Place as spec;
 
 /// A line and a column of a text, as proc_macro2's `LineColumn` counts them.
@@ -35,6 +36,19 @@ pub(crate) struct Place<'a> {
     pub(crate) behind: &'a str,
     /// How many characters are before it.
     pub(crate) count: usize,
+    /// How many characters of an operator are right before it.
+    pub(crate) joined: usize,
+}
+
+/// Whether an operator may have a character (Rust Reference, "Operator expressions"). `/` is left out, since a comment may follow
+/// an operator at once.
+pub(crate) fn is_operator(c: char) -> bool
+    ensures { result ≡ spec.is_operator c }
+{
+    matches!(
+        c,
+        '+' | '-' | '*' | '%' | '^' | '!' | '&' | '|' | '=' | '<' | '>'
+    )
 }
 
 impl<'a> Place<'a> {
@@ -43,14 +57,17 @@ impl<'a> Place<'a> {
         requires lines { self.now.at.line + 1 < 2 ^ 64 }
         requires columns { self.now.at.column + 1 < 2 ^ 64 }
         requires count { self.now.count + 1 < 2 ^ 64 }
+        requires joined { self.now.joined + 1 < 2 ^ 64 }
         ensures line_number { result.at.line ≡ (if spec.ends_line c then self.now.at.line + 1 else self.now.at.line) }
         ensures column { result.at.column ≡ (if spec.ends_line c then 0 else self.now.at.column + 1) }
         ensures line { result.line.now ≡ (if spec.ends_line c then result.behind.now else self.now.line.now) }
         ensures behind { result.behind.now ≡ behind.now }
         ensures count { result.count ≡ self.now.count + 1 }
+        ensures joined { result.joined ≡ (if spec.is_operator c then self.now.joined + 1 else 0) }
     {
         let LineColumn { line, column } = self.at;
         let count = self.count + 1;
+        let joined = if is_operator(c) { self.joined + 1 } else { 0 };
         if c == '\n' {
             Place {
                 at: LineColumn {
@@ -60,6 +77,7 @@ impl<'a> Place<'a> {
                 line: behind,
                 behind,
                 count,
+                joined,
             }
         } else {
             Place {
@@ -70,6 +88,7 @@ impl<'a> Place<'a> {
                 line: self.line,
                 behind,
                 count,
+                joined,
             }
         }
     }
@@ -80,6 +99,7 @@ impl<'a> Place<'a> {
         ensures line { chars result.line.now ≡ spec.from_line offset (chars text.now) }
         ensures behind { chars result.behind.now ≡ spec.behind offset (chars text.now) }
         ensures count { result.count ≡ length (spec.before offset (chars text.now)) }
+        ensures joined { result.joined ≡ suffix_len spec.is_operator (spec.before offset (chars text.now)) }
         ensures fits { result.at.column ≤ length text.now }
     {
         let mut place = Place {
@@ -87,6 +107,7 @@ impl<'a> Place<'a> {
             line: text,
             behind: text,
             count: 0,
+            joined: 0,
         };
         let mut left = offset;
         let mut chars = text.chars();

@@ -76,7 +76,7 @@ pub enum ErrorKind {
     Lex(LexError),
     /// The value of a literal is none of the type that was asked for; the place is the whole literal.
     LiteralOutOfRange,
-    /// Modifiers that are not empty. No reader here answers it yet.
+    /// Modifiers that are not empty, where none are allowed. `Modifiers::require_empty` answers it.
     ModifierNotEmpty,
 }
 
@@ -161,7 +161,7 @@ pub enum Part {
     Path,
     /// A type.
     Type,
-    /// A pattern. No reader here answers it yet.
+    /// A pattern.
     Pattern,
     /// A macro call, or its group after the `!`.
     Macro,

@@ -2,6 +2,7 @@
 
 ghost use Rattle.std.specs.Prelude.{◌≡◌, ◌≢◌, ◌≤◌, ◌<◌, ◌+◌, ◌^◌, ◌++◌, ◌∷◌, ◌⊎◌, [], List, true, length, chars, encode_utf8_all, IfOk, IfErr, OnOk, MatchResult};
 ghost use Rattle.std.specs.Rc.{rc_str_bytes};
+ghost use Rattle.std.specs.Str.{IsAscii};
 ghost use Rattle.syn_tokens.specs.Input.{Gives};
 ghost use Rattle.syn_tokens.specs.Lex as spec;
 ghost use Rattle.syn_tokens.specs.Nest.{nest_pieces, delimiters_of, misfits};
@@ -14,7 +15,7 @@ use crate::same::is_same;
 use crate::text::SharedText;
 use crate::tree::{Group, Ident, Literal, Punct, Span, TokenStream, TokenTree};
 use crate::{Delimiter, Spacing};
-use std::alloc::Global;
+use std::alloc::{AllocError, Global};
 use std::rc::RcStr;
 use syn_lexer::error::Refusal;
 use syn_lexer::front::{LexemeKind, front};
@@ -40,10 +41,44 @@ pub fn lex(alloc: Global, text: &str) -> Result<TokenStream>
     lex_chars(alloc, &shared, all.as_slice())
 }
 
+/// Whether each byte is ASCII. It goes on behind one that is not, so that several are looked at in one step.
+fn is_ascii(bytes: &[u8]) -> bool
+    ensures { result ≡ true → IsAscii bytes.now }
+{
+    let mut highest = 0;
+    for i in 0..bytes.len() {
+        highest = highest.max(bytes[i]);
+    }
+    highest < 128
+}
+
+/// Writes each byte as a character.
+fn widen(chars: &mut [char], bytes: &[u8])
+    requires { length chars.old ≡ length bytes.now }
+    ensures { chars.new ≡ bytes.now }
+{
+    for i in 0..bytes.len() {
+        chars[i] = char::from(bytes[i]);
+    }
+}
+
+/// The bytes as characters.
+fn widened(alloc: Global, bytes: &[u8]) -> std::result::Result<Vec<char>, AllocError>
+    ensures { IfOk result (λ v. v.items ≡ bytes.now) }
+{
+    let mut chars = Vec::from_elem(alloc, '\0', bytes.len())?;
+    widen(chars.as_mut_slice(), bytes);
+    Ok(chars)
+}
+
 /// The characters of a text.
 pub(crate) fn chars_of(alloc: Global, text: &str) -> Result<Vec<char>>
     ensures { MatchResult result (λ v. v.items ≡ chars text.now) (λ e. e.kind ≡ ErrorKind.OutOfMemory) }
 {
+    let bytes = text.as_bytes();
+    if is_ascii(bytes) {
+        return Ok(widened(alloc, bytes)?);
+    }
     Ok(text.chars().collect::<Vec<char>>(alloc)?)
 }
 

@@ -28,11 +28,14 @@ impl Ident {
     ghost use Rattle.std.specs.Str.{bytes_eq};
 
     /// Whether its text is this. A raw identifier's begins with `r#`.
+    #[tactic(auto, using(syn_lexer::proofs::Words::lengths))]
     pub fn is(&self, text: &str) -> bool
         ensures value { result ≡ bytes_eq self.now text.now }
         ensures same { IsTrue result ↔ (self.now ≡ text.now) }
     {
-        self.as_str() == text
+        let own = self.as_str();
+        // Most words differ in their length, which is one test.
+        own.len() == text.len() && own == text
     }
 }
 

@@ -149,7 +149,7 @@ fn begins_word(text: &str, rest: &[TokenTree]) -> bool
     ensures { result ≡ spec.begins_word text.now (toks_of rest.now) }
 {
     match rest {
-        [TokenTree::Ident(ident), ..] => !text.is_empty() && ident.as_str() == text,
+        [TokenTree::Ident(ident), ..] => !text.is_empty() && ident.is(text),
         _ => false,
     }
 }

@@ -19,7 +19,7 @@ is_clone = behind_attributes (is_call (λ name x. bytes_eq name (codes "clone"))
 abbrev pub is_cloned_twice : Tree → Bool
 is_cloned_twice = behind_attributes (is_call (λ name x. bytes_eq name (codes "clone") && is_clone x))
 
--- a closure with a `return` anywhere in it, as `|x| if x { return 1 } else { 2 }`
+-- a closure with a `return` among its nodes, as `|x| if x { return 1 } else { 2 }`
 abbrev pub returns_in_closure : Tree → Bool
 returns_in_closure t = behind_attributes is_closure t && list_any (behind_attributes is_return) (all_nodes t)
 

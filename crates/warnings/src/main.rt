@@ -1,4 +1,5 @@
-//! Warns of two things, wherever they are in an expression: a clone that is cloned, and a `return` in a closure.
+//! Warns of two things, at each expression that is read: a clone that is cloned, and a `return` in a closure. What is in the
+//! braces of a block is kept as tokens, and nothing there is looked at.
 #![tactic(auto, using(crate::proofs::Nodes::kinds))]
 
 ghost use Rattle.std.specs.Prelude.{◌≡◌, ◌⊎◌, ℕ, List, IfErr, IfOk, chars};
@@ -6,7 +7,7 @@ ghost use Rattle.syn_expr.specs.Prelude.{tree_of, NothingStands};
 ghost use Rattle.warnings.specs.Warnings as spec;
 
 use std::alloc::Global;
-use syn_expr::{ErrorKind, Expr, HeldExpr, Result, Span, parse_str};
+use syn_expr::{ErrorKind, Expr, Result, Span, parse_str};
 use syn_report::{LineColumn, report};
 use syn_visit::{any, filter_map};
 
@@ -73,7 +74,7 @@ fn place(expr: &Expr) -> Span {
     }
 }
 
-/// What there is to warn of at a spec.
+/// What there is to warn of at an expression.
 fn warning_at(expr: &Expr) -> Option<Warning>
     ensures { result ≡ spec.warning_at (tree_of expr.now) }
 {
@@ -93,8 +94,8 @@ fn warnings(alloc: Global, text: &str) -> Result<Vec<Warning>>
     ensures value { IfOk result (λ w. spec.AreWarningsOf (chars text.now) w.items) }
     ensures refused { IfErr result (λ e. (e.kind ≡ ErrorKind.OutOfMemory) ⊎ NothingStands (chars text.now)) }
 {
-    let held = parse_str::<HeldExpr>(alloc, text)?;
-    filter_map(alloc, &held.expr, &warning_at)
+    let expr = parse_str::<Expr>(alloc, text)?;
+    filter_map(alloc, &expr, &warning_at)
 }
 
 fn main(rt: HostRuntime) -> std::io::Result<()> {

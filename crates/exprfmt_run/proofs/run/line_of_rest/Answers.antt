@@ -1,8 +1,11 @@
-use Rattle.syn_expr.specs.Texts.{position_of}
-use Rattle.exprfmt_run.proofs.RunLaws.{known, known_left}
+use Rattle.std.proofs.Common.{inl, refl, sym}
+use Rattle.std.proofs.lemmas.Result.{IfOk-weaker, IfErr-weaker}
 use Rattle.exprfmt_run.proofs.run.line_of_rest.Goals as goal
 
-pub returns-clause-refused : goal.returns-clause-refused
-returns-clause-refused g c =
-    let left = g.R.Read.remaining c.args.input.now.inner in
-    (known left, known_left left, c.read_fault.ensures.follows (position_of c.args.position) c.args.bare (known left) c.read_to_end.new.self.failed c.in-Err.ensures.failed)
+pub returns-in-Ok-clause-value : goal.returns-in-Ok-clause-value
+returns-in-Ok-clause-value g c =
+    IfOk-weaker c.line_of.result _ _ (λ s h. (c.as_slice.result.now, (c.in-Ok.bytes, c.in-Ok.ensures, sym c.as_slice.ensures.value), h.0, h.1)) c.line_of.ensures.value
+
+pub returns-in-Ok-clause-refused : goal.returns-in-Ok-clause-refused
+returns-in-Ok-clause-refused g c =
+    IfErr-weaker c.line_of.result _ _ (λ f h. inl (c.as_slice.result.now, (c.in-Ok.bytes, c.in-Ok.ensures, sym c.as_slice.ensures.value), h)) c.line_of.ensures.refused

@@ -5,4 +5,4 @@ use Rattle.exprfmt_run.proofs.run.line_of_text.Goals as goal
 
 pub returns-clause-value : goal.returns-clause-value
 returns-clause-value c =
-    line_is (position_of c.args.position) c.args.bare (chars c.args.text.now) _ _ _ _ c.in_ok-held.ensures.read c.in_ok-prepare.ensures.tree c.in_ok-tokens.ensures.value (search rules)
+    line_is (position_of c.args.position) c.args.bare (chars c.args.text.now) _ _ _ _ c.in_ok-expr.ensures.read c.in_ok-prepare.ensures.tree c.in_ok-tokens.ensures.value (search rules)

@@ -1,0 +1,15 @@
+pub mod Items
+pub mod Lets
+pub mod Begins
+pub mod Paths
+pub mod Fronts
+pub mod Leads
+pub mod Stated
+pub mod Starts
+pub mod Exact
+pub mod Placed
+pub mod Spelling
+pub mod Own
+pub mod Else
+pub mod Back
+pub mod Spare

@@ -1,0 +1,9 @@
+pub mod Stops
+pub mod Branches
+pub mod Behind
+pub mod Puncts
+pub mod Again
+pub mod Tests
+pub mod Cut
+pub mod Bounds
+pub mod Exact

@@ -1,0 +1,7 @@
+use Rattle.std.proofs.Common.{◌∙◌}
+use Rattle.syn_text.proofs.Tests.{ident_text}
+use Rattle.syn_text.proofs.lexed.is_ident_text.Goals as goal
+
+pub returns : goal.returns
+returns c =
+    ident_text c.args.text.now c.as_slice.result.now c.is_ident.result c.utf8.text (c.as_slice.ensures.value ∙ c.in_ok-all.ensures) c.is_ident.ensures

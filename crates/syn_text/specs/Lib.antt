@@ -1,0 +1,2 @@
+pub mod Must
+pub mod Lexed

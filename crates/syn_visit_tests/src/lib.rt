@@ -1,7 +1,0 @@
-//! Tests of `syn_visit`, in a crate of their own: tests inside of a crate are proved together with it once more.
-#![tactic(auto)]
-
-#[cfg(test)]
-mod changing;
-#[cfg(test)]
-mod looking;
