@@ -54,7 +54,7 @@ fn of_texts(alloc: Global, name: &str, of: &str, texts: &str) -> Result<String> 
     let (text, more) = texts.split_once('~').unwrap_or((texts, ""));
     let read = match name {
         "tree" | "formed" | "part" => whole(alloc, text),
-        "flat" | "counted" => flat(alloc, text),
+        "flat" => flat(alloc, text),
         "verbatim" => Ok(Expr::Verbatim(lex(alloc, text)?)),
         _ if name.starts_with("Expr") => whole(alloc, text),
         _ => parse_str(alloc, text),
@@ -66,7 +66,6 @@ fn of_texts(alloc: Global, name: &str, of: &str, texts: &str) -> Result<String> 
 fn of_expr(alloc: Global, name: &str, of: &str, expr: &mut Expr, more: &str) -> Result<String> {
     match name {
         "tree" | "flat" => trees::described(alloc, expr),
-        "counted" => trees::counted(alloc, of, expr),
         "debug" => trees::debug(alloc, expr),
         "operand" => places::operand(alloc, of, expr),
         "place" | "condition" => places::place(alloc, name, of, expr),

@@ -4,9 +4,7 @@ use exprfmt_run::run::named;
 use rows::groups::{printed, text_of, then, tokens_of, whole};
 use rows::{are_equal, with, words};
 use std::alloc::Global;
-use syn_expr::{
-    Expr, FixupContext, ParseBuffer, Position, Result, Spanned, flatten, print_counted, to_text,
-};
+use syn_expr::{Expr, ParseBuffer, Position, Result, Spanned, flatten};
 
 /// An expression that was read, without its parentheses.
 pub fn flattened(read: Result<Expr>) -> Result<Expr> {
@@ -71,16 +69,5 @@ pub fn span(alloc: Global, expr: &Expr) -> Result<String> {
     match expr.span(alloc)? {
         Some(span) => Ok(format!(in alloc; "{}..{}", span.lo, span.hi)?),
         None => words(alloc, "nowhere"),
-    }
-}
-
-/// What is printed of a tree of that many nodes, where each is visited at least once and at most twice.
-pub fn counted(alloc: Global, of: &str, expr: &Expr) -> Result<String> {
-    let nodes = of.parse::<u64>().unwrap_or(0);
-    let (tokens, visits) = print_counted(alloc, expr, FixupContext::NONE)?;
-    if nodes <= visits && visits <= nodes.saturating_mul(2) {
-        to_text(&tokens)
-    } else {
-        Ok(format!(in alloc; "{visits} visits")?)
     }
 }

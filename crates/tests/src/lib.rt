@@ -1,5 +1,7 @@
-//! Tests of what is no row: all small trees.
+//! Tests of what is no row: all small trees, and deep ones.
 #![tactic(auto)]
 
+#[cfg(test)]
+mod deep;
 #[cfg(test)]
 mod small;

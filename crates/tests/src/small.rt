@@ -118,7 +118,7 @@ fn is_this<T: PartialEq + Drop>(read: Result<T>, this: &T) -> Result<bool> {
 }
 
 /// An expression that was read, without its parentheses.
-fn flattened(read: Result<Expr>) -> Result<Expr> {
+pub fn flattened(read: Result<Expr>) -> Result<Expr> {
     match read {
         Ok(expr) => flatten(expr),
         Err(e) => Err(e),
