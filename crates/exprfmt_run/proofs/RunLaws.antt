@@ -1,5 +1,5 @@
 -- Facts of calls, and what a fault writes.
-use Rattle.std.proofs.Common.{◌≡◌, inl, inr, ℕ, Bool, true, false, List, [], ◌∷◌, ◌++◌, take, drop, refl, sym, ap, ◌∙◌, subst, append_assoc, append-nil, take-append-drop, arith}
+use Rattle.std.proofs.Common.{◌≡◌, inl, inr, ℕ, Bool, true, false, List, [], ◌∷◌, ◌++◌, length, take, drop, refl, sym, ap, ◌∙◌, subst, append_assoc, append-nil, take-append-drop, arith}
 use Rattle.std.specs.Prelude.{Option, Some, None, Result, Ok, Err, chars, codes}
 use Rattle.std.specs.Fn.{Mut, Called, CalledAt}
 use Rattle.std.specs.Str.{IsUtf8}
@@ -9,9 +9,16 @@ use Rattle.std.specs.List.{FoldsTo, concat}
 use Rattle.std.specs.declared.fmt.InlineText.{InlineText}
 use Rattle.std.specs.declared.io.Error as io
 use Rattle.std.proofs.lemmas.Fmt.{decimal_digit}
+use Rattle.std.proofs.lemmas.List.{take_at}
+use Rattle.std.proofs.lemmas.Str.{IsUtf8-from_ascii, IsUtf8-take, IsCharBoundary-at_seam}
+use Rattle.std.proofs.lemmas.Str.Ascii.{IsAscii-nil, IsAscii-cons}
 use Rattle.syn_tokens.specs.declared.error.Error.{Error}
-use Rattle.syn_expr_spec.specs.Printed.{Position}
-use Rattle.exprfmt_run.specs.Run.{IsLine, meant, FollowsFrom, Reader, Writer, Writes, Reports, Ran, line, printed, refused, not_utf8, failed, out_of_memory}
+use Rattle.syn_tokens.proofs.Lexes.{one_reading}
+use Rattle.syn_expr_spec.specs.Place.{plain}
+use Rattle.syn_expr_spec.specs.Printed.{Position, printed_in}
+use Rattle.syn_expr_spec.specs.Stands.{Stands}
+use Rattle.syn_expr_spec.proofs.Exact.{at_most_one}
+use Rattle.exprfmt_run.specs.Run.{IsLine, IsPrinted, IsPrintedAgain, meant, FollowsFrom, Reader, Writer, Writes, Reports, Ran, line, printed, refused, not_utf8, failed, out_of_memory}
 use Rattle.exprfmt_run.specs.Calls.{writer}
 use Rattle.exprfmt_run.specs.FaultView.{outcome_of}
 use Rattle.exprfmt_run.specs.declared.run.Fault.{Fault}
@@ -21,7 +28,11 @@ use Rattle.std.specs.Io.KnownBytes.{Appends, Keeps}
 use Rattle.std.proofs.KnownBytes.{Appends-trans}
 use Rattle.syn_tokens.specs.Text.{text}
 use Rattle.syn_tokens.specs.Tok.{Tok}
-use Rattle.syn_expr_spec.specs.Tree.{Tree}
+use Rattle.syn_expr_spec.specs.Tree.{Tree, own_tokens, flatten, IsSameTree}
+use Rattle.syn_text_spec.specs.Laws.{IsStable, is_ordinary, unchanged}
+use Rattle.syn_text_spec.proofs.Stable.{read_text, bare_text}
+use Rattle.syn_expr_flatten.proofs.FlatFill.{fill_flatten}
+use Rattle.syn_expr_flatten.proofs.FlatWell.{well_formed_flatten}
 use Rattle.syn_expr_flatten.specs.Flat.{IsFlat}
 use Rattle.syn_expr.specs.Promises.{PrintedAs}
 use Rattle.syn_expr.specs.Texts.{StandsFor}
@@ -78,6 +89,37 @@ pub line_is : (s : Position) (bare : Bool) (cs : List ℕ) (t u : Tree) (ts : Li
     → PrintedAs s u ts → bytes ≡ text ts ++ 10 ∷ [] → IsLine s bare cs bytes
 line_is s bare cs t u ts bytes stands same is written = (ts, (t, stands, subst (λ (v : Tree). PrintedAs s v ts) same is), written)
 
+-- ---- what is printed of it once more
+
+-- what is before the line feed is UTF-8 too
+before_line_feed : (xs bytes : List ℕ) → bytes ≡ xs ++ 10 ∷ [] → IsUtf8 bytes → IsUtf8 xs
+before_line_feed xs bytes is utf8 =
+    let feed : IsUtf8 (10 ∷ []) = IsUtf8-from_ascii (10 ∷ []) (IsAscii-cons 10 [] (omega arith) IsAscii-nil) in
+    subst IsUtf8 (ap (take (length xs)) is ∙ take_at xs (10 ∷ []) (length xs) refl) (IsUtf8-take bytes (length xs) utf8 (IsCharBoundary-at_seam bytes xs (10 ∷ []) is feed))
+
+same_tree : (cs : List ℕ) (t u : Tree) → StandsFor cs t → StandsFor cs u → u ≡ t
+same_tree cs t u (l, spells, stands) (m, others, also) =
+    (at_most_one plain l u t [] [] (subst (λ ts. Stands plain ts u []) (one_reading cs m l others spells) also) stands).0
+
+-- f is done to a tree before it is printed as these tokens
+by_stable : (f : Tree → Tree) (s : Position) (t : Tree) (ts : List Tok) → IsStable f s t (text ts)
+    → (x : Tree) × StandsFor (chars (text ts)) x × IsSameTree (f t) x × (line (printed (own_tokens (printed_in s (f x)))) ≡ line (printed ts))
+by_stable f s t ts (x, same, read, alone, again) = (x, read, same, ap (λ l. l ++ 10 ∷ []) (sym again))
+
+-- of an ordinary tree
+of_tree : (s : Position) (bare : Bool) (bytes : List ℕ) (ts : List Tok) (t : Tree) → IsUtf8 bytes → StandsFor (chars bytes) t → PrintedAs s (meant bare t) ts → is_ordinary t ≡ true
+    → (x : Tree) × StandsFor (chars (text ts)) x × IsSameTree (meant bare t) x × (line (printed (own_tokens (printed_in s (meant bare x)))) ≡ line (printed ts))
+of_tree s false bytes ts t utf8 (l, spells, stands) is h = by_stable unchanged s t ts (read_text s bytes l t ts utf8 spells stands h is.tokens)
+of_tree s true bytes ts t utf8 (l, spells, stands) is h =
+    by_stable flatten s t ts (bare_text s bytes l t ts utf8 spells stands h well_formed_flatten fill_flatten is.tokens)
+
+printed_again : (s : Position) (bare : Bool) (bytes : List ℕ) (ts : List Tok) (out : List ℕ) → IsUtf8 bytes → out ≡ text ts ++ 10 ∷ [] → IsUtf8 out
+    → IsPrinted s bare (chars bytes) ts → IsPrintedAgain s bare (chars bytes) ts
+printed_again s bare bytes ts out utf8 is whole (t, stands, promised) = λ u also h. (
+  before_line_feed (text ts) out is whole,
+  of_tree s bare bytes ts u utf8 also (subst (λ v. PrintedAs s (meant bare v) ts) (sym (same_tree (chars bytes) t u stands also)) promised) h,
+)
+
 -- ---- what is reported
 
 pub regroup : (a b c d e f g : List ℕ) → a ++ (b ++ (c ++ (d ++ (e ++ (f ++ g))))) ≡ a ++ b ++ c ++ d ++ e ++ f ++ g
@@ -110,11 +152,11 @@ reported s bare input NotUtf8 output errors h k w = (not_utf8, h, (refl, k, w))
 reported s bare input Failed output errors h k w = (failed, h, (refl, k, w))
 
 pub printed_whole : (s : Position) (bare : Bool) (input : Reader) (bytes text : List ℕ) (output errors : Writer) → input.Gives bytes → IsUtf8 bytes → IsLine s bare (chars bytes) text
-    → output.Takes text → errors.IsLeft → Ran s bare input 0 output errors
-printed_whole s bare input bytes text output errors gives utf8 is takes left =
-    (printed is.0, inl (bytes, gives, (utf8, is.1)), inl (refl, subst output.Takes is.2 takes, left))
+    → IsUtf8 text → output.Takes text → errors.IsLeft → Ran s bare input 0 output errors
+printed_whole s bare input bytes text output errors gives utf8 is whole takes left =
+    (printed is.0, inl (bytes, gives, (utf8, is.1, printed_again s bare bytes is.0 text utf8 is.2 whole is.1)), inl (refl, subst output.Takes is.2 takes, left))
 
 pub printed_front : (s : Position) (bare : Bool) (input : Reader) (bytes text : List ℕ) (output errors : Writer) → input.Gives bytes → IsUtf8 bytes → IsLine s bare (chars bytes) text
-    → output.Fails text → Writes errors (line failed) → Ran s bare input 1 output errors
-printed_front s bare input bytes text output errors gives utf8 is fails wrote =
-    (printed is.0, inl (bytes, gives, (utf8, is.1)), inr (refl, subst output.Fails is.2 fails, wrote))
+    → IsUtf8 text → output.Fails text → Writes errors (line failed) → Ran s bare input 1 output errors
+printed_front s bare input bytes text output errors gives utf8 is whole fails wrote =
+    (printed is.0, inl (bytes, gives, (utf8, is.1, printed_again s bare bytes is.0 text utf8 is.2 whole is.1)), inr (refl, subst output.Fails is.2 fails, wrote))

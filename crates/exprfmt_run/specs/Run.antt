@@ -7,8 +7,9 @@ use Rattle.syn_tokens.specs.Text.{text}
 use Rattle.syn_tokens.specs.declared.error.Error.{Error}
 use Rattle.syn_tokens.specs.declared.error.ErrorKind.TheVariants.{OutOfMemory}
 use Rattle.syn_tokens.specs.ErrorText.{kind_text}
-use Rattle.syn_expr_spec.specs.Printed.{Position}
-use Rattle.syn_expr_spec.specs.Tree.{Tree, flatten}
+use Rattle.syn_expr_spec.specs.Printed.{Position, printed_in}
+use Rattle.syn_expr_spec.specs.Tree.{Tree, own_tokens, flatten, IsSameTree}
+use Rattle.syn_text_spec.specs.Laws.{is_ordinary}
 use Rattle.syn_expr.specs.Promises.{PrintedAs}
 use Rattle.syn_expr.specs.Texts.{StandsFor, NothingStands}
 use Rattle.syn_expr.specs.declared.print.Position as code
@@ -58,6 +59,13 @@ meant true t = flatten t
 abbrev pub IsPrinted : Position → Bool → List ℕ → List Tok → Type 0
 IsPrinted s bare cs ts = (t : Tree) × StandsFor cs t × PrintedAs s (meant bare t) ts
 
+-- If the tree of the input is ordinary, then a run on the text of these tokens prints the same line, for the same position, and
+-- `bare` or not as before: the text is UTF-8 and is read as a tree that is the same as the printed one, and that tree is printed so.
+abbrev pub IsPrintedAgain : Position → Bool → List ℕ → List Tok → Type 0
+IsPrintedAgain s bare cs ts =
+    (t : Tree) → StandsFor cs t → is_ordinary t ≡ true
+    → IsUtf8 (text ts) × ((x : Tree) × StandsFor (chars (text ts)) x × IsSameTree (meant bare t) x × (line (printed (own_tokens (printed_in s (meant bare x)))) ≡ line (printed ts)))
+
 -- the line of the printed expression
 abbrev pub IsLine : Position → Bool → List ℕ → List ℕ → Type 0
 IsLine s bare cs bytes = (ts : List Tok) × IsPrinted s bare cs ts × (bytes ≡ text ts ++ 10 ∷ [])
@@ -65,7 +73,7 @@ IsLine s bare cs bytes = (ts : List Tok) × IsPrinted s bare cs ts × (bytes ≡
 -- The outcome is that of the bytes, unless memory runs out: the expression that stands for them is printed, and they are
 -- refused only where none does.
 abbrev pub Follows : Position → Bool → List ℕ → Outcome → Type 0
-Follows s bare bytes (printed ts) = IsUtf8 bytes × IsPrinted s bare (chars bytes) ts
+Follows s bare bytes (printed ts) = IsUtf8 bytes × IsPrinted s bare (chars bytes) ts × IsPrintedAgain s bare (chars bytes) ts
 Follows s bare bytes (refused e) = (e.kind ≡ OutOfMemory) ⊎ (IsUtf8 bytes × NothingStands (chars bytes))
 Follows s bare bytes not_utf8 = IsUtf8 bytes → ⊥
 Follows s bare bytes failed = ⊥

@@ -172,7 +172,8 @@ fn report<E: FnMut(&[u8]) -> io::Result<()>>(errors: &mut E, fault: Fault)
 /// `output`. With `bare` the expression first loses its parentheses. If nothing can be printed, one line to `errors` says why: the
 /// lexer or the reader refused the text, memory ran out, the input is no UTF-8, or a read or a write failed. The result is the
 /// status: 0 if the expression was printed, else 1. `read` is called once. `output` is called once, with the whole line, or not at
-/// all; and so is `errors`. Whether a call failed is what its own answer said.
+/// all; and so is `errors`. Whether a call failed is what its own answer said. A run on the printed line, without its line feed,
+/// prints the same line, if the input was read as an ordinary tree: one without verbatim tokens and without a path that is `try`.
 pub fn run<
     R: FnOnce() -> io::Result<Vec<u8>>,
     W: FnMut(&[u8]) -> io::Result<()>,

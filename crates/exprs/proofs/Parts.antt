@@ -1,6 +1,6 @@
 -- The parts of a text, and what is written of them one after the other.
 use Rattle.std.proofs.Common.{◌≡◌, ◌⊎◌, inl, inr, ℕ, ◌<◌, ◌≤◌, Bool, true, false, ◌&&◌, List, [], ◌∷◌, ◌++◌, length, take, drop, refl, sym, ap, ◌∙◌, subst, append_assoc, append-nil, length-append, take-append-drop, arith}
-use Rattle.std.specs.Prelude.{◌+◌, nat_le, Option, Some, None, MatchOption, chars}
+use Rattle.std.specs.Prelude.{◌+◌, nat_le, Option, Some, None, MatchOption, Result, Ok, Err, OnOk, chars, codes}
 use denote.Ref.{Bor}
 use Rattle.std.specs.Str.Pattern.{FindsText}
 use Rattle.std.specs.Io.KnownBytes.{Appends}
@@ -10,11 +10,12 @@ use Rattle.std.proofs.lemmas.List.{drop_at}
 use Rattle.syn_tokens.specs.declared.error.Error.{Error}
 use Rattle.syn_tokens.specs.declared.error.ErrorKind.TheVariants.{OutOfMemory}
 use Rattle.syn_expr.specs.Texts.{NothingStands}
+use Rattle.syn_report.specs.Report.{added}
 use Rattle.exprs.specs.Kinds.{counted}
 use Rattle.exprs.specs.Line.{IsLine}
 use Rattle.std.specs.Str.{trim}
 use Rattle.std.proofs.Math.Bool.{and-true}
-use Rattle.exprs.specs.Answers.{refusal, Source, Outcome, separator, blank, printed, refused, Follows, is_read, line, line_unless, tallied, report_of, added, writer, Room, room, Takes, HasNone, CutsFirst, CutBy, Writes, FollowEach, all_read, lines, all_tallied, reports, WritesAll}
+use Rattle.exprs.specs.Answers.{IsRefusal, TakesRefusal, Source, Outcome, separator, blank, printed, refused, Follows, is_read, line, line_unless, tallied, report_of, line_ends, writer, Room, room, Takes, HasNone, CutsFirst, CutBy, Writes, FollowEach, all_read, lines, all_tallied, reports, WritesAll, without_blanks, joined, HasEmptyLines}
 
 -- ---- the first separator
 
@@ -73,34 +74,34 @@ tallied_more : (os : List Outcome) (o : Outcome) (ns : List ℕ) → all_tallied
 tallied_more [] o ns = refl
 tallied_more (x ∷ os) o ns = tallied_more os o (tallied x ns)
 
--- where what comes after these parts begins
-abbrev pub offset_after : Source → ℕ → List (List ℕ) → ℕ
-offset_after src n [] = n
-offset_after src n (p ∷ ps) = offset_after src (added n (added (length p) (length src.separator))) ps
+-- how many lines come before what is after these parts
+abbrev pub lines_after : Source → ℕ → List (List ℕ) → ℕ
+lines_after src n [] = n
+lines_after src n (p ∷ ps) = lines_after src (added n (added (line_ends p) (line_ends src.separator))) ps
 
-offset_more : (src : Source) (n : ℕ) (ps : List (List ℕ)) (p : List ℕ) → offset_after src n (ps ++ p ∷ []) ≡ added (offset_after src n ps) (added (length p) (length src.separator))
-offset_more src n [] p = refl
-offset_more src n (q ∷ ps) p = offset_more src (added n (added (length q) (length src.separator))) ps p
+lines_before_more : (src : Source) (n : ℕ) (ps : List (List ℕ)) (p : List ℕ) → lines_after src n (ps ++ p ∷ []) ≡ added (lines_after src n ps) (added (line_ends p) (line_ends src.separator))
+lines_before_more src n [] p = refl
+lines_before_more src n (q ∷ ps) p = lines_before_more src (added n (added (line_ends q) (line_ends src.separator))) ps p
 
 reports_more : (src : Source) (n : ℕ) (ps : List (List ℕ)) (os : List Outcome) (p : List ℕ) (o : Outcome) → FollowEach src ps os
-    → reports src n (ps ++ p ∷ []) (os ++ o ∷ []) ≡ reports src n ps os ++ report_of src.name src.whole (offset_after src n ps) o
-reports_more src n [] [] p o h = append-nil (report_of src.name src.whole n o)
+    → reports src n (ps ++ p ∷ []) (os ++ o ∷ []) ≡ reports src n ps os ++ report_of src.name (lines_after src n ps) p o
+reports_more src n [] [] p o h = append-nil (report_of src.name n p o)
 reports_more src n (q ∷ ps) (x ∷ os) p o h =
-    ap (λ l. report_of src.name src.whole n x ++ l) (reports_more src (added n (added (length q) (length src.separator))) ps os p o h.1)
-    ∙ sym (append_assoc (report_of src.name src.whole n x) (reports src (added n (added (length q) (length src.separator))) ps os)
-    (report_of src.name src.whole (offset_after src (added n (added (length q) (length src.separator))) ps) o))
+    ap (λ l. report_of src.name n q x ++ l) (reports_more src (added n (added (line_ends q) (line_ends src.separator))) ps os p o h.1)
+    ∙ sym (append_assoc (report_of src.name n q x) (reports src (added n (added (line_ends q) (line_ends src.separator))) ps os)
+    (report_of src.name (lines_after src (added n (added (line_ends q) (line_ends src.separator))) ps) p o))
 reports_more src n [] (x ∷ os) p o h = absurd h
 reports_more src n (q ∷ ps) [] p o h = absurd h
 
 -- ---- what was written up to the rest
 
-pub record WroteUpTo (src : Source) (rest : List ℕ) (offset : ℕ) (all : Bool) (room : Room) : Type 0 where
+pub record WroteUpTo (src : Source) (rest : List ℕ) (n : ℕ) (all : Bool) (room : Room) : Type 0 where
   pub parts : List (List ℕ)
   pub outcomes : List Outcome
   pub cut : CutUpTo src.separator src.whole parts rest
   pub follow : FollowEach src parts outcomes
   pub read : all ≡ all_read outcomes
-  pub place : offset ≡ offset_after src 0 parts
+  pub place : n ≡ lines_after src 0 parts
   pub wrote : Takes room.output (lines src.kinds outcomes)
   pub reported : Takes room.errors (reports src 0 parts outcomes)
   pub tally : room.holds ≡ all_tallied outcomes room.held
@@ -111,18 +112,23 @@ appends_none (Some l) = sym (append-nil l)
 
 -- ---- what is written of one part
 
-pub writes_blank : (src : Source) (offset : ℕ) (part : List ℕ) (a x : Option (List ℕ)) (ns : List ℕ) → trim part ≡ [] → Writes src offset part true (room (writer a a) (writer x x) ns ns)
-writes_blank src offset part a x ns h = (blank, h, refl, appends_none a, appends_none x, refl)
+pub writes_blank : (src : Source) (n : ℕ) (part : List ℕ) (a x : Option (List ℕ)) (ns : List ℕ) → trim part ≡ [] → Writes src n part true (room (writer a a) (writer x x) ns ns)
+writes_blank src n part a x ns h = (blank, h, refl, appends_none a, appends_none x, refl)
 
-pub writes_line : (src : Source) (offset : ℕ) (part : List ℕ) (kind : ℕ) (bytes text : List ℕ) (a b x : Option (List ℕ)) (ns ms : List ℕ) → text ≡ bytes
+pub writes_line : (src : Source) (n : ℕ) (part : List ℕ) (kind : ℕ) (bytes text : List ℕ) (a b x : Option (List ℕ)) (ns ms : List ℕ) → text ≡ bytes
     → IsLine src.dump src.position src.bare (chars part) kind bytes → Appends a b (line_unless src.kinds text) → ms ≡ counted kind ns
-    → Writes src offset part true (room (writer a b) (writer x x) ns ms)
-writes_line src offset part kind bytes text a b x ns ms same is wrote tally =
+    → Writes src n part true (room (writer a b) (writer x x) ns ms)
+writes_line src n part kind bytes text a b x ns ms same is wrote tally =
     (printed kind bytes, is, refl, subst (λ l. Appends a b (line_unless src.kinds l)) same wrote, appends_none x, tally)
 
-pub writes_refusal : (src : Source) (offset : ℕ) (part : List ℕ) (e : Error) (a x y : Option (List ℕ)) (ns : List ℕ) → (e.kind ≡ OutOfMemory) ⊎ NothingStands (chars part)
-    → Appends x y (refusal src.name src.whole offset e) → Writes src offset part false (room (writer a a) (writer x y) ns ns)
-writes_refusal src offset part e a x y ns h wrote = (refused e, h, refl, appends_none a, wrote, refl)
+pub writes_refusal : (src : Source) (n : ℕ) (part : List ℕ) (e : Error) (a x y : Option (List ℕ)) (ns : List ℕ) → (e.kind ≡ OutOfMemory) ⊎ NothingStands (chars part)
+    → TakesRefusal src.name n part e (writer x y) → Writes src n part false (room (writer a a) (writer x y) ns ns)
+writes_refusal src n part e a x y ns h (further, are, wrote) = (refused e further, (are, h), refl, appends_none a, wrote, refl)
+
+pub takes_refusal : {U E : Type 0} (r : Result U E) (name : List ℕ) (n : ℕ) (part : List ℕ) (e : Error) (bytes text : List ℕ) (x y : Option (List ℕ)) → IsRefusal name n part e bytes
+    → text ≡ bytes → OnOk r (Appends x y text) → OnOk r (TakesRefusal name n part e (writer x y))
+takes_refusal (Ok u) name n part e bytes text x y (further, are, is) same h = (further, are, subst (Appends x y) (same ∙ is) h)
+takes_refusal (Err z) name n part e bytes text x y is same h = tt
 
 pub none_found : {A : Type 0} (r : Option A) (P : Type 0) (Q : A → Type 0) → ((x : A) → r ≡ Some x → ⊥) → MatchOption r P Q → P
 none_found None P Q lacks h = h
@@ -134,45 +140,45 @@ pub writes_none : (src : Source) (a x : Option (List ℕ)) (ns : List ℕ) → W
 writes_none src a x ns =
     record { parts = []; outcomes = []; cut = refl; follow = tt; read = refl; place = refl; wrote = appends_none a; reported = appends_none x; tally = refl }
 
-module _ (src : Source) (rest p : List ℕ) (offset : ℕ) (all b : Bool) (a c d x y z : Option (List ℕ)) (ks ls ms : List ℕ) where
-  wrote_more : (more : List ℕ) → WroteUpTo src rest offset all (room (writer a c) (writer x y) ks ls) → CutsFirst src.separator rest p more
-      → Writes src offset p b (room (writer c d) (writer y z) ls ms) → WroteUpTo src more (added offset (added (length p) (length src.separator))) (all && b) (room (writer a d) (writer x z) ks ms)
-  wrote_more more before cuts (o, follows, is, wrote, reported, tally) = record {
+module _ (src : Source) (rest : List ℕ) (n : ℕ) (all b : Bool) (a c d x y z : Option (List ℕ)) (ks ls ms : List ℕ) where
+  wrote_more : (p more : List ℕ) → WroteUpTo src rest n all (room (writer a c) (writer x y) ks ls) → CutsFirst src.separator rest p more
+      → Writes src n p b (room (writer c d) (writer y z) ls ms) → WroteUpTo src more (added n (added (line_ends p) (line_ends src.separator))) (all && b) (room (writer a d) (writer x z) ks ms)
+  wrote_more p more before cuts (o, follows, is, wrote, reported, tally) = record {
     parts = before.parts ++ p ∷ [];
     outcomes = before.outcomes ++ o ∷ [];
     cut = cut_more src.separator src.whole before.parts rest p more before.cut cuts;
     follow = follow_more src before.parts before.outcomes p o before.follow follows;
     read = ap (λ t. t && b) before.read ∙ ap (λ t. all_read before.outcomes && t) is ∙ sym (read_more before.outcomes o);
-    place = ap (λ n. added n (added (length p) (length src.separator))) before.place ∙ sym (offset_more src 0 before.parts p);
+    place = ap (λ k. added k (added (line_ends p) (line_ends src.separator))) before.place ∙ sym (lines_before_more src 0 before.parts p);
     wrote = subst (Appends a d) (sym (lines_more src.kinds before.outcomes o)) (Appends-trans a c d (lines src.kinds before.outcomes) (line src.kinds o) before.wrote wrote);
-    reported = subst (Appends x z) (ap (λ n. reports src 0 before.parts before.outcomes ++ report_of src.name src.whole n o) before.place ∙ sym (reports_more src 0 before.parts before.outcomes p o before.follow))
-        (Appends-trans x y z (reports src 0 before.parts before.outcomes) (report_of src.name src.whole offset o) before.reported reported);
+    reported = subst (Appends x z) (ap (λ k. reports src 0 before.parts before.outcomes ++ report_of src.name k p o) before.place ∙ sym (reports_more src 0 before.parts before.outcomes p o before.follow))
+        (Appends-trans x y z (reports src 0 before.parts before.outcomes) (report_of src.name n p o) before.reported reported);
     tally = tally ∙ ap (tallied o) before.tally ∙ sym (tallied_more before.outcomes o ks);
   }
 
   -- the same by what the code has
-  pub writes_more : (more sep : List ℕ) (place : ℕ) (still : Bool) → sep ≡ src.separator → place ≡ added offset (added (length p) (length sep)) → still ≡ (all && b)
-      → WroteUpTo src rest offset all (room (writer a c) (writer x y) ks ls) → CutsFirst sep rest p more → Writes src offset p b (room (writer c d) (writer y z) ls ms)
+  pub writes_more : (p more sep : List ℕ) (place : ℕ) (still : Bool) → sep ≡ src.separator → place ≡ added n (added (line_ends p) (line_ends sep)) → still ≡ (all && b)
+      → WroteUpTo src rest n all (room (writer a c) (writer x y) ks ls) → CutsFirst sep rest p more → Writes src n p b (room (writer c d) (writer y z) ls ms)
       → WroteUpTo src more place still (room (writer a d) (writer x z) ks ms)
-  writes_more more sep place still is here so before cuts reported = rw (here, so, is) (wrote_more more before (subst (λ s. CutsFirst s rest p more) is cuts) reported)
+  writes_more p more sep place still is here so before cuts reported = rw (here, so, is) (wrote_more p more before (subst (λ s. CutsFirst s rest p more) is cuts) reported)
 
-  writes_rest : WroteUpTo src rest offset all (room (writer a c) (writer x y) ks ls) → HasNone src.separator rest → p ≡ rest
-      → Writes src offset p b (room (writer c d) (writer y z) ls ms) → WritesAll src (all && b) (room (writer a d) (writer x z) ks ms)
-  writes_rest before lacks same (o, follows, is, wrote, reported, tally) = (
+  writes_rest : WroteUpTo src rest n all (room (writer a c) (writer x y) ks ls) → HasNone src.separator rest
+      → Writes src n rest b (room (writer c d) (writer y z) ls ms) → WritesAll src (all && b) (room (writer a d) (writer x z) ks ms)
+  writes_rest before lacks (o, follows, is, wrote, reported, tally) = (
     before.parts ++ rest ∷ [],
     before.outcomes ++ o ∷ [],
     cut_last src.separator src.whole before.parts rest before.cut lacks,
-    follow_more src before.parts before.outcomes rest o before.follow (subst (λ l. Follows src l o) same follows),
+    follow_more src before.parts before.outcomes rest o before.follow follows,
     ap (λ t. t && b) before.read ∙ ap (λ t. all_read before.outcomes && t) is ∙ sym (read_more before.outcomes o),
     subst (Appends a d) (sym (lines_more src.kinds before.outcomes o)) (Appends-trans a c d (lines src.kinds before.outcomes) (line src.kinds o) before.wrote wrote),
-    subst (Appends x z) (ap (λ n. reports src 0 before.parts before.outcomes ++ report_of src.name src.whole n o) before.place ∙ sym (reports_more src 0 before.parts before.outcomes rest o before.follow))
-        (Appends-trans x y z (reports src 0 before.parts before.outcomes) (report_of src.name src.whole offset o) before.reported reported),
+    subst (Appends x z) (ap (λ k. reports src 0 before.parts before.outcomes ++ report_of src.name k rest o) before.place ∙ sym (reports_more src 0 before.parts before.outcomes rest o before.follow))
+        (Appends-trans x y z (reports src 0 before.parts before.outcomes) (report_of src.name n rest o) before.reported reported),
     tally ∙ ap (tallied o) before.tally ∙ sym (tallied_more before.outcomes o ks),
   )
 
-  pub writes_last : (sep : List ℕ) (still : Bool) → sep ≡ src.separator → still ≡ (all && b) → WroteUpTo src rest offset all (room (writer a c) (writer x y) ks ls) → HasNone sep rest → p ≡ rest
-      → Writes src offset p b (room (writer c d) (writer y z) ls ms) → WritesAll src still (room (writer a d) (writer x z) ks ms)
-  writes_last sep still is so before lacks same reported = rw so (writes_rest before (subst (λ s. HasNone s rest) is lacks) same reported)
+  pub writes_last : (sep : List ℕ) (still : Bool) → sep ≡ src.separator → still ≡ (all && b) → WroteUpTo src rest n all (room (writer a c) (writer x y) ks ls) → HasNone sep rest
+      → Writes src n rest b (room (writer c d) (writer y z) ls ms) → WritesAll src still (room (writer a d) (writer x z) ks ms)
+  writes_last sep still is so before lacks reported = rw so (writes_rest before (subst (λ s. HasNone s rest) is lacks) reported)
 
 pub is_less : (blocks : Bool) (sep bytes front rest : List ℕ) → sep ≡ separator blocks → CutsFirst sep bytes front rest → length rest < length bytes
 is_less true sep bytes front rest is h = omega (arith, ap length h.0, length-append front (sep ++ rest), length-append sep rest, ap length is)
@@ -180,3 +186,44 @@ is_less false sep bytes front rest is h = omega (arith, ap length h.0, length-ap
 
 pub regroup : (a b c d : List ℕ) → a ++ (b ++ (c ++ d)) ≡ a ++ b ++ c ++ d
 regroup a b c d = sym (append_assoc (a ++ b) c d ∙ append_assoc a b (c ++ d))
+
+-- ---- lines that are blank made empty
+
+-- lines with `\n` after each
+abbrev pub ended : List (List ℕ) → List ℕ
+ended [] = []
+ended (l ∷ ls) = without_blanks l ++ (codes "\n" ++ ended ls)
+
+ended_more : (ls : List (List ℕ)) (l : List ℕ) → ended (ls ++ l ∷ []) ≡ ended ls ++ (without_blanks l ++ codes "\n")
+ended_more [] l = refl
+ended_more (x ∷ ls) l = ap (λ t. without_blanks x ++ (codes "\n" ++ t)) (ended_more ls l) ∙ regrouped (without_blanks x) (codes "\n") (ended ls) (without_blanks l ++ codes "\n")
+  where
+    regrouped : (a b c d : List ℕ) → a ++ (b ++ (c ++ d)) ≡ (a ++ (b ++ c)) ++ d
+    regrouped a b c d = simp append_assoc
+
+joined_last : (ls : List (List ℕ)) (l : List ℕ) → joined (ls ++ l ∷ []) ≡ ended ls ++ without_blanks l
+joined_last [] l = refl
+joined_last (x ∷ []) l = sym (append_assoc (without_blanks x) (codes "\n") (without_blanks l))
+joined_last (x ∷ y ∷ ls) l = ap (λ t. without_blanks x ++ (codes "\n" ++ t)) (joined_last (y ∷ ls) l) ∙ sym (append_assoc (without_blanks x) (codes "\n" ++ ended (y ∷ ls)) (without_blanks l))
+
+-- the lines up to the rest, and what was made of them
+abbrev pub EmptiedUpTo : List ℕ → List ℕ → List ℕ → Type 0
+EmptiedUpTo bytes rest made = (ls : List (List ℕ)) × CutUpTo (codes "\n") bytes ls rest × (made ≡ ended ls)
+
+pub emptied_none : (bytes made : List ℕ) → made ≡ [] → EmptiedUpTo bytes bytes made
+emptied_none bytes made e = ([], refl, e)
+
+pub emptied_more : (bytes rest line more made next : List ℕ) → EmptiedUpTo bytes rest made → CutsFirst (codes "\n") rest line more
+    → next ≡ made ++ without_blanks line ++ codes "\n" → EmptiedUpTo bytes more next
+emptied_more bytes rest line more made next (ls, cut, is) cuts e = (
+  ls ++ line ∷ [],
+  cut_more (codes "\n") bytes ls rest line more cut cuts,
+  e ∙ append_assoc made (without_blanks line) (codes "\n") ∙ ap (λ t. t ++ (without_blanks line ++ codes "\n")) is ∙ sym (ended_more ls line),
+)
+
+pub emptied_all : (bytes rest made text : List ℕ) → EmptiedUpTo bytes rest made → HasNone (codes "\n") rest → text ≡ made ++ without_blanks rest → HasEmptyLines bytes text
+emptied_all bytes rest made text (ls, cut, is) lacks e = (
+  ls ++ rest ∷ [],
+  cut_last (codes "\n") bytes ls rest cut lacks,
+  e ∙ ap (λ t. t ++ without_blanks rest) is ∙ sym (joined_last ls rest),
+)

@@ -14,7 +14,7 @@ pub struct Settings {
     pub position: Position,
     /// Whether each loses its parentheses first.
     pub bare: bool,
-    /// Whether one ends before an empty line, and not with its line.
+    /// Whether one ends before a blank line, and not with its line.
     pub blocks: bool,
     /// Whether each is shown as a tree, and not printed.
     pub dump: bool,
@@ -68,7 +68,7 @@ pub enum Setting {
     Arm,
     /// Each loses its parentheses first.
     Bare,
-    /// Each ends before an empty line.
+    /// Each ends before a blank line.
     Blocks,
     /// Each is shown as a tree.
     Dump,

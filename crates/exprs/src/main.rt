@@ -1,4 +1,4 @@
-//! `exprs [OPTION].. [FILE]..`: reads many expressions, one a line or with empty lines between, from files or from standard
+//! `exprs [OPTION].. [FILE]..`: reads many expressions, one a line or with blank lines between, from files or from standard
 //! input, and prints each on a line for one position, as `exprfmt` prints one. `exprs --help` lists the options.
 //!
 //! An expression that is refused is reported on standard error with its file, its line and its column, and those after it
@@ -32,7 +32,7 @@ that it needs. Without FILE, or where FILE is -, standard input is read.
   --cond     as a condition before a block
   --arm      as the body of a match arm
   --bare     without the parentheses that it has; those alone are printed that it needs
-  --blocks   an expression may have several lines, and ends before an empty one
+  --blocks   an expression may have several lines, and ends before a blank one
   --dump     shows each as its tree, and does not print it
   --kinds    counts the kinds of the expressions, and prints these counts alone
   --help     says this

@@ -1,6 +1,6 @@
 //! What a run writes, over any writers.
 
-ghost use Rattle.std.specs.Prelude.{◌≡◌, ◌&&◌, map, string_bytes, IfOk, MatchOption, OnOk};
+ghost use Rattle.std.specs.Prelude.{◌≡◌, ◌&&◌, [], ◌∷◌, ◌++◌, map, string_bytes, IfOk, MatchOption, OnOk};
 ghost use Rattle.std.specs.Io.KnownBytes.{Appends};
 ghost use Rattle.exprs.specs.Answers as spec;
 ghost use Rattle.exprs.specs.View.{source_of};
@@ -11,8 +11,8 @@ use crate::kinds::Counts;
 use std::alloc::{AllocError, Global};
 use std::io;
 use std::io::Write;
-use syn_expr::{Error, Span};
-use syn_report::report_place;
+use syn_expr::Error;
+use syn_report::report_after;
 
 /// The text of a file, and its name.
 #[derive(Clone, Copy)]
@@ -21,25 +21,18 @@ struct Source<'a> {
     text: &'a str,
 }
 
-/// A refusal of a part of a text, at its place in the whole.
-fn moved(e: Error, offset: usize) -> Error
-    ensures { result ≡ spec.moved offset e }
+/// The report of a refusal of a part of a file, with the file's name before it and a newline. So many lines of the file come
+/// before the part.
+fn refusal(
+    alloc: Global,
+    name: &str,
+    lines: usize,
+    part: &str,
+    e: Error,
+) -> Result<String, AllocError>
+    ensures { IfOk result (λ s. spec.IsRefusal name.now lines part.now e (string_bytes s)) }
 {
-    Error {
-        span: Span {
-            lo: e.span.lo.saturating_add(offset),
-            hi: e.span.hi.saturating_add(offset),
-        },
-        kind: e.kind,
-    }
-}
-
-/// The report of a refusal of the part of a file that begins at an offset, with the file's name before it and a newline.
-fn refusal(alloc: Global, source: Source<'_>, offset: usize, e: Error) -> Result<String, AllocError>
-    ensures { IfOk result (λ s. string_bytes s ≡ spec.refusal source.entry.name.now source.entry.text.now offset e) }
-{
-    let report = report_place(alloc, source.text, &moved(e, offset))?;
-    let name = source.name;
+    let report = report_after(alloc, lines, part, &e)?;
     format!(in alloc; "{name}: {report}\n")
 }
 
@@ -54,34 +47,42 @@ fn write_line<W: Write>(kinds: bool, line: &str, output: &mut W) -> io::Result<(
     Ok(())
 }
 
-/// Writes the report of a refusal of the part of a file that begins at an offset.
+/// Writes a report.
+fn write_report<E: Write>(report: &str, errors: &mut E) -> io::Result<()>
+    ensures { OnOk result (Appends (E.contents errors.old) (E.contents errors.new) report.now) }
+{
+    errors.write_all(report.as_bytes())
+}
+
+/// Writes the report of a refusal of a part of a file.
 fn write_refusal<E: Write>(
     alloc: Global,
-    source: Source<'_>,
-    offset: usize,
+    name: &str,
+    lines: usize,
+    part: &str,
     e: Error,
     errors: &mut E,
 ) -> io::Result<()>
-    ensures { OnOk result (Appends (E.contents errors.old) (E.contents errors.new) (spec.refusal source.entry.name.now source.entry.text.now offset e)) }
+    ensures { OnOk result (spec.TakesRefusal name.now lines part.now e (spec.writer (E.contents errors.old) (E.contents errors.new))) }
 {
-    let report = refusal(alloc, source, offset, e)?;
-    errors.write_all(report.as_str().as_bytes())
+    let report = refusal(alloc, name, lines, part, e)?;
+    write_report(report.as_str(), errors)
 }
 
-/// Writes the answer for the expression that begins at an offset of a file: its line, or why it was refused. A part that is
-/// blank has none. The result is whether nothing was refused.
+/// Writes the answer for the expression in a part of a file, which has so many lines before it: its line, or why it was refused.
+/// A part that is blank has none. The result is whether nothing was refused.
 #[tactic(auto, using(crate::proofs::Parts::writes_blank))]
 fn write_part<W: Write, E: Write>(
     alloc: Global,
     settings: Settings,
     source: Source<'_>,
-    offset: usize,
+    lines: usize,
     part: &str,
     counts: &mut Counts,
     output: &mut W,
     errors: &mut E,
 ) -> io::Result<bool>
-    ensures { IfOk result (λ b. spec.Writes (source_of settings source.entry.name.now source.entry.text.now) offset part.now b (spec.room (spec.writer (W.contents output.old) (W.contents output.new)) (spec.writer (E.contents errors.old) (E.contents errors.new)) counts.old.of counts.new.of)) }
+    ensures { IfOk result (λ b. spec.Writes (source_of settings source.entry.name.now source.entry.text.now) lines part.now b (spec.room (spec.writer (W.contents output.old) (W.contents output.new)) (spec.writer (E.contents errors.old) (E.contents errors.new)) counts.old.of counts.new.of)) }
 {
     if part.trim().is_empty() {
         return Ok(true);
@@ -93,7 +94,7 @@ fn write_part<W: Write, E: Write>(
             Ok(true)
         }
         Err(e) => {
-            write_refusal(alloc, source, offset, e, errors)?;
+            write_refusal(alloc, source.name, lines, part, e, errors)?;
             Ok(false)
         }
     }
@@ -111,6 +112,13 @@ fn first_part<'a>(text: &'a str, separator: &str) -> Option<(&'a str, &'a str)>
     ensures { MatchOption result (spec.HasNone separator.now text.now) (λ p. spec.CutsFirst separator.now text.now p.0.now p.1.now) }
 {
     text.split_once(separator)
+}
+
+/// How many lines end in a text.
+fn line_ends(text: &str) -> usize
+    ensures { result ≡ spec.line_ends text.now }
+{
+    text.bytes().filter(|b| *b == b'\n').count()
 }
 
 /// Whether both are so.
@@ -133,20 +141,77 @@ fn write_text<W: Write, E: Write>(
 {
     let end = separator(settings.blocks);
     let mut rest = source.text;
-    let mut offset = 0usize;
+    let mut lines = 0usize;
     let mut all = true;
     'parts: while let Some((part, more)) = first_part(rest, end) {
-        let read = write_part(
-            alloc, settings, source, offset, part, counts, output, errors,
-        )?;
+        let read = write_part(alloc, settings, source, lines, part, counts, output, errors)?;
         all = both(all, read);
-        offset = offset.saturating_add(part.len().saturating_add(end.len()));
+        lines = lines.saturating_add(line_ends(part).saturating_add(line_ends(end)));
         rest = more;
     }
-    let read = write_part(
-        alloc, settings, source, offset, rest, counts, output, errors,
-    )?;
+    let read = write_part(alloc, settings, source, lines, rest, counts, output, errors)?;
     Ok(both(all, read))
+}
+
+/// A line without what is in it, if that is blank.
+fn without_blanks(line: &str) -> &str
+    ensures { result.now ≡ spec.without_blanks line.now }
+{
+    if line.trim().is_empty() { "" } else { line }
+}
+
+/// Adds a line, or nothing if it is blank.
+fn push_unless_blank(text: &mut String, line: &str) -> Result<(), AllocError>
+    ensures { OnOk result (string_bytes text.new ≡ string_bytes text.old ++ spec.without_blanks line.now) }
+{
+    text.push_str(without_blanks(line))?;
+    Ok(())
+}
+
+/// The same, and its end.
+fn push_line(text: &mut String, line: &str) -> Result<(), AllocError>
+    ensures { OnOk result (string_bytes text.new ≡ string_bytes text.old ++ spec.without_blanks line.now ++ 10 ∷ []) }
+{
+    push_unless_blank(text, line)?;
+    text.push('\n')?;
+    Ok(())
+}
+
+/// A text whose blank lines are empty.
+fn with_empty_lines(alloc: Global, text: &str) -> Result<String, AllocError>
+    ensures { IfOk result (λ s. spec.HasEmptyLines text.now (string_bytes s)) }
+{
+    let mut emptied = String::new(alloc);
+    let mut rest = text;
+    'lines: while let Some((line, more)) = first_part(rest, "\n") {
+        push_line(&mut emptied, line)?;
+        rest = more;
+    }
+    push_unless_blank(&mut emptied, rest)?;
+    Ok(emptied)
+}
+
+/// Writes the answers for all expressions of the text of a file. In blocks its blank lines are made empty first, so that a block
+/// ends before each of them. The result is whether none was refused.
+fn write_source<W: Write, E: Write>(
+    alloc: Global,
+    settings: Settings,
+    source: Source<'_>,
+    counts: &mut Counts,
+    output: &mut W,
+    errors: &mut E,
+) -> io::Result<bool>
+    ensures { IfOk result (λ b. spec.WritesText settings.blocks (source_of settings source.entry.name.now source.entry.text.now) b (spec.room (spec.writer (W.contents output.old) (W.contents output.new)) (spec.writer (E.contents errors.old) (E.contents errors.new)) counts.old.of counts.new.of)) }
+{
+    if !settings.blocks {
+        return write_text(alloc, settings, source, counts, output, errors);
+    }
+    let text = with_empty_lines(alloc, source.text)?;
+    let emptied = Source {
+        name: source.name,
+        text: text.as_str(),
+    };
+    write_text(alloc, settings, emptied, counts, output, errors)
 }
 
 /// Writes that a file of this name is no UTF-8.
@@ -169,12 +234,12 @@ pub fn write_file<W: Write, E: Write>(
     output: &mut W,
     errors: &mut E,
 ) -> io::Result<bool>
-    ensures { IfOk result (λ b. spec.WritesFile (source_of settings name.now bytes.now) b (spec.room (spec.writer (W.contents output.old) (W.contents output.new)) (spec.writer (E.contents errors.old) (E.contents errors.new)) counts.old.of counts.new.of)) }
+    ensures { IfOk result (λ b. spec.WritesFile settings.blocks (source_of settings name.now bytes.now) b (spec.room (spec.writer (W.contents output.old) (W.contents output.new)) (spec.writer (E.contents errors.old) (E.contents errors.new)) counts.old.of counts.new.of)) }
 {
     match str::from_utf8(bytes) {
         Ok(text) => {
             let source = Source { name, text };
-            write_text(alloc, settings, source, counts, output, errors)
+            write_source(alloc, settings, source, counts, output, errors)
         }
         Err(_) => {
             write_not_utf8(alloc, name, errors)?;

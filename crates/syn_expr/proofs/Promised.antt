@@ -23,6 +23,9 @@ use Rattle.syn_expr_spec.proofs.RedundantPlain.{no_pair_redundant, plain_clear}
 use Rattle.syn_expr_spec.proofs.StoodFilled.{own_spelling}
 use Rattle.syn_expr_ast.specs.Printed.{whole}
 use Rattle.syn_expr_print.proofs.Appends.{own_append}
+use Rattle.syn_text_spec.specs.Laws.{IsStable, unchanged}
+use Rattle.syn_text_spec.specs.Leaves.{leaves_lexed}
+use Rattle.syn_text_spec.proofs.Stable.{made_text}
 use Rattle.syn_expr.specs.Promises.{Puts, StandsBack, StandsWithPairs, IsOwn, IsMinimal, IsTextOf, PrintedAs}
 use Rattle.syn_expr.proofs.Marks.{own_clear, clear_twice, put_clear}
 
@@ -103,3 +106,9 @@ pub is_text : (s : Position) (t : Tree) (ts : List Tok) (r : Result (String Glob
     → IfOk r (λ x. IsTextOf s t (string_bytes x))
 is_text s t ts (Ok x) printed is = (ts, printed, is)
 is_text s t ts (Err e) printed is = tt
+
+-- the text is read again, and printed again as it is
+pub is_stable : (s : Position) (t : Tree) (ts : List Tok) (r : Result (String Global) Error) → PrintedAs s t ts → MatchResult r (λ x. string_bytes x ≡ text ts) (λ e. e.kind ≡ OutOfMemory)
+    → IfOk r (λ x. is_well_formed t ≡ true → leaves_lexed t ≡ true → IsStable unchanged s t (string_bytes x))
+is_stable s t ts (Ok x) printed is = λ well leaves. made_text s t ts (string_bytes x) printed.tokens is well leaves
+is_stable s t ts (Err e) printed is = tt

@@ -16,6 +16,8 @@ ghost use Rattle.syn_expr_ast.specs.Printed.{ReadsExactly};
 ghost use Rattle.syn_expr_fixup.specs.Fixup.{whole_at};
 ghost use Rattle.syn_expr.specs.Texts.{position_of};
 ghost use Rattle.syn_expr_spec.specs.Stands.{Stands};
+ghost use Rattle.syn_text_spec.specs.Laws.{IsStable, unchanged};
+ghost use Rattle.syn_text_spec.specs.Leaves.{leaves_lexed};
 
 use std::alloc::Global;
 use syn_expr_core::expr::Expr;
@@ -68,11 +70,15 @@ pub fn print_counted(alloc: Global, expr: &Expr, fixup: FixupContext) -> Result<
 }
 
 /// The text of an expression in a position: that of the tokens which `print_expr` puts there. `(a + b) * c` gives
-/// `"(a + b) * c"`, whether or not the tree has the parentheses.
+/// `"(a + b) * c"`, whether or not the tree has the parentheses. `parse_str` reads that text of a well-formed expression as the
+/// same tree, up to parentheses and fill-ins, if its words, lifetimes, literals and kept tokens are such as `lex` makes.
 ///
 /// Memory may run out (`OutOfMemory`).
 pub fn expr_to_text(alloc: Global, expr: &Expr, position: Position) -> Result<String>
     ensures text { IfOk result (λ s. IsTextOf (position_of position) (tree_of expr.now) (string_bytes s)) }
+    // Of a well-formed expression whose leaves are lexed, the text is lexed, and read by itself as the same tree; and of this one
+    // it is the text in this position.
+    ensures again { IfOk result (λ s. is_well_formed (tree_of expr.now) ≡ true → leaves_lexed (tree_of expr.now) ≡ true → IsStable unchanged (position_of position) (tree_of expr.now) (string_bytes s)) }
     ensures memory { IfErr result (λ e. e.kind ≡ ErrorKind.OutOfMemory) }
 {
     let printed = print_counted(alloc, expr, position.fixup())?;

@@ -53,10 +53,6 @@ picture lines cs s title message =
     let at = numbered lines (line_column s.lo cs) in
     heading (margin at.line) at title message ++ (codes "\n" ++ quoted (margin at.line) at.line at.column (from_line s.lo cs) (behind s.lo cs) s)
 
--- the message of a refusal at its place
-abbrev pub place_report : List ℕ → Error → List ℕ
-place_report cs e = picture 0 cs e.span (codes "error") (kind_text e.kind)
-
 -- ---- a refusal
 
 -- the operator that a text begins with

@@ -7,5 +7,5 @@ mod refusal;
 mod snippet;
 
 pub use place::LineColumn;
-pub use refusal::{report, report_after, report_place};
+pub use refusal::{report, report_after};
 pub use snippet::report_at;

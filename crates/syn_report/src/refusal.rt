@@ -237,11 +237,3 @@ pub fn report_after(
     let further = further(alloc, note.as_str(), help.as_str())?;
     format!(in alloc; "{refused}{further}")
 }
-
-/// The first lines of a report: what `report_at` shows for the message and the span of the error.
-pub fn report_place(alloc: Global, text: &str, error: &Error) -> Result<String, AllocError>
-    ensures { IfOk result (λ s. string_bytes s ≡ spec.place_report (chars text.now) error.now) }
-{
-    let message = format!(in alloc; "{error}")?;
-    picture(alloc, 0, text, error.span, "error", message.as_str())
-}

@@ -8,7 +8,7 @@ ghost use Rattle.warnings.specs.Warnings as spec;
 
 use std::alloc::Global;
 use syn_expr::{ErrorKind, Expr, Result, Span, parse_str};
-use syn_report::{LineColumn, report};
+use syn_report::{report, report_at};
 use syn_visit::{any, filter_map};
 
 /// A warning, at its place in the text. Contracts see what it says.
@@ -108,9 +108,9 @@ fn main(rt: HostRuntime) -> std::io::Result<()> {
         match warnings(rt.alloc(), text) {
             Ok(found) => {
                 for warning in &found {
-                    let LineColumn { line, column } = LineColumn::of(text, warning.span.lo);
-                    let column = column + 1;
-                    println!(rt; "warning: {line}:{column}: {}", warning.message)?;
+                    let (span, message) = (warning.span, warning.message);
+                    let shown = report_at(rt.alloc(), text, span, "warning", message)?;
+                    println!(rt; "{shown}")?;
                 }
             }
             Err(e) => println!(rt; "{}", report(rt.alloc(), text, &e)?)?,

@@ -1,4 +1,4 @@
-use Rattle.std.proofs.Common.{◌≡◌, ◌∙◌, ◌++◌, ap, chars, string_bytes}
+use Rattle.std.proofs.Common.{◌∙◌, ◌++◌, ap, chars, string_bytes}
 use Rattle.std.proofs.lemmas.Result.{IfOk-weaker}
 use Rattle.syn_report.specs.Report.{refused, IsReport}
 use Rattle.syn_report.proofs.refusal.report_after.Goals as goal
