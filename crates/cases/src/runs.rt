@@ -142,7 +142,9 @@ pub fn with_fault(alloc: Global, of: &str, literal: &str) -> Result<String> {
         _ => (u32::MAX, number, u32::MAX),
     };
     let literal = parse_str::<LitByteStr>(alloc, literal);
-    let bytes = with(literal, |it| it.value(alloc))?;
+    let Some(bytes) = with(literal, |it| Ok(it.value(alloc).ok()))? else {
+        return words(alloc, "no bytes");
+    };
     let bytes = bytes.as_slice();
     let mut output = Slow::new(alloc, left_out, fault);
     let mut errors = Slow::new(alloc, left_err, fault);

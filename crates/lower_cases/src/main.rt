@@ -13,7 +13,7 @@ mod paths;
 mod reports;
 mod texts;
 
-use rows::{check_file, put_read};
+use rows::{check_file, noting, put_read};
 use std::alloc::Global;
 use std::{env, io};
 use syn_lexer::front::is_reserved_word;
@@ -46,6 +46,7 @@ fn plain(alloc: Global, call: &str, text: &str) -> Result<String> {
         "quoted" => buffers::quoted(alloc, name, text),
         "unlisted" => buffers::unlisted(alloc, text),
         "joined" => buffers::joined(alloc, text),
+        "bracketed" => noting::name_in_brackets(alloc, text),
         "groups" | "ParseBuffer::new" => groups::in_order(alloc, text, "(a) {b} [c]"),
         "groups_of" => groups::in_order(alloc, name, text),
         "nested" => groups::nested(alloc, text),
@@ -96,10 +97,10 @@ fn of_part(alloc: Global, first: &str, name: &str, text: &str) -> Result<String>
 /// What a call answers. Behind `escaped` the text is that of a string literal.
 fn answer(alloc: Global, call: &str, text: &str) -> Result<String> {
     match call.strip_prefix("escaped ") {
-        Some(call) => {
-            let text = parse_str::<LitStr>(alloc, text)?.value(alloc)?;
-            plain(alloc, call, text.as_str())
-        }
+        Some(call) => match parse_str::<LitStr>(alloc, text)?.value(alloc) {
+            Ok(text) => plain(alloc, call, text.as_str()),
+            Err(e) => literals::refused(alloc, e),
+        },
         None => plain(alloc, call, text),
     }
 }

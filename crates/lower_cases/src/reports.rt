@@ -21,7 +21,7 @@ macro_rules! kinds {
 const KINDS: &[ErrorKind] = kinds!(
     OutOfMemory ExpectedExpression ExpectedBinaryOperator ChainedComparison LeftArrow
     RangeAttributes ExpectedLoopOrBlock ExpectedCommaOrSemi ParenthesesRequired ExpectedMember
-    ExpectedUnsuffixedInteger IndexOutOfRange UnexpectedToken ModifierNotEmpty LiteralOutOfRange;
+    ExpectedUnsuffixedInteger IndexOutOfRange UnexpectedToken ModifierNotEmpty;
     Lex(LexError: DocComment UnterminatedComment ReservedRawIdentifier MalformedLiteral
         MalformedLifetime UnclosedDelimiter UnexpectedClosingDelimiter UnknownCharacter)
     AfterCast(AfterCast: Await MethodCall FieldAccess Question Indexing FunctionCall)

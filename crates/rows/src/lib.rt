@@ -6,6 +6,7 @@
 
 pub mod cuts;
 pub mod groups;
+pub mod noting;
 
 use std::alloc::Global;
 use std::hash::{DefaultHasher, Hash, Hasher};

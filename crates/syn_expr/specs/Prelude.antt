@@ -6,6 +6,7 @@ pub use Rattle.syn_lower_spec.specs.Tree.{ArgumentsTree, AttributeTree, LitTree}
 pub use Rattle.syn_lower_spec.specs.declared.label.LitKind.{LitKind}
 pub use Rattle.syn_lower_leaves.specs.Value.{int_suffix, int_value}
 pub use Rattle.syn_lower_leaves.specs.View.{lit_of}
+pub use Rattle.syn_lower_leaves.specs.declared.error.LitError.{LitError}
 pub use Rattle.syn_expr_spec.specs.Alone.{behind_attributes, is_closure, is_method_call, is_return}
 pub use Rattle.syn_expr_spec.specs.Op.{binary_level}
 pub use Rattle.syn_expr_spec.specs.Printed.{in_plain, as_statement, as_condition, as_arm}

@@ -123,6 +123,8 @@ pub use syn_lower::LitByte;
 pub use syn_lower::LitByteStr;
 pub use syn_lower::LitCStr;
 pub use syn_lower::LitChar;
+pub use syn_lower::LitError;
+pub use syn_lower::LitErrorKind;
 pub use syn_lower::LitFloat;
 pub use syn_lower::LitInt;
 pub use syn_lower::LitStr;

@@ -1,7 +1,7 @@
 -- As what an expression may be refused.
 use Rattle.std.specs.Prelude.{◌≡◌, Bool, true, false}
 use Rattle.syn_tokens.specs.declared.error.ErrorKind.{ErrorKind}
-use Rattle.syn_tokens.specs.declared.error.ErrorKind.TheVariants.{ExpectedBinaryOperator, ExpectedExprKind, ExpectedPart, Lex, LiteralOutOfRange, ModifierNotEmpty}
+use Rattle.syn_tokens.specs.declared.error.ErrorKind.TheVariants.{ExpectedBinaryOperator, ExpectedExprKind, ExpectedPart, Lex, ModifierNotEmpty}
 use Rattle.syn_tokens.specs.declared.error.Part.TheVariants.{Attribute}
 
 -- not as what other readers or the lexer alone answer
@@ -10,7 +10,6 @@ is_refusal ExpectedBinaryOperator = false
 is_refusal (ExpectedExprKind _) = false
 is_refusal (ExpectedPart Attribute) = false
 is_refusal (Lex _) = false
-is_refusal LiteralOutOfRange = false
 is_refusal ModifierNotEmpty = false
 is_refusal _ = true
 

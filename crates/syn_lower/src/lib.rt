@@ -30,6 +30,7 @@ pub use read_back::qpath_is_read_back;
 pub use readers::qpath;
 pub use stmt::Block;
 pub use syn_lower_leaves::attr::{AttrStyle, Attribute};
+pub use syn_lower_leaves::error::{LitError, LitErrorKind};
 pub use syn_lower_leaves::lifetime::Lifetime;
 pub use syn_lower_leaves::lit::{
     Lit, LitBool, LitByte, LitByteStr, LitCStr, LitChar, LitFloat, LitInt, LitStr,

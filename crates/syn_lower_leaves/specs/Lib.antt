@@ -6,5 +6,6 @@ pub mod ReadBack
 pub mod Value
 pub mod ValueRows
 pub mod Parsed
+pub mod ErrorText
 pub mod Written
 pub mod Punct

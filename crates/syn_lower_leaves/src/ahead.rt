@@ -40,7 +40,7 @@ pub trait ReadByForm {
 pub fn ahead<T: ReadByForm>(input: &mut ParseBuffer<'_>) -> Result<T>
     requires { IsReadable T.least T.form }
     ensures read { IfOk result (λ v. T.form.behind (T.seen v) input.old.rest ≡ Some input.new.rest) }
-    ensures found { (s : T.Seen) (rest : List Tok) → input.old.noted ≡ None → T.form.behind s input.old.rest ≡ Some rest → Reaches T.seen s rest result input.new }
+    ensures found { (s : T.Seen) (rest : List Tok) → T.form.behind s input.old.rest ≡ Some rest → Reaches T.seen s rest input.old.noted result input.new }
     ensures after { IsAfter input.old input.new }
     ensures noted { input.new.noted ≡ input.old.noted }
     ensures stays { IfErr result (λ _. input.new ≡ input.old) }

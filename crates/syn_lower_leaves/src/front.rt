@@ -23,7 +23,7 @@ use syn_tokens::{Spacing, token};
 
 /// Takes a token of some puncts, where it comes first; else nothing changes.
 #[tactic(auto, using(syn_tokens::proofs::Signs::fronts))]
-pub fn sign<const N: usize, const K: u8>(input: &mut ParseBuffer<'_>) -> Option<Sign<N, K>>
+pub fn sign<const N: usize, const K: usize>(input: &mut ParseBuffer<'_>) -> Option<Sign<N, K>>
     ensures value { MatchOption result ((sign_spec.sees N K input.old.rest ≡ false) × (input.new ≡ input.old)) (λ _. (sign_spec.sees N K input.old.rest ≡ true) × (input.new ≡ record input.old { rest = drop N input.old.rest })) }
     ensures smaller { IfSome result (λ _. weight input.new.rest < weight input.old.rest) }
 {
@@ -37,7 +37,7 @@ pub fn sign<const N: usize, const K: u8>(input: &mut ParseBuffer<'_>) -> Option<
 
 /// Takes a word, where it comes first; else nothing changes.
 #[tactic(auto, using(syn_tokens::proofs::Signs::fronts))]
-pub fn word<const K: u8>(input: &mut ParseBuffer<'_>) -> Option<Word<K>>
+pub fn word<const K: usize>(input: &mut ParseBuffer<'_>) -> Option<Word<K>>
     ensures value { MatchOption result ((sign_spec.sees_word K input.old.rest ≡ false) × (input.new ≡ input.old)) (λ _. (sign_spec.sees_word K input.old.rest ≡ true) × (input.new ≡ record input.old { rest = drop 1 input.old.rest })) }
     ensures smaller { IfSome result (λ _. weight input.new.rest < weight input.old.rest) }
 {

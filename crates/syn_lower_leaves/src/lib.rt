@@ -6,6 +6,7 @@ pub mod ahead;
 pub mod attr;
 pub mod block;
 mod copy;
+pub mod error;
 pub mod fits;
 pub mod front;
 pub mod laws;

@@ -82,5 +82,4 @@ kind_text (kind.ExpectedToken wanted) = expected_text wanted
 kind_text kind.UnexpectedToken = codes "unexpected token"
 kind_text (kind.ExpectedPart part) = codes "expected " ++ part_text part
 kind_text (kind.Lex error) = lex_error_text error
-kind_text kind.LiteralOutOfRange = codes "literal out of range"
 kind_text kind.ModifierNotEmpty = codes "modifier not empty"

@@ -1,5 +1,5 @@
 -- What a reader reads from, and what a read does to it.
-use Rattle.std.specs.Prelude.{◌≡◌, ◌⊎◌, ℕ, Bool, false, ◌||◌, not, is_some, List, ◌++◌, Option, Some, None, Result, Ok, Err, refl}
+use Rattle.std.specs.Prelude.{◌≡◌, ◌⊎◌, ℕ, Bool, true, false, ◌||◌, not, is_some, List, ◌++◌, Option, Some, None, Result, Ok, Err, refl}
 use Rattle.std.specs.Coded.{Coded, code_by, coded×, coded_ℕ, coded_option}
 use Rattle.syn_tokens.specs.Tok.{Tok}
 use Rattle.syn_tokens.specs.TokCode.{toks_code}
@@ -43,10 +43,16 @@ pub record IsAfter (old new : Input) : Type 0 where
   pub is : old.rest ≡ front ++ new.rest
   pub noted : (s : Span) → old.noted ≡ Some s → new.noted ≡ Some s
 
--- Where a value that is seen so comes before a rest, it is read and that rest is left, with no note, unless memory runs out.
-abbrev pub Reaches : {A B : Type 0} → (A → B) → B → List Tok → Result A Error → Input → Type 0
-Reaches seen s rest (Ok v) new = (seen v ≡ s) × (new.rest ≡ rest) × (new.noted ≡ None)
-Reaches seen s rest (Err e) new = e.kind ≡ OutOfMemory
+-- A reader that keeps the note promises this whatever is noted; another one only where nothing is.
+abbrev pub IfClear : Bool → Option Span → Type 0 → Type 0
+IfClear true noted P = P
+IfClear false noted P = noted ≡ None → P
+
+-- Where a value that is seen so comes before a rest, it is read, that rest is left and nothing more is noted, unless memory
+-- runs out.
+abbrev pub Reaches : {A B : Type 0} → (A → B) → B → List Tok → Option Span → Result A Error → Input → Type 0
+Reaches seen s rest noted (Ok v) new = (seen v ≡ s) × (new.rest ≡ rest) × (new.noted ≡ noted)
+Reaches seen s rest noted (Err e) new = e.kind ≡ OutOfMemory
 
 -- A value that is seen so is given, unless memory runs out.
 abbrev pub Gives : {A B : Type 0} → (A → B) → B → Result A Error → Type 0

@@ -3,7 +3,7 @@
 ghost use Rattle.std.specs.Prelude.{is_some, ◌≡◌, ◌≤◌, ◌<◌, ◌+◌, ◌++◌, ◌||◌, [], ◌∷◌, length, drop, List, IfOk, IfErr, IfSome, IsOk, MatchOption, true};
 ghost use Rattle.syn_tokens.specs.Front as front;
 ghost use Rattle.syn_tokens.specs.Input as spec;
-ghost use Rattle.syn_tokens.specs.Input.{Input, Reaches, IsTail, IsAfter};
+ghost use Rattle.syn_tokens.specs.Input.{Input, IfClear, Reaches, IsTail, IsAfter};
 ghost use Rattle.syn_tokens.specs.Tok.{Tok, weight, token_weight};
 ghost use Rattle.syn_tokens.specs.declared.tree.Span.{Span};
 ghost use Rattle.syn_tokens.specs.View.{tok_of, toks_of};
@@ -58,7 +58,7 @@ pub trait Parse {
     ghost use Rattle.syn_tokens.specs.Tok.{Tok};
     ghost use Rattle.syn_tokens.specs.Input.{Input};
     ghost use Rattle.syn_tokens.specs.declared.error.ErrorKind.{ErrorKind};
-    ghost use Rattle.std.specs.Prelude.{◌≡◌, ℕ};
+    ghost use Rattle.std.specs.Prelude.{◌≡◌, ℕ, Bool, true};
 
     /// What contracts see of a value: all but its places.
     ghost Seen: { Type 0 };
@@ -74,6 +74,10 @@ pub trait Parse {
     /// `refuses list kind`: what a read of the list may be refused as.
     ghost refuses: { List Tok → ErrorKind → Type 0 } = { λ _ _. Unit {0} };
 
+    /// Whether a read that answers leaves the note as it was. So it does, but for a type whose reader may note what a group
+    /// has left: of what that one reads nothing is promised where something is noted.
+    ghost keeps: { Bool } = { true };
+
     /// `notes before after`: what a read that answers may do to the note. It leaves the note as it was, but for a type that
     /// says otherwise. A reader that closes a group with tokens left in it notes the first of these.
     ghost notes: { Input → Input → Type 0 } = { λ before after. after.noted ≡ before.noted };
@@ -86,9 +90,9 @@ pub trait Parse {
     /// A list that begins with no value is refused: the reader of each type says as what, and where.
     fn parse(input: &mut ParseBuffer<'_>) -> Result<Self>
         // What was read is spelled.
-        ensures read { IfOk result (λ v. input.new.noted ≡ None → spells input.old.rest (seen v) input.new.rest) }
+        ensures read { IfOk result (λ v. IfClear keeps input.new.noted (spells input.old.rest (seen v) input.new.rest)) }
         // What is spelled is read.
-        ensures found { (s : Seen) (rest : List Tok) → input.old.noted ≡ None → spells input.old.rest s rest → Reaches seen s rest result input.new }
+        ensures found { IfClear keeps input.old.noted ((s : Seen) (rest : List Tok) → spells input.old.rest s rest → Reaches seen s rest input.old.noted result input.new) }
         ensures after { IsAfter input.old input.new }
         ensures moves { IfOk result (λ v. least + weight input.new.rest ≤ weight input.old.rest) }
         ensures refused { IfErr result (λ e. refuses input.old.rest e.kind) }
@@ -308,8 +312,8 @@ impl<'a> ParseBuffer<'a> {
     /// Reads a `T`. It is refused as the reader of `T` refuses it, and the input is then where that leaves it: where it
     /// was, of each type here.
     pub fn parse<T: Parse>(&mut self) -> Result<T>
-        ensures read { IfOk result (λ v. self.new.noted ≡ None → T.spells self.old.rest (T.seen v) self.new.rest) }
-        ensures found { (s : T.Seen) (rest : List Tok) → self.old.noted ≡ None → T.spells self.old.rest s rest → Reaches T.seen s rest result self.new }
+        ensures read { IfOk result (λ v. IfClear T.keeps self.new.noted (T.spells self.old.rest (T.seen v) self.new.rest)) }
+        ensures found { IfClear T.keeps self.old.noted ((s : T.Seen) (rest : List Tok) → T.spells self.old.rest s rest → Reaches T.seen s rest self.old.noted result self.new) }
         ensures after { IsAfter self.old self.new }
         ensures moves { IfOk result (λ v. T.least + weight self.new.rest ≤ weight self.old.rest) }
         ensures refused { IfErr result (λ e. T.refuses self.old.rest e.kind) }

@@ -72,11 +72,10 @@ pub enum ErrorKind {
     /// A part of the grammar was expected here.
     ExpectedPart(Part),
     /// The lexer's refusal of a text, where `lex` says; or of one that is not the single token to be made, at the place
-    /// given for it; or of a literal's token that has no value (`MalformedLiteral`).
+    /// given for it.
     Lex(LexError),
-    /// The value of a literal is none of the type that was asked for; the place is the whole literal.
-    LiteralOutOfRange,
-    /// Modifiers that are not empty, where none are allowed. `Modifiers::require_empty` answers it.
+    /// `static` or `use` in front of a closure, where neither is allowed; the place is that word.
+    /// `ClosureModifiers::require_empty` answers it, no reader does.
     ModifierNotEmpty,
 }
 
@@ -165,7 +164,7 @@ pub enum Part {
     Pattern,
     /// A macro call, or its group after the `!`.
     Macro,
-    /// An attribute. No reader here answers it yet.
+    /// An attribute. No reader here answers it.
     Attribute,
 }
 
@@ -316,7 +315,6 @@ impl fmt::Display for ErrorKind {
             ErrorKind::UnexpectedToken => f.write_str("unexpected token"),
             ErrorKind::ExpectedPart(part) => write!(f, "expected {}", part.text()),
             ErrorKind::Lex(error) => f.write_str(error.text()),
-            ErrorKind::LiteralOutOfRange => f.write_str("literal out of range"),
             ErrorKind::ModifierNotEmpty => f.write_str("modifier not empty"),
         }
     }
@@ -332,3 +330,5 @@ impl fmt::Display for Error {
         write!(f, "{}", self.kind)
     }
 }
+
+impl std::error::Error for Error {}

@@ -73,7 +73,7 @@ impl ToTokens for Ident {
 #[tactic(auto, using(crate::proofs::Inputs::tails, crate::proofs::Weights::firsts))]
 pub fn parse_any_word(input: &mut ParseBuffer<'_>) -> Result<Ident>
     ensures read { IfOk result (λ v. input.old.rest ≡ tok.ident v ∷ input.new.rest) }
-    ensures found { (v : List ℕ) (rest : List Tok) → input.old.noted ≡ None → input.old.rest ≡ tok.ident v ∷ rest → Reaches (λ a. a) v rest result input.new }
+    ensures found { (v : List ℕ) (rest : List Tok) → input.old.rest ≡ tok.ident v ∷ rest → Reaches (λ a. a) v rest input.old.noted result input.new }
     ensures after { IsAfter input.old input.new }
     ensures moves { IfOk result (λ v. 1 + weight input.new.rest ≤ weight input.old.rest) }
     ensures refused { IfErr result (λ e. (e.kind ≡ ErrorKind.OutOfMemory) ⊎ (e.kind ≡ ErrorKind.ExpectedToken (Expected.One Wanted.Identifier))) }

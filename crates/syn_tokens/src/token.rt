@@ -1,6 +1,6 @@
 //! The tokens of one or more puncts, the words and the delimiters, each with its spelling.
 
-ghost use Rattle.std.specs.Prelude.{◌≡◌, ◌+◌, ◌++◌, [], ◌∷◌, replicate, IfErr, OnOk, OnErr, false, map, slice_index_or};
+ghost use Rattle.std.specs.Prelude.{◌≡◌, ◌+◌, ◌++◌, [], ◌∷◌, min, replicate, IfErr, OnOk, OnErr, false, map, slice_index_or};
 ghost use Rattle.syn_lexer.specs.declared.front.Delimiter.TheVariants as delimiter;
 ghost use Rattle.syn_tokens.specs.Front as front;
 ghost use Rattle.syn_tokens.specs.Input.{IsFront};
@@ -30,7 +30,7 @@ use crate::{Delimiter, Spacing, tree};
 /// puncts, or K is past the list, it is never seen or read and prints nothing. Equality ignores places.
 #[derive(Clone, Copy, Debug)]
 #[derive_where(PartialEq, Eq, Hash)]
-pub struct Sign<const N: usize, const K: u8> {
+pub struct Sign<const N: usize, const K: usize> {
     /// Where its puncts are.
     #[derive_where(skip(EqHashOrd))]
     pub spans: [Span; N],
@@ -40,7 +40,7 @@ pub struct Sign<const N: usize, const K: u8> {
 /// nothing. Equality ignores places.
 #[derive(Clone, Copy, Debug)]
 #[derive_where(PartialEq, Eq, Hash)]
-pub struct Word<const K: u8> {
+pub struct Word<const K: usize> {
     /// Where it is.
     #[derive_where(skip(EqHashOrd))]
     pub span: Span,
@@ -91,7 +91,7 @@ pub struct Group {
     pub span: Span,
 }
 
-impl<const N: usize, const K: u8> Default for Sign<N, K> {
+impl<const N: usize, const K: usize> Default for Sign<N, K> {
     ghost is_default = { λ s. s.spans ≡ replicate N (record { lo = 0; hi = 0 }) };
 
     fn default() -> Sign<N, K> {
@@ -101,7 +101,7 @@ impl<const N: usize, const K: u8> Default for Sign<N, K> {
     }
 }
 
-impl<const K: u8> Default for Word<K> {
+impl<const K: usize> Default for Word<K> {
     ghost is_default = { λ w. w.span ≡ record { lo = 0; hi = 0 } };
 
     fn default() -> Word<K> {
@@ -194,26 +194,33 @@ fn push_word(k: usize, span: Span, tokens: &mut TokenStream) -> Result<()>
     Ok(())
 }
 
-impl<const N: usize, const K: u8> Sign<N, K> {
+/// A place in one of the lists as a refusal holds it, in a byte: one past the list stays past it.
+fn place(k: usize) -> u8
+    ensures { result ≡ min k 255 }
+{
+    if k < 255 { k as u8 } else { u8::MAX }
+}
+
+impl<const N: usize, const K: usize> Sign<N, K> {
     /// How a refusal names it.
     pub fn wanted() -> Wanted
-        ensures { result ≡ Wanted.Sign K }
+        ensures { result ≡ Wanted.Sign (min K 255) }
     {
-        Wanted::Sign(K)
+        Wanted::Sign(place(K))
     }
 }
 
-impl<const N: usize, const K: u8> Token for Sign<N, K> {
+impl<const N: usize, const K: usize> Token for Sign<N, K> {
     ghost sees = { spec.sees N K };
 
     fn peek(rest: &[TokenTree]) -> bool {
-        let text = sign_text(usize::from(K));
+        let text = sign_text(K);
         text.len() == N && begins(text.as_bytes(), rest)
     }
 }
 
 #[tactic(auto, using(crate::proofs::Inputs::tails, crate::proofs::Signs::fronts))]
-impl<const N: usize, const K: u8> Parse for Sign<N, K> {
+impl<const N: usize, const K: usize> Parse for Sign<N, K> {
     ghost Seen = { Unit {0} };
 
     ghost seen = { λ s. tt };
@@ -222,13 +229,13 @@ impl<const N: usize, const K: u8> Parse for Sign<N, K> {
 
     ghost least = { 1 };
 
-    ghost refuses = { λ _ k. k ≡ kind.ExpectedToken (expected.One (wanted.Sign K)) };
+    ghost refuses = { λ _ k. k ≡ kind.ExpectedToken (expected.One (wanted.Sign (min K 255))) };
 
     /// Takes the sign: its puncts, each but the last joint to the next. Anything else is refused at that token as
     /// `ExpectedToken`, this sign. It takes no memory.
     fn parse(input: &mut ParseBuffer<'_>) -> Result<Self> {
         if !input.peek::<Self>() {
-            return Err(input.error(ErrorKind::ExpectedToken(Expected::One(Wanted::Sign(K)))));
+            return Err(input.error(ErrorKind::ExpectedToken(Expected::One(Self::wanted()))));
         }
         let spans = input.spans();
         input.skip(N);
@@ -236,11 +243,11 @@ impl<const N: usize, const K: u8> Parse for Sign<N, K> {
     }
 }
 
-impl<const N: usize, const K: u8> ToTokens for Sign<N, K> {
+impl<const N: usize, const K: usize> ToTokens for Sign<N, K> {
     ghost printed = { λ s. spec.printed_sign N K };
 
     fn to_tokens(&self, tokens: &mut TokenStream) -> Result<()> {
-        let text = sign_text(usize::from(K));
+        let text = sign_text(K);
         if text.len() != N {
             return Ok(());
         }
@@ -248,25 +255,25 @@ impl<const N: usize, const K: u8> ToTokens for Sign<N, K> {
     }
 }
 
-impl<const K: u8> Word<K> {
+impl<const K: usize> Word<K> {
     /// How a refusal names it.
     pub fn wanted() -> Wanted
-        ensures { result ≡ Wanted.Word K }
+        ensures { result ≡ Wanted.Word (min K 255) }
     {
-        Wanted::Word(K)
+        Wanted::Word(place(K))
     }
 }
 
-impl<const K: u8> Token for Word<K> {
+impl<const K: usize> Token for Word<K> {
     ghost sees = { spec.sees_word K };
 
     fn peek(rest: &[TokenTree]) -> bool {
-        begins_word(word_text(usize::from(K)), rest)
+        begins_word(word_text(K), rest)
     }
 }
 
 #[tactic(auto, using(crate::proofs::Inputs::tails, crate::proofs::Signs::fronts))]
-impl<const K: u8> Parse for Word<K> {
+impl<const K: usize> Parse for Word<K> {
     ghost Seen = { Unit {0} };
 
     ghost seen = { λ w. tt };
@@ -275,12 +282,12 @@ impl<const K: u8> Parse for Word<K> {
 
     ghost least = { 1 };
 
-    ghost refuses = { λ _ k. k ≡ kind.ExpectedToken (expected.One (wanted.Word K)) };
+    ghost refuses = { λ _ k. k ≡ kind.ExpectedToken (expected.One (wanted.Word (min K 255))) };
 
     /// Takes the word. Anything else is refused at that token as `ExpectedToken`, this word. It takes no memory.
     fn parse(input: &mut ParseBuffer<'_>) -> Result<Self> {
         if !input.peek::<Self>() {
-            return Err(input.error(ErrorKind::ExpectedToken(Expected::One(Wanted::Word(K)))));
+            return Err(input.error(ErrorKind::ExpectedToken(Expected::One(Self::wanted()))));
         }
         let span = input.span();
         input.skip(1);
@@ -288,11 +295,11 @@ impl<const K: u8> Parse for Word<K> {
     }
 }
 
-impl<const K: u8> ToTokens for Word<K> {
+impl<const K: usize> ToTokens for Word<K> {
     ghost printed = { λ w. spec.printed_word K };
 
     fn to_tokens(&self, tokens: &mut TokenStream) -> Result<()> {
-        push_word(usize::from(K), self.span, tokens)
+        push_word(K, self.span, tokens)
     }
 }
 

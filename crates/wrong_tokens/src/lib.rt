@@ -4,7 +4,7 @@
 
 ghost use Rattle.std.specs.Prelude.{◌≡◌, ◌≤◌, ◌+◌, List, [], None, IfOk, IfErr, fold};
 ghost use Rattle.std.specs.Hash as fed;
-ghost use Rattle.syn_tokens.specs.Input.{Gives, IsAfter, IsRefused, Reaches, start_of};
+ghost use Rattle.syn_tokens.specs.Input.{Gives, IfClear, IsAfter, IsRefused, Reaches, start_of};
 ghost use Rattle.syn_tokens.specs.Sign.{Takes, sees};
 ghost use Rattle.syn_tokens.specs.Tok.{Tok, weight};
 ghost use Rattle.syn_tokens.specs.declared.error.Expected.TheVariants as expected;
@@ -14,7 +14,7 @@ use std::hash::{Hash, Hasher};
 use syn_expr_tokens::member::Index;
 use syn_tokens::buffer::{Parse, ParseBuffer};
 use syn_tokens::error::{Error, ErrorKind, Result};
-use syn_tokens::token::AndAnd;
+use syn_tokens::token::{AndAnd, Plus};
 use syn_tokens::tree::TokenStream;
 
 /// Reads a `T` from the whole list, under the contract of `parse2`.
@@ -35,8 +35,8 @@ pub fn read_list<T: Parse + Drop>(tokens: TokenStream) -> Result<T>
 
 /// Reads a `T` at the front, under the contract of `Parse::parse`.
 pub fn read_front<T: Parse>(input: &mut ParseBuffer<'_>) -> Result<T>
-    ensures read { IfOk result (λ v. input.new.noted ≡ None → T.spells input.old.rest (T.seen v) input.new.rest) }
-    ensures found { (s : T.Seen) (rest : List Tok) → input.old.noted ≡ None → T.spells input.old.rest s rest → Reaches T.seen s rest result input.new }
+    ensures read { IfOk result (λ v. IfClear T.keeps input.new.noted (T.spells input.old.rest (T.seen v) input.new.rest)) }
+    ensures found { IfClear T.keeps input.old.noted ((s : T.Seen) (rest : List Tok) → T.spells input.old.rest s rest → Reaches T.seen s rest input.old.noted result input.new) }
     ensures after { IsAfter input.old input.new }
     ensures moves { IfOk result (λ v. T.least + weight input.new.rest ≤ weight input.old.rest) }
     ensures refused { IfErr result (λ e. T.refuses input.old.rest e.kind) }
@@ -48,8 +48,8 @@ pub fn read_front<T: Parse>(input: &mut ParseBuffer<'_>) -> Result<T>
 
 /// Reads `&&`, under the contract of `AndAnd::parse`.
 pub fn read_and_and(input: &mut ParseBuffer<'_>) -> Result<AndAnd>
-    ensures read { IfOk result (λ _. input.new.noted ≡ None → Takes (sees 2 1) 2 input.old.rest input.new.rest) }
-    ensures found { (s : Unit {0}) (rest : List Tok) → input.old.noted ≡ None → Takes (sees 2 1) 2 input.old.rest rest → Reaches (λ _. tt) s rest result input.new }
+    ensures read { IfOk result (λ _. Takes (sees 2 1) 2 input.old.rest input.new.rest) }
+    ensures found { (s : Unit {0}) (rest : List Tok) → Takes (sees 2 1) 2 input.old.rest rest → Reaches (λ _. tt) s rest input.old.noted result input.new }
     ensures after { IsAfter input.old input.new }
     ensures moves { IfOk result (λ _. 1 + weight input.new.rest ≤ weight input.old.rest) }
     ensures refused { IfErr result (λ e. e.kind ≡ ErrorKind.ExpectedToken (expected.One (wanted.Sign 1))) }
@@ -57,6 +57,19 @@ pub fn read_and_and(input: &mut ParseBuffer<'_>) -> Result<AndAnd>
     ensures stays { IfErr result (λ _. input.new ≡ input.old) }
 {
     AndAnd::parse(input)
+}
+
+/// Reads `+`, under the contract of `Plus::parse`.
+pub fn read_plus(input: &mut ParseBuffer<'_>) -> Result<Plus>
+    ensures read { IfOk result (λ _. Takes (sees 1 31) 1 input.old.rest input.new.rest) }
+    ensures found { (s : Unit {0}) (rest : List Tok) → Takes (sees 1 31) 1 input.old.rest rest → Reaches (λ _. tt) s rest input.old.noted result input.new }
+    ensures after { IsAfter input.old input.new }
+    ensures moves { IfOk result (λ _. 1 + weight input.new.rest ≤ weight input.old.rest) }
+    ensures refused { IfErr result (λ e. e.kind ≡ ErrorKind.ExpectedToken (expected.One (wanted.Sign 31))) }
+    ensures notes { IfOk result (λ _. input.new.noted ≡ input.old.noted) }
+    ensures stays { IfErr result (λ _. input.new ≡ input.old) }
+{
+    Plus::parse(input)
 }
 
 /// Feeds an index to a hasher, as what is fed of it says: its number alone.

@@ -5,12 +5,12 @@ use Rattle.std.specs.Int.{w64}
 use Rattle.std.proofs.lemmas.Grind.{common_steps}
 use Rattle.syn_lower_spec.specs.Text.{is_number}
 use Rattle.syn_lower_leaves.specs.View.{signed}
-use Rattle.syn_expr.specs.Prelude.{Error, Text, int_suffix, int_value}
+use Rattle.syn_expr.specs.Prelude.{LitError, Text, int_suffix, int_value}
 use Rattle.syn_expr.proofs.Integers.{no_sign, parsed_signed, with_sign}
 use Rattle.fold.specs.Fold.{checked, integer}
 use Rattle.fold.proofs.literal_value.Goals as goal
 
-taken : (z : ℤ) (r : Result ℤ Error) → OkIff r (FitsSigned w64 z) z → result_ok r ≡ checked z
+taken : (z : ℤ) (r : Result ℤ LitError) → OkIff r (FitsSigned w64 z) z → result_ok r ≡ checked z
 taken z r h = grind (arith, common_steps)
 
 value_of_integer : {M : Type 0} (m : Option M) (token : Text) → is_number token ≡ true → (b : Bool) → (length (int_suffix token) == 0) ≡ b
